@@ -1,5 +1,5 @@
 -- The six PHY packets, by their first quadlet (IEEE 1394a-2000, PHY packets).
-use Rattle.std.specs.Prelude.{◌≡◌, ℕ, ◌/◌, ◌%◌, ◌^◌, ◌||◌, IsTrue, List, [], ◌∷◌}
+use Rattle.std.specs.Prelude.{◌≡◌, ℕ, ◌/◌, ◌%◌, ◌^◌, Bool, true, false, ◌||◌, IsTrue, List, [], ◌∷◌}
 use Rattle.phy_packet.specs.Layout.{Field, bits, flag, spelled, AllFit}
 use Rattle.phy_packet.specs.declared.packet.PhyPacket.{PhyPacket}
 use Rattle.phy_packet.specs.declared.packet.PhyPacket.TheVariants.{Config, LinkOn, SelfZero, SelfMore, Extended, Other}
@@ -40,3 +40,30 @@ pub record IsValid (p : PhyPacket) : Type 0 where
 pub record Shows (quad : ℕ) (p : PhyPacket) : Type 0 where
   pub valid : IsValid p
   pub quad_is : quad_of p ≡ quad
+
+-- which packets are self-ID packets
+abbrev pub is_self_id : PhyPacket → Bool
+is_self_id (Config root_id force set_gap gap rest) = false
+is_self_id (LinkOn phy_id rest) = false
+is_self_id (SelfZero phy_id link gap speed delay contender power p0 p1 p2 initiated more) = true
+is_self_id (SelfMore phy_id n kept fields r more) = true
+is_self_id (Extended word) = false
+is_self_id (Other word) = false
+
+-- the phy_ID of a self-ID packet
+abbrev pub owner : PhyPacket → ℕ
+owner (Config root_id force set_gap gap rest) = 63
+owner (LinkOn phy_id rest) = 63
+owner (SelfZero phy_id link gap speed delay contender power p0 p1 p2 initiated more) = phy_id
+owner (SelfMore phy_id n kept fields r more) = phy_id
+owner (Extended word) = 63
+owner (Other word) = 63
+
+-- the m bit of a self-ID packet: another packet of the same node follows
+abbrev pub has_more : PhyPacket → Bool
+has_more (Config root_id force set_gap gap rest) = false
+has_more (LinkOn phy_id rest) = false
+has_more (SelfZero phy_id link gap speed delay contender power p0 p1 p2 initiated more) = more
+has_more (SelfMore phy_id n kept fields r more) = more
+has_more (Extended word) = false
+has_more (Other word) = false

@@ -1,8 +1,9 @@
 -- A quadlet shows exactly one packet: the packet of its fields.
 use Rattle.std.specs.Prelude.{◌≡◌, ℕ, zero, suc, ◌+◌, ◌*◌, ◌/◌, ◌%◌, ◌^◌, ◌<◌, Bool, true, false, ◌==◌, ◌||◌, if◌then◌else◌, refl}
-use Rattle.std.proofs.Common.{arith, eqb}
+use Rattle.std.proofs.Common.{arith, eqb, ap, sym, ◌∙◌}
+use Rattle.std.proofs.lemmas.Bool.{eqb-true, eqb-false}
 use Rattle.phy_packet.specs.Layout.{bit}
-use Rattle.phy_packet.specs.Packet.{quad_of, IsValid, Shows}
+use Rattle.phy_packet.specs.Packet.{quad_of, IsValid, Shows, is_self_id}
 use Rattle.phy_packet.specs.declared.packet.PhyPacket.{PhyPacket}
 use Rattle.phy_packet.specs.declared.packet.PhyPacket.TheVariants.{Config, LinkOn, SelfZero, SelfMore, Extended, Other}
 
@@ -183,3 +184,33 @@ shows-self_more q top kind = record {
   valid = record { fit = (omega arith, (omega arith, (omega arith, (omega arith, (omega arith, (omega arith, (bit_fits _, (bit_fits _, tt)))))))); apart = tt };
   quad_is = rw (bit-eqb (q / 2 % 2) (omega arith), bit-eqb (q % 2) (omega arith)) (omega arith);
 }
+
+not_self_id : (b : Bool) (q : ℕ) → is_self_id (if b then config_of q else Extended q) ≡ false
+not_self_id true q = refl
+not_self_id false q = refl
+
+shows_kind : (b : Bool) (q : ℕ) → (b ≡ true → Shows q (self_zero_of q)) → (b ≡ false → Shows q (self_more_of q)) → Shows q (if b then self_zero_of q else self_more_of q)
+shows_kind true q f g = f refl
+shows_kind false q f g = g refl
+
+-- by the tests of the top two bits
+by_top : (a b c : Bool) (q : ℕ) (x y : PhyPacket) → is_self_id x ≡ false → (c ≡ true → Shows q y) →
+    is_self_id (if a then x else (if b then link_on_of q else (if c then y else Other q))) ≡ true →
+    Shows q (if a then x else (if b then link_on_of q else (if c then y else Other q)))
+by_top true b c q x y other go is = absurd cc
+by_top false true c q x y other go is = absurd cc
+by_top false false true q x y other go is = go refl
+by_top false false false q x y other go is = absurd cc
+
+-- a quadlet whose packet is a self-ID packet shows that packet
+pub shows-self_id : (q : ℕ) → is_self_id (packet_of q) ≡ true → Shows q (packet_of q)
+unfolding packet_of
+shows-self_id q is =
+    by_top _ _ _ q _ _ (not_self_id ((q / 2 ^ 23 % 2 == 1) || (q / 2 ^ 22 % 2 == 1)) q) (λ top.
+    shows_kind (q / 2 ^ 23 % 2 == 0) q
+    (λ kind. shows-self_zero q (eqb-true _ _ top) (eqb-true _ _ kind))
+    (λ kind. shows-self_more q (eqb-true _ _ top) (let ne : q / 2 ^ 23 % 2 ≡ 0 → ⊥ = eqb-false _ _ kind in omega arith))) is
+
+-- a quadlet shows no other packet
+pub packet-shown : (q : ℕ) (p : PhyPacket) → Shows q p → packet_of q ≡ p
+packet-shown q p s = ap packet_of (sym s.quad_is) ∙ packet_of-quad_of p s.valid

@@ -1,0 +1,5 @@
+pub use Rattle.phy_packet.specs.Layout
+pub use Rattle.phy_packet.specs.Packet
+pub mod Node
+pub mod Group
+pub mod Refused
