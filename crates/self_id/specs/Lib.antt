@@ -3,3 +3,4 @@ pub use Rattle.phy_packet.specs.Packet
 pub mod Node
 pub mod Group
 pub mod Refused
+pub mod Reading

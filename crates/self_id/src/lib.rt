@@ -2,7 +2,12 @@
 #![tactic(auto)]
 
 mod fault;
+mod group;
 mod node;
+mod packets;
+mod quad_group;
+mod writing;
 
 pub use fault::GroupFault;
+pub use group::read_group;
 pub use node::{Attrs, PortList, PortStatus, SelfId};

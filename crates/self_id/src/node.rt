@@ -106,3 +106,26 @@ impl Model for SelfId {
 
     ghost invariant = { λ s. IsNode (record { attrs = s.attrs; ports = s.ports; kept_a = s.kept_a; kept_b = s.kept_b }) };
 }
+
+ghost use Rattle.self_id.specs.Node.{IsNode};
+
+impl SelfId {
+    /// A node with these attributes and slots that carries no other bits.
+    ///
+    /// The attributes fit their bits; `ports` has 3, 11 or 16 entries, of which one at most is `Up`.
+    pub fn new(attrs: Attrs, ports: &[PortStatus]) -> SelfId
+        requires { IsNode (record { attrs = attrs; ports = ports.now; kept_a = 0; kept_b = 0 }) }
+        ensures { result ≡ record { attrs = attrs; ports = ports.now; kept_a = 0; kept_b = 0 } }
+    {
+        let mut list = PortList::new();
+        for port in ports {
+            list.push(*port);
+        }
+        SelfId {
+            attrs,
+            ports: list,
+            kept_a: 0,
+            kept_b: 0,
+        }
+    }
+}
