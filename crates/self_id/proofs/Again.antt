@@ -152,10 +152,10 @@ written16 n at id rest h lt count kept_a kept_b small small' same =
 by_slots : (n : Node) (P : Node → Type 0) → 3 ≤ length n.ports → ((p0 p1 p2 : PortStatus) (ps : List PortStatus) → length n.ports ≡ 3 + length ps → n.ports ≡ p0 ∷ p1 ∷ p2 ∷ ps → P (make n.attrs (p0 ∷ p1 ∷ p2 ∷ ps) n.kept_a n.kept_b)) → P n
 by_slots n P some go =
     elim n.ports as (λ (qs : List PortStatus). n.ports ≡ qs → 3 ≤ length qs → P (make n.attrs qs n.kept_a n.kept_b)) [
-    | [] ↦ λ is lt. absurd (omega arith)
-    | p ∷ [] ↦ λ is lt. absurd (omega arith)
-    | p ∷ q ∷ [] ↦ λ is lt. absurd (omega arith)
-    | p ∷ q ∷ r ∷ ps ↦ λ is lt. go p q r ps (ap length is ∙ omega arith) is
+      | [] ↦ λ is lt. absurd (omega arith)
+      | p ∷ [] ↦ λ is lt. absurd (omega arith)
+      | p ∷ q ∷ [] ↦ λ is lt. absurd (omega arith)
+      | p ∷ q ∷ r ∷ ps ↦ λ is lt. go p q r ps (ap length is ∙ omega arith) is
     ] refl some
 
 -- a node of each width is the node of its packets

@@ -89,8 +89,8 @@ unfolding packet_at
 refuses_other at id j q qs not_self =
     let go : (b : Bool) → is_self_id (packet_of q) ≡ b → is_self_id (packet_of q) ≡ false =
     λ b e. elim b as (λ (v : Bool). is_self_id (packet_of q) ≡ v → is_self_id (packet_of q) ≡ false) [
-      true ↦ λ is. not_self (packet_of q) (shows-self_id q is)
-    | false ↦ λ is. is
+      | true ↦ λ is. not_self (packet_of q) (shows-self_id q is)
+      | false ↦ λ is. is
     ] e in
     refuses_other' at id j (packet_of q) (go (is_self_id (packet_of q)) refl)
 
