@@ -1,15 +1,15 @@
 -- What crates above use: reading answers a node exactly where its group stands at the front of a list,
 -- and else the one fault that the list has there.
-use Rattle.std.proofs.Common.{◌≡◌, ℕ, ◌+◌, ◌<◌, ◌≤◌, Bool, true, false, cond, leb, List, [], ◌∷◌, ◌++◌, length, drop, Result, Ok, Err, refl, sym, ap, subst, ◌∙◌, arith}
+use Rattle.std.proofs.Common.{◌≡◌, ℕ, ◌<◌, ◌≤◌, Bool, true, false, cond, leb, List, [], ◌∷◌, ◌++◌, length, drop, Result, Ok, Err, refl, sym, ap, subst, ◌∙◌, arith}
 use Rattle.std.proofs.lemmas.Bool.{le-leb, lt-leb, leb-true, leb-false}
 use Rattle.self_id.specs.declared.fault.GroupFault.{GroupFault}
 use Rattle.self_id.specs.declared.fault.GroupFault.TheVariants.{NotSelfId, WrongId, BadOrder, Cut, TwoParents}
-use Rattle.self_id.specs.Node.{Node, HasForm, IsNode, ups}
+use Rattle.self_id.specs.Node.{Node, IsNode, ups}
 use Rattle.self_id.specs.Group.{group}
 use Rattle.self_id.specs.Refused.{GroupRefused}
-use Rattle.self_id.specs.Reading.{single, read_at}
+use Rattle.self_id.specs.Reading.{read_at}
 use Rattle.self_id.proofs.Taken.{refuses_end, refuses_other, refuses_owner, refuses_order}
-use Rattle.self_id.proofs.Sound.{Reading, stopped, grouped, reading, three, eleven, sixteen, width_of}
+use Rattle.self_id.proofs.Sound.{stopped, grouped, reading, three, eleven, sixteen, width_of}
 use Rattle.self_id.proofs.Again.{again, stops_at, group3, group11, group16}
 
 abbrev ok_node : Node → Result Node GroupFault
