@@ -2,6 +2,10 @@
 //! work on 16 quadlets or 64 bytes at a time.
 #![tactic(auto)]
 
+mod kernels;
 mod list;
+mod pairs;
 
+pub use kernels::{first_bad_pair, min_row, same_list};
 pub use list::{OutOfMemory, QuadList};
+pub use pairs::{PairFault, firsts, pairs_of};

@@ -1,0 +1,4 @@
+mod Quadlets
+mod Lanes
+mod FirstBad
+mod Steps
