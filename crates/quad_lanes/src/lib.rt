@@ -5,6 +5,8 @@
 mod kernels;
 mod list;
 mod pairs;
+#[cfg(test)]
+mod tests;
 
 pub use kernels::{first_bad_pair, min_row, same_list};
 pub use list::{OutOfMemory, QuadList};
