@@ -1,4 +1,5 @@
-mod Quadlets
-mod Lanes
+mod Captured
 mod FirstBad
+mod Lanes
+mod Quadlets
 mod Steps

@@ -19,5 +19,5 @@ capped_step to from block tail after at n limit room before written =
     let long : length (capped (take (at + n) from) limit) ≡ at + n = rw (length-map, length-take-le (at + n) from room) refl in
     let block' : block ≡ capped (take n (drop at from)) limit ++ tail = rw (take_rest from at) at written in
     let parts : take at to ++ (block ++ after) ≡ capped (take (at + n) from) limit ++ (tail ++ after)
-    = rw (before, block', whole, append_assoc, append_assoc) refl in
+    = rw (before, block', whole) (simp append_assoc refl) in
     rw parts (take_at _ _ (at + n) long)

@@ -1,5 +1,5 @@
 //! Bytes as pairs of quadlets.
-ghost use Rattle.std.specs.Prelude.{◌≡◌, ◌≢◌, ◌↔◌, ℕ, ◌/◌, ◌%◌, length, IfOk};
+ghost use Rattle.std.specs.Prelude.{◌≡◌, ◌≢◌, ◌↔◌, ℕ, ◌/◌, ◌%◌, length, IfOk, OnOk};
 ghost use Rattle.quad_lanes.specs.Pairs.{quads_of, firsts};
 
 use crate::list::{OutOfMemory, QuadList};
@@ -45,6 +45,7 @@ fn read_quads(alloc: Global, bytes: &[u8]) -> Result<QuadList, OutOfMemory>
 pub fn pairs_of(alloc: Global, bytes: &[u8]) -> Result<QuadList, PairFault>
     ensures quads { IfOk result (λ quads. quads ≡ quads_of bytes.now) }
     ensures count { IfOk result (λ quads. length quads ≡ length bytes.now / 4) }
+    ensures whole { OnOk result (length bytes.now % 8 ≡ 0) }
     ensures even { IfOk result (λ quads. length quads % 2 ≡ 0) }
 
     // exactly where the bytes end within a pair
