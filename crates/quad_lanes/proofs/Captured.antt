@@ -7,9 +7,11 @@ use Rattle.std.proofs.lemmas.List.Elements.{recursion_from_All}
 use Rattle.quad_lanes.specs.Capture.{capture}
 use Rattle.quad_lanes.specs.Pairs.{big_endian, first_bad_pair, firsts, inverse, is_bad, pairs, quads_of}
 
+-- a quadlet is the one of its four bytes
 big_endian-bytes : (q : ℕ) → q < 2 ^ 32 → big_endian (byte_at 3 q) (byte_at 2 q) (byte_at 1 q) (byte_at 0 q) ≡ q
 big_endian-bytes q fits = omega (arith, fits)
 
+-- four bytes are those of their quadlet
 bytes-big_endian : (a b c d : ℕ) → a < 256 → b < 256 → c < 256 → d < 256 → to_be_bytes w32 (big_endian a b c d) ≡ a ∷ b ∷ c ∷ d ∷ []
 bytes-big_endian a b c d la lb lc ld =
     let ea : byte_at 3 (big_endian a b c d) ≡ a = omega (arith, la, lb, lc, ld) in
@@ -18,7 +20,7 @@ bytes-big_endian a b c d la lb lc ld =
     let ed : byte_at 0 (big_endian a b c d) ≡ d = omega (arith, la, lb, lc, ld) in
     rw (ea, eb, ec, ed) refl
 
--- the pairs of a capture
+-- the pairs of a capture, as they were written
 abbrev pub pairs_with_inverse : List ℕ → List (ℕ × ℕ)
 pairs_with_inverse [] = []
 pairs_with_inverse (q ∷ quads) = (q, inverse q) ∷ pairs_with_inverse quads
@@ -34,10 +36,12 @@ pub length-capture : (quads : List ℕ) → length (capture quads) ≡ 8 * lengt
 length-capture [] = refl
 length-capture (q ∷ quads) = omega (arith, length-capture quads)
 
+-- none of them is bad
 none_bad : (k : ℕ) (quads : List ℕ) → position_from is_bad k (pairs_with_inverse quads) ≡ None
 none_bad k [] = refl
 none_bad k (q ∷ quads) = grind (arith, none_bad (k + 1) quads)
 
+-- their firsts are the quadlets
 first_of_each : (quads : List ℕ) → map (λ p. p.0) (pairs_with_inverse quads) ≡ quads
 first_of_each [] = refl
 first_of_each (q ∷ quads) = ap (λ qs. q ∷ qs) (first_of_each quads)
@@ -58,9 +62,11 @@ none_after p k x xs none =
       | false ↦ λ rest. (refl, rest)
     ] none
 
+-- the second quadlet of a pair that isn't bad
 second_is_inverse : (a b : ℕ) → is_bad (a, b) ≡ false → b ≡ inverse a
 second_is_inverse a b good = grind (arith, good)
 
+-- good pairs are a capture, where k pairs stand before them
 capture_of_next : (k : ℕ) (bytes : List ℕ) → AllByRecursion (λ b. b < 256) bytes → length bytes % 8 ≡ 0 → position_from is_bad k (pairs (quads_of bytes)) ≡ None → bytes ≡ capture (firsts (quads_of bytes))
 capture_of_next k [] fit whole good = refl
 capture_of_next k (a ∷ b ∷ c ∷ d ∷ e ∷ f ∷ g ∷ h ∷ bytes) fit whole good =

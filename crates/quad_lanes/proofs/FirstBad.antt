@@ -9,5 +9,6 @@ pub record IsPast (quads : List ℕ) (pair : ℕ) (rest : List ℕ) : Type 0 whe
   pub answer : first_bad_pair quads ≡ position_from is_bad pair (pairs rest)
   pub count : 2 * pair + length rest ≡ length quads
 
+-- at the start it has come past none
 pub past_start : (quads : List ℕ) → IsPast quads 0 quads
 past_start quads = record { answer = position_from-zero is_bad (pairs quads); count = omega arith }

@@ -14,6 +14,7 @@ evens xs = pick_l 0 (take 8 xs ++ take 8 (drop 8 xs)) (0 ∷ 2 ∷ 4 ∷ 6 ∷ 8
 abbrev pub odds : List ℕ → List ℕ
 odds xs = pick_l 0 (take 8 xs ++ take 8 (drop 8 xs)) (1 ∷ 3 ∷ 5 ∷ 7 ∷ 9 ∷ 11 ∷ 13 ∷ 15 ∷ [])
 
+-- two lanes aren't equal
 abbrev pub differ : ℕ → ℕ → Bool
 differ a b = not (nat_eq a b)
 
@@ -22,17 +23,18 @@ pub lanes_are_pairs : (xs : List ℕ) → 16 ≤ length xs → zip2 differ (odds
 lanes_are_pairs (a ∷ b ∷ c ∷ d ∷ e ∷ f ∷ g ∷ h ∷ i ∷ j ∷ k ∷ l ∷ m ∷ n ∷ o ∷ p ∷ xs) room = refl
 lanes_are_pairs _ room = absurd (omega (arith, room))
 
+-- 16 quadlets are 8 pairs
 pub length-pairs_16 : (xs : List ℕ) → 16 ≤ length xs → length (pairs (take 16 xs)) ≡ 8
 length-pairs_16 (a ∷ b ∷ c ∷ d ∷ e ∷ f ∷ g ∷ h ∷ i ∷ j ∷ k ∷ l ∷ m ∷ n ∷ o ∷ p ∷ xs) room = refl
 length-pairs_16 _ room = absurd (omega (arith, room))
 
--- the mask of those comparisons
+-- so the mask of those comparisons shows the bad pairs
 pub mask_of_pairs : (xs : List ℕ) → 16 ≤ length xs → mask_l (map (top 31) (zip2 (λ a b. cond (differ a b) (2 ^ 32 - 1) 0) (odds xs) (map inverse (evens xs)))) % 2 ^ 64 ≡ mask_l (map is_bad (pairs (take 16 xs)))
 mask_of_pairs xs room =
     ap (λ ms. mask_l ms % 2 ^ 64) (tops_compared w32 differ (odds xs) (map inverse (evens xs)) ∙ lanes_are_pairs xs room)
     ∙ mask_l-mod _ 64 (rw (length-map, length-pairs_16) (lit≤ tt))
 
--- choosing a lane where it is below the cap, and else the limit
+-- choosing each lane that is below the limit, and else the limit
 chosen_below : (limit n : ℕ) (xs : List ℕ) → length xs ≡ n → sel_l (map (λ x. nat_lt x limit) xs) xs (replicate n limit) ≡ capped xs limit
 chosen_below limit zero [] long = refl
 chosen_below limit zero (x ∷ xs) long = absurd (omega (arith, long))
@@ -41,7 +43,7 @@ chosen_below limit (suc n) (x ∷ xs) long =
     let rest : length xs ≡ n = omega (arith, long) in
     grind (arith, chosen_below limit n xs rest)
 
--- the lesser of each of 64 lanes and the cap, stored at the front
+-- the lesser of each of 64 lanes and the limit, stored at the front
 pub min_stored : (to from : List ℕ) (limit : ℕ) → 64 ≤ length to → 64 ≤ length from → put_chunk 0 to (sel_l (map (top 7) (zip2 (λ a b. cond (nat_lt a b) (2 ^ 8 - 1) 0) (take 64 from) (replicate 64 limit))) (take 64 from) (replicate 64 limit)) ≡ capped (take 64 from) limit ++ drop 64 to
 min_stored to from limit room_to room_from =
     let lanes : length (take 64 from) ≡ 64 = length-take-le 64 from room_from in
@@ -50,7 +52,7 @@ min_stored to from limit room_to room_from =
     let wide : length (capped (take 64 from) limit) ≡ 64 = rw (length-map, lanes) refl in
     ap (put_chunk 0 to) chosen ∙ (put_chunk_is 0 to (capped (take 64 from) limit) (rw wide (omega (arith, room_to))) ∙ rw wide refl)
 
--- no lane differs exactly where the vectors are the same
+-- where no lane differs the vectors are the same
 same_lanes : (xs ys : List ℕ) → length xs ≡ length ys → mask_l (zip2 differ xs ys) ≡ 0 → xs ≡ ys
 same_lanes [] [] long none = refl
 same_lanes [] (y ∷ ys) long none = absurd (omega (arith, long))
@@ -59,10 +61,12 @@ same_lanes (x ∷ xs) (y ∷ ys) long none =
     let rest : length xs ≡ length ys = omega (arith, long) in
     grind (arith, none, same_lanes xs ys rest)
 
+-- no lane differs from itself
 no_lanes : (xs : List ℕ) → mask_l (zip2 differ xs xs) ≡ 0
 no_lanes [] = refl
 no_lanes (x ∷ xs) = grind (arith, no_lanes xs)
 
+-- the mask of the lanes that differ is empty exactly where the vectors are the same
 pub same_mask : (a b : List ℕ) → 16 ≤ length a → 16 ≤ length b → IsTrue ((mask_l (map (top 31) (zip2 (λ a b. cond (differ a b) (2 ^ 32 - 1) 0) (take 16 a) (take 16 b))) % 2 ^ 64) == 0) ↔ (take 16 a ≡ take 16 b)
 same_mask a b room_a room_b =
     let wide_a : length (take 16 a) ≡ 16 = length-take-le 16 a room_a in

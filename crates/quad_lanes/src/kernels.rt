@@ -32,7 +32,7 @@ fn first_bad_of_eight(quads: &[u32]) -> usize
 }
 
 /// The number of the first pair, counted from 0, whose second quadlet isn't the bitwise inverse of
-/// its first. `None` where every pair is good.
+/// its first. `None` where every pair is good. `quads` holds whole pairs.
 pub fn first_bad_pair(quads: &[u32]) -> Option<usize>
     requires { length quads.now % 2 ≡ 0 }
     ensures { result ≡ first_bad_pair quads.now }
@@ -69,7 +69,8 @@ fn min_of_64(dst: &mut [u8], src: &[u8], cap: u8)
         .copy_to_slice(dst);
 }
 
-/// Writes the lesser of each byte of `src` and `cap` at the same place of `dst`.
+/// Writes the lesser of each byte of `src` and `cap` at the same place of `dst`. The two rows are of
+/// one length.
 pub fn min_row(dst: &mut [u8], src: &[u8], cap: u8)
     requires { length dst.old ≡ length src.now }
     ensures { dst.new ≡ capped src.now cap }
