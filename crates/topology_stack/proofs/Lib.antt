@@ -1,0 +1,10 @@
+pub mod Count
+pub mod ReadFrom
+pub mod Stack
+pub mod Sound
+pub mod Loop
+pub mod Run
+pub mod Exact
+pub mod Whole
+pub mod Linking
+pub mod Answered
