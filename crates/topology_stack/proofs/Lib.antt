@@ -8,3 +8,5 @@ pub mod Exact
 pub mod Whole
 pub mod Linking
 pub mod Answered
+pub mod Ends
+pub mod Highest

@@ -6,3 +6,6 @@ pub mod Refused
 pub mod Answer
 pub mod Stored
 pub mod Links
+pub mod Elect
+pub mod Name
+pub mod Text

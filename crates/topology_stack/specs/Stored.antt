@@ -1,5 +1,7 @@
 -- What a `BusTree` keeps: the nodes by ID, and the IDs of each one's parent and children.
-use Rattle.std.specs.Prelude.{◌≡◌, ℕ, ◌+◌, ◌-◌, List, [], ◌∷◌, ◌++◌, length}
+use Rattle.std.specs.Prelude.{◌≡◌, ℕ, ◌+◌, ◌-◌, Option, Some, None, List, [], ◌∷◌, ◌++◌, length}
+use Rattle.self_id.specs.declared.node.PortStatus.{PortStatus}
+use Rattle.self_id.specs.declared.node.PortStatus.TheVariants.{Absent, Unplugged, Up, Down}
 use Rattle.self_id.specs.Node.{Node}
 use Rattle.topology_stack.specs.Tree.{Label, Tree, branch, Slots, no_more, absent, unplugged, up, down, walk, walk_below, IsBusTree}
 
@@ -41,3 +43,19 @@ pub record Stored (t : Tree) (nodes : List Node) (parents : List ℕ) (children 
   pub walk_is : nodes ≡ walk t
   pub above : parents ≡ parents_from 0 63 t
   pub below : children ≡ children_from 0 t
+
+-- the ends of slots with these statuses, below a parent and above children
+abbrev pub ends_of : ℕ → List ℕ → List PortStatus → List (Option ℕ)
+ends_of parent kids [] = []
+ends_of parent kids (Absent ∷ ps) = None ∷ ends_of parent kids ps
+ends_of parent kids (Unplugged ∷ ps) = None ∷ ends_of parent kids ps
+ends_of parent kids (Up ∷ ps) = Some parent ∷ ends_of parent kids ps
+ends_of parent [] (Down ∷ ps) = None ∷ ends_of parent [] ps
+ends_of parent (k ∷ kids) (Down ∷ ps) = Some k ∷ ends_of parent kids ps
+
+-- the same for each node
+abbrev pub all_ends : List Node → List ℕ → List (List ℕ) → List (List (Option ℕ))
+all_ends [] ps ks = []
+all_ends (n ∷ ns) [] ks = []
+all_ends (n ∷ ns) (p ∷ ps) [] = []
+all_ends (n ∷ ns) (p ∷ ps) (k ∷ ks) = ends_of p k n.ports ∷ all_ends ns ps ks

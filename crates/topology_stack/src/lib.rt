@@ -7,9 +7,15 @@
 
 mod fault;
 mod links;
+mod manager;
+mod name;
 mod reading;
 mod slots;
+mod text;
 mod tree;
 
 pub use fault::{OutOfMemory, TreeFault, TreeStop};
+pub use manager::elect;
+pub use name::{Name, NameList};
+pub use text::tree_text;
 pub use tree::{BusTree, one_answer, one_tree, read_tree};

@@ -1,6 +1,7 @@
-//! Counting a node's slots.
-ghost use Rattle.std.specs.Prelude.{◌≡◌, ◌≤◌, length};
+//! A node's slots: how many lead where, and to whom.
+ghost use Rattle.std.specs.Prelude.{◌≡◌, ◌<◌, ◌≤◌, Some, length, slice_get};
 ghost use Rattle.self_id.specs.Node.{ups, downs};
+ghost use Rattle.topology_stack.specs.Stored.{ends_of};
 
 use self_id::PortStatus;
 
@@ -26,4 +27,16 @@ pub(crate) fn count_down(ports: &[PortStatus]) -> usize
         .iter()
         .filter(|port| matches!(port, PortStatus::Down))
         .count()
+}
+
+/// The ID at the other end of a slot, below a parent and above children.
+pub(crate) fn far_end(ports: &[PortStatus], slot: usize, parent: u8, kids: &[u8]) -> Option<u8>
+    requires { slot < length ports.now }
+    ensures { slice_get (ends_of parent kids.now ports.now) slot ≡ Some result }
+{
+    match ports[slot] {
+        PortStatus::Absent | PortStatus::Unplugged => None,
+        PortStatus::Up => Some(parent),
+        PortStatus::Down => kids.get(count_down(&ports[..slot])).copied(),
+    }
 }

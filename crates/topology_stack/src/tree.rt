@@ -3,6 +3,7 @@
 use crate::fault::TreeStop;
 use crate::links::{KidList, links_of};
 use crate::reading::nodes_of;
+use crate::slots::far_end;
 use self_id::SelfId;
 use std::alloc::Global;
 use std::marker::Model;
@@ -29,9 +30,11 @@ impl Model for BusTree {
     ghost invariant = { λ b. Stored (tree_of b.nodes.items) b.nodes.items b.parents.items b.children.items };
 }
 
-ghost use Rattle.std.specs.Prelude.{◌≡◌, ◌+◌, ◌<◌, ◌≤◌, ℕ, List, length, slice_get, Some, Ok, Err, IfOk};
+ghost use Rattle.std.specs.Prelude.{◌≡◌, ◌+◌, ◌<◌, ◌≤◌, ℕ, List, length, slice_get, Some, Ok, Err, IfOk, IfSome};
 ghost use Rattle.topology_stack.specs.Tree.{Tree, IsBusTree, emits, walk};
 ghost use Rattle.topology_stack.specs.Refused.{Refused};
+ghost use Rattle.topology_stack.specs.Far.{Far};
+ghost use Rattle.topology_stack.specs.Stored.{parents_from, children_from};
 ghost use Rattle.topology_stack.specs.Answer.{IfFault, UnlessMemory};
 ghost use Rattle.topology_stack.specs.declared.fault.TreeFault.{TreeFault};
 
@@ -90,5 +93,47 @@ impl BusTree {
         ensures { result + 1 ≡ length (walk self.now) }
     {
         self.nodes.len() as u8 - 1
+    }
+
+    /// The ID at the other end of a slot of the node with this ID. `None` where the slot is absent
+    /// or unplugged. `id` is less than `len`, and `slot` less than the number of the node's slots.
+    pub fn far(&self, id: u8, slot: u8) -> Option<u8>
+        requires id { id < length (walk self.now) }
+        requires slot { IfSome (slice_get (walk self.now) id) (λ n. slot < length n.ports) }
+        ensures { Far self.now id slot result }
+    {
+        let id = id as usize;
+        let ports = self.nodes[id].ports.as_slice();
+        far_end(
+            ports,
+            slot as usize,
+            self.parents[id],
+            self.children[id].as_slice(),
+        )
+    }
+
+    /// The nodes by ID.
+    pub(crate) fn nodes(&self) -> &[SelfId]
+        ensures value { result.now ≡ walk self.now }
+        ensures some { 0 < length result.now }
+        ensures few { length result.now ≤ 63 }
+    {
+        &self.nodes
+    }
+
+    /// The ID of each node's parent.
+    pub(crate) fn parents(&self) -> &[u8]
+        ensures value { result.now ≡ parents_from 0 63 self.now }
+        ensures len { length result.now ≡ length (walk self.now) }
+    {
+        &self.parents
+    }
+
+    /// The IDs of each node's children.
+    pub(crate) fn children(&self) -> &[KidList]
+        ensures value { result.now ≡ children_from 0 self.now }
+        ensures len { length result.now ≡ length (walk self.now) }
+    {
+        &self.children
     }
 }

@@ -1,0 +1,19 @@
+//! The isochronous resource manager.
+ghost use Rattle.std.specs.Prelude.{◌≡◌};
+ghost use Rattle.topology_stack.specs.Elect.{elected};
+
+use crate::tree::BusTree;
+
+/// The ID of the isochronous resource manager: the highest one of a node with an active link that
+/// contends. `None` where there is no such node.
+pub fn elect(tree: &BusTree) -> Option<u8>
+    ensures { result ≡ elected tree.now }
+{
+    let mut manager = None;
+    for (id, node) in tree.nodes().iter().enumerate() {
+        if node.attrs.link && node.attrs.contender {
+            manager = Some(id as u8);
+        }
+    }
+    manager
+}
