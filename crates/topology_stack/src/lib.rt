@@ -13,9 +13,11 @@ mod reading;
 mod slots;
 mod text;
 mod tree;
+mod writing;
 
 pub use fault::{OutOfMemory, TreeFault, TreeStop};
 pub use manager::elect;
 pub use name::{Name, NameList};
 pub use text::tree_text;
 pub use tree::{BusTree, one_answer, one_tree, read_tree};
+pub use writing::write_tree;
