@@ -9,7 +9,7 @@ use Rattle.topology_stack.specs.Code.{tree_of, tree_of-walk}
 use Rattle.topology_stack.specs.Stored.{Stored}
 use Rattle.topology_stack.specs.Refused.{Refused}
 use Rattle.topology_stack.specs.Answer.{IfFault, UnlessMemory}
-use Rattle.topology_stack.proofs.Whole.{one_tree, no_fault, one_fault, some_node}
+use Rattle.topology_stack.proofs.Laws.{one_tree, no_fault, one_fault, some_node}
 
 abbrev err : {A : Type 0} → TreeFault → Result A TreeStop
 err f = Err (Fault f)

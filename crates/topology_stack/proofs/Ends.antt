@@ -1,12 +1,12 @@
 -- The ends of slots, from the parents and children that a tree keeps.
-use Rattle.std.proofs.Common.{◌≡◌, ℕ, zero, suc, ◌+◌, ◌-◌, ◌<◌, ◌≤◌, Option, Some, None, List, [], ◌∷◌, ◌++◌, length, get_or, take, refl, sym, ap, ◌∙◌, arith}
-use Rattle.std.specs.Prelude.{slice_get}
+use Rattle.std.proofs.Common.{◌≡◌, ℕ, zero, suc, ◌+◌, ◌-◌, ◌<◌, ◌≤◌, Option, Some, None, List, [], ◌∷◌, ◌++◌, length, get_or, take, refl, sym, ap, subst, ◌∙◌, ◌⊎◌, ◌↔◌, inl, inr, arith}
+use Rattle.std.specs.Prelude.{slice_get, IsSomeAnd}
 use Rattle.std.proofs.lemmas.Option.{slice_get-get_or}
 use Rattle.self_id.specs.declared.node.PortStatus.{PortStatus}
 use Rattle.self_id.specs.declared.node.PortStatus.TheVariants.{Absent, Unplugged, Up, Down}
 use Rattle.self_id.specs.Node.{Node, downs}
 use Rattle.topology_stack.specs.Tree.{Label, Tree, branch, Slots, no_more, absent, unplugged, up, down, statuses, node_of, walk, walk_below}
-use Rattle.topology_stack.specs.Far.{slot_ends, ends_from, ends_below, ends, Far}
+use Rattle.topology_stack.specs.Far.{slot_ends, ends_from, ends_below, ends, Far, IsLoose}
 use Rattle.topology_stack.specs.Stored.{parents_from, parents_below, child_ids, children_from, children_below, ends_of, all_ends, Stored}
 use Rattle.topology_stack.proofs.Linking.{length-parents_from, length-parents_below, length-children_from, length-children_below}
 
@@ -40,9 +40,6 @@ end_at (Down ∷ ps) parent (k ∷ kids) zero p e = let same : Down ≡ p = cc i
 end_at (Down ∷ ps) parent (k ∷ kids) (suc i) p e =
     let next : downs (take i ps) + 1 ≡ suc (downs (take i ps)) = omega arith in
     rw next (end_at ps parent kids i p e)
-
-pub end_of : (ps : List PortStatus) (parent : ℕ) (kids : List ℕ) (i : ℕ) (p d : PortStatus) → i < length ps → get_or ps i d ≡ p → slice_get (ends_of parent kids ps) i ≡ Some (end_with p parent (slice_get kids (downs (take i ps))))
-end_of ps parent kids i p d lt e = end_at ps parent kids i p (slice_get-get_or ps i d lt ∙ ap (λ (q : PortStatus). Some q) e)
 
 -- ---- node by node
 
@@ -101,3 +98,85 @@ length-parents t ns ps ks h = ap length h.above ∙ length-parents_from 0 63 t �
 
 pub length-children : (t : Tree) (ns : List Node) (ps : List ℕ) (ks : List (List ℕ)) → Stored t ns ps ks → length ks ≡ length ns
 length-children t ns ps ks h = ap length h.below ∙ length-children_from 0 t ∙ sym (ap length h.walk_is)
+
+-- ---- each node has as many children as slots that are down
+
+length-child_ids : (from : ℕ) (s : Slots) → length (child_ids from s) ≡ downs (statuses s)
+length-child_ids from no_more = refl
+length-child_ids from (absent s) = length-child_ids from s
+length-child_ids from (unplugged s) = length-child_ids from s
+length-child_ids from (up s) = length-child_ids from s
+length-child_ids from (down t s) = omega (arith, length-child_ids (from + length (walk t)) s)
+
+abbrev Enough : List Node → List (List ℕ) → Type 0
+Enough ns ks = (i : ℕ) (n : Node) (k : List ℕ) → slice_get ns i ≡ Some n → slice_get ks i ≡ Some k → length k ≡ downs n.ports
+
+both : (ms ns : List Node) (ks ls : List (List ℕ)) → length ks ≡ length ms → Enough ms ks → Enough ns ls → Enough (ms ++ ns) (ks ++ ls)
+both [] ns [] ls len a b i n k en ek = b i n k en ek
+both [] ns (l ∷ ks) ls len a b i n k en ek = absurd (omega arith)
+both (m ∷ ms) ns [] ls len a b i n k en ek = absurd (omega arith)
+both (m ∷ ms) ns (l ∷ ks) ls len a b zero n k en ek = a zero n k en ek
+both (m ∷ ms) ns (l ∷ ks) ls len a b (suc i) n k en ek = both ms ns ks ls (omega arith) (λ j x y. a (suc j) x y) b i n k en ek
+
+alone : (m : Node) (l : List ℕ) → length l ≡ downs m.ports → Enough (m ∷ []) (l ∷ [])
+alone m l e zero n k en ek =
+    let a : m ≡ n = cc in
+    let b : l ≡ k = cc in
+    rw (← a, ← b) e
+alone m l e (suc i) n k en ek = absurd cc
+
+mutual
+  enough : (t : Tree) (from : ℕ) → Enough (walk t) (children_from from t)
+  enough (branch a s) from =
+      both (walk_below s) (node_of a s ∷ []) (children_below from s) (child_ids from s ∷ []) (length-children_below from s) (λ j m l. enough_below s from j m l) (alone (node_of a s) (child_ids from s) (length-child_ids from s))
+
+  enough_below : (s : Slots) (from : ℕ) → Enough (walk_below s) (children_below from s)
+  enough_below no_more from i n k en ek = absurd cc
+  enough_below (absent s) from i n k en ek = enough_below s from i n k en ek
+  enough_below (unplugged s) from i n k en ek = enough_below s from i n k en ek
+  enough_below (up s) from i n k en ek = enough_below s from i n k en ek
+  enough_below (down t s) from i n k en ek =
+      both (walk t) (walk_below s) (children_from from t) (children_below (from + length (walk t)) s) (length-children_from from t) (λ j m l. enough t from j m l) (λ j m l. enough_below s (from + length (walk t)) j m l) i n k en ek
+
+pub kids_enough : (t : Tree) (ns : List Node) (ps : List ℕ) (ks : List (List ℕ)) (i : ℕ) (n : Node) (k : List ℕ) → Stored t ns ps ks → slice_get ns i ≡ Some n → slice_get ks i ≡ Some k → length k ≡ downs n.ports
+kids_enough t ns ps ks i n k h en ek = enough t 0 i n k (ap (λ (x : List Node). slice_get x i) (sym h.walk_is) ∙ en) (ap (λ (x : List (List ℕ)). slice_get x i) (sym h.below) ∙ ek)
+
+-- a slot that is down has a child
+pub fewer_before : (ps : List PortStatus) (i : ℕ) → slice_get ps i ≡ Some Down → downs (take i ps) < downs ps
+fewer_before [] i e = absurd cc
+fewer_before (Absent ∷ ps) zero e = absurd cc
+fewer_before (Absent ∷ ps) (suc i) e = fewer_before ps i e
+fewer_before (Unplugged ∷ ps) zero e = absurd cc
+fewer_before (Unplugged ∷ ps) (suc i) e = fewer_before ps i e
+fewer_before (Up ∷ ps) zero e = absurd cc
+fewer_before (Up ∷ ps) (suc i) e = fewer_before ps i e
+fewer_before (Down ∷ ps) zero e = omega arith
+fewer_before (Down ∷ ps) (suc i) e = omega (arith, fewer_before ps i e)
+
+pub status_at : (ps : List PortStatus) (i : ℕ) (p d : PortStatus) → i < length ps → get_or ps i d ≡ p → slice_get ps i ≡ Some p
+status_at ps i p d lt e = slice_get-get_or ps i d lt ∙ ap (λ (q : PortStatus). Some q) e
+
+-- ---- loose slots
+
+pub loose : (ps : List PortStatus) (i : ℕ) (p : PortStatus) → slice_get ps i ≡ Some p → IsLoose p → IsSomeAnd (slice_get ps i) IsLoose
+loose ps i p e h = subst (λ (o : Option PortStatus). IsSomeAnd o IsLoose) (sym e) h
+
+is_loose : (ps : List PortStatus) (i : ℕ) (p : PortStatus) → slice_get ps i ≡ Some p → IsSomeAnd (slice_get ps i) IsLoose → IsLoose p
+is_loose ps i p e h = subst (λ (o : Option PortStatus). IsSomeAnd o IsLoose) e h
+
+pub up_is_tied : (ps : List PortStatus) (i : ℕ) → slice_get ps i ≡ Some Up → IsSomeAnd (slice_get ps i) IsLoose → ⊥
+up_is_tied ps i e h = elim (is_loose ps i Up e h) [
+  | inl f ↦ cc
+  | inr f ↦ cc
+]
+
+pub down_is_tied : (ps : List PortStatus) (i : ℕ) → slice_get ps i ≡ Some Down → IsSomeAnd (slice_get ps i) IsLoose → ⊥
+down_is_tied ps i e h = elim (is_loose ps i Down e h) [
+  | inl f ↦ cc
+  | inr f ↦ cc
+]
+
+pub loose_at : (X : Type 0) (ns : List Node) (id slot : ℕ) (n : Node) (ps : List PortStatus) → slice_get ns id ≡ Some n → ps ≡ n.ports → (X ↔ IsSomeAnd (slice_get ps slot) IsLoose) → X ↔ IsSomeAnd (slice_get ns id) (λ (m : Node). IsSomeAnd (slice_get m.ports slot) IsLoose)
+loose_at X ns id slot n ps e same h =
+    subst (λ (o : Option Node). X ↔ IsSomeAnd o (λ (m : Node). IsSomeAnd (slice_get m.ports slot) IsLoose)) (sym e)
+    (subst (λ (qs : List PortStatus). X ↔ IsSomeAnd (slice_get qs slot) IsLoose) same h)

@@ -5,7 +5,7 @@ pub mod Sound
 pub mod Loop
 pub mod Run
 pub mod Exact
-pub mod Whole
+pub mod Laws
 pub mod Linking
 pub mod Answered
 pub mod Ends

@@ -30,10 +30,10 @@ impl Model for BusTree {
     ghost invariant = { λ b. Stored (tree_of b.nodes.items) b.nodes.items b.parents.items b.children.items };
 }
 
-ghost use Rattle.std.specs.Prelude.{◌≡◌, ◌+◌, ◌<◌, ◌≤◌, ℕ, List, length, slice_get, Some, Ok, Err, IfOk, IfSome};
+ghost use Rattle.std.specs.Prelude.{◌≡◌, ◌↔◌, ◌+◌, ◌<◌, ◌≤◌, ℕ, List, length, slice_get, Some, Ok, Err, IfOk, IfSome, IsNone};
 ghost use Rattle.topology_stack.specs.Tree.{Tree, IsBusTree, emits, walk};
 ghost use Rattle.topology_stack.specs.Refused.{Refused};
-ghost use Rattle.topology_stack.specs.Far.{Far};
+ghost use Rattle.topology_stack.specs.Far.{Far, IsLooseAt};
 ghost use Rattle.topology_stack.specs.Stored.{parents_from, children_from};
 ghost use Rattle.topology_stack.specs.Answer.{IfFault, UnlessMemory};
 ghost use Rattle.topology_stack.specs.declared.fault.TreeFault.{TreeFault};
@@ -100,7 +100,8 @@ impl BusTree {
     pub fn far(&self, id: u8, slot: u8) -> Option<u8>
         requires id { id < length (walk self.now) }
         requires slot { IfSome (slice_get (walk self.now) id) (λ n. slot < length n.ports) }
-        ensures { Far self.now id slot result }
+        ensures end { Far self.now id slot result }
+        ensures none { IsNone result ↔ IsLooseAt self.now id slot }
     {
         let id = id as usize;
         let ports = self.nodes[id].ports.as_slice();

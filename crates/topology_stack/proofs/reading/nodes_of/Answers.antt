@@ -6,7 +6,7 @@ use Rattle.self_id.specs.Group.{group}
 use Rattle.self_id.specs.Laws.{read_at}
 use Rattle.topology_stack.specs.declared.fault.TreeFault.TheVariants.{TooFewChildren, TreesLeft}
 use Rattle.topology_stack.proofs.Loop.{is_after_root, is_full, is_group_fault, is_too_few, is_left, is_end, both_true, both_false_left, both_false_right, ended_empty, ended_unrooted, ended_rooted, goes_round, takes, refuses, place_is, moves}
-use Rattle.topology_stack.proofs.Whole.{is_refused, is_emitted}
+use Rattle.topology_stack.proofs.Laws.{is_refused, is_emitted}
 use Rattle.topology_stack.proofs.reading.nodes_of.Goals as goal
 use Rattle.topology_stack.proofs.reading.nodes_of.Goals.{else-rooted-2-via-then-rooted-2+else-wanted-found, else-rooted-2-via-else-rooted-2}
 

@@ -1,28 +1,36 @@
-use Rattle.std.proofs.Common.{◌≡◌, ◌<◌, ◌≤◌, Option, Some, None, Bor, length, get_or, ℕ, List, ltb, take, refl, sym, ap, ◌∙◌, inl, inr, arith}
-use Rattle.std.specs.Prelude.{slice_get, is_some, IfSome, option_copied}
-use Rattle.std.proofs.lemmas.Option.{slice_get_read, slice_get_past}
-use Rattle.std.proofs.lemmas.Bool.{ltb-true, ltb-false}
+use Rattle.std.proofs.Common.{◌≡◌, ◌<◌, Option, Some, None, ℕ, length, true, false, refl, sym, ap, ◌∙◌, inl, inr, arith}
+use Rattle.std.specs.Prelude.{slice_get}
+use Rattle.std.proofs.lemmas.Option.{slice_get-get_or}
 use Rattle.self_id.specs.declared.node.PortStatus.TheVariants.{Absent, Unplugged, Up, Down}
 use Rattle.self_id.specs.Node.{downs}
-use Rattle.topology_stack.specs.Stored.{ends_of}
-use Rattle.topology_stack.proofs.Ends.{end_of}
+use Rattle.topology_stack.proofs.Ends.{end_at, fewer_before, status_at, loose, up_is_tied, down_is_tied}
 use Rattle.topology_stack.proofs.slots.far_end.Goals as goal
 
 pub returns-in-Absent : goal.returns-in-Absent
 returns-in-Absent c = elim c.in-Absent.is [
-  | inl e ↦ end_of c.args.ports.now c.args.parent c.args.kids.now c.args.slot Absent _ c.requires e
-  | inr e ↦ end_of c.args.ports.now c.args.parent c.args.kids.now c.args.slot Unplugged _ c.requires e
+  | inl e ↦
+      let here = status_at c.args.ports.now c.args.slot Absent _ c.requires.inside e in
+      record { end = end_at c.args.ports.now c.args.parent c.args.kids.now c.args.slot Absent here; none = (λ _. loose c.args.ports.now c.args.slot Absent here (inl refl), λ _. refl) }
+  | inr e ↦
+      let here = status_at c.args.ports.now c.args.slot Unplugged _ c.requires.inside e in
+      record { end = end_at c.args.ports.now c.args.parent c.args.kids.now c.args.slot Unplugged here; none = (λ _. loose c.args.ports.now c.args.slot Unplugged here (inr refl), λ _. refl) }
 ]
 
 pub returns-in-Up : goal.returns-in-Up
-returns-in-Up c = end_of c.args.ports.now c.args.parent c.args.kids.now c.args.slot Up _ c.requires c.in-Up.is
+returns-in-Up c =
+    let here = status_at c.args.ports.now c.args.slot Up _ c.requires.inside c.in-Up.is in
+    record { end = end_at c.args.ports.now c.args.parent c.args.kids.now c.args.slot Up here; none = (λ (e : true ≡ false). absurd cc, λ h. absurd (up_is_tied c.args.ports.now c.args.slot here h)) }
 
-copied_is : (r : Option (Bor ℕ)) (kids : List ℕ) (j : ℕ) → is_some r ≡ ltb j (length kids) → IfSome r (λ x. x.now ≡ get_or kids j x.now) → option_copied r ≡ slice_get kids j
-copied_is None kids j e h = sym (slice_get_past kids j (ltb-false _ _ (sym e)))
-copied_is (Some x) kids j e h = sym (slice_get_read kids (length kids) j x.now refl (ltb-true _ _ (sym e)) h)
+pub bounds-kids-count_down : goal.bounds-kids-count_down
+bounds-kids-count_down c =
+    let here = status_at c.args.ports.now c.args.slot Down _ c.requires.inside c.in-Down.is in
+    omega (arith, c.requires.kids, c.count_down.ensures.value, fewer_before c.args.ports.now c.args.slot here)
 
 pub returns-in-Down : goal.returns-in-Down
 returns-in-Down c =
-    end_of c.args.ports.now c.args.parent c.args.kids.now c.args.slot Down _ c.requires c.in-Down.is
-    ∙ ap (λ (o : Option ℕ). Some o) (ap (slice_get c.args.kids.now) (sym c.count_down.ensures.value)
-    ∙ sym (copied_is c.get.result c.args.kids.now c.count_down.result c.get.ensures.lookup.0 c.get.ensures.lookup.1) ∙ sym c.copied.ensures)
+    let here = status_at c.args.ports.now c.args.slot Down _ c.requires.inside c.in-Down.is in
+    let small : c.count_down.result < length c.args.kids.now = omega (arith, c.requires.kids, c.count_down.ensures.value, fewer_before c.args.ports.now c.args.slot here) in
+    record {
+      end = end_at c.args.ports.now c.args.parent c.args.kids.now c.args.slot Down here ∙ ap (λ (o : Option ℕ). Some o) (ap (slice_get c.args.kids.now) (sym c.count_down.ensures.value) ∙ slice_get-get_or c.args.kids.now c.count_down.result 0 small);
+      none = (λ (e : true ≡ false). absurd cc, λ h. absurd (down_is_tied c.args.ports.now c.args.slot here h));
+    }

@@ -1,4 +1,4 @@
-use Rattle.topology_stack.proofs.Whole.{no_fault, one_fault}
+use Rattle.topology_stack.proofs.Laws.{no_fault, one_fault}
 use Rattle.topology_stack.proofs.tree.one_answer.Goals as goal
 
 pub returns-clause-tree : goal.returns-clause-tree

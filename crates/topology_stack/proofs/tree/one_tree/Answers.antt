@@ -1,4 +1,4 @@
-use Rattle.topology_stack.proofs.Whole.{one_tree}
+use Rattle.topology_stack.proofs.Laws.{one_tree}
 use Rattle.topology_stack.proofs.tree.one_tree.Goals as goal
 
 pub returns : goal.returns
