@@ -21,3 +21,6 @@ pub use name::{Name, NameList};
 pub use text::tree_text;
 pub use tree::{BusTree, one_answer, one_tree, read_tree};
 pub use writing::write_tree;
+
+#[cfg(test)]
+mod tests;
