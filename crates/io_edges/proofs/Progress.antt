@@ -11,12 +11,13 @@ pub record Takes (first now : Option (List ℕ)) (bytes : List ℕ) (limit befor
   pub short : length bytes ≤ limit
   pub later : before ≤ after
 
--- the bytes below a place are written
-pub record Writes (first now : Option (List ℕ)) (bytes : List ℕ) (at before after : ℕ) : Type 0 where
+-- the bytes below a place are written, and where the sink promised to take all, it promises to take the rest
+pub record Writes (first now : Option (List ℕ)) (bytes : List ℕ) (at before after : ℕ) (Promised : Type 0) (Promise : ℕ → Type 0) : Type 0 where
   pub wrote : Appends first now (take at bytes)
   pub told : StayTold first now
   pub inside : at ≤ length bytes
   pub later : before ≤ after
+  pub sure : Promised → Promise (length bytes - at) × (after ≡ before)
 
 pub Consumes-then : (a b c : Option (List ℕ)) (xs ys : List ℕ) → StayTold a b → Consumes a b xs → Consumes b c ys → Consumes a c (xs ++ ys)
 Consumes-then None b c xs ys told p q = tt

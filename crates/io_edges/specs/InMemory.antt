@@ -1,5 +1,5 @@
 -- What a source and a sink in memory show.
-use Rattle.std.specs.Prelude.{ℕ, List}
+use Rattle.std.specs.Prelude.{◌≡◌, ℕ, ◌+◌, ◌≤◌, List, [], length}
 
 -- a source in memory: the bytes that it has left, the numbers of the calls that fail, the most
 -- bytes of a call, and how many calls and faults there were
@@ -19,3 +19,7 @@ pub record Kept : Type 0 where
   pub piece : ℕ
   pub calls : ℕ
   pub faults : ℕ
+
+-- no call of the sink fails, and it has room for so many more bytes
+abbrev pub HasRoom : Kept → ℕ → Type 0
+HasRoom sink count = (sink.fails ≡ []) × (length sink.bytes + count ≤ sink.room)

@@ -9,8 +9,8 @@ ghost use Rattle.io_edges.specs.Told.{StayTold};
 use crate::traits::{Failed, Sink, Source};
 use std::io::{Read, Write};
 
-/// A reader as a source that counts its faults. It tells no bytes.
-#[derive(Drop)]
+/// A reader as a source. Each error of the reader is counted as a fault. It tells no bytes.
+#[derive(Debug, Drop)]
 pub struct ReadSource<R> {
     inner: R,
     faults: u64,
@@ -33,13 +33,12 @@ impl<R: Read> Source for ReadSource<R> {
 
     fn read(&mut self, buf: &mut [u8]) -> Result<usize, Failed>
         ensures bound { ReadsAtMost result buf.new }
-        ensures bytes { ReadConsumes None None result buf.new }
-        ensures told { StayTold None None }
         ensures later { read_faults self.old ≤ read_faults self.new }
         ensures cause { OnErr result (Rose (read_faults self.old) (read_faults self.new)) }
 
         // The bytes are those of the reader, where it knows them, and its errors are counted.
-        ensures inner { ReadConsumes (R.remaining (reader self.old)) (R.remaining (reader self.new)) result buf.new }
+        ensures inner { ReadConsumes
+            (R.remaining (reader self.old)) (R.remaining (reader self.new)) result buf.new }
         ensures counted { CountsFault (read_faults self.old) (read_faults self.new) result }
     {
         match self.inner.read(buf) {
@@ -52,8 +51,9 @@ impl<R: Read> Source for ReadSource<R> {
     }
 }
 
-/// A writer as a sink that counts its faults. It tells no bytes.
-#[derive(Drop)]
+/// A writer as a sink. Each error of the writer is counted as a fault, and so is each write of some
+/// bytes that takes none. It tells no bytes.
+#[derive(Debug, Drop)]
 pub struct WriteSink<W> {
     inner: W,
     faults: u64,
@@ -77,13 +77,12 @@ impl<W: Write> Sink for WriteSink<W> {
     fn write(&mut self, buf: &[u8]) -> Result<usize, Failed>
         ensures bound { WritesAtMost result buf.now }
         ensures some { 0 < length buf.now → IfOk result (λ count. 0 < count) }
-        ensures bytes { WriteAppends None None result buf.now }
-        ensures told { StayTold None None }
         ensures later { write_faults self.old ≤ write_faults self.new }
         ensures cause { OnErr result (Rose (write_faults self.old) (write_faults self.new)) }
 
         // The writer takes the bytes, and a write of some bytes that takes none is an error.
-        ensures inner { WriteAppends (W.contents (writer self.old)) (W.contents (writer self.new)) result buf.now }
+        ensures inner { WriteAppends
+            (W.contents (writer self.old)) (W.contents (writer self.new)) result buf.now }
         ensures counted { CountsFault (write_faults self.old) (write_faults self.new) result }
     {
         match self.inner.write(buf) {

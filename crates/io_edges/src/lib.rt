@@ -19,3 +19,5 @@ pub use stop::{OutOfMemory, ReadStop};
 pub use traits::{Failed, Sink, Source};
 pub use whole::{read_all, write_whole};
 
+#[cfg(test)]
+mod tests;

@@ -1,8 +1,9 @@
 //! Sources and sinks in memory.
-ghost use Rattle.std.specs.Prelude.{◌≡◌, ℕ, ◌+◌, ◌-◌, ◌<◌, ◌≤◌, ◌⊎◌, ◌↔◌, List, [], ◌++◌, length, take, drop, min, Some, Contains, IsTrue, IsOk, IsErr, IfOk, OnErr};
+ghost use Rattle.std.specs.Prelude.{◌≡◌, ℕ, ◌+◌, ◌-◌, ◌<◌, ◌≤◌, ◌⊎◌, ◌↔◌, List, [], ◌++◌, length, take, drop, min, Some, Contains, IsTrue, IsOk, IsOkAnd, IsErr, IfOk, OnErr};
 ghost use Rattle.std.specs.Io.{ReadsAtMost, WritesAtMost};
 ghost use Rattle.std.specs.Io.KnownBytes.{ReadConsumes, WriteAppends};
 ghost use Rattle.io_edges.specs.Faults.{Rose, CountsFault, next_count};
+ghost use Rattle.io_edges.specs.InMemory.{HasRoom};
 ghost use Rattle.io_edges.specs.Told.{StayTold};
 
 use crate::stop::OutOfMemory;
@@ -34,7 +35,7 @@ fn is_to_fail(fails: &[u32], call: u64) -> bool
 }
 
 /// Bytes in memory, given in pieces. The calls of some numbers fail.
-#[derive(Drop)]
+#[derive(Debug, Drop)]
 pub struct MemSource {
     bytes: Vec<u8>,
     at: usize,
@@ -50,7 +51,13 @@ impl Model for MemSource {
 
     ghost Value = { Given };
 
-    ghost view = { λ s. record { left = drop s.at s.bytes.items; fails = s.fails.items; piece = s.piece; calls = s.calls; faults = s.faults } };
+    ghost view = { λ s. record {
+      left = drop s.at s.bytes.items;
+      fails = s.fails.items;
+      piece = s.piece;
+      calls = s.calls;
+      faults = s.faults;
+    } };
 
     ghost invariant = { λ s. (s.at ≤ length s.bytes.items) × (1 ≤ s.piece) };
 }
@@ -60,7 +67,13 @@ impl MemSource {
     /// gives as many bytes as it can, but at most `piece`.
     pub fn new(bytes: Vec<u8>, fails: Vec<u32>, piece: usize) -> MemSource
         requires { 1 ≤ piece }
-        ensures { result ≡ record { left = bytes.items; fails = fails.items; piece = piece; calls = 0; faults = 0 } }
+        ensures { result ≡ record {
+          left = bytes.items;
+          fails = fails.items;
+          piece = piece;
+          calls = 0;
+          faults = 0;
+        } }
     {
         MemSource {
             bytes,
@@ -81,15 +94,19 @@ impl Source for MemSource {
     fn read(&mut self, buf: &mut [u8]) -> Result<usize, Failed>
         ensures bound { ReadsAtMost result buf.new }
         ensures bytes { ReadConsumes (Some self.old.left) (Some self.new.left) result buf.new }
-        ensures told { StayTold (Some self.old.left) (Some self.new.left) }
         ensures later { self.old.faults ≤ self.new.faults }
         ensures cause { OnErr result (Rose self.old.faults self.new.faults) }
 
         // Which calls fail, how many bytes another gives, and that each call is counted.
         ensures fails { IsErr result ↔ Contains self.old.fails self.old.calls }
-        ensures count { IfOk result (λ count. count ≡ min (min (length buf.old) self.old.piece) (length self.old.left)) }
+        ensures count { IfOk result (λ count.
+            count ≡ min (min (length buf.old) self.old.piece) (length self.old.left)) }
         ensures counted { CountsFault self.old.faults self.new.faults result }
-        ensures rest { self.new ≡ record self.old { left = self.new.left; calls = next_count self.old.calls; faults = self.new.faults } }
+        ensures rest { self.new ≡ record self.old {
+          left = self.new.left;
+          calls = next_count self.old.calls;
+          faults = self.new.faults;
+        } }
     {
         let call = self.calls;
         self.calls = call.saturating_add(1);
@@ -102,7 +119,7 @@ impl Source for MemSource {
 }
 
 /// Bytes in memory that are given without a fault.
-#[derive(Drop)]
+#[derive(Debug, Drop)]
 pub struct SureSource {
     bytes: Vec<u8>,
     at: usize,
@@ -135,9 +152,6 @@ impl Source for SureSource {
     fn read(&mut self, buf: &mut [u8]) -> Result<usize, Failed>
         ensures bound { ReadsAtMost result buf.new }
         ensures bytes { ReadConsumes (Some self.old) (Some self.new) result buf.new }
-        ensures told { StayTold (Some self.old) (Some self.new) }
-        ensures later { 0 ≤ 0 }
-        ensures cause { OnErr result (Rose 0 0) }
 
         // It never fails, and gives as many bytes as it can.
         ensures sure { IsOk result }
@@ -148,7 +162,7 @@ impl Source for SureSource {
 }
 
 /// Bytes that are kept in memory, as far as there is room. The calls of some numbers fail.
-#[derive(Drop)]
+#[derive(Debug, Drop)]
 pub struct MemSink {
     bytes: Vec<u8>,
     room: usize,
@@ -164,9 +178,17 @@ impl Model for MemSink {
 
     ghost Value = { Kept };
 
-    ghost view = { λ s. record { bytes = s.bytes.items; room = s.room; fails = s.fails.items; piece = s.piece; calls = s.calls; faults = s.faults } };
+    ghost view = { λ s. record {
+      bytes = s.bytes.items;
+      room = s.room;
+      fails = s.fails.items;
+      piece = s.piece;
+      calls = s.calls;
+      faults = s.faults;
+    } };
 
-    ghost invariant = { λ s. (length s.bytes.items ≤ s.room) × (s.room ≤ vec_capacity s.bytes) × (1 ≤ s.piece) };
+    ghost invariant = { λ s. (length s.bytes.items ≤ s.room)
+        × (s.room ≤ vec_capacity s.bytes) × (1 ≤ s.piece) };
 }
 
 impl MemSink {
@@ -180,7 +202,14 @@ impl MemSink {
         piece: usize,
     ) -> Result<MemSink, OutOfMemory>
         requires { 1 ≤ piece }
-        ensures { IfOk result (λ sink. sink ≡ record { bytes = []; room = room; fails = fails.items; piece = piece; calls = 0; faults = 0 }) }
+        ensures { IfOk result (λ sink. sink ≡ record {
+          bytes = [];
+          room = room;
+          fails = fails.items;
+          piece = piece;
+          calls = 0;
+          faults = 0;
+        }) }
     {
         let bytes = Vec::with_capacity(alloc, room)?;
         Ok(MemSink {
@@ -206,19 +235,29 @@ impl Sink for MemSink {
 
     ghost faults = { λ sink. sink.faults };
 
+    ghost surely_takes = { HasRoom };
+
     fn write(&mut self, buf: &[u8]) -> Result<usize, Failed>
         ensures bound { WritesAtMost result buf.now }
         ensures some { 0 < length buf.now → IfOk result (λ count. 0 < count) }
         ensures bytes { WriteAppends (Some self.old.bytes) (Some self.new.bytes) result buf.now }
-        ensures told { StayTold (Some self.old.bytes) (Some self.new.bytes) }
         ensures later { self.old.faults ≤ self.new.faults }
         ensures cause { OnErr result (Rose self.old.faults self.new.faults) }
+        ensures sure { HasRoom self.old (length buf.now) →
+            IsOkAnd result (λ count. HasRoom self.new (length buf.now - count))
+            × (self.new.faults ≡ self.old.faults) }
 
         // Which calls fail, how many bytes another takes, and that each call is counted.
-        ensures fails { IsErr result ↔ (Contains self.old.fails self.old.calls ⊎ ((0 < length buf.now) × (length self.old.bytes ≡ self.old.room))) }
-        ensures count { IfOk result (λ count. count ≡ min (min (length buf.now) self.old.piece) (self.old.room - length self.old.bytes)) }
+        ensures fails { IsErr result ↔ (Contains self.old.fails self.old.calls
+            ⊎ ((0 < length buf.now) × (length self.old.bytes ≡ self.old.room))) }
+        ensures count { IfOk result (λ count. count
+            ≡ min (min (length buf.now) self.old.piece) (self.old.room - length self.old.bytes)) }
         ensures counted { CountsFault self.old.faults self.new.faults result }
-        ensures rest { self.new ≡ record self.old { bytes = self.new.bytes; calls = next_count self.old.calls; faults = self.new.faults } }
+        ensures rest { self.new ≡ record self.old {
+          bytes = self.new.bytes;
+          calls = next_count self.old.calls;
+          faults = self.new.faults;
+        } }
     {
         let call = self.calls;
         self.calls = call.saturating_add(1);

@@ -9,7 +9,7 @@ use thiserror::Error;
 pub type OutOfMemory = AllocError;
 
 /// Why a source was not read to its end.
-#[derive(Debug, Drop, Error)]
+#[derive(Clone, Copy, Debug, PartialEq, Eq, Error)]
 pub enum ReadStop {
     /// A read failed.
     #[error("the source failed")]
@@ -32,12 +32,12 @@ impl From<Failed> for ReadStop {
     }
 }
 
-impl From<AllocError> for ReadStop {
+impl From<OutOfMemory> for ReadStop {
     ghost use Rattle.io_edges.specs.declared.stop.ReadStop.TheVariants.{Memory};
 
     ghost from_gives = { λ error stop. stop ≡ Memory error };
 
-    fn from(error: AllocError) -> ReadStop {
+    fn from(error: OutOfMemory) -> ReadStop {
         ReadStop::Memory(error)
     }
 }
