@@ -194,7 +194,7 @@ impl Model for MemSink {
 impl MemSink {
     /// An empty sink with room for `room` bytes. Its writes are numbered from 0: those in `fails`
     /// fail, as does one of some bytes where no room is left, and any other takes as many bytes
-    /// as it can, but at most `piece`.
+    /// as it can, but at most `piece`. The room is taken here, so that no write wants memory.
     pub fn new(
         alloc: Global,
         room: usize,

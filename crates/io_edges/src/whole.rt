@@ -14,8 +14,8 @@ const PIECE: usize = 4096;
 /// Reads a source to its end. `limit` is the most bytes that are accepted, at most 1,048,576.
 ///
 /// `ReadFault` comes only where the source's count of faults rose in this call, and `TooLong`
-/// exactly where the source gave byte number `limit + 1`. After any answer but `Ok` the bytes
-/// left are the end of those at the call.
+/// exactly where the source gave byte number `limit + 1`. `Memory` is want of memory for the
+/// bytes. After each of them the bytes left are the end of those at the call.
 pub fn read_all<S: Source>(alloc: Global, source: &mut S, limit: usize) -> Result<Vec<u8>, ReadStop>
     requires { limit ≤ 1048576 }
     ensures all { IfOk result (λ v. IfSome (S.left source.old) (λ bytes. v.items ≡ bytes)) }

@@ -1,4 +1,3 @@
-use Rattle.std.proofs.lemmas.Result.{err_from_is_err_and}
 use Rattle.io_edges.proofs.Progress.{Consumes-then}
 use Rattle.io_edges.proofs.whole.read_all.Goals as goal
 

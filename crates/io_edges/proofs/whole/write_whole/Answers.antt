@@ -5,7 +5,8 @@ use Rattle.io_edges.proofs.whole.write_whole.Goals as goal
 
 pub loop-at-preserved : goal.loop-at-preserved
 loop-at-preserved g c = record {
-  wrote = rw take-add (Appends-then _ _ _ _ _ c.loop-at.invariant.told c.loop-at.invariant.wrote (rw take_rest at c.in_ok-at.ensures.bytes));
+  wrote = rw take-add (Appends-then _ _ _ _ _ c.loop-at.invariant.told c.loop-at.invariant.wrote
+      (rw take_rest at c.in_ok-at.ensures.bytes));
   told = c.in_ok-at.ensures.told ∙ c.loop-at.invariant.told;
   inside = omega (arith, c.in_ok-at.ensures.bound, length-drop c.loop-at.at c.args.bytes.now);
   later = omega (arith, c.in_ok-at.ensures.later, c.loop-at.invariant.later);
