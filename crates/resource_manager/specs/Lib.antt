@@ -1,0 +1,4 @@
+pub mod Register
+pub mod Channel
+pub mod Response
+pub mod Grant
