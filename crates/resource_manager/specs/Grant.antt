@@ -33,21 +33,20 @@ release_fault values seen channel units =
     else if nat_lt (layout BandwidthAvailable).initial (seen.bandwidth + units) then Some (NoBandwidth seen.bandwidth)
     else changed values seen channel
 
+-- the registers with another bandwidth, and another word in the channel's register
+abbrev pub moved : Values → ℕ → ℕ → ℕ → Values
+moved values channel bandwidth word =
+    with_value (record values { bandwidth_available = bandwidth }) (register_of channel) word
+
 -- the registers after a grant: the bandwidth is less by the units, and the channel's bit is 0
 abbrev pub allocated : Values → ℕ → ℕ → Values
 allocated values channel units =
-    with_value
-    (record values { bandwidth_available = values.bandwidth_available - units })
-    (register_of channel)
-    (cleared (word_of (seen_of values) channel) (place_of channel))
+    moved values channel (values.bandwidth_available - units) (cleared (word_of (seen_of values) channel) (place_of channel))
 
 -- the registers after a release: the bandwidth is more by the units, and the channel's bit is 1
 abbrev pub released : Values → ℕ → ℕ → Values
 released values channel units =
-    with_value
-    (record values { bandwidth_available = values.bandwidth_available + units })
-    (register_of channel)
-    (raised (word_of (seen_of values) channel) (place_of channel))
+    moved values channel (values.bandwidth_available + units) (raised (word_of (seen_of values) channel) (place_of channel))
 
 -- A grant takes a channel and units of bandwidth: a release is one backwards.
 pub record Takes (before after : Values) (channel units : ℕ) : Type 0 where

@@ -73,6 +73,7 @@ pub fn look(regs: &Registers) -> Seen
 fn check_unchanged(regs: &Registers, seen: Seen, channel: u8) -> Result<(), GrantFault>
     requires { channel ≤ 63 }
     ensures fault { result_err result ≡ changed regs.now seen channel }
+    ensures changed { (offset old : ℕ) → result ≡ Err (GrantFault.Changed offset old) → IsFirstChanged regs.now seen channel offset old }
     ensures bandwidth { OnOk result ((seen_of regs.now).bandwidth ≡ seen.bandwidth) }
     ensures word { OnOk result (word_of (seen_of regs.now) channel ≡ word_of seen channel) }
 {
@@ -107,13 +108,13 @@ fn raised(word: u32, channel: u8) -> u32
 }
 
 /// Takes units off the bandwidth and makes the channel's bit 0.
-fn take(regs: &mut Registers, channel: u8, units: u32)
+fn take(regs: &mut Registers, channel: u8, units: u16)
     requires channel { channel ≤ 63 }
     requires units { units ≤ (seen_of regs.old).bandwidth }
     ensures { regs.new ≡ allocated regs.old channel units }
 {
     let now = look(regs);
-    regs.set(Register::BandwidthAvailable, now.bandwidth - units);
+    regs.set(Register::BandwidthAvailable, now.bandwidth - u32::from(units));
     regs.set(
         Register::of_channel(channel),
         cleared(now.word(channel), channel),
@@ -121,13 +122,13 @@ fn take(regs: &mut Registers, channel: u8, units: u32)
 }
 
 /// Puts units back to the bandwidth and makes the channel's bit 1.
-fn put_back(regs: &mut Registers, channel: u8, units: u32)
+fn put_back(regs: &mut Registers, channel: u8, units: u16)
     requires channel { channel ≤ 63 }
     requires units { (seen_of regs.old).bandwidth + units ≤ 4915 }
     ensures { regs.new ≡ released regs.old channel units }
 {
     let now = look(regs);
-    regs.set(Register::BandwidthAvailable, now.bandwidth + units);
+    regs.set(Register::BandwidthAvailable, now.bandwidth + u32::from(units));
     regs.set(
         Register::of_channel(channel),
         raised(now.word(channel), channel),
@@ -139,14 +140,15 @@ pub fn allocate(regs: &mut Registers, seen: Seen, channel: u8, units: u16) -> Re
     requires channel { channel ≤ 63 }
     requires units { units ≤ 4915 }
     ensures fault { result_err result ≡ allocate_fault regs.old seen channel units }
+    ensures changed { (offset old : ℕ) → result ≡ Err (GrantFault.Changed offset old) → IsFirstChanged regs.old seen channel offset old }
     ensures ok { OnOk result (regs.new ≡ allocated regs.old channel units) }
+    ensures takes { OnOk result (Takes regs.old regs.new channel units) }
     ensures err { OnErr result (regs.new ≡ regs.old) }
 {
-    let units = u32::from(units);
     if !seen.is_free(channel) {
         return Err(GrantFault::NoChannel);
     }
-    if seen.bandwidth < units {
+    if seen.bandwidth < u32::from(units) {
         return Err(GrantFault::NoBandwidth {
             left: seen.bandwidth,
         });
@@ -161,15 +163,17 @@ pub fn release(regs: &mut Registers, seen: Seen, channel: u8, units: u16) -> Res
     requires channel { channel ≤ 63 }
     requires units { units ≤ 4915 }
     ensures fault { result_err result ≡ release_fault regs.old seen channel units }
+    ensures changed { (offset old : ℕ) → result ≡ Err (GrantFault.Changed offset old) → IsFirstChanged regs.old seen channel offset old }
     ensures ok { OnOk result (regs.new ≡ released regs.old channel units) }
+    // A release is a grant backwards.
+    ensures takes { OnOk result (Takes regs.new regs.old channel units) }
     ensures err { OnErr result (regs.new ≡ regs.old) }
 {
-    let units = u32::from(units);
     if seen.is_free(channel) {
         return Err(GrantFault::NoChannel);
     }
     // The bandwidth seen may be any number, so the units are taken off the bound.
-    if seen.bandwidth > Register::BandwidthAvailable.initial() - units {
+    if seen.bandwidth > Register::BandwidthAvailable.initial() - u32::from(units) {
         return Err(GrantFault::NoBandwidth {
             left: seen.bandwidth,
         });
