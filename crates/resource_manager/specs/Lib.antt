@@ -2,3 +2,4 @@ pub mod Register
 pub mod Channel
 pub mod Response
 pub mod Grant
+pub mod Access

@@ -114,7 +114,10 @@ fn take(regs: &mut Registers, channel: u8, units: u16)
     ensures { regs.new ≡ allocated regs.old channel units }
 {
     let now = look(regs);
-    regs.set(Register::BandwidthAvailable, now.bandwidth - u32::from(units));
+    regs.set(
+        Register::BandwidthAvailable,
+        now.bandwidth - u32::from(units),
+    );
     regs.set(
         Register::of_channel(channel),
         cleared(now.word(channel), channel),
@@ -128,7 +131,10 @@ fn put_back(regs: &mut Registers, channel: u8, units: u16)
     ensures { regs.new ≡ released regs.old channel units }
 {
     let now = look(regs);
-    regs.set(Register::BandwidthAvailable, now.bandwidth + u32::from(units));
+    regs.set(
+        Register::BandwidthAvailable,
+        now.bandwidth + u32::from(units),
+    );
     regs.set(
         Register::of_channel(channel),
         raised(now.word(channel), channel),

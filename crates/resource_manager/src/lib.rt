@@ -6,10 +6,12 @@
 //! A bus reset restores their initial values. Nothing here takes memory.
 #![tactic(auto)]
 
+mod access;
 mod grant;
 mod register;
 mod registers;
 
+pub use access::{Access, Answer, serve, serve_all};
 pub use grant::{GrantFault, Seen, allocate, look, release};
 pub use register::Register;
 pub use registers::{COMPARE_SWAP, Registers, Reply};
