@@ -127,3 +127,20 @@ release_takes_backwards v s c u below h =
           bandwidth = sym (moved-bandwidth v c x y);
           manager = sym (moved-manager v c x y);
         }
+
+-- a release that isn't refused leaves no more bandwidth than there is at first
+pub release_within :
+    (v : Values) (s : Seen) (c u : ℕ) → release_fault v s c u ≡ None → (released v c u).bandwidth_available ≤ 4915
+release_within v s c u h = go (eqb (bit_of s c) 1) (nat_lt 4915 (s.bandwidth + u)) refl refl
+  where
+    go :
+        (a b : Bool) → eqb (bit_of s c) 1 ≡ a → nat_lt 4915 (s.bandwidth + u) ≡ b →
+        (released v c u).bandwidth_available ≤ 4915
+    go true b e f = let k = rw e at h in cc
+    go false true e f = let k = rw (e, f) at h in cc
+    go false false e f =
+        let same : IsCurrent v s c = unchanged v s c (rw (e, f) at h) in
+        let bound : s.bandwidth + u ≤ 4915 = ltb-false _ _ f in
+        let x = v.bandwidth_available + u in
+        let y = raised (word_of (seen_of v) c) (place_of c) in
+        omega (arith, moved-bandwidth v c x y, same.bandwidth)

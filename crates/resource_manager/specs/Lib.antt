@@ -3,3 +3,4 @@ pub mod Channel
 pub mod Response
 pub mod Grant
 pub mod Access
+pub mod Calls

@@ -1,7 +1,9 @@
 //! Any list of calls to the registers.
 ghost use Rattle.std.specs.Prelude.{◌≡◌, ◌↔◌, ℕ, ◌+◌, ◌≤◌, All, IsTrue, length};
 ghost use Rattle.std.specs.Result.{result_err};
+ghost use Rattle.std.specs.List.{zip};
 ghost use Rattle.resource_manager.specs.Access.{IsPermitted, IsRefusal, decided, answer_of, after, after_all, answers_of};
+ghost use Rattle.resource_manager.specs.Calls.{FreedBetweenGrants, FreedBeforeGrant, IsByHand, Conserves};
 
 use crate::grant::{GrantFault, Seen, allocate, look, release};
 use crate::registers::{Registers, Reply};
@@ -121,6 +123,14 @@ pub fn serve_all(regs: &mut Registers, accesses: &[Access], answers: &mut [Answe
     requires places { length answers.old ≡ length accesses.now }
     ensures answers { answers.new ≡ answers_of regs.old accesses.now }
     ensures after { regs.new ≡ after_all regs.old accesses.now }
+
+    // A channel that was granted, or was held at first, isn't granted before a call frees it.
+    ensures freed_between { FreedBetweenGrants (zip accesses.now answers.new) }
+    ensures freed_before { FreedBeforeGrant regs.old (zip accesses.now answers.new) }
+
+    // Grants and releases neither lose nor make bandwidth or channels.
+    ensures conserves { All (λ call. ¬ IsByHand call.0 call.1) (zip accesses.now answers.new) →
+        Conserves regs.old regs.new (zip accesses.now answers.new) }
 {
     for (i, access) in accesses.iter().enumerate() {
         answers[i] = serve(regs, *access);

@@ -1,6 +1,6 @@
 -- A list of calls under way.
-use Rattle.std.proofs.Common.{◌≡◌, ◌<◌, ◌+◌, ℕ, List, ◌++◌, ◌∷◌, [], length, take, drop, get_or, arith, refl, sym, ◌∙◌, ap, add-one, append_assoc, drop-cons, set}
-use Rattle.std.proofs.lemmas.List.{take_more_set}
+use Rattle.std.proofs.Common.{◌≡◌, ◌<◌, ◌≤◌, ◌+◌, ℕ, List, ◌++◌, ◌∷◌, [], length, take, drop, get_or, arith, refl, sym, ◌∙◌, ap, add-one, append_assoc, drop-cons, append-nil, set}
+use Rattle.std.proofs.lemmas.List.{take_more_set, drop_all, take_all}
 use Rattle.resource_manager.specs.declared.access.Access.{Access}
 use Rattle.resource_manager.specs.declared.access.Answer.{Answer}
 use Rattle.resource_manager.specs.Register.{Values}
@@ -21,4 +21,21 @@ one_more before now i accesses answers d h k w =
     record {
       left = rw next at w.left;
       given = rw (take_more_set answers i (answer_of now (get_or accesses i d)) k, append_assoc) (rw next at w.given);
+    }
+
+-- the registers and the answers once all calls were made
+pub record IsDone (before now : Values) (accesses : List Access) (answers : List Answer) : Type 0 where
+  pub left : now ≡ after_all before accesses
+  pub given : answers ≡ answers_of before accesses
+
+pub all_made :
+    (before now : Values) (i : ℕ) (accesses : List Access) (answers : List Answer) → length accesses ≤ i →
+    length answers ≡ length accesses → IsUnderWay before now i accesses answers →
+    IsDone before now accesses answers
+all_made before now i accesses answers end same w =
+    let none : drop i accesses ≡ [] = drop_all i accesses end in
+    let whole : take i answers ≡ answers = take_all i answers (omega arith) in
+    record {
+      left = rw none at w.left;
+      given = sym (append-nil answers) ∙ rw (none, whole) at w.given;
     }
