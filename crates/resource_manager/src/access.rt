@@ -83,6 +83,13 @@ impl From<Result<(), GrantFault>> for Answer {
     }
 }
 
+/// Whether each call of a list is permitted, as [`serve_all`] requires.
+pub fn are_permitted(accesses: &[Access]) -> bool
+    ensures { IsTrue result ↔ All IsPermitted accesses.now }
+{
+    accesses.iter().all(|access| access.is_permitted())
+}
+
 /// Makes one call.
 pub fn serve(regs: &mut Registers, access: Access) -> Answer
     requires { IsPermitted access }

@@ -11,7 +11,10 @@ mod grant;
 mod register;
 mod registers;
 
-pub use access::{Access, Answer, serve, serve_all};
+pub use access::{Access, Answer, are_permitted, serve, serve_all};
 pub use grant::{GrantFault, Seen, allocate, look, release};
 pub use register::Register;
 pub use registers::{COMPARE_SWAP, Registers, Reply};
+
+#[cfg(test)]
+mod tests;

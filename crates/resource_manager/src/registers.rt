@@ -142,10 +142,8 @@ impl Registers {
     pub fn write(&self, offset: u32, _value: u32) -> Reply
         ensures { result ≡ write_reply offset }
     {
-        match Register::at(offset) {
-            Some(_) => Reply::refused(TYPE_ERROR),
-            None => Reply::refused(ADDRESS_ERROR),
-        }
+        let exists = Register::at(offset).is_some();
+        Reply::refused(if exists { TYPE_ERROR } else { ADDRESS_ERROR })
     }
 
     /// Locks the register at an offset. `kind` is the extended transaction code, of which
