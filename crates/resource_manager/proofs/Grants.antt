@@ -1,13 +1,12 @@
 -- What a grant and a release do, in the terms of channels.
-use Rattle.std.proofs.Common.{◌≡◌, ◌≢◌, ℕ, ◌<◌, ◌≤◌, ◌+◌, ◌-◌, ◌%◌, Bool, true, false, arith, refl, sym, ◌∙◌, nat_lt, eqb, Some, None, ltb}
+use Rattle.std.proofs.Common.{◌≡◌, ◌≢◌, ℕ, ◌<◌, ◌≤◌, ◌+◌, ◌-◌, Bool, true, false, arith, refl, sym, ◌∙◌, nat_lt, eqb, None}
 use Rattle.std.specs.Int.{bit_at}
 use Rattle.std.proofs.lemmas.Bool.{ltb-true, ltb-false, eqb-true, eqb-false}
 use Rattle.std.proofs.lemmas.Nat.Bits.{bit_at-lt}
 use Rattle.resource_manager.specs.declared.grant.Seen.{Seen}
-use Rattle.resource_manager.specs.declared.grant.GrantFault.TheVariants.{NoChannel, NoBandwidth, Changed}
 use Rattle.resource_manager.specs.Register.{Values}
 use Rattle.resource_manager.specs.Channel.{place_of, seen_of, word_of, bit_of, cleared, raised}
-use Rattle.resource_manager.specs.Grant.{changed, allocate_fault, release_fault, moved, allocated, released, Takes, IsFirstChanged}
+use Rattle.resource_manager.specs.Grant.{changed, allocate_fault, release_fault, moved, allocated, released, Takes}
 use Rattle.resource_manager.proofs.Bits.{cleared-same, cleared-other, raised-same, raised-other}
 
 -- two channels of one register have two places

@@ -1,5 +1,5 @@
 -- What a whole list of calls keeps.
-use Rattle.std.proofs.Common.{◌≡◌, ℕ, ◌<◌, ◌≤◌, ◌+◌, List, [], ◌∷◌, All, arith, refl, sym, ◌∙◌, suc, zero, inl, inr, ◌⊎◌}
+use Rattle.std.proofs.Common.{◌≡◌, ℕ, ◌<◌, ◌+◌, List, [], ◌∷◌, All, arith, refl, suc, zero, inl, inr}
 use Rattle.std.specs.List.{zip}
 use Rattle.std.proofs.lemmas.List.Elements.{All-head, All-tail}
 use Rattle.std.proofs.lemmas.List.Sums.{sum_by-cons}
@@ -8,7 +8,7 @@ use Rattle.resource_manager.specs.declared.access.Answer.{Answer}
 use Rattle.resource_manager.specs.Register.{Values}
 use Rattle.resource_manager.specs.Channel.{seen_of, bit_of}
 use Rattle.resource_manager.specs.Access.{IsPermitted, after, after_all, answer_of, answers_of}
-use Rattle.resource_manager.specs.Calls.{At, Grants, Frees, FreedBetweenGrants, FreedBeforeGrant, IsByHand, Conserves, total, grants_of, releases_of, units_granted, units_released}
+use Rattle.resource_manager.specs.Calls.{At, Frees, FreedBetweenGrants, FreedBeforeGrant, IsByHand, Conserves, total, grants_of, releases_of, units_granted, units_released}
 use Rattle.resource_manager.proofs.Steps.{IsTaken, granted, freed, FreesOrHolds, Keeps, keeps}
 
 -- the calls of a list with their answers

@@ -1,5 +1,5 @@
 -- A list of calls under way.
-use Rattle.std.proofs.Common.{◌≡◌, ◌<◌, ◌≤◌, ◌+◌, ℕ, List, ◌++◌, ◌∷◌, [], length, take, drop, get_or, arith, refl, sym, ◌∙◌, ap, add-one, append_assoc, drop-cons, append-nil, set}
+use Rattle.std.proofs.Common.{◌≡◌, ◌<◌, ◌≤◌, ◌+◌, ℕ, List, ◌++◌, ◌∷◌, [], length, take, drop, get_or, arith, sym, ◌∙◌, add-one, append_assoc, drop-cons, append-nil, set}
 use Rattle.std.proofs.lemmas.List.{take_more_set, drop_all, take_all}
 use Rattle.resource_manager.specs.declared.access.Access.{Access}
 use Rattle.resource_manager.specs.declared.access.Answer.{Answer}

@@ -1,5 +1,5 @@
 -- Any list of calls to the registers: what they answer, and what they leave.
-use Rattle.std.specs.Prelude.{◌≢◌, ℕ, ◌≤◌, Option, None, Some, List, fold}
+use Rattle.std.specs.Prelude.{◌≢◌, ◌≤◌, Option, None, Some, List, fold}
 use Rattle.std.specs.List.{scan}
 use Rattle.resource_manager.specs.declared.access.Access.{Access}
 use Rattle.resource_manager.specs.declared.access.Access.TheVariants.{Read, Write, Lock, Reset, Look, Allocate, Release}

@@ -1,11 +1,11 @@
 -- What every list of calls keeps, told by the calls and their answers alone.
-use Rattle.std.specs.Prelude.{◌≡◌, ◌≢◌, ℕ, ◌+◌, ◌<◌, ◌≤◌, ◌==◌, List, All, IsSomeAnd, slice_get, sum_by, if◌then◌else◌}
+use Rattle.std.specs.Prelude.{◌≡◌, ◌≢◌, ℕ, ◌+◌, ◌<◌, ◌≤◌, ◌==◌, ◌⊎◌, List, IsSomeAnd, slice_get, sum_by, if◌then◌else◌}
 use Rattle.std.specs.Int.{bit_at}
 use Rattle.resource_manager.specs.declared.register.Register.TheVariants.{BusManagerId, BandwidthAvailable}
 use Rattle.resource_manager.specs.declared.access.Access.{Access}
-use Rattle.resource_manager.specs.declared.access.Access.TheVariants.{Read, Write, Lock, Reset, Look, Allocate, Release}
+use Rattle.resource_manager.specs.declared.access.Access.TheVariants.{Lock, Reset, Allocate, Release}
 use Rattle.resource_manager.specs.declared.access.Answer.{Answer}
-use Rattle.resource_manager.specs.declared.access.Answer.TheVariants.{Replied, Saw, Done, Refused}
+use Rattle.resource_manager.specs.declared.access.Answer.TheVariants.{Replied, Done}
 use Rattle.resource_manager.specs.Register.{Values, layout}
 use Rattle.resource_manager.specs.Channel.{register_of, place_of, seen_of, bit_of}
 use Rattle.resource_manager.specs.Response.{complete}
@@ -48,6 +48,19 @@ abbrev pub IsByHand : Access → Answer → Type 0
 IsByHand Reset Done = Unit {0}
 IsByHand (Lock offset kind arg value) (Replied reply) = (offset ≢ (layout BusManagerId).offset) × (reply ≡ complete arg)
 IsByHand access answer = ⊥
+
+-- What one call does to the channels.
+pub record MovesChannels (old new : Values) (access : Access) (answer : Answer) : Type 0 where
+  -- a channel is granted where it is free, and is held then
+  pub granted :
+      (channel : ℕ) → Grants channel access answer →
+      (bit_of (seen_of old) channel ≡ 1) × (bit_of (seen_of new) channel ≡ 0)
+  -- a channel is free after a call that frees it
+  pub freed : (channel : ℕ) → channel < 64 → Frees channel access answer → bit_of (seen_of new) channel ≡ 1
+  -- a held channel stays held over every other call
+  pub held :
+      (channel : ℕ) → channel < 64 → bit_of (seen_of old) channel ≡ 0 →
+      Frees channel access answer ⊎ (bit_of (seen_of new) channel ≡ 0)
 
 -- a fact of call number k, from 0
 abbrev pub At : List (Access × Answer) → ℕ → (Access → Answer → Type 0) → Type 0

@@ -4,7 +4,7 @@ use Rattle.resource_manager.specs.declared.register.Register.TheVariants.{Bandwi
 use Rattle.resource_manager.specs.declared.grant.Seen.{Seen}
 use Rattle.resource_manager.specs.declared.grant.GrantFault.{GrantFault}
 use Rattle.resource_manager.specs.declared.grant.GrantFault.TheVariants.{NoChannel, NoBandwidth, Changed}
-use Rattle.resource_manager.specs.Register.{Values, Layout, layout, value_of, with_value}
+use Rattle.resource_manager.specs.Register.{Values, layout, with_value}
 use Rattle.resource_manager.specs.Channel.{register_of, place_of, seen_of, word_of, bit_of, cleared, raised}
 
 -- the first register that no longer has the value that was seen: the bandwidth, and then the channel's

@@ -1,5 +1,5 @@
 -- What the registers answer to a read, a write and a lock of one quadlet (IEEE Std 1394-1995, 6.2 and 8.3.2.3).
-use Rattle.std.specs.Prelude.{ℕ, Bool, ◌==◌, Option, None, Some, if◌then◌else◌}
+use Rattle.std.specs.Prelude.{ℕ, ◌==◌, Option, None, Some, if◌then◌else◌}
 use Rattle.resource_manager.specs.declared.register.Register.{Register}
 use Rattle.resource_manager.specs.declared.registers.Reply.{Reply}
 use Rattle.resource_manager.specs.Register.{Values, register_at, value_of, with_value, cut}

@@ -3,7 +3,7 @@ ghost use Rattle.std.specs.Prelude.{◌≡◌, ◌↔◌, ℕ, ◌+◌, ◌≤�
 ghost use Rattle.std.specs.Result.{result_err};
 ghost use Rattle.std.specs.List.{zip};
 ghost use Rattle.resource_manager.specs.Access.{IsPermitted, IsRefusal, decided, answer_of, after, after_all, answers_of};
-ghost use Rattle.resource_manager.specs.Calls.{FreedBetweenGrants, FreedBeforeGrant, IsByHand, Conserves};
+ghost use Rattle.resource_manager.specs.Calls.{MovesChannels, FreedBetweenGrants, FreedBeforeGrant, IsByHand, Conserves};
 
 use crate::grant::{GrantFault, Seen, allocate, look, release};
 use crate::registers::{Registers, Reply};
@@ -90,12 +90,14 @@ pub fn are_permitted(accesses: &[Access]) -> bool
     accesses.iter().all(|access| access.is_permitted())
 }
 
-/// Makes one call.
+/// Makes one call. [`Access::is_permitted`] tests whether it may be made.
+#[tactic(auto, using(crate::proofs::Steps::channels_moved))]
 pub fn serve(regs: &mut Registers, access: Access) -> Answer
     requires { IsPermitted access }
     ensures answer { result ≡ answer_of regs.old access }
     ensures after { regs.new ≡ after regs.old access }
     ensures refusal { IsRefusal result → regs.new ≡ regs.old }
+    ensures channels { MovesChannels regs.old regs.new access result }
 {
     match access {
         Access::Read { offset } => Answer::Replied(regs.read(offset)),
@@ -124,7 +126,8 @@ pub fn serve(regs: &mut Registers, access: Access) -> Answer
     }
 }
 
-/// Makes the calls one after another, and writes what each answers to its place in `answers`.
+/// Makes the calls one after another, and writes what each answers to its place in `answers`, which
+/// has one for each call. [`are_permitted`] tests whether the calls may be made.
 pub fn serve_all(regs: &mut Registers, accesses: &[Access], answers: &mut [Answer])
     requires permitted { All IsPermitted accesses.now }
     requires places { length answers.old ≡ length accesses.now }

@@ -141,7 +141,14 @@ fn put_back(regs: &mut Registers, channel: u8, units: u16)
     );
 }
 
-/// Takes units of bandwidth and a channel, by what was seen of the registers before.
+/// Takes a channel, 0 to 63, and units of bandwidth, 0 to 4915, by what was seen of the registers.
+///
+/// Refused, in this order, with
+/// - `NoChannel` where the channel was seen held;
+/// - `NoBandwidth` where less bandwidth than the units was seen;
+/// - `Changed` where the bandwidth, or else the channel's register, no longer has the value seen.
+///
+/// A refusal changes nothing. Else the bandwidth is less by the units and the channel's bit is 0.
 pub fn allocate(regs: &mut Registers, seen: Seen, channel: u8, units: u16) -> Result<(), GrantFault>
     requires channel { channel ≤ 63 }
     requires units { units ≤ 4915 }
@@ -164,7 +171,15 @@ pub fn allocate(regs: &mut Registers, seen: Seen, channel: u8, units: u16) -> Re
     Ok(())
 }
 
-/// Gives units of bandwidth and a channel back, by what was seen of the registers before.
+/// Gives a channel, 0 to 63, and units of bandwidth, 0 to 4915, back, by what was seen of the
+/// registers.
+///
+/// Refused, in this order, with
+/// - `NoChannel` where the channel was seen free;
+/// - `NoBandwidth` where the bandwidth seen and the units together pass 4915;
+/// - `Changed` where the bandwidth, or else the channel's register, no longer has the value seen.
+///
+/// A refusal changes nothing. Else the bandwidth is more by the units and the channel's bit is 1.
 pub fn release(regs: &mut Registers, seen: Seen, channel: u8, units: u16) -> Result<(), GrantFault>
     requires channel { channel ≤ 63 }
     requires units { units ≤ 4915 }

@@ -44,7 +44,7 @@ impl Reply {
     }
 }
 
-/// The four registers, each within its width.
+/// The four registers of the isochronous resource manager, each within its width.
 #[derive(Clone, Copy, PartialEq, Eq, Debug)]
 pub struct Registers {
     bus_manager_id: u32,
@@ -78,6 +78,14 @@ impl Model for Registers {
       channels_available_hi = v.channels_available_hi;
       channels_available_lo = v.channels_available_lo;
     } };
+}
+
+impl Default for Registers {
+    ghost is_default = { λ r. r ≡ initial_values };
+
+    fn default() -> Self {
+        Registers::new()
+    }
 }
 
 impl Registers {

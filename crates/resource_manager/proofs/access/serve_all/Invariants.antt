@@ -1,5 +1,3 @@
-use Rattle.std.proofs.Common.{◌≡◌, ◌++◌, take, drop}
-use Rattle.resource_manager.specs.Access.{after_all, answers_of}
 use Rattle.resource_manager.proofs.UnderWay.{IsUnderWay}
 use Rattle.resource_manager.proofs.access.serve_all.Given as goal
 

@@ -1,4 +1,4 @@
-use Rattle.std.proofs.Common.{◌≡◌, None, arith, rules}
+use Rattle.std.proofs.Common.{◌≡◌, None, arith}
 use Rattle.std.proofs.lemmas.Grind.{common_steps}
 use Rattle.resource_manager.specs.Grant.{allocate_fault}
 use Rattle.resource_manager.proofs.Grants.{allocation_takes}

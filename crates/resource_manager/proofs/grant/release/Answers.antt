@@ -1,4 +1,4 @@
-use Rattle.std.proofs.Common.{◌≡◌, None, arith, rules}
+use Rattle.std.proofs.Common.{◌≡◌, None, arith}
 use Rattle.std.proofs.lemmas.Grind.{common_steps}
 use Rattle.resource_manager.specs.Grant.{release_fault}
 use Rattle.resource_manager.proofs.Grants.{release_takes_backwards}
