@@ -33,20 +33,23 @@ units_released access answer = 0
 abbrev pub Grants : ℕ → Access → Answer → Type 0
 Grants channel access answer = grants_of channel access answer ≡ 1
 
--- the call frees the channel: a bus reset, a release of it, or a lock by hand that took effect on its register and
--- left its bit 1
+-- the call frees the channel: a bus reset, a release of it, or a lock by hand that took effect on
+-- its register and left its bit 1
 abbrev pub Frees : ℕ → Access → Answer → Type 0
 Frees channel Reset Done = Unit {0}
 Frees channel (Release seen given units) Done = given ≡ channel
 Frees channel (Lock offset kind arg value) (Replied reply) =
-    (offset ≡ (layout (register_of channel)).offset) × (reply ≡ complete arg) × (bit_at value (place_of channel) ≡ 1)
+    (offset ≡ (layout (register_of channel)).offset)
+    × (reply ≡ complete arg)
+    × (bit_at value (place_of channel) ≡ 1)
 Frees channel access answer = ⊥
 
--- the call changed the bandwidth or the channels, and was neither a grant nor a release: a bus reset, or a lock that
--- took effect on another register than BUS_MANAGER_ID
+-- the call changed the bandwidth or the channels, and was neither a grant nor a release: a bus
+-- reset, or a lock that took effect on another register than BUS_MANAGER_ID
 abbrev pub IsByHand : Access → Answer → Type 0
 IsByHand Reset Done = Unit {0}
-IsByHand (Lock offset kind arg value) (Replied reply) = (offset ≢ (layout BusManagerId).offset) × (reply ≡ complete arg)
+IsByHand (Lock offset kind arg value) (Replied reply) =
+    (offset ≢ (layout BusManagerId).offset) × (reply ≡ complete arg)
 IsByHand access answer = ⊥
 
 -- What one call does to the channels.
@@ -56,7 +59,9 @@ pub record MovesChannels (old new : Values) (access : Access) (answer : Answer) 
       (channel : ℕ) → Grants channel access answer →
       (bit_of (seen_of old) channel ≡ 1) × (bit_of (seen_of new) channel ≡ 0)
   -- a channel is free after a call that frees it
-  pub freed : (channel : ℕ) → channel < 64 → Frees channel access answer → bit_of (seen_of new) channel ≡ 1
+  pub freed :
+      (channel : ℕ) → channel < 64 → Frees channel access answer →
+      bit_of (seen_of new) channel ≡ 1
   -- a held channel stays held over every other call
   pub held :
       (channel : ℕ) → channel < 64 → bit_of (seen_of old) channel ≡ 0 →
@@ -75,20 +80,24 @@ FreedBetweenGrants calls =
 -- a channel that is held at first isn't granted before a call frees it
 abbrev pub FreedBeforeGrant : Values → List (Access × Answer) → Type 0
 FreedBeforeGrant values calls =
-    (channel j : ℕ) → channel < 64 → bit_of (seen_of values) channel ≡ 0 → At calls j (Grants channel) →
+    (channel j : ℕ) → channel < 64 → bit_of (seen_of values) channel ≡ 0 →
+    At calls j (Grants channel) →
     (k : ℕ) × ((k < j) × At calls k (Frees channel))
 
 -- a number of each call, over all calls
 abbrev pub total : (Access → Answer → ℕ) → List (Access × Answer) → ℕ
 total number calls = sum_by (λ call. number call.0 call.1) calls
 
--- Bandwidth and channels are neither lost nor made: what is left and what was granted is what there was and what was
--- given back, and no more bandwidth is left than a bus reset would restore.
+-- Bandwidth and channels are neither lost nor made: what is left and what was granted is what there
+-- was and what was given back, and no more bandwidth is left than a bus reset would restore.
 pub record Conserves (old new : Values) (calls : List (Access × Answer)) : Type 0 where
-  pub bandwidth : new.bandwidth_available + total units_granted calls ≡ old.bandwidth_available + total units_released calls
+  pub bandwidth :
+      new.bandwidth_available + total units_granted calls
+      ≡ old.bandwidth_available + total units_released calls
   pub within :
       old.bandwidth_available ≤ (layout BandwidthAvailable).initial →
       new.bandwidth_available ≤ (layout BandwidthAvailable).initial
   pub channels :
       (channel : ℕ) → channel < 64 →
-      bit_of (seen_of new) channel + total (grants_of channel) calls ≡ bit_of (seen_of old) channel + total (releases_of channel) calls
+      bit_of (seen_of new) channel + total (grants_of channel) calls
+      ≡ bit_of (seen_of old) channel + total (releases_of channel) calls

@@ -1,4 +1,5 @@
--- The four registers of the isochronous resource manager (IEEE Std 1394-1995, 8.3.2.3.6 to 8.3.2.3.8).
+-- The four registers of the isochronous resource manager (IEEE Std 1394-1995, 8.3.2.3.6 to
+-- 8.3.2.3.8).
 use Rattle.std.specs.Prelude.{ℕ, ◌^◌, ◌%◌, ◌<◌, ◌==◌, Option, [], ◌∷◌, find}
 use Rattle.resource_manager.specs.declared.register.Register.{Register}
 use Rattle.resource_manager.specs.declared.register.Register.TheVariants.{BusManagerId, BandwidthAvailable, ChannelsAvailableHi, ChannelsAvailableLo}

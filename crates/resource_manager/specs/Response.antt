@@ -1,4 +1,5 @@
--- What the registers answer to a read, a write and a lock of one quadlet (IEEE Std 1394-1995, 6.2 and 8.3.2.3).
+-- What the registers answer to a read, a write and a lock of one quadlet (IEEE Std 1394-1995, 6.2
+-- and 8.3.2.3).
 use Rattle.std.specs.Prelude.{ℕ, ◌==◌, Option, None, Some, if◌then◌else◌}
 use Rattle.resource_manager.specs.declared.register.Register.{Register}
 use Rattle.resource_manager.specs.declared.registers.Reply.{Reply}
@@ -48,7 +49,8 @@ lock_reply values offset kind = reply (register_at offset)
     reply None = address_error
     reply (Some register) = if kind == compare_swap then complete (value_of values register) else type_error
 
--- compare_swap: the register becomes the new value, cut to its width, where its value equals the argument
+-- compare_swap: the register becomes the new value, cut to its width, where its value equals the
+-- argument
 abbrev pub swapped : Values → Register → ℕ → ℕ → Values
 swapped values register arg value =
     if value_of values register == arg then with_value values register (cut register value) else values

@@ -1,9 +1,9 @@
 //! Granting a channel and bandwidth, and giving them back.
-ghost use Rattle.std.specs.Prelude.{◌≡◌, ◌↔◌, ℕ, ◌+◌, ◌^◌, ◌<◌, ◌≤◌, IsTrue, OnOk, OnErr};
+ghost use Rattle.std.specs.Prelude.{◌≡◌, ◌↔◌, ℕ, ◌+◌, ◌^◌, ◌<◌, ◌≤◌, IsTrue, OnOk, OnErr, IfErr};
 ghost use Rattle.std.specs.Result.{result_err};
 ghost use Rattle.resource_manager.specs.Register.{layout};
 ghost use Rattle.resource_manager.specs.Channel.{place_of, seen_of, word_of, bit_of, cleared, raised};
-ghost use Rattle.resource_manager.specs.Grant.{changed, allocate_fault, release_fault, allocated, released, Takes, IsFirstChanged};
+ghost use Rattle.resource_manager.specs.Grant.{changed, allocate_fault, release_fault, allocated, released, Takes, NamesFirstChanged};
 
 use crate::register::Register;
 use crate::registers::Registers;
@@ -73,7 +73,7 @@ pub fn look(regs: &Registers) -> Seen
 fn check_unchanged(regs: &Registers, seen: Seen, channel: u8) -> Result<(), GrantFault>
     requires { channel ≤ 63 }
     ensures fault { result_err result ≡ changed regs.now seen channel }
-    ensures changed { (offset old : ℕ) → result ≡ Err (GrantFault.Changed offset old) → IsFirstChanged regs.now seen channel offset old }
+    ensures changed { IfErr result (NamesFirstChanged regs.now seen channel) }
     ensures bandwidth { OnOk result ((seen_of regs.now).bandwidth ≡ seen.bandwidth) }
     ensures word { OnOk result (word_of (seen_of regs.now) channel ≡ word_of seen channel) }
 {
@@ -91,6 +91,44 @@ fn check_unchanged(regs: &Registers, seen: Seen, channel: u8) -> Result<(), Gran
         });
     }
     Ok(())
+}
+
+/// Refuses an allocation for the first cause in order.
+fn check_allocate(regs: &Registers, seen: Seen, channel: u8, units: u16) -> Result<(), GrantFault>
+    requires { channel ≤ 63 }
+    ensures fault { result_err result ≡ allocate_fault regs.now seen channel units }
+    ensures changed { IfErr result (NamesFirstChanged regs.now seen channel) }
+    ensures enough { OnOk result (units ≤ (seen_of regs.now).bandwidth) }
+{
+    if !seen.is_free(channel) {
+        return Err(GrantFault::NoChannel);
+    }
+    if seen.bandwidth < u32::from(units) {
+        return Err(GrantFault::NoBandwidth {
+            left: seen.bandwidth,
+        });
+    }
+    check_unchanged(regs, seen, channel)
+}
+
+/// Refuses a release for the first cause in order.
+fn check_release(regs: &Registers, seen: Seen, channel: u8, units: u16) -> Result<(), GrantFault>
+    requires channel { channel ≤ 63 }
+    requires units { units ≤ 4915 }
+    ensures fault { result_err result ≡ release_fault regs.now seen channel units }
+    ensures changed { IfErr result (NamesFirstChanged regs.now seen channel) }
+    ensures within { OnOk result ((seen_of regs.now).bandwidth + units ≤ 4915) }
+{
+    if seen.is_free(channel) {
+        return Err(GrantFault::NoChannel);
+    }
+    // The bandwidth seen may be any number, so the units are taken off the bound.
+    if seen.bandwidth > Register::BandwidthAvailable.initial() - u32::from(units) {
+        return Err(GrantFault::NoBandwidth {
+            left: seen.bandwidth,
+        });
+    }
+    check_unchanged(regs, seen, channel)
 }
 
 /// A word with the channel's bit made 0.
@@ -153,20 +191,12 @@ pub fn allocate(regs: &mut Registers, seen: Seen, channel: u8, units: u16) -> Re
     requires channel { channel ≤ 63 }
     requires units { units ≤ 4915 }
     ensures fault { result_err result ≡ allocate_fault regs.old seen channel units }
-    ensures changed { (offset old : ℕ) → result ≡ Err (GrantFault.Changed offset old) → IsFirstChanged regs.old seen channel offset old }
+    ensures changed { IfErr result (NamesFirstChanged regs.old seen channel) }
     ensures ok { OnOk result (regs.new ≡ allocated regs.old channel units) }
     ensures takes { OnOk result (Takes regs.old regs.new channel units) }
     ensures err { OnErr result (regs.new ≡ regs.old) }
 {
-    if !seen.is_free(channel) {
-        return Err(GrantFault::NoChannel);
-    }
-    if seen.bandwidth < u32::from(units) {
-        return Err(GrantFault::NoBandwidth {
-            left: seen.bandwidth,
-        });
-    }
-    check_unchanged(regs, seen, channel)?;
+    check_allocate(regs, seen, channel, units)?;
     take(regs, channel, units);
     Ok(())
 }
@@ -184,22 +214,13 @@ pub fn release(regs: &mut Registers, seen: Seen, channel: u8, units: u16) -> Res
     requires channel { channel ≤ 63 }
     requires units { units ≤ 4915 }
     ensures fault { result_err result ≡ release_fault regs.old seen channel units }
-    ensures changed { (offset old : ℕ) → result ≡ Err (GrantFault.Changed offset old) → IsFirstChanged regs.old seen channel offset old }
+    ensures changed { IfErr result (NamesFirstChanged regs.old seen channel) }
     ensures ok { OnOk result (regs.new ≡ released regs.old channel units) }
     // A release is a grant backwards.
     ensures takes { OnOk result (Takes regs.new regs.old channel units) }
     ensures err { OnErr result (regs.new ≡ regs.old) }
 {
-    if seen.is_free(channel) {
-        return Err(GrantFault::NoChannel);
-    }
-    // The bandwidth seen may be any number, so the units are taken off the bound.
-    if seen.bandwidth > Register::BandwidthAvailable.initial() - u32::from(units) {
-        return Err(GrantFault::NoBandwidth {
-            left: seen.bandwidth,
-        });
-    }
-    check_unchanged(regs, seen, channel)?;
+    check_release(regs, seen, channel, units)?;
     put_back(regs, channel, units);
     Ok(())
 }

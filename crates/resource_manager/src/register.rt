@@ -8,8 +8,8 @@ ghost use Rattle.resource_manager.specs.Channel.{register_of};
 pub enum Register {
     /// BUS_MANAGER_ID: the physical ID of the bus manager, or 0x3F while there is none.
     BusManagerId,
-    /// BANDWIDTH_AVAILABLE: the bandwidth that is left, in allocation units of about 20 nanoseconds in
-    /// each cycle of 125 microseconds.
+    /// BANDWIDTH_AVAILABLE: the bandwidth that is left, in allocation units of about 20 nanoseconds
+    /// in each cycle of 125 microseconds.
     BandwidthAvailable,
     /// CHANNELS_AVAILABLE_HI: a bit for each of the channels 0 to 31, from the top; 1 means free.
     ChannelsAvailableHi,

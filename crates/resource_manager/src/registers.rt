@@ -145,8 +145,8 @@ impl Registers {
         }
     }
 
-    /// Refuses to write, since the registers are changed by locks alone: with a type error, or with an
-    /// address error where the offset is none of the four.
+    /// Refuses to write, since the registers are changed by locks alone: with a type error, or with
+    /// an address error where the offset is none of the four.
     pub fn write(&self, offset: u32, _value: u32) -> Reply
         ensures { result ≡ write_reply offset }
     {
@@ -155,9 +155,11 @@ impl Registers {
     }
 
     /// Locks the register at an offset. `kind` is the extended transaction code, of which
-    /// [`COMPARE_SWAP`] alone is permitted: the register becomes `value`, cut to its width, where it
-    /// holds `arg`. Answers complete with the value that the register held before. An offset of none
-    /// of the four is an address error, and else another kind is a type error: then nothing changes.
+    /// [`COMPARE_SWAP`] alone is permitted: the register becomes `value`, cut to its width, where
+    /// it holds `arg`. Answers complete with the value that the register held before.
+    ///
+    /// An offset of none of the four is an address error, and else another kind is a type error.
+    /// Then the answer's value is 0, and nothing changes.
     pub fn lock(&mut self, offset: u32, kind: u8, arg: u32, value: u32) -> Reply
         ensures reply { result ≡ lock_reply self.old offset kind }
         ensures after { self.new ≡ after_lock self.old offset kind arg value }
