@@ -1,0 +1,5 @@
+mod Captured
+mod FirstBad
+mod Lanes
+mod Quadlets
+mod Steps

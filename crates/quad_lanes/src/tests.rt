@@ -1,0 +1,71 @@
+use crate::{PairFault, QuadList, first_bad_pair, firsts, min_row, pairs_of, same_list};
+use std::test::Fail;
+
+#[test]
+fn bad_pair_after_the_last_block(rt: HostRuntime) -> Result<(), Fail> {
+    let mut list = QuadList::new(rt.alloc());
+    for _ in 0..17 {
+        list.push(0x807f_8054)?;
+        list.push(0x7f80_7fab)?;
+    }
+    let quads = list.as_slice();
+    assert_eq!(rt; quads.len(), 34);
+    assert_eq!(rt; first_bad_pair(quads), None);
+    list.push(0x807f_8054)?;
+    list.push(0x7f80_7faa)?;
+    let quads = list.as_slice();
+    assert_eq!(rt; quads.len(), 36);
+    assert_eq!(rt; first_bad_pair(quads), Some(17));
+    Ok(())
+}
+
+#[test]
+fn rows_of_all_lengths(rt: HostRuntime) {
+    let mut src = [0u8; 200];
+    for i in 0..200 {
+        src[i] = (i % 5) as u8;
+    }
+    for len in [0, 1, 63, 64, 65, 200] {
+        for cap in [0, 2, 255] {
+            let mut dst = [7u8; 200];
+            min_row(&mut dst[..len], &src[..len], cap);
+            for i in 0..200 {
+                let want = if i < len { src[i].min(cap) } else { 7 };
+                assert_eq!(rt; dst[i], want, "at {i} of {len} with cap {cap}");
+            }
+        }
+    }
+}
+
+#[test]
+fn lists_that_differ_in_the_last(rt: HostRuntime) {
+    let a = [5u32; 17];
+    let mut b = a;
+    assert!(rt; same_list(&a, &b));
+    b[16] = 6;
+    assert!(rt; !same_list(&a, &b));
+    assert!(rt; !same_list(&a, &a[..16]));
+}
+
+#[test]
+fn bytes_as_pairs(rt: HostRuntime) -> Result<(), Fail> {
+    let bytes = [
+        0x80, 0x7f, 0x80, 0x54, 0x7f, 0x80, 0x7f, 0xab, 0x00, 0x00, 0x00, 0x01, 0xff, 0xff, 0xff,
+        0xfe,
+    ];
+    let quads = pairs_of(rt.alloc(), &bytes).ok().ok_or("no memory")?;
+    assert_eq!(rt;
+        quads.as_slice(),
+        [0x807f_8054, 0x7f80_7fab, 1, 0xffff_fffe].as_slice()
+    );
+    let firsts = firsts(rt.alloc(), quads.as_slice())?;
+    assert_eq!(rt; firsts.as_slice(), [0x807f_8054, 1].as_slice());
+    for cut in [9, 12, 15] {
+        let refused = pairs_of(rt.alloc(), &bytes[..cut]);
+        assert!(rt;
+            matches!(&refused, Err(PairFault::Length { whole_pairs: 1 })),
+            "at {cut}"
+        );
+    }
+    Ok(())
+}

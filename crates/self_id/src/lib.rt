@@ -1,0 +1,17 @@
+//! What one node says of itself: its group of self-ID packets (IEEE 1394a-2000, self-ID packets).
+#![tactic(auto)]
+
+mod fault;
+mod group;
+mod node;
+mod packets;
+mod quad_group;
+#[cfg(test)]
+mod tests;
+mod writing;
+
+pub use fault::GroupFault;
+pub use group::read_group;
+pub use node::{Attrs, PortList, PortStatus, SelfId};
+pub use quad_group::QuadGroup;
+pub use writing::write_group;

@@ -1,0 +1,36 @@
+use Rattle.std.proofs.Common.{◌≡◌, ◌<◌, Option, Some, None, ℕ, length, true, false, refl, sym, ap, ◌∙◌, inl, inr, arith}
+use Rattle.std.specs.Prelude.{slice_get}
+use Rattle.std.proofs.lemmas.Option.{slice_get-get_or}
+use Rattle.self_id.specs.declared.node.PortStatus.TheVariants.{Absent, Unplugged, Up, Down}
+use Rattle.self_id.specs.Node.{downs}
+use Rattle.topology_stack.proofs.Ends.{end_at, fewer_before, status_at, loose, up_is_tied, down_is_tied}
+use Rattle.topology_stack.proofs.slots.far_end.Goals as goal
+
+pub returns-in-Absent : goal.returns-in-Absent
+returns-in-Absent c = elim c.in-Absent.is [
+  | inl e ↦
+      let here = status_at c.args.ports.now c.args.slot Absent _ c.requires.inside e in
+      record { end = end_at c.args.ports.now c.args.parent c.args.kids.now c.args.slot Absent here; none = (λ _. loose c.args.ports.now c.args.slot Absent here (inl refl), λ _. refl) }
+  | inr e ↦
+      let here = status_at c.args.ports.now c.args.slot Unplugged _ c.requires.inside e in
+      record { end = end_at c.args.ports.now c.args.parent c.args.kids.now c.args.slot Unplugged here; none = (λ _. loose c.args.ports.now c.args.slot Unplugged here (inr refl), λ _. refl) }
+]
+
+pub returns-in-Up : goal.returns-in-Up
+returns-in-Up c =
+    let here = status_at c.args.ports.now c.args.slot Up _ c.requires.inside c.in-Up.is in
+    record { end = end_at c.args.ports.now c.args.parent c.args.kids.now c.args.slot Up here; none = (λ (e : true ≡ false). absurd cc, λ h. absurd (up_is_tied c.args.ports.now c.args.slot here h)) }
+
+pub bounds-kids-count_down : goal.bounds-kids-count_down
+bounds-kids-count_down c =
+    let here = status_at c.args.ports.now c.args.slot Down _ c.requires.inside c.in-Down.is in
+    omega (arith, c.requires.kids, c.count_down.ensures.value, fewer_before c.args.ports.now c.args.slot here)
+
+pub returns-in-Down : goal.returns-in-Down
+returns-in-Down c =
+    let here = status_at c.args.ports.now c.args.slot Down _ c.requires.inside c.in-Down.is in
+    let small : c.count_down.result < length c.args.kids.now = omega (arith, c.requires.kids, c.count_down.ensures.value, fewer_before c.args.ports.now c.args.slot here) in
+    record {
+      end = end_at c.args.ports.now c.args.parent c.args.kids.now c.args.slot Down here ∙ ap (λ (o : Option ℕ). Some o) (ap (slice_get c.args.kids.now) (sym c.count_down.ensures.value) ∙ slice_get-get_or c.args.kids.now c.count_down.result 0 small);
+      none = (λ (e : true ≡ false). absurd cc, λ h. absurd (down_is_tied c.args.ports.now c.args.slot here h));
+    }

@@ -1,0 +1,7 @@
+use Rattle.std.proofs.Common.{rules, append_assoc, arith}
+use Rattle.topology_stack.specs.Text.{node_line}
+use Rattle.topology_stack.proofs.text.put_line.Goals as goal
+
+pub returns : goal.returns
+unfolding node_line
+returns c = search (rules, append_assoc)

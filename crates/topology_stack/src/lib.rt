@@ -1,0 +1,26 @@
+//! Bus trees: read from the self-ID packets of a bus, written back, and shown as text.
+//!
+//! After a bus reset the nodes of a FireWire bus identify themselves one after the other, each
+//! child before its parent, in the order of their ports (IEEE Std 1394-1995, self identify). The
+//! list of their packets tells the whole tree of the bus.
+#![tactic(auto)]
+
+mod fault;
+mod links;
+mod manager;
+mod name;
+mod reading;
+mod slots;
+mod text;
+mod tree;
+mod writing;
+
+pub use fault::{OutOfMemory, TreeFault, TreeStop};
+pub use manager::elect;
+pub use name::{Name, NameList};
+pub use text::tree_text;
+pub use tree::{BusTree, one_answer, one_tree, read_tree};
+pub use writing::write_tree;
+
+#[cfg(test)]
+mod tests;

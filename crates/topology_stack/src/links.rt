@@ -1,0 +1,86 @@
+//! The IDs at the other ends of slots.
+ghost use Rattle.std.specs.Prelude.{◌≡◌, ◌≤◌, length, IfOk};
+ghost use Rattle.topology_stack.specs.Tree.{Tree, IsBusTree, walk};
+ghost use Rattle.topology_stack.specs.Stored.{Stored};
+
+use crate::slots::count_down;
+use arrayvec::ArrayVec;
+use self_id::SelfId;
+use std::alloc::{AllocError, Global};
+use std::marker::Model;
+
+/// IDs, at most 16.
+#[derive(Debug, Drop)]
+pub(crate) struct KidList {
+    items: ArrayVec<u8, 16>,
+}
+
+impl Model for KidList {
+    ghost use Rattle.std.specs.Prelude.{List, ℕ};
+
+    ghost Value = { List ℕ };
+
+    ghost view = { λ p. p.items.items };
+}
+
+impl KidList {
+    /// A list of these, which are few enough.
+    fn from_slice(ids: &[u8]) -> KidList
+        requires { length ids.now ≤ 16 }
+        ensures { result ≡ ids.now }
+    {
+        let mut items = ArrayVec::new();
+        for id in ids {
+            items.push(*id);
+        }
+        KidList { items }
+    }
+
+    pub(crate) fn as_slice(&self) -> &[u8]
+        ensures { result.now ≡ self.now }
+    {
+        self.items.as_slice()
+    }
+}
+
+ghost use Rattle.topology_stack.specs.Links.{set_all};
+
+/// Gives these nodes their parent.
+fn adopt(parents: &mut [u8], kids: &[u8], me: u8)
+    ensures { parents.new ≡ set_all kids.now me parents.old }
+{
+    for kid in kids {
+        let kid = *kid as usize;
+        if kid < parents.len() {
+            parents[kid] = me;
+        }
+    }
+}
+
+/// Parents and children by ID.
+#[derive(Debug, Drop)]
+pub(crate) struct Links {
+    pub parents: Vec<u8>,
+    pub children: Vec<KidList>,
+}
+
+/// The links of the nodes of a walk.
+pub(crate) fn links_of(alloc: Global, nodes: &[SelfId]) -> Result<Links, AllocError>
+    requires { length nodes.now ≤ 63 }
+    ensures { (t : Tree) → IsBusTree t → nodes.now ≡ walk t → IfOk result (λ l. Stored t nodes.now l.parents.items l.children.items) }
+{
+    let mut waiting = Vec::with_capacity(alloc, nodes.len())?;
+    let mut parents = Vec::with_capacity(alloc, nodes.len())?;
+    let mut children = Vec::with_capacity(alloc, nodes.len())?;
+    for node in nodes {
+        let me = parents.len() as u8;
+        let wanted = count_down(node.ports.as_slice());
+        let start = waiting.len().saturating_sub(wanted);
+        adopt(&mut parents, &waiting[start..], me);
+        children.push(KidList::from_slice(&waiting[start..]))?;
+        waiting.truncate(start);
+        waiting.push(me)?;
+        parents.push(63)?;
+    }
+    Ok(Links { parents, children })
+}

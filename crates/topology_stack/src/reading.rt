@@ -1,0 +1,57 @@
+//! Reading the nodes of a list, with the first fault.
+ghost use Rattle.std.specs.Prelude.{◌≡◌, IfOk};
+ghost use Rattle.topology_stack.specs.Tree.{Tree, IsBusTree, walk, emits};
+ghost use Rattle.topology_stack.specs.Refused.{Refused};
+ghost use Rattle.topology_stack.specs.Answer.{IfFault};
+
+use crate::fault::{TreeFault, TreeStop};
+use crate::slots::{count_down, count_up};
+use self_id::{SelfId, read_group};
+use std::alloc::Global;
+
+/// The nodes, by ID, of the bus tree that emits a list.
+pub(crate) fn nodes_of(alloc: Global, quads: &[u32]) -> Result<Vec<SelfId>, TreeStop>
+    ensures found { IfOk result (λ v. (t : Tree) × IsBusTree t × (v.items ≡ walk t) × (emits t ≡ quads.now)) }
+    ensures refused { IfFault result (λ f. Refused quads.now f) }
+{
+    let mut nodes = Vec::with_capacity(alloc, quads.len().min(63))?;
+    let mut at = 0;
+    // how many trees wait for a parent
+    let mut found = 0;
+    let mut rooted = false;
+    while at < quads.len() {
+        if rooted {
+            return Err(TreeStop::Fault(TreeFault::AfterRoot { at }));
+        }
+        if nodes.len() == 63 {
+            return Err(TreeStop::Fault(TreeFault::TooMany { at }));
+        }
+        let (node, after) = read_group(quads, at, nodes.len() as u8)?;
+        let wanted = count_down(node.ports.as_slice());
+        if found < wanted {
+            return Err(TreeStop::Fault(TreeFault::TooFewChildren {
+                at,
+                found: found as u8,
+                wanted: wanted as u8,
+            }));
+        }
+        rooted = count_up(node.ports.as_slice()) == 0;
+        if rooted && wanted < found {
+            return Err(TreeStop::Fault(TreeFault::TreesLeft {
+                at,
+                found: found as u8,
+                wanted: wanted as u8,
+            }));
+        }
+        found = found - wanted + 1;
+        nodes.push(node)?;
+        at = after;
+    }
+    if rooted {
+        Ok(nodes)
+    } else if nodes.is_empty() {
+        Err(TreeStop::Fault(TreeFault::Empty))
+    } else {
+        Err(TreeStop::Fault(TreeFault::NoRoot { at }))
+    }
+}

@@ -1,0 +1,190 @@
+//! The text of a bus tree.
+ghost use Rattle.std.specs.Prelude.{◌≡◌, ◌<◌, ◌≤◌, ◌++◌, ◌⊎◌, [], length, slice_get, IfOk, OnOk, decimal};
+ghost use Rattle.topology_stack.specs.Tree.{walk};
+ghost use Rattle.topology_stack.specs.Stored.{ends_of, all_ends};
+ghost use Rattle.topology_stack.specs.Text.{attrs_text, field, truth, signs, naming, node_line, lines_from, irm, last_line, tree_text};
+
+use crate::fault::OutOfMemory;
+use crate::links::KidList;
+use crate::manager::elect;
+use crate::name::{Name, NameList};
+use crate::tree::BusTree;
+use self_id::{PortStatus, SelfId};
+use std::alloc::{AllocError, Global};
+
+/// Appends a number.
+fn put_number(out: &mut Vec<u8>, n: u64) -> Result<(), AllocError>
+    ensures { OnOk result (out.new.items ≡ out.old.items ++ decimal n) }
+{
+    let text = n.to_string(*out.allocator())?;
+    out.extend_from_slice(text.as_bytes())
+}
+
+/// Appends a word and a number.
+#[tactic(auto, unfolding(crate::specs::Text::field))]
+fn put_field(out: &mut Vec<u8>, word: &[u8], n: u64) -> Result<(), AllocError>
+    ensures { OnOk result (out.new.items ≡ out.old.items ++ field word.now n) }
+{
+    out.extend_from_slice(word)?;
+    put_number(out, n)
+}
+
+fn truth(b: bool) -> u64
+    ensures { result ≡ truth b }
+{
+    if b { 1 } else { 0 }
+}
+
+/// Appends the words on a node's attributes.
+fn put_attrs(out: &mut Vec<u8>, id: u8, node: &SelfId) -> Result<(), AllocError>
+    ensures { OnOk result (out.new.items ≡ out.old.items ++ attrs_text id node.now) }
+{
+    let attrs = node.attrs;
+    put_field(out, b"node ", u64::from(id))?;
+    put_field(out, b" link ", truth(attrs.link))?;
+    put_field(out, b" gap ", u64::from(attrs.gap))?;
+    put_field(out, b" speed ", u64::from(attrs.speed))?;
+    put_field(out, b" contender ", truth(attrs.contender))?;
+    put_field(out, b" power ", u64::from(attrs.power))?;
+    put_field(out, b" initiated ", truth(attrs.initiated))?;
+    out.extend_from_slice(b" ports")?;
+    Ok(())
+}
+
+/// Appends a word and an ID.
+fn put_end(out: &mut Vec<u8>, word: &[u8], id: u8) -> Result<(), AllocError>
+    ensures { OnOk result (out.new.items ≡ out.old.items ++ (word.now ++ decimal id)) }
+{
+    out.extend_from_slice(word)?;
+    put_number(out, u64::from(id))?;
+    Ok(())
+}
+
+/// Appends a sign for each slot.
+fn put_signs(
+    out: &mut Vec<u8>,
+    ports: &[PortStatus],
+    parent: u8,
+    kids: &[u8],
+) -> Result<(), AllocError>
+    ensures { OnOk result (out.new.items ≡ out.old.items ++ signs ports.now (ends_of parent kids.now ports.now)) }
+{
+    let mut kids = kids;
+    for port in ports {
+        match port {
+            PortStatus::Absent => out.extend_from_slice(b" -")?,
+            PortStatus::Unplugged => out.extend_from_slice(b" .")?,
+            PortStatus::Up => put_end(out, b" ^", parent)?,
+            PortStatus::Down => match kids {
+                [] => out.extend_from_slice(b" v")?,
+                [kid, rest @ ..] => {
+                    put_end(out, b" v", *kid)?;
+                    kids = rest;
+                }
+            },
+        }
+    }
+    Ok(())
+}
+
+/// Appends the words on the name of the node with this ID, where it has one.
+fn put_name(out: &mut Vec<u8>, names: &[Name], id: usize) -> Result<(), AllocError>
+    ensures { OnOk result (out.new.items ≡ out.old.items ++ naming (slice_get names.now id)) }
+{
+    if id < names.len() {
+        out.extend_from_slice(b" name ")?;
+        out.extend_from_slice(names[id].as_bytes())?;
+    }
+    Ok(())
+}
+
+/// Appends the line of a node.
+#[tactic(auto, unfolding(crate::specs::Text::node_line))]
+fn put_line(
+    out: &mut Vec<u8>,
+    id: u8,
+    node: &SelfId,
+    parent: u8,
+    kids: &[u8],
+    names: &[Name],
+) -> Result<(), AllocError>
+    ensures { OnOk result (out.new.items ≡ out.old.items ++ node_line id node.now (ends_of parent kids.now node.now.ports) (slice_get names.now id)) }
+{
+    put_attrs(out, id, node)?;
+    put_signs(out, node.ports.as_slice(), parent, kids)?;
+    put_name(out, names, id as usize)?;
+    out.push(b'\n')?;
+    Ok(())
+}
+
+/// Appends the lines of nodes with their links.
+fn put_lines(
+    out: &mut Vec<u8>,
+    nodes: &[SelfId],
+    parents: &[u8],
+    children: &[KidList],
+    names: &[Name],
+) -> Result<(), AllocError>
+    requires few { length nodes.now ≤ 63 }
+    requires parents { length parents.now ≡ length nodes.now }
+    requires children { length children.now ≡ length nodes.now }
+    ensures { OnOk result (out.new.items ≡ out.old.items ++ lines_from 0 nodes.now (all_ends nodes.now parents.now children.now) names.now) }
+{
+    for (i, node) in nodes.iter().enumerate() {
+        put_line(
+            out,
+            i as u8,
+            node,
+            parents[i],
+            children[i].as_slice(),
+            names,
+        )?;
+    }
+    Ok(())
+}
+
+/// Appends the word on the isochronous resource manager.
+fn put_manager(out: &mut Vec<u8>, manager: Option<u8>) -> Result<(), AllocError>
+    ensures { OnOk result (out.new.items ≡ out.old.items ++ irm manager) }
+{
+    match manager {
+        None => out.extend_from_slice(b" irm none")?,
+        Some(id) => put_end(out, b" irm ", id)?,
+    }
+    Ok(())
+}
+
+/// Appends the last line.
+#[tactic(auto, unfolding(crate::specs::Text::last_line))]
+fn put_last_line(out: &mut Vec<u8>, count: u8, manager: Option<u8>) -> Result<(), AllocError>
+    requires { 0 < count }
+    ensures { OnOk result (out.new.items ≡ out.old.items ++ last_line count manager) }
+{
+    put_field(out, b"nodes ", u64::from(count))?;
+    put_field(out, b" root ", u64::from(count - 1))?;
+    put_manager(out, manager)?;
+    out.push(b'\n')?;
+    Ok(())
+}
+
+/// The text of a tree: a line for each node by rising ID, and a last line. `names` has the names of
+/// the nodes by ID, or none.
+///
+/// `node ID link L gap G speed S contender C power P initiated I ports X X X`, with one X for each
+/// slot: `-` absent, `.` unplugged, `^` and the parent's ID, `v` and the child's ID; and behind
+/// them ` name NAME`. The last line is `nodes N root R irm M`, where M may be `none`.
+pub fn tree_text(alloc: Global, tree: &BusTree, names: &NameList) -> Result<Vec<u8>, OutOfMemory>
+    requires { (names.now ≡ []) ⊎ (length names.now ≡ length (walk tree.now)) }
+    ensures { IfOk result (λ text. text.items ≡ tree_text tree.now names.now) }
+{
+    let mut out = Vec::new(alloc);
+    put_lines(
+        &mut out,
+        tree.nodes(),
+        tree.parents(),
+        tree.children(),
+        names.as_slice(),
+    )?;
+    put_last_line(&mut out, tree.len(), elect(tree))?;
+    Ok(out)
+}

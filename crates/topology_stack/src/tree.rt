@@ -1,0 +1,140 @@
+//! The bus tree.
+
+use crate::fault::TreeStop;
+use crate::links::{KidList, links_of};
+use crate::reading::nodes_of;
+use crate::slots::far_end;
+use self_id::SelfId;
+use std::alloc::Global;
+use std::marker::Model;
+
+/// The tree of a bus: nodes by ID, each child before its parent.
+#[derive(Debug, Drop)]
+pub struct BusTree {
+    nodes: Vec<SelfId>,
+    parents: Vec<u8>,
+    children: Vec<KidList>,
+}
+
+impl Model for BusTree {
+    ghost use Rattle.topology_stack.specs.Tree.{Tree};
+    ghost use Rattle.topology_stack.specs.Code.{tree_of, tree_code};
+    ghost use Rattle.topology_stack.specs.Stored.{Stored};
+
+    ghost Value = { Tree };
+
+    ghost coded = { tree_code };
+
+    ghost view = { λ b. tree_of b.nodes.items };
+
+    ghost invariant = { λ b. Stored (tree_of b.nodes.items) b.nodes.items b.parents.items b.children.items };
+}
+
+ghost use Rattle.std.specs.Prelude.{◌≡◌, ◌↔◌, ◌+◌, ◌<◌, ◌≤◌, ℕ, List, length, slice_get, Some, Ok, Err, IfOk, IfSome, IsNone};
+ghost use Rattle.topology_stack.specs.Tree.{Tree, IsBusTree, emits, walk};
+ghost use Rattle.topology_stack.specs.Refused.{Refused};
+ghost use Rattle.topology_stack.specs.Far.{Far, IsLooseAt};
+ghost use Rattle.topology_stack.specs.Stored.{parents_from, children_from};
+ghost use Rattle.topology_stack.specs.Answer.{IfFault, UnlessMemory};
+ghost use Rattle.topology_stack.specs.declared.fault.TreeFault.{TreeFault};
+
+/// The bus tree whose nodes emit `quads`, the first quadlets of the self-ID packets of a bus in the
+/// order in which they came. It refuses each list that no bus tree emits, with its one fault.
+pub fn read_tree(alloc: Global, quads: &[u32]) -> Result<BusTree, TreeStop>
+    // The tree that is answered emits the list.
+    ensures found { IfOk result (λ t. IsBusTree t × (emits t ≡ quads.now)) }
+    // A fault that is answered is the list's.
+    ensures refused { IfFault result (λ f. Refused quads.now f) }
+    // A tree that emits the list is answered, unless memory ran out.
+    ensures only { (t : Tree) → IsBusTree t → emits t ≡ quads.now → UnlessMemory result (Ok t) }
+    // The list's fault is answered, unless memory ran out.
+    ensures exact { (f : TreeFault) → Refused quads.now f → UnlessMemory result (Err (TreeStop.Fault f)) }
+{
+    let nodes = nodes_of(alloc, quads)?;
+    let links = links_of(alloc, &nodes)?;
+    Ok(BusTree {
+        nodes,
+        parents: links.parents,
+        children: links.children,
+    })
+}
+
+/// No list has two trees.
+pub fn one_tree()
+    ensures { (t u : Tree) → IsBusTree t → IsBusTree u → emits t ≡ emits u → t ≡ u }
+{}
+
+/// No list that a bus tree emits has a fault, and no list has two.
+pub fn one_answer()
+    ensures tree { (t : Tree) (f : TreeFault) → IsBusTree t → Refused (emits t) f → ⊥ }
+    ensures fault { (l : List ℕ) (f g : TreeFault) → Refused l f → Refused l g → f ≡ g }
+{}
+
+impl BusTree {
+    /// The number of nodes, 1 to 63.
+    pub fn len(&self) -> u8
+        ensures value { result ≡ length (walk self.now) }
+        ensures some { 0 < result }
+        ensures few { result ≤ 63 }
+    {
+        self.nodes.len() as u8
+    }
+
+    /// The node with this ID, which is less than `len`.
+    pub fn node(&self, id: u8) -> &SelfId
+        requires { id < length (walk self.now) }
+        ensures { slice_get (walk self.now) id ≡ Some result.now }
+    {
+        &self.nodes[id as usize]
+    }
+
+    /// The ID of the root, which is the last.
+    pub fn root(&self) -> u8
+        ensures { result + 1 ≡ length (walk self.now) }
+    {
+        self.nodes.len() as u8 - 1
+    }
+
+    /// The ID at the other end of a slot of the node with this ID. `None` where the slot is absent
+    /// or unplugged. `id` is less than `len`, and `slot` less than the number of the node's slots.
+    pub fn far(&self, id: u8, slot: u8) -> Option<u8>
+        requires id { id < length (walk self.now) }
+        requires slot { IfSome (slice_get (walk self.now) id) (λ n. slot < length n.ports) }
+        ensures end { Far self.now id slot result }
+        ensures none { IsNone result ↔ IsLooseAt self.now id slot }
+    {
+        let id = id as usize;
+        let ports = self.nodes[id].ports.as_slice();
+        far_end(
+            ports,
+            slot as usize,
+            self.parents[id],
+            self.children[id].as_slice(),
+        )
+    }
+
+    /// The nodes by ID.
+    pub(crate) fn nodes(&self) -> &[SelfId]
+        ensures value { result.now ≡ walk self.now }
+        ensures some { 0 < length result.now }
+        ensures few { length result.now ≤ 63 }
+    {
+        &self.nodes
+    }
+
+    /// The ID of each node's parent.
+    pub(crate) fn parents(&self) -> &[u8]
+        ensures value { result.now ≡ parents_from 0 63 self.now }
+        ensures len { length result.now ≡ length (walk self.now) }
+    {
+        &self.parents
+    }
+
+    /// The IDs of each node's children.
+    pub(crate) fn children(&self) -> &[KidList]
+        ensures value { result.now ≡ children_from 0 self.now }
+        ensures len { length result.now ≡ length (walk self.now) }
+    {
+        &self.children
+    }
+}
