@@ -13,13 +13,13 @@ use Rattle.topology_stack.proofs.reading.nodes_of.Goals.{else-rooted-2-via-then-
 pub returns-then-rooted-clause-refused : goal.returns-then-rooted-clause-refused
 returns-then-rooted-clause-refused c = is_refused _ _ (is_after_root _ _ _ _ _ c.loop-at-test.true c.if-rooted.true c.loop-at.invariant.reads)
 
-pub returns-then-len-eq63-clause-refused : goal.returns-then-len-eq63-clause-refused
-returns-then-len-eq63-clause-refused c = is_refused _ _ (is_full _ _ _ _ _ c.loop-at-test.true c.if-rooted.false (omega (arith, c.len.ensures, c.if-len-eq63.true)) c.loop-at.invariant.reads)
+pub returns-then-len-eq-MAX_NODES-clause-refused : goal.returns-then-len-eq-MAX_NODES-clause-refused
+returns-then-len-eq-MAX_NODES-clause-refused c = is_refused _ _ (is_full _ _ _ _ _ c.loop-at-test.true c.if-rooted.false (omega (arith, c.len.ensures, c.if-len-eq-MAX_NODES.true)) c.loop-at.invariant.reads)
 
 pub returns-in_err-node-clause-refused : goal.returns-in_err-node-clause-refused
 returns-in_err-node-clause-refused c =
     let e : c.len-in-loop-at.result ≡ length c.loop-at.nodes.items = omega (arith, c.len-in-loop-at.ensures) in
-    let room : length c.loop-at.nodes.items < 63 = omega (arith, c.len.ensures, c.if-len-eq63.false, c.loop-at.invariant.room) in
+    let room : length c.loop-at.nodes.items < 63 = omega (arith, c.len.ensures, c.if-len-eq-MAX_NODES.false, c.loop-at.invariant.room) in
     let p = err_from_is_err_and c.from_residual-in_err-node.result c.from_residual-in_err-node.ensures.1 in
     rw (p.1, p.2) (is_refused _ _ (is_group_fault _ _ _ _ _ c.in_err-node.field-0.0 c.loop-at-test.true c.if-rooted.false room c.loop-at.invariant.reads
     (refuses _ _ _ _ _ e room c.in_err-node.ensures.refused)))
@@ -27,7 +27,7 @@ returns-in_err-node-clause-refused c =
 pub returns-then-found-wanted-clause-refused : goal.returns-then-found-wanted-clause-refused
 returns-then-found-wanted-clause-refused c =
     let e : c.len-in-loop-at.result ≡ length c.loop-at.nodes.items = omega (arith, c.len-in-loop-at.ensures) in
-    let room : length c.loop-at.nodes.items < 63 = omega (arith, c.len.ensures, c.if-len-eq63.false, c.loop-at.invariant.room) in
+    let room : length c.loop-at.nodes.items < 63 = omega (arith, c.len.ensures, c.if-len-eq-MAX_NODES.false, c.loop-at.invariant.room) in
     let w : c.count_down-wanted.result ≡ downs c.in_ok-node.node.ports = c.count_down-wanted.ensures.value ∙ ap downs c.as_slice.ensures.value ∙ ap (λ (n : Node). downs n.ports) c.node.view_is in
     is_refused c.args.quads.now (TooFewChildren c.loop-at.at c.loop-at.found c.count_down-wanted.result) (rw w (is_too_few _ _ _ _ _ c.in_ok-node.node c.loop-at-test.true c.if-rooted.false room c.loop-at.invariant.reads
     (takes _ _ _ _ _ _ _ e room c.node.invariant c.node.view_is c.in_ok-node.ensures.found.0) (omega (arith, w, c.if-found-wanted.true))))
@@ -35,7 +35,7 @@ returns-then-found-wanted-clause-refused c =
 pub returns-then-wanted-found-clause-refused : goal.returns-then-wanted-found-clause-refused
 returns-then-wanted-found-clause-refused c =
     let e : c.len-in-loop-at.result ≡ length c.loop-at.nodes.items = omega (arith, c.len-in-loop-at.ensures) in
-    let room : length c.loop-at.nodes.items < 63 = omega (arith, c.len.ensures, c.if-len-eq63.false, c.loop-at.invariant.room) in
+    let room : length c.loop-at.nodes.items < 63 = omega (arith, c.len.ensures, c.if-len-eq-MAX_NODES.false, c.loop-at.invariant.room) in
     let w : c.count_down-wanted.result ≡ downs c.in_ok-node.node.ports = c.count_down-wanted.ensures.value ∙ ap downs c.as_slice.ensures.value ∙ ap (λ (n : Node). downs n.ports) c.node.view_is in
     let u : c.count_up-rooted.result ≡ ups c.in_ok-node.node.ports = c.count_up-rooted.ensures.value ∙ ap ups c.as_slice-in-loop-at.ensures.value ∙ ap (λ (n : Node). ups n.ports) c.node.view_is in
     let lt : downs c.in_ok-node.node.ports < c.loop-at.found = omega (arith, w, c.if-wanted-found.true) in
@@ -45,7 +45,7 @@ returns-then-wanted-found-clause-refused c =
 pub loop-at-preserved : goal.loop-at-preserved
 loop-at-preserved c =
     let e : c.len-in-loop-at.result ≡ length c.loop-at.nodes.items = omega (arith, c.len-in-loop-at.ensures) in
-    let room : length c.loop-at.nodes.items < 63 = omega (arith, c.len.ensures, c.if-len-eq63.false, c.loop-at.invariant.room) in
+    let room : length c.loop-at.nodes.items < 63 = omega (arith, c.len.ensures, c.if-len-eq-MAX_NODES.false, c.loop-at.invariant.room) in
     let w : c.count_down-wanted.result ≡ downs c.in_ok-node.node.ports = c.count_down-wanted.ensures.value ∙ ap downs c.as_slice.ensures.value ∙ ap (λ (n : Node). downs n.ports) c.node.view_is in
     let u : c.count_up-rooted.result ≡ ups c.in_ok-node.node.ports = c.count_up-rooted.ensures.value ∙ ap ups c.as_slice-in-loop-at.ensures.value ∙ ap (λ (n : Node). ups n.ports) c.node.view_is in
     let test : (eqb c.count_up-rooted.result 0 && ltb c.count_down-wanted.result c.loop-at.found) ≡ false = elim c.else-rooted-2.branch [
