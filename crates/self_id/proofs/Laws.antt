@@ -1,0 +1,72 @@
+-- What crates above use: reading answers a node exactly where its group stands at the front of a list,
+-- and else the one fault that the list has there.
+use Rattle.std.proofs.Common.{◌≡◌, ℕ, ◌+◌, ◌<◌, ◌≤◌, Bool, true, false, cond, leb, List, [], ◌∷◌, ◌++◌, length, drop, Result, Ok, Err, refl, sym, ap, subst, ◌∙◌, arith}
+use Rattle.std.proofs.lemmas.Bool.{le-leb, lt-leb, leb-true, leb-false}
+use Rattle.self_id.specs.declared.fault.GroupFault.{GroupFault}
+use Rattle.self_id.specs.declared.fault.GroupFault.TheVariants.{NotSelfId, WrongId, BadOrder, Cut, TwoParents}
+use Rattle.self_id.specs.Node.{Node, HasForm, IsNode, ups}
+use Rattle.self_id.specs.Group.{group}
+use Rattle.self_id.specs.Refused.{GroupRefused}
+use Rattle.self_id.specs.Reading.{single, read_at}
+use Rattle.self_id.proofs.Taken.{refuses_end, refuses_other, refuses_owner, refuses_order}
+use Rattle.self_id.proofs.Sound.{Reading, stopped, grouped, reading, three, eleven, sixteen, width_of}
+use Rattle.self_id.proofs.Again.{again, stops_at, group3, group11, group16}
+
+abbrev ok_node : Node → Result Node GroupFault
+ok_node n = Ok n
+
+abbrev read_err : GroupFault → Result Node GroupFault
+read_err f = Err f
+
+same_fault : (f g : GroupFault) → read_err f ≡ read_err g → f ≡ g
+same_fault f g e = cc
+
+single_ok : (at : ℕ) (b : Bool) (m n : Node) → cond b (Ok m) (Err (TwoParents at)) ≡ ok_node n → (b ≡ true) × (m ≡ n)
+single_ok at true m n e = (refl, cc)
+single_ok at false m n e = absurd cc
+
+single_err : (at : ℕ) (b : Bool) (m : Node) (f : GroupFault) → cond b (ok_node m) (Err (TwoParents at)) ≡ Err f → (b ≡ false) × (TwoParents at ≡ f)
+single_err at true m f e = absurd cc
+single_err at false m f e = (refl, cc)
+
+pub group-read_at : (at id : ℕ) (l : List ℕ) (n : Node) → read_at at id l ≡ Ok n → IsNode n × (l ≡ group n id ++ drop (length (group n id)) l)
+group-read_at at id l n e = elim (reading at id l) [
+  | stopped f is why ↦ absurd (let x : ok_node n ≡ Err f = sym e ∙ is in cc)
+  | grouped m form parts is ↦
+    let p = single_ok at (leb (ups m.ports) 1) m n (sym is ∙ e) in
+    let P : Node → Type 0 = λ (k : Node). IsNode k × (l ≡ group k id ++ drop (length (group k id)) l) in
+    subst P p.1 (record { form = form; one_parent = leb-true _ _ p.0 }, parts)
+]
+
+pub refused-read_at : (at id : ℕ) (l : List ℕ) (f : GroupFault) → 0 < length l → read_at at id l ≡ Err f → GroupRefused at id l f
+refused-read_at at id l f some e = elim (reading at id l) [
+  | stopped g is why ↦ subst (λ (h : GroupFault). GroupRefused at id l h) (let x : Err g ≡ read_err f = sym is ∙ e in same_fault g f x) (why some)
+  | grouped m form parts is ↦
+    let p = single_err at (leb (ups m.ports) 1) m f (sym is ∙ e) in
+    subst (λ (h : GroupFault). GroupRefused at id l h) p.1 (m, drop (length (group m id)) l, form, parts, let lt = leb-false _ _ p.0 in omega arith, refl)
+]
+
+pub read_at-group : (n : Node) (at id : ℕ) (rest : List ℕ) → IsNode n → id ≤ 62 → read_at at id (group n id ++ rest) ≡ Ok n
+read_at-group n at id rest h lt = again n at id rest h.form lt ∙ ap (λ (b : Bool). cond b (Ok n) (Err (TwoParents at))) (le-leb _ _ h.one_parent)
+
+pub read_at-refused : (at id : ℕ) (l : List ℕ) (f : GroupFault) → id ≤ 62 → GroupRefused at id l f → read_at at id l ≡ Err f
+read_at-refused at id l (Cut place) lt (front, h, some) = stops_at at id l front [] place (Cut place) h (refuses_end place id (length front))
+read_at-refused at id l (NotSelfId place) lt (front, rest, q, h, other) = stops_at at id l front (q ∷ rest) place (NotSelfId place) h (refuses_other place id (length front) q rest other)
+read_at-refused at id l (WrongId place fnd wanted) lt (front, rest, q, p, h, shows, self, is, same, ne) =
+    stops_at at id l front (q ∷ rest) place (WrongId place fnd wanted) h
+    (refuses_owner place id (length front) q rest p shows self (λ own. ne (is ∙ own)) ∙ ap (λ (k : ℕ). Err (WrongId place k id)) (sym is) ∙ ap (λ (k : ℕ). Err (WrongId place fnd k)) (sym same))
+read_at-refused at id l (BadOrder place) lt (front, rest, q, p, h, shows, self, own, order) =
+    stops_at at id l front (q ∷ rest) place (BadOrder place) h (refuses_order place id (length front) q rest p shows self own order)
+read_at-refused at id l (TwoParents place) lt (n, rest, form, parts, two, is) =
+    ap (read_at at id) parts ∙ again n at id rest form lt ∙ ap (λ (b : Bool). cond b (Ok n) (Err (TwoParents at))) (lt-leb _ _ two) ∙ ap (λ (k : ℕ). Err (TwoParents k)) (sym is)
+
+-- how many packets a node has
+pub length-group : (n : Node) (id : ℕ) → IsNode n → (0 < length (group n id)) × (length (group n id) ≤ 3)
+length-group n id h = elim (width_of n h.form) [
+  | three count ↦ (omega (arith, ap length (group3 n id count)), omega (arith, ap length (group3 n id count)))
+  | eleven count ↦ (omega (arith, ap length (group11 n id count)), omega (arith, ap length (group11 n id count)))
+  | sixteen count ↦ (omega (arith, ap length (group16 n id count)), omega (arith, ap length (group16 n id count)))
+]
+
+pub few_slots : (n : Node) → IsNode n → length n.ports ≤ 16
+few_slots n h = elim (width_of n h.form) [ three count ↦ omega arith | eleven count ↦ omega arith | sixteen count ↦ omega arith ]

@@ -1,0 +1,11 @@
+pub mod Again
+pub mod Count
+pub mod Fields
+pub mod Laws
+pub mod Public
+pub mod Pushed
+pub mod Sound
+pub mod Steps
+pub mod Summed
+pub mod Taken
+pub mod Whole

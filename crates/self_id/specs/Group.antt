@@ -1,0 +1,43 @@
+-- The group of a node: the one to three quadlets in which it shows itself.
+use Rattle.std.specs.Prelude.{ℕ, zero, suc, ◌+◌, ◌*◌, ◌/◌, ◌%◌, ◌^◌, Bool, true, false, ◌==◌, if◌then◌else◌, List, [], ◌∷◌, length, take, drop, map}
+use Rattle.phy_packet.specs.Packet.{quad_of}
+use Rattle.phy_packet.specs.declared.packet.PhyPacket.{PhyPacket}
+use Rattle.phy_packet.specs.declared.packet.PhyPacket.TheVariants.{SelfZero, SelfMore}
+use Rattle.self_id.specs.declared.node.PortStatus.{PortStatus}
+use Rattle.self_id.specs.declared.node.PortStatus.TheVariants.{Absent}
+use Rattle.self_id.specs.Node.{Node, status_bits}
+
+-- the bits of a slot's status; a slot past the last is absent
+abbrev pub field : List PortStatus → ℕ → ℕ
+field [] k = 0
+field (p ∷ ps) zero = status_bits p
+field (p ∷ ps) (suc k) = field ps k
+
+-- port fields of two bits each, the first at the top
+abbrev pub fields : List PortStatus → ℕ
+fields [] = 0
+fields (p ∷ ps) = status_bits p * 2 ^ (2 * length ps) + fields ps
+
+-- packet zero has the attributes and the slots 0 to 2
+abbrev pub zero_packet : Node → ℕ → Bool → PhyPacket
+zero_packet n id more =
+    SelfZero id n.attrs.link n.attrs.gap n.attrs.speed n.attrs.delay n.attrs.contender n.attrs.power
+    (field n.ports 0) (field n.ports 1) (field n.ports 2) n.attrs.initiated more
+
+-- packet n = 0 has the slots 3 to 10; kept_a is its two reserved bits and r
+abbrev pub first_packet : Node → ℕ → Bool → PhyPacket
+first_packet n id more = SelfMore id 0 (n.kept_a / 2) (fields (take 8 (drop 3 n.ports))) (n.kept_a % 2 == 1) more
+
+-- packet n = 1 has the slots 11 to 15; kept_b is its two reserved bits and all that follows these slots
+abbrev pub second_packet : Node → ℕ → PhyPacket
+second_packet n id = SelfMore id 1 (n.kept_b / 2 ^ 8) (fields (drop 11 n.ports) * 2 ^ 6 + n.kept_b / 2 ^ 2 % 2 ^ 6) (n.kept_b / 2 % 2 == 1) (n.kept_b % 2 == 1)
+
+-- the packets of a node with its ID, by the number of its slots
+abbrev pub packets : Node → ℕ → List PhyPacket
+packets n id =
+    if length n.ports == 3 then zero_packet n id false ∷ []
+    else (if length n.ports == 11 then zero_packet n id true ∷ first_packet n id false ∷ []
+    else zero_packet n id true ∷ first_packet n id true ∷ second_packet n id ∷ [])
+
+unfoldable pub group : Node → ℕ → List ℕ
+group n id = map quad_of (packets n id)

@@ -1,0 +1,98 @@
+-- What a node says of itself in its self-ID packets.
+use Rattle.std.specs.Prelude.{◌≡◌, ℕ, zero, suc, ◌+◌, ◌^◌, ◌<◌, ◌≤◌, Bool, true, false, ◌==◌, ◌||◌, if◌then◌else◌, IsTrue, List, [], ◌∷◌, length, refl}
+use Rattle.std.specs.Coded.{Coded, code_by, coded_list, coded_ℕ, coded_bool, coded×}
+use Rattle.self_id.specs.declared.node.Attrs.{Attrs}
+use Rattle.self_id.specs.declared.node.PortStatus.{PortStatus}
+use Rattle.self_id.specs.declared.node.PortStatus.TheVariants.{Absent, Unplugged, Up, Down}
+
+-- attributes, the statuses of the slots by rising number, and the bits that its further packets carry
+-- unread: kept_a those of packet n = 0, kept_b those of packet n = 1
+pub record Node : Type 0 where
+  pub attrs : Attrs
+  pub ports : List PortStatus
+  pub kept_a : ℕ
+  pub kept_b : ℕ
+
+-- how many slots lead to the parent
+abbrev pub ups : List PortStatus → ℕ
+ups [] = 0
+ups (Absent ∷ ps) = ups ps
+ups (Unplugged ∷ ps) = ups ps
+ups (Up ∷ ps) = ups ps + 1
+ups (Down ∷ ps) = ups ps
+
+-- how many slots lead to a child
+abbrev pub downs : List PortStatus → ℕ
+downs [] = 0
+downs (Absent ∷ ps) = downs ps
+downs (Unplugged ∷ ps) = downs ps
+downs (Up ∷ ps) = downs ps
+downs (Down ∷ ps) = downs ps + 1
+
+-- attributes that fit their bits
+pub record FitBits (a : Attrs) : Type 0 where
+  pub gap : a.gap < 64
+  pub speed : a.speed < 4
+  pub delay : a.delay < 4
+  pub power : a.power < 8
+
+-- how many slots a node may show (IEEE 1394a-2000: one packet, two, or three)
+abbrev pub is_width : ℕ → Bool
+is_width slots = (slots == 3) || ((slots == 11) || (slots == 16))
+
+-- how many bits are carried in kept_a and kept_b: none of a packet that isn't there
+abbrev pub kept_a_bits : ℕ → ℕ
+kept_a_bits slots = if slots == 3 then 0 else 3
+
+abbrev pub kept_b_bits : ℕ → ℕ
+kept_b_bits slots = if slots == 16 then 10 else 0
+
+-- a node that packets can show
+pub record HasForm (n : Node) : Type 0 where
+  pub attrs : FitBits n.attrs
+  pub width : IsTrue (is_width (length n.ports))
+  pub kept_a : n.kept_a < 2 ^ kept_a_bits (length n.ports)
+  pub kept_b : n.kept_b < 2 ^ kept_b_bits (length n.ports)
+
+-- and that has one parent at most
+pub record IsNode (n : Node) : Type 0 where
+  pub form : HasForm n
+  pub one_parent : ups n.ports ≤ 1
+
+-- ---- a node stored as plain numbers
+
+abbrev pub status_bits : PortStatus → ℕ
+status_bits Absent = 0
+status_bits Unplugged = 1
+status_bits Up = 2
+status_bits Down = 3
+
+abbrev pub status_of : ℕ → PortStatus
+status_of zero = Absent
+status_of (suc zero) = Unplugged
+status_of (suc (suc zero)) = Up
+status_of (suc (suc (suc n))) = Down
+
+pub status_of-status_bits : (p : PortStatus) → status_of (status_bits p) ≡ p
+status_of-status_bits Absent = refl
+status_of-status_bits Unplugged = refl
+status_of-status_bits Up = refl
+status_of-status_bits Down = refl
+
+abbrev pub status_code : Coded PortStatus
+status_code = code_by ℕ coded_ℕ status_bits status_of status_of-status_bits
+
+abbrev pub attrs_code : Coded Attrs
+attrs_code =
+    code_by (Bool × (ℕ × (ℕ × (ℕ × (Bool × (ℕ × Bool))))))
+    (coded× coded_bool (coded× coded_ℕ (coded× coded_ℕ (coded× coded_ℕ (coded× coded_bool (coded× coded_ℕ coded_bool))))))
+    (λ a. (a.link, (a.gap, (a.speed, (a.delay, (a.contender, (a.power, a.initiated)))))))
+    (λ p. record { link = p.0; gap = p.1.0; speed = p.1.1.0; delay = p.1.1.1.0; contender = p.1.1.1.1.0; power = p.1.1.1.1.1.0; initiated = p.1.1.1.1.1.1 })
+    (λ _. refl)
+
+abbrev pub node_code : Coded Node
+node_code =
+    code_by (Attrs × (List PortStatus × (ℕ × ℕ))) (coded× attrs_code (coded× (coded_list status_code) (coded× coded_ℕ coded_ℕ)))
+    (λ n. (n.attrs, (n.ports, (n.kept_a, n.kept_b))))
+    (λ p. record { attrs = p.0; ports = p.1.0; kept_a = p.1.1.0; kept_b = p.1.1.1 })
+    (λ _. refl)

@@ -1,0 +1,13 @@
+//! What one node says of itself: its group of self-ID packets (IEEE 1394a-2000, self-ID packets).
+#![tactic(auto)]
+
+mod fault;
+mod group;
+mod node;
+mod packets;
+mod quad_group;
+mod writing;
+
+pub use fault::GroupFault;
+pub use group::read_group;
+pub use node::{Attrs, PortList, PortStatus, SelfId};

@@ -1,0 +1,131 @@
+//! A node of the bus, as it shows itself.
+ghost use Rattle.std.specs.Prelude.{◌≡◌, ◌+◌, ◌<◌, ◌≤◌, List, [], ◌∷◌, ◌++◌, length};
+
+use arrayvec::ArrayVec;
+use std::marker::Model;
+
+/// What a slot of a node leads to.
+#[derive(Clone, Copy, Debug, Default, PartialEq, Eq)]
+pub enum PortStatus {
+    /// The node has no port of this number. Port status 00.
+    #[default]
+    Absent,
+    /// The port has no active cable. Port status 01.
+    Unplugged,
+    /// The port leads to the node's parent. Port status 10.
+    Up,
+    /// The port leads to a child. Port status 11.
+    Down,
+}
+
+/// The attributes of a node in its packet zero.
+#[derive(Clone, Copy, Debug, PartialEq, Eq)]
+pub struct Attrs {
+    /// L: the link layer is active.
+    pub link: bool,
+    /// gap_cnt, 0 to 63.
+    pub gap: u8,
+    /// sp, 0 to 3: S100, S200, S400, and 3 as later standards use it.
+    pub speed: u8,
+    /// The two bits that 1394-1995 calls delay and 1394a-2000 reserves, 0 to 3.
+    pub delay: u8,
+    /// c: the node may become isochronous resource manager.
+    pub contender: bool,
+    /// pwr, the power class, 0 to 7.
+    pub power: u8,
+    /// i: the node initiated the bus reset.
+    pub initiated: bool,
+}
+
+/// Port statuses by rising slot number, at most 16.
+#[derive(Debug, Drop)]
+pub struct PortList {
+    items: ArrayVec<PortStatus, 16>,
+}
+
+impl Model for PortList {
+    ghost use Rattle.std.specs.Prelude.{List, length, ◌≤◌};
+    ghost use Rattle.self_id.specs.declared.node.PortStatus.{PortStatus};
+
+    ghost Value = { List PortStatus };
+
+    ghost view = { λ p. p.items.items };
+
+    ghost invariant = { λ p. length p.items.items ≤ 16 };
+}
+
+impl PortList {
+    /// The empty list.
+    pub fn new() -> PortList
+        ensures { result ≡ [] }
+    {
+        PortList {
+            items: ArrayVec::new(),
+        }
+    }
+
+    /// Appends the status of the next slot.
+    pub fn push(&mut self, status: PortStatus)
+        requires { length self.old < 16 }
+        ensures { self.new ≡ self.old ++ status ∷ [] }
+    {
+        self.items.push(status);
+    }
+
+    /// The statuses, slot 0 first.
+    pub fn as_slice(&self) -> &[PortStatus]
+        ensures value { result.now ≡ self.now }
+        ensures few { length result.now ≤ 16 }
+    {
+        self.items.as_slice()
+    }
+}
+
+/// What one node says of itself in its self-ID packets.
+///
+/// It always has 3, 11 or 16 slots, one slot at the most that is up, attributes that fit their
+/// bits, and no carried bits of a packet that it doesn't have.
+#[derive(Debug, Drop)]
+pub struct SelfId {
+    /// What packet zero says besides the ports.
+    pub attrs: Attrs,
+    /// The slots: 3, 11 or 16.
+    pub ports: PortList,
+    /// With 11 or 16 slots three carried bits of packet n = 0: the two reserved bits, then r.
+    pub kept_a: u8,
+    /// With 16 slots ten carried bits of packet n = 1: the two reserved bits, then its last eight.
+    pub kept_b: u16,
+}
+
+impl Model for SelfId {
+    ghost use Rattle.self_id.specs.Node.{Node, IsNode};
+
+    ghost Value = { Node };
+
+    ghost view = { λ s. record { attrs = s.attrs; ports = s.ports; kept_a = s.kept_a; kept_b = s.kept_b } };
+
+    ghost invariant = { λ s. IsNode (record { attrs = s.attrs; ports = s.ports; kept_a = s.kept_a; kept_b = s.kept_b }) };
+}
+
+ghost use Rattle.self_id.specs.Node.{IsNode};
+
+impl SelfId {
+    /// A node with these attributes and slots that carries no other bits.
+    ///
+    /// The attributes fit their bits; `ports` has 3, 11 or 16 entries, of which one at most is `Up`.
+    pub fn new(attrs: Attrs, ports: &[PortStatus]) -> SelfId
+        requires { IsNode (record { attrs = attrs; ports = ports.now; kept_a = 0; kept_b = 0 }) }
+        ensures { result ≡ record { attrs = attrs; ports = ports.now; kept_a = 0; kept_b = 0 } }
+    {
+        let mut list = PortList::new();
+        for port in ports {
+            list.push(*port);
+        }
+        SelfId {
+            attrs,
+            ports: list,
+            kept_a: 0,
+            kept_b: 0,
+        }
+    }
+}
