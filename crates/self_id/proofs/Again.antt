@@ -1,21 +1,19 @@
 -- A group that was written is read again.
-use Rattle.std.proofs.Common.{◌≡◌, ◌≢◌, ℕ, zero, suc, ◌+◌, ◌*◌, ◌/◌, ◌%◌, ◌^◌, ◌<◌, ◌≤◌, Bool, true, false, cond, eqb, leb, List, [], ◌∷◌, ◌++◌, length, take, drop, Result, Ok, Err, refl, sym, ap, subst, ◌∙◌, arith, length-append, length-drop}
-use Rattle.std.proofs.lemmas.Bool.{le-leb, lt-leb}
+use Rattle.std.proofs.Common.{◌≡◌, ℕ, zero, suc, ◌+◌, ◌*◌, ◌/◌, ◌%◌, ◌^◌, ◌<◌, ◌≤◌, Bool, true, false, eqb, List, [], ◌∷◌, ◌++◌, length, take, drop, Ok, Err, refl, sym, ap, subst, ◌∙◌, arith, length-drop}
 use Rattle.std.proofs.lemmas.List.{take-append-drop, length-take-le}
 use Rattle.std.proofs.Math.Seq.{take-length}
 use Rattle.phy_packet.specs.Layout.{bit}
-use Rattle.phy_packet.specs.Packet.{Shows, IsValid, quad_of, is_self_id, owner, has_more}
+use Rattle.phy_packet.specs.Packet.{Shows, IsValid, quad_of, has_more}
 use Rattle.phy_packet.specs.declared.packet.PhyPacket.{PhyPacket}
 use Rattle.self_id.specs.declared.fault.GroupFault.{GroupFault}
-use Rattle.self_id.specs.declared.fault.GroupFault.TheVariants.{NotSelfId, WrongId, BadOrder, Cut, TwoParents}
 use Rattle.self_id.specs.declared.node.Attrs.{Attrs}
 use Rattle.self_id.specs.declared.node.PortStatus.{PortStatus}
-use Rattle.self_id.specs.Node.{Node, FitBits, HasForm, IsNode, ups, status_bits, status_of, status_of-status_bits}
-use Rattle.self_id.specs.Group.{field, fields, zero_packet, first_packet, second_packet, packets, group}
-use Rattle.self_id.specs.Refused.{is_in_order, LeadsOn, AllLeadOn, LeadsTo, GroupRefused}
-use Rattle.self_id.specs.Reading.{taken, packet_at, zero_in, further_in, statuses, node3, node11, node16, single, and_then, read_at}
+use Rattle.self_id.specs.Node.{Node, FitBits, HasForm, status_of-status_bits}
+use Rattle.self_id.specs.Group.{field, fields, zero_packet, first_packet, second_packet, group}
+use Rattle.self_id.specs.Refused.{LeadsOn, AllLeadOn, LeadsTo}
+use Rattle.self_id.specs.Reading.{packet_at, zero_in, further_in, statuses, node3, node11, node16, single, read_at}
 use Rattle.self_id.proofs.Fields.{status_below, statuses-fields, fields_below}
-use Rattle.self_id.proofs.Taken.{takes, refuses_end, refuses_other, refuses_owner, refuses_order}
+use Rattle.self_id.proofs.Taken.{takes}
 use Rattle.self_id.proofs.Sound.{Width, three, eleven, sixteen, width_of}
 
 abbrev make : Attrs → List PortStatus → ℕ → ℕ → Node
@@ -152,10 +150,10 @@ written16 n at id rest h lt count kept_a kept_b small small' same =
 by_slots : (n : Node) (P : Node → Type 0) → 3 ≤ length n.ports → ((p0 p1 p2 : PortStatus) (ps : List PortStatus) → length n.ports ≡ 3 + length ps → n.ports ≡ p0 ∷ p1 ∷ p2 ∷ ps → P (make n.attrs (p0 ∷ p1 ∷ p2 ∷ ps) n.kept_a n.kept_b)) → P n
 by_slots n P some go =
     elim n.ports as (λ (qs : List PortStatus). n.ports ≡ qs → 3 ≤ length qs → P (make n.attrs qs n.kept_a n.kept_b)) [
-    | [] ↦ λ is lt. absurd (omega arith)
-    | p ∷ [] ↦ λ is lt. absurd (omega arith)
-    | p ∷ q ∷ [] ↦ λ is lt. absurd (omega arith)
-    | p ∷ q ∷ r ∷ ps ↦ λ is lt. go p q r ps (ap length is ∙ omega arith) is
+      | [] ↦ λ is lt. absurd (omega arith)
+      | p ∷ [] ↦ λ is lt. absurd (omega arith)
+      | p ∷ q ∷ [] ↦ λ is lt. absurd (omega arith)
+      | p ∷ q ∷ r ∷ ps ↦ λ is lt. go p q r ps (ap length is ∙ omega arith) is
     ] refl some
 
 -- a node of each width is the node of its packets

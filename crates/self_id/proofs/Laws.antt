@@ -1,15 +1,15 @@
 -- What crates above use: reading answers a node exactly where its group stands at the front of a list,
 -- and else the one fault that the list has there.
-use Rattle.std.proofs.Common.{◌≡◌, ℕ, ◌+◌, ◌<◌, ◌≤◌, Bool, true, false, cond, leb, List, [], ◌∷◌, ◌++◌, length, drop, Result, Ok, Err, refl, sym, ap, subst, ◌∙◌, arith}
+use Rattle.std.proofs.Common.{◌≡◌, ℕ, ◌<◌, ◌≤◌, Bool, true, false, cond, leb, List, [], ◌∷◌, ◌++◌, length, drop, Result, Ok, Err, refl, sym, ap, subst, ◌∙◌, arith}
 use Rattle.std.proofs.lemmas.Bool.{le-leb, lt-leb, leb-true, leb-false}
 use Rattle.self_id.specs.declared.fault.GroupFault.{GroupFault}
 use Rattle.self_id.specs.declared.fault.GroupFault.TheVariants.{NotSelfId, WrongId, BadOrder, Cut, TwoParents}
-use Rattle.self_id.specs.Node.{Node, HasForm, IsNode, ups}
+use Rattle.self_id.specs.Node.{Node, IsNode, ups}
 use Rattle.self_id.specs.Group.{group}
 use Rattle.self_id.specs.Refused.{GroupRefused}
-use Rattle.self_id.specs.Reading.{single, read_at}
+use Rattle.self_id.specs.Reading.{read_at}
 use Rattle.self_id.proofs.Taken.{refuses_end, refuses_other, refuses_owner, refuses_order}
-use Rattle.self_id.proofs.Sound.{Reading, stopped, grouped, reading, three, eleven, sixteen, width_of}
+use Rattle.self_id.proofs.Sound.{stopped, grouped, reading, three, eleven, sixteen, width_of}
 use Rattle.self_id.proofs.Again.{again, stops_at, group3, group11, group16}
 
 abbrev ok_node : Node → Result Node GroupFault
@@ -33,17 +33,17 @@ pub group-read_at : (at id : ℕ) (l : List ℕ) (n : Node) → read_at at id l 
 group-read_at at id l n e = elim (reading at id l) [
   | stopped f is why ↦ absurd (let x : ok_node n ≡ Err f = sym e ∙ is in cc)
   | grouped m form parts is ↦
-    let p = single_ok at (leb (ups m.ports) 1) m n (sym is ∙ e) in
-    let P : Node → Type 0 = λ (k : Node). IsNode k × (l ≡ group k id ++ drop (length (group k id)) l) in
-    subst P p.1 (record { form = form; one_parent = leb-true _ _ p.0 }, parts)
+      let p = single_ok at (leb (ups m.ports) 1) m n (sym is ∙ e) in
+      let P : Node → Type 0 = λ (k : Node). IsNode k × (l ≡ group k id ++ drop (length (group k id)) l) in
+      subst P p.1 (record { form = form; one_parent = leb-true _ _ p.0 }, parts)
 ]
 
 pub refused-read_at : (at id : ℕ) (l : List ℕ) (f : GroupFault) → 0 < length l → read_at at id l ≡ Err f → GroupRefused at id l f
 refused-read_at at id l f some e = elim (reading at id l) [
   | stopped g is why ↦ subst (λ (h : GroupFault). GroupRefused at id l h) (let x : Err g ≡ read_err f = sym is ∙ e in same_fault g f x) (why some)
   | grouped m form parts is ↦
-    let p = single_err at (leb (ups m.ports) 1) m f (sym is ∙ e) in
-    subst (λ (h : GroupFault). GroupRefused at id l h) p.1 (m, drop (length (group m id)) l, form, parts, let lt = leb-false _ _ p.0 in omega arith, refl)
+      let p = single_err at (leb (ups m.ports) 1) m f (sym is ∙ e) in
+      subst (λ (h : GroupFault). GroupRefused at id l h) p.1 (m, drop (length (group m id)) l, form, parts, let lt = leb-false _ _ p.0 in omega arith, refl)
 ]
 
 pub read_at-group : (n : Node) (at id : ℕ) (rest : List ℕ) → IsNode n → id ≤ 62 → read_at at id (group n id ++ rest) ≡ Ok n

@@ -1,22 +1,19 @@
 -- What is read is a group, or the fault is the list's.
-use Rattle.std.proofs.Common.{◌≡◌, ◌≢◌, ℕ, zero, suc, ◌+◌, ◌*◌, ◌/◌, ◌%◌, ◌^◌, ◌<◌, ◌≤◌, ◌⊎◌, inl, inr, Bool, true, false, cond, eqb, leb, ◌||◌, IsTrue, List, [], ◌∷◌, ◌++◌, length, take, drop, Result, Ok, Err, refl, sym, ap, subst, ◌∙◌, arith, length-append}
-use Rattle.std.proofs.lemmas.Bool.{eqb-true, eqb-false, le-leb, leb-true, leb-false}
+use Rattle.std.proofs.Common.{◌≡◌, ℕ, suc, ◌+◌, ◌*◌, ◌/◌, ◌%◌, ◌^◌, ◌<◌, Bool, true, false, cond, eqb, ◌||◌, IsTrue, List, [], ◌∷◌, ◌++◌, length, take, drop, Result, Ok, Err, refl, sym, ap, ◌∙◌, arith}
+use Rattle.std.proofs.lemmas.Bool.{eqb-true}
 use Rattle.std.proofs.Math.Nat.{mod-eq_of_lt}
 use Rattle.phy_packet.specs.Layout.{bit}
-use Rattle.phy_packet.specs.Packet.{Shows, IsValid, quad_of, is_self_id, owner, has_more}
+use Rattle.phy_packet.specs.Packet.{quad_of, has_more}
 use Rattle.phy_packet.specs.declared.packet.PhyPacket.{PhyPacket}
-use Rattle.phy_packet.specs.declared.packet.PhyPacket.TheVariants.{SelfZero, SelfMore}
 use Rattle.self_id.specs.declared.fault.GroupFault.{GroupFault}
-use Rattle.self_id.specs.declared.fault.GroupFault.TheVariants.{NotSelfId, WrongId, BadOrder, Cut, TwoParents}
-use Rattle.self_id.specs.declared.node.PortStatus.{PortStatus}
 use Rattle.self_id.specs.declared.packets.ZeroPart.{ZeroPart}
 use Rattle.self_id.specs.declared.packets.FurtherPart.{FurtherPart}
-use Rattle.self_id.specs.Node.{Node, FitBits, HasForm, IsNode, ups, is_width, status_bits, status_of, status_of-status_bits}
-use Rattle.self_id.specs.Group.{field, fields, zero_packet, first_packet, second_packet, packets, group}
-use Rattle.self_id.specs.Refused.{is_in_order, LeadsOn, AllLeadOn, LeadsTo, GroupRefused}
-use Rattle.self_id.specs.Reading.{taken, packet_at, zero_in, further_in, statuses, node3, node11, node16, single, and_then, read_at}
-use Rattle.self_id.proofs.Fields.{status_below, statuses-fields, fields-statuses, fields_below, length-statuses}
-use Rattle.self_id.proofs.Taken.{Found, found, takes, refused, refuses_end, refuses_other, refuses_owner, refuses_order, zero_of, further_of, ZeroSaid, zero_said, FurtherSaid, further_said}
+use Rattle.self_id.specs.Node.{Node, HasForm}
+use Rattle.self_id.specs.Group.{fields, zero_packet, first_packet, second_packet, group}
+use Rattle.self_id.specs.Refused.{LeadsOn, GroupRefused}
+use Rattle.self_id.specs.Reading.{packet_at, zero_in, further_in, statuses, node3, node11, node16, single, and_then, read_at}
+use Rattle.self_id.proofs.Fields.{fields-statuses}
+use Rattle.self_id.proofs.Taken.{Found, found, refused, zero_of, further_of, zero_said, further_said}
 
 -- ---- the three forms of a node
 

@@ -1,11 +1,11 @@
 -- Port fields summed one by one, from the top.
-use Rattle.std.proofs.Common.{◌≡◌, ℕ, zero, suc, ◌+◌, ◌-◌, ◌*◌, ◌/◌, ◌%◌, ◌^◌, ◌<◌, ◌≤◌, List, [], ◌∷◌, ◌++◌, length, drop, get_or, refl, sym, ap, ◌∙◌, arith, length-drop, drop-cons, add-one}
+use Rattle.std.proofs.Common.{◌≡◌, ℕ, ◌+◌, ◌-◌, ◌*◌, ◌^◌, ◌<◌, ◌≤◌, List, [], ◌∷◌, length, drop, sym, ap, ◌∙◌, arith, length-drop, add-one}
 use Rattle.std.proofs.Math.Pow.{pow_mono}
 use Rattle.std.proofs.Math.Seq.{drop-length}
 use Rattle.self_id.specs.declared.node.PortStatus.{PortStatus}
 use Rattle.self_id.specs.Node.{status_bits}
 use Rattle.self_id.specs.Group.{fields}
-use Rattle.self_id.proofs.Fields.{status_below, wider}
+use Rattle.self_id.proofs.Fields.{wider}
 
 -- the sum of the first i fields, as far as the loop has come
 pub record Summed (ports : List PortStatus) (i value : ℕ) : Type 0 where

@@ -1,17 +1,16 @@
 -- One packet of a group: taken, or refused with its first fault.
-use Rattle.std.proofs.Common.{◌≡◌, ◌≢◌, ℕ, zero, suc, ◌+◌, ◌*◌, ◌/◌, ◌%◌, ◌^◌, ◌<◌, ◌≤◌, Bool, true, false, cond, eqb, List, [], ◌∷◌, ◌++◌, length, drop, Result, Ok, Err, refl, sym, ap, subst, ◌∙◌, arith, eq-eqb}
+use Rattle.std.proofs.Common.{◌≡◌, ◌≢◌, ℕ, suc, ◌+◌, ◌^◌, ◌<◌, Bool, true, false, cond, eqb, List, [], ◌∷◌, length, drop, Result, Ok, Err, refl, sym, ap, subst, ◌∙◌, arith, eq-eqb}
 use Rattle.std.proofs.lemmas.Bool.{eqb-true, eqb-false}
-use Rattle.phy_packet.specs.Layout.{bit}
-use Rattle.phy_packet.specs.Packet.{Shows, IsValid, quad_of, is_self_id, owner, has_more}
-use Rattle.phy_packet.proofs.Laws.{packet_of, packet_of-quad_of, packet-shown, shows-self_id}
+use Rattle.phy_packet.specs.Packet.{Shows, IsValid, is_self_id, owner, has_more}
+use Rattle.phy_packet.proofs.Laws.{packet_of, packet-shown, shows-self_id}
 use Rattle.phy_packet.specs.declared.packet.PhyPacket.{PhyPacket}
 use Rattle.phy_packet.specs.declared.packet.PhyPacket.TheVariants.{Config, LinkOn, SelfZero, SelfMore, Extended, Other}
 use Rattle.self_id.specs.declared.fault.GroupFault.{GroupFault}
-use Rattle.self_id.specs.declared.fault.GroupFault.TheVariants.{NotSelfId, WrongId, BadOrder, Cut, TwoParents}
+use Rattle.self_id.specs.declared.fault.GroupFault.TheVariants.{NotSelfId, WrongId, BadOrder, Cut}
 use Rattle.self_id.specs.declared.packets.ZeroPart.{ZeroPart}
 use Rattle.self_id.specs.declared.packets.FurtherPart.{FurtherPart}
-use Rattle.self_id.specs.Node.{Node, FitBits, status_bits, status_of}
-use Rattle.self_id.specs.Refused.{is_in_order, LeadsOn, AllLeadOn, LeadsTo, GroupRefused}
+use Rattle.self_id.specs.Node.{FitBits, status_bits}
+use Rattle.self_id.specs.Refused.{is_in_order, LeadsTo, GroupRefused}
 use Rattle.self_id.specs.Reading.{taken, packet_at, zero_in, further_in}
 use Rattle.self_id.proofs.Fields.{status_bits-status_of}
 
@@ -89,8 +88,8 @@ unfolding packet_at
 refuses_other at id j q qs not_self =
     let go : (b : Bool) → is_self_id (packet_of q) ≡ b → is_self_id (packet_of q) ≡ false =
     λ b e. elim b as (λ (v : Bool). is_self_id (packet_of q) ≡ v → is_self_id (packet_of q) ≡ false) [
-      true ↦ λ is. not_self (packet_of q) (shows-self_id q is)
-    | false ↦ λ is. is
+      | true ↦ λ is. not_self (packet_of q) (shows-self_id q is)
+      | false ↦ λ is. is
     ] e in
     refuses_other' at id j (packet_of q) (go (is_self_id (packet_of q)) refl)
 

@@ -4,7 +4,6 @@ use Rattle.phy_packet.specs.Packet.{quad_of}
 use Rattle.phy_packet.specs.declared.packet.PhyPacket.{PhyPacket}
 use Rattle.phy_packet.specs.declared.packet.PhyPacket.TheVariants.{SelfZero, SelfMore}
 use Rattle.self_id.specs.declared.node.PortStatus.{PortStatus}
-use Rattle.self_id.specs.declared.node.PortStatus.TheVariants.{Absent}
 use Rattle.self_id.specs.Node.{Node, status_bits}
 
 -- the bits of a slot's status; a slot past the last is absent

@@ -1,5 +1,5 @@
 -- What a node says of itself in its self-ID packets.
-use Rattle.std.specs.Prelude.{◌≡◌, ℕ, zero, suc, ◌+◌, ◌^◌, ◌<◌, ◌≤◌, Bool, true, false, ◌==◌, ◌||◌, if◌then◌else◌, IsTrue, List, [], ◌∷◌, length, refl}
+use Rattle.std.specs.Prelude.{◌≡◌, ℕ, zero, suc, ◌+◌, ◌^◌, ◌<◌, ◌≤◌, Bool, ◌==◌, ◌||◌, if◌then◌else◌, IsTrue, List, [], ◌∷◌, length, refl}
 use Rattle.std.specs.Coded.{Coded, code_by, coded_list, coded_ℕ, coded_bool, coded×}
 use Rattle.self_id.specs.declared.node.Attrs.{Attrs}
 use Rattle.self_id.specs.declared.node.PortStatus.{PortStatus}

@@ -6,8 +6,12 @@ mod group;
 mod node;
 mod packets;
 mod quad_group;
+#[cfg(test)]
+mod tests;
 mod writing;
 
 pub use fault::GroupFault;
 pub use group::read_group;
 pub use node::{Attrs, PortList, PortStatus, SelfId};
+pub use quad_group::QuadGroup;
+pub use writing::write_group;

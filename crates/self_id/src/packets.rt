@@ -66,11 +66,7 @@ fn owned_packet(quads: &[u32], at: usize, wanted: u8) -> Result<PhyPacket, Group
 }
 
 /// Packet zero of this node at a place.
-pub(crate) fn read_zero(
-    quads: &[u32],
-    at: usize,
-    wanted: u8,
-) -> Result<ZeroPart, GroupFault>
+pub(crate) fn read_zero(quads: &[u32], at: usize, wanted: u8) -> Result<ZeroPart, GroupFault>
     requires { at ≤ length quads.now }
     ensures { result ≡ and_then (owned_at at wanted (drop at quads.now)) (zero_from at) }
 {

@@ -1,4 +1,4 @@
-use Rattle.std.proofs.Common.{arith, refl, ◌-◌, ◌*◌, ◌/◌, ◌%◌, ◌^◌, ◌<◌, ◌≤◌, length}
+use Rattle.std.proofs.Common.{arith}
 use Rattle.self_id.proofs.Pushed.{one_more}
 use Rattle.self_id.proofs.group.push_fields.Goals as goal
 

@@ -1,4 +1,3 @@
-use Rattle.std.proofs.Common.{◌+◌, ◌≤◌, length, ◌-◌}
 use Rattle.self_id.proofs.Pushed.{Pushed}
 use Rattle.self_id.proofs.group.push_fields.Given as goal
 

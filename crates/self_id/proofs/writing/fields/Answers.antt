@@ -1,10 +1,7 @@
-use Rattle.std.proofs.Common.{◌≡◌, ℕ, ◌+◌, ◌*◌, ◌<◌, ◌≤◌, List, ◌∷◌, length, drop, get_or, sym, ap, ◌∙◌, arith, rules, add-one, drop-cons, refl}
+use Rattle.std.proofs.Common.{◌≡◌, ℕ, ◌+◌, ◌<◌, List, ◌∷◌, length, drop, get_or, sym, arith, add-one, drop-cons}
 use Rattle.self_id.specs.declared.node.PortStatus.{PortStatus}
 use Rattle.self_id.specs.declared.node.PortStatus.TheVariants.{Absent}
-use Rattle.self_id.specs.Node.{status_bits}
-use Rattle.self_id.specs.Group.{fields}
-use Rattle.self_id.proofs.Fields.{fields_below}
-use Rattle.self_id.proofs.Summed.{room, next, end}
+use Rattle.self_id.proofs.Summed.{room, next}
 use Rattle.self_id.proofs.writing.fields.Goals as goal
 
 pub overflow_mul-value : goal.overflow_mul-value

@@ -1,5 +1,5 @@
-use Rattle.std.proofs.Common.{◌≡◌, ◌≢◌, ℕ, List, [], ◌∷◌, ◌++◌, length, ap, sym, ◌∙◌, refl, rules}
-use Rattle.self_id.specs.Node.{Node, HasForm}
+use Rattle.std.proofs.Common.{◌≡◌, ◌≢◌, ℕ, List, [], ◌∷◌, ◌++◌, length, ap, sym, ◌∙◌}
+use Rattle.self_id.specs.Node.{Node}
 use Rattle.self_id.proofs.Sound.{Width, three, eleven, sixteen, width_of}
 use Rattle.self_id.proofs.Again.{group3, group11, group16}
 use Rattle.self_id.proofs.writing.write_group.Goals as goal
