@@ -1,6 +1,6 @@
 -- Which node is the isochronous resource manager (IEEE Std 1394-1995): of those whose link is active
 -- and that contend, the one with the highest ID.
-use Rattle.std.specs.Prelude.{◌≡◌, ℕ, ◌+◌, ◌≤◌, IsSomeAnd, Bool, ◌&&◌, IsTrue, if◌then◌else◌, Option, Some, None, List, [], ◌∷◌, slice_get}
+use Rattle.std.specs.Prelude.{ℕ, ◌+◌, ◌≤◌, IsSomeAnd, Bool, ◌&&◌, IsTrue, if◌then◌else◌, Option, Some, None, List, [], ◌∷◌, slice_get}
 use Rattle.std.specs.Option.{option_or}
 use Rattle.self_id.specs.Node.{Node}
 use Rattle.topology_stack.specs.Tree.{Tree, walk}

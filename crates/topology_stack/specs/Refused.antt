@@ -1,5 +1,5 @@
 -- Exactly where a list is no bus tree's, and by which fault.
-use Rattle.std.specs.Prelude.{◌≡◌, ℕ, ◌<◌, ◌≤◌, List, [], ◌∷◌, ◌++◌, length}
+use Rattle.std.specs.Prelude.{◌≡◌, ℕ, ◌<◌, ◌≤◌, List, [], ◌++◌, length}
 use Rattle.self_id.specs.Node.{Node, IsNode, ups, downs}
 use Rattle.self_id.specs.Group.{group}
 use Rattle.self_id.specs.Refused.{GroupRefused}
