@@ -77,6 +77,8 @@ impl BusTree {
         ensures value { result ≡ length (walk self.now) }
         ensures some { 0 < result }
         ensures few { result ≤ 63 }
+        // A `BusTree` always is a bus tree.
+        ensures valid { IsBusTree self.now }
     {
         self.nodes.len() as u8
     }
