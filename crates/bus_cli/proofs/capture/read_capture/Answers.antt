@@ -1,0 +1,1 @@
+use Rattle.bus_cli.proofs.capture.read_capture.Goals as goal

@@ -1,0 +1,1 @@
+use Rattle.bus_cli.proofs.form.Form.of_words.Goals as goal
