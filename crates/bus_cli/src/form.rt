@@ -32,3 +32,6 @@ impl Form {
         }
     }
 }
+
+/// How the program is called, in one line for a form.
+pub const USAGE: &str = "usage: busconf read < CAPTURE";

@@ -11,7 +11,7 @@ mod status;
 mod top;
 
 pub use fault::CaptureFault;
-pub use form::Form;
+pub use form::{Form, USAGE};
 pub use laws::{one_outcome, one_reading};
 pub use status::{NO_FORM, NO_MEMORY, READ_FAULT, REFUSED, TOO_LONG, VALID, WRITE_FAULT};
 pub use top::{MAX_INPUT, bus_main};

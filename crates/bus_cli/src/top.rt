@@ -1,5 +1,5 @@
 //! The top call.
-ghost use Rattle.std.specs.Prelude.{◌≡◌, ℕ, ◌≤◌, ◌⊎◌, ◌↔◌, List, length, IfSome};
+ghost use Rattle.std.specs.Prelude.{◌≡◌, ◌≢◌, ℕ, ◌≤◌, ◌⊎◌, ◌↔◌, List, length, IfSome};
 ghost use Rattle.std.specs.Io.KnownBytes.{Appends, IsAtEnd};
 ghost use Rattle.io_edges.specs.Faults.{Rose};
 ghost use Rattle.io_edges.specs.Told.{AppendsStart, IfTold, TookOver};
@@ -35,7 +35,8 @@ pub fn bus_main<S: Source, K: Sink>(
     ensures answer { (result ≡ VALID) ⊎ (result ≡ REFUSED) →
         IfSome (S.left source.old) (λ bytes. (text : List ℕ) × Answers words.now bytes result text
         × Appends (K.written sink.old) (K.written sink.new) text) }
-    ensures end { (result ≡ VALID) ⊎ (result ≡ REFUSED) → IsAtEnd (S.left source.new) }
+    ensures end { (result ≡ VALID) ⊎ (result ≡ REFUSED) ⊎ (result ≡ WRITE_FAULT) →
+        IsAtEnd (S.left source.new) }
 
     // When each other status comes.
     ensures no_form { (result ≡ NO_FORM) ↔ (¬ IsForm words.now) }
@@ -46,7 +47,7 @@ pub fn bus_main<S: Source, K: Sink>(
 
     // What is left alone, or written in part.
     ensures unread { result ≡ NO_FORM → source.new ≡ source.old }
-    ensures unwritten { NO_FORM ≤ result → (result ≡ WRITE_FAULT → ⊥) → sink.new ≡ sink.old }
+    ensures unwritten { NO_FORM ≤ result → result ≢ WRITE_FAULT → sink.new ≡ sink.old }
     ensures part { result ≡ WRITE_FAULT → IfSome (S.left source.old) (λ bytes.
         (status : ℕ) × (text : List ℕ) × Answers words.now bytes status text
         × AppendsStart (K.written sink.old) (K.written sink.new) text) }

@@ -1,1 +1,0 @@
-use Rattle.bus_cli.proofs.capture.read_capture.Goals as goal

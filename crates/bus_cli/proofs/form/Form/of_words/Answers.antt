@@ -1,1 +1,0 @@
-use Rattle.bus_cli.proofs.form.Form.of_words.Goals as goal
