@@ -1,14 +1,14 @@
 -- Words and bytes have one outcome.
-use Rattle.std.proofs.Common.{◌≡◌, ◌⊎◌, ℕ, List, [], ◌∷◌, refl, sym, ap, ◌∙◌}
+use Rattle.std.proofs.Common.{◌≡◌, ℕ, List, [], ◌∷◌, refl, sym, ap, ◌∙◌}
 use Rattle.std.specs.Prelude.{String}
 use Rattle.std.specs.Global.{Global}
 use Rattle.topology_stack.specs.Tree.{Tree}
 use Rattle.bus_cli.specs.declared.form.Form.{Form}
 use Rattle.bus_cli.specs.declared.form.Form.TheVariants.{Read}
 use Rattle.bus_cli.specs.declared.fault.CaptureFault.{CaptureFault}
-use Rattle.bus_cli.specs.Form.{word_of, Asks, IsForm}
+use Rattle.bus_cli.specs.Form.{word_of}
 use Rattle.bus_cli.specs.Capture.{Spells, CaptureRefused}
-use Rattle.bus_cli.specs.Answer.{Outcome, shown, refused, no_form, HasOutcome, status_of, text_of, Answers}
+use Rattle.bus_cli.specs.Answer.{Outcome, shown, refused, no_form, HasOutcome}
 
 -- a capture has one reading
 pub record HasOneReading : Type 0 where

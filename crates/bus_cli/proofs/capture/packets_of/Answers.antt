@@ -1,4 +1,4 @@
-use Rattle.std.proofs.Common.{◌≡◌, ◌∙◌, ℕ, List, ap, sym, arith}
+use Rattle.std.proofs.Common.{◌∙◌, ℕ, List, ap, sym, arith}
 use Rattle.std.proofs.lemmas.Result.{err_from_is_err_and}
 use Rattle.quad_lanes.specs.Pairs.{firsts, first_bad_pair}
 use Rattle.bus_cli.proofs.Reading.{all_bytes, is_capture, is_pair_fault}
