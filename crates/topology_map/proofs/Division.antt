@@ -1,5 +1,5 @@
 -- Shifting divides.
-use Rattle.std.proofs.Common.{◌≡◌, ℕ, zero, suc, ◌+◌, ◌<◌, ◌≤◌, ◌^◌, Bool, true, false, ◌&&◌, List, [], ◌∷◌, ◌++◌, length, get_or, take, drop, drop-cons, add-one, replicate, refl, sym, ap, ◌∙◌, arith, append_assoc, length-append}
+use Rattle.std.proofs.Common.{◌≡◌, ℕ, ◌+◌, ◌<◌, ◌≤◌, ◌^◌, Bool, true, false, List, [], ◌∷◌, ◌++◌, length, get_or, take, drop, drop-cons, add-one, replicate, refl, sym, ap, ◌∙◌, arith, append_assoc, length-append}
 use Rattle.std.proofs.Math.ListN.{drop_of_length-le}
 use Rattle.std.proofs.lemmas.List.{length-replicate, append-nil, replicate-append-replicate, length-take-le, take-append-drop, append_cancel_left}
 use Rattle.topology_map.specs.Crc.{xor, plus, scaled, divisor, below_x16, multiple, bits_of, quad_bits, IsCrc}
@@ -91,9 +91,9 @@ remainder quads crc fits e =
     let nothing : bits_of 16 0 ++ replicate (length p) false ≡ replicate (16 + length p) false
     = ap (λ (l : List Bool). l ++ replicate (length p) false) zero_bits ∙ replicate-append-replicate 16 (length p) false in
     record {
-    degree = fits;
-    quotient = quotient (bits_of 16 0) p;
-    division = ap (λ (l : List Bool). p ++ l) e ∙ sym (plus_zeros (16 + length p) (p ++ s) long) ∙ ap (λ (l : List Bool). plus l (p ++ s)) (sym nothing) ∙ divides (bits_of 16 0) p zero_long;
+      degree = fits;
+      quotient = quotient (bits_of 16 0) p;
+      division = ap (λ (l : List Bool). p ++ l) e ∙ sym (plus_zeros (16 + length p) (p ++ s) long) ∙ ap (λ (l : List Bool). plus l (p ++ s)) (sym nothing) ∙ divides (bits_of 16 0) p zero_long;
     }
 
 -- ---- a division has one quotient, and so one remainder

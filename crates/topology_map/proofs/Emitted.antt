@@ -1,12 +1,12 @@
 -- How many quadlets and packet zeros the nodes of a bus emit.
-use Rattle.std.proofs.Common.{◌≡◌, ℕ, zero, suc, ◌+◌, ◌*◌, ◌/◌, ◌%◌, ◌^◌, ◌<◌, ◌≤◌, Bool, true, false, cond, ◌&&◌, eqb, List, [], ◌∷◌, ◌++◌, length, take, drop, Option, Some, refl, sym, ap, subst, ◌∙◌, arith, length-append, length-drop}
+use Rattle.std.proofs.Common.{◌≡◌, ℕ, zero, suc, ◌+◌, ◌*◌, ◌/◌, ◌%◌, ◌^◌, ◌<◌, ◌≤◌, Bool, true, false, cond, ◌&&◌, eqb, List, [], ◌∷◌, ◌++◌, length, take, drop, Some, refl, subst, ◌∙◌, arith, length-append, length-drop}
 use Rattle.std.specs.Prelude.{slice_get}
 use Rattle.std.proofs.lemmas.List.{length-take-le}
 use Rattle.std.proofs.lemmas.List.Recursion.{is_count_by}
 use Rattle.phy_packet.specs.Layout.{bit}
 use Rattle.phy_packet.specs.Packet.{quad_of}
 use Rattle.self_id.specs.declared.node.PortStatus.{PortStatus}
-use Rattle.self_id.specs.Node.{Node, IsNode, HasForm, FitBits}
+use Rattle.self_id.specs.Node.{Node, IsNode, FitBits}
 use Rattle.self_id.specs.Group.{field, fields, group, zero_packet, first_packet, second_packet}
 use Rattle.self_id.proofs.Fields.{status_below, fields_below}
 use Rattle.self_id.proofs.Again.{group3, group11, group16}
@@ -105,15 +105,15 @@ node_count-group : (n : Node) (id : ℕ) → IsNode n → id < 64 → node_count
 node_count-group n id h lt = elim (width_of n h.form) [
   | three count ↦ rw (group3 n id count) (one (quad_of (zero_packet n id false)) (zero_is_zero n id false h.form.attrs lt))
   | eleven count ↦
-    let kept : n.kept_a < 8 = rw count at h.form.kept_a in
-    let small : fields (take 8 (drop 3 n.ports)) < 2 ^ 16 = eight n.ports (omega arith) in
-    rw (group11 n id count) (one_of_two (quad_of (zero_packet n id true)) (quad_of (first_packet n id false)) (zero_is_zero n id true h.form.attrs lt) (first_is_more n id false lt kept small))
+      let kept : n.kept_a < 8 = rw count at h.form.kept_a in
+      let small : fields (take 8 (drop 3 n.ports)) < 2 ^ 16 = eight n.ports (omega arith) in
+      rw (group11 n id count) (one_of_two (quad_of (zero_packet n id true)) (quad_of (first_packet n id false)) (zero_is_zero n id true h.form.attrs lt) (first_is_more n id false lt kept small))
   | sixteen count ↦
-    let kept : n.kept_a < 8 = rw count at h.form.kept_a in
-    let kept' : n.kept_b < 1024 = rw count at h.form.kept_b in
-    let small : fields (take 8 (drop 3 n.ports)) < 2 ^ 16 = eight n.ports (omega arith) in
-    let small' : fields (drop 11 n.ports) < 2 ^ 10 = five n.ports count in
-    rw (group16 n id count) (one_of_three (quad_of (zero_packet n id true)) (quad_of (first_packet n id true)) (quad_of (second_packet n id)) (zero_is_zero n id true h.form.attrs lt) (first_is_more n id true lt kept small) (second_is_more n id lt kept' small'))
+      let kept : n.kept_a < 8 = rw count at h.form.kept_a in
+      let kept' : n.kept_b < 1024 = rw count at h.form.kept_b in
+      let small : fields (take 8 (drop 3 n.ports)) < 2 ^ 16 = eight n.ports (omega arith) in
+      let small' : fields (drop 11 n.ports) < 2 ^ 10 = five n.ports count in
+      rw (group16 n id count) (one_of_three (quad_of (zero_packet n id true)) (quad_of (first_packet n id true)) (quad_of (second_packet n id)) (zero_is_zero n id true h.form.attrs lt) (first_is_more n id true lt kept small) (second_is_more n id lt kept' small'))
 ]
 
 -- what is said of each of these nodes

@@ -1,5 +1,5 @@
 -- The parts that an image tells, and its one fault where it has one.
-use Rattle.std.proofs.Common.{◌≡◌, ◌≢◌, ℕ, zero, suc, ◌+◌, ◌-◌, ◌*◌, ◌/◌, ◌%◌, ◌^◌, ◌<◌, ◌≤◌, List, [], ◌∷◌, length, drop, Result, Ok, Err, refl, sym, ap, subst, ◌∙◌, arith}
+use Rattle.std.proofs.Common.{◌≡◌, ℕ, suc, ◌+◌, ◌*◌, ◌/◌, ◌%◌, ◌^◌, ◌<◌, ◌≤◌, List, [], ◌∷◌, length, drop, Result, Ok, Err, refl, sym, ap, subst, ◌∙◌, arith}
 use Rattle.std.specs.Prelude.{slice_index, IfOk}
 use Rattle.topology_map.specs.declared.fault.ImageFault.{ImageFault}
 use Rattle.topology_map.specs.declared.fault.ImageFault.TheVariants.{Length, Crc, Counts, Memory}
@@ -33,8 +33,8 @@ is_map (first ∷ generation ∷ counts ∷ list) nodes w = record {
     crc = first % 2 ^ 16;
     crc_is = subst (λ (n : ℕ). IsCrc (generation ∷ n ∷ list) (first % 2 ^ 16)) w.counts_told w.crc_told;
     quads_are =
-      ap (λ (n : ℕ). n ∷ generation ∷ counts ∷ list) (split first (suc (suc (length list))) w.length_told.told)
-      ∙ ap (λ (n : ℕ). (2 ^ 16 * suc (suc (length list)) + first % 2 ^ 16) ∷ generation ∷ n ∷ list) w.counts_told;
+        ap (λ (n : ℕ). n ∷ generation ∷ counts ∷ list) (split first (suc (suc (length list))) w.length_told.told)
+        ∙ ap (λ (n : ℕ). (2 ^ 16 * suc (suc (length list)) + first % 2 ^ 16) ∷ generation ∷ n ∷ list) w.counts_told;
   };
 }
 

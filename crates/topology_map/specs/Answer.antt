@@ -1,5 +1,5 @@
 -- What is said of an answer that may also be want of memory.
-use Rattle.std.specs.Prelude.{◌≡◌, ℕ, Result, Ok, Err}
+use Rattle.std.specs.Prelude.{Result, Ok, Err}
 use Rattle.topology_map.specs.declared.fault.ImageFault.{ImageFault}
 use Rattle.topology_map.specs.declared.fault.ImageFault.TheVariants.{Length, Crc, Counts, Memory}
 

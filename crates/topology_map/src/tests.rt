@@ -29,7 +29,15 @@ fn faults_in_their_order(rt: HostRuntime) {
     let mut quads = ALONE;
     quads[0] = 0x0003_ca62;
     let crc = read_image(rt.alloc(), &quads);
-    assert!(rt; matches!(&crc, Err(ImageFault::Crc { kept: 0xca62, computed: 0xca63 })));
+    assert!(rt;
+        matches!(
+            &crc,
+            Err(ImageFault::Crc {
+                kept: 0xca62,
+                computed: 0xca63
+            })
+        )
+    );
     quads[0] = 0x0004_ca62;
     let length = read_image(rt.alloc(), &quads);
     assert!(rt; matches!(&length, Err(ImageFault::Length { found: 4 })));

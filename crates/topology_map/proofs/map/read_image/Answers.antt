@@ -1,6 +1,5 @@
-use Rattle.std.proofs.Common.{◌≡◌, Ok, Err, ap, ◌∙◌}
+use Rattle.std.proofs.Common.{◌≡◌, Err, ap}
 use Rattle.std.proofs.lemmas.Result.{err_from_is_err_and}
-use Rattle.topology_map.specs.declared.fault.ImageFault.{ImageFault}
 use Rattle.topology_map.proofs.Parts.{Whole, no_fault, one_fault, parts_are, unless_memory}
 use Rattle.topology_map.proofs.map.read_image.Goals as goal
 

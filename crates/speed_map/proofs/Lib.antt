@@ -1,0 +1,5 @@
+mod Nodes
+mod Kin
+mod Facts
+mod Steps
+mod Copied

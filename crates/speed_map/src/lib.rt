@@ -1,0 +1,13 @@
+//! The speed map of a bus: how fast each of its nodes can send to each other (IEEE Std 1394-1995,
+//! SPEED_MAP).
+#![tactic(auto)]
+
+mod row;
+mod sealed;
+mod sweeps;
+
+pub use sealed::image;
+pub use sweeps::{OutOfMemory, rows};
+
+#[cfg(test)]
+mod tests;
