@@ -1,5 +1,5 @@
 -- What the slots of a bus tree's nodes say, by ID.
-use Rattle.std.proofs.Common.{◌≡◌, ℕ, ◌+◌, ◌-◌, ◌<◌, ◌≤◌, length, map, Option, Some, sym, ap, subst, ◌∙◌, ⊎_elim, arith}
+use Rattle.std.proofs.Common.{◌≡◌, ◌≢◌, ℕ, ◌+◌, ◌-◌, ◌<◌, ◌≤◌, length, map, Option, Some, sym, ap, subst, ◌∙◌, ⊎_elim, arith}
 use Rattle.std.specs.Prelude.{slice_get}
 use Rattle.std.specs.Option.{option_map}
 use Rattle.std.proofs.lemmas.Bool.{cases_lt}
@@ -9,8 +9,9 @@ use Rattle.topology_stack.specs.Tree.{Tree, branch, walk, walk_below, IsBusTree}
 use Rattle.topology_stack.specs.Far.{Far, ends, slot_ends}
 use Rattle.speed_map.specs.Path.{node_speed, speed_at}
 use Rattle.speed_map.specs.Sweep.{firsts_from, first_of, IsUnder}
-use Rattle.speed_map.proofs.Nodes.{Ends, NodeT, NodeS, length-walk, nodeT, toldT, withinT}
-use Rattle.speed_map.proofs.Kin.{Kin, child, outer, above, kinT, coverT, nestedT, raisedS, lastT}
+use Rattle.speed_map.proofs.Nodes.{Ends, NodeT, NodeS, length-walk, nodeT, toldT, withinT, withinS}
+use Rattle.speed_map.proofs.Kin.{Kin, child, outer, above, kinT, coverT, nestedT, raisedS, lastT, no_up}
+use Rattle.speed_map.proofs.Apart.{apartT}
 
 record NodeAt (t : Tree) (id : ℕ) : Type 0 where
   e : Ends
@@ -76,7 +77,7 @@ child_in t id slot k bus lt far before = elim (kin t id slot k lt far) [
       let first : first_of t k ≡ g = ap (first_of t) same ∙ first_is t j e g n in
       omega (arith, first, le)
   | outer at is ↦ absurd (let few = bus.small in omega (arith, is))
-  | above j e g n is less le ↦ absurd (omega (arith, is, less, before))
+  | above j e g n is less le back ↦ absurd (omega (arith, is, less, before))
 ]
 
 -- a node's subtree lies in the parent's
@@ -84,7 +85,7 @@ pub parent_in : (t : Tree) (id slot k : ℕ) → id + 1 < length (walk t) → Fa
 parent_in t id slot k lt far after = elim (kin t id slot k (omega (arith, lt)) far) [
   | child j e g n is less le ↦ absurd (omega (arith, is, less, after))
   | outer at is ↦ absurd (omega (arith, at, lt))
-  | above j e g n is less le ↦
+  | above j e g n is less le back ↦
       let same : k ≡ j = omega (arith, is) in
       let first : first_of t k ≡ g = ap (first_of t) same ∙ first_is t j e g n in
       let w = withinT 0 63 t j e g n in
@@ -150,3 +151,47 @@ not_past t id slot r before far low s k lt g = ⊎_elim
     let h : Far t id slot (Some k) = subst (λ (x : ℕ). Far t id x (Some k)) same g in
     low k (one_end t id slot r (Some k) far h))
     (cases_lt s slot)
+
+-- ---- both ways
+
+-- the root's slots lead down, and each other node's to nodes of the bus
+pub joined_within : (t : Tree) (id slot k : ℕ) → IsBusTree t → id < length (walk t) → Far t id slot (Some k) → (k < length (walk t)) × (k ≢ id)
+joined_within (branch a s) id slot k bus lt far =
+    let t = branch a s in
+    let h = node_at t id lt in
+    let few = bus.small in
+    elim (kin t id slot k lt far) [
+      | child j e g n is less le ↦ (omega (arith, is, less, lt), omega (arith, is, less))
+      | outer at is ↦ ⊎_elim
+          (λ (top : (id ≡ length (walk_below s)) × (h.e ≡ slot_ends 0 63 s) × (first_of t id ≡ 0)).
+          let end_is : slice_get (slot_ends 0 63 s) slot ≡ Some (Some k) = ap (λ (x : Ends). slice_get x slot) (sym top.1) ∙ far_end t id slot (Some k) h far in
+          let low = no_up 0 63 s slot k bus.whole.1 end_is in
+          absurd (omega (arith, low, is, few, length-walk a s)))
+          (λ (below : NodeS 0 (0 + length (walk_below s)) s id h.e (first_of t id)). absurd (let w = withinS 0 (0 + length (walk_below s)) s id h.e (first_of t id) below in omega (arith, w.place, at, length-walk a s)))
+          h.node
+      | above j e g n is less le back ↦ let w = withinT 0 63 t j e g n in (omega (arith, is, w.place), omega (arith, is, less))
+    ]
+
+-- a slot that leads up has one that leads back down
+pub down_again : (t : Tree) (id slot k : ℕ) → IsBusTree t → id < length (walk t) → k < length (walk t) → Far t id slot (Some k) → id < k → (back : ℕ) × Far t k back (Some id)
+down_again t id slot k bus lt lk far after =
+    let few = bus.small in
+    elim (kin t id slot k lt far) [
+      | child j e g n is less le ↦ absurd (omega (arith, is, less, after))
+      | outer at is ↦ absurd (omega (arith, is, lk, few))
+      | above j e g n is less le back ↦
+          let same : k ≡ j = omega (arith, is) in
+          let at : 0 + id ≡ id = omega arith in
+          let f : Far t j back.0 (Some id) = record { of_node = e; node = (toldT 0 63 t j e g n).ends_are; slot_end = back.1 ∙ ap (λ (x : ℕ). Some (Some x)) at } in
+          (back.0, subst (λ (x : ℕ). Far t x back.0 (Some id)) (sym same) f)
+    ]
+
+-- of two children the subtree of the second begins behind the first
+pub apart : (t : Tree) (id a b x y : ℕ) → IsBusTree t → id < length (walk t) → Far t id a (Some x) → Far t id b (Some y) → x < y → y < id → x < first_of t y
+apart t id a b x y bus lt fa fb less before =
+    let h = node_at t id lt in
+    let few = bus.small in
+    let r = apartT 0 63 t id h.e (first_of t id) a b x y (omega (arith, few)) h.node (far_end t id a (Some x) h fa) (far_end t id b (Some y) h fb) less (omega (arith, before)) in
+    let same : y ≡ r.j = omega (arith, r.at) in
+    let first : first_of t y ≡ r.g = ap (first_of t) same ∙ first_is t r.j r.e r.g r.node in
+    omega (arith, first, r.behind)

@@ -15,14 +15,14 @@ lastT from parent (branch a s) = (slot_ends from parent s, inl (omega (arith, le
 -- ---- the other end of a slot
 
 -- a node below
-record Child (from me : ℕ) (s : Slots) (k : ℕ) : Type 0 where
-  j : ℕ
-  e : Ends
-  f : ℕ
-  node : NodeS from me s j e f
-  is : k ≡ from + j
+pub record Child (from me : ℕ) (s : Slots) (k : ℕ) : Type 0 where
+  pub j : ℕ
+  pub e : Ends
+  pub f : ℕ
+  pub node : NodeS from me s j e f
+  pub is : k ≡ from + j
 
-end_of : (from me parent : ℕ) (s : Slots) (slot k : ℕ) → slice_get (slot_ends from parent s) slot ≡ Some (Some k) → (k ≡ parent) ⊎ Child from me s k
+pub end_of : (from me parent : ℕ) (s : Slots) (slot k : ℕ) → slice_get (slot_ends from parent s) slot ≡ Some (Some k) → (k ≡ parent) ⊎ Child from me s k
 end_of from me parent no_more slot k h = absurd cc
 end_of from me parent (absent s) zero k h = absurd cc
 end_of from me parent (absent s) (suc slot) k h = ⊎_elim (λ (p : k ≡ parent). inl p) (λ (c : Child from me s k). inr (record { j = c.j; e = c.e; f = c.f; node = c.node; is = c.is })) (end_of from me parent s slot k h)
@@ -42,12 +42,12 @@ end_of from me parent (down t s) (suc slot) k h = ⊎_elim
 pub data Kin (from parent : ℕ) (t : Tree) (i f k : ℕ) : Type 0 where
   child : (j : ℕ) (e : Ends) (g : ℕ) → NodeT from parent t j e g → k ≡ from + j → j < i → f ≤ g → Kin from parent t i f k
   outer : i + 1 ≡ length (walk t) → k ≡ parent → Kin from parent t i f k
-  above : (j : ℕ) (e : Ends) (g : ℕ) → NodeT from parent t j e g → k ≡ from + j → i < j → g ≤ f → Kin from parent t i f k
+  above : (j : ℕ) (e : Ends) (g : ℕ) → NodeT from parent t j e g → k ≡ from + j → i < j → g ≤ f → (back : ℕ) × (slice_get e back ≡ Some (Some (from + i))) → Kin from parent t i f k
 
 data KinS (from me : ℕ) (s : Slots) (i f k : ℕ) : Type 0 where
   child_s : (j : ℕ) (e : Ends) (g : ℕ) → NodeS from me s j e g → k ≡ from + j → j < i → f ≤ g → KinS from me s i f k
-  outer_s : k ≡ me → KinS from me s i f k
-  above_s : (j : ℕ) (e : Ends) (g : ℕ) → NodeS from me s j e g → k ≡ from + j → i < j → g ≤ f → KinS from me s i f k
+  outer_s : k ≡ me → ((p : ℕ) → (back : ℕ) × (slice_get (slot_ends from p s) back ≡ Some (Some (from + i)))) → KinS from me s i f k
+  above_s : (j : ℕ) (e : Ends) (g : ℕ) → NodeS from me s j e g → k ≡ from + j → i < j → g ≤ f → (back : ℕ) × (slice_get e back ≡ Some (Some (from + i))) → KinS from me s i f k
 
 mutual
   pub kinT : (from parent : ℕ) (t : Tree) (i : ℕ) (e : Ends) (f slot k : ℕ) → NodeT from parent t i e f → slice_get e slot ≡ Some (Some k) → Kin from parent t i f k
@@ -64,8 +64,8 @@ mutual
       let w = withinS from me s i e f below in
       elim (kinS from me s i e f slot k below far) [
         | child_s j e' g n is lt le ↦ child j e' g (inr n) is lt le
-        | outer_s is ↦ above (length (walk_below s)) (slot_ends from parent s) from (inl (refl, refl, refl)) is w.place w.low
-        | above_s j e' g n is lt le ↦ above j e' g (inr n) is lt le
+        | outer_s is back ↦ above (length (walk_below s)) (slot_ends from parent s) from (inl (refl, refl, refl)) is w.place w.low (back parent)
+        | above_s j e' g n is lt le back ↦ above j e' g (inr n) is lt le back
       ])
       h
 
@@ -73,31 +73,32 @@ mutual
   kinS from me no_more i e f slot k h far = absurd h
   kinS from me (absent s) i e f slot k h far = elim (kinS from me s i e f slot k h far) [
     | child_s j e' g n is lt le ↦ child_s j e' g n is lt le
-    | outer_s is ↦ outer_s is
-    | above_s j e' g n is lt le ↦ above_s j e' g n is lt le
+    | outer_s is back ↦ outer_s is (λ (p : ℕ). let r = back p in (suc r.0, r.1))
+    | above_s j e' g n is lt le back ↦ above_s j e' g n is lt le back
   ]
   kinS from me (unplugged s) i e f slot k h far = elim (kinS from me s i e f slot k h far) [
     | child_s j e' g n is lt le ↦ child_s j e' g n is lt le
-    | outer_s is ↦ outer_s is
-    | above_s j e' g n is lt le ↦ above_s j e' g n is lt le
+    | outer_s is back ↦ outer_s is (λ (p : ℕ). let r = back p in (suc r.0, r.1))
+    | above_s j e' g n is lt le back ↦ above_s j e' g n is lt le back
   ]
   kinS from me (up s) i e f slot k h far = elim (kinS from me s i e f slot k h far) [
     | child_s j e' g n is lt le ↦ child_s j e' g n is lt le
-    | outer_s is ↦ outer_s is
-    | above_s j e' g n is lt le ↦ above_s j e' g n is lt le
+    | outer_s is back ↦ outer_s is (λ (p : ℕ). let r = back p in (suc r.0, r.1))
+    | above_s j e' g n is lt le back ↦ above_s j e' g n is lt le back
   ]
   kinS from me (down t s) i e f slot k h far = ⊎_elim
       (λ (here : NodeT from me t i e f). elim (kinT from me t i e f slot k here far) [
         | child j e' g n is lt le ↦ child_s j e' g (inl n) is lt le
-        | outer at is ↦ outer_s is
-        | above j e' g n is lt le ↦ above_s j e' g (inl n) is lt le
+        | outer at is ↦ outer_s is (λ (p : ℕ). (0, ap (λ (x : ℕ). Some (Some x)) (omega (arith, at))))
+        | above j e' g n is lt le back ↦ above_s j e' g (inl n) is lt le back
       ])
       (λ (there : (j : ℕ) × (i ≡ length (walk t) + j) × NodeS (from + length (walk t)) me s j e f).
       let before = there.1 in
+      let at : from + length (walk t) + there.0 ≡ from + i = omega (arith, before) in
       elim (kinS (from + length (walk t)) me s there.0 e f slot k there.2 far) [
         | child_s j e' g n is lt le ↦ child_s (length (walk t) + j) e' g (inr (j, refl, n)) (omega (arith, is)) (omega (arith, lt, before)) le
-        | outer_s is ↦ outer_s is
-        | above_s j e' g n is lt le ↦ above_s (length (walk t) + j) e' g (inr (j, refl, n)) (omega (arith, is)) (omega (arith, lt, before)) le
+        | outer_s is back ↦ outer_s is (λ (p : ℕ). let r = back p in (suc r.0, r.1 ∙ ap (λ (x : ℕ). Some (Some x)) at))
+        | above_s j e' g n is lt le back ↦ above_s (length (walk t) + j) e' g (inr (j, refl, n)) (omega (arith, is)) (omega (arith, lt, before)) le (back.0, back.1 ∙ ap (λ (x : ℕ). Some (Some x)) at)
       ])
       h
 
@@ -261,3 +262,18 @@ mutual
       let r = raisedS (from + length (walk t)) me s there.0 e f parts.1 (omega (arith, room, length-append (walk t) (walk_below s))) there.2 in
       record { slot = r.slot; k = r.k; far = r.far; later = omega (arith, r.later, there.1) })
       h
+
+-- the slots of a root lead down
+pub no_up : (from parent : ℕ) (s : Slots) (slot k : ℕ) → ups (statuses s) ≡ 0 → slice_get (slot_ends from parent s) slot ≡ Some (Some k) → k < from + length (walk_below s)
+no_up from parent no_more slot k none h = absurd cc
+no_up from parent (absent s) zero k none h = absurd cc
+no_up from parent (absent s) (suc slot) k none h = no_up from parent s slot k none h
+no_up from parent (unplugged s) zero k none h = absurd cc
+no_up from parent (unplugged s) (suc slot) k none h = no_up from parent s slot k none h
+no_up from parent (up s) slot k none h = absurd (omega (arith, none))
+no_up from parent (down t s) zero k none h =
+    let same : from + length (walk t) - 1 ≡ k = cc in
+    omega (arith, same, some_node t, length-append (walk t) (walk_below s))
+no_up from parent (down t s) (suc slot) k none h =
+    let r = no_up (from + length (walk t)) parent s slot k none h in
+    omega (arith, r, length-append (walk t) (walk_below s))

@@ -2,10 +2,12 @@
 //! SPEED_MAP).
 #![tactic(auto)]
 
+mod paths;
 mod row;
 mod sealed;
 mod sweeps;
 
+pub use paths::one_path;
 pub use sealed::image;
 pub use sweeps::{OutOfMemory, rows};
 
