@@ -2,3 +2,4 @@ pub mod Reading
 pub mod OneReading
 pub mod OneOutcome
 pub mod Ends
+pub mod OneText

@@ -4,12 +4,13 @@ use Rattle.std.specs.Global.{Global}
 use Rattle.topology_stack.specs.Tree.{Tree}
 use Rattle.topology_stack.specs.Text.{tree_text}
 use Rattle.bus_cli.specs.declared.form.Form.{Form}
-use Rattle.bus_cli.specs.declared.form.Form.TheVariants.{Read}
+use Rattle.bus_cli.specs.declared.form.Form.TheVariants.{Read, Maps}
 use Rattle.bus_cli.specs.declared.fault.CaptureFault.{CaptureFault}
 use Rattle.bus_cli.specs.declared.status.TheConstants.{VALID, REFUSED, NO_FORM}
 use Rattle.bus_cli.specs.Form.{Asks, IsForm}
 use Rattle.bus_cli.specs.Capture.{Spells, CaptureRefused}
 use Rattle.bus_cli.specs.Line.{fault_line}
+use Rattle.bus_cli.specs.Maps.{IsMapsText}
 
 -- What words and bytes come to: a tree that is shown in a form, a fault, or no form at all.
 pub data Outcome : Type 0 where
@@ -29,18 +30,20 @@ status_of (shown form t) = VALID
 status_of (refused f) = REFUSED
 status_of no_form = NO_FORM
 
--- how a tree is shown: by `read` with no names
-abbrev pub shown_text : Form → Tree → List ℕ
-shown_text Read t = tree_text t []
+-- how a tree is shown: by `read` as its text with no names, by `maps` as its maps with generation 1
+abbrev pub Shows : Form → Tree → List ℕ → Type 0
+Shows Read t text = text ≡ tree_text t []
+Shows Maps t text = IsMapsText 1 t text
 
-abbrev pub text_of : Outcome → List ℕ
-text_of (shown form t) = shown_text form t
-text_of (refused f) = fault_line f
-text_of no_form = []
+-- the text of an outcome
+abbrev pub HasText : Outcome → List ℕ → Type 0
+HasText (shown form t) text = Shows form t text
+HasText (refused f) text = text ≡ fault_line f
+HasText no_form text = text ≡ []
 
 -- the status and the text of what the words and the bytes come to
 pub record Answers (words : List (String Global)) (bytes : List ℕ) (status : ℕ) (text : List ℕ) : Type 0 where
   pub outcome : Outcome
   pub has : HasOutcome words bytes outcome
   pub status_is : status ≡ status_of outcome
-  pub text_is : text ≡ text_of outcome
+  pub text_is : HasText outcome text

@@ -2,12 +2,13 @@
 ghost use Rattle.std.specs.Prelude.{◌≡◌, ◌⊎◌, List, IfOk, String};
 ghost use Rattle.std.specs.Global.{Global};
 ghost use Rattle.bus_cli.specs.Form.{Asks};
-ghost use Rattle.bus_cli.specs.Answer.{Answers, shown_text};
+ghost use Rattle.bus_cli.specs.Answer.{Answers, Shows};
 
 use crate::capture::read_capture;
 use crate::fault::{CaptureStop, OutOfMemory};
 use crate::form::Form;
 use crate::line::fault_line;
+use crate::maps::maps_text;
 use crate::status::{REFUSED, VALID};
 use std::alloc::Global;
 use topology_stack::{BusTree, NameList, tree_text};
@@ -21,10 +22,11 @@ pub(crate) struct Answer {
 
 /// The text of a tree in a form.
 fn shown_text(alloc: Global, form: Form, tree: &BusTree) -> Result<Vec<u8>, OutOfMemory>
-    ensures { IfOk result (λ text. text.items ≡ shown_text form tree.now) }
+    ensures { IfOk result (λ text. Shows form tree.now text.items) }
 {
     match form {
         Form::Read => tree_text(alloc, tree, &NameList::new(alloc)),
+        Form::Maps => maps_text(alloc, tree, 1),
     }
 }
 

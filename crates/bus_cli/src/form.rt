@@ -8,6 +8,8 @@ ghost use Rattle.bus_cli.specs.declared.form.Form.{Form};
 pub enum Form {
     /// `read`: the text of the tree that a capture spells.
     Read,
+    /// `maps`: the topology map and the speed map of that tree, with generation 1.
+    Maps,
 }
 
 impl Form {
@@ -17,6 +19,7 @@ impl Form {
     {
         match word {
             "read" => Some(Form::Read),
+            "maps" => Some(Form::Maps),
             _ => None,
         }
     }
@@ -34,4 +37,4 @@ impl Form {
 }
 
 /// How the program is called, in one line for a form.
-pub const USAGE: &str = "usage: busconf read < CAPTURE";
+pub const USAGE: &str = "usage: busconf read < CAPTURE\n       busconf maps < CAPTURE";

@@ -4,7 +4,7 @@ ghost use Rattle.std.specs.Global.{Global};
 ghost use Rattle.topology_stack.specs.Tree.{Tree};
 ghost use Rattle.bus_cli.specs.declared.fault.CaptureFault.{CaptureFault};
 ghost use Rattle.bus_cli.specs.Capture.{Spells, CaptureRefused};
-ghost use Rattle.bus_cli.specs.Answer.{Outcome, HasOutcome};
+ghost use Rattle.bus_cli.specs.Answer.{Outcome, HasOutcome, Answers};
 
 use quad_lanes::capture_is_read_back;
 use topology_stack::{one_answer, one_tree};
@@ -22,10 +22,12 @@ pub fn one_reading()
     one_answer();
 }
 
-/// A law: words and bytes have one outcome.
+/// A law: words and bytes have one outcome, one status and one text.
 pub fn one_outcome()
-    ensures { (words : List (String Global)) (bytes : List ℕ) (o p : Outcome)
+    ensures outcome { (words : List (String Global)) (bytes : List ℕ) (o p : Outcome)
         → HasOutcome words bytes o → HasOutcome words bytes p → o ≡ p }
+    ensures answer { (words : List (String Global)) (bytes : List ℕ) (s r : ℕ) (a b : List ℕ)
+        → Answers words bytes s a → Answers words bytes r b → (s ≡ r) × (a ≡ b) }
 {
     one_reading();
 }

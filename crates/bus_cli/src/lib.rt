@@ -7,6 +7,7 @@ mod fault;
 mod form;
 mod laws;
 mod line;
+mod maps;
 mod status;
 mod top;
 

@@ -8,7 +8,9 @@ use topology_stack::read_tree;
 
 // What a slot leads to, as a port field.
 const LOOSE: u32 = 1;
+
 const UP: u32 = 2;
+
 const DOWN: u32 = 3;
 
 /// Packet zero of a node with three slots.
@@ -17,7 +19,7 @@ fn packet(id: u8, p0: u32, p1: u32, p2: u32) -> u32 {
 }
 
 /// Nodes in a line whose root is at one end.
-fn line(alloc: Global, nodes: u8) -> Result<QuadList, AllocError> {
+pub fn line(alloc: Global, nodes: u8) -> Result<QuadList, AllocError> {
     let mut list = QuadList::new(alloc);
     for id in 0..nodes {
         let below = if id == 0 { LOOSE } else { DOWN };
@@ -70,15 +72,27 @@ fn hops_of(alloc: Global, list: &QuadList) -> Option<u8> {
 fn shapes(rt: HostRuntime) -> Result<(), Fail> {
     let alloc = rt.alloc();
     for nodes in 1..64u8 {
-        assert_eq!(rt; hops_of(alloc, &line(alloc, nodes)?), Some(nodes - 1), "line of {nodes}");
+        assert_eq!(rt;
+            hops_of(alloc, &line(alloc, nodes)?),
+            Some(nodes - 1),
+            "line of {nodes}"
+        );
     }
     for leaves in 1..12u8 {
         let cables = if leaves == 1 { 1 } else { 2 };
-        assert_eq!(rt; hops_of(alloc, &star(alloc, leaves)?), Some(cables), "star of {leaves}");
+        assert_eq!(rt;
+            hops_of(alloc, &star(alloc, leaves)?),
+            Some(cables),
+            "star of {leaves}"
+        );
     }
     for teeth in 1..32u8 {
         let cables = if teeth == 1 { 1 } else { teeth + 1 };
-        assert_eq!(rt; hops_of(alloc, &comb(alloc, teeth)?), Some(cables), "comb of {teeth}");
+        assert_eq!(rt;
+            hops_of(alloc, &comb(alloc, teeth)?),
+            Some(cables),
+            "comb of {teeth}"
+        );
     }
     Ok(())
 }

@@ -32,11 +32,16 @@ pub fn capture_of(alloc: Global, packets: &[u32]) -> Result<Vec<u8>, AllocError>
     Ok(bytes)
 }
 
-/// The status of `read` on these bytes, and the sink with what was written.
-pub fn read(alloc: Global, bytes: Vec<u8>) -> Result<(u8, MemSink), AllocError> {
-    let words = words(alloc, &["read"])?;
+/// The status of a form on these bytes, and the sink with what was written.
+pub fn answer(alloc: Global, form: &str, bytes: Vec<u8>) -> Result<(u8, MemSink), AllocError> {
+    let words = words(alloc, &[form])?;
     let mut source = SureSource::new(bytes);
     let mut sink = MemSink::new(alloc, 10_000, Vec::new(alloc), 10_000)?;
     let status = bus_main(alloc, &words, &mut source, &mut sink);
     Ok((status, sink))
+}
+
+/// The status of `read` on these bytes, and the sink with what was written.
+pub fn read(alloc: Global, bytes: Vec<u8>) -> Result<(u8, MemSink), AllocError> {
+    answer(alloc, "read", bytes)
 }

@@ -9,3 +9,5 @@ mod faults;
 mod hops;
 #[cfg(test)]
 mod inputs;
+#[cfg(test)]
+mod maps;

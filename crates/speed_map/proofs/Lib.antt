@@ -4,4 +4,4 @@ mod Apart
 mod Facts
 mod Steps
 mod Copied
-mod Unique
+pub mod Unique
