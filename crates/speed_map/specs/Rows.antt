@@ -1,4 +1,4 @@
--- The rows of a speed map: 64 bytes a node, one for each node that may be on a bus.
+-- The rows of a speed map: 64 bytes a node, one for each ID.
 use Rattle.std.specs.Prelude.{◌≡◌, ℕ, ◌+◌, ◌*◌, ◌<◌, ◌≤◌, List, length, slice_index}
 use Rattle.topology_stack.specs.Tree.{Tree, walk}
 use Rattle.speed_map.specs.Path.{IsPath, path_speed}

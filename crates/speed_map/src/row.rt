@@ -6,7 +6,7 @@ ghost use Rattle.speed_map.specs.Sweep.{Written};
 use quad_lanes::min_row;
 use self_id::SelfId;
 
-/// The bytes of a row: one for each node that may be on a bus, and one more.
+/// The bytes of a row: one for each ID.
 pub(crate) const ROW: usize = 64;
 
 /// The speed code of a node. The code 3, which later standards use, counts as 2.

@@ -36,6 +36,7 @@ fn fill_below(rows: &mut [u8], tree: &BusTree, firsts: &[u8], id: u8) -> u8
     ensures first { result ≡ first_of tree.now id }
     ensures after { Rising tree.now rows.new (id + 1) }
 {
+    // a bus tree, whose nodes are at most 63
     let _len = tree.len();
     let node = tree.node(id);
     let cap = speed(node);
@@ -59,6 +60,7 @@ fn parent_of(tree: &BusTree, id: u8) -> (u8, u8)
     ensures far { Far tree.now id result.0 (Some result.1) }
     ensures after { id < result.1 }
 {
+    // a bus tree, of which each node but the root has a slot that leads up
     let _len = tree.len();
     for slot in 0..slots(tree.node(id)) {
         if let Some(parent) = tree.far(id, slot) {
