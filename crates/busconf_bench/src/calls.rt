@@ -2,10 +2,12 @@
 
 use bus_manager::hops;
 use quad_lanes::{QuadList, first_bad_pair, firsts, pairs_of};
+use speed_map::rows;
 use std::alloc::{AllocError, Global};
 use std::io;
 use std::rt::Clock;
 use std::time::Instant;
+use topology_map::crc16;
 use topology_stack::{BusTree, read_tree};
 
 /// How many times the median is taken of.
@@ -19,6 +21,8 @@ const PAIRS: usize = 65_536;
 pub enum Call {
     ReadTree,
     Hops,
+    Rows,
+    Crc16,
     FirstBadPair,
     PlainRead,
 }
@@ -29,6 +33,8 @@ impl Call {
         match name {
             "read_tree" => Some(Call::ReadTree),
             "hops" => Some(Call::Hops),
+            "rows" => Some(Call::Rows),
+            "crc16" => Some(Call::Crc16),
             "first_bad_pair" => Some(Call::FirstBadPair),
             "plain_read" => Some(Call::PlainRead),
             _ => None,
@@ -70,6 +76,15 @@ fn once(alloc: Global, call: Call, work: &Work) -> u64 {
             Err(_) => 0,
         },
         Call::Hops => u64::from(hops(&work.tree)),
+        Call::Rows => match rows(alloc, &work.tree) {
+            Ok(rows) => rows
+                .iter()
+                .map(|speed| u64::from(*speed))
+                .max()
+                .unwrap_or(0),
+            Err(_) => 0,
+        },
+        Call::Crc16 => u64::from(crc16(work.quads.as_slice())),
         Call::FirstBadPair => {
             let quads = work.pairs.as_slice();
             if quads.len() % 2 == 0 {

@@ -6,6 +6,8 @@
 //!
 //! - `read_tree`: the tree of the capture's first quadlets, made and dropped
 //! - `hops`: the longest path of that tree
+//! - `rows`: the rows of its speed map
+//! - `crc16`: the CRC of the first quadlets
 //! - `first_bad_pair`: the pair check of 65,536 pairs, the capture's first pair over and over
 //! - `plain_read`: all quadlets of the same buffer added up, to compare the pair check with
 #![tactic(auto)]
