@@ -7,7 +7,8 @@ use Rattle.topology_stack.specs.declared.fault.TreeFault.{TreeFault}
 use Rattle.topology_stack.specs.declared.fault.TreeFault.TheVariants.{Group, Empty, TooFewChildren, TreesLeft, AfterRoot, NoRoot, TooMany}
 use Rattle.self_id.specs.Node.{Node, IsNode, ups, downs}
 use Rattle.self_id.specs.Group.{group}
-use Rattle.self_id.specs.Laws.{read_at, read_at-group, length-group}
+use Rattle.self_id.specs.Reading.{read_at}
+use Rattle.self_id.proofs.Laws.{read_at-group, length-group}
 use Rattle.topology_stack.specs.Tree.{Label, Tree, branch, Slots, no_more, absent, unplugged, up, down, statuses, node_of, walk, walk_below, IsPart, AreParts, IsWhole, IsBusTree, groups, emits}
 use Rattle.topology_stack.proofs.ReadFrom.{in_group, ended, unless_ended, read_from, read}
 use Rattle.topology_stack.specs.Forest.{AreWaiting, walks}

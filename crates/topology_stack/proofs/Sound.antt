@@ -7,7 +7,8 @@ use Rattle.self_id.specs.declared.node.PortStatus.{PortStatus}
 use Rattle.self_id.specs.declared.fault.GroupFault.{GroupFault}
 use Rattle.self_id.specs.Node.{Node, IsNode, ups, downs}
 use Rattle.self_id.specs.Group.{group}
-use Rattle.self_id.specs.Laws.{read_at, group-read_at, refused-read_at, length-group}
+use Rattle.self_id.specs.Reading.{read_at}
+use Rattle.self_id.proofs.Laws.{group-read_at, refused-read_at, length-group}
 use Rattle.topology_stack.specs.declared.fault.TreeFault.{TreeFault}
 use Rattle.topology_stack.specs.declared.fault.TreeFault.TheVariants.{Group, Empty, TooFewChildren, TreesLeft, AfterRoot, NoRoot, TooMany}
 use Rattle.topology_stack.specs.Tree.{Label, Tree, branch, Slots, statuses, node_of, walk, walk_below, IsPart, AreParts, IsWhole, IsBusTree, groups, emits}
@@ -106,7 +107,7 @@ group_explained at found ns rest l ts e h more small fault =
       rest,
       at,
       goes_on at found ns rest l ts 62 h more small,
-      refused-read_at at (length (walks ts)) rest e (omega arith) more (ap (λ (k : ℕ). read_at at k rest) (sym same) ∙ fault),
+      refused-read_at at (length (walks ts)) rest e more (ap (λ (k : ℕ). read_at at k rest) (sym same) ∙ fault),
     )
 
 -- the list with one more node
@@ -209,7 +210,7 @@ sound (suc room) at found ns (q ∷ qs) l ts h full =
     let small : length ns ≤ 62 = omega arith in
     explained_group l (read_at at (length ns) (q ∷ qs)) _
     (λ e fault. group_explained at found ns (q ∷ qs) l ts e h (omega arith) small fault)
-    (λ n is. let k = group-read_at at (length ns) (q ∷ qs) n small is in
+    (λ n is. let k = group-read_at at (length ns) (q ∷ qs) n is in
     let a = after_node at found ns (q ∷ qs) (drop (length (group n (length ns))) (q ∷ qs)) l ts n h k.0 k.1 in
     node_explained room at found ns (q ∷ qs) (drop (length (group n (length ns))) (q ∷ qs)) l ts n h (omega arith) a
     (λ next count ms us stands size. sound room next count ms (drop (length (group n (length ns))) (q ∷ qs)) l us stands size))

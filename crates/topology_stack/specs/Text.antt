@@ -1,5 +1,6 @@
 -- The text of a bus tree: a line for each node, by rising ID, and a last line.
 use Rattle.std.specs.Prelude.{ℕ, ◌+◌, ◌-◌, Bool, true, false, List, [], ◌∷◌, ◌++◌, length, slice_get, codes, decimal, Option, Some, None}
+use Rattle.self_id.specs.declared.node.Attrs.{Attrs}
 use Rattle.self_id.specs.declared.node.PortStatus.{PortStatus}
 use Rattle.self_id.specs.declared.node.PortStatus.TheVariants.{Absent, Unplugged, Up, Down}
 use Rattle.self_id.specs.Node.{Node}
@@ -16,9 +17,9 @@ truth false = 0
 truth true = 1
 
 -- `node ID link L gap G speed S contender C power P initiated I ports`
-unfoldable pub attrs_text : ℕ → Node → List ℕ
-attrs_text id n = field (codes "node ") id ++ (field (codes " link ") (truth n.attrs.link) ++ (field (codes " gap ") n.attrs.gap ++ (field (codes " speed ") n.attrs.speed
-    ++ (field (codes " contender ") (truth n.attrs.contender) ++ (field (codes " power ") n.attrs.power ++ (field (codes " initiated ") (truth n.attrs.initiated) ++ codes " ports"))))))
+unfoldable pub attrs_text : ℕ → Attrs → List ℕ
+attrs_text id a = field (codes "node ") id ++ (field (codes " link ") (truth a.link) ++ (field (codes " gap ") a.gap ++ (field (codes " speed ") a.speed
+    ++ (field (codes " contender ") (truth a.contender) ++ (field (codes " power ") a.power ++ (field (codes " initiated ") (truth a.initiated) ++ codes " ports"))))))
 
 -- a slot: `-`, `.`, `^` and the parent's ID, or `v` and the child's ID
 abbrev pub sign : PortStatus → Option ℕ → List ℕ
@@ -40,7 +41,7 @@ naming None = []
 naming (Some name) = codes " name " ++ name
 
 unfoldable pub node_line : ℕ → Node → List (Option ℕ) → Option (List ℕ) → List ℕ
-node_line id n es name = attrs_text id n ++ (signs n.ports es ++ (naming name ++ codes "\n"))
+node_line id n es name = attrs_text id n.attrs ++ (signs n.ports es ++ (naming name ++ codes "\n"))
 
 -- the lines of nodes, whose IDs are counted from `id`, with the ends of their slots and with names by ID
 abbrev pub lines_from : ℕ → List Node → List (List (Option ℕ)) → List (List ℕ) → List ℕ

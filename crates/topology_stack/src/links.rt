@@ -3,6 +3,7 @@ ghost use Rattle.std.specs.Prelude.{◌≡◌, ◌≤◌, length, IfOk};
 ghost use Rattle.topology_stack.specs.Tree.{Tree, IsBusTree, walk};
 ghost use Rattle.topology_stack.specs.Stored.{Stored};
 
+use crate::reading::MAX_NODES;
 use crate::slots::count_down;
 use arrayvec::ArrayVec;
 use self_id::SelfId;
@@ -60,7 +61,7 @@ fn adopt(parents: &mut [u8], kids: &[u8], me: u8)
 /// Parents and children by ID.
 #[derive(Debug, Drop)]
 pub(crate) struct Links {
-    pub parents: Vec<u8>,
+    pub parents: ArrayVec<u8, MAX_NODES>,
     pub children: Vec<KidList>,
 }
 
@@ -69,8 +70,8 @@ pub(crate) fn links_of(alloc: Global, nodes: &[SelfId]) -> Result<Links, AllocEr
     requires { length nodes.now ≤ 63 }
     ensures { (t : Tree) → IsBusTree t → nodes.now ≡ walk t → IfOk result (λ l. Stored t nodes.now l.parents.items l.children.items) }
 {
-    let mut waiting = Vec::with_capacity(alloc, nodes.len())?;
-    let mut parents = Vec::with_capacity(alloc, nodes.len())?;
+    let mut waiting = ArrayVec::<u8, MAX_NODES>::new();
+    let mut parents = ArrayVec::<u8, MAX_NODES>::new();
     let mut children = Vec::with_capacity(alloc, nodes.len())?;
     for node in nodes {
         let me = parents.len() as u8;
@@ -79,8 +80,8 @@ pub(crate) fn links_of(alloc: Global, nodes: &[SelfId]) -> Result<Links, AllocEr
         adopt(&mut parents, &waiting[start..], me);
         children.push(KidList::from_slice(&waiting[start..]))?;
         waiting.truncate(start);
-        waiting.push(me)?;
-        parents.push(63)?;
+        waiting.push(me);
+        parents.push(63);
     }
     Ok(Links { parents, children })
 }

@@ -9,12 +9,15 @@ use crate::slots::{count_down, count_up};
 use self_id::{SelfId, read_group};
 use std::alloc::Global;
 
+/// The most nodes of a bus: IDs run from 0 to 62, and 63 means all nodes.
+pub(crate) const MAX_NODES: usize = 63;
+
 /// The nodes, by ID, of the bus tree that emits a list.
 pub(crate) fn nodes_of(alloc: Global, quads: &[u32]) -> Result<Vec<SelfId>, TreeStop>
     ensures found { IfOk result (λ v. (t : Tree) × IsBusTree t × (v.items ≡ walk t) × (emits t ≡ quads.now)) }
     ensures refused { IfFault result (λ f. Refused quads.now f) }
 {
-    let mut nodes = Vec::with_capacity(alloc, quads.len().min(63))?;
+    let mut nodes = Vec::with_capacity(alloc, quads.len().min(MAX_NODES))?;
     let mut at = 0;
     // how many trees wait for a parent
     let mut found = 0;
@@ -23,7 +26,7 @@ pub(crate) fn nodes_of(alloc: Global, quads: &[u32]) -> Result<Vec<SelfId>, Tree
         if rooted {
             return Err(TreeStop::Fault(TreeFault::AfterRoot { at }));
         }
-        if nodes.len() == 63 {
+        if nodes.len() == MAX_NODES {
             return Err(TreeStop::Fault(TreeFault::TooMany { at }));
         }
         let (node, after) = read_group(quads, at, nodes.len() as u8)?;

@@ -9,7 +9,7 @@ use crate::links::KidList;
 use crate::manager::elect;
 use crate::name::{Name, NameList};
 use crate::tree::BusTree;
-use self_id::{PortStatus, SelfId};
+use self_id::{Attrs, PortStatus, SelfId};
 use std::alloc::{AllocError, Global};
 
 /// Appends a number.
@@ -36,10 +36,9 @@ fn truth(b: bool) -> u64
 }
 
 /// Appends the words on a node's attributes.
-fn put_attrs(out: &mut Vec<u8>, id: u8, node: &SelfId) -> Result<(), AllocError>
-    ensures { OnOk result (out.new.items ≡ out.old.items ++ attrs_text id node.now) }
+fn put_attrs(out: &mut Vec<u8>, id: u8, attrs: Attrs) -> Result<(), AllocError>
+    ensures { OnOk result (out.new.items ≡ out.old.items ++ attrs_text id attrs) }
 {
-    let attrs = node.attrs;
     put_field(out, b"node ", u64::from(id))?;
     put_field(out, b" link ", truth(attrs.link))?;
     put_field(out, b" gap ", u64::from(attrs.gap))?;
@@ -110,7 +109,7 @@ fn put_line(
 ) -> Result<(), AllocError>
     ensures { OnOk result (out.new.items ≡ out.old.items ++ node_line id node.now (ends_of parent kids.now node.now.ports) (slice_get names.now id)) }
 {
-    put_attrs(out, id, node)?;
+    put_attrs(out, id, node.attrs)?;
     put_signs(out, node.ports.as_slice(), parent, kids)?;
     put_name(out, names, id as usize)?;
     out.push(b'\n')?;

@@ -2,8 +2,9 @@
 
 use crate::fault::TreeStop;
 use crate::links::{KidList, links_of};
-use crate::reading::nodes_of;
+use crate::reading::{MAX_NODES, nodes_of};
 use crate::slots::far_end;
+use arrayvec::ArrayVec;
 use self_id::SelfId;
 use std::alloc::Global;
 use std::marker::Model;
@@ -12,7 +13,7 @@ use std::marker::Model;
 #[derive(Debug, Drop)]
 pub struct BusTree {
     nodes: Vec<SelfId>,
-    parents: Vec<u8>,
+    parents: ArrayVec<u8, MAX_NODES>,
     children: Vec<KidList>,
 }
 

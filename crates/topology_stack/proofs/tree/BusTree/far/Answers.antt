@@ -1,16 +1,16 @@
-use Rattle.std.proofs.Common.{◌≡◌, ◌<◌, length, Some, refl, sym, ap, ◌∙◌, arith}
+use Rattle.std.proofs.Common.{◌≡◌, ◌<◌, length, get_or, Some, refl, sym, ap, ◌∙◌, arith}
 use Rattle.std.specs.Prelude.{slice_get}
-use Rattle.std.proofs.lemmas.Option.{slice_get_read}
+use Rattle.std.proofs.lemmas.Option.{slice_get_read, slice_get-get_or}
 use Rattle.self_id.specs.Node.{Node, downs}
 use Rattle.topology_stack.specs.Tree.{Tree, walk}
 use Rattle.topology_stack.proofs.Ends.{far_is, length-parents, length-children, kids_enough, loose_at}
 use Rattle.topology_stack.proofs.tree.BusTree.far.Goals as goal
 
-pub index-requires-2 : goal.index-requires-2
-index-requires-2 c = omega (arith, c.requires.id, length-parents _ _ _ _ c.self.invariant, ap length c.self.invariant.walk_is, ap (λ (t : Tree). length (walk t)) c.self.view_is)
+pub bounds-deref-id : goal.bounds-deref-id
+bounds-deref-id c = omega (arith, c.requires.id, length-parents _ _ _ _ c.self.invariant, ap length c.deref.ensures.0, ap length c.self.invariant.walk_is, ap (λ (t : Tree). length (walk t)) c.self.view_is)
 
-pub index-requires-3 : goal.index-requires-3
-index-requires-3 c = omega (arith, c.requires.id, length-children _ _ _ _ c.self.invariant, ap length c.self.invariant.walk_is, ap (λ (t : Tree). length (walk t)) c.self.view_is)
+pub index-requires-2 : goal.index-requires-2
+index-requires-2 c = omega (arith, c.requires.id, length-children _ _ _ _ c.self.invariant, ap length c.self.invariant.walk_is, ap (λ (t : Tree). length (walk t)) c.self.view_is)
 
 pub far_end-requires-clause-inside : goal.far_end-requires-clause-inside
 far_end-requires-clause-inside c =
@@ -25,9 +25,9 @@ far_end-requires-clause-kids c =
     let small : c.args.id < length c.self.inside.nodes.items = omega (arith, c.requires.id, ap length c.self.invariant.walk_is, ap (λ (t : Tree). length (walk t)) c.self.view_is) in
     let children = length-children _ _ _ _ c.self.invariant in
     let node = slice_get_read c.self.inside.nodes.items (length c.self.inside.nodes.items) c.args.id c.index.result.now refl small c.index.ensures in
-    let kids = slice_get_read c.self.inside.children.items (length c.self.inside.nodes.items) c.args.id c.index-3.result.now (sym children) small c.index-3.ensures in
+    let kids = slice_get_read c.self.inside.children.items (length c.self.inside.nodes.items) c.args.id c.index-2.result.now (sym children) small c.index-2.ensures in
     let ports = c.as_slice-ports.ensures.value ∙ ap (λ (n : Node). n.ports) c.behind-self.view_is in
-    ap length c.as_slice.ensures ∙ kids_enough _ _ _ _ c.args.id c.index.result.now c.index-3.result.now c.self.invariant node kids ∙ ap downs (sym ports)
+    ap length c.as_slice.ensures ∙ kids_enough _ _ _ _ c.args.id c.index.result.now c.index-2.result.now c.self.invariant node kids ∙ ap downs (sym ports)
 
 pub returns-clause-end : goal.returns-clause-end
 returns-clause-end c =
@@ -35,10 +35,10 @@ returns-clause-end c =
     let parents = length-parents _ _ _ _ c.self.invariant in
     let children = length-children _ _ _ _ c.self.invariant in
     let node = slice_get_read c.self.inside.nodes.items (length c.self.inside.nodes.items) c.args.id c.index.result.now refl small c.index.ensures in
-    let parent = slice_get_read c.self.inside.parents.items (length c.self.inside.nodes.items) c.args.id c.index-2.result.now (sym parents) small c.index-2.ensures in
-    let kids = slice_get_read c.self.inside.children.items (length c.self.inside.nodes.items) c.args.id c.index-3.result.now (sym children) small c.index-3.ensures in
+    let parent : slice_get c.self.inside.parents.items c.args.id ≡ Some (get_or c.deref.result.now c.args.id 0) = rw c.deref.ensures.0 (slice_get-get_or c.self.inside.parents.items c.args.id 0 (omega (arith, parents))) in
+    let kids = slice_get_read c.self.inside.children.items (length c.self.inside.nodes.items) c.args.id c.index-2.result.now (sym children) small c.index-2.ensures in
     let ports = c.as_slice-ports.ensures.value ∙ ap (λ (n : Node). n.ports) c.behind-self.view_is in
-    rw (← c.self.view_is) (far_is _ _ _ _ c.args.id c.args.slot c.index.result.now c.index-2.result.now c.index-3.result.now c.far_end.result c.self.invariant node parent kids
+    rw (← c.self.view_is) (far_is _ _ _ _ c.args.id c.args.slot c.index.result.now (get_or c.deref.result.now c.args.id 0) c.index-2.result.now c.far_end.result c.self.invariant node parent kids
     (rw (c.as_slice.ensures, ports) at c.far_end.ensures.end))
 
 pub returns-clause-none : goal.returns-clause-none

@@ -4,4 +4,4 @@ use Rattle.topology_stack.proofs.Ends.{length-parents}
 use Rattle.topology_stack.proofs.tree.BusTree.parents.Goals as goal
 
 pub returns-clause-len : goal.returns-clause-len
-returns-clause-len c = ap length c.deref.ensures.value ∙ length-parents _ _ _ _ c.self.invariant ∙ ap length c.self.invariant.walk_is ∙ ap (λ (t : Tree). length (walk t)) c.self.view_is
+returns-clause-len c = ap length c.deref.ensures.0 ∙ length-parents _ _ _ _ c.self.invariant ∙ ap length c.self.invariant.walk_is ∙ ap (λ (t : Tree). length (walk t)) c.self.view_is
