@@ -1,0 +1,5 @@
+pub mod Wiring
+pub mod NodeSet
+pub mod Component
+pub mod Looped
+pub mod Change

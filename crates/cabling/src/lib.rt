@@ -1,0 +1,11 @@
+//! Nodes, their ports, and the cables between them: which nodes belong together, where cables form
+//! loops, and in which order the nodes of a tree identify themselves.
+#![tactic(auto)]
+
+mod cable;
+mod node_set;
+mod wiring;
+
+pub use cable::{Cable, CableFault, End};
+pub use node_set::NodeSet;
+pub use wiring::{Cabling, OutOfMemory};
