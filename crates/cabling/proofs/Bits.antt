@@ -2,9 +2,9 @@
 use Rattle.std.proofs.Common.{◌≡◌, ◌≢◌, ℕ, zero, suc, ◌+◌, ◌-◌, ◌*◌, ◌/◌, ◌%◌, ◌^◌, ◌<◌, ◌≤◌, ◌⊎◌, inl, inr, ◌↔◌, min, max, arith, sym, ◌∙◌, ap, subst, refl, bit_and, bit_or}
 use Rattle.std.specs.Int.{bit_at, bit_not, w64, trailing_zeros}
 use Rattle.std.proofs.lemmas.Bool.{cases_lt}
-use Rattle.std.proofs.lemmas.Nat.{one_shl, or_disjoint, or_lt, and_comm, and-not, and_le_l}
+use Rattle.std.proofs.lemmas.Nat.{pow_pos, one_shl, or_disjoint, or_lt, and_comm, and-not, and_le_l}
 use Rattle.std.proofs.Math.Pow.{pow-lt}
-use Rattle.std.proofs.lemmas.Nat.Bits.{bit_at_set_same, bit_at_set_other, bit_at_clear_same, bit_at_clear_other, bit_at-lt, bit_at_above, bit_at-zero, bit_at-pow_same, bit_at-pow_other, bit_at_or, and_pow, same_from_bits, bit_at-trailing_zeros}
+use Rattle.std.proofs.lemmas.Nat.Bits.{bit_at_set_same, bit_at_set_other, bit_at_clear_same, bit_at_clear_other, bit_at-lt, bit_at_above, bit_at-zero, bit_at-pow_same, bit_at-pow_other, bit_at_or, bit_at_and, bit_at_not, and_pow, same_from_bits, bit_at-trailing_zeros}
 use Rattle.cabling.specs.NodeSet.{Holds}
 
 -- a bit is 0 or 1
@@ -83,3 +83,49 @@ removed n k small h has =
     let parted : bit_and (2 ^ 64 - 1 - 2 ^ k) n + bit_and (2 ^ k) n ≡ n = and-not 64 (2 ^ k) n power small in
     let one : bit_and n (2 ^ k) ≡ 2 ^ k = rw (and_pow n k, has) (omega arith) in
     rw (one_shl k 64 h) (omega (arith, parted, one, and_comm n (2 ^ k), and_comm n (2 ^ 64 - 1 - 2 ^ k)))
+
+-- ---- two sets
+
+-- a bit that isn't 0 is 1
+one_bit : (n k : ℕ) → 0 < bit_at n k → Holds n k
+one_bit n k h = omega (arith, bit_at-lt n k)
+
+pub in_union : (a b k : ℕ) → Holds (bit_or a b) k ↔ (Holds a k ⊎ Holds b k)
+in_union a b k = (
+  λ h. elim (cases_lt 0 (bit_at a k)) [
+    | inl some ↦ inl (one_bit a k some)
+    | inr none ↦ inr (one_bit b k (omega (arith, bit_at_or a b k)))
+  ],
+  λ h. elim h [
+    | inl x ↦ one_bit (bit_or a b) k (omega (arith, bit_at_or a b k))
+    | inr x ↦ one_bit (bit_or a b) k (omega (arith, bit_at_or a b k))
+  ]
+)
+
+pub union-small : (a b : ℕ) → a < 2 ^ 63 → b < 2 ^ 63 → bit_or a b < 2 ^ 63
+union-small a b p q = or_lt 63 a b p q
+
+pub in_both : (a b k : ℕ) → Holds (bit_and a b) k ↔ (Holds a k × Holds b k)
+in_both a b k = (
+  λ h. (one_bit a k (omega (arith, bit_at_and a b k)), one_bit b k (omega (arith, bit_at_and a b k))),
+  λ (x, y). one_bit (bit_and a b) k (omega (arith, bit_at_and a b k))
+)
+
+pub in_first : (a b k : ℕ) → a < 2 ^ 63 → b < 2 ^ 63 → Holds (bit_and a (bit_not w64 b)) k ↔ (Holds a k × (Holds b k → ⊥))
+in_first a b k p q = (
+  λ h.
+    let x : Holds a k = one_bit a k (omega (arith, bit_at_and a (bit_not w64 b) k)) in
+    let not_b : bit_at (bit_not w64 b) k ≡ 1 - bit_at b k = bit_at_not w64 b k (omega arith) (omega (arith, below a k p x)) in
+    (x, λ y. omega (arith, bit_at_and a (bit_not w64 b) k, not_b)),
+  λ (x, y).
+    let not_b : bit_at (bit_not w64 b) k ≡ 1 - bit_at b k = bit_at_not w64 b k (omega arith) (omega (arith, below a k p x)) in
+    one_bit (bit_and a (bit_not w64 b)) k (omega (arith, bit_at_and a (bit_not w64 b) k, not_b, clear_bit b k y))
+)
+
+-- ---- a set that grows or shrinks does so as a number
+
+pub more_than : (old new k : ℕ) → new < 2 ^ 63 → new ≡ old + 2 ^ k → 2 ^ 63 - new < 2 ^ 63 - old
+more_than old new k small e = let one : 0 < 2 ^ k = pow_pos k in omega arith
+
+pub fewer : (old new k : ℕ) → new + 2 ^ k ≡ old → new < old
+fewer old new k e = let one : 0 < 2 ^ k = pow_pos k in omega arith

@@ -63,7 +63,7 @@ ports_at c x = get_or-map length c x []
 pub same_ports : (old new : Wiring) (x : ℕ) → map length new ≡ map length old → length (ports_of new x) ≡ length (ports_of old x)
 same_ports old new x e = sym (ports_at new x) ∙ ap (λ (l : List ℕ). get_or l x 0) e ∙ ports_at old x
 
-none_some : (x : Option End) (a : End) → x ≡ None → x ≡ Some a → ⊥
+pub none_some : (x : Option End) (a : End) → x ≡ None → x ≡ Some a → ⊥
 none_some x a n s = cc
 
 -- an end with a cable is there

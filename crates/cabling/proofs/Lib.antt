@@ -1,3 +1,6 @@
 pub mod Bits
 pub mod Ends
 pub mod Plugging
+pub mod Growing
+pub mod Near
+pub mod Stripping

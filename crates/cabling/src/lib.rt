@@ -3,6 +3,8 @@
 #![tactic(auto)]
 
 mod cable;
+mod component;
+mod looped;
 mod node_set;
 mod wiring;
 

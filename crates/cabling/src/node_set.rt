@@ -1,5 +1,5 @@
 //! Sets of nodes.
-ghost use Rattle.std.specs.Prelude.{◌≡◌, ◌≢◌, ◌↔◌, ◌+◌, ◌-◌, ◌^◌, ◌<◌, ◌≤◌, ℕ, IsTrue, IfSome, IfNone};
+ghost use Rattle.std.specs.Prelude.{◌≡◌, ◌≢◌, ◌↔◌, ◌+◌, ◌-◌, ◌^◌, ◌<◌, ◌≤◌, ℕ, IsTrue, IfSome, IfNone, ◌⊎◌};
 ghost use Rattle.cabling.specs.NodeSet.{Holds, size_below};
 
 use std::marker::Model;
@@ -71,13 +71,13 @@ impl NodeSet {
         }
     }
 
-    /// Takes a node that is not in the set into it.
+    /// Takes a node into the set.
     pub(crate) fn insert(&mut self, node: u8)
-        requires small { node < 63 }
-        requires fresh { Holds self.old node → ⊥ }
+        requires { node < 63 }
         ensures holds { Holds self.new node }
         ensures others { (other : ℕ) → other ≢ node → (Holds self.new other ↔ Holds self.old other) }
-        ensures value { self.new ≡ self.old + 2 ^ node }
+        ensures value { (Holds self.old node → ⊥) → self.new ≡ self.old + 2 ^ node }
+        ensures small { self.new < 2 ^ 63 }
     {
         self.bits |= 1 << node;
     }
@@ -89,7 +89,38 @@ impl NodeSet {
         ensures gone { Holds self.new node → ⊥ }
         ensures others { (other : ℕ) → other ≢ node → (Holds self.new other ↔ Holds self.old other) }
         ensures value { self.new + 2 ^ node ≡ self.old }
+        ensures small { self.new < 2 ^ 63 }
     {
         self.bits &= !(1 << node);
+    }
+
+    /// The nodes that are in this set or in the other.
+    pub(crate) fn union(self, other: NodeSet) -> NodeSet
+        ensures members { (node : ℕ) → (Holds result node ↔ (Holds self node ⊎ Holds other node)) }
+        ensures small { result < 2 ^ 63 }
+    {
+        NodeSet {
+            bits: self.bits | other.bits,
+        }
+    }
+
+    /// The nodes that are in this set and in the other.
+    pub(crate) fn intersection(self, other: NodeSet) -> NodeSet
+        ensures members { (node : ℕ) → (Holds result node ↔ (Holds self node × Holds other node)) }
+        ensures small { result < 2 ^ 63 }
+    {
+        NodeSet {
+            bits: self.bits & other.bits,
+        }
+    }
+
+    /// The nodes that are in this set and not in the other.
+    pub(crate) fn minus(self, other: NodeSet) -> NodeSet
+        ensures members { (node : ℕ) → (Holds result node ↔ (Holds self node × (Holds other node → ⊥))) }
+        ensures small { result < 2 ^ 63 }
+    {
+        NodeSet {
+            bits: self.bits & !other.bits,
+        }
     }
 }

@@ -126,6 +126,7 @@ impl Cabling {
         requires { node < length self.now }
         ensures value { result.now ≡ ports_of self.now node }
         ensures few { length result.now ≤ 16 }
+        ensures cabling { IsCabling self.now }
     {
         self.nodes[node as usize].as_slice()
     }
