@@ -1,5 +1,5 @@
 -- A core is what is left where nodes with fewer than two cables into the rest were taken away.
-use Rattle.std.proofs.Common.{◌≡◌, ◌≢◌, ℕ, ◌+◌, ◌*◌, ◌^◌, ◌<◌, ◌≤◌, ◌↔◌, ◌⊎◌, inl, inr, Bool, true, false, length, Option, Some, None, sym, subst, ap, ◌∙◌, refl, arith}
+use Rattle.std.proofs.Common.{◌≡◌, ◌≢◌, ℕ, ◌+◌, ◌*◌, ◌^◌, ◌<◌, ◌≤◌, ◌↔◌, ◌⊎◌, inl, inr, Bool, true, false, MatchBool, List, get_or, length, Option, Some, None, sym, subst, ap, ◌∙◌, refl, arith}
 use Rattle.std.specs.Int.{bit_at}
 use Rattle.std.proofs.lemmas.Bool.{cases_eq, cases_lt}
 use Rattle.cabling.specs.declared.cable.End.{End}
@@ -8,7 +8,7 @@ use Rattle.cabling.specs.NodeSet.{Holds, IsWithin}
 use Rattle.cabling.specs.Component.{IsNeighbour}
 use Rattle.cabling.specs.Looped.{LeadsInto, HasTwo, IsLooped, IsCore}
 use Rattle.cabling.proofs.Ends.{plugged, one_other}
-use Rattle.cabling.proofs.Near.{end_at}
+use Rattle.cabling.proofs.Near.{end_at, at_row}
 
 -- ---- counting to two
 
@@ -24,17 +24,17 @@ Counted c set node ports true = OneLeads c set node ports
 Counted c set node ports false = (q : ℕ) → q < ports → LeadsInto c set (end_at node q) → ⊥
 
 pub counted_no : (c : Wiring) (set node port : ℕ) (one : Bool) → (LeadsInto c set (end_at node port) → ⊥) → Counted c set node port one → Counted c set node (port + 1) one
-counted_no c set node port false no before q less leads = elim (cases_lt q port) [
+counted_no c set node port false not_here before = λ q less leads. elim (cases_lt q port) [
   | inl below ↦ before q below leads
-  | inr above ↦ let same : q ≡ port = omega arith in no (subst (λ (p : ℕ). LeadsInto c set (end_at node p)) same leads)
+  | inr above ↦ let same : q ≡ port = omega arith in not_here (subst (λ (p : ℕ). LeadsInto c set (end_at node p)) same leads)
 ]
-counted_no c set node port true no before = record {
+counted_no c set node port true not_here before = record {
   port = before.port;
   there = omega (arith, before.there);
   leads = before.leads;
   only = λ q less leads. elim (cases_lt q port) [
     | inl below ↦ before.only q below leads
-    | inr above ↦ let same : q ≡ port = omega arith in absurd (no (subst (λ (p : ℕ). LeadsInto c set (end_at node p)) same leads))
+    | inr above ↦ let same : q ≡ port = omega arith in absurd (not_here (subst (λ (p : ℕ). LeadsInto c set (end_at node p)) same leads))
   ];
 }
 
@@ -68,6 +68,18 @@ counted_all c set node ports true one all two =
       two.apart,
       one.only two.low (omega (arith, all, port_there c set node two.low two.low_leads)) two.low_leads,
       one.only two.high (omega (arith, all, port_there c set node two.high two.high_leads)) two.high_leads)
+
+-- what the test of one port says
+abbrev pub Tested : ℕ → Option End → Bool → Type 0
+Tested set x r = MatchBool r ((other : End) × (x ≡ Some other) × Holds set other.node) ((other : End) → x ≡ Some other → Holds set other.node → ⊥)
+
+pub leads_if : (c : Wiring) (set node port : ℕ) (row : List (Option End)) (r : Bool) → row ≡ ports_of c node → r ≡ true → Tested set (get_or row port None) r → LeadsInto c set (end_at node port)
+leads_if c set node port row true e is t = (t.0, at_row c row node port (Some t.0) e t.1, t.2)
+leads_if c set node port row false e is t = absurd cc
+
+pub leads_not : (c : Wiring) (set node port : ℕ) (row : List (Option End)) (r : Bool) → row ≡ ports_of c node → r ≡ false → Tested set (get_or row port None) r → LeadsInto c set (end_at node port) → ⊥
+leads_not c set node port row true e is t l = absurd cc
+leads_not c set node port row false e is t l = t l.0 (ap (λ (x : List (Option End)). get_or x port None) e ∙ l.1) l.2
 
 -- ---- what is left
 

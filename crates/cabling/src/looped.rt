@@ -6,7 +6,7 @@ ghost use Rattle.cabling.specs.Looped.{HasTwo, IsCore};
 
 use crate::cable::End;
 use crate::node_set::NodeSet;
-use crate::wiring::Cabling;
+use crate::wiring::{Cabling, cables_are_two_ended};
 
 /// Whether the far end of a port is at a node of the set.
 fn leads_into(far: Option<End>, set: NodeSet) -> bool
@@ -43,6 +43,7 @@ impl Cabling {
         requires { (node : ℕ) → Holds set node → node < length self.now }
         ensures { IsCore self.now set result }
     {
+        cables_are_two_ended(self);
         let mut core = set;
         let mut doubtful = set;
         while let Some(node) = doubtful.least() {
