@@ -4,3 +4,7 @@ pub mod Plugging
 pub mod Growing
 pub mod Near
 pub mod Stripping
+pub mod Cascade
+pub mod Rank
+pub mod Climb
+pub mod Seen

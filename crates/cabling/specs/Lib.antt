@@ -3,3 +3,5 @@ pub mod NodeSet
 pub mod Component
 pub mod Looped
 pub mod Change
+pub mod Sees
+pub mod Walk

@@ -4,10 +4,12 @@
 
 mod cable;
 mod component;
+mod laws;
 mod looped;
 mod node_set;
 mod wiring;
 
 pub use cable::{Cable, CableFault, End};
+pub use laws::trees_have_leaves;
 pub use node_set::NodeSet;
-pub use wiring::{Cabling, OutOfMemory};
+pub use wiring::{Cabling, OutOfMemory, cables_are_two_ended};
