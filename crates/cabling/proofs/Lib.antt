@@ -8,3 +8,4 @@ pub mod Cascade
 pub mod Rank
 pub mod Climb
 pub mod Seen
+pub mod Once

@@ -75,7 +75,7 @@ pub record SlotsSeen (c : Wiring) (label : ℕ → Label) (from : Option ℕ) (p
   pub seen : SeesFrom c label from p row slots
   pub count_is : length (statuses slots) ≡ count
 
-from_or_not : (from : Option ℕ) (p : ℕ) → (from ≡ Some p) ⊎ (from ≢ Some p)
+pub from_or_not : (from : Option ℕ) (p : ℕ) → (from ≡ Some p) ⊎ (from ≢ Some p)
 from_or_not None p = inr (λ e. cc)
 from_or_not (Some q) p = elim (cases_eq q p) [ inl same ↦ inl (ap (λ (n : ℕ). Some n) same) | inr ne ↦ inr (some_apart q p ne) ]
 
