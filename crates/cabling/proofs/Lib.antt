@@ -9,3 +9,6 @@ pub mod Rank
 pub mod Climb
 pub mod Seen
 pub mod Once
+pub mod Counting
+pub mod Small
+pub mod Waiting

@@ -5,3 +5,4 @@ pub mod Looped
 pub mod Change
 pub mod Sees
 pub mod Walk
+pub mod Visits

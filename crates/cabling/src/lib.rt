@@ -7,6 +7,7 @@ mod component;
 mod laws;
 mod looped;
 mod node_set;
+mod visits;
 mod wiring;
 
 pub use cable::{Cable, CableFault, End};

@@ -6,6 +6,8 @@ use Rattle.cabling.proofs.Bits.{below}
 use Rattle.cabling.proofs.Cascade.{Weak, weak_or_all}
 use Rattle.cabling.proofs.Climb as climb
 use Rattle.cabling.proofs.Seen as seen
+use Rattle.cabling.proofs.Small as small
+use Rattle.cabling.proofs.Waiting as waiting
 use Rattle.cabling.proofs.Once as once
 use Rattle.cabling.specs.Walk as walk
 use Rattle.cabling.proofs.laws.trees_have_leaves.Goals as goal
