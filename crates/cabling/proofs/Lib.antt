@@ -12,3 +12,4 @@ pub mod Once
 pub mod Counting
 pub mod Small
 pub mod Waiting
+pub mod Cores

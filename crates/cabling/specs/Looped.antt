@@ -3,6 +3,7 @@ use Rattle.std.specs.Prelude.{◌≡◌, ℕ, ◌<◌, ◌↔◌, Some}
 use Rattle.cabling.specs.declared.cable.End.{End}
 use Rattle.cabling.specs.Wiring.{Wiring, far}
 use Rattle.cabling.specs.NodeSet.{Holds, IsWithin}
+use Rattle.cabling.specs.Component.{IsComponent}
 
 -- the cable at this end leads to a node of the set
 abbrev pub LeadsInto : Wiring → ℕ → End → Type 0
@@ -23,3 +24,9 @@ IsLooped c set = (node : ℕ) → Holds set node → HasTwo c set node
 -- the core of a set: the union of all looped sets inside it
 abbrev pub IsCore : Wiring → ℕ → ℕ → Type 0
 IsCore c set core = (node : ℕ) → Holds core node ↔ ((part : ℕ) × IsWithin part set × IsLooped c part × Holds part node)
+
+-- the core of the component of a node
+pub record IsCoreOf (c : Wiring) (node core : ℕ) : Type 0 where
+  pub component : ℕ
+  pub of_node : IsComponent c node component
+  pub is : IsCore c component core

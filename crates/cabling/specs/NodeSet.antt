@@ -13,3 +13,6 @@ IsWithin small large = (node : ℕ) → Holds small node → Holds large node
 abbrev pub size_below : ℕ → ℕ → ℕ
 size_below set zero = 0
 size_below set (suc node) = size_below set node + bit_at set node
+
+abbrev pub IsEmpty : ℕ → Type 0
+IsEmpty set = (node : ℕ) → Holds set node → ⊥

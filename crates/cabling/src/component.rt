@@ -27,7 +27,9 @@ impl Cabling {
     /// The node exists.
     pub fn component(&self, node: u8) -> NodeSet
         requires { node < length self.now }
-        ensures { IsComponent self.now node result }
+        ensures component { IsComponent self.now node result }
+        ensures exist { (other : ℕ) → Holds result other → other < length self.now }
+        ensures small { result < 2 ^ 63 }
     {
         cables_are_two_ended(self);
         let mut done = NodeSet::new();

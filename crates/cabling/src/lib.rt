@@ -8,9 +8,11 @@ mod laws;
 mod looped;
 mod node_set;
 mod visits;
+mod walk;
 mod wiring;
 
 pub use cable::{Cable, CableFault, End};
 pub use laws::trees_have_leaves;
 pub use node_set::NodeSet;
+pub use walk::{Cyclic, Walk};
 pub use wiring::{Cabling, OutOfMemory, cables_are_two_ended};

@@ -1,6 +1,6 @@
 //! Sets of nodes.
 ghost use Rattle.std.specs.Prelude.{◌≡◌, ◌≢◌, ◌↔◌, ◌+◌, ◌-◌, ◌^◌, ◌<◌, ◌≤◌, ℕ, IsTrue, IfSome, IfNone, ◌⊎◌};
-ghost use Rattle.cabling.specs.NodeSet.{Holds, size_below};
+ghost use Rattle.cabling.specs.NodeSet.{Holds, IsEmpty, size_below};
 
 use std::marker::Model;
 
@@ -52,7 +52,7 @@ impl NodeSet {
 
     /// Whether no node is in the set.
     pub fn is_empty(&self) -> bool
-        ensures { IsTrue result ↔ ((node : ℕ) → Holds self.now node → ⊥) }
+        ensures { IsTrue result ↔ IsEmpty self.now }
     {
         self.bits == 0
     }
@@ -62,7 +62,7 @@ impl NodeSet {
         ensures holds { IfSome result (λ node. Holds self.now node) }
         ensures small { IfSome result (λ node. node < 63) }
         ensures lowest { IfSome result (λ node. (other : ℕ) → Holds self.now other → node ≤ other) }
-        ensures none { IfNone result ((node : ℕ) → Holds self.now node → ⊥) }
+        ensures none { IfNone result (IsEmpty self.now) }
     {
         if self.bits == 0 {
             None

@@ -6,7 +6,7 @@ ghost use Rattle.cabling.specs.Sees.{Sees};
 ghost use Rattle.cabling.specs.Visits.{visits, onward, by_port, at_root, SmallTree};
 
 use crate::cable::End;
-use crate::wiring::Cabling;
+use crate::wiring::{Cabling, cables_are_two_ended};
 use arrayvec::ArrayVec;
 use std::marker::Model;
 
@@ -115,9 +115,11 @@ impl Cabling {
     /// The visits of the tree that is seen from a node, which exists and is no larger than a bus may
     /// be: of each node after those of the nodes below it, by rising port.
     pub(crate) fn visits(&self, root: u8) -> VisitList
-        requires { (label : ℕ → Label) → SmallTree self.now label root }
+        requires there { root < length self.now }
+        requires small { (label : ℕ → Label) → SmallTree self.now label root }
         ensures { (label : ℕ → Label) (tree : Tree) → Sees self.now label root None tree → result ≡ visits self.now (at_root root) tree }
     {
+        cables_are_two_ended(self);
         let mut done = VisitList::new();
         let mut waiting = VisitList::new();
         waiting.push(Visit {

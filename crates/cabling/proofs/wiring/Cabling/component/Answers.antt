@@ -1,4 +1,4 @@
-use Rattle.std.proofs.Common.{◌≡◌, ◌<◌, ◌≤◌, ◌+◌, ◌^◌, sym, ◌∙◌, arith, IsNone, ℕ}
+use Rattle.std.proofs.Common.{◌≡◌, ◌<◌, ◌≤◌, ◌+◌, ◌^◌, sym, ◌∙◌, arith, ℕ, inl}
 use Rattle.cabling.specs.NodeSet.{Holds}
 use Rattle.cabling.proofs.Bits.{more_than}
 use Rattle.cabling.proofs.Growing.{Grows, growing_first, growing_next, growing_last}
@@ -24,5 +24,8 @@ loop-next-preserved c = record {
 pub loop-next-smaller : goal.loop-next-smaller
 loop-next-smaller c = more_than c.loop-next.done c.insert-in-Some.new.self c.in-Some.next c.insert-in-Some.ensures.small (c.insert-in-Some.ensures.value (c.loop-next.invariant.growing.apart c.in-Some.next c.in-Some.ensures.holds))
 
-pub returns : goal.returns
-returns c = growing_last c.args.self.now c.args.node c.loop-next.done c.loop-next.waiting c.loop-next.invariant.growing c.in_default.ensures.none
+pub returns-clause-component : goal.returns-clause-component
+returns-clause-component c = growing_last c.args.self.now c.args.node c.loop-next.done c.loop-next.waiting c.loop-next.invariant.growing c.in_default.ensures.none
+
+pub returns-clause-exist : goal.returns-clause-exist
+returns-clause-exist c = λ x h. c.loop-next.invariant.growing.exist x (inl h)
