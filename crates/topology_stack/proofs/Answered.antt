@@ -1,15 +1,14 @@
 -- What is answered for a list, once its nodes or its fault are known.
-use Rattle.std.proofs.Common.{◌≡◌, ℕ, ◌<◌, ◌≤◌, List, length, Result, Ok, Err, sym, ap, subst, ◌∙◌, arith}
+use Rattle.std.proofs.Common.{◌≡◌, ℕ, ◌≤◌, List, length, Result, Ok, Err, sym, ap, subst, ◌∙◌, arith}
 use Rattle.self_id.specs.Node.{Node}
 use Rattle.topology_stack.specs.declared.fault.TreeFault.{TreeFault}
 use Rattle.topology_stack.specs.declared.fault.TreeStop.{TreeStop}
 use Rattle.topology_stack.specs.declared.fault.TreeStop.TheVariants.{Fault, Memory}
 use Rattle.topology_stack.specs.Tree.{Tree, walk, IsBusTree, emits}
 use Rattle.topology_stack.specs.Code.{tree_of, tree_of-walk}
-use Rattle.topology_stack.specs.Stored.{Stored}
 use Rattle.topology_stack.specs.Refused.{Refused}
 use Rattle.topology_stack.specs.Answer.{IfFault, UnlessMemory}
-use Rattle.topology_stack.proofs.Laws.{one_tree, no_fault, one_fault, some_node}
+use Rattle.topology_stack.proofs.Laws.{one_tree, no_fault, one_fault}
 
 abbrev err : {A : Type 0} → TreeFault → Result A TreeStop
 err f = Err (Fault f)

@@ -1,7 +1,7 @@
 -- Each list that a bus tree emits is read as its walk, each other list has the one fault that is answered, and no list has two trees.
-use Rattle.std.proofs.Common.{◌≡◌, ℕ, zero, suc, ◌+◌, ◌-◌, ◌*◌, ◌<◌, ◌≤◌, Bool, true, false, cond, eqb, ltb, ◌&&◌, List, [], ◌∷◌, ◌++◌, length, drop, Result, Ok, Err, refl, sym, ap, subst, ◌∙◌, append_assoc, arith, length-append}
-use Rattle.std.proofs.lemmas.List.{append-nil, drop_at}
-use Rattle.std.proofs.lemmas.Bool.{eqb-true, ltb-true, ltb-false, le-ltb, lt-ltb}
+use Rattle.std.proofs.Common.{◌≡◌, ℕ, suc, ◌+◌, ◌-◌, ◌<◌, ◌≤◌, true, false, eqb, ltb, ◌&&◌, List, [], ◌∷◌, ◌++◌, length, Ok, Err, refl, sym, ap, ◌∙◌, append_assoc, arith, length-append}
+use Rattle.std.proofs.lemmas.List.{append-nil}
+use Rattle.std.proofs.lemmas.Bool.{le-ltb, lt-ltb}
 use Rattle.self_id.specs.declared.fault.GroupFault.{GroupFault}
 use Rattle.topology_stack.specs.declared.fault.TreeFault.{TreeFault}
 use Rattle.topology_stack.specs.declared.fault.TreeFault.TheVariants.{Group, Empty, TooFewChildren, TreesLeft, AfterRoot, NoRoot, TooMany}
@@ -9,14 +9,13 @@ use Rattle.self_id.specs.Node.{Node, IsNode, ups, downs}
 use Rattle.self_id.specs.Group.{group}
 use Rattle.self_id.specs.Reading.{read_at}
 use Rattle.self_id.proofs.Laws.{read_at-group, read_at-refused, length-group}
-use Rattle.topology_stack.specs.Tree.{Label, Tree, branch, Slots, statuses, node_of, walk, walk_below, IsPart, AreParts, IsWhole, IsBusTree, groups, emits}
-use Rattle.topology_stack.specs.Code.{tree_of, tree_of-walk}
-use Rattle.topology_stack.specs.Forest.{AreWaiting, walks, Forest}
-use Rattle.topology_stack.specs.Refused.{GoesOn, GroupNext, Refused}
-use Rattle.topology_stack.proofs.ReadFrom.{in_group, ended, unless_ended, read_from, read}
-use Rattle.topology_stack.proofs.Loop.{next, one_more}
+use Rattle.topology_stack.specs.Tree.{Tree, branch, statuses, node_of, walk, walk_below, IsBusTree, groups, emits}
+use Rattle.topology_stack.specs.Forest.{walks, Forest}
+use Rattle.topology_stack.specs.Refused.{Refused}
+use Rattle.topology_stack.proofs.ReadFrom.{read_from, read}
+use Rattle.topology_stack.proofs.Loop.{next, one_more, after_root, full, end_read, ended_unrooted}
 use Rattle.topology_stack.proofs.Stack.{groups-append, groups-snoc}
-use Rattle.topology_stack.proofs.Run.{after, step, run_parts, run_trees}
+use Rattle.topology_stack.proofs.Run.{step, run_parts, run_trees}
 
 -- ---- bus trees
 
@@ -51,18 +50,8 @@ bus_read (branch a s) rest bus =
     ∙ root_step room (0 + length (groups 0 (walk_below s))) (0 + downs (statuses s)) n (walk_below s) rest bus.whole.0 (omega (arith, bus.small, len)) (omega arith) bus.whole.1
     ∙ ap (λ (k : ℕ). read_from room k 1 true (walk_below s ++ n ∷ []) rest) place
 
-root_ends : (room at found : ℕ) (ns : List Node) → read_from room at found true ns [] ≡ Ok ns
-unfolding read_from
-root_ends zero at found ns = refl
-root_ends (suc room) at found ns = refl
-
-root_goes_on : (room at found q : ℕ) (ns : List Node) (qs : List ℕ) → read_from room at found true ns (q ∷ qs) ≡ Err (AfterRoot at)
-unfolding read_from
-root_goes_on zero at found q ns qs = refl
-root_goes_on (suc room) at found q ns qs = refl
-
 pub emits_again : (t : Tree) → IsBusTree t → read (emits t) ≡ Ok (walk t)
-emits_again t bus = ap read (sym (append-nil (emits t))) ∙ bus_read t [] bus ∙ root_ends (63 - length (walk t)) (length (emits t)) 1 (walk t)
+emits_again t bus = ap read (sym (append-nil (emits t))) ∙ bus_read t [] bus ∙ end_read (63 - length (walk t)) (length (emits t)) 1 true (walk t)
 
 -- ---- faults
 
@@ -74,18 +63,6 @@ forest_read ts room l front rest forest parts full =
     ∙ ap (λ (k : ℕ). read_from k 0 0 false [] (groups 0 (walks ts) ++ rest)) whole
     ∙ run_trees ts room rest forest.waiting (omega (arith, full))
     ∙ ap (λ (k : ℕ). read_from room k (length ts) false (walks ts) rest) place
-
-no_root : (room at found : ℕ) (ns : List Node) → 0 < length ns → read_from room at found false ns [] ≡ Err (NoRoot at)
-unfolding read_from
-no_root zero at found [] lt = absurd (omega arith)
-no_root zero at found (n ∷ ns) lt = refl
-no_root (suc room) at found [] lt = absurd (omega arith)
-no_root (suc room) at found (n ∷ ns) lt = refl
-
-too_many : (at found : ℕ) (ns : List Node) (rest : List ℕ) → 0 < length rest → read_from 0 at found false ns rest ≡ Err (TooMany at)
-unfolding read_from
-too_many at found ns [] lt = absurd (omega arith)
-too_many at found ns (q ∷ qs) lt = refl
 
 group_fault : (room at found : ℕ) (ns : List Node) (rest : List ℕ) (f : GroupFault) → 0 < length rest → read_at at (length ns) rest ≡ Err f → read_from (1 + room) at found false ns rest ≡ Err (Group f)
 group_fault room at found ns rest f lt e = let k : 1 + room ≡ suc room = omega arith in rw k (one_more room at found ns rest lt ∙ rw e refl)
@@ -130,11 +107,10 @@ refused_again l (TreesLeft at found wanted) (ts, n, k, no_up, left) =
     forest_read ts (1 + (62 - length (walks ts))) l k.front (group n (length (walks ts)) ++ k.rest) g.forest g.parts room
     ∙ trees_left (62 - length (walks ts)) (length k.front) (length ts) n (walks ts) k.rest k.is_node g.few (omega (arith, k.found_is, k.wanted_is)) no_up
     ∙ rw (g.place, k.found_is, k.wanted_is) refl
-refused_again l (AfterRoot at) (t, [], bus, parts, more, place) = absurd (omega arith)
-refused_again l (AfterRoot at) (t, q ∷ qs, bus, parts, more, place) =
-    ap read parts ∙ bus_read t (q ∷ qs) bus ∙ root_goes_on (63 - length (walk t)) (length (emits t)) 1 q (walk t) qs ∙ rw place refl
+refused_again l (AfterRoot at) (t, rest, bus, parts, more, place) =
+    ap read parts ∙ bus_read t rest bus ∙ after_root (63 - length (walk t)) (length (emits t)) 1 (walk t) rest more ∙ rw place refl
 refused_again l (NoRoot at) (ts, forest, some, few, place) =
     let room : 63 - length (walks ts) + length (walks ts) ≡ 63 = omega arith in
-    forest_read ts (63 - length (walks ts)) l l [] forest (sym (append-nil l)) room ∙ no_root (63 - length (walks ts)) (length l) (length ts) (walks ts) some ∙ rw place refl
-refused_again l (TooMany at) (ts, front, rest, g, full) =
-    forest_read ts 0 l front rest g.forest g.parts (omega arith) ∙ too_many (length front) (length ts) (walks ts) rest g.more ∙ rw g.place refl
+    forest_read ts (63 - length (walks ts)) l l [] forest (sym (append-nil l)) room ∙ end_read (63 - length (walks ts)) (length l) (length ts) false (walks ts) ∙ ended_unrooted (length l) false (walks ts) refl some ∙ rw place refl
+refused_again l (TooMany at) (ts, front, rest, g, count) =
+    forest_read ts 0 l front rest g.forest g.parts (omega arith) ∙ full (length front) (length ts) (walks ts) rest g.more ∙ rw g.place refl

@@ -1,14 +1,14 @@
 -- What crates above use: no list has two trees, a tree and a fault, or two faults, and each list has
 -- one of them; and what a bus tree's walk is like.
-use Rattle.std.proofs.Common.{◌≡◌, ℕ, zero, suc, ◌<◌, ◌≤◌, ◌⊎◌, inl, inr, List, [], ◌∷◌, ◌++◌, length, Result, Ok, Err, refl, sym, ap, subst, ◌∙◌, arith, length-append}
+use Rattle.std.proofs.Common.{◌≡◌, ℕ, zero, suc, ◌<◌, ◌⊎◌, inl, inr, List, [], ◌∷◌, ◌++◌, length, Result, Ok, Err, sym, ap, subst, ◌∙◌, arith, length-append}
 use Rattle.topology_stack.specs.declared.fault.TreeFault.{TreeFault}
 use Rattle.std.specs.Prelude.{slice_get, Some}
 use Rattle.self_id.specs.Node.{Node, IsNode}
-use Rattle.topology_stack.specs.Tree.{Label, Tree, branch, Slots, no_more, absent, unplugged, up, down, walk_below, node_of, walk, IsPart, AreParts, IsBusTree, emits}
+use Rattle.topology_stack.specs.Tree.{Tree, branch, Slots, no_more, absent, unplugged, up, down, walk_below, node_of, walk, IsPart, AreParts, IsBusTree, emits}
 use Rattle.topology_stack.specs.Code.{tree_of, tree_of-walk}
 use Rattle.topology_stack.specs.Refused.{Refused}
 use Rattle.topology_stack.proofs.ReadFrom.{read}
-use Rattle.topology_stack.proofs.Sound.{Explained, Emitted, read_sound}
+use Rattle.topology_stack.proofs.Sound.{Explained, read_sound}
 use Rattle.topology_stack.proofs.Exact.{emits_again, refused_again}
 
 explained : (l : List ℕ) (r : Result (List Node) TreeFault) → read l ≡ r → Explained l r

@@ -26,7 +26,7 @@ goes_on : (at : ℕ) (rooted : Bool) (ns : List Node) (rest : List ℕ) (more : 
 goes_on at rooted ns [] more lt = absurd (omega arith)
 goes_on at rooted ns (q ∷ qs) more lt = refl
 
-after_root : (room at found : ℕ) (ns : List Node) (rest : List ℕ) → 0 < length rest → read_from room at found true ns rest ≡ Err (AfterRoot at)
+pub after_root : (room at found : ℕ) (ns : List Node) (rest : List ℕ) → 0 < length rest → read_from room at found true ns rest ≡ Err (AfterRoot at)
 unfolding read_from
 after_root zero at found ns rest lt = goes_on at true ns rest _ lt
 after_root (suc room) at found ns rest lt = goes_on at true ns rest _ lt
@@ -34,7 +34,7 @@ after_root (suc room) at found ns rest lt = goes_on at true ns rest _ lt
 pub is_after_root : (quads : List ℕ) (at found : ℕ) (rooted : Bool) (ns : List Node) → at < length quads → rooted ≡ true → Reads quads at found rooted ns → read quads ≡ Err (AfterRoot at)
 is_after_root quads at found rooted ns lt is h = sym h ∙ rw is (after_root (63 - length ns) at found ns (drop at quads) (omega (arith, length-drop at quads)))
 
-full : (at found : ℕ) (ns : List Node) (rest : List ℕ) → 0 < length rest → read_from 0 at found false ns rest ≡ Err (TooMany at)
+pub full : (at found : ℕ) (ns : List Node) (rest : List ℕ) → 0 < length rest → read_from 0 at found false ns rest ≡ Err (TooMany at)
 unfolding read_from
 full at found ns rest lt = goes_on at false ns rest _ lt
 
@@ -78,7 +78,7 @@ reads_on quads at found rooted ns n lt is room h e enough test =
     let rest : drop (at + length (group n (length ns))) quads ≡ drop (length (group n (length ns))) (drop at quads) = sym (drop-drop (length (group n (length ns))) at quads) in
     rw (left, rest) (sym (rw (e, le-ltb _ _ enough, test) refl) ∙ unrolled quads at found rooted ns lt is room h)
 
-end_read : (room at found : ℕ) (rooted : Bool) (ns : List Node) → read_from room at found rooted ns [] ≡ ended at rooted ns
+pub end_read : (room at found : ℕ) (rooted : Bool) (ns : List Node) → read_from room at found rooted ns [] ≡ ended at rooted ns
 unfolding read_from
 end_read zero at found rooted ns = refl
 end_read (suc room) at found rooted ns = refl

@@ -1,18 +1,15 @@
 -- What trees emit is read as their walks.
-use Rattle.std.proofs.Common.{◌≡◌, ℕ, zero, suc, ◌+◌, ◌-◌, ◌*◌, ◌<◌, ◌≤◌, Bool, true, false, cond, eqb, ltb, ◌&&◌, List, [], ◌∷◌, ◌++◌, length, drop, Result, Ok, Err, refl, sym, ap, ◌∙◌, append_assoc, arith, length-append, inl, inr, ◌⊎◌}
+use Rattle.std.proofs.Common.{◌≡◌, ℕ, suc, ◌+◌, ◌-◌, ◌<◌, ◌≤◌, false, eqb, ltb, ◌&&◌, List, [], ◌∷◌, ◌++◌, length, Result, refl, sym, ap, ◌∙◌, append_assoc, arith, length-append}
 use Rattle.std.proofs.lemmas.List.{append-nil, drop_at}
-use Rattle.std.proofs.lemmas.Bool.{eqb-true, le-ltb, ltb-true}
-use Rattle.self_id.specs.declared.node.Attrs.{Attrs}
+use Rattle.std.proofs.lemmas.Bool.{le-ltb}
 use Rattle.topology_stack.specs.declared.fault.TreeFault.{TreeFault}
-use Rattle.topology_stack.specs.declared.fault.TreeFault.TheVariants.{Group, Empty, TooFewChildren, TreesLeft, AfterRoot, NoRoot, TooMany}
 use Rattle.self_id.specs.Node.{Node, IsNode, ups, downs}
 use Rattle.self_id.specs.Group.{group}
-use Rattle.self_id.specs.Reading.{read_at}
 use Rattle.self_id.proofs.Laws.{read_at-group, length-group}
-use Rattle.topology_stack.specs.Tree.{Label, Tree, branch, Slots, no_more, absent, unplugged, up, down, statuses, node_of, walk, walk_below, IsPart, AreParts, IsWhole, IsBusTree, groups, emits}
-use Rattle.topology_stack.proofs.ReadFrom.{in_group, ended, unless_ended, read_from, read}
+use Rattle.topology_stack.specs.Tree.{Tree, branch, Slots, no_more, absent, unplugged, up, down, statuses, node_of, walk, walk_below, IsPart, AreParts, groups}
+use Rattle.topology_stack.proofs.ReadFrom.{read_from}
 use Rattle.topology_stack.specs.Forest.{AreWaiting, walks}
-use Rattle.topology_stack.proofs.Loop.{next, one_more}
+use Rattle.topology_stack.proofs.Loop.{one_more}
 use Rattle.topology_stack.proofs.Stack.{groups-append}
 
 -- one more node, not behind a root

@@ -2,7 +2,6 @@
 use Rattle.std.proofs.Common.{◌≡◌, ℕ, zero, suc, ◌+◌, ◌-◌, ◌<◌, ◌≤◌, Bool, true, false, cond, eqb, ltb, ◌&&◌, List, [], ◌∷◌, ◌++◌, length, drop, Result, Ok, Err, refl, sym, ap, subst, ◌∙◌, append_assoc, arith, length-append}
 use Rattle.std.proofs.lemmas.List.{append-nil}
 use Rattle.std.proofs.lemmas.Bool.{eqb-true, ltb-true, ltb-false}
-use Rattle.self_id.specs.declared.node.Attrs.{Attrs}
 use Rattle.self_id.specs.declared.node.PortStatus.{PortStatus}
 use Rattle.self_id.specs.declared.fault.GroupFault.{GroupFault}
 use Rattle.self_id.specs.Node.{Node, IsNode, ups, downs}
@@ -10,12 +9,12 @@ use Rattle.self_id.specs.Group.{group}
 use Rattle.self_id.specs.Reading.{read_at}
 use Rattle.self_id.proofs.Laws.{group-read_at, refused-read_at, length-group}
 use Rattle.topology_stack.specs.declared.fault.TreeFault.{TreeFault}
-use Rattle.topology_stack.specs.declared.fault.TreeFault.TheVariants.{Group, Empty, TooFewChildren, TreesLeft, AfterRoot, NoRoot, TooMany}
-use Rattle.topology_stack.specs.Tree.{Label, Tree, branch, Slots, statuses, node_of, walk, walk_below, IsPart, AreParts, IsWhole, IsBusTree, groups, emits}
-use Rattle.topology_stack.specs.Code.{label_of, build, with_parts}
-use Rattle.topology_stack.specs.Forest.{AreWaiting, walks, Forest}
+use Rattle.topology_stack.specs.declared.fault.TreeFault.TheVariants.{Group, TooFewChildren, TreesLeft}
+use Rattle.topology_stack.specs.Tree.{Label, Tree, branch, Slots, node_of, walk, walk_below, AreParts, IsWhole, IsBusTree, groups, emits}
+use Rattle.topology_stack.specs.Code.{label_of, build}
+use Rattle.topology_stack.specs.Forest.{AreWaiting, walks}
 use Rattle.topology_stack.specs.Refused.{GoesOn, GroupNext, Refused}
-use Rattle.topology_stack.proofs.ReadFrom.{in_group, ended, unless_ended, read_from, read}
+use Rattle.topology_stack.proofs.ReadFrom.{in_group, ended, read_from, read}
 use Rattle.topology_stack.proofs.Stack.{Builds, built, walks-with_parts, AreWaiting-with_parts, groups-snoc}
 
 -- a bus tree emits the list, and the nodes are its walk

@@ -1,11 +1,11 @@
 -- Slots with their children, and the latest trees of a stack.
-use Rattle.std.proofs.Common.{◌≡◌, ℕ, zero, suc, ◌+◌, ◌*◌, ◌<◌, ◌≤◌, List, [], ◌∷◌, ◌++◌, length, refl, sym, ap, ◌∙◌, append_assoc, arith, length-append}
+use Rattle.std.proofs.Common.{◌≡◌, ℕ, suc, ◌+◌, ◌≤◌, List, [], ◌∷◌, ◌++◌, length, refl, sym, ap, ◌∙◌, append_assoc, arith}
 use Rattle.std.proofs.lemmas.List.{append-nil}
 use Rattle.self_id.specs.declared.node.PortStatus.{PortStatus}
 use Rattle.self_id.specs.declared.node.PortStatus.TheVariants.{Absent, Unplugged, Up, Down}
-use Rattle.self_id.specs.Node.{Node, IsNode, ups, downs}
+use Rattle.self_id.specs.Node.{Node, downs}
 use Rattle.self_id.specs.Group.{group}
-use Rattle.topology_stack.specs.Tree.{Tree, branch, Slots, no_more, absent, unplugged, up, down, statuses, walk, walk_below, IsPart, AreParts, groups}
+use Rattle.topology_stack.specs.Tree.{Tree, Slots, no_more, absent, unplugged, up, down, statuses, walk, walk_below, AreParts, groups}
 use Rattle.topology_stack.specs.Code.{with_child, build, with_parts}
 use Rattle.topology_stack.specs.Forest.{AreWaiting, walks}
 

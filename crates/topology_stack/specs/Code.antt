@@ -1,5 +1,5 @@
 -- A tree is stored as its walk, from which it is built again.
-use Rattle.std.specs.Prelude.{◌≡◌, ℕ, List, [], ◌∷◌, ◌++◌, Bool, false, refl}
+use Rattle.std.specs.Prelude.{◌≡◌, List, [], ◌∷◌, ◌++◌, false, refl}
 use Rattle.std.specs.Coded.{Coded, code_by, coded_list}
 use Rattle.std.proofs.Common.{ap, ◌∙◌}
 use Rattle.self_id.specs.declared.node.PortStatus.{PortStatus}

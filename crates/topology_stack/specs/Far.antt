@@ -2,7 +2,7 @@
 use Rattle.std.specs.Prelude.{◌≡◌, ℕ, ◌+◌, ◌-◌, ◌⊎◌, IsSomeAnd, Option, Some, None, List, [], ◌∷◌, ◌++◌, length, slice_get}
 use Rattle.self_id.specs.declared.node.PortStatus.{PortStatus}
 use Rattle.self_id.specs.declared.node.PortStatus.TheVariants.{Absent, Unplugged}
-use Rattle.topology_stack.specs.Tree.{Label, Tree, branch, Slots, no_more, absent, unplugged, up, down, walk, walk_below}
+use Rattle.topology_stack.specs.Tree.{Tree, branch, Slots, no_more, absent, unplugged, up, down, walk, walk_below}
 
 -- The ends of a node's slots in rising order, where its parent has this ID and the IDs of the trees
 -- below begin at `from`. The outermost node of a tree has the last ID of it.
@@ -29,15 +29,16 @@ abbrev mutual
 abbrev pub ends : Tree → List (List (Option ℕ))
 ends t = ends_from 0 63 t
 
--- at the other end of this slot of the node with this ID is this node, or none
+-- what stands at the other end of this slot of the node with this ID: a node's ID, or nothing
 pub record Far (t : Tree) (id slot : ℕ) (far : Option ℕ) : Type 0 where
   pub of_node : List (Option ℕ)
   pub node : slice_get (ends t) id ≡ Some of_node
   pub slot_end : slice_get of_node slot ≡ Some far
 
--- this slot of the node with this ID leads nowhere
+-- a slot with this status leads nowhere
 abbrev pub IsLoose : PortStatus → Type 0
 IsLoose status = (status ≡ Absent) ⊎ (status ≡ Unplugged)
 
+-- so does this slot of the node with this ID
 abbrev pub IsLooseAt : Tree → ℕ → ℕ → Type 0
 IsLooseAt t id slot = IsSomeAnd (slice_get (walk t) id) (λ n. IsSomeAnd (slice_get n.ports slot) IsLoose)

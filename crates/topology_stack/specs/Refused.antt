@@ -1,5 +1,5 @@
 -- Exactly where a list is no bus tree's, and by which fault.
-use Rattle.std.specs.Prelude.{◌≡◌, ℕ, ◌<◌, ◌≤◌, List, [], ◌∷◌, ◌++◌, length}
+use Rattle.std.specs.Prelude.{◌≡◌, ℕ, ◌<◌, ◌≤◌, List, [], ◌++◌, length}
 use Rattle.self_id.specs.Node.{Node, IsNode, ups, downs}
 use Rattle.self_id.specs.Group.{group}
 use Rattle.self_id.specs.Refused.{GroupRefused}
@@ -27,10 +27,17 @@ pub record GroupNext (l : List ℕ) (ts : List Tree) (n : Node) (at found wanted
 
 -- Which fault a list has. `at` is a place in it, counted in quadlets.
 abbrev pub Refused : List ℕ → TreeFault → Type 0
+-- the list is empty
 Refused l Empty = l ≡ []
+-- it ends, at its length, where trees wait for a parent
 Refused l (NoRoot at) = (ts : List Tree) × Forest ts l × (0 < length (walks ts)) × (length (walks ts) ≤ 63) × (at ≡ length l)
+-- it goes on after all that a bus tree emits
 Refused l (AfterRoot at) = (t : Tree) × (rest : List ℕ) × IsBusTree t × (l ≡ emits t ++ rest) × (0 < length rest) × (at ≡ length (emits t))
+-- it goes on after the groups of 63 nodes
 Refused l (TooMany at) = (ts : List Tree) × (front rest : List ℕ) × GoesOn l ts front rest at 63 × (length (walks ts) ≡ 63)
+-- it goes on, and no group of the node with the next ID stands there
 Refused l (Group f) = (ts : List Tree) × (front rest : List ℕ) × (at : ℕ) × GoesOn l ts front rest at 62 × GroupRefused at (length (walks ts)) rest f
+-- the next node wants more children than there are trees that wait
 Refused l (TooFewChildren at found wanted) = (ts : List Tree) × (n : Node) × GroupNext l ts n at found wanted × (found < wanted)
+-- the next node is a root, and wants fewer children than there are trees that wait
 Refused l (TreesLeft at found wanted) = (ts : List Tree) × (n : Node) × GroupNext l ts n at found wanted × (ups n.ports ≡ 0) × (wanted < found)

@@ -2,6 +2,7 @@
 ghost use Rattle.std.specs.Prelude.{◌≡◌, ◌≤◌, length, IfOk};
 ghost use Rattle.topology_stack.specs.Tree.{Tree, IsBusTree, walk};
 ghost use Rattle.topology_stack.specs.Stored.{Stored};
+ghost use Rattle.topology_stack.specs.Links.{set_all};
 
 use crate::reading::MAX_NODES;
 use crate::slots::count_down;
@@ -43,8 +44,6 @@ impl KidList {
         self.items.as_slice()
     }
 }
-
-ghost use Rattle.topology_stack.specs.Links.{set_all};
 
 /// Gives these nodes their parent.
 fn adopt(parents: &mut [u8], kids: &[u8], me: u8)

@@ -1,4 +1,11 @@
 //! The bus tree.
+ghost use Rattle.std.specs.Prelude.{◌≡◌, ◌↔◌, ◌+◌, ◌<◌, ◌≤◌, ℕ, List, length, slice_get, Some, Ok, Err, IfOk, IfSome, IsNone};
+ghost use Rattle.topology_stack.specs.Tree.{Tree, IsBusTree, emits, walk};
+ghost use Rattle.topology_stack.specs.Refused.{Refused};
+ghost use Rattle.topology_stack.specs.Far.{Far, IsLooseAt};
+ghost use Rattle.topology_stack.specs.Stored.{parents_from, children_from};
+ghost use Rattle.topology_stack.specs.Answer.{IfFault, UnlessMemory};
+ghost use Rattle.topology_stack.specs.declared.fault.TreeFault.{TreeFault};
 
 use crate::fault::TreeStop;
 use crate::links::{KidList, links_of};
@@ -9,7 +16,9 @@ use self_id::SelfId;
 use std::alloc::Global;
 use std::marker::Model;
 
-/// The tree of a bus: nodes by ID, each child before its parent.
+/// The tree of a bus: 1 to 63 nodes by ID, each child before its parent. The ID of a node is its
+/// place in the order of self identify (IEEE Std 1394-1995). In a contract a `BusTree` is a `Tree`,
+/// and always one of the form `IsBusTree`.
 #[derive(Debug, Drop)]
 pub struct BusTree {
     nodes: Vec<SelfId>,
@@ -30,14 +39,6 @@ impl Model for BusTree {
 
     ghost invariant = { λ b. Stored (tree_of b.nodes.items) b.nodes.items b.parents.items b.children.items };
 }
-
-ghost use Rattle.std.specs.Prelude.{◌≡◌, ◌↔◌, ◌+◌, ◌<◌, ◌≤◌, ℕ, List, length, slice_get, Some, Ok, Err, IfOk, IfSome, IsNone};
-ghost use Rattle.topology_stack.specs.Tree.{Tree, IsBusTree, emits, walk};
-ghost use Rattle.topology_stack.specs.Refused.{Refused};
-ghost use Rattle.topology_stack.specs.Far.{Far, IsLooseAt};
-ghost use Rattle.topology_stack.specs.Stored.{parents_from, children_from};
-ghost use Rattle.topology_stack.specs.Answer.{IfFault, UnlessMemory};
-ghost use Rattle.topology_stack.specs.declared.fault.TreeFault.{TreeFault};
 
 /// The bus tree whose nodes emit `quads`, the first quadlets of the self-ID packets of a bus in the
 /// order in which they came. It refuses each list that no bus tree emits, with its one fault.
@@ -77,6 +78,8 @@ impl BusTree {
         ensures value { result ≡ length (walk self.now) }
         ensures some { 0 < result }
         ensures few { result ≤ 63 }
+        // A `BusTree` always is a bus tree.
+        ensures valid { IsBusTree self.now }
     {
         self.nodes.len() as u8
     }

@@ -1,5 +1,5 @@
 use Rattle.std.proofs.Common.{◌≡◌, ◌≤◌, drop, length}
-use Rattle.topology_stack.proofs.Linking.{Linking, links, unlinked}
+use Rattle.topology_stack.proofs.Linking.{links, unlinked}
 use Rattle.topology_stack.proofs.links.links_of.Given as goal
 
 abbrev pub invariant-loop-node : goal.invariant-loop-node

@@ -1,9 +1,7 @@
-use Rattle.std.proofs.Common.{◌≡◌, ℕ, ◌∙◌, ◌+◌, ◌<◌, ◌≤◌, ◌≢◌, ◌++◌, ◌∷◌, [], Bool, true, false, eqb, ltb, ◌&&◌, length, drop, Ok, Err, ap, sym, refl, arith}
+use Rattle.std.proofs.Common.{◌≡◌, ℕ, ◌∙◌, ◌<◌, false, eqb, ltb, ◌&&◌, length, ap, sym, arith}
 use Rattle.std.proofs.lemmas.Bool.{lt-ltb, le-ltb, ne_eqb, eqb-true, eqb-false}
 use Rattle.std.proofs.lemmas.Result.{err_from_is_err_and}
 use Rattle.self_id.specs.Node.{Node, ups, downs}
-use Rattle.self_id.specs.Group.{group}
-use Rattle.self_id.specs.Reading.{read_at}
 use Rattle.topology_stack.specs.declared.fault.TreeFault.TheVariants.{TooFewChildren, TreesLeft}
 use Rattle.topology_stack.proofs.Loop.{is_after_root, is_full, is_group_fault, is_too_few, is_left, is_end, both_true, both_false_left, both_false_right, ended_empty, ended_unrooted, ended_rooted, goes_round, takes, refuses, place_is, moves}
 use Rattle.topology_stack.proofs.Laws.{is_refused, is_emitted}

@@ -1,8 +1,7 @@
-use Rattle.std.proofs.Common.{◌≡◌, ◌<◌, Option, Some, None, ℕ, length, true, false, refl, sym, ap, ◌∙◌, inl, inr, arith}
+use Rattle.std.proofs.Common.{◌≡◌, ◌<◌, Option, Some, ℕ, length, true, false, refl, sym, ap, ◌∙◌, inl, inr, arith}
 use Rattle.std.specs.Prelude.{slice_get}
 use Rattle.std.proofs.lemmas.Option.{slice_get-get_or}
 use Rattle.self_id.specs.declared.node.PortStatus.TheVariants.{Absent, Unplugged, Up, Down}
-use Rattle.self_id.specs.Node.{downs}
 use Rattle.topology_stack.proofs.Ends.{end_at, fewer_before, status_at, loose, up_is_tied, down_is_tied}
 use Rattle.topology_stack.proofs.slots.far_end.Goals as goal
 

@@ -1,4 +1,4 @@
-use Rattle.std.proofs.Common.{rules, append_assoc, arith}
+use Rattle.std.proofs.Common.{rules, append_assoc}
 use Rattle.topology_stack.specs.Text.{attrs_text}
 use Rattle.topology_stack.proofs.text.put_attrs.Goals as goal
 

@@ -1,4 +1,4 @@
-use Rattle.std.proofs.Common.{rules, append_assoc, arith}
+use Rattle.std.proofs.Common.{rules, append_assoc}
 use Rattle.topology_stack.specs.Text.{node_line}
 use Rattle.topology_stack.proofs.text.put_line.Goals as goal
 

@@ -1,7 +1,7 @@
-use Rattle.std.proofs.Common.{◌≡◌, ◌++◌, ◌∙◌, refl, ap, sym}
+use Rattle.std.proofs.Common.{◌≡◌, ◌∙◌, refl}
 use Rattle.topology_stack.specs.Tree.{walk}
 use Rattle.topology_stack.specs.Far.{ends}
-use Rattle.topology_stack.specs.Text.{tree_text, lines_from}
+use Rattle.topology_stack.specs.Text.{lines_from}
 use Rattle.topology_stack.proofs.Ends.{ends_are}
 use Rattle.topology_stack.proofs.text.tree_text.Goals as goal
 

@@ -1,6 +1,6 @@
-use Rattle.std.proofs.Common.{ap, length, arith}
+use Rattle.std.proofs.Common.{ap, subst, length, arith}
 use Rattle.topology_stack.specs.Code.{tree_of}
-use Rattle.topology_stack.specs.Tree.{Tree, walk}
+use Rattle.topology_stack.specs.Tree.{IsBusTree}
 use Rattle.topology_stack.proofs.Laws.{some_node}
 use Rattle.topology_stack.proofs.tree.BusTree.len.Goals as goal
 
@@ -12,3 +12,6 @@ returns-clause-some c = omega (arith, c.len.ensures, some_node (tree_of c.self.i
 
 pub returns-clause-few : goal.returns-clause-few
 returns-clause-few c = omega (arith, c.len.ensures, c.self.invariant.bus.small, ap length c.self.invariant.walk_is)
+
+pub returns-clause-valid : goal.returns-clause-valid
+returns-clause-valid c = subst IsBusTree c.self.view_is c.self.invariant.bus

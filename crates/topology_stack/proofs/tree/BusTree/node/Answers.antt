@@ -1,7 +1,6 @@
-use Rattle.std.proofs.Common.{◌≡◌, ◌<◌, refl, ap, sym, ◌∙◌, length, arith}
+use Rattle.std.proofs.Common.{◌≡◌, refl, ap, sym, length, arith}
 use Rattle.std.proofs.lemmas.Option.{slice_get_read}
-use Rattle.self_id.specs.Node.{Node}
-use Rattle.topology_stack.specs.Tree.{Tree, walk}
+use Rattle.topology_stack.specs.Tree.{walk}
 use Rattle.topology_stack.proofs.tree.BusTree.node.Goals as goal
 
 pub index-requires : goal.index-requires

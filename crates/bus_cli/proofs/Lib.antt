@@ -1,0 +1,4 @@
+pub mod Reading
+pub mod OneReading
+pub mod OneOutcome
+pub mod Ends

@@ -1,0 +1,5 @@
+pub mod Answer
+pub mod Capture
+pub mod Form
+pub mod Line
+pub mod Stop

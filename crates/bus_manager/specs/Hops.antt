@@ -1,0 +1,42 @@
+-- Paths through a bus tree, and the number of cables on the longest one.
+use Rattle.std.specs.Prelude.{◌≡◌, ℕ, zero, suc, ◌+◌, ◌≤◌, ◌⊎◌}
+use Rattle.topology_stack.specs.Tree.{Tree, branch, Slots, no_more, absent, unplugged, up, down}
+
+-- a child below one of these slots
+abbrev pub SomeChild : (Tree → Type 0) → Slots → Type 0
+SomeChild P no_more = ⊥
+SomeChild P (absent s) = SomeChild P s
+SomeChild P (unplugged s) = SomeChild P s
+SomeChild P (up s) = SomeChild P s
+SomeChild P (down t s) = P t ⊎ SomeChild P s
+
+-- a path goes over so many cables from the outermost node of a tree down
+abbrev pub GoesDown : ℕ → Tree → Type 0
+GoesDown zero t = Unit {0}
+GoesDown (suc k) (branch a s) = SomeChild (GoesDown k) s
+
+-- a path goes over so many cables from below one slot up to the node and down below another slot
+abbrev pub Turns : ℕ → Slots → Type 0
+Turns k no_more = ⊥
+Turns k (absent s) = Turns k s
+Turns k (unplugged s) = Turns k s
+Turns k (up s) = Turns k s
+Turns k (down t s) = ((i j : ℕ) × GoesDown i t × SomeChild (GoesDown j) s × (k ≡ (i + 1) + (j + 1))) ⊎ Turns k s
+
+-- A path through a tree goes over so many cables. It has a highest node: the outermost one, from which
+-- it goes down or at which it turns, or one further below.
+abbrev mutual
+  pub IsPath : ℕ → Tree → Type 0
+  IsPath k (branch a s) = GoesDown k (branch a s) ⊎ (Turns k s ⊎ IsPathBelow k s)
+
+  pub IsPathBelow : ℕ → Slots → Type 0
+  IsPathBelow k no_more = ⊥
+  IsPathBelow k (absent s) = IsPathBelow k s
+  IsPathBelow k (unplugged s) = IsPathBelow k s
+  IsPathBelow k (up s) = IsPathBelow k s
+  IsPathBelow k (down t s) = IsPath k t ⊎ IsPathBelow k s
+
+-- the hops of a bus: the cables of a path that no other one exceeds
+pub record IsHops (t : Tree) (hops : ℕ) : Type 0 where
+  pub path : IsPath hops t
+  pub longest : (k : ℕ) → IsPath k t → k ≤ hops

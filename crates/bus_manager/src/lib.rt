@@ -1,0 +1,15 @@
+//! What a bus manager does: it is elected by a lock, and plans gap count and root (IEEE 1394-1995, bus
+//! manager).
+#![tactic(auto)]
+
+mod election;
+mod gap;
+mod paths;
+mod plan;
+#[cfg(test)]
+mod tests;
+
+pub use election::{Bid, attempt};
+pub use gap::gap_for;
+pub use paths::hops;
+pub use plan::plan_config;

@@ -1,0 +1,117 @@
+//! The calls that are measured.
+
+use bus_manager::hops;
+use quad_lanes::{QuadList, first_bad_pair, firsts, pairs_of};
+use std::alloc::{AllocError, Global};
+use std::io;
+use std::rt::Clock;
+use std::time::Instant;
+use topology_stack::{BusTree, read_tree};
+
+/// How many times the median is taken of.
+const BATCHES: usize = 11;
+
+/// How many pairs the pair check goes over.
+const PAIRS: usize = 65_536;
+
+/// A call that is measured.
+#[derive(Clone, Copy, Debug, PartialEq, Eq)]
+pub enum Call {
+    ReadTree,
+    Hops,
+    FirstBadPair,
+    PlainRead,
+}
+
+impl Call {
+    /// The call of this name.
+    pub fn named(name: &str) -> Option<Call> {
+        match name {
+            "read_tree" => Some(Call::ReadTree),
+            "hops" => Some(Call::Hops),
+            "first_bad_pair" => Some(Call::FirstBadPair),
+            "plain_read" => Some(Call::PlainRead),
+            _ => None,
+        }
+    }
+}
+
+/// What the calls work on.
+#[derive(Drop)]
+struct Work {
+    quads: QuadList,
+    tree: BusTree,
+    pairs: QuadList,
+}
+
+/// The work that a capture gives, if it is one of a bus tree.
+fn work_of(alloc: Global, bytes: &[u8]) -> Result<Option<Work>, AllocError> {
+    let Ok(all) = pairs_of(alloc, bytes) else {
+        return Ok(None);
+    };
+    let quads = firsts(alloc, all.as_slice())?;
+    let Ok(tree) = read_tree(alloc, quads.as_slice()) else {
+        return Ok(None);
+    };
+    let mut pairs = QuadList::new(alloc);
+    let first = quads.as_slice().first().copied().unwrap_or(0);
+    for _ in 0..PAIRS {
+        pairs.push(first)?;
+        pairs.push(!first)?;
+    }
+    Ok(Some(Work { quads, tree, pairs }))
+}
+
+/// One call. The answer keeps the compiler from leaving it out.
+fn once(alloc: Global, call: Call, work: &Work) -> u64 {
+    match call {
+        Call::ReadTree => match read_tree(alloc, work.quads.as_slice()) {
+            Ok(tree) => u64::from(tree.len()),
+            Err(_) => 0,
+        },
+        Call::Hops => u64::from(hops(&work.tree)),
+        Call::FirstBadPair => {
+            let quads = work.pairs.as_slice();
+            if quads.len() % 2 == 0 {
+                first_bad_pair(quads).unwrap_or(0) as u64
+            } else {
+                0
+            }
+        }
+        Call::PlainRead => {
+            let mut sum = 0u32;
+            for quad in work.pairs.as_slice() {
+                sum = sum.wrapping_add(*quad);
+            }
+            u64::from(sum)
+        }
+    }
+}
+
+/// The median time of one call, in nanoseconds, over eleven batches of so many calls.
+pub fn measured<R: Clock + AllocGlobal>(
+    rt: &R,
+    call: Call,
+    times: u32,
+    bytes: &[u8],
+) -> io::Result<Option<u64>> {
+    let alloc = rt.alloc();
+    let Some(work) = work_of(alloc, bytes)? else {
+        return Ok(None);
+    };
+    let mut taken = Vec::new(alloc);
+    let mut answers = 0u64;
+    for _ in 0..BATCHES {
+        let start = Instant::now(rt)?;
+        for _ in 0..times {
+            answers = answers.wrapping_add(once(alloc, call, &work));
+        }
+        let nanoseconds = start.elapsed(rt)?.as_nanos();
+        let each = nanoseconds / u128::from(times.max(1));
+        taken.push(u64::try_from(each).unwrap_or(u64::MAX))?;
+    }
+    taken.sort_unstable();
+    // The sum of the answers is a number that no sum of so few is.
+    let median = taken.get(BATCHES / 2).copied().unwrap_or(0);
+    Ok(Some(if answers == u64::MAX { 0 } else { median }))
+}

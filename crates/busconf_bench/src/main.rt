@@ -1,0 +1,49 @@
+//! Measures calls of busconf's crates, one call over and over in one process.
+//!
+//! Run with no words it does nothing. With a call's name and a number N it reads a capture from standard
+//! input, makes the call N times in each of eleven batches, and prints the median time of one call as
+//! `ns_per_call median X`. The calls are:
+//!
+//! - `read_tree`: the tree of the capture's first quadlets, made and dropped
+//! - `hops`: the longest path of that tree
+//! - `first_bad_pair`: the pair check of 65,536 pairs, the capture's first pair over and over
+//! - `plain_read`: all quadlets of the same buffer added up, to compare the pair check with
+#![tactic(auto)]
+
+mod calls;
+
+use calls::{Call, measured};
+use std::io::Read;
+use std::process::ExitCode;
+use std::rt::Env;
+use std::{env, io};
+
+/// The words after the program's name: a call and a number, or none.
+fn words_of<R: Env + AllocGlobal>(rt: &R) -> io::Result<Option<(Call, u32)>> {
+    let mut args = env::args(rt)?;
+    let _name = args.next();
+    let (Some(name), Some(number)) = (args.next(), args.next()) else {
+        return Ok(None);
+    };
+    let call = Call::named(name.as_str());
+    let times = number.as_str().parse::<u32>().ok();
+    Ok(call.zip(times))
+}
+
+fn main(rt: HostRuntime) -> io::Result<ExitCode> {
+    let Some((call, times)) = words_of(&rt)? else {
+        return Ok(ExitCode::SUCCESS);
+    };
+    let mut bytes = Vec::new(rt.alloc());
+    rt.stdin().read_to_end(&mut bytes)?;
+    match measured(&rt, call, times, &bytes)? {
+        Some(nanoseconds) => {
+            println!(rt; "ns_per_call median {nanoseconds}")?;
+            Ok(ExitCode::SUCCESS)
+        }
+        None => {
+            eprintln!(rt; "busconf_bench: standard input is no capture of a bus tree")?;
+            Ok(ExitCode::from(1))
+        }
+    }
+}

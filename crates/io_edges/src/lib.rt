@@ -1,0 +1,23 @@
+//! Sources and sinks of bytes that count their faults.
+//!
+//! A [`Source`] or a [`Sink`] fails only where its own count of faults rises, so a caller that is
+//! told of a failure can name the object that failed. The fakes in memory ([`MemSource`],
+//! [`SureSource`], [`MemSink`]) also tell their bytes, by which the contracts above say what was
+//! read and written. The adapters ([`ReadSource`], [`WriteSink`]) over std's readers and writers
+//! tell none.
+#![tactic(auto)]
+
+mod adapters;
+mod memory;
+mod stop;
+mod traits;
+mod whole;
+
+pub use adapters::{ReadSource, WriteSink};
+pub use memory::{MemSink, MemSource, SureSource};
+pub use stop::{OutOfMemory, ReadStop};
+pub use traits::{Failed, Sink, Source};
+pub use whole::{read_all, write_whole};
+
+#[cfg(test)]
+mod tests;

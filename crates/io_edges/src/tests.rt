@@ -1,0 +1,122 @@
+use crate::{
+    Failed, MemSink, MemSource, ReadSource, ReadStop, Sink, Source, SureSource, WriteSink,
+    read_all, write_whole,
+};
+use std::io;
+use std::io::{ErrorKind, Read, Write};
+use std::test::Fail;
+
+/// A stream whose first call moves one byte, whose second fails, and whose others move nothing.
+#[derive(Drop)]
+struct Flaky {
+    calls: u8,
+}
+
+impl Flaky {
+    fn next_call(&mut self) -> u8 {
+        let call = self.calls;
+        self.calls = call.saturating_add(1);
+        call
+    }
+}
+
+impl Read for Flaky {
+    fn read(&mut self, buf: &mut [u8]) -> io::Result<usize> {
+        match self.next_call() {
+            0 if !buf.is_empty() => {
+                buf[0] = b'a';
+                Ok(1)
+            }
+            1 => Err(io::Error::from(ErrorKind::Other)),
+            _ => Ok(0),
+        }
+    }
+}
+
+impl Write for Flaky {
+    fn write(&mut self, buf: &[u8]) -> io::Result<usize> {
+        match self.next_call() {
+            0 if !buf.is_empty() => Ok(1),
+            1 => Err(io::Error::from(ErrorKind::Other)),
+            _ => Ok(0),
+        }
+    }
+
+    fn flush(&mut self) -> io::Result<()> {
+        Ok(())
+    }
+}
+
+#[test]
+fn adapters(rt: HostRuntime) {
+    let mut buf = [0u8; 4];
+    let mut source = ReadSource::new(Flaky { calls: 0 });
+    for answer in [Ok(1), Err(Failed), Ok(0)] {
+        assert_eq!(rt; source.read(&mut buf), answer);
+    }
+    assert_eq!(rt; buf, [b'a', 0, 0, 0]);
+
+    let mut sink = WriteSink::new(Flaky { calls: 0 });
+    for answer in [Ok(1), Err(Failed), Err(Failed)] {
+        assert_eq!(rt; sink.write(b"ab"), answer);
+    }
+    assert_eq!(rt; sink.write(b""), Ok(0));
+}
+
+#[test]
+fn memory(rt: HostRuntime) -> Result<(), Fail> {
+    let alloc = rt.alloc();
+    let mut buf = [0u8; 4];
+    let bytes = Vec::from_slice(alloc, b"abcde")?;
+    let mut source = MemSource::new(bytes, vec![in alloc; 1]?, 2);
+    for (answer, front) in [
+        (Ok(2), b"ab\0\0"),
+        (Err(Failed), b"ab\0\0"),
+        (Ok(2), b"cd\0\0"),
+        (Ok(1), b"ed\0\0"),
+        (Ok(0), b"ed\0\0"),
+    ] {
+        assert_eq!(rt; source.read(&mut buf), answer);
+        assert_eq!(rt; buf, *front);
+    }
+
+    let mut sink = MemSink::new(alloc, 5, vec![in alloc; 1]?, 2)?;
+    for (text, answer) in [
+        (b"abcdef".as_slice(), Ok(2)),
+        (b"cdef", Err(Failed)),
+        (b"cdef", Ok(2)),
+        (b"ef", Ok(1)),
+        (b"f", Err(Failed)),
+        (b"", Ok(0)),
+    ] {
+        assert_eq!(rt; sink.write(text), answer);
+    }
+    assert_eq!(rt; sink.written(), b"abcde".as_slice());
+    Ok(())
+}
+
+#[test]
+fn whole(rt: HostRuntime) -> Result<(), Fail> {
+    let alloc = rt.alloc();
+    for (fails, limit, answer) in [
+        (9, 5, Ok(Vec::from_slice(alloc, b"abcde")?)),
+        (1, 5, Err(ReadStop::ReadFault)),
+        (9, 4, Err(ReadStop::TooLong)),
+        (9, 0, Err(ReadStop::TooLong)),
+    ] {
+        let bytes = Vec::from_slice(alloc, b"abcde")?;
+        let mut source = MemSource::new(bytes, vec![in alloc; fails]?, 3);
+        assert_eq!(rt; read_all(alloc, &mut source, limit), answer);
+    }
+
+    let many = vec![in alloc; 7u8; 10_000]?;
+    let mut source = SureSource::new(many.clone()?);
+    let read = read_all(alloc, &mut source, 1_048_576)?;
+    assert_eq!(rt; read, many);
+
+    let mut sink = MemSink::new(alloc, 10_000, Vec::new(alloc), 3000)?;
+    write_whole(&mut sink, &many)?;
+    assert_eq!(rt; sink.written(), many.as_slice());
+    assert_eq!(rt; write_whole(&mut sink, b"more"), Err(Failed));
+    Ok(())
+}

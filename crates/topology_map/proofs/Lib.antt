@@ -1,0 +1,5 @@
+mod Plus
+mod Bits
+mod Division
+mod Emitted
+mod Parts

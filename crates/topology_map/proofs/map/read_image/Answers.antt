@@ -1,0 +1,21 @@
+use Rattle.std.proofs.Common.{◌≡◌, Err, ap}
+use Rattle.std.proofs.lemmas.Result.{err_from_is_err_and}
+use Rattle.topology_map.proofs.Parts.{Whole, no_fault, one_fault, parts_are, unless_memory}
+use Rattle.topology_map.proofs.map.read_image.Goals as goal
+
+pub returns-in_err-nodes-clause-only : goal.returns-in_err-nodes-clause-only
+returns-in_err-nodes-clause-only c = λ generation nodes list h.
+    absurd (no_fault c.args.quads.now nodes c.in_err-nodes.field-0.0 (parts_are generation nodes list c.args.quads.now h).whole c.in_err-nodes.ensures)
+
+pub returns-in_err-nodes-clause-exact : goal.returns-in_err-nodes-clause-exact
+returns-in_err-nodes-clause-exact c = λ f h.
+    unless_memory c.from_residual.result (λ r. r ≡ Err f) (
+    let p = err_from_is_err_and c.from_residual.result c.from_residual.ensures.1 in
+    rw (p.1, p.2) (ap (λ g. Err g) (one_fault c.args.quads.now c.in_err-nodes.field-0.0 f c.in_err-nodes.ensures h))
+    )
+
+pub returns-clause-exact : goal.returns-clause-exact
+returns-clause-exact c = λ f h.
+    let e = c.in_ok-nodes.ensures in
+    let w : Whole c.args.quads.now c.in_ok-nodes.nodes = record { length_told = e.0; crc_told = e.1; counts_told = e.2; nodes_are = e.3 } in
+    absurd (no_fault c.args.quads.now c.in_ok-nodes.nodes f w h)

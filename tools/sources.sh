@@ -1,0 +1,5 @@
+# A checksum of all that the program is made of.
+sources_sum() {
+  (cd "$1" && cat crates.txt && find crates -path '*/out' -prune -o \( -path '*/src/*' -o -path '*/specs/*' -o -path '*/proofs/*' \) -type f -print0 \
+    | LC_ALL=C sort -z | xargs -0 sha256sum) | sha256sum | cut -d' ' -f1
+}
