@@ -13,3 +13,4 @@ pub mod Counting
 pub mod Small
 pub mod Waiting
 pub mod Cores
+pub mod Shown

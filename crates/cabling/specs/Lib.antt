@@ -6,3 +6,5 @@ pub mod Change
 pub mod Sees
 pub mod Walk
 pub mod Visits
+pub mod Labels
+pub mod Answer

@@ -6,6 +6,7 @@ use Rattle.cabling.proofs.Bits.{below}
 use Rattle.cabling.proofs.Cascade.{Weak, weak_or_all}
 use Rattle.cabling.proofs.Climb as climb
 use Rattle.cabling.proofs.Seen as seen
+use Rattle.cabling.proofs.Shown as shown
 use Rattle.cabling.proofs.Small as small
 use Rattle.cabling.proofs.Waiting as waiting
 use Rattle.cabling.proofs.Once as once
