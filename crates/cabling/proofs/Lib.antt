@@ -14,3 +14,4 @@ pub mod Small
 pub mod Waiting
 pub mod Cores
 pub mod Shown
+pub mod Emitted

@@ -4,6 +4,7 @@ use Rattle.std.specs.Prelude.{All}
 use Rattle.std.proofs.Math.ListN.{replicate}
 use Rattle.std.proofs.lemmas.List.{length-replicate}
 use Rattle.std.proofs.lemmas.List.Elements.{All-get_or}
+use Rattle.std.proofs.lemmas.Grind.{common_steps}
 use Rattle.std.proofs.lemmas.Bool.{cases_eq, cases_lt, ne_eqb}
 use Rattle.std.proofs.lemmas.Bool.Decides.{nat_tests}
 use Rattle.self_id.specs.declared.node.Attrs.{Attrs}
@@ -11,13 +12,13 @@ use Rattle.self_id.specs.declared.node.PortStatus.{PortStatus}
 use Rattle.self_id.specs.declared.node.PortStatus.TheVariants.{Absent, Unplugged, Up, Down}
 use Rattle.self_id.specs.Node.{Node, IsNode, HasForm, FitBits, ups, is_width, kept_a_bits, kept_b_bits}
 use Rattle.self_id.specs.Group.{group}
-use Rattle.topology_stack.specs.Tree.{Label, Tree, branch, Slots, no_more, absent, unplugged, up, down, statuses, node_of, walk, walk_below, IsPart, AreParts, IsWhole, IsBusTree, groups}
+use Rattle.topology_stack.specs.Tree.{Label, Tree, branch, Slots, no_more, absent, unplugged, up, down, statuses, node_of, walk, walk_below, IsPart, AreParts, IsWhole, IsBusTree, groups, emits}
 use Rattle.cabling.specs.declared.cable.End.{End}
 use Rattle.cabling.specs.declared.visits.Visit.{Visit}
 use Rattle.cabling.specs.Wiring.{Wiring, ports_of, far, HasEnd, IsCabling}
 use Rattle.cabling.specs.Sees.{width, Sees, SeesFrom, numbers}
 use Rattle.cabling.specs.Visits.{visits, visits_below, is_from, at_root}
-use Rattle.cabling.specs.Labels.{status, shown, slots_of, shown_node}
+use Rattle.cabling.specs.Labels.{no_attrs, labels, status, shown, slots_of, shown_node}
 use Rattle.std.proofs.lemmas.Nat.{pow_pos}
 use Rattle.cabling.proofs.Ends.{plugged, none_some}
 use Rattle.cabling.proofs.Near.{end_at}
@@ -232,3 +233,73 @@ bus_seen c label root t is fit there h few = record { whole = whole t h; small =
     length_map : (xs : List Visit) → length (map (shown_node c label) xs) ≡ length xs
     length_map [] = refl
     length_map (x ∷ xs) = ap (λ (n : ℕ). suc n) (length_map xs)
+
+-- ---- each visit of a seen tree is of a node that packets can show
+
+pub record Good (c : Wiring) (v : Visit) : Type 0 where
+  pub there : v.node < length c
+  pub few : ups (slots_of c v) ≤ 1
+
+abbrev pub AllGood : Wiring → List Visit → Type 0
+AllGood c [] = Unit {0}
+AllGood c (v ∷ vs) = Good c v × AllGood c vs
+
+good_append : (c : Wiring) (xs ys : List Visit) → AllGood c xs → AllGood c ys → AllGood c (xs ++ ys)
+good_append c [] ys a b = b
+good_append c (x ∷ xs) ys a b = (a.0, good_append c xs ys a.1 b)
+
+pub good_at : (c : Wiring) (vs : List Visit) (i : ℕ) (d : Visit) → AllGood c vs → i < length vs → Good c (get_or vs i d)
+good_at c [] i d a less = absurd (omega (arith, less))
+good_at c (v ∷ vs) zero d a less = a.0
+good_at c (v ∷ vs) (suc i) d a less = good_at c vs i d a.1 (omega (arith, less))
+
+mutual
+  pub good_visits : (c : Wiring) (label : ℕ → Label) (v : Visit) (t : Tree) → IsCabling c → Good c v → Sees c label v.node v.from t → AllGood c (visits c v t)
+  good_visits c label v (branch a s) is g h = good_append c (visits_below c (ports_of c v.node) s) (v ∷ []) (good_below c label v.node v.from 0 (ports_of c v.node) s is (row_all c v.node) h.2) (g, tt)
+
+  good_below : (c : Wiring) (label : ℕ → Label) (x : ℕ) (from : Option ℕ) (p : ℕ) (row : List (Option End)) (s : Slots) → IsCabling c → RowAt c x p row → SeesFrom c label from p row s → AllGood c (visits_below c row s)
+  good_below c label x from p [] s is at h = tt
+  good_below c label x from p (None ∷ row) (unplugged s) is at h = good_below c label x from (p + 1) row s is (row_tail c x p None row at) h
+  good_below c label x from p (Some f ∷ row) (up s) is at h = good_below c label x from (p + 1) row s is (row_tail c x p (Some f) row at) h.1
+  good_below c label x from p (Some f ∷ row) (down t s) is at h =
+      let next : Visit = record { node = f.node; from = Some f.port } in
+      let back : far c f ≡ Some (end_at x p) = is.both_ways (end_at x p) f (row_head c x p (Some f) row at) in
+      let one : ups (slots_of c next) ≡ 1 = ups_below c f.node f.port (end_at x p) back in
+      good_append c (visits c next t) (visits_below c row s)
+        (good_visits c label next t is (record { there = (plugged c f (end_at x p) back).node; few = omega (arith, one) }) h.1)
+        (good_below c label x from (p + 1) row s is (row_tail c x p (Some f) row at) h.2)
+  good_below c label x from p row s is at h = absurd h
+
+pub good_root : (c : Wiring) (root : ℕ) → root < length c → Good c (at_root root)
+good_root c root there = let none : ups (slots_of c (at_root root)) ≡ 0 = ups_root c root in record { there = there; few = omega (arith, none) }
+
+-- ---- the list, group by group
+
+pub groups_next : (f : Visit → Node) (vs : List Visit) (i : ℕ) (d : Visit) → i < length vs → groups i (map f (drop i vs)) ≡ group (f (get_or vs i d)) i ++ groups (i + 1) (map f (drop (i + 1) vs))
+groups_next f vs i d less = rw (drop-cons vs i d) (rw (add-one i) refl)
+
+pub listed : (f : Visit → Node) (vs : List Visit) (i : ℕ) (d : Visit) (v : Visit) (n : Node) (quads after list whole : List ℕ) → i < length vs → v ≡ get_or vs i d → n ≡ f v → list ≡ group n i → after ≡ quads ++ list → quads ++ groups i (map f (drop i vs)) ≡ whole → after ++ groups (i + 1) (map f (drop (i + 1) vs)) ≡ whole
+listed f vs i d v n quads after list whole less at is group_is e all =
+    let rest : List ℕ = groups (i + 1) (map f (drop (i + 1) vs)) in
+    ap (λ (xs : List ℕ). xs ++ rest) e
+    ∙ append_assoc quads list rest
+    ∙ ap (λ (xs : List ℕ). quads ++ (xs ++ rest)) (group_is ∙ ap (λ (m : Node). group m i) (is ∙ ap f at))
+    ∙ ap (λ (xs : List ℕ). quads ++ xs) (sym (groups_next f vs i d less))
+    ∙ all
+
+pub listed_all : (f : Visit → Node) (vs : List Visit) (i : ℕ) (quads whole : List ℕ) → length vs ≤ i → quads ++ groups i (map f (drop i vs)) ≡ whole → quads ≡ whole
+listed_all f vs i quads whole le all = sym (append-nil quads) ∙ ap (λ (xs : List Visit). quads ++ groups i (map f xs)) (sym (dropped vs i le)) ∙ all
+  where
+    dropped : (vs : List Visit) (i : ℕ) → length vs ≤ i → drop i vs ≡ []
+    dropped vs i le = grind (arith, common_steps)
+
+pub list_seen : (c : Wiring) (label : ℕ → Label) (root : ℕ) (t : Tree) → IsCabling c → root < length c → Sees c label root None t → emits t ≡ groups 0 (map (shown_node c label) (visits c (at_root root) t))
+list_seen c label root t is there h = ap (λ (ns : List Node). groups 0 ns) (walk_seen c label (at_root root) t is there h)
+
+-- labels by attributes
+pub labels_fit : (c : Wiring) (attrs : List Attrs) → length attrs ≡ length c → All FitBits attrs → Fit c (labels attrs)
+labels_fit c attrs e all = record {
+  attrs = λ x there. All-get_or FitBits attrs x no_attrs (omega (arith, e, there)) all;
+  kept_a = λ x. refl;
+  kept_b = λ x. refl;
+}

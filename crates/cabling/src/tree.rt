@@ -115,6 +115,7 @@ impl Cabling {
         // Where a tree is answered, the component has no core.
         ensures acyclic { IfOk result (λ t. (core : ℕ) → IsCoreOf self.now root core → IsEmpty core) }
     {
+        cables_are_two_ended(self);
         let core = self.core_of(root);
         if !core.is_empty() {
             return Err(TreeFromFault::Cyclic { core });
