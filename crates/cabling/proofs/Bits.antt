@@ -99,7 +99,7 @@ in_union a b k = (
   λ h. elim h [
     | inl x ↦ one_bit (bit_or a b) k (omega (arith, bit_at_or a b k))
     | inr x ↦ one_bit (bit_or a b) k (omega (arith, bit_at_or a b k))
-  ]
+  ],
 )
 
 pub union-small : (a b : ℕ) → a < 2 ^ 63 → b < 2 ^ 63 → bit_or a b < 2 ^ 63
@@ -108,18 +108,18 @@ union-small a b p q = or_lt 63 a b p q
 pub in_both : (a b k : ℕ) → Holds (bit_and a b) k ↔ (Holds a k × Holds b k)
 in_both a b k = (
   λ h. (one_bit a k (omega (arith, bit_at_and a b k)), one_bit b k (omega (arith, bit_at_and a b k))),
-  λ (x, y). one_bit (bit_and a b) k (omega (arith, bit_at_and a b k))
+  λ (x, y). one_bit (bit_and a b) k (omega (arith, bit_at_and a b k)),
 )
 
 pub in_first : (a b k : ℕ) → a < 2 ^ 63 → b < 2 ^ 63 → Holds (bit_and a (bit_not w64 b)) k ↔ (Holds a k × (Holds b k → ⊥))
 in_first a b k p q = (
   λ h.
-    let x : Holds a k = one_bit a k (omega (arith, bit_at_and a (bit_not w64 b) k)) in
-    let not_b : bit_at (bit_not w64 b) k ≡ 1 - bit_at b k = bit_at_not w64 b k (omega arith) (omega (arith, below a k p x)) in
-    (x, λ y. omega (arith, bit_at_and a (bit_not w64 b) k, not_b)),
+      let x : Holds a k = one_bit a k (omega (arith, bit_at_and a (bit_not w64 b) k)) in
+      let not_b : bit_at (bit_not w64 b) k ≡ 1 - bit_at b k = bit_at_not w64 b k (omega arith) (omega (arith, below a k p x)) in
+      (x, λ y. omega (arith, bit_at_and a (bit_not w64 b) k, not_b)),
   λ (x, y).
-    let not_b : bit_at (bit_not w64 b) k ≡ 1 - bit_at b k = bit_at_not w64 b k (omega arith) (omega (arith, below a k p x)) in
-    one_bit (bit_and a (bit_not w64 b)) k (omega (arith, bit_at_and a (bit_not w64 b) k, not_b, clear_bit b k y))
+      let not_b : bit_at (bit_not w64 b) k ≡ 1 - bit_at b k = bit_at_not w64 b k (omega arith) (omega (arith, below a k p x)) in
+      one_bit (bit_and a (bit_not w64 b)) k (omega (arith, bit_at_and a (bit_not w64 b) k, not_b, clear_bit b k y)),
 )
 
 -- ---- a set that grows or shrinks does so as a number

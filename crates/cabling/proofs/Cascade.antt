@@ -102,13 +102,15 @@ pub record Less (set node less : ℕ) : Type 0 where
 pub less_by : (set node : ℕ) → set < 2 ^ 63 → Holds set node → (less : ℕ) × Less set node less
 less_by set node small h =
     let in_64 : node < 64 = omega (arith, below set node small h) in
-    let less : ℕ = bit_and set (bit_not w64 (1 * 2 ^ node % 2 ^ 64)) in
-    (less, record {
-      gone = removed-gone set node in_64;
-      others = removed-others set node (omega arith) in_64;
-      value = fewer set less node (removed set node (omega arith) in_64 h);
-      small = removed-small set (bit_not w64 (1 * 2 ^ node % 2 ^ 64)) small;
-    })
+    let less : ℕ = bit_and set (bit_not w64 (1 * 2 ^ node % 2 ^ 64)) in (
+      less,
+      record {
+        gone = removed-gone set node in_64;
+        others = removed-others set node (omega arith) in_64;
+        value = fewer set less node (removed set node (omega arith) in_64 h);
+        small = removed-small set (bit_not w64 (1 * 2 ^ node % 2 ^ 64)) small;
+      },
+    )
 
 pub less_within : (set node less : ℕ) → Less set node less → IsWithin less set
 less_within set node less l x h = elim (cases_eq x node) [
@@ -150,8 +152,8 @@ two_back c set node x y p q ox oy is hx hy ex nx ey ny apart =
     let bx : far c (end_at node ox.port) ≡ Some (end_at x p) = back_port c node x p ox is ex nx in
     let by : far c (end_at node oy.port) ≡ Some (end_at y q) = back_port c node y q oy is ey ny in
     two_of c set node ox.port oy.port
-      (λ same. apart (one_other (far c (end_at node oy.port)) (end_at x p) (end_at y q) (subst (λ (n : ℕ). far c (end_at node n) ≡ Some (end_at x p)) same bx) by))
-      (end_at x p, bx, hx) (end_at y q, by, hy)
+    (λ same. apart (one_other (far c (end_at node oy.port)) (end_at x p) (end_at y q) (subst (λ (n : ℕ). far c (end_at node n) ≡ Some (end_at x p)) same bx) by))
+    (end_at x p, bx, hx) (end_at y q, by, hy)
 
 apart_nodes : (x y p q : ℕ) → x ≢ y → end_at x p ≢ end_at y q
 apart_nodes x y p q ne same = ne (ap (λ (e : End). e.node) same)
@@ -180,7 +182,7 @@ cascade (suc fuel) c all set node other is none less small within has weak stron
                 ] in
                 let two : HasTwo c set w = keeps w in_rest in
                 let onward : (end : End) (port : ℕ) → far c (end_at w port) ≡ Some end → Holds rest.0 end.node → ⊥ = λ end port e h.
-                  cascade fuel c all rest.0 w end.node is none (omega (arith, l.value, less)) l.small (λ x g. within x (less_within set node rest.0 l x g)) in_rest found.1.weak strong_rest h (λ same. is.two_nodes (end_at w port) end e (sym same)) in
+                cascade fuel c all rest.0 w end.node is none (omega (arith, l.value, less)) l.small (λ x g. within x (less_within set node rest.0 l x g)) in_rest found.1.weak strong_rest h (λ same. is.two_nodes (end_at w port) end e (sym same)) in
                 elim (leads_less c set node rest.0 (end_at w two.low) l two.low_leads) [
                   | inr low ↦ onward low.0 two.low low.1 low.2
                   | inl low ↦ elim (leads_less c set node rest.0 (end_at w two.high) l two.high_leads) [

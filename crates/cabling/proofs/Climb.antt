@@ -52,4 +52,4 @@ one_way c rank set root y z p q a b (suc m) zero node r closed h same e f s t =
 one_way c rank set root y z p q a b (suc m) (suc n) node r closed h same e f s t =
     let up : e.end ≡ f.end = one_step c rank set root node e.port f.port e.end f.end r closed h e.step f.step in
     one_way c rank set root y z p q a b m n f.end.node r closed (closed (end_at node f.port) f.end f.step.joined h) same
-      (subst (λ (x : End). Climbs c rank y m x.node) up e.after) f.after s t
+    (subst (λ (x : End). Climbs c rank y m x.node) up e.after) f.after s t

@@ -119,18 +119,18 @@ known old new a b x y added e = elim (cases_end x a) [
 pub cabling_added : (old new : Wiring) (a b : End) → IsCabling old → a.node ≢ b.node → Added old new a b → IsCabling new
 cabling_added old new a b is apart added =
     counted old new is added.others.ports
-      (λ x y e. elim (known old new a b x y added e) [
-        | first p q ↦ rw (p, q) added.back
-        | second p q ↦ rw (p, q) added.joined
-        | before na nb f ↦
-            let back : far old y ≡ Some x = is.both_ways x y f in
-            added.others.others y (λ ya. none_some (far old a) x added.free_a (subst (λ (z : End). far old z ≡ Some x) ya back)) (λ yb. none_some (far old b) x added.free_b (subst (λ (z : End). far old z ≡ Some x) yb back)) ∙ back
-      ])
-      (λ x y e. elim (known old new a b x y added e) [
-        | first p q ↦ rw (p, q) apart
-        | second p q ↦ rw (p, q) (λ same. apart (sym same))
-        | before na nb f ↦ is.two_nodes x y f
-      ])
+    (λ x y e. elim (known old new a b x y added e) [
+      | first p q ↦ rw (p, q) added.back
+      | second p q ↦ rw (p, q) added.joined
+      | before na nb f ↦
+          let back : far old y ≡ Some x = is.both_ways x y f in
+          added.others.others y (λ ya. none_some (far old a) x added.free_a (subst (λ (z : End). far old z ≡ Some x) ya back)) (λ yb. none_some (far old b) x added.free_b (subst (λ (z : End). far old z ≡ Some x) yb back)) ∙ back
+    ])
+    (λ x y e. elim (known old new a b x y added e) [
+      | first p q ↦ rw (p, q) apart
+      | second p q ↦ rw (p, q) (λ same. apart (sym same))
+      | before na nb f ↦ is.two_nodes x y f
+    ])
 
 -- a far end after a cable was taken out was there before, at another end
 earlier : (old new : Wiring) (a b x y : End) → TakenOut old new a b → far new x ≡ Some y → (x ≢ a) × (x ≢ b) × (far old x ≡ Some y)
@@ -142,14 +142,14 @@ earlier old new a b x y taken e =
 pub cabling_taken : (old new : Wiring) (a b : End) → IsCabling old → TakenOut old new a b → IsCabling new
 cabling_taken old new a b is taken =
     counted old new is taken.others.ports
-      (λ x y e.
-        let was = earlier old new a b x y taken e in
-        let back : far old y ≡ Some x = is.both_ways x y was.2 in
-        taken.others.others y
-          (λ ya. was.1 (one_other (far old a) x b (subst (λ (z : End). far old z ≡ Some x) ya back) taken.joined))
-          (λ yb. was.0 (one_other (far old b) x a (subst (λ (z : End). far old z ≡ Some x) yb back) (is.both_ways a b taken.joined)))
-        ∙ back)
-      (λ x y e. is.two_nodes x y (earlier old new a b x y taken e).2)
+    (λ x y e.
+    let was = earlier old new a b x y taken e in
+    let back : far old y ≡ Some x = is.both_ways x y was.2 in
+    taken.others.others y
+    (λ ya. was.1 (one_other (far old a) x b (subst (λ (z : End). far old z ≡ Some x) ya back) taken.joined))
+    (λ yb. was.0 (one_other (far old b) x a (subst (λ (z : End). far old z ≡ Some x) yb back) (is.both_ways a b taken.joined)))
+    ∙ back)
+    (λ x y e. is.two_nodes x y (earlier old new a b x y taken e).2)
 
 -- ---- the two writes of plug and pull
 

@@ -62,5 +62,5 @@ near_loose c node port found e near = record {
 pub near_all : (c : Wiring) (node ports found : ℕ) → Near c node ports found → length (ports_of c node) ≤ ports → (other : ℕ) → Holds found other ↔ IsNeighbour c node other
 near_all c node ports found near all other = (
   near.sound other,
-  λ n. subst (λ (x : ℕ). Holds found x) n.is (near.all n.port n.end (omega (arith, all, (plugged c (end_at node n.port) n.end n.joined).port)) n.joined)
+  λ n. subst (λ (x : ℕ). Holds found x) n.is (near.all n.port n.end (omega (arith, all, (plugged c (end_at node n.port) n.end n.joined).port)) n.joined),
 )

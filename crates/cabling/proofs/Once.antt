@@ -39,9 +39,10 @@ Once (x ∷ xs) = (In x xs → ⊥) × Once xs
 
 pub once_append : (xs ys : List ℕ) → Once xs → Once ys → ((x : ℕ) → In x xs → In x ys → ⊥) → Once (xs ++ ys)
 once_append [] ys a b apart = b
-once_append (x ∷ xs) ys a b apart =
-    ((λ i. elim (in_append x xs ys i) [ inl l ↦ a.0 l | inr r ↦ apart x (inl refl) r ]),
-     once_append xs ys a.1 b (λ z i j. apart z (inr i) j))
+once_append (x ∷ xs) ys a b apart = (
+  (λ i. elim (in_append x xs ys i) [ inl l ↦ a.0 l | inr r ↦ apart x (inl refl) r ]),
+  once_append xs ys a.1 b (λ z i j. apart z (inr i) j),
+)
 
 -- ---- who is in a seen tree
 
@@ -102,12 +103,12 @@ mutual
   pub once_tree : (c : Wiring) (label : ℕ → Label) (rank : ℕ → ℕ) (set root x : ℕ) (from : Option ℕ) (t : Tree) → Context c rank set root → Down c rank set x from → Sees c label x from t → Once (numbers c x t)
   once_tree c label rank set root x from (branch a s) k d h =
       once_append (numbers_below c (ports_of c x) s) (x ∷ []) (once_slots c label rank set root x from 0 (ports_of c x) s k d (row_all c x) h.2) ((λ i. i), tt)
-        (λ z below itself. elim itself [
-          | inl e ↦
-              let w = in_slots c label rank set root x from 0 (ports_of c x) s k d (row_all c x) h.2 z below in
-              absurd (omega (arith, climbs_rank c rank w.end.node w.climbing.count z w.climbing.climbs, d.falls w.port w.end w.joined w.onward, ap rank e))
-          | inr none ↦ none
-        ])
+      (λ z below itself. elim itself [
+        | inl e ↦
+            let w = in_slots c label rank set root x from 0 (ports_of c x) s k d (row_all c x) h.2 z below in
+            absurd (omega (arith, climbs_rank c rank w.end.node w.climbing.count z w.climbing.climbs, d.falls w.port w.end w.joined w.onward, ap rank e))
+        | inr none ↦ none
+      ])
 
   pub once_slots : (c : Wiring) (label : ℕ → Label) (rank : ℕ → ℕ) (set root x : ℕ) (from : Option ℕ) (p : ℕ) (row : List (Option End)) (s : Slots) → Context c rank set root → Down c rank set x from → RowAt c x p row → SeesFrom c label from p row s → Once (numbers_below c row s)
   once_slots c label rank set root x from p (None ∷ row) (unplugged s) k d at h = once_slots c label rank set root x from (p + 1) row s k d (row_tail c x p None row at) h
@@ -116,15 +117,15 @@ mutual
       let j : far c (end_at x p) ≡ Some e = row_head c x p (Some e) row at in
       let below : Down c rank set e.node (Some e.port) = down_next c rank set root x p from e k.cabling k.closed k.ranked d j h.0 in
       once_append (numbers c e.node t) (numbers_below c row s)
-        (once_tree c label rank set root e.node (Some e.port) t k below h.1)
-        (once_slots c label rank set root x from (p + 1) row s k d (row_tail c x p (Some e) row at) h.2)
-        (λ z child rest.
-          let u = in_tree c label rank set root e.node (Some e.port) t k below h.1 z child in
-          let v = in_slots c label rank set root x from (p + 1) row s k d (row_tail c x p (Some e) row at) h.2 z rest in
-          let same : end_at x p ≡ end_at x v.port = one_way c rank set root e.node v.end.node e.port v.end.port (end_at x p) (end_at x v.port) u.count v.climbing.count z k.ranked k.closed u.here refl u.climbs v.climbing.climbs
-            (step_back c rank set root x p from e k d j h.0) (step_back c rank set root x v.port from v.end k d v.joined v.onward) in
-          let port : p ≡ v.port = ap (λ (y : End). y.port) same in
-          omega (arith, port, v.not_before))
+      (once_tree c label rank set root e.node (Some e.port) t k below h.1)
+      (once_slots c label rank set root x from (p + 1) row s k d (row_tail c x p (Some e) row at) h.2)
+      (λ z child rest.
+      let u = in_tree c label rank set root e.node (Some e.port) t k below h.1 z child in
+      let v = in_slots c label rank set root x from (p + 1) row s k d (row_tail c x p (Some e) row at) h.2 z rest in
+      let same : end_at x p ≡ end_at x v.port = one_way c rank set root e.node v.end.node e.port v.end.port (end_at x p) (end_at x v.port) u.count v.climbing.count z k.ranked k.closed u.here refl u.climbs v.climbing.climbs
+      (step_back c rank set root x p from e k d j h.0) (step_back c rank set root x v.port from v.end k d v.joined v.onward) in
+      let port : p ≡ v.port = ap (λ (y : End). y.port) same in
+      omega (arith, port, v.not_before))
   once_slots c label rank set root x from p [] no_more k d at h = tt
   once_slots c label rank set root x from p [] (absent s) k d at h = tt
   once_slots c label rank set root x from p row s k d at h = absurd h

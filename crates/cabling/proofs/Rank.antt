@@ -61,8 +61,8 @@ ranked_more c set root node less rank is not_root weak l r =
             let na : a.node ≢ node = high x a.node less in
             let nb : b.node ≢ node = high x b.node other in
             r.one_up x p q a b (in_less x h ne) (in_less a.node ha na) (in_less b.node hb nb) ea eb
-              (omega (arith, less, under-other node x rank ne, under-other node a.node rank na))
-              (omega (arith, other, under-other node x rank ne, under-other node b.node rank nb))
+            (omega (arith, less, under-other node x rank ne, under-other node a.node rank na))
+            (omega (arith, other, under-other node x rank ne, under-other node b.node rank nb))
       ];
       differ = λ x p a h ha e same. elim (cases_eq x node) [
         | inl is_node ↦ elim (cases_eq a.node node) [

@@ -33,13 +33,13 @@ down_next c rank set root x p from e is closed r d j ne =
     record {
       here = here;
       falls = λ q b jb nb.
-        let in_set : Holds set b.node = closed (end_at e.node q) b jb here in
-        elim (cases_lt (rank b.node) (rank e.node)) [
-          | inl less ↦ less
-          | inr more ↦
-              let above : rank e.node < rank b.node = omega (arith, r.differ e.node q b here in_set jb) in
-              absurd (nb (ap (λ (n : ℕ). Some n) (r.one_up e.node e.port q (end_at x p) b here d.here in_set back jb (d.falls p e j ne) above)))
-        ];
+          let in_set : Holds set b.node = closed (end_at e.node q) b jb here in
+          elim (cases_lt (rank b.node) (rank e.node)) [
+            | inl less ↦ less
+            | inr more ↦
+                let above : rank e.node < rank b.node = omega (arith, r.differ e.node q b here in_set jb) in
+                absurd (nb (ap (λ (n : ℕ). Some n) (r.one_up e.node e.port q (end_at x p) b here d.here in_set back jb (d.falls p e j ne) above)))
+          ];
     }
 
 -- ---- slots
@@ -106,8 +106,8 @@ pub seen_from : (fuel : ℕ) (c : Wiring) (label : ℕ → Label) (rank : ℕ �
 seen_from zero c label rank set root x from is closed r there less d = absurd (omega (arith, less))
 seen_from (suc fuel) c label rank set root x from is closed r there less d =
     let s = slots_seen c label x from 0 (ports_of c x) (width (length (ports_of c x))) (row_all c x) (wide (length (ports_of c x)) (is.few_ports x there))
-      (λ q e j ne. seen_from fuel c label rank set root e.node (Some e.port) is closed r
-        (plugged c e (end_at x q) (is.both_ways (end_at x q) e j)).node
-        (omega (arith, less, d.falls q e j ne))
-        (down_next c rank set root x q from e is closed r d j ne)) in
+    (λ q e j ne. seen_from fuel c label rank set root e.node (Some e.port) is closed r
+    (plugged c e (end_at x q) (is.both_ways (end_at x q) e j)).node
+    (omega (arith, less, d.falls q e j ne))
+    (down_next c rank set root x q from e is closed r d j ne)) in
     (branch (label x) s.slots, (refl, s.count_is, s.seen))

@@ -177,10 +177,11 @@ mutual
   part_seen c label x q e (branch a s) is fit there j h =
       let v : Visit = record { node = x; from = Some q } in
       let slots : statuses s ≡ slots_of c v = are_slots c label v s is there h.2 h.1 in
-      let one : ups (slots_of c v) ≡ 1 = ups_below c x q e j in
-      (subst IsNode (sym (node_shown c label v a s h.0 slots)) (shown_is_node c label v is fit there (omega (arith, one))),
-       ap ups slots ∙ one,
-       parts_seen c label x (Some q) 0 (ports_of c x) s is fit (row_all c x) h.2)
+      let one : ups (slots_of c v) ≡ 1 = ups_below c x q e j in (
+        subst IsNode (sym (node_shown c label v a s h.0 slots)) (shown_is_node c label v is fit there (omega (arith, one))),
+        ap ups slots ∙ one,
+        parts_seen c label x (Some q) 0 (ports_of c x) s is fit (row_all c x) h.2,
+      )
 
   parts_seen : (c : Wiring) (label : ℕ → Label) (x : ℕ) (from : Option ℕ) (p : ℕ) (row : List (Option End)) (s : Slots) → IsCabling c → Fit c label → RowAt c x p row → SeesFrom c label from p row s → AreParts s
   parts_seen c label x from p [] no_more is fit at h = tt
@@ -188,9 +189,10 @@ mutual
   parts_seen c label x from p (None ∷ row) (unplugged s) is fit at h = parts_seen c label x from (p + 1) row s is fit (row_tail c x p None row at) h
   parts_seen c label x from p (Some f ∷ row) (up s) is fit at h = parts_seen c label x from (p + 1) row s is fit (row_tail c x p (Some f) row at) h.1
   parts_seen c label x from p (Some f ∷ row) (down t s) is fit at h =
-      let back : far c f ≡ Some (end_at x p) = is.both_ways (end_at x p) f (row_head c x p (Some f) row at) in
-      (part_seen c label f.node f.port (end_at x p) t is fit (plugged c f (end_at x p) back).node back h.1,
-       parts_seen c label x from (p + 1) row s is fit (row_tail c x p (Some f) row at) h.2)
+      let back : far c f ≡ Some (end_at x p) = is.both_ways (end_at x p) f (row_head c x p (Some f) row at) in (
+        part_seen c label f.node f.port (end_at x p) t is fit (plugged c f (end_at x p) back).node back h.1,
+        parts_seen c label x from (p + 1) row s is fit (row_tail c x p (Some f) row at) h.2,
+      )
   parts_seen c label x from p row s is fit at h = absurd h
 
 -- ---- the walk of a seen tree is what its nodes show
@@ -226,10 +228,12 @@ bus_seen c label root t is fit there h few = record { whole = whole t h; small =
     whole : (t : Tree) → Sees c label root None t → IsWhole t
     whole (branch a s) h =
         let slots : statuses s ≡ slots_of c (at_root root) = are_slots c label (at_root root) s is there h.2 h.1 in
-        let none : ups (slots_of c (at_root root)) ≡ 0 = ups_root c root in
-        (subst IsNode (sym (node_shown c label (at_root root) a s h.0 slots)) (shown_is_node c label (at_root root) is fit there (omega (arith, none))),
-         ap ups slots ∙ none,
-         parts_seen c label root None 0 (ports_of c root) s is fit (row_all c root) h.2)
+        let none : ups (slots_of c (at_root root)) ≡ 0 = ups_root c root in (
+          subst IsNode (sym (node_shown c label (at_root root) a s h.0 slots)) (shown_is_node c label (at_root root) is fit there (omega (arith, none))),
+          ap ups slots ∙ none,
+          parts_seen c label root None 0 (ports_of c root) s is fit (row_all c root) h.2,
+        )
+
     length_map : (xs : List Visit) → length (map (shown_node c label) xs) ≡ length xs
     length_map [] = refl
     length_map (x ∷ xs) = ap (λ (n : ℕ). suc n) (length_map xs)
@@ -266,8 +270,8 @@ mutual
       let back : far c f ≡ Some (end_at x p) = is.both_ways (end_at x p) f (row_head c x p (Some f) row at) in
       let one : ups (slots_of c next) ≡ 1 = ups_below c f.node f.port (end_at x p) back in
       good_append c (visits c next t) (visits_below c row s)
-        (good_visits c label next t is (record { there = (plugged c f (end_at x p) back).node; few = omega (arith, one) }) h.1)
-        (good_below c label x from (p + 1) row s is (row_tail c x p (Some f) row at) h.2)
+      (good_visits c label next t is (record { there = (plugged c f (end_at x p) back).node; few = omega (arith, one) }) h.1)
+      (good_below c label x from (p + 1) row s is (row_tail c x p (Some f) row at) h.2)
   good_below c label x from p row s is at h = absurd h
 
 pub good_root : (c : Wiring) (root : ℕ) → root < length c → Good c (at_root root)

@@ -64,10 +64,12 @@ port_there c set node port l = (plugged c (end_at node port) l.0 l.1).port
 pub counted_all : (c : Wiring) (set node ports : ℕ) (one : Bool) → Counted c set node ports one → length (ports_of c node) ≤ ports → HasTwo c set node → ⊥
 counted_all c set node ports false none all two = none two.low (omega (arith, all, port_there c set node two.low two.low_leads)) two.low_leads
 counted_all c set node ports true one all two =
-    omega (arith,
+    omega (
+      arith,
       two.apart,
       one.only two.low (omega (arith, all, port_there c set node two.low two.low_leads)) two.low_leads,
-      one.only two.high (omega (arith, all, port_there c set node two.high two.high_leads)) two.high_leads)
+      one.only two.high (omega (arith, all, port_there c set node two.high two.high_leads)) two.high_leads,
+    )
 
 -- what the test of one port says
 abbrev pub Tested : ℕ → Option End → Bool → Type 0
@@ -158,7 +160,7 @@ stripped_goes c set core doubtful node less core_after close both after is s not
     let ne_node : (x : ℕ) → Holds core_after x → x ≢ node = λ x h same. step.gone (subst (λ (n : ℕ). Holds core_after n) same h) in
     let was : (x : ℕ) → Holds core_after x → Holds core x = λ x h. (step.others x (ne_node x h)).0 h in
     let near : (x port : ℕ) (other : End) → Holds core_after x → far c (end_at x port) ≡ Some other → other.node ≡ node → Holds after x = λ x port other h e same.
-      (step.after x).1 ((step.both_is x).1 (inr ((step.close_is x).1 (neighbour_back c node x port other is e same))), h) in
+    (step.after x).1 ((step.both_is x).1 (inr ((step.close_is x).1 (neighbour_back c node x port other is e same))), h) in
     record {
       within = λ x h. s.within x (was x h);
       kept = λ part within looped x h. (step.others x (λ same. not_two (more_two c part core node (s.kept part within looped) (subst (λ (n : ℕ). HasTwo c part n) same (looped x h))))).1 (s.kept part within looped x h);
@@ -178,5 +180,5 @@ stripped_goes c set core doubtful node less core_after close both after is s not
 pub stripped_last : (c : Wiring) (set core doubtful : ℕ) → Stripped c set core doubtful → ((x : ℕ) → Holds doubtful x → ⊥) → IsCore c set core
 stripped_last c set core doubtful s none node = (
   λ h. (core, s.within, (λ x k. elim (s.firm x k) [ inl d ↦ absurd (none x d) | inr two ↦ two ]), h),
-  λ p. s.kept p.0 p.1 p.2 node p.3
+  λ p. s.kept p.0 p.1 p.2 node p.3,
 )

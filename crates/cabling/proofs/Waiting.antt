@@ -130,14 +130,14 @@ walks_onward c label x from p (Some e ∷ row) (up s) is at h =
     subst (λ (xs : List Visit). Walks c label (xs ++ onward from (p + 1) row) (visits_below c row s)) (sym (by_from from p e h.0)) (walks_onward c label x from (p + 1) row s is (row_tail c x p (Some e) row at) h.1)
 walks_onward c label x from p (Some e ∷ row) (down t s) is at h =
     subst (λ (xs : List Visit). Walks c label (xs ++ onward from (p + 1) row) (visits c (record { node = e.node; from = Some e.port }) t ++ visits_below c row s)) (sym (by_other from p e h.0))
-      (record {
-        there = (plugged c e (end_at x p) (is.both_ways (end_at x p) e (row_head c x p (Some e) row at))).node;
-        tree = t;
-        seen = h.1;
-        others = visits_below c row s;
-        split = refl;
-        after = walks_onward c label x from (p + 1) row s is (row_tail c x p (Some e) row at) h.2;
-      })
+    (record {
+      there = (plugged c e (end_at x p) (is.both_ways (end_at x p) e (row_head c x p (Some e) row at))).node;
+      tree = t;
+      seen = h.1;
+      others = visits_below c row s;
+      split = refl;
+      after = walks_onward c label x from (p + 1) row s is (row_tail c x p (Some e) row at) h.2;
+    })
 walks_onward c label x from p row s is at h = absurd h
 
 -- ---- the loop
@@ -167,10 +167,10 @@ going_by c label waiting done whole v is g (branch a s) h before w split =
       rest = before ++ visits_below c row s;
       walks = walks_append c label waiting (onward v.from 0 row) before (visits_below c row s) w (walks_onward c label v.node v.from 0 row s is (row_all c v.node) h.2);
       all =
-        ap (λ (xs : List Visit). (before ++ visits_below c row s) ++ xs) (reverse-push done v)
-        ∙ regroup before (visits_below c row s) (reverse done) v
-        ∙ ap (λ (xs : List Visit). xs ++ reverse done) (sym split)
-        ∙ g.all;
+          ap (λ (xs : List Visit). (before ++ visits_below c row s) ++ xs) (reverse-push done v)
+          ∙ regroup before (visits_below c row s) (reverse done) v
+          ∙ ap (λ (xs : List Visit). xs ++ reverse done) (sym split)
+          ∙ g.all;
     }
 
 pub going_next : (c : Wiring) (label : ℕ → Label) (waiting done whole : List Visit) (v : Visit) → IsCabling c → Going c label (waiting ++ v ∷ []) done whole → Going c label (waiting ++ onward v.from 0 (ports_of c v.node)) (done ++ v ∷ []) whole

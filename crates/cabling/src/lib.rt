@@ -18,3 +18,6 @@ pub use node_set::NodeSet;
 pub use tree::TreeFromFault;
 pub use walk::{Cyclic, Walk};
 pub use wiring::{Cabling, OutOfMemory, cables_are_two_ended};
+
+#[cfg(test)]
+mod tests;

@@ -68,7 +68,6 @@ impl Model for Cabling {
 
     ghost Value = { Wiring };
 
-
     ghost view = { λ c. c.nodes.items };
 
     ghost invariant = { λ c. IsCabling c.nodes.items };

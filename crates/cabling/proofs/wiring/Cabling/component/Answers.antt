@@ -16,8 +16,8 @@ loop-next-init c = record {
 pub loop-next-preserved : goal.loop-next-preserved
 loop-next-preserved c = record {
   growing = growing_next c.args.self.now c.args.node c.in-Some.next c.loop-next.done c.loop-next.waiting c.neighbours.result c.union.result c.insert-in-Some.new.self c.minus-waiting.result
-    c.cables_are_two_ended.ensures c.loop-next.invariant.growing c.in-Some.ensures.holds
-    (record { done_now = c.insert-in-Some.ensures.holds; done_others = c.insert-in-Some.ensures.others; near_is = c.neighbours.ensures.members; both_is = c.union.ensures.members; after = c.minus-waiting.ensures.members });
+      c.cables_are_two_ended.ensures c.loop-next.invariant.growing c.in-Some.ensures.holds
+      (record { done_now = c.insert-in-Some.ensures.holds; done_others = c.insert-in-Some.ensures.others; near_is = c.neighbours.ensures.members; both_is = c.union.ensures.members; after = c.minus-waiting.ensures.members });
   small = c.insert-in-Some.ensures.small;
 }
 

@@ -10,4 +10,4 @@ returns-clause-core c = record { component = c.component-component.result; of_no
 pub returns-clause-small_trees : goal.returns-clause-small_trees
 returns-clause-small_trees c = λ empty label.
     small_tree c.args.self.now label c.args.node c.component-component.result
-      (loopless c.args.self.now c.args.node c.component-component.result c.core.result c.cables_are_two_ended.ensures c.requires c.component-component.ensures.component c.component-component.ensures.small c.core.ensures empty)
+    (loopless c.args.self.now c.args.node c.component-component.result c.core.result c.cables_are_two_ended.ensures c.requires c.component-component.ensures.component c.component-component.ensures.small c.core.ensures empty)

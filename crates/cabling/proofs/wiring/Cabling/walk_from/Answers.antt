@@ -18,7 +18,7 @@ pub returns-clause-walk : goal.returns-clause-walk
 returns-clause-walk c = λ label.
     let s : SmallTree c.args.self.now label c.args.root = c.core_of-core.ensures.small_trees (c.is_empty.ensures.0 c.if-not-is_empty.false) label in
     let all : c.loop-visit.walk ≡ map node_of c.visits-visits.result =
-      c.loop-visit.invariant ∙ ap (λ (vs : List Visit). map node_of vs) (take_whole c.as_slice-visit-items.result.now c.loop-visit.visit-index c.loop-visit-test.false ∙ c.as_slice-visit-items.ensures.value) in
+    c.loop-visit.invariant ∙ ap (λ (vs : List Visit). map node_of vs) (take_whole c.as_slice-visit-items.result.now c.loop-visit.visit-index c.loop-visit-test.false ∙ c.as_slice-visit-items.ensures.value) in
     record {
       tree = s.tree;
       seen = s.seen;
