@@ -1,0 +1,17 @@
+pub use Rattle.self_id.specs.Node
+pub mod Timing
+pub mod Ports
+pub mod Sends
+pub mod Step
+pub mod Coins
+pub mod PowerOn
+pub mod Entry
+pub mod Config
+pub mod Heard
+pub mod Resetting
+pub mod TreeIdentify
+pub mod Group
+pub mod SelfIdentify
+pub mod Tick
+pub mod Machine
+pub mod Valid
