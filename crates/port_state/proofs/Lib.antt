@@ -1,0 +1,3 @@
+pub mod EachPort
+pub mod Sent
+pub mod Roles

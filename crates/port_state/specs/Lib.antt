@@ -15,3 +15,4 @@ pub mod SelfIdentify
 pub mod Tick
 pub mod Machine
 pub mod Valid
+pub mod Laws

@@ -27,29 +27,28 @@ abbrev pub EachPort : (ℕ → PortView → Type 0) → List PortView → Type 0
 EachPort P ports = (k : ℕ) (p : PortView) → slice_get ports k ≡ Some p → P k p
 
 -- before the tree is known no port leads to a child, and none to a parent
-pub record HasNoRoles (x : NodeState) : Type 0 where
-  pub no_child : EachPort (λ k p. p.child ≡ false) x.view.ports
-  pub no_parent : x.view.parent ≡ None
+abbrev pub HasNoRoles : Option ℕ → List PortView → Type 0
+HasNoRoles parent ports = EachPort (λ k p. p.child ≡ false) ports × (parent ≡ None)
 
 -- how many roles a port has: that of a child port, that of the parent port
 abbrev pub roles : Option ℕ → ℕ → PortView → ℕ
 roles parent k p = bit p.child + bit (is_port parent k)
 
 -- afterwards a connected port has one of the two roles, and no other port has one
-pub record HasRoles (x : NodeState) : Type 0 where
-  pub each : EachPort (λ k p. roles x.view.parent k p ≡ bit p.connected) x.view.ports
+abbrev pub HasRoles : Option ℕ → List PortView → Type 0
+HasRoles parent ports = EachPort (λ k p. roles parent k p ≡ bit p.connected) ports
 
 -- the roles that fit a phase
-abbrev pub FitsPhase : Phase → NodeState → Type 0
-FitsPhase ResetStart x = HasNoRoles x
-FitsPhase ResetWait x = HasNoRoles x
-FitsPhase TreeStart x = HasNoRoles x
-FitsPhase ChildShake x = HasRoles x
-FitsPhase ParentShake x = HasRoles x
-FitsPhase Contend x = HasRoles x × IsSome x.view.parent
-FitsPhase SelfIdent x = HasRoles x
-FitsPhase Ready x = HasRoles x
+abbrev pub FitsPhase : Phase → Option ℕ → List PortView → Type 0
+FitsPhase ResetStart parent ports = HasNoRoles parent ports
+FitsPhase ResetWait parent ports = HasNoRoles parent ports
+FitsPhase TreeStart parent ports = HasNoRoles parent ports
+FitsPhase ChildShake parent ports = HasRoles parent ports
+FitsPhase ParentShake parent ports = HasRoles parent ports
+FitsPhase Contend parent ports = HasRoles parent ports × IsSome parent
+FitsPhase SelfIdent parent ports = HasRoles parent ports
+FitsPhase Ready parent ports = HasRoles parent ports
 
 pub record IsValid (x : NodeState) : Type 0 where
   pub bounded : IsBounded x
-  pub fits : FitsPhase x.view.phase x
+  pub fits : FitsPhase x.view.phase x.view.parent x.view.ports
