@@ -1,5 +1,5 @@
 -- What a node does with a signal that a port hears.
-use Rattle.std.specs.Prelude.{ℕ, Bool, true, false, ◌&&◌, List, ◌∷◌, ◌++◌, [], length, nat_lt, if◌then◌else◌}
+use Rattle.std.specs.Prelude.{ℕ, Bool, true, false, not, ◌&&◌, List, ◌∷◌, ◌++◌, [], length, nat_lt, if◌then◌else◌}
 use Rattle.port_state.specs.declared.signal.Level.{Level}
 use Rattle.port_state.specs.declared.signal.Level.TheVariants as level
 use Rattle.port_state.specs.declared.signal.Phase.{Phase}
@@ -7,7 +7,7 @@ use Rattle.port_state.specs.declared.signal.Phase.TheVariants.{ResetStart, Reset
 use Rattle.port_state.specs.declared.signal.Signal.{Signal}
 use Rattle.port_state.specs.declared.signal.Signal.TheVariants as signal
 use Rattle.port_state.specs.declared.states.NodeState.{NodeState}
-use Rattle.port_state.specs.Ports.{port_is, is_port}
+use Rattle.port_state.specs.Ports.{port_is, is_connected, is_port}
 use Rattle.port_state.specs.Sends.{on_others}
 use Rattle.port_state.specs.Step.{Step, quiet}
 use Rattle.port_state.specs.Entry.{enter, with_port}
@@ -44,6 +44,16 @@ hears_packets ParentShake = false
 hears_packets Contend = false
 hears_packets SelfIdent = true
 hears_packets Ready = true
+
+-- Reset outside R0
+abbrev pub begins_reset : Signal → Phase → Bool
+begins_reset signal.Reset phase = not (is_resetting phase)
+begins_reset signal.Idle phase = false
+begins_reset signal.Parent phase = false
+begins_reset signal.Child phase = false
+begins_reset signal.Grant phase = false
+begins_reset (signal.Packet quad) phase = false
+begins_reset signal.Done phase = false
 
 -- the port shows a level
 abbrev pub with_level : ℕ → Level → NodeState → NodeState
@@ -93,4 +103,4 @@ hears port signal.Done x = hears_done port x
 
 -- a port that isn't connected hears nothing
 unfoldable pub on_signal : ℕ → Signal → NodeState → Step
-on_signal port s x = if port_is (λ p. p.connected) x.view.ports port then hears port s x else quiet x
+on_signal port s x = if is_connected x.view.ports port then hears port s x else quiet x

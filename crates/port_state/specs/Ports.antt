@@ -56,6 +56,10 @@ passes test (Some p) = test p
 abbrev pub port_is : (PortView → Bool) → List PortView → ℕ → Bool
 port_is test ports k = passes test (slice_get ports k)
 
+-- the port of this number exists and is connected
+abbrev pub is_connected : List PortView → ℕ → Bool
+is_connected ports k = port_is (λ p. p.connected) ports k
+
 -- this port, if any, has this number
 abbrev pub is_port : Option ℕ → ℕ → Bool
 is_port None k = false

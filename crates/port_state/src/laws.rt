@@ -1,0 +1,57 @@
+//! Laws of the step table. Each function is a fact for the crates above, which call it.
+ghost use Rattle.std.specs.Prelude.{◌≡◌, ℕ, ◌<◌, ◌≤◌, ◌/◌, ◌%◌, ◌^◌, ◌==◌, Bool, false, Option};
+ghost use Rattle.std.specs.Option.{ForSome};
+ghost use Rattle.self_id.specs.declared.node.Attrs.{Attrs};
+ghost use Rattle.self_id.specs.Node.{FitBits};
+ghost use Rattle.port_state.specs.declared.signal.Signal.{Signal};
+ghost use Rattle.port_state.specs.declared.timing.Timing.{Timing};
+ghost use Rattle.port_state.specs.declared.states.NodeState.{NodeState};
+ghost use Rattle.port_state.specs.Timing.{InRange, usual_timing};
+ghost use Rattle.port_state.specs.Coins.{coin_at, given};
+ghost use Rattle.port_state.specs.PowerOn.{power_on};
+ghost use Rattle.port_state.specs.Entry.{enter, disturb, plugged, pulled};
+ghost use Rattle.port_state.specs.Config.{set_config};
+ghost use Rattle.port_state.specs.Heard.{begins_reset, on_signal};
+ghost use Rattle.port_state.specs.Tick.{tick};
+ghost use Rattle.port_state.specs.Valid.{IsBounded, IsValid};
+ghost use Rattle.port_state.specs.Laws.{IsSound, TickKeeps, SignalKeeps};
+
+/// Each step of a valid record, by whatever row and signal, gives a valid record of the same node. It
+/// sends at most 112 signals, and none on a port that isn't connected. A reset may begin from any
+/// bounded record.
+pub fn steps_are_sound()
+    ensures tick { (coin : Bool) (x : NodeState) → IsValid x → IsSound x (tick coin x) }
+    ensures signal { (port : ℕ) (s : Signal) (x : NodeState) → IsValid x → IsSound x (on_signal port s x) }
+    ensures enter { (caused : Bool) (x : NodeState) → IsBounded x → IsSound x (enter caused x) }
+    ensures disturb { (x : NodeState) → IsBounded x → IsSound x (disturb x) }
+    ensures plugged { (port : ℕ) (x : NodeState) → IsBounded x → IsSound x (plugged port x) }
+    ensures pulled { (port : ℕ) (x : NodeState) → IsBounded x → IsSound x (pulled port x) }
+{}
+
+/// A configuration packet with a gap count of 6 bits leaves a record valid.
+pub fn config_is_valid()
+    ensures { (root_id : ℕ) (force : Bool) (gap : Option ℕ) (x : NodeState) → ForSome gap (λ g. g ≤ 63) → IsValid x → IsValid (set_config root_id force gap x) }
+{}
+
+/// A node of 1 to 16 ports, with attributes that fit their bits and no delay, is valid at power-on.
+pub fn power_on_is_valid()
+    ensures { (ports : ℕ) (attrs : Attrs) (force : Bool) (timing : Timing) → 1 ≤ ports → ports ≤ 16 → FitBits attrs → attrs.delay ≡ 0 → IsValid (power_on ports attrs force timing) }
+{}
+
+/// What a row doesn't name stays. No tick changes a cable, a level that a port shows, the gap count,
+/// the initiated bit or the count of resets; no signal but a Reset that begins a reset changes the
+/// phase, the timer, the parent port, the ID or the draws.
+pub fn what_stays()
+    ensures tick { (coin : Bool) (x : NodeState) → TickKeeps x (tick coin x).state }
+    ensures signal { (port : ℕ) (s : Signal) (x : NodeState) → begins_reset s x.view.phase ≡ false → SignalKeeps x (on_signal port s x).state }
+{}
+
+/// The usual times lie in their ranges.
+pub fn usual_in_range()
+    ensures { (d : ℕ) → InRange d (usual_timing d) }
+{}
+
+/// Coin number k of given bits, from 0, is bit k modulo their number.
+pub fn given_coins()
+    ensures { (word len k : ℕ) → 0 < len → coin_at k (given word len) ≡ (word / 2 ^ (k % len) % 2 == 1) }
+{}
