@@ -4,3 +4,4 @@ pub mod Sent
 pub mod Roles
 pub mod Sound
 pub mod Stays
+mod Worked
