@@ -16,7 +16,7 @@ from word len (suc k) place h = go (place + 1 == len) refl (λ p l. from word le
     go true e rest =
         let whole : place + 1 ≡ len = eqb-true (place + 1) len e in
         let z : (place + suc k) % len ≡ (0 + k) % len =
-            (let s : place + suc k ≡ len + k = omega arith in ap (λ n. n % len) s) ∙ add-mod_left len k ∙ (let s : k ≡ 0 + k = omega arith in ap (λ n. n % len) s) in
+        (let s : place + suc k ≡ len + k = omega arith in ap (λ n. n % len) s) ∙ add-mod_left len k ∙ (let s : k ≡ 0 + k = omega arith in ap (λ n. n % len) s) in
         rest 0 (omega arith) ∙ ap (bit_at word) (sym z)
     go false e rest =
         let z : (place + suc k) % len ≡ (place + 1 + k) % len = (let s : place + suc k ≡ place + 1 + k = omega arith in ap (λ n. n % len) s) in

@@ -1,7 +1,9 @@
 pub mod CoinPlaces
 pub mod EachPort
-pub mod Sent
+pub mod Laws
+pub mod Pointwise
 pub mod Roles
+pub mod Sent
 pub mod Sound
 pub mod Stays
 mod Worked

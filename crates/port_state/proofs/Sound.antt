@@ -299,6 +299,7 @@ sound-takes_roles x v e d =
     inside [] j t = absurd cc
     inside (p ∷ ps) zero t = omega arith
     inside (p ∷ ps) (suc j) t = omega (arith, inside ps j t)
+
     there : (ports : List PortView) (j : ℕ) → port_is is_left ports j ≡ true → length ports ≡ x.ports → 0 + j < x.ports
     there ports j t l = omega (arith, inside ports j t, l)
 
@@ -336,8 +337,8 @@ sound-contend_at (Some p) x v e o =
     let f : PortView → PortView = λ p. record p { child = true } in
     sound-if x (port_is (λ p. is_parent p.shown) x.view.ports p) _ _
     (λ _. sound-send x (tree.takes_rival p x).state p signal.Child b refl refl refl (length-changed p f x.view.ports) refl refl (λ q n. absurd cc) refl refl
-        (rival_taken x.view.ports p (subst (λ q. HasRoles q x.view.ports) o fit.0))
-        (port_is-changed (λ p. p.connected) p f (λ p. refl) x.view.ports p ∙ c))
+    (rival_taken x.view.ports p (subst (λ q. HasRoles q x.view.ports) o fit.0))
+    (port_is-changed (λ p. p.connected) p f (λ p. refl) x.view.ports p ∙ c))
     (sound-send x (tree.asks_again p x).state p signal.Parent b refl refl refl refl refl refl b.parent refl refl fit.0 c)
 
 sound-contend : (x : NodeState) → IsValid x → x.view.phase ≡ Contend → IsSound x (tree.contend_row x)
@@ -391,7 +392,7 @@ sound-granted (Some k) x v e h =
     let r : HasRoles x.view.parent x.view.ports = fits-at x SelfIdent v e in
     go (port_is (λ p. p.asked) x.view.ports k)
     (sound-send x (with_port k f x) k signal.Grant b refl refl refl (length-changed k f x.view.ports) refl refl b.parent refl refl
-        (fits-changed k f (λ p. (refl, refl)) x.view.phase x.view.parent x.view.ports v.fits) (port_is-changed (λ p. p.connected) k f (λ p. refl) x.view.ports k ∙ h k refl))
+    (fits-changed k f (λ p. (refl, refl)) x.view.phase x.view.parent x.view.ports v.fits) (port_is-changed (λ p. p.connected) k f (λ p. refl) x.view.ports k ∙ h k refl))
   where
     go : (t : Bool) → IsSound x (ident.asks_child k x) → IsSound x (if t then quiet x else ident.asks_child k x)
     go true s = sound-still x v
@@ -400,8 +401,8 @@ sound-granted (Some k) x v e h =
 sound-self_ident : (x : NodeState) → IsValid x → x.view.phase ≡ SelfIdent → IsSound x (ident.self_ident_row x)
 sound-self_ident x v e =
     let h : ForSome (lowest is_unnamed x.view.ports) (λ k. port_is (λ p. p.connected) x.view.ports k ≡ true) =
-        lowest-passes is_unnamed (λ k. port_is (λ p. p.connected) x.view.ports k ≡ true) 0 x.view.ports
-        (λ j t. let z : 0 + j ≡ j = omega arith in rw z (port_is-implies is_unnamed (λ p. p.connected) unnamed_connected x.view.ports j t)) in
+    lowest-passes is_unnamed (λ k. port_is (λ p. p.connected) x.view.ports k ≡ true) 0 x.view.ports
+    (λ j t. let z : 0 + j ≡ j = omega arith in rw z (port_is-implies is_unnamed (λ p. p.connected) unnamed_connected x.view.ports j t)) in
     sound-if x x.view.granted _ _ (λ _. sound-granted (lowest is_unnamed x.view.ports) x v e h) (sound-still x v)
 
 -- ---- a tick

@@ -47,8 +47,18 @@ keeps-if x false s t p q = q
 -- the lines stay, and phase, timer, roles and flags alone may change
 kept : (x y : NodeState) → map line y.view.ports ≡ map line x.view.ports → y.view.initiated ≡ x.view.initiated → y.view.gap ≡ x.view.gap → y.view.force ≡ x.view.force → y.view.next_gap ≡ x.view.next_gap → y.view.next_force ≡ x.view.next_force → y.view.resets ≡ x.view.resets → y.list ≡ x.list → y.view.id ≡ x.view.id → y.view.draws ≡ x.view.draws → y.view.first_draws ≡ x.view.first_draws → y.view.wait ≡ x.view.wait → TickKeeps x y
 kept x y l i g f n m r s d a b w = record {
-  lines = l; initiated = i; gap = g; force = f; next_gap = n; next_force = m; resets = r;
-  list = λ _. s; id = λ _. d; draws = λ _. a; first_draws = λ _. b; wait = λ _. w;
+  lines = l;
+  initiated = i;
+  gap = g;
+  force = f;
+  next_gap = n;
+  next_force = m;
+  resets = r;
+  list = λ _. s;
+  id = λ _. d;
+  draws = λ _. a;
+  first_draws = λ _. b;
+  wait = λ _. w;
 }
 
 kept-still : (x : NodeState) → TickKeeps x (raised x)
@@ -89,8 +99,18 @@ drawn x p e o t = rw (e, o) t
 
 keeps-begins : (coin : Bool) (p : ℕ) (x : NodeState) → draws_coin x ≡ true → TickKeeps x (tree.begins_contention coin p (raised x)).state
 keeps-begins coin p x d = record {
-  lines = refl; initiated = refl; gap = refl; force = refl; next_gap = refl; next_force = refl; resets = refl;
-  list = λ _. refl; id = λ _. refl; draws = λ h. absurd cc; first_draws = λ h. absurd cc; wait = λ h. absurd cc;
+  lines = refl;
+  initiated = refl;
+  gap = refl;
+  force = refl;
+  next_gap = refl;
+  next_force = refl;
+  resets = refl;
+  list = λ _. refl;
+  id = λ _. refl;
+  draws = λ h. absurd cc;
+  first_draws = λ h. absurd cc;
+  wait = λ h. absurd cc;
 }
 
 keeps-parent_shake_at : (coin : Bool) (o : Option ℕ) (x : NodeState) → x.view.phase ≡ ParentShake → x.view.parent ≡ o → TickKeeps x (tree.parent_shake_at coin o (raised x)).state
@@ -115,8 +135,18 @@ identifying x e = rw e refl
 
 keeps-names : (x : NodeState) → is_identifying x.view.phase ≡ true → TickKeeps x (ident.names_itself (raised x)).state
 keeps-names x s = record {
-  lines = refl; initiated = refl; gap = refl; force = refl; next_gap = refl; next_force = refl; resets = refl;
-  list = λ h. absurd cc; id = λ h. absurd cc; draws = λ _. refl; first_draws = λ _. refl; wait = λ _. refl;
+  lines = refl;
+  initiated = refl;
+  gap = refl;
+  force = refl;
+  next_gap = refl;
+  next_force = refl;
+  resets = refl;
+  list = λ h. absurd cc;
+  id = λ h. absurd cc;
+  draws = λ _. refl;
+  first_draws = λ _. refl;
+  wait = λ _. refl;
 }
 
 keeps-granted : (o : Option ℕ) (x : NodeState) → x.view.phase ≡ SelfIdent → TickKeeps x (ident.granted_row o (raised x)).state
@@ -147,14 +177,38 @@ tick-keeps coin x = keeps-row coin x.view.phase x refl
 -- the ports, the grant and the list alone may change
 heard-keeps : (x : NodeState) (ports : List PortView) (granted : Bool) → SignalKeeps x (record x { view = record x.view { ports = ports; granted = granted } })
 heard-keeps x ports granted = record {
-  phase = refl; timer = refl; wait = refl; parent = refl; id = refl; draws = refl; first_draws = refl; initiated = refl;
-  gap = refl; force = refl; next_gap = refl; next_force = refl; timed_out = refl; resets = refl;
+  phase = refl;
+  timer = refl;
+  wait = refl;
+  parent = refl;
+  id = refl;
+  draws = refl;
+  first_draws = refl;
+  initiated = refl;
+  gap = refl;
+  force = refl;
+  next_gap = refl;
+  next_force = refl;
+  timed_out = refl;
+  resets = refl;
 }
 
 all-kept : (x : NodeState) → SignalKeeps x x
 all-kept x = record {
-  phase = refl; timer = refl; wait = refl; parent = refl; id = refl; draws = refl; first_draws = refl; initiated = refl;
-  gap = refl; force = refl; next_gap = refl; next_force = refl; timed_out = refl; resets = refl;
+  phase = refl;
+  timer = refl;
+  wait = refl;
+  parent = refl;
+  id = refl;
+  draws = refl;
+  first_draws = refl;
+  initiated = refl;
+  gap = refl;
+  force = refl;
+  next_gap = refl;
+  next_force = refl;
+  timed_out = refl;
+  resets = refl;
 }
 
 either : (x : NodeState) (b : Bool) (s t : Step) → SignalKeeps x s.state → SignalKeeps x t.state → SignalKeeps x (if b then s else t).state
@@ -173,8 +227,20 @@ reset-keeps n x h = go (heard.is_resetting x.view.phase) h _
 
 packet-keeps : (n quad : ℕ) (x : NodeState) → SignalKeeps x (heard.hears_packet n quad x).state
 packet-keeps n quad x = either x (heard.hears_packets x.view.phase) _ _ (record {
-  phase = refl; timer = refl; wait = refl; parent = refl; id = refl; draws = refl; first_draws = refl; initiated = refl;
-  gap = refl; force = refl; next_gap = refl; next_force = refl; timed_out = refl; resets = refl;
+  phase = refl;
+  timer = refl;
+  wait = refl;
+  parent = refl;
+  id = refl;
+  draws = refl;
+  first_draws = refl;
+  initiated = refl;
+  gap = refl;
+  force = refl;
+  next_gap = refl;
+  next_force = refl;
+  timed_out = refl;
+  resets = refl;
 }) (all-kept x)
 
 hears-keeps : (n : ℕ) (s : Signal) (x : NodeState) → begins_reset s x.view.phase ≡ false → SignalKeeps x (hears n s x).state

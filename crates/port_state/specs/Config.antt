@@ -11,7 +11,9 @@ gap_or (Some gap) old = gap
 -- with R set the node is to be root from the next reset on if it has this ID, and else not; with T set
 -- it has this gap count from the next reset on
 abbrev pub set_config : ℕ → Bool → Option ℕ → NodeState → NodeState
-set_config root_id force gap x = record x { view = record x.view {
-  next_force = if force then is_port x.view.id root_id else x.view.next_force;
-  next_gap = gap_or gap x.view.next_gap;
-} }
+set_config root_id force gap x = record x {
+  view = record x.view {
+    next_force = if force then is_port x.view.id root_id else x.view.next_force;
+    next_gap = gap_or gap x.view.next_gap;
+  };
+}

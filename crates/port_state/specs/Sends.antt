@@ -23,6 +23,9 @@ on_others port s ports = sends_from 0 (λ k. not (k == port)) (λ p. s) ports
 abbrev pub notices : List PortView → List (ℕ × Signal)
 notices ports = sends_from 0 (λ k. true) (λ p. if is_parent p.shown then signal.Child else signal.Parent) ports
 
+abbrev pub packet : ℕ → Signal
+packet quad = signal.Packet quad
+
 -- each packet in turn on every port
 abbrev pub packets_on_every : List ℕ → List PortView → List (ℕ × Signal)
 packets_on_every [] ports = []
@@ -32,3 +35,8 @@ packets_on_every (q ∷ qs) ports = on_every (signal.Packet q) ports ++ packets_
 abbrev pub on_port : Option ℕ → Signal → List (ℕ × Signal)
 on_port None s = []
 on_port (Some p) s = (p, s) ∷ []
+
+-- what of it goes out on one port, in order
+abbrev pub sent_on : ℕ → List (ℕ × Signal) → List Signal
+sent_on port [] = []
+sent_on port (s ∷ sends) = if s.0 == port then s.1 ∷ sent_on port sends else sent_on port sends

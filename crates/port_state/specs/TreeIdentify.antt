@@ -25,12 +25,14 @@ adopted p = if asks p then record p { child = true } else p
 -- parent port; each neighbour is told
 abbrev pub takes_roles : NodeState → Step
 takes_roles x = record {
-  state = record x { view = record x.view {
-    phase = ChildShake;
-    timed_out = false;
-    ports = map adopted x.view.ports;
-    parent = lowest is_left x.view.ports;
-  } };
+  state = record x {
+    view = record x.view {
+      phase = ChildShake;
+      timed_out = false;
+      ports = map adopted x.view.ports;
+      parent = lowest is_left x.view.ports;
+    };
+  };
   sends = notices x.view.ports;
 }
 
@@ -66,13 +68,15 @@ draws_with coin draws first = if coin && nat_lt draws 32 then bit_or first (2 ^ 
 -- long for 1 and short for 0
 abbrev pub begins_contention : Bool → ℕ → NodeState → Step
 begins_contention coin parent x = record {
-  state = record x { view = record x.view {
-    phase = Contend;
-    timer = 0;
-    wait = if coin then x.timing.long else x.timing.short;
-    draws = min (x.view.draws + 1) 65535;
-    first_draws = draws_with coin x.view.draws x.view.first_draws;
-  } };
+  state = record x {
+    view = record x.view {
+      phase = Contend;
+      timer = 0;
+      wait = if coin then x.timing.long else x.timing.short;
+      draws = min (x.view.draws + 1) 65535;
+      first_draws = draws_with coin x.view.draws x.view.first_draws;
+    };
+  };
   sends = (parent, signal.Idle) ∷ [];
 }
 
@@ -88,11 +92,13 @@ parent_shake_row coin x = parent_shake_at coin x.view.parent x
 -- T3 to T1: the neighbour asks again, so it becomes a child
 abbrev pub takes_rival : ℕ → NodeState → Step
 takes_rival rival x = record {
-  state = record x { view = record x.view {
-    phase = ChildShake;
-    ports = (with_port rival (λ p. record p { child = true }) x).view.ports;
-    parent = None;
-  } };
+  state = record x {
+    view = record x.view {
+      phase = ChildShake;
+      ports = (with_port rival (λ p. record p { child = true }) x).view.ports;
+      parent = None;
+    };
+  };
   sends = (rival, signal.Child) ∷ [];
 }
 

@@ -6,23 +6,24 @@
 //! `PortMachine`, and does these steps to its record.
 #![tactic(auto)]
 
-mod laws;
 mod machine;
 mod ports;
 mod sends;
 mod signal;
 pub mod states;
+mod step_laws;
 #[cfg(test)]
 mod tests;
 mod timing;
 mod view;
 
-pub use laws::{
-    config_is_valid, given_coins, power_on_is_valid, steps_are_sound, usual_in_range, what_stays,
-};
 pub use machine::PortMachine;
 pub use ports::{PortView, PortViews};
 pub use sends::Sends;
 pub use signal::{Level, Phase, Signal};
+pub use step_laws::{
+    config_is_valid, given_coins, ports_by_number, power_on_is_valid, sends_by_port,
+    steps_are_sound, usual_in_range, what_stays,
+};
 pub use timing::Timing;
 pub use view::View;

@@ -1,5 +1,5 @@
 use Rattle.port_state.proofs.Stays.{tick-keeps, signal-keeps}
-use Rattle.port_state.proofs.laws.what_stays.Goals as goal
+use Rattle.port_state.proofs.step_laws.what_stays.Goals as goal
 
 pub returns-clause-tick : goal.returns-clause-tick
 returns-clause-tick c = tick-keeps

@@ -1,12 +1,15 @@
 //! Laws of the step table. Each function is a fact for the crates above, which call it.
-ghost use Rattle.std.specs.Prelude.{◌≡◌, ℕ, ◌<◌, ◌≤◌, ◌/◌, ◌%◌, ◌^◌, ◌==◌, Bool, false, Option};
-ghost use Rattle.std.specs.Option.{ForSome};
+ghost use Rattle.std.specs.Prelude.{◌≡◌, ℕ, ◌<◌, ◌≤◌, ◌/◌, ◌%◌, ◌^◌, ◌==◌, ◌&&◌, Bool, false, not, List, [], ◌∷◌, map, slice_get, Option, if◌then◌else◌};
+ghost use Rattle.std.specs.Option.{ForSome, option_map};
 ghost use Rattle.self_id.specs.declared.node.Attrs.{Attrs};
 ghost use Rattle.self_id.specs.Node.{FitBits};
 ghost use Rattle.port_state.specs.declared.signal.Signal.{Signal};
+ghost use Rattle.port_state.specs.declared.ports.PortView.{PortView};
 ghost use Rattle.port_state.specs.declared.timing.Timing.{Timing};
 ghost use Rattle.port_state.specs.declared.states.NodeState.{NodeState};
 ghost use Rattle.port_state.specs.Timing.{InRange, usual_timing};
+ghost use Rattle.port_state.specs.Ports.{asks, is_left, port_is, is_connected, changed};
+ghost use Rattle.port_state.specs.Sends.{on_every, on_others, notices, packets_on_every, packet, sent_on};
 ghost use Rattle.port_state.specs.Coins.{coin_at, given};
 ghost use Rattle.port_state.specs.PowerOn.{power_on};
 ghost use Rattle.port_state.specs.Entry.{enter, disturb, plugged, pulled};
@@ -44,6 +47,20 @@ pub fn power_on_is_valid()
 pub fn what_stays()
     ensures tick { (coin : Bool) (x : NodeState) → TickKeeps x (tick coin x).state }
     ensures signal { (port : ℕ) (s : Signal) (x : NodeState) → begins_reset s x.view.phase ≡ false → SignalKeeps x (on_signal port s x).state }
+{}
+
+/// What goes out on one port, for each way in which a step sends. So a step can be told port by port.
+pub fn sends_by_port()
+    ensures every { (port : ℕ) (s : Signal) (ports : List PortView) → sent_on port (on_every s ports) ≡ (if is_connected ports port then s ∷ [] else []) }
+    ensures others { (port but : ℕ) (s : Signal) (ports : List PortView) → sent_on port (on_others but s ports) ≡ (if not (port == but) && is_connected ports port then s ∷ [] else []) }
+    ensures notices { (port : ℕ) (ports : List PortView) → sent_on port (notices ports) ≡ (if port_is asks ports port then Signal.Child ∷ [] else (if port_is is_left ports port then Signal.Parent ∷ [] else [])) }
+    ensures packets { (port : ℕ) (quads : List ℕ) (ports : List PortView) → sent_on port (packets_on_every quads ports) ≡ (if is_connected ports port then map packet quads else []) }
+{}
+
+/// What a step makes of one port, for each way in which it changes ports.
+pub fn ports_by_number()
+    ensures all { (k : ℕ) (change : PortView → PortView) (ports : List PortView) → slice_get (map change ports) k ≡ option_map change (slice_get ports k) }
+    ensures one { (n k : ℕ) (change : PortView → PortView) (ports : List PortView) → slice_get (changed n change ports) k ≡ (if k == n then option_map change (slice_get ports k) else slice_get ports k) }
 {}
 
 /// The usual times lie in their ranges.

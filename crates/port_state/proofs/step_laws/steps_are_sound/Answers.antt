@@ -1,5 +1,5 @@
 use Rattle.port_state.proofs.Sound.{sound-tick, sound-on_signal, sound-enter, sound-disturb, sound-plugged, sound-pulled}
-use Rattle.port_state.proofs.laws.steps_are_sound.Goals as goal
+use Rattle.port_state.proofs.step_laws.steps_are_sound.Goals as goal
 
 pub returns-clause-tick : goal.returns-clause-tick
 returns-clause-tick c = sound-tick
