@@ -1,5 +1,5 @@
 -- Which bit each of the given coins is.
-use Rattle.std.proofs.Common.{◌≡◌, ℕ, zero, suc, ◌+◌, ◌<◌, ◌/◌, ◌%◌, ◌^◌, ◌==◌, Bool, true, false, refl, subst, sym, ◌∙◌, ap, arith, if◌then◌else◌}
+use Rattle.std.proofs.Common.{◌≡◌, ℕ, zero, suc, ◌+◌, ◌<◌, ◌/◌, ◌%◌, ◌^◌, ◌==◌, Bool, true, false, refl, sym, ◌∙◌, ap, arith, if◌then◌else◌}
 use Rattle.std.proofs.lemmas.Bool.{eqb-true, eqb-false}
 use Rattle.std.proofs.Math.Nat.{add-mod_left, mod-eq_of_lt}
 use Rattle.port_state.specs.Coins.{bits, coin_at, given}

@@ -1,5 +1,5 @@
 -- Facts of each port, where ports are changed.
-use Rattle.std.proofs.Common.{◌≡◌, ◌≢◌, ℕ, zero, suc, ◌+◌, ◌≤◌, ◌<◌, Bool, true, false, List, [], ◌∷◌, length, map, Option, Some, None, slice_get, slice_set, cond, refl, subst, sym, ◌∙◌, ap, arith, length-set}
+use Rattle.std.proofs.Common.{◌≡◌, ℕ, zero, suc, ◌+◌, ◌<◌, Bool, true, false, List, [], ◌∷◌, length, map, Option, Some, None, slice_get, slice_set, cond, refl, subst, sym, ◌∙◌, ap, arith, length-set}
 use Rattle.std.specs.List.{position_from}
 use Rattle.std.specs.Option.{ForSome}
 use Rattle.port_state.specs.declared.ports.PortView.{PortView}

@@ -4,3 +4,5 @@ pub use Rattle.port_state.proofs.Sound.{sound-tick, sound-on_signal, sound-enter
 pub use Rattle.port_state.proofs.Stays.{tick-keeps, signal-keeps}
 pub use Rattle.port_state.proofs.Pointwise.{on_every-port, on_others-port, notices-port, packets-port, map-port, changed-port}
 pub use Rattle.port_state.proofs.CoinPlaces.{coin_at-given}
+pub use Rattle.port_state.proofs.Shown.{shown-is_node}
+pub use Rattle.port_state.proofs.Zeros.{nodes_in-own_group}

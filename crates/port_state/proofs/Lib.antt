@@ -4,6 +4,8 @@ pub mod Laws
 pub mod Pointwise
 pub mod Roles
 pub mod Sent
+pub mod Shown
 pub mod Sound
 pub mod Stays
+pub mod Zeros
 mod Worked

@@ -1,6 +1,6 @@
 -- The roles of ports, as the rows of tree identify give and change them.
-use Rattle.std.proofs.Common.{◌≡◌, ℕ, zero, suc, ◌+◌, ◌≤◌, ◌<◌, Bool, true, false, not, cond, ◌&&◌, ◌||◌, ◌==◌, List, [], ◌∷◌, length, map, Option, Some, None, slice_get, refl, subst, sym, ◌∙◌, ap, arith, eq-eqb, inl, inr, ◌⊎◌}
-use Rattle.std.specs.Prelude.{count_by, if◌then◌else◌}
+use Rattle.std.proofs.Common.{◌≡◌, ℕ, zero, suc, ◌+◌, ◌≤◌, ◌<◌, Bool, true, false, not, cond, ◌&&◌, ◌||◌, ◌==◌, List, [], ◌∷◌, length, map, Option, Some, None, refl, subst, sym, ◌∙◌, ap, arith, eq-eqb, inl, inr, ◌⊎◌}
+use Rattle.std.specs.Prelude.{count_by}
 use Rattle.std.specs.List.{position_from}
 use Rattle.std.proofs.lemmas.Bool.{ne_eqb}
 use Rattle.std.proofs.lemmas.Bool.Decides.{nat_tests}
@@ -12,7 +12,7 @@ use Rattle.port_state.specs.declared.ports.PortView.{PortView}
 use Rattle.port_state.specs.declared.states.NodeState.{NodeState}
 use Rattle.port_state.specs.Ports.{asks, is_left, is_parent, is_port, connected_count, passes, port_is, changed, lowest}
 use Rattle.port_state.specs.TreeIdentify.{is_decided, adopted}
-use Rattle.port_state.specs.Valid.{EachPort, HasRoles, HasNoRoles, roles}
+use Rattle.port_state.specs.Valid.{EachPort, HasRoles, roles}
 use Rattle.port_state.proofs.EachPort.{each-map, each-at, each-changed}
 
 count-cons : (q : PortView → Bool) (p : PortView) (ps : List PortView) → count_by q (p ∷ ps) ≡ cond (q p) 1 0 + count_by q ps

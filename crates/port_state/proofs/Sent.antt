@@ -1,12 +1,12 @@
 -- What goes out on ports: on which, and how much.
-use Rattle.std.proofs.Common.{◌≡◌, ℕ, zero, suc, ◌+◌, ◌*◌, ◌≤◌, ◌<◌, Bool, true, false, ◌&&◌, List, [], ◌∷◌, ◌++◌, length, Option, Some, None, refl, subst, sym, ◌∙◌, arith, length-append, if◌then◌else◌}
+use Rattle.std.proofs.Common.{◌≡◌, ℕ, zero, suc, ◌+◌, ◌*◌, ◌≤◌, Bool, true, false, ◌&&◌, List, [], ◌∷◌, ◌++◌, length, Option, Some, None, refl, subst, ◌∙◌, arith, length-append, if◌then◌else◌}
 use Rattle.std.specs.List.{AllByRecursion}
 use Rattle.std.specs.Option.{ForSome}
 use Rattle.port_state.specs.declared.ports.PortView.{PortView}
 use Rattle.port_state.specs.declared.signal.Signal.{Signal}
 use Rattle.port_state.specs.declared.signal.Signal.TheVariants as signal
 use Rattle.port_state.specs.Ports.{port_is}
-use Rattle.port_state.specs.Sends.{sends_from, on_every, on_others, notices, packets_on_every, on_port}
+use Rattle.port_state.specs.Sends.{sends_from, on_every, packets_on_every, on_port}
 use Rattle.port_state.specs.Laws.{OnConnected}
 
 -- signals on ports of which Q holds

@@ -1,16 +1,12 @@
 -- Each step of a valid record gives a valid record, and sends little, on connected ports alone.
-use Rattle.std.proofs.Common.{◌≡◌, ℕ, zero, suc, ◌+◌, ◌-◌, ◌*◌, ◌≤◌, ◌<◌, Bool, true, false, not, ◌&&◌, ◌==◌, List, [], ◌∷◌, ◌++◌, length, map, Option, Some, None, slice_get, replicate, refl, subst, sym, ◌∙◌, ap, arith, length-append, if◌then◌else◌}
+use Rattle.std.proofs.Common.{◌≡◌, ℕ, zero, suc, ◌+◌, ◌≤◌, ◌<◌, Bool, true, false, not, ◌&&◌, ◌==◌, List, [], ◌∷◌, ◌++◌, length, map, Option, Some, None, replicate, refl, subst, sym, ◌∙◌, arith, length-append, if◌then◌else◌}
 use Rattle.std.specs.Prelude.{nat_le, nat_lt, IsSome}
-use Rattle.std.specs.List.{position_from}
 use Rattle.std.specs.Option.{ForSome}
 use Rattle.std.proofs.lemmas.Bool.{leb-true, ltb-true}
 use Rattle.std.proofs.lemmas.List.{length-map, length-replicate}
 use Rattle.phy_packet.specs.Layout.{bit}
-use Rattle.phy_packet.specs.Packet.{quad_of}
-use Rattle.phy_packet.specs.declared.packet.PhyPacket.{PhyPacket}
 use Rattle.self_id.specs.declared.node.Attrs.{Attrs}
-use Rattle.self_id.specs.Node.{Node, FitBits}
-use Rattle.self_id.specs.Group.{group, zero_packet, first_packet, second_packet}
+use Rattle.self_id.specs.Node.{FitBits}
 use Rattle.port_state.specs.declared.signal.Level.{Level}
 use Rattle.port_state.specs.declared.signal.Level.TheVariants as level
 use Rattle.port_state.specs.declared.signal.Phase.{Phase}
@@ -20,8 +16,8 @@ use Rattle.port_state.specs.declared.signal.Signal.TheVariants as signal
 use Rattle.port_state.specs.declared.ports.PortView.{PortView}
 use Rattle.port_state.specs.declared.timing.Timing.{Timing}
 use Rattle.port_state.specs.declared.states.NodeState.{NodeState}
-use Rattle.port_state.specs.Ports.{is_idle, is_parent, is_child, asks, is_left, is_unnamed, lowest, every, passes, port_is, is_port, changed}
-use Rattle.port_state.specs.Sends.{on_every, on_others, notices, packets_on_every, on_port}
+use Rattle.port_state.specs.Ports.{is_idle, is_parent, is_child, asks, is_left, is_unnamed, lowest, every, port_is, is_port, changed}
+use Rattle.port_state.specs.Sends.{packets_on_every, on_port}
 use Rattle.port_state.specs.Step.{Step, quiet}
 use Rattle.port_state.specs.PowerOn.{power_on, free_port}
 use Rattle.port_state.specs.Entry.{unmarked, enter, disturb, with_port, plugged, pulled}
@@ -30,13 +26,15 @@ use Rattle.port_state.specs.Heard as heard
 use Rattle.port_state.specs.Heard.{with_level, with_packet, hears, on_signal}
 use Rattle.port_state.specs.Resetting as reset
 use Rattle.port_state.specs.TreeIdentify as tree
-use Rattle.port_state.specs.Group.{own_group, nodes_in}
+use Rattle.port_state.specs.Group.{own_group, nodes_in, shown_node}
+use Rattle.self_id.proofs.Laws.{length-group}
+use Rattle.port_state.proofs.Shown.{shown-is_node}
 use Rattle.port_state.specs.SelfIdentify as ident
 use Rattle.port_state.specs.Tick.{raised, row, tick}
 use Rattle.port_state.specs.Valid.{IsBounded, EachPort, HasNoRoles, HasRoles, roles, FitsPhase, IsValid}
-use Rattle.port_state.specs.Laws.{OnConnected, IsSound}
-use Rattle.port_state.proofs.EachPort.{each-map, each-changed, length-changed, port_is-implies, port_is-map, port_is-changed, lowest-passes}
-use Rattle.port_state.proofs.Sent.{few-sends_from, SameCables, all-connected, on-append, packets-connected, few-packets, on-port, few-on_port}
+use Rattle.port_state.specs.Laws.{IsSound}
+use Rattle.port_state.proofs.EachPort.{each-changed, length-changed, port_is-implies, port_is-map, port_is-changed, lowest-passes}
+use Rattle.port_state.proofs.Sent.{few-sends_from, all-connected, on-append, packets-connected, few-packets, on-port, few-on_port}
 use Rattle.port_state.proofs.Roles.{decided_few, all_take_roles, parent-connected, rival_taken}
 
 -- ---- bounds are seen from these parts alone
@@ -346,15 +344,6 @@ sound-contend x v e = sound-if x (nat_le x.view.wait x.view.timer) _ _ (λ _. so
 
 -- ---- self identify
 
-pub few-group : (n : Node) (id : ℕ) → length (group n id) ≤ 3
-unfolding group
-few-group n id = go (length n.ports == 3) (length n.ports == 11)
-  where
-    go : (one two : Bool) → length (map quad_of (if one then zero_packet n id false ∷ [] else (if two then zero_packet n id true ∷ first_packet n id false ∷ [] else zero_packet n id true ∷ first_packet n id true ∷ second_packet n id ∷ []))) ≤ 3
-    go true two = omega arith
-    go false true = omega arith
-    go false false = omega arith
-
 test-and : (a b : Bool) → (a && b) ≡ true → (a ≡ true) × (b ≡ true)
 test-and true b h = (refl, h)
 test-and false b h = absurd cc
@@ -379,7 +368,7 @@ sound-names x v e m =
       ports = refl;
       attrs = refl;
       timing = refl;
-      few = let few = few-packets packets x.view.ports (few_views x b) in let three : length packets ≤ 3 = few-group _ id in omega (arith, few, three, few-on_port x.view.parent signal.Done, length-append (packets_on_every packets x.view.ports) (on_port x.view.parent signal.Done));
+      few = let few = few-packets packets x.view.ports (few_views x b) in let three : length packets ≤ 3 = (length-group (shown_node x) id (shown-is_node x b)).1 in omega (arith, few, three, few-on_port x.view.parent signal.Done, length-append (packets_on_every packets x.view.ports) (on_port x.view.parent signal.Done));
       connected = on-append x.view.ports (packets_on_every packets x.view.ports) (on_port x.view.parent signal.Done) (packets-connected packets x.view.ports)
           (on-port x.view.ports x.view.parent signal.Done (λ p o. up-connected x p b r o));
     }

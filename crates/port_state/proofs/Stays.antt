@@ -1,5 +1,5 @@
 -- What ticks and signals leave as it was.
-use Rattle.std.proofs.Common.{◌≡◌, ℕ, zero, suc, Bool, true, false, not, ◌&&◌, List, [], ◌∷◌, map, Option, Some, None, slice_get, slice_set, refl, subst, sym, ◌∙◌, ap, if◌then◌else◌}
+use Rattle.std.proofs.Common.{◌≡◌, ℕ, zero, suc, Bool, true, false, not, ◌&&◌, List, [], ◌∷◌, map, Option, Some, None, slice_get, slice_set, refl, sym, ◌∙◌, ap, if◌then◌else◌}
 use Rattle.std.specs.Prelude.{nat_le}
 use Rattle.port_state.specs.declared.signal.Level.{Level}
 use Rattle.port_state.specs.declared.signal.Level.TheVariants as level
@@ -11,13 +11,12 @@ use Rattle.port_state.specs.declared.ports.PortView.{PortView}
 use Rattle.port_state.specs.declared.states.NodeState.{NodeState}
 use Rattle.port_state.specs.Ports.{is_idle, is_parent, is_child, asks, is_unnamed, lowest, every, port_is, is_connected, is_port, changed, changed_at}
 use Rattle.port_state.specs.Step.{Step, quiet}
-use Rattle.port_state.specs.Entry.{with_port}
 use Rattle.port_state.specs.Heard as heard
 use Rattle.port_state.specs.Heard.{begins_reset, is_identifying, with_level, hears, on_signal}
 use Rattle.port_state.specs.Resetting as reset
 use Rattle.port_state.specs.TreeIdentify as tree
 use Rattle.port_state.specs.SelfIdentify as ident
-use Rattle.port_state.specs.Tick.{raised, row, tick, draws_coin, asks_parent, faces_at}
+use Rattle.port_state.specs.Tick.{raised, row, tick, draws_coin}
 use Rattle.port_state.specs.Laws.{line, TickKeeps, SignalKeeps}
 
 -- ---- lines

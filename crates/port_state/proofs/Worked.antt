@@ -1,7 +1,7 @@
 -- Worked rows of the step table: two nodes on one cable, of which one becomes leaf and the other root, a
 -- contention, and the first coins. The times are the usual ones for cables of at most 4 ticks: a hold of
 -- 256, a force time of 1024, a timeout of 2048, and waits of 12 and 32.
-use Rattle.std.proofs.Common.{◌≡◌, ℕ, zero, suc, Bool, true, false, List, [], ◌∷◌, Option, Some, None, refl}
+use Rattle.std.proofs.Common.{◌≡◌, ℕ, zero, suc, Bool, true, false, List, [], ◌∷◌, Some, None, refl}
 use Rattle.self_id.specs.declared.node.Attrs.{Attrs}
 use Rattle.self_id.specs.Group.{group}
 use Rattle.port_state.specs.declared.signal.Level.{Level}

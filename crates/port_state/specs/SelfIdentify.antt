@@ -1,9 +1,8 @@
 -- The rows of self identify: S0 (Self-ID start), S1 (Self-ID grant), S2 (Self-ID receive) and S4
 -- (Self-ID transmit), and the end of it in A0 (Idle).
-use Rattle.std.specs.Prelude.{ℕ, ◌+◌, Bool, true, ◌&&◌, List, [], ◌∷◌, ◌++◌, length, nat_le, Option, Some, None, if◌then◌else◌}
+use Rattle.std.specs.Prelude.{ℕ, ◌+◌, Bool, true, ◌&&◌, [], ◌∷◌, ◌++◌, length, nat_le, Option, Some, None, if◌then◌else◌}
 use Rattle.port_state.specs.declared.signal.Phase.TheVariants.{Ready}
 use Rattle.port_state.specs.declared.signal.Signal.TheVariants as signal
-use Rattle.port_state.specs.declared.ports.PortView.{PortView}
 use Rattle.port_state.specs.declared.states.NodeState.{NodeState}
 use Rattle.port_state.specs.Ports.{is_unnamed, lowest, port_is}
 use Rattle.port_state.specs.Sends.{packets_on_every, on_port}

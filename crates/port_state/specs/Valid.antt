@@ -1,5 +1,5 @@
 -- Which records a machine may have.
-use Rattle.std.specs.Prelude.{◌≡◌, ℕ, ◌+◌, ◌≤◌, ◌<◌, Bool, true, false, List, length, Option, Some, None, slice_get, IsSome}
+use Rattle.std.specs.Prelude.{◌≡◌, ℕ, ◌+◌, ◌≤◌, ◌<◌, false, List, length, Option, Some, None, slice_get, IsSome}
 use Rattle.std.specs.Option.{ForSome}
 use Rattle.phy_packet.specs.Layout.{bit}
 use Rattle.self_id.specs.Node.{FitBits}

@@ -23,7 +23,7 @@ pub use sends::Sends;
 pub use signal::{Level, Phase, Signal};
 pub use step_laws::{
     config_is_valid, given_coins, ports_by_number, power_on_is_valid, sends_by_port,
-    steps_are_sound, usual_in_range, what_stays,
+    shown_node_has_packets, steps_are_sound, usual_in_range, what_stays,
 };
 pub use timing::Timing;
 pub use view::View;

@@ -2,7 +2,7 @@
 ghost use Rattle.std.specs.Prelude.{◌≡◌, ℕ, ◌<◌, ◌≤◌, ◌/◌, ◌%◌, ◌^◌, ◌==◌, ◌&&◌, Bool, false, not, List, [], ◌∷◌, map, slice_get, Option, if◌then◌else◌};
 ghost use Rattle.std.specs.Option.{ForSome, option_map};
 ghost use Rattle.self_id.specs.declared.node.Attrs.{Attrs};
-ghost use Rattle.self_id.specs.Node.{FitBits};
+ghost use Rattle.self_id.specs.Node.{FitBits, IsNode};
 ghost use Rattle.port_state.specs.declared.signal.Signal.{Signal};
 ghost use Rattle.port_state.specs.declared.ports.PortView.{PortView};
 ghost use Rattle.port_state.specs.declared.timing.Timing.{Timing};
@@ -15,6 +15,7 @@ ghost use Rattle.port_state.specs.PowerOn.{power_on};
 ghost use Rattle.port_state.specs.Entry.{enter, disturb, plugged, pulled};
 ghost use Rattle.port_state.specs.Config.{set_config};
 ghost use Rattle.port_state.specs.Heard.{begins_reset, on_signal};
+ghost use Rattle.port_state.specs.Group.{shown_node, own_group, nodes_in};
 ghost use Rattle.port_state.specs.Tick.{tick};
 ghost use Rattle.port_state.specs.Valid.{IsBounded, IsValid};
 ghost use Rattle.port_state.specs.Laws.{IsSound, TickKeeps, SignalKeeps};
@@ -61,6 +62,13 @@ pub fn sends_by_port()
 pub fn ports_by_number()
     ensures all { (k : ℕ) (change : PortView → PortView) (ports : List PortView) → slice_get (map change ports) k ≡ option_map change (slice_get ports k) }
     ensures one { (n k : ℕ) (change : PortView → PortView) (ports : List PortView) → slice_get (changed n change ports) k ≡ (if k == n then option_map change (slice_get ports k) else slice_get ports k) }
+{}
+
+/// What a bounded record shows of itself is a node that self-ID packets can show. Its packets with an
+/// ID, 0 to 62, have one packet zero, so that the packet zeros of a list number its nodes.
+pub fn shown_node_has_packets()
+    ensures node { (x : NodeState) → IsBounded x → IsNode (shown_node x) }
+    ensures one { (x : NodeState) (id : ℕ) → IsBounded x → id ≤ 62 → nodes_in (own_group x id) ≡ 1 }
 {}
 
 /// The usual times lie in their ranges.
