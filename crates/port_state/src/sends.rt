@@ -1,6 +1,8 @@
 //! What a node sends in one step.
-ghost use Rattle.std.specs.Prelude.{◌≡◌, ◌<◌, ◌≤◌, [], ◌∷◌, ◌++◌, length};
+ghost use Rattle.std.specs.Prelude.{◌≡◌, ◌<◌, ◌≤◌, [], ◌∷◌, ◌++◌, length, ◌+◌};
+ghost use Rattle.port_state.specs.Sends.{on_every};
 
+use crate::ports::PortView;
 use crate::signal::Signal;
 use arrayvec::ArrayVec;
 use std::marker::Model;
@@ -38,6 +40,20 @@ impl Sends {
         ensures { self.new ≡ self.old ++ (port, signal) ∷ [] }
     {
         self.items.push((port, signal));
+    }
+
+    /// Appends a signal on each connected port of a node, at most 16, in rising port order.
+    pub fn push_on_every(&mut self, ports: &[PortView], signal: Signal)
+        requires few { length ports.now ≤ 16 }
+        requires room { length self.old + length ports.now ≤ 112 }
+        ensures sends { self.new ≡ self.old ++ on_every signal ports.now }
+        ensures fits { length self.new ≤ length self.old + length ports.now }
+    {
+        for (at, port) in ports.iter().enumerate() {
+            if port.connected {
+                self.push(at as u8, signal);
+            }
+        }
     }
 
     /// The ports and signals, the first that was sent first.
