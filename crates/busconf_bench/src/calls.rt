@@ -1,11 +1,15 @@
 //! The calls that are measured.
 
+use crate::cablings::{Question, Shape, answer_to, joined};
 use bus_manager::hops;
+use cabling::Cabling;
 use quad_lanes::{QuadList, first_bad_pair, firsts, pairs_of};
+use speed_map::rows;
 use std::alloc::{AllocError, Global};
 use std::io;
 use std::rt::Clock;
 use std::time::Instant;
+use topology_map::crc16;
 use topology_stack::{BusTree, read_tree};
 
 /// How many times the median is taken of.
@@ -19,8 +23,31 @@ const PAIRS: usize = 65_536;
 pub enum Call {
     ReadTree,
     Hops,
+    Rows,
+    Crc16,
     FirstBadPair,
     PlainRead,
+    Cabling(Question, Shape),
+}
+
+/// The shape of this name.
+fn shape_named(name: &str) -> Option<Shape> {
+    match name {
+        "line" => Some(Shape::Line),
+        "star" => Some(Shape::Star),
+        "looped" => Some(Shape::Looped),
+        _ => None,
+    }
+}
+
+/// The question of a cabling of this name.
+fn question_named(name: &str) -> Option<Question> {
+    match name {
+        "component" => Some(Question::Component),
+        "core" => Some(Question::Core),
+        "walk" => Some(Question::Walk),
+        _ => None,
+    }
 }
 
 impl Call {
@@ -29,9 +56,17 @@ impl Call {
         match name {
             "read_tree" => Some(Call::ReadTree),
             "hops" => Some(Call::Hops),
+            "rows" => Some(Call::Rows),
+            "crc16" => Some(Call::Crc16),
             "first_bad_pair" => Some(Call::FirstBadPair),
             "plain_read" => Some(Call::PlainRead),
-            _ => None,
+            _ => {
+                let (question, shape) = name.split_once('_')?;
+                Some(Call::Cabling(
+                    question_named(question)?,
+                    shape_named(shape)?,
+                ))
+            }
         }
     }
 }
@@ -42,10 +77,11 @@ struct Work {
     quads: QuadList,
     tree: BusTree,
     pairs: QuadList,
+    cabling: Cabling,
 }
 
 /// The work that a capture gives, if it is one of a bus tree.
-fn work_of(alloc: Global, bytes: &[u8]) -> Result<Option<Work>, AllocError> {
+fn work_of(alloc: Global, call: Call, bytes: &[u8]) -> Result<Option<Work>, AllocError> {
     let Ok(all) = pairs_of(alloc, bytes) else {
         return Ok(None);
     };
@@ -59,7 +95,17 @@ fn work_of(alloc: Global, bytes: &[u8]) -> Result<Option<Work>, AllocError> {
         pairs.push(first)?;
         pairs.push(!first)?;
     }
-    Ok(Some(Work { quads, tree, pairs }))
+    let shape = match call {
+        Call::Cabling(_, shape) => shape,
+        _ => Shape::Line,
+    };
+    let cabling = joined(alloc, shape)?;
+    Ok(Some(Work {
+        quads,
+        tree,
+        pairs,
+        cabling,
+    }))
 }
 
 /// One call. The answer keeps the compiler from leaving it out.
@@ -70,6 +116,15 @@ fn once(alloc: Global, call: Call, work: &Work) -> u64 {
             Err(_) => 0,
         },
         Call::Hops => u64::from(hops(&work.tree)),
+        Call::Rows => match rows(alloc, &work.tree) {
+            Ok(rows) => rows
+                .iter()
+                .map(|speed| u64::from(*speed))
+                .max()
+                .unwrap_or(0),
+            Err(_) => 0,
+        },
+        Call::Crc16 => u64::from(crc16(work.quads.as_slice())),
         Call::FirstBadPair => {
             let quads = work.pairs.as_slice();
             if quads.len() % 2 == 0 {
@@ -78,6 +133,7 @@ fn once(alloc: Global, call: Call, work: &Work) -> u64 {
                 0
             }
         }
+        Call::Cabling(question, _) => answer_to(&work.cabling, question),
         Call::PlainRead => {
             let mut sum = 0u32;
             for quad in work.pairs.as_slice() {
@@ -96,7 +152,7 @@ pub fn measured<R: Clock + AllocGlobal>(
     bytes: &[u8],
 ) -> io::Result<Option<u64>> {
     let alloc = rt.alloc();
-    let Some(work) = work_of(alloc, bytes)? else {
+    let Some(work) = work_of(alloc, call, bytes)? else {
         return Ok(None);
     };
     let mut taken = Vec::new(alloc);

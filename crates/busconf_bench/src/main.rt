@@ -6,10 +6,16 @@
 //!
 //! - `read_tree`: the tree of the capture's first quadlets, made and dropped
 //! - `hops`: the longest path of that tree
+//! - `rows`: the rows of its speed map
+//! - `crc16`: the CRC of the first quadlets
 //! - `first_bad_pair`: the pair check of 65,536 pairs, the capture's first pair over and over
 //! - `plain_read`: all quadlets of the same buffer added up, to compare the pair check with
+//! - `component_line`, `core_line`, `walk_line`: these of 63 nodes in a line, whatever the capture
+//! - the same with `_star`, each node below the first that has one of its sixteen ports left, and with
+//!   `_looped`, each node joined to the next eight
 #![tactic(auto)]
 
+mod cablings;
 mod calls;
 
 use calls::{Call, measured};

@@ -1,5 +1,5 @@
 mod Plus
 mod Bits
-mod Division
+pub mod Division
 mod Emitted
 mod Parts

@@ -1,0 +1,5 @@
+pub mod Reading
+pub mod OneReading
+pub mod OneOutcome
+pub mod Ends
+pub mod OneText

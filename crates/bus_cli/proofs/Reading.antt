@@ -1,0 +1,34 @@
+-- What reading a capture finds.
+use Rattle.std.proofs.Common.{◌≡◌, ◌≢◌, ◌↔◌, ℕ, ◌/◌, ◌%◌, ◌^◌, ◌<◌, List, ◌∷◌, length, get_or, Result, Err, refl, arith}
+use Rattle.std.specs.List.{All, AllByRecursion}
+use Rattle.std.proofs.lemmas.List.Elements.{All-nil, All-cons, All-from_get_or, recursion_from_All}
+use Rattle.quad_lanes.specs.Capture.{capture}
+use Rattle.quad_lanes.specs.Pairs.{quads_of, firsts}
+use Rattle.quad_lanes.specs.declared.pairs.PairFault.{PairFault}
+use Rattle.quad_lanes.specs.declared.pairs.PairFault.TheVariants.{Length, Memory as NoPairMemory}
+use Rattle.topology_stack.specs.declared.fault.TreeStop.{TreeStop}
+use Rattle.topology_stack.specs.declared.fault.TreeStop.TheVariants.{Fault, Memory}
+use Rattle.topology_stack.specs.Answer.{IfFault as IfTreeFault}
+use Rattle.topology_stack.specs.Refused.{Refused}
+use Rattle.bus_cli.specs.Capture.{IsCaptureOf, CaptureRefused}
+use Rattle.bus_cli.specs.Stop.{of_pairs, of_tree, IfFault}
+
+-- the packets' quadlets fit 32 bits, since bytes fit eight
+fit_firsts : (bytes : List ℕ) → AllByRecursion (λ b. b < 256) bytes → All (λ q. q < 2 ^ 32) (firsts (quads_of bytes))
+fit_firsts (a ∷ b ∷ c ∷ d ∷ e ∷ f ∷ g ∷ h ∷ bytes) (la, (lb, (lc, (ld, (le, (lf, (lg, (lh, rest)))))))) = All-cons (λ q. q < 2 ^ 32) _ _ (omega arith) (fit_firsts bytes rest)
+fit_firsts _ h = All-nil (λ q. q < 2 ^ 32)
+
+pub all_bytes : (bytes : List ℕ) → ((i : ℕ) → get_or bytes i 0 < 256) → All (λ b. b < 256) bytes
+all_bytes bytes fit = All-from_get_or (λ b. b < 256) bytes 0 (λ i _. fit i)
+
+-- bytes that are the capture of the firsts of their pairs
+pub is_capture : (bytes list : List ℕ) → All (λ b. b < 256) bytes → list ≡ firsts (quads_of bytes) → bytes ≡ capture (firsts (quads_of bytes)) → IsCaptureOf list bytes
+is_capture bytes list fit is captured = rw is (record { fit = fit_firsts bytes (recursion_from_All (λ b. b < 256) bytes fit); bytes_are = captured })
+
+pub is_pair_fault : {A : Type 0} (B : Type 0) (bytes : List ℕ) (fault : PairFault) → ((n : ℕ) → (◌≡◌ {A = Result A PairFault} (Err fault) (Err (Length n))) ↔ ((length bytes % 8 ≢ 0) × (n ≡ length bytes / 8))) → IfFault {A = B} (Err (of_pairs fault)) (λ f. CaptureRefused bytes f)
+is_pair_fault B bytes (Length n) cut = (cut n).0 refl
+is_pair_fault B bytes (NoPairMemory e) cut = tt
+
+pub is_tree_fault : (A B : Type 0) (bytes list : List ℕ) (stop : TreeStop) → IsCaptureOf list bytes → IfTreeFault {A = A} (Err stop) (λ f. Refused list f) → IfFault {A = B} (Err (of_tree stop)) (λ f. CaptureRefused bytes f)
+is_tree_fault A B bytes list (Fault f) captured refused = (list, captured, refused)
+is_tree_fault A B bytes list (Memory e) captured refused = tt

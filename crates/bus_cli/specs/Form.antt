@@ -1,0 +1,18 @@
+-- The words that the program is asked with.
+use Rattle.std.specs.Prelude.{◌≡◌, ℕ, List, [], ◌∷◌, map, codes, string_bytes, String}
+use Rattle.std.specs.Global.{Global}
+use Rattle.bus_cli.specs.declared.form.Form.{Form}
+use Rattle.bus_cli.specs.declared.form.Form.TheVariants.{Read, Maps}
+
+-- the word of a form
+abbrev pub word_of : Form → List ℕ
+word_of Read = codes "read"
+word_of Maps = codes "maps"
+
+-- the words are those of the form
+abbrev pub Asks : List (String Global) → Form → Type 0
+Asks words form = map string_bytes words ≡ word_of form ∷ []
+
+-- the words are those of some form
+abbrev pub IsForm : List (String Global) → Type 0
+IsForm words = (form : Form) × Asks words form

@@ -1,0 +1,6 @@
+pub mod Answer
+pub mod Capture
+pub mod Form
+pub mod Line
+pub mod Maps
+pub mod Stop

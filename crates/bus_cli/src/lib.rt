@@ -1,0 +1,18 @@
+//! The top call of the program: words and bytes in, a status and a text out.
+#![tactic(auto)]
+
+mod answer;
+mod capture;
+mod fault;
+mod form;
+mod laws;
+mod line;
+mod maps;
+mod status;
+mod top;
+
+pub use fault::CaptureFault;
+pub use form::{Form, USAGE};
+pub use laws::{one_outcome, one_reading};
+pub use status::{NO_FORM, NO_MEMORY, READ_FAULT, REFUSED, TOO_LONG, VALID, WRITE_FAULT};
+pub use top::{MAX_INPUT, bus_main};

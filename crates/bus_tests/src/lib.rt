@@ -1,0 +1,13 @@
+//! Tests that cross crates: the top call over sources and sinks in memory, and trees of many shapes.
+#![tactic(auto)]
+
+#[cfg(test)]
+mod answers;
+#[cfg(test)]
+mod faults;
+#[cfg(test)]
+mod hops;
+#[cfg(test)]
+mod inputs;
+#[cfg(test)]
+mod maps;

@@ -1,0 +1,17 @@
+pub mod Bits
+pub mod Ends
+pub mod Plugging
+pub mod Growing
+pub mod Near
+pub mod Stripping
+pub mod Cascade
+pub mod Rank
+pub mod Climb
+pub mod Seen
+pub mod Once
+pub mod Counting
+pub mod Small
+pub mod Waiting
+pub mod Cores
+pub mod Shown
+pub mod Emitted

@@ -1,0 +1,23 @@
+//! Nodes, their ports, and the cables between them: which nodes belong together, where cables form
+//! loops, and in which order the nodes of a tree identify themselves.
+#![tactic(auto)]
+
+mod cable;
+mod component;
+mod laws;
+mod looped;
+mod node_set;
+mod tree;
+mod visits;
+mod walk;
+mod wiring;
+
+pub use cable::{Cable, CableFault, End};
+pub use laws::trees_have_leaves;
+pub use node_set::NodeSet;
+pub use tree::TreeFromFault;
+pub use walk::{Cyclic, Walk};
+pub use wiring::{Cabling, OutOfMemory, cables_are_two_ended};
+
+#[cfg(test)]
+mod tests;

@@ -1,0 +1,180 @@
+use crate::{Cable, CableFault, Cabling, Cyclic, End, OutOfMemory, TreeFromFault};
+use self_id::Attrs;
+use std::alloc::Global;
+use std::test::Fail;
+use topology_stack::write_tree;
+
+/// The attributes of every node of these tests.
+const LINKED: Attrs = Attrs {
+    link: true,
+    gap: 63,
+    speed: 2,
+    delay: 0,
+    contender: false,
+    power: 0,
+    initiated: false,
+};
+
+/// Plugs cables, each given as node, port, node, port; whether all were plugged.
+fn plug_all(cabling: &mut Cabling, cables: &[[u8; 4]]) -> bool {
+    for [a, p, b, q] in cables {
+        let near = End { node: *a, port: *p };
+        let far = End { node: *b, port: *q };
+        if cabling.plug(near, far).is_err() {
+            return false;
+        }
+    }
+    true
+}
+
+/// The nodes of the walk from a root; none where there is a loop.
+fn walk_is(cabling: &Cabling, root: u8, nodes: &[u8]) -> bool {
+    if root >= cabling.nodes() {
+        return false;
+    }
+    match cabling.walk_from(root) {
+        Ok(walk) => walk.as_slice() == nodes,
+        Err(_) => false,
+    }
+}
+
+/// Whether the walk from a root is refused with the core that holds these nodes and no others.
+fn core_is(cabling: &Cabling, root: u8, nodes: &[u8]) -> bool {
+    if root >= cabling.nodes() {
+        return false;
+    }
+    match cabling.walk_from(root) {
+        Ok(_) => false,
+        Err(Cyclic { core }) => {
+            core.len() as usize == nodes.len() && nodes.iter().all(|node| core.has(*node))
+        }
+    }
+}
+
+/// Whether the tree of three nodes from a root, each with the same attributes, emits this list.
+fn list_is(
+    alloc: Global,
+    cabling: &Cabling,
+    root: u8,
+    list: &[u32],
+) -> Result<bool, TreeFromFault> {
+    if cabling.nodes() != 3 || root >= 3 {
+        return Ok(false);
+    }
+    let tree = cabling.tree_from(alloc, root, &[LINKED; 3])?;
+    Ok(write_tree(alloc, &tree)?.as_slice() == list)
+}
+
+#[test]
+fn a_line_of_three(rt: HostRuntime) -> Result<(), Fail> {
+    let mut cabling = Cabling::new(rt.alloc(), &[3, 3, 3])?;
+    assert!(rt; plug_all(&mut cabling, &[[0, 0, 1, 0], [1, 1, 2, 0]]));
+    assert!(rt; walk_is(&cabling, 1, &[0, 2, 1]));
+    assert!(rt; walk_is(&cabling, 0, &[2, 1, 0]));
+    assert!(rt;
+        list_is(
+            rt.alloc(),
+            &cabling,
+            1,
+            &[0x807f8094, 0x817f8094, 0x827f80f4]
+        )?
+    );
+    Ok(())
+}
+
+#[test]
+fn loops(rt: HostRuntime) -> Result<(), Fail> {
+    // a ring of three with a node at one of them
+    let mut cabling = Cabling::new(rt.alloc(), &[3, 3, 3, 3])?;
+    assert!(rt;
+        plug_all(
+            &mut cabling,
+            &[[0, 0, 1, 0], [1, 1, 2, 0], [2, 1, 0, 1], [0, 2, 3, 0]]
+        )
+    );
+    for root in 0..4 {
+        assert!(rt; core_is(&cabling, root, &[0, 1, 2]));
+    }
+    let near = End { node: 2, port: 0 };
+    let far = End { node: 1, port: 1 };
+    assert_eq!(rt; cabling.pull(near), Ok(Cable { a: near, b: far }));
+    assert_eq!(rt;
+        cabling.pull(near),
+        Err(CableFault::NotPlugged { end: near })
+    );
+    assert!(rt; walk_is(&cabling, 3, &[1, 2, 0, 3]));
+    // a ring of three with trees of two at two of them
+    let mut trees = Cabling::new(rt.alloc(), &[4, 4, 3, 2, 1, 2, 1])?;
+    assert!(rt;
+        plug_all(
+            &mut trees,
+            &[
+                [3, 0, 0, 0],
+                [0, 1, 1, 0],
+                [1, 1, 2, 0],
+                [2, 1, 0, 2],
+                [3, 1, 4, 0],
+                [1, 2, 5, 1],
+                [5, 0, 6, 0]
+            ]
+        )
+    );
+    assert!(rt; core_is(&trees, 6, &[0, 1, 2]));
+    // two cables between the same two nodes
+    let mut pair = Cabling::new(rt.alloc(), &[2, 2])?;
+    assert!(rt; plug_all(&mut pair, &[[0, 0, 1, 1], [1, 0, 0, 1]]));
+    assert!(rt; core_is(&pair, 1, &[0, 1]));
+    Ok(())
+}
+
+#[test]
+fn refusals(rt: HostRuntime) -> Result<(), Fail> {
+    let mut cabling = Cabling::new(rt.alloc(), &[3, 3])?;
+    let past_port = End { node: 0, port: 3 };
+    let past_node = End { node: 9, port: 0 };
+    let here = End { node: 0, port: 0 };
+    let there = End { node: 1, port: 0 };
+    let beside = End { node: 0, port: 1 };
+    for (a, b, fault) in [
+        (past_port, past_node, CableFault::NoNode { end: past_node }),
+        (here, past_port, CableFault::NoPort { end: past_port }),
+        (here, beside, CableFault::SameNode { node: 0 }),
+    ] {
+        assert_eq!(rt; cabling.plug(a, b), Err(fault));
+    }
+    assert_eq!(rt; cabling.plug(here, there), Ok(()));
+    assert_eq!(rt;
+        cabling.plug(beside, there),
+        Err(CableFault::InUse { end: there })
+    );
+    Ok(())
+}
+
+/// Nodes in a line, as many as a bus may have.
+fn longest_line(alloc: Global) -> Result<Cabling, OutOfMemory> {
+    let mut cabling = Cabling::new(alloc, &[2; 63])?;
+    for node in 0..62u8 {
+        let near = End { node, port: 1 };
+        let far = End {
+            node: node + 1,
+            port: 0,
+        };
+        if cabling.plug(near, far).is_err() {
+            break;
+        }
+    }
+    Ok(cabling)
+}
+
+#[test]
+fn a_line_of_63(rt: HostRuntime) -> Result<(), Fail> {
+    let cabling = longest_line(rt.alloc())?;
+    let mut nodes = [0; 63];
+    for node in 0..63u8 {
+        nodes[node as usize] = node;
+    }
+    assert!(rt; walk_is(&cabling, 62, &nodes));
+    nodes.reverse();
+    assert!(rt; walk_is(&cabling, 0, &nodes));
+    Ok(())
+}
