@@ -1,0 +1,11 @@
+pub mod CoinPlaces
+pub mod EachPort
+pub mod Laws
+pub mod Pointwise
+pub mod Roles
+pub mod Sent
+pub mod Shown
+pub mod Sound
+pub mod Stays
+pub mod Zeros
+mod Worked

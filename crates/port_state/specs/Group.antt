@@ -1,0 +1,48 @@
+-- The group of self-ID packets in which a node identifies itself.
+use Rattle.std.specs.Prelude.{ℕ, ◌+◌, ◌-◌, ◌/◌, ◌%◌, ◌^◌, Bool, ◌&&◌, ◌==◌, List, [], ◌∷◌, ◌++◌, nat_le, count_by, replicate, Option, if◌then◌else◌}
+use Rattle.self_id.specs.declared.node.Attrs.{Attrs}
+use Rattle.self_id.specs.declared.node.PortStatus.{PortStatus}
+use Rattle.self_id.specs.declared.node.PortStatus.TheVariants.{Absent, Unplugged, Up, Down}
+use Rattle.self_id.specs.Node.{Node}
+use Rattle.self_id.specs.Group.{group}
+use Rattle.port_state.specs.declared.ports.PortView.{PortView}
+use Rattle.port_state.specs.declared.states.NodeState.{NodeState}
+use Rattle.port_state.specs.Ports.{is_port}
+
+-- the attributes that the node shows: the gap count and the initiated bit are those of now
+abbrev pub shown_attrs : NodeState → Attrs
+shown_attrs x = record x.attrs { gap = x.view.gap; initiated = x.view.initiated }
+
+-- how many slots the packets of a node with so many ports have
+abbrev pub slot_count : ℕ → ℕ
+slot_count ports = if nat_le ports 3 then 3 else (if nat_le ports 11 then 11 else 16)
+
+-- the status of a port, given whether it is the parent port
+abbrev pub status : Bool → PortView → PortStatus
+status parent p = if parent then Up else (if p.child then Down else Unplugged)
+
+-- the statuses of ports, the first of which has number k
+abbrev pub statuses_from : ℕ → Option ℕ → List PortView → List PortStatus
+statuses_from k parent [] = []
+statuses_from k parent (p ∷ ps) = status (is_port parent k) p ∷ statuses_from (k + 1) parent ps
+
+-- a node that shows its ports, and absent slots behind them
+abbrev pub shown_node : NodeState → Node
+shown_node x = record {
+  attrs = shown_attrs x;
+  ports = statuses_from 0 x.view.parent x.view.ports ++ replicate (slot_count x.ports - x.ports) Absent;
+  kept_a = 0;
+  kept_b = 0;
+}
+
+-- its packets with an ID
+abbrev pub own_group : NodeState → ℕ → List ℕ
+own_group x id = group (shown_node x) id
+
+-- the first quadlet of a packet zero: 10 at the top, and a zero bit behind the phy_ID
+abbrev pub is_packet_zero : ℕ → Bool
+is_packet_zero quad = (quad / 2 ^ 30 == 2) && (quad / 2 ^ 23 % 2 == 0)
+
+-- how many nodes a list shows
+abbrev pub nodes_in : List ℕ → ℕ
+nodes_in list = count_by is_packet_zero list

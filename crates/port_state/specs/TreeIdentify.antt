@@ -1,0 +1,116 @@
+-- The rows of tree identify: T0 (Tree ID start), T1 (Child handshake), T2 (Parent handshake) and T3
+-- (Root contention).
+use Rattle.std.specs.Prelude.{ℕ, ◌+◌, ◌^◌, Bool, true, false, not, ◌&&◌, ◌||◌, ◌==◌, min, [], ◌∷◌, map, count_by, nat_le, nat_lt, bit_or, Option, Some, None, if◌then◌else◌}
+use Rattle.port_state.specs.declared.signal.Phase.TheVariants.{ChildShake, ParentShake, Contend, SelfIdent}
+use Rattle.port_state.specs.declared.signal.Signal.TheVariants as signal
+use Rattle.port_state.specs.declared.ports.PortView.{PortView}
+use Rattle.port_state.specs.declared.states.NodeState.{NodeState}
+use Rattle.port_state.specs.Ports.{is_idle, is_parent, is_child, asks, is_left, connected_count, every, lowest, port_is}
+use Rattle.port_state.specs.Sends.{notices}
+use Rattle.port_state.specs.Step.{Step, quiet}
+use Rattle.port_state.specs.Entry.{with_port}
+
+-- T0: all ports show Parent, or all but one do and the node needn't wait to become root
+abbrev pub is_decided : NodeState → Bool
+is_decided x =
+    let asking = count_by asks x.view.ports in
+    (asking == connected_count x.view.ports)
+    || ((asking + 1 == connected_count x.view.ports) && (not x.view.force || nat_le x.timing.force x.view.timer))
+
+-- a port that shows Parent becomes a child port
+abbrev pub adopted : PortView → PortView
+adopted p = if asks p then record p { child = true } else p
+
+-- T0 to T1: the ports that show Parent are the child ports, and the port that is left, if any, is the
+-- parent port; each neighbour is told
+abbrev pub takes_roles : NodeState → Step
+takes_roles x = record {
+  state = record x {
+    view = record x.view {
+      phase = ChildShake;
+      timed_out = false;
+      ports = map adopted x.view.ports;
+      parent = lowest is_left x.view.ports;
+    };
+  };
+  sends = notices x.view.ports;
+}
+
+-- T0: there is a loop
+abbrev pub times_out : NodeState → Step
+times_out x = quiet (record x { view = record x.view { timed_out = true } })
+
+abbrev pub tree_start_row : NodeState → Step
+tree_start_row x =
+    if is_decided x then takes_roles x
+    else (if nat_le x.timing.timeout x.view.timer then times_out x else quiet x)
+
+-- T1 to T2: every child port shows Idle
+abbrev pub child_shake_row : NodeState → Step
+child_shake_row x =
+    if every (λ p. if p.child then is_idle p.shown else true) x.view.ports
+    then quiet (record x { view = record x.view { phase = ParentShake } })
+    else quiet x
+
+-- T2 to S0: a node with no parent port is the root
+abbrev pub becomes_root : NodeState → Step
+becomes_root x = quiet (record x { view = record x.view { phase = SelfIdent; granted = true } })
+
+-- T2 to S0: the parent port shows Child
+abbrev pub is_accepted : ℕ → NodeState → Step
+is_accepted parent x = record { state = record x { view = record x.view { phase = SelfIdent } }; sends = (parent, signal.Idle) ∷ [] }
+
+-- the draws with one more coin: the first 32 are kept, number j as bit j
+abbrev pub draws_with : Bool → ℕ → ℕ → ℕ
+draws_with coin draws first = if coin && nat_lt draws 32 then bit_or first (2 ^ draws) else first
+
+-- T2 to T3: the parent port shows Parent, so both neighbours asked; a coin is drawn, and the wait is
+-- long for 1 and short for 0
+abbrev pub begins_contention : Bool → ℕ → NodeState → Step
+begins_contention coin parent x = record {
+  state = record x {
+    view = record x.view {
+      phase = Contend;
+      timer = 0;
+      wait = if coin then x.timing.long else x.timing.short;
+      draws = min (x.view.draws + 1) 65535;
+      first_draws = draws_with coin x.view.draws x.view.first_draws;
+    };
+  };
+  sends = (parent, signal.Idle) ∷ [];
+}
+
+abbrev pub parent_shake_at : Bool → Option ℕ → NodeState → Step
+parent_shake_at coin None x = becomes_root x
+parent_shake_at coin (Some parent) x =
+    if port_is (λ p. is_child p.shown) x.view.ports parent then is_accepted parent x
+    else (if port_is (λ p. is_parent p.shown) x.view.ports parent then begins_contention coin parent x else quiet x)
+
+abbrev pub parent_shake_row : Bool → NodeState → Step
+parent_shake_row coin x = parent_shake_at coin x.view.parent x
+
+-- T3 to T1: the neighbour asks again, so it becomes a child
+abbrev pub takes_rival : ℕ → NodeState → Step
+takes_rival rival x = record {
+  state = record x {
+    view = record x.view {
+      phase = ChildShake;
+      ports = (with_port rival (λ p. record p { child = true }) x).view.ports;
+      parent = None;
+    };
+  };
+  sends = (rival, signal.Child) ∷ [];
+}
+
+-- T3 to T2: the neighbour doesn't, so this node asks again
+abbrev pub asks_again : ℕ → NodeState → Step
+asks_again rival x = record { state = record x { view = record x.view { phase = ParentShake } }; sends = (rival, signal.Parent) ∷ [] }
+
+abbrev pub contend_at : Option ℕ → NodeState → Step
+contend_at None x = quiet x
+contend_at (Some rival) x =
+    if port_is (λ p. is_parent p.shown) x.view.ports rival then takes_rival rival x else asks_again rival x
+
+-- T3: when the wait is over
+abbrev pub contend_row : NodeState → Step
+contend_row x = if nat_le x.view.wait x.view.timer then contend_at x.view.parent x else quiet x

@@ -1,0 +1,89 @@
+//! What every machine of a node does.
+ghost use Rattle.std.specs.Prelude.{◌≡◌, ◌<◌, ◌≤◌, [], IsTrue, IsFalse};
+ghost use Rattle.std.specs.Option.{ForSome};
+ghost use Rattle.port_state.specs.Ports.{is_connected};
+ghost use Rattle.port_state.specs.Group.{shown_attrs};
+ghost use Rattle.port_state.specs.Valid.{IsValid};
+ghost use Rattle.port_state.specs.Machine.{PortNode, on_signal, tick, disturb, plugged, pulled, set_config};
+
+use crate::sends::Sends;
+use crate::signal::Signal;
+use crate::timing::Timing;
+use crate::view::View;
+use self_id::Attrs;
+
+/// The machine of one node: bus reset, tree identify and self identify as its ports see them
+/// (IEEE Std 1394-1995 and 1394a-2000, cable environment, states R0 to A0).
+///
+/// What a machine keeps stands for the record of a node with its coins, and each call does that
+/// call's step of the step table to it. `out` is empty at each call, and then has what was sent, the
+/// first signal first.
+pub trait PortMachine {
+    ghost record_of: { Self → PortNode };
+
+    /// A port, numbered from 0, hears a signal.
+    fn on_signal(&mut self, port: u8, signal: Signal, out: &mut Sends)
+        requires empty { out.old ≡ [] }
+        requires exists { port < (record_of self.old).state.ports }
+        ensures node { record_of self.new ≡ (on_signal port signal (record_of self.old)).node }
+        ensures sends { out.new ≡ (on_signal port signal (record_of self.old)).sends };
+
+    /// A tick of the clock passes.
+    fn tick(&mut self, out: &mut Sends)
+        requires empty { out.old ≡ [] }
+        ensures node { record_of self.new ≡ (tick (record_of self.old)).node }
+        ensures sends { out.new ≡ (tick (record_of self.old)).sends };
+
+    /// The node resets the bus.
+    fn disturb(&mut self, out: &mut Sends)
+        requires empty { out.old ≡ [] }
+        ensures node { record_of self.new ≡ (disturb (record_of self.old)).node }
+        ensures sends { out.new ≡ (disturb (record_of self.old)).sends };
+
+    /// A cable is plugged into a port, numbered from 0, that has none.
+    fn plugged(&mut self, port: u8, out: &mut Sends)
+        requires empty { out.old ≡ [] }
+        requires exists { port < (record_of self.old).state.ports }
+        requires free { IsFalse (is_connected (record_of self.old).state.view.ports port) }
+        ensures node { record_of self.new ≡ (plugged port (record_of self.old)).node }
+        ensures sends { out.new ≡ (plugged port (record_of self.old)).sends };
+
+    /// The cable is pulled from a port, numbered from 0, that has one.
+    fn pulled(&mut self, port: u8, out: &mut Sends)
+        requires empty { out.old ≡ [] }
+        requires connected { IsTrue (is_connected (record_of self.old).state.view.ports port) }
+        ensures node { record_of self.new ≡ (pulled port (record_of self.old)).node }
+        ensures sends { out.new ≡ (pulled port (record_of self.old)).sends };
+
+    /// The node hears a PHY configuration packet, which takes effect at the next reset. With `force`
+    /// (R) it is then to be root if its ID is `root_id`, 0 to 63, and else not. With a gap count (T),
+    /// 0 to 63, that is then its own.
+    fn set_config(&mut self, root_id: u8, force: bool, gap: Option<u8>)
+        requires root { root_id ≤ 63 }
+        requires gap { ForSome gap (λ g. g ≤ 63) }
+        ensures { record_of self.new ≡ set_config root_id force gap (record_of self.old) };
+
+    /// What the node shows of its state.
+    fn view(&self) -> View
+        ensures { result ≡ (record_of self.now).state.view };
+
+    /// The first quadlets of the self-ID packets that were heard or sent since the last reset.
+    fn list(&self) -> &[u32]
+        ensures { result.now ≡ (record_of self.now).state.list.items };
+
+    /// The attributes that the node shows, with the gap count and the initiated bit of its view.
+    fn attrs(&self) -> Attrs
+        ensures value { result ≡ shown_attrs (record_of self.now).state }
+        ensures no_delay { result.delay ≡ 0 };
+
+    /// The times of the node.
+    fn timing(&self) -> Timing
+        ensures { result ≡ (record_of self.now).state.timing };
+
+    /// The number of ports, 1 to 16.
+    fn ports(&self) -> u8
+        ensures { result ≡ (record_of self.now).state.ports };
+
+    // The record of a machine is valid, whatever calls came before.
+    ghost valid: { (m : Self) → IsValid (record_of m).state };
+}
