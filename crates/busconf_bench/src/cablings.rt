@@ -5,6 +5,7 @@ use std::alloc::{AllocError, Global};
 
 /// How many nodes there are, and how many ports each has.
 const NODES: u8 = 63;
+
 const PORTS: u8 = 16;
 
 /// How the nodes are joined.
@@ -47,7 +48,13 @@ pub fn joined(alloc: Global, shape: Shape) -> Result<Cabling, AllocError> {
             Shape::Star => join(&mut cabling, node / 15, 1 + node % 15, node + 1, 0),
             Shape::Looped => {
                 for step in 0..8u8 {
-                    join(&mut cabling, node, step, (node + step + 1) % NODES, 8 + step);
+                    join(
+                        &mut cabling,
+                        node,
+                        step,
+                        (node + step + 1) % NODES,
+                        8 + step,
+                    );
                 }
             }
         }

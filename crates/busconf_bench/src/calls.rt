@@ -62,10 +62,7 @@ impl Call {
             "plain_read" => Some(Call::PlainRead),
             _ => {
                 let (question, shape) = name.split_once('_')?;
-                Some(Call::Cabling(
-                    question_named(question)?,
-                    shape_named(shape)?,
-                ))
+                Some(Call::Cabling(question_named(question)?, shape_named(shape)?))
             }
         }
     }

@@ -15,3 +15,4 @@ pub mod Waiting
 pub mod Cores
 pub mod Shown
 pub mod Emitted
+pub mod Whole

@@ -13,7 +13,9 @@ mod walk;
 mod wiring;
 
 pub use cable::{Cable, CableFault, End};
-pub use laws::trees_have_leaves;
+pub use laws::{
+    components_are_whole, trees_have_leaves, trees_have_no_core, walks_hold_each_node_once,
+};
 pub use node_set::NodeSet;
 pub use tree::TreeFromFault;
 pub use walk::{Cyclic, Walk};

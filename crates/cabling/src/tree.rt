@@ -123,7 +123,8 @@ impl Cabling {
         let visits = self.visits(root);
         let mut quads = QuadList::new(alloc);
         for (id, visit) in visits.as_slice().iter().enumerate() {
-            let node = SelfId::new(attrs[visit.node as usize], self.slots(*visit).as_slice());
+            let own = attrs[visit.node as usize];
+            let node = SelfId::new(own, self.slots(*visit).as_slice());
             let mut group = QuadGroup::new();
             write_group(&node, id as u8, &mut group);
             append(&mut quads, group.as_slice())?;

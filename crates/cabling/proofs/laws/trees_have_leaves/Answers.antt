@@ -4,13 +4,6 @@ use Rattle.cabling.specs.NodeSet.{Holds, IsWithin}
 use Rattle.cabling.specs.Looped.{HasTwo, IsCore}
 use Rattle.cabling.proofs.Bits.{below}
 use Rattle.cabling.proofs.Cascade.{Weak, weak_or_all}
-use Rattle.cabling.proofs.Climb as climb
-use Rattle.cabling.proofs.Seen as seen
-use Rattle.cabling.proofs.Shown as shown
-use Rattle.cabling.proofs.Small as small
-use Rattle.cabling.proofs.Waiting as waiting
-use Rattle.cabling.proofs.Once as once
-use Rattle.cabling.specs.Walk as walk
 use Rattle.cabling.proofs.laws.trees_have_leaves.Goals as goal
 
 leaf : (c : Wiring) (set core part node : ℕ) → IsCore c set core → ((x : ℕ) → Holds core x → ⊥) → part < 2 ^ 63 → IsWithin part set → Holds part node → (leaf : ℕ) × Holds part leaf × (HasTwo c part leaf → ⊥)
