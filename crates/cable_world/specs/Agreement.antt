@@ -67,6 +67,6 @@ AtEnds w a b P = AtPort w a (λ v p. AtPort w b (λ u q. P v p u q))
 -- a node whose parent port is at the other end of the cable, unless a Reset is under way from there.
 pub record Agrees (w : CableWorld) : Type 0 where
   pub levels : (a b : End) → far w.cabling a ≡ Some b →
-    AtEnds w a b (λ v p u q. last_level q.shown (wire_of w a).signals ≡ out v.phase p.child)
+      AtEnds w a b (λ v p u q. last_level q.shown (wire_of w a).signals ≡ out v.phase p.child)
   pub roles : (a b : End) → far w.cabling a ≡ Some b → HasNoReset (wire_of w b).signals →
-    AtEnds w a b (λ v p u q. p.child ≡ true → u.parent ≡ Some b.port)
+      AtEnds w a b (λ v p u q. p.child ≡ true → u.parent ≡ Some b.port)

@@ -3,7 +3,7 @@
 use Rattle.std.specs.Prelude.{ℕ, zero, suc, ◌+◌, Bool, List, [], ◌∷◌, ◌++◌, map, Option, None, Some, nat_eq, if◌then◌else◌}
 use Rattle.std.specs.Cmp.Lexicographic.{pointwise}
 use Rattle.cabling.specs.declared.cable.End.{End}
-use Rattle.cabling.specs.Wiring.{Wiring}
+use Rattle.cabling.specs.Wiring.{Wiring, ports_of}
 use Rattle.port_state.specs.declared.signal.Signal.{Signal}
 use Rattle.port_state.specs.Sends.{sent_on}
 use Rattle.port_state.specs.Machine.{PortNode, NodeStep, on_signal, tick}
@@ -33,6 +33,10 @@ and_then first next = let second = next first.node in record { node = second.nod
 abbrev pub node_turn : List (ℕ × Signal) → PortNode → NodeStep
 node_turn [] x = tick x
 node_turn (s ∷ rest) x = and_then (on_signal s.0 s.1 x) (node_turn rest)
+
+-- node number k, which is x, in a turn
+abbrev pub turn_at : CableWorld → ℕ → PortNode → NodeStep
+turn_at w k x = node_turn (inbox w 0 (ports_of w.cabling k)) x
 
 -- every node, with its ports' far ends
 abbrev pub node_turns : CableWorld → Wiring → List PortNode → List NodeStep

@@ -6,11 +6,18 @@ use thiserror::Error;
 #[derive(Clone, Copy, Debug, PartialEq, Eq)]
 pub enum Act {
     /// A cable is plugged into two ends, first at `a` and then at `b`.
-    Plug { a: End, b: End },
+    Plug {
+        a: End,
+        b: End,
+    },
     /// The cable is pulled out at this end, and then at the other.
-    Pull { end: End },
+    Pull {
+        end: End,
+    },
     /// This node, by its number, resets the bus.
-    Reset { node: u8 },
+    Reset {
+        node: u8,
+    },
     /// Node number `from` sends a PHY configuration packet to all nodes of its component, and then
     /// resets the bus. With `force` (R) the node that now has the ID `root_id`, 0 to 63, is to be
     /// root, and no other; with a gap count (T), 0 to 63, all nodes take it.

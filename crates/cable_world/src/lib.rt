@@ -8,6 +8,8 @@
 
 mod act;
 mod run;
+mod turn_laws;
 
 pub use act::{Act, ActStop};
 pub use run::WorldRun;
+pub use turn_laws::{turn_by_number, turn_keeps, turns_add_up};

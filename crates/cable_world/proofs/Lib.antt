@@ -1,0 +1,7 @@
+pub mod Told
+mod ByNumber
+mod TwoNodes
+mod ThreeNodes
+mod Held
+mod Desk
+mod Loops
