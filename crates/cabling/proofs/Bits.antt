@@ -1,10 +1,10 @@
 -- One node put into a set or taken out of it.
-use Rattle.std.proofs.Common.{◌≡◌, ◌≢◌, ℕ, zero, suc, ◌+◌, ◌-◌, ◌*◌, ◌/◌, ◌%◌, ◌^◌, ◌<◌, ◌≤◌, ◌⊎◌, inl, inr, ◌↔◌, min, max, arith, sym, ◌∙◌, ap, subst, refl, bit_and, bit_or}
+use Rattle.std.proofs.Common.{◌≡◌, ◌≢◌, ℕ, zero, suc, ◌+◌, ◌-◌, ◌*◌, ◌%◌, ◌^◌, ◌<◌, ◌≤◌, ◌⊎◌, inl, inr, ◌↔◌, arith, sym, ◌∙◌, refl, bit_and, bit_or}
 use Rattle.std.specs.Int.{bit_at, bit_not, w64, trailing_zeros}
 use Rattle.std.proofs.lemmas.Bool.{cases_lt}
 use Rattle.std.proofs.lemmas.Nat.{pow_pos, one_shl, or_disjoint, or_lt, and_comm, and-not, and_le_l}
 use Rattle.std.proofs.Math.Pow.{pow-lt}
-use Rattle.std.proofs.lemmas.Nat.Bits.{bit_at_set_same, bit_at_set_other, bit_at_clear_same, bit_at_clear_other, bit_at-lt, bit_at_above, bit_at-zero, bit_at-pow_same, bit_at-pow_other, bit_at_or, bit_at_and, bit_at_not, and_pow, same_from_bits, bit_at-trailing_zeros}
+use Rattle.std.proofs.lemmas.Nat.Bits.{bit_at_set_same, bit_at_set_other, bit_at_clear_same, bit_at_clear_other, bit_at-lt, bit_at_above, bit_at-zero, bit_at_or, bit_at_and, bit_at_not, and_pow, bit_at-trailing_zeros}
 use Rattle.cabling.specs.NodeSet.{Holds}
 
 -- a bit is 0 or 1

@@ -1,6 +1,6 @@
 -- Where no part of a set is looped, a node with at most one cable into the rest can be taken away, and
 -- it needn't be the root.
-use Rattle.std.proofs.Common.{◌≡◌, ◌≢◌, ℕ, zero, suc, ◌+◌, ◌*◌, ◌%◌, ◌^◌, ◌<◌, ◌≤◌, ◌↔◌, ◌⊎◌, inl, inr, Bool, true, false, length, Option, Some, None, refl, sym, subst, ap, ◌∙◌, arith, bit_and}
+use Rattle.std.proofs.Common.{◌≡◌, ◌≢◌, ℕ, zero, suc, ◌+◌, ◌*◌, ◌%◌, ◌^◌, ◌<◌, ◌↔◌, ◌⊎◌, inl, inr, Bool, true, false, length, Option, Some, None, refl, sym, subst, ap, arith, bit_and}
 use Rattle.std.specs.Int.{bit_at, bit_not, w64}
 use Rattle.std.proofs.lemmas.Bool.{cases_eq, cases_lt, cases_order}
 use Rattle.cabling.specs.declared.cable.End.{End}
@@ -8,9 +8,9 @@ use Rattle.cabling.specs.Wiring.{Wiring, ports_of, far, IsCabling}
 use Rattle.cabling.specs.NodeSet.{Holds, IsWithin}
 use Rattle.cabling.specs.Looped.{LeadsInto, HasTwo, IsLooped}
 use Rattle.cabling.proofs.Bits.{below, removed, removed-gone, removed-others, removed-small, fewer}
-use Rattle.cabling.proofs.Ends.{plugged, one_other, none_some}
+use Rattle.cabling.proofs.Ends.{one_other, none_some}
 use Rattle.cabling.proofs.Near.{end_at}
-use Rattle.cabling.proofs.Stripping.{OneLeads, Counted, counted_no, counted_first, counted_second, counted_all}
+use Rattle.cabling.proofs.Stripping.{Counted, counted_no, counted_first, counted_second, counted_all}
 
 -- ---- what can be decided
 

@@ -1,9 +1,9 @@
 -- A node's component has one core.
-use Rattle.std.proofs.Common.{◌≡◌, ℕ}
+use Rattle.std.proofs.Common.{ℕ}
 use Rattle.cabling.specs.Wiring.{Wiring}
-use Rattle.cabling.specs.NodeSet.{Holds, IsWithin}
+use Rattle.cabling.specs.NodeSet.{IsWithin}
 use Rattle.cabling.specs.Component.{IsComponent}
-use Rattle.cabling.specs.Looped.{IsCore, IsCoreOf}
+use Rattle.cabling.specs.Looped.{IsCoreOf}
 
 -- each of two components of a node is within the other
 pub component_within : (c : Wiring) (node a b : ℕ) → IsComponent c node a → IsComponent c node b → IsWithin a b

@@ -1,9 +1,9 @@
 -- The list of a component without a loop is the one that the seen tree emits.
-use Rattle.std.proofs.Common.{◌≡◌, ℕ, ◌+◌, ◌<◌, ◌≤◌, Option, Some, None, List, [], ◌++◌, length, map, drop, get_or, Result, Ok, Err, refl, sym, subst, ap, ◌∙◌, arith}
+use Rattle.std.proofs.Common.{◌≡◌, ℕ, ◌<◌, ◌≤◌, None, List, ◌++◌, length, map, drop, get_or, Result, Ok, Err, sym, subst, ap, ◌∙◌}
 use Rattle.std.specs.Prelude.{All}
 use Rattle.self_id.specs.declared.node.Attrs.{Attrs}
 use Rattle.self_id.specs.Node.{FitBits, IsNode}
-use Rattle.topology_stack.specs.Tree.{Label, Tree, IsBusTree, groups, emits}
+use Rattle.topology_stack.specs.Tree.{Tree, IsBusTree, groups, emits}
 use Rattle.topology_stack.specs.Answer.{UnlessMemory}
 use Rattle.topology_stack.specs.declared.fault.TreeFault.{TreeFault}
 use Rattle.topology_stack.specs.declared.fault.TreeStop.{TreeStop}
@@ -12,7 +12,7 @@ use Rattle.cabling.specs.declared.visits.Visit.{Visit}
 use Rattle.cabling.specs.Wiring.{Wiring, IsCabling}
 use Rattle.cabling.specs.Sees.{Sees}
 use Rattle.cabling.specs.Visits.{SmallTree, visits, at_root}
-use Rattle.cabling.specs.Labels.{labels, slots_of, shown_node}
+use Rattle.cabling.specs.Labels.{labels, shown_node}
 use Rattle.cabling.proofs.Shown.{Good, AllGood, good_at, good_root, good_visits, shown_is_node, bus_seen, list_seen, listed_all, labels_fit}
 
 -- a seen tree, and its visits

@@ -1,10 +1,9 @@
 -- A component grows from one node: `done` has the nodes whose neighbours were taken, `waiting` the others.
-use Rattle.std.proofs.Common.{◌≡◌, ◌≢◌, ℕ, ◌<◌, ◌↔◌, ◌⊎◌, inl, inr, length, Some, refl, sym, subst, ap, ◌∙◌, arith}
+use Rattle.std.proofs.Common.{◌≡◌, ◌≢◌, ℕ, ◌<◌, ◌↔◌, ◌⊎◌, inl, inr, length, refl, sym, subst}
 use Rattle.std.specs.Int.{bit_at}
 use Rattle.std.proofs.lemmas.Bool.{cases_eq}
-use Rattle.cabling.specs.declared.cable.End.{End}
-use Rattle.cabling.specs.Wiring.{Wiring, far, IsCabling}
-use Rattle.cabling.specs.NodeSet.{Holds, IsWithin}
+use Rattle.cabling.specs.Wiring.{Wiring, IsCabling}
+use Rattle.cabling.specs.NodeSet.{Holds}
 use Rattle.cabling.specs.Component.{IsNeighbour, IsClosed, IsComponent}
 use Rattle.cabling.proofs.Ends.{plugged}
 use Rattle.cabling.proofs.Bits.{none_of_zero}

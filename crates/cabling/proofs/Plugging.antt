@@ -1,12 +1,12 @@
 -- What is known where no fault was found, and what the two writes of a call then make.
-use Rattle.std.proofs.Common.{◌≡◌, ◌≢◌, ◌==◌, ℕ, ◌<◌, ◌≤◌, Bool, true, false, not, Option, Some, None, length, arith, nat_lt, is_some, refl, if◌then◌else◌, List, get_or, slice_set, sym, subst, ◌∙◌, [], slice_index_or}
+use Rattle.std.proofs.Common.{◌≡◌, ◌≢◌, ◌==◌, ℕ, ◌<◌, Bool, true, false, not, Option, Some, None, length, arith, nat_lt, is_some, refl, if◌then◌else◌, List, get_or, slice_set, sym, subst, ◌∙◌, []}
 use Rattle.std.proofs.lemmas.List.{get_or-set_other, get_or_default}
 use Rattle.std.proofs.lemmas.Bool.Decides.{nat_tests}
 use Rattle.cabling.specs.declared.cable.End.{End}
 use Rattle.cabling.specs.declared.cable.CableFault.{CableFault}
 use Rattle.cabling.specs.Wiring.{Wiring, ports_of, far, HasEnd, IsCabling}
 use Rattle.cabling.proofs.Ends.{with_far, wrote_both, added_by_writes, cabling_added, taken_by_writes, cabling_taken, plugged}
-use Rattle.cabling.specs.Change.{Added, TakenOut, has_node, has_port, is_plugged, plug_fault, pull_fault}
+use Rattle.cabling.specs.Change.{Added, TakenOut, has_node, has_port, is_plugged, plug_fault}
 
 pub record Pluggable (c : Wiring) (a b : End) : Type 0 where
   pub has_a : HasEnd c a

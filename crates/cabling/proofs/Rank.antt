@@ -1,15 +1,15 @@
 -- Where no part of a component is looped, its nodes can be ranked: the root highest, and each node with
 -- at most one cable to a higher one.
-use Rattle.std.proofs.Common.{◌≡◌, ◌≢◌, ℕ, zero, suc, ◌+◌, ◌^◌, ◌<◌, ◌≤◌, ◌⊎◌, inl, inr, Bool, true, false, cond, eqb, Option, Some, None, refl, sym, subst, ap, ◌∙◌, arith}
+use Rattle.std.proofs.Common.{◌≡◌, ◌≢◌, ℕ, zero, suc, ◌^◌, ◌<◌, ◌⊎◌, inl, inr, Bool, true, false, cond, eqb, Some, refl, sym, subst, ◌∙◌, arith}
 use Rattle.std.proofs.lemmas.Bool.{cases_eq, cases_lt, ne_eqb}
 use Rattle.std.proofs.lemmas.Bool.Decides.{nat_tests}
 use Rattle.cabling.specs.declared.cable.End.{End}
 use Rattle.cabling.specs.Wiring.{Wiring, far, IsCabling}
 use Rattle.cabling.specs.NodeSet.{Holds, IsWithin}
-use Rattle.cabling.specs.Looped.{LeadsInto, HasTwo}
+use Rattle.cabling.specs.Looped.{HasTwo}
 use Rattle.cabling.proofs.Bits.{below}
 use Rattle.cabling.proofs.Near.{end_at}
-use Rattle.cabling.proofs.Cascade.{Weak, weak_or_all, two_or_not, two_of, holds_or_not, Less, less_by, less_within, not_gone, NoLoop, cascade}
+use Rattle.cabling.proofs.Cascade.{weak_or_all, two_or_not, two_of, holds_or_not, Less, less_by, less_within, NoLoop, cascade}
 
 pub record Ranked (c : Wiring) (set root : ℕ) (rank : ℕ → ℕ) : Type 0 where
   pub top : (x : ℕ) → Holds set x → x ≢ root → rank x < rank root

@@ -1,5 +1,5 @@
 -- Where ranks fall along each way from a node, the tree seen from it exists.
-use Rattle.std.proofs.Common.{◌≡◌, ◌≢◌, ℕ, zero, suc, ◌+◌, ◌-◌, ◌<◌, ◌≤◌, ◌⊎◌, inl, inr, Bool, true, false, nat_lt, cond, Option, Some, None, List, [], ◌∷◌, length, get_or, refl, sym, subst, ap, ◌∙◌, arith}
+use Rattle.std.proofs.Common.{◌≡◌, ◌≢◌, ℕ, zero, suc, ◌+◌, ◌<◌, ◌≤◌, ◌⊎◌, inl, inr, Option, Some, None, List, [], ◌∷◌, length, get_or, refl, sym, ap, arith}
 use Rattle.std.proofs.lemmas.Bool.{cases_eq, cases_lt}
 use Rattle.std.proofs.lemmas.Bool.Decides.{nat_tests}
 use Rattle.topology_stack.specs.Tree.{Label, Tree, branch, Slots, no_more, absent, unplugged, up, down, statuses}
@@ -8,7 +8,7 @@ use Rattle.cabling.specs.Wiring.{Wiring, ports_of, far, IsCabling}
 use Rattle.cabling.specs.NodeSet.{Holds}
 use Rattle.cabling.specs.Component.{IsClosed}
 use Rattle.cabling.specs.Sees.{width, Sees, SeesFrom}
-use Rattle.cabling.proofs.Ends.{plugged, one_other}
+use Rattle.cabling.proofs.Ends.{plugged}
 use Rattle.cabling.proofs.Near.{end_at}
 use Rattle.cabling.proofs.Rank.{Ranked}
 

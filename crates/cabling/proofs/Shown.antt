@@ -1,24 +1,24 @@
 -- A seen tree is a bus tree, and its walk is what its nodes show.
-use Rattle.std.proofs.Common.{◌≡◌, ◌≢◌, ◌==◌, ℕ, zero, suc, ◌+◌, ◌-◌, ◌^◌, ◌<◌, ◌≤◌, ◌⊎◌, inl, inr, Bool, true, false, cond, eqb, nat_lt, IsTrue, Option, Some, None, List, [], ◌∷◌, ◌++◌, length, map, take, drop, get_or, refl, sym, subst, ap, ◌∙◌, arith, append_assoc, length-append, append-nil, drop-cons, add-one}
+use Rattle.std.proofs.Common.{◌≡◌, ◌≢◌, ℕ, zero, suc, ◌+◌, ◌-◌, ◌<◌, ◌≤◌, inl, inr, Bool, true, false, cond, eqb, nat_lt, Option, Some, None, List, [], ◌∷◌, ◌++◌, length, map, drop, get_or, refl, sym, subst, ap, ◌∙◌, arith, append_assoc, length-append, append-nil, drop-cons, add-one}
 use Rattle.std.specs.Prelude.{All}
 use Rattle.std.proofs.Math.ListN.{replicate}
 use Rattle.std.proofs.lemmas.List.{length-replicate}
 use Rattle.std.proofs.lemmas.List.Elements.{All-get_or}
 use Rattle.std.proofs.lemmas.Grind.{common_steps}
-use Rattle.std.proofs.lemmas.Bool.{cases_eq, cases_lt, ne_eqb}
+use Rattle.std.proofs.lemmas.Bool.{cases_eq, ne_eqb}
 use Rattle.std.proofs.lemmas.Bool.Decides.{nat_tests}
 use Rattle.self_id.specs.declared.node.Attrs.{Attrs}
 use Rattle.self_id.specs.declared.node.PortStatus.{PortStatus}
 use Rattle.self_id.specs.declared.node.PortStatus.TheVariants.{Absent, Unplugged, Up, Down}
-use Rattle.self_id.specs.Node.{Node, IsNode, HasForm, FitBits, ups, is_width, kept_a_bits, kept_b_bits}
+use Rattle.self_id.specs.Node.{Node, IsNode, FitBits, ups, is_width, kept_a_bits, kept_b_bits}
 use Rattle.self_id.specs.Group.{group}
 use Rattle.topology_stack.specs.Tree.{Label, Tree, branch, Slots, no_more, absent, unplugged, up, down, statuses, node_of, walk, walk_below, IsPart, AreParts, IsWhole, IsBusTree, groups, emits}
 use Rattle.cabling.specs.declared.cable.End.{End}
 use Rattle.cabling.specs.declared.visits.Visit.{Visit}
-use Rattle.cabling.specs.Wiring.{Wiring, ports_of, far, HasEnd, IsCabling}
+use Rattle.cabling.specs.Wiring.{Wiring, ports_of, far, IsCabling}
 use Rattle.cabling.specs.Sees.{width, Sees, SeesFrom, numbers}
 use Rattle.cabling.specs.Visits.{visits, visits_below, is_from, at_root}
-use Rattle.cabling.specs.Labels.{no_attrs, labels, status, shown, slots_of, shown_node}
+use Rattle.cabling.specs.Labels.{no_attrs, labels, shown, slots_of, shown_node}
 use Rattle.std.proofs.lemmas.Nat.{pow_pos}
 use Rattle.cabling.proofs.Ends.{plugged, none_some}
 use Rattle.cabling.proofs.Near.{end_at}

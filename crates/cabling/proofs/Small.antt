@@ -1,10 +1,10 @@
 -- From each node of a component whose core is empty a tree is seen that has each node of it once.
-use Rattle.std.proofs.Common.{◌≡◌, ◌≢◌, ℕ, zero, suc, ◌+◌, ◌^◌, ◌<◌, ◌≤◌, ◌⊎◌, inl, inr, Option, Some, None, List, [], ◌∷◌, ◌++◌, length, refl, sym, subst, ap, ◌∙◌, arith}
+use Rattle.std.proofs.Common.{ℕ, suc, ◌^◌, ◌<◌, ◌≤◌, None, length, arith}
 use Rattle.topology_stack.specs.Tree.{Label, Tree}
-use Rattle.cabling.specs.Wiring.{Wiring, far, IsCabling}
-use Rattle.cabling.specs.NodeSet.{Holds, IsWithin}
-use Rattle.cabling.specs.Component.{IsClosed, IsComponent}
-use Rattle.cabling.specs.Looped.{IsLooped, IsCore}
+use Rattle.cabling.specs.Wiring.{Wiring, IsCabling}
+use Rattle.cabling.specs.NodeSet.{Holds}
+use Rattle.cabling.specs.Component.{IsComponent}
+use Rattle.cabling.specs.Looped.{IsCore}
 use Rattle.cabling.specs.Sees.{Sees, numbers}
 use Rattle.cabling.specs.Visits.{SmallTree}
 use Rattle.cabling.proofs.Bits.{below}

@@ -1,13 +1,12 @@
 -- A core is what is left where nodes with fewer than two cables into the rest were taken away.
-use Rattle.std.proofs.Common.{◌≡◌, ◌≢◌, ℕ, ◌+◌, ◌*◌, ◌^◌, ◌<◌, ◌≤◌, ◌↔◌, ◌⊎◌, inl, inr, Bool, true, false, MatchBool, List, get_or, length, Option, Some, None, sym, subst, ap, ◌∙◌, refl, arith}
-use Rattle.std.specs.Int.{bit_at}
+use Rattle.std.proofs.Common.{◌≡◌, ◌≢◌, ℕ, ◌+◌, ◌<◌, ◌≤◌, ◌↔◌, ◌⊎◌, inl, inr, Bool, true, false, MatchBool, List, get_or, length, Option, Some, None, sym, subst, ap, ◌∙◌, refl, arith}
 use Rattle.std.proofs.lemmas.Bool.{cases_eq, cases_lt}
 use Rattle.cabling.specs.declared.cable.End.{End}
 use Rattle.cabling.specs.Wiring.{Wiring, ports_of, far, IsCabling}
 use Rattle.cabling.specs.NodeSet.{Holds, IsWithin}
 use Rattle.cabling.specs.Component.{IsNeighbour}
 use Rattle.cabling.specs.Looped.{LeadsInto, HasTwo, IsLooped, IsCore}
-use Rattle.cabling.proofs.Ends.{plugged, one_other}
+use Rattle.cabling.proofs.Ends.{plugged}
 use Rattle.cabling.proofs.Near.{end_at, at_row}
 
 -- ---- counting to two

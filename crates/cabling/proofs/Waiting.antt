@@ -1,5 +1,5 @@
 -- The walk is made from its end: each visit that waits stands for the walk of the tree that is seen from it.
-use Rattle.std.proofs.Common.{◌≡◌, ◌≢◌, ◌==◌, ℕ, zero, suc, ◌+◌, ◌-◌, ◌<◌, ◌≤◌, ◌⊎◌, inl, inr, Bool, true, false, cond, eqb, Option, Some, None, List, [], ◌∷◌, ◌++◌, length, map, reverse, take, drop, refl, sym, subst, ap, ◌∙◌, arith, append_assoc, length-append, append-nil, get_or, drop-cons, add-one}
+use Rattle.std.proofs.Common.{◌≡◌, ◌≢◌, ℕ, suc, ◌+◌, ◌<◌, ◌≤◌, Bool, true, false, cond, eqb, Option, Some, None, List, [], ◌∷◌, ◌++◌, length, map, reverse, drop, refl, sym, subst, ap, ◌∙◌, arith, append_assoc, length-append, append-nil, get_or, drop-cons, add-one}
 use Rattle.std.proofs.lemmas.Bool.{ne_eqb}
 use Rattle.std.proofs.lemmas.Bool.Decides.{nat_tests}
 use Rattle.std.proofs.lemmas.List.{reverse-append, length-reverse}
@@ -8,7 +8,7 @@ use Rattle.cabling.specs.declared.cable.End.{End}
 use Rattle.cabling.specs.declared.visits.Visit.{Visit}
 use Rattle.cabling.specs.Wiring.{Wiring, ports_of, IsCabling}
 use Rattle.cabling.specs.Sees.{Sees, SeesFrom, numbers, numbers_below}
-use Rattle.cabling.specs.Visits.{visits, visits_below, is_from, by_port, onward, at_root, SmallTree}
+use Rattle.cabling.specs.Visits.{visits, visits_below, by_port, onward, at_root, SmallTree}
 use Rattle.cabling.proofs.Ends.{plugged}
 use Rattle.cabling.proofs.Near.{end_at}
 use Rattle.cabling.proofs.Seen.{RowAt, row_all, row_head, row_tail}

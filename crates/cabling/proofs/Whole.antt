@@ -1,21 +1,20 @@
 -- A component is a whole: its nodes share it, and a seen tree has each of them.
-use Rattle.std.proofs.Common.{◌≡◌, ◌≢◌, ℕ, zero, suc, ◌+◌, ◌-◌, ◌*◌, ◌/◌, ◌%◌, ◌^◌, ◌<◌, ◌≤◌, ◌↔◌, ◌⊎◌, inl, inr, Option, Some, None, List, [], ◌∷◌, ◌++◌, length, get_or, min, max, refl, sym, subst, ap, ◌∙◌, arith, bit_and, bit_or, bit_xor}
+use Rattle.std.proofs.Common.{◌≡◌, ◌≢◌, ℕ, zero, suc, ◌+◌, ◌^◌, ◌<◌, inl, inr, Option, Some, None, List, [], ◌∷◌, length, get_or, refl, sym, subst, ap, ◌∙◌, arith, bit_and, bit_or, bit_xor}
 use Rattle.std.specs.Int.{bit_at}
-use Rattle.std.proofs.lemmas.Bool.{cases_eq, cases_lt}
-use Rattle.std.proofs.lemmas.Nat.Bits.{bit_at-lt, bit_at_and, bit_at_or, bit_at_xor, bit_at-pow_same, bit_at-pow_other, bit_at_ones, bit_at_ones_above, bit_at-zero}
-use Rattle.topology_stack.specs.Tree.{Label, Tree, branch, Slots, no_more, absent, unplugged, up, down}
+use Rattle.std.proofs.lemmas.Bool.{cases_eq}
+use Rattle.std.proofs.lemmas.Nat.Bits.{bit_at-lt, bit_at_and, bit_at_or, bit_at_xor, bit_at-pow_same, bit_at-pow_other}
+use Rattle.topology_stack.specs.Tree.{Label, Tree, branch, Slots, unplugged, up, down}
 use Rattle.cabling.specs.declared.cable.End.{End}
-use Rattle.cabling.specs.Wiring.{Wiring, ports_of, far, IsCabling}
-use Rattle.cabling.specs.NodeSet.{Holds, IsWithin, IsEmpty}
+use Rattle.cabling.specs.Wiring.{Wiring, ports_of, IsCabling}
+use Rattle.cabling.specs.NodeSet.{Holds, IsEmpty}
 use Rattle.cabling.specs.Component.{IsClosed, IsComponent}
-use Rattle.cabling.specs.Looped.{LeadsInto, HasTwo, IsLooped, IsCore}
+use Rattle.cabling.specs.Looped.{HasTwo, IsLooped, IsCore}
 use Rattle.cabling.specs.Sees.{Sees, SeesFrom, numbers, numbers_below}
-use Rattle.cabling.specs.Walk.{WalkOf, IsWalk, times}
+use Rattle.cabling.specs.Walk.{IsWalk, times}
 use Rattle.cabling.proofs.Bits.{clear_bit, none_of_zero}
-use Rattle.cabling.proofs.Near.{end_at, small_far}
 use Rattle.cabling.proofs.Cascade.{holds_or_not}
 use Rattle.cabling.proofs.Seen.{from_or_not}
-use Rattle.cabling.proofs.Once.{In, in_append, in_right, closed_tree, in_itself}
+use Rattle.cabling.proofs.Once.{In, in_append, closed_tree, in_itself}
 use Rattle.cabling.proofs.Small.{Loopless, tree_within, tree_once}
 use Rattle.cabling.proofs.Counting.{in_or_not, times_in, times_out}
 use Rattle.cabling.proofs.Waiting.{plain}
@@ -39,10 +38,13 @@ without-parts set other x h = elim (holds_or_not set x) [
       let both : bit_at (bit_and set other) x ≡ 0 = bit_at_and set other x ∙ rw no_bit (omega arith) in
       let zero_bit : bit_at (without set other) x ≡ 0 = bit_at_xor set (bit_and set other) x ∙ rw (no_bit, both) refl in
       absurd (omega (arith, h, zero_bit))
-  | inl is ↦ (is, λ o.
-      let both : bit_at (bit_and set other) x ≡ 1 = bit_at_and set other x ∙ rw (is, o) refl in
-      let zero_bit : bit_at (without set other) x ≡ 0 = bit_at_xor set (bit_and set other) x ∙ rw (is, both) refl in
-      omega (arith, h, zero_bit))
+  | inl is ↦ (
+    is,
+    λ o.
+        let both : bit_at (bit_and set other) x ≡ 1 = bit_at_and set other x ∙ rw (is, o) refl in
+        let zero_bit : bit_at (without set other) x ≡ 0 = bit_at_xor set (bit_and set other) x ∙ rw (is, both) refl in
+        omega (arith, h, zero_bit),
+  )
 ]
 
 -- a set that a closed set leaves over is closed too
@@ -128,11 +130,11 @@ from_set (y ∷ ys) x h = elim (cases_eq x y) [
 pub tree_has : (c : Wiring) (label : ℕ → Label) (root set : ℕ) (t : Tree) → IsCabling c → IsComponent c root set → Sees c label root None t → (x : ℕ) → Holds set x → In x (numbers c root t)
 tree_has c label root set t is k h x has =
     from_set (numbers c root t) x (k.least (set_of (numbers c root t)) (in_set (numbers c root t) root (in_itself c root t))
-      (λ a b e in_a. elim (closed_tree c label root None t is h a.node a.port b (from_set (numbers c root t) a.node in_a) e) [
-        | inl found ↦ in_set (numbers c root t) b.node found
-        | inr from ↦ absurd cc
-      ])
-      x has)
+    (λ a b e in_a. elim (closed_tree c label root None t is h a.node a.port b (from_set (numbers c root t) a.node in_a) e) [
+      | inl found ↦ in_set (numbers c root t) b.node found
+      | inr from ↦ absurd cc
+    ])
+    x has)
 
 pub seen_no_loop : (c : Wiring) (label : ℕ → Label) (root set core : ℕ) (t : Tree) → IsCabling c → IsComponent c root set → IsCore c set core → Sees c label root None t → IsEmpty core
 seen_no_loop c label root set core t is k core_is h x in_core =

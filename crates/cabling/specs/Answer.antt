@@ -1,5 +1,5 @@
 -- What is said of an answer that may also be want of memory.
-use Rattle.std.specs.Prelude.{◌≡◌, ℕ, Result, Ok, Err}
+use Rattle.std.specs.Prelude.{ℕ, Result, Ok, Err}
 use Rattle.topology_stack.specs.Tree.{Tree}
 use Rattle.cabling.specs.declared.tree.TreeFromFault.{TreeFromFault}
 use Rattle.cabling.specs.declared.tree.TreeFromFault.TheVariants.{Cyclic, Memory}

@@ -1,5 +1,5 @@
 -- What plugging and pulling do, and when they are refused.
-use Rattle.std.specs.Prelude.{◌≡◌, ◌≢◌, ◌==◌, ℕ, List, Bool, not, Option, Some, None, length, map, is_some, nat_lt, if◌then◌else◌}
+use Rattle.std.specs.Prelude.{◌≡◌, ◌≢◌, ◌==◌, Bool, not, Option, Some, None, length, map, is_some, nat_lt, if◌then◌else◌}
 use Rattle.cabling.specs.declared.cable.End.{End}
 use Rattle.cabling.specs.declared.cable.CableFault.{CableFault}
 use Rattle.cabling.specs.declared.cable.CableFault.TheVariants.{NoNode, NoPort, InUse, SameNode, NotPlugged}

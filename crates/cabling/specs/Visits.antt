@@ -1,6 +1,6 @@
 -- The nodes of a tree in the order of its walk, each with the port by which it is come to.
-use Rattle.std.specs.Prelude.{◌≡◌, ℕ, ◌+◌, ◌≤◌, Bool, false, ◌==◌, if◌then◌else◌, Option, Some, None, List, [], ◌∷◌, ◌++◌, length}
-use Rattle.topology_stack.specs.Tree.{Label, Tree, branch, Slots, no_more, absent, unplugged, up, down}
+use Rattle.std.specs.Prelude.{ℕ, ◌+◌, ◌≤◌, Bool, false, ◌==◌, if◌then◌else◌, Option, Some, None, List, [], ◌∷◌, ◌++◌, length}
+use Rattle.topology_stack.specs.Tree.{Label, Tree, branch, Slots, absent, unplugged, up, down}
 use Rattle.cabling.specs.declared.cable.End.{End}
 use Rattle.cabling.specs.declared.visits.Visit.{Visit}
 use Rattle.cabling.specs.Wiring.{Wiring, ports_of}

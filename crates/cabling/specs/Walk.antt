@@ -1,5 +1,5 @@
 -- The order in which the nodes of a tree identify themselves.
-use Rattle.std.specs.Prelude.{◌≡◌, ◌==◌, ℕ, ◌+◌, if◌then◌else◌, None, List, [], ◌∷◌, length, ◌≤◌}
+use Rattle.std.specs.Prelude.{◌≡◌, ◌==◌, ℕ, ◌+◌, if◌then◌else◌, None, List, [], ◌∷◌}
 use Rattle.topology_stack.specs.Tree.{Label, Tree}
 use Rattle.cabling.specs.Wiring.{Wiring}
 use Rattle.cabling.specs.Sees.{Sees, numbers}

@@ -11,13 +11,14 @@ use Rattle.port_state.specs.declared.ports.PortView.{PortView}
 use Rattle.port_state.specs.declared.states.NodeState.{NodeState}
 use Rattle.port_state.specs.Ports.{is_idle, is_parent, is_child, asks, is_unnamed, lowest, every, port_is, is_connected, is_port, changed, changed_at}
 use Rattle.port_state.specs.Step.{Step, quiet}
+use Rattle.port_state.specs.Entry.{with_port}
 use Rattle.port_state.specs.Heard as heard
 use Rattle.port_state.specs.Heard.{begins_reset, is_identifying, with_level, hears, on_signal}
 use Rattle.port_state.specs.Resetting as reset
 use Rattle.port_state.specs.TreeIdentify as tree
 use Rattle.port_state.specs.SelfIdentify as ident
 use Rattle.port_state.specs.Tick.{raised, row, tick, draws_coin}
-use Rattle.port_state.specs.Laws.{line, TickKeeps, SignalKeeps}
+use Rattle.port_state.specs.Laws.{line, tie, is_grant, is_packet, TickKeeps, SignalKeeps}
 
 -- ---- lines
 
@@ -25,17 +26,17 @@ lines-map : (f : PortView → PortView) → ((p : PortView) → line (f p) ≡ l
 lines-map f h [] = refl
 lines-map f h (p ∷ ps) = rw (h p, lines-map f h ps) refl
 
-lines-set : (n : ℕ) (q r : PortView) → line r ≡ line q → (ports : List PortView) → slice_get ports n ≡ Some q → map line (slice_set ports n r) ≡ map line ports
-lines-set n q r h [] e = refl
-lines-set zero q r h (p ∷ ps) e = let same : p ≡ q = cc in rw (h ∙ ap line (sym same)) refl
-lines-set (suc n) q r h (p ∷ ps) e = rw (lines-set n q r h ps e) refl
+map-set : {A : Type 0} (g : PortView → A) (n : ℕ) (q r : PortView) → g r ≡ g q → (ports : List PortView) → slice_get ports n ≡ Some q → map g (slice_set ports n r) ≡ map g ports
+map-set g n q r h [] e = refl
+map-set g zero q r h (p ∷ ps) e = let same : p ≡ q = cc in rw (h ∙ ap g (sym same)) refl
+map-set g (suc n) q r h (p ∷ ps) e = rw (map-set g n q r h ps e) refl
 
-lines-changed : (n : ℕ) (f : PortView → PortView) → ((p : PortView) → line (f p) ≡ line p) → (ports : List PortView) → map line (changed n f ports) ≡ map line ports
-lines-changed n f h ports = go (slice_get ports n) refl
+map-changed : {A : Type 0} (g : PortView → A) (n : ℕ) (f : PortView → PortView) → ((p : PortView) → g (f p) ≡ g p) → (ports : List PortView) → map g (changed n f ports) ≡ map g ports
+map-changed g n f h ports = go (slice_get ports n) refl
   where
-    go : (o : Option PortView) → slice_get ports n ≡ o → map line (changed_at o n f ports) ≡ map line ports
+    go : (o : Option PortView) → slice_get ports n ≡ o → map g (changed_at o n f ports) ≡ map g ports
     go None e = refl
-    go (Some q) e = lines-set n q (f q) (h q) ports e
+    go (Some q) e = map-set g n q (f q) (h q) ports e
 
 -- ---- ticks
 
@@ -123,7 +124,7 @@ keeps-contend_at : (o : Option ℕ) (x : NodeState) → TickKeeps x (tree.conten
 keeps-contend_at None x = kept-still x
 keeps-contend_at (Some p) x =
     keeps-if x (port_is (λ p. is_parent p.shown) x.view.ports p) _ _
-    (λ _. kept x (tree.takes_rival p (raised x)).state (lines-changed p (λ p. record p { child = true }) (λ p. refl) x.view.ports) refl refl refl refl refl refl refl refl refl refl refl)
+    (λ _. kept x (tree.takes_rival p (raised x)).state (map-changed line p (λ p. record p { child = true }) (λ p. refl) x.view.ports) refl refl refl refl refl refl refl refl refl refl refl)
     (kept x (tree.asks_again p (raised x)).state refl refl refl refl refl refl refl refl refl refl refl refl)
 
 keeps-contend : (x : NodeState) → TickKeeps x (tree.contend_row (raised x)).state
@@ -152,7 +153,7 @@ keeps-granted : (o : Option ℕ) (x : NodeState) → x.view.phase ≡ SelfIdent 
 keeps-granted None x e = keeps-if x (ident.may_name (raised x)) _ _ (λ _. keeps-names x (identifying x e)) (kept-still x)
 keeps-granted (Some k) x e =
     keeps-if x (port_is (λ p. p.asked) x.view.ports k) _ _ (λ _. kept-still x)
-    (kept x (ident.asks_child k (raised x)).state (lines-changed k (λ p. record p { asked = true }) (λ p. refl) x.view.ports) refl refl refl refl refl refl refl refl refl refl refl)
+    (kept x (ident.asks_child k (raised x)).state (map-changed line k (λ p. record p { asked = true }) (λ p. refl) x.view.ports) refl refl refl refl refl refl refl refl refl refl refl)
 
 keeps-self_ident : (x : NodeState) → x.view.phase ≡ SelfIdent → TickKeeps x (ident.self_ident_row (raised x)).state
 keeps-self_ident x e = keeps-if x x.view.granted _ _ (λ _. keeps-granted (lowest is_unnamed x.view.ports) x e) (kept-still x)
@@ -173,9 +174,9 @@ tick-keeps coin x = keeps-row coin x.view.phase x refl
 
 -- ---- signals
 
--- the ports, the grant and the list alone may change
-heard-keeps : (x : NodeState) (ports : List PortView) (granted : Bool) → SignalKeeps x (record x { view = record x.view { ports = ports; granted = granted } })
-heard-keeps x ports granted = record {
+-- flags of ports, the grant and the list alone may change
+heard-keeps : (s : Signal) (x : NodeState) (ports : List PortView) (granted : Bool) (list : List ℕ) → map tie ports ≡ map tie x.view.ports → (is_grant s ≡ false → granted ≡ x.view.granted) → (is_packet s ≡ false → list ≡ x.list.items) → SignalKeeps s x (record x { view = record x.view { ports = ports; granted = granted }; list = record { items = list } })
+heard-keeps s x ports granted list t g l = record {
   phase = refl;
   timer = refl;
   wait = refl;
@@ -190,68 +191,47 @@ heard-keeps x ports granted = record {
   next_force = refl;
   timed_out = refl;
   resets = refl;
+  ties = t;
+  granted = g;
+  list = λ h. rw (l h) refl;
 }
 
-all-kept : (x : NodeState) → SignalKeeps x x
-all-kept x = record {
-  phase = refl;
-  timer = refl;
-  wait = refl;
-  parent = refl;
-  id = refl;
-  draws = refl;
-  first_draws = refl;
-  initiated = refl;
-  gap = refl;
-  force = refl;
-  next_gap = refl;
-  next_force = refl;
-  timed_out = refl;
-  resets = refl;
-}
+all-kept : (s : Signal) (x : NodeState) → SignalKeeps s x x
+all-kept s x = heard-keeps s x x.view.ports x.view.granted x.list.items refl (λ _. refl) (λ _. refl)
 
-either : (x : NodeState) (b : Bool) (s t : Step) → SignalKeeps x s.state → SignalKeeps x t.state → SignalKeeps x (if b then s else t).state
-either x true s t p q = p
-either x false s t p q = q
+-- a port's level or its named flag changes
+port-keeps : (s : Signal) (n : ℕ) (f : PortView → PortView) → ((p : PortView) → tie (f p) ≡ tie p) → (x : NodeState) → SignalKeeps s x (with_port n f x)
+port-keeps s n f h x = heard-keeps s x (changed n f x.view.ports) x.view.granted x.list.items (map-changed tie n f h x.view.ports) (λ _. refl) (λ _. refl)
 
-level-keeps : (n : ℕ) (l : Level) (x : NodeState) → SignalKeeps x (with_level n l x)
-level-keeps n l x = heard-keeps x (changed n (λ p. record p { shown = l }) x.view.ports) x.view.granted
+level-keeps : (s : Signal) (n : ℕ) (l : Level) (x : NodeState) → SignalKeeps s x (with_level n l x)
+level-keeps s n l x = port-keeps s n (λ p. record p { shown = l }) (λ p. refl) x
 
-reset-keeps : (n : ℕ) (x : NodeState) → not (heard.is_resetting x.view.phase) ≡ false → SignalKeeps x (heard.hears_reset n x).state
+either : (sg : Signal) (x : NodeState) (b : Bool) (s t : Step) → SignalKeeps sg x s.state → SignalKeeps sg x t.state → SignalKeeps sg x (if b then s else t).state
+either sg x true s t p q = p
+either sg x false s t p q = q
+
+reset-keeps : (n : ℕ) (x : NodeState) → not (heard.is_resetting x.view.phase) ≡ false → SignalKeeps signal.Reset x (heard.hears_reset n x).state
 reset-keeps n x h = go (heard.is_resetting x.view.phase) h _
   where
-    go : (b : Bool) → not b ≡ false → (t : Step) → SignalKeeps x (if b then quiet (with_level n level.Reset x) else t).state
-    go true h t = level-keeps n level.Reset x
+    go : (b : Bool) → not b ≡ false → (t : Step) → SignalKeeps signal.Reset x (if b then quiet (with_level n level.Reset x) else t).state
+    go true h t = level-keeps signal.Reset n level.Reset x
     go false h t = absurd cc
 
-packet-keeps : (n quad : ℕ) (x : NodeState) → SignalKeeps x (heard.hears_packet n quad x).state
-packet-keeps n quad x = either x (heard.hears_packets x.view.phase) _ _ (record {
-  phase = refl;
-  timer = refl;
-  wait = refl;
-  parent = refl;
-  id = refl;
-  draws = refl;
-  first_draws = refl;
-  initiated = refl;
-  gap = refl;
-  force = refl;
-  next_gap = refl;
-  next_force = refl;
-  timed_out = refl;
-  resets = refl;
-}) (all-kept x)
-
-hears-keeps : (n : ℕ) (s : Signal) (x : NodeState) → begins_reset s x.view.phase ≡ false → SignalKeeps x (hears n s x).state
+hears-keeps : (n : ℕ) (s : Signal) (x : NodeState) → begins_reset s x.view.phase ≡ false → SignalKeeps s x (hears n s x).state
 hears-keeps n signal.Reset x h = reset-keeps n x h
-hears-keeps n signal.Idle x h = level-keeps n level.Idle x
-hears-keeps n signal.Parent x h = level-keeps n level.Parent x
-hears-keeps n signal.Child x h = level-keeps n level.Child x
-hears-keeps n signal.Grant x h = either x (is_identifying x.view.phase && is_port x.view.parent n) _ _ (heard-keeps x x.view.ports true) (all-kept x)
-hears-keeps n (signal.Packet quad) x h = packet-keeps n quad x
+hears-keeps n signal.Idle x h = level-keeps signal.Idle n level.Idle x
+hears-keeps n signal.Parent x h = level-keeps signal.Parent n level.Parent x
+hears-keeps n signal.Child x h = level-keeps signal.Child n level.Child x
+hears-keeps n signal.Grant x h =
+    either signal.Grant x (is_identifying x.view.phase && is_port x.view.parent n) _ _
+    (heard-keeps signal.Grant x x.view.ports true x.list.items refl (λ g. absurd cc) (λ _. refl)) (all-kept signal.Grant x)
+hears-keeps n (signal.Packet quad) x h =
+    either (signal.Packet quad) x (heard.hears_packets x.view.phase) _ _
+    (heard-keeps (signal.Packet quad) x x.view.ports x.view.granted (heard.with_packet quad x.list.items) refl (λ _. refl) (λ g. absurd cc)) (all-kept (signal.Packet quad) x)
 hears-keeps n signal.Done x h =
-    either x (is_identifying x.view.phase && port_is (λ p. p.child) x.view.ports n) _ _ (heard-keeps x (changed n (λ p. record p { named = true }) x.view.ports) x.view.granted) (all-kept x)
+    either signal.Done x (is_identifying x.view.phase && port_is (λ p. p.child) x.view.ports n) _ _
+    (port-keeps signal.Done n (λ p. record p { named = true }) (λ p. refl) x) (all-kept signal.Done x)
 
-pub signal-keeps : (n : ℕ) (s : Signal) (x : NodeState) → begins_reset s x.view.phase ≡ false → SignalKeeps x (on_signal n s x).state
+pub signal-keeps : (n : ℕ) (s : Signal) (x : NodeState) → begins_reset s x.view.phase ≡ false → SignalKeeps s x (on_signal n s x).state
 unfolding on_signal
-signal-keeps n s x h = either x (is_connected x.view.ports n) _ _ (hears-keeps n s x h) (all-kept x)
+signal-keeps n s x h = either s x (is_connected x.view.ports n) _ _ (hears-keeps n s x h) (all-kept s x)

@@ -95,6 +95,11 @@ leaf-phases : (asking.view.phase ≡ ChildShake) × ((ticks false 1 asking).view
 unfolding enter tick on_signal
 leaf-phases = (refl, refl)
 
+-- before self identify neither a grant nor a packet counts
+early : ((hears signal.Grant asking).view.granted ≡ false) × ((hears (signal.Packet 0x807f8082) asking).list.items ≡ [])
+unfolding enter tick on_signal
+early = (refl, refl)
+
 -- the neighbour shows Child
 abbrev accepted : Step
 accepted = tick false (hears signal.Child (ticks false 1 asking))
@@ -102,6 +107,11 @@ accepted = tick false (hears signal.Child (ticks false 1 asking))
 leaf-accepted : (accepted.state.view.phase ≡ SelfIdent) × (accepted.sends ≡ (0, signal.Idle) ∷ [])
 unfolding enter tick on_signal
 leaf-accepted = (refl, refl)
+
+-- a Done from the parent port names no child
+parent-done : (hears signal.Done accepted.state).view.ports ≡ port level.Child false false false
+unfolding enter tick on_signal
+parent-done = refl
 
 -- its packet zero has ID 0, L, a gap count of 63, S400, slot 0 up and i
 abbrev leaf_named : Step

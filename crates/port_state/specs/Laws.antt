@@ -4,6 +4,7 @@ use Rattle.std.specs.List.{AllByRecursion}
 use Rattle.port_state.specs.declared.ports.PortView.{PortView}
 use Rattle.port_state.specs.declared.signal.Level.{Level}
 use Rattle.port_state.specs.declared.signal.Signal.{Signal}
+use Rattle.port_state.specs.declared.signal.Signal.TheVariants as signal
 use Rattle.port_state.specs.declared.states.NodeState.{NodeState}
 use Rattle.port_state.specs.Ports.{is_connected}
 use Rattle.port_state.specs.Step.{Step}
@@ -45,8 +46,30 @@ pub record TickKeeps (x y : NodeState) : Type 0 where
   pub first_draws : draws_coin x ≡ false → y.view.first_draws ≡ x.view.first_draws
   pub wait : draws_coin x ≡ false → y.view.wait ≡ x.view.wait
 
--- what no signal changes that begins no reset
-pub record SignalKeeps (x y : NodeState) : Type 0 where
+-- a port's cable, its role, and whether its child was asked
+abbrev pub tie : PortView → Bool × Bool × Bool
+tie p = (p.connected, p.child, p.asked)
+
+abbrev pub is_grant : Signal → Bool
+is_grant signal.Reset = false
+is_grant signal.Idle = false
+is_grant signal.Parent = false
+is_grant signal.Child = false
+is_grant signal.Grant = true
+is_grant (signal.Packet quad) = false
+is_grant signal.Done = false
+
+abbrev pub is_packet : Signal → Bool
+is_packet signal.Reset = false
+is_packet signal.Idle = false
+is_packet signal.Parent = false
+is_packet signal.Child = false
+is_packet signal.Grant = false
+is_packet (signal.Packet quad) = true
+is_packet signal.Done = false
+
+-- what a signal leaves as it was that begins no reset
+pub record SignalKeeps (s : Signal) (x y : NodeState) : Type 0 where
   pub phase : y.view.phase ≡ x.view.phase
   pub timer : y.view.timer ≡ x.view.timer
   pub wait : y.view.wait ≡ x.view.wait
@@ -61,3 +84,7 @@ pub record SignalKeeps (x y : NodeState) : Type 0 where
   pub next_force : y.view.next_force ≡ x.view.next_force
   pub timed_out : y.view.timed_out ≡ x.view.timed_out
   pub resets : y.view.resets ≡ x.view.resets
+  pub ties : map tie y.view.ports ≡ map tie x.view.ports
+  -- a grant alone grants, and a packet alone is kept
+  pub granted : is_grant s ≡ false → y.view.granted ≡ x.view.granted
+  pub list : is_packet s ≡ false → y.list ≡ x.list

@@ -44,10 +44,11 @@ pub fn power_on_is_valid()
 
 /// What a row doesn't name stays. No tick changes a cable, a level that a port shows, the gap count,
 /// the initiated bit or the count of resets; no signal but a Reset that begins a reset changes the
-/// phase, the timer, the parent port, the ID or the draws.
+/// phase, the timer, the parent port, the roles of ports, the ID or the draws; a grant alone grants, and
+/// a packet alone changes the list.
 pub fn what_stays()
     ensures tick { (coin : Bool) (x : NodeState) → TickKeeps x (tick coin x).state }
-    ensures signal { (port : ℕ) (s : Signal) (x : NodeState) → begins_reset s x.view.phase ≡ false → SignalKeeps x (on_signal port s x).state }
+    ensures signal { (port : ℕ) (s : Signal) (x : NodeState) → begins_reset s x.view.phase ≡ false → SignalKeeps s x (on_signal port s x).state }
 {}
 
 /// What goes out on one port, for each way in which a step sends. So a step can be told port by port.

@@ -1,9 +1,9 @@
-use Rattle.std.proofs.Common.{◌≡◌, ◌≢◌, ℕ, ◌⊎◌, inl, inr, ◌^◌, ◌<◌, arith}
+use Rattle.std.proofs.Common.{ℕ, inl, inr, ◌^◌, ◌<◌, arith}
 use Rattle.cabling.specs.Wiring.{Wiring}
 use Rattle.cabling.specs.NodeSet.{Holds, IsWithin}
 use Rattle.cabling.specs.Looped.{HasTwo, IsCore}
 use Rattle.cabling.proofs.Bits.{below}
-use Rattle.cabling.proofs.Cascade.{Weak, weak_or_all}
+use Rattle.cabling.proofs.Cascade.{weak_or_all}
 use Rattle.cabling.proofs.laws.trees_have_leaves.Goals as goal
 
 leaf : (c : Wiring) (set core part node : ℕ) → IsCore c set core → ((x : ℕ) → Holds core x → ⊥) → part < 2 ^ 63 → IsWithin part set → Holds part node → (leaf : ℕ) × Holds part leaf × (HasTwo c part leaf → ⊥)

@@ -3,8 +3,15 @@ use Rattle.std.proofs.Math.ListN.{replicate}
 use Rattle.std.proofs.lemmas.List.{get_or-replicate}
 use Rattle.cabling.proofs.tests.longest_line.Goals as goal
 
-two_each : (i : ℕ) → i < 63 → (1 ≤ get_or (replicate 63 2) i 0) × (get_or (replicate 63 2) i 0 ≤ 16)
-two_each i h = let two : get_or (replicate 63 2) i 0 ≡ 2 = get_or-replicate 63 i 2 0 h in rw two (omega arith, omega arith)
+two : ℕ
+two = 2
+
+two_each : (n i : ℕ) → i < n → (1 ≤ get_or (replicate n two) i 0) × (get_or (replicate n two) i 0 ≤ 16)
+unfolding two
+two_each n i h =
+    let e : get_or (replicate n two) i 0 ≡ two = get_or-replicate n i two 0 h in
+    (omega (arith, e), omega (arith, e))
 
 pub new-requires-clause-counts : goal.new-requires-clause-counts
-new-requires-clause-counts c = two_each
+unfolding two
+new-requires-clause-counts c = λ i h. two_each 63 i h

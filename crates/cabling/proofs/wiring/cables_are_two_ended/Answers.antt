@@ -1,4 +1,3 @@
-use Rattle.cabling.proofs.Ends as ends
 use Rattle.cabling.proofs.wiring.cables_are_two_ended.Goals as goal
 
 pub returns : goal.returns

@@ -1,4 +1,4 @@
-use Rattle.std.proofs.Common.{◌≡◌, ◌<◌, ◌≤◌, arith}
+use Rattle.std.proofs.Common.{arith}
 use Rattle.cabling.proofs.Bits.{inserted, inserted-holds, inserted-others, inserted-small}
 use Rattle.cabling.proofs.node_set.NodeSet.insert.Goals as goal
 

@@ -1,4 +1,3 @@
-use Rattle.std.proofs.Common.{◌≡◌, ◌<◌, ◌-◌, arith}
 use Rattle.cabling.proofs.Bits.{in_both, removed-small}
 use Rattle.cabling.proofs.node_set.NodeSet.intersection.Goals as goal
 

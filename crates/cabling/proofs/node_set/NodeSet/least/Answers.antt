@@ -1,4 +1,4 @@
-use Rattle.std.proofs.Common.{◌≡◌, ◌<◌, ◌≤◌, arith}
+use Rattle.std.proofs.Common.{arith}
 use Rattle.cabling.proofs.Bits.{below, some_node, lowest}
 use Rattle.cabling.proofs.node_set.NodeSet.least.Goals as goal
 

@@ -1,4 +1,4 @@
-use Rattle.std.proofs.Common.{◌≡◌, ℕ, ◌<◌, ◌≤◌, subst, arith}
+use Rattle.std.proofs.Common.{◌≡◌, ℕ, subst, arith}
 use Rattle.cabling.specs.NodeSet.{size_below}
 use Rattle.cabling.proofs.node_set.NodeSet.len.Goals as goal
 

@@ -1,4 +1,4 @@
-use Rattle.std.proofs.Common.{◌≡◌, ◌<◌, ◌-◌, arith}
+use Rattle.std.proofs.Common.{◌-◌}
 use Rattle.cabling.proofs.Bits.{in_first, removed-small}
 use Rattle.cabling.proofs.node_set.NodeSet.minus.Goals as goal
 

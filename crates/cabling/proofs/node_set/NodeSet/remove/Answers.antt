@@ -1,5 +1,4 @@
-use Rattle.std.proofs.Common.{◌≡◌, ◌<◌, ◌≤◌, ◌^◌, arith}
-use Rattle.cabling.specs.NodeSet.{Holds}
+use Rattle.std.proofs.Common.{arith}
 use Rattle.cabling.proofs.Bits.{removed, removed-gone, removed-others, removed-small}
 use Rattle.cabling.proofs.node_set.NodeSet.remove.Goals as goal
 

@@ -1,4 +1,3 @@
-use Rattle.std.proofs.Common.{◌≡◌, ◌<◌, ◌-◌, arith}
 use Rattle.cabling.proofs.Bits.{in_union, union-small}
 use Rattle.cabling.proofs.node_set.NodeSet.union.Goals as goal
 

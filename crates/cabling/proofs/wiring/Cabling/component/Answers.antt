@@ -1,7 +1,6 @@
-use Rattle.std.proofs.Common.{◌≡◌, ◌<◌, ◌≤◌, ◌+◌, ◌^◌, sym, ◌∙◌, arith, ℕ, inl}
-use Rattle.cabling.specs.NodeSet.{Holds}
+use Rattle.std.proofs.Common.{arith, inl}
 use Rattle.cabling.proofs.Bits.{more_than}
-use Rattle.cabling.proofs.Growing.{Grows, growing_first, growing_next, growing_last}
+use Rattle.cabling.proofs.Growing.{growing_first, growing_next, growing_last}
 use Rattle.cabling.proofs.wiring.Cabling.component.Goals as goal
 
 pub insert-requires : goal.insert-requires

@@ -1,4 +1,4 @@
-use Rattle.std.proofs.Common.{◌≡◌, ◌<◌, ◌^◌, ◌-◌, ℕ}
+use Rattle.std.proofs.Common.{◌<◌, ◌^◌, ◌-◌}
 use Rattle.cabling.proofs.Growing.{Growing}
 use Rattle.cabling.proofs.wiring.Cabling.component.Given as goal
 

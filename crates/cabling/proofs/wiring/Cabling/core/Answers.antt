@@ -1,6 +1,4 @@
-use Rattle.std.proofs.Common.{◌≡◌, ◌<◌, ◌≤◌, ◌+◌, ◌*◌, ◌^◌, ℕ, arith}
-use Rattle.cabling.proofs.Bits.{fewer}
-use Rattle.cabling.proofs.Stripping.{Stripped, Strips, stripped_first, stripped_stays, stripped_goes, stripped_last}
+use Rattle.cabling.proofs.Stripping.{stripped_first, stripped_stays, stripped_goes, stripped_last}
 use Rattle.cabling.proofs.wiring.Cabling.core.Goals as goal
 
 pub loop-node-init : goal.loop-node-init

@@ -1,4 +1,3 @@
-use Rattle.std.proofs.Common.{◌≡◌, ◌<◌, ◌≤◌, ◌+◌, length, arith}
 use Rattle.cabling.specs.Wiring.{ports_of}
 use Rattle.cabling.proofs.Waiting.{onward_room}
 use Rattle.cabling.proofs.wiring.Cabling.go_on.Goals as goal

@@ -1,4 +1,4 @@
-use Rattle.std.proofs.Common.{◌≡◌, ◌++◌, ◌≤◌, drop}
+use Rattle.std.proofs.Common.{◌≡◌, ◌++◌, drop}
 use Rattle.cabling.specs.Wiring.{ports_of}
 use Rattle.cabling.specs.Visits.{onward}
 use Rattle.cabling.proofs.wiring.Cabling.go_on.Given as goal

@@ -1,5 +1,5 @@
-use Rattle.std.proofs.Common.{◌≡◌, ◌<◌, ◌≤◌, ℕ, Bool, true, false, subst, sym}
-use Rattle.cabling.proofs.Stripping.{Counted, counted_no, counted_first, counted_second, counted_all, leads_if, leads_not}
+use Rattle.std.proofs.Common.{Bool, subst}
+use Rattle.cabling.proofs.Stripping.{Counted, counted_no, counted_first, counted_all, leads_if, leads_not}
 use Rattle.cabling.proofs.wiring.Cabling.has_two.Goals as goal
 use Rattle.cabling.proofs.wiring.Cabling.has_two.Goals.{then-leads_into+else-one, else-leads_into}
 

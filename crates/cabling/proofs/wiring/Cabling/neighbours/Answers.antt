@@ -1,5 +1,5 @@
-use Rattle.std.proofs.Common.{◌≡◌, ◌<◌, ◌≤◌, subst, sym, ℕ, Some, None, arith}
-use Rattle.cabling.proofs.Near.{Near, end_at, at_row, small_far, near_none, near_one, near_loose, near_all}
+use Rattle.std.proofs.Common.{Some, None, arith}
+use Rattle.cabling.proofs.Near.{end_at, at_row, small_far, near_none, near_one, near_loose, near_all}
 use Rattle.cabling.proofs.wiring.Cabling.neighbours.Goals as goal
 use Rattle.cabling.proofs.wiring.Cabling.neighbours.Goals.{in-Some, in-None}
 

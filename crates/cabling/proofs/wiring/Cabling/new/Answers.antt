@@ -1,6 +1,6 @@
-use Rattle.std.proofs.Common.{◌≡◌, ◌<◌, ◌≤◌, take, arith}
+use Rattle.std.proofs.Common.{◌≡◌, arith}
 use Rattle.std.proofs.lemmas.Grind.{common_steps}
-use Rattle.cabling.specs.Wiring.{Wiring, IsCabling, without_cables}
+use Rattle.cabling.specs.Wiring.{without_cables}
 use Rattle.cabling.proofs.Ends.{bare}
 use Rattle.cabling.proofs.wiring.Cabling.new.Goals as goal
 

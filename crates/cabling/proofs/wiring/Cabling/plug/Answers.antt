@@ -1,4 +1,4 @@
-use Rattle.std.proofs.Common.{◌≡◌, sym, ◌∙◌}
+use Rattle.std.proofs.Common.{sym, ◌∙◌}
 use Rattle.cabling.proofs.Plugging.{plugs}
 use Rattle.cabling.proofs.wiring.Cabling.plug.Goals as goal
 

@@ -1,6 +1,4 @@
-use Rattle.std.proofs.Common.{◌≡◌, ◌<◌, Some, arith, sym, ◌∙◌, length, slice_set, get_or, List, Option}
-use Rattle.cabling.specs.declared.cable.End.{End}
-use Rattle.cabling.specs.Wiring.{Wiring, far, HasEnd, IsCabling}
+use Rattle.std.proofs.Common.{arith, sym, ◌∙◌}
 use Rattle.cabling.proofs.Plugging.{pulls, other_there, other_port}
 use Rattle.cabling.proofs.wiring.Cabling.pull.Goals as goal
 

@@ -1,9 +1,7 @@
-use Rattle.std.proofs.Common.{◌≡◌, ◌<◌, ◌≤◌, ◌∙◌, ℕ, None, length, get_or, sym, arith}
-use Rattle.self_id.specs.Node.{IsNode}
+use Rattle.std.proofs.Common.{◌∙◌, None, sym, arith}
 use Rattle.cabling.specs.declared.visits.Visit.{Visit}
-use Rattle.cabling.specs.Labels.{labels, shown_node, slots_of}
+use Rattle.cabling.specs.Labels.{labels}
 use Rattle.cabling.proofs.Cores.{core_within}
-use Rattle.cabling.proofs.Shown.{Good}
 use Rattle.cabling.proofs.Emitted.{Listed, good_item, item_node, tree_is_bus, list_is, read_seen, no_fault}
 use Rattle.cabling.proofs.wiring.Cabling.tree_from.Goals as goal
 

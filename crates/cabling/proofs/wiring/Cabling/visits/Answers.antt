@@ -1,6 +1,6 @@
-use Rattle.std.proofs.Common.{◌≡◌, ◌<◌, ◌≤◌, ◌+◌, ◌-◌, ◌++◌, ◌∷◌, List, length, length-append, ap, sym, subst, refl, ◌∙◌, arith, []}
+use Rattle.std.proofs.Common.{◌++◌, ◌∷◌, length, length-append, ap, refl, ◌∙◌, arith, []}
 use Rattle.cabling.specs.Wiring.{ports_of}
-use Rattle.cabling.specs.Visits.{onward, at_root}
+use Rattle.cabling.specs.Visits.{onward}
 use Rattle.cabling.proofs.Waiting.{AllGoing, all_first, all_next, all_last, all_room, all_there}
 use Rattle.cabling.proofs.wiring.Cabling.visits.Goals as goal
 

@@ -1,9 +1,7 @@
-use Rattle.std.proofs.Common.{◌≡◌, ◌<◌, ◌≤◌, ◌↔◌, ℕ, Bool, true, false, refl, sym, ap, ◌∙◌, map, take, List, length, arith}
+use Rattle.std.proofs.Common.{◌≡◌, ◌≤◌, ℕ, true, refl, ap, ◌∙◌, map, take, List, length, arith}
 use Rattle.std.proofs.lemmas.Grind.{common_steps}
-use Rattle.topology_stack.specs.Tree.{Label}
 use Rattle.cabling.specs.declared.visits.Visit.{Visit}
-use Rattle.cabling.specs.Visits.{SmallTree, visits, at_root}
-use Rattle.cabling.specs.Walk.{WalkOf}
+use Rattle.cabling.specs.Visits.{SmallTree, at_root}
 use Rattle.cabling.proofs.Cores.{core_within}
 use Rattle.cabling.proofs.Waiting.{node_of, nodes-visits}
 use Rattle.cabling.proofs.wiring.Cabling.walk_from.Goals as goal

@@ -1,4 +1,4 @@
-use Rattle.std.proofs.Common.{◌≡◌, Option, None}
+use Rattle.std.proofs.Common.{◌≡◌, None}
 use Rattle.std.proofs.Math.ListN.{replicate}
 use Rattle.cabling.proofs.wiring.Ports.new.Given as goal
 
