@@ -1,5 +1,6 @@
 pub mod Told
 mod ByNumber
+mod AtPowerOn
 mod TwoNodes
 mod ThreeNodes
 mod Held

@@ -7,9 +7,9 @@
 #![tactic(auto)]
 
 mod act;
+mod laws;
 mod run;
-mod turn_laws;
 
 pub use act::{Act, ActStop};
+pub use laws::{power_on_is_lawful, turn_by_number, turn_keeps, turns_add_up};
 pub use run::WorldRun;
-pub use turn_laws::{turn_by_number, turn_keeps, turns_add_up};

@@ -1,5 +1,5 @@
 use Rattle.cable_world.proofs.ByNumber.{node-after, wire-after}
-use Rattle.cable_world.proofs.turn_laws.turn_by_number.Goals as goal
+use Rattle.cable_world.proofs.laws.turn_by_number.Goals as goal
 
 pub returns-clause-node : goal.returns-clause-node
 returns-clause-node c = node-after

@@ -1,11 +1,12 @@
-//! Laws of turns. Each function is a fact for the crates above, which call it.
+//! Laws of worlds. Each function is a fact for the crates above, which call it.
 ghost use Rattle.std.specs.Prelude.{◌≡◌, ℕ, ◌+◌, ◌<◌, [], length, Some, slice_get, slice_index_or};
 ghost use Rattle.cabling.specs.declared.cable.End.{End};
 ghost use Rattle.port_state.specs.Sends.{sent_on};
 ghost use Rattle.port_state.specs.Machine.{PortNode};
 ghost use Rattle.cable_world.specs.Wire.{with_sent, stays};
-ghost use Rattle.cable_world.specs.World.{CableWorld, wire_of};
+ghost use Rattle.cable_world.specs.World.{CableWorld, wire_of, IsPowerOn};
 ghost use Rattle.cable_world.specs.Turn.{turn, turn_at, turns_after};
+ghost use Rattle.cable_world.specs.Lawful.{IsLawful};
 
 /// What a turn makes of each node and of each wire, by number: a node hears what came to its ports, and
 /// ticks; a wire loses what it gave, and takes what its node sent.
@@ -26,4 +27,9 @@ pub fn turn_keeps()
 pub fn turns_add_up()
     ensures none { (w : CableWorld) → turns_after 0 w ≡ w }
     ensures more { (k : ℕ) (w : CableWorld) → turns_after (k + 1) w ≡ turn (turns_after k w) }
+{}
+
+/// A power-on world is lawful.
+pub fn power_on_is_lawful()
+    ensures { (w : CableWorld) → IsPowerOn w → IsLawful w }
 {}

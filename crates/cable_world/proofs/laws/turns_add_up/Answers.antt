@@ -1,5 +1,5 @@
 use Rattle.cable_world.proofs.ByNumber.{no-turns, one-more}
-use Rattle.cable_world.proofs.turn_laws.turns_add_up.Goals as goal
+use Rattle.cable_world.proofs.laws.turns_add_up.Goals as goal
 
 pub returns-clause-none : goal.returns-clause-none
 returns-clause-none c = no-turns

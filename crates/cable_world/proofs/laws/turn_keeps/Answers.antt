@@ -1,5 +1,5 @@
 use Rattle.cable_world.proofs.ByNumber.{cabling-after, delay-after, turns-counted, nodes-after}
-use Rattle.cable_world.proofs.turn_laws.turn_keeps.Goals as goal
+use Rattle.cable_world.proofs.laws.turn_keeps.Goals as goal
 
 pub returns-clause-cables : goal.returns-clause-cables
 returns-clause-cables c = cabling-after
