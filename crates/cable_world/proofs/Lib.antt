@@ -1,0 +1,8 @@
+pub mod Told
+mod ByNumber
+mod AtPowerOn
+mod TwoNodes
+mod ThreeNodes
+mod Held
+mod Desk
+mod Loops

@@ -1,0 +1,10 @@
+pub mod Wire
+pub mod World
+pub mod Turn
+pub mod Act
+pub mod Run
+pub mod Outcome
+pub mod Agreement
+pub mod Fresh
+pub mod Lawful
+pub mod Answer

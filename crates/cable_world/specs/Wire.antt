@@ -1,0 +1,55 @@
+-- A wire: one direction of a cable, with the signals that are under way on it.
+use Rattle.std.specs.Prelude.{ℕ, ◌+◌, ◌-◌, Bool, false, ◌||◌, ◌==◌, List, [], ◌∷◌, ◌++◌, map, nat_le, if◌then◌else◌}
+use Rattle.port_state.specs.declared.signal.Signal.{Signal}
+
+-- a signal under way, and for how many turns it has been
+pub record Travelling : Type 0 where
+  pub signal : Signal
+  pub age : ℕ
+
+-- the signals under way, the oldest first, and for how many turns to come the wire is held
+pub record Wire : Type 0 where
+  pub signals : List Travelling
+  pub held : ℕ
+
+-- nothing is under way, and the wire isn't held
+abbrev pub empty_wire : Wire
+empty_wire = record { signals = []; held = 0 }
+
+abbrev pub newly_sent : Signal → Travelling
+newly_sent s = record { signal = s; age = 0 }
+
+-- the wire after these signals were sent on it, the first first
+abbrev pub with_sent : List Signal → Wire → Wire
+with_sent sent w = record w { signals = w.signals ++ map newly_sent sent }
+
+abbrev pub older : Travelling → Travelling
+older t = record t { age = t.age + 1 }
+
+-- every signal is one turn older
+abbrev pub aged : Wire → Wire
+aged w = record w { signals = map older w.signals }
+
+-- the oldest signal has been under way for d turns
+abbrev pub front_is_due : ℕ → List Travelling → Bool
+front_is_due d [] = false
+front_is_due d (t ∷ ts) = nat_le d t.age
+
+-- a wire gives all its signals, unless it is held; when the oldest is due it gives them all the same
+abbrev pub gives : ℕ → Wire → Bool
+gives d w = (w.held == 0) || front_is_due d w.signals
+
+-- what it gives
+abbrev pub given : ℕ → Wire → List Signal
+given d w = if gives d w then map (λ t. t.signal) w.signals else []
+
+-- what is left of it
+abbrev pub left : ℕ → Wire → Wire
+left d w = record { signals = if gives d w then [] else w.signals; held = w.held - 1 }
+
+-- In a turn the signals age first, and then the wire may give them.
+abbrev pub arrives : ℕ → Wire → List Signal
+arrives d w = given d (aged w)
+
+abbrev pub stays : ℕ → Wire → Wire
+stays d w = left d (aged w)

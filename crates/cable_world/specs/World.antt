@@ -1,0 +1,60 @@
+-- The world: nodes, the cables between them, and what is under way.
+use Rattle.std.specs.Prelude.{◌≡◌, ℕ, ◌≤◌, List, [], length, map, replicate, slice_get, slice_set, slice_index_or, Some}
+use Rattle.cabling.specs.declared.cable.End.{End}
+use Rattle.cabling.specs.Wiring.{Wiring, without_cables}
+use Rattle.port_state.specs.PowerOn as power
+use Rattle.port_state.specs.Timing.{InRange}
+use Rattle.port_state.specs.Valid.{IsValid}
+use Rattle.port_state.specs.declared.states.NodeState.{NodeState}
+use Rattle.port_state.specs.Machine.{PortNode}
+use Rattle.cable_world.specs.Wire.{Wire, empty_wire}
+
+pub record CableWorld : Type 0 where
+  -- d: a cable delays a signal by at most so many turns
+  pub delay : ℕ
+  pub cabling : Wiring
+  -- each node, by its number
+  pub nodes : List PortNode
+  -- For each node and port the wire that leaves there. A cable has two wires, one from each of its ends
+  -- to the other; where no cable is, the wire is empty.
+  pub wires : List (List Wire)
+  -- for each node the number of turns done when its list last changed, or 0
+  pub changed : List ℕ
+  -- the number of turns done
+  pub turns : ℕ
+
+-- the wire that leaves an end
+abbrev pub wire_of : CableWorld → End → Wire
+wire_of w end = slice_index_or (slice_index_or w.wires end.node []) end.port empty_wire
+
+-- a table by node and port, with one entry replaced
+abbrev pub put : {A : Type 0} → End → A → List (List A) → List (List A)
+put end a rows = slice_set rows end.node (slice_set (slice_index_or rows end.node []) end.port a)
+
+abbrev pub no_wires : PortNode → List Wire
+no_wires x = replicate x.state.ports empty_wire
+
+-- a world of these nodes, without cables, before its first turn
+abbrev pub without_turns : ℕ → List PortNode → CableWorld
+without_turns d nodes = record {
+  delay = d;
+  cabling = without_cables (map (λ (x : PortNode). x.state.ports) nodes);
+  nodes = nodes;
+  wires = map no_wires nodes;
+  changed = replicate (length nodes) 0;
+  turns = 0;
+}
+
+-- a node that was just powered on, with times that suit the cables
+pub record IsPoweredOn (d : ℕ) (x : NodeState) : Type 0 where
+  pub is : x ≡ power.power_on x.ports x.attrs x.view.force x.timing
+  pub valid : IsValid x
+  pub timing : InRange d x.timing
+
+-- the power-on world: every node was just powered on, and there is no cable
+pub record IsPowerOn (w : CableWorld) : Type 0 where
+  pub some_delay : 1 ≤ w.delay
+  pub short_delay : w.delay ≤ 16
+  pub few_nodes : length w.nodes ≤ 63
+  pub nodes : (k : ℕ) (x : PortNode) → slice_get w.nodes k ≡ Some x → IsPoweredOn w.delay x.state
+  pub is : w ≡ without_turns w.delay w.nodes

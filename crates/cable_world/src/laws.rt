@@ -1,0 +1,35 @@
+//! Laws of worlds. Each function is a fact for the crates above, which call it.
+ghost use Rattle.std.specs.Prelude.{◌≡◌, ℕ, ◌+◌, ◌<◌, [], length, Some, slice_get, slice_index_or};
+ghost use Rattle.cabling.specs.declared.cable.End.{End};
+ghost use Rattle.port_state.specs.Sends.{sent_on};
+ghost use Rattle.port_state.specs.Machine.{PortNode};
+ghost use Rattle.cable_world.specs.Wire.{with_sent, stays};
+ghost use Rattle.cable_world.specs.World.{CableWorld, wire_of, IsPowerOn};
+ghost use Rattle.cable_world.specs.Turn.{turn, turn_at, turns_after};
+ghost use Rattle.cable_world.specs.Lawful.{IsLawful};
+
+/// What a turn makes of each node and of each wire, by number: a node hears what came to its ports, and
+/// ticks; a wire loses what it gave, and takes what its node sent.
+pub fn turn_by_number()
+    ensures node { (w : CableWorld) (k : ℕ) (x : PortNode) → length w.nodes ≡ length w.cabling → slice_get w.nodes k ≡ Some x → slice_get (turn w).nodes k ≡ Some (turn_at w k x).node }
+    ensures wire { (w : CableWorld) (end : End) (x : PortNode) → length w.nodes ≡ length w.cabling → slice_get w.nodes end.node ≡ Some x → end.port < length (slice_index_or w.wires end.node []) → wire_of (turn w) end ≡ with_sent (sent_on end.port (turn_at w end.node x).sends) (stays w.delay (wire_of w end)) }
+{}
+
+/// What a turn leaves as it is, and how the turns are counted.
+pub fn turn_keeps()
+    ensures cables { (w : CableWorld) → (turn w).cabling ≡ w.cabling }
+    ensures delay { (w : CableWorld) → (turn w).delay ≡ w.delay }
+    ensures counted { (w : CableWorld) → (turn w).turns ≡ w.turns + 1 }
+    ensures nodes { (w : CableWorld) → length w.nodes ≡ length w.cabling → length (turn w).nodes ≡ length w.nodes }
+{}
+
+/// Turns are done one after the other.
+pub fn turns_add_up()
+    ensures none { (w : CableWorld) → turns_after 0 w ≡ w }
+    ensures more { (k : ℕ) (w : CableWorld) → turns_after (k + 1) w ≡ turn (turns_after k w) }
+{}
+
+/// A power-on world is lawful.
+pub fn power_on_is_lawful()
+    ensures { (w : CableWorld) → IsPowerOn w → IsLawful w }
+{}

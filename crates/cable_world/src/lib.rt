@@ -1,0 +1,15 @@
+//! The world of cables: nodes whose machines send signals over wires that take time, what happens to
+//! it between turns, and what a turn is.
+//!
+//! `specs/` has the definitions: `Wire` and `World` say what there is, `Turn` and `Act` what happens,
+//! `Run` what comes of it from power-on, `Outcome` what a bus may settle to. A world that does so is a
+//! `WorldRun`.
+#![tactic(auto)]
+
+mod act;
+mod laws;
+mod run;
+
+pub use act::{Act, ActStop};
+pub use laws::{power_on_is_lawful, turn_by_number, turn_keeps, turns_add_up};
+pub use run::WorldRun;
