@@ -8,16 +8,10 @@ use Rattle.port_state.specs.PowerOn.{free_port}
 use Rattle.port_state.specs.Ports.{is_connected}
 use Rattle.port_state.specs.Valid.{IsValid}
 use Rattle.port_state.specs.Machine.{PortNode}
+use Rattle.cable_world.proofs.Options.{some-same}
 use Rattle.cable_world.specs.Wire.{Wire, empty_wire}
 use Rattle.cable_world.specs.World.{CableWorld, wire_of, without_turns, no_wires, IsPoweredOn, IsPowerOn}
 use Rattle.cable_world.specs.Lawful.{AgesFall, FitsCables, IsLawful}
-
-abbrev or-else : {A : Type 0} → A → Option A → A
-or-else d None = d
-or-else d (Some x) = x
-
-some-same : {A : Type 0} → (a b : A) → Some a ≡ Some b → a ≡ b
-some-same a b h = ap (or-else a) h
 
 -- a list of one value has it everywhere
 same-everywhere : {A : Type 0} → (n j : ℕ) (d : A) → slice_index_or (replicate n d) j d ≡ d

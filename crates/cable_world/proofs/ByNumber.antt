@@ -1,5 +1,5 @@
 -- A turn, node by node and wire by wire.
-use Rattle.std.proofs.Common.{◌≡◌, ℕ, zero, suc, ◌+◌, ◌<◌, List, [], ◌∷◌, map, Option, Some, None, length, slice_get, slice_index_or, refl, ◌∙◌, ap, arith, add-one}
+use Rattle.std.proofs.Common.{◌≡◌, ℕ, zero, suc, ◌+◌, ◌<◌, List, [], ◌∷◌, map, Some, length, slice_get, slice_index_or, refl, ◌∙◌, ap, arith, add-one}
 use Rattle.std.specs.Option.{option_map}
 use Rattle.std.proofs.lemmas.Option.{slice_get-map}
 use Rattle.std.proofs.lemmas.List.{length-map}
@@ -8,16 +8,10 @@ use Rattle.cabling.specs.Wiring.{Wiring}
 use Rattle.port_state.specs.declared.signal.Signal.{Signal}
 use Rattle.port_state.specs.Sends.{sent_on}
 use Rattle.port_state.specs.Machine.{PortNode, NodeStep}
+use Rattle.cable_world.proofs.Options.{some-same}
 use Rattle.cable_world.specs.Wire.{Wire, empty_wire, with_sent, stays}
 use Rattle.cable_world.specs.World.{CableWorld, wire_of}
 use Rattle.cable_world.specs.Turn.{inbox, node_turn, node_turns, turn_at, sent_from, all_sent, turn, turns_after}
-
-abbrev or-else : {A : Type 0} → A → Option A → A
-or-else d None = d
-or-else d (Some x) = x
-
-some-same : {A : Type 0} → (a b : A) → Some a ≡ Some b → a ≡ b
-some-same a b h = ap (or-else a) h
 
 node-turn-at : (w : CableWorld) (rows : Wiring) (nodes : List PortNode) (k : ℕ) (x : PortNode) → length nodes ≡ length rows → slice_get nodes k ≡ Some x → slice_get (node_turns w rows nodes) k ≡ Some (node_turn (inbox w 0 (slice_index_or rows k [])) x)
 node-turn-at w [] [] k x e h = absurd (cc)

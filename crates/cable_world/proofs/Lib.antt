@@ -1,8 +1,11 @@
 pub mod Told
+pub mod Options
 mod ByNumber
 mod AtPowerOn
+mod Kept
 mod TwoNodes
 mod ThreeNodes
 mod Held
 mod Desk
 mod Loops
+mod ChosenRoot

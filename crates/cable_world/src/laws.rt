@@ -6,6 +6,8 @@ ghost use Rattle.port_state.specs.Machine.{PortNode};
 ghost use Rattle.cable_world.specs.Wire.{with_sent, stays};
 ghost use Rattle.cable_world.specs.World.{CableWorld, wire_of, IsPowerOn};
 ghost use Rattle.cable_world.specs.Turn.{turn, turn_at, turns_after};
+ghost use Rattle.cable_world.specs.declared.act.Act.{Act};
+ghost use Rattle.cable_world.specs.Act.{Acted};
 ghost use Rattle.cable_world.specs.Lawful.{IsLawful};
 
 /// What a turn makes of each node and of each wire, by number: a node hears what came to its ports, and
@@ -21,6 +23,13 @@ pub fn turn_keeps()
     ensures delay { (w : CableWorld) → (turn w).delay ≡ w.delay }
     ensures counted { (w : CableWorld) → (turn w).turns ≡ w.turns + 1 }
     ensures nodes { (w : CableWorld) → length w.nodes ≡ length w.cabling → length (turn w).nodes ≡ length w.nodes }
+{}
+
+/// What an act leaves as it is: how many nodes there are, the number of turns, and d.
+pub fn acts_keep()
+    ensures nodes { (a : Act) (w v : CableWorld) → Acted a w v → length v.nodes ≡ length w.nodes }
+    ensures turns { (a : Act) (w v : CableWorld) → Acted a w v → v.turns ≡ w.turns }
+    ensures delay { (a : Act) (w v : CableWorld) → Acted a w v → v.delay ≡ w.delay }
 {}
 
 /// Turns are done one after the other.

@@ -1,0 +1,11 @@
+use Rattle.cable_world.proofs.Kept.{act-keeps}
+use Rattle.cable_world.proofs.laws.acts_keep.Goals as goal
+
+pub returns-clause-nodes : goal.returns-clause-nodes
+returns-clause-nodes c = λ a w v h. (act-keeps a w v h).nodes
+
+pub returns-clause-turns : goal.returns-clause-turns
+returns-clause-turns c = λ a w v h. (act-keeps a w v h).turns
+
+pub returns-clause-delay : goal.returns-clause-delay
+returns-clause-delay c = λ a w v h. (act-keeps a w v h).delay
