@@ -15,22 +15,22 @@ use Rattle.cable_world.specs.Turn.{turn, turns_after}
 use Rattle.cable_world.specs.Act.{hold}
 use Rattle.cable_world.proofs.Told.{node_of, attrs, at, plugged, pulled}
 
-abbrev computer : ℕ
+abbrev pub computer : ℕ
 computer = 0
 
-abbrev hub : ℕ
+abbrev pub hub : ℕ
 hub = 1
 
-abbrev disk : ℕ
+abbrev pub disk : ℕ
 disk = 2
 
-abbrev camera : ℕ
+abbrev pub camera : ℕ
 camera = 3
 
-abbrev tape : ℕ
+abbrev pub tape : ℕ
 tape = 4
 
-abbrev nodes : List PortNode
+abbrev pub nodes : List PortNode
 nodes =
     node_of 3 (attrs true 2 true) 0 ∷
     node_of 6 (attrs false 2 false) 1 ∷
@@ -39,14 +39,14 @@ nodes =
     node_of 2 (attrs true 0 false) 0 ∷ []
 
 -- the hub is plugged first, the disk 300 turns later, the camera and the tape after 10 turns more
-abbrev plugged_in : CableWorld
+abbrev pub plugged_in : CableWorld
 plugged_in =
     plugged (at tape 0) (at hub 2) (plugged (at camera 0) (at hub 4) (turns_after 10
     (plugged (at disk 0) (at hub 1) (turns_after 300 (plugged (at computer 0) (at hub 0) (without_turns 4 nodes))))))
 
 -- 270 turns later: the hub is the root, and all but it have identified themselves. The camera's packet
 -- and its Done are on their way to the hub.
-abbrev before : CableWorld
+abbrev pub before : CableWorld
 before = turns_after 270 plugged_in
 
 named : map (λ (x : PortNode). x.state.view.phase) before.nodes ≡ Ready ∷ SelfIdent ∷ Ready ∷ Ready ∷ Ready ∷ []
@@ -61,7 +61,7 @@ unfolding turn turns_after enter tick on_signal group
 under-way = refl
 
 -- then the wire from the hub to the computer is held, and the camera is pulled; what was under way is lost
-abbrev camera_out : CableWorld
+abbrev pub camera_out : CableWorld
 camera_out = pulled (at camera 0) (hold (at hub 0) 3 before)
 
 lost : wire_of camera_out (at camera 0) ≡ empty_wire

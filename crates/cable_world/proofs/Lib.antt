@@ -6,6 +6,7 @@ mod Kept
 mod TwoNodes
 mod ThreeNodes
 mod Held
-mod Desk
+pub mod Desk
 mod Loops
 mod ChosenRoot
+mod Agreeing
