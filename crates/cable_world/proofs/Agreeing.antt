@@ -1,4 +1,4 @@
--- The ends of every cable agree in each turn of the worked runs, as the definition of agreement has it.
+-- The ends of every cable agree in each turn of three worked runs, as the definition of agreement has it.
 use Rattle.std.proofs.Common.{◌≡◌, ℕ, zero, suc, ◌==◌, Bool, false, not, ◌&&◌, ◌||◌, List, [], ◌∷◌, Option, Some, None, slice_get, refl, if◌then◌else◌}
 use Rattle.std.specs.List.{list_all}
 use Rattle.self_id.specs.Group.{group}
