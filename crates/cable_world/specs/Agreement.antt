@@ -44,12 +44,7 @@ last_level shown (t ∷ ts) = last_level (shown_by t.signal shown) ts
 
 abbrev pub is_reset : Signal → Bool
 is_reset signal.Reset = true
-is_reset signal.Idle = false
-is_reset signal.Parent = false
-is_reset signal.Child = false
-is_reset signal.Grant = false
-is_reset (signal.Packet quad) = false
-is_reset signal.Done = false
+is_reset s = false
 
 -- no Reset is under way
 abbrev pub HasNoReset : List Travelling → Type 0

@@ -16,7 +16,7 @@ use Rattle.port_state.specs.declared.signal.Signal.TheVariants as signal
 use Rattle.port_state.specs.declared.ports.PortView.{PortView}
 use Rattle.port_state.specs.declared.timing.Timing.{Timing}
 use Rattle.port_state.specs.declared.states.NodeState.{NodeState}
-use Rattle.port_state.specs.Ports.{is_idle, is_parent, is_child, asks, is_left, is_unnamed, lowest, every, port_is, is_port, changed}
+use Rattle.port_state.specs.Ports.{is_idle, is_parent, is_child, asks, is_left, is_unnamed, lowest, every, port_is, changed}
 use Rattle.port_state.specs.Sends.{packets_on_every, on_port}
 use Rattle.port_state.specs.Step.{Step, quiet}
 use Rattle.port_state.specs.PowerOn.{power_on, free_port}
@@ -30,7 +30,9 @@ use Rattle.port_state.specs.Group.{own_group, nodes_in, shown_node}
 use Rattle.self_id.proofs.Laws.{length-group}
 use Rattle.port_state.proofs.Shown.{shown-is_node}
 use Rattle.port_state.specs.SelfIdentify as ident
-use Rattle.port_state.specs.Tick.{raised, row, tick}
+use Rattle.port_state.specs.Row as row
+use Rattle.port_state.specs.Row.{Row}
+use Rattle.port_state.specs.Tick.{raised, row_of, does, tick}
 use Rattle.port_state.specs.Valid.{IsBounded, EachPort, HasNoRoles, HasRoles, roles, FitsPhase, IsValid}
 use Rattle.port_state.specs.Laws.{IsSound}
 use Rattle.port_state.proofs.EachPort.{each-changed, length-changed, port_is-implies, port_is-map, port_is-changed, lowest-passes}
@@ -68,6 +70,11 @@ few_views x b = omega (arith, b.views, b.few_ports)
 sound-if : (x : NodeState) (b : Bool) (s t : Step) → (b ≡ true → IsSound x s) → IsSound x t → IsSound x (if b then s else t)
 sound-if x true s t p q = p refl
 sound-if x false s t p q = q
+
+-- the row that a test chooses
+sound-choice : (coin : Bool) (x : NodeState) (b : Bool) (r s : Row) → (b ≡ true → IsSound x (does coin r x)) → IsSound x (does coin s x) → IsSound x (does coin (if b then r else s) x)
+sound-choice coin x true r s p q = p refl
+sound-choice coin x false r s p q = q
 
 -- a record of the same node, with nothing sent
 sound-quiet : (x y : NodeState) → IsValid y → y.ports ≡ x.ports → y.attrs ≡ x.attrs → y.timing ≡ x.timing → IsSound x (quiet y)
@@ -188,11 +195,10 @@ sound-hears_reset : (n : ℕ) (x : NodeState) → IsValid x → IsSound x (heard
 sound-hears_reset n x v =
     sound-if x (heard.is_resetting x.view.phase) _ _ (λ e. sound-level n level.Reset x v) (sound-enter_changed false n (λ p. record p { shown = level.Reset }) x v.bounded)
 
-sound-hears_grant : (n : ℕ) (x : NodeState) → IsValid x → IsSound x (heard.hears_grant n x)
-sound-hears_grant n x v =
-    let y : NodeState = record x { view = record x.view { granted = true } } in
-    sound-if x (heard.is_identifying x.view.phase && is_port x.view.parent n) _ _
-    (λ e. sound-quiet x y (record { bounded = same-bounds x y v.bounded refl refl refl refl refl refl refl refl; fits = v.fits }) refl refl refl) (sound-still x v)
+sound-hears_grant : (x : NodeState) → IsValid x → IsSound x (heard.hears_grant x)
+sound-hears_grant x v =
+    let y : NodeState = (heard.hears_grant x).state in
+    sound-quiet x y (record { bounded = same-bounds x y v.bounded refl refl refl refl refl refl refl refl; fits = v.fits }) refl refl refl
 
 few-with_packet : (quad : ℕ) (list : List ℕ) → length list ≤ 252 → length (with_packet quad list) ≤ 252
 few-with_packet quad list h = room (nat_lt (length list) 252) refl
@@ -205,32 +211,30 @@ sound-hears_packet : (n quad : ℕ) (x : NodeState) → IsValid x → IsSound x 
 sound-hears_packet n quad x v =
     let y : NodeState = record x { list = record { items = with_packet quad x.list.items } } in
     let b : IsBounded x = v.bounded in
-    sound-if x (heard.hears_packets x.view.phase) _ _
-    (λ e. record {
+    record {
       valid = record { bounded = bounded-by x y b refl refl refl b.gap b.next_gap b.parent b.id (few-with_packet quad x.list.items b.list); fits = v.fits };
       ports = refl;
       attrs = refl;
       timing = refl;
       few = let h = few-sends_from 0 (λ k. not (k == n)) (λ p. signal.Packet quad) x.view.ports in omega (arith, few_views x b, h);
       connected = all-connected (λ k. not (k == n)) (λ p. signal.Packet quad) x.view.ports x.view.ports (λ k. refl);
-    }) (sound-still x v)
+    }
 
 sound-hears_done : (n : ℕ) (x : NodeState) → IsValid x → IsSound x (heard.hears_done n x)
-sound-hears_done n x v =
-    sound-if x (heard.is_identifying x.view.phase && port_is (λ p. p.child) x.view.ports n) _ _ (λ e. sound-port n (λ p. record p { named = true }) (λ p. (refl, refl)) x v) (sound-still x v)
+sound-hears_done n x v = sound-port n (λ p. record p { named = true }) (λ p. (refl, refl)) x v
 
 sound-hears : (n : ℕ) (s : Signal) (x : NodeState) → IsValid x → IsSound x (hears n s x)
 sound-hears n signal.Reset x v = sound-hears_reset n x v
 sound-hears n signal.Idle x v = sound-level n level.Idle x v
 sound-hears n signal.Parent x v = sound-level n level.Parent x v
 sound-hears n signal.Child x v = sound-level n level.Child x v
-sound-hears n signal.Grant x v = sound-hears_grant n x v
+sound-hears n signal.Grant x v = sound-hears_grant x v
 sound-hears n (signal.Packet quad) x v = sound-hears_packet n quad x v
 sound-hears n signal.Done x v = sound-hears_done n x v
 
 pub sound-on_signal : (n : ℕ) (s : Signal) (x : NodeState) → IsValid x → IsSound x (on_signal n s x)
 unfolding on_signal
-sound-on_signal n s x v = sound-if x (port_is (λ p. p.connected) x.view.ports n) _ _ (λ e. sound-hears n s x v) (sound-still x v)
+sound-on_signal n s x v = sound-if x (heard.is_heard n s x) _ _ (λ e. sound-hears n s x v) (sound-still x v)
 
 -- ---- the rows of a tick
 
@@ -249,11 +253,11 @@ sound-send x y k s b e a t l g n p i m f c = record {
   connected = (c, tt);
 }
 
-sound-reset_start : (x : NodeState) → IsValid x → x.view.phase ≡ ResetStart → IsSound x (reset.reset_start_row x)
-sound-reset_start x v e =
+sound-reset_start : (coin : Bool) (x : NodeState) → IsValid x → x.view.phase ≡ ResetStart → IsSound x (does coin (reset.reset_start_row x) x)
+sound-reset_start coin x v e =
     let b : IsBounded x = v.bounded in
     let y : NodeState = (reset.ends_reset x).state in
-    sound-if x (nat_le x.timing.hold x.view.timer) _ _
+    sound-choice coin x (nat_le x.timing.hold x.view.timer) _ _
     (λ _. record {
       valid = record { bounded = same-bounds x y b refl refl refl refl refl refl refl refl; fits = fits-at x ResetStart v e };
       ports = refl;
@@ -263,9 +267,9 @@ sound-reset_start x v e =
       connected = all-connected (λ k. true) (λ p. signal.Idle) x.view.ports x.view.ports (λ k. refl);
     }) (sound-still x v)
 
-sound-reset_wait : (x : NodeState) → IsValid x → x.view.phase ≡ ResetWait → IsSound x (reset.reset_wait_row x)
-sound-reset_wait x v e =
-    sound-if x (every (λ p. reset.is_calm p.shown) x.view.ports) _ _
+sound-reset_wait : (coin : Bool) (x : NodeState) → IsValid x → x.view.phase ≡ ResetWait → IsSound x (does coin (reset.reset_wait_row x) x)
+sound-reset_wait coin x v e =
+    sound-choice coin x (every (λ p. reset.is_calm p.shown) x.view.ports) _ _
     (λ _. sound-flags x (reset.begins_tree x).state v.bounded refl refl refl refl refl refl refl refl refl (fits-at x ResetWait v e)) (sound-still x v)
 
 adopted_cable : (p : PortView) → (tree.adopted p).connected ≡ p.connected
@@ -301,46 +305,46 @@ sound-takes_roles x v e d =
     there : (ports : List PortView) (j : ℕ) → port_is is_left ports j ≡ true → length ports ≡ x.ports → 0 + j < x.ports
     there ports j t l = omega (arith, inside ports j t, l)
 
-sound-tree_start : (x : NodeState) → IsValid x → x.view.phase ≡ TreeStart → IsSound x (tree.tree_start_row x)
-sound-tree_start x v e =
-    sound-if x (tree.is_decided x) _ _ (λ d. sound-takes_roles x v e d)
-    (sound-if x (nat_le x.timing.timeout x.view.timer) _ _ (λ _. sound-flags x (tree.times_out x).state v.bounded refl refl refl refl refl refl refl refl refl v.fits) (sound-still x v))
+sound-tree_start : (coin : Bool) (x : NodeState) → IsValid x → x.view.phase ≡ TreeStart → IsSound x (does coin (tree.tree_start_row x) x)
+sound-tree_start coin x v e =
+    sound-choice coin x (tree.is_decided x) _ _ (λ d. sound-takes_roles x v e d)
+    (sound-choice coin x (nat_le x.timing.timeout x.view.timer) _ _ (λ _. sound-flags x (tree.times_out x).state v.bounded refl refl refl refl refl refl refl refl refl v.fits) (sound-still x v))
 
-sound-child_shake : (x : NodeState) → IsValid x → x.view.phase ≡ ChildShake → IsSound x (tree.child_shake_row x)
-sound-child_shake x v e =
-    sound-if x (every (λ p. if p.child then is_idle p.shown else true) x.view.ports) _ _
-    (λ _. sound-flags x (record x { view = record x.view { phase = ParentShake } }) v.bounded refl refl refl refl refl refl refl refl refl (fits-at x ChildShake v e)) (sound-still x v)
+sound-child_shake : (coin : Bool) (x : NodeState) → IsValid x → x.view.phase ≡ ChildShake → IsSound x (does coin (tree.child_shake_row x) x)
+sound-child_shake coin x v e =
+    sound-choice coin x (every (λ p. if p.child then is_idle p.shown else true) x.view.ports) _ _
+    (λ _. sound-flags x (tree.greets_parent x).state v.bounded refl refl refl refl refl refl refl refl refl (fits-at x ChildShake v e)) (sound-still x v)
 
 -- the parent port is connected
 up-connected : (x : NodeState) (p : ℕ) → IsBounded x → HasRoles x.view.parent x.view.ports → x.view.parent ≡ Some p → port_is (λ p. p.connected) x.view.ports p ≡ true
 up-connected x p b r o = parent-connected x.view.ports p (let h : p < x.ports = b.parent p o in omega (arith, h, b.views)) (subst (λ q. HasRoles q x.view.ports) o r)
 
-sound-parent_shake_at : (coin : Bool) (o : Option ℕ) (x : NodeState) → IsValid x → x.view.phase ≡ ParentShake → x.view.parent ≡ o → IsSound x (tree.parent_shake_at coin o x)
+sound-parent_shake_at : (coin : Bool) (o : Option ℕ) (x : NodeState) → IsValid x → x.view.phase ≡ ParentShake → x.view.parent ≡ o → IsSound x (does coin (tree.parent_shake_at o x) x)
 sound-parent_shake_at coin None x v e o = sound-flags x (tree.becomes_root x).state v.bounded refl refl refl refl refl refl refl refl refl (fits-at x ParentShake v e)
 sound-parent_shake_at coin (Some p) x v e o =
     let b : IsBounded x = v.bounded in
     let r : HasRoles x.view.parent x.view.ports = fits-at x ParentShake v e in
     let c : port_is (λ p. p.connected) x.view.ports p ≡ true = up-connected x p b r o in
-    sound-if x (port_is (λ p. is_child p.shown) x.view.ports p) _ _
+    sound-choice coin x (port_is (λ p. is_child p.shown) x.view.ports p) _ _
     (λ _. sound-send x (tree.is_accepted p x).state p signal.Idle b refl refl refl refl refl refl b.parent refl refl r c)
-    (sound-if x (port_is (λ p. is_parent p.shown) x.view.ports p) _ _
+    (sound-choice coin x (port_is (λ p. is_parent p.shown) x.view.ports p) _ _
     (λ _. sound-send x (tree.begins_contention coin p x).state p signal.Idle b refl refl refl refl refl refl b.parent refl refl (r, subst (λ q. IsSome q) (sym o) refl) c) (sound-still x v))
 
-sound-contend_at : (o : Option ℕ) (x : NodeState) → IsValid x → x.view.phase ≡ Contend → x.view.parent ≡ o → IsSound x (tree.contend_at o x)
-sound-contend_at None x v e o = sound-still x v
-sound-contend_at (Some p) x v e o =
+sound-contend_at : (coin : Bool) (o : Option ℕ) (x : NodeState) → IsValid x → x.view.phase ≡ Contend → x.view.parent ≡ o → IsSound x (does coin (tree.contend_at o x) x)
+sound-contend_at coin None x v e o = sound-still x v
+sound-contend_at coin (Some p) x v e o =
     let b : IsBounded x = v.bounded in
     let fit : HasRoles x.view.parent x.view.ports × IsSome x.view.parent = fits-at x Contend v e in
     let c : port_is (λ p. p.connected) x.view.ports p ≡ true = up-connected x p b fit.0 o in
     let f : PortView → PortView = λ p. record p { child = true } in
-    sound-if x (port_is (λ p. is_parent p.shown) x.view.ports p) _ _
+    sound-choice coin x (port_is (λ p. is_parent p.shown) x.view.ports p) _ _
     (λ _. sound-send x (tree.takes_rival p x).state p signal.Child b refl refl refl (length-changed p f x.view.ports) refl refl (λ q n. absurd cc) refl refl
     (rival_taken x.view.ports p (subst (λ q. HasRoles q x.view.ports) o fit.0))
     (port_is-changed (λ p. p.connected) p f (λ p. refl) x.view.ports p ∙ c))
     (sound-send x (tree.asks_again p x).state p signal.Parent b refl refl refl refl refl refl b.parent refl refl fit.0 c)
 
-sound-contend : (x : NodeState) → IsValid x → x.view.phase ≡ Contend → IsSound x (tree.contend_row x)
-sound-contend x v e = sound-if x (nat_le x.view.wait x.view.timer) _ _ (λ _. sound-contend_at x.view.parent x v e refl) (sound-still x v)
+sound-contend : (coin : Bool) (x : NodeState) → IsValid x → x.view.phase ≡ Contend → IsSound x (does coin (tree.contend_row x) x)
+sound-contend coin x v e = sound-choice coin x (nat_le x.view.wait x.view.timer) _ _ (λ _. sound-contend_at coin x.view.parent x v e refl) (sound-still x v)
 
 -- ---- self identify
 
@@ -373,9 +377,9 @@ sound-names x v e m =
           (on-port x.view.ports x.view.parent signal.Done (λ p o. up-connected x p b r o));
     }
 
-sound-granted : (o : Option ℕ) (x : NodeState) → IsValid x → x.view.phase ≡ SelfIdent → ForSome o (λ k. port_is (λ p. p.connected) x.view.ports k ≡ true) → IsSound x (ident.granted_row o x)
-sound-granted None x v e h = sound-if x (ident.may_name x) _ _ (λ m. sound-names x v e m) (sound-still x v)
-sound-granted (Some k) x v e h =
+sound-granted : (coin : Bool) (o : Option ℕ) (x : NodeState) → IsValid x → x.view.phase ≡ SelfIdent → ForSome o (λ k. port_is (λ p. p.connected) x.view.ports k ≡ true) → IsSound x (does coin (ident.granted_row o x) x)
+sound-granted coin None x v e h = sound-choice coin x (ident.may_name x) _ _ (λ m. sound-names x v e m) (sound-still x v)
+sound-granted coin (Some k) x v e h =
     let b : IsBounded x = v.bounded in
     let f : PortView → PortView = λ p. record p { asked = true } in
     let r : HasRoles x.view.parent x.view.ports = fits-at x SelfIdent v e in
@@ -383,27 +387,27 @@ sound-granted (Some k) x v e h =
     (sound-send x (with_port k f x) k signal.Grant b refl refl refl (length-changed k f x.view.ports) refl refl b.parent refl refl
     (fits-changed k f (λ p. (refl, refl)) x.view.phase x.view.parent x.view.ports v.fits) (port_is-changed (λ p. p.connected) k f (λ p. refl) x.view.ports k ∙ h k refl))
   where
-    go : (t : Bool) → IsSound x (ident.asks_child k x) → IsSound x (if t then quiet x else ident.asks_child k x)
+    go : (t : Bool) → IsSound x (ident.asks_child k x) → IsSound x (does coin (if t then row.none else row.asks_child k) x)
     go true s = sound-still x v
     go false s = s
 
-sound-self_ident : (x : NodeState) → IsValid x → x.view.phase ≡ SelfIdent → IsSound x (ident.self_ident_row x)
-sound-self_ident x v e =
+sound-self_ident : (coin : Bool) (x : NodeState) → IsValid x → x.view.phase ≡ SelfIdent → IsSound x (does coin (ident.self_ident_row x) x)
+sound-self_ident coin x v e =
     let h : ForSome (lowest is_unnamed x.view.ports) (λ k. port_is (λ p. p.connected) x.view.ports k ≡ true) =
     lowest-passes is_unnamed (λ k. port_is (λ p. p.connected) x.view.ports k ≡ true) 0 x.view.ports
     (λ j t. let z : 0 + j ≡ j = omega arith in rw z (port_is-implies is_unnamed (λ p. p.connected) unnamed_connected x.view.ports j t)) in
-    sound-if x x.view.granted _ _ (λ _. sound-granted (lowest is_unnamed x.view.ports) x v e h) (sound-still x v)
+    sound-choice coin x x.view.granted _ _ (λ _. sound-granted coin (lowest is_unnamed x.view.ports) x v e h) (sound-still x v)
 
 -- ---- a tick
 
-sound-row : (coin : Bool) (ph : Phase) (x : NodeState) → IsValid x → x.view.phase ≡ ph → IsSound x (row coin ph x)
-sound-row coin ResetStart x v e = sound-reset_start x v e
-sound-row coin ResetWait x v e = sound-reset_wait x v e
-sound-row coin TreeStart x v e = sound-tree_start x v e
-sound-row coin ChildShake x v e = sound-child_shake x v e
+sound-row : (coin : Bool) (ph : Phase) (x : NodeState) → IsValid x → x.view.phase ≡ ph → IsSound x (does coin (row_of ph x) x)
+sound-row coin ResetStart x v e = sound-reset_start coin x v e
+sound-row coin ResetWait x v e = sound-reset_wait coin x v e
+sound-row coin TreeStart x v e = sound-tree_start coin x v e
+sound-row coin ChildShake x v e = sound-child_shake coin x v e
 sound-row coin ParentShake x v e = sound-parent_shake_at coin x.view.parent x v e refl
-sound-row coin Contend x v e = sound-contend x v e
-sound-row coin SelfIdent x v e = sound-self_ident x v e
+sound-row coin Contend x v e = sound-contend coin x v e
+sound-row coin SelfIdent x v e = sound-self_ident coin x v e
 sound-row coin Ready x v e = sound-still x v
 
 pub sound-tick : (coin : Bool) (x : NodeState) → IsValid x → IsSound x (tick coin x)

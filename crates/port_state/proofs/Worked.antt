@@ -1,7 +1,7 @@
 -- Worked rows of the step table: two nodes on one cable, of which one becomes leaf and the other root, a
 -- contention, and the first coins. The times are the usual ones for cables of at most 4 ticks: a hold of
 -- 256, a force time of 1024, a timeout of 2048, and waits of 12 and 32.
-use Rattle.std.proofs.Common.{◌≡◌, ℕ, zero, suc, Bool, true, false, List, [], ◌∷◌, Some, None, refl}
+use Rattle.std.proofs.Common.{◌≡◌, ℕ, zero, suc, Bool, true, false, List, [], ◌∷◌, Some, None, refl, sym, ◌∙◌, ap}
 use Rattle.self_id.specs.declared.node.Attrs.{Attrs}
 use Rattle.self_id.specs.Group.{group}
 use Rattle.port_state.specs.declared.signal.Level.{Level}
@@ -18,7 +18,11 @@ use Rattle.port_state.specs.PowerOn.{power_on}
 use Rattle.port_state.specs.Entry.{enter, plugged, pulled}
 use Rattle.port_state.specs.Config.{set_config}
 use Rattle.port_state.specs.Heard.{on_signal}
-use Rattle.port_state.specs.Tick.{tick}
+use Rattle.port_state.specs.Row as row
+use Rattle.port_state.specs.Row.{Row}
+use Rattle.port_state.specs.Tick.{next_row, tick}
+use Rattle.port_state.specs.Names as name
+use Rattle.port_state.specs.Names.{KeepsBut, without_all, signal_names}
 
 -- a node of one port at power-on: S400, a link, no contender, a gap count of 63
 abbrev attrs : Attrs
@@ -211,3 +215,37 @@ seeded-42 = (refl, refl, refl, refl)
 unplugged : let s = pulled 0 root_named.state in (s.sends ≡ []) × (s.state.view.initiated ≡ true) × (s.state.view.phase ≡ ResetStart)
 unfolding enter tick on_signal group
 unplugged = (refl, refl, refl)
+
+-- ---- which row applies
+
+leaf-rows : (next_row (ticks false 254 (start false)) ≡ row.none) × (next_row (ticks false 255 (start false)) ≡ row.ends_reset) × (next_row (in_tree false) ≡ row.takes_roles) × (next_row (in_tree true) ≡ row.none) × (next_row asking ≡ row.greets_parent)
+unfolding enter tick on_signal
+leaf-rows = (refl, refl, refl, refl, refl)
+
+contention-rows : (next_row (hears signal.Parent (ticks false 1 asking)) ≡ row.begins_contention 0) × (next_row (ticks false 30 (contending true).state) ≡ row.none) × (next_row (ticks false 31 (contending true).state) ≡ row.takes_rival 0) × (next_row (ticks false 11 (hears signal.Idle (contending false).state)) ≡ row.asks_again 0)
+unfolding enter tick on_signal
+contention-rows = (refl, refl, refl, refl)
+
+naming-rows : (next_row accepted.state ≡ row.none) × (next_row (hears signal.Grant accepted.state) ≡ row.names_itself) × (next_row (ticks false 2 (hears signal.Idle asked.state)) ≡ row.asks_child 0) × (next_row informed.state ≡ row.none)
+unfolding enter tick on_signal group
+naming-rows = (refl, refl, refl, refl)
+
+-- a child that doesn't show Idle is still in its handshake
+shaking-row : next_row (hears signal.Child asked.state) ≡ row.none
+unfolding enter tick on_signal
+shaking-row = refl
+
+-- ---- what is named
+
+-- to forget the phase isn't to forget the grant
+grant-counts : (x y : NodeState) → x.view.granted ≡ true → y.view.granted ≡ false → KeepsBut (name.phase ∷ name.timer ∷ name.marks ∷ []) x y → ⊥
+grant-counts x y t f h = let e : true ≡ false = sym t ∙ sym (ap (λ (z : NodeState). z.view.granted) h) ∙ f in cc
+
+-- to forget one port's marks isn't to forget another's
+other-port-counts : (x : NodeState) → x.view.ports ≡ port level.Parent true true true → (without_all (name.child 1 ∷ name.asked 1 ∷ name.named 1 ∷ name.level 1 ∷ name.line 1 ∷ []) x).view.ports ≡ x.view.ports
+other-port-counts x e = rw e refl
+
+-- a packet before self identify names nothing, and afterwards the list
+packet-names : (signal_names 0 (signal.Packet 0x807f8082) asking ≡ []) × (signal_names 0 (signal.Packet 0x807f8082) granting.state ≡ name.list ∷ [])
+unfolding enter tick on_signal
+packet-names = (refl, refl)

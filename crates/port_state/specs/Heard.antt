@@ -1,9 +1,9 @@
 -- What a node does with a signal that a port hears.
-use Rattle.std.specs.Prelude.{ℕ, Bool, true, false, not, ◌&&◌, List, ◌∷◌, ◌++◌, [], length, nat_lt, if◌then◌else◌}
+use Rattle.std.specs.Prelude.{ℕ, Bool, true, false, ◌&&◌, List, ◌∷◌, ◌++◌, [], length, nat_lt, if◌then◌else◌}
 use Rattle.port_state.specs.declared.signal.Level.{Level}
 use Rattle.port_state.specs.declared.signal.Level.TheVariants as level
 use Rattle.port_state.specs.declared.signal.Phase.{Phase}
-use Rattle.port_state.specs.declared.signal.Phase.TheVariants.{ResetStart, ResetWait, TreeStart, ChildShake, ParentShake, Contend, SelfIdent, Ready}
+use Rattle.port_state.specs.declared.signal.Phase.TheVariants.{ResetStart, SelfIdent, Ready}
 use Rattle.port_state.specs.declared.signal.Signal.{Signal}
 use Rattle.port_state.specs.declared.signal.Signal.TheVariants as signal
 use Rattle.port_state.specs.declared.states.NodeState.{NodeState}
@@ -15,45 +15,18 @@ use Rattle.port_state.specs.Entry.{enter, with_port}
 -- R0
 abbrev pub is_resetting : Phase → Bool
 is_resetting ResetStart = true
-is_resetting ResetWait = false
-is_resetting TreeStart = false
-is_resetting ChildShake = false
-is_resetting ParentShake = false
-is_resetting Contend = false
-is_resetting SelfIdent = false
-is_resetting Ready = false
+is_resetting phase = false
 
 -- S0 to S4
 abbrev pub is_identifying : Phase → Bool
-is_identifying ResetStart = false
-is_identifying ResetWait = false
-is_identifying TreeStart = false
-is_identifying ChildShake = false
-is_identifying ParentShake = false
-is_identifying Contend = false
 is_identifying SelfIdent = true
-is_identifying Ready = false
+is_identifying phase = false
 
 -- S0 to S4 and A0
 abbrev pub hears_packets : Phase → Bool
-hears_packets ResetStart = false
-hears_packets ResetWait = false
-hears_packets TreeStart = false
-hears_packets ChildShake = false
-hears_packets ParentShake = false
-hears_packets Contend = false
 hears_packets SelfIdent = true
 hears_packets Ready = true
-
--- Reset outside R0
-abbrev pub begins_reset : Signal → Phase → Bool
-begins_reset signal.Reset phase = not (is_resetting phase)
-begins_reset signal.Idle phase = false
-begins_reset signal.Parent phase = false
-begins_reset signal.Child phase = false
-begins_reset signal.Grant phase = false
-begins_reset (signal.Packet quad) phase = false
-begins_reset signal.Done phase = false
+hears_packets phase = false
 
 -- the port shows a level
 abbrev pub with_level : ℕ → Level → NodeState → NodeState
@@ -64,32 +37,24 @@ abbrev pub hears_reset : ℕ → NodeState → Step
 hears_reset port x =
     if is_resetting x.view.phase then quiet (with_level port level.Reset x) else enter false (with_level port level.Reset x)
 
--- Grant: in self identify, from the parent, the node may begin
-abbrev pub hears_grant : ℕ → NodeState → Step
-hears_grant port x =
-    if is_identifying x.view.phase && is_port x.view.parent port then quiet (record x { view = record x.view { granted = true } })
-    else quiet x
+-- Grant: the node may begin
+abbrev pub hears_grant : NodeState → Step
+hears_grant x = quiet (record x { view = record x.view { granted = true } })
 
 -- the list with a packet at its end, if there is room
 abbrev pub with_packet : ℕ → List ℕ → List ℕ
 with_packet quad list = if nat_lt (length list) 252 then list ++ quad ∷ [] else list
 
--- a packet in self identify and later: it is kept, and repeated on every other port
+-- a packet is kept, and repeated on every other port
 abbrev pub hears_packet : ℕ → ℕ → NodeState → Step
-hears_packet port quad x =
-    if hears_packets x.view.phase
-    then record {
-      state = record x { list = record { items = with_packet quad x.list.items } };
-      sends = on_others port (signal.Packet quad) x.view.ports;
-    }
-    else quiet x
+hears_packet port quad x = record {
+  state = record x { list = record { items = with_packet quad x.list.items } };
+  sends = on_others port (signal.Packet quad) x.view.ports;
+}
 
--- Done: in self identify, from a child, all below it have identified themselves
+-- Done: the child and all below it have identified themselves
 abbrev pub hears_done : ℕ → NodeState → Step
-hears_done port x =
-    if is_identifying x.view.phase && port_is (λ p. p.child) x.view.ports port
-    then quiet (with_port port (λ p. record p { named = true }) x)
-    else quiet x
+hears_done port x = quiet (with_port port (λ p. record p { named = true }) x)
 
 -- each signal
 abbrev pub hears : ℕ → Signal → NodeState → Step
@@ -97,10 +62,21 @@ hears port signal.Reset x = hears_reset port x
 hears port signal.Idle x = quiet (with_level port level.Idle x)
 hears port signal.Parent x = quiet (with_level port level.Parent x)
 hears port signal.Child x = quiet (with_level port level.Child x)
-hears port signal.Grant x = hears_grant port x
+hears port signal.Grant x = hears_grant x
 hears port (signal.Packet quad) x = hears_packet port quad x
 hears port signal.Done x = hears_done port x
 
+-- a grant counts in self identify where it comes from the parent, a packet in self identify and later, and
+-- Done in self identify where it comes from a child
+abbrev pub counts : ℕ → Signal → NodeState → Bool
+counts port signal.Grant x = is_identifying x.view.phase && is_port x.view.parent port
+counts port (signal.Packet quad) x = hears_packets x.view.phase
+counts port signal.Done x = is_identifying x.view.phase && port_is (λ p. p.child) x.view.ports port
+counts port s x = true
+
 -- a port that isn't connected hears nothing
+abbrev pub is_heard : ℕ → Signal → NodeState → Bool
+is_heard port s x = is_connected x.view.ports port && counts port s x
+
 unfoldable pub on_signal : ℕ → Signal → NodeState → Step
-on_signal port s x = if is_connected x.view.ports port then hears port s x else quiet x
+on_signal port s x = if is_heard port s x then hears port s x else quiet x

@@ -8,11 +8,13 @@ pub mod PowerOn
 pub mod Entry
 pub mod Config
 pub mod Heard
+pub mod Row
 pub mod Resetting
 pub mod TreeIdentify
 pub mod Group
 pub mod SelfIdentify
 pub mod Tick
+pub mod Names
 pub mod Machine
 pub mod Valid
 pub mod Laws

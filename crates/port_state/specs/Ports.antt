@@ -6,22 +6,16 @@ use Rattle.port_state.specs.declared.signal.Level.TheVariants as level
 use Rattle.port_state.specs.declared.ports.PortView.{PortView}
 
 abbrev pub is_idle : Level → Bool
-is_idle level.Reset = false
 is_idle level.Idle = true
-is_idle level.Parent = false
-is_idle level.Child = false
+is_idle l = false
 
 abbrev pub is_parent : Level → Bool
-is_parent level.Reset = false
-is_parent level.Idle = false
 is_parent level.Parent = true
-is_parent level.Child = false
+is_parent l = false
 
 abbrev pub is_child : Level → Bool
-is_child level.Reset = false
-is_child level.Idle = false
-is_child level.Parent = false
 is_child level.Child = true
+is_child l = false
 
 -- a connected port that shows Parent: the neighbour asks this node to be its parent
 abbrev pub asks : PortView → Bool

@@ -6,8 +6,10 @@ use Rattle.port_state.specs.declared.signal.Signal.TheVariants as signal
 use Rattle.port_state.specs.declared.states.NodeState.{NodeState}
 use Rattle.port_state.specs.Ports.{is_unnamed, lowest, port_is}
 use Rattle.port_state.specs.Sends.{packets_on_every, on_port}
-use Rattle.port_state.specs.Step.{Step, quiet}
+use Rattle.port_state.specs.Step.{Step}
 use Rattle.port_state.specs.Entry.{with_port}
+use Rattle.port_state.specs.Row as row
+use Rattle.port_state.specs.Row.{Row}
 use Rattle.port_state.specs.Group.{own_group, nodes_in}
 
 -- S1: a child is asked to identify itself
@@ -35,10 +37,10 @@ names_itself x =
     }
 
 -- the lowest child that hasn't identified itself is asked once; with no such child it is this node's turn
-abbrev pub granted_row : Option ℕ → NodeState → Step
-granted_row (Some port) x = if port_is (λ p. p.asked) x.view.ports port then quiet x else asks_child port x
-granted_row None x = if may_name x then names_itself x else quiet x
+abbrev pub granted_row : Option ℕ → NodeState → Row
+granted_row (Some port) x = if port_is (λ p. p.asked) x.view.ports port then row.none else row.asks_child port
+granted_row None x = if may_name x then row.names_itself else row.none
 
 -- S0: nothing before the grant
-abbrev pub self_ident_row : NodeState → Step
-self_ident_row x = if x.view.granted then granted_row (lowest is_unnamed x.view.ports) x else quiet x
+abbrev pub self_ident_row : NodeState → Row
+self_ident_row x = if x.view.granted then granted_row (lowest is_unnamed x.view.ports) x else row.none

@@ -9,6 +9,8 @@ use Rattle.port_state.specs.Ports.{is_idle, is_parent, is_child, asks, is_left, 
 use Rattle.port_state.specs.Sends.{notices}
 use Rattle.port_state.specs.Step.{Step, quiet}
 use Rattle.port_state.specs.Entry.{with_port}
+use Rattle.port_state.specs.Row as row
+use Rattle.port_state.specs.Row.{Row}
 
 -- T0: all ports show Parent, or all but one do and the node needn't wait to become root
 abbrev pub is_decided : NodeState → Bool
@@ -40,17 +42,17 @@ takes_roles x = record {
 abbrev pub times_out : NodeState → Step
 times_out x = quiet (record x { view = record x.view { timed_out = true } })
 
-abbrev pub tree_start_row : NodeState → Step
+abbrev pub tree_start_row : NodeState → Row
 tree_start_row x =
-    if is_decided x then takes_roles x
-    else (if nat_le x.timing.timeout x.view.timer then times_out x else quiet x)
+    if is_decided x then row.takes_roles
+    else (if nat_le x.timing.timeout x.view.timer then row.times_out else row.none)
 
 -- T1 to T2: every child port shows Idle
-abbrev pub child_shake_row : NodeState → Step
-child_shake_row x =
-    if every (λ p. if p.child then is_idle p.shown else true) x.view.ports
-    then quiet (record x { view = record x.view { phase = ParentShake } })
-    else quiet x
+abbrev pub child_shake_row : NodeState → Row
+child_shake_row x = if every (λ p. if p.child then is_idle p.shown else true) x.view.ports then row.greets_parent else row.none
+
+abbrev pub greets_parent : NodeState → Step
+greets_parent x = quiet (record x { view = record x.view { phase = ParentShake } })
 
 -- T2 to S0: a node with no parent port is the root
 abbrev pub becomes_root : NodeState → Step
@@ -80,14 +82,14 @@ begins_contention coin parent x = record {
   sends = (parent, signal.Idle) ∷ [];
 }
 
-abbrev pub parent_shake_at : Bool → Option ℕ → NodeState → Step
-parent_shake_at coin None x = becomes_root x
-parent_shake_at coin (Some parent) x =
-    if port_is (λ p. is_child p.shown) x.view.ports parent then is_accepted parent x
-    else (if port_is (λ p. is_parent p.shown) x.view.ports parent then begins_contention coin parent x else quiet x)
+abbrev pub parent_shake_at : Option ℕ → NodeState → Row
+parent_shake_at None x = row.becomes_root
+parent_shake_at (Some parent) x =
+    if port_is (λ p. is_child p.shown) x.view.ports parent then row.is_accepted parent
+    else (if port_is (λ p. is_parent p.shown) x.view.ports parent then row.begins_contention parent else row.none)
 
-abbrev pub parent_shake_row : Bool → NodeState → Step
-parent_shake_row coin x = parent_shake_at coin x.view.parent x
+abbrev pub parent_shake_row : NodeState → Row
+parent_shake_row x = parent_shake_at x.view.parent x
 
 -- T3 to T1: the neighbour asks again, so it becomes a child
 abbrev pub takes_rival : ℕ → NodeState → Step
@@ -106,11 +108,11 @@ takes_rival rival x = record {
 abbrev pub asks_again : ℕ → NodeState → Step
 asks_again rival x = record { state = record x { view = record x.view { phase = ParentShake } }; sends = (rival, signal.Parent) ∷ [] }
 
-abbrev pub contend_at : Option ℕ → NodeState → Step
-contend_at None x = quiet x
+abbrev pub contend_at : Option ℕ → NodeState → Row
+contend_at None x = row.none
 contend_at (Some rival) x =
-    if port_is (λ p. is_parent p.shown) x.view.ports rival then takes_rival rival x else asks_again rival x
+    if port_is (λ p. is_parent p.shown) x.view.ports rival then row.takes_rival rival else row.asks_again rival
 
 -- T3: when the wait is over
-abbrev pub contend_row : NodeState → Step
-contend_row x = if nat_le x.view.wait x.view.timer then contend_at x.view.parent x else quiet x
+abbrev pub contend_row : NodeState → Row
+contend_row x = if nat_le x.view.wait x.view.timer then contend_at x.view.parent x else row.none

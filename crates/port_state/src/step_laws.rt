@@ -14,11 +14,12 @@ ghost use Rattle.port_state.specs.Coins.{coin_at, given};
 ghost use Rattle.port_state.specs.PowerOn.{power_on};
 ghost use Rattle.port_state.specs.Entry.{enter, disturb, plugged, pulled};
 ghost use Rattle.port_state.specs.Config.{set_config};
-ghost use Rattle.port_state.specs.Heard.{begins_reset, on_signal};
+ghost use Rattle.port_state.specs.Heard.{on_signal};
 ghost use Rattle.port_state.specs.Group.{shown_node, own_group, nodes_in};
-ghost use Rattle.port_state.specs.Tick.{tick};
+ghost use Rattle.port_state.specs.Tick.{next_row, tick};
 ghost use Rattle.port_state.specs.Valid.{IsBounded, IsValid};
-ghost use Rattle.port_state.specs.Laws.{IsSound, TickKeeps, SignalKeeps};
+ghost use Rattle.port_state.specs.Names.{KeepsBut, tick_names, signal_names, reset_names, plug_names, config_names};
+ghost use Rattle.port_state.specs.Laws.{IsSound};
 
 /// Each step of a valid record, by whatever row and signal, gives a valid record of the same node. It
 /// sends at most 112 signals, and none on a port that isn't connected. A reset may begin from any
@@ -42,13 +43,16 @@ pub fn power_on_is_valid()
     ensures { (ports : ℕ) (attrs : Attrs) (force : Bool) (timing : Timing) → 1 ≤ ports → ports ≤ 16 → FitBits attrs → attrs.delay ≡ 0 → IsValid (power_on ports attrs force timing) }
 {}
 
-/// What a row doesn't name stays. No tick changes a cable, a level that a port shows, the gap count,
-/// the initiated bit or the count of resets; no signal but a Reset that begins a reset changes the
-/// phase, the timer, the parent port, the roles of ports, the ID or the draws; a grant alone grants, and
-/// a packet alone changes the list.
+/// What a row or a call doesn't name stays. `KeepsBut` has the record before and the record after: with the
+/// parts forgotten that are named, they are the same. So a tick by which no row applies changes the timer
+/// alone, and a signal that isn't heard changes nothing.
 pub fn what_stays()
-    ensures tick { (coin : Bool) (x : NodeState) → TickKeeps x (tick coin x).state }
-    ensures signal { (port : ℕ) (s : Signal) (x : NodeState) → begins_reset s x.view.phase ≡ false → SignalKeeps s x (on_signal port s x).state }
+    ensures tick { (coin : Bool) (x : NodeState) → KeepsBut (tick_names (next_row x)) x (tick coin x).state }
+    ensures signal { (port : ℕ) (s : Signal) (x : NodeState) → KeepsBut (signal_names port s x) x (on_signal port s x).state }
+    ensures enter { (caused : Bool) (x : NodeState) → KeepsBut reset_names x (enter caused x).state }
+    ensures plugged { (port : ℕ) (x : NodeState) → KeepsBut (plug_names port) x (plugged port x).state }
+    ensures pulled { (port : ℕ) (x : NodeState) → KeepsBut (plug_names port) x (pulled port x).state }
+    ensures config { (root_id : ℕ) (force : Bool) (gap : Option ℕ) (x : NodeState) → KeepsBut (config_names force gap) x (set_config root_id force gap x) }
 {}
 
 /// What goes out on one port, for each way in which a step sends. So a step can be told port by port.
