@@ -1,4 +1,4 @@
--- The ends of every cable agree in each turn of three worked runs, as the definition of agreement has it.
+-- The ends of every cable agree in each turn of the worked runs, as the definition of agreement has it.
 use Rattle.std.proofs.Common.{◌≡◌, ℕ, zero, suc, ◌==◌, Bool, false, not, ◌&&◌, ◌||◌, List, [], ◌∷◌, Option, Some, None, slice_get, refl, if◌then◌else◌}
 use Rattle.std.specs.List.{list_all}
 use Rattle.self_id.specs.Group.{group}
@@ -18,6 +18,9 @@ use Rattle.cable_world.specs.Turn.{turn, turns_after}
 use Rattle.cable_world.specs.Act.{hold}
 use Rattle.cable_world.specs.Agreement.{out, last_level, is_reset}
 use Rattle.cable_world.proofs.Told.{plain_node, at, plugged}
+use Rattle.cable_world.proofs.ThreeNodes.{start}
+use Rattle.cable_world.proofs.ChosenRoot.{told_both}
+use Rattle.cable_world.proofs.Loops.{loop, alike}
 use Rattle.cable_world.proofs.Desk.{plugged_in, camera_out, computer, hub, disk, camera, tape}
 
 abbrev number : Level → ℕ
@@ -55,14 +58,37 @@ two = plugged (at 0 0) (at 1 0) (without_turns 4 (plain_node 0 ∷ plain_node 1 
 abbrev cable : List (End × End)
 cable = (at 0 0, at 1 0) ∷ []
 
--- two nodes that contend, and with a hold of 10 turns
+-- two nodes that contend; with holds of 3 and of 10 turns; that always draw alike, until 32 coins are drawn
 two-agree : broken cable 305 two ≡ []
 unfolding turn turns_after enter tick on_signal group
 two-agree = refl
 
-held-agree : broken cable 60 (hold (at 0 0) 10 (turns_after 257 two)) ≡ []
+held-agree : broken cable 60 (hold (at 0 0) 3 (turns_after 257 two)) ≡ []
 unfolding turn turns_after enter tick on_signal group
 held-agree = refl
+
+held-longer-agree : broken cable 60 (hold (at 0 0) 10 (turns_after 257 two)) ≡ []
+unfolding turn turns_after enter tick on_signal group
+held-longer-agree = refl
+
+alike-agree : broken cable 665 alike ≡ []
+unfolding turn turns_after enter tick on_signal
+alike-agree = refl
+
+-- a root that was chosen
+chosen-agree : broken cable 300 told_both ≡ []
+unfolding turn turns_after enter tick on_signal group
+chosen-agree = refl
+
+-- three nodes in a line
+line-agrees : broken ((at 0 0, at 1 0) ∷ (at 1 1, at 2 0) ∷ []) 300 start ≡ []
+unfolding turn turns_after enter tick on_signal group
+line-agrees = refl
+
+-- two cables between two nodes, past the timeout
+loop-agrees : broken ((at 0 0, at 1 0) ∷ (at 0 1, at 1 1) ∷ []) 2310 loop ≡ []
+unfolding turn turns_after enter tick on_signal
+loop-agrees = refl
 
 -- the desk before the camera is pulled, and afterwards
 abbrev lasting : List (End × End)

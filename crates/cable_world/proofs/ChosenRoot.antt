@@ -15,7 +15,7 @@ abbrev before : CableWorld
 before = turns_after 299 (plugged (at 0 0) (at 1 0) (without_turns 4 (plain_node 0 ∷ plain_node 1 ∷ [])))
 
 -- the second tells both, the set of the numbers 0 and 1, that the node with ID 0 is to be root
-abbrev told_both : CableWorld
+abbrev pub told_both : CableWorld
 told_both = noted before (configure 3 1 0 true None before)
 
 abbrev first : ℕ

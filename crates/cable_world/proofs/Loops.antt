@@ -11,7 +11,7 @@ use Rattle.cable_world.specs.Turn.{turn, turns_after}
 use Rattle.cable_world.proofs.Told.{plain_node, at, plugged, story}
 
 -- two cables between two nodes
-abbrev loop : CableWorld
+abbrev pub loop : CableWorld
 loop = plugged (at 0 1) (at 1 1) (plugged (at 0 0) (at 1 0) (without_turns 4 (plain_node 0 ∷ plain_node 0 ∷ [])))
 
 -- for each node its phase, and whether its configuration timed out
@@ -26,7 +26,7 @@ unfolding turn turns_after enter tick on_signal
 times-out = refl
 
 -- one cable between nodes that always draw 0
-abbrev alike : CableWorld
+abbrev pub alike : CableWorld
 alike = plugged (at 0 0) (at 1 0) (without_turns 4 (plain_node 0 ∷ plain_node 0 ∷ []))
 
 -- for each node its phase, and how many coins it drew

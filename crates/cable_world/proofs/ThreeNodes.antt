@@ -11,7 +11,7 @@ use Rattle.cable_world.specs.Turn.{turn, turns_after}
 use Rattle.cable_world.proofs.Told.{plain_node, node_of, attrs, at, plugged, tell, is, childless, two_children, story}
 
 -- the first contends to be isochronous resource manager; the second is in the middle
-abbrev start : CableWorld
+abbrev pub start : CableWorld
 start = plugged (at 1 1) (at 2 0) (plugged (at 0 0) (at 1 0) (without_turns 4 (node_of 3 (attrs true 2 true) 0 ∷ plain_node 0 ∷ plain_node 0 ∷ [])))
 
 abbrev list : List ℕ
