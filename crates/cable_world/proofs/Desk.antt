@@ -68,10 +68,10 @@ lost : wire_of camera_out (at camera 0) ≡ empty_wire
 unfolding turn turns_after enter tick on_signal group
 lost = refl
 
-abbrev list : List ℕ
+abbrev pub list : List ℕ
 list = 0x807f8090 ∷ 0x817f0090 ∷ 0x823f80bf ∷ 0x82815000 ∷ 0x837f88d4 ∷ []
 
-abbrev own : List ℕ
+abbrev pub own : List ℕ
 own = 0x807f0042 ∷ []
 
 -- After 870 turns the four that are left have one list, with the computer as root. The computer drew one

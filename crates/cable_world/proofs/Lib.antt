@@ -10,3 +10,6 @@ pub mod Desk
 mod Loops
 mod ChosenRoot
 mod Agreeing
+mod Settled
+mod Outcomes
+mod Reached

@@ -14,7 +14,7 @@ use Rattle.cable_world.proofs.Told.{plain_node, node_of, attrs, at, plugged, tel
 abbrev pub start : CableWorld
 start = plugged (at 1 1) (at 2 0) (plugged (at 0 0) (at 1 0) (without_turns 4 (node_of 3 (attrs true 2 true) 0 ∷ plain_node 0 ∷ plain_node 0 ∷ [])))
 
-abbrev list : List ℕ
+abbrev pub list : List ℕ
 list = 0x807f8896 ∷ 0x817f8096 ∷ 0x827f80f6 ∷ []
 
 -- after 256, 257, 260, 262 and 268 turns

@@ -1,5 +1,5 @@
 -- Two nodes on one cable, of which the first draws 0 and the second 1. They contend for the root.
-use Rattle.std.proofs.Common.{◌≡◌, ℕ, [], ◌∷◌, Some, None, refl, map}
+use Rattle.std.proofs.Common.{◌≡◌, ℕ, List, [], ◌∷◌, Some, None, refl, map}
 use Rattle.self_id.specs.Group.{group}
 use Rattle.port_state.specs.declared.signal.Phase.TheVariants.{ResetStart, ResetWait, TreeStart, ChildShake, ParentShake, Contend, SelfIdent, Ready}
 use Rattle.port_state.specs.Entry.{enter}
@@ -10,8 +10,11 @@ use Rattle.cable_world.specs.World.{CableWorld, without_turns}
 use Rattle.cable_world.specs.Turn.{turn, turns_after}
 use Rattle.cable_world.proofs.Told.{plain_node, at, plugged, tell, is, childless, one_child, story}
 
-abbrev start : CableWorld
-start = plugged (at 0 0) (at 1 0) (without_turns 4 (plain_node 0 ∷ plain_node 1 ∷ []))
+abbrev pub nodes : List PortNode
+nodes = plain_node 0 ∷ plain_node 1 ∷ []
+
+abbrev pub start : CableWorld
+start = plugged (at 0 0) (at 1 0) (without_turns 4 nodes)
 
 abbrev first : ℕ
 first = 0x807f8096

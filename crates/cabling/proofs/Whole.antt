@@ -108,10 +108,14 @@ mutual
   ]
   none_below c label part from p row s looped h z i has = absurd h
 
+-- so the core of a set of such nodes is empty
+pub seen_core : (c : Wiring) (label : ℕ → Label) (root set : ℕ) (t : Tree) → Sees c label root None t → ((x : ℕ) → Holds set x → In x (numbers c root t)) → IsCore c set 0
+seen_core c label root set t h all x = (λ none. absurd (none_of_zero x none), λ p. absurd (none_looped c label p.0 root None t p.2 h x (all x (p.1 x p.3)) p.3))
+
 -- ---- a seen tree has each node of the component
 
 -- the set of the numbers of a list
-abbrev set_of : List ℕ → ℕ
+abbrev pub set_of : List ℕ → ℕ
 set_of [] = 0
 set_of (x ∷ xs) = bit_or (set_of xs) (2 ^ x)
 
@@ -120,7 +124,7 @@ in_set [] x i = absurd i
 in_set (y ∷ ys) x (inl e) = let one : bit_at (2 ^ y) x ≡ 1 = subst (λ (n : ℕ). bit_at (2 ^ y) n ≡ 1) (sym e) (bit_at-pow_same y) in omega (arith, bit_at_or (set_of ys) (2 ^ y) x, bit_at-lt (set_of ys) x, one)
 in_set (y ∷ ys) x (inr i) = omega (arith, bit_at_or (set_of ys) (2 ^ y) x, bit_at-lt (2 ^ y) x, in_set ys x i)
 
-from_set : (xs : List ℕ) (x : ℕ) → Holds (set_of xs) x → In x xs
+pub from_set : (xs : List ℕ) (x : ℕ) → Holds (set_of xs) x → In x xs
 from_set [] x h = absurd (none_of_zero x h)
 from_set (y ∷ ys) x h = elim (cases_eq x y) [
   | inl e ↦ inl e
