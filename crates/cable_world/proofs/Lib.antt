@@ -9,6 +9,7 @@ mod Held
 pub mod Desk
 mod Loops
 mod ChosenRoot
+mod AgreeTest
 mod Agreeing
 mod Settled
 mod Outcomes
