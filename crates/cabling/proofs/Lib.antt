@@ -16,3 +16,5 @@ pub mod Cores
 pub mod Shown
 pub mod Emitted
 pub mod Whole
+pub mod Pulling
+pub mod OneTree

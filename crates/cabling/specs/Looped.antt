@@ -30,3 +30,10 @@ pub record IsCoreOf (c : Wiring) (node core : ℕ) : Type 0 where
   pub component : ℕ
   pub of_node : IsComponent c node component
   pub is : IsCore c component core
+
+-- The cable between two ends lies on a core: both of its nodes are in the core of their component.
+pub record LiesOnCore (c : Wiring) (a b : End) : Type 0 where
+  pub core : ℕ
+  pub of_near : IsCoreOf c a.node core
+  pub near : Holds core a.node
+  pub other : Holds core b.node

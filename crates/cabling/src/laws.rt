@@ -1,10 +1,12 @@
 //! Laws of cablings.
-ghost use Rattle.std.specs.Prelude.{◌≡◌, ◌≢◌, ℕ, List, None, ◌^◌, ◌<◌, length};
+ghost use Rattle.std.specs.Prelude.{◌≡◌, ◌≢◌, ℕ, List, None, ◌^◌, ◌<◌, ◌↔◌, length};
 ghost use Rattle.std.specs.Int.{bit_at};
 ghost use Rattle.topology_stack.specs.Tree.{Label, Tree};
+ghost use Rattle.cabling.specs.declared.cable.End.{End};
 ghost use Rattle.cabling.specs.NodeSet.{Holds, IsEmpty, IsWithin};
 ghost use Rattle.cabling.specs.Component.{IsComponent, IsClosed};
-ghost use Rattle.cabling.specs.Looped.{HasTwo, IsCore};
+ghost use Rattle.cabling.specs.Looped.{HasTwo, IsCore, IsCoreOf, LiesOnCore};
+ghost use Rattle.cabling.specs.Change.{TakenOut};
 ghost use Rattle.cabling.specs.Sees.{Sees};
 ghost use Rattle.cabling.specs.Visits.{SmallTree};
 ghost use Rattle.cabling.specs.Walk.{IsWalk, times};
@@ -41,3 +43,16 @@ pub fn walks_hold_each_node_once(c: &Cabling)
 {
     cables_are_two_ended(c);
 }
+
+/// A cable that lies on no core can be pulled without a change of any core: each node is afterwards in
+/// the core of its component exactly where it was before.
+pub fn cores_keep_without_other_cables(old: &Cabling, new: &Cabling)
+    ensures { (a b : End) (node before after : ℕ) → TakenOut old.now new.now a b → (LiesOnCore old.now a b → ⊥) → IsCoreOf old.now node before → IsCoreOf new.now node after → Holds before node ↔ Holds after node }
+{
+    cables_are_two_ended(old);
+}
+
+/// From a root one tree at most is seen.
+pub fn trees_are_seen_once(c: &Cabling)
+    ensures { (label : ℕ → Label) (root : ℕ) (one other : Tree) → Sees c.now label root None one → Sees c.now label root None other → one ≡ other }
+{}
