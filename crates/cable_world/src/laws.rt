@@ -9,6 +9,7 @@ ghost use Rattle.cable_world.specs.Turn.{turn, turn_at, turns_after};
 ghost use Rattle.cable_world.specs.declared.act.Act.{Act};
 ghost use Rattle.cable_world.specs.Act.{Acted};
 ghost use Rattle.cable_world.specs.Lawful.{IsLawful};
+ghost use Rattle.cable_world.specs.Outcome.{Outcome, IsOutcome};
 
 /// What a turn makes of each node and of each wire, by number: a node hears what came to its ports, and
 /// ticks; a wire loses what it gave, and takes what its node sent.
@@ -41,4 +42,9 @@ pub fn turns_add_up()
 /// A power-on world is lawful.
 pub fn power_on_is_lawful()
     ensures { (w : CableWorld) → IsPowerOn w → IsLawful w }
+{}
+
+/// A component has one outcome at most: one loop, one tree or one contention.
+pub fn outcomes_are_one()
+    ensures { (w : CableWorld) (set : ℕ) (one other : Outcome) → IsOutcome w set one → IsOutcome w set other → one ≡ other }
 {}
