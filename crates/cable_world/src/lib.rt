@@ -11,5 +11,7 @@ mod laws;
 mod run;
 
 pub use act::{Act, ActStop};
-pub use laws::{acts_keep, power_on_is_lawful, turn_by_number, turn_keeps, turns_add_up};
+pub use laws::{
+    acts_keep, outcomes_are_one, power_on_is_lawful, turn_by_number, turn_keeps, turns_add_up,
+};
 pub use run::WorldRun;
