@@ -1,3 +1,4 @@
+pub mod Cables
 pub mod CoinPlaces
 pub mod EachPort
 pub mod Laws

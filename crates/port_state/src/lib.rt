@@ -22,8 +22,8 @@ pub use ports::{PortView, PortViews};
 pub use sends::Sends;
 pub use signal::{Level, Phase, Signal};
 pub use step_laws::{
-    config_is_valid, given_coins, ports_by_number, power_on_is_valid, sends_by_port,
-    shown_node_has_packets, steps_are_sound, usual_in_range, what_stays,
+    cables_by_number, config_is_valid, given_coins, ports_by_number, power_on_is_valid,
+    sends_by_port, shown_node_has_packets, steps_are_sound, usual_in_range, what_stays,
 };
 pub use timing::Timing;
 pub use view::View;

@@ -1,5 +1,5 @@
 //! Laws of the step table. Each function is a fact for the crates above, which call it.
-ghost use Rattle.std.specs.Prelude.{◌≡◌, ℕ, ◌<◌, ◌≤◌, ◌/◌, ◌%◌, ◌^◌, ◌==◌, ◌&&◌, Bool, false, not, List, [], ◌∷◌, map, slice_get, Option, if◌then◌else◌};
+ghost use Rattle.std.specs.Prelude.{◌≡◌, ℕ, ◌<◌, ◌≤◌, ◌/◌, ◌%◌, ◌^◌, ◌==◌, ◌&&◌, Bool, true, false, not, List, [], ◌∷◌, length, map, slice_get, Option, if◌then◌else◌};
 ghost use Rattle.std.specs.Option.{ForSome, option_map};
 ghost use Rattle.self_id.specs.declared.node.Attrs.{Attrs};
 ghost use Rattle.self_id.specs.Node.{FitBits, IsNode};
@@ -53,6 +53,16 @@ pub fn what_stays()
     ensures plugged { (port : ℕ) (x : NodeState) → KeepsBut (plug_names port) x (plugged port x).state }
     ensures pulled { (port : ℕ) (x : NodeState) → KeepsBut (plug_names port) x (pulled port x).state }
     ensures config { (root_id : ℕ) (force : Bool) (gap : Option ℕ) (x : NodeState) → KeepsBut (config_names force gap) x (set_config root_id force gap x) }
+{}
+
+/// Which ports are connected after each step: plugging and pulling change that of their port, and no step
+/// changes that of another.
+pub fn cables_by_number()
+    ensures tick { (coin : Bool) (x : NodeState) (k : ℕ) → is_connected (tick coin x).state.view.ports k ≡ is_connected x.view.ports k }
+    ensures signal { (port : ℕ) (s : Signal) (x : NodeState) (k : ℕ) → is_connected (on_signal port s x).state.view.ports k ≡ is_connected x.view.ports k }
+    ensures enter { (caused : Bool) (x : NodeState) (k : ℕ) → is_connected (enter caused x).state.view.ports k ≡ is_connected x.view.ports k }
+    ensures plugged { (port k : ℕ) (x : NodeState) → port < length x.view.ports → is_connected (plugged port x).state.view.ports k ≡ (if k == port then true else is_connected x.view.ports k) }
+    ensures pulled { (port k : ℕ) (x : NodeState) → port < length x.view.ports → is_connected (pulled port x).state.view.ports k ≡ (if k == port then false else is_connected x.view.ports k) }
 {}
 
 /// What goes out on one port, for each way in which a step sends. So a step can be told port by port.
