@@ -104,15 +104,17 @@ lawful d nodes one sixteen few h =
     let calm : (a : End) → wire_of w a ≡ empty_wire = λ a. no-signal nodes a.node a.port in
     let apart : (a : End) → far c a ≡ None = λ a. no-far (map ports nodes) a.node a.port in
     record {
-      some_delay = one;
-      short_delay = sixteen;
-      cabling = is-cabling d nodes few h;
-      count = sym size;
-      wire_rows = length-map nodes no_wires ∙ sym size;
-      changes = length-replicate (length nodes) 0 ∙ sym size;
-      nodes = fits d nodes h;
-      ages = λ a. subst (λ (v : Wire). AgesFall (d - 1) v.signals) (sym (calm a)) tt;
-      unplugged = λ a e. calm a;
+      well_formed = record {
+        some_delay = one;
+        short_delay = sixteen;
+        cabling = is-cabling d nodes few h;
+        count = sym size;
+        wire_rows = length-map nodes no_wires ∙ sym size;
+        changes = length-replicate (length nodes) 0 ∙ sym size;
+        nodes = fits d nodes h;
+        ages = λ a. subst (λ (v : Wire). AgesFall (d - 1) v.signals) (sym (calm a)) tt;
+        unplugged = λ a e. calm a;
+      };
       agrees = record {
         levels = λ a b e. absurd (none-some (far c a) b (apart a) e);
         roles = λ a b e r. absurd (none-some (far c a) b (apart a) e);

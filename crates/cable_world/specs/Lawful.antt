@@ -24,7 +24,8 @@ pub record FitsCables (w : CableWorld) (k : ℕ) (x : NodeState) : Type 0 where
   pub wires : length (slice_index_or w.wires k []) ≡ x.ports
   pub connected : (p : ℕ) → is_connected x.view.ports p ≡ is_some (far w.cabling (record { node = k; port = p }))
 
-pub record IsLawful (w : CableWorld) : Type 0 where
+-- The tables of a world fit its nodes and its cables, and no signal is under way for too long.
+pub record IsWellFormed (w : CableWorld) : Type 0 where
   pub some_delay : 1 ≤ w.delay
   pub short_delay : w.delay ≤ 16
   pub cabling : IsCabling w.cabling
@@ -35,4 +36,7 @@ pub record IsLawful (w : CableWorld) : Type 0 where
   -- between two turns no signal is as old as d
   pub ages : (a : End) → AgesFall (w.delay - 1) (wire_of w a).signals
   pub unplugged : (a : End) → far w.cabling a ≡ None → wire_of w a ≡ empty_wire
+
+pub record IsLawful (w : CableWorld) : Type 0 where
+  pub well_formed : IsWellFormed w
   pub agrees : Agrees w
