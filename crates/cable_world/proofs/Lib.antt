@@ -3,6 +3,7 @@ pub mod Options
 mod ByNumber
 mod AtPowerOn
 mod Kept
+mod Shape
 mod OneOutcome
 mod TwoNodes
 mod ThreeNodes
