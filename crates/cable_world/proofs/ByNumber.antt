@@ -59,19 +59,20 @@ node-after w k x e h =
     slice_get-map (λ (s : NodeStep). s.node) (node_turns w w.cabling w.nodes) k
     ∙ ap (option_map (λ (s : NodeStep). s.node)) (node-turn-at w w.cabling w.nodes k x e h)
 
-pub wire-after : (w : CableWorld) (end : End) (x : PortNode) → length w.nodes ≡ length w.cabling → slice_get w.nodes end.node ≡ Some x → end.port < length (slice_index_or w.wires end.node []) → wire_of (turn w) end ≡ with_sent (sent_on end.port (turn_at w end.node x).sends) (stays w.delay (wire_of w end))
+pub row-after : (w : CableWorld) (k : ℕ) (x : PortNode) → length w.nodes ≡ length w.cabling → slice_get w.nodes k ≡ Some x → slice_index_or (turn w).wires k [] ≡ sent_from 0 (turn_at w k x).sends (map (stays w.delay) (slice_index_or w.wires k []))
 unfolding turn
+row-after w k x e h =
+    row-at (node_turns w w.cabling w.nodes) (map (map (stays w.delay)) w.wires) k (turn_at w k x) (node-turn-at w w.cabling w.nodes k x e h)
+    ∙ ap (λ r. sent_from 0 (turn_at w k x).sends r) (stays-row w.delay w.wires k)
+
+pub wire-after : (w : CableWorld) (end : End) (x : PortNode) → length w.nodes ≡ length w.cabling → slice_get w.nodes end.node ≡ Some x → end.port < length (slice_index_or w.wires end.node []) → wire_of (turn w) end ≡ with_sent (sent_on end.port (turn_at w end.node x).sends) (stays w.delay (wire_of w end))
 wire-after w end x e h inside =
-    let steps = node_turns w w.cabling w.nodes in
     let s = turn_at w end.node x in
     let row = map (stays w.delay) (slice_index_or w.wires end.node []) in
-    let at-step : slice_get steps end.node ≡ Some s = node-turn-at w w.cabling w.nodes end.node x e h in
-    let here : slice_index_or (all_sent steps (map (map (stays w.delay)) w.wires)) end.node [] ≡ sent_from 0 s.sends row =
-    row-at steps (map (map (stays w.delay)) w.wires) end.node s at-step ∙ ap (λ r. sent_from 0 s.sends r) (stays-row w.delay w.wires end.node) in
     let same : length row ≡ length (slice_index_or w.wires end.node []) = length-map (slice_index_or w.wires end.node []) (stays w.delay) in
     let fits : end.port < length row = omega (arith, same, inside) in
     let z : 0 + end.port ≡ end.port = omega arith in
-    ap (λ r. slice_index_or r end.port empty_wire) here
+    ap (λ r. slice_index_or r end.port empty_wire) (row-after w end.node x e h)
     ∙ sent-at 0 end.port s.sends row fits
     ∙ ap (λ n. with_sent (sent_on n s.sends) (slice_index_or row end.port empty_wire)) z
     ∙ ap (λ v. with_sent (sent_on end.port s.sends) v) (stays-at w.delay (slice_index_or w.wires end.node []) end.port)

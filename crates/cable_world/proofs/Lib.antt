@@ -4,6 +4,7 @@ mod ByNumber
 mod AtPowerOn
 mod Kept
 mod Shape
+mod TurnKept
 mod OneOutcome
 mod TwoNodes
 mod ThreeNodes
