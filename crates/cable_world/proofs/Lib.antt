@@ -3,8 +3,11 @@ pub mod Options
 mod ByNumber
 mod AtPowerOn
 mod Kept
+mod LastSent
+mod LastHeard
 mod Shape
 mod TurnKept
+mod LevelsKept
 mod OneOutcome
 mod TwoNodes
 mod ThreeNodes

@@ -29,12 +29,12 @@ use Rattle.cable_world.proofs.Shape.{ages-sent, none-sent, silent}
 
 -- a step of a valid node to a valid one, with times, ports and cables as before, that sends on ports with a
 -- cable alone
-record Steady (x : PortNode) (s : NodeStep) : Type 0 where
-  valid : IsValid s.node.state
-  timing : s.node.state.timing ≡ x.state.timing
-  ports : s.node.state.ports ≡ x.state.ports
-  cables : (k : ℕ) → is_connected s.node.state.view.ports k ≡ is_connected x.state.view.ports k
-  on : OnConnected x.state.view.ports s.sends
+pub record Steady (x : PortNode) (s : NodeStep) : Type 0 where
+  pub valid : IsValid s.node.state
+  pub timing : s.node.state.timing ≡ x.state.timing
+  pub ports : s.node.state.ports ≡ x.state.ports
+  pub cables : (k : ℕ) → is_connected s.node.state.view.ports k ≡ is_connected x.state.view.ports k
+  pub on : OnConnected x.state.view.ports s.sends
 
 on-same : (ps qs : List PortView) (sends : List (ℕ × Signal)) → ((k : ℕ) → is_connected ps k ≡ is_connected qs k) → OnConnected ps sends → OnConnected qs sends
 on-same ps qs [] h on = tt
@@ -46,7 +46,7 @@ tick-steady x v =
     let same = tick-cables (coin x.coins) x.state in
     record { valid = s.valid; timing = s.timing; ports = s.ports; cables = same; on = on-same _ x.state.view.ports _ same s.connected }
 
-signal-steady : (port : ℕ) (g : Signal) (x : PortNode) → IsValid x.state → Steady x (on_signal port g x)
+pub signal-steady : (port : ℕ) (g : Signal) (x : PortNode) → IsValid x.state → Steady x (on_signal port g x)
 signal-steady port g x v =
     let s : IsSound x.state (heard.on_signal port g x.state) = sound-on_signal port g x.state v in
     let same = signal-cables port g x.state in

@@ -58,10 +58,19 @@ AtPort w end P = Shows w end.node (λ v. IsSomeAnd (slice_get v.ports end.port) 
 abbrev pub AtEnds : CableWorld → End → End → (View → PortView → View → PortView → Type 0) → Type 0
 AtEnds w a b P = AtPort w a (λ v p. AtPort w b (λ u q. P v p u q))
 
--- What a node last sent over a cable is under way to the other end, or shown there. A child port leads to
--- a node whose parent port is at the other end of the cable, unless a Reset is under way from there.
+-- what a node last sent over a cable is under way to the other end, or shown there
+abbrev pub LevelsAgree : CableWorld → Type 0
+LevelsAgree w =
+    (a b : End) → far w.cabling a ≡ Some b →
+    AtEnds w a b (λ v p u q. last_level q.shown (wire_of w a).signals ≡ out v.phase p.child)
+
+-- a child port leads to a node whose parent port is at the other end of the cable, unless a Reset is under
+-- way from there
+abbrev pub RolesAgree : CableWorld → Type 0
+RolesAgree w =
+    (a b : End) → far w.cabling a ≡ Some b → HasNoReset (wire_of w b).signals →
+    AtEnds w a b (λ v p u q. p.child ≡ true → u.parent ≡ Some b.port)
+
 pub record Agrees (w : CableWorld) : Type 0 where
-  pub levels : (a b : End) → far w.cabling a ≡ Some b →
-      AtEnds w a b (λ v p u q. last_level q.shown (wire_of w a).signals ≡ out v.phase p.child)
-  pub roles : (a b : End) → far w.cabling a ≡ Some b → HasNoReset (wire_of w b).signals →
-      AtEnds w a b (λ v p u q. p.child ≡ true → u.parent ≡ Some b.port)
+  pub levels : LevelsAgree w
+  pub roles : RolesAgree w

@@ -77,7 +77,7 @@ sent_on-if : (b : Bool) (s : Signal) (xs ys : List Signal) → (if b then s ∷ 
 sent_on-if true s xs ys = refl
 sent_on-if false s xs ys = refl
 
-sent_on-append : (port : ℕ) (xs ys : List (ℕ × Signal)) → sent_on port (xs ++ ys) ≡ sent_on port xs ++ sent_on port ys
+pub sent_on-append : (port : ℕ) (xs ys : List (ℕ × Signal)) → sent_on port (xs ++ ys) ≡ sent_on port xs ++ sent_on port ys
 sent_on-append port [] ys = refl
 sent_on-append port (x ∷ xs) ys = rw (sent_on-append port xs ys) (sym (sent_on-if (x.0 == port) x.1 (sent_on port xs) (sent_on port ys)))
 

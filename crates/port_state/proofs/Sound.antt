@@ -410,9 +410,10 @@ sound-row coin Contend x v e = sound-contend coin x v e
 sound-row coin SelfIdent x v e = sound-self_ident coin x v e
 sound-row coin Ready x v e = sound-still x v
 
+-- the timer alone rises
+pub valid-raised : (x : NodeState) → IsValid x → IsValid (raised x)
+valid-raised x v = record { bounded = same-bounds x (raised x) v.bounded refl refl refl refl refl refl refl refl; fits = v.fits }
+
 pub sound-tick : (coin : Bool) (x : NodeState) → IsValid x → IsSound x (tick coin x)
 unfolding tick
-sound-tick coin x v =
-    let y : NodeState = raised x in
-    let w : IsValid y = record { bounded = same-bounds x y v.bounded refl refl refl refl refl refl refl refl; fits = v.fits } in
-    sound-from x y _ refl refl refl (sound-row coin x.view.phase y w refl)
+sound-tick coin x v = sound-from x (raised x) _ refl refl refl (sound-row coin x.view.phase (raised x) (valid-raised x v) refl)
