@@ -8,7 +8,7 @@ use Rattle.port_state.specs.PowerOn.{free_port}
 use Rattle.port_state.specs.Ports.{is_connected}
 use Rattle.port_state.specs.Valid.{IsValid}
 use Rattle.port_state.specs.Machine.{PortNode}
-use Rattle.cable_world.proofs.Options.{some-same}
+use Rattle.cable_world.proofs.Options.{none-some, some-same}
 use Rattle.cable_world.specs.Wire.{Wire, empty_wire}
 use Rattle.cable_world.specs.World.{CableWorld, wire_of, without_turns, no_wires, IsPoweredOn, IsPowerOn}
 use Rattle.cable_world.specs.Lawful.{AgesFall, FitsCables, IsLawful}
@@ -64,9 +64,6 @@ few-ports (x ∷ nodes) h zero lt =
     let few : FewPorts x.state.ports = record { some = v.bounded.some_port; few = v.bounded.few_ports } in
     subst FewPorts (sym (length-replicate x.state.ports None)) few
 few-ports (x ∷ nodes) h (suc k) lt = few-ports nodes (λ j y e. h (suc j) y e) k (omega arith)
-
-none-some : {A : Type 0} → (o : Option A) (b : A) → o ≡ None → o ≡ Some b → ⊥
-none-some o b h e = cc
 
 abbrev Powered : ℕ → List PortNode → Type 0
 Powered d nodes = (k : ℕ) (x : PortNode) → slice_get nodes k ≡ Some x → IsPoweredOn d x.state

@@ -27,7 +27,7 @@ node-turns-length w (r ∷ rows) [] e = absurd (omega (arith, e))
 node-turns-length w (r ∷ rows) (y ∷ nodes) e = ap suc (node-turns-length w rows nodes (omega arith))
 
 -- one port's wire of a node
-sent-at : (p j : ℕ) (sends : List (ℕ × Signal)) (wires : List Wire) → j < length wires → slice_index_or (sent_from p sends wires) j empty_wire ≡ with_sent (sent_on (p + j) sends) (slice_index_or wires j empty_wire)
+pub sent-at : (p j : ℕ) (sends : List (ℕ × Signal)) (wires : List Wire) → j < length wires → slice_index_or (sent_from p sends wires) j empty_wire ≡ with_sent (sent_on (p + j) sends) (slice_index_or wires j empty_wire)
 sent-at p j sends [] h = absurd (omega arith)
 sent-at p zero sends (w ∷ wires) h =
     let z : p ≡ p + 0 = omega arith in

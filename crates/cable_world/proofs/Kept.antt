@@ -24,7 +24,7 @@ step-at (Some x) node step w = record { nodes = length-set w.nodes node (step x)
 step : (node : ℕ) (step : PortNode → NodeStep) (w : CableWorld) → Keeps w (with_step node step w)
 step node s w = step-at (slice_get w.nodes node) node s w
 
-in-set : (set : ℕ) (change : PortNode → PortNode) (k : ℕ) (nodes : List PortNode) → length (in_set set change k nodes) ≡ length nodes
+pub in-set : (set : ℕ) (change : PortNode → PortNode) (k : ℕ) (nodes : List PortNode) → length (in_set set change k nodes) ≡ length nodes
 in-set set change k [] = refl
 in-set set change k (x ∷ nodes) = ap suc (in-set set change (k + 1) nodes)
 

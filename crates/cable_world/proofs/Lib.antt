@@ -8,6 +8,8 @@ mod LastHeard
 mod Shape
 mod TurnKept
 mod LevelsKept
+mod StepKept
+mod ActKept
 mod OneOutcome
 mod TwoNodes
 mod ThreeNodes

@@ -27,7 +27,7 @@ by_port c a e v h same ne = rw same (
     ap (λ (row : List (Option End)). get_or row e.port None) (get_or-set_same c a.node (slice_set (ports_of c a.node) a.port v) [] h)
     ∙ get_or-set_other (ports_of c a.node) a.port e.port v None ne)
 
-same_end : (a b : End) → a.node ≡ b.node → a.port ≡ b.port → a ≡ b
+pub same_end : (a b : End) → a.node ≡ b.node → a.port ≡ b.port → a ≡ b
 same_end a b n p =
     let at : ℕ → ℕ → End = λ x y. record { node = x; port = y } in
     ap (λ (x : ℕ). at x a.port) n ∙ ap (λ (y : ℕ). at b.node y) p
