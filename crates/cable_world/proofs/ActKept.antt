@@ -6,7 +6,7 @@ use Rattle.std.proofs.lemmas.Option.{slice_get-get_or, slice_get_cases}
 use Rattle.cabling.specs.declared.cable.End.{End}
 use Rattle.cabling.specs.declared.cable.CableFault.{CableFault}
 use Rattle.cabling.specs.Wiring.{Wiring, IsCabling, HasEnd, far, ports_of}
-use Rattle.cabling.specs.Change.{SameBut, Added, TakenOut, is_plugged, plug_fault, pull_fault}
+use Rattle.cabling.specs.Change.{SameBut, Added, TakenOut, has_node, has_port, plug_fault, pull_fault}
 use Rattle.cabling.proofs.Ends.{cases_end, far-other, same_length, still_end, added_by_writes, taken_by_writes, cabling_added, cabling_taken, plugged as has-end}
 use Rattle.cabling.proofs.Plugging.{Pluggable, pluggable, other_there}
 use Rattle.port_state.specs.Laws.{IsSound}
@@ -39,8 +39,8 @@ abbrev recabled : Wiring → End → End → CableWorld → CableWorld
 recabled c a b w = record w { cabling = c; wires = put b empty_wire (put a empty_wire w.wires) }
 
 pub data Emptied (w v : CableWorld) (a b e : End) : Type 0 where
-  empty : wire_of v e ≡ empty_wire → Emptied w v a b e
-  before : e ≢ a → e ≢ b → wire_of v e ≡ wire_of w e → Emptied w v a b e
+  none_left : wire_of v e ≡ empty_wire → Emptied w v a b e
+  left_alone : e ≢ a → e ≢ b → wire_of v e ≡ wire_of w e → Emptied w v a b e
 
 emptied : (c : Wiring) (a b : End) (w : CableWorld) → IsWellFormed w → HasEnd w.cabling a → HasEnd w.cabling b → (e : End) → Emptied w (recabled c a b w) a b e
 emptied c a b w h ha hb e =
@@ -51,10 +51,10 @@ emptied c a b w h ha hb e =
     let rows : length first ≡ length w.wires = length-set w.wires a.node _ in
     let wf : HasEntry first b = record { node = omega (arith, rows, wb.node); port = omega (arith, put-lengths w.wires a empty_wire b.node, wb.port) } in
     elim (cases_end e b) [
-      | inl is ↦ empty (ap (wire_of v) is ∙ put-same empty_wire first b empty_wire wf)
+      | inl is ↦ none_left (ap (wire_of v) is ∙ put-same empty_wire first b empty_wire wf)
       | inr nb ↦ elim (cases_end e a) [
-        | inl is ↦ empty (put-other empty_wire first b e empty_wire wf.node nb ∙ ap (λ (z : End). slice_index_or (slice_index_or first z.node []) z.port empty_wire) is ∙ put-same empty_wire w.wires a empty_wire wa)
-        | inr na ↦ before na nb (put-other empty_wire first b e empty_wire wf.node nb ∙ put-other empty_wire w.wires a e empty_wire wa.node na)
+        | inl is ↦ none_left (put-other empty_wire first b e empty_wire wf.node nb ∙ ap (λ (z : End). slice_index_or (slice_index_or first z.node []) z.port empty_wire) is ∙ put-same empty_wire w.wires a empty_wire wa)
+        | inr na ↦ left_alone na nb (put-other empty_wire first b e empty_wire wf.node nb ∙ put-other empty_wire w.wires a e empty_wire wa.node na)
       ]
     ]
 
@@ -74,12 +74,12 @@ recabled-formed c a b w h ha hb is same =
       changes = h.changes ∙ sym size;
       nodes = λ k x e. fits-alike w (cabled w.cabling v) k x.state refl refl (put-lengths first b empty_wire k ∙ put-lengths w.wires a empty_wire k) (λ p. refl) (h.nodes k x e);
       ages = λ e. elim (emptied c a b w h ha hb e) [
-        | empty z ↦ subst (λ (u : Wire). AgesFall (w.delay - 1) u.signals) (sym z) tt
-        | before na nb z ↦ subst (λ (u : Wire). AgesFall (w.delay - 1) u.signals) (sym z) (h.ages e)
+        | none_left z ↦ subst (λ (u : Wire). AgesFall (w.delay - 1) u.signals) (sym z) tt
+        | left_alone na nb z ↦ subst (λ (u : Wire). AgesFall (w.delay - 1) u.signals) (sym z) (h.ages e)
       ];
       unplugged = λ e none. elim (emptied c a b w h ha hb e) [
-        | empty z ↦ z
-        | before na nb z ↦ z ∙ h.unplugged e (sym (same.others e na nb) ∙ none)
+        | none_left z ↦ z
+        | left_alone na nb z ↦ z ∙ h.unplugged e (sym (same.others e na nb) ∙ none)
       ];
     }
 
@@ -140,19 +140,19 @@ reset-formed node w h =
 
 -- a node after a change of some nodes: as it was, or changed
 pub data Was (change : PortNode → PortNode) (nodes : List PortNode) (j : ℕ) (y : PortNode) : Type 0 where
-  as-before : slice_get nodes j ≡ Some y → Was change nodes j y
-  changed : (x : PortNode) → slice_get nodes j ≡ Some x → change x ≡ y → Was change nodes j y
+  as_before : slice_get nodes j ≡ Some y → Was change nodes j y
+  altered : (x : PortNode) → slice_get nodes j ≡ Some x → change x ≡ y → Was change nodes j y
 
 was : (set : ℕ) (change : PortNode → PortNode) (k : ℕ) (nodes : List PortNode) (j : ℕ) (y : PortNode) → slice_get (in_set set change k nodes) j ≡ Some y → Was change nodes j y
 was set change k [] j y e = absurd (none-some None y refl e)
 was set change k (x ∷ nodes) zero y e = go (bit_at set k == 1) e
   where
     go : (b : Bool) → Some (if b then change x else x) ≡ Some y → Was change (x ∷ nodes) zero y
-    go true is = changed x refl (some-same (change x) y is)
-    go false is = as-before is
+    go true is = altered x refl (some-same (change x) y is)
+    go false is = as_before is
 was set change k (x ∷ nodes) (suc j) y e = elim (was set change (k + 1) nodes j y e) [
-  | as-before at ↦ as-before at
-  | changed z at is ↦ changed z at is
+  | as_before at ↦ as_before at
+  | altered z at is ↦ altered z at is
 ]
 
 configure-formed : (set from root_id : ℕ) (force : Bool) (gap : Option ℕ) (w : CableWorld) → ForSome gap (λ g. g ≤ 63) → IsWellFormed w → IsWellFormed (configure set from root_id force gap w)
@@ -167,8 +167,8 @@ configure-formed set from root_id force gap w bits h =
       wire_rows = h.wire_rows;
       changes = h.changes;
       nodes = λ k y e. elim (was set change 0 w.nodes k y e) [
-        | as-before at ↦ fits-alike w v k y.state refl refl refl (λ p. refl) (h.nodes k y at)
-        | changed x at is ↦
+        | as_before at ↦ fits-alike w v k y.state refl refl refl (λ p. refl) (h.nodes k y at)
+        | altered x at is ↦
             let fits = h.nodes k x at in
             let new : FitsCables v k (change x).state = record {
               valid = valid-set_config root_id force gap x.state bits fits.valid;
@@ -218,12 +218,14 @@ act-formed (Config from root_id force gap) w v is none e h =
 -- ---- hold
 
 -- where a cable can be pulled, there is one
+passed : (node port : Bool) (o : Option End) (f g k : CableFault) → (if not node then Some f else (if not port then Some g else (if is_some o then None else Some k))) ≡ None → (b : End) × (o ≡ Some b)
+passed true true (Some b) f g k e = (b, refl)
+passed true true None f g k e = absurd cc
+passed true false o f g k e = absurd cc
+passed false port o f g k e = absurd cc
+
 has-cable : (c : Wiring) (a : End) → pull_fault c a ≡ None → (b : End) × (far c a ≡ Some b)
-has-cable c a none = go (far c a) refl
-  where
-    go : (o : Option End) → far c a ≡ o → (b : End) × (far c a ≡ Some b)
-    go (Some b) e = (b, e)
-    go None e = ?
+has-cable c a none = passed (has_node c a) (has_port c a) (far c a) _ _ _ none
 
 pub hold-formed : (end : End) (turns : ℕ) (w : CableWorld) → hold_fault end w ≡ None → IsWellFormed w → IsWellFormed (hold end turns w)
 hold-formed end turns w none h =
