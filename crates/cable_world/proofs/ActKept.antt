@@ -1,15 +1,14 @@
 -- What happens between two turns keeps a world well formed.
-use Rattle.std.proofs.Common.{◌≡◌, ◌≢◌, ℕ, zero, suc, ◌+◌, ◌-◌, ◌<◌, ◌≤◌, ◌==◌, ◌⊎◌, inl, inr, Bool, true, false, not, List, [], ◌∷◌, map, Option, Some, None, length, length-set, is_some, slice_get, slice_index_or, if◌then◌else◌, refl, subst, sym, ◌∙◌, ap, arith}
+use Rattle.std.proofs.Common.{◌≡◌, ◌≢◌, ℕ, zero, suc, ◌+◌, ◌-◌, ◌≤◌, ◌==◌, inl, inr, Bool, true, false, not, List, [], ◌∷◌, Option, Some, None, length, length-set, is_some, slice_get, slice_index_or, if◌then◌else◌, refl, subst, sym, ◌∙◌, ap, arith}
 use Rattle.std.specs.Option.{ForSome}
 use Rattle.std.specs.Int.{bit_at}
-use Rattle.std.proofs.lemmas.Option.{slice_get-get_or, slice_get_cases}
+use Rattle.std.proofs.lemmas.Option.{slice_get_cases}
 use Rattle.cabling.specs.declared.cable.End.{End}
 use Rattle.cabling.specs.declared.cable.CableFault.{CableFault}
-use Rattle.cabling.specs.Wiring.{Wiring, IsCabling, HasEnd, far, ports_of}
+use Rattle.cabling.specs.Wiring.{Wiring, IsCabling, HasEnd, far}
 use Rattle.cabling.specs.Change.{SameBut, Added, TakenOut, has_node, has_port, plug_fault, pull_fault}
 use Rattle.cabling.proofs.Ends.{cases_end, far-other, same_length, still_end, added_by_writes, taken_by_writes, cabling_added, cabling_taken, plugged as has-end}
 use Rattle.cabling.proofs.Plugging.{Pluggable, pluggable, other_there}
-use Rattle.port_state.specs.Laws.{IsSound}
 use Rattle.port_state.specs.Machine.{PortNode, NodeStep, disturb, plugged, pulled, set_config}
 use Rattle.port_state.proofs.Laws.{sound-disturb, sound-plugged, sound-pulled, valid-set_config, enter-cables, plugged-cables, pulled-cables}
 use Rattle.cable_world.proofs.Kept.{in-set, act-keeps}
@@ -20,7 +19,7 @@ use Rattle.cable_world.specs.declared.act.Act.TheVariants.{Plug, Pull, Reset, Co
 use Rattle.cable_world.specs.Wire.{Wire, empty_wire}
 use Rattle.cable_world.specs.World.{CableWorld, wire_of, put}
 use Rattle.cable_world.specs.Turn.{last_changes}
-use Rattle.cable_world.specs.Act.{with_step, joined, parted, plug, pull_from, pull, reset, in_set, configure, noted, Acted, act_fault, IsAct, hold, hold_fault}
+use Rattle.cable_world.specs.Act.{with_step, plug, pull_from, pull, reset, in_set, configure, noted, Acted, act_fault, IsAct, hold, hold_fault}
 use Rattle.cable_world.specs.Lawful.{AgesFall, FitsCables, IsWellFormed}
 
 -- ---- wires
@@ -93,8 +92,8 @@ both-formed a b v u f g w h ha hb apart is same sets-a sets-b =
     let last = with_step b.node g next in
     let hf : HasEnd half b = still_end w.cabling a b v hb in
     let one : FormedFor half next =
-        setting-formed w.cabling a v f start (recabled-formed c a b w h ha hb is same) ha sets-a
-        (λ p none. sym (far-other half b (record { node = a.node; port = p }) u hf.node (λ e. apart (ap (λ (z : End). z.node) e))) ∙ none) in
+    setting-formed w.cabling a v f start (recabled-formed c a b w h ha hb is same) ha sets-a
+    (λ p none. sym (far-other half b (record { node = a.node; port = p }) u hf.node (λ e. apart (ap (λ (z : End). z.node) e))) ∙ none) in
     let cables : next.cabling ≡ c = step-cables a.node f start in
     let two : FormedFor c last = setting-formed half b u g next one hf sets-b (λ p none. sym (ap (λ (d : Wiring). far d (record { node = b.node; port = p })) cables) ∙ none) in
     well-formed c last (step-cables b.node g next ∙ cables) two
