@@ -10,6 +10,7 @@ mod TurnKept
 mod LevelsKept
 mod StepKept
 mod ActKept
+mod Formed
 mod OneOutcome
 mod TwoNodes
 mod ThreeNodes

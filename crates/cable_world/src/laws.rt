@@ -1,5 +1,5 @@
 //! Laws of worlds. Each function is a fact for the crates above, which call it.
-ghost use Rattle.std.specs.Prelude.{◌≡◌, ℕ, ◌+◌, ◌<◌, [], length, Some, slice_get, slice_index_or};
+ghost use Rattle.std.specs.Prelude.{◌≡◌, ℕ, ◌+◌, ◌<◌, [], length, Some, None, slice_get, slice_index_or};
 ghost use Rattle.cabling.specs.declared.cable.End.{End};
 ghost use Rattle.port_state.specs.Sends.{sent_on};
 ghost use Rattle.port_state.specs.Machine.{PortNode};
@@ -7,8 +7,9 @@ ghost use Rattle.cable_world.specs.Wire.{with_sent, stays};
 ghost use Rattle.cable_world.specs.World.{CableWorld, wire_of, IsPowerOn};
 ghost use Rattle.cable_world.specs.Turn.{turn, turn_at, turns_after};
 ghost use Rattle.cable_world.specs.declared.act.Act.{Act};
-ghost use Rattle.cable_world.specs.Act.{Acted};
-ghost use Rattle.cable_world.specs.Lawful.{IsLawful};
+ghost use Rattle.cable_world.specs.Act.{Acted, IsAct, act_fault, hold, hold_fault};
+ghost use Rattle.cable_world.specs.Lawful.{IsWellFormed, IsLawful};
+ghost use Rattle.cable_world.specs.Run.{IsReached};
 ghost use Rattle.cable_world.specs.Outcome.{Outcome, IsOutcome};
 
 /// What a turn makes of each node and of each wire, by number: a node hears what came to its ports, and
@@ -42,6 +43,15 @@ pub fn turns_add_up()
 /// A power-on world is lawful.
 pub fn power_on_is_lawful()
     ensures { (w : CableWorld) → IsPowerOn w → IsLawful w }
+{}
+
+/// Turns, holds and acts that aren't refused keep a world well formed, so every world that comes of a
+/// power-on world is well formed.
+pub fn worlds_stay_well_formed()
+    ensures turn { (w : CableWorld) → IsWellFormed w → IsWellFormed (turn w) }
+    ensures hold { (end : End) (turns : ℕ) (w : CableWorld) → hold_fault end w ≡ None → IsWellFormed w → IsWellFormed (hold end turns w) }
+    ensures act { (a : Act) (w v : CableWorld) → IsAct a → act_fault a w ≡ None → Acted a w v → IsWellFormed w → IsWellFormed v }
+    ensures reached { (w : CableWorld) → IsReached w → IsWellFormed w }
 {}
 
 /// A component has one outcome at most: one loop, one tree or one contention.
