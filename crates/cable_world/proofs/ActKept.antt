@@ -18,7 +18,7 @@ use Rattle.cable_world.specs.declared.act.Act.{Act}
 use Rattle.cable_world.specs.declared.act.Act.TheVariants.{Plug, Pull, Reset, Config}
 use Rattle.cable_world.specs.Wire.{Wire, empty_wire}
 use Rattle.cable_world.specs.World.{CableWorld, wire_of, put}
-use Rattle.cable_world.specs.Turn.{last_changes}
+use Rattle.cable_world.proofs.TurnKept.{length-changes}
 use Rattle.cable_world.specs.Act.{with_step, plug, pull_from, pull, reset, in_set, configure, noted, Acted, act_fault, IsAct, hold, hold_fault}
 use Rattle.cable_world.specs.Lawful.{AgesFall, FitsCables, IsWellFormed}
 
@@ -184,12 +184,6 @@ configure-formed set from root_id force gap w bits h =
 
 -- ---- every act
 
-last-length : (turns : ℕ) (before after : List PortNode) (changed : List ℕ) → length (last_changes turns before after changed) ≡ length changed
-last-length turns [] after changed = refl
-last-length turns (x ∷ before) [] changed = refl
-last-length turns (x ∷ before) (y ∷ after) [] = refl
-last-length turns (x ∷ before) (y ∷ after) (c ∷ changed) = ap suc (last-length turns before after changed)
-
 noting-formed : (w u v : CableWorld) → v ≡ noted w u → length v.nodes ≡ length w.nodes → IsWellFormed w → IsWellFormed u → IsWellFormed v
 noting-formed w u v e many h g =
     let same : length u.nodes ≡ length w.nodes = sym (ap (λ (z : CableWorld). length z.nodes) e) ∙ many in
@@ -200,7 +194,7 @@ noting-formed w u v e many h g =
       cabling = g.cabling;
       count = g.count;
       wire_rows = g.wire_rows;
-      changes = last-length w.turns w.nodes u.nodes w.changed ∙ h.changes ∙ size;
+      changes = length-changes w.turns w.nodes u.nodes w.changed ∙ h.changes ∙ size;
       nodes = λ k x at. fits-alike u (noted w u) k x.state refl refl refl (λ p. refl) (g.nodes k x at);
       ages = g.ages;
       unplugged = g.unplugged;

@@ -1,8 +1,6 @@
 -- Every world that comes of a power-on world is well formed.
-use Rattle.std.proofs.Common.{◌≡◌, List, [], ◌∷◌, subst, sym}
+use Rattle.std.proofs.Common.{List, [], ◌∷◌, subst, sym}
 use Rattle.cable_world.specs.World.{CableWorld}
-use Rattle.cable_world.specs.Turn.{turn}
-use Rattle.cable_world.specs.Act.{hold}
 use Rattle.cable_world.specs.Run.{Event, acts, holds, turns, Happens, Runs, IsReached}
 use Rattle.cable_world.specs.Lawful.{IsWellFormed}
 use Rattle.cable_world.proofs.AtPowerOn.{power-on-lawful}

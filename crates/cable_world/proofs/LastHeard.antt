@@ -1,7 +1,7 @@
 -- What a node hears on a port brings the level that the port shows to the last one that it heard.
-use Rattle.std.proofs.Common.{◌≡◌, ℕ, zero, suc, Bool, true, false, not, ◌&&◌, ◌==◌, List, [], ◌∷◌, ◌++◌, map, Option, Some, None, slice_get, refl, sym, ◌∙◌, ap, subst, arith, if◌then◌else◌}
+use Rattle.std.proofs.Common.{◌≡◌, ℕ, Bool, true, false, ◌&&◌, ◌==◌, [], ◌∷◌, Option, Some, None, slice_get, refl, sym, ◌∙◌, ap, subst, if◌then◌else◌}
 use Rattle.std.specs.Option.{option_map}
-use Rattle.std.proofs.lemmas.Bool.{eqb-true, eqb-false, ne_eqb, eq-eqb}
+use Rattle.std.proofs.lemmas.Bool.{eqb-true}
 use Rattle.port_state.specs.declared.signal.Level.{Level}
 use Rattle.port_state.specs.declared.signal.Level.TheVariants as level
 use Rattle.port_state.specs.declared.signal.Signal.{Signal}
@@ -9,8 +9,7 @@ use Rattle.port_state.specs.declared.signal.Signal.TheVariants as signal
 use Rattle.port_state.specs.declared.ports.PortView.{PortView}
 use Rattle.port_state.specs.declared.states.NodeState.{NodeState}
 use Rattle.port_state.specs.Ports.{asks, is_connected}
-use Rattle.port_state.specs.Sends.{sent_on}
-use Rattle.port_state.specs.Step.{Step, quiet}
+use Rattle.port_state.specs.Step.{quiet}
 use Rattle.port_state.specs.Entry.{unmarked, enter, with_port}
 use Rattle.port_state.specs.Heard as heard
 use Rattle.port_state.specs.TreeIdentify.{adopted}
@@ -19,7 +18,7 @@ use Rattle.port_state.specs.Row.{Row}
 use Rattle.port_state.specs.Tick.{raised, next_row, does, tick}
 use Rattle.port_state.proofs.Laws.{map-port, changed-port}
 use Rattle.cable_world.specs.Agreement.{shown_by}
-use Rattle.cable_world.proofs.LastSent.{said, only, as_child}
+use Rattle.cable_world.proofs.LastSent.{said, only, turned, as_child}
 
 -- what the port of a number shows, if it is there
 abbrev pub shows : NodeState → ℕ → Option Level
@@ -64,13 +63,6 @@ tick-shows coin x k = row-shows coin (next_row x) (raised x) k
 pub enter-shows : (caused : Bool) (x : NodeState) (k : ℕ) → shows (enter caused x).state k ≡ shows x k
 unfolding enter
 enter-shows caused x k = ap (option_map (λ (p : PortView). p.shown)) (map-port k unmarked x.view.ports) ∙ map-shows unmarked (λ p. refl) (slice_get x.view.ports k)
-
-turned : (n k : ℕ) → (k == n) ≡ (n == k)
-turned n k = go (k == n) refl
-  where
-    go : (b : Bool) → (k == n) ≡ b → b ≡ (n == k)
-    go true e = sym (eq-eqb n k (sym (eqb-true k n e)))
-    go false e = sym (ne_eqb n k (λ same. eqb-false k n e (sym same)))
 
 -- a level that a port shows from now on
 level-shows : (n : ℕ) (s : Signal) (l : Level) → ((old : Level) → shown_by s old ≡ l) → (x : NodeState) (k : ℕ) → shows (heard.with_level n l x) k ≡ option_map (λ m. said m (only (n == k) s)) (shows x k)

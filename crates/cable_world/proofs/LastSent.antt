@@ -1,9 +1,9 @@
 -- What a node sends on a port brings the level that it sent last to the one that its phase and the port's
 -- role tell.
-use Rattle.std.proofs.Common.{◌≡◌, ℕ, zero, suc, ◌+◌, Bool, true, false, not, ◌&&◌, ◌==◌, List, [], ◌∷◌, ◌++◌, map, Option, Some, None, slice_get, refl, sym, ◌∙◌, ap, subst, arith, if◌then◌else◌}
+use Rattle.std.proofs.Common.{◌≡◌, ℕ, ◌+◌, Bool, true, false, not, ◌&&◌, ◌==◌, List, [], ◌∷◌, ◌++◌, map, Option, Some, None, slice_get, refl, sym, ◌∙◌, ap, subst, arith, if◌then◌else◌}
 use Rattle.std.specs.Prelude.{nat_le, IsSome}
 use Rattle.std.specs.Option.{option_map}
-use Rattle.std.proofs.lemmas.Bool.{ne_eqb, eqb-false}
+use Rattle.std.proofs.lemmas.Bool.{eqb-true, eqb-false, ne_eqb, eq-eqb}
 use Rattle.phy_packet.specs.Layout.{bit}
 use Rattle.port_state.specs.declared.signal.Level.{Level}
 use Rattle.port_state.specs.declared.signal.Level.TheVariants as level
@@ -14,7 +14,7 @@ use Rattle.port_state.specs.declared.signal.Signal.TheVariants as signal
 use Rattle.port_state.specs.declared.ports.PortView.{PortView}
 use Rattle.port_state.specs.declared.states.NodeState.{NodeState}
 use Rattle.port_state.specs.Ports.{is_idle, is_parent, is_child, asks, is_left, is_unnamed, lowest, every, passes, port_is, is_connected, is_port, changed}
-use Rattle.port_state.specs.Sends.{on_every, on_others, packets_on_every, packet, on_port, sent_on}
+use Rattle.port_state.specs.Sends.{on_every, packets_on_every, packet, on_port, sent_on}
 use Rattle.port_state.specs.Step.{Step, quiet}
 use Rattle.port_state.specs.Entry.{enter, with_port}
 use Rattle.port_state.specs.Heard as heard
@@ -25,7 +25,7 @@ use Rattle.port_state.specs.Group.{own_group, nodes_in}
 use Rattle.port_state.specs.Row as row
 use Rattle.port_state.specs.Row.{Row}
 use Rattle.port_state.specs.Tick.{raised, row_of, does, tick}
-use Rattle.port_state.specs.Valid.{EachPort, HasNoRoles, HasRoles, roles, FitsPhase, IsValid}
+use Rattle.port_state.specs.Valid.{HasNoRoles, HasRoles, FitsPhase, IsValid}
 use Rattle.port_state.proofs.Laws.{valid-raised, on_every-port, on_others-port, notices-port, packets-port, map-port, changed-port, sent_on-append}
 use Rattle.port_state.proofs.EachPort.{port_is-changed}
 use Rattle.cable_world.specs.Agreement.{out, shown_by}
@@ -157,8 +157,12 @@ parent-shake coin (Some p) x e r =
     contends false = refl
 
 -- equality of numbers, the other way round
-turned : (p k : ℕ) → (k == p) ≡ false → (p == k) ≡ false
-turned p k e = ne_eqb p k (λ same. eqb-false k p e (sym same))
+pub turned : (n k : ℕ) → (k == n) ≡ (n == k)
+turned n k = go (k == n) refl
+  where
+    go : (b : Bool) → (k == n) ≡ b → b ≡ (n == k)
+    go true e = sym (eq-eqb n k (sym (eqb-true k n e)))
+    go false e = sym (ne_eqb n k (λ same. eqb-false k n e (sym same)))
 
 abbrev pub as_child : PortView → PortView
 as_child q = record q { child = true }
@@ -173,7 +177,7 @@ rival-child x p k r c = ap (passes (λ q. q.child)) (changed-port p k as_child x
 
     go : (b : Bool) → (k == p) ≡ b → passes (λ q. q.child) (if b then option_map as_child (slice_get x.view.ports k) else slice_get x.view.ports k) ≡ true
     go true e = made (slice_get x.view.ports k) c
-    go false e = child-if (Some p) x.view.ports k r c ∙ (let other : (p == k) ≡ false = turned p k e in rw other refl)
+    go false e = child-if (Some p) x.view.ports k r c ∙ (let other : (p == k) ≡ false = sym (turned p k) ∙ e in rw other refl)
 
 takes-rival : (x : NodeState) (p : ℕ) → x.view.phase ≡ Contend → HasRoles (Some p) x.view.ports → SaysSo x (tree.takes_rival p x)
 takes-rival x p e r k c = rw (e, rival-child x p k r c, child-if (Some p) x.view.ports k r c) (told (p == k))

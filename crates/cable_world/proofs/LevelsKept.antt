@@ -1,5 +1,5 @@
 -- A turn keeps that the levels at the two ends of a cable agree.
-use Rattle.std.proofs.Common.{◌≡◌, ◌⊎◌, inl, inr, ℕ, zero, suc, ◌+◌, ◌<◌, Bool, true, false, ◌&&◌, ◌==◌, List, [], ◌∷◌, ◌++◌, map, length, Option, Some, None, is_some, slice_get, slice_index_or, refl, sym, ◌∙◌, ap, subst, arith, if◌then◌else◌}
+use Rattle.std.proofs.Common.{◌≡◌, ℕ, zero, suc, ◌+◌, ◌<◌, Bool, true, false, ◌==◌, List, [], ◌∷◌, ◌++◌, map, length, Option, Some, None, is_some, slice_get, slice_index_or, refl, sym, ◌∙◌, ap, subst, arith, if◌then◌else◌}
 use Rattle.std.specs.Prelude.{IsSomeAnd}
 use Rattle.std.specs.Option.{option_map}
 use Rattle.std.proofs.lemmas.Bool.{ne_eqb, eq-eqb}
@@ -9,19 +9,18 @@ use Rattle.port_state.specs.declared.signal.Level.{Level}
 use Rattle.port_state.specs.declared.signal.Signal.{Signal}
 use Rattle.port_state.specs.declared.ports.PortView.{PortView}
 use Rattle.port_state.specs.declared.states.NodeState.{NodeState}
-use Rattle.port_state.specs.declared.view.View.{View}
 use Rattle.port_state.specs.Ports.{passes, is_connected}
 use Rattle.port_state.specs.Sends.{sent_on}
 use Rattle.port_state.specs.Valid.{IsValid}
 use Rattle.port_state.specs.Coins.{coin}
-use Rattle.port_state.specs.Machine.{PortNode, NodeStep, on_signal, tick}
+use Rattle.port_state.specs.Machine.{PortNode, NodeStep, on_signal}
 use Rattle.port_state.proofs.Laws.{tick-cables, signal-cables, sent_on-append}
 use Rattle.cabling.specs.declared.cable.End.{End}
 use Rattle.cabling.specs.Wiring.{Wiring, far, ports_of}
-use Rattle.cable_world.specs.Wire.{Travelling, Wire, older, aged, front_is_due, gives, given, left, arrives, stays, with_sent, newly_sent}
+use Rattle.cable_world.specs.Wire.{Travelling, Wire, older, aged, gives, arrives, stays, newly_sent}
 use Rattle.cable_world.specs.World.{CableWorld, wire_of}
 use Rattle.cable_world.specs.Turn.{arriving, inbox, node_turn, turn_at, turn}
-use Rattle.cable_world.specs.Agreement.{out, shown_by, last_level, AtPort, AtEnds, LevelsAgree}
+use Rattle.cable_world.specs.Agreement.{out, shown_by, last_level, AtEnds, LevelsAgree}
 use Rattle.cable_world.specs.Lawful.{FitsCables, IsWellFormed}
 use Rattle.cable_world.proofs.Options.{some-same}
 use Rattle.cable_world.proofs.ByNumber.{node-after, wire-after, cabling-after}
@@ -197,12 +196,12 @@ turn-level w a b f e j =
     let heard : NodeStep = turn_at w b.node y in
     let sent : List Signal = sent_on a.port after.sends in
     let came : sent_on b.port (inbox w 0 (ports_of w.cabling b.node)) ≡ arrives w.delay (wire_of w a) =
-        let z : 0 + b.port ≡ b.port = omega arith in
-        subst (λ n. sent_on n (inbox w 0 (ports_of w.cabling b.node)) ≡ arriving w (far w.cabling b)) z (inbox-at w 0 b.port (ports_of w.cabling b.node)) ∙ ap (arriving w) back in
+    let z : 0 + b.port ≡ b.port = omega arith in
+    subst (λ n. sent_on n (inbox w 0 (ports_of w.cabling b.node)) ≡ arriving w (far w.cabling b)) z (inbox-at w 0 b.port (ports_of w.cabling b.node)) ∙ ap (arriving w) back in
     let now : shows heard.node.state b.port ≡ Some (said j.there.shown (arrives w.delay (wire_of w a))) =
-        node-shows (inbox w 0 (ports_of w.cabling b.node)) y b.port on_too
-        ∙ ap (λ l. option_map (λ m. said m l) (shows y.state b.port)) came
-        ∙ ap (λ o. option_map (λ m. said m (arrives w.delay (wire_of w a))) (option_map (λ (p : PortView). p.shown) o)) j.there_at in
+    node-shows (inbox w 0 (ports_of w.cabling b.node)) y b.port on_too
+    ∙ ap (λ l. option_map (λ m. said m l) (shows y.state b.port)) came
+    ∙ ap (λ o. option_map (λ m. said m (arrives w.delay (wire_of w a))) (option_map (λ (p : PortView). p.shown) o)) j.there_at in
     let p = port-there after.node.state a.port (signals-cables (inbox w 0 (ports_of w.cabling a.node)) x a.port ∙ on) in
     let q = port-shows heard.node.state b.port (said j.there.shown (arrives w.delay (wire_of w a))) now in
     let told : tells x.state a.port ≡ out x.state.view.phase j.here.child = ap (λ o. out x.state.view.phase (passes (λ r. r.child) o)) j.here_at in

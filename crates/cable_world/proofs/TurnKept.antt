@@ -19,10 +19,11 @@ use Rattle.cabling.specs.declared.cable.End.{End}
 use Rattle.cabling.specs.Wiring.{Wiring, far, ports_of}
 use Rattle.cable_world.specs.Wire.{Travelling, Wire, empty_wire, older, front_is_due, stays, with_sent}
 use Rattle.cable_world.specs.World.{CableWorld, wire_of}
-use Rattle.cable_world.specs.Turn.{and_then, node_turn, node_turns, turn_at, inbox, sent_from, all_sent, last_changes, turn}
+use Rattle.cable_world.specs.Turn.{and_then, node_turn, node_turns, turn_at, inbox, all_sent, last_changes, turn}
 use Rattle.cable_world.specs.Lawful.{AgesFall, FitsCables, IsWellFormed}
 use Rattle.cable_world.proofs.Options.{some-same}
 use Rattle.cable_world.proofs.ByNumber.{node-after, wire-after, row-after, nodes-after, cabling-after, delay-after}
+use Rattle.cable_world.proofs.StepKept.{sent-length}
 use Rattle.cable_world.proofs.Shape.{ages-sent, none-sent, silent}
 
 -- ---- one node
@@ -88,10 +89,6 @@ wire-stays d w some h = ages-kept d (w.held == 0) w.signals some h
 
 -- ---- the tables
 
-length-sent : (p : ℕ) (sends : List (ℕ × Signal)) (wires : List Wire) → length (sent_from p sends wires) ≡ length wires
-length-sent p sends [] = refl
-length-sent p sends (w ∷ wires) = ap suc (length-sent (p + 1) sends wires)
-
 length-all : (steps : List NodeStep) (rows : List (List Wire)) → length (all_sent steps rows) ≡ length rows
 length-all (s ∷ steps) (r ∷ rows) = ap suc (length-all steps rows)
 length-all steps rows = refl
@@ -111,7 +108,7 @@ changes-after w = length-changes (w.turns + 1) w.nodes (map (λ (s : NodeStep). 
 row-length : (w : CableWorld) (k : ℕ) (x : PortNode) → length w.nodes ≡ length w.cabling → slice_get w.nodes k ≡ Some x → length (slice_index_or (turn w).wires k []) ≡ length (slice_index_or w.wires k [])
 row-length w k x e h =
     ap length (row-after w k x e h)
-    ∙ length-sent 0 (turn_at w k x).sends (map (stays w.delay) (slice_index_or w.wires k []))
+    ∙ sent-length 0 (turn_at w k x).sends (map (stays w.delay) (slice_index_or w.wires k []))
     ∙ length-map (slice_index_or w.wires k []) (stays w.delay)
 
 -- where no wire is in the table, none is there
