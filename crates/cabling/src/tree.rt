@@ -1,5 +1,5 @@
 //! The bus tree that cables make.
-ghost use Rattle.std.specs.Prelude.{◌≡◌, ◌+◌, ◌<◌, ◌≤◌, ℕ, All, length, IfOk, OnOk, None, ◌++◌};
+ghost use Rattle.std.specs.Prelude.{◌≡◌, ◌+◌, ◌<◌, ◌≤◌, ℕ, All, length, IfOk, None};
 ghost use Rattle.topology_stack.specs.Tree.{Tree, IsBusTree};
 ghost use Rattle.self_id.specs.Node.{FitBits};
 ghost use Rattle.cabling.specs.NodeSet.{IsEmpty};
@@ -68,16 +68,6 @@ fn width(ports: usize) -> usize
     }
 }
 
-/// Appends the quadlets of a group.
-fn append(quads: &mut QuadList, group: &[u32]) -> Result<(), OutOfMemory>
-    ensures { OnOk result (quads.new ≡ quads.old ++ group.now) }
-{
-    for quad in group {
-        quads.push(*quad)?;
-    }
-    Ok(())
-}
-
 impl Cabling {
     /// The slots that a node shows.
     fn slots(&self, visit: Visit) -> PortList
@@ -127,7 +117,7 @@ impl Cabling {
             let node = SelfId::new(own, self.slots(*visit).as_slice());
             let mut group = QuadGroup::new();
             write_group(&node, id as u8, &mut group);
-            append(&mut quads, group.as_slice())?;
+            quads.extend_from_slice(group.as_slice())?;
         }
         match read_tree(alloc, quads.as_slice()) {
             Ok(tree) => Ok(tree),

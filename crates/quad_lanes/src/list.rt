@@ -40,6 +40,16 @@ impl QuadList {
         Ok(())
     }
 
+    /// Appends quadlets, the first of them first. Where there is no memory for them the list stays as it
+    /// was.
+    pub fn extend_from_slice(&mut self, quads: &[u32]) -> Result<(), OutOfMemory>
+        ensures ok { OnOk result (self.new ≡ self.old ++ quads.now) }
+        ensures err { OnErr result (self.new ≡ self.old) }
+    {
+        self.items.extend_from_slice(quads)?;
+        Ok(())
+    }
+
     /// The quadlets in order.
     pub fn as_slice(&self) -> &[u32]
         ensures { result.now ≡ self.now }

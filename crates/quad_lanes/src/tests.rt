@@ -5,8 +5,7 @@ use std::test::Fail;
 fn bad_pair_after_the_last_block(rt: HostRuntime) -> Result<(), Fail> {
     let mut list = QuadList::new(rt.alloc());
     for _ in 0..17 {
-        list.push(0x807f_8054)?;
-        list.push(0x7f80_7fab)?;
+        list.extend_from_slice(&[0x807f_8054, 0x7f80_7fab])?;
     }
     let quads = list.as_slice();
     assert_eq!(rt; quads.len(), 34);

@@ -1,5 +1,5 @@
 //! The list that a bus tree emits.
-ghost use Rattle.std.specs.Prelude.{◌≡◌, ◌++◌, IfOk, OnOk};
+ghost use Rattle.std.specs.Prelude.{◌≡◌, IfOk};
 ghost use Rattle.topology_stack.specs.Tree.{emits};
 
 use crate::fault::OutOfMemory;
@@ -7,16 +7,6 @@ use crate::tree::BusTree;
 use quad_lanes::QuadList;
 use self_id::{QuadGroup, write_group};
 use std::alloc::Global;
-
-/// Appends the quadlets of a group.
-fn append(quads: &mut QuadList, group: &[u32]) -> Result<(), OutOfMemory>
-    ensures { OnOk result (quads.new ≡ quads.old ++ group.now) }
-{
-    for quad in group {
-        quads.push(*quad)?;
-    }
-    Ok(())
-}
 
 /// The first quadlets of the self-ID packets of a bus, each node's group in the order of the IDs.
 /// The tree that `read_tree` answers for a list gives that list again.
@@ -27,7 +17,7 @@ pub fn write_tree(alloc: Global, tree: &BusTree) -> Result<QuadList, OutOfMemory
     for (id, node) in tree.nodes().iter().enumerate() {
         let mut group = QuadGroup::new();
         write_group(node, id as u8, &mut group);
-        append(&mut quads, group.as_slice())?;
+        quads.extend_from_slice(group.as_slice())?;
     }
     Ok(quads)
 }
