@@ -25,7 +25,7 @@ use Rattle.cable_world.specs.Lawful.{AgesFall, FitsCables, IsWellFormed}
 -- ---- wires
 
 -- each end has a wire
-has-wire : (w : CableWorld) (a : End) → IsWellFormed w → HasEnd w.cabling a → HasEntry w.wires a
+pub has-wire : (w : CableWorld) (a : End) → IsWellFormed w → HasEnd w.cabling a → HasEntry w.wires a
 has-wire w a h has = elim (slice_get_cases w.nodes a.node).1 [
   | inl at ↦
       let fits = h.nodes a.node at.0 at.2 in
@@ -34,14 +34,14 @@ has-wire w a h has = elim (slice_get_cases w.nodes a.node).1 [
 ]
 
 -- the wires of a cable are emptied, and its ends have other cables or none
-abbrev recabled : Wiring → End → End → CableWorld → CableWorld
+abbrev pub recabled : Wiring → End → End → CableWorld → CableWorld
 recabled c a b w = record w { cabling = c; wires = put b empty_wire (put a empty_wire w.wires) }
 
 pub data Emptied (w v : CableWorld) (a b e : End) : Type 0 where
   none_left : wire_of v e ≡ empty_wire → Emptied w v a b e
   left_alone : e ≢ a → e ≢ b → wire_of v e ≡ wire_of w e → Emptied w v a b e
 
-emptied : (c : Wiring) (a b : End) (w : CableWorld) → IsWellFormed w → HasEnd w.cabling a → HasEnd w.cabling b → (e : End) → Emptied w (recabled c a b w) a b e
+pub emptied : (c : Wiring) (a b : End) (w : CableWorld) → IsWellFormed w → HasEnd w.cabling a → HasEnd w.cabling b → (e : End) → Emptied w (recabled c a b w) a b e
 emptied c a b w h ha hb e =
     let first = put a empty_wire w.wires in
     let v = recabled c a b w in

@@ -8,6 +8,7 @@ mod LastHeard
 mod Shape
 mod TurnKept
 mod LevelsKept
+mod LevelsActs
 mod StepKept
 mod ActKept
 mod Formed

@@ -27,12 +27,12 @@ use Rattle.cable_world.specs.Lawful.{AgesFall, FitsCables, IsWellFormed}
 
 -- ---- a list with one element replaced
 
-replaced : {A : Type 0} → (xs : List A) (k : ℕ) (a : A) → k < length xs → slice_get (slice_set xs k a) k ≡ Some a
+pub replaced : {A : Type 0} → (xs : List A) (k : ℕ) (a : A) → k < length xs → slice_get (slice_set xs k a) k ≡ Some a
 replaced [] k a h = absurd (omega arith)
 replaced (x ∷ xs) zero a h = refl
 replaced (x ∷ xs) (suc k) a h = replaced xs k a (omega arith)
 
-not-replaced : {A : Type 0} → (xs : List A) (k j : ℕ) (a : A) → j ≢ k → slice_get (slice_set xs k a) j ≡ slice_get xs j
+pub not-replaced : {A : Type 0} → (xs : List A) (k j : ℕ) (a : A) → j ≢ k → slice_get (slice_set xs k a) j ≡ slice_get xs j
 not-replaced [] k j a ne = refl
 not-replaced (x ∷ xs) zero zero a ne = absurd (ne refl)
 not-replaced (x ∷ xs) zero (suc j) a ne = refl

@@ -1,0 +1,310 @@
+-- What happens between two turns keeps that the levels at the two ends of a cable agree.
+use Rattle.std.proofs.Common.{◌≡◌, ◌≢◌, ℕ, zero, suc, ◌+◌, ◌<◌, ◌==◌, inl, inr, Bool, true, false, List, [], ◌∷◌, ◌++◌, map, Option, Some, None, length, length-set, is_some, slice_get, slice_index_or, if◌then◌else◌, refl, subst, sym, ◌∙◌, ap, arith}
+use Rattle.std.specs.Prelude.{IsSomeAnd}
+use Rattle.std.specs.Option.{option_map}
+use Rattle.std.specs.Int.{bit_at}
+use Rattle.std.proofs.lemmas.Bool.{cases_eq, ne_eqb}
+use Rattle.std.proofs.lemmas.List.{get_or-set_same, get_or-set_other}
+use Rattle.std.proofs.lemmas.Option.{slice_get_cases, slice_get_within}
+use Rattle.cabling.specs.declared.cable.End.{End}
+use Rattle.cabling.specs.Wiring.{Wiring, IsCabling, HasEnd, far}
+use Rattle.cabling.specs.Change.{SameBut, Added, TakenOut, plug_fault}
+use Rattle.cabling.proofs.Ends.{cases_end, same_end, one_other, none_some, added_by_writes, taken_by_writes, plugged as has-end}
+use Rattle.cabling.proofs.Plugging.{Pluggable, pluggable, other_there}
+use Rattle.port_state.specs.declared.signal.Level.{Level}
+use Rattle.port_state.specs.declared.signal.Level.TheVariants as level
+use Rattle.port_state.specs.declared.signal.Signal.{Signal}
+use Rattle.port_state.specs.declared.signal.Signal.TheVariants as signal
+use Rattle.port_state.specs.declared.ports.PortView.{PortView}
+use Rattle.port_state.specs.declared.states.NodeState.{NodeState}
+use Rattle.port_state.specs.Ports.{passes, is_connected}
+use Rattle.port_state.specs.Sends.{sent_on}
+use Rattle.port_state.specs.Entry.{enter, with_port}
+use Rattle.port_state.specs.Machine.{PortNode, NodeStep, with_coins, disturb, plugged, pulled, set_config}
+use Rattle.port_state.proofs.Laws.{on_every-port, changed-port, enter-cables}
+use Rattle.cable_world.specs.declared.act.Act.{Act}
+use Rattle.cable_world.specs.declared.act.Act.TheVariants.{Plug, Pull, Reset, Config}
+use Rattle.cable_world.specs.Wire.{Travelling, Wire, empty_wire, newly_sent, with_sent}
+use Rattle.cable_world.specs.World.{CableWorld, wire_of, put}
+use Rattle.cable_world.specs.Turn.{sent_from}
+use Rattle.cable_world.specs.Act.{stepped, step_at, with_step, plug, pull_from, pull, reset, in_set, configure, noted, Acted, act_fault, IsAct, hold, hold_fault}
+use Rattle.cable_world.specs.Agreement.{out, last_level, shown_by, AtPort, AtEnds, LevelsAgree}
+use Rattle.cable_world.specs.Lawful.{FitsCables, IsWellFormed}
+use Rattle.cable_world.proofs.ByNumber.{sent-at}
+use Rattle.cable_world.proofs.LastHeard.{shows, enter-shows}
+use Rattle.cable_world.proofs.Options.{some-same, none-some}
+use Rattle.cable_world.proofs.StepKept.{HasEntry, replaced, not-replaced, put-same, put-other, sent-length, step-cables}
+use Rattle.cable_world.proofs.ActKept.{has-wire, recabled, none_left, left_alone, emptied, act-formed}
+
+-- ---- the two ends of a cable
+
+abbrev of_node : Option PortNode → (PortNode → Option Level) → Option Level
+of_node None f = None
+of_node (Some x) f = f x
+
+abbrev of_port : (PortNode → PortView → Level) → ℕ → PortNode → Option Level
+of_port f k x = option_map (f x) (slice_get x.state.view.ports k)
+
+-- a level at an end, if the port is there
+abbrev at_end : (PortNode → PortView → Level) → CableWorld → End → Option Level
+at_end f w e = of_node (slice_get w.nodes e.node) (of_port f e.port)
+
+-- the one that the node tells, and the one that the port shows
+abbrev told : PortNode → PortView → Level
+told x p = out x.state.view.phase p.child
+
+abbrev seen : PortNode → PortView → Level
+seen x p = p.shown
+
+-- after these signals what is shown at one end is what is told at the other
+abbrev Meet : Option Level → List Travelling → Option Level → Type 0
+Meet there signals here = IsSomeAnd there (λ l. IsSomeAnd here (λ m. last_level m signals ≡ l))
+
+abbrev MeetAt : CableWorld → End → End → Type 0
+MeetAt w a b = Meet (at_end told w a) (wire_of w a).signals (at_end seen w b)
+
+some-and : {A : Type 0} → (o : Option A) (P Q : A → Type 0) → ((x : A) → P x → Q x) → IsSomeAnd o P → IsSomeAnd o Q
+some-and None P Q f h = absurd h
+some-and (Some x) P Q f h = f x h
+
+mapped : {A B : Type 0} → (o : Option A) (f : A → B) (P : B → Type 0) → IsSomeAnd o (λ x. P (f x)) → IsSomeAnd (option_map f o) P
+mapped None f P h = absurd h
+mapped (Some x) f P h = h
+
+unmapped : {A B : Type 0} → (o : Option A) (f : A → B) (P : B → Type 0) → IsSomeAnd (option_map f o) P → IsSomeAnd o (λ x. P (f x))
+unmapped None f P h = absurd h
+unmapped (Some x) f P h = h
+
+to-end : (f : PortNode → PortView → Level) (o : Option PortNode) (k : ℕ) (P : Level → Type 0) → IsSomeAnd o (λ x. IsSomeAnd (slice_get x.state.view.ports k) (λ p. P (f x p))) → IsSomeAnd (of_node o (of_port f k)) P
+to-end f None k P h = absurd h
+to-end f (Some x) k P h = mapped (slice_get x.state.view.ports k) (f x) P h
+
+from-end : (f : PortNode → PortView → Level) (o : Option PortNode) (k : ℕ) (P : Level → Type 0) → IsSomeAnd (of_node o (of_port f k)) P → IsSomeAnd o (λ x. IsSomeAnd (slice_get x.state.view.ports k) (λ p. P (f x p)))
+from-end f None k P h = absurd h
+from-end f (Some x) k P h = unmapped (slice_get x.state.view.ports k) (f x) P h
+
+-- that they meet says the same as that they agree
+abbrev AgreeAt : CableWorld → End → End → Type 0
+AgreeAt w a b = AtEnds w a b (λ v p u q. last_level q.shown (wire_of w a).signals ≡ out v.phase p.child)
+
+to-meet : (w : CableWorld) (a b : End) → AgreeAt w a b → MeetAt w a b
+to-meet w a b h =
+    let signals = (wire_of w a).signals in
+    let P : Level → Type 0 = λ l. AtPort w b (λ u q. last_level q.shown signals ≡ l) in
+    let Q : Level → Type 0 = λ l. IsSomeAnd (at_end seen w b) (λ m. last_level m signals ≡ l) in
+    some-and (at_end told w a) P Q (λ l. to-end seen (slice_get w.nodes b.node) b.port (λ m. last_level m signals ≡ l))
+    (to-end told (slice_get w.nodes a.node) a.port P h)
+
+from-meet : (w : CableWorld) (a b : End) → MeetAt w a b → AgreeAt w a b
+from-meet w a b h =
+    let signals = (wire_of w a).signals in
+    let P : Level → Type 0 = λ l. AtPort w b (λ u q. last_level q.shown signals ≡ l) in
+    let Q : Level → Type 0 = λ l. IsSomeAnd (at_end seen w b) (λ m. last_level m signals ≡ l) in
+    from-end told (slice_get w.nodes a.node) a.port P
+    (some-and (at_end told w a) Q P (λ l. from-end seen (slice_get w.nodes b.node) b.port (λ m. last_level m signals ≡ l)) h)
+
+-- where all three are as before, they meet as before
+meet-kept : (w v : CableWorld) (a b : End) → at_end told v a ≡ at_end told w a → wire_of v a ≡ wire_of w a → at_end seen v b ≡ at_end seen w b → MeetAt w a b → MeetAt v a b
+meet-kept w v a b t s n h =
+    subst (λ (o : Option Level). Meet o (wire_of v a).signals (at_end seen v b)) (sym t)
+    (subst (λ (u : Wire). Meet (at_end told w a) u.signals (at_end seen v b)) (sym s)
+    (subst (λ (o : Option Level). Meet (at_end told w a) (wire_of w a).signals o) (sym n) h))
+
+-- ---- an end with a cable
+
+record IsPlugged (w : CableWorld) (e : End) : Type 0 where
+  node : PortNode
+  is_node : slice_get w.nodes e.node ≡ Some node
+  connected : is_connected node.state.view.ports e.port ≡ true
+  wire : HasEntry w.wires e
+
+is-plugged : (w : CableWorld) (a b : End) → IsWellFormed w → far w.cabling a ≡ Some b → IsPlugged w a
+is-plugged w a b f e =
+    let has : HasEnd w.cabling a = has-end w.cabling a b e in
+    elim (slice_get_cases w.nodes a.node).1 [
+      | inl at ↦ record {
+        node = at.0;
+        is_node = at.2;
+        connected = (f.nodes a.node at.0 at.2).connected a.port ∙ ap is_some e;
+        wire = has-wire w a f has;
+      }
+      | inr past ↦ absurd (omega (arith, past.0, has.node, f.count))
+    ]
+
+-- its port shows some level
+some-level : (o : Option PortView) → passes (λ p. p.connected) o ≡ true → (m : Level) × (option_map (λ (p : PortView). p.shown) o ≡ Some m)
+some-level None c = absurd cc
+some-level (Some p) c = (p.shown, refl)
+
+some-seen : (w : CableWorld) (e : End) → IsPlugged w e → (m : Level) × (at_end seen w e ≡ Some m)
+some-seen w e r =
+    let one = some-level (slice_get r.node.state.view.ports e.port) r.connected in
+    (one.0, ap (λ o. of_node o (of_port seen e.port)) r.is_node ∙ one.1)
+
+-- ---- the last signal on a wire is a Reset
+
+-- the node at this end tells Reset, and sent it last
+record SaysReset (w : CableWorld) (e : End) : Type 0 where
+  tells : at_end told w e ≡ Some level.Reset
+  before : List Travelling
+  signals : (wire_of w e).signals ≡ before ++ newly_sent signal.Reset ∷ []
+
+last-reset : (m : Level) (before : List Travelling) → last_level m (before ++ newly_sent signal.Reset ∷ []) ≡ level.Reset
+last-reset m [] = refl
+last-reset m (t ∷ ts) = last-reset (shown_by t.signal m) ts
+
+meet-reset : (w : CableWorld) (a b : End) → IsWellFormed w → far w.cabling a ≡ Some b → SaysReset w a → MeetAt w a b
+meet-reset w a b f e s =
+    let one = some-seen w b (is-plugged w b a f (f.cabling.both_ways a b e)) in
+    subst (λ (o : Option Level). Meet o (wire_of w a).signals (at_end seen w b)) (sym s.tells)
+    (subst (λ (o : Option Level). Meet (Some level.Reset) (wire_of w a).signals o) (sym one.1)
+    (ap (last_level one.0) s.signals ∙ last-reset one.0 s.before))
+
+-- ---- a step that resets the bus
+
+-- it leaves alone what these ports show
+record Resets (P : ℕ → Type 0) (f : PortNode → NodeStep) : Type 0 where
+  tells : (x : PortNode) (k : ℕ) → is_connected (f x).node.state.view.ports k ≡ true → of_port told k (f x).node ≡ Some level.Reset
+  sent : (x : PortNode) (k : ℕ) → is_connected (f x).node.state.view.ports k ≡ true → sent_on k (f x).sends ≡ signal.Reset ∷ []
+  shows : (x : PortNode) (k : ℕ) → P k → of_port seen k (f x).node ≡ of_port seen k x
+
+enter-tells : (x : NodeState) (k : ℕ) → is_connected (enter true x).state.view.ports k ≡ true → option_map (λ (p : PortView). out (enter true x).state.view.phase p.child) (slice_get (enter true x).state.view.ports k) ≡ Some level.Reset
+unfolding enter
+enter-tells x k c = go (slice_get (enter true x).state.view.ports k) c
+  where
+    go : (o : Option PortView) → passes (λ p. p.connected) o ≡ true → option_map (λ (p : PortView). level.Reset) o ≡ Some level.Reset
+    go None h = absurd cc
+    go (Some p) h = refl
+
+enter-sends : (x : NodeState) (k : ℕ) → is_connected x.view.ports k ≡ true → sent_on k (enter true x).sends ≡ signal.Reset ∷ []
+unfolding enter
+enter-sends x k c = on_every-port k signal.Reset x.view.ports ∙ (rw c refl)
+
+entering : (P : ℕ → Type 0) (change : NodeState → NodeState) → ((x : NodeState) (k : ℕ) → P k → shows (change x) k ≡ shows x k) → Resets P (λ x. with_coins x.coins (enter true (change x.state)))
+entering P change h = record {
+  tells = λ x k c. enter-tells (change x.state) k c;
+  sent = λ x k c. enter-sends (change x.state) k (sym (enter-cables true (change x.state) k) ∙ c);
+  shows = λ x k p. enter-shows true (change x.state) k ∙ h x.state k p;
+}
+
+abbrev other_than : ℕ → ℕ → Type 0
+other_than port k = k ≢ port
+
+-- a port that is changed is the only one
+others-show : (port : ℕ) (f : PortView → PortView) (x : NodeState) (k : ℕ) → k ≢ port → shows (with_port port f x) k ≡ shows x k
+others-show port f x k ne =
+    ap (option_map (λ (p : PortView). p.shown)) (changed-port port k f x.view.ports)
+    ∙ (rw (ne_eqb k port ne) refl)
+
+resets-disturb : Resets (λ k. Unit {0}) disturb
+resets-disturb = entering (λ k. Unit {0}) (λ x. x) (λ x k p. refl)
+
+resets-plugged : (port : ℕ) → Resets (other_than port) (plugged port)
+resets-plugged port =
+    let f : PortView → PortView = λ p. record p { connected = true; shown = level.Reset } in
+    entering (other_than port) (with_port port f) (others-show port f)
+
+resets-pulled : (port : ℕ) → Resets (other_than port) (pulled port)
+resets-pulled port =
+    let f : PortView → PortView = λ p. record p { connected = false; shown = level.Idle } in
+    entering (other_than port) (with_port port f) (others-show port f)
+
+-- ---- what a step leaves alone
+
+record Untouched (w v : CableWorld) (j : ℕ) : Type 0 where
+  node : slice_get v.nodes j ≡ slice_get w.nodes j
+  row : slice_index_or v.wires j [] ≡ slice_index_or w.wires j []
+  rows : length v.wires ≡ length w.wires
+
+untouched : (k : ℕ) (step : PortNode → NodeStep) (w : CableWorld) (j : ℕ) → j ≢ k → Untouched w (with_step k step w) j
+untouched k step w j ne = go (slice_get w.nodes k)
+  where
+    go : (o : Option PortNode) → Untouched w (step_at o k step w) j
+    go None = record { node = refl; row = refl; rows = refl }
+    go (Some x) =
+        let sent = sent_from 0 (step x).sends (slice_index_or w.wires k []) in
+        record {
+          node = not-replaced w.nodes k j (step x).node ne;
+          row = get_or-set_other w.wires k j sent [] ne;
+          rows = length-set w.wires k sent;
+        }
+
+same-level : (f : PortNode → PortView → Level) (w v : CableWorld) (e : End) → Untouched w v e.node → at_end f v e ≡ at_end f w e
+same-level f w v e u = ap (λ o. of_node o (of_port f e.port)) u.node
+
+same-wire : (w v : CableWorld) (e : End) → Untouched w v e.node → wire_of v e ≡ wire_of w e
+same-wire w v e u = ap (λ row. slice_index_or row e.port empty_wire) u.row
+
+still-plugged : (w v : CableWorld) (e : End) → Untouched w v e.node → IsPlugged v e → IsPlugged w e
+still-plugged w v e u r = record {
+  node = r.node;
+  is_node = sym u.node ∙ r.is_node;
+  connected = r.connected;
+  wire = record { node = omega (arith, u.rows, r.wire.node); port = subst (λ (row : List Wire). e.port < length row) u.row r.wire.port };
+}
+
+-- ---- what a step that resets the bus does at its node
+
+own-reset : (P : ℕ → Type 0) (step : PortNode → NodeStep) (w : CableWorld) (e : End) → Resets P step → IsPlugged (with_step e.node step w) e → SaysReset (with_step e.node step w) e
+own-reset P step w e s = go (slice_get w.nodes e.node) refl
+  where
+    go : (o : Option PortNode) → slice_get w.nodes e.node ≡ o → IsPlugged (step_at o e.node step w) e → SaysReset (step_at o e.node step w) e
+    go None at r = absurd (none-some (slice_get w.nodes e.node) r.node at r.is_node)
+    go (Some x) at r =
+        let y : NodeStep = step x in
+        let v : CableWorld = stepped e.node y w in
+        let row : List Wire = slice_index_or w.wires e.node [] in
+        let sent : List Wire = sent_from 0 y.sends row in
+        let now : slice_get v.nodes e.node ≡ Some y.node = replaced w.nodes e.node y.node (slice_get_within w.nodes e.node x at) in
+        let same : r.node ≡ y.node = some-same r.node y.node (sym r.is_node ∙ now) in
+        let on : is_connected y.node.state.view.ports e.port ≡ true = subst (λ (z : PortNode). is_connected z.state.view.ports e.port ≡ true) same r.connected in
+        let rows : length v.wires ≡ length w.wires = length-set w.wires e.node sent in
+        let inside : e.node < length w.wires = omega (arith, rows, r.wire.node) in
+        let here : slice_index_or v.wires e.node [] ≡ sent = get_or-set_same w.wires e.node sent [] inside in
+        let long : length sent ≡ length row = sent-length 0 y.sends row in
+        let within : e.port < length sent = subst (λ (l : List Wire). e.port < length l) here r.wire.port in
+        let port : e.port < length row = omega (arith, long, within) in
+        let z : 0 + e.port ≡ e.port = omega arith in
+        let old : Wire = slice_index_or row e.port empty_wire in
+        record {
+          tells = ap (λ o. of_node o (of_port told e.port)) now ∙ s.tells x e.port on;
+          before = old.signals;
+          signals = ap (λ (u : Wire). u.signals) (
+              ap (λ l. slice_index_or l e.port empty_wire) here
+              ∙ sent-at 0 e.port y.sends row port
+              ∙ ap (λ n. with_sent (sent_on n y.sends) old) z
+              ∙ ap (λ l. with_sent l old) (s.sent x e.port on));
+        }
+
+step-reset : (P : ℕ → Type 0) (k : ℕ) (step : PortNode → NodeStep) (w : CableWorld) (e : End) → Resets P step → e.node ≡ k → IsPlugged (with_step k step w) e → SaysReset (with_step k step w) e
+step-reset P k step w e s n =
+    subst (λ (j : ℕ). IsPlugged (with_step j step w) e → SaysReset (with_step j step w) e) n (own-reset P step w e s)
+
+own-seen : (P : ℕ → Type 0) (step : PortNode → NodeStep) (w : CableWorld) (e : End) → Resets P step → P e.port → at_end seen (with_step e.node step w) e ≡ at_end seen w e
+own-seen P step w e s p = go (slice_get w.nodes e.node) refl
+  where
+    go : (o : Option PortNode) → slice_get w.nodes e.node ≡ o → at_end seen (step_at o e.node step w) e ≡ at_end seen w e
+    go None at = refl
+    go (Some x) at =
+        ap (λ o. of_node o (of_port seen e.port)) (replaced w.nodes e.node (step x).node (slice_get_within w.nodes e.node x at))
+        ∙ s.shows x e.port p
+        ∙ sym (ap (λ o. of_node o (of_port seen e.port)) at)
+
+step-seen : (P : ℕ → Type 0) (k : ℕ) (step : PortNode → NodeStep) (w : CableWorld) (e : End) → Resets P step → (e.node ≡ k → P e.port) → at_end seen (with_step k step w) e ≡ at_end seen w e
+step-seen P k step w e s p = elim (cases_eq e.node k) [
+  | inl n ↦ subst (λ (j : ℕ). at_end seen (with_step j step w) e ≡ at_end seen w e) n (own-seen P step w e s (p n))
+  | inr ne ↦ same-level seen w (with_step k step w) e (untouched k step w e.node ne)
+]
+
+-- ---- resets
+
+reset-levels : (node : ℕ) (w : CableWorld) → IsWellFormed (reset node w) → LevelsAgree w → LevelsAgree (reset node w)
+reset-levels node w f h a b e =
+    let v = reset node w in
+    let was : far w.cabling a ≡ Some b = ap (λ (c : Wiring). far c a) (sym (step-cables node disturb w)) ∙ e in
+    from-meet v a b (elim (cases_eq a.node node) [
+      | inl n ↦ meet-reset v a b f e (step-reset (λ k. Unit {0}) node disturb w a resets-disturb n (is-plugged v a b f e))
+      | inr ne ↦
+          let u = untouched node disturb w a.node ne in
+          meet-kept w v a b (same-level told w v a u) (same-wire w v a u) (step-seen (λ k. Unit {0}) node disturb w b resets-disturb (λ n. tt)) (to-meet w a b (h a b was))
+    ])
