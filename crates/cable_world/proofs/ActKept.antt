@@ -41,7 +41,16 @@ pub data Emptied (w v : CableWorld) (a b e : End) : Type 0 where
   none_left : wire_of v e ≡ empty_wire → Emptied w v a b e
   left_alone : e ≢ a → e ≢ b → wire_of v e ≡ wire_of w e → Emptied w v a b e
 
-pub emptied : (c : Wiring) (a b : End) (w : CableWorld) → IsWellFormed w → HasEnd w.cabling a → HasEnd w.cabling b → (e : End) → Emptied w (recabled c a b w) a b e
+-- the wires of all other ends are as before
+pub others-alone : (c : Wiring) (a b : End) (w : CableWorld) → IsWellFormed w → HasEnd w.cabling a → HasEnd w.cabling b → (e : End) → e ≢ a → e ≢ b → wire_of (recabled c a b w) e ≡ wire_of w e
+others-alone c a b w h ha hb e na nb =
+    let first = put a empty_wire w.wires in
+    let wa : HasEntry w.wires a = has-wire w a h ha in
+    let wb : HasEntry w.wires b = has-wire w b h hb in
+    let rows : length first ≡ length w.wires = length-set w.wires a.node _ in
+    put-other empty_wire first b e empty_wire (omega (arith, rows, wb.node)) nb ∙ put-other empty_wire w.wires a e empty_wire wa.node na
+
+emptied : (c : Wiring) (a b : End) (w : CableWorld) → IsWellFormed w → HasEnd w.cabling a → HasEnd w.cabling b → (e : End) → Emptied w (recabled c a b w) a b e
 emptied c a b w h ha hb e =
     let first = put a empty_wire w.wires in
     let v = recabled c a b w in
@@ -53,7 +62,7 @@ emptied c a b w h ha hb e =
       | inl is ↦ none_left (ap (wire_of v) is ∙ put-same empty_wire first b empty_wire wf)
       | inr nb ↦ elim (cases_end e a) [
         | inl is ↦ none_left (put-other empty_wire first b e empty_wire wf.node nb ∙ ap (λ (z : End). slice_index_or (slice_index_or first z.node []) z.port empty_wire) is ∙ put-same empty_wire w.wires a empty_wire wa)
-        | inr na ↦ left_alone na nb (put-other empty_wire first b e empty_wire wf.node nb ∙ put-other empty_wire w.wires a e empty_wire wa.node na)
+        | inr na ↦ left_alone na nb (others-alone c a b w h ha hb e na nb)
       ]
     ]
 
@@ -110,14 +119,14 @@ sets-pulled port = record {
   connected = λ x p h. pulled-cables port p x.state h;
 }
 
-plug-formed : (a b : End) (w : CableWorld) → plug_fault w.cabling a b ≡ None → IsWellFormed w → IsWellFormed (plug a b w)
+pub plug-formed : (a b : End) (w : CableWorld) → plug_fault w.cabling a b ≡ None → IsWellFormed w → IsWellFormed (plug a b w)
 plug-formed a b w none h =
     let may : Pluggable w.cabling a b = pluggable w.cabling a b none in
     let c : Wiring = put b (Some a) (put a (Some b) w.cabling) in
     let added : Added w.cabling c a b = added_by_writes w.cabling a b may.has_a may.has_b may.free_a may.free_b may.apart in
     both-formed a b (Some b) (Some a) (plugged a.port) (plugged b.port) w h may.has_a may.has_b may.apart (cabling_added w.cabling c a b h.cabling may.apart added) added.others (sets-plugged a.port) (sets-plugged b.port)
 
-pull-formed : (a : End) (o : Option End) (w : CableWorld) → far w.cabling a ≡ o → IsWellFormed w → IsWellFormed (pull_from a o w)
+pub pull-formed : (a : End) (o : Option End) (w : CableWorld) → far w.cabling a ≡ o → IsWellFormed w → IsWellFormed (pull_from a o w)
 pull-formed a None w at h = h
 pull-formed a (Some b) w at h =
     let c : Wiring = put b None (put a None w.cabling) in
@@ -126,7 +135,7 @@ pull-formed a (Some b) w at h =
 
 -- ---- resets, and configuration packets
 
-reset-formed : (node : ℕ) (w : CableWorld) → IsWellFormed w → IsWellFormed (reset node w)
+pub reset-formed : (node : ℕ) (w : CableWorld) → IsWellFormed w → IsWellFormed (reset node w)
 reset-formed node w h =
     well-formed w.cabling (reset node w) (step-cables node disturb w)
     (step-formed w.cabling w.cabling node disturb w (formed-for w h) (λ j. refl) (λ e ne. refl) (λ x at.
@@ -154,7 +163,7 @@ was set change k (x ∷ nodes) (suc j) y e = elim (was set change (k + 1) nodes 
   | altered z at is ↦ altered z at is
 ]
 
-configure-formed : (set from root_id : ℕ) (force : Bool) (gap : Option ℕ) (w : CableWorld) → ForSome gap (λ g. g ≤ 63) → IsWellFormed w → IsWellFormed (configure set from root_id force gap w)
+pub configure-formed : (set from root_id : ℕ) (force : Bool) (gap : Option ℕ) (w : CableWorld) → ForSome gap (λ g. g ≤ 63) → IsWellFormed w → IsWellFormed (configure set from root_id force gap w)
 configure-formed set from root_id force gap w bits h =
     let change : PortNode → PortNode = set_config root_id force gap in
     let v : CableWorld = record w { nodes = in_set set change 0 w.nodes } in
@@ -217,7 +226,7 @@ passed true true None f g k e = absurd cc
 passed true false o f g k e = absurd cc
 passed false port o f g k e = absurd cc
 
-has-cable : (c : Wiring) (a : End) → pull_fault c a ≡ None → (b : End) × (far c a ≡ Some b)
+pub has-cable : (c : Wiring) (a : End) → pull_fault c a ≡ None → (b : End) × (far c a ≡ Some b)
 has-cable c a none = passed (has_node c a) (has_port c a) (far c a) _ _ _ none
 
 pub hold-formed : (end : End) (turns : ℕ) (w : CableWorld) → hold_fault end w ≡ None → IsWellFormed w → IsWellFormed (hold end turns w)

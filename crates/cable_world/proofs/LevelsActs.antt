@@ -34,7 +34,7 @@ use Rattle.cable_world.proofs.ByNumber.{sent-at}
 use Rattle.cable_world.proofs.LastHeard.{shows, enter-shows}
 use Rattle.cable_world.proofs.Options.{some-same, none-some}
 use Rattle.cable_world.proofs.StepKept.{HasEntry, replaced, not-replaced, put-same, put-other, sent-length, step-cables}
-use Rattle.cable_world.proofs.ActKept.{has-wire, recabled, none_left, left_alone, emptied, act-formed}
+use Rattle.cable_world.proofs.ActKept.{has-wire, recabled, others-alone, plug-formed, pull-formed, reset-formed, configure-formed, has-cable}
 
 -- ---- the two ends of a cable
 
@@ -308,3 +308,125 @@ reset-levels node w f h a b e =
           let u = untouched node disturb w a.node ne in
           meet-kept w v a b (same-level told w v a u) (same-wire w v a u) (step-seen (λ k. Unit {0}) node disturb w b resets-disturb (λ n. tt)) (to-meet w a b (h a b was))
     ])
+
+-- ---- plugging and pulling
+
+-- A cable is put at two ends, or taken there, and both nodes reset the bus. No other cable has one of
+-- these ends.
+record Cabled (old c : Wiring) (a b : End) : Type 0 where
+  has_a : HasEnd old a
+  has_b : HasEnd old b
+  apart : a.node ≢ b.node
+  others : SameBut old c a b
+  from_a : (z : End) → far c a ≡ Some z → z ≡ b
+  from_b : (z : End) → far c b ≡ Some z → z ≡ a
+
+both-levels : (a b : End) (f g : PortNode → NodeStep) (c : Wiring) (w : CableWorld) → Resets (other_than a.port) f → Resets (other_than b.port) g → Cabled w.cabling c a b → IsWellFormed w → IsWellFormed (with_step b.node g (with_step a.node f (recabled c a b w))) → LevelsAgree w → LevelsAgree (with_step b.node g (with_step a.node f (recabled c a b w)))
+both-levels a b f g c w resets-f resets-g k old new h x y e =
+    let start = recabled c a b w in
+    let next = with_step a.node f start in
+    let last = with_step b.node g next in
+    let cables : last.cabling ≡ c = step-cables b.node g next ∙ step-cables a.node f start in
+    let now : far c x ≡ Some y = ap (λ (d : Wiring). far d x) (sym cables) ∙ e in
+    let back : far c y ≡ Some x = ap (λ (d : Wiring). far d y) (sym cables) ∙ new.cabling.both_ways x y e in
+    let there : IsPlugged last x = is-plugged last x y new e in
+    from-meet last x y (elim (cases_eq x.node b.node) [
+      | inl n ↦ meet-reset last x y new e (step-reset (other_than b.port) b.node g next x resets-g n there)
+      | inr nb ↦
+          let second = untouched b.node g next x.node nb in
+          elim (cases_eq x.node a.node) [
+            | inl n ↦
+                let first : SaysReset next x = step-reset (other_than a.port) a.node f start x resets-f n (still-plugged next last x second there) in
+                meet-reset last x y new e (record {
+                  tells = same-level told next last x second ∙ first.tells;
+                  before = first.before;
+                  signals = ap (λ (u : Wire). u.signals) (same-wire next last x second) ∙ first.signals;
+                })
+            | inr na ↦
+                let first = untouched a.node f start x.node na in
+                let not-a : x ≢ a = λ is. na (ap (λ (z : End). z.node) is) in
+                let not-b : x ≢ b = λ is. nb (ap (λ (z : End). z.node) is) in
+                let far-a : y ≢ a = λ is. not-b (k.from_a x (subst (λ (z : End). far c z ≡ Some x) is back)) in
+                let far-b : y ≢ b = λ is. not-a (k.from_b x (subst (λ (z : End). far c z ≡ Some x) is back)) in
+                let was : far w.cabling x ≡ Some y = sym (k.others.others x not-a not-b) ∙ now in
+                let wire : wire_of start x ≡ wire_of w x = others-alone c a b w old k.has_a k.has_b x not-a not-b in
+                meet-kept w last x y
+                (same-level told next last x second ∙ same-level told start next x first)
+                (same-wire next last x second ∙ same-wire start next x first ∙ wire)
+                (step-seen (other_than b.port) b.node g next y resets-g (λ n p. far-b (same_end y b n p))
+                ∙ step-seen (other_than a.port) a.node f start y resets-f (λ n p. far-a (same_end y a n p)))
+                (to-meet w x y (h x y was))
+          ]
+    ])
+
+plug-levels : (a b : End) (w : CableWorld) → plug_fault w.cabling a b ≡ None → IsWellFormed w → IsWellFormed (plug a b w) → LevelsAgree w → LevelsAgree (plug a b w)
+plug-levels a b w none f g h =
+    let may : Pluggable w.cabling a b = pluggable w.cabling a b none in
+    let c : Wiring = put b (Some a) (put a (Some b) w.cabling) in
+    let added : Added w.cabling c a b = added_by_writes w.cabling a b may.has_a may.has_b may.free_a may.free_b may.apart in
+    both-levels a b (plugged a.port) (plugged b.port) c w (resets-plugged a.port) (resets-plugged b.port) (record {
+      has_a = may.has_a;
+      has_b = may.has_b;
+      apart = may.apart;
+      others = added.others;
+      from_a = λ z e. one_other (far c a) z b e added.joined;
+      from_b = λ z e. one_other (far c b) z a e added.back;
+    }) f g h
+
+pull-levels : (a : End) (o : Option End) (w : CableWorld) → far w.cabling a ≡ o → IsWellFormed w → IsWellFormed (pull_from a o w) → LevelsAgree w → LevelsAgree (pull_from a o w)
+pull-levels a None w at f g h = h
+pull-levels a (Some b) w at f g h =
+    let c : Wiring = put b None (put a None w.cabling) in
+    let taken : TakenOut w.cabling c a b = taken_by_writes w.cabling a b f.cabling at in
+    both-levels a b (pulled a.port) (pulled b.port) c w (resets-pulled a.port) (resets-pulled b.port) (record {
+      has_a = has-end w.cabling a b at;
+      has_b = other_there w.cabling a b f.cabling at;
+      apart = f.cabling.two_nodes a b at;
+      others = taken.others;
+      from_a = λ z e. absurd (none_some (far c a) z taken.free_a e);
+      from_b = λ z e. absurd (none_some (far c b) z taken.free_b e);
+    }) f g h
+
+-- ---- configuration packets
+
+-- a change of some nodes leaves alone what the change does
+in-set-same : (f : PortNode → Option Level) (set : ℕ) (change : PortNode → PortNode) → ((x : PortNode) → f (change x) ≡ f x) → (k : ℕ) (nodes : List PortNode) (j : ℕ) → of_node (slice_get (in_set set change k nodes) j) f ≡ of_node (slice_get nodes j) f
+in-set-same f set change h k [] j = refl
+in-set-same f set change h k (x ∷ nodes) zero = go (bit_at set k == 1)
+  where
+    go : (b : Bool) → f (if b then change x else x) ≡ f x
+    go true = h x
+    go false = refl
+in-set-same f set change h k (x ∷ nodes) (suc j) = in-set-same f set change h (k + 1) nodes j
+
+configure-levels : (set from root_id : ℕ) (force : Bool) (gap : Option ℕ) (w : CableWorld) → IsWellFormed (configure set from root_id force gap w) → LevelsAgree w → LevelsAgree (configure set from root_id force gap w)
+configure-levels set from root_id force gap w f h =
+    let change : PortNode → PortNode = set_config root_id force gap in
+    let v : CableWorld = record w { nodes = in_set set change 0 w.nodes } in
+    reset-levels from v f (λ a b e. from-meet v a b (meet-kept w v a b
+    (in-set-same (of_port told a.port) set change (λ x. refl) 0 w.nodes a.node)
+    refl
+    (in-set-same (of_port seen b.port) set change (λ x. refl) 0 w.nodes b.node)
+    (to-meet w a b (h a b e))))
+
+-- ---- every act
+
+pub act-levels : (a : Act) (w v : CableWorld) → IsAct a → act_fault a w ≡ None → Acted a w v → IsWellFormed w → LevelsAgree w → LevelsAgree v
+act-levels (Plug a b) w v is none e f h = subst LevelsAgree (sym e) (plug-levels a b w none f (plug-formed a b w none f) h)
+act-levels (Pull end) w v is none e f h = subst LevelsAgree (sym e) (pull-levels end (far w.cabling end) w refl f (pull-formed end (far w.cabling end) w refl f) h)
+act-levels (Reset node) w v is none e f h = subst LevelsAgree (sym e) (reset-levels node w (reset-formed node w f) h)
+act-levels (Config from root_id force gap) w v is none e f h = subst LevelsAgree (sym e.2) (configure-levels e.0 from root_id force gap w (configure-formed e.0 from root_id force gap w is.gap_bits f) h)
+
+-- ---- hold
+
+pub hold-levels : (end : End) (turns : ℕ) (w : CableWorld) → hold_fault end w ≡ None → IsWellFormed w → LevelsAgree w → LevelsAgree (hold end turns w)
+hold-levels end turns w none f h a b e =
+    let v = hold end turns w in
+    let held : Wire = record (wire_of w end) { held = turns } in
+    let cable = has-cable w.cabling end none in
+    let there : HasEntry w.wires end = has-wire w end f (has-end w.cabling end cable.0 cable.1) in
+    let same : (wire_of v a).signals ≡ (wire_of w a).signals = elim (cases_end a end) [
+      | inl is ↦ ap (λ (u : Wire). u.signals) (ap (wire_of v) is ∙ put-same empty_wire w.wires end held there) ∙ ap (λ (z : End). (wire_of w z).signals) (sym is)
+      | inr ne ↦ ap (λ (u : Wire). u.signals) (put-other empty_wire w.wires end a held there.node ne)
+    ] in
+    subst (λ (signals : List Travelling). AtEnds w a b (λ v p u q. last_level q.shown signals ≡ out v.phase p.child)) (sym same) (h a b e)
