@@ -1,5 +1,5 @@
 -- What happens between two turns keeps that the levels at the two ends of a cable agree.
-use Rattle.std.proofs.Common.{◌≡◌, ◌≢◌, ℕ, zero, suc, ◌+◌, ◌<◌, ◌==◌, inl, inr, Bool, true, false, List, [], ◌∷◌, ◌++◌, map, Option, Some, None, length, length-set, is_some, slice_get, slice_index_or, if◌then◌else◌, refl, subst, sym, ◌∙◌, ap, arith}
+use Rattle.std.proofs.Common.{◌≡◌, ◌≢◌, ℕ, zero, suc, ◌+◌, ◌<◌, ◌==◌, inl, inr, Bool, true, false, List, [], ◌∷◌, ◌++◌, Option, Some, None, length, length-set, is_some, slice_get, slice_index_or, if◌then◌else◌, refl, subst, sym, ◌∙◌, ap, arith}
 use Rattle.std.specs.Prelude.{IsSomeAnd}
 use Rattle.std.specs.Option.{option_map}
 use Rattle.std.specs.Int.{bit_at}
@@ -7,13 +7,12 @@ use Rattle.std.proofs.lemmas.Bool.{cases_eq, ne_eqb}
 use Rattle.std.proofs.lemmas.List.{get_or-set_same, get_or-set_other}
 use Rattle.std.proofs.lemmas.Option.{slice_get_cases, slice_get_within}
 use Rattle.cabling.specs.declared.cable.End.{End}
-use Rattle.cabling.specs.Wiring.{Wiring, IsCabling, HasEnd, far}
+use Rattle.cabling.specs.Wiring.{Wiring, HasEnd, far}
 use Rattle.cabling.specs.Change.{SameBut, Added, TakenOut, plug_fault}
 use Rattle.cabling.proofs.Ends.{cases_end, same_end, one_other, none_some, added_by_writes, taken_by_writes, plugged as has-end}
 use Rattle.cabling.proofs.Plugging.{Pluggable, pluggable, other_there}
 use Rattle.port_state.specs.declared.signal.Level.{Level}
 use Rattle.port_state.specs.declared.signal.Level.TheVariants as level
-use Rattle.port_state.specs.declared.signal.Signal.{Signal}
 use Rattle.port_state.specs.declared.signal.Signal.TheVariants as signal
 use Rattle.port_state.specs.declared.ports.PortView.{PortView}
 use Rattle.port_state.specs.declared.states.NodeState.{NodeState}
@@ -27,9 +26,9 @@ use Rattle.cable_world.specs.declared.act.Act.TheVariants.{Plug, Pull, Reset, Co
 use Rattle.cable_world.specs.Wire.{Travelling, Wire, empty_wire, newly_sent, with_sent}
 use Rattle.cable_world.specs.World.{CableWorld, wire_of, put}
 use Rattle.cable_world.specs.Turn.{sent_from}
-use Rattle.cable_world.specs.Act.{stepped, step_at, with_step, plug, pull_from, pull, reset, in_set, configure, noted, Acted, act_fault, IsAct, hold, hold_fault}
+use Rattle.cable_world.specs.Act.{stepped, step_at, with_step, plug, pull_from, reset, in_set, configure, Acted, act_fault, IsAct, hold, hold_fault}
 use Rattle.cable_world.specs.Agreement.{out, last_level, shown_by, AtPort, AtEnds, LevelsAgree}
-use Rattle.cable_world.specs.Lawful.{FitsCables, IsWellFormed}
+use Rattle.cable_world.specs.Lawful.{IsWellFormed}
 use Rattle.cable_world.proofs.ByNumber.{sent-at}
 use Rattle.cable_world.proofs.LastHeard.{shows, enter-shows}
 use Rattle.cable_world.proofs.Options.{some-same, none-some}
@@ -38,6 +37,7 @@ use Rattle.cable_world.proofs.ActKept.{has-wire, recabled, others-alone, plug-fo
 
 -- ---- the two ends of a cable
 
+-- what is said of a node and of a port, if they are there
 abbrev of_node : Option PortNode → (PortNode → Option Level) → Option Level
 of_node None f = None
 of_node (Some x) f = f x
@@ -162,7 +162,7 @@ meet-reset w a b f e s =
 
 -- ---- a step that resets the bus
 
--- it leaves alone what these ports show
+-- it tells Reset on each port with a cable and sends it there, and what these ports show it leaves alone
 record Resets (P : ℕ → Type 0) (f : PortNode → NodeStep) : Type 0 where
   tells : (x : PortNode) (k : ℕ) → is_connected (f x).node.state.view.ports k ≡ true → of_port told k (f x).node ≡ Some level.Reset
   sent : (x : PortNode) (k : ℕ) → is_connected (f x).node.state.view.ports k ≡ true → sent_on k (f x).sends ≡ signal.Reset ∷ []
@@ -190,7 +190,7 @@ entering P change h = record {
 abbrev other_than : ℕ → ℕ → Type 0
 other_than port k = k ≢ port
 
--- a port that is changed is the only one
+-- where one port is changed, the others show what they did
 others-show : (port : ℕ) (f : PortView → PortView) (x : NodeState) (k : ℕ) → k ≢ port → shows (with_port port f x) k ≡ shows x k
 others-show port f x k ne =
     ap (option_map (λ (p : PortView). p.shown)) (changed-port port k f x.view.ports)
@@ -389,7 +389,7 @@ pull-levels a (Some b) w at f g h =
 
 -- ---- configuration packets
 
--- a change of some nodes leaves alone what the change does
+-- where a change of a node leaves a level as it was, a change of some nodes does
 in-set-same : (f : PortNode → Option Level) (set : ℕ) (change : PortNode → PortNode) → ((x : PortNode) → f (change x) ≡ f x) → (k : ℕ) (nodes : List PortNode) (j : ℕ) → of_node (slice_get (in_set set change k nodes) j) f ≡ of_node (slice_get nodes j) f
 in-set-same f set change h k [] j = refl
 in-set-same f set change h k (x ∷ nodes) zero = go (bit_at set k == 1)
