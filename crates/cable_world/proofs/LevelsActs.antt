@@ -27,10 +27,11 @@ use Rattle.cable_world.specs.Wire.{Travelling, Wire, empty_wire, newly_sent, wit
 use Rattle.cable_world.specs.World.{CableWorld, wire_of, put}
 use Rattle.cable_world.specs.Turn.{sent_from}
 use Rattle.cable_world.specs.Act.{stepped, step_at, with_step, plug, pull_from, reset, in_set, configure, Acted, act_fault, IsAct, hold, hold_fault}
-use Rattle.cable_world.specs.Agreement.{out, last_level, shown_by, AtPort, AtEnds, LevelsAgree}
+use Rattle.cable_world.specs.Agreement.{out, last_level, AtPort, AtEnds, LevelsAgree}
 use Rattle.cable_world.specs.Lawful.{IsWellFormed}
 use Rattle.cable_world.proofs.ByNumber.{sent-at}
 use Rattle.cable_world.proofs.LastHeard.{shows, enter-shows}
+use Rattle.cable_world.proofs.LevelsKept.{level-sent}
 use Rattle.cable_world.proofs.Options.{some-same, none-some}
 use Rattle.cable_world.proofs.StepKept.{HasEntry, replaced, not-replaced, put-same, put-other, sent-length, step-cables}
 use Rattle.cable_world.proofs.ActKept.{has-wire, recabled, others-alone, plug-formed, pull-formed, reset-formed, configure-formed, has-cable}
@@ -149,16 +150,12 @@ record SaysReset (w : CableWorld) (e : End) : Type 0 where
   before : List Travelling
   signals : (wire_of w e).signals ≡ before ++ newly_sent signal.Reset ∷ []
 
-last-reset : (m : Level) (before : List Travelling) → last_level m (before ++ newly_sent signal.Reset ∷ []) ≡ level.Reset
-last-reset m [] = refl
-last-reset m (t ∷ ts) = last-reset (shown_by t.signal m) ts
-
 meet-reset : (w : CableWorld) (a b : End) → IsWellFormed w → far w.cabling a ≡ Some b → SaysReset w a → MeetAt w a b
 meet-reset w a b f e s =
     let one = some-seen w b (is-plugged w b a f (f.cabling.both_ways a b e)) in
     subst (λ (o : Option Level). Meet o (wire_of w a).signals (at_end seen w b)) (sym s.tells)
     (subst (λ (o : Option Level). Meet (Some level.Reset) (wire_of w a).signals o) (sym one.1)
-    (ap (last_level one.0) s.signals ∙ last-reset one.0 s.before))
+    (ap (last_level one.0) s.signals ∙ level-sent one.0 s.before (signal.Reset ∷ [])))
 
 -- ---- a step that resets the bus
 

@@ -109,7 +109,7 @@ inbox-at w p (suc j) (end ∷ ports) =
 
 -- ---- a wire in a turn
 
-level-sent : (l : Level) (ts : List Travelling) (sent : List Signal) → last_level l (ts ++ map newly_sent sent) ≡ said (last_level l ts) sent
+pub level-sent : (l : Level) (ts : List Travelling) (sent : List Signal) → last_level l (ts ++ map newly_sent sent) ≡ said (last_level l ts) sent
 level-sent l [] [] = refl
 level-sent l [] (s ∷ sent) = level-sent (shown_by s l) [] sent
 level-sent l (t ∷ ts) sent = level-sent (shown_by t.signal l) ts sent

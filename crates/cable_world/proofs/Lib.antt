@@ -9,9 +9,9 @@ mod Shape
 mod TurnKept
 mod LevelsKept
 mod LevelsActs
+mod Formed
 mod StepKept
 mod ActKept
-mod Formed
 mod OneOutcome
 mod TwoNodes
 mod ThreeNodes

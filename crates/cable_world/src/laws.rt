@@ -8,6 +8,7 @@ ghost use Rattle.cable_world.specs.World.{CableWorld, wire_of, IsPowerOn};
 ghost use Rattle.cable_world.specs.Turn.{turn, turn_at, turns_after};
 ghost use Rattle.cable_world.specs.declared.act.Act.{Act};
 ghost use Rattle.cable_world.specs.Act.{Acted, IsAct, act_fault, hold, hold_fault};
+ghost use Rattle.cable_world.specs.Agreement.{LevelsAgree};
 ghost use Rattle.cable_world.specs.Lawful.{IsWellFormed, IsLawful};
 ghost use Rattle.cable_world.specs.Run.{IsReached};
 ghost use Rattle.cable_world.specs.Outcome.{Outcome, IsOutcome};
@@ -52,6 +53,15 @@ pub fn worlds_stay_well_formed()
     ensures hold { (end : End) (turns : ℕ) (w : CableWorld) → hold_fault end w ≡ None → IsWellFormed w → IsWellFormed (hold end turns w) }
     ensures act { (a : Act) (w v : CableWorld) → IsAct a → act_fault a w ≡ None → Acted a w v → IsWellFormed w → IsWellFormed v }
     ensures reached { (w : CableWorld) → IsReached w → IsWellFormed w }
+{}
+
+/// Turns, holds and acts that aren't refused keep that the level which a node last sent over a cable is
+/// under way to the other end, or shown there. So it is so in every world that comes of a power-on world.
+pub fn levels_stay_agreed()
+    ensures turn { (w : CableWorld) → IsWellFormed w → LevelsAgree w → LevelsAgree (turn w) }
+    ensures hold { (end : End) (turns : ℕ) (w : CableWorld) → hold_fault end w ≡ None → IsWellFormed w → LevelsAgree w → LevelsAgree (hold end turns w) }
+    ensures act { (a : Act) (w v : CableWorld) → IsAct a → act_fault a w ≡ None → Acted a w v → IsWellFormed w → LevelsAgree w → LevelsAgree v }
+    ensures reached { (w : CableWorld) → IsReached w → LevelsAgree w }
 {}
 
 /// A component has one outcome at most: one loop, one tree or one contention.
