@@ -29,6 +29,7 @@ use Rattle.port_state.specs.Valid.{HasNoRoles, HasRoles, FitsPhase, IsValid}
 use Rattle.port_state.proofs.Laws.{valid-raised, on_every-port, on_others-port, notices-port, packets-port, map-port, changed-port, sent_on-append}
 use Rattle.port_state.proofs.EachPort.{port_is-changed}
 use Rattle.cable_world.specs.Agreement.{out, shown_by}
+use Rattle.cable_world.specs.Coupling.{leads_down}
 
 -- the level after these signals
 abbrev pub said : Level → List Signal → Level
@@ -40,9 +41,6 @@ said-append l [] ys = refl
 said-append l (x ∷ xs) ys = said-append (shown_by x l) xs ys
 
 -- what the phase and the role tell of a port
-abbrev pub leads_down : List PortView → ℕ → Bool
-leads_down ports k = port_is (λ p. p.child) ports k
-
 abbrev pub tells : NodeState → ℕ → Level
 tells x k = out x.view.phase (leads_down x.view.ports k)
 

@@ -5,6 +5,7 @@ mod AtPowerOn
 mod Kept
 mod LastSent
 mod LastHeard
+mod TurnFacts
 mod Shape
 mod TurnKept
 mod LevelsKept

@@ -5,6 +5,7 @@ pub mod Act
 pub mod Run
 pub mod Outcome
 pub mod Agreement
+pub mod Coupling
 pub mod Fresh
 pub mod Lawful
 pub mod Answer
