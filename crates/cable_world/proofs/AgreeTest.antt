@@ -88,7 +88,7 @@ no-reset : (signals : List Travelling) → HasNoReset signals → has-reset sign
 no-reset [] none = refl
 no-reset (t ∷ signals) none = rw none.0 (no-reset signals none.1)
 
-same-port : (parent : Option ℕ) (port : ℕ) → is_port parent port ≡ true → parent ≡ Some port
+pub same-port : (parent : Option ℕ) (port : ℕ) → is_port parent port ≡ true → parent ≡ Some port
 same-port None port h = absurd (cc)
 same-port (Some p) port h = ap Some (eqb-true p port h)
 

@@ -97,7 +97,7 @@ inbox-before w k p (end ∷ ports) h =
     inbox-parts w k p end ports ∙ (rw (ne_eqb p k (λ e. omega (arith, e, h)), inbox-before w k (p + 1) ports (omega (arith, h))) refl)
 
 -- to each port comes what its far end's wire gives
-inbox-at : (w : CableWorld) (p j : ℕ) (ports : List (Option End)) → sent_on (p + j) (inbox w p ports) ≡ arriving w (slice_index_or ports j None)
+pub inbox-at : (w : CableWorld) (p j : ℕ) (ports : List (Option End)) → sent_on (p + j) (inbox w p ports) ≡ arriving w (slice_index_or ports j None)
 inbox-at w p j [] = refl
 inbox-at w p zero (end ∷ ports) =
     let z : p + 0 ≡ p = omega arith in

@@ -9,6 +9,8 @@ mod TurnFacts
 mod Shape
 mod TurnKept
 mod LevelsKept
+mod TurnParts
+mod RolesKept
 mod LevelsActs
 mod Formed
 mod StepKept

@@ -10,6 +10,7 @@ use Rattle.port_state.specs.Machine.{PortNode}
 use Rattle.cable_world.specs.Wire.{Travelling, empty_wire}
 use Rattle.cable_world.specs.World.{CableWorld, wire_of}
 use Rattle.cable_world.specs.Agreement.{Agrees}
+use Rattle.cable_world.specs.Coupling.{IsCoupled}
 
 -- the ages fall along the list, from this one at most: the oldest signal comes first
 abbrev pub AgesFall : ℕ → List Travelling → Type 0
@@ -40,3 +41,4 @@ pub record IsWellFormed (w : CableWorld) : Type 0 where
 pub record IsLawful (w : CableWorld) : Type 0 where
   pub well_formed : IsWellFormed w
   pub agrees : Agrees w
+  pub coupled : IsCoupled w
