@@ -46,7 +46,7 @@ node-says (s ∷ rest) x k v c =
     ∙ node-says rest first.node k (signal-steady s.0 s.1 x v).valid (signal-cables s.0 s.1 x.state k ∙ c)
 
 -- what it hears on a port brings the level that the port shows to the last one
-cons-sent : (b : Bool) (s : Signal) (rest : List Signal) → (if b then s ∷ rest else rest) ≡ only b s ++ rest
+pub cons-sent : (b : Bool) (s : Signal) (rest : List Signal) → (if b then s ∷ rest else rest) ≡ only b s ++ rest
 cons-sent true s rest = refl
 cons-sent false s rest = refl
 

@@ -6,6 +6,7 @@ mod Kept
 mod LastSent
 mod LastHeard
 mod TurnFacts
+mod HearsWell
 mod Shape
 mod TurnKept
 mod LevelsKept

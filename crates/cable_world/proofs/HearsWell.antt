@@ -1,0 +1,337 @@
+-- What is to be known of a node that hears a list of signals.
+use Rattle.std.proofs.Common.{◌≡◌, ◌⊎◌, inl, inr, ℕ, Bool, true, false, not, ◌&&◌, ◌||◌, ◌==◌, List, [], ◌∷◌, ◌++◌, Option, Some, None, slice_get, refl, sym, ◌∙◌, ap, subst, if◌then◌else◌}
+use Rattle.std.specs.Option.{option_map}
+use Rattle.std.proofs.lemmas.Bool.{and_parts, eqb-true}
+use Rattle.port_state.specs.declared.signal.Level.{Level}
+use Rattle.port_state.specs.declared.signal.Level.TheVariants as level
+use Rattle.port_state.specs.declared.signal.Phase.{Phase}
+use Rattle.port_state.specs.declared.signal.Phase.TheVariants.{ResetStart}
+use Rattle.port_state.specs.declared.signal.Signal.{Signal}
+use Rattle.port_state.specs.declared.signal.Signal.TheVariants as signal
+use Rattle.port_state.specs.declared.ports.PortView.{PortView}
+use Rattle.port_state.specs.declared.states.NodeState.{NodeState}
+use Rattle.port_state.specs.Ports.{passes, is_connected}
+use Rattle.port_state.specs.Sends.{on_every, on_others, sent_on}
+use Rattle.port_state.specs.Step.{Step, quiet}
+use Rattle.port_state.specs.Entry.{enter, with_port}
+use Rattle.port_state.specs.Heard.{is_resetting, hears_packets, with_level, hears, counts, is_heard, on_signal}
+use Rattle.port_state.specs.Laws.{IsSound}
+use Rattle.port_state.specs.Valid.{IsValid}
+use Rattle.port_state.proofs.Laws.{sound-on_signal, signal-cables, on_every-port, on_others-port, sent_on-append}
+use Rattle.port_state.proofs.EachPort.{port_is-changed}
+use Rattle.cable_world.specs.Agreement.{is_reset}
+use Rattle.cable_world.specs.Coupling.{is_waiting, any_reset, no_fall, no_parent, is_fall, is_parent_signal, shown_or_idle, shown_at, leads_down, Watches}
+use Rattle.cable_world.proofs.Options.{some-same}
+use Rattle.cable_world.proofs.LastSent.{said, said-append, only, tells, signal-says}
+use Rattle.cable_world.proofs.LastHeard.{shows, signal-shows}
+use Rattle.cable_world.proofs.LevelsKept.{cons-sent}
+use Rattle.cable_world.proofs.TurnFacts.{hear_all, Heard, Came, HearsWell}
+
+-- ---- tests of what is sent, part by part
+
+pub any_reset-append : (xs ys : List Signal) → any_reset (xs ++ ys) ≡ (any_reset xs || any_reset ys)
+any_reset-append [] ys = refl
+any_reset-append (s ∷ xs) ys = rw (any_reset-append xs ys) (go (is_reset s))
+  where
+    go : (b : Bool) → (b || (any_reset xs || any_reset ys)) ≡ ((b || any_reset xs) || any_reset ys)
+    go true = refl
+    go false = refl
+
+and-and : (a b c : Bool) → (a && (b && c)) ≡ ((a && b) && c)
+and-and true b c = refl
+and-and false b c = refl
+
+pub no_fall-append : (xs ys : List Signal) → no_fall (xs ++ ys) ≡ (no_fall xs && no_fall ys)
+no_fall-append [] ys = refl
+no_fall-append (s ∷ xs) ys = rw (no_fall-append xs ys) (and-and (not (is_fall s)) (no_fall xs) (no_fall ys))
+
+pub no_parent-append : (xs ys : List Signal) → no_parent (xs ++ ys) ≡ (no_parent xs && no_parent ys)
+no_parent-append [] ys = refl
+no_parent-append (s ∷ xs) ys = rw (no_parent-append xs ys) (and-and (not (is_parent_signal s)) (no_parent xs) (no_parent ys))
+
+-- ---- one signal: a Reset begins a reset, or none did
+
+-- none did, and a Reset that came to a port with a cable found the node in R0
+record Passed (port : ℕ) (s : Signal) (x : NodeState) (h : Step) : Type 0 where
+  heard : Heard x h
+  unless : is_connected x.view.ports port ≡ true → is_reset s ≡ true → is_resetting x.view.phase ≡ true
+
+abbrev Fate : ℕ → Signal → NodeState → Step → Type 0
+Fate port s x h = Passed port s x h ⊎ Came x h
+
+quiet-heard : (x : NodeState) → Heard x (quiet x)
+quiet-heard x = record { phase = refl; timer = refl; wait = refl; parent = refl; child = λ k. refl; sends = λ h. refl; calm = λ k. refl }
+
+-- a port changes, and its role doesn't
+port-heard : (n : ℕ) (f : PortView → PortView) → ((p : PortView) → (f p).child ≡ p.child) → (x : NodeState) → Heard x (quiet (with_port n f x))
+port-heard n f h x = record {
+  phase = refl;
+  timer = refl;
+  wait = refl;
+  parent = refl;
+  child = λ k. port_is-changed (λ p. p.child) n f h x.view.ports k;
+  sends = λ h. refl;
+  calm = λ k. refl;
+}
+
+level-heard : (n : ℕ) (l : Level) (x : NodeState) → Heard x (quiet (with_level n l x))
+level-heard n l x = port-heard n (λ p. record p { shown = l }) (λ p. refl) x
+
+packet-heard : (n quad : ℕ) (x : NodeState) → hears_packets x.view.phase ≡ true → Heard x (hears n (signal.Packet quad) x)
+packet-heard n quad x e = record {
+  phase = refl;
+  timer = refl;
+  wait = refl;
+  parent = refl;
+  child = λ k. refl;
+  sends = λ h. absurd cc;
+  calm = λ k. ap any_reset (on_others-port k n (signal.Packet quad) x.view.ports) ∙ go (not (k == n) && is_connected x.view.ports k);
+}
+  where
+    go : (b : Bool) → any_reset (only b (signal.Packet quad)) ≡ false
+    go true = refl
+    go false = refl
+
+reset-fate : (n : ℕ) (x : NodeState) (b : Bool) → is_resetting x.view.phase ≡ b → Fate n signal.Reset x (if b then quiet (with_level n level.Reset x) else enter false (with_level n level.Reset x))
+unfolding enter
+reset-fate n x true e = inl (record { heard = level-heard n level.Reset x; unless = λ c r. e })
+reset-fate n x false e = inr (record { before = e; phase = refl; timer = refl })
+
+hears-fate : (n : ℕ) (s : Signal) (x : NodeState) → is_heard n s x ≡ true → Fate n s x (hears n s x)
+hears-fate n signal.Reset x e = reset-fate n x (is_resetting x.view.phase) refl
+hears-fate n signal.Idle x e = inl (record { heard = level-heard n level.Idle x; unless = λ c r. absurd cc })
+hears-fate n signal.Parent x e = inl (record { heard = level-heard n level.Parent x; unless = λ c r. absurd cc })
+hears-fate n signal.Child x e = inl (record { heard = level-heard n level.Child x; unless = λ c r. absurd cc })
+hears-fate n signal.Grant x e =
+    inl (record {
+      heard = record { phase = refl; timer = refl; wait = refl; parent = refl; child = λ k. refl; sends = λ h. refl; calm = λ k. refl };
+      unless = λ c r. absurd cc;
+    })
+hears-fate n (signal.Packet quad) x e =
+    let both = and_parts (is_connected x.view.ports n) (hears_packets x.view.phase) e in
+    inl (record { heard = packet-heard n quad x both.1; unless = λ c r. absurd cc })
+hears-fate n signal.Done x e = inl (record { heard = port-heard n (λ p. record p { named = true }) (λ p. refl) x; unless = λ c r. absurd cc })
+
+-- a Reset at a port with a cable is heard
+reset-counts : (n : ℕ) (s : Signal) (x : NodeState) (b : Bool) → (b && counts n s x) ≡ false → b ≡ true → is_reset s ≡ true → ⊥
+reset-counts n signal.Reset x true h c r = cc
+reset-counts n signal.Reset x false h c r = cc
+reset-counts n signal.Idle x b h c r = cc
+reset-counts n signal.Parent x b h c r = cc
+reset-counts n signal.Child x b h c r = cc
+reset-counts n signal.Grant x b h c r = cc
+reset-counts n (signal.Packet quad) x b h c r = cc
+reset-counts n signal.Done x b h c r = cc
+
+signal-fate : (n : ℕ) (s : Signal) (x : NodeState) → Fate n s x (on_signal n s x)
+unfolding on_signal
+signal-fate n s x = go (is_heard n s x) refl
+  where
+    go : (b : Bool) → is_heard n s x ≡ b → Fate n s x (if b then hears n s x else quiet x)
+    go true e = hears-fate n s x e
+    go false e = inl (record { heard = quiet-heard x; unless = λ c r. absurd (reset-counts n s x (is_connected x.view.ports n) e c r) })
+
+-- ---- many signals
+
+heard-then : (x : NodeState) (first second : Step) → Heard x first → Heard first.state second → Heard x (record { state = second.state; sends = first.sends ++ second.sends })
+heard-then x first second f g = record {
+  phase = g.phase ∙ f.phase;
+  timer = g.timer ∙ f.timer;
+  wait = g.wait ∙ f.wait;
+  parent = g.parent ∙ f.parent;
+  child = λ k. g.child k ∙ f.child k;
+  sends = λ h. rw (f.sends h) (g.sends (ap hears_packets f.phase ∙ h));
+  calm = λ k.
+      ap any_reset (sent_on-append k first.sends second.sends)
+      ∙ any_reset-append (sent_on k first.sends) (sent_on k second.sends)
+      ∙ (rw (f.calm k) (g.calm k));
+}
+
+hear-cases : (signals : List (ℕ × Signal)) (x : NodeState) → Heard x (hear_all signals x) ⊎ Came x (hear_all signals x)
+hear-cases [] x = inl (quiet-heard x)
+hear-cases (s ∷ rest) x = go (signal-fate s.0 s.1 x) (hear-cases rest first.state)
+  where
+    first : Step
+    first = on_signal s.0 s.1 x
+
+    go : Fate s.0 s.1 x first → Heard first.state (hear_all rest first.state) ⊎ Came first.state (hear_all rest first.state) → Heard x (hear_all (s ∷ rest) x) ⊎ Came x (hear_all (s ∷ rest) x)
+    go (inl f) (inl g) = inl (heard-then x first (hear_all rest first.state) f.heard g)
+    go (inl f) (inr g) = inr (record { before = sym (ap is_resetting f.heard.phase) ∙ g.before; phase = g.phase; timer = g.timer })
+    go (inr f) (inl g) = inr (record { before = f.before; phase = g.phase ∙ f.phase; timer = g.timer ∙ f.timer })
+    go (inr f) (inr g) = let both : true ≡ false = sym (ap is_resetting f.phase) ∙ g.before in absurd cc
+
+-- ---- R0
+
+-- a node in R0 stays there
+hear-stays : (signals : List (ℕ × Signal)) (x : NodeState) → is_resetting x.view.phase ≡ true → is_resetting (hear_all signals x).state.view.phase ≡ true
+hear-stays signals x e = go (hear-cases signals x)
+  where
+    go : Heard x (hear_all signals x) ⊎ Came x (hear_all signals x) → is_resetting (hear_all signals x).state.view.phase ≡ true
+    go (inl f) = ap is_resetting f.phase ∙ e
+    go (inr f) = ap is_resetting f.phase
+
+signal-enters : (n : ℕ) (s : Signal) (x : NodeState) → is_connected x.view.ports n ≡ true → is_reset s ≡ true → is_resetting (on_signal n s x).state.view.phase ≡ true
+signal-enters n s x c r = go (signal-fate n s x)
+  where
+    go : Fate n s x (on_signal n s x) → is_resetting (on_signal n s x).state.view.phase ≡ true
+    go (inl f) = ap is_resetting f.heard.phase ∙ f.unless c r
+    go (inr f) = ap is_resetting f.phase
+
+hear-enters : (signals : List (ℕ × Signal)) (x : NodeState) (k : ℕ) → is_connected x.view.ports k ≡ true → any_reset (sent_on k signals) ≡ true → is_resetting (hear_all signals x).state.view.phase ≡ true
+hear-enters [] x k c h = absurd cc
+hear-enters (s ∷ rest) x k c h = go (hear-enters rest y k (signal-cables s.0 s.1 x k ∙ c)) (s.0 == k) refl (is_reset s.1) refl h
+  where
+    y : NodeState
+    y = (on_signal s.0 s.1 x).state
+
+    go : (any_reset (sent_on k rest) ≡ true → is_resetting (hear_all rest y).state.view.phase ≡ true) → (b : Bool) → (s.0 == k) ≡ b → (r : Bool) → is_reset s.1 ≡ r → any_reset (if b then s.1 ∷ sent_on k rest else sent_on k rest) ≡ true → is_resetting (hear_all rest y).state.view.phase ≡ true
+    go later true at true r h =
+        let on : is_connected x.view.ports s.0 ≡ true = subst (λ m. is_connected x.view.ports m ≡ true) (sym (eqb-true s.0 k at)) c in
+        hear-stays rest y (signal-enters s.0 s.1 x on r)
+    go later true at false r h = later (let same : any_reset (s.1 ∷ sent_on k rest) ≡ any_reset (sent_on k rest) = rw r refl in sym same ∙ h)
+    go later false at r e h = later h
+
+-- ---- what the ports show
+
+-- the level of a port with a cable, from the level of the port, if it is there
+level-of : (f : Level → Level) (x y : NodeState) (k : ℕ) → is_connected x.view.ports k ≡ true → shows y k ≡ option_map f (shows x k) → shown_at y k ≡ f (shown_at x k)
+level-of f x y k c e = go (slice_get x.view.ports k) (slice_get y.view.ports k) c e
+  where
+    go : (o r : Option PortView) → passes (λ p. p.connected) o ≡ true → option_map (λ (p : PortView). p.shown) r ≡ option_map f (option_map (λ (p : PortView). p.shown) o) → shown_or_idle r ≡ f (shown_or_idle o)
+    go None r c e = absurd cc
+    go (Some p) None c e = absurd cc
+    go (Some p) (Some q) c e = some-same q.shown (f p.shown) e
+
+signal-shown : (n : ℕ) (s : Signal) (x : NodeState) (k : ℕ) → is_connected x.view.ports k ≡ true → shown_at (on_signal n s x).state k ≡ said (shown_at x k) (only (n == k) s)
+signal-shown n s x k c = level-of (λ l. said l (only (n == k) s)) x (on_signal n s x).state k c (signal-shows n s x k c)
+
+hear-shown : (signals : List (ℕ × Signal)) (x : NodeState) (k : ℕ) → is_connected x.view.ports k ≡ true → shown_at (hear_all signals x).state k ≡ said (shown_at x k) (sent_on k signals)
+hear-shown [] x k c = refl
+hear-shown (s ∷ rest) x k c =
+    hear-shown rest (on_signal s.0 s.1 x).state k (signal-cables s.0 s.1 x k ∙ c)
+    ∙ ap (λ l. said l (sent_on k rest)) (signal-shown s.0 s.1 x k c)
+    ∙ sym (said-append (shown_at x k) (only (s.0 == k) s.1) (sent_on k rest))
+    ∙ sym (ap (said (shown_at x k)) (cons-sent (s.0 == k) s.1 (sent_on k rest)))
+
+-- a port shows Reset because it did, or because a Reset came
+shown-reset : (l : Level) (b : Bool) (s : Signal) → said l (only b s) ≡ level.Reset → (l ≡ level.Reset) ⊎ ((b ≡ true) × (is_reset s ≡ true))
+shown-reset l false s h = inl h
+shown-reset l true signal.Reset h = inr (refl, refl)
+shown-reset l true signal.Idle h = absurd cc
+shown-reset l true signal.Parent h = absurd cc
+shown-reset l true signal.Child h = absurd cc
+shown-reset l true signal.Grant h = inl h
+shown-reset l true (signal.Packet quad) h = inl h
+shown-reset l true signal.Done h = inl h
+
+-- R0 is one of the two phases in which a port may show Reset
+waits-too : (phase : Phase) → is_resetting phase ≡ true → is_waiting phase ≡ true
+waits-too ResetStart h = refl
+waits-too phase h = absurd cc
+
+signal-watches : (n : ℕ) (s : Signal) (x : NodeState) → Watches x → Watches (on_signal n s x).state
+signal-watches n s x w k c e = go (signal-fate n s x) (shown-reset (shown_at x k) (n == k) s (sym (signal-shown n s x k on) ∙ e))
+  where
+    on : is_connected x.view.ports k ≡ true
+    on = sym (signal-cables n s x k) ∙ c
+
+    go : Fate n s x (on_signal n s x) → (shown_at x k ≡ level.Reset) ⊎ (((n == k) ≡ true) × (is_reset s ≡ true)) → is_waiting (on_signal n s x).state.view.phase ≡ true
+    go (inr f) h = ap is_waiting f.phase
+    go (inl f) (inl h) = ap is_waiting f.heard.phase ∙ w k on h
+    go (inl f) (inr h) =
+        let there : is_connected x.view.ports n ≡ true = subst (λ m. is_connected x.view.ports m ≡ true) (sym (eqb-true n k h.0)) on in
+        waits-too (on_signal n s x).state.view.phase (signal-enters n s x there h.1)
+
+hear-watches : (signals : List (ℕ × Signal)) (x : NodeState) → Watches x → Watches (hear_all signals x).state
+hear-watches [] x w = w
+hear-watches (s ∷ rest) x w = hear-watches rest (on_signal s.0 s.1 x).state (signal-watches s.0 s.1 x w)
+
+-- ---- what is sent
+
+-- on a port, with one signal: nothing, Reset or a packet
+sends-one : (P : List Signal → Type 0) → P [] → P (signal.Reset ∷ []) → ((quad : ℕ) → P (signal.Packet quad ∷ [])) → (n : ℕ) (s : Signal) (x : NodeState) (k : ℕ) → P (sent_on k (on_signal n s x).sends)
+unfolding on_signal enter
+sends-one P none reset packet n s x k = signalled (is_heard n s x)
+  where
+    chosen : (s : Signal) → P (s ∷ []) → (b : Bool) → P (only b s)
+    chosen s h true = h
+    chosen s h false = none
+
+    entering : (b : Bool) → P (sent_on k (if b then quiet (with_level n level.Reset x) else enter false (with_level n level.Reset x)).sends)
+    entering true = none
+    entering false =
+        let y : NodeState = with_level n level.Reset x in
+        subst P (sym (on_every-port k signal.Reset y.view.ports)) (chosen signal.Reset reset (is_connected y.view.ports k))
+
+    hearing : (s : Signal) → P (sent_on k (hears n s x).sends)
+    hearing signal.Reset = entering (is_resetting x.view.phase)
+    hearing signal.Idle = none
+    hearing signal.Parent = none
+    hearing signal.Child = none
+    hearing signal.Grant = none
+    hearing (signal.Packet quad) = subst P (sym (on_others-port k n (signal.Packet quad) x.view.ports)) (chosen (signal.Packet quad) (packet quad) (not (k == n) && is_connected x.view.ports k))
+    hearing signal.Done = none
+
+    signalled : (b : Bool) → P (sent_on k (if b then hears n s x else quiet x).sends)
+    signalled true = hearing s
+    signalled false = none
+
+hear-keeps : (signals : List (ℕ × Signal)) (x : NodeState) (k : ℕ) → no_fall (sent_on k (hear_all signals x).sends) ≡ true
+hear-keeps [] x k = refl
+hear-keeps (s ∷ rest) x k =
+    let first : Step = on_signal s.0 s.1 x in
+    let later : Step = hear_all rest first.state in
+    let now : no_fall (sent_on k first.sends) ≡ true = sends-one (λ l. no_fall l ≡ true) refl refl (λ quad. refl) s.0 s.1 x k in
+    ap no_fall (sent_on-append k first.sends later.sends)
+    ∙ no_fall-append (sent_on k first.sends) (sent_on k later.sends)
+    ∙ (rw now (hear-keeps rest first.state k))
+
+hear-asks : (signals : List (ℕ × Signal)) (x : NodeState) (k : ℕ) → no_parent (sent_on k (hear_all signals x).sends) ≡ true
+hear-asks [] x k = refl
+hear-asks (s ∷ rest) x k =
+    let first : Step = on_signal s.0 s.1 x in
+    let later : Step = hear_all rest first.state in
+    let now : no_parent (sent_on k first.sends) ≡ true = sends-one (λ l. no_parent l ≡ true) refl refl (λ quad. refl) s.0 s.1 x k in
+    ap no_parent (sent_on-append k first.sends later.sends)
+    ∙ no_parent-append (sent_on k first.sends) (sent_on k later.sends)
+    ∙ (rw now (hear-asks rest first.state k))
+
+hear-says : (signals : List (ℕ × Signal)) (x : NodeState) (k : ℕ) → is_connected x.view.ports k ≡ true → said (tells x k) (sent_on k (hear_all signals x).sends) ≡ tells (hear_all signals x).state k
+hear-says [] x k c = refl
+hear-says (s ∷ rest) x k c =
+    let first : Step = on_signal s.0 s.1 x in
+    let later : Step = hear_all rest first.state in
+    ap (said (tells x k)) (sent_on-append k first.sends later.sends)
+    ∙ said-append (tells x k) (sent_on k first.sends) (sent_on k later.sends)
+    ∙ ap (λ l. said l (sent_on k later.sends)) (signal-says s.0 s.1 x k c)
+    ∙ hear-says rest first.state k (signal-cables s.0 s.1 x k ∙ c)
+
+-- ---- what a node is made of
+
+hear-valid : (signals : List (ℕ × Signal)) (x : NodeState) → IsValid x → IsValid (hear_all signals x).state
+hear-valid [] x v = v
+hear-valid (s ∷ rest) x v = hear-valid rest (on_signal s.0 s.1 x).state (sound-on_signal s.0 s.1 x v).valid
+
+hear-timing : (signals : List (ℕ × Signal)) (x : NodeState) → IsValid x → (hear_all signals x).state.timing ≡ x.timing
+hear-timing [] x v = refl
+hear-timing (s ∷ rest) x v =
+    let sound : IsSound x (on_signal s.0 s.1 x) = sound-on_signal s.0 s.1 x v in
+    hear-timing rest (on_signal s.0 s.1 x).state sound.valid ∙ sound.timing
+
+hear-cables : (signals : List (ℕ × Signal)) (x : NodeState) (k : ℕ) → is_connected (hear_all signals x).state.view.ports k ≡ is_connected x.view.ports k
+hear-cables [] x k = refl
+hear-cables (s ∷ rest) x k = hear-cables rest (on_signal s.0 s.1 x).state k ∙ signal-cables s.0 s.1 x k
+
+pub hears-well : (signals : List (ℕ × Signal)) (x : NodeState) → IsValid x → HearsWell signals x
+hears-well signals x v = record {
+  valid = hear-valid signals x v;
+  timing = hear-timing signals x v;
+  cables = hear-cables signals x;
+  cases = hear-cases signals x;
+  enters = hear-enters signals x;
+  shown = hear-shown signals x;
+  says = hear-says signals x;
+  watches = hear-watches signals x;
+  takes_none_back = hear-keeps signals x;
+  asks_none = hear-asks signals x;
+}
