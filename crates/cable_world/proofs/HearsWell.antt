@@ -11,7 +11,7 @@ use Rattle.port_state.specs.declared.signal.Signal.TheVariants as signal
 use Rattle.port_state.specs.declared.ports.PortView.{PortView}
 use Rattle.port_state.specs.declared.states.NodeState.{NodeState}
 use Rattle.port_state.specs.Ports.{passes, is_connected}
-use Rattle.port_state.specs.Sends.{on_every, on_others, sent_on}
+use Rattle.port_state.specs.Sends.{sent_on}
 use Rattle.port_state.specs.Step.{Step, quiet}
 use Rattle.port_state.specs.Entry.{enter, with_port}
 use Rattle.port_state.specs.Heard.{is_resetting, hears_packets, with_level, hears, counts, is_heard, on_signal}
@@ -59,20 +59,13 @@ record Passed (port : ℕ) (s : Signal) (x : NodeState) (h : Step) : Type 0 wher
 abbrev Fate : ℕ → Signal → NodeState → Step → Type 0
 Fate port s x h = Passed port s x h ⊎ Came x h
 
-quiet-heard : (x : NodeState) → Heard x (quiet x)
-quiet-heard x = record { phase = refl; timer = refl; wait = refl; parent = refl; child = λ k. refl; sends = λ h. refl; calm = λ k. refl }
+-- nothing is sent, and phase, timers, parent port and child ports stay
+still-heard : (x y : NodeState) → y.view.phase ≡ x.view.phase → y.view.timer ≡ x.view.timer → y.view.wait ≡ x.view.wait → y.view.parent ≡ x.view.parent → ((k : ℕ) → leads_down y.view.ports k ≡ leads_down x.view.ports k) → Heard x (quiet y)
+still-heard x y ph t w p c = record { phase = ph; timer = t; wait = w; parent = p; child = c; sends = λ h. refl; calm = λ k. refl }
 
 -- a port changes, and its role doesn't
 port-heard : (n : ℕ) (f : PortView → PortView) → ((p : PortView) → (f p).child ≡ p.child) → (x : NodeState) → Heard x (quiet (with_port n f x))
-port-heard n f h x = record {
-  phase = refl;
-  timer = refl;
-  wait = refl;
-  parent = refl;
-  child = λ k. port_is-changed (λ p. p.child) n f h x.view.ports k;
-  sends = λ h. refl;
-  calm = λ k. refl;
-}
+port-heard n f h x = still-heard x (with_port n f x) refl refl refl refl (port_is-changed (λ p. p.child) n f h x.view.ports)
 
 level-heard : (n : ℕ) (l : Level) (x : NodeState) → Heard x (quiet (with_level n l x))
 level-heard n l x = port-heard n (λ p. record p { shown = l }) (λ p. refl) x
@@ -102,11 +95,7 @@ hears-fate n signal.Reset x e = reset-fate n x (is_resetting x.view.phase) refl
 hears-fate n signal.Idle x e = inl (record { heard = level-heard n level.Idle x; unless = λ c r. absurd cc })
 hears-fate n signal.Parent x e = inl (record { heard = level-heard n level.Parent x; unless = λ c r. absurd cc })
 hears-fate n signal.Child x e = inl (record { heard = level-heard n level.Child x; unless = λ c r. absurd cc })
-hears-fate n signal.Grant x e =
-    inl (record {
-      heard = record { phase = refl; timer = refl; wait = refl; parent = refl; child = λ k. refl; sends = λ h. refl; calm = λ k. refl };
-      unless = λ c r. absurd cc;
-    })
+hears-fate n signal.Grant x e = inl (record { heard = still-heard x _ refl refl refl refl (λ k. refl); unless = λ c r. absurd cc })
 hears-fate n (signal.Packet quad) x e =
     let both = and_parts (is_connected x.view.ports n) (hears_packets x.view.phase) e in
     inl (record { heard = packet-heard n quad x both.1; unless = λ c r. absurd cc })
@@ -129,7 +118,7 @@ signal-fate n s x = go (is_heard n s x) refl
   where
     go : (b : Bool) → is_heard n s x ≡ b → Fate n s x (if b then hears n s x else quiet x)
     go true e = hears-fate n s x e
-    go false e = inl (record { heard = quiet-heard x; unless = λ c r. absurd (reset-counts n s x (is_connected x.view.ports n) e c r) })
+    go false e = inl (record { heard = still-heard x x refl refl refl refl (λ k. refl); unless = λ c r. absurd (reset-counts n s x (is_connected x.view.ports n) e c r) })
 
 -- ---- many signals
 
@@ -148,7 +137,7 @@ heard-then x first second f g = record {
 }
 
 hear-cases : (signals : List (ℕ × Signal)) (x : NodeState) → Heard x (hear_all signals x) ⊎ Came x (hear_all signals x)
-hear-cases [] x = inl (quiet-heard x)
+hear-cases [] x = inl (still-heard x x refl refl refl refl (λ k. refl))
 hear-cases (s ∷ rest) x = go (signal-fate s.0 s.1 x) (hear-cases rest first.state)
   where
     first : Step
@@ -276,25 +265,25 @@ sends-one P none reset packet n s x k = signalled (is_heard n s x)
     signalled true = hearing s
     signalled false = none
 
-hear-keeps : (signals : List (ℕ × Signal)) (x : NodeState) (k : ℕ) → no_fall (sent_on k (hear_all signals x).sends) ≡ true
-hear-keeps [] x k = refl
-hear-keeps (s ∷ rest) x k =
+hear-takes_none_back : (signals : List (ℕ × Signal)) (x : NodeState) (k : ℕ) → no_fall (sent_on k (hear_all signals x).sends) ≡ true
+hear-takes_none_back [] x k = refl
+hear-takes_none_back (s ∷ rest) x k =
     let first : Step = on_signal s.0 s.1 x in
     let later : Step = hear_all rest first.state in
     let now : no_fall (sent_on k first.sends) ≡ true = sends-one (λ l. no_fall l ≡ true) refl refl (λ quad. refl) s.0 s.1 x k in
     ap no_fall (sent_on-append k first.sends later.sends)
     ∙ no_fall-append (sent_on k first.sends) (sent_on k later.sends)
-    ∙ (rw now (hear-keeps rest first.state k))
+    ∙ (rw now (hear-takes_none_back rest first.state k))
 
-hear-asks : (signals : List (ℕ × Signal)) (x : NodeState) (k : ℕ) → no_parent (sent_on k (hear_all signals x).sends) ≡ true
-hear-asks [] x k = refl
-hear-asks (s ∷ rest) x k =
+hear-asks_none : (signals : List (ℕ × Signal)) (x : NodeState) (k : ℕ) → no_parent (sent_on k (hear_all signals x).sends) ≡ true
+hear-asks_none [] x k = refl
+hear-asks_none (s ∷ rest) x k =
     let first : Step = on_signal s.0 s.1 x in
     let later : Step = hear_all rest first.state in
     let now : no_parent (sent_on k first.sends) ≡ true = sends-one (λ l. no_parent l ≡ true) refl refl (λ quad. refl) s.0 s.1 x k in
     ap no_parent (sent_on-append k first.sends later.sends)
     ∙ no_parent-append (sent_on k first.sends) (sent_on k later.sends)
-    ∙ (rw now (hear-asks rest first.state k))
+    ∙ (rw now (hear-asks_none rest first.state k))
 
 hear-says : (signals : List (ℕ × Signal)) (x : NodeState) (k : ℕ) → is_connected x.view.ports k ≡ true → said (tells x k) (sent_on k (hear_all signals x).sends) ≡ tells (hear_all signals x).state k
 hear-says [] x k c = refl
@@ -332,6 +321,6 @@ hears-well signals x v = record {
   shown = hear-shown signals x;
   says = hear-says signals x;
   watches = hear-watches signals x;
-  takes_none_back = hear-keeps signals x;
-  asks_none = hear-asks signals x;
+  takes_none_back = hear-takes_none_back signals x;
+  asks_none = hear-asks_none signals x;
 }
