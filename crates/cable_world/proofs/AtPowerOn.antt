@@ -1,4 +1,4 @@
--- The power-on world is lawful.
+-- The power-on world is well formed, and as no cable is there its wires agree.
 use Rattle.std.proofs.Common.{◌≡◌, ℕ, zero, suc, ◌-◌, ◌<◌, ◌≤◌, false, List, [], ◌∷◌, map, replicate, Option, Some, None, length, is_some, slice_get, slice_index_or, refl, subst, sym, ◌∙◌, ap, arith}
 use Rattle.std.proofs.lemmas.List.{length-map, length-replicate}
 use Rattle.cabling.specs.declared.cable.End.{End}
@@ -11,7 +11,8 @@ use Rattle.port_state.specs.Machine.{PortNode}
 use Rattle.cable_world.proofs.Options.{none-some, some-same}
 use Rattle.cable_world.specs.Wire.{Wire, empty_wire}
 use Rattle.cable_world.specs.World.{CableWorld, wire_of, without_turns, no_wires, IsPoweredOn, IsPowerOn}
-use Rattle.cable_world.specs.Lawful.{AgesFall, FitsCables, IsLawful}
+use Rattle.cable_world.specs.Agreement.{Agrees}
+use Rattle.cable_world.specs.Lawful.{AgesFall, FitsCables, IsWellFormed}
 
 -- a list of one value has it everywhere
 same-everywhere : {A : Type 0} → (n j : ℕ) (d : A) → slice_index_or (replicate n d) j d ≡ d
@@ -93,30 +94,36 @@ fits d nodes h k x e =
       connected = λ p. ap (λ v. is_connected v p) views ∙ not-connected x.state.ports p ∙ sym (ap is_some (no-far (map ports nodes) k p));
     }
 
-lawful : (d : ℕ) (nodes : List PortNode) → 1 ≤ d → d ≤ 16 → length nodes ≤ 63 → Powered d nodes → IsLawful (without_turns d nodes)
-lawful d nodes one sixteen few h =
+-- no cable is there
+apart : (d : ℕ) (nodes : List PortNode) (a : End) → far (without_turns d nodes).cabling a ≡ None
+apart d nodes a = no-far (map ports nodes) a.node a.port
+
+formed : (d : ℕ) (nodes : List PortNode) → 1 ≤ d → d ≤ 16 → length nodes ≤ 63 → Powered d nodes → IsWellFormed (without_turns d nodes)
+formed d nodes one sixteen few h =
     let w = without_turns d nodes in
-    let c = map free (map ports nodes) in
-    let size : length c ≡ length nodes = length-map (map ports nodes) free ∙ length-map nodes ports in
+    let size : length w.cabling ≡ length nodes = length-map (map ports nodes) free ∙ length-map nodes ports in
     let calm : (a : End) → wire_of w a ≡ empty_wire = λ a. no-signal nodes a.node a.port in
-    let apart : (a : End) → far c a ≡ None = λ a. no-far (map ports nodes) a.node a.port in
     record {
-      well_formed = record {
-        some_delay = one;
-        short_delay = sixteen;
-        cabling = is-cabling d nodes few h;
-        count = sym size;
-        wire_rows = length-map nodes no_wires ∙ sym size;
-        changes = length-replicate (length nodes) 0 ∙ sym size;
-        nodes = fits d nodes h;
-        ages = λ a. subst (λ (v : Wire). AgesFall (d - 1) v.signals) (sym (calm a)) tt;
-        unplugged = λ a e. calm a;
-      };
-      agrees = record {
-        levels = λ a b e. absurd (none-some (far c a) b (apart a) e);
-        roles = λ a b e r. absurd (none-some (far c a) b (apart a) e);
-      };
+      some_delay = one;
+      short_delay = sixteen;
+      cabling = is-cabling d nodes few h;
+      count = sym size;
+      wire_rows = length-map nodes no_wires ∙ sym size;
+      changes = length-replicate (length nodes) 0 ∙ sym size;
+      nodes = fits d nodes h;
+      ages = λ a. subst (λ (v : Wire). AgesFall (d - 1) v.signals) (sym (calm a)) tt;
+      unplugged = λ a e. calm a;
     }
 
-pub power-on-lawful : (w : CableWorld) → IsPowerOn w → IsLawful w
-power-on-lawful w h = subst IsLawful (sym h.is) (lawful w.delay w.nodes h.some_delay h.short_delay h.few_nodes h.nodes)
+pub power-on-formed : (w : CableWorld) → IsPowerOn w → IsWellFormed w
+power-on-formed w h = subst IsWellFormed (sym h.is) (formed w.delay w.nodes h.some_delay h.short_delay h.few_nodes h.nodes)
+
+-- a fact of each cable is so, since there is none
+pub power-on-apart : (w : CableWorld) → IsPowerOn w → (a : End) → far w.cabling a ≡ None
+power-on-apart w h a = ap (λ (v : CableWorld). far v.cabling a) h.is ∙ apart w.delay w.nodes a
+
+pub power-on-agrees : (w : CableWorld) → IsPowerOn w → Agrees w
+power-on-agrees w h = record {
+  levels = λ a b e. absurd (none-some (far w.cabling a) b (power-on-apart w h a) e);
+  roles = λ a b e r. absurd (none-some (far w.cabling a) b (power-on-apart w h a) e);
+}
