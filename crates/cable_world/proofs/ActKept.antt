@@ -151,7 +151,7 @@ pub data Was (change : PortNode → PortNode) (nodes : List PortNode) (j : ℕ) 
   as_before : slice_get nodes j ≡ Some y → Was change nodes j y
   altered : (x : PortNode) → slice_get nodes j ≡ Some x → change x ≡ y → Was change nodes j y
 
-was : (set : ℕ) (change : PortNode → PortNode) (k : ℕ) (nodes : List PortNode) (j : ℕ) (y : PortNode) → slice_get (in_set set change k nodes) j ≡ Some y → Was change nodes j y
+pub was : (set : ℕ) (change : PortNode → PortNode) (k : ℕ) (nodes : List PortNode) (j : ℕ) (y : PortNode) → slice_get (in_set set change k nodes) j ≡ Some y → Was change nodes j y
 was set change k [] j y e = absurd (none-some None y refl e)
 was set change k (x ∷ nodes) zero y e = go (bit_at set k == 1) e
   where
@@ -163,11 +163,11 @@ was set change k (x ∷ nodes) (suc j) y e = elim (was set change (k + 1) nodes 
   | altered z at is ↦ altered z at is
 ]
 
-pub configure-formed : (set from root_id : ℕ) (force : Bool) (gap : Option ℕ) (w : CableWorld) → ForSome gap (λ g. g ≤ 63) → IsWellFormed w → IsWellFormed (configure set from root_id force gap w)
-configure-formed set from root_id force gap w bits h =
+pub told-formed : (set root_id : ℕ) (force : Bool) (gap : Option ℕ) (w : CableWorld) → ForSome gap (λ g. g ≤ 63) → IsWellFormed w → IsWellFormed (record w { nodes = in_set set (set_config root_id force gap) 0 w.nodes })
+told-formed set root_id force gap w bits h =
     let change : PortNode → PortNode = set_config root_id force gap in
     let v : CableWorld = record w { nodes = in_set set change 0 w.nodes } in
-    reset-formed from v (record {
+    record {
       some_delay = h.some_delay;
       short_delay = h.short_delay;
       cabling = h.cabling;
@@ -189,7 +189,11 @@ configure-formed set from root_id force gap w bits h =
       ];
       ages = h.ages;
       unplugged = h.unplugged;
-    })
+    }
+
+pub configure-formed : (set from root_id : ℕ) (force : Bool) (gap : Option ℕ) (w : CableWorld) → ForSome gap (λ g. g ≤ 63) → IsWellFormed w → IsWellFormed (configure set from root_id force gap w)
+configure-formed set from root_id force gap w bits h =
+    reset-formed from (record w { nodes = in_set set (set_config root_id force gap) 0 w.nodes }) (told-formed set root_id force gap w bits h)
 
 -- ---- every act
 

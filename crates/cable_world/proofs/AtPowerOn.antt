@@ -27,7 +27,7 @@ abbrev free : ℕ → List (Option End)
 free n = replicate n None
 
 -- no port has a cable, and no wire has a signal
-no-far : (counts : List ℕ) (k p : ℕ) → slice_index_or (slice_index_or (map free counts) k []) p None ≡ None
+pub no-far : (counts : List ℕ) (k p : ℕ) → slice_index_or (slice_index_or (map free counts) k []) p None ≡ None
 no-far [] k p = refl
 no-far (n ∷ counts) zero p = same-everywhere n p None
 no-far (n ∷ counts) (suc k) p = no-far counts k p

@@ -68,7 +68,7 @@ child-if parent ports k h c = go (slice_get ports k) refl
         rw e (role-bit p.child (is_port parent k) one)
 
 -- before the tree is known no port does
-no-child : (parent : Option ℕ) (ports : List PortView) (k : ℕ) → HasNoRoles parent ports → leads_down ports k ≡ false
+pub no-child : (parent : Option ℕ) (ports : List PortView) (k : ℕ) → HasNoRoles parent ports → leads_down ports k ≡ false
 no-child parent ports k h = go (slice_get ports k) refl
   where
     go : (o : Option PortView) → slice_get ports k ≡ o → passes (λ p. p.child) (slice_get ports k) ≡ false

@@ -7,12 +7,13 @@ use Rattle.std.proofs.lemmas.Bool.{cases_eq, ne_eqb}
 use Rattle.std.proofs.lemmas.List.{get_or-set_same, get_or-set_other}
 use Rattle.std.proofs.lemmas.Option.{slice_get_cases, slice_get_within}
 use Rattle.cabling.specs.declared.cable.End.{End}
-use Rattle.cabling.specs.Wiring.{Wiring, HasEnd, far}
+use Rattle.cabling.specs.Wiring.{Wiring, IsCabling, HasEnd, far}
 use Rattle.cabling.specs.Change.{SameBut, Added, TakenOut, plug_fault}
 use Rattle.cabling.proofs.Ends.{cases_end, same_end, one_other, none_some, added_by_writes, taken_by_writes, plugged as has-end}
 use Rattle.cabling.proofs.Plugging.{Pluggable, pluggable, other_there}
 use Rattle.port_state.specs.declared.signal.Level.{Level}
 use Rattle.port_state.specs.declared.signal.Level.TheVariants as level
+use Rattle.port_state.specs.declared.signal.Phase.TheVariants.{ResetStart}
 use Rattle.port_state.specs.declared.signal.Signal.TheVariants as signal
 use Rattle.port_state.specs.declared.ports.PortView.{PortView}
 use Rattle.port_state.specs.declared.states.NodeState.{NodeState}
@@ -39,22 +40,22 @@ use Rattle.cable_world.proofs.ActKept.{has-wire, recabled, others-alone, plug-fo
 -- ---- the two ends of a cable
 
 -- what is said of a node and of a port, if they are there
-abbrev of_node : Option PortNode → (PortNode → Option Level) → Option Level
+abbrev pub of_node : Option PortNode → (PortNode → Option Level) → Option Level
 of_node None f = None
 of_node (Some x) f = f x
 
-abbrev of_port : (PortNode → PortView → Level) → ℕ → PortNode → Option Level
+abbrev pub of_port : (PortNode → PortView → Level) → ℕ → PortNode → Option Level
 of_port f k x = option_map (f x) (slice_get x.state.view.ports k)
 
 -- a level at an end, if the port is there
-abbrev at_end : (PortNode → PortView → Level) → CableWorld → End → Option Level
+abbrev pub at_end : (PortNode → PortView → Level) → CableWorld → End → Option Level
 at_end f w e = of_node (slice_get w.nodes e.node) (of_port f e.port)
 
 -- the one that the node tells, and the one that the port shows
 abbrev told : PortNode → PortView → Level
 told x p = out x.state.view.phase p.child
 
-abbrev seen : PortNode → PortView → Level
+abbrev pub seen : PortNode → PortView → Level
 seen x p = p.shown
 
 -- after these signals what is shown at one end is what is told at the other
@@ -113,13 +114,13 @@ meet-kept w v a b t s n h =
 
 -- ---- an end with a cable
 
-record IsPlugged (w : CableWorld) (e : End) : Type 0 where
-  node : PortNode
-  is_node : slice_get w.nodes e.node ≡ Some node
-  connected : is_connected node.state.view.ports e.port ≡ true
-  wire : HasEntry w.wires e
+pub record IsPlugged (w : CableWorld) (e : End) : Type 0 where
+  pub node : PortNode
+  pub is_node : slice_get w.nodes e.node ≡ Some node
+  pub connected : is_connected node.state.view.ports e.port ≡ true
+  pub wire : HasEntry w.wires e
 
-is-plugged : (w : CableWorld) (a b : End) → IsWellFormed w → far w.cabling a ≡ Some b → IsPlugged w a
+pub is-plugged : (w : CableWorld) (a b : End) → IsWellFormed w → far w.cabling a ≡ Some b → IsPlugged w a
 is-plugged w a b f e =
     let has : HasEnd w.cabling a = has-end w.cabling a b e in
     elim (slice_get_cases w.nodes a.node).1 [
@@ -144,26 +145,32 @@ some-seen w e r =
 
 -- ---- the last signal on a wire is a Reset
 
--- the node at this end tells Reset, and sent it last
-record SaysReset (w : CableWorld) (e : End) : Type 0 where
-  tells : at_end told w e ≡ Some level.Reset
-  before : List Travelling
-  signals : (wire_of w e).signals ≡ before ++ newly_sent signal.Reset ∷ []
+-- the node at this end tells Reset, and sent it behind what was under way in the first world
+pub record SaysReset (w v : CableWorld) (e : End) : Type 0 where
+  pub tells : at_end told v e ≡ Some level.Reset
+  pub signals : (wire_of v e).signals ≡ (wire_of w e).signals ++ newly_sent signal.Reset ∷ []
 
-meet-reset : (w : CableWorld) (a b : End) → IsWellFormed w → far w.cabling a ≡ Some b → SaysReset w a → MeetAt w a b
-meet-reset w a b f e s =
-    let one = some-seen w b (is-plugged w b a f (f.cabling.both_ways a b e)) in
-    subst (λ (o : Option Level). Meet o (wire_of w a).signals (at_end seen w b)) (sym s.tells)
-    (subst (λ (o : Option Level). Meet (Some level.Reset) (wire_of w a).signals o) (sym one.1)
-    (ap (last_level one.0) s.signals ∙ level-sent one.0 s.before (signal.Reset ∷ [])))
+meet-reset : (w v : CableWorld) (a b : End) → IsWellFormed v → far v.cabling a ≡ Some b → SaysReset w v a → MeetAt v a b
+meet-reset w v a b f e s =
+    let one = some-seen v b (is-plugged v b a f (f.cabling.both_ways a b e)) in
+    subst (λ (o : Option Level). Meet o (wire_of v a).signals (at_end seen v b)) (sym s.tells)
+    (subst (λ (o : Option Level). Meet (Some level.Reset) (wire_of v a).signals o) (sym one.1)
+    (ap (last_level one.0) s.signals ∙ level-sent one.0 (wire_of w a).signals (signal.Reset ∷ [])))
 
 -- ---- a step that resets the bus
 
--- it tells Reset on each port with a cable and sends it there, and what these ports show it leaves alone
-record Resets (P : ℕ → Type 0) (f : PortNode → NodeStep) : Type 0 where
-  tells : (x : PortNode) (k : ℕ) → is_connected (f x).node.state.view.ports k ≡ true → of_port told k (f x).node ≡ Some level.Reset
-  sent : (x : PortNode) (k : ℕ) → is_connected (f x).node.state.view.ports k ≡ true → sent_on k (f x).sends ≡ signal.Reset ∷ []
-  shows : (x : PortNode) (k : ℕ) → P k → of_port seen k (f x).node ≡ of_port seen k x
+-- a node that has just entered R0
+pub record HasBegun (x : NodeState) : Type 0 where
+  pub phase : x.view.phase ≡ ResetStart
+  pub timer : x.view.timer ≡ 0
+
+-- its node enters R0, tells Reset on each port with a cable and sends it there, and what these ports show it
+-- leaves alone
+pub record Resets (P : ℕ → Type 0) (f : PortNode → NodeStep) : Type 0 where
+  pub begins : (x : PortNode) → HasBegun (f x).node.state
+  pub tells : (x : PortNode) (k : ℕ) → is_connected (f x).node.state.view.ports k ≡ true → of_port told k (f x).node ≡ Some level.Reset
+  pub sent : (x : PortNode) (k : ℕ) → is_connected (f x).node.state.view.ports k ≡ true → sent_on k (f x).sends ≡ signal.Reset ∷ []
+  pub shows : (x : PortNode) (k : ℕ) → P k → of_port seen k (f x).node ≡ of_port seen k x
 
 enter-tells : (x : NodeState) (k : ℕ) → is_connected (enter true x).state.view.ports k ≡ true → option_map (λ (p : PortView). out (enter true x).state.view.phase p.child) (slice_get (enter true x).state.view.ports k) ≡ Some level.Reset
 unfolding enter
@@ -177,14 +184,19 @@ enter-sends : (x : NodeState) (k : ℕ) → is_connected x.view.ports k ≡ true
 unfolding enter
 enter-sends x k c = on_every-port k signal.Reset x.view.ports ∙ (rw c refl)
 
+enter-begins : (x : NodeState) → HasBegun (enter true x).state
+unfolding enter
+enter-begins x = record { phase = refl; timer = refl }
+
 entering : (P : ℕ → Type 0) (change : NodeState → NodeState) → ((x : NodeState) (k : ℕ) → P k → shows (change x) k ≡ shows x k) → Resets P (λ x. with_coins x.coins (enter true (change x.state)))
 entering P change h = record {
+  begins = λ x. enter-begins (change x.state);
   tells = λ x k c. enter-tells (change x.state) k c;
   sent = λ x k c. enter-sends (change x.state) k (sym (enter-cables true (change x.state) k) ∙ c);
   shows = λ x k p. enter-shows true (change x.state) k ∙ h x.state k p;
 }
 
-abbrev other_than : ℕ → ℕ → Type 0
+abbrev pub other_than : ℕ → ℕ → Type 0
 other_than port k = k ≢ port
 
 -- where one port is changed, the others show what they did
@@ -193,27 +205,27 @@ others-show port f x k ne =
     ap (option_map (λ (p : PortView). p.shown)) (changed-port port k f x.view.ports)
     ∙ (rw (ne_eqb k port ne) refl)
 
-resets-disturb : Resets (λ k. Unit {0}) disturb
+pub resets-disturb : Resets (λ k. Unit {0}) disturb
 resets-disturb = entering (λ k. Unit {0}) (λ x. x) (λ x k p. refl)
 
-resets-plugged : (port : ℕ) → Resets (other_than port) (plugged port)
+pub resets-plugged : (port : ℕ) → Resets (other_than port) (plugged port)
 resets-plugged port =
     let f : PortView → PortView = λ p. record p { connected = true; shown = level.Reset } in
     entering (other_than port) (with_port port f) (others-show port f)
 
-resets-pulled : (port : ℕ) → Resets (other_than port) (pulled port)
+pub resets-pulled : (port : ℕ) → Resets (other_than port) (pulled port)
 resets-pulled port =
     let f : PortView → PortView = λ p. record p { connected = false; shown = level.Idle } in
     entering (other_than port) (with_port port f) (others-show port f)
 
 -- ---- what a step leaves alone
 
-record Untouched (w v : CableWorld) (j : ℕ) : Type 0 where
-  node : slice_get v.nodes j ≡ slice_get w.nodes j
-  row : slice_index_or v.wires j [] ≡ slice_index_or w.wires j []
-  rows : length v.wires ≡ length w.wires
+pub record Untouched (w v : CableWorld) (j : ℕ) : Type 0 where
+  pub node : slice_get v.nodes j ≡ slice_get w.nodes j
+  pub row : slice_index_or v.wires j [] ≡ slice_index_or w.wires j []
+  pub rows : length v.wires ≡ length w.wires
 
-untouched : (k : ℕ) (step : PortNode → NodeStep) (w : CableWorld) (j : ℕ) → j ≢ k → Untouched w (with_step k step w) j
+pub untouched : (k : ℕ) (step : PortNode → NodeStep) (w : CableWorld) (j : ℕ) → j ≢ k → Untouched w (with_step k step w) j
 untouched k step w j ne = go (slice_get w.nodes k)
   where
     go : (o : Option PortNode) → Untouched w (step_at o k step w) j
@@ -229,10 +241,10 @@ untouched k step w j ne = go (slice_get w.nodes k)
 same-level : (f : PortNode → PortView → Level) (w v : CableWorld) (e : End) → Untouched w v e.node → at_end f v e ≡ at_end f w e
 same-level f w v e u = ap (λ o. of_node o (of_port f e.port)) u.node
 
-same-wire : (w v : CableWorld) (e : End) → Untouched w v e.node → wire_of v e ≡ wire_of w e
+pub same-wire : (w v : CableWorld) (e : End) → Untouched w v e.node → wire_of v e ≡ wire_of w e
 same-wire w v e u = ap (λ row. slice_index_or row e.port empty_wire) u.row
 
-still-plugged : (w v : CableWorld) (e : End) → Untouched w v e.node → IsPlugged v e → IsPlugged w e
+pub still-plugged : (w v : CableWorld) (e : End) → Untouched w v e.node → IsPlugged v e → IsPlugged w e
 still-plugged w v e u r = record {
   node = r.node;
   is_node = sym u.node ∙ r.is_node;
@@ -242,10 +254,10 @@ still-plugged w v e u r = record {
 
 -- ---- what a step that resets the bus does at its node
 
-own-reset : (P : ℕ → Type 0) (step : PortNode → NodeStep) (w : CableWorld) (e : End) → Resets P step → IsPlugged (with_step e.node step w) e → SaysReset (with_step e.node step w) e
+own-reset : (P : ℕ → Type 0) (step : PortNode → NodeStep) (w : CableWorld) (e : End) → Resets P step → IsPlugged (with_step e.node step w) e → SaysReset w (with_step e.node step w) e
 own-reset P step w e s = go (slice_get w.nodes e.node) refl
   where
-    go : (o : Option PortNode) → slice_get w.nodes e.node ≡ o → IsPlugged (step_at o e.node step w) e → SaysReset (step_at o e.node step w) e
+    go : (o : Option PortNode) → slice_get w.nodes e.node ≡ o → IsPlugged (step_at o e.node step w) e → SaysReset w (step_at o e.node step w) e
     go None at r = absurd (none-some (slice_get w.nodes e.node) r.node at r.is_node)
     go (Some x) at r =
         let y : NodeStep = step x in
@@ -265,7 +277,6 @@ own-reset P step w e s = go (slice_get w.nodes e.node) refl
         let old : Wire = slice_index_or row e.port empty_wire in
         record {
           tells = ap (λ o. of_node o (of_port told e.port)) now ∙ s.tells x e.port on;
-          before = old.signals;
           signals = ap (λ (u : Wire). u.signals) (
               ap (λ l. slice_index_or l e.port empty_wire) here
               ∙ sent-at 0 e.port y.sends row port
@@ -273,9 +284,9 @@ own-reset P step w e s = go (slice_get w.nodes e.node) refl
               ∙ ap (λ l. with_sent l old) (s.sent x e.port on));
         }
 
-step-reset : (P : ℕ → Type 0) (k : ℕ) (step : PortNode → NodeStep) (w : CableWorld) (e : End) → Resets P step → e.node ≡ k → IsPlugged (with_step k step w) e → SaysReset (with_step k step w) e
+pub step-reset : (P : ℕ → Type 0) (k : ℕ) (step : PortNode → NodeStep) (w : CableWorld) (e : End) → Resets P step → e.node ≡ k → IsPlugged (with_step k step w) e → SaysReset w (with_step k step w) e
 step-reset P k step w e s n =
-    subst (λ (j : ℕ). IsPlugged (with_step j step w) e → SaysReset (with_step j step w) e) n (own-reset P step w e s)
+    subst (λ (j : ℕ). IsPlugged (with_step j step w) e → SaysReset w (with_step j step w) e) n (own-reset P step w e s)
 
 own-seen : (P : ℕ → Type 0) (step : PortNode → NodeStep) (w : CableWorld) (e : End) → Resets P step → P e.port → at_end seen (with_step e.node step w) e ≡ at_end seen w e
 own-seen P step w e s p = go (slice_get w.nodes e.node) refl
@@ -287,7 +298,7 @@ own-seen P step w e s p = go (slice_get w.nodes e.node) refl
         ∙ s.shows x e.port p
         ∙ sym (ap (λ o. of_node o (of_port seen e.port)) at)
 
-step-seen : (P : ℕ → Type 0) (k : ℕ) (step : PortNode → NodeStep) (w : CableWorld) (e : End) → Resets P step → (e.node ≡ k → P e.port) → at_end seen (with_step k step w) e ≡ at_end seen w e
+pub step-seen : (P : ℕ → Type 0) (k : ℕ) (step : PortNode → NodeStep) (w : CableWorld) (e : End) → Resets P step → (e.node ≡ k → P e.port) → at_end seen (with_step k step w) e ≡ at_end seen w e
 step-seen P k step w e s p = elim (cases_eq e.node k) [
   | inl n ↦ subst (λ (j : ℕ). at_end seen (with_step j step w) e ≡ at_end seen w e) n (own-seen P step w e s (p n))
   | inr ne ↦ same-level seen w (with_step k step w) e (untouched k step w e.node ne)
@@ -300,7 +311,7 @@ reset-levels node w f h a b e =
     let v = reset node w in
     let was : far w.cabling a ≡ Some b = ap (λ (c : Wiring). far c a) (sym (step-cables node disturb w)) ∙ e in
     from-meet v a b (elim (cases_eq a.node node) [
-      | inl n ↦ meet-reset v a b f e (step-reset (λ k. Unit {0}) node disturb w a resets-disturb n (is-plugged v a b f e))
+      | inl n ↦ meet-reset w v a b f e (step-reset (λ k. Unit {0}) node disturb w a resets-disturb n (is-plugged v a b f e))
       | inr ne ↦
           let u = untouched node disturb w a.node ne in
           meet-kept w v a b (same-level told w v a u) (same-wire w v a u) (step-seen (λ k. Unit {0}) node disturb w b resets-disturb (λ n. tt)) (to-meet w a b (h a b was))
@@ -309,14 +320,16 @@ reset-levels node w f h a b e =
 -- ---- plugging and pulling
 
 -- A cable is put at two ends, or taken there, and both nodes reset the bus. No other cable has one of
--- these ends.
-record Cabled (old c : Wiring) (a b : End) : Type 0 where
-  has_a : HasEnd old a
-  has_b : HasEnd old b
-  apart : a.node ≢ b.node
-  others : SameBut old c a b
-  from_a : (z : End) → far c a ≡ Some z → z ≡ b
-  from_b : (z : End) → far c b ≡ Some z → z ≡ a
+-- these ends, and this one isn't there both before and afterwards.
+pub record Cabled (old c : Wiring) (a b : End) : Type 0 where
+  pub has_a : HasEnd old a
+  pub has_b : HasEnd old b
+  pub apart : a.node ≢ b.node
+  pub others : SameBut old c a b
+  pub from_a : (z : End) → far c a ≡ Some z → z ≡ b
+  pub from_b : (z : End) → far c b ≡ Some z → z ≡ a
+  pub once_a : (z : End) → far old a ≡ Some z → far c a ≡ Some z → ⊥
+  pub once_b : (z : End) → far old b ≡ Some z → far c b ≡ Some z → ⊥
 
 both-levels : (a b : End) (f g : PortNode → NodeStep) (c : Wiring) (w : CableWorld) → Resets (other_than a.port) f → Resets (other_than b.port) g → Cabled w.cabling c a b → IsWellFormed w → IsWellFormed (with_step b.node g (with_step a.node f (recabled c a b w))) → LevelsAgree w → LevelsAgree (with_step b.node g (with_step a.node f (recabled c a b w)))
 both-levels a b f g c w resets-f resets-g k old new h x y e =
@@ -328,15 +341,14 @@ both-levels a b f g c w resets-f resets-g k old new h x y e =
     let back : far c y ≡ Some x = ap (λ (d : Wiring). far d y) (sym cables) ∙ new.cabling.both_ways x y e in
     let there : IsPlugged last x = is-plugged last x y new e in
     from-meet last x y (elim (cases_eq x.node b.node) [
-      | inl n ↦ meet-reset last x y new e (step-reset (other_than b.port) b.node g next x resets-g n there)
+      | inl n ↦ meet-reset next last x y new e (step-reset (other_than b.port) b.node g next x resets-g n there)
       | inr nb ↦
           let second = untouched b.node g next x.node nb in
           elim (cases_eq x.node a.node) [
             | inl n ↦
-                let first : SaysReset next x = step-reset (other_than a.port) a.node f start x resets-f n (still-plugged next last x second there) in
-                meet-reset last x y new e (record {
+                let first : SaysReset start next x = step-reset (other_than a.port) a.node f start x resets-f n (still-plugged next last x second there) in
+                meet-reset start last x y new e (record {
                   tells = same-level told next last x second ∙ first.tells;
-                  before = first.before;
                   signals = ap (λ (u : Wire). u.signals) (same-wire next last x second) ∙ first.signals;
                 })
             | inr na ↦
@@ -356,33 +368,51 @@ both-levels a b f g c w resets-f resets-g k old new h x y e =
           ]
     ])
 
-plug-levels : (a b : End) (w : CableWorld) → plug_fault w.cabling a b ≡ None → IsWellFormed w → IsWellFormed (plug a b w) → LevelsAgree w → LevelsAgree (plug a b w)
-plug-levels a b w none f g h =
-    let may : Pluggable w.cabling a b = pluggable w.cabling a b none in
-    let c : Wiring = put b (Some a) (put a (Some b) w.cabling) in
-    let added : Added w.cabling c a b = added_by_writes w.cabling a b may.has_a may.has_b may.free_a may.free_b may.apart in
-    both-levels a b (plugged a.port) (plugged b.port) c w (resets-plugged a.port) (resets-plugged b.port) (record {
+abbrev pub with_cable : End → End → Wiring → Wiring
+with_cable a b c = put b (Some a) (put a (Some b) c)
+
+abbrev pub without_cable : End → End → Wiring → Wiring
+without_cable a b c = put b None (put a None c)
+
+pub plug-cabled : (a b : End) (c : Wiring) → plug_fault c a b ≡ None → Cabled c (with_cable a b c) a b
+plug-cabled a b c none =
+    let may : Pluggable c a b = pluggable c a b none in
+    let new : Wiring = with_cable a b c in
+    let added : Added c new a b = added_by_writes c a b may.has_a may.has_b may.free_a may.free_b may.apart in
+    record {
       has_a = may.has_a;
       has_b = may.has_b;
       apart = may.apart;
       others = added.others;
-      from_a = λ z e. one_other (far c a) z b e added.joined;
-      from_b = λ z e. one_other (far c b) z a e added.back;
-    }) f g h
+      from_a = λ z e. one_other (far new a) z b e added.joined;
+      from_b = λ z e. one_other (far new b) z a e added.back;
+      once_a = λ z e h. none_some (far c a) z may.free_a e;
+      once_b = λ z e h. none_some (far c b) z may.free_b e;
+    }
+
+pub pull-cabled : (a b : End) (c : Wiring) → IsCabling c → far c a ≡ Some b → Cabled c (without_cable a b c) a b
+pull-cabled a b c is at =
+    let new : Wiring = without_cable a b c in
+    let taken : TakenOut c new a b = taken_by_writes c a b is at in
+    record {
+      has_a = has-end c a b at;
+      has_b = other_there c a b is at;
+      apart = is.two_nodes a b at;
+      others = taken.others;
+      from_a = λ z e. absurd (none_some (far new a) z taken.free_a e);
+      from_b = λ z e. absurd (none_some (far new b) z taken.free_b e);
+      once_a = λ z h e. none_some (far new a) z taken.free_a e;
+      once_b = λ z h e. none_some (far new b) z taken.free_b e;
+    }
+
+plug-levels : (a b : End) (w : CableWorld) → plug_fault w.cabling a b ≡ None → IsWellFormed w → IsWellFormed (plug a b w) → LevelsAgree w → LevelsAgree (plug a b w)
+plug-levels a b w none =
+    both-levels a b (plugged a.port) (plugged b.port) (with_cable a b w.cabling) w (resets-plugged a.port) (resets-plugged b.port) (plug-cabled a b w.cabling none)
 
 pull-levels : (a : End) (o : Option End) (w : CableWorld) → far w.cabling a ≡ o → IsWellFormed w → IsWellFormed (pull_from a o w) → LevelsAgree w → LevelsAgree (pull_from a o w)
 pull-levels a None w at f g h = h
 pull-levels a (Some b) w at f g h =
-    let c : Wiring = put b None (put a None w.cabling) in
-    let taken : TakenOut w.cabling c a b = taken_by_writes w.cabling a b f.cabling at in
-    both-levels a b (pulled a.port) (pulled b.port) c w (resets-pulled a.port) (resets-pulled b.port) (record {
-      has_a = has-end w.cabling a b at;
-      has_b = other_there w.cabling a b f.cabling at;
-      apart = f.cabling.two_nodes a b at;
-      others = taken.others;
-      from_a = λ z e. absurd (none_some (far c a) z taken.free_a e);
-      from_b = λ z e. absurd (none_some (far c b) z taken.free_b e);
-    }) f g h
+    both-levels a b (pulled a.port) (pulled b.port) (without_cable a b w.cabling) w (resets-pulled a.port) (resets-pulled b.port) (pull-cabled a b w.cabling f.cabling at) f g h
 
 -- ---- configuration packets
 
@@ -416,14 +446,19 @@ act-levels (Config from root_id force gap) w v is none e f h = subst LevelsAgree
 
 -- ---- hold
 
-pub hold-levels : (end : End) (turns : ℕ) (w : CableWorld) → hold_fault end w ≡ None → IsWellFormed w → LevelsAgree w → LevelsAgree (hold end turns w)
-hold-levels end turns w none f h a b e =
+-- the signals under way are the same
+pub hold-signals : (end : End) (turns : ℕ) (w : CableWorld) → hold_fault end w ≡ None → IsWellFormed w → (a : End) → (wire_of (hold end turns w) a).signals ≡ (wire_of w a).signals
+hold-signals end turns w none f a =
     let v = hold end turns w in
     let held : Wire = record (wire_of w end) { held = turns } in
     let cable = has-cable w.cabling end none in
     let there : HasEntry w.wires end = has-wire w end f (has-end w.cabling end cable.0 cable.1) in
-    let same : (wire_of v a).signals ≡ (wire_of w a).signals = elim (cases_end a end) [
+    elim (cases_end a end) [
       | inl is ↦ ap (λ (u : Wire). u.signals) (ap (wire_of v) is ∙ put-same empty_wire w.wires end held there) ∙ ap (λ (z : End). (wire_of w z).signals) (sym is)
       | inr ne ↦ ap (λ (u : Wire). u.signals) (put-other empty_wire w.wires end a held there.node ne)
-    ] in
+    ]
+
+pub hold-levels : (end : End) (turns : ℕ) (w : CableWorld) → hold_fault end w ≡ None → IsWellFormed w → LevelsAgree w → LevelsAgree (hold end turns w)
+hold-levels end turns w none f h a b e =
+    let same = hold-signals end turns w none f a in
     subst (λ (signals : List Travelling). AtEnds w a b (λ v p u q. last_level q.shown signals ≡ out v.phase p.child)) (sym same) (h a b e)

@@ -13,6 +13,7 @@ mod LevelsKept
 mod TurnParts
 mod RolesKept
 mod LevelsActs
+mod CoupledActs
 mod Formed
 mod StepKept
 mod ActKept
