@@ -163,6 +163,7 @@ was set change k (x ∷ nodes) (suc j) y e = elim (was set change (k + 1) nodes 
   | altered z at is ↦ altered z at is
 ]
 
+-- some nodes hear a packet
 pub told-formed : (set root_id : ℕ) (force : Bool) (gap : Option ℕ) (w : CableWorld) → ForSome gap (λ g. g ≤ 63) → IsWellFormed w → IsWellFormed (record w { nodes = in_set set (set_config root_id force gap) 0 w.nodes })
 told-formed set root_id force gap w bits h =
     let change : PortNode → PortNode = set_config root_id force gap in

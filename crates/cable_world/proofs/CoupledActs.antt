@@ -1,5 +1,5 @@
 -- What happens between two turns keeps what holds at the two ends of a cable.
-use Rattle.std.proofs.Common.{◌≡◌, ◌≢◌, ℕ, zero, ◌+◌, ◌-◌, ◌<◌, ◌≤◌, ◌⊎◌, inl, inr, Bool, true, false, ◌&&◌, ◌||◌, ◌==◌, List, [], ◌∷◌, ◌++◌, map, Option, Some, None, slice_get, slice_set, if◌then◌else◌, refl, subst, sym, ◌∙◌, ap, arith}
+use Rattle.std.proofs.Common.{◌≡◌, ◌≢◌, ℕ, ◌-◌, ◌⊎◌, inl, inr, Bool, true, false, ◌&&◌, ◌||◌, List, [], ◌∷◌, ◌++◌, map, Option, Some, None, slice_get, slice_set, refl, subst, sym, ◌∙◌, ap, arith}
 use Rattle.std.specs.Prelude.{nat_lt}
 use Rattle.std.specs.Option.{option_map}
 use Rattle.std.proofs.lemmas.Bool.{cases_eq}
@@ -7,7 +7,7 @@ use Rattle.std.proofs.lemmas.Option.{slice_get_within}
 use Rattle.cabling.specs.declared.cable.End.{End}
 use Rattle.cabling.specs.Wiring.{Wiring, far}
 use Rattle.cabling.specs.Change.{plug_fault}
-use Rattle.cabling.proofs.Ends.{cases_end, same_end, plugged as has-end}
+use Rattle.cabling.proofs.Ends.{same_end}
 use Rattle.port_state.specs.declared.signal.Level.{Level}
 use Rattle.port_state.specs.declared.signal.Level.TheVariants as level
 use Rattle.port_state.specs.declared.signal.Phase.{Phase}
@@ -15,25 +15,24 @@ use Rattle.port_state.specs.declared.signal.Phase.TheVariants.{ResetStart, Conte
 use Rattle.port_state.specs.declared.signal.Signal.TheVariants as signal
 use Rattle.port_state.specs.declared.ports.PortView.{PortView}
 use Rattle.port_state.specs.declared.states.NodeState.{NodeState}
-use Rattle.port_state.specs.Ports.{is_port}
 use Rattle.port_state.specs.Heard.{is_resetting}
 use Rattle.port_state.specs.Valid.{FitsPhase, IsValid}
 use Rattle.port_state.specs.Machine.{PortNode, NodeStep, disturb, plugged, pulled, set_config}
 use Rattle.cable_world.specs.declared.act.Act.{Act}
 use Rattle.cable_world.specs.declared.act.Act.TheVariants.{Plug, Pull, Reset, Config}
-use Rattle.cable_world.specs.Wire.{Travelling, Wire, empty_wire, newly_sent}
-use Rattle.cable_world.specs.World.{CableWorld, wire_of, put, IsPowerOn, IsPoweredOn}
-use Rattle.cable_world.specs.Act.{step_at, with_step, plug, pull_from, reset, in_set, configure, noted, Acted, act_fault, IsAct, hold, hold_fault}
+use Rattle.cable_world.specs.Wire.{Travelling, Wire, newly_sent}
+use Rattle.cable_world.specs.World.{CableWorld, wire_of, IsPowerOn}
+use Rattle.cable_world.specs.Act.{step_at, with_step, plug, pull_from, reset, in_set, noted, Acted, act_fault, IsAct, hold, hold_fault}
 use Rattle.cable_world.specs.Agreement.{is_reset, shown_by}
 use Rattle.cable_world.specs.Lawful.{IsWellFormed}
-use Rattle.cable_world.specs.Coupling.{is_before_tree, is_between, is_waiting, is_timed, slack, signals_of, any_reset, is_low, is_fall, AllSince, NoneTakesBack, shown_or_idle, shown_at, leads_down, is_asking, is_reset_known, Coupled, Watches, WaitsLong, IsCoupled}
+use Rattle.cable_world.specs.Coupling.{is_before_tree, is_between, is_waiting, slack, signals_of, any_reset, is_low, AllSince, NoneTakesBack, shown_or_idle, shown_at, leads_down, is_asking, is_reset_known, Coupled, Watches, WaitsLong, IsCoupled}
 use Rattle.cable_world.proofs.AtPowerOn.{no-far}
 use Rattle.cable_world.proofs.LastHeard.{shows}
 use Rattle.cable_world.proofs.LastSent.{no-child}
 use Rattle.cable_world.proofs.Options.{some-same, none-some}
-use Rattle.cable_world.proofs.StepKept.{HasEntry, replaced, not-replaced, put-same, put-other, step-cables}
-use Rattle.cable_world.proofs.ActKept.{has-wire, recabled, others-alone, plug-formed, pull-formed, reset-formed, as_before, altered, was, told-formed, hold-formed}
-use Rattle.cable_world.proofs.LevelsActs.{of_node, of_port, at_end, seen, IsPlugged, is-plugged, SaysReset, HasBegun, Resets, resets-disturb, resets-plugged, resets-pulled, other_than, Untouched, untouched, same-wire, still-plugged, step-reset, step-seen, hold-signals, Cabled, with_cable, without_cable, plug-cabled, pull-cabled}
+use Rattle.cable_world.proofs.StepKept.{replaced, step-cables}
+use Rattle.cable_world.proofs.ActKept.{recabled, others-alone, plug-formed, pull-formed, reset-formed, as_before, altered, was, told-formed, hold-formed}
+use Rattle.cable_world.proofs.LevelsActs.{of_node, of_port, at_end, seen, IsPlugged, is-plugged, HasBegun, Resets, resets-disturb, resets-plugged, resets-pulled, other_than, Untouched, untouched, same-wire, still-plugged, step-reset, step-seen, hold-signals, Cabled, with_cable, without_cable, plug-cabled, pull-cabled}
 
 -- ---- signals
 
@@ -108,6 +107,7 @@ record Stayed (w v : CableWorld) (a b : End) (x : PortNode) : Type 0 where
   signals : (wire_of v a).signals ≡ (wire_of w a).signals
   cable : far w.cabling a ≡ Some b
 
+-- what happens to all nodes, and to the ends of all cables; where a cable stays, its ports show what they did
 record Happens (w v : CableWorld) : Type 0 where
   delay : v.delay ≡ w.delay
   before : IsWellFormed w
@@ -120,6 +120,7 @@ abbrev or-idle : Option Level → Level
 or-idle None = level.Idle
 or-idle (Some l) = l
 
+-- what an end shows, said of its node
 shown-is : (w : CableWorld) (a : End) (x : PortNode) → slice_get w.nodes a.node ≡ Some x → at_end seen w a ≡ of_port seen a.port x
 shown-is w a x at = ap (λ o. of_node o (of_port seen a.port)) at
 
@@ -131,6 +132,7 @@ shown-same x y k e = told (slice_get x.view.ports k) ∙ ap or-idle e ∙ sym (t
     told (Some p) = refl
 
 module _ (w v : CableWorld) (h : Happens w v) (c : IsCoupled w) where
+  -- a cable whose node at the first end is as it was
   node-stayed : (a b : End) (x y : PortNode) → far v.cabling a ≡ Some b → slice_get v.nodes b.node ≡ Some y → Stayed w v a b x → Entered w v b a y ⊎ Stayed w v b a y → Coupled w.delay x.state a.port (wire_of w a).signals y.state b.port (wire_of v b).signals
   node-stayed a b x y e at s (inr u) =
       subst (λ (ts : List Travelling). Coupled w.delay x.state a.port (wire_of w a).signals y.state b.port ts) (sym u.signals)
@@ -300,6 +302,7 @@ each-kept set change nodes k P keeps h x at = elim (was set change 0 nodes k x a
   | altered y e is ↦ subst P is (keeps y (h y e))
 ]
 
+-- some nodes hear a packet
 told-coupled : (set root_id : ℕ) (force : Bool) (gap : Option ℕ) (w : CableWorld) → IsCoupled w → IsCoupled (record w { nodes = in_set set (set_config root_id force gap) 0 w.nodes })
 told-coupled set root_id force gap w c =
     let change : PortNode → PortNode = set_config root_id force gap in
