@@ -57,7 +57,7 @@ role-bit false true h = refl
 role-bit false false h = absurd (omega (arith, h))
 
 -- a connected port leads to a child where it isn't the parent port
-child-if : (parent : Option ℕ) (ports : List PortView) (k : ℕ) → HasRoles parent ports → is_connected ports k ≡ true → leads_down ports k ≡ not (is_port parent k)
+pub child-if : (parent : Option ℕ) (ports : List PortView) (k : ℕ) → HasRoles parent ports → is_connected ports k ≡ true → leads_down ports k ≡ not (is_port parent k)
 child-if parent ports k h c = go (slice_get ports k) refl
   where
     go : (o : Option PortView) → slice_get ports k ≡ o → passes (λ p. p.child) (slice_get ports k) ≡ not (is_port parent k)
@@ -134,7 +134,7 @@ only b s = if b then s ∷ [] else []
 to-parent : (x : NodeState) (p : ℕ) (after : Phase) (s : Signal) → HasRoles (Some p) x.view.ports → ((b : Bool) → said (out x.view.phase (not b)) (only b s) ≡ out after (not b)) → (k : ℕ) → is_connected x.view.ports k ≡ true → said (tells x k) (sent_on k ((p, s) ∷ [])) ≡ out after (leads_down x.view.ports k)
 to-parent x p after s r f k c = rw (child-if (Some p) x.view.ports k r c) (f (p == k))
 
-roles-at : (x : NodeState) (o : Option ℕ) → x.view.parent ≡ o → HasRoles x.view.parent x.view.ports → HasRoles o x.view.ports
+pub roles-at : (x : NodeState) (o : Option ℕ) → x.view.parent ≡ o → HasRoles x.view.parent x.view.ports → HasRoles o x.view.ports
 roles-at x o e r = subst (λ q. HasRoles q x.view.ports) e r
 
 becomes-root : (x : NodeState) → x.view.phase ≡ ParentShake → HasRoles None x.view.ports → SaysSo x (tree.becomes_root x)

@@ -7,6 +7,7 @@ mod LastSent
 mod LastHeard
 mod TurnFacts
 mod HearsWell
+mod TicksWell
 mod Shape
 mod TurnKept
 mod LevelsKept
