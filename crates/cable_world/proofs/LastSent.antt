@@ -86,10 +86,13 @@ enter-says caused x k c = rw (on-every signal.Reset x.view.ports k c) refl
 
 -- ---- the rows of a tick
 
--- the row that a test chooses
+-- a fact of the row that a test chooses
+pub choose : (P : Row → Type 0) (b : Bool) (r s : Row) → (b ≡ true → P r) → (b ≡ false → P s) → P (if b then r else s)
+choose P true r s p q = p refl
+choose P false r s p q = q refl
+
 choice : (coin : Bool) (x : NodeState) (b : Bool) (r s : Row) → (b ≡ true → SaysSo x (does coin r x)) → SaysSo x (does coin s x) → SaysSo x (does coin (if b then r else s) x)
-choice coin x true r s p q = p refl
-choice coin x false r s p q = q
+choice coin x b r s p q = choose (λ chosen. SaysSo x (does coin chosen x)) b r s p (λ _. q)
 
 still : (x : NodeState) → SaysSo x (quiet x)
 still x k c = refl

@@ -1,6 +1,6 @@
 -- What a tick does to the facts of the two ends of a cable, field by field, over the rows.
 use Rattle.std.proofs.Common.{◌≡◌, ◌⊎◌, inl, inr, ℕ, zero, suc, ◌+◌, ◌<◌, ◌≤◌, Bool, true, false, not, ◌&&◌, ◌||◌, ◌==◌, List, [], ◌∷◌, ◌++◌, map, Option, Some, None, slice_get, refl, sym, ◌∙◌, ap, subst, arith, le_refl, true≢false, if◌then◌else◌}
-use Rattle.std.specs.Prelude.{nat_le, IsSome, min}
+use Rattle.std.specs.Prelude.{nat_le, IsSome}
 use Rattle.std.specs.Option.{option_map}
 use Rattle.std.proofs.lemmas.Bool.{eqb-true, leb-true, and_parts, or_parts, or_right}
 use Rattle.port_state.specs.declared.signal.Level.{Level}
@@ -27,7 +27,7 @@ use Rattle.port_state.proofs.EachPort.{port_is-changed}
 use Rattle.port_state.proofs.Roles.{decided_few, left_is}
 use Rattle.cable_world.specs.Agreement.{is_reset}
 use Rattle.cable_world.specs.Coupling.{is_before_tree, is_between, is_waiting, is_shaking, is_contending, is_timed, any_reset, is_low, all_low, is_low_signal, is_parent_signal, no_parent, no_fall, shown_or_idle, shown_at, leads_down, is_asking}
-use Rattle.cable_world.proofs.LastSent.{tick-says, only, child-if, no-child, turned, as_child, roles-at}
+use Rattle.cable_world.proofs.LastSent.{tick-says, choose, only, child-if, no-child, turned, as_child, roles-at}
 use Rattle.cable_world.proofs.LastHeard.{tick-shows}
 use Rattle.cable_world.proofs.TurnFacts.{risen, TicksWell}
 
@@ -49,36 +49,31 @@ Chosen (row.asks_again p) x = (x.view.phase ≡ Contend) × (x.view.parent ≡ S
 Chosen (row.asks_child p) x = x.view.phase ≡ SelfIdent
 Chosen row.names_itself x = x.view.phase ≡ SelfIdent
 
--- the row that a test chooses
-choose : (x : NodeState) (b : Bool) (r s : Row) → (b ≡ true → Chosen r x) → (b ≡ false → Chosen s x) → Chosen (if b then r else s) x
-choose x true r s p q = p refl
-choose x false r s p q = q refl
-
 shakes : (o : Option ℕ) (x : NodeState) → x.view.phase ≡ ParentShake → x.view.parent ≡ o → Chosen (parent_shake_at o x) x
 shakes None x e f = (e, f)
 shakes (Some p) x e f =
-    choose x (port_is (λ q. is_child q.shown) x.view.ports p) (row.is_accepted p) _ (λ h. (e, f, h))
-    (λ _. choose x (port_is (λ q. is_parent q.shown) x.view.ports p) (row.begins_contention p) row.none (λ h. (e, f, h)) (λ _. tt))
+    choose (λ r. Chosen r x) (port_is (λ q. is_child q.shown) x.view.ports p) (row.is_accepted p) _ (λ h. (e, f, h))
+    (λ _. choose (λ r. Chosen r x) (port_is (λ q. is_parent q.shown) x.view.ports p) (row.begins_contention p) row.none (λ h. (e, f, h)) (λ _. tt))
 
 contends : (o : Option ℕ) (x : NodeState) → x.view.phase ≡ Contend → x.view.parent ≡ o → x.view.wait ≤ x.view.timer → Chosen (contend_at o x) x
 contends None x e f w = tt
 contends (Some p) x e f w =
-    choose x (port_is (λ q. is_parent q.shown) x.view.ports p) (row.takes_rival p) (row.asks_again p) (λ h. (e, f, h, w)) (λ _. (e, f))
+    choose (λ r. Chosen r x) (port_is (λ q. is_parent q.shown) x.view.ports p) (row.takes_rival p) (row.asks_again p) (λ h. (e, f, h, w)) (λ _. (e, f))
 
 granted : (o : Option ℕ) (x : NodeState) → x.view.phase ≡ SelfIdent → Chosen (granted_row o x) x
-granted None x e = choose x (may_name x) row.names_itself row.none (λ _. e) (λ _. tt)
-granted (Some p) x e = choose x (port_is (λ q. q.asked) x.view.ports p) row.none (row.asks_child p) (λ _. tt) (λ _. e)
+granted None x e = choose (λ r. Chosen r x) (may_name x) row.names_itself row.none (λ _. e) (λ _. tt)
+granted (Some p) x e = choose (λ r. Chosen r x) (port_is (λ q. q.asked) x.view.ports p) row.none (row.asks_child p) (λ _. tt) (λ _. e)
 
 chosen : (f : Phase) (x : NodeState) → x.view.phase ≡ f → Chosen (row_of f x) x
-chosen ResetStart x e = choose x (nat_le x.timing.hold x.view.timer) row.ends_reset row.none (λ h. (e, leb-true _ _ h)) (λ _. tt)
-chosen ResetWait x e = choose x (every (λ p. is_calm p.shown) x.view.ports) row.begins_tree row.none (λ h. (e, h)) (λ _. tt)
+chosen ResetStart x e = choose (λ r. Chosen r x) (nat_le x.timing.hold x.view.timer) row.ends_reset row.none (λ h. (e, leb-true _ _ h)) (λ _. tt)
+chosen ResetWait x e = choose (λ r. Chosen r x) (every (λ p. is_calm p.shown) x.view.ports) row.begins_tree row.none (λ h. (e, h)) (λ _. tt)
 chosen TreeStart x e =
-    choose x (is_decided x) row.takes_roles _ (λ h. (e, h))
-    (λ _. choose x (nat_le x.timing.timeout x.view.timer) row.times_out row.none (λ _. tt) (λ _. tt))
-chosen ChildShake x e = choose x (every (λ p. if p.child then is_idle p.shown else true) x.view.ports) row.greets_parent row.none (λ _. e) (λ _. tt)
+    choose (λ r. Chosen r x) (is_decided x) row.takes_roles _ (λ h. (e, h))
+    (λ _. choose (λ r. Chosen r x) (nat_le x.timing.timeout x.view.timer) row.times_out row.none (λ _. tt) (λ _. tt))
+chosen ChildShake x e = choose (λ r. Chosen r x) (every (λ p. if p.child then is_idle p.shown else true) x.view.ports) row.greets_parent row.none (λ _. e) (λ _. tt)
 chosen ParentShake x e = shakes x.view.parent x e refl
-chosen Contend x e = choose x (nat_le x.view.wait x.view.timer) (contend_at x.view.parent x) row.none (λ h. contends x.view.parent x e refl (leb-true _ _ h)) (λ _. tt)
-chosen SelfIdent x e = choose x x.view.granted (granted_row (lowest is_unnamed x.view.ports) x) row.none (λ _. granted (lowest is_unnamed x.view.ports) x e) (λ _. tt)
+chosen Contend x e = choose (λ r. Chosen r x) (nat_le x.view.wait x.view.timer) (contend_at x.view.parent x) row.none (λ h. contends x.view.parent x e refl (leb-true _ _ h)) (λ _. tt)
+chosen SelfIdent x e = choose (λ r. Chosen r x) x.view.granted (granted_row (lowest is_unnamed x.view.ports) x) row.none (λ _. granted (lowest is_unnamed x.view.ports) x e) (λ _. tt)
 chosen Ready x e = tt
 
 -- a phase that doesn't pass a test isn't one that does
@@ -122,6 +117,7 @@ calm-at x k e c s = go (slice_get x.view.ports k) (every-at (λ p. is_calm p.sho
 
 -- ---- phases
 
+-- no tick begins a reset
 leaves-out : (coin : Bool) (r : Row) (x : NodeState) → is_resetting x.view.phase ≡ false → is_resetting (does coin r x).state.view.phase ≡ false
 leaves-out coin row.none x h = h
 leaves-out coin row.times_out x h = h
@@ -156,6 +152,7 @@ times coin (row.begins_contention p) x c h = inr refl
 times coin (row.asks_child p) x c h = absurd (elsewhere is_timed c refl h)
 times coin r x c h = absurd (true≢false (sym h))
 
+-- R1 begins where the hold is over
 comes-between : (coin : Bool) (r : Row) (x : NodeState) → Chosen r x → is_between (does coin r x).state.view.phase ≡ true →
     (is_between x.view.phase ≡ true) ⊎ ((is_resetting x.view.phase ≡ true) × (x.timing.hold ≤ x.view.timer))
 comes-between coin row.none x c h = inl h
@@ -181,6 +178,7 @@ waits-on coin (row.asks_again p) x k c on s w = absurd (elsewhere is_waiting c.0
 waits-on coin (row.asks_child p) x k c on s w = w
 waits-on coin row.names_itself x k c on s w = absurd (elsewhere is_waiting c refl w)
 
+-- a contention goes on, or begins
 contends-on : (coin : Bool) (r : Row) (x : NodeState) → (does coin r x).state.view.phase ≡ Contend →
     ((x.view.phase ≡ Contend) × ((does coin r x).state.view.parent ≡ x.view.parent) × ((does coin r x).state.view.timer ≤ x.view.timer) × ((does coin r x).state.view.wait ≡ x.view.wait)) ⊎
     (((does coin r x).state.view.timer ≡ 0) × (((does coin r x).state.view.wait ≡ x.timing.short) ⊎ ((does coin r x).state.view.wait ≡ x.timing.long)))
@@ -220,6 +218,11 @@ left-at x k d c l = go (slice_get x.view.ports k) refl c l
         let same : 0 + k ≡ k = omega arith in
         subst (λ j. is_port (lowest is_left x.view.ports) j ≡ is_left p) same (left_is 0 x.view.ports (decided_few x d) k p at) ∙ left p.connected p.shown c l
 
+-- before the tree, or asking on this port, if this is the phase
+abbrev early_in : Phase → NodeState → ℕ → Bool
+early_in f x k = is_before_tree f || (is_shaking f && is_port x.view.parent k)
+
+-- a node that is early stays so, where it is shown Reset or Idle alone
 asks-early : (coin : Bool) (r : Row) (x : NodeState) (k : ℕ) → Chosen r x → is_connected x.view.ports k ≡ true → is_low (shown_at x k) ≡ true → (is_before_tree x.view.phase || is_asking x k) ≡ true →
     (is_before_tree (does coin r x).state.view.phase || is_asking (does coin r x).state k) ≡ true
 asks-early coin row.none x k c on l h = h
@@ -227,21 +230,22 @@ asks-early coin row.ends_reset x k c on l h = refl
 asks-early coin row.begins_tree x k c on l h = refl
 asks-early coin row.takes_roles x k c on l h = left-at x k c.1 on l
 asks-early coin row.times_out x k c on l h = h
-asks-early coin row.greets_parent x k c on l h = subst (λ f. (is_before_tree f || (is_shaking f && is_port x.view.parent k)) ≡ true) c h
+asks-early coin row.greets_parent x k c on l h = subst (λ f. early_in f x k ≡ true) c h
 asks-early coin row.becomes_root x k c on l h =
-    let asks : is_port x.view.parent k ≡ true = subst (λ f. (is_before_tree f || (is_shaking f && is_port x.view.parent k)) ≡ true) c.0 h in
-    absurd (true≢false (sym asks ∙ ap (λ o. is_port o k) c.1))
+    let asking : is_port x.view.parent k ≡ true = subst (λ f. early_in f x k ≡ true) c.0 h in
+    absurd (true≢false (sym asking ∙ ap (λ o. is_port o k) c.1))
 asks-early coin (row.is_accepted p) x k c on l h =
-    let asks : is_port x.view.parent k ≡ true = subst (λ f. (is_before_tree f || (is_shaking f && is_port x.view.parent k)) ≡ true) c.0 h in
-    absurd (true≢false (sym l ∙ ap is_low (at-port is_child level.Child is-child x p k c.1 c.2 asks)))
+    let asking : is_port x.view.parent k ≡ true = subst (λ f. early_in f x k ≡ true) c.0 h in
+    absurd (true≢false (sym l ∙ ap is_low (at-port is_child level.Child is-child x p k c.1 c.2 asking)))
 asks-early coin (row.begins_contention p) x k c on l h =
-    let asks : is_port x.view.parent k ≡ true = subst (λ f. (is_before_tree f || (is_shaking f && is_port x.view.parent k)) ≡ true) c.0 h in
-    absurd (true≢false (sym l ∙ ap is_low (at-port is_parent level.Parent is-parent x p k c.1 c.2 asks)))
-asks-early coin (row.takes_rival p) x k c on l h = absurd (true≢false (sym h ∙ ap (λ f. is_before_tree f || (is_shaking f && is_port x.view.parent k)) c.0))
-asks-early coin (row.asks_again p) x k c on l h = absurd (true≢false (sym h ∙ ap (λ f. is_before_tree f || (is_shaking f && is_port x.view.parent k)) c.0))
-asks-early coin (row.asks_child p) x k c on l h = absurd (true≢false (sym h ∙ ap (λ f. is_before_tree f || (is_shaking f && is_port x.view.parent k)) c))
-asks-early coin row.names_itself x k c on l h = absurd (true≢false (sym h ∙ ap (λ f. is_before_tree f || (is_shaking f && is_port x.view.parent k)) c))
+    let asking : is_port x.view.parent k ≡ true = subst (λ f. early_in f x k ≡ true) c.0 h in
+    absurd (true≢false (sym l ∙ ap is_low (at-port is_parent level.Parent is-parent x p k c.1 c.2 asking)))
+asks-early coin (row.takes_rival p) x k c on l h = absurd (true≢false (sym h ∙ ap (λ f. early_in f x k) c.0))
+asks-early coin (row.asks_again p) x k c on l h = absurd (true≢false (sym h ∙ ap (λ f. early_in f x k) c.0))
+asks-early coin (row.asks_child p) x k c on l h = absurd (true≢false (sym h ∙ ap (λ f. early_in f x k) c))
+asks-early coin row.names_itself x k c on l h = absurd (true≢false (sym h ∙ ap (λ f. early_in f x k) c))
 
+-- a parent port that shows no Parent stays the parent port
 stays-parent : (coin : Bool) (r : Row) (x : NodeState) (k : ℕ) → IsValid x → Chosen r x → is_port x.view.parent k ≡ true → is_parent (shown_at x k) ≡ false → is_port (does coin r x).state.view.parent k ≡ true
 stays-parent coin row.takes_roles x k v c h s = absurd (true≢false (sym h ∙ ap (λ o. is_port o k) (no-roles x v c.0).1))
 stays-parent coin (row.takes_rival p) x k v c h s = absurd (true≢false (sym (ap is_parent (at-port is_parent level.Parent is-parent x p k c.1 c.2 h)) ∙ s))
@@ -295,8 +299,8 @@ plain-append : (xs ys : List Signal) → Plain xs → Plain ys → Plain (xs ++ 
 plain-append [] ys h g = g
 plain-append (x ∷ xs) ys h g =
     let calm = or_parts (is_reset x) (any_reset xs) h.0 in
-    let asks = and_parts (not (is_parent_signal x)) (no_parent xs) h.1 in
-    rw (calm.0, asks.0) (plain-append xs ys (calm.1, asks.1) g)
+    let asks-none = and_parts (not (is_parent_signal x)) (no_parent xs) h.1 in
+    rw (calm.0, asks-none.0) (plain-append xs ys (calm.1, asks-none.1) g)
 
 plain-packets : (b : Bool) (quads : List ℕ) → Plain (if b then map packet quads else [])
 plain-packets true [] = (refl, refl)
@@ -347,6 +351,7 @@ notices-calm true l = (refl, refl)
 notices-calm false true = (refl, refl)
 notices-calm false false = (refl, refl)
 
+-- no tick sends a Reset
 sends-calm : (coin : Bool) (r : Row) (x : NodeState) (k : ℕ) → any_reset (sent_on k (does coin r x).sends) ≡ false
 sends-calm coin row.ends_reset x k = rw (on_every-port k signal.Idle x.view.ports) (one-calm (is_connected x.view.ports k) signal.Idle refl)
 sends-calm coin row.takes_roles x k = rw (notices-port k x.view.ports) (notices-calm (port_is asks x.view.ports k) (port_is is_left x.view.ports k)).0
@@ -358,6 +363,7 @@ sends-calm coin (row.asks_child p) x k = one-calm (p == k) signal.Grant refl
 sends-calm coin row.names_itself x k = (plain-names x k (own_group x (nodes_in x.list.items))).0
 sends-calm coin r x k = refl
 
+-- before the tree nothing is sent but what is low
 sends-low : (coin : Bool) (r : Row) (x : NodeState) (k : ℕ) → is_before_tree (does coin r x).state.view.phase ≡ true → all_low (sent_on k (does coin r x).sends) ≡ true
 sends-low coin row.none x k h = refl
 sends-low coin row.ends_reset x k h = rw (on_every-port k signal.Idle x.view.ports) (one-low (is_connected x.view.ports k) signal.Idle refl)
@@ -366,6 +372,7 @@ sends-low coin row.times_out x k h = refl
 sends-low coin (row.asks_child p) x k h = one-low (p == k) signal.Grant refl
 sends-low coin r x k h = absurd (true≢false (sym h))
 
+-- what is sent on a port at once takes no Parent back, or has none
 sends-batch : (coin : Bool) (r : Row) (x : NodeState) (k : ℕ) → (no_fall (sent_on k (does coin r x).sends) || no_parent (sent_on k (does coin r x).sends)) ≡ true
 sends-batch coin row.ends_reset x k = rw (on_every-port k signal.Idle x.view.ports) (one-batch (is_connected x.view.ports k) signal.Idle)
 sends-batch coin row.takes_roles x k = rw (notices-port k x.view.ports) (notices-calm (port_is asks x.view.ports k) (port_is is_left x.view.ports k)).1
