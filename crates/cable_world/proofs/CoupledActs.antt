@@ -27,7 +27,7 @@ use Rattle.cable_world.specs.Agreement.{is_reset, shown_by}
 use Rattle.cable_world.specs.Lawful.{IsWellFormed}
 use Rattle.cable_world.specs.Coupling.{is_before_tree, is_between, is_waiting, slack, signals_of, any_reset, is_low, AllSince, NoneTakesBack, shown_or_idle, shown_at, leads_down, is_asking, is_reset_known, Coupled, Watches, WaitsLong, IsCoupled}
 use Rattle.cable_world.proofs.AtPowerOn.{no-far}
-use Rattle.cable_world.proofs.LastHeard.{shows}
+use Rattle.cable_world.proofs.LastHeard.{shown-same, shows}
 use Rattle.cable_world.proofs.LastSent.{no-child}
 use Rattle.cable_world.proofs.Options.{some-same, none-some}
 use Rattle.cable_world.proofs.StepKept.{replaced, step-cables}
@@ -116,20 +116,9 @@ record Happens (w v : CableWorld) : Type 0 where
   ends : (a b : End) (x : PortNode) → far v.cabling a ≡ Some b → slice_get v.nodes a.node ≡ Some x → Entered w v a b x ⊎ Stayed w v a b x
   shows : (a b : End) → far w.cabling a ≡ Some b → far v.cabling a ≡ Some b → at_end seen v a ≡ at_end seen w a
 
-abbrev or-idle : Option Level → Level
-or-idle None = level.Idle
-or-idle (Some l) = l
-
 -- what an end shows, said of its node
 shown-is : (w : CableWorld) (a : End) (x : PortNode) → slice_get w.nodes a.node ≡ Some x → at_end seen w a ≡ of_port seen a.port x
 shown-is w a x at = ap (λ o. of_node o (of_port seen a.port)) at
-
-shown-same : (x y : NodeState) (k : ℕ) → shows x k ≡ shows y k → shown_at x k ≡ shown_at y k
-shown-same x y k e = told (slice_get x.view.ports k) ∙ ap or-idle e ∙ sym (told (slice_get y.view.ports k))
-  where
-    told : (o : Option PortView) → shown_or_idle o ≡ or-idle (option_map (λ (p : PortView). p.shown) o)
-    told None = refl
-    told (Some p) = refl
 
 module _ (w v : CableWorld) (h : Happens w v) (c : IsCoupled w) where
   -- a cable whose node at the first end is as it was

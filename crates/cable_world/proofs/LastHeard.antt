@@ -18,11 +18,24 @@ use Rattle.port_state.specs.Row.{Row}
 use Rattle.port_state.specs.Tick.{raised, next_row, does, tick}
 use Rattle.port_state.proofs.Laws.{map-port, changed-port}
 use Rattle.cable_world.specs.Agreement.{shown_by}
+use Rattle.cable_world.specs.Coupling.{shown_or_idle, shown_at}
 use Rattle.cable_world.proofs.LastSent.{said, only, turned, as_child}
 
 -- what the port of a number shows, if it is there
 abbrev pub shows : NodeState → ℕ → Option Level
 shows x k = option_map (λ (p : PortView). p.shown) (slice_get x.view.ports k)
+
+abbrev or-idle : Option Level → Level
+or-idle None = level.Idle
+or-idle (Some l) = l
+
+-- the level of a port, there or not
+pub shown-same : (x y : NodeState) (k : ℕ) → shows x k ≡ shows y k → shown_at x k ≡ shown_at y k
+shown-same x y k e = told (slice_get x.view.ports k) ∙ ap or-idle e ∙ sym (told (slice_get y.view.ports k))
+  where
+    told : (o : Option PortView) → shown_or_idle o ≡ or-idle (option_map (λ (p : PortView). p.shown) o)
+    told None = refl
+    told (Some p) = refl
 
 same-map : {A : Type 0} → (f : A → A) → ((a : A) → f a ≡ a) → (o : Option A) → o ≡ option_map f o
 same-map f h None = refl

@@ -2,7 +2,7 @@
 use Rattle.std.proofs.Common.{◌≡◌, ◌⊎◌, inl, inr, ℕ, zero, suc, ◌+◌, ◌<◌, ◌≤◌, Bool, true, false, not, ◌&&◌, ◌||◌, ◌==◌, List, [], ◌∷◌, ◌++◌, map, Option, Some, None, slice_get, refl, sym, ◌∙◌, ap, subst, arith, le_refl, true≢false, if◌then◌else◌}
 use Rattle.std.specs.Prelude.{nat_le, IsSome}
 use Rattle.std.specs.Option.{option_map}
-use Rattle.std.proofs.lemmas.Bool.{eqb-true, leb-true, and_parts, or_parts, or_right}
+use Rattle.std.proofs.lemmas.Bool.{eqb-true, leb-true, and_parts, and_from, or_from, or_right}
 use Rattle.port_state.specs.declared.signal.Level.{Level}
 use Rattle.port_state.specs.declared.signal.Level.TheVariants as level
 use Rattle.port_state.specs.declared.signal.Phase.{Phase}
@@ -28,8 +28,9 @@ use Rattle.port_state.proofs.Roles.{decided_few, left_is}
 use Rattle.cable_world.specs.Agreement.{is_reset}
 use Rattle.cable_world.specs.Coupling.{is_before_tree, is_between, is_waiting, is_shaking, is_contending, is_timed, any_reset, is_low, all_low, is_low_signal, is_parent_signal, no_parent, no_fall, shown_or_idle, shown_at, leads_down, is_asking}
 use Rattle.cable_world.proofs.LastSent.{tick-says, choose, only, child-if, no-child, turned, as_child, roles-at}
-use Rattle.cable_world.proofs.LastHeard.{tick-shows}
+use Rattle.cable_world.proofs.LastHeard.{shown-same, tick-shows}
 use Rattle.cable_world.proofs.TurnFacts.{risen, TicksWell}
+use Rattle.cable_world.proofs.HearsWell.{any_reset-append, no_parent-append}
 
 -- ---- why a row applies
 
@@ -296,11 +297,7 @@ abbrev Plain : List Signal → Type 0
 Plain ss = (any_reset ss ≡ false) × (no_parent ss ≡ true)
 
 plain-append : (xs ys : List Signal) → Plain xs → Plain ys → Plain (xs ++ ys)
-plain-append [] ys h g = g
-plain-append (x ∷ xs) ys h g =
-    let calm = or_parts (is_reset x) (any_reset xs) h.0 in
-    let asks-none = and_parts (not (is_parent_signal x)) (no_parent xs) h.1 in
-    rw (calm.0, asks-none.0) (plain-append xs ys (calm.1, asks-none.1) g)
+plain-append xs ys h g = (any_reset-append xs ys ∙ or_from _ _ h.0 g.0, no_parent-append xs ys ∙ and_from _ _ h.1 g.1)
 
 plain-packets : (b : Bool) (quads : List ℕ) → Plain (if b then map packet quads else [])
 plain-packets true [] = (refl, refl)
@@ -414,17 +411,6 @@ asks-on coin r x k c sh i s = refl
 
 -- ---- a tick
 
-abbrev or_idle : Option Level → Level
-or_idle None = level.Idle
-or_idle (Some l) = l
-
-shown-as : (o : Option PortView) → shown_or_idle o ≡ or_idle (option_map (λ (p : PortView). p.shown) o)
-shown-as None = refl
-shown-as (Some p) = refl
-
-ticks-shown : (coin : Bool) (x : NodeState) (k : ℕ) → shown_at (tick coin x).state k ≡ shown_at x k
-ticks-shown coin x k = shown-as (slice_get (tick coin x).state.view.ports k) ∙ ap or_idle (tick-shows coin x k) ∙ sym (shown-as (slice_get x.view.ports k))
-
 -- below the hold the timer isn't at its greatest value
 risen-below : (t hold : ℕ) → t + 1 < hold → hold ≤ 65535 → risen t ≡ t + 1
 risen-below t hold h l = omega (arith, h, l)
@@ -441,7 +427,7 @@ ticks-well coin x v =
       valid = sound.valid;
       timing = sound.timing;
       cables = tick-cables coin x;
-      shown = ticks-shown coin x;
+      shown = λ k. shown-same (tick coin x).state x k (tick-shows coin x k);
       says = tick-says coin x v;
       out = leaves-out coin r y;
       calm = sends-calm coin r y;
