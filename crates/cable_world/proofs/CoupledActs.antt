@@ -1,7 +1,6 @@
 -- What happens between two turns keeps what holds at the two ends of a cable.
 use Rattle.std.proofs.Common.{◌≡◌, ◌≢◌, ℕ, ◌-◌, ◌⊎◌, inl, inr, Bool, true, false, ◌&&◌, ◌||◌, List, [], ◌∷◌, ◌++◌, map, Option, Some, None, slice_get, slice_set, refl, subst, sym, ◌∙◌, ap, arith}
 use Rattle.std.specs.Prelude.{nat_lt}
-use Rattle.std.specs.Option.{option_map}
 use Rattle.std.proofs.lemmas.Bool.{cases_eq}
 use Rattle.std.proofs.lemmas.Option.{slice_get_within}
 use Rattle.cabling.specs.declared.cable.End.{End}
@@ -9,11 +8,9 @@ use Rattle.cabling.specs.Wiring.{Wiring, far}
 use Rattle.cabling.specs.Change.{plug_fault}
 use Rattle.cabling.proofs.Ends.{same_end}
 use Rattle.port_state.specs.declared.signal.Level.{Level}
-use Rattle.port_state.specs.declared.signal.Level.TheVariants as level
 use Rattle.port_state.specs.declared.signal.Phase.{Phase}
 use Rattle.port_state.specs.declared.signal.Phase.TheVariants.{ResetStart, Contend}
 use Rattle.port_state.specs.declared.signal.Signal.TheVariants as signal
-use Rattle.port_state.specs.declared.ports.PortView.{PortView}
 use Rattle.port_state.specs.declared.states.NodeState.{NodeState}
 use Rattle.port_state.specs.Heard.{is_resetting}
 use Rattle.port_state.specs.Valid.{FitsPhase, IsValid}
@@ -25,7 +22,7 @@ use Rattle.cable_world.specs.World.{CableWorld, wire_of, IsPowerOn}
 use Rattle.cable_world.specs.Act.{step_at, with_step, plug, pull_from, reset, in_set, noted, Acted, act_fault, IsAct, hold, hold_fault}
 use Rattle.cable_world.specs.Agreement.{is_reset, shown_by}
 use Rattle.cable_world.specs.Lawful.{IsWellFormed}
-use Rattle.cable_world.specs.Coupling.{is_before_tree, is_between, is_waiting, slack, signals_of, any_reset, is_low, AllSince, NoneTakesBack, shown_or_idle, shown_at, leads_down, is_asking, is_reset_known, Coupled, Watches, WaitsLong, IsCoupled}
+use Rattle.cable_world.specs.Coupling.{is_before_tree, is_between, is_waiting, slack, signals_of, any_reset, is_low, AllSince, NoneTakesBack, shown_at, leads_down, is_asking, is_reset_known, Coupled, Watches, WaitsLong, IsCoupled}
 use Rattle.cable_world.proofs.AtPowerOn.{no-far}
 use Rattle.cable_world.proofs.LastHeard.{shown-same, shows}
 use Rattle.cable_world.proofs.LastSent.{no-child}
