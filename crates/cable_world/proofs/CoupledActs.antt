@@ -23,7 +23,7 @@ use Rattle.cable_world.specs.Act.{step_at, with_step, plug, pull_from, reset, in
 use Rattle.cable_world.specs.Agreement.{is_reset, shown_by}
 use Rattle.cable_world.specs.Lawful.{IsWellFormed}
 use Rattle.cable_world.specs.Coupling.{is_before_tree, is_between, is_waiting, slack, signals_of, any_reset, is_low, AllSince, NoneTakesBack, shown_at, leads_down, is_asking, is_reset_known, Coupled, Watches, WaitsLong, IsCoupled}
-use Rattle.cable_world.proofs.AtPowerOn.{no-far}
+use Rattle.cable_world.proofs.AtPowerOn.{power-on-apart}
 use Rattle.cable_world.proofs.LastHeard.{shown-same, shows}
 use Rattle.cable_world.proofs.LastSent.{no-child}
 use Rattle.cable_world.proofs.Options.{some-same, none-some}
@@ -326,10 +326,8 @@ pub power-on-coupled : (w : CableWorld) → IsPowerOn w → IsCoupled w
 power-on-coupled w h =
     let phase : (k : ℕ) (x : PortNode) → slice_get w.nodes k ≡ Some x → x.state.view.phase ≡ ResetStart =
     λ k x at. ap (λ (y : NodeState). y.view.phase) (h.nodes k x at).is in
-    let apart : (a : End) → far w.cabling a ≡ None =
-    λ a. ap (λ (v : CableWorld). far v.cabling a) h.is ∙ no-far (map (λ (x : PortNode). x.state.ports) w.nodes) a.node a.port in
     record {
       watches = λ k x at j on shown. ap is_waiting (phase k x at);
       waits = λ k x at e. let start : x.state.view.phase ≡ ResetStart = phase k x at in absurd cc;
-      cables = λ a b x y e. absurd (none-some (far w.cabling a) b (apart a) e);
+      cables = λ a b x y e. absurd (none-some (far w.cabling a) b (power-on-apart w h a) e);
     }

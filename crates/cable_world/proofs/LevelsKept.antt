@@ -173,7 +173,7 @@ port-shows x k l h = go (slice_get x.view.ports k) refl
     go None e = let none : None ≡ Some l = sym (ap (option_map (λ (p : PortView). p.shown)) e) ∙ h in absurd cc
     go (Some p) e = (p, e, some-same p.shown l (sym (ap (option_map (λ (q : PortView). q.shown)) e) ∙ h))
 
-port-there : (x : NodeState) (k : ℕ) → is_connected x.view.ports k ≡ true → (p : PortView) × (slice_get x.view.ports k ≡ Some p)
+pub port-there : (x : NodeState) (k : ℕ) → is_connected x.view.ports k ≡ true → (p : PortView) × (slice_get x.view.ports k ≡ Some p)
 port-there x k h = go (slice_get x.view.ports k) refl
   where
     go : (o : Option PortView) → slice_get x.view.ports k ≡ o → (p : PortView) × (slice_get x.view.ports k ≡ Some p)
@@ -181,7 +181,7 @@ port-there x k h = go (slice_get x.view.ports k) refl
     go (Some p) e = (p, e)
 
 -- a cable's port is connected
-plugged-in : (w : CableWorld) (a b : End) (x : PortNode) → IsWellFormed w → far w.cabling a ≡ Some b → slice_get w.nodes a.node ≡ Some x → is_connected x.state.view.ports a.port ≡ true
+pub plugged-in : (w : CableWorld) (a b : End) (x : PortNode) → IsWellFormed w → far w.cabling a ≡ Some b → slice_get w.nodes a.node ≡ Some x → is_connected x.state.view.ports a.port ≡ true
 plugged-in w a b x f e at = (f.nodes a.node x at).connected a.port ∙ ap is_some e
 
 turn-level : (w : CableWorld) (a b : End) → IsWellFormed w → far w.cabling a ≡ Some b → Joined w a b → Joined (turn w) a b

@@ -17,6 +17,7 @@ use Rattle.cable_world.specs.World.{CableWorld, wire_of}
 use Rattle.cable_world.specs.Turn.{node_turn, inbox, arriving}
 use Rattle.cable_world.specs.Agreement.{out, last_level, shown_by}
 use Rattle.cable_world.specs.Coupling.{signals_of, shown_at, shown_or_idle}
+use Rattle.cable_world.proofs.Options.{some-same}
 use Rattle.cable_world.proofs.LastSent.{said, tells}
 use Rattle.cable_world.proofs.LevelsKept.{Joined, inbox-at}
 use Rattle.cable_world.proofs.TurnFacts.{hear_all}
@@ -64,9 +65,15 @@ last-said l [] = refl
 last-said l (t ∷ ts) = last-said (shown_by t.signal l) ts
 
 -- what agrees at the two ends of a cable, told of their nodes
-pub joined-said : (w : CableWorld) (a b : End) (j : Joined w a b) → said (shown_at j.other.state b.port) (signals_of (wire_of w a).signals) ≡ tells j.near.state a.port
+joined-said : (w : CableWorld) (a b : End) (j : Joined w a b) → said (shown_at j.other.state b.port) (signals_of (wire_of w a).signals) ≡ tells j.near.state a.port
 joined-said w a b j =
     ap (λ o. said (shown_or_idle o) (signals_of (wire_of w a).signals)) j.there_at
     ∙ sym (last-said j.there.shown (wire_of w a).signals)
     ∙ j.agree
     ∙ sym (ap (λ o. out j.near.state.view.phase (passes (λ r. r.child) o)) j.here_at)
+
+pub levels-said : (w : CableWorld) (a b : End) (x y : PortNode) → Joined w a b → slice_get w.nodes a.node ≡ Some x → slice_get w.nodes b.node ≡ Some y → said (shown_at y.state b.port) (signals_of (wire_of w a).signals) ≡ tells x.state a.port
+levels-said w a b x y j at_x at_y =
+    let near : j.near ≡ x = some-same j.near x (sym j.near_at ∙ at_x) in
+    let other : j.other ≡ y = some-same j.other y (sym j.other_at ∙ at_y) in
+    rw (← near, ← other) (joined-said w a b j)
