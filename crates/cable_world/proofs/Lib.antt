@@ -8,6 +8,7 @@ mod LastHeard
 mod TurnFacts
 mod HearsWell
 mod TicksWell
+mod Streams
 mod Shape
 mod TurnKept
 mod LevelsKept
