@@ -23,211 +23,7 @@ use Rattle.cable_world.specs.Lawful.{AgesFall}
 use Rattle.cable_world.proofs.LastSent.{said, said-append, tells, child-if, no-child}
 use Rattle.cable_world.proofs.TurnFacts.{hear_all, Heard, Came, HearsWell, TicksWell, risen}
 use Rattle.cable_world.proofs.Streams.{not-both, either, neither-first, both, signals-append, signals-sent, signals-older, any_reset-append, all_low-append, no_fall-append, no_parent-append, said-low, said-no_parent, low-no_parent, said-reset, AllSince-zero, AllSince-less, AllSince-older, nothing-left, reset-age, NoneTakesBack-append, NoneTakesBack-older, NoneTakesBack-zero, NoneTakesBack-no_fall, NoneTakesBack-no_parent, parent-stays}
-
--- ---- one side of a cable in a turn
-
--- a node at its port of a cable, in a turn
-pub record Side : Type 0 where
-  -- before the turn
-  pub node : NodeState
-  pub port : ℕ
-  -- under way from it before the turn
-  pub wire : List Travelling
-  -- whether that wire gives all its signals in this turn
-  pub gives : Bool
-  -- all that the node hears in this turn
-  pub inbox : List (ℕ × Signal)
-  pub coin : Bool
-
-abbrev pub heard : Side → Step
-heard s = hear_all s.inbox s.node
-
-abbrev pub ticked : Side → Step
-ticked s = tick s.coin (heard s).state
-
--- what its wire gives, and what stays on it
-abbrev pub given : Side → List Signal
-given s = if s.gives then signals_of s.wire else []
-
-abbrev pub kept : Side → List Travelling
-kept s = if s.gives then [] else map older s.wire
-
--- what it sends on the port
-abbrev pub sent : Side → List Signal
-sent s = sent_on s.port (heard s).sends ++ sent_on s.port (ticked s).sends
-
-abbrev pub wire_after : Side → List Travelling
-wire_after s = kept s ++ map newly_sent (sent s)
-
--- what is so of a side before the turn
-pub record Ready (d : ℕ) (s : Side) : Type 0 where
-  pub valid : IsValid s.node
-  pub timing : InRange d s.node.timing
-  pub connected : is_connected s.node.view.ports s.port ≡ true
-  pub hears : HearsWell s.inbox s.node
-  pub ticks : TicksWell s.coin (heard s).state
-  pub watches : Watches s.node
-  pub waits : WaitsLong d s.node
-  pub ages : AgesFall (d - 1) s.wire
-  pub ages_after : AgesFall (d - 1) (wire_after s)
-
--- ---- phases and roles
-
-start-timed : (h : Phase) → is_resetting h ≡ true → is_timed h ≡ true
-start-timed h r = grind arith
-
-start-before_tree : (h : Phase) → is_resetting h ≡ true → is_before_tree h ≡ true
-start-before_tree h r = grind arith
-
-start-slack : (h : Phase) → is_resetting h ≡ true → slack h ≡ 1
-start-slack h r = grind arith
-
-contend-timed : (h : Phase) → h ≡ phase.Contend → is_timed h ≡ true
-contend-timed h e = ap is_timed e
-
--- before the tree is known no port leads to a child
-early-childless : (x : NodeState) → IsValid x → (k : ℕ) → is_before_tree x.view.phase ≡ true → leads_down x.view.ports k ≡ false
-early-childless x v k h = no-child x.view.parent x.view.ports k (fits x.view.phase h v.fits)
-  where
-    fits : (h : Phase) → is_before_tree h ≡ true → FitsPhase h x.view.parent x.view.ports → HasNoRoles x.view.parent x.view.ports
-    fits phase.ResetStart e f = f
-    fits phase.ResetWait e f = f
-    fits phase.TreeStart e f = f
-    fits h e f = absurd cc
-
--- afterwards a connected port leads to one or is the parent port
-late-roles : (x : NodeState) → IsValid x → is_before_tree x.view.phase ≡ false → HasRoles x.view.parent x.view.ports
-late-roles x v h = fits x.view.phase h v.fits
-  where
-    fits : (h : Phase) → is_before_tree h ≡ false → FitsPhase h x.view.parent x.view.ports → HasRoles x.view.parent x.view.ports
-    fits phase.ChildShake e f = f
-    fits phase.ParentShake e f = f
-    fits phase.Contend e f = f.0
-    fits phase.SelfIdent e f = f
-    fits phase.Ready e f = f
-    fits h e f = absurd cc
-
--- a node that was last sent Parent by a port asks there
-parent-asks : (x : NodeState) → IsValid x → (k : ℕ) → is_connected x.view.ports k ≡ true → tells x k ≡ level.Parent → (is_shaking x.view.phase ≡ true) × (is_port x.view.parent k ≡ true)
-parent-asks x v k c o = (
-  shaking x.view.phase (leads_down x.view.ports k) o,
-  turned (leads_down x.view.ports k) (is_port x.view.parent k)
-      (child-if x.view.parent x.view.ports k (late-roles x v (late x.view.phase (leads_down x.view.ports k) o)) c)
-      (other x.view.phase (leads_down x.view.ports k) o),
-)
-  where
-    shaking : (h : Phase) (b : Bool) → out h b ≡ level.Parent → is_shaking h ≡ true
-    shaking h b o = grind arith
-
-    late : (h : Phase) (b : Bool) → out h b ≡ level.Parent → is_before_tree h ≡ false
-    late h b o = grind arith
-
-    other : (h : Phase) (b : Bool) → out h b ≡ level.Parent → b ≡ false
-    other h b o = grind arith
-
-    turned : (a b : Bool) → a ≡ not b → a ≡ false → b ≡ true
-    turned a b h g = grind arith
-
--- the reset is known: for long in R0, or past it
-known-cases : (d : ℕ) (x : NodeState) → is_reset_known d x ≡ true → ((is_resetting x.view.phase ≡ true) × (d < x.view.timer)) ⊎ (is_between x.view.phase ≡ true)
-known-cases d x s = go x.view.phase x.view.timer s
-  where
-    go : (h : Phase) (t : ℕ) → ((is_resetting h && nat_lt d t) || is_between h) ≡ true → ((is_resetting h ≡ true) × (d < t)) ⊎ (is_between h ≡ true)
-    go h t s = grind arith
-
-between-known : (d : ℕ) (x : NodeState) → is_between x.view.phase ≡ true → is_reset_known d x ≡ true
-between-known d x m = go x.view.phase (nat_lt d x.view.timer) m
-  where
-    go : (h : Phase) (b : Bool) → is_between h ≡ true → ((is_resetting h && b) || is_between h) ≡ true
-    go h b m = grind arith
-
-tree_start-known : (d : ℕ) (x : NodeState) → x.view.phase ≡ phase.TreeStart → is_reset_known d x ≡ true
-tree_start-known d x e = between-known d x (ap is_between e)
-
--- ---- a node in a turn
-
-risen-most : (t : ℕ) → risen t ≤ t + 1
-risen-most t = grind arith
-
-module _ (d : ℕ) (x : Side) (some : 1 ≤ d) (short : d ≤ 16) (r : Ready d x) where
-  heard_timing : InRange d (heard x).state.timing
-  heard_timing = subst (InRange d) (sym r.hears.timing) r.timing
-
-  heard_connected : is_connected (heard x).state.view.ports x.port ≡ true
-  heard_connected = r.hears.cables x.port ∙ r.connected
-
-  hold_fits : (heard x).state.timing.hold ≤ 65535
-  hold_fits = omega (arith, heard_timing.hold_most, short)
-
-  -- a node that begins a reset is in R0 for one tick
-  came_after : Came x.node (heard x) → (is_resetting (ticked x).state.view.phase ≡ true) × ((ticked x).state.view.timer ≡ 1)
-  came_after c =
-      let t = r.ticks.holds (ap is_resetting c.phase) (omega (arith, c.timer, heard_timing.hold_least, some)) hold_fits in
-      (t.0, omega (arith, t.1, c.timer))
-
-  came_silent : Came x.node (heard x) → (ticked x).sends ≡ []
-  came_silent c = (r.ticks.holds (ap is_resetting c.phase) (omega (arith, c.timer, heard_timing.hold_least, some)) hold_fits).2
-
-  came_unknown : Came x.node (heard x) → is_reset_known d (ticked x).state ≡ true → ⊥
-  came_unknown c s = elim (known-cases d (ticked x).state s) [
-    | inl k ↦ omega (arith, k.1, (came_after c).1, some)
-    | inr m ↦ not_start (ticked x).state.view.phase (came_after c).0 m
-  ]
-    where
-      not_start : (h : Phase) → is_resetting h ≡ true → is_between h ≡ true → ⊥
-      not_start h a b = grind arith
-
-  same_wire : (heard x).sends ≡ [] → (ticked x).sends ≡ [] → wire_after x ≡ kept x
-  same_wire a b = rw (a, b) (append-nil (kept x))
-
-  kept_since : (b : ℕ) → AllSince b x.wire → AllSince (b + 1) (kept x)
-  kept_since b g = go x.gives
-    where
-      go : (c : Bool) → AllSince (b + 1) (if c then [] else map older x.wire)
-      go true = tt
-      go false = AllSince-older b x.wire g
-
-  after_signals : signals_of (wire_after x) ≡ signals_of (kept x) ++ sent x
-  after_signals = signals-append (kept x) (map newly_sent (sent x)) ∙ ap (λ ss. signals_of (kept x) ++ ss) (signals-sent (sent x))
-
-  kept_or_gone : (P : List Signal → Type 0) → P [] → P (signals_of x.wire) → P (signals_of (kept x))
-  kept_or_gone P e h = go x.gives
-    where
-      go : (b : Bool) → P (signals_of (if b then [] else map older x.wire))
-      go true = e
-      go false = subst P (sym (signals-older x.wire)) h
-
-  -- what is sent has no Reset, unless one was heard
-  calm_sent : Heard x.node (heard x) → any_reset (sent x) ≡ false
-  calm_sent h = any_reset-append (sent_on x.port (heard x).sends) (sent_on x.port (ticked x).sends) ∙ (rw (h.calm x.port, r.ticks.calm x.port) refl)
-
-  heard_parent : Heard x.node (heard x) → (k : ℕ) → is_port x.node.view.parent k ≡ true → is_port (heard x).state.view.parent k ≡ true
-  heard_parent h k e = ap (λ o. is_port o k) h.parent ∙ e
-
-  timer_rises : Heard x.node (heard x) → (t : ℕ) → t ≤ risen (heard x).state.view.timer → t ≤ x.node.view.timer + 1
-  timer_rises h t g = omega (arith, g, h.timer, risen-most (heard x).state.view.timer)
-
-pub watches-turn : (d : ℕ) (x : Side) → Ready d x → Watches (ticked x).state
-watches-turn d x r k c s =
-    let on : is_connected (heard x).state.view.ports k ≡ true = sym (r.ticks.cables k) ∙ c in
-    r.ticks.watches k on (r.hears.watches r.watches k on) (sym (r.ticks.shown k) ∙ s)
-
-pub waits-turn : (d : ℕ) (x : Side) → Ready d x → WaitsLong d (ticked x).state
-waits-turn d x r c = go r.hears.cases (r.ticks.contend c)
-  where
-    t : InRange d (heard x).state.timing
-    t = subst (InRange d) (sym r.hears.timing) r.timing
-
-    not_start : (h : Phase) → h ≡ phase.ResetStart → h ≡ phase.Contend → ⊥
-    not_start h a b = grind arith
-
-    go : Heard x.node (heard x) ⊎ Came x.node (heard x)
-        → (((heard x).state.view.phase ≡ phase.Contend) × ((ticked x).state.view.parent ≡ (heard x).state.view.parent) × ((ticked x).state.view.timer ≤ risen (heard x).state.view.timer) × ((ticked x).state.view.wait ≡ (heard x).state.view.wait))
-        ⊎ (((ticked x).state.view.timer ≡ 0) × (((ticked x).state.view.wait ≡ (heard x).state.timing.short) ⊎ ((ticked x).state.view.wait ≡ (heard x).state.timing.long)))
-        → 3 * d ≤ (ticked x).state.view.wait
-    go (inl h) (inl z) = omega (arith, z.3, h.wait, r.waits (sym h.phase ∙ z.0))
-    go (inr a) (inl z) = absurd (not_start (heard x).state.view.phase a.phase z.0)
-    go o (inr z) = elim z.1 [ inl s ↦ omega (arith, s, t.short_least) | inr l ↦ omega (arith, l, t.long_least) ]
+use Rattle.cable_world.proofs.Sides.{Side, heard, ticked, given, kept, sent, wire_after, Ready, start-timed, start-before_tree, start-slack, early-childless, late-roles, parent-asks, known-cases, between-known, tree_start-known, risen-most, heard_timing, heard_connected, heard_parent, timer_rises, calm_sent, hold_fits, came_after, came_silent, came_unknown, same_wire, kept_since, after_signals, kept_or_gone, contend_empty, watches-turn, waits-turn}
 
 -- ---- both sides
 
@@ -278,13 +74,13 @@ module _ (d : ℕ) (x y : Side) (j : Pair d x y) where
   sent_levels =
       said-append (tells x.node x.port) (sent_on x.port (heard x).sends) (sent_on x.port (ticked x).sends)
       ∙ ap (λ l. said l (sent_on x.port (ticked x).sends)) (j.near.hears.says x.port j.near.connected)
-      ∙ j.near.ticks.says x.port (heard_connected d x j.some_delay j.short_delay j.near)
+      ∙ j.near.ticks.says x.port (heard_connected d x j.near)
 
   -- the levels agree after the turn
   levels_after : said (shown_at (ticked y).state y.port) (signals_of (wire_after x)) ≡ tells (ticked x).state x.port
   levels_after =
       ap (λ l. said l (signals_of (wire_after x))) after_shown
-      ∙ ap (said (said (shown_at y.node y.port) (given x))) (after_signals d x j.some_delay j.short_delay j.near)
+      ∙ ap (said (said (shown_at y.node y.port) (given x))) (after_signals x)
       ∙ said-append (said (shown_at y.node y.port) (given x)) (signals_of (kept x)) (sent x)
       ∙ ap (λ l. said l (sent x)) kept_levels
       ∙ sent_levels
@@ -330,9 +126,9 @@ module _ (d : ℕ) (x y : Side) (j : Pair d x y) where
           let was : is_timed x.node.view.phase ≡ true = ap is_timed (sym ph) ∙ t in
           let since : AllSince ((ticked x).state.view.timer - slack x.node.view.phase) (kept x)
           = AllSince-less ((ticked x).state.view.timer - slack x.node.view.phase) (x.node.view.timer - slack x.node.view.phase + 1) (kept x)
-          (less (ticked x).state.view.timer x.node.view.timer (slack x.node.view.phase) (timer_rises d x j.some_delay j.short_delay j.near h (ticked x).state.view.timer s.1))
-          (kept_since d x j.some_delay j.short_delay j.near (x.node.view.timer - slack x.node.view.phase) (j.coupled.timed was)) in
-          subst (λ ts. AllSince ((ticked x).state.view.timer - slack (ticked x).state.view.phase) ts) (sym (same_wire d x j.some_delay j.short_delay j.near (h.sends (not_relaying x.node.view.phase was)) s.2))
+          (less (ticked x).state.view.timer x.node.view.timer (slack x.node.view.phase) (timer_rises x h (ticked x).state.view.timer s.1))
+          (kept_since x (x.node.view.timer - slack x.node.view.phase) (j.coupled.timed was)) in
+          subst (λ ts. AllSince ((ticked x).state.view.timer - slack (ticked x).state.view.phase) ts) (sym (same_wire x (h.sends (not_relaying x.node.view.phase was)) s.2))
           (subst (λ p. AllSince ((ticked x).state.view.timer - slack p) (kept x)) (sym ph) since)
       calm h (inr z) = AllSince-less ((ticked x).state.view.timer - slack (ticked x).state.view.phase) 0 (wire_after x) (omega (arith, z)) (AllSince-zero (wire_after x))
 
@@ -359,7 +155,7 @@ module _ (d : ℕ) (x y : Side) (j : Pair d x y) where
   known_before m h = elim (j.near.ticks.between m) [
     | inl a ↦ between-known d x.node (ap is_between (sym h.phase) ∙ a)
     | inr a ↦ long x.node.view.phase x.node.view.timer (ap is_resetting (sym h.phase) ∙ a.0)
-        (omega (arith, h.timer, a.1, risen-most (heard x).state.view.timer, (heard_timing d x j.some_delay j.short_delay j.near).hold_least, j.some_delay))
+        (omega (arith, h.timer, a.1, risen-most (heard x).state.view.timer, (heard_timing d x j.near).hold_least, j.some_delay))
   ]
     where
       long : (h : Phase) (t : ℕ) → is_resetting h ≡ true → d < t → ((is_resetting h && nat_lt d t) || is_between h) ≡ true
@@ -384,10 +180,10 @@ module _ (d : ℕ) (x y : Side) (j : Pair d x y) where
           let none : (heard x).sends ≡ [] = h.sends (silent x.node.view.phase (nat_lt d x.node.view.timer) was) in
           let told : all_low (sent_on x.port (heard x).sends) ≡ true = ap (λ ss. all_low (sent_on x.port ss)) none in
           let ticks : all_low (sent_on x.port (ticked x).sends) ≡ true
-          = j.near.ticks.low x.port (heard_connected d x j.some_delay j.short_delay j.near) (early (ticked x).state.view.phase m) in
-          let stay : all_low (signals_of (kept x)) ≡ true = kept_or_gone d x j.some_delay j.short_delay j.near (λ ss. all_low ss ≡ true) refl l.1 in (
+          = j.near.ticks.low x.port (heard_connected d x j.near) (early (ticked x).state.view.phase m) in
+          let stay : all_low (signals_of (kept x)) ≡ true = kept_or_gone x (λ ss. all_low ss ≡ true) refl l.1 in (
             ap is_low (j.other.ticks.shown y.port) ∙ heard_low l.0 l.1,
-            ap all_low (after_signals d x j.some_delay j.short_delay j.near)
+            ap all_low (after_signals x)
                 ∙ all_low-append (signals_of (kept x)) (sent x)
                 ∙ both (all_low (signals_of (kept x))) (all_low (sent x)) stay
                 (all_low-append (sent_on x.port (heard x).sends) (sent_on x.port (ticked x).sends) ∙ both (all_low (sent_on x.port (heard x).sends)) (all_low (sent_on x.port (ticked x).sends)) told ticks),
@@ -396,33 +192,23 @@ module _ (d : ℕ) (x y : Side) (j : Pair d x y) where
   reset_after : any_reset (signals_of (wire_after x)) ≡ true → is_resetting (ticked x).state.view.phase ≡ true
   reset_after a = elim j.near.hears.cases [
     | inl h ↦ still h (elim (either (any_reset (signals_of (kept x))) (any_reset (sent x)) (sym split ∙ a)) [
-        | inl b ↦ kept_or_gone d x j.some_delay j.short_delay j.near (λ ss. any_reset ss ≡ true → any_reset (signals_of x.wire) ≡ true) (λ n. absurd cc) (λ n. n) b
-        | inr b ↦ absurd (not-both (any_reset (sent x)) b (calm_sent d x j.some_delay j.short_delay j.near h))
+        | inl b ↦ kept_or_gone x (λ ss. any_reset ss ≡ true → any_reset (signals_of x.wire) ≡ true) (λ n. absurd cc) (λ n. n) b
+        | inr b ↦ absurd (not-both (any_reset (sent x)) b (calm_sent d x j.near h))
       ])
     | inr c ↦ (came c).0
   ]
     where
       split : any_reset (signals_of (wire_after x)) ≡ (any_reset (signals_of (kept x)) || any_reset (sent x))
-      split = ap any_reset (after_signals d x j.some_delay j.short_delay j.near) ∙ any_reset-append (signals_of (kept x)) (sent x)
+      split = ap any_reset (after_signals x) ∙ any_reset-append (signals_of (kept x)) (sent x)
 
       still : Heard x.node (heard x) → any_reset (signals_of x.wire) ≡ true → is_resetting (ticked x).state.view.phase ≡ true
       still h b =
           let r : is_resetting x.node.view.phase ≡ true = j.coupled.reset b in
           let t : x.node.view.timer - slack x.node.view.phase ≤ d - 1 = reset-age (d - 1) (x.node.view.timer - slack x.node.view.phase) x.wire b (j.coupled.timed (start-timed x.node.view.phase r)) j.near.ages in
-          let i : InRange d (heard x).state.timing = heard_timing d x j.some_delay j.short_delay j.near in
+          let i : InRange d (heard x).state.timing = heard_timing d x j.near in
           (j.near.ticks.holds (ap is_resetting h.phase ∙ r) (omega (arith, t, start-slack x.node.view.phase r, h.timer, i.hold_least, j.some_delay)) (hold_fits d x j.some_delay j.short_delay j.near)).0
 
 -- ---- facts that look at both sides
-
-known-empty : (d : ℕ) (x : Side) → 1 ≤ d → AgesFall (d - 1) x.wire → (is_timed x.node.view.phase ≡ true → AllSince (x.node.view.timer - slack x.node.view.phase) x.wire) → x.node.view.phase ≡ phase.Contend → d ≤ x.node.view.timer → x.wire ≡ []
-known-empty d x o ages timed c t =
-    nothing-left d x.wire o (AllSince-less d (x.node.view.timer - slack x.node.view.phase) x.wire (room x.node.view.phase c) (timed (contend-timed x.node.view.phase c))) ages
-  where
-    none : (h : Phase) → h ≡ phase.Contend → slack h ≡ 0
-    none h c = ap slack c
-
-    room : (h : Phase) → h ≡ phase.Contend → d ≤ x.node.view.timer - slack h
-    room h c = omega (arith, t, none h c)
 
 module _ (d : ℕ) (x y : Side) (j : Pair d x y) where
   back : Pair d y x
@@ -435,7 +221,7 @@ module _ (d : ℕ) (x y : Side) (j : Pair d x y) where
   early_after s = elim (known-cases d (ticked x).state s) [
     | inl r ↦ before_or (is_before_tree (ticked y).state.view.phase) (is_asking (ticked y).state y.port)
         (waits (ticked y).state.view.phase
-        (watches-turn d y j.other y.port (j.other.ticks.cables y.port ∙ heard_connected d y j.some_delay j.short_delay j.other) (shows_reset_after d x y j r.0 r.1)))
+        (watches-turn d y j.other y.port (j.other.ticks.cables y.port ∙ heard_connected d y j.other) (shows_reset_after d x y j r.0 r.1)))
     | inr m ↦ elim j.near.hears.cases [ inl h ↦ middle (known_before d x y j m h) | inr c ↦ absurd (unknown d x y j c s) ]
   ]
     where
@@ -444,7 +230,7 @@ module _ (d : ℕ) (x y : Side) (j : Pair d x y) where
 
       middle : is_reset_known d x.node ≡ true → (is_before_tree (ticked y).state.view.phase || is_asking (ticked y).state y.port) ≡ true
       middle was = elim j.other.hears.cases [
-        | inl h ↦ j.other.ticks.early y.port (heard_connected d y j.some_delay j.short_delay j.other) (heard_low d x y j (j.coupled.low was).0 (j.coupled.low was).1)
+        | inl h ↦ j.other.ticks.early y.port (heard_connected d y j.other) (heard_low d x y j (j.coupled.low was).0 (j.coupled.low was).1)
             (ap (λ p. is_before_tree p || (is_shaking p && is_port (heard y).state.view.parent y.port)) h.phase
             ∙ ap (λ o. is_before_tree y.node.view.phase || (is_shaking y.node.view.phase && is_port o y.port)) h.parent ∙ j.coupled.early was)
         | inr c ↦ before_or (is_before_tree (ticked y).state.view.phase) (is_asking (ticked y).state y.port) (start-before_tree (ticked y).state.view.phase (came d y x back c).0)
@@ -470,7 +256,7 @@ module _ (d : ℕ) (x y : Side) (j : Pair d x y) where
 
       sends : Came y.node (heard y) → any_reset (signals_of (wire_after y)) ≡ true
       sends c =
-          ap any_reset (after_signals d y j.some_delay j.short_delay j.other)
+          ap any_reset (after_signals y)
           ∙ any_reset-append (signals_of (kept y)) (sent y)
           ∙ ap (λ b. any_reset (signals_of (kept y)) || b) (any_reset-append (sent_on y.port (heard y).sends) (sent_on y.port (ticked y).sends))
           ∙ last (any_reset (signals_of (kept y))) (any_reset (sent_on y.port (heard y).sends)) (any_reset (sent_on y.port (ticked y).sends)) (reset_sent c)
@@ -489,7 +275,7 @@ module _ (d : ℕ) (x y : Side) (j : Pair d x y) where
     where
       stays : any_reset (signals_of (kept y)) ≡ false
       stays = neither-first (any_reset (signals_of (kept y))) (any_reset (sent y))
-          (sym (any_reset-append (signals_of (kept y)) (sent y)) ∙ sym (ap any_reset (after_signals d y j.some_delay j.short_delay j.other)) ∙ a)
+          (sym (any_reset-append (signals_of (kept y)) (sent y)) ∙ sym (ap any_reset (after_signals y)) ∙ a)
 
       heard_reset : any_reset (given y) ≡ true → ⊥
       heard_reset t = not-both (is_resetting (heard x).state.view.phase)
@@ -509,15 +295,15 @@ module _ (d : ℕ) (x y : Side) (j : Pair d x y) where
       → (is_port (ticked y).state.view.parent y.port ≡ true) × (is_parent (shown_at (ticked y).state y.port) ≡ false) × (no_parent (signals_of (wire_after x)) ≡ true)
   stays_so c h g a b n =
       let later : is_parent (shown_at (heard y).state y.port) ≡ false = heard_no_parent d x y j b n in
-      let stay : no_parent (signals_of (kept x)) ≡ true = kept_or_gone d x j.some_delay j.short_delay j.near (λ ss. no_parent ss ≡ true) refl n in (
-        j.other.ticks.parent y.port (heard_parent d y j.some_delay j.short_delay j.other g y.port a) later,
+      let stay : no_parent (signals_of (kept x)) ≡ true = kept_or_gone x (λ ss. no_parent ss ≡ true) refl n in (
+        j.other.ticks.parent y.port (heard_parent y g y.port a) later,
         ap is_parent (j.other.ticks.shown y.port) ∙ later,
-        ap no_parent (after_signals d x j.some_delay j.short_delay j.near)
+        ap no_parent (after_signals x)
             ∙ no_parent-append (signals_of (kept x)) (sent x)
             ∙ both (no_parent (signals_of (kept x))) (no_parent (sent x)) stay
             (no_parent-append (sent_on x.port (heard x).sends) (sent_on x.port (ticked x).sends)
             ∙ both (no_parent (sent_on x.port (heard x).sends)) (no_parent (sent_on x.port (ticked x).sends)) (j.near.hears.asks_none x.port)
-            (j.near.ticks.asks_no_child x.port (heard_connected d x j.some_delay j.short_delay j.near) c)),
+            (j.near.ticks.asks_no_child x.port (heard_connected d x j.near) c)),
       )
 
   -- a node in T0 that is shown Parent: the other one asks it
@@ -555,12 +341,12 @@ module _ (d : ℕ) (x y : Side) (j : Pair d x y) where
       go false a f = asks (is_before_tree y.node.view.phase) (is_shaking y.node.view.phase) (is_port y.node.view.parent y.port) a f
 
   -- in contention for long: nothing is under way to the other node, and it shows Idle
-  contend_empty : x.node.view.phase ≡ phase.Contend → d ≤ x.node.view.timer → x.wire ≡ []
-  contend_empty c t = known-empty d x j.some_delay j.near.ages j.coupled.timed c t
+  nothing_there : x.node.view.phase ≡ phase.Contend → d ≤ x.node.view.timer → x.wire ≡ []
+  nothing_there c t = contend_empty d x j.some_delay j.near j.coupled.timed c t
 
   contend_shows : x.node.view.phase ≡ phase.Contend → is_port x.node.view.parent x.port ≡ true → d ≤ x.node.view.timer → shown_at y.node y.port ≡ level.Idle
   contend_shows c a t =
-      ap (λ ts. said (shown_at y.node y.port) (signals_of ts)) (sym (contend_empty c t)) ∙ j.levels ∙ outs x.node.view.phase c (leads_down x.node.view.ports x.port) childless
+      ap (λ ts. said (shown_at y.node y.port) (signals_of ts)) (sym (nothing_there c t)) ∙ j.levels ∙ outs x.node.view.phase c (leads_down x.node.view.ports x.port) childless
     where
       outs : (h : Phase) → h ≡ phase.Contend → (b : Bool) → b ≡ false → out h b ≡ level.Idle
       outs h c b f = grind arith
@@ -572,7 +358,7 @@ module _ (d : ℕ) (x y : Side) (j : Pair d x y) where
       childless = child-if x.node.view.parent x.node.view.ports x.port (late-roles x.node j.near.valid (late x.node.view.phase c)) j.near.connected ∙ ap not a
 
   heard_idle : x.node.view.phase ≡ phase.Contend → is_port x.node.view.parent x.port ≡ true → d ≤ x.node.view.timer → shown_at (heard y).state y.port ≡ level.Idle
-  heard_idle c a t = heard_shown d x y j ∙ idle x.gives (shown_at y.node y.port) x.wire (contend_shows c a t) (contend_empty c t)
+  heard_idle c a t = heard_shown d x y j ∙ idle x.gives (shown_at y.node y.port) x.wire (contend_shows c a t) (nothing_there c t)
     where
       idle : (b : Bool) (l : Level) (ts : List Travelling) → l ≡ level.Idle → ts ≡ [] → said l (if b then signals_of ts else []) ≡ level.Idle
       idle true l ts h g = ap (λ v. said l (signals_of v)) g ∙ h
@@ -582,7 +368,7 @@ module _ (d : ℕ) (x y : Side) (j : Pair d x y) where
   other_sends : x.node.view.phase ≡ phase.Contend → is_port x.node.view.parent x.port ≡ true → d ≤ x.node.view.timer → (b : ℕ) → NoneTakesBack b (tells y.node y.port) (map newly_sent (sent y))
   other_sends c a t b = elim (is_it (tells y.node y.port)) [
     | inl o ↦ NoneTakesBack-no_fall b (tells y.node y.port) (sent y) (no_falls (parent-asks y.node j.other.valid y.port j.other.connected o))
-    | inr o ↦ elim (either (no_fall on_tick) (no_parent on_tick) (j.other.ticks.batch y.port (heard_connected d y j.some_delay j.short_delay j.other))) [
+    | inr o ↦ elim (either (no_fall on_tick) (no_parent on_tick) (j.other.ticks.batch y.port (heard_connected d y j.other))) [
       | inl f ↦ NoneTakesBack-no_fall b (tells y.node y.port) (sent y) (joined f)
       | inr f ↦ NoneTakesBack-no_parent b (tells y.node y.port) (sent y) o (no_parent-append on_hear on_tick ∙ both (no_parent on_hear) (no_parent on_tick) (j.other.hears.asks_none y.port) f)
     ]
@@ -602,7 +388,7 @@ module _ (d : ℕ) (x y : Side) (j : Pair d x y) where
 
       ticks : (is_shaking y.node.view.phase ≡ true) × (is_port y.node.view.parent y.port ≡ true) → no_fall on_tick ≡ true
       ticks o = elim j.other.hears.cases [
-        | inl h ↦ j.other.ticks.asks y.port (heard_connected d y j.some_delay j.short_delay j.other) (ap is_shaking h.phase ∙ o.0) (heard_parent d y j.some_delay j.short_delay j.other h y.port o.1) (heard_idle c a t)
+        | inl h ↦ j.other.ticks.asks y.port (heard_connected d y j.other) (ap is_shaking h.phase ∙ o.0) (heard_parent y h y.port o.1) (heard_idle c a t)
         | inr z ↦ ap (λ ss. no_fall (sent_on y.port ss)) (came_silent d y j.some_delay j.short_delay j.other z)
       ]
 
@@ -648,12 +434,12 @@ module _ (d : ℕ) (x y : Side) (j : Pair d x y) where
           port = ap (λ o. is_port o x.port) (sym h.parent ∙ sym z.1) ∙ a
 
           timer : (ticked x).state.view.timer ≤ x.node.view.timer + 1
-          timer = timer_rises d x j.some_delay j.short_delay j.near h (ticked x).state.view.timer z.2
+          timer = timer_rises x h (ticked x).state.view.timer z.2
 
   child_after : leads_down (ticked x).state.view.ports x.port ≡ true → any_reset (signals_of (wire_after y)) ≡ false
       → (is_port (ticked y).state.view.parent y.port ≡ true) × (is_parent (shown_at (ticked y).state y.port) ≡ false) × (no_parent (signals_of (wire_after x)) ≡ true)
   child_after c a =
-      elim (j.near.ticks.child x.port (heard_connected d x j.some_delay j.short_delay j.near) c) [
+      elim (j.near.ticks.child x.port (heard_connected d x j.near) c) [
         | inl z ↦ old (sym (h.child x.port) ∙ z)
         | inr o ↦ elim o [
           | inl z ↦ new (sym h.phase ∙ z.0) z.1
@@ -694,7 +480,7 @@ module _ (d : ℕ) (x y : Side) (j : Pair d x y) where
       fought : x.node.view.phase ≡ phase.Contend → is_port x.node.view.parent x.port ≡ true → shown_at (heard x).state x.port ≡ level.Parent → x.node.view.wait ≤ risen (heard x).state.view.timer → Goal
       fought t b s f =
           stays_so c h g (parent-asks y.node j.other.valid y.port j.other.connected (told y.gives (sym (heard_shown d y x back) ∙ s))).1
-          (ap is_parent (contend_shows t b long)) (ap (λ ts. no_parent (signals_of ts)) (contend_empty t long))
+          (ap is_parent (contend_shows t b long)) (ap (λ ts. no_parent (signals_of ts)) (nothing_there t long))
         where
           twice : 2 * d ≤ x.node.view.timer
           twice = omega (arith, f, h.timer, risen-most (heard x).state.view.timer, j.near.waits t, j.some_delay)

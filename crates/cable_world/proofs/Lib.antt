@@ -9,6 +9,7 @@ mod TurnFacts
 mod HearsWell
 mod TicksWell
 mod Streams
+mod Sides
 mod CoupledTurn
 mod Shape
 mod TurnKept

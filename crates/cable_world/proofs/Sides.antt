@@ -1,0 +1,239 @@
+-- A node at its port of a cable, in a turn.
+use Rattle.std.proofs.Common.{◌≡◌, ◌⊎◌, inl, inr, ℕ, ◌+◌, ◌-◌, ◌*◌, ◌<◌, ◌≤◌, Bool, true, false, not, ◌&&◌, ◌||◌, ◌==◌, List, [], ◌∷◌, ◌++◌, map, Option, Some, refl, sym, ◌∙◌, ap, subst, arith, if◌then◌else◌, append-nil}
+use Rattle.std.specs.Prelude.{nat_lt, IsSome}
+use Rattle.std.proofs.lemmas.Bool.{eq-eqb}
+use Rattle.port_state.specs.declared.signal.Level.{Level}
+use Rattle.port_state.specs.declared.signal.Level.TheVariants as level
+use Rattle.port_state.specs.declared.signal.Phase.{Phase}
+use Rattle.port_state.specs.declared.signal.Phase.TheVariants as phase
+use Rattle.port_state.specs.declared.signal.Signal.{Signal}
+use Rattle.port_state.specs.declared.ports.PortView.{PortView}
+use Rattle.port_state.specs.declared.states.NodeState.{NodeState}
+use Rattle.port_state.specs.Timing.{InRange}
+use Rattle.port_state.specs.Ports.{is_parent, is_connected, is_port}
+use Rattle.port_state.specs.Sends.{sent_on}
+use Rattle.port_state.specs.Step.{Step}
+use Rattle.port_state.specs.Heard.{is_resetting, hears_packets}
+use Rattle.port_state.specs.Tick.{tick}
+use Rattle.port_state.specs.Valid.{HasNoRoles, HasRoles, FitsPhase, IsValid}
+use Rattle.cable_world.specs.Wire.{Travelling, newly_sent, older}
+use Rattle.cable_world.specs.Agreement.{out}
+use Rattle.cable_world.specs.Coupling.{is_before_tree, is_between, is_waiting, is_shaking, is_contending, is_timed, slack, signals_of, any_reset, is_low, all_low, no_parent, no_fall, AllSince, NoneTakesBack, shown_at, leads_down, is_asking, is_reset_known, Coupled, Watches, WaitsLong}
+use Rattle.cable_world.specs.Lawful.{AgesFall}
+use Rattle.cable_world.proofs.LastSent.{said, said-append, tells, child-if, no-child}
+use Rattle.cable_world.proofs.TurnFacts.{hear_all, Heard, Came, HearsWell, TicksWell, risen}
+use Rattle.cable_world.proofs.Streams.{not-both, either, neither-first, both, signals-append, signals-sent, signals-older, any_reset-append, all_low-append, no_fall-append, no_parent-append, said-low, said-no_parent, low-no_parent, said-reset, AllSince-zero, AllSince-less, AllSince-older, nothing-left, reset-age, NoneTakesBack-append, NoneTakesBack-older, NoneTakesBack-zero, NoneTakesBack-no_fall, NoneTakesBack-no_parent, parent-stays}
+
+-- ---- one side of a cable in a turn
+
+-- a node at its port of a cable, in a turn
+pub record Side : Type 0 where
+  -- before the turn
+  pub node : NodeState
+  pub port : ℕ
+  -- under way from it before the turn
+  pub wire : List Travelling
+  -- whether that wire gives all its signals in this turn
+  pub gives : Bool
+  -- all that the node hears in this turn
+  pub inbox : List (ℕ × Signal)
+  pub coin : Bool
+
+abbrev pub heard : Side → Step
+heard s = hear_all s.inbox s.node
+
+abbrev pub ticked : Side → Step
+ticked s = tick s.coin (heard s).state
+
+-- what its wire gives, and what stays on it
+abbrev pub given : Side → List Signal
+given s = if s.gives then signals_of s.wire else []
+
+abbrev pub kept : Side → List Travelling
+kept s = if s.gives then [] else map older s.wire
+
+-- what it sends on the port
+abbrev pub sent : Side → List Signal
+sent s = sent_on s.port (heard s).sends ++ sent_on s.port (ticked s).sends
+
+abbrev pub wire_after : Side → List Travelling
+wire_after s = kept s ++ map newly_sent (sent s)
+
+-- what is so of a side before the turn
+pub record Ready (d : ℕ) (s : Side) : Type 0 where
+  pub valid : IsValid s.node
+  pub timing : InRange d s.node.timing
+  pub connected : is_connected s.node.view.ports s.port ≡ true
+  pub hears : HearsWell s.inbox s.node
+  pub ticks : TicksWell s.coin (heard s).state
+  pub watches : Watches s.node
+  pub waits : WaitsLong d s.node
+  pub ages : AgesFall (d - 1) s.wire
+  pub ages_after : AgesFall (d - 1) (wire_after s)
+
+-- ---- phases and roles
+
+pub start-timed : (h : Phase) → is_resetting h ≡ true → is_timed h ≡ true
+start-timed h r = grind arith
+
+pub start-before_tree : (h : Phase) → is_resetting h ≡ true → is_before_tree h ≡ true
+start-before_tree h r = grind arith
+
+pub start-slack : (h : Phase) → is_resetting h ≡ true → slack h ≡ 1
+start-slack h r = grind arith
+
+-- before the tree is known no port leads to a child
+pub early-childless : (x : NodeState) → IsValid x → (k : ℕ) → is_before_tree x.view.phase ≡ true → leads_down x.view.ports k ≡ false
+early-childless x v k h = no-child x.view.parent x.view.ports k (fits x.view.phase h v.fits)
+  where
+    fits : (h : Phase) → is_before_tree h ≡ true → FitsPhase h x.view.parent x.view.ports → HasNoRoles x.view.parent x.view.ports
+    fits phase.ResetStart e f = f
+    fits phase.ResetWait e f = f
+    fits phase.TreeStart e f = f
+    fits h e f = absurd cc
+
+-- afterwards a connected port leads to one or is the parent port
+pub late-roles : (x : NodeState) → IsValid x → is_before_tree x.view.phase ≡ false → HasRoles x.view.parent x.view.ports
+late-roles x v h = fits x.view.phase h v.fits
+  where
+    fits : (h : Phase) → is_before_tree h ≡ false → FitsPhase h x.view.parent x.view.ports → HasRoles x.view.parent x.view.ports
+    fits phase.ChildShake e f = f
+    fits phase.ParentShake e f = f
+    fits phase.Contend e f = f.0
+    fits phase.SelfIdent e f = f
+    fits phase.Ready e f = f
+    fits h e f = absurd cc
+
+-- a node that was last sent Parent by a port asks there
+pub parent-asks : (x : NodeState) → IsValid x → (k : ℕ) → is_connected x.view.ports k ≡ true → tells x k ≡ level.Parent → (is_shaking x.view.phase ≡ true) × (is_port x.view.parent k ≡ true)
+parent-asks x v k c o = (
+  shaking x.view.phase (leads_down x.view.ports k) o,
+  turned (leads_down x.view.ports k) (is_port x.view.parent k)
+      (child-if x.view.parent x.view.ports k (late-roles x v (late x.view.phase (leads_down x.view.ports k) o)) c)
+      (other x.view.phase (leads_down x.view.ports k) o),
+)
+  where
+    shaking : (h : Phase) (b : Bool) → out h b ≡ level.Parent → is_shaking h ≡ true
+    shaking h b o = grind arith
+
+    late : (h : Phase) (b : Bool) → out h b ≡ level.Parent → is_before_tree h ≡ false
+    late h b o = grind arith
+
+    other : (h : Phase) (b : Bool) → out h b ≡ level.Parent → b ≡ false
+    other h b o = grind arith
+
+    turned : (a b : Bool) → a ≡ not b → a ≡ false → b ≡ true
+    turned a b h g = grind arith
+
+-- the reset is known: for long in R0, or past it
+pub known-cases : (d : ℕ) (x : NodeState) → is_reset_known d x ≡ true → ((is_resetting x.view.phase ≡ true) × (d < x.view.timer)) ⊎ (is_between x.view.phase ≡ true)
+known-cases d x s = go x.view.phase x.view.timer s
+  where
+    go : (h : Phase) (t : ℕ) → ((is_resetting h && nat_lt d t) || is_between h) ≡ true → ((is_resetting h ≡ true) × (d < t)) ⊎ (is_between h ≡ true)
+    go h t s = grind arith
+
+pub between-known : (d : ℕ) (x : NodeState) → is_between x.view.phase ≡ true → is_reset_known d x ≡ true
+between-known d x m = go x.view.phase (nat_lt d x.view.timer) m
+  where
+    go : (h : Phase) (b : Bool) → is_between h ≡ true → ((is_resetting h && b) || is_between h) ≡ true
+    go h b m = grind arith
+
+pub tree_start-known : (d : ℕ) (x : NodeState) → x.view.phase ≡ phase.TreeStart → is_reset_known d x ≡ true
+tree_start-known d x e = between-known d x (ap is_between e)
+
+-- ---- a node in a turn
+
+pub risen-most : (t : ℕ) → risen t ≤ t + 1
+risen-most t = grind arith
+
+pub heard_timing : (d : ℕ) (x : Side) → Ready d x → InRange d (heard x).state.timing
+heard_timing d x r = subst (InRange d) (sym r.hears.timing) r.timing
+
+pub heard_connected : (d : ℕ) (x : Side) → Ready d x → is_connected (heard x).state.view.ports x.port ≡ true
+heard_connected d x r = r.hears.cables x.port ∙ r.connected
+
+pub heard_parent : (x : Side) → Heard x.node (heard x) → (k : ℕ) → is_port x.node.view.parent k ≡ true → is_port (heard x).state.view.parent k ≡ true
+heard_parent x h k e = ap (λ o. is_port o k) h.parent ∙ e
+
+pub timer_rises : (x : Side) → Heard x.node (heard x) → (t : ℕ) → t ≤ risen (heard x).state.view.timer → t ≤ x.node.view.timer + 1
+timer_rises x h t g = omega (arith, g, h.timer, risen-most (heard x).state.view.timer)
+
+-- what is sent has no Reset, unless one was heard
+pub calm_sent : (d : ℕ) (x : Side) → Ready d x → Heard x.node (heard x) → any_reset (sent x) ≡ false
+calm_sent d x r h = any_reset-append (sent_on x.port (heard x).sends) (sent_on x.port (ticked x).sends) ∙ (rw (h.calm x.port, r.ticks.calm x.port) refl)
+
+module _ (d : ℕ) (x : Side) (some : 1 ≤ d) (short : d ≤ 16) (r : Ready d x) where
+  pub hold_fits : (heard x).state.timing.hold ≤ 65535
+  hold_fits = omega (arith, (heard_timing d x r).hold_most, short)
+
+  -- a node that begins a reset stays in R0, and says nothing more
+  came_holds : Came x.node (heard x) → (is_resetting (ticked x).state.view.phase ≡ true) × ((ticked x).state.view.timer ≡ (heard x).state.view.timer + 1) × ((ticked x).sends ≡ [])
+  came_holds c = r.ticks.holds (ap is_resetting c.phase) (omega (arith, c.timer, (heard_timing d x r).hold_least, some)) hold_fits
+
+  pub came_after : Came x.node (heard x) → (is_resetting (ticked x).state.view.phase ≡ true) × ((ticked x).state.view.timer ≡ 1)
+  came_after c = ((came_holds c).0, omega (arith, (came_holds c).1, c.timer))
+
+  pub came_silent : Came x.node (heard x) → (ticked x).sends ≡ []
+  came_silent c = (came_holds c).2
+
+  -- its reset isn't known yet
+  pub came_unknown : Came x.node (heard x) → is_reset_known d (ticked x).state ≡ true → ⊥
+  came_unknown c s = elim (known-cases d (ticked x).state s) [
+    | inl k ↦ omega (arith, k.1, (came_after c).1, some)
+    | inr m ↦ not_start (ticked x).state.view.phase (came_after c).0 m
+  ]
+    where
+      not_start : (h : Phase) → is_resetting h ≡ true → is_between h ≡ true → ⊥
+      not_start h a b = grind arith
+
+-- ---- its wire
+
+pub same_wire : (x : Side) → (heard x).sends ≡ [] → (ticked x).sends ≡ [] → wire_after x ≡ kept x
+same_wire x a b = rw (a, b) (append-nil (kept x))
+
+pub kept_since : (x : Side) (b : ℕ) → AllSince b x.wire → AllSince (b + 1) (kept x)
+kept_since x b g = go x.gives
+  where
+    go : (c : Bool) → AllSince (b + 1) (if c then [] else map older x.wire)
+    go true = tt
+    go false = AllSince-older b x.wire g
+
+pub after_signals : (x : Side) → signals_of (wire_after x) ≡ signals_of (kept x) ++ sent x
+after_signals x = signals-append (kept x) (map newly_sent (sent x)) ∙ ap (λ ss. signals_of (kept x) ++ ss) (signals-sent (sent x))
+
+-- what is so of no signals, and of those that were under way, is so of those that stay
+pub kept_or_gone : (x : Side) (P : List Signal → Type 0) → P [] → P (signals_of x.wire) → P (signals_of (kept x))
+kept_or_gone x P e h = go x.gives
+  where
+    go : (b : Bool) → P (signals_of (if b then [] else map older x.wire))
+    go true = e
+    go false = subst P (sym (signals-older x.wire)) h
+
+-- in contention for long: nothing is under way
+pub contend_empty : (d : ℕ) (x : Side) → 1 ≤ d → Ready d x → (is_timed x.node.view.phase ≡ true → AllSince (x.node.view.timer - slack x.node.view.phase) x.wire) → x.node.view.phase ≡ phase.Contend → d ≤ x.node.view.timer → x.wire ≡ []
+contend_empty d x o r timed c t =
+    nothing-left d x.wire o (AllSince-less d (x.node.view.timer - slack x.node.view.phase) x.wire (omega (arith, t, ap slack c)) (timed (ap is_timed c))) r.ages
+
+-- ---- what is so of the node alone
+
+pub watches-turn : (d : ℕ) (x : Side) → Ready d x → Watches (ticked x).state
+watches-turn d x r k c s =
+    let on : is_connected (heard x).state.view.ports k ≡ true = sym (r.ticks.cables k) ∙ c in
+    r.ticks.watches k on (r.hears.watches r.watches k on) (sym (r.ticks.shown k) ∙ s)
+
+pub waits-turn : (d : ℕ) (x : Side) → Ready d x → WaitsLong d (ticked x).state
+waits-turn d x r c = go r.hears.cases (r.ticks.contend c)
+  where
+    t : InRange d (heard x).state.timing
+    t = heard_timing d x r
+
+    not_start : (h : Phase) → h ≡ phase.ResetStart → h ≡ phase.Contend → ⊥
+    not_start h a b = grind arith
+
+    go : Heard x.node (heard x) ⊎ Came x.node (heard x)
+        → (((heard x).state.view.phase ≡ phase.Contend) × ((ticked x).state.view.parent ≡ (heard x).state.view.parent) × ((ticked x).state.view.timer ≤ risen (heard x).state.view.timer) × ((ticked x).state.view.wait ≡ (heard x).state.view.wait))
+        ⊎ (((ticked x).state.view.timer ≡ 0) × (((ticked x).state.view.wait ≡ (heard x).state.timing.short) ⊎ ((ticked x).state.view.wait ≡ (heard x).state.timing.long)))
+        → 3 * d ≤ (ticked x).state.view.wait
+    go (inl h) (inl z) = omega (arith, z.3, h.wait, r.waits (sym h.phase ∙ z.0))
+    go (inr a) (inl z) = absurd (not_start (heard x).state.view.phase a.phase z.0)
+    go o (inr z) = elim z.1 [ inl s ↦ omega (arith, s, t.short_least) | inr l ↦ omega (arith, l, t.long_least) ]
