@@ -1,29 +1,23 @@
 -- A turn keeps what is so at the two ends of a cable.
-use Rattle.std.proofs.Common.{◌≡◌, ◌⊎◌, inl, inr, ℕ, ◌+◌, ◌-◌, ◌*◌, ◌<◌, ◌≤◌, Bool, true, false, not, ◌&&◌, ◌||◌, ◌==◌, List, [], ◌∷◌, ◌++◌, map, Option, Some, refl, sym, ◌∙◌, ap, subst, arith, if◌then◌else◌, append-nil}
-use Rattle.std.specs.Prelude.{nat_lt, IsSome}
+use Rattle.std.proofs.Common.{◌≡◌, ◌⊎◌, inl, inr, ℕ, ◌+◌, ◌-◌, ◌*◌, ◌<◌, ◌≤◌, Bool, true, false, not, ◌&&◌, ◌||◌, List, [], ◌++◌, map, refl, sym, ◌∙◌, ap, subst, arith, if◌then◌else◌}
+use Rattle.std.specs.Prelude.{nat_lt}
 use Rattle.std.proofs.lemmas.Bool.{eq-eqb}
 use Rattle.port_state.specs.declared.signal.Level.{Level}
 use Rattle.port_state.specs.declared.signal.Level.TheVariants as level
 use Rattle.port_state.specs.declared.signal.Phase.{Phase}
 use Rattle.port_state.specs.declared.signal.Phase.TheVariants as phase
 use Rattle.port_state.specs.declared.signal.Signal.{Signal}
-use Rattle.port_state.specs.declared.ports.PortView.{PortView}
-use Rattle.port_state.specs.declared.states.NodeState.{NodeState}
 use Rattle.port_state.specs.Timing.{InRange}
-use Rattle.port_state.specs.Ports.{is_parent, is_connected, is_port}
+use Rattle.port_state.specs.Ports.{is_parent, is_port}
 use Rattle.port_state.specs.Sends.{sent_on}
-use Rattle.port_state.specs.Step.{Step}
 use Rattle.port_state.specs.Heard.{is_resetting, hears_packets}
-use Rattle.port_state.specs.Tick.{tick}
-use Rattle.port_state.specs.Valid.{HasNoRoles, HasRoles, FitsPhase, IsValid}
 use Rattle.cable_world.specs.Wire.{Travelling, newly_sent, older}
 use Rattle.cable_world.specs.Agreement.{out}
-use Rattle.cable_world.specs.Coupling.{is_before_tree, is_between, is_waiting, is_shaking, is_contending, is_timed, slack, signals_of, any_reset, is_low, all_low, no_parent, no_fall, AllSince, NoneTakesBack, shown_at, leads_down, is_asking, is_reset_known, Coupled, Watches, WaitsLong}
-use Rattle.cable_world.specs.Lawful.{AgesFall}
-use Rattle.cable_world.proofs.LastSent.{said, said-append, tells, child-if, no-child}
-use Rattle.cable_world.proofs.TurnFacts.{hear_all, Heard, Came, HearsWell, TicksWell, risen}
-use Rattle.cable_world.proofs.Streams.{not-both, either, neither-first, both, signals-append, signals-sent, signals-older, any_reset-append, all_low-append, no_fall-append, no_parent-append, said-low, said-no_parent, low-no_parent, said-reset, AllSince-zero, AllSince-less, AllSince-older, nothing-left, reset-age, NoneTakesBack-append, NoneTakesBack-older, NoneTakesBack-zero, NoneTakesBack-no_fall, NoneTakesBack-no_parent, parent-stays}
-use Rattle.cable_world.proofs.Sides.{Side, heard, ticked, given, kept, sent, wire_after, Ready, start-timed, start-before_tree, start-slack, early-childless, late-roles, parent-asks, known-cases, between-known, tree_start-known, risen-most, heard_timing, heard_connected, heard_parent, timer_rises, calm_sent, hold_fits, came_after, came_silent, came_unknown, same_wire, kept_since, after_signals, kept_or_gone, contend_empty, watches-turn, waits-turn}
+use Rattle.cable_world.specs.Coupling.{is_before_tree, is_between, is_waiting, is_shaking, is_timed, slack, signals_of, any_reset, is_low, all_low, no_parent, no_fall, AllSince, NoneTakesBack, shown_at, leads_down, is_asking, is_reset_known, Coupled}
+use Rattle.cable_world.proofs.LastSent.{said, said-append, tells, child-if}
+use Rattle.cable_world.proofs.TurnFacts.{Heard, Came, risen}
+use Rattle.cable_world.proofs.Streams.{not-both, either, neither-first, both, signals-older, any_reset-append, all_low-append, no_fall-append, no_parent-append, said-low, said-no_parent, low-no_parent, said-reset, AllSince-zero, AllSince-less, nothing-left, reset-age, NoneTakesBack-append, NoneTakesBack-older, NoneTakesBack-zero, NoneTakesBack-no_fall, NoneTakesBack-no_parent, parent-stays}
+use Rattle.cable_world.proofs.Sides.{Side, heard, ticked, given, kept, sent, wire_after, Ready, start-timed, start-before_tree, start-slack, early-childless, late-roles, parent-asks, known-cases, between-known, tree_start-known, risen-most, heard_timing, heard_connected, heard_parent, timer_rises, calm_sent, hold_fits, came_after, came_silent, came_unknown, same_wire, kept_since, after_signals, kept_or_gone, contend_empty, watches-turn}
 
 -- ---- both sides
 
@@ -192,9 +186,9 @@ module _ (d : ℕ) (x y : Side) (j : Pair d x y) where
   reset_after : any_reset (signals_of (wire_after x)) ≡ true → is_resetting (ticked x).state.view.phase ≡ true
   reset_after a = elim j.near.hears.cases [
     | inl h ↦ still h (elim (either (any_reset (signals_of (kept x))) (any_reset (sent x)) (sym split ∙ a)) [
-        | inl b ↦ kept_or_gone x (λ ss. any_reset ss ≡ true → any_reset (signals_of x.wire) ≡ true) (λ n. absurd cc) (λ n. n) b
-        | inr b ↦ absurd (not-both (any_reset (sent x)) b (calm_sent d x j.near h))
-      ])
+      | inl b ↦ kept_or_gone x (λ ss. any_reset ss ≡ true → any_reset (signals_of x.wire) ≡ true) (λ n. absurd cc) (λ n. n) b
+      | inr b ↦ absurd (not-both (any_reset (sent x)) b (calm_sent d x j.near h))
+    ])
     | inr c ↦ (came c).0
   ]
     where

@@ -1,15 +1,14 @@
 -- What is under way on a wire, and the level that it brings: of the lists of signals alone.
-use Rattle.std.proofs.Common.{◌≡◌, ◌⊎◌, inl, inr, ℕ, ◌+◌, ◌-◌, ◌<◌, ◌≤◌, Bool, true, false, not, ◌&&◌, ◌||◌, List, [], ◌∷◌, ◌++◌, map, refl, sym, ◌∙◌, ap, subst, le_trans, arith, if◌then◌else◌}
+use Rattle.std.proofs.Common.{◌≡◌, ◌⊎◌, ℕ, ◌+◌, ◌-◌, ◌<◌, ◌≤◌, Bool, true, false, not, ◌&&◌, ◌||◌, List, [], ◌∷◌, ◌++◌, map, refl, ◌∙◌, ap, subst, le_trans, arith}
 use Rattle.port_state.specs.declared.signal.Level.{Level}
 use Rattle.port_state.specs.declared.signal.Level.TheVariants as level
 use Rattle.port_state.specs.declared.signal.Signal.{Signal}
-use Rattle.port_state.specs.declared.signal.Signal.TheVariants as signal
 use Rattle.port_state.specs.Ports.{is_parent}
 use Rattle.cable_world.specs.Wire.{Travelling, newly_sent, older}
 use Rattle.cable_world.specs.Agreement.{shown_by, is_reset}
 use Rattle.cable_world.specs.Coupling.{signals_of, any_reset, is_low, is_low_signal, all_low, is_parent_signal, no_parent, is_fall, no_fall, AllSince, NoneTakesBack}
 use Rattle.cable_world.specs.Lawful.{AgesFall}
-use Rattle.cable_world.proofs.LastSent.{said, said-append}
+use Rattle.cable_world.proofs.LastSent.{said}
 
 -- ---- tests
 
