@@ -1,7 +1,7 @@
 -- A turn keeps what is so at the two ends of a cable.
 use Rattle.std.proofs.Common.{◌≡◌, ◌⊎◌, inl, inr, ℕ, ◌+◌, ◌-◌, ◌*◌, ◌<◌, ◌≤◌, Bool, true, false, not, ◌&&◌, ◌||◌, List, [], ◌++◌, map, refl, sym, ◌∙◌, ap, subst, arith, if◌then◌else◌}
 use Rattle.std.specs.Prelude.{nat_lt}
-use Rattle.std.proofs.lemmas.Bool.{eq-eqb}
+use Rattle.std.proofs.lemmas.Bool.{eq-eqb, and_from, or_cases, or_left, or_parts}
 use Rattle.port_state.specs.declared.signal.Level.{Level}
 use Rattle.port_state.specs.declared.signal.Level.TheVariants as level
 use Rattle.port_state.specs.declared.signal.Phase.{Phase}
@@ -16,7 +16,7 @@ use Rattle.cable_world.specs.Agreement.{out}
 use Rattle.cable_world.specs.Coupling.{is_before_tree, is_between, is_waiting, is_shaking, is_timed, slack, signals_of, any_reset, is_low, all_low, no_parent, no_fall, AllSince, NoneTakesBack, shown_at, leads_down, is_asking, is_reset_known, Coupled}
 use Rattle.cable_world.proofs.LastSent.{said, said-append, tells, child-if}
 use Rattle.cable_world.proofs.TurnFacts.{Heard, Came, risen}
-use Rattle.cable_world.proofs.Streams.{not-both, either, neither-first, both, signals-older, any_reset-append, all_low-append, no_fall-append, no_parent-append, said-low, said-no_parent, low-no_parent, said-reset, AllSince-zero, AllSince-less, nothing-left, reset-age, NoneTakesBack-append, NoneTakesBack-older, NoneTakesBack-zero, NoneTakesBack-no_fall, NoneTakesBack-no_parent, parent-stays}
+use Rattle.cable_world.proofs.Streams.{not-both, signals-older, any_reset-append, all_low-append, no_fall-append, no_parent-append, said-low, said-no_parent, low-no_parent, said-reset, AllSince-zero, AllSince-less, nothing-left, reset-age, NoneTakesBack-append, NoneTakesBack-older, NoneTakesBack-zero, NoneTakesBack-no_fall, NoneTakesBack-no_parent, parent-stays}
 use Rattle.cable_world.proofs.Sides.{Side, heard, ticked, given, kept, sent, wire_after, Ready, start-timed, start-before_tree, start-slack, early-childless, late-roles, parent-asks, known-cases, between-known, tree_start-known, risen-most, heard_timing, heard_connected, heard_parent, timer_rises, calm_sent, hold_fits, came_after, came_silent, came_unknown, same_wire, kept_since, after_signals, kept_or_gone, contend_empty, watches-turn}
 
 -- ---- both sides
@@ -179,13 +179,13 @@ module _ (d : ℕ) (x y : Side) (j : Pair d x y) where
             ap is_low (j.other.ticks.shown y.port) ∙ heard_low l.0 l.1,
             ap all_low (after_signals x)
                 ∙ all_low-append (signals_of (kept x)) (sent x)
-                ∙ both (all_low (signals_of (kept x))) (all_low (sent x)) stay
-                (all_low-append (sent_on x.port (heard x).sends) (sent_on x.port (ticked x).sends) ∙ both (all_low (sent_on x.port (heard x).sends)) (all_low (sent_on x.port (ticked x).sends)) told ticks),
+                ∙ and_from (all_low (signals_of (kept x))) (all_low (sent x)) stay
+                (all_low-append (sent_on x.port (heard x).sends) (sent_on x.port (ticked x).sends) ∙ and_from (all_low (sent_on x.port (heard x).sends)) (all_low (sent_on x.port (ticked x).sends)) told ticks),
           )
 
   reset_after : any_reset (signals_of (wire_after x)) ≡ true → is_resetting (ticked x).state.view.phase ≡ true
   reset_after a = elim j.near.hears.cases [
-    | inl h ↦ still h (elim (either (any_reset (signals_of (kept x))) (any_reset (sent x)) (sym split ∙ a)) [
+    | inl h ↦ still h (elim (or_cases (any_reset (signals_of (kept x))) (any_reset (sent x)) (sym split ∙ a)) [
       | inl b ↦ kept_or_gone x (λ ss. any_reset ss ≡ true → any_reset (signals_of x.wire) ≡ true) (λ n. absurd cc) (λ n. n) b
       | inr b ↦ absurd (not-both (any_reset (sent x)) b (calm_sent d x j.near h))
     ])
@@ -208,12 +208,9 @@ module _ (d : ℕ) (x y : Side) (j : Pair d x y) where
   back : Pair d y x
   back = turned-round d x y j
 
-  before_or : (a b : Bool) → a ≡ true → (a || b) ≡ true
-  before_or a b h = grind arith
-
   early_after : is_reset_known d (ticked x).state ≡ true → (is_before_tree (ticked y).state.view.phase || is_asking (ticked y).state y.port) ≡ true
   early_after s = elim (known-cases d (ticked x).state s) [
-    | inl r ↦ before_or (is_before_tree (ticked y).state.view.phase) (is_asking (ticked y).state y.port)
+    | inl r ↦ or_left (is_before_tree (ticked y).state.view.phase) (is_asking (ticked y).state y.port)
         (waits (ticked y).state.view.phase
         (watches-turn d y j.other y.port (j.other.ticks.cables y.port ∙ heard_connected d y j.other) (shows_reset_after d x y j r.0 r.1)))
     | inr m ↦ elim j.near.hears.cases [ inl h ↦ middle (known_before d x y j m h) | inr c ↦ absurd (unknown d x y j c s) ]
@@ -227,7 +224,7 @@ module _ (d : ℕ) (x y : Side) (j : Pair d x y) where
         | inl h ↦ j.other.ticks.early y.port (heard_connected d y j.other) (heard_low d x y j (j.coupled.low was).0 (j.coupled.low was).1)
             (ap (λ p. is_before_tree p || (is_shaking p && is_port (heard y).state.view.parent y.port)) h.phase
             ∙ ap (λ o. is_before_tree y.node.view.phase || (is_shaking y.node.view.phase && is_port o y.port)) h.parent ∙ j.coupled.early was)
-        | inr c ↦ before_or (is_before_tree (ticked y).state.view.phase) (is_asking (ticked y).state y.port) (start-before_tree (ticked y).state.view.phase (came d y x back c).0)
+        | inr c ↦ or_left (is_before_tree (ticked y).state.view.phase) (is_asking (ticked y).state y.port) (start-before_tree (ticked y).state.view.phase (came d y x back c).0)
       ]
 
   -- the other node doesn't begin a reset, if no Reset is under way from it afterwards
@@ -268,8 +265,8 @@ module _ (d : ℕ) (x y : Side) (j : Pair d x y) where
   no_reset_before r h a = go (any_reset (signals_of y.wire)) refl
     where
       stays : any_reset (signals_of (kept y)) ≡ false
-      stays = neither-first (any_reset (signals_of (kept y))) (any_reset (sent y))
-          (sym (any_reset-append (signals_of (kept y)) (sent y)) ∙ sym (ap any_reset (after_signals y)) ∙ a)
+      stays = (or_parts (any_reset (signals_of (kept y))) (any_reset (sent y))
+          (sym (any_reset-append (signals_of (kept y)) (sent y)) ∙ sym (ap any_reset (after_signals y)) ∙ a)).0
 
       heard_reset : any_reset (given y) ≡ true → ⊥
       heard_reset t = not-both (is_resetting (heard x).state.view.phase)
@@ -294,9 +291,9 @@ module _ (d : ℕ) (x y : Side) (j : Pair d x y) where
         ap is_parent (j.other.ticks.shown y.port) ∙ later,
         ap no_parent (after_signals x)
             ∙ no_parent-append (signals_of (kept x)) (sent x)
-            ∙ both (no_parent (signals_of (kept x))) (no_parent (sent x)) stay
+            ∙ and_from (no_parent (signals_of (kept x))) (no_parent (sent x)) stay
             (no_parent-append (sent_on x.port (heard x).sends) (sent_on x.port (ticked x).sends)
-            ∙ both (no_parent (sent_on x.port (heard x).sends)) (no_parent (sent_on x.port (ticked x).sends)) (j.near.hears.asks_none x.port)
+            ∙ and_from (no_parent (sent_on x.port (heard x).sends)) (no_parent (sent_on x.port (ticked x).sends)) (j.near.hears.asks_none x.port)
             (j.near.ticks.asks_no_child x.port (heard_connected d x j.near) c)),
       )
 
@@ -362,9 +359,9 @@ module _ (d : ℕ) (x y : Side) (j : Pair d x y) where
   other_sends : x.node.view.phase ≡ phase.Contend → is_port x.node.view.parent x.port ≡ true → d ≤ x.node.view.timer → (b : ℕ) → NoneTakesBack b (tells y.node y.port) (map newly_sent (sent y))
   other_sends c a t b = elim (is_it (tells y.node y.port)) [
     | inl o ↦ NoneTakesBack-no_fall b (tells y.node y.port) (sent y) (no_falls (parent-asks y.node j.other.valid y.port j.other.connected o))
-    | inr o ↦ elim (either (no_fall on_tick) (no_parent on_tick) (j.other.ticks.batch y.port (heard_connected d y j.other))) [
+    | inr o ↦ elim (or_cases (no_fall on_tick) (no_parent on_tick) (j.other.ticks.batch y.port (heard_connected d y j.other))) [
       | inl f ↦ NoneTakesBack-no_fall b (tells y.node y.port) (sent y) (joined f)
-      | inr f ↦ NoneTakesBack-no_parent b (tells y.node y.port) (sent y) o (no_parent-append on_hear on_tick ∙ both (no_parent on_hear) (no_parent on_tick) (j.other.hears.asks_none y.port) f)
+      | inr f ↦ NoneTakesBack-no_parent b (tells y.node y.port) (sent y) o (no_parent-append on_hear on_tick ∙ and_from (no_parent on_hear) (no_parent on_tick) (j.other.hears.asks_none y.port) f)
     ]
   ]
     where
@@ -375,7 +372,7 @@ module _ (d : ℕ) (x y : Side) (j : Pair d x y) where
       on_tick = sent_on y.port (ticked y).sends
 
       joined : no_fall on_tick ≡ true → no_fall (sent y) ≡ true
-      joined f = no_fall-append on_hear on_tick ∙ both (no_fall on_hear) (no_fall on_tick) (j.other.hears.takes_none_back y.port) f
+      joined f = no_fall-append on_hear on_tick ∙ and_from (no_fall on_hear) (no_fall on_tick) (j.other.hears.takes_none_back y.port) f
 
       is_it : (l : Level) → (l ≡ level.Parent) ⊎ (l ≡ level.Parent → ⊥)
       is_it l = grind arith

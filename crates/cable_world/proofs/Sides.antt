@@ -56,7 +56,7 @@ sent s = sent_on s.port (heard s).sends ++ sent_on s.port (ticked s).sends
 abbrev pub wire_after : Side → List Travelling
 wire_after s = kept s ++ map newly_sent (sent s)
 
--- what is so of a side before the turn
+-- what is so of a side before the turn, and that no signal is too old after it
 pub record Ready (d : ℕ) (s : Side) : Type 0 where
   pub valid : IsValid s.node
   pub timing : InRange d s.node.timing
@@ -159,13 +159,13 @@ timer_rises x h t g = omega (arith, g, h.timer, risen-most (heard x).state.view.
 pub calm_sent : (d : ℕ) (x : Side) → Ready d x → Heard x.node (heard x) → any_reset (sent x) ≡ false
 calm_sent d x r h = any_reset-append (sent_on x.port (heard x).sends) (sent_on x.port (ticked x).sends) ∙ (rw (h.calm x.port, r.ticks.calm x.port) refl)
 
-module _ (d : ℕ) (x : Side) (some : 1 ≤ d) (short : d ≤ 16) (r : Ready d x) where
+module _ (d : ℕ) (x : Side) (some_delay : 1 ≤ d) (short_delay : d ≤ 16) (r : Ready d x) where
   pub hold_fits : (heard x).state.timing.hold ≤ 65535
-  hold_fits = omega (arith, (heard_timing d x r).hold_most, short)
+  hold_fits = omega (arith, (heard_timing d x r).hold_most, short_delay)
 
   -- a node that begins a reset stays in R0, and says nothing more
   came_holds : Came x.node (heard x) → (is_resetting (ticked x).state.view.phase ≡ true) × ((ticked x).state.view.timer ≡ (heard x).state.view.timer + 1) × ((ticked x).sends ≡ [])
-  came_holds c = r.ticks.holds (ap is_resetting c.phase) (omega (arith, c.timer, (heard_timing d x r).hold_least, some)) hold_fits
+  came_holds c = r.ticks.holds (ap is_resetting c.phase) (omega (arith, c.timer, (heard_timing d x r).hold_least, some_delay)) hold_fits
 
   pub came_after : Came x.node (heard x) → (is_resetting (ticked x).state.view.phase ≡ true) × ((ticked x).state.view.timer ≡ 1)
   came_after c = ((came_holds c).0, omega (arith, (came_holds c).1, c.timer))
@@ -176,7 +176,7 @@ module _ (d : ℕ) (x : Side) (some : 1 ≤ d) (short : d ≤ 16) (r : Ready d x
   -- its reset isn't known yet
   pub came_unknown : Came x.node (heard x) → is_reset_known d (ticked x).state ≡ true → ⊥
   came_unknown c s = elim (known-cases d (ticked x).state s) [
-    | inl k ↦ omega (arith, k.1, (came_after c).1, some)
+    | inl k ↦ omega (arith, k.1, (came_after c).1, some_delay)
     | inr m ↦ not_start (ticked x).state.view.phase (came_after c).0 m
   ]
     where

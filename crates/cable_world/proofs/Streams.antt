@@ -1,5 +1,6 @@
 -- What is under way on a wire, and the level that it brings: of the lists of signals alone.
-use Rattle.std.proofs.Common.{◌≡◌, ◌⊎◌, ℕ, ◌+◌, ◌-◌, ◌<◌, ◌≤◌, Bool, true, false, not, ◌&&◌, ◌||◌, List, [], ◌∷◌, ◌++◌, map, refl, ◌∙◌, ap, subst, le_trans, arith}
+use Rattle.std.proofs.Common.{◌≡◌, ℕ, ◌+◌, ◌-◌, ◌<◌, ◌≤◌, Bool, true, false, not, ◌&&◌, ◌||◌, List, [], ◌∷◌, ◌++◌, map, refl, ◌∙◌, ap, subst, le_trans, arith}
+use Rattle.std.proofs.lemmas.Bool.{and_from, and_parts, or_parts}
 use Rattle.port_state.specs.declared.signal.Level.{Level}
 use Rattle.port_state.specs.declared.signal.Level.TheVariants as level
 use Rattle.port_state.specs.declared.signal.Signal.{Signal}
@@ -15,26 +16,8 @@ use Rattle.cable_world.proofs.LastSent.{said}
 pub not-both : (b : Bool) → b ≡ true → b ≡ false → ⊥
 not-both b f g = cc
 
-pub either : (a b : Bool) → (a || b) ≡ true → (a ≡ true) ⊎ (b ≡ true)
-either a b h = grind arith
-
-pub neither-first : (a b : Bool) → (a || b) ≡ false → a ≡ false
-neither-first a b h = grind arith
-
-pub neither-second : (a b : Bool) → (a || b) ≡ false → b ≡ false
-neither-second a b h = grind arith
-
-pub both-first : (a b : Bool) → (a && b) ≡ true → a ≡ true
-both-first a b h = grind arith
-
-pub both-second : (a b : Bool) → (a && b) ≡ true → b ≡ true
-both-second a b h = grind arith
-
-pub both : (a b : Bool) → a ≡ true → b ≡ true → (a && b) ≡ true
-both a b h g = grind arith
-
-pub not-true : (a : Bool) → not a ≡ true → a ≡ false
-not-true a h = grind arith
+not-so : (a : Bool) → not a ≡ true → a ≡ false
+not-so a h = grind arith
 
 -- ---- the signals under way
 
@@ -78,21 +61,21 @@ no_parent-append (x ∷ xs) ys = ap (λ b. not (is_parent_signal x) && b) (no_pa
 
 pub said-low : (l : Level) (ss : List Signal) → is_low l ≡ true → all_low ss ≡ true → is_low (said l ss) ≡ true
 said-low l [] h g = h
-said-low l (s ∷ ss) h g = said-low (shown_by s l) ss (first s l h (both-first (is_low_signal s) (all_low ss) g)) (both-second (is_low_signal s) (all_low ss) g)
+said-low l (s ∷ ss) h g = said-low (shown_by s l) ss (first s l h (and_parts (is_low_signal s) (all_low ss) g).0) (and_parts (is_low_signal s) (all_low ss) g).1
   where
     first : (s : Signal) (l : Level) → is_low l ≡ true → is_low_signal s ≡ true → is_low (shown_by s l) ≡ true
     first s l h g = grind arith
 
 pub said-no_parent : (l : Level) (ss : List Signal) → is_parent l ≡ false → no_parent ss ≡ true → is_parent (said l ss) ≡ false
 said-no_parent l [] h g = h
-said-no_parent l (s ∷ ss) h g = said-no_parent (shown_by s l) ss (first s l h (both-first (not (is_parent_signal s)) (no_parent ss) g)) (both-second (not (is_parent_signal s)) (no_parent ss) g)
+said-no_parent l (s ∷ ss) h g = said-no_parent (shown_by s l) ss (first s l h (and_parts (not (is_parent_signal s)) (no_parent ss) g).0) (and_parts (not (is_parent_signal s)) (no_parent ss) g).1
   where
     first : (s : Signal) (l : Level) → is_parent l ≡ false → not (is_parent_signal s) ≡ true → is_parent (shown_by s l) ≡ false
     first s l h g = grind arith
 
 pub low-no_parent : (ss : List Signal) → all_low ss ≡ true → no_parent ss ≡ true
 low-no_parent [] g = refl
-low-no_parent (s ∷ ss) g = both (not (is_parent_signal s)) (no_parent ss) (one s (both-first (is_low_signal s) (all_low ss) g)) (low-no_parent ss (both-second (is_low_signal s) (all_low ss) g))
+low-no_parent (s ∷ ss) g = and_from (not (is_parent_signal s)) (no_parent ss) (one s (and_parts (is_low_signal s) (all_low ss) g).0) (low-no_parent ss (and_parts (is_low_signal s) (all_low ss) g).1)
   where
     one : (s : Signal) → is_low_signal s ≡ true → not (is_parent_signal s) ≡ true
     one s h = grind arith
@@ -153,13 +136,13 @@ NoneTakesBack-zero l (t ∷ ts) = (λ a e. absurd (omega (arith, a)), NoneTakesB
 pub NoneTakesBack-no_fall : (b : ℕ) (l : Level) (ss : List Signal) → no_fall ss ≡ true → NoneTakesBack b l (map newly_sent ss)
 NoneTakesBack-no_fall b l [] h = tt
 NoneTakesBack-no_fall b l (s ∷ ss) h =
-    (λ a e. not-true (is_fall s) (both-first (not (is_fall s)) (no_fall ss) h), NoneTakesBack-no_fall b (shown_by s l) ss (both-second (not (is_fall s)) (no_fall ss) h))
+    (λ a e. not-so (is_fall s) (and_parts (not (is_fall s)) (no_fall ss) h).0, NoneTakesBack-no_fall b (shown_by s l) ss (and_parts (not (is_fall s)) (no_fall ss) h).1)
 
 pub NoneTakesBack-no_parent : (b : ℕ) (l : Level) (ss : List Signal) → (l ≡ level.Parent → ⊥) → no_parent ss ≡ true → NoneTakesBack b l (map newly_sent ss)
 NoneTakesBack-no_parent b l [] g h = tt
 NoneTakesBack-no_parent b l (s ∷ ss) g h = (
   λ a e. absurd (g e),
-  NoneTakesBack-no_parent b (shown_by s l) ss (keeps s l g (both-first (not (is_parent_signal s)) (no_parent ss) h)) (both-second (not (is_parent_signal s)) (no_parent ss) h),
+  NoneTakesBack-no_parent b (shown_by s l) ss (keeps s l g (and_parts (not (is_parent_signal s)) (no_parent ss) h).0) (and_parts (not (is_parent_signal s)) (no_parent ss) h).1,
 )
   where
     keeps : (s : Signal) (l : Level) → (l ≡ level.Parent → ⊥) → not (is_parent_signal s) ≡ true → shown_by s l ≡ level.Parent → ⊥
@@ -170,9 +153,9 @@ pub parent-stays : (b most : ℕ) (ts : List Travelling) → most < b → AgesFa
 parent-stays b most [] h g r n = refl
 parent-stays b most (t ∷ ts) h g r n =
     let f : is_fall t.signal ≡ false = n.0 (omega (arith, g.0, h)) refl in
-    let m : shown_by t.signal level.Parent ≡ level.Parent = still t.signal f (neither-first (is_reset t.signal) (any_reset (signals_of ts)) r) in
+    let m : shown_by t.signal level.Parent ≡ level.Parent = still t.signal f (or_parts (is_reset t.signal) (any_reset (signals_of ts)) r).0 in
     ap (λ l. said l (signals_of ts)) m
-    ∙ parent-stays b t.age ts (omega (arith, g.0, h)) g.1 (neither-second (is_reset t.signal) (any_reset (signals_of ts)) r) (subst (λ l. NoneTakesBack b l ts) m n.1)
+    ∙ parent-stays b t.age ts (omega (arith, g.0, h)) g.1 (or_parts (is_reset t.signal) (any_reset (signals_of ts)) r).1 (subst (λ l. NoneTakesBack b l ts) m n.1)
   where
     still : (s : Signal) → is_fall s ≡ false → is_reset s ≡ false → shown_by s level.Parent ≡ level.Parent
     still s f r = grind arith
