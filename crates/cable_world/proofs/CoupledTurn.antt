@@ -212,7 +212,7 @@ module _ (d : ℕ) (x y : Side) (j : Pair d x y) where
   early_after s = elim (known-cases d (ticked x).state s) [
     | inl r ↦ or_left (is_before_tree (ticked y).state.view.phase) (is_asking (ticked y).state y.port)
         (waits (ticked y).state.view.phase
-        (watches-turn d y j.other y.port (j.other.ticks.cables y.port ∙ heard_connected d y j.other) (shows_reset_after d x y j r.0 r.1)))
+        (watches-turn y.inbox y.coin y.node j.other.hears j.other.ticks j.other.watches y.port (j.other.ticks.cables y.port ∙ heard_connected d y j.other) (shows_reset_after d x y j r.0 r.1)))
     | inr m ↦ elim j.near.hears.cases [ inl h ↦ middle (known_before d x y j m h) | inr c ↦ absurd (unknown d x y j c s) ]
   ]
     where

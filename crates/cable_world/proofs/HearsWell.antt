@@ -1,5 +1,5 @@
 -- What is to be known of a node that hears a list of signals.
-use Rattle.std.proofs.Common.{◌≡◌, ◌⊎◌, inl, inr, ℕ, Bool, true, false, not, ◌&&◌, ◌||◌, ◌==◌, List, [], ◌∷◌, ◌++◌, Option, Some, None, slice_get, refl, sym, ◌∙◌, ap, subst, if◌then◌else◌}
+use Rattle.std.proofs.Common.{◌≡◌, ◌⊎◌, inl, inr, ℕ, Bool, true, false, not, ◌&&◌, ◌==◌, List, [], ◌∷◌, ◌++◌, Option, Some, None, slice_get, refl, sym, ◌∙◌, ap, subst, if◌then◌else◌}
 use Rattle.std.specs.Option.{option_map}
 use Rattle.std.proofs.lemmas.Bool.{and_parts, eqb-true}
 use Rattle.port_state.specs.declared.signal.Level.{Level}
@@ -20,34 +20,13 @@ use Rattle.port_state.specs.Valid.{IsValid}
 use Rattle.port_state.proofs.Laws.{sound-on_signal, signal-cables, on_every-port, on_others-port, sent_on-append}
 use Rattle.port_state.proofs.EachPort.{port_is-changed}
 use Rattle.cable_world.specs.Agreement.{is_reset}
-use Rattle.cable_world.specs.Coupling.{is_waiting, any_reset, no_fall, no_parent, is_fall, is_parent_signal, shown_or_idle, shown_at, leads_down, Watches}
+use Rattle.cable_world.specs.Coupling.{is_waiting, any_reset, no_fall, no_parent, shown_or_idle, shown_at, leads_down, Watches}
 use Rattle.cable_world.proofs.Options.{some-same}
 use Rattle.cable_world.proofs.LastSent.{said, said-append, only, tells, signal-says}
 use Rattle.cable_world.proofs.LastHeard.{shows, signal-shows}
 use Rattle.cable_world.proofs.LevelsKept.{cons-sent}
 use Rattle.cable_world.proofs.TurnFacts.{hear_all, Heard, Came, HearsWell}
-
--- ---- tests of what is sent, part by part
-
-pub any_reset-append : (xs ys : List Signal) → any_reset (xs ++ ys) ≡ (any_reset xs || any_reset ys)
-any_reset-append [] ys = refl
-any_reset-append (s ∷ xs) ys = rw (any_reset-append xs ys) (go (is_reset s))
-  where
-    go : (b : Bool) → (b || (any_reset xs || any_reset ys)) ≡ ((b || any_reset xs) || any_reset ys)
-    go true = refl
-    go false = refl
-
-and-and : (a b c : Bool) → (a && (b && c)) ≡ ((a && b) && c)
-and-and true b c = refl
-and-and false b c = refl
-
-pub no_fall-append : (xs ys : List Signal) → no_fall (xs ++ ys) ≡ (no_fall xs && no_fall ys)
-no_fall-append [] ys = refl
-no_fall-append (s ∷ xs) ys = rw (no_fall-append xs ys) (and-and (not (is_fall s)) (no_fall xs) (no_fall ys))
-
-pub no_parent-append : (xs ys : List Signal) → no_parent (xs ++ ys) ≡ (no_parent xs && no_parent ys)
-no_parent-append [] ys = refl
-no_parent-append (s ∷ xs) ys = rw (no_parent-append xs ys) (and-and (not (is_parent_signal s)) (no_parent xs) (no_parent ys))
+use Rattle.cable_world.proofs.Streams.{any_reset-append, no_fall-append, no_parent-append}
 
 -- ---- one signal: a Reset begins a reset, or none did
 

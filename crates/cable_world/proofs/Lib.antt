@@ -18,7 +18,8 @@ mod TurnParts
 mod RolesKept
 mod LevelsActs
 mod CoupledActs
-mod Formed
+mod CouplingKept
+mod StaysLawful
 mod StepKept
 mod ActKept
 mod OneOutcome

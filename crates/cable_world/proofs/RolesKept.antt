@@ -1,13 +1,9 @@
 -- Where cables are coupled, each child port leads to a parent port.
-use Rattle.std.proofs.Common.{◌≡◌, Bool, true, false, ◌||◌, List, [], ◌∷◌, Some, refl, sym, ◌∙◌, ap}
-use Rattle.port_state.specs.declared.ports.PortView.{PortView}
-use Rattle.port_state.specs.declared.view.View.{View}
+use Rattle.std.proofs.Common.{◌≡◌, true, false, List, [], ◌∷◌, Some, refl, ◌∙◌, ap}
 use Rattle.port_state.specs.Ports.{passes}
-use Rattle.cabling.specs.declared.cable.End.{End}
-use Rattle.cabling.specs.Wiring.{far}
 use Rattle.cable_world.specs.Wire.{Travelling}
 use Rattle.cable_world.specs.World.{CableWorld, wire_of}
-use Rattle.cable_world.specs.Agreement.{is_reset, HasNoReset, AtEnds, LevelsAgree, RolesAgree}
+use Rattle.cable_world.specs.Agreement.{HasNoReset, LevelsAgree, RolesAgree}
 use Rattle.cable_world.specs.Coupling.{signals_of, any_reset, IsCoupled}
 use Rattle.cable_world.proofs.AgreeTest.{same-port}
 use Rattle.cable_world.proofs.LevelsKept.{some-at, Joined, joined-of}
@@ -21,5 +17,5 @@ coupled-roles w levels coupled a b e none =
     let j : Joined w a b = joined-of w a b (levels a b e) in
     let c = coupled.cables a b j.near j.other e j.near_at j.other_at in
     let child : j.here.child ≡ true → j.other.state.view.parent ≡ Some b.port =
-        λ is. same-port j.other.state.view.parent b.port (c.child (ap (passes (λ p. p.child)) j.here_at ∙ is) (no-reset (wire_of w b).signals none)).0 in
+    λ is. same-port j.other.state.view.parent b.port (c.child (ap (passes (λ p. p.child)) j.here_at ∙ is) (no-reset (wire_of w b).signals none)).0 in
     some-at _ j.near _ j.near_at (some-at _ j.here _ j.here_at (some-at _ j.other _ j.other_at (some-at _ j.there _ j.there_at child)))

@@ -213,24 +213,32 @@ contend_empty d x o r timed c t =
 
 -- ---- what is so of the node alone
 
-pub watches-turn : (d : ℕ) (x : Side) → Ready d x → Watches (ticked x).state
-watches-turn d x r k c s =
-    let on : is_connected (heard x).state.view.ports k ≡ true = sym (r.ticks.cables k) ∙ c in
-    r.ticks.watches k on (r.hears.watches r.watches k on) (sym (r.ticks.shown k) ∙ s)
+-- ---- a node in a turn, whatever cables it has
 
-pub waits-turn : (d : ℕ) (x : Side) → Ready d x → WaitsLong d (ticked x).state
-waits-turn d x r c = go r.hears.cases (r.ticks.contend c)
+pub watches-turn : (signals : List (ℕ × Signal)) (coin : Bool) (x : NodeState) → HearsWell signals x → TicksWell coin (hear_all signals x).state → Watches x → Watches (tick coin (hear_all signals x).state).state
+watches-turn signals coin x h t w k c s =
+    let on : is_connected (hear_all signals x).state.view.ports k ≡ true = sym (t.cables k) ∙ c in
+    t.watches k on (h.watches w k on) (sym (t.shown k) ∙ s)
+
+pub waits-turn : (d : ℕ) (signals : List (ℕ × Signal)) (coin : Bool) (x : NodeState) → InRange d x.timing → HearsWell signals x → TicksWell coin (hear_all signals x).state → WaitsLong d x → WaitsLong d (tick coin (hear_all signals x).state).state
+waits-turn d signals coin x r h t w c = go h.cases (t.contend c)
   where
-    t : InRange d (heard x).state.timing
-    t = heard_timing d x r
+    m : NodeState
+    m = (hear_all signals x).state
+
+    n : NodeState
+    n = (tick coin m).state
 
     not_start : (h : Phase) → h ≡ phase.ResetStart → h ≡ phase.Contend → ⊥
     not_start h a b = grind arith
 
-    go : Heard x.node (heard x) ⊎ Came x.node (heard x)
-        → (((heard x).state.view.phase ≡ phase.Contend) × ((ticked x).state.view.parent ≡ (heard x).state.view.parent) × ((ticked x).state.view.timer ≤ risen (heard x).state.view.timer) × ((ticked x).state.view.wait ≡ (heard x).state.view.wait))
-        ⊎ (((ticked x).state.view.timer ≡ 0) × (((ticked x).state.view.wait ≡ (heard x).state.timing.short) ⊎ ((ticked x).state.view.wait ≡ (heard x).state.timing.long)))
-        → 3 * d ≤ (ticked x).state.view.wait
-    go (inl h) (inl z) = omega (arith, z.3, h.wait, r.waits (sym h.phase ∙ z.0))
-    go (inr a) (inl z) = absurd (not_start (heard x).state.view.phase a.phase z.0)
-    go o (inr z) = elim z.1 [ inl s ↦ omega (arith, s, t.short_least) | inr l ↦ omega (arith, l, t.long_least) ]
+    range : InRange d m.timing
+    range = rw h.timing r
+
+    go : Heard x (hear_all signals x) ⊎ Came x (hear_all signals x)
+        → ((m.view.phase ≡ phase.Contend) × (n.view.parent ≡ m.view.parent) × (n.view.timer ≤ risen m.view.timer) × (n.view.wait ≡ m.view.wait))
+        ⊎ ((n.view.timer ≡ 0) × ((n.view.wait ≡ m.timing.short) ⊎ (n.view.wait ≡ m.timing.long)))
+        → 3 * d ≤ n.view.wait
+    go (inl a) (inl z) = omega (arith, z.3, a.wait, w (sym a.phase ∙ z.0))
+    go (inr a) (inl z) = absurd (not_start m.view.phase a.phase z.0)
+    go o (inr z) = elim z.1 [ inl s ↦ omega (arith, s, range.short_least) | inr l ↦ omega (arith, l, range.long_least) ]

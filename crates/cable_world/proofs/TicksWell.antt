@@ -30,7 +30,7 @@ use Rattle.cable_world.specs.Coupling.{is_before_tree, is_between, is_waiting, i
 use Rattle.cable_world.proofs.LastSent.{tick-says, choose, only, child-if, no-child, turned, as_child, roles-at}
 use Rattle.cable_world.proofs.LastHeard.{shown-same, tick-shows}
 use Rattle.cable_world.proofs.TurnFacts.{risen, TicksWell}
-use Rattle.cable_world.proofs.HearsWell.{any_reset-append, no_parent-append}
+use Rattle.cable_world.proofs.Streams.{any_reset-append, no_parent-append}
 
 -- ---- why a row applies
 

@@ -1,9 +1,8 @@
 -- A turn of a node as hearing and ticking, and a turn of a cable as signals that arrive, stay and are sent.
-use Rattle.std.proofs.Common.{◌≡◌, ℕ, ◌+◌, Bool, true, false, List, [], ◌∷◌, ◌++◌, map, Option, Some, None, slice_get, if◌then◌else◌, refl, sym, ◌∙◌, ap, subst, arith}
+use Rattle.std.proofs.Common.{◌≡◌, ℕ, ◌+◌, Bool, true, false, List, [], ◌∷◌, ◌++◌, map, Some, slice_get, if◌then◌else◌, refl, sym, ◌∙◌, ap, subst, arith}
 use Rattle.std.proofs.lemmas.List.{append_assoc}
 use Rattle.port_state.specs.declared.signal.Level.{Level}
 use Rattle.port_state.specs.declared.signal.Signal.{Signal}
-use Rattle.port_state.specs.declared.states.NodeState.{NodeState}
 use Rattle.port_state.specs.Ports.{passes}
 use Rattle.port_state.specs.Sends.{sent_on}
 use Rattle.port_state.specs.Coins.{coin}
@@ -21,6 +20,7 @@ use Rattle.cable_world.proofs.Options.{some-same}
 use Rattle.cable_world.proofs.LastSent.{said, tells}
 use Rattle.cable_world.proofs.LevelsKept.{Joined, inbox-at}
 use Rattle.cable_world.proofs.TurnFacts.{hear_all}
+use Rattle.cable_world.proofs.Streams.{signals-older}
 
 -- ---- a node
 
@@ -39,10 +39,6 @@ pub turn-sent : (signals : List (ℕ × Signal)) (x : PortNode) (k : ℕ) → se
 turn-sent signals x k = ap (sent_on k) (turn-sends signals x) ∙ sent_on-append k (hear_all signals x.state).sends (row.tick (coin x.coins) (hear_all signals x.state).state).sends
 
 -- ---- a cable
-
-signals-older : (ts : List Travelling) → map (λ (t : Travelling). t.signal) (map older ts) ≡ signals_of ts
-signals-older [] = refl
-signals-older (t ∷ ts) = ap (λ l. t.signal ∷ l) (signals-older ts)
 
 arrive : (d : ℕ) (w : Wire) → arrives d w ≡ (if gives d (aged w) then signals_of w.signals else [])
 arrive d w = go (gives d (aged w))

@@ -8,8 +8,7 @@ ghost use Rattle.cable_world.specs.World.{CableWorld, wire_of, IsPowerOn};
 ghost use Rattle.cable_world.specs.Turn.{turn, turn_at, turns_after};
 ghost use Rattle.cable_world.specs.declared.act.Act.{Act};
 ghost use Rattle.cable_world.specs.Act.{Acted, IsAct, act_fault, hold, hold_fault};
-ghost use Rattle.cable_world.specs.Agreement.{LevelsAgree};
-ghost use Rattle.cable_world.specs.Lawful.{IsWellFormed, IsLawful};
+ghost use Rattle.cable_world.specs.Lawful.{IsLawful};
 ghost use Rattle.cable_world.specs.Run.{IsReached};
 ghost use Rattle.cable_world.specs.Outcome.{Outcome, IsOutcome};
 
@@ -41,27 +40,16 @@ pub fn turns_add_up()
     ensures more { (k : ℕ) (w : CableWorld) → turns_after (k + 1) w ≡ turn (turns_after k w) }
 {}
 
-/// A power-on world is lawful.
-pub fn power_on_is_lawful()
-    ensures { (w : CableWorld) → IsPowerOn w → IsLawful w }
-{}
-
-/// Turns, holds and acts that aren't refused keep a world well formed, so every world that comes of a
-/// power-on world is well formed.
-pub fn worlds_stay_well_formed()
-    ensures turn { (w : CableWorld) → IsWellFormed w → IsWellFormed (turn w) }
-    ensures hold { (end : End) (turns : ℕ) (w : CableWorld) → hold_fault end w ≡ None → IsWellFormed w → IsWellFormed (hold end turns w) }
-    ensures act { (a : Act) (w v : CableWorld) → IsAct a → act_fault a w ≡ None → Acted a w v → IsWellFormed w → IsWellFormed v }
-    ensures reached { (w : CableWorld) → IsReached w → IsWellFormed w }
-{}
-
-/// Turns, holds and acts that aren't refused keep that the level which a node last sent over a cable is
-/// under way to the other end, or shown there. So it is so in every world that comes of a power-on world.
-pub fn levels_stay_agreed()
-    ensures turn { (w : CableWorld) → IsWellFormed w → LevelsAgree w → LevelsAgree (turn w) }
-    ensures hold { (end : End) (turns : ℕ) (w : CableWorld) → hold_fault end w ≡ None → IsWellFormed w → LevelsAgree w → LevelsAgree (hold end turns w) }
-    ensures act { (a : Act) (w v : CableWorld) → IsAct a → act_fault a w ≡ None → Acted a w v → IsWellFormed w → LevelsAgree w → LevelsAgree v }
-    ensures reached { (w : CableWorld) → IsReached w → LevelsAgree w }
+/// A world is lawful at power-on, and turns, holds and acts that aren't refused keep it lawful. So every
+/// world that comes of a power-on world is lawful: its tables fit its cables, every record is valid, the
+/// level that a node last sent over a cable is under way to the other end or shown there, and a child port
+/// leads to the parent port of the node at the other end, unless a Reset is under way from there.
+pub fn worlds_stay_lawful()
+    ensures power_on { (w : CableWorld) → IsPowerOn w → IsLawful w }
+    ensures turn { (w : CableWorld) → IsLawful w → IsLawful (turn w) }
+    ensures hold { (end : End) (turns : ℕ) (w : CableWorld) → hold_fault end w ≡ None → IsLawful w → IsLawful (hold end turns w) }
+    ensures act { (a : Act) (w v : CableWorld) → IsAct a → act_fault a w ≡ None → Acted a w v → IsLawful w → IsLawful v }
+    ensures reached { (w : CableWorld) → IsReached w → IsLawful w }
 {}
 
 /// A component has one outcome at most: one loop, one tree or one contention.

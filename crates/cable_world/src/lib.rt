@@ -12,7 +12,6 @@ mod run;
 
 pub use act::{Act, ActStop};
 pub use laws::{
-    acts_keep, levels_stay_agreed, outcomes_are_one, power_on_is_lawful, turn_by_number,
-    turn_keeps, turns_add_up, worlds_stay_well_formed,
+    acts_keep, outcomes_are_one, turn_by_number, turn_keeps, turns_add_up, worlds_stay_lawful,
 };
 pub use run::WorldRun;

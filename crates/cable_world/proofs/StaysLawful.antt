@@ -1,0 +1,49 @@
+-- Turns, holds and acts keep a world lawful, and so every world that comes of a power-on world is lawful.
+use Rattle.std.proofs.Common.{◌≡◌, ℕ, List, [], ◌∷◌, None, subst, sym}
+use Rattle.cabling.specs.declared.cable.End.{End}
+use Rattle.cable_world.specs.declared.act.Act.{Act}
+use Rattle.cable_world.specs.World.{CableWorld, IsPowerOn}
+use Rattle.cable_world.specs.Turn.{turn}
+use Rattle.cable_world.specs.Act.{Acted, IsAct, act_fault, hold, hold_fault}
+use Rattle.cable_world.specs.Run.{Event, acts, holds, turns, Happens, Runs, IsReached}
+use Rattle.cable_world.specs.Agreement.{LevelsAgree}
+use Rattle.cable_world.specs.Coupling.{IsCoupled}
+use Rattle.cable_world.specs.Lawful.{IsWellFormed, IsLawful}
+use Rattle.cable_world.proofs.AtPowerOn.{power-on-formed, power-on-agrees}
+use Rattle.cable_world.proofs.TurnKept.{turn-formed}
+use Rattle.cable_world.proofs.ActKept.{act-formed, hold-formed}
+use Rattle.cable_world.proofs.LevelsKept.{turn-levels}
+use Rattle.cable_world.proofs.LevelsActs.{act-levels, hold-levels}
+use Rattle.cable_world.proofs.CouplingKept.{turn-coupled}
+use Rattle.cable_world.proofs.CoupledActs.{act-coupled, hold-coupled, power-on-coupled}
+use Rattle.cable_world.proofs.RolesKept.{coupled-roles}
+
+-- that child ports lead to parent ports follows from the rest
+lawful-of : (w : CableWorld) → IsWellFormed w → LevelsAgree w → IsCoupled w → IsLawful w
+lawful-of w f l c = record { well_formed = f; agrees = record { levels = l; roles = coupled-roles w l c }; coupled = c }
+
+pub power-on-lawful : (w : CableWorld) → IsPowerOn w → IsLawful w
+power-on-lawful w h = record { well_formed = power-on-formed w h; agrees = power-on-agrees w h; coupled = power-on-coupled w h }
+
+pub turn-lawful : (w : CableWorld) → IsLawful w → IsLawful (turn w)
+turn-lawful w h = lawful-of (turn w) (turn-formed w h.well_formed) (turn-levels w h.well_formed h.agrees.levels) (turn-coupled w h.well_formed h.agrees.levels h.coupled)
+
+pub hold-lawful : (end : End) (n : ℕ) (w : CableWorld) → hold_fault end w ≡ None → IsLawful w → IsLawful (hold end n w)
+hold-lawful end n w none h =
+    lawful-of (hold end n w) (hold-formed end n w none h.well_formed) (hold-levels end n w none h.well_formed h.agrees.levels) (hold-coupled end n w none h.well_formed h.coupled)
+
+pub act-lawful : (a : Act) (w v : CableWorld) → IsAct a → act_fault a w ≡ None → Acted a w v → IsLawful w → IsLawful v
+act-lawful a w v is none e h =
+    lawful-of v (act-formed a w v is none e h.well_formed) (act-levels a w v is none e h.well_formed h.agrees.levels) (act-coupled a w v is none e h.well_formed h.coupled)
+
+event-lawful : (e : Event) (w v : CableWorld) → Happens e w v → IsLawful w → IsLawful v
+event-lawful (acts a) w v h l = act-lawful a w v h.0 h.1 h.2 l
+event-lawful (holds end n) w v h l = subst IsLawful (sym h.1) (hold-lawful end n w h.0 l)
+event-lawful turns w v h l = subst IsLawful (sym h) (turn-lawful w l)
+
+runs-lawful : (events : List Event) (w v : CableWorld) → Runs events w v → IsLawful w → IsLawful v
+runs-lawful [] w v r l = subst IsLawful (sym r) l
+runs-lawful (e ∷ events) w v r l = runs-lawful events r.0 v r.2 (event-lawful e w r.0 r.1 l)
+
+pub reached-lawful : (w : CableWorld) → IsReached w → IsLawful w
+reached-lawful w r = runs-lawful r.events r.start w r.run (power-on-lawful r.start r.power_on)
