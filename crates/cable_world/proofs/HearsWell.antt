@@ -131,7 +131,7 @@ hear-cases (s ∷ rest) x = go (signal-fate s.0 s.1 x) (hear-cases rest first.st
 -- ---- R0
 
 -- a node in R0 stays there
-hear-stays : (signals : List (ℕ × Signal)) (x : NodeState) → is_resetting x.view.phase ≡ true → is_resetting (hear_all signals x).state.view.phase ≡ true
+pub hear-stays : (signals : List (ℕ × Signal)) (x : NodeState) → is_resetting x.view.phase ≡ true → is_resetting (hear_all signals x).state.view.phase ≡ true
 hear-stays signals x e = go (hear-cases signals x)
   where
     go : Heard x (hear_all signals x) ⊎ Came x (hear_all signals x) → is_resetting (hear_all signals x).state.view.phase ≡ true

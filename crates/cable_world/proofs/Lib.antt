@@ -20,6 +20,7 @@ mod LevelsActs
 mod CoupledActs
 mod CouplingKept
 mod StaysLawful
+mod ResetCounts
 mod StepKept
 mod ActKept
 mod OneOutcome
