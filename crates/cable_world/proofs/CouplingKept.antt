@@ -45,10 +45,10 @@ side-wire w a b x f e at =
     ap (λ (v : Wire). v.signals) (wire-after w a x f.count at inside)
     ∙ ap (λ l. (stays w.delay (wire_of w a)).signals ++ map newly_sent l) (turn-sent (inbox w 0 (ports_of w.cabling a.node)) x a.port)
 
-hears : (w : CableWorld) (k : ℕ) (x : PortNode) → IsWellFormed w → slice_get w.nodes k ≡ Some x → HearsWell (inbox w 0 (ports_of w.cabling k)) x.state
+pub hears : (w : CableWorld) (k : ℕ) (x : PortNode) → IsWellFormed w → slice_get w.nodes k ≡ Some x → HearsWell (inbox w 0 (ports_of w.cabling k)) x.state
 hears w k x f at = hears-well (inbox w 0 (ports_of w.cabling k)) x.state (f.nodes k x at).valid
 
-ticks : (w : CableWorld) (k : ℕ) (x : PortNode) → IsWellFormed w → slice_get w.nodes k ≡ Some x → TicksWell (coin x.coins) (hear_all (inbox w 0 (ports_of w.cabling k)) x.state).state
+pub ticks : (w : CableWorld) (k : ℕ) (x : PortNode) → IsWellFormed w → slice_get w.nodes k ≡ Some x → TicksWell (coin x.coins) (hear_all (inbox w 0 (ports_of w.cabling k)) x.state).state
 ticks w k x f at = ticks-well (coin x.coins) (hear_all (inbox w 0 (ports_of w.cabling k)) x.state).state (hears w k x f at).valid
 
 ready : (w : CableWorld) (a b : End) (x : PortNode) → IsWellFormed w → IsCoupled w → far w.cabling a ≡ Some b → slice_get w.nodes a.node ≡ Some x → Ready w.delay (side w a x)
@@ -67,7 +67,7 @@ ready w a b x f c e at = record {
 }
 
 -- a node after the turn is one before it that took its turn
-before : (w : CableWorld) (k : ℕ) (y : PortNode) → IsWellFormed w → slice_get (turn w).nodes k ≡ Some y → (x : PortNode) × (slice_get w.nodes k ≡ Some x) × (y ≡ (turn_at w k x).node)
+pub before : (w : CableWorld) (k : ℕ) (y : PortNode) → IsWellFormed w → slice_get (turn w).nodes k ≡ Some y → (x : PortNode) × (slice_get w.nodes k ≡ Some x) × (y ≡ (turn_at w k x).node)
 before w k y f e = elim (slice_get_cases w.nodes k).1 [
   | inl found ↦ (found.0, found.2, some-same y (turn_at w k found.0).node (sym e ∙ node-after w k found.0 f.count found.2))
   | inr lacks ↦ absurd (omega (arith, lacks.0, slice_get_within (turn w).nodes k y e, nodes-after w f.count))

@@ -1,7 +1,7 @@
 -- What is to be known of a node that hears a list of signals.
 use Rattle.std.proofs.Common.{◌≡◌, ◌⊎◌, inl, inr, ℕ, Bool, true, false, not, ◌&&◌, ◌==◌, List, [], ◌∷◌, ◌++◌, Option, Some, None, slice_get, refl, sym, ◌∙◌, ap, subst, if◌then◌else◌}
 use Rattle.std.specs.Option.{option_map}
-use Rattle.std.proofs.lemmas.Bool.{and_parts, eqb-true}
+use Rattle.std.proofs.lemmas.Bool.{and_parts, eqb-true, eq-eqb, or_right}
 use Rattle.port_state.specs.declared.signal.Level.{Level}
 use Rattle.port_state.specs.declared.signal.Level.TheVariants as level
 use Rattle.port_state.specs.declared.signal.Phase.{Phase}
@@ -26,7 +26,7 @@ use Rattle.cable_world.proofs.LastSent.{said, said-append, only, tells, signal-s
 use Rattle.cable_world.proofs.LastHeard.{shows, signal-shows}
 use Rattle.cable_world.proofs.LevelsKept.{cons-sent}
 use Rattle.cable_world.proofs.TurnFacts.{hear_all, Heard, Came, HearsWell}
-use Rattle.cable_world.proofs.Streams.{any_reset-append, no_fall-append, no_parent-append}
+use Rattle.cable_world.proofs.Streams.{not-both, any_reset-append, no_fall-append, no_parent-append}
 
 -- ---- one signal: a Reset begins a reset, or none did
 
@@ -158,6 +158,44 @@ hear-enters (s ∷ rest) x k c h = go (hear-enters rest y k (signal-cables s.0 s
         hear-stays rest y (signal-enters s.0 s.1 x on r)
     go later true at false r h = later (let same : any_reset (s.1 ∷ sent_on k rest) ≡ any_reset (sent_on k rest) = rw r refl in sym same ∙ h)
     go later false at r e h = later h
+
+-- a node that a Reset brings to R0 heard it on a port with a cable
+signal-came : (n : ℕ) (s : Signal) (x : NodeState) → is_resetting x.view.phase ≡ false → is_resetting (on_signal n s x).state.view.phase ≡ true → (is_connected x.view.ports n ≡ true) × (is_reset s ≡ true)
+unfolding on_signal
+signal-came n s x out h = go (is_heard n s x) refl h
+  where
+    hearing : (s : Signal) → is_heard n s x ≡ true → is_resetting (hears n s x).state.view.phase ≡ true → (is_connected x.view.ports n ≡ true) × (is_reset s ≡ true)
+    hearing signal.Reset e h = ((and_parts (is_connected x.view.ports n) true e).0, refl)
+    hearing signal.Idle e h = absurd (not-both (is_resetting x.view.phase) h out)
+    hearing signal.Parent e h = absurd (not-both (is_resetting x.view.phase) h out)
+    hearing signal.Child e h = absurd (not-both (is_resetting x.view.phase) h out)
+    hearing signal.Grant e h = absurd (not-both (is_resetting x.view.phase) h out)
+    hearing (signal.Packet quad) e h = absurd (not-both (is_resetting x.view.phase) h out)
+    hearing signal.Done e h = absurd (not-both (is_resetting x.view.phase) h out)
+
+    go : (b : Bool) → is_heard n s x ≡ b → is_resetting (if b then hears n s x else quiet x).state.view.phase ≡ true → (is_connected x.view.ports n ≡ true) × (is_reset s ≡ true)
+    go true e h = hearing s e h
+    go false e h = absurd (not-both (is_resetting x.view.phase) h out)
+
+pub hear-came : (signals : List (ℕ × Signal)) (x : NodeState) → is_resetting x.view.phase ≡ false → is_resetting (hear_all signals x).state.view.phase ≡ true → (k : ℕ) × (is_connected x.view.ports k ≡ true) × (any_reset (sent_on k signals) ≡ true)
+hear-came [] x out h = absurd (not-both (is_resetting x.view.phase) h out)
+hear-came (s ∷ rest) x out h = go (is_resetting y.view.phase) refl (hear-came rest y)
+  where
+    y : NodeState
+    y = (on_signal s.0 s.1 x).state
+
+    first : (b : Bool) → b ≡ true → is_reset s.1 ≡ true → any_reset (if b then s.1 ∷ sent_on s.0 rest else sent_on s.0 rest) ≡ true
+    first true e r = rw r refl
+    first false e r = absurd cc
+
+    more : (b : Bool) (ss : List Signal) → any_reset ss ≡ true → any_reset (if b then s.1 ∷ ss else ss) ≡ true
+    more true ss e = or_right (is_reset s.1) (any_reset ss) e
+    more false ss e = e
+
+    go : (b : Bool) → is_resetting y.view.phase ≡ b → (is_resetting y.view.phase ≡ false → is_resetting (hear_all rest y).state.view.phase ≡ true → (k : ℕ) × (is_connected y.view.ports k ≡ true) × (any_reset (sent_on k rest) ≡ true))
+        → (k : ℕ) × (is_connected x.view.ports k ≡ true) × (any_reset (sent_on k (s ∷ rest)) ≡ true)
+    go true e later = let found = signal-came s.0 s.1 x out e in (s.0, found.0, first (s.0 == s.0) (eq-eqb s.0 s.0 refl) found.1)
+    go false e later = let found = later e h in (found.0, sym (signal-cables s.0 s.1 x found.0) ∙ found.1, more (s.0 == found.0) (sent_on found.0 rest) found.2)
 
 -- ---- what the ports show
 

@@ -21,6 +21,7 @@ mod CoupledActs
 mod CouplingKept
 mod StaysLawful
 mod ResetCounts
+mod Entries
 mod StepKept
 mod ActKept
 mod OneOutcome
