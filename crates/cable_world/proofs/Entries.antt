@@ -1,7 +1,7 @@
 -- In turns without acts resets die out: after n * d turns no node enters R0, where there are n nodes, and
 -- cables delay by at most d turns. A node enters R0 because a neighbour did, at most d turns before. So the
 -- nodes that entered in the last turns form a chain, and there are no more of them than nodes.
-use Rattle.std.proofs.Common.{◌≡◌, ◌⊎◌, inl, inr, ℕ, zero, suc, ◌+◌, ◌-◌, ◌*◌, ◌<◌, ◌≤◌, Bool, true, false, ◌&&◌, cond, List, [], ◌∷◌, length, count_by, min, nat_le, Option, Some, None, is_some, slice_get, refl, sym, ◌∙◌, ap, subst, arith, if◌then◌else◌, le_refl, add-one}
+use Rattle.std.proofs.Common.{◌≡◌, inl, inr, ℕ, zero, suc, ◌+◌, ◌-◌, ◌*◌, ◌<◌, ◌≤◌, Bool, true, false, ◌&&◌, cond, List, [], ◌∷◌, length, count_by, min, nat_le, Option, Some, None, is_some, slice_get, refl, sym, ◌∙◌, ap, subst, arith, if◌then◌else◌, le_refl, add-one}
 use Rattle.std.proofs.Math.Nat.{mul-le-mul_left}
 use Rattle.std.proofs.lemmas.Bool.{leb-false, cases_lt}
 use Rattle.std.proofs.lemmas.Bool.Decides.{nat_tests}
@@ -25,7 +25,7 @@ use Rattle.cable_world.specs.Wire.{aged, gives}
 use Rattle.cable_world.specs.World.{CableWorld, wire_of}
 use Rattle.cable_world.specs.Turn.{inbox, turn_at, turn, turns_after}
 use Rattle.cable_world.specs.Coupling.{signals_of, any_reset, slack, Coupled}
-use Rattle.cable_world.specs.Lawful.{IsLawful, FitsCables}
+use Rattle.cable_world.specs.Lawful.{IsLawful}
 use Rattle.cable_world.proofs.Options.{some-same}
 use Rattle.cable_world.proofs.ByNumber.{node-after, nodes-after, delay-after, no-turns, one-more}
 use Rattle.cable_world.proofs.TurnFacts.{hear_all, Heard, Came, HearsWell, TicksWell}
@@ -39,12 +39,13 @@ use Rattle.cable_world.proofs.StaysLawful.{turn-lawful}
 
 -- ---- counting
 
-module _ {X : Type 0} (f g : X → Bool) where
-  count-f : (x : X) (xs : List X) → count_by f (x ∷ xs) ≡ cond (f x) 1 0 + count_by f xs
-  count-f x xs = sum_by-cons (λ z. cond (f z) 1 0) x xs
+count-first : {X : Type 0} → (f : X → Bool) (x : X) (xs : List X) → count_by f (x ∷ xs) ≡ cond (f x) 1 0 + count_by f xs
+count-first f x xs = sum_by-cons (λ z. cond (f z) 1 0) x xs
 
-  count-g : (x : X) (xs : List X) → count_by g (x ∷ xs) ≡ cond (g x) 1 0 + count_by g xs
-  count-g x xs = sum_by-cons (λ z. cond (g z) 1 0) x xs
+module _ {X : Type 0} (f g : X → Bool) where
+  -- whatever passes the first test in the first list passes the second in its place in the second list
+  abbrev Follows : List X → List X → Type 0
+  Follows xs ys = (k : ℕ) (x y : X) → slice_get xs k ≡ Some x → slice_get ys k ≡ Some y → f x ≡ true → g y ≡ true
 
   one-le : (b c : Bool) → (b ≡ true → c ≡ true) → cond b 1 0 ≤ cond c 1 0
   one-le b c h = grind arith
@@ -52,24 +53,23 @@ module _ {X : Type 0} (f g : X → Bool) where
   one-less : (b c : Bool) → b ≡ false → c ≡ true → cond b 1 0 + 1 ≤ cond c 1 0
   one-less b c h g = grind arith
 
-  -- where whatever passes in one list passes in the same place of a second list, no more pass in the first
-  pub count-le : (xs ys : List X) → length xs ≡ length ys → ((k : ℕ) (x y : X) → slice_get xs k ≡ Some x → slice_get ys k ≡ Some y → f x ≡ true → g y ≡ true) → count_by f xs ≤ count_by g ys
+  -- then no more pass in the first
+  count-le : (xs ys : List X) → length xs ≡ length ys → Follows xs ys → count_by f xs ≤ count_by g ys
   count-le [] ys e h = omega arith
   count-le (x ∷ xs) [] e h = absurd (omega (arith, e))
   count-le (x ∷ xs) (y ∷ ys) e h =
-      omega (arith, count-f x xs, count-g y ys, one-le (f x) (g y) (h 0 x y refl refl), count-le xs ys (omega (arith, e)) (λ k. h (suc k)))
+      omega (arith, count-first f x xs, count-first g y ys, one-le (f x) (g y) (h 0 x y refl refl), count-le xs ys (omega (arith, e)) (λ k. h (suc k)))
 
-  -- and fewer, if another passes in the second
-  pub count-less : (xs ys : List X) (j : ℕ) (u v : X) → length xs ≡ length ys → ((k : ℕ) (x y : X) → slice_get xs k ≡ Some x → slice_get ys k ≡ Some y → f x ≡ true → g y ≡ true) →
-      slice_get xs j ≡ Some u → slice_get ys j ≡ Some v → f u ≡ false → g v ≡ true → count_by f xs + 1 ≤ count_by g ys
+  -- and fewer, where at one place the second alone passes
+  count-less : (xs ys : List X) (j : ℕ) (u v : X) → length xs ≡ length ys → Follows xs ys → slice_get xs j ≡ Some u → slice_get ys j ≡ Some v → f u ≡ false → g v ≡ true → count_by f xs + 1 ≤ count_by g ys
   count-less [] ys j u v e h at_u at_v fails passes = absurd cc
   count-less (x ∷ xs) [] j u v e h at_u at_v fails passes = absurd (omega (arith, e))
   count-less (x ∷ xs) (y ∷ ys) zero u v e h at_u at_v fails passes =
       let first : f x ≡ false = ap f (some-same x u at_u) ∙ fails in
       let second : g y ≡ true = ap g (some-same y v at_v) ∙ passes in
-      omega (arith, count-f x xs, count-g y ys, one-less (f x) (g y) first second, count-le xs ys (omega (arith, e)) (λ k. h (suc k)))
+      omega (arith, count-first f x xs, count-first g y ys, one-less (f x) (g y) first second, count-le xs ys (omega (arith, e)) (λ k. h (suc k)))
   count-less (x ∷ xs) (y ∷ ys) (suc j) u v e h at_u at_v fails passes =
-      omega (arith, count-f x xs, count-g y ys, one-le (f x) (g y) (h 0 x y refl refl), count-less xs ys j u v (omega (arith, e)) (λ k. h (suc k)) at_u at_v fails passes)
+      omega (arith, count-first f x xs, count-first g y ys, one-le (f x) (g y) (h 0 x y refl refl), count-less xs ys j u v (omega (arith, e)) (λ k. h (suc k)) at_u at_v fails passes)
 
 -- ---- a node in R0 in a turn
 
@@ -97,7 +97,7 @@ record Recent (w : CableWorld) : Type 0 where
   resets : is_resetting node.state.view.phase ≡ true
   recent : node.state.view.timer ≤ w.delay
 
--- what a turn does to a node's R0
+-- what a turn does to a node, as to R0
 record InTurn (w : CableWorld) (x y : NodeState) : Type 0 where
   -- it stays there until its hold is over
   stays : is_resetting x.view.phase ≡ true → x.view.timer + 1 < 64 * w.delay → is_resetting y.view.phase ≡ true
@@ -214,7 +214,8 @@ is_entry least most x = is_resetting x.state.view.phase && (nat_le least x.state
 abbrev entries : ℕ → ℕ → CableWorld → ℕ
 entries least most w = count_by (is_entry least most) w.nodes
 
--- after k turns each node in R0 has the end of a chain of entries, one every d turns at least
+-- After k turns each node in R0 is at the end of a chain of entries: one came at least every d turns, since the
+-- first of these turns.
 abbrev Chained : CableWorld → ℕ → Type 0
 Chained w k = (j : ℕ) (x : PortNode) → slice_get w.nodes j ≡ Some x → is_resetting x.state.view.phase ≡ true → k + 1 ≤ x.state.view.timer + w.delay * entries x.state.view.timer k w
 
@@ -243,12 +244,12 @@ module _ (w : CableWorld) (l : IsLawful w) where
   same-length = sym (nodes-after w l.well_formed.count)
 
   -- an entry stays one
-  entry-stays : (least fewer most : ℕ) → fewer ≤ least + 1 → most + 1 < 64 * w.delay → (j : ℕ) (x y : PortNode) → slice_get w.nodes j ≡ Some x → slice_get (turn w).nodes j ≡ Some y → is_entry least most x ≡ true → is_entry fewer (most + 1) y ≡ true
-  entry-stays least fewer most low high j x y at_x at_y e =
+  entry-stays : (least from most : ℕ) → from ≤ least + 1 → most + 1 < 64 * w.delay → (j : ℕ) (x y : PortNode) → slice_get w.nodes j ≡ Some x → slice_get (turn w).nodes j ≡ Some y → is_entry least most x ≡ true → is_entry from (most + 1) y ≡ true
+  entry-stays least from most low high j x y at_x at_y e =
       let t = in-turn w l j x y at_x at_y in
       let parts = entry-parts least most x e in
       let there : is_resetting y.state.view.phase ≡ true = t.stays parts.0 (omega (arith, parts.2, high)) in
-      entry-of fewer (most + 1) y there (omega (arith, t.rises parts.0 there, parts.1, low)) (omega (arith, t.rises parts.0 there, parts.2))
+      entry-of from (most + 1) y there (omega (arith, t.rises parts.0 there, parts.1, low)) (omega (arith, t.rises parts.0 there, parts.2))
 
   -- a chain grows by the node that enters
   chain-enters : (k : ℕ) → k + 1 < 64 * w.delay → Chained w k → (j : ℕ) (x y : PortNode) → slice_get w.nodes j ≡ Some x → slice_get (turn w).nodes j ≡ Some y →
@@ -260,8 +261,8 @@ module _ (w : CableWorld) (l : IsLawful w) where
       let s : ℕ = u.node.state.view.timer in
       let more : entries s k w + 1 ≤ entries y.state.view.timer (k + 1) (turn w)
       = count-less (is_entry s k) (is_entry y.state.view.timer (k + 1)) w.nodes (turn w).nodes j x y same-length
-        (entry-stays s y.state.view.timer k (omega (arith, one)) high) at_x at_y (elsewhere s k x out)
-        (entry-of y.state.view.timer (k + 1) y there (le_refl y.state.view.timer) (omega (arith, one))) in
+      (entry-stays s y.state.view.timer k (omega (arith, one)) high) at_x at_y (elsewhere s k x out)
+      (entry-of y.state.view.timer (k + 1) y there (le_refl y.state.view.timer) (omega (arith, one))) in
       omega (arith, one, u.recent, c u.number u.node u.at u.resets, mul-le-mul_left w.delay more)
 
   -- and keeps its length otherwise
@@ -285,7 +286,7 @@ module _ (w : CableWorld) (l : IsLawful w) where
       go x at_x true e = chain-stays k high c j x y at_x at_y e there
       go x at_x false e = chain-enters k high c j x y at_x at_y e there
 
-  -- no chain is longer than there are nodes, and none has a node outside R0
+  -- a chain is no longer than there are nodes, and a node outside R0 isn't in it
   chained-steady : (k : ℕ) → length w.nodes * w.delay ≤ k → Chained w k → Steady w
   chained-steady k late c j x y at_x at_y out = go (is_resetting y.state.view.phase) refl
     where
@@ -319,7 +320,7 @@ module _ (w : CableWorld) (l : IsLawful w) where
           first zero z = omega (arith, z, (in-turn w l j x y at_x at_y).enters e there)
           first (suc n) z = absurd (not-both (is_resetting y.state.view.phase) there (steady (omega (arith, z)) j x y at_x at_y e))
 
-  -- what a node would enter for must be young
+  -- a node enters because of one that hasn't been in R0 for long
   old-steady : (least : ℕ) → w.delay < least → Old least w → Steady w
   old-steady least late old j x y at_x at_y out = go (is_resetting y.state.view.phase) refl
     where
