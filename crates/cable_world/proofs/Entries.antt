@@ -35,7 +35,7 @@ use Rattle.cable_world.proofs.Sides.{start-timed, start-slack}
 use Rattle.cable_world.proofs.TurnParts.{turn-state, comes}
 use Rattle.cable_world.proofs.LevelsKept.{joined-of}
 use Rattle.cable_world.proofs.CouplingKept.{before, hears, ticks}
-use Rattle.cable_world.proofs.StaysLawful.{turn-lawful}
+use Rattle.cable_world.proofs.StaysLawful.{turns-lawful}
 
 -- ---- counting
 
@@ -336,17 +336,13 @@ module _ (w : CableWorld) (l : IsLawful w) where
   abbrev later : ℕ → CableWorld
   later k = turns_after k w
 
-  after-lawful : (k : ℕ) → IsLawful (later k)
-  after-lawful zero = subst IsLawful (sym (no-turns w)) l
-  after-lawful (suc k) = rw (← add-one, one-more k w) (turn-lawful (later k) (after-lawful k))
-
   after-delay : (k : ℕ) → (later k).delay ≡ w.delay
   after-delay zero = ap (λ (v : CableWorld). v.delay) (no-turns w)
   after-delay (suc k) = rw (← add-one, one-more k w) (delay-after (later k) ∙ after-delay k)
 
   after-length : (k : ℕ) → length (later k).nodes ≡ length w.nodes
   after-length zero = ap (λ (v : CableWorld). length v.nodes) (no-turns w)
-  after-length (suc k) = rw (← add-one, one-more k w) (nodes-after (later k) (after-lawful k).well_formed.count ∙ after-length k)
+  after-length (suc k) = rw (← add-one, one-more k w) (nodes-after (later k) (turns-lawful k w l).well_formed.count ∙ after-length k)
 
   -- a node in R0 at the start is an entry itself
   start-chained : Chained w 0
@@ -361,7 +357,7 @@ module _ (w : CableWorld) (l : IsLawful w) where
   after-chained : (k : ℕ) → k < 64 * w.delay → Chained (later k) k
   after-chained zero high = subst (λ v. Chained v 0) (sym (no-turns w)) start-chained
   after-chained (suc k) high =
-      let chained : Chained (turn (later k)) (k + 1) = turn-chained (later k) (after-lawful k) k (omega (arith, ap (λ d. 64 * d) (after-delay k), high)) (after-chained k (omega (arith, high))) in
+      let chained : Chained (turn (later k)) (k + 1) = turn-chained (later k) (turns-lawful k w l) k (omega (arith, ap (λ d. 64 * d) (after-delay k), high)) (after-chained k (omega (arith, high))) in
       subst (λ n. Chained (later n) n) (add-one k) (subst (λ v. Chained v (k + 1)) (sym (one-more k w)) chained)
 
   few : length w.nodes ≤ 63
@@ -372,13 +368,13 @@ module _ (w : CableWorld) (l : IsLawful w) where
 
   early-steady : (k : ℕ) → enough ≤ k → k < enough + w.delay → Steady (later k)
   early-steady k late soon =
-      chained-steady (later k) (after-lawful k) k (rw (after-length k, after-delay k) late) (after-chained k (room (length w.nodes) w.delay few soon))
+      chained-steady (later k) (turns-lawful k w l) k (rw (after-length k, after-delay k) late) (after-chained k (room (length w.nodes) w.delay few soon))
     where
       room : (n d : ℕ) → n ≤ 63 → k < n * d + d → k < 64 * d
       room n d f h = let m : (n + 1) * d ≤ 64 * d = grind arith in omega (arith, m, h)
 
   next-old : (k least : ℕ) → (1 ≤ least → Steady (later k)) → Old least (later k) → Old (least + 1) (later (k + 1))
-  next-old k least calm old = subst (Old (least + 1)) (sym (one-more k w)) (turn-old (later k) (after-lawful k) least calm old)
+  next-old k least calm old = subst (Old (least + 1)) (sym (one-more k w)) (turn-old (later k) (turns-lawful k w l) least calm old)
 
   -- whoever is in R0 after a turn has been there for one
   first-old : (k : ℕ) → 1 ≤ k → Old 1 (later k)
@@ -392,7 +388,7 @@ module _ (w : CableWorld) (l : IsLawful w) where
   aged-steady : (i : ℕ) → Aged i → Steady (later (enough + i))
   aged-steady i old = elim (cases_lt i w.delay) [
     | inl soon ↦ early-steady (enough + i) (omega arith) (omega (arith, soon))
-    | inr past ↦ old-steady (later (enough + i)) (after-lawful (enough + i)) (w.delay + 1) (omega (arith, after-delay (enough + i))) (old (w.delay + 1) (omega (arith, past)) (le_refl (w.delay + 1)))
+    | inr past ↦ old-steady (later (enough + i)) (turns-lawful (enough + i) w l) (w.delay + 1) (omega (arith, after-delay (enough + i))) (old (w.delay + 1) (omega (arith, past)) (le_refl (w.delay + 1)))
   ]
 
   all-aged : 1 ≤ enough → (i : ℕ) → Aged i

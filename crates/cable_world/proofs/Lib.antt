@@ -22,6 +22,7 @@ mod CouplingKept
 mod StaysLawful
 mod ResetCounts
 mod Entries
+mod ResetsEnd
 mod StepKept
 mod ActKept
 mod OneOutcome

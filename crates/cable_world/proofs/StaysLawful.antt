@@ -1,9 +1,9 @@
 -- Turns, holds and acts keep a world lawful, and so every world that comes of a power-on world is lawful.
-use Rattle.std.proofs.Common.{◌≡◌, ℕ, List, [], ◌∷◌, None, subst, sym}
+use Rattle.std.proofs.Common.{◌≡◌, ℕ, zero, suc, List, [], ◌∷◌, None, subst, sym}
 use Rattle.cabling.specs.declared.cable.End.{End}
 use Rattle.cable_world.specs.declared.act.Act.{Act}
 use Rattle.cable_world.specs.World.{CableWorld, IsPowerOn}
-use Rattle.cable_world.specs.Turn.{turn}
+use Rattle.cable_world.specs.Turn.{turn, turns_after}
 use Rattle.cable_world.specs.Act.{Acted, IsAct, act_fault, hold, hold_fault}
 use Rattle.cable_world.specs.Run.{Event, acts, holds, turns, Happens, Runs, IsReached}
 use Rattle.cable_world.specs.Agreement.{LevelsAgree}
@@ -35,6 +35,11 @@ hold-lawful end n w none h =
 pub act-lawful : (a : Act) (w v : CableWorld) → IsAct a → act_fault a w ≡ None → Acted a w v → IsLawful w → IsLawful v
 act-lawful a w v is none e h =
     lawful-of v (act-formed a w v is none e h.well_formed) (act-levels a w v is none e h.well_formed h.agrees.levels) (act-coupled a w v is none e h.well_formed h.coupled)
+
+pub turns-lawful : (k : ℕ) (w : CableWorld) → IsLawful w → IsLawful (turns_after k w)
+unfolding turns_after
+turns-lawful zero w h = h
+turns-lawful (suc k) w h = turns-lawful k (turn w) (turn-lawful w h)
 
 event-lawful : (e : Event) (w v : CableWorld) → Happens e w v → IsLawful w → IsLawful v
 event-lawful (acts a) w v h l = act-lawful a w v h.0 h.1 h.2 l

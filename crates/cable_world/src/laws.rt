@@ -1,7 +1,8 @@
 //! Laws of worlds. Each function is a fact for the crates above, which call it.
-ghost use Rattle.std.specs.Prelude.{◌≡◌, ℕ, ◌+◌, ◌<◌, [], length, Some, None, slice_get, slice_index_or};
+ghost use Rattle.std.specs.Prelude.{◌≡◌, ℕ, ◌+◌, ◌<◌, ◌≤◌, ◌*◌, false, [], length, Some, None, slice_get, slice_index_or};
 ghost use Rattle.cabling.specs.declared.cable.End.{End};
 ghost use Rattle.port_state.specs.Sends.{sent_on};
+ghost use Rattle.port_state.specs.Heard.{is_resetting};
 ghost use Rattle.port_state.specs.Machine.{PortNode};
 ghost use Rattle.cable_world.specs.Wire.{with_sent, stays};
 ghost use Rattle.cable_world.specs.World.{CableWorld, wire_of, IsPowerOn};
@@ -50,6 +51,14 @@ pub fn worlds_stay_lawful()
     ensures hold { (end : End) (turns : ℕ) (w : CableWorld) → hold_fault end w ≡ None → IsLawful w → IsLawful (hold end turns w) }
     ensures act { (a : Act) (w v : CableWorld) → IsAct a → act_fault a w ≡ None → Acted a w v → IsLawful w → IsLawful v }
     ensures reached { (w : CableWorld) → IsReached w → IsLawful w }
+{}
+
+/// In turns without acts resets end. For n nodes, whose cables delay by at most d turns, no turn after the
+/// first n d makes a node enter a reset, so that each node's count of resets stands still from there. It is
+/// so in components with loops too.
+pub fn resets_end()
+    ensures entered { (w : CableWorld) (k node : ℕ) (x y : PortNode) → IsReached w → length w.nodes * w.delay ≤ k → slice_get (turns_after k w).nodes node ≡ Some x → slice_get (turns_after (k + 1) w).nodes node ≡ Some y → is_resetting x.state.view.phase ≡ false → is_resetting y.state.view.phase ≡ false }
+    ensures counted { (w : CableWorld) (k node : ℕ) (x y : PortNode) → IsReached w → length w.nodes * w.delay ≤ k → slice_get (turns_after k w).nodes node ≡ Some x → slice_get (turns_after (k + 1) w).nodes node ≡ Some y → y.state.view.resets ≡ x.state.view.resets }
 {}
 
 /// A component has one outcome at most: one loop, one tree or one contention.

@@ -12,6 +12,7 @@ mod run;
 
 pub use act::{Act, ActStop};
 pub use laws::{
-    acts_keep, outcomes_are_one, turn_by_number, turn_keeps, turns_add_up, worlds_stay_lawful,
+    acts_keep, outcomes_are_one, resets_end, turn_by_number, turn_keeps, turns_add_up,
+    worlds_stay_lawful,
 };
 pub use run::WorldRun;

@@ -1,0 +1,10 @@
+use Rattle.cable_world.proofs.StaysLawful.{reached-lawful}
+use Rattle.cable_world.proofs.Entries.{steady}
+use Rattle.cable_world.proofs.ResetsEnd.{counts-stand}
+use Rattle.cable_world.proofs.laws.resets_end.Goals as goal
+
+pub returns-clause-entered : goal.returns-clause-entered
+returns-clause-entered c = λ w k node x y r late at_x at_y. steady w (reached-lawful w r) k late node x y at_x at_y
+
+pub returns-clause-counted : goal.returns-clause-counted
+returns-clause-counted c = λ w k node x y r late at_x at_y. counts-stand w (reached-lawful w r) k late node x y at_x at_y
