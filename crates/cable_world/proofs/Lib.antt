@@ -32,8 +32,6 @@ mod Held
 pub mod Desk
 mod Loops
 mod ChosenRoot
-mod AgreeTest
-mod Agreeing
 mod Settled
 mod Outcomes
 mod Reached

@@ -1,12 +1,16 @@
 -- Where cables are coupled, each child port leads to a parent port.
-use Rattle.std.proofs.Common.{◌≡◌, true, false, List, [], ◌∷◌, Some, refl, ◌∙◌, ap}
-use Rattle.port_state.specs.Ports.{passes}
+use Rattle.std.proofs.Common.{◌≡◌, ℕ, true, false, List, [], ◌∷◌, Option, Some, None, refl, ◌∙◌, ap}
+use Rattle.std.proofs.lemmas.Bool.{eqb-true}
+use Rattle.port_state.specs.Ports.{passes, is_port}
 use Rattle.cable_world.specs.Wire.{Travelling}
 use Rattle.cable_world.specs.World.{CableWorld, wire_of}
 use Rattle.cable_world.specs.Agreement.{HasNoReset, LevelsAgree, RolesAgree}
 use Rattle.cable_world.specs.Coupling.{signals_of, any_reset, IsCoupled}
-use Rattle.cable_world.proofs.AgreeTest.{same-port}
 use Rattle.cable_world.proofs.LevelsKept.{some-at, Joined, joined-of}
+
+same-port : (parent : Option ℕ) (port : ℕ) → is_port parent port ≡ true → parent ≡ Some port
+same-port None port h = absurd (cc)
+same-port (Some p) port h = ap Some (eqb-true p port h)
 
 no-reset : (ts : List Travelling) → HasNoReset ts → any_reset (signals_of ts) ≡ false
 no-reset [] none = refl
