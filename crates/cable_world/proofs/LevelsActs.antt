@@ -33,7 +33,7 @@ use Rattle.cable_world.specs.Lawful.{IsWellFormed}
 use Rattle.cable_world.proofs.ByNumber.{sent-at}
 use Rattle.cable_world.proofs.LastHeard.{shows, enter-shows}
 use Rattle.cable_world.proofs.LevelsKept.{level-sent}
-use Rattle.cable_world.proofs.Options.{some-same, none-some}
+use Rattle.cable_world.proofs.Options.{some-same, none-some, some-and, mapped, unmapped}
 use Rattle.cable_world.proofs.StepKept.{HasEntry, replaced, not-replaced, put-same, put-other, sent-length, step-cables}
 use Rattle.cable_world.proofs.ActKept.{has-wire, recabled, others-alone, plug-formed, pull-formed, reset-formed, configure-formed, has-cable}
 
@@ -64,18 +64,6 @@ Meet there signals here = IsSomeAnd there (λ l. IsSomeAnd here (λ m. last_leve
 
 abbrev MeetAt : CableWorld → End → End → Type 0
 MeetAt w a b = Meet (at_end told w a) (wire_of w a).signals (at_end seen w b)
-
-some-and : {A : Type 0} → (o : Option A) (P Q : A → Type 0) → ((x : A) → P x → Q x) → IsSomeAnd o P → IsSomeAnd o Q
-some-and None P Q f h = absurd h
-some-and (Some x) P Q f h = f x h
-
-mapped : {A B : Type 0} → (o : Option A) (f : A → B) (P : B → Type 0) → IsSomeAnd o (λ x. P (f x)) → IsSomeAnd (option_map f o) P
-mapped None f P h = absurd h
-mapped (Some x) f P h = h
-
-unmapped : {A B : Type 0} → (o : Option A) (f : A → B) (P : B → Type 0) → IsSomeAnd (option_map f o) P → IsSomeAnd o (λ x. P (f x))
-unmapped None f P h = absurd h
-unmapped (Some x) f P h = h
 
 to-end : (f : PortNode → PortView → Level) (o : Option PortNode) (k : ℕ) (P : Level → Type 0) → IsSomeAnd o (λ x. IsSomeAnd (slice_get x.state.view.ports k) (λ p. P (f x p))) → IsSomeAnd (of_node o (of_port f k)) P
 to-end f None k P h = absurd h

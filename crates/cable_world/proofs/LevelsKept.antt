@@ -2,6 +2,7 @@
 use Rattle.std.proofs.Common.{◌≡◌, ℕ, zero, suc, ◌+◌, ◌<◌, Bool, true, false, ◌==◌, List, [], ◌∷◌, ◌++◌, map, length, Option, Some, None, is_some, slice_get, slice_index_or, refl, sym, ◌∙◌, ap, subst, arith, if◌then◌else◌}
 use Rattle.std.specs.Prelude.{IsSomeAnd}
 use Rattle.std.specs.Option.{option_map}
+use Rattle.std.proofs.lemmas.Iterator.Adapters.{option_map_id}
 use Rattle.std.proofs.lemmas.Bool.{ne_eqb, eq-eqb}
 use Rattle.std.proofs.lemmas.List.{append-nil}
 use Rattle.std.proofs.lemmas.Option.{slice_get_within}
@@ -54,12 +55,8 @@ map-map : {A : Type 0} → (f g : A → A) (o : Option A) → option_map g (opti
 map-map f g None = refl
 map-map f g (Some a) = refl
 
-same-option : (o : Option Level) → o ≡ option_map (λ m. m) o
-same-option None = refl
-same-option (Some a) = refl
-
 node-shows : (signals : List (ℕ × Signal)) (x : PortNode) (k : ℕ) → is_connected x.state.view.ports k ≡ true → shows (node_turn signals x).node.state k ≡ option_map (λ m. said m (sent_on k signals)) (shows x.state k)
-node-shows [] x k c = tick-shows (coin x.coins) x.state k ∙ same-option (shows x.state k)
+node-shows [] x k c = tick-shows (coin x.coins) x.state k ∙ sym (option_map_id (shows x.state k))
 node-shows (s ∷ rest) x k c =
     let first : NodeStep = on_signal s.0 s.1 x in
     node-shows rest first.node k (signal-cables s.0 s.1 x.state k ∙ c)

@@ -13,13 +13,11 @@ use Rattle.port_state.specs.Row.{Row}
 use Rattle.port_state.specs.Tick.{raised, next_row, does, tick}
 use Rattle.cable_world.proofs.TurnFacts.{hear_all, Heard, Came, HearsWell, TicksWell}
 use Rattle.cable_world.proofs.HearsWell.{hear-stays}
+use Rattle.cable_world.proofs.Streams.{not-both}
 
 -- the node is in R0 afterwards only if it was before
 abbrev Stays : NodeState → NodeState → Type 0
 Stays x y = is_resetting x.view.phase ≡ false → is_resetting y.view.phase ≡ false
-
-not-both : (b : Bool) → b ≡ true → b ≡ false → ⊥
-not-both b t f = cc
 
 reset-counts : (b : Bool) (n : ℕ) (x : NodeState) → is_resetting x.view.phase ≡ b → (let s = if b then quiet (with_level n level.Reset x) else enter false (with_level n level.Reset x) in Stays x s.state → s.state.view.resets ≡ x.view.resets)
 unfolding enter

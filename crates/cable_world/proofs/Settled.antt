@@ -1,7 +1,6 @@
 -- From what the nodes of a component show, one by one, to its outcome.
 use Rattle.std.proofs.Common.{◌≡◌, ◌≢◌, inl, inr, ℕ, List, [], ◌∷◌, map, Option, Some, None, slice_get, subst, sym}
 use Rattle.std.specs.Prelude.{IsSome, IsSomeAnd}
-use Rattle.std.specs.Option.{option_map}
 use Rattle.std.proofs.lemmas.Option.{slice_get-map}
 use Rattle.self_id.specs.declared.node.Attrs.{Attrs}
 use Rattle.topology_stack.specs.Tree.{Label, Tree, emits}
@@ -15,6 +14,7 @@ use Rattle.cabling.proofs.Bits.{none_of_zero}
 use Rattle.cabling.proofs.Once.{In}
 use Rattle.cabling.proofs.Whole.{set_of, from_set, seen_core}
 use Rattle.cable_world.specs.World.{CableWorld}
+use Rattle.cable_world.proofs.Options.{some-and, unmapped}
 use Rattle.cable_world.proofs.Told.{Told, told}
 use Rattle.cable_world.specs.Outcome.{AtNode, HasNoLoop, attrs_now, IsTree}
 
@@ -39,21 +39,13 @@ no-core c label root set t h s = seen_core c label root set t h (λ x i. from_se
 pub no-loop : (w : CableWorld) (c : Wiring) (set : ℕ) → w.cabling ≡ c → IsCore c set 0 → HasNoLoop w set
 no-loop w c set e h = record { core = 0; is_core = rw e h; empty = none_of_zero }
 
-at-some : (o : Option PortNode) (P Q : PortNode → Type 0) → ((x : PortNode) → P x → Q x) → IsSomeAnd o P → IsSomeAnd o Q
-at-some None P Q f h = absurd h
-at-some (Some x) P Q f h = f x h
-
 pub at-node : (w : CableWorld) (k : ℕ) (P Q : PortNode → Type 0) → ((x : PortNode) → P x → Q x) → AtNode w k P → AtNode w k Q
-at-node w k P Q f h = at-some (slice_get w.nodes k) P Q f h
+at-node w k P Q f h = some-and (slice_get w.nodes k) P Q f h
 
 -- what is said of every node holds of the node of a number
-said-at : {A : Type 0} → (o : Option PortNode) (say : PortNode → A) (P : A → Type 0) → IsSomeAnd (option_map say o) P → IsSomeAnd o (λ x. P (say x))
-said-at None say P h = absurd h
-said-at (Some x) say P h = h
-
 pub said : {A : Type 0} → (w : CableWorld) (say : PortNode → A) (rows : List A) (k : ℕ) (P : A → Type 0) → map say w.nodes ≡ rows → IsSomeAnd (slice_get rows k) P → AtNode w k (λ x. P (say x))
 said {A = A} w say rows k P e h =
-    said-at (slice_get w.nodes k) say P
+    unmapped (slice_get w.nodes k) say P
     (subst (λ (o : Option A). IsSomeAnd o P) (slice_get-map say w.nodes k) (subst (λ (r : List A). IsSomeAnd (slice_get r k) P) (sym e) h))
 
 -- what a tree that is seen from a root gives the node of this number
