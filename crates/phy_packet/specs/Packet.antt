@@ -1,5 +1,5 @@
 -- The six PHY packets, by their first quadlet (IEEE 1394a-2000, PHY packets).
-use Rattle.std.specs.Prelude.{◌≡◌, ℕ, ◌/◌, ◌%◌, ◌^◌, Bool, true, false, ◌||◌, IsTrue, List, [], ◌∷◌}
+use Rattle.std.specs.Prelude.{◌≡◌, ℕ, ◌/◌, ◌%◌, ◌^◌, Bool, true, false, ◌==◌, ◌&&◌, ◌||◌, IsTrue, List, [], ◌∷◌}
 use Rattle.phy_packet.specs.Layout.{Field, bits, flag, spelled, AllFit}
 use Rattle.phy_packet.specs.declared.packet.PhyPacket.{PhyPacket}
 use Rattle.phy_packet.specs.declared.packet.PhyPacket.TheVariants.{Config, LinkOn, SelfZero, SelfMore, Extended, Other}
@@ -40,6 +40,10 @@ pub record IsValid (p : PhyPacket) : Type 0 where
 pub record Shows (quad : ℕ) (p : PhyPacket) : Type 0 where
   pub valid : IsValid p
   pub quad_is : quad_of p ≡ quad
+
+-- a quadlet shows a self-ID packet zero: 10 in its top two bits, and 0 in bit 8 from the top
+abbrev pub is_packet_zero : ℕ → Bool
+is_packet_zero quad = (quad / 2 ^ 30 == 2) && (quad / 2 ^ 23 % 2 == 0)
 
 -- which packets are self-ID packets
 abbrev pub is_self_id : PhyPacket → Bool

@@ -9,4 +9,4 @@ mod quadlet;
 mod tests;
 
 pub use packet::PhyPacket;
-pub use quadlet::{decode, encode, is_valid};
+pub use quadlet::{decode, encode, is_packet_zero, is_valid};

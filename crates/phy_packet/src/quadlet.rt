@@ -1,6 +1,6 @@
 //! From a quadlet to its packet and back.
 ghost use Rattle.std.specs.Prelude.{◌≡◌, ◌<◌, ◌^◌, ◌/◌, ◌%◌, ◌↔◌, ◌||◌, IsTrue};
-ghost use Rattle.phy_packet.specs.Packet.{quad_of, IsValid};
+ghost use Rattle.phy_packet.specs.Packet.{quad_of, is_packet_zero, IsValid};
 ghost use Rattle.phy_packet.specs.declared.packet.PhyPacket.{PhyPacket};
 
 use crate::packet::PhyPacket;
@@ -189,6 +189,13 @@ pub fn encode(packet: &PhyPacket) -> u32
         }
         PhyPacket::Extended { word } | PhyPacket::Other { word } => word,
     }
+}
+
+/// Whether a quadlet shows a self-ID packet zero. Each node sends exactly one.
+pub fn is_packet_zero(quad: u32) -> bool
+    ensures { result ≡ is_packet_zero quad }
+{
+    quad >> TOP == 2 && (quad >> FURTHER) % 2 == 0
 }
 
 fn config_fits(root_id: u8, force: bool, set_gap: bool, gap: u8) -> bool

@@ -12,4 +12,4 @@ mod tests;
 pub use capture::{capture_is_read_back, good_pairs_are_a_capture};
 pub use kernels::{first_bad_pair, min_row, same_list};
 pub use list::{OutOfMemory, QuadList};
-pub use pairs::{PairFault, firsts, pairs_of};
+pub use pairs::{PairFault, firsts, pairs_of, quads_of};

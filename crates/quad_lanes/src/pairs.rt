@@ -25,9 +25,10 @@ impl From<OutOfMemory> for PairFault {
     }
 }
 
-/// The big-endian quadlets of these bytes.
-fn read_quads(alloc: Global, bytes: &[u8]) -> Result<QuadList, OutOfMemory>
-    ensures { IfOk result (λ quads. quads ≡ quads_of bytes.now) }
+/// The big-endian quadlets of `bytes`, without the bytes after the last whole one.
+pub fn quads_of(alloc: Global, bytes: &[u8]) -> Result<QuadList, OutOfMemory>
+    ensures quads { IfOk result (λ quads. quads ≡ quads_of bytes.now) }
+    ensures count { IfOk result (λ quads. length quads ≡ length bytes.now / 4) }
 {
     let mut quads = QuadList::new(alloc);
     let mut rest = bytes;
@@ -57,7 +58,7 @@ pub fn pairs_of(alloc: Global, bytes: &[u8]) -> Result<QuadList, PairFault>
             whole_pairs: bytes.len() / 8,
         });
     }
-    Ok(read_quads(alloc, bytes)?)
+    Ok(quads_of(alloc, bytes)?)
 }
 
 /// The quadlets at even places, counted from 0: the first one of each pair.

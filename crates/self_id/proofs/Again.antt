@@ -11,8 +11,8 @@ use Rattle.self_id.specs.declared.node.PortStatus.{PortStatus}
 use Rattle.self_id.specs.Node.{Node, FitBits, HasForm, status_of-status_bits}
 use Rattle.self_id.specs.Group.{field, fields, zero_packet, first_packet, second_packet, group}
 use Rattle.self_id.specs.Refused.{LeadsOn, AllLeadOn, LeadsTo}
-use Rattle.self_id.specs.Reading.{packet_at, zero_in, further_in, statuses, node3, node11, node16, single, read_at}
-use Rattle.self_id.proofs.Fields.{status_below, statuses-fields, fields_below}
+use Rattle.self_id.specs.codings.Reading.{packet_at, zero_in, further_in, statuses, node3, node11, node16, single, read_at}
+use Rattle.self_id.proofs.Fields.{status_below, statuses-fields, fields_small}
 use Rattle.self_id.proofs.Taken.{takes}
 use Rattle.self_id.proofs.Sound.{Width, three, eleven, sixteen, width_of}
 
@@ -51,9 +51,6 @@ shown p v = record { valid = v; quad_is = refl }
 -- so many statuses in fields
 statuses_again : (k : ℕ) (ps : List PortStatus) → length ps ≡ k → statuses k (fields ps) ≡ ps
 statuses_again k ps e = ap (λ (j : ℕ). statuses j (fields ps)) (sym e) ∙ statuses-fields ps
-
-fields_small : (k : ℕ) (ps : List PortStatus) → length ps ≡ k → fields ps < 2 ^ (2 * k)
-fields_small k ps e = subst (λ (j : ℕ). fields ps < 2 ^ (2 * j)) e (fields_below ps)
 
 kept_a_again : (x : ℕ) → x / 2 * 2 + bit (eqb (x % 2) 1) ≡ x
 kept_a_again x = rw (bit-eqb (x % 2) (omega arith)) (omega arith)
@@ -173,12 +170,12 @@ same16 n id count =
     by_slots n (λ (k : Node). node16 (zero_in (zero_packet k id true)) (further_in (first_packet k id true)) (further_in (second_packet k id)) ≡ k) (omega arith) (λ p0 p1 p2 ps len is.
     again16 n.attrs p0 p1 p2 ps n.kept_a n.kept_b id (omega arith))
 
-eight_small : (n : Node) → 11 ≤ length n.ports → fields (take 8 (drop 3 n.ports)) < 2 ^ 16
+pub eight_small : (n : Node) → 11 ≤ length n.ports → fields (take 8 (drop 3 n.ports)) < 2 ^ 16
 eight_small n some =
     let len : length (take 8 (drop 3 n.ports)) ≡ 8 = length-take-le 8 (drop 3 n.ports) (omega (arith, length-drop 3 n.ports)) in
     fields_small 8 (take 8 (drop 3 n.ports)) len
 
-five_small : (n : Node) → length n.ports ≡ 16 → fields (drop 11 n.ports) < 2 ^ 10
+pub five_small : (n : Node) → length n.ports ≡ 16 → fields (drop 11 n.ports) < 2 ^ 10
 five_small n count = fields_small 5 (drop 11 n.ports) (omega (arith, length-drop 11 n.ports))
 
 again_with : (n : Node) (at id : ℕ) (rest : List ℕ) → id < 64 → HasForm n → Width (length n.ports) → read_at at id (group n id ++ rest) ≡ single at n

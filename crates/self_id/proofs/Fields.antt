@@ -1,5 +1,5 @@
 -- Port fields as one number, both ways.
-use Rattle.std.proofs.Common.{◌≡◌, ℕ, zero, suc, ◌+◌, ◌*◌, ◌/◌, ◌%◌, ◌^◌, ◌<◌, List, [], ◌∷◌, length, refl, sym, ap, ◌∙◌, arith}
+use Rattle.std.proofs.Common.{◌≡◌, ℕ, zero, suc, ◌+◌, ◌*◌, ◌/◌, ◌%◌, ◌^◌, ◌<◌, List, [], ◌∷◌, length, refl, sym, ap, subst, ◌∙◌, arith}
 use Rattle.std.proofs.Math.Pow.{field, mod-mod-pow, split}
 use Rattle.std.proofs.Math.Nat.{mod-eq_of_lt}
 use Rattle.std.proofs.lemmas.Nat.{pow-add, div-mul-add, mod_low}
@@ -7,7 +7,7 @@ use Rattle.self_id.specs.declared.node.PortStatus.{PortStatus}
 use Rattle.self_id.specs.declared.node.PortStatus.TheVariants.{Absent, Unplugged, Up, Down}
 use Rattle.self_id.specs.Node.{status_bits, status_of, status_of-status_bits}
 use Rattle.self_id.specs.Group.{fields}
-use Rattle.self_id.specs.Reading.{statuses}
+use Rattle.self_id.specs.codings.Reading.{statuses}
 
 pub status_below : (p : PortStatus) → status_bits p < 4
 status_below Absent = omega arith
@@ -47,6 +47,10 @@ fields_below [] = omega arith
 fields_below (p ∷ ps) =
     let w : 2 ^ (2 * length (p ∷ ps)) ≡ 4 * 2 ^ (2 * length ps) = wider (length ps) in
     rw w (grind (arith, status_below p, fields_below ps))
+
+-- the same for so many statuses
+pub fields_small : (k : ℕ) (ps : List PortStatus) → length ps ≡ k → fields ps < 2 ^ (2 * k)
+fields_small k ps e = subst (λ (j : ℕ). fields ps < 2 ^ (2 * j)) e (fields_below ps)
 
 -- the statuses of some fields
 pub statuses-fields : (ps : List PortStatus) → statuses (length ps) (fields ps) ≡ ps

@@ -7,7 +7,7 @@ use Rattle.self_id.specs.declared.fault.GroupFault.TheVariants.{NotSelfId, Wrong
 use Rattle.self_id.specs.Node.{Node, IsNode, ups}
 use Rattle.self_id.specs.Group.{group}
 use Rattle.self_id.specs.Refused.{GroupRefused}
-use Rattle.self_id.specs.Reading.{read_at}
+use Rattle.self_id.specs.codings.Reading.{read_at}
 use Rattle.self_id.proofs.Taken.{refuses_end, refuses_other, refuses_owner, refuses_order}
 use Rattle.self_id.proofs.Sound.{stopped, grouped, reading, three, eleven, sixteen, width_of}
 use Rattle.self_id.proofs.Again.{again, stops_at, group3, group11, group16}

@@ -9,3 +9,4 @@ pub mod Steps
 pub mod Summed
 pub mod Taken
 pub mod Whole
+pub mod Zeros

@@ -5,7 +5,7 @@ use Rattle.self_id.specs.declared.fault.GroupFault.{GroupFault}
 use Rattle.self_id.specs.Node.{Node, IsNode}
 use Rattle.self_id.specs.Group.{group}
 use Rattle.self_id.specs.Refused.{GroupRefused}
-use Rattle.self_id.specs.Reading.{read_at, Gives}
+use Rattle.self_id.specs.codings.Reading.{read_at, Gives}
 use Rattle.self_id.proofs.Laws.{group-read_at, refused-read_at, read_at-group, read_at-refused}
 
 -- what was read of the list q at a place

@@ -2,7 +2,7 @@
 use Rattle.std.proofs.Common.{◌≡◌, ℕ, zero, suc, ◌+◌, ◌-◌, ◌*◌, ◌/◌, ◌%◌, ◌^◌, ◌<◌, ◌≤◌, List, [], ◌∷◌, ◌++◌, length, refl, sym, ap, ◌∙◌, append_assoc, length-append, arith}
 use Rattle.self_id.specs.declared.node.PortStatus.{PortStatus}
 use Rattle.self_id.specs.Node.{status_of}
-use Rattle.self_id.specs.Reading.{statuses}
+use Rattle.self_id.specs.codings.Reading.{statuses}
 
 -- so many fields are still to be appended
 pub record Pushed (before ports : List PortStatus) (x count left : ℕ) : Type 0 where

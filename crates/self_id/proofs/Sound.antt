@@ -11,7 +11,7 @@ use Rattle.self_id.specs.declared.packets.FurtherPart.{FurtherPart}
 use Rattle.self_id.specs.Node.{Node, HasForm}
 use Rattle.self_id.specs.Group.{fields, zero_packet, first_packet, second_packet, group}
 use Rattle.self_id.specs.Refused.{LeadsOn, GroupRefused}
-use Rattle.self_id.specs.Reading.{packet_at, zero_in, further_in, statuses, node3, node11, node16, single, and_then, read_at}
+use Rattle.self_id.specs.codings.Reading.{packet_at, zero_in, further_in, statuses, node3, node11, node16, single, and_then, read_at}
 use Rattle.self_id.proofs.Fields.{fields-statuses}
 use Rattle.self_id.proofs.Taken.{Found, found, refused, zero_of, further_of, zero_said, further_said}
 

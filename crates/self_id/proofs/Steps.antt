@@ -1,11 +1,11 @@
 -- A packet that is taken in two steps is taken.
 use Rattle.std.proofs.Common.{◌≡◌, ℕ, Bool, true, false, cond, List, drop, Result, Ok, Err, refl, ◌<◌, ◌≤◌, length, get_or, drop-cons}
 use Rattle.std.proofs.Math.ListN.{drop_of_length-le}
-use Rattle.phy_packet.proofs.Laws.{packet_of}
+use Rattle.phy_packet.specs.codings.Decoding.{packet_of}
 use Rattle.phy_packet.specs.declared.packet.PhyPacket.{PhyPacket}
 use Rattle.self_id.specs.declared.fault.GroupFault.{GroupFault}
 use Rattle.self_id.specs.declared.fault.GroupFault.TheVariants.{Cut}
-use Rattle.self_id.specs.Reading.{owned, owned_at, and_then}
+use Rattle.self_id.specs.codings.Reading.{owned, owned_at, and_then}
 
 -- a part that was taken from a packet, or the packet's fault
 pub data TakenAs {A : Type 0} (r : Result PhyPacket GroupFault) (part : PhyPacket → A) (a : Result A GroupFault) : Type 0 where

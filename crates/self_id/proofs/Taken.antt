@@ -2,7 +2,8 @@
 use Rattle.std.proofs.Common.{◌≡◌, ◌≢◌, ℕ, suc, ◌+◌, ◌^◌, ◌<◌, Bool, true, false, cond, eqb, List, [], ◌∷◌, length, drop, Result, Ok, Err, refl, sym, ap, subst, ◌∙◌, arith, eq-eqb}
 use Rattle.std.proofs.lemmas.Bool.{eqb-true, eqb-false}
 use Rattle.phy_packet.specs.Packet.{Shows, IsValid, is_self_id, owner, has_more}
-use Rattle.phy_packet.proofs.Laws.{packet_of, packet-shown, shows-self_id}
+use Rattle.phy_packet.specs.codings.Decoding.{packet_of}
+use Rattle.phy_packet.proofs.Laws.{packet-shown, shows-self_id}
 use Rattle.phy_packet.specs.declared.packet.PhyPacket.{PhyPacket}
 use Rattle.phy_packet.specs.declared.packet.PhyPacket.TheVariants.{Config, LinkOn, SelfZero, SelfMore, Extended, Other}
 use Rattle.self_id.specs.declared.fault.GroupFault.{GroupFault}
@@ -11,7 +12,7 @@ use Rattle.self_id.specs.declared.packets.ZeroPart.{ZeroPart}
 use Rattle.self_id.specs.declared.packets.FurtherPart.{FurtherPart}
 use Rattle.self_id.specs.Node.{FitBits, status_bits}
 use Rattle.self_id.specs.Refused.{is_in_order, LeadsTo, GroupRefused}
-use Rattle.self_id.specs.Reading.{taken, packet_at, zero_in, further_in}
+use Rattle.self_id.specs.codings.Reading.{taken, packet_at, zero_in, further_in}
 use Rattle.self_id.proofs.Fields.{status_bits-status_of}
 
 -- packet number j of the ID's group is at the front of a list

@@ -1,6 +1,6 @@
 -- A whole group taken packet by packet.
 use Rattle.std.proofs.Common.{◌≡◌, ℕ, suc, ◌+◌, ◌<◌, Bool, true, false, cond, leb, List, [], ◌∷◌, length, drop, Result, Ok, Err, refl, sym, ap, subst, ◌∙◌, arith, drop-drop}
-use Rattle.phy_packet.proofs.Laws.{packet_of}
+use Rattle.phy_packet.specs.codings.Decoding.{packet_of}
 use Rattle.phy_packet.specs.declared.packet.PhyPacket.{PhyPacket}
 use Rattle.self_id.specs.declared.fault.GroupFault.{GroupFault}
 use Rattle.self_id.specs.declared.fault.GroupFault.TheVariants.{TwoParents}
@@ -9,7 +9,7 @@ use Rattle.self_id.specs.declared.packets.FurtherPart.{FurtherPart}
 use Rattle.self_id.specs.Node.{Node, HasForm, ups}
 use Rattle.self_id.specs.Group.{group}
 use Rattle.self_id.specs.Refused.{is_in_order}
-use Rattle.self_id.specs.Reading.{packet_at, owned_at, and_then, zero_in, further_in, zero_from, further_from, node3, node11, node16, single, read_at, Gives}
+use Rattle.self_id.specs.codings.Reading.{packet_at, owned_at, and_then, zero_in, further_in, zero_from, further_from, node3, node11, node16, single, read_at, Gives}
 use Rattle.self_id.proofs.Taken.{found, ZeroSaid, zero_said, FurtherSaid, further_said}
 use Rattle.self_id.proofs.Steps.{TakenAs, whole, fault, tests}
 use Rattle.self_id.proofs.Sound.{bit_below}

@@ -1,6 +1,6 @@
 -- The group of a node: the one to three quadlets in which it shows itself.
-use Rattle.std.specs.Prelude.{ℕ, zero, suc, ◌+◌, ◌*◌, ◌/◌, ◌%◌, ◌^◌, Bool, true, false, ◌==◌, if◌then◌else◌, List, [], ◌∷◌, length, take, drop, map}
-use Rattle.phy_packet.specs.Packet.{quad_of}
+use Rattle.std.specs.Prelude.{ℕ, zero, suc, ◌+◌, ◌*◌, ◌/◌, ◌%◌, ◌^◌, Bool, true, false, ◌==◌, if◌then◌else◌, List, [], ◌∷◌, length, take, drop, map, count_by}
+use Rattle.phy_packet.specs.Packet.{quad_of, is_packet_zero}
 use Rattle.phy_packet.specs.declared.packet.PhyPacket.{PhyPacket}
 use Rattle.phy_packet.specs.declared.packet.PhyPacket.TheVariants.{SelfZero, SelfMore}
 use Rattle.self_id.specs.declared.node.PortStatus.{PortStatus}
@@ -37,6 +37,10 @@ packets n id =
     if length n.ports == 3 then zero_packet n id false ∷ []
     else (if length n.ports == 11 then zero_packet n id true ∷ first_packet n id false ∷ []
     else zero_packet n id true ∷ first_packet n id true ∷ second_packet n id ∷ [])
+
+-- how many nodes a list of self-ID packets shows: each sends one packet zero
+abbrev pub node_count : List ℕ → ℕ
+node_count list = count_by is_packet_zero list
 
 unfoldable pub group : Node → ℕ → List ℕ
 group n id = map quad_of (packets n id)

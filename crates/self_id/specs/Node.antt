@@ -1,6 +1,5 @@
 -- What a node says of itself in its self-ID packets.
 use Rattle.std.specs.Prelude.{◌≡◌, ℕ, zero, suc, ◌+◌, ◌^◌, ◌<◌, ◌≤◌, Bool, ◌==◌, ◌||◌, if◌then◌else◌, IsTrue, List, [], ◌∷◌, length, refl}
-use Rattle.std.specs.Coded.{Coded, code_by, coded_list, coded_ℕ, coded_bool, coded×}
 use Rattle.self_id.specs.declared.node.Attrs.{Attrs}
 use Rattle.self_id.specs.declared.node.PortStatus.{PortStatus}
 use Rattle.self_id.specs.declared.node.PortStatus.TheVariants.{Absent, Unplugged, Up, Down}
@@ -59,8 +58,7 @@ pub record IsNode (n : Node) : Type 0 where
   pub form : HasForm n
   pub one_parent : ups n.ports ≤ 1
 
--- ---- a node stored as plain numbers
-
+-- the two bits of a port status
 abbrev pub status_bits : PortStatus → ℕ
 status_bits Absent = 0
 status_bits Unplugged = 1
@@ -78,21 +76,3 @@ status_of-status_bits Absent = refl
 status_of-status_bits Unplugged = refl
 status_of-status_bits Up = refl
 status_of-status_bits Down = refl
-
-abbrev pub status_code : Coded PortStatus
-status_code = code_by ℕ coded_ℕ status_bits status_of status_of-status_bits
-
-abbrev pub attrs_code : Coded Attrs
-attrs_code =
-    code_by (Bool × (ℕ × (ℕ × (ℕ × (Bool × (ℕ × Bool))))))
-    (coded× coded_bool (coded× coded_ℕ (coded× coded_ℕ (coded× coded_ℕ (coded× coded_bool (coded× coded_ℕ coded_bool))))))
-    (λ a. (a.link, (a.gap, (a.speed, (a.delay, (a.contender, (a.power, a.initiated)))))))
-    (λ p. record { link = p.0; gap = p.1.0; speed = p.1.1.0; delay = p.1.1.1.0; contender = p.1.1.1.1.0; power = p.1.1.1.1.1.0; initiated = p.1.1.1.1.1.1 })
-    (λ _. refl)
-
-abbrev pub node_code : Coded Node
-node_code =
-    code_by (Attrs × (List PortStatus × (ℕ × ℕ))) (coded× attrs_code (coded× (coded_list status_code) (coded× coded_ℕ coded_ℕ)))
-    (λ n. (n.attrs, (n.ports, (n.kept_a, n.kept_b))))
-    (λ p. record { attrs = p.0; ports = p.1.0; kept_a = p.1.1.0; kept_b = p.1.1.1 })
-    (λ _. refl)

@@ -5,24 +5,13 @@ ghost use Rattle.phy_packet.specs.Packet.{quad_of};
 ghost use Rattle.self_id.specs.Node.{Node, HasForm, IsNode, ups, status_bits};
 ghost use Rattle.self_id.specs.Group.{field, fields, group, packets};
 ghost use Rattle.self_id.specs.Refused.{GroupRefused};
-ghost use Rattle.self_id.specs.Reading.{statuses, single, read_at, Gives};
+ghost use Rattle.self_id.specs.codings.Reading.{statuses, single, read_at, Gives};
 ghost use Rattle.self_id.specs.declared.fault.GroupFault.{GroupFault};
 
 use crate::fault::GroupFault;
-use crate::node::{Attrs, PortList, PortStatus, SelfId};
+use crate::node::{Attrs, PortList, SelfId};
 use crate::packets::{FurtherPart, ZeroPart, read_further, read_zero, status};
-
-/// How many slots lead to the parent.
-#[tactic(auto, using(crate::proofs::Count::ups_is))]
-fn count_up(ports: &[PortStatus]) -> usize
-    ensures value { result ≡ ups ports.now }
-    ensures few { result ≤ length ports.now }
-{
-    ports
-        .iter()
-        .filter(|port| matches!(port, PortStatus::Up))
-        .count()
-}
+use crate::slots::count_up;
 
 /// Appends the statuses of so many fields of two bits, at most eight, the last of them lowest.
 fn push_fields(ports: &mut PortList, fields: u16, count: u32)

@@ -6,6 +6,7 @@ mod group;
 mod node;
 mod packets;
 mod quad_group;
+mod slots;
 #[cfg(test)]
 mod tests;
 mod writing;
@@ -14,4 +15,5 @@ pub use fault::GroupFault;
 pub use group::read_group;
 pub use node::{Attrs, PortList, PortStatus, SelfId};
 pub use quad_group::QuadGroup;
+pub use slots::{count_down, count_up, slot_count};
 pub use writing::write_group;

@@ -1,7 +1,7 @@
 //! The packets of a group, one at a time.
 ghost use Rattle.std.specs.Prelude.{◌≡◌, ◌≤◌, ◌<◌, length, drop};
 ghost use Rattle.self_id.specs.Node.{status_of};
-ghost use Rattle.self_id.specs.Reading.{and_then, owned, owned_at, zero_from, further_from};
+ghost use Rattle.self_id.specs.codings.Reading.{and_then, owned, owned_at, zero_from, further_from};
 
 use crate::fault::GroupFault;
 use crate::node::{Attrs, PortStatus};

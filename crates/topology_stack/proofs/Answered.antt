@@ -5,7 +5,7 @@ use Rattle.topology_stack.specs.declared.fault.TreeFault.{TreeFault}
 use Rattle.topology_stack.specs.declared.fault.TreeStop.{TreeStop}
 use Rattle.topology_stack.specs.declared.fault.TreeStop.TheVariants.{Fault, Memory}
 use Rattle.topology_stack.specs.Tree.{Tree, walk, IsBusTree, emits}
-use Rattle.topology_stack.specs.Code.{tree_of, tree_of-walk}
+use Rattle.topology_stack.specs.codings.Code.{tree_of, tree_of-walk}
 use Rattle.topology_stack.specs.Refused.{Refused}
 use Rattle.topology_stack.specs.Answer.{IfFault, UnlessMemory}
 use Rattle.topology_stack.proofs.Laws.{one_tree, no_fault, one_fault}

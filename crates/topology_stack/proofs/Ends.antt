@@ -7,7 +7,7 @@ use Rattle.self_id.specs.declared.node.PortStatus.TheVariants.{Absent, Unplugged
 use Rattle.self_id.specs.Node.{Node, downs}
 use Rattle.topology_stack.specs.Tree.{Tree, branch, Slots, no_more, absent, unplugged, up, down, statuses, node_of, walk, walk_below}
 use Rattle.topology_stack.specs.Far.{slot_ends, ends_from, ends_below, ends, Far, IsLoose}
-use Rattle.topology_stack.specs.Stored.{parents_from, parents_below, child_ids, children_from, children_below, ends_of, all_ends, Stored}
+use Rattle.topology_stack.specs.codings.Stored.{parents_from, parents_below, child_ids, children_from, children_below, ends_of, all_ends, Stored}
 use Rattle.topology_stack.proofs.Linking.{length-parents_from, length-parents_below, length-children_from, length-children_below}
 
 -- ---- slot by slot

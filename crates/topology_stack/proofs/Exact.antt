@@ -7,7 +7,7 @@ use Rattle.topology_stack.specs.declared.fault.TreeFault.{TreeFault}
 use Rattle.topology_stack.specs.declared.fault.TreeFault.TheVariants.{Group, Empty, TooFewChildren, TreesLeft, AfterRoot, NoRoot, TooMany}
 use Rattle.self_id.specs.Node.{Node, IsNode, ups, downs}
 use Rattle.self_id.specs.Group.{group}
-use Rattle.self_id.specs.Reading.{read_at}
+use Rattle.self_id.specs.codings.Reading.{read_at}
 use Rattle.self_id.proofs.Laws.{read_at-group, read_at-refused, length-group}
 use Rattle.topology_stack.specs.Tree.{Tree, branch, statuses, node_of, walk, walk_below, IsBusTree, groups, emits}
 use Rattle.topology_stack.specs.Forest.{walks, Forest}

@@ -5,7 +5,7 @@ use Rattle.topology_stack.specs.declared.fault.TreeFault.{TreeFault}
 use Rattle.std.specs.Prelude.{slice_get, Some}
 use Rattle.self_id.specs.Node.{Node, IsNode}
 use Rattle.topology_stack.specs.Tree.{Tree, branch, Slots, no_more, absent, unplugged, up, down, walk_below, node_of, walk, IsPart, AreParts, IsBusTree, emits}
-use Rattle.topology_stack.specs.Code.{tree_of, tree_of-walk}
+use Rattle.topology_stack.specs.codings.Code.{tree_of, tree_of-walk}
 use Rattle.topology_stack.specs.Refused.{Refused}
 use Rattle.topology_stack.proofs.ReadFrom.{read}
 use Rattle.topology_stack.proofs.Sound.{Explained, read_sound}

@@ -1,4 +1,3 @@
-pub mod Count
 pub mod ReadFrom
 pub mod Stack
 pub mod Sound

@@ -8,7 +8,7 @@ use Rattle.topology_stack.specs.declared.fault.TreeFault.TheVariants.{Group, Emp
 use Rattle.self_id.specs.Node.{Node, IsNode, ups, downs}
 use Rattle.self_id.specs.Group.{group}
 use Rattle.self_id.specs.Refused.{GroupRefused}
-use Rattle.self_id.specs.Reading.{read_at}
+use Rattle.self_id.specs.codings.Reading.{read_at}
 use Rattle.self_id.proofs.Laws.{read_at-group, read_at-refused, length-group}
 use Rattle.topology_stack.proofs.ReadFrom.{in_group, ended, unless_ended, read_from, read}
 

@@ -6,12 +6,12 @@ use Rattle.self_id.specs.declared.node.PortStatus.{PortStatus}
 use Rattle.self_id.specs.declared.fault.GroupFault.{GroupFault}
 use Rattle.self_id.specs.Node.{Node, IsNode, ups, downs}
 use Rattle.self_id.specs.Group.{group}
-use Rattle.self_id.specs.Reading.{read_at}
+use Rattle.self_id.specs.codings.Reading.{read_at}
 use Rattle.self_id.proofs.Laws.{group-read_at, refused-read_at, length-group}
 use Rattle.topology_stack.specs.declared.fault.TreeFault.{TreeFault}
 use Rattle.topology_stack.specs.declared.fault.TreeFault.TheVariants.{Group, TooFewChildren, TreesLeft}
 use Rattle.topology_stack.specs.Tree.{Label, Tree, branch, Slots, node_of, walk, walk_below, AreParts, IsWhole, IsBusTree, groups, emits}
-use Rattle.topology_stack.specs.Code.{label_of, build}
+use Rattle.topology_stack.specs.codings.Code.{label_of, build}
 use Rattle.topology_stack.specs.Forest.{AreWaiting, walks}
 use Rattle.topology_stack.specs.Refused.{GoesOn, GroupNext, Refused}
 use Rattle.topology_stack.proofs.ReadFrom.{in_group, ended, read_from, read}

@@ -6,7 +6,7 @@ use Rattle.self_id.specs.declared.node.PortStatus.TheVariants.{Absent, Unplugged
 use Rattle.self_id.specs.Node.{Node, downs}
 use Rattle.self_id.specs.Group.{group}
 use Rattle.topology_stack.specs.Tree.{Tree, Slots, no_more, absent, unplugged, up, down, statuses, walk, walk_below, AreParts, groups}
-use Rattle.topology_stack.specs.Code.{with_child, build, with_parts}
+use Rattle.topology_stack.specs.codings.Code.{with_child, build, with_parts}
 use Rattle.topology_stack.specs.Forest.{AreWaiting, walks}
 
 -- what build makes of enough trees

@@ -1,11 +1,9 @@
 pub mod Tree
-pub mod Code
 pub mod Far
 pub mod Forest
 pub mod Refused
 pub mod Answer
-pub mod Stored
-pub mod Links
 pub mod Elect
 pub mod Name
 pub mod Text
+pub mod codings

@@ -2,12 +2,10 @@
 
 ghost use Rattle.std.specs.Prelude.{◌≡◌};
 
+use quad_lanes::OutOfMemory;
 use self_id::GroupFault;
 use std::alloc::{AllocError, AllocFailed};
 use thiserror::Error;
-
-/// What a call answers that found no memory.
-pub type OutOfMemory = AllocError;
 
 /// Why no bus tree emits a list. Each list that no tree emits has exactly one fault. `at` is a
 /// place in the list, counted in quadlets from 0.

@@ -1,14 +1,14 @@
 //! The IDs at the other ends of slots.
 ghost use Rattle.std.specs.Prelude.{◌≡◌, ◌≤◌, length, IfOk};
 ghost use Rattle.topology_stack.specs.Tree.{Tree, IsBusTree, walk};
-ghost use Rattle.topology_stack.specs.Stored.{Stored};
-ghost use Rattle.topology_stack.specs.Links.{set_all};
+ghost use Rattle.topology_stack.specs.codings.Stored.{Stored};
+ghost use Rattle.topology_stack.specs.codings.Links.{set_all};
 
 use crate::reading::MAX_NODES;
-use crate::slots::count_down;
 use arrayvec::ArrayVec;
-use self_id::SelfId;
-use std::alloc::{AllocError, Global};
+use quad_lanes::OutOfMemory;
+use self_id::{SelfId, count_down};
+use std::alloc::Global;
 use std::marker::Model;
 
 /// IDs, at most 16.
@@ -65,7 +65,7 @@ pub(crate) struct Links {
 }
 
 /// The links of the nodes of a walk.
-pub(crate) fn links_of(alloc: Global, nodes: &[SelfId]) -> Result<Links, AllocError>
+pub(crate) fn links_of(alloc: Global, nodes: &[SelfId]) -> Result<Links, OutOfMemory>
     requires { length nodes.now ≤ 63 }
     ensures { (t : Tree) → IsBusTree t → nodes.now ≡ walk t → IfOk result (λ l. Stored t nodes.now l.parents.items l.children.items) }
 {

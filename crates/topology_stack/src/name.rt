@@ -2,8 +2,8 @@
 ghost use Rattle.std.specs.Prelude.{◌≡◌, ◌≤◌, ◌↔◌, All, IsTrue, IsSome, IfSome, OnOk, OnErr, [], ◌∷◌, ◌++◌, length};
 ghost use Rattle.topology_stack.specs.Name.{IsName, IsNameChar};
 
-use crate::fault::OutOfMemory;
 use arrayvec::ArrayVec;
+use quad_lanes::OutOfMemory;
 use std::alloc::Global;
 use std::marker::Model;
 

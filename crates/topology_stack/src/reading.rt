@@ -5,8 +5,7 @@ ghost use Rattle.topology_stack.specs.Refused.{Refused};
 ghost use Rattle.topology_stack.specs.Answer.{IfFault};
 
 use crate::fault::{TreeFault, TreeStop};
-use crate::slots::{count_down, count_up};
-use self_id::{SelfId, read_group};
+use self_id::{SelfId, count_down, count_up, read_group};
 use std::alloc::Global;
 
 /// The most nodes of a bus: IDs run from 0 to 62, and 63 means all nodes.

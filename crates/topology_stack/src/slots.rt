@@ -1,34 +1,10 @@
-//! A node's slots: how many lead where, and to whom.
-ghost use Rattle.std.specs.Prelude.{◌≡◌, ◌<◌, ◌≤◌, ◌↔◌, Some, IsNone, IsSomeAnd, length, slice_get};
+//! To whom a node's slots lead.
+ghost use Rattle.std.specs.Prelude.{◌≡◌, ◌<◌, ◌↔◌, Some, IsNone, IsSomeAnd, length, slice_get};
 ghost use Rattle.topology_stack.specs.Far.{IsLoose};
-ghost use Rattle.self_id.specs.Node.{ups, downs};
-ghost use Rattle.topology_stack.specs.Stored.{ends_of};
+ghost use Rattle.self_id.specs.Node.{downs};
+ghost use Rattle.topology_stack.specs.codings.Stored.{ends_of};
 
-use self_id::PortStatus;
-
-/// How many slots lead to the parent.
-#[tactic(auto, using(crate::proofs::Count::ups_is))]
-pub(crate) fn count_up(ports: &[PortStatus]) -> usize
-    ensures value { result ≡ ups ports.now }
-    ensures few { result ≤ length ports.now }
-{
-    ports
-        .iter()
-        .filter(|port| matches!(port, PortStatus::Up))
-        .count()
-}
-
-/// How many slots lead to a child.
-#[tactic(auto, using(crate::proofs::Count::downs_is))]
-pub(crate) fn count_down(ports: &[PortStatus]) -> usize
-    ensures value { result ≡ downs ports.now }
-    ensures few { result ≤ length ports.now }
-{
-    ports
-        .iter()
-        .filter(|port| matches!(port, PortStatus::Down))
-        .count()
-}
+use self_id::{PortStatus, count_down};
 
 /// The ID at the other end of a slot, below a parent and above as many children as slots are down.
 pub(crate) fn far_end(ports: &[PortStatus], slot: usize, parent: u8, kids: &[u8]) -> Option<u8>

@@ -1,28 +1,21 @@
 //! The text of a bus tree.
 ghost use Rattle.std.specs.Prelude.{◌≡◌, ◌<◌, ◌≤◌, ◌++◌, ◌⊎◌, [], length, slice_get, IfOk, OnOk, decimal};
 ghost use Rattle.topology_stack.specs.Tree.{walk};
-ghost use Rattle.topology_stack.specs.Stored.{ends_of, all_ends};
+ghost use Rattle.topology_stack.specs.codings.Stored.{ends_of, all_ends};
 ghost use Rattle.topology_stack.specs.Text.{attrs_text, field, truth, signs, naming, node_line, lines_from, irm, last_line, tree_text};
 
-use crate::fault::OutOfMemory;
 use crate::links::KidList;
 use crate::manager::elect;
 use crate::name::{Name, NameList};
+use crate::number::put_number;
 use crate::tree::BusTree;
+use quad_lanes::OutOfMemory;
 use self_id::{Attrs, PortStatus, SelfId};
-use std::alloc::{AllocError, Global};
-
-/// Appends a number.
-fn put_number(out: &mut Vec<u8>, n: u64) -> Result<(), AllocError>
-    ensures { OnOk result (out.new.items ≡ out.old.items ++ decimal n) }
-{
-    let text = n.to_string(*out.allocator())?;
-    out.extend_from_slice(text.as_bytes())
-}
+use std::alloc::Global;
 
 /// Appends a word and a number.
 #[tactic(auto, unfolding(crate::specs::Text::field))]
-fn put_field(out: &mut Vec<u8>, word: &[u8], n: u64) -> Result<(), AllocError>
+fn put_field(out: &mut Vec<u8>, word: &[u8], n: u64) -> Result<(), OutOfMemory>
     ensures { OnOk result (out.new.items ≡ out.old.items ++ field word.now n) }
 {
     out.extend_from_slice(word)?;
@@ -36,7 +29,7 @@ fn truth(b: bool) -> u64
 }
 
 /// Appends the words on a node's attributes.
-fn put_attrs(out: &mut Vec<u8>, id: u8, attrs: Attrs) -> Result<(), AllocError>
+fn put_attrs(out: &mut Vec<u8>, id: u8, attrs: Attrs) -> Result<(), OutOfMemory>
     ensures { OnOk result (out.new.items ≡ out.old.items ++ attrs_text id attrs) }
 {
     put_field(out, b"node ", u64::from(id))?;
@@ -51,7 +44,7 @@ fn put_attrs(out: &mut Vec<u8>, id: u8, attrs: Attrs) -> Result<(), AllocError>
 }
 
 /// Appends a word and an ID.
-fn put_end(out: &mut Vec<u8>, word: &[u8], id: u8) -> Result<(), AllocError>
+fn put_end(out: &mut Vec<u8>, word: &[u8], id: u8) -> Result<(), OutOfMemory>
     ensures { OnOk result (out.new.items ≡ out.old.items ++ (word.now ++ decimal id)) }
 {
     out.extend_from_slice(word)?;
@@ -65,7 +58,7 @@ fn put_signs(
     ports: &[PortStatus],
     parent: u8,
     kids: &[u8],
-) -> Result<(), AllocError>
+) -> Result<(), OutOfMemory>
     ensures { OnOk result (out.new.items ≡ out.old.items ++ signs ports.now (ends_of parent kids.now ports.now)) }
 {
     let mut kids = kids;
@@ -87,7 +80,7 @@ fn put_signs(
 }
 
 /// Appends the words on the name of the node with this ID, where it has one.
-fn put_name(out: &mut Vec<u8>, names: &[Name], id: usize) -> Result<(), AllocError>
+fn put_name(out: &mut Vec<u8>, names: &[Name], id: usize) -> Result<(), OutOfMemory>
     ensures { OnOk result (out.new.items ≡ out.old.items ++ naming (slice_get names.now id)) }
 {
     if id < names.len() {
@@ -106,7 +99,7 @@ fn put_line(
     parent: u8,
     kids: &[u8],
     names: &[Name],
-) -> Result<(), AllocError>
+) -> Result<(), OutOfMemory>
     ensures { OnOk result (out.new.items ≡ out.old.items ++ node_line id node.now (ends_of parent kids.now node.now.ports) (slice_get names.now id)) }
 {
     put_attrs(out, id, node.attrs)?;
@@ -123,7 +116,7 @@ fn put_lines(
     parents: &[u8],
     children: &[KidList],
     names: &[Name],
-) -> Result<(), AllocError>
+) -> Result<(), OutOfMemory>
     requires few { length nodes.now ≤ 63 }
     requires parents { length parents.now ≡ length nodes.now }
     requires children { length children.now ≡ length nodes.now }
@@ -143,7 +136,7 @@ fn put_lines(
 }
 
 /// Appends the word on the isochronous resource manager.
-fn put_manager(out: &mut Vec<u8>, manager: Option<u8>) -> Result<(), AllocError>
+fn put_manager(out: &mut Vec<u8>, manager: Option<u8>) -> Result<(), OutOfMemory>
     ensures { OnOk result (out.new.items ≡ out.old.items ++ irm manager) }
 {
     match manager {
@@ -155,7 +148,7 @@ fn put_manager(out: &mut Vec<u8>, manager: Option<u8>) -> Result<(), AllocError>
 
 /// Appends the last line.
 #[tactic(auto, unfolding(crate::specs::Text::last_line))]
-fn put_last_line(out: &mut Vec<u8>, count: u8, manager: Option<u8>) -> Result<(), AllocError>
+fn put_last_line(out: &mut Vec<u8>, count: u8, manager: Option<u8>) -> Result<(), OutOfMemory>
     requires { 0 < count }
     ensures { OnOk result (out.new.items ≡ out.old.items ++ last_line count manager) }
 {

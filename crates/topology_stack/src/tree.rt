@@ -3,7 +3,7 @@ ghost use Rattle.std.specs.Prelude.{◌≡◌, ◌↔◌, ◌+◌, ◌<◌, ◌�
 ghost use Rattle.topology_stack.specs.Tree.{Tree, IsBusTree, emits, walk};
 ghost use Rattle.topology_stack.specs.Refused.{Refused};
 ghost use Rattle.topology_stack.specs.Far.{Far, IsLooseAt};
-ghost use Rattle.topology_stack.specs.Stored.{parents_from, children_from};
+ghost use Rattle.topology_stack.specs.codings.Stored.{parents_from, children_from};
 ghost use Rattle.topology_stack.specs.Answer.{IfFault, UnlessMemory};
 ghost use Rattle.topology_stack.specs.declared.fault.TreeFault.{TreeFault};
 
@@ -28,8 +28,8 @@ pub struct BusTree {
 
 impl Model for BusTree {
     ghost use Rattle.topology_stack.specs.Tree.{Tree};
-    ghost use Rattle.topology_stack.specs.Code.{tree_of, tree_code};
-    ghost use Rattle.topology_stack.specs.Stored.{Stored};
+    ghost use Rattle.topology_stack.specs.codings.Code.{tree_of, tree_code};
+    ghost use Rattle.topology_stack.specs.codings.Stored.{Stored};
 
     ghost Value = { Tree };
 

@@ -2,9 +2,8 @@
 ghost use Rattle.std.specs.Prelude.{◌≡◌, IfOk};
 ghost use Rattle.topology_stack.specs.Tree.{emits};
 
-use crate::fault::OutOfMemory;
 use crate::tree::BusTree;
-use quad_lanes::QuadList;
+use quad_lanes::{OutOfMemory, QuadList};
 use self_id::{QuadGroup, write_group};
 use std::alloc::Global;
 

@@ -1,6 +1,6 @@
 use Rattle.std.proofs.Common.{◌≡◌, ◌+◌, drop, sym, ◌∙◌, arith, rules, length-drop, true, false}
 use Rattle.std.proofs.lemmas.Result.{err_from_is_err_and}
-use Rattle.self_id.specs.Reading.{node3, node11, node16}
+use Rattle.self_id.specs.codings.Reading.{node3, node11, node16}
 use Rattle.self_id.proofs.Again.{stop_first}
 use Rattle.self_id.proofs.Whole.{zero_ok, zero_err, further_ok, further_err, further_facts, some, form3, form11, form16, read3, read11, read16, stopped_second, stopped_third, gives, size3, size11, size16}
 use Rattle.self_id.proofs.group.take_group.Goals as goal

@@ -1,5 +1,5 @@
 use Rattle.std.proofs.Common.{◌≡◌, drop}
-use Rattle.topology_stack.specs.Links.{set_all}
+use Rattle.topology_stack.specs.codings.Links.{set_all}
 use Rattle.topology_stack.proofs.links.adopt.Given as goal
 
 abbrev pub invariant-loop-kid : goal.invariant-loop-kid

@@ -1,7 +1,7 @@
 use Rattle.std.proofs.Common.{Ok, ap}
 use Rattle.std.proofs.lemmas.Result.{err_from_is_err_and}
 use Rattle.topology_stack.specs.Tree.{Tree}
-use Rattle.topology_stack.specs.Code.{tree_of}
+use Rattle.topology_stack.specs.codings.Code.{tree_of}
 use Rattle.topology_stack.proofs.Answered.{only_stop, exact_stop, few_nodes, is_found, is_walk, is_only, no_exact}
 use Rattle.topology_stack.proofs.tree.read_tree.Goals as goal
 

@@ -1,9 +1,9 @@
--- How the packets of a group are taken one after the other. Only private functions cite this file:
--- public clauses speak of groups and refusals.
+-- How the packets of a group are taken one after the other. No public contract cites this file: they
+-- speak of groups and refusals.
 use Rattle.std.specs.Prelude.{◌≡◌, ℕ, zero, suc, ◌+◌, ◌*◌, ◌/◌, ◌%◌, ◌^◌, false, ◌==◌, nat_le, if◌then◌else◌, List, [], ◌∷◌, ◌++◌, length, drop, Result, Ok, Err}
 use Rattle.phy_packet.specs.Layout.{bit}
 use Rattle.phy_packet.specs.Packet.{is_self_id, owner, has_more}
-use Rattle.phy_packet.proofs.Laws.{packet_of}
+use Rattle.phy_packet.specs.codings.Decoding.{packet_of}
 use Rattle.phy_packet.specs.declared.packet.PhyPacket.{PhyPacket}
 use Rattle.phy_packet.specs.declared.packet.PhyPacket.TheVariants.{Config, LinkOn, SelfZero, SelfMore, Extended, Other}
 use Rattle.self_id.specs.declared.fault.GroupFault.{GroupFault}

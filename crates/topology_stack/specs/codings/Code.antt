@@ -1,10 +1,10 @@
--- A tree is stored as its walk, from which it is built again.
+-- A tree is stored as its walk, from which it is built again. No public contract cites this file.
 use Rattle.std.specs.Prelude.{◌≡◌, List, [], ◌∷◌, ◌++◌, false, refl}
 use Rattle.std.specs.Coded.{Coded, code_by, coded_list}
-use Rattle.std.proofs.Common.{ap, ◌∙◌}
 use Rattle.self_id.specs.declared.node.PortStatus.{PortStatus}
 use Rattle.self_id.specs.declared.node.PortStatus.TheVariants.{Absent, Unplugged, Up, Down}
-use Rattle.self_id.specs.Node.{Node, node_code}
+use Rattle.self_id.specs.Node.{Node}
+use Rattle.self_id.specs.codings.Node.{node_code}
 use Rattle.topology_stack.specs.Tree.{Label, Tree, branch, Slots, no_more, absent, unplugged, up, down, statuses, node_of, walk, walk_below}
 
 abbrev pub label_of : Node → Label
@@ -63,9 +63,7 @@ stack_from-append ts (m ∷ ms) ns = stack_from-append (joined m ts) ms ns
 mutual
   pub stack_from-walk : (t : Tree) (ts : List Tree) → stack_from ts (walk t) ≡ t ∷ ts
   stack_from-walk (branch a s) ts =
-      stack_from-append ts (walk_below s) (node_of a s ∷ [])
-      ∙ ap (λ (us : List Tree). joined (node_of a s) us) (stack_from-walk_below s ts)
-      ∙ ap (λ (x : Slots × List Tree). branch a x.0 ∷ x.1) (build-with_parts s ts)
+      rw (stack_from-append ts (walk_below s) (node_of a s ∷ []), stack_from-walk_below s ts, build-with_parts s ts) refl
 
   pub stack_from-walk_below : (s : Slots) (ts : List Tree) → stack_from ts (walk_below s) ≡ with_parts s ts
   stack_from-walk_below no_more ts = refl
@@ -73,13 +71,11 @@ mutual
   stack_from-walk_below (unplugged s) ts = stack_from-walk_below s ts
   stack_from-walk_below (up s) ts = stack_from-walk_below s ts
   stack_from-walk_below (down t s) ts =
-      stack_from-append ts (walk t) (walk_below s)
-      ∙ ap (λ (us : List Tree). stack_from us (walk_below s)) (stack_from-walk t ts)
-      ∙ stack_from-walk_below s (t ∷ ts)
+      rw (stack_from-append ts (walk t) (walk_below s), stack_from-walk t ts) (stack_from-walk_below s (t ∷ ts))
 
 -- a tree is the tree of its walk
 pub tree_of-walk : (t : Tree) → tree_of (walk t) ≡ t
-tree_of-walk t = ap top (stack_from-walk t [])
+tree_of-walk t = rw (stack_from-walk t []) refl
 
 abbrev pub tree_code : Coded Tree
 tree_code = code_by (List Node) (coded_list node_code) walk tree_of tree_of-walk

@@ -1,6 +1,6 @@
 use Rattle.std.proofs.Common.{◌≡◌, ◌++◌, length}
 use Rattle.quad_lanes.specs.Pairs.{quads_of}
-use Rattle.quad_lanes.proofs.pairs.read_quads.Given as goal
+use Rattle.quad_lanes.proofs.pairs.quads_of.Given as goal
 
 -- the quadlets so far, and then those of the rest, are the quadlets of all
 abbrev pub invariant-loop-rest : goal.invariant-loop-rest

@@ -1,4 +1,5 @@
--- What a `BusTree` keeps: the nodes by ID, and the IDs of each one's parent and children.
+-- What a `BusTree` keeps: the nodes by ID, and the IDs of each one's parent and children. No public
+-- contract cites this file.
 use Rattle.std.specs.Prelude.{◌≡◌, ℕ, ◌+◌, ◌-◌, Option, Some, None, List, [], ◌∷◌, ◌++◌, length}
 use Rattle.self_id.specs.declared.node.PortStatus.{PortStatus}
 use Rattle.self_id.specs.declared.node.PortStatus.TheVariants.{Absent, Unplugged, Up, Down}

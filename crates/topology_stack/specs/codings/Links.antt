@@ -1,4 +1,4 @@
--- Writing one number at several places of a list.
+-- Writing one number at several places of a list. No public contract cites this file.
 use Rattle.std.specs.Prelude.{ℕ, List, [], ◌∷◌, slice_set}
 
 abbrev pub set_all : List ℕ → ℕ → List ℕ → List ℕ

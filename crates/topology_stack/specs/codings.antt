@@ -1,0 +1,4 @@
+-- How trees are stored. No public contract cites a file of this folder.
+pub mod Code
+pub mod Links
+pub mod Stored
