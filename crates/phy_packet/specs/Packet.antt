@@ -6,13 +6,15 @@ use Rattle.phy_packet.specs.declared.packet.PhyPacket.TheVariants.{Config, LinkO
 
 -- the fields of a packet from the top of its quadlet
 abbrev pub layout : PhyPacket → List Field
-layout (Config root_id force set_gap gap rest) = bits 2 0 ∷ bits 6 root_id ∷ flag force ∷ flag set_gap ∷ bits 6 gap ∷ bits 16 rest ∷ []
+layout (Config root_id force set_gap gap rest) =
+    bits 2 0 ∷ bits 6 root_id ∷ flag force ∷ flag set_gap ∷ bits 6 gap ∷ bits 16 rest ∷ []
 layout (LinkOn phy_id rest) = bits 2 1 ∷ bits 6 phy_id ∷ bits 24 rest ∷ []
 layout (SelfZero phy_id link gap speed delay contender power p0 p1 p2 initiated more) =
-    bits 2 2 ∷ bits 6 phy_id ∷ bits 1 0 ∷ flag link ∷ bits 6 gap ∷ bits 2 speed ∷ bits 2 delay ∷ flag contender ∷ bits 3 power
-    ∷ bits 2 p0 ∷ bits 2 p1 ∷ bits 2 p2 ∷ flag initiated ∷ flag more ∷ []
+    bits 2 2 ∷ bits 6 phy_id ∷ bits 1 0 ∷ flag link ∷ bits 6 gap ∷ bits 2 speed ∷ bits 2 delay
+    ∷ flag contender ∷ bits 3 power ∷ bits 2 p0 ∷ bits 2 p1 ∷ bits 2 p2 ∷ flag initiated ∷ flag more ∷ []
 layout (SelfMore phy_id n kept fields r more) =
-    bits 2 2 ∷ bits 6 phy_id ∷ bits 1 1 ∷ bits 3 n ∷ bits 2 kept ∷ bits 16 fields ∷ flag r ∷ flag more ∷ []
+    bits 2 2 ∷ bits 6 phy_id ∷ bits 1 1 ∷ bits 3 n ∷ bits 2 kept ∷ bits 16 fields ∷ flag r
+    ∷ flag more ∷ []
 layout (Extended word) = bits 32 word ∷ []
 layout (Other word) = bits 32 word ∷ []
 

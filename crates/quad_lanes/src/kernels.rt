@@ -69,7 +69,7 @@ fn min_of_64(dst: &mut [u8], src: &[u8], cap: u8)
         .copy_to_slice(dst);
 }
 
-/// Writes the lesser of each byte of `src` and `cap` at the same place of `dst`. The two rows are of
+/// Writes the lesser of each byte of `src` and `cap` at the same place of `dst`. The two rows have
 /// one length.
 pub fn min_row(dst: &mut [u8], src: &[u8], cap: u8)
     requires { length dst.old ≡ length src.now }

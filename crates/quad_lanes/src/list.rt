@@ -40,8 +40,8 @@ impl QuadList {
         Ok(())
     }
 
-    /// Appends quadlets, the first of them first. Where there is no memory for them the list stays as it
-    /// was.
+    /// Appends quadlets, the first of them first. Where there is no memory for them the list stays
+    /// as it was.
     pub fn extend_from_slice(&mut self, quads: &[u32]) -> Result<(), OutOfMemory>
         ensures ok { OnOk result (self.new ≡ self.old ++ quads.now) }
         ensures err { OnErr result (self.new ≡ self.old) }

@@ -42,7 +42,7 @@ pub fn quads_of(alloc: Global, bytes: &[u8]) -> Result<QuadList, OutOfMemory>
 /// The big-endian quadlets of `bytes`, which are whole pairs of 8 bytes each.
 ///
 /// Bytes that end within a pair are refused with `PairFault::Length`, which counts the whole pairs
-/// before. That a pair's second quadlet is the inverse of its first is for `first_bad_pair` to tell.
+/// before. Whether a pair's second quadlet is the inverse of its first tells `first_bad_pair`.
 pub fn pairs_of(alloc: Global, bytes: &[u8]) -> Result<QuadList, PairFault>
     ensures quads { IfOk result (λ quads. quads ≡ quads_of bytes.now) }
     ensures count { IfOk result (λ quads. length quads ≡ length bytes.now / 4) }

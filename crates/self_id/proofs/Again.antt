@@ -52,10 +52,10 @@ shown p v = record { valid = v; quad_is = refl }
 statuses_again : (k : ℕ) (ps : List PortStatus) → length ps ≡ k → statuses k (fields ps) ≡ ps
 statuses_again k ps e = ap (λ (j : ℕ). statuses j (fields ps)) (sym e) ∙ statuses-fields ps
 
-kept_a_again : (x : ℕ) → x / 2 * 2 + bit (eqb (x % 2) 1) ≡ x
+kept_a_again : (x : ℕ) → x / 2 * 2 + (bit (eqb (x % 2) 1) * 1 + 0) ≡ x
 kept_a_again x = rw (bit-eqb (x % 2) (omega arith)) (omega arith)
 
-kept_b_again : (y f : ℕ) → y / 2 ^ 8 * 2 ^ 8 + (f * 2 ^ 6 + y / 2 ^ 2 % 2 ^ 6) % 2 ^ 6 * 2 ^ 2 + bit (eqb (y / 2 % 2) 1) * 2 + bit (eqb (y % 2) 1) ≡ y
+kept_b_again : (y f : ℕ) → y / 2 ^ 8 * 2 ^ 8 + ((f * 2 ^ 6 + y / 2 ^ 2 % 2 ^ 6) % 2 ^ 6 * 2 ^ 2 + (bit (eqb (y / 2 % 2) 1) * 2 + (bit (eqb (y % 2) 1) * 1 + 0))) ≡ y
 kept_b_again y f = rw (bit-eqb (y / 2 % 2) (omega arith), bit-eqb (y % 2) (omega arith)) (omega arith)
 
 empty : (ps : List PortStatus) → length ps ≡ 0 → ps ≡ []

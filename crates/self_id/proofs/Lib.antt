@@ -3,7 +3,6 @@ pub mod Count
 pub mod Fields
 pub mod Laws
 pub mod Public
-pub mod Pushed
 pub mod Sound
 pub mod Steps
 pub mod Summed

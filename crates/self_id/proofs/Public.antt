@@ -3,7 +3,7 @@ use Rattle.std.proofs.Common.{◌≡◌, ℕ, ◌+◌, ◌-◌, ◌<◌, ◌≤�
 use Rattle.std.specs.Prelude.{MatchResult, IfOk, IfErr, IsOkAnd, IsErrOf}
 use Rattle.self_id.specs.declared.fault.GroupFault.{GroupFault}
 use Rattle.self_id.specs.Node.{Node, IsNode}
-use Rattle.self_id.specs.Group.{group}
+use Rattle.self_id.specs.Group.{group, BeginsWith, StandsAt}
 use Rattle.self_id.specs.Refused.{GroupRefused}
 use Rattle.self_id.specs.codings.Reading.{read_at, Gives}
 use Rattle.self_id.proofs.Laws.{group-read_at, refused-read_at, read_at-group, read_at-refused}
@@ -28,18 +28,18 @@ apart : (n : Node) (f : GroupFault) → ok_node n ≡ bad f → ⊥
 apart n f e = cc
 
 pub found : (at id : ℕ) (q : List ℕ) (r : Result (Node × ℕ) GroupFault) → at < length q → Taken at id q r →
-    IfOk r (λ x. IsNode x.0 × (drop at q ≡ group x.0 id ++ drop x.1 q) × (x.1 ≡ at + length (group x.0 id)) × (x.1 ≤ length q))
+    IfOk r (λ x. StandsAt q at id x.0 x.1)
 found at id q (Ok (n, after)) lt t =
     let p = group-read_at at id (drop at q) n t.read in
     let on : drop (length (group n id)) (drop at q) ≡ drop after q = drop-drop (length (group n id)) at q ∙ ap (λ (k : ℕ). drop k q) (sym t.place) in
     let parts : drop at q ≡ group n id ++ drop after q = p.1 ∙ ap (λ (l : List ℕ). group n id ++ l) on in
     let e : length q - at ≡ length (group n id) + length (drop after q) = sym (length-drop at q) ∙ ap length parts ∙ length-append (group n id) (drop after q) in
-    (p.0, parts, t.place, omega (arith, t.place))
+    record { is_node = p.0; parts = parts; place = t.place; inside = omega (arith, t.place) }
 found at id q (Err f) lt t = tt
 
-pub only : (at id : ℕ) (q : List ℕ) (r : Result (Node × ℕ) GroupFault) → id ≤ 62 → Taken at id q r → (n : Node) (rest : List ℕ) → IsNode n → drop at q ≡ group n id ++ rest → IsOkAnd r (λ x. x.0 ≡ n)
-only at id q (Ok (m, after)) lt t n rest h e = same_node m n (sym t.read ∙ ap (read_at at id) e ∙ read_at-group n at id rest h lt)
-only at id q (Err f) lt t n rest h e = absurd (apart n f (sym (read_at-group n at id rest h lt) ∙ ap (read_at at id) (sym e) ∙ t))
+pub only : (at id : ℕ) (q : List ℕ) (r : Result (Node × ℕ) GroupFault) → id ≤ 62 → Taken at id q r → (n : Node) → BeginsWith (drop at q) id n → IsOkAnd r (λ x. x.0 ≡ n)
+only at id q (Ok (m, after)) lt t n h = same_node m n (sym t.read ∙ ap (read_at at id) h.parts ∙ read_at-group n at id h.rest h.is_node lt)
+only at id q (Err f) lt t n h = absurd (apart n f (sym (read_at-group n at id h.rest h.is_node lt) ∙ ap (read_at at id) (sym h.parts) ∙ t))
 
 pub refused : (at id : ℕ) (q : List ℕ) (r : Result (Node × ℕ) GroupFault) → at < length q → Taken at id q r → IfErr r (λ f. GroupRefused at id (drop at q) f)
 refused at id q (Ok x) lt t = tt

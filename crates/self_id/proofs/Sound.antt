@@ -2,7 +2,7 @@
 use Rattle.std.proofs.Common.{◌≡◌, ℕ, suc, ◌+◌, ◌*◌, ◌/◌, ◌%◌, ◌^◌, ◌<◌, Bool, true, false, cond, eqb, ◌||◌, IsTrue, List, [], ◌∷◌, ◌++◌, length, take, drop, Result, Ok, Err, refl, sym, ap, ◌∙◌, arith}
 use Rattle.std.proofs.lemmas.Bool.{eqb-true}
 use Rattle.std.proofs.Math.Nat.{mod-eq_of_lt}
-use Rattle.phy_packet.specs.Layout.{bit}
+use Rattle.phy_packet.specs.Layout.{bit, spelled}
 use Rattle.phy_packet.specs.Packet.{quad_of, has_more}
 use Rattle.phy_packet.specs.declared.packet.PhyPacket.{PhyPacket}
 use Rattle.self_id.specs.declared.fault.GroupFault.{GroupFault}
@@ -11,7 +11,7 @@ use Rattle.self_id.specs.declared.packets.FurtherPart.{FurtherPart}
 use Rattle.self_id.specs.Node.{Node, HasForm}
 use Rattle.self_id.specs.Group.{fields, zero_packet, first_packet, second_packet, group}
 use Rattle.self_id.specs.Refused.{LeadsOn, GroupRefused}
-use Rattle.self_id.specs.codings.Reading.{packet_at, zero_in, further_in, statuses, node3, node11, node16, single, and_then, read_at}
+use Rattle.self_id.specs.codings.Reading.{carried_a, carried_b, packet_at, zero_in, further_in, statuses, node3, node11, node16, single, and_then, read_at}
 use Rattle.self_id.proofs.Fields.{fields-statuses}
 use Rattle.self_id.proofs.Taken.{Found, found, refused, zero_of, further_of, zero_said, further_said}
 
@@ -41,14 +41,15 @@ pub bit_below : (b : Bool) → bit b < 2
 bit_below true = omega arith
 bit_below false = omega arith
 
-first_is : (n : Node) (a : FurtherPart) (id : ℕ) (m : Bool) → n.kept_a ≡ a.kept * 2 + bit a.r → fields (take 8 (drop 3 n.ports)) ≡ a.fields → a.more ≡ m → first_packet n id m ≡ further_of id 0 a
+first_is : (n : Node) (a : FurtherPart) (id : ℕ) (m : Bool) → n.kept_a ≡ spelled (carried_a a) → fields (take 8 (drop 3 n.ports)) ≡ a.fields → a.more ≡ m → first_packet n id m ≡ further_of id 0 a
 first_is n a id m kept same more =
     let b = bit_below a.r in
     let high : n.kept_a / 2 ≡ a.kept = omega arith in
-    let low : eqb (n.kept_a % 2) 1 ≡ a.r = ap (λ (k : ℕ). eqb (k % 2) 1) kept ∙ low_bit a.kept a.r in
+    let whole : n.kept_a ≡ a.kept * 2 + bit a.r = omega arith in
+    let low : eqb (n.kept_a % 2) 1 ≡ a.r = ap (λ (k : ℕ). eqb (k % 2) 1) whole ∙ low_bit a.kept a.r in
     rw (high, same, low, more) refl
 
-second_is : (n : Node) (b : FurtherPart) (id : ℕ) → n.kept_b ≡ b.kept * 2 ^ 8 + b.fields % 2 ^ 6 * 2 ^ 2 + bit b.r * 2 + bit b.more → fields (drop 11 n.ports) ≡ b.fields / 2 ^ 6 →
+second_is : (n : Node) (b : FurtherPart) (id : ℕ) → n.kept_b ≡ spelled (carried_b b) → fields (drop 11 n.ports) ≡ b.fields / 2 ^ 6 →
     second_packet n id ≡ further_of id 1 b
 second_is n b id kept same =
     let r = bit_below b.r in

@@ -1,10 +1,10 @@
 -- The group of a node: the one to three quadlets in which it shows itself.
-use Rattle.std.specs.Prelude.{ℕ, zero, suc, ◌+◌, ◌*◌, ◌/◌, ◌%◌, ◌^◌, Bool, true, false, ◌==◌, if◌then◌else◌, List, [], ◌∷◌, length, take, drop, map, count_by}
+use Rattle.std.specs.Prelude.{◌≡◌, ◌≤◌, ◌++◌, ℕ, zero, suc, ◌+◌, ◌*◌, ◌/◌, ◌%◌, ◌^◌, Bool, true, false, ◌==◌, if◌then◌else◌, List, [], ◌∷◌, length, take, drop, map, count_by}
 use Rattle.phy_packet.specs.Packet.{quad_of, is_packet_zero}
 use Rattle.phy_packet.specs.declared.packet.PhyPacket.{PhyPacket}
 use Rattle.phy_packet.specs.declared.packet.PhyPacket.TheVariants.{SelfZero, SelfMore}
 use Rattle.self_id.specs.declared.node.PortStatus.{PortStatus}
-use Rattle.self_id.specs.Node.{Node, status_bits}
+use Rattle.self_id.specs.Node.{Node, IsNode, status_bits}
 
 -- the bits of a slot's status; a slot past the last is absent
 abbrev pub field : List PortStatus → ℕ → ℕ
@@ -25,11 +25,14 @@ zero_packet n id more =
 
 -- packet n = 0 has the slots 3 to 10; kept_a is its two reserved bits and r
 abbrev pub first_packet : Node → ℕ → Bool → PhyPacket
-first_packet n id more = SelfMore id 0 (n.kept_a / 2) (fields (take 8 (drop 3 n.ports))) (n.kept_a % 2 == 1) more
+first_packet n id more =
+    SelfMore id 0 (n.kept_a / 2) (fields (take 8 (drop 3 n.ports))) (n.kept_a % 2 == 1) more
 
--- packet n = 1 has the slots 11 to 15; kept_b is its two reserved bits and all that follows these slots
+-- packet n = 1 has the slots 11 to 15; kept_b is its two reserved bits and all behind these slots
 abbrev pub second_packet : Node → ℕ → PhyPacket
-second_packet n id = SelfMore id 1 (n.kept_b / 2 ^ 8) (fields (drop 11 n.ports) * 2 ^ 6 + n.kept_b / 2 ^ 2 % 2 ^ 6) (n.kept_b / 2 % 2 == 1) (n.kept_b % 2 == 1)
+second_packet n id =
+    SelfMore id 1 (n.kept_b / 2 ^ 8) (fields (drop 11 n.ports) * 2 ^ 6 + n.kept_b / 2 ^ 2 % 2 ^ 6)
+    (n.kept_b / 2 % 2 == 1) (n.kept_b % 2 == 1)
 
 -- the packets of a node with its ID, by the number of its slots
 abbrev pub packets : Node → ℕ → List PhyPacket
@@ -44,3 +47,16 @@ node_count list = count_by is_packet_zero list
 
 unfoldable pub group : Node → ℕ → List ℕ
 group n id = map quad_of (packets n id)
+
+-- a list begins with the group of a node with this ID
+pub record BeginsWith (list : List ℕ) (id : ℕ) (n : Node) : Type 0 where
+  pub is_node : IsNode n
+  pub rest : List ℕ
+  pub parts : list ≡ group n id ++ rest
+
+-- the group of a node with this ID stands in a list from one place up to another
+pub record StandsAt (list : List ℕ) (at id : ℕ) (n : Node) (after : ℕ) : Type 0 where
+  pub is_node : IsNode n
+  pub parts : drop at list ≡ group n id ++ drop after list
+  pub place : after ≡ at + length (group n id)
+  pub inside : after ≤ length list

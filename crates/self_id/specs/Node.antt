@@ -4,13 +4,17 @@ use Rattle.self_id.specs.declared.node.Attrs.{Attrs}
 use Rattle.self_id.specs.declared.node.PortStatus.{PortStatus}
 use Rattle.self_id.specs.declared.node.PortStatus.TheVariants.{Absent, Unplugged, Up, Down}
 
--- attributes, the statuses of the slots by rising number, and the bits that its further packets carry
--- unread: kept_a those of packet n = 0, kept_b those of packet n = 1
+-- attributes, the statuses of the slots by rising number, and the bits that its further packets
+-- carry unread: kept_a those of packet n = 0, kept_b those of packet n = 1
 pub record Node : Type 0 where
   pub attrs : Attrs
   pub ports : List PortStatus
   pub kept_a : ℕ
   pub kept_b : ℕ
+
+abbrev pub node_with : Attrs → List PortStatus → ℕ → ℕ → Node
+node_with attrs ports kept_a kept_b =
+    record { attrs = attrs; ports = ports; kept_a = kept_a; kept_b = kept_b }
 
 -- how many slots lead to the parent
 abbrev pub ups : List PortStatus → ℕ

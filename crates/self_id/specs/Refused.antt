@@ -10,11 +10,13 @@ use Rattle.self_id.specs.Group.{group}
 
 -- which packet stands where in a group: packet zero first, and then further packets numbered from 0
 abbrev pub is_in_order : ℕ → PhyPacket → Bool
-is_in_order zero (SelfZero phy_id link gap speed delay contender power p0 p1 p2 initiated more) = true
+is_in_order zero (SelfZero phy_id link gap speed delay contender power p0 p1 p2 initiated more) =
+    true
 is_in_order (suc j) (SelfMore phy_id n kept fields r more) = n == j
 is_in_order j (Config root_id force set_gap gap rest) = false
 is_in_order j (LinkOn phy_id rest) = false
-is_in_order (suc j) (SelfZero phy_id link gap speed delay contender power p0 p1 p2 initiated more) = false
+is_in_order (suc j) (SelfZero phy_id link gap speed delay contender power p0 p1 p2 initiated more) =
+    false
 is_in_order zero (SelfMore phy_id n kept fields r more) = false
 is_in_order j (Extended word) = false
 is_in_order j (Other word) = false
@@ -41,19 +43,26 @@ pub record LeadsTo (id at : ℕ) (l front rest : List ℕ) (place : ℕ) : Type 
   pub place_is : place ≡ at + length front
 
 -- Which fault a list has that stands at a place and is to begin with the group of an ID. Each fault
--- but the last is that of the first packet that breaks a rule, and no earlier rule of that packet is
--- broken.
+-- but the last is that of the first packet that breaks a rule, and it is the first rule that this
+-- packet breaks.
 abbrev pub GroupRefused : ℕ → ℕ → List ℕ → GroupFault → Type 0
 -- the list ends where a further packet is to stand
-GroupRefused at id l (Cut place) = (front : List ℕ) × LeadsTo id at l front [] place × (0 < length front)
+GroupRefused at id l (Cut place) =
+    (front : List ℕ) × LeadsTo id at l front [] place × (0 < length front)
 -- a quadlet that shows no self-ID packet
-GroupRefused at id l (NotSelfId place) = (front rest : List ℕ) × (q : ℕ) × LeadsTo id at l front (q ∷ rest) place
+GroupRefused at id l (NotSelfId place) =
+    (front rest : List ℕ) × (q : ℕ) × LeadsTo id at l front (q ∷ rest) place
     × ((p : PhyPacket) → Shows q p → is_self_id p ≡ false)
 -- a self-ID packet of another node
-GroupRefused at id l (WrongId place found wanted) = (front rest : List ℕ) × (q : ℕ) × (p : PhyPacket) × LeadsTo id at l front (q ∷ rest) place
+GroupRefused at id l (WrongId place found wanted) =
+    (front rest : List ℕ) × (q : ℕ) × (p : PhyPacket) × LeadsTo id at l front (q ∷ rest) place
     × Shows q p × (is_self_id p ≡ true) × (found ≡ owner p) × (wanted ≡ id) × (found ≢ id)
 -- a self-ID packet of the node that isn't the next of its group
-GroupRefused at id l (BadOrder place) = (front rest : List ℕ) × (q : ℕ) × (p : PhyPacket) × LeadsTo id at l front (q ∷ rest) place
-    × Shows q p × (is_self_id p ≡ true) × (owner p ≡ id) × (is_in_order (length front) p ≡ false)
+GroupRefused at id l (BadOrder place) =
+    (front rest : List ℕ) × (q : ℕ) × (p : PhyPacket) × LeadsTo id at l front (q ∷ rest) place
+    × Shows q p × (is_self_id p ≡ true) × (owner p ≡ id)
+    × (is_in_order (length front) p ≡ false)
 -- a whole group with more than one slot that leads to the parent
-GroupRefused at id l (TwoParents place) = (n : Node) × (rest : List ℕ) × HasForm n × (l ≡ group n id ++ rest) × (1 < ups n.ports) × (place ≡ at)
+GroupRefused at id l (TwoParents place) =
+    (n : Node) × (rest : List ℕ) × HasForm n × (l ≡ group n id ++ rest) × (1 < ups n.ports)
+    × (place ≡ at)

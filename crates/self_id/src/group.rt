@@ -1,11 +1,10 @@
 //! The group of a node, read and written.
-ghost use Rattle.std.specs.Prelude.{◌≡◌, ◌+◌, ◌*◌, ◌/◌, ◌%◌, ◌^◌, ◌<◌, ◌≤◌, [], ◌∷◌, ◌++◌, length, drop, Ok, Err, List, ℕ, MatchResult, IfOk, IfErr, IsOkAnd, IsErrOf};
-ghost use Rattle.phy_packet.specs.Layout.{bit};
-ghost use Rattle.phy_packet.specs.Packet.{quad_of};
-ghost use Rattle.self_id.specs.Node.{Node, HasForm, IsNode, ups, status_bits};
-ghost use Rattle.self_id.specs.Group.{field, fields, group, packets};
+ghost use Rattle.std.specs.Prelude.{◌≡◌, ◌+◌, ◌<◌, ◌≤◌, [], ◌∷◌, ◌++◌, length, drop, Ok, Err, MatchResult, IfOk, IfErr, IsOkAnd, IsErrOf};
+ghost use Rattle.phy_packet.specs.Layout.{spelled};
+ghost use Rattle.self_id.specs.Node.{Node, node_with, HasForm};
+ghost use Rattle.self_id.specs.Group.{StandsAt, BeginsWith};
 ghost use Rattle.self_id.specs.Refused.{GroupRefused};
-ghost use Rattle.self_id.specs.codings.Reading.{statuses, single, read_at, Gives};
+ghost use Rattle.self_id.specs.codings.Reading.{statuses, carried_a, carried_b, single, read_at, Gives};
 ghost use Rattle.self_id.specs.declared.fault.GroupFault.{GroupFault};
 
 use crate::fault::GroupFault;
@@ -19,10 +18,8 @@ fn push_fields(ports: &mut PortList, fields: u16, count: u32)
     requires room { length ports.old + count ≤ 16 }
     ensures { ports.new ≡ ports.old ++ statuses count fields }
 {
-    let mut left = count;
-    while left > 0 {
-        left -= 1;
-        ports.push(status(((fields >> (2 * left)) % 4) as u8));
+    for below in (0..count).rev() {
+        ports.push(status(((fields >> (2 * below)) % 4) as u8));
     }
 }
 
@@ -34,8 +31,8 @@ fn single(
     kept_a: u8,
     kept_b: u16,
 ) -> Result<SelfId, GroupFault>
-    requires { HasForm (record { attrs = attrs; ports = ports; kept_a = kept_a; kept_b = kept_b }) }
-    ensures { result ≡ single at (record { attrs = attrs; ports = ports; kept_a = kept_a; kept_b = kept_b }) }
+    requires { HasForm (node_with attrs ports kept_a kept_b) }
+    ensures { result ≡ single at (node_with attrs ports kept_a kept_b) }
 {
     if count_up(ports.as_slice()) > 1 {
         return Err(GroupFault::TwoParents { at });
@@ -62,7 +59,7 @@ fn first_ports(zero: &ZeroPart) -> PortList
 /// The carried bits of packet n = 0: its reserved bits and r.
 fn first_carried(first: &FurtherPart) -> u8
     requires { first.now.kept < 4 }
-    ensures { result ≡ first.now.kept * 2 + bit first.now.r }
+    ensures { result ≡ spelled (carried_a first.now) }
 {
     let r = if first.r { 1 } else { 0 };
     first.kept * 2 + r
@@ -71,7 +68,7 @@ fn first_carried(first: &FurtherPart) -> u8
 /// The carried bits of packet n = 1: its reserved bits and the eight after its port fields.
 fn second_carried(second: &FurtherPart) -> u16
     requires { second.now.kept < 4 }
-    ensures { result ≡ second.now.kept * 2 ^ 8 + second.now.fields % 2 ^ 6 * 2 ^ 2 + bit second.now.r * 2 + bit second.now.more }
+    ensures { result ≡ spelled (carried_b second.now) }
 {
     let r = if second.r { 2 } else { 0 };
     let more = if second.more { 1 } else { 0 };
@@ -81,7 +78,8 @@ fn second_carried(second: &FurtherPart) -> u16
 /// The node of the group at a place and the place after it, or the first fault.
 fn take_group(quads: &[u32], at: usize, wanted: u8) -> Result<(SelfId, usize), GroupFault>
     requires inside { at < length quads.now }
-    ensures { MatchResult result (λ x. Gives at wanted (drop at quads.now) x.0 x.1) (λ f. read_at at wanted (drop at quads.now) ≡ Err f) }
+    ensures { MatchResult result (λ x. Gives at wanted (drop at quads.now) x.0 x.1)
+        (λ f. read_at at wanted (drop at quads.now) ≡ Err f) }
 {
     let zero = read_zero(quads, at, wanted)?;
     let mut ports = first_ports(&zero);
@@ -105,21 +103,23 @@ fn take_group(quads: &[u32], at: usize, wanted: u8) -> Result<(SelfId, usize), G
 
 /// Reads the group of the node with ID `wanted` that stands at a place of a list.
 ///
-/// `at` counts quadlets from 0 and lies inside the list; `wanted` is 0 to 62. The answer is the node
-/// and the place after its group. Else it is the first rule that is broken: the packets are taken in
-/// turn, and of each it is asked whether the list goes on to it, whether it is a self-ID packet,
-/// whether it is this node's, and whether it is the next of the group; at the end, whether the node
-/// has two parents (IEEE 1394a-2000, self-ID packets).
+/// `at` counts quadlets from 0 and lies inside the list; `wanted` is 0 to 62. The answer is the
+/// node and the place after its group. Else it is the first rule that is broken: the packets are
+/// taken in turn, and of each it is asked whether the list goes on to it, whether it is a self-ID
+/// packet, whether it is this node's, and whether it is the next of the group; at the end, whether
+/// the node has two parents (IEEE 1394a-2000, self-ID packets).
 pub fn read_group(quads: &[u32], at: usize, wanted: u8) -> Result<(SelfId, usize), GroupFault>
     requires inside { at < length quads.now }
     requires id { wanted ≤ 62 }
     // The group of the answered node stands there, and the answered place follows it.
-    ensures found { IfOk result (λ x. IsNode x.0 × (drop at quads.now ≡ group x.0 wanted ++ drop x.1 quads.now) × (x.1 ≡ at + length (group x.0 wanted)) × (x.1 ≤ length quads.now)) }
+    ensures found { IfOk result (λ x. StandsAt quads.now at wanted x.0 x.1) }
     // A node whose group stands there is answered.
-    ensures only { (n : Node) (rest : List ℕ) → IsNode n → drop at quads.now ≡ group n wanted ++ rest → IsOkAnd result (λ x. x.0 ≡ n) }
+    ensures only { (n : Node) → BeginsWith (drop at quads.now) wanted n
+        → IsOkAnd result (λ x. x.0 ≡ n) }
     // A fault that is answered is the list's, and the list's fault is answered.
     ensures refused { IfErr result (λ f. GroupRefused at wanted (drop at quads.now) f) }
-    ensures exact { (f : GroupFault) → GroupRefused at wanted (drop at quads.now) f → IsErrOf result f }
+    ensures exact { (f : GroupFault) → GroupRefused at wanted (drop at quads.now) f
+        → IsErrOf result f }
 {
     take_group(quads, at, wanted)
 }

@@ -98,24 +98,24 @@ pub struct SelfId {
 }
 
 impl Model for SelfId {
-    ghost use Rattle.self_id.specs.Node.{Node, IsNode};
+    ghost use Rattle.self_id.specs.Node.{Node, node_with, IsNode};
 
     ghost Value = { Node };
 
-    ghost view = { λ s. record { attrs = s.attrs; ports = s.ports; kept_a = s.kept_a; kept_b = s.kept_b } };
+    ghost view = { λ s. node_with s.attrs s.ports s.kept_a s.kept_b };
 
-    ghost invariant = { λ s. IsNode (record { attrs = s.attrs; ports = s.ports; kept_a = s.kept_a; kept_b = s.kept_b }) };
+    ghost invariant = { λ s. IsNode (node_with s.attrs s.ports s.kept_a s.kept_b) };
 }
 
-ghost use Rattle.self_id.specs.Node.{IsNode};
+ghost use Rattle.self_id.specs.Node.{node_with, IsNode};
 
 impl SelfId {
     /// A node with these attributes and slots that carries no other bits.
     ///
-    /// The attributes fit their bits; `ports` has 3, 11 or 16 entries, of which one at most is `Up`.
+    /// The attributes fit their bits; `ports` has 3, 11 or 16 entries, and one at most is `Up`.
     pub fn new(attrs: Attrs, ports: &[PortStatus]) -> SelfId
-        requires { IsNode (record { attrs = attrs; ports = ports.now; kept_a = 0; kept_b = 0 }) }
-        ensures { result ≡ record { attrs = attrs; ports = ports.now; kept_a = 0; kept_b = 0 } }
+        requires { IsNode (node_with attrs ports.now 0 0) }
+        ensures { result ≡ node_with attrs ports.now 0 0 }
     {
         let mut list = PortList::new();
         for port in ports {

@@ -111,7 +111,8 @@ pub(crate) fn read_further(
     number: u8,
 ) -> Result<FurtherPart, GroupFault>
     requires { at ≤ length quads.now }
-    ensures { result ≡ and_then (owned_at at wanted (drop at quads.now)) (further_from at number) }
+    ensures { result ≡ and_then (owned_at at wanted (drop at quads.now))
+        (further_from at number) }
 {
     match owned_packet(quads, at, wanted)? {
         PhyPacket::SelfMore {

@@ -90,8 +90,8 @@ fn second_quad(node: &SelfId, id: u8) -> u32
     })
 }
 
-/// Writes the group of a node with its ID, 0 to 62, into an empty list: one quadlet with 3 slots, two
-/// with 11, three with 16 (IEEE 1394a-2000, self-ID packets).
+/// Writes the group of a node with its ID, 0 to 62, into an empty list: one quadlet with 3 slots,
+/// two with 11, three with 16 (IEEE 1394a-2000, self-ID packets).
 pub fn write_group(s: &SelfId, id: u8, out: &mut QuadGroup)
     requires id { id ≤ 62 }
     requires empty { out.old ≡ [] }

@@ -11,7 +11,8 @@ status_code = code_by ℕ coded_ℕ status_bits status_of status_of-status_bits
 abbrev pub attrs_code : Coded Attrs
 attrs_code =
     code_by (Bool × (ℕ × (ℕ × (ℕ × (Bool × (ℕ × Bool))))))
-    (coded× coded_bool (coded× coded_ℕ (coded× coded_ℕ (coded× coded_ℕ (coded× coded_bool (coded× coded_ℕ coded_bool))))))
+    (coded× coded_bool (coded× coded_ℕ (coded× coded_ℕ (coded× coded_ℕ
+    (coded× coded_bool (coded× coded_ℕ coded_bool))))))
     (λ a. (a.link, (a.gap, (a.speed, (a.delay, (a.contender, (a.power, a.initiated)))))))
     (λ p. record {
       link = p.0;

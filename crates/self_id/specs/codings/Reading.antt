@@ -1,7 +1,6 @@
--- How the packets of a group are taken one after the other. No public contract cites this file: they
--- speak of groups and refusals.
+-- How the packets of a group are taken one after the other. No public contract cites this file.
 use Rattle.std.specs.Prelude.{◌≡◌, ℕ, zero, suc, ◌+◌, ◌*◌, ◌/◌, ◌%◌, ◌^◌, false, ◌==◌, nat_le, if◌then◌else◌, List, [], ◌∷◌, ◌++◌, length, drop, Result, Ok, Err}
-use Rattle.phy_packet.specs.Layout.{bit}
+use Rattle.phy_packet.specs.Layout.{Field, bits, flag, spelled}
 use Rattle.phy_packet.specs.Packet.{is_self_id, owner, has_more}
 use Rattle.phy_packet.specs.codings.Decoding.{packet_of}
 use Rattle.phy_packet.specs.declared.packet.PhyPacket.{PhyPacket}
@@ -11,11 +10,12 @@ use Rattle.self_id.specs.declared.fault.GroupFault.TheVariants.{NotSelfId, Wrong
 use Rattle.self_id.specs.declared.node.PortStatus.{PortStatus}
 use Rattle.self_id.specs.declared.packets.ZeroPart.{ZeroPart}
 use Rattle.self_id.specs.declared.packets.FurtherPart.{FurtherPart}
-use Rattle.self_id.specs.Node.{Node, ups, status_of}
+use Rattle.self_id.specs.Node.{Node, node_with, ups, status_of}
 use Rattle.self_id.specs.Group.{group}
 use Rattle.self_id.specs.Refused.{is_in_order}
 
-abbrev pub and_then : {A B : Type 0} → Result A GroupFault → (A → Result B GroupFault) → Result B GroupFault
+abbrev pub and_then : {A B : Type 0} →
+    Result A GroupFault → (A → Result B GroupFault) → Result B GroupFault
 and_then (Ok x) f = f x
 and_then (Err e) f = Err e
 
@@ -45,16 +45,35 @@ owned_at at id (q ∷ qs) = owned at id (packet_of q)
 -- what packet zero says
 abbrev pub nothing_said : ZeroPart
 nothing_said = record {
-  attrs = record { link = false; gap = 0; speed = 0; delay = 0; contender = false; power = 0; initiated = false };
+  attrs = record {
+    link = false;
+    gap = 0;
+    speed = 0;
+    delay = 0;
+    contender = false;
+    power = 0;
+    initiated = false;
+  };
   p0 = status_of 0;
   p1 = status_of 0;
   p2 = status_of 0;
   more = false;
 }
 
+abbrev pub nothing_more : FurtherPart
+nothing_more = record { kept = 0; fields = 0; r = false; more = false }
+
 abbrev pub zero_in : PhyPacket → ZeroPart
 zero_in (SelfZero phy_id link gap speed delay contender power p0 p1 p2 initiated more) = record {
-  attrs = record { link = link; gap = gap; speed = speed; delay = delay; contender = contender; power = power; initiated = initiated };
+  attrs = record {
+    link = link;
+    gap = gap;
+    speed = speed;
+    delay = delay;
+    contender = contender;
+    power = power;
+    initiated = initiated;
+  };
   p0 = status_of p0;
   p1 = status_of p1;
   p2 = status_of p2;
@@ -68,12 +87,14 @@ zero_in (Other word) = nothing_said
 
 -- what a further packet says
 abbrev pub further_in : PhyPacket → FurtherPart
-further_in (SelfMore phy_id n kept fields r more) = record { kept = kept; fields = fields; r = r; more = more }
-further_in (Config root_id force set_gap gap rest) = record { kept = 0; fields = 0; r = false; more = false }
-further_in (LinkOn phy_id rest) = record { kept = 0; fields = 0; r = false; more = false }
-further_in (SelfZero phy_id link gap speed delay contender power p0 p1 p2 initiated more) = record { kept = 0; fields = 0; r = false; more = false }
-further_in (Extended word) = record { kept = 0; fields = 0; r = false; more = false }
-further_in (Other word) = record { kept = 0; fields = 0; r = false; more = false }
+further_in (SelfMore phy_id n kept fields r more) =
+    record { kept = kept; fields = fields; r = r; more = more }
+further_in (Config root_id force set_gap gap rest) = nothing_more
+further_in (LinkOn phy_id rest) = nothing_more
+further_in (SelfZero phy_id link gap speed delay contender power p0 p1 p2 initiated more) =
+    nothing_more
+further_in (Extended word) = nothing_more
+further_in (Other word) = nothing_more
 
 abbrev pub zero_from : ℕ → PhyPacket → Result ZeroPart GroupFault
 zero_from at p = if is_in_order 0 p then Ok (zero_in p) else Err (BadOrder at)
@@ -86,20 +107,27 @@ abbrev pub statuses : ℕ → ℕ → List PortStatus
 statuses zero x = []
 statuses (suc k) x = status_of (x / 2 ^ (2 * k) % 4) ∷ statuses k x
 
+-- the bits that packet n = 0 carries unread: its two reserved bits and r
+abbrev pub carried_a : FurtherPart → List Field
+carried_a a = bits 2 a.kept ∷ flag a.r ∷ []
+
+-- those of packet n = 1, whose last six bits of port fields are no slot's: m too
+abbrev pub carried_b : FurtherPart → List Field
+carried_b b = bits 2 b.kept ∷ bits 6 (b.fields % 2 ^ 6) ∷ flag b.r ∷ flag b.more ∷ []
+
 -- the node of one, two or three packets
 abbrev pub node3 : ZeroPart → Node
-node3 z = record { attrs = z.attrs; ports = z.p0 ∷ z.p1 ∷ z.p2 ∷ []; kept_a = 0; kept_b = 0 }
+node3 z = node_with z.attrs (z.p0 ∷ z.p1 ∷ z.p2 ∷ []) 0 0
 
 abbrev pub node11 : ZeroPart → FurtherPart → Node
-node11 z a = record { attrs = z.attrs; ports = z.p0 ∷ z.p1 ∷ z.p2 ∷ statuses 8 a.fields; kept_a = a.kept * 2 + bit a.r; kept_b = 0 }
+node11 z a =
+    node_with z.attrs (z.p0 ∷ z.p1 ∷ z.p2 ∷ statuses 8 a.fields) (spelled (carried_a a)) 0
 
 abbrev pub node16 : ZeroPart → FurtherPart → FurtherPart → Node
-node16 z a b = record {
-  attrs = z.attrs;
-  ports = z.p0 ∷ z.p1 ∷ z.p2 ∷ (statuses 8 a.fields ++ statuses 5 (b.fields / 2 ^ 6));
-  kept_a = a.kept * 2 + bit a.r;
-  kept_b = b.kept * 2 ^ 8 + b.fields % 2 ^ 6 * 2 ^ 2 + bit b.r * 2 + bit b.more;
-}
+node16 z a b =
+    node_with z.attrs
+    (z.p0 ∷ z.p1 ∷ z.p2 ∷ (statuses 8 a.fields ++ statuses 5 (b.fields / 2 ^ 6)))
+    (spelled (carried_a a)) (spelled (carried_b b))
 
 -- a whole group's node, unless it has two parents
 abbrev pub single : ℕ → Node → Result Node GroupFault
@@ -110,7 +138,8 @@ unfoldable pub read_at : ℕ → ℕ → List ℕ → Result Node GroupFault
 read_at at id l =
     and_then (packet_at at id 0 l) (λ z. if has_more z then
     and_then (packet_at (at + 1) id 1 (drop 1 l)) (λ a. if has_more a then
-    and_then (packet_at (at + 2) id 2 (drop 2 l)) (λ b. single at (node16 (zero_in z) (further_in a) (further_in b)))
+    and_then (packet_at (at + 2) id 2 (drop 2 l)) (λ b.
+    single at (node16 (zero_in z) (further_in a) (further_in b)))
     else single at (node11 (zero_in z) (further_in a)))
     else single at (node3 (zero_in z)))
 

@@ -28,7 +28,7 @@ returns-then-found-wanted-clause-refused c =
     let room : length c.loop-at.nodes.items < 63 = omega (arith, c.len.ensures, c.if-len-eq-MAX_NODES.false, c.loop-at.invariant.room) in
     let w : c.count_down-wanted.result ≡ downs c.in_ok-node.node.ports = c.count_down-wanted.ensures.value ∙ ap downs c.as_slice.ensures.value ∙ ap (λ (n : Node). downs n.ports) c.node.view_is in
     is_refused c.args.quads.now (TooFewChildren c.loop-at.at c.loop-at.found c.count_down-wanted.result) (rw w (is_too_few _ _ _ _ _ c.in_ok-node.node c.loop-at-test.true c.if-rooted.false room c.loop-at.invariant.reads
-    (takes _ _ _ _ _ _ _ e room c.node.invariant c.node.view_is c.in_ok-node.ensures.found.1) (omega (arith, w, c.if-found-wanted.true))))
+    (takes _ _ _ _ _ _ _ e room c.node.invariant c.node.view_is c.in_ok-node.ensures.found.parts) (omega (arith, w, c.if-found-wanted.true))))
 
 pub returns-then-wanted-found-clause-refused : goal.returns-then-wanted-found-clause-refused
 returns-then-wanted-found-clause-refused c =
@@ -38,7 +38,7 @@ returns-then-wanted-found-clause-refused c =
     let u : c.count_up-rooted.result ≡ ups c.in_ok-node.node.ports = c.count_up-rooted.ensures.value ∙ ap ups c.as_slice-in-loop-at.ensures.value ∙ ap (λ (n : Node). ups n.ports) c.node.view_is in
     let lt : downs c.in_ok-node.node.ports < c.loop-at.found = omega (arith, w, c.if-wanted-found.true) in
     is_refused c.args.quads.now (TreesLeft c.loop-at.at c.loop-at.found c.count_down-wanted.result) (rw w (is_left _ _ _ _ _ c.in_ok-node.node c.loop-at-test.true c.if-rooted.false room c.loop-at.invariant.reads
-    (takes _ _ _ _ _ _ _ e room c.node.invariant c.node.view_is c.in_ok-node.ensures.found.1) (omega arith) (both_true _ _ (ap (λ (k : ℕ). eqb k 0) (sym u ∙ c.if-rooted-2.true)) (lt-ltb _ _ lt))))
+    (takes _ _ _ _ _ _ _ e room c.node.invariant c.node.view_is c.in_ok-node.ensures.found.parts) (omega arith) (both_true _ _ (ap (λ (k : ℕ). eqb k 0) (sym u ∙ c.if-rooted-2.true)) (lt-ltb _ _ lt))))
 
 pub loop-at-preserved : goal.loop-at-preserved
 loop-at-preserved c =
@@ -51,10 +51,10 @@ loop-at-preserved c =
       | else-rooted-2-via-else-rooted-2 w ↦ both_false_left _ _ (ne_eqb _ _ w.if-rooted-2.false)
     ] in
     rw c.in_ok-push.ensures.items (goes_round _ _ _ _ _ _ _ _ c.in_ok-node.node c.loop-at-test.true c.if-rooted.false (omega arith) c.loop-at.invariant
-    (takes _ _ _ _ _ _ _ e room c.node.invariant c.node.view_is c.in_ok-node.ensures.found.1) (place_is _ _ _ _ _ e c.in_ok-node.ensures.found.2) c.in_ok-node.ensures.found.3 w u c.if-found-wanted.false test)
+    (takes _ _ _ _ _ _ _ e room c.node.invariant c.node.view_is c.in_ok-node.ensures.found.parts) (place_is _ _ _ _ _ e c.in_ok-node.ensures.found.place) c.in_ok-node.ensures.found.inside w u c.if-found-wanted.false test)
 
 pub loop-at-smaller : goal.loop-at-smaller
-loop-at-smaller c = omega (arith, moves _ _ _ _ _ c.node.invariant c.node.view_is c.in_ok-node.ensures.found.2, c.in_ok-node.ensures.found.3)
+loop-at-smaller c = omega (arith, moves _ _ _ _ _ c.node.invariant c.node.view_is c.in_ok-node.ensures.found.place, c.in_ok-node.ensures.found.inside)
 
 pub returns-then-rooted-3-clause-found : goal.returns-then-rooted-3-clause-found
 returns-then-rooted-3-clause-found c = is_emitted _ _ (is_end _ _ _ _ _ c.loop-at-test.false c.loop-at.invariant.reads ∙ ended_rooted _ _ _ c.if-rooted-3.true)
