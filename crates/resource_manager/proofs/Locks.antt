@@ -114,8 +114,8 @@ lock_took v offset kind arg value h = go (register_at offset) refl
         absurd (omega (arith, ap (λ (p : Reply). p.rcode) same))
 
 -- the register that a lock swapped stands at the lock's offset
-pub swapped-register : (offset : ℕ) (r q : Register) → register_at offset ≡ Some r → offset ≡ (layout q).offset → r ≡ q
-swapped-register offset r q found place =
+pub after_swap-register : (offset : ℕ) (r q : Register) → register_at offset ≡ Some r → offset ≡ (layout q).offset → r ≡ q
+after_swap-register offset r q found place =
     let other : register_at (layout q).offset ≡ Some q = register_at-offset q in
     let this : register_at (layout q).offset ≡ Some r = rw (← place) found in
     cc

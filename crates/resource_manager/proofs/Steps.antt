@@ -15,11 +15,11 @@ use Rattle.resource_manager.specs.declared.grant.GrantFault.{GrantFault}
 use Rattle.resource_manager.specs.Register.{Values, initial_values, layout, with_value, cut}
 use Rattle.resource_manager.specs.Channel.{place_of, register_of, seen_of, bit_of}
 use Rattle.resource_manager.specs.Response.{lock_reply, after_lock}
-use Rattle.resource_manager.specs.Grant.{allocate_fault, release_fault, allocated, released, Takes}
-use Rattle.resource_manager.specs.Access.{IsPermitted, decided, unless, answer_of, after}
+use Rattle.resource_manager.specs.Grant.{allocate_fault, release_fault, after_allocation, after_release, Takes}
+use Rattle.resource_manager.specs.Access.{IsPermitted, done_unless, unless, answer_of, after}
 use Rattle.resource_manager.specs.Calls.{Grants, Frees, MovesChannels, IsByHand, grants_of, releases_of, units_granted, units_released}
 use Rattle.resource_manager.proofs.Grants.{allocation_takes, release_takes_backwards, release_within}
-use Rattle.resource_manager.proofs.Locks.{Swaps, lock_cases, lock_took, offset-register_at, swapped-register, bit-with_value, bit-own}
+use Rattle.resource_manager.proofs.Locks.{Swaps, lock_cases, lock_took, offset-register_at, after_swap-register, bit-with_value, bit-own}
 
 -- a channel is granted only where it is free, and is held after it
 pub record IsTaken (old new : Values) (c : ℕ) : Type 0 where
@@ -37,13 +37,13 @@ taken old new d c u t hc e = record {
 pub granted : (v : Values) (a : Access) (c : ℕ) → IsPermitted a → Grants c a (answer_of v a) → IsTaken v (after v a) c
 granted v (Allocate s d u) c p g = go (allocate_fault v s d u) refl g
   where
-    go : (o : Option GrantFault) → allocate_fault v s d u ≡ o → grants_of c (Allocate s d u) (decided o) ≡ 1 →
-        IsTaken v (unless o v (allocated v d u)) c
+    go : (o : Option GrantFault) → allocate_fault v s d u ≡ o → grants_of c (Allocate s d u) (done_unless o) ≡ 1 →
+        IsTaken v (unless o v (after_allocation v d u)) c
     go (Some f) e h = cc
     go None e h = same (eqb d c) refl h
       where
-        same : (b : Bool) → eqb d c ≡ b → grants_of c (Allocate s d u) Done ≡ 1 → IsTaken v (allocated v d u) c
-        same true t h = taken v (allocated v d u) d c u (allocation_takes v s d u p.0 e) (omega (arith, p.0, eqb-true d c t)) (eqb-true d c t)
+        same : (b : Bool) → eqb d c ≡ b → grants_of c (Allocate s d u) Done ≡ 1 → IsTaken v (after_allocation v d u) c
+        same true t h = taken v (after_allocation v d u) d c u (allocation_takes v s d u p.0 e) (omega (arith, p.0, eqb-true d c t)) (eqb-true d c t)
         same false t h = let k = rw t at h in cc
 granted v a c p g = cc
 
@@ -103,26 +103,26 @@ locked v offset kind arg value c hc h = go (lock_cases v offset kind arg value)
 pub freed : (v : Values) (a : Access) (c : ℕ) → c < 64 → IsPermitted a → bit_of (seen_of v) c ≡ 0 → FreesOrHolds c a (answer_of v a) (after v a)
 freed v (Allocate s d u) c hc p h = go (allocate_fault v s d u) refl
   where
-    go : (o : Option GrantFault) → allocate_fault v s d u ≡ o → FreesOrHolds c (Allocate s d u) (decided o) (unless o v (allocated v d u))
+    go : (o : Option GrantFault) → allocate_fault v s d u ≡ o → FreesOrHolds c (Allocate s d u) (done_unless o) (unless o v (after_allocation v d u))
     go (Some f) e = inr h
     go None e = same (eqb d c) refl
       where
-        t : Takes v (allocated v d u) d u
+        t : Takes v (after_allocation v d u) d u
         t = allocation_takes v s d u p.0 e
 
-        same : (b : Bool) → eqb d c ≡ b → FreesOrHolds c (Allocate s d u) Done (allocated v d u)
-        same true q = inr (taken v (allocated v d u) d c u t hc (eqb-true d c q)).is_held
+        same : (b : Bool) → eqb d c ≡ b → FreesOrHolds c (Allocate s d u) Done (after_allocation v d u)
+        same true q = inr (taken v (after_allocation v d u) d c u t hc (eqb-true d c q)).is_held
         same false q = inr (t.others c hc (λ (k : c ≡ d). eqb-false d c q (sym k)) ∙ h)
 freed v (Release s d u) c hc p h = go (release_fault v s d u) refl
   where
-    go : (o : Option GrantFault) → release_fault v s d u ≡ o → FreesOrHolds c (Release s d u) (decided o) (unless o v (released v d u))
+    go : (o : Option GrantFault) → release_fault v s d u ≡ o → FreesOrHolds c (Release s d u) (done_unless o) (unless o v (after_release v d u))
     go (Some f) e = inr h
     go None e = same (eqb d c) refl
       where
-        t : Takes (released v d u) v d u
+        t : Takes (after_release v d u) v d u
         t = release_takes_backwards v s d u p.0 e
 
-        same : (b : Bool) → eqb d c ≡ b → FreesOrHolds c (Release s d u) Done (released v d u)
+        same : (b : Bool) → eqb d c ≡ b → FreesOrHolds c (Release s d u) Done (after_release v d u)
         same true q = inl (eqb-true d c q)
         same false q = inr (sym (t.others c hc (λ (k : c ≡ d). eqb-false d c q (sym k))) ∙ h)
 freed v (Lock offset kind arg value) c hc p h = locked v offset kind arg value c hc h
@@ -135,20 +135,20 @@ freed v Look c hc p h = inr h
 pub free_again : (v : Values) (a : Access) (c : ℕ) → c < 64 → IsPermitted a → Frees c a (answer_of v a) → bit_of (seen_of (after v a)) c ≡ 1
 free_again v (Allocate s d u) c hc p f = go (allocate_fault v s d u) f
   where
-    go : (o : Option GrantFault) → Frees c (Allocate s d u) (decided o) → bit_of (seen_of (unless o v (allocated v d u))) c ≡ 1
+    go : (o : Option GrantFault) → Frees c (Allocate s d u) (done_unless o) → bit_of (seen_of (unless o v (after_allocation v d u))) c ≡ 1
     go None h = absurd h
     go (Some fault) h = absurd h
 free_again v (Release s d u) c hc p f = go (release_fault v s d u) refl f
   where
-    go : (o : Option GrantFault) → release_fault v s d u ≡ o → Frees c (Release s d u) (decided o) →
-        bit_of (seen_of (unless o v (released v d u))) c ≡ 1
+    go : (o : Option GrantFault) → release_fault v s d u ≡ o → Frees c (Release s d u) (done_unless o) →
+        bit_of (seen_of (unless o v (after_release v d u))) c ≡ 1
     go (Some fault) e h = absurd h
-    go None e h = (taken (released v d u) v d c u (release_takes_backwards v s d u p.0 e) hc h).was_free
+    go None e h = (taken (after_release v d u) v d c u (release_takes_backwards v s d u p.0 e) hc h).was_free
 free_again v (Lock offset kind arg value) c hc p f = go (lock_took v offset kind arg value f.1)
   where
     go : (r : Register) × Swaps v offset kind arg value r → bit_of (seen_of (after_lock v offset kind arg value)) c ≡ 1
     go (r, s) =
-        let own : r ≡ register_of c = swapped-register offset r (register_of c) s.found f.0 in
+        let own : r ≡ register_of c = after_swap-register offset r (register_of c) s.found f.0 in
         ap (λ (w : Values). bit_of (seen_of w) c) s.leaves ∙ bit-own v value c r own ∙ f.2
 free_again v Reset c hc p f = initially-free c
 free_again v (Read offset) c hc p f = absurd f
@@ -203,26 +203,26 @@ pub keeps : (v : Values) (a : Access) → IsPermitted a → ¬ IsByHand a (answe
 keeps v (Allocate s d u) p hand = go (allocate_fault v s d u) refl
   where
     go : (o : Option GrantFault) → allocate_fault v s d u ≡ o →
-        Keeps v (unless o v (allocated v d u)) (Allocate s d u) (decided o)
+        Keeps v (unless o v (after_allocation v d u)) (Allocate s d u) (done_unless o)
     go (Some f) e = record { bandwidth = refl; within = λ h. h; channels = λ c hc. refl }
     go None e =
-        let t : Takes v (allocated v d u) d u = allocation_takes v s d u p.0 e in
+        let t : Takes v (after_allocation v d u) d u = allocation_takes v s d u p.0 e in
         record {
           within = λ h. omega (arith, t.bandwidth);
           bandwidth = t.bandwidth ∙ sym (add-zero v.bandwidth_available);
-          channels = λ c hc. bits-grant v (allocated v d u) d u c t hc ∙ sym (add-zero (bit_of (seen_of v) c));
+          channels = λ c hc. bits-grant v (after_allocation v d u) d u c t hc ∙ sym (add-zero (bit_of (seen_of v) c));
         }
 keeps v (Release s d u) p hand = go (release_fault v s d u) refl
   where
     go : (o : Option GrantFault) → release_fault v s d u ≡ o →
-        Keeps v (unless o v (released v d u)) (Release s d u) (decided o)
+        Keeps v (unless o v (after_release v d u)) (Release s d u) (done_unless o)
     go (Some f) e = record { bandwidth = refl; within = λ h. h; channels = λ c hc. refl }
     go None e =
-        let t : Takes (released v d u) v d u = release_takes_backwards v s d u p.0 e in
+        let t : Takes (after_release v d u) v d u = release_takes_backwards v s d u p.0 e in
         record {
           within = λ _. release_within v s d u e;
-          bandwidth = add-zero (released v d u).bandwidth_available ∙ sym t.bandwidth;
-          channels = λ c hc. add-zero (bit_of (seen_of (released v d u)) c) ∙ sym (bits-grant (released v d u) v d u c t hc);
+          bandwidth = add-zero (after_release v d u).bandwidth_available ∙ sym t.bandwidth;
+          channels = λ c hc. add-zero (bit_of (seen_of (after_release v d u)) c) ∙ sym (bits-grant (after_release v d u) v d u c t hc);
         }
 keeps v (Lock offset kind arg value) p hand =
     let e = seen-lock v offset kind arg value hand in

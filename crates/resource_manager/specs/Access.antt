@@ -9,7 +9,7 @@ use Rattle.resource_manager.specs.declared.grant.GrantFault.{GrantFault}
 use Rattle.resource_manager.specs.Register.{Values, initial_values}
 use Rattle.resource_manager.specs.Channel.{seen_of}
 use Rattle.resource_manager.specs.Response.{read_reply, write_reply, lock_reply, after_lock}
-use Rattle.resource_manager.specs.Grant.{allocate_fault, release_fault, allocated, released}
+use Rattle.resource_manager.specs.Grant.{allocate_fault, release_fault, after_allocation, after_release}
 
 -- there are 64 channels, and never more than 4915 units of bandwidth
 abbrev pub IsPermitted : Access → Type 0
@@ -22,9 +22,9 @@ IsPermitted (Allocate seen channel units) = (channel ≤ 63) × (units ≤ 4915)
 IsPermitted (Release seen channel units) = (channel ≤ 63) × (units ≤ 4915)
 
 -- a grant or a release is done where there is no fault
-abbrev pub decided : Option GrantFault → Answer
-decided None = Done
-decided (Some fault) = Refused fault
+abbrev pub done_unless : Option GrantFault → Answer
+done_unless None = Done
+done_unless (Some fault) = Refused fault
 
 -- what a call answers
 abbrev pub answer_of : Values → Access → Answer
@@ -33,8 +33,10 @@ answer_of values (Write offset value) = Replied (write_reply offset)
 answer_of values (Lock offset kind arg value) = Replied (lock_reply values offset kind)
 answer_of values Reset = Done
 answer_of values Look = Saw (seen_of values)
-answer_of values (Allocate seen channel units) = decided (allocate_fault values seen channel units)
-answer_of values (Release seen channel units) = decided (release_fault values seen channel units)
+answer_of values (Allocate seen channel units) =
+    done_unless (allocate_fault values seen channel units)
+answer_of values (Release seen channel units) =
+    done_unless (release_fault values seen channel units)
 
 -- new values where there is no fault, and else the old ones
 abbrev pub unless : Option GrantFault → Values → Values → Values
@@ -49,9 +51,9 @@ after values (Lock offset kind arg value) = after_lock values offset kind arg va
 after values Reset = initial_values
 after values Look = values
 after values (Allocate seen channel units) =
-    unless (allocate_fault values seen channel units) values (allocated values channel units)
+    unless (allocate_fault values seen channel units) values (after_allocation values channel units)
 after values (Release seen channel units) =
-    unless (release_fault values seen channel units) values (released values channel units)
+    unless (release_fault values seen channel units) values (after_release values channel units)
 
 -- what a list of calls leaves, and what they answer, one after another
 abbrev pub after_all : Values → List Access → Values

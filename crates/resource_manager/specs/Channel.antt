@@ -31,9 +31,9 @@ abbrev pub bit_of : Seen → ℕ → ℕ
 bit_of seen channel = bit_at (word_of seen channel) (place_of channel)
 
 -- a register's value with one bit made 0
-abbrev pub cleared : ℕ → ℕ → ℕ
-cleared value place = bit_and value (bit_not w32 (2 ^ place))
+abbrev pub without_bit : ℕ → ℕ → ℕ
+without_bit value place = bit_and value (bit_not w32 (2 ^ place))
 
 -- a register's value with one bit made 1
-abbrev pub raised : ℕ → ℕ → ℕ
-raised value place = bit_or value (2 ^ place)
+abbrev pub with_bit : ℕ → ℕ → ℕ
+with_bit value place = bit_or value (2 ^ place)

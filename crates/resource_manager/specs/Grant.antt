@@ -5,12 +5,12 @@ use Rattle.resource_manager.specs.declared.grant.Seen.{Seen}
 use Rattle.resource_manager.specs.declared.grant.GrantFault.{GrantFault}
 use Rattle.resource_manager.specs.declared.grant.GrantFault.TheVariants.{NoChannel, NoBandwidth, Changed}
 use Rattle.resource_manager.specs.Register.{Values, layout, with_value}
-use Rattle.resource_manager.specs.Channel.{register_of, place_of, seen_of, word_of, bit_of, cleared, raised}
+use Rattle.resource_manager.specs.Channel.{register_of, place_of, seen_of, word_of, bit_of, without_bit, with_bit}
 
 -- the first register that no longer has the value that was seen: the bandwidth, and then the
 -- channel's
-abbrev pub changed : Values → Seen → ℕ → Option GrantFault
-changed values seen channel =
+abbrev pub change_fault : Values → Seen → ℕ → Option GrantFault
+change_fault values seen channel =
     if not (now.bandwidth == seen.bandwidth) then
     Some (Changed (layout BandwidthAvailable).offset now.bandwidth)
     else if not (word_of now channel == word_of seen channel) then
@@ -26,7 +26,7 @@ abbrev pub allocate_fault : Values → Seen → ℕ → ℕ → Option GrantFaul
 allocate_fault values seen channel units =
     if bit_of seen channel == 0 then Some NoChannel
     else if nat_lt seen.bandwidth units then Some (NoBandwidth seen.bandwidth)
-    else changed values seen channel
+    else change_fault values seen channel
 
 -- why a release is refused, if it is: the channel was seen free, or the bandwidth would pass its
 -- initial value, or a register changed
@@ -35,26 +35,26 @@ release_fault values seen channel units =
     if bit_of seen channel == 1 then Some NoChannel
     else if nat_lt (layout BandwidthAvailable).initial (seen.bandwidth + units) then
     Some (NoBandwidth seen.bandwidth)
-    else changed values seen channel
+    else change_fault values seen channel
 
 -- the registers with another bandwidth, and another word in the channel's register
-abbrev pub moved : Values → ℕ → ℕ → ℕ → Values
-moved values channel bandwidth word =
+abbrev pub with_bandwidth_and_word : Values → ℕ → ℕ → ℕ → Values
+with_bandwidth_and_word values channel bandwidth word =
     with_value (record values { bandwidth_available = bandwidth }) (register_of channel) word
 
 -- the registers after a grant: the bandwidth is less by the units, and the channel's bit is 0
-abbrev pub allocated : Values → ℕ → ℕ → Values
-allocated values channel units =
-    moved values channel
+abbrev pub after_allocation : Values → ℕ → ℕ → Values
+after_allocation values channel units =
+    with_bandwidth_and_word values channel
     (values.bandwidth_available - units)
-    (cleared (word_of (seen_of values) channel) (place_of channel))
+    (without_bit (word_of (seen_of values) channel) (place_of channel))
 
 -- the registers after a release: the bandwidth is more by the units, and the channel's bit is 1
-abbrev pub released : Values → ℕ → ℕ → Values
-released values channel units =
-    moved values channel
+abbrev pub after_release : Values → ℕ → ℕ → Values
+after_release values channel units =
+    with_bandwidth_and_word values channel
     (values.bandwidth_available + units)
-    (raised (word_of (seen_of values) channel) (place_of channel))
+    (with_bit (word_of (seen_of values) channel) (place_of channel))
 
 -- A grant takes a channel and units of bandwidth: a release is one backwards.
 pub record Takes (before after : Values) (channel units : ℕ) : Type 0 where
@@ -74,9 +74,13 @@ pub record Takes (before after : Values) (channel units : ℕ) : Type 0 where
 -- and its value
 abbrev pub IsFirstChanged : Values → Seen → ℕ → ℕ → ℕ → Type 0
 IsFirstChanged values seen channel offset old =
-    ((now.bandwidth ≢ seen.bandwidth) × (offset ≡ (layout BandwidthAvailable).offset) × (old ≡ now.bandwidth))
-    ⊎ ((now.bandwidth ≡ seen.bandwidth) × (word_of now channel ≢ word_of seen channel)
-    × (offset ≡ (layout (register_of channel)).offset) × (old ≡ word_of now channel))
+    ((now.bandwidth ≢ seen.bandwidth)
+    × (offset ≡ (layout BandwidthAvailable).offset)
+    × (old ≡ now.bandwidth))
+    ⊎ ((now.bandwidth ≡ seen.bandwidth)
+    × (word_of now channel ≢ word_of seen channel)
+    × (offset ≡ (layout (register_of channel)).offset)
+    × (old ≡ word_of now channel))
   where
     now : Seen
     now = seen_of values
@@ -85,4 +89,5 @@ IsFirstChanged values seen channel offset old =
 abbrev pub NamesFirstChanged : Values → Seen → ℕ → GrantFault → Type 0
 NamesFirstChanged values seen channel NoChannel = Unit {0}
 NamesFirstChanged values seen channel (NoBandwidth left) = Unit {0}
-NamesFirstChanged values seen channel (Changed offset old) = IsFirstChanged values seen channel offset old
+NamesFirstChanged values seen channel (Changed offset old) =
+    IsFirstChanged values seen channel offset old

@@ -10,16 +10,16 @@ abbrev pub complete : ℕ → Reply
 complete value = record { rcode = 0; value = value }
 
 -- an access that was refused with a response code
-abbrev pub refused : ℕ → Reply
-refused code = record { rcode = code; value = 0 }
+abbrev pub refusal : ℕ → Reply
+refusal code = record { rcode = code; value = 0 }
 
 -- the register doesn't permit the access
 abbrev pub type_error : Reply
-type_error = refused 6
+type_error = refusal 6
 
 -- there is no register at the offset
 abbrev pub address_error : Reply
-address_error = refused 7
+address_error = refusal 7
 
 -- a read answers the value
 abbrev pub read_reply : Values → ℕ → Reply
@@ -47,13 +47,16 @@ lock_reply values offset kind = reply (register_at offset)
   where
     reply : Option Register → Reply
     reply None = address_error
-    reply (Some register) = if kind == compare_swap then complete (value_of values register) else type_error
+    reply (Some register) =
+        if kind == compare_swap then complete (value_of values register) else type_error
 
 -- compare_swap: the register becomes the new value, cut to its width, where its value equals the
 -- argument
-abbrev pub swapped : Values → Register → ℕ → ℕ → Values
-swapped values register arg value =
-    if value_of values register == arg then with_value values register (cut register value) else values
+abbrev pub after_swap : Values → Register → ℕ → ℕ → Values
+after_swap values register arg value =
+    if value_of values register == arg then
+    with_value values register (cut register value)
+    else values
 
 -- a lock changes nothing but by compare_swap on a register
 abbrev pub after_lock : Values → ℕ → ℕ → ℕ → ℕ → Values
@@ -61,4 +64,5 @@ after_lock values offset kind arg value = after (register_at offset)
   where
     after : Option Register → Values
     after None = values
-    after (Some register) = if kind == compare_swap then swapped values register arg value else values
+    after (Some register) =
+        if kind == compare_swap then after_swap values register arg value else values

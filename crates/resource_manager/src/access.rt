@@ -2,7 +2,7 @@
 ghost use Rattle.std.specs.Prelude.{◌≡◌, ◌↔◌, ℕ, ◌+◌, ◌≤◌, All, IsTrue, length};
 ghost use Rattle.std.specs.Result.{result_err};
 ghost use Rattle.std.specs.List.{zip};
-ghost use Rattle.resource_manager.specs.Access.{IsPermitted, IsRefusal, decided, answer_of, after, after_all, answers_of};
+ghost use Rattle.resource_manager.specs.Access.{IsPermitted, IsRefusal, done_unless, answer_of, after, after_all, answers_of};
 ghost use Rattle.resource_manager.specs.Calls.{MovesChannels, FreedBetweenGrants, FreedBeforeGrant, IsByHand, Conserves};
 
 use crate::grant::{GrantFault, Seen, allocate, look, release};
@@ -73,7 +73,7 @@ impl Access {
 }
 
 impl From<Result<(), GrantFault>> for Answer {
-    ghost from_gives = { λ r a. a ≡ decided (result_err r) };
+    ghost from_gives = { λ r a. a ≡ done_unless (result_err r) };
 
     fn from(outcome: Result<(), GrantFault>) -> Answer {
         match outcome {

@@ -2,8 +2,8 @@
 ghost use Rattle.std.specs.Prelude.{◌≡◌, ◌↔◌, ℕ, ◌+◌, ◌^◌, ◌<◌, ◌≤◌, IsTrue, OnOk, OnErr, IfErr};
 ghost use Rattle.std.specs.Result.{result_err};
 ghost use Rattle.resource_manager.specs.Register.{layout};
-ghost use Rattle.resource_manager.specs.Channel.{place_of, seen_of, word_of, bit_of, cleared, raised};
-ghost use Rattle.resource_manager.specs.Grant.{changed, allocate_fault, release_fault, allocated, released, Takes, NamesFirstChanged};
+ghost use Rattle.resource_manager.specs.Channel.{place_of, seen_of, word_of, bit_of, without_bit, with_bit};
+ghost use Rattle.resource_manager.specs.Grant.{change_fault, allocate_fault, release_fault, after_allocation, after_release, Takes, NamesFirstChanged};
 
 use crate::register::Register;
 use crate::registers::Registers;
@@ -72,7 +72,7 @@ pub fn look(regs: &Registers) -> Seen
 /// Refuses where the bandwidth, or else the channel's register, has changed since it was seen.
 fn check_unchanged(regs: &Registers, seen: Seen, channel: u8) -> Result<(), GrantFault>
     requires { channel ≤ 63 }
-    ensures fault { result_err result ≡ changed regs.now seen channel }
+    ensures fault { result_err result ≡ change_fault regs.now seen channel }
     ensures changed { IfErr result (NamesFirstChanged regs.now seen channel) }
     ensures bandwidth { OnOk result ((seen_of regs.now).bandwidth ≡ seen.bandwidth) }
     ensures word { OnOk result (word_of (seen_of regs.now) channel ≡ word_of seen channel) }
@@ -132,15 +132,15 @@ fn check_release(regs: &Registers, seen: Seen, channel: u8, units: u16) -> Resul
 }
 
 /// A word with the channel's bit made 0.
-fn cleared(word: u32, channel: u8) -> u32
-    ensures { result ≡ cleared word (place_of channel) }
+fn without_bit(word: u32, channel: u8) -> u32
+    ensures { result ≡ without_bit word (place_of channel) }
 {
     word & !(1 << place_of(channel))
 }
 
 /// A word with the channel's bit made 1.
-fn raised(word: u32, channel: u8) -> u32
-    ensures { result ≡ raised word (place_of channel) }
+fn with_bit(word: u32, channel: u8) -> u32
+    ensures { result ≡ with_bit word (place_of channel) }
 {
     word | 1 << place_of(channel)
 }
@@ -149,7 +149,7 @@ fn raised(word: u32, channel: u8) -> u32
 fn take(regs: &mut Registers, channel: u8, units: u16)
     requires channel { channel ≤ 63 }
     requires units { units ≤ (seen_of regs.old).bandwidth }
-    ensures { regs.new ≡ allocated regs.old channel units }
+    ensures { regs.new ≡ after_allocation regs.old channel units }
 {
     let now = look(regs);
     regs.set(
@@ -158,7 +158,7 @@ fn take(regs: &mut Registers, channel: u8, units: u16)
     );
     regs.set(
         Register::of_channel(channel),
-        cleared(now.word(channel), channel),
+        without_bit(now.word(channel), channel),
     );
 }
 
@@ -166,7 +166,7 @@ fn take(regs: &mut Registers, channel: u8, units: u16)
 fn put_back(regs: &mut Registers, channel: u8, units: u16)
     requires channel { channel ≤ 63 }
     requires units { (seen_of regs.old).bandwidth + units ≤ 4915 }
-    ensures { regs.new ≡ released regs.old channel units }
+    ensures { regs.new ≡ after_release regs.old channel units }
 {
     let now = look(regs);
     regs.set(
@@ -175,7 +175,7 @@ fn put_back(regs: &mut Registers, channel: u8, units: u16)
     );
     regs.set(
         Register::of_channel(channel),
-        raised(now.word(channel), channel),
+        with_bit(now.word(channel), channel),
     );
 }
 
@@ -192,7 +192,7 @@ pub fn allocate(regs: &mut Registers, seen: Seen, channel: u8, units: u16) -> Re
     requires units { units ≤ 4915 }
     ensures fault { result_err result ≡ allocate_fault regs.old seen channel units }
     ensures changed { IfErr result (NamesFirstChanged regs.old seen channel) }
-    ensures ok { OnOk result (regs.new ≡ allocated regs.old channel units) }
+    ensures ok { OnOk result (regs.new ≡ after_allocation regs.old channel units) }
     ensures takes { OnOk result (Takes regs.old regs.new channel units) }
     ensures err { OnErr result (regs.new ≡ regs.old) }
 {
@@ -215,7 +215,7 @@ pub fn release(regs: &mut Registers, seen: Seen, channel: u8, units: u16) -> Res
     requires units { units ≤ 4915 }
     ensures fault { result_err result ≡ release_fault regs.old seen channel units }
     ensures changed { IfErr result (NamesFirstChanged regs.old seen channel) }
-    ensures ok { OnOk result (regs.new ≡ released regs.old channel units) }
+    ensures ok { OnOk result (regs.new ≡ after_release regs.old channel units) }
     // A release is a grant backwards.
     ensures takes { OnOk result (Takes regs.new regs.old channel units) }
     ensures err { OnErr result (regs.new ≡ regs.old) }

@@ -1,7 +1,7 @@
 //! The registers, and the accesses that other nodes make to them.
 ghost use Rattle.std.specs.Prelude.{◌≡◌, ◌≢◌, ℕ, ◌^◌, ◌<◌};
 ghost use Rattle.resource_manager.specs.Register.{layout, initial_values, value_of, with_value, cut};
-ghost use Rattle.resource_manager.specs.Response.{complete, refused, read_reply, write_reply, lock_reply, after_lock};
+ghost use Rattle.resource_manager.specs.Response.{complete, refusal, read_reply, write_reply, lock_reply, after_lock};
 
 use crate::register::Register;
 use std::marker::Model;
@@ -37,8 +37,8 @@ impl Reply {
     }
 
     /// An access that was refused with this response code.
-    fn refused(rcode: u8) -> Reply
-        ensures { result ≡ refused rcode }
+    fn refusal(rcode: u8) -> Reply
+        ensures { result ≡ refusal rcode }
     {
         Reply { rcode, value: 0 }
     }
@@ -141,7 +141,7 @@ impl Registers {
     {
         match Register::at(offset) {
             Some(register) => Reply::complete(self.value(register)),
-            None => Reply::refused(ADDRESS_ERROR),
+            None => Reply::refusal(ADDRESS_ERROR),
         }
     }
 
@@ -151,7 +151,7 @@ impl Registers {
         ensures { result ≡ write_reply offset }
     {
         let exists = Register::at(offset).is_some();
-        Reply::refused(if exists { TYPE_ERROR } else { ADDRESS_ERROR })
+        Reply::refusal(if exists { TYPE_ERROR } else { ADDRESS_ERROR })
     }
 
     /// Locks the register at an offset. `kind` is the extended transaction code, of which
@@ -167,10 +167,10 @@ impl Registers {
         ensures differs { result.value ≢ arg → self.new ≡ self.old }
     {
         let Some(register) = Register::at(offset) else {
-            return Reply::refused(ADDRESS_ERROR);
+            return Reply::refusal(ADDRESS_ERROR);
         };
         if kind != COMPARE_SWAP {
-            return Reply::refused(TYPE_ERROR);
+            return Reply::refusal(TYPE_ERROR);
         }
         let old = self.value(register);
         if old == arg {

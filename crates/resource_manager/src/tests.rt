@@ -46,36 +46,36 @@ fn seen(bandwidth: u32, hi: u32) -> Seen {
     }
 }
 
-fn replied(rcode: u8, value: u32) -> Answer {
+fn reply(rcode: u8, value: u32) -> Answer {
     Answer::Replied(Reply { rcode, value })
 }
 
-fn refused(fault: GrantFault) -> Answer {
+fn refusal(fault: GrantFault) -> Answer {
     Answer::Refused(fault)
 }
 
 #[test]
 fn answers_reads_writes_and_locks(rt: HostRuntime) {
     let table = [
-        (lock(BANDWIDTH, 2, 4915, 4815), replied(0, 4915)),
-        (lock(BANDWIDTH, 2, 4915, 4000), replied(0, 4815)),
-        (read(BANDWIDTH), replied(0, 4815)),
+        (lock(BANDWIDTH, 2, 4915, 4815), reply(0, 4915)),
+        (lock(BANDWIDTH, 2, 4915, 4000), reply(0, 4815)),
+        (read(BANDWIDTH), reply(0, 4815)),
         (
             Access::Write {
                 offset: BANDWIDTH,
                 value: 1,
             },
-            replied(6, 0),
+            reply(6, 0),
         ),
-        (lock(BANDWIDTH, 1, 4815, 1), replied(6, 0)),
-        (read(0x230), replied(7, 0)),
-        (lock(BUS_MANAGER_ID, 2, 0x3F, 0), replied(0, 0x3F)),
-        (lock(BUS_MANAGER_ID, 2, 0x3F, 1), replied(0, 0)),
-        (lock(BUS_MANAGER_ID, 2, 0, 0xFFFF_FFC1), replied(0, 0)),
-        (read(BUS_MANAGER_ID), replied(0, 1)),
+        (lock(BANDWIDTH, 1, 4815, 1), reply(6, 0)),
+        (read(0x230), reply(7, 0)),
+        (lock(BUS_MANAGER_ID, 2, 0x3F, 0), reply(0, 0x3F)),
+        (lock(BUS_MANAGER_ID, 2, 0x3F, 1), reply(0, 0)),
+        (lock(BUS_MANAGER_ID, 2, 0, 0xFFFF_FFC1), reply(0, 0)),
+        (read(BUS_MANAGER_ID), reply(0, 1)),
         (Access::Reset, Answer::Done),
-        (read(BANDWIDTH), replied(0, 4915)),
-        (read(BUS_MANAGER_ID), replied(0, 0x3F)),
+        (read(BANDWIDTH), reply(0, 4915)),
+        (read(BUS_MANAGER_ID), reply(0, 0x3F)),
     ];
     let mut regs = Registers::new();
     for (access, answer) in table {
@@ -92,35 +92,35 @@ fn grants_by_what_was_seen(rt: HostRuntime) {
     let granted = seen(4800, 0xFBFF_FFFF);
     let table = [
         (Access::Look, Answer::Saw(fresh)),
-        (lock(BANDWIDTH, 2, 4915, 4900), replied(0, 4915)),
+        (lock(BANDWIDTH, 2, 4915, 4900), reply(0, 4915)),
         (
             allocate(fresh, 5, 100),
-            refused(GrantFault::Changed {
+            refusal(GrantFault::Changed {
                 offset: BANDWIDTH,
                 old: 4900,
             }),
         ),
         (allocate(locked, 5, 100), Answer::Done),
         (Access::Look, Answer::Saw(granted)),
-        (allocate(granted, 5, 100), refused(GrantFault::NoChannel)),
+        (allocate(granted, 5, 100), refusal(GrantFault::NoChannel)),
         (
             allocate(granted, 6, 4801),
-            refused(GrantFault::NoBandwidth { left: 4800 }),
+            refusal(GrantFault::NoBandwidth { left: 4800 }),
         ),
         (Access::Reset, Answer::Done),
-        (release(fresh, 5, 1), refused(GrantFault::NoChannel)),
+        (release(fresh, 5, 1), refusal(GrantFault::NoChannel)),
         (allocate(fresh, 5, 100), Answer::Done),
         (
             release(seen(4815, 0xFBFF_FFFF), 5, 101),
-            refused(GrantFault::NoBandwidth { left: 4815 }),
+            refusal(GrantFault::NoBandwidth { left: 4815 }),
         ),
         (release(seen(4815, 0xFBFF_FFFF), 5, 100), Answer::Done),
-        (read(HI), replied(0, u32::MAX)),
+        (read(HI), reply(0, u32::MAX)),
         (allocate(fresh, 32, 0), Answer::Done),
-        (read(LO), replied(0, 0x7FFF_FFFF)),
+        (read(LO), reply(0, 0x7FFF_FFFF)),
         (
             allocate(fresh, 63, 0),
-            refused(GrantFault::Changed {
+            refusal(GrantFault::Changed {
                 offset: LO,
                 old: 0x7FFF_FFFF,
             }),
@@ -139,5 +139,5 @@ fn serves_a_list(rt: HostRuntime) {
     let mut answers = [Answer::Done; 3];
     assert!(rt; are_permitted(&accesses));
     serve_all(&mut Registers::new(), &accesses, &mut answers);
-    assert_eq!(rt; answers, [replied(0, 4915), Answer::Done, replied(0, 4915)]);
+    assert_eq!(rt; answers, [reply(0, 4915), Answer::Done, reply(0, 4915)]);
 }
