@@ -10,9 +10,10 @@ use Rattle.topology_stack.specs.declared.fault.TreeStop.{TreeStop}
 use Rattle.topology_stack.specs.declared.fault.TreeStop.TheVariants.{Fault}
 use Rattle.cabling.specs.declared.visits.Visit.{Visit}
 use Rattle.cabling.specs.Wiring.{Wiring, IsCabling}
-use Rattle.cabling.specs.Sees.{Sees}
-use Rattle.cabling.specs.Visits.{SmallTree, visits, at_root}
-use Rattle.cabling.specs.Labels.{labels, shown_node}
+use Rattle.cabling.specs.Sees.{Sees, SmallTree}
+use Rattle.cabling.specs.codings.Visits.{visits, at_root}
+use Rattle.cabling.specs.Labels.{labels}
+use Rattle.cabling.specs.codings.Shown.{shown_node}
 use Rattle.cabling.proofs.Shown.{Good, AllGood, good_at, good_root, good_visits, shown_is_node, bus_seen, list_seen, listed_all, labels_fit}
 
 -- a seen tree, and its visits

@@ -1,6 +1,7 @@
 pub mod Bits
 pub mod Ends
 pub mod Plugging
+pub mod Table
 pub mod Growing
 pub mod Near
 pub mod Stripping

@@ -95,7 +95,7 @@ slots_seen c label x from p (Some e ∷ row) (suc count) at few below =
           record { slots = down t.0 rest.slots; seen = (ne, t.1, rest.seen); count_is = ap (λ (k : ℕ). suc k) rest.count_is }
     ]
 
-wide : (n : ℕ) → n ≤ 16 → n ≤ width n
+pub wide : (n : ℕ) → n ≤ 16 → n ≤ width n
 wide n h = grind (arith, nat_tests)
 
 node_exists : (c : Wiring) (x p : ℕ) (e : End) → far c (end_at x p) ≡ Some e → x < length c

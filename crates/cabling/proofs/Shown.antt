@@ -2,7 +2,7 @@
 use Rattle.std.proofs.Common.{◌≡◌, ◌≢◌, ℕ, zero, suc, ◌+◌, ◌-◌, ◌<◌, ◌≤◌, inl, inr, Bool, true, false, cond, eqb, nat_lt, Option, Some, None, List, [], ◌∷◌, ◌++◌, length, map, drop, get_or, refl, sym, subst, ap, ◌∙◌, arith, append_assoc, length-append, append-nil, drop-cons, add-one}
 use Rattle.std.specs.Prelude.{All}
 use Rattle.std.proofs.Math.ListN.{replicate}
-use Rattle.std.proofs.lemmas.List.{length-replicate}
+use Rattle.std.proofs.lemmas.List.{length-replicate, map-append, length-map}
 use Rattle.std.proofs.lemmas.List.Elements.{All-get_or}
 use Rattle.std.proofs.lemmas.Grind.{common_steps}
 use Rattle.std.proofs.lemmas.Bool.{cases_eq, ne_eqb}
@@ -17,12 +17,13 @@ use Rattle.cabling.specs.declared.cable.End.{End}
 use Rattle.cabling.specs.declared.visits.Visit.{Visit}
 use Rattle.cabling.specs.Wiring.{Wiring, ports_of, far, IsCabling}
 use Rattle.cabling.specs.Sees.{width, Sees, SeesFrom, numbers}
-use Rattle.cabling.specs.Visits.{visits, visits_below, is_from, at_root}
-use Rattle.cabling.specs.Labels.{no_attrs, labels, shown, slots_of, shown_node}
+use Rattle.cabling.specs.codings.Visits.{visits, visits_below, is_from, at_root}
+use Rattle.cabling.specs.Labels.{no_attrs, labels}
+use Rattle.cabling.specs.codings.Shown.{statuses_from, slots_of, shown_node}
 use Rattle.std.proofs.lemmas.Nat.{pow_pos}
 use Rattle.cabling.proofs.Ends.{plugged, none_some}
 use Rattle.cabling.proofs.Near.{end_at}
-use Rattle.cabling.proofs.Seen.{RowAt, row_all, row_head, row_tail}
+use Rattle.cabling.proofs.Seen.{RowAt, row_all, row_head, row_tail, wide}
 use Rattle.cabling.proofs.Waiting.{length-visits}
 
 -- ---- tests of the port
@@ -41,7 +42,7 @@ up_or_down b = cond b Up Down
 -- ---- slots
 
 -- the slots of a seen tree are those that its node shows
-slots_shown : (c : Wiring) (label : ℕ → Label) (from : Option ℕ) (p : ℕ) (row : List (Option End)) (s : Slots) (k : ℕ) → SeesFrom c label from p row s → length (statuses s) ≡ length row + k → statuses s ≡ shown from p row ++ replicate k Absent
+slots_shown : (c : Wiring) (label : ℕ → Label) (from : Option ℕ) (p : ℕ) (row : List (Option End)) (s : Slots) (k : ℕ) → SeesFrom c label from p row s → length (statuses s) ≡ length row + k → statuses s ≡ statuses_from from p row ++ replicate k Absent
 slots_shown c label from p [] no_more zero h e = refl
 slots_shown c label from p [] no_more (suc k) h e = absurd (omega (arith, e))
 slots_shown c label from p [] (absent s) zero h e = absurd (omega (arith, e))
@@ -49,21 +50,18 @@ slots_shown c label from p [] (absent s) (suc k) h e = ap (λ (xs : List PortSta
 slots_shown c label from p (None ∷ row) (unplugged s) k h e = ap (λ (xs : List PortStatus). Unplugged ∷ xs) (slots_shown c label from (p + 1) row s k h (omega (arith, e)))
 slots_shown c label from p (Some far ∷ row) (up s) k h e =
     ap (λ (xs : List PortStatus). Up ∷ xs) (slots_shown c label from (p + 1) row s k h.1 (omega (arith, e)))
-    ∙ ap (λ (b : Bool). up_or_down b ∷ (shown from (p + 1) row ++ replicate k Absent)) (sym (is_from-same from p h.0))
+    ∙ ap (λ (b : Bool). up_or_down b ∷ (statuses_from from (p + 1) row ++ replicate k Absent)) (sym (is_from-same from p h.0))
 slots_shown c label from p (Some far ∷ row) (down t s) k h e =
     ap (λ (xs : List PortStatus). Down ∷ xs) (slots_shown c label from (p + 1) row s k h.2 (omega (arith, e)))
-    ∙ ap (λ (b : Bool). up_or_down b ∷ (shown from (p + 1) row ++ replicate k Absent)) (sym (is_from-other from p h.0))
+    ∙ ap (λ (b : Bool). up_or_down b ∷ (statuses_from from (p + 1) row ++ replicate k Absent)) (sym (is_from-other from p h.0))
 slots_shown c label from p row s k h e = absurd h
-
-wide : (n : ℕ) → n ≤ 16 → n ≤ width n
-wide n h = grind (arith, nat_tests)
 
 pub are_slots : (c : Wiring) (label : ℕ → Label) (v : Visit) (s : Slots) → IsCabling c → v.node < length c → SeesFrom c label v.from 0 (ports_of c v.node) s → length (statuses s) ≡ width (length (ports_of c v.node)) → statuses s ≡ slots_of c v
 are_slots c label v s is there h e =
     let n = length (ports_of c v.node) in
     slots_shown c label v.from 0 (ports_of c v.node) s (width n - n) h (omega (arith, e, wide n (is.few_ports v.node there)))
 
-shown-length : (from : Option ℕ) (p : ℕ) (row : List (Option End)) → length (shown from p row) ≡ length row
+shown-length : (from : Option ℕ) (p : ℕ) (row : List (Option End)) → length (statuses_from from p row) ≡ length row
 shown-length from p [] = refl
 shown-length from p (r ∷ row) = ap (λ (n : ℕ). suc n) (shown-length from (p + 1) row)
 
@@ -80,7 +78,7 @@ ups_padded (Unplugged ∷ xs) k = ups_padded xs k
 ups_padded (Up ∷ xs) k = ap (λ (n : ℕ). n + 1) (ups_padded xs k)
 ups_padded (Down ∷ xs) k = ups_padded xs k
 
-ups_none : (p : ℕ) (row : List (Option End)) → ups (shown None p row) ≡ 0
+ups_none : (p : ℕ) (row : List (Option End)) → ups (statuses_from None p row) ≡ 0
 ups_none p [] = refl
 ups_none p (None ∷ row) = ups_none (p + 1) row
 ups_none p (Some e ∷ row) = ups_none (p + 1) row
@@ -93,12 +91,12 @@ ups_up : (b : Bool) (xs : List PortStatus) → b ≡ true → ups (up_or_down b 
 ups_up true xs e = refl
 ups_up false xs e = absurd cc
 
-ups_past : (q p : ℕ) (row : List (Option End)) → q < p → ups (shown (Some q) p row) ≡ 0
+ups_past : (q p : ℕ) (row : List (Option End)) → q < p → ups (statuses_from (Some q) p row) ≡ 0
 ups_past q p [] less = refl
 ups_past q p (None ∷ row) less = ups_past q (p + 1) row (omega arith)
-ups_past q p (Some e ∷ row) less = ups_down (eqb q p) (shown (Some q) (p + 1) row) (ne_eqb q p (λ same. omega arith)) ∙ ups_past q (p + 1) row (omega arith)
+ups_past q p (Some e ∷ row) less = ups_down (eqb q p) (statuses_from (Some q) (p + 1) row) (ne_eqb q p (λ same. omega arith)) ∙ ups_past q (p + 1) row (omega arith)
 
-ups_at : (c : Wiring) (x q p : ℕ) (e : End) (row : List (Option End)) → RowAt c x p row → far c (end_at x q) ≡ Some e → p ≤ q → q < p + length row → ups (shown (Some q) p row) ≡ 1
+ups_at : (c : Wiring) (x q p : ℕ) (e : End) (row : List (Option End)) → RowAt c x p row → far c (end_at x q) ≡ Some e → p ≤ q → q < p + length row → ups (statuses_from (Some q) p row) ≡ 1
 ups_at c x q p e [] at j low high = absurd (omega (arith, low, high))
 ups_at c x q p e (None ∷ row) at j low high = elim (cases_eq q p) [
   | inl same ↦
@@ -107,15 +105,15 @@ ups_at c x q p e (None ∷ row) at j low high = elim (cases_eq q p) [
   | inr ne ↦ ups_at c x q (p + 1) e row (row_tail c x p None row at) j (omega arith) (omega arith)
 ]
 ups_at c x q p e (Some f ∷ row) at j low high = elim (cases_eq q p) [
-  | inl same ↦ ups_up (eqb q p) (shown (Some q) (p + 1) row) (grind (arith, nat_tests)) ∙ ap (λ (n : ℕ). n + 1) (ups_past q (p + 1) row (omega arith))
-  | inr ne ↦ ups_down (eqb q p) (shown (Some q) (p + 1) row) (ne_eqb q p ne) ∙ ups_at c x q (p + 1) e row (row_tail c x p (Some f) row at) j (omega arith) (omega arith)
+  | inl same ↦ ups_up (eqb q p) (statuses_from (Some q) (p + 1) row) (grind (arith, nat_tests)) ∙ ap (λ (n : ℕ). n + 1) (ups_past q (p + 1) row (omega arith))
+  | inr ne ↦ ups_down (eqb q p) (statuses_from (Some q) (p + 1) row) (ne_eqb q p ne) ∙ ups_at c x q (p + 1) e row (row_tail c x p (Some f) row at) j (omega arith) (omega arith)
 ]
 
 pub ups_root : (c : Wiring) (root : ℕ) → ups (slots_of c (at_root root)) ≡ 0
-ups_root c root = ups_padded (shown None 0 (ports_of c root)) (width (length (ports_of c root)) - length (ports_of c root)) ∙ ups_none 0 (ports_of c root)
+ups_root c root = ups_padded (statuses_from None 0 (ports_of c root)) (width (length (ports_of c root)) - length (ports_of c root)) ∙ ups_none 0 (ports_of c root)
 
 pub ups_below : (c : Wiring) (x q : ℕ) (e : End) → far c (end_at x q) ≡ Some e → ups (slots_of c (record { node = x; from = Some q })) ≡ 1
-ups_below c x q e j = ups_padded (shown (Some q) 0 (ports_of c x)) (width (length (ports_of c x)) - length (ports_of c x))
+ups_below c x q e j = ups_padded (statuses_from (Some q) 0 (ports_of c x)) (width (length (ports_of c x)) - length (ports_of c x))
     ∙ ups_at c x q 0 e (ports_of c x) (row_all c x) j (omega arith) (omega (arith, (plugged c (end_at x q) e j).port))
 
 -- ---- seen trees are bus trees
@@ -137,7 +135,7 @@ is_width-width n = go (nat_lt n 4) (nat_lt n 12)
 slots-length : (c : Wiring) (v : Visit) → IsCabling c → v.node < length c → length (slots_of c v) ≡ width (length (ports_of c v.node))
 slots-length c v is there =
     let n = length (ports_of c v.node) in
-    omega (arith, length-append (shown v.from 0 (ports_of c v.node)) (replicate (width n - n) Absent), shown-length v.from 0 (ports_of c v.node), length-replicate (width n - n) Absent, wide n (is.few_ports v.node there))
+    omega (arith, length-append (statuses_from v.from 0 (ports_of c v.node)) (replicate (width n - n) Absent), shown-length v.from 0 (ports_of c v.node), length-replicate (width n - n) Absent, wide n (is.few_ports v.node there))
 
 -- what a node shows is a node
 pub shown_is_node : (c : Wiring) (label : ℕ → Label) (v : Visit) → IsCabling c → Fit c label → v.node < length c → ups (slots_of c v) ≤ 1 → IsNode (shown_node c label v)
@@ -151,7 +149,7 @@ shown_is_node c label v is fit there few = record {
   one_parent = few;
 }
 
--- the node of a seen tree is the one that is shown
+-- the node of a seen tree is the one that is statuses_from
 node_shown : (c : Wiring) (label : ℕ → Label) (v : Visit) (a : Label) (s : Slots) → a ≡ label v.node → statuses s ≡ slots_of c v → node_of a s ≡ shown_node c label v
 node_shown c label v a s e f =
     let at : Label → List PortStatus → Node = λ l xs. record { attrs = l.attrs; ports = xs; kept_a = l.kept_a; kept_b = l.kept_b } in
@@ -197,10 +195,6 @@ mutual
 
 -- ---- the walk of a seen tree is what its nodes show
 
-map-append : (f : Visit → Node) (xs ys : List Visit) → map f (xs ++ ys) ≡ map f xs ++ map f ys
-map-append f [] ys = refl
-map-append f (x ∷ xs) ys = ap (λ (zs : List Node). f x ∷ zs) (map-append f xs ys)
-
 mutual
   pub walk_seen : (c : Wiring) (label : ℕ → Label) (v : Visit) (t : Tree) → IsCabling c → v.node < length c → Sees c label v.node v.from t → walk t ≡ map (shown_node c label) (visits c v t)
   walk_seen c label v (branch a s) is there h =
@@ -223,7 +217,7 @@ mutual
   walk_below_seen c label x from p row s is at h = absurd h
 
 pub bus_seen : (c : Wiring) (label : ℕ → Label) (root : ℕ) (t : Tree) → IsCabling c → Fit c label → root < length c → Sees c label root None t → length (numbers c root t) ≤ 63 → IsBusTree t
-bus_seen c label root t is fit there h few = record { whole = whole t h; small = omega (arith, few, length-visits c (at_root root) t, ap length (walk_seen c label (at_root root) t is there h), length_map (visits c (at_root root) t)) }
+bus_seen c label root t is fit there h few = record { whole = whole t h; small = omega (arith, few, length-visits c (at_root root) t, ap length (walk_seen c label (at_root root) t is there h), length-map (visits c (at_root root) t) (shown_node c label)) }
   where
     whole : (t : Tree) → Sees c label root None t → IsWhole t
     whole (branch a s) h =
@@ -233,10 +227,6 @@ bus_seen c label root t is fit there h few = record { whole = whole t h; small =
           ap ups slots ∙ none,
           parts_seen c label root None 0 (ports_of c root) s is fit (row_all c root) h.2,
         )
-
-    length_map : (xs : List Visit) → length (map (shown_node c label) xs) ≡ length xs
-    length_map [] = refl
-    length_map (x ∷ xs) = ap (λ (n : ℕ). suc n) (length_map xs)
 
 -- ---- each visit of a seen tree is of a node that packets can show
 

@@ -5,8 +5,7 @@ use Rattle.cabling.specs.Wiring.{Wiring, IsCabling}
 use Rattle.cabling.specs.NodeSet.{Holds}
 use Rattle.cabling.specs.Component.{IsComponent}
 use Rattle.cabling.specs.Looped.{IsCore}
-use Rattle.cabling.specs.Sees.{Sees, numbers}
-use Rattle.cabling.specs.Visits.{SmallTree}
+use Rattle.cabling.specs.Sees.{Sees, numbers, SmallTree}
 use Rattle.cabling.proofs.Bits.{below}
 use Rattle.cabling.proofs.Cascade.{NoLoop}
 use Rattle.cabling.proofs.Rank.{Ranked, ranked}

@@ -1,24 +1,20 @@
 -- The walk is made from its end: each visit that waits stands for the walk of the tree that is seen from it.
-use Rattle.std.proofs.Common.{◌≡◌, ◌≢◌, ℕ, suc, ◌+◌, ◌<◌, ◌≤◌, Bool, true, false, cond, eqb, Option, Some, None, List, [], ◌∷◌, ◌++◌, length, map, reverse, drop, refl, sym, subst, ap, ◌∙◌, arith, append_assoc, length-append, append-nil, get_or, drop-cons, add-one}
+use Rattle.std.proofs.Common.{◌≡◌, ◌≢◌, ℕ, ◌+◌, ◌<◌, ◌≤◌, Bool, true, false, cond, eqb, Option, Some, None, List, [], ◌∷◌, ◌++◌, length, map, reverse, drop, refl, sym, subst, ap, ◌∙◌, arith, append_assoc, length-append, append-nil, get_or, drop-cons, add-one}
 use Rattle.std.proofs.lemmas.Bool.{ne_eqb}
 use Rattle.std.proofs.lemmas.Bool.Decides.{nat_tests}
-use Rattle.std.proofs.lemmas.List.{reverse-append, length-reverse}
+use Rattle.std.proofs.lemmas.List.{reverse-append, length-reverse, map-append, length-map}
 use Rattle.topology_stack.specs.Tree.{Label, Tree, branch, Slots, no_more, absent, unplugged, up, down}
 use Rattle.cabling.specs.declared.cable.End.{End}
 use Rattle.cabling.specs.declared.visits.Visit.{Visit}
 use Rattle.cabling.specs.Wiring.{Wiring, ports_of, IsCabling}
-use Rattle.cabling.specs.Sees.{Sees, SeesFrom, numbers, numbers_below}
-use Rattle.cabling.specs.Visits.{visits, visits_below, by_port, onward, at_root, SmallTree}
+use Rattle.cabling.specs.Sees.{Sees, SeesFrom, numbers, numbers_below, SmallTree}
+use Rattle.cabling.specs.codings.Visits.{visits, visits_below, by_port, next_visits, at_root}
 use Rattle.cabling.proofs.Ends.{plugged}
 use Rattle.cabling.proofs.Near.{end_at}
 use Rattle.cabling.proofs.Seen.{RowAt, row_all, row_head, row_tail}
 
 abbrev pub node_of : Visit → ℕ
 node_of v = v.node
-
-map-append : (f : Visit → ℕ) (xs ys : List Visit) → map f (xs ++ ys) ≡ map f xs ++ map f ys
-map-append f [] ys = refl
-map-append f (x ∷ xs) ys = ap (λ (zs : List ℕ). f x ∷ zs) (map-append f xs ys)
 
 -- the visits have the numbers of the tree's nodes
 mutual
@@ -42,11 +38,7 @@ mutual
   nodes-visits_below c [] s = refl
 
 pub length-visits : (c : Wiring) (v : Visit) (t : Tree) → length (visits c v t) ≡ length (numbers c v.node t)
-length-visits c v t = sym (length_map (visits c v t)) ∙ ap length (nodes-visits c v t)
-  where
-    length_map : (xs : List Visit) → length (map node_of xs) ≡ length xs
-    length_map [] = refl
-    length_map (x ∷ xs) = ap (λ (n : ℕ). suc n) (length_map xs)
+length-visits c v t = sym (length-map (visits c v t) node_of) ∙ ap length (nodes-visits c v t)
 
 -- ---- visits that wait
 
@@ -122,14 +114,14 @@ by_other (Some q) p e ne = go (eqb q p) (ne_eqb q p (λ same. ne (ap (λ (n : �
     go true t = absurd cc
     go false t = refl
 
-pub walks_onward : (c : Wiring) (label : ℕ → Label) (x : ℕ) (from : Option ℕ) (p : ℕ) (row : List (Option End)) (s : Slots) → IsCabling c → RowAt c x p row → SeesFrom c label from p row s → Walks c label (onward from p row) (visits_below c row s)
+pub walks_onward : (c : Wiring) (label : ℕ → Label) (x : ℕ) (from : Option ℕ) (p : ℕ) (row : List (Option End)) (s : Slots) → IsCabling c → RowAt c x p row → SeesFrom c label from p row s → Walks c label (next_visits from p row) (visits_below c row s)
 walks_onward c label x from p [] no_more is at h = refl
 walks_onward c label x from p [] (absent s) is at h = refl
 walks_onward c label x from p (None ∷ row) (unplugged s) is at h = walks_onward c label x from (p + 1) row s is (row_tail c x p None row at) h
 walks_onward c label x from p (Some e ∷ row) (up s) is at h =
-    subst (λ (xs : List Visit). Walks c label (xs ++ onward from (p + 1) row) (visits_below c row s)) (sym (by_from from p e h.0)) (walks_onward c label x from (p + 1) row s is (row_tail c x p (Some e) row at) h.1)
+    subst (λ (xs : List Visit). Walks c label (xs ++ next_visits from (p + 1) row) (visits_below c row s)) (sym (by_from from p e h.0)) (walks_onward c label x from (p + 1) row s is (row_tail c x p (Some e) row at) h.1)
 walks_onward c label x from p (Some e ∷ row) (down t s) is at h =
-    subst (λ (xs : List Visit). Walks c label (xs ++ onward from (p + 1) row) (visits c (record { node = e.node; from = Some e.port }) t ++ visits_below c row s)) (sym (by_other from p e h.0))
+    subst (λ (xs : List Visit). Walks c label (xs ++ next_visits from (p + 1) row) (visits c (record { node = e.node; from = Some e.port }) t ++ visits_below c row s)) (sym (by_other from p e h.0))
     (record {
       there = (plugged c e (end_at x p) (is.both_ways (end_at x p) e (row_head c x p (Some e) row at))).node;
       tree = t;
@@ -160,12 +152,12 @@ regroup a b r v = simp append_assoc
 reverse-push : (xs : List Visit) (v : Visit) → reverse (xs ++ v ∷ []) ≡ v ∷ reverse xs
 reverse-push xs v = reverse-append xs (v ∷ [])
 
-going_by : (c : Wiring) (label : ℕ → Label) (waiting done whole : List Visit) (v : Visit) (is : IsCabling c) (g : Going c label (waiting ++ v ∷ []) done whole) (t : Tree) → Sees c label v.node v.from t → (before : List Visit) → Walks c label waiting before → g.rest ≡ before ++ visits c v t → Going c label (waiting ++ onward v.from 0 (ports_of c v.node)) (done ++ v ∷ []) whole
+going_by : (c : Wiring) (label : ℕ → Label) (waiting done whole : List Visit) (v : Visit) (is : IsCabling c) (g : Going c label (waiting ++ v ∷ []) done whole) (t : Tree) → Sees c label v.node v.from t → (before : List Visit) → Walks c label waiting before → g.rest ≡ before ++ visits c v t → Going c label (waiting ++ next_visits v.from 0 (ports_of c v.node)) (done ++ v ∷ []) whole
 going_by c label waiting done whole v is g (branch a s) h before w split =
     let row = ports_of c v.node in
     record {
       rest = before ++ visits_below c row s;
-      walks = walks_append c label waiting (onward v.from 0 row) before (visits_below c row s) w (walks_onward c label v.node v.from 0 row s is (row_all c v.node) h.2);
+      walks = walks_append c label waiting (next_visits v.from 0 row) before (visits_below c row s) w (walks_onward c label v.node v.from 0 row s is (row_all c v.node) h.2);
       all =
           ap (λ (xs : List Visit). (before ++ visits_below c row s) ++ xs) (reverse-push done v)
           ∙ regroup before (visits_below c row s) (reverse done) v
@@ -173,7 +165,7 @@ going_by c label waiting done whole v is g (branch a s) h before w split =
           ∙ g.all;
     }
 
-pub going_next : (c : Wiring) (label : ℕ → Label) (waiting done whole : List Visit) (v : Visit) → IsCabling c → Going c label (waiting ++ v ∷ []) done whole → Going c label (waiting ++ onward v.from 0 (ports_of c v.node)) (done ++ v ∷ []) whole
+pub going_next : (c : Wiring) (label : ℕ → Label) (waiting done whole : List Visit) (v : Visit) → IsCabling c → Going c label (waiting ++ v ∷ []) done whole → Going c label (waiting ++ next_visits v.from 0 (ports_of c v.node)) (done ++ v ∷ []) whole
 going_next c label waiting done whole v is g =
     let l = walks_last c label waiting v g.rest g.walks in
     going_by c label waiting done whole v is g l.tree l.seen l.before l.walks l.split
@@ -204,7 +196,7 @@ AllSmall c root = (label : ℕ → Label) → SmallTree c label root
 pub all_first : (c : Wiring) (root : ℕ) (waiting done : List Visit) → root < length c → waiting ≡ (at_root root) ∷ [] → done ≡ [] → AllGoing c root waiting done
 all_first c root waiting done there w d label tree h = rw (w, d) (going_first c label (at_root root) tree there h)
 
-pub all_next : (c : Wiring) (root : ℕ) (before waiting done after done_after : List Visit) (v : Visit) → IsCabling c → before ≡ waiting ++ v ∷ [] → done_after ≡ done ++ v ∷ [] → after ≡ waiting ++ onward v.from 0 (ports_of c v.node) → AllGoing c root before done → AllGoing c root after done_after
+pub all_next : (c : Wiring) (root : ℕ) (before waiting done after done_after : List Visit) (v : Visit) → IsCabling c → before ≡ waiting ++ v ∷ [] → done_after ≡ done ++ v ∷ [] → after ≡ waiting ++ next_visits v.from 0 (ports_of c v.node) → AllGoing c root before done → AllGoing c root after done_after
 all_next c root before waiting done after done_after v is b d a all label tree h =
     rw (a, d) (going_next c label waiting done (visits c (at_root root) tree) v is (subst (λ (xs : List Visit). Going c label xs done (visits c (at_root root) tree)) b (all label tree h)))
 
@@ -222,10 +214,10 @@ all_there c root before waiting done v small b all =
     going_there c plain waiting done (visits c (at_root root) s.tree) v (subst (λ (xs : List Visit). Going c plain xs done (visits c (at_root root) s.tree)) b (all plain s.tree s.seen))
 
 -- one port more
-pub onward_at : (from : Option ℕ) (i : ℕ) (row : List (Option End)) → i < length row → onward from i (drop i row) ≡ by_port from i (get_or row i None) ++ onward from (i + 1) (drop (i + 1) row)
+pub onward_at : (from : Option ℕ) (i : ℕ) (row : List (Option End)) → i < length row → next_visits from i (drop i row) ≡ by_port from i (get_or row i None) ++ next_visits from (i + 1) (drop (i + 1) row)
 onward_at from i row less = rw (drop-cons row i None) (rw (add-one i) refl)
 
-pub onward_room : (from : Option ℕ) (i : ℕ) (row : List (Option End)) (now old : List Visit) (v : Visit) → i < length row → now ++ onward from i (drop i row) ≡ old ++ onward from 0 row → by_port from i (get_or row i None) ≡ v ∷ [] → length old + length (onward from 0 row) ≤ 63 → length now < 63
+pub onward_room : (from : Option ℕ) (i : ℕ) (row : List (Option End)) (now old : List Visit) (v : Visit) → i < length row → now ++ next_visits from i (drop i row) ≡ old ++ next_visits from 0 row → by_port from i (get_or row i None) ≡ v ∷ [] → length old + length (next_visits from 0 row) ≤ 63 → length now < 63
 onward_room from i row now old v less e one few =
-    let there : onward from i (drop i row) ≡ v ∷ onward from (i + 1) (drop (i + 1) row) = onward_at from i row less ∙ ap (λ (xs : List Visit). xs ++ onward from (i + 1) (drop (i + 1) row)) one in
-    omega (arith, ap length e, length-append now (onward from i (drop i row)), length-append old (onward from 0 row), ap length there)
+    let there : next_visits from i (drop i row) ≡ v ∷ next_visits from (i + 1) (drop (i + 1) row) = onward_at from i row less ∙ ap (λ (xs : List Visit). xs ++ next_visits from (i + 1) (drop (i + 1) row)) one in
+    omega (arith, ap length e, length-append now (next_visits from i (drop i row)), length-append old (next_visits from 0 row), ap length there)

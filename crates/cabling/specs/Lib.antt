@@ -5,6 +5,7 @@ pub mod Looped
 pub mod Change
 pub mod Sees
 pub mod Walk
-pub mod Visits
 pub mod Labels
+pub mod Trees
 pub mod Answer
+pub mod codings

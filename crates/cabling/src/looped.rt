@@ -10,7 +10,9 @@ use crate::wiring::{Cabling, cables_are_two_ended};
 
 /// Whether the far end of a port is at a node of the set.
 fn leads_into(far: Option<End>, set: NodeSet) -> bool
-    ensures { MatchBool result ((other : End) × (far ≡ Some other) × Holds set other.node) ((other : End) → far ≡ Some other → Holds set other.node → ⊥) }
+    ensures { MatchBool result
+        ((other : End) × (far ≡ Some other) × Holds set other.node)
+        ((other : End) → far ≡ Some other → Holds set other.node → ⊥) }
 {
     match far {
         Some(other) => set.has(other.node),
@@ -36,9 +38,9 @@ impl Cabling {
         false
     }
 
-    /// The core of a set of nodes, which exist: the union of all sets inside it in which each node has
-    /// at least two cables into the set. Two cables to one neighbour count as two. Where a component
-    /// has a core, its nodes can't agree on a root.
+    /// The core of a set of nodes, which exist: the union of all sets inside it in which each node
+    /// has at least two cables into the set. Two cables to one neighbour count as two. Where a
+    /// component has a core, its nodes can't agree on a root.
     pub fn core(&self, set: NodeSet) -> NodeSet
         requires { (node : ℕ) → Holds set node → node < length self.now }
         ensures { IsCore self.now set result }

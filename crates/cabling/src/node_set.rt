@@ -1,6 +1,6 @@
 //! Sets of nodes.
 ghost use Rattle.std.specs.Prelude.{◌≡◌, ◌≢◌, ◌↔◌, ◌+◌, ◌-◌, ◌^◌, ◌<◌, ◌≤◌, ℕ, IsTrue, IfSome, IfNone, ◌⊎◌};
-ghost use Rattle.cabling.specs.NodeSet.{Holds, IsEmpty, size_below};
+ghost use Rattle.cabling.specs.NodeSet.{Holds, IsEmpty, AgreeBut, size_below};
 
 use std::marker::Model;
 
@@ -75,7 +75,7 @@ impl NodeSet {
     pub(crate) fn insert(&mut self, node: u8)
         requires { node < 63 }
         ensures holds { Holds self.new node }
-        ensures others { (other : ℕ) → other ≢ node → (Holds self.new other ↔ Holds self.old other) }
+        ensures others { AgreeBut self.old self.new node }
         ensures value { (Holds self.old node → ⊥) → self.new ≡ self.old + 2 ^ node }
         ensures small { self.new < 2 ^ 63 }
     {
@@ -87,7 +87,7 @@ impl NodeSet {
         requires small { node < 63 }
         requires held { Holds self.old node }
         ensures gone { Holds self.new node → ⊥ }
-        ensures others { (other : ℕ) → other ≢ node → (Holds self.new other ↔ Holds self.old other) }
+        ensures others { AgreeBut self.old self.new node }
         ensures value { self.new + 2 ^ node ≡ self.old }
         ensures small { self.new < 2 ^ 63 }
     {
@@ -116,7 +116,8 @@ impl NodeSet {
 
     /// The nodes that are in this set and not in the other.
     pub(crate) fn minus(self, other: NodeSet) -> NodeSet
-        ensures members { (node : ℕ) → (Holds result node ↔ (Holds self node × (Holds other node → ⊥))) }
+        ensures members { (node : ℕ) →
+            (Holds result node ↔ (Holds self node × (Holds other node → ⊥))) }
         ensures small { result < 2 ^ 63 }
     {
         NodeSet {

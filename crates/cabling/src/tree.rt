@@ -5,7 +5,8 @@ ghost use Rattle.self_id.specs.Node.{FitBits};
 ghost use Rattle.cabling.specs.NodeSet.{IsEmpty};
 ghost use Rattle.cabling.specs.Looped.{IsCoreOf};
 ghost use Rattle.cabling.specs.Sees.{Sees, width};
-ghost use Rattle.cabling.specs.Labels.{labels, status, slots_of, shown_node};
+ghost use Rattle.cabling.specs.Labels.{labels};
+ghost use Rattle.cabling.specs.codings.Shown.{status, slots_of, shown_node};
 ghost use Rattle.cabling.specs.Answer.{IfCyclic};
 
 use crate::cable::End;
@@ -89,6 +90,10 @@ impl Cabling {
     ///
     /// `attrs` has one entry for each node of the cabling, by its number, and each fits its bits.
     /// `Cyclic` where the component of the root has a core.
+    ///
+    /// The tree is made as a bus makes it: the nodes write their self-ID packets in the order of the
+    /// walk, and the list is read. So there is one way to a tree from its nodes, and its contract
+    /// says that a list which some tree emits is read as that tree.
     pub fn tree_from(
         &self,
         alloc: Global,
@@ -99,11 +104,13 @@ impl Cabling {
         requires entries { length attrs.now ≡ length self.now }
         requires valid { All FitBits attrs.now }
         // The tree is the one that is seen from the root.
-        ensures tree { IfOk result (λ t. Sees self.now (labels attrs.now) root None t × IsBusTree t) }
+        ensures tree { IfOk result (λ t. Sees self.now (labels attrs.now) root None t) }
+        ensures bus { IfOk result IsBusTree }
         // A core that is answered is the component's, and there is a node in it.
         ensures core { IfCyclic result (λ core. IsCoreOf self.now root core × (IsEmpty core → ⊥)) }
         // Where a tree is answered, the component has no core.
-        ensures acyclic { IfOk result (λ t. (core : ℕ) → IsCoreOf self.now root core → IsEmpty core) }
+        ensures acyclic { IfOk result (λ t.
+            (core : ℕ) → IsCoreOf self.now root core → IsEmpty core) }
     {
         cables_are_two_ended(self);
         let core = self.core_of(root);

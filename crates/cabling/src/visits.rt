@@ -2,8 +2,8 @@
 ghost use Rattle.std.specs.Prelude.{◌≡◌, ◌+◌, ◌<◌, ◌≤◌, ℕ, [], ◌∷◌, ◌++◌, length, reverse, None, MatchOption};
 ghost use Rattle.topology_stack.specs.Tree.{Label, Tree};
 ghost use Rattle.cabling.specs.Wiring.{ports_of};
-ghost use Rattle.cabling.specs.Sees.{Sees};
-ghost use Rattle.cabling.specs.Visits.{visits, onward, by_port, at_root, SmallTree};
+ghost use Rattle.cabling.specs.Sees.{Sees, SmallTree};
+ghost use Rattle.cabling.specs.codings.Visits.{visits, visits_after, by_port, at_root};
 
 use crate::cable::End;
 use crate::wiring::{Cabling, cables_are_two_ended};
@@ -55,7 +55,9 @@ impl VisitList {
 
     /// Takes the last one out.
     fn pop(&mut self) -> Option<Visit>
-        ensures { MatchOption result ((self.old ≡ []) × (self.new ≡ [])) (λ visit. self.old ≡ self.new ++ visit ∷ []) }
+        ensures { MatchOption result
+            ((self.old ≡ []) × (self.new ≡ []))
+            (λ visit. self.old ≡ self.new ++ visit ∷ []) }
     {
         self.items.pop()
     }
@@ -68,7 +70,7 @@ impl VisitList {
     }
 
     /// The same visits, the last one first.
-    fn reversed(&self) -> VisitList
+    fn in_reverse(&self) -> VisitList
         ensures { result ≡ reverse self.now }
     {
         let mut list = VisitList::new();
@@ -81,7 +83,9 @@ impl VisitList {
 
 /// The visit by one port of a node that was come to by a port or by none.
 fn by_port(from: Option<u8>, port: u8, far: Option<End>) -> Option<Visit>
-    ensures { MatchOption result (by_port from port far ≡ []) (λ visit. by_port from port far ≡ visit ∷ []) }
+    ensures { MatchOption result
+        (by_port from port far ≡ [])
+        (λ visit. by_port from port far ≡ visit ∷ []) }
 {
     match far {
         Some(far) => {
@@ -102,8 +106,8 @@ impl Cabling {
     /// Appends the visits by a node's ports, but the one by which it was come to.
     fn go_on(&self, visit: Visit, waiting: &mut VisitList)
         requires node { visit.node < length self.now }
-        requires room { length waiting.old + length (onward visit.from 0 (ports_of self.now visit.node)) ≤ 63 }
-        ensures { waiting.new ≡ waiting.old ++ onward visit.from 0 (ports_of self.now visit.node) }
+        requires room { length waiting.old + length (visits_after self.now visit) ≤ 63 }
+        ensures { waiting.new ≡ waiting.old ++ visits_after self.now visit }
     {
         for (port, far) in self.ends(visit.node).iter().enumerate() {
             if let Some(next) = by_port(visit.from, port as u8, *far) {
@@ -112,12 +116,13 @@ impl Cabling {
         }
     }
 
-    /// The visits of the tree that is seen from a node, which exists and is no larger than a bus may
-    /// be: of each node after those of the nodes below it, by rising port.
+    /// The visits of the tree that is seen from a node, which exists and is no larger than a bus
+    /// may be: of each node after those of the nodes below it, by rising port.
     pub(crate) fn visits(&self, root: u8) -> VisitList
         requires there { root < length self.now }
         requires small { (label : ℕ → Label) → SmallTree self.now label root }
-        ensures { (label : ℕ → Label) (tree : Tree) → Sees self.now label root None tree → result ≡ visits self.now (at_root root) tree }
+        ensures { (label : ℕ → Label) (tree : Tree) →
+            Sees self.now label root None tree → result ≡ visits self.now (at_root root) tree }
     {
         cables_are_two_ended(self);
         let mut done = VisitList::new();
@@ -130,6 +135,6 @@ impl Cabling {
             done.push(visit);
             self.go_on(visit, &mut waiting);
         }
-        done.reversed()
+        done.in_reverse()
     }
 }

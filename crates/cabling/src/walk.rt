@@ -5,7 +5,7 @@ ghost use Rattle.cabling.specs.Component.{IsComponent};
 ghost use Rattle.cabling.specs.Looped.{IsCore, IsCoreOf};
 ghost use Rattle.topology_stack.specs.Tree.{Label};
 ghost use Rattle.cabling.specs.Walk.{IsWalk};
-ghost use Rattle.cabling.specs.Visits.{SmallTree};
+ghost use Rattle.cabling.specs.Sees.{SmallTree};
 
 use crate::node_set::NodeSet;
 use crate::visits::MAX_NODES;
@@ -75,9 +75,9 @@ impl Cabling {
         self.core(component)
     }
 
-    /// The nodes of the component of `root`, which exists, as they identify themselves where `root` is
-    /// the root of the bus: each after the nodes below it, by rising port (IEEE Std 1394-1995, self
-    /// identify). `Cyclic` where the component has a core.
+    /// The nodes of the component of `root`, which exists, as they identify themselves where `root`
+    /// is the root of the bus: each after the nodes below it, by rising port (IEEE Std 1394-1995,
+    /// self identify). `Cyclic` where the component has a core.
     pub fn walk_from(&self, root: u8) -> Result<Walk, Cyclic>
         requires { root < length self.now }
         ensures walk { IfOk result (λ walk. IsWalk self.now root walk) }

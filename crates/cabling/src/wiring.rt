@@ -1,7 +1,7 @@
 //! The table of cables.
 ghost use Rattle.std.specs.Prelude.{◌≡◌, ℕ, ◌<◌, ◌≤◌, List, [], Option, Some, None, Ok, Err, length, map, slice_index, slice_set, slice_index_or, IfOk, IfErr, IsOk, OnOk, OnErr, ◌↔◌, replicate};
 ghost use Rattle.cabling.specs.declared.cable.End.{End};
-ghost use Rattle.cabling.specs.Wiring.{HasEnd, far, ports_of, IsCabling, without_cables};
+ghost use Rattle.cabling.specs.Wiring.{HasEnd, far, ports_of, IsCabling, ArePortCounts, without_cables};
 ghost use Rattle.cabling.specs.Change.{Added, TakenOut, plug_fault, pull_fault};
 
 use crate::cable::{Cable, CableFault, End};
@@ -56,8 +56,8 @@ impl Ports {
 
 /// Nodes with ports, and the cables between them.
 ///
-/// It has at most 63 nodes, each with 1 to 16 ports. A cable has its ends at two different nodes, and
-/// no port is in two cables.
+/// It has at most 63 nodes, each with 1 to 16 ports. A cable has its ends at two different nodes,
+/// and no port is in two cables.
 #[derive(Debug, Drop)]
 pub struct Cabling {
     nodes: Vec<Ports>,
@@ -84,7 +84,7 @@ impl Cabling {
     /// Nodes with these numbers of ports, 1 to 16 each, and no cable. At most 63 nodes.
     pub fn new(alloc: Global, ports: &[u8]) -> Result<Cabling, OutOfMemory>
         requires few { length ports.now ≤ 63 }
-        requires counts { (i : ℕ) → i < length ports.now → (1 ≤ slice_index ports.now i) × (slice_index ports.now i ≤ 16) }
+        requires counts { ArePortCounts ports.now }
         ensures { IfOk result (λ c. c ≡ without_cables ports.now) }
     {
         let mut nodes = Vec::with_capacity(alloc, ports.len())?;

@@ -57,11 +57,12 @@ returns-in-Ok-clause-tree c =
       valid = c.requires.valid;
       small = c.core_of-core.ensures.small_trees (c.is_empty.ensures.0 c.if-not-is_empty.false) (labels c.args.attrs.now);
       items_are = c.as_slice-visit-items.ensures.value ∙ c.visits-visits.ensures (labels c.args.attrs.now) (c.core_of-core.ensures.small_trees (c.is_empty.ensures.0 c.if-not-is_empty.false) (labels c.args.attrs.now)).tree (c.core_of-core.ensures.small_trees (c.is_empty.ensures.0 c.if-not-is_empty.false) (labels c.args.attrs.now)).seen;
-    } in (
-      read_seen c.args.self.now c.args.attrs.now c.args.root c.as_slice-visit-items.result.now c.in-Ok.tree l
-          (c.in-Ok.ensures.only l.small.tree (tree_is_bus c.args.self.now c.args.attrs.now c.args.root c.as_slice-visit-items.result.now l) (list_is c.args.self.now c.args.attrs.now c.args.root c.as_slice-visit-items.result.now c.loop-id.id c.loop-id.quads l c.loop-id-test.false c.loop-id.invariant ∙ sym c.as_slice-2.ensures)),
-      c.in-Ok.ensures.found.0,
-    )
+    } in
+    read_seen c.args.self.now c.args.attrs.now c.args.root c.as_slice-visit-items.result.now c.in-Ok.tree l
+    (c.in-Ok.ensures.only l.small.tree (tree_is_bus c.args.self.now c.args.attrs.now c.args.root c.as_slice-visit-items.result.now l) (list_is c.args.self.now c.args.attrs.now c.args.root c.as_slice-visit-items.result.now c.loop-id.id c.loop-id.quads l c.loop-id-test.false c.loop-id.invariant ∙ sym c.as_slice-2.ensures))
+
+pub returns-in-Ok-clause-bus : goal.returns-in-Ok-clause-bus
+returns-in-Ok-clause-bus c = c.in-Ok.ensures.found.0
 
 pub returns-in-Ok-clause-acyclic : goal.returns-in-Ok-clause-acyclic
 returns-in-Ok-clause-acyclic c = λ core is x h. c.is_empty.ensures.0 c.if-not-is_empty.false x (core_within c.args.self.now c.args.root core c.core_of-core.result is c.core_of-core.ensures.core x h)

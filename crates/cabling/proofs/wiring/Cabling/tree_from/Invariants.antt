@@ -1,6 +1,7 @@
 use Rattle.std.proofs.Common.{◌≡◌, ◌++◌, map, drop}
 use Rattle.topology_stack.specs.Tree.{groups}
-use Rattle.cabling.specs.Labels.{labels, shown_node}
+use Rattle.cabling.specs.Labels.{labels}
+use Rattle.cabling.specs.codings.Shown.{shown_node}
 use Rattle.cabling.proofs.wiring.Cabling.tree_from.Given as goal
 
 abbrev pub invariant-loop-id : goal.invariant-loop-id

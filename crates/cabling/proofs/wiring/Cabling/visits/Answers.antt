@@ -1,6 +1,6 @@
 use Rattle.std.proofs.Common.{◌++◌, ◌∷◌, length, length-append, ap, refl, ◌∙◌, arith, []}
 use Rattle.cabling.specs.Wiring.{ports_of}
-use Rattle.cabling.specs.Visits.{onward}
+use Rattle.cabling.specs.codings.Visits.{next_visits}
 use Rattle.cabling.proofs.Waiting.{AllGoing, all_first, all_next, all_last, all_room, all_there}
 use Rattle.cabling.proofs.wiring.Cabling.visits.Goals as goal
 
@@ -13,15 +13,15 @@ push-requires-in-Some c =
 
 pub go_on-requires : goal.go_on-requires
 go_on-requires c =
-    let next : AllGoing c.args.self.now c.args.root (c.pop.new.self ++ onward c.in-Some.visit.from 0 (ports_of c.args.self.now c.in-Some.visit.node)) c.push-in-Some.new.self =
-    all_next c.args.self.now c.args.root c.loop-visit.waiting c.pop.new.self c.loop-visit.done (c.pop.new.self ++ onward c.in-Some.visit.from 0 (ports_of c.args.self.now c.in-Some.visit.node)) c.push-in-Some.new.self c.in-Some.visit
+    let next : AllGoing c.args.self.now c.args.root (c.pop.new.self ++ next_visits c.in-Some.visit.from 0 (ports_of c.args.self.now c.in-Some.visit.node)) c.push-in-Some.new.self =
+    all_next c.args.self.now c.args.root c.loop-visit.waiting c.pop.new.self c.loop-visit.done (c.pop.new.self ++ next_visits c.in-Some.visit.from 0 (ports_of c.args.self.now c.in-Some.visit.node)) c.push-in-Some.new.self c.in-Some.visit
     c.cables_are_two_ended.ensures c.in-Some.ensures c.push-in-Some.ensures refl c.loop-visit.invariant in
     record {
       node = all_there c.args.self.now c.args.root c.loop-visit.waiting c.pop.new.self c.loop-visit.done c.in-Some.visit c.requires.small c.in-Some.ensures c.loop-visit.invariant;
       room = omega (
         arith,
-        all_room c.args.self.now c.args.root (c.pop.new.self ++ onward c.in-Some.visit.from 0 (ports_of c.args.self.now c.in-Some.visit.node)) c.push-in-Some.new.self c.requires.small next,
-        length-append c.pop.new.self (onward c.in-Some.visit.from 0 (ports_of c.args.self.now c.in-Some.visit.node)),
+        all_room c.args.self.now c.args.root (c.pop.new.self ++ next_visits c.in-Some.visit.from 0 (ports_of c.args.self.now c.in-Some.visit.node)) c.push-in-Some.new.self c.requires.small next,
+        length-append c.pop.new.self (next_visits c.in-Some.visit.from 0 (ports_of c.args.self.now c.in-Some.visit.node)),
       );
     }
 
@@ -41,4 +41,4 @@ loop-visit-smaller c =
     )
 
 pub returns : goal.returns
-returns c = λ label tree h. c.reversed.ensures ∙ all_last c.args.self.now c.args.root c.loop-visit.waiting c.loop-visit.done c.in_default.ensures.0 c.loop-visit.invariant label tree h
+returns c = λ label tree h. c.in_reverse.ensures ∙ all_last c.args.self.now c.args.root c.loop-visit.waiting c.loop-visit.done c.in_default.ensures.0 c.loop-visit.invariant label tree h

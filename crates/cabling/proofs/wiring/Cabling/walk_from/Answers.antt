@@ -1,7 +1,8 @@
 use Rattle.std.proofs.Common.{◌≡◌, ◌≤◌, ℕ, true, refl, ap, ◌∙◌, map, take, List, length, arith}
 use Rattle.std.proofs.lemmas.Grind.{common_steps}
 use Rattle.cabling.specs.declared.visits.Visit.{Visit}
-use Rattle.cabling.specs.Visits.{SmallTree, at_root}
+use Rattle.cabling.specs.codings.Visits.{at_root}
+use Rattle.cabling.specs.Sees.{SmallTree}
 use Rattle.cabling.proofs.Cores.{core_within}
 use Rattle.cabling.proofs.Waiting.{node_of, nodes-visits}
 use Rattle.cabling.proofs.wiring.Cabling.walk_from.Goals as goal
