@@ -5,8 +5,8 @@ use Rattle.std.specs.Int.{bit_at}
 use Rattle.std.proofs.lemmas.Nat.Bits.{bit_at-suc, bit_at_xor, bit_at-lt, bit_at_cat_low, same_from_bits_below}
 use Rattle.std.proofs.lemmas.Nat.{div-add-mod'}
 use Rattle.std.proofs.lemmas.Bool.{cases_lt}
-use Rattle.topology_map.specs.Crc.{xor, plus, scaled, below_x16, bits_of}
-use Rattle.topology_map.specs.Register.{shifted}
+use Rattle.topology_map.specs.Crc.{xor, plus, times_bit, below_x16, bits_of}
+use Rattle.topology_map.specs.codings.Register.{after_bit}
 use Rattle.topology_map.proofs.Plus.{plus_comm, plus_zeros}
 
 pub length-bits_of : (k x : ℕ) → length (bits_of k x) ≡ k
@@ -90,31 +90,31 @@ low_bits : (crc : ℕ) → bits_of 16 (crc * 2 % 65536) ≡ bits_of 15 crc ++ fa
 low_bits crc = bits_of-mod 16 16 (crc * 2) (omega arith) ∙ bits_of-double 15 crc
 
 -- a register of sixteen bits before and after it is shifted
-shifted_bits : (crc : ℕ) (bit : Bool) → crc < 65536 → shifted (bits_of 16 crc) bit ≡ plus (bits_of 16 (crc * 2 % 65536)) (scaled (xor (eqb (crc / 2 ^ 15) 1) bit) below_x16)
+shifted_bits : (crc : ℕ) (bit : Bool) → crc < 65536 → after_bit (bits_of 16 crc) bit ≡ plus (bits_of 16 (crc * 2 % 65536)) (times_bit (xor (eqb (crc / 2 ^ 15) 1) bit) below_x16)
 shifted_bits crc bit fits =
     let top : bit_at crc 15 ≡ crc / 2 ^ 15 = omega (arith, fits) in
-    ap (λ (r : List Bool). shifted r bit) (bits_of-suc 15 crc)
-    ∙ ap (λ (r : List Bool). plus r (scaled (xor (eqb (bit_at crc 15) 1) bit) below_x16)) (sym (low_bits crc))
-    ∙ ap (λ (n : ℕ). plus (bits_of 16 (crc * 2 % 65536)) (scaled (xor (eqb n 1) bit) below_x16)) top
+    ap (λ (r : List Bool). after_bit r bit) (bits_of-suc 15 crc)
+    ∙ ap (λ (r : List Bool). plus r (times_bit (xor (eqb (bit_at crc 15) 1) bit) below_x16)) (sym (low_bits crc))
+    ∙ ap (λ (n : ℕ). plus (bits_of 16 (crc * 2 % 65536)) (times_bit (xor (eqb n 1) bit) below_x16)) top
 
 divisor_bits : bits_of 16 4129 ≡ below_x16
 unfolding bits_of
 divisor_bits = refl
 
 -- where the bit that falls out is the next bit the divisor isn't added, and else it is
-pub stays : (crc : ℕ) (bit : Bool) → crc < 65536 → xor (eqb (crc / 2 ^ 15) 1) bit ≡ false → bits_of 16 (crc * 2 % 65536) ≡ shifted (bits_of 16 crc) bit
+pub stays : (crc : ℕ) (bit : Bool) → crc < 65536 → xor (eqb (crc / 2 ^ 15) 1) bit ≡ false → bits_of 16 (crc * 2 % 65536) ≡ after_bit (bits_of 16 crc) bit
 stays crc bit fits e =
     let r = bits_of 16 (crc * 2 % 65536) in
     sym (
-    shifted_bits crc bit fits ∙ ap (λ (b : Bool). plus r (scaled b below_x16)) e
+    shifted_bits crc bit fits ∙ ap (λ (b : Bool). plus r (times_bit b below_x16)) e
     ∙ plus_comm r (replicate 16 false) ∙ plus_zeros 16 r (length-bits_of 16 (crc * 2 % 65536))
     )
 
-pub flips : (crc : ℕ) (bit : Bool) → crc < 65536 → xor (eqb (crc / 2 ^ 15) 1) bit ≡ true → bits_of 16 (bit_xor (crc * 2 % 65536) 4129) ≡ shifted (bits_of 16 crc) bit
+pub flips : (crc : ℕ) (bit : Bool) → crc < 65536 → xor (eqb (crc / 2 ^ 15) 1) bit ≡ true → bits_of 16 (bit_xor (crc * 2 % 65536) 4129) ≡ after_bit (bits_of 16 crc) bit
 flips crc bit fits e =
     let r = bits_of 16 (crc * 2 % 65536) in
     bits_of-xor 16 (crc * 2 % 65536) 4129 ∙ ap (plus r) divisor_bits
-    ∙ sym (shifted_bits crc bit fits ∙ ap (λ (b : Bool). plus r (scaled b below_x16)) e)
+    ∙ sym (shifted_bits crc bit fits ∙ ap (λ (b : Bool). plus r (times_bit b below_x16)) e)
 
 -- two bits differ where their sum is 1
 pub differ : (a b : Bool) → not (beq a b) ≡ xor a b

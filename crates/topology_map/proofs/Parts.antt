@@ -5,16 +5,11 @@ use Rattle.topology_map.specs.declared.fault.ImageFault.{ImageFault}
 use Rattle.topology_map.specs.declared.fault.ImageFault.TheVariants.{Length, Crc, Counts, Memory}
 use Rattle.topology_map.specs.Crc.{IsCrc}
 use Rattle.topology_map.specs.Sealed.{IsSealed}
-use Rattle.topology_map.specs.Map.{node_count, counts_of, IsMap, HasLength, Refused}
+use Rattle.topology_map.specs.Map.{counts_of, IsMap, Refused}
+use Rattle.self_id.specs.Group.{node_count}
+use Rattle.topology_map.specs.codings.Told.{TellsNodes}
 use Rattle.topology_map.specs.Answer.{UnlessMemory}
 use Rattle.topology_map.proofs.Division.{one_crc}
-
--- no rule is broken
-pub record Whole (quads : List ℕ) (nodes : ℕ) : Type 0 where
-  pub length_told : HasLength quads
-  pub crc_told : IsCrc (drop 1 quads) (slice_index quads 0 % 2 ^ 16)
-  pub counts_told : slice_index quads 2 ≡ counts_of (drop 3 quads)
-  pub nodes_are : nodes ≡ node_count (drop 3 quads)
 
 split : (first n : ℕ) → first / 2 ^ 16 + 1 ≡ suc n → first ≡ 2 ^ 16 * n + first % 2 ^ 16
 split first n e = omega arith
@@ -23,7 +18,7 @@ joined : (n crc : ℕ) → crc < 2 ^ 16 → ((2 ^ 16 * n + crc) / 2 ^ 16 ≡ n) 
 joined n crc fits = (omega arith, omega arith)
 
 -- quadlets that break no rule are the image of these parts
-pub is_map : (quads : List ℕ) (nodes : ℕ) → Whole quads nodes → IsMap (slice_index quads 1) nodes (drop 3 quads) quads
+pub is_map : (quads : List ℕ) (nodes : ℕ) → TellsNodes quads nodes → IsMap (slice_index quads 1) nodes (drop 3 quads) quads
 is_map [] nodes w = absurd (let h = w.length_told.three in omega arith)
 is_map (a ∷ []) nodes w = absurd (let h = w.length_told.three in omega arith)
 is_map (a ∷ b ∷ []) nodes w = absurd (let h = w.length_told.three in omega arith)
@@ -40,7 +35,7 @@ is_map (first ∷ generation ∷ counts ∷ list) nodes w = record {
 
 -- the parts of an image
 pub record PartsAre (quads : List ℕ) (generation nodes : ℕ) (list : List ℕ) : Type 0 where
-  pub whole : Whole quads nodes
+  pub whole : TellsNodes quads nodes
   pub generation_is : slice_index quads 1 ≡ generation
   pub list_is : drop 3 quads ≡ list
 
@@ -64,7 +59,7 @@ parts_are generation nodes list quads h =
     } in
     subst (λ (q : List ℕ). PartsAre q generation nodes list) (sym i.quads_are) parts
 
-pub no_fault : (quads : List ℕ) (nodes : ℕ) (f : ImageFault) → Whole quads nodes → Refused quads f → ⊥
+pub no_fault : (quads : List ℕ) (nodes : ℕ) (f : ImageFault) → TellsNodes quads nodes → Refused quads f → ⊥
 no_fault quads nodes (Length fnd) w r = r.0 w.length_told
 no_fault quads nodes (Crc kept computed) w r = r.3 (r.1 ∙ one_crc (drop 1 quads) _ computed w.crc_told r.2)
 no_fault quads nodes (Counts kept fnd) w r = r.4 (r.2 ∙ w.counts_told ∙ sym r.3)

@@ -1,7 +1,7 @@
 -- Sums of bits without carry.
 use Rattle.std.proofs.Common.{◌≡◌, ℕ, zero, suc, Bool, true, false, List, [], ◌∷◌, ◌++◌, length, replicate, refl, sym, ap, ◌∙◌, arith}
 use Rattle.std.proofs.lemmas.List.{length-map}
-use Rattle.topology_map.specs.Crc.{xor, plus, scaled}
+use Rattle.topology_map.specs.Crc.{xor, plus, times_bit}
 
 -- ---- of bits
 
@@ -70,5 +70,5 @@ plus_zeros zero (x ∷ a) e = absurd (omega (arith, e))
 plus_zeros (suc n) [] e = absurd (omega (arith, e))
 plus_zeros (suc n) (x ∷ a) e = let rest : length a ≡ n = omega (arith, e) in rw (plus_zeros n a rest) refl
 
-pub length-scaled : (b : Bool) (p : List Bool) → length (scaled b p) ≡ length p
-length-scaled b p = simp length-map refl
+pub length-times_bit : (b : Bool) (p : List Bool) → length (times_bit b p) ≡ length p
+length-times_bit b p = simp length-map refl

@@ -12,7 +12,8 @@ IfFault (Err (Counts kept found)) P = P (Counts kept found)
 IfFault (Err (Memory e)) P = Unit {0}
 
 -- if memory didn't run out, this holds of the answer
-abbrev pub UnlessMemory : {A : Type 0} → Result A ImageFault → (Result A ImageFault → Type 0) → Type 0
+abbrev pub UnlessMemory :
+    {A : Type 0} → Result A ImageFault → (Result A ImageFault → Type 0) → Type 0
 UnlessMemory (Ok x) P = P (Ok x)
 UnlessMemory (Err (Length found)) P = P (Err (Length found))
 UnlessMemory (Err (Crc kept computed)) P = P (Err (Crc kept computed))

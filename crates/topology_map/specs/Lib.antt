@@ -1,5 +1,5 @@
 pub mod Crc
-pub mod Register
 pub mod Sealed
 pub mod Map
 pub mod Answer
+pub mod codings

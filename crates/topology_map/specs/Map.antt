@@ -1,17 +1,10 @@
 -- The topology map (IEEE Std 1394-1995): generation, counts, and the self-ID packets of a bus.
-use Rattle.std.specs.Prelude.{◌≡◌, ◌≢◌, ℕ, ◌+◌, ◌*◌, ◌/◌, ◌%◌, ◌^◌, ◌≤◌, Bool, ◌&&◌, ◌==◌, List, ◌∷◌, length, drop, count_by, slice_index}
+use Rattle.std.specs.Prelude.{◌≡◌, ◌≢◌, ℕ, ◌+◌, ◌*◌, ◌/◌, ◌%◌, ◌^◌, ◌≤◌, List, ◌∷◌, length, drop, slice_index}
+use Rattle.self_id.specs.Group.{node_count}
 use Rattle.topology_map.specs.declared.fault.ImageFault.{ImageFault}
 use Rattle.topology_map.specs.declared.fault.ImageFault.TheVariants.{Length, Crc, Counts, Memory}
 use Rattle.topology_map.specs.Crc.{IsCrc}
 use Rattle.topology_map.specs.Sealed.{IsSealed}
-
--- a quadlet shows packet zero of a node: 10 in its top two bits, and 0 in bit 8 from the top
-abbrev pub is_packet_zero : ℕ → Bool
-is_packet_zero quad = (quad / 2 ^ 30 == 2) && (quad / 2 ^ 23 % 2 == 0)
-
--- how many nodes a list of self-ID packets has
-abbrev pub node_count : List ℕ → ℕ
-node_count list = count_by is_packet_zero list
 
 -- both counts as one quadlet: nodes in the high sixteen bits, quadlets in the low sixteen
 abbrev pub counts_of : List ℕ → ℕ
@@ -32,9 +25,12 @@ abbrev pub Refused : List ℕ → ImageFault → Type 0
 -- the length doesn't fit
 Refused quads (Length found) = ¬ HasLength quads × (found ≡ length quads)
 -- the CRC in the low sixteen bits of the first quadlet isn't that of the others
-Refused quads (Crc kept computed) = HasLength quads × (kept ≡ slice_index quads 0 % 2 ^ 16) × IsCrc (drop 1 quads) computed × (kept ≢ computed)
+Refused quads (Crc kept computed) =
+    HasLength quads × (kept ≡ slice_index quads 0 % 2 ^ 16)
+    × IsCrc (drop 1 quads) computed × (kept ≢ computed)
 -- the third quadlet doesn't tell the counts of those behind it
-Refused quads (Counts kept found) = HasLength quads × IsCrc (drop 1 quads) (slice_index quads 0 % 2 ^ 16)
+Refused quads (Counts kept found) =
+    HasLength quads × IsCrc (drop 1 quads) (slice_index quads 0 % 2 ^ 16)
     × (kept ≡ slice_index quads 2) × (found ≡ counts_of (drop 3 quads)) × (kept ≢ found)
 -- want of memory is no fault of the quadlets
 Refused quads (Memory e) = ⊥

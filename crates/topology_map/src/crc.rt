@@ -1,14 +1,14 @@
 //! The CRC of quadlets.
 ghost use Rattle.std.specs.Prelude.{◌≡◌, ◌<◌, ◌^◌, ℕ, List};
 ghost use Rattle.topology_map.specs.Crc.{bits_of, IsCrc};
-ghost use Rattle.topology_map.specs.Register.{shifted, shifted_by};
+ghost use Rattle.topology_map.specs.codings.Register.{after_bit, after_bits};
 
 /// The powers of the divisor below x^16: x^12 + x^5 + 1.
 const BELOW_X16: u16 = 0x1021;
 
 /// The register after one more bit.
 fn with_bit(crc: u16, bit: bool) -> u16
-    ensures { bits_of 16 result ≡ shifted (bits_of 16 crc) bit }
+    ensures { bits_of 16 result ≡ after_bit (bits_of 16 crc) bit }
 {
     let top = crc >> 15 == 1;
     let low = crc << 1;
@@ -17,13 +17,11 @@ fn with_bit(crc: u16, bit: bool) -> u16
 
 /// The register after the bits of one more quadlet, the highest first.
 fn with_quad(before: u16, quad: u32) -> u16
-    ensures { bits_of 16 result ≡ shifted_by (bits_of 16 before) (bits_of 32 quad) }
+    ensures { bits_of 16 result ≡ after_bits (bits_of 16 before) (bits_of 32 quad) }
 {
     let mut crc = before;
-    let mut left = 32u32;
-    while left > 0 {
-        left -= 1;
-        crc = with_bit(crc, (quad >> left) % 2 == 1);
+    for place in (0..32u32).rev() {
+        crc = with_bit(crc, (quad >> place) % 2 == 1);
     }
     crc
 }

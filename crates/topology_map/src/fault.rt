@@ -1,10 +1,7 @@
 //! Why quadlets are no image of a topology map.
 ghost use Rattle.std.specs.Prelude.{◌≡◌};
 
-use std::alloc::AllocError;
-
-/// What a call answers that found no memory.
-pub type OutOfMemory = AllocError;
+pub use quad_lanes::OutOfMemory;
 
 /// The first rule that quadlets break which are no image of a topology map.
 #[derive(Debug, Drop)]

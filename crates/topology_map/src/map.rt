@@ -1,15 +1,16 @@
 //! The topology map.
-ghost use Rattle.std.specs.Prelude.{◌≡◌, ◌+◌, ◌*◌, ◌%◌, ◌^◌, ◌<◌, ◌≤◌, ℕ, List, length, drop, slice_index, Ok, Err, IfOk, IsOkAnd, MatchResult};
+ghost use Rattle.std.specs.Prelude.{◌≡◌, ◌≤◌, ℕ, List, length, Err, IfOk, IsOkAnd, MatchResult};
 ghost use Rattle.topology_stack.specs.Tree.{walk, emits};
-ghost use Rattle.topology_map.specs.Crc.{IsCrc};
-ghost use Rattle.topology_map.specs.Map.{is_packet_zero, node_count, counts_of, IsMap, HasLength, Refused};
+ghost use Rattle.self_id.specs.Group.{node_count};
+ghost use Rattle.topology_map.specs.Map.{IsMap, Refused};
+ghost use Rattle.topology_map.specs.codings.Told.{TellsNodes};
 ghost use Rattle.topology_map.specs.Answer.{IfFault, UnlessMemory};
 ghost use Rattle.topology_map.specs.declared.fault.ImageFault.{ImageFault};
 
 use crate::crc::crc16;
 use crate::fault::{ImageFault, OutOfMemory};
-use crate::sealed::{append, seal};
-use phy_packet::{PhyPacket, decode};
+use crate::sealed::seal;
+use phy_packet::is_packet_zero;
 use quad_lanes::QuadList;
 use std::alloc::Global;
 use topology_stack::{BusTree, write_tree};
@@ -35,15 +36,8 @@ pub fn image(alloc: Global, tree: &BusTree, generation: u32) -> Result<QuadList,
     let mut body = QuadList::new(alloc);
     body.push(generation)?;
     body.push(u32::from(nodes) * 0x1_0000 + list.as_slice().len() as u32)?;
-    append(&mut body, list.as_slice())?;
+    body.extend_from_slice(list.as_slice())?;
     seal(alloc, body.as_slice())
-}
-
-/// Whether a quadlet shows packet zero of a node.
-fn is_packet_zero(quad: u32) -> bool
-    ensures { result ≡ is_packet_zero quad }
-{
-    matches!(decode(quad), PhyPacket::SelfZero { .. })
 }
 
 /// How many packet zeros a list has.
@@ -56,8 +50,7 @@ fn node_count(list: &[u32]) -> usize
 
 /// The number of nodes that an image tells, or its fault.
 fn nodes_of(quads: &[u32]) -> Result<u16, ImageFault>
-    ensures { MatchResult result (λ nodes. HasLength quads.now × IsCrc (drop 1 quads.now) (slice_index quads.now 0 % 2 ^ 16)
-        × (slice_index quads.now 2 ≡ counts_of (drop 3 quads.now)) × (nodes ≡ node_count (drop 3 quads.now))) (λ f. Refused quads.now f) }
+    ensures { MatchResult result (TellsNodes quads.now) (Refused quads.now) }
 {
     if quads.len() < 3 || (quads[0] >> 16) as usize != quads.len() - 1 {
         return Err(ImageFault::Length { found: quads.len() });
@@ -88,15 +81,17 @@ pub fn read_image(alloc: Global, quads: &[u32]) -> Result<MapParts, ImageFault>
     // The quadlets are the image of the parts that are answered.
     ensures found { IfOk result (λ parts. IsMap parts.generation parts.nodes parts.list quads.now) }
     // The parts of an image are answered, unless memory ran out.
-    ensures only { (generation nodes : ℕ) (list : List ℕ) → IsMap generation nodes list quads.now
-        → UnlessMemory result (λ r. IsOkAnd r (λ parts. (parts.generation ≡ generation) × (parts.nodes ≡ nodes) × (parts.list ≡ list))) }
+    ensures only { (generation nodes : ℕ) (list : List ℕ) →
+        IsMap generation nodes list quads.now →
+        UnlessMemory result (λ r. IsOkAnd r (λ parts.
+        (parts.generation ≡ generation) × (parts.nodes ≡ nodes) × (parts.list ≡ list))) }
     // A fault that is answered is the quadlets', and their fault is answered, unless memory ran out.
     ensures refused { IfFault result (λ f. Refused quads.now f) }
     ensures exact { (f : ImageFault) → Refused quads.now f → UnlessMemory result (λ r. r ≡ Err f) }
 {
     let nodes = nodes_of(quads)?;
     let mut list = QuadList::new(alloc);
-    append(&mut list, &quads[3..])?;
+    list.extend_from_slice(&quads[3..])?;
     Ok(MapParts {
         generation: quads[1],
         nodes,

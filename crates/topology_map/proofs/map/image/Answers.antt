@@ -1,7 +1,8 @@
 use Rattle.std.proofs.Common.{◌≡◌, ◌+◌, ◌*◌, length, ◌∷◌, ap, sym, ◌∙◌, arith}
 use Rattle.std.proofs.lemmas.Grind.{common_steps}
 use Rattle.topology_stack.specs.Tree.{walk, emits}
-use Rattle.topology_map.specs.Map.{node_count, counts_of}
+use Rattle.topology_map.specs.Map.{counts_of}
+use Rattle.self_id.specs.Group.{node_count}
 use Rattle.topology_map.proofs.Emitted.{length-emits, node_count-emits}
 use Rattle.topology_map.proofs.Parts.{sealed_map}
 use Rattle.topology_map.proofs.map.image.Goals as goal

@@ -1,6 +1,6 @@
 use Rattle.std.proofs.Common.{◌≡◌, Err, ap}
 use Rattle.std.proofs.lemmas.Result.{err_from_is_err_and}
-use Rattle.topology_map.proofs.Parts.{Whole, no_fault, one_fault, parts_are, unless_memory}
+use Rattle.topology_map.proofs.Parts.{no_fault, one_fault, parts_are, unless_memory}
 use Rattle.topology_map.proofs.map.read_image.Goals as goal
 
 pub returns-in_err-nodes-clause-only : goal.returns-in_err-nodes-clause-only
@@ -16,6 +16,4 @@ returns-in_err-nodes-clause-exact c = λ f h.
 
 pub returns-clause-exact : goal.returns-clause-exact
 returns-clause-exact c = λ f h.
-    let e = c.in_ok-nodes.ensures in
-    let w : Whole c.args.quads.now c.in_ok-nodes.nodes = record { length_told = e.0; crc_told = e.1; counts_told = e.2; nodes_are = e.3 } in
-    absurd (no_fault c.args.quads.now c.in_ok-nodes.nodes f w h)
+    absurd (no_fault c.args.quads.now c.in_ok-nodes.nodes f c.in_ok-nodes.ensures h)
