@@ -7,7 +7,8 @@ use Rattle.cabling.specs.declared.cable.End.{End}
 use Rattle.cabling.specs.Wiring.{Wiring, ports_of, far, IsCabling}
 use Rattle.cabling.specs.NodeSet.{Holds}
 use Rattle.cabling.specs.Component.{IsClosed}
-use Rattle.cabling.specs.Sees.{width, Sees, SeesFrom}
+use Rattle.self_id.specs.Slots.{slot_count}
+use Rattle.cabling.specs.Sees.{Sees, SeesFrom}
 use Rattle.cabling.proofs.Ends.{plugged}
 use Rattle.cabling.proofs.Near.{end_at}
 use Rattle.cabling.proofs.Rank.{Ranked}
@@ -95,7 +96,7 @@ slots_seen c label x from p (Some e ∷ row) (suc count) at few below =
           record { slots = down t.0 rest.slots; seen = (ne, t.1, rest.seen); count_is = ap (λ (k : ℕ). suc k) rest.count_is }
     ]
 
-pub wide : (n : ℕ) → n ≤ 16 → n ≤ width n
+pub wide : (n : ℕ) → n ≤ 16 → n ≤ slot_count n
 wide n h = grind (arith, nat_tests)
 
 node_exists : (c : Wiring) (x p : ℕ) (e : End) → far c (end_at x p) ≡ Some e → x < length c
@@ -105,7 +106,7 @@ node_exists c x p e j = (plugged c (end_at x p) e j).node
 pub seen_from : (fuel : ℕ) (c : Wiring) (label : ℕ → Label) (rank : ℕ → ℕ) (set root x : ℕ) (from : Option ℕ) → IsCabling c → IsClosed c set → Ranked c set root rank → x < length c → rank x < fuel → Down c rank set x from → (t : Tree) × Sees c label x from t
 seen_from zero c label rank set root x from is closed r there less d = absurd (omega (arith, less))
 seen_from (suc fuel) c label rank set root x from is closed r there less d =
-    let s = slots_seen c label x from 0 (ports_of c x) (width (length (ports_of c x))) (row_all c x) (wide (length (ports_of c x)) (is.few_ports x there))
+    let s = slots_seen c label x from 0 (ports_of c x) (slot_count (length (ports_of c x))) (row_all c x) (wide (length (ports_of c x)) (is.few_ports x there))
     (λ q e j ne. seen_from fuel c label rank set root e.node (Some e.port) is closed r
     (plugged c e (end_at x q) (is.both_ways (end_at x q) e j)).node
     (omega (arith, less, d.falls q e j ne))

@@ -1,5 +1,5 @@
 -- A seen tree is a bus tree, and its walk is what its nodes show.
-use Rattle.std.proofs.Common.{◌≡◌, ◌≢◌, ℕ, zero, suc, ◌+◌, ◌-◌, ◌<◌, ◌≤◌, inl, inr, Bool, true, false, cond, eqb, nat_lt, Option, Some, None, List, [], ◌∷◌, ◌++◌, length, map, drop, get_or, refl, sym, subst, ap, ◌∙◌, arith, append_assoc, length-append, append-nil, drop-cons, add-one}
+use Rattle.std.proofs.Common.{◌≡◌, ◌≢◌, ℕ, zero, suc, ◌+◌, ◌-◌, ◌<◌, ◌≤◌, inl, inr, Bool, true, false, cond, eqb, nat_le, Option, Some, None, List, [], ◌∷◌, ◌++◌, length, map, drop, get_or, refl, sym, subst, ap, ◌∙◌, arith, append_assoc, length-append, append-nil, drop-cons, add-one}
 use Rattle.std.specs.Prelude.{All}
 use Rattle.std.proofs.Math.ListN.{replicate}
 use Rattle.std.proofs.lemmas.List.{length-replicate, map-append, length-map}
@@ -16,7 +16,8 @@ use Rattle.topology_stack.specs.Tree.{Label, Tree, branch, Slots, no_more, absen
 use Rattle.cabling.specs.declared.cable.End.{End}
 use Rattle.cabling.specs.declared.visits.Visit.{Visit}
 use Rattle.cabling.specs.Wiring.{Wiring, ports_of, far, IsCabling}
-use Rattle.cabling.specs.Sees.{width, Sees, SeesFrom, numbers}
+use Rattle.self_id.specs.Slots.{slot_count}
+use Rattle.cabling.specs.Sees.{Sees, SeesFrom, numbers}
 use Rattle.cabling.specs.codings.Visits.{visits, visits_below, is_from, at_root}
 use Rattle.cabling.specs.Labels.{no_attrs, labels}
 use Rattle.cabling.specs.codings.Shown.{statuses_from, slots_of, shown_node}
@@ -56,10 +57,10 @@ slots_shown c label from p (Some far ∷ row) (down t s) k h e =
     ∙ ap (λ (b : Bool). up_or_down b ∷ (statuses_from from (p + 1) row ++ replicate k Absent)) (sym (is_from-other from p h.0))
 slots_shown c label from p row s k h e = absurd h
 
-pub are_slots : (c : Wiring) (label : ℕ → Label) (v : Visit) (s : Slots) → IsCabling c → v.node < length c → SeesFrom c label v.from 0 (ports_of c v.node) s → length (statuses s) ≡ width (length (ports_of c v.node)) → statuses s ≡ slots_of c v
+pub are_slots : (c : Wiring) (label : ℕ → Label) (v : Visit) (s : Slots) → IsCabling c → v.node < length c → SeesFrom c label v.from 0 (ports_of c v.node) s → length (statuses s) ≡ slot_count (length (ports_of c v.node)) → statuses s ≡ slots_of c v
 are_slots c label v s is there h e =
     let n = length (ports_of c v.node) in
-    slots_shown c label v.from 0 (ports_of c v.node) s (width n - n) h (omega (arith, e, wide n (is.few_ports v.node there)))
+    slots_shown c label v.from 0 (ports_of c v.node) s (slot_count n - n) h (omega (arith, e, wide n (is.few_ports v.node there)))
 
 shown-length : (from : Option ℕ) (p : ℕ) (row : List (Option End)) → length (statuses_from from p row) ≡ length row
 shown-length from p [] = refl
@@ -110,10 +111,10 @@ ups_at c x q p e (Some f ∷ row) at j low high = elim (cases_eq q p) [
 ]
 
 pub ups_root : (c : Wiring) (root : ℕ) → ups (slots_of c (at_root root)) ≡ 0
-ups_root c root = ups_padded (statuses_from None 0 (ports_of c root)) (width (length (ports_of c root)) - length (ports_of c root)) ∙ ups_none 0 (ports_of c root)
+ups_root c root = ups_padded (statuses_from None 0 (ports_of c root)) (slot_count (length (ports_of c root)) - length (ports_of c root)) ∙ ups_none 0 (ports_of c root)
 
 pub ups_below : (c : Wiring) (x q : ℕ) (e : End) → far c (end_at x q) ≡ Some e → ups (slots_of c (record { node = x; from = Some q })) ≡ 1
-ups_below c x q e j = ups_padded (statuses_from (Some q) 0 (ports_of c x)) (width (length (ports_of c x)) - length (ports_of c x))
+ups_below c x q e j = ups_padded (statuses_from (Some q) 0 (ports_of c x)) (slot_count (length (ports_of c x)) - length (ports_of c x))
     ∙ ups_at c x q 0 e (ports_of c x) (row_all c x) j (omega arith) (omega (arith, (plugged c (end_at x q) e j).port))
 
 -- ---- seen trees are bus trees
@@ -124,25 +125,25 @@ pub record Fit (c : Wiring) (label : ℕ → Label) : Type 0 where
   pub kept_a : (x : ℕ) → (label x).kept_a ≡ 0
   pub kept_b : (x : ℕ) → (label x).kept_b ≡ 0
 
-is_width-width : (n : ℕ) → is_width (width n) ≡ true
-is_width-width n = go (nat_lt n 4) (nat_lt n 12)
+is_width-slot_count : (n : ℕ) → is_width (slot_count n) ≡ true
+is_width-slot_count n = go (nat_le n 3) (nat_le n 11)
   where
     go : (a b : Bool) → is_width (cond a 3 (cond b 11 16)) ≡ true
     go true b = refl
     go false true = refl
     go false false = refl
 
-slots-length : (c : Wiring) (v : Visit) → IsCabling c → v.node < length c → length (slots_of c v) ≡ width (length (ports_of c v.node))
+slots-length : (c : Wiring) (v : Visit) → IsCabling c → v.node < length c → length (slots_of c v) ≡ slot_count (length (ports_of c v.node))
 slots-length c v is there =
     let n = length (ports_of c v.node) in
-    omega (arith, length-append (statuses_from v.from 0 (ports_of c v.node)) (replicate (width n - n) Absent), shown-length v.from 0 (ports_of c v.node), length-replicate (width n - n) Absent, wide n (is.few_ports v.node there))
+    omega (arith, length-append (statuses_from v.from 0 (ports_of c v.node)) (replicate (slot_count n - n) Absent), shown-length v.from 0 (ports_of c v.node), length-replicate (slot_count n - n) Absent, wide n (is.few_ports v.node there))
 
 -- what a node shows is a node
 pub shown_is_node : (c : Wiring) (label : ℕ → Label) (v : Visit) → IsCabling c → Fit c label → v.node < length c → ups (slots_of c v) ≤ 1 → IsNode (shown_node c label v)
 shown_is_node c label v is fit there few = record {
   form = record {
     attrs = fit.attrs v.node there;
-    width = rw (slots-length c v is there) (is_width-width (length (ports_of c v.node)));
+    width = rw (slots-length c v is there) (is_width-slot_count (length (ports_of c v.node)));
     kept_a = rw (fit.kept_a v.node) (pow_pos (kept_a_bits (length (slots_of c v))));
     kept_b = rw (fit.kept_b v.node) (pow_pos (kept_b_bits (length (slots_of c v))));
   };

@@ -1,13 +1,10 @@
 -- The tree that a cabling shows from one of its nodes, and the order in which its nodes identify
 -- themselves.
-use Rattle.std.specs.Prelude.{◌≡◌, ◌≢◌, ℕ, ◌+◌, ◌≤◌, nat_lt, if◌then◌else◌, Option, Some, None, List, [], ◌∷◌, ◌++◌, length}
+use Rattle.std.specs.Prelude.{◌≡◌, ◌≢◌, ℕ, ◌+◌, ◌≤◌, Option, Some, None, List, [], ◌∷◌, ◌++◌, length}
+use Rattle.self_id.specs.Slots.{slot_count}
 use Rattle.topology_stack.specs.Tree.{Label, Tree, branch, Slots, no_more, absent, unplugged, up, down, statuses}
 use Rattle.cabling.specs.declared.cable.End.{End}
 use Rattle.cabling.specs.Wiring.{Wiring, NodeNumber, ports_of}
-
--- how many slots a node shows that has this many ports: those of one, two or three packets
-abbrev pub width : ℕ → ℕ
-width ports = if nat_lt ports 4 then 3 else (if nat_lt ports 12 then 11 else 16)
 
 -- From node `x`, come to by its port `from` or by none, the cabling with labels shows the tree: its
 -- node has the label of `x`, and its slots are those of the ports of `x`.
@@ -16,7 +13,7 @@ width ports = if nat_lt ports 4 then 3 else (if nat_lt ports 12 then 11 else 16)
 abbrev mutual
   pub Sees : Wiring → (NodeNumber → Label) → NodeNumber → Option ℕ → Tree → Type 0
   Sees c label x from (branch a s) =
-      (a ≡ label x) × (length (statuses s) ≡ width (length (ports_of c x)))
+      (a ≡ label x) × (length (statuses s) ≡ slot_count (length (ports_of c x)))
       × SeesFrom c label from 0 (ports_of c x) s
 
   -- the slots of the ports from number `p` on, whose far ends are `ports`

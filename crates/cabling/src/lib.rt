@@ -18,9 +18,10 @@ pub use laws::{
     trees_are_seen_once, trees_have_leaves, trees_have_no_core, walks_hold_each_node_once,
 };
 pub use node_set::NodeSet;
+pub use quad_lanes::OutOfMemory;
 pub use tree::TreeFromFault;
 pub use walk::{Cyclic, Walk};
-pub use wiring::{Cabling, OutOfMemory, cables_are_two_ended};
+pub use wiring::{Cabling, cables_are_two_ended};
 
 #[cfg(test)]
 mod tests;

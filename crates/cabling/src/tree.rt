@@ -4,7 +4,7 @@ ghost use Rattle.topology_stack.specs.Tree.{Tree, IsBusTree};
 ghost use Rattle.self_id.specs.Node.{FitBits};
 ghost use Rattle.cabling.specs.NodeSet.{IsEmpty};
 ghost use Rattle.cabling.specs.Looped.{IsCoreOf};
-ghost use Rattle.cabling.specs.Sees.{Sees, width};
+ghost use Rattle.cabling.specs.Sees.{Sees};
 ghost use Rattle.cabling.specs.Labels.{labels};
 ghost use Rattle.cabling.specs.codings.Shown.{status, slots_of, shown_node};
 ghost use Rattle.cabling.specs.Answer.{IfCyclic};
@@ -12,10 +12,10 @@ ghost use Rattle.cabling.specs.Answer.{IfCyclic};
 use crate::cable::End;
 use crate::node_set::NodeSet;
 use crate::visits::Visit;
-use crate::wiring::{Cabling, OutOfMemory, cables_are_two_ended};
-use quad_lanes::QuadList;
-use self_id::{Attrs, PortList, PortStatus, QuadGroup, SelfId, write_group};
-use std::alloc::{AllocError, Global};
+use crate::wiring::{Cabling, cables_are_two_ended};
+use quad_lanes::{OutOfMemory, QuadList};
+use self_id::{Attrs, PortList, PortStatus, QuadGroup, SelfId, slot_count, write_group};
+use std::alloc::Global;
 use thiserror::Error;
 use topology_stack::{BusTree, TreeStop, read_tree};
 
@@ -30,12 +30,12 @@ pub enum TreeFromFault {
     Memory(OutOfMemory),
 }
 
-impl From<AllocError> for TreeFromFault {
+impl From<OutOfMemory> for TreeFromFault {
     ghost use Rattle.cabling.specs.declared.tree.TreeFromFault.TheVariants.{Memory};
 
     ghost from_gives = { λ x e. e ≡ Memory x };
 
-    fn from(e: AllocError) -> TreeFromFault {
+    fn from(e: OutOfMemory) -> TreeFromFault {
         TreeFromFault::Memory(e)
     }
 }
@@ -56,19 +56,6 @@ fn status(from: Option<u8>, port: u8, far: Option<End>) -> PortStatus
     }
 }
 
-/// How many slots a node shows that has this many ports.
-fn width(ports: usize) -> usize
-    ensures { result ≡ width ports }
-{
-    if ports < 4 {
-        3
-    } else if ports < 12 {
-        11
-    } else {
-        16
-    }
-}
-
 impl Cabling {
     /// The slots that a node shows.
     fn slots(&self, visit: Visit) -> PortList
@@ -80,7 +67,7 @@ impl Cabling {
         for (port, far) in ends.iter().enumerate() {
             slots.push(status(visit.from, port as u8, *far));
         }
-        for _ in ends.len()..width(ends.len()) {
+        for _ in ends.len()..slot_count(ends.len()) {
             slots.push(PortStatus::Absent);
         }
         slots

@@ -6,11 +6,9 @@ ghost use Rattle.cabling.specs.Change.{Added, TakenOut, plug_fault, pull_fault};
 
 use crate::cable::{Cable, CableFault, End};
 use arrayvec::ArrayVec;
-use std::alloc::{AllocError, Global};
+use quad_lanes::OutOfMemory;
+use std::alloc::Global;
 use std::marker::Model;
-
-/// What a call answers that found no memory.
-pub type OutOfMemory = AllocError;
 
 /// The far ends of a node's ports, at most 16.
 #[derive(Debug, Drop)]

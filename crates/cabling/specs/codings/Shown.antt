@@ -8,7 +8,7 @@ use Rattle.topology_stack.specs.Tree.{Label}
 use Rattle.cabling.specs.declared.cable.End.{End}
 use Rattle.cabling.specs.declared.visits.Visit.{Visit}
 use Rattle.cabling.specs.Wiring.{Wiring, ports_of}
-use Rattle.cabling.specs.Sees.{width}
+use Rattle.self_id.specs.Slots.{slot_count}
 use Rattle.cabling.specs.codings.Visits.{is_from}
 
 -- what a port shows of a node that was, or was not, come to by it
@@ -24,7 +24,7 @@ statuses_from from p (port ∷ ports) = status from p port ∷ statuses_from fro
 -- the slots that a node shows: those of its ports, and absent ones after them
 abbrev pub slots_of : Wiring → Visit → List PortStatus
 slots_of c v =
-    statuses_from v.from 0 ports ++ replicate (width (length ports) - length ports) Absent
+    statuses_from v.from 0 ports ++ replicate (slot_count (length ports) - length ports) Absent
   where
     ports : List (Option End)
     ports = ports_of c v.node
