@@ -2,37 +2,36 @@
 use Rattle.std.proofs.Common.{◌≡◌, ℕ, zero, suc, List, [], ◌∷◌, None, subst, sym}
 use Rattle.cabling.specs.declared.cable.End.{End}
 use Rattle.cable_world.specs.declared.act.Act.{Act}
-use Rattle.cable_world.specs.World.{CableWorld, IsPowerOn}
+use Rattle.cable_world.specs.World.{CableWorld, IsPowerOnWorld}
 use Rattle.cable_world.specs.Turn.{turn, turns_after}
-use Rattle.cable_world.specs.Act.{Acted, IsAct, act_fault, hold, hold_fault}
+use Rattle.cable_world.specs.Act.{ActLeads, IsAct, act_fault, hold, hold_fault}
 use Rattle.cable_world.specs.Run.{Event, acts, holds, turns, Happens, Runs, IsReached}
 use Rattle.cable_world.specs.Agreement.{LevelsAgree}
 use Rattle.cable_world.specs.Coupling.{IsCoupled}
 use Rattle.cable_world.specs.Lawful.{IsWellFormed, IsLawful}
-use Rattle.cable_world.proofs.AtPowerOn.{power-on-formed, power-on-agrees}
-use Rattle.cable_world.proofs.TurnKept.{turn-formed}
-use Rattle.cable_world.proofs.ActKept.{act-formed, hold-formed}
-use Rattle.cable_world.proofs.LevelsKept.{turn-levels}
-use Rattle.cable_world.proofs.LevelsActs.{act-levels, hold-levels}
-use Rattle.cable_world.proofs.CouplingKept.{turn-coupled}
-use Rattle.cable_world.proofs.CoupledActs.{act-coupled, hold-coupled, power-on-coupled}
-use Rattle.cable_world.proofs.RolesKept.{coupled-roles}
+use Rattle.cable_world.proofs.tables.AtPowerOn.{power-on-formed, power-on-agrees}
+use Rattle.cable_world.proofs.tables.TablesInTurns.{turn-formed}
+use Rattle.cable_world.proofs.tables.TablesInActs.{act-formed, hold-formed}
+use Rattle.cable_world.proofs.levels.LevelsInActs.{act-levels, hold-levels}
+use Rattle.cable_world.proofs.coupling.CouplingInTurns.{turn-levels, turn-coupled}
+use Rattle.cable_world.proofs.coupling.CouplingInActs.{act-coupled, hold-coupled, power-on-coupled}
+use Rattle.cable_world.proofs.coupling.RolesFollow.{coupled-roles}
 
 -- that child ports lead to parent ports follows from the rest
 lawful-of : (w : CableWorld) → IsWellFormed w → LevelsAgree w → IsCoupled w → IsLawful w
-lawful-of w f l c = record { well_formed = f; agrees = record { levels = l; roles = coupled-roles w l c }; coupled = c }
+lawful-of w f l c = record { well_formed = f; agrees = record { levels = l; roles = coupled-roles w c }; coupled = c }
 
-pub power-on-lawful : (w : CableWorld) → IsPowerOn w → IsLawful w
+pub power-on-lawful : (w : CableWorld) → IsPowerOnWorld w → IsLawful w
 power-on-lawful w h = record { well_formed = power-on-formed w h; agrees = power-on-agrees w h; coupled = power-on-coupled w h }
 
 pub turn-lawful : (w : CableWorld) → IsLawful w → IsLawful (turn w)
-turn-lawful w h = lawful-of (turn w) (turn-formed w h.well_formed) (turn-levels w h.well_formed h.agrees.levels) (turn-coupled w h.well_formed h.agrees.levels h.coupled)
+turn-lawful w h = lawful-of (turn w) (turn-formed w h.well_formed) (turn-levels w h.well_formed h.agrees.levels h.coupled) (turn-coupled w h.well_formed h.agrees.levels h.coupled)
 
 pub hold-lawful : (end : End) (n : ℕ) (w : CableWorld) → hold_fault end w ≡ None → IsLawful w → IsLawful (hold end n w)
 hold-lawful end n w none h =
     lawful-of (hold end n w) (hold-formed end n w none h.well_formed) (hold-levels end n w none h.well_formed h.agrees.levels) (hold-coupled end n w none h.well_formed h.coupled)
 
-pub act-lawful : (a : Act) (w v : CableWorld) → IsAct a → act_fault a w ≡ None → Acted a w v → IsLawful w → IsLawful v
+pub act-lawful : (a : Act) (w v : CableWorld) → IsAct a → act_fault a w ≡ None → ActLeads a w v → IsLawful w → IsLawful v
 act-lawful a w v is none e h =
     lawful-of v (act-formed a w v is none e h.well_formed) (act-levels a w v is none e h.well_formed h.agrees.levels) (act-coupled a w v is none e h.well_formed h.coupled)
 

@@ -1,4 +1,6 @@
 pub mod Wire
+pub mod Signals
+pub mod Phases
 pub mod World
 pub mod Turn
 pub mod Act

@@ -2,8 +2,8 @@
 use Rattle.std.specs.Prelude.{◌≡◌, ℕ, ◌+◌, ◌*◌, List, [], ◌∷◌, None}
 use Rattle.cabling.specs.declared.cable.End.{End}
 use Rattle.cable_world.specs.declared.act.Act.{Act}
-use Rattle.cable_world.specs.World.{CableWorld, IsPowerOn}
-use Rattle.cable_world.specs.Act.{Acted, IsAct, act_fault, hold, hold_fault}
+use Rattle.cable_world.specs.World.{CableWorld, IsPowerOnWorld}
+use Rattle.cable_world.specs.Act.{ActLeads, IsAct, act_fault, hold, hold_fault}
 use Rattle.cable_world.specs.Turn.{turn}
 
 -- what may happen to a world
@@ -14,7 +14,7 @@ pub data Event : Type 0 where
 
 -- an event that isn't refused turns the first world into the second
 abbrev pub Happens : Event → CableWorld → CableWorld → Type 0
-Happens (acts a) w v = IsAct a × (act_fault a w ≡ None) × Acted a w v
+Happens (acts a) w v = IsAct a × (act_fault a w ≡ None) × ActLeads a w v
 Happens (holds end k) w v = (hold_fault end w ≡ None) × (v ≡ hold end k w)
 Happens turns w v = v ≡ turn w
 
@@ -27,7 +27,7 @@ Runs (e ∷ events) w v = (u : CableWorld) × Happens e w u × Runs events u v
 pub record IsReached (w : CableWorld) : Type 0 where
   pub start : CableWorld
   pub events : List Event
-  pub power_on : IsPowerOn start
+  pub power_on : IsPowerOnWorld start
   pub run : Runs events start w
 
 -- A turn is quiet where no act came since the turn before; holds may stand. After so many quiet turns a

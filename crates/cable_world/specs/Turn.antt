@@ -5,37 +5,50 @@ use Rattle.std.specs.Cmp.Lexicographic.{pointwise}
 use Rattle.cabling.specs.declared.cable.End.{End}
 use Rattle.cabling.specs.Wiring.{Wiring, ports_of}
 use Rattle.port_state.specs.declared.signal.Signal.{Signal}
-use Rattle.port_state.specs.Sends.{sent_on}
-use Rattle.port_state.specs.Machine.{PortNode, NodeStep, on_signal, tick}
-use Rattle.cable_world.specs.Wire.{Wire, with_sent, arrives, stays}
-use Rattle.cable_world.specs.World.{CableWorld, wire_of}
+use Rattle.port_state.specs.declared.states.NodeState.{NodeState}
+use Rattle.port_state.specs.Heard.{on_signal}
+use Rattle.port_state.specs.Ports.{PortNumber}
+use Rattle.port_state.specs.Sends.{PortSignal, sent_on}
+use Rattle.port_state.specs.Step.{Step, silent_step}
+use Rattle.port_state.specs.Machine.{PortNode, NodeStep, node_tick}
+use Rattle.cable_world.specs.Wire.{Wire, add_signals, arrives, stays}
+use Rattle.cable_world.specs.World.{CableWorld, NodeNumber, wire_of}
 
 -- ---- what a node hears
 
 -- what comes over the cable to this far end
-abbrev pub arriving : CableWorld → Option End → List Signal
-arriving w None = []
-arriving w (Some far) = arrives w.delay (wire_of w far)
+abbrev pub signals_from : CableWorld → Option End → List Signal
+signals_from w None = []
+signals_from w (Some far) = arrives w.delay (wire_of w far)
 
 -- the signals for the ports from number p on, with these far ends: by rising port, and those of one port
 -- oldest first
-abbrev pub inbox : CableWorld → ℕ → List (Option End) → List (ℕ × Signal)
+abbrev pub inbox : CableWorld → PortNumber → List (Option End) → List PortSignal
 inbox w p [] = []
-inbox w p (far ∷ ports) = map (λ s. (p, s)) (arriving w far) ++ inbox w (p + 1) ports
+inbox w p (far ∷ ports) = map (λ s. (p, s)) (signals_from w far) ++ inbox w (p + 1) ports
 
 -- ---- what a node does
 
--- two steps, one after the other
-abbrev pub and_then : NodeStep → (PortNode → NodeStep) → NodeStep
-and_then first next = let second = next first.node in record { node = second.node; sends = first.sends ++ second.sends }
+-- one step, and then another
+abbrev pub step_then : Step → (NodeState → Step) → Step
+step_then first next =
+    let second = next first.state in
+    record { state = second.state; sends = first.sends ++ second.sends }
 
--- a node hears signals, the first first, and then its clock ticks
-abbrev pub node_turn : List (ℕ × Signal) → PortNode → NodeStep
-node_turn [] x = tick x
-node_turn (s ∷ rest) x = and_then (on_signal s.0 s.1 x) (node_turn rest)
+-- a node hears signals, the first first
+abbrev pub hear_all : List PortSignal → NodeState → Step
+hear_all [] x = silent_step x
+hear_all (s ∷ ss) x = step_then (on_signal s.0 s.1 x) (hear_all ss)
+
+-- A node's part of a turn: it hears signals, and then its clock ticks. Hearing leaves its coins alone.
+abbrev pub node_turn : List PortSignal → PortNode → NodeStep
+node_turn signals n =
+    let heard = hear_all signals n.state in
+    let ticked = node_tick (record n { state = heard.state }) in
+    record { node = ticked.node; sends = heard.sends ++ ticked.sends }
 
 -- node number k, which is x, in a turn
-abbrev pub turn_at : CableWorld → ℕ → PortNode → NodeStep
+abbrev pub turn_at : CableWorld → NodeNumber → PortNode → NodeStep
 turn_at w k x = node_turn (inbox w 0 (ports_of w.cabling k)) x
 
 -- every node, with its ports' far ends
@@ -46,14 +59,14 @@ node_turns w rows nodes = []
 -- ---- what is sent
 
 -- the wires of a node's ports from number p on
-abbrev pub sent_from : ℕ → List (ℕ × Signal) → List Wire → List Wire
-sent_from p sends [] = []
-sent_from p sends (w ∷ wires) = with_sent (sent_on p sends) w ∷ sent_from (p + 1) sends wires
+abbrev pub wires_after_sends : PortNumber → List PortSignal → List Wire → List Wire
+wires_after_sends p sends [] = []
+wires_after_sends p sends (w ∷ wires) = add_signals (sent_on p sends) w ∷ wires_after_sends (p + 1) sends wires
 
 -- the wires of every node
-abbrev pub all_sent : List NodeStep → List (List Wire) → List (List Wire)
-all_sent (s ∷ steps) (wires ∷ rows) = sent_from 0 s.sends wires ∷ all_sent steps rows
-all_sent steps rows = rows
+abbrev pub all_wires_after_sends : List NodeStep → List (List Wire) → List (List Wire)
+all_wires_after_sends (s ∷ steps) (wires ∷ rows) = wires_after_sends 0 s.sends wires ∷ all_wires_after_sends steps rows
+all_wires_after_sends steps rows = rows
 
 -- ---- when lists last changed
 
@@ -71,7 +84,7 @@ last_changes turns before after changed = changed
 abbrev pub after_turn : List NodeStep → CableWorld → CableWorld
 after_turn steps w = record w {
   nodes = map (λ (s : NodeStep). s.node) steps;
-  wires = all_sent steps (map (map (stays w.delay)) w.wires);
+  wires = all_wires_after_sends steps (map (map (stays w.delay)) w.wires);
   changed = last_changes (w.turns + 1) w.nodes (map (λ (s : NodeStep). s.node) steps) w.changed;
   turns = w.turns + 1;
 }

@@ -16,19 +16,19 @@ pub record Wire : Type 0 where
 abbrev pub empty_wire : Wire
 empty_wire = record { signals = []; held = 0 }
 
-abbrev pub newly_sent : Signal → Travelling
-newly_sent s = record { signal = s; age = 0 }
+abbrev pub new_signal : Signal → Travelling
+new_signal s = record { signal = s; age = 0 }
 
 -- the wire after these signals were sent on it, the first first
-abbrev pub with_sent : List Signal → Wire → Wire
-with_sent sent w = record w { signals = w.signals ++ map newly_sent sent }
+abbrev pub add_signals : List Signal → Wire → Wire
+add_signals sent w = record w { signals = w.signals ++ map new_signal sent }
 
-abbrev pub older : Travelling → Travelling
-older t = record t { age = t.age + 1 }
+abbrev pub age_signal : Travelling → Travelling
+age_signal t = record t { age = t.age + 1 }
 
 -- every signal is one turn older
-abbrev pub aged : Wire → Wire
-aged w = record w { signals = map older w.signals }
+abbrev pub age_wire : Wire → Wire
+age_wire w = record w { signals = map age_signal w.signals }
 
 -- the oldest signal has been under way for d turns
 abbrev pub front_is_due : ℕ → List Travelling → Bool
@@ -39,17 +39,23 @@ front_is_due d (t ∷ ts) = nat_le d t.age
 abbrev pub gives : ℕ → Wire → Bool
 gives d w = (w.held == 0) || front_is_due d w.signals
 
--- what it gives
-abbrev pub given : ℕ → Wire → List Signal
-given d w = if gives d w then map (λ t. t.signal) w.signals else []
+-- What a wire does in a turn: which signals arrive at its far end, and the wire that stays.
+pub record WireTurn : Type 0 where
+  pub arrives : List Signal
+  pub stays : Wire
 
--- what is left of it
-abbrev pub left : ℕ → Wire → Wire
-left d w = record { signals = if gives d w then [] else w.signals; held = w.held - 1 }
+-- The signals age first, and then the wire may give them. A hold has one turn less to go.
+abbrev pub wire_turn : ℕ → Wire → WireTurn
+wire_turn d wire =
+    let w = age_wire wire in
+    record {
+      arrives = if gives d w then map (λ t. t.signal) w.signals else [];
+      stays = record { signals = if gives d w then [] else w.signals; held = w.held - 1 };
+    }
 
--- In a turn the signals age first, and then the wire may give them.
+-- its two parts
 abbrev pub arrives : ℕ → Wire → List Signal
-arrives d w = given d (aged w)
+arrives d w = (wire_turn d w).arrives
 
 abbrev pub stays : ℕ → Wire → Wire
-stays d w = left d (aged w)
+stays d w = (wire_turn d w).stays

@@ -1,7 +1,7 @@
 -- The world: nodes, the cables between them, and what is under way.
 use Rattle.std.specs.Prelude.{◌≡◌, ℕ, ◌≤◌, List, [], length, map, replicate, slice_get, slice_set, slice_index_or, Some}
 use Rattle.cabling.specs.declared.cable.End.{End}
-use Rattle.cabling.specs.Wiring.{Wiring, without_cables}
+use Rattle.cabling.specs.Wiring.{Wiring, far, without_cables}
 use Rattle.port_state.specs.PowerOn as power
 use Rattle.port_state.specs.Timing.{InRange}
 use Rattle.port_state.specs.Valid.{IsValid}
@@ -23,6 +23,21 @@ pub record CableWorld : Type 0 where
   -- the number of turns done
   pub turns : ℕ
 
+-- the number of a node, from 0
+abbrev pub NodeNumber : Type 0
+NodeNumber = ℕ
+
+-- a set of nodes: node number k is in it where bit k is 1
+abbrev pub NodeSet : Type 0
+NodeSet = ℕ
+
+-- this holds of the two ends of each cable, and of the nodes there
+abbrev pub AtCables : CableWorld → (End → NodeState → End → NodeState → Type 0) → Type 0
+AtCables w P =
+    (a b : End) (x y : PortNode) → far w.cabling a ≡ Some b →
+    slice_get w.nodes a.node ≡ Some x → slice_get w.nodes b.node ≡ Some y →
+    P a x.state b y.state
+
 -- the wire that leaves an end
 abbrev pub wire_of : CableWorld → End → Wire
 wire_of w end = slice_index_or (slice_index_or w.wires end.node []) end.port empty_wire
@@ -35,8 +50,8 @@ abbrev pub no_wires : PortNode → List Wire
 no_wires x = replicate x.state.ports empty_wire
 
 -- a world of these nodes, without cables, before its first turn
-abbrev pub without_turns : ℕ → List PortNode → CableWorld
-without_turns d nodes = record {
+abbrev pub world_of_nodes : ℕ → List PortNode → CableWorld
+world_of_nodes d nodes = record {
   delay = d;
   cabling = without_cables (map (λ (x : PortNode). x.state.ports) nodes);
   nodes = nodes;
@@ -46,15 +61,15 @@ without_turns d nodes = record {
 }
 
 -- a node that was just powered on, with times that suit the cables
-pub record IsPoweredOn (d : ℕ) (x : NodeState) : Type 0 where
+pub record IsNodeAtPowerOn (d : ℕ) (x : NodeState) : Type 0 where
   pub is : x ≡ power.power_on x.ports x.attrs x.view.force x.timing
   pub valid : IsValid x
   pub timing : InRange d x.timing
 
 -- the power-on world: every node was just powered on, and there is no cable
-pub record IsPowerOn (w : CableWorld) : Type 0 where
+pub record IsPowerOnWorld (w : CableWorld) : Type 0 where
   pub some_delay : 1 ≤ w.delay
   pub short_delay : w.delay ≤ 16
   pub few_nodes : length w.nodes ≤ 63
-  pub nodes : (k : ℕ) (x : PortNode) → slice_get w.nodes k ≡ Some x → IsPoweredOn w.delay x.state
-  pub is : w ≡ without_turns w.delay w.nodes
+  pub nodes : (k : ℕ) (x : PortNode) → slice_get w.nodes k ≡ Some x → IsNodeAtPowerOn w.delay x.state
+  pub is : w ≡ world_of_nodes w.delay w.nodes

@@ -4,11 +4,11 @@ ghost use Rattle.cabling.specs.declared.cable.End.{End};
 ghost use Rattle.port_state.specs.Sends.{sent_on};
 ghost use Rattle.port_state.specs.Heard.{is_resetting};
 ghost use Rattle.port_state.specs.Machine.{PortNode};
-ghost use Rattle.cable_world.specs.Wire.{with_sent, stays};
-ghost use Rattle.cable_world.specs.World.{CableWorld, wire_of, IsPowerOn};
+ghost use Rattle.cable_world.specs.Wire.{add_signals, stays};
+ghost use Rattle.cable_world.specs.World.{CableWorld, wire_of, IsPowerOnWorld};
 ghost use Rattle.cable_world.specs.Turn.{turn, turn_at, turns_after};
 ghost use Rattle.cable_world.specs.declared.act.Act.{Act};
-ghost use Rattle.cable_world.specs.Act.{Acted, IsAct, act_fault, hold, hold_fault};
+ghost use Rattle.cable_world.specs.Act.{ActLeads, IsAct, act_fault, hold, hold_fault};
 ghost use Rattle.cable_world.specs.Lawful.{IsLawful};
 ghost use Rattle.cable_world.specs.Run.{IsReached};
 ghost use Rattle.cable_world.specs.Outcome.{Outcome, IsOutcome};
@@ -17,7 +17,7 @@ ghost use Rattle.cable_world.specs.Outcome.{Outcome, IsOutcome};
 /// ticks; a wire loses what it gave, and takes what its node sent.
 pub fn turn_by_number()
     ensures node { (w : CableWorld) (k : ℕ) (x : PortNode) → length w.nodes ≡ length w.cabling → slice_get w.nodes k ≡ Some x → slice_get (turn w).nodes k ≡ Some (turn_at w k x).node }
-    ensures wire { (w : CableWorld) (end : End) (x : PortNode) → length w.nodes ≡ length w.cabling → slice_get w.nodes end.node ≡ Some x → end.port < length (slice_index_or w.wires end.node []) → wire_of (turn w) end ≡ with_sent (sent_on end.port (turn_at w end.node x).sends) (stays w.delay (wire_of w end)) }
+    ensures wire { (w : CableWorld) (end : End) (x : PortNode) → length w.nodes ≡ length w.cabling → slice_get w.nodes end.node ≡ Some x → end.port < length (slice_index_or w.wires end.node []) → wire_of (turn w) end ≡ add_signals (sent_on end.port (turn_at w end.node x).sends) (stays w.delay (wire_of w end)) }
 {}
 
 /// What a turn leaves as it is, and how the turns are counted.
@@ -30,9 +30,9 @@ pub fn turn_keeps()
 
 /// What an act leaves as it is: how many nodes there are, the number of turns, and d.
 pub fn acts_keep()
-    ensures nodes { (a : Act) (w v : CableWorld) → Acted a w v → length v.nodes ≡ length w.nodes }
-    ensures turns { (a : Act) (w v : CableWorld) → Acted a w v → v.turns ≡ w.turns }
-    ensures delay { (a : Act) (w v : CableWorld) → Acted a w v → v.delay ≡ w.delay }
+    ensures nodes { (a : Act) (w v : CableWorld) → ActLeads a w v → length v.nodes ≡ length w.nodes }
+    ensures turns { (a : Act) (w v : CableWorld) → ActLeads a w v → v.turns ≡ w.turns }
+    ensures delay { (a : Act) (w v : CableWorld) → ActLeads a w v → v.delay ≡ w.delay }
 {}
 
 /// Turns are done one after the other.
@@ -46,10 +46,10 @@ pub fn turns_add_up()
 /// level that a node last sent over a cable is under way to the other end or shown there, and a child port
 /// leads to the parent port of the node at the other end, unless a Reset is under way from there.
 pub fn worlds_stay_lawful()
-    ensures power_on { (w : CableWorld) → IsPowerOn w → IsLawful w }
+    ensures power_on { (w : CableWorld) → IsPowerOnWorld w → IsLawful w }
     ensures turn { (w : CableWorld) → IsLawful w → IsLawful (turn w) }
     ensures hold { (end : End) (turns : ℕ) (w : CableWorld) → hold_fault end w ≡ None → IsLawful w → IsLawful (hold end turns w) }
-    ensures act { (a : Act) (w v : CableWorld) → IsAct a → act_fault a w ≡ None → Acted a w v → IsLawful w → IsLawful v }
+    ensures act { (a : Act) (w v : CableWorld) → IsAct a → act_fault a w ≡ None → ActLeads a w v → IsLawful w → IsLawful v }
     ensures reached { (w : CableWorld) → IsReached w → IsLawful w }
 {}
 

@@ -3,7 +3,7 @@ ghost use Rattle.std.specs.Prelude.{◌≡◌, ◌+◌, ◌<◌, ◌≤◌, ◌�
 ghost use Rattle.port_state.specs.Group.{shown_attrs};
 ghost use Rattle.cable_world.specs.World.{CableWorld};
 ghost use Rattle.cable_world.specs.Turn.{turn, turns_after};
-ghost use Rattle.cable_world.specs.Act.{Acted, IsAct, act_fault, hold, hold_fault};
+ghost use Rattle.cable_world.specs.Act.{ActLeads, IsAct, act_fault, hold, hold_fault};
 ghost use Rattle.cable_world.specs.Lawful.{IsLawful};
 ghost use Rattle.cable_world.specs.Answer.{IfFault, IsMemory};
 
@@ -30,7 +30,7 @@ pub trait WorldRun {
     /// refusal changes nothing. The numbers of a `Config` have 6 bits, and it has R or T set.
     fn act(&mut self, act: &Act) -> Result<(), ActStop>
         requires { IsAct act.now }
-        ensures done { OnOk result (Acted act.now (world self.old) (world self.new)) }
+        ensures done { OnOk result (ActLeads act.now (world self.old) (world self.new)) }
         ensures accepted { OnOk result (act_fault act.now (world self.old) ≡ None) }
         ensures nodes { OnOk result (length (world self.new).nodes ≡ length (world self.old).nodes) }
         ensures turns { OnOk result ((world self.new).turns ≡ (world self.old).turns) }

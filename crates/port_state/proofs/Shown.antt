@@ -6,13 +6,13 @@ use Rattle.std.proofs.lemmas.List.{length-replicate}
 use Rattle.std.proofs.lemmas.Nat.{pow_pos}
 use Rattle.self_id.specs.declared.node.PortStatus.{PortStatus}
 use Rattle.self_id.specs.declared.node.PortStatus.TheVariants.{Absent, Unplugged, Up, Down}
-use Rattle.self_id.specs.Node.{IsNode, ups, is_width, kept_a_bits, kept_b_bits}
+use Rattle.self_id.specs.Node.{ups, is_width, kept_a_bits, kept_b_bits}
 use Rattle.port_state.specs.declared.ports.PortView.{PortView}
-use Rattle.port_state.specs.declared.states.NodeState.{NodeState}
-use Rattle.port_state.specs.Group.{slot_count, status, statuses_from, shown_node}
-use Rattle.port_state.specs.Valid.{IsBounded}
+use Rattle.port_state.specs.Group.{slot_count, status, statuses_from, shown_node, NodesAreShown}
 
-length-statuses_from : (k : ℕ) (parent : Option ℕ) (ports : List PortView) → length (statuses_from k parent ports) ≡ length ports
+length-statuses_from :
+    (k : ℕ) (parent : Option ℕ) (ports : List PortView) →
+    length (statuses_from k parent ports) ≡ length ports
 length-statuses_from k parent [] = refl
 length-statuses_from k parent (p ∷ ps) = ap suc (length-statuses_from (k + 1) parent ps)
 
@@ -50,7 +50,9 @@ one_up : (n k : ℕ) (ports : List PortView) → ups (statuses_from k (Some n) p
 one_up n k [] = omega arith
 one_up n k (p ∷ ps) = go (n == k) refl (one_up n (k + 1) ps)
   where
-    go : (b : Bool) → (n == k) ≡ b → ups (statuses_from (k + 1) (Some n) ps) ≤ 1 → ups (status b p ∷ statuses_from (k + 1) (Some n) ps) ≤ 1
+    go :
+        (b : Bool) → (n == k) ≡ b → ups (statuses_from (k + 1) (Some n) ps) ≤ 1 →
+        ups (status b p ∷ statuses_from (k + 1) (Some n) ps) ≤ 1
     go true e rest = let same : n ≡ k = eqb-true n k e in omega (arith, past_up n (k + 1) ps (omega arith))
     go false e rest = omega (arith, ups-down p (statuses_from (k + 1) (Some n) ps), rest)
 
@@ -62,12 +64,15 @@ few_up (Some n) ports = one_up n 0 ports
 width : (ports : ℕ) → ports ≤ 16 → (ports ≤ slot_count ports) × IsTrue (is_width (slot_count ports))
 width ports h = go (nat_le ports 3) refl (nat_le ports 11) refl
   where
-    go : (a : Bool) → nat_le ports 3 ≡ a → (b : Bool) → nat_le ports 11 ≡ b → (ports ≤ (if a then 3 else (if b then 11 else 16))) × IsTrue (is_width (if a then 3 else (if b then 11 else 16)))
+    go :
+        (a : Bool) → nat_le ports 3 ≡ a → (b : Bool) → nat_le ports 11 ≡ b →
+        (ports ≤ (if a then 3 else (if b then 11 else 16)))
+        × IsTrue (is_width (if a then 3 else (if b then 11 else 16)))
     go true e b f = (leb-true ports 3 e, refl)
     go false e true f = (leb-true ports 11 f, refl)
     go false e false f = (h, refl)
 
-pub shown-is_node : (x : NodeState) → IsBounded x → IsNode (shown_node x)
+pub shown-is_node : NodesAreShown
 shown-is_node x b =
     let absent : List PortStatus = replicate (slot_count x.ports - x.ports) Absent in
     let w = width x.ports b.few_ports in

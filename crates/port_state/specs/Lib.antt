@@ -1,4 +1,5 @@
 pub use Rattle.self_id.specs.Node
+pub mod Limits
 pub mod Timing
 pub mod Ports
 pub mod Sends
@@ -17,4 +18,6 @@ pub mod Tick
 pub mod Names
 pub mod Machine
 pub mod Valid
-pub mod Laws
+pub mod Sound
+pub mod Stays
+pub mod ByPort

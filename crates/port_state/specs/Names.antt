@@ -7,14 +7,17 @@ use Rattle.port_state.specs.declared.signal.Signal.{Signal}
 use Rattle.port_state.specs.declared.signal.Signal.TheVariants as signal
 use Rattle.port_state.specs.declared.ports.PortView.{PortView}
 use Rattle.port_state.specs.declared.states.NodeState.{NodeState}
-use Rattle.port_state.specs.Entry.{with_port}
+use Rattle.port_state.specs.Config.{ConfigPacket}
+use Rattle.port_state.specs.Entry.{without_marks, with_port}
 use Rattle.port_state.specs.Heard.{is_resetting, is_heard}
+use Rattle.port_state.specs.Ports.{PortNumber}
 use Rattle.port_state.specs.Row as row
 use Rattle.port_state.specs.Row.{Row}
 
 -- ---- parts
 
--- a part of a record; the attributes, the times and the number of ports are none, since nothing names them
+-- a part of a record; the attributes, the times and the number of ports are none, since nothing
+-- names them
 pub data Part : Type 0 where
   phase : Part
   timer : Part
@@ -37,18 +40,15 @@ pub data Part : Type 0 where
   -- of each port: whether it leads to a child, which was asked, and named itself
   marks : Part
   -- of the port of this number: its cable and its level; its level; one of its marks
-  line : ℕ → Part
-  level : ℕ → Part
-  child : ℕ → Part
-  asked : ℕ → Part
-  named : ℕ → Part
+  line : PortNumber → Part
+  level : PortNumber → Part
+  child : PortNumber → Part
+  asked : PortNumber → Part
+  named : PortNumber → Part
 
--- a port that leads to no child, and one without marks
-abbrev pub childless : PortView → PortView
-childless p = record p { child = false }
-
-abbrev pub markless : PortView → PortView
-markless p = record p { child = false; asked = false; named = false }
+-- a port that leads to no child
+abbrev pub without_child : PortView → PortView
+without_child p = record p { child = false }
 
 -- the record with this part forgotten
 abbrev pub without : Part → NodeState → NodeState
@@ -68,11 +68,11 @@ without next_force x = record x { view = record x.view { next_force = false } }
 without timed_out x = record x { view = record x.view { timed_out = false } }
 without resets x = record x { view = record x.view { resets = 0 } }
 without list x = record x { list = record { items = [] } }
-without children x = record x { view = record x.view { ports = map childless x.view.ports } }
-without marks x = record x { view = record x.view { ports = map markless x.view.ports } }
+without children x = record x { view = record x.view { ports = map without_child x.view.ports } }
+without marks x = record x { view = record x.view { ports = map without_marks x.view.ports } }
 without (line port) x = with_port port (λ p. record p { connected = false; shown = shown.Idle }) x
 without (level port) x = with_port port (λ p. record p { shown = shown.Idle }) x
-without (child port) x = with_port port childless x
+without (child port) x = with_port port without_child x
 without (asked port) x = with_port port (λ p. record p { asked = false }) x
 without (named port) x = with_port port (λ p. record p { named = false }) x
 
@@ -89,22 +89,24 @@ KeepsBut parts was is = without_all parts is ≡ without_all parts was
 -- a reset: cables and levels stay, and what a configuration packet said
 abbrev pub reset_names : List Part
 reset_names =
-    phase ∷ timer ∷ wait ∷ marks ∷ parent ∷ granted ∷ id ∷ list ∷ draws ∷ first_draws ∷ timed_out ∷ initiated ∷ gap ∷ force ∷ resets ∷ []
+    phase ∷ timer ∷ wait ∷ marks ∷ parent ∷ granted ∷ id ∷ list ∷ draws ∷ first_draws
+    ∷ timed_out ∷ initiated ∷ gap ∷ force ∷ resets ∷ []
 
 -- plugging and pulling
-abbrev pub plug_names : ℕ → List Part
+abbrev pub plug_names : PortNumber → List Part
 plug_names port = reset_names ++ line port ∷ []
 
 -- a signal that counts: a level, and outside R0 a reset with Reset; a grant, a packet, Done
-abbrev pub heard_names : ℕ → Signal → Phase → List Part
-heard_names port signal.Reset ph = if is_resetting ph then level port ∷ [] else reset_names ++ level port ∷ []
+abbrev pub heard_names : PortNumber → Signal → Phase → List Part
+heard_names port signal.Reset ph =
+    if is_resetting ph then level port ∷ [] else reset_names ++ level port ∷ []
 heard_names port signal.Grant ph = granted ∷ []
 heard_names port (signal.Packet quad) ph = list ∷ []
 heard_names port signal.Done ph = named port ∷ []
 heard_names port s ph = level port ∷ []
 
 -- a signal that doesn't count names nothing
-abbrev pub signal_names : ℕ → Signal → NodeState → List Part
+abbrev pub signal_names : PortNumber → Signal → NodeState → List Part
 signal_names port s x = if is_heard port s x then heard_names port s x.view.phase else []
 
 -- a row of a tick, beside the timer that rises
@@ -114,9 +116,9 @@ row_names row.ends_reset = phase ∷ []
 row_names row.begins_tree = phase ∷ []
 row_names row.takes_roles = phase ∷ timed_out ∷ children ∷ parent ∷ []
 row_names row.times_out = timed_out ∷ []
-row_names row.greets_parent = phase ∷ []
+row_names row.awaits_parent = phase ∷ []
 row_names row.becomes_root = phase ∷ granted ∷ []
-row_names (row.is_accepted port) = phase ∷ []
+row_names (row.finds_parent port) = phase ∷ []
 row_names (row.begins_contention port) = phase ∷ wait ∷ draws ∷ first_draws ∷ []
 row_names (row.takes_rival port) = phase ∷ child port ∷ parent ∷ []
 row_names (row.asks_again port) = phase ∷ []
@@ -134,5 +136,5 @@ abbrev pub gap_names : Option ℕ → List Part
 gap_names None = []
 gap_names (Some count) = next_gap ∷ []
 
-abbrev pub config_names : Bool → Option ℕ → List Part
-config_names on count = force_names on ++ gap_names count
+abbrev pub config_names : ConfigPacket → List Part
+config_names packet = force_names packet.force ++ gap_names packet.gap

@@ -5,6 +5,10 @@ use Rattle.port_state.specs.declared.signal.Level.{Level}
 use Rattle.port_state.specs.declared.signal.Level.TheVariants as level
 use Rattle.port_state.specs.declared.ports.PortView.{PortView}
 
+-- the number of a port of a node, from 0
+abbrev pub PortNumber : Type 0
+PortNumber = ℕ
+
 abbrev pub is_idle : Level → Bool
 is_idle level.Idle = true
 is_idle l = false
@@ -22,8 +26,8 @@ abbrev pub asks : PortView → Bool
 asks p = p.connected && is_parent p.shown
 
 -- a connected port that doesn't
-abbrev pub is_left : PortView → Bool
-is_left p = p.connected && not (is_parent p.shown)
+abbrev pub is_remaining : PortView → Bool
+is_remaining p = p.connected && not (is_parent p.shown)
 
 -- a connected port that leads to a child which hasn't identified itself
 abbrev pub is_unnamed : PortView → Bool
@@ -38,7 +42,7 @@ abbrev pub every : (PortView → Bool) → List PortView → Bool
 every test ports = list_all (λ p. if p.connected then test p else true) ports
 
 -- the lowest port that passes a test
-abbrev pub lowest : (PortView → Bool) → List PortView → Option ℕ
+abbrev pub lowest : (PortView → Bool) → List PortView → Option PortNumber
 lowest test ports = position_from test 0 ports
 
 -- a port that exists passes a test
@@ -47,22 +51,23 @@ passes test None = false
 passes test (Some p) = test p
 
 -- the port of this number exists and passes a test
-abbrev pub port_is : (PortView → Bool) → List PortView → ℕ → Bool
+abbrev pub port_is : (PortView → Bool) → List PortView → PortNumber → Bool
 port_is test ports k = passes test (slice_get ports k)
 
 -- the port of this number exists and is connected
-abbrev pub is_connected : List PortView → ℕ → Bool
+abbrev pub is_connected : List PortView → PortNumber → Bool
 is_connected ports k = port_is (λ p. p.connected) ports k
 
 -- this port, if any, has this number
-abbrev pub is_port : Option ℕ → ℕ → Bool
+abbrev pub is_port : Option PortNumber → PortNumber → Bool
 is_port None k = false
 is_port (Some p) k = p == k
 
 -- the ports, the one of this number changed
-abbrev pub changed_at : Option PortView → ℕ → (PortView → PortView) → List PortView → List PortView
-changed_at None k change ports = ports
-changed_at (Some p) k change ports = slice_set ports k (change p)
+abbrev pub change_port_at :
+    Option PortView → PortNumber → (PortView → PortView) → List PortView → List PortView
+change_port_at None k change ports = ports
+change_port_at (Some p) k change ports = slice_set ports k (change p)
 
-abbrev pub changed : ℕ → (PortView → PortView) → List PortView → List PortView
-changed k change ports = changed_at (slice_get ports k) k change ports
+abbrev pub change_port : PortNumber → (PortView → PortView) → List PortView → List PortView
+change_port k change ports = change_port_at (slice_get ports k) k change ports

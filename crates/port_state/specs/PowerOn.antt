@@ -9,9 +9,16 @@ use Rattle.port_state.specs.declared.states.NodeState.{NodeState}
 
 -- a port with no cable
 abbrev pub free_port : PortView
-free_port = record { connected = false; shown = level.Idle; child = false; asked = false; named = false }
+free_port = record {
+  connected = false;
+  shown = level.Idle;
+  child = false;
+  asked = false;
+  named = false;
+}
 
--- R0: no port is connected, the list is empty, and the power-on itself counts as a reset of this node's own
+-- R0: no port is connected, the list is empty, and the power-on itself counts as a reset of this
+-- node's own
 abbrev pub power_on : ℕ → Attrs → Bool → Timing → NodeState
 power_on ports attrs force timing = record {
   view = record {

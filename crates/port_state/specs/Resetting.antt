@@ -7,7 +7,7 @@ use Rattle.port_state.specs.declared.signal.Signal.TheVariants as signal
 use Rattle.port_state.specs.declared.states.NodeState.{NodeState}
 use Rattle.port_state.specs.Ports.{every}
 use Rattle.port_state.specs.Sends.{on_every}
-use Rattle.port_state.specs.Step.{Step, quiet}
+use Rattle.port_state.specs.Step.{Step, silent_step}
 use Rattle.port_state.specs.Row as row
 use Rattle.port_state.specs.Row.{Row}
 
@@ -32,4 +32,4 @@ abbrev pub reset_wait_row : NodeState → Row
 reset_wait_row x = if every (λ p. is_calm p.shown) x.view.ports then row.begins_tree else row.none
 
 abbrev pub begins_tree : NodeState → Step
-begins_tree x = quiet (record x { view = record x.view { phase = TreeStart; timer = 0 } })
+begins_tree x = silent_step (record x { view = record x.view { phase = TreeStart; timer = 0 } })

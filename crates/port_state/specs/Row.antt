@@ -1,5 +1,5 @@
 -- The rows of the step table for a tick, with the standard's states from and to which they lead.
-use Rattle.std.specs.Prelude.{ℕ}
+use Rattle.port_state.specs.Ports.{PortNumber}
 
 -- Some name the port that they are about.
 pub data Row : Type 0 where
@@ -14,16 +14,16 @@ pub data Row : Type 0 where
   -- in T0
   times_out : Row
   -- T1 to T2
-  greets_parent : Row
+  awaits_parent : Row
   -- T2 to S0, of a node without and with a parent port
   becomes_root : Row
-  is_accepted : ℕ → Row
+  finds_parent : PortNumber → Row
   -- T2 to T3
-  begins_contention : ℕ → Row
+  begins_contention : PortNumber → Row
   -- T3 to T1 and to T2
-  takes_rival : ℕ → Row
-  asks_again : ℕ → Row
+  takes_rival : PortNumber → Row
+  asks_again : PortNumber → Row
   -- in S0 to S2
-  asks_child : ℕ → Row
+  asks_child : PortNumber → Row
   -- S4 to A0
   names_itself : Row

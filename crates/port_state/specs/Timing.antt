@@ -15,4 +15,13 @@ pub record InRange (d : ℕ) (t : Timing) : Type 0 where
 
 -- the usual times
 abbrev pub usual_timing : ℕ → Timing
-usual_timing d = record { hold = 64 * d; force = 256 * d; timeout = 512 * d; short = 3 * d; long = 8 * d }
+usual_timing d = record {
+  hold = 64 * d;
+  force = 256 * d;
+  timeout = 512 * d;
+  short = 3 * d;
+  long = 8 * d;
+}
+
+abbrev pub UsualTimesFit : Type 0
+UsualTimesFit = (d : ℕ) → InRange d (usual_timing d)

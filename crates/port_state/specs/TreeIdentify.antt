@@ -5,9 +5,9 @@ use Rattle.port_state.specs.declared.signal.Phase.TheVariants.{ChildShake, Paren
 use Rattle.port_state.specs.declared.signal.Signal.TheVariants as signal
 use Rattle.port_state.specs.declared.ports.PortView.{PortView}
 use Rattle.port_state.specs.declared.states.NodeState.{NodeState}
-use Rattle.port_state.specs.Ports.{is_idle, is_parent, is_child, asks, is_left, connected_count, every, lowest, port_is}
+use Rattle.port_state.specs.Ports.{PortNumber, is_idle, is_parent, is_child, asks, is_remaining, connected_count, every, lowest, port_is}
 use Rattle.port_state.specs.Sends.{notices}
-use Rattle.port_state.specs.Step.{Step, quiet}
+use Rattle.port_state.specs.Step.{Step, silent_step}
 use Rattle.port_state.specs.Entry.{with_port}
 use Rattle.port_state.specs.Row as row
 use Rattle.port_state.specs.Row.{Row}
@@ -17,22 +17,23 @@ abbrev pub is_decided : NodeState → Bool
 is_decided x =
     let asking = count_by asks x.view.ports in
     (asking == connected_count x.view.ports)
-    || ((asking + 1 == connected_count x.view.ports) && (not x.view.force || nat_le x.timing.force x.view.timer))
+    || ((asking + 1 == connected_count x.view.ports)
+    && (not x.view.force || nat_le x.timing.force x.view.timer))
 
 -- a port that shows Parent becomes a child port
-abbrev pub adopted : PortView → PortView
-adopted p = if asks p then record p { child = true } else p
+abbrev pub adopt : PortView → PortView
+adopt p = if asks p then record p { child = true } else p
 
--- T0 to T1: the ports that show Parent are the child ports, and the port that is left, if any, is the
--- parent port; each neighbour is told
+-- T0 to T1: the ports that show Parent are the child ports, and the port that is left, if any, is
+-- the parent port; each neighbour is told
 abbrev pub takes_roles : NodeState → Step
 takes_roles x = record {
   state = record x {
     view = record x.view {
       phase = ChildShake;
       timed_out = false;
-      ports = map adopted x.view.ports;
-      parent = lowest is_left x.view.ports;
+      ports = map adopt x.view.ports;
+      parent = lowest is_remaining x.view.ports;
     };
   };
   sends = notices x.view.ports;
@@ -40,7 +41,7 @@ takes_roles x = record {
 
 -- T0: there is a loop
 abbrev pub times_out : NodeState → Step
-times_out x = quiet (record x { view = record x.view { timed_out = true } })
+times_out x = silent_step (record x { view = record x.view { timed_out = true } })
 
 abbrev pub tree_start_row : NodeState → Row
 tree_start_row x =
@@ -49,26 +50,32 @@ tree_start_row x =
 
 -- T1 to T2: every child port shows Idle
 abbrev pub child_shake_row : NodeState → Row
-child_shake_row x = if every (λ p. if p.child then is_idle p.shown else true) x.view.ports then row.greets_parent else row.none
+child_shake_row x =
+    if every (λ p. if p.child then is_idle p.shown else true) x.view.ports then row.awaits_parent
+    else row.none
 
-abbrev pub greets_parent : NodeState → Step
-greets_parent x = quiet (record x { view = record x.view { phase = ParentShake } })
+abbrev pub awaits_parent : NodeState → Step
+awaits_parent x = silent_step (record x { view = record x.view { phase = ParentShake } })
 
 -- T2 to S0: a node with no parent port is the root
 abbrev pub becomes_root : NodeState → Step
-becomes_root x = quiet (record x { view = record x.view { phase = SelfIdent; granted = true } })
+becomes_root x =
+    silent_step (record x { view = record x.view { phase = SelfIdent; granted = true } })
 
 -- T2 to S0: the parent port shows Child
-abbrev pub is_accepted : ℕ → NodeState → Step
-is_accepted parent x = record { state = record x { view = record x.view { phase = SelfIdent } }; sends = (parent, signal.Idle) ∷ [] }
+abbrev pub finds_parent : PortNumber → NodeState → Step
+finds_parent parent x = record {
+  state = record x { view = record x.view { phase = SelfIdent } };
+  sends = (parent, signal.Idle) ∷ [];
+}
 
 -- the draws with one more coin: the first 32 are kept, number j as bit j
 abbrev pub draws_with : Bool → ℕ → ℕ → ℕ
 draws_with coin draws first = if coin && nat_lt draws 32 then bit_or first (2 ^ draws) else first
 
--- T2 to T3: the parent port shows Parent, so both neighbours asked; a coin is drawn, and the wait is
--- long for 1 and short for 0
-abbrev pub begins_contention : Bool → ℕ → NodeState → Step
+-- T2 to T3: the parent port shows Parent, so both neighbours asked; a coin is drawn, and the wait
+-- is long for 1 and short for 0
+abbrev pub begins_contention : Bool → PortNumber → NodeState → Step
 begins_contention coin parent x = record {
   state = record x {
     view = record x.view {
@@ -82,17 +89,18 @@ begins_contention coin parent x = record {
   sends = (parent, signal.Idle) ∷ [];
 }
 
-abbrev pub parent_shake_at : Option ℕ → NodeState → Row
+abbrev pub parent_shake_at : Option PortNumber → NodeState → Row
 parent_shake_at None x = row.becomes_root
 parent_shake_at (Some parent) x =
-    if port_is (λ p. is_child p.shown) x.view.ports parent then row.is_accepted parent
-    else (if port_is (λ p. is_parent p.shown) x.view.ports parent then row.begins_contention parent else row.none)
+    if port_is (λ p. is_child p.shown) x.view.ports parent then row.finds_parent parent
+    else (if port_is (λ p. is_parent p.shown) x.view.ports parent then row.begins_contention parent
+    else row.none)
 
 abbrev pub parent_shake_row : NodeState → Row
 parent_shake_row x = parent_shake_at x.view.parent x
 
 -- T3 to T1: the neighbour asks again, so it becomes a child
-abbrev pub takes_rival : ℕ → NodeState → Step
+abbrev pub takes_rival : PortNumber → NodeState → Step
 takes_rival rival x = record {
   state = record x {
     view = record x.view {
@@ -105,13 +113,17 @@ takes_rival rival x = record {
 }
 
 -- T3 to T2: the neighbour doesn't, so this node asks again
-abbrev pub asks_again : ℕ → NodeState → Step
-asks_again rival x = record { state = record x { view = record x.view { phase = ParentShake } }; sends = (rival, signal.Parent) ∷ [] }
+abbrev pub asks_again : PortNumber → NodeState → Step
+asks_again rival x = record {
+  state = record x { view = record x.view { phase = ParentShake } };
+  sends = (rival, signal.Parent) ∷ [];
+}
 
-abbrev pub contend_at : Option ℕ → NodeState → Row
+abbrev pub contend_at : Option PortNumber → NodeState → Row
 contend_at None x = row.none
 contend_at (Some rival) x =
-    if port_is (λ p. is_parent p.shown) x.view.ports rival then row.takes_rival rival else row.asks_again rival
+    if port_is (λ p. is_parent p.shown) x.view.ports rival then row.takes_rival rival
+    else row.asks_again rival
 
 -- T3: when the wait is over
 abbrev pub contend_row : NodeState → Row

@@ -1,5 +1,6 @@
 //! The port machine of a node: its signals, its record, and the steps that bus reset, tree identify
-//! and self identify allow it (IEEE Std 1394-1995 and 1394a-2000, cable environment, states R0 to A0).
+//! and self identify allow it (IEEE Std 1394-1995 and 1394a-2000, cable environment, states R0 to
+//! A0).
 //!
 //! `specs/` has the step table itself, in `Entry`, `Config`, `Heard` and `Tick` with the rows of
 //! `Resetting`, `TreeIdentify` and `SelfIdentify`. Each machine of the crates above is a
@@ -22,7 +23,7 @@ pub use ports::{PortView, PortViews};
 pub use sends::Sends;
 pub use signal::{Level, Phase, Signal};
 pub use step_laws::{
-    cables_by_number, config_is_valid, given_coins, ports_by_number, power_on_is_valid,
+    cables_by_number, coins_repeat, config_is_valid, ports_by_number, power_on_is_valid,
     sends_by_port, shown_node_has_packets, steps_are_sound, usual_in_range, what_stays,
 };
 pub use timing::Timing;

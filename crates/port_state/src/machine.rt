@@ -4,7 +4,9 @@ ghost use Rattle.std.specs.Option.{ForSome};
 ghost use Rattle.port_state.specs.Ports.{is_connected};
 ghost use Rattle.port_state.specs.Group.{shown_attrs};
 ghost use Rattle.port_state.specs.Valid.{IsValid};
-ghost use Rattle.port_state.specs.Machine.{PortNode, on_signal, tick, disturb, plugged, pulled, set_config};
+ghost use Rattle.port_state.specs.Config.{config_packet};
+ghost use Rattle.port_state.specs.Machine.{PortNode, node_on_signal, node_tick, node_disturb};
+ghost use Rattle.port_state.specs.Machine.{node_plugged, node_pulled, node_set_config};
 
 use crate::sends::Sends;
 use crate::signal::Signal;
@@ -16,8 +18,8 @@ use self_id::Attrs;
 /// (IEEE Std 1394-1995 and 1394a-2000, cable environment, states R0 to A0).
 ///
 /// What a machine keeps stands for the record of a node with its coins, and each call does that
-/// call's step of the step table to it. `out` is empty at each call, and then has what was sent, the
-/// first signal first.
+/// call's step of the step table to it. `out` is empty at each call, and then has what was sent,
+/// the first signal first.
 pub trait PortMachine {
     ghost record_of: { Self → PortNode };
 
@@ -25,43 +27,44 @@ pub trait PortMachine {
     fn on_signal(&mut self, port: u8, signal: Signal, out: &mut Sends)
         requires empty { out.old ≡ [] }
         requires exists { port < (record_of self.old).state.ports }
-        ensures node { record_of self.new ≡ (on_signal port signal (record_of self.old)).node }
-        ensures sends { out.new ≡ (on_signal port signal (record_of self.old)).sends };
+        ensures node { record_of self.new ≡ (node_on_signal port signal (record_of self.old)).node }
+        ensures sends { out.new ≡ (node_on_signal port signal (record_of self.old)).sends };
 
     /// A tick of the clock passes.
     fn tick(&mut self, out: &mut Sends)
         requires empty { out.old ≡ [] }
-        ensures node { record_of self.new ≡ (tick (record_of self.old)).node }
-        ensures sends { out.new ≡ (tick (record_of self.old)).sends };
+        ensures node { record_of self.new ≡ (node_tick (record_of self.old)).node }
+        ensures sends { out.new ≡ (node_tick (record_of self.old)).sends };
 
     /// The node resets the bus.
     fn disturb(&mut self, out: &mut Sends)
         requires empty { out.old ≡ [] }
-        ensures node { record_of self.new ≡ (disturb (record_of self.old)).node }
-        ensures sends { out.new ≡ (disturb (record_of self.old)).sends };
+        ensures node { record_of self.new ≡ (node_disturb (record_of self.old)).node }
+        ensures sends { out.new ≡ (node_disturb (record_of self.old)).sends };
 
     /// A cable is plugged into a port, numbered from 0, that has none.
     fn plugged(&mut self, port: u8, out: &mut Sends)
         requires empty { out.old ≡ [] }
         requires exists { port < (record_of self.old).state.ports }
         requires free { IsFalse (is_connected (record_of self.old).state.view.ports port) }
-        ensures node { record_of self.new ≡ (plugged port (record_of self.old)).node }
-        ensures sends { out.new ≡ (plugged port (record_of self.old)).sends };
+        ensures node { record_of self.new ≡ (node_plugged port (record_of self.old)).node }
+        ensures sends { out.new ≡ (node_plugged port (record_of self.old)).sends };
 
     /// The cable is pulled from a port, numbered from 0, that has one.
     fn pulled(&mut self, port: u8, out: &mut Sends)
         requires empty { out.old ≡ [] }
         requires connected { IsTrue (is_connected (record_of self.old).state.view.ports port) }
-        ensures node { record_of self.new ≡ (pulled port (record_of self.old)).node }
-        ensures sends { out.new ≡ (pulled port (record_of self.old)).sends };
+        ensures node { record_of self.new ≡ (node_pulled port (record_of self.old)).node }
+        ensures sends { out.new ≡ (node_pulled port (record_of self.old)).sends };
 
-    /// The node hears a PHY configuration packet, which takes effect at the next reset. With `force`
-    /// (R) it is then to be root if its ID is `root_id`, 0 to 63, and else not. With a gap count (T),
-    /// 0 to 63, that is then its own.
+    /// The node hears a PHY configuration packet, which takes effect at the next reset. With
+    /// `force` (R) it is then to be root if its ID is `root_id`, 0 to 63, and else not. With a gap
+    /// count (T), 0 to 63, that is then its own.
     fn set_config(&mut self, root_id: u8, force: bool, gap: Option<u8>)
         requires root { root_id ≤ 63 }
         requires gap { ForSome gap (λ g. g ≤ 63) }
-        ensures { record_of self.new ≡ set_config root_id force gap (record_of self.old) };
+        ensures { record_of self.new
+            ≡ node_set_config (config_packet root_id force gap) (record_of self.old) };
 
     /// What the node shows of its state.
     fn view(&self) -> View

@@ -7,10 +7,14 @@ use crate::signal::Signal;
 use arrayvec::ArrayVec;
 use std::marker::Model;
 
+/// How many signals a step sends at most: seven on each of sixteen ports. No step needs as many,
+/// since the most is three packets on every port, and Done.
+pub const SENDS_LIMIT: usize = 112;
+
 /// Signals with the ports on which they are sent, first to last, at most 112.
 #[derive(Debug, Drop)]
 pub struct Sends {
-    items: ArrayVec<(u8, Signal), 112>,
+    items: ArrayVec<(u8, Signal), SENDS_LIMIT>,
 }
 
 impl Model for Sends {

@@ -50,7 +50,7 @@ pub enum Phase {
     ParentShake,
     /// Two neighbours asked each other, and each waits a while (T3: Root contention).
     Contend,
-    /// The nodes identify themselves one after the other (S0 to S4: Self-ID).
+    /// The nodes identify themselves one after the other (S0, S1, S2 and S4: Self-ID).
     SelfIdent,
     /// This node has its ID (A0: Idle).
     Ready,

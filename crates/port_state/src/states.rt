@@ -5,6 +5,10 @@ use crate::view::View;
 use arrayvec::ArrayVec;
 use self_id::Attrs;
 
+/// How many quadlets a list has at most: four for each of 63 nodes. No bus fills it, since a node
+/// sends three self-ID packets at most.
+pub const LIST_LIMIT: usize = 252;
+
 /// The record of a node.
 #[derive(Debug, Drop)]
 pub struct NodeState {
@@ -12,7 +16,7 @@ pub struct NodeState {
     pub view: View,
     /// The first quadlets of the self-ID packets that were heard or sent since the last reset, the
     /// first of them first.
-    pub list: ArrayVec<u32, 252>,
+    pub list: ArrayVec<u32, LIST_LIMIT>,
     /// The attributes that the node was made with, of which the delay is 0. The gap count and the
     /// initiated bit that it shows are those of the view.
     pub attrs: Attrs,

@@ -1,4 +1,4 @@
-use Rattle.cable_world.proofs.Kept.{act-keeps}
+use Rattle.cable_world.proofs.tables.CountsInActs.{act-keeps}
 use Rattle.cable_world.proofs.laws.acts_keep.Goals as goal
 
 pub returns-clause-nodes : goal.returns-clause-nodes

@@ -1,6 +1,6 @@
 use Rattle.cable_world.proofs.StaysLawful.{reached-lawful}
-use Rattle.cable_world.proofs.Entries.{steady}
-use Rattle.cable_world.proofs.ResetsEnd.{counts-stand}
+use Rattle.cable_world.proofs.resets.Entries.{steady}
+use Rattle.cable_world.proofs.resets.ResetsEnd.{counts-stand}
 use Rattle.cable_world.proofs.laws.resets_end.Goals as goal
 
 pub returns-clause-entered : goal.returns-clause-entered

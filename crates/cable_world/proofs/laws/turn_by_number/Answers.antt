@@ -1,4 +1,4 @@
-use Rattle.cable_world.proofs.ByNumber.{node-after, wire-after}
+use Rattle.cable_world.proofs.turns.ByNumber.{node-after, wire-after}
 use Rattle.cable_world.proofs.laws.turn_by_number.Goals as goal
 
 pub returns-clause-node : goal.returns-clause-node

@@ -1,4 +1,4 @@
-use Rattle.cable_world.proofs.ByNumber.{cabling-after, delay-after, turns-counted, nodes-after}
+use Rattle.cable_world.proofs.turns.ByNumber.{cabling-after, delay-after, turns-counted, nodes-after}
 use Rattle.cable_world.proofs.laws.turn_keeps.Goals as goal
 
 pub returns-clause-cables : goal.returns-clause-cables

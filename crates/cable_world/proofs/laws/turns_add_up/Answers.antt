@@ -1,4 +1,4 @@
-use Rattle.cable_world.proofs.ByNumber.{no-turns, one-more}
+use Rattle.cable_world.proofs.turns.ByNumber.{no-turns, one-more}
 use Rattle.cable_world.proofs.laws.turns_add_up.Goals as goal
 
 pub returns-clause-none : goal.returns-clause-none

@@ -1,0 +1,3 @@
+pub mod ResettingSteps
+pub mod Cabled
+pub mod Happenings

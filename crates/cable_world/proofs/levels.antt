@@ -1,0 +1,3 @@
+pub mod LastSent
+pub mod LastHeard
+pub mod LevelsInActs

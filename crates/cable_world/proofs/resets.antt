@@ -1,0 +1,3 @@
+pub mod ResetCounts
+pub mod Entries
+pub mod ResetsEnd

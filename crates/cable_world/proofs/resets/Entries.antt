@@ -1,0 +1,424 @@
+-- In turns without acts resets die out: after n * d turns no node enters R0, where there are n nodes, and
+-- cables delay by at most d turns. A node enters R0 because a neighbour did, at most d turns before. So the
+-- nodes that entered in the last turns form a chain, and there are no more of them than nodes.
+use Rattle.std.proofs.Common.{◌≡◌, inl, inr, ℕ, zero, suc, ◌+◌, ◌-◌, ◌*◌, ◌<◌, ◌≤◌, Bool, true, false, ◌&&◌, cond, List, [], ◌∷◌, length, count_by, min, nat_le, Option, Some, None, is_some, slice_get, refl, sym, ◌∙◌, ap, subst, arith, if◌then◌else◌, le_refl, add-one}
+use Rattle.std.proofs.Math.Nat.{mul-le-mul_left}
+use Rattle.std.proofs.lemmas.Bool.{leb-false, cases_lt}
+use Rattle.std.proofs.lemmas.Bool.Decides.{nat_tests}
+use Rattle.std.proofs.lemmas.Option.{slice_get_within}
+use Rattle.std.proofs.lemmas.List.Sums.{sum_by-cons, count_by-le-length}
+use Rattle.port_state.specs.declared.signal.Phase.{Phase}
+use Rattle.port_state.specs.declared.signal.Phase.TheVariants.{ResetStart}
+use Rattle.port_state.specs.declared.signal.Signal.{Signal}
+use Rattle.port_state.specs.declared.states.NodeState.{NodeState}
+use Rattle.port_state.specs.declared.timing.Timing.{Timing}
+use Rattle.port_state.specs.Coins.{coin}
+use Rattle.port_state.specs.Ports.{is_connected}
+use Rattle.port_state.specs.Sends.{sent_on}
+use Rattle.port_state.specs.Heard.{is_resetting}
+use Rattle.port_state.specs.Row as row
+use Rattle.port_state.specs.Tick.{raise_timer, row_of, does, tick}
+use Rattle.port_state.specs.Machine.{PortNode}
+use Rattle.cabling.specs.declared.cable.End.{End}
+use Rattle.cabling.specs.Wiring.{far, ports_of}
+use Rattle.cable_world.specs.Wire.{age_wire, gives}
+use Rattle.cable_world.specs.World.{CableWorld, wire_of}
+use Rattle.cable_world.specs.Turn.{inbox, turn_at, turn, turns_after}
+use Rattle.cable_world.specs.Signals.{signals_of, has_reset}
+use Rattle.cable_world.specs.Phases.{slack}
+use Rattle.cable_world.specs.Coupling.{Coupling}
+use Rattle.cable_world.specs.Lawful.{IsLawful}
+use Rattle.cable_world.proofs.Options.{some-same}
+use Rattle.cable_world.proofs.turns.ByNumber.{node-after, nodes-after, delay-after, no-turns, one-more}
+use Rattle.cable_world.specs.Turn.{hear_all}
+use Rattle.cable_world.proofs.turns.NodeFacts.{NoEntry, EntersReset, HearsWell, TicksWell}
+use Rattle.cable_world.proofs.turns.HearsWell.{hear-came}
+use Rattle.cable_world.proofs.coupling.Streams.{not-both, reset-age}
+use Rattle.cable_world.proofs.coupling.Sides.{start-timed, start-slack}
+use Rattle.cable_world.proofs.turns.TurnParts.{turn-state, comes}
+use Rattle.cable_world.proofs.tables.CableEnds.{CableEnd, cable-end}
+use Rattle.cable_world.proofs.coupling.CouplingInTurns.{before, hears, ticks}
+use Rattle.cable_world.proofs.StaysLawful.{turns-lawful}
+
+-- ---- counting
+
+count-first : {X : Type 0} → (f : X → Bool) (x : X) (xs : List X) → count_by f (x ∷ xs) ≡ cond (f x) 1 0 + count_by f xs
+count-first f x xs = sum_by-cons (λ z. cond (f z) 1 0) x xs
+
+module _ {X : Type 0} (f g : X → Bool) where
+  -- whatever passes the first test in the first list passes the second in its place in the second list
+  abbrev Follows : List X → List X → Type 0
+  Follows xs ys = (k : ℕ) (x y : X) → slice_get xs k ≡ Some x → slice_get ys k ≡ Some y → f x ≡ true → g y ≡ true
+
+  one-le : (b c : Bool) → (b ≡ true → c ≡ true) → cond b 1 0 ≤ cond c 1 0
+  one-le b c h = grind arith
+
+  one-less : (b c : Bool) → b ≡ false → c ≡ true → cond b 1 0 + 1 ≤ cond c 1 0
+  one-less b c h g = grind arith
+
+  -- then no more pass in the first
+  count-le : (xs ys : List X) → length xs ≡ length ys → Follows xs ys → count_by f xs ≤ count_by g ys
+  count-le [] ys e h = omega arith
+  count-le (x ∷ xs) [] e h = absurd (omega (arith, e))
+  count-le (x ∷ xs) (y ∷ ys) e h =
+      omega (arith, count-first f x xs, count-first g y ys, one-le (f x) (g y) (h 0 x y refl refl), count-le xs ys (omega (arith, e)) (λ k. h (suc k)))
+
+  -- and fewer, where at one place the second alone passes
+  count-less : (xs ys : List X) (j : ℕ) (u v : X) → length xs ≡ length ys → Follows xs ys → slice_get xs j ≡ Some u → slice_get ys j ≡ Some v → f u ≡ false → g v ≡ true → count_by f xs + 1 ≤ count_by g ys
+  count-less [] ys j u v e h at_u at_v fails passes = absurd cc
+  count-less (x ∷ xs) [] j u v e h at_u at_v fails passes = absurd (omega (arith, e))
+  count-less (x ∷ xs) (y ∷ ys) zero u v e h at_u at_v fails passes =
+      let first : f x ≡ false = ap f (some-same x u at_u) ∙ fails in
+      let second : g y ≡ true = ap g (some-same y v at_v) ∙ passes in
+      omega (arith, count-first f x xs, count-first g y ys, one-less (f x) (g y) first second, count-le xs ys (omega (arith, e)) (λ k. h (suc k)))
+  count-less (x ∷ xs) (y ∷ ys) (suc j) u v e h at_u at_v fails passes =
+      omega (arith, count-first f x xs, count-first g y ys, one-le (f x) (g y) (h 0 x y refl refl), count-less xs ys j u v (omega (arith, e)) (λ k. h (suc k)) at_u at_v fails passes)
+
+-- ---- a node in R0 in a turn
+
+-- a node that a tick leaves in R0 has some of its hold left
+pub hold-left : (c : Bool) (x : NodeState) → is_resetting x.view.phase ≡ true → x.timing.hold ≤ 65535 → is_resetting (tick c x).state.view.phase ≡ true → x.view.timer + 1 < x.timing.hold
+unfolding tick
+hold-left c x r most h = risen x.timing.hold x.view.timer most (left x.view.phase (raise_timer x) r h)
+  where
+    risen : (hold t : ℕ) → hold ≤ 65535 → min (t + 1) 65535 < hold → t + 1 < hold
+    risen hold t most l = grind arith
+
+    left : (p : Phase) (x : NodeState) → is_resetting p ≡ true → is_resetting (does c (row_of p x) x).state.view.phase ≡ true → x.view.timer < x.timing.hold
+    left ResetStart x r h = go (nat_le x.timing.hold x.view.timer) refl h
+      where
+        go : (b : Bool) → nat_le x.timing.hold x.view.timer ≡ b → is_resetting (does c (if b then row.ends_reset else row.none) x).state.view.phase ≡ true → x.view.timer < x.timing.hold
+        go true e h = absurd cc
+        go false e h = leb-false x.timing.hold x.view.timer e
+    left p x r h = absurd cc
+
+-- a node in R0 that entered at most d turns ago
+pub record Recent (w : CableWorld) : Type 0 where
+  pub number : ℕ
+  pub node : PortNode
+  pub at : slice_get w.nodes number ≡ Some node
+  pub resets : is_resetting node.state.view.phase ≡ true
+  pub recent : node.state.view.timer ≤ w.delay
+
+-- what a turn does to a node, as to R0
+pub record InTurn (w : CableWorld) (x y : NodeState) : Type 0 where
+  -- it stays there until its hold is over
+  pub stays : is_resetting x.view.phase ≡ true → x.view.timer + 1 < 64 * w.delay → is_resetting y.view.phase ≡ true
+  -- meanwhile the timer rises
+  pub rises : is_resetting x.view.phase ≡ true → is_resetting y.view.phase ≡ true → y.view.timer ≡ x.view.timer + 1
+  -- it enters because another entered
+  pub enters : is_resetting x.view.phase ≡ false → is_resetting y.view.phase ≡ true → y.view.timer ≡ 1
+  pub cause : is_resetting x.view.phase ≡ false → is_resetting y.view.phase ≡ true → Recent w
+
+-- a Reset that is under way to a node comes from one that entered R0 lately
+sender : (w : CableWorld) → IsLawful w → (a b : End) (y : PortNode) → far w.cabling a ≡ Some b → slice_get w.nodes b.node ≡ Some y → has_reset (signals_of (wire_of w a).signals) ≡ true → Recent w
+sender w l a b y e at r =
+    let f = l.well_formed in
+    let near : CableEnd w a = cable-end w a b f e in
+    let c : Coupling w.delay near.node.state a.port (wire_of w a).signals y.state b.port (wire_of w b).signals = l.coupled.cables a b near.node y e near.node_at at in
+    let in_start : is_resetting near.node.state.view.phase ≡ true = c.reset r in
+    let young : near.node.state.view.timer - slack near.node.state.view.phase ≤ w.delay - 1
+    = reset-age (w.delay - 1) (near.node.state.view.timer - slack near.node.state.view.phase) (wire_of w a).signals r (c.timed (start-timed near.node.state.view.phase in_start)) (f.ages a) in
+    record {
+      number = a.node;
+      node = near.node;
+      at = near.node_at;
+      resets = in_start;
+      recent = omega (arith, young, start-slack near.node.state.view.phase in_start, f.some_delay);
+    }
+
+-- a Reset that comes to a port of a node
+pub comes-from : (w : CableWorld) → IsLawful w → (k : ℕ) (x : PortNode) → slice_get w.nodes k ≡ Some x → (p : ℕ) → is_connected x.state.view.ports p ≡ true → has_reset (sent_on p (inbox w 0 (ports_of w.cabling k))) ≡ true → Recent w
+comes-from w l k x at p on r = go (far w.cabling here) refl
+  where
+    here : End
+    here = record { node = k; port = p }
+
+    under-way : (b : Bool) (ss : List Signal) → has_reset (if b then ss else []) ≡ true → has_reset ss ≡ true
+    under-way true ss e = e
+    under-way false ss e = absurd cc
+
+    go : (o : Option End) → far w.cabling here ≡ o → Recent w
+    go None e = absurd (not-both (is_connected x.state.view.ports p) on ((l.well_formed.nodes k x at).connected p ∙ ap is_some e))
+    go (Some a) e =
+        sender w l a here x (l.well_formed.cabling.both_ways here a e) at
+        (under-way (gives w.delay (age_wire (wire_of w a))) (signals_of (wire_of w a).signals) (sym (ap has_reset (comes w a here e)) ∙ r))
+
+module _ (w : CableWorld) (l : IsLawful w) (k : ℕ) (x : PortNode) (at : slice_get w.nodes k ≡ Some x) where
+  abbrev signals : List (ℕ × Signal)
+  signals = inbox w 0 (ports_of w.cabling k)
+
+  abbrev heard : NodeState
+  heard = (hear_all signals x.state).state
+
+  abbrev ticked : NodeState
+  ticked = (tick (coin x.coins) heard).state
+
+  heard-well : HearsWell signals x.state
+  heard-well = hears w k x l.well_formed at
+
+  ticked-well : TicksWell (coin x.coins) heard
+  ticked-well = ticks w k x l.well_formed at
+
+  hold-least : 64 * w.delay ≤ heard.timing.hold
+  hold-least = rw heard-well.timing (l.well_formed.nodes k x at).timing.hold_least
+
+  hold-most : heard.timing.hold ≤ 65535
+  hold-most = omega (arith, ap (λ (t : Timing). t.hold) heard-well.timing, (l.well_formed.nodes k x at).timing.hold_most, l.well_formed.short_delay)
+
+  some_delay : 1 ≤ w.delay
+  some_delay = l.well_formed.some_delay
+
+  -- a node in R0 hears nothing that changes phase or timer
+  heard-there : is_resetting x.state.view.phase ≡ true → NoEntry x.state (hear_all signals x.state)
+  heard-there r = elim heard-well.cases [ inl h ↦ h | inr c ↦ absurd (not-both (is_resetting x.state.view.phase) r c.before) ]
+
+  -- a node that enters heard a Reset
+  came-there : is_resetting x.state.view.phase ≡ false → is_resetting ticked.view.phase ≡ true → EntersReset x.state (hear_all signals x.state)
+  came-there out in_start = elim heard-well.cases [
+    | inl h ↦ absurd (not-both (is_resetting ticked.view.phase) in_start (ticked-well.out (ap is_resetting h.phase ∙ out)))
+    | inr c ↦ c
+  ]
+
+  ticked-turn : InTurn w x.state ticked
+  ticked-turn = record {
+    stays = λ r t.
+        let h = heard-there r in
+        (ticked-well.holds (ap is_resetting h.phase ∙ r) (omega (arith, h.timer, t, hold-least)) hold-most).0;
+    rises = λ r s.
+        let h = heard-there r in
+        let there : is_resetting heard.view.phase ≡ true = ap is_resetting h.phase ∙ r in
+        let rose = ticked-well.holds there (hold-left (coin x.coins) heard there hold-most s) hold-most in
+        omega (arith, rose.1, h.timer);
+    enters = λ r s.
+        let c = came-there r s in
+        let rose = ticked-well.holds (ap is_resetting c.phase) (omega (arith, c.timer, hold-least, some_delay)) hold-most in
+        omega (arith, rose.1, c.timer);
+    cause = λ r s.
+        let c = came-there r s in
+        let port = hear-came signals x.state r (ap is_resetting c.phase) in
+        comes-from w l k x at port.0 port.1 port.2;
+  }
+
+  turned : InTurn w x.state (turn_at w k x).node.state
+  turned = subst (InTurn w x.state) (sym (turn-state signals x)) ticked-turn
+
+-- a node before a turn and after it
+pub in-turn : (w : CableWorld) → IsLawful w → (k : ℕ) (x y : PortNode) → slice_get w.nodes k ≡ Some x → slice_get (turn w).nodes k ≡ Some y → InTurn w x.state y.state
+in-turn w l k x y at_x at_y =
+    subst (λ (z : PortNode). InTurn w x.state z.state) (some-same (turn_at w k x).node y (sym (node-after w k x l.well_formed.count at_x) ∙ at_y)) (turned w l k x at_x)
+
+-- ---- chains
+
+-- in R0, with a timer in this range
+abbrev is_entry : ℕ → ℕ → PortNode → Bool
+is_entry least most x = is_resetting x.state.view.phase && (nat_le least x.state.view.timer && nat_le x.state.view.timer most)
+
+abbrev entries : ℕ → ℕ → CableWorld → ℕ
+entries least most w = count_by (is_entry least most) w.nodes
+
+-- After k turns each node in R0 is at the end of a chain of entries: one came at least every d turns, since the
+-- first of these turns.
+abbrev Chained : CableWorld → ℕ → Type 0
+Chained w k = (j : ℕ) (x : PortNode) → slice_get w.nodes j ≡ Some x → is_resetting x.state.view.phase ≡ true → k + 1 ≤ x.state.view.timer + w.delay * entries x.state.view.timer k w
+
+-- no node enters R0 in the next turn
+abbrev Steady : CableWorld → Type 0
+Steady w = (j : ℕ) (x y : PortNode) → slice_get w.nodes j ≡ Some x → slice_get (turn w).nodes j ≡ Some y → is_resetting x.state.view.phase ≡ false → is_resetting y.state.view.phase ≡ false
+
+entry-of : (least most : ℕ) (x : PortNode) → is_resetting x.state.view.phase ≡ true → least ≤ x.state.view.timer → x.state.view.timer ≤ most → is_entry least most x ≡ true
+entry-of least most x r low high = go (is_resetting x.state.view.phase) x.state.view.timer r low high
+  where
+    go : (b : Bool) (t : ℕ) → b ≡ true → least ≤ t → t ≤ most → (b && (nat_le least t && nat_le t most)) ≡ true
+    go b t r low high = grind (arith, nat_tests)
+
+entry-parts : (least most : ℕ) (x : PortNode) → is_entry least most x ≡ true → (is_resetting x.state.view.phase ≡ true) × (least ≤ x.state.view.timer) × (x.state.view.timer ≤ most)
+entry-parts least most x e = go (is_resetting x.state.view.phase) x.state.view.timer e
+  where
+    go : (b : Bool) (t : ℕ) → (b && (nat_le least t && nat_le t most)) ≡ true → (b ≡ true) × (least ≤ t) × (t ≤ most)
+    go b t e = grind (arith, nat_tests)
+
+-- a node elsewhere is no entry
+elsewhere : (least most : ℕ) (x : PortNode) → is_resetting x.state.view.phase ≡ false → is_entry least most x ≡ false
+elsewhere least most x out = rw out refl
+
+module _ (w : CableWorld) (l : IsLawful w) where
+  same-length : length w.nodes ≡ length (turn w).nodes
+  same-length = sym (nodes-after w l.well_formed.count)
+
+  -- an entry stays one
+  entry-stays : (least from most : ℕ) → from ≤ least + 1 → most + 1 < 64 * w.delay → (j : ℕ) (x y : PortNode) → slice_get w.nodes j ≡ Some x → slice_get (turn w).nodes j ≡ Some y → is_entry least most x ≡ true → is_entry from (most + 1) y ≡ true
+  entry-stays least from most low high j x y at_x at_y e =
+      let t = in-turn w l j x y at_x at_y in
+      let parts = entry-parts least most x e in
+      let there : is_resetting y.state.view.phase ≡ true = t.stays parts.0 (omega (arith, parts.2, high)) in
+      entry-of from (most + 1) y there (omega (arith, t.rises parts.0 there, parts.1, low)) (omega (arith, t.rises parts.0 there, parts.2))
+
+  -- a chain grows by the node that enters
+  chain-enters : (k : ℕ) → k + 1 < 64 * w.delay → Chained w k → (j : ℕ) (x y : PortNode) → slice_get w.nodes j ≡ Some x → slice_get (turn w).nodes j ≡ Some y →
+      is_resetting x.state.view.phase ≡ false → is_resetting y.state.view.phase ≡ true → k + 1 + 1 ≤ y.state.view.timer + w.delay * entries y.state.view.timer (k + 1) (turn w)
+  chain-enters k high c j x y at_x at_y out there =
+      let t = in-turn w l j x y at_x at_y in
+      let one : y.state.view.timer ≡ 1 = t.enters out there in
+      let u = t.cause out there in
+      let s : ℕ = u.node.state.view.timer in
+      let more : entries s k w + 1 ≤ entries y.state.view.timer (k + 1) (turn w)
+      = count-less (is_entry s k) (is_entry y.state.view.timer (k + 1)) w.nodes (turn w).nodes j x y same-length
+      (entry-stays s y.state.view.timer k (omega (arith, one)) high) at_x at_y (elsewhere s k x out)
+      (entry-of y.state.view.timer (k + 1) y there (le_refl y.state.view.timer) (omega (arith, one))) in
+      omega (arith, one, u.recent, c u.number u.node u.at u.resets, mul-le-mul_left w.delay more)
+
+  -- and keeps its length otherwise
+  chain-stays : (k : ℕ) → k + 1 < 64 * w.delay → Chained w k → (j : ℕ) (x y : PortNode) → slice_get w.nodes j ≡ Some x → slice_get (turn w).nodes j ≡ Some y →
+      is_resetting x.state.view.phase ≡ true → is_resetting y.state.view.phase ≡ true → k + 1 + 1 ≤ y.state.view.timer + w.delay * entries y.state.view.timer (k + 1) (turn w)
+  chain-stays k high c j x y at_x at_y was there =
+      let t = in-turn w l j x y at_x at_y in
+      let rose : y.state.view.timer ≡ x.state.view.timer + 1 = t.rises was there in
+      let s : ℕ = x.state.view.timer in
+      let same : entries s k w ≤ entries y.state.view.timer (k + 1) (turn w)
+      = count-le (is_entry s k) (is_entry y.state.view.timer (k + 1)) w.nodes (turn w).nodes same-length (entry-stays s y.state.view.timer k (omega (arith, rose)) high) in
+      omega (arith, rose, c j x at_x was, mul-le-mul_left w.delay same)
+
+  turn-chained : (k : ℕ) → k + 1 < 64 * w.delay → Chained w k → Chained (turn w) (k + 1)
+  turn-chained k high c j y at_y there =
+      let x = before w j y l.well_formed at_y in
+      subst (λ d. k + 1 + 1 ≤ y.state.view.timer + d * entries y.state.view.timer (k + 1) (turn w)) (sym (delay-after w))
+      (go x.0 x.1 (is_resetting x.0.state.view.phase) refl)
+    where
+      go : (x : PortNode) → slice_get w.nodes j ≡ Some x → (b : Bool) → is_resetting x.state.view.phase ≡ b → k + 1 + 1 ≤ y.state.view.timer + w.delay * entries y.state.view.timer (k + 1) (turn w)
+      go x at_x true e = chain-stays k high c j x y at_x at_y e there
+      go x at_x false e = chain-enters k high c j x y at_x at_y e there
+
+  -- a chain is no longer than there are nodes, and a node outside R0 isn't in it
+  chained-steady : (k : ℕ) → length w.nodes * w.delay ≤ k → Chained w k → Steady w
+  chained-steady k late c j x y at_x at_y out = go (is_resetting y.state.view.phase) refl
+    where
+      go : (b : Bool) → is_resetting y.state.view.phase ≡ b → b ≡ false
+      go false e = refl
+      go true e =
+          let u = (in-turn w l j x y at_x at_y).cause out e in
+          let s : ℕ = u.node.state.view.timer in
+          let fewer : entries s k w + 1 ≤ count_by (λ (z : PortNode). true) w.nodes
+          = count-less (is_entry s k) (λ z. true) w.nodes w.nodes j x x refl (λ i v z at_v at_z e. refl) at_x at_x (elsewhere s k x out) refl in
+          let most : entries s k w + 1 ≤ length w.nodes = omega (arith, fewer, count_by-le-length (λ (z : PortNode). true) w.nodes) in
+          absurd (omega (arith, u.recent, c u.number u.node u.at u.resets, mul-le-mul_left w.delay most, late))
+
+-- ---- timers
+
+-- each node in R0 has been there for so long
+abbrev Old : ℕ → CableWorld → Type 0
+Old least w = (j : ℕ) (x : PortNode) → slice_get w.nodes j ≡ Some x → is_resetting x.state.view.phase ≡ true → least ≤ x.state.view.timer
+
+module _ (w : CableWorld) (l : IsLawful w) where
+  turn-old : (least : ℕ) → (1 ≤ least → Steady w) → Old least w → Old (least + 1) (turn w)
+  turn-old least steady old j y at_y there =
+      let x = before w j y l.well_formed at_y in
+      go x.0 x.1 (is_resetting x.0.state.view.phase) refl
+    where
+      go : (x : PortNode) → slice_get w.nodes j ≡ Some x → (b : Bool) → is_resetting x.state.view.phase ≡ b → least + 1 ≤ y.state.view.timer
+      go x at_x true e = omega (arith, (in-turn w l j x y at_x at_y).rises e there, old j x at_x e)
+      go x at_x false e = first least refl
+        where
+          first : (n : ℕ) → least ≡ n → least + 1 ≤ y.state.view.timer
+          first zero z = omega (arith, z, (in-turn w l j x y at_x at_y).enters e there)
+          first (suc n) z = absurd (not-both (is_resetting y.state.view.phase) there (steady (omega (arith, z)) j x y at_x at_y e))
+
+  -- a node enters because of one that hasn't been in R0 for long
+  old-steady : (least : ℕ) → w.delay < least → Old least w → Steady w
+  old-steady least late old j x y at_x at_y out = go (is_resetting y.state.view.phase) refl
+    where
+      go : (b : Bool) → is_resetting y.state.view.phase ≡ b → b ≡ false
+      go false e = refl
+      go true e =
+          let u = (in-turn w l j x y at_x at_y).cause out e in
+          absurd (omega (arith, u.recent, late, old u.number u.node u.at u.resets))
+
+-- ---- turns without acts
+
+module _ (w : CableWorld) (l : IsLawful w) where
+  abbrev later : ℕ → CableWorld
+  later k = turns_after k w
+
+  pub after-delay : (k : ℕ) → (later k).delay ≡ w.delay
+  after-delay zero = ap (λ (v : CableWorld). v.delay) (no-turns w)
+  after-delay (suc k) = rw (← add-one, one-more k w) (delay-after (later k) ∙ after-delay k)
+
+  pub after-length : (k : ℕ) → length (later k).nodes ≡ length w.nodes
+  after-length zero = ap (λ (v : CableWorld). length v.nodes) (no-turns w)
+  after-length (suc k) = rw (← add-one, one-more k w) (nodes-after (later k) (turns-lawful k w l).well_formed.count ∙ after-length k)
+
+  -- a node in R0 at the start is an entry itself
+  start-chained : Chained w 0
+  start-chained j x at r =
+      let t : ℕ = x.state.view.timer in
+      cases t (λ z. count-less (λ y. false) (is_entry t 0) w.nodes w.nodes j x x refl (λ i y u at_y at_u e. absurd cc) at at refl (entry-of t 0 x r (le_refl t) (omega (arith, z))))
+    where
+      cases : (t : ℕ) → (t ≡ 0 → count_by (λ (y : PortNode). false) w.nodes + 1 ≤ entries t 0 w) → 0 + 1 ≤ t + w.delay * entries t 0 w
+      cases zero h = omega (arith, mul-le-mul_left w.delay (h refl), l.well_formed.some_delay)
+      cases (suc t) h = omega arith
+
+  after-chained : (k : ℕ) → k < 64 * w.delay → Chained (later k) k
+  after-chained zero high = subst (λ v. Chained v 0) (sym (no-turns w)) start-chained
+  after-chained (suc k) high =
+      let chained : Chained (turn (later k)) (k + 1) = turn-chained (later k) (turns-lawful k w l) k (omega (arith, ap (λ d. 64 * d) (after-delay k), high)) (after-chained k (omega (arith, high))) in
+      subst (λ n. Chained (later n) n) (add-one k) (subst (λ v. Chained v (k + 1)) (sym (one-more k w)) chained)
+
+  few : length w.nodes ≤ 63
+  few = omega (arith, l.well_formed.count, l.well_formed.cabling.few_nodes)
+
+  abbrev enough : ℕ
+  enough = length w.nodes * w.delay
+
+  early-steady : (k : ℕ) → enough ≤ k → k < enough + w.delay → Steady (later k)
+  early-steady k late soon =
+      chained-steady (later k) (turns-lawful k w l) k (rw (after-length k, after-delay k) late) (after-chained k (room (length w.nodes) w.delay few soon))
+    where
+      room : (n d : ℕ) → n ≤ 63 → k < n * d + d → k < 64 * d
+      room n d f h = let m : (n + 1) * d ≤ 64 * d = grind arith in omega (arith, m, h)
+
+  next-old : (k least : ℕ) → (1 ≤ least → Steady (later k)) → Old least (later k) → Old (least + 1) (later (k + 1))
+  next-old k least calm old = subst (Old (least + 1)) (sym (one-more k w)) (turn-old (later k) (turns-lawful k w l) least calm old)
+
+  -- whoever is in R0 after a turn has been there for one
+  first-old : (k : ℕ) → 1 ≤ k → Old 1 (later k)
+  first-old zero h = absurd (omega (arith, h))
+  first-old (suc k) h = subst (λ n. Old 1 (later n)) (add-one k) (next-old k 0 (λ o. absurd (omega (arith, o))) (λ j x at r. omega arith))
+
+  -- from then on timers rise, until no node in R0 is young
+  abbrev Aged : ℕ → Type 0
+  Aged i = (least : ℕ) → least ≤ i + 1 → least ≤ w.delay + 1 → Old least (later (enough + i))
+
+  aged-steady : (i : ℕ) → Aged i → Steady (later (enough + i))
+  aged-steady i old = elim (cases_lt i w.delay) [
+    | inl soon ↦ early-steady (enough + i) (omega arith) (omega (arith, soon))
+    | inr past ↦ old-steady (later (enough + i)) (turns-lawful (enough + i) w l) (w.delay + 1) (omega (arith, after-delay (enough + i))) (old (w.delay + 1) (omega (arith, past)) (le_refl (w.delay + 1)))
+  ]
+
+  all-aged : 1 ≤ enough → (i : ℕ) → Aged i
+  all-aged some i zero low high = λ j x at r. omega arith
+  all-aged some zero (suc m) low high =
+      let z : enough + 0 ≡ enough = omega arith in
+      let one : suc m ≡ 1 = omega (arith, low) in
+      rw (z, one) (first-old enough some)
+  all-aged some (suc i) (suc m) low high =
+      let was : Aged i = all-aged some i in
+      let z : enough + i + 1 ≡ enough + suc i = omega arith in
+      subst (λ n. Old (suc m) (later n)) z
+      (subst (λ n. Old n (later (enough + i + 1))) (add-one m)
+      (next-old (enough + i) m (λ o. aged-steady i was) (was m (omega (arith, low)) (omega (arith, high)))))
+
+  late-steady : (k : ℕ) → 1 ≤ length w.nodes → enough ≤ k → Steady (later k)
+  late-steady k some late =
+      let i : ℕ = k - enough in
+      let z : enough + i ≡ k = omega (arith, late) in
+      subst (λ n. Steady (later n)) z (aged-steady i (all-aged (product (length w.nodes) w.delay some l.well_formed.some_delay) i))
+    where
+      product : (n d : ℕ) → 1 ≤ n → 1 ≤ d → 1 ≤ n * d
+      product n d o p = omega (arith, mul-le-mul_left n p, o)
+
+-- no turn after the first n * d makes a node enter R0
+pub steady : (w : CableWorld) → IsLawful w → (k : ℕ) → length w.nodes * w.delay ≤ k → (j : ℕ) (x y : PortNode)
+    → slice_get (turns_after k w).nodes j ≡ Some x → slice_get (turns_after (k + 1) w).nodes j ≡ Some y
+    → is_resetting x.state.view.phase ≡ false → is_resetting y.state.view.phase ≡ false
+steady w l k late j x y at_x at_y out =
+    late-steady w l k (omega (arith, slice_get_within (turns_after k w).nodes j x at_x, after-length w l k)) late j x y at_x (rw (one-more k w) at at_y) out

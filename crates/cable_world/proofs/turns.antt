@@ -1,0 +1,5 @@
+pub mod ByNumber
+pub mod NodeFacts
+pub mod HearsWell
+pub mod TicksWell
+pub mod TurnParts

@@ -1,0 +1,10 @@
+pub mod Summary
+pub mod TwoNodes
+pub mod ThreeNodes
+pub mod Held
+pub mod Desk
+pub mod Loops
+pub mod ChosenRoot
+pub mod Settled
+pub mod Outcomes
+pub mod Reached

@@ -1,5 +1,0 @@
-use Rattle.port_state.proofs.CoinPlaces.{coin_at-given}
-use Rattle.port_state.proofs.step_laws.given_coins.Goals as goal
-
-pub returns : goal.returns
-returns c = coin_at-given
