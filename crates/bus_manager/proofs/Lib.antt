@@ -1,3 +1,2 @@
-pub mod Count
 pub mod Longest
 pub mod Waiting

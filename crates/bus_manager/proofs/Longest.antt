@@ -8,7 +8,7 @@ use Rattle.self_id.specs.Node.{Node, downs}
 use Rattle.topology_stack.specs.Tree.{Label, Tree, branch, Slots, no_more, absent, unplugged, up, down, statuses, node_of, walk, walk_below}
 use Rattle.bus_manager.specs.declared.paths.Reach.{Reach}
 use Rattle.bus_manager.specs.Hops.{SomeChild, GoesDown, Turns, IsPath, IsPathBelow, IsHops}
-use Rattle.bus_manager.specs.Reach.{with_child, above, joined, run}
+use Rattle.bus_manager.specs.codings.Reach.{with_child, above, after_node, after_nodes}
 
 -- the reach of a tree, and those of the trees below some slots
 abbrev mutual
@@ -183,9 +183,9 @@ mutual
 
 -- ---- node by node
 
-run-append : (ws : List Reach) (ms ns : List Node) → run ws (ms ++ ns) ≡ run (run ws ms) ns
-run-append ws [] ns = refl
-run-append ws (m ∷ ms) ns = run-append (joined ws m) ms ns
+after_nodes-append : (ws : List Reach) (ms ns : List Node) → after_nodes ws (ms ++ ns) ≡ after_nodes (after_nodes ws ms) ns
+after_nodes-append ws [] ns = refl
+after_nodes-append ws (m ∷ ms) ns = after_nodes-append (after_node ws m) ms ns
 
 length-reaches : (s : Slots) → length (reaches s) ≡ downs (statuses s)
 length-reaches no_more = refl
@@ -195,7 +195,7 @@ length-reaches (up s) = length-reaches s
 length-reaches (down t s) = omega (arith, length-reaches s)
 
 -- a node takes the reaches of its children
-takes : (ws : List Reach) (a : Label) (s : Slots) → joined (ws ++ reaches s) (node_of a s) ≡ ws ++ reach (branch a s) ∷ []
+takes : (ws : List Reach) (a : Label) (s : Slots) → after_node (ws ++ reaches s) (node_of a s) ≡ ws ++ reach (branch a s) ∷ []
 takes ws a s =
     let start : length (ws ++ reaches s) - downs (statuses s) ≡ length ws = omega (arith, length-append ws (reaches s), length-reaches s) in
     ap (λ (k : ℕ). take k (ws ++ reaches s) ++ above (drop k (ws ++ reaches s)) ∷ []) start
@@ -203,15 +203,15 @@ takes ws a s =
     ∙ ap (λ (x : List Reach). ws ++ above x ∷ []) (drop-append_seam ws (reaches s))
 
 mutual
-  pub run-walk : (t : Tree) (ws : List Reach) → run ws (walk t) ≡ ws ++ reach t ∷ []
-  run-walk (branch a s) ws =
-      run-append ws (walk_below s) (node_of a s ∷ []) ∙ ap (λ (x : List Reach). joined x (node_of a s)) (run-walk_below s ws) ∙ takes ws a s
+  pub after_nodes-walk : (t : Tree) (ws : List Reach) → after_nodes ws (walk t) ≡ ws ++ reach t ∷ []
+  after_nodes-walk (branch a s) ws =
+      after_nodes-append ws (walk_below s) (node_of a s ∷ []) ∙ ap (λ (x : List Reach). after_node x (node_of a s)) (after_nodes-walk_below s ws) ∙ takes ws a s
 
-  pub run-walk_below : (s : Slots) (ws : List Reach) → run ws (walk_below s) ≡ ws ++ reaches s
-  run-walk_below no_more ws = sym (append-nil ws)
-  run-walk_below (absent s) ws = run-walk_below s ws
-  run-walk_below (unplugged s) ws = run-walk_below s ws
-  run-walk_below (up s) ws = run-walk_below s ws
-  run-walk_below (down t s) ws =
-      run-append ws (walk t) (walk_below s) ∙ ap (λ (x : List Reach). run x (walk_below s)) (run-walk t ws) ∙ run-walk_below s (ws ++ reach t ∷ [])
+  pub after_nodes-walk_below : (s : Slots) (ws : List Reach) → after_nodes ws (walk_below s) ≡ ws ++ reaches s
+  after_nodes-walk_below no_more ws = sym (append-nil ws)
+  after_nodes-walk_below (absent s) ws = after_nodes-walk_below s ws
+  after_nodes-walk_below (unplugged s) ws = after_nodes-walk_below s ws
+  after_nodes-walk_below (up s) ws = after_nodes-walk_below s ws
+  after_nodes-walk_below (down t s) ws =
+      after_nodes-append ws (walk t) (walk_below s) ∙ ap (λ (x : List Reach). after_nodes x (walk_below s)) (after_nodes-walk t ws) ∙ after_nodes-walk_below s (ws ++ reach t ∷ [])
       ∙ append_assoc ws (reach t ∷ []) (reaches s)

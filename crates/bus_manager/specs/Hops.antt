@@ -21,10 +21,12 @@ Turns k no_more = ⊥
 Turns k (absent s) = Turns k s
 Turns k (unplugged s) = Turns k s
 Turns k (up s) = Turns k s
-Turns k (down t s) = ((i j : ℕ) × GoesDown i t × SomeChild (GoesDown j) s × (k ≡ (i + 1) + (j + 1))) ⊎ Turns k s
+Turns k (down t s) =
+    ((i j : ℕ) × GoesDown i t × SomeChild (GoesDown j) s × (k ≡ (i + 1) + (j + 1)))
+    ⊎ Turns k s
 
--- A path through a tree goes over so many cables. It has a highest node: the outermost one, from which
--- it goes down or at which it turns, or one further below.
+-- A path through a tree goes over so many cables. It has a highest node: the outermost one, from
+-- which it goes down or at which it turns, or one further below.
 abbrev mutual
   pub IsPath : ℕ → Tree → Type 0
   IsPath k (branch a s) = GoesDown k (branch a s) ⊎ (Turns k s ⊎ IsPathBelow k s)

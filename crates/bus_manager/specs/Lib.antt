@@ -3,4 +3,5 @@ pub use Rattle.topology_stack.specs.Tree
 pub use Rattle.phy_packet.specs.Packet
 pub mod Hops
 pub mod Gap
-pub mod Reach
+pub mod Election
+pub mod codings

@@ -1,6 +1,7 @@
 //! The election of the bus manager.
 ghost use Rattle.std.specs.Prelude.{◌≡◌, ◌≢◌, ◌≤◌};
 ghost use Rattle.resource_manager.specs.Register.{Values};
+ghost use Rattle.bus_manager.specs.Election.{IsLockFor};
 
 use resource_manager::{COMPARE_SWAP, Register, Registers};
 
@@ -13,16 +14,20 @@ pub enum Bid {
     Lost { old: u8 },
 }
 
-/// The attempt of the node with ID `id`, 0 to 62, to become bus manager: a lock that puts its ID into
-/// BUS_MANAGER_ID where no node has done so since the bus reset (IEEE 1394-1995, 8.3.2.3.6).
+/// The attempt of the node with ID `id`, 0 to 62, to become bus manager: a lock that puts its ID
+/// into BUS_MANAGER_ID where no node has done so since the bus reset (IEEE 1394-1995, 8.3.2.3.6).
 ///
-/// `Lost` comes exactly where the register wasn't 0x3F; it names the value found, and nothing changes.
+/// `Lost` comes exactly where the register wasn't 0x3F; it names the value found, and nothing
+/// changes.
 pub fn attempt(regs: &mut Registers, id: u8) -> Bid
     requires { id ≤ 62 }
     ensures won { regs.old.bus_manager_id ≡ 0x3F → result ≡ Bid.Won }
     ensures lost { regs.old.bus_manager_id ≢ 0x3F → result ≡ Bid.Lost regs.old.bus_manager_id }
-    ensures taken { regs.old.bus_manager_id ≡ 0x3F → regs.new ≡ record regs.old { bus_manager_id = id } }
+    ensures taken { regs.old.bus_manager_id ≡ 0x3F →
+        regs.new ≡ record regs.old { bus_manager_id = id } }
     ensures kept { regs.old.bus_manager_id ≢ 0x3F → regs.new ≡ regs.old }
+    // It is one access to the registers, whose answer is the reply to a lock.
+    ensures lock { IsLockFor id regs.old regs.new result }
 {
     let register = Register::BusManagerId;
     let nobody = register.initial();

@@ -1,13 +1,11 @@
 //! The longest path of a bus.
 ghost use Rattle.std.specs.Prelude.{◌≡◌, ◌+◌, ◌≤◌, ◌<◌, [], length, All, slice_get, IsSomeAnd};
-ghost use Rattle.self_id.specs.declared.node.PortStatus.{PortStatus};
-ghost use Rattle.self_id.specs.Node.{downs};
 ghost use Rattle.topology_stack.specs.Tree.{walk};
 ghost use Rattle.bus_manager.specs.Hops.{IsHops};
-ghost use Rattle.bus_manager.specs.Reach.{above, with_child};
+ghost use Rattle.bus_manager.specs.codings.Reach.{above, with_child};
 
 use arrayvec::ArrayVec;
-use self_id::PortStatus;
+use self_id::count_down;
 use topology_stack::BusTree;
 
 /// How far a tree reaches, in cables.
@@ -32,17 +30,6 @@ fn with_child(child: &Reach, rest: &Reach) -> Reach
     }
 }
 
-/// How many slots lead to a child.
-#[tactic(auto, using(crate::proofs::Count::downs_is))]
-fn count_down(ports: &[PortStatus]) -> usize
-    ensures { result ≡ downs ports.now }
-{
-    ports
-        .iter()
-        .filter(|port| matches!(port, PortStatus::Down))
-        .count()
-}
-
 /// The reach of a node above these children.
 fn above(children: &[Reach]) -> Reach
     requires { All (λ r. r.depth ≤ 61) children.now }
@@ -50,10 +37,8 @@ fn above(children: &[Reach]) -> Reach
     ensures small { result.depth ≤ 62 }
 {
     let mut reach = Reach::default();
-    let mut left = children.len();
-    while left > 0 {
-        left -= 1;
-        reach = with_child(&children[left], &reach);
+    for place in (0..children.len()).rev() {
+        reach = with_child(&children[place], &reach);
     }
     reach
 }

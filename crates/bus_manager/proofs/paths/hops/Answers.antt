@@ -5,7 +5,7 @@ use Rattle.self_id.specs.Node.{Node, downs}
 use Rattle.topology_stack.specs.Tree.{Tree, walk}
 use Rattle.bus_manager.specs.declared.paths.Reach.{Reach}
 use Rattle.bus_manager.specs.Hops.{IsHops}
-use Rattle.bus_manager.specs.Reach.{above}
+use Rattle.bus_manager.specs.codings.Reach.{above}
 use Rattle.bus_manager.proofs.Longest.{reach, is_hops, small}
 use Rattle.bus_manager.proofs.Waiting.{Waiting, start, next, end}
 use Rattle.bus_manager.proofs.paths.hops.Goals as goal
@@ -20,7 +20,7 @@ pub loop-id-preserved : goal.loop-id-preserved
 loop-id-preserved c =
     let k = c.saturating_sub-start.result in
     let ports = c.as_slice.ensures.value ∙ ap (λ (n : Node). n.ports) c.behind-tree.view_is in
-    let children : c.count_down-children.result ≡ downs c.node.result.now.ports = c.count_down-children.ensures ∙ ap downs ports in
+    let children : c.count_down-children.result ≡ downs c.node.result.now.ports = c.count_down-children.ensures.value ∙ ap downs ports in
     let from : k ≡ length c.loop-id.waiting.items - downs c.node.result.now.ports = omega (arith, c.saturating_sub-start.ensures, c.len.ensures.value, children) in
     let new : c.above-reach.result ≡ above (drop k c.loop-id.waiting.items) =
     c.above-reach.ensures.value ∙ ap (λ (ws : List Reach). above (take (length ws - k) (drop k ws))) c.deref.ensures.0 ∙ ap above (tail_is k c.loop-id.waiting.items)
