@@ -78,9 +78,9 @@ impl Cabling {
     /// `attrs` has one entry for each node of the cabling, by its number, and each fits its bits.
     /// `Cyclic` where the component of the root has a core.
     ///
-    /// The tree is made as a bus makes it: the nodes write their self-ID packets in the order of the
-    /// walk, and the list is read. So there is one way to a tree from its nodes, and its contract
-    /// says that a list which some tree emits is read as that tree.
+    /// The tree is made as a bus makes it: the nodes write their self-ID packets in the order of
+    /// the walk, and the list is read. So trees are made in one place alone, and what is known of
+    /// reading says that the tree whose list this is comes out.
     pub fn tree_from(
         &self,
         alloc: Global,

@@ -1,11 +1,10 @@
 -- What a row holds after a part of it was written.
-use Rattle.std.proofs.Common.{◌≡◌, ◌≢◌, ℕ, ◌+◌, ◌-◌, ◌*◌, ◌<◌, ◌≤◌, List, [], ◌∷◌, ◌++◌, length, min, get_or, take, drop, ap, ◌∙◌, ⊎_elim, arith, length-append, length-drop}
+use Rattle.std.proofs.Common.{◌≡◌, ◌≢◌, ℕ, ◌+◌, ◌-◌, ◌*◌, ◌<◌, ◌≤◌, List, ◌++◌, length, min, get_or, take, drop, ap, ◌∙◌, ⊎_elim, arith, length-drop}
 use borrow.Rule.Slice.PartMut.{put_mid}
 use Rattle.std.proofs.lemmas.Bool.{cases_lt}
 use Rattle.std.proofs.lemmas.List.{get_or_append_left, get_or-append_right, get_or-take, get_or-drop, get_or-map, length-take-le, length-map}
-use Rattle.quad_lanes.specs.Pairs.{quads_of}
 use Rattle.quad_lanes.specs.Rows.{capped}
-use Rattle.speed_map.specs.Sweep.{Written}
+use Rattle.speed_map.specs.codings.Sweep.{Written}
 
 -- ---- a list with a part replaced
 
@@ -58,15 +57,3 @@ written rows row part of to low high limit room_of room_to order small row_is pa
           (λ (ge : to ≤ n). mid_above a k rows part (64 * n + m) (omega (arith, ge, ne, order, small)) inside as_long)
           (cases_lt n to);
     }
-
--- ---- quadlets of rows
-
-pub quads_few : (xs : List ℕ) → length (quads_of xs) ≤ length xs
-quads_few (a ∷ b ∷ c ∷ d ∷ xs) = omega (arith, quads_few xs)
-quads_few (a ∷ b ∷ c ∷ []) = omega arith
-quads_few (a ∷ b ∷ []) = omega arith
-quads_few (a ∷ []) = omega arith
-quads_few [] = omega arith
-
-pub body_few : (body rest rows : List ℕ) (generation : ℕ) → body ++ rest ≡ generation ∷ quads_of rows → length body ≤ 1 + length rows
-body_few body rest rows generation e = omega (arith, ap length e, length-append body rest, quads_few rows)

@@ -8,7 +8,7 @@ use Rattle.self_id.specs.Node.{Node}
 use Rattle.topology_stack.specs.Tree.{Tree, branch, walk, walk_below, IsBusTree}
 use Rattle.topology_stack.specs.Far.{Far, ends, slot_ends}
 use Rattle.speed_map.specs.Path.{node_speed, speed_at}
-use Rattle.speed_map.specs.Sweep.{firsts_from, first_of, IsUnder}
+use Rattle.speed_map.specs.codings.Sweep.{firsts_from, first_of, IsUnder}
 use Rattle.speed_map.proofs.Nodes.{Ends, NodeT, NodeS, length-walk, nodeT, toldT, withinT, withinS}
 use Rattle.speed_map.proofs.Kin.{Kin, child, outer, above, kinT, coverT, nestedT, raisedS, lastT, no_up}
 use Rattle.speed_map.proofs.Apart.{apartT}

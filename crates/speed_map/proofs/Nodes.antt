@@ -6,7 +6,7 @@ use Rattle.std.proofs.lemmas.Bool.{cases_lt}
 use Rattle.self_id.specs.Node.{Node}
 use Rattle.topology_stack.specs.Tree.{Label, Tree, branch, Slots, no_more, absent, unplugged, up, down, statuses, walk, walk_below, node_of}
 use Rattle.topology_stack.specs.Far.{slot_ends, ends_from, ends_below}
-use Rattle.speed_map.specs.Sweep.{firsts_from, firsts_below}
+use Rattle.speed_map.specs.codings.Sweep.{firsts_from, firsts_below}
 
 abbrev pub Ends : Type 0
 Ends = List (Option ℕ)

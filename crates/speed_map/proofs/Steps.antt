@@ -9,7 +9,7 @@ use Rattle.topology_stack.specs.Tree.{Tree, walk, IsBusTree}
 use Rattle.topology_stack.specs.Far.{Far}
 use Rattle.speed_map.specs.Path.{IsNew, speed_at, path_speed}
 use Rattle.speed_map.specs.Rows.{cell, AreRows}
-use Rattle.speed_map.specs.Sweep.{first_of, IsUnder, Written, AllDown, IsDown, AllBetween, Leads, IsFull, Rising, Taking, Falling}
+use Rattle.speed_map.specs.codings.Sweep.{first_of, IsUnder, Written, AllDown, IsDown, AllBetween, Leads, IsFull, Rising, Taking, Falling}
 use Rattle.speed_map.proofs.Facts.{one_far, slot_within, first_le, child_in, parent_in, in_child, nested, first_of_root}
 
 -- ---- paths

@@ -4,7 +4,7 @@ use Rattle.std.proofs.lemmas.Bool.{cases_lt, cases_eq}
 use Rattle.topology_stack.specs.Tree.{Tree, walk, IsBusTree}
 use Rattle.topology_stack.specs.Far.{Far}
 use Rattle.speed_map.specs.Path.{IsNew, IsPath}
-use Rattle.speed_map.specs.Sweep.{IsUnder}
+use Rattle.speed_map.specs.codings.Sweep.{IsUnder}
 use Rattle.speed_map.proofs.Facts.{first_le, child_in, parent_in, in_child, nested, has_parent, apart, down_again, joined_within}
 
 -- a node whose child lies strictly in a subtree lies there too

@@ -1,3 +1,3 @@
 pub mod Path
 pub mod Rows
-pub mod Sweep
+pub mod codings

@@ -14,11 +14,17 @@ abbrev pub IsNew : ℕ → List ℕ → Type 0
 IsNew id [] = Unit {0}
 IsNew id (other ∷ ids) = (id ≢ other) × IsNew id ids
 
--- A path leads from one node to another. `ids` are the nodes behind the first: each is joined to the
--- one before it, and no node comes twice.
+-- A path leads from one node to another. `ids` are the nodes behind the first: each is joined to
+-- the one before it, and no node comes twice.
 abbrev pub IsPath : Tree → ℕ → ℕ → List ℕ → Type 0
 IsPath t from to [] = from ≡ to
 IsPath t from to (next ∷ ids) = Joined t from next × IsNew from (next ∷ ids) × IsPath t next to ids
+
+-- Between two nodes of a bus there is no second path.
+abbrev pub HasOnePath : Tree → ℕ → ℕ → Type 0
+HasOnePath t from to =
+    (p q : List ℕ) → IsPath t from to p → IsPath t from to q →
+    p ≡ q
 
 -- the speed code of a node; the code 3, which later standards use, counts as 2
 abbrev pub node_speed : Node → ℕ

@@ -16,5 +16,9 @@ pub record IsSpeed (t : Tree) (from to speed : ℕ) : Type 0 where
 -- each node has a row, with the speeds of its paths to all nodes, and then zeros
 pub record AreRows (t : Tree) (rows : List ℕ) : Type 0 where
   pub size : length rows ≡ 64 * length (walk t)
-  pub speeds : (from to : ℕ) → from < length (walk t) → to < length (walk t) → IsSpeed t from to (cell rows from to)
-  pub zeros : (from to : ℕ) → from < length (walk t) → length (walk t) ≤ to → to < 64 → cell rows from to ≡ 0
+  pub speeds :
+      (from to : ℕ) → from < length (walk t) → to < length (walk t) →
+      IsSpeed t from to (cell rows from to)
+  pub zeros :
+      (from to : ℕ) → from < length (walk t) → length (walk t) ≤ to → to < 64 →
+      cell rows from to ≡ 0

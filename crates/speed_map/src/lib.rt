@@ -8,8 +8,9 @@ mod sealed;
 mod sweeps;
 
 pub use paths::one_path;
+pub use quad_lanes::OutOfMemory;
 pub use sealed::image;
-pub use sweeps::{OutOfMemory, rows};
+pub use sweeps::rows;
 
 #[cfg(test)]
 mod tests;

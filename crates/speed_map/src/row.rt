@@ -1,7 +1,7 @@
 //! Speeds, and parts of rows.
 ghost use Rattle.std.specs.Prelude.{◌≡◌, ◌+◌, ◌*◌, ◌≤◌, ◌<◌, length, slice_get, min};
 ghost use Rattle.speed_map.specs.Path.{node_speed};
-ghost use Rattle.speed_map.specs.Sweep.{Written};
+ghost use Rattle.speed_map.specs.codings.Sweep.{Written};
 
 use quad_lanes::min_row;
 use self_id::SelfId;
@@ -23,8 +23,8 @@ pub(crate) fn slots(node: &SelfId) -> u8
     node.ports.as_slice().len() as u8
 }
 
-/// Writes a part of the row of node `to`, from the ID `low` to before `high`: at each place the lesser
-/// of what the row of node `of` has there and `cap`.
+/// Writes a part of the row of node `to`, from the ID `low` to before `high`: at each place the
+/// lesser of what the row of node `of` has there and `cap`.
 pub(crate) fn copy_capped(rows: &mut [u8], of: usize, to: usize, low: usize, high: usize, cap: u8)
     requires of_row { 64 * of + 64 ≤ length rows.old }
     requires to_row { 64 * to + 64 ≤ length rows.old }

@@ -3,9 +3,7 @@ ghost use Rattle.std.specs.Prelude.{◌≡◌, ◌%◌, ◌≤◌, ◌∷◌, le
 ghost use Rattle.quad_lanes.specs.Pairs.{quads_of};
 ghost use Rattle.topology_map.specs.Sealed.{IsSealed};
 
-use crate::sweeps::OutOfMemory;
-use byteorder::{BigEndian, ByteOrder};
-use quad_lanes::QuadList;
+use quad_lanes::{OutOfMemory, QuadList, quads_of};
 use std::alloc::Global;
 use topology_map::seal;
 
@@ -16,12 +14,9 @@ pub fn image(alloc: Global, rows: &[u8], generation: u32) -> Result<QuadList, Ou
     requires few { length rows.now ≤ 4032 }
     ensures { IfOk result (λ quads. IsSealed (generation ∷ quads_of rows.now) quads) }
 {
+    let quads = quads_of(alloc, rows)?;
     let mut body = QuadList::new(alloc);
     body.push(generation)?;
-    let mut rest = rows;
-    while rest.len() >= 4 {
-        body.push(BigEndian::read_u32(rest))?;
-        rest = &rest[4..];
-    }
+    body.extend_from_slice(quads.as_slice())?;
     seal(alloc, body.as_slice())
 }

@@ -4,14 +4,12 @@ ghost use Rattle.topology_stack.specs.Tree.{walk};
 ghost use Rattle.topology_stack.specs.Far.{Far};
 ghost use Rattle.speed_map.specs.Path.{Joined};
 ghost use Rattle.speed_map.specs.Rows.{AreRows};
-ghost use Rattle.speed_map.specs.Sweep.{KeepFirsts, Rising, Falling, first_of};
+ghost use Rattle.speed_map.specs.codings.Sweep.{KeepFirsts, Rising, Falling, first_of};
 
 use crate::row::{ROW, copy_capped, slots, speed};
-use std::alloc::{AllocError, Global};
+use quad_lanes::OutOfMemory;
+use std::alloc::Global;
 use topology_stack::BusTree;
-
-/// What a call answers that found no memory.
-pub type OutOfMemory = AllocError;
 
 /// The child at the other end of a slot, if one is there. Children have lower IDs.
 fn child_at(tree: &BusTree, id: u8, slot: u8) -> Option<u8>
@@ -26,8 +24,8 @@ fn child_at(tree: &BusTree, id: u8, slot: u8) -> Option<u8>
     }
 }
 
-/// Fills the row of a node for its subtree, and answers the first ID of it. The rows of its children
-/// are filled for theirs.
+/// Fills the row of a node for its subtree, and answers the first ID of it. The rows of its
+/// children are filled for theirs.
 fn fill_below(rows: &mut [u8], tree: &BusTree, firsts: &[u8], id: u8) -> u8
     requires id { id < length (walk tree.now) }
     requires firsts { KeepFirsts tree.now firsts.now id }
@@ -54,18 +52,18 @@ fn fill_below(rows: &mut [u8], tree: &BusTree, firsts: &[u8], id: u8) -> u8
     first
 }
 
-/// The slot that leads to a node's parent, and the parent. The node isn't the root.
-fn parent_of(tree: &BusTree, id: u8) -> (u8, u8)
+/// A node's parent. The node isn't the root.
+fn parent_of(tree: &BusTree, id: u8) -> u8
     requires { id + 1 < length (walk tree.now) }
-    ensures far { Far tree.now id result.0 (Some result.1) }
-    ensures after { id < result.1 }
+    ensures far { Joined tree.now id result }
+    ensures after { id < result }
 {
     // a bus tree, of which each node but the root has a slot that leads up
     let _len = tree.len();
     for slot in 0..slots(tree.node(id)) {
         if let Some(parent) = tree.far(id, slot) {
             if parent > id {
-                return (slot, parent);
+                return parent;
             }
         }
     }
@@ -82,7 +80,7 @@ fn fill_outside(rows: &mut [u8], tree: &BusTree, firsts: &[u8], id: u8)
 {
     let len = tree.len() as usize;
     let cap = speed(tree.node(id));
-    let (_, parent) = parent_of(tree, id);
+    let parent = parent_of(tree, id);
     let of = parent as usize;
     let to = id as usize;
     copy_capped(rows, of, to, 0, firsts[to] as usize, cap);
@@ -99,16 +97,14 @@ fn fill(rows: &mut [u8], tree: &BusTree)
     for id in 0..len {
         firsts[id as usize] = fill_below(rows, tree, &firsts, id);
     }
-    let mut id = tree.root();
-    while id > 0 {
-        id -= 1;
+    for id in (0..tree.root()).rev() {
         fill_outside(rows, tree, &firsts, id);
     }
 }
 
-/// The rows of a bus's speed map: 64 bytes a node, by ID. The byte at `64 * from + to` is the speed code
-/// of the path between these two nodes: the least of its nodes' codes, both ends included, where 3
-/// counts as 2. The bytes of a row behind that of the last node are 0.
+/// The rows of a bus's speed map: 64 bytes a node, by ID. The byte at `64 * from + to` is the speed
+/// code of the path between these two nodes: the least of its nodes' codes, both ends included,
+/// where 3 counts as 2. The bytes of a row behind that of the last node are 0.
 pub fn rows(alloc: Global, tree: &BusTree) -> Result<Vec<u8>, OutOfMemory>
     ensures { IfOk result (λ rows. AreRows tree.now rows.items) }
 {

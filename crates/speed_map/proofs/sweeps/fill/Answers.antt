@@ -1,6 +1,6 @@
 use Rattle.std.proofs.Common.{◌≡◌, length, subst, arith}
 use Rattle.topology_stack.specs.Tree.{walk}
-use Rattle.speed_map.specs.Sweep.{Rising}
+use Rattle.speed_map.specs.codings.Sweep.{Rising}
 use Rattle.speed_map.proofs.Steps.{falling_start}
 use Rattle.speed_map.proofs.sweeps.fill.Goals as goal
 

@@ -1,6 +1,6 @@
 use Rattle.std.proofs.Common.{◌+◌, ◌≤◌, length}
 use Rattle.topology_stack.specs.Tree.{walk}
-use Rattle.speed_map.specs.Sweep.{Rising, Falling, KeepFirsts}
+use Rattle.speed_map.specs.codings.Sweep.{Rising, Falling, KeepFirsts}
 use Rattle.speed_map.proofs.sweeps.fill.Given as goal
 
 abbrev pub invariant-loop-id : goal.invariant-loop-id

@@ -1,4 +1,4 @@
-use Rattle.speed_map.specs.Sweep.{Taking}
+use Rattle.speed_map.specs.codings.Sweep.{Taking}
 use Rattle.speed_map.proofs.sweeps.fill_below.Given as goal
 
 abbrev pub invariant-loop-slot : goal.invariant-loop-slot

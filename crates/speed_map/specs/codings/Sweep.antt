@@ -1,4 +1,4 @@
--- How far the two sweeps over the rows have come. Only private functions cite this file: public
+-- How far the two sweeps over the rows have come. No public contract cites this file: public
 -- clauses speak of paths.
 use Rattle.std.specs.Prelude.{◌≡◌, ◌≢◌, ℕ, ◌+◌, ◌*◌, ◌<◌, ◌≤◌, ◌⊎◌, List, [], ◌∷◌, ◌++◌, length, min, slice_index, Some}
 use Rattle.topology_stack.specs.Tree.{Tree, branch, Slots, no_more, absent, unplugged, up, down, walk}
@@ -6,7 +6,8 @@ use Rattle.topology_stack.specs.Far.{Far}
 use Rattle.speed_map.specs.Path.{IsPath, path_speed}
 use Rattle.speed_map.specs.Rows.{cell}
 
--- The first IDs of the subtrees, by ID. The IDs of a node's subtree run from the first one to its own.
+-- The first IDs of the subtrees, by ID. The IDs of a node's subtree run from the first one to its
+-- own.
 abbrev mutual
   pub firsts_from : ℕ → Tree → List ℕ
   firsts_from from (branch a s) = firsts_below from s ++ from ∷ []
@@ -52,7 +53,8 @@ pub record IsDown (t : Tree) (from to speed : ℕ) : Type 0 where
 -- one of its ends is in the subtree of each node that a path comes to
 abbrev pub AllBetween : Tree → ℕ → ℕ → List ℕ → Type 0
 AllBetween t from to [] = Unit {0}
-AllBetween t from to (k ∷ ids) = (k < length (walk t)) × (IsUnder t from k ⊎ IsUnder t to k) × AllBetween t from to ids
+AllBetween t from to (k ∷ ids) =
+    (k < length (walk t)) × (IsUnder t from k ⊎ IsUnder t to k) × AllBetween t from to ids
 
 -- a byte is the speed of a path to any node
 pub record Leads (t : Tree) (from to speed : ℕ) : Type 0 where
@@ -85,7 +87,9 @@ pub record Taking (t : Tree) (rows : List ℕ) (id slot first : ℕ) : Type 0 wh
   pub own : IsDown t id id (cell rows id id)
   pub first_low : first_of t id ≤ first
   pub first_high : first ≤ id
-  pub taken : (s k : ℕ) → s < slot → Far t id s (Some k) → k < id → (first ≤ first_of t k) × ((m : ℕ) → IsUnder t m k → IsDown t id m (cell rows id m))
+  pub taken :
+      (s k : ℕ) → s < slot → Far t id s (Some k) → k < id →
+      (first ≤ first_of t k) × ((m : ℕ) → IsUnder t m k → IsDown t id m (cell rows id m))
 
 -- the second sweep has come down to a node
 pub record Falling (t : Tree) (rows : List ℕ) (id : ℕ) : Type 0 where
