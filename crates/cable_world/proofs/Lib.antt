@@ -6,5 +6,6 @@ pub mod coupling
 pub mod levels
 pub mod worked
 pub mod Options
+pub mod StaysReached
 pub mod StaysLawful
 pub mod OneOutcome

@@ -37,7 +37,9 @@ no-loop-there w set core h n = n.empty h.node (in-core w.cabling set core n.core
 -- ---- trees
 
 -- the root has no parent, and every other node has one
-apart : (o : Option PortNode) → IsSomeAnd o (λ x. x.state.view.parent ≡ None) → IsSomeAnd o (λ x. IsSome x.state.view.parent) → ⊥
+apart :
+    (o : Option PortNode) → IsSomeAnd o (λ x. x.state.view.parent ≡ None) →
+    IsSomeAnd o (λ x. IsSome x.state.view.parent) → ⊥
 apart None n s = n
 apart (Some x) n s = none-some x.state.view.parent n s
   where
@@ -45,13 +47,16 @@ apart (Some x) n s = none-some x.state.view.parent n s
     none-some None n s = absurd cc
     none-some (Some p) n s = absurd cc
 
-same-root : (w : CableWorld) (set a b : ℕ) (t u : Tree) → IsTree w set a t → IsTree w set b u → b ≡ a
+same-root :
+    (w : CableWorld) (set a b : ℕ) (t u : Tree) → IsTree w set a t → IsTree w set b u → b ≡ a
 same-root w set a b t u x y = elim (cases_eq b a) [
   | inl is ↦ is
   | inr ne ↦ absurd (apart (slice_get w.nodes b) y.no_parent (x.parents b y.holds_root ne))
 ]
 
-same-tree : (w : CableWorld) (set a b : ℕ) (t u : Tree) → IsTree w set a t → IsTree w set b u → tree a t ≡ tree b u
+same-tree :
+    (w : CableWorld) (set a b : ℕ) (t u : Tree) → IsTree w set a t → IsTree w set b u →
+    tree a t ≡ tree b u
 same-tree w set a b t u x y =
     let root : b ≡ a = same-root w set a b t u x y in
     let whole : t ≡ u = one-tree w.cabling (labels (attrs_now w)) a None t u x.seen (subst (λ (r : ℕ). Sees w.cabling (labels (attrs_now w)) r None u) root y.seen) in
@@ -59,7 +64,9 @@ same-tree w set a b t u x y =
 
 -- ---- contentions
 
-same-pair : (w : CableWorld) (set a b c d : ℕ) → IsContention w set a b → IsContention w set c d → IsFirstPair w set a b → IsFirstPair w set c d → (a ≡ c) × (b ≡ d)
+same-pair :
+    (w : CableWorld) (set a b c d : ℕ) → IsContention w set a b → IsContention w set c d →
+    IsFirstPair w set a b → IsFirstPair w set c d → (a ≡ c) × (b ≡ d)
 same-pair w set a b c d x y f g = elim (f c d y) [
   | inl less ↦ elim (g a b x) [
     | inl more ↦ absurd (omega (arith, less, more))
@@ -71,7 +78,8 @@ same-pair w set a b c d x y f g = elim (f c d y) [
   ]
 ]
 
-pub one-outcome : (w : CableWorld) (set : ℕ) (o p : Outcome) → IsOutcome w set o → IsOutcome w set p → o ≡ p
+pub one-outcome :
+    (w : CableWorld) (set : ℕ) (o p : Outcome) → IsOutcome w set o → IsOutcome w set p → o ≡ p
 one-outcome w set (loop a) (loop b) x y = rw (same-core w.cabling set a b x.is_core y.is_core) refl
 one-outcome w set (loop a) (tree r t) x y = absurd (no-loop-there w set a x y.no_loop)
 one-outcome w set (loop a) (contention c d) x y = absurd (no-loop-there w set a x y.0.no_loop)

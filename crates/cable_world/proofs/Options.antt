@@ -13,14 +13,20 @@ pub none-some : {A : Type 0} → (o : Option A) (x : A) → o ≡ None → o ≡
 none-some o x n e = cc
 
 -- a fact of what is there follows from another, and goes through a map
-pub some-and : {A : Type 0} → (o : Option A) (P Q : A → Type 0) → ((x : A) → P x → Q x) → IsSomeAnd o P → IsSomeAnd o Q
+pub some-and :
+    {A : Type 0} → (o : Option A) (P Q : A → Type 0) → ((x : A) → P x → Q x) → IsSomeAnd o P →
+    IsSomeAnd o Q
 some-and None P Q f h = absurd h
 some-and (Some x) P Q f h = f x h
 
-pub mapped : {A B : Type 0} → (o : Option A) (f : A → B) (P : B → Type 0) → IsSomeAnd o (λ x. P (f x)) → IsSomeAnd (option_map f o) P
+pub mapped :
+    {A B : Type 0} → (o : Option A) (f : A → B) (P : B → Type 0) → IsSomeAnd o (λ x. P (f x)) →
+    IsSomeAnd (option_map f o) P
 mapped None f P h = absurd h
 mapped (Some x) f P h = h
 
-pub unmapped : {A B : Type 0} → (o : Option A) (f : A → B) (P : B → Type 0) → IsSomeAnd (option_map f o) P → IsSomeAnd o (λ x. P (f x))
+pub unmapped :
+    {A B : Type 0} → (o : Option A) (f : A → B) (P : B → Type 0) → IsSomeAnd (option_map f o) P →
+    IsSomeAnd o (λ x. P (f x))
 unmapped None f P h = absurd h
 unmapped (Some x) f P h = h

@@ -1,13 +1,13 @@
--- Turns, holds and acts keep a world lawful, and so every world that comes of a power-on world is lawful.
-use Rattle.std.proofs.Common.{◌≡◌, ℕ, zero, suc, List, [], ◌∷◌, None, subst, sym}
-use Rattle.cabling.specs.declared.cable.End.{End}
-use Rattle.cable_world.specs.declared.act.Act.{Act}
-use Rattle.cable_world.specs.World.{CableWorld, IsPowerOnWorld}
+-- Turns, holds and acts keep a world lawful, and so every world that comes of a power-on world is
+-- lawful.
+use Rattle.std.proofs.Common.{zero, suc, List, [], ◌∷◌, subst, sym}
+use Rattle.cable_world.specs.World.{CableWorld}
 use Rattle.cable_world.specs.Turn.{turn, turns_after}
-use Rattle.cable_world.specs.Act.{ActLeads, IsAct, act_fault, hold, hold_fault}
-use Rattle.cable_world.specs.Run.{Event, acts, holds, turns, Happens, Runs, IsReached}
+use Rattle.cable_world.specs.Act.{hold}
+use Rattle.cable_world.specs.Run.{Event, acts, holds, turns, Happens, Runs}
 use Rattle.cable_world.specs.Agreement.{LevelsAgree}
 use Rattle.cable_world.specs.Coupling.{IsCoupled}
+use Rattle.cable_world.specs.StaysLawful.{HoldsAtPowerOn, KeptByTurns, KeptByHolds, KeptByActs, ReachedIsLawful}
 use Rattle.cable_world.specs.Lawful.{IsWellFormed, IsLawful}
 use Rattle.cable_world.proofs.tables.AtPowerOn.{power-on-formed, power-on-agrees}
 use Rattle.cable_world.proofs.tables.TablesInTurns.{turn-formed}
@@ -21,21 +21,21 @@ use Rattle.cable_world.proofs.coupling.RolesFollow.{coupled-roles}
 lawful-of : (w : CableWorld) → IsWellFormed w → LevelsAgree w → IsCoupled w → IsLawful w
 lawful-of w f l c = record { well_formed = f; agrees = record { levels = l; roles = coupled-roles w c }; coupled = c }
 
-pub power-on-lawful : (w : CableWorld) → IsPowerOnWorld w → IsLawful w
+pub power-on-lawful : HoldsAtPowerOn IsLawful
 power-on-lawful w h = record { well_formed = power-on-formed w h; agrees = power-on-agrees w h; coupled = power-on-coupled w h }
 
 pub turn-lawful : (w : CableWorld) → IsLawful w → IsLawful (turn w)
 turn-lawful w h = lawful-of (turn w) (turn-formed w h.well_formed) (turn-levels w h.well_formed h.agrees.levels h.coupled) (turn-coupled w h.well_formed h.agrees.levels h.coupled)
 
-pub hold-lawful : (end : End) (n : ℕ) (w : CableWorld) → hold_fault end w ≡ None → IsLawful w → IsLawful (hold end n w)
+pub hold-lawful : KeptByHolds IsLawful
 hold-lawful end n w none h =
     lawful-of (hold end n w) (hold-formed end n w none h.well_formed) (hold-levels end n w none h.well_formed h.agrees.levels) (hold-coupled end n w none h.well_formed h.coupled)
 
-pub act-lawful : (a : Act) (w v : CableWorld) → IsAct a → act_fault a w ≡ None → ActLeads a w v → IsLawful w → IsLawful v
+pub act-lawful : KeptByActs IsLawful
 act-lawful a w v is none e h =
     lawful-of v (act-formed a w v is none e h.well_formed) (act-levels a w v is none e h.well_formed h.agrees.levels) (act-coupled a w v is none e h.well_formed h.coupled)
 
-pub turns-lawful : (k : ℕ) (w : CableWorld) → IsLawful w → IsLawful (turns_after k w)
+pub turns-lawful : KeptByTurns IsLawful
 unfolding turns_after
 turns-lawful zero w h = h
 turns-lawful (suc k) w h = turns-lawful k (turn w) (turn-lawful w h)
@@ -49,5 +49,5 @@ runs-lawful : (events : List Event) (w v : CableWorld) → Runs events w v → I
 runs-lawful [] w v r l = subst IsLawful (sym r) l
 runs-lawful (e ∷ events) w v r l = runs-lawful events r.0 v r.2 (event-lawful e w r.0 r.1 l)
 
-pub reached-lawful : (w : CableWorld) → IsReached w → IsLawful w
+pub reached-lawful : ReachedIsLawful
 reached-lawful w r = runs-lawful r.events r.start w r.run (power-on-lawful r.start r.power_on)

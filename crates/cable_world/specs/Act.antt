@@ -1,4 +1,5 @@
--- What happens between two turns. It takes no time: what a node sends goes onto its wires with age 0.
+-- What happens between two turns. It takes no time: what a node sends goes onto its wires with age
+-- 0.
 use Rattle.std.specs.Prelude.{◌≡◌, ℕ, ◌+◌, ◌==◌, ◌||◌, List, [], ◌∷◌, length, nat_lt, is_some, IsTrue, Option, None, Some, slice_get, slice_set, slice_index_or, if◌then◌else◌}
 use Rattle.std.specs.Int.{bit_at}
 use Rattle.cabling.specs.declared.cable.End.{End}
@@ -68,7 +69,8 @@ abbrev pub reset : NodeNumber → CableWorld → CableWorld
 reset node w = with_step node node_disturb w
 
 -- the nodes of a set, where the first of these nodes has number k
-abbrev pub change_in_set : NodeSet → (PortNode → PortNode) → NodeNumber → List PortNode → List PortNode
+abbrev pub change_in_set :
+    NodeSet → (PortNode → PortNode) → NodeNumber → List PortNode → List PortNode
 change_in_set set change k [] = []
 change_in_set set change k (x ∷ nodes) =
     (if bit_at set k == 1 then change x else x) ∷ change_in_set set change (k + 1) nodes

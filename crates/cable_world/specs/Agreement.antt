@@ -14,8 +14,8 @@ use Rattle.cable_world.specs.Signals.{signals_of, has_reset}
 
 -- ---- the level last sent
 
--- the level that a node in this phase last sent on a connected port, given whether it is a child port; a
--- port that isn't is the parent port in the phases from ChildShake on
+-- the level that a node in this phase last sent on a connected port, given whether it is a child
+-- port; a port that isn't is the parent port in the phases from ChildShake on
 abbrev pub level_sent : Phase → Bool → Level
 level_sent ResetStart child = level.Reset
 level_sent ResetWait child = level.Idle
@@ -55,7 +55,8 @@ level_after_one signal.Grant shown = shown
 level_after_one (signal.Packet quad) shown = shown
 level_after_one signal.Done shown = shown
 
--- after these signals, the first first: the last level among them, or the one before if none is a level
+-- after these signals, the first first: the last level among them, or the one before if none is a
+-- level
 abbrev pub level_after : Level → List Signal → Level
 level_after shown [] = shown
 level_after shown (s ∷ ss) = level_after (level_after_one s shown) ss
@@ -67,8 +68,8 @@ abbrev pub LevelsAgree : CableWorld → Type 0
 LevelsAgree w = AtCables w (λ a x b y.
     level_after (level_shown y b.port) (signals_of (wire_of w a).signals) ≡ level_sent_at x a.port)
 
--- A child port leads to a node whose parent port is at the other end of the cable, unless a Reset is under
--- way from there.
+-- A child port leads to a node whose parent port is at the other end of the cable, unless a Reset
+-- is under way from there.
 abbrev pub RolesAgree : CableWorld → Type 0
 RolesAgree w = AtCables w (λ a x b y.
     leads_down x.view.ports a.port ≡ true → has_reset (signals_of (wire_of w b).signals) ≡ false →

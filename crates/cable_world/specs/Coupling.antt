@@ -1,5 +1,5 @@
--- What holds at the two ends of a cable while their nodes reset, agree on a tree and contend. Because of it
--- a child port always leads to a parent port.
+-- What holds at the two ends of a cable while their nodes reset, agree on a tree and contend.
+-- Because of it a child port always leads to a parent port.
 use Rattle.std.specs.Prelude.{◌≡◌, ℕ, ◌-◌, ◌*◌, ◌<◌, ◌≤◌, Bool, true, false, ◌&&◌, ◌||◌, List, [], ◌∷◌, nat_lt, Some, slice_get}
 use Rattle.port_state.specs.declared.signal.Level.{Level}
 use Rattle.port_state.specs.declared.signal.Level.TheVariants as level
@@ -32,8 +32,8 @@ abbrev pub is_reset_known : ℕ → NodeState → Bool
 is_reset_known d x =
     (is_resetting x.view.phase && nat_lt d x.view.timer) || is_after_hold x.view.phase
 
--- What is so of a node at one port of a cable, with the signals under way from there, and of the node at the
--- other port, with the signals back.
+-- What is so of a node at one port of a cable, with the signals under way from there, and of the
+-- node at the other port, with the signals back.
 pub record Coupling
     (d : ℕ) (x : NodeState) (p : PortNumber) (there : List Travelling)
     (y : NodeState) (q : PortNumber) (back : List Travelling) : Type 0 where
@@ -47,7 +47,8 @@ pub record Coupling
       (shows_no_notice (level_shown y q) ≡ true) × (has_no_notice (signals_of there) ≡ true)
   -- and the other node is before the tree too, or asks this one
   pub early : is_reset_known d x ≡ true → (is_before_tree y.view.phase || is_asking y q) ≡ true
-  -- a child port leads to a parent port, unless a Reset comes from there, and no Parent is shown or sent
+  -- a child port leads to a parent port, unless a Reset comes from there, and no Parent is shown or
+  -- sent
   pub child : leads_down x.view.ports p ≡ true → has_reset (signals_of back) ≡ false →
       (is_port y.view.parent q ≡ true) × (is_parent (level_shown y q) ≡ false) ×
       (has_no_parent_signal (signals_of there) ≡ true)
@@ -68,6 +69,7 @@ WaitsLong d x = x.view.phase ≡ Contend → 3 * d ≤ x.view.wait
 -- all nodes and all cables
 pub record IsCoupled (w : CableWorld) : Type 0 where
   pub watches : (k : NodeNumber) (x : PortNode) → slice_get w.nodes k ≡ Some x → HeedsReset x.state
-  pub waits : (k : NodeNumber) (x : PortNode) → slice_get w.nodes k ≡ Some x → WaitsLong w.delay x.state
+  pub waits :
+      (k : NodeNumber) (x : PortNode) → slice_get w.nodes k ≡ Some x → WaitsLong w.delay x.state
   pub cables : AtCables w (λ a x b y.
       Coupling w.delay x a.port (wire_of w a).signals y b.port (wire_of w b).signals)

@@ -5,7 +5,8 @@ use Rattle.port_state.specs.declared.signal.Phase.TheVariants.{ResetStart, Reset
 use Rattle.cable_world.specs.World.{CableWorld}
 use Rattle.cable_world.specs.Outcome.{Shows}
 
--- Some node resets the bus; whoever does has just begun; none waits for its neighbours' resets to end.
+-- Some node resets the bus; whoever does has just begun; none waits for its neighbours' resets to
+-- end.
 pub record IsFresh (w : CableWorld) (set : ℕ) : Type 0 where
   pub node : ℕ
   pub holds : Holds set node

@@ -23,7 +23,9 @@ pub record FitsCables (w : CableWorld) (k : ℕ) (x : NodeState) : Type 0 where
   pub timing : InRange w.delay x.timing
   pub ports : length (ports_of w.cabling k) ≡ x.ports
   pub wires : length (slice_index_or w.wires k []) ≡ x.ports
-  pub connected : (p : ℕ) → is_connected x.view.ports p ≡ is_some (far w.cabling (record { node = k; port = p }))
+  pub connected :
+      (p : ℕ) →
+      is_connected x.view.ports p ≡ is_some (far w.cabling (record { node = k; port = p }))
 
 -- The tables of a world fit its nodes and its cables, and no signal is under way for too long.
 pub record IsWellFormed (w : CableWorld) : Type 0 where

@@ -1,13 +1,23 @@
+-- what there is
 pub mod Wire
-pub mod Signals
-pub mod Phases
 pub mod World
+-- what happens
 pub mod Turn
 pub mod Act
 pub mod Run
+-- what comes of it
 pub mod Outcome
+pub mod Fresh
+-- what holds on the way
+pub mod Phases
+pub mod Signals
 pub mod Agreement
 pub mod Coupling
-pub mod Fresh
 pub mod Lawful
+-- laws
+pub mod ByNumber
+pub mod Unchanged
+pub mod StaysLawful
+pub mod ResetsEnd
+-- answers of a world
 pub mod Answer

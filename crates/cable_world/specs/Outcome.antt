@@ -11,7 +11,7 @@ use Rattle.port_state.specs.declared.signal.Phase.TheVariants.{TreeStart}
 use Rattle.port_state.specs.declared.view.View.{View}
 use Rattle.port_state.specs.Group.{shown_attrs}
 use Rattle.port_state.specs.Machine.{PortNode}
-use Rattle.cable_world.specs.World.{CableWorld}
+use Rattle.cable_world.specs.World.{CableWorld, NodeSet}
 
 -- the node of this number exists, and this holds of it
 abbrev pub AtNode : CableWorld → ℕ → (PortNode → Type 0) → Type 0
@@ -21,13 +21,14 @@ AtNode w k P = IsSomeAnd (slice_get w.nodes k) P
 abbrev pub Shows : CableWorld → ℕ → (View → Type 0) → Type 0
 Shows w k P = AtNode w k (λ x. P x.state.view)
 
--- A loop: the core isn't empty. Every node of it reports that the configuration timed out, and no node of
--- the component has an ID.
+-- A loop: the core isn't empty. Every node of it reports that the configuration timed out, and no
+-- node of the component has an ID.
 pub record IsLoop (w : CableWorld) (set core : ℕ) : Type 0 where
   pub is_core : IsCore w.cabling set core
   pub node : ℕ
   pub in_core : Holds core node
-  pub timed_out : (k : ℕ) → Holds core k → Shows w k (λ v. (v.phase ≡ TreeStart) × (v.timed_out ≡ true))
+  pub timed_out :
+      (k : ℕ) → Holds core k → Shows w k (λ v. (v.phase ≡ TreeStart) × (v.timed_out ≡ true))
   pub unnamed : (k : ℕ) → Holds set k → Shows w k (λ v. v.id ≡ None)
 
 -- no cables of the set form a loop
@@ -50,22 +51,25 @@ pub record IsContention (w : CableWorld) (set a b : ℕ) : Type 0 where
   pub holds_b : Holds set b
   pub port_a : ℕ
   pub port_b : ℕ
-  pub cable : far w.cabling (record { node = a; port = port_a }) ≡ Some (record { node = b; port = port_b })
+  pub cable :
+      far w.cabling (record { node = a; port = port_a }) ≡ Some (record { node = b; port = port_b })
   pub draws : Shows w a (λ v. Shows w b (λ u. DrewAlike v u))
 
 -- the attributes that the nodes show, by number
 abbrev pub attrs_now : CableWorld → List Attrs
 attrs_now w = map (λ (x : PortNode). shown_attrs x.state) w.nodes
 
--- A tree: one node, the root, has no parent. The tree that the cables show from there, with the attributes
--- of now, gives each node its ID, which is its place in the walk, and its list.
+-- A tree: one node, the root, has no parent. The tree that the cables show from there, with the
+-- attributes of now, gives each node its ID, which is its place in the walk, and its list.
 pub record IsTree (w : CableWorld) (set root : ℕ) (t : Tree) : Type 0 where
   pub no_loop : HasNoLoop w set
   pub holds_root : Holds set root
   pub seen : Sees w.cabling (labels (attrs_now w)) root None t
   pub no_parent : Shows w root (λ v. v.parent ≡ None)
   pub parents : (k : ℕ) → Holds set k → k ≢ root → Shows w k (λ v. IsSome v.parent)
-  pub ids : (k : ℕ) → Holds set k → Shows w k (λ v. IsSomeAnd v.id (λ i. slice_get (numbers w.cabling root t) i ≡ Some k))
+  pub ids :
+      (k : ℕ) → Holds set k →
+      Shows w k (λ v. IsSomeAnd v.id (λ i. slice_get (numbers w.cabling root t) i ≡ Some k))
   pub lists : (k : ℕ) → Holds set k → AtNode w k (λ x. x.state.list.items ≡ emits t)
 
 pub data Outcome : Type 0 where
@@ -90,3 +94,8 @@ IsOutcome w set (contention a b) =
 -- a component that has one is settled
 abbrev pub IsSettled : CableWorld → ℕ → Type 0
 IsSettled w set = (o : Outcome) × IsOutcome w set o
+
+abbrev pub OneOutcomeAtMost : Type 0
+OneOutcomeAtMost =
+    (w : CableWorld) (set : NodeSet) (one other : Outcome) →
+    IsOutcome w set one → IsOutcome w set other → one ≡ other

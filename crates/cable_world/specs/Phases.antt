@@ -33,8 +33,8 @@ abbrev pub is_contending : Phase → Bool
 is_contending Contend = true
 is_contending phase = false
 
--- the phases in which nothing was sent for as long as the timer tells, or one turn less: a node may enter R0
--- in a turn before its clock ticks
+-- the phases in which nothing was sent for as long as the timer tells, or one turn less: a node may
+-- enter R0 in a turn before its clock ticks
 abbrev pub is_timed : Phase → Bool
 is_timed phase = is_before_tree phase || is_contending phase
 

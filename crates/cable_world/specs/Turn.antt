@@ -1,5 +1,5 @@
--- A turn. What a node sends stays on its wires until a later turn, so nodes don't meet within one: each
--- takes its turn from the world as it was before, all at once.
+-- A turn. What a node sends stays on its wires until a later turn, so nodes don't meet within one:
+-- each takes its turn from the world as it was before, all at once.
 use Rattle.std.specs.Prelude.{ℕ, zero, suc, ◌+◌, Bool, List, [], ◌∷◌, ◌++◌, map, Option, None, Some, nat_eq, if◌then◌else◌}
 use Rattle.std.specs.Cmp.Lexicographic.{pointwise}
 use Rattle.cabling.specs.declared.cable.End.{End}
@@ -21,8 +21,8 @@ abbrev pub signals_from : CableWorld → Option End → List Signal
 signals_from w None = []
 signals_from w (Some far) = arrives w.delay (wire_of w far)
 
--- the signals for the ports from number p on, with these far ends: by rising port, and those of one port
--- oldest first
+-- the signals for the ports from number p on, with these far ends: by rising port, and those of one
+-- port oldest first
 abbrev pub inbox : CableWorld → PortNumber → List (Option End) → List PortSignal
 inbox w p [] = []
 inbox w p (far ∷ ports) = map (λ s. (p, s)) (signals_from w far) ++ inbox w (p + 1) ports
@@ -40,7 +40,8 @@ abbrev pub hear_all : List PortSignal → NodeState → Step
 hear_all [] x = silent_step x
 hear_all (s ∷ ss) x = step_then (on_signal s.0 s.1 x) (hear_all ss)
 
--- A node's part of a turn: it hears signals, and then its clock ticks. Hearing leaves its coins alone.
+-- A node's part of a turn: it hears signals, and then its clock ticks. Hearing leaves its coins
+-- alone.
 abbrev pub node_turn : List PortSignal → PortNode → NodeStep
 node_turn signals n =
     let heard = hear_all signals n.state in

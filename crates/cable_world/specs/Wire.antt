@@ -35,7 +35,8 @@ abbrev pub front_is_due : ℕ → List Travelling → Bool
 front_is_due d [] = false
 front_is_due d (t ∷ ts) = nat_le d t.age
 
--- a wire gives all its signals, unless it is held; when the oldest is due it gives them all the same
+-- a wire gives all its signals, unless it is held; when the oldest is due it gives them all the
+-- same
 abbrev pub gives : ℕ → Wire → Bool
 gives d w = (w.held == 0) || front_is_due d w.signals
 

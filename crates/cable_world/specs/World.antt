@@ -15,8 +15,8 @@ pub record CableWorld : Type 0 where
   pub cabling : Wiring
   -- each node, by its number
   pub nodes : List PortNode
-  -- For each node and port the wire that leaves there. A cable has two wires, one from each of its ends
-  -- to the other; where no cable is, the wire is empty.
+  -- For each node and port the wire that leaves there. A cable has two wires, one from each of its
+  -- ends to the other; where no cable is, the wire is empty.
   pub wires : List (List Wire)
   -- for each node the number of turns done when its list last changed, or 0
   pub changed : List ℕ
@@ -71,5 +71,6 @@ pub record IsPowerOnWorld (w : CableWorld) : Type 0 where
   pub some_delay : 1 ≤ w.delay
   pub short_delay : w.delay ≤ 16
   pub few_nodes : length w.nodes ≤ 63
-  pub nodes : (k : ℕ) (x : PortNode) → slice_get w.nodes k ≡ Some x → IsNodeAtPowerOn w.delay x.state
+  pub nodes :
+      (k : ℕ) (x : PortNode) → slice_get w.nodes k ≡ Some x → IsNodeAtPowerOn w.delay x.state
   pub is : w ≡ world_of_nodes w.delay w.nodes

@@ -1,9 +1,9 @@
-//! The world of cables: nodes whose machines send signals over wires that take time, what happens to
-//! it between turns, and what a turn is.
+//! The world of cables: nodes whose machines send signals over wires that take time, what happens
+//! to it between turns, and what a turn is.
 //!
-//! `specs/` has the definitions: `Wire` and `World` say what there is, `Turn` and `Act` what happens,
-//! `Run` what comes of it from power-on, `Outcome` what a bus may settle to. A world that does so is a
-//! `WorldRun`.
+//! `specs/` has the definitions: `Wire` and `World` say what there is, `Turn` and `Act` what
+//! happens, `Run` what comes of it from power-on, `Outcome` what a bus may settle to. A world that
+//! does so is a `WorldRun`.
 #![tactic(auto)]
 
 mod act;
@@ -13,6 +13,6 @@ mod run;
 pub use act::{Act, ActStop};
 pub use laws::{
     acts_keep, outcomes_are_one, resets_end, turn_by_number, turn_keeps, turns_add_up,
-    worlds_stay_lawful,
+    worlds_stay_lawful, worlds_stay_reached,
 };
 pub use run::WorldRun;

@@ -4,7 +4,8 @@ ghost use Rattle.port_state.specs.Group.{shown_attrs};
 ghost use Rattle.cable_world.specs.World.{CableWorld};
 ghost use Rattle.cable_world.specs.Turn.{turn, turns_after};
 ghost use Rattle.cable_world.specs.Act.{ActLeads, IsAct, act_fault, hold, hold_fault};
-ghost use Rattle.cable_world.specs.Lawful.{IsLawful};
+ghost use Rattle.cable_world.specs.Run.{IsReached};
+ghost use Rattle.cable_world.specs.Unchanged.{TurnsPass};
 ghost use Rattle.cable_world.specs.Answer.{IfFault, IsMemory};
 
 use crate::act::{Act, ActStop};
@@ -14,10 +15,10 @@ use self_id::Attrs;
 
 /// A world of nodes and cables, whose clock goes in turns.
 ///
-/// What it keeps stands for a world as `specs/World.antt` has it, and each call does to that world what
-/// the definition of its name says. After want of memory in `act`, `turn` or `run_turns` the world is
-/// spent: these calls and `hold` then answer want of memory and change nothing. It is spent in no other
-/// case.
+/// What it keeps stands for a world as `specs/World.antt` has it, and each call does to that world
+/// what the definition of its name says. After want of memory in `act`, `turn` or `run_turns` the
+/// world is spent: these calls and `hold` then answer want of memory and change nothing. It is
+/// spent in no other case.
 pub trait WorldRun {
     ghost world: { Self → CableWorld };
 
@@ -32,8 +33,7 @@ pub trait WorldRun {
         requires { IsAct act.now }
         ensures done { OnOk result (ActLeads act.now (world self.old) (world self.new)) }
         ensures accepted { OnOk result (act_fault act.now (world self.old) ≡ None) }
-        ensures nodes { OnOk result (length (world self.new).nodes ≡ length (world self.old).nodes) }
-        ensures turns { OnOk result ((world self.new).turns ≡ (world self.old).turns) }
+        ensures passed { OnOk result (TurnsPass 0 (world self.old) (world self.new)) }
         ensures refused { IfFault result (λ f. act_fault act.now (world self.old) ≡ Some f) }
         ensures same { IfFault result (λ f. world self.new ≡ world self.old) }
         ensures memory { IsMemory result → IsFalse (is_spent self.old) → act_fault act.now (world self.old) ≡ None }
@@ -41,16 +41,15 @@ pub trait WorldRun {
         ensures was_spent { IsTrue (is_spent self.old) → IsMemory result × (world self.new ≡ world self.old) };
 
     /// Holds the wire that leaves an end during the next `turns` turns, in place of what an earlier
-    /// hold of it has left. A held wire gives its signals only when the oldest has been under way for as
-    /// many turns as a cable may delay it.
+    /// hold of it has left. A held wire gives its signals only when the oldest has been under way
+    /// for as many turns as a cable may delay it.
     ///
-    /// It is refused, in this order, with `NoNode`, `NoPort` or `NotPlugged`; a refusal changes nothing.
-    /// It takes no memory: want of memory is the answer of a spent world alone.
+    /// It is refused, in this order, with `NoNode`, `NoPort` or `NotPlugged`; a refusal changes
+    /// nothing. It takes no memory: want of memory is the answer of a spent world alone.
     fn hold(&mut self, end: End, turns: u16) -> Result<(), ActStop>
         ensures done { OnOk result (world self.new ≡ hold end turns (world self.old)) }
         ensures accepted { OnOk result (hold_fault end (world self.old) ≡ None) }
-        ensures nodes { OnOk result (length (world self.new).nodes ≡ length (world self.old).nodes) }
-        ensures turns { OnOk result ((world self.new).turns ≡ (world self.old).turns) }
+        ensures passed { OnOk result (TurnsPass 0 (world self.old) (world self.new)) }
         ensures refused { IfFault result (λ f. hold_fault end (world self.old) ≡ Some f) }
         ensures same { IfFault result (λ f. world self.new ≡ world self.old) }
         ensures spent { IsMemory result ↔ IsTrue (is_spent self.old) }
@@ -61,8 +60,7 @@ pub trait WorldRun {
     fn turn(&mut self) -> Result<(), OutOfMemory>
         requires { (world self.old).turns < 4000000000 }
         ensures done { OnOk result (world self.new ≡ turn (world self.old)) }
-        ensures nodes { OnOk result (length (world self.new).nodes ≡ length (world self.old).nodes) }
-        ensures turns { OnOk result ((world self.new).turns ≡ (world self.old).turns + 1) }
+        ensures passed { OnOk result (TurnsPass 1 (world self.old) (world self.new)) }
         ensures spent { IsErr result ↔ IsTrue (is_spent self.new) }
         ensures was_spent { IsTrue (is_spent self.old) → IsErr result × (world self.new ≡ world self.old) };
 
@@ -70,8 +68,7 @@ pub trait WorldRun {
     fn run_turns(&mut self, count: u32) -> Result<(), OutOfMemory>
         requires { (world self.old).turns + count ≤ 4000000000 }
         ensures done { OnOk result (world self.new ≡ turns_after count (world self.old)) }
-        ensures nodes { OnOk result (length (world self.new).nodes ≡ length (world self.old).nodes) }
-        ensures turns { OnOk result ((world self.new).turns ≡ (world self.old).turns + count) }
+        ensures passed { OnOk result (TurnsPass count (world self.old) (world self.new)) }
         ensures spent { IsErr result ↔ IsTrue (is_spent self.new) }
         ensures was_spent { IsTrue (is_spent self.old) → IsErr result × (world self.new ≡ world self.old) };
 
@@ -92,20 +89,20 @@ pub trait WorldRun {
         requires { node < length (world self.now).nodes }
         ensures { IsSomeAnd (slice_get (world self.now).nodes node) (λ x. result ≡ x.state.view) };
 
-    /// The first quadlets of the self-ID packets that a node heard or sent since its last reset. The
-    /// node exists.
+    /// The first quadlets of the self-ID packets that a node heard or sent since its last reset.
+    /// The node exists.
     fn list(&self, node: u8) -> &[u32]
         requires { node < length (world self.now).nodes }
         ensures { IsSomeAnd (slice_get (world self.now).nodes node) (λ x. result.now ≡ x.state.list.items) };
 
-    /// The attributes that a node shows, with the gap count and the initiated bit of its view. The node
-    /// exists.
+    /// The attributes that a node shows, with the gap count and the initiated bit of its view. The
+    /// node exists.
     fn attrs(&self, node: u8) -> Attrs
         requires { node < length (world self.now).nodes }
         ensures { IsSomeAnd (slice_get (world self.now).nodes node) (λ x. result ≡ shown_attrs x.state) };
 
-    /// The number of turns done at the end of the last turn or act after which a node's list was not
-    /// the list before it, or 0 where there was none. A turn counts itself. The node exists.
+    /// The number of turns done at the end of the last turn or act after which a node's list was
+    /// not the list before it, or 0 where there was none. A turn counts itself. The node exists.
     fn changed(&self, node: u8) -> u32
         requires { node < length (world self.now).nodes }
         ensures { slice_get (world self.now).changed node ≡ Some result };
@@ -114,6 +111,7 @@ pub trait WorldRun {
     fn spent(&self) -> bool
         ensures { result ≡ is_spent self.now };
 
-    // A world that isn't spent is lawful, whatever calls came before.
-    ghost lawful: { (w : Self) → IsFalse (is_spent w) → IsLawful (world w) };
+    // A world that isn't spent comes of a power-on world by acts, holds and turns, and so is lawful
+    // (`worlds_stay_lawful`).
+    ghost reached: { (w : Self) → IsFalse (is_spent w) → IsReached (world w) };
 }

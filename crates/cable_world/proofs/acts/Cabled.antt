@@ -7,8 +7,8 @@ use Rattle.cabling.proofs.Ends.{one_other, none_some, added_by_writes, taken_by_
 use Rattle.cabling.proofs.Plugging.{Pluggable, pluggable, other_there}
 use Rattle.cable_world.specs.World.{put}
 
--- A cable is put at two ends, or taken there, and both nodes reset the bus. No other cable has one of
--- these ends, and this one isn't there both before and afterwards.
+-- A cable is put at two ends, or taken there, and both nodes reset the bus. No other cable has one
+-- of these ends, and this one isn't there both before and afterwards.
 pub record Cabled (old c : Wiring) (a b : End) : Type 0 where
   pub has_a : HasEnd old a
   pub has_b : HasEnd old b
@@ -25,7 +25,8 @@ with_cable a b c = put b (Some a) (put a (Some b) c)
 abbrev pub without_cable : End → End → Wiring → Wiring
 without_cable a b c = put b None (put a None c)
 
-pub plug-cabled : (a b : End) (c : Wiring) → plug_fault c a b ≡ None → Cabled c (with_cable a b c) a b
+pub plug-cabled :
+    (a b : End) (c : Wiring) → plug_fault c a b ≡ None → Cabled c (with_cable a b c) a b
 plug-cabled a b c none =
     let may : Pluggable c a b = pluggable c a b none in
     let new : Wiring = with_cable a b c in
@@ -41,7 +42,8 @@ plug-cabled a b c none =
       once_b = λ z e h. none_some (far c b) z may.free_b e;
     }
 
-pub pull-cabled : (a b : End) (c : Wiring) → IsCabling c → far c a ≡ Some b → Cabled c (without_cable a b c) a b
+pub pull-cabled :
+    (a b : End) (c : Wiring) → IsCabling c → far c a ≡ Some b → Cabled c (without_cable a b c) a b
 pull-cabled a b c is at =
     let new : Wiring = without_cable a b c in
     let taken : TakenOut c new a b = taken_by_writes c a b is at in

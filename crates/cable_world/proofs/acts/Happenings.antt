@@ -34,7 +34,9 @@ pub record Entered (w v : CableWorld) (a b : End) (x : PortNode) : Type 0 where
   pub begun : HasBegun x.state
   pub last : (ts : List Travelling) × ((wire_of v a).signals ≡ ts ++ new_signal signal.Reset ∷ [])
   -- behind what was under way, if the cable was there
-  pub signals : far w.cabling a ≡ Some b → (wire_of v a).signals ≡ (wire_of w a).signals ++ new_signal signal.Reset ∷ []
+  pub signals :
+      far w.cabling a ≡ Some b →
+      (wire_of v a).signals ≡ (wire_of w a).signals ++ new_signal signal.Reset ∷ []
 
 -- or all is as it was
 pub record Stayed (w v : CableWorld) (a b : End) (x : PortNode) : Type 0 where
@@ -42,23 +44,34 @@ pub record Stayed (w v : CableWorld) (a b : End) (x : PortNode) : Type 0 where
   pub signals : (wire_of v a).signals ≡ (wire_of w a).signals
   pub cable : far w.cabling a ≡ Some b
 
--- what happens to all nodes, and to the ends of all cables; where a cable stays, its ports show what they did
+-- what happens to all nodes, and to the ends of all cables; where a cable stays, its ports show
+-- what they did
 pub record Happens (w v : CableWorld) : Type 0 where
   pub delay : v.delay ≡ w.delay
   pub before : IsWellFormed w
   pub after : IsWellFormed v
-  pub nodes : (k : ℕ) (x : PortNode) → slice_get v.nodes k ≡ Some x → HasBegun x.state ⊎ (slice_get w.nodes k ≡ Some x)
-  pub ends : (a b : End) (x : PortNode) → far v.cabling a ≡ Some b → slice_get v.nodes a.node ≡ Some x → Entered w v a b x ⊎ Stayed w v a b x
-  pub shows : (a b : End) → far w.cabling a ≡ Some b → far v.cabling a ≡ Some b → shown_at_end v a ≡ shown_at_end w a
+  pub nodes :
+      (k : ℕ) (x : PortNode) → slice_get v.nodes k ≡ Some x →
+      HasBegun x.state ⊎ (slice_get w.nodes k ≡ Some x)
+  pub ends :
+      (a b : End) (x : PortNode) → far v.cabling a ≡ Some b → slice_get v.nodes a.node ≡ Some x →
+      Entered w v a b x ⊎ Stayed w v a b x
+  pub shows :
+      (a b : End) → far w.cabling a ≡ Some b → far v.cabling a ≡ Some b →
+      shown_at_end v a ≡ shown_at_end w a
 
 -- what an end shows, said of its node
-pub shown-is : (w : CableWorld) (a : End) (x : PortNode) → slice_get w.nodes a.node ≡ Some x → shown_at_end w a ≡ shown_if_there x.state a.port
+pub shown-is :
+    (w : CableWorld) (a : End) (x : PortNode) → slice_get w.nodes a.node ≡ Some x →
+    shown_at_end w a ≡ shown_if_there x.state a.port
 shown-is w a x at = ap (λ o. shown_of_node o a.port) at
 
 -- ---- hold
 
 -- the signals under way are the same
-pub hold-signals : (end : End) (turns : ℕ) (w : CableWorld) → hold_fault end w ≡ None → IsWellFormed w → (a : End) → (wire_of (hold end turns w) a).signals ≡ (wire_of w a).signals
+pub hold-signals :
+    (end : End) (turns : ℕ) (w : CableWorld) → hold_fault end w ≡ None → IsWellFormed w →
+    (a : End) → (wire_of (hold end turns w) a).signals ≡ (wire_of w a).signals
 hold-signals end turns w none f a =
     let v = hold end turns w in
     let held : Wire = record (wire_of w end) { held = turns } in
@@ -69,7 +82,9 @@ hold-signals end turns w none f a =
       | inr ne ↦ ap (λ (u : Wire). u.signals) (put-other empty_wire w.wires end a held there.node ne)
     ]
 
-pub hold-happens : (end : End) (turns : ℕ) (w : CableWorld) → hold_fault end w ≡ None → IsWellFormed w → Happens w (hold end turns w)
+pub hold-happens :
+    (end : End) (turns : ℕ) (w : CableWorld) → hold_fault end w ≡ None → IsWellFormed w →
+    Happens w (hold end turns w)
 hold-happens end turns w none f = record {
   delay = refl;
   before = f;
@@ -81,31 +96,46 @@ hold-happens end turns w none f = record {
 
 -- ---- a step that resets the bus
 
-step-delay : (k : ℕ) (step : PortNode → NodeStep) (w : CableWorld) → (with_step k step w).delay ≡ w.delay
+step-delay :
+    (k : ℕ) (step : PortNode → NodeStep) (w : CableWorld) → (with_step k step w).delay ≡ w.delay
 step-delay k step w = go (slice_get w.nodes k)
   where
     go : (o : Option PortNode) → (step_at o k step w).delay ≡ w.delay
     go None = refl
     go (Some x) = refl
 
-step-begins : (P : ℕ → Type 0) (k : ℕ) (step : PortNode → NodeStep) (w : CableWorld) (x : PortNode) → Resets P step → slice_get (with_step k step w).nodes k ≡ Some x → HasBegun x.state
+step-begins :
+    (P : ℕ → Type 0) (k : ℕ) (step : PortNode → NodeStep) (w : CableWorld) (x : PortNode) →
+    Resets P step → slice_get (with_step k step w).nodes k ≡ Some x → HasBegun x.state
 step-begins P k step w x s = go (slice_get w.nodes k) refl
   where
-    go : (o : Option PortNode) → slice_get w.nodes k ≡ o → slice_get (step_at o k step w).nodes k ≡ Some x → HasBegun x.state
+    go :
+        (o : Option PortNode) → slice_get w.nodes k ≡ o →
+        slice_get (step_at o k step w).nodes k ≡ Some x → HasBegun x.state
     go None at e = absurd (none-some (slice_get w.nodes k) x at e)
     go (Some y) at e =
         let now : slice_get (slice_set w.nodes k (step y).node) k ≡ Some (step y).node = replaced w.nodes k (step y).node (slice_get_within w.nodes k y at) in
         subst (λ (z : PortNode). HasBegun z.state) (some-same (step y).node x (sym now ∙ e)) (s.begins y)
 
 -- what held of all nodes, compared with a first world, holds after the step
-step-nodes : (P : ℕ → Type 0) (k : ℕ) (step : PortNode → NodeStep) (first w : CableWorld) → Resets P step → ((j : ℕ) (x : PortNode) → slice_get w.nodes j ≡ Some x → HasBegun x.state ⊎ (slice_get first.nodes j ≡ Some x)) → (j : ℕ) (x : PortNode) → slice_get (with_step k step w).nodes j ≡ Some x → HasBegun x.state ⊎ (slice_get first.nodes j ≡ Some x)
+step-nodes :
+    (P : ℕ → Type 0) (k : ℕ) (step : PortNode → NodeStep) (first w : CableWorld) → Resets P step →
+    ((j : ℕ) (x : PortNode) → slice_get w.nodes j ≡ Some x → HasBegun x.state ⊎ (slice_get first.nodes j ≡ Some x)) →
+    (j : ℕ) (x : PortNode) → slice_get (with_step k step w).nodes j ≡ Some x →
+    HasBegun x.state ⊎ (slice_get first.nodes j ≡ Some x)
 step-nodes P k step first w s h j x at = elim (cases_eq j k) [
   | inl n ↦ inl (step-begins P k step w x s (subst (λ (i : ℕ). slice_get (with_step k step w).nodes i ≡ Some x) n at))
   | inr ne ↦ h j x (sym (untouched k step w j ne).node ∙ at)
 ]
 
 -- and so does what held of an end
-step-end : (P : ℕ → Type 0) (k : ℕ) (step : PortNode → NodeStep) (first w : CableWorld) (a b : End) (x : PortNode) → Resets P step → CableEnd (with_step k step w) a → slice_get (with_step k step w).nodes a.node ≡ Some x → (a.node ≡ k → far first.cabling a ≡ Some b → (wire_of w a).signals ≡ (wire_of first a).signals) → (a.node ≢ k → slice_get w.nodes a.node ≡ Some x → Entered first w a b x ⊎ Stayed first w a b x) → Entered first (with_step k step w) a b x ⊎ Stayed first (with_step k step w) a b x
+step-end :
+    (P : ℕ → Type 0) (k : ℕ) (step : PortNode → NodeStep) (first w : CableWorld) (a b : End) (x : PortNode) →
+    Resets P step → CableEnd (with_step k step w) a →
+    slice_get (with_step k step w).nodes a.node ≡ Some x →
+    (a.node ≡ k → far first.cabling a ≡ Some b → (wire_of w a).signals ≡ (wire_of first a).signals) →
+    (a.node ≢ k → slice_get w.nodes a.node ≡ Some x → Entered first w a b x ⊎ Stayed first w a b x) →
+    Entered first (with_step k step w) a b x ⊎ Stayed first (with_step k step w) a b x
 step-end P k step first w a b x s on at own other =
     let v = with_step k step w in
     elim (cases_eq a.node k) [
@@ -125,7 +155,9 @@ step-end P k step first w a b x s on at own other =
 
 -- ---- resets
 
-reset-happens : (node : ℕ) (w : CableWorld) → IsWellFormed w → IsWellFormed (reset node w) → Happens w (reset node w)
+reset-happens :
+    (node : ℕ) (w : CableWorld) → IsWellFormed w → IsWellFormed (reset node w) →
+    Happens w (reset node w)
 reset-happens node w f g =
     let v = reset node w in
     let All : ℕ → Type 0 = λ k. Unit {0} in
@@ -143,7 +175,11 @@ reset-happens node w f g =
 
 -- ---- plugging and pulling
 
-both-happen : (a b : End) (f g : PortNode → NodeStep) (c : Wiring) (w : CableWorld) → Resets (other_than a.port) f → Resets (other_than b.port) g → Cabled w.cabling c a b → IsWellFormed w → IsWellFormed (with_step b.node g (with_step a.node f (recabled c a b w))) → Happens w (with_step b.node g (with_step a.node f (recabled c a b w)))
+both-happen :
+    (a b : End) (f g : PortNode → NodeStep) (c : Wiring) (w : CableWorld) →
+    Resets (other_than a.port) f → Resets (other_than b.port) g → Cabled w.cabling c a b →
+    IsWellFormed w → IsWellFormed (with_step b.node g (with_step a.node f (recabled c a b w))) →
+    Happens w (with_step b.node g (with_step a.node f (recabled c a b w)))
 both-happen a b f g c w resets-f resets-g k old new =
     let A = other_than a.port in
     let B = other_than b.port in
@@ -183,7 +219,9 @@ both-happen a b f g c w resets-f resets-g k old new =
           ∙ step-shown A a.node f start x resets-f (λ n p. not-a x y was e (same_end x a n p));
     }
 
-plug-happens : (a b : End) (w : CableWorld) → plug_fault w.cabling a b ≡ None → IsWellFormed w → Happens w (plug a b w)
+plug-happens :
+    (a b : End) (w : CableWorld) → plug_fault w.cabling a b ≡ None → IsWellFormed w →
+    Happens w (plug a b w)
 plug-happens a b w none f =
     both-happen a b (node_plugged a.port) (node_plugged b.port) (with_cable a b w.cabling) w (resets-plugged a.port) (resets-plugged b.port) (plug-cabled a b w.cabling none) f (plug-formed a b w none f)
 
@@ -198,7 +236,9 @@ nothing w f = record {
   shows = λ a b e u. refl;
 }
 
-pull-happens : (a : End) (o : Option End) (w : CableWorld) → far w.cabling a ≡ o → IsWellFormed w → Happens w (pull_from a o w)
+pull-happens :
+    (a : End) (o : Option End) (w : CableWorld) → far w.cabling a ≡ o → IsWellFormed w →
+    Happens w (pull_from a o w)
 pull-happens a None w at f = nothing w f
 pull-happens a (Some b) w at f =
     both-happen a b (node_pulled a.port) (node_pulled b.port) (without_cable a b w.cabling) w (resets-pulled a.port) (resets-pulled b.port) (pull-cabled a b w.cabling f.cabling at) f (pull-formed a (Some b) w at f)
@@ -206,7 +246,10 @@ pull-happens a (Some b) w at f =
 -- ---- configuration packets
 
 -- what a change of a node keeps holds after a change of some nodes
-pub each-kept : (set : ℕ) (change : PortNode → PortNode) (nodes : List PortNode) (k : ℕ) (P : PortNode → Type 0) → ((x : PortNode) → P x → P (change x)) → ((x : PortNode) → slice_get nodes k ≡ Some x → P x) → (x : PortNode) → slice_get (change_in_set set change 0 nodes) k ≡ Some x → P x
+pub each-kept :
+    (set : ℕ) (change : PortNode → PortNode) (nodes : List PortNode) (k : ℕ) (P : PortNode → Type 0) →
+    ((x : PortNode) → P x → P (change x)) → ((x : PortNode) → slice_get nodes k ≡ Some x → P x) →
+    (x : PortNode) → slice_get (change_in_set set change 0 nodes) k ≡ Some x → P x
 each-kept set change nodes k P keeps h x at = elim (was set change 0 nodes k x at) [
   | as_before e ↦ h x e
   | altered y e is ↦ subst P is (keeps y (h y e))
@@ -214,15 +257,20 @@ each-kept set change nodes k P keeps h x at = elim (was set change 0 nodes k x a
 
 -- ---- every act
 
--- An act is noted last. Before that it happens to the world, or to the world in which some nodes heard a packet.
+-- An act is noted last. Before that it happens to the world, or to the world in which some nodes
+-- heard a packet.
 pub record Acting (w v : CableWorld) : Type 0 where
   pub told : CableWorld
-  pub hears : (told ≡ w) ⊎ ((set : ℕ) × (packet : ConfigPacket) × (told ≡ record w { nodes = change_in_set set (node_set_config packet) 0 w.nodes }))
+  pub hears :
+      (told ≡ w)
+      ⊎ ((set : ℕ) × (packet : ConfigPacket) × (told ≡ record w { nodes = change_in_set set (node_set_config packet) 0 w.nodes }))
   pub done : CableWorld
   pub happens : Happens told done
   pub is : v ≡ note_changes w done
 
-pub acting : (a : Act) (w v : CableWorld) → IsAct a → act_fault a w ≡ None → ActLeads a w v → IsWellFormed w → Acting w v
+pub acting :
+    (a : Act) (w v : CableWorld) → IsAct a → act_fault a w ≡ None → ActLeads a w v →
+    IsWellFormed w → Acting w v
 acting (Plug a b) w v is none e f = record { told = w; hears = inl refl; done = plug a b w; happens = plug-happens a b w none f; is = e }
 acting (Pull end) w v is none e f = record { told = w; hears = inl refl; done = pull_from end (far w.cabling end) w; happens = pull-happens end (far w.cabling end) w refl f; is = e }
 acting (Reset node) w v is none e f = record { told = w; hears = inl refl; done = reset node w; happens = reset-happens node w f (reset-formed node w f); is = e }

@@ -43,13 +43,19 @@ pub record HasBegun (x : NodeState) : Type 0 where
   pub draws : x.view.draws ≡ 0
   pub first_draws : x.view.first_draws ≡ 0
 
--- its node enters R0, and sends Reset on each port with a cable; what these ports show it leaves alone
+-- its node enters R0, and sends Reset on each port with a cable; what these ports show it leaves
+-- alone
 pub record Resets (P : ℕ → Type 0) (f : PortNode → NodeStep) : Type 0 where
   pub begins : (x : PortNode) → HasBegun (f x).node.state
-  pub sent : (x : PortNode) (k : ℕ) → is_connected (f x).node.state.view.ports k ≡ true → sent_on k (f x).sends ≡ signal.Reset ∷ []
-  pub shows : (x : PortNode) (k : ℕ) → P k → shown_if_there (f x).node.state k ≡ shown_if_there x.state k
+  pub sent :
+      (x : PortNode) (k : ℕ) → is_connected (f x).node.state.view.ports k ≡ true →
+      sent_on k (f x).sends ≡ signal.Reset ∷ []
+  pub shows :
+      (x : PortNode) (k : ℕ) → P k → shown_if_there (f x).node.state k ≡ shown_if_there x.state k
 
-enter-sends : (x : NodeState) (k : ℕ) → is_connected x.view.ports k ≡ true → sent_on k (enter true x).sends ≡ signal.Reset ∷ []
+enter-sends :
+    (x : NodeState) (k : ℕ) → is_connected x.view.ports k ≡ true →
+    sent_on k (enter true x).sends ≡ signal.Reset ∷ []
 unfolding enter
 enter-sends x k c = on_every-port k signal.Reset x.view.ports ∙ (rw c refl)
 
@@ -57,7 +63,10 @@ enter-begins : (x : NodeState) → HasBegun (enter true x).state
 unfolding enter
 enter-begins x = record { phase = refl; timer = refl; draws = refl; first_draws = refl }
 
-entering : (P : ℕ → Type 0) (change : NodeState → NodeState) → ((x : NodeState) (k : ℕ) → P k → shown_if_there (change x) k ≡ shown_if_there x k) → Resets P (λ x. with_coins x.coins (enter true (change x.state)))
+entering :
+    (P : ℕ → Type 0) (change : NodeState → NodeState) →
+    ((x : NodeState) (k : ℕ) → P k → shown_if_there (change x) k ≡ shown_if_there x k) →
+    Resets P (λ x. with_coins x.coins (enter true (change x.state)))
 entering P change h = record {
   begins = λ x. enter-begins (change x.state);
   sent = λ x k c. enter-sends (change x.state) k (sym (enter-cables true (change x.state) k) ∙ c);
@@ -68,7 +77,9 @@ abbrev pub other_than : ℕ → ℕ → Type 0
 other_than port k = k ≢ port
 
 -- where one port is changed, the others show what they did
-others-show : (port : ℕ) (f : PortView → PortView) (x : NodeState) (k : ℕ) → k ≢ port → shown_if_there (with_port port f x) k ≡ shown_if_there x k
+others-show :
+    (port : ℕ) (f : PortView → PortView) (x : NodeState) (k : ℕ) → k ≢ port →
+    shown_if_there (with_port port f x) k ≡ shown_if_there x k
 others-show port f x k ne =
     ap (option_map (λ (p : PortView). p.shown)) (changed-port port k f x.view.ports)
     ∙ (rw (ne_eqb k port ne) refl)
@@ -93,7 +104,9 @@ pub record Untouched (w v : CableWorld) (j : ℕ) : Type 0 where
   pub row : slice_index_or v.wires j [] ≡ slice_index_or w.wires j []
   pub rows : length v.wires ≡ length w.wires
 
-pub untouched : (k : ℕ) (step : PortNode → NodeStep) (w : CableWorld) (j : ℕ) → j ≢ k → Untouched w (with_step k step w) j
+pub untouched :
+    (k : ℕ) (step : PortNode → NodeStep) (w : CableWorld) (j : ℕ) → j ≢ k →
+    Untouched w (with_step k step w) j
 untouched k step w j ne = go (slice_get w.nodes k)
   where
     go : (o : Option PortNode) → Untouched w (step_at o k step w) j
@@ -106,7 +119,8 @@ untouched k step w j ne = go (slice_get w.nodes k)
           rows = length-set w.wires k sent;
         }
 
-same-shown : (w v : CableWorld) (e : End) → Untouched w v e.node → shown_at_end v e ≡ shown_at_end w e
+same-shown :
+    (w v : CableWorld) (e : End) → Untouched w v e.node → shown_at_end v e ≡ shown_at_end w e
 same-shown w v e u = ap (λ o. shown_of_node o e.port) u.node
 
 pub same-wire : (w v : CableWorld) (e : End) → Untouched w v e.node → wire_of v e ≡ wire_of w e
@@ -128,10 +142,14 @@ still-there w v e u r = record {
 abbrev SaysReset : CableWorld → CableWorld → End → Type 0
 SaysReset w v e = (wire_of v e).signals ≡ (wire_of w e).signals ++ new_signal signal.Reset ∷ []
 
-own-reset : (P : ℕ → Type 0) (step : PortNode → NodeStep) (w : CableWorld) (e : End) → Resets P step → CableEnd (with_step e.node step w) e → SaysReset w (with_step e.node step w) e
+own-reset :
+    (P : ℕ → Type 0) (step : PortNode → NodeStep) (w : CableWorld) (e : End) → Resets P step →
+    CableEnd (with_step e.node step w) e → SaysReset w (with_step e.node step w) e
 own-reset P step w e s = go (slice_get w.nodes e.node) refl
   where
-    go : (o : Option PortNode) → slice_get w.nodes e.node ≡ o → CableEnd (step_at o e.node step w) e → SaysReset w (step_at o e.node step w) e
+    go :
+        (o : Option PortNode) → slice_get w.nodes e.node ≡ o →
+        CableEnd (step_at o e.node step w) e → SaysReset w (step_at o e.node step w) e
     go None at r = absurd (none-some (slice_get w.nodes e.node) r.node at r.node_at)
     go (Some x) at r =
         let y : NodeStep = step x in
@@ -155,21 +173,30 @@ own-reset P step w e s = go (slice_get w.nodes e.node) refl
         ∙ ap (λ n. add_signals (sent_on n y.sends) old) z
         ∙ ap (λ l. add_signals l old) (s.sent x e.port on))
 
-pub step-reset : (P : ℕ → Type 0) (k : ℕ) (step : PortNode → NodeStep) (w : CableWorld) (e : End) → Resets P step → e.node ≡ k → CableEnd (with_step k step w) e → SaysReset w (with_step k step w) e
+pub step-reset :
+    (P : ℕ → Type 0) (k : ℕ) (step : PortNode → NodeStep) (w : CableWorld) (e : End) →
+    Resets P step → e.node ≡ k → CableEnd (with_step k step w) e →
+    SaysReset w (with_step k step w) e
 step-reset P k step w e s n =
     subst (λ (j : ℕ). CableEnd (with_step j step w) e → SaysReset w (with_step j step w) e) n (own-reset P step w e s)
 
-own-shown : (P : ℕ → Type 0) (step : PortNode → NodeStep) (w : CableWorld) (e : End) → Resets P step → P e.port → shown_at_end (with_step e.node step w) e ≡ shown_at_end w e
+own-shown :
+    (P : ℕ → Type 0) (step : PortNode → NodeStep) (w : CableWorld) (e : End) → Resets P step →
+    P e.port → shown_at_end (with_step e.node step w) e ≡ shown_at_end w e
 own-shown P step w e s p = go (slice_get w.nodes e.node) refl
   where
-    go : (o : Option PortNode) → slice_get w.nodes e.node ≡ o → shown_at_end (step_at o e.node step w) e ≡ shown_at_end w e
+    go :
+        (o : Option PortNode) → slice_get w.nodes e.node ≡ o →
+        shown_at_end (step_at o e.node step w) e ≡ shown_at_end w e
     go None at = refl
     go (Some x) at =
         ap (λ o. shown_of_node o e.port) (replaced w.nodes e.node (step x).node (slice_get_within w.nodes e.node x at))
         ∙ s.shows x e.port p
         ∙ sym (ap (λ o. shown_of_node o e.port) at)
 
-pub step-shown : (P : ℕ → Type 0) (k : ℕ) (step : PortNode → NodeStep) (w : CableWorld) (e : End) → Resets P step → (e.node ≡ k → P e.port) → shown_at_end (with_step k step w) e ≡ shown_at_end w e
+pub step-shown :
+    (P : ℕ → Type 0) (k : ℕ) (step : PortNode → NodeStep) (w : CableWorld) (e : End) →
+    Resets P step → (e.node ≡ k → P e.port) → shown_at_end (with_step k step w) e ≡ shown_at_end w e
 step-shown P k step w e s p = elim (cases_eq e.node k) [
   | inl n ↦ subst (λ (j : ℕ). shown_at_end (with_step j step w) e ≡ shown_at_end w e) n (own-shown P step w e s (p n))
   | inr ne ↦ same-shown w (with_step k step w) e (untouched k step w e.node ne)

@@ -36,7 +36,8 @@ since-zero : (n : ℕ) (ts : List Travelling) → n ≡ 0 → AllAsOldAs n ts
 since-zero n [] z = tt
 since-zero n (t ∷ ts) z = (omega (arith, z), since-zero n ts z)
 
-pub ends-in-reset : (ts : List Travelling) → has_reset (signals_of (ts ++ new_signal signal.Reset ∷ [])) ≡ true
+pub ends-in-reset :
+    (ts : List Travelling) → has_reset (signals_of (ts ++ new_signal signal.Reset ∷ [])) ≡ true
 ends-in-reset [] = refl
 ends-in-reset (t ∷ ts) = rw (ends-in-reset ts) (or-true (is_reset t.signal))
   where
@@ -45,7 +46,9 @@ ends-in-reset (t ∷ ts) = rw (ends-in-reset ts) (or-true (is_reset t.signal))
     or-true false = refl
 
 -- a Reset takes no Parent back
-reset-behind : (young : ℕ) (l : Level) (ts : List Travelling) → NoneTakesBack young l ts → NoneTakesBack young l (ts ++ new_signal signal.Reset ∷ [])
+reset-behind :
+    (young : ℕ) (l : Level) (ts : List Travelling) → NoneTakesBack young l ts →
+    NoneTakesBack young l (ts ++ new_signal signal.Reset ∷ [])
 reset-behind young l [] h = (λ age parent. refl, tt)
 reset-behind young l (t ∷ ts) h = (h.0, reset-behind young (level_after_one t.signal l) ts h.1)
 
@@ -57,14 +60,19 @@ not-contending x b e = let start : x.view.phase ≡ ResetStart = b.phase in cc
 not-known : (d : ℕ) (x : NodeState) → HasBegun x → is_reset_known d x ≡ true → ⊥
 not-known d x b e = go x.view.phase x.view.timer b.phase b.timer e
   where
-    go : (phase : Phase) (timer : ℕ) → phase ≡ ResetStart → timer ≡ 0 → ((is_resetting phase && nat_lt d timer) || is_after_hold phase) ≡ true → ⊥
+    go :
+        (phase : Phase) (timer : ℕ) → phase ≡ ResetStart → timer ≡ 0 →
+        ((is_resetting phase && nat_lt d timer) || is_after_hold phase) ≡ true → ⊥
     go phase timer p t k = grind (arith, p, t, k)
 
-pub not-leading : (x : NodeState) (k : ℕ) → HasBegun x → IsValid x → leads_down x.view.ports k ≡ false
+pub not-leading :
+    (x : NodeState) (k : ℕ) → HasBegun x → IsValid x → leads_down x.view.ports k ≡ false
 not-leading x k b v = no-child x.view.parent x.view.ports k (subst (λ (phase : Phase). FitsPhase phase x.view.parent x.view.ports) b.phase v.fits)
 
 -- at this end of the cable
-begun-here : (d : ℕ) (x : NodeState) (p : ℕ) (there : List Travelling) (y : NodeState) (q : ℕ) (back : List Travelling) → HasBegun x → IsValid x → Coupling d x p there y q back
+begun-here :
+    (d : ℕ) (x : NodeState) (p : ℕ) (there : List Travelling) (y : NodeState) (q : ℕ) (back : List Travelling) →
+    HasBegun x → IsValid x → Coupling d x p there y q back
 begun-here d x p there y q back b v =
     let timer : x.view.timer ≡ 0 = b.timer in
     record {
@@ -77,7 +85,10 @@ begun-here d x p there y q back b v =
     }
 
 -- at the other end
-begun-there : (d : ℕ) (x : NodeState) (p : ℕ) (there : List Travelling) (old y : NodeState) (q : ℕ) (back : List Travelling) → HasBegun y → level_shown y q ≡ level_shown old q → Coupling d x p there old q back → Coupling d x p there y q (back ++ new_signal signal.Reset ∷ [])
+begun-there :
+    (d : ℕ) (x : NodeState) (p : ℕ) (there : List Travelling) (old y : NodeState) (q : ℕ) (back : List Travelling) →
+    HasBegun y → level_shown y q ≡ level_shown old q → Coupling d x p there old q back →
+    Coupling d x p there y q (back ++ new_signal signal.Reset ∷ [])
 begun-there d x p there old y q back b shown c = record {
   timed = c.timed;
   reset = c.reset;
@@ -91,7 +102,10 @@ begun-there d x p there old y q back b shown c = record {
 
 module _ (w v : CableWorld) (h : Happens w v) (c : IsCoupled w) where
   -- a cable whose node at the first end is as it was
-  node-stayed : (a b : End) (x y : PortNode) → far v.cabling a ≡ Some b → slice_get v.nodes b.node ≡ Some y → Stayed w v a b x → Entered w v b a y ⊎ Stayed w v b a y → Coupling w.delay x.state a.port (wire_of w a).signals y.state b.port (wire_of v b).signals
+  node-stayed :
+      (a b : End) (x y : PortNode) → far v.cabling a ≡ Some b → slice_get v.nodes b.node ≡ Some y →
+      Stayed w v a b x → Entered w v b a y ⊎ Stayed w v b a y →
+      Coupling w.delay x.state a.port (wire_of w a).signals y.state b.port (wire_of v b).signals
   node-stayed a b x y e at s (inr u) =
       subst (λ (ts : List Travelling). Coupling w.delay x.state a.port (wire_of w a).signals y.state b.port ts) (sym u.signals)
       (c.cables a b x y s.cable s.node u.node)
@@ -105,7 +119,10 @@ module _ (w v : CableWorld) (h : Happens w v) (c : IsCoupled w) where
       (shown-same y.state old.node.state b.port same)
       (c.cables a b x old.node s.cable s.node old.node_at))
 
-  coupled-after : (a b : End) (x y : PortNode) → far v.cabling a ≡ Some b → slice_get v.nodes a.node ≡ Some x → slice_get v.nodes b.node ≡ Some y → Coupling v.delay x.state a.port (wire_of v a).signals y.state b.port (wire_of v b).signals
+  coupled-after :
+      (a b : End) (x y : PortNode) → far v.cabling a ≡ Some b → slice_get v.nodes a.node ≡ Some x →
+      slice_get v.nodes b.node ≡ Some y →
+      Coupling v.delay x.state a.port (wire_of v a).signals y.state b.port (wire_of v b).signals
   coupled-after a b x y e at there = elim (h.ends a b x e at) [
     | inl s ↦ begun-here v.delay x.state a.port (wire_of v a).signals y.state b.port (wire_of v b).signals s.begun (h.after.nodes a.node x at).valid
     | inr s ↦
@@ -127,13 +144,17 @@ module _ (w v : CableWorld) (h : Happens w v) (c : IsCoupled w) where
     cables = coupled-after;
   }
 
-pub hold-coupled : (end : End) (turns : ℕ) (w : CableWorld) → hold_fault end w ≡ None → IsWellFormed w → IsCoupled w → IsCoupled (hold end turns w)
+pub hold-coupled :
+    (end : End) (turns : ℕ) (w : CableWorld) → hold_fault end w ≡ None → IsWellFormed w →
+    IsCoupled w → IsCoupled (hold end turns w)
 hold-coupled end turns w none f c = happened w (hold end turns w) (hold-happens end turns w none f) c
 
 -- ---- configuration packets
 
 -- some nodes hear a packet
-told-coupled : (set : ℕ) (packet : ConfigPacket) (w : CableWorld) → IsCoupled w → IsCoupled (record w { nodes = change_in_set set (node_set_config packet) 0 w.nodes })
+told-coupled :
+    (set : ℕ) (packet : ConfigPacket) (w : CableWorld) → IsCoupled w →
+    IsCoupled (record w { nodes = change_in_set set (node_set_config packet) 0 w.nodes })
 told-coupled set packet w c =
     let change : PortNode → PortNode = node_set_config packet in
     record {
@@ -155,7 +176,9 @@ noting-coupled w u v e c =
     let all : IsCoupled (note_changes w u) = record { watches = c.watches; waits = c.waits; cables = c.cables } in
     subst IsCoupled (sym e) all
 
-pub act-coupled : (a : Act) (w v : CableWorld) → IsAct a → act_fault a w ≡ None → ActLeads a w v → IsWellFormed w → IsCoupled w → IsCoupled v
+pub act-coupled :
+    (a : Act) (w v : CableWorld) → IsAct a → act_fault a w ≡ None → ActLeads a w v →
+    IsWellFormed w → IsCoupled w → IsCoupled v
 act-coupled a w v is none e f c =
     let t : Acting w v = acting a w v is none e f in
     let heard : IsCoupled t.told = elim t.hears [

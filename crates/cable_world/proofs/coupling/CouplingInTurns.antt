@@ -1,4 +1,5 @@
--- A turn of a world keeps what is so at the two ends of each cable: that their levels agree, and the rest.
+-- A turn of a world keeps what is so at the two ends of each cable: that their levels agree, and
+-- the rest.
 use Rattle.std.proofs.Common.{◌≡◌, inl, inr, ℕ, ◌-◌, ◌<◌, List, [], ◌++◌, map, length, Some, slice_get, slice_index_or, sym, ◌∙◌, ap, subst, arith}
 use Rattle.std.proofs.lemmas.Option.{slice_get_within, slice_get_cases}
 use Rattle.port_state.specs.Coins.{coin}
@@ -37,10 +38,14 @@ side w a x = record {
 }
 
 -- its node and its wire afterwards
-pub side-node : (w : CableWorld) (a : End) (x : PortNode) → (turn_at w a.node x).node.state ≡ (ticking (side w a x)).state
+pub side-node :
+    (w : CableWorld) (a : End) (x : PortNode) →
+    (turn_at w a.node x).node.state ≡ (ticking (side w a x)).state
 side-node w a x = turn-state (inbox w 0 (ports_of w.cabling a.node)) x
 
-pub side-wire : (w : CableWorld) (a b : End) (x : PortNode) → IsWellFormed w → far w.cabling a ≡ Some b → slice_get w.nodes a.node ≡ Some x → (wire_of (turn w) a).signals ≡ wire_after (side w a x)
+pub side-wire :
+    (w : CableWorld) (a b : End) (x : PortNode) → IsWellFormed w → far w.cabling a ≡ Some b →
+    slice_get w.nodes a.node ≡ Some x → (wire_of (turn w) a).signals ≡ wire_after (side w a x)
 side-wire w a b x f e at =
     let fits : FitsCables w a.node x.state = f.nodes a.node x at in
     let p = port-there x.state a.port (cable-connected w a b x f e at) in
@@ -48,13 +53,19 @@ side-wire w a b x f e at =
     ap (λ (v : Wire). v.signals) (wire-after w a x f.count at inside)
     ∙ ap (λ l. (stays w.delay (wire_of w a)).signals ++ map new_signal l) (turn-sent (inbox w 0 (ports_of w.cabling a.node)) x a.port)
 
-pub hears : (w : CableWorld) (k : ℕ) (x : PortNode) → IsWellFormed w → slice_get w.nodes k ≡ Some x → HearsWell (inbox w 0 (ports_of w.cabling k)) x.state
+pub hears :
+    (w : CableWorld) (k : ℕ) (x : PortNode) → IsWellFormed w → slice_get w.nodes k ≡ Some x →
+    HearsWell (inbox w 0 (ports_of w.cabling k)) x.state
 hears w k x f at = hears-well (inbox w 0 (ports_of w.cabling k)) x.state (f.nodes k x at).valid
 
-pub ticks : (w : CableWorld) (k : ℕ) (x : PortNode) → IsWellFormed w → slice_get w.nodes k ≡ Some x → TicksWell (coin x.coins) (hear_all (inbox w 0 (ports_of w.cabling k)) x.state).state
+pub ticks :
+    (w : CableWorld) (k : ℕ) (x : PortNode) → IsWellFormed w → slice_get w.nodes k ≡ Some x →
+    TicksWell (coin x.coins) (hear_all (inbox w 0 (ports_of w.cabling k)) x.state).state
 ticks w k x f at = ticks-well (coin x.coins) (hear_all (inbox w 0 (ports_of w.cabling k)) x.state).state (hears w k x f at).valid
 
-pub ready : (w : CableWorld) (a b : End) (x : PortNode) → IsWellFormed w → IsCoupled w → far w.cabling a ≡ Some b → slice_get w.nodes a.node ≡ Some x → Ready w.delay (side w a x)
+pub ready :
+    (w : CableWorld) (a b : End) (x : PortNode) → IsWellFormed w → IsCoupled w →
+    far w.cabling a ≡ Some b → slice_get w.nodes a.node ≡ Some x → Ready w.delay (side w a x)
 ready w a b x f c e at = record {
   valid = (f.nodes a.node x at).valid;
   timing = (f.nodes a.node x at).timing;
@@ -70,7 +81,9 @@ ready w a b x f c e at = record {
 }
 
 -- a node after the turn is one before it that took its turn
-pub before : (w : CableWorld) (k : ℕ) (y : PortNode) → IsWellFormed w → slice_get (turn w).nodes k ≡ Some y → (x : PortNode) × (slice_get w.nodes k ≡ Some x) × (y ≡ (turn_at w k x).node)
+pub before :
+    (w : CableWorld) (k : ℕ) (y : PortNode) → IsWellFormed w → slice_get (turn w).nodes k ≡ Some y →
+    (x : PortNode) × (slice_get w.nodes k ≡ Some x) × (y ≡ (turn_at w k x).node)
 before w k y f e = elim (slice_get_cases w.nodes k).1 [
   | inl found ↦ (found.0, found.2, some-same y (turn_at w k found.0).node (sym e ∙ node-after w k found.0 f.count found.2))
   | inr lacks ↦ absurd (omega (arith, lacks.0, slice_get_within (turn w).nodes k y e, nodes-after w f.count))
@@ -110,12 +123,14 @@ cables-after P w f l c h a b y z e at_y at_z =
     rw (x.2, u.2, delay-after w, side-wire w a b x.0 f was x.1, side-wire w b a u.0 f back u.1)
     (h (side w a x.0) (side w b u.0) (pair w a b x.0 u.0 f l c was x.1 u.1))
 
-pub turn-levels : (w : CableWorld) → IsWellFormed w → LevelsAgree w → IsCoupled w → LevelsAgree (turn w)
+pub turn-levels :
+    (w : CableWorld) → IsWellFormed w → LevelsAgree w → IsCoupled w → LevelsAgree (turn w)
 turn-levels w f l c =
     cables-after (λ d x p there y q back. level_after (level_shown y q) (signals_of there) ≡ level_sent_at x p) w f l c
     (λ x y j. levels_after w.delay x y j)
 
-pub turn-coupled : (w : CableWorld) → IsWellFormed w → LevelsAgree w → IsCoupled w → IsCoupled (turn w)
+pub turn-coupled :
+    (w : CableWorld) → IsWellFormed w → LevelsAgree w → IsCoupled w → IsCoupled (turn w)
 turn-coupled w f l c = record {
   watches = λ k y e. let x = before w k y f e in rw (x.2, turn-state (inbox w 0 (ports_of w.cabling k)) x.0) (watches-turn (inbox w 0 (ports_of w.cabling k)) (coin x.0.coins) x.0.state (hears w k x.0 f x.1) (ticks w k x.0 f x.1) (c.watches k x.0 x.1));
   waits = λ k y e. let x = before w k y f e in rw (x.2, turn-state (inbox w 0 (ports_of w.cabling k)) x.0, delay-after w) (waits-turn w.delay (inbox w 0 (ports_of w.cabling k)) (coin x.0.coins) x.0.state (f.nodes k x.0 x.1).timing (hears w k x.0 f x.1) (ticks w k x.0 f x.1) (c.waits k x.0 x.1));

@@ -83,20 +83,28 @@ pub start-slack : (h : Phase) → is_resetting h ≡ true → slack h ≡ 1
 start-slack h r = grind arith
 
 -- before the tree is known no port leads to a child
-pub early-childless : (x : NodeState) → IsValid x → (k : ℕ) → is_before_tree x.view.phase ≡ true → leads_down x.view.ports k ≡ false
+pub early-childless :
+    (x : NodeState) → IsValid x → (k : ℕ) → is_before_tree x.view.phase ≡ true →
+    leads_down x.view.ports k ≡ false
 early-childless x v k h = no-child x.view.parent x.view.ports k (fits x.view.phase h v.fits)
   where
-    fits : (h : Phase) → is_before_tree h ≡ true → FitsPhase h x.view.parent x.view.ports → HasNoRoles x.view.parent x.view.ports
+    fits :
+        (h : Phase) → is_before_tree h ≡ true → FitsPhase h x.view.parent x.view.ports →
+        HasNoRoles x.view.parent x.view.ports
     fits phase.ResetStart e f = f
     fits phase.ResetWait e f = f
     fits phase.TreeStart e f = f
     fits h e f = absurd cc
 
 -- afterwards a connected port leads to one or is the parent port
-pub late-roles : (x : NodeState) → IsValid x → is_before_tree x.view.phase ≡ false → HasRoles x.view.parent x.view.ports
+pub late-roles :
+    (x : NodeState) → IsValid x → is_before_tree x.view.phase ≡ false →
+    HasRoles x.view.parent x.view.ports
 late-roles x v h = fits x.view.phase h v.fits
   where
-    fits : (h : Phase) → is_before_tree h ≡ false → FitsPhase h x.view.parent x.view.ports → HasRoles x.view.parent x.view.ports
+    fits :
+        (h : Phase) → is_before_tree h ≡ false → FitsPhase h x.view.parent x.view.ports →
+        HasRoles x.view.parent x.view.ports
     fits phase.ChildShake e f = f
     fits phase.ParentShake e f = f
     fits phase.Contend e f = f.0
@@ -105,7 +113,10 @@ late-roles x v h = fits x.view.phase h v.fits
     fits h e f = absurd cc
 
 -- a node that was last sent Parent by a port asks there
-pub parent-asks : (x : NodeState) → IsValid x → (k : ℕ) → is_connected x.view.ports k ≡ true → level_sent_at x k ≡ level.Parent → (is_shaking x.view.phase ≡ true) × (is_port x.view.parent k ≡ true)
+pub parent-asks :
+    (x : NodeState) → IsValid x → (k : ℕ) → is_connected x.view.ports k ≡ true →
+    level_sent_at x k ≡ level.Parent →
+    (is_shaking x.view.phase ≡ true) × (is_port x.view.parent k ≡ true)
 parent-asks x v k c o = (
   shaking x.view.phase (leads_down x.view.ports k) o,
   turned (leads_down x.view.ports k) (is_port x.view.parent k)
@@ -126,19 +137,27 @@ parent-asks x v k c o = (
     turned a b h g = grind arith
 
 -- the reset is known: for long in R0, or past it
-pub known-cases : (d : ℕ) (x : NodeState) → is_reset_known d x ≡ true → ((is_resetting x.view.phase ≡ true) × (d < x.view.timer)) ⊎ (is_after_hold x.view.phase ≡ true)
+pub known-cases :
+    (d : ℕ) (x : NodeState) → is_reset_known d x ≡ true →
+    ((is_resetting x.view.phase ≡ true) × (d < x.view.timer)) ⊎ (is_after_hold x.view.phase ≡ true)
 known-cases d x s = go x.view.phase x.view.timer s
   where
-    go : (h : Phase) (t : ℕ) → ((is_resetting h && nat_lt d t) || is_after_hold h) ≡ true → ((is_resetting h ≡ true) × (d < t)) ⊎ (is_after_hold h ≡ true)
+    go :
+        (h : Phase) (t : ℕ) → ((is_resetting h && nat_lt d t) || is_after_hold h) ≡ true →
+        ((is_resetting h ≡ true) × (d < t)) ⊎ (is_after_hold h ≡ true)
     go h t s = grind arith
 
-pub between-known : (d : ℕ) (x : NodeState) → is_after_hold x.view.phase ≡ true → is_reset_known d x ≡ true
+pub between-known :
+    (d : ℕ) (x : NodeState) → is_after_hold x.view.phase ≡ true → is_reset_known d x ≡ true
 between-known d x m = go x.view.phase (nat_lt d x.view.timer) m
   where
-    go : (h : Phase) (b : Bool) → is_after_hold h ≡ true → ((is_resetting h && b) || is_after_hold h) ≡ true
+    go :
+        (h : Phase) (b : Bool) → is_after_hold h ≡ true →
+        ((is_resetting h && b) || is_after_hold h) ≡ true
     go h b m = grind arith
 
-pub tree_start-known : (d : ℕ) (x : NodeState) → x.view.phase ≡ phase.TreeStart → is_reset_known d x ≡ true
+pub tree_start-known :
+    (d : ℕ) (x : NodeState) → x.view.phase ≡ phase.TreeStart → is_reset_known d x ≡ true
 tree_start-known d x e = between-known d x (ap is_after_hold e)
 
 -- ---- a node in a turn
@@ -149,17 +168,23 @@ risen-most t = grind arith
 pub heard_timing : (d : ℕ) (x : Side) → Ready d x → InRange d (hearing x).state.timing
 heard_timing d x r = subst (InRange d) (sym r.hears.timing) r.timing
 
-pub heard_connected : (d : ℕ) (x : Side) → Ready d x → is_connected (hearing x).state.view.ports x.port ≡ true
+pub heard_connected :
+    (d : ℕ) (x : Side) → Ready d x → is_connected (hearing x).state.view.ports x.port ≡ true
 heard_connected d x r = r.hears.cables x.port ∙ r.connected
 
-pub heard_parent : (x : Side) → NoEntry x.node (hearing x) → (k : ℕ) → is_port x.node.view.parent k ≡ true → is_port (hearing x).state.view.parent k ≡ true
+pub heard_parent :
+    (x : Side) → NoEntry x.node (hearing x) → (k : ℕ) → is_port x.node.view.parent k ≡ true →
+    is_port (hearing x).state.view.parent k ≡ true
 heard_parent x h k e = ap (λ o. is_port o k) h.parent ∙ e
 
-pub timer_rises : (x : Side) → NoEntry x.node (hearing x) → (t : ℕ) → t ≤ risen (hearing x).state.view.timer → t ≤ x.node.view.timer + 1
+pub timer_rises :
+    (x : Side) → NoEntry x.node (hearing x) → (t : ℕ) → t ≤ risen (hearing x).state.view.timer →
+    t ≤ x.node.view.timer + 1
 timer_rises x h t g = omega (arith, g, h.timer, risen-most (hearing x).state.view.timer)
 
 -- what is sent has no Reset, unless one was heard
-pub calm_sent : (d : ℕ) (x : Side) → Ready d x → NoEntry x.node (hearing x) → has_reset (departures x) ≡ false
+pub calm_sent :
+    (d : ℕ) (x : Side) → Ready d x → NoEntry x.node (hearing x) → has_reset (departures x) ≡ false
 calm_sent d x r h = has_reset-append (sent_on x.port (hearing x).sends) (sent_on x.port (ticking x).sends) ∙ (rw (h.calm x.port, r.ticks.calm x.port) refl)
 
 module _ (d : ℕ) (x : Side) (some_delay : 1 ≤ d) (short_delay : d ≤ 16) (r : Ready d x) where
@@ -167,10 +192,15 @@ module _ (d : ℕ) (x : Side) (some_delay : 1 ≤ d) (short_delay : d ≤ 16) (r
   hold_fits = omega (arith, (heard_timing d x r).hold_most, short_delay)
 
   -- a node that begins a reset stays in R0, and says nothing more
-  came_holds : EntersReset x.node (hearing x) → (is_resetting (ticking x).state.view.phase ≡ true) × ((ticking x).state.view.timer ≡ (hearing x).state.view.timer + 1) × ((ticking x).sends ≡ [])
+  came_holds :
+      EntersReset x.node (hearing x) →
+      (is_resetting (ticking x).state.view.phase ≡ true)
+      × ((ticking x).state.view.timer ≡ (hearing x).state.view.timer + 1) × ((ticking x).sends ≡ [])
   came_holds c = r.ticks.holds (ap is_resetting c.phase) (omega (arith, c.timer, (heard_timing d x r).hold_least, some_delay)) hold_fits
 
-  pub came_after : EntersReset x.node (hearing x) → (is_resetting (ticking x).state.view.phase ≡ true) × ((ticking x).state.view.timer ≡ 1)
+  pub came_after :
+      EntersReset x.node (hearing x) →
+      (is_resetting (ticking x).state.view.phase ≡ true) × ((ticking x).state.view.timer ≡ 1)
   came_after c = ((came_holds c).0, omega (arith, (came_holds c).1, c.timer))
 
   pub came_silent : EntersReset x.node (hearing x) → (ticking x).sends ≡ []
@@ -188,7 +218,8 @@ module _ (d : ℕ) (x : Side) (some_delay : 1 ≤ d) (short_delay : d ≤ 16) (r
 
 -- ---- its wire
 
-pub same_wire : (x : Side) → (hearing x).sends ≡ [] → (ticking x).sends ≡ [] → wire_after x ≡ leftovers x
+pub same_wire :
+    (x : Side) → (hearing x).sends ≡ [] → (ticking x).sends ≡ [] → wire_after x ≡ leftovers x
 same_wire x a b = rw (a, b) (append-nil (leftovers x))
 
 pub kept_since : (x : Side) (b : ℕ) → AllAsOldAs b x.wire → AllAsOldAs (b + 1) (leftovers x)
@@ -198,11 +229,14 @@ kept_since x b g = go x.gives
     go true = tt
     go false = AllAsOldAs-older b x.wire g
 
-pub after_signals : (x : Side) → signals_of (wire_after x) ≡ signals_of (leftovers x) ++ departures x
+pub after_signals :
+    (x : Side) → signals_of (wire_after x) ≡ signals_of (leftovers x) ++ departures x
 after_signals x = signals-append (leftovers x) (map new_signal (departures x)) ∙ ap (λ ss. signals_of (leftovers x) ++ ss) (signals-sent (departures x))
 
 -- what is so of no signals, and of those that were under way, is so of those that stay
-pub kept_or_gone : (x : Side) (P : List Signal → Type 0) → P [] → P (signals_of x.wire) → P (signals_of (leftovers x))
+pub kept_or_gone :
+    (x : Side) (P : List Signal → Type 0) → P [] → P (signals_of x.wire) →
+    P (signals_of (leftovers x))
 kept_or_gone x P e h = go x.gives
   where
     go : (b : Bool) → P (signals_of (if b then [] else map age_signal x.wire))
@@ -210,7 +244,10 @@ kept_or_gone x P e h = go x.gives
     go false = subst P (sym (signals-older x.wire)) h
 
 -- in contention for long: nothing is under way
-pub contend_empty : (d : ℕ) (x : Side) → 1 ≤ d → Ready d x → (is_timed x.node.view.phase ≡ true → AllAsOldAs (x.node.view.timer - slack x.node.view.phase) x.wire) → x.node.view.phase ≡ phase.Contend → d ≤ x.node.view.timer → x.wire ≡ []
+pub contend_empty :
+    (d : ℕ) (x : Side) → 1 ≤ d → Ready d x →
+    (is_timed x.node.view.phase ≡ true → AllAsOldAs (x.node.view.timer - slack x.node.view.phase) x.wire) →
+    x.node.view.phase ≡ phase.Contend → d ≤ x.node.view.timer → x.wire ≡ []
 contend_empty d x o r timed c t =
     nothing-left d x.wire o (AllAsOldAs-less d (x.node.view.timer - slack x.node.view.phase) x.wire (omega (arith, t, ap slack c)) (timed (ap is_timed c))) r.ages
 
@@ -218,12 +255,18 @@ contend_empty d x o r timed c t =
 
 -- ---- a node in a turn, whatever cables it has
 
-pub watches-turn : (signals : List (ℕ × Signal)) (coin : Bool) (x : NodeState) → HearsWell signals x → TicksWell coin (hear_all signals x).state → HeedsReset x → HeedsReset (tick coin (hear_all signals x).state).state
+pub watches-turn :
+    (signals : List (ℕ × Signal)) (coin : Bool) (x : NodeState) → HearsWell signals x →
+    TicksWell coin (hear_all signals x).state → HeedsReset x →
+    HeedsReset (tick coin (hear_all signals x).state).state
 watches-turn signals coin x h t w k c s =
     let on : is_connected (hear_all signals x).state.view.ports k ≡ true = sym (t.cables k) ∙ c in
     t.watches k on (h.watches w k on) (sym (t.shown k) ∙ s)
 
-pub waits-turn : (d : ℕ) (signals : List (ℕ × Signal)) (coin : Bool) (x : NodeState) → InRange d x.timing → HearsWell signals x → TicksWell coin (hear_all signals x).state → WaitsLong d x → WaitsLong d (tick coin (hear_all signals x).state).state
+pub waits-turn :
+    (d : ℕ) (signals : List (ℕ × Signal)) (coin : Bool) (x : NodeState) → InRange d x.timing →
+    HearsWell signals x → TicksWell coin (hear_all signals x).state → WaitsLong d x →
+    WaitsLong d (tick coin (hear_all signals x).state).state
 waits-turn d signals coin x r h t w c = go h.cases (t.contend c)
   where
     m : NodeState

@@ -1,5 +1,5 @@
--- What a node sends on a port brings the level that it sent last to the one that its phase and the port's
--- role tell.
+-- What a node sends on a port brings the level that it sent last to the one that its phase and the
+-- port's role tell.
 use Rattle.std.proofs.Common.{◌≡◌, ℕ, Bool, true, false, not, ◌&&◌, ◌==◌, List, [], ◌∷◌, ◌++◌, map, Option, Some, None, slice_get, refl, sym, ◌∙◌, ap, subst, if◌then◌else◌}
 use Rattle.std.specs.Prelude.{nat_le, IsSome}
 use Rattle.std.specs.Option.{option_map}
@@ -29,7 +29,8 @@ use Rattle.port_state.proofs.Laws.{valid-raise_timer, on_every-port, on_others-p
 use Rattle.port_state.proofs.EachPort.{port_is-changed}
 use Rattle.cable_world.specs.Agreement.{level_sent, level_sent_at, level_after_one, level_after, leads_down}
 
-pub level_after-append : (l : Level) (xs ys : List Signal) → level_after l (xs ++ ys) ≡ level_after (level_after l xs) ys
+pub level_after-append :
+    (l : Level) (xs ys : List Signal) → level_after l (xs ++ ys) ≡ level_after (level_after l xs) ys
 level_after-append l [] ys = refl
 level_after-append l (x ∷ xs) ys = level_after-append (level_after_one x l) xs ys
 
@@ -44,26 +45,36 @@ turned-not true i h = rw h refl
 turned-not false i h = rw h refl
 
 -- a connected port leads to a child where it isn't the parent port
-pub child-if : (parent : Option ℕ) (ports : List PortView) (k : ℕ) → HasRoles parent ports → is_connected ports k ≡ true → leads_down ports k ≡ not (is_port parent k)
+pub child-if :
+    (parent : Option ℕ) (ports : List PortView) (k : ℕ) → HasRoles parent ports →
+    is_connected ports k ≡ true → leads_down ports k ≡ not (is_port parent k)
 child-if parent ports k h c = go (slice_get ports k) refl
   where
-    go : (o : Option PortView) → slice_get ports k ≡ o → passes (λ p. p.child) (slice_get ports k) ≡ not (is_port parent k)
+    go :
+        (o : Option PortView) → slice_get ports k ≡ o →
+        passes (λ p. p.child) (slice_get ports k) ≡ not (is_port parent k)
     go None e = let none : passes (λ p. p.connected) None ≡ true = subst (λ o. passes (λ p. p.connected) o ≡ true) e c in absurd cc
     go (Some p) e =
         let on : p.connected ≡ true = subst (λ o. passes (λ p. p.connected) o ≡ true) e c in
         rw e (turned-not p.child (is_port parent k) ((h k p e).one on))
 
 -- before the tree is known no port does
-pub no-child : (parent : Option ℕ) (ports : List PortView) (k : ℕ) → HasNoRoles parent ports → leads_down ports k ≡ false
+pub no-child :
+    (parent : Option ℕ) (ports : List PortView) (k : ℕ) → HasNoRoles parent ports →
+    leads_down ports k ≡ false
 no-child parent ports k h = go (slice_get ports k) refl
   where
-    go : (o : Option PortView) → slice_get ports k ≡ o → passes (λ p. p.child) (slice_get ports k) ≡ false
+    go :
+        (o : Option PortView) → slice_get ports k ≡ o →
+        passes (λ p. p.child) (slice_get ports k) ≡ false
     go None e = rw e refl
     go (Some p) e = rw e (h.0 k p e)
 
 -- ---- resets
 
-on-every : (s : Signal) (ports : List PortView) (k : ℕ) → is_connected ports k ≡ true → sent_on k (on_every s ports) ≡ s ∷ []
+on-every :
+    (s : Signal) (ports : List PortView) (k : ℕ) → is_connected ports k ≡ true →
+    sent_on k (on_every s ports) ≡ s ∷ []
 on-every s ports k c = on_every-port k s ports ∙ (rw c refl)
 
 pub enter-says : (caused : Bool) (x : NodeState) → SaysSo x (enter caused x)
@@ -73,11 +84,15 @@ enter-says caused x k c = rw (on-every signal.Reset x.view.ports k c) refl
 -- ---- the rows of a tick
 
 -- a fact of the row that a test chooses
-pub choose : (P : Row → Type 0) (b : Bool) (r s : Row) → (b ≡ true → P r) → (b ≡ false → P s) → P (if b then r else s)
+pub choose :
+    (P : Row → Type 0) (b : Bool) (r s : Row) → (b ≡ true → P r) → (b ≡ false → P s) →
+    P (if b then r else s)
 choose P true r s p q = p refl
 choose P false r s p q = q refl
 
-choice : (coin : Bool) (x : NodeState) (b : Bool) (r s : Row) → (b ≡ true → SaysSo x (does coin r x)) → SaysSo x (does coin s x) → SaysSo x (does coin (if b then r else s) x)
+choice :
+    (coin : Bool) (x : NodeState) (b : Bool) (r s : Row) → (b ≡ true → SaysSo x (does coin r x)) →
+    SaysSo x (does coin s x) → SaysSo x (does coin (if b then r else s) x)
 choice coin x b r s p q = choose (λ chosen. SaysSo x (does coin chosen x)) b r s p (λ _. q)
 
 still : (x : NodeState) → SaysSo x (silent_step x)
@@ -90,13 +105,18 @@ begins-tree : (x : NodeState) → x.view.phase ≡ ResetWait → SaysSo x (reset
 begins-tree x e k c = rw e refl
 
 -- the role that a port takes, and what is sent on it
-role-told : (conn : Bool) (l : Level) (c a n : Bool) → conn ≡ true → c ≡ false → (let p : PortView = record { connected = conn; shown = l; child = c; asked = a; named = n } in level_after level.Idle (if asks p then signal.Child ∷ [] else (if is_remaining p then signal.Parent ∷ [] else [])) ≡ level_sent ChildShake (tree.adopt p).child)
+role-told :
+    (conn : Bool) (l : Level) (c a n : Bool) → conn ≡ true → c ≡ false →
+    (let p : PortView = record { connected = conn; shown = l; child = c; asked = a; named = n } in level_after level.Idle (if asks p then signal.Child ∷ [] else (if is_remaining p then signal.Parent ∷ [] else [])) ≡ level_sent ChildShake (tree.adopt p).child)
 role-told conn level.Reset c a n e f = rw (e, f) refl
 role-told conn level.Idle c a n e f = rw (e, f) refl
 role-told conn level.Parent c a n e f = rw e refl
 role-told conn level.Child c a n e f = rw (e, f) refl
 
-roles-told : (o : Option PortView) → passes (λ p. p.connected) o ≡ true → passes (λ p. p.child) o ≡ false → level_after level.Idle (if passes asks o then signal.Child ∷ [] else (if passes is_remaining o then signal.Parent ∷ [] else [])) ≡ level_sent ChildShake (passes (λ p. p.child) (option_map tree.adopt o))
+roles-told :
+    (o : Option PortView) → passes (λ p. p.connected) o ≡ true → passes (λ p. p.child) o ≡ false →
+    level_after level.Idle (if passes asks o then signal.Child ∷ [] else (if passes is_remaining o then signal.Parent ∷ [] else []))
+    ≡ level_sent ChildShake (passes (λ p. p.child) (option_map tree.adopt o))
 roles-told None e f = absurd cc
 roles-told (Some p) e f = role-told p.connected p.shown p.child p.asked p.named e f
 
@@ -105,7 +125,9 @@ takes-roles x v e k c =
     let fit : HasNoRoles x.view.parent x.view.ports = subst (λ ph. FitsPhase ph x.view.parent x.view.ports) e v.fits in
     rw (e, notices-port k x.view.ports, map-port k tree.adopt x.view.ports) (roles-told (slice_get x.view.ports k) c (no-child x.view.parent x.view.ports k fit))
 
-tree-start : (coin : Bool) (x : NodeState) → IsValid x → x.view.phase ≡ TreeStart → SaysSo x (does coin (tree.tree_start_row x) x)
+tree-start :
+    (coin : Bool) (x : NodeState) → IsValid x → x.view.phase ≡ TreeStart →
+    SaysSo x (does coin (tree.tree_start_row x) x)
 tree-start coin x v e =
     choice coin x (tree.is_decided x) row.takes_roles _ (λ _. takes-roles x v e)
     (choice coin x (nat_le x.timing.timeout x.view.timer) row.times_out row.none (λ _. λ k c. refl) (still x))
@@ -120,31 +142,49 @@ abbrev pub only : Bool → Signal → List Signal
 only b s = if b then s ∷ [] else []
 
 -- what is sent first, on this port or on another, and the rest
-pub cons-sent : (b : Bool) (s : Signal) (rest : List Signal) → (if b then s ∷ rest else rest) ≡ only b s ++ rest
+pub cons-sent :
+    (b : Bool) (s : Signal) (rest : List Signal) → (if b then s ∷ rest else rest) ≡ only b s ++ rest
 cons-sent true s rest = refl
 cons-sent false s rest = refl
 
 -- where each connected port but one leads to a child, this is said on that one
-to-parent : (x : NodeState) (p : ℕ) (after : Phase) (s : Signal) → HasRoles (Some p) x.view.ports → ((b : Bool) → level_after (level_sent x.view.phase (not b)) (only b s) ≡ level_sent after (not b)) → (k : ℕ) → is_connected x.view.ports k ≡ true → level_after (level_sent_at x k) (sent_on k ((p, s) ∷ [])) ≡ level_sent after (leads_down x.view.ports k)
+to-parent :
+    (x : NodeState) (p : ℕ) (after : Phase) (s : Signal) → HasRoles (Some p) x.view.ports →
+    ((b : Bool) → level_after (level_sent x.view.phase (not b)) (only b s) ≡ level_sent after (not b)) →
+    (k : ℕ) → is_connected x.view.ports k ≡ true →
+    level_after (level_sent_at x k) (sent_on k ((p, s) ∷ []))
+    ≡ level_sent after (leads_down x.view.ports k)
 to-parent x p after s r f k c = rw (child-if (Some p) x.view.ports k r c) (f (p == k))
 
-pub roles-at : (x : NodeState) (o : Option ℕ) → x.view.parent ≡ o → HasRoles x.view.parent x.view.ports → HasRoles o x.view.ports
+pub roles-at :
+    (x : NodeState) (o : Option ℕ) → x.view.parent ≡ o → HasRoles x.view.parent x.view.ports →
+    HasRoles o x.view.ports
 roles-at x o e r = subst (λ q. HasRoles q x.view.ports) e r
 
-becomes-root : (x : NodeState) → x.view.phase ≡ ParentShake → HasRoles None x.view.ports → SaysSo x (tree.becomes_root x)
+becomes-root :
+    (x : NodeState) → x.view.phase ≡ ParentShake → HasRoles None x.view.ports →
+    SaysSo x (tree.becomes_root x)
 becomes-root x e r k c = rw (e, child-if None x.view.ports k r c) refl
 
-parent-shake : (coin : Bool) (o : Option ℕ) (x : NodeState) → x.view.phase ≡ ParentShake → HasRoles o x.view.ports → SaysSo x (does coin (tree.parent_shake_at o x) x)
+parent-shake :
+    (coin : Bool) (o : Option ℕ) (x : NodeState) → x.view.phase ≡ ParentShake →
+    HasRoles o x.view.ports → SaysSo x (does coin (tree.parent_shake_at o x) x)
 parent-shake coin None x e r = becomes-root x e r
 parent-shake coin (Some p) x e r =
     choice coin x (port_is (λ p. is_child p.shown) x.view.ports p) _ _ (λ _. to-parent x p SelfIdent signal.Idle r (λ b. rw e (accepted b)))
     (choice coin x (port_is (λ p. is_parent p.shown) x.view.ports p) _ _ (λ _. to-parent x p Contend signal.Idle r (λ b. rw e (contends b))) (still x))
   where
-    accepted : (b : Bool) → level_after (level_sent ParentShake (not b)) (only b signal.Idle) ≡ level_sent SelfIdent (not b)
+    accepted :
+        (b : Bool) →
+        level_after (level_sent ParentShake (not b)) (only b signal.Idle)
+        ≡ level_sent SelfIdent (not b)
     accepted true = refl
     accepted false = refl
 
-    contends : (b : Bool) → level_after (level_sent ParentShake (not b)) (only b signal.Idle) ≡ level_sent Contend (not b)
+    contends :
+        (b : Bool) →
+        level_after (level_sent ParentShake (not b)) (only b signal.Idle)
+        ≡ level_sent Contend (not b)
     contends true = refl
     contends false = refl
 
@@ -160,31 +200,45 @@ abbrev pub as_child : PortView → PortView
 as_child q = record q { child = true }
 
 -- the rival becomes a child, as all others are
-rival-child : (x : NodeState) (p k : ℕ) → HasRoles (Some p) x.view.ports → is_connected x.view.ports k ≡ true → leads_down (change_port p as_child x.view.ports) k ≡ true
+rival-child :
+    (x : NodeState) (p k : ℕ) → HasRoles (Some p) x.view.ports →
+    is_connected x.view.ports k ≡ true → leads_down (change_port p as_child x.view.ports) k ≡ true
 rival-child x p k r c = ap (passes (λ q. q.child)) (changed-port p k as_child x.view.ports) ∙ go (k == p) refl
   where
-    made : (o : Option PortView) → passes (λ q. q.connected) o ≡ true → passes (λ q. q.child) (option_map as_child o) ≡ true
+    made :
+        (o : Option PortView) → passes (λ q. q.connected) o ≡ true →
+        passes (λ q. q.child) (option_map as_child o) ≡ true
     made None h = cc
     made (Some q) h = refl
 
-    go : (b : Bool) → (k == p) ≡ b → passes (λ q. q.child) (if b then option_map as_child (slice_get x.view.ports k) else slice_get x.view.ports k) ≡ true
+    go :
+        (b : Bool) → (k == p) ≡ b →
+        passes (λ q. q.child) (if b then option_map as_child (slice_get x.view.ports k) else slice_get x.view.ports k)
+        ≡ true
     go true e = made (slice_get x.view.ports k) c
     go false e = child-if (Some p) x.view.ports k r c ∙ (let other : (p == k) ≡ false = sym (turned p k) ∙ e in rw other refl)
 
-takes-rival : (x : NodeState) (p : ℕ) → x.view.phase ≡ Contend → HasRoles (Some p) x.view.ports → SaysSo x (tree.takes_rival p x)
+takes-rival :
+    (x : NodeState) (p : ℕ) → x.view.phase ≡ Contend → HasRoles (Some p) x.view.ports →
+    SaysSo x (tree.takes_rival p x)
 takes-rival x p e r k c = rw (e, rival-child x p k r c, child-if (Some p) x.view.ports k r c) (told (p == k))
   where
     told : (b : Bool) → level_after (level_sent Contend (not b)) (only b signal.Child) ≡ level.Child
     told true = refl
     told false = refl
 
-contend : (coin : Bool) (o : Option ℕ) (x : NodeState) → x.view.phase ≡ Contend → HasRoles o x.view.ports → SaysSo x (does coin (tree.contend_at o x) x)
+contend :
+    (coin : Bool) (o : Option ℕ) (x : NodeState) → x.view.phase ≡ Contend →
+    HasRoles o x.view.ports → SaysSo x (does coin (tree.contend_at o x) x)
 contend coin None x e r = still x
 contend coin (Some p) x e r =
     choice coin x (port_is (λ p. is_parent p.shown) x.view.ports p) _ _ (λ _. takes-rival x p e r)
     (to-parent x p ParentShake signal.Parent r (λ b. rw e (again b)))
   where
-    again : (b : Bool) → level_after (level_sent Contend (not b)) (only b signal.Parent) ≡ level_sent ParentShake (not b)
+    again :
+        (b : Bool) →
+        level_after (level_sent Contend (not b)) (only b signal.Parent)
+        ≡ level_sent ParentShake (not b)
     again true = refl
     again false = refl
 
@@ -194,11 +248,14 @@ quiet-packets : (l : Level) (quads : List ℕ) → level_after l (map packet qua
 quiet-packets l [] = refl
 quiet-packets l (q ∷ qs) = quiet-packets l qs
 
-packets-quiet : (l : Level) (b : Bool) (quads : List ℕ) → level_after l (if b then map packet quads else []) ≡ l
+packets-quiet :
+    (l : Level) (b : Bool) (quads : List ℕ) → level_after l (if b then map packet quads else []) ≡ l
 packets-quiet l true quads = quiet-packets l quads
 packets-quiet l false quads = refl
 
-done-quiet : (l : Level) (k : ℕ) (parent : Option ℕ) → level_after l (sent_on k (on_port parent signal.Done)) ≡ l
+done-quiet :
+    (l : Level) (k : ℕ) (parent : Option ℕ) →
+    level_after l (sent_on k (on_port parent signal.Done)) ≡ l
 done-quiet l k None = refl
 done-quiet l k (Some p) = go (p == k)
   where
@@ -217,7 +274,9 @@ names-itself x e k c =
     ∙ (rw e refl)
 
 -- a port changes, and its role doesn't
-same-level_sent_at : (x : NodeState) (n : ℕ) (f : PortView → PortView) → ((p : PortView) → (f p).child ≡ p.child) → (k : ℕ) → level_sent_at (with_port n f x) k ≡ level_sent_at x k
+same-level_sent_at :
+    (x : NodeState) (n : ℕ) (f : PortView → PortView) → ((p : PortView) → (f p).child ≡ p.child) →
+    (k : ℕ) → level_sent_at (with_port n f x) k ≡ level_sent_at x k
 same-level_sent_at x n f h k = ap (level_sent x.view.phase) (port_is-changed (λ p. p.child) n f h x.view.ports k)
 
 asks-child : (x : NodeState) (n : ℕ) → SaysSo x (ident.asks_child n x)
@@ -227,13 +286,17 @@ asks-child x n k c = go (n == k) ∙ sym (same-level_sent_at x n (λ p. record p
     go true = refl
     go false = refl
 
-granted : (coin : Bool) (o : Option ℕ) (x : NodeState) → x.view.phase ≡ SelfIdent → SaysSo x (does coin (ident.granted_row o x) x)
+granted :
+    (coin : Bool) (o : Option ℕ) (x : NodeState) → x.view.phase ≡ SelfIdent →
+    SaysSo x (does coin (ident.granted_row o x) x)
 granted coin None x e = choice coin x (ident.may_name x) row.names_itself row.none (λ _. names-itself x e) (still x)
 granted coin (Some n) x e = choice coin x (port_is (λ p. p.asked) x.view.ports n) row.none (row.asks_child n) (λ _. still x) (asks-child x n)
 
 -- ---- a tick
 
-row-says : (coin : Bool) (ph : Phase) (x : NodeState) → IsValid x → x.view.phase ≡ ph → SaysSo x (does coin (row_of ph x) x)
+row-says :
+    (coin : Bool) (ph : Phase) (x : NodeState) → IsValid x → x.view.phase ≡ ph →
+    SaysSo x (does coin (row_of ph x) x)
 row-says coin ResetStart x v e = choice coin x (nat_le x.timing.hold x.view.timer) row.ends_reset row.none (λ _. ends-reset x) (still x)
 row-says coin ResetWait x v e = choice coin x (every (λ p. reset.is_calm p.shown) x.view.ports) row.begins_tree row.none (λ _. begins-tree x e) (still x)
 row-says coin TreeStart x v e = tree-start coin x v e
@@ -256,7 +319,9 @@ tick-says coin x v =
 level-says : (x : NodeState) (n : ℕ) (l : Level) → SaysSo x (silent_step (heard.with_level n l x))
 level-says x n l k c = sym (same-level_sent_at x n (λ p. record p { shown = l }) (λ p. refl) k)
 
-reset-says : (b : Bool) (x : NodeState) (n : ℕ) → SaysSo x (if b then silent_step (heard.with_level n level.Reset x) else enter false (heard.with_level n level.Reset x))
+reset-says :
+    (b : Bool) (x : NodeState) (n : ℕ) →
+    SaysSo x (if b then silent_step (heard.with_level n level.Reset x) else enter false (heard.with_level n level.Reset x))
 reset-says true x n = level-says x n level.Reset
 reset-says false x n = λ k c.
     let y : NodeState = heard.with_level n level.Reset x in
@@ -277,7 +342,9 @@ hears-says n (signal.Packet quad) x = λ k c.
     go l false = refl
 hears-says n signal.Done x = λ k c. sym (same-level_sent_at x n (λ p. record p { named = true }) (λ p. refl) k)
 
-heard-says : (b : Bool) (n : ℕ) (s : Signal) (x : NodeState) → SaysSo x (if b then heard.hears n s x else silent_step x)
+heard-says :
+    (b : Bool) (n : ℕ) (s : Signal) (x : NodeState) →
+    SaysSo x (if b then heard.hears n s x else silent_step x)
 heard-says true n s x = hears-says n s x
 heard-says false n s x = still x
 

@@ -1,6 +1,7 @@
--- In turns without acts resets die out: after n * d turns no node enters R0, where there are n nodes, and
--- cables delay by at most d turns. A node enters R0 because a neighbour did, at most d turns before. So the
--- nodes that entered in the last turns form a chain, and there are no more of them than nodes.
+-- In turns without acts resets die out: after n * d turns no node enters R0, where there are n
+-- nodes, and cables delay by at most d turns. A node enters R0 because a neighbour did, at most d
+-- turns before. So the nodes that entered in the last turns form a chain, and there are no more of
+-- them than nodes.
 use Rattle.std.proofs.Common.{◌≡◌, inl, inr, ℕ, zero, suc, ◌+◌, ◌-◌, ◌*◌, ◌<◌, ◌≤◌, Bool, true, false, ◌&&◌, cond, List, [], ◌∷◌, length, count_by, min, nat_le, Option, Some, None, is_some, slice_get, refl, sym, ◌∙◌, ap, subst, arith, if◌then◌else◌, le_refl, add-one}
 use Rattle.std.proofs.Math.Nat.{mul-le-mul_left}
 use Rattle.std.proofs.lemmas.Bool.{leb-false, cases_lt}
@@ -42,11 +43,14 @@ use Rattle.cable_world.proofs.StaysLawful.{turns-lawful}
 
 -- ---- counting
 
-count-first : {X : Type 0} → (f : X → Bool) (x : X) (xs : List X) → count_by f (x ∷ xs) ≡ cond (f x) 1 0 + count_by f xs
+count-first :
+    {X : Type 0} → (f : X → Bool) (x : X) (xs : List X) →
+    count_by f (x ∷ xs) ≡ cond (f x) 1 0 + count_by f xs
 count-first f x xs = sum_by-cons (λ z. cond (f z) 1 0) x xs
 
 module _ {X : Type 0} (f g : X → Bool) where
-  -- whatever passes the first test in the first list passes the second in its place in the second list
+  -- whatever passes the first test in the first list passes the second in its place in the second
+  -- list
   abbrev Follows : List X → List X → Type 0
   Follows xs ys = (k : ℕ) (x y : X) → slice_get xs k ≡ Some x → slice_get ys k ≡ Some y → f x ≡ true → g y ≡ true
 
@@ -57,14 +61,18 @@ module _ {X : Type 0} (f g : X → Bool) where
   one-less b c h g = grind arith
 
   -- then no more pass in the first
-  count-le : (xs ys : List X) → length xs ≡ length ys → Follows xs ys → count_by f xs ≤ count_by g ys
+  count-le :
+      (xs ys : List X) → length xs ≡ length ys → Follows xs ys → count_by f xs ≤ count_by g ys
   count-le [] ys e h = omega arith
   count-le (x ∷ xs) [] e h = absurd (omega (arith, e))
   count-le (x ∷ xs) (y ∷ ys) e h =
       omega (arith, count-first f x xs, count-first g y ys, one-le (f x) (g y) (h 0 x y refl refl), count-le xs ys (omega (arith, e)) (λ k. h (suc k)))
 
   -- and fewer, where at one place the second alone passes
-  count-less : (xs ys : List X) (j : ℕ) (u v : X) → length xs ≡ length ys → Follows xs ys → slice_get xs j ≡ Some u → slice_get ys j ≡ Some v → f u ≡ false → g v ≡ true → count_by f xs + 1 ≤ count_by g ys
+  count-less :
+      (xs ys : List X) (j : ℕ) (u v : X) → length xs ≡ length ys → Follows xs ys →
+      slice_get xs j ≡ Some u → slice_get ys j ≡ Some v → f u ≡ false → g v ≡ true →
+      count_by f xs + 1 ≤ count_by g ys
   count-less [] ys j u v e h at_u at_v fails passes = absurd cc
   count-less (x ∷ xs) [] j u v e h at_u at_v fails passes = absurd (omega (arith, e))
   count-less (x ∷ xs) (y ∷ ys) zero u v e h at_u at_v fails passes =
@@ -77,17 +85,25 @@ module _ {X : Type 0} (f g : X → Bool) where
 -- ---- a node in R0 in a turn
 
 -- a node that a tick leaves in R0 has some of its hold left
-pub hold-left : (c : Bool) (x : NodeState) → is_resetting x.view.phase ≡ true → x.timing.hold ≤ 65535 → is_resetting (tick c x).state.view.phase ≡ true → x.view.timer + 1 < x.timing.hold
+pub hold-left :
+    (c : Bool) (x : NodeState) → is_resetting x.view.phase ≡ true → x.timing.hold ≤ 65535 →
+    is_resetting (tick c x).state.view.phase ≡ true → x.view.timer + 1 < x.timing.hold
 unfolding tick
 hold-left c x r most h = risen x.timing.hold x.view.timer most (left x.view.phase (raise_timer x) r h)
   where
     risen : (hold t : ℕ) → hold ≤ 65535 → min (t + 1) 65535 < hold → t + 1 < hold
     risen hold t most l = grind arith
 
-    left : (p : Phase) (x : NodeState) → is_resetting p ≡ true → is_resetting (does c (row_of p x) x).state.view.phase ≡ true → x.view.timer < x.timing.hold
+    left :
+        (p : Phase) (x : NodeState) → is_resetting p ≡ true →
+        is_resetting (does c (row_of p x) x).state.view.phase ≡ true → x.view.timer < x.timing.hold
     left ResetStart x r h = go (nat_le x.timing.hold x.view.timer) refl h
       where
-        go : (b : Bool) → nat_le x.timing.hold x.view.timer ≡ b → is_resetting (does c (if b then row.ends_reset else row.none) x).state.view.phase ≡ true → x.view.timer < x.timing.hold
+        go :
+            (b : Bool) → nat_le x.timing.hold x.view.timer ≡ b →
+            is_resetting (does c (if b then row.ends_reset else row.none) x).state.view.phase
+            ≡ true →
+            x.view.timer < x.timing.hold
         go true e h = absurd cc
         go false e h = leb-false x.timing.hold x.view.timer e
     left p x r h = absurd cc
@@ -103,15 +119,23 @@ pub record Recent (w : CableWorld) : Type 0 where
 -- what a turn does to a node, as to R0
 pub record InTurn (w : CableWorld) (x y : NodeState) : Type 0 where
   -- it stays there until its hold is over
-  pub stays : is_resetting x.view.phase ≡ true → x.view.timer + 1 < 64 * w.delay → is_resetting y.view.phase ≡ true
+  pub stays :
+      is_resetting x.view.phase ≡ true → x.view.timer + 1 < 64 * w.delay →
+      is_resetting y.view.phase ≡ true
   -- meanwhile the timer rises
-  pub rises : is_resetting x.view.phase ≡ true → is_resetting y.view.phase ≡ true → y.view.timer ≡ x.view.timer + 1
+  pub rises :
+      is_resetting x.view.phase ≡ true → is_resetting y.view.phase ≡ true →
+      y.view.timer ≡ x.view.timer + 1
   -- it enters because another entered
-  pub enters : is_resetting x.view.phase ≡ false → is_resetting y.view.phase ≡ true → y.view.timer ≡ 1
+  pub enters :
+      is_resetting x.view.phase ≡ false → is_resetting y.view.phase ≡ true → y.view.timer ≡ 1
   pub cause : is_resetting x.view.phase ≡ false → is_resetting y.view.phase ≡ true → Recent w
 
 -- a Reset that is under way to a node comes from one that entered R0 lately
-sender : (w : CableWorld) → IsLawful w → (a b : End) (y : PortNode) → far w.cabling a ≡ Some b → slice_get w.nodes b.node ≡ Some y → has_reset (signals_of (wire_of w a).signals) ≡ true → Recent w
+sender :
+    (w : CableWorld) → IsLawful w → (a b : End) (y : PortNode) → far w.cabling a ≡ Some b →
+    slice_get w.nodes b.node ≡ Some y → has_reset (signals_of (wire_of w a).signals) ≡ true →
+    Recent w
 sender w l a b y e at r =
     let f = l.well_formed in
     let near : CableEnd w a = cable-end w a b f e in
@@ -128,13 +152,18 @@ sender w l a b y e at r =
     }
 
 -- a Reset that comes to a port of a node
-pub comes-from : (w : CableWorld) → IsLawful w → (k : ℕ) (x : PortNode) → slice_get w.nodes k ≡ Some x → (p : ℕ) → is_connected x.state.view.ports p ≡ true → has_reset (sent_on p (inbox w 0 (ports_of w.cabling k))) ≡ true → Recent w
+pub comes-from :
+    (w : CableWorld) → IsLawful w → (k : ℕ) (x : PortNode) → slice_get w.nodes k ≡ Some x →
+    (p : ℕ) → is_connected x.state.view.ports p ≡ true →
+    has_reset (sent_on p (inbox w 0 (ports_of w.cabling k))) ≡ true → Recent w
 comes-from w l k x at p on r = go (far w.cabling here) refl
   where
     here : End
     here = record { node = k; port = p }
 
-    under-way : (b : Bool) (ss : List Signal) → has_reset (if b then ss else []) ≡ true → has_reset ss ≡ true
+    under-way :
+        (b : Bool) (ss : List Signal) → has_reset (if b then ss else []) ≡ true →
+        has_reset ss ≡ true
     under-way true ss e = e
     under-way false ss e = absurd cc
 
@@ -174,7 +203,9 @@ module _ (w : CableWorld) (l : IsLawful w) (k : ℕ) (x : PortNode) (at : slice_
   heard-there r = elim heard-well.cases [ inl h ↦ h | inr c ↦ absurd (not-both (is_resetting x.state.view.phase) r c.before) ]
 
   -- a node that enters heard a Reset
-  came-there : is_resetting x.state.view.phase ≡ false → is_resetting ticked.view.phase ≡ true → EntersReset x.state (hear_all signals x.state)
+  came-there :
+      is_resetting x.state.view.phase ≡ false → is_resetting ticked.view.phase ≡ true →
+      EntersReset x.state (hear_all signals x.state)
   came-there out in_start = elim heard-well.cases [
     | inl h ↦ absurd (not-both (is_resetting ticked.view.phase) in_start (ticked-well.out (ap is_resetting h.phase ∙ out)))
     | inr c ↦ c
@@ -204,7 +235,9 @@ module _ (w : CableWorld) (l : IsLawful w) (k : ℕ) (x : PortNode) (at : slice_
   turned = subst (InTurn w x.state) (sym (turn-state signals x)) ticked-turn
 
 -- a node before a turn and after it
-pub in-turn : (w : CableWorld) → IsLawful w → (k : ℕ) (x y : PortNode) → slice_get w.nodes k ≡ Some x → slice_get (turn w).nodes k ≡ Some y → InTurn w x.state y.state
+pub in-turn :
+    (w : CableWorld) → IsLawful w → (k : ℕ) (x y : PortNode) → slice_get w.nodes k ≡ Some x →
+    slice_get (turn w).nodes k ≡ Some y → InTurn w x.state y.state
 in-turn w l k x y at_x at_y =
     subst (λ (z : PortNode). InTurn w x.state z.state) (some-same (turn_at w k x).node y (sym (node-after w k x l.well_formed.count at_x) ∙ at_y)) (turned w l k x at_x)
 
@@ -217,8 +250,8 @@ is_entry least most x = is_resetting x.state.view.phase && (nat_le least x.state
 abbrev entries : ℕ → ℕ → CableWorld → ℕ
 entries least most w = count_by (is_entry least most) w.nodes
 
--- After k turns each node in R0 is at the end of a chain of entries: one came at least every d turns, since the
--- first of these turns.
+-- After k turns each node in R0 is at the end of a chain of entries: one came at least every d
+-- turns, since the first of these turns.
 abbrev Chained : CableWorld → ℕ → Type 0
 Chained w k = (j : ℕ) (x : PortNode) → slice_get w.nodes j ≡ Some x → is_resetting x.state.view.phase ≡ true → k + 1 ≤ x.state.view.timer + w.delay * entries x.state.view.timer k w
 
@@ -226,20 +259,31 @@ Chained w k = (j : ℕ) (x : PortNode) → slice_get w.nodes j ≡ Some x → is
 abbrev Steady : CableWorld → Type 0
 Steady w = (j : ℕ) (x y : PortNode) → slice_get w.nodes j ≡ Some x → slice_get (turn w).nodes j ≡ Some y → is_resetting x.state.view.phase ≡ false → is_resetting y.state.view.phase ≡ false
 
-entry-of : (least most : ℕ) (x : PortNode) → is_resetting x.state.view.phase ≡ true → least ≤ x.state.view.timer → x.state.view.timer ≤ most → is_entry least most x ≡ true
+entry-of :
+    (least most : ℕ) (x : PortNode) → is_resetting x.state.view.phase ≡ true →
+    least ≤ x.state.view.timer → x.state.view.timer ≤ most → is_entry least most x ≡ true
 entry-of least most x r low high = go (is_resetting x.state.view.phase) x.state.view.timer r low high
   where
-    go : (b : Bool) (t : ℕ) → b ≡ true → least ≤ t → t ≤ most → (b && (nat_le least t && nat_le t most)) ≡ true
+    go :
+        (b : Bool) (t : ℕ) → b ≡ true → least ≤ t → t ≤ most →
+        (b && (nat_le least t && nat_le t most)) ≡ true
     go b t r low high = grind (arith, nat_tests)
 
-entry-parts : (least most : ℕ) (x : PortNode) → is_entry least most x ≡ true → (is_resetting x.state.view.phase ≡ true) × (least ≤ x.state.view.timer) × (x.state.view.timer ≤ most)
+entry-parts :
+    (least most : ℕ) (x : PortNode) → is_entry least most x ≡ true →
+    (is_resetting x.state.view.phase ≡ true) × (least ≤ x.state.view.timer)
+    × (x.state.view.timer ≤ most)
 entry-parts least most x e = go (is_resetting x.state.view.phase) x.state.view.timer e
   where
-    go : (b : Bool) (t : ℕ) → (b && (nat_le least t && nat_le t most)) ≡ true → (b ≡ true) × (least ≤ t) × (t ≤ most)
+    go :
+        (b : Bool) (t : ℕ) → (b && (nat_le least t && nat_le t most)) ≡ true →
+        (b ≡ true) × (least ≤ t) × (t ≤ most)
     go b t e = grind (arith, nat_tests)
 
 -- a node elsewhere is no entry
-elsewhere : (least most : ℕ) (x : PortNode) → is_resetting x.state.view.phase ≡ false → is_entry least most x ≡ false
+elsewhere :
+    (least most : ℕ) (x : PortNode) → is_resetting x.state.view.phase ≡ false →
+    is_entry least most x ≡ false
 elsewhere least most x out = rw out refl
 
 module _ (w : CableWorld) (l : IsLawful w) where
@@ -247,7 +291,11 @@ module _ (w : CableWorld) (l : IsLawful w) where
   same-length = sym (nodes-after w l.well_formed.count)
 
   -- an entry stays one
-  entry-stays : (least from most : ℕ) → from ≤ least + 1 → most + 1 < 64 * w.delay → (j : ℕ) (x y : PortNode) → slice_get w.nodes j ≡ Some x → slice_get (turn w).nodes j ≡ Some y → is_entry least most x ≡ true → is_entry from (most + 1) y ≡ true
+  entry-stays :
+      (least from most : ℕ) → from ≤ least + 1 → most + 1 < 64 * w.delay →
+      (j : ℕ) (x y : PortNode) → slice_get w.nodes j ≡ Some x →
+      slice_get (turn w).nodes j ≡ Some y → is_entry least most x ≡ true →
+      is_entry from (most + 1) y ≡ true
   entry-stays least from most low high j x y at_x at_y e =
       let t = in-turn w l j x y at_x at_y in
       let parts = entry-parts least most x e in
@@ -255,7 +303,9 @@ module _ (w : CableWorld) (l : IsLawful w) where
       entry-of from (most + 1) y there (omega (arith, t.rises parts.0 there, parts.1, low)) (omega (arith, t.rises parts.0 there, parts.2))
 
   -- a chain grows by the node that enters
-  chain-enters : (k : ℕ) → k + 1 < 64 * w.delay → Chained w k → (j : ℕ) (x y : PortNode) → slice_get w.nodes j ≡ Some x → slice_get (turn w).nodes j ≡ Some y →
+  chain-enters :
+      (k : ℕ) → k + 1 < 64 * w.delay → Chained w k → (j : ℕ) (x y : PortNode) →
+      slice_get w.nodes j ≡ Some x → slice_get (turn w).nodes j ≡ Some y →
       is_resetting x.state.view.phase ≡ false → is_resetting y.state.view.phase ≡ true → k + 1 + 1 ≤ y.state.view.timer + w.delay * entries y.state.view.timer (k + 1) (turn w)
   chain-enters k high c j x y at_x at_y out there =
       let t = in-turn w l j x y at_x at_y in
@@ -269,7 +319,9 @@ module _ (w : CableWorld) (l : IsLawful w) where
       omega (arith, one, u.recent, c u.number u.node u.at u.resets, mul-le-mul_left w.delay more)
 
   -- and keeps its length otherwise
-  chain-stays : (k : ℕ) → k + 1 < 64 * w.delay → Chained w k → (j : ℕ) (x y : PortNode) → slice_get w.nodes j ≡ Some x → slice_get (turn w).nodes j ≡ Some y →
+  chain-stays :
+      (k : ℕ) → k + 1 < 64 * w.delay → Chained w k → (j : ℕ) (x y : PortNode) →
+      slice_get w.nodes j ≡ Some x → slice_get (turn w).nodes j ≡ Some y →
       is_resetting x.state.view.phase ≡ true → is_resetting y.state.view.phase ≡ true → k + 1 + 1 ≤ y.state.view.timer + w.delay * entries y.state.view.timer (k + 1) (turn w)
   chain-stays k high c j x y at_x at_y was there =
       let t = in-turn w l j x y at_x at_y in
@@ -285,7 +337,10 @@ module _ (w : CableWorld) (l : IsLawful w) where
       subst (λ d. k + 1 + 1 ≤ y.state.view.timer + d * entries y.state.view.timer (k + 1) (turn w)) (sym (delay-after w))
       (go x.0 x.1 (is_resetting x.0.state.view.phase) refl)
     where
-      go : (x : PortNode) → slice_get w.nodes j ≡ Some x → (b : Bool) → is_resetting x.state.view.phase ≡ b → k + 1 + 1 ≤ y.state.view.timer + w.delay * entries y.state.view.timer (k + 1) (turn w)
+      go :
+          (x : PortNode) → slice_get w.nodes j ≡ Some x → (b : Bool) →
+          is_resetting x.state.view.phase ≡ b →
+          k + 1 + 1 ≤ y.state.view.timer + w.delay * entries y.state.view.timer (k + 1) (turn w)
       go x at_x true e = chain-stays k high c j x y at_x at_y e there
       go x at_x false e = chain-enters k high c j x y at_x at_y e there
 
@@ -315,7 +370,9 @@ module _ (w : CableWorld) (l : IsLawful w) where
       let x = before w j y l.well_formed at_y in
       go x.0 x.1 (is_resetting x.0.state.view.phase) refl
     where
-      go : (x : PortNode) → slice_get w.nodes j ≡ Some x → (b : Bool) → is_resetting x.state.view.phase ≡ b → least + 1 ≤ y.state.view.timer
+      go :
+          (x : PortNode) → slice_get w.nodes j ≡ Some x → (b : Bool) →
+          is_resetting x.state.view.phase ≡ b → least + 1 ≤ y.state.view.timer
       go x at_x true e = omega (arith, (in-turn w l j x y at_x at_y).rises e there, old j x at_x e)
       go x at_x false e = first least refl
         where
@@ -353,7 +410,9 @@ module _ (w : CableWorld) (l : IsLawful w) where
       let t : ℕ = x.state.view.timer in
       cases t (λ z. count-less (λ y. false) (is_entry t 0) w.nodes w.nodes j x x refl (λ i y u at_y at_u e. absurd cc) at at refl (entry-of t 0 x r (le_refl t) (omega (arith, z))))
     where
-      cases : (t : ℕ) → (t ≡ 0 → count_by (λ (y : PortNode). false) w.nodes + 1 ≤ entries t 0 w) → 0 + 1 ≤ t + w.delay * entries t 0 w
+      cases :
+          (t : ℕ) → (t ≡ 0 → count_by (λ (y : PortNode). false) w.nodes + 1 ≤ entries t 0 w) →
+          0 + 1 ≤ t + w.delay * entries t 0 w
       cases zero h = omega (arith, mul-le-mul_left w.delay (h refl), l.well_formed.some_delay)
       cases (suc t) h = omega arith
 
@@ -376,7 +435,9 @@ module _ (w : CableWorld) (l : IsLawful w) where
       room : (n d : ℕ) → n ≤ 63 → k < n * d + d → k < 64 * d
       room n d f h = let m : (n + 1) * d ≤ 64 * d = grind arith in omega (arith, m, h)
 
-  next-old : (k least : ℕ) → (1 ≤ least → Steady (later k)) → Old least (later k) → Old (least + 1) (later (k + 1))
+  next-old :
+      (k least : ℕ) → (1 ≤ least → Steady (later k)) → Old least (later k) →
+      Old (least + 1) (later (k + 1))
   next-old k least calm old = subst (Old (least + 1)) (sym (one-more k w)) (turn-old (later k) (turns-lawful k w l) least calm old)
 
   -- whoever is in R0 after a turn has been there for one
@@ -417,7 +478,9 @@ module _ (w : CableWorld) (l : IsLawful w) where
       product n d o p = omega (arith, mul-le-mul_left n p, o)
 
 -- no turn after the first n * d makes a node enter R0
-pub steady : (w : CableWorld) → IsLawful w → (k : ℕ) → length w.nodes * w.delay ≤ k → (j : ℕ) (x y : PortNode)
+pub steady :
+    (w : CableWorld) → IsLawful w → (k : ℕ) → length w.nodes * w.delay ≤ k →
+    (j : ℕ) (x y : PortNode)
     → slice_get (turns_after k w).nodes j ≡ Some x → slice_get (turns_after (k + 1) w).nodes j ≡ Some y
     → is_resetting x.state.view.phase ≡ false → is_resetting y.state.view.phase ≡ false
 steady w l k late j x y at_x at_y out =

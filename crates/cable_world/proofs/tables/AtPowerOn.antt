@@ -27,12 +27,16 @@ abbrev free : ℕ → List (Option End)
 free n = replicate n None
 
 -- no port has a cable, and no wire has a signal
-pub no-far : (counts : List ℕ) (k p : ℕ) → slice_index_or (slice_index_or (map free counts) k []) p None ≡ None
+pub no-far :
+    (counts : List ℕ) (k p : ℕ) →
+    slice_index_or (slice_index_or (map free counts) k []) p None ≡ None
 no-far [] k p = refl
 no-far (n ∷ counts) zero p = same-everywhere n p None
 no-far (n ∷ counts) (suc k) p = no-far counts k p
 
-no-signal : (nodes : List PortNode) (k p : ℕ) → slice_index_or (slice_index_or (map no_wires nodes) k []) p empty_wire ≡ empty_wire
+no-signal :
+    (nodes : List PortNode) (k p : ℕ) →
+    slice_index_or (slice_index_or (map no_wires nodes) k []) p empty_wire ≡ empty_wire
 no-signal [] k p = refl
 no-signal (x ∷ nodes) zero p = same-everywhere x.state.ports p empty_wire
 no-signal (x ∷ nodes) (suc k) p = no-signal nodes k p
@@ -43,12 +47,16 @@ not-connected (suc n) zero = refl
 not-connected (suc n) (suc p) = not-connected n p
 
 -- how many ports and wires a node has
-port-row : (nodes : List PortNode) (k : ℕ) (x : PortNode) → slice_get nodes k ≡ Some x → length (slice_index_or (map free (map ports nodes)) k []) ≡ x.state.ports
+port-row :
+    (nodes : List PortNode) (k : ℕ) (x : PortNode) → slice_get nodes k ≡ Some x →
+    length (slice_index_or (map free (map ports nodes)) k []) ≡ x.state.ports
 port-row [] k x h = absurd (cc)
 port-row (y ∷ nodes) zero x h = length-replicate y.state.ports None ∙ ap ports (some-same y x h)
 port-row (y ∷ nodes) (suc k) x h = port-row nodes k x h
 
-wire-row : (nodes : List PortNode) (k : ℕ) (x : PortNode) → slice_get nodes k ≡ Some x → length (slice_index_or (map no_wires nodes) k []) ≡ x.state.ports
+wire-row :
+    (nodes : List PortNode) (k : ℕ) (x : PortNode) → slice_get nodes k ≡ Some x →
+    length (slice_index_or (map no_wires nodes) k []) ≡ x.state.ports
 wire-row [] k x h = absurd (cc)
 wire-row (y ∷ nodes) zero x h = length-replicate y.state.ports empty_wire ∙ ap ports (some-same y x h)
 wire-row (y ∷ nodes) (suc k) x h = wire-row nodes k x h
@@ -58,7 +66,11 @@ pub record FewPorts (n : ℕ) : Type 0 where
   pub some : 1 ≤ n
   pub few : n ≤ 16
 
-few-ports : (nodes : List PortNode) → ((k : ℕ) (x : PortNode) → slice_get nodes k ≡ Some x → IsValid x.state) → (k : ℕ) → k < length (map free (map ports nodes)) → FewPorts (length (slice_index_or (map free (map ports nodes)) k []))
+few-ports :
+    (nodes : List PortNode) →
+    ((k : ℕ) (x : PortNode) → slice_get nodes k ≡ Some x → IsValid x.state) → (k : ℕ) →
+    k < length (map free (map ports nodes)) →
+    FewPorts (length (slice_index_or (map free (map ports nodes)) k []))
 few-ports [] h k lt = absurd (omega arith)
 few-ports (x ∷ nodes) h zero lt =
     let v : IsValid x.state = h 0 x refl in
@@ -69,7 +81,9 @@ few-ports (x ∷ nodes) h (suc k) lt = few-ports nodes (λ j y e. h (suc j) y e)
 abbrev Powered : ℕ → List PortNode → Type 0
 Powered d nodes = (k : ℕ) (x : PortNode) → slice_get nodes k ≡ Some x → IsNodeAtPowerOn d x.state
 
-is-cabling : (d : ℕ) (nodes : List PortNode) → length nodes ≤ 63 → Powered d nodes → IsCabling (without_cables (map ports nodes))
+is-cabling :
+    (d : ℕ) (nodes : List PortNode) → length nodes ≤ 63 → Powered d nodes →
+    IsCabling (without_cables (map ports nodes))
 is-cabling d nodes few h =
     let c = map free (map ports nodes) in
     let valid : (k : ℕ) (x : PortNode) → slice_get nodes k ≡ Some x → IsValid x.state = λ k x e. (h k x e).valid in
@@ -82,7 +96,9 @@ is-cabling d nodes few h =
       few_ports = λ k lt. (few-ports nodes valid k lt).few;
     }
 
-fits : (d : ℕ) (nodes : List PortNode) → Powered d nodes → (k : ℕ) (x : PortNode) → slice_get nodes k ≡ Some x → FitsCables (world_of_nodes d nodes) k x.state
+fits :
+    (d : ℕ) (nodes : List PortNode) → Powered d nodes → (k : ℕ) (x : PortNode) →
+    slice_get nodes k ≡ Some x → FitsCables (world_of_nodes d nodes) k x.state
 fits d nodes h k x e =
     let on = h k x e in
     let views : x.state.view.ports ≡ replicate x.state.ports free_port = ap (λ (y : NodeState). y.view.ports) on.is in
@@ -98,7 +114,9 @@ fits d nodes h k x e =
 apart : (d : ℕ) (nodes : List PortNode) (a : End) → far (world_of_nodes d nodes).cabling a ≡ None
 apart d nodes a = no-far (map ports nodes) a.node a.port
 
-formed : (d : ℕ) (nodes : List PortNode) → 1 ≤ d → d ≤ 16 → length nodes ≤ 63 → Powered d nodes → IsWellFormed (world_of_nodes d nodes)
+formed :
+    (d : ℕ) (nodes : List PortNode) → 1 ≤ d → d ≤ 16 → length nodes ≤ 63 → Powered d nodes →
+    IsWellFormed (world_of_nodes d nodes)
 formed d nodes one sixteen few h =
     let w = world_of_nodes d nodes in
     let size : length w.cabling ≡ length nodes = length-map (map ports nodes) free ∙ length-map nodes ports in

@@ -27,7 +27,9 @@ pub port-there :
     (p : PortView) × (slice_get x.view.ports k ≡ Some p)
 port-there x k h = go (slice_get x.view.ports k) refl
   where
-    go : (o : Option PortView) → slice_get x.view.ports k ≡ o → (p : PortView) × (slice_get x.view.ports k ≡ Some p)
+    go :
+        (o : Option PortView) → slice_get x.view.ports k ≡ o →
+        (p : PortView) × (slice_get x.view.ports k ≡ Some p)
     go None e = let none : false ≡ true = sym (ap (passes (λ p. p.connected)) e) ∙ h in absurd cc
     go (Some p) e = (p, e)
 
@@ -37,7 +39,8 @@ pub cable-connected :
     slice_get w.nodes a.node ≡ Some x → is_connected x.state.view.ports a.port ≡ true
 cable-connected w a b x f e at = (f.nodes a.node x at).connected a.port ∙ ap is_some e
 
-pub cable-end : (w : CableWorld) (a b : End) → IsWellFormed w → far w.cabling a ≡ Some b → CableEnd w a
+pub cable-end :
+    (w : CableWorld) (a b : End) → IsWellFormed w → far w.cabling a ≡ Some b → CableEnd w a
 cable-end w a b f e =
     let has : HasEnd w.cabling a = has-end w.cabling a b e in
     elim (slice_get_cases w.nodes a.node).1 [

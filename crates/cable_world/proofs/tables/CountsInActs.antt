@@ -18,18 +18,24 @@ pub record Keeps (w v : CableWorld) : Type 0 where
 and-then : {w u v : CableWorld} → Keeps w u → Keeps u v → Keeps w v
 and-then a b = record { nodes = b.nodes ∙ a.nodes; turns = b.turns ∙ a.turns; delay = b.delay ∙ a.delay }
 
-step-at : (o : Option PortNode) (node : ℕ) (step : PortNode → NodeStep) (w : CableWorld) → Keeps w (step_at o node step w)
+step-at :
+    (o : Option PortNode) (node : ℕ) (step : PortNode → NodeStep) (w : CableWorld) →
+    Keeps w (step_at o node step w)
 step-at None node step w = record { nodes = refl; turns = refl; delay = refl }
 step-at (Some x) node step w = record { nodes = length-set w.nodes node (step x).node; turns = refl; delay = refl }
 
 step : (node : ℕ) (step : PortNode → NodeStep) (w : CableWorld) → Keeps w (with_step node step w)
 step node s w = step-at (slice_get w.nodes node) node s w
 
-pub in-set : (set : ℕ) (change : PortNode → PortNode) (k : ℕ) (nodes : List PortNode) → length (change_in_set set change k nodes) ≡ length nodes
+pub in-set :
+    (set : ℕ) (change : PortNode → PortNode) (k : ℕ) (nodes : List PortNode) →
+    length (change_in_set set change k nodes) ≡ length nodes
 in-set set change k [] = refl
 in-set set change k (x ∷ nodes) = ap suc (in-set set change (k + 1) nodes)
 
-two-steps : (a b : ℕ) (f g : PortNode → NodeStep) (w v : CableWorld) → Keeps w v → Keeps w (with_step b g (with_step a f v))
+two-steps :
+    (a b : ℕ) (f g : PortNode → NodeStep) (w v : CableWorld) → Keeps w v →
+    Keeps w (with_step b g (with_step a f v))
 two-steps a b f g w v h = and-then {u = with_step a f v} (and-then {u = v} h (step a f v)) (step b g (with_step a f v))
 
 plugging : (a b : End) (w : CableWorld) → Keeps w (plug a b w)
@@ -39,7 +45,8 @@ pulling : (a : End) (o : Option End) (w : CableWorld) → Keeps w (pull_from a o
 pulling a None w = record { nodes = refl; turns = refl; delay = refl }
 pulling a (Some b) w = two-steps a.node b.node (node_pulled a.port) (node_pulled b.port) w (remove_cable a b w) (record { nodes = refl; turns = refl; delay = refl })
 
-configuring : (set from : ℕ) (packet : ConfigPacket) (w : CableWorld) → Keeps w (configure set from packet w)
+configuring :
+    (set from : ℕ) (packet : ConfigPacket) (w : CableWorld) → Keeps w (configure set from packet w)
 configuring set from packet w =
     let v : CableWorld = record w { nodes = change_in_set set (node_set_config packet) 0 w.nodes } in
     and-then {u = v} (record { nodes = in-set set (node_set_config packet) 0 w.nodes; turns = refl; delay = refl }) (step from node_disturb v)

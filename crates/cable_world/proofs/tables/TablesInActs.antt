@@ -42,7 +42,9 @@ pub data Emptied (w v : CableWorld) (a b e : End) : Type 0 where
   left_alone : e ≢ a → e ≢ b → wire_of v e ≡ wire_of w e → Emptied w v a b e
 
 -- the wires of all other ends are as before
-pub others-alone : (c : Wiring) (a b : End) (w : CableWorld) → IsWellFormed w → HasEnd w.cabling a → HasEnd w.cabling b → (e : End) → e ≢ a → e ≢ b → wire_of (recabled c a b w) e ≡ wire_of w e
+pub others-alone :
+    (c : Wiring) (a b : End) (w : CableWorld) → IsWellFormed w → HasEnd w.cabling a →
+    HasEnd w.cabling b → (e : End) → e ≢ a → e ≢ b → wire_of (recabled c a b w) e ≡ wire_of w e
 others-alone c a b w h ha hb e na nb =
     let first = put a empty_wire w.wires in
     let wa : HasEntry w.wires a = has-wire w a h ha in
@@ -50,7 +52,9 @@ others-alone c a b w h ha hb e na nb =
     let rows : length first ≡ length w.wires = length-set w.wires a.node _ in
     put-other empty_wire first b e empty_wire (omega (arith, rows, wb.node)) nb ∙ put-other empty_wire w.wires a e empty_wire wa.node na
 
-emptied : (c : Wiring) (a b : End) (w : CableWorld) → IsWellFormed w → HasEnd w.cabling a → HasEnd w.cabling b → (e : End) → Emptied w (recabled c a b w) a b e
+emptied :
+    (c : Wiring) (a b : End) (w : CableWorld) → IsWellFormed w → HasEnd w.cabling a →
+    HasEnd w.cabling b → (e : End) → Emptied w (recabled c a b w) a b e
 emptied c a b w h ha hb e =
     let first = put a empty_wire w.wires in
     let v = recabled c a b w in
@@ -68,7 +72,10 @@ emptied c a b w h ha hb e =
 
 -- ---- plugging and pulling
 
-recabled-formed : (c : Wiring) (a b : End) (w : CableWorld) → IsWellFormed w → HasEnd w.cabling a → HasEnd w.cabling b → IsCabling c → SameBut w.cabling c a b → FormedFor w.cabling (recabled c a b w)
+recabled-formed :
+    (c : Wiring) (a b : End) (w : CableWorld) → IsWellFormed w → HasEnd w.cabling a →
+    HasEnd w.cabling b → IsCabling c → SameBut w.cabling c a b →
+    FormedFor w.cabling (recabled c a b w)
 recabled-formed c a b w h ha hb is same =
     let v = recabled c a b w in
     let first = put a empty_wire w.wires in
@@ -92,7 +99,12 @@ recabled-formed c a b w h ha hb is same =
     }
 
 -- both ends are written, and then both nodes do their steps
-both-formed : (a b : End) (v u : Option End) (f g : PortNode → NodeStep) (w : CableWorld) → IsWellFormed w → HasEnd w.cabling a → HasEnd w.cabling b → a.node ≢ b.node → IsCabling (put b u (put a v w.cabling)) → SameBut w.cabling (put b u (put a v w.cabling)) a b → Sets a.port (is_some v) f → Sets b.port (is_some u) g → IsWellFormed (with_step b.node g (with_step a.node f (recabled (put b u (put a v w.cabling)) a b w)))
+both-formed :
+    (a b : End) (v u : Option End) (f g : PortNode → NodeStep) (w : CableWorld) → IsWellFormed w →
+    HasEnd w.cabling a → HasEnd w.cabling b → a.node ≢ b.node →
+    IsCabling (put b u (put a v w.cabling)) → SameBut w.cabling (put b u (put a v w.cabling)) a b →
+    Sets a.port (is_some v) f → Sets b.port (is_some u) g →
+    IsWellFormed (with_step b.node g (with_step a.node f (recabled (put b u (put a v w.cabling)) a b w)))
 both-formed a b v u f g w h ha hb apart is same sets-a sets-b =
     let half : Wiring = put a v w.cabling in
     let c : Wiring = put b u half in
@@ -119,14 +131,18 @@ sets-pulled port = record {
   connected = λ x p h. pulled-cables port p x.state h;
 }
 
-pub plug-formed : (a b : End) (w : CableWorld) → plug_fault w.cabling a b ≡ None → IsWellFormed w → IsWellFormed (plug a b w)
+pub plug-formed :
+    (a b : End) (w : CableWorld) → plug_fault w.cabling a b ≡ None → IsWellFormed w →
+    IsWellFormed (plug a b w)
 plug-formed a b w none h =
     let may : Pluggable w.cabling a b = pluggable w.cabling a b none in
     let c : Wiring = put b (Some a) (put a (Some b) w.cabling) in
     let added : Added w.cabling c a b = added_by_writes w.cabling a b may.has_a may.has_b may.free_a may.free_b may.apart in
     both-formed a b (Some b) (Some a) (node_plugged a.port) (node_plugged b.port) w h may.has_a may.has_b may.apart (cabling_added w.cabling c a b h.cabling may.apart added) added.others (sets-plugged a.port) (sets-plugged b.port)
 
-pub pull-formed : (a : End) (o : Option End) (w : CableWorld) → far w.cabling a ≡ o → IsWellFormed w → IsWellFormed (pull_from a o w)
+pub pull-formed :
+    (a : End) (o : Option End) (w : CableWorld) → far w.cabling a ≡ o → IsWellFormed w →
+    IsWellFormed (pull_from a o w)
 pull-formed a None w at h = h
 pull-formed a (Some b) w at h =
     let c : Wiring = put b None (put a None w.cabling) in
@@ -151,7 +167,9 @@ pub data Was (change : PortNode → PortNode) (nodes : List PortNode) (j : ℕ) 
   as_before : slice_get nodes j ≡ Some y → Was change nodes j y
   altered : (x : PortNode) → slice_get nodes j ≡ Some x → change x ≡ y → Was change nodes j y
 
-pub was : (set : ℕ) (change : PortNode → PortNode) (k : ℕ) (nodes : List PortNode) (j : ℕ) (y : PortNode) → slice_get (change_in_set set change k nodes) j ≡ Some y → Was change nodes j y
+pub was :
+    (set : ℕ) (change : PortNode → PortNode) (k : ℕ) (nodes : List PortNode) (j : ℕ) (y : PortNode) →
+    slice_get (change_in_set set change k nodes) j ≡ Some y → Was change nodes j y
 was set change k [] j y e = absurd (none-some None y refl e)
 was set change k (x ∷ nodes) zero y e = go (bit_at set k == 1) e
   where
@@ -164,7 +182,9 @@ was set change k (x ∷ nodes) (suc j) y e = elim (was set change (k + 1) nodes 
 ]
 
 -- some nodes hear a packet
-pub told-formed : (set : ℕ) (packet : ConfigPacket) (w : CableWorld) → HasSixBits packet → IsWellFormed w → IsWellFormed (record w { nodes = change_in_set set (node_set_config packet) 0 w.nodes })
+pub told-formed :
+    (set : ℕ) (packet : ConfigPacket) (w : CableWorld) → HasSixBits packet → IsWellFormed w →
+    IsWellFormed (record w { nodes = change_in_set set (node_set_config packet) 0 w.nodes })
 told-formed set packet w bits h =
     let change : PortNode → PortNode = node_set_config packet in
     let v : CableWorld = record w { nodes = change_in_set set change 0 w.nodes } in
@@ -192,13 +212,17 @@ told-formed set packet w bits h =
       unplugged = h.unplugged;
     }
 
-pub configure-formed : (set from : ℕ) (packet : ConfigPacket) (w : CableWorld) → HasSixBits packet → IsWellFormed w → IsWellFormed (configure set from packet w)
+pub configure-formed :
+    (set from : ℕ) (packet : ConfigPacket) (w : CableWorld) → HasSixBits packet → IsWellFormed w →
+    IsWellFormed (configure set from packet w)
 configure-formed set from packet w bits h =
     reset-formed from (record w { nodes = change_in_set set (node_set_config packet) 0 w.nodes }) (told-formed set packet w bits h)
 
 -- ---- every act
 
-noting-formed : (w u v : CableWorld) → v ≡ note_changes w u → length v.nodes ≡ length w.nodes → IsWellFormed w → IsWellFormed u → IsWellFormed v
+noting-formed :
+    (w u v : CableWorld) → v ≡ note_changes w u → length v.nodes ≡ length w.nodes → IsWellFormed w →
+    IsWellFormed u → IsWellFormed v
 noting-formed w u v e many h g =
     let same : length u.nodes ≡ length w.nodes = sym (ap (λ (z : CableWorld). length z.nodes) e) ∙ many in
     let size : length w.cabling ≡ length u.cabling = omega (arith, same, h.count, g.count) in
@@ -215,7 +239,9 @@ noting-formed w u v e many h g =
     } in
     subst IsWellFormed (sym e) all
 
-pub act-formed : (a : Act) (w v : CableWorld) → IsAct a → act_fault a w ≡ None → ActLeads a w v → IsWellFormed w → IsWellFormed v
+pub act-formed :
+    (a : Act) (w v : CableWorld) → IsAct a → act_fault a w ≡ None → ActLeads a w v →
+    IsWellFormed w → IsWellFormed v
 act-formed (Plug a b) w v is none e h = noting-formed w (plug a b w) v e (act-keeps (Plug a b) w v e).nodes h (plug-formed a b w none h)
 act-formed (Pull end) w v is none e h = noting-formed w (pull end w) v e (act-keeps (Pull end) w v e).nodes h (pull-formed end (far w.cabling end) w refl h)
 act-formed (Reset node) w v is none e h = noting-formed w (reset node w) v e (act-keeps (Reset node) w v e).nodes h (reset-formed node w h)
@@ -225,7 +251,11 @@ act-formed (Config from root_id force gap) w v is none e h =
 -- ---- hold
 
 -- where a cable can be pulled, there is one
-passed : (node port : Bool) (o : Option End) (f g k : CableFault) → (if not node then Some f else (if not port then Some g else (if is_some o then None else Some k))) ≡ None → (b : End) × (o ≡ Some b)
+passed :
+    (node port : Bool) (o : Option End) (f g k : CableFault) →
+    (if not node then Some f else (if not port then Some g else (if is_some o then None else Some k)))
+    ≡ None →
+    (b : End) × (o ≡ Some b)
 passed true true (Some b) f g k e = (b, refl)
 passed true true None f g k e = absurd cc
 passed true false o f g k e = absurd cc
@@ -234,7 +264,9 @@ passed false port o f g k e = absurd cc
 pub has-cable : (c : Wiring) (a : End) → pull_fault c a ≡ None → (b : End) × (far c a ≡ Some b)
 has-cable c a none = passed (has_node c a) (has_port c a) (far c a) _ _ _ none
 
-pub hold-formed : (end : End) (turns : ℕ) (w : CableWorld) → hold_fault end w ≡ None → IsWellFormed w → IsWellFormed (hold end turns w)
+pub hold-formed :
+    (end : End) (turns : ℕ) (w : CableWorld) → hold_fault end w ≡ None → IsWellFormed w →
+    IsWellFormed (hold end turns w)
 hold-formed end turns w none h =
     let v = hold end turns w in
     let held : Wire = record (wire_of w end) { held = turns } in

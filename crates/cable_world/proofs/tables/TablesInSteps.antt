@@ -1,4 +1,5 @@
--- What one step of a node keeps of a well-formed world, also while a cable is being plugged or pulled.
+-- What one step of a node keeps of a well-formed world, also while a cable is being plugged or
+-- pulled.
 use Rattle.std.proofs.Common.{◌≡◌, ◌≢◌, ℕ, zero, suc, ◌+◌, ◌-◌, ◌<◌, ◌≤◌, ◌==◌, ◌⊎◌, inl, inr, Bool, true, false, List, [], ◌∷◌, Option, Some, None, length, length-set, is_some, slice_get, slice_set, slice_index_or, if◌then◌else◌, refl, subst, sym, ◌∙◌, ap, arith}
 use Rattle.std.proofs.lemmas.Bool.{cases_eq, cases_lt, eqb-true, eqb-false}
 use Rattle.std.proofs.lemmas.List.{get_or-set_same, get_or-set_other}
@@ -27,12 +28,16 @@ use Rattle.cable_world.specs.Lawful.{AgesFall, FitsCables, IsWellFormed}
 
 -- ---- a list with one element replaced
 
-pub replaced : {A : Type 0} → (xs : List A) (k : ℕ) (a : A) → k < length xs → slice_get (slice_set xs k a) k ≡ Some a
+pub replaced :
+    {A : Type 0} → (xs : List A) (k : ℕ) (a : A) → k < length xs →
+    slice_get (slice_set xs k a) k ≡ Some a
 replaced [] k a h = absurd (omega arith)
 replaced (x ∷ xs) zero a h = refl
 replaced (x ∷ xs) (suc k) a h = replaced xs k a (omega arith)
 
-pub not-replaced : {A : Type 0} → (xs : List A) (k j : ℕ) (a : A) → j ≢ k → slice_get (slice_set xs k a) j ≡ slice_get xs j
+pub not-replaced :
+    {A : Type 0} → (xs : List A) (k j : ℕ) (a : A) → j ≢ k →
+    slice_get (slice_set xs k a) j ≡ slice_get xs j
 not-replaced [] k j a ne = refl
 not-replaced (x ∷ xs) zero zero a ne = absurd (ne refl)
 not-replaced (x ∷ xs) zero (suc j) a ne = refl
@@ -42,13 +47,18 @@ not-replaced (x ∷ xs) (suc k) (suc j) a ne = not-replaced xs k j a (λ e. ne (
 -- ---- a table with one row or one entry replaced
 
 -- no row gets longer or shorter
-pub row-lengths : {A : Type 0} → (rows : List (List A)) (k : ℕ) (row : List A) → length row ≡ length (slice_index_or rows k []) → (j : ℕ) → length (slice_index_or (slice_set rows k row) j []) ≡ length (slice_index_or rows j [])
+pub row-lengths :
+    {A : Type 0} → (rows : List (List A)) (k : ℕ) (row : List A) →
+    length row ≡ length (slice_index_or rows k []) → (j : ℕ) →
+    length (slice_index_or (slice_set rows k row) j []) ≡ length (slice_index_or rows j [])
 row-lengths rows k row same j =
     sym (get_or-map length (slice_set rows k row) j [])
     ∙ ap (λ (l : List ℕ). slice_index_or l j 0) (map-set_same length rows k row [] same)
     ∙ get_or-map length rows j []
 
-pub put-lengths : {A : Type 0} → (rows : List (List A)) (end : End) (a : A) (j : ℕ) → length (slice_index_or (put end a rows) j []) ≡ length (slice_index_or rows j [])
+pub put-lengths :
+    {A : Type 0} → (rows : List (List A)) (end : End) (a : A) (j : ℕ) →
+    length (slice_index_or (put end a rows) j []) ≡ length (slice_index_or rows j [])
 put-lengths rows end a j =
     row-lengths rows end.node (slice_set (slice_index_or rows end.node []) end.port a) (length-set (slice_index_or rows end.node []) end.port a) j
 
@@ -60,13 +70,18 @@ pub record HasEntry {A : Type 0} (rows : List (List A)) (end : End) : Type 0 whe
   pub node : end.node < length rows
   pub port : end.port < length (slice_index_or rows end.node [])
 
-pub put-same : {A : Type 0} → (default : A) (rows : List (List A)) (end : End) (a : A) → HasEntry rows end → entry default (put end a rows) end ≡ a
+pub put-same :
+    {A : Type 0} → (default : A) (rows : List (List A)) (end : End) (a : A) → HasEntry rows end →
+    entry default (put end a rows) end ≡ a
 put-same default rows end a h =
     let row = slice_index_or rows end.node [] in
     ap (λ r. slice_index_or r end.port default) (get_or-set_same rows end.node (slice_set row end.port a) [] h.node)
     ∙ get_or-set_same row end.port a default h.port
 
-pub put-other : {A : Type 0} → (default : A) (rows : List (List A)) (end other : End) (a : A) → end.node < length rows → other ≢ end → entry default (put end a rows) other ≡ entry default rows other
+pub put-other :
+    {A : Type 0} → (default : A) (rows : List (List A)) (end other : End) (a : A) →
+    end.node < length rows → other ≢ end →
+    entry default (put end a rows) other ≡ entry default rows other
 put-other default rows end other a h ne =
     let row = slice_index_or rows end.node [] in
     let new = slice_set row end.port a in
@@ -79,7 +94,9 @@ put-other default rows end other a h ne =
 
 -- ---- what is sent onto the wires of one node
 
-pub sent-length : (q : ℕ) (sends : List (ℕ × Signal)) (wires : List Wire) → length (wires_after_sends q sends wires) ≡ length wires
+pub sent-length :
+    (q : ℕ) (sends : List (ℕ × Signal)) (wires : List Wire) →
+    length (wires_after_sends q sends wires) ≡ length wires
 sent-length q sends [] = refl
 sent-length q sends (w ∷ wires) = ap suc (sent-length (q + 1) sends wires)
 
@@ -100,7 +117,10 @@ sent-or-none sends wires p = elim (cases_lt p (length wires)) [
       inr (get_or-eq_default (wires_after_sends 0 sends wires) empty_wire {n = p} past ∙ sym (get_or-eq_default wires empty_wire {n = p} more))
 ]
 
-pub sent-ages : (most : ℕ) (sends : List (ℕ × Signal)) (wires : List Wire) (p : ℕ) → AgesFall most (wire_at wires p).signals → AgesFall most (wire_at (wires_after_sends 0 sends wires) p).signals
+pub sent-ages :
+    (most : ℕ) (sends : List (ℕ × Signal)) (wires : List Wire) (p : ℕ) →
+    AgesFall most (wire_at wires p).signals →
+    AgesFall most (wire_at (wires_after_sends 0 sends wires) p).signals
 sent-ages most sends wires p h =
     let Fall : Wire → Type 0 = λ v. AgesFall most v.signals in
     elim (sent-or-none sends wires p) [
@@ -108,7 +128,9 @@ sent-ages most sends wires p h =
       | inr e ↦ subst Fall (sym e) h
     ]
 
-pub sent-nothing : (sends : List (ℕ × Signal)) (wires : List Wire) (p : ℕ) → sent_on p sends ≡ [] → wire_at (wires_after_sends 0 sends wires) p ≡ wire_at wires p
+pub sent-nothing :
+    (sends : List (ℕ × Signal)) (wires : List Wire) (p : ℕ) → sent_on p sends ≡ [] →
+    wire_at (wires_after_sends 0 sends wires) p ≡ wire_at wires p
 sent-nothing sends wires p none = elim (sent-or-none sends wires p) [
   | inl e ↦ e ∙ ap (λ l. add_signals l (wire_at wires p)) none ∙ none-sent (wire_at wires p)
   | inr e ↦ e
@@ -117,7 +139,12 @@ sent-nothing sends wires p none = elim (sent-or-none sends wires p) [
 -- ---- well formed, but that the nodes' ports fit other cables
 
 -- a node fits another world with the same d, as many wires, and cables at the same ports
-pub fits-alike : (w v : CableWorld) (k : ℕ) (x : NodeState) → v.delay ≡ w.delay → length (ports_of v.cabling k) ≡ length (ports_of w.cabling k) → length (slice_index_or v.wires k []) ≡ length (slice_index_or w.wires k []) → ((p : ℕ) → far v.cabling (record { node = k; port = p }) ≡ far w.cabling (record { node = k; port = p })) → FitsCables w k x → FitsCables v k x
+pub fits-alike :
+    (w v : CableWorld) (k : ℕ) (x : NodeState) → v.delay ≡ w.delay →
+    length (ports_of v.cabling k) ≡ length (ports_of w.cabling k) →
+    length (slice_index_or v.wires k []) ≡ length (slice_index_or w.wires k []) →
+    ((p : ℕ) → far v.cabling (record { node = k; port = p }) ≡ far w.cabling (record { node = k; port = p })) →
+    FitsCables w k x → FitsCables v k x
 fits-alike w v k x delay ports wires cables h = record {
   valid = h.valid;
   timing = subst (λ d. InRange d x.timing) (sym delay) h.timing;
@@ -129,7 +156,8 @@ fits-alike w v k x delay ports wires cables h = record {
 abbrev pub cabled : Wiring → CableWorld → CableWorld
 cabled c w = record w { cabling = c }
 
--- the world is well formed, but its nodes fit these cables, where a cable is being plugged or pulled
+-- the world is well formed, but its nodes fit these cables, where a cable is being plugged or
+-- pulled
 pub record FormedFor (c : Wiring) (w : CableWorld) : Type 0 where
   pub some_delay : 1 ≤ w.delay
   pub short_delay : w.delay ≤ 16
@@ -137,7 +165,8 @@ pub record FormedFor (c : Wiring) (w : CableWorld) : Type 0 where
   pub count : length w.nodes ≡ length w.cabling
   pub wire_rows : length w.wires ≡ length w.cabling
   pub changes : length w.changed ≡ length w.cabling
-  pub nodes : (k : ℕ) (x : PortNode) → slice_get w.nodes k ≡ Some x → FitsCables (cabled c w) k x.state
+  pub nodes :
+      (k : ℕ) (x : PortNode) → slice_get w.nodes k ≡ Some x → FitsCables (cabled c w) k x.state
   pub ages : (a : End) → AgesFall (w.delay - 1) (wire_of w a).signals
   pub unplugged : (a : End) → far w.cabling a ≡ None → wire_of w a ≡ empty_wire
 
@@ -169,7 +198,8 @@ well-formed c w is h = record {
 
 -- ---- a step
 
-pub step-cables : (k : ℕ) (step : PortNode → NodeStep) (w : CableWorld) → (with_step k step w).cabling ≡ w.cabling
+pub step-cables :
+    (k : ℕ) (step : PortNode → NodeStep) (w : CableWorld) → (with_step k step w).cabling ≡ w.cabling
 step-cables k step w = go (slice_get w.nodes k)
   where
     go : (o : Option PortNode) → (step_at o k step w).cabling ≡ w.cabling
@@ -179,11 +209,19 @@ step-cables k step w = go (slice_get w.nodes k)
 -- what a step of node number k, which is x, has to do, so that the node then fits these cables
 pub record StepFits (c : Wiring) (w : CableWorld) (k : ℕ) (x : PortNode) (s : NodeStep) : Type 0 where
   pub sound : IsSound x.state (record { state = s.node.state; sends = s.sends })
-  pub connected : (p : ℕ) → is_connected s.node.state.view.ports p ≡ is_some (far c (record { node = k; port = p }))
+  pub connected :
+      (p : ℕ) →
+      is_connected s.node.state.view.ports p ≡ is_some (far c (record { node = k; port = p }))
   -- what the node takes for a cable is one of the world's
-  pub within : (p : ℕ) → far w.cabling (record { node = k; port = p }) ≡ None → far c (record { node = k; port = p }) ≡ None
+  pub within :
+      (p : ℕ) → far w.cabling (record { node = k; port = p }) ≡ None →
+      far c (record { node = k; port = p }) ≡ None
 
-stepped-formed : (c d : Wiring) (k : ℕ) (x : PortNode) (s : NodeStep) (w : CableWorld) → FormedFor c w → ((j : ℕ) → length (ports_of d j) ≡ length (ports_of c j)) → ((e : End) → e.node ≢ k → far d e ≡ far c e) → slice_get w.nodes k ≡ Some x → StepFits d w k x s → FormedFor d (put_step k s w)
+stepped-formed :
+    (c d : Wiring) (k : ℕ) (x : PortNode) (s : NodeStep) (w : CableWorld) → FormedFor c w →
+    ((j : ℕ) → length (ports_of d j) ≡ length (ports_of c j)) →
+    ((e : End) → e.node ≢ k → far d e ≡ far c e) → slice_get w.nodes k ≡ Some x →
+    StepFits d w k x s → FormedFor d (put_step k s w)
 stepped-formed c d k x s w h lengths others at f =
     let v = put_step k s w in
     let wires = slice_index_or w.wires k [] in
@@ -238,7 +276,12 @@ stepped-formed c d k x s w h lengths others at f =
     }
 
 -- the node of this number does a step, after which its ports fit these cables
-pub step-formed : (c d : Wiring) (k : ℕ) (step : PortNode → NodeStep) (w : CableWorld) → FormedFor c w → ((j : ℕ) → length (ports_of d j) ≡ length (ports_of c j)) → ((e : End) → e.node ≢ k → far d e ≡ far c e) → ((x : PortNode) → slice_get w.nodes k ≡ Some x → StepFits d w k x (step x)) → FormedFor d (with_step k step w)
+pub step-formed :
+    (c d : Wiring) (k : ℕ) (step : PortNode → NodeStep) (w : CableWorld) → FormedFor c w →
+    ((j : ℕ) → length (ports_of d j) ≡ length (ports_of c j)) →
+    ((e : End) → e.node ≢ k → far d e ≡ far c e) →
+    ((x : PortNode) → slice_get w.nodes k ≡ Some x → StepFits d w k x (step x)) →
+    FormedFor d (with_step k step w)
 step-formed c d k step w h lengths others f = go (slice_get w.nodes k) refl
   where
     go : (o : Option PortNode) → slice_get w.nodes k ≡ o → FormedFor d (step_at o k step w)
@@ -259,18 +302,30 @@ step-formed c d k step w h lengths others f = go (slice_get w.nodes k) refl
 
 -- a step that says of one port whether it has a cable
 pub record Sets (port : ℕ) (on : Bool) (step : PortNode → NodeStep) : Type 0 where
-  pub sound : (x : PortNode) → IsBounded x.state → IsSound x.state (record { state = (step x).node.state; sends = (step x).sends })
-  pub connected : (x : PortNode) (p : ℕ) → port < length x.state.view.ports → is_connected (step x).node.state.view.ports p ≡ (if p == port then on else is_connected x.state.view.ports p)
+  pub sound :
+      (x : PortNode) → IsBounded x.state →
+      IsSound x.state (record { state = (step x).node.state; sends = (step x).sends })
+  pub connected :
+      (x : PortNode) (p : ℕ) → port < length x.state.view.ports →
+      is_connected (step x).node.state.view.ports p
+      ≡ (if p == port then on else is_connected x.state.view.ports p)
 
 -- the port then tells of the cable that was put at its end
-set-there : (c : Wiring) (a : End) (v : Option End) (p : ℕ) (old : Bool) → HasEnd c a → old ≡ is_some (far c (record { node = a.node; port = p })) → (b : Bool) → (p == a.port) ≡ b → (if b then is_some v else old) ≡ is_some (far (put a v c) (record { node = a.node; port = p }))
+set-there :
+    (c : Wiring) (a : End) (v : Option End) (p : ℕ) (old : Bool) → HasEnd c a →
+    old ≡ is_some (far c (record { node = a.node; port = p })) → (b : Bool) → (p == a.port) ≡ b →
+    (if b then is_some v else old) ≡ is_some (far (put a v c) (record { node = a.node; port = p }))
 set-there c a v p old has was true e =
     sym (ap (λ n. is_some (far (put a v c) (record { node = a.node; port = n }))) (eqb-true p a.port e) ∙ ap is_some (far-same c a v has))
 set-there c a v p old has was false e =
     was ∙ sym (ap is_some (far-other c a (record { node = a.node; port = p }) v has.node (λ same. eqb-false p a.port e (ap (λ (z : End). z.port) same))))
 
 -- the node at an end does such a step
-pub setting-formed : (c : Wiring) (a : End) (v : Option End) (step : PortNode → NodeStep) (w : CableWorld) → FormedFor c w → HasEnd c a → Sets a.port (is_some v) step → ((p : ℕ) → far w.cabling (record { node = a.node; port = p }) ≡ None → far (put a v c) (record { node = a.node; port = p }) ≡ None) → FormedFor (put a v c) (with_step a.node step w)
+pub setting-formed :
+    (c : Wiring) (a : End) (v : Option End) (step : PortNode → NodeStep) (w : CableWorld) →
+    FormedFor c w → HasEnd c a → Sets a.port (is_some v) step →
+    ((p : ℕ) → far w.cabling (record { node = a.node; port = p }) ≡ None → far (put a v c) (record { node = a.node; port = p }) ≡ None) →
+    FormedFor (put a v c) (with_step a.node step w)
 setting-formed c a v step w h has sets within =
     step-formed c (put a v c) a.node step w h (put-lengths c a v) (λ e ne. far-other c a e v has.node (λ same. ne (ap (λ (z : End). z.node) same))) (λ x at.
     let own : FitsCables (cabled c w) a.node x.state = h.nodes a.node x at in

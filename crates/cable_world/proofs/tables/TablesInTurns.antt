@@ -30,8 +30,8 @@ use Rattle.cable_world.proofs.tables.Shape.{ages-sent, none-sent, silent}
 
 -- ---- one node
 
--- a step of a valid node to a valid one, with times, ports and cables as before, that sends on ports with a
--- cable alone
+-- a step of a valid node to a valid one, with times, ports and cables as before, that sends on
+-- ports with a cable alone
 pub record Steady (x : NodeState) (s : Step) : Type 0 where
   pub valid : IsValid s.state
   pub timing : s.state.timing ≡ x.timing
@@ -56,7 +56,9 @@ sound-steady x s sound same = record {
   on = on-same s.state.view.ports x.view.ports s.sends same sound.connected;
 }
 
-then-steady : (x : NodeState) (s : Step) (next : NodeState → Step) → Steady x s → Steady s.state (next s.state) → Steady x (step_then s next)
+then-steady :
+    (x : NodeState) (s : Step) (next : NodeState → Step) → Steady x s →
+    Steady s.state (next s.state) → Steady x (step_then s next)
 then-steady x s next a b = record {
   valid = b.valid;
   timing = b.timing ∙ a.timing;
@@ -65,7 +67,8 @@ then-steady x s next a b = record {
   on = on-append x.view.ports s.sends (next s.state).sends a.on (on-same s.state.view.ports x.view.ports (next s.state).sends a.cables b.on);
 }
 
-hear-steady : (signals : List (ℕ × Signal)) (x : NodeState) → IsValid x → Steady x (hear_all signals x)
+hear-steady :
+    (signals : List (ℕ × Signal)) (x : NodeState) → IsValid x → Steady x (hear_all signals x)
 hear-steady [] x v = record { valid = v; timing = refl; ports = refl; cables = λ k. refl; on = tt }
 hear-steady (s ∷ rest) x v =
     let a : Steady x (on_signal s.0 s.1 x) = sound-steady x (on_signal s.0 s.1 x) (sound-on_signal s.0 s.1 x v) (signal-cables s.0 s.1 x) in
@@ -74,7 +77,9 @@ hear-steady (s ∷ rest) x v =
 abbrev step_of : NodeStep → Step
 step_of s = record { state = s.node.state; sends = s.sends }
 
-node-steady : (signals : List (ℕ × Signal)) (x : PortNode) → IsValid x.state → Steady x.state (step_of (node_turn signals x))
+node-steady :
+    (signals : List (ℕ × Signal)) (x : PortNode) → IsValid x.state →
+    Steady x.state (step_of (node_turn signals x))
 node-steady signals x v =
     let heard : Step = hear_all signals x.state in
     let a : Steady x.state heard = hear-steady signals x.state v in
@@ -83,30 +88,41 @@ node-steady signals x v =
 
 -- ---- one wire
 
-ages-older : (most : ℕ) (signals : List Travelling) → AgesFall most signals → AgesFall (most + 1) (map age_signal signals)
+ages-older :
+    (most : ℕ) (signals : List Travelling) → AgesFall most signals →
+    AgesFall (most + 1) (map age_signal signals)
 ages-older most [] h = tt
 ages-older most (t ∷ ts) h = (omega (arith, h.0), ages-older t.age ts h.1)
 
 -- what isn't due is younger than d
-ages-kept : (d : ℕ) (b : Bool) (signals : List Travelling) → 1 ≤ d → AgesFall (d - 1) signals → AgesFall (d - 1) (if (b || front_is_due d (map age_signal signals)) then [] else map age_signal signals)
+ages-kept :
+    (d : ℕ) (b : Bool) (signals : List Travelling) → 1 ≤ d → AgesFall (d - 1) signals →
+    AgesFall (d - 1) (if (b || front_is_due d (map age_signal signals)) then [] else map age_signal signals)
 ages-kept d true signals some h = tt
 ages-kept d false [] some h = tt
 ages-kept d false (t ∷ ts) some h = go (nat_le d (t.age + 1)) refl
   where
-    go : (b : Bool) → nat_le d (t.age + 1) ≡ b → AgesFall (d - 1) (if b then [] else map age_signal (t ∷ ts))
+    go :
+        (b : Bool) → nat_le d (t.age + 1) ≡ b →
+        AgesFall (d - 1) (if b then [] else map age_signal (t ∷ ts))
     go true e = tt
     go false e = let young : t.age + 1 < d = leb-false d (t.age + 1) e in (omega (arith, young), ages-older t.age ts h.1)
 
-wire-stays : (d : ℕ) (w : Wire) → 1 ≤ d → AgesFall (d - 1) w.signals → AgesFall (d - 1) (stays d w).signals
+wire-stays :
+    (d : ℕ) (w : Wire) → 1 ≤ d → AgesFall (d - 1) w.signals → AgesFall (d - 1) (stays d w).signals
 wire-stays d w some h = ages-kept d (w.held == 0) w.signals some h
 
 -- ---- the tables
 
-length-all : (steps : List NodeStep) (rows : List (List Wire)) → length (all_wires_after_sends steps rows) ≡ length rows
+length-all :
+    (steps : List NodeStep) (rows : List (List Wire)) →
+    length (all_wires_after_sends steps rows) ≡ length rows
 length-all (s ∷ steps) (r ∷ rows) = ap suc (length-all steps rows)
 length-all steps rows = refl
 
-pub length-changes : (turns : ℕ) (before after : List PortNode) (changed : List ℕ) → length (last_changes turns before after changed) ≡ length changed
+pub length-changes :
+    (turns : ℕ) (before after : List PortNode) (changed : List ℕ) →
+    length (last_changes turns before after changed) ≡ length changed
 length-changes turns (x ∷ before) (y ∷ after) (c ∷ changed) = ap suc (length-changes turns before after changed)
 length-changes turns before after changed = refl
 
@@ -118,14 +134,19 @@ changes-after : (w : CableWorld) → length (turn w).changed ≡ length w.change
 unfolding turn
 changes-after w = length-changes (w.turns + 1) w.nodes (map (λ (s : NodeStep). s.node) (node_turns w w.cabling w.nodes)) w.changed
 
-row-length : (w : CableWorld) (k : ℕ) (x : PortNode) → length w.nodes ≡ length w.cabling → slice_get w.nodes k ≡ Some x → length (slice_index_or (turn w).wires k []) ≡ length (slice_index_or w.wires k [])
+row-length :
+    (w : CableWorld) (k : ℕ) (x : PortNode) → length w.nodes ≡ length w.cabling →
+    slice_get w.nodes k ≡ Some x →
+    length (slice_index_or (turn w).wires k []) ≡ length (slice_index_or w.wires k [])
 row-length w k x e h =
     ap length (row-after w k x e h)
     ∙ sent-length 0 (turn_at w k x).sends (map (stays w.delay) (slice_index_or w.wires k []))
     ∙ length-map (slice_index_or w.wires k []) (stays w.delay)
 
 -- where no wire is in the table, none is there
-pub outside : (w : CableWorld) (a : End) → length (slice_index_or w.wires a.node []) ≤ a.port → wire_of w a ≡ empty_wire
+pub outside :
+    (w : CableWorld) (a : End) → length (slice_index_or w.wires a.node []) ≤ a.port →
+    wire_of w a ≡ empty_wire
 outside w a h = get_or_past (slice_index_or w.wires a.node []) a.port empty_wire h
 
 -- ---- what is at an end after a turn
@@ -136,7 +157,8 @@ record Turned (w : CableWorld) (a : End) : Type 0 where
   at : slice_get w.nodes a.node ≡ Some node
   inside : a.port < length (slice_index_or w.wires a.node [])
 
-turned-or-none : (w : CableWorld) (a : End) → IsWellFormed w → Turned w a ⊎ (wire_of (turn w) a ≡ empty_wire)
+turned-or-none :
+    (w : CableWorld) (a : End) → IsWellFormed w → Turned w a ⊎ (wire_of (turn w) a ≡ empty_wire)
 turned-or-none w a f = elim (slice_get_cases w.nodes a.node).1 [
   | inl found ↦ elim (cases_lt a.port (length (slice_index_or w.wires a.node []))) [
     | inl inside ↦ inl (record { node = found.0; at = found.2; inside = inside })
@@ -147,17 +169,23 @@ turned-or-none w a f = elim (slice_get_cases w.nodes a.node).1 [
       inr (outside (turn w) a (omega (arith, ap length none)))
 ]
 
-steady-at : (w : CableWorld) (k : ℕ) (x : PortNode) → IsWellFormed w → slice_get w.nodes k ≡ Some x → Steady x.state (step_of (turn_at w k x))
+steady-at :
+    (w : CableWorld) (k : ℕ) (x : PortNode) → IsWellFormed w → slice_get w.nodes k ≡ Some x →
+    Steady x.state (step_of (turn_at w k x))
 steady-at w k x f e = node-steady (inbox w 0 (ports_of w.cabling k)) x (f.nodes k x e).valid
 
-ages-after : (w : CableWorld) (a : End) → IsWellFormed w → AgesFall (w.delay - 1) (wire_of (turn w) a).signals
+ages-after :
+    (w : CableWorld) (a : End) → IsWellFormed w →
+    AgesFall (w.delay - 1) (wire_of (turn w) a).signals
 ages-after w a f = elim (turned-or-none w a f) [
   | inl t ↦ subst (λ (v : Wire). AgesFall (w.delay - 1) v.signals) (sym (wire-after w a t.node f.count t.at t.inside))
       (ages-sent (w.delay - 1) (stays w.delay (wire_of w a)).signals (sent_on a.port (turn_at w a.node t.node).sends) (wire-stays w.delay (wire_of w a) f.some_delay (f.ages a)))
   | inr none ↦ subst (λ (v : Wire). AgesFall (w.delay - 1) v.signals) (sym none) tt
 ]
 
-free-after : (w : CableWorld) (a : End) → IsWellFormed w → far w.cabling a ≡ None → wire_of (turn w) a ≡ empty_wire
+free-after :
+    (w : CableWorld) (a : End) → IsWellFormed w → far w.cabling a ≡ None →
+    wire_of (turn w) a ≡ empty_wire
 free-after w a f free = elim (turned-or-none w a f) [
   | inl t ↦
       let fits : FitsCables w a.node t.node.state = f.nodes a.node t.node t.at in
@@ -170,7 +198,9 @@ free-after w a f free = elim (turned-or-none w a f) [
   | inr none ↦ none
 ]
 
-node-fits : (w : CableWorld) (k : ℕ) (x : PortNode) → IsWellFormed w → slice_get w.nodes k ≡ Some x → FitsCables (turn w) k (turn_at w k x).node.state
+node-fits :
+    (w : CableWorld) (k : ℕ) (x : PortNode) → IsWellFormed w → slice_get w.nodes k ≡ Some x →
+    FitsCables (turn w) k (turn_at w k x).node.state
 node-fits w k x f e =
     let fits : FitsCables w k x.state = f.nodes k x e in
     let s : Steady x.state (step_of (turn_at w k x)) = steady-at w k x f e in
@@ -182,7 +212,9 @@ node-fits w k x f e =
       connected = λ p. rw (cabling-after w) (s.cables p ∙ fits.connected p);
     }
 
-nodes-fit : (w : CableWorld) (k : ℕ) (y : PortNode) → IsWellFormed w → slice_get (turn w).nodes k ≡ Some y → FitsCables (turn w) k y.state
+nodes-fit :
+    (w : CableWorld) (k : ℕ) (y : PortNode) → IsWellFormed w → slice_get (turn w).nodes k ≡ Some y →
+    FitsCables (turn w) k y.state
 nodes-fit w k y f e = elim (slice_get_cases w.nodes k).1 [
   | inl found ↦
       let same : (turn_at w k found.0).node ≡ y = some-same (turn_at w k found.0).node y (sym (node-after w k found.0 f.count found.2) ∙ e) in

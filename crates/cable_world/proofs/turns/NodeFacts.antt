@@ -1,4 +1,5 @@
--- What is to be known of a node's part of a turn: of the signals that it hears, and of the tick after them.
+-- What is to be known of a node's part of a turn: of the signals that it hears, and of the tick
+-- after them.
 use Rattle.std.proofs.Common.{◌≡◌, ◌⊎◌, ℕ, ◌+◌, ◌<◌, ◌≤◌, Bool, true, false, ◌||◌, List, [], Some}
 use Rattle.std.specs.Prelude.{min}
 use Rattle.port_state.specs.declared.signal.Level.TheVariants as level
@@ -42,12 +43,20 @@ pub record EntersReset (x : NodeState) (h : Step) : Type 0 where
 pub record HearsWell (signals : List (ℕ × Signal)) (x : NodeState) : Type 0 where
   pub valid : IsValid (hear_all signals x).state
   pub timing : (hear_all signals x).state.timing ≡ x.timing
-  pub cables : (k : ℕ) → is_connected (hear_all signals x).state.view.ports k ≡ is_connected x.view.ports k
+  pub cables :
+      (k : ℕ) → is_connected (hear_all signals x).state.view.ports k ≡ is_connected x.view.ports k
   pub cases : NoEntry x (hear_all signals x) ⊎ EntersReset x (hear_all signals x)
   -- a Reset that comes to a port with a cable leaves the node in R0
-  pub enters : (k : ℕ) → is_connected x.view.ports k ≡ true → has_reset (sent_on k signals) ≡ true → is_resetting (hear_all signals x).state.view.phase ≡ true
-  pub shown : (k : ℕ) → is_connected x.view.ports k ≡ true → level_shown (hear_all signals x).state k ≡ level_after (level_shown x k) (sent_on k signals)
-  pub says : (k : ℕ) → is_connected x.view.ports k ≡ true → level_after (level_sent_at x k) (sent_on k (hear_all signals x).sends) ≡ level_sent_at (hear_all signals x).state k
+  pub enters :
+      (k : ℕ) → is_connected x.view.ports k ≡ true → has_reset (sent_on k signals) ≡ true →
+      is_resetting (hear_all signals x).state.view.phase ≡ true
+  pub shown :
+      (k : ℕ) → is_connected x.view.ports k ≡ true →
+      level_shown (hear_all signals x).state k ≡ level_after (level_shown x k) (sent_on k signals)
+  pub says :
+      (k : ℕ) → is_connected x.view.ports k ≡ true →
+      level_after (level_sent_at x k) (sent_on k (hear_all signals x).sends)
+      ≡ level_sent_at (hear_all signals x).state k
   pub watches : HeedsReset x → HeedsReset (hear_all signals x).state
   -- what is sent takes no Parent back, and is none
   pub takes_none_back : (k : ℕ) → has_no_takeback (sent_on k (hear_all signals x).sends) ≡ true
@@ -63,27 +72,49 @@ pub record TicksWell (coin : Bool) (x : NodeState) : Type 0 where
   pub timing : (tick coin x).state.timing ≡ x.timing
   pub cables : (k : ℕ) → is_connected (tick coin x).state.view.ports k ≡ is_connected x.view.ports k
   pub shown : (k : ℕ) → level_shown (tick coin x).state k ≡ level_shown x k
-  pub says : (k : ℕ) → is_connected x.view.ports k ≡ true → level_after (level_sent_at x k) (sent_on k (tick coin x).sends) ≡ level_sent_at (tick coin x).state k
+  pub says :
+      (k : ℕ) → is_connected x.view.ports k ≡ true →
+      level_after (level_sent_at x k) (sent_on k (tick coin x).sends)
+      ≡ level_sent_at (tick coin x).state k
   -- no tick begins a reset or sends a Reset
   pub out : is_resetting x.view.phase ≡ false → is_resetting (tick coin x).state.view.phase ≡ false
   pub calm : (k : ℕ) → has_reset (sent_on k (tick coin x).sends) ≡ false
   -- in R0, before the hold is over
-  pub holds : is_resetting x.view.phase ≡ true → x.view.timer + 1 < x.timing.hold → x.timing.hold ≤ 65535 →
+  pub holds :
+      is_resetting x.view.phase ≡ true → x.view.timer + 1 < x.timing.hold → x.timing.hold ≤ 65535 →
       (is_resetting (tick coin x).state.view.phase ≡ true) × ((tick coin x).state.view.timer ≡ x.view.timer + 1) × ((tick coin x).sends ≡ [])
   -- where the timer tells, it rose with nothing sent, or begins anew
   pub timed : is_timed (tick coin x).state.view.phase ≡ true →
       (((tick coin x).state.view.phase ≡ x.view.phase) × ((tick coin x).state.view.timer ≤ risen x.view.timer) × ((tick coin x).sends ≡ [])) ⊎ ((tick coin x).state.view.timer ≡ 0)
-  pub between : is_after_hold (tick coin x).state.view.phase ≡ true → (is_after_hold x.view.phase ≡ true) ⊎ ((is_resetting x.view.phase ≡ true) × (x.timing.hold ≤ risen x.view.timer))
-  pub watches : (k : ℕ) → is_connected x.view.ports k ≡ true → (level_shown x k ≡ level.Reset → is_in_bus_reset x.view.phase ≡ true) → level_shown x k ≡ level.Reset → is_in_bus_reset (tick coin x).state.view.phase ≡ true
-  pub early : (k : ℕ) → is_connected x.view.ports k ≡ true → shows_no_notice (level_shown x k) ≡ true → (is_before_tree x.view.phase || is_asking x k) ≡ true →
+  pub between :
+      is_after_hold (tick coin x).state.view.phase ≡ true →
+      (is_after_hold x.view.phase ≡ true)
+      ⊎ ((is_resetting x.view.phase ≡ true) × (x.timing.hold ≤ risen x.view.timer))
+  pub watches :
+      (k : ℕ) → is_connected x.view.ports k ≡ true →
+      (level_shown x k ≡ level.Reset → is_in_bus_reset x.view.phase ≡ true) →
+      level_shown x k ≡ level.Reset → is_in_bus_reset (tick coin x).state.view.phase ≡ true
+  pub early :
+      (k : ℕ) → is_connected x.view.ports k ≡ true → shows_no_notice (level_shown x k) ≡ true →
+      (is_before_tree x.view.phase || is_asking x k) ≡ true →
       (is_before_tree (tick coin x).state.view.phase || is_asking (tick coin x).state k) ≡ true
-  pub no_notice : (k : ℕ) → is_connected x.view.ports k ≡ true → is_before_tree (tick coin x).state.view.phase ≡ true → has_no_notice (sent_on k (tick coin x).sends) ≡ true
+  pub no_notice :
+      (k : ℕ) → is_connected x.view.ports k ≡ true →
+      is_before_tree (tick coin x).state.view.phase ≡ true →
+      has_no_notice (sent_on k (tick coin x).sends) ≡ true
   -- a parent port that shows no Parent stays the parent port
-  pub parent : (k : ℕ) → is_port x.view.parent k ≡ true → is_parent (level_shown x k) ≡ false → is_port (tick coin x).state.view.parent k ≡ true
+  pub parent :
+      (k : ℕ) → is_port x.view.parent k ≡ true → is_parent (level_shown x k) ≡ false →
+      is_port (tick coin x).state.view.parent k ≡ true
   -- no Parent is sent to a child
-  pub asks_no_child : (k : ℕ) → is_connected x.view.ports k ≡ true → leads_down (tick coin x).state.view.ports k ≡ true → has_no_parent_signal (sent_on k (tick coin x).sends) ≡ true
+  pub asks_no_child :
+      (k : ℕ) → is_connected x.view.ports k ≡ true →
+      leads_down (tick coin x).state.view.ports k ≡ true →
+      has_no_parent_signal (sent_on k (tick coin x).sends) ≡ true
   -- how a port becomes a child port
-  pub child : (k : ℕ) → is_connected x.view.ports k ≡ true → leads_down (tick coin x).state.view.ports k ≡ true →
+  pub child :
+      (k : ℕ) → is_connected x.view.ports k ≡ true →
+      leads_down (tick coin x).state.view.ports k ≡ true →
       (leads_down x.view.ports k ≡ true) ⊎ (((x.view.phase ≡ TreeStart) × (level_shown x k ≡ level.Parent)) ⊎
       ((x.view.phase ≡ Contend) × (x.view.parent ≡ Some k) × (level_shown x k ≡ level.Parent) × (x.view.wait ≤ risen x.view.timer)))
   -- a contention goes on, or begins
@@ -91,6 +122,12 @@ pub record TicksWell (coin : Bool) (x : NodeState) : Type 0 where
       ((x.view.phase ≡ Contend) × ((tick coin x).state.view.parent ≡ x.view.parent) × ((tick coin x).state.view.timer ≤ risen x.view.timer) × ((tick coin x).state.view.wait ≡ x.view.wait)) ⊎
       (((tick coin x).state.view.timer ≡ 0) × (((tick coin x).state.view.wait ≡ x.timing.short) ⊎ ((tick coin x).state.view.wait ≡ x.timing.long)))
   -- what is sent at once takes no Parent back, or has none
-  pub batch : (k : ℕ) → is_connected x.view.ports k ≡ true → (has_no_takeback (sent_on k (tick coin x).sends) || has_no_parent_signal (sent_on k (tick coin x).sends)) ≡ true
+  pub batch :
+      (k : ℕ) → is_connected x.view.ports k ≡ true →
+      (has_no_takeback (sent_on k (tick coin x).sends) || has_no_parent_signal (sent_on k (tick coin x).sends))
+      ≡ true
   -- a node that asks its parent, and is shown Idle, doesn't take it back
-  pub asks : (k : ℕ) → is_connected x.view.ports k ≡ true → is_shaking x.view.phase ≡ true → is_port x.view.parent k ≡ true → level_shown x k ≡ level.Idle → has_no_takeback (sent_on k (tick coin x).sends) ≡ true
+  pub asks :
+      (k : ℕ) → is_connected x.view.ports k ≡ true → is_shaking x.view.phase ≡ true →
+      is_port x.view.parent k ≡ true → level_shown x k ≡ level.Idle →
+      has_no_takeback (sent_on k (tick coin x).sends) ≡ true

@@ -52,13 +52,17 @@ Chosen (row.asks_again p) x = (x.view.phase ≡ Contend) × (x.view.parent ≡ S
 Chosen (row.asks_child p) x = x.view.phase ≡ SelfIdent
 Chosen row.names_itself x = x.view.phase ≡ SelfIdent
 
-shakes : (o : Option ℕ) (x : NodeState) → x.view.phase ≡ ParentShake → x.view.parent ≡ o → Chosen (parent_shake_at o x) x
+shakes :
+    (o : Option ℕ) (x : NodeState) → x.view.phase ≡ ParentShake → x.view.parent ≡ o →
+    Chosen (parent_shake_at o x) x
 shakes None x e f = (e, f)
 shakes (Some p) x e f =
     choose (λ r. Chosen r x) (port_is (λ q. is_child q.shown) x.view.ports p) (row.finds_parent p) _ (λ h. (e, f, h))
     (λ _. choose (λ r. Chosen r x) (port_is (λ q. is_parent q.shown) x.view.ports p) (row.begins_contention p) row.none (λ h. (e, f, h)) (λ _. tt))
 
-contends : (o : Option ℕ) (x : NodeState) → x.view.phase ≡ Contend → x.view.parent ≡ o → x.view.wait ≤ x.view.timer → Chosen (contend_at o x) x
+contends :
+    (o : Option ℕ) (x : NodeState) → x.view.phase ≡ Contend → x.view.parent ≡ o →
+    x.view.wait ≤ x.view.timer → Chosen (contend_at o x) x
 contends None x e f w = tt
 contends (Some p) x e f w =
     choose (λ r. Chosen r x) (port_is (λ q. is_parent q.shown) x.view.ports p) (row.takes_rival p) (row.asks_again p) (λ h. (e, f, h, w)) (λ h. (e, f, h, w))
@@ -94,7 +98,11 @@ is-child level.Child h = refl
 is-child l h = absurd (true≢false (sym h))
 
 -- the parent port shows the level that was looked for
-at-port : (test : Level → Bool) (l : Level) → ((m : Level) → test m ≡ true → m ≡ l) → (x : NodeState) (p k : ℕ) → x.view.parent ≡ Some p → port_is (λ q. test q.shown) x.view.ports p ≡ true → is_port x.view.parent k ≡ true → level_shown x k ≡ l
+at-port :
+    (test : Level → Bool) (l : Level) → ((m : Level) → test m ≡ true → m ≡ l) →
+    (x : NodeState) (p k : ℕ) → x.view.parent ≡ Some p →
+    port_is (λ q. test q.shown) x.view.ports p ≡ true → is_port x.view.parent k ≡ true →
+    level_shown x k ≡ l
 at-port test l only-one x p k f h i = subst (λ j. level_shown x j ≡ l) (eqb-true p k (subst (λ o. is_port o k ≡ true) f i)) (go (slice_get x.view.ports p) h)
   where
     go : (o : Option PortView) → passes (λ q. test q.shown) o ≡ true → shown_or_idle o ≡ l
@@ -102,7 +110,9 @@ at-port test l only-one x p k f h i = subst (λ j. level_shown x j ≡ l) (eqb-t
     go (Some q) e = only-one q.shown e
 
 -- a test that every connected port passes
-every-at : (test : PortView → Bool) (ports : List PortView) (k : ℕ) → every test ports ≡ true → is_connected ports k ≡ true → port_is test ports k ≡ true
+every-at :
+    (test : PortView → Bool) (ports : List PortView) (k : ℕ) → every test ports ≡ true →
+    is_connected ports k ≡ true → port_is test ports k ≡ true
 every-at test [] k e c = absurd (true≢false (sym c))
 every-at test (p ∷ ps) zero e c = go p.connected c (and_parts _ _ e).0
   where
@@ -111,24 +121,32 @@ every-at test (p ∷ ps) zero e c = go p.connected c (and_parts _ _ e).0
     go false e h = absurd (true≢false (sym e))
 every-at test (p ∷ ps) (suc k) e c = every-at test ps k (and_parts _ _ e).1 c
 
-calm-at : (x : NodeState) (k : ℕ) → every (λ p. is_calm p.shown) x.view.ports ≡ true → is_connected x.view.ports k ≡ true → level_shown x k ≡ level.Reset → ⊥
+calm-at :
+    (x : NodeState) (k : ℕ) → every (λ p. is_calm p.shown) x.view.ports ≡ true →
+    is_connected x.view.ports k ≡ true → level_shown x k ≡ level.Reset → ⊥
 calm-at x k e c s = go (slice_get x.view.ports k) (every-at (λ p. is_calm p.shown) x.view.ports k e c) s
   where
-    go : (o : Option PortView) → passes (λ p. is_calm p.shown) o ≡ true → shown_or_idle o ≡ level.Reset → ⊥
+    go :
+        (o : Option PortView) → passes (λ p. is_calm p.shown) o ≡ true →
+        shown_or_idle o ≡ level.Reset → ⊥
     go None h s = true≢false (sym h)
     go (Some p) h s = true≢false (sym h ∙ ap is_calm s)
 
 -- ---- phases
 
 -- no tick begins a reset
-leaves-out : (coin : Bool) (r : Row) (x : NodeState) → is_resetting x.view.phase ≡ false → is_resetting (does coin r x).state.view.phase ≡ false
+leaves-out :
+    (coin : Bool) (r : Row) (x : NodeState) → is_resetting x.view.phase ≡ false →
+    is_resetting (does coin r x).state.view.phase ≡ false
 leaves-out coin row.none x h = h
 leaves-out coin row.times_out x h = h
 leaves-out coin (row.asks_child p) x h = h
 leaves-out coin r x h = refl
 
 -- in R0, before the hold is over
-holds-on : (coin : Bool) (r : Row) (x : NodeState) → Chosen r x → is_resetting x.view.phase ≡ true → x.view.timer < x.timing.hold →
+holds-on :
+    (coin : Bool) (r : Row) (x : NodeState) → Chosen r x → is_resetting x.view.phase ≡ true →
+    x.view.timer < x.timing.hold →
     (is_resetting (does coin r x).state.view.phase ≡ true) × ((does coin r x).state.view.timer ≡ x.view.timer) × ((does coin r x).sends ≡ [])
 holds-on coin row.none x c h t = (h, refl, refl)
 holds-on coin row.ends_reset x c h t = absurd (omega (arith, c.1, t))
@@ -145,7 +163,9 @@ holds-on coin (row.asks_child p) x c h t = absurd (elsewhere is_resetting c refl
 holds-on coin row.names_itself x c h t = absurd (elsewhere is_resetting c refl h)
 
 -- where the timer tells afterwards, nothing was sent, or it begins anew
-times : (coin : Bool) (r : Row) (x : NodeState) → Chosen r x → is_timed (does coin r x).state.view.phase ≡ true →
+times :
+    (coin : Bool) (r : Row) (x : NodeState) → Chosen r x →
+    is_timed (does coin r x).state.view.phase ≡ true →
     (((does coin r x).state.view.phase ≡ x.view.phase) × ((does coin r x).state.view.timer ≤ x.view.timer) × ((does coin r x).sends ≡ [])) ⊎ ((does coin r x).state.view.timer ≡ 0)
 times coin row.none x c h = inl (refl, le_refl _, refl)
 times coin row.ends_reset x c h = inr refl
@@ -156,7 +176,9 @@ times coin (row.asks_child p) x c h = absurd (elsewhere is_timed c refl h)
 times coin r x c h = absurd (true≢false (sym h))
 
 -- R1 begins where the hold is over
-comes-between : (coin : Bool) (r : Row) (x : NodeState) → Chosen r x → is_after_hold (does coin r x).state.view.phase ≡ true →
+comes-between :
+    (coin : Bool) (r : Row) (x : NodeState) → Chosen r x →
+    is_after_hold (does coin r x).state.view.phase ≡ true →
     (is_after_hold x.view.phase ≡ true) ⊎ ((is_resetting x.view.phase ≡ true) × (x.timing.hold ≤ x.view.timer))
 comes-between coin row.none x c h = inl h
 comes-between coin row.ends_reset x c h = inr (ap is_resetting c.0, c.1)
@@ -166,7 +188,10 @@ comes-between coin (row.asks_child p) x c h = inl h
 comes-between coin r x c h = absurd (true≢false (sym h))
 
 -- R1 ends where no port shows Reset
-waits-on : (coin : Bool) (r : Row) (x : NodeState) (k : ℕ) → Chosen r x → is_connected x.view.ports k ≡ true → level_shown x k ≡ level.Reset → is_in_bus_reset x.view.phase ≡ true → is_in_bus_reset (does coin r x).state.view.phase ≡ true
+waits-on :
+    (coin : Bool) (r : Row) (x : NodeState) (k : ℕ) → Chosen r x →
+    is_connected x.view.ports k ≡ true → level_shown x k ≡ level.Reset →
+    is_in_bus_reset x.view.phase ≡ true → is_in_bus_reset (does coin r x).state.view.phase ≡ true
 waits-on coin row.none x k c on s w = w
 waits-on coin row.ends_reset x k c on s w = refl
 waits-on coin row.begins_tree x k c on s w = absurd (calm-at x k c.1 on s)
@@ -189,7 +214,10 @@ contends-on coin row.none x h = inl (h, refl, le_refl _, refl)
 contends-on coin row.times_out x h = inl (h, refl, le_refl _, refl)
 contends-on coin (row.begins_contention p) x h = inr (refl, drawn coin)
   where
-    drawn : (b : Bool) → ((if b then x.timing.long else x.timing.short) ≡ x.timing.short) ⊎ ((if b then x.timing.long else x.timing.short) ≡ x.timing.long)
+    drawn :
+        (b : Bool) →
+        ((if b then x.timing.long else x.timing.short) ≡ x.timing.short)
+        ⊎ ((if b then x.timing.long else x.timing.short) ≡ x.timing.long)
     drawn true = inr refl
     drawn false = inl refl
 contends-on coin (row.asks_child p) x h = inl (h, refl, le_refl _, refl)
@@ -197,25 +225,35 @@ contends-on coin r x h = absurd (elsewhere is_contending (sym h) refl refl)
 
 -- ---- parent ports and child ports
 
-has-roles : (x : NodeState) (p : ℕ) → IsValid x → x.view.phase ≡ Contend → x.view.parent ≡ Some p → HasRoles (Some p) x.view.ports
+has-roles :
+    (x : NodeState) (p : ℕ) → IsValid x → x.view.phase ≡ Contend → x.view.parent ≡ Some p →
+    HasRoles (Some p) x.view.ports
 has-roles x p v e f =
     let fit : HasRoles x.view.parent x.view.ports × IsSome x.view.parent = subst (λ ph. FitsPhase ph x.view.parent x.view.ports) e v.fits in
     roles-at x (Some p) f fit.0
 
-no-roles : (x : NodeState) → IsValid x → x.view.phase ≡ TreeStart → HasNoRoles x.view.parent x.view.ports
+no-roles :
+    (x : NodeState) → IsValid x → x.view.phase ≡ TreeStart → HasNoRoles x.view.parent x.view.ports
 no-roles x v e = subst (λ ph. FitsPhase ph x.view.parent x.view.ports) e v.fits
 
 -- the one port that is left is the parent port
-left-at : (x : NodeState) (k : ℕ) → is_decided x ≡ true → is_connected x.view.ports k ≡ true → shows_no_notice (level_shown x k) ≡ true → is_port (lowest is_remaining x.view.ports) k ≡ true
+left-at :
+    (x : NodeState) (k : ℕ) → is_decided x ≡ true → is_connected x.view.ports k ≡ true →
+    shows_no_notice (level_shown x k) ≡ true → is_port (lowest is_remaining x.view.ports) k ≡ true
 left-at x k d c l = go (slice_get x.view.ports k) refl c l
   where
-    left : (b : Bool) (l : Level) → b ≡ true → shows_no_notice l ≡ true → (b && not (is_parent l)) ≡ true
+    left :
+        (b : Bool) (l : Level) → b ≡ true → shows_no_notice l ≡ true →
+        (b && not (is_parent l)) ≡ true
     left b level.Reset e h = rw e refl
     left b level.Idle e h = rw e refl
     left b level.Parent e h = absurd (true≢false (sym h))
     left b level.Child e h = absurd (true≢false (sym h))
 
-    go : (o : Option PortView) → slice_get x.view.ports k ≡ o → passes (λ p. p.connected) o ≡ true → shows_no_notice (shown_or_idle o) ≡ true → is_port (lowest is_remaining x.view.ports) k ≡ true
+    go :
+        (o : Option PortView) → slice_get x.view.ports k ≡ o → passes (λ p. p.connected) o ≡ true →
+        shows_no_notice (shown_or_idle o) ≡ true →
+        is_port (lowest is_remaining x.view.ports) k ≡ true
     go None at c l = absurd (true≢false (sym c))
     go (Some p) at c l =
         let same : 0 + k ≡ k = omega arith in
@@ -226,7 +264,10 @@ abbrev early_in : Phase → NodeState → ℕ → Bool
 early_in f x k = is_before_tree f || (is_shaking f && is_port x.view.parent k)
 
 -- a node that is early stays so, where it is shown Reset or Idle alone
-asks-early : (coin : Bool) (r : Row) (x : NodeState) (k : ℕ) → Chosen r x → is_connected x.view.ports k ≡ true → shows_no_notice (level_shown x k) ≡ true → (is_before_tree x.view.phase || is_asking x k) ≡ true →
+asks-early :
+    (coin : Bool) (r : Row) (x : NodeState) (k : ℕ) → Chosen r x →
+    is_connected x.view.ports k ≡ true → shows_no_notice (level_shown x k) ≡ true →
+    (is_before_tree x.view.phase || is_asking x k) ≡ true →
     (is_before_tree (does coin r x).state.view.phase || is_asking (does coin r x).state k) ≡ true
 asks-early coin row.none x k c on l h = h
 asks-early coin row.ends_reset x k c on l h = refl
@@ -249,13 +290,18 @@ asks-early coin (row.asks_child p) x k c on l h = absurd (true≢false (sym h �
 asks-early coin row.names_itself x k c on l h = absurd (true≢false (sym h ∙ ap (λ f. early_in f x k) c))
 
 -- a parent port that shows no Parent stays the parent port
-stays-parent : (coin : Bool) (r : Row) (x : NodeState) (k : ℕ) → IsValid x → Chosen r x → is_port x.view.parent k ≡ true → is_parent (level_shown x k) ≡ false → is_port (does coin r x).state.view.parent k ≡ true
+stays-parent :
+    (coin : Bool) (r : Row) (x : NodeState) (k : ℕ) → IsValid x → Chosen r x →
+    is_port x.view.parent k ≡ true → is_parent (level_shown x k) ≡ false →
+    is_port (does coin r x).state.view.parent k ≡ true
 stays-parent coin row.takes_roles x k v c h s = absurd (true≢false (sym h ∙ ap (λ o. is_port o k) (no-roles x v c.0).1))
 stays-parent coin (row.takes_rival p) x k v c h s = absurd (true≢false (sym (ap is_parent (at-port is_parent level.Parent is-parent x p k c.1 c.2 h)) ∙ s))
 stays-parent coin r x k v c h s = h
 
 -- a port that takes the role of a child shows Parent
-asks-of : (o : Option PortView) → passes (λ p. p.child) (option_map adopt o) ≡ true → passes (λ p. p.child) o ≡ false → passes asks o ≡ true
+asks-of :
+    (o : Option PortView) → passes (λ p. p.child) (option_map adopt o) ≡ true →
+    passes (λ p. p.child) o ≡ false → passes asks o ≡ true
 asks-of None h n = h
 asks-of (Some p) h n = go (asks p) h
   where
@@ -263,7 +309,9 @@ asks-of (Some p) h n = go (asks p) h
     go true e = refl
     go false e = absurd (true≢false (sym e ∙ n))
 
-asks-at : (x : NodeState) (k : ℕ) → IsValid x → x.view.phase ≡ TreeStart → leads_down (map adopt x.view.ports) k ≡ true → port_is asks x.view.ports k ≡ true
+asks-at :
+    (x : NodeState) (k : ℕ) → IsValid x → x.view.phase ≡ TreeStart →
+    leads_down (map adopt x.view.ports) k ≡ true → port_is asks x.view.ports k ≡ true
 asks-at x k v e h = asks-of (slice_get x.view.ports k) (sym (ap (passes (λ p. p.child)) (map-port k adopt x.view.ports)) ∙ h) (no-child x.view.parent x.view.ports k (no-roles x v e))
 
 asks-shows : (o : Option PortView) → passes asks o ≡ true → shown_or_idle o ≡ level.Parent
@@ -276,17 +324,25 @@ Adopts x k =
     (leads_down x.view.ports k ≡ true) ⊎ (((x.view.phase ≡ TreeStart) × (level_shown x k ≡ level.Parent)) ⊎
     ((x.view.phase ≡ Contend) × (x.view.parent ≡ Some k) × (level_shown x k ≡ level.Parent) × (x.view.wait ≤ x.view.timer)))
 
-takes-rival : (x : NodeState) (p k : ℕ) → Chosen (row.takes_rival p) x → leads_down (change_port p as_child x.view.ports) k ≡ true → Adopts x k
+takes-rival :
+    (x : NodeState) (p k : ℕ) → Chosen (row.takes_rival p) x →
+    leads_down (change_port p as_child x.view.ports) k ≡ true → Adopts x k
 takes-rival x p k c h = go (k == p) refl (sym (ap (passes (λ q. q.child)) (changed-port p k as_child x.view.ports)) ∙ h)
   where
-    go : (b : Bool) → (k == p) ≡ b → passes (λ q. q.child) (if b then option_map as_child (slice_get x.view.ports k) else slice_get x.view.ports k) ≡ true → Adopts x k
+    go :
+        (b : Bool) → (k == p) ≡ b →
+        passes (λ q. q.child) (if b then option_map as_child (slice_get x.view.ports k) else slice_get x.view.ports k)
+        ≡ true →
+        Adopts x k
     go true e h =
         let same : (p == k) ≡ true = sym (turned p k) ∙ e in
         let parent : x.view.parent ≡ Some k = c.1 ∙ ap Some (eqb-true p k same) in
         inr (inr (c.0, parent, at-port is_parent level.Parent is-parent x p k c.1 c.2 (ap (λ o. is_port o k) c.1 ∙ same), c.3))
     go false e h = inl h
 
-adopts : (coin : Bool) (r : Row) (x : NodeState) (k : ℕ) → IsValid x → Chosen r x → leads_down (does coin r x).state.view.ports k ≡ true → Adopts x k
+adopts :
+    (coin : Bool) (r : Row) (x : NodeState) (k : ℕ) → IsValid x → Chosen r x →
+    leads_down (does coin r x).state.view.ports k ≡ true → Adopts x k
 adopts coin row.takes_roles x k v c h = inr (inl (c.0, asks-shows (slice_get x.view.ports k) (asks-at x k v c.0 h)))
 adopts coin (row.takes_rival p) x k v c h = takes-rival x p k c h
 adopts coin (row.asks_child p) x k v c h = inl (sym (port_is-changed (λ q. q.child) p (λ q. record q { asked = true }) (λ q. refl) x.view.ports k) ∙ h)
@@ -314,7 +370,9 @@ plain-done k (Some p) = go (p == k)
     go true = (refl, refl)
     go false = (refl, refl)
 
-plain-names : (x : NodeState) (k : ℕ) (quads : List ℕ) → Plain (sent_on k (packets_on_every quads x.view.ports ++ on_port x.view.parent signal.Done))
+plain-names :
+    (x : NodeState) (k : ℕ) (quads : List ℕ) →
+    Plain (sent_on k (packets_on_every quads x.view.ports ++ on_port x.view.parent signal.Done))
 plain-names x k quads =
     rw (sent_on-append k (packets_on_every quads x.view.ports) (on_port x.view.parent signal.Done), packets-port k quads x.view.ports)
     (plain-append (if is_connected x.view.ports k then map packet quads else []) (sent_on k (on_port x.view.parent signal.Done)) (plain-packets (is_connected x.view.ports k) quads) (plain-done k x.view.parent))
@@ -324,7 +382,8 @@ one-calm : (b : Bool) (s : Signal) → is_reset s ≡ false → has_reset (only 
 one-calm true s h = rw h refl
 one-calm false s h = refl
 
-one-plain : (b : Bool) (s : Signal) → is_parent_signal s ≡ false → has_no_parent_signal (only b s) ≡ true
+one-plain :
+    (b : Bool) (s : Signal) → is_parent_signal s ≡ false → has_no_parent_signal (only b s) ≡ true
 one-plain true s h = rw h refl
 one-plain false s h = refl
 
@@ -332,7 +391,8 @@ one-low : (b : Bool) (s : Signal) → is_no_notice s ≡ true → has_no_notice 
 one-low true s h = rw h refl
 one-low false s h = refl
 
-one-batch : (b : Bool) (s : Signal) → (has_no_takeback (only b s) || has_no_parent_signal (only b s)) ≡ true
+one-batch :
+    (b : Bool) (s : Signal) → (has_no_takeback (only b s) || has_no_parent_signal (only b s)) ≡ true
 one-batch true signal.Reset = refl
 one-batch true signal.Idle = refl
 one-batch true signal.Parent = refl
@@ -345,13 +405,18 @@ one-batch false s = refl
 abbrev noticed : Bool → Bool → List Signal
 noticed a l = if a then signal.Child ∷ [] else (if l then signal.Parent ∷ [] else [])
 
-notices-calm : (a l : Bool) → (has_reset (noticed a l) ≡ false) × ((has_no_takeback (noticed a l) || has_no_parent_signal (noticed a l)) ≡ true)
+notices-calm :
+    (a l : Bool) →
+    (has_reset (noticed a l) ≡ false)
+    × ((has_no_takeback (noticed a l) || has_no_parent_signal (noticed a l)) ≡ true)
 notices-calm true l = (refl, refl)
 notices-calm false true = (refl, refl)
 notices-calm false false = (refl, refl)
 
 -- no tick sends a Reset
-sends-calm : (coin : Bool) (r : Row) (x : NodeState) (k : ℕ) → has_reset (sent_on k (does coin r x).sends) ≡ false
+sends-calm :
+    (coin : Bool) (r : Row) (x : NodeState) (k : ℕ) →
+    has_reset (sent_on k (does coin r x).sends) ≡ false
 sends-calm coin row.ends_reset x k = rw (on_every-port k signal.Idle x.view.ports) (one-calm (is_connected x.view.ports k) signal.Idle refl)
 sends-calm coin row.takes_roles x k = rw (notices-port k x.view.ports) (notices-calm (port_is asks x.view.ports k) (port_is is_remaining x.view.ports k)).0
 sends-calm coin (row.finds_parent p) x k = one-calm (p == k) signal.Idle refl
@@ -363,7 +428,10 @@ sends-calm coin row.names_itself x k = (plain-names x k (own_group x (node_count
 sends-calm coin r x k = refl
 
 -- before the tree nothing is sent but what is low
-sends-low : (coin : Bool) (r : Row) (x : NodeState) (k : ℕ) → is_before_tree (does coin r x).state.view.phase ≡ true → has_no_notice (sent_on k (does coin r x).sends) ≡ true
+sends-low :
+    (coin : Bool) (r : Row) (x : NodeState) (k : ℕ) →
+    is_before_tree (does coin r x).state.view.phase ≡ true →
+    has_no_notice (sent_on k (does coin r x).sends) ≡ true
 sends-low coin row.none x k h = refl
 sends-low coin row.ends_reset x k h = rw (on_every-port k signal.Idle x.view.ports) (one-low (is_connected x.view.ports k) signal.Idle refl)
 sends-low coin row.begins_tree x k h = refl
@@ -372,7 +440,10 @@ sends-low coin (row.asks_child p) x k h = one-low (p == k) signal.Grant refl
 sends-low coin r x k h = absurd (true≢false (sym h))
 
 -- what is sent on a port at once takes no Parent back, or has none
-sends-batch : (coin : Bool) (r : Row) (x : NodeState) (k : ℕ) → (has_no_takeback (sent_on k (does coin r x).sends) || has_no_parent_signal (sent_on k (does coin r x).sends)) ≡ true
+sends-batch :
+    (coin : Bool) (r : Row) (x : NodeState) (k : ℕ) →
+    (has_no_takeback (sent_on k (does coin r x).sends) || has_no_parent_signal (sent_on k (does coin r x).sends))
+    ≡ true
 sends-batch coin row.ends_reset x k = rw (on_every-port k signal.Idle x.view.ports) (one-batch (is_connected x.view.ports k) signal.Idle)
 sends-batch coin row.takes_roles x k = rw (notices-port k x.view.ports) (notices-calm (port_is asks x.view.ports k) (port_is is_remaining x.view.ports k)).1
 sends-batch coin (row.finds_parent p) x k = one-batch (p == k) signal.Idle
@@ -384,7 +455,10 @@ sends-batch coin row.names_itself x k = or_right _ _ (plain-names x k (own_group
 sends-batch coin r x k = refl
 
 -- a child is asked for nothing
-asks-no-child : (coin : Bool) (r : Row) (x : NodeState) (k : ℕ) → IsValid x → Chosen r x → is_connected x.view.ports k ≡ true → leads_down (does coin r x).state.view.ports k ≡ true → has_no_parent_signal (sent_on k (does coin r x).sends) ≡ true
+asks-no-child :
+    (coin : Bool) (r : Row) (x : NodeState) (k : ℕ) → IsValid x → Chosen r x →
+    is_connected x.view.ports k ≡ true → leads_down (does coin r x).state.view.ports k ≡ true →
+    has_no_parent_signal (sent_on k (does coin r x).sends) ≡ true
 asks-no-child coin row.ends_reset x k v c on h = rw (on_every-port k signal.Idle x.view.ports) (one-plain (is_connected x.view.ports k) signal.Idle refl)
 asks-no-child coin row.takes_roles x k v c on h = rw (notices-port k x.view.ports, asks-at x k v c.0 h) refl
 asks-no-child coin (row.finds_parent p) x k v c on h = one-plain (p == k) signal.Idle refl
@@ -400,7 +474,10 @@ asks-no-child coin row.names_itself x k v c on h = (plain-names x k (own_group x
 asks-no-child coin r x k v c on h = refl
 
 -- a node that asks its parent, and is shown Idle, goes on asking
-asks-on : (coin : Bool) (r : Row) (x : NodeState) (k : ℕ) → Chosen r x → is_shaking x.view.phase ≡ true → is_port x.view.parent k ≡ true → level_shown x k ≡ level.Idle → has_no_takeback (sent_on k (does coin r x).sends) ≡ true
+asks-on :
+    (coin : Bool) (r : Row) (x : NodeState) (k : ℕ) → Chosen r x → is_shaking x.view.phase ≡ true →
+    is_port x.view.parent k ≡ true → level_shown x k ≡ level.Idle →
+    has_no_takeback (sent_on k (does coin r x).sends) ≡ true
 asks-on coin row.ends_reset x k c sh i s = absurd (elsewhere is_shaking c.0 refl sh)
 asks-on coin row.takes_roles x k c sh i s = absurd (elsewhere is_shaking c.0 refl sh)
 asks-on coin (row.finds_parent p) x k c sh i s = absurd (true≢false (sym (ap is_child (at-port is_child level.Child is-child x p k c.1 c.2 i)) ∙ ap is_child s))

@@ -25,8 +25,8 @@ first = 0x807f8096
 abbrev root : ℕ
 root = 0x817f80d4
 
--- At once, and 1, 256, 257, 258, 259 and 266 turns later: the second node asks, the first waits to be asked,
--- and no coin is drawn. The second began the reset, so it alone shows the initiated bit.
+-- At once, and 1, 256, 257, 258, 259 and 266 turns later: the second node asks, the first waits to
+-- be asked, and no coin is drawn. The second began the reset, so it alone shows the initiated bit.
 chosen : story summaries (1 ∷ 255 ∷ 1 ∷ 1 ∷ 1 ∷ 7 ∷ []) told_both ≡
     (summary Ready 1 (Some 0) childless (Some 0) (0x807f8096 ∷ 0x817f80d6 ∷ []) ∷ summary ResetStart 0 None childless None [] ∷ []) ∷
     (summary ResetStart 0 None childless None [] ∷ summary ResetStart 0 None childless None [] ∷ []) ∷

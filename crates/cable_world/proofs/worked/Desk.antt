@@ -1,5 +1,5 @@
--- A desk with a computer, a hub, a disk, a camera and a tape. The camera is pulled in the middle of self
--- identify, while packets are under way, and a wire is held.
+-- A desk with a computer, a hub, a disk, a camera and a tape. The camera is pulled in the middle of
+-- self identify, while packets are under way, and a wire is held.
 use Rattle.std.proofs.Common.{◌≡◌, ℕ, true, false, List, [], ◌∷◌, Some, refl, map}
 use Rattle.self_id.specs.Group.{group}
 use Rattle.port_state.specs.declared.signal.Phase.TheVariants.{SelfIdent, Ready}
@@ -44,23 +44,28 @@ plugged_in =
     after_plug (at tape 0) (at hub 2) (after_plug (at camera 0) (at hub 4) (turns_after 10
     (after_plug (at disk 0) (at hub 1) (turns_after 300 (after_plug (at computer 0) (at hub 0) (world_of_nodes 4 nodes))))))
 
--- 270 turns later: the hub is the root, and all but it have identified themselves. The camera's packet
--- and its Done are on their way to the hub.
+-- 270 turns later: the hub is the root, and all but it have identified themselves. The camera's
+-- packet and its Done are on their way to the hub.
 abbrev pub before : CableWorld
 before = turns_after 270 plugged_in
 
-named : map (λ (x : PortNode). x.state.view.phase) before.nodes ≡ Ready ∷ SelfIdent ∷ Ready ∷ Ready ∷ Ready ∷ []
+named :
+    map (λ (x : PortNode). x.state.view.phase) before.nodes
+    ≡ Ready ∷ SelfIdent ∷ Ready ∷ Ready ∷ Ready ∷ []
 unfolding turn turns_after enter tick on_signal group
 named = refl
 
 abbrev newly : Signal → Travelling
 newly s = record { signal = s; age = 0 }
 
-under-way : (wire_of before (at camera 0)).signals ≡ newly (signal.Packet 0x837f0082) ∷ newly signal.Done ∷ []
+under-way :
+    (wire_of before (at camera 0)).signals
+    ≡ newly (signal.Packet 0x837f0082) ∷ newly signal.Done ∷ []
 unfolding turn turns_after enter tick on_signal group
 under-way = refl
 
--- then the wire from the hub to the computer is held, and the camera is pulled; what was under way is lost
+-- then the wire from the hub to the computer is held, and the camera is pulled; what was under way
+-- is lost
 abbrev pub camera_out : CableWorld
 camera_out = after_pull (at camera 0) (hold (at hub 0) 3 before)
 
@@ -74,8 +79,8 @@ list = 0x807f8090 ∷ 0x817f0090 ∷ 0x823f80bf ∷ 0x82815000 ∷ 0x837f88d4 �
 abbrev pub own : List ℕ
 own = 0x807f0042 ∷ []
 
--- After 870 turns the four that are left have one list, with the computer as root. The computer drew one
--- coin, and no other node drew any. The camera is a bus of its own.
+-- After 870 turns the four that are left have one list, with the computer as root. The computer
+-- drew one coin, and no other node drew any. The camera is a bus of its own.
 settled : let w = turns_after 290 camera_out in
     (map (λ (x : PortNode). x.state.list.items) w.nodes ≡ list ∷ list ∷ list ∷ own ∷ list ∷ [])
     × (w.changed ≡ 865 ∷ 866 ∷ 867 ∷ 841 ∷ 867 ∷ [])

@@ -1,4 +1,5 @@
--- The worked runs end as the definition of outcomes has it: in trees, in a loop, and in a contention.
+-- The worked runs end as the definition of outcomes has it: in trees, in a loop, and in a
+-- contention.
 use Rattle.std.proofs.Common.{◌≡◌, ◌⊎◌, inl, inr, ℕ, zero, suc, ◌<◌, ◌≤◌, Bool, true, false, List, [], ◌∷◌, map, Option, Some, None, slice_get, refl, sym, ◌∙◌, subst, arith}
 use Rattle.self_id.specs.declared.node.Attrs.{Attrs}
 use Rattle.self_id.specs.Group.{group}
@@ -232,7 +233,9 @@ unfolding turn turns_after enter tick on_signal
 ring-waits = refl
 
 -- what holds of both rows holds of each node
-ring-level_after : (P : Phase × Bool × Option ℕ → Type 0) → P (TreeStart, true, None) → (k : ℕ) → Holds 3 k → AtNode (turns_after 2305 loops.loop) k (λ x. P (waits x))
+ring-level_after :
+    (P : Phase × Bool × Option ℕ → Type 0) → P (TreeStart, true, None) → (k : ℕ) → Holds 3 k →
+    AtNode (turns_after 2305 loops.loop) k (λ x. P (waits x))
 ring-level_after P p k h = said (turns_after 2305 loops.loop) waits ring_rows k P ring-waits (each-held (λ k. IsSomeAnd (slice_get ring_rows k) P) 3 (0 ∷ 1 ∷ []) refl (p, (p, tt)) k h)
 
 ring-loop : IsOutcome (turns_after 2305 loops.loop) 3 (loop 3)
@@ -264,10 +267,14 @@ alike-drew : map drew (turns_after 663 loops.alike).nodes ≡ alike_rows
 unfolding turn turns_after enter tick on_signal
 alike-drew = refl
 
-alike-level_after : (P : ℕ × ℕ × Option ℕ → Type 0) → P (32, 0, Some 0) → (k : ℕ) → Holds 3 k → AtNode (turns_after 663 loops.alike) k (λ x. P (drew x))
+alike-level_after :
+    (P : ℕ × ℕ × Option ℕ → Type 0) → P (32, 0, Some 0) → (k : ℕ) → Holds 3 k →
+    AtNode (turns_after 663 loops.alike) k (λ x. P (drew x))
 alike-level_after P p k h = said (turns_after 663 loops.alike) drew alike_rows k P alike-drew (each-held (λ k. IsSomeAnd (slice_get alike_rows k) P) 3 (0 ∷ 1 ∷ []) refl (p, (p, tt)) k h)
 
-some-port : (o : Option PortNode) → IsSomeAnd o (λ x. x.state.view.parent ≡ Some 0) → IsSomeAnd o (λ x. x.state.view.parent ≡ None) → ⊥
+some-port :
+    (o : Option PortNode) → IsSomeAnd o (λ x. x.state.view.parent ≡ Some 0) →
+    IsSomeAnd o (λ x. x.state.view.parent ≡ None) → ⊥
 some-port None h n = h
 some-port (Some x) h n = cc
 
@@ -310,11 +317,15 @@ early-told : map summary_of early.nodes ≡ early_rows
 unfolding turn turns_after enter tick on_signal group
 early-told = refl
 
-early-at : (k : ℕ) (P : Summary → Type 0) → IsSomeAnd (slice_get early_rows k) P → AtNode early k (λ x. P (summary_of x))
+early-at :
+    (k : ℕ) (P : Summary → Type 0) → IsSomeAnd (slice_get early_rows k) P →
+    AtNode early k (λ x. P (summary_of x))
 early-at k P h = said early summary_of early_rows k P early-told h
 
 -- two facts of one node
-both : (o : Option PortNode) (P Q : PortNode → Type 0) → ((x : PortNode) → P x → Q x → ⊥) → IsSomeAnd o P → IsSomeAnd o Q → ⊥
+both :
+    (o : Option PortNode) (P Q : PortNode → Type 0) → ((x : PortNode) → P x → Q x → ⊥) →
+    IsSomeAnd o P → IsSomeAnd o Q → ⊥
 both None P Q f p q = p
 both (Some x) P Q f p q = f x p q
 

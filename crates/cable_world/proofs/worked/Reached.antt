@@ -1,5 +1,5 @@
--- The worked runs are runs as the definition has it, from the power-on world by events that none refuses;
--- and where components are fresh.
+-- The worked runs are runs as the definition has it, from the power-on world by events that none
+-- refuses; and where components are fresh.
 use Rattle.std.proofs.Common.{◌≡◌, ◌≢◌, ℕ, zero, suc, ◌<◌, ◌≤◌, Bool, true, false, List, [], ◌∷◌, ◌++◌, None, Some, length, slice_get, refl, subst, arith}
 use Rattle.self_id.specs.Group.{group}
 use Rattle.port_state.specs.declared.signal.Phase.TheVariants.{ResetStart, ResetWait}
@@ -26,7 +26,9 @@ use Rattle.cable_world.proofs.worked.Desk as desk
 
 -- ---- runs grow
 
-runs-more : (events : List Event) (e : Event) (w u v : CableWorld) → Runs events w u → Happens e u v → Runs (events ++ e ∷ []) w v
+runs-more :
+    (events : List Event) (e : Event) (w u v : CableWorld) → Runs events w u → Happens e u v →
+    Runs (events ++ e ∷ []) w v
 runs-more [] e w u v r h = (v, subst (λ (x : CableWorld). Happens e x v) r h, refl)
 runs-more (first ∷ events) e w u v r h = (r.0, r.1, runs-more events e r.0 u v r.2 h)
 
@@ -38,13 +40,19 @@ unfolding turns_after
 reached-turns zero w r = r
 reached-turns (suc n) w r = reached-turns n (turn w) (reached-more turns w (turn w) r refl)
 
-reached-plugged : (a b : End) (w : CableWorld) → act_fault (Plug a b) w ≡ None → IsReached w → IsReached (after_plug a b w)
+reached-plugged :
+    (a b : End) (w : CableWorld) → act_fault (Plug a b) w ≡ None → IsReached w →
+    IsReached (after_plug a b w)
 reached-plugged a b w free r = reached-more (acts (Plug a b)) w (after_plug a b w) r (tt, free, refl)
 
-reached-pulled : (a : End) (w : CableWorld) → act_fault (Pull a) w ≡ None → IsReached w → IsReached (after_pull a w)
+reached-pulled :
+    (a : End) (w : CableWorld) → act_fault (Pull a) w ≡ None → IsReached w →
+    IsReached (after_pull a w)
 reached-pulled a w there r = reached-more (acts (Pull a)) w (after_pull a w) r (tt, there, refl)
 
-reached-held : (a : End) (n : ℕ) (w : CableWorld) → hold_fault a w ≡ None → IsReached w → IsReached (hold a n w)
+reached-held :
+    (a : End) (n : ℕ) (w : CableWorld) → hold_fault a w ≡ None → IsReached w →
+    IsReached (hold a n w)
 reached-held a n w there r = reached-more (holds a n) w (hold a n w) r (there, refl)
 
 -- ---- from power-on
@@ -52,7 +60,9 @@ reached-held a n w there r = reached-more (holds a n) w (hold a n w) r (there, r
 usual-4 : InRange 4 (usual_timing 4)
 usual-4 = record { hold_least = omega arith; hold_most = omega arith; force = refl; timeout = refl; short_least = omega arith; short_most = omega arith; long_least = omega arith; long_most = omega arith }
 
-powered-on : (ports speed coin : ℕ) (link contender : Bool) → 1 ≤ ports → ports ≤ 16 → speed < 4 → IsNodeAtPowerOn 4 (node_of ports (attrs link speed contender) coin).state
+powered-on :
+    (ports speed coin : ℕ) (link contender : Bool) → 1 ≤ ports → ports ≤ 16 → speed < 4 →
+    IsNodeAtPowerOn 4 (node_of ports (attrs link speed contender) coin).state
 powered-on ports speed coin link contender some few slow = record {
   is = refl;
   valid = valid-power_on ports (attrs link speed contender) false (usual_timing 4) some few (record { gap = omega arith; speed = slow; delay = omega arith; power = omega arith }) refl;
@@ -63,12 +73,15 @@ abbrev AllOn : List PortNode → Type 0
 AllOn [] = Unit {0}
 AllOn (x ∷ xs) = IsNodeAtPowerOn 4 x.state × AllOn xs
 
-all-at : (nodes : List PortNode) → AllOn nodes → (k : ℕ) (x : PortNode) → slice_get nodes k ≡ Some x → IsNodeAtPowerOn 4 x.state
+all-at :
+    (nodes : List PortNode) → AllOn nodes → (k : ℕ) (x : PortNode) → slice_get nodes k ≡ Some x →
+    IsNodeAtPowerOn 4 x.state
 all-at [] a k x e = absurd cc
 all-at (y ∷ ys) a zero x e = subst (λ (z : PortNode). IsNodeAtPowerOn 4 z.state) (some-same y x e) a.0
 all-at (y ∷ ys) a (suc k) x e = all-at ys a.1 k x e
 
-reached-first : (nodes : List PortNode) → AllOn nodes → length nodes ≤ 63 → IsReached (world_of_nodes 4 nodes)
+reached-first :
+    (nodes : List PortNode) → AllOn nodes → length nodes ≤ 63 → IsReached (world_of_nodes 4 nodes)
 reached-first nodes a few = record {
   start = world_of_nodes 4 nodes;
   events = [];
@@ -108,7 +121,8 @@ disk_in = after_plug (at desk.disk 0) (at desk.hub 1) (turns_after 300 hub_in)
 abbrev camera_in : CableWorld
 camera_in = after_plug (at desk.camera 0) (at desk.hub 4) (turns_after 10 disk_in)
 
-hub-free : act_fault (Plug (at desk.computer 0) (at desk.hub 0)) (world_of_nodes 4 desk.nodes) ≡ None
+hub-free :
+    act_fault (Plug (at desk.computer 0) (at desk.hub 0)) (world_of_nodes 4 desk.nodes) ≡ None
 hub-free = refl
 
 disk-free : act_fault (Plug (at desk.disk 0) (at desk.hub 1)) (turns_after 300 hub_in) ≡ None
@@ -144,7 +158,10 @@ desk-reached =
     (reached-held (at desk.hub 0) 3 desk.before hold-there (reached-turns 270 desk.plugged_in plugged-reached)))
 
 -- a cable can't be plugged twice, and none can be pulled where none is
-in-use : (act_fault (Plug (at 0 0) (at 1 1)) pair.start ≡ Some (InUse (at 0 0))) × (act_fault (Pull (at 0 1)) pair.start ≡ Some (NotPlugged (at 0 1))) × (hold_fault (at 2 0) pair.start ≡ Some (NoNode (at 2 0)))
+in-use :
+    (act_fault (Plug (at 0 0) (at 1 1)) pair.start ≡ Some (InUse (at 0 0)))
+    × (act_fault (Pull (at 0 1)) pair.start ≡ Some (NotPlugged (at 0 1)))
+    × (hold_fault (at 2 0) pair.start ≡ Some (NoNode (at 2 0)))
 unfolding enter
 in-use = (refl, refl, refl)
 

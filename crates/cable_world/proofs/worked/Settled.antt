@@ -29,21 +29,30 @@ each-in P (y ∷ ys) x e (inl same) = subst P (sym same) e.0
 each-in P (y ∷ ys) x e (inr rest) = each-in P ys x e.1 rest
 
 -- of each node of the set of these numbers
-pub each-held : (P : ℕ → Type 0) (set : ℕ) (xs : List ℕ) → set ≡ set_of xs → Each P xs → (k : ℕ) → Holds set k → P k
+pub each-held :
+    (P : ℕ → Type 0) (set : ℕ) (xs : List ℕ) → set ≡ set_of xs → Each P xs → (k : ℕ) → Holds set k →
+    P k
 each-held P set xs s e k h = each-in P xs k e (from_set xs k (subst (λ (n : ℕ). Holds n k) s h))
 
 -- where a tree is seen no loop is
-pub no-core : (c : Wiring) (label : ℕ → Label) (root set : ℕ) (t : Tree) → Sees c label root None t → set ≡ set_of (numbers c root t) → IsCore c set 0
+pub no-core :
+    (c : Wiring) (label : ℕ → Label) (root set : ℕ) (t : Tree) → Sees c label root None t →
+    set ≡ set_of (numbers c root t) → IsCore c set 0
 no-core c label root set t h s = seen_core c label root set t h (λ x i. from_set (numbers c root t) x (subst (λ (n : ℕ). Holds n x) s i))
 
-pub no-loop : (w : CableWorld) (c : Wiring) (set : ℕ) → w.cabling ≡ c → IsCore c set 0 → HasNoLoop w set
+pub no-loop :
+    (w : CableWorld) (c : Wiring) (set : ℕ) → w.cabling ≡ c → IsCore c set 0 → HasNoLoop w set
 no-loop w c set e h = record { core = 0; is_core = rw e h; empty = none_of_zero }
 
-pub at-node : (w : CableWorld) (k : ℕ) (P Q : PortNode → Type 0) → ((x : PortNode) → P x → Q x) → AtNode w k P → AtNode w k Q
+pub at-node :
+    (w : CableWorld) (k : ℕ) (P Q : PortNode → Type 0) → ((x : PortNode) → P x → Q x) →
+    AtNode w k P → AtNode w k Q
 at-node w k P Q f h = some-and (slice_get w.nodes k) P Q f h
 
 -- what is said of every node holds of the node of a number
-pub said : {A : Type 0} → (w : CableWorld) (say : PortNode → A) (rows : List A) (k : ℕ) (P : A → Type 0) → map say w.nodes ≡ rows → IsSomeAnd (slice_get rows k) P → AtNode w k (λ x. P (say x))
+pub said :
+    {A : Type 0} → (w : CableWorld) (say : PortNode → A) (rows : List A) (k : ℕ) (P : A → Type 0) →
+    map say w.nodes ≡ rows → IsSomeAnd (slice_get rows k) P → AtNode w k (λ x. P (say x))
 said {A = A} w say rows k P e h =
     unmapped (slice_get w.nodes k) say P
     (subst (λ (o : Option A). IsSomeAnd o P) (slice_get-map say w.nodes k) (subst (λ (r : List A). IsSomeAnd (slice_get r k) P) (sym e) h))
@@ -52,9 +61,10 @@ said {A = A} w say rows k P e h =
 abbrev pub Given : Wiring → ℕ → Tree → ℕ → Summary → Type 0
 Given c root t k r = (k ≢ root → IsSome r.parent) × IsSomeAnd r.id (λ i. slice_get (numbers c root t) i ≡ Some k) × (r.list ≡ emits t)
 
--- A component settles to a tree where its nodes tell what the tree gives them. The world is looked at three
--- times, at its cables, its nodes' attributes, and what they tell.
-pub tree-settled : (w : CableWorld) (set root : ℕ) (t : Tree) (c : Wiring) (attrs : List Attrs) (rows : List Summary) →
+-- A component settles to a tree where its nodes tell what the tree gives them. The world is looked
+-- at three times, at its cables, its nodes' attributes, and what they tell.
+pub tree-settled :
+    (w : CableWorld) (set root : ℕ) (t : Tree) (c : Wiring) (attrs : List Attrs) (rows : List Summary) →
     w.cabling ≡ c → attrs_now w ≡ attrs → map summary_of w.nodes ≡ rows →
     set ≡ set_of (numbers c root t) → Holds set root →
     Sees c (labels attrs) root None t →

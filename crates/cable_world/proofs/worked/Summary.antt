@@ -34,8 +34,8 @@ after_plug a b w = note_changes w (plug a b w)
 abbrev pub after_pull : End → CableWorld → CableWorld
 after_pull end w = note_changes w (pull end w)
 
--- of one node: its phase, how many coins it drew, its parent port, which ports lead to children, its ID,
--- and its list
+-- of one node: its phase, how many coins it drew, its parent port, which ports lead to children,
+-- its ID, and its list
 pub record Summary : Type 0 where
   pub phase : Phase
   pub draws : ℕ

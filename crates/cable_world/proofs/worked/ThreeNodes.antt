@@ -28,7 +28,9 @@ unfolding turn turns_after enter tick on_signal group
 line = refl
 
 -- only the root has been granted anything after 262 turns
-grants : map (λ (x : PortNode). x.state.view.granted) (turns_after 262 start).nodes ≡ false ∷ true ∷ false ∷ []
+grants :
+    map (λ (x : PortNode). x.state.view.granted) (turns_after 262 start).nodes
+    ≡ false ∷ true ∷ false ∷ []
 unfolding turn turns_after enter tick on_signal group
 grants = refl
 

@@ -22,7 +22,8 @@ first = 0x807f8096
 abbrev second : ℕ
 second = 0x817f80d6
 
--- before the first turn, and after 255, 256, 257, 258, 259, 260, 271, 272, 291, 292, 297, 298 and 299 turns
+-- before the first turn, and after 255, 256, 257, 258, 259, 260, 271, 272, 291, 292, 297, 298 and
+-- 299 turns
 contention : story summaries (255 ∷ 1 ∷ 1 ∷ 1 ∷ 1 ∷ 1 ∷ 11 ∷ 1 ∷ 19 ∷ 1 ∷ 5 ∷ 1 ∷ 1 ∷ []) start ≡
     (summary ResetStart 0 None childless None [] ∷ summary ResetStart 0 None childless None [] ∷ []) ∷
     (summary ResetStart 0 None childless None [] ∷ summary ResetStart 0 None childless None [] ∷ []) ∷
@@ -42,7 +43,9 @@ unfolding turn turns_after enter tick on_signal group
 contention = refl
 
 -- each node counts the power-on and the plugging as resets; in turn 257 the timers begin anew
-timers : let w = turns_after 257 start in (map (λ (x : PortNode). x.state.view.resets) w.nodes ≡ 2 ∷ 2 ∷ []) × (map (λ (x : PortNode). x.state.view.timer) w.nodes ≡ 0 ∷ 0 ∷ [])
+timers :
+    let w = turns_after 257 start in (map (λ (x : PortNode). x.state.view.resets) w.nodes ≡ 2 ∷ 2 ∷ [])
+    × (map (λ (x : PortNode). x.state.view.timer) w.nodes ≡ 0 ∷ 0 ∷ [])
 unfolding turn turns_after enter tick on_signal
 timers = (refl, refl)
 

@@ -1,11 +1,11 @@
-use Rattle.cable_world.proofs.StaysLawful.{power-on-lawful, turn-lawful, hold-lawful, act-lawful, reached-lawful}
+use Rattle.cable_world.proofs.StaysLawful.{power-on-lawful, turns-lawful, hold-lawful, act-lawful, reached-lawful}
 use Rattle.cable_world.proofs.laws.worlds_stay_lawful.Goals as goal
 
 pub returns-clause-power_on : goal.returns-clause-power_on
 returns-clause-power_on c = power-on-lawful
 
-pub returns-clause-turn : goal.returns-clause-turn
-returns-clause-turn c = turn-lawful
+pub returns-clause-turns : goal.returns-clause-turns
+returns-clause-turns c = turns-lawful
 
 pub returns-clause-hold : goal.returns-clause-hold
 returns-clause-hold c = hold-lawful

@@ -1,0 +1,30 @@
+-- Every world that comes of a power-on world is reached, and lawful.
+use Rattle.std.specs.Prelude.{◌≡◌, ℕ, None}
+use Rattle.cabling.specs.declared.cable.End.{End}
+use Rattle.cable_world.specs.declared.act.Act.{Act}
+use Rattle.cable_world.specs.World.{CableWorld, IsPowerOnWorld}
+use Rattle.cable_world.specs.Turn.{turns_after}
+use Rattle.cable_world.specs.Act.{ActLeads, IsAct, act_fault, hold, hold_fault}
+use Rattle.cable_world.specs.Lawful.{IsLawful}
+use Rattle.cable_world.specs.Run.{IsReached}
+
+-- ---- what holds at power-on, and is kept by turns, holds and acts
+
+abbrev pub HoldsAtPowerOn : (CableWorld → Type 0) → Type 0
+HoldsAtPowerOn P = (w : CableWorld) → IsPowerOnWorld w → P w
+
+abbrev pub KeptByTurns : (CableWorld → Type 0) → Type 0
+KeptByTurns P = (k : ℕ) (w : CableWorld) → P w → P (turns_after k w)
+
+abbrev pub KeptByHolds : (CableWorld → Type 0) → Type 0
+KeptByHolds P =
+    (end : End) (turns : ℕ) (w : CableWorld) → hold_fault end w ≡ None → P w → P (hold end turns w)
+
+abbrev pub KeptByActs : (CableWorld → Type 0) → Type 0
+KeptByActs P =
+    (a : Act) (w v : CableWorld) → IsAct a → act_fault a w ≡ None → ActLeads a w v → P w → P v
+
+-- ---- laws
+
+abbrev pub ReachedIsLawful : Type 0
+ReachedIsLawful = (w : CableWorld) → IsReached w → IsLawful w
