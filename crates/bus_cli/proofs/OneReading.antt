@@ -1,26 +1,32 @@
 -- A capture has one reading.
-use Rattle.std.proofs.Common.{◌≡◌, ℕ, ◌*◌, ◌%◌, ◌^◌, ◌<◌, List, length, Option, Some, None, sym, ap, subst, ◌∙◌, arith}
+use Rattle.std.proofs.Common.{◌≢◌, ◌⊎◌, inl, inr, Bool, true, false, eqb, refl, ◌/◌, ◌≡◌, ℕ, ◌*◌, ◌%◌, ◌^◌, ◌<◌, List, length, Option, Some, None, sym, ap, subst, ◌∙◌, arith}
 use Rattle.std.specs.List.{All}
-use Rattle.quad_lanes.specs.Capture.{capture}
+use Rattle.std.proofs.lemmas.Bool.{eqb-true, eqb-false}
+use Rattle.quad_lanes.specs.Capture.{capture, CapturesAreWhole, CapturesAreGood, CapturesAreReadBack, GoodPairsAreACapture}
 use Rattle.quad_lanes.specs.Pairs.{quads_of, firsts, first_bad_pair}
 use Rattle.topology_stack.specs.declared.fault.TreeFault.{TreeFault}
 use Rattle.topology_stack.specs.Tree.{Tree, IsBusTree, emits}
+use Rattle.topology_stack.specs.OneAnswer.{EachListHasATreeOrAFault, NoListHasTwoTrees, NoListHasATreeAndAFault, NoListHasTwoFaults}
 use Rattle.topology_stack.specs.Refused.{Refused}
 use Rattle.bus_cli.specs.declared.fault.CaptureFault.{CaptureFault}
 use Rattle.bus_cli.specs.declared.fault.CaptureFault.TheVariants.{BadLength, BadInverse, Tree as TreeRefused}
 use Rattle.bus_cli.specs.Capture.{IsCaptureOf, Spells, CaptureRefused}
+use Rattle.bus_cli.specs.OneReading.{EachCaptureHasATreeOrAFault, NoCaptureHasTwoTrees, NoCaptureHasATreeAndAFault, NoCaptureHasTwoFaults}
+use Rattle.bus_cli.proofs.Reading.{is_capture}
 
 -- what is known of the captures of quadlets
 pub record ReadsBack : Type 0 where
-  pub whole : (quads : List ℕ) → length (capture quads) ≡ 8 * length quads
-  pub good : (quads : List ℕ) → All (λ q. q < 2 ^ 32) quads → first_bad_pair (quads_of (capture quads)) ≡ None
-  pub same : (quads : List ℕ) → All (λ q. q < 2 ^ 32) quads → firsts (quads_of (capture quads)) ≡ quads
+  pub whole : CapturesAreWhole
+  pub good : CapturesAreGood
+  pub same : CapturesAreReadBack
+  pub all : GoodPairsAreACapture
 
 -- what is known of the lists of quadlets
 pub record OneAnswer : Type 0 where
-  pub trees : (t u : Tree) → IsBusTree t → IsBusTree u → emits t ≡ emits u → t ≡ u
-  pub tree : (t : Tree) (f : TreeFault) → IsBusTree t → Refused (emits t) f → ⊥
-  pub fault : (l : List ℕ) (f g : TreeFault) → Refused l f → Refused l g → f ≡ g
+  pub some : EachListHasATreeOrAFault
+  pub trees : NoListHasTwoTrees
+  pub tree : NoListHasATreeAndAFault
+  pub fault : NoListHasTwoFaults
 
 -- a capture is that of one list
 same_list : ReadsBack → (quads others bytes : List ℕ) → IsCaptureOf quads bytes → IsCaptureOf others bytes → quads ≡ others
@@ -39,10 +45,10 @@ is_good back quads bytes h = ap (λ (b : List ℕ). first_bad_pair (quads_of b))
 not_bad : ReadsBack → (quads bytes : List ℕ) (pair : ℕ) → IsCaptureOf quads bytes → first_bad_pair (quads_of bytes) ≡ Some pair → ⊥
 not_bad back quads bytes pair h bad = let good = is_good back quads bytes h in cc
 
-pub one_tree : ReadsBack → OneAnswer → (bytes : List ℕ) (t u : Tree) → Spells bytes t → Spells bytes u → t ≡ u
+pub one_tree : ReadsBack → OneAnswer → NoCaptureHasTwoTrees
 one_tree back lists bytes t u a b = lists.trees t u a.bus b.bus (same_list back _ _ bytes a.captured b.captured)
 
-pub apart : ReadsBack → OneAnswer → (bytes : List ℕ) (t : Tree) (f : CaptureFault) → Spells bytes t → CaptureRefused bytes f → ⊥
+pub apart : ReadsBack → OneAnswer → NoCaptureHasATreeAndAFault
 apart back lists bytes t (BadLength pair) a r = r.0 (is_whole back _ bytes a.captured)
 apart back lists bytes t (BadInverse pair) a r = not_bad back _ bytes pair a.captured r.1
 apart back lists bytes t (TreeRefused f) a (quads, captured, refused) =
@@ -51,7 +57,7 @@ apart back lists bytes t (TreeRefused f) a (quads, captured, refused) =
 same_pair : (p q : ℕ) (found : Option ℕ) → found ≡ Some p → found ≡ Some q → p ≡ q
 same_pair p q found a b = cc
 
-pub one_fault : ReadsBack → OneAnswer → (bytes : List ℕ) (f g : CaptureFault) → CaptureRefused bytes f → CaptureRefused bytes g → f ≡ g
+pub one_fault : ReadsBack → OneAnswer → NoCaptureHasTwoFaults
 one_fault back lists bytes (BadLength p) (BadLength q) a b = ap (λ (n : ℕ). BadLength n) (a.1 ∙ sym b.1)
 one_fault back lists bytes (BadLength p) (BadInverse q) a b = absurd (a.0 b.0)
 one_fault back lists bytes (BadLength p) (TreeRefused g) a (quads, captured, refused) = absurd (a.0 (is_whole back quads bytes captured))
@@ -62,3 +68,27 @@ one_fault back lists bytes (TreeRefused f) (BadLength q) (quads, captured, refus
 one_fault back lists bytes (TreeRefused f) (BadInverse q) (quads, captured, refused) b = absurd (not_bad back quads bytes q captured b.1)
 one_fault back lists bytes (TreeRefused f) (TreeRefused g) (quads, captured, refused) (others, again, too) =
     ap (λ (h : TreeFault). TreeRefused h) (lists.fault others f g (subst (λ (l : List ℕ). Refused l f) (same_list back quads others bytes captured again) refused) too)
+
+-- the reading of bytes that are the capture of a list
+read_list : (bytes quads : List ℕ) → IsCaptureOf quads bytes →
+    ((t : Tree) × IsBusTree t × (emits t ≡ quads)) ⊎ ((f : TreeFault) × Refused quads f) →
+    ((t : Tree) × Spells bytes t) ⊎ ((f : CaptureFault) × CaptureRefused bytes f)
+read_list bytes quads captured (inl (t, bus, is)) =
+    inl (t, record { bus = bus; captured = subst (λ (l : List ℕ). IsCaptureOf l bytes) (sym is) captured })
+read_list bytes quads captured (inr (f, is)) = inr (TreeRefused f, (quads, captured, is))
+
+-- that of whole pairs, by the first bad one of them
+read_pairs : ReadsBack → OneAnswer → (bytes : List ℕ) (bad : Option ℕ) → All (λ b. b < 256) bytes →
+    length bytes % 8 ≡ 0 → first_bad_pair (quads_of bytes) ≡ bad →
+    ((t : Tree) × Spells bytes t) ⊎ ((f : CaptureFault) × CaptureRefused bytes f)
+read_pairs back lists bytes None fit whole good =
+    let quads = firsts (quads_of bytes) in
+    read_list bytes quads (is_capture bytes quads fit refl (back.all bytes fit whole good)) (lists.some quads)
+read_pairs back lists bytes (Some pair) fit whole bad = inr (BadInverse pair, (whole, bad))
+
+pub some_reading : ReadsBack → OneAnswer → EachCaptureHasATreeOrAFault
+some_reading back lists bytes fit =
+    elim (eqb (length bytes % 8) 0) as (λ (v : Bool). eqb (length bytes % 8) 0 ≡ v → ((t : Tree) × Spells bytes t) ⊎ ((f : CaptureFault) × CaptureRefused bytes f)) [
+      | true ↦ λ e. read_pairs back lists bytes (first_bad_pair (quads_of bytes)) fit (eqb-true _ _ e) refl
+      | false ↦ λ e. inr (BadLength (length bytes / 8), (eqb-false _ _ e, refl))
+    ] refl

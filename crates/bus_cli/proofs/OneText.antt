@@ -15,6 +15,7 @@ use Rattle.bus_cli.specs.declared.form.Form.{Form}
 use Rattle.bus_cli.specs.declared.form.Form.TheVariants.{Read, Maps}
 use Rattle.bus_cli.specs.Maps.{images_text, IsMapsText}
 use Rattle.bus_cli.specs.Answer.{Outcome, shown, refused, no_form, HasOutcome, Shows, HasText, status_of, Answers}
+use Rattle.bus_cli.specs.OneOutcome.{NoInputHasTwoAnswers}
 use Rattle.bus_cli.proofs.OneOutcome.{HasOneReading, outcomes_agree}
 
 same_sealed : (body a b : List ℕ) → IsSealed body a → IsSealed body b → a ≡ b
@@ -51,7 +52,7 @@ one_text words bytes (shown form t) a b has x y = same_shown form t a b has.1.bu
 one_text words bytes (refused f) a b has x y = x ∙ sym y
 one_text words bytes no_form a b has x y = x ∙ sym y
 
-pub answers_agree : HasOneReading → (words : List (String Global)) (bytes : List ℕ) (s r : ℕ) (a b : List ℕ) → Answers words bytes s a → Answers words bytes r b → (s ≡ r) × (a ≡ b)
+pub answers_agree : HasOneReading → NoInputHasTwoAnswers
 answers_agree one words bytes s r a b x y =
     let same : x.outcome ≡ y.outcome = outcomes_agree one words bytes x.outcome y.outcome x.has y.has in
     (x.status_is ∙ ap status_of same ∙ sym y.status_is, one_text words bytes y.outcome a b y.has (subst (λ (o : Outcome). HasText o a) same x.text_is) y.text_is)

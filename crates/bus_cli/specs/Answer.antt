@@ -6,7 +6,6 @@ use Rattle.topology_stack.specs.Text.{tree_text}
 use Rattle.bus_cli.specs.declared.form.Form.{Form}
 use Rattle.bus_cli.specs.declared.form.Form.TheVariants.{Read, Maps}
 use Rattle.bus_cli.specs.declared.fault.CaptureFault.{CaptureFault}
-use Rattle.bus_cli.specs.declared.status.TheConstants.{VALID, REFUSED, NO_FORM}
 use Rattle.bus_cli.specs.Form.{Asks, IsForm}
 use Rattle.bus_cli.specs.Capture.{Spells, CaptureRefused}
 use Rattle.bus_cli.specs.Line.{fault_line}
@@ -25,10 +24,11 @@ HasOutcome words bytes (shown form t) = Asks words form × Spells bytes t
 HasOutcome words bytes (refused f) = IsForm words × CaptureRefused bytes f
 HasOutcome words bytes no_form = ¬ IsForm words
 
+-- the exit status that tells it
 abbrev pub status_of : Outcome → ℕ
-status_of (shown form t) = VALID
-status_of (refused f) = REFUSED
-status_of no_form = NO_FORM
+status_of (shown form t) = 0
+status_of (refused f) = 1
+status_of no_form = 2
 
 -- how a tree is shown: by `read` as its text with no names, by `maps` as its maps with generation 1
 abbrev pub Shows : Form → Tree → List ℕ → Type 0
@@ -42,7 +42,8 @@ HasText (refused f) text = text ≡ fault_line f
 HasText no_form text = text ≡ []
 
 -- the status and the text of what the words and the bytes come to
-pub record Answers (words : List (String Global)) (bytes : List ℕ) (status : ℕ) (text : List ℕ) : Type 0 where
+pub record Answers (words : List (String Global)) (bytes : List ℕ) (status : ℕ)
+    (text : List ℕ) : Type 0 where
   pub outcome : Outcome
   pub has : HasOutcome words bytes outcome
   pub status_is : status ≡ status_of outcome

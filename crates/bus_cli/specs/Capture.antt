@@ -18,8 +18,10 @@ pub record Spells (bytes : List ℕ) (t : Tree) : Type 0 where
   pub bus : IsBusTree t
   pub captured : IsCaptureOf (emits t) bytes
 
--- Which fault bytes have: first their length, then the first bad pair, then the list of the packets.
+-- Which fault bytes have: first their length, then the first bad pair, then the packets' list.
 abbrev pub CaptureRefused : List ℕ → CaptureFault → Type 0
 CaptureRefused bytes (BadLength pair) = (length bytes % 8 ≢ 0) × (pair ≡ length bytes / 8)
-CaptureRefused bytes (BadInverse pair) = (length bytes % 8 ≡ 0) × (first_bad_pair (quads_of bytes) ≡ Some pair)
-CaptureRefused bytes (TreeRefused f) = (quads : List ℕ) × IsCaptureOf quads bytes × Refused quads f
+CaptureRefused bytes (BadInverse pair) =
+    (length bytes % 8 ≡ 0) × (first_bad_pair (quads_of bytes) ≡ Some pair)
+CaptureRefused bytes (TreeRefused f) =
+    (quads : List ℕ) × IsCaptureOf quads bytes × Refused quads f

@@ -3,4 +3,6 @@ pub mod Capture
 pub mod Form
 pub mod Line
 pub mod Maps
+pub mod OneOutcome
+pub mod OneReading
 pub mod Stop

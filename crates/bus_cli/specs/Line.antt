@@ -17,19 +17,22 @@ counts_of (Some c) = counts c.found c.wanted
 
 -- the line of a kind of fault at a pair
 abbrev pub refusal : ℕ → List ℕ → List ℕ → List ℕ
-refusal pair kind behind = codes "refused pair " ++ (decimal pair ++ (codes " " ++ (kind ++ (behind ++ codes "\n"))))
+refusal pair kind behind =
+    codes "refused pair " ++ (decimal pair ++ (codes " " ++ (kind ++ (behind ++ codes "\n"))))
 
 -- the line of a fault
 unfoldable pub fault_line : CaptureFault → List ℕ
 fault_line (BadLength pair) = refusal pair (codes "BadLength") []
 fault_line (BadInverse pair) = refusal pair (codes "BadInverse") []
 fault_line (Tree (Group (NotSelfId at))) = refusal at (codes "NotSelfId") []
-fault_line (Tree (Group (WrongId at found wanted))) = refusal at (codes "WrongId") (counts found wanted)
+fault_line (Tree (Group (WrongId at found wanted))) =
+    refusal at (codes "WrongId") (counts found wanted)
 fault_line (Tree (Group (BadOrder at))) = refusal at (codes "BadOrder") []
 fault_line (Tree (Group (Cut at))) = refusal at (codes "Cut") []
 fault_line (Tree (Group (TwoParents at))) = refusal at (codes "TwoParents") []
 fault_line (Tree Empty) = refusal 0 (codes "Empty") []
-fault_line (Tree (TooFewChildren at found wanted)) = refusal at (codes "TooFewChildren") (counts found wanted)
+fault_line (Tree (TooFewChildren at found wanted)) =
+    refusal at (codes "TooFewChildren") (counts found wanted)
 fault_line (Tree (TreesLeft at found wanted)) = refusal at (codes "TreesLeft") (counts found wanted)
 fault_line (Tree (AfterRoot at)) = refusal at (codes "AfterRoot") []
 fault_line (Tree (NoRoot at)) = refusal at (codes "NoRoot") []

@@ -17,7 +17,8 @@ digit_at quad low = hex_digit (quad / 2 ^ low % 16)
 -- a quadlet as eight digits and a line feed
 unfoldable pub quad_line : ℕ → List ℕ
 quad_line q =
-    digit_at q 28 ∷ digit_at q 24 ∷ digit_at q 20 ∷ digit_at q 16 ∷ digit_at q 12 ∷ digit_at q 8 ∷ digit_at q 4 ∷ digit_at q 0 ∷ 10 ∷ []
+    digit_at q 28 ∷ digit_at q 24 ∷ digit_at q 20 ∷ digit_at q 16 ∷ digit_at q 12 ∷ digit_at q 8
+    ∷ digit_at q 4 ∷ digit_at q 0 ∷ 10 ∷ []
 
 abbrev pub quad_lines : List ℕ → List ℕ
 quad_lines [] = []
@@ -25,7 +26,8 @@ quad_lines (q ∷ qs) = quad_line q ++ quad_lines qs
 
 -- the text of two images
 abbrev pub images_text : List ℕ → List ℕ → List ℕ
-images_text topology speed = codes "topology\n" ++ (quad_lines topology ++ (codes "speed\n" ++ quad_lines speed))
+images_text topology speed =
+    codes "topology\n" ++ (quad_lines topology ++ (codes "speed\n" ++ quad_lines speed))
 
 -- the text shows the images of a tree's maps with this generation
 pub record IsMapsText (generation : ℕ) (t : Tree) (text : List ℕ) : Type 0 where

@@ -1,15 +1,16 @@
 //! The answer to the bytes of an input.
-ghost use Rattle.std.specs.Prelude.{◌≡◌, ◌⊎◌, List, IfOk, String};
+ghost use Rattle.std.specs.Prelude.{◌≡◌, ◌≤◌, List, IfOk, String};
 ghost use Rattle.std.specs.Global.{Global};
 ghost use Rattle.bus_cli.specs.Form.{Asks};
 ghost use Rattle.bus_cli.specs.Answer.{Answers, Shows};
 
 use crate::capture::read_capture;
-use crate::fault::{CaptureStop, OutOfMemory};
+use crate::fault::CaptureStop;
 use crate::form::Form;
 use crate::line::fault_line;
 use crate::maps::maps_text;
 use crate::status::{REFUSED, VALID};
+use quad_lanes::OutOfMemory;
 use std::alloc::Global;
 use topology_stack::{BusTree, NameList, tree_text};
 
@@ -34,7 +35,7 @@ fn shown_text(alloc: Global, form: Form, tree: &BusTree) -> Result<Vec<u8>, OutO
 pub(crate) fn answer_to(alloc: Global, form: Form, bytes: &[u8]) -> Result<Answer, OutOfMemory>
     ensures answer { IfOk result (λ answer. (words : List (String Global)) → Asks words form
         → Answers words bytes.now answer.status answer.text.items) }
-    ensures status { IfOk result (λ answer. (answer.status ≡ VALID) ⊎ (answer.status ≡ REFUSED)) }
+    ensures status { IfOk result (λ answer. answer.status ≤ 1) }
 {
     match read_capture(alloc, bytes) {
         Ok(tree) => {

@@ -8,8 +8,8 @@ use quad_lanes::{QuadList, first_bad_pair, firsts, good_pairs_are_a_capture, pai
 use std::alloc::Global;
 use topology_stack::{BusTree, read_tree};
 
-/// The quadlets of a capture's packets: the first one of each pair. It refuses bytes that end within
-/// a pair, and else the first bad pair.
+/// The quadlets of a capture's packets: the first one of each pair. It refuses bytes that end
+/// within a pair, and else the first bad pair.
 fn packets_of(alloc: Global, bytes: &[u8]) -> Result<QuadList, CaptureStop>
     ensures packets { IfOk result (λ quads. IsCaptureOf quads bytes.now) }
     ensures fault { IfFault result (λ f. CaptureRefused bytes.now f) }

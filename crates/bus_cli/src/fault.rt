@@ -2,12 +2,8 @@
 
 ghost use Rattle.std.specs.Prelude.{◌≡◌};
 
-use quad_lanes::PairFault;
-use std::alloc::AllocError;
+use quad_lanes::{OutOfMemory, PairFault};
 use topology_stack::{TreeFault, TreeStop};
-
-/// What a call answers that found no memory.
-pub(crate) type OutOfMemory = AllocError;
 
 /// Why a capture spells no bus tree. `pair` counts pairs of quadlets from 0, and so does a place in
 /// the fault of a list, which has one quadlet of each pair.

@@ -2,10 +2,11 @@
 ghost use Rattle.std.specs.Prelude.{◌≡◌, ◌++◌, IfOk, OnOk, decimal};
 ghost use Rattle.bus_cli.specs.Line.{counts_of, refusal, fault_line};
 
-use crate::fault::{CaptureFault, OutOfMemory};
+use crate::fault::CaptureFault;
+use quad_lanes::OutOfMemory;
 use self_id::GroupFault;
 use std::alloc::Global;
-use topology_stack::TreeFault;
+use topology_stack::{TreeFault, put_number};
 
 /// How many there were, and how many it should have been.
 #[derive(Clone, Copy)]
@@ -14,23 +15,15 @@ struct Counts {
     wanted: u8,
 }
 
-/// Appends a number.
-fn put_number(out: &mut Vec<u8>, n: usize) -> Result<(), OutOfMemory>
-    ensures { OnOk result (out.new.items ≡ out.old.items ++ decimal n) }
-{
-    let text = n.to_string(*out.allocator())?;
-    out.extend_from_slice(text.as_bytes())
-}
-
 /// Appends ` found F wanted W`, or nothing.
 fn put_counts(out: &mut Vec<u8>, counts: Option<Counts>) -> Result<(), OutOfMemory>
     ensures { OnOk result (out.new.items ≡ out.old.items ++ counts_of counts) }
 {
     if let Some(Counts { found, wanted }) = counts {
         out.extend_from_slice(b" found ")?;
-        put_number(out, usize::from(found))?;
+        put_number(out, u64::from(found))?;
         out.extend_from_slice(b" wanted ")?;
-        put_number(out, usize::from(wanted))?;
+        put_number(out, u64::from(wanted))?;
     }
     Ok(())
 }
@@ -46,7 +39,7 @@ fn refusal_line(
 {
     let mut line = Vec::new(alloc);
     line.extend_from_slice(b"refused pair ")?;
-    put_number(&mut line, pair)?;
+    put_number(&mut line, pair as u64)?;
     line.extend_from_slice(b" ")?;
     line.extend_from_slice(kind)?;
     put_counts(&mut line, counts)?;
@@ -57,7 +50,8 @@ fn refusal_line(
 /// The line of a group's fault.
 #[tactic(auto, unfolding(crate::specs::Line::fault_line))]
 fn group_line(alloc: Global, fault: GroupFault) -> Result<Vec<u8>, OutOfMemory>
-    ensures { IfOk result (λ line. line.items ≡ fault_line (CaptureFault.Tree (TreeFault.Group fault))) }
+    ensures { IfOk result (λ line.
+        line.items ≡ fault_line (CaptureFault.Tree (TreeFault.Group fault))) }
 {
     match fault {
         GroupFault::NotSelfId { at } => refusal_line(alloc, at, b"NotSelfId", None),

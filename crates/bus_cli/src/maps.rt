@@ -2,7 +2,7 @@
 ghost use Rattle.std.specs.Prelude.{◌≡◌, ◌<◌, ◌∷◌, [], ◌++◌, IfOk, OnOk};
 ghost use Rattle.bus_cli.specs.Maps.{hex_digit, digit_at, quad_line, quad_lines, IsMapsText};
 
-use crate::fault::OutOfMemory;
+use quad_lanes::OutOfMemory;
 use std::alloc::Global;
 use topology_stack::BusTree;
 
@@ -50,8 +50,8 @@ fn put_quads(out: &mut Vec<u8>, quads: &[u32]) -> Result<(), OutOfMemory>
     Ok(())
 }
 
-/// The topology map and the speed map of a tree with this generation, as images in eight hexadecimal
-/// digits a quadlet, a quadlet a line, each behind a line that names it.
+/// The topology map and the speed map of a tree with this generation, as images in eight
+/// hexadecimal digits a quadlet, a quadlet a line, each behind a line that names it.
 pub(crate) fn maps_text(
     alloc: Global,
     tree: &BusTree,

@@ -9,7 +9,7 @@ ghost use Rattle.bus_cli.specs.Answer.{Answers};
 use crate::answer::answer_to;
 use crate::form::Form;
 use crate::laws::one_outcome;
-use crate::status::{NO_FORM, NO_MEMORY, READ_FAULT, REFUSED, TOO_LONG, VALID, WRITE_FAULT};
+use crate::status::{NO_FORM, NO_MEMORY, READ_FAULT, TOO_LONG, WRITE_FAULT};
 use io_edges::{ReadStop, Sink, Source, read_all, write_whole};
 use std::alloc::Global;
 
@@ -17,8 +17,17 @@ use std::alloc::Global;
 pub const MAX_INPUT: usize = 1_048_576;
 
 /// Does what the words after the program's name ask for: reads the input from `source`, writes the
-/// text or the line of the input's fault to `sink`, and answers the status, which is one of `VALID`,
-/// `REFUSED`, `NO_FORM`, `READ_FAULT`, `WRITE_FAULT`, `NO_MEMORY` and `TOO_LONG`.
+/// text or the line of the input's fault to `sink`, and answers the exit status.
+///
+/// | status | comes |
+/// |---|---|
+/// | 0 | the input was read to its end and is valid, and its whole text was written |
+/// | 1 | the input was read to its end and isn't valid, and the line of its fault was written |
+/// | 2 | the words are none of the forms; nothing was read or written |
+/// | 3 | the source failed; nothing was written |
+/// | 4 | the sink failed; the first bytes of the text or of the line were written, or none |
+/// | 5 | there was no memory; nothing was written |
+/// | 6 | the input has more than 1,048,576 bytes; nothing was written |
 ///
 /// The words are judged first, without memory; then the input is read to its end; then it is
 /// judged; and only then is anything written. What is said of the input holds where the source
@@ -29,38 +38,37 @@ pub fn bus_main<S: Source, K: Sink>(
     source: &mut S,
     sink: &mut K,
 ) -> u8
-    ensures status { result ≤ TOO_LONG }
+    ensures status { result ≤ 6 }
 
     // What is written whole is the text that answers the words and the bytes.
-    ensures answer { (result ≡ VALID) ⊎ (result ≡ REFUSED) →
-        IfSome (S.left source.old) (λ bytes. (text : List ℕ) × Answers words.now bytes result text
+    ensures answer { (result ≡ 0) ⊎ (result ≡ 1) → IfSome (S.left source.old) (λ bytes.
+        (text : List ℕ) × Answers words.now bytes result text
         × Appends (K.written sink.old) (K.written sink.new) text) }
-    ensures end { (result ≡ VALID) ⊎ (result ≡ REFUSED) ⊎ (result ≡ WRITE_FAULT) →
-        IsAtEnd (S.left source.new) }
+    ensures end { (result ≡ 0) ⊎ (result ≡ 1) ⊎ (result ≡ 4) → IsAtEnd (S.left source.new) }
 
     // When each other status comes.
-    ensures no_form { (result ≡ NO_FORM) ↔ (¬ IsForm words.now) }
-    ensures read_fault { result ≡ READ_FAULT → Rose (S.faults source.old) (S.faults source.new) }
-    ensures write_fault { result ≡ WRITE_FAULT → Rose (K.faults sink.old) (K.faults sink.new) }
+    ensures no_form { (result ≡ 2) ↔ (¬ IsForm words.now) }
+    ensures read_fault { result ≡ 3 → Rose (S.faults source.old) (S.faults source.new) }
+    ensures write_fault { result ≡ 4 → Rose (K.faults sink.old) (K.faults sink.new) }
     ensures too_long { IfTold (S.left source.old) (S.left source.new) (λ old new.
-        (result ≡ TOO_LONG) ↔ TookOver MAX_INPUT old new) }
+        (result ≡ 6) ↔ TookOver 1048576 old new) }
 
     // What is left alone, or written in part.
-    ensures unread { result ≡ NO_FORM → source.new ≡ source.old }
-    ensures unwritten { NO_FORM ≤ result → result ≢ WRITE_FAULT → sink.new ≡ sink.old }
-    ensures part { result ≡ WRITE_FAULT → IfSome (S.left source.old) (λ bytes.
+    ensures unread { result ≡ 2 → source.new ≡ source.old }
+    ensures unwritten { 2 ≤ result → result ≢ 4 → sink.new ≡ sink.old }
+    ensures part { result ≡ 4 → IfSome (S.left source.old) (λ bytes.
         (status : ℕ) × (text : List ℕ) × Answers words.now bytes status text
         × AppendsStart (K.written sink.old) (K.written sink.new) text) }
 
     // The answer to the words and the bytes is given, unless another status has its cause.
     ensures exact { IfSome (S.left source.old) (λ bytes. (status : ℕ) (text : List ℕ) →
-        Answers words.now bytes status text → (result ≡ status) ⊎ (READ_FAULT ≤ result)) }
+        Answers words.now bytes status text → (result ≡ status) ⊎ (3 ≤ result)) }
     ensures complete { ¬ Rose (S.faults source.old) (S.faults source.new) →
         ¬ Rose (K.faults sink.old) (K.faults sink.new) →
-        IfSome (S.left source.old) (λ bytes. length bytes ≤ MAX_INPUT →
+        IfSome (S.left source.old) (λ bytes. length bytes ≤ 1048576 →
         (status : ℕ) (text : List ℕ) → Answers words.now bytes status text →
         ((result ≡ status) × Appends (K.written sink.old) (K.written sink.new) text)
-        ⊎ (result ≡ NO_MEMORY)) }
+        ⊎ (result ≡ 5)) }
 
     // A sink that surely takes the text has no fault.
     ensures sure { IfSome (S.left source.old) (λ bytes. (status : ℕ) (text : List ℕ) →

@@ -1,4 +1,4 @@
-use crate::{PairFault, QuadList, first_bad_pair, firsts, min_row, pairs_of, same_list};
+use crate::{PairFault, QuadList, first_bad_pair, firsts, min_row, pairs_of, quads_of, same_list};
 use std::test::Fail;
 
 #[test]
@@ -59,6 +59,8 @@ fn bytes_as_pairs(rt: HostRuntime) -> Result<(), Fail> {
     );
     let firsts = firsts(rt.alloc(), quads.as_slice())?;
     assert_eq!(rt; firsts.as_slice(), [0x807f_8054, 1].as_slice());
+    let whole = quads_of(rt.alloc(), &bytes[..11])?;
+    assert_eq!(rt; whole.as_slice(), [0x807f_8054, 0x7f80_7fab].as_slice());
     for cut in [9, 12, 15] {
         let refused = pairs_of(rt.alloc(), &bytes[..cut]);
         assert!(rt;

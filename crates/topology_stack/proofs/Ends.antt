@@ -8,7 +8,7 @@ use Rattle.self_id.specs.Node.{Node, downs}
 use Rattle.topology_stack.specs.Tree.{Tree, branch, Slots, no_more, absent, unplugged, up, down, statuses, node_of, walk, walk_below}
 use Rattle.topology_stack.specs.Far.{slot_ends, ends_from, ends_below, ends, Far, IsLoose}
 use Rattle.topology_stack.specs.codings.Stored.{parents_from, parents_below, child_ids, children_from, children_below, ends_of, all_ends, Stored}
-use Rattle.topology_stack.proofs.Linking.{length-parents_from, length-parents_below, length-children_from, length-children_below}
+use Rattle.topology_stack.proofs.Linking.{length-child_ids, length-parents_from, length-parents_below, length-children_from, length-children_below}
 
 -- ---- slot by slot
 
@@ -21,25 +21,25 @@ slot_ends_are (down t s) from parent = ap (λ (x : List (Option ℕ)). Some (fro
 
 -- what stands at the end of a slot
 abbrev pub end_with : PortStatus → ℕ → Option ℕ → Option ℕ
-end_with Absent parent kid = None
-end_with Unplugged parent kid = None
-end_with Up parent kid = Some parent
-end_with Down parent kid = kid
+end_with Absent parent child = None
+end_with Unplugged parent child = None
+end_with Up parent child = Some parent
+end_with Down parent child = child
 
-pub end_at : (ps : List PortStatus) (parent : ℕ) (kids : List ℕ) (i : ℕ) (p : PortStatus) → slice_get ps i ≡ Some p → slice_get (ends_of parent kids ps) i ≡ Some (end_with p parent (slice_get kids (downs (take i ps))))
-end_at [] parent kids i p e = absurd cc
-end_at (Absent ∷ ps) parent kids zero p e = let same : Absent ≡ p = cc in rw (← same) refl
-end_at (Absent ∷ ps) parent kids (suc i) p e = end_at ps parent kids i p e
-end_at (Unplugged ∷ ps) parent kids zero p e = let same : Unplugged ≡ p = cc in rw (← same) refl
-end_at (Unplugged ∷ ps) parent kids (suc i) p e = end_at ps parent kids i p e
-end_at (Up ∷ ps) parent kids zero p e = let same : Up ≡ p = cc in rw (← same) refl
-end_at (Up ∷ ps) parent kids (suc i) p e = end_at ps parent kids i p e
+pub end_at : (ps : List PortStatus) (parent : ℕ) (children : List ℕ) (i : ℕ) (p : PortStatus) → slice_get ps i ≡ Some p → slice_get (ends_of parent children ps) i ≡ Some (end_with p parent (slice_get children (downs (take i ps))))
+end_at [] parent children i p e = absurd cc
+end_at (Absent ∷ ps) parent children zero p e = let same : Absent ≡ p = cc in rw (← same) refl
+end_at (Absent ∷ ps) parent children (suc i) p e = end_at ps parent children i p e
+end_at (Unplugged ∷ ps) parent children zero p e = let same : Unplugged ≡ p = cc in rw (← same) refl
+end_at (Unplugged ∷ ps) parent children (suc i) p e = end_at ps parent children i p e
+end_at (Up ∷ ps) parent children zero p e = let same : Up ≡ p = cc in rw (← same) refl
+end_at (Up ∷ ps) parent children (suc i) p e = end_at ps parent children i p e
 end_at (Down ∷ ps) parent [] zero p e = let same : Down ≡ p = cc in rw (← same) refl
 end_at (Down ∷ ps) parent [] (suc i) p e = end_at ps parent [] i p e
-end_at (Down ∷ ps) parent (k ∷ kids) zero p e = let same : Down ≡ p = cc in rw (← same) refl
-end_at (Down ∷ ps) parent (k ∷ kids) (suc i) p e =
+end_at (Down ∷ ps) parent (k ∷ children) zero p e = let same : Down ≡ p = cc in rw (← same) refl
+end_at (Down ∷ ps) parent (k ∷ children) (suc i) p e =
     let next : downs (take i ps) + 1 ≡ suc (downs (take i ps)) = omega arith in
-    rw next (end_at ps parent kids i p e)
+    rw next (end_at ps parent children i p e)
 
 -- ---- node by node
 
@@ -59,16 +59,16 @@ mutual
       ∙ ap (λ (x : List (List (Option ℕ))). x ++ ends_of parent (child_ids from s) (statuses s) ∷ []) (all_ends_below s from (from + length (walk_below s)))
       ∙ ap (λ (x : List (Option ℕ)). ends_below from (from + length (walk_below s)) s ++ x ∷ []) (slot_ends_are s from parent)
 
-  all_ends_below : (s : Slots) (from me : ℕ) → all_ends (walk_below s) (parents_below from me s) (children_below from s) ≡ ends_below from me s
-  all_ends_below no_more from me = refl
-  all_ends_below (absent s) from me = all_ends_below s from me
-  all_ends_below (unplugged s) from me = all_ends_below s from me
-  all_ends_below (up s) from me = all_ends_below s from me
-  all_ends_below (down t s) from me =
-      all_ends-append (walk t) (walk_below s) (parents_from from me t) (parents_below (from + length (walk t)) me s) (children_from from t) (children_below (from + length (walk t)) s)
-      (length-parents_from from me t) (length-children_from from t)
-      ∙ ap (λ (x : List (List (Option ℕ))). x ++ all_ends (walk_below s) (parents_below (from + length (walk t)) me s) (children_below (from + length (walk t)) s)) (all_ends_are t from me)
-      ∙ ap (λ (x : List (List (Option ℕ))). ends_from from me t ++ x) (all_ends_below s (from + length (walk t)) me)
+  all_ends_below : (s : Slots) (from id : ℕ) → all_ends (walk_below s) (parents_below from id s) (children_below from s) ≡ ends_below from id s
+  all_ends_below no_more from id = refl
+  all_ends_below (absent s) from id = all_ends_below s from id
+  all_ends_below (unplugged s) from id = all_ends_below s from id
+  all_ends_below (up s) from id = all_ends_below s from id
+  all_ends_below (down t s) from id =
+      all_ends-append (walk t) (walk_below s) (parents_from from id t) (parents_below (from + length (walk t)) id s) (children_from from t) (children_below (from + length (walk t)) s)
+      (length-parents_from from id t) (length-children_from from t)
+      ∙ ap (λ (x : List (List (Option ℕ))). x ++ all_ends (walk_below s) (parents_below (from + length (walk t)) id s) (children_below (from + length (walk t)) s)) (all_ends_are t from id)
+      ∙ ap (λ (x : List (List (Option ℕ))). ends_from from id t ++ x) (all_ends_below s (from + length (walk t)) id)
 
 -- the ends of a tree are those of what it keeps
 pub ends_are : (t : Tree) → all_ends (walk t) (parents_from 0 63 t) (children_from 0 t) ≡ ends t
@@ -100,13 +100,6 @@ pub length-children : (t : Tree) (ns : List Node) (ps : List ℕ) (ks : List (Li
 length-children t ns ps ks h = ap length h.below ∙ length-children_from 0 t ∙ sym (ap length h.walk_is)
 
 -- ---- each node has as many children as slots that are down
-
-length-child_ids : (from : ℕ) (s : Slots) → length (child_ids from s) ≡ downs (statuses s)
-length-child_ids from no_more = refl
-length-child_ids from (absent s) = length-child_ids from s
-length-child_ids from (unplugged s) = length-child_ids from s
-length-child_ids from (up s) = length-child_ids from s
-length-child_ids from (down t s) = omega (arith, length-child_ids (from + length (walk t)) s)
 
 abbrev Enough : List Node → List (List ℕ) → Type 0
 Enough ns ks = (i : ℕ) (n : Node) (k : List ℕ) → slice_get ns i ≡ Some n → slice_get ks i ≡ Some k → length k ≡ downs n.ports

@@ -29,7 +29,7 @@ links-append : (l : Linking) (ms ns : List Node) → links l (ms ++ ns) ≡ link
 links-append l [] ns = refl
 links-append l (m ∷ ms) ns = links-append (link l m) ms ns
 
-length-child_ids : (from : ℕ) (s : Slots) → length (child_ids from s) ≡ downs (statuses s)
+pub length-child_ids : (from : ℕ) (s : Slots) → length (child_ids from s) ≡ downs (statuses s)
 length-child_ids from no_more = refl
 length-child_ids from (absent s) = length-child_ids from s
 length-child_ids from (unplugged s) = length-child_ids from s
@@ -40,38 +40,38 @@ mutual
   pub length-parents_from : (from parent : ℕ) (t : Tree) → length (parents_from from parent t) ≡ length (walk t)
   length-parents_from from parent (branch a s) = omega (arith, length-append (parents_below from (from + length (walk_below s)) s) (parent ∷ []), length-append (walk_below s) (node_of a s ∷ []), length-parents_below from (from + length (walk_below s)) s)
 
-  pub length-parents_below : (from me : ℕ) (s : Slots) → length (parents_below from me s) ≡ length (walk_below s)
-  length-parents_below from me no_more = refl
-  length-parents_below from me (absent s) = length-parents_below from me s
-  length-parents_below from me (unplugged s) = length-parents_below from me s
-  length-parents_below from me (up s) = length-parents_below from me s
-  length-parents_below from me (down t s) = omega (arith, length-append (parents_from from me t) (parents_below (from + length (walk t)) me s), length-append (walk t) (walk_below s), length-parents_from from me t, length-parents_below (from + length (walk t)) me s)
+  pub length-parents_below : (from id : ℕ) (s : Slots) → length (parents_below from id s) ≡ length (walk_below s)
+  length-parents_below from id no_more = refl
+  length-parents_below from id (absent s) = length-parents_below from id s
+  length-parents_below from id (unplugged s) = length-parents_below from id s
+  length-parents_below from id (up s) = length-parents_below from id s
+  length-parents_below from id (down t s) = omega (arith, length-append (parents_from from id t) (parents_below (from + length (walk t)) id s), length-append (walk t) (walk_below s), length-parents_from from id t, length-parents_below (from + length (walk t)) id s)
 
-set_at_seam : (xs : List ℕ) (y : ℕ) (ys : List ℕ) (me : ℕ) → set (xs ++ y ∷ ys) (length xs) me ≡ xs ++ me ∷ ys
-set_at_seam [] y ys me = refl
-set_at_seam (x ∷ xs) y ys me = ap (λ (l : List ℕ). x ∷ l) (set_at_seam xs y ys me)
+set_at_seam : (xs : List ℕ) (y : ℕ) (ys : List ℕ) (id : ℕ) → set (xs ++ y ∷ ys) (length xs) id ≡ xs ++ id ∷ ys
+set_at_seam [] y ys id = refl
+set_at_seam (x ∷ xs) y ys id = ap (λ (l : List ℕ). x ∷ l) (set_at_seam xs y ys id)
 
-set_seam : (xs : List ℕ) (y : ℕ) (ys : List ℕ) (k me : ℕ) → k ≡ length xs → set (xs ++ y ∷ ys) k me ≡ (xs ++ me ∷ []) ++ ys
-set_seam xs y ys k me e = ap (λ (i : ℕ). set (xs ++ y ∷ ys) i me) e ∙ set_at_seam xs y ys me ∙ sym (append_assoc xs (me ∷ []) ys)
+set_seam : (xs : List ℕ) (y : ℕ) (ys : List ℕ) (k id : ℕ) → k ≡ length xs → set (xs ++ y ∷ ys) k id ≡ (xs ++ id ∷ []) ++ ys
+set_seam xs y ys k id e = ap (λ (i : ℕ). set (xs ++ y ∷ ys) i id) e ∙ set_at_seam xs y ys id ∙ sym (append_assoc xs (id ∷ []) ys)
 
 -- children that had no parent have it
-adopted : (s : Slots) (ps : List ℕ) (from me : ℕ) → from ≡ length ps → set_all (child_ids from s) me (ps ++ parents_below from 63 s) ≡ ps ++ parents_below from me s
-adopted no_more ps from me e = refl
-adopted (absent s) ps from me e = adopted s ps from me e
-adopted (unplugged s) ps from me e = adopted s ps from me e
-adopted (up s) ps from me e = adopted s ps from me e
-adopted (down (branch a r) s) ps from me e =
+adopted : (s : Slots) (ps : List ℕ) (from id : ℕ) → from ≡ length ps → set_all (child_ids from s) id (ps ++ parents_below from 63 s) ≡ ps ++ parents_below from id s
+adopted no_more ps from id e = refl
+adopted (absent s) ps from id e = adopted s ps from id e
+adopted (unplugged s) ps from id e = adopted s ps from id e
+adopted (up s) ps from id e = adopted s ps from id e
+adopted (down (branch a r) s) ps from id e =
     let here = from + length (walk_below r) in
     let inner = parents_below from here r in
     let rest = parents_below (from + length (walk (branch a r))) 63 s in
     let place : from + length (walk (branch a r)) - 1 ≡ length (ps ++ inner) = omega (arith, e, length-append ps inner, length-parents_below from here r, length-append (walk_below r) (node_of a r ∷ [])) in
     let shape : ps ++ ((inner ++ 63 ∷ []) ++ rest) ≡ (ps ++ inner) ++ 63 ∷ rest = simp append_assoc in
-    let back : ((ps ++ inner) ++ me ∷ []) ≡ ps ++ (inner ++ me ∷ []) = append_assoc ps inner (me ∷ []) in
-    let len : from + length (walk (branch a r)) ≡ length (ps ++ (inner ++ me ∷ [])) = omega (arith, e, length-append ps (inner ++ me ∷ []), length-append inner (me ∷ []), length-parents_below from here r, length-append (walk_below r) (node_of a r ∷ [])) in
-    ap (λ (x : List ℕ). set_all (child_ids (from + length (walk (branch a r))) s) me (set x (from + length (walk (branch a r)) - 1) me)) shape
-    ∙ ap (λ (x : List ℕ). set_all (child_ids (from + length (walk (branch a r))) s) me x) (set_seam (ps ++ inner) 63 rest (from + length (walk (branch a r)) - 1) me place ∙ ap (λ (x : List ℕ). x ++ rest) back)
-    ∙ adopted s (ps ++ (inner ++ me ∷ [])) (from + length (walk (branch a r))) me len
-    ∙ append_assoc ps (inner ++ me ∷ []) (parents_below (from + length (walk (branch a r))) me s)
+    let back : ((ps ++ inner) ++ id ∷ []) ≡ ps ++ (inner ++ id ∷ []) = append_assoc ps inner (id ∷ []) in
+    let len : from + length (walk (branch a r)) ≡ length (ps ++ (inner ++ id ∷ [])) = omega (arith, e, length-append ps (inner ++ id ∷ []), length-append inner (id ∷ []), length-parents_below from here r, length-append (walk_below r) (node_of a r ∷ [])) in
+    ap (λ (x : List ℕ). set_all (child_ids (from + length (walk (branch a r))) s) id (set x (from + length (walk (branch a r)) - 1) id)) shape
+    ∙ ap (λ (x : List ℕ). set_all (child_ids (from + length (walk (branch a r))) s) id x) (set_seam (ps ++ inner) 63 rest (from + length (walk (branch a r)) - 1) id place ∙ ap (λ (x : List ℕ). x ++ rest) back)
+    ∙ adopted s (ps ++ (inner ++ id ∷ [])) (from + length (walk (branch a r))) id len
+    ∙ append_assoc ps (inner ++ id ∷ []) (parents_below (from + length (walk (branch a r))) id s)
 
 -- a tree of its own, and trees below slots, added to what is linked
 abbrev pub with_tree : Linking → Tree → Linking
@@ -98,19 +98,19 @@ same_linking a b p q r = ap (λ (w : List ℕ). make w a.above a.below) p ∙ ap
 closed : (l : Linking) (a : Label) (s : Slots) → link (with_slots l s) (node_of a s) ≡ with_tree l (branch a s)
 closed l a s =
     let from = length l.above in
-    let kids = child_ids from s in
-    let count : length (l.waiting ++ kids) - downs (statuses s) ≡ length l.waiting = omega (arith, length-append l.waiting kids, length-child_ids from s) in
-    let last : drop (length (l.waiting ++ kids) - downs (statuses s)) (l.waiting ++ kids) ≡ kids = rw count (drop_at l.waiting kids (length l.waiting) refl) in
-    let first : take (length (l.waiting ++ kids) - downs (statuses s)) (l.waiting ++ kids) ≡ l.waiting = rw count (take_at l.waiting kids (length l.waiting) refl) in
-    let me : length (l.above ++ parents_below from 63 s) ≡ from + length (walk_below s) = omega (arith, length-append l.above (parents_below from 63 s), length-parents_below from 63 s) in
+    let children = child_ids from s in
+    let count : length (l.waiting ++ children) - downs (statuses s) ≡ length l.waiting = omega (arith, length-append l.waiting children, length-child_ids from s) in
+    let last : drop (length (l.waiting ++ children) - downs (statuses s)) (l.waiting ++ children) ≡ children = rw count (drop_at l.waiting children (length l.waiting) refl) in
+    let first : take (length (l.waiting ++ children) - downs (statuses s)) (l.waiting ++ children) ≡ l.waiting = rw count (take_at l.waiting children (length l.waiting) refl) in
+    let id : length (l.above ++ parents_below from 63 s) ≡ from + length (walk_below s) = omega (arith, length-append l.above (parents_below from 63 s), length-parents_below from 63 s) in
     let own : from + length (walk_below s) ≡ from + length (walk (branch a s)) - 1 = omega (arith, length-append (walk_below s) (node_of a s ∷ [])) in
     same_linking (link (with_slots l s) (node_of a s)) (with_tree l (branch a s))
-    (ap (λ (x : List ℕ). x ++ length (l.above ++ parents_below from 63 s) ∷ []) first ∙ ap (λ (k : ℕ). l.waiting ++ k ∷ []) (me ∙ own))
+    (ap (λ (x : List ℕ). x ++ length (l.above ++ parents_below from 63 s) ∷ []) first ∙ ap (λ (k : ℕ). l.waiting ++ k ∷ []) (id ∙ own))
     (ap (λ (x : List ℕ). set_all x (length (l.above ++ parents_below from 63 s)) (l.above ++ parents_below from 63 s) ++ 63 ∷ []) last
-    ∙ ap (λ (k : ℕ). set_all kids k (l.above ++ parents_below from 63 s) ++ 63 ∷ []) me
+    ∙ ap (λ (k : ℕ). set_all children k (l.above ++ parents_below from 63 s) ++ 63 ∷ []) id
     ∙ ap (λ (x : List ℕ). x ++ 63 ∷ []) (adopted s l.above from (from + length (walk_below s)) refl)
     ∙ append_assoc l.above (parents_below from (from + length (walk_below s)) s) (63 ∷ []))
-    (ap (λ (x : List ℕ). (l.below ++ children_below from s) ++ x ∷ []) last ∙ append_assoc l.below (children_below from s) (kids ∷ []))
+    (ap (λ (x : List ℕ). (l.below ++ children_below from s) ++ x ∷ []) last ∙ append_assoc l.below (children_below from s) (children ∷ []))
 
 one_after : (l : Linking) (t : Tree) (s : Slots) → with_slots (with_tree l t) s ≡ with_slots l (down t s)
 one_after l t s =

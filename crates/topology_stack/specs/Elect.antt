@@ -1,5 +1,5 @@
--- Which node is the isochronous resource manager (IEEE Std 1394-1995): of those whose link is active
--- and that contend, the one with the highest ID.
+-- Which node is the isochronous resource manager (IEEE Std 1394-1995): of those whose link is
+-- active and that contend, the one with the highest ID.
 use Rattle.std.specs.Prelude.{ℕ, ◌+◌, ◌≤◌, IsSomeAnd, Bool, ◌&&◌, IsTrue, if◌then◌else◌, Option, Some, None, List, [], ◌∷◌, slice_get}
 use Rattle.std.specs.Option.{option_or}
 use Rattle.self_id.specs.Node.{Node}
@@ -17,10 +17,11 @@ abbrev pub IsHighest : List Node → Option ℕ → Type 0
 IsHighest ns None = (id : ℕ) → IsCandidate ns id → ⊥
 IsHighest ns (Some id) = IsCandidate ns id × ((other : ℕ) → IsCandidate ns other → other ≤ id)
 
--- the same as a value: the ID of a later candidate, or else of this one, where the first node has ID `id`
+-- the same as a value: a later candidate's ID, or else this one's; the first node has ID `id`
 abbrev pub highest_from : ℕ → List Node → Option ℕ
 highest_from id [] = None
-highest_from id (n ∷ ns) = option_or (highest_from (id + 1) ns) (if is_candidate n then Some id else None)
+highest_from id (n ∷ ns) =
+    option_or (highest_from (id + 1) ns) (if is_candidate n then Some id else None)
 
 abbrev pub elected : Tree → Option ℕ
 elected t = highest_from 0 (walk t)

@@ -11,19 +11,21 @@ slot_ends from parent no_more = []
 slot_ends from parent (absent s) = None ∷ slot_ends from parent s
 slot_ends from parent (unplugged s) = None ∷ slot_ends from parent s
 slot_ends from parent (up s) = Some parent ∷ slot_ends from parent s
-slot_ends from parent (down t s) = Some (from + length (walk t) - 1) ∷ slot_ends (from + length (walk t)) parent s
+slot_ends from parent (down t s) =
+    Some (from + length (walk t) - 1) ∷ slot_ends (from + length (walk t)) parent s
 
 -- the same for each node of a tree, in the order of the walk
 abbrev mutual
   pub ends_from : ℕ → ℕ → Tree → List (List (Option ℕ))
-  ends_from from parent (branch a s) = ends_below from (from + length (walk_below s)) s ++ slot_ends from parent s ∷ []
+  ends_from from parent (branch a s) =
+      ends_below from (from + length (walk_below s)) s ++ slot_ends from parent s ∷ []
 
   pub ends_below : ℕ → ℕ → Slots → List (List (Option ℕ))
-  ends_below from me no_more = []
-  ends_below from me (absent s) = ends_below from me s
-  ends_below from me (unplugged s) = ends_below from me s
-  ends_below from me (up s) = ends_below from me s
-  ends_below from me (down t s) = ends_from from me t ++ ends_below (from + length (walk t)) me s
+  ends_below from id no_more = []
+  ends_below from id (absent s) = ends_below from id s
+  ends_below from id (unplugged s) = ends_below from id s
+  ends_below from id (up s) = ends_below from id s
+  ends_below from id (down t s) = ends_from from id t ++ ends_below (from + length (walk t)) id s
 
 -- by ID; the root has no slot that is up, so 63, which names no node, stands nowhere
 abbrev pub ends : Tree → List (List (Option ℕ))
@@ -41,4 +43,5 @@ IsLoose status = (status ≡ Absent) ⊎ (status ≡ Unplugged)
 
 -- so does this slot of the node with this ID
 abbrev pub IsLooseAt : Tree → ℕ → ℕ → Type 0
-IsLooseAt t id slot = IsSomeAnd (slice_get (walk t) id) (λ n. IsSomeAnd (slice_get n.ports slot) IsLoose)
+IsLooseAt t id slot =
+    IsSomeAnd (slice_get (walk t) id) (λ n. IsSomeAnd (slice_get n.ports slot) IsLoose)

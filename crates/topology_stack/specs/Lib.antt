@@ -3,6 +3,7 @@ pub mod Far
 pub mod Forest
 pub mod Refused
 pub mod Answer
+pub mod OneAnswer
 pub mod Elect
 pub mod Name
 pub mod Text

@@ -9,7 +9,8 @@ use Rattle.topology_stack.specs.Tree.{Tree, IsBusTree, emits}
 use Rattle.topology_stack.specs.Forest.{walks, Forest}
 
 -- A list begins with the groups of a forest, at most so many, and goes on at a place.
-pub record GoesOn (l : List ℕ) (ts : List Tree) (front rest : List ℕ) (at most : ℕ) : Type 0 where
+pub record GoesOn (l : List ℕ) (ts : List Tree) (front rest : List ℕ) (at most : ℕ) :
+    Type 0 where
   pub forest : Forest ts front
   pub parts : l ≡ front ++ rest
   pub more : 0 < length rest
@@ -17,7 +18,8 @@ pub record GoesOn (l : List ℕ) (ts : List Tree) (front rest : List ℕ) (at mo
   pub few : length (walks ts) ≤ most
 
 -- There a whole group of a node follows, whose slots that are down want so many trees.
-pub record GroupNext (l : List ℕ) (ts : List Tree) (n : Node) (at found wanted : ℕ) : Type 0 where
+pub record GroupNext (l : List ℕ) (ts : List Tree) (n : Node) (at found wanted : ℕ) :
+    Type 0 where
   pub front : List ℕ
   pub rest : List ℕ
   pub goes_on : GoesOn l ts front (group n (length (walks ts)) ++ rest) at 62
@@ -30,14 +32,25 @@ abbrev pub Refused : List ℕ → TreeFault → Type 0
 -- the list is empty
 Refused l Empty = l ≡ []
 -- it ends, at its length, where trees wait for a parent
-Refused l (NoRoot at) = (ts : List Tree) × Forest ts l × (0 < length (walks ts)) × (length (walks ts) ≤ 63) × (at ≡ length l)
+Refused l (NoRoot at) =
+    (ts : List Tree) × Forest ts l × (0 < length (walks ts)) × (length (walks ts) ≤ 63)
+    × (at ≡ length l)
 -- it goes on after all that a bus tree emits
-Refused l (AfterRoot at) = (t : Tree) × (rest : List ℕ) × IsBusTree t × (l ≡ emits t ++ rest) × (0 < length rest) × (at ≡ length (emits t))
+Refused l (AfterRoot at) =
+    (t : Tree) × (rest : List ℕ) × IsBusTree t × (l ≡ emits t ++ rest) × (0 < length rest)
+    × (at ≡ length (emits t))
 -- it goes on after the groups of 63 nodes
-Refused l (TooMany at) = (ts : List Tree) × (front rest : List ℕ) × GoesOn l ts front rest at 63 × (length (walks ts) ≡ 63)
+Refused l (TooMany at) =
+    (ts : List Tree) × (front rest : List ℕ) × GoesOn l ts front rest at 63
+    × (length (walks ts) ≡ 63)
 -- it goes on, and no group of the node with the next ID stands there
-Refused l (Group f) = (ts : List Tree) × (front rest : List ℕ) × (at : ℕ) × GoesOn l ts front rest at 62 × GroupRefused at (length (walks ts)) rest f
+Refused l (Group f) =
+    (ts : List Tree) × (front rest : List ℕ) × (at : ℕ) × GoesOn l ts front rest at 62
+    × GroupRefused at (length (walks ts)) rest f
 -- the next node wants more children than there are trees that wait
-Refused l (TooFewChildren at found wanted) = (ts : List Tree) × (n : Node) × GroupNext l ts n at found wanted × (found < wanted)
+Refused l (TooFewChildren at found wanted) =
+    (ts : List Tree) × (n : Node) × GroupNext l ts n at found wanted × (found < wanted)
 -- the next node is a root, and wants fewer children than there are trees that wait
-Refused l (TreesLeft at found wanted) = (ts : List Tree) × (n : Node) × GroupNext l ts n at found wanted × (ups n.ports ≡ 0) × (wanted < found)
+Refused l (TreesLeft at found wanted) =
+    (ts : List Tree) × (n : Node) × GroupNext l ts n at found wanted × (ups n.ports ≡ 0)
+    × (wanted < found)

@@ -18,8 +18,11 @@ truth true = 1
 
 -- `node ID link L gap G speed S contender C power P initiated I ports`
 unfoldable pub attrs_text : ℕ → Attrs → List ℕ
-attrs_text id a = field (codes "node ") id ++ (field (codes " link ") (truth a.link) ++ (field (codes " gap ") a.gap ++ (field (codes " speed ") a.speed
-    ++ (field (codes " contender ") (truth a.contender) ++ (field (codes " power ") a.power ++ (field (codes " initiated ") (truth a.initiated) ++ codes " ports"))))))
+attrs_text id a =
+    field (codes "node ") id ++ (field (codes " link ") (truth a.link)
+    ++ (field (codes " gap ") a.gap ++ (field (codes " speed ") a.speed
+    ++ (field (codes " contender ") (truth a.contender) ++ (field (codes " power ") a.power
+    ++ (field (codes " initiated ") (truth a.initiated) ++ codes " ports"))))))
 
 -- a slot: `-`, `.`, `^` and the parent's ID, or `v` and the child's ID
 abbrev pub sign : PortStatus → Option ℕ → List ℕ
@@ -43,11 +46,13 @@ naming (Some name) = codes " name " ++ name
 unfoldable pub node_line : ℕ → Node → List (Option ℕ) → Option (List ℕ) → List ℕ
 node_line id n es name = attrs_text id n.attrs ++ (signs n.ports es ++ (naming name ++ codes "\n"))
 
--- the lines of nodes, whose IDs are counted from `id`, with the ends of their slots and with names by ID
+-- the lines of nodes, whose IDs are counted from `id`, with the ends of their slots, and with names
+-- by ID
 abbrev pub lines_from : ℕ → List Node → List (List (Option ℕ)) → List (List ℕ) → List ℕ
 lines_from id [] es names = []
 lines_from id (n ∷ ns) [] names = []
-lines_from id (n ∷ ns) (e ∷ es) names = node_line id n e (slice_get names id) ++ lines_from (id + 1) ns es names
+lines_from id (n ∷ ns) (e ∷ es) names =
+    node_line id n e (slice_get names id) ++ lines_from (id + 1) ns es names
 
 abbrev pub irm : Option ℕ → List ℕ
 irm None = codes " irm none"
@@ -55,7 +60,9 @@ irm (Some id) = codes " irm " ++ decimal id
 
 -- `nodes N root R irm M`
 unfoldable pub last_line : ℕ → Option ℕ → List ℕ
-last_line count manager = field (codes "nodes ") count ++ (field (codes " root ") (count - 1) ++ (irm manager ++ codes "\n"))
+last_line count manager =
+    field (codes "nodes ") count
+    ++ (field (codes " root ") (count - 1) ++ (irm manager ++ codes "\n"))
 
 abbrev pub tree_text : Tree → List (List ℕ) → List ℕ
 tree_text t names = lines_from 0 (walk t) (ends t) names ++ last_line (length (walk t)) (elected t)

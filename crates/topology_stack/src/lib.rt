@@ -5,6 +5,7 @@
 //! list of their packets tells the whole tree of the bus.
 #![tactic(auto)]
 
+mod answers;
 mod fault;
 mod links;
 mod manager;
@@ -16,13 +17,14 @@ mod text;
 mod tree;
 mod writing;
 
+pub use answers::{one_answer, one_tree};
 pub use fault::{TreeFault, TreeStop};
 pub use manager::elect;
 pub use name::{Name, NameList};
 pub use number::put_number;
 pub use quad_lanes::OutOfMemory;
 pub use text::tree_text;
-pub use tree::{BusTree, one_answer, one_tree, read_tree};
+pub use tree::{BusTree, read_tree};
 pub use writing::write_tree;
 
 #[cfg(test)]

@@ -13,11 +13,11 @@ use std::marker::Model;
 
 /// IDs, at most 16.
 #[derive(Debug, Drop)]
-pub(crate) struct KidList {
+pub(crate) struct ChildList {
     items: ArrayVec<u8, 16>,
 }
 
-impl Model for KidList {
+impl Model for ChildList {
     ghost use Rattle.std.specs.Prelude.{List, ℕ};
 
     ghost Value = { List ℕ };
@@ -25,9 +25,9 @@ impl Model for KidList {
     ghost view = { λ p. p.items.items };
 }
 
-impl KidList {
+impl ChildList {
     /// A list of these, which are few enough.
-    fn from_slice(ids: &[u8]) -> KidList
+    fn from_slice(ids: &[u8]) -> ChildList
         requires { length ids.now ≤ 16 }
         ensures { result ≡ ids.now }
     {
@@ -35,7 +35,7 @@ impl KidList {
         for id in ids {
             items.push(*id);
         }
-        KidList { items }
+        ChildList { items }
     }
 
     pub(crate) fn as_slice(&self) -> &[u8]
@@ -46,13 +46,13 @@ impl KidList {
 }
 
 /// Gives these nodes their parent.
-fn adopt(parents: &mut [u8], kids: &[u8], me: u8)
-    ensures { parents.new ≡ set_all kids.now me parents.old }
+fn set_parent(parents: &mut [u8], children: &[u8], id: u8)
+    ensures { parents.new ≡ set_all children.now id parents.old }
 {
-    for kid in kids {
-        let kid = *kid as usize;
-        if kid < parents.len() {
-            parents[kid] = me;
+    for child in children {
+        let child = *child as usize;
+        if child < parents.len() {
+            parents[child] = id;
         }
     }
 }
@@ -61,25 +61,26 @@ fn adopt(parents: &mut [u8], kids: &[u8], me: u8)
 #[derive(Debug, Drop)]
 pub(crate) struct Links {
     pub parents: ArrayVec<u8, MAX_NODES>,
-    pub children: Vec<KidList>,
+    pub children: Vec<ChildList>,
 }
 
 /// The links of the nodes of a walk.
 pub(crate) fn links_of(alloc: Global, nodes: &[SelfId]) -> Result<Links, OutOfMemory>
     requires { length nodes.now ≤ 63 }
-    ensures { (t : Tree) → IsBusTree t → nodes.now ≡ walk t → IfOk result (λ l. Stored t nodes.now l.parents.items l.children.items) }
+    ensures { (t : Tree) → IsBusTree t → nodes.now ≡ walk t
+        → IfOk result (λ l. Stored t nodes.now l.parents.items l.children.items) }
 {
     let mut waiting = ArrayVec::<u8, MAX_NODES>::new();
     let mut parents = ArrayVec::<u8, MAX_NODES>::new();
     let mut children = Vec::with_capacity(alloc, nodes.len())?;
     for node in nodes {
-        let me = parents.len() as u8;
+        let id = parents.len() as u8;
         let wanted = count_down(node.ports.as_slice());
         let start = waiting.len().saturating_sub(wanted);
-        adopt(&mut parents, &waiting[start..], me);
-        children.push(KidList::from_slice(&waiting[start..]))?;
+        set_parent(&mut parents, &waiting[start..], id);
+        children.push(ChildList::from_slice(&waiting[start..]))?;
         waiting.truncate(start);
-        waiting.push(me);
+        waiting.push(id);
         parents.push(63);
     }
     Ok(Links { parents, children })

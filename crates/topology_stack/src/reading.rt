@@ -13,7 +13,8 @@ pub(crate) const MAX_NODES: usize = 63;
 
 /// The nodes, by ID, of the bus tree that emits a list.
 pub(crate) fn nodes_of(alloc: Global, quads: &[u32]) -> Result<Vec<SelfId>, TreeStop>
-    ensures found { IfOk result (λ v. (t : Tree) × IsBusTree t × (v.items ≡ walk t) × (emits t ≡ quads.now)) }
+    ensures found { IfOk result (λ v. (t : Tree) × IsBusTree t × (v.items ≡ walk t)
+        × (emits t ≡ quads.now)) }
     ensures refused { IfFault result (λ f. Refused quads.now f) }
 {
     let mut nodes = Vec::with_capacity(alloc, quads.len().min(MAX_NODES))?;

@@ -7,15 +7,15 @@ ghost use Rattle.topology_stack.specs.codings.Stored.{ends_of};
 use self_id::{PortStatus, count_down};
 
 /// The ID at the other end of a slot, below a parent and above as many children as slots are down.
-pub(crate) fn far_end(ports: &[PortStatus], slot: usize, parent: u8, kids: &[u8]) -> Option<u8>
+pub(crate) fn far_end(ports: &[PortStatus], slot: usize, parent: u8, children: &[u8]) -> Option<u8>
     requires inside { slot < length ports.now }
-    requires kids { length kids.now ≡ downs ports.now }
-    ensures end { slice_get (ends_of parent kids.now ports.now) slot ≡ Some result }
+    requires children { length children.now ≡ downs ports.now }
+    ensures end { slice_get (ends_of parent children.now ports.now) slot ≡ Some result }
     ensures none { IsNone result ↔ IsSomeAnd (slice_get ports.now slot) IsLoose }
 {
     match ports[slot] {
         PortStatus::Absent | PortStatus::Unplugged => None,
         PortStatus::Up => Some(parent),
-        PortStatus::Down => Some(kids[count_down(&ports[..slot])]),
+        PortStatus::Down => Some(children[count_down(&ports[..slot])]),
     }
 }

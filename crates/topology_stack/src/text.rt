@@ -4,7 +4,7 @@ ghost use Rattle.topology_stack.specs.Tree.{walk};
 ghost use Rattle.topology_stack.specs.codings.Stored.{ends_of, all_ends};
 ghost use Rattle.topology_stack.specs.Text.{attrs_text, field, truth, signs, naming, node_line, lines_from, irm, last_line, tree_text};
 
-use crate::links::KidList;
+use crate::links::ChildList;
 use crate::manager::elect;
 use crate::name::{Name, NameList};
 use crate::number::put_number;
@@ -57,21 +57,22 @@ fn put_signs(
     out: &mut Vec<u8>,
     ports: &[PortStatus],
     parent: u8,
-    kids: &[u8],
+    children: &[u8],
 ) -> Result<(), OutOfMemory>
-    ensures { OnOk result (out.new.items ≡ out.old.items ++ signs ports.now (ends_of parent kids.now ports.now)) }
+    ensures { OnOk result (out.new.items
+        ≡ out.old.items ++ signs ports.now (ends_of parent children.now ports.now)) }
 {
-    let mut kids = kids;
+    let mut children = children;
     for port in ports {
         match port {
             PortStatus::Absent => out.extend_from_slice(b" -")?,
             PortStatus::Unplugged => out.extend_from_slice(b" .")?,
             PortStatus::Up => put_end(out, b" ^", parent)?,
-            PortStatus::Down => match kids {
+            PortStatus::Down => match children {
                 [] => out.extend_from_slice(b" v")?,
-                [kid, rest @ ..] => {
-                    put_end(out, b" v", *kid)?;
-                    kids = rest;
+                [child, rest @ ..] => {
+                    put_end(out, b" v", *child)?;
+                    children = rest;
                 }
             },
         }
@@ -97,13 +98,15 @@ fn put_line(
     id: u8,
     node: &SelfId,
     parent: u8,
-    kids: &[u8],
+    children: &[u8],
     names: &[Name],
 ) -> Result<(), OutOfMemory>
-    ensures { OnOk result (out.new.items ≡ out.old.items ++ node_line id node.now (ends_of parent kids.now node.now.ports) (slice_get names.now id)) }
+    ensures { OnOk result (out.new.items ≡ out.old.items
+        ++ node_line id node.now (ends_of parent children.now node.now.ports)
+        (slice_get names.now id)) }
 {
     put_attrs(out, id, node.attrs)?;
-    put_signs(out, node.ports.as_slice(), parent, kids)?;
+    put_signs(out, node.ports.as_slice(), parent, children)?;
     put_name(out, names, id as usize)?;
     out.push(b'\n')?;
     Ok(())
@@ -114,13 +117,14 @@ fn put_lines(
     out: &mut Vec<u8>,
     nodes: &[SelfId],
     parents: &[u8],
-    children: &[KidList],
+    children: &[ChildList],
     names: &[Name],
 ) -> Result<(), OutOfMemory>
     requires few { length nodes.now ≤ 63 }
     requires parents { length parents.now ≡ length nodes.now }
     requires children { length children.now ≡ length nodes.now }
-    ensures { OnOk result (out.new.items ≡ out.old.items ++ lines_from 0 nodes.now (all_ends nodes.now parents.now children.now) names.now) }
+    ensures { OnOk result (out.new.items ≡ out.old.items
+        ++ lines_from 0 nodes.now (all_ends nodes.now parents.now children.now) names.now) }
 {
     for (i, node) in nodes.iter().enumerate() {
         put_line(

@@ -8,7 +8,7 @@ ghost use Rattle.topology_stack.specs.Answer.{IfFault, UnlessMemory};
 ghost use Rattle.topology_stack.specs.declared.fault.TreeFault.{TreeFault};
 
 use crate::fault::TreeStop;
-use crate::links::{KidList, links_of};
+use crate::links::{ChildList, links_of};
 use crate::reading::{MAX_NODES, nodes_of};
 use crate::slots::far_end;
 use arrayvec::ArrayVec;
@@ -23,7 +23,7 @@ use std::marker::Model;
 pub struct BusTree {
     nodes: Vec<SelfId>,
     parents: ArrayVec<u8, MAX_NODES>,
-    children: Vec<KidList>,
+    children: Vec<ChildList>,
 }
 
 impl Model for BusTree {
@@ -37,7 +37,8 @@ impl Model for BusTree {
 
     ghost view = { λ b. tree_of b.nodes.items };
 
-    ghost invariant = { λ b. Stored (tree_of b.nodes.items) b.nodes.items b.parents.items b.children.items };
+    ghost invariant = { λ b. Stored (tree_of b.nodes.items) b.nodes.items b.parents.items
+        b.children.items };
 }
 
 /// The bus tree whose nodes emit `quads`, the first quadlets of the self-ID packets of a bus in the
@@ -50,7 +51,8 @@ pub fn read_tree(alloc: Global, quads: &[u32]) -> Result<BusTree, TreeStop>
     // A tree that emits the list is answered, unless memory ran out.
     ensures only { (t : Tree) → IsBusTree t → emits t ≡ quads.now → UnlessMemory result (Ok t) }
     // The list's fault is answered, unless memory ran out.
-    ensures exact { (f : TreeFault) → Refused quads.now f → UnlessMemory result (Err (TreeStop.Fault f)) }
+    ensures exact { (f : TreeFault) → Refused quads.now f
+        → UnlessMemory result (Err (TreeStop.Fault f)) }
 {
     let nodes = nodes_of(alloc, quads)?;
     let links = links_of(alloc, &nodes)?;
@@ -60,17 +62,6 @@ pub fn read_tree(alloc: Global, quads: &[u32]) -> Result<BusTree, TreeStop>
         children: links.children,
     })
 }
-
-/// No list has two trees.
-pub fn one_tree()
-    ensures { (t u : Tree) → IsBusTree t → IsBusTree u → emits t ≡ emits u → t ≡ u }
-{}
-
-/// No list that a bus tree emits has a fault, and no list has two.
-pub fn one_answer()
-    ensures tree { (t : Tree) (f : TreeFault) → IsBusTree t → Refused (emits t) f → ⊥ }
-    ensures fault { (l : List ℕ) (f g : TreeFault) → Refused l f → Refused l g → f ≡ g }
-{}
 
 impl BusTree {
     /// The number of nodes, 1 to 63.
@@ -135,7 +126,7 @@ impl BusTree {
     }
 
     /// The IDs of each node's children.
-    pub(crate) fn children(&self) -> &[KidList]
+    pub(crate) fn children(&self) -> &[ChildList]
         ensures value { result.now ≡ children_from 0 self.now }
         ensures len { length result.now ≡ length (walk self.now) }
     {

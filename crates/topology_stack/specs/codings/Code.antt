@@ -1,6 +1,7 @@
 -- A tree is stored as its walk, from which it is built again. No public contract cites this file.
 use Rattle.std.specs.Prelude.{◌≡◌, List, [], ◌∷◌, ◌++◌, false, refl}
 use Rattle.std.specs.Coded.{Coded, code_by, coded_list}
+use Rattle.self_id.specs.declared.node.Attrs.{Attrs}
 use Rattle.self_id.specs.declared.node.PortStatus.{PortStatus}
 use Rattle.self_id.specs.declared.node.PortStatus.TheVariants.{Absent, Unplugged, Up, Down}
 use Rattle.self_id.specs.Node.{Node}
@@ -30,9 +31,20 @@ abbrev pub stack_from : List Tree → List Node → List Tree
 stack_from ts [] = ts
 stack_from ts (n ∷ ns) = stack_from (joined n ts) ns
 
+abbrev no_attrs : Attrs
+no_attrs = record {
+  link = false;
+  gap = 0;
+  speed = 0;
+  delay = 0;
+  contender = false;
+  power = 0;
+  initiated = false;
+}
+
 -- no tree has no node: this one stands for a list that is no walk
 abbrev pub nothing : Tree
-nothing = branch (record { attrs = record { link = false; gap = 0; speed = 0; delay = 0; contender = false; power = 0; initiated = false }; kept_a = 0; kept_b = 0 }) no_more
+nothing = branch (record { attrs = no_attrs; kept_a = 0; kept_b = 0 }) no_more
 
 abbrev pub top : List Tree → Tree
 top [] = nothing
@@ -49,29 +61,37 @@ with_parts (unplugged s) ts = with_parts s ts
 with_parts (up s) ts = with_parts s ts
 with_parts (down t s) ts = with_parts s (t ∷ ts)
 
-pub build-with_parts : (s : Slots) (ts : List Tree) → build (statuses s) (with_parts s ts) ≡ (s, ts)
+pub build-with_parts : (s : Slots) (ts : List Tree) →
+    build (statuses s) (with_parts s ts) ≡ (s, ts)
 build-with_parts no_more ts = refl
 build-with_parts (absent s) ts = rw (build-with_parts s ts) refl
 build-with_parts (unplugged s) ts = rw (build-with_parts s ts) refl
 build-with_parts (up s) ts = rw (build-with_parts s ts) refl
 build-with_parts (down t s) ts = rw (build-with_parts s (t ∷ ts)) refl
 
-pub stack_from-append : (ts : List Tree) (ms ns : List Node) → stack_from ts (ms ++ ns) ≡ stack_from (stack_from ts ms) ns
+pub stack_from-append : (ts : List Tree) (ms ns : List Node) →
+    stack_from ts (ms ++ ns) ≡ stack_from (stack_from ts ms) ns
 stack_from-append ts [] ns = refl
 stack_from-append ts (m ∷ ms) ns = stack_from-append (joined m ts) ms ns
 
 mutual
   pub stack_from-walk : (t : Tree) (ts : List Tree) → stack_from ts (walk t) ≡ t ∷ ts
   stack_from-walk (branch a s) ts =
-      rw (stack_from-append ts (walk_below s) (node_of a s ∷ []), stack_from-walk_below s ts, build-with_parts s ts) refl
+      rw (
+        stack_from-append ts (walk_below s) (node_of a s ∷ []),
+        stack_from-walk_below s ts,
+        build-with_parts s ts,
+      ) refl
 
-  pub stack_from-walk_below : (s : Slots) (ts : List Tree) → stack_from ts (walk_below s) ≡ with_parts s ts
+  pub stack_from-walk_below : (s : Slots) (ts : List Tree) →
+      stack_from ts (walk_below s) ≡ with_parts s ts
   stack_from-walk_below no_more ts = refl
   stack_from-walk_below (absent s) ts = stack_from-walk_below s ts
   stack_from-walk_below (unplugged s) ts = stack_from-walk_below s ts
   stack_from-walk_below (up s) ts = stack_from-walk_below s ts
   stack_from-walk_below (down t s) ts =
-      rw (stack_from-append ts (walk t) (walk_below s), stack_from-walk t ts) (stack_from-walk_below s (t ∷ ts))
+      rw (stack_from-append ts (walk t) (walk_below s), stack_from-walk t ts)
+      (stack_from-walk_below s (t ∷ ts))
 
 -- a tree is the tree of its walk
 pub tree_of-walk : (t : Tree) → tree_of (walk t) ≡ t

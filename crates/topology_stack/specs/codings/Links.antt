@@ -2,5 +2,5 @@
 use Rattle.std.specs.Prelude.{ℕ, List, [], ◌∷◌, slice_set}
 
 abbrev pub set_all : List ℕ → ℕ → List ℕ → List ℕ
-set_all [] me ps = ps
-set_all (k ∷ ks) me ps = set_all ks me (slice_set ps k me)
+set_all [] id ps = ps
+set_all (k ∷ ks) id ps = set_all ks id (slice_set ps k id)

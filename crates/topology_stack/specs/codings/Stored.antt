@@ -9,14 +9,16 @@ use Rattle.topology_stack.specs.Tree.{Tree, branch, Slots, no_more, absent, unpl
 -- the parents' IDs in a tree whose IDs begin at `from`, below a parent
 abbrev mutual
   pub parents_from : ℕ → ℕ → Tree → List ℕ
-  parents_from from parent (branch a s) = parents_below from (from + length (walk_below s)) s ++ parent ∷ []
+  parents_from from parent (branch a s) =
+      parents_below from (from + length (walk_below s)) s ++ parent ∷ []
 
   pub parents_below : ℕ → ℕ → Slots → List ℕ
-  parents_below from me no_more = []
-  parents_below from me (absent s) = parents_below from me s
-  parents_below from me (unplugged s) = parents_below from me s
-  parents_below from me (up s) = parents_below from me s
-  parents_below from me (down t s) = parents_from from me t ++ parents_below (from + length (walk t)) me s
+  parents_below from id no_more = []
+  parents_below from id (absent s) = parents_below from id s
+  parents_below from id (unplugged s) = parents_below from id s
+  parents_below from id (up s) = parents_below from id s
+  parents_below from id (down t s) =
+      parents_from from id t ++ parents_below (from + length (walk t)) id s
 
 -- a node's children, by slot: each has the last ID of its tree
 abbrev pub child_ids : ℕ → Slots → List ℕ
@@ -39,7 +41,8 @@ abbrev mutual
   children_below from (down t s) = children_from from t ++ children_below (from + length (walk t)) s
 
 -- 63, which names no node, stands for the root's parent
-pub record Stored (t : Tree) (nodes : List Node) (parents : List ℕ) (children : List (List ℕ)) : Type 0 where
+pub record Stored (t : Tree) (nodes : List Node) (parents : List ℕ)
+    (children : List (List ℕ)) : Type 0 where
   pub bus : IsBusTree t
   pub walk_is : nodes ≡ walk t
   pub above : parents ≡ parents_from 0 63 t
@@ -47,12 +50,12 @@ pub record Stored (t : Tree) (nodes : List Node) (parents : List ℕ) (children 
 
 -- the ends of slots with these statuses, below a parent and above children
 abbrev pub ends_of : ℕ → List ℕ → List PortStatus → List (Option ℕ)
-ends_of parent kids [] = []
-ends_of parent kids (Absent ∷ ps) = None ∷ ends_of parent kids ps
-ends_of parent kids (Unplugged ∷ ps) = None ∷ ends_of parent kids ps
-ends_of parent kids (Up ∷ ps) = Some parent ∷ ends_of parent kids ps
+ends_of parent children [] = []
+ends_of parent children (Absent ∷ ps) = None ∷ ends_of parent children ps
+ends_of parent children (Unplugged ∷ ps) = None ∷ ends_of parent children ps
+ends_of parent children (Up ∷ ps) = Some parent ∷ ends_of parent children ps
 ends_of parent [] (Down ∷ ps) = None ∷ ends_of parent [] ps
-ends_of parent (k ∷ kids) (Down ∷ ps) = Some k ∷ ends_of parent kids ps
+ends_of parent (k ∷ children) (Down ∷ ps) = Some k ∷ ends_of parent children ps
 
 -- the same for each node
 abbrev pub all_ends : List Node → List ℕ → List (List ℕ) → List (List (Option ℕ))

@@ -1,8 +1,13 @@
-use Rattle.bus_cli.proofs.OneOutcome.{HasOneReading, outcomes_agree}
+use Rattle.bus_cli.proofs.OneOutcome.{HasOneReading, some_outcome, outcomes_agree}
 use Rattle.bus_cli.proofs.OneText.{answers_agree}
 use Rattle.bus_cli.proofs.laws.one_outcome.Goals as goal
 
 pub returns : goal.returns
 returns c =
-    let one : HasOneReading = record { tree = c.one_reading.ensures.tree; apart = c.one_reading.ensures.apart; fault = c.one_reading.ensures.fault } in
-    record { outcome = outcomes_agree one; answer = answers_agree one }
+    let one : HasOneReading = record {
+      some = c.one_reading.ensures.some;
+      tree = c.one_reading.ensures.tree;
+      apart = c.one_reading.ensures.apart;
+      fault = c.one_reading.ensures.fault;
+    } in
+    record { some = some_outcome one; outcome = outcomes_agree one; answer = answers_agree one }

@@ -1,4 +1,4 @@
-use Rattle.bus_cli.proofs.OneReading.{ReadsBack, OneAnswer, one_tree, apart, one_fault}
+use Rattle.bus_cli.proofs.OneReading.{ReadsBack, OneAnswer, some_reading, one_tree, apart, one_fault}
 use Rattle.bus_cli.proofs.laws.one_reading.Goals as goal
 
 pub returns : goal.returns
@@ -7,10 +7,17 @@ returns c =
       whole = c.capture_is_read_back.ensures.whole;
       good = c.capture_is_read_back.ensures.good;
       same = c.capture_is_read_back.ensures.same;
+      all = c.good_pairs_are_a_capture.ensures;
     } in
     let lists : OneAnswer = record {
+      some = c.one_answer.ensures.some;
       trees = c.one_tree.ensures;
       tree = c.one_answer.ensures.tree;
       fault = c.one_answer.ensures.fault;
     } in
-    record { tree = one_tree back lists; apart = apart back lists; fault = one_fault back lists }
+    record {
+      some = some_reading back lists;
+      tree = one_tree back lists;
+      apart = apart back lists;
+      fault = one_fault back lists;
+    }

@@ -9,27 +9,27 @@ pub returns-in-Absent : goal.returns-in-Absent
 returns-in-Absent c = elim c.in-Absent.is [
   | inl e ↦
       let here = status_at c.args.ports.now c.args.slot Absent _ c.requires.inside e in
-      record { end = end_at c.args.ports.now c.args.parent c.args.kids.now c.args.slot Absent here; none = (λ _. loose c.args.ports.now c.args.slot Absent here (inl refl), λ _. refl) }
+      record { end = end_at c.args.ports.now c.args.parent c.args.children.now c.args.slot Absent here; none = (λ _. loose c.args.ports.now c.args.slot Absent here (inl refl), λ _. refl) }
   | inr e ↦
       let here = status_at c.args.ports.now c.args.slot Unplugged _ c.requires.inside e in
-      record { end = end_at c.args.ports.now c.args.parent c.args.kids.now c.args.slot Unplugged here; none = (λ _. loose c.args.ports.now c.args.slot Unplugged here (inr refl), λ _. refl) }
+      record { end = end_at c.args.ports.now c.args.parent c.args.children.now c.args.slot Unplugged here; none = (λ _. loose c.args.ports.now c.args.slot Unplugged here (inr refl), λ _. refl) }
 ]
 
 pub returns-in-Up : goal.returns-in-Up
 returns-in-Up c =
     let here = status_at c.args.ports.now c.args.slot Up _ c.requires.inside c.in-Up.is in
-    record { end = end_at c.args.ports.now c.args.parent c.args.kids.now c.args.slot Up here; none = (λ (e : true ≡ false). absurd cc, λ h. absurd (up_is_tied c.args.ports.now c.args.slot here h)) }
+    record { end = end_at c.args.ports.now c.args.parent c.args.children.now c.args.slot Up here; none = (λ (e : true ≡ false). absurd cc, λ h. absurd (up_is_tied c.args.ports.now c.args.slot here h)) }
 
-pub bounds-kids-count_down : goal.bounds-kids-count_down
-bounds-kids-count_down c =
+pub bounds-children-count_down : goal.bounds-children-count_down
+bounds-children-count_down c =
     let here = status_at c.args.ports.now c.args.slot Down _ c.requires.inside c.in-Down.is in
-    omega (arith, c.requires.kids, c.count_down.ensures.value, fewer_before c.args.ports.now c.args.slot here)
+    omega (arith, c.requires.children, c.count_down.ensures.value, fewer_before c.args.ports.now c.args.slot here)
 
 pub returns-in-Down : goal.returns-in-Down
 returns-in-Down c =
     let here = status_at c.args.ports.now c.args.slot Down _ c.requires.inside c.in-Down.is in
-    let small : c.count_down.result < length c.args.kids.now = omega (arith, c.requires.kids, c.count_down.ensures.value, fewer_before c.args.ports.now c.args.slot here) in
+    let small : c.count_down.result < length c.args.children.now = omega (arith, c.requires.children, c.count_down.ensures.value, fewer_before c.args.ports.now c.args.slot here) in
     record {
-      end = end_at c.args.ports.now c.args.parent c.args.kids.now c.args.slot Down here ∙ ap (λ (o : Option ℕ). Some o) (ap (slice_get c.args.kids.now) (sym c.count_down.ensures.value) ∙ slice_get-get_or c.args.kids.now c.count_down.result 0 small);
+      end = end_at c.args.ports.now c.args.parent c.args.children.now c.args.slot Down here ∙ ap (λ (o : Option ℕ). Some o) (ap (slice_get c.args.children.now) (sym c.count_down.ensures.value) ∙ slice_get-get_or c.args.children.now c.count_down.result 0 small);
       none = (λ (e : true ≡ false). absurd cc, λ h. absurd (down_is_tied c.args.ports.now c.args.slot here h));
     }

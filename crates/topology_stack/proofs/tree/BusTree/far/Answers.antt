@@ -20,14 +20,14 @@ far_end-requires-clause-inside c =
     let short = rw same at c.requires.slot in
     omega (arith, short, ap length c.as_slice-ports.ensures.value, ap (λ (n : Node). length n.ports) c.behind-self.view_is)
 
-pub far_end-requires-clause-kids : goal.far_end-requires-clause-kids
-far_end-requires-clause-kids c =
+pub far_end-requires-clause-children : goal.far_end-requires-clause-children
+far_end-requires-clause-children c =
     let small : c.args.id < length c.self.inside.nodes.items = omega (arith, c.requires.id, ap length c.self.invariant.walk_is, ap (λ (t : Tree). length (walk t)) c.self.view_is) in
     let children = length-children _ _ _ _ c.self.invariant in
     let node = slice_get_read c.self.inside.nodes.items (length c.self.inside.nodes.items) c.args.id c.index.result.now refl small c.index.ensures in
-    let kids = slice_get_read c.self.inside.children.items (length c.self.inside.nodes.items) c.args.id c.index-2.result.now (sym children) small c.index-2.ensures in
+    let children = slice_get_read c.self.inside.children.items (length c.self.inside.nodes.items) c.args.id c.index-2.result.now (sym children) small c.index-2.ensures in
     let ports = c.as_slice-ports.ensures.value ∙ ap (λ (n : Node). n.ports) c.behind-self.view_is in
-    ap length c.as_slice.ensures ∙ kids_enough _ _ _ _ c.args.id c.index.result.now c.index-2.result.now c.self.invariant node kids ∙ ap downs (sym ports)
+    ap length c.as_slice.ensures ∙ kids_enough _ _ _ _ c.args.id c.index.result.now c.index-2.result.now c.self.invariant node children ∙ ap downs (sym ports)
 
 pub returns-clause-end : goal.returns-clause-end
 returns-clause-end c =
@@ -36,9 +36,9 @@ returns-clause-end c =
     let children = length-children _ _ _ _ c.self.invariant in
     let node = slice_get_read c.self.inside.nodes.items (length c.self.inside.nodes.items) c.args.id c.index.result.now refl small c.index.ensures in
     let parent : slice_get c.self.inside.parents.items c.args.id ≡ Some (get_or c.deref.result.now c.args.id 0) = rw c.deref.ensures.0 (slice_get-get_or c.self.inside.parents.items c.args.id 0 (omega (arith, parents))) in
-    let kids = slice_get_read c.self.inside.children.items (length c.self.inside.nodes.items) c.args.id c.index-2.result.now (sym children) small c.index-2.ensures in
+    let children = slice_get_read c.self.inside.children.items (length c.self.inside.nodes.items) c.args.id c.index-2.result.now (sym children) small c.index-2.ensures in
     let ports = c.as_slice-ports.ensures.value ∙ ap (λ (n : Node). n.ports) c.behind-self.view_is in
-    rw (← c.self.view_is) (far_is _ _ _ _ c.args.id c.args.slot c.index.result.now (get_or c.deref.result.now c.args.id 0) c.index-2.result.now c.far_end.result c.self.invariant node parent kids
+    rw (← c.self.view_is) (far_is _ _ _ _ c.args.id c.args.slot c.index.result.now (get_or c.deref.result.now c.args.id 0) c.index-2.result.now c.far_end.result c.self.invariant node parent children
     (rw (c.as_slice.ensures, ports) at c.far_end.ensures.end))
 
 pub returns-clause-none : goal.returns-clause-none

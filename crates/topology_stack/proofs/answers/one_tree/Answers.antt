@@ -1,5 +1,5 @@
 use Rattle.topology_stack.proofs.Laws.{one_tree}
-use Rattle.topology_stack.proofs.tree.one_tree.Goals as goal
+use Rattle.topology_stack.proofs.answers.one_tree.Goals as goal
 
 pub returns : goal.returns
 returns c = one_tree

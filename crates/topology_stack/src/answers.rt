@@ -1,0 +1,14 @@
+//! Laws of lists and trees.
+ghost use Rattle.topology_stack.specs.OneAnswer.{EachListHasATreeOrAFault, NoListHasTwoTrees, NoListHasATreeAndAFault, NoListHasTwoFaults};
+
+/// A law: no list has two trees.
+pub fn one_tree()
+    ensures { NoListHasTwoTrees }
+{}
+
+/// A law: each list has a tree or a fault, no list has both, and no list has two faults.
+pub fn one_answer()
+    ensures some { EachListHasATreeOrAFault }
+    ensures tree { NoListHasATreeAndAFault }
+    ensures fault { NoListHasTwoFaults }
+{}
