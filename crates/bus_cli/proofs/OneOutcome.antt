@@ -1,7 +1,7 @@
 -- Words and bytes have one outcome.
-use Rattle.std.proofs.Common.{◌⊎◌, inl, inr, ◌≢◌, Bool, true, false, eqb, ◌≡◌, ℕ, List, [], ◌∷◌, refl, sym, ap, ◌∙◌, arith}
+use Rattle.std.proofs.Common.{cond, subst, Option, Some, None, ◌⊎◌, inl, inr, ◌≢◌, Bool, true, false, eqb, ◌≡◌, ℕ, List, [], ◌∷◌, refl, sym, ap, ◌∙◌, arith}
 use Rattle.std.specs.Prelude.{String, map, string_bytes}
-use Rattle.std.proofs.lemmas.Bool.{eqb-true, eqb-false}
+use Rattle.std.proofs.lemmas.Bool.{eqb-true}
 use Rattle.std.specs.Global.{Global}
 use Rattle.topology_stack.specs.Tree.{Tree}
 use Rattle.bus_cli.specs.declared.form.Form.{Form}
@@ -20,23 +20,60 @@ pub record HasOneReading : Type 0 where
   pub apart : NoCaptureHasATreeAndAFault
   pub fault : NoCaptureHasTwoFaults
 
-abbrev first_byte : List (List ℕ) → ℕ
-first_byte [] = 0
-first_byte ([] ∷ ws) = 0
-first_byte ((c ∷ cs) ∷ ws) = c
+-- ---- the form of a word, found by trying them all
 
-differ : (a b : ℕ) → a ≡ b → a ≡ 114 → b ≡ 109 → ⊥
-differ a b e x y = absurd (omega arith)
+same : List ℕ → List ℕ → Bool
+same [] [] = true
+same [] (y ∷ ys) = false
+same (x ∷ xs) [] = false
+same (x ∷ xs) (y ∷ ys) = cond (eqb x y) (same xs ys) false
 
-apart : word_of Read ∷ [] ≡ word_of Maps ∷ [] → ⊥
-apart e = let bytes : first_byte (word_of Read ∷ []) ≡ first_byte (word_of Maps ∷ []) = ap first_byte e in differ _ _ bytes refl refl
+abbrev form_of : List ℕ → Option Form
+form_of word =
+    cond (same word (word_of Read)) (Some Read)
+    (cond (same word (word_of Maps)) (Some Maps) None)
+
+both_true : (x y : Bool) → cond x y false ≡ true → (x ≡ true) × (y ≡ true)
+both_true true y e = (refl, e)
+both_true false y e = absurd cc
+
+same-true : (xs ys : List ℕ) → same xs ys ≡ true → xs ≡ ys
+unfolding same
+same-true [] [] e = refl
+same-true [] (y ∷ ys) e = absurd cc
+same-true (x ∷ xs) [] e = absurd cc
+same-true (x ∷ xs) (y ∷ ys) e =
+    let p = both_true _ _ e in
+    let head : x ≡ y = eqb-true x y p.0 in
+    rw (head, same-true xs ys p.1) refl
+
+form_of-word_of : (form : Form) → form_of (word_of form) ≡ Some form
+unfolding same
+form_of-word_of Read = refl
+form_of-word_of Maps = refl
+
+-- the first form whose word it is, or one of the rest
+tried : (test : Bool) (word : List ℕ) (first form : Form) (rest : Option Form) → (test ≡ true → word ≡ word_of first) → (rest ≡ Some form → word ≡ word_of form) → cond test (Some first) rest ≡ Some form →
+    word ≡ word_of form
+tried true word first form rest is go e = let f : first ≡ form = cc in subst (λ (g : Form). word ≡ word_of g) f (is refl)
+tried false word first form rest is go e = go e
+
+is_word_of : (word : List ℕ) (form : Form) → form_of word ≡ Some form → word ≡ word_of form
+is_word_of word form =
+    tried _ word Read form _ (same-true word (word_of Read))
+    (tried _ word Maps form _ (same-true word (word_of Maps)) (λ e. absurd cc))
+
+same_form : (a b : Form) (x y : Option Form) → x ≡ Some a → y ≡ Some b → x ≡ y → a ≡ b
+same_form a b x y e f g = cc
+
+first_word : List (List ℕ) → List ℕ
+first_word [] = []
+first_word (w ∷ ws) = w
 
 -- no words are those of two forms
 one_form : (a b : Form) → word_of a ∷ [] ≡ word_of b ∷ [] → a ≡ b
-one_form Read Read e = refl
-one_form Maps Maps e = refl
-one_form Read Maps e = absurd (apart e)
-one_form Maps Read e = absurd (apart (sym e))
+unfolding first_word
+one_form a b e = same_form a b _ _ (form_of-word_of a) (form_of-word_of b) (ap (λ (ws : List (List ℕ)). form_of (first_word ws)) e)
 
 pub outcomes_agree : HasOneReading → NoInputHasTwoOutcomes
 outcomes_agree one words bytes (shown a t) (shown b u) (asks, spells) (asks', spells') =
@@ -54,38 +91,20 @@ outcomes_agree one words bytes no_form no_form none none' = refl
 
 -- ---- words are those of a form, or of none
 
-next_byte : (a b : ℕ) (xs ys : List ℕ) (test : Bool) → eqb a b ≡ test → (xs ≡ ys) ⊎ (xs ≢ ys) → (a ∷ xs ≡ b ∷ ys) ⊎ (a ∷ xs ≢ b ∷ ys)
-next_byte a b xs ys true e (inl same) = inl (let x : a ≡ b = eqb-true a b e in rw (x, same) refl)
-next_byte a b xs ys true e (inr differ) = inr (λ same. differ cc)
-next_byte a b xs ys false e rest = inr (λ same. eqb-false a b e cc)
+abbrev AreForm : List (List ℕ) → Type 0
+AreForm words = (form : Form) × (words ≡ word_of form ∷ [])
 
--- texts are the same or not
-same_text : (xs ys : List ℕ) → (xs ≡ ys) ⊎ (xs ≢ ys)
-same_text [] [] = inl refl
-same_text [] (b ∷ ys) = inr (λ e. cc)
-same_text (a ∷ xs) [] = inr (λ e. cc)
-same_text (a ∷ xs) (b ∷ ys) = next_byte a b xs ys (eqb a b) refl (same_text xs ys)
+by_form : (word : List ℕ) (found : Option Form) → form_of word ≡ found → AreForm (word ∷ []) ⊎ (AreForm (word ∷ []) → ⊥)
+unfolding first_word
+by_form word (Some form) e = inl (form, ap (λ (w : List ℕ). w ∷ []) (is_word_of word form e))
+by_form word None e = inr (λ is.
+    let same_word : form_of word ≡ form_of (word_of is.0) = ap (λ (ws : List (List ℕ)). form_of (first_word ws)) is.1 in
+    let x : None ≡ Some is.0 = sym e ∙ same_word ∙ form_of-word_of is.0 in cc)
 
--- a word is that of a form or of none
-abbrev IsWord : List ℕ → Type 0
-IsWord word = (form : Form) × (word ≡ word_of form)
-
-no_word : (word : List ℕ) → word ≢ word_of Read → word ≢ word_of Maps → (form : Form) → word ≡ word_of form → ⊥
-no_word word not_read not_maps Read e = not_read e
-no_word word not_read not_maps Maps e = not_maps e
-
-by_word : (word : List ℕ) → (word ≡ word_of Read) ⊎ (word ≢ word_of Read) → (word ≡ word_of Maps) ⊎ (word ≢ word_of Maps) → IsWord word ⊎ (IsWord word → ⊥)
-by_word word (inl is) maps = inl (Read, is)
-by_word word (inr not_read) (inl is) = inl (Maps, is)
-by_word word (inr not_read) (inr not_maps) = inr (λ is. no_word word not_read not_maps is.0 is.1)
-
-one_word : (words : List (List ℕ)) → ((form : Form) × (words ≡ word_of form ∷ [])) ⊎ (((form : Form) × (words ≡ word_of form ∷ [])) → ⊥)
-one_word [] = inr (λ is. let e = is.1 in cc)
-one_word (a ∷ b ∷ ws) = inr (λ is. let e = is.1 in cc)
-one_word (w ∷ []) = elim (by_word w (same_text w (word_of Read)) (same_text w (word_of Maps))) [
-  | inl is ↦ inl (is.0, ap (λ (v : List ℕ). v ∷ []) is.1)
-  | inr none ↦ inr (λ is. none (is.0, let e : w ∷ [] ≡ word_of is.0 ∷ [] = is.1 in cc))
-]
+are_form : (words : List (List ℕ)) → AreForm words ⊎ (AreForm words → ⊥)
+are_form [] = inr (λ is. let e = is.1 in cc)
+are_form (a ∷ b ∷ ws) = inr (λ is. let e = is.1 in cc)
+are_form (w ∷ []) = by_form w (form_of w) refl
 
 outcome_of : (words : List (String Global)) (bytes : List ℕ) → IsForm words ⊎ (IsForm words → ⊥) → ((t : Tree) × Spells bytes t) ⊎ ((f : CaptureFault) × CaptureRefused bytes f) → (o : Outcome) × HasOutcome words bytes o
 outcome_of words bytes (inl (form, asks)) (inl (t, spells)) = (shown form t, (asks, spells))
@@ -93,4 +112,4 @@ outcome_of words bytes (inl is_form) (inr (f, fault)) = (refused f, (is_form, fa
 outcome_of words bytes (inr none) reading = (no_form, none)
 
 pub some_outcome : HasOneReading → EachInputHasAnOutcome
-some_outcome one words bytes fit = outcome_of words bytes (one_word (map string_bytes words)) (one.some bytes fit)
+some_outcome one words bytes fit = outcome_of words bytes (are_form (map string_bytes words)) (one.some bytes fit)

@@ -10,13 +10,7 @@ fn failing_calls(rt: HostRuntime) -> Result<(), Fail> {
     let alloc = rt.alloc();
     let words = words(alloc, &["read"])?;
     for (name, failing_read, failing_write, status, text) in [
-        (
-            "the first read fails",
-            0u32,
-            99u32,
-            3,
-            b"".as_slice(),
-        ),
+        ("the first read fails", 0u32, 99u32, 3, b"".as_slice()),
         ("the second read fails", 1, 99, 3, b""),
         ("the first write fails", 99, 0, 4, b""),
         ("the second write fails", 99, 1, 4, b"node 0 lin"),
