@@ -5,6 +5,7 @@ pub mod turns
 pub mod coupling
 pub mod levels
 pub mod worked
+pub mod PhaseFacts
 pub mod Options
 pub mod StaysReached
 pub mod StaysLawful

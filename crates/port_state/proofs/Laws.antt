@@ -6,4 +6,4 @@ pub use Rattle.port_state.proofs.Cables.{tick-cables, signal-cables, enter-cable
 pub use Rattle.port_state.proofs.Pointwise.{on_every-port, on_others-port, notices-port, packets-port, map-port, changed-port, sent_on-append}
 pub use Rattle.port_state.proofs.CoinPlaces.{coin_at-given}
 pub use Rattle.port_state.proofs.Shown.{shown-is_node}
-pub use Rattle.port_state.proofs.Zeros.{node_count-own_group}
+pub use Rattle.port_state.proofs.Shown.{node_count-own_group}

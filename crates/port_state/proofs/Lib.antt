@@ -8,5 +8,4 @@ pub mod Sent
 pub mod Shown
 pub mod Sound
 pub mod Stays
-pub mod Zeros
 mod Worked

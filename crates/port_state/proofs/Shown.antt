@@ -8,7 +8,9 @@ use Rattle.self_id.specs.declared.node.PortStatus.{PortStatus}
 use Rattle.self_id.specs.declared.node.PortStatus.TheVariants.{Absent, Unplugged, Up, Down}
 use Rattle.self_id.specs.Node.{ups, is_width, kept_a_bits, kept_b_bits}
 use Rattle.port_state.specs.declared.ports.PortView.{PortView}
-use Rattle.port_state.specs.Group.{slot_count, status, statuses_from, shown_node, NodesAreShown}
+use Rattle.self_id.specs.Slots.{slot_count}
+use Rattle.self_id.proofs.Zeros.{node_count-group}
+use Rattle.port_state.specs.Group.{status, statuses_from, shown_node, NodesAreShown, GroupsHaveOneZero}
 
 length-statuses_from :
     (k : ℕ) (parent : Option ℕ) (ports : List PortView) →
@@ -87,3 +89,7 @@ shown-is_node x b =
       };
       one_parent = omega (arith, ups-append (statuses_from 0 x.view.parent x.view.ports) absent, ups-absent (slot_count x.ports - x.ports), few_up x.view.parent x.view.ports);
     }
+
+-- its packets with an ID have one packet zero
+pub node_count-own_group : GroupsHaveOneZero
+node_count-own_group x id b h = node_count-group (shown_node x) id (shown-is_node x b).form (omega arith)

@@ -2,7 +2,7 @@
 use Rattle.std.proofs.Common.{◌≡◌, ℕ, zero, suc, ◌+◌, ◌≤◌, ◌<◌, Bool, true, false, not, ◌&&◌, ◌==◌, List, [], ◌∷◌, ◌++◌, length, map, Option, Some, None, replicate, refl, ap, subst, sym, ◌∙◌, arith, length-append, if◌then◌else◌}
 use Rattle.std.specs.Prelude.{nat_le, nat_lt, IsSome}
 use Rattle.std.specs.Option.{ForSome}
-use Rattle.std.proofs.lemmas.Bool.{leb-true, ltb-true}
+use Rattle.std.proofs.lemmas.Bool.{leb-true, ltb-true, and_parts}
 use Rattle.std.proofs.lemmas.List.{length-map, length-replicate}
 use Rattle.port_state.specs.declared.signal.Level.{Level}
 use Rattle.port_state.specs.declared.signal.Level.TheVariants as level
@@ -22,7 +22,8 @@ use Rattle.port_state.specs.Heard as heard
 use Rattle.port_state.specs.Heard.{with_level, with_packet, hears, on_signal}
 use Rattle.port_state.specs.Resetting as reset
 use Rattle.port_state.specs.TreeIdentify as tree
-use Rattle.port_state.specs.Group.{own_group, node_count, shown_node}
+use Rattle.self_id.specs.Group.{node_count}
+use Rattle.port_state.specs.Group.{own_group, shown_node}
 use Rattle.self_id.proofs.Laws.{length-group}
 use Rattle.port_state.proofs.Shown.{shown-is_node}
 use Rattle.port_state.specs.SelfIdentify as ident
@@ -414,12 +415,8 @@ sound-contend coin x v e = sound-choice coin x (nat_le x.view.wait x.view.timer)
 
 -- ---- self identify
 
-test-and : (a b : Bool) → (a && b) ≡ true → (a ≡ true) × (b ≡ true)
-test-and true b h = (refl, h)
-test-and false b h = absurd cc
-
 unnamed_connected : (p : PortView) → is_unnamed p ≡ true → p.connected ≡ true
-unnamed_connected p h = (test-and p.connected (p.child && not p.named) h).0
+unnamed_connected p h = (and_parts p.connected (p.child && not p.named) h).0
 
 sound-names :
     (x : NodeState) → IsValid x → x.view.phase ≡ SelfIdent → ident.may_name x ≡ true →
@@ -429,7 +426,7 @@ sound-names x v e m =
     let r : HasRoles x.view.parent x.view.ports = fits-at x SelfIdent v e in
     let id = node_count x.list.items in
     let packets = own_group x id in
-    let both = test-and (nat_le id 62) (nat_le (length x.list.items + length packets) 252) m in
+    let both = and_parts (nat_le id 62) (nat_le (length x.list.items + length packets) 252) m in
     let small : id ≤ 62 = leb-true id 62 both.0 in
     let room : length x.list.items + length packets ≤ 252 = leb-true _ 252 both.1 in
     record {

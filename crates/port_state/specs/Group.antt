@@ -1,10 +1,11 @@
 -- The group of self-ID packets in which a node identifies itself.
-use Rattle.std.specs.Prelude.{◌≡◌, ℕ, ◌≤◌, ◌+◌, ◌-◌, ◌/◌, ◌%◌, ◌^◌, Bool, ◌&&◌, ◌==◌, List, [], ◌∷◌, ◌++◌, nat_le, count_by, replicate, Option, if◌then◌else◌}
+use Rattle.std.specs.Prelude.{◌≡◌, ℕ, ◌≤◌, ◌+◌, ◌-◌, Bool, List, [], ◌∷◌, ◌++◌, replicate, Option, if◌then◌else◌}
 use Rattle.self_id.specs.declared.node.Attrs.{Attrs}
 use Rattle.self_id.specs.declared.node.PortStatus.{PortStatus}
 use Rattle.self_id.specs.declared.node.PortStatus.TheVariants.{Absent, Unplugged, Up, Down}
 use Rattle.self_id.specs.Node.{Node, IsNode}
-use Rattle.self_id.specs.Group.{group}
+use Rattle.self_id.specs.Group.{group, node_count}
+use Rattle.self_id.specs.Slots.{slot_count}
 use Rattle.port_state.specs.declared.ports.PortView.{PortView}
 use Rattle.port_state.specs.declared.states.NodeState.{NodeState}
 use Rattle.port_state.specs.Ports.{PortNumber, is_port}
@@ -13,10 +14,6 @@ use Rattle.port_state.specs.Valid.{IsBounded}
 -- the attributes that the node shows: the gap count and the initiated bit are those of now
 abbrev pub shown_attrs : NodeState → Attrs
 shown_attrs x = record x.attrs { gap = x.view.gap; initiated = x.view.initiated }
-
--- how many slots the packets of a node with so many ports have
-abbrev pub slot_count : ℕ → ℕ
-slot_count ports = if nat_le ports 3 then 3 else (if nat_le ports 11 then 11 else 16)
 
 -- the status of a port, given whether it is the parent port
 abbrev pub status : Bool → PortView → PortStatus
@@ -41,14 +38,6 @@ shown_node x = record {
 -- its packets with an ID
 abbrev pub own_group : NodeState → ℕ → List ℕ
 own_group x id = group (shown_node x) id
-
--- the first quadlet of a packet zero: 10 at the top, and a zero bit behind the phy_ID
-abbrev pub is_packet_zero : ℕ → Bool
-is_packet_zero quad = (quad / 2 ^ 30 == 2) && (quad / 2 ^ 23 % 2 == 0)
-
--- how many nodes a list shows
-abbrev pub node_count : List ℕ → ℕ
-node_count list = count_by is_packet_zero list
 
 -- ---- laws
 

@@ -11,7 +11,8 @@ use Rattle.port_state.specs.Step.{Step}
 use Rattle.port_state.specs.Entry.{with_port}
 use Rattle.port_state.specs.Row as row
 use Rattle.port_state.specs.Row.{Row}
-use Rattle.port_state.specs.Group.{own_group, node_count}
+use Rattle.self_id.specs.Group.{node_count}
+use Rattle.port_state.specs.Group.{own_group}
 
 -- S1: a child is asked to identify itself
 abbrev pub asks_child : PortNumber → NodeState → Step

@@ -13,13 +13,14 @@ use Rattle.port_state.specs.Sends.{sent_on}
 use Rattle.port_state.specs.Heard.{is_resetting, hears_packets}
 use Rattle.cable_world.specs.Wire.{Travelling, new_signal, age_signal}
 use Rattle.cable_world.specs.Agreement.{level_sent, level_shown, leads_down, level_after, level_sent_at}
-use Rattle.cable_world.specs.Phases.{is_before_tree, is_after_hold, is_in_bus_reset, is_shaking, is_timed, slack}
+use Rattle.cable_world.specs.Phases.{is_before_tree, is_after_hold, is_shaking, is_timed, slack}
 use Rattle.cable_world.specs.Signals.{signals_of, has_reset, shows_no_notice, has_no_notice, has_no_parent_signal, has_no_takeback, AllAsOldAs}
 use Rattle.cable_world.specs.Coupling.{NoneTakesBack, is_asking, is_reset_known, Coupling}
 use Rattle.cable_world.proofs.levels.LastSent.{level_after-append, child-if}
 use Rattle.cable_world.proofs.turns.NodeFacts.{NoEntry, EntersReset, risen}
+use Rattle.cable_world.proofs.PhaseFacts.{start-timed, start-slack, start-before_tree, start-contend, after_hold-before_tree, bus_reset-before_tree, contend-late, timed-relays_none, start-sent, reset-sent, contend-sent, before_tree-parent}
 use Rattle.cable_world.proofs.coupling.Streams.{not-both, signals-older, has_reset-append, has_no_notice-append, has_no_takeback-append, has_no_parent_signal-append, level_after-low, level_after-has_no_parent_signal, low-has_no_parent_signal, level_after-reset, AllAsOldAs-zero, AllAsOldAs-less, nothing-left, reset-age, NoneTakesBack-append, NoneTakesBack-older, NoneTakesBack-zero, NoneTakesBack-has_no_takeback, NoneTakesBack-has_no_parent_signal, parent-stays}
-use Rattle.cable_world.proofs.coupling.Sides.{Side, hearing, ticking, arrivals, leftovers, departures, wire_after, Ready, start-timed, start-before_tree, start-slack, early-childless, late-roles, parent-asks, known-cases, between-known, tree_start-known, risen-most, heard_timing, heard_connected, heard_parent, timer_rises, calm_sent, hold_fits, came_after, came_silent, came_unknown, same_wire, kept_since, after_signals, kept_or_gone, contend_empty, watches-turn}
+use Rattle.cable_world.proofs.coupling.Sides.{Side, hearing, ticking, arrivals, leftovers, departures, wire_after, Ready, early-childless, late-roles, parent-asks, known-cases, between-known, tree_start-known, risen-most, heard_timing, heard_connected, heard_parent, timer_rises, calm_sent, hold_fits, came_after, came_silent, came_unknown, same_wire, kept_since, after_signals, kept_or_gone, contend_empty, watches-turn}
 
 -- ---- both sides
 
@@ -139,9 +140,6 @@ module _ (d : ℕ) (x y : Side) (j : Pair d x y) where
           (ticking x).state.view.timer - slack (ticking x).state.view.phase ≤ 0
       one c = omega (arith, (came c).1, start-slack (ticking x).state.view.phase (came c).0)
 
-      not_relaying : (h : Phase) → is_timed h ≡ true → hears_packets h ≡ false
-      not_relaying h e = grind arith
-
       less : (a b c : ℕ) → a ≤ b + 1 → a - c ≤ b - c + 1
       less a b c h = omega (arith, h)
 
@@ -155,7 +153,7 @@ module _ (d : ℕ) (x y : Side) (j : Pair d x y) where
           = AllAsOldAs-less ((ticking x).state.view.timer - slack x.node.view.phase) (x.node.view.timer - slack x.node.view.phase + 1) (leftovers x)
           (less (ticking x).state.view.timer x.node.view.timer (slack x.node.view.phase) (timer_rises x h (ticking x).state.view.timer s.1))
           (kept_since x (x.node.view.timer - slack x.node.view.phase) (j.coupled.timed was)) in
-          subst (λ ts. AllAsOldAs ((ticking x).state.view.timer - slack (ticking x).state.view.phase) ts) (sym (same_wire x (h.sends (not_relaying x.node.view.phase was)) s.2))
+          subst (λ ts. AllAsOldAs ((ticking x).state.view.timer - slack (ticking x).state.view.phase) ts) (sym (same_wire x (h.sends (timed-relays_none x.node.view.phase was)) s.2))
           (subst (λ p. AllAsOldAs ((ticking x).state.view.timer - slack p) (leftovers x)) (sym ph) since)
       calm h (inr z) = AllAsOldAs-less ((ticking x).state.view.timer - slack (ticking x).state.view.phase) 0 (wire_after x) (omega (arith, z)) (AllAsOldAs-zero (wire_after x))
 
@@ -173,10 +171,7 @@ module _ (d : ℕ) (x y : Side) (j : Pair d x y) where
       is_resetting (ticking x).state.view.phase ≡ true → d < (ticking x).state.view.timer →
       level_shown (ticking y).state y.port ≡ level.Reset
   shows_reset_after r t =
-      ap (λ ts. level_after (level_shown (ticking y).state y.port) (signals_of ts)) (sym (empty_after r t)) ∙ levels_after ∙ outs (ticking x).state.view.phase (leads_down (ticking x).state.view.ports x.port) r
-    where
-      outs : (h : Phase) (c : Bool) → is_resetting h ≡ true → level_sent h c ≡ level.Reset
-      outs h c r = grind arith
+      ap (λ ts. level_after (level_shown (ticking y).state y.port) (signals_of ts)) (sym (empty_after r t)) ∙ levels_after ∙ start-sent (ticking x).state.view.phase (leads_down (ticking x).state.view.ports x.port) r
 
   unknown : EntersReset x.node (hearing x) → is_reset_known d (ticking x).state ≡ true → ⊥
   unknown c s = came_unknown d x j.some_delay j.short_delay j.near c s
@@ -205,9 +200,6 @@ module _ (d : ℕ) (x y : Side) (j : Pair d x y) where
     | inr m ↦ elim j.near.hears.cases [ inl h ↦ middle m h | inr c ↦ absurd (unknown c s) ]
   ]
     where
-      early : (h : Phase) → is_after_hold h ≡ true → is_before_tree h ≡ true
-      early h m = grind arith
-
       silent :
           (h : Phase) (b : Bool) → ((is_resetting h && b) || is_after_hold h) ≡ true →
           hears_packets h ≡ false
@@ -223,7 +215,7 @@ module _ (d : ℕ) (x y : Side) (j : Pair d x y) where
           let none : (hearing x).sends ≡ [] = h.sends (silent x.node.view.phase (nat_lt d x.node.view.timer) was) in
           let told : has_no_notice (sent_on x.port (hearing x).sends) ≡ true = ap (λ ss. has_no_notice (sent_on x.port ss)) none in
           let ticks : has_no_notice (sent_on x.port (ticking x).sends) ≡ true
-          = j.near.ticks.no_notice x.port (heard_connected d x j.near) (early (ticking x).state.view.phase m) in
+          = j.near.ticks.no_notice x.port (heard_connected d x j.near) (after_hold-before_tree (ticking x).state.view.phase m) in
           let stay : has_no_notice (signals_of (leftovers x)) ≡ true = kept_or_gone x (λ ss. has_no_notice ss ≡ true) refl l.1 in (
             ap shows_no_notice (j.other.ticks.shown y.port) ∙ heard_low l.0 l.1,
             ap has_no_notice (after_signals x)
@@ -268,14 +260,11 @@ module _ (d : ℕ) (x y : Side) (j : Pair d x y) where
       (is_before_tree (ticking y).state.view.phase || is_asking (ticking y).state y.port) ≡ true
   early_after s = elim (known-cases d (ticking x).state s) [
     | inl r ↦ or_left (is_before_tree (ticking y).state.view.phase) (is_asking (ticking y).state y.port)
-        (waits (ticking y).state.view.phase
+        (bus_reset-before_tree (ticking y).state.view.phase
         (watches-turn y.inbox y.coin y.node j.other.hears j.other.ticks j.other.watches y.port (j.other.ticks.cables y.port ∙ heard_connected d y j.other) (shows_reset_after d x y j r.0 r.1)))
     | inr m ↦ elim j.near.hears.cases [ inl h ↦ middle (known_before d x y j m h) | inr c ↦ absurd (unknown d x y j c s) ]
   ]
     where
-      waits : (h : Phase) → is_in_bus_reset h ≡ true → is_before_tree h ≡ true
-      waits h e = grind arith
-
       middle :
           is_reset_known d x.node ≡ true →
           (is_before_tree (ticking y).state.view.phase || is_asking (ticking y).state y.port) ≡ true
@@ -290,17 +279,11 @@ module _ (d : ℕ) (x y : Side) (j : Pair d x y) where
   pub other_heard : has_reset (signals_of (wire_after y)) ≡ false → NoEntry y.node (hearing y)
   other_heard a = elim j.other.hears.cases [ inl h ↦ h | inr c ↦ absurd (not-both (has_reset (signals_of (wire_after y))) (sends c) a) ]
     where
-      now : (h : Phase) (b : Bool) → h ≡ phase.ResetStart → level_sent h b ≡ level.Reset
-      now h b r = ap (λ p. level_sent p b) r
-
-      before : (h : Phase) (b : Bool) → is_resetting h ≡ false → level_sent h b ≡ level.Reset → ⊥
-      before h b r o = grind arith
-
       reset_sent :
           EntersReset y.node (hearing y) → has_reset (sent_on y.port (hearing y).sends) ≡ true
       reset_sent c = level_after-reset (level_sent_at y.node y.port) (sent_on y.port (hearing y).sends)
-          (j.other.hears.says y.port j.other.connected ∙ now (hearing y).state.view.phase (leads_down (hearing y).state.view.ports y.port) c.phase)
-          (before y.node.view.phase (leads_down y.node.view.ports y.port) c.before)
+          (j.other.hears.says y.port j.other.connected ∙ start-sent (hearing y).state.view.phase (leads_down (hearing y).state.view.ports y.port) (ap is_resetting c.phase))
+          (reset-sent y.node.view.phase (leads_down y.node.view.ports y.port) c.before)
 
       last : (a b c : Bool) → b ≡ true → (a || (b || c)) ≡ true
       last a b c h = grind arith
@@ -374,9 +357,6 @@ module _ (d : ℕ) (x y : Side) (j : Pair d x y) where
       shows : level_after (level_shown x.node x.port) (arrivals y) ≡ level.Parent
       shows = sym (heard_shown d y x back) ∙ s
 
-      outs : (h : Phase) (c : Bool) → is_before_tree h ≡ true → level_sent h c ≡ level.Parent → ⊥
-      outs h c a b = grind arith
-
       cases :
           (h : Phase) → is_before_tree h ≡ true → (is_after_hold h ≡ true) ⊎ (h ≡ phase.ResetStart)
       cases h a = grind arith
@@ -395,7 +375,7 @@ module _ (d : ℕ) (x y : Side) (j : Pair d x y) where
           level_after (level_shown x.node x.port) (if g then signals_of y.wire else [])
           ≡ level.Parent →
           ⊥
-      never a true h = outs y.node.view.phase (leads_down y.node.view.ports y.port) a (sym j.levels_back ∙ h)
+      never a true h = before_tree-parent y.node.view.phase (leads_down y.node.view.ports y.port) a (sym j.levels_back ∙ h)
       never a false h = elim (cases y.node.view.phase a) [
         | inl b ↦ low (level_shown x.node x.port) (j.coupled_back.no_notice (between-known d y.node b)).0 h
         | inr b ↦ not-both (has_reset (signals_of y.wire))
@@ -417,16 +397,10 @@ module _ (d : ℕ) (x y : Side) (j : Pair d x y) where
       x.node.view.phase ≡ phase.Contend → is_port x.node.view.parent x.port ≡ true →
       d ≤ x.node.view.timer → level_shown y.node y.port ≡ level.Idle
   contend_shows c a t =
-      ap (λ ts. level_after (level_shown y.node y.port) (signals_of ts)) (sym (nothing_there c t)) ∙ j.levels ∙ outs x.node.view.phase c (leads_down x.node.view.ports x.port) childless
+      ap (λ ts. level_after (level_shown y.node y.port) (signals_of ts)) (sym (nothing_there c t)) ∙ j.levels ∙ contend-sent x.node.view.phase c (leads_down x.node.view.ports x.port) childless
     where
-      outs : (h : Phase) → h ≡ phase.Contend → (b : Bool) → b ≡ false → level_sent h b ≡ level.Idle
-      outs h c b f = grind arith
-
-      late : (h : Phase) → h ≡ phase.Contend → is_before_tree h ≡ false
-      late h c = ap is_before_tree c
-
       childless : leads_down x.node.view.ports x.port ≡ false
-      childless = child-if x.node.view.parent x.node.view.ports x.port (late-roles x.node j.near.valid (late x.node.view.phase c)) j.near.connected ∙ ap not a
+      childless = child-if x.node.view.parent x.node.view.ports x.port (late-roles x.node j.near.valid (contend-late x.node.view.phase c)) j.near.connected ∙ ap not a
 
   pub heard_idle :
       x.node.view.phase ≡ phase.Contend → is_port x.node.view.parent x.port ≡ true →
@@ -483,12 +457,9 @@ module _ (d : ℕ) (x y : Side) (j : Pair d x y) where
       NoneTakesBack ((ticking x).state.view.timer - d) (level_shown (ticking x).state x.port) (wire_after y)
   contend_after c a = elim j.near.hears.cases [
     | inl h ↦ go h (j.near.ticks.contend c)
-    | inr z ↦ absurd (not_start (ticking x).state.view.phase (came d x y j z).0 c)
+    | inr z ↦ absurd (start-contend (ticking x).state.view.phase (came d x y j z).0 c)
   ]
     where
-      not_start : (h : Phase) → is_resetting h ≡ true → h ≡ phase.Contend → ⊥
-      not_start h r c = grind arith
-
       moved :
           (g : Bool) (b c : ℕ) → c ≤ b + 1 → NoneTakesBack b (level_shown x.node x.port) y.wire →
           NoneTakesBack c (level_sent_at y.node y.port) (map new_signal (departures y))

@@ -14,11 +14,12 @@ use Rattle.port_state.specs.Heard.{is_resetting}
 use Rattle.port_state.specs.Tick.{tick}
 use Rattle.port_state.specs.Valid.{HasNoRoles, HasRoles, FitsPhase, IsValid}
 use Rattle.cable_world.specs.Wire.{Travelling, new_signal, age_signal}
-use Rattle.cable_world.specs.Agreement.{level_sent, leads_down, level_sent_at}
+use Rattle.cable_world.specs.Agreement.{leads_down, level_sent_at}
 use Rattle.cable_world.specs.Phases.{is_before_tree, is_after_hold, is_shaking, is_timed, slack}
 use Rattle.cable_world.specs.Signals.{signals_of, has_reset, AllAsOldAs}
 use Rattle.cable_world.specs.Coupling.{is_reset_known, HeedsReset, WaitsLong}
 use Rattle.cable_world.specs.Lawful.{AgesFall}
+use Rattle.cable_world.proofs.PhaseFacts.{start-hold, start-contend, parent-shaking, parent-late, parent-childless}
 use Rattle.cable_world.proofs.levels.LastSent.{child-if, no-child}
 use Rattle.cable_world.specs.Turn.{hear_all}
 use Rattle.cable_world.proofs.turns.NodeFacts.{NoEntry, EntersReset, HearsWell, TicksWell, risen}
@@ -73,15 +74,6 @@ pub record Ready (d : ℕ) (s : Side) : Type 0 where
 
 -- ---- phases and roles
 
-pub start-timed : (h : Phase) → is_resetting h ≡ true → is_timed h ≡ true
-start-timed h r = grind arith
-
-pub start-before_tree : (h : Phase) → is_resetting h ≡ true → is_before_tree h ≡ true
-start-before_tree h r = grind arith
-
-pub start-slack : (h : Phase) → is_resetting h ≡ true → slack h ≡ 1
-start-slack h r = grind arith
-
 -- before the tree is known no port leads to a child
 pub early-childless :
     (x : NodeState) → IsValid x → (k : ℕ) → is_before_tree x.view.phase ≡ true →
@@ -118,21 +110,12 @@ pub parent-asks :
     level_sent_at x k ≡ level.Parent →
     (is_shaking x.view.phase ≡ true) × (is_port x.view.parent k ≡ true)
 parent-asks x v k c o = (
-  shaking x.view.phase (leads_down x.view.ports k) o,
+  parent-shaking x.view.phase (leads_down x.view.ports k) o,
   turned (leads_down x.view.ports k) (is_port x.view.parent k)
-      (child-if x.view.parent x.view.ports k (late-roles x v (late x.view.phase (leads_down x.view.ports k) o)) c)
-      (other x.view.phase (leads_down x.view.ports k) o),
+      (child-if x.view.parent x.view.ports k (late-roles x v (parent-late x.view.phase (leads_down x.view.ports k) o)) c)
+      (parent-childless x.view.phase (leads_down x.view.ports k) o),
 )
   where
-    shaking : (h : Phase) (b : Bool) → level_sent h b ≡ level.Parent → is_shaking h ≡ true
-    shaking h b o = grind arith
-
-    late : (h : Phase) (b : Bool) → level_sent h b ≡ level.Parent → is_before_tree h ≡ false
-    late h b o = grind arith
-
-    other : (h : Phase) (b : Bool) → level_sent h b ≡ level.Parent → b ≡ false
-    other h b o = grind arith
-
     turned : (a b : Bool) → a ≡ not b → a ≡ false → b ≡ true
     turned a b h g = grind arith
 
@@ -210,11 +193,8 @@ module _ (d : ℕ) (x : Side) (some_delay : 1 ≤ d) (short_delay : d ≤ 16) (r
   pub came_unknown : EntersReset x.node (hearing x) → is_reset_known d (ticking x).state ≡ true → ⊥
   came_unknown c s = elim (known-cases d (ticking x).state s) [
     | inl k ↦ omega (arith, k.1, (came_after c).1, some_delay)
-    | inr m ↦ not_start (ticking x).state.view.phase (came_after c).0 m
+    | inr m ↦ start-hold (ticking x).state.view.phase (came_after c).0 m
   ]
-    where
-      not_start : (h : Phase) → is_resetting h ≡ true → is_after_hold h ≡ true → ⊥
-      not_start h a b = grind arith
 
 -- ---- its wire
 
@@ -275,9 +255,6 @@ waits-turn d signals coin x r h t w c = go h.cases (t.contend c)
     n : NodeState
     n = (tick coin m).state
 
-    not_start : (h : Phase) → h ≡ phase.ResetStart → h ≡ phase.Contend → ⊥
-    not_start h a b = grind arith
-
     range : InRange d m.timing
     range = rw h.timing r
 
@@ -286,5 +263,5 @@ waits-turn d signals coin x r h t w c = go h.cases (t.contend c)
         ⊎ ((n.view.timer ≡ 0) × ((n.view.wait ≡ m.timing.short) ⊎ (n.view.wait ≡ m.timing.long)))
         → 3 * d ≤ n.view.wait
     go (inl a) (inl z) = omega (arith, z.3, a.wait, w (sym a.phase ∙ z.0))
-    go (inr a) (inl z) = absurd (not_start m.view.phase a.phase z.0)
+    go (inr a) (inl z) = absurd (start-contend m.view.phase (ap is_resetting a.phase) z.0)
     go o (inr z) = elim z.1 [ inl s ↦ omega (arith, s, range.short_least) | inr l ↦ omega (arith, l, range.long_least) ]

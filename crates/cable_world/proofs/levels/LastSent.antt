@@ -20,7 +20,8 @@ use Rattle.port_state.specs.Heard as heard
 use Rattle.port_state.specs.Resetting as reset
 use Rattle.port_state.specs.TreeIdentify as tree
 use Rattle.port_state.specs.SelfIdentify as ident
-use Rattle.port_state.specs.Group.{own_group, node_count}
+use Rattle.self_id.specs.Group.{node_count}
+use Rattle.port_state.specs.Group.{own_group}
 use Rattle.port_state.specs.Row as row
 use Rattle.port_state.specs.Row.{Row}
 use Rattle.port_state.specs.Tick.{raise_timer, row_of, does, tick}

@@ -35,7 +35,7 @@ use Rattle.cable_world.specs.Turn.{hear_all}
 use Rattle.cable_world.proofs.turns.NodeFacts.{NoEntry, EntersReset, HearsWell, TicksWell}
 use Rattle.cable_world.proofs.turns.HearsWell.{hear-came}
 use Rattle.cable_world.proofs.coupling.Streams.{not-both, reset-age}
-use Rattle.cable_world.proofs.coupling.Sides.{start-timed, start-slack}
+use Rattle.cable_world.proofs.PhaseFacts.{start-timed, start-slack}
 use Rattle.cable_world.proofs.turns.TurnParts.{turn-state, comes}
 use Rattle.cable_world.proofs.tables.CableEnds.{CableEnd, cable-end}
 use Rattle.cable_world.proofs.coupling.CouplingInTurns.{before, hears, ticks}

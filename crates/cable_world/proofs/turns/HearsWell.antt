@@ -4,8 +4,6 @@ use Rattle.std.specs.Option.{option_map}
 use Rattle.std.proofs.lemmas.Bool.{and_parts, eqb-true, eq-eqb, or_right}
 use Rattle.port_state.specs.declared.signal.Level.{Level}
 use Rattle.port_state.specs.declared.signal.Level.TheVariants as level
-use Rattle.port_state.specs.declared.signal.Phase.{Phase}
-use Rattle.port_state.specs.declared.signal.Phase.TheVariants.{ResetStart}
 use Rattle.port_state.specs.declared.signal.Signal.{Signal}
 use Rattle.port_state.specs.declared.signal.Signal.TheVariants as signal
 use Rattle.port_state.specs.declared.ports.PortView.{PortView}
@@ -24,6 +22,7 @@ use Rattle.cable_world.specs.Phases.{is_in_bus_reset}
 use Rattle.cable_world.specs.Agreement.{shown_or_idle, level_shown, leads_down, level_after, level_sent_at}
 use Rattle.cable_world.specs.Coupling.{HeedsReset}
 use Rattle.cable_world.proofs.Options.{some-same}
+use Rattle.cable_world.proofs.PhaseFacts.{start-bus_reset}
 use Rattle.cable_world.proofs.levels.LastSent.{level_after-append, only, signal-says}
 use Rattle.cable_world.proofs.levels.LastHeard.{shown_if_there, signal-shows}
 use Rattle.cable_world.proofs.levels.LastSent.{cons-sent}
@@ -299,11 +298,6 @@ shown-reset l true signal.Grant h = inl h
 shown-reset l true (signal.Packet quad) h = inl h
 shown-reset l true signal.Done h = inl h
 
--- R0 is one of the two phases in which a port may show Reset
-waits-too : (phase : Phase) → is_resetting phase ≡ true → is_in_bus_reset phase ≡ true
-waits-too ResetStart h = refl
-waits-too phase h = absurd cc
-
 signal-watches :
     (n : ℕ) (s : Signal) (x : NodeState) → HeedsReset x → HeedsReset (on_signal n s x).state
 signal-watches n s x w k c e = go (signal-fate n s x) (shown-reset (level_shown x k) (n == k) s (sym (signal-shown n s x k on) ∙ e))
@@ -319,7 +313,7 @@ signal-watches n s x w k c e = go (signal-fate n s x) (shown-reset (level_shown 
     go (inl f) (inl h) = ap is_in_bus_reset f.heard.phase ∙ w k on h
     go (inl f) (inr h) =
         let there : is_connected x.view.ports n ≡ true = subst (λ m. is_connected x.view.ports m ≡ true) (sym (eqb-true n k h.0)) on in
-        waits-too (on_signal n s x).state.view.phase (signal-enters n s x there h.1)
+        start-bus_reset (on_signal n s x).state.view.phase (signal-enters n s x there h.1)
 
 hear-watches :
     (signals : List (ℕ × Signal)) (x : NodeState) → HeedsReset x →

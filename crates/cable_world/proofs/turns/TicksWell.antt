@@ -17,7 +17,8 @@ use Rattle.port_state.specs.Heard.{is_resetting}
 use Rattle.port_state.specs.Resetting.{is_calm}
 use Rattle.port_state.specs.TreeIdentify.{is_decided, adopt, contend_at, parent_shake_at}
 use Rattle.port_state.specs.SelfIdentify.{may_name, granted_row}
-use Rattle.port_state.specs.Group.{own_group, node_count}
+use Rattle.self_id.specs.Group.{node_count}
+use Rattle.port_state.specs.Group.{own_group}
 use Rattle.port_state.specs.Row as row
 use Rattle.port_state.specs.Row.{Row}
 use Rattle.port_state.specs.Tick.{raise_timer, row_of, does, next_row, tick}

@@ -1,5 +1,5 @@
 use Rattle.port_state.proofs.Shown.{shown-is_node}
-use Rattle.port_state.proofs.Zeros.{node_count-own_group}
+use Rattle.port_state.proofs.Shown.{node_count-own_group}
 use Rattle.port_state.proofs.step_laws.shown_node_has_packets.Goals as goal
 
 pub returns-clause-node : goal.returns-clause-node
