@@ -10,7 +10,7 @@ use Rattle.phy_packet.specs.declared.packet.PhyPacket.TheVariants.{Config, LinkO
 
 -- ---- a packet's quadlet has its fields
 
-bit_below : (b : Bool) → bit b < 2
+pub bit_below : (b : Bool) → bit b < 2
 bit_below true = omega arith
 bit_below false = omega arith
 
@@ -140,12 +140,12 @@ packet_of-quad_of (Other w) v = other_again w v.apart
 
 -- ---- a self-ID quadlet shows a self-ID packet
 
-bit-eqb : (x : ℕ) → x < 2 → bit (eqb x 1) ≡ x
+pub bit-eqb : (x : ℕ) → x < 2 → bit (eqb x 1) ≡ x
 bit-eqb zero lt = refl
 bit-eqb (suc zero) lt = refl
 bit-eqb (suc (suc x)) lt = omega arith
 
-bit_fits : (b : Bool) → bit b < 2 ^ 1
+pub bit_fits : (b : Bool) → bit b < 2 ^ 1
 bit_fits true = omega arith
 bit_fits false = omega arith
 

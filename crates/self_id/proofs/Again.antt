@@ -2,6 +2,7 @@
 use Rattle.std.proofs.Common.{◌≡◌, ℕ, zero, suc, ◌+◌, ◌*◌, ◌/◌, ◌%◌, ◌^◌, ◌<◌, ◌≤◌, Bool, true, false, eqb, List, [], ◌∷◌, ◌++◌, length, take, drop, Ok, Err, refl, sym, ap, subst, ◌∙◌, arith, length-drop}
 use Rattle.std.proofs.lemmas.List.{take-append-drop, length-take-le}
 use Rattle.std.proofs.Math.Seq.{take-length}
+use Rattle.phy_packet.proofs.Laws.{bit_fits, bit-eqb}
 use Rattle.phy_packet.specs.Layout.{bit}
 use Rattle.phy_packet.specs.Packet.{Shows, IsValid, quad_of, has_more}
 use Rattle.phy_packet.specs.declared.packet.PhyPacket.{PhyPacket}
@@ -19,16 +20,7 @@ use Rattle.self_id.proofs.Sound.{Width, three, eleven, sixteen, width_of}
 abbrev make : Attrs → List PortStatus → ℕ → ℕ → Node
 make a ps x y = record { attrs = a; ports = ps; kept_a = x; kept_b = y }
 
-bit_fits : (b : Bool) → bit b < 2 ^ 1
-bit_fits true = omega arith
-bit_fits false = omega arith
-
-bit-eqb : (x : ℕ) → x < 2 → bit (eqb x 1) ≡ x
-bit-eqb zero lt = refl
-bit-eqb (suc zero) lt = refl
-bit-eqb (suc (suc x)) lt = omega arith
-
-field_below : (ps : List PortStatus) (k : ℕ) → field ps k < 2 ^ 2
+pub field_below : (ps : List PortStatus) (k : ℕ) → field ps k < 4
 field_below [] k = omega arith
 field_below (p ∷ ps) zero = status_below p
 field_below (p ∷ ps) (suc k) = field_below ps k

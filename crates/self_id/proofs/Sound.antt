@@ -2,6 +2,7 @@
 use Rattle.std.proofs.Common.{◌≡◌, ℕ, suc, ◌+◌, ◌*◌, ◌/◌, ◌%◌, ◌^◌, ◌<◌, Bool, true, false, cond, eqb, ◌||◌, IsTrue, List, [], ◌∷◌, ◌++◌, length, take, drop, Result, Ok, Err, refl, sym, ap, ◌∙◌, arith}
 use Rattle.std.proofs.lemmas.Bool.{eqb-true}
 use Rattle.std.proofs.Math.Nat.{mod-eq_of_lt}
+pub use Rattle.phy_packet.proofs.Laws.{bit_below}
 use Rattle.phy_packet.specs.Layout.{bit, spelled}
 use Rattle.phy_packet.specs.Packet.{quad_of, has_more}
 use Rattle.phy_packet.specs.declared.packet.PhyPacket.{PhyPacket}
@@ -36,10 +37,6 @@ width_of n h = width_by _ _ _ (length n.ports) (eqb-true _ _) (eqb-true _ _) (eq
 low_bit : (k : ℕ) (b : Bool) → eqb ((k * 2 + bit b) % 2) 1 ≡ b
 low_bit k true = let e : (k * 2 + 1) % 2 ≡ 1 = omega arith in rw e refl
 low_bit k false = let e : (k * 2 + 0) % 2 ≡ 0 = omega arith in rw e refl
-
-pub bit_below : (b : Bool) → bit b < 2
-bit_below true = omega arith
-bit_below false = omega arith
 
 first_is : (n : Node) (a : FurtherPart) (id : ℕ) (m : Bool) → n.kept_a ≡ spelled (carried_a a) → fields (take 8 (drop 3 n.ports)) ≡ a.fields → a.more ≡ m → first_packet n id m ≡ further_of id 0 a
 first_is n a id m kept same more =

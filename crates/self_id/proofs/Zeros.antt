@@ -7,14 +7,9 @@ use Rattle.phy_packet.specs.Packet.{quad_of, is_packet_zero}
 use Rattle.self_id.specs.declared.node.PortStatus.{PortStatus}
 use Rattle.self_id.specs.Node.{Node, HasForm, FitBits}
 use Rattle.self_id.specs.Group.{field, fields, group, node_count, zero_packet, first_packet, second_packet}
-use Rattle.self_id.proofs.Fields.{status_below}
+pub use Rattle.self_id.proofs.Again.{field_below}
 use Rattle.self_id.proofs.Again.{group3, group11, group16, eight_small, five_small}
 use Rattle.self_id.proofs.Sound.{three, eleven, sixteen, width_of, bit_below}
-
-pub field_below : (ps : List PortStatus) (k : ℕ) → field ps k < 4
-field_below [] k = omega arith
-field_below (p ∷ ps) zero = status_below p
-field_below (p ∷ ps) (suc k) = field_below ps k
 
 -- the marks of a quadlet that shows packet zero, and of one that shows a further packet
 zero_marks : (q id l g s d c w p0 p1 p2 i m : ℕ) → id < 64 → l < 2 → g < 64 → s < 4 → d < 4 → c < 2 → w < 8 → p0 < 4 → p1 < 4 → p2 < 4 → i < 2 → m < 2 →

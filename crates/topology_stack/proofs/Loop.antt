@@ -86,17 +86,6 @@ end_read (suc room) at found rooted ns = refl
 pub is_end : (quads : List ℕ) (at found : ℕ) (rooted : Bool) (ns : List Node) → length quads ≤ at → Reads quads at found rooted ns → read quads ≡ ended at rooted ns
 is_end quads at found rooted ns le h = sym h ∙ rw (drop_all at quads le) (end_read (63 - length ns) at found rooted ns)
 
-pub both_false_right : (x y : Bool) → y ≡ false → (x && y) ≡ false
-both_false_right true y e = e
-both_false_right false y e = refl
-
-pub both_false_left : (x y : Bool) → x ≡ false → (x && y) ≡ false
-both_false_left true y e = absurd cc
-both_false_left false y e = refl
-
-pub both_true : (x y : Bool) → x ≡ true → y ≡ true → (x && y) ≡ true
-both_true x y e f = rw (e, f) refl
-
 pub ended_empty : (at : ℕ) (rooted : Bool) (ns : List Node) → rooted ≡ false → length ns ≡ 0 → ended at rooted ns ≡ Err Empty
 ended_empty at rooted [] e len = rw e refl
 ended_empty at rooted (n ∷ ns) e len = absurd (omega arith)

@@ -1,7 +1,7 @@
 -- What is read is explained: a bus tree emits the list, or the list has the fault.
 use Rattle.std.proofs.Common.{◌≡◌, ℕ, zero, suc, ◌+◌, ◌-◌, ◌<◌, ◌≤◌, Bool, true, false, cond, eqb, ltb, ◌&&◌, List, [], ◌∷◌, ◌++◌, length, drop, Result, Ok, Err, refl, sym, ap, subst, ◌∙◌, append_assoc, arith, length-append}
 use Rattle.std.proofs.lemmas.List.{append-nil}
-use Rattle.std.proofs.lemmas.Bool.{eqb-true, ltb-true, ltb-false}
+use Rattle.std.proofs.lemmas.Bool.{and_parts, eqb-true, ltb-true, ltb-false}
 use Rattle.self_id.specs.declared.node.PortStatus.{PortStatus}
 use Rattle.self_id.specs.declared.fault.GroupFault.{GroupFault}
 use Rattle.self_id.specs.Node.{Node, IsNode, ups, downs}
@@ -149,11 +149,6 @@ root_test : (x y : Bool) → (x && y) ≡ false → x ≡ true → y ≡ false
 root_test true y e f = e
 root_test false y e f = absurd cc
 
-and_true : (x y : Bool) → (x && y) ≡ true → (x ≡ true) × (y ≡ true)
-and_true true true e = (refl, refl)
-and_true true false e = absurd cc
-and_true false y e = absurd cc
-
 by_bool : {A : Type 0} (b : Bool) → (b ≡ true → A) → (b ≡ false → A) → A
 by_bool true f g = f refl
 by_bool false f g = g refl
@@ -193,7 +188,7 @@ node_explained room at found ns rest qs l ts n h full a goes =
     let b = built n.ports ts (omega (arith, ltb-false _ _ enough, h.count)) in
     let g = grows n ts (build n.ports ts).0 (build n.ports ts).1 b h.waiting in
     explained_if l (eqb (ups n.ports) 0 && ltb (downs n.ports) found) _ _
-    (λ left. let both = and_true _ _ left in (ts, n, node_next at found ns rest qs l ts n h (omega arith) a, eqb-true _ _ both.0, ltb-true _ _ both.1))
+    (λ left. let both = and_parts _ _ left in (ts, n, node_next at found ns rest qs l ts n h (omega arith) a, eqb-true _ _ both.0, ltb-true _ _ both.1))
     (λ all. by_bool (eqb (ups n.ports) 0)
     (λ root. rw root (root_found room at (at + length (group n (length ns))) found ns rest qs l ts n (build n.ports ts).0 (build n.ports ts).1 h place (omega arith) g a (eqb-true _ _ root) (ltb-false _ _ (root_test _ _ all root))))
     (λ no_root. rw no_root (goes (at + length (group n (length ns))) (found - downs n.ports + 1) (ns ++ n ∷ []) (branch (label_of n) (build n.ports ts).0 ∷ (build n.ports ts).1)

@@ -1,9 +1,9 @@
 use Rattle.std.proofs.Common.{◌≡◌, ℕ, ◌∙◌, ◌<◌, false, eqb, ltb, ◌&&◌, length, ap, sym, arith}
-use Rattle.std.proofs.lemmas.Bool.{lt-ltb, le-ltb, ne_eqb, eqb-true, eqb-false}
+use Rattle.std.proofs.lemmas.Bool.{and_from, and_left, and_right, lt-ltb, le-ltb, ne_eqb, eqb-true, eqb-false}
 use Rattle.std.proofs.lemmas.Result.{err_from_is_err_and}
 use Rattle.self_id.specs.Node.{Node, ups, downs}
 use Rattle.topology_stack.specs.declared.fault.TreeFault.TheVariants.{TooFewChildren, TreesLeft}
-use Rattle.topology_stack.proofs.Loop.{is_after_root, is_full, is_group_fault, is_too_few, is_left, is_end, both_true, both_false_left, both_false_right, ended_empty, ended_unrooted, ended_rooted, goes_round, takes, refuses, place_is, moves}
+use Rattle.topology_stack.proofs.Loop.{is_after_root, is_full, is_group_fault, is_too_few, is_left, is_end, ended_empty, ended_unrooted, ended_rooted, goes_round, takes, refuses, place_is, moves}
 use Rattle.topology_stack.proofs.Laws.{is_refused, is_emitted}
 use Rattle.topology_stack.proofs.reading.nodes_of.Goals as goal
 use Rattle.topology_stack.proofs.reading.nodes_of.Goals.{else-rooted-2-via-then-rooted-2+else-wanted-found, else-rooted-2-via-else-rooted-2}
@@ -38,7 +38,7 @@ returns-then-wanted-found-clause-refused c =
     let u : c.count_up-rooted.result ≡ ups c.in_ok-node.node.ports = c.count_up-rooted.ensures.value ∙ ap ups c.as_slice-in-loop-at.ensures.value ∙ ap (λ (n : Node). ups n.ports) c.node.view_is in
     let lt : downs c.in_ok-node.node.ports < c.loop-at.found = omega (arith, w, c.if-wanted-found.true) in
     is_refused c.args.quads.now (TreesLeft c.loop-at.at c.loop-at.found c.count_down-wanted.result) (rw w (is_left _ _ _ _ _ c.in_ok-node.node c.loop-at-test.true c.if-rooted.false room c.loop-at.invariant.reads
-    (takes _ _ _ _ _ _ _ e room c.node.invariant c.node.view_is c.in_ok-node.ensures.found.parts) (omega arith) (both_true _ _ (ap (λ (k : ℕ). eqb k 0) (sym u ∙ c.if-rooted-2.true)) (lt-ltb _ _ lt))))
+    (takes _ _ _ _ _ _ _ e room c.node.invariant c.node.view_is c.in_ok-node.ensures.found.parts) (omega arith) (and_from _ _ (ap (λ (k : ℕ). eqb k 0) (sym u ∙ c.if-rooted-2.true)) (lt-ltb _ _ lt))))
 
 pub loop-at-preserved : goal.loop-at-preserved
 loop-at-preserved c =
@@ -47,8 +47,8 @@ loop-at-preserved c =
     let w : c.count_down-wanted.result ≡ downs c.in_ok-node.node.ports = c.count_down-wanted.ensures.value ∙ ap downs c.as_slice.ensures.value ∙ ap (λ (n : Node). downs n.ports) c.node.view_is in
     let u : c.count_up-rooted.result ≡ ups c.in_ok-node.node.ports = c.count_up-rooted.ensures.value ∙ ap ups c.as_slice-in-loop-at.ensures.value ∙ ap (λ (n : Node). ups n.ports) c.node.view_is in
     let test : (eqb c.count_up-rooted.result 0 && ltb c.count_down-wanted.result c.loop-at.found) ≡ false = elim c.else-rooted-2.branch [
-      | else-rooted-2-via-then-rooted-2+else-wanted-found w ↦ both_false_right _ _ (le-ltb _ _ w.if-wanted-found.false)
-      | else-rooted-2-via-else-rooted-2 w ↦ both_false_left _ _ (ne_eqb _ _ w.if-rooted-2.false)
+      | else-rooted-2-via-then-rooted-2+else-wanted-found w ↦ and_right _ _ (le-ltb _ _ w.if-wanted-found.false)
+      | else-rooted-2-via-else-rooted-2 w ↦ and_left _ _ (ne_eqb _ _ w.if-rooted-2.false)
     ] in
     rw c.in_ok-push.ensures.items (goes_round _ _ _ _ _ _ _ _ c.in_ok-node.node c.loop-at-test.true c.if-rooted.false (omega arith) c.loop-at.invariant
     (takes _ _ _ _ _ _ _ e room c.node.invariant c.node.view_is c.in_ok-node.ensures.found.parts) (place_is _ _ _ _ _ e c.in_ok-node.ensures.found.place) c.in_ok-node.ensures.found.inside w u c.if-found-wanted.false test)
