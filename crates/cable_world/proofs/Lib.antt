@@ -1,9 +1,21 @@
+-- How the laws of worlds are proved. Read the folders in this order; each of their heads says more.
+--
+--   turns     what a turn makes of one node, and of each node and wire by number (`turn_by_number`)
+--   tables    a world's tables fit its cables, at power-on and after turns, holds and acts
+--   levels    the level that a node last sent is under way or shown
+--   coupling  what holds at the two ends of a cable, so that child ports lead to parent ports
+--   acts      what happens between two turns to each node and to each end of a cable
+--   resets    in turns without acts resets end (`resets_end`)
+--   worked    runs that the check computes
+--
+-- `StaysLawful` joins tables, levels and coupling (`worlds_stay_lawful`); `StaysReached` has
+-- `worlds_stay_reached`, `OneOutcome` has `outcomes_are_one`. `PhaseFacts` and `Options` are used throughout.
+pub mod turns
+pub mod tables
+pub mod levels
+pub mod coupling
 pub mod acts
 pub mod resets
-pub mod tables
-pub mod turns
-pub mod coupling
-pub mod levels
 pub mod worked
 pub mod PhaseFacts
 pub mod Options
