@@ -9,7 +9,8 @@
 --   worked    runs that the check computes
 --
 -- `StaysLawful` joins tables, levels and coupling (`worlds_stay_lawful`); `StaysReached` has
--- `worlds_stay_reached`, `OneOutcome` has `outcomes_are_one`. `PhaseFacts` and `Options` are used throughout.
+-- `worlds_stay_reached`, `OneOutcome` has `outcomes_are_one`. `PhaseFacts` and `Options` are used
+-- throughout.
 pub mod turns
 pub mod tables
 pub mod levels

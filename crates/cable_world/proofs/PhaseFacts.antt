@@ -41,23 +41,30 @@ timed-relays_none h e = grind arith
 
 -- ---- which levels are sent in them
 
-pub start-sent : (h : Phase) (child : Bool) → is_resetting h ≡ true → level_sent h child ≡ level.Reset
+pub start-sent :
+    (h : Phase) (child : Bool) → is_resetting h ≡ true → level_sent h child ≡ level.Reset
 start-sent h c e = grind arith
 
-pub reset-sent : (h : Phase) (child : Bool) → is_resetting h ≡ false → level_sent h child ≡ level.Reset → ⊥
+pub reset-sent :
+    (h : Phase) (child : Bool) → is_resetting h ≡ false → level_sent h child ≡ level.Reset → ⊥
 reset-sent h c e r = grind arith
 
-pub contend-sent : (h : Phase) → h ≡ Contend → (child : Bool) → child ≡ false → level_sent h child ≡ level.Idle
+pub contend-sent :
+    (h : Phase) → h ≡ Contend → (child : Bool) → child ≡ false → level_sent h child ≡ level.Idle
 contend-sent h e c f = grind arith
 
-pub parent-shaking : (h : Phase) (child : Bool) → level_sent h child ≡ level.Parent → is_shaking h ≡ true
+pub parent-shaking :
+    (h : Phase) (child : Bool) → level_sent h child ≡ level.Parent → is_shaking h ≡ true
 parent-shaking h c o = grind arith
 
-pub parent-late : (h : Phase) (child : Bool) → level_sent h child ≡ level.Parent → is_before_tree h ≡ false
+pub parent-late :
+    (h : Phase) (child : Bool) → level_sent h child ≡ level.Parent → is_before_tree h ≡ false
 parent-late h c o = grind arith
 
-pub parent-childless : (h : Phase) (child : Bool) → level_sent h child ≡ level.Parent → child ≡ false
+pub parent-childless :
+    (h : Phase) (child : Bool) → level_sent h child ≡ level.Parent → child ≡ false
 parent-childless h c o = grind arith
 
-pub before_tree-parent : (h : Phase) (child : Bool) → is_before_tree h ≡ true → level_sent h child ≡ level.Parent → ⊥
+pub before_tree-parent :
+    (h : Phase) (child : Bool) → is_before_tree h ≡ true → level_sent h child ≡ level.Parent → ⊥
 before_tree-parent h c a b = grind arith

@@ -1,8 +1,10 @@
--- The tables of a world fit its nodes and its cables, and no signal is under way for too long (IsWellFormed).
+-- The tables of a world fit its nodes and its cables, and no signal is under way for too long
+-- (IsWellFormed).
 --
--- `AtPowerOn` for the power-on world, `TablesInTurns` for a turn, `TablesInSteps` for a step of one node between
--- two turns, `TablesInActs` for acts and holds. `CountsInActs` has the law `acts_keep`. `Shape` is of what is sent
--- onto wires. `CableEnds`: the node, the port and the wire at an end of a cable are there.
+-- `AtPowerOn` for the power-on world, `TablesInTurns` for a turn, `TablesInSteps` for a step of one
+-- node between two turns, `TablesInActs` for acts and holds. `CountsInActs` has the law
+-- `acts_keep`. `Shape` is of what is sent onto wires. `CableEnds`: the node, the port and the wire
+-- at an end of a cable are there.
 pub mod Shape
 pub mod AtPowerOn
 pub mod TablesInTurns

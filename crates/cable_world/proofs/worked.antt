@@ -1,9 +1,9 @@
 -- Runs that the check computes from the definitions, turn by turn.
 --
--- `Summary` has the words of a row. `TwoNodes`, `ThreeNodes`, `Held` (a hold keeps one end from seeing the
--- contention), `Desk` (a camera pulled while its packet is under way), `ChosenRoot` (a configuration packet),
--- `Loops` (a loop that times out, a contention that goes on). `Outcomes` has how they end, by `Settled`;
--- `Reached`, that they come of a power-on world.
+-- `Summary` has the words of a row. `TwoNodes`, `ThreeNodes`, `Held` (a hold keeps one end from
+-- seeing the contention), `Desk` (a camera pulled while its packet is under way), `ChosenRoot` (a
+-- configuration packet), `Loops` (a loop that times out, a contention that goes on). `Outcomes` has
+-- how they end, by `Settled`; `Reached`, that they come of a power-on world.
 pub mod Summary
 pub mod TwoNodes
 pub mod ThreeNodes

@@ -167,7 +167,8 @@ signal-keeps n s x = heard-keeps (is_heard n s x) n s x
 pub config-keeps : ConfigLeavesTheRest
 config-keeps packet x = go packet.root_id packet.force packet.gap
   where
-    go : (root_id : ℕ) (force : Bool) (gap : Option ℕ) →
+    go :
+        (root_id : ℕ) (force : Bool) (gap : Option ℕ) →
         KeepsBut (config_names (config_packet root_id force gap)) x (set_config (config_packet root_id force gap) x)
     go root_id true None = refl
     go root_id true (Some g) = refl

@@ -143,9 +143,11 @@ module _ (d : ℕ) (x y : Side) (j : Pair d x y) where
       less : (a b c : ℕ) → a ≤ b + 1 → a - c ≤ b - c + 1
       less a b c h = omega (arith, h)
 
-      calm : NoEntry x.node (hearing x)
-          → (((ticking x).state.view.phase ≡ (hearing x).state.view.phase) × ((ticking x).state.view.timer ≤ risen (hearing x).state.view.timer) × ((ticking x).sends ≡ [])) ⊎ ((ticking x).state.view.timer ≡ 0)
-          → AllAsOldAs ((ticking x).state.view.timer - slack (ticking x).state.view.phase) (wire_after x)
+      calm :
+          NoEntry x.node (hearing x) →
+          (((ticking x).state.view.phase ≡ (hearing x).state.view.phase) × ((ticking x).state.view.timer ≤ risen (hearing x).state.view.timer) × ((ticking x).sends ≡ []))
+          ⊎ ((ticking x).state.view.timer ≡ 0) →
+          AllAsOldAs ((ticking x).state.view.timer - slack (ticking x).state.view.phase) (wire_after x)
       calm h (inl s) =
           let ph : (ticking x).state.view.phase ≡ x.node.view.phase = s.0 ∙ h.phase in
           let was : is_timed x.node.view.phase ≡ true = ap is_timed (sym ph) ∙ t in
@@ -332,9 +334,12 @@ module _ (d : ℕ) (x y : Side) (j : Pair d x y) where
   -- the other node keeps this one for its parent, and no Parent is shown or sent to it
   stays_so :
       leads_down (ticking x).state.view.ports x.port ≡ true → NoEntry x.node (hearing x) →
-      NoEntry y.node (hearing y)
-      → is_port y.node.view.parent y.port ≡ true → is_parent (level_shown y.node y.port) ≡ false → has_no_parent_signal (signals_of x.wire) ≡ true
-      → (is_port (ticking y).state.view.parent y.port ≡ true) × (is_parent (level_shown (ticking y).state y.port) ≡ false) × (has_no_parent_signal (signals_of (wire_after x)) ≡ true)
+      NoEntry y.node (hearing y) → is_port y.node.view.parent y.port ≡ true →
+      is_parent (level_shown y.node y.port) ≡ false →
+      has_no_parent_signal (signals_of x.wire) ≡ true →
+      (is_port (ticking y).state.view.parent y.port ≡ true)
+      × (is_parent (level_shown (ticking y).state y.port) ≡ false)
+      × (has_no_parent_signal (signals_of (wire_after x)) ≡ true)
   stays_so c h g a b n =
       let later : is_parent (level_shown (hearing y).state y.port) ≡ false = heard_no_parent d x y j b n in
       let stay : has_no_parent_signal (signals_of (leftovers x)) ≡ true = kept_or_gone x (λ ss. has_no_parent_signal ss ≡ true) refl n in (
@@ -462,8 +467,8 @@ module _ (d : ℕ) (x y : Side) (j : Pair d x y) where
     where
       moved :
           (g : Bool) (b c : ℕ) → c ≤ b + 1 → NoneTakesBack b (level_shown x.node x.port) y.wire →
-          NoneTakesBack c (level_sent_at y.node y.port) (map new_signal (departures y))
-          → NoneTakesBack c (level_after (level_shown x.node x.port) (if g then signals_of y.wire else [])) ((if g then [] else map age_signal y.wire) ++ map new_signal (departures y))
+          NoneTakesBack c (level_sent_at y.node y.port) (map new_signal (departures y)) →
+          NoneTakesBack c (level_after (level_shown x.node x.port) (if g then signals_of y.wire else [])) ((if g then [] else map age_signal y.wire) ++ map new_signal (departures y))
       moved true b c h f t = subst (λ l. NoneTakesBack c l (map new_signal (departures y))) (sym j.levels_back) t
       moved false b c h f t = NoneTakesBack-append c (level_shown x.node x.port) (map age_signal y.wire) (map new_signal (departures y)) (NoneTakesBack-older b c (level_shown x.node x.port) y.wire h f)
           (subst (λ l. NoneTakesBack c l (map new_signal (departures y))) (sym (ap (level_after (level_shown x.node x.port)) (signals-older y.wire) ∙ j.levels_back)) t)
@@ -476,10 +481,11 @@ module _ (d : ℕ) (x y : Side) (j : Pair d x y) where
           NoneTakesBack ((ticking x).state.view.timer - d) (level_shown (ticking x).state x.port) (wire_after y)
       none z = subst (λ b. NoneTakesBack b (level_shown (ticking x).state x.port) (wire_after y)) (sym z) (NoneTakesBack-zero (level_shown (ticking x).state x.port) (wire_after y))
 
-      go : NoEntry x.node (hearing x)
-          → (((hearing x).state.view.phase ≡ phase.Contend) × ((ticking x).state.view.parent ≡ (hearing x).state.view.parent) × ((ticking x).state.view.timer ≤ risen (hearing x).state.view.timer) × ((ticking x).state.view.wait ≡ (hearing x).state.view.wait))
-          ⊎ (((ticking x).state.view.timer ≡ 0) × (((ticking x).state.view.wait ≡ (hearing x).state.timing.short) ⊎ ((ticking x).state.view.wait ≡ (hearing x).state.timing.long)))
-          → NoneTakesBack ((ticking x).state.view.timer - d) (level_shown (ticking x).state x.port) (wire_after y)
+      go :
+          NoEntry x.node (hearing x) →
+          (((hearing x).state.view.phase ≡ phase.Contend) × ((ticking x).state.view.parent ≡ (hearing x).state.view.parent) × ((ticking x).state.view.timer ≤ risen (hearing x).state.view.timer) × ((ticking x).state.view.wait ≡ (hearing x).state.view.wait))
+          ⊎ (((ticking x).state.view.timer ≡ 0) × (((ticking x).state.view.wait ≡ (hearing x).state.timing.short) ⊎ ((ticking x).state.view.wait ≡ (hearing x).state.timing.long))) →
+          NoneTakesBack ((ticking x).state.view.timer - d) (level_shown (ticking x).state x.port) (wire_after y)
       go h (inr z) = none (omega (arith, z.0))
       go h (inl z) = elim (zero_or ((ticking x).state.view.timer - d)) [
         | inl o ↦ none o
@@ -498,8 +504,10 @@ module _ (d : ℕ) (x y : Side) (j : Pair d x y) where
 
   child_after :
       leads_down (ticking x).state.view.ports x.port ≡ true →
-      has_reset (signals_of (wire_after y)) ≡ false
-      → (is_port (ticking y).state.view.parent y.port ≡ true) × (is_parent (level_shown (ticking y).state y.port) ≡ false) × (has_no_parent_signal (signals_of (wire_after x)) ≡ true)
+      has_reset (signals_of (wire_after y)) ≡ false →
+      (is_port (ticking y).state.view.parent y.port ≡ true)
+      × (is_parent (level_shown (ticking y).state y.port) ≡ false)
+      × (has_no_parent_signal (signals_of (wire_after x)) ≡ true)
   child_after c a =
       elim (j.near.ticks.child x.port (heard_connected d x j.near) c) [
         | inl z ↦ old (sym (h.child x.port) ∙ z)

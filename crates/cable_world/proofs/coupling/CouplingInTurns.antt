@@ -92,8 +92,8 @@ before w k y f e = elim (slice_get_cases w.nodes k).1 [
 -- the two ends of a cable, in a turn of the world
 pub pair :
     (w : CableWorld) (a b : End) (x y : PortNode) → IsWellFormed w → LevelsAgree w → IsCoupled w →
-    far w.cabling a ≡ Some b → slice_get w.nodes a.node ≡ Some x → slice_get w.nodes b.node ≡ Some y →
-    Pair w.delay (side w a x) (side w b y)
+    far w.cabling a ≡ Some b → slice_get w.nodes a.node ≡ Some x →
+    slice_get w.nodes b.node ≡ Some y → Pair w.delay (side w a x) (side w b y)
 pair w a b x y f l c e at_x at_y =
     let back : far w.cabling b ≡ Some a = f.cabling.both_ways a b e in
     record {

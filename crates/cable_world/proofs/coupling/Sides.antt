@@ -258,10 +258,11 @@ waits-turn d signals coin x r h t w c = go h.cases (t.contend c)
     range : InRange d m.timing
     range = rw h.timing r
 
-    go : NoEntry x (hear_all signals x) ⊎ EntersReset x (hear_all signals x)
-        → ((m.view.phase ≡ phase.Contend) × (n.view.parent ≡ m.view.parent) × (n.view.timer ≤ risen m.view.timer) × (n.view.wait ≡ m.view.wait))
-        ⊎ ((n.view.timer ≡ 0) × ((n.view.wait ≡ m.timing.short) ⊎ (n.view.wait ≡ m.timing.long)))
-        → 3 * d ≤ n.view.wait
+    go :
+        NoEntry x (hear_all signals x) ⊎ EntersReset x (hear_all signals x) →
+        ((m.view.phase ≡ phase.Contend) × (n.view.parent ≡ m.view.parent) × (n.view.timer ≤ risen m.view.timer) × (n.view.wait ≡ m.view.wait))
+        ⊎ ((n.view.timer ≡ 0) × ((n.view.wait ≡ m.timing.short) ⊎ (n.view.wait ≡ m.timing.long))) →
+        3 * d ≤ n.view.wait
     go (inl a) (inl z) = omega (arith, z.3, a.wait, w (sym a.phase ∙ z.0))
     go (inr a) (inl z) = absurd (start-contend m.view.phase (ap is_resetting a.phase) z.0)
     go o (inr z) = elim z.1 [ inl s ↦ omega (arith, s, range.short_least) | inr l ↦ omega (arith, l, range.long_least) ]

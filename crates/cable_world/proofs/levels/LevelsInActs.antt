@@ -22,7 +22,8 @@ module _ (w v : CableWorld) (h : Happens w v) (l : LevelsAgree w) where
   -- a cable whose first node entered R0, and sent Reset: that is the last level under way
   begun-level :
       (a b : End) (x y : PortNode) → Entered w v a b x →
-      level_after (level_shown y.state b.port) (signals_of (wire_of v a).signals) ≡ level_sent_at x.state a.port
+      level_after (level_shown y.state b.port) (signals_of (wire_of v a).signals)
+      ≡ level_sent_at x.state a.port
   begun-level a b x y s =
       let shown = level_shown y.state b.port in
       let old = s.last.0 in
@@ -35,7 +36,8 @@ module _ (w v : CableWorld) (h : Happens w v) (l : LevelsAgree w) where
   stayed-level :
       (a b : End) (x y : PortNode) → far v.cabling a ≡ Some b → slice_get v.nodes b.node ≡ Some y →
       Stayed w v a b x →
-      level_after (level_shown y.state b.port) (signals_of (wire_of v a).signals) ≡ level_sent_at x.state a.port
+      level_after (level_shown y.state b.port) (signals_of (wire_of v a).signals)
+      ≡ level_sent_at x.state a.port
   stayed-level a b x y e at s =
       let back : far w.cabling b ≡ Some a = h.before.cabling.both_ways a b s.cable in
       let old : CableEnd w b = cable-end w b a h.before back in
@@ -55,8 +57,8 @@ module _ (w v : CableWorld) (h : Happens w v) (l : LevelsAgree w) where
 -- ---- hold
 
 pub hold-levels :
-    (end : End) (turns : ℕ) (w : CableWorld) → hold_fault end w ≡ None → IsWellFormed w → LevelsAgree w →
-    LevelsAgree (hold end turns w)
+    (end : End) (turns : ℕ) (w : CableWorld) → hold_fault end w ≡ None → IsWellFormed w →
+    LevelsAgree w → LevelsAgree (hold end turns w)
 hold-levels end turns w none f l = levels-after w (hold end turns w) (hold-happens end turns w none f) l
 
 -- ---- acts
@@ -73,8 +75,8 @@ told-levels set packet w l a b x y e at there =
     (λ x at. each-kept set change w.nodes b.node (λ y. Pair x y) (λ y h. h) (λ y there. l a b x y e at there) y there) x at
 
 pub act-levels :
-    (a : Act) (w v : CableWorld) → IsAct a → act_fault a w ≡ None → ActLeads a w v → IsWellFormed w →
-    LevelsAgree w → LevelsAgree v
+    (a : Act) (w v : CableWorld) → IsAct a → act_fault a w ≡ None → ActLeads a w v →
+    IsWellFormed w → LevelsAgree w → LevelsAgree v
 act-levels a w v is none e f l =
     let t : Acting w v = acting a w v is none e f in
     let heard : LevelsAgree t.told = elim t.hears [

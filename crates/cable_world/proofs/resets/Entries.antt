@@ -306,7 +306,8 @@ module _ (w : CableWorld) (l : IsLawful w) where
   chain-enters :
       (k : ℕ) → k + 1 < 64 * w.delay → Chained w k → (j : ℕ) (x y : PortNode) →
       slice_get w.nodes j ≡ Some x → slice_get (turn w).nodes j ≡ Some y →
-      is_resetting x.state.view.phase ≡ false → is_resetting y.state.view.phase ≡ true → k + 1 + 1 ≤ y.state.view.timer + w.delay * entries y.state.view.timer (k + 1) (turn w)
+      is_resetting x.state.view.phase ≡ false → is_resetting y.state.view.phase ≡ true →
+      k + 1 + 1 ≤ y.state.view.timer + w.delay * entries y.state.view.timer (k + 1) (turn w)
   chain-enters k high c j x y at_x at_y out there =
       let t = in-turn w l j x y at_x at_y in
       let one : y.state.view.timer ≡ 1 = t.enters out there in
@@ -322,7 +323,8 @@ module _ (w : CableWorld) (l : IsLawful w) where
   chain-stays :
       (k : ℕ) → k + 1 < 64 * w.delay → Chained w k → (j : ℕ) (x y : PortNode) →
       slice_get w.nodes j ≡ Some x → slice_get (turn w).nodes j ≡ Some y →
-      is_resetting x.state.view.phase ≡ true → is_resetting y.state.view.phase ≡ true → k + 1 + 1 ≤ y.state.view.timer + w.delay * entries y.state.view.timer (k + 1) (turn w)
+      is_resetting x.state.view.phase ≡ true → is_resetting y.state.view.phase ≡ true →
+      k + 1 + 1 ≤ y.state.view.timer + w.delay * entries y.state.view.timer (k + 1) (turn w)
   chain-stays k high c j x y at_x at_y was there =
       let t = in-turn w l j x y at_x at_y in
       let rose : y.state.view.timer ≡ x.state.view.timer + 1 = t.rises was there in
@@ -480,8 +482,8 @@ module _ (w : CableWorld) (l : IsLawful w) where
 -- no turn after the first n * d makes a node enter R0
 pub steady :
     (w : CableWorld) → IsLawful w → (k : ℕ) → length w.nodes * w.delay ≤ k →
-    (j : ℕ) (x y : PortNode)
-    → slice_get (turns_after k w).nodes j ≡ Some x → slice_get (turns_after (k + 1) w).nodes j ≡ Some y
-    → is_resetting x.state.view.phase ≡ false → is_resetting y.state.view.phase ≡ false
+    (j : ℕ) (x y : PortNode) → slice_get (turns_after k w).nodes j ≡ Some x →
+    slice_get (turns_after (k + 1) w).nodes j ≡ Some y → is_resetting x.state.view.phase ≡ false →
+    is_resetting y.state.view.phase ≡ false
 steady w l k late j x y at_x at_y out =
     late-steady w l k (omega (arith, slice_get_within (turns_after k w).nodes j x at_x, after-length w l k)) late j x y at_x (rw (one-more k w) at at_y) out

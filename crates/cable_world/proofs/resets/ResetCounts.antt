@@ -81,9 +81,9 @@ tick-counts coin x = row-counts coin (next_row x) (raise_timer x)
 -- the same of a node's whole turn: who enters while hearing is still in R0 after the tick
 pub turn-counts :
     (signals : List (ℕ × Signal)) (coin : Bool) (x : NodeState) → 2 ≤ x.timing.hold →
-    x.timing.hold ≤ 65535 → HearsWell signals x → TicksWell coin (hear_all signals x).state
-    → (is_resetting x.view.phase ≡ false → is_resetting (tick coin (hear_all signals x).state).state.view.phase ≡ false)
-    → (tick coin (hear_all signals x).state).state.view.resets ≡ x.view.resets
+    x.timing.hold ≤ 65535 → HearsWell signals x → TicksWell coin (hear_all signals x).state →
+    (is_resetting x.view.phase ≡ false → is_resetting (tick coin (hear_all signals x).state).state.view.phase ≡ false) →
+    (tick coin (hear_all signals x).state).state.view.resets ≡ x.view.resets
 turn-counts signals coin x low high h t stays = tick-counts coin m ∙ hear-counts signals x (λ e. heard e h.cases)
   where
     m : NodeState

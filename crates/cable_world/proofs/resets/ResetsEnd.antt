@@ -17,8 +17,8 @@ use Rattle.cable_world.proofs.resets.ResetCounts.{turn-counts}
 
 pub counts-stand :
     (w : CableWorld) → IsLawful w → (k : ℕ) → length w.nodes * w.delay ≤ k →
-    (j : ℕ) (x y : PortNode)
-    → slice_get (turns_after k w).nodes j ≡ Some x → slice_get (turns_after (k + 1) w).nodes j ≡ Some y → y.state.view.resets ≡ x.state.view.resets
+    (j : ℕ) (x y : PortNode) → slice_get (turns_after k w).nodes j ≡ Some x →
+    slice_get (turns_after (k + 1) w).nodes j ≡ Some y → y.state.view.resets ≡ x.state.view.resets
 counts-stand w l k long j x y at_x at_y =
     let v : CableWorld = turns_after k w in
     let lv : IsLawful v = turns-lawful k w l in

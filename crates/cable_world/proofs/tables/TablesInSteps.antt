@@ -104,9 +104,10 @@ abbrev wire_at : List Wire → ℕ → Wire
 wire_at wires p = slice_index_or wires p empty_wire
 
 -- a wire takes what was sent on its port, or isn't there
-sent-or-none : (sends : List (ℕ × Signal)) (wires : List Wire) (p : ℕ) →
-    (wire_at (wires_after_sends 0 sends wires) p ≡ add_signals (sent_on p sends) (wire_at wires p)) ⊎
-    (wire_at (wires_after_sends 0 sends wires) p ≡ wire_at wires p)
+sent-or-none :
+    (sends : List (ℕ × Signal)) (wires : List Wire) (p : ℕ) →
+    (wire_at (wires_after_sends 0 sends wires) p ≡ add_signals (sent_on p sends) (wire_at wires p))
+    ⊎ (wire_at (wires_after_sends 0 sends wires) p ≡ wire_at wires p)
 sent-or-none sends wires p = elim (cases_lt p (length wires)) [
   | inl less ↦
       let z : 0 + p ≡ p = omega arith in

@@ -248,8 +248,8 @@ hear-came (s ∷ rest) x out h = go (is_resetting y.view.phase) refl (hear-came 
 
     go :
         (b : Bool) → is_resetting y.view.phase ≡ b →
-        (is_resetting y.view.phase ≡ false → is_resetting (hear_all rest y).state.view.phase ≡ true → (k : ℕ) × (is_connected y.view.ports k ≡ true) × (has_reset (sent_on k rest) ≡ true))
-        → (k : ℕ) × (is_connected x.view.ports k ≡ true) × (has_reset (sent_on k (s ∷ rest)) ≡ true)
+        (is_resetting y.view.phase ≡ false → is_resetting (hear_all rest y).state.view.phase ≡ true → (k : ℕ) × (is_connected y.view.ports k ≡ true) × (has_reset (sent_on k rest) ≡ true)) →
+        (k : ℕ) × (is_connected x.view.ports k ≡ true) × (has_reset (sent_on k (s ∷ rest)) ≡ true)
     go true e later = let found = signal-came s.0 s.1 x out e in (s.0, found.0, first (s.0 == s.0) (eq-eqb s.0 s.0 refl) found.1)
     go false e later = let found = later e h in (found.0, sym (signal-cables s.0 s.1 x found.0) ∙ found.1, more (s.0 == found.0) (sent_on found.0 rest) found.2)
 

@@ -82,10 +82,13 @@ pub record TicksWell (coin : Bool) (x : NodeState) : Type 0 where
   -- in R0, before the hold is over
   pub holds :
       is_resetting x.view.phase ≡ true → x.view.timer + 1 < x.timing.hold → x.timing.hold ≤ 65535 →
-      (is_resetting (tick coin x).state.view.phase ≡ true) × ((tick coin x).state.view.timer ≡ x.view.timer + 1) × ((tick coin x).sends ≡ [])
+      (is_resetting (tick coin x).state.view.phase ≡ true)
+      × ((tick coin x).state.view.timer ≡ x.view.timer + 1) × ((tick coin x).sends ≡ [])
   -- where the timer tells, it rose with nothing sent, or begins anew
-  pub timed : is_timed (tick coin x).state.view.phase ≡ true →
-      (((tick coin x).state.view.phase ≡ x.view.phase) × ((tick coin x).state.view.timer ≤ risen x.view.timer) × ((tick coin x).sends ≡ [])) ⊎ ((tick coin x).state.view.timer ≡ 0)
+  pub timed :
+      is_timed (tick coin x).state.view.phase ≡ true →
+      (((tick coin x).state.view.phase ≡ x.view.phase) × ((tick coin x).state.view.timer ≤ risen x.view.timer) × ((tick coin x).sends ≡ []))
+      ⊎ ((tick coin x).state.view.timer ≡ 0)
   pub between :
       is_after_hold (tick coin x).state.view.phase ≡ true →
       (is_after_hold x.view.phase ≡ true)
@@ -115,12 +118,13 @@ pub record TicksWell (coin : Bool) (x : NodeState) : Type 0 where
   pub child :
       (k : ℕ) → is_connected x.view.ports k ≡ true →
       leads_down (tick coin x).state.view.ports k ≡ true →
-      (leads_down x.view.ports k ≡ true) ⊎ (((x.view.phase ≡ TreeStart) × (level_shown x k ≡ level.Parent)) ⊎
-      ((x.view.phase ≡ Contend) × (x.view.parent ≡ Some k) × (level_shown x k ≡ level.Parent) × (x.view.wait ≤ risen x.view.timer)))
+      (leads_down x.view.ports k ≡ true)
+      ⊎ (((x.view.phase ≡ TreeStart) × (level_shown x k ≡ level.Parent)) ⊎ ((x.view.phase ≡ Contend) × (x.view.parent ≡ Some k) × (level_shown x k ≡ level.Parent) × (x.view.wait ≤ risen x.view.timer)))
   -- a contention goes on, or begins
-  pub contend : (tick coin x).state.view.phase ≡ Contend →
-      ((x.view.phase ≡ Contend) × ((tick coin x).state.view.parent ≡ x.view.parent) × ((tick coin x).state.view.timer ≤ risen x.view.timer) × ((tick coin x).state.view.wait ≡ x.view.wait)) ⊎
-      (((tick coin x).state.view.timer ≡ 0) × (((tick coin x).state.view.wait ≡ x.timing.short) ⊎ ((tick coin x).state.view.wait ≡ x.timing.long)))
+  pub contend :
+      (tick coin x).state.view.phase ≡ Contend →
+      ((x.view.phase ≡ Contend) × ((tick coin x).state.view.parent ≡ x.view.parent) × ((tick coin x).state.view.timer ≤ risen x.view.timer) × ((tick coin x).state.view.wait ≡ x.view.wait))
+      ⊎ (((tick coin x).state.view.timer ≡ 0) × (((tick coin x).state.view.wait ≡ x.timing.short) ⊎ ((tick coin x).state.view.wait ≡ x.timing.long)))
   -- what is sent at once takes no Parent back, or has none
   pub batch :
       (k : ℕ) → is_connected x.view.ports k ≡ true →

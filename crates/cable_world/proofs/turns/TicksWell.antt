@@ -148,7 +148,8 @@ leaves-out coin r x h = refl
 holds-on :
     (coin : Bool) (r : Row) (x : NodeState) → Chosen r x → is_resetting x.view.phase ≡ true →
     x.view.timer < x.timing.hold →
-    (is_resetting (does coin r x).state.view.phase ≡ true) × ((does coin r x).state.view.timer ≡ x.view.timer) × ((does coin r x).sends ≡ [])
+    (is_resetting (does coin r x).state.view.phase ≡ true)
+    × ((does coin r x).state.view.timer ≡ x.view.timer) × ((does coin r x).sends ≡ [])
 holds-on coin row.none x c h t = (h, refl, refl)
 holds-on coin row.ends_reset x c h t = absurd (omega (arith, c.1, t))
 holds-on coin row.begins_tree x c h t = absurd (elsewhere is_resetting c.0 refl h)
@@ -167,7 +168,8 @@ holds-on coin row.names_itself x c h t = absurd (elsewhere is_resetting c refl h
 times :
     (coin : Bool) (r : Row) (x : NodeState) → Chosen r x →
     is_timed (does coin r x).state.view.phase ≡ true →
-    (((does coin r x).state.view.phase ≡ x.view.phase) × ((does coin r x).state.view.timer ≤ x.view.timer) × ((does coin r x).sends ≡ [])) ⊎ ((does coin r x).state.view.timer ≡ 0)
+    (((does coin r x).state.view.phase ≡ x.view.phase) × ((does coin r x).state.view.timer ≤ x.view.timer) × ((does coin r x).sends ≡ []))
+    ⊎ ((does coin r x).state.view.timer ≡ 0)
 times coin row.none x c h = inl (refl, le_refl _, refl)
 times coin row.ends_reset x c h = inr refl
 times coin row.begins_tree x c h = inr refl
@@ -180,7 +182,8 @@ times coin r x c h = absurd (true≢false (sym h))
 comes-between :
     (coin : Bool) (r : Row) (x : NodeState) → Chosen r x →
     is_after_hold (does coin r x).state.view.phase ≡ true →
-    (is_after_hold x.view.phase ≡ true) ⊎ ((is_resetting x.view.phase ≡ true) × (x.timing.hold ≤ x.view.timer))
+    (is_after_hold x.view.phase ≡ true)
+    ⊎ ((is_resetting x.view.phase ≡ true) × (x.timing.hold ≤ x.view.timer))
 comes-between coin row.none x c h = inl h
 comes-between coin row.ends_reset x c h = inr (ap is_resetting c.0, c.1)
 comes-between coin row.begins_tree x c h = inl (ap is_after_hold c.0)
@@ -208,9 +211,10 @@ waits-on coin (row.asks_child p) x k c on s w = w
 waits-on coin row.names_itself x k c on s w = absurd (elsewhere is_in_bus_reset c refl w)
 
 -- a contention goes on, or begins
-contends-on : (coin : Bool) (r : Row) (x : NodeState) → (does coin r x).state.view.phase ≡ Contend →
-    ((x.view.phase ≡ Contend) × ((does coin r x).state.view.parent ≡ x.view.parent) × ((does coin r x).state.view.timer ≤ x.view.timer) × ((does coin r x).state.view.wait ≡ x.view.wait)) ⊎
-    (((does coin r x).state.view.timer ≡ 0) × (((does coin r x).state.view.wait ≡ x.timing.short) ⊎ ((does coin r x).state.view.wait ≡ x.timing.long)))
+contends-on :
+    (coin : Bool) (r : Row) (x : NodeState) → (does coin r x).state.view.phase ≡ Contend →
+    ((x.view.phase ≡ Contend) × ((does coin r x).state.view.parent ≡ x.view.parent) × ((does coin r x).state.view.timer ≤ x.view.timer) × ((does coin r x).state.view.wait ≡ x.view.wait))
+    ⊎ (((does coin r x).state.view.timer ≡ 0) × (((does coin r x).state.view.wait ≡ x.timing.short) ⊎ ((does coin r x).state.view.wait ≡ x.timing.long)))
 contends-on coin row.none x h = inl (h, refl, le_refl _, refl)
 contends-on coin row.times_out x h = inl (h, refl, le_refl _, refl)
 contends-on coin (row.begins_contention p) x h = inr (refl, drawn coin)

@@ -22,7 +22,8 @@ use Rattle.cable_world.proofs.coupling.Streams.{signals-older}
 
 pub turn-state :
     (signals : List (ℕ × Signal)) (x : PortNode) →
-    (node_turn signals x).node.state ≡ (row.tick (coin x.coins) (hear_all signals x.state).state).state
+    (node_turn signals x).node.state
+    ≡ (row.tick (coin x.coins) (hear_all signals x.state).state).state
 turn-state signals x = refl
 
 -- what it sends on one port, while hearing and at the tick

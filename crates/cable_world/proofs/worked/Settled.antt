@@ -66,8 +66,7 @@ Given c root t k r = (k ≢ root → IsSome r.parent) × IsSomeAnd r.id (λ i. s
 pub tree-settled :
     (w : CableWorld) (set root : ℕ) (t : Tree) (c : Wiring) (attrs : List Attrs) (rows : List Summary) →
     w.cabling ≡ c → attrs_now w ≡ attrs → map summary_of w.nodes ≡ rows →
-    set ≡ set_of (numbers c root t) → Holds set root →
-    Sees c (labels attrs) root None t →
+    set ≡ set_of (numbers c root t) → Holds set root → Sees c (labels attrs) root None t →
     IsSomeAnd (slice_get rows root) (λ r. r.parent ≡ None) →
     Each (λ k. IsSomeAnd (slice_get rows k) (λ r. Given c root t k r)) (numbers c root t) →
     IsTree w set root t
