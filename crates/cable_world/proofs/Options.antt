@@ -1,5 +1,5 @@
 -- What an option has.
-use Rattle.std.proofs.Common.{◌≡◌, Option, Some, None, ap}
+use Rattle.std.proofs.Common.{◌≡◌, Option, Some, None, ap, refl, subst, sym}
 use Rattle.std.specs.Option.{IsSomeAnd, option_map}
 
 abbrev or-else : {A : Type 0} → A → Option A → A
@@ -30,3 +30,11 @@ pub unmapped :
     IsSomeAnd o (λ x. P (f x))
 unmapped None f P h = absurd h
 unmapped (Some x) f P h = h
+
+-- what is there, and that it is there
+pub some-of : {A : Type 0} → (o : Option A) (P : A → Type 0) → IsSomeAnd o P → (x : A) × (o ≡ Some x) × P x
+some-of None P h = absurd h
+some-of (Some x) P h = (x, refl, h)
+
+pub some-at : {A : Type 0} → (o : Option A) (x : A) (P : A → Type 0) → o ≡ Some x → P x → IsSomeAnd o P
+some-at o x P e h = subst (λ q. IsSomeAnd q P) (sym e) h
