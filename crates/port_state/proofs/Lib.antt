@@ -1,6 +1,7 @@
 pub mod Cables
 pub mod CoinPlaces
 pub mod EachPort
+pub mod IdleTicks
 pub mod Laws
 pub mod Pointwise
 pub mod Roles

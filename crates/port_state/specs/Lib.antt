@@ -16,7 +16,10 @@ pub mod Group
 pub mod SelfIdentify
 pub mod Tick
 pub mod Names
+pub mod Rival
 pub mod Machine
+pub mod CoinSource
+pub mod Idle
 pub mod Valid
 pub mod Sound
 pub mod Stays

@@ -7,6 +7,8 @@
 //! `PortMachine`, and does these steps to its record.
 #![tactic(auto)]
 
+mod coins;
+mod idle_laws;
 mod machine;
 mod ports;
 mod sends;
@@ -18,6 +20,8 @@ mod tests;
 mod timing;
 mod view;
 
+pub use coins::Coins;
+pub use idle_laws::idle_ticks;
 pub use machine::PortMachine;
 pub use ports::{PortView, PortViews};
 pub use sends::Sends;

@@ -1,5 +1,5 @@
 //! What every machine of a node does.
-ghost use Rattle.std.specs.Prelude.{◌≡◌, ◌<◌, ◌≤◌, [], IsTrue, IsFalse};
+ghost use Rattle.std.specs.Prelude.{◌≡◌, ◌+◌, ◌<◌, ◌≤◌, [], IsTrue, IsFalse};
 ghost use Rattle.std.specs.Option.{ForSome};
 ghost use Rattle.port_state.specs.Ports.{is_connected};
 ghost use Rattle.port_state.specs.Group.{shown_attrs};
@@ -7,6 +7,7 @@ ghost use Rattle.port_state.specs.Valid.{IsValid};
 ghost use Rattle.port_state.specs.Config.{config_packet};
 ghost use Rattle.port_state.specs.Machine.{PortNode, node_on_signal, node_tick, node_disturb};
 ghost use Rattle.port_state.specs.Machine.{node_plugged, node_pulled, node_set_config};
+ghost use Rattle.port_state.specs.Idle.{IsIdleFor, after_ticks};
 
 use crate::sends::Sends;
 use crate::signal::Signal;
@@ -86,6 +87,18 @@ pub trait PortMachine {
     /// The number of ports, 1 to 16.
     fn ports(&self) -> u8
         ensures { result ≡ (record_of self.now).state.ports };
+
+    /// How long nothing happens at the node: the greatest number of ticks, up to 4,000,000, such that
+    /// the next ticks of this number send nothing and change the timer alone, if no signal is heard.
+    fn idle_for(&self) -> u32
+        ensures most { result ≤ 4000000 }
+        ensures idle { IsIdleFor result (record_of self.now) }
+        ensures greatest { result < 4000000 → ¬ IsIdleFor (result + 1) (record_of self.now) };
+
+    /// So many ticks of the clock pass in which nothing happens: at most as many as `idle_for` answers.
+    fn pass(&mut self, ticks: u32)
+        requires idle { IsIdleFor ticks (record_of self.old) }
+        ensures { record_of self.new ≡ after_ticks ticks (record_of self.old) };
 
     // The record of a machine is valid, whatever calls came before.
     ghost valid: { (m : Self) → IsValid (record_of m).state };

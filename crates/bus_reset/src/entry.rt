@@ -1,0 +1,50 @@
+//! The entry to R0 (Reset start).
+ghost use Rattle.std.specs.Prelude.{◌≡◌, [], map};
+ghost use Rattle.port_state.specs.Entry.{enter, unmarked};
+ghost use Rattle.port_state.specs.Valid.{IsBounded};
+
+use port_state::states::NodeState;
+use port_state::{Phase, PortViews, Sends, Signal};
+
+/// Each port keeps its cable and its level, and leads to no child.
+fn clear_marks(ports: &mut PortViews)
+    ensures { ports.new ≡ map unmarked ports.old }
+{
+    let count = ports.as_slice().len();
+    for at in 0..count {
+        let mut port = ports.get(at);
+        port.child = false;
+        port.asked = false;
+        port.named = false;
+        ports.set(at, port);
+    }
+}
+
+/// The node begins a reset, by itself (`caused`) or since it heard Reset: it forgets the tree, takes over
+/// what a configuration packet said, and sends Reset on every connected port. `out` is empty, and then has
+/// what was sent.
+#[tactic(auto, unfolding(port_state::specs::Entry::enter))]
+pub fn enter(s: &mut NodeState, caused: bool, out: &mut Sends)
+    requires bounded { IsBounded s.old }
+    requires empty { out.old ≡ [] }
+    ensures state { s.new ≡ (enter caused s.old).state }
+    ensures sends { out.new ≡ (enter caused s.old).sends }
+{
+    let view = &mut s.view;
+    out.push_on_every(view.ports.as_slice(), Signal::Reset);
+    clear_marks(&mut view.ports);
+    view.phase = Phase::ResetStart;
+    view.timer = 0;
+    view.wait = 0;
+    view.parent = None;
+    view.granted = false;
+    view.id = None;
+    view.draws = 0;
+    view.first_draws = 0;
+    view.initiated = caused;
+    view.gap = view.next_gap;
+    view.force = view.next_force;
+    view.timed_out = false;
+    view.resets = view.resets.saturating_add(1);
+    s.list.clear();
+}

@@ -1,0 +1,8 @@
+//! Root contention (IEEE Std 1394-1995 and 1394a-2000, state T3): two neighbours asked each other to be
+//! parent. Each draws a coin and waits, short for 0 and long for 1.
+#![tactic(auto)]
+
+mod contend;
+
+pub use contend::{begin, contend_tick};
+pub use port_state::Coins;

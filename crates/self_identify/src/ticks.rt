@@ -1,0 +1,128 @@
+//! The rows of S0 (Self-ID start), S1 (Self-ID grant), S2 (Self-ID receive) and S4 (Self-ID transmit).
+ghost use Rattle.std.specs.Prelude.{◌≡◌, ◌+◌, ◌*◌, ◌<◌, ◌≤◌, ◌++◌, [], length, if◌then◌else◌};
+ghost use Rattle.std.specs.Option.{ForSome};
+ghost use Rattle.port_state.specs.declared.signal.Phase.TheVariants.{SelfIdent};
+ghost use Rattle.port_state.specs.Ports.{is_unnamed, lowest};
+ghost use Rattle.port_state.specs.Sends.{packets_on_every};
+ghost use Rattle.port_state.specs.Group.{is_packet_zero, nodes_in, own_group};
+ghost use Rattle.port_state.specs.Step.{quiet};
+ghost use Rattle.port_state.specs.SelfIdentify.{names_itself, may_name};
+ghost use Rattle.port_state.specs.Valid.{IsValid, IsBounded};
+ghost use Rattle.self_identify.specs.IdentStep.{ident_step};
+
+use crate::group;
+use arrayvec::ArrayVec;
+use port_state::states::NodeState;
+use port_state::{Phase, PortView, Sends, Signal};
+
+/// Whether a quadlet is a packet zero: 10 at the top, and a zero bit behind the phy_ID.
+fn is_packet_zero(quad: u32) -> bool
+    ensures { result ≡ is_packet_zero quad }
+{
+    quad >> 30 == 2 && (quad >> 23) % 2 == 0
+}
+
+/// How many nodes a list of packets shows.
+fn nodes_in(list: &[u32]) -> usize
+    ensures value { result ≡ nodes_in list.now }
+    ensures few { result ≤ length list.now }
+{
+    list.iter().filter(|quad| is_packet_zero(**quad)).count()
+}
+
+/// Whether a port leads to a child that hasn't identified itself.
+fn is_unnamed(port: &PortView) -> bool
+    ensures { result ≡ is_unnamed port.now }
+{
+    port.connected && port.child && !port.named
+}
+
+/// The lowest port whose child hasn't identified itself.
+fn next_child(ports: &[PortView]) -> Option<u8>
+    requires { length ports.now ≤ 16 }
+    ensures value { result ≡ lowest is_unnamed ports.now }
+    ensures exists { ForSome result (λ p. p < length ports.now) }
+{
+    for (at, port) in ports.iter().enumerate() {
+        if is_unnamed(port) {
+            return Some(at as u8);
+        }
+    }
+    None
+}
+
+/// Appends the quadlets of a node's own packets to its list.
+fn append(list: &mut ArrayVec<u32, 252>, quads: &[u32])
+    requires { length list.old.items + length quads.now ≤ 252 }
+    ensures { list.new.items ≡ list.old.items ++ quads.now }
+{
+    for quad in quads {
+        list.push(*quad);
+    }
+}
+
+/// Sends each packet in turn on every connected port.
+fn send_packets(quads: &[u32], ports: &[PortView], out: &mut Sends)
+    requires few { length ports.now ≤ 16 }
+    requires packets { length quads.now ≤ 4 }
+    requires room { length out.old + 16 * length quads.now ≤ 112 }
+    ensures sends { out.new ≡ out.old ++ packets_on_every quads.now ports.now }
+    ensures fits { length out.new ≤ length out.old + 16 * length quads.now }
+{
+    for quad in quads {
+        out.push_on_every(ports, Signal::Packet(*quad));
+    }
+}
+
+/// S4 to A0: the node's ID is the number of the nodes before it. It sends its packets on every connected
+/// port, and Done to its parent.
+fn name_itself(s: &mut NodeState, out: &mut Sends)
+    requires bounded { IsBounded s.old }
+    requires empty { out.old ≡ [] }
+    ensures state { s.new ≡ (if may_name s.old then names_itself s.old else quiet s.old).state }
+    ensures sends { out.new ≡ (if may_name s.old then names_itself s.old else quiet s.old).sends }
+{
+    let id = nodes_in(s.list.as_slice());
+    if id > 62 {
+        return;
+    }
+    let id = id as u8;
+    let group = group::own_group(s, id);
+    let packets = group.as_slice();
+    if s.list.len() + packets.len() > 252 {
+        return;
+    }
+    s.view.phase = Phase::Ready;
+    s.view.id = Some(id);
+    append(&mut s.list, packets);
+    send_packets(packets, s.view.ports.as_slice(), out);
+    if let Some(parent) = s.view.parent {
+        out.push(parent, Signal::Done);
+    }
+}
+
+/// What a tick does in SelfIdent, once it has raised the timer. A node that was granted grants its children
+/// one after the other, the lowest port first and each once, when the one before has said Done; then it
+/// identifies itself. `out` is empty, and then has what was sent.
+pub fn ident_tick(s: &mut NodeState, out: &mut Sends)
+    requires valid { IsValid s.old }
+    requires identifies { s.old.view.phase ≡ Phase.SelfIdent }
+    requires empty { out.old ≡ [] }
+    ensures state { s.new ≡ (ident_step s.old).state }
+    ensures sends { out.new ≡ (ident_step s.old).sends }
+{
+    if !s.view.granted {
+        return;
+    }
+    let Some(port) = next_child(s.view.ports.as_slice()) else {
+        name_itself(s, out);
+        return;
+    };
+    let at = usize::from(port);
+    let mut view = s.view.ports.get(at);
+    if !view.asked {
+        view.asked = true;
+        s.view.ports.set(at, view);
+        out.push(port, Signal::Grant);
+    }
+}

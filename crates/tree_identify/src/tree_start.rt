@@ -1,0 +1,119 @@
+//! T0 (Tree ID start): all neighbours but one are to ask this node to be their parent.
+ghost use Rattle.std.specs.Prelude.{◌≡◌, ◌+◌, ◌≤◌, ◌++◌, [], false, length, map, count_by};
+ghost use Rattle.port_state.specs.Ports.{asks, is_left, connected_count, lowest};
+ghost use Rattle.port_state.specs.Sends.{notices};
+ghost use Rattle.port_state.specs.TreeIdentify.{is_decided, adopted, tree_start_row};
+ghost use Rattle.port_state.specs.Tick.{does};
+
+use port_state::states::NodeState;
+use port_state::{Level, Phase, PortView, PortViews, Sends, Signal};
+
+/// Whether the neighbour at a port asks this node to be its parent.
+fn asks(port: &PortView) -> bool
+    ensures { result ≡ asks port.now }
+{
+    port.connected && port.shown == Level::Parent
+}
+
+/// Whether there is a neighbour at a port, and it doesn't ask.
+fn is_left(port: &PortView) -> bool
+    ensures { result ≡ is_left port.now }
+{
+    port.connected && port.shown != Level::Parent
+}
+
+/// How many ports are connected.
+fn connected_count(ports: &[PortView]) -> usize
+    ensures value { result ≡ connected_count ports.now }
+    ensures few { result ≤ length ports.now }
+{
+    ports.iter().filter(|port| port.connected).count()
+}
+
+/// How many neighbours ask.
+fn asking_count(ports: &[PortView]) -> usize
+    ensures value { result ≡ count_by asks ports.now }
+    ensures few { result ≤ length ports.now }
+{
+    ports.iter().filter(|port| asks(port)).count()
+}
+
+/// The lowest port whose neighbour doesn't ask.
+fn left_port(ports: &[PortView]) -> Option<u8>
+    requires { length ports.now ≤ 16 }
+    ensures { result ≡ lowest is_left ports.now }
+{
+    for (at, port) in ports.iter().enumerate() {
+        if is_left(port) {
+            return Some(at as u8);
+        }
+    }
+    None
+}
+
+/// Whether every neighbour asks, or all but one do and the node needn't wait to become root.
+fn is_decided(s: &NodeState) -> bool
+    ensures { result ≡ is_decided s.now }
+{
+    let ports = s.view.ports.as_slice();
+    let connected = connected_count(ports);
+    let asking = asking_count(ports);
+    asking == connected
+        || (asking + 1 == connected && (!s.view.force || s.view.timer >= s.timing.force))
+}
+
+/// Sends Child on each port whose neighbour asks, and Parent on each other, in rising port order.
+fn send_notices(ports: &[PortView], out: &mut Sends)
+    requires few { length ports.now ≤ 16 }
+    requires room { length out.old + length ports.now ≤ 112 }
+    ensures { out.new ≡ out.old ++ notices ports.now }
+{
+    for (at, port) in ports.iter().enumerate() {
+        if port.connected {
+            let signal = if port.shown == Level::Parent {
+                Signal::Child
+            } else {
+                Signal::Parent
+            };
+            out.push(at as u8, signal);
+        }
+    }
+}
+
+/// The port as a child port, if its neighbour asks.
+fn adopted(port: PortView) -> PortView
+    ensures { result ≡ adopted port }
+{
+    let child = port.child || asks(&port);
+    PortView { child, ..port }
+}
+
+/// Makes each port whose neighbour asks a child port.
+fn adopt(ports: &mut PortViews)
+    ensures { ports.new ≡ map adopted ports.old }
+{
+    let count = ports.as_slice().len();
+    for at in 0..count {
+        let port = ports.get(at);
+        ports.set(at, adopted(port));
+    }
+}
+
+/// T0 to T1 where the roles of the ports are decided; else the node says that its configuration timed out,
+/// if it has waited that long.
+pub fn tick(s: &mut NodeState, out: &mut Sends)
+    requires few { length s.old.view.ports ≤ 16 }
+    requires empty { out.old ≡ [] }
+    ensures state { s.new ≡ (does false (tree_start_row s.old) s.old).state }
+    ensures sends { out.new ≡ (does false (tree_start_row s.old) s.old).sends }
+{
+    if is_decided(s) {
+        send_notices(s.view.ports.as_slice(), out);
+        s.view.parent = left_port(s.view.ports.as_slice());
+        adopt(&mut s.view.ports);
+        s.view.phase = Phase::ChildShake;
+        s.view.timed_out = false;
+    } else if s.view.timer >= s.timing.timeout {
+        s.view.timed_out = true;
+    }
+}
