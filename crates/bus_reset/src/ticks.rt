@@ -12,9 +12,7 @@ use port_state::{Level, Phase, PortView, Sends, Signal};
 fn are_calm(ports: &[PortView]) -> bool
     ensures { result ≡ every (λ p. is_calm p.shown) ports.now }
 {
-    ports
-        .iter()
-        .all(|port| !port.connected || matches!(port.shown, Level::Idle | Level::Parent))
+    ports.iter().all(|port| !port.connected || matches!(port.shown, Level::Idle | Level::Parent))
 }
 
 /// What a tick does in R0 and R1, once it has raised the timer; in any other state nothing. From R0 the

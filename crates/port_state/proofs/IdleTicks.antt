@@ -98,6 +98,7 @@ stirs c ParentShake x p e l = at x.view.parent e l
     go q true b e l = let h = l.silent in cc
     go q false true e l = let h = l.silent in cc
     go q false false e l = cc
+
     at : (o : Option ℕ) → changes_nothing (parent_shake_at o (raised x)) x ≡ false → LooksIdle x (does c (parent_shake_at o (raised x)) (raised x)) → ⊥
     at None e l = let h = l.phase in cc
     at (Some q) e l = go q (port_is (λ v. is_child v.shown) x.view.ports q) (port_is (λ v. is_parent v.shown) x.view.ports q) e l
@@ -106,9 +107,11 @@ stirs c Contend x p e l = over (nat_le x.view.wait (raised x).view.timer) e l
     go : (q : ℕ) (a : Bool) → let r = if a then row.takes_rival q else row.asks_again q in changes_nothing r x ≡ false → LooksIdle x (does c r (raised x)) → ⊥
     go q true e l = let h = l.silent in cc
     go q false e l = let h = l.silent in cc
+
     at : (o : Option ℕ) → changes_nothing (contend_at o (raised x)) x ≡ false → LooksIdle x (does c (contend_at o (raised x)) (raised x)) → ⊥
     at None e l = cc
     at (Some q) e l = go q (port_is (λ v. is_parent v.shown) x.view.ports q) e l
+
     over : (b : Bool) → let r = if b then contend_at x.view.parent (raised x) else row.none in changes_nothing r x ≡ false → LooksIdle x (does c r (raised x)) → ⊥
     over true e l = at x.view.parent e l
     over false e l = cc
@@ -117,12 +120,15 @@ stirs c SelfIdent x p e l = granted x.view.granted e l
     asks : (q : ℕ) (a : Bool) → let r = if a then row.none else row.asks_child q in changes_nothing r x ≡ false → LooksIdle x (does c r (raised x)) → ⊥
     asks q true e l = cc
     asks q false e l = let h = l.silent in cc
+
     names : (b : Bool) → let r = if b then row.names_itself else row.none in changes_nothing r x ≡ false → LooksIdle x (does c r (raised x)) → ⊥
     names true e l = let h = l.phase in cc
     names false e l = cc
+
     at : (o : Option ℕ) → changes_nothing (granted_row o (raised x)) x ≡ false → LooksIdle x (does c (granted_row o (raised x)) (raised x)) → ⊥
     at None e l = names (may_name (raised x)) e l
     at (Some q) e l = asks q (port_is (λ v. v.asked) x.view.ports q) e l
+
     granted : (b : Bool) → let r = if b then granted_row (lowest is_unnamed x.view.ports) (raised x) else row.none in changes_nothing r x ≡ false → LooksIdle x (does c r (raised x)) → ⊥
     granted true e l = at (lowest is_unnamed x.view.ports) e l
     granted false e l = cc

@@ -1,5 +1,5 @@
 //! What a node does with the signals of self identify.
-ghost use Rattle.std.specs.Prelude.{◌≡◌, ◌+◌, ◌<◌, ◌≤◌, ◌++◌, [], length};
+ghost use Rattle.std.specs.Prelude.{◌≡◌, ◌+◌, ◌<◌, ◌≤◌, ◌++◌, [], length, not, ◌==◌, ◌&&◌};
 ghost use Rattle.port_state.specs.Sends.{on_others};
 ghost use Rattle.port_state.specs.Heard.{hears_packet};
 ghost use Rattle.port_state.specs.Valid.{IsValid};
@@ -8,6 +8,13 @@ ghost use Rattle.self_identify.specs.IdentStep.{ident_heard};
 use port_state::states::NodeState;
 use port_state::{Phase, PortView, Sends, Signal};
 
+/// Whether a port, numbered from 0, is connected and isn't this one.
+fn is_other(at: usize, but: u8, port: &PortView) -> bool
+    ensures { result ≡ (not (at == but) && port.now.connected) }
+{
+    at != usize::from(but) && port.connected
+}
+
 /// Sends a signal on every connected port but one, in rising port order.
 fn send_on_others(ports: &[PortView], but: u8, signal: Signal, out: &mut Sends)
     requires few { length ports.now ≤ 16 }
@@ -15,7 +22,7 @@ fn send_on_others(ports: &[PortView], but: u8, signal: Signal, out: &mut Sends)
     ensures { out.new ≡ out.old ++ on_others but signal ports.now }
 {
     for (at, port) in ports.iter().enumerate() {
-        if at as u8 != but && port.connected {
+        if is_other(at, but, port) {
             out.push(at as u8, signal);
         }
     }

@@ -11,9 +11,7 @@ use port_state::{Level, Phase, PortView};
 fn are_children_idle(ports: &[PortView]) -> bool
     ensures { result ≡ every (λ p. if p.child then is_idle p.shown else true) ports.now }
 {
-    ports
-        .iter()
-        .all(|port| !port.connected || !port.child || port.shown == Level::Idle)
+    ports.iter().all(|port| !port.connected || !port.child || port.shown == Level::Idle)
 }
 
 /// T1 to T2 where every child shows Idle. Nothing is sent.

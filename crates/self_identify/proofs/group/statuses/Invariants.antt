@@ -9,8 +9,8 @@ invariant-loop-at l = record {
   made : l.list ++ statuses_from l.at l.parent (drop l.at l.ports) ≡ statuses_from 0 l.parent l.ports;
 }
 
-abbrev pub invariant-loop-_absent : goal.invariant-loop-_absent
-invariant-loop-_absent l = record {
+abbrev pub invariant-loop-absent : goal.invariant-loop-absent
+invariant-loop-absent l = record {
   count : length l.list ≡ l._absent;
-  made : l.list ≡ statuses_from 0 l.parent l.ports ++ replicate (l._absent - length l.ports) Absent;
+  made : l.list ≡ statuses_from 0 l.fn.parent l.ports ++ replicate (l._absent - length l.ports) Absent;
 }
