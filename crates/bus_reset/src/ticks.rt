@@ -1,19 +1,10 @@
 //! The rows of R0 (Reset start) and R1 (Reset wait).
-ghost use Rattle.std.specs.Prelude.{◌≡◌, [], ◌∷◌};
-ghost use Rattle.port_state.specs.Ports.{every};
-ghost use Rattle.port_state.specs.Resetting.{is_calm};
+ghost use Rattle.std.specs.Prelude.{◌≡◌, []};
 ghost use Rattle.port_state.specs.Valid.{IsValid};
 ghost use Rattle.bus_reset.specs.ResetStep.{reset_step};
 
 use port_state::states::NodeState;
-use port_state::{Level, Phase, PortView, Sends, Signal};
-
-/// Whether every neighbour is past its reset.
-fn are_calm(ports: &[PortView]) -> bool
-    ensures { result ≡ every (λ p. is_calm p.shown) ports.now }
-{
-    ports.iter().all(|port| !port.connected || matches!(port.shown, Level::Idle | Level::Parent))
-}
+use port_state::{Phase, PortTests, Sends, Signal};
 
 /// What a tick does in R0 and R1, once it has raised the timer; in any other state nothing. From R0 the
 /// node goes on after the hold, and sends Idle on every connected port. From R1 it goes on where all of
@@ -33,7 +24,7 @@ pub fn reset_tick(s: &mut NodeState, out: &mut Sends)
             }
         }
         Phase::ResetWait => {
-            if are_calm(s.view.ports.as_slice()) {
+            if s.view.ports.are_calm() {
                 s.view.phase = Phase::TreeStart;
                 s.view.timer = 0;
             }

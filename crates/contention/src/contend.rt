@@ -10,6 +10,20 @@ ghost use Rattle.port_state.specs.Valid.{IsValid};
 use port_state::states::NodeState;
 use port_state::{Coins, Level, Phase, Sends, Signal};
 
+/// Whether a node in T2 meets a rival: its parent port shows Parent.
+pub fn has_rival(s: &NodeState) -> bool
+    requires { IsValid s.now }
+    ensures { result ≡ has_rival s.now }
+{
+    if s.view.phase != Phase::ParentShake {
+        return false;
+    }
+    match s.view.parent {
+        None => false,
+        Some(parent) => s.view.ports.get(usize::from(parent)).shown == Level::Parent,
+    }
+}
+
 /// The first 32 draws with one more coin, of which `draws` were drawn before: coin number j, from 0, is
 /// bit j.
 fn draws_with(coin: bool, draws: u16, first: u32) -> u32

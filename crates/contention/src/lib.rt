@@ -4,5 +4,5 @@
 
 mod contend;
 
-pub use contend::{begin, contend_tick};
+pub use contend::{begin, contend_tick, has_rival};
 pub use port_state::Coins;

@@ -1,6 +1,6 @@
 -- A tick is idle exactly where its row changes nothing, and then it raises the timer alone.
-use Rattle.std.proofs.Common.{◌≡◌, ℕ, zero, suc, ◌+◌, ◌≤◌, ◌<◌, Bool, true, false, [], ◌∷◌, min, Option, Some, None, refl, sym, ◌∙◌, ap, arith, if◌then◌else◌}
-use Rattle.std.specs.Prelude.{◌↔◌, ◌&&◌, nat_le}
+use Rattle.std.proofs.Common.{◌≡◌, ℕ, zero, suc, ◌+◌, ◌≤◌, Bool, true, false, [], min, Option, Some, None, refl, sym, ◌∙◌, ap, arith, if◌then◌else◌}
+use Rattle.std.specs.Prelude.{◌↔◌, nat_le}
 use Rattle.port_state.specs.declared.signal.Phase.{Phase}
 use Rattle.port_state.specs.declared.signal.Phase.TheVariants.{ResetStart, ResetWait, TreeStart, ChildShake, ParentShake, Contend, SelfIdent, Ready}
 use Rattle.port_state.specs.declared.states.NodeState.{NodeState}
@@ -14,7 +14,7 @@ use Rattle.port_state.specs.Row.{Row}
 use Rattle.port_state.specs.Tick.{raised, row_of, does, next_row, draws}
 use Rattle.port_state.specs.Tick as step
 use Rattle.port_state.specs.Names.{timer, without}
-use Rattle.port_state.specs.Coins.{coin, later}
+use Rattle.port_state.specs.Coins.{coin}
 use Rattle.port_state.specs.Machine.{PortNode, tick}
 use Rattle.port_state.specs.Idle.{IsIdleTick, IsIdleFor, after_ticks, changes_nothing, rests, with_later_timer}
 

@@ -12,7 +12,7 @@ use Rattle.self_id.specs.Slots.{slot_count}
 use Rattle.self_id.proofs.Zeros.{node_count-group}
 use Rattle.port_state.specs.Group.{status, statuses_from, shown_node, NodesAreShown, GroupsHaveOneZero}
 
-length-statuses_from :
+pub length-statuses_from :
     (k : ℕ) (parent : Option ℕ) (ports : List PortView) →
     length (statuses_from k parent ports) ≡ length ports
 length-statuses_from k parent [] = refl

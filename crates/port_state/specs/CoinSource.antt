@@ -1,5 +1,4 @@
 -- The coins that a source of coins in memory gives.
-use Rattle.std.specs.Prelude.{ℕ}
 use Rattle.port_state.specs.Coins.{Coins, bits, words}
 use Rattle.port_state.specs.declared.coins.Source.{Source}
 use Rattle.port_state.specs.declared.coins.Source.TheVariants.{Repeated, Generated}

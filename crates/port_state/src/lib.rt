@@ -10,6 +10,7 @@
 mod coins;
 mod idle_laws;
 mod machine;
+mod port_tests;
 mod ports;
 mod sends;
 mod signal;
@@ -23,6 +24,7 @@ mod view;
 pub use coins::Coins;
 pub use idle_laws::idle_ticks;
 pub use machine::PortMachine;
+pub use port_tests::PortTests;
 pub use ports::{PortView, PortViews};
 pub use sends::Sends;
 pub use signal::{Level, Phase, Signal};

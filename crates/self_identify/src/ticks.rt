@@ -1,8 +1,6 @@
 //! The rows of S0 (Self-ID start), S1 (Self-ID grant), S2 (Self-ID receive) and S4 (Self-ID transmit).
 ghost use Rattle.std.specs.Prelude.{◌≡◌, ◌+◌, ◌*◌, ◌<◌, ◌≤◌, ◌++◌, [], length, if◌then◌else◌};
-ghost use Rattle.std.specs.Option.{ForSome};
 ghost use Rattle.port_state.specs.declared.signal.Phase.TheVariants.{SelfIdent};
-ghost use Rattle.port_state.specs.Ports.{is_unnamed, lowest};
 ghost use Rattle.port_state.specs.Sends.{packets_on_every};
 ghost use Rattle.port_state.specs.Group.{is_packet_zero, nodes_in, own_group};
 ghost use Rattle.port_state.specs.Step.{quiet};
@@ -13,7 +11,7 @@ ghost use Rattle.self_identify.specs.IdentStep.{ident_step};
 use crate::group;
 use arrayvec::ArrayVec;
 use port_state::states::NodeState;
-use port_state::{Phase, PortView, Sends, Signal};
+use port_state::{Phase, PortTests, PortView, Sends, Signal};
 
 /// Whether a quadlet is a packet zero: 10 at the top, and a zero bit behind the phy_ID.
 fn is_packet_zero(quad: u32) -> bool
@@ -22,33 +20,12 @@ fn is_packet_zero(quad: u32) -> bool
     quad >> 30 == 2 && (quad >> 23) % 2 == 0
 }
 
-/// How many nodes a list of packets shows.
-fn nodes_in(list: &[u32]) -> usize
+/// How many nodes a list of packets shows: so many of its quadlets are a packet zero.
+pub fn nodes_in(list: &[u32]) -> usize
     ensures value { result ≡ nodes_in list.now }
     ensures few { result ≤ length list.now }
 {
     list.iter().filter(|quad| is_packet_zero(**quad)).count()
-}
-
-/// Whether a port leads to a child that hasn't identified itself.
-fn is_unnamed(port: &PortView) -> bool
-    ensures { result ≡ is_unnamed port.now }
-{
-    port.connected && port.child && !port.named
-}
-
-/// The lowest port whose child hasn't identified itself.
-fn next_child(ports: &[PortView]) -> Option<u8>
-    requires { length ports.now ≤ 16 }
-    ensures value { result ≡ lowest is_unnamed ports.now }
-    ensures exists { ForSome result (λ p. p < length ports.now) }
-{
-    for (at, port) in ports.iter().enumerate() {
-        if is_unnamed(port) {
-            return Some(at as u8);
-        }
-    }
-    None
 }
 
 /// Appends the quadlets of a node's own packets to its list.
@@ -114,7 +91,7 @@ pub fn ident_tick(s: &mut NodeState, out: &mut Sends)
     if !s.view.granted {
         return;
     }
-    let Some(port) = next_child(s.view.ports.as_slice()) else {
+    let Some(port) = s.view.ports.next_child() else {
         name_itself(s, out);
         return;
     };

@@ -1,42 +1,12 @@
 //! T0 (Tree ID start): all neighbours but one are to ask this node to be their parent.
-ghost use Rattle.std.specs.Prelude.{◌≡◌, ◌+◌, ◌≤◌, ◌++◌, [], false, length, map, count_by};
-ghost use Rattle.port_state.specs.Ports.{asks, is_left, connected_count, lowest};
+ghost use Rattle.std.specs.Prelude.{◌≡◌, ◌+◌, ◌≤◌, ◌++◌, [], false, length, map};
+ghost use Rattle.port_state.specs.Ports.{is_left, lowest};
 ghost use Rattle.port_state.specs.Sends.{notices};
 ghost use Rattle.port_state.specs.TreeIdentify.{is_decided, adopted, tree_start_row};
 ghost use Rattle.port_state.specs.Tick.{does};
 
 use port_state::states::NodeState;
-use port_state::{Level, Phase, PortView, PortViews, Sends, Signal};
-
-/// Whether the neighbour at a port asks this node to be its parent.
-fn asks(port: &PortView) -> bool
-    ensures { result ≡ asks port.now }
-{
-    port.connected && port.shown == Level::Parent
-}
-
-/// Whether there is a neighbour at a port, and it doesn't ask.
-fn is_left(port: &PortView) -> bool
-    ensures { result ≡ is_left port.now }
-{
-    port.connected && port.shown != Level::Parent
-}
-
-/// How many ports are connected.
-fn connected_count(ports: &[PortView]) -> usize
-    ensures value { result ≡ connected_count ports.now }
-    ensures few { result ≤ length ports.now }
-{
-    ports.iter().filter(|port| port.connected).count()
-}
-
-/// How many neighbours ask.
-fn asking_count(ports: &[PortView]) -> usize
-    ensures value { result ≡ count_by asks ports.now }
-    ensures few { result ≤ length ports.now }
-{
-    ports.iter().filter(|port| asks(port)).count()
-}
+use port_state::{Level, Phase, PortTests, PortView, PortViews, Sends, Signal};
 
 /// The lowest port whose neighbour doesn't ask.
 fn left_port(ports: &[PortView]) -> Option<u8>
@@ -44,7 +14,7 @@ fn left_port(ports: &[PortView]) -> Option<u8>
     ensures { result ≡ lowest is_left ports.now }
 {
     for (at, port) in ports.iter().enumerate() {
-        if is_left(port) {
+        if port.is_left() {
             return Some(at as u8);
         }
     }
@@ -55,9 +25,8 @@ fn left_port(ports: &[PortView]) -> Option<u8>
 fn is_decided(s: &NodeState) -> bool
     ensures { result ≡ is_decided s.now }
 {
-    let ports = s.view.ports.as_slice();
-    let connected = connected_count(ports);
-    let asking = asking_count(ports);
+    let connected = s.view.ports.connected_count();
+    let asking = s.view.ports.asking_count();
     asking == connected
         || (asking + 1 == connected && (!s.view.force || s.view.timer >= s.timing.force))
 }
@@ -84,7 +53,7 @@ fn send_notices(ports: &[PortView], out: &mut Sends)
 fn adopted(port: PortView) -> PortView
     ensures { result ≡ adopted port }
 {
-    let child = port.child || asks(&port);
+    let child = port.child || port.asks();
     PortView { child, ..port }
 }
 

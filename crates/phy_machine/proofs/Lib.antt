@@ -1,0 +1,3 @@
+pub mod IdleFor
+pub mod PacketCount
+pub mod TickRows

@@ -1,0 +1,17 @@
+-- A node as its specification says, at power-on.
+use Rattle.std.specs.Prelude.{◌≡◌, ◌≤◌}
+use Rattle.self_id.specs.Node.{FitBits}
+use Rattle.port_state.specs.PowerOn.{power_on}
+use Rattle.port_state.specs.Machine.{PortNode}
+use Rattle.phy_machine.specs.declared.spec.NodeSpec.{NodeSpec}
+
+-- a specification of a node that can be
+pub record IsSpec (s : NodeSpec) : Type 0 where
+  pub some_port : 1 ≤ s.ports
+  pub few_ports : s.ports ≤ 16
+  pub attrs : FitBits s.attrs
+  pub no_delay : s.attrs.delay ≡ 0
+
+-- the node at power-on
+abbrev pub specified : NodeSpec → PortNode
+specified s = record { state = power_on s.ports s.attrs s.force s.timing; coins = s.coins }

@@ -1,0 +1,30 @@
+-- A tick by the crates of the phases. Only private functions cite this file.
+use Rattle.std.specs.Prelude.{false, if◌then◌else◌}
+use Rattle.port_state.specs.declared.signal.Phase.{Phase}
+use Rattle.port_state.specs.declared.signal.Phase.TheVariants.{ResetStart, ResetWait, TreeStart, ChildShake, ParentShake, Contend, SelfIdent, Ready}
+use Rattle.port_state.specs.declared.states.NodeState.{NodeState}
+use Rattle.port_state.specs.Coins.{Coins, coin, later}
+use Rattle.port_state.specs.Step.{quiet}
+use Rattle.port_state.specs.Rival.{has_rival}
+use Rattle.port_state.specs.TreeIdentify.{parent_shake_row, contend_row}
+use Rattle.port_state.specs.Tick.{does}
+use Rattle.port_state.specs.Machine.{PortNode, NodeStep, with_coins}
+use Rattle.bus_reset.specs.ResetStep.{reset_step}
+use Rattle.tree_identify.specs.TreeStep.{tree_step}
+use Rattle.self_identify.specs.IdentStep.{ident_step}
+
+abbrev pub node_of : NodeState → Coins → PortNode
+node_of x coins = record { state = x; coins = coins }
+
+-- what a phase does to a record whose timer was raised
+abbrev pub row_step : Phase → NodeState → Coins → NodeStep
+row_step ResetStart x coins = with_coins coins (reset_step x)
+row_step ResetWait x coins = with_coins coins (reset_step x)
+row_step TreeStart x coins = with_coins coins (tree_step x)
+row_step ChildShake x coins = with_coins coins (tree_step x)
+row_step ParentShake x coins =
+    if has_rival x then with_coins (later coins) (does (coin coins) (parent_shake_row x) x)
+    else with_coins coins (tree_step x)
+row_step Contend x coins = with_coins coins (does false (contend_row x) x)
+row_step SelfIdent x coins = with_coins coins (ident_step x)
+row_step Ready x coins = with_coins coins (quiet x)

@@ -1,0 +1,96 @@
+//! A machine that keeps the record as it is.
+ghost use Rattle.std.specs.Prelude.{◌≡◌};
+ghost use Rattle.port_state.specs.Valid.{IsValid};
+ghost use Rattle.phy_machine.specs.OneProof.{valid_prop};
+ghost use Rattle.phy_machine.specs.PowerOn.{IsSpec, specified};
+
+use crate::spec::NodeSpec;
+use crate::{idle, node};
+use port_state::states::NodeState;
+use port_state::{Coins, PortMachine, Sends, Signal, Timing, View};
+use self_id::Attrs;
+
+/// A machine that keeps each part of its node's record in a field of its own.
+#[derive(Debug, Drop)]
+pub struct FieldMachine {
+    state: NodeState,
+    coins: Coins,
+    ghost valid: { IsValid state } by { valid_prop state },
+}
+
+impl FieldMachine {
+    ghost use Rattle.phy_machine.specs.Field.{field_node};
+
+    /// The machine of a node at power-on. The specification has 1 to 16 ports, and attributes that fit
+    /// their bits with a delay of 0.
+    pub fn new(spec: NodeSpec) -> FieldMachine
+        requires { IsSpec spec }
+        ensures { field_node result ≡ specified spec }
+    {
+        FieldMachine {
+            state: node::power_on(spec.ports, spec.attrs, spec.force, spec.timing),
+            coins: spec.coins,
+        }
+    }
+}
+
+impl PortMachine for FieldMachine {
+    ghost use Rattle.phy_machine.specs.Field.{field_node};
+
+    ghost record_of = { field_node };
+
+    fn on_signal(&mut self, port: u8, signal: Signal, out: &mut Sends) {
+        node::on_signal(&mut self.state, port, signal, out);
+    }
+
+    fn tick(&mut self, out: &mut Sends) {
+        node::tick(&mut self.state, &mut self.coins, out);
+    }
+
+    fn disturb(&mut self, out: &mut Sends) {
+        node::disturb(&mut self.state, out);
+    }
+
+    fn plugged(&mut self, port: u8, out: &mut Sends) {
+        node::plugged(&mut self.state, port, out);
+    }
+
+    fn pulled(&mut self, port: u8, out: &mut Sends) {
+        node::pulled(&mut self.state, port, out);
+    }
+
+    fn set_config(&mut self, root_id: u8, force: bool, gap: Option<u8>) {
+        node::set_config(&mut self.state, root_id, force, gap);
+    }
+
+    fn view(&self) -> View {
+        let view = &self.state.view;
+        node::view_with(view, node::copy_ports(&view.ports))
+    }
+
+    fn list(&self) -> &[u32] {
+        self.state.list.as_slice()
+    }
+
+    fn attrs(&self) -> Attrs {
+        node::attrs(&self.state)
+    }
+
+    fn timing(&self) -> Timing {
+        self.state.timing
+    }
+
+    fn ports(&self) -> u8 {
+        self.state.ports
+    }
+
+    fn idle_for(&self) -> u32 {
+        idle::idle_for(&self.state, &self.state.view.ports)
+    }
+
+    fn pass(&mut self, ticks: u32) {
+        node::pass(&mut self.state, ticks);
+    }
+
+    ghost valid = { λ m. m.valid };
+}

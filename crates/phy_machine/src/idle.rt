@@ -1,0 +1,153 @@
+//! How long nothing happens at a node, whichever machine keeps its ports.
+ghost use Rattle.std.specs.Prelude.{◌≡◌, ◌+◌, ◌<◌, ◌≤◌};
+ghost use Rattle.port_state.specs.Coins.{Coins};
+ghost use Rattle.port_state.specs.Idle.{IsIdleFor};
+ghost use Rattle.port_state.specs.SelfIdentify.{may_name};
+ghost use Rattle.port_state.specs.Valid.{IsBounded, IsValid};
+ghost use Rattle.phy_machine.specs.RowStep.{node_of};
+ghost use Rattle.phy_machine.specs.IdleTime.{HasTimes, with_ports, packet_count, ticks_before, unless, until_timeout, until_roles, until_answer, until_waited, until_named, idle_in};
+
+use port_state::states::NodeState;
+use port_state::{Level, Phase, PortTests};
+use self_identify::nodes_in;
+
+/// As long as a machine looks ahead, in ticks.
+const FOR_EVER: u32 = 4_000_000;
+
+/// How many ticks there are before the one that raises the timer to a time.
+fn ticks_before(time: u16, s: &NodeState) -> u32
+    ensures { result ≡ ticks_before time s.now }
+{
+    u32::from(time).saturating_sub(u32::from(s.view.timer) + 1)
+}
+
+/// No tick, if something happens at the next one, and else as long as a machine looks ahead.
+fn unless(happens: bool) -> u32
+    ensures { result ≡ unless happens }
+{
+    if happens { 0 } else { FOR_EVER }
+}
+
+/// In T0: until the node says that its configuration timed out.
+fn until_timeout(s: &NodeState) -> u32
+    ensures { result ≡ until_timeout s.now }
+{
+    if s.view.timed_out {
+        FOR_EVER
+    } else {
+        ticks_before(s.timing.timeout, s)
+    }
+}
+
+/// In T0: until the roles of the ports are decided.
+fn until_roles<P: PortTests>(s: &NodeState, ports: &P) -> u32
+    ensures { result ≡ until_roles (with_ports (P.views ports.now) s.now) }
+{
+    let asking = ports.asking_count();
+    let connected = ports.connected_count();
+    if asking == connected {
+        0
+    } else if asking + 1 == connected {
+        if s.view.force {
+            ticks_before(s.timing.force, s)
+        } else {
+            0
+        }
+    } else {
+        FOR_EVER
+    }
+}
+
+/// In T2: until the parent answers; a node with no parent port goes on at once.
+fn until_answer<P: PortTests>(s: &NodeState, ports: &P) -> u32
+    requires { IsBounded (with_ports (P.views ports.now) s.now) }
+    ensures { result ≡ until_answer s.now.view.parent (with_ports (P.views ports.now) s.now) }
+{
+    match s.view.parent {
+        None => 0,
+        Some(parent) => unless(matches!(ports.port(parent).shown, Level::Child | Level::Parent)),
+    }
+}
+
+/// In T3: until the wait is over.
+fn until_waited(s: &NodeState) -> u32
+    ensures { result ≡ until_waited s.now.view.parent s.now }
+{
+    match s.view.parent {
+        None => FOR_EVER,
+        Some(_) => ticks_before(s.view.wait, s),
+    }
+}
+
+/// How many packets a node with so many ports, 1 to 16, has.
+fn packet_count(ports: u8) -> usize
+    ensures { result ≡ packet_count ports }
+{
+    match ports {
+        0..=3 => 1,
+        4..=11 => 2,
+        _ => 3,
+    }
+}
+
+/// Whether there is an ID left for the node, and room in its list.
+fn may_name<P: PortTests>(s: &NodeState, ports: &P) -> bool
+    requires { IsBounded (with_ports (P.views ports.now) s.now) }
+    ensures { result ≡ may_name (with_ports (P.views ports.now) s.now) }
+{
+    nodes_in(s.list.as_slice()) <= 62 && s.list.len() + packet_count(s.ports) <= 252
+}
+
+/// In S0 to S2: until the grant, and then until the child that was asked says Done.
+fn until_named<P: PortTests>(s: &NodeState, ports: &P) -> u32
+    requires { IsBounded (with_ports (P.views ports.now) s.now) }
+    ensures { result ≡ until_named (with_ports (P.views ports.now) s.now) }
+{
+    if !s.view.granted {
+        return FOR_EVER;
+    }
+    match ports.next_child() {
+        None => unless(may_name(s, ports)),
+        Some(port) => unless(!ports.port(port).asked),
+    }
+}
+
+/// The times of a node are read, and so seen to fit 16 bits.
+fn read_times(s: &NodeState)
+    ensures { HasTimes s.now }
+{
+    let _timer = s.view.timer;
+    let _wait = s.view.wait;
+    let _hold = s.timing.hold;
+    let _force = s.timing.force;
+    let _timeout = s.timing.timeout;
+}
+
+/// How long nothing happens, by the phase.
+fn idle_in<P: PortTests>(s: &NodeState, ports: &P) -> u32
+    requires { IsBounded (with_ports (P.views ports.now) s.now) }
+    ensures { result ≡ idle_in s.now.view.phase (with_ports (P.views ports.now) s.now) }
+{
+    match s.view.phase {
+        Phase::ResetStart => ticks_before(s.timing.hold, s),
+        Phase::ResetWait => unless(ports.are_calm()),
+        Phase::TreeStart => until_roles(s, ports).min(until_timeout(s)),
+        Phase::ChildShake => unless(ports.are_children_idle()),
+        Phase::ParentShake => until_answer(s, ports),
+        Phase::Contend => until_waited(s),
+        Phase::SelfIdent => until_named(s, ports),
+        Phase::Ready => FOR_EVER,
+    }
+}
+
+/// How many of the next ticks, up to 4,000,000, send nothing and change the timer alone, at a node with
+/// these ports, if no signal is heard.
+pub fn idle_for<P: PortTests>(s: &NodeState, ports: &P) -> u32
+    requires { IsBounded (with_ports (P.views ports.now) s.now) }
+    ensures most { result ≤ 4000000 }
+    ensures idle { (coins : Coins) → IsIdleFor result (node_of (with_ports (P.views ports.now) s.now) coins) }
+    ensures greatest { (coins : Coins) → result < 4000000 → ¬ IsIdleFor (result + 1) (node_of (with_ports (P.views ports.now) s.now) coins) }
+{
+    read_times(s);
+    idle_in(s, ports)
+}

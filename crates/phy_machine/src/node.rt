@@ -1,0 +1,275 @@
+//! The calls of a machine over the record of its node, for every machine of this crate.
+ghost use Rattle.std.specs.Prelude.{◌≡◌, ◌<◌, ◌≤◌, [], IsTrue, length, replicate};
+ghost use Rattle.std.specs.Option.{ForSome};
+ghost use Rattle.port_state.specs.Ports.{is_connected};
+ghost use Rattle.port_state.specs.PowerOn.{free_port, power_on};
+ghost use Rattle.port_state.specs.Entry.{disturb, plugged, pulled};
+ghost use Rattle.port_state.specs.Config.{set_config};
+ghost use Rattle.port_state.specs.Heard.{on_signal};
+ghost use Rattle.port_state.specs.Group.{shown_attrs};
+ghost use Rattle.port_state.specs.Machine.{tick};
+ghost use Rattle.port_state.specs.Idle.{with_later_timer};
+ghost use Rattle.port_state.specs.Valid.{IsBounded, IsValid};
+ghost use Rattle.phy_machine.specs.RowStep.{node_of, row_step};
+ghost use Rattle.phy_machine.specs.Levels.{level_of, signal_of};
+
+use arrayvec::ArrayVec;
+use bus_reset::{enter, reset_tick};
+use contention::{begin, contend_tick, has_rival};
+use port_state::states::NodeState;
+use port_state::{Coins, Level, Phase, PortView, PortViews, Sends, Signal, Timing, View};
+use self_id::Attrs;
+use self_identify::{ident_signal, ident_tick};
+use tree_identify::tree_tick;
+
+/// What the row of the phase does, once the timer was raised.
+fn take_row(s: &mut NodeState, coins: &mut Coins, out: &mut Sends)
+    requires valid { IsValid s.old }
+    requires empty { out.old ≡ [] }
+    ensures node { node_of s.new coins.new ≡ (row_step s.old.view.phase s.old coins.old).node }
+    ensures sends { out.new ≡ (row_step s.old.view.phase s.old coins.old).sends }
+{
+    match s.view.phase {
+        Phase::ResetStart | Phase::ResetWait => reset_tick(s, out),
+        Phase::TreeStart | Phase::ChildShake => tree_tick(s, out),
+        Phase::ParentShake => {
+            if has_rival(s) {
+                begin(s, coins, out);
+            } else {
+                tree_tick(s, out);
+            }
+        }
+        Phase::Contend => contend_tick(s, out),
+        Phase::SelfIdent => ident_tick(s, out),
+        Phase::Ready => {}
+    }
+}
+
+/// A tick: the timer rises, and the row of the phase applies.
+pub fn tick(s: &mut NodeState, coins: &mut Coins, out: &mut Sends)
+    requires valid { IsValid s.old }
+    requires empty { out.old ≡ [] }
+    ensures node { node_of s.new coins.new ≡ (tick (node_of s.old coins.old)).node }
+    ensures sends { out.new ≡ (tick (node_of s.old coins.old)).sends }
+    ensures valid { IsValid s.new }
+{
+    s.view.timer = s.view.timer.saturating_add(1);
+    take_row(s, coins, out);
+}
+
+/// The level that a signal is; a grant, a packet and Done are none.
+pub fn level_of(signal: Signal) -> Option<Level>
+    ensures { result ≡ level_of signal }
+{
+    match signal {
+        Signal::Reset => Some(Level::Reset),
+        Signal::Idle => Some(Level::Idle),
+        Signal::Parent => Some(Level::Parent),
+        Signal::Child => Some(Level::Child),
+        Signal::Grant | Signal::Packet(_) | Signal::Done => None,
+    }
+}
+
+/// A port hears a level. Outside R0 a Reset begins a reset of this node too.
+#[tactic(auto, unfolding(port_state::specs::Heard::on_signal))]
+fn hear_level(s: &mut NodeState, port: u8, level: Level, out: &mut Sends)
+    requires bounded { IsBounded s.old }
+    requires exists { port < s.old.ports }
+    requires empty { out.old ≡ [] }
+    ensures state { s.new ≡ (on_signal port (signal_of level) s.old).state }
+    ensures sends { out.new ≡ (on_signal port (signal_of level) s.old).sends }
+{
+    let at = usize::from(port);
+    let mut view = s.view.ports.get(at);
+    if !view.connected {
+        return;
+    }
+    view.shown = level;
+    s.view.ports.set(at, view);
+    if level == Level::Reset && s.view.phase != Phase::ResetStart {
+        enter(s, false, out);
+    }
+}
+
+/// A port hears a signal.
+pub fn on_signal(s: &mut NodeState, port: u8, signal: Signal, out: &mut Sends)
+    requires valid { IsValid s.old }
+    requires exists { port < s.old.ports }
+    requires empty { out.old ≡ [] }
+    ensures state { s.new ≡ (on_signal port signal s.old).state }
+    ensures sends { out.new ≡ (on_signal port signal s.old).sends }
+    ensures valid { IsValid s.new }
+{
+    match level_of(signal) {
+        Some(level) => hear_level(s, port, level, out),
+        None => ident_signal(s, port, signal, out),
+    }
+}
+
+/// The node resets the bus.
+pub fn disturb(s: &mut NodeState, out: &mut Sends)
+    requires bounded { IsBounded s.old }
+    requires empty { out.old ≡ [] }
+    ensures state { s.new ≡ (disturb s.old).state }
+    ensures sends { out.new ≡ (disturb s.old).sends }
+    ensures valid { IsValid s.new }
+{
+    enter(s, true, out);
+}
+
+/// A cable is plugged into a port, and the node resets the bus.
+pub fn plugged(s: &mut NodeState, port: u8, out: &mut Sends)
+    requires bounded { IsBounded s.old }
+    requires exists { port < s.old.ports }
+    requires empty { out.old ≡ [] }
+    ensures state { s.new ≡ (plugged port s.old).state }
+    ensures sends { out.new ≡ (plugged port s.old).sends }
+    ensures valid { IsValid s.new }
+{
+    let at = usize::from(port);
+    let view = s.view.ports.get(at);
+    s.view.ports.set(
+        at,
+        PortView {
+            connected: true,
+            shown: Level::Reset,
+            ..view
+        },
+    );
+    enter(s, true, out);
+}
+
+/// The cable is pulled from a port, and the node resets the bus.
+pub fn pulled(s: &mut NodeState, port: u8, out: &mut Sends)
+    requires bounded { IsBounded s.old }
+    requires exists { port < s.old.ports }
+    requires empty { out.old ≡ [] }
+    ensures state { s.new ≡ (pulled port s.old).state }
+    ensures sends { out.new ≡ (pulled port s.old).sends }
+    ensures valid { IsValid s.new }
+{
+    let at = usize::from(port);
+    let view = s.view.ports.get(at);
+    s.view.ports.set(
+        at,
+        PortView {
+            connected: false,
+            shown: Level::Idle,
+            ..view
+        },
+    );
+    enter(s, true, out);
+}
+
+/// The node hears a PHY configuration packet.
+pub fn set_config(s: &mut NodeState, root_id: u8, force: bool, gap: Option<u8>)
+    requires valid { IsValid s.old }
+    requires gap { ForSome gap (λ g. g ≤ 63) }
+    ensures state { s.new ≡ set_config root_id force gap s.old }
+    ensures valid { IsValid s.new }
+{
+    if force {
+        s.view.next_force = s.view.id == Some(root_id);
+    }
+    if let Some(count) = gap {
+        s.view.next_gap = count;
+    }
+}
+
+/// So many ticks pass that raise the timer alone.
+pub fn pass(s: &mut NodeState, ticks: u32)
+    ensures state { s.new ≡ with_later_timer ticks s.old }
+    ensures fits { s.old.view.timer ≤ 65535 }
+{
+    let timer = u32::from(s.view.timer).saturating_add(ticks);
+    s.view.timer = timer.min(65_535) as u16;
+}
+
+/// The attributes that a node shows.
+pub fn attrs(s: &NodeState) -> Attrs
+    ensures { result ≡ shown_attrs s.now }
+{
+    Attrs {
+        gap: s.view.gap,
+        initiated: s.view.initiated,
+        ..s.attrs
+    }
+}
+
+/// What a node shows, with these views of its ports.
+pub fn view_with(view: &View, ports: PortViews) -> View
+    ensures { result ≡ record view.now { ports = ports } }
+{
+    View {
+        phase: view.phase,
+        timer: view.timer,
+        wait: view.wait,
+        ports,
+        parent: view.parent,
+        granted: view.granted,
+        id: view.id,
+        draws: view.draws,
+        first_draws: view.first_draws,
+        initiated: view.initiated,
+        gap: view.gap,
+        force: view.force,
+        next_gap: view.next_gap,
+        next_force: view.next_force,
+        timed_out: view.timed_out,
+        resets: view.resets,
+    }
+}
+
+/// The views of ports, once more.
+pub fn copy_ports(ports: &PortViews) -> PortViews
+    ensures { result ≡ ports.now }
+{
+    let mut copy = PortViews::new();
+    for port in ports.as_slice() {
+        copy.push(*port);
+    }
+    copy
+}
+
+/// So many ports with no cable.
+fn free_ports(count: u8) -> PortViews
+    requires { count ≤ 16 }
+    ensures { result ≡ replicate count free_port }
+{
+    let mut ports = PortViews::new();
+    for _port in 0..count {
+        ports.push(PortView::default());
+    }
+    ports
+}
+
+/// The record of a node at power-on.
+pub fn power_on(ports: u8, attrs: Attrs, force: bool, timing: Timing) -> NodeState
+    requires { ports ≤ 16 }
+    ensures { result ≡ power_on ports attrs force timing }
+{
+    NodeState {
+        view: View {
+            phase: Phase::ResetStart,
+            timer: 0,
+            wait: 0,
+            ports: free_ports(ports),
+            parent: None,
+            granted: false,
+            id: None,
+            draws: 0,
+            first_draws: 0,
+            initiated: true,
+            gap: attrs.gap,
+            force,
+            next_gap: attrs.gap,
+            next_force: force,
+            timed_out: false,
+            resets: 1,
+        },
+        list: ArrayVec::new(),
+        attrs,
+        timing,
+        ports,
+    }
+}
