@@ -1,6 +1,6 @@
 //! The entry to R0 (Reset start).
 ghost use Rattle.std.specs.Prelude.{◌≡◌, [], map};
-ghost use Rattle.port_state.specs.Entry.{enter, unmarked};
+ghost use Rattle.port_state.specs.Entry.{enter, without_marks};
 ghost use Rattle.port_state.specs.Valid.{IsBounded};
 
 use port_state::states::NodeState;
@@ -8,7 +8,7 @@ use port_state::{Phase, PortViews, Sends, Signal};
 
 /// Each port keeps its cable and its level, and leads to no child.
 fn clear_marks(ports: &mut PortViews)
-    ensures { ports.new ≡ map unmarked ports.old }
+    ensures { ports.new ≡ map without_marks ports.old }
 {
     let count = ports.as_slice().len();
     for at in 0..count {

@@ -2,7 +2,7 @@
 ghost use Rattle.std.specs.Prelude.{◌≡◌, ◌<◌, [], false, length, IsTrue, nat_lt, bit_or, ◌^◌, if◌then◌else◌, ◌&&◌};
 ghost use Rattle.port_state.specs.declared.signal.Phase.TheVariants.{Contend};
 ghost use Rattle.port_state.specs.Rival.{has_rival};
-ghost use Rattle.port_state.specs.Coins.{coin, later};
+ghost use Rattle.port_state.specs.Coins.{coin, coins_after};
 ghost use Rattle.port_state.specs.TreeIdentify.{parent_shake_row, contend_row, draws_with};
 ghost use Rattle.port_state.specs.Tick.{does};
 ghost use Rattle.port_state.specs.Valid.{IsValid};
@@ -45,7 +45,7 @@ pub fn begin(s: &mut NodeState, coins: &mut Coins, out: &mut Sends)
     requires empty { out.old ≡ [] }
     ensures state { s.new ≡ (does (coin coins.old) (parent_shake_row s.old) s.old).state }
     ensures sends { out.new ≡ (does (coin coins.old) (parent_shake_row s.old) s.old).sends }
-    ensures coins { coins.new ≡ later coins.old }
+    ensures coins { coins.new ≡ coins_after coins.old }
 {
     let coin = coins.next();
     let view = &mut s.view;

@@ -14,7 +14,7 @@ use Rattle.port_state.specs.TreeIdentify.{is_decided, parent_shake_at, contend_a
 use Rattle.port_state.specs.SelfIdentify.{may_name, granted_row}
 use Rattle.port_state.specs.Row as row
 use Rattle.port_state.specs.Row.{Row}
-use Rattle.port_state.specs.Tick.{raised, row_of}
+use Rattle.port_state.specs.Tick.{raise_timer, row_of}
 use Rattle.port_state.specs.Machine.{PortNode}
 use Rattle.port_state.specs.Idle.{changes_nothing, rests, with_later_timer, after_ticks, IsIdleTick, IsIdleFor}
 use Rattle.port_state.proofs.IdleTicks.{idle_ticks-rest, after-idle_ticks}
@@ -76,7 +76,7 @@ idle-unless b k r x h e = idle-if b r x e ∙ sym (below-unless k b h)
 -- ---- T0
 
 abbrev later : ℕ → NodeState → NodeState
-later k x = raised (with_later_timer k x)
+later k x = raise_timer (with_later_timer k x)
 
 idle-roles : (a b f w : Bool) (force k : ℕ) → k < for_ever → f ≡ not (nat_lt k force)
     → not (a || (b && (not w || f))) ≡ nat_lt k (if a then 0 else (if b then (if w then force else 0) else for_ever))
@@ -112,14 +112,14 @@ idle-tree_start k x t h =
 -- ---- T2, T3 and self identify
 
 idle-level : (l : Level) (parent : ℕ) (y : NodeState)
-    → changes_nothing (if is_child l then row.is_accepted parent else (if is_parent l then row.begins_contention parent else row.none)) y ≡ not (is_answer l)
+    → changes_nothing (if is_child l then row.finds_parent parent else (if is_parent l then row.begins_contention parent else row.none)) y ≡ not (is_answer l)
 idle-level level.Reset parent y = refl
 idle-level level.Idle parent y = refl
 idle-level level.Parent parent y = refl
 idle-level level.Child parent y = refl
 
 idle-port : (o : Option PortView) (parent : ℕ) (y : NodeState)
-    → changes_nothing (if passes (λ p. is_child p.shown) o then row.is_accepted parent else (if passes (λ p. is_parent p.shown) o then row.begins_contention parent else row.none)) y
+    → changes_nothing (if passes (λ p. is_child p.shown) o then row.finds_parent parent else (if passes (λ p. is_parent p.shown) o then row.begins_contention parent else row.none)) y
     ≡ not (passes (λ p. is_answer p.shown) o)
 idle-port None parent y = refl
 idle-port (Some p) parent y = idle-level p.shown parent y
@@ -168,7 +168,7 @@ idle-phase : (ph : Phase) (k : ℕ) (x : NodeState) → HasTimes x → k < for_e
 idle-phase ResetStart k x t h = idle-at x.timing.hold k row.ends_reset x t.hold refl
 idle-phase ResetWait k x t h = idle-unless (every (λ p. is_calm p.shown) x.view.ports) k row.begins_tree (with_later_timer k x) h refl
 idle-phase TreeStart k x t h = idle-tree_start k x t h
-idle-phase ChildShake k x t h = idle-unless (every (λ p. if p.child then is_idle p.shown else true) x.view.ports) k row.greets_parent (with_later_timer k x) h refl
+idle-phase ChildShake k x t h = idle-unless (every (λ p. if p.child then is_idle p.shown else true) x.view.ports) k row.awaits_parent (with_later_timer k x) h refl
 idle-phase ParentShake k x t h = idle-parent_shake k x.view.parent x h
 idle-phase Contend k x t h = idle-contend k x.view.parent x t h
 idle-phase SelfIdent k x t h = idle-self_ident k x.view.granted x h

@@ -6,7 +6,8 @@ use Rattle.std.proofs.lemmas.List.{length-replicate}
 use Rattle.self_id.specs.declared.node.PortStatus.TheVariants.{Absent}
 use Rattle.self_id.proofs.Again.{group3, group11, group16}
 use Rattle.port_state.specs.declared.states.NodeState.{NodeState}
-use Rattle.port_state.specs.Group.{slot_count, statuses_from, shown_node, own_group}
+use Rattle.self_id.specs.Slots.{slot_count}
+use Rattle.port_state.specs.Group.{statuses_from, shown_node, own_group}
 use Rattle.port_state.specs.Valid.{IsBounded}
 use Rattle.port_state.proofs.Shown.{length-statuses_from}
 use Rattle.phy_machine.specs.IdleTime.{packet_count}

@@ -20,11 +20,11 @@ fits_prop : (ph : Phase) (parent : Option ℕ) (ports : List PortView) → IsPro
 fits_prop ResetStart parent ports = hlevel (same_flags, same_ports)
 fits_prop ResetWait parent ports = hlevel (same_flags, same_ports)
 fits_prop TreeStart parent ports = hlevel (same_flags, same_ports)
-fits_prop ChildShake parent ports = hlevel same_numbers
-fits_prop ParentShake parent ports = hlevel same_numbers
+fits_prop ChildShake parent ports = hlevel (same_numbers, same_flags)
+fits_prop ParentShake parent ports = hlevel (same_numbers, same_flags)
 fits_prop Contend parent ports = hlevel (same_numbers, same_flags)
-fits_prop SelfIdent parent ports = hlevel same_numbers
-fits_prop Ready parent ports = hlevel same_numbers
+fits_prop SelfIdent parent ports = hlevel (same_numbers, same_flags)
+fits_prop Ready parent ports = hlevel (same_numbers, same_flags)
 
 pub valid_prop : (x : NodeState) → IsProp (IsValid x)
 valid_prop x = hlevel (same_numbers, le_prop, fits_prop)

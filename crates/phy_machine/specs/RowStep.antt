@@ -3,8 +3,8 @@ use Rattle.std.specs.Prelude.{false, if◌then◌else◌}
 use Rattle.port_state.specs.declared.signal.Phase.{Phase}
 use Rattle.port_state.specs.declared.signal.Phase.TheVariants.{ResetStart, ResetWait, TreeStart, ChildShake, ParentShake, Contend, SelfIdent, Ready}
 use Rattle.port_state.specs.declared.states.NodeState.{NodeState}
-use Rattle.port_state.specs.Coins.{Coins, coin, later}
-use Rattle.port_state.specs.Step.{quiet}
+use Rattle.port_state.specs.Coins.{Coins, coin, coins_after}
+use Rattle.port_state.specs.Step.{silent_step}
 use Rattle.port_state.specs.Rival.{has_rival}
 use Rattle.port_state.specs.TreeIdentify.{parent_shake_row, contend_row}
 use Rattle.port_state.specs.Tick.{does}
@@ -23,8 +23,8 @@ row_step ResetWait x coins = with_coins coins (reset_step x)
 row_step TreeStart x coins = with_coins coins (tree_step x)
 row_step ChildShake x coins = with_coins coins (tree_step x)
 row_step ParentShake x coins =
-    if has_rival x then with_coins (later coins) (does (coin coins) (parent_shake_row x) x)
+    if has_rival x then with_coins (coins_after coins) (does (coin coins) (parent_shake_row x) x)
     else with_coins coins (tree_step x)
 row_step Contend x coins = with_coins coins (does false (contend_row x) x)
 row_step SelfIdent x coins = with_coins coins (ident_step x)
-row_step Ready x coins = with_coins coins (quiet x)
+row_step Ready x coins = with_coins coins (silent_step x)

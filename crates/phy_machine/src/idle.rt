@@ -9,7 +9,7 @@ ghost use Rattle.phy_machine.specs.IdleTime.{HasTimes, with_ports, packet_count,
 
 use port_state::states::NodeState;
 use port_state::{Level, Phase, PortTests};
-use self_identify::nodes_in;
+use self_identify::node_count;
 
 /// As long as a machine looks ahead, in ticks.
 const FOR_EVER: u32 = 4_000_000;
@@ -95,7 +95,7 @@ fn may_name<P: PortTests>(s: &NodeState, ports: &P) -> bool
     requires { IsBounded (with_ports (P.views ports.now) s.now) }
     ensures { result ≡ may_name (with_ports (P.views ports.now) s.now) }
 {
-    nodes_in(s.list.as_slice()) <= 62 && s.list.len() + packet_count(s.ports) <= 252
+    node_count(s.list.as_slice()) <= 62 && s.list.len() + packet_count(s.ports) <= 252
 }
 
 /// In S0 to S2: until the grant, and then until the child that was asked says Done.

@@ -1,13 +1,12 @@
 //! The calls of a machine over the record of its node, for every machine of this crate.
 ghost use Rattle.std.specs.Prelude.{◌≡◌, ◌<◌, ◌≤◌, [], IsTrue, length, replicate};
-ghost use Rattle.std.specs.Option.{ForSome};
 ghost use Rattle.port_state.specs.Ports.{is_connected};
 ghost use Rattle.port_state.specs.PowerOn.{free_port, power_on};
 ghost use Rattle.port_state.specs.Entry.{disturb, plugged, pulled};
-ghost use Rattle.port_state.specs.Config.{set_config};
+ghost use Rattle.port_state.specs.Config.{HasSixBits, config_packet, set_config};
 ghost use Rattle.port_state.specs.Heard.{on_signal};
 ghost use Rattle.port_state.specs.Group.{shown_attrs};
-ghost use Rattle.port_state.specs.Machine.{tick};
+ghost use Rattle.port_state.specs.Machine.{node_tick};
 ghost use Rattle.port_state.specs.Idle.{with_later_timer};
 ghost use Rattle.port_state.specs.Valid.{IsBounded, IsValid};
 ghost use Rattle.phy_machine.specs.RowStep.{node_of, row_step};
@@ -49,8 +48,8 @@ fn take_row(s: &mut NodeState, coins: &mut Coins, out: &mut Sends)
 pub fn tick(s: &mut NodeState, coins: &mut Coins, out: &mut Sends)
     requires valid { IsValid s.old }
     requires empty { out.old ≡ [] }
-    ensures node { node_of s.new coins.new ≡ (tick (node_of s.old coins.old)).node }
-    ensures sends { out.new ≡ (tick (node_of s.old coins.old)).sends }
+    ensures node { node_of s.new coins.new ≡ (node_tick (node_of s.old coins.old)).node }
+    ensures sends { out.new ≡ (node_tick (node_of s.old coins.old)).sends }
     ensures valid { IsValid s.new }
 {
     s.view.timer = s.view.timer.saturating_add(1);
@@ -164,8 +163,8 @@ pub fn pulled(s: &mut NodeState, port: u8, out: &mut Sends)
 /// The node hears a PHY configuration packet.
 pub fn set_config(s: &mut NodeState, root_id: u8, force: bool, gap: Option<u8>)
     requires valid { IsValid s.old }
-    requires gap { ForSome gap (λ g. g ≤ 63) }
-    ensures state { s.new ≡ set_config root_id force gap s.old }
+    requires bits { HasSixBits (config_packet root_id force gap) }
+    ensures state { s.new ≡ set_config (config_packet root_id force gap) s.old }
     ensures valid { IsValid s.new }
 {
     if force {

@@ -5,18 +5,18 @@ use Rattle.port_state.specs.Row as row
 use Rattle.port_state.specs.Row.{Row}
 use Rattle.port_state.specs.Tick.{next_row}
 use Rattle.port_state.specs.Names.{timer, KeepsBut}
-use Rattle.port_state.specs.Machine.{PortNode, tick}
+use Rattle.port_state.specs.Machine.{PortNode, node_tick}
 
 -- the node after so many ticks without a signal
 abbrev pub after_ticks : ℕ → PortNode → PortNode
 after_ticks zero n = n
-after_ticks (suc k) n = (tick (after_ticks k n)).node
+after_ticks (suc k) n = (node_tick (after_ticks k n)).node
 
 -- a tick that sends nothing and changes the timer alone
 pub record IsIdleTick (n : PortNode) : Type 0 where
-  pub sends : (tick n).sends ≡ []
-  pub state : KeepsBut (timer ∷ []) n.state (tick n).node.state
-  pub coins : (tick n).node.coins ≡ n.coins
+  pub sends : (node_tick n).sends ≡ []
+  pub state : KeepsBut (timer ∷ []) n.state (node_tick n).node.state
+  pub coins : (node_tick n).node.coins ≡ n.coins
 
 -- each of the next so many ticks is such a tick
 abbrev pub IsIdleFor : ℕ → PortNode → Type 0

@@ -1,6 +1,6 @@
 //! The coins of a node.
 ghost use Rattle.std.specs.Prelude.{◌≡◌, ◌≤◌, ◌<◌, ◌+◌, ◌/◌, ◌%◌, ◌^◌, ◌==◌, if◌then◌else◌};
-ghost use Rattle.port_state.specs.Coins.{given, seeded, coin, later};
+ghost use Rattle.port_state.specs.Coins.{coins_of_bits, coins_of_seed, coin, coins_after};
 
 use rand_core::utils::NextWord;
 use rand_pcg::Pcg32;
@@ -62,7 +62,7 @@ impl Coins {
     pub fn bits(word: u64, len: u8) -> Coins
         requires some { 1 ≤ len }
         requires few { len ≤ 64 }
-        ensures { result ≡ given word len }
+        ensures { result ≡ coins_of_bits word len }
     {
         Coins {
             source: Source::Repeated(Bits {
@@ -76,7 +76,7 @@ impl Coins {
     /// The coins of a seed: coin number k, from 0, is the top bit of word number k of PCG32 with this
     /// state, on stream 54.
     pub fn seeded(seed: u32) -> Coins
-        ensures { result ≡ seeded seed }
+        ensures { result ≡ coins_of_seed seed }
     {
         Coins {
             source: Source::Generated(Pcg32::new(u64::from(seed), 54)),
@@ -86,7 +86,7 @@ impl Coins {
     /// Draws the next coin.
     pub fn next(&mut self) -> bool
         ensures coin { result ≡ coin self.old }
-        ensures rest { self.new ≡ later self.old }
+        ensures rest { self.new ≡ coins_after self.old }
     {
         match &mut self.source {
             Source::Repeated(bits) => bits.next(),

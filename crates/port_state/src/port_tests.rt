@@ -2,7 +2,7 @@
 ghost use Rattle.std.specs.Prelude.{◌≡◌, ◌<◌, ◌≤◌, List, true, length, count_by, slice_get, Some, if◌then◌else◌};
 ghost use Rattle.std.specs.Option.{ForSome};
 ghost use Rattle.port_state.specs.declared.ports.PortView.{PortView};
-ghost use Rattle.port_state.specs.Ports.{asks, is_left, is_idle, is_unnamed, connected_count, every, lowest};
+ghost use Rattle.port_state.specs.Ports.{asks, is_remaining, is_idle, is_unnamed, connected_count, every, lowest};
 ghost use Rattle.port_state.specs.Resetting.{is_calm};
 
 use crate::ports::{PortView, PortViews};
@@ -50,8 +50,8 @@ impl PortView {
     }
 
     /// Whether there is a neighbour that doesn't ask.
-    pub fn is_left(&self) -> bool
-        ensures { result ≡ is_left self.now }
+    pub fn is_remaining(&self) -> bool
+        ensures { result ≡ is_remaining self.now }
     {
         self.connected && self.shown != Level::Parent
     }

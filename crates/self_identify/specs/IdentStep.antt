@@ -3,7 +3,7 @@ use Rattle.std.specs.Prelude.{ℕ, false}
 use Rattle.port_state.specs.declared.signal.Signal.{Signal}
 use Rattle.port_state.specs.declared.signal.Signal.TheVariants.{Grant, Packet, Done}
 use Rattle.port_state.specs.declared.states.NodeState.{NodeState}
-use Rattle.port_state.specs.Step.{Step, quiet}
+use Rattle.port_state.specs.Step.{Step, silent_step}
 use Rattle.port_state.specs.Heard.{on_signal}
 use Rattle.port_state.specs.SelfIdentify.{self_ident_row}
 use Rattle.port_state.specs.Tick.{does}
@@ -13,7 +13,7 @@ abbrev pub ident_heard : ℕ → Signal → NodeState → Step
 ident_heard port Grant x = on_signal port Grant x
 ident_heard port (Packet quad) x = on_signal port (Packet quad) x
 ident_heard port Done x = on_signal port Done x
-ident_heard port s x = quiet x
+ident_heard port s x = silent_step x
 
 -- what a tick does in S0 to S2 and S4; none of these rows looks at a coin
 abbrev pub ident_step : NodeState → Step

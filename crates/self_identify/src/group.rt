@@ -2,23 +2,13 @@
 ghost use Rattle.std.specs.Prelude.{◌≡◌, ◌+◌, ◌-◌, ◌*◌, ◌≤◌, ◌++◌, [], length, replicate};
 ghost use Rattle.self_id.specs.declared.node.PortStatus.TheVariants.{Absent};
 ghost use Rattle.port_state.specs.Ports.{is_port};
-ghost use Rattle.port_state.specs.Group.{shown_node, slot_count, status, statuses_from, own_group};
+ghost use Rattle.port_state.specs.Group.{shown_node, status, statuses_from, own_group};
+ghost use Rattle.self_id.specs.Slots.{slot_count};
 ghost use Rattle.port_state.specs.Valid.{IsBounded};
 
 use port_state::states::NodeState;
 use port_state::{PortView, View};
-use self_id::{Attrs, PortList, PortStatus, QuadGroup, SelfId, write_group};
-
-/// How many slots the packets of a node with so many ports have.
-fn slot_count(ports: u8) -> u8
-    ensures { result ≡ slot_count ports }
-{
-    match ports {
-        0..=3 => 3,
-        4..=11 => 11,
-        _ => 16,
-    }
-}
+use self_id::{Attrs, PortList, PortStatus, QuadGroup, SelfId, slot_count, write_group};
 
 /// The status of a port.
 fn status(is_parent: bool, port: &PortView) -> PortStatus
@@ -34,7 +24,7 @@ fn status(is_parent: bool, port: &PortView) -> PortStatus
 }
 
 /// The statuses of a node's ports, and absent slots behind them up to `slots`.
-fn statuses(parent: Option<u8>, ports: &[PortView], slots: u8) -> PortList
+fn statuses(parent: Option<u8>, ports: &[PortView], slots: usize) -> PortList
     requires few { length ports.now ≤ slots }
     requires most { slots ≤ 16 }
     ensures { result ≡ statuses_from 0 parent ports.now ++ replicate (slots - length ports.now) Absent }
@@ -43,7 +33,7 @@ fn statuses(parent: Option<u8>, ports: &[PortView], slots: u8) -> PortList
     for (at, port) in ports.iter().enumerate() {
         list.push(status(parent == Some(at as u8), port));
     }
-    for _absent in ports.len()..usize::from(slots) {
+    for _absent in ports.len()..slots {
         list.push(PortStatus::Absent);
     }
     list
@@ -60,7 +50,8 @@ pub fn own_group(s: &NodeState, id: u8) -> QuadGroup
         initiated: s.view.initiated,
         ..s.attrs
     };
-    let ports = statuses(s.view.parent, s.view.ports.as_slice(), slot_count(s.ports));
+    let slots = slot_count(usize::from(s.ports));
+    let ports = statuses(s.view.parent, s.view.ports.as_slice(), slots);
     let mut group = QuadGroup::new();
     write_group(&SelfId::new(attrs, ports.as_slice()), id, &mut group);
     group

@@ -9,4 +9,4 @@ mod hearing;
 mod ticks;
 
 pub use hearing::ident_signal;
-pub use ticks::{ident_tick, nodes_in};
+pub use ticks::{ident_tick, node_count};

@@ -2,27 +2,22 @@
 ghost use Rattle.std.specs.Prelude.{◌≡◌, ◌+◌, ◌*◌, ◌<◌, ◌≤◌, ◌++◌, [], length, if◌then◌else◌};
 ghost use Rattle.port_state.specs.declared.signal.Phase.TheVariants.{SelfIdent};
 ghost use Rattle.port_state.specs.Sends.{packets_on_every};
-ghost use Rattle.port_state.specs.Group.{is_packet_zero, nodes_in, own_group};
-ghost use Rattle.port_state.specs.Step.{quiet};
+ghost use Rattle.self_id.specs.Group.{node_count};
+ghost use Rattle.port_state.specs.Group.{own_group};
+ghost use Rattle.port_state.specs.Step.{silent_step};
 ghost use Rattle.port_state.specs.SelfIdentify.{names_itself, may_name};
 ghost use Rattle.port_state.specs.Valid.{IsValid, IsBounded};
 ghost use Rattle.self_identify.specs.IdentStep.{ident_step};
 
 use crate::group;
 use arrayvec::ArrayVec;
+use phy_packet::is_packet_zero;
 use port_state::states::NodeState;
 use port_state::{Phase, PortTests, PortView, Sends, Signal};
 
-/// Whether a quadlet is a packet zero: 10 at the top, and a zero bit behind the phy_ID.
-fn is_packet_zero(quad: u32) -> bool
-    ensures { result ≡ is_packet_zero quad }
-{
-    quad >> 30 == 2 && (quad >> 23) % 2 == 0
-}
-
 /// How many nodes a list of packets shows: so many of its quadlets are a packet zero.
-pub fn nodes_in(list: &[u32]) -> usize
-    ensures value { result ≡ nodes_in list.now }
+pub fn node_count(list: &[u32]) -> usize
+    ensures value { result ≡ node_count list.now }
     ensures few { result ≤ length list.now }
 {
     list.iter().filter(|quad| is_packet_zero(**quad)).count()
@@ -56,10 +51,10 @@ fn send_packets(quads: &[u32], ports: &[PortView], out: &mut Sends)
 fn name_itself(s: &mut NodeState, out: &mut Sends)
     requires bounded { IsBounded s.old }
     requires empty { out.old ≡ [] }
-    ensures state { s.new ≡ (if may_name s.old then names_itself s.old else quiet s.old).state }
-    ensures sends { out.new ≡ (if may_name s.old then names_itself s.old else quiet s.old).sends }
+    ensures state { s.new ≡ (if may_name s.old then names_itself s.old else silent_step s.old).state }
+    ensures sends { out.new ≡ (if may_name s.old then names_itself s.old else silent_step s.old).sends }
 {
-    let id = nodes_in(s.list.as_slice());
+    let id = node_count(s.list.as_slice());
     if id > 62 {
         return;
     }

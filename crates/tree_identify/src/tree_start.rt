@@ -1,20 +1,20 @@
 //! T0 (Tree ID start): all neighbours but one are to ask this node to be their parent.
 ghost use Rattle.std.specs.Prelude.{◌≡◌, ◌+◌, ◌≤◌, ◌++◌, [], false, length, map};
-ghost use Rattle.port_state.specs.Ports.{is_left, lowest};
+ghost use Rattle.port_state.specs.Ports.{is_remaining, lowest};
 ghost use Rattle.port_state.specs.Sends.{notices};
-ghost use Rattle.port_state.specs.TreeIdentify.{is_decided, adopted, tree_start_row};
+ghost use Rattle.port_state.specs.TreeIdentify.{is_decided, adopt, tree_start_row};
 ghost use Rattle.port_state.specs.Tick.{does};
 
 use port_state::states::NodeState;
 use port_state::{Level, Phase, PortTests, PortView, PortViews, Sends, Signal};
 
 /// The lowest port whose neighbour doesn't ask.
-fn left_port(ports: &[PortView]) -> Option<u8>
+fn remaining_port(ports: &[PortView]) -> Option<u8>
     requires { length ports.now ≤ 16 }
-    ensures { result ≡ lowest is_left ports.now }
+    ensures { result ≡ lowest is_remaining ports.now }
 {
     for (at, port) in ports.iter().enumerate() {
-        if port.is_left() {
+        if port.is_remaining() {
             return Some(at as u8);
         }
     }
@@ -49,22 +49,22 @@ fn send_notices(ports: &[PortView], out: &mut Sends)
     }
 }
 
-/// The port as a child port, if its neighbour asks.
-fn adopted(port: PortView) -> PortView
-    ensures { result ≡ adopted port }
+/// The port, as a child port if its neighbour asks.
+fn adopt_port(port: PortView) -> PortView
+    ensures { result ≡ adopt port }
 {
     let child = port.child || port.asks();
     PortView { child, ..port }
 }
 
 /// Makes each port whose neighbour asks a child port.
-fn adopt(ports: &mut PortViews)
-    ensures { ports.new ≡ map adopted ports.old }
+fn adopt_all(ports: &mut PortViews)
+    ensures { ports.new ≡ map adopt ports.old }
 {
     let count = ports.as_slice().len();
     for at in 0..count {
         let port = ports.get(at);
-        ports.set(at, adopted(port));
+        ports.set(at, adopt_port(port));
     }
 }
 
@@ -78,8 +78,8 @@ pub fn tick(s: &mut NodeState, out: &mut Sends)
 {
     if is_decided(s) {
         send_notices(s.view.ports.as_slice(), out);
-        s.view.parent = left_port(s.view.ports.as_slice());
-        adopt(&mut s.view.ports);
+        s.view.parent = remaining_port(s.view.ports.as_slice());
+        adopt_all(&mut s.view.ports);
         s.view.phase = Phase::ChildShake;
         s.view.timed_out = false;
     } else if s.view.timer >= s.timing.timeout {

@@ -1,11 +1,11 @@
 use Rattle.std.proofs.Common.{◌<◌, length, sym, ap, arith, ◌∙◌}
 use Rattle.std.proofs.lemmas.List.Edits.{map_over_more}
 use Rattle.std.proofs.lemmas.Option.{get_or_from_slice_get}
-use Rattle.port_state.specs.Entry.{unmarked}
+use Rattle.port_state.specs.Entry.{without_marks}
 use Rattle.bus_reset.proofs.entry.clear_marks.Goals as goal
 
 pub loop-at-preserved : goal.loop-at-preserved
 loop-at-preserved c =
     let inside : c.loop-at.at < length c.args.ports.now = omega (arith, ap length c.as_slice-count.ensures.value) in
     let port = sym (get_or_from_slice_get c.loop-at.ports c.loop-at.at c.get-port.result c.get-port.result c.get-port.ensures) in
-    c.set.ensures ∙ map_over_more unmarked c.args.ports.now c.loop-at.ports c.loop-at.at c.get-port.result inside c.loop-at.invariant port
+    c.set.ensures ∙ map_over_more without_marks c.args.ports.now c.loop-at.ports c.loop-at.at c.get-port.result inside c.loop-at.invariant port
