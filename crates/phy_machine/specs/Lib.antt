@@ -4,3 +4,6 @@ pub mod RowStep
 pub mod Field
 pub mod OneProof
 pub mod IdleTime
+pub mod PortWords
+pub mod Packed
+pub mod Any

@@ -3,7 +3,7 @@ ghost use Rattle.std.specs.Prelude.{◌≡◌, ◌<◌, ◌≤◌, [], IsTrue, l
 ghost use Rattle.port_state.specs.Ports.{is_connected};
 ghost use Rattle.port_state.specs.PowerOn.{free_port, power_on};
 ghost use Rattle.port_state.specs.Entry.{disturb, plugged, pulled};
-ghost use Rattle.port_state.specs.Config.{HasSixBits, config_packet, set_config};
+ghost use Rattle.port_state.specs.Config.{config_packet, set_config};
 ghost use Rattle.port_state.specs.Heard.{on_signal};
 ghost use Rattle.port_state.specs.Group.{shown_attrs};
 ghost use Rattle.port_state.specs.Machine.{node_tick};
@@ -162,10 +162,7 @@ pub fn pulled(s: &mut NodeState, port: u8, out: &mut Sends)
 
 /// The node hears a PHY configuration packet.
 pub fn set_config(s: &mut NodeState, root_id: u8, force: bool, gap: Option<u8>)
-    requires valid { IsValid s.old }
-    requires bits { HasSixBits (config_packet root_id force gap) }
-    ensures state { s.new ≡ set_config (config_packet root_id force gap) s.old }
-    ensures valid { IsValid s.new }
+    ensures { s.new ≡ set_config (config_packet root_id force gap) s.old }
 {
     if force {
         s.view.next_force = s.view.id == Some(root_id);

@@ -1,0 +1,11 @@
+use Rattle.std.proofs.Common.{sym, ap, ◌∙◌}
+use Rattle.port_state.proofs.IdleTicks.{after-idle_ticks}
+use Rattle.phy_machine.specs.RowStep.{node_of}
+use Rattle.phy_machine.specs.IdleTime.{with_ports}
+use Rattle.phy_machine.specs.Packed.{packed_node}
+use Rattle.phy_machine.proofs.packed.PackedMachinePortMachine.pass.Goals as goal
+
+pub returns : goal.returns
+returns c =
+    ap (λ x. node_of (with_ports c.args.self.now.ports x) c.args.self.now.coins) c.pass.ensures.state
+    ∙ sym (after-idle_ticks c.args.ticks (packed_node c.args.self.now) c.pass.ensures.fits c.requires.idle)

@@ -1,0 +1,113 @@
+//! A machine of either kind.
+use crate::field::FieldMachine;
+use crate::packed::PackedMachine;
+use port_state::{PortMachine, Sends, Signal, Timing, View};
+use self_id::Attrs;
+
+/// A machine of either kind.
+#[derive(Debug, Drop)]
+pub enum AnyMachine {
+    /// One that keeps its record in fields.
+    Field(FieldMachine),
+    /// One that keeps its ports in a few words.
+    Packed(PackedMachine),
+}
+
+impl PortMachine for AnyMachine {
+    ghost use Rattle.phy_machine.specs.Any.{any_node, any_valid};
+
+    ghost record_of = { any_node };
+
+    fn on_signal(&mut self, port: u8, signal: Signal, out: &mut Sends) {
+        match self {
+            AnyMachine::Field(machine) => machine.on_signal(port, signal, out),
+            AnyMachine::Packed(machine) => machine.on_signal(port, signal, out),
+        }
+    }
+
+    fn tick(&mut self, out: &mut Sends) {
+        match self {
+            AnyMachine::Field(machine) => machine.tick(out),
+            AnyMachine::Packed(machine) => machine.tick(out),
+        }
+    }
+
+    fn disturb(&mut self, out: &mut Sends) {
+        match self {
+            AnyMachine::Field(machine) => machine.disturb(out),
+            AnyMachine::Packed(machine) => machine.disturb(out),
+        }
+    }
+
+    fn plugged(&mut self, port: u8, out: &mut Sends) {
+        match self {
+            AnyMachine::Field(machine) => machine.plugged(port, out),
+            AnyMachine::Packed(machine) => machine.plugged(port, out),
+        }
+    }
+
+    fn pulled(&mut self, port: u8, out: &mut Sends) {
+        match self {
+            AnyMachine::Field(machine) => machine.pulled(port, out),
+            AnyMachine::Packed(machine) => machine.pulled(port, out),
+        }
+    }
+
+    fn set_config(&mut self, root_id: u8, force: bool, gap: Option<u8>) {
+        match self {
+            AnyMachine::Field(machine) => machine.set_config(root_id, force, gap),
+            AnyMachine::Packed(machine) => machine.set_config(root_id, force, gap),
+        }
+    }
+
+    fn view(&self) -> View {
+        match self {
+            AnyMachine::Field(machine) => machine.view(),
+            AnyMachine::Packed(machine) => machine.view(),
+        }
+    }
+
+    fn list(&self) -> &[u32] {
+        match self {
+            AnyMachine::Field(machine) => machine.list(),
+            AnyMachine::Packed(machine) => machine.list(),
+        }
+    }
+
+    fn attrs(&self) -> Attrs {
+        match self {
+            AnyMachine::Field(machine) => machine.attrs(),
+            AnyMachine::Packed(machine) => machine.attrs(),
+        }
+    }
+
+    fn timing(&self) -> Timing {
+        match self {
+            AnyMachine::Field(machine) => machine.timing(),
+            AnyMachine::Packed(machine) => machine.timing(),
+        }
+    }
+
+    fn ports(&self) -> u8 {
+        match self {
+            AnyMachine::Field(machine) => machine.ports(),
+            AnyMachine::Packed(machine) => machine.ports(),
+        }
+    }
+
+    fn idle_for(&self) -> u32 {
+        match self {
+            AnyMachine::Field(machine) => machine.idle_for(),
+            AnyMachine::Packed(machine) => machine.idle_for(),
+        }
+    }
+
+    fn pass(&mut self, ticks: u32) {
+        match self {
+            AnyMachine::Field(machine) => machine.pass(ticks),
+            AnyMachine::Packed(machine) => machine.pass(ticks),
+        }
+    }
+
+    ghost valid = { any_valid };
+}

@@ -1,0 +1,153 @@
+//! A machine that keeps its ports in a few words.
+ghost use Rattle.std.specs.Prelude.{◌≡◌, ◌<◌, length};
+ghost use Rattle.phy_machine.specs.Levels.{plain_level, ports_showing};
+ghost use Rattle.port_state.specs.Valid.{IsValid};
+ghost use Rattle.phy_machine.specs.IdleTime.{with_ports};
+ghost use Rattle.phy_machine.specs.OneProof.{valid_prop};
+ghost use Rattle.phy_machine.specs.PowerOn.{IsSpec, specified};
+
+use crate::port_words::PortWords;
+use crate::spec::NodeSpec;
+use crate::{idle, node};
+use port_state::states::NodeState;
+use port_state::{
+    Coins, Level, Phase, PortMachine, PortTests, PortView, Sends, Signal, Timing, View,
+};
+use self_id::Attrs;
+
+/// A machine that keeps the flags and levels of its ports in a few words. Ticks in which nothing happens,
+/// and most levels, touch these alone; for any other step the ports are unpacked and packed again.
+#[derive(Debug, Drop)]
+pub struct PackedMachine {
+    /// All of the record but the ports. The views in it are those of the last step that unpacked them.
+    state: NodeState,
+    ports: PortWords,
+    coins: Coins,
+    ghost valid: { IsValid (with_ports ports state) } by { valid_prop (with_ports ports state) },
+}
+
+impl PackedMachine {
+    ghost use Rattle.phy_machine.specs.Packed.{packed_node};
+
+    /// The machine of a node at power-on. The specification has 1 to 16 ports, and attributes that fit
+    /// their bits with a delay of 0.
+    pub fn new(spec: NodeSpec) -> PackedMachine
+        requires { IsSpec spec }
+        ensures { packed_node result ≡ specified spec }
+    {
+        let state = node::power_on(spec.ports, spec.attrs, spec.force, spec.timing);
+        let ports = PortWords::packed(&state.view.ports);
+        PackedMachine {
+            state,
+            ports,
+            coins: spec.coins,
+        }
+    }
+}
+
+/// The level that a signal is, if a port only has to show it: a Reset begins a reset outside R0.
+fn plain_level(s: &NodeState, signal: Signal) -> Option<Level>
+    ensures { result ≡ plain_level s.now.view.phase signal }
+{
+    if signal == Signal::Reset && s.view.phase != Phase::ResetStart {
+        None
+    } else {
+        node::level_of(signal)
+    }
+}
+
+/// A port shows a level, if it is connected.
+fn show(ports: &mut PortWords, port: u8, level: Level)
+    requires { port < length ports.old }
+    ensures { ports.new ≡ ports_showing port level ports.old }
+{
+    let view = ports.port(port);
+    if view.connected {
+        ports.set(
+            port,
+            PortView {
+                shown: level,
+                ..view
+            },
+        );
+    }
+}
+
+impl PortMachine for PackedMachine {
+    ghost use Rattle.phy_machine.specs.Packed.{packed_node};
+
+    ghost record_of = { packed_node };
+
+    fn on_signal(&mut self, port: u8, signal: Signal, out: &mut Sends) {
+        match plain_level(&self.state, signal) {
+            Some(level) => show(&mut self.ports, port, level),
+            None => {
+                self.state.view.ports = self.ports.views();
+                node::on_signal(&mut self.state, port, signal, out);
+                self.ports = PortWords::packed(&self.state.view.ports);
+            }
+        }
+    }
+
+    fn tick(&mut self, out: &mut Sends) {
+        if idle::idle_for(&self.state, &self.ports) > 0 {
+            node::pass(&mut self.state, 1);
+        } else {
+            self.state.view.ports = self.ports.views();
+            node::tick(&mut self.state, &mut self.coins, out);
+            self.ports = PortWords::packed(&self.state.view.ports);
+        }
+    }
+
+    fn disturb(&mut self, out: &mut Sends) {
+        self.state.view.ports = self.ports.views();
+        node::disturb(&mut self.state, out);
+        self.ports = PortWords::packed(&self.state.view.ports);
+    }
+
+    fn plugged(&mut self, port: u8, out: &mut Sends) {
+        self.state.view.ports = self.ports.views();
+        node::plugged(&mut self.state, port, out);
+        self.ports = PortWords::packed(&self.state.view.ports);
+    }
+
+    fn pulled(&mut self, port: u8, out: &mut Sends) {
+        self.state.view.ports = self.ports.views();
+        node::pulled(&mut self.state, port, out);
+        self.ports = PortWords::packed(&self.state.view.ports);
+    }
+
+    fn set_config(&mut self, root_id: u8, force: bool, gap: Option<u8>) {
+        node::set_config(&mut self.state, root_id, force, gap);
+    }
+
+    fn view(&self) -> View {
+        node::view_with(&self.state.view, self.ports.views())
+    }
+
+    fn list(&self) -> &[u32] {
+        self.state.list.as_slice()
+    }
+
+    fn attrs(&self) -> Attrs {
+        node::attrs(&self.state)
+    }
+
+    fn timing(&self) -> Timing {
+        self.state.timing
+    }
+
+    fn ports(&self) -> u8 {
+        self.state.ports
+    }
+
+    fn idle_for(&self) -> u32 {
+        idle::idle_for(&self.state, &self.ports)
+    }
+
+    fn pass(&mut self, ticks: u32) {
+        node::pass(&mut self.state, ticks);
+    }
+
+    ghost valid = { λ m. m.valid };
+}
