@@ -7,6 +7,7 @@
 --   acts      what happens between two turns to each node and to each end of a cable
 --   resets    in turns without acts resets end (`resets_end`)
 --   worked    runs that the check computes
+--   running   worlds that run: how the code goes from item to item
 --
 -- `StaysLawful` joins tables, levels and coupling (`worlds_stay_lawful`); `StaysReached` has
 -- `worlds_stay_reached`, `OneOutcome` has `outcomes_are_one`. `PhaseFacts` and `Options` are used
@@ -18,6 +19,7 @@ pub mod coupling
 pub mod acts
 pub mod resets
 pub mod worked
+pub mod running
 pub mod PhaseFacts
 pub mod Options
 pub mod StaysReached

@@ -21,3 +21,5 @@ pub mod StaysLawful
 pub mod ResetsEnd
 -- answers of a world
 pub mod Answer
+-- how the code goes from item to item
+pub mod codings

@@ -1,11 +1,8 @@
 -- A wire: one direction of a cable, with the signals that are under way on it.
 use Rattle.std.specs.Prelude.{ℕ, ◌+◌, ◌-◌, Bool, false, ◌||◌, ◌==◌, List, [], ◌∷◌, ◌++◌, map, nat_le, if◌then◌else◌}
 use Rattle.port_state.specs.declared.signal.Signal.{Signal}
-
 -- a signal under way, and for how many turns it has been
-pub record Travelling : Type 0 where
-  pub signal : Signal
-  pub age : ℕ
+pub use Rattle.cable_world.specs.declared.wire.Travelling.{Travelling}
 
 -- the signals under way, the oldest first, and for how many turns to come the wire is held
 pub record Wire : Type 0 where

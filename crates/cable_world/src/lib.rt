@@ -8,11 +8,16 @@
 
 mod act;
 mod laws;
+mod nodes;
+mod rows;
 mod run;
+mod wire;
 
 pub use act::{Act, ActStop};
 pub use laws::{
     acts_keep, outcomes_are_one, resets_end, turn_by_number, turn_keeps, turns_add_up,
     worlds_stay_lawful, worlds_stay_reached,
 };
+pub use rows::{ArrivalRow, WireRow};
 pub use run::WorldRun;
+pub use wire::{Arrivals, Travelling, Wire};

@@ -60,6 +60,13 @@ impl Sends {
         }
     }
 
+    /// Takes away all of them.
+    pub fn clear(&mut self)
+        ensures { self.new ≡ [] }
+    {
+        self.items.clear();
+    }
+
     /// The ports and signals, the first that was sent first.
     pub fn as_slice(&self) -> &[(u8, Signal)]
         ensures value { result.now ≡ self.now }

@@ -1,0 +1,16 @@
+use Rattle.std.proofs.Common.{◌≡◌, length, drop}
+use Rattle.cable_world.specs.Turn.{wires_after_sends}
+use Rattle.cable_world.specs.codings.Hearing.{node_hears, on_one}
+use Rattle.cable_world.proofs.nodes.hear_port.Given as goal
+
+abbrev pub invariant-loop-signal : goal.invariant-loop-signal
+invariant-loop-signal g l =
+    let record_of = g.M.PortMachine.record_of in
+    let rest = node_hears (on_one l.port (drop l.signal-index l.signals)) (record_of l.machine) in
+    let whole = node_hears (on_one l.port l.signals) (record_of l.initial.machine) in
+    record {
+      row : length l.wires ≡ length l.initial.wires;
+      ports : (record_of l.machine).state.ports ≡ (record_of l.initial.machine).state.ports;
+      node : rest.node ≡ whole.node;
+      sent : wires_after_sends 0 rest.sends l.wires ≡ wires_after_sends 0 whole.sends l.initial.wires;
+    }
