@@ -1,0 +1,4 @@
+pub mod Quadlets
+pub mod Whole
+pub mod Faults
+pub mod Reading

@@ -1,0 +1,35 @@
+-- Bytes without a fault are those of one ROM.
+use Rattle.std.proofs.Common.{◌≡◌, ℕ, ◌*◌, ◌%◌, ◌^◌, ◌<◌, Option, Some, None, Result, Ok, Err, List, length, refl, ap, sym, ◌∙◌, subst, arith}
+use Rattle.std.specs.List.{All, AllByRecursion}
+use Rattle.std.proofs.lemmas.List.Elements.{recursion_from_All, All-from_recursion}
+use Rattle.quad_lanes.specs.Pairs.{quads_of}
+use Rattle.config_rom.specs.declared.fault.RomFault.{RomFault}
+use Rattle.config_rom.specs.Rom.{Parts, IsRom, bytes_of, rom_quads, rom_bytes}
+use Rattle.config_rom.specs.Fault.{rom_fault}
+use Rattle.config_rom.specs.codings.Parts.{parts_of, HasLayout}
+use Rattle.config_rom.proofs.Quadlets.{quads_of-bytes_of, length-bytes_of, bytes_of-quads_of, fit_of}
+use Rattle.config_rom.proofs.Whole.{rom_quads-parts_of, parts_of-rom_quads, has_layout}
+use Rattle.config_rom.proofs.Faults.{bytes_no_fault, layout_of, layout_no_fault, no_fault_of}
+
+pub read_layout : (bytes : List ℕ) → All (λ b. b < 256) bytes → rom_fault bytes ≡ None → HasLayout (quads_of bytes)
+read_layout bytes fit none =
+    layout_of (quads_of bytes) (bytes_no_fault bytes none).1 (All-from_recursion _ _ (fit_of bytes (recursion_from_All _ _ fit)))
+
+pub read_bytes : (bytes : List ℕ) → All (λ b. b < 256) bytes → rom_fault bytes ≡ None → rom_bytes (parts_of (quads_of bytes)) ≡ bytes
+read_bytes bytes fit none =
+    ap bytes_of (rom_quads-parts_of (quads_of bytes) (read_layout bytes fit none)) ∙ bytes_of-quads_of bytes fit (bytes_no_fault bytes none).0
+
+quads_are : (bytes : List ℕ) (v : Parts) → IsRom v → rom_bytes v ≡ bytes → quads_of bytes ≡ rom_quads v
+quads_are bytes v is e = ap quads_of (sym e) ∙ quads_of-bytes_of (rom_quads v) is.quads_fit
+
+pub read_only : (bytes : List ℕ) (v : Parts) → IsRom v → rom_bytes v ≡ bytes → parts_of (quads_of bytes) ≡ v
+read_only bytes v is e = ap parts_of (quads_are bytes v is e) ∙ parts_of-rom_quads v is
+
+pub rom_no_fault : (bytes : List ℕ) (v : Parts) → IsRom v → rom_bytes v ≡ bytes → rom_fault bytes ≡ None
+rom_no_fault bytes v is e =
+    let count = length-bytes_of (rom_quads v) in
+    let long = ap length e in
+    no_fault_of bytes (omega (arith, count, long)) (layout_no_fault (quads_of bytes) (subst HasLayout (sym (quads_are bytes v is e)) (has_layout v is)))
+
+pub some_none : (o : Option RomFault) (f : RomFault) → Some f ≡ o → o ≡ None → ⊥
+some_none o f e n = cc

@@ -1,0 +1,5 @@
+pub mod Layout
+pub mod Rom
+pub mod Fault
+pub mod Answer
+pub mod codings

@@ -1,0 +1,153 @@
+//! A configuration ROM, from bytes and to bytes.
+ghost use Rattle.std.specs.Prelude.{◌≡◌, ◌↔◌, ◌+◌, ◌<◌, ◌≤◌, ◌^◌, ℕ, length, slice_index, Err, Ok, Some, IfOk, IsTrue};
+ghost use Rattle.quad_lanes.specs.Pairs.{quads_of};
+ghost use Rattle.config_rom.specs.declared.fault.RomFault.{RomFault};
+ghost use Rattle.config_rom.specs.declared.fault.RomStop.TheVariants.{Fault};
+ghost use Rattle.config_rom.specs.Layout.{info_len_of, end_of};
+ghost use Rattle.config_rom.specs.Rom.{Parts, IsRom, rom_quads, rom_bytes};
+ghost use Rattle.config_rom.specs.Fault.{rom_fault};
+ghost use Rattle.config_rom.specs.Answer.{IfFault, UnlessMemory};
+
+use crate::fault::{RomFault, RomStop};
+use byteorder::{BigEndian, ByteOrder};
+use quad_lanes::{OutOfMemory, quads_of};
+use std::alloc::Global;
+use std::marker::Model;
+
+/// The most quadlets of a ROM.
+const MAX_QUADS: usize = 256;
+
+/// The name of the bus, which the bus information block begins with: "1394".
+const BUS_NAME: u32 = 0x3133_3934;
+
+/// A configuration ROM: at most 256 quadlets, with a bus information block and a root directory that
+/// are whole. In a contract it is the value of its parts.
+#[derive(Debug, Drop)]
+pub struct Rom {
+    quads: Vec<u32>,
+}
+
+impl Model for Rom {
+    ghost use Rattle.config_rom.specs.Rom.{Parts};
+    ghost use Rattle.config_rom.specs.codings.Parts.{parts_of, HasLayout};
+
+    ghost Value = { Parts };
+
+    ghost view = { λ rom. parts_of rom.quads.items };
+
+    ghost invariant = { λ rom. HasLayout rom.quads.items };
+}
+
+impl Rom {
+    /// The quadlets, at least 4 and at most 256.
+    pub fn quads(&self) -> &[u32]
+        ensures value { result.now ≡ rom_quads self.now }
+        ensures valid { IsRom self.now }
+    {
+        self.quads.as_slice()
+    }
+
+    /// The number of quadlets of the bus information block, at least 2.
+    pub fn info_len(&self) -> u8
+        ensures { result ≡ self.now.info_len }
+    {
+        (self.quads[0] >> 24) as u8
+    }
+
+    /// Over how many quadlets behind quadlet 0 the CRC in quadlet 0 is.
+    pub fn crc_length(&self) -> u8
+        ensures { result ≡ self.now.crc_length }
+    {
+        ((self.quads[0] >> 16) % 256) as u8
+    }
+}
+
+/// The quadlet at a place.
+fn quad_at(bytes: &[u8], place: usize) -> u32
+    requires { place < length (quads_of bytes.now) }
+    ensures { result ≡ slice_index (quads_of bytes.now) place }
+{
+    BigEndian::read_u32(&bytes[4 * place..])
+}
+
+/// Whether the block at a place is whole.
+fn is_whole(bytes: &[u8], place: usize) -> bool
+    requires { place ≤ 256 }
+    ensures { IsTrue result ↔ (end_of (quads_of bytes.now) place ≤ length (quads_of bytes.now)) }
+{
+    let count = bytes.len() / 4;
+    place < count && (quad_at(bytes, place) >> 16) as usize + place + 1 <= count
+}
+
+/// The first rule that bytes break which are no ROM.
+fn fault_of(bytes: &[u8]) -> Option<RomFault>
+    ensures { result ≡ rom_fault bytes.now }
+{
+    let count = bytes.len() / 4;
+    if bytes.len() % 4 != 0 {
+        return Some(RomFault::RomLength { at: count });
+    }
+    if count > MAX_QUADS {
+        return Some(RomFault::RomTooLong { at: MAX_QUADS });
+    }
+    if count == 0 {
+        return Some(RomFault::RomEmpty { at: 0 });
+    }
+    let root = 1 + (quad_at(bytes, 0) >> 24) as usize;
+    if root == 1 {
+        return Some(RomFault::NoInfo { at: 0 });
+    }
+    if root == 2 {
+        return Some(RomFault::Minimal { at: 0 });
+    }
+    if count < root {
+        return Some(RomFault::RomCut { at: count });
+    }
+    let found = quad_at(bytes, 1);
+    if found != BUS_NAME {
+        return Some(RomFault::BusName { at: 1, found });
+    }
+    if !is_whole(bytes, root) {
+        return Some(RomFault::RomCut { at: count });
+    }
+    None
+}
+
+/// The ROM with these bytes.
+///
+/// Refused, in this order, with
+/// - `RomLength` where the bytes aren't whole quadlets;
+/// - `RomTooLong` where there are more than 256 quadlets, and `RomEmpty` where there is none;
+/// - `NoInfo` where the first byte is 0, and `Minimal` where it is 1;
+/// - `RomCut` where the bus information block isn't whole;
+/// - `BusName` where quadlet 1 isn't 0x31333934;
+/// - `RomCut` where the root directory isn't whole.
+pub fn decode_rom(alloc: Global, bytes: &[u8]) -> Result<Rom, RomStop>
+    // The bytes are those of the ROM that is answered, and the ROM with these bytes is answered.
+    ensures found { IfOk result (λ rom. rom_bytes rom ≡ bytes.now) }
+    ensures valid { IfOk result (λ rom. IsRom rom) }
+    ensures only { (rom : Parts) → IsRom rom → rom_bytes rom ≡ bytes.now →
+        UnlessMemory result (Ok rom) }
+    // A fault that is answered is the first, and the first is answered.
+    ensures refused { IfFault result (λ fault. rom_fault bytes.now ≡ Some fault) }
+    ensures exact { (fault : RomFault) → rom_fault bytes.now ≡ Some fault →
+        UnlessMemory result (Err (Fault fault)) }
+{
+    if let Some(fault) = fault_of(bytes) {
+        return Err(RomStop::Fault(fault));
+    }
+    let list = quads_of(alloc, bytes)?;
+    let quads = list.as_slice().to_vec(alloc)?;
+    Ok(Rom { quads })
+}
+
+/// The bytes of a ROM.
+pub fn encode_rom(alloc: Global, rom: &Rom) -> Result<Vec<u8>, OutOfMemory>
+    ensures { IfOk result (λ bytes. bytes.items ≡ rom_bytes rom.now) }
+{
+    let mut bytes = Vec::new(alloc);
+    for quad in rom.quads() {
+        bytes.extend_from_slice(&quad.to_be_bytes())?;
+    }
+    Ok(bytes)
+}
