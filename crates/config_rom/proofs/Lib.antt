@@ -2,3 +2,5 @@ pub mod Quadlets
 pub mod Whole
 pub mod Faults
 pub mod Reading
+pub mod Reached
+pub mod Listed

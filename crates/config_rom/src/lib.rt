@@ -1,10 +1,17 @@
-//! Configuration ROMs (IEEE Std 1212): what a node says of itself, as quadlets behind a bus information
-//! block, in directories and leaves.
+//! Configuration ROMs (IEEE Std 1212): what a node says of itself, as quadlets behind a bus
+//! information block, in directories and leaves.
 #![tactic(auto)]
 
+mod block;
+mod crc;
 mod fault;
+mod marks;
+mod reach;
 mod rom;
+mod text;
 
+pub use block::{Block, BlockKind, BlockList, blocks};
+pub use crc::CrcState;
 pub use fault::{RomFault, RomStop};
 pub use quad_lanes::OutOfMemory;
 pub use rom::{Rom, decode_rom, encode_rom};
