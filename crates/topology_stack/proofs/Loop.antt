@@ -6,10 +6,12 @@ use Rattle.self_id.specs.declared.fault.GroupFault.{GroupFault}
 use Rattle.topology_stack.specs.declared.fault.TreeFault.{TreeFault}
 use Rattle.topology_stack.specs.declared.fault.TreeFault.TheVariants.{Group, Empty, TooFewChildren, TreesLeft, AfterRoot, NoRoot, TooMany}
 use Rattle.self_id.specs.Node.{Node, IsNode, ups, downs}
-use Rattle.self_id.specs.Group.{group}
+use Rattle.self_id.specs.Group.{group, StandsAt}
 use Rattle.self_id.specs.Refused.{GroupRefused}
 use Rattle.self_id.specs.codings.Reading.{read_at}
 use Rattle.self_id.proofs.Laws.{read_at-group, read_at-refused, length-group}
+use Rattle.topology_stack.specs.declared.waiting.Waiting.{Waiting}
+use Rattle.topology_stack.specs.codings.Waiting.{after_node}
 use Rattle.topology_stack.proofs.ReadFrom.{in_group, ended, unless_ended, read_from, read}
 
 -- where the loop stands in reading all of the list
@@ -41,6 +43,9 @@ full at found ns rest lt = goes_on at false ns rest _ lt
 pub is_full : (quads : List ℕ) (at found : ℕ) (rooted : Bool) (ns : List Node) → at < length quads → rooted ≡ false → length ns ≡ 63 → Reads quads at found rooted ns → read quads ≡ Err (TooMany at)
 is_full quads at found rooted ns lt is len h = let none : 63 - length ns ≡ 0 = omega arith in sym h ∙ rw (is, none) (full at found ns (drop at quads) (omega (arith, length-drop at quads)))
 
+abbrev ok_waiting : Waiting → Result Waiting TreeFault
+ok_waiting w = Ok w
+
 -- what is read where a group follows
 abbrev pub next : ℕ → ℕ → ℕ → List Node → List ℕ → Node → Result (List Node) TreeFault
 next room at found ns rest n =
@@ -62,21 +67,47 @@ pub is_group_fault : (quads : List ℕ) (at found : ℕ) (rooted : Bool) (ns : L
     read_at at (length ns) (drop at quads) ≡ Err f → read quads ≡ Err (Group f)
 is_group_fault quads at found rooted ns f lt is room h e = sym (unrolled quads at found rooted ns lt is room h) ∙ rw e refl
 
-pub is_too_few : (quads : List ℕ) (at found : ℕ) (rooted : Bool) (ns : List Node) (n : Node) → at < length quads → rooted ≡ false → length ns < 63 → Reads quads at found rooted ns →
-    read_at at (length ns) (drop at quads) ≡ Ok n → found < downs n.ports → read quads ≡ Err (TooFewChildren at found (downs n.ports))
-is_too_few quads at found rooted ns n lt is room h e few = sym (unrolled quads at found rooted ns lt is room h) ∙ rw (e, lt-ltb _ _ few) refl
+-- what follows a node whose tests fail, or pass
+fault_of_tests : (a b : Bool) (x y f : TreeFault) (w : Waiting) (more : Result (List Node) TreeFault) → cond a (Err x) (cond b (Err y) (ok_waiting w)) ≡ Err f → cond a (Err x) (cond b (Err y) more) ≡ Err f
+fault_of_tests true b x y f w more e = let same : x ≡ f = cc in ap (λ (g : TreeFault). Err g) same
+fault_of_tests false true x y f w more e = let same : y ≡ f = cc in ap (λ (g : TreeFault). Err g) same
+fault_of_tests false false x y f w more e = absurd cc
 
-pub is_left : (quads : List ℕ) (at found : ℕ) (rooted : Bool) (ns : List Node) (n : Node) → at < length quads → rooted ≡ false → length ns < 63 → Reads quads at found rooted ns →
-    read_at at (length ns) (drop at quads) ≡ Ok n → downs n.ports ≤ found → (eqb (ups n.ports) 0 && ltb (downs n.ports) found) ≡ true → read quads ≡ Err (TreesLeft at found (downs n.ports))
-is_left quads at found rooted ns n lt is room h e enough test = sym (unrolled quads at found rooted ns lt is room h) ∙ rw (e, le-ltb _ _ enough, test) refl
+after_tests : (a b : Bool) (x y : TreeFault) (w v : Waiting) (more : Result (List Node) TreeFault) → cond a (Err x) (cond b (Err y) (ok_waiting w)) ≡ Ok v → (cond a (Err x) (cond b (Err y) more) ≡ more) × (w ≡ v)
+after_tests true b x y w v more e = absurd cc
+after_tests false true x y w v more e = absurd cc
+after_tests false false x y w v more e = (refl, cc)
 
-pub reads_on : (quads : List ℕ) (at found : ℕ) (rooted : Bool) (ns : List Node) (n : Node) → at < length quads → rooted ≡ false → length ns < 63 → Reads quads at found rooted ns →
-    read_at at (length ns) (drop at quads) ≡ Ok n → downs n.ports ≤ found → (eqb (ups n.ports) 0 && ltb (downs n.ports) found) ≡ false →
-    Reads quads (at + length (group n (length ns))) (found - downs n.ports + 1) (eqb (ups n.ports) 0) (ns ++ n ∷ [])
-reads_on quads at found rooted ns n lt is room h e enough test =
-    let left : 63 - length (ns ++ n ∷ []) ≡ 62 - length ns = omega (arith, length-append ns (n ∷ [])) in
+abbrev few : ℕ → Node → Bool
+few found n = ltb found (downs n.ports)
+
+abbrev left : ℕ → Node → Bool
+left found n = eqb (ups n.ports) 0 && ltb (downs n.ports) found
+
+abbrev joined : ℕ → Node → Waiting
+joined found n = record { trees = found - downs n.ports + 1; rooted = eqb (ups n.ports) 0 }
+
+pub is_node_fault : (quads : List ℕ) (at found : ℕ) (rooted : Bool) (ns : List Node) (n : Node) (f : TreeFault) → at < length quads → rooted ≡ false → length ns < 63 → Reads quads at found rooted ns →
+    read_at at (length ns) (drop at quads) ≡ Ok n → after_node at found n ≡ Err f → read quads ≡ Err f
+is_node_fault quads at found rooted ns n f lt is room h e fault =
+    sym (unrolled quads at found rooted ns lt is room h)
+    ∙ rw e (fault_of_tests (few found n) (left found n) (TooFewChildren at found (downs n.ports)) (TreesLeft at found (downs n.ports)) f (joined found n)
+    (read_from (62 - length ns) (at + length (group n (length ns))) (found - downs n.ports + 1) (eqb (ups n.ports) 0) (ns ++ n ∷ []) (drop (length (group n (length ns))) (drop at quads))) fault)
+
+-- the tests of a node that passes them, and what waits after it
+passes : (at found : ℕ) (n : Node) (w : Waiting) (more : Result (List Node) TreeFault) → after_node at found n ≡ Ok w →
+    (cond (few found n) (Err (TooFewChildren at found (downs n.ports))) (cond (left found n) (Err (TreesLeft at found (downs n.ports))) more) ≡ more) × (joined found n ≡ w)
+passes at found n w more go = after_tests (few found n) (left found n) (TooFewChildren at found (downs n.ports)) (TreesLeft at found (downs n.ports)) (joined found n) w more go
+
+pub reads_on : (quads : List ℕ) (at found : ℕ) (rooted : Bool) (ns : List Node) (n : Node) (w : Waiting) → at < length quads → rooted ≡ false → length ns < 63 → Reads quads at found rooted ns →
+    read_at at (length ns) (drop at quads) ≡ Ok n → after_node at found n ≡ Ok w →
+    Reads quads (at + length (group n (length ns))) w.trees w.rooted (ns ++ n ∷ [])
+reads_on quads at found rooted ns n w lt is room h e go =
+    let room' : 63 - length (ns ++ n ∷ []) ≡ 62 - length ns = omega (arith, length-append ns (n ∷ [])) in
     let rest : drop (at + length (group n (length ns))) quads ≡ drop (length (group n (length ns))) (drop at quads) = sym (drop-drop (length (group n (length ns))) at quads) in
-    rw (left, rest) (sym (rw (e, le-ltb _ _ enough, test) refl) ∙ unrolled quads at found rooted ns lt is room h)
+    let after = passes at found n w (read_from (62 - length ns) (at + length (group n (length ns))) (found - downs n.ports + 1) (eqb (ups n.ports) 0) (ns ++ n ∷ []) (drop (length (group n (length ns))) (drop at quads))) go in
+    let all : in_group (read_at at (length ns) (drop at quads)) (next (62 - length ns) at found ns (drop at quads)) ≡ read quads = unrolled quads at found rooted ns lt is room h in
+    rw (room', rest, ← after.1) (sym after.0 ∙ (rw e at all))
 
 pub end_read : (room at found : ℕ) (rooted : Bool) (ns : List Node) → read_from room at found rooted ns [] ≡ ended at rooted ns
 unfolding read_from
@@ -97,33 +128,36 @@ ended_unrooted at rooted (n ∷ ns) e some = rw e refl
 pub ended_rooted : (at : ℕ) (rooted : Bool) (ns : List Node) → rooted ≡ true → ended at rooted ns ≡ Ok ns
 ended_rooted at rooted ns e = rw e refl
 
+-- at most one tree more waits
+few_wait : (at found : ℕ) (n : Node) (w : Waiting) → after_node at found n ≡ Ok w → w.trees ≤ found + 1
+few_wait at found n w go =
+    let trees : found - downs n.ports + 1 ≡ w.trees = ap (λ (v : Waiting). v.trees) (passes at found n w (Ok []) go).1 in
+    omega (arith, trees)
+
 -- one more turn of the loop
-pub goes_round : (quads : List ℕ) (at found wanted up place : ℕ) (rooted : Bool) (ns : List Node) (n : Node) → at < length quads → rooted ≡ false → length ns ≢ 63 → Reading quads at found rooted ns →
-    read_at at (length ns) (drop at quads) ≡ Ok n → place ≡ at + length (group n (length ns)) → place ≤ length quads → wanted ≡ downs n.ports → up ≡ ups n.ports → wanted ≤ found → (eqb up 0 && ltb wanted found) ≡ false →
-    Reading quads place (found - wanted + 1) (eqb up 0) (ns ++ n ∷ [])
-goes_round quads at found wanted up place rooted ns n lt is room h e p in_list w u enough test =
-    let enough' : downs n.ports ≤ found = omega (arith, w) in
-    let test' : (eqb (ups n.ports) 0 && ltb (downs n.ports) found) ≡ false = rw (← u, ← w) test in
-    record {
-      inside = in_list;
-      room = omega (arith, h.room, length-append ns (n ∷ []));
-      few = omega (arith, h.few, length-append ns (n ∷ []));
-      reads = rw (p, w, u) (reads_on quads at found rooted ns n lt is (omega (arith, h.room)) h.reads e enough' test');
-    }
+pub goes_round : (quads : List ℕ) (at found place : ℕ) (rooted : Bool) (ns : List Node) (n : Node) (w : Waiting) → at < length quads → rooted ≡ false → length ns ≢ 63 → Reading quads at found rooted ns →
+    read_at at (length ns) (drop at quads) ≡ Ok n → place ≡ at + length (group n (length ns)) → place ≤ length quads → after_node at found n ≡ Ok w →
+    Reading quads place w.trees w.rooted (ns ++ n ∷ [])
+goes_round quads at found place rooted ns n w lt is room h e p in_list go = record {
+  inside = in_list;
+  room = omega (arith, h.room, length-append ns (n ∷ []));
+  few = omega (arith, h.few, length-append ns (n ∷ []), few_wait at found n w go);
+  reads = rw p (reads_on quads at found rooted ns n w lt is (omega (arith, h.room)) h.reads e go);
+}
 
 -- a group that stands there is read
-pub takes : (quads : List ℕ) (at id place : ℕ) (ns : List Node) (n m : Node) → id ≡ length ns → length ns < 63 → IsNode m → m ≡ n → drop at quads ≡ group n id ++ drop place quads → read_at at (length ns) (drop at quads) ≡ Ok n
-takes quads at id place ns n m same room is view e =
+pub takes : (quads : List ℕ) (at id place : ℕ) (ns : List Node) (n : Node) → id ≡ length ns → length ns < 63 → StandsAt quads at id n place → read_at at (length ns) (drop at quads) ≡ Ok n
+takes quads at id place ns n same room h =
     let small : length ns ≤ 62 = omega arith in
-    ap (read_at at (length ns)) e ∙ ap (λ (k : ℕ). read_at at (length ns) (group n k ++ drop place quads)) same ∙ read_at-group n at (length ns) (drop place quads) (subst IsNode view is) small
+    ap (read_at at (length ns)) h.parts ∙ ap (λ (k : ℕ). read_at at (length ns) (group n k ++ drop place quads)) same ∙ read_at-group n at (length ns) (drop place quads) h.is_node small
 
 pub refuses : (quads : List ℕ) (at id : ℕ) (ns : List Node) (f : GroupFault) → id ≡ length ns → length ns < 63 → GroupRefused at id (drop at quads) f → read_at at (length ns) (drop at quads) ≡ Err f
 refuses quads at id ns f same room h =
     let small : id ≤ 62 = omega arith in
     ap (λ (k : ℕ). read_at at k (drop at quads)) (sym same) ∙ read_at-refused at id (drop at quads) f small h
 
-pub place_is : (at id place : ℕ) (ns : List Node) (n : Node) → id ≡ length ns → place ≡ at + length (group n id) → place ≡ at + length (group n (length ns))
-place_is at id place ns n same e = e ∙ ap (λ (k : ℕ). at + length (group n k)) same
+pub place_is : (quads : List ℕ) (at id place : ℕ) (ns : List Node) (n : Node) → id ≡ length ns → StandsAt quads at id n place → place ≡ at + length (group n (length ns))
+place_is quads at id place ns n same h = h.place ∙ ap (λ (k : ℕ). at + length (group n k)) same
 
-pub moves : (at id place : ℕ) (n m : Node) → IsNode m → m ≡ n → place ≡ at + length (group n id) → at < place
-moves at id place n m is view e = let some = (length-group n id (subst IsNode view is)).0 in omega arith
+pub moves : (quads : List ℕ) (at id place : ℕ) (n : Node) → StandsAt quads at id n place → at < place
+moves quads at id place n h = let some = (length-group n id h.is_node).0 in omega (arith, h.place)

@@ -2,3 +2,4 @@
 pub mod Code
 pub mod Links
 pub mod Stored
+pub mod Waiting

@@ -60,6 +60,16 @@ impl<T: Drop> From<AllocFailed<T>> for TreeStop {
     }
 }
 
+impl From<TreeFault> for TreeStop {
+    ghost use Rattle.topology_stack.specs.declared.fault.TreeStop.TheVariants.{Fault};
+
+    ghost from_gives = { λ f e. e ≡ Fault f };
+
+    fn from(f: TreeFault) -> TreeStop {
+        TreeStop::Fault(f)
+    }
+}
+
 impl From<GroupFault> for TreeStop {
     ghost use Rattle.topology_stack.specs.declared.fault.TreeFault.TheVariants.{Group};
     ghost use Rattle.topology_stack.specs.declared.fault.TreeStop.TheVariants.{Fault};

@@ -15,6 +15,7 @@ mod reading;
 mod slots;
 mod text;
 mod tree;
+mod waiting;
 mod writing;
 
 pub use answers::{one_answer, one_tree};

@@ -5,7 +5,8 @@ ghost use Rattle.topology_stack.specs.Refused.{Refused};
 ghost use Rattle.topology_stack.specs.Answer.{IfFault};
 
 use crate::fault::{TreeFault, TreeStop};
-use self_id::{SelfId, count_down, count_up, read_group};
+use crate::waiting::{Waiting, after_node};
+use self_id::{SelfId, read_group};
 use std::alloc::Global;
 
 /// The most nodes of a bus: IDs run from 0 to 62, and 63 means all nodes.
@@ -19,38 +20,23 @@ pub(crate) fn nodes_of(alloc: Global, quads: &[u32]) -> Result<Vec<SelfId>, Tree
 {
     let mut nodes = Vec::with_capacity(alloc, quads.len().min(MAX_NODES))?;
     let mut at = 0;
-    // how many trees wait for a parent
-    let mut found = 0;
-    let mut rooted = false;
+    let mut waiting = Waiting {
+        trees: 0,
+        rooted: false,
+    };
     while at < quads.len() {
-        if rooted {
+        if waiting.rooted {
             return Err(TreeStop::Fault(TreeFault::AfterRoot { at }));
         }
         if nodes.len() == MAX_NODES {
             return Err(TreeStop::Fault(TreeFault::TooMany { at }));
         }
         let (node, after) = read_group(quads, at, nodes.len() as u8)?;
-        let wanted = count_down(node.ports.as_slice());
-        if found < wanted {
-            return Err(TreeStop::Fault(TreeFault::TooFewChildren {
-                at,
-                found: found as u8,
-                wanted: wanted as u8,
-            }));
-        }
-        rooted = count_up(node.ports.as_slice()) == 0;
-        if rooted && wanted < found {
-            return Err(TreeStop::Fault(TreeFault::TreesLeft {
-                at,
-                found: found as u8,
-                wanted: wanted as u8,
-            }));
-        }
-        found = found - wanted + 1;
+        waiting = after_node(at, waiting.trees, &node)?;
         nodes.push(node)?;
         at = after;
     }
-    if rooted {
+    if waiting.rooted {
         Ok(nodes)
     } else if nodes.is_empty() {
         Err(TreeStop::Fault(TreeFault::Empty))
