@@ -9,3 +9,4 @@ pub mod Linking
 pub mod Answered
 pub mod Ends
 pub mod Highest
+mod Streaming

@@ -43,7 +43,7 @@ full at found ns rest lt = goes_on at false ns rest _ lt
 pub is_full : (quads : List ℕ) (at found : ℕ) (rooted : Bool) (ns : List Node) → at < length quads → rooted ≡ false → length ns ≡ 63 → Reads quads at found rooted ns → read quads ≡ Err (TooMany at)
 is_full quads at found rooted ns lt is len h = let none : 63 - length ns ≡ 0 = omega arith in sym h ∙ rw (is, none) (full at found ns (drop at quads) (omega (arith, length-drop at quads)))
 
-abbrev ok_waiting : Waiting → Result Waiting TreeFault
+abbrev pub ok_waiting : Waiting → Result Waiting TreeFault
 ok_waiting w = Ok w
 
 -- what is read where a group follows
@@ -78,26 +78,26 @@ after_tests true b x y w v more e = absurd cc
 after_tests false true x y w v more e = absurd cc
 after_tests false false x y w v more e = (refl, cc)
 
-abbrev few : ℕ → Node → Bool
-few found n = ltb found (downs n.ports)
+abbrev pub too_few : ℕ → Node → Bool
+too_few found n = ltb found (downs n.ports)
 
-abbrev left : ℕ → Node → Bool
+abbrev pub left : ℕ → Node → Bool
 left found n = eqb (ups n.ports) 0 && ltb (downs n.ports) found
 
-abbrev joined : ℕ → Node → Waiting
+abbrev pub joined : ℕ → Node → Waiting
 joined found n = record { trees = found - downs n.ports + 1; rooted = eqb (ups n.ports) 0 }
 
 pub is_node_fault : (quads : List ℕ) (at found : ℕ) (rooted : Bool) (ns : List Node) (n : Node) (f : TreeFault) → at < length quads → rooted ≡ false → length ns < 63 → Reads quads at found rooted ns →
     read_at at (length ns) (drop at quads) ≡ Ok n → after_node at found n ≡ Err f → read quads ≡ Err f
 is_node_fault quads at found rooted ns n f lt is room h e fault =
     sym (unrolled quads at found rooted ns lt is room h)
-    ∙ rw e (fault_of_tests (few found n) (left found n) (TooFewChildren at found (downs n.ports)) (TreesLeft at found (downs n.ports)) f (joined found n)
+    ∙ rw e (fault_of_tests (too_few found n) (left found n) (TooFewChildren at found (downs n.ports)) (TreesLeft at found (downs n.ports)) f (joined found n)
     (read_from (62 - length ns) (at + length (group n (length ns))) (found - downs n.ports + 1) (eqb (ups n.ports) 0) (ns ++ n ∷ []) (drop (length (group n (length ns))) (drop at quads))) fault)
 
 -- the tests of a node that passes them, and what waits after it
 passes : (at found : ℕ) (n : Node) (w : Waiting) (more : Result (List Node) TreeFault) → after_node at found n ≡ Ok w →
-    (cond (few found n) (Err (TooFewChildren at found (downs n.ports))) (cond (left found n) (Err (TreesLeft at found (downs n.ports))) more) ≡ more) × (joined found n ≡ w)
-passes at found n w more go = after_tests (few found n) (left found n) (TooFewChildren at found (downs n.ports)) (TreesLeft at found (downs n.ports)) (joined found n) w more go
+    (cond (too_few found n) (Err (TooFewChildren at found (downs n.ports))) (cond (left found n) (Err (TreesLeft at found (downs n.ports))) more) ≡ more) × (joined found n ≡ w)
+passes at found n w more go = after_tests (too_few found n) (left found n) (TooFewChildren at found (downs n.ports)) (TreesLeft at found (downs n.ports)) (joined found n) w more go
 
 pub reads_on : (quads : List ℕ) (at found : ℕ) (rooted : Bool) (ns : List Node) (n : Node) (w : Waiting) → at < length quads → rooted ≡ false → length ns < 63 → Reads quads at found rooted ns →
     read_at at (length ns) (drop at quads) ≡ Ok n → after_node at found n ≡ Ok w →
@@ -129,7 +129,7 @@ pub ended_rooted : (at : ℕ) (rooted : Bool) (ns : List Node) → rooted ≡ tr
 ended_rooted at rooted ns e = rw e refl
 
 -- at most one tree more waits
-few_wait : (at found : ℕ) (n : Node) (w : Waiting) → after_node at found n ≡ Ok w → w.trees ≤ found + 1
+pub few_wait : (at found : ℕ) (n : Node) (w : Waiting) → after_node at found n ≡ Ok w → w.trees ≤ found + 1
 few_wait at found n w go =
     let trees : found - downs n.ports + 1 ≡ w.trees = ap (λ (v : Waiting). v.trees) (passes at found n w (Ok []) go).1 in
     omega (arith, trees)

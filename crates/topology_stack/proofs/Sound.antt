@@ -48,14 +48,14 @@ abbrev make : Label → List PortStatus → Node
 make a ps = record { attrs = a.attrs; ports = ps; kept_a = a.kept_a; kept_b = a.kept_b }
 
 -- what a node makes of the latest trees
-record Grows (n : Node) (ts : List Tree) (s : Slots) (us : List Tree) : Type 0 where
-  node : node_of (label_of n) s ≡ n
-  nodes : walks us ++ walk (branch (label_of n) s) ≡ walks ts ++ n ∷ []
-  parts : AreParts s
-  waiting : AreWaiting us
-  count : length us + downs n.ports ≡ length ts
+pub record Grows (n : Node) (ts : List Tree) (s : Slots) (us : List Tree) : Type 0 where
+  pub node : node_of (label_of n) s ≡ n
+  pub nodes : walks us ++ walk (branch (label_of n) s) ≡ walks ts ++ n ∷ []
+  pub parts : AreParts s
+  pub waiting : AreWaiting us
+  pub count : length us + downs n.ports ≡ length ts
 
-grows : (n : Node) (ts : List Tree) (s : Slots) (us : List Tree) → Builds n.ports ts (s, us) → AreWaiting ts → Grows n ts s us
+pub grows : (n : Node) (ts : List Tree) (s : Slots) (us : List Tree) → Builds n.ports ts (s, us) → AreWaiting ts → Grows n ts s us
 grows n ts s us b waiting =
     let node : node_of (label_of n) s ≡ n = ap (λ (ps : List PortStatus). make (label_of n) ps) b.same in
     let before : walks us ++ walk_below s ≡ walks ts = sym (walks-with_parts s us) ∙ ap walks b.parts in
@@ -145,7 +145,7 @@ part_found at next found ns rest qs l ts n s us h place g a one = record {
   place = place;
 }
 
-root_test : (x y : Bool) → (x && y) ≡ false → x ≡ true → y ≡ false
+pub root_test : (x y : Bool) → (x && y) ≡ false → x ≡ true → y ≡ false
 root_test true y e f = e
 root_test false y e f = absurd cc
 
@@ -153,7 +153,7 @@ by_bool : {A : Type 0} (b : Bool) → (b ≡ true → A) → (b ≡ false → A)
 by_bool true f g = f refl
 by_bool false f g = g refl
 
-ups_one : (k : ℕ) → k ≤ 1 → eqb k 0 ≡ false → k ≡ 1
+pub ups_one : (k : ℕ) → k ≤ 1 → eqb k 0 ≡ false → k ≡ 1
 ups_one zero le e = absurd cc
 ups_one (suc zero) le e = refl
 ups_one (suc (suc k)) le e = absurd (omega arith)

@@ -4,6 +4,7 @@ pub mod Forest
 pub mod Refused
 pub mod Answer
 pub mod OneAnswer
+pub mod Reader
 pub mod Elect
 pub mod Name
 pub mod Text
