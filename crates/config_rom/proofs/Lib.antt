@@ -4,3 +4,5 @@ pub mod Faults
 pub mod Reading
 pub mod Reached
 pub mod Listed
+pub mod Told
+pub mod Appended

@@ -153,3 +153,9 @@ has_layout v is =
     index-append : (xs ys : List ℕ) → 0 < length xs → slice_index (xs ++ ys) 0 ≡ slice_index xs 0
     index-append [] ys lt = absurd (omega (arith, lt))
     index-append (x ∷ xs) ys lt = refl
+
+-- the bus information block among the quadlets
+pub info_part : (v : Parts) (quads : List ℕ) (n : ℕ) → IsRom v → quads ≡ rom_quads v → n ≡ v.info_len → take (1 + n - 1) (drop 1 quads) ≡ v.info
+info_part v quads n is e f =
+    let long : 1 + n - 1 ≡ length v.info = omega (arith, f, is.info_is) in
+    ap (λ k. take k (drop 1 quads)) long ∙ ap (λ qs. take (length v.info) (drop 1 qs)) e ∙ take-append_seam v.info (root_header v ∷ (v.entries ++ v.rest))

@@ -19,9 +19,12 @@ hex zero n = []
 hex (suc digits) n = hex_digit (n / 2 ^ (4 * digits) % 16) ∷ hex digits n
 
 -- `good`, `bad KEPT COMPUTED` or `past`
+unfoldable pub bad_text : ℕ → ℕ → List ℕ
+bad_text kept computed = codes "bad " ++ (hex 4 kept ++ (codes " " ++ hex 4 computed))
+
 abbrev pub state_text : CrcState → List ℕ
 state_text Good = codes "good"
-state_text (Bad kept computed) = codes "bad " ++ (hex 4 kept ++ (codes " " ++ hex 4 computed))
+state_text (Bad kept computed) = bad_text kept computed
 state_text Past = codes "past"
 
 -- a word and a number
@@ -29,11 +32,11 @@ unfoldable pub field : List ℕ → ℕ → List ℕ
 field word n = word ++ decimal n
 
 -- `rom quadlets N info L crc_length C crc STATE`
-unfoldable pub first_line : Parts → CrcState → List ℕ
-first_line v state =
-    field (codes "rom quadlets ") (length (rom_quads v))
-    ++ (field (codes " info ") v.info_len
-    ++ (field (codes " crc_length ") v.crc_length
+unfoldable pub first_line : ℕ → ℕ → ℕ → CrcState → List ℕ
+first_line quads info_len crc_length state =
+    field (codes "rom quadlets ") quads
+    ++ (field (codes " info ") info_len
+    ++ (field (codes " crc_length ") crc_length
     ++ (codes " crc " ++ (state_text state ++ codes "\n"))))
 
 -- `info HHHHHHHH`
@@ -99,7 +102,7 @@ last_line count = field (codes "blocks ") count ++ codes "\n"
 
 abbrev pub text_of : Parts → CrcState → List Block → List ℕ
 text_of v state blocks =
-    first_line v state
+    first_line (length (rom_quads v)) v.info_len v.crc_length state
     ++ (info_lines v.info ++ (block_lines (rom_quads v) blocks ++ last_line (length blocks)))
 
 -- the text of a ROM with these blocks

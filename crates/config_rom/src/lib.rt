@@ -15,3 +15,7 @@ pub use crc::CrcState;
 pub use fault::{RomFault, RomStop};
 pub use quad_lanes::OutOfMemory;
 pub use rom::{Rom, decode_rom, encode_rom};
+pub use text::rom_text;
+
+#[cfg(test)]
+mod tests;
