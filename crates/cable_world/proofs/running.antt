@@ -5,3 +5,5 @@
 pub mod Mixed
 pub mod Sending
 pub mod Hearing
+pub mod Lists
+pub mod AllNodes

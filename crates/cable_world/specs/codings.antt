@@ -1,3 +1,4 @@
 -- No public contract of a world cites these files: they say how the code goes from item to item.
 pub mod Ages
 pub mod Hearing
+pub mod Steps

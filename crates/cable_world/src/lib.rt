@@ -7,6 +7,7 @@
 #![tactic(auto)]
 
 mod act;
+mod all_nodes;
 mod laws;
 mod nodes;
 mod rows;
