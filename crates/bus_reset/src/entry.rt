@@ -20,9 +20,9 @@ fn clear_marks(ports: &mut PortViews)
     }
 }
 
-/// The node begins a reset, by itself (`caused`) or since it heard Reset: it forgets the tree, takes over
-/// what a configuration packet said, and sends Reset on every connected port. `out` is empty, and then has
-/// what was sent.
+/// The node begins a reset, by itself (`caused`) or since it heard Reset: it forgets the tree,
+/// takes over what a configuration packet said, and sends Reset on every connected port. `out` is
+/// empty, and then has what was sent.
 #[tactic(auto, unfolding(port_state::specs::Entry::enter))]
 pub fn enter(s: &mut NodeState, caused: bool, out: &mut Sends)
     requires bounded { IsBounded s.old }

@@ -1,7 +1,7 @@
 //! Bus reset (IEEE Std 1394-1995 and 1394a-2000, states R0 and R1).
 //!
-//! `entry` is how a node comes to R0: it forgets the tree and sends Reset. `ticks` is how it goes on to R1
-//! and to tree identify.
+//! `entry` is how a node comes to R0: it forgets the tree and sends Reset. `ticks` is how it goes
+//! on to R1 and to tree identify.
 #![tactic(auto)]
 
 mod entry;

@@ -6,9 +6,9 @@ ghost use Rattle.bus_reset.specs.ResetStep.{reset_step};
 use port_state::states::NodeState;
 use port_state::{Phase, PortTests, Sends, Signal};
 
-/// What a tick does in R0 and R1, once it has raised the timer; in any other state nothing. From R0 the
-/// node goes on after the hold, and sends Idle on every connected port. From R1 it goes on where all of
-/// these show Idle or Parent. `out` is empty, and then has what was sent.
+/// What a tick does in R0 and R1, once it has raised the timer; in any other state nothing. From
+/// R0 the node goes on after the hold, and sends Idle on every connected port. From R1 it goes on
+/// where all of these show Idle or Parent. `out` is empty, and then has what was sent.
 pub fn reset_tick(s: &mut NodeState, out: &mut Sends)
     requires valid { IsValid s.old }
     requires empty { out.old ≡ [] }

@@ -24,8 +24,8 @@ pub fn has_rival(s: &NodeState) -> bool
     }
 }
 
-/// The first 32 draws with one more coin, of which `draws` were drawn before: coin number j, from 0, is
-/// bit j.
+/// The first 32 draws with one more coin, of which `draws` were drawn before: coin number j, from
+/// 0, is bit j.
 fn draws_with(coin: bool, draws: u16, first: u32) -> u32
     ensures { result ≡ draws_with coin draws first }
 {
@@ -36,9 +36,9 @@ fn draws_with(coin: bool, draws: u16, first: u32) -> u32
     }
 }
 
-/// T2 to T3, for a node whose parent port shows Parent: it draws a coin, and waits the short time for 0
-/// and the long time for 1. It sends Idle to its rival. The timer was raised before. `out` is empty, and
-/// then has what was sent.
+/// T2 to T3, for a node whose parent port shows Parent: it draws a coin, and waits the short time
+/// for 0 and the long time for 1. It sends Idle to its rival. The timer was raised before. `out`
+/// is empty, and then has what was sent.
 pub fn begin(s: &mut NodeState, coins: &mut Coins, out: &mut Sends)
     requires valid { IsValid s.old }
     requires rival { IsTrue (has_rival s.old) }
@@ -59,8 +59,9 @@ pub fn begin(s: &mut NodeState, coins: &mut Coins, out: &mut Sends)
     }
 }
 
-/// What a tick does in T3, once it has raised the timer: when the wait is over, a rival that asks again
-/// becomes a child, and else this node asks again. `out` is empty, and then has what was sent.
+/// What a tick does in T3, once it has raised the timer: when the wait is over, a rival that asks
+/// again becomes a child, and else this node asks again. `out` is empty, and then has what was
+/// sent.
 pub fn contend_tick(s: &mut NodeState, out: &mut Sends)
     requires valid { IsValid s.old }
     requires contends { s.old.view.phase ≡ Phase.Contend }

@@ -1,5 +1,5 @@
-//! Root contention (IEEE Std 1394-1995 and 1394a-2000, state T3): two neighbours asked each other to be
-//! parent. Each draws a coin and waits, short for 0 and long for 1.
+//! Root contention (IEEE Std 1394-1995 and 1394a-2000, state T3): two neighbours asked each other
+//! to be parent. Each draws a coin and waits, short for 0 and long for 1.
 #![tactic(auto)]
 
 mod contend;

@@ -14,7 +14,7 @@ use lib.Lanes.{mask_l}
 use Rattle.port_state.specs.declared.ports.PortView.{PortView}
 use Rattle.port_state.specs.Ports.{every, lowest}
 use Rattle.phy_machine.specs.declared.port_words.Words.{Words}
-use Rattle.phy_machine.specs.PortWords.{has_bit, port_at, ports_of}
+use Rattle.phy_machine.specs.codings.PortWords.{has_bit, port_at, ports_of}
 
 -- ---- a word and its bits
 
@@ -28,25 +28,35 @@ bit-and-rest x = go (x % 2 == 1) refl
     go true e = let odd = eqb-true (x % 2) 1 e in omega (arith, div-add-mod x 2)
     go false e = let even = eqb-false (x % 2) 1 e in omega (arith, div-add-mod x 2)
 
-mask-bits : (word n a x : ℕ) → x ≡ word / 2 ^ a → x < 2 ^ n → mask_l (map (has_bit word) (range_with_len a n)) ≡ x
+mask-bits :
+    (word n a x : ℕ) → x ≡ word / 2 ^ a → x < 2 ^ n →
+    mask_l (map (has_bit word) (range_with_len a n)) ≡ x
 mask-bits word zero a x e h = omega arith
 mask-bits word (suc n) a x e h =
     let rest : mask_l (map (has_bit word) (range_with_len (a + 1) n)) ≡ x / 2 = mask-bits word n (a + 1) (x / 2) (half word a x e) (omega (arith, pow-suc 2 n)) in
     ap (λ m. cond (has_bit word a) 1 0 + 2 * m) rest ∙ ap (λ y. cond (y % 2 == 1) 1 0 + 2 * (x / 2)) (sym e) ∙ bit-and-rest x
 
-mask-tests : (test : PortView → Bool) (w : Words) (word : ℕ) → ((k : ℕ) → has_bit word k ≡ test (port_at w k)) → (ks : List ℕ) → map test (map (port_at w) ks) ≡ map (has_bit word) ks
+mask-tests :
+    (test : PortView → Bool) (w : Words) (word : ℕ) →
+    ((k : ℕ) → has_bit word k ≡ test (port_at w k)) → (ks : List ℕ) →
+    map test (map (port_at w) ks) ≡ map (has_bit word) ks
 mask-tests test w word h [] = refl
 mask-tests test w word h (k ∷ ks) = rw (h k, mask-tests test w word h ks) refl
 
 -- a word whose bits are a test of each port
-pub mask-ports : (test : PortView → Bool) (w : Words) (count word : ℕ) → word < 2 ^ count → ((k : ℕ) → has_bit word k ≡ test (port_at w k)) → mask_l (map test (ports_of count w)) ≡ word
+pub mask-ports :
+    (test : PortView → Bool) (w : Words) (count word : ℕ) → word < 2 ^ count →
+    ((k : ℕ) → has_bit word k ≡ test (port_at w k)) → mask_l (map test (ports_of count w)) ≡ word
 mask-ports test w count word fits h =
     ap mask_l (mask-tests test w word h (range_with_len 0 count))
     ∙ mask-bits word count 0 word (let e : word ≡ word / 2 ^ 0 = omega arith in e) fits
 
 -- ---- how many pass, whether any does, which is the lowest
 
-pub count-ports : (test : PortView → Bool) (w : Words) (count word : ℕ) → word < 2 ^ count → ((k : ℕ) → has_bit word k ≡ test (port_at w k)) → count_ones word ≡ count_by test (ports_of count w)
+pub count-ports :
+    (test : PortView → Bool) (w : Words) (count word : ℕ) → word < 2 ^ count →
+    ((k : ℕ) → has_bit word k ≡ test (port_at w k)) →
+    count_ones word ≡ count_by test (ports_of count w)
 count-ports test w count word fits h = ap count_ones (sym (mask-ports test w count word fits h)) ∙ ones-mask_l test (ports_of count w)
 
 twice : (m : ℕ) → ((0 + 2 * m) == 0) ≡ (m == 0)
@@ -56,50 +66,76 @@ twice m = go (m == 0) refl
     go true e = let z = eqb-true m 0 e in eq-eqb (0 + 2 * m) 0 (omega arith)
     go false e = let ne = eqb-false m 0 e in ne_eqb (0 + 2 * m) 0 (λ i. ne (omega arith))
 
-none-mask : (test : PortView → Bool) (ports : List PortView) → (mask_l (map test ports) == 0) ≡ list_all (λ p. not (test p)) ports
+none-mask :
+    (test : PortView → Bool) (ports : List PortView) →
+    (mask_l (map test ports) == 0) ≡ list_all (λ p. not (test p)) ports
 none-mask test [] = refl
 none-mask test (p ∷ ps) = go (test p) (none-mask test ps)
   where
-    go : (b : Bool) → (mask_l (map test ps) == 0) ≡ list_all (λ q. not (test q)) ps → ((cond b 1 0 + 2 * mask_l (map test ps)) == 0) ≡ (not b && list_all (λ p. not (test p)) ps)
+    go :
+        (b : Bool) → (mask_l (map test ps) == 0) ≡ list_all (λ q. not (test q)) ps →
+        ((cond b 1 0 + 2 * mask_l (map test ps)) == 0) ≡ (not b && list_all (λ p. not (test p)) ps)
     go true rest = ne_eqb (1 + 2 * mask_l (map test ps)) 0 (λ i. omega arith)
     go false rest = twice (mask_l (map test ps)) ∙ rest
 
-list_all-same : (f g : PortView → Bool) → ((p : PortView) → f p ≡ g p) → (ports : List PortView) → list_all f ports ≡ list_all g ports
+list_all-same :
+    (f g : PortView → Bool) → ((p : PortView) → f p ≡ g p) → (ports : List PortView) →
+    list_all f ports ≡ list_all g ports
 list_all-same f g h [] = refl
 list_all-same f g h (p ∷ ps) = rw (h p, list_all-same f g h ps) refl
 
 -- every connected port passes a test, if the word shows those that don't
-pub every-port : (test bad : PortView → Bool) (w : Words) (count word : ℕ) → word < 2 ^ count → ((k : ℕ) → has_bit word k ≡ bad (port_at w k))
-    → ((p : PortView) → not (bad p) ≡ (if p.connected then test p else true)) → (word == 0) ≡ every test (ports_of count w)
+pub every-port :
+    (test bad : PortView → Bool) (w : Words) (count word : ℕ) → word < 2 ^ count →
+    ((k : ℕ) → has_bit word k ≡ bad (port_at w k)) →
+    ((p : PortView) → not (bad p) ≡ (if p.connected then test p else true)) →
+    (word == 0) ≡ every test (ports_of count w)
 every-port test bad w count word fits h g =
     ap (λ n. n == 0) (sym (mask-ports bad w count word fits h)) ∙ none-mask bad (ports_of count w)
     ∙ list_all-same (λ p. not (bad p)) (λ p. if p.connected then test p else true) g (ports_of count w)
 
-lowest-mask : (test : PortView → Bool) (i : ℕ) (ports : List PortView) → 0 < mask_l (map test ports) → position_from test i ports ≡ Some (i + prefix_len (λ p. not (test p)) ports)
+lowest-mask :
+    (test : PortView → Bool) (i : ℕ) (ports : List PortView) → 0 < mask_l (map test ports) →
+    position_from test i ports ≡ Some (i + prefix_len (λ p. not (test p)) ports)
 lowest-mask test i [] h = absurd (omega arith)
 lowest-mask test i (p ∷ ps) h = go (test p) h (lowest-mask test (i + 1) ps)
   where
-    go : (b : Bool) → 0 < cond b 1 0 + 2 * mask_l (map test ps) → (0 < mask_l (map test ps) → position_from test (i + 1) ps ≡ Some (i + 1 + prefix_len (λ q. not (test q)) ps)) → cond b (Some i) (position_from test (i + 1) ps) ≡ Some (i + cond (not b) (1 + prefix_len (λ p. not (test p)) ps) 0)
+    go :
+        (b : Bool) → 0 < cond b 1 0 + 2 * mask_l (map test ps) →
+        (0 < mask_l (map test ps) → position_from test (i + 1) ps ≡ Some (i + 1 + prefix_len (λ q. not (test q)) ps)) →
+        cond b (Some i) (position_from test (i + 1) ps)
+        ≡ Some (i + cond (not b) (1 + prefix_len (λ p. not (test p)) ps) 0)
     go true h rest = ap Some (let e : i ≡ i + 0 = omega arith in e)
     go false h rest =
         rest (omega arith)
         ∙ ap Some (let e : i + 1 + prefix_len (λ q. not (test q)) ps ≡ i + (1 + prefix_len (λ q. not (test q)) ps) = omega arith in e)
 
-lowest-none : (test : PortView → Bool) (i : ℕ) (ports : List PortView) → mask_l (map test ports) ≡ 0 → position_from test i ports ≡ None
+lowest-none :
+    (test : PortView → Bool) (i : ℕ) (ports : List PortView) → mask_l (map test ports) ≡ 0 →
+    position_from test i ports ≡ None
 lowest-none test i [] h = refl
 lowest-none test i (p ∷ ps) h = go (test p) h (lowest-none test (i + 1) ps)
   where
-    go : (b : Bool) → cond b 1 0 + 2 * mask_l (map test ps) ≡ 0 → (mask_l (map test ps) ≡ 0 → position_from test (i + 1) ps ≡ None) → cond b (Some i) (position_from test (i + 1) ps) ≡ None
+    go :
+        (b : Bool) → cond b 1 0 + 2 * mask_l (map test ps) ≡ 0 →
+        (mask_l (map test ps) ≡ 0 → position_from test (i + 1) ps ≡ None) →
+        cond b (Some i) (position_from test (i + 1) ps) ≡ None
     go true h rest = absurd (omega arith)
     go false h rest = rest (omega arith)
 
 pub length-ports : (count : ℕ) (w : Words) → length (ports_of count w) ≡ count
 length-ports count w = rw (length-map (range_with_len 0 count) (port_at w), length-range_with_len 0 count) refl
 
-pub no-port : (test : PortView → Bool) (w : Words) (count word : ℕ) → word < 2 ^ count → ((k : ℕ) → has_bit word k ≡ test (port_at w k)) → word ≡ 0 → lowest test (ports_of count w) ≡ None
+pub no-port :
+    (test : PortView → Bool) (w : Words) (count word : ℕ) → word < 2 ^ count →
+    ((k : ℕ) → has_bit word k ≡ test (port_at w k)) → word ≡ 0 →
+    lowest test (ports_of count w) ≡ None
 no-port test w count word fits h e = lowest-none test 0 (ports_of count w) (mask-ports test w count word fits h ∙ e)
 
-pub first-port : (test : PortView → Bool) (w : Words) (count word : ℕ) → word < 2 ^ count → ((k : ℕ) → has_bit word k ≡ test (port_at w k)) → count ≤ 16 → 0 < word → lowest test (ports_of count w) ≡ Some (count_trailing_zeros 16 word)
+pub first-port :
+    (test : PortView → Bool) (w : Words) (count word : ℕ) → word < 2 ^ count →
+    ((k : ℕ) → has_bit word k ≡ test (port_at w k)) → count ≤ 16 → 0 < word →
+    lowest test (ports_of count w) ≡ Some (count_trailing_zeros 16 word)
 first-port test w count word fits h few some =
     let mask = mask-ports test w count word fits h in
     let set : 0 < mask_l (map test (ports_of count w)) = omega arith in
@@ -110,10 +146,14 @@ first-port test w count word fits h few some =
     ∙ ap (λ m. Some (count_trailing_zeros 16 m)) mask
 
 -- the lowest bit is that of a port
-pub first-exists : (count word : ℕ) → word < 2 ^ count → count ≤ 16 → 0 < word → word < 65536 → count_trailing_zeros 16 word < count
+pub first-exists :
+    (count word : ℕ) → word < 2 ^ count → count ≤ 16 → 0 < word → word < 65536 →
+    count_trailing_zeros 16 word < count
 first-exists count word fits few some small = go (cases_lt (count_trailing_zeros 16 word) count)
   where
-    go : (count_trailing_zeros 16 word < count) ⊎ (count ≤ count_trailing_zeros 16 word) → count_trailing_zeros 16 word < count
+    go :
+        (count_trailing_zeros 16 word < count) ⊎ (count ≤ count_trailing_zeros 16 word) →
+        count_trailing_zeros 16 word < count
     go (inl l) = l
     go (inr l) =
         let set : bit_at word (count_trailing_zeros 16 word) ≡ 1 = (bit_at-trailing_zeros w16 word some small).1 in
@@ -122,16 +162,23 @@ first-exists count word fits few some small = go (cases_lt (count_trailing_zeros
 
 -- ---- ports got, appended and put
 
-same-range : (f g : ℕ → PortView) (a n : ℕ) → ((k : ℕ) → a ≤ k → k < a + n → f k ≡ g k) → map f (range_with_len a n) ≡ map g (range_with_len a n)
+same-range :
+    (f g : ℕ → PortView) (a n : ℕ) → ((k : ℕ) → a ≤ k → k < a + n → f k ≡ g k) →
+    map f (range_with_len a n) ≡ map g (range_with_len a n)
 same-range f g a zero h = refl
 same-range f g a (suc n) h = rw (h a (omega arith) (omega arith), same-range f g (a + 1) n (λ k l m. h k (omega arith) (omega arith))) refl
 
-get-range : (f : ℕ → PortView) (a n k : ℕ) → k < n → slice_get (map f (range_with_len a n)) k ≡ Some (f (a + k))
+get-range :
+    (f : ℕ → PortView) (a n k : ℕ) → k < n →
+    slice_get (map f (range_with_len a n)) k ≡ Some (f (a + k))
 get-range f a zero k h = absurd (omega arith)
 get-range f a (suc n) zero h = ap (λ i. Some (f i)) (let e : a ≡ a + 0 = omega arith in e)
 get-range f a (suc n) (suc k) h = get-range f (a + 1) n k (omega arith) ∙ ap (λ i. Some (f i)) (let e : a + 1 + k ≡ a + suc k = omega arith in e)
 
-set-range : (f g : ℕ → PortView) (p : PortView) (a n i : ℕ) → i < n → ((k : ℕ) → g k ≡ (if k == a + i then p else f k)) → map g (range_with_len a n) ≡ slice_set (map f (range_with_len a n)) i p
+set-range :
+    (f g : ℕ → PortView) (p : PortView) (a n i : ℕ) → i < n →
+    ((k : ℕ) → g k ≡ (if k == a + i then p else f k)) →
+    map g (range_with_len a n) ≡ slice_set (map f (range_with_len a n)) i p
 set-range f g p a zero i h e = absurd (omega arith)
 set-range f g p a (suc n) zero h e =
     let at : g a ≡ p = e a ∙ ap (λ b. if b then p else f a) (eq-eqb a (a + 0) (omega arith)) in
@@ -145,18 +192,27 @@ set-range f g p a (suc n) (suc i) h e =
     set-range f g p (a + 1) n i (omega arith) (λ k. e k ∙ ap (λ j. if k == j then p else f k) place) in
     rw (at, rest) refl
 
-pub get-ports : (count : ℕ) (w : Words) (k : ℕ) → k < count → slice_get (ports_of count w) k ≡ Some (port_at w k)
+pub get-ports :
+    (count : ℕ) (w : Words) (k : ℕ) → k < count →
+    slice_get (ports_of count w) k ≡ Some (port_at w k)
 get-ports count w k h = get-range (port_at w) 0 count k h ∙ ap (λ i. Some (port_at w i)) (let e : 0 + k ≡ k = omega arith in e)
 
-pub set-ports : (count : ℕ) (w v : Words) (at : ℕ) (p : PortView) → at < count → ((k : ℕ) → port_at v k ≡ (if k == at then p else port_at w k)) → ports_of count v ≡ slice_set (ports_of count w) at p
+pub set-ports :
+    (count : ℕ) (w v : Words) (at : ℕ) (p : PortView) → at < count →
+    ((k : ℕ) → port_at v k ≡ (if k == at then p else port_at w k)) →
+    ports_of count v ≡ slice_set (ports_of count w) at p
 set-ports count w v at p h e = set-range (port_at w) (port_at v) p 0 count at h (λ k. e k ∙ ap (λ i. if k == i then p else port_at w k) (let z : at ≡ 0 + at = omega arith in z))
 
-pub push-ports : (count : ℕ) (w v : Words) (p : PortView) → ((k : ℕ) → port_at v k ≡ (if k == count then p else port_at w k)) → ports_of (count + 1) v ≡ ports_of count w ++ p ∷ []
+pub push-ports :
+    (count : ℕ) (w v : Words) (p : PortView) →
+    ((k : ℕ) → port_at v k ≡ (if k == count then p else port_at w k)) →
+    ports_of (count + 1) v ≡ ports_of count w ++ p ∷ []
 push-ports count w v p e =
     let last : port_at v count ≡ p = e count ∙ ap (λ b. if b then p else port_at w count) (eq-eqb count count refl) in
     let before : ports_of count v ≡ ports_of count w =
     same-range (port_at v) (port_at w) 0 count (λ k l m. e k ∙ ap (λ b. if b then p else port_at w k) (ne_eqb k count (λ i. omega arith))) in
     map-range_with_len_more (port_at v) 0 count count (let z : 0 + count ≡ count = omega arith in z) ∙ rw (last, before) refl
 
-pub more-ports : (count : ℕ) (w : Words) → ports_of (count + 1) w ≡ ports_of count w ++ port_at w count ∷ []
+pub more-ports :
+    (count : ℕ) (w : Words) → ports_of (count + 1) w ≡ ports_of count w ++ port_at w count ∷ []
 more-ports count w = map-range_with_len_more (port_at w) 0 count count (let z : 0 + count ≡ count = omega arith in z)

@@ -9,31 +9,43 @@ use Rattle.std.proofs.Math.Pow.{pow-lt}
 use Rattle.port_state.specs.Ports.{is_idle, is_parent, asks, is_unnamed}
 use Rattle.port_state.specs.Resetting.{is_calm}
 use Rattle.phy_machine.specs.declared.port_words.Words.{Words}
-use Rattle.phy_machine.specs.PortWords.{has_bit, level_of_bits, port_at, is_stirring, is_shaking}
+use Rattle.phy_machine.specs.codings.PortWords.{has_bit, level_of_bits, port_at, is_restless, has_waiting_child}
 
 -- ---- one bit set or cleared
 
-pub has_bit-set : (word at k : ℕ) → at < 16 → has_bit (bit_or word (1 * 2 ^ at % 65536)) k ≡ (if k == at then true else has_bit word k)
+pub has_bit-set :
+    (word at k : ℕ) → at < 16 →
+    has_bit (bit_or word (1 * 2 ^ at % 65536)) k ≡ (if k == at then true else has_bit word k)
 has_bit-set word at k h = go (k == at) refl
   where
-    go : (b : Bool) → (k == at) ≡ b → has_bit (bit_or word (1 * 2 ^ at % 65536)) k ≡ (if b then true else has_bit word k)
+    go :
+        (b : Bool) → (k == at) ≡ b →
+        has_bit (bit_or word (1 * 2 ^ at % 65536)) k ≡ (if b then true else has_bit word k)
     go true e = rw (eqb-true k at e, bit_at_set_same w16 word at h) refl
     go false e = ap (λ n. n == 1) (bit_at_set_other w16 word at h k (eqb-false k at e))
 
 has_bit-past : (word k : ℕ) → word < 65536 → 16 ≤ k → has_bit word k ≡ false
 has_bit-past word k small far = rw (bit_at_above word 16 k small far) refl
 
-pub has_bit-clear : (word at k : ℕ) → at < 16 → word < 65536 → has_bit (bit_and word (65535 - 1 * 2 ^ at % 65536)) k ≡ (if k == at then false else has_bit word k)
+pub has_bit-clear :
+    (word at k : ℕ) → at < 16 → word < 65536 →
+    has_bit (bit_and word (65535 - 1 * 2 ^ at % 65536)) k
+    ≡ (if k == at then false else has_bit word k)
 has_bit-clear word at k h small = go (k == at) refl (cases_lt k 16)
   where
-    go : (b : Bool) → (k == at) ≡ b → (k < 16) ⊎ (16 ≤ k) → has_bit (bit_and word (65535 - 1 * 2 ^ at % 65536)) k ≡ (if b then false else has_bit word k)
+    go :
+        (b : Bool) → (k == at) ≡ b → (k < 16) ⊎ (16 ≤ k) →
+        has_bit (bit_and word (65535 - 1 * 2 ^ at % 65536)) k
+        ≡ (if b then false else has_bit word k)
     go true e near = rw (eqb-true k at e, bit_at_clear_same w16 word at h) refl
     go false e (inl near) = ap (λ n. n == 1) (bit_at_clear_other w16 word at h k near (eqb-false k at e))
     go false e (inr far) =
         let less = and_le_l word (65535 - 1 * 2 ^ at % 65536) in
         has_bit-past (bit_and word (65535 - 1 * 2 ^ at % 65536)) k (omega (arith, less)) far ∙ sym (has_bit-past word k small far)
 
-pub set-fits : (word at count : ℕ) → at < 16 → at < count → word < 2 ^ count → bit_or word (1 * 2 ^ at % 65536) < 2 ^ count
+pub set-fits :
+    (word at count : ℕ) → at < 16 → at < count → word < 2 ^ count →
+    bit_or word (1 * 2 ^ at % 65536) < 2 ^ count
 set-fits word at count h l fits = rw (one_shl at 16 h) (or_lt count word (2 ^ at) fits (pow-lt l))
 
 -- ---- words joined
@@ -48,7 +60,9 @@ bit-cases n h = go (n == 0) refl
 pub has_bit-and : (a b k : ℕ) → has_bit (bit_and a b) k ≡ (has_bit a k && has_bit b k)
 has_bit-and a b k = go (bit-cases (bit_at a k) (bit_at-lt a k)) (bit-cases (bit_at b k) (bit_at-lt b k))
   where
-    go : (bit_at a k ≡ 0) ⊎ (bit_at a k ≡ 1) → (bit_at b k ≡ 0) ⊎ (bit_at b k ≡ 1) → has_bit (bit_and a b) k ≡ (has_bit a k && has_bit b k)
+    go :
+        (bit_at a k ≡ 0) ⊎ (bit_at a k ≡ 1) → (bit_at b k ≡ 0) ⊎ (bit_at b k ≡ 1) →
+        has_bit (bit_and a b) k ≡ (has_bit a k && has_bit b k)
     go (inl e) (inl f) = rw (bit_at_and a b k, e, f) refl
     go (inl e) (inr f) = rw (bit_at_and a b k, e, f) refl
     go (inr e) (inl f) = rw (bit_at_and a b k, e, f) refl
@@ -62,17 +76,24 @@ has_bit-not a k h l = go (bit-cases (bit_at a k) (bit_at-lt a k))
     go (inr e) = rw (bit_at_not w16 a k h l, e) refl
 
 -- a word without the bits of another
-pub has_bit-without : (a b k : ℕ) → a < 65536 → b < 65536 → has_bit (bit_and a (65535 - b)) k ≡ (has_bit a k && not (has_bit b k))
+pub has_bit-without :
+    (a b k : ℕ) → a < 65536 → b < 65536 →
+    has_bit (bit_and a (65535 - b)) k ≡ (has_bit a k && not (has_bit b k))
 has_bit-without a b k h l = has_bit-and a (65535 - b) k ∙ go (cases_lt k 16)
   where
-    go : (k < 16) ⊎ (16 ≤ k) → (has_bit a k && has_bit (65535 - b) k) ≡ (has_bit a k && not (has_bit b k))
+    go :
+        (k < 16) ⊎ (16 ≤ k) →
+        (has_bit a k && has_bit (65535 - b) k) ≡ (has_bit a k && not (has_bit b k))
     go (inl near) = ap (λ c. has_bit a k && c) (has_bit-not b k l near)
     go (inr far) = rw (has_bit-past a k h far) refl
 
-pub has_bit-xor : (a b k : ℕ) → has_bit (bit_xor a b) k ≡ (if has_bit a k then not (has_bit b k) else has_bit b k)
+pub has_bit-xor :
+    (a b k : ℕ) → has_bit (bit_xor a b) k ≡ (if has_bit a k then not (has_bit b k) else has_bit b k)
 has_bit-xor a b k = go (bit-cases (bit_at a k) (bit_at-lt a k)) (bit-cases (bit_at b k) (bit_at-lt b k))
   where
-    go : (bit_at a k ≡ 0) ⊎ (bit_at a k ≡ 1) → (bit_at b k ≡ 0) ⊎ (bit_at b k ≡ 1) → has_bit (bit_xor a b) k ≡ (if has_bit a k then not (has_bit b k) else has_bit b k)
+    go :
+        (bit_at a k ≡ 0) ⊎ (bit_at a k ≡ 1) → (bit_at b k ≡ 0) ⊎ (bit_at b k ≡ 1) →
+        has_bit (bit_xor a b) k ≡ (if has_bit a k then not (has_bit b k) else has_bit b k)
     go (inl e) (inl f) = rw (bit_at_xor a b k, e, f) refl
     go (inl e) (inr f) = rw (bit_at_xor a b k, e, f) refl
     go (inr e) (inl f) = rw (bit_at_xor a b k, e, f) refl
@@ -80,18 +101,20 @@ has_bit-xor a b k = go (bit-cases (bit_at a k) (bit_at-lt a k)) (bit-cases (bit_
 
 -- ---- the words of tests of ports
 
-stirring-bits : (c h l : Bool) → (c && not (if h then not l else l)) ≡ (c && not (is_calm (level_of_bits h l)))
-stirring-bits c true true = refl
-stirring-bits c true false = refl
-stirring-bits c false true = refl
-stirring-bits c false false = refl
+restless_ports-bits :
+    (c h l : Bool) → (c && not (if h then not l else l)) ≡ (c && not (is_calm (level_of_bits h l)))
+restless_ports-bits c true true = refl
+restless_ports-bits c true false = refl
+restless_ports-bits c false true = refl
+restless_ports-bits c false false = refl
 
-pub has_bit-stirring : (w : Words) (k : ℕ) → w.connected < 65536 → w.high < 65536 → w.low < 65536
-    → has_bit (bit_and w.connected (65535 - bit_xor w.high w.low)) k ≡ is_stirring (port_at w k)
-has_bit-stirring w k c h l =
+pub has_bit-restless_ports :
+    (w : Words) (k : ℕ) → w.connected < 65536 → w.high < 65536 → w.low < 65536 →
+    has_bit (bit_and w.connected (65535 - bit_xor w.high w.low)) k ≡ is_restless (port_at w k)
+has_bit-restless_ports w k c h l =
     has_bit-without w.connected (bit_xor w.high w.low) k c (xor_lt 16 w.high w.low h l)
     ∙ ap (λ b. has_bit w.connected k && not b) (has_bit-xor w.high w.low k)
-    ∙ stirring-bits (has_bit w.connected k) (has_bit w.high k) (has_bit w.low k)
+    ∙ restless_ports-bits (has_bit w.connected k) (has_bit w.high k) (has_bit w.low k)
 
 asking-bits : (c h l : Bool) → ((c && h) && not l) ≡ (c && is_parent (level_of_bits h l))
 asking-bits true true true = refl
@@ -107,21 +130,25 @@ has_bit-asking w k c l =
     ∙ ap (λ b. b && not (has_bit w.low k)) (has_bit-and w.connected w.high k)
     ∙ asking-bits (has_bit w.connected k) (has_bit w.high k) (has_bit w.low k)
 
-shaking-bits : (c d h l : Bool) → ((c && d) && not (l && not h)) ≡ (c && (d && not (is_idle (level_of_bits h l))))
-shaking-bits true d true true = refl
-shaking-bits true d true false = refl
-shaking-bits true d false true = refl
-shaking-bits true d false false = refl
-shaking-bits false d h l = refl
+waiting-bits :
+    (c d h l : Bool) →
+    ((c && d) && not (l && not h)) ≡ (c && (d && not (is_idle (level_of_bits h l))))
+waiting-bits true d true true = refl
+waiting-bits true d true false = refl
+waiting-bits true d false true = refl
+waiting-bits true d false false = refl
+waiting-bits false d h l = refl
 
-pub has_bit-shaking : (w : Words) (k : ℕ) → w.connected < 65536 → w.high < 65536 → w.low < 65536
-    → has_bit (bit_and (bit_and w.connected w.child) (65535 - bit_and w.low (65535 - w.high))) k ≡ is_shaking (port_at w k)
-has_bit-shaking w k c h l =
+pub has_bit-waiting :
+    (w : Words) (k : ℕ) → w.connected < 65536 → w.high < 65536 → w.low < 65536 →
+    has_bit (bit_and (bit_and w.connected w.child) (65535 - bit_and w.low (65535 - w.high))) k
+    ≡ has_waiting_child (port_at w k)
+has_bit-waiting w k c h l =
     has_bit-without (bit_and w.connected w.child) (bit_and w.low (65535 - w.high)) k
     (let less = and_le_l w.connected w.child in omega arith) (let less = and_le_l w.low (65535 - w.high) in omega arith)
     ∙ ap (λ b. b && not (has_bit (bit_and w.low (65535 - w.high)) k)) (has_bit-and w.connected w.child k)
     ∙ ap (λ b. (has_bit w.connected k && has_bit w.child k) && not b) (has_bit-without w.low w.high k l h)
-    ∙ shaking-bits (has_bit w.connected k) (has_bit w.child k) (has_bit w.high k) (has_bit w.low k)
+    ∙ waiting-bits (has_bit w.connected k) (has_bit w.child k) (has_bit w.high k) (has_bit w.low k)
 
 unnamed-bits : (c d n : Bool) → ((c && d) && not n) ≡ (c && (d && not n))
 unnamed-bits true d n = refl

@@ -1,9 +1,6 @@
-pub mod Levels
-pub mod PowerOn
-pub mod RowStep
-pub mod Field
-pub mod OneProof
-pub mod IdleTime
-pub mod PortWords
-pub mod Packed
 pub mod Any
+pub mod Field
+pub mod Node
+pub mod Packed
+pub mod PowerOn
+pub mod codings

@@ -13,5 +13,5 @@ pub record IsSpec (s : NodeSpec) : Type 0 where
   pub no_delay : s.attrs.delay ≡ 0
 
 -- the node at power-on
-abbrev pub specified : NodeSpec → PortNode
-specified s = record { state = power_on s.ports s.attrs s.force s.timing; coins = s.coins }
+abbrev pub node_of_spec : NodeSpec → PortNode
+node_of_spec s = record { state = power_on s.ports s.attrs s.force s.timing; coins = s.coins }

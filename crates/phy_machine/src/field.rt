@@ -1,8 +1,8 @@
 //! A machine that keeps the record as it is.
 ghost use Rattle.std.specs.Prelude.{◌≡◌};
 ghost use Rattle.port_state.specs.Valid.{IsValid};
-ghost use Rattle.phy_machine.specs.OneProof.{valid_prop};
-ghost use Rattle.phy_machine.specs.PowerOn.{IsSpec, specified};
+ghost use Rattle.phy_machine.specs.codings.OneProof.{valid_prop};
+ghost use Rattle.phy_machine.specs.PowerOn.{IsSpec, node_of_spec};
 
 use crate::spec::NodeSpec;
 use crate::{idle, node};
@@ -21,11 +21,11 @@ pub struct FieldMachine {
 impl FieldMachine {
     ghost use Rattle.phy_machine.specs.Field.{field_node};
 
-    /// The machine of a node at power-on. The specification has 1 to 16 ports, and attributes that fit
-    /// their bits with a delay of 0.
+    /// The machine of a node at power-on. The specification has 1 to 16 ports, and attributes that
+    /// fit their bits with a delay of 0.
     pub fn new(spec: NodeSpec) -> FieldMachine
         requires { IsSpec spec }
-        ensures { field_node result ≡ specified spec }
+        ensures { field_node result ≡ node_of_spec spec }
     {
         FieldMachine {
             state: node::power_on(spec.ports, spec.attrs, spec.force, spec.timing),

@@ -4,15 +4,17 @@ ghost use Rattle.port_state.specs.Coins.{Coins};
 ghost use Rattle.port_state.specs.Idle.{IsIdleFor};
 ghost use Rattle.port_state.specs.SelfIdentify.{may_name};
 ghost use Rattle.port_state.specs.Valid.{IsBounded, IsValid};
-ghost use Rattle.phy_machine.specs.RowStep.{node_of};
-ghost use Rattle.phy_machine.specs.IdleTime.{HasTimes, with_ports, packet_count, ticks_before, unless, until_timeout, until_roles, until_answer, until_waited, until_named, idle_in};
+ghost use Rattle.phy_machine.specs.Node.{node_of};
+ghost use Rattle.phy_machine.specs.Node.{with_ports};
+ghost use Rattle.phy_machine.specs.codings.IdleTime.{IsIdleWith, StirsAfter};
+ghost use Rattle.phy_machine.specs.codings.IdleTime.{HasTimes, packet_count, ticks_before, idle_unless, until_timeout, until_roles, until_answer, until_waited, until_named, idle_in};
 
 use port_state::states::NodeState;
 use port_state::{Level, Phase, PortTests};
 use self_identify::node_count;
 
 /// As long as a machine looks ahead, in ticks.
-const FOR_EVER: u32 = 4_000_000;
+const LOOK_AHEAD: u32 = 4_000_000;
 
 /// How many ticks there are before the one that raises the timer to a time.
 fn ticks_before(time: u16, s: &NodeState) -> u32
@@ -22,10 +24,10 @@ fn ticks_before(time: u16, s: &NodeState) -> u32
 }
 
 /// No tick, if something happens at the next one, and else as long as a machine looks ahead.
-fn unless(happens: bool) -> u32
-    ensures { result ≡ unless happens }
+fn idle_unless(happens: bool) -> u32
+    ensures { result ≡ idle_unless happens }
 {
-    if happens { 0 } else { FOR_EVER }
+    if happens { 0 } else { LOOK_AHEAD }
 }
 
 /// In T0: until the node says that its configuration timed out.
@@ -33,7 +35,7 @@ fn until_timeout(s: &NodeState) -> u32
     ensures { result ≡ until_timeout s.now }
 {
     if s.view.timed_out {
-        FOR_EVER
+        LOOK_AHEAD
     } else {
         ticks_before(s.timing.timeout, s)
     }
@@ -54,7 +56,7 @@ fn until_roles<P: PortTests>(s: &NodeState, ports: &P) -> u32
             0
         }
     } else {
-        FOR_EVER
+        LOOK_AHEAD
     }
 }
 
@@ -65,7 +67,10 @@ fn until_answer<P: PortTests>(s: &NodeState, ports: &P) -> u32
 {
     match s.view.parent {
         None => 0,
-        Some(parent) => unless(matches!(ports.port(parent).shown, Level::Child | Level::Parent)),
+        Some(parent) => idle_unless(matches!(
+            ports.port(parent).shown,
+            Level::Child | Level::Parent
+        )),
     }
 }
 
@@ -74,7 +79,7 @@ fn until_waited(s: &NodeState) -> u32
     ensures { result ≡ until_waited s.now.view.parent s.now }
 {
     match s.view.parent {
-        None => FOR_EVER,
+        None => LOOK_AHEAD,
         Some(_) => ticks_before(s.view.wait, s),
     }
 }
@@ -104,11 +109,11 @@ fn until_named<P: PortTests>(s: &NodeState, ports: &P) -> u32
     ensures { result ≡ until_named (with_ports (P.views ports.now) s.now) }
 {
     if !s.view.granted {
-        return FOR_EVER;
+        return LOOK_AHEAD;
     }
     match ports.next_child() {
-        None => unless(may_name(s, ports)),
-        Some(port) => unless(!ports.port(port).asked),
+        None => idle_unless(may_name(s, ports)),
+        Some(port) => idle_unless(!ports.port(port).asked),
     }
 }
 
@@ -130,23 +135,23 @@ fn idle_in<P: PortTests>(s: &NodeState, ports: &P) -> u32
 {
     match s.view.phase {
         Phase::ResetStart => ticks_before(s.timing.hold, s),
-        Phase::ResetWait => unless(ports.are_calm()),
+        Phase::ResetWait => idle_unless(ports.are_calm()),
         Phase::TreeStart => until_roles(s, ports).min(until_timeout(s)),
-        Phase::ChildShake => unless(ports.are_children_idle()),
+        Phase::ChildShake => idle_unless(ports.are_children_idle()),
         Phase::ParentShake => until_answer(s, ports),
         Phase::Contend => until_waited(s),
         Phase::SelfIdent => until_named(s, ports),
-        Phase::Ready => FOR_EVER,
+        Phase::Ready => LOOK_AHEAD,
     }
 }
 
-/// How many of the next ticks, up to 4,000,000, send nothing and change the timer alone, at a node with
-/// these ports, if no signal is heard.
+/// How many of the next ticks, up to 4,000,000, send nothing and change the timer alone, at a node
+/// with these ports, if no signal is heard.
 pub fn idle_for<P: PortTests>(s: &NodeState, ports: &P) -> u32
     requires { IsBounded (with_ports (P.views ports.now) s.now) }
     ensures most { result ≤ 4000000 }
-    ensures idle { (coins : Coins) → IsIdleFor result (node_of (with_ports (P.views ports.now) s.now) coins) }
-    ensures greatest { (coins : Coins) → result < 4000000 → ¬ IsIdleFor (result + 1) (node_of (with_ports (P.views ports.now) s.now) coins) }
+    ensures idle { IsIdleWith result (with_ports (P.views ports.now) s.now) }
+    ensures greatest { StirsAfter result (with_ports (P.views ports.now) s.now) }
 {
     read_times(s);
     idle_in(s, ports)

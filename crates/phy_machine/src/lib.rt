@@ -1,8 +1,9 @@
-//! The machines of a node. Each keeps its node's record in its own way and meets `PortMachine`; no crate
-//! above knows which is there.
+//! The machines of a node. Each keeps its node's record in its own way and meets `PortMachine`; no
+//! crate above knows which is there.
 //!
-//! `node` does the calls to a record whose ports are views, and `idle` tells how long nothing happens
-//! whichever way the ports are kept. `field` keeps the views, `port_words` and `packed` a few words.
+//! `node` does the calls to a record whose ports are views, and `idle` tells how long nothing
+//! happens whichever way the ports are kept. `field` keeps the views, `port_words` and `packed` a
+//! few words.
 #![tactic(auto)]
 
 mod any;

@@ -9,8 +9,9 @@ ghost use Rattle.port_state.specs.Group.{shown_attrs};
 ghost use Rattle.port_state.specs.Machine.{node_tick};
 ghost use Rattle.port_state.specs.Idle.{with_later_timer};
 ghost use Rattle.port_state.specs.Valid.{IsBounded, IsValid};
-ghost use Rattle.phy_machine.specs.RowStep.{node_of, row_step};
-ghost use Rattle.phy_machine.specs.Levels.{level_of, signal_of};
+ghost use Rattle.phy_machine.specs.Node.{node_of};
+ghost use Rattle.phy_machine.specs.codings.RowStep.{row_step};
+ghost use Rattle.phy_machine.specs.codings.Levels.{level_of, signal_of};
 
 use arrayvec::ArrayVec;
 use bus_reset::{enter, reset_tick};

@@ -1,10 +1,10 @@
 //! A machine that keeps its ports in a few words.
 ghost use Rattle.std.specs.Prelude.{◌≡◌, ◌<◌, length};
-ghost use Rattle.phy_machine.specs.Levels.{plain_level, ports_showing};
+ghost use Rattle.phy_machine.specs.codings.Levels.{plain_level, ports_showing};
 ghost use Rattle.port_state.specs.Valid.{IsValid};
-ghost use Rattle.phy_machine.specs.IdleTime.{with_ports};
-ghost use Rattle.phy_machine.specs.OneProof.{valid_prop};
-ghost use Rattle.phy_machine.specs.PowerOn.{IsSpec, specified};
+ghost use Rattle.phy_machine.specs.Node.{with_ports};
+ghost use Rattle.phy_machine.specs.codings.OneProof.{valid_prop};
+ghost use Rattle.phy_machine.specs.PowerOn.{IsSpec, node_of_spec};
 
 use crate::port_words::PortWords;
 use crate::spec::NodeSpec;
@@ -15,11 +15,13 @@ use port_state::{
 };
 use self_id::Attrs;
 
-/// A machine that keeps the flags and levels of its ports in a few words. Ticks in which nothing happens,
-/// and most levels, touch these alone; for any other step the ports are unpacked and packed again.
+/// A machine that keeps the flags and levels of its ports in a few words. Ticks in which nothing
+/// happens, and most levels, touch these alone; for any other step the ports are unpacked and
+/// packed again.
 #[derive(Debug, Drop)]
 pub struct PackedMachine {
-    /// All of the record but the ports. The views in it are those of the last step that unpacked them.
+    /// All of the record but the ports. The views in it are those of the last step that unpacked
+    /// them.
     state: NodeState,
     ports: PortWords,
     coins: Coins,
@@ -29,14 +31,14 @@ pub struct PackedMachine {
 impl PackedMachine {
     ghost use Rattle.phy_machine.specs.Packed.{packed_node};
 
-    /// The machine of a node at power-on. The specification has 1 to 16 ports, and attributes that fit
-    /// their bits with a delay of 0.
+    /// The machine of a node at power-on. The specification has 1 to 16 ports, and attributes that
+    /// fit their bits with a delay of 0.
     pub fn new(spec: NodeSpec) -> PackedMachine
         requires { IsSpec spec }
-        ensures { packed_node result ≡ specified spec }
+        ensures { packed_node result ≡ node_of_spec spec }
     {
         let state = node::power_on(spec.ports, spec.attrs, spec.force, spec.timing);
-        let ports = PortWords::packed(&state.view.ports);
+        let ports = PortWords::from_views(&state.view.ports);
         PackedMachine {
             state,
             ports,
@@ -84,7 +86,7 @@ impl PortMachine for PackedMachine {
             None => {
                 self.state.view.ports = self.ports.views();
                 node::on_signal(&mut self.state, port, signal, out);
-                self.ports = PortWords::packed(&self.state.view.ports);
+                self.ports = PortWords::from_views(&self.state.view.ports);
             }
         }
     }
@@ -95,26 +97,26 @@ impl PortMachine for PackedMachine {
         } else {
             self.state.view.ports = self.ports.views();
             node::tick(&mut self.state, &mut self.coins, out);
-            self.ports = PortWords::packed(&self.state.view.ports);
+            self.ports = PortWords::from_views(&self.state.view.ports);
         }
     }
 
     fn disturb(&mut self, out: &mut Sends) {
         self.state.view.ports = self.ports.views();
         node::disturb(&mut self.state, out);
-        self.ports = PortWords::packed(&self.state.view.ports);
+        self.ports = PortWords::from_views(&self.state.view.ports);
     }
 
     fn plugged(&mut self, port: u8, out: &mut Sends) {
         self.state.view.ports = self.ports.views();
         node::plugged(&mut self.state, port, out);
-        self.ports = PortWords::packed(&self.state.view.ports);
+        self.ports = PortWords::from_views(&self.state.view.ports);
     }
 
     fn pulled(&mut self, port: u8, out: &mut Sends) {
         self.state.view.ports = self.ports.views();
         node::pulled(&mut self.state, port, out);
-        self.ports = PortWords::packed(&self.state.view.ports);
+        self.ports = PortWords::from_views(&self.state.view.ports);
     }
 
     fn set_config(&mut self, root_id: u8, force: bool, gap: Option<u8>) {

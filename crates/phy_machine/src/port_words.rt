@@ -1,8 +1,8 @@
 //! The ports of a node in a few words, of which bit k is about port k.
 ghost use Rattle.std.specs.Prelude.{◌≡◌, ℕ, ◌+◌, ◌^◌, ◌<◌, ◌≤◌, ◌==◌, ◌&&◌, not, [], ◌∷◌, ◌++◌, length, slice_set, if◌then◌else◌};
 ghost use Rattle.port_state.specs.Ports.{asks, is_unnamed};
-ghost use Rattle.phy_machine.specs.PortWords.{is_stirring, is_shaking};
-ghost use Rattle.phy_machine.specs.PortWords.{has_bit, level_high, level_low, level_of_bits, port_at, ports_of, FitsPorts};
+ghost use Rattle.phy_machine.specs.codings.PortWords.{is_restless, has_waiting_child};
+ghost use Rattle.phy_machine.specs.codings.PortWords.{has_bit, level_high, level_low, level_of_bits, port_at, ports_of, FitsPorts};
 
 use port_state::{Level, PortTests, PortView, PortViews};
 use std::marker::Model;
@@ -31,7 +31,7 @@ impl Model for PortWords {
 
     ghost Value = { List PortView };
 
-    ghost use Rattle.phy_machine.specs.PortWords.{ports_of, FitsPorts};
+    ghost use Rattle.phy_machine.specs.codings.PortWords.{ports_of, FitsPorts};
 
     ghost view = { λ p. ports_of p.count p.words };
 
@@ -101,15 +101,15 @@ impl Words {
     }
 
     /// Which connected ports show neither Idle nor Parent.
-    fn stirring(&self) -> u16
-        ensures bits { (k : ℕ) → has_bit result k ≡ is_stirring (port_at self.now k) }
+    fn restless_ports(&self) -> u16
+        ensures bits { (k : ℕ) → has_bit result k ≡ is_restless (port_at self.now k) }
         ensures fits { (count : ℕ) → FitsPorts count self.now → result < 2 ^ count }
     {
         self.connected & !(self.high ^ self.low)
     }
 
     /// Which connected ports show Parent.
-    fn asking(&self) -> u16
+    fn asking_ports(&self) -> u16
         ensures bits { (k : ℕ) → has_bit result k ≡ asks (port_at self.now k) }
         ensures fits { (count : ℕ) → FitsPorts count self.now → result < 2 ^ count }
     {
@@ -117,15 +117,15 @@ impl Words {
     }
 
     /// Which connected ports lead to a child that doesn't show Idle.
-    fn shaking(&self) -> u16
-        ensures bits { (k : ℕ) → has_bit result k ≡ is_shaking (port_at self.now k) }
+    fn waiting_children(&self) -> u16
+        ensures bits { (k : ℕ) → has_bit result k ≡ has_waiting_child (port_at self.now k) }
         ensures fits { (count : ℕ) → FitsPorts count self.now → result < 2 ^ count }
     {
         self.connected & self.child & !(self.low & !self.high)
     }
 
     /// Which connected ports lead to a child that hasn't identified itself.
-    fn unnamed(&self) -> u16
+    fn unnamed_ports(&self) -> u16
         ensures bits { (k : ℕ) → has_bit result k ≡ is_unnamed (port_at self.now k) }
         ensures fits { (count : ℕ) → FitsPorts count self.now → result < 2 ^ count }
     {
@@ -135,8 +135,10 @@ impl Words {
     /// The words that say this of a port, 0 to 15, and the same of each other.
     fn with_port(&self, at: u8, port: PortView) -> Words
         requires { at < 16 }
-        ensures ports { (k : ℕ) → port_at result k ≡ (if k == at then port else port_at self.now k) }
-        ensures fits { (count : ℕ) → at < count → FitsPorts count self.now → FitsPorts count result }
+        ensures ports { (k : ℕ) →
+            port_at result k ≡ (if k == at then port else port_at self.now k) }
+        ensures fits { (count : ℕ) →
+            at < count → FitsPorts count self.now → FitsPorts count result }
     {
         Words {
             connected: with_bit(self.connected, at, port.connected),
@@ -186,7 +188,7 @@ impl PortWords {
     }
 
     /// The ports that are kept as views, in words.
-    pub fn packed(views: &PortViews) -> PortWords
+    pub fn from_views(views: &PortViews) -> PortWords
         requires { length views.now ≤ 16 }
         ensures { result ≡ views.now }
     {
@@ -217,7 +219,7 @@ impl PortTests for PortWords {
     }
 
     fn are_calm(&self) -> bool {
-        self.words.stirring() == 0
+        self.words.restless_ports() == 0
     }
 
     fn connected_count(&self) -> u32 {
@@ -225,15 +227,15 @@ impl PortTests for PortWords {
     }
 
     fn asking_count(&self) -> u32 {
-        self.words.asking().count_ones()
+        self.words.asking_ports().count_ones()
     }
 
     fn are_children_idle(&self) -> bool {
-        self.words.shaking() == 0
+        self.words.waiting_children() == 0
     }
 
     fn next_child(&self) -> Option<u8> {
-        let unnamed = self.words.unnamed();
+        let unnamed = self.words.unnamed_ports();
         if unnamed == 0 {
             None
         } else {

@@ -7,8 +7,8 @@ use self_id::Attrs;
 pub struct NodeSpec {
     /// The number of ports, 1 to 16.
     pub ports: u8,
-    /// The attributes, which fit their bits, with a delay of 0. The gap count is that of power-on; the
-    /// initiated bit isn't looked at.
+    /// The attributes, which fit their bits, with a delay of 0. The gap count is that of power-on;
+    /// the initiated bit isn't looked at.
     pub attrs: Attrs,
     /// The times.
     pub timing: Timing,

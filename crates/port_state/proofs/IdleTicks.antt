@@ -20,7 +20,9 @@ use Rattle.port_state.specs.Idle.{IsIdleTick, IsIdleFor, after_ticks, changes_no
 
 -- ---- a row that changes nothing
 
-does-nothing : (c : Bool) (r : Row) (x : NodeState) → changes_nothing r x ≡ true → does c r (raise_timer x) ≡ silent_step (raise_timer x)
+does-nothing :
+    (c : Bool) (r : Row) (x : NodeState) → changes_nothing r x ≡ true →
+    does c r (raise_timer x) ≡ silent_step (raise_timer x)
 does-nothing c row.none x e = refl
 does-nothing c row.times_out x e = rw (sym e) refl
 does-nothing c row.ends_reset x e = absurd cc
@@ -51,7 +53,9 @@ draws-nothing (row.asks_child port) x e = refl
 draws-nothing row.names_itself x e = refl
 
 -- a tick of a node that rests
-pub tick-rests : (n : PortNode) → rests n.state ≡ true → node_tick n ≡ record { node = record n { state = raise_timer n.state }; sends = [] }
+pub tick-rests :
+    (n : PortNode) → rests n.state ≡ true →
+    node_tick n ≡ record { node = record n { state = raise_timer n.state }; sends = [] }
 unfolding step.tick
 tick-rests n e = rw (draws-nothing (next_row n.state) n.state e, does-nothing (coin n.coins) (next_row n.state) n.state e) refl
 
@@ -70,71 +74,115 @@ record LooksIdle (x : NodeState) (s : Step) : Type 0 where
   phase : s.state.view.phase ≡ x.view.phase
   timed_out : s.state.view.timed_out ≡ x.view.timed_out
 
-stirs : (c : Bool) (ph : Phase) (x : NodeState) → x.view.phase ≡ ph → changes_nothing (row_of ph (raise_timer x)) x ≡ false → LooksIdle x (does c (row_of ph (raise_timer x)) (raise_timer x)) → ⊥
+stirs :
+    (c : Bool) (ph : Phase) (x : NodeState) → x.view.phase ≡ ph →
+    changes_nothing (row_of ph (raise_timer x)) x ≡ false →
+    LooksIdle x (does c (row_of ph (raise_timer x)) (raise_timer x)) → ⊥
 stirs c ResetStart x p e l = go (nat_le x.timing.hold (raise_timer x).view.timer) e l
   where
-    go : (b : Bool) → let r = if b then row.ends_reset else row.none in changes_nothing r x ≡ false → LooksIdle x (does c r (raise_timer x)) → ⊥
+    go :
+        (b : Bool) → let r = if b then row.ends_reset else row.none in changes_nothing r x ≡ false →
+        LooksIdle x (does c r (raise_timer x)) → ⊥
     go true e l = let h = l.phase in cc
     go false e l = cc
 stirs c ResetWait x p e l = go (every (λ q. is_calm q.shown) x.view.ports) e l
   where
-    go : (b : Bool) → let r = if b then row.begins_tree else row.none in changes_nothing r x ≡ false → LooksIdle x (does c r (raise_timer x)) → ⊥
+    go :
+        (b : Bool) →
+        let r = if b then row.begins_tree else row.none in changes_nothing r x ≡ false →
+        LooksIdle x (does c r (raise_timer x)) → ⊥
     go true e l = let h = l.phase in cc
     go false e l = cc
 stirs c TreeStart x p e l = go (is_decided (raise_timer x)) (nat_le x.timing.timeout (raise_timer x).view.timer) e l
   where
-    go : (a b : Bool) → let r = if a then row.takes_roles else (if b then row.times_out else row.none) in changes_nothing r x ≡ false → LooksIdle x (does c r (raise_timer x)) → ⊥
+    go :
+        (a b : Bool) →
+        let r = if a then row.takes_roles else (if b then row.times_out else row.none) in changes_nothing r x
+        ≡ false →
+        LooksIdle x (does c r (raise_timer x)) → ⊥
     go true b e l = let h = l.phase in cc
     go false true e l = let h = l.timed_out in cc
     go false false e l = cc
 stirs c ChildShake x p e l = go (every (λ q. if q.child then is_idle q.shown else true) x.view.ports) e l
   where
-    go : (b : Bool) → let r = if b then row.awaits_parent else row.none in changes_nothing r x ≡ false → LooksIdle x (does c r (raise_timer x)) → ⊥
+    go :
+        (b : Bool) →
+        let r = if b then row.awaits_parent else row.none in changes_nothing r x ≡ false →
+        LooksIdle x (does c r (raise_timer x)) → ⊥
     go true e l = let h = l.phase in cc
     go false e l = cc
 stirs c ParentShake x p e l = at x.view.parent e l
   where
-    go : (q : ℕ) (a b : Bool) → let r = if a then row.finds_parent q else (if b then row.begins_contention q else row.none) in changes_nothing r x ≡ false → LooksIdle x (does c r (raise_timer x)) → ⊥
+    go :
+        (q : ℕ) (a b : Bool) →
+        let r = if a then row.finds_parent q else (if b then row.begins_contention q else row.none) in changes_nothing r x
+        ≡ false →
+        LooksIdle x (does c r (raise_timer x)) → ⊥
     go q true b e l = let h = l.silent in cc
     go q false true e l = let h = l.silent in cc
     go q false false e l = cc
 
-    at : (o : Option ℕ) → changes_nothing (parent_shake_at o (raise_timer x)) x ≡ false → LooksIdle x (does c (parent_shake_at o (raise_timer x)) (raise_timer x)) → ⊥
+    at :
+        (o : Option ℕ) → changes_nothing (parent_shake_at o (raise_timer x)) x ≡ false →
+        LooksIdle x (does c (parent_shake_at o (raise_timer x)) (raise_timer x)) → ⊥
     at None e l = let h = l.phase in cc
     at (Some q) e l = go q (port_is (λ v. is_child v.shown) x.view.ports q) (port_is (λ v. is_parent v.shown) x.view.ports q) e l
 stirs c Contend x p e l = over (nat_le x.view.wait (raise_timer x).view.timer) e l
   where
-    go : (q : ℕ) (a : Bool) → let r = if a then row.takes_rival q else row.asks_again q in changes_nothing r x ≡ false → LooksIdle x (does c r (raise_timer x)) → ⊥
+    go :
+        (q : ℕ) (a : Bool) →
+        let r = if a then row.takes_rival q else row.asks_again q in changes_nothing r x ≡ false →
+        LooksIdle x (does c r (raise_timer x)) → ⊥
     go q true e l = let h = l.silent in cc
     go q false e l = let h = l.silent in cc
 
-    at : (o : Option ℕ) → changes_nothing (contend_at o (raise_timer x)) x ≡ false → LooksIdle x (does c (contend_at o (raise_timer x)) (raise_timer x)) → ⊥
+    at :
+        (o : Option ℕ) → changes_nothing (contend_at o (raise_timer x)) x ≡ false →
+        LooksIdle x (does c (contend_at o (raise_timer x)) (raise_timer x)) → ⊥
     at None e l = cc
     at (Some q) e l = go q (port_is (λ v. is_parent v.shown) x.view.ports q) e l
 
-    over : (b : Bool) → let r = if b then contend_at x.view.parent (raise_timer x) else row.none in changes_nothing r x ≡ false → LooksIdle x (does c r (raise_timer x)) → ⊥
+    over :
+        (b : Bool) →
+        let r = if b then contend_at x.view.parent (raise_timer x) else row.none in changes_nothing r x
+        ≡ false →
+        LooksIdle x (does c r (raise_timer x)) → ⊥
     over true e l = at x.view.parent e l
     over false e l = cc
 stirs c SelfIdent x p e l = granted x.view.granted e l
   where
-    asks : (q : ℕ) (a : Bool) → let r = if a then row.none else row.asks_child q in changes_nothing r x ≡ false → LooksIdle x (does c r (raise_timer x)) → ⊥
+    asks :
+        (q : ℕ) (a : Bool) →
+        let r = if a then row.none else row.asks_child q in changes_nothing r x ≡ false →
+        LooksIdle x (does c r (raise_timer x)) → ⊥
     asks q true e l = cc
     asks q false e l = let h = l.silent in cc
 
-    names : (b : Bool) → let r = if b then row.names_itself else row.none in changes_nothing r x ≡ false → LooksIdle x (does c r (raise_timer x)) → ⊥
+    names :
+        (b : Bool) →
+        let r = if b then row.names_itself else row.none in changes_nothing r x ≡ false →
+        LooksIdle x (does c r (raise_timer x)) → ⊥
     names true e l = let h = l.phase in cc
     names false e l = cc
 
-    at : (o : Option ℕ) → changes_nothing (granted_row o (raise_timer x)) x ≡ false → LooksIdle x (does c (granted_row o (raise_timer x)) (raise_timer x)) → ⊥
+    at :
+        (o : Option ℕ) → changes_nothing (granted_row o (raise_timer x)) x ≡ false →
+        LooksIdle x (does c (granted_row o (raise_timer x)) (raise_timer x)) → ⊥
     at None e l = names (may_name (raise_timer x)) e l
     at (Some q) e l = asks q (port_is (λ v. v.asked) x.view.ports q) e l
 
-    granted : (b : Bool) → let r = if b then granted_row (lowest is_unnamed x.view.ports) (raise_timer x) else row.none in changes_nothing r x ≡ false → LooksIdle x (does c r (raise_timer x)) → ⊥
+    granted :
+        (b : Bool) →
+        let r = if b then granted_row (lowest is_unnamed x.view.ports) (raise_timer x) else row.none in changes_nothing r x
+        ≡ false →
+        LooksIdle x (does c r (raise_timer x)) → ⊥
     granted true e l = at (lowest is_unnamed x.view.ports) e l
     granted false e l = cc
 stirs c Ready x p e l = cc
 
-looks-idle : (n : PortNode) → IsIdleTick n → LooksIdle n.state (does (coin n.coins) (next_row n.state) (raise_timer n.state))
+looks-idle :
+    (n : PortNode) → IsIdleTick n →
+    LooksIdle n.state (does (coin n.coins) (next_row n.state) (raise_timer n.state))
 unfolding step.tick
 looks-idle n i = record {
   silent = i.sends;
@@ -154,7 +202,9 @@ idle_ticks-rest n = (idle-row n, idle-rests n)
 
 -- ---- idle ticks raise the timer
 
-pub after-idle_ticks : (count : ℕ) (n : PortNode) → n.state.view.timer ≤ 65535 → IsIdleFor count n → after_ticks count n ≡ record n { state = with_later_timer count n.state }
+pub after-idle_ticks :
+    (count : ℕ) (n : PortNode) → n.state.view.timer ≤ 65535 → IsIdleFor count n →
+    after_ticks count n ≡ record n { state = with_later_timer count n.state }
 after-idle_ticks zero n h i =
     let e : min (n.state.view.timer + 0) 65535 ≡ n.state.view.timer = omega arith in
     rw e refl

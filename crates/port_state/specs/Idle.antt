@@ -34,7 +34,9 @@ rests x = changes_nothing (next_row x) x
 
 -- the record with its timer so many ticks on; the timer stays at its greatest value
 abbrev pub with_later_timer : ℕ → NodeState → NodeState
-with_later_timer count x = record x { view = record x.view { timer = min (x.view.timer + count) 65535 } }
+with_later_timer count x = record x {
+  view = record x.view { timer = min (x.view.timer + count) 65535 };
+}
 
 -- ---- laws
 

@@ -48,7 +48,8 @@ impl Bits {
         ensures bit { result ≡ (self.old.word / 2 ^ self.old.place % 2 == 1) }
         ensures word { self.new.word ≡ self.old.word }
         ensures len { self.new.len ≡ self.old.len }
-        ensures place { self.new.place ≡ (if self.old.place + 1 == self.old.len then 0 else self.old.place + 1) }
+        ensures place { let next = self.old.place + 1 in
+            self.new.place ≡ (if next == self.old.len then 0 else next) }
     {
         let bit = (self.word >> self.place) % 2 == 1;
         let next = self.place + 1;
@@ -58,7 +59,8 @@ impl Bits {
 }
 
 impl Coins {
-    /// The bits of a word over and over: coin number k, from 0, is bit k modulo `len`, which is 1 to 64.
+    /// The bits of a word over and over: coin number k, from 0, is bit k modulo `len`, which is 1
+    /// to 64.
     pub fn bits(word: u64, len: u8) -> Coins
         requires some { 1 ≤ len }
         requires few { len ≤ 64 }
@@ -73,8 +75,8 @@ impl Coins {
         }
     }
 
-    /// The coins of a seed: coin number k, from 0, is the top bit of word number k of PCG32 with this
-    /// state, on stream 54.
+    /// The coins of a seed: coin number k, from 0, is the top bit of word number k of PCG32 with
+    /// this state, on stream 54.
     pub fn seeded(seed: u32) -> Coins
         ensures { result ≡ coins_of_seed seed }
     {

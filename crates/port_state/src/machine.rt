@@ -88,14 +88,16 @@ pub trait PortMachine {
     fn ports(&self) -> u8
         ensures { result ≡ (record_of self.now).state.ports };
 
-    /// How long nothing happens at the node: the greatest number of ticks, up to 4,000,000, such that
-    /// the next ticks of this number send nothing and change the timer alone, if no signal is heard.
+    /// How long nothing happens at the node: the greatest number of ticks, up to 4,000,000, such
+    /// that the next ticks of this number send nothing and change the timer alone, if no signal is
+    /// heard.
     fn idle_for(&self) -> u32
         ensures most { result ≤ 4000000 }
         ensures idle { IsIdleFor result (record_of self.now) }
         ensures greatest { result < 4000000 → ¬ IsIdleFor (result + 1) (record_of self.now) };
 
-    /// So many ticks of the clock pass in which nothing happens: at most as many as `idle_for` answers.
+    /// So many ticks of the clock pass in which nothing happens: at most as many as `idle_for`
+    /// answers.
     fn pass(&mut self, ticks: u32)
         requires idle { IsIdleFor ticks (record_of self.old) }
         ensures { record_of self.new ≡ after_ticks ticks (record_of self.old) };

@@ -33,7 +33,8 @@ pub trait PortTests {
 
     /// Whether every child shows Idle.
     fn are_children_idle(&self) -> bool
-        ensures { result ≡ every (λ p. if p.child then is_idle p.shown else true) (views self.now) };
+        ensures { result
+            ≡ every (λ p. if p.child then is_idle p.shown else true) (views self.now) };
 
     /// The lowest port whose child hasn't identified itself.
     fn next_child(&self) -> Option<u8>
@@ -42,6 +43,21 @@ pub trait PortTests {
 }
 
 impl PortView {
+    /// Whether the neighbour, if there is one, is past its reset: the port shows Idle or Parent.
+    pub fn is_calm(&self) -> bool
+        ensures { result ≡ (if self.now.connected then is_calm self.now.shown else true) }
+    {
+        !self.connected || matches!(self.shown, Level::Idle | Level::Parent)
+    }
+
+    /// Whether the child, if the port leads to one, shows Idle: it has seen that it was taken.
+    pub fn is_settled(&self) -> bool
+        ensures { result ≡ (if self.now.connected
+            then (if self.now.child then is_idle self.now.shown else true) else true) }
+    {
+        !self.connected || !self.child || self.shown == Level::Idle
+    }
+
     /// Whether the neighbour asks this node to be its parent.
     pub fn asks(&self) -> bool
         ensures { result ≡ asks self.now }
@@ -72,8 +88,7 @@ impl PortTests for PortViews {
     }
 
     fn are_calm(&self) -> bool {
-        self.as_slice().iter().all(|port| !port.connected
-            || matches!(port.shown, Level::Idle | Level::Parent))
+        self.as_slice().iter().all(|port| port.is_calm())
     }
 
     fn connected_count(&self) -> u32 {
@@ -85,9 +100,7 @@ impl PortTests for PortViews {
     }
 
     fn are_children_idle(&self) -> bool {
-        self.as_slice().iter().all(|port| !port.connected
-            || !port.child
-            || port.shown == Level::Idle)
+        self.as_slice().iter().all(|port| port.is_settled())
     }
 
     fn next_child(&self) -> Option<u8> {

@@ -27,7 +27,8 @@ fn status(is_parent: bool, port: &PortView) -> PortStatus
 fn statuses(parent: Option<u8>, ports: &[PortView], slots: usize) -> PortList
     requires few { length ports.now ≤ slots }
     requires most { slots ≤ 16 }
-    ensures { result ≡ statuses_from 0 parent ports.now ++ replicate (slots - length ports.now) Absent }
+    ensures { result
+        ≡ statuses_from 0 parent ports.now ++ replicate (slots - length ports.now) Absent }
 {
     let mut list = PortList::new();
     for (at, port) in ports.iter().enumerate() {

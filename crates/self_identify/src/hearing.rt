@@ -41,10 +41,10 @@ fn take_packet(s: &mut NodeState, port: u8, quad: u32, out: &mut Sends)
     send_on_others(s.view.ports.as_slice(), port, Signal::Packet(quad), out);
 }
 
-/// What a node does with Grant, Packet or Done, heard on a port, numbered from 0; with a level nothing. In
-/// SelfIdent a grant of the parent lets the node begin, and Done of a child says that this child has
-/// identified itself. In SelfIdent and Ready a packet is kept and repeated. `out` is empty, and then has
-/// what was sent.
+/// What a node does with Grant, Packet or Done, heard on a port, numbered from 0; with a level
+/// nothing. In SelfIdent a grant of the parent lets the node begin, and Done of a child says that
+/// this child has identified itself. In SelfIdent and Ready a packet is kept and repeated. `out`
+/// is empty, and then has what was sent.
 #[tactic(auto, unfolding(port_state::specs::Heard::on_signal))]
 pub fn ident_signal(s: &mut NodeState, port: u8, signal: Signal, out: &mut Sends)
     requires valid { IsValid s.old }

@@ -1,13 +1,12 @@
-//! The rows of S0 (Self-ID start), S1 (Self-ID grant), S2 (Self-ID receive) and S4 (Self-ID transmit).
-ghost use Rattle.std.specs.Prelude.{◌≡◌, ◌+◌, ◌*◌, ◌<◌, ◌≤◌, ◌++◌, [], length, if◌then◌else◌};
+//! The rows of S0 (Self-ID start), S1 (Self-ID grant), S2 (Self-ID receive) and S4 (Self-ID
+//! transmit).
+ghost use Rattle.std.specs.Prelude.{◌≡◌, ◌+◌, ◌*◌, ◌<◌, ◌≤◌, ◌++◌, [], length};
 ghost use Rattle.port_state.specs.declared.signal.Phase.TheVariants.{SelfIdent};
 ghost use Rattle.port_state.specs.Sends.{packets_on_every};
 ghost use Rattle.self_id.specs.Group.{node_count};
 ghost use Rattle.port_state.specs.Group.{own_group};
-ghost use Rattle.port_state.specs.Step.{silent_step};
-ghost use Rattle.port_state.specs.SelfIdentify.{names_itself, may_name};
 ghost use Rattle.port_state.specs.Valid.{IsValid, IsBounded};
-ghost use Rattle.self_identify.specs.IdentStep.{ident_step};
+ghost use Rattle.self_identify.specs.IdentStep.{ident_step, naming_step};
 
 use crate::group;
 use arrayvec::ArrayVec;
@@ -46,13 +45,13 @@ fn send_packets(quads: &[u32], ports: &[PortView], out: &mut Sends)
     }
 }
 
-/// S4 to A0: the node's ID is the number of the nodes before it. It sends its packets on every connected
-/// port, and Done to its parent.
+/// S4 to A0: the node's ID is the number of the nodes before it. It sends its packets on every
+/// connected port, and Done to its parent.
 fn name_itself(s: &mut NodeState, out: &mut Sends)
     requires bounded { IsBounded s.old }
     requires empty { out.old ≡ [] }
-    ensures state { s.new ≡ (if may_name s.old then names_itself s.old else silent_step s.old).state }
-    ensures sends { out.new ≡ (if may_name s.old then names_itself s.old else silent_step s.old).sends }
+    ensures state { s.new ≡ (naming_step s.old).state }
+    ensures sends { out.new ≡ (naming_step s.old).sends }
 {
     let id = node_count(s.list.as_slice());
     if id > 62 {
@@ -73,9 +72,9 @@ fn name_itself(s: &mut NodeState, out: &mut Sends)
     }
 }
 
-/// What a tick does in SelfIdent, once it has raised the timer. A node that was granted grants its children
-/// one after the other, the lowest port first and each once, when the one before has said Done; then it
-/// identifies itself. `out` is empty, and then has what was sent.
+/// What a tick does in SelfIdent, once it has raised the timer. A node that was granted grants its
+/// children one after the other, the lowest port first and each once, when the one before has said
+/// Done; then it identifies itself. `out` is empty, and then has what was sent.
 pub fn ident_tick(s: &mut NodeState, out: &mut Sends)
     requires valid { IsValid s.old }
     requires identifies { s.old.view.phase ≡ Phase.SelfIdent }

@@ -8,8 +8,9 @@ use crate::{child_shake, parent_shake, tree_start};
 use port_state::states::NodeState;
 use port_state::{Phase, Sends};
 
-/// What a tick does in T0, T1 and T2, once it has raised the timer; in any other state nothing. A node in
-/// T2 whose parent port shows Parent is left to `contention`. `out` is empty, and then has what was sent.
+/// What a tick does in T0, T1 and T2, once it has raised the timer; in any other state nothing. A
+/// node in T2 whose parent port shows Parent is left to `contention`. `out` is empty, and then has
+/// what was sent.
 pub fn tree_tick(s: &mut NodeState, out: &mut Sends)
     requires valid { IsValid s.old }
     requires alone { IsFalse (has_rival s.old) }

@@ -68,8 +68,8 @@ fn adopt_all(ports: &mut PortViews)
     }
 }
 
-/// T0 to T1 where the roles of the ports are decided; else the node says that its configuration timed out,
-/// if it has waited that long.
+/// T0 to T1 where the roles of the ports are decided; else the node says that its configuration
+/// timed out, if it has waited that long.
 pub fn tick(s: &mut NodeState, out: &mut Sends)
     requires few { length s.old.view.ports ≤ 16 }
     requires empty { out.old ≡ [] }

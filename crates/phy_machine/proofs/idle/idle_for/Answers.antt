@@ -1,4 +1,4 @@
-use Rattle.phy_machine.specs.IdleTime.{with_ports}
+use Rattle.phy_machine.specs.Node.{with_ports}
 use Rattle.phy_machine.proofs.IdleFor.{idle_in-most, idle-for, idle-greatest, times-with_ports}
 use Rattle.phy_machine.proofs.idle.idle_for.Goals as goal
 

@@ -3,7 +3,8 @@ use Rattle.std.specs.Prelude.{nat_le}
 use Rattle.std.proofs.lemmas.Bool.{le-leb}
 use Rattle.self_id.specs.Group.{node_count}
 use Rattle.port_state.specs.Group.{own_group}
-use Rattle.phy_machine.specs.IdleTime.{with_ports, packet_count}
+use Rattle.phy_machine.specs.Node.{with_ports}
+use Rattle.phy_machine.specs.codings.IdleTime.{packet_count}
 use Rattle.phy_machine.proofs.PacketCount.{length-own_group}
 use Rattle.phy_machine.proofs.idle.may_name.Goals as goal
 

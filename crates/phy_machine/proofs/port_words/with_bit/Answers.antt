@@ -1,5 +1,5 @@
 use Rattle.std.proofs.Common.{◌∙◌, ap, sym, ◌==◌, if◌then◌else◌}
-use Rattle.phy_machine.specs.PortWords.{has_bit}
+use Rattle.phy_machine.specs.codings.PortWords.{has_bit}
 use Rattle.phy_machine.proofs.WordBits.{has_bit-set, has_bit-clear, set-fits}
 use Rattle.phy_machine.proofs.port_words.with_bit.Goals as goal
 

@@ -5,5 +5,7 @@ use Rattle.self_identify.proofs.hearing.send_on_others.Given as goal
 abbrev pub invariant-loop-at : goal.invariant-loop-at
 invariant-loop-at l = record {
   few : length l.out ≤ length l.initial.out + l.at;
-  sent : l.out ++ sends_from l.at (λ k. not (k == l.but)) (λ p. l.signal) (drop l.at l.ports) ≡ l.initial.out ++ on_others l.but l.signal l.ports;
+  sent :
+      l.out ++ sends_from l.at (λ k. not (k == l.but)) (λ p. l.signal) (drop l.at l.ports)
+      ≡ l.initial.out ++ on_others l.but l.signal l.ports;
 }

@@ -1,6 +1,6 @@
 use Rattle.std.proofs.Common.{sym, ap, ◌∙◌}
 use Rattle.port_state.proofs.IdleTicks.{after-idle_ticks}
-use Rattle.phy_machine.specs.RowStep.{node_of}
+use Rattle.phy_machine.specs.Node.{node_of}
 use Rattle.phy_machine.specs.Field.{field_node}
 use Rattle.phy_machine.proofs.field.FieldMachinePortMachine.pass.Goals as goal
 

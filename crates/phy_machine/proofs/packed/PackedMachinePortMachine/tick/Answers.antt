@@ -1,7 +1,7 @@
 use Rattle.std.proofs.Common.{sym, ap, ◌∙◌, arith}
 use Rattle.port_state.proofs.IdleTicks.{after-idle_ticks}
-use Rattle.phy_machine.specs.RowStep.{node_of}
-use Rattle.phy_machine.specs.IdleTime.{with_ports}
+use Rattle.phy_machine.specs.Node.{node_of}
+use Rattle.phy_machine.specs.Node.{with_ports}
 use Rattle.phy_machine.specs.Packed.{packed_node}
 use Rattle.phy_machine.proofs.packed.PackedMachinePortMachine.tick.Goals as goal
 

@@ -1,12 +1,13 @@
 use Rattle.std.proofs.Common.{◌≡◌, Bool, true, false, not, ◌&&◌, refl, if◌then◌else◌}
 use Rattle.port_state.specs.declared.ports.PortView.{PortView}
 use Rattle.port_state.specs.Resetting.{is_calm}
-use Rattle.phy_machine.specs.PortWords.{is_stirring}
+use Rattle.phy_machine.specs.codings.PortWords.{is_restless}
 use Rattle.phy_machine.proofs.PortLists.{every-port}
 use Rattle.phy_machine.proofs.port_words.PortWordsPortTests.are_calm.Goals as goal
 
-not-stirring : (p : PortView) → not (is_stirring p) ≡ (if p.connected then is_calm p.shown else true)
-not-stirring p = go p.connected (is_calm p.shown)
+not-restless_ports :
+    (p : PortView) → not (is_restless p) ≡ (if p.connected then is_calm p.shown else true)
+not-restless_ports p = go p.connected (is_calm p.shown)
   where
     go : (c i : Bool) → not (c && not i) ≡ (if c then i else true)
     go true true = refl
@@ -16,5 +17,5 @@ not-stirring p = go p.connected (is_calm p.shown)
 pub returns : goal.returns
 returns c =
     rw (← c.self.view_is)
-    (every-port (λ p. is_calm p.shown) is_stirring c.self.inside.words c.self.inside.count c.stirring.result
-    (c.stirring.ensures.fits c.self.inside.count c.self.invariant.1) c.stirring.ensures.bits not-stirring)
+    (every-port (λ p. is_calm p.shown) is_restless c.self.inside.words c.self.inside.count c.restless_ports.result
+    (c.restless_ports.ensures.fits c.self.inside.count c.self.invariant.1) c.restless_ports.ensures.bits not-restless_ports)

@@ -1,13 +1,16 @@
 use Rattle.std.proofs.Common.{◌≡◌, Bool, true, false, not, ◌&&◌, refl, if◌then◌else◌}
 use Rattle.port_state.specs.declared.ports.PortView.{PortView}
 use Rattle.port_state.specs.Ports.{is_idle}
-use Rattle.phy_machine.specs.PortWords.{is_shaking}
+use Rattle.phy_machine.specs.codings.PortWords.{has_waiting_child}
 use Rattle.phy_machine.proofs.PortLists.{every-port}
 use Rattle.phy_machine.proofs.port_words.PortWordsPortTests.are_children_idle.Goals as goal
 
 -- a connected port that isn't one of a child which doesn't show Idle
-not-shaking : (p : PortView) → not (is_shaking p) ≡ (if p.connected then (if p.child then is_idle p.shown else true) else true)
-not-shaking p = go p.connected p.child (is_idle p.shown)
+not-waiting :
+    (p : PortView) →
+    not (has_waiting_child p)
+    ≡ (if p.connected then (if p.child then is_idle p.shown else true) else true)
+not-waiting p = go p.connected p.child (is_idle p.shown)
   where
     go : (c d i : Bool) → not (c && (d && not i)) ≡ (if c then (if d then i else true) else true)
     go true true true = refl
@@ -18,5 +21,5 @@ not-shaking p = go p.connected p.child (is_idle p.shown)
 pub returns : goal.returns
 returns c =
     rw (← c.self.view_is)
-    (every-port (λ p. if p.child then is_idle p.shown else true) is_shaking c.self.inside.words c.self.inside.count c.shaking.result
-    (c.shaking.ensures.fits c.self.inside.count c.self.invariant.1) c.shaking.ensures.bits not-shaking)
+    (every-port (λ p. if p.child then is_idle p.shown else true) has_waiting_child c.self.inside.words c.self.inside.count c.waiting_children.result
+    (c.waiting_children.ensures.fits c.self.inside.count c.self.invariant.1) c.waiting_children.ensures.bits not-waiting)

@@ -5,4 +5,4 @@ use Rattle.phy_machine.proofs.port_words.PortWordsPortTests.asking_count.Goals a
 pub returns-clause-value : goal.returns-clause-value
 returns-clause-value c =
     rw (← c.self.view_is)
-    (count-ports asks c.self.inside.words c.self.inside.count c.asking.result (c.asking.ensures.fits c.self.inside.count c.self.invariant.1) c.asking.ensures.bits)
+    (count-ports asks c.self.inside.words c.self.inside.count c.asking_ports.result (c.asking_ports.ensures.fits c.self.inside.count c.self.invariant.1) c.asking_ports.ensures.bits)

@@ -1,4 +1,5 @@
--- That a record is valid has one proof at most, so a machine can keep it as a fact of its own.
+-- That a record is valid has one proof at most, so a machine can keep it as a fact of its own. No
+-- public contract cites this file.
 use Rattle.std.proofs.Common.{◌≡◌, ℕ, Bool, List, Option}
 use Rattle.std.specs.Coded.{Coded-set, coded_ℕ, coded_bool, coded_option, le_prop}
 use Rattle.port_state.specs.declared.signal.Phase.{Phase}
@@ -16,7 +17,8 @@ same_flags = Coded-set coded_bool
 same_ports : (a b : Option ℕ) → IsProp (a ≡ b)
 same_ports = Coded-set (coded_option coded_ℕ)
 
-fits_prop : (ph : Phase) (parent : Option ℕ) (ports : List PortView) → IsProp (FitsPhase ph parent ports)
+fits_prop :
+    (ph : Phase) (parent : Option ℕ) (ports : List PortView) → IsProp (FitsPhase ph parent ports)
 fits_prop ResetStart parent ports = hlevel (same_flags, same_ports)
 fits_prop ResetWait parent ports = hlevel (same_flags, same_ports)
 fits_prop TreeStart parent ports = hlevel (same_flags, same_ports)

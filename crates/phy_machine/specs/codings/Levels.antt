@@ -1,4 +1,4 @@
--- Signals that are levels of the lines.
+-- Signals that are levels of the lines. No public contract cites this file.
 use Rattle.std.specs.Prelude.{List, Option, Some, None, if◌then◌else◌}
 use Rattle.port_state.specs.declared.signal.Level.{Level}
 use Rattle.port_state.specs.declared.signal.Level.TheVariants as level
@@ -33,4 +33,6 @@ plain_level ph s = level_of s
 
 -- the ports, of which the one of this number shows a level if it is connected
 abbrev pub ports_showing : PortNumber → Level → List PortView → List PortView
-ports_showing port l ports = if is_connected ports port then change_port port (λ p. record p { shown = l }) ports else ports
+ports_showing port l ports =
+    if is_connected ports port then change_port port (λ p. record p { shown = l }) ports
+    else ports

@@ -1,4 +1,5 @@
--- Ports that are kept in words: bit k of each word is about port k.
+-- Ports that are kept in words: bit k of each word is about port k. No public contract cites this
+-- file.
 use Rattle.std.specs.Prelude.{ℕ, ◌^◌, ◌<◌, Bool, true, false, not, ◌&&◌, ◌==◌, List, map}
 use Rattle.std.specs.Int.{bit_at}
 use Rattle.std.specs.List.{range_with_len}
@@ -58,8 +59,8 @@ pub record FitsPorts (count : ℕ) (w : Words) : Type 0 where
 
 -- a connected port that shows neither Idle nor Parent, and one that leads to a child which doesn't
 -- show Idle
-abbrev pub is_stirring : PortView → Bool
-is_stirring p = p.connected && not (is_calm p.shown)
+abbrev pub is_restless : PortView → Bool
+is_restless p = p.connected && not (is_calm p.shown)
 
-abbrev pub is_shaking : PortView → Bool
-is_shaking p = p.connected && (p.child && not (is_idle p.shown))
+abbrev pub has_waiting_child : PortView → Bool
+has_waiting_child p = p.connected && (p.child && not (is_idle p.shown))

@@ -1,4 +1,4 @@
--- A tick by the crates of the phases. Only private functions cite this file.
+-- A tick by the crates of the phases. No public contract cites this file.
 use Rattle.std.specs.Prelude.{false, if◌then◌else◌}
 use Rattle.port_state.specs.declared.signal.Phase.{Phase}
 use Rattle.port_state.specs.declared.signal.Phase.TheVariants.{ResetStart, ResetWait, TreeStart, ChildShake, ParentShake, Contend, SelfIdent, Ready}
@@ -12,9 +12,6 @@ use Rattle.port_state.specs.Machine.{PortNode, NodeStep, with_coins}
 use Rattle.bus_reset.specs.ResetStep.{reset_step}
 use Rattle.tree_identify.specs.TreeStep.{tree_step}
 use Rattle.self_identify.specs.IdentStep.{ident_step}
-
-abbrev pub node_of : NodeState → Coins → PortNode
-node_of x coins = record { state = x; coins = coins }
 
 -- what a phase does to a record whose timer was raised
 abbrev pub row_step : Phase → NodeState → Coins → NodeStep
