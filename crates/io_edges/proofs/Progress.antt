@@ -1,5 +1,5 @@
 -- What a loop over a source or a sink has done so far.
-use Rattle.std.proofs.Common.{◌≡◌, ℕ, ◌-◌, ◌≤◌, List, ◌++◌, length, take, Option, Some, None, sym, ap, ◌∙◌, append_assoc}
+use Rattle.std.proofs.Common.{◌≡◌, ℕ, ◌+◌, ◌-◌, ◌≤◌, List, ◌++◌, length, take, Option, Some, None, sym, ap, subst, ◌∙◌, append_assoc, length-append, arith}
 use Rattle.std.specs.Io.KnownBytes.{Consumes, Appends}
 use Rattle.io_edges.specs.Told.{StayTold}
 
@@ -9,6 +9,13 @@ pub record Takes (first now : Option (List ℕ)) (bytes : List ℕ) (limit befor
   pub told : StayTold first now
   pub short : length bytes ≤ limit
   pub later : before ≤ after
+
+-- the bytes so far came from the source, room is left up to the limit, and a taker has them
+pub record Gives (first now : Option (List ℕ)) (limit room before after : ℕ) (Old New : List ℕ → Type 0) : Type 0 where
+  pub bytes : List ℕ
+  pub takes : Takes first now bytes limit before after
+  pub size : length bytes + room ≡ limit
+  pub stands : (b : List ℕ) → Old b → New (b ++ bytes)
 
 -- the bytes below a place are written, and a sink that promised to take all promises the rest
 pub record Writes (first now : Option (List ℕ)) (bytes : List ℕ) (at before after : ℕ)
@@ -34,3 +41,18 @@ Appends-then None b c xs ys told p q = tt
 Appends-then (Some x) None c xs ys told p q = absurd p
 Appends-then (Some x) (Some y) None xs ys told p q = absurd q
 Appends-then (Some x) (Some y) (Some z) xs ys told p q = q ∙ ap (λ (w : List ℕ). w ++ ys) p ∙ append_assoc x xs ys
+
+-- one piece more is given
+pub gives_on : (first now next : Option (List ℕ)) (limit room before after later : ℕ) (Old Mid New : List ℕ → Type 0) (piece : List ℕ) → Gives first now limit room before after Old Mid →
+    Consumes now next piece → StayTold now next → length piece ≤ room → after ≤ later → ((b : List ℕ) → Mid b → New (b ++ piece)) → Gives first next limit (room - length piece) before later Old New
+gives_on first now next limit room before after later Old Mid New piece h came told fits more taken = record {
+  bytes = h.bytes ++ piece;
+  takes = record {
+    came = Consumes-then first now next h.bytes piece h.takes.told h.takes.came came;
+    told = told ∙ h.takes.told;
+    short = omega (arith, h.size, length-append h.bytes piece);
+    later = omega (arith, h.takes.later);
+  };
+  size = omega (arith, h.size, length-append h.bytes piece);
+  stands = λ b old. subst New (append_assoc b h.bytes piece) (taken (b ++ h.bytes) (h.stands b old));
+}

@@ -10,8 +10,13 @@ StayTold old new = is_some new ≡ is_some old
 abbrev pub LeavesEnd : Option (List ℕ) → Option (List ℕ) → Type 0
 LeavesEnd old new = (taken : List ℕ) × Consumes old new taken
 
+-- these are the bytes left, where they are told
+abbrev pub AreLeft : Option (List ℕ) → List ℕ → Type 0
+AreLeft left bytes = IfSome left (λ told. bytes ≡ told)
+
 -- a fact on the bytes that were left and those that are left, where both are told
-abbrev pub IfTold : Option (List ℕ) → Option (List ℕ) → (List ℕ → List ℕ → Type 0) → Type 0
+abbrev pub IfTold : Option (List ℕ) → Option (List ℕ) → (List ℕ → List ℕ → Type 0) →
+    Type 0
 IfTold old new P = IfSome old (λ xs. IfSome new (λ ys. P xs ys))
 
 -- more than so many bytes were taken from the front

@@ -9,14 +9,16 @@
 
 mod adapters;
 mod memory;
+mod pieces;
 mod stop;
 mod traits;
 mod whole;
 
 pub use adapters::{ReadSource, WriteSink};
 pub use memory::{MemSink, MemSource, SureSource};
+pub use pieces::read_pieces;
 pub use stop::{OutOfMemory, ReadStop};
-pub use traits::{Failed, Sink, Source};
+pub use traits::{Failed, Sink, Source, Taker};
 pub use whole::{read_all, write_whole};
 
 #[cfg(test)]

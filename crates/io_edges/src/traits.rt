@@ -1,5 +1,5 @@
 //! What a source and a sink of bytes are.
-ghost use Rattle.std.specs.Prelude.{◌≡◌, ℕ, ◌-◌, ◌<◌, ◌≤◌, List, length, Option, IfOk, IsOkAnd, OnErr};
+ghost use Rattle.std.specs.Prelude.{◌≡◌, ℕ, ◌-◌, ◌<◌, ◌≤◌, List, length, Option, ◌++◌, IfOk, IsOkAnd, OnErr};
 ghost use Rattle.std.specs.Io.{ReadsAtMost, WritesAtMost};
 ghost use Rattle.std.specs.Io.KnownBytes.{ReadConsumes, WriteAppends};
 ghost use Rattle.io_edges.specs.Faults.{Rose};
@@ -58,4 +58,15 @@ pub trait Sink {
         ensures sure { surely_takes self.old (length buf.now) →
             IsOkAnd result (λ count. surely_takes self.new (length buf.now - count))
             × (faults self.new ≡ faults self.old) };
+}
+
+/// What takes the bytes of a source piece by piece. It need not keep them.
+pub trait Taker {
+    // These may be the bytes that it was given so far.
+    ghost stands_for: { Self → List ℕ → Type 0 };
+
+    /// Takes the next bytes.
+    fn take(&mut self, piece: &[u8])
+        ensures { (bytes : List ℕ) → stands_for self.old bytes
+            → stands_for self.new (bytes ++ piece.now) };
 }

@@ -9,7 +9,7 @@ use crate::traits::{Failed, Sink, Source};
 use std::alloc::Global;
 
 /// The most bytes of one read.
-const PIECE: usize = 4096;
+pub(crate) const PIECE: usize = 4096;
 
 /// Reads a source to its end. `limit` is the most bytes that are accepted, at most 1,048,576.
 ///
