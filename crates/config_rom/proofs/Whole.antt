@@ -159,3 +159,15 @@ pub info_part : (v : Parts) (quads : List ℕ) (n : ℕ) → IsRom v → quads �
 info_part v quads n is e f =
     let long : 1 + n - 1 ≡ length v.info = omega (arith, f, is.info_is) in
     ap (λ k. take k (drop 1 quads)) long ∙ ap (λ qs. take (length v.info) (drop 1 qs)) e ∙ take-append_seam v.info (root_header v ∷ (v.entries ++ v.rest))
+
+-- the entries of the root directory among the quadlets
+pub entries_part : (v : Parts) (quads : List ℕ) (root end : ℕ) → IsRom v → quads ≡ rom_quads v → root ≡ 1 + v.info_len → end ≡ end_of quads root → take (end - (root + 1)) (drop (root + 1) quads) ≡ v.entries
+entries_part v quads root end is e f g =
+    let p = places_of v is in
+    let place : root ≡ root_of (rom_quads v) = omega (arith, f, p.info_len) in
+    let long : end - (root + 1) ≡ length v.entries = omega (arith, g, ap (λ qs. length_at qs root) e, ap (λ k. length_at (rom_quads v) k) place, p.length_is) in
+    ap (λ k. take k (drop (root + 1) quads)) long
+    ∙ ap (λ qs. take (length v.entries) (drop (root + 1) qs)) e
+    ∙ ap (λ k. take (length v.entries) (drop (k + 1) (rom_quads v))) place
+    ∙ ap (λ l. take (length v.entries) l) p.behind
+    ∙ take-append_seam v.entries v.rest

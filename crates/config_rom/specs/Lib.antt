@@ -3,6 +3,7 @@ pub mod Rom
 pub mod Fault
 pub mod Crc
 pub mod Block
+pub mod Seal
 pub mod Text
 pub mod Answer
 pub mod codings

@@ -8,6 +8,7 @@ mod fault;
 mod marks;
 mod reach;
 mod rom;
+mod sealing;
 mod text;
 
 pub use block::{Block, BlockKind, BlockList, blocks};
@@ -15,6 +16,7 @@ pub use crc::CrcState;
 pub use fault::{RomFault, RomStop};
 pub use quad_lanes::OutOfMemory;
 pub use rom::{Rom, decode_rom, encode_rom};
+pub use sealing::seal;
 pub use text::rom_text;
 
 #[cfg(test)]

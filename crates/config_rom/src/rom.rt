@@ -1,5 +1,5 @@
 //! A configuration ROM, from bytes and to bytes.
-ghost use Rattle.std.specs.Prelude.{◌≡◌, ◌↔◌, ◌+◌, ◌<◌, ◌≤◌, ◌^◌, ℕ, length, slice_index, Err, Ok, Some, IfOk, IsTrue};
+ghost use Rattle.std.specs.Prelude.{◌≡◌, ◌↔◌, ◌+◌, ◌*◌, ◌/◌, ◌<◌, ◌≤◌, ◌^◌, ℕ, length, slice_index, Err, Ok, Some, IfOk, IsTrue};
 ghost use Rattle.quad_lanes.specs.Pairs.{quads_of};
 ghost use Rattle.config_rom.specs.declared.fault.RomFault.{RomFault};
 ghost use Rattle.config_rom.specs.declared.fault.RomStop.TheVariants.{Fault};
@@ -60,6 +60,28 @@ impl Rom {
     {
         ((self.quads[0] >> 16) % 256) as u8
     }
+
+    /// Sets the CRC that quadlet 0 keeps.
+    pub(crate) fn set_crc(&mut self, crc: u16)
+        ensures { self.new ≡ record self.old { crc = crc } }
+    {
+        self.quads[0] = with_crc(self.quads[0], crc);
+    }
+
+    /// Sets the CRC that the root directory keeps.
+    pub(crate) fn set_root_crc(&mut self, crc: u16)
+        ensures { self.new ≡ record self.old { root_crc = crc } }
+    {
+        let root = 1 + (self.quads[0] >> 24) as usize;
+        self.quads[root] = with_crc(self.quads[root], crc);
+    }
+}
+
+/// A quadlet with another CRC in its low sixteen bits.
+fn with_crc(quad: u32, crc: u16) -> u32
+    ensures { result ≡ quad / 2 ^ 16 * 2 ^ 16 + crc }
+{
+    (quad >> 16) * 0x1_0000 + u32::from(crc)
 }
 
 /// The quadlet at a place.

@@ -1,4 +1,6 @@
-use crate::{CrcState, blocks, decode_rom, encode_rom, rom_text};
+use crate::{
+    BlockKind, CrcState, RomFault, RomStop, blocks, decode_rom, encode_rom, rom_text, seal,
+};
 use std::alloc::Global;
 use std::test::Fail;
 
@@ -52,6 +54,146 @@ leaf 8 length 3 crc good
 blocks 2
 "
             .as_slice()
+    );
+    Ok(())
+}
+
+/// The fault of decoding quadlets, if there is one.
+fn fault_of(alloc: Global, bytes: &[u8]) -> Option<RomFault> {
+    match decode_rom(alloc, bytes) {
+        Err(RomStop::Fault(fault)) => Some(fault),
+        _ => None,
+    }
+}
+
+/// The fault of the blocks of a ROM with these quadlets, if there is one.
+fn block_fault_of(alloc: Global, quads: &[u32]) -> Result<Option<RomFault>, Fail> {
+    let bytes = bytes_of(alloc, quads)?;
+    let rom = decode_rom(alloc, &bytes)?;
+    Ok(match blocks(alloc, &rom) {
+        Err(RomStop::Fault(fault)) => Some(fault),
+        _ => None,
+    })
+}
+
+#[test]
+fn refuses_in_order(rt: HostRuntime) -> Result<(), Fail> {
+    let bytes = bytes_of(rt.alloc(), &CAMERA)?;
+    assert!(rt; bytes.len() == 48);
+    // the first bytes of the ROM, and what they are refused for
+    let cases = [
+        (0, RomFault::RomEmpty { at: 0 }),
+        (3, RomFault::RomLength { at: 0 }),
+        (16, RomFault::RomCut { at: 4 }),
+        (20, RomFault::RomCut { at: 5 }),
+        (28, RomFault::RomCut { at: 7 }),
+        (41, RomFault::RomLength { at: 10 }),
+    ];
+    for (len, fault) in cases {
+        assert!(rt; len <= bytes.len());
+        assert_eq!(rt; fault_of(rt.alloc(), &bytes[..len]), Some(fault));
+    }
+    let heads = [
+        (0x0004_7a4b, 0x3133_3934, RomFault::NoInfo { at: 0 }),
+        (0x0104_7a4b, 0x3133_3934, RomFault::Minimal { at: 0 }),
+        (
+            0x0404_7a4b,
+            0x3133_3935,
+            RomFault::BusName {
+                at: 1,
+                found: 0x3133_3935,
+            },
+        ),
+    ];
+    for (first, name, fault) in heads {
+        let mut quads = CAMERA;
+        quads[0] = first;
+        quads[1] = name;
+        let bytes = bytes_of(rt.alloc(), &quads)?;
+        assert_eq!(rt; fault_of(rt.alloc(), &bytes), Some(fault));
+    }
+    let long = [0u8; 1028];
+    assert_eq!(rt;
+        fault_of(rt.alloc(), &long),
+        Some(RomFault::RomTooLong { at: 256 })
+    );
+    Ok(())
+}
+
+#[test]
+fn refuses_blocks(rt: HostRuntime) -> Result<(), Fail> {
+    assert_eq!(rt;
+        block_fault_of(rt.alloc(), &CAMERA[..10])?,
+        Some(RomFault::Outside { at: 8 })
+    );
+    let mut itself = CAMERA;
+    itself[7] = 0xc100_0000;
+    assert_eq!(rt;
+        block_fault_of(rt.alloc(), &itself)?,
+        Some(RomFault::SelfTarget { at: 7 })
+    );
+    let mut far = CAMERA;
+    far[7] = 0x81ff_ffff;
+    assert_eq!(rt;
+        block_fault_of(rt.alloc(), &far)?,
+        Some(RomFault::Outside { at: 0x0100_0006 })
+    );
+    Ok(())
+}
+
+#[test]
+fn seals(rt: HostRuntime) -> Result<(), Fail> {
+    let mut quads = CAMERA;
+    quads[0] = 0x0404_7a4c;
+    let bytes = bytes_of(rt.alloc(), &quads)?;
+    let mut rom = decode_rom(rt.alloc(), &bytes)?;
+    assert_eq!(rt;
+        rom.info_crc(),
+        CrcState::Bad {
+            kept: 0x7a4c,
+            computed: 0x7a4b
+        }
+    );
+    let within = usize::from(rom.crc_length()) < rom.quads().len();
+    assert!(rt; within);
+    seal(&mut rom);
+    assert_eq!(rt; rom.quads(), CAMERA.as_slice());
+    Ok(())
+}
+
+// Two entries of the root directory lead to one place, as a directory and as a leaf, and two lead to
+// one leaf.
+#[test]
+fn blocks_are_shared(rt: HostRuntime) -> Result<(), Fail> {
+    let quads = [
+        0x0200_0000,
+        0x3133_3934,
+        0,
+        0x0004_0000,
+        0xc100_0004,
+        0x8100_0003,
+        0x8200_0004,
+        0x8300_0003,
+        0x0001_0000,
+        0x0000_0000,
+        0x0000_0000,
+    ];
+    let bytes = bytes_of(rt.alloc(), &quads)?;
+    let rom = decode_rom(rt.alloc(), &bytes)?;
+    let list = blocks(rt.alloc(), &rom)?;
+    let mut places = Vec::new(rt.alloc());
+    for block in list.as_slice() {
+        places.push((block.kind, block.at))?;
+    }
+    assert_eq!(rt;
+        places.as_slice(),
+        [
+            (BlockKind::Directory, 3),
+            (BlockKind::Directory, 8),
+            (BlockKind::Leaf, 8),
+            (BlockKind::Leaf, 10)
+        ]
+        .as_slice()
     );
     Ok(())
 }
