@@ -4,5 +4,6 @@ pub mod Faults
 pub mod Reading
 pub mod Reached
 pub mod Listed
+pub mod SomeFault
 pub mod Told
 pub mod Appended

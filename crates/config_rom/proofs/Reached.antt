@@ -86,7 +86,7 @@ add_entry quads at entry kind old m new is kind_is some a h =
 
 -- ---- one place
 
-no_fault_at : (quads : List ℕ) (k : BlockKind) (at : ℕ) (f : RomFault) → end_of quads at ≤ length quads → (k ≡ Directory → (entry : ℕ) → entry < end_of quads at → IsSelfTarget quads at entry → ⊥) → HasFault quads k at f → ⊥
+pub no_fault_at : (quads : List ℕ) (k : BlockKind) (at : ℕ) (f : RomFault) → end_of quads at ≤ length quads → (k ≡ Directory → (entry : ℕ) → entry < end_of quads at → IsSelfTarget quads at entry → ⊥) → HasFault quads k at f → ⊥
 no_fault_at quads k at (Outside p) whole none h = omega (arith, whole, h.1)
 no_fault_at quads Directory at (SelfTarget p) whole none h = none refl p h.1.leads.is_entry.inside h.1
 no_fault_at quads Leaf at (SelfTarget p) whole none h = h

@@ -5,5 +5,6 @@ pub mod Crc
 pub mod Block
 pub mod Seal
 pub mod Text
+pub mod OneReading
 pub mod Answer
 pub mod codings

@@ -1,0 +1,19 @@
+//! Laws of ROMs.
+ghost use Rattle.config_rom.specs.OneReading.{EachInputIsARomOrRefused, NoInputIsTwoRoms, NoRomIsRefused, EachRomHasGoodBlocksOrAFault, NoGoodBlocksAreRefused, NoBlocksHaveTwoFaults, NoRomHasTwoLists};
+
+/// A law: each input is the bytes of a ROM or is refused, none is those of two ROMs, and none of a
+/// ROM is refused.
+pub fn one_rom()
+    ensures some { EachInputIsARomOrRefused }
+    ensures rom { NoInputIsTwoRoms }
+    ensures apart { NoRomIsRefused }
+{}
+
+/// A law: the blocks of each ROM have no fault or a first one, not both, and no two first ones. A ROM
+/// has no two lists of blocks.
+pub fn one_list()
+    ensures some { EachRomHasGoodBlocksOrAFault }
+    ensures apart { NoGoodBlocksAreRefused }
+    ensures fault { NoBlocksHaveTwoFaults }
+    ensures list { NoRomHasTwoLists }
+{}
