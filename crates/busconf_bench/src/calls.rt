@@ -1,6 +1,7 @@
 //! The calls that are measured.
 
 use crate::cablings::{Question, Shape, answer_to, joined};
+use crate::machines::{Kind, Nodes, Pace};
 use bus_manager::hops;
 use cabling::Cabling;
 use quad_lanes::{QuadList, first_bad_pair, firsts, pairs_of};
@@ -28,6 +29,7 @@ pub enum Call {
     FirstBadPair,
     PlainRead,
     Cabling(Question, Shape),
+    Tick(Pace, Kind),
 }
 
 /// The shape of this name.
@@ -60,6 +62,10 @@ impl Call {
             "crc16" => Some(Call::Crc16),
             "first_bad_pair" => Some(Call::FirstBadPair),
             "plain_read" => Some(Call::PlainRead),
+            "tick_idle_field" => Some(Call::Tick(Pace::Idle, Kind::Field)),
+            "tick_idle_packed" => Some(Call::Tick(Pace::Idle, Kind::Packed)),
+            "tick_busy_field" => Some(Call::Tick(Pace::Busy, Kind::Field)),
+            "tick_busy_packed" => Some(Call::Tick(Pace::Busy, Kind::Packed)),
             _ => {
                 let (question, shape) = name.split_once('_')?;
                 Some(Call::Cabling(question_named(question)?, shape_named(shape)?))
@@ -75,6 +81,7 @@ struct Work {
     tree: BusTree,
     pairs: QuadList,
     cabling: Cabling,
+    nodes: Nodes,
 }
 
 /// The work that a capture gives, if it is one of a bus tree.
@@ -102,6 +109,7 @@ fn work_of(alloc: Global, call: Call, bytes: &[u8]) -> Result<Option<Work>, Allo
         tree,
         pairs,
         cabling,
+        nodes: Nodes::new(),
     }))
 }
 
@@ -131,6 +139,7 @@ fn once(alloc: Global, call: Call, work: &Work) -> u64 {
             }
         }
         Call::Cabling(question, _) => answer_to(&work.cabling, question),
+        Call::Tick(_, _) => 0,
         Call::PlainRead => {
             let mut sum = 0u32;
             for quad in work.pairs.as_slice() {
@@ -141,7 +150,19 @@ fn once(alloc: Global, call: Call, work: &Work) -> u64 {
     }
 }
 
-/// The median time of one call, in nanoseconds, over eleven batches of so many calls.
+/// So many calls.
+fn batch(alloc: Global, call: Call, times: u32, work: &mut Work) -> u64 {
+    if let Call::Tick(pace, kind) = call {
+        return work.nodes.run(pace, kind, times);
+    }
+    let mut answers = 0u64;
+    for _ in 0..times {
+        answers = answers.wrapping_add(once(alloc, call, work));
+    }
+    answers
+}
+
+/// The median time of one call, in tenths of a nanosecond, over eleven batches of so many calls.
 pub fn measured<R: Clock + AllocGlobal>(
     rt: &R,
     call: Call,
@@ -149,18 +170,16 @@ pub fn measured<R: Clock + AllocGlobal>(
     bytes: &[u8],
 ) -> io::Result<Option<u64>> {
     let alloc = rt.alloc();
-    let Some(work) = work_of(alloc, call, bytes)? else {
+    let Some(mut work) = work_of(alloc, call, bytes)? else {
         return Ok(None);
     };
     let mut taken = Vec::new(alloc);
     let mut answers = 0u64;
     for _ in 0..BATCHES {
         let start = Instant::now(rt)?;
-        for _ in 0..times {
-            answers = answers.wrapping_add(once(alloc, call, &work));
-        }
-        let nanoseconds = start.elapsed(rt)?.as_nanos();
-        let each = nanoseconds / u128::from(times.max(1));
+        answers = answers.wrapping_add(batch(alloc, call, times, &mut work));
+        let tenths = start.elapsed(rt)?.as_nanos().saturating_mul(10);
+        let each = tenths / u128::from(times.max(1));
         taken.push(u64::try_from(each).unwrap_or(u64::MAX))?;
     }
     taken.sort_unstable();

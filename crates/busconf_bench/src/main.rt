@@ -10,6 +10,9 @@
 //! - `crc16`: the CRC of the first quadlets
 //! - `first_bad_pair`: the pair check of 65,536 pairs, the capture's first pair over and over
 //! - `plain_read`: all quadlets of the same buffer added up, to compare the pair check with
+//! - `tick_idle_field`, `tick_idle_packed`: a tick of a node's machine that raises the timer alone
+//! - `tick_busy_field`, `tick_busy_packed`: a tick that takes a row of the step table, and a sixth of the
+//!   reset before it
 //! - `component_line`, `core_line`, `walk_line`: these of 63 nodes in a line, whatever the capture
 //! - the same with `_star`, each node below the first that has one of its sixteen ports left, and with
 //!   `_looped`, each node joined to the next eight
@@ -17,6 +20,7 @@
 
 mod cablings;
 mod calls;
+mod machines;
 
 use calls::{Call, measured};
 use std::io::Read;
@@ -43,8 +47,8 @@ fn main(rt: HostRuntime) -> io::Result<ExitCode> {
     let mut bytes = Vec::new(rt.alloc());
     rt.stdin().read_to_end(&mut bytes)?;
     match measured(&rt, call, times, &bytes)? {
-        Some(nanoseconds) => {
-            println!(rt; "ns_per_call median {nanoseconds}")?;
+        Some(tenths) => {
+            println!(rt; "ns_per_call median {}.{}", tenths / 10, tenths % 10)?;
             Ok(ExitCode::SUCCESS)
         }
         None => {

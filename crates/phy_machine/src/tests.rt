@@ -1,3 +1,5 @@
+ghost use Rattle.phy_machine.specs.PowerOn.{IsSpec};
+
 use super::*;
 use port_state::{Coins, Phase, PortMachine, Sends, Signal, Timing};
 use self_id::Attrs;
@@ -5,7 +7,9 @@ use std::process::Abort;
 use std::test::Fail;
 
 // A node of three ports that draws zeros.
-fn spec() -> NodeSpec {
+fn spec() -> NodeSpec
+    ensures { IsSpec result }
+{
     NodeSpec {
         ports: 3,
         attrs: Attrs {

@@ -1,0 +1,109 @@
+//! Ticks of a node's machine.
+ghost use Rattle.phy_machine.specs.PowerOn.{IsSpec};
+
+use phy_machine::{FieldMachine, NodeSpec, PackedMachine};
+use port_state::{Coins, PortMachine, Sends, Timing};
+use self_id::Attrs;
+
+/// Which machine ticks.
+#[derive(Clone, Copy, Debug, PartialEq, Eq)]
+pub enum Kind {
+    Field,
+    Packed,
+}
+
+/// What its ticks do.
+#[derive(Clone, Copy, Debug, PartialEq, Eq)]
+pub enum Pace {
+    /// They raise the timer alone.
+    Idle,
+    /// Each takes a row of the step table.
+    Busy,
+}
+
+/// How many ticks a node without cables takes from the end of its hold to its ID.
+const ROWS: u32 = 6;
+
+/// A node of three ports, without cables.
+#[derive(Drop)]
+pub struct Nodes {
+    field: FieldMachine,
+    packed: PackedMachine,
+    out: Sends,
+}
+
+fn spec() -> NodeSpec
+    ensures { IsSpec result }
+{
+    NodeSpec {
+        ports: 3,
+        attrs: Attrs {
+            link: true,
+            gap: 63,
+            speed: 2,
+            delay: 0,
+            contender: false,
+            power: 0,
+            initiated: false,
+        },
+        timing: Timing::usual(4),
+        force: false,
+        coins: Coins::bits(0, 1),
+    }
+}
+
+/// One tick.
+fn tick<M: PortMachine>(machine: &mut M, out: &mut Sends) {
+    out.clear();
+    machine.tick(out);
+}
+
+/// The node passes over its hold, and takes the six rows up to its ID.
+fn identify<M: PortMachine>(machine: &mut M, out: &mut Sends) {
+    machine.pass(machine.idle_for());
+    for _ in 0..ROWS {
+        tick(machine, out);
+    }
+}
+
+/// A tick of this sort, so many times; for a busy one the node resets the bus, and identifies itself, once
+/// every six times.
+fn run<M: PortMachine>(machine: &mut M, out: &mut Sends, pace: Pace, times: u32) -> u64 {
+    match pace {
+        Pace::Idle => {
+            for _ in 0..times {
+                tick(machine, out);
+            }
+        }
+        Pace::Busy => {
+            for _ in 0..times / ROWS {
+                out.clear();
+                machine.disturb(out);
+                identify(machine, out);
+            }
+        }
+    }
+    machine.list().len() as u64
+}
+
+impl Nodes {
+    /// Machines that have identified themselves.
+    pub fn new() -> Nodes {
+        let mut nodes = Nodes {
+            field: FieldMachine::new(spec()),
+            packed: PackedMachine::new(spec()),
+            out: Sends::new(),
+        };
+        identify(&mut nodes.field, &mut nodes.out);
+        identify(&mut nodes.packed, &mut nodes.out);
+        nodes
+    }
+
+    /// So many ticks.
+    pub fn run(&mut self, pace: Pace, kind: Kind, times: u32) -> u64 {
+        match kind {
+            Kind::Field => run(&mut self.field, &mut self.out, pace, times),
+            Kind::Packed => run(&mut self.packed, &mut self.out, pace, times),
+        }
+    }
+}
