@@ -5,5 +5,6 @@ pub mod Reading
 pub mod Reached
 pub mod Listed
 pub mod SomeFault
+pub mod OneText
 pub mod Told
 pub mod Appended

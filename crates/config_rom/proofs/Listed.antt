@@ -1,5 +1,5 @@
 -- The list of the reached blocks, and their one fault where they have one.
-use Rattle.std.proofs.Common.{◌≡◌, ◌≢◌, ℕ, zero, suc, ◌+◌, ◌<◌, ◌≤◌, ◌↔◌, ◌⊎◌, inl, inr, Bool, true, false, cond, nat_lt, List, [], ◌∷◌, ◌++◌, length, map, drop, take, refl, sym, ap, ◌∙◌, subst, arith}
+use Rattle.std.proofs.Common.{◌≡◌, ℕ, zero, suc, ◌+◌, ◌<◌, ◌≤◌, inl, inr, Bool, true, false, cond, nat_lt, List, [], ◌∷◌, ◌++◌, length, map, drop, take, refl, sym, ap, ◌∙◌, subst, arith}
 use Rattle.std.specs.List.{All, AllByRecursion}
 use Rattle.std.proofs.lemmas.List.Elements.{recursion_from_All}
 use Rattle.std.proofs.lemmas.Bool.{cases_lt}
@@ -87,7 +87,7 @@ whole_of quads k p none = elim (cases_lt (length quads) (end_of quads p)) [
 
 -- ---- one list
 
-one_state : (quads : List ℕ) (kept : ℕ) (a b : CrcState) → IsCrcState quads kept a → IsCrcState quads kept b → a ≡ b
+pub one_state : (quads : List ℕ) (kept : ℕ) (a b : CrcState) → IsCrcState quads kept a → IsCrcState quads kept b → a ≡ b
 one_state quads kept Good Good h k = refl
 one_state quads kept Good (Bad x computed) h k = absurd (k.2 (one_crc quads kept computed h k.1))
 one_state quads kept (Bad x computed) Good h k = absurd (h.2 (one_crc quads kept computed k h.1))

@@ -1,5 +1,5 @@
 -- The reached blocks have a first fault, or none of them has a fault.
-use Rattle.std.proofs.Common.{◌≡◌, ◌≢◌, ℕ, zero, suc, ◌+◌, ◌-◌, ◌*◌, ◌/◌, ◌%◌, ◌^◌, ◌<◌, ◌≤◌, ◌⊎◌, inl, inr, Bool, true, false, cond, eqb, Option, Some, None, List, length, refl, sym, ap, ◌∙◌, subst, arith}
+use Rattle.std.proofs.Common.{◌≡◌, ℕ, zero, suc, ◌+◌, ◌^◌, ◌<◌, ◌≤◌, ◌⊎◌, inl, inr, Bool, true, false, cond, eqb, Option, Some, None, List, length, refl, sym, ap, subst, arith}
 use Rattle.std.specs.Prelude.{slice_index}
 use Rattle.std.proofs.Math.ListN.{get_or-eq_default}
 use Rattle.std.proofs.lemmas.Bool.{cases_lt, cases_eq, eqb-true, eqb-false}
@@ -8,7 +8,7 @@ use Rattle.config_rom.specs.declared.fault.RomFault.TheVariants.{Outside, SelfTa
 use Rattle.config_rom.specs.declared.block.BlockKind.{BlockKind}
 use Rattle.config_rom.specs.declared.block.BlockKind.TheVariants.{Directory, Leaf}
 use Rattle.config_rom.specs.Layout.{length_at, end_of}
-use Rattle.config_rom.specs.Block.{kind_of, value_of, IsEntryOf, LeadsTo, Blocks, IsClosed, IsReached, IsSelfTarget, HasFault, IsFirstFault}
+use Rattle.config_rom.specs.Block.{kind_of, value_of, LeadsTo, Blocks, IsClosed, IsReached, IsSelfTarget, HasFault, IsFirstFault}
 use Rattle.config_rom.proofs.Reached.{no_fault_at}
 
 abbrev Decided : Type 0 → Type 0

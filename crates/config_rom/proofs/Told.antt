@@ -1,11 +1,11 @@
 -- The listed blocks are whole.
-use Rattle.std.proofs.Common.{◌≡◌, ℕ, zero, suc, ◌+◌, ◌≤◌, Bool, true, false, cond, List, [], ◌∷◌, ◌++◌, length, map, refl, sym, ap, ◌∙◌, subst, arith}
+use Rattle.std.proofs.Common.{◌≡◌, ℕ, zero, suc, ◌+◌, ◌≤◌, Bool, true, false, cond, List, [], ◌∷◌, ◌++◌, length, map, refl, sym, subst, arith}
 use Rattle.std.specs.List.{All, AllByRecursion}
 use Rattle.std.proofs.lemmas.List.Elements.{recursion_from_All, All-from_recursion}
 use Rattle.config_rom.specs.declared.block.Block.{Block}
 use Rattle.config_rom.specs.declared.block.BlockKind.{BlockKind}
 use Rattle.config_rom.specs.declared.block.BlockKind.TheVariants.{Directory, Leaf}
-use Rattle.config_rom.specs.Layout.{end_of, length_at}
+use Rattle.config_rom.specs.Layout.{end_of}
 use Rattle.config_rom.specs.Block.{Blocks, place_of, if_in, in_order, IsTold, AreBlocksOf}
 use Rattle.config_rom.proofs.Listed.{whole_of}
 

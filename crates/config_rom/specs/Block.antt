@@ -1,7 +1,7 @@
 -- The blocks of a ROM that its root directory leads to (IEEE Std 1212).
 use Rattle.std.specs.Prelude.{◌≡◌, ℕ, zero, suc, ◌+◌, ◌/◌, ◌%◌, ◌^◌, ◌<◌, ◌≤◌, ◌==◌, ◌↔◌, Bool, true, if◌then◌else◌, Option, Some, None, List, [], ◌∷◌, ◌++◌, length, slice_index, map, take, drop, All}
 use Rattle.config_rom.specs.declared.fault.RomFault.{RomFault}
-use Rattle.config_rom.specs.declared.fault.RomFault.TheVariants.{RomLength, RomTooLong, RomEmpty, NoInfo, Minimal, RomCut, BusName, Outside, SelfTarget}
+use Rattle.config_rom.specs.declared.fault.RomFault.TheVariants.{Outside, SelfTarget}
 use Rattle.config_rom.specs.declared.block.Block.{Block}
 use Rattle.config_rom.specs.declared.block.BlockKind.{BlockKind}
 use Rattle.config_rom.specs.declared.block.BlockKind.TheVariants.{Directory, Leaf}

@@ -1,5 +1,5 @@
 -- Which rule bytes break first that are no configuration ROM.
-use Rattle.std.specs.Prelude.{ℕ, ◌+◌, ◌/◌, ◌%◌, ◌==◌, nat_lt, not, if◌then◌else◌, Option, Some, None, List, length, slice_index}
+use Rattle.std.specs.Prelude.{ℕ, ◌/◌, ◌%◌, ◌==◌, nat_lt, not, if◌then◌else◌, Option, Some, None, List, length, slice_index}
 use Rattle.quad_lanes.specs.Pairs.{quads_of}
 use Rattle.config_rom.specs.declared.fault.RomFault.{RomFault}
 use Rattle.config_rom.specs.declared.fault.RomFault.TheVariants.{RomLength, RomTooLong, RomEmpty, NoInfo, Minimal, RomCut, BusName}

@@ -6,6 +6,7 @@ use Rattle.config_rom.specs.declared.block.Block.{Block}
 use Rattle.config_rom.specs.declared.block.BlockKind.{BlockKind}
 use Rattle.config_rom.specs.Rom.{Parts, IsRom, rom_quads, rom_bytes}
 use Rattle.config_rom.specs.Fault.{rom_fault}
+use Rattle.config_rom.specs.Text.{IsRomText}
 use Rattle.config_rom.specs.Block.{IsReached, HasFault, AreBlocks, BlocksRefused}
 
 -- the bytes are those of this ROM
@@ -42,3 +43,9 @@ NoBlocksHaveTwoFaults = (v : Parts) (f g : RomFault) → BlocksRefused v f → B
 
 abbrev pub NoRomHasTwoLists : Type 0
 NoRomHasTwoLists = (v : Parts) (xs ys : List Block) → AreBlocks v xs → AreBlocks v ys → xs ≡ ys
+
+abbrev pub NoRomHasTwoTexts : Type 0
+NoRomHasTwoTexts =
+    (v : Parts) (xs ys : List Block) (a b : List ℕ) →
+    AreBlocks v xs → AreBlocks v ys → IsRomText v xs a → IsRomText v ys b →
+    a ≡ b

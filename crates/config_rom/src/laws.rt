@@ -1,5 +1,5 @@
 //! Laws of ROMs.
-ghost use Rattle.config_rom.specs.OneReading.{EachInputIsARomOrRefused, NoInputIsTwoRoms, NoRomIsRefused, EachRomHasGoodBlocksOrAFault, NoGoodBlocksAreRefused, NoBlocksHaveTwoFaults, NoRomHasTwoLists};
+ghost use Rattle.config_rom.specs.OneReading.{EachInputIsARomOrRefused, NoInputIsTwoRoms, NoRomIsRefused, EachRomHasGoodBlocksOrAFault, NoGoodBlocksAreRefused, NoBlocksHaveTwoFaults, NoRomHasTwoLists, NoRomHasTwoTexts};
 
 /// A law: each input is the bytes of a ROM or is refused, none is those of two ROMs, and none of a
 /// ROM is refused.
@@ -10,10 +10,11 @@ pub fn one_rom()
 {}
 
 /// A law: the blocks of each ROM have no fault or a first one, not both, and no two first ones. A ROM
-/// has no two lists of blocks.
+/// has no two lists of blocks and no two texts.
 pub fn one_list()
     ensures some { EachRomHasGoodBlocksOrAFault }
     ensures apart { NoGoodBlocksAreRefused }
     ensures fault { NoBlocksHaveTwoFaults }
     ensures list { NoRomHasTwoLists }
+    ensures text { NoRomHasTwoTexts }
 {}

@@ -1,4 +1,4 @@
-use Rattle.std.proofs.Common.{◌≡◌, ◌+◌, sym, ap, subst, arith, Ok, Err, length}
+use Rattle.std.proofs.Common.{◌≡◌, ◌+◌, sym, ap, arith, Ok, Err, length}
 use Rattle.config_rom.specs.declared.fault.RomStop.TheVariants.{Fault}
 use Rattle.config_rom.specs.Block.{AreBlocksOf, IsFirstFault}
 use Rattle.config_rom.specs.Rom.{rom_quads}

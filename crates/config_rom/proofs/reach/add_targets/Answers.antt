@@ -1,7 +1,7 @@
-use Rattle.std.proofs.Common.{◌≡◌, ◌+◌, sym, ap, ◌∙◌, subst, arith, Some, None}
+use Rattle.std.proofs.Common.{◌≡◌, ◌+◌, sym, ◌∙◌, subst, arith}
 use Rattle.std.specs.Prelude.{slice_index}
 use Rattle.config_rom.specs.Layout.{end_of}
-use Rattle.config_rom.specs.Block.{value_of, kind_of}
+use Rattle.config_rom.specs.Block.{value_of}
 use Rattle.config_rom.specs.codings.Marks.{Adds, AddsTargets}
 use Rattle.config_rom.proofs.Reached.{skip_entry, add_entry}
 use Rattle.config_rom.proofs.reach.add_targets.Goals as goal

@@ -1,4 +1,4 @@
-use Rattle.std.proofs.Common.{◌≤◌, ◌<◌, ◌+◌}
+use Rattle.std.proofs.Common.{◌<◌}
 use Rattle.config_rom.specs.codings.Marks.{AddsTargets}
 use Rattle.config_rom.proofs.reach.add_targets.Given as goal
 

@@ -1,4 +1,4 @@
-use Rattle.std.proofs.Common.{◌≡◌, ◌∙◌, sym, ap, subst, arith, None, Some}
+use Rattle.std.proofs.Common.{◌≡◌, sym, subst, arith}
 use Rattle.std.proofs.lemmas.Result.{err_from_is_err_and}
 use Rattle.config_rom.specs.codings.Marks.{Taken}
 use Rattle.config_rom.proofs.Reached.{take_more, first_fault_at, past_end, reached_marked}

@@ -1,5 +1,4 @@
-use Rattle.std.proofs.Common.{◌≡◌, ℕ, List, Ok, sym, ap, ◌∙◌, subst, arith, ◌<◌, None}
-use Rattle.std.specs.List.{All}
+use Rattle.std.proofs.Common.{◌≡◌, Ok, sym, ap, ◌∙◌, subst, arith, None}
 use Rattle.std.proofs.lemmas.Grind.{common_steps}
 use Rattle.quad_lanes.specs.Pairs.{quads_of}
 use Rattle.config_rom.specs.Fault.{rom_fault}

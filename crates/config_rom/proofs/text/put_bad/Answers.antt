@@ -1,4 +1,4 @@
-use Rattle.std.proofs.Common.{◌≡◌, ◌++◌, ◌∙◌, ap, rules, append_assoc, ℕ, List}
+use Rattle.std.proofs.Common.{◌≡◌, ◌++◌, ◌∙◌, ap}
 use Rattle.config_rom.specs.Text.{hex, bad_text}
 use Rattle.config_rom.proofs.Appended.{four}
 use Rattle.std.specs.Prelude.{codes}
