@@ -4,6 +4,7 @@ use crate::cablings::{Question, Shape, answer_to, joined};
 use crate::machines::{Kind, Nodes, Pace};
 use bus_manager::hops;
 use cabling::Cabling;
+use config_rom::{Rom, RomStop, blocks, decode_rom, encode_rom, rom_text};
 use quad_lanes::{QuadList, first_bad_pair, firsts, pairs_of};
 use speed_map::rows;
 use std::alloc::{AllocError, Global};
@@ -28,6 +29,7 @@ pub enum Call {
     Crc16,
     FirstBadPair,
     PlainRead,
+    Rom,
     Cabling(Question, Shape),
     Tick(Pace, Kind),
 }
@@ -66,6 +68,7 @@ impl Call {
             "tick_idle_packed" => Some(Call::Tick(Pace::Idle, Kind::Packed)),
             "tick_busy_field" => Some(Call::Tick(Pace::Busy, Kind::Field)),
             "tick_busy_packed" => Some(Call::Tick(Pace::Busy, Kind::Packed)),
+            "rom" => Some(Call::Rom),
             _ => {
                 let (question, shape) = name.split_once('_')?;
                 Some(Call::Cabling(question_named(question)?, shape_named(shape)?))
@@ -74,9 +77,9 @@ impl Call {
     }
 }
 
-/// What the calls work on.
+/// What a capture gives.
 #[derive(Drop)]
-struct Work {
+struct Bus {
     quads: QuadList,
     tree: BusTree,
     pairs: QuadList,
@@ -84,8 +87,23 @@ struct Work {
     nodes: Nodes,
 }
 
-/// The work that a capture gives, if it is one of a bus tree.
+/// What the calls work on.
+#[derive(Drop)]
+enum Work {
+    Bus(Bus),
+    Rom(Rom),
+}
+
+/// The work that an input gives, if it is one that the call reads.
 fn work_of(alloc: Global, call: Call, bytes: &[u8]) -> Result<Option<Work>, AllocError> {
+    if call == Call::Rom {
+        return Ok(decode_rom(alloc, bytes).ok().map(Work::Rom));
+    }
+    Ok(bus_of(alloc, call, bytes)?.map(Work::Bus))
+}
+
+/// What a capture gives, if it is one of a bus tree.
+fn bus_of(alloc: Global, call: Call, bytes: &[u8]) -> Result<Option<Bus>, AllocError> {
     let Ok(all) = pairs_of(alloc, bytes) else {
         return Ok(None);
     };
@@ -104,7 +122,7 @@ fn work_of(alloc: Global, call: Call, bytes: &[u8]) -> Result<Option<Work>, Allo
         _ => Shape::Line,
     };
     let cabling = joined(alloc, shape)?;
-    Ok(Some(Work {
+    Ok(Some(Bus {
         quads,
         tree,
         pairs,
@@ -113,9 +131,26 @@ fn work_of(alloc: Global, call: Call, bytes: &[u8]) -> Result<Option<Work>, Allo
     }))
 }
 
+/// Decodes a ROM, and tells its blocks and its text. The answer is the length of the text.
+fn told(alloc: Global, rom: &Rom) -> Result<u64, RomStop> {
+    let bytes = encode_rom(alloc, rom)?;
+    let rom = decode_rom(alloc, &bytes)?;
+    let blocks = blocks(alloc, &rom)?;
+    Ok(rom_text(alloc, &rom, &blocks)?.len() as u64)
+}
+
 /// One call. The answer keeps the compiler from leaving it out.
 fn once(alloc: Global, call: Call, work: &Work) -> u64 {
+    match work {
+        Work::Bus(bus) => of_bus(alloc, call, bus),
+        Work::Rom(rom) => told(alloc, rom).unwrap_or(0),
+    }
+}
+
+/// One call over a bus.
+fn of_bus(alloc: Global, call: Call, work: &Bus) -> u64 {
     match call {
+        Call::Rom => 0,
         Call::ReadTree => match read_tree(alloc, work.quads.as_slice()) {
             Ok(tree) => u64::from(tree.len()),
             Err(_) => 0,

@@ -1,8 +1,8 @@
 //! Measures calls of busconf's crates, one call over and over in one process.
 //!
-//! Run with no words it does nothing. With a call's name and a number N it reads a capture from standard
-//! input, makes the call N times in each of eleven batches, and prints the median time of one call as
-//! `ns_per_call median X`. The calls are:
+//! Run with no words it does nothing. With a call's name and a number N it reads a capture from
+//! standard input, makes the call N times in each of eleven batches, and prints the median time of
+//! one call as `ns_per_call median X`. The calls are:
 //!
 //! - `read_tree`: the tree of the capture's first quadlets, made and dropped
 //! - `hops`: the longest path of that tree
@@ -14,8 +14,10 @@
 //! - `tick_busy_field`, `tick_busy_packed`: a tick that takes a row of the step table, and a sixth of the
 //!   reset before it
 //! - `component_line`, `core_line`, `walk_line`: these of 63 nodes in a line, whatever the capture
-//! - the same with `_star`, each node below the first that has one of its sixteen ports left, and with
-//!   `_looped`, each node joined to the next eight
+//! - the same with `_star`, each node below the first that has one of its sixteen ports left, and
+//!   with `_looped`, each node joined to the next eight
+//! - `rom`: a configuration ROM, which stands on standard input in place of a capture, written,
+//!   decoded, and told with its blocks as text
 #![tactic(auto)]
 
 mod cablings;
@@ -52,7 +54,7 @@ fn main(rt: HostRuntime) -> io::Result<ExitCode> {
             Ok(ExitCode::SUCCESS)
         }
         None => {
-            eprintln!(rt; "busconf_bench: standard input is no capture of a bus tree")?;
+            eprintln!(rt; "busconf_bench: standard input is no capture of a bus tree, or no ROM")?;
             Ok(ExitCode::from(1))
         }
     }

@@ -39,8 +39,9 @@ pub record LeadsTo (quads : List ℕ) (directory entry : ℕ) (kind : BlockKind)
   pub kind_is : kind_of (slice_index quads entry) ≡ Some kind
   pub target_is : target ≡ entry + value_of (slice_index quads entry)
 
--- ---- the reached blocks: the least set that holds the root directory and, with each directory, the
--- targets of its entries
+-- ---- the reached blocks
+
+-- the least set that holds the root directory and, with each directory, the targets of its entries
 
 -- a set of blocks, by kind and place
 abbrev pub Blocks : Type 0

@@ -1,8 +1,8 @@
 -- Where the parts of a configuration ROM stand (IEEE Std 1212). Quadlet 0 has the length of the bus
--- information block in its first byte, crc_length in its second, and its CRC in the low sixteen bits.
--- The bus information block follows, and then the root directory.
--- A block, which is a directory or a leaf, begins with a header: its length in the high sixteen bits,
--- its CRC in the low sixteen.
+-- information block in its first byte, crc_length in its second, and its CRC in the low sixteen
+-- bits. The bus information block follows, and then the root directory. A block, which is a
+-- directory or a leaf, begins with a header: its length in the high sixteen bits, its CRC in the
+-- low sixteen.
 use Rattle.std.specs.Prelude.{ℕ, ◌+◌, ◌/◌, ◌%◌, ◌^◌, List, slice_index}
 
 abbrev pub info_len_of : List ℕ → ℕ

@@ -1,5 +1,5 @@
--- Each input has one reading: it is refused, or it is one ROM whose blocks have a first fault or are
--- one list.
+-- Each input has one reading: it is refused, or it is one ROM whose blocks have a first fault or
+-- are one list.
 use Rattle.std.specs.Prelude.{◌≡◌, ◌⊎◌, ℕ, ◌+◌, ◌<◌, All, List, Some}
 use Rattle.config_rom.specs.declared.fault.RomFault.{RomFault}
 use Rattle.config_rom.specs.declared.block.Block.{Block}

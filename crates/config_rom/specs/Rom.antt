@@ -36,8 +36,9 @@ bytes_of (quad ∷ quads) = to_be_bytes w32 quad ++ bytes_of quads
 abbrev pub rom_bytes : Parts → List ℕ
 rom_bytes v = bytes_of (rom_quads v)
 
--- What every ROM keeps: its bus information block and its root directory are whole, the block has at
--- least two quadlets and begins with the name of the bus, "1394", and there are at most 256 quadlets.
+-- What every ROM keeps: its bus information block and its root directory are whole, the block has
+-- at least two quadlets and begins with the name of the bus, "1394", and there are at most 256
+-- quadlets.
 pub record IsRom (v : Parts) : Type 0 where
   pub info_is : length v.info ≡ v.info_len
   pub info_two : 2 ≤ v.info_len

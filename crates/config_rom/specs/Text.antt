@@ -94,7 +94,8 @@ inside_lines quads Leaf at len = []
 abbrev pub block_lines : List ℕ → List Block → List ℕ
 block_lines quads [] = []
 block_lines quads (block ∷ blocks) =
-    block_line block ++ (inside_lines quads block.kind block.at block.len ++ block_lines quads blocks)
+    block_line block
+    ++ (inside_lines quads block.kind block.at block.len ++ block_lines quads blocks)
 
 -- `blocks B`
 unfoldable pub last_line : ℕ → List ℕ

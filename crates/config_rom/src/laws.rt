@@ -9,8 +9,8 @@ pub fn one_rom()
     ensures apart { NoRomIsRefused }
 {}
 
-/// A law: the blocks of each ROM have no fault or a first one, not both, and no two first ones. A ROM
-/// has no two lists of blocks and no two texts.
+/// A law: the blocks of each ROM have no fault or a first one, not both, and no two first ones. A
+/// ROM has no two lists of blocks and no two texts.
 pub fn one_list()
     ensures some { EachRomHasGoodBlocksOrAFault }
     ensures apart { NoGoodBlocksAreRefused }

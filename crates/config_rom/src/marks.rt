@@ -39,8 +39,8 @@ impl PlaceSet {
     }
 }
 
-/// The blocks that are reached, as far as they are known: those below place 256, and the least place
-/// from 256 on.
+/// The blocks that are reached, as far as they are known: those below place 256, and the least
+/// place from 256 on.
 #[derive(Clone, Copy)]
 pub(crate) struct Marks {
     directories: PlaceSet,

@@ -20,8 +20,8 @@ const MAX_QUADS: usize = 256;
 /// The name of the bus, which the bus information block begins with: "1394".
 const BUS_NAME: u32 = 0x3133_3934;
 
-/// A configuration ROM: at most 256 quadlets, with a bus information block and a root directory that
-/// are whole. In a contract it is the value of its parts.
+/// A configuration ROM: at most 256 quadlets, with a bus information block and a root directory
+/// that are whole. In a contract it is the value of its parts.
 #[derive(Debug, Drop)]
 pub struct Rom {
     quads: Vec<u32>,

@@ -7,11 +7,11 @@ use crate::reach::end_of;
 use crate::rom::Rom;
 use topology_map::crc16;
 
-/// Sets the CRC of the root directory, and then that of quadlet 0, to the computed ones. Every other
-/// bit stays. It takes no memory.
+/// Sets the CRC of the root directory, and then that of quadlet 0, to the computed ones. Every
+/// other bit stays. It takes no memory.
 ///
-/// `crc_length` passes the end of no ROM that is to be sealed: [`Rom::info_crc`] answers `Past` where
-/// it does.
+/// `crc_length` passes the end of no ROM that is to be sealed: [`Rom::info_crc`] answers `Past`
+/// where it does.
 pub fn seal(rom: &mut Rom)
     requires { rom.old.crc_length ≤ length (drop 1 (rom_quads rom.old)) }
     ensures { Seals rom.old rom.new }

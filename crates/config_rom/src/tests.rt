@@ -161,8 +161,8 @@ fn seals(rt: HostRuntime) -> Result<(), Fail> {
     Ok(())
 }
 
-// Two entries of the root directory lead to one place, as a directory and as a leaf, and two lead to
-// one leaf.
+// Two entries of the root directory lead to one place, as a directory and as a leaf, and two lead
+// to one leaf.
 #[test]
 fn blocks_are_shared(rt: HostRuntime) -> Result<(), Fail> {
     let quads = [

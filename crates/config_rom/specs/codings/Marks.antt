@@ -1,5 +1,5 @@
--- The places that are marked while the blocks of a ROM are looked for. No public contract cites this
--- file.
+-- The places that are marked while the blocks of a ROM are looked for. No public contract cites
+-- this file.
 use Rattle.std.specs.Prelude.{◌≡◌, ℕ, ◌<◌, ◌≤◌, ◌⊎◌, nat_lt, nat_le, Bool, true, false, if◌then◌else◌, Option, Some, None, List, length, slice_index_or}
 use Rattle.config_rom.specs.declared.fault.RomFault.{RomFault}
 use Rattle.config_rom.specs.declared.block.BlockKind.{BlockKind}
