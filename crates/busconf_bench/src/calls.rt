@@ -187,8 +187,8 @@ fn of_bus(alloc: Global, call: Call, work: &Bus) -> u64 {
 
 /// So many calls.
 fn batch(alloc: Global, call: Call, times: u32, work: &mut Work) -> u64 {
-    if let Call::Tick(pace, kind) = call {
-        return work.nodes.run(pace, kind, times);
+    if let (Call::Tick(pace, kind), Work::Bus(bus)) = (call, &mut *work) {
+        return bus.nodes.run(pace, kind, times);
     }
     let mut answers = 0u64;
     for _ in 0..times {
