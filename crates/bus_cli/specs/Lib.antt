@@ -6,3 +6,4 @@ pub mod Maps
 pub mod OneOutcome
 pub mod OneReading
 pub mod Stop
+pub mod codings

@@ -19,6 +19,12 @@ abbrev pub of_tree : TreeStop → CaptureStop
 of_tree (TreeRefused f) = Fault (Tree f)
 of_tree (NoTreeMemory e) = Memory e
 
+-- if the answer is want of memory, this holds
+abbrev pub IfMemory : {A : Type 0} → Result A CaptureStop → Type 0 → Type 0
+IfMemory (Ok x) P = Unit {0}
+IfMemory (Err (Fault f)) P = Unit {0}
+IfMemory (Err (Memory e)) P = P
+
 -- if the answer is a fault, this holds of it
 abbrev pub IfFault : {A : Type 0} → Result A CaptureStop → (CaptureFault → Type 0) → Type 0
 IfFault (Ok x) P = Unit {0}

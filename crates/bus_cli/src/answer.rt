@@ -1,24 +1,46 @@
-//! The answer to the bytes of an input.
-ghost use Rattle.std.specs.Prelude.{◌≡◌, ◌≤◌, List, IfOk, String};
+//! The answer to what was read.
+ghost use Rattle.std.specs.Prelude.{◌≡◌, ℕ, List, Err, IfOk, OnErr, String};
 ghost use Rattle.std.specs.Global.{Global};
-ghost use Rattle.bus_cli.specs.Form.{Asks};
+ghost use Rattle.bus_cli.specs.Form.{Asks, IsForm};
 ghost use Rattle.bus_cli.specs.Answer.{Answers, Shows};
+ghost use Rattle.bus_cli.specs.codings.Reading.{Reads, IsNoFault, status_with, text_with};
 
-use crate::capture::read_capture;
 use crate::fault::CaptureStop;
 use crate::form::Form;
-use crate::line::fault_line;
+use crate::line::{FaultLine, fault_line};
 use crate::maps::maps_text;
 use crate::status::{REFUSED, VALID};
 use quad_lanes::OutOfMemory;
 use std::alloc::Global;
 use topology_stack::{BusTree, NameList, tree_text};
 
-/// A status and a whole text.
+/// What is written, and so the status.
 #[derive(Drop)]
-pub(crate) struct Answer {
-    pub status: u8,
-    pub text: Vec<u8>,
+pub(crate) enum Answer {
+    /// The text of a tree.
+    Valid(Vec<u8>),
+    /// The line of a fault.
+    Refused(FaultLine),
+}
+
+impl Answer {
+    pub(crate) fn status(&self) -> u8
+        ensures { result ≡ status_with self.now }
+    {
+        match self {
+            Answer::Valid(_) => VALID,
+            Answer::Refused(_) => REFUSED,
+        }
+    }
+
+    pub(crate) fn text(&self) -> &[u8]
+        ensures { result.now ≡ text_with self.now }
+    {
+        match self {
+            Answer::Valid(text) => text,
+            Answer::Refused(line) => line.as_bytes(),
+        }
+    }
 }
 
 /// The text of a tree in a form.
@@ -31,27 +53,32 @@ fn shown_text(alloc: Global, form: Form, tree: &BusTree) -> Result<Vec<u8>, OutO
     }
 }
 
-/// The answer to these bytes in a form.
-pub(crate) fn answer_to(alloc: Global, form: Form, bytes: &[u8]) -> Result<Answer, OutOfMemory>
-    ensures answer { IfOk result (λ answer. (words : List (String Global)) → Asks words form
-        → Answers words bytes.now answer.status answer.text.items) }
-    ensures status { IfOk result (λ answer. answer.status ≤ 1) }
+/// The answer where no tree was found. No memory is taken.
+fn answer_to_stop(stop: CaptureStop) -> Result<Answer, OutOfMemory>
+    ensures answer { IfOk result (λ answer. (words : List (String Global)) (bytes : List ℕ) →
+        IsForm words → Reads bytes (Err stop) →
+        Answers words bytes (status_with answer) (text_with answer)) }
+    ensures memory { OnErr result (IsNoFault (Err stop)) }
 {
-    match read_capture(alloc, bytes) {
-        Ok(tree) => {
-            let text = shown_text(alloc, form, &tree)?;
-            Ok(Answer {
-                status: VALID,
-                text,
-            })
-        }
-        Err(CaptureStop::Fault(fault)) => {
-            let text = fault_line(alloc, fault)?;
-            Ok(Answer {
-                status: REFUSED,
-                text,
-            })
-        }
-        Err(CaptureStop::Memory(error)) => Err(error),
+    match stop {
+        CaptureStop::Fault(fault) => Ok(Answer::Refused(fault_line(fault))),
+        CaptureStop::Memory(error) => Err(error),
+    }
+}
+
+/// The answer to a reading in a form. No memory is taken for a fault.
+pub(crate) fn answer_to(
+    alloc: Global,
+    form: Form,
+    reading: Result<BusTree, CaptureStop>,
+) -> Result<Answer, OutOfMemory>
+    ensures answer { IfOk result (λ answer. (words : List (String Global)) (bytes : List ℕ) →
+        Asks words form → Reads bytes reading →
+        Answers words bytes (status_with answer) (text_with answer)) }
+    ensures memory { OnErr result (IsNoFault reading) }
+{
+    match reading {
+        Ok(tree) => Ok(Answer::Valid(shown_text(alloc, form, &tree)?)),
+        Err(stop) => answer_to_stop(stop),
     }
 }

@@ -5,14 +5,17 @@ mod answer;
 mod capture;
 mod fault;
 mod form;
+mod input;
 mod laws;
 mod line;
 mod maps;
+mod reader;
 mod status;
 mod top;
 
 pub use fault::CaptureFault;
 pub use form::{Form, USAGE};
+pub use input::MAX_INPUT;
 pub use laws::{one_outcome, one_reading};
 pub use status::{NO_FORM, NO_MEMORY, READ_FAULT, REFUSED, TOO_LONG, VALID, WRITE_FAULT};
-pub use top::{MAX_INPUT, bus_main};
+pub use top::bus_main;

@@ -3,18 +3,18 @@ ghost use Rattle.std.specs.Prelude.{◌≡◌, ◌≢◌, ℕ, ◌≤◌, ◌⊎
 ghost use Rattle.std.specs.Io.KnownBytes.{Appends, IsAtEnd};
 ghost use Rattle.io_edges.specs.Faults.{Rose};
 ghost use Rattle.io_edges.specs.Told.{AppendsStart, IfTold, TookOver};
-ghost use Rattle.bus_cli.specs.Form.{IsForm};
+ghost use Rattle.bus_cli.specs.Form.{Asks, IsForm};
+ghost use Rattle.topology_stack.specs.Tree.{Tree};
+ghost use Rattle.bus_cli.specs.Capture.{Spells};
 ghost use Rattle.bus_cli.specs.Answer.{Answers};
 
 use crate::answer::answer_to;
 use crate::form::Form;
+use crate::input::read_input;
 use crate::laws::one_outcome;
 use crate::status::{NO_FORM, NO_MEMORY, READ_FAULT, TOO_LONG, WRITE_FAULT};
-use io_edges::{ReadStop, Sink, Source, read_all, write_whole};
+use io_edges::{ReadStop, Sink, Source, write_whole};
 use std::alloc::Global;
-
-/// The most bytes of an input.
-pub const MAX_INPUT: usize = 1_048_576;
 
 /// Does what the words after the program's name ask for: reads the input from `source`, writes the
 /// text or the line of the input's fault to `sink`, and answers the exit status.
@@ -26,7 +26,7 @@ pub const MAX_INPUT: usize = 1_048_576;
 /// | 2 | the words are none of the forms; nothing was read or written |
 /// | 3 | the source failed; nothing was written |
 /// | 4 | the sink failed; the first bytes of the text or of the line were written, or none |
-/// | 5 | there was no memory; nothing was written |
+/// | 5 | there was no memory; nothing was written; with `read` the input is valid |
 /// | 6 | the input has more than 1,048,576 bytes; nothing was written |
 ///
 /// The words are judged first, without memory; then the input is read to its end; then it is
@@ -52,6 +52,10 @@ pub fn bus_main<S: Source, K: Sink>(
     ensures write_fault { result ≡ 4 → Rose (K.faults sink.old) (K.faults sink.new) }
     ensures too_long { IfTold (S.left source.old) (S.left source.new) (λ old new.
         (result ≡ 6) ↔ TookOver 1048576 old new) }
+
+    // With `read`, memory is taken only once the input was read to its end and is valid.
+    ensures memory { result ≡ 5 → Asks words.now Form.Read → IsAtEnd (S.left source.new)
+        × IfSome (S.left source.old) (λ bytes. (t : Tree) × Spells bytes t) }
 
     // What is left alone, or written in part.
     ensures unread { result ≡ 2 → source.new ≡ source.old }
@@ -79,17 +83,17 @@ pub fn bus_main<S: Source, K: Sink>(
     let Some(form) = Form::of_words(words) else {
         return NO_FORM;
     };
-    let bytes = match read_all(alloc, source, MAX_INPUT) {
-        Ok(bytes) => bytes,
+    let reading = match read_input(alloc, form, source) {
+        Ok(reading) => reading,
         Err(ReadStop::ReadFault) => return READ_FAULT,
         Err(ReadStop::TooLong) => return TOO_LONG,
         Err(ReadStop::Memory(_)) => return NO_MEMORY,
     };
-    let Ok(answer) = answer_to(alloc, form, &bytes) else {
+    let Ok(answer) = answer_to(alloc, form, reading) else {
         return NO_MEMORY;
     };
-    match write_whole(sink, &answer.text) {
-        Ok(()) => answer.status,
+    match write_whole(sink, answer.text()) {
+        Ok(()) => answer.status(),
         Err(_) => WRITE_FAULT,
     }
 }

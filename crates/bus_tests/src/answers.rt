@@ -1,6 +1,6 @@
 //! What `read` answers to captures, valid and not.
 
-use crate::inputs::{bytes_of, capture_of, read};
+use crate::inputs::{PIECES, bytes_of, capture_of, read};
 use std::alloc::{AllocError, Global};
 use std::test::Fail;
 
@@ -46,9 +46,12 @@ fn trees(rt: HostRuntime) -> Result<(), Fail> {
             b"node 0 link 1 gap 63 speed 3 contender 0 power 0 initiated 0 ports . . .\nnodes 1 root 0 irm none\n",
         ),
     ] {
-        let (status, sink) = read(rt.alloc(), capture_of(rt.alloc(), packets)?)?;
-        assert_eq!(rt; status, 0, "{name}");
-        assert_eq!(rt; sink.written(), text, "{name}");
+        let bytes = capture_of(rt.alloc(), packets)?;
+        for piece in PIECES {
+            let (status, sink) = read(rt.alloc(), &bytes, piece)?;
+            assert_eq!(rt; status, 0, "{name}");
+            assert_eq!(rt; sink.written(), text, "{name}");
+        }
     }
     Ok(())
 }
@@ -76,9 +79,12 @@ fn refused_lists(rt: HostRuntime) -> Result<(), Fail> {
             b"refused pair 2 TreesLeft found 2 wanted 1\n",
         ),
     ] {
-        let (status, sink) = read(rt.alloc(), capture_of(rt.alloc(), packets)?)?;
-        assert_eq!(rt; status, 1);
-        assert_eq!(rt; sink.written(), line);
+        let bytes = capture_of(rt.alloc(), packets)?;
+        for piece in PIECES {
+            let (status, sink) = read(rt.alloc(), &bytes, piece)?;
+            assert_eq!(rt; status, 1);
+            assert_eq!(rt; sink.written(), line);
+        }
     }
     Ok(())
 }
@@ -119,9 +125,11 @@ fn refused_bytes(rt: HostRuntime) -> Result<(), Fail> {
     ] {
         let mut bytes = bytes_of(rt.alloc(), quads)?;
         bytes.truncate(bytes.len().saturating_sub(cut));
-        let (status, sink) = read(rt.alloc(), bytes)?;
-        assert_eq!(rt; status, 1, "{name}");
-        assert_eq!(rt; sink.written(), line, "{name}");
+        for piece in PIECES {
+            let (status, sink) = read(rt.alloc(), &bytes, piece)?;
+            assert_eq!(rt; status, 1, "{name}");
+            assert_eq!(rt; sink.written(), line, "{name}");
+        }
     }
     Ok(())
 }
@@ -139,14 +147,14 @@ fn line_of_62(alloc: Global) -> Result<Vec<u32>, AllocError> {
 fn the_most_nodes(rt: HostRuntime) -> Result<(), Fail> {
     let mut packets = line_of_62(rt.alloc())?;
     packets.push(0xbe7f_80d4)?;
-    let (status, sink) = read(rt.alloc(), capture_of(rt.alloc(), &packets)?)?;
+    let (status, sink) = read(rt.alloc(), &capture_of(rt.alloc(), &packets)?, 8)?;
     assert_eq!(rt; status, 0);
     assert!(rt; sink.written().ends_with(b"\nnodes 63 root 62 irm none\n"));
 
     let mut packets = line_of_62(rt.alloc())?;
     packets.push(0xbe7f_80e4)?;
     packets.push(0xbf7f_80d4)?;
-    let (status, sink) = read(rt.alloc(), capture_of(rt.alloc(), &packets)?)?;
+    let (status, sink) = read(rt.alloc(), &capture_of(rt.alloc(), &packets)?, 8)?;
     assert_eq!(rt; status, 1);
     assert_eq!(rt; sink.written(), b"refused pair 63 TooMany\n".as_slice());
     Ok(())

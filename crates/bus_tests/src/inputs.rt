@@ -1,7 +1,9 @@
 //! Words and captures to run the top call on.
 
+ghost use Rattle.std.specs.Prelude.{◌<◌};
+
 use bus_cli::bus_main;
-use io_edges::{MemSink, SureSource};
+use io_edges::{MemSink, MemSource, SureSource};
 use std::alloc::{AllocError, Global};
 
 /// The words of the program.
@@ -41,7 +43,16 @@ pub fn answer(alloc: Global, form: &str, bytes: Vec<u8>) -> Result<(u8, MemSink)
     Ok((status, sink))
 }
 
-/// The status of `read` on these bytes, and the sink with what was written.
-pub fn read(alloc: Global, bytes: Vec<u8>) -> Result<(u8, MemSink), AllocError> {
-    answer(alloc, "read", bytes)
+/// The most bytes that the source gives at a time, by which `read` is tried.
+pub const PIECES: [usize; 5] = [1, 3, 7, 8, 4096];
+
+/// The status of `read` on these bytes, given in pieces, and the sink with what was written.
+pub fn read(alloc: Global, bytes: &[u8], piece: usize) -> Result<(u8, MemSink), AllocError>
+    requires { 0 < piece }
+{
+    let words = words(alloc, &["read"])?;
+    let mut source = MemSource::new(bytes.to_vec(alloc)?, Vec::new(alloc), piece);
+    let mut sink = MemSink::new(alloc, 10_000, Vec::new(alloc), 10_000)?;
+    let status = bus_main(alloc, &words, &mut source, &mut sink);
+    Ok((status, sink))
 }

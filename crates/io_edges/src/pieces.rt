@@ -22,7 +22,7 @@ pub fn read_pieces<S: Source, T: Taker>(
     requires { limit ≤ 1048576 }
     ensures all { OnOk result ((before : List ℕ) → T.stands_for taker.old before →
         (bytes : List ℕ) × T.stands_for taker.new (before ++ bytes)
-        × AreLeft (S.left source.old) bytes) }
+        × AreLeft (S.left source.old) bytes × (length bytes ≤ limit)) }
     ensures end { OnOk result (IsAtEnd (S.left source.new)) }
 
     // When each refusal comes, and what is left then.

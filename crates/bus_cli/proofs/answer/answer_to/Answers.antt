@@ -1,21 +1,18 @@
-use Rattle.std.proofs.Common.{refl, ap, ◌∙◌}
-use Rattle.bus_cli.specs.declared.fault.CaptureFault.{CaptureFault}
-use Rattle.bus_cli.specs.Answer.{shown, refused}
-use Rattle.bus_cli.specs.Line.{fault_line}
+use Rattle.std.proofs.Common.{Result, refl, subst}
+use Rattle.topology_stack.specs.Tree.{Tree}
+use Rattle.bus_cli.specs.declared.fault.CaptureStop.{CaptureStop}
+use Rattle.bus_cli.specs.Answer.{shown}
+use Rattle.bus_cli.specs.codings.Reading.{Reads}
+use Rattle.bus_cli.proofs.Ends.{stopped}
 use Rattle.bus_cli.proofs.answer.answer_to.Goals as goal
 
-pub returns-in_ok-text-in-Ok-clause-answer : goal.returns-in_ok-text-in-Ok-clause-answer
-returns-in_ok-text-in-Ok-clause-answer c = λ words asks. record {
+pub returns-in_ok-shown_text-in-Ok-clause-answer : goal.returns-in_ok-shown_text-in-Ok-clause-answer
+returns-in_ok-shown_text-in-Ok-clause-answer c = λ words bytes asks reads. record {
   outcome = shown c.args.form c.in-Ok.tree;
-  has = (asks, c.in-Ok.ensures.tree);
+  has = (asks, subst (λ (r : Result Tree CaptureStop). Reads bytes r) c.in-Ok.is reads);
   status_is = refl;
-  text_is = c.in_ok-text-in-Ok.ensures;
+  text_is = c.in_ok-shown_text-in-Ok.ensures;
 }
 
-pub returns-in_ok-text-in-Err-Fault-clause-answer : goal.returns-in_ok-text-in-Err-Fault-clause-answer
-returns-in_ok-text-in-Err-Fault-clause-answer c = λ words asks. record {
-  outcome = refused c.in-Err-Fault.fault;
-  has = ((c.args.form, asks), (rw c.in-Err-Fault.field-0-is at c.in-Err-Fault.ensures.fault));
-  status_is = refl;
-  text_is = c.in_ok-text-in-Err-Fault.ensures ∙ ap (λ (f : CaptureFault). fault_line f) c.in-Err-Fault.fault-is;
-}
+pub returns-in-Err-clause-answer : goal.returns-in-Err-clause-answer
+returns-in-Err-clause-answer c = stopped c.args.form c.args.reading c.in-Err.stop c.answer_to_stop.result c.in-Err.is c.answer_to_stop.ensures.answer

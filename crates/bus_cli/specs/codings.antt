@@ -1,0 +1,3 @@
+-- How a capture is taken piece by piece. No public contract cites a file of this folder.
+pub mod Pieces
+pub mod Reading

@@ -1,0 +1,35 @@
+-- What reading an input may answer. No public contract cites this file.
+use Rattle.std.specs.Prelude.{ℕ, List, Result, Ok, Err}
+use Rattle.topology_stack.specs.Tree.{Tree}
+use Rattle.bus_cli.specs.declared.answer.Answer.{Answer}
+use Rattle.bus_cli.specs.declared.answer.Answer.TheVariants.{Valid, Refused}
+use Rattle.bus_cli.specs.declared.fault.CaptureStop.{CaptureStop}
+use Rattle.bus_cli.specs.declared.fault.CaptureStop.TheVariants.{Fault, Memory}
+use Rattle.bus_cli.specs.Capture.{Spells, CaptureRefused}
+
+-- the bytes spell the tree or have the fault; of want of memory nothing is said
+abbrev pub Reads : List ℕ → Result Tree CaptureStop → Type 0
+Reads bytes (Ok t) = Spells bytes t
+Reads bytes (Err (Fault f)) = CaptureRefused bytes f
+Reads bytes (Err (Memory e)) = Unit {0}
+
+-- want of memory comes only where the bytes spell a tree
+abbrev pub SparesMemory : List ℕ → Result Tree CaptureStop → Type 0
+SparesMemory bytes (Ok t) = Unit {0}
+SparesMemory bytes (Err (Fault f)) = Unit {0}
+SparesMemory bytes (Err (Memory e)) = (t : Tree) × Spells bytes t
+
+-- no fault was found
+abbrev pub IsNoFault : Result Tree CaptureStop → Type 0
+IsNoFault (Ok t) = Unit {0}
+IsNoFault (Err (Fault f)) = ⊥
+IsNoFault (Err (Memory e)) = Unit {0}
+
+-- the status and the text of an answer
+abbrev pub status_with : Answer → ℕ
+status_with (Valid text) = 0
+status_with (Refused line) = 1
+
+abbrev pub text_with : Answer → List ℕ
+text_with (Valid text) = text.items
+text_with (Refused line) = line
