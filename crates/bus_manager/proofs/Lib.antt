@@ -1,2 +1,3 @@
 pub mod Longest
 pub mod Waiting
+pub mod Routes

@@ -9,8 +9,8 @@ use Rattle.resource_manager.specs.Access.{answer_of, after}
 use Rattle.bus_manager.specs.declared.election.Bid.{Bid}
 use Rattle.bus_manager.specs.declared.election.Bid.TheVariants.{Won, Lost}
 
--- the lock by which a node tries to become bus manager: compare_swap puts its ID into BUS_MANAGER_ID
--- where that holds 0x3F
+-- the lock by which a node tries to become bus manager: compare_swap puts its ID into
+-- BUS_MANAGER_ID where that holds 0x3F
 abbrev pub lock_for : ℕ → Access
 lock_for id = Lock 0x21C 2 0x3F id
 

@@ -1,6 +1,7 @@
 -- Paths through a bus tree, and the number of cables on the longest one.
-use Rattle.std.specs.Prelude.{◌≡◌, ℕ, zero, suc, ◌+◌, ◌≤◌, ◌⊎◌}
-use Rattle.topology_stack.specs.Tree.{Tree, branch, Slots, no_more, absent, unplugged, up, down}
+use Rattle.std.specs.Prelude.{◌≡◌, ℕ, zero, suc, ◌+◌, ◌<◌, ◌≤◌, ◌⊎◌, List, length}
+use Rattle.topology_stack.specs.Tree.{Tree, branch, Slots, no_more, absent, unplugged, up, down, walk, IsBusTree}
+use Rattle.speed_map.specs.Path.{IsPath as IsNodePath}
 
 -- a child below one of these slots
 abbrev pub SomeChild : (Tree → Type 0) → Slots → Type 0
@@ -42,3 +43,19 @@ abbrev mutual
 pub record IsHops (t : Tree) (hops : ℕ) : Type 0 where
   pub path : IsPath hops t
   pub longest : (k : ℕ) → IsPath k t → k ≤ hops
+
+-- The hops are those of a longest path from node to node: as many nodes stand behind its first as
+-- cables are on it, and no path between two nodes of the bus has more.
+pub record IsLongestPath (t : Tree) (hops : ℕ) : Type 0 where
+  pub from : ℕ
+  pub to : ℕ
+  pub ids : List ℕ
+  pub there : from < length (walk t)
+  pub path : IsNodePath t from to ids
+  pub long : length ids ≡ hops
+  pub longest :
+      (a b : ℕ) (others : List ℕ) → a < length (walk t) → IsNodePath t a b others →
+      length others ≤ hops
+
+abbrev pub HopsAreOfNodePaths : Type 0
+HopsAreOfNodePaths = (t : Tree) (hops : ℕ) → IsBusTree t → IsHops t hops → IsLongestPath t hops

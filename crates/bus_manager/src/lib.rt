@@ -11,5 +11,5 @@ mod tests;
 
 pub use election::{Bid, attempt};
 pub use gap::gap_for;
-pub use paths::hops;
+pub use paths::{hops, hops_are_of_node_paths};
 pub use plan::plan_config;

@@ -1,7 +1,7 @@
 //! The longest path of a bus.
 ghost use Rattle.std.specs.Prelude.{◌≡◌, ◌+◌, ◌≤◌, ◌<◌, [], length, All, slice_get, IsSomeAnd};
 ghost use Rattle.topology_stack.specs.Tree.{walk};
-ghost use Rattle.bus_manager.specs.Hops.{IsHops};
+ghost use Rattle.bus_manager.specs.Hops.{IsHops, HopsAreOfNodePaths};
 ghost use Rattle.bus_manager.specs.codings.Reach.{above, with_child};
 
 use arrayvec::ArrayVec;
@@ -58,3 +58,9 @@ pub fn hops(tree: &BusTree) -> u8
     }
     waiting[0].longest
 }
+
+/// A law: the hops of a bus are the cables of a longest path from node to node, which has as many
+/// nodes behind its first. So hops and the paths of a speed map speak of the same paths.
+pub fn hops_are_of_node_paths()
+    ensures { HopsAreOfNodePaths }
+{}

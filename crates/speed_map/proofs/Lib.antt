@@ -1,7 +1,7 @@
-mod Nodes
+pub mod Nodes
 mod Kin
 mod Apart
-mod Facts
+pub mod Facts
 mod Steps
 mod Copied
 pub mod Unique

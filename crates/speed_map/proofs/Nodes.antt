@@ -44,7 +44,7 @@ slice_get-right (x ∷ xs) ys (suc n) j e =
     let next : suc n + j ≡ suc (n + j) = omega arith in
     rw next (slice_get-right xs ys n j rest)
 
-last : {X : Type 0} (xs : List X) (x : X) (i : ℕ) → i ≡ length xs → slice_get (xs ++ x ∷ []) i ≡ Some x
+pub last : {X : Type 0} (xs : List X) (x : X) (i : ℕ) → i ≡ length xs → slice_get (xs ++ x ∷ []) i ≡ Some x
 last xs x i e = let at : i ≡ length xs + 0 = omega (arith, e) in ap (slice_get (xs ++ x ∷ [])) at ∙ slice_get-right xs (x ∷ []) (length xs) 0 refl
 
 -- ---- where a node stands
