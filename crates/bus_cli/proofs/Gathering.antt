@@ -1,7 +1,7 @@
 -- What a reader of captures knows after one byte more, and at the end.
 use Rattle.std.specs.Prelude.{IfOk, IsErrOf, ◌↔◌}
 use Rattle.io_edges.specs.Told.{IfTold}
-use Rattle.std.proofs.Common.{map, Result, Ok, Err, ◌≡◌, ℕ, zero, suc, ◌+◌, ◌*◌, ◌/◌, ◌%◌, ◌^◌, ◌<◌, ◌≤◌, Bool, true, false, cond, List, [], ◌∷◌, ◌++◌, length, Option, Some, None, ◌⊎◌, inl, inr, refl, sym, ap, subst, ◌∙◌, append_assoc, length-append, arith}
+use Rattle.std.proofs.Common.{map, Result, Ok, Err, ◌≡◌, ℕ, zero, suc, ◌+◌, ◌*◌, ◌%◌, ◌^◌, ◌<◌, ◌≤◌, Bool, true, false, cond, List, [], ◌∷◌, ◌++◌, length, Option, Some, None, inl, inr, refl, sym, ap, subst, ◌∙◌, append_assoc, length-append, arith}
 use Rattle.std.specs.List.{All, position_from}
 use Rattle.std.proofs.lemmas.List.{append-nil, map-append}
 use Rattle.std.proofs.lemmas.List.Elements.{All-append, All-cons, All-nil}
@@ -21,7 +21,7 @@ use Rattle.bus_cli.specs.Stop.{of_tree, IfFault, IfMemory}
 use Rattle.bus_cli.specs.declared.fault.CaptureStop.{CaptureStop}
 use Rattle.bus_cli.specs.declared.fault.CaptureStop.TheVariants.{Fault, Memory}
 use Rattle.bus_cli.specs.codings.Reading.{Reads, SparesMemory}
-use Rattle.bus_cli.specs.codings.Pieces.{Pieces, HoldsExactly, Holds, bad_after}
+use Rattle.bus_cli.specs.codings.Pieces.{Pieces, HoldsExactly, bad_after}
 use Rattle.bus_cli.proofs.Reading.{is_capture}
 
 -- ---- lists of whole quadlets and whole pairs

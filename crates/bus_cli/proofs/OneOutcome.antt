@@ -1,5 +1,5 @@
 -- Words and bytes have one outcome.
-use Rattle.std.proofs.Common.{cond, subst, Option, Some, None, ◌⊎◌, inl, inr, ◌≢◌, Bool, true, false, eqb, ◌≡◌, ℕ, List, [], ◌∷◌, refl, sym, ap, ◌∙◌, arith}
+use Rattle.std.proofs.Common.{cond, subst, Option, Some, None, ◌⊎◌, inl, inr, Bool, true, false, eqb, ◌≡◌, ℕ, List, [], ◌∷◌, refl, sym, ap, ◌∙◌}
 use Rattle.std.specs.Prelude.{String, map, string_bytes}
 use Rattle.std.proofs.lemmas.Bool.{eqb-true}
 use Rattle.std.specs.Global.{Global}
@@ -7,7 +7,7 @@ use Rattle.topology_stack.specs.Tree.{Tree}
 use Rattle.bus_cli.specs.declared.form.Form.{Form}
 use Rattle.bus_cli.specs.declared.form.Form.TheVariants.{Read, Maps}
 use Rattle.bus_cli.specs.declared.fault.CaptureFault.{CaptureFault}
-use Rattle.bus_cli.specs.Form.{word_of, Asks, IsForm}
+use Rattle.bus_cli.specs.Form.{word_of, IsForm}
 use Rattle.bus_cli.specs.Capture.{Spells, CaptureRefused}
 use Rattle.bus_cli.specs.OneReading.{EachCaptureHasATreeOrAFault, NoCaptureHasTwoTrees, NoCaptureHasATreeAndAFault, NoCaptureHasTwoFaults}
 use Rattle.bus_cli.specs.OneOutcome.{EachInputHasAnOutcome, NoInputHasTwoOutcomes}

@@ -1,8 +1,8 @@
 -- A capture has one reading.
-use Rattle.std.proofs.Common.{◌≢◌, ◌⊎◌, inl, inr, Bool, true, false, eqb, refl, ◌/◌, ◌≡◌, ℕ, ◌*◌, ◌%◌, ◌^◌, ◌<◌, List, length, Option, Some, None, sym, ap, subst, ◌∙◌, arith}
+use Rattle.std.proofs.Common.{◌⊎◌, inl, inr, Bool, true, false, eqb, refl, ◌/◌, ◌≡◌, ℕ, ◌%◌, ◌<◌, List, length, Option, Some, None, sym, ap, subst, ◌∙◌, arith}
 use Rattle.std.specs.List.{All}
 use Rattle.std.proofs.lemmas.Bool.{eqb-true, eqb-false}
-use Rattle.quad_lanes.specs.Capture.{capture, CapturesAreWhole, CapturesAreGood, CapturesAreReadBack, GoodPairsAreACapture}
+use Rattle.quad_lanes.specs.Capture.{CapturesAreWhole, CapturesAreGood, CapturesAreReadBack, GoodPairsAreACapture}
 use Rattle.quad_lanes.specs.Pairs.{quads_of, firsts, first_bad_pair}
 use Rattle.topology_stack.specs.declared.fault.TreeFault.{TreeFault}
 use Rattle.topology_stack.specs.Tree.{Tree, IsBusTree, emits}

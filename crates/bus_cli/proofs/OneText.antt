@@ -14,7 +14,7 @@ use Rattle.speed_map.proofs.Unique.{one_path}
 use Rattle.bus_cli.specs.declared.form.Form.{Form}
 use Rattle.bus_cli.specs.declared.form.Form.TheVariants.{Read, Maps}
 use Rattle.bus_cli.specs.Maps.{images_text, IsMapsText}
-use Rattle.bus_cli.specs.Answer.{Outcome, shown, refused, no_form, HasOutcome, Shows, HasText, status_of, Answers}
+use Rattle.bus_cli.specs.Answer.{Outcome, shown, refused, no_form, HasOutcome, Shows, HasText, status_of}
 use Rattle.bus_cli.specs.OneOutcome.{NoInputHasTwoAnswers}
 use Rattle.bus_cli.proofs.OneOutcome.{HasOneReading, outcomes_agree}
 

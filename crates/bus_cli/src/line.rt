@@ -81,8 +81,8 @@ impl FaultLine {
     }
 }
 
-/// The line `refused pair P KIND`, with what was found and wanted where that is known. `kind` has at
-/// most 20 bytes.
+/// The line `refused pair P KIND`, with what was found and wanted where that is known. `kind` has
+/// at most 20 bytes.
 fn refusal_line(pair: usize, kind: &[u8], counts: Option<Counts>) -> FaultLine
     requires { length kind.now ≤ 20 }
     ensures { result ≡ refusal pair kind.now (counts_of counts) }

@@ -97,8 +97,8 @@ impl CaptureReader {
         }
     }
 
-    /// The bus tree that the bytes spell, or their fault. Want of memory comes only where they spell
-    /// a tree.
+    /// The bus tree that the bytes spell, or their fault. Want of memory comes only where they
+    /// spell a tree.
     pub(crate) fn finish(&self, alloc: Global) -> Result<BusTree, CaptureStop>
         ensures tree { IfOk result (λ t. (bytes : List ℕ) → HoldsExactly self.now bytes
             → Spells bytes t) }

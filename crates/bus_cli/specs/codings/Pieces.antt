@@ -1,5 +1,5 @@
 -- For which bytes a reader of captures stands. No public contract cites this file.
-use Rattle.std.specs.Prelude.{◌≡◌, ℕ, ◌*◌, ◌^◌, ◌<◌, ◌≤◌, Bool, All, List, ◌++◌, length, Option, Some, None, if◌then◌else◌}
+use Rattle.std.specs.Prelude.{◌≡◌, ℕ, ◌*◌, ◌^◌, ◌<◌, ◌≤◌, All, List, ◌++◌, length, Option, Some, None, if◌then◌else◌}
 use Rattle.quad_lanes.specs.Pairs.{quads_of, firsts, first_bad_pair, is_bad}
 use Rattle.topology_stack.specs.Reader.{Kept, StandsFor}
 

@@ -1,4 +1,4 @@
-use Rattle.std.proofs.Common.{◌++◌, ◌∷◌, [], refl, subst, sym, ◌∙◌, length-append, arith}
+use Rattle.std.proofs.Common.{◌∷◌, [], refl, subst, sym, ◌∙◌, length-append, arith}
 use Rattle.bus_cli.specs.codings.Pieces.{Pieces, Holds}
 use Rattle.bus_cli.proofs.Gathering.{holds_byte, holds_pair}
 use Rattle.bus_cli.proofs.reader.CaptureReader.push_byte.Goals as goal

@@ -1,4 +1,4 @@
-use Rattle.std.proofs.Common.{◌≡◌, ◌+◌, ◌++◌, List, ℕ, take, ◌∷◌, [], get_or, sym, subst, ap, ◌∙◌, append_assoc, arith}
+use Rattle.std.proofs.Common.{◌++◌, List, ℕ, take, ◌∷◌, [], get_or, sym, subst, ap, ◌∙◌, append_assoc}
 use Rattle.std.proofs.lemmas.List.{take_all, take_more}
 use Rattle.bus_cli.specs.codings.Pieces.{Holds}
 use Rattle.bus_cli.proofs.reader.CaptureReaderTaker.take.Goals as goal
