@@ -1,8 +1,10 @@
 //! A machine that keeps its ports in a few words.
-ghost use Rattle.std.specs.Prelude.{◌≡◌, ◌<◌, length};
+ghost use Rattle.std.specs.Prelude.{◌≡◌, ◌<◌, [], length};
+ghost use Rattle.port_state.specs.Heard.{on_signal};
+ghost use Rattle.port_state.specs.Machine.{node_tick};
 ghost use Rattle.phy_machine.specs.codings.Levels.{plain_level, ports_showing};
 ghost use Rattle.port_state.specs.Valid.{IsValid};
-ghost use Rattle.phy_machine.specs.Node.{with_ports};
+ghost use Rattle.phy_machine.specs.Node.{node_of, with_ports};
 ghost use Rattle.phy_machine.specs.codings.OneProof.{valid_prop};
 ghost use Rattle.phy_machine.specs.PowerOn.{IsSpec, node_of_spec};
 
@@ -75,6 +77,37 @@ fn show(ports: &mut PortWords, port: u8, level: Level)
     }
 }
 
+/// A port hears a signal, with the ports unpacked for it.
+#[inline(never)]
+fn hear(s: &mut NodeState, ports: &mut PortWords, port: u8, signal: Signal, out: &mut Sends)
+    requires valid { IsValid (with_ports ports.old s.old) }
+    requires exists { port < s.old.ports }
+    requires empty { out.old ≡ [] }
+    ensures state { with_ports ports.new s.new
+        ≡ (on_signal port signal (with_ports ports.old s.old)).state }
+    ensures sends { out.new ≡ (on_signal port signal (with_ports ports.old s.old)).sends }
+    ensures valid { IsValid (with_ports ports.new s.new) }
+{
+    s.view.ports = ports.views();
+    node::on_signal(s, port, signal, out);
+    *ports = PortWords::from_views(&s.view.ports);
+}
+
+/// A tick passes, with the ports unpacked for it.
+#[inline(never)]
+fn take_row(s: &mut NodeState, ports: &mut PortWords, coins: &mut Coins, out: &mut Sends)
+    requires valid { IsValid (with_ports ports.old s.old) }
+    requires empty { out.old ≡ [] }
+    ensures node { node_of (with_ports ports.new s.new) coins.new
+        ≡ (node_tick (node_of (with_ports ports.old s.old) coins.old)).node }
+    ensures sends { out.new ≡ (node_tick (node_of (with_ports ports.old s.old) coins.old)).sends }
+    ensures valid { IsValid (with_ports ports.new s.new) }
+{
+    s.view.ports = ports.views();
+    node::tick(s, coins, out);
+    *ports = PortWords::from_views(&s.view.ports);
+}
+
 impl PortMachine for PackedMachine {
     ghost use Rattle.phy_machine.specs.Packed.{packed_node};
 
@@ -83,11 +116,7 @@ impl PortMachine for PackedMachine {
     fn on_signal(&mut self, port: u8, signal: Signal, out: &mut Sends) {
         match plain_level(&self.state, signal) {
             Some(level) => show(&mut self.ports, port, level),
-            None => {
-                self.state.view.ports = self.ports.views();
-                node::on_signal(&mut self.state, port, signal, out);
-                self.ports = PortWords::from_views(&self.state.view.ports);
-            }
+            None => hear(&mut self.state, &mut self.ports, port, signal, out),
         }
     }
 
@@ -95,9 +124,7 @@ impl PortMachine for PackedMachine {
         if idle::idle_for(&self.state, &self.ports) > 0 {
             node::pass(&mut self.state, 1);
         } else {
-            self.state.view.ports = self.ports.views();
-            node::tick(&mut self.state, &mut self.coins, out);
-            self.ports = PortWords::from_views(&self.state.view.ports);
+            take_row(&mut self.state, &mut self.ports, &mut self.coins, out);
         }
     }
 

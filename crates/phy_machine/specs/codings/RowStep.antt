@@ -8,7 +8,7 @@ use Rattle.port_state.specs.Step.{silent_step}
 use Rattle.port_state.specs.Rival.{has_rival}
 use Rattle.port_state.specs.TreeIdentify.{parent_shake_row, contend_row}
 use Rattle.port_state.specs.Tick.{does}
-use Rattle.port_state.specs.Machine.{PortNode, NodeStep, with_coins}
+use Rattle.port_state.specs.Machine.{NodeStep, with_coins}
 use Rattle.bus_reset.specs.ResetStep.{reset_step}
 use Rattle.tree_identify.specs.TreeStep.{tree_step}
 use Rattle.self_identify.specs.IdentStep.{ident_step}
