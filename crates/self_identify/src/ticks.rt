@@ -47,6 +47,7 @@ fn send_packets(quads: &[u32], ports: &[PortView], out: &mut Sends)
 
 /// S4 to A0: the node's ID is the number of the nodes before it. It sends its packets on every
 /// connected port, and Done to its parent.
+#[inline(never)]
 fn name_itself(s: &mut NodeState, out: &mut Sends)
     requires bounded { IsBounded s.old }
     requires empty { out.old ≡ [] }
