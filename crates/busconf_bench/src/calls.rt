@@ -1,6 +1,7 @@
 //! The calls that are measured.
 
 use crate::cablings::{Question, Shape, answer_to, joined};
+use crate::captures::{Way, length_read};
 use crate::machines::{Kind, Nodes, Pace};
 use bus_manager::hops;
 use cabling::Cabling;
@@ -29,6 +30,7 @@ pub enum Call {
     Crc16,
     FirstBadPair,
     PlainRead,
+    Read(Way),
     Rom,
     Cabling(Question, Shape),
     Tick(Pace, Kind),
@@ -68,6 +70,8 @@ impl Call {
             "tick_idle_packed" => Some(Call::Tick(Pace::Idle, Kind::Packed)),
             "tick_busy_field" => Some(Call::Tick(Pace::Busy, Kind::Field)),
             "tick_busy_packed" => Some(Call::Tick(Pace::Busy, Kind::Packed)),
+            "read_whole" => Some(Call::Read(Way::Whole)),
+            "read_stream" => Some(Call::Read(Way::Stream)),
             "rom" => Some(Call::Rom),
             _ => {
                 let (question, shape) = name.split_once('_')?;
@@ -80,6 +84,8 @@ impl Call {
 /// What a capture gives.
 #[derive(Drop)]
 struct Bus {
+    bytes: Vec<u8>,
+    words: Vec<String>,
     quads: QuadList,
     tree: BusTree,
     pairs: QuadList,
@@ -122,7 +128,11 @@ fn bus_of(alloc: Global, call: Call, bytes: &[u8]) -> Result<Option<Bus>, AllocE
         _ => Shape::Line,
     };
     let cabling = joined(alloc, shape)?;
+    let mut words = Vec::new(alloc);
+    words.push(String::from_str(alloc, "read")?)?;
     Ok(Some(Bus {
+        bytes: bytes.to_vec(alloc)?,
+        words,
         quads,
         tree,
         pairs,
@@ -151,6 +161,7 @@ fn once(alloc: Global, call: Call, work: &Work) -> u64 {
 fn of_bus(alloc: Global, call: Call, work: &Bus) -> u64 {
     match call {
         Call::Rom => 0,
+        Call::Read(way) => length_read(alloc, way, &work.words, &work.bytes),
         Call::ReadTree => match read_tree(alloc, work.quads.as_slice()) {
             Ok(tree) => u64::from(tree.len()),
             Err(_) => 0,

@@ -5,6 +5,8 @@
 //! one call as `ns_per_call median X`. The calls are:
 //!
 //! - `read_tree`: the tree of the capture's first quadlets, made and dropped
+//! - `read_whole`, `read_stream`: the capture read from memory and its text written to memory, the whole
+//!   capture first or as the program takes it, in pieces
 //! - `hops`: the longest path of that tree
 //! - `rows`: the rows of its speed map
 //! - `crc16`: the CRC of the first quadlets
@@ -22,6 +24,7 @@
 
 mod cablings;
 mod calls;
+mod captures;
 mod machines;
 
 use calls::{Call, measured};
