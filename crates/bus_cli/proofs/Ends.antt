@@ -1,7 +1,8 @@
 -- How the top call ends.
-use Rattle.std.proofs.Common.{Result, Ok, Err, ◌≡◌, ℕ, ◌≤◌, ◌⊎◌, inl, List, length, Option, Some, None, sym, subst}
+use Rattle.std.proofs.Common.{Result, Ok, Err, ◌≡◌, refl, ℕ, ◌≤◌, ◌⊎◌, inl, List, [], length, Option, Some, None, sym, subst, ◌∙◌}
 use Rattle.std.specs.Io.KnownBytes.{Appends}
 use Rattle.std.specs.Prelude.{String, IfOk, IfSome}
+use Rattle.std.proofs.KnownBytes.{Appends-nil}
 use Rattle.std.specs.declared.alloc.AllocError.{AllocError}
 use Rattle.std.specs.Global.{Global}
 use Rattle.io_edges.specs.Told.{AppendsStart}
@@ -10,10 +11,11 @@ use Rattle.bus_cli.specs.declared.fault.CaptureStop.{CaptureStop}
 use Rattle.bus_cli.specs.declared.fault.CaptureStop.TheVariants.{Fault, Memory}
 use Rattle.bus_cli.specs.Capture.{Spells}
 use Rattle.bus_cli.specs.declared.answer.Answer.{Answer}
-use Rattle.bus_cli.specs.declared.form.Form.{Form}
-use Rattle.bus_cli.specs.Form.{Asks, IsForm}
+use Rattle.bus_cli.specs.declared.form.Form.TheVariants.{Capture, Rom}
+use Rattle.bus_cli.specs.declared.form.CaptureForm.{CaptureForm}
+use Rattle.bus_cli.specs.Form.{Asks, AsksCapture, IsForm}
 use Rattle.bus_cli.specs.codings.Reading.{Reads, SparesMemory, IsNoFault, status_with, text_with}
-use Rattle.bus_cli.specs.Answer.{Answers}
+use Rattle.bus_cli.specs.Answer.{Answers, Outcome, shown, refused, rom, rom_refused, no_form, HasOutcome, HasText, status_of}
 use Rattle.bus_cli.specs.OneOutcome.{NoInputHasTwoAnswers}
 
 -- the start of the answer to the bytes that were told was written
@@ -45,19 +47,29 @@ exact_status one words None read text status all answers = tt
 exact_status one words (Some bytes) read text status all answers = λ s x is.
     inl (one words bytes status s text x (subst (λ (b : List ℕ). Answers words b status text) all answers) is).0
 
--- a reading that is no fault, and that takes memory for a tree alone, is that of a tree
-spelled_by : (bytes : List ℕ) (reading : Result Tree CaptureStop) → Reads bytes reading → SparesMemory bytes reading → IsNoFault reading → (t : Tree) × Spells bytes t
-spelled_by bytes (Ok t) reads spares none = (t, reads)
-spelled_by bytes (Err (Fault f)) reads spares none = absurd none
-spelled_by bytes (Err (Memory e)) reads spares none = spares
-
-pub valid_input : (left : Option (List ℕ)) (read : List ℕ) (reading : Result Tree CaptureStop) → IfSome left (λ bytes. read ≡ bytes) → Reads read reading → SparesMemory read reading → IsNoFault reading → IfSome left (λ bytes. (t : Tree) × Spells bytes t)
-valid_input None read reading all reads spares none = tt
-valid_input (Some bytes) read reading all reads spares none = subst (λ (b : List ℕ). (t : Tree) × Spells b t) all (spelled_by read reading reads spares none)
-
 -- what answers a stop answers the reading that stopped
-pub stopped : (form : Form) (reading : Result Tree CaptureStop) (stop : CaptureStop) (r : Result Answer AllocError) → reading ≡ Err stop →
-    IfOk r (λ a. (words : List (String Global)) (bytes : List ℕ) → IsForm words → Reads bytes (Err stop) → Answers words bytes (status_with a) (text_with a)) →
-    IfOk r (λ a. (words : List (String Global)) (bytes : List ℕ) → Asks words form → Reads bytes reading → Answers words bytes (status_with a) (text_with a))
+pub stopped : (form : CaptureForm) (reading : Result Tree CaptureStop) (stop : CaptureStop) (r : Result Answer AllocError) → reading ≡ Err stop →
+    IfOk r (λ a. (words : List (String Global)) (bytes : List ℕ) → AsksCapture words → Reads bytes (Err stop) → Answers words bytes (status_with a) (text_with a)) →
+    IfOk r (λ a. (words : List (String Global)) (bytes : List ℕ) → Asks words (Capture form) → Reads bytes reading → Answers words bytes (status_with a) (text_with a))
 stopped form reading stop (Ok a) is h = λ words bytes asks reads. h words bytes (form, asks) (subst (λ (x : Result Tree CaptureStop). Reads bytes x) is reads)
 stopped form reading stop (Err e) is h = tt
+
+-- words that are no form answer no other status and write nothing
+no_form_answer : (words : List (String Global)) (bytes : List ℕ) (o : Outcome) (text : List ℕ) → (IsForm words → ⊥) → HasOutcome words bytes o → HasText o text → (2 ≡ status_of o) × (text ≡ [])
+no_form_answer words bytes (shown form t) text none has is = absurd (none (Capture form, has.0))
+no_form_answer words bytes (refused f) text none has is = absurd (none (Capture has.0.0, has.0.1))
+no_form_answer words bytes (rom v) text none has is = absurd (none (Rom, has.0))
+no_form_answer words bytes (rom_refused f) text none has is = absurd (none (Rom, has.0))
+no_form_answer words bytes no_form text none has is = (refl, is)
+
+-- where no form was asked for, the answer is that
+pub no_form_exact : (words : List (String Global)) (left : Option (List ℕ)) → (IsForm words → ⊥) → IfSome left (λ bytes. (s : ℕ) (x : List ℕ) → Answers words bytes s x → (2 ≡ s) ⊎ (3 ≤ 2))
+no_form_exact words None none = tt
+no_form_exact words (Some bytes) none = λ s x is. let a = no_form_answer words bytes is.outcome x none is.has is.text_is in inl (a.0 ∙ sym is.status_is)
+
+-- where no form was asked for, nothing is what is written
+pub no_form_complete : (words : List (String Global)) (left old : Option (List ℕ)) → (IsForm words → ⊥) → IfSome left (λ bytes. length bytes ≤ 1048576 → (s : ℕ) (x : List ℕ) → Answers words bytes s x → ((2 ≡ s) × Appends old old x) ⊎ (◌≡◌ {A = ℕ} 2 5))
+no_form_complete words None old none = tt
+no_form_complete words (Some bytes) old none = λ few s x is.
+    let a = no_form_answer words bytes is.outcome x none is.has is.text_is in
+    inl (a.0 ∙ sym is.status_is, subst (Appends old old) (sym a.1) (Appends-nil old))

@@ -1,44 +1,76 @@
 -- What is answered to words and bytes: the right-hand side of what `bus_main` promises.
-use Rattle.std.specs.Prelude.{◌≡◌, ℕ, List, [], String}
+use Rattle.std.specs.Prelude.{◌≡◌, ◌⊎◌, ℕ, List, [], String, Some}
 use Rattle.std.specs.Global.{Global}
 use Rattle.topology_stack.specs.Tree.{Tree}
 use Rattle.topology_stack.specs.Text.{tree_text}
-use Rattle.bus_cli.specs.declared.form.Form.{Form}
-use Rattle.bus_cli.specs.declared.form.Form.TheVariants.{Read, Maps}
+use Rattle.config_rom.specs.declared.fault.RomFault.{RomFault}
+use Rattle.config_rom.specs.declared.block.Block.{Block}
+use Rattle.config_rom.specs.Rom.{Parts}
+use Rattle.config_rom.specs.Fault.{rom_fault}
+use Rattle.config_rom.specs.Block.{AreBlocks, BlocksRefused}
+use Rattle.config_rom.specs.Text.{IsRomText}
+use Rattle.config_rom.specs.OneReading.{IsRomOf, HasGoodBlocks}
+use Rattle.bus_cli.specs.declared.form.Form.TheVariants.{Capture, Rom}
+use Rattle.bus_cli.specs.declared.form.CaptureForm.{CaptureForm}
+use Rattle.bus_cli.specs.declared.form.CaptureForm.TheVariants.{Read, Maps}
 use Rattle.bus_cli.specs.declared.fault.CaptureFault.{CaptureFault}
-use Rattle.bus_cli.specs.Form.{Asks, IsForm}
+use Rattle.bus_cli.specs.Form.{Asks, AsksCapture, IsForm}
 use Rattle.bus_cli.specs.Capture.{Spells, CaptureRefused}
-use Rattle.bus_cli.specs.Line.{fault_line}
+use Rattle.bus_cli.specs.Line.{fault_line, rom_line}
 use Rattle.bus_cli.specs.Maps.{IsMapsText}
 
--- What words and bytes come to: a tree that is shown in a form, a fault, or no form at all.
+-- the bytes are those of the ROM, and none of its blocks has a fault
+pub record TellsRom (bytes : List ℕ) (v : Parts) : Type 0 where
+  pub rom : IsRomOf bytes v
+  pub blocks : HasGoodBlocks v
+
+-- the bytes are no ROM for this fault, or they are one whose blocks have it first
+abbrev pub RomRefused : List ℕ → RomFault → Type 0
+RomRefused bytes f =
+    (rom_fault bytes ≡ Some f) ⊎ ((v : Parts) × (IsRomOf bytes v × BlocksRefused v f))
+
+-- What words and bytes come to: a tree that is shown in a form, the fault of a capture, a ROM, the
+-- fault of a ROM, or no form at all.
 pub data Outcome : Type 0 where
-  shown : Form → Tree → Outcome
+  shown : CaptureForm → Tree → Outcome
   refused : CaptureFault → Outcome
+  rom : Parts → Outcome
+  rom_refused : RomFault → Outcome
   no_form : Outcome
 
--- the words ask for the form and the bytes spell the tree; the words ask for some form and the
--- bytes have the fault; or the words are no form
+-- the words ask for what the bytes are read as, or they are no form
 abbrev pub HasOutcome : List (String Global) → List ℕ → Outcome → Type 0
-HasOutcome words bytes (shown form t) = Asks words form × Spells bytes t
-HasOutcome words bytes (refused f) = IsForm words × CaptureRefused bytes f
+HasOutcome words bytes (shown form t) = Asks words (Capture form) × Spells bytes t
+HasOutcome words bytes (refused f) = AsksCapture words × CaptureRefused bytes f
+HasOutcome words bytes (rom v) = Asks words Rom × TellsRom bytes v
+HasOutcome words bytes (rom_refused f) = Asks words Rom × RomRefused bytes f
 HasOutcome words bytes no_form = ¬ IsForm words
 
 -- the exit status that tells it
 abbrev pub status_of : Outcome → ℕ
 status_of (shown form t) = 0
 status_of (refused f) = 1
+status_of (rom v) = 0
+status_of (rom_refused f) = 1
 status_of no_form = 2
 
 -- how a tree is shown: by `read` as its text with no names, by `maps` as its maps with generation 1
-abbrev pub Shows : Form → Tree → List ℕ → Type 0
+abbrev pub Shows : CaptureForm → Tree → List ℕ → Type 0
 Shows Read t text = text ≡ tree_text t []
 Shows Maps t text = IsMapsText 1 t text
+
+-- how a ROM is told: with the blocks that its root directory leads to
+pub record TextOfRom (v : Parts) (text : List ℕ) : Type 0 where
+  pub list : List Block
+  pub are_blocks : AreBlocks v list
+  pub is_text : IsRomText v list text
 
 -- the text of an outcome
 abbrev pub HasText : Outcome → List ℕ → Type 0
 HasText (shown form t) text = Shows form t text
 HasText (refused f) text = text ≡ fault_line f
+HasText (rom v) text = TextOfRom v text
+HasText (rom_refused f) text = text ≡ rom_line f
 HasText no_form text = text ≡ []
 
 -- the status and the text of what the words and the bytes come to

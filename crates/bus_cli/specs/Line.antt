@@ -4,6 +4,8 @@ use Rattle.self_id.specs.declared.fault.GroupFault.TheVariants.{NotSelfId, Wrong
 use Rattle.topology_stack.specs.declared.fault.TreeFault.TheVariants.{Group, Empty, TooFewChildren, TreesLeft, AfterRoot, NoRoot, TooMany}
 use Rattle.bus_cli.specs.declared.fault.CaptureFault.{CaptureFault}
 use Rattle.bus_cli.specs.declared.fault.CaptureFault.TheVariants.{BadLength, BadInverse, Tree}
+use Rattle.config_rom.specs.declared.fault.RomFault.{RomFault}
+use Rattle.config_rom.specs.declared.fault.RomFault.TheVariants.{RomLength, RomTooLong, RomEmpty, NoInfo, Minimal, RomCut, BusName, Outside, SelfTarget}
 use Rattle.bus_cli.specs.declared.line.Counts.{Counts}
 
 -- ` found F wanted W`
@@ -37,3 +39,20 @@ fault_line (Tree (TreesLeft at found wanted)) = refusal at (codes "TreesLeft") (
 fault_line (Tree (AfterRoot at)) = refusal at (codes "AfterRoot") []
 fault_line (Tree (NoRoot at)) = refusal at (codes "NoRoot") []
 fault_line (Tree (TooMany at)) = refusal at (codes "TooMany") []
+
+-- the line of a kind of fault at a quadlet: `refused quadlet Q KIND`
+abbrev pub quadlet_refusal : ℕ → List ℕ → List ℕ
+quadlet_refusal at kind =
+    codes "refused quadlet " ++ (decimal at ++ (codes " " ++ (kind ++ codes "\n")))
+
+-- the line of a ROM's fault
+unfoldable pub rom_line : RomFault → List ℕ
+rom_line (RomLength at) = quadlet_refusal at (codes "RomLength")
+rom_line (RomTooLong at) = quadlet_refusal at (codes "RomTooLong")
+rom_line (RomEmpty at) = quadlet_refusal at (codes "RomEmpty")
+rom_line (NoInfo at) = quadlet_refusal at (codes "NoInfo")
+rom_line (Minimal at) = quadlet_refusal at (codes "Minimal")
+rom_line (RomCut at) = quadlet_refusal at (codes "RomCut")
+rom_line (BusName at found) = quadlet_refusal at (codes "BusName")
+rom_line (Outside at) = quadlet_refusal at (codes "Outside")
+rom_line (SelfTarget at) = quadlet_refusal at (codes "SelfTarget")

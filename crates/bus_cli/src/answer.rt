@@ -1,15 +1,23 @@
 //! The answer to what was read.
-ghost use Rattle.std.specs.Prelude.{◌≡◌, ℕ, List, Err, IfOk, OnErr, String};
+ghost use Rattle.std.specs.Prelude.{◌≡◌, ◌≤◌, ◌↔◌, ℕ, List, length, alloc_error, Err, IfOk, IfSome, OnOk, OnErr, IsErrOf, IsOkUnless, String};
 ghost use Rattle.std.specs.Global.{Global};
-ghost use Rattle.bus_cli.specs.Form.{Asks, IsForm};
+ghost use Rattle.std.specs.Io.KnownBytes.{IsAtEnd};
+ghost use Rattle.io_edges.specs.Faults.{Rose};
+ghost use Rattle.io_edges.specs.Told.{AreLeft, IfTold, TookOver};
+ghost use Rattle.topology_stack.specs.Tree.{Tree};
+ghost use Rattle.bus_cli.specs.Capture.{Spells};
+ghost use Rattle.bus_cli.specs.Form.{Asks, AsksCapture};
 ghost use Rattle.bus_cli.specs.Answer.{Answers, Shows};
 ghost use Rattle.bus_cli.specs.codings.Reading.{Reads, IsNoFault, status_with, text_with};
 
 use crate::fault::CaptureStop;
-use crate::form::Form;
+use crate::form::{CaptureForm, Form};
+use crate::input::{MAX_INPUT, read_input};
 use crate::line::{FaultLine, fault_line};
 use crate::maps::maps_text;
+use crate::rom::answer_to_rom;
 use crate::status::{REFUSED, VALID};
+use io_edges::{ReadStop, Source, read_all};
 use quad_lanes::OutOfMemory;
 use std::alloc::Global;
 use topology_stack::{BusTree, NameList, tree_text};
@@ -44,19 +52,19 @@ impl Answer {
 }
 
 /// The text of a tree in a form.
-fn shown_text(alloc: Global, form: Form, tree: &BusTree) -> Result<Vec<u8>, OutOfMemory>
+fn shown_text(alloc: Global, form: CaptureForm, tree: &BusTree) -> Result<Vec<u8>, OutOfMemory>
     ensures { IfOk result (λ text. Shows form tree.now text.items) }
 {
     match form {
-        Form::Read => tree_text(alloc, tree, &NameList::new(alloc)),
-        Form::Maps => maps_text(alloc, tree, 1),
+        CaptureForm::Read => tree_text(alloc, tree, &NameList::new(alloc)),
+        CaptureForm::Maps => maps_text(alloc, tree, 1),
     }
 }
 
 /// The answer where no tree was found. No memory is taken.
 fn answer_to_stop(stop: CaptureStop) -> Result<Answer, OutOfMemory>
     ensures answer { IfOk result (λ answer. (words : List (String Global)) (bytes : List ℕ) →
-        IsForm words → Reads bytes (Err stop) →
+        AsksCapture words → Reads bytes (Err stop) →
         Answers words bytes (status_with answer) (text_with answer)) }
     ensures memory { OnErr result (IsNoFault (Err stop)) }
 {
@@ -67,18 +75,54 @@ fn answer_to_stop(stop: CaptureStop) -> Result<Answer, OutOfMemory>
 }
 
 /// The answer to a reading in a form. No memory is taken for a fault.
-pub(crate) fn answer_to(
+fn answer_to(
     alloc: Global,
-    form: Form,
+    form: CaptureForm,
     reading: Result<BusTree, CaptureStop>,
 ) -> Result<Answer, OutOfMemory>
     ensures answer { IfOk result (λ answer. (words : List (String Global)) (bytes : List ℕ) →
-        Asks words form → Reads bytes reading →
+        Asks words (Form.Capture form) → Reads bytes reading →
         Answers words bytes (status_with answer) (text_with answer)) }
     ensures memory { OnErr result (IsNoFault reading) }
 {
     match reading {
         Ok(tree) => Ok(Answer::Valid(shown_text(alloc, form, &tree)?)),
         Err(stop) => answer_to_stop(stop),
+    }
+}
+
+/// The answer to what a source gives, in a form: it reads the source to its end.
+pub(crate) fn read_answer<S: Source>(
+    alloc: Global,
+    form: Form,
+    source: &mut S,
+) -> Result<Answer, ReadStop>
+    ensures answer { IfOk result (λ answer. (bytes : List ℕ)
+        × (AreLeft (S.left source.old) bytes
+        × ((words : List (String Global)) → Asks words form →
+        Answers words bytes (status_with answer) (text_with answer)))) }
+    ensures end { OnOk result (IsAtEnd (S.left source.new)) }
+
+    // When each stop comes.
+    ensures fault { IsErrOf result ReadStop.ReadFault →
+        Rose (S.faults source.old) (S.faults source.new) }
+    ensures long { IfTold (S.left source.old) (S.left source.new) (λ old new.
+        IsErrOf result ReadStop.TooLong ↔ TookOver 1048576 old new) }
+    ensures memory { IsErrOf result (ReadStop.Memory alloc_error) →
+        form ≡ Form.Capture CaptureForm.Read → IsAtEnd (S.left source.new)
+        × IfSome (S.left source.old) (λ bytes. (t : Tree) × Spells bytes t) }
+    ensures complete { ¬ Rose (S.faults source.old) (S.faults source.new) →
+        IfSome (S.left source.old) (λ bytes. length bytes ≤ 1048576 →
+        IsOkUnless result (ReadStop.Memory alloc_error)) }
+{
+    match form {
+        Form::Capture(form) => {
+            let reading = read_input(alloc, form, source)?;
+            Ok(answer_to(alloc, form, reading)?)
+        }
+        Form::Rom => {
+            let bytes = read_all(alloc, source, MAX_INPUT)?;
+            Ok(answer_to_rom(alloc, &bytes)?)
+        }
     }
 }

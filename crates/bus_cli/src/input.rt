@@ -7,7 +7,7 @@ ghost use Rattle.bus_cli.specs.codings.Reading.{Reads, SparesMemory};
 
 use crate::capture::read_capture;
 use crate::fault::CaptureStop;
-use crate::form::Form;
+use crate::form::CaptureForm;
 use crate::reader::CaptureReader;
 use io_edges::{ReadStop, Source, read_all, read_pieces};
 use std::alloc::Global;
@@ -20,11 +20,11 @@ pub const MAX_INPUT: usize = 1_048_576;
 /// taken for the tree that it spells and for nothing else.
 pub(crate) fn read_input<S: Source>(
     alloc: Global,
-    form: Form,
+    form: CaptureForm,
     source: &mut S,
 ) -> Result<Result<BusTree, CaptureStop>, ReadStop>
     ensures reading { IfOk result (λ reading. (bytes : List ℕ) × AreLeft (S.left source.old) bytes
-        × Reads bytes reading × (form ≡ Form.Read → SparesMemory bytes reading)) }
+        × Reads bytes reading × (form ≡ CaptureForm.Read → SparesMemory bytes reading)) }
     ensures end { OnOk result (IsAtEnd (S.left source.new)) }
 
     // When each stop comes.
@@ -32,18 +32,18 @@ pub(crate) fn read_input<S: Source>(
         Rose (S.faults source.old) (S.faults source.new) }
     ensures long { IfTold (S.left source.old) (S.left source.new) (λ old new.
         IsErrOf result ReadStop.TooLong ↔ TookOver 1048576 old new) }
-    ensures memory { form ≡ Form.Read → IfErr result (λ stop. stop ≢ ReadStop.Memory alloc_error) }
+    ensures memory { form ≡ CaptureForm.Read → IfErr result (λ stop. stop ≢ ReadStop.Memory alloc_error) }
     ensures complete { ¬ Rose (S.faults source.old) (S.faults source.new) →
         IfSome (S.left source.old) (λ bytes. length bytes ≤ 1048576 →
         IsOkUnless result (ReadStop.Memory alloc_error)) }
 {
     match form {
-        Form::Read => {
+        CaptureForm::Read => {
             let mut reader = CaptureReader::new();
             read_pieces(source, MAX_INPUT, &mut reader)?;
             Ok(reader.finish(alloc))
         }
-        Form::Maps => {
+        CaptureForm::Maps => {
             let bytes = read_all(alloc, source, MAX_INPUT)?;
             Ok(read_capture(alloc, &bytes))
         }

@@ -2,6 +2,7 @@
 ghost use Rattle.bus_cli.specs.OneOutcome.{EachInputHasAnOutcome, NoInputHasTwoOutcomes, NoInputHasTwoAnswers};
 ghost use Rattle.bus_cli.specs.OneReading.{EachCaptureHasATreeOrAFault, NoCaptureHasTwoTrees, NoCaptureHasATreeAndAFault, NoCaptureHasTwoFaults};
 
+use config_rom::{one_list, one_rom};
 use quad_lanes::{capture_is_read_back, good_pairs_are_a_capture};
 use topology_stack::{one_answer, one_tree};
 
@@ -26,4 +27,6 @@ pub fn one_outcome()
     ensures answer { NoInputHasTwoAnswers }
 {
     one_reading();
+    one_rom();
+    one_list();
 }

@@ -10,11 +10,12 @@ mod laws;
 mod line;
 mod maps;
 mod reader;
+mod rom;
 mod status;
 mod top;
 
 pub use fault::CaptureFault;
-pub use form::{Form, USAGE};
+pub use form::{CaptureForm, Form, USAGE};
 pub use input::MAX_INPUT;
 pub use laws::{one_outcome, one_reading};
 pub use status::{NO_FORM, NO_MEMORY, READ_FAULT, REFUSED, TOO_LONG, VALID, WRITE_FAULT};

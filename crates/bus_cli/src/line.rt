@@ -1,9 +1,10 @@
 //! The line of a fault.
 ghost use Rattle.std.specs.Prelude.{◌≡◌, ◌+◌, ◌≤◌, [], ◌++◌, length, decimal};
-ghost use Rattle.bus_cli.specs.Line.{counts_of, refusal, fault_line};
+ghost use Rattle.bus_cli.specs.Line.{counts_of, refusal, fault_line, quadlet_refusal, rom_line};
 
 use crate::fault::CaptureFault;
 use arrayvec::ArrayVec;
+use config_rom::RomFault;
 use itoa::Buffer;
 use self_id::GroupFault;
 use std::marker::Model;
@@ -142,5 +143,37 @@ pub(crate) fn fault_line(fault: CaptureFault) -> FaultLine
         CaptureFault::BadLength { pair } => refusal_line(pair, b"BadLength", None),
         CaptureFault::BadInverse { pair } => refusal_line(pair, b"BadInverse", None),
         CaptureFault::Tree(fault) => tree_line(fault),
+    }
+}
+
+/// The line `refused quadlet Q KIND`. `kind` has at most 20 bytes.
+fn quadlet_line(at: usize, kind: &[u8]) -> FaultLine
+    requires { length kind.now ≤ 20 }
+    ensures { result ≡ quadlet_refusal at kind.now }
+{
+    let mut line = FaultLine::new();
+    line.put(b"refused quadlet ");
+    line.put_number(at);
+    line.put(b" ");
+    line.put(kind);
+    line.put(b"\n");
+    line
+}
+
+/// The line of a ROM's fault.
+#[tactic(auto, unfolding(crate::specs::Line::rom_line))]
+pub(crate) fn rom_line(fault: RomFault) -> FaultLine
+    ensures { result ≡ rom_line fault }
+{
+    match fault {
+        RomFault::RomLength { at } => quadlet_line(at, b"RomLength"),
+        RomFault::RomTooLong { at } => quadlet_line(at, b"RomTooLong"),
+        RomFault::RomEmpty { at } => quadlet_line(at, b"RomEmpty"),
+        RomFault::NoInfo { at } => quadlet_line(at, b"NoInfo"),
+        RomFault::Minimal { at } => quadlet_line(at, b"Minimal"),
+        RomFault::RomCut { at } => quadlet_line(at, b"RomCut"),
+        RomFault::BusName { at, .. } => quadlet_line(at, b"BusName"),
+        RomFault::Outside { at } => quadlet_line(at, b"Outside"),
+        RomFault::SelfTarget { at } => quadlet_line(at, b"SelfTarget"),
     }
 }

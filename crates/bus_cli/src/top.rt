@@ -3,14 +3,14 @@ ghost use Rattle.std.specs.Prelude.{◌≡◌, ◌≢◌, ℕ, ◌≤◌, ◌⊎
 ghost use Rattle.std.specs.Io.KnownBytes.{Appends, IsAtEnd};
 ghost use Rattle.io_edges.specs.Faults.{Rose};
 ghost use Rattle.io_edges.specs.Told.{AppendsStart, IfTold, TookOver};
+ghost use Rattle.bus_cli.specs.declared.form.CaptureForm.{CaptureForm};
 ghost use Rattle.bus_cli.specs.Form.{Asks, IsForm};
 ghost use Rattle.topology_stack.specs.Tree.{Tree};
 ghost use Rattle.bus_cli.specs.Capture.{Spells};
 ghost use Rattle.bus_cli.specs.Answer.{Answers};
 
-use crate::answer::answer_to;
+use crate::answer::read_answer;
 use crate::form::Form;
-use crate::input::read_input;
 use crate::laws::one_outcome;
 use crate::status::{NO_FORM, NO_MEMORY, READ_FAULT, TOO_LONG, WRITE_FAULT};
 use io_edges::{ReadStop, Sink, Source, write_whole};
@@ -54,7 +54,8 @@ pub fn bus_main<S: Source, K: Sink>(
         (result ≡ 6) ↔ TookOver 1048576 old new) }
 
     // With `read`, memory is taken only once the input was read to its end and is valid.
-    ensures memory { result ≡ 5 → Asks words.now Form.Read → IsAtEnd (S.left source.new)
+    ensures memory { result ≡ 5 → Asks words.now (Form.Capture CaptureForm.Read) →
+        IsAtEnd (S.left source.new)
         × IfSome (S.left source.old) (λ bytes. (t : Tree) × Spells bytes t) }
 
     // What is left alone, or written in part.
@@ -83,14 +84,11 @@ pub fn bus_main<S: Source, K: Sink>(
     let Some(form) = Form::of_words(words) else {
         return NO_FORM;
     };
-    let reading = match read_input(alloc, form, source) {
-        Ok(reading) => reading,
+    let answer = match read_answer(alloc, form, source) {
+        Ok(answer) => answer,
         Err(ReadStop::ReadFault) => return READ_FAULT,
         Err(ReadStop::TooLong) => return TOO_LONG,
         Err(ReadStop::Memory(_)) => return NO_MEMORY,
-    };
-    let Ok(answer) = answer_to(alloc, form, reading) else {
-        return NO_MEMORY;
     };
     match write_whole(sink, answer.text()) {
         Ok(()) => answer.status(),

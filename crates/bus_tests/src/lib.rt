@@ -11,3 +11,5 @@ mod hops;
 mod inputs;
 #[cfg(test)]
 mod maps;
+#[cfg(test)]
+mod rom;

@@ -9,5 +9,12 @@ returns c =
       tree = c.one_reading.ensures.tree;
       apart = c.one_reading.ensures.apart;
       fault = c.one_reading.ensures.fault;
+      some_rom = c.one_rom.ensures.some;
+      one_rom = c.one_rom.ensures.rom;
+      rom_apart = c.one_rom.ensures.apart;
+      some_blocks = c.one_list.ensures.some;
+      blocks_apart = c.one_list.ensures.apart;
+      block_fault = c.one_list.ensures.fault;
+      text = c.one_list.ensures.text;
     } in
     record { some = some_outcome one; outcome = outcomes_agree one; answer = answers_agree one }

@@ -1,0 +1,38 @@
+//! The answer to a ROM.
+ghost use Rattle.std.specs.Prelude.{◌≡◌, List, IfOk, String};
+ghost use Rattle.std.specs.Global.{Global};
+ghost use Rattle.config_rom.specs.Rom.{Parts};
+ghost use Rattle.config_rom.specs.Answer.{IfFault};
+ghost use Rattle.bus_cli.specs.declared.form.Form.TheVariants.{Rom};
+ghost use Rattle.bus_cli.specs.Form.{Asks};
+ghost use Rattle.bus_cli.specs.Answer.{Answers, RomRefused, TellsRom, TextOfRom};
+ghost use Rattle.bus_cli.specs.codings.Reading.{status_with, text_with};
+
+use crate::answer::Answer;
+use crate::line::rom_line;
+use config_rom::{RomStop, blocks, decode_rom, rom_text};
+use quad_lanes::OutOfMemory;
+use std::alloc::Global;
+
+/// The text of the ROM with these bytes, or the first fault.
+fn text_of(alloc: Global, bytes: &[u8]) -> Result<Vec<u8>, RomStop>
+    ensures text { IfOk result (λ text.
+        (v : Parts) × (TellsRom bytes.now v × TextOfRom v text.items)) }
+    ensures fault { IfFault result (RomRefused bytes.now) }
+{
+    let rom = decode_rom(alloc, bytes)?;
+    let list = blocks(alloc, &rom)?;
+    Ok(rom_text(alloc, &rom, &list)?)
+}
+
+/// The answer to the bytes of a ROM.
+pub(crate) fn answer_to_rom(alloc: Global, bytes: &[u8]) -> Result<Answer, OutOfMemory>
+    ensures { IfOk result (λ answer. (words : List (String Global)) → Asks words Rom →
+        Answers words bytes.now (status_with answer) (text_with answer)) }
+{
+    match text_of(alloc, bytes) {
+        Ok(text) => Ok(Answer::Valid(text)),
+        Err(RomStop::Fault(fault)) => Ok(Answer::Refused(rom_line(fault))),
+        Err(RomStop::Memory(error)) => Err(error),
+    }
+}
