@@ -8,13 +8,11 @@ use Rattle.std.specs.Global.{Global}
 use Rattle.io_edges.specs.Told.{AppendsStart}
 use Rattle.topology_stack.specs.Tree.{Tree}
 use Rattle.bus_cli.specs.declared.fault.CaptureStop.{CaptureStop}
-use Rattle.bus_cli.specs.declared.fault.CaptureStop.TheVariants.{Fault, Memory}
-use Rattle.bus_cli.specs.Capture.{Spells}
 use Rattle.bus_cli.specs.declared.answer.Answer.{Answer}
 use Rattle.bus_cli.specs.declared.form.Form.TheVariants.{Capture, Rom}
 use Rattle.bus_cli.specs.declared.form.CaptureForm.{CaptureForm}
 use Rattle.bus_cli.specs.Form.{Asks, AsksCapture, IsForm}
-use Rattle.bus_cli.specs.codings.Reading.{Reads, SparesMemory, IsNoFault, status_with, text_with}
+use Rattle.bus_cli.specs.codings.Reading.{Reads, status_with, text_with}
 use Rattle.bus_cli.specs.Answer.{Answers, Outcome, shown, refused, rom, rom_refused, no_form, HasOutcome, HasText, status_of}
 use Rattle.bus_cli.specs.OneOutcome.{NoInputHasTwoAnswers}
 

@@ -14,7 +14,7 @@ use Rattle.config_rom.specs.Fault.{rom_fault}
 use Rattle.config_rom.specs.Block.{BlocksRefused}
 use Rattle.config_rom.specs.OneReading.{IsRomOf, EachInputIsARomOrRefused, NoInputIsTwoRoms, NoRomIsRefused, EachRomHasGoodBlocksOrAFault, NoGoodBlocksAreRefused, NoBlocksHaveTwoFaults, NoRomHasTwoTexts}
 use Rattle.bus_cli.specs.declared.fault.CaptureFault.{CaptureFault}
-use Rattle.bus_cli.specs.Form.{word_of, IsForm}
+use Rattle.bus_cli.specs.Form.{word_of, Asks, IsForm}
 use Rattle.bus_cli.specs.Capture.{Spells, CaptureRefused}
 use Rattle.bus_cli.specs.OneReading.{EachCaptureHasATreeOrAFault, NoCaptureHasTwoTrees, NoCaptureHasATreeAndAFault, NoCaptureHasTwoFaults}
 use Rattle.bus_cli.specs.OneOutcome.{EachInputHasAnOutcome, NoInputHasTwoOutcomes}

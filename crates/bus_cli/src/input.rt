@@ -32,7 +32,8 @@ pub(crate) fn read_input<S: Source>(
         Rose (S.faults source.old) (S.faults source.new) }
     ensures long { IfTold (S.left source.old) (S.left source.new) (λ old new.
         IsErrOf result ReadStop.TooLong ↔ TookOver 1048576 old new) }
-    ensures memory { form ≡ CaptureForm.Read → IfErr result (λ stop. stop ≢ ReadStop.Memory alloc_error) }
+    ensures memory { form ≡ CaptureForm.Read →
+        IfErr result (λ stop. stop ≢ ReadStop.Memory alloc_error) }
     ensures complete { ¬ Rose (S.faults source.old) (S.faults source.new) →
         IfSome (S.left source.old) (λ bytes. length bytes ≤ 1048576 →
         IsOkUnless result (ReadStop.Memory alloc_error)) }
