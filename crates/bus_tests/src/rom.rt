@@ -45,7 +45,12 @@ fn changed(alloc: Global, place: usize, quad: u32, bytes: usize) -> Result<Vec<u
 fn refused_roms(rt: HostRuntime) -> Result<(), Fail> {
     let alloc = rt.alloc();
     for (place, quad, bytes, line) in [
-        (0usize, 0x0404_7a4bu32, 0usize, b"refused quadlet 0 RomEmpty\n".as_slice()),
+        (
+            0usize,
+            0x0404_7a4bu32,
+            0usize,
+            b"refused quadlet 0 RomEmpty\n".as_slice(),
+        ),
         (0, 0x0404_7a4b, 47, b"refused quadlet 11 RomLength\n"),
         (0, 0x0104_7a4b, 48, b"refused quadlet 0 Minimal\n"),
         (0, 0x0004_7a4b, 48, b"refused quadlet 0 NoInfo\n"),
