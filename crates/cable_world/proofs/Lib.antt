@@ -22,6 +22,7 @@ pub mod worked
 pub mod running
 pub mod PhaseFacts
 pub mod Options
+pub mod OneProof
 pub mod StaysReached
 pub mod StaysLawful
 pub mod OneOutcome

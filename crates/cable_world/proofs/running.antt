@@ -7,3 +7,8 @@ pub mod Sending
 pub mod Hearing
 pub mod Lists
 pub mod AllNodes
+pub mod Stepping
+pub mod Whole
+pub mod Start
+pub mod Acting
+pub mod Acts

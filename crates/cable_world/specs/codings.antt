@@ -2,3 +2,5 @@
 pub mod Ages
 pub mod Hearing
 pub mod Steps
+pub mod Parts
+pub mod NodeActs

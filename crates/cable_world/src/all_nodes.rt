@@ -1,5 +1,5 @@
 //! The turn of a world, over its parts.
-ghost use Rattle.std.specs.Prelude.{◌≡◌, ◌==◌, ◌<◌, ◌≤◌, length, map, OnOk, IfOk, All, if◌then◌else◌};
+ghost use Rattle.std.specs.Prelude.{◌≡◌, ◌==◌, ◌+◌, ◌<◌, ◌≤◌, length, map, OnOk, IfOk, All, if◌then◌else◌};
 ghost use Rattle.port_state.specs.Machine.{NodeStep};
 ghost use Rattle.cable_world.specs.Wire.{arrives, stays};
 ghost use Rattle.cabling.specs.Wiring.{ports_of};
@@ -8,6 +8,9 @@ ghost use Rattle.cable_world.specs.Turn.{all_wires_after_sends, last_changes};
 ghost use Rattle.cable_world.specs.codings.Hearing.{inbox_of};
 ghost use Rattle.cable_world.specs.codings.Ages.{AreYoung};
 ghost use Rattle.cable_world.specs.codings.Steps.{turns_of, HasItsPorts};
+ghost use Rattle.cable_world.specs.codings.Parts.{world_record};
+ghost use Rattle.cable_world.specs.Turn.{turn};
+ghost use Rattle.cable_world.specs.Lawful.{IsLawful};
 
 use crate::nodes::turn_node;
 use crate::rows::{ArrivalRow, WireRow};
@@ -33,7 +36,7 @@ pub fn turn_wires(
 
 /// When a list changed last, by its lengths before and after a turn. A list only grows at its end or is
 /// emptied, and doesn't grow again in that turn.
-fn last_change(before: usize, after: usize, turns: u32, last: u32) -> u32
+pub fn last_change(before: usize, after: usize, turns: u32, last: u32) -> u32
     ensures { result ≡ (if before == after then last else turns) }
 {
     if before == after { last } else { turns }
@@ -106,5 +109,28 @@ pub fn turn_nodes<M: PortMachine>(
             &mut wires[node],
         )?;
     }
+    Ok(())
+}
+
+/// The turn of a world after `turns` turns.
+pub fn turn_world<M: PortMachine>(
+    delay: u8,
+    cabling: &Cabling,
+    machines: &mut [M],
+    wires: &mut [WireRow],
+    changed: &mut [u32],
+    turns: u32,
+    arrivals: &mut [ArrivalRow],
+    out: &mut Sends,
+) -> Result<(), OutOfMemory>
+    requires few { turns < 4000000000 }
+    requires lawful { IsLawful (world_record delay cabling.now (map M.record_of machines.old) wires.old changed.old turns) }
+    requires same { map length arrivals.old ≡ map length wires.old }
+    ensures done { OnOk result (world_record delay cabling.now (map M.record_of machines.new) wires.new changed.new (turns + 1)
+        ≡ turn (world_record delay cabling.now (map M.record_of machines.old) wires.old changed.old turns)) }
+    ensures same { OnOk result (map length arrivals.new ≡ map length wires.new) }
+{
+    turn_wires(wires, delay, arrivals)?;
+    turn_nodes(machines, cabling, arrivals, turns + 1, changed, out, wires)?;
     Ok(())
 }

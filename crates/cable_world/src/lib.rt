@@ -7,18 +7,22 @@
 #![tactic(auto)]
 
 mod act;
+mod acting;
 mod all_nodes;
 mod laws;
 mod nodes;
 mod rows;
 mod run;
+mod start;
+mod steps;
 mod wire;
+mod world;
 
 pub use act::{Act, ActStop};
 pub use laws::{
     acts_keep, outcomes_are_one, resets_end, turn_by_number, turn_keeps, turns_add_up,
     worlds_stay_lawful, worlds_stay_reached,
 };
-pub use rows::{ArrivalRow, WireRow};
 pub use run::WorldRun;
-pub use wire::{Arrivals, Travelling, Wire};
+pub use wire::Travelling;
+pub use world::World;

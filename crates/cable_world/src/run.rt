@@ -113,5 +113,5 @@ pub trait WorldRun {
 
     // A world that isn't spent comes of a power-on world by acts, holds and turns, and so is lawful
     // (`worlds_stay_lawful`).
-    ghost reached: { (w : Self) → IsFalse (is_spent w) → IsReached (world w) };
+    ghost reached: { (w : Self) → IsFalse (is_spent w) → ∥ IsReached (world w) ∥₁ };
 }

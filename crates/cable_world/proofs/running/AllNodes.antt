@@ -75,7 +75,7 @@ change-at turns (p ∷ before) (q ∷ after) (b ∷ changed) (suc k) x y c h e f
 
 -- ---- from a table of what arrives to the world
 
-row-of : {A B : Type 0} → (f : A → B) (rows : List (List A)) (k : ℕ) → slice_index_or (map (map f) rows) k [] ≡ map f (slice_index_or rows k [])
+pub row-of : {A B : Type 0} → (f : A → B) (rows : List (List A)) (k : ℕ) → slice_index_or (map (map f) rows) k [] ≡ map f (slice_index_or rows k [])
 row-of f [] k = refl
 row-of f (r ∷ rows) zero = refl
 row-of f (r ∷ rows) (suc k) = row-of f rows k

@@ -1,0 +1,173 @@
+-- An act over the parts of a world: what the nodes and cables of a lawful one give to the code, and what comes of it.
+use Rattle.std.proofs.Common.{◌≡◌, inl, inr, ℕ, suc, ◌<◌, true, List, [], ◌∷◌, map, length, Option, Some, None, is_some, slice_get, slice_index_or, get_or, refl, sym, subst, ◌∙◌, ap, arith}
+use Rattle.std.specs.Option.{IsSomeAnd}
+use Rattle.std.proofs.lemmas.Option.{slice_get_cases}
+use Rattle.std.proofs.Math.Seq.{map-set_same}
+use Rattle.cabling.specs.declared.cable.End.{End}
+use Rattle.cabling.specs.Wiring.{Wiring, HasEnd, IsCabling, far, ports_of}
+use Rattle.cabling.specs.Change.{SameBut, Added, TakenOut}
+use Rattle.cabling.proofs.Ends.{cases_end, with_far, far-same, far-other, still_end, same_but, same_length, same_ports, plugged}
+use Rattle.port_state.specs.Ports.{is_connected}
+use Rattle.port_state.specs.Config.{ConfigPacket, HasSixBits}
+use Rattle.port_state.specs.Machine.{PortNode, NodeStep, node_disturb, node_plugged, node_pulled, node_set_config}
+use Rattle.cable_world.specs.Wire.{Wire, empty_wire}
+use Rattle.cable_world.specs.World.{CableWorld, NodeSet, put}
+use Rattle.cable_world.specs.Turn.{wires_after_sends}
+use Rattle.cable_world.specs.Act.{step_at, with_step, plug, pull_from, pull, change_in_set, configure, note_changes}
+use Rattle.cable_world.specs.Lawful.{IsWellFormed}
+use Rattle.cable_world.specs.codings.NodeActs.{note_both, note_step}
+use Rattle.cable_world.specs.codings.Parts.{world_record}
+use Rattle.cable_world.proofs.Options.{some-at}
+use Rattle.cable_world.proofs.tables.TablesInSteps.{put-lengths, sent-length}
+use Rattle.cable_world.proofs.tables.TablesInActs.{told-formed}
+use Rattle.cable_world.proofs.running.Acting.{told-length, told-lists}
+use Rattle.cable_world.proofs.running.Whole.{put-long}
+
+-- ---- a cabling after two writes
+
+same-items : {X : Type 0} → (d : X) (xs ys : List X) → length xs ≡ length ys → ((i : ℕ) → get_or xs i d ≡ get_or ys i d) → xs ≡ ys
+same-items d [] [] n e = refl
+same-items d [] (y ∷ ys) n e = absurd (omega (arith, n))
+same-items d (x ∷ xs) [] n e = absurd (omega (arith, n))
+same-items d (x ∷ xs) (y ∷ ys) n e = ap (λ z. z ∷ xs) (e 0) ∙ ap (λ zs. y ∷ zs) (same-items d xs ys (omega (arith, n)) (λ i. e (suc i)))
+
+same-wiring : (c d : Wiring) → map length d ≡ map length c → ((e : End) → far c e ≡ far d e) → c ≡ d
+same-wiring c d ports h =
+    same-items [] c d (sym (same_length c d ports)) (λ k.
+    same-items None (ports_of c k) (ports_of d k) (sym (same_ports c d k ports)) (λ p. h (record { node = k; port = p })))
+
+pub written :
+    (c d : Wiring) (a b : End) (v u : Option End) → HasEnd c a → HasEnd c b → SameBut c d a b → far d a ≡ v → far d b ≡ u →
+    d ≡ put b u (put a v c)
+written c d a b v u ha hb same at_a at_b =
+    let made : SameBut c (with_far (with_far c a v) b u) a b = same_but c a b v u ha hb in
+    let hb_then : HasEnd (with_far c a v) b = still_end c a b v hb in
+    same-wiring d (put b u (put a v c)) (made.ports ∙ sym same.ports) (λ e. elim (cases_end e b) [
+      | inl is ↦ ap (far d) is ∙ at_b ∙ sym (ap (far (put b u (put a v c))) is ∙ far-same (with_far c a v) b u hb_then)
+      | inr nb ↦ elim (cases_end e a) [
+        | inl is ↦
+            ap (far d) is ∙ at_a
+            ∙ sym (far-other (with_far c a v) b e u hb_then.node nb ∙ ap (far (with_far c a v)) is ∙ far-same c a v ha)
+        | inr na ↦ same.others e na nb ∙ sym (made.others e na nb)
+      ]
+    ])
+
+-- an end that is there in the new cabling was there
+pub was-there : (c d : Wiring) (a b e : End) → SameBut c d a b → HasEnd d e → HasEnd c e
+was-there c d a b e same h = record {
+  node = omega (arith, h.node, same_length c d same.ports);
+  port = omega (arith, h.port, same_ports c d e.node same.ports);
+}
+
+pub added-is : (c d : Wiring) (a b : End) → Added c d a b → d ≡ put b (Some a) (put a (Some b) c)
+added-is c d a b h =
+    written c d a b (Some b) (Some a) (was-there c d a b a h.others (plugged d a b h.joined)) (was-there c d a b b h.others (plugged d b a h.back))
+    h.others h.joined h.back
+
+pub taken-is : (c d : Wiring) (a b : End) → IsCabling c → TakenOut c d a b → d ≡ put b None (put a None c)
+taken-is c d a b is h =
+    written c d a b None None (plugged c a b h.joined) (plugged c b a (is.both_ways a b h.joined)) h.others h.free_a h.free_b
+
+-- ---- a node at an end
+
+pub node-ready :
+    (w : CableWorld) (end : End) (far_is : Option End) (rows : List (List Wire)) → IsWellFormed w → HasEnd w.cabling end →
+    far w.cabling end ≡ far_is →
+    length (slice_index_or rows end.node []) ≡ length (slice_index_or w.wires end.node []) →
+    IsSomeAnd (slice_get w.nodes end.node) (λ x. (length (slice_index_or rows end.node []) ≡ x.state.ports) × (end.port < x.state.ports)
+    × (is_connected x.state.view.ports end.port ≡ is_some far_is))
+node-ready w end far_is rows f has there long = elim (slice_get_cases w.nodes end.node).1 [
+  | inl at ↦
+      let fits = f.nodes end.node at.0 at.2 in
+      some-at _ at.0 _ at.2 (long ∙ fits.wires, omega (arith, has.port, fits.ports), fits.connected end.port ∙ ap is_some there)
+  | inr past ↦ absurd (omega (arith, past.0, has.node, f.count))
+]
+
+pub row-ready :
+    (w : CableWorld) (k : ℕ) → IsWellFormed w → k < length w.nodes →
+    IsSomeAnd (slice_get w.nodes k) (λ x. length (slice_index_or w.wires k []) ≡ x.state.ports)
+row-ready w k f inside = elim (slice_get_cases w.nodes k).1 [
+  | inl at ↦ some-at _ at.0 _ at.2 (f.nodes k at.0 at.2).wires
+  | inr past ↦ absurd (omega (arith, past.0, inside))
+]
+
+pub cleared-length :
+    (rows : List (List Wire)) (a b : End) (k : ℕ) →
+    length (slice_index_or (put b empty_wire (put a empty_wire rows)) k []) ≡ length (slice_index_or rows k [])
+cleared-length rows a b k = put-lengths (put a empty_wire rows) b empty_wire k ∙ put-lengths rows a empty_wire k
+
+-- ---- rows stay as long
+
+step-long : (k : ℕ) (step : PortNode → NodeStep) (w : CableWorld) → map length (with_step k step w).wires ≡ map length w.wires
+step-long k step w = go (slice_get w.nodes k)
+  where
+    go : (o : Option PortNode) → map length (step_at o k step w).wires ≡ map length w.wires
+    go None = refl
+    go (Some x) =
+        let row = slice_index_or w.wires k [] in
+        map-set_same length w.wires k (wires_after_sends 0 (step x).sends row) [] (sent-length 0 (step x).sends row)
+
+pub note-long : (k : ℕ) (step : PortNode → NodeStep) (w : CableWorld) → map length (note_step k step w).wires ≡ map length w.wires
+note-long k step w = step-long k step w
+
+pub both-long :
+    (j k : ℕ) (r s : PortNode → NodeStep) (w : CableWorld) → map length (note_both j r k s w).wires ≡ map length w.wires
+both-long j k r s w = step-long k s (with_step j r w) ∙ step-long j r w
+
+pub cleared-long : (rows : List (List Wire)) (a b : End) → map length (put b empty_wire (put a empty_wire rows)) ≡ map length rows
+cleared-long rows a b = put-long (put a empty_wire rows) b empty_wire ∙ put-long rows a empty_wire
+
+-- ---- what comes of an act
+
+pub plug-done :
+    (w v : CableWorld) (a b : End) (c : Wiring) (cleared : List (List Wire)) → c ≡ put b (Some a) (put a (Some b) w.cabling) →
+    cleared ≡ put b empty_wire (put a empty_wire w.wires) →
+    v ≡ note_both a.node (node_plugged a.port) b.node (node_plugged b.port) (world_record w.delay c w.nodes cleared w.changed w.turns) →
+    v ≡ note_changes w (plug a b w)
+plug-done w v a b c cleared cables rows e =
+    e
+    ∙ ap (λ k. note_both a.node (node_plugged a.port) b.node (node_plugged b.port) (world_record w.delay k w.nodes cleared w.changed w.turns)) cables
+    ∙ ap (λ r. note_both a.node (node_plugged a.port) b.node (node_plugged b.port)
+    (world_record w.delay (put b (Some a) (put a (Some b) w.cabling)) w.nodes r w.changed w.turns)) rows
+
+pub pull-done :
+    (w v : CableWorld) (a b : End) (c : Wiring) (cleared : List (List Wire)) → far w.cabling a ≡ Some b → c ≡ put b None (put a None w.cabling) →
+    cleared ≡ put b empty_wire (put a empty_wire w.wires) →
+    v ≡ note_both a.node (node_pulled a.port) b.node (node_pulled b.port) (world_record w.delay c w.nodes cleared w.changed w.turns) →
+    v ≡ note_changes w (pull a w)
+pull-done w v a b c cleared joined cables rows e =
+    e
+    ∙ ap (λ k. note_both a.node (node_pulled a.port) b.node (node_pulled b.port) (world_record w.delay k w.nodes cleared w.changed w.turns)) cables
+    ∙ ap (λ r. note_both a.node (node_pulled a.port) b.node (node_pulled b.port)
+    (world_record w.delay (put b None (put a None w.cabling)) w.nodes r w.changed w.turns)) rows
+    ∙ sym (ap (λ o. note_changes w (pull_from a o w)) joined)
+
+pub config-done :
+    (w v : CableWorld) (set : NodeSet) (from : ℕ) (p : ConfigPacket) (told : List PortNode) →
+    told ≡ change_in_set set (node_set_config p) 0 w.nodes → v ≡ note_step from node_disturb (record w { nodes = told }) →
+    v ≡ note_changes w (configure set from p w)
+config-done w v set from p told is e =
+    let u : CableWorld = configure set from p w in
+    e ∙ ap (λ nodes. note_step from node_disturb (record w { nodes = nodes })) is
+    ∙ ap (λ q. record u { changed = q }) (told-lists set p w.turns 0 w.nodes u.nodes w.changed)
+
+-- a node that heard the packet
+pub told-ready :
+    (w : CableWorld) (set : NodeSet) (p : ConfigPacket) (k : ℕ) (told : List PortNode) → IsWellFormed w → HasSixBits p → k < length w.nodes →
+    told ≡ change_in_set set (node_set_config p) 0 w.nodes →
+    IsSomeAnd (slice_get told k) (λ x. length (slice_index_or w.wires k []) ≡ x.state.ports)
+told-ready w set p k told f bits inside is =
+    let nodes : List PortNode = change_in_set set (node_set_config p) 0 w.nodes in
+    subst (λ (ns : List PortNode). IsSomeAnd (slice_get ns k) (λ x. length (slice_index_or w.wires k []) ≡ x.state.ports)) (sym is)
+    (row-ready (record w { nodes = nodes }) k (told-formed set p w bits f)
+    (omega (arith, inside, told-length set (node_set_config p) 0 w.nodes)))
+
+pub is-there : (o : Option PortNode) (P : PortNode → Type 0) → IsSomeAnd o P → IsSomeAnd o (λ x. Unit {0})
+is-there None P h = absurd h
+is-there (Some x) P h = tt
+
+pub is-connected-there :
+    (o : Option PortNode) (n p : ℕ) → IsSomeAnd o (λ x. (n ≡ x.state.ports) × (p < x.state.ports) × (is_connected x.state.view.ports p ≡ true)) →
+    IsSomeAnd o (λ x. (n ≡ x.state.ports) × (is_connected x.state.view.ports p ≡ true))
+is-connected-there None n p h = absurd h
+is-connected-there (Some x) n p h = (h.0, h.2)

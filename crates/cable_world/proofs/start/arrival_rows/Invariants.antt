@@ -1,0 +1,5 @@
+use Rattle.std.proofs.Common.{◌≡◌, [], map, replicate, take}
+use Rattle.cable_world.proofs.start.arrival_rows.Given as goal
+
+abbrev pub invariant-loop-count : goal.invariant-loop-count
+invariant-loop-count l = l.rows.items ≡ map (λ count. replicate count []) (take l.count-index l.ports)

@@ -1,0 +1,37 @@
+use Rattle.std.proofs.Common.{◌≡◌, ◌∙◌, ◌<◌, [], length, ap, arith, slice_index_or}
+use Rattle.std.proofs.lemmas.List.{get_or_default}
+use Rattle.cable_world.specs.codings.NodeActs.{step_of, Suits}
+use Rattle.cable_world.proofs.running.Acting.{from-some, step-is}
+use Rattle.cable_world.proofs.steps.step_node.Goals as goal
+
+pub step_one-requires-clause-wires : goal.step_one-requires-clause-wires
+step_one-requires-clause-wires g c =
+    let at = c.args.node in
+    let ms = c.args.machines.now in
+    let row = get_or_default c.args.wires.now at c.index-wires-node.result [] (omega (arith, c.requires.rows, c.requires.exists)) in
+    ap length row
+    ∙ from-some g.M.PortMachine.record_of (λ x. length (slice_index_or c.args.wires.now at []) ≡ x.state.ports) ms at
+    (slice_index_or ms at c.index-machines-node.result) c.requires.wires (get_or_default ms at c.index-machines-node.result _ c.requires.exists)
+
+pub step_one-requires-clause-suits : goal.step_one-requires-clause-suits
+step_one-requires-clause-suits g c =
+    let at = c.args.node in
+    let ms = c.args.machines.now in
+    from-some g.M.PortMachine.record_of (λ x. Suits c.args.act x) ms at
+    (slice_index_or ms at c.index-machines-node.result) c.requires.suits (get_or_default ms at c.index-machines-node.result _ c.requires.exists)
+
+pub returns : goal.returns
+returns g c d w =
+    let at = c.args.node in
+    let ms = c.args.machines.now in
+    let rows = c.args.wires.now in
+    let changed = c.args.changed.now in
+    let row_in : at < length rows = omega (arith, c.requires.rows, c.requires.exists) in
+    let change_in : at < length changed = omega (arith, c.requires.changes, c.requires.exists) in
+    step-is g.M.PortMachine.record_of (step_of c.args.act) d w c.args.turns ms rows changed at
+    (slice_index_or ms at c.index-machines-node.result) c.step_one.new.machine
+    (slice_index_or rows at c.index-wires-node.result) c.step_one.new.wires (slice_index_or changed at 0) c.in_ok-changed.field-0
+    c.requires.exists c.requires.rows c.requires.changes
+    (get_or_default ms at c.index-machines-node.result _ c.requires.exists)
+    (get_or_default rows at c.index-wires-node.result _ row_in) (get_or_default changed at 0 _ change_in)
+    c.in_ok-changed.ensures.node c.in_ok-changed.ensures.sent c.in_ok-changed.ensures.changed

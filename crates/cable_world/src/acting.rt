@@ -1,0 +1,169 @@
+//! Acts, over the parts of a world.
+ghost use Rattle.std.specs.Prelude.{◌≡◌, ◌<◌, ◌≤◌, ℕ, None, Some, [], length, map, slice_index_or, OnOk, if◌then◌else◌};
+ghost use Rattle.std.specs.Option.{ForSome};
+ghost use Rattle.port_state.specs.Config.{config_packet};
+ghost use Rattle.port_state.specs.Machine.{node_set_config};
+ghost use Rattle.cable_world.specs.Wire.{empty_wire};
+ghost use Rattle.cable_world.specs.World.{put};
+ghost use Rattle.cable_world.specs.Act.{ActLeads, IsAct, act_fault, change_in_set};
+ghost use Rattle.cable_world.specs.Answer.{IfFault, IsMemory};
+ghost use Rattle.cable_world.specs.Lawful.{IsLawful};
+ghost use Rattle.cable_world.specs.codings.Parts.{world_record};
+
+use crate::act::{Act, ActStop};
+use crate::rows::WireRow;
+use crate::steps::{NodeAct, step_both, step_node};
+use cabling::{CableFault, Cabling, End, NodeSet, OutOfMemory};
+use port_state::{PortMachine, Sends};
+
+/// Takes away what is under way on the wires from two ends, and holds. The ends exist.
+fn clear_cable(wires: &mut [WireRow], a: End, b: End)
+    requires a_node { a.node < length wires.old }
+    requires a_port { a.port < length (slice_index_or wires.old a.node []) }
+    requires b_node { b.node < length wires.old }
+    requires b_port { b.port < length (slice_index_or wires.old b.node []) }
+    ensures { wires.new ≡ put b empty_wire (put a empty_wire wires.old) }
+{
+    wires[a.node as usize].clear(a.port);
+    wires[b.node as usize].clear(b.port);
+}
+
+/// A node hears a configuration packet, if it `hears`.
+fn set_config<M: PortMachine>(
+    machine: &mut M,
+    hears: bool,
+    root_id: u8,
+    force: bool,
+    gap: Option<u8>,
+)
+    requires root { root_id ≤ 63 }
+    requires gap { ForSome gap (λ g. g ≤ 63) }
+    ensures { M.record_of machine.new
+        ≡ (if hears then node_set_config (config_packet root_id force gap) (M.record_of machine.old)
+        else M.record_of machine.old) }
+{
+    if hears {
+        machine.set_config(root_id, force, gap);
+    }
+}
+
+/// The nodes of a set hear a configuration packet.
+fn set_configs<M: PortMachine>(
+    machines: &mut [M],
+    set: NodeSet,
+    root_id: u8,
+    force: bool,
+    gap: Option<u8>,
+)
+    requires few { length machines.old ≤ 63 }
+    requires root { root_id ≤ 63 }
+    requires gap { ForSome gap (λ g. g ≤ 63) }
+    ensures { map M.record_of machines.new
+        ≡ change_in_set set (node_set_config (config_packet root_id force gap)) 0 (map M.record_of machines.old) }
+{
+    for node in 0..machines.len() {
+        let hears = set.has(node as u8);
+        set_config(&mut machines[node], hears, root_id, force, gap);
+    }
+}
+
+/// Does an act, when `turns` turns are done.
+pub fn act_world<M: PortMachine>(
+    act: &Act,
+    cabling: &mut Cabling,
+    machines: &mut [M],
+    wires: &mut [WireRow],
+    changed: &mut [u32],
+    turns: u32,
+    out: &mut Sends,
+) -> Result<(), ActStop>
+    requires is { IsAct act.now }
+    requires lawful { (d : ℕ) × IsLawful (world_record d cabling.old (map M.record_of machines.old) wires.old changed.old turns) }
+    ensures done { OnOk result ((d : ℕ) → ActLeads act.now
+        (world_record d cabling.old (map M.record_of machines.old) wires.old changed.old turns)
+        (world_record d cabling.new (map M.record_of machines.new) wires.new changed.new turns)) }
+    ensures accepted { OnOk result ((d : ℕ) → act_fault act.now
+        (world_record d cabling.old (map M.record_of machines.old) wires.old changed.old turns) ≡ None) }
+    ensures rows { OnOk result (map length wires.new ≡ map length wires.old) }
+    ensures refused { IfFault result (λ f. (d : ℕ) → act_fault act.now
+        (world_record d cabling.old (map M.record_of machines.old) wires.old changed.old turns) ≡ Some f) }
+    ensures same { IfFault result (λ f. (cabling.new ≡ cabling.old) × (machines.new ≡ machines.old)
+        × (wires.new ≡ wires.old) × (changed.new ≡ changed.old)) }
+    ensures memory { IsMemory result → (d : ℕ) → act_fault act.now
+        (world_record d cabling.old (map M.record_of machines.old) wires.old changed.old turns) ≡ None }
+{
+    match *act {
+        Act::Plug { a, b } => {
+            if let Err(fault) = cabling.plug(a, b) {
+                return Err(ActStop::Fault(fault));
+            }
+            clear_cable(wires, a, b);
+            let first = (a.node, NodeAct::Plug { port: a.port });
+            let second = (b.node, NodeAct::Plug { port: b.port });
+            if let Err(stop) = step_both(machines, wires, changed, first, second, turns, out) {
+                return Err(ActStop::Memory(stop));
+            }
+            Ok(())
+        }
+        Act::Pull { end } => {
+            let cable = match cabling.pull(end) {
+                Err(fault) => return Err(ActStop::Fault(fault)),
+                Ok(cable) => cable,
+            };
+            clear_cable(wires, end, cable.b);
+            let first = (end.node, NodeAct::Pull { port: end.port });
+            let second = (cable.b.node, NodeAct::Pull { port: cable.b.port });
+            if let Err(stop) = step_both(machines, wires, changed, first, second, turns, out) {
+                return Err(ActStop::Memory(stop));
+            }
+            Ok(())
+        }
+        Act::Reset { node } => {
+            if node as usize >= machines.len() {
+                return Err(ActStop::Fault(CableFault::NoNode {
+                    end: End { node, port: 0 },
+                }));
+            }
+            if let Err(stop) = step_node(
+                machines,
+                wires,
+                changed,
+                node,
+                NodeAct::Disturb,
+                turns,
+                out,
+            ) {
+                return Err(ActStop::Memory(stop));
+            }
+            Ok(())
+        }
+        Act::Config {
+            from,
+            root_id,
+            force,
+            gap,
+        } => {
+            if from as usize >= machines.len() {
+                return Err(ActStop::Fault(CableFault::NoNode {
+                    end: End {
+                        node: from,
+                        port: 0,
+                    },
+                }));
+            }
+            set_configs(machines, cabling.component(from), root_id, force, gap);
+            if let Err(stop) = step_node(
+                machines,
+                wires,
+                changed,
+                from,
+                NodeAct::Disturb,
+                turns,
+                out,
+            ) {
+                return Err(ActStop::Memory(stop));
+            }
+            Ok(())
+        }
+    }
+}

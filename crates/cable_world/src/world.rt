@@ -1,0 +1,180 @@
+//! Worlds of machines, whatever the machine.
+ghost use Rattle.std.specs.Prelude.{◌≡◌, ◌↔◌, ℕ, ◌<◌, ◌≤◌, Some, length, map, slice_get, IfOk, OnOk, IsErr, IsTrue, IsFalse, All};
+ghost use Rattle.cable_world.specs.Turn.{turn};
+ghost use Rattle.port_state.specs.Machine.{PortNode};
+ghost use Rattle.cable_world.specs.World.{world_of_nodes, IsNodeAtPowerOn};
+ghost use Rattle.cable_world.specs.Run.{IsReached};
+ghost use Rattle.cable_world.specs.codings.Parts.{world_record};
+
+use crate::act::{Act, ActStop};
+use crate::acting::act_world;
+use crate::all_nodes::turn_world;
+use crate::rows::{ArrivalRow, WireRow};
+use crate::run::WorldRun;
+use crate::start::{arrival_rows, no_changes, port_counts, wire_rows};
+use arrayvec::ArrayVec;
+use cabling::{CableFault, Cabling, End, OutOfMemory};
+use port_state::{PortMachine, Sends, View};
+use self_id::Attrs;
+use std::alloc::{AllocError, Global};
+
+/// A world that keeps a machine for each node and does one turn after the other.
+#[derive(Drop)]
+pub struct World<M: PortMachine> {
+    delay: u8,
+    cabling: Cabling,
+    machines: Vec<M>,
+    wires: Vec<WireRow>,
+    // What arrives at the far ends of the wires in a turn; between turns its contents are of no use.
+    arrivals: Vec<ArrivalRow>,
+    changed: Vec<u32>,
+    turns: u32,
+    out: Sends,
+    spent: bool,
+    ghost reached: { IsFalse spent → ∥ IsReached (world_record delay cabling (map M.record_of machines.items) wires.items changed.items turns) ∥₁ },
+    ghost marks: { length changed.items ≡ length machines.items },
+    ghost same: { IsFalse spent → map length arrivals.items ≡ map length wires.items },
+}
+
+impl<M: PortMachine + Drop> World<M> {
+    /// The world at power-on: nodes with these machines, each just powered on, and no cable. A cable
+    /// delays a signal by at most `delay` turns, 1 to 16. At most 63 nodes.
+    pub fn new(alloc: Global, delay: u8, machines: Vec<M>) -> Result<World<M>, OutOfMemory>
+        requires some_delay { 1 ≤ delay }
+        requires short_delay { delay ≤ 16 }
+        requires few { length machines.items ≤ 63 }
+        requires power_on { All (λ m. IsNodeAtPowerOn delay (M.record_of m).state) machines.items }
+        ensures world { IfOk result (λ w. world_record w.delay w.cabling (map M.record_of w.machines.items) w.wires.items w.changed.items w.turns ≡ world_of_nodes delay (map M.record_of machines.items)) }
+        ensures spent { IfOk result (λ w. IsFalse w.spent) }
+    {
+        let counts = port_counts(&machines);
+        let ports = counts.as_slice();
+        Ok(World {
+            delay,
+            cabling: Cabling::new(alloc, ports)?,
+            wires: wire_rows(alloc, ports)?,
+            arrivals: arrival_rows(alloc, ports)?,
+            changed: no_changes(alloc, machines.len())?,
+            machines,
+            turns: 0,
+            out: Sends::new(),
+            spent: false,
+        })
+    }
+}
+
+impl<M: PortMachine> WorldRun for World<M> {
+    ghost world = { λ w. world_record w.delay w.cabling (map M.record_of w.machines.items) w.wires.items w.changed.items w.turns };
+
+    ghost is_spent = { λ w. w.spent };
+
+    fn act(&mut self, act: &Act) -> Result<(), ActStop> {
+        if self.spent {
+            return Err(ActStop::Memory(AllocError));
+        }
+        self.spent = true;
+        let done = act_world(
+            act,
+            &mut self.cabling,
+            &mut self.machines,
+            &mut self.wires,
+            &mut self.changed,
+            self.turns,
+            &mut self.out,
+        );
+        match done {
+            Ok(()) => {
+                self.spent = false;
+                Ok(())
+            }
+            Err(stop) => match stop {
+                ActStop::Fault(fault) => {
+                    self.spent = false;
+                    Err(ActStop::Fault(fault))
+                }
+                ActStop::Memory(stop) => Err(ActStop::Memory(stop)),
+            },
+        }
+    }
+
+    fn hold(&mut self, end: End, turns: u16) -> Result<(), ActStop> {
+        if self.spent {
+            return Err(ActStop::Memory(AllocError));
+        }
+        if end.node >= self.cabling.nodes() {
+            return Err(ActStop::Fault(CableFault::NoNode { end }));
+        }
+        if end.port >= self.cabling.ports(end.node) {
+            return Err(ActStop::Fault(CableFault::NoPort { end }));
+        }
+        if self.cabling.far(end).is_none() {
+            return Err(ActStop::Fault(CableFault::NotPlugged { end }));
+        }
+        self.wires[end.node as usize].hold(end.port, turns);
+        Ok(())
+    }
+
+    fn turn(&mut self) -> Result<(), OutOfMemory> {
+        if self.spent {
+            return Err(AllocError);
+        }
+        self.spent = true;
+        turn_world(
+            self.delay,
+            &self.cabling,
+            &mut self.machines,
+            &mut self.wires,
+            &mut self.changed,
+            self.turns,
+            &mut self.arrivals,
+            &mut self.out,
+        )?;
+        self.turns += 1;
+        self.spent = false;
+        Ok(())
+    }
+
+    fn run_turns(&mut self, count: u32) -> Result<(), OutOfMemory> {
+        if self.spent {
+            return Err(AllocError);
+        }
+        for _ in 0..count {
+            self.turn()?;
+        }
+        Ok(())
+    }
+
+    fn delay(&self) -> u8 {
+        self.delay
+    }
+
+    fn turns(&self) -> u32 {
+        self.turns
+    }
+
+    fn cabling(&self) -> &Cabling {
+        &self.cabling
+    }
+
+    fn view(&self, node: u8) -> View {
+        self.machines[node as usize].view()
+    }
+
+    fn list(&self, node: u8) -> &[u32] {
+        self.machines[node as usize].list()
+    }
+
+    fn attrs(&self, node: u8) -> Attrs {
+        self.machines[node as usize].attrs()
+    }
+
+    fn changed(&self, node: u8) -> u32 {
+        self.changed[node as usize]
+    }
+
+    fn spent(&self) -> bool {
+        self.spent
+    }
+
+    ghost reached = { λ w. w.reached };
+}
