@@ -1,6 +1,7 @@
 -- what there is
 pub mod Wire
 pub mod World
+pub mod Parts
 -- what happens
 pub mod Turn
 pub mod Act

@@ -2,5 +2,4 @@
 pub mod Ages
 pub mod Hearing
 pub mod Steps
-pub mod Parts
 pub mod NodeActs

@@ -8,7 +8,7 @@ ghost use Rattle.cable_world.specs.World.{put};
 ghost use Rattle.cable_world.specs.Act.{ActLeads, IsAct, act_fault, change_in_set};
 ghost use Rattle.cable_world.specs.Answer.{IfFault, IsMemory};
 ghost use Rattle.cable_world.specs.Lawful.{IsLawful};
-ghost use Rattle.cable_world.specs.codings.Parts.{world_record};
+ghost use Rattle.cable_world.specs.Parts.{world_record};
 
 use crate::act::{Act, ActStop};
 use crate::rows::WireRow;

@@ -8,7 +8,7 @@ ghost use Rattle.cable_world.specs.Turn.{all_wires_after_sends, last_changes};
 ghost use Rattle.cable_world.specs.codings.Hearing.{inbox_of};
 ghost use Rattle.cable_world.specs.codings.Ages.{AreYoung};
 ghost use Rattle.cable_world.specs.codings.Steps.{turns_of, HasItsPorts};
-ghost use Rattle.cable_world.specs.codings.Parts.{world_record};
+ghost use Rattle.cable_world.specs.Parts.{world_record};
 ghost use Rattle.cable_world.specs.Turn.{turn};
 ghost use Rattle.cable_world.specs.Lawful.{IsLawful};
 

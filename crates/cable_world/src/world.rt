@@ -4,7 +4,7 @@ ghost use Rattle.cable_world.specs.Turn.{turn};
 ghost use Rattle.port_state.specs.Machine.{PortNode};
 ghost use Rattle.cable_world.specs.World.{world_of_nodes, IsNodeAtPowerOn};
 ghost use Rattle.cable_world.specs.Run.{IsReached};
-ghost use Rattle.cable_world.specs.codings.Parts.{world_record};
+ghost use Rattle.cable_world.specs.Parts.{world_record};
 
 use crate::act::{Act, ActStop};
 use crate::acting::act_world;

@@ -6,7 +6,7 @@ use Rattle.cabling.specs.Wiring.{Wiring, ArePortCounts, without_cables}
 use Rattle.port_state.specs.Machine.{PortNode}
 use Rattle.cable_world.specs.Wire.{Wire, empty_wire}
 use Rattle.cable_world.specs.World.{IsNodeAtPowerOn, IsPowerOnWorld, no_wires, world_of_nodes}
-use Rattle.cable_world.specs.codings.Parts.{world_record}
+use Rattle.cable_world.specs.Parts.{world_record}
 use Rattle.cable_world.proofs.Options.{some-same}
 
 abbrev ports : PortNode → ℕ

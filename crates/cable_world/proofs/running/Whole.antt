@@ -24,7 +24,7 @@ use Rattle.cable_world.specs.Run.{IsReached}
 use Rattle.cable_world.specs.codings.Ages.{AreYoung}
 use Rattle.cable_world.specs.codings.Hearing.{Arriving}
 use Rattle.cable_world.specs.codings.Steps.{turns_of, HasItsPorts}
-use Rattle.cable_world.specs.codings.Parts.{world_record}
+use Rattle.cable_world.specs.Parts.{world_record}
 use Rattle.cable_world.proofs.OneProof.{lawful_prop}
 use Rattle.cable_world.proofs.StaysLawful.{reached-lawful}
 use Rattle.cable_world.proofs.tables.TablesInSteps.{sent-length}

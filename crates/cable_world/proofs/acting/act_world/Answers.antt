@@ -6,7 +6,7 @@ use Rattle.cable_world.specs.declared.act.Act.{Act}
 use Rattle.cable_world.specs.Wire.{Wire}
 use Rattle.cable_world.specs.World.{CableWorld}
 use Rattle.cable_world.specs.Act.{ActLeads, IsAct, IsConfigPacket}
-use Rattle.cable_world.specs.codings.Parts.{world_record}
+use Rattle.cable_world.specs.Parts.{world_record}
 use Rattle.cable_world.proofs.tables.TablesInActs.{has-wire}
 use Rattle.cable_world.proofs.running.Acts.{was-there, added-is, taken-is, node-ready, row-ready, cleared-length, note-long, both-long, cleared-long, plug-done, pull-done, config-done, told-ready, is-there, is-connected-there}
 use Rattle.cable_world.proofs.acting.act_world.Goals as goal

@@ -1,7 +1,7 @@
 use Rattle.std.proofs.Common.{◌∙◌, List, length, map, ap, sym, arith}
 use Rattle.std.proofs.lemmas.List.{length-map}
 use Rattle.cable_world.specs.Wire.{Wire, arrives, stays}
-use Rattle.cable_world.specs.codings.Parts.{world_record}
+use Rattle.cable_world.specs.Parts.{world_record}
 use Rattle.cable_world.proofs.running.Whole.{all-young, has-its-ports, turn-is, rows-long, sent-long}
 use Rattle.cable_world.proofs.all_nodes.turn_world.Goals as goal
 

@@ -5,7 +5,7 @@ use Rattle.cable_world.specs.Wire.{Wire}
 use Rattle.cable_world.specs.World.{CableWorld}
 use Rattle.cable_world.specs.Act.{ActLeads, act_fault}
 use Rattle.cable_world.specs.Run.{IsReached}
-use Rattle.cable_world.specs.codings.Parts.{world_record}
+use Rattle.cable_world.specs.Parts.{world_record}
 use Rattle.cable_world.proofs.StaysReached.{act-reached}
 use Rattle.cable_world.proofs.running.Whole.{lawful-now, vectors-related, vectors-same, fault-of}
 use Rattle.cable_world.proofs.world.WorldWorldRun.act.Goals as goal

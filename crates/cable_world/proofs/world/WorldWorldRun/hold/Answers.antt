@@ -4,7 +4,7 @@ use Rattle.std.proofs.Math.Logic.{∥∥₁_map}
 use Rattle.cabling.specs.Wiring.{HasEnd, far, ports_of}
 use Rattle.cable_world.specs.World.{wire_of}
 use Rattle.cable_world.specs.Run.{IsReached}
-use Rattle.cable_world.specs.codings.Parts.{world_record}
+use Rattle.cable_world.specs.Parts.{world_record}
 use Rattle.cable_world.proofs.StaysReached.{hold-reached}
 use Rattle.cable_world.proofs.tables.TablesInActs.{has-wire}
 use Rattle.cable_world.proofs.running.Whole.{lawful-now, may-hold, held-is, put-long}

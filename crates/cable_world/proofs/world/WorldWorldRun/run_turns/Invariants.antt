@@ -1,7 +1,7 @@
 use Rattle.std.proofs.Common.{◌≡◌, false, map}
 use Rattle.cable_world.specs.Turn.{turns_after}
 use Rattle.cable_world.specs.Unchanged.{TurnsPass}
-use Rattle.cable_world.specs.codings.Parts.{world_record}
+use Rattle.cable_world.specs.Parts.{world_record}
 use Rattle.cable_world.proofs.world.WorldWorldRun.run_turns.Given as goal
 
 -- the world of what is kept

@@ -3,7 +3,7 @@ use Rattle.std.proofs.lemmas.List.{with_items_is}
 use Rattle.std.proofs.Math.Logic.{∥∥₁_map}
 use Rattle.cable_world.specs.Wire.{Wire}
 use Rattle.cable_world.specs.Run.{IsReached}
-use Rattle.cable_world.specs.codings.Parts.{world_record}
+use Rattle.cable_world.specs.Parts.{world_record}
 use Rattle.cable_world.proofs.StaysReached.{turn-reached}
 use Rattle.cable_world.proofs.running.Whole.{lawful-now, vectors-turn}
 use Rattle.cable_world.proofs.world.WorldWorldRun.turn.Goals as goal

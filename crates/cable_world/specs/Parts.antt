@@ -1,4 +1,4 @@
--- A world by its parts, as the code keeps them. No public contract of a world cites this file.
+-- A world by its parts.
 use Rattle.std.specs.Prelude.{ℕ, List}
 use Rattle.cabling.specs.Wiring.{Wiring}
 use Rattle.port_state.specs.Machine.{PortNode}
