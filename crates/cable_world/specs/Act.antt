@@ -95,7 +95,8 @@ ActLeads (Pull end) w v = v ≡ note_changes w (pull end w)
 ActLeads (Reset node) w v = v ≡ note_changes w (reset node w)
 ActLeads (Config from root_id force gap) w v =
     let packet = config_packet root_id force gap in
-    (set : NodeSet) × IsComponent w.cabling from set × (v ≡ note_changes w (configure set from packet w))
+    (set : NodeSet) × IsComponent w.cabling from set
+    × (v ≡ note_changes w (configure set from packet w))
 
 abbrev pub node_fault : NodeNumber → CableWorld → Option CableFault
 node_fault node w =

@@ -89,7 +89,8 @@ abbrev pub IsOutcome : CableWorld → ℕ → Outcome → Type 0
 IsOutcome w set (loop core) = IsLoop w set core
 IsOutcome w set (tree root t) = IsTree w set root t
 IsOutcome w set (contention a b) =
-    IsContention w set a b × ((root : ℕ) (t : Tree) → IsTree w set root t → ⊥) × IsFirstPair w set a b
+    IsContention w set a b × ((root : ℕ) (t : Tree) → IsTree w set root t → ⊥)
+    × IsFirstPair w set a b
 
 -- a component that has one is settled
 abbrev pub IsSettled : CableWorld → ℕ → Type 0

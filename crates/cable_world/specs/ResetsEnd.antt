@@ -18,7 +18,8 @@ InLateTurns P =
 -- no node enters R0
 abbrev pub NoneEnters : Type 0
 NoneEnters =
-    InLateTurns (λ x y. is_resetting x.state.view.phase ≡ false → is_resetting y.state.view.phase ≡ false)
+    InLateTurns (λ x y.
+    is_resetting x.state.view.phase ≡ false → is_resetting y.state.view.phase ≡ false)
 
 -- each count of resets stands still
 abbrev pub CountsStand : Type 0

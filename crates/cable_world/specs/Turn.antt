@@ -62,11 +62,13 @@ node_turns w rows nodes = []
 -- the wires of a node's ports from number p on
 abbrev pub wires_after_sends : PortNumber → List PortSignal → List Wire → List Wire
 wires_after_sends p sends [] = []
-wires_after_sends p sends (w ∷ wires) = add_signals (sent_on p sends) w ∷ wires_after_sends (p + 1) sends wires
+wires_after_sends p sends (w ∷ wires) =
+    add_signals (sent_on p sends) w ∷ wires_after_sends (p + 1) sends wires
 
 -- the wires of every node
 abbrev pub all_wires_after_sends : List NodeStep → List (List Wire) → List (List Wire)
-all_wires_after_sends (s ∷ steps) (wires ∷ rows) = wires_after_sends 0 s.sends wires ∷ all_wires_after_sends steps rows
+all_wires_after_sends (s ∷ steps) (wires ∷ rows) =
+    wires_after_sends 0 s.sends wires ∷ all_wires_after_sends steps rows
 all_wires_after_sends steps rows = rows
 
 -- ---- when lists last changed

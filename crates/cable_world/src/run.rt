@@ -36,9 +36,11 @@ pub trait WorldRun {
         ensures passed { OnOk result (TurnsPass 0 (world self.old) (world self.new)) }
         ensures refused { IfFault result (λ f. act_fault act.now (world self.old) ≡ Some f) }
         ensures same { IfFault result (λ f. world self.new ≡ world self.old) }
-        ensures memory { IsMemory result → IsFalse (is_spent self.old) → act_fault act.now (world self.old) ≡ None }
+        ensures memory { IsMemory result → IsFalse (is_spent self.old) →
+            act_fault act.now (world self.old) ≡ None }
         ensures spent { IsMemory result ↔ IsTrue (is_spent self.new) }
-        ensures was_spent { IsTrue (is_spent self.old) → IsMemory result × (world self.new ≡ world self.old) };
+        ensures was_spent { IsTrue (is_spent self.old) →
+            IsMemory result × (world self.new ≡ world self.old) };
 
     /// Holds the wire that leaves an end during the next `turns` turns, in place of what an earlier
     /// hold of it has left. A held wire gives its signals only when the oldest has been under way
@@ -62,7 +64,8 @@ pub trait WorldRun {
         ensures done { OnOk result (world self.new ≡ turn (world self.old)) }
         ensures passed { OnOk result (TurnsPass 1 (world self.old) (world self.new)) }
         ensures spent { IsErr result ↔ IsTrue (is_spent self.new) }
-        ensures was_spent { IsTrue (is_spent self.old) → IsErr result × (world self.new ≡ world self.old) };
+        ensures was_spent { IsTrue (is_spent self.old) →
+            IsErr result × (world self.new ≡ world self.old) };
 
     /// Does `count` turns. With those done before they are at most 4,000,000,000.
     fn run_turns(&mut self, count: u32) -> Result<(), OutOfMemory>
@@ -70,7 +73,8 @@ pub trait WorldRun {
         ensures done { OnOk result (world self.new ≡ turns_after count (world self.old)) }
         ensures passed { OnOk result (TurnsPass count (world self.old) (world self.new)) }
         ensures spent { IsErr result ↔ IsTrue (is_spent self.new) }
-        ensures was_spent { IsTrue (is_spent self.old) → IsErr result × (world self.new ≡ world self.old) };
+        ensures was_spent { IsTrue (is_spent self.old) →
+            IsErr result × (world self.new ≡ world self.old) };
 
     /// By how many turns a cable delays a signal at most, 1 to 16.
     fn delay(&self) -> u8
@@ -93,13 +97,15 @@ pub trait WorldRun {
     /// The node exists.
     fn list(&self, node: u8) -> &[u32]
         requires { node < length (world self.now).nodes }
-        ensures { IsSomeAnd (slice_get (world self.now).nodes node) (λ x. result.now ≡ x.state.list.items) };
+        ensures { IsSomeAnd (slice_get (world self.now).nodes node)
+            (λ x. result.now ≡ x.state.list.items) };
 
     /// The attributes that a node shows, with the gap count and the initiated bit of its view. The
     /// node exists.
     fn attrs(&self, node: u8) -> Attrs
         requires { node < length (world self.now).nodes }
-        ensures { IsSomeAnd (slice_get (world self.now).nodes node) (λ x. result ≡ shown_attrs x.state) };
+        ensures { IsSomeAnd (slice_get (world self.now).nodes node)
+            (λ x. result ≡ shown_attrs x.state) };
 
     /// The number of turns done at the end of the last turn or act after which a node's list was
     /// not the list before it, or 0 where there was none. A turn counts itself. The node exists.

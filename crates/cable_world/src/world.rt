@@ -25,7 +25,7 @@ pub struct World<M: PortMachine> {
     cabling: Cabling,
     machines: Vec<M>,
     wires: Vec<WireRow>,
-    // What arrives at the far ends of the wires in a turn; between turns its contents are of no use.
+    // What arrives at the far ends of the wires in a turn; between turns it is of no use.
     arrivals: Vec<ArrivalRow>,
     changed: Vec<u32>,
     turns: u32,
@@ -44,7 +44,10 @@ impl<M: PortMachine + Drop> World<M> {
         requires short_delay { delay ≤ 16 }
         requires few { length machines.items ≤ 63 }
         requires power_on { All (λ m. IsNodeAtPowerOn delay (M.record_of m).state) machines.items }
-        ensures world { IfOk result (λ w. world_record w.delay w.cabling (map M.record_of w.machines.items) w.wires.items w.changed.items w.turns ≡ world_of_nodes delay (map M.record_of machines.items)) }
+        ensures world { IfOk result (λ w.
+            world_record w.delay w.cabling (map M.record_of w.machines.items) w.wires.items
+            w.changed.items w.turns
+            ≡ world_of_nodes delay (map M.record_of machines.items)) }
         ensures spent { IfOk result (λ w. IsFalse w.spent) }
     {
         let counts = port_counts(&machines);
