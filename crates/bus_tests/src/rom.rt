@@ -35,7 +35,9 @@ fn roms(rt: HostRuntime) -> Result<(), Fail> {
 /// The bytes of the ROM with one quadlet changed, and only the first ones of them.
 fn changed(alloc: Global, place: usize, quad: u32, bytes: usize) -> Result<Vec<u8>, AllocError> {
     let mut quads = CAMERA;
-    quads[place] = quad;
+    if let Some(old) = quads.get_mut(place) {
+        *old = quad;
+    }
     let mut list = bytes_of(alloc, &quads)?;
     list.truncate(bytes);
     Ok(list)
