@@ -1,5 +1,5 @@
 -- A step of one node between two turns, by a name. No public contract of a world cites this file.
-use Rattle.std.specs.Prelude.{◌≡◌, ℕ, ◌×◌, ◌<◌, List, IsTrue, IsFalse}
+use Rattle.std.specs.Prelude.{◌≡◌, ℕ, ◌<◌, List, IsTrue, IsFalse}
 use Rattle.cabling.specs.Wiring.{Wiring}
 use Rattle.port_state.specs.Ports.{is_connected}
 use Rattle.port_state.specs.Machine.{PortNode, NodeStep, node_disturb, node_plugged, node_pulled}
