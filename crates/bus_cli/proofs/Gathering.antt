@@ -3,6 +3,7 @@ use Rattle.std.specs.Prelude.{IfOk, IsErrOf, ◌↔◌}
 use Rattle.io_edges.specs.Told.{IfTold}
 use Rattle.std.proofs.Common.{map, Result, Ok, Err, ◌≡◌, ℕ, zero, suc, ◌+◌, ◌*◌, ◌%◌, ◌^◌, ◌<◌, ◌≤◌, Bool, true, false, cond, List, [], ◌∷◌, ◌++◌, length, Option, Some, None, inl, inr, refl, sym, ap, subst, ◌∙◌, append_assoc, length-append, arith}
 use Rattle.std.specs.List.{All, position_from}
+use Rattle.std.proofs.lemmas.List.{nil_from_length}
 use Rattle.std.proofs.lemmas.List.{append-nil, map-append}
 use Rattle.std.proofs.lemmas.List.Elements.{All-append, All-cons, All-nil}
 use Rattle.std.proofs.lemmas.Iterator.Adapters.{position_from-zero}
@@ -103,14 +104,10 @@ holds_pair r s byte first second bytes eight h lt small is eight_long two none m
 
 -- ---- the end
 
-no_rest : (xs : List ℕ) → length xs ≡ 0 → xs ≡ []
-no_rest [] e = refl
-no_rest (x ∷ xs) e = absurd (omega arith)
-
 -- whole pairs, none of them bad, are the capture of a list for which the reader of packets stands
 pub captured : GoodPairsAreACapture → (r : Pieces) (bytes : List ℕ) → HoldsExactly r bytes → length r.rest ≡ 0 → r.first_bad ≡ None → IsCaptureOf (firsts (quads_of bytes)) bytes × StandsFor r.packets (firsts (quads_of bytes))
 captured good r bytes h none no_bad =
-    let whole : bytes ≡ h.whole = h.split ∙ ap (λ (x : List ℕ). h.whole ++ x) (no_rest r.rest none) ∙ append-nil h.whole in
+    let whole : bytes ≡ h.whole = h.split ∙ ap (λ (x : List ℕ). h.whole ++ x) (nil_from_length r.rest none) ∙ append-nil h.whole in
     let even : length bytes % 8 ≡ 0 = omega (arith, ap length whole, h.even) in
     let none_bad : first_bad_pair (quads_of bytes) ≡ None = ap (λ (x : List ℕ). first_bad_pair (quads_of x)) whole ∙ sym h.bad ∙ no_bad in
     (is_capture bytes (firsts (quads_of bytes)) h.fit refl (good bytes h.fit even none_bad), subst (λ (x : List ℕ). StandsFor r.packets (firsts (quads_of x))) (sym whole) h.list)

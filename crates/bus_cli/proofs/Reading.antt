@@ -1,7 +1,7 @@
 -- What reading a capture finds.
-use Rattle.std.proofs.Common.{◌≡◌, ◌≢◌, ◌↔◌, ℕ, ◌/◌, ◌%◌, ◌^◌, ◌<◌, List, ◌∷◌, length, get_or, Result, Err, refl, arith}
+use Rattle.std.proofs.Common.{◌≡◌, ◌≢◌, ◌↔◌, ℕ, ◌/◌, ◌%◌, ◌^◌, ◌<◌, List, ◌∷◌, length, Result, Err, refl, arith}
 use Rattle.std.specs.List.{All, AllByRecursion}
-use Rattle.std.proofs.lemmas.List.Elements.{All-nil, All-cons, All-from_get_or, recursion_from_All}
+use Rattle.std.proofs.lemmas.List.Elements.{All-nil, All-cons, recursion_from_All}
 use Rattle.quad_lanes.specs.Capture.{capture}
 use Rattle.quad_lanes.specs.Pairs.{quads_of, firsts}
 use Rattle.quad_lanes.specs.declared.pairs.PairFault.{PairFault}
@@ -17,9 +17,6 @@ use Rattle.bus_cli.specs.Stop.{of_pairs, of_tree, IfFault}
 fit_firsts : (bytes : List ℕ) → AllByRecursion (λ b. b < 256) bytes → All (λ q. q < 2 ^ 32) (firsts (quads_of bytes))
 fit_firsts (a ∷ b ∷ c ∷ d ∷ e ∷ f ∷ g ∷ h ∷ bytes) (la, (lb, (lc, (ld, (le, (lf, (lg, (lh, rest)))))))) = All-cons (λ q. q < 2 ^ 32) _ _ (omega arith) (fit_firsts bytes rest)
 fit_firsts _ h = All-nil (λ q. q < 2 ^ 32)
-
-pub all_bytes : (bytes : List ℕ) → ((i : ℕ) → get_or bytes i 0 < 256) → All (λ b. b < 256) bytes
-all_bytes bytes fit = All-from_get_or (λ b. b < 256) bytes 0 (λ i _. fit i)
 
 -- bytes that are the capture of the firsts of their pairs
 pub is_capture : (bytes list : List ℕ) → All (λ b. b < 256) bytes → list ≡ firsts (quads_of bytes) → bytes ≡ capture (firsts (quads_of bytes)) → IsCaptureOf list bytes

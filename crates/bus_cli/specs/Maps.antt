@@ -1,24 +1,15 @@
 -- The text of a tree's maps: the topology map and the speed map as images, a quadlet a line.
 use Rattle.std.specs.Prelude.{◌≡◌, ℕ, ◌+◌, ◌/◌, ◌%◌, ◌^◌, nat_lt, if◌then◌else◌, List, [], ◌∷◌, ◌++◌, length, codes}
 use Rattle.quad_lanes.specs.Pairs.{quads_of}
+use Rattle.topology_stack.specs.Hex.{hex}
 use Rattle.topology_stack.specs.Tree.{Tree, walk, emits}
 use Rattle.topology_map.specs.Map.{IsMap}
 use Rattle.topology_map.specs.Sealed.{IsSealed}
 use Rattle.speed_map.specs.Rows.{AreRows}
 
--- a hexadecimal digit in lower case
-abbrev pub hex_digit : ℕ → ℕ
-hex_digit d = if nat_lt d 10 then 48 + d else 87 + d
-
--- the digit of a quadlet with so many bits below it
-abbrev pub digit_at : ℕ → ℕ → ℕ
-digit_at quad low = hex_digit (quad / 2 ^ low % 16)
-
 -- a quadlet as eight digits and a line feed
 unfoldable pub quad_line : ℕ → List ℕ
-quad_line q =
-    digit_at q 28 ∷ digit_at q 24 ∷ digit_at q 20 ∷ digit_at q 16 ∷ digit_at q 12 ∷ digit_at q 8
-    ∷ digit_at q 4 ∷ digit_at q 0 ∷ 10 ∷ []
+quad_line q = hex 8 q ++ codes "\n"
 
 abbrev pub quad_lines : List ℕ → List ℕ
 quad_lines [] = []

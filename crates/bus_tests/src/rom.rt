@@ -5,7 +5,7 @@ use std::alloc::{AllocError, Global};
 use std::test::Fail;
 
 /// A ROM with a vendor, and with a leaf that a model would name.
-const CAMERA: [u32; 12] = [
+const SMALL: [u32; 12] = [
     0x0404_7a4b,
     0x3133_3934,
     0xf0ff_8002,
@@ -23,7 +23,7 @@ const CAMERA: [u32; 12] = [
 #[test]
 fn roms(rt: HostRuntime) -> Result<(), Fail> {
     let alloc = rt.alloc();
-    let (status, sink) = answer(alloc, "rom", bytes_of(alloc, &CAMERA)?)?;
+    let (status, sink) = answer(alloc, "rom", bytes_of(alloc, &SMALL)?)?;
     assert_eq!(rt; status, 0);
     assert_eq!(rt;
         sink.written(),
@@ -34,7 +34,7 @@ fn roms(rt: HostRuntime) -> Result<(), Fail> {
 
 /// The bytes of the ROM with one quadlet changed, and only the first ones of them.
 fn changed(alloc: Global, place: usize, quad: u32, bytes: usize) -> Result<Vec<u8>, AllocError> {
-    let mut quads = CAMERA;
+    let mut quads = SMALL;
     if let Some(old) = quads.get_mut(place) {
         *old = quad;
     }
@@ -67,4 +67,117 @@ fn refused_roms(rt: HostRuntime) -> Result<(), Fail> {
         assert_eq!(rt; status, 1);
     }
     Ok(())
+}
+
+/// The ROM of a camera: a directory of its unit, one below that, and a vendor's name that both the
+/// root and the lowest directory lead to.
+const CAMERA: &[u32] = &[
+    0x0404_92d3,
+    0x3133_3934,
+    0x20ff_5000,
+    0x0006_1b24,
+    0x0002_c0de,
+    0x0005_1367,
+    0x0300_061b,
+    0x8100_000c,
+    0x0c00_83c0,
+    0x8d00_0014,
+    0xd100_0001,
+    0x0003_937d,
+    0x1200_a02d,
+    0x1300_0102,
+    0xd400_0001,
+    0x0003_7f89,
+    0x403c_0000,
+    0x8100_0002,
+    0x8200_0006,
+    0x0004_329a,
+    0x0000_0000,
+    0x0000_0000,
+    0x4269_7264,
+    0x6f00_0000,
+    0x0004_e2f6,
+    0x0000_0000,
+    0x0000_0000,
+    0x4361_6d20,
+    0x4f6e_6500,
+    0x0002_ab36,
+    0x0006_1b24,
+    0x0002_c0de,
+];
+
+/// The ROM of a disk, whose first CRC is over all of it.
+const DISK: &[u32] = &[
+    0x041c_b0ec,
+    0x3133_3934,
+    0x00ff_8000,
+    0x00a0_b800,
+    0x0000_5eed,
+    0x0004_ea6e,
+    0x0300_a0b8,
+    0x0c00_83c0,
+    0x8d00_000c,
+    0xd100_0001,
+    0x0009_ec2a,
+    0x1200_609e,
+    0x1301_0483,
+    0x3800_609e,
+    0x3901_04d8,
+    0x3a00_3c0a,
+    0x3b00_0000,
+    0x5400_4000,
+    0x140e_0000,
+    0x8100_0004,
+    0x0002_32d2,
+    0x00a0_b800,
+    0x0000_5eed,
+    0x0005_c2a5,
+    0x0000_0000,
+    0x0000_0000,
+    0x5370_696e,
+    0x6e65_7220,
+    0x3830_0000,
+];
+
+#[test]
+fn each_prefix_of_a_rom_is_refused(rt: HostRuntime) -> Result<(), Fail> {
+    let alloc = rt.alloc();
+    // From how many quadlets on which block is the first that isn't whole.
+    for (quads, root_whole, blocks) in [
+        (CAMERA, 11usize, [11usize, 15, 19, 24, 29].as_slice()),
+        (DISK, 10, &[10, 20, 23]),
+    ] {
+        for bytes in 0..4 * quads.len() {
+            let mut prefix = bytes_of(alloc, quads)?;
+            prefix.truncate(bytes);
+            let whole = bytes / 4;
+            let line = if bytes % 4 != 0 {
+                format!(in alloc; "refused quadlet {whole} RomLength\n")?
+            } else if whole == 0 {
+                format!(in alloc; "refused quadlet 0 RomEmpty\n")?
+            } else if whole < root_whole {
+                format!(in alloc; "refused quadlet {whole} RomCut\n")?
+            } else {
+                let block = last_up_to(blocks, whole);
+                format!(in alloc; "refused quadlet {block} Outside\n")?
+            };
+            let (status, sink) = answer(alloc, "rom", prefix)?;
+            assert_eq!(rt; sink.written(), line.as_bytes(), "{bytes} bytes");
+            assert_eq!(rt; status, 1, "{bytes} bytes");
+        }
+        let (status, _sink) = answer(alloc, "rom", bytes_of(alloc, quads)?)?;
+        assert_eq!(rt; status, 0);
+    }
+    Ok(())
+}
+
+/// The last place that isn't past a number; 0 if there is none.
+fn last_up_to(places: &[usize], number: usize) -> usize {
+    let mut last = 0;
+    for place in places {
+        if *place <= number {
+            last = *place;
+        }
+    }
+    last
 }

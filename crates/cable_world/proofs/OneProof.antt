@@ -5,13 +5,9 @@ use Rattle.cabling.specs.declared.cable.End.{End}
 use Rattle.cabling.specs.Wiring.{IsCabling}
 use Rattle.port_state.specs.declared.signal.Level.{Level}
 use Rattle.port_state.specs.declared.signal.Level.TheVariants as level
-use Rattle.port_state.specs.declared.signal.Phase.{Phase}
-use Rattle.port_state.specs.declared.signal.Phase.TheVariants as phase
 use Rattle.port_state.specs.declared.signal.Signal.{Signal}
 use Rattle.port_state.specs.declared.signal.Signal.TheVariants as signal
-use Rattle.port_state.specs.declared.ports.PortView.{PortView}
-use Rattle.port_state.specs.declared.states.NodeState.{NodeState}
-use Rattle.port_state.specs.Valid.{FitsPhase, IsValid}
+use Rattle.port_state.specs.codings.OneProof.{valid_prop}
 use Rattle.cable_world.specs.Wire.{Travelling, Wire}
 use Rattle.cable_world.specs.World.{CableWorld}
 use Rattle.cable_world.specs.Signals.{AllAsOldAs}
@@ -117,19 +113,6 @@ old_prop least (t ∷ ts) = ×_prop le_prop (old_prop least ts)
 back_prop : (young : ℕ) (l : Level) (ts : List Travelling) → IsProp (NoneTakesBack young l ts)
 back_prop young l [] = Unit-prop
 back_prop young l (t ∷ ts) = ×_prop (hlevel same_flags) (back_prop young _ ts)
-
-fits_prop : (h : Phase) (parent : Option ℕ) (ports : List PortView) → IsProp (FitsPhase h parent ports)
-fits_prop phase.ResetStart parent ports = hlevel (same_flags, same_ports)
-fits_prop phase.ResetWait parent ports = hlevel (same_flags, same_ports)
-fits_prop phase.TreeStart parent ports = hlevel (same_flags, same_ports)
-fits_prop phase.ChildShake parent ports = hlevel same_flags
-fits_prop phase.ParentShake parent ports = hlevel same_flags
-fits_prop phase.Contend parent ports = hlevel same_flags
-fits_prop phase.SelfIdent parent ports = hlevel same_flags
-fits_prop phase.Ready parent ports = hlevel same_flags
-
-valid_prop : (x : NodeState) → IsProp (IsValid x)
-valid_prop x = hlevel (same_numbers, le_prop, fits_prop)
 
 cabling_prop : (w : CableWorld) → IsProp (IsCabling w.cabling)
 cabling_prop w = hlevel (same_fars, le_prop)

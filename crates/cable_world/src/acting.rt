@@ -7,7 +7,7 @@ ghost use Rattle.cable_world.specs.Wire.{empty_wire};
 ghost use Rattle.cable_world.specs.World.{put};
 ghost use Rattle.cable_world.specs.Act.{ActLeads, IsAct, act_fault, change_in_set};
 ghost use Rattle.cable_world.specs.Answer.{IfFault, IsMemory};
-ghost use Rattle.cable_world.specs.Lawful.{IsLawful};
+ghost use Rattle.cable_world.specs.codings.NodeActs.{AreLawful};
 ghost use Rattle.cable_world.specs.Parts.{world_record};
 
 use crate::act::{Act, ActStop};
@@ -59,7 +59,8 @@ fn set_configs<M: PortMachine>(
     requires root { root_id ≤ 63 }
     requires gap { ForSome gap (λ g. g ≤ 63) }
     ensures { map M.record_of machines.new
-        ≡ change_in_set set (node_set_config (config_packet root_id force gap)) 0 (map M.record_of machines.old) }
+        ≡ change_in_set set (node_set_config (config_packet root_id force gap)) 0
+        (map M.record_of machines.old) }
 {
     for node in 0..machines.len() {
         let hears = set.has(node as u8);
@@ -78,19 +79,23 @@ pub fn act_world<M: PortMachine>(
     out: &mut Sends,
 ) -> Result<(), ActStop>
     requires is { IsAct act.now }
-    requires lawful { (d : ℕ) × IsLawful (world_record d cabling.old (map M.record_of machines.old) wires.old changed.old turns) }
+    requires lawful { AreLawful cabling.old (map M.record_of machines.old) wires.old changed.old
+        turns }
     ensures done { OnOk result ((d : ℕ) → ActLeads act.now
         (world_record d cabling.old (map M.record_of machines.old) wires.old changed.old turns)
         (world_record d cabling.new (map M.record_of machines.new) wires.new changed.new turns)) }
     ensures accepted { OnOk result ((d : ℕ) → act_fault act.now
-        (world_record d cabling.old (map M.record_of machines.old) wires.old changed.old turns) ≡ None) }
+        (world_record d cabling.old (map M.record_of machines.old) wires.old changed.old turns)
+        ≡ None) }
     ensures rows { OnOk result (map length wires.new ≡ map length wires.old) }
     ensures refused { IfFault result (λ f. (d : ℕ) → act_fault act.now
-        (world_record d cabling.old (map M.record_of machines.old) wires.old changed.old turns) ≡ Some f) }
+        (world_record d cabling.old (map M.record_of machines.old) wires.old changed.old turns)
+        ≡ Some f) }
     ensures same { IfFault result (λ f. (cabling.new ≡ cabling.old) × (machines.new ≡ machines.old)
         × (wires.new ≡ wires.old) × (changed.new ≡ changed.old)) }
     ensures memory { IsMemory result → (d : ℕ) → act_fault act.now
-        (world_record d cabling.old (map M.record_of machines.old) wires.old changed.old turns) ≡ None }
+        (world_record d cabling.old (map M.record_of machines.old) wires.old changed.old turns)
+        ≡ None }
 {
     match *act {
         Act::Plug { a, b } => {

@@ -124,10 +124,14 @@ pub fn turn_world<M: PortMachine>(
     out: &mut Sends,
 ) -> Result<(), OutOfMemory>
     requires few { turns < 4000000000 }
-    requires lawful { IsLawful (world_record delay cabling.now (map M.record_of machines.old) wires.old changed.old turns) }
+    requires lawful { IsLawful
+        (world_record delay cabling.now (map M.record_of machines.old) wires.old changed.old turns) }
     requires same { map length arrivals.old ≡ map length wires.old }
-    ensures done { OnOk result (world_record delay cabling.now (map M.record_of machines.new) wires.new changed.new (turns + 1)
-        ≡ turn (world_record delay cabling.now (map M.record_of machines.old) wires.old changed.old turns)) }
+    ensures done { OnOk result (
+        world_record delay cabling.now (map M.record_of machines.new) wires.new changed.new
+        (turns + 1)
+        ≡ turn (world_record delay cabling.now (map M.record_of machines.old) wires.old changed.old
+        turns)) }
     ensures same { OnOk result (map length arrivals.new ≡ map length wires.new) }
 {
     turn_wires(wires, delay, arrivals)?;

@@ -102,7 +102,8 @@ impl WireRow {
     pub fn hold(&mut self, port: u8, turns: u16)
         requires { port < length self.old }
         ensures { self.new
-            ≡ slice_set self.old port (record (slice_index_or self.old port empty_wire) { held = turns }) }
+            ≡ slice_set self.old port
+            (record (slice_index_or self.old port empty_wire) { held = turns }) }
     {
         self.wires[port as usize].hold(turns);
     }

@@ -23,7 +23,8 @@ pub fn port_counts<M: PortMachine>(machines: &[M]) -> ArrayVec<u8, 63>
 
 /// For each node the wires of its ports, where it has so many.
 pub fn wire_rows(alloc: Global, ports: &[u8]) -> Result<Vec<WireRow>, OutOfMemory>
-    ensures { IfOk result (λ rows. rows.items ≡ map (λ count. replicate count empty_wire) ports.now) }
+    ensures { IfOk result (λ rows.
+        rows.items ≡ map (λ count. replicate count empty_wire) ports.now) }
 {
     let mut rows = Vec::with_capacity(alloc, ports.len())?;
     for count in ports {

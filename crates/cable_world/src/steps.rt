@@ -1,11 +1,9 @@
 //! A step of one node between two turns.
 ghost use Rattle.std.specs.Prelude.{◌≡◌, ◌≢◌, ◌<◌, ℕ, [], length, map, slice_get, slice_index_or, OnOk, IfOk, IsSomeAnd, IsTrue, IsFalse, if◌then◌else◌};
-ghost use Rattle.cabling.specs.Wiring.{Wiring};
 ghost use Rattle.port_state.specs.Ports.{is_connected};
 ghost use Rattle.port_state.specs.Machine.{node_disturb, node_plugged, node_pulled};
 ghost use Rattle.cable_world.specs.Turn.{wires_after_sends, same_list};
-ghost use Rattle.cable_world.specs.codings.NodeActs.{step_of, Suits, note_step, note_both};
-ghost use Rattle.cable_world.specs.Parts.{world_record};
+ghost use Rattle.cable_world.specs.codings.NodeActs.{step_of, Suits, note_step, note_both, StepLeads};
 
 use crate::all_nodes::last_change;
 use crate::rows::WireRow;
@@ -139,8 +137,9 @@ pub fn step_node<M: PortMachine>(
     requires wires { IsSomeAnd (slice_get (map M.record_of machines.old) node)
         (λ x. length (slice_index_or wires.old node []) ≡ x.state.ports) }
     requires suits { IsSomeAnd (slice_get (map M.record_of machines.old) node) (λ x. Suits act x) }
-    ensures { OnOk result ((d : ℕ) (c : Wiring) → world_record d c (map M.record_of machines.new) wires.new changed.new turns
-        ≡ note_step node (step_of act) (world_record d c (map M.record_of machines.old) wires.old changed.old turns)) }
+    ensures { OnOk result (StepLeads (note_step node (step_of act)) turns
+        (map M.record_of machines.old) wires.old changed.old
+        (map M.record_of machines.new) wires.new changed.new) }
 {
     let node = node as usize;
     changed[node] = step_one(
@@ -173,8 +172,10 @@ pub fn step_both<M: PortMachine>(
         (λ x. (length (slice_index_or wires.old first.0 []) ≡ x.state.ports) × Suits first.1 x) }
     requires second_suits { IsSomeAnd (slice_get (map M.record_of machines.old) second.0)
         (λ x. (length (slice_index_or wires.old second.0 []) ≡ x.state.ports) × Suits second.1 x) }
-    ensures { OnOk result ((d : ℕ) (c : Wiring) → world_record d c (map M.record_of machines.new) wires.new changed.new turns
-        ≡ note_both first.0 (step_of first.1) second.0 (step_of second.1) (world_record d c (map M.record_of machines.old) wires.old changed.old turns)) }
+    ensures { OnOk result (StepLeads
+        (note_both first.0 (step_of first.1) second.0 (step_of second.1)) turns
+        (map M.record_of machines.old) wires.old changed.old
+        (map M.record_of machines.new) wires.new changed.new) }
 {
     step_node(machines, wires, changed, first.0, first.1, turns, out)?;
     step_node(machines, wires, changed, second.0, second.1, turns, out)?;

@@ -32,7 +32,8 @@ pub struct World<M: PortMachine> {
     turns: u32,
     out: Sends,
     spent: bool,
-    ghost reached: { IsFalse spent → ∥ IsReached (world_record delay cabling (map M.record_of machines.items) wires.items changed.items turns) ∥₁ },
+    ghost reached: { IsFalse spent → ∥ IsReached (world_record delay cabling
+        (map M.record_of machines.items) wires.items changed.items turns) ∥₁ },
     ghost marks: { length changed.items ≡ length machines.items },
     ghost same: { IsFalse spent → map length arrivals.items ≡ map length wires.items },
 }
@@ -46,10 +47,9 @@ impl<M: PortMachine + Drop> World<M> {
         requires few { length machines.items ≤ 63 }
         requires power_on { All (λ m. IsNodeAtPowerOn delay (M.record_of m).state) machines.items }
         ensures world { IfOk result (λ w.
-            world_record w.delay w.cabling (map M.record_of w.machines.items) w.wires.items
-            w.changed.items w.turns
+            ⟦<World<M> as WorldRun>⟧.world w
             ≡ world_of_nodes delay (map M.record_of machines.items)) }
-        ensures spent { IfOk result (λ w. IsFalse w.spent) }
+        ensures spent { IfOk result (λ w. IsFalse (⟦<World<M> as WorldRun>⟧.is_spent w)) }
     {
         let counts = port_counts(&machines);
         let ports = counts.as_slice();
@@ -68,7 +68,8 @@ impl<M: PortMachine + Drop> World<M> {
 }
 
 impl<M: PortMachine> WorldRun for World<M> {
-    ghost world = { λ w. world_record w.delay w.cabling (map M.record_of w.machines.items) w.wires.items w.changed.items w.turns };
+    ghost world = { λ w. world_record w.delay w.cabling (map M.record_of w.machines.items)
+        w.wires.items w.changed.items w.turns };
 
     ghost is_spent = { λ w. w.spent };
 

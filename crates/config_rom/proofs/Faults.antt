@@ -9,7 +9,7 @@ use Rattle.config_rom.specs.declared.fault.RomFault.TheVariants.{RomLength, RomT
 use Rattle.config_rom.specs.Layout.{info_len_of, root_of, end_of}
 use Rattle.config_rom.specs.Fault.{quads_fault, rom_fault}
 use Rattle.config_rom.specs.codings.Parts.{HasLayout}
-use Rattle.config_rom.proofs.Quadlets.{length-quads_of}
+use Rattle.quad_lanes.proofs.Quadlets.{length-quads_of}
 
 -- the tests on numbers alone
 abbrev first_fault : (count info root end name : ℕ) → Option RomFault

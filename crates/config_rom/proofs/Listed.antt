@@ -2,7 +2,7 @@
 use Rattle.std.proofs.Common.{◌≡◌, ℕ, zero, suc, ◌+◌, ◌<◌, ◌≤◌, inl, inr, Bool, true, false, cond, nat_lt, List, [], ◌∷◌, ◌++◌, length, map, drop, take, refl, sym, ap, ◌∙◌, subst, arith}
 use Rattle.std.specs.List.{All, AllByRecursion}
 use Rattle.std.proofs.lemmas.List.Elements.{recursion_from_All}
-use Rattle.std.proofs.lemmas.Bool.{cases_lt}
+use Rattle.std.proofs.lemmas.Bool.{cases_lt, true≢false}
 use Rattle.std.proofs.lemmas.Bool.Decides.{nat_tests}
 use Rattle.topology_map.proofs.Division.{one_crc}
 use Rattle.config_rom.specs.declared.fault.RomFault.{RomFault}
@@ -143,7 +143,7 @@ are_blocks quads root m list few reached only faultless places told = record {
   set_is = λ k p. (
     λ e. elim (cases_lt p 256) [
       | inl less ↦ only k p less (marked_low m k p less ∙ e)
-      | inr more ↦ absurd (true_false (marked m k p) e (marked_high m k p more))
+      | inr more ↦ absurd (true≢false (sym e ∙ marked_high m k p more))
     ],
     λ r. let h = reached k p r in sym (marked_low m k p h.0) ∙ h.1,
   );
@@ -151,9 +151,6 @@ are_blocks quads root m list few reached only faultless places told = record {
   told = told;
   faultless = faultless;
 }
-  where
-    true_false : (b : Bool) → b ≡ true → b ≡ false → ⊥
-    true_false b t f = cc
 
 -- blocks and a fault are not both
 pub no_first : (quads : List ℕ) (root : ℕ) (f : RomFault) → ((k : BlockKind) (p : ℕ) → IsReached quads root k p → (g : RomFault) → HasFault quads k p g → ⊥) → IsFirstFault quads root f → ⊥

@@ -5,15 +5,10 @@ use Rattle.std.specs.Int.{to_be_bytes, byte_at}
 use Rattle.std.specs.List.{All, AllByRecursion}
 use Rattle.std.proofs.lemmas.List.Elements.{recursion_from_All, All-from_get_or}
 use Rattle.byteorder.specs.Endian.{big_number}
-use Rattle.quad_lanes.specs.Pairs.{big_endian, quads_of}
+use Rattle.quad_lanes.specs.Pairs.{quads_of}
+use Rattle.quad_lanes.proofs.Captured.{big_endian-bytes, bytes-big_endian}
+use Rattle.quad_lanes.proofs.Quadlets.{length-quads_of}
 use Rattle.config_rom.specs.Rom.{bytes_of}
-
-pub length-quads_of : (xs : List ℕ) → length (quads_of xs) ≡ length xs / 4
-length-quads_of (a ∷ b ∷ c ∷ d ∷ xs) = omega (arith, length-quads_of xs)
-length-quads_of (a ∷ b ∷ c ∷ []) = refl
-length-quads_of (a ∷ b ∷ []) = refl
-length-quads_of (a ∷ []) = refl
-length-quads_of [] = refl
 
 -- a quadlet is read from its four bytes
 pub index-quads_of : (xs : List ℕ) (i : ℕ) → i < length (quads_of xs) → big_number 4 (drop (4 * i) xs) ≡ slice_index (quads_of xs) i
@@ -29,18 +24,6 @@ index-quads_of [] i lt = absurd (omega (arith, lt))
 -- a quadlet's bytes are there
 pub bytes_there : (xs : List ℕ) (i : ℕ) → i < length (quads_of xs) → 4 * i + 4 ≤ length xs
 bytes_there xs i lt = omega (arith, lt, length-quads_of xs)
-
--- a quadlet is the one of its four bytes, and four bytes are those of their quadlet
-big_endian-bytes : (q : ℕ) → q < 2 ^ 32 → big_endian (byte_at 3 q) (byte_at 2 q) (byte_at 1 q) (byte_at 0 q) ≡ q
-big_endian-bytes q fits = omega (arith, fits)
-
-bytes-big_endian : (a b c d : ℕ) → a < 256 → b < 256 → c < 256 → d < 256 → to_be_bytes w32 (big_endian a b c d) ≡ a ∷ b ∷ c ∷ d ∷ []
-bytes-big_endian a b c d la lb lc ld =
-    let ea : byte_at 3 (big_endian a b c d) ≡ a = omega (arith, la, lb, lc, ld) in
-    let eb : byte_at 2 (big_endian a b c d) ≡ b = omega (arith, la, lb, lc, ld) in
-    let ec : byte_at 1 (big_endian a b c d) ≡ c = omega (arith, la, lb, lc, ld) in
-    let ed : byte_at 0 (big_endian a b c d) ≡ d = omega (arith, la, lb, lc, ld) in
-    rw (ea, eb, ec, ed) refl
 
 read_back : (quads : List ℕ) → AllByRecursion (λ q. q < 2 ^ 32) quads → quads_of (bytes_of quads) ≡ quads
 read_back [] fit = refl
@@ -67,6 +50,3 @@ bytes_of-quads_of bytes fit whole = written_back bytes (recursion_from_All _ _ f
 pub fit_of : (bytes : List ℕ) → AllByRecursion (λ b. b < 256) bytes → AllByRecursion (λ q. q < 2 ^ 32) (quads_of bytes)
 fit_of (a ∷ b ∷ c ∷ d ∷ bytes) fit = (omega (arith, fit.0, fit.1.0, fit.1.1.0, fit.1.1.1.0), fit_of bytes fit.1.1.1.1)
 fit_of _ fit = tt
-
-pub all_bytes : (bytes : List ℕ) → ((i : ℕ) → get_or bytes i 0 < 256) → All (λ b. b < 256) bytes
-all_bytes bytes fit = All-from_get_or (λ b. b < 256) bytes 0 (λ i _. fit i)

@@ -1,7 +1,7 @@
 -- The marked blocks are the reached ones.
 use Rattle.std.proofs.Common.{◌≡◌, ◌≢◌, ℕ, ◌+◌, ◌<◌, ◌≤◌, ◌⊎◌, inl, inr, Bool, true, false, cond, nat_lt, nat_le, Option, Some, None, List, length, refl, sym, ap, ◌∙◌, subst, arith}
 use Rattle.std.specs.Prelude.{slice_index}
-use Rattle.std.proofs.lemmas.Bool.{cases_lt}
+use Rattle.std.proofs.lemmas.Bool.{cases_lt, true≢false}
 use Rattle.std.proofs.lemmas.Bool.Decides.{nat_tests}
 use Rattle.config_rom.specs.declared.fault.RomFault.{RomFault}
 use Rattle.config_rom.specs.declared.fault.RomFault.TheVariants.{RomLength, RomTooLong, RomEmpty, NoInfo, Minimal, RomCut, BusName, Outside, SelfTarget}
@@ -105,9 +105,6 @@ no_fault_at quads Leaf at (Minimal p) whole none h = h
 no_fault_at quads Leaf at (RomCut p) whole none h = h
 no_fault_at quads Leaf at (BusName p q) whole none h = h
 
-true_false : (b : Bool) → b ≡ true → b ≡ false → ⊥
-true_false b t f = cc
-
 with_targets : (quads : List ℕ) (root at : ℕ) (old new : Marks) → at < 256 → has_mark old Directory at ≡ true → end_of quads at ≤ length quads → AddsTargets quads at (end_of quads at) old new → Taken quads root at old → Taken quads root (at + 1) new
 with_targets quads root at old new small here whole t h = record {
   root_in = t.kept Directory root h.root_in;
@@ -139,7 +136,7 @@ without_targets : (quads : List ℕ) (root at : ℕ) (m : Marks) → has_mark m 
 without_targets quads root at m none whole h = record {
   root_in = h.root_in;
   closed = λ directory entry target k lt has l. elim (last_or_before directory at lt) [
-    | inl same ↦ absurd (true_false (has_mark m Directory at) (subst (λ x. has_mark m Directory x ≡ true) same has) none)
+    | inl same ↦ absurd (true≢false (sym (subst (λ x. has_mark m Directory x ≡ true) same has) ∙ none))
     | inr less ↦ h.closed directory entry target k less has l
   ];
   reached = h.reached;
@@ -147,7 +144,7 @@ without_targets quads root at m none whole h = record {
   faultless = λ k p lt has f fault. elim (last_or_before p at lt) [
     | inl same ↦
         let here : has_mark m k at ≡ true = subst (λ x. has_mark m k x ≡ true) same has in
-        no_fault_at quads k at f (whole k here) (λ is entry inside s. true_false (has_mark m Directory at) (subst (λ x. has_mark m x at ≡ true) is here) none) (subst (λ x. HasFault quads k x f) same fault)
+        no_fault_at quads k at f (whole k here) (λ is entry inside s. true≢false (sym (subst (λ x. has_mark m x at ≡ true) is here) ∙ none)) (subst (λ x. HasFault quads k x f) same fault)
     | inr less ↦ h.faultless k p less has f fault
   ];
 }
@@ -167,7 +164,7 @@ take_none quads root empty m small none no_beyond a = record {
   root_in = a.covered;
   closed = λ directory entry target k lt has l. absurd (omega (arith, lt));
   reached = λ k p lt has. elim (a.only k p lt has) [
-    | inl before ↦ absurd (true_false (has_mark empty k p) before (none k p))
+    | inl before ↦ absurd (true≢false (sym before ∙ none k p))
     | inr now ↦ λ set c. subst (λ x. set x p ≡ true) (sym now.0) (subst (λ x. set Directory x ≡ true) (sym now.1) c.root_in)
   ];
   beyond = λ b e. elim (a.beyond b e) [
@@ -264,5 +261,5 @@ reached_marked quads root m k p h none r =
     let c : covers m k p ≡ true = r (covers m) (all_closed quads root m h) in
     elim (cases_lt p 256) [
       | inl less ↦ (less, sym (covered_low m p k less) ∙ c)
-      | inr more ↦ absurd (true_false (is_past m.beyond p) (sym (covered_high m p k more) ∙ c) (ap (λ o. is_past o p) none))
+      | inr more ↦ absurd (true≢false (sym (sym (covered_high m p k more) ∙ c) ∙ ap (λ o. is_past o p) none))
     ]

@@ -5,6 +5,7 @@ use Rattle.std.specs.List.{All}
 use Rattle.std.proofs.Math.Seq.{drop-cons, take-append_seam, drop-append_seam}
 use Rattle.std.proofs.lemmas.List.{take-append-drop, length-take-le, drop_all, get_or-take, get_or-drop}
 use Rattle.std.proofs.lemmas.List.Elements.{All-get_or}
+use Rattle.topology_map.proofs.Parts.{joined}
 use Rattle.config_rom.specs.Layout.{info_len_of, root_of, length_at, crc_at, end_of}
 use Rattle.config_rom.specs.Rom.{Parts, first_quad, root_header, rom_quads, IsRom}
 use Rattle.config_rom.specs.codings.Parts.{parts_of, HasLayout}
@@ -82,9 +83,6 @@ pub record PlacesOf (v : Parts) : Type 0 where
   pub root_crc : crc_at (rom_quads v) (root_of (rom_quads v)) ≡ v.root_crc
   pub total : length (rom_quads v) ≡ 2 + length v.info + length v.entries + length v.rest
 
-header_parts : (n crc : ℕ) → crc < 2 ^ 16 → ((2 ^ 16 * n + crc) / 2 ^ 16 ≡ n) × ((2 ^ 16 * n + crc) % 2 ^ 16 ≡ crc)
-header_parts n crc fits = (omega arith, omega arith)
-
 first_parts : (n l crc : ℕ) → l < 2 ^ 8 → crc < 2 ^ 16 → ((2 ^ 24 * n + 2 ^ 16 * l + crc) / 2 ^ 24 ≡ n) × ((2 ^ 24 * n + 2 ^ 16 * l + crc) / 2 ^ 16 % 2 ^ 8 ≡ l) × ((2 ^ 24 * n + 2 ^ 16 * l + crc) % 2 ^ 16 ≡ crc)
 first_parts n l crc small fits = (omega arith, omega arith, omega arith)
 
@@ -100,7 +98,7 @@ places_of v is =
     in
     let there : root_of qs < length qs = omega (arith, n, total) in
     let header : slice_index qs (root_of qs) ≡ root_header v = ap (λ l. slice_index l 0) (at_place qs (root_of qs) there ∙ from_root) in
-    let h = header_parts (length v.entries) v.root_crc is.root_crc_fits in
+    let h = joined (length v.entries) v.root_crc is.root_crc_fits in
     record {
       info_len = f.0;
       crc_length = f.1;

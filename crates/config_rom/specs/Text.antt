@@ -1,5 +1,6 @@
 -- The text of a ROM: its bus information block, its blocks, and the entries of its directories.
 use Rattle.std.specs.Prelude.{◌≡◌, ℕ, zero, suc, ◌+◌, ◌*◌, ◌/◌, ◌%◌, ◌^◌, nat_lt, if◌then◌else◌, Option, Some, None, List, [], ◌∷◌, ◌++◌, length, slice_index, codes, decimal}
+use Rattle.topology_stack.specs.Hex.{hex}
 use Rattle.config_rom.specs.declared.crc.CrcState.{CrcState}
 use Rattle.config_rom.specs.declared.crc.CrcState.TheVariants.{Good, Bad, Past}
 use Rattle.config_rom.specs.declared.block.Block.{Block}
@@ -8,15 +9,6 @@ use Rattle.config_rom.specs.declared.block.BlockKind.TheVariants.{Directory, Lea
 use Rattle.config_rom.specs.Rom.{Parts, rom_quads}
 use Rattle.config_rom.specs.Crc.{IsInfoCrc}
 use Rattle.config_rom.specs.Block.{type_of, key_of, value_of, kind_of}
-
--- a hexadecimal digit in lower case
-abbrev pub hex_digit : ℕ → ℕ
-hex_digit d = if nat_lt d 10 then 48 + d else 87 + d
-
--- a number in so many hexadecimal digits
-abbrev pub hex : ℕ → ℕ → List ℕ
-hex zero n = []
-hex (suc digits) n = hex_digit (n / 2 ^ (4 * digits) % 16) ∷ hex digits n
 
 -- `good`, `bad KEPT COMPUTED` or `past`
 unfoldable pub bad_text : ℕ → ℕ → List ℕ

@@ -3,7 +3,7 @@ ghost use Rattle.std.specs.Prelude.{◌≡◌, ◌+◌, ◌<◌, ◌≤◌, ◌+
 ghost use Rattle.config_rom.specs.declared.block.BlockKind.{BlockKind};
 ghost use Rattle.config_rom.specs.Layout.{end_of};
 ghost use Rattle.config_rom.specs.Block.{AreBlocks, type_of, key_of, value_of, kind_of};
-ghost use Rattle.config_rom.specs.Text.{hex_digit, hex, bad_text, state_text, field, first_line, info_line, info_lines, type_text, target_text, entry_line, entry_lines, kind_text, block_line, inside_lines, block_lines, last_line, IsRomText};
+ghost use Rattle.config_rom.specs.Text.{bad_text, state_text, field, first_line, info_line, info_lines, type_text, target_text, entry_line, entry_lines, kind_text, block_line, inside_lines, block_lines, last_line, IsRomText};
 
 use crate::block::{Block, BlockKind, BlockList};
 use crate::crc::CrcState;
@@ -11,26 +11,7 @@ use crate::reach::{kind_of, value_of};
 use crate::rom::Rom;
 use quad_lanes::OutOfMemory;
 use std::alloc::Global;
-use topology_stack::put_number;
-
-/// A hexadecimal digit in lower case.
-fn hex_digit(value: u8) -> u8
-    requires { value < 16 }
-    ensures { result ≡ hex_digit value }
-{
-    if value < 10 { b'0' + value } else { 87 + value }
-}
-
-/// Appends a number in so many hexadecimal digits, at most 8.
-fn put_hex(out: &mut Vec<u8>, digits: u32, n: u32) -> Result<(), OutOfMemory>
-    requires { digits ≤ 8 }
-    ensures { OnOk result (out.new.items ≡ out.old.items ++ hex digits n) }
-{
-    for place in (0..digits).rev() {
-        out.push(hex_digit(((n >> (4 * place)) % 16) as u8))?;
-    }
-    Ok(())
-}
+use topology_stack::{put_hex, put_number};
 
 /// Appends a word and a number.
 #[tactic(auto, unfolding(crate::specs::Text::field))]

@@ -1,6 +1,5 @@
 -- Devices of the proofs. No public contract cites these files.
 pub mod IdleTime
 pub mod Levels
-pub mod OneProof
 pub mod PortWords
 pub mod RowStep

@@ -1,7 +1,7 @@
 //! A machine that keeps the record as it is.
 ghost use Rattle.std.specs.Prelude.{◌≡◌};
 ghost use Rattle.port_state.specs.Valid.{IsValid};
-ghost use Rattle.phy_machine.specs.codings.OneProof.{valid_prop};
+ghost use Rattle.port_state.specs.codings.OneProof.{valid_prop};
 ghost use Rattle.phy_machine.specs.PowerOn.{IsSpec, node_of_spec};
 
 use crate::spec::NodeSpec;

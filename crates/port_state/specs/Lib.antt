@@ -24,3 +24,4 @@ pub mod Valid
 pub mod Sound
 pub mod Stays
 pub mod ByPort
+pub mod codings

@@ -8,11 +8,11 @@ use Rattle.quad_lanes.specs.Capture.{capture}
 use Rattle.quad_lanes.specs.Pairs.{big_endian, first_bad_pair, firsts, inverse, is_bad, pairs, quads_of}
 
 -- a quadlet is the one of its four bytes
-big_endian-bytes : (q : ℕ) → q < 2 ^ 32 → big_endian (byte_at 3 q) (byte_at 2 q) (byte_at 1 q) (byte_at 0 q) ≡ q
+pub big_endian-bytes : (q : ℕ) → q < 2 ^ 32 → big_endian (byte_at 3 q) (byte_at 2 q) (byte_at 1 q) (byte_at 0 q) ≡ q
 big_endian-bytes q fits = omega (arith, fits)
 
 -- four bytes are those of their quadlet
-bytes-big_endian : (a b c d : ℕ) → a < 256 → b < 256 → c < 256 → d < 256 → to_be_bytes w32 (big_endian a b c d) ≡ a ∷ b ∷ c ∷ d ∷ []
+pub bytes-big_endian : (a b c d : ℕ) → a < 256 → b < 256 → c < 256 → d < 256 → to_be_bytes w32 (big_endian a b c d) ≡ a ∷ b ∷ c ∷ d ∷ []
 bytes-big_endian a b c d la lb lc ld =
     let ea : byte_at 3 (big_endian a b c d) ≡ a = omega (arith, la, lb, lc, ld) in
     let eb : byte_at 2 (big_endian a b c d) ≡ b = omega (arith, la, lb, lc, ld) in

@@ -1,5 +1,5 @@
-mod Captured
+pub mod Captured
 mod FirstBad
 mod Lanes
-mod Quadlets
+pub mod Quadlets
 mod Steps

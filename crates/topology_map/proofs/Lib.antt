@@ -2,4 +2,4 @@ mod Plus
 mod Bits
 pub mod Division
 mod Emitted
-mod Parts
+pub mod Parts

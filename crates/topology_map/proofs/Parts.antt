@@ -14,7 +14,7 @@ use Rattle.topology_map.proofs.Division.{one_crc}
 split : (first n : ℕ) → first / 2 ^ 16 + 1 ≡ suc n → first ≡ 2 ^ 16 * n + first % 2 ^ 16
 split first n e = omega arith
 
-joined : (n crc : ℕ) → crc < 2 ^ 16 → ((2 ^ 16 * n + crc) / 2 ^ 16 ≡ n) × ((2 ^ 16 * n + crc) % 2 ^ 16 ≡ crc)
+pub joined : (n crc : ℕ) → crc < 2 ^ 16 → ((2 ^ 16 * n + crc) / 2 ^ 16 ≡ n) × ((2 ^ 16 * n + crc) % 2 ^ 16 ≡ crc)
 joined n crc fits = (omega arith, omega arith)
 
 -- quadlets that break no rule are the image of these parts

@@ -29,7 +29,8 @@ pub struct MapParts {
 /// The image of a tree's topology map: length and CRC; the generation; the number of nodes (16 bits)
 /// and of self-ID quadlets (16 bits); the self-ID quadlets. `read_image` gives these parts back.
 pub fn image(alloc: Global, tree: &BusTree, generation: u32) -> Result<QuadList, OutOfMemory>
-    ensures { IfOk result (λ quads. IsMap generation (length (walk tree.now)) (emits tree.now) quads) }
+    ensures { IfOk result (λ quads.
+        IsMap generation (length (walk tree.now)) (emits tree.now) quads) }
 {
     let nodes = tree.len();
     let list = write_tree(alloc, tree)?;

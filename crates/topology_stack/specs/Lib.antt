@@ -8,4 +8,5 @@ pub mod Reader
 pub mod Elect
 pub mod Name
 pub mod Text
+pub mod Hex
 pub mod codings

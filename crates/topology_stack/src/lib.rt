@@ -23,7 +23,7 @@ pub use answers::{one_answer, one_tree};
 pub use fault::{TreeFault, TreeStop};
 pub use manager::elect;
 pub use name::{Name, NameList};
-pub use number::put_number;
+pub use number::{put_hex, put_number};
 pub use quad_lanes::OutOfMemory;
 pub use reader::TreeReader;
 pub use text::tree_text;

@@ -1,5 +1,6 @@
-//! A number in a text.
-ghost use Rattle.std.specs.Prelude.{◌≡◌, ◌++◌, OnOk, decimal};
+//! A number in a text, in decimal or hexadecimal digits.
+ghost use Rattle.std.specs.Prelude.{◌≡◌, ◌<◌, ◌≤◌, ◌++◌, OnOk, decimal};
+ghost use Rattle.topology_stack.specs.Hex.{hex_digit, hex};
 
 use quad_lanes::OutOfMemory;
 
@@ -9,4 +10,24 @@ pub fn put_number(out: &mut Vec<u8>, n: u64) -> Result<(), OutOfMemory>
 {
     let text = n.to_string(*out.allocator())?;
     out.extend_from_slice(text.as_bytes())
+}
+
+/// A hexadecimal digit in lower case.
+fn hex_digit(value: u8) -> u8
+    requires { value < 16 }
+    ensures { result ≡ hex_digit value }
+{
+    if value < 10 { b'0' + value } else { 87 + value }
+}
+
+/// Appends the lowest so many hexadecimal digits of a number, at most 8, in lower case, with leading
+/// zeros.
+pub fn put_hex(out: &mut Vec<u8>, digits: u32, n: u32) -> Result<(), OutOfMemory>
+    requires { digits ≤ 8 }
+    ensures { OnOk result (out.new.items ≡ out.old.items ++ hex digits n) }
+{
+    for place in (0..digits).rev() {
+        out.push(hex_digit(((n >> (4 * place)) % 16) as u8))?;
+    }
+    Ok(())
 }

@@ -4,6 +4,7 @@ use Rattle.std.proofs.Common.{◌≡◌, ◌⊎◌, inl, inr, ℕ, Bool, true, f
 use Rattle.std.specs.Prelude.{nat_eq, nat_lt, nat_le}
 use Rattle.std.specs.Cmp.Lexicographic.{pointwise, same_text, other_text}
 use Rattle.std.proofs.lemmas.Bool.{eqb-true, eq-eqb, and_parts}
+use Rattle.std.proofs.lemmas.List.{nil_from_length}
 use Rattle.port_state.specs.declared.signal.Level.TheVariants as level
 use Rattle.port_state.specs.declared.signal.Phase.{Phase}
 use Rattle.port_state.specs.declared.signal.Phase.TheVariants as phase
@@ -31,15 +32,11 @@ use Rattle.cable_world.proofs.coupling.Streams.{not-both}
 abbrev Grew : List ℕ → List ℕ → Type 0
 Grew xs ys = ((more : List ℕ) × (ys ≡ xs ++ more)) ⊎ (ys ≡ [])
 
-short : (more : List ℕ) → length more ≡ 0 → more ≡ []
-short [] h = refl
-short (m ∷ more) h = absurd (omega (arith, h))
-
 same-length : (xs ys : List ℕ) → Grew xs ys → length xs ≡ length ys → xs ≡ ys
 same-length xs ys (inl g) e =
-    let none : g.0 ≡ [] = short g.0 (omega (arith, e, ap length g.1, length-append xs g.0)) in
+    let none : g.0 ≡ [] = nil_from_length g.0 (omega (arith, e, ap length g.1, length-append xs g.0)) in
     sym (g.1 ∙ ap (λ more. xs ++ more) none ∙ append-nil xs)
-same-length xs ys (inr g) e = short xs (e ∙ ap length g) ∙ sym g
+same-length xs ys (inr g) e = nil_from_length xs (e ∙ ap length g) ∙ sym g
 
 pub seen-by-length : (xs ys : List ℕ) → Grew xs ys → pointwise nat_eq xs ys ≡ (length xs == length ys)
 seen-by-length xs ys g = go (pointwise nat_eq xs ys) refl (length xs == length ys) refl

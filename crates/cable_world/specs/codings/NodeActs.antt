@@ -1,10 +1,14 @@
 -- A step of one node between two turns, by a name. No public contract of a world cites this file.
-use Rattle.std.specs.Prelude.{◌<◌, IsTrue, IsFalse}
+use Rattle.std.specs.Prelude.{◌≡◌, ℕ, ◌<◌, List, IsTrue, IsFalse}
+use Rattle.cabling.specs.Wiring.{Wiring}
 use Rattle.port_state.specs.Ports.{is_connected}
 use Rattle.port_state.specs.Machine.{PortNode, NodeStep, node_disturb, node_plugged, node_pulled}
 use Rattle.cable_world.specs.declared.steps.NodeAct.{NodeAct}
 use Rattle.cable_world.specs.declared.steps.NodeAct.TheVariants.{Disturb, Plug, Pull}
+use Rattle.cable_world.specs.Wire.{Wire}
 use Rattle.cable_world.specs.World.{CableWorld, NodeNumber}
+use Rattle.cable_world.specs.Parts.{world_record}
+use Rattle.cable_world.specs.Lawful.{IsLawful}
 use Rattle.cable_world.specs.Act.{with_step, note_changes}
 
 abbrev pub step_of : NodeAct → PortNode → NodeStep
@@ -26,3 +30,16 @@ note_step node step w = note_changes w (with_step node step w)
 abbrev pub note_both :
     NodeNumber → (PortNode → NodeStep) → NodeNumber → (PortNode → NodeStep) → CableWorld → CableWorld
 note_both first r second s w = note_changes w (with_step second s (with_step first r w))
+
+-- with some delay these are the parts of a lawful world
+abbrev pub AreLawful : Wiring → List PortNode → List (List Wire) → List ℕ → ℕ → Type 0
+AreLawful cabling nodes wires changed turns =
+    (d : ℕ) × IsLawful (world_record d cabling nodes wires changed turns)
+
+-- whatever the delay and the cabling, a step leads from nodes, wires and last changes to others
+abbrev pub StepLeads :
+    (CableWorld → CableWorld) → ℕ → List PortNode → List (List Wire) → List ℕ → List PortNode → List (List Wire)
+    → List ℕ → Type 0
+StepLeads step turns nodes wires changed new_nodes new_wires new_changed =
+    (d : ℕ) (c : Wiring) → world_record d c new_nodes new_wires new_changed turns
+    ≡ step (world_record d c nodes wires changed turns)

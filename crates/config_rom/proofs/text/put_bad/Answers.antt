@@ -1,5 +1,6 @@
 use Rattle.std.proofs.Common.{◌≡◌, ◌++◌, ◌∙◌, ap}
-use Rattle.config_rom.specs.Text.{hex, bad_text}
+use Rattle.topology_stack.specs.Hex.{hex}
+use Rattle.config_rom.specs.Text.{bad_text}
 use Rattle.config_rom.proofs.Appended.{four}
 use Rattle.std.specs.Prelude.{codes}
 use Rattle.config_rom.proofs.text.put_bad.Goals as goal

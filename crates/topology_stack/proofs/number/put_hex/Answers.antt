@@ -1,6 +1,6 @@
 use Rattle.std.proofs.Common.{◌≡◌, ℕ, zero, suc, ◌-◌, ◌*◌, ◌/◌, ◌%◌, ◌^◌, ◌<◌, List, [], ◌∷◌, ◌++◌, refl, ap, sym, ◌∙◌, arith, append_assoc, append-nil}
-use Rattle.config_rom.specs.Text.{hex_digit, hex}
-use Rattle.config_rom.proofs.text.put_hex.Goals as goal
+use Rattle.topology_stack.specs.Hex.{hex_digit, hex}
+use Rattle.topology_stack.proofs.number.put_hex.Goals as goal
 
 hex_step : (p n : ℕ) → 0 < p → hex p n ≡ hex_digit (n / 2 ^ (4 * (p - 1)) % 16) ∷ hex (p - 1) n
 hex_step zero n lt = absurd (omega (arith, lt))

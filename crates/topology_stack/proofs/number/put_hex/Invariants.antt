@@ -1,6 +1,6 @@
 use Rattle.std.proofs.Common.{◌≡◌, ◌++◌}
-use Rattle.config_rom.specs.Text.{hex}
-use Rattle.config_rom.proofs.text.put_hex.Given as goal
+use Rattle.topology_stack.specs.Hex.{hex}
+use Rattle.topology_stack.proofs.number.put_hex.Given as goal
 
 -- the digits so far, and then those that are left, are all digits
 abbrev pub invariant-loop-place : goal.invariant-loop-place

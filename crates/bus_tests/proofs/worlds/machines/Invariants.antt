@@ -1,0 +1,9 @@
+use Rattle.std.proofs.Common.{◌≡◌, All, length}
+use Rattle.phy_machine.specs.Any.{any_node}
+use Rattle.cable_world.specs.World.{IsNodeAtPowerOn}
+use Rattle.bus_tests.proofs.worlds.machines.Given as goal
+
+-- those made so far were just powered on
+abbrev pub invariant-loop-node : goal.invariant-loop-node
+invariant-loop-node l =
+    All (λ m. IsNodeAtPowerOn l.d (any_node m).state) l.made.items × (length l.made.items ≡ l.node-index)

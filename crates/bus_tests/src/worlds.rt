@@ -1,0 +1,578 @@
+//! Worlds of machines that run: what nodes show after turns whose number was worked out beforehand.
+ghost use Rattle.std.specs.Prelude.{◌≡◌, ◌≤◌, ◌<◌, All, IfOk, OnOk, length};
+ghost use Rattle.phy_machine.specs.Any.{any_node};
+ghost use Rattle.phy_machine.specs.PowerOn.{IsSpec, node_of_spec};
+ghost use Rattle.port_state.specs.Timing.{InRange};
+ghost use Rattle.cable_world.specs.World.{IsNodeAtPowerOn};
+ghost use Rattle.cable_world.specs.Act.{IsAct};
+
+use cable_world::{Act, ActStop, World, WorldRun};
+use cabling::{CableFault, End};
+use phy_machine::{AnyMachine, FieldMachine, NodeSpec, PackedMachine};
+use port_state::{Coins, Phase, Timing};
+use self_id::Attrs;
+use std::alloc::{AllocError, Global};
+use std::process::Abort;
+use std::test::Fail;
+
+/// What a node of a test is made of; the rest is usual.
+#[derive(Clone, Copy)]
+struct Node {
+    ports: u8,
+    coins: u64,
+    contender: bool,
+    link: bool,
+    speed: u8,
+}
+
+/// A node of three ports that draws zeros.
+const USUAL: Node = Node {
+    ports: 3,
+    coins: 0,
+    contender: false,
+    link: true,
+    speed: 2,
+};
+
+/// A node of three ports that draws ones.
+const ONES: Node = Node {
+    coins: u64::MAX,
+    ..USUAL
+};
+
+/// What a test does to a world, or what has to be seen of it then.
+#[derive(Clone, Copy)]
+enum Step {
+    /// A cable from a node's port to a node's port.
+    Plug(u8, u8, u8, u8),
+    /// The cable at a node's port is pulled.
+    Pull(u8, u8),
+    /// A node resets the bus.
+    Reset(u8),
+    /// The wire from a node's port is held for so many turns.
+    Hold(u8, u8, u16),
+    /// So many turns.
+    Turns(u32),
+    /// A cable that is refused, since its first end is in use.
+    InUse(u8, u8, u8, u8),
+    /// What a node shows.
+    Look(u8, Look),
+    /// How many turns were done.
+    Done(u32),
+}
+
+/// One thing that a node shows.
+#[derive(Clone, Copy)]
+enum Look {
+    Phase(Phase),
+    Timer(u16),
+    Parent(Option<u8>),
+    Child(u8),
+    Granted(bool),
+    Id(Option<u8>),
+    Draws(u16),
+    FirstDraws(u32),
+    TimedOut(bool),
+    Resets(u32),
+    Changed(u32),
+    List(&'static [u32]),
+}
+
+use Look::{Changed, Child, Draws, FirstDraws, Granted, Id, List, Parent, Resets, TimedOut, Timer};
+use Step::{Done, Hold, InUse, Look as See, Plug, Pull, Reset, Turns};
+
+/// A specification of a node whose cables delay by at most `d` turns.
+fn spec(node: Node, d: u8) -> NodeSpec
+    requires some { 1 ≤ d }
+    requires few { d ≤ 16 }
+    ensures is { IsSpec result }
+    ensures timing { InRange d result.timing }
+{
+    NodeSpec {
+        ports: node.ports.clamp(1, 16),
+        attrs: Attrs {
+            link: node.link,
+            gap: 63,
+            speed: node.speed.min(3),
+            delay: 0,
+            contender: node.contender,
+            power: 0,
+            initiated: false,
+        },
+        timing: Timing::usual(d),
+        force: false,
+        coins: Coins::bits(node.coins, 64),
+    }
+}
+
+fn machine(spec: NodeSpec, packed: bool) -> AnyMachine
+    requires { IsSpec spec }
+    ensures { any_node result ≡ node_of_spec spec }
+{
+    if packed {
+        AnyMachine::Packed(PackedMachine::new(spec))
+    } else {
+        AnyMachine::Field(FieldMachine::new(spec))
+    }
+}
+
+/// A machine that was just powered on.
+fn powered_on(node: Node, d: u8, packed: bool) -> AnyMachine
+    requires some { 1 ≤ d }
+    requires few { d ≤ 16 }
+    ensures { IsNodeAtPowerOn d (any_node result).state }
+{
+    machine(spec(node, d), packed)
+}
+
+fn machines(
+    alloc: Global,
+    nodes: &[Node],
+    d: u8,
+    packed: bool,
+) -> Result<Vec<AnyMachine>, AllocError>
+    requires some { 1 ≤ d }
+    requires few { d ≤ 16 }
+    ensures power_on { IfOk result (λ made.
+        All (λ m. IsNodeAtPowerOn d (any_node m).state) made.items) }
+    ensures length { IfOk result (λ made. length made.items ≡ length nodes.now) }
+{
+    let mut made = Vec::new(alloc);
+    for node in nodes {
+        made.push(powered_on(*node, d, packed))?;
+    }
+    Ok(made)
+}
+
+/// A world of these nodes at power-on, without cables.
+fn world(
+    rt: &impl Abort,
+    alloc: Global,
+    nodes: &[Node],
+    d: u8,
+    packed: bool,
+) -> Result<World<AnyMachine>, Fail>
+    ensures { IfOk result (λ made.
+        length (⟦<World<AnyMachine> as WorldRun>⟧.world made).nodes ≡ length nodes.now) }
+{
+    assert!(rt; 1 <= d && d <= 16);
+    assert!(rt; nodes.len() <= 63);
+    Ok(World::new(alloc, d, machines(alloc, nodes, d, packed)?)?)
+}
+
+fn end(node: u8, port: u8) -> End {
+    End { node, port }
+}
+
+fn in_use<W: WorldRun>(rt: &impl Abort, world: &mut W, a: End, b: End)
+    ensures { length (W.world world.new).nodes ≡ length (W.world world.old).nodes }
+{
+    let done = world.act(&Act::Plug { a, b });
+    assert!(rt; matches!(done, Err(ActStop::Fault(CableFault::InUse { .. }))));
+}
+
+fn turns<W: WorldRun>(rt: &impl Abort, world: &mut W, count: u32) -> Result<(), Fail>
+    ensures { OnOk result (length (W.world world.new).nodes ≡ length (W.world world.old).nodes) }
+{
+    assert!(rt; world.turns() <= 1_000_000 && count <= 1_000_000);
+    Ok(world.run_turns(count)?)
+}
+
+fn see<W: WorldRun>(rt: &impl Abort, world: &W, node: u8, look: Look, name: &str)
+    requires { node < length (W.world world.now).nodes }
+{
+    let view = world.view(node);
+    match look {
+        Look::Phase(phase) => assert_eq!(rt; view.phase, phase, "{name}, node {node}"),
+        Timer(ticks) => assert_eq!(rt; view.timer, ticks, "{name}, node {node}"),
+        Parent(port) => assert_eq!(rt; view.parent, port, "{name}, node {node}"),
+        Child(port) => {
+            assert!(rt; usize::from(port) < view.ports.as_slice().len());
+            assert!(rt;
+                view.ports.get(usize::from(port)).child,
+                "{name}, node {node}"
+            );
+        }
+        Granted(granted) => assert_eq!(rt; view.granted, granted, "{name}, node {node}"),
+        Id(id) => assert_eq!(rt; view.id, id, "{name}, node {node}"),
+        Draws(draws) => assert_eq!(rt; view.draws, draws, "{name}, node {node}"),
+        FirstDraws(bits) => assert_eq!(rt; view.first_draws, bits, "{name}, node {node}"),
+        TimedOut(out) => assert_eq!(rt; view.timed_out, out, "{name}, node {node}"),
+        Resets(resets) => assert_eq!(rt; view.resets, resets, "{name}, node {node}"),
+        Changed(turn) => assert_eq!(rt; world.changed(node), turn, "{name}, node {node}"),
+        List(list) => assert_eq!(rt; world.list(node), list, "{name}, node {node}"),
+    }
+}
+
+/// Does a step to a world of so many nodes, or looks at it.
+fn take<W: WorldRun>(
+    rt: &impl Abort,
+    world: &mut W,
+    nodes: u8,
+    step: Step,
+    name: &str,
+) -> Result<(), Fail>
+    requires { length (W.world world.old).nodes ≡ nodes }
+    ensures { OnOk result (length (W.world world.new).nodes ≡ nodes) }
+{
+    match step {
+        Plug(a, p, b, q) => world.act(&Act::Plug {
+            a: end(a, p),
+            b: end(b, q),
+        })?,
+        Pull(a, p) => world.act(&Act::Pull { end: end(a, p) })?,
+        Reset(node) => world.act(&Act::Reset { node })?,
+        Hold(a, p, turns) => world.hold(end(a, p), turns)?,
+        Turns(count) => turns(rt, world, count)?,
+        InUse(a, p, b, q) => in_use(rt, world, end(a, p), end(b, q)),
+        See(node, look) => {
+            assert!(rt; node < nodes, "{name}");
+            see(rt, world, node, look, name);
+        }
+        Done(count) => assert_eq!(rt; world.turns(), count, "{name}"),
+    }
+    Ok(())
+}
+
+/// Takes steps, one after the other.
+fn take_all<W: WorldRun>(
+    rt: &impl Abort,
+    world: &mut W,
+    nodes: u8,
+    steps: &[Step],
+    name: &str,
+) -> Result<(), Fail>
+    requires { length (W.world world.old).nodes ≡ nodes }
+    ensures { OnOk result (length (W.world world.new).nodes ≡ nodes) }
+{
+    for step in steps {
+        take(rt, world, nodes, *step, name)?;
+    }
+    Ok(())
+}
+
+/// Two nodes and a cable: they leave reset, contend, and the one with ones becomes root.
+const TWO: &[Step] = &[
+    Plug(0, 0, 1, 0),
+    Turns(256),
+    See(0, Look::Phase(Phase::ResetWait)),
+    See(1, Look::Phase(Phase::ResetWait)),
+    Turns(1),
+    See(0, Look::Phase(Phase::TreeStart)),
+    See(1, Look::Phase(Phase::TreeStart)),
+    See(0, Timer(0)),
+    See(0, Resets(2)),
+    See(1, Resets(2)),
+    Turns(3),
+    See(0, Look::Phase(Phase::Contend)),
+    See(1, Look::Phase(Phase::Contend)),
+    See(0, Draws(1)),
+    See(1, Draws(1)),
+    Turns(12),
+    See(0, Look::Phase(Phase::ParentShake)),
+    Turns(20),
+    See(1, Look::Phase(Phase::ChildShake)),
+    See(1, Parent(None)),
+    See(1, Child(0)),
+    Turns(5),
+    See(0, Id(Some(0))),
+    See(1, Id(None)),
+    Turns(1),
+    See(1, Id(Some(1))),
+    Turns(1),
+    See(0, List(&[0x807f_8096, 0x817f_80d6])),
+    See(1, List(&[0x807f_8096, 0x817f_80d6])),
+    See(0, Changed(299)),
+    InUse(0, 0, 1, 1),
+    See(0, Look::Phase(Phase::Ready)),
+    Done(299),
+];
+
+/// The same coins for ever.
+const EQUAL: &[Step] = &[
+    Plug(0, 0, 1, 0),
+    Turns(8_128),
+    See(0, Draws(606)),
+    See(1, Draws(606)),
+    See(0, FirstDraws(0)),
+    See(1, FirstDraws(0)),
+];
+
+/// Three nodes in line, whose middle becomes root.
+const THREE: &[Step] = &[
+    Plug(0, 0, 1, 0),
+    Plug(1, 1, 2, 0),
+    Turns(260),
+    See(0, Look::Phase(Phase::SelfIdent)),
+    See(0, Parent(Some(0))),
+    See(2, Look::Phase(Phase::SelfIdent)),
+    See(2, Parent(Some(0))),
+    Turns(2),
+    See(1, Look::Phase(Phase::SelfIdent)),
+    See(1, Granted(true)),
+    See(1, Parent(None)),
+    Turns(6),
+    See(0, List(&[0x807f_8896, 0x817f_8096, 0x827f_80f6])),
+    See(1, List(&[0x807f_8896, 0x817f_8096, 0x827f_80f6])),
+    See(2, List(&[0x807f_8896, 0x817f_8096, 0x827f_80f6])),
+    Turns(8_000),
+    See(0, Changed(268)),
+];
+
+/// Two nodes with two cables between them.
+const TWICE: &[Step] = &[
+    Plug(0, 0, 1, 0),
+    Plug(0, 1, 1, 1),
+    Turns(2_304),
+    See(0, TimedOut(false)),
+    See(1, TimedOut(false)),
+    Turns(1),
+    See(0, TimedOut(true)),
+    See(1, TimedOut(true)),
+];
+
+/// A ring that is closed while a reset goes round.
+const RING: &[Step] = &[
+    Plug(0, 0, 1, 0),
+    Plug(1, 1, 2, 0),
+    Plug(2, 1, 3, 0),
+    Turns(400),
+    Reset(0),
+    Turns(1),
+    Plug(3, 1, 0, 1),
+    Turns(16),
+    See(0, Resets(4)),
+    See(1, Resets(4)),
+    See(2, Resets(4)),
+    See(3, Resets(3)),
+    Turns(1_000),
+    See(0, Resets(4)),
+    See(1, Resets(4)),
+    See(2, Resets(4)),
+    See(3, Resets(3)),
+    Turns(7_368),
+    Done(8_785),
+    See(0, TimedOut(true)),
+    See(2, TimedOut(true)),
+    See(2, Changed(402)),
+    See(2, List(&[])),
+];
+
+/// A contention of which both wires are held, so that each signal comes as late as it may.
+const HELD: &[Step] = &[
+    Plug(0, 0, 1, 0),
+    Turns(258),
+    Hold(0, 0, 40),
+    Hold(1, 0, 40),
+    Turns(1),
+    See(0, Look::Phase(Phase::ParentShake)),
+    Turns(3),
+    See(0, Look::Phase(Phase::Contend)),
+    See(1, Look::Phase(Phase::Contend)),
+    Turns(12),
+    See(0, Look::Phase(Phase::ParentShake)),
+    Turns(20),
+    See(1, Look::Phase(Phase::ChildShake)),
+    Turns(4),
+    See(0, Look::Phase(Phase::SelfIdent)),
+    Turns(4),
+    See(0, Id(Some(0))),
+    Turns(2),
+    See(0, List(&[0x807f_8096, 0x817f_80d6])),
+    See(0, Changed(304)),
+    See(1, Changed(303)),
+];
+
+/// A cable that is pulled when a packet is under way, and plugged into the same ends a turn later.
+/// The packet doesn't come.
+const AGAIN: &[Step] = &[
+    Plug(0, 0, 1, 0),
+    Turns(298),
+    See(0, List(&[0x807f_8096])),
+    See(1, List(&[0x807f_8096, 0x817f_80d6])),
+    Pull(0, 0),
+    Turns(1),
+    Plug(0, 0, 1, 0),
+    Turns(1),
+    See(0, List(&[])),
+    See(0, Resets(4)),
+    See(1, Resets(4)),
+    Turns(256),
+    See(0, Look::Phase(Phase::TreeStart)),
+    Turns(3),
+    See(0, Look::Phase(Phase::Contend)),
+    Turns(39),
+    See(0, List(&[0x807f_8096, 0x817f_80d6])),
+    See(0, Changed(598)),
+    See(1, Changed(597)),
+];
+
+/// A desk whose camera is pulled while packets are under way, and a wire is held.
+const DESK: &[Step] = &[
+    Plug(0, 0, 1, 0),
+    Turns(300),
+    Plug(2, 0, 1, 1),
+    Turns(10),
+    Plug(3, 0, 1, 4),
+    Plug(4, 0, 1, 2),
+    Turns(270),
+    Hold(1, 0, 3),
+    Pull(3, 0),
+    Turns(8_560),
+    Done(9_140),
+    See(0, List(DESK_LIST)),
+    See(1, List(DESK_LIST)),
+    See(2, List(DESK_LIST)),
+    See(4, List(DESK_LIST)),
+    See(3, List(&[0x807f_0042])),
+    See(3, Changed(841)),
+    See(2, Id(Some(0))),
+    See(4, Id(Some(1))),
+    See(1, Id(Some(2))),
+    See(0, Id(Some(3))),
+    See(0, Parent(None)),
+];
+
+/// The disk, the tape, the hub and the computer.
+const DESK_LIST: &[u32] = &[
+    0x807f_8090,
+    0x817f_0090,
+    0x823f_80bf,
+    0x8281_5000,
+    0x837f_88d4,
+];
+
+const DESK_NODES: &[Node] = &[
+    Node {
+        contender: true,
+        ..USUAL
+    },
+    Node {
+        ports: 6,
+        link: false,
+        ..ONES
+    },
+    Node { ports: 2, ..USUAL },
+    Node {
+        ports: 1,
+        speed: 0,
+        ..USUAL
+    },
+    Node {
+        ports: 2,
+        speed: 0,
+        ..USUAL
+    },
+];
+
+#[test]
+fn nodes_show_what_was_worked_out(rt: HostRuntime) -> Result<(), Fail> {
+    for (name, nodes, steps) in [
+        ("two nodes", [USUAL, ONES].as_slice(), TWO),
+        ("equal coins", &[USUAL, USUAL], EQUAL),
+        (
+            "three in line",
+            &[
+                Node {
+                    contender: true,
+                    ..USUAL
+                },
+                USUAL,
+                USUAL,
+            ],
+            THREE,
+        ),
+        ("two cables", &[USUAL, USUAL], TWICE),
+        ("a ring closed late", &[USUAL, USUAL, ONES, USUAL], RING),
+        ("held wires", &[USUAL, ONES], HELD),
+        ("a cable pulled and plugged", &[USUAL, ONES], AGAIN),
+        ("a desk", DESK_NODES, DESK),
+    ] {
+        for packed in [false, true] {
+            let mut world = world(&rt, rt.alloc(), nodes, 4, packed)?;
+            take_all(&rt, &mut world, nodes.len() as u8, steps, name)?;
+        }
+    }
+    Ok(())
+}
+
+/// Two nodes whose cable delays by at most one turn.
+const NEAR: &[Step] = &[
+    Plug(0, 0, 1, 0),
+    Turns(64),
+    See(0, Look::Phase(Phase::ResetWait)),
+    Turns(1),
+    See(0, Look::Phase(Phase::TreeStart)),
+    Turns(68),
+    See(0, Changed(83)),
+    See(1, Changed(82)),
+    See(1, Id(Some(1))),
+];
+
+/// Two nodes whose cable delays by at most sixteen turns.
+const FAR: &[Step] = &[
+    Plug(0, 0, 1, 0),
+    Turns(1_024),
+    See(0, Look::Phase(Phase::ResetWait)),
+    Turns(1),
+    See(0, Look::Phase(Phase::TreeStart)),
+    Turns(188),
+    See(0, Changed(1_163)),
+    See(1, Changed(1_162)),
+    See(1, Id(Some(1))),
+];
+
+#[test]
+fn delays(rt: HostRuntime) -> Result<(), Fail> {
+    for (d, steps) in [(1, NEAR), (16, FAR)] {
+        for packed in [false, true] {
+            let mut world = world(&rt, rt.alloc(), &[USUAL, ONES], d, packed)?;
+            take_all(&rt, &mut world, 2, steps, "two nodes")?;
+        }
+    }
+    Ok(())
+}
+
+/// Each node has the list of node 0, of so many quadlets.
+fn agree<W: WorldRun>(rt: &impl Abort, world: &W, nodes: u8, quads: usize)
+    requires { length (W.world world.now).nodes ≡ nodes }
+{
+    for node in 0..nodes {
+        assert_eq!(rt; world.list(node).len(), quads, "node {node}");
+        assert_eq!(rt; world.list(node), world.list(0), "node {node}");
+    }
+}
+
+#[test]
+fn a_line_of_the_most_nodes(rt: HostRuntime) -> Result<(), Fail> {
+    let mut cables = [Done(0); 62];
+    for node in 0..62u8 {
+        cables[usize::from(node)] = Plug(node, 1, node + 1, 0);
+    }
+    for packed in [false, true] {
+        let mut world = world(&rt, rt.alloc(), &[USUAL; 63], 4, packed)?;
+        take_all(&rt, &mut world, 63, &cables, "line")?;
+        let middle = [Turns(2_000), See(31, Parent(None)), See(31, Id(Some(62)))];
+        take_all(&rt, &mut world, 63, &middle, "line")?;
+        agree(&rt, &world, 63, 63);
+    }
+    Ok(())
+}
+
+#[test]
+fn a_node_with_the_most_neighbours(rt: HostRuntime) -> Result<(), Fail> {
+    let mut nodes = [USUAL; 17];
+    nodes[0].ports = 16;
+    let mut cables = [Done(0); 16];
+    for port in 0..16u8 {
+        cables[usize::from(port)] = Plug(0, port, port + 1, 2);
+    }
+    for packed in [false, true] {
+        let mut world = world(&rt, rt.alloc(), &nodes, 4, packed)?;
+        take_all(&rt, &mut world, 17, &cables, "star")?;
+        let hub = [Turns(2_000), See(0, Parent(None)), See(0, Id(Some(16)))];
+        take_all(&rt, &mut world, 17, &hub, "star")?;
+        agree(&rt, &world, 17, 19);
+    }
+    Ok(())
+}

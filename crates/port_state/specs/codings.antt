@@ -1,0 +1,2 @@
+-- Devices of the proofs. No public contract cites these files.
+pub mod OneProof
