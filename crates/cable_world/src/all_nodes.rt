@@ -1,12 +1,13 @@
 //! The turn of a world, over its parts.
-ghost use Rattle.std.specs.Prelude.{◌≡◌, ◌==◌, ◌+◌, ◌<◌, ◌≤◌, length, map, OnOk, IfOk, All, if◌then◌else◌};
-ghost use Rattle.port_state.specs.Machine.{NodeStep};
+ghost use Rattle.std.specs.Prelude.{◌≡◌, ◌==◌, ◌+◌, ◌<◌, ◌≤◌, length, map, OnOk, IfOk, IsTrue, List, All, if◌then◌else◌};
+ghost use Rattle.port_state.specs.Machine.{PortNode, NodeStep};
 ghost use Rattle.cable_world.specs.Wire.{arrives, stays};
-ghost use Rattle.cabling.specs.Wiring.{ports_of};
+ghost use Rattle.cabling.specs.Wiring.{Wiring, ports_of};
 ghost use Rattle.cable_world.specs.Turn.{node_turn, wires_after_sends, same_list};
 ghost use Rattle.cable_world.specs.Turn.{all_wires_after_sends, last_changes};
 ghost use Rattle.cable_world.specs.codings.Hearing.{inbox_of};
 ghost use Rattle.cable_world.specs.codings.Ages.{AreYoung};
+ghost use Rattle.cable_world.specs.codings.Rest.{AreNone};
 ghost use Rattle.cable_world.specs.codings.Steps.{turns_of, HasItsPorts};
 ghost use Rattle.cable_world.specs.Parts.{world_record};
 ghost use Rattle.cable_world.specs.Turn.{turn};
@@ -18,20 +19,33 @@ use cabling::{Cabling, OutOfMemory};
 use port_state::{PortMachine, Sends};
 
 /// A turn of every wire. What arrives at their far ends takes the place of what is in `arrivals`.
+/// Answers whether it is known that nothing arrives.
 pub fn turn_wires(
     wires: &mut [WireRow],
     delay: u8,
     arrivals: &mut [ArrivalRow],
-) -> Result<(), OutOfMemory>
+) -> Result<bool, OutOfMemory>
     requires young { All (λ row. All AreYoung row) wires.old }
     requires same { map length arrivals.old ≡ map length wires.old }
     ensures stays { OnOk result (wires.new ≡ map (map (stays delay)) wires.old) }
     ensures arrives { OnOk result (arrivals.new ≡ map (map (arrives delay)) wires.old) }
+    ensures none { IfOk result (λ none. IsTrue none → All AreNone arrivals.new) }
 {
+    let mut none = true;
     for at in 0..wires.len() {
         wires[at].turn(delay, &mut arrivals[at])?;
+        none &= arrivals[at].is_none();
     }
-    Ok(())
+    Ok(none)
+}
+
+/// What arrives, or an empty table where nothing does.
+fn if_any(arrivals: &[ArrivalRow], none: bool) -> &[ArrivalRow]
+    requires { IsTrue none → All AreNone arrivals.now }
+    ensures { (c : Wiring) (nodes : List PortNode) →
+        turns_of result.now c nodes ≡ turns_of arrivals.now c nodes }
+{
+    if none { &[] } else { arrivals }
 }
 
 /// When a list changed last, by its lengths before and after a turn. A list only grows at its end or is
@@ -134,7 +148,8 @@ pub fn turn_world<M: PortMachine>(
         turns)) }
     ensures same { OnOk result (map length arrivals.new ≡ map length wires.new) }
 {
-    turn_wires(wires, delay, arrivals)?;
-    turn_nodes(machines, cabling, arrivals, turns + 1, changed, out, wires)?;
+    let none = turn_wires(wires, delay, arrivals)?;
+    let heard = if_any(arrivals, none);
+    turn_nodes(machines, cabling, heard, turns + 1, changed, out, wires)?;
     Ok(())
 }

@@ -78,6 +78,13 @@ impl ArrivalRow {
         }
     }
 
+    /// Whether it is known that nothing arrives.
+    pub fn is_none(&self) -> bool
+        ensures { IsTrue result → AreNone self.now }
+    {
+        !self.any
+    }
+
     /// Nothing arrives any more.
     fn clear(&mut self)
         ensures { self.new ≡ map (λ old. []) self.old }
