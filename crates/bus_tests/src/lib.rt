@@ -13,3 +13,5 @@ mod inputs;
 mod maps;
 #[cfg(test)]
 mod rom;
+#[cfg(test)]
+mod settled;

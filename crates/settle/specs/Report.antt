@@ -55,8 +55,9 @@ pub record IsReport (w : CableWorld) (report : Report) : Type 0 where
 
 -- ---- the turns before it
 
+-- so many as its nodes and its cables want
 abbrev pub quiet_turns_of : CableWorld → ℕ
-quiet_turns_of w = quiet_turns (length w.nodes) w.delay
+quiet_turns_of w = quiet_turns (length w.cabling) w.delay
 
 -- all of these turns were done, and nothing else
 abbrev pub IsAfterQuiet : CableWorld → CableWorld → Type 0
