@@ -14,4 +14,6 @@ mod maps;
 #[cfg(test)]
 mod rom;
 #[cfg(test)]
+mod settled;
+#[cfg(test)]
 mod worlds;
