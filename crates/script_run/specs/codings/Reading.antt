@@ -1,0 +1,19 @@
+-- Reading by forms, one after the other.
+use Rattle.std.specs.Prelude.{ℕ, List, [], ◌∷◌, Option, Some, None, Result, Ok, Err, if◌then◌else◌}
+use Rattle.script_run.specs.declared.command.Command.{Command}
+use Rattle.script_run.specs.declared.kind.Kind.{Kind}
+use Rattle.script_run.specs.declared.kind.Kind.TheVariants.{Word}
+use Rattle.script_run.specs.Shape.{fit, first_wrong}
+use Rattle.script_run.specs.Form.{Form, shapes, command_of}
+
+-- the value, unless there is a fault
+abbrev pub unless : Option Kind → Command → Result Command Kind
+unless None command = Ok command
+unless (Some kind) command = Err kind
+
+-- what words say by the first of these forms that they have
+abbrev pub read_by : List Form → List (List ℕ) → Result Command Kind
+read_by [] words = Err Word
+read_by (form ∷ forms) words =
+    if fit (shapes form) words then unless (first_wrong (shapes form) words) (command_of form words)
+    else read_by forms words
