@@ -25,6 +25,12 @@ pub data Form : Type 0 where
   maps : Form
   delay : Form
 
+-- all of them
+abbrev pub forms : List Form
+forms =
+    plug ∷ pull ∷ reset ∷ turn ∷ hold ∷ settle ∷ config_root ∷ config_gap ∷ config_both ∷ csr_read
+    ∷ csr_write ∷ csr_lock ∷ look ∷ allocate ∷ release ∷ manager ∷ maps ∷ delay ∷ []
+
 -- the words of each form
 abbrev pub shapes : Form → List Shape
 shapes plug = the (codes "plug") ∷ a_name ∷ any_number ∷ a_name ∷ any_number ∷ []

@@ -7,6 +7,7 @@
 mod acts;
 mod asks;
 mod command;
+mod fixed;
 mod kind;
 mod number;
 mod word;
