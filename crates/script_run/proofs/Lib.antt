@@ -1,3 +1,5 @@
 pub mod Names
 pub mod Digits
 pub mod Parts
+pub mod GivenValues
+pub mod CoinBits

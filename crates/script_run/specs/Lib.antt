@@ -3,4 +3,7 @@ pub mod Number
 pub mod Name
 pub mod Shape
 pub mod Form
+pub mod Coins
+pub mod Key
+pub mod Node
 pub mod codings

@@ -6,10 +6,14 @@
 
 mod acts;
 mod asks;
+mod coins;
 mod command;
 mod fixed;
+mod key;
 mod kind;
+mod node;
 mod number;
+mod pairs;
 mod word;
 mod words;
 

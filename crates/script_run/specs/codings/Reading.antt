@@ -5,6 +5,7 @@ use Rattle.script_run.specs.declared.kind.Kind.{Kind}
 use Rattle.script_run.specs.declared.kind.Kind.TheVariants.{Word}
 use Rattle.script_run.specs.Shape.{fit, first_wrong}
 use Rattle.script_run.specs.Form.{Form, shapes, command_of}
+use Rattle.script_run.specs.Node.{has_node_form, wrong_node, node_command}
 
 -- the value, unless there is a fault
 abbrev pub unless : Option Kind → Command → Result Command Kind
@@ -17,3 +18,8 @@ read_by [] words = Err Word
 read_by (form ∷ forms) words =
     if fit (shapes form) words then unless (first_wrong (shapes form) words) (command_of form words)
     else read_by forms words
+
+-- what words say that declare a node or say nothing
+abbrev pub read_node : ℕ → List (List ℕ) → Result Command Kind
+read_node d words =
+    if has_node_form words then unless (wrong_node d words) (node_command words) else Err Word
