@@ -3,3 +3,4 @@ pub mod Digits
 pub mod Parts
 pub mod GivenValues
 pub mod CoinBits
+pub mod Uniform

@@ -6,4 +6,5 @@ pub mod Form
 pub mod Coins
 pub mod Key
 pub mod Node
+pub mod Line
 pub mod codings

@@ -11,6 +11,7 @@ mod command;
 mod fixed;
 mod key;
 mod kind;
+mod line;
 mod node;
 mod number;
 mod pairs;

@@ -7,7 +7,8 @@ use crate::word::Word;
 use std::alloc::Global;
 use topology_stack::OutOfMemory;
 
-fn is_blank(c: u8) -> bool
+/// Whether a character parts words.
+pub(crate) fn is_blank(c: u8) -> bool
     ensures { result ≡ is_blank c }
 {
     c == b' ' || c == b'\t'

@@ -4,7 +4,7 @@ use Rattle.script_run.specs.declared.command.Command.{Command}
 use Rattle.script_run.specs.declared.kind.Kind.{Kind}
 use Rattle.script_run.specs.declared.kind.Kind.TheVariants.{Word}
 use Rattle.script_run.specs.Shape.{fit, first_wrong}
-use Rattle.script_run.specs.Form.{Form, shapes, command_of}
+use Rattle.script_run.specs.Form.{Form, forms, shapes, command_of}
 use Rattle.script_run.specs.Node.{has_node_form, wrong_node, node_command}
 
 -- the value, unless there is a fault
@@ -23,3 +23,9 @@ read_by (form ∷ forms) words =
 abbrev pub read_node : ℕ → List (List ℕ) → Result Command Kind
 read_node d words =
     if has_node_form words then unless (wrong_node d words) (node_command words) else Err Word
+
+-- what words say
+abbrev pub read_words : ℕ → List (List ℕ) → Result Command Kind
+read_words d words =
+    if has_node_form words then unless (wrong_node d words) (node_command words)
+    else read_by forms words

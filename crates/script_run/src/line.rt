@@ -1,0 +1,59 @@
+//! A line of a script.
+ghost use Rattle.std.specs.Prelude.{◌≡◌, ◌≤◌, find, not};
+ghost use Rattle.std.specs.List.{list_all};
+ghost use Rattle.std.specs.Str.Lines.{strip_carriage_return};
+ghost use Rattle.script_run.specs.Words.{is_blank, is_permitted};
+ghost use Rattle.script_run.specs.Line.{is_skipped};
+ghost use Rattle.script_run.specs.codings.Reading.{read_words};
+
+use crate::command::Command;
+use crate::fixed::read_fixed;
+use crate::kind::{Kind, LineStop};
+use crate::node::node;
+use crate::word::Word;
+use crate::words::{are_permitted, is_blank, words_of};
+use std::alloc::Global;
+
+/// A line without the carriage return at its end.
+fn without_return(line: &[u8]) -> &[u8]
+    ensures { result.now ≡ strip_carriage_return line.now }
+{
+    match line {
+        [front @ .., b'\r'] => front,
+        _ => line,
+    }
+}
+
+/// The first character of a line that is no blank.
+fn first_shown(line: &[u8]) -> Option<u8>
+    ensures { result ≡ find (λ c. not (is_blank c)) line.now }
+{
+    line.iter().copied().find(|c| !is_blank(*c))
+}
+
+/// Whether a line has no words, or is a comment.
+fn is_skipped(line: &[u8]) -> bool
+    ensures { result ≡ is_skipped line.now }
+{
+    match first_shown(line) {
+        Some(c) => c == b'#',
+        None => true,
+    }
+}
+
+/// The command that words say.
+fn read_words(words: &[Word], d: u8) -> Result<Command, Kind>
+    requires { d ≤ 16 }
+    ensures { result ≡ read_words d words.now }
+{
+    match words {
+        [] => Err(Kind::Word),
+        [verb, args @ ..] => {
+            if verb.is(b"node") {
+                node(args, d)
+            } else {
+                read_fixed(verb, args)
+            }
+        }
+    }
+}
