@@ -7,4 +7,5 @@ pub mod Coins
 pub mod Key
 pub mod Node
 pub mod Line
+pub mod Answer
 pub mod codings

@@ -4,7 +4,8 @@ ghost use Rattle.std.specs.List.{list_all};
 ghost use Rattle.std.specs.Str.Lines.{strip_carriage_return};
 ghost use Rattle.script_run.specs.Words.{is_blank, is_permitted};
 ghost use Rattle.script_run.specs.Line.{is_skipped};
-ghost use Rattle.script_run.specs.codings.Reading.{read_words};
+ghost use Rattle.script_run.specs.codings.Reading.{read_words, read_line};
+ghost use Rattle.script_run.specs.Answer.{Answers};
 
 use crate::command::Command;
 use crate::fixed::read_fixed;
@@ -56,4 +57,20 @@ fn read_words(words: &[Word], d: u8) -> Result<Command, Kind>
             }
         }
     }
+}
+
+/// The command of a line that has no carriage return at its end.
+fn read_line(alloc: Global, line: &[u8], d: u8) -> Result<Option<Command>, LineStop>
+    requires { d ≤ 16 }
+    ensures { Answers result (read_line d line.now) }
+{
+    if is_skipped(line) {
+        return Ok(None);
+    }
+    if !are_permitted(line) {
+        return Err(LineStop::Fault(Kind::Word));
+    }
+    let words = words_of(alloc, line)?;
+    let command = read_words(words.as_slice(), d)?;
+    Ok(Some(command))
 }

@@ -6,6 +6,8 @@ use Rattle.script_run.specs.declared.kind.Kind.TheVariants.{Word}
 use Rattle.script_run.specs.Shape.{fit, first_wrong}
 use Rattle.script_run.specs.Form.{Form, forms, shapes, command_of}
 use Rattle.script_run.specs.Node.{has_node_form, wrong_node, node_command}
+use Rattle.script_run.specs.Words.{words_of}
+use Rattle.script_run.specs.Line.{is_skipped, is_permitted_line}
 
 -- the value, unless there is a fault
 abbrev pub unless : Option Kind → Command → Result Command Kind
@@ -29,3 +31,14 @@ abbrev pub read_words : ℕ → List (List ℕ) → Result Command Kind
 read_words d words =
     if has_node_form words then unless (wrong_node d words) (node_command words)
     else read_by forms words
+
+-- a command that stands in a line
+abbrev pub in_line : Result Command Kind → Result (Option Command) Kind
+in_line (Ok command) = Ok (Some command)
+in_line (Err kind) = Err kind
+
+-- what a line says that has no carriage return at its end
+abbrev pub read_line : ℕ → List ℕ → Result (Option Command) Kind
+read_line d line =
+    if is_skipped line then Ok None
+    else if is_permitted_line line then in_line (read_words d (words_of line)) else Err Word
