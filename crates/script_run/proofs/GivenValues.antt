@@ -14,7 +14,7 @@ use Rattle.script_run.specs.declared.key.Key.TheVariants.{Speed, Link, Contender
 use Rattle.script_run.specs.Number.{of_digits, number_of}
 use Rattle.std.specs.List.{list_all}
 use Rattle.script_run.specs.Coins.{is_coin, are_coins}
-use Rattle.script_run.specs.Shape.{out_of, wrong_number}
+use Rattle.script_run.specs.Shape.{out_of}
 use Rattle.script_run.specs.Key.{word_of, key_of, limits, wrong_value}
 use Rattle.script_run.specs.Node.{given, is_taken, wrong_pair, first_wrong_pair}
 

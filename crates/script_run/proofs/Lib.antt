@@ -4,3 +4,4 @@ pub mod Parts
 pub mod GivenValues
 pub mod CoinBits
 pub mod Uniform
+pub mod LineRead

@@ -1,10 +1,10 @@
 -- The test of names says what the definition of names says.
-use Rattle.std.proofs.Common.{◌≡◌, ℕ, ◌≤◌, ◌<◌, ◌⊎◌, List, [], ◌∷◌, length, true, false, ◌&&◌, refl, sym, arith}
+use Rattle.std.proofs.Common.{◌≡◌, ℕ, ◌≤◌, List, [], ◌∷◌, length, true, arith}
 use Rattle.std.proofs.lemmas.Bool.Decides.{nat_tests}
-use Rattle.std.specs.Prelude.{All, nat_le}
-use Rattle.std.specs.List.{list_all, AllPass}
+use Rattle.std.specs.Prelude.{nat_le}
+use Rattle.std.specs.List.{list_all}
 use Rattle.std.proofs.lemmas.List.Sums.{AllPass-from_list_all, list_all-from_AllPass}
-use Rattle.topology_stack.specs.Name.{IsName, IsNameChar, IsLetter, BeginsWithLetter}
+use Rattle.topology_stack.specs.Name.{IsName, IsNameChar, IsLetter}
 use Rattle.script_run.specs.Name.{is_letter, is_name_char, is_name}
 
 pub letter : (c : ℕ) → is_letter c ≡ true → IsLetter c

@@ -1,6 +1,6 @@
 -- A line of words has one form at most.
-use Rattle.std.proofs.Common.{◌≡◌, ◌∙◌, ℕ, ◌≤◌, ◌-◌, List, [], ◌∷◌, Option, Some, None, Bool, true, false, ◌&&◌, length, take, drop, get_or, take_all, sub-one, codes, refl, sym, ap, subst, arith}
-use Rattle.std.specs.Prelude.{cond, not, Result, Ok, Err}
+use Rattle.std.proofs.Common.{◌≡◌, ◌∙◌, ℕ, ◌≤◌, ◌-◌, List, [], ◌∷◌, Bool, true, false, ◌&&◌, length, take, drop, get_or, take_all, sub-one, codes, refl, sym, ap, subst, arith}
+use Rattle.std.specs.Prelude.{cond, not, Result, Err}
 use Rattle.std.specs.Str.{bytes_eq}
 use Rattle.std.proofs.lemmas.Slice.Eq.{bytes_eq-Decides}
 use Rattle.script_run.specs.declared.command.Command.{Command}

@@ -1,9 +1,9 @@
 -- The lines of a script, but for those that declare nodes.
-use Rattle.std.specs.Prelude.{◌≡◌, ℕ, IsTrue, List, [], ◌∷◌, codes, slice_get, unwrap_or, Option, Some, None}
+use Rattle.std.specs.Prelude.{ℕ, List, [], ◌∷◌, codes, slice_get, unwrap_or, Some, None}
 use Rattle.script_run.specs.declared.command.Command.{Command}
 use Rattle.script_run.specs.declared.command.Command.TheVariants.{Plug, Pull, Reset, Turn, Hold, Settle, Config, CsrRead, CsrWrite, CsrLock, Look, Allocate, Release, Manager, Maps, Delay}
 use Rattle.script_run.specs.Number.{number_of}
-use Rattle.script_run.specs.Shape.{Shape, the, a_name, a_number, a_given, any_number, fit, first_wrong}
+use Rattle.script_run.specs.Shape.{Shape, the, a_name, a_number, a_given, any_number}
 
 pub data Form : Type 0 where
   plug : Form

@@ -1,5 +1,5 @@
 -- The keys of a node's line, and the values behind them.
-use Rattle.std.specs.Prelude.{ℕ, ◌+◌, ◌*◌, ◌||◌, Bool, true, false, List, [], ◌∷◌, codes, find, is_some, Option, Some, None, if◌then◌else◌}
+use Rattle.std.specs.Prelude.{ℕ, ◌*◌, ◌||◌, Bool, true, false, List, [], ◌∷◌, codes, find, Option, Some, None, if◌then◌else◌}
 use Rattle.std.specs.Str.{bytes_eq}
 use Rattle.script_run.specs.declared.kind.Kind as faults
 use Rattle.script_run.specs.declared.kind.Kind.TheVariants.{Number}

@@ -1,5 +1,5 @@
 -- A line of a script: nothing, a command or a fault.
-use Rattle.std.specs.Prelude.{◌≡◌, ℕ, ◌==◌, ◌⊎◌, not, IsTrue, Bool, true, List, [], ◌∷◌, find, Option, Some, None, Result, Ok, Err}
+use Rattle.std.specs.Prelude.{◌≡◌, ℕ, ◌==◌, ◌⊎◌, not, IsTrue, Bool, true, List, find, Option, Some, None, Result, Ok, Err}
 use Rattle.std.specs.List.{list_all}
 use Rattle.std.specs.Str.Lines.{strip_carriage_return}
 use Rattle.script_run.specs.declared.kind.Kind.{Kind}
@@ -58,17 +58,20 @@ is_skipped line = begins_none (find (λ c. not (is_blank c)) line)
 abbrev pub is_permitted_line : List ℕ → Bool
 is_permitted_line line = list_all is_permitted line
 
--- A line without the carriage return at its end is nothing, a command, or at fault. It is nothing
--- where it is skipped. It is `Word` where it has a byte that isn't permitted, or its words have none
--- of the forms.
+-- The line has a byte that isn't permitted, or its words have none of the forms.
+abbrev pub IsNoLine : List ℕ → Type 0
+IsNoLine line = IsTrue (not (is_permitted_line line)) ⊎ HasNoForm (words_of line)
+
+-- A line without the carriage return at its end is nothing where it is skipped. Else it is a
+-- command, or it has a fault: `Word` where it is no line, and else that of the first word at fault.
 abbrev pub IsRead : ℕ → List ℕ → Result (Option Command) Kind → Type 0
 IsRead d line (Ok None) = IsTrue (is_skipped line)
 IsRead d line (Ok (Some command)) =
-    IsTrue (not (is_skipped line)) × IsTrue (is_permitted_line line)
-    × IsCommand d (words_of line) command
+    IsTrue (not (is_skipped line))
+    × (IsTrue (is_permitted_line line) × IsCommand d (words_of line) command)
 IsRead d line (Err kind) =
-    IsTrue (not (is_skipped line)) × (((kind ≡ Word) × (IsTrue (not (is_permitted_line line))))
-    ⊎ (IsTrue (is_permitted_line line) × ((kind ≡ Word) × HasNoForm (words_of line)))
+    IsTrue (not (is_skipped line))
+    × (((kind ≡ Word) × IsNoLine line)
     ⊎ (IsTrue (is_permitted_line line) × IsWrong d (words_of line) kind))
 
 -- what a line of a script is, where a cable delays by at most d ticks

@@ -1,6 +1,6 @@
 -- The words of a line.
-use Rattle.std.specs.Prelude.{ℕ, ◌==◌, ◌||◌, ◌&&◌, not, nat_le, Bool, List, [], ◌∷◌, length, take, drop, filter, ◌-◌, if◌then◌else◌}
-use Rattle.std.specs.List.{slice_split, list_all}
+use Rattle.std.specs.Prelude.{ℕ, ◌==◌, ◌||◌, ◌&&◌, not, nat_le, Bool, List, length, filter}
+use Rattle.std.specs.List.{slice_split}
 
 -- a space or a tab
 abbrev pub is_blank : ℕ → Bool

@@ -11,6 +11,7 @@ mod command;
 mod fixed;
 mod key;
 mod kind;
+mod laws;
 mod line;
 mod node;
 mod number;
@@ -20,4 +21,6 @@ mod words;
 
 pub use command::Command;
 pub use kind::{Kind, LineStop};
+pub use laws::one_reading;
+pub use line::parse_line;
 pub use topology_stack::{Name, OutOfMemory};

@@ -1,11 +1,14 @@
 //! A line of a script.
-ghost use Rattle.std.specs.Prelude.{◌≡◌, ◌≤◌, find, not};
+ghost use Rattle.std.specs.Prelude.{◌≡◌, ◌≤◌, find, not, Option, Result, Ok, IfOk, IfErr};
 ghost use Rattle.std.specs.List.{list_all};
 ghost use Rattle.std.specs.Str.Lines.{strip_carriage_return};
 ghost use Rattle.script_run.specs.Words.{is_blank, is_permitted};
 ghost use Rattle.script_run.specs.Line.{is_skipped};
 ghost use Rattle.script_run.specs.codings.Reading.{read_words, read_line};
-ghost use Rattle.script_run.specs.Answer.{Answers};
+ghost use Rattle.script_run.specs.Answer.{Answers, Refuses};
+ghost use Rattle.script_run.specs.Line.{Reads};
+ghost use Rattle.script_run.specs.declared.command.Command.{Command};
+ghost use Rattle.script_run.specs.declared.kind.Kind.{Kind};
 
 use crate::command::Command;
 use crate::fixed::read_fixed;
@@ -73,4 +76,22 @@ fn read_line(alloc: Global, line: &[u8], d: u8) -> Result<Option<Command>, LineS
     let words = words_of(alloc, line)?;
     let command = read_words(words.as_slice(), d)?;
     Ok(Some(command))
+}
+
+/// The command of one line of a script, where a cable delays a signal by at most `d` ticks, 1 to 16.
+/// `None` for a line with no words, and for a comment, whose first word begins with `#`.
+///
+/// A line is refused with
+/// - `Word` where it has a byte that isn't permitted, or its words have none of the forms of lines;
+/// - else with the fault of the first word that is at fault: `Number`, `Name`, `Range`, or `Twice` at
+///   a key that may not stand behind the keys before it.
+pub fn parse_line(alloc: Global, line: &[u8], d: u8) -> Result<Option<Command>, LineStop>
+    requires some { 1 ≤ d }
+    requires few { d ≤ 16 }
+    ensures found { IfOk result (λ command. Reads d line.now (Ok command)) }
+    ensures refused { IfErr result (λ stop. Refuses d line.now stop) }
+    ensures only { (reading : Result (Option Command) Kind) → Reads d line.now reading
+        → Answers result reading }
+{
+    read_line(alloc, without_return(line), d)
 }

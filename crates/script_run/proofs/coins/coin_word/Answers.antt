@@ -1,4 +1,3 @@
-use Rattle.std.proofs.Common.{◌≡◌}
 use Rattle.script_run.proofs.CoinBits.{one_more, no_more}
 use Rattle.script_run.proofs.coins.coin_word.Goals as goal
 use Rattle.script_run.proofs.coins.coin_word.Goals.{then-coin-eq49, else-coin-eq49}

@@ -1,4 +1,4 @@
-use Rattle.std.proofs.Common.{◌≡◌, ◌∙◌, sym, arith}
+use Rattle.std.proofs.Common.{◌∙◌, sym}
 use Rattle.script_run.proofs.Uniform.{first_and_others, read_others}
 use Rattle.script_run.proofs.line.read_words.Goals as goal
 

@@ -1,6 +1,4 @@
-use Rattle.std.proofs.Common.{◌≡◌, ◌≤◌, length, true, sym}
-use Rattle.std.specs.List.{list_all}
-use Rattle.script_run.specs.Coins.{is_coin}
+use Rattle.std.proofs.Common.{sym}
 use Rattle.script_run.proofs.GivenValues.{right_coins}
 use Rattle.script_run.proofs.node.coins.Goals as goal
 

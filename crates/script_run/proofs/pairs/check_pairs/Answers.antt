@@ -1,6 +1,4 @@
-use Rattle.std.proofs.Common.{◌≡◌, ◌≤◌, ◌+◌, ◌∙◌, ℕ, ◌-◌, length, drop, get_or, take, None, sym, arith}
-use Rattle.script_run.specs.Node.{wrong_pair}
-use Rattle.script_run.specs.Key.{key_of}
+use Rattle.std.proofs.Common.{◌≡◌, ◌≤◌, ◌+◌, ◌∙◌, ℕ, ◌-◌, length, drop, get_or, take, sym}
 use Rattle.script_run.proofs.GivenValues.{next_pair, to_the_end, two_behind}
 use Rattle.script_run.proofs.pairs.check_pairs.Goals as goal
 

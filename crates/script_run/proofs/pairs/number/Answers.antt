@@ -1,4 +1,4 @@
-use Rattle.std.proofs.Common.{◌≡◌, ◌≤◌, ℕ, sym, subst, Option}
+use Rattle.std.proofs.Common.{◌≤◌, ℕ, sym, subst, Option}
 use Rattle.std.specs.Prelude.{IfSome}
 use Rattle.script_run.specs.Key.{limits}
 use Rattle.script_run.proofs.GivenValues.{right_number}

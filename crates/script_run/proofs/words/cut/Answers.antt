@@ -1,6 +1,6 @@
-use Rattle.std.proofs.Common.{◌≡◌, arith, sym}
+use Rattle.std.proofs.Common.{arith, sym}
 use Rattle.std.proofs.lemmas.Grind.{common_steps}
-use Rattle.script_run.proofs.Parts.{words_of_cut, words_of_whole}
+use Rattle.script_run.proofs.Parts.{words_of_cut}
 use Rattle.script_run.proofs.words.cut.Goals as goal
 
 pub returns-in-Some-clause-cut : goal.returns-in-Some-clause-cut

@@ -1,4 +1,4 @@
-use Rattle.std.proofs.Common.{rules, ◌≡◌, arith}
+use Rattle.std.proofs.Common.{arith}
 use Rattle.std.proofs.lemmas.Grind.{common_steps}
 use Rattle.script_run.proofs.Names.{name_of_test, test_of_name}
 use Rattle.script_run.proofs.word.Word.name.Goals as goal
