@@ -2,7 +2,6 @@
 use Rattle.std.proofs.Common.{◌≡◌, ℕ, ◌+◌, ◌-◌, ◌*◌, ◌≤◌, Bool, true, false, Some, length, slice_get, refl, sym, ◌∙◌, ap, subst, arith, true≢false}
 use Rattle.cabling.specs.declared.cable.End.{End}
 use Rattle.cabling.specs.Wiring.{Wiring, far}
-use Rattle.cabling.specs.NodeSet.{IsEmpty}
 use Rattle.cabling.specs.Component.{IsClosed, IsComponent}
 use Rattle.cabling.specs.Looped.{IsCore}
 use Rattle.port_state.specs.declared.signal.Level.{Level}

@@ -18,15 +18,22 @@ pub zero-or : (n : ℕ) → (n ≡ 0) ⊎ (1 ≤ n)
 zero-or n = grind arith
 
 -- the wait shows the coin
-pub drawn-coin : (d : ℕ) (t : Timing) (c : Bool) → 1 ≤ d → InRange d t → nat_le (8 * d) (if c then t.long else t.short) ≡ c
+pub drawn-coin :
+    (d : ℕ) (t : Timing) (c : Bool) → 1 ≤ d → InRange d t → nat_le (8 * d)
+    (if c then t.long else t.short) ≡ c
 drawn-coin d t true o i = let l : 8 * d ≤ t.long = i.long_least in grind (arith, l)
 drawn-coin d t false o i = let l : t.short ≤ 4 * d = i.short_most in grind (arith, l, o)
 
-pub drawn-wait : (d : ℕ) (t : Timing) (n : ℕ) → InRange d t → (n ≡ t.short) ⊎ (n ≡ t.long) → (3 * d ≤ n) × ((n ≤ 4 * d) ⊎ ((8 * d ≤ n) × (n ≤ 10 * d)))
+pub drawn-wait :
+    (d : ℕ) (t : Timing) (n : ℕ) → InRange d t → (n ≡ t.short) ⊎ (n ≡ t.long) → (3 * d ≤ n)
+    × ((n ≤ 4 * d) ⊎ ((8 * d ≤ n) × (n ≤ 10 * d)))
 drawn-wait d t n i (inl s) = (omega (arith, s, i.short_least), inl (omega (arith, s, i.short_most)))
 drawn-wait d t n i (inr s) = (omega (arith, s, i.long_least), inr (omega (arith, s, i.long_least), omega (arith, s, i.long_most)))
 
-module _ (d : ℕ) (signals : List (ℕ × Signal)) (coin : Bool) (x : NodeState) (o : 1 ≤ d) (i : InRange d x.timing) (h : HearsWell signals x) (t : TicksWell coin (hear_all signals x).state) (k : KnowsCoins d x) where
+module _
+    (d : ℕ) (signals : List (ℕ × Signal)) (coin : Bool) (x : NodeState) (o : 1 ≤ d)
+    (i : InRange d x.timing) (h : HearsWell signals x)
+    (t : TicksWell coin (hear_all signals x).state) (k : KnowsCoins d x) where
   abbrev m : NodeState
   m = (hear_all signals x).state
 
@@ -82,11 +89,15 @@ module _ (d : ℕ) (signals : List (ℕ × Signal)) (coin : Bool) (x : NodeState
       some : n.view.draws ≡ min (m.view.draws + 1) 65535 → 1 ≤ n.view.draws
       some a = grind (arith, a)
 
-      either : (b : Bool) → n.view.wait ≡ (if b then m.timing.long else m.timing.short) → (n.view.wait ≡ m.timing.short) ⊎ (n.view.wait ≡ m.timing.long)
+      either :
+          (b : Bool) → n.view.wait ≡ (if b then m.timing.long else m.timing.short) →
+          (n.view.wait ≡ m.timing.short) ⊎ (n.view.wait ≡ m.timing.long)
       either true e = inr e
       either false e = inl e
 
-      on : NoEntry x (hear_all signals x) → x.view.phase ≡ phase.Contend → Fought (raise_timer m) n (tick coin m).sends → InContend n
+      on :
+          NoEntry x (hear_all signals x) → x.view.phase ≡ phase.Contend → Fought (raise_timer m)
+          n (tick coin m).sends → InContend n
       on s was (inl w) = elim (tick-draws coin m) [
         | inl e ↦ absurd (clash2 m.view.phase (s.phase ∙ was) e.before)
         | inr e ↦ record {

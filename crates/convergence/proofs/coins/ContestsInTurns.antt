@@ -77,13 +77,17 @@ module _ (d : ℕ) (x y : Side) (r : Rivals d x y) (start : x.node.view.phase �
   own-none : NoEntry x.node (hearing x) → (ticking x).state.view.draws ≡ 0
   own-none hx = (draws-not d x y r hx (λ w. start-shake x.node.view.phase start (sym hx.phase ∙ w.before))).draws ∙ r.near.fresh (ap is_before_tree start)
 
-  own-shaking : is_port (ticking x).state.view.parent x.port ≡ true → is_shaking (ticking x).state.view.phase ≡ true
+  own-shaking :
+      is_port (ticking x).state.view.parent x.port ≡ true →
+      is_shaking (ticking x).state.view.phase ≡ true
   own-shaking u = elim (late-before d x y r (parent-late (ticking x).state r.pair.near.ticks.valid x.port u)) [
     | inl l ↦ absurd (start-late x.node.view.phase start l)
     | inr s ↦ ap is_shaking s.1
   ]
 
-  other-shaking : is_port (ticking y).state.view.parent y.port ≡ true → is_shaking (ticking y).state.view.phase ≡ true
+  other-shaking :
+      is_port (ticking y).state.view.parent y.port ≡ true →
+      is_shaking (ticking y).state.view.phase ≡ true
   other-shaking u = elim (late-before d y x sw (parent-late (ticking y).state r.pair.other.ticks.valid y.port u)) [
     | inl l ↦ elim other-of [
       | inl e ↦ absurd (not-both (is_before_tree y.node.view.phase) e l)
@@ -107,7 +111,10 @@ module _ (d : ℕ) (x y : Side) (r : Rivals d x y) (start : x.node.view.phase �
       hy : NoEntry y.node (hearing y)
       hy = up-heard d y x sw u
 
-  pub start-alike : is_port (ticking x).state.view.parent x.port ≡ true → is_port (ticking y).state.view.parent y.port ≡ true → AreAlike (ticking x).state (ticking y).state
+  pub start-alike :
+      is_port (ticking x).state.view.parent x.port ≡ true →
+      is_port (ticking y).state.view.parent y.port ≡ true →
+      AreAlike (ticking x).state (ticking y).state
   start-alike ux uy =
       let sw : Rivals d y x = swapped d x y r in
       let nx : (ticking x).state.view.draws ≡ 0 = own-none (up-heard d x y r ux) in
@@ -124,7 +131,10 @@ module _ (d : ℕ) (x y : Side) (r : Rivals d x y) where
   sw : Rivals d y x
   sw = swapped d x y r
 
-  pub stand-kept : is_port (ticking x).state.view.parent x.port ≡ true → is_port (ticking y).state.view.parent y.port ≡ true → AreRivals d (ticking x).state x.port (wire_after x) (ticking y).state y.port (wire_after y)
+  pub stand-kept :
+      is_port (ticking x).state.view.parent x.port ≡ true →
+      is_port (ticking y).state.view.parent y.port ≡ true →
+      AreRivals d (ticking x).state x.port (wire_after x) (ticking y).state y.port (wire_after y)
   stand-kept vx vy = elim (up-before d x y r vx) [
     | inr s ↦ inl (start-alike d x y r s vx vy)
     | inl ux ↦ elim (up-before d y x sw vy) [
@@ -134,7 +144,10 @@ module _ (d : ℕ) (x y : Side) (r : Rivals d x y) where
   ]
 
   -- a child port stays one
-  pub down-after : NoEntry x.node (hearing x) → is_before_tree x.node.view.phase ≡ false → leads_down x.node.view.ports x.port ≡ true → leads_down (ticking x).state.view.ports x.port ≡ true
+  pub down-after :
+      NoEntry x.node (hearing x) → is_before_tree x.node.view.phase ≡ false →
+      leads_down x.node.view.ports x.port ≡ true →
+      leads_down (ticking x).state.view.ports x.port ≡ true
   down-after h l c =
       child-if (ticking x).state.view.parent (ticking x).state.view.ports x.port (late-roles (ticking x).state r.pair.near.ticks.valid (late-after d x y r h l)) (r.pair.near.ticks.cables x.port ∙ heard_connected d x r.pair.near)
       ∙ ap not (go (is_port (ticking x).state.view.parent x.port) refl)
@@ -147,16 +160,22 @@ module _ (d : ℕ) (x y : Side) (r : Rivals d x y) where
       ]
 
   -- what isn't low comes from a node past T0
-  pub sees-late : has_reset (signals_of y.wire) ≡ false → shows_no_notice (level_shown (hearing x).state x.port) ≡ false → is_before_tree y.node.view.phase ≡ false
+  pub sees-late :
+      has_reset (signals_of y.wire) ≡ false → shows_no_notice (level_shown (hearing x).state x.port)
+      ≡ false → is_before_tree y.node.view.phase ≡ false
   sees-late n high = go (is_before_tree y.node.view.phase) refl
     where
-      cases : (f : Phase) → is_before_tree f ≡ true → (is_after_hold f ≡ true) ⊎ (f ≡ phase.ResetStart)
+      cases :
+          (f : Phase) → is_before_tree f ≡ true → (is_after_hold f ≡ true) ⊎ (f ≡ phase.ResetStart)
       cases f e = grind arith
 
       not-reset : (l : Level) → shows_no_notice l ≡ false → l ≡ level.Reset → ⊥
       not-reset l a b = grind arith
 
-      reset : y.node.view.phase ≡ phase.ResetStart → (g : Bool) → shows_no_notice (level_after (level_shown x.node x.port) (if g then signals_of y.wire else [])) ≡ false → ⊥
+      reset :
+          y.node.view.phase ≡ phase.ResetStart → (g : Bool) →
+          shows_no_notice (level_after (level_shown x.node x.port) (if g then signals_of y.wire else []))
+          ≡ false → ⊥
       reset e true h = not-reset (level_after (level_shown x.node x.port) (signals_of y.wire)) h (r.pair.levels_back ∙ ap (λ f. level_sent f (leads_down y.node.view.ports y.port)) e)
       reset e false h = not-both (has_reset (signals_of y.wire))
           (level_after-reset (level_shown x.node x.port) (signals_of y.wire) (r.pair.levels_back ∙ ap (λ f. level_sent f (leads_down y.node.view.ports y.port)) e) (not-reset (level_shown x.node x.port) h)) n
@@ -172,7 +191,10 @@ module _ (d : ℕ) (x y : Side) (r : Rivals d x y) where
 
   -- ---- Child
 
-  told-after : is_before_tree (ticking x).state.view.phase ≡ false → is_child (level_shown (ticking y).state y.port) ≡ true → leads_down (ticking x).state.view.ports x.port ≡ true
+  told-after :
+      is_before_tree (ticking x).state.view.phase ≡ false →
+      is_child (level_shown (ticking y).state y.port) ≡ true →
+      leads_down (ticking x).state.view.ports x.port ≡ true
   told-after l c = go x.gives (sym (ap is_child (after_shown d x y r.pair)) ∙ c)
     where
       hx : NoEntry x.node (hearing x)
@@ -181,7 +203,10 @@ module _ (d : ℕ) (x y : Side) (r : Rivals d x y) where
       is : (m : Level) → is_child m ≡ true → m ≡ level.Child
       is m h = grind arith
 
-      go : (g : Bool) → is_child (level_after (level_shown y.node y.port) (if g then signals_of x.wire else [])) ≡ true → leads_down (ticking x).state.view.ports x.port ≡ true
+      go :
+          (g : Bool) →
+          is_child (level_after (level_shown y.node y.port) (if g then signals_of x.wire else []))
+          ≡ true → leads_down (ticking x).state.view.ports x.port ≡ true
       go true h =
           let down : leads_down x.node.view.ports x.port ≡ true = child-told x.node.view.phase (leads_down x.node.view.ports x.port) (sym r.pair.levels ∙ is (level_after (level_shown y.node y.port) (signals_of x.wire)) h) in
           down-after hx (child-late x.node r.pair.near.valid x.port down) down
@@ -196,7 +221,10 @@ module _ (d : ℕ) (x y : Side) (r : Rivals d x y) where
 
   -- ---- a parent port
 
-  later-after : is_port (ticking x).state.view.parent x.port ≡ true → has_reset (signals_of (wire_after y)) ≡ false → 1 ≤ (ticking x).state.view.draws → is_before_tree (ticking y).state.view.phase ≡ false
+  later-after :
+      is_port (ticking x).state.view.parent x.port ≡ true → has_reset (signals_of (wire_after y))
+      ≡ false → 1 ≤ (ticking x).state.view.draws →
+      is_before_tree (ticking y).state.view.phase ≡ false
   later-after u n some = elim (up-before d x y r u) [
     | inr s ↦ absurd (omega (arith, some, (draws-not d x y r hx (λ w. start-shake x.node.view.phase s (sym hx.phase ∙ w.before))).draws, r.near.fresh (ap is_before_tree s)))
     | inl ux ↦ elim (tick-draws x.coin (hearing x).state) [
@@ -216,8 +244,10 @@ module _ (d : ℕ) (x y : Side) (r : Rivals d x y) where
 
   -- ---- a child that drew
 
-  -- how a port comes to lead to a child that drew: it did before, or its node was that child's rival
-  pub won-from : leads_down (ticking x).state.view.ports x.port ≡ true → 1 ≤ (ticking y).state.view.draws →
+  -- how a port comes to lead to a child that drew: it did before, or its node was that child's
+  -- rival
+  pub won-from :
+      leads_down (ticking x).state.view.ports x.port ≡ true → 1 ≤ (ticking y).state.view.draws →
       (is_before_tree y.node.view.phase ≡ false) × NoEntry x.node (hearing x) × NoEntry y.node (hearing y) × (((leads_down x.node.view.ports x.port ≡ true) × DrewNone y.node (ticking y).state)
       ⊎ ((x.node.view.phase ≡ phase.Contend) × (is_port x.node.view.parent x.port ≡ true) × (level_shown (hearing x).state x.port ≡ level.Parent) × ((hearing x).state.view.wait ≤ risen (hearing x).state.view.timer)))
   won-from c some = (was-late, hx, hy, how)
@@ -256,7 +286,9 @@ module _ (d : ℕ) (x y : Side) (r : Rivals d x y) where
         ]
       ]
 
-  won-after : leads_down (ticking x).state.view.ports x.port ≡ true → 1 ≤ (ticking y).state.view.draws → HasWon d (ticking x).state (ticking y).state
+  won-after :
+      leads_down (ticking x).state.view.ports x.port ≡ true → 1 ≤ (ticking y).state.view.draws →
+      HasWon d (ticking x).state (ticking y).state
   won-after c some = elim (won-from c some).3 [ inl z ↦ old z.0 z.1 | inr z ↦ fought-out z.0 z.1 z.2 z.3 ]
     where
       l : is_before_tree y.node.view.phase ≡ false
@@ -268,16 +300,23 @@ module _ (d : ℕ) (x y : Side) (r : Rivals d x y) where
       hy : NoEntry y.node (hearing y)
       hy = (won-from c some).2
 
-      add : DrewNone x.node (ticking x).state → DrewNone y.node (ticking y).state → AddsDraw d y.node.view.draws y.node.view.first_draws x.node → AddsDraw d (ticking y).state.view.draws (ticking y).state.view.first_draws (ticking x).state
+      add :
+          DrewNone x.node (ticking x).state → DrewNone y.node (ticking y).state →
+          AddsDraw d y.node.view.draws y.node.view.first_draws x.node →
+          AddsDraw d (ticking y).state.view.draws (ticking y).state.view.first_draws (ticking x).state
       add nx ny a =
           subst (λ f. AddsDraw d (ticking y).state.view.draws f (ticking x).state) (sym ny.first_draws)
           (subst (λ k. AddsDraw d k y.node.view.first_draws (ticking x).state) (sym ny.draws) (adds-still d x y r nx y.node.view.draws y.node.view.first_draws a))
 
-      both : DrewNone x.node (ticking x).state → DrewNone y.node (ticking y).state → DrewTogether d x.node y.node → DrewTogether d (ticking x).state (ticking y).state
+      both :
+          DrewNone x.node (ticking x).state → DrewNone y.node (ticking y).state →
+          DrewTogether d x.node y.node → DrewTogether d (ticking x).state (ticking y).state
       both nx ny t = record { draws = t.draws; first = t.first; here = adds-still d x y r nx t.draws t.first t.here; there = adds-still d y x sv ny t.draws t.first t.there }
 
       -- it was a child before
-      old : leads_down x.node.view.ports x.port ≡ true → DrewNone y.node (ticking y).state → HasWon d (ticking x).state (ticking y).state
+      old :
+          leads_down x.node.view.ports x.port ≡ true → DrewNone y.node (ticking y).state →
+          HasWon d (ticking x).state (ticking y).state
       old was ny =
           let won : HasWon d x.node y.node = r.here.won was (omega (arith, some, ny.draws)) in
           let nx : DrewNone x.node (ticking x).state = draws-not d x y r hx (λ w. none-some w.port (sym (hx.parent ∙ won.root) ∙ w.parent)) in
@@ -289,7 +328,9 @@ module _ (d : ℕ) (x y : Side) (r : Rivals d x y) where
           none-some : (p : ℕ) → None ≡ Some p → ⊥
           none-some p e = true≢false (sym (eq-eqb p p refl) ∙ sym (ap (λ o. is_port o p) e))
 
-          root-after : x.node.view.parent ≡ None → (o : Option ℕ) → (ticking x).state.view.parent ≡ o → o ≡ None
+          root-after :
+              x.node.view.parent ≡ None → (o : Option ℕ) → (ticking x).state.view.parent ≡ o →
+              o ≡ None
           root-after e None f = refl
           root-after e (Some p) f = elim (parent-was x.coin (hearing x).state p (ap (λ o. is_port o p) f ∙ eq-eqb p p refl)) [
             | inl u ↦ absurd (true≢false (sym u ∙ ap (λ o. is_port o p) (hx.parent ∙ e)))
@@ -297,7 +338,11 @@ module _ (d : ℕ) (x y : Side) (r : Rivals d x y) where
           ]
 
       -- or the rival, until now
-      fought-out : x.node.view.phase ≡ phase.Contend → is_port x.node.view.parent x.port ≡ true → level_shown (hearing x).state x.port ≡ level.Parent → (hearing x).state.view.wait ≤ risen (hearing x).state.view.timer → HasWon d (ticking x).state (ticking y).state
+      fought-out :
+          x.node.view.phase ≡ phase.Contend → is_port x.node.view.parent x.port ≡ true →
+          level_shown (hearing x).state x.port ≡ level.Parent →
+          (hearing x).state.view.wait ≤ risen (hearing x).state.view.timer →
+          HasWon d (ticking x).state (ticking y).state
       fought-out t ux shown o =
           let ny : DrewNone y.node (ticking y).state = draws-not d y x sv hy (long-undrawn d x y r ux uy t long hy) in
           let nx : DrewNone x.node (ticking x).state = contend-none d x y r ux uy hx hy t in
@@ -306,7 +351,9 @@ module _ (d : ℕ) (x y : Side) (r : Rivals d x y) where
             drew = elim how [ inl a ↦ inl (add nx ny a.drew) | inr a ↦ inr (both nx ny a.drew) ];
           }
         where
-          up : (b : Bool) → leads_down y.node.view.ports y.port ≡ b → is_port y.node.view.parent y.port ≡ true
+          up :
+              (b : Bool) → leads_down y.node.view.ports y.port ≡ b →
+              is_port y.node.view.parent y.port ≡ true
           up true e =
               let k = r.pair.coupled_back.child e (calm d x y r (up-late d x y r ux)) in
               absurd (other-level (level_shown (hearing x).state x.port) shown (heard_no_parent d y x (turned-round d x y r.pair) k.1 k.2))
@@ -328,13 +375,17 @@ module _ (d : ℕ) (x y : Side) (r : Rivals d x y) where
           how : IsAhead d x.node x.port y.node ⊎ AsksAgain d x.node y.node y.wire
           how = go (r.here.rivals ux uy)
             where
-              go : AreRivals d x.node x.port x.wire y.node y.port y.wire → IsAhead d x.node x.port y.node ⊎ AsksAgain d x.node y.node y.wire
+              go :
+                  AreRivals d x.node x.port x.wire y.node y.port y.wire →
+                  IsAhead d x.node x.port y.node ⊎ AsksAgain d x.node y.node y.wire
               go (inl a) = absurd (contend-shaking x.node.view.phase t a.here)
               go (inr (inl m)) = absurd (idle-parent (level_shown (hearing x).state x.port) (long-idle d y x sv uy ux m.there (omega (arith, over.1, m.near, r.pair.some_delay))) shown)
               go (inr (inr (inl a))) = a.how
               go (inr (inr (inr a))) = absurd (contend-shaking x.node.view.phase t a.there)
 
-          root : Fought (raise_timer (hearing x).state) (ticking x).state (ticking x).sends → (ticking x).state.view.parent ≡ None
+          root :
+              Fought (raise_timer (hearing x).state) (ticking x).state (ticking x).sends →
+              (ticking x).state.view.parent ≡ None
           root (inl w) = absurd (omega (arith, w.not_yet, o))
           root (inr (inl w)) = w.root
           root (inr (inr w)) = absurd (other-level (level_shown (hearing x).state x.port) shown (again-sees d x y r w (up-mid d x y r hx ux)))
@@ -351,7 +402,10 @@ module _ (d : ℕ) (x y : Side) (r : Rivals d x y) where
   early-contend f a b = grind arith
 
   -- it was a child before
-  below-old : NoEntry x.node (hearing x) → NoEntry y.node (hearing y) → leads_down x.node.view.ports x.port ≡ true → has_reset (signals_of y.wire) ≡ false → IsBelow (ticking x).state x.port (ticking y).state
+  below-old :
+      NoEntry x.node (hearing x) → NoEntry y.node (hearing y) →
+      leads_down x.node.view.ports x.port ≡ true → has_reset (signals_of y.wire) ≡ false →
+      IsBelow (ticking x).state x.port (ticking y).state
   below-old hx hy was nr = record {
     calm = λ t. elim (tick-contending y.coin (hearing y).state t) [
       | inl o ↦ b.calm (sym hy.phase ∙ o)
@@ -373,17 +427,27 @@ module _ (d : ℕ) (x y : Side) (r : Rivals d x y) where
       b : IsBelow x.node x.port y.node
       b = r.here.below was nr
 
-      k : (is_port y.node.view.parent y.port ≡ true) × (is_parent (level_shown y.node y.port) ≡ false) × (has_no_parent_signal (signals_of x.wire) ≡ true)
+      k :
+          (is_port y.node.view.parent y.port ≡ true)
+          × (is_parent (level_shown y.node y.port) ≡ false)
+          × (has_no_parent_signal (signals_of x.wire) ≡ true)
       k = r.pair.coupled.child was nr
 
-      stays : (hearing x).state.view.phase ≡ phase.ChildShake → level_shown (hearing x).state x.port ≡ level.Parent → (ticking x).state.view.phase ≡ phase.ChildShake
+      stays :
+          (hearing x).state.view.phase ≡ phase.ChildShake →
+          level_shown (hearing x).state x.port ≡ level.Parent →
+          (ticking x).state.view.phase ≡ phase.ChildShake
       stays c shown = elim (tick-child-shake x.coin (hearing x).state c) [
         | inr a ↦ a.1
         | inl a ↦ absurd (parent-idle (level_shown (hearing x).state x.port) shown (child-idle (hearing x).state x.port a.0 (hx.child x.port ∙ was) (heard_connected d x r.pair.near)))
       ]
 
   -- x leaves T0
-  below-new : NoEntry x.node (hearing x) → NoEntry y.node (hearing y) → leads_down (ticking x).state.view.ports x.port ≡ true → x.node.view.phase ≡ phase.TreeStart → level_shown (hearing x).state x.port ≡ level.Parent → IsBelow (ticking x).state x.port (ticking y).state
+  below-new :
+      NoEntry x.node (hearing x) → NoEntry y.node (hearing y) →
+      leads_down (ticking x).state.view.ports x.port ≡ true → x.node.view.phase ≡ phase.TreeStart →
+      level_shown (hearing x).state x.port ≡ level.Parent →
+      IsBelow (ticking x).state x.port (ticking y).state
   below-new hx hy c start shown = record {
     calm = λ t. elim (tick-contending y.coin (hearing y).state t) [
       | inl o ↦ elim (other-of d x y r start) [
@@ -402,7 +466,12 @@ module _ (d : ℕ) (x y : Side) (r : Rivals d x y) where
   }
 
   -- x loses a contention
-  below-lost : NoEntry x.node (hearing x) → NoEntry y.node (hearing y) → has_reset (signals_of y.wire) ≡ false → x.node.view.phase ≡ phase.Contend → is_port x.node.view.parent x.port ≡ true → level_shown (hearing x).state x.port ≡ level.Parent → (hearing x).state.view.wait ≤ risen (hearing x).state.view.timer → IsBelow (ticking x).state x.port (ticking y).state
+  below-lost :
+      NoEntry x.node (hearing x) → NoEntry y.node (hearing y) → has_reset (signals_of y.wire)
+      ≡ false → x.node.view.phase ≡ phase.Contend → is_port x.node.view.parent x.port ≡ true →
+      level_shown (hearing x).state x.port ≡ level.Parent →
+      (hearing x).state.view.wait ≤ risen (hearing x).state.view.timer →
+      IsBelow (ticking x).state x.port (ticking y).state
   below-lost hx hy nr t ux shown o = record {
     calm = λ e. elim (tick-contending y.coin (hearing y).state e) [
       | inl f ↦ contend-shaking y.node.view.phase (sym hy.phase ∙ f) shakes
@@ -414,7 +483,9 @@ module _ (d : ℕ) (x y : Side) (r : Rivals d x y) where
       l : is_before_tree y.node.view.phase ≡ false
       l = sees-late d x y r nr (low-not-parent (level_shown (hearing x).state x.port) shown)
 
-      up : (b : Bool) → leads_down y.node.view.ports y.port ≡ b → is_port y.node.view.parent y.port ≡ true
+      up :
+          (b : Bool) → leads_down y.node.view.ports y.port ≡ b →
+          is_port y.node.view.parent y.port ≡ true
       up true e =
           let k = r.pair.coupled_back.child e (calm d x y r (up-late d x y r ux)) in
           absurd (other-level (level_shown (hearing x).state x.port) shown (heard_no_parent d y x (turned-round d x y r.pair) k.1 k.2))
@@ -436,18 +507,24 @@ module _ (d : ℕ) (x y : Side) (r : Rivals d x y) where
       shakes : is_shaking y.node.view.phase ≡ true
       shakes = go (r.here.rivals ux uy)
         where
-          go : AreRivals d x.node x.port x.wire y.node y.port y.wire → is_shaking y.node.view.phase ≡ true
+          go :
+              AreRivals d x.node x.port x.wire y.node y.port y.wire →
+              is_shaking y.node.view.phase ≡ true
           go (inl a) = a.there
           go (inr (inl m)) = absurd (idle-parent (level_shown (hearing x).state x.port) (long-idle d y x sv uy ux m.there (omega (arith, over.1, m.near, r.pair.some_delay))) shown)
           go (inr (inr (inl a))) = a.there
           go (inr (inr (inr a))) = absurd (contend-shaking x.node.view.phase t a.there)
 
-      took : Fought (raise_timer (hearing x).state) (ticking x).state (ticking x).sends → (ticking x).state.view.phase ≡ phase.ChildShake
+      took :
+          Fought (raise_timer (hearing x).state) (ticking x).state (ticking x).sends →
+          (ticking x).state.view.phase ≡ phase.ChildShake
       took (inl w) = absurd (omega (arith, w.not_yet, o))
       took (inr (inl w)) = w.phase
       took (inr (inr w)) = absurd (other-level (level_shown (hearing x).state x.port) shown (again-sees d x y r w (up-mid d x y r hx ux)))
 
-  below-after : leads_down (ticking x).state.view.ports x.port ≡ true → has_reset (signals_of (wire_after y)) ≡ false → IsBelow (ticking x).state x.port (ticking y).state
+  below-after :
+      leads_down (ticking x).state.view.ports x.port ≡ true → has_reset (signals_of (wire_after y))
+      ≡ false → IsBelow (ticking x).state x.port (ticking y).state
   below-after c n = elim (r.pair.near.ticks.child x.port (heard_connected d x r.pair.near) c) [
     | inl z ↦
         let was : leads_down x.node.view.ports x.port ≡ true = sym (hx.child x.port) ∙ z in
@@ -469,7 +546,8 @@ module _ (d : ℕ) (x y : Side) (r : Rivals d x y) where
       before : is_before_tree x.node.view.phase ≡ false → has_reset (signals_of y.wire) ≡ false
       before l = no_reset_before d x y r.pair (late-start x.node.view.phase l) hx n
 
-  pub contests-turn : Contests d (ticking x).state x.port (wire_after x) (ticking y).state y.port (wire_after y)
+  pub contests-turn :
+      Contests d (ticking x).state x.port (wire_after x) (ticking y).state y.port (wire_after y)
   contests-turn = record {
     told = told-after d x y r;
     later = later-after;

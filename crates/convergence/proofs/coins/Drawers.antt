@@ -3,7 +3,6 @@ use Rattle.std.proofs.Common.{◌≡◌, ◌≢◌, ◌⊎◌, is_some, inl, inr
 use Rattle.std.specs.Prelude.{IsSome}
 use Rattle.std.proofs.lemmas.Bool.{eq-eqb, cases_eq}
 use Rattle.std.proofs.lemmas.Option.{slice_get_within, slice_get_cases}
-use Rattle.phy_packet.specs.Layout.{bit}
 use Rattle.cabling.specs.declared.cable.End.{End}
 use Rattle.cabling.specs.Wiring.{far}
 use Rattle.cabling.specs.NodeSet.{Holds}
@@ -41,7 +40,9 @@ use Rattle.convergence.proofs.coins.DrawsAgree.{won-agree, stand-agree, stand-cl
 use Rattle.convergence.proofs.turns.Roles.{parent-late, child-late}
 
 -- a parent port has a cable
-pub parent-connected : (x : NodeState) → IsValid x → (p : ℕ) → x.view.parent ≡ Some p → is_connected x.view.ports p ≡ true
+pub parent-connected :
+    (x : NodeState) → IsValid x → (p : ℕ) → x.view.parent ≡ Some p →
+    is_connected x.view.ports p ≡ true
 parent-connected x v p e = elim (slice_get_cases x.view.ports p).1 [
   | inl found ↦ go found.0 found.2
   | inr lacks ↦ absurd (omega (arith, lacks.0, inside, v.bounded.views))
@@ -88,14 +89,18 @@ round w a b l m = record {
 
 -- ---- two rivals, as they stand
 
-module _ (w : CableWorld) (l : IsLawful w) (c : IsContested w) (a b : End) (m : AreMutual w a b) where
-  stand : AreRivals w.delay m.ends.near.state a.port (wire_of w a).signals m.ends.other.state b.port (wire_of w b).signals
+module _
+    (w : CableWorld) (l : IsLawful w) (c : IsContested w) (a b : End) (m : AreMutual w a b) where
+  stand :
+      AreRivals w.delay m.ends.near.state a.port (wire_of w a).signals m.ends.other.state b.port (wire_of w b).signals
   stand = (c.cables a b m.ends.near m.ends.other m.ends.joined m.ends.near_at m.ends.other_at).rivals m.here m.there
 
   pub mutual-agree : DrawsAgree m.ends.near.state m.ends.other.state
   mutual-agree = stand-agree w.delay m.ends.near.state a.port (wire_of w a).signals m.ends.other.state b.port (wire_of w b).signals stand
 
-  pub mutual-close : (m.ends.near.state.view.draws ≤ m.ends.other.state.view.draws + 1) × (m.ends.other.state.view.draws ≤ m.ends.near.state.view.draws + 1)
+  pub mutual-close :
+      (m.ends.near.state.view.draws ≤ m.ends.other.state.view.draws + 1)
+      × (m.ends.other.state.view.draws ≤ m.ends.near.state.view.draws + 1)
   mutual-close = stand-close w.delay m.ends.near.state a.port (wire_of w a).signals m.ends.other.state b.port (wire_of w b).signals (c.nodes a.node m.ends.near m.ends.near_at) (c.nodes b.node m.ends.other m.ends.other_at) stand
 
 -- ---- late
@@ -108,7 +113,10 @@ module _ (w : CableWorld) (l : IsLawful w) (c : IsContested w) (over : ResetsAre
   valid k x at = (l.well_formed.nodes k x at).valid
 
   -- no Reset comes to a late node
-  quiet-to : (a b : End) (x : PortNode) → far w.cabling a ≡ Some b → slice_get w.nodes a.node ≡ Some x → is_before_tree x.state.view.phase ≡ false → has_reset (signals_of (wire_of w b).signals) ≡ false
+  quiet-to :
+      (a b : End) (x : PortNode) → far w.cabling a ≡ Some b → slice_get w.nodes a.node ≡ Some x →
+      is_before_tree x.state.view.phase ≡ false → has_reset (signals_of (wire_of w b).signals)
+      ≡ false
   quiet-to a b x e at late = go (has_reset (signals_of (wire_of w b).signals)) refl
     where
       go : (r : Bool) → has_reset (signals_of (wire_of w b).signals) ≡ r → r ≡ false
@@ -129,7 +137,8 @@ module _ (w : CableWorld) (l : IsLawful w) (c : IsContested w) (over : ResetsAre
       late : is_before_tree h.node.state.view.phase ≡ false
       late = drawn-late k h
 
-      go : (o : Option ℕ) → h.node.state.view.parent ≡ o → IsRoot w k ⊎ (IsBeaten w k ⊎ IsPaired w k)
+      go :
+          (o : Option ℕ) → h.node.state.view.parent ≡ o → IsRoot w k ⊎ (IsBeaten w k ⊎ IsPaired w k)
       go None e = inl (record { node = h.node; at = h.at; late = late; parentless = e })
       go (Some p) e = there (far w.cabling a) refl (sym (f.connected p) ∙ parent-connected h.node.state f.valid p e)
         where
@@ -147,7 +156,8 @@ module _ (w : CableWorld) (l : IsLawful w) (c : IsContested w) (over : ResetsAre
               let j : AreJoined w b a = joined-of w b a l.well_formed (back a b n) in
               record { joined = n; near = h.node; near_at = h.at; other = j.near; other_at = j.near_at }
 
-          either : (b : End) (n : far w.cabling a ≡ Some b) → IsRoot w k ⊎ (IsBeaten w k ⊎ IsPaired w k)
+          either :
+              (b : End) (n : far w.cabling a ≡ Some b) → IsRoot w k ⊎ (IsBeaten w k ⊎ IsPaired w k)
           either b n = role (is_port y.state.view.parent b.port) refl
             where
               y : PortNode
@@ -159,7 +169,9 @@ module _ (w : CableWorld) (l : IsLawful w) (c : IsContested w) (over : ResetsAre
               late_y : is_before_tree y.state.view.phase ≡ false
               late_y = (c.cables a b h.node y n h.at at_y).later up (quiet-to a b h.node n h.at late) h.some
 
-              role : (i : Bool) → is_port y.state.view.parent b.port ≡ i → IsRoot w k ⊎ (IsBeaten w k ⊎ IsPaired w k)
+              role :
+                  (i : Bool) → is_port y.state.view.parent b.port ≡ i →
+                  IsRoot w k ⊎ (IsBeaten w k ⊎ IsPaired w k)
               role true u = inr (inr (record { from = a; to = b; mutual_ = record { ends = ends b n; here = up; there = u }; is = refl }))
               role false u =
                   let down : leads_down y.state.view.ports b.port ≡ true =
@@ -174,13 +186,18 @@ module _ (w : CableWorld) (l : IsLawful w) (c : IsContested w) (over : ResetsAre
                     is = refl;
                   }))
 
-          there : (o : Option End) → far w.cabling a ≡ o → is_some (far w.cabling a) ≡ true → IsRoot w k ⊎ (IsBeaten w k ⊎ IsPaired w k)
+          there :
+              (o : Option End) → far w.cabling a ≡ o → is_some (far w.cabling a) ≡ true →
+              IsRoot w k ⊎ (IsBeaten w k ⊎ IsPaired w k)
           there None n s = absurd (true≢false (sym s ∙ ap is_some n))
           there (Some b) n s = either b n
 
   -- ---- what is below a pair
 
-  same-parent : (k : ℕ) (x y : PortNode) (p q : ℕ) → slice_get w.nodes k ≡ Some x → slice_get w.nodes k ≡ Some y → is_port x.state.view.parent p ≡ true → is_port y.state.view.parent q ≡ true → p ≡ q
+  same-parent :
+      (k : ℕ) (x y : PortNode) (p q : ℕ) → slice_get w.nodes k ≡ Some x →
+      slice_get w.nodes k ≡ Some y → is_port x.state.view.parent p ≡ true →
+      is_port y.state.view.parent q ≡ true → p ≡ q
   same-parent k x y p q at_x at_y up_x up_y =
       same-port y.state.view.parent p q (ap (λ (z : PortNode). is_port z.state.view.parent p) (sym (some-same x y (sym at_x ∙ at_y))) ∙ up_x) up_y
 
@@ -193,7 +210,9 @@ module _ (w : CableWorld) (l : IsLawful w) (c : IsContested w) (over : ResetsAre
     Below (suc n) k = (e : End) × (f : End) × IsChildCable w e f × (f.node ≡ k) × Below n e.node
 
     -- a member of the pair has its parent port at the other one
-    mate : (e f : End) (x : PortNode) → far w.cabling e ≡ Some f → slice_get w.nodes e.node ≡ Some x → is_port x.state.view.parent e.port ≡ true → Base e.node → Base f.node
+    mate :
+        (e f : End) (x : PortNode) → far w.cabling e ≡ Some f → slice_get w.nodes e.node ≡ Some x →
+        is_port x.state.view.parent e.port ≡ true → Base e.node → Base f.node
     mate e f x n at up (inl i) =
         let port : e.port ≡ a.port = same-parent a.node x m.ends.near e.port a.port (ap (slice_get w.nodes) (sym i) ∙ at) m.ends.near_at up m.here in
         inr (ap (λ (z : End). z.node) (one_other (far w.cabling e) f b n (ap (far w.cabling) (same_end e a i port) ∙ m.ends.joined)))
@@ -209,13 +228,17 @@ module _ (w : CableWorld) (l : IsLawful w) (c : IsContested w) (over : ResetsAre
     late-below zero k h = base-late k h
     late-below (suc n) k h = subst (IsLate w) h.3 (below-late w l over h.0 h.1 h.2)
 
-    closed : (e f : End) → far w.cabling e ≡ Some f → ((n : ℕ) × Below n e.node) → (n : ℕ) × Below n f.node
+    closed :
+        (e f : End) → far w.cabling e ≡ Some f → ((n : ℕ) × Below n e.node) → (n : ℕ)
+        × Below n f.node
     closed e f n u = go (is_port x.node.state.view.parent e.port) refl
       where
         x : IsLate w e.node
         x = late-below u.0 e.node u.1
 
-        up : (i : ℕ) → Below i e.node → is_port x.node.state.view.parent e.port ≡ true → (n : ℕ) × Below n f.node
+        up :
+            (i : ℕ) → Below i e.node → is_port x.node.state.view.parent e.port ≡ true → (n : ℕ)
+            × Below n f.node
         up zero h p = (zero, mate e f x.node n x.at p h)
         up (suc i) h p =
             let port : h.1.port ≡ e.port = same-parent e.node h.2.below x.node h.1.port e.port (ap (slice_get w.nodes) (sym h.3) ∙ h.2.below_at) x.at h.2.parent p in
@@ -228,16 +251,22 @@ module _ (w : CableWorld) (l : IsLawful w) (c : IsContested w) (over : ResetsAre
         go false p = (suc u.0, (e, f, leads-down w l over e f n x p, refl, u.1))
 
     -- every node of the component is below the pair
-    all-below : (node set : ℕ) → IsComponent w.cabling node set → Holds set a.node → (k : ℕ) → Holds set k → (((n : ℕ) × Below n k) → ⊥) → ⊥
+    all-below :
+        (node set : ℕ) → IsComponent w.cabling node set → Holds set a.node → (k : ℕ) → Holds set k →
+        (((n : ℕ) × Below n k) → ⊥) → ⊥
     all-below node set is h =
         in-component w.cabling a.node set (λ k. (n : ℕ) × Below n k) l.well_formed.cabling (shared w.cabling node a.node set l.well_formed.cabling is h)
         (omega (arith, slice_get_within w.nodes a.node m.ends.near m.ends.near_at, l.well_formed.count)) (zero, inl refl) closed
 
     -- it has no root
-    pub pair-no-root : (node set r : ℕ) → IsComponent w.cabling node set → Holds set a.node → Holds set r → IsRoot w r → ⊥
+    pub pair-no-root :
+        (node set r : ℕ) → IsComponent w.cabling node set → Holds set a.node → Holds set r →
+        IsRoot w r → ⊥
     pair-no-root node set r is h in_r root = all-below node set is h r in_r (λ u. go u.0 u.1)
       where
-        no-parent : (k p : ℕ) (x : PortNode) → k ≡ r → slice_get w.nodes k ≡ Some x → is_port x.state.view.parent p ≡ true → ⊥
+        no-parent :
+            (k p : ℕ) (x : PortNode) → k ≡ r → slice_get w.nodes k ≡ Some x →
+            is_port x.state.view.parent p ≡ true → ⊥
         no-parent k p x i at up =
             true≢false (sym up ∙ ap (λ (z : PortNode). is_port z.state.view.parent p) (some-same x root.node (sym at ∙ ap (slice_get w.nodes) i ∙ root.at)) ∙ ap (λ o. is_port o p) root.parentless)
 
@@ -247,7 +276,9 @@ module _ (w : CableWorld) (l : IsLawful w) (c : IsContested w) (over : ResetsAre
         go (suc n) t = no-parent t.1.node t.1.port t.2.below t.3 t.2.below_at t.2.parent
 
     -- and no other pair
-    pub pair-only : (node set : ℕ) (e f : End) → IsComponent w.cabling node set → Holds set a.node → Holds set e.node → AreMutual w e f → (Base e.node → ⊥) → ⊥
+    pub pair-only :
+        (node set : ℕ) (e f : End) → IsComponent w.cabling node set → Holds set a.node →
+        Holds set e.node → AreMutual w e f → (Base e.node → ⊥) → ⊥
     pair-only node set e f is h in_e other none = all-below node set is h e.node in_e (λ u. go u.0 u.1)
       where
         go : (n : ℕ) → Below n e.node → ⊥
@@ -268,7 +299,9 @@ module _ (w : CableWorld) (l : IsLawful w) (c : IsContested w) (over : ResetsAre
   beaten-root : (k : ℕ) → (t : IsBeaten w k) → IsRoot w t.from.node
   beaten-root k t = record { node = t.ends.near; at = t.ends.near_at; late = child-late t.ends.near.state (valid t.from.node t.ends.near t.ends.near_at) t.from.port t.child; parentless = t.root }
 
-  beaten-in : (node set k : ℕ) → IsComponent w.cabling node set → Holds set k → (t : IsBeaten w k) → Holds set t.from.node
+  beaten-in :
+      (node set k : ℕ) → IsComponent w.cabling node set → Holds set k → (t : IsBeaten w k) →
+      Holds set t.from.node
   beaten-in node set k is h t = is.closed t.to t.from (back t.from t.to t.ends.joined) (subst (Holds set) (sym t.is) h)
 
   paired-in : (set k : ℕ) → Holds set k → (t : IsPaired w k) → Holds set t.from.node
@@ -295,7 +328,8 @@ module _ (w : CableWorld) (l : IsLawful w) (c : IsContested w) (over : ResetsAre
     agree = agree-round t.ends.near.state t.ends.other.state t.agree;
   }
 
-  mutual-rivals : (j k : ℕ) (a b : End) → AreMutual w a b → a.node ≡ j → b.node ≡ k → DrewOnCable w j k
+  mutual-rivals :
+      (j k : ℕ) (a b : End) → AreMutual w a b → a.node ≡ j → b.node ≡ k → DrewOnCable w j k
   mutual-rivals j k a b m i o = record {
     from = a;
     to = b;
@@ -306,7 +340,9 @@ module _ (w : CableWorld) (l : IsLawful w) (c : IsContested w) (over : ResetsAre
   }
 
   -- children of roots that drew are one child
-  beaten-one : (node set j k : ℕ) → IsComponent w.cabling node set → Holds set j → Holds set k → IsBeaten w j → IsBeaten w k → j ≡ k
+  beaten-one :
+      (node set j k : ℕ) → IsComponent w.cabling node set → Holds set j → Holds set k →
+      IsBeaten w j → IsBeaten w k → j ≡ k
   beaten-one node set j k is in_j in_k t u =
       let same : t.from.node ≡ u.from.node = one-root w l over node set t.from.node u.from.node is (beaten-in node set j is in_j t) (beaten-in node set k is in_k u) (beaten-root j t) (beaten-root k u) in
       let at : slice_get w.nodes u.from.node ≡ Some t.ends.near = ap (slice_get w.nodes) (sym same) ∙ t.ends.near_at in
@@ -318,11 +354,15 @@ module _ (w : CableWorld) (l : IsLawful w) (c : IsContested w) (over : ResetsAre
       sym t.is ∙ ap (λ (z : End). z.node) to ∙ u.is
 
   -- where a pair is, there is no root
-  paired-rootless : (node set k r : ℕ) → IsComponent w.cabling node set → Holds set k → Holds set r → IsPaired w k → IsRoot w r → ⊥
+  paired-rootless :
+      (node set k r : ℕ) → IsComponent w.cabling node set → Holds set k → Holds set r →
+      IsPaired w k → IsRoot w r → ⊥
   paired-rootless node set k r is in_k in_r t root = pair-no-root t.from t.to t.mutual_ node set r is (paired-in set k in_k t) in_r root
 
   -- two nodes of pairs are the two of one
-  paired-two : (node set j k : ℕ) → IsComponent w.cabling node set → Holds set j → Holds set k → j ≢ k → (t : IsPaired w j) → IsPaired w k → t.to.node ≡ k
+  paired-two :
+      (node set j k : ℕ) → IsComponent w.cabling node set → Holds set j → Holds set k → j ≢ k →
+      (t : IsPaired w j) → IsPaired w k → t.to.node ≡ k
   paired-two node set j k is in_j in_k ne t u = elim (cases_eq t.to.node k) [
     | inl same ↦ same
     | inr other ↦ absurd (pair-only t.from t.to t.mutual_ node set u.from u.to is (paired-in set j in_j t) (paired-in set k in_k u) u.mutual_ (λ b. elim b [
@@ -331,10 +371,14 @@ module _ (w : CableWorld) (l : IsLawful w) (c : IsContested w) (over : ResetsAre
     ]))
   ]
 
-  pub two-rivals : (node set j k : ℕ) → IsComponent w.cabling node set → Holds set j → Holds set k → j ≢ k → HasDrawn w j → HasDrawn w k → DrewOnCable w j k
+  pub two-rivals :
+      (node set j k : ℕ) → IsComponent w.cabling node set → Holds set j → Holds set k → j ≢ k →
+      HasDrawn w j → HasDrawn w k → DrewOnCable w j k
   two-rivals node set j k is in_j in_k ne d_j d_k = go (kind j d_j) (kind k d_k)
     where
-      go : IsRoot w j ⊎ (IsBeaten w j ⊎ IsPaired w j) → IsRoot w k ⊎ (IsBeaten w k ⊎ IsPaired w k) → DrewOnCable w j k
+      go :
+          IsRoot w j ⊎ (IsBeaten w j ⊎ IsPaired w j) → IsRoot w k ⊎ (IsBeaten w k ⊎ IsPaired w k) →
+          DrewOnCable w j k
       go (inl r) (inl s) = absurd (ne (one-root w l over node set j k is in_j in_k r s))
       go (inl r) (inr (inl t)) = won-rivals j k t (one-root w l over node set t.from.node j is (beaten-in node set k is in_k t) in_j (beaten-root k t) r)
       go (inl r) (inr (inr t)) = absurd (paired-rootless node set k j is in_k in_j t r)
@@ -346,7 +390,9 @@ module _ (w : CableWorld) (l : IsLawful w) (c : IsContested w) (over : ResetsAre
       go (inr (inr t)) (inr (inr u)) = mutual-rivals j k t.from t.to t.mutual_ t.is (paired-two node set j k is in_j in_k ne t u)
 
   -- no third node drew
-  pub no-third : (node set i j k : ℕ) → IsComponent w.cabling node set → Holds set i → Holds set j → Holds set k → i ≢ j → i ≢ k → j ≢ k → HasDrawn w i → HasDrawn w j → HasDrawn w k → ⊥
+  pub no-third :
+      (node set i j k : ℕ) → IsComponent w.cabling node set → Holds set i → Holds set j →
+      Holds set k → i ≢ j → i ≢ k → j ≢ k → HasDrawn w i → HasDrawn w j → HasDrawn w k → ⊥
   no-third node set i j k is in_i in_j in_k ij ik jk d_i d_j d_k = go (kind i d_i) (kind j d_j) (kind k d_k)
     where
       rooted : (m n : ℕ) → Holds set m → Holds set n → IsPaired w m → IsRoot w n ⊎ IsBeaten w n → ⊥
@@ -359,7 +405,9 @@ module _ (w : CableWorld) (l : IsLawful w) (c : IsContested w) (over : ResetsAre
       beaten : (m n : ℕ) → Holds set m → Holds set n → m ≢ n → IsBeaten w m → IsBeaten w n → ⊥
       beaten m n in_m in_n ne r s = ne (beaten-one node set m n is in_m in_n r s)
 
-      go : IsRoot w i ⊎ (IsBeaten w i ⊎ IsPaired w i) → IsRoot w j ⊎ (IsBeaten w j ⊎ IsPaired w j) → IsRoot w k ⊎ (IsBeaten w k ⊎ IsPaired w k) → ⊥
+      go :
+          IsRoot w i ⊎ (IsBeaten w i ⊎ IsPaired w i) → IsRoot w j ⊎ (IsBeaten w j ⊎ IsPaired w j) →
+          IsRoot w k ⊎ (IsBeaten w k ⊎ IsPaired w k) → ⊥
       go (inr (inr t)) (inr (inr u)) (inr (inr v)) = jk (sym (paired-two node set i j is in_i in_j ij t u) ∙ paired-two node set i k is in_i in_k ik t v)
       go (inr (inr t)) (inl r) z = rooted i j in_i in_j t (inl r)
       go (inr (inr t)) (inr (inl r)) z = rooted i j in_i in_j t (inr r)
@@ -377,7 +425,9 @@ module _ (w : CableWorld) (l : IsLawful w) (c : IsContested w) (over : ResetsAre
       go (inr (inl r)) (inl s) (inr (inr t)) = rooted k i in_k in_i t (inr r)
 
   -- two in T3 are a pair
-  contend-parent : (k : ℕ) (x : PortNode) → slice_get w.nodes k ≡ Some x → x.state.view.phase ≡ phase.Contend → IsRoot w k → ⊥
+  contend-parent :
+      (k : ℕ) (x : PortNode) → slice_get w.nodes k ≡ Some x → x.state.view.phase ≡ phase.Contend →
+      IsRoot w k → ⊥
   contend-parent k x at t r = go x.state.view.parent (subst (λ f. FitsPhase f x.state.view.parent x.state.view.ports) t (valid k x at).fits).1
       (ap (λ (z : PortNode). z.state.view.parent) (some-same x r.node (sym at ∙ r.at)) ∙ r.parentless)
     where
@@ -385,17 +435,23 @@ module _ (w : CableWorld) (l : IsLawful w) (c : IsContested w) (over : ResetsAre
       go None some e = absurd cc
       go (Some p) some e = true≢false (sym (eq-eqb p p refl) ∙ ap (λ q. is_port q p) e)
 
-  contend-drawn : (k : ℕ) (x : PortNode) → slice_get w.nodes k ≡ Some x → x.state.view.phase ≡ phase.Contend → HasDrawn w k
+  contend-drawn :
+      (k : ℕ) (x : PortNode) → slice_get w.nodes k ≡ Some x → x.state.view.phase ≡ phase.Contend →
+      HasDrawn w k
   contend-drawn k x at t = record { node = x; at = at; some = (c.nodes k x at).drawn t }
 
   -- of two in T3 each is the other's parent
-  pub unequal-mutual : (node set j k : ℕ) → IsComponent w.cabling node set → Holds set j → Holds set k → j ≢ k → AreUnequal w j k → (a : End) × (b : End) × (a.node ≡ j) × (b.node ≡ k) × AreMutual w a b
+  pub unequal-mutual :
+      (node set j k : ℕ) → IsComponent w.cabling node set → Holds set j → Holds set k → j ≢ k →
+      AreUnequal w j k → (a : End) × (b : End) × (a.node ≡ j) × (b.node ≡ k) × AreMutual w a b
   unequal-mutual node set j k is in_j in_k ne u = go (kind j (contend-drawn j u.near u.near_at u.here)) (kind k (contend-drawn k u.other u.other_at u.there))
     where
       Goal : Type 0
       Goal = (a : End) × (b : End) × (a.node ≡ j) × (b.node ≡ k) × AreMutual w a b
 
-      go : IsRoot w j ⊎ (IsBeaten w j ⊎ IsPaired w j) → IsRoot w k ⊎ (IsBeaten w k ⊎ IsPaired w k) → Goal
+      go :
+          IsRoot w j ⊎ (IsBeaten w j ⊎ IsPaired w j) → IsRoot w k ⊎ (IsBeaten w k ⊎ IsPaired w k) →
+          Goal
       go (inl r) z = absurd (contend-parent j u.near u.near_at u.here r)
       go (inr (inl t)) (inl r) = absurd (contend-parent k u.other u.other_at u.there r)
       go (inr (inr t)) (inl r) = absurd (contend-parent k u.other u.other_at u.there r)

@@ -48,7 +48,9 @@ together-round d x y t = record { draws = t.draws; first = t.first; here = t.the
 pub same-round : (x y : NodeState) → DrewTheSame x y → DrewTheSame y x
 same-round x y t = record { draws = sym t.draws; first_draws = sym t.first_draws }
 
-pub stand-round : (d : ℕ) (x : NodeState) (p : ℕ) (there : List Travelling) (y : NodeState) (q : ℕ) (back : List Travelling) → AreRivals d x p there y q back → AreRivals d y q back x p there
+pub stand-round :
+    (d : ℕ) (x : NodeState) (p : ℕ) (there : List Travelling) (y : NodeState) (q : ℕ)
+    (back : List Travelling) → AreRivals d x p there y q back → AreRivals d y q back x p there
 stand-round d x p there y q back (inl a) = inl (record { here = a.there; there = a.here; drew = same-round x y a.drew })
 stand-round d x p there y q back (inr (inl m)) = inr (inl (record { here = m.there; there = m.here; drew = together-round d x y m.drew; near = m.far; far = m.near }))
 stand-round d x p there y q back (inr (inr (inl a))) = inr (inr (inr a))
@@ -72,7 +74,9 @@ child-told f b o = grind arith
 -- ---- ages
 
 -- nothing is left that is so old
-pub none-so-old : (d n : ℕ) (ts : List Travelling) → 1 ≤ d → d ≤ n → AllAsOldAs n ts → AgesFall (d - 1) ts → ts ≡ []
+pub none-so-old :
+    (d n : ℕ) (ts : List Travelling) → 1 ≤ d → d ≤ n → AllAsOldAs n ts → AgesFall (d - 1) ts →
+    ts ≡ []
 none-so-old d n ts o h s a = nothing-left d ts o (AllAsOldAs-less d n ts h s) a
 
 pub ages-first : (most : ℕ) (xs ys : List Travelling) → AgesFall most (xs ++ ys) → AgesFall most xs
@@ -104,7 +108,9 @@ module _ (d : ℕ) (x y : Side) (r : Rivals d x y) where
     | inr c ↦ absurd (true≢false (sym (start-before_tree now.view.phase (came d x y j c).0) ∙ l))
   ]
 
-  pub late-before : is_before_tree now.view.phase ≡ false → (is_before_tree was.view.phase ≡ false) ⊎ ((was.view.phase ≡ phase.TreeStart) × (now.view.phase ≡ phase.ChildShake))
+  pub late-before :
+      is_before_tree now.view.phase ≡ false → (is_before_tree was.view.phase ≡ false)
+      ⊎ ((was.view.phase ≡ phase.TreeStart) × (now.view.phase ≡ phase.ChildShake))
   late-before l =
       let h = late-heard l in
       elim (tick-late-was x.coin mid l) [
@@ -112,7 +118,9 @@ module _ (d : ℕ) (x y : Side) (r : Rivals d x y) where
         | inr a ↦ inr (sym h.phase ∙ a.0, a.1)
       ]
 
-  pub late-after : NoEntry was (hearing x) → is_before_tree was.view.phase ≡ false → is_before_tree now.view.phase ≡ false
+  pub late-after :
+      NoEntry was (hearing x) → is_before_tree was.view.phase ≡ false →
+      is_before_tree now.view.phase ≡ false
   late-after h l = tick-late x.coin mid (ap is_before_tree h.phase ∙ l)
 
   -- no Reset comes from a late node
@@ -137,7 +145,9 @@ module _ (d : ℕ) (x y : Side) (r : Rivals d x y) where
   pub up-heard : is_port now.view.parent x.port ≡ true → NoEntry was (hearing x)
   up-heard u = late-heard (parent-late now j.near.ticks.valid x.port u)
 
-  pub up-before : is_port now.view.parent x.port ≡ true → (is_port was.view.parent x.port ≡ true) ⊎ (was.view.phase ≡ phase.TreeStart)
+  pub up-before :
+      is_port now.view.parent x.port ≡ true → (is_port was.view.parent x.port ≡ true)
+      ⊎ (was.view.phase ≡ phase.TreeStart)
   up-before u =
       let h = up-heard u in
       elim (parent-was x.coin mid x.port u) [
@@ -145,13 +155,17 @@ module _ (d : ℕ) (x y : Side) (r : Rivals d x y) where
         | inr a ↦ inr (sym h.phase ∙ a)
       ]
 
-  pub up-mid : NoEntry was (hearing x) → is_port was.view.parent x.port ≡ true → is_port mid.view.parent x.port ≡ true
+  pub up-mid :
+      NoEntry was (hearing x) → is_port was.view.parent x.port ≡ true →
+      is_port mid.view.parent x.port ≡ true
   up-mid h u = heard_parent x h x.port u
 
   pub not-down : is_port was.view.parent x.port ≡ true → leads_down was.view.ports x.port ≡ false
   not-down u = child-if was.view.parent was.view.ports x.port (late-roles was j.near.valid (up-late u)) j.near.connected ∙ ap not u
 
-  pub tells-parent : is_shaking was.view.phase ≡ true → is_port was.view.parent x.port ≡ true → level_sent_at was x.port ≡ level.Parent
+  pub tells-parent :
+      is_shaking was.view.phase ≡ true → is_port was.view.parent x.port ≡ true →
+      level_sent_at was x.port ≡ level.Parent
   tells-parent s u = go was.view.phase (leads_down was.view.ports x.port) s (not-down u)
     where
       go : (f : Phase) (b : Bool) → is_shaking f ≡ true → b ≡ false → level_sent f b ≡ level.Parent
@@ -161,16 +175,24 @@ module _ (d : ℕ) (x y : Side) (r : Rivals d x y) where
   here-is : (p : ℕ) → mid.view.parent ≡ Some p → is_port mid.view.parent x.port ≡ true → p ≡ x.port
   here-is p e u = same-port mid.view.parent p x.port (ap (λ o. is_port o p) e ∙ eq-eqb p p refl) u
 
-  pub drew-sees : Drew x.coin mid now → is_port mid.view.parent x.port ≡ true → level_shown mid x.port ≡ level.Parent
+  pub drew-sees :
+      Drew x.coin mid now → is_port mid.view.parent x.port ≡ true →
+      level_shown mid x.port ≡ level.Parent
   drew-sees w u = subst (λ p. level_shown mid p ≡ level.Parent) (here-is w.port w.parent u) w.shown
 
-  pub accepted-sees : Accepted mid now → is_port mid.view.parent x.port ≡ true → level_shown mid x.port ≡ level.Child
+  pub accepted-sees :
+      Accepted mid now → is_port mid.view.parent x.port ≡ true →
+      level_shown mid x.port ≡ level.Child
   accepted-sees w u = subst (λ p. level_shown mid p ≡ level.Child) (here-is w.port w.parent u) w.shown
 
-  pub took-sees : TookRival (raise_timer mid) now → is_port mid.view.parent x.port ≡ true → level_shown mid x.port ≡ level.Parent
+  pub took-sees :
+      TookRival (raise_timer mid) now → is_port mid.view.parent x.port ≡ true →
+      level_shown mid x.port ≡ level.Parent
   took-sees w u = subst (λ p. level_shown mid p ≡ level.Parent) (here-is w.port w.parent u) w.shown
 
-  pub again-sees : AskedAgain (raise_timer mid) now → is_port mid.view.parent x.port ≡ true → is_parent (level_shown mid x.port) ≡ false
+  pub again-sees :
+      AskedAgain (raise_timer mid) now → is_port mid.view.parent x.port ≡ true →
+      is_parent (level_shown mid x.port) ≡ false
   again-sees w u = subst (λ p. is_parent (level_shown mid p) ≡ false) (here-is w.port w.parent u) w.shown
 
   -- ---- draws
@@ -182,7 +204,9 @@ module _ (d : ℕ) (x y : Side) (r : Rivals d x y) where
   pub draws-not : NoEntry was (hearing x) → (Drew x.coin mid now → ⊥) → DrewNone was now
   draws-not h no_draw = elim (tick-draws x.coin mid) [ inl a ↦ absurd (no_draw a) | inr a ↦ still h a ]
 
-  pub adds-draw : NoEntry was (hearing x) → Drew x.coin mid now → AddsDraw d was.view.draws was.view.first_draws now
+  pub adds-draw :
+      NoEntry was (hearing x) → Drew x.coin mid now →
+      AddsDraw d was.view.draws was.view.first_draws now
   adds-draw h w =
       let c : last_coin d now ≡ x.coin = ap (nat_le (8 * d)) w.wait ∙ drawn-coin d mid.timing x.coin j.some_delay (heard_timing d x j.near) in
       record {
@@ -200,25 +224,37 @@ module _ (d : ℕ) (x y : Side) (r : Rivals d x y) where
 -- ---- one end hears what the other told
 
 module _ (d : ℕ) (x y : Side) (r : Rivals d x y) where
-  comes : level_shown (hearing x).state x.port ≡ level_after (level_shown x.node x.port) (arrivals y)
+  comes :
+      level_shown (hearing x).state x.port ≡ level_after (level_shown x.node x.port) (arrivals y)
   comes = heard_shown d y x (turned-round d x y r.pair)
 
   -- y asks, and x is shown Parent: that stays, since a wire gives all or nothing
-  pub asks-on : is_shaking y.node.view.phase ≡ true → is_port y.node.view.parent y.port ≡ true → level_shown x.node x.port ≡ level.Parent → level_shown (hearing x).state x.port ≡ level.Parent
+  pub asks-on :
+      is_shaking y.node.view.phase ≡ true → is_port y.node.view.parent y.port ≡ true →
+      level_shown x.node x.port ≡ level.Parent → level_shown (hearing x).state x.port ≡ level.Parent
   asks-on s u e = comes ∙ go y.gives
     where
-      go : (g : Bool) → level_after (level_shown x.node x.port) (if g then signals_of y.wire else []) ≡ level.Parent
+      go :
+          (g : Bool) → level_after (level_shown x.node x.port) (if g then signals_of y.wire else [])
+          ≡ level.Parent
       go true = r.pair.levels_back ∙ tells-parent d y x (swapped d x y r) s u
       go false = e
 
   -- y asks, and nothing is under way from it: Parent is shown
-  pub asks-here : is_shaking y.node.view.phase ≡ true → is_port y.node.view.parent y.port ≡ true → y.wire ≡ [] → level_shown (hearing x).state x.port ≡ level.Parent
+  pub asks-here :
+      is_shaking y.node.view.phase ≡ true → is_port y.node.view.parent y.port ≡ true → y.wire ≡ [] →
+      level_shown (hearing x).state x.port ≡ level.Parent
   asks-here s u e = asks-on s u (ap (λ ts. level_after (level_shown x.node x.port) (signals_of ts)) (sym e) ∙ r.pair.levels_back ∙ tells-parent d y x (swapped d x y r) s u)
 
   -- a Child that x sees comes from a child port
-  pub sees-child : is_before_tree y.node.view.phase ≡ false → level_shown (hearing x).state x.port ≡ level.Child → leads_down y.node.view.ports y.port ≡ true
+  pub sees-child :
+      is_before_tree y.node.view.phase ≡ false →
+      level_shown (hearing x).state x.port ≡ level.Child →
+      leads_down y.node.view.ports y.port ≡ true
   sees-child l e = go y.gives (sym comes ∙ e)
     where
-      go : (g : Bool) → level_after (level_shown x.node x.port) (if g then signals_of y.wire else []) ≡ level.Child → leads_down y.node.view.ports y.port ≡ true
+      go :
+          (g : Bool) → level_after (level_shown x.node x.port) (if g then signals_of y.wire else [])
+          ≡ level.Child → leads_down y.node.view.ports y.port ≡ true
       go true h = child-told y.node.view.phase (leads_down y.node.view.ports y.port) (sym r.pair.levels_back ∙ h)
       go false h = r.there.told l (ap is_child h)

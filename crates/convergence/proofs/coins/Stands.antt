@@ -29,7 +29,8 @@ pub contend-shaking : (f : Phase) → f ≡ phase.Contend → is_shaking f ≡ t
 contend-shaking f a b = grind arith
 
 -- equal last coins
-pub same-coins : (d : ℕ) (x y : NodeState) → DrewTogether d x y → last_coin d x ≡ last_coin d y → DrewTheSame x y
+pub same-coins :
+    (d : ℕ) (x y : NodeState) → DrewTogether d x y → last_coin d x ≡ last_coin d y → DrewTheSame x y
 same-coins d x y t e = record {
   draws = t.here.count ∙ sym t.there.count;
   first_draws = t.here.coins ∙ ap (λ b. draws_with b t.draws t.first) e ∙ sym t.there.coins;
@@ -38,7 +39,9 @@ same-coins d x y t e = record {
 pub coin-long : (d : ℕ) (x : NodeState) → last_coin d x ≡ true → 8 * d ≤ x.view.wait
 coin-long d x e = leb-true _ _ e
 
-pub coin-short : (d : ℕ) (x : NodeState) → KnowsCoins d x → x.view.phase ≡ phase.Contend → last_coin d x ≡ false → x.view.wait ≤ 4 * d
+pub coin-short :
+    (d : ℕ) (x : NodeState) → KnowsCoins d x → x.view.phase ≡ phase.Contend →
+    last_coin d x ≡ false → x.view.wait ≤ 4 * d
 coin-short d x k c e = elim (k.shows c) [ inl s ↦ s | inr l ↦ absurd (clash l.0) ]
   where
     clash : 8 * d ≤ x.view.wait → ⊥
@@ -46,9 +49,14 @@ coin-short d x k c e = elim (k.shows c) [ inl s ↦ s | inr l ↦ absurd (clash 
 
 -- ---- before the turn
 
-module _ (d : ℕ) (x y : Side) (r : Rivals d x y) (ux : is_port x.node.view.parent x.port ≡ true) (uy : is_port y.node.view.parent y.port ≡ true) where
+module _
+    (d : ℕ) (x y : Side) (r : Rivals d x y) (ux : is_port x.node.view.parent x.port ≡ true)
+    (uy : is_port y.node.view.parent y.port ≡ true) where
   -- what comes of T1 and T2
-  pub shaken : NoEntry x.node (hearing x) → is_shaking x.node.view.phase ≡ true → Shook (hearing x).state (ticking x).state (ticking x).sends ⊎ Drew x.coin (hearing x).state (ticking x).state
+  pub shaken :
+      NoEntry x.node (hearing x) → is_shaking x.node.view.phase ≡ true →
+      Shook (hearing x).state (ticking x).state (ticking x).sends
+      ⊎ Drew x.coin (hearing x).state (ticking x).state
   shaken h s = elim (tick-shaken x.coin (hearing x).state (ap is_shaking h.phase ∙ s)) [
     | inl a ↦ inl a
     | inr a ↦ elim a [
@@ -62,14 +70,22 @@ module _ (d : ℕ) (x y : Side) (r : Rivals d x y) (ux : is_port x.node.view.par
   ]
 
   -- and of T3
-  pub fought : NoEntry x.node (hearing x) → x.node.view.phase ≡ phase.Contend → Fought (raise_timer (hearing x).state) (ticking x).state (ticking x).sends
+  pub fought :
+      NoEntry x.node (hearing x) → x.node.view.phase ≡ phase.Contend →
+      Fought (raise_timer (hearing x).state) (ticking x).state (ticking x).sends
   fought h c = tick-fought x.coin (hearing x).state r.pair.near.hears.valid (h.phase ∙ c)
 
-  pub waited-timer : NoEntry x.node (hearing x) → Waited (raise_timer (hearing x).state) (ticking x).state (ticking x).sends → ((ticking x).state.view.timer ≡ risen x.node.view.timer) × (risen x.node.view.timer < x.node.view.wait)
+  pub waited-timer :
+      NoEntry x.node (hearing x) → Waited (raise_timer (hearing x).state)
+      (ticking x).state (ticking x).sends → ((ticking x).state.view.timer ≡ risen x.node.view.timer)
+      × (risen x.node.view.timer < x.node.view.wait)
   waited-timer h w = (w.timer ∙ ap risen h.timer, omega (arith, ap risen h.timer, w.not_yet, h.wait))
 
   -- a wait that is over was long
-  pub over-timer : NoEntry x.node (hearing x) → x.node.view.phase ≡ phase.Contend → (hearing x).state.view.wait ≤ risen (hearing x).state.view.timer → (x.node.view.wait ≤ x.node.view.timer + 1) × (3 * d ≤ x.node.view.timer + 1)
+  pub over-timer :
+      NoEntry x.node (hearing x) → x.node.view.phase ≡ phase.Contend →
+      (hearing x).state.view.wait ≤ risen (hearing x).state.view.timer →
+      (x.node.view.wait ≤ x.node.view.timer + 1) × (3 * d ≤ x.node.view.timer + 1)
   over-timer h c o =
       let w : x.node.view.wait ≤ x.node.view.timer + 1 = most (hearing x).state.view.wait (hearing x).state.view.timer x.node.view.wait x.node.view.timer o h.wait h.timer in
       (w, omega (arith, w, r.pair.near.waits c))
@@ -78,14 +94,20 @@ module _ (d : ℕ) (x y : Side) (r : Rivals d x y) (ux : is_port x.node.view.par
       most a b c e o f g = grind (arith, o, f, g)
 
   -- after a wait that long the other end sees Idle, and doesn't draw
-  pub long-idle : x.node.view.phase ≡ phase.Contend → d ≤ x.node.view.timer → level_shown (hearing y).state y.port ≡ level.Idle
+  pub long-idle :
+      x.node.view.phase ≡ phase.Contend → d ≤ x.node.view.timer →
+      level_shown (hearing y).state y.port ≡ level.Idle
   long-idle c t = heard_idle d x y r.pair c ux t
 
-  pub long-undrawn : x.node.view.phase ≡ phase.Contend → d ≤ x.node.view.timer → NoEntry y.node (hearing y) → Drew y.coin (hearing y).state (ticking y).state → ⊥
+  pub long-undrawn :
+      x.node.view.phase ≡ phase.Contend → d ≤ x.node.view.timer → NoEntry y.node (hearing y) →
+      Drew y.coin (hearing y).state (ticking y).state → ⊥
   long-undrawn c t h w = idle-parent (level_shown (hearing y).state y.port) (long-idle c t) (drew-sees d y x (swapped d x y r) w (up-mid d y x (swapped d x y r) h uy))
 
   -- where the other end draws, the wait just began
-  pub young : x.node.view.phase ≡ phase.Contend → NoEntry x.node (hearing x) → NoEntry y.node (hearing y) → Drew y.coin (hearing y).state (ticking y).state → x.node.view.timer + 1 < d
+  pub young :
+      x.node.view.phase ≡ phase.Contend → NoEntry x.node (hearing x) → NoEntry y.node (hearing y) →
+      Drew y.coin (hearing y).state (ticking y).state → x.node.view.timer + 1 < d
   young c hx hy w = elim (less-or (x.node.view.timer + 1) d) [
     | inl a ↦ a
     | inr a ↦ absurd (idle-parent (level_shown (hearing y).state y.port) (idle a) (drew-sees d y x (swapped d x y r) w (up-mid d y x (swapped d x y r) hy uy)))
@@ -114,14 +136,19 @@ module _ (d : ℕ) (x y : Side) (r : Rivals d x y) (ux : is_port x.node.view.par
 
 -- ---- the turn, case by case
 
-module _ (d : ℕ) (x y : Side) (r : Rivals d x y) (ux : is_port x.node.view.parent x.port ≡ true) (uy : is_port y.node.view.parent y.port ≡ true) (hx : NoEntry x.node (hearing x)) (hy : NoEntry y.node (hearing y)) where
+module _
+    (d : ℕ) (x y : Side) (r : Rivals d x y) (ux : is_port x.node.view.parent x.port ≡ true)
+    (uy : is_port y.node.view.parent y.port ≡ true) (hx : NoEntry x.node (hearing x))
+    (hy : NoEntry y.node (hearing y)) where
   s2 : Rivals d y x
   s2 = swapped d x y r
 
   abbrev After : Type 0
   After = AreRivals d (ticking x).state x.port (wire_after x) (ticking y).state y.port (wire_after y)
 
-  shook-none : Shook (hearing x).state (ticking x).state (ticking x).sends → DrewNone x.node (ticking x).state
+  shook-none :
+      Shook (hearing x).state (ticking x).state (ticking x).sends →
+      DrewNone x.node (ticking x).state
   shook-none a = draws-not d x y r hx (λ w. no-contend (ticking x).state.view.phase a.phase w.phase)
 
   pub contend-none : x.node.view.phase ≡ phase.Contend → DrewNone x.node (ticking x).state
@@ -131,7 +158,11 @@ module _ (d : ℕ) (x y : Side) (r : Rivals d x y) (ux : is_port x.node.view.par
       clash f a b = cc
 
   -- both drew alike, and x draws once more
-  first-draw : DrewTheSame x.node y.node → DrewNone y.node (ticking y).state → Drew x.coin (hearing x).state (ticking x).state → is_shaking (ticking y).state.view.phase ≡ true → AreApart d (ticking x).state x.port (ticking y).state (wire_after y)
+  first-draw :
+      DrewTheSame x.node y.node → DrewNone y.node (ticking y).state →
+      Drew x.coin (hearing x).state (ticking x).state →
+      is_shaking (ticking y).state.view.phase ≡ true →
+      AreApart d (ticking x).state x.port (ticking y).state (wire_after y)
   first-draw same n w sh = record {
     here = w.phase;
     there = sh;
@@ -145,7 +176,10 @@ module _ (d : ℕ) (x y : Side) (r : Rivals d x y) (ux : is_port x.node.view.par
   }
 
   -- the wait of x goes on, and y, whose wait is over, asks again
-  pub waits-on : HaveMet d x.node y.node → Waited (raise_timer (hearing x).state) (ticking x).state (ticking x).sends → AskedAgain (raise_timer (hearing y).state) (ticking y).state → AsksAgain d (ticking x).state (ticking y).state (wire_after y)
+  pub waits-on :
+      HaveMet d x.node y.node → Waited (raise_timer (hearing x).state)
+      (ticking x).state (ticking x).sends → AskedAgain (raise_timer (hearing y).state)
+      (ticking y).state → AsksAgain d (ticking x).state (ticking y).state (wire_after y)
   waits-on m w a = record {
     drew = record { draws = m.drew.draws; first = m.drew.first; here = adds-still d x y r nx m.drew.draws m.drew.first m.drew.here; there = adds-still d y x s2 ny m.drew.draws m.drew.first m.drew.there };
     long = omega (arith, tx, min-least, twice, r.pair.some_delay);
@@ -176,13 +210,17 @@ module _ (d : ℕ) (x y : Side) (r : Rivals d x y) (ux : is_port x.node.view.par
       y-under : y.node.view.timer < y.node.view.wait
       y-under = r.other.waits m.there
 
-      early : y.node.view.wait ≤ 4 * d → 8 * d ≤ x.node.view.wait → (ticking x).state.view.timer + 3 * d + 1 - (ticking x).state.view.wait ≤ 0
+      early :
+          y.node.view.wait ≤ 4 * d → 8 * d ≤ x.node.view.wait →
+          (ticking x).state.view.timer + 3 * d + 1 - (ticking x).state.view.wait ≤ 0
       early sh lo = omega (arith, tx, rises, nx.wait, m.near, y-under, sh, lo, r.pair.some_delay)
         where
           rises : risen x.node.view.timer ≤ x.node.view.timer + 1
           rises = grind arith
 
-      two : (b c : Bool) → last_coin d x.node ≡ b → last_coin d y.node ≡ c → (last_coin d (ticking x).state ≡ last_coin d (ticking y).state) ⊎
+      two :
+          (b c : Bool) → last_coin d x.node ≡ b → last_coin d y.node ≡ c →
+          (last_coin d (ticking x).state ≡ last_coin d (ticking y).state) ⊎
           ((last_coin d (ticking x).state ≡ true) × (last_coin d (ticking y).state ≡ false) × AllAsOldAs ((ticking x).state.view.timer + 3 * d + 1 - (ticking x).state.view.wait) (wire_after y))
       two true true e f = inl (coin-still d x y r nx ∙ e ∙ sym f ∙ sym (coin-still d y x s2 ny))
       two false false e f = inl (coin-still d x y r nx ∙ e ∙ sym f ∙ sym (coin-still d y x s2 ny))
@@ -198,7 +236,12 @@ module _ (d : ℕ) (x y : Side) (r : Rivals d x y) (ux : is_port x.node.view.par
           absurd (omega (arith, sh, lo, o.0, m.far, r.near.waits m.here, r.pair.some_delay))
 
   -- y asks again, and the wait of x goes on
-  pub asks-still : x.node.view.phase ≡ phase.Contend → is_shaking y.node.view.phase ≡ true → Waited (raise_timer (hearing x).state) (ticking x).state (ticking x).sends → Shook (hearing y).state (ticking y).state (ticking y).sends → AsksAgain d x.node y.node y.wire → AsksAgain d (ticking x).state (ticking y).state (wire_after y)
+  pub asks-still :
+      x.node.view.phase ≡ phase.Contend → is_shaking y.node.view.phase ≡ true →
+      Waited (raise_timer (hearing x).state) (ticking x).state (ticking x).sends →
+      Shook (hearing y).state (ticking y).state (ticking y).sends →
+      AsksAgain d x.node y.node y.wire →
+      AsksAgain d (ticking x).state (ticking y).state (wire_after y)
   asks-still c sh w v h = record {
     drew = record { draws = h.drew.draws; first = h.drew.first; here = adds-still d x y r nx h.drew.draws h.drew.first h.drew.here; there = adds-still d y x s2 ny h.drew.draws h.drew.first h.drew.there };
     long = omega (arith, t, least x.node.view.timer h.long);
@@ -229,7 +272,10 @@ module _ (d : ℕ) (x y : Side) (r : Rivals d x y) (ux : is_port x.node.view.par
       nothing : wire_after y ≡ leftovers y
       nothing = same_wire y (hy.sends (shaking-silent y.node.view.phase sh)) v.sends_none
 
-      older : AllAsOldAs (x.node.view.timer + 3 * d + 1 - x.node.view.wait) y.wire → AllAsOldAs ((ticking x).state.view.timer + 3 * d + 1 - (ticking x).state.view.wait) (wire_after y)
+      older :
+          AllAsOldAs (x.node.view.timer + 3 * d + 1 - x.node.view.wait) y.wire →
+          AllAsOldAs ((ticking x).state.view.timer + 3 * d + 1 - (ticking x).state.view.wait)
+          (wire_after y)
       older e =
           subst (AllAsOldAs ((ticking x).state.view.timer + 3 * d + 1 - (ticking x).state.view.wait)) (sym nothing)
           (AllAsOldAs-less ((ticking x).state.view.timer + 3 * d + 1 - (ticking x).state.view.wait) (x.node.view.timer + 3 * d + 1 - x.node.view.wait + 1) (leftovers y)
@@ -238,35 +284,49 @@ module _ (d : ℕ) (x y : Side) (r : Rivals d x y) (ux : is_port x.node.view.par
           (kept_since y (x.node.view.timer + 3 * d + 1 - x.node.view.wait) e))
 
   -- y asks again, and is seen before the wait of x is over
-  pub not-again : x.node.view.phase ≡ phase.Contend → is_shaking y.node.view.phase ≡ true → AskedAgain (raise_timer (hearing x).state) (ticking x).state → AllAsOldAs (x.node.view.timer + 3 * d + 1 - x.node.view.wait) y.wire → ⊥
+  pub not-again :
+      x.node.view.phase ≡ phase.Contend → is_shaking y.node.view.phase ≡ true →
+      AskedAgain (raise_timer (hearing x).state) (ticking x).state →
+      AllAsOldAs (x.node.view.timer + 3 * d + 1 - x.node.view.wait) y.wire → ⊥
   not-again c sh b e =
       let o = over-timer d x y r ux uy hx c b.over in
       let none : y.wire ≡ [] = none-so-old d (x.node.view.timer + 3 * d + 1 - x.node.view.wait) y.wire r.pair.some_delay (omega (arith, o.0, r.pair.some_delay)) e r.pair.other.ages in
       other-level (level_shown (hearing x).state x.port) (asks-here d x y r sh uy none) (again-sees d x y r b (up-mid d x y r hx ux))
 
   -- both are in T3 with unequal coins, x with the long wait: it isn't over yet
-  pub not-over : HaveMet d x.node y.node → x.node.view.wait ≤ x.node.view.timer + 1 → last_coin d x.node ≡ true → last_coin d y.node ≡ false → ⊥
+  pub not-over :
+      HaveMet d x.node y.node → x.node.view.wait ≤ x.node.view.timer + 1 →
+      last_coin d x.node ≡ true → last_coin d y.node ≡ false → ⊥
   not-over m o e f =
       let lo : 8 * d ≤ x.node.view.wait = coin-long d x.node e in
       let sh : y.node.view.wait ≤ 4 * d = coin-short d y.node r.other m.there f in
       omega (arith, lo, sh, o, m.near, r.other.waits m.there, r.pair.some_delay)
 
   -- no rival is seen while both are in T3
-  pub took-none : HaveMet d x.node y.node → TookRival (raise_timer (hearing x).state) (ticking x).state → ⊥
+  pub took-none :
+      HaveMet d x.node y.node → TookRival (raise_timer (hearing x).state) (ticking x).state → ⊥
   took-none m t =
       let o = over-timer d x y r ux uy hx m.here t.over in
       idle-parent (level_shown (hearing x).state x.port)
       (long-idle d y x s2 uy ux m.there (omega (arith, o.1, m.near, r.pair.some_delay)))
       (took-sees d x y r t (up-mid d x y r hx ux))
 
-module _ (d : ℕ) (x y : Side) (r : Rivals d x y) (ux : is_port x.node.view.parent x.port ≡ true) (uy : is_port y.node.view.parent y.port ≡ true) (hx : NoEntry x.node (hearing x)) (hy : NoEntry y.node (hearing y)) where
+module _
+    (d : ℕ) (x y : Side) (r : Rivals d x y) (ux : is_port x.node.view.parent x.port ≡ true)
+    (uy : is_port y.node.view.parent y.port ≡ true) (hx : NoEntry x.node (hearing x))
+    (hy : NoEntry y.node (hearing y)) where
   s3 : Rivals d y x
   s3 = swapped d x y r
 
   both-shaking : AreAlike x.node y.node → After d x y r ux uy hx hy
   both-shaking a = go (shaken d x y r ux uy hx a.here) (shaken d y x s3 uy ux hy a.there)
     where
-      go : Shook (hearing x).state (ticking x).state (ticking x).sends ⊎ Drew x.coin (hearing x).state (ticking x).state → Shook (hearing y).state (ticking y).state (ticking y).sends ⊎ Drew y.coin (hearing y).state (ticking y).state → After d x y r ux uy hx hy
+      go :
+          Shook (hearing x).state (ticking x).state (ticking x).sends
+          ⊎ Drew x.coin (hearing x).state (ticking x).state →
+          Shook (hearing y).state (ticking y).state (ticking y).sends
+          ⊎ Drew y.coin (hearing y).state (ticking y).state →
+          After d x y r ux uy hx hy
       go (inl b) (inl c) =
           let nx : DrewNone x.node (ticking x).state = shook-none d x y r ux uy hx hy b in
           let ny : DrewNone y.node (ticking y).state = shook-none d y x s3 uy ux hy hx c in
@@ -306,13 +366,19 @@ module _ (d : ℕ) (x y : Side) (r : Rivals d x y) (ux : is_port x.node.view.par
       rises : (a b c : ℕ) → a ≤ b + c → risen a ≤ risen b + c
       rises a b c h = grind (arith, h)
 
-      equal : x.node.view.wait ≤ x.node.view.timer + 1 → y.node.view.wait ≤ y.node.view.timer + 1 → (b c : Bool) → last_coin d x.node ≡ b → last_coin d y.node ≡ c → last_coin d x.node ≡ last_coin d y.node
+      equal :
+          x.node.view.wait ≤ x.node.view.timer + 1 → y.node.view.wait ≤ y.node.view.timer + 1 →
+          (b c : Bool) → last_coin d x.node ≡ b → last_coin d y.node ≡ c →
+          last_coin d x.node ≡ last_coin d y.node
       equal o p true true e f = e ∙ sym f
       equal o p false false e f = e ∙ sym f
       equal o p true false e f = absurd (not-over d x y r ux uy hx hy m o e f)
       equal o p false true e f = absurd (not-over d y x s3 uy ux hy hx back p f e)
 
-      go : Fought (raise_timer (hearing x).state) (ticking x).state (ticking x).sends → Fought (raise_timer (hearing y).state) (ticking y).state (ticking y).sends → After d x y r ux uy hx hy
+      go :
+          Fought (raise_timer (hearing x).state) (ticking x).state (ticking x).sends →
+          Fought (raise_timer (hearing y).state) (ticking y).state (ticking y).sends →
+          After d x y r ux uy hx hy
       go (inr (inl t)) q = absurd (took-none d x y r ux uy hx hy m t)
       go (inl w) (inr (inl t)) = absurd (took-none d y x s3 uy ux hy hx back t)
       go (inr (inr a)) (inr (inl t)) = absurd (took-none d y x s3 uy ux hy hx back t)
@@ -338,19 +404,30 @@ module _ (d : ℕ) (x y : Side) (r : Rivals d x y) (ux : is_port x.node.view.par
             drew = record { draws = nx.draws ∙ same.draws ∙ sym ny.draws; first_draws = nx.first_draws ∙ same.first_draws ∙ sym ny.first_draws };
           })
 
-  one-waiting : AreApart d x.node x.port y.node y.wire → is_port (ticking x).state.view.parent x.port ≡ true → After d x y r ux uy hx hy
+  one-waiting :
+      AreApart d x.node x.port y.node y.wire → is_port (ticking x).state.view.parent x.port ≡ true →
+      After d x y r ux uy hx hy
   one-waiting a stays = go (fought d x y r ux uy hx a.here) (shaken d y x s3 uy ux hy a.there)
     where
       nx : DrewNone x.node (ticking x).state
       nx = contend-none d x y r ux uy hx hy a.here
 
       -- y draws too
-      meets : Waited (raise_timer (hearing x).state) (ticking x).state (ticking x).sends → Drew y.coin (hearing y).state (ticking y).state → IsAhead d x.node x.port y.node ⊎ AsksAgain d x.node y.node y.wire → DrewTogether d (ticking x).state (ticking y).state
+      meets :
+          Waited (raise_timer (hearing x).state) (ticking x).state (ticking x).sends →
+          Drew y.coin (hearing y).state (ticking y).state →
+          IsAhead d x.node x.port y.node ⊎ AsksAgain d x.node y.node y.wire →
+          DrewTogether d (ticking x).state (ticking y).state
       meets w v (inl h) = record { draws = y.node.view.draws; first = y.node.view.first_draws; here = adds-still d x y r nx y.node.view.draws y.node.view.first_draws h.drew; there = adds-draw d y x s3 hy v }
       meets w v (inr h) = absurd (omega (arith, h.long, young d x y r ux uy a.here hx hy v))
 
       -- it doesn't, and the wait goes on
-      waits : Waited (raise_timer (hearing x).state) (ticking x).state (ticking x).sends → Shook (hearing y).state (ticking y).state (ticking y).sends → IsAhead d x.node x.port y.node ⊎ AsksAgain d x.node y.node y.wire → IsAhead d (ticking x).state x.port (ticking y).state ⊎ AsksAgain d (ticking x).state (ticking y).state (wire_after y)
+      waits :
+          Waited (raise_timer (hearing x).state) (ticking x).state (ticking x).sends →
+          Shook (hearing y).state (ticking y).state (ticking y).sends →
+          IsAhead d x.node x.port y.node ⊎ AsksAgain d x.node y.node y.wire →
+          IsAhead d (ticking x).state x.port (ticking y).state
+          ⊎ AsksAgain d (ticking x).state (ticking y).state (wire_after y)
       waits w v (inl h) =
           let ny : DrewNone y.node (ticking y).state = shook-none d y x s3 uy ux hy hx v in
           let kept_draws = adds-still d x y r nx y.node.view.draws y.node.view.first_draws h.drew in
@@ -361,17 +438,26 @@ module _ (d : ℕ) (x y : Side) (r : Rivals d x y) (ux : is_port x.node.view.par
       waits w v (inr h) = inr (asks-still d x y r ux uy hx hy a.here a.there w v h)
 
       -- the wait is over, and no Parent is shown
-      again : AskedAgain (raise_timer (hearing x).state) (ticking x).state → IsAhead d x.node x.port y.node ⊎ AsksAgain d x.node y.node y.wire → DrewTheSame x.node y.node
+      again :
+          AskedAgain (raise_timer (hearing x).state) (ticking x).state →
+          IsAhead d x.node x.port y.node ⊎ AsksAgain d x.node y.node y.wire →
+          DrewTheSame x.node y.node
       again b (inl h) = absurd (other-level (level_shown (hearing x).state x.port) (asks-on d x y r a.there uy h.shown) (again-sees d x y r b (up-mid d x y r hx ux)))
       again b (inr h) = elim h.coins [
         | inl e ↦ same-coins d x.node y.node h.drew e
         | inr e ↦ absurd (not-again d x y r ux uy hx hy a.here a.there b e.2)
       ]
 
-      over-young : (hearing x).state.view.wait ≤ risen (hearing x).state.view.timer → Drew y.coin (hearing y).state (ticking y).state → ⊥
+      over-young :
+          (hearing x).state.view.wait ≤ risen (hearing x).state.view.timer →
+          Drew y.coin (hearing y).state (ticking y).state → ⊥
       over-young o v = omega (arith, (over-timer d x y r ux uy hx a.here o).1, young d x y r ux uy a.here hx hy v, r.pair.some_delay)
 
-      go : Fought (raise_timer (hearing x).state) (ticking x).state (ticking x).sends → Shook (hearing y).state (ticking y).state (ticking y).sends ⊎ Drew y.coin (hearing y).state (ticking y).state → After d x y r ux uy hx hy
+      go :
+          Fought (raise_timer (hearing x).state) (ticking x).state (ticking x).sends →
+          Shook (hearing y).state (ticking y).state (ticking y).sends
+          ⊎ Drew y.coin (hearing y).state (ticking y).state →
+          After d x y r ux uy hx hy
       go (inl w) (inl v) = inr (inr (inl (record { here = w.phase; there = v.phase; how = waits w v a.how })))
       go (inl w) (inr v) =
           let t = (waited-timer d x y r ux uy hx w).0 in
@@ -398,11 +484,16 @@ module _ (d : ℕ) (x y : Side) (r : Rivals d x y) (ux : is_port x.node.view.par
       go (inr (inr b)) (inr v) = absurd (over-young b.over v)
 
 -- two nodes that have each other for parent, before and after
-pub stand-after : (d : ℕ) (x y : Side) → Rivals d x y → is_port x.node.view.parent x.port ≡ true → is_port y.node.view.parent y.port ≡ true → NoEntry x.node (hearing x) → NoEntry y.node (hearing y) →
+pub stand-after :
+    (d : ℕ) (x y : Side) → Rivals d x y → is_port x.node.view.parent x.port ≡ true →
+    is_port y.node.view.parent y.port ≡ true → NoEntry x.node (hearing x) →
+    NoEntry y.node (hearing y) →
     is_port (ticking x).state.view.parent x.port ≡ true → is_port (ticking y).state.view.parent y.port ≡ true → AreRivals d (ticking x).state x.port (wire_after x) (ticking y).state y.port (wire_after y)
 stand-after d x y r ux uy hx hy vx vy = go (r.here.rivals ux uy)
   where
-    go : AreRivals d x.node x.port x.wire y.node y.port y.wire → AreRivals d (ticking x).state x.port (wire_after x) (ticking y).state y.port (wire_after y)
+    go :
+        AreRivals d x.node x.port x.wire y.node y.port y.wire →
+        AreRivals d (ticking x).state x.port (wire_after x) (ticking y).state y.port (wire_after y)
     go (inl a) = both-shaking d x y r ux uy hx hy a
     go (inr (inl m)) = both-waiting d x y r ux uy hx hy m
     go (inr (inr (inl a))) = one-waiting d x y r ux uy hx hy a vx

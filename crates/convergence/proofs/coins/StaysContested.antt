@@ -1,5 +1,5 @@
 -- What nodes know of coins holds in every world that comes of a power-on world.
-use Rattle.std.proofs.Common.{◌≡◌, ◌⊎◌, inl, inr, ℕ, zero, suc, ◌≤◌, Bool, true, List, [], ◌∷◌, ◌++◌, Option, Some, None, slice_get, refl, sym, ◌∙◌, ap, subst, arith, true≢false}
+use Rattle.std.proofs.Common.{◌≡◌, ◌⊎◌, inl, inr, ℕ, ◌≤◌, true, List, [], ◌∷◌, ◌++◌, Some, None, slice_get, refl, sym, ◌∙◌, ap, subst, arith, true≢false}
 use Rattle.std.specs.Prelude.{◌*◌, nat_le}
 use Rattle.cabling.specs.declared.cable.End.{End}
 use Rattle.cabling.specs.Wiring.{Wiring, far, ports_of}
@@ -33,7 +33,6 @@ use Rattle.cable_world.proofs.coupling.CouplingInTurns.{before, hears, ticks, si
 use Rattle.cable_world.proofs.levels.LastHeard.{shown-same, shown_if_there}
 use Rattle.cable_world.proofs.acts.ResettingSteps.{HasBegun}
 use Rattle.cable_world.proofs.tables.CableEnds.{CableEnd, cable-end}
-use Rattle.convergence.proofs.turns.Cables.{joined-of}
 use Rattle.cable_world.proofs.Options.{none-some}
 use Rattle.cable_world.proofs.coupling.Sides.{ticking}
 use Rattle.convergence.proofs.turns.AlongRuns.{IsKept, kept-reached, kept-turns}
@@ -49,7 +48,10 @@ use Rattle.convergence.proofs.turns.Roles.{early-parentless}
 
 -- ---- turns
 
-pub rivals-of : (w : CableWorld) → IsLawful w → IsContested w → (a b : End) (x y : PortNode) → far w.cabling a ≡ Some b → slice_get w.nodes a.node ≡ Some x → slice_get w.nodes b.node ≡ Some y → Rivals w.delay (side w a x) (side w b y)
+pub rivals-of :
+    (w : CableWorld) → IsLawful w → IsContested w → (a b : End) (x y : PortNode) →
+    far w.cabling a ≡ Some b → slice_get w.nodes a.node ≡ Some x →
+    slice_get w.nodes b.node ≡ Some y → Rivals w.delay (side w a x) (side w b y)
 rivals-of w l c a b x y e at_x at_y =
     let back : far w.cabling b ≡ Some a = l.well_formed.cabling.both_ways a b e in
     record {
@@ -71,7 +73,10 @@ rivals-of w l c a b x y e at_x at_y =
       there = c.cables b a y x back at_y at_x;
     }
 
-turn-cable : (w : CableWorld) → IsLawful w → IsContested w → (a b : End) (x y : PortNode) → far w.cabling a ≡ Some b → slice_get w.nodes a.node ≡ Some x → slice_get w.nodes b.node ≡ Some y →
+turn-cable :
+    (w : CableWorld) → IsLawful w → IsContested w → (a b : End) (x y : PortNode) →
+    far w.cabling a ≡ Some b → slice_get w.nodes a.node ≡ Some x →
+    slice_get w.nodes b.node ≡ Some y →
     Contests w.delay (turn_at w a.node x).node.state a.port (wire_of (turn w) a).signals (turn_at w b.node y).node.state b.port (wire_of (turn w) b).signals
 turn-cable w l c a b x y e at_x at_y =
     let back : far w.cabling b ≡ Some a = l.well_formed.cabling.both_ways a b e in
@@ -136,11 +141,14 @@ begun-knows d x b = record {
     clash : (f : Phase) → f ≡ phase.ResetStart → f ≡ phase.Contend → ⊥
     clash f a b = cc
 
-begun-apart : (x : NodeState) → HasBegun x → IsValid x → (k : ℕ) → is_port x.view.parent k ≡ true → ⊥
+begun-apart :
+    (x : NodeState) → HasBegun x → IsValid x → (k : ℕ) → is_port x.view.parent k ≡ true → ⊥
 begun-apart x b v k u = true≢false (sym u ∙ ap (λ o. is_port o k) (early-parentless x v (ap is_before_tree b.phase)))
 
 -- at this end of the cable
-begun-here : (d : ℕ) (x : NodeState) (p : ℕ) (there : List Travelling) (y : NodeState) (q : ℕ) (back : List Travelling) → HasBegun x → IsValid x → Contests d x p there y q back
+begun-here :
+    (d : ℕ) (x : NodeState) (p : ℕ) (there : List Travelling) (y : NodeState) (q : ℕ)
+    (back : List Travelling) → HasBegun x → IsValid x → Contests d x p there y q back
 begun-here d x p there y q back b v = record {
   told = λ l s. absurd (true≢false (sym (ap is_before_tree b.phase) ∙ l));
   later = λ u n s. absurd (begun-apart x b v p u);
@@ -150,7 +158,11 @@ begun-here d x p there y q back b v = record {
 }
 
 -- at the other end
-begun-there : (d : ℕ) (x : NodeState) (p : ℕ) (there : List Travelling) (old y : NodeState) (q : ℕ) (back : List Travelling) → HasBegun y → IsValid y → level_shown y q ≡ level_shown old q → Contests d x p there old q back → Contests d x p there y q (back ++ new_signal signal.Reset ∷ [])
+begun-there :
+    (d : ℕ) (x : NodeState) (p : ℕ) (there : List Travelling) (old y : NodeState) (q : ℕ)
+    (back : List Travelling) → HasBegun y → IsValid y → level_shown y q ≡ level_shown old q →
+    Contests d x p there old q back →
+    Contests d x p there y q (back ++ new_signal signal.Reset ∷ [])
 begun-there d x p there old y q back b v shown c = record {
   told = λ l s. c.told l (sym (ap is_child shown) ∙ s);
   later = λ u n s. absurd (not-both (has_reset (signals_of (back ++ new_signal signal.Reset ∷ []))) (ends-in-reset back) n);
@@ -161,7 +173,10 @@ begun-there d x p there old y q back b v shown c = record {
 
 module _ (w v : CableWorld) (h : between.Happens w v) (c : IsContested w) where
   -- a cable whose node at the first end is as it was
-  node-stayed : (a b : End) (x y : PortNode) → far v.cabling a ≡ Some b → slice_get v.nodes b.node ≡ Some y → Stayed w v a b x → Entered w v b a y ⊎ Stayed w v b a y → Contests w.delay x.state a.port (wire_of w a).signals y.state b.port (wire_of v b).signals
+  node-stayed :
+      (a b : End) (x y : PortNode) → far v.cabling a ≡ Some b → slice_get v.nodes b.node ≡ Some y →
+      Stayed w v a b x → Entered w v b a y ⊎ Stayed w v b a y →
+      Contests w.delay x.state a.port (wire_of w a).signals y.state b.port (wire_of v b).signals
   node-stayed a b x y e at s (inr u) =
       subst (λ (ts : List Travelling). Contests w.delay x.state a.port (wire_of w a).signals y.state b.port ts) (sym u.signals)
       (c.cables a b x y s.cable s.node u.node)
@@ -175,7 +190,10 @@ module _ (w v : CableWorld) (h : between.Happens w v) (c : IsContested w) where
       (shown-same y.state old.node.state b.port same)
       (c.cables a b x old.node s.cable s.node old.node_at))
 
-  happened-cable : (a b : End) (x y : PortNode) → far v.cabling a ≡ Some b → slice_get v.nodes a.node ≡ Some x → slice_get v.nodes b.node ≡ Some y → Contests v.delay x.state a.port (wire_of v a).signals y.state b.port (wire_of v b).signals
+  happened-cable :
+      (a b : End) (x y : PortNode) → far v.cabling a ≡ Some b → slice_get v.nodes a.node ≡ Some x →
+      slice_get v.nodes b.node ≡ Some y →
+      Contests v.delay x.state a.port (wire_of v a).signals y.state b.port (wire_of v b).signals
   happened-cable a b x y e at there = elim (h.ends a b x e at) [
     | inl s ↦ begun-here v.delay x.state a.port (wire_of v a).signals y.state b.port (wire_of v b).signals s.begun (h.after.nodes a.node x at).valid
     | inr s ↦
@@ -205,7 +223,9 @@ module _ (w v : CableWorld) (h : between.Happens w v) (c : IsContested w) where
         c.one_rival a b e f x y z same p.cable q.cable p.node (stayed b.node y at_y drew_y) (stayed f.node z at_z drew_z) down_a down_e drew_y drew_z;
   }
 
-pub hold-contested : (end : End) (n : ℕ) (w : CableWorld) → hold_fault end w ≡ None → IsLawful w → IsContested w → IsContested (hold end n w)
+pub hold-contested :
+    (end : End) (n : ℕ) (w : CableWorld) → hold_fault end w ≡ None → IsLawful w → IsContested w →
+    IsContested (hold end n w)
 hold-contested end n w none l c = happened w (hold end n w) (hold-happens end n w none l.well_formed) c
 
 -- some nodes hear a configuration packet
@@ -228,16 +248,21 @@ told-as packet x = record { phase = refl; timer = refl; wait = refl; parent = re
 adds-as : (d : ℕ) (x z : NodeState) (n f : ℕ) → IsAs x z → AddsDraw d n f x → AddsDraw d n f z
 adds-as d x z n f e s = record { count = e.draws ∙ s.count; coins = e.first_draws ∙ s.coins ∙ ap (λ w. draws_with (nat_le (8 * d) w) n f) (sym e.wait) }
 
-after-as : (d : ℕ) (x z y u : NodeState) → IsAs x z → IsAs y u → AddsDraw d y.view.draws y.view.first_draws x → AddsDraw d u.view.draws u.view.first_draws z
+after-as :
+    (d : ℕ) (x z y u : NodeState) → IsAs x z → IsAs y u →
+    AddsDraw d y.view.draws y.view.first_draws x → AddsDraw d u.view.draws u.view.first_draws z
 after-as d x z y u e f s = rw (f.draws, f.first_draws) (adds-as d x z y.view.draws y.view.first_draws e s)
 
-together-as : (d : ℕ) (x z y u : NodeState) → IsAs x z → IsAs y u → DrewTogether d x y → DrewTogether d z u
+together-as :
+    (d : ℕ) (x z y u : NodeState) → IsAs x z → IsAs y u → DrewTogether d x y → DrewTogether d z u
 together-as d x z y u e f t = record { draws = t.draws; first = t.first; here = adds-as d x z t.draws t.first e t.here; there = adds-as d y u t.draws t.first f t.there }
 
 shown-as : (x z : NodeState) (p : ℕ) → IsAs x z → level_shown z p ≡ level_shown x p
 shown-as x z p e = ap (λ ps. shown_or_idle (slice_get ps p)) e.ports
 
-apart-as : (d : ℕ) (x z : NodeState) (p : ℕ) (y u : NodeState) (back : List Travelling) → IsAs x z → IsAs y u → AreApart d x p y back → AreApart d z p u back
+apart-as :
+    (d : ℕ) (x z : NodeState) (p : ℕ) (y u : NodeState) (back : List Travelling) → IsAs x z →
+    IsAs y u → AreApart d x p y back → AreApart d z p u back
 apart-as d x z p y u back e f a = record {
   here = e.phase ∙ a.here;
   there = ap is_shaking f.phase ∙ a.there;
@@ -247,7 +272,10 @@ apart-as d x z p y u back e f a = record {
   ];
 }
 
-contests-as : (d : ℕ) (x z : NodeState) (p : ℕ) (there : List Travelling) (y u : NodeState) (q : ℕ) (back : List Travelling) → IsAs x z → IsAs y u → Contests d x p there y q back → Contests d z p there u q back
+contests-as :
+    (d : ℕ) (x z : NodeState) (p : ℕ) (there : List Travelling) (y u : NodeState) (q : ℕ)
+    (back : List Travelling) → IsAs x z → IsAs y u → Contests d x p there y q back →
+    Contests d z p there u q back
 contests-as d x z p there y u q back e f h = record {
   told = λ l s. ap (λ ps. port_is (λ r. r.child) ps p) e.ports ∙ h.told (sym (ap is_before_tree e.phase) ∙ l) (sym (ap is_child (shown-as y u q f)) ∙ s);
   later = λ v n s. ap is_before_tree f.phase ∙ h.later (sym (ap (λ o. is_port o p) e.parent) ∙ v) n (omega (arith, s, e.draws));
@@ -309,7 +337,9 @@ noting-contested w u v e c =
     let all : IsContested (note_changes w u) = record { nodes = c.nodes; cables = c.cables; one_rival = c.one_rival } in
     subst IsContested (sym e) all
 
-pub act-contested : (a : Act) (w v : CableWorld) → IsAct a → act_fault a w ≡ None → ActLeads a w v → IsLawful w → IsContested w → IsContested v
+pub act-contested :
+    (a : Act) (w v : CableWorld) → IsAct a → act_fault a w ≡ None → ActLeads a w v → IsLawful w →
+    IsContested w → IsContested v
 act-contested a w v is none e l c =
     let t : Acting w v = acting a w v is none e l.well_formed in
     let heard : IsContested t.told = elim t.hears [

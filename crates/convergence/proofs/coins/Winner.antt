@@ -43,29 +43,38 @@ use Rattle.convergence.proofs.turns.Roles.{parent-was, child-late, parent-late}
 use Rattle.convergence.proofs.coins.Stands.{shaken, fought, waited-timer, over-timer, long-undrawn, contend-none, waits-on, asks-still, not-again, not-over, took-none}
 
 -- two rivals: x waits long, and has waited for so many turns; y waits short, or asks again
-pub record Faces (d : ℕ) (x : NodeState) (p : ℕ) (y : NodeState) (q : ℕ) (back : List Travelling) (i : ℕ) : Type 0 where
+pub record Faces
+    (d : ℕ) (x : NodeState) (p : ℕ) (y : NodeState) (q : ℕ) (back : List Travelling) (i : ℕ)
+    : Type 0 where
   pub here : is_port x.view.parent p ≡ true
   pub there : is_port y.view.parent q ≡ true
   pub contends : x.view.phase ≡ phase.Contend
   pub long : last_coin d x ≡ true
   pub short : last_coin d y ≡ false
   pub waited : i ≤ x.view.timer
-  pub how : (y.view.phase ≡ phase.Contend) ⊎ ((is_shaking y.view.phase ≡ true) × AsksAgain d x y back)
+  pub how :
+      (y.view.phase ≡ phase.Contend) ⊎ ((is_shaking y.view.phase ≡ true) × AsksAgain d x y back)
 
 abbrev pub Over : NodeState → ℕ → Type 0
 Over x p = (leads_down x.view.ports p ≡ true) × (x.view.parent ≡ None)
 
-module _ (d : ℕ) (x y : Side) (r : Rivals d x y) (hx : NoEntry x.node (hearing x)) (hy : NoEntry y.node (hearing y)) where
+module _
+    (d : ℕ) (x y : Side) (r : Rivals d x y) (hx : NoEntry x.node (hearing x))
+    (hy : NoEntry y.node (hearing y)) where
   s : Rivals d y x
   s = swapped d x y r
 
   abbrev After : ℕ → Type 0
   After i = Over (ticking x).state x.port ⊎ Faces d (ticking x).state x.port (ticking y).state y.port (wire_after y) (i + 1)
 
-  up-x : (ticking x).state.view.parent ≡ (hearing x).state.view.parent → is_port x.node.view.parent x.port ≡ true → is_port (ticking x).state.view.parent x.port ≡ true
+  up-x :
+      (ticking x).state.view.parent ≡ (hearing x).state.view.parent →
+      is_port x.node.view.parent x.port ≡ true → is_port (ticking x).state.view.parent x.port ≡ true
   up-x e u = ap (λ o. is_port o x.port) e ∙ up-mid d x y r hx u
 
-  up-y : (ticking y).state.view.parent ≡ (hearing y).state.view.parent → is_port y.node.view.parent y.port ≡ true → is_port (ticking y).state.view.parent y.port ≡ true
+  up-y :
+      (ticking y).state.view.parent ≡ (hearing y).state.view.parent →
+      is_port y.node.view.parent y.port ≡ true → is_port (ticking y).state.view.parent y.port ≡ true
   up-y e u = ap (λ o. is_port o y.port) e ∙ up-mid d y x s hy u
 
   rises : (i t u w : ℕ) → i ≤ t → u ≡ risen t → risen t < w → w ≤ 10 * d → i + 1 ≤ u
@@ -92,12 +101,17 @@ module _ (d : ℕ) (x y : Side) (r : Rivals d x y) (hx : NoEntry x.node (hearing
           both-in (inr (inr (inl a))) = absurd (contend-shakes y.node.view.phase c a.there)
           both-in (inr (inr (inr a))) = absurd (contend-shakes x.node.view.phase f.contends a.there)
 
-      on : Waited (raise_timer (hearing x).state) (ticking x).state (ticking x).sends → i + 1 ≤ (ticking x).state.view.timer
+      on :
+          Waited (raise_timer (hearing x).state) (ticking x).state (ticking x).sends →
+          i + 1 ≤ (ticking x).state.view.timer
       on w =
           let t = waited-timer d x y r f.here f.there hx w in
           rises i x.node.view.timer (ticking x).state.view.timer x.node.view.wait f.waited t.0 t.1 (wait-most f.contends)
 
-      both : Waited (raise_timer (hearing x).state) (ticking x).state (ticking x).sends → (c : y.node.view.phase ≡ phase.Contend) → Fought (raise_timer (hearing y).state) (ticking y).state (ticking y).sends → After i
+      both :
+          Waited (raise_timer (hearing x).state) (ticking x).state (ticking x).sends →
+          (c : y.node.view.phase ≡ phase.Contend) → Fought (raise_timer (hearing y).state)
+          (ticking y).state (ticking y).sends → After i
       both w c (inl v) = inr (record {
         here = up-x w.parent f.here;
         there = up-y v.parent f.there;
@@ -120,7 +134,12 @@ module _ (d : ℕ) (x y : Side) (r : Rivals d x y) (hx : NoEntry x.node (hearing
         how = inr (ap is_shaking v.phase, waits-on d x y r f.here f.there hx hy (met c) w v);
       })
 
-      asked : Waited (raise_timer (hearing x).state) (ticking x).state (ticking x).sends → (sh : is_shaking y.node.view.phase ≡ true) → AsksAgain d x.node y.node y.wire → Shook (hearing y).state (ticking y).state (ticking y).sends ⊎ Drew y.coin (hearing y).state (ticking y).state → After i
+      asked :
+          Waited (raise_timer (hearing x).state) (ticking x).state (ticking x).sends →
+          (sh : is_shaking y.node.view.phase ≡ true) → AsksAgain d x.node y.node y.wire →
+          Shook (hearing y).state (ticking y).state (ticking y).sends
+          ⊎ Drew y.coin (hearing y).state (ticking y).state →
+          After i
       asked w sh h (inl v) = inr (record {
         here = up-x w.parent f.here;
         there = up-y v.parent f.there;
@@ -139,7 +158,10 @@ module _ (d : ℕ) (x y : Side) (r : Rivals d x y) (hx : NoEntry x.node (hearing
         t.root,
       )
 
-      go : Fought (raise_timer (hearing x).state) (ticking x).state (ticking x).sends → (y.node.view.phase ≡ phase.Contend) ⊎ ((is_shaking y.node.view.phase ≡ true) × AsksAgain d x.node y.node y.wire) → After i
+      go :
+          Fought (raise_timer (hearing x).state) (ticking x).state (ticking x).sends →
+          (y.node.view.phase ≡ phase.Contend)
+          ⊎ ((is_shaking y.node.view.phase ≡ true) × AsksAgain d x.node y.node y.wire) → After i
       go (inl w) (inl c) = both w c (fought d y x s f.there f.here hy c)
       go (inl w) (inr a) = asked w a.0 a.1 (shaken d y x s f.there f.here hy a.0)
       go (inr (inl t)) h = won t
@@ -181,7 +203,10 @@ abbrev State : CableWorld → End → End → ℕ → Type 0
 State w a b i = OverIn w a b ⊎ FacesIn w a b i
 
 -- one turn in which neither node begins a reset
-module _ (u : CableWorld) (m : IsLawful u) (c : IsContested u) (quiet : (k : ℕ) (x : PortNode) → slice_get u.nodes k ≡ Some x → is_resetting x.state.view.phase ≡ false → is_resetting (turn_at u k x).node.state.view.phase ≡ false) (a b : End) where
+module _
+    (u : CableWorld) (m : IsLawful u) (c : IsContested u)
+    (quiet : (k : ℕ) (x : PortNode) → slice_get u.nodes k ≡ Some x → is_resetting x.state.view.phase ≡ false → is_resetting (turn_at u k x).node.state.view.phase ≡ false)
+    (a b : End) where
   module _ (e : AreJoined u a b) where
     r : Rivals u.delay (side u a e.near) (side u b e.other)
     r = rivals-of u m c a b e.near e.other e.joined e.near_at e.other_at
@@ -192,7 +217,10 @@ module _ (u : CableWorld) (m : IsLawful u) (c : IsContested u) (quiet : (k : ℕ
     late-start : (f : Phase) → is_before_tree f ≡ false → is_resetting f ≡ false
     late-start f h = grind arith
 
-    hears-on : (g h : End) (z t : PortNode) → Rivals u.delay (side u g z) (side u h t) → slice_get u.nodes g.node ≡ Some z → is_before_tree z.state.view.phase ≡ false → NoEntry z.state (hearing (side u g z))
+    hears-on :
+        (g h : End) (z t : PortNode) → Rivals u.delay (side u g z) (side u h t) →
+        slice_get u.nodes g.node ≡ Some z → is_before_tree z.state.view.phase ≡ false →
+        NoEntry z.state (hearing (side u g z))
     hears-on g h z t q at late = elim q.pair.near.hears.cases [
       | inl n ↦ n
       | inr n ↦ absurd (not-both (is_resetting (ticking (side u g z)).state.view.phase) (came u.delay (side u g z) (side u h t) q.pair n).0
@@ -208,7 +236,9 @@ module _ (u : CableWorld) (m : IsLawful u) (c : IsContested u) (quiet : (k : ℕ
       other_at = node-after u b.node e.other m.well_formed.count e.other_at;
     }
 
-    late-x : Over e.near.state a.port ⊎ (is_port e.near.state.view.parent a.port ≡ true) → is_before_tree e.near.state.view.phase ≡ false
+    late-x :
+        Over e.near.state a.port ⊎ (is_port e.near.state.view.parent a.port ≡ true) →
+        is_before_tree e.near.state.view.phase ≡ false
     late-x (inl o) = child-late e.near.state (m.well_formed.nodes a.node e.near e.near_at).valid a.port o.0
     late-x (inr p) = parent-late e.near.state (m.well_formed.nodes a.node e.near e.near_at).valid a.port p
 
@@ -216,7 +246,10 @@ module _ (u : CableWorld) (m : IsLawful u) (c : IsContested u) (quiet : (k : ℕ
     over-next : Over (ticking (side u a e.near)).state a.port → OverIn (turn u) a b
     over-next o = record { ends = next; over = subst (λ (z : NodeState). Over z a.port) (sym (side-node u a e.near)) o }
 
-    faces-next : (i : ℕ) → Faces u.delay (ticking (side u a e.near)).state a.port (ticking (side u b e.other)).state b.port (wire_after (side u b e.other)) i → FacesIn (turn u) a b i
+    faces-next :
+        (i : ℕ) →
+        Faces u.delay (ticking (side u a e.near)).state a.port (ticking (side u b e.other)).state b.port (wire_after (side u b e.other))
+        i → FacesIn (turn u) a b i
     faces-next i f = record {
       ends = next;
       faces = rw (side-node u a e.near, side-node u b e.other, side-wire u b a e.other m.well_formed back e.other_at, delay-after u) f;
@@ -239,7 +272,9 @@ module _ (u : CableWorld) (m : IsLawful u) (c : IsContested u) (quiet : (k : ℕ
 
 -- ---- late
 
-module _ (w : CableWorld) (l : IsLawful w) (c : IsContested w) (k : ℕ) (late : length w.nodes * w.delay ≤ k) (a b : End) where
+module _
+    (w : CableWorld) (l : IsLawful w) (c : IsContested w) (k : ℕ)
+    (late : length w.nodes * w.delay ≤ k) (a b : End) where
   abbrev later : ℕ → CableWorld
   later i = turns_after (k + i) w
 
@@ -269,7 +304,9 @@ module _ (w : CableWorld) (l : IsLawful w) (c : IsContested w) (k : ℕ) (late :
         | inr s ↦ omega (arith, long, f.faces.waited, knows.waits f.faces.contends, s.1)
       ])
 
-  starts : (m : AreMutual (turns_after k w) a b) → m.ends.near.state.view.phase ≡ phase.Contend → m.ends.other.state.view.phase ≡ phase.Contend →
+  starts :
+      (m : AreMutual (turns_after k w) a b) → m.ends.near.state.view.phase ≡ phase.Contend →
+      m.ends.other.state.view.phase ≡ phase.Contend →
       last_coin (turns_after k w).delay m.ends.near.state ≡ true → last_coin (turns_after k w).delay m.ends.other.state ≡ false → State (later 0) a b 0
   starts m here there long short =
       let z : k + 0 ≡ k = omega arith in
@@ -278,13 +315,18 @@ module _ (w : CableWorld) (l : IsLawful w) (c : IsContested w) (k : ℕ) (late :
         faces = record { here = m.here; there = m.there; contends = here; long = long; short = short; waited = omega arith; how = inl there };
       }))
 
-  pub wins : (m : AreMutual (turns_after k w) a b) → m.ends.near.state.view.phase ≡ phase.Contend → m.ends.other.state.view.phase ≡ phase.Contend →
+  pub wins :
+      (m : AreMutual (turns_after k w) a b) → m.ends.near.state.view.phase ≡ phase.Contend →
+      m.ends.other.state.view.phase ≡ phase.Contend →
       last_coin (turns_after k w).delay m.ends.near.state ≡ true → last_coin (turns_after k w).delay m.ends.other.state ≡ false → (i : ℕ) → 10 * w.delay ≤ i → HasWonAt (turns_after (k + i) w) a b
   wins m here there long short i h =
       won-by i (omega (arith, h, after-delay w l (k + i))) (turn-by-turn (starts m here there long short) i)
 
 -- two nodes of a component
-pub unequal-won : (w : CableWorld) → IsReached w → (k node set m n i : ℕ) → length w.nodes * w.delay ≤ k → IsComponent (turns_after k w).cabling node set → Holds set m → Holds set n → m ≢ n → AreUnequal (turns_after k w) m n → 10 * w.delay ≤ i →
+pub unequal-won :
+    (w : CableWorld) → IsReached w → (k node set m n i : ℕ) → length w.nodes * w.delay ≤ k →
+    IsComponent (turns_after k w).cabling node set → Holds set m → Holds set n → m ≢ n →
+    AreUnequal (turns_after k w) m n → 10 * w.delay ≤ i →
     (a : End) × (b : End) × (a.node ≡ m) × (b.node ≡ n) × HasWonAt (turns_after (k + i) w) a b
 unequal-won w reached k node set m n i late is in_m in_n ne u long =
     let l : IsLawful w = reached-lawful w reached in

@@ -39,7 +39,9 @@ same-port (Some j) p q h g = sym (eqb-true j p h) ∙ eqb-true j q g
 
 module _ (w : CableWorld) (l : IsLawful w) (over : ResetsAreOver w) where
   -- a cable of a late node is a child cable, or leads from its parent port
-  pub leads-down : (a b : End) → far w.cabling a ≡ Some b → (n : IsLate w a.node) → is_port n.node.state.view.parent a.port ≡ false → IsChildCable w a b
+  pub leads-down :
+      (a b : End) → far w.cabling a ≡ Some b → (n : IsLate w a.node) →
+      is_port n.node.state.view.parent a.port ≡ false → IsChildCable w a b
   leads-down a b e n other = record {
     joined = e;
     above = n.node;
@@ -88,12 +90,16 @@ module _ (w : CableWorld) (l : IsLawful w) (over : ResetsAreOver w) where
       two : HasTwo w.cabling part k
       two = looped k h.0
 
-      by : (p : ℕ) → LeadsInto w.cabling part (end_at k p) → is_port h.1.node.state.view.parent p ≡ false → LeadsDown w (LateIn part) k
+      by :
+          (p : ℕ) → LeadsInto w.cabling part (end_at k p) →
+          is_port h.1.node.state.view.parent p ≡ false → LeadsDown w (LateIn part) k
       by p into e =
           let cable : IsChildCable w (end_at k p) into.0 = leads-down (end_at k p) into.0 into.1 h.1 e in
           record { from = end_at k p; to = into.0; cable = cable; is = refl; member = (into.2, below-late (end_at k p) into.0 cable) }
 
-      high : is_port h.1.node.state.view.parent two.low ≡ true → (b : Bool) → is_port h.1.node.state.view.parent two.high ≡ b → b ≡ false
+      high :
+          is_port h.1.node.state.view.parent two.low ≡ true → (b : Bool) →
+          is_port h.1.node.state.view.parent two.high ≡ b → b ≡ false
       high f false e = refl
       high f true e = absurd (omega (arith, two.apart, same-port h.1.node.state.view.parent two.low two.high f e))
 
@@ -101,15 +107,19 @@ module _ (w : CableWorld) (l : IsLawful w) (over : ResetsAreOver w) where
       go false e = by two.low two.low_leads e
       go true e = by two.high two.high_leads (high e (is_port h.1.node.state.view.parent two.high) refl)
 
-  no-late-in-loop : IsAcyclic w → (part : ℕ) → IsLooped w.cabling part → (k : ℕ) → Holds part k → IsLate w k → ⊥
+  no-late-in-loop :
+      IsAcyclic w → (part : ℕ) → IsLooped w.cabling part → (k : ℕ) → Holds part k → IsLate w k → ⊥
   no-late-in-loop c part looped k h n = none-falls-on w c (LateIn part) (λ j. on-down part j looped) k (h, n)
 
   -- no core node is late
-  pub core-early : IsAcyclic w → (set core k : ℕ) → IsCore w.cabling set core → Holds core k → IsLate w k → ⊥
+  pub core-early :
+      IsAcyclic w → (set core k : ℕ) → IsCore w.cabling set core → Holds core k → IsLate w k → ⊥
   core-early c set core k is h n = let p = (is k).0 h in no-late-in-loop c p.0 p.2 k p.3 n
 
   -- so each core node is there, in a phase up to T0
-  pub core-shows : IsAcyclic w → (set core k : ℕ) → IsCore w.cabling set core → Holds core k → Shows w k (λ v. is_before_tree v.phase ≡ true)
+  pub core-shows :
+      IsAcyclic w → (set core k : ℕ) → IsCore w.cabling set core → Holds core k →
+      Shows w k (λ v. is_before_tree v.phase ≡ true)
   core-shows c set core k is h = some-at (slice_get w.nodes k) x (λ y. is_before_tree y.state.view.phase ≡ true) at (go (is_before_tree x.state.view.phase) refl)
     where
       p : (part : ℕ) × IsWithin part set × IsLooped w.cabling part × Holds part k
@@ -155,13 +165,17 @@ module _ (w : CableWorld) (l : IsLawful w) (over : ResetsAreOver w) where
       true≢false (sym d.2.parent ∙ ap (λ (x : PortNode). is_port x.state.view.parent d.1.port) same ∙ ap (λ o. is_port o d.1.port) r.parentless)
 
   -- no cable leads out of what is under a root
-  under-closed : (root : ℕ) → IsRoot w root → (a b : End) → far w.cabling a ≡ Some b → Under root a.node → Under root b.node
+  under-closed :
+      (root : ℕ) → IsRoot w root → (a b : End) → far w.cabling a ≡ Some b → Under root a.node →
+      Under root b.node
   under-closed root r a b e u = go (is_port x.node.state.view.parent a.port) refl
     where
       x : IsLate w a.node
       x = under-late root r u.0 a.node u.1
 
-      up : (n : ℕ) → Down root n a.node → is_port x.node.state.view.parent a.port ≡ true → Under root b.node
+      up :
+          (n : ℕ) → Down root n a.node → is_port x.node.state.view.parent a.port ≡ true →
+          Under root b.node
       up zero d p =
           let at_root : slice_get w.nodes root ≡ Some x.node = ap (slice_get w.nodes) (sym d) ∙ x.at in
           let same : r.node ≡ x.node = some-same r.node x.node (sym r.at ∙ at_root) in
@@ -179,12 +193,16 @@ module _ (w : CableWorld) (l : IsLawful w) (over : ResetsAreOver w) where
       go false p = (suc u.0, (a, b, leads-down a b e x p, refl, u.1))
 
   -- every node of a root's component is under it
-  pub all-under : (root set : ℕ) → IsRoot w root → IsComponent w.cabling root set → (k : ℕ) → Holds set k → (Under root k → ⊥) → ⊥
+  pub all-under :
+      (root set : ℕ) → IsRoot w root → IsComponent w.cabling root set → (k : ℕ) → Holds set k →
+      (Under root k → ⊥) → ⊥
   all-under root set r is =
       in-component w.cabling root set (Under root) l.well_formed.cabling is (omega (arith, slice_get_within w.nodes root r.node r.at, l.well_formed.count)) (zero, refl) (under-closed root r)
 
   -- a component has one root at most
-  pub one-root : (node set a b : ℕ) → IsComponent w.cabling node set → Holds set a → Holds set b → IsRoot w a → IsRoot w b → a ≡ b
+  pub one-root :
+      (node set a b : ℕ) → IsComponent w.cabling node set → Holds set a → Holds set b → IsRoot w a →
+      IsRoot w b → a ≡ b
   one-root node set a b is in_a in_b r s = elim (cases_eq b a) [
     | inl same ↦ sym same
     | inr ne ↦ absurd (all-under a set r (shared w.cabling node a set l.well_formed.cabling is in_a) b in_b (λ u. go ne u.0 u.1))
@@ -195,7 +213,10 @@ module _ (w : CableWorld) (l : IsLawful w) (over : ResetsAreOver w) where
       go ne (suc n) d = not-under a n b s d
 
   -- where there is one, every node of the component is late
-  pub rooted-late : (node set root : ℕ) → IsComponent w.cabling node set → Holds set root → IsRoot w root → (k : ℕ) (x : PortNode) → Holds set k → slice_get w.nodes k ≡ Some x → is_before_tree x.state.view.phase ≡ false
+  pub rooted-late :
+      (node set root : ℕ) → IsComponent w.cabling node set → Holds set root → IsRoot w root →
+      (k : ℕ) (x : PortNode) → Holds set k → slice_get w.nodes k ≡ Some x →
+      is_before_tree x.state.view.phase ≡ false
   rooted-late node set root is in_root r k x h at = go (is_before_tree x.state.view.phase) refl
     where
       go : (b : Bool) → is_before_tree x.state.view.phase ≡ b → b ≡ false
@@ -205,7 +226,9 @@ module _ (w : CableWorld) (l : IsLawful w) (over : ResetsAreOver w) where
           true≢false (sym e ∙ ap (λ (y : PortNode). is_before_tree y.state.view.phase) (some-same x n.node (sym at ∙ n.at)) ∙ n.late)))
 
   -- a component with a loop has none
-  pub no-root-with-loop : IsAcyclic w → (node set core root k : ℕ) → IsComponent w.cabling node set → IsCore w.cabling set core → Holds core k → Holds set root → IsRoot w root → ⊥
+  pub no-root-with-loop :
+      IsAcyclic w → (node set core root k : ℕ) → IsComponent w.cabling node set →
+      IsCore w.cabling set core → Holds core k → Holds set root → IsRoot w root → ⊥
   no-root-with-loop c node set core root k whole is h in_root r =
       let p = (is k).0 h in
       all-under root set r (shared w.cabling node root set l.well_formed.cabling whole in_root) k (p.1 k p.3)

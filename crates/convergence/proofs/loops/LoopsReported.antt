@@ -1,4 +1,5 @@
--- In a loop no node leaves T0, so that after 512 d turns there each reports that the configuration timed out.
+-- In a loop no node leaves T0, so that after 512 d turns there each reports that the configuration
+-- timed out.
 use Rattle.std.proofs.Common.{◌≡◌, ℕ, ◌*◌, ◌≤◌, true, slice_get}
 use Rattle.port_state.specs.declared.signal.Phase.TheVariants.{TreeStart}
 use Rattle.port_state.specs.Machine.{PortNode}
@@ -14,7 +15,9 @@ use Rattle.convergence.proofs.resets.ResetsDone.{done-over}
 use Rattle.convergence.proofs.ranks.StaysAcyclic.{turns-acyclic}
 use Rattle.convergence.proofs.trees.TreeStart.{done-at, start-reports}
 
-pub loops-reported : (v : CableWorld) → IsLawful v → IsAcyclic v → ResetsAreDone v → (i : ℕ) → 512 * v.delay ≤ i → LoopsAreReported (turns_after i v)
+pub loops-reported :
+    (v : CableWorld) → IsLawful v → IsAcyclic v → ResetsAreDone v → (i : ℕ) → 512 * v.delay ≤ i →
+    LoopsAreReported (turns_after i v)
 loops-reported v l c done i late set core k is h =
     let u : CableWorld = turns_after i v in
     let m : IsLawful u = turns-lawful i v l in

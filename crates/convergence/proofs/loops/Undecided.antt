@@ -12,7 +12,9 @@ use Rattle.convergence.proofs.loops.Cores.{core-shows, one-root}
 use Rattle.convergence.proofs.resets.ResetsOver.{resets-over}
 use Rattle.convergence.proofs.ranks.StaysAcyclic.{reached-acyclic, turns-acyclic}
 
-pub after-turns : (w : CableWorld) (k : ℕ) → IsReached w → length w.nodes * w.delay ≤ k → IsUndecidedInLoops (turns_after k w)
+pub after-turns :
+    (w : CableWorld) (k : ℕ) → IsReached w → length w.nodes * w.delay ≤ k →
+    IsUndecidedInLoops (turns_after k w)
 after-turns w k r late =
     let v : CableWorld = turns_after k w in
     let l : IsLawful v = turns-lawful k w (reached-lawful w r) in

@@ -1,5 +1,5 @@
 -- What happens between turns only takes child cables away.
-use Rattle.std.proofs.Common.{◌≡◌, inl, inr, ℕ, Bool, true, Option, Some, None, slice_get, sym, ◌∙◌, ap, subst, arith, true≢false}
+use Rattle.std.proofs.Common.{◌≡◌, inl, inr, ℕ, true, Some, None, slice_get, sym, ◌∙◌, ap, subst, arith, true≢false}
 use Rattle.cabling.specs.declared.cable.End.{End}
 use Rattle.cabling.specs.Wiring.{far}
 use Rattle.port_state.specs.Ports.{is_port}
@@ -53,7 +53,9 @@ told-no-more set packet w a b e =
 noted-no-more : (w u : CableWorld) → NoMore u (note_changes w u)
 noted-no-more w u a b e = record { joined = e.joined; above = e.above; above_at = e.above_at; child = e.child; below = e.below; below_at = e.below_at; parent = e.parent }
 
-pub act-acyclic : (a : Act) (w v : CableWorld) → IsAct a → act_fault a w ≡ None → ActLeads a w v → IsLawful w → IsAcyclic w → IsAcyclic v
+pub act-acyclic :
+    (a : Act) (w v : CableWorld) → IsAct a → act_fault a w ≡ None → ActLeads a w v → IsLawful w →
+    IsAcyclic w → IsAcyclic v
 act-acyclic a w v is none e l c =
     let t : Acting w v = acting a w v is none e l.well_formed in
     let told : IsAcyclic t.told = elim t.hears [
@@ -63,7 +65,8 @@ act-acyclic a w v is none e l c =
     let done : IsAcyclic t.done = no-more-acyclic t.told t.done (happens-no-more t.told t.done t.happens) told in
     subst IsAcyclic (sym t.is) (no-more-acyclic t.done (note_changes w t.done) (noted-no-more w t.done) done)
 
-pub hold-acyclic : (end : End) (turns : ℕ) (w : CableWorld) → IsAcyclic w → IsAcyclic (hold end turns w)
+pub hold-acyclic :
+    (end : End) (turns : ℕ) (w : CableWorld) → IsAcyclic w → IsAcyclic (hold end turns w)
 hold-acyclic end turns w c =
     no-more-acyclic w (hold end turns w) (λ a b e. record { joined = e.joined; above = e.above; above_at = e.above_at; child = e.child; below = e.below; below_at = e.below_at; parent = e.parent }) c
 

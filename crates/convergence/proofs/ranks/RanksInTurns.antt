@@ -34,7 +34,10 @@ use Rattle.convergence.proofs.turns.Roles.{early-parentless, takes, takes-start,
 abbrev pub turned : CableWorld → ℕ → PortNode → NodeState
 turned w k x = (turn_at w k x).node.state
 
-pub parent-kept : (w : CableWorld) → IsLawful w → (k : ℕ) (x : PortNode) → slice_get w.nodes k ≡ Some x → (p : ℕ) → is_port (turned w k x).view.parent p ≡ true → takes x.state (turned w k x) ≡ false → is_port x.state.view.parent p ≡ true
+pub parent-kept :
+    (w : CableWorld) → IsLawful w → (k : ℕ) (x : PortNode) → slice_get w.nodes k ≡ Some x → (p : ℕ)
+    → is_port (turned w k x).view.parent p ≡ true → takes x.state (turned w k x) ≡ false →
+    is_port x.state.view.parent p ≡ true
 parent-kept w l k x at p =
     let signals = inbox w 0 (ports_of w.cabling k) in
     subst (λ (y : NodeState). is_port y.view.parent p ≡ true → takes x.state y ≡ false → is_port x.state.view.parent p ≡ true) (sym (turn-state signals x))
@@ -47,7 +50,10 @@ WasOrTook w k x p y =
     ⊎ ((takes x.state y ≡ true)
     × (((x.state.view.phase ≡ phase.TreeStart) × (level_shown (hear_all (inbox w 0 (ports_of w.cabling k)) x.state).state p ≡ level.Parent)) ⊎ (x.state.view.phase ≡ phase.Contend)))
 
-pub child-kept : (w : CableWorld) → IsLawful w → (k : ℕ) (x : PortNode) → slice_get w.nodes k ≡ Some x → (p : ℕ) → is_connected x.state.view.ports p ≡ true → leads_down (turned w k x).view.ports p ≡ true → WasOrTook w k x p (turned w k x)
+pub child-kept :
+    (w : CableWorld) → IsLawful w → (k : ℕ) (x : PortNode) → slice_get w.nodes k ≡ Some x → (p : ℕ)
+    → is_connected x.state.view.ports p ≡ true → leads_down (turned w k x).view.ports p ≡ true →
+    WasOrTook w k x p (turned w k x)
 child-kept w l k x at p on =
     let signals = inbox w 0 (ports_of w.cabling k) in
     subst (λ (y : NodeState). leads_down y.view.ports p ≡ true → WasOrTook w k x p y) (sym (turn-state signals x))
@@ -56,7 +62,9 @@ child-kept w l k x at p on =
 -- ---- one cable
 
 -- above a node in T0 no port is or becomes a child port in this turn
-none-above : (w : CableWorld) → IsLawful w → (a b : End) (x y : PortNode) → far w.cabling a ≡ Some b → slice_get w.nodes a.node ≡ Some x → slice_get w.nodes b.node ≡ Some y →
+none-above :
+    (w : CableWorld) → IsLawful w → (a b : End) (x y : PortNode) → far w.cabling a ≡ Some b →
+    slice_get w.nodes a.node ≡ Some x → slice_get w.nodes b.node ≡ Some y →
     y.state.view.phase ≡ phase.TreeStart → leads_down (turned w a.node x).view.ports a.port ≡ true → ⊥
 none-above w l a b x y e at_x at_y start child = elim (child-kept w l a.node x at_x a.port (cable-connected w a b x l.well_formed e at_x) child) [
   | inl was ↦ true≢false (sym (there.child was no-reset).0 ∙ ap (λ o. is_port o b.port) parentless)
@@ -72,10 +80,12 @@ none-above w l a b x y e at_x at_y start child = elim (child-kept w l a.node x a
     back : far w.cabling b ≡ Some a
     back = l.well_formed.cabling.both_ways a b e
 
-    there : Coupling w.delay x.state a.port (wire_of w a).signals y.state b.port (wire_of w b).signals
+    there :
+        Coupling w.delay x.state a.port (wire_of w a).signals y.state b.port (wire_of w b).signals
     there = l.coupled.cables a b x y e at_x at_y
 
-    here : Coupling w.delay y.state b.port (wire_of w b).signals x.state a.port (wire_of w a).signals
+    here :
+        Coupling w.delay y.state b.port (wire_of w b).signals x.state a.port (wire_of w a).signals
     here = l.coupled.cables b a y x back at_y at_x
 
     known : is_reset_known w.delay y.state ≡ true
@@ -97,7 +107,9 @@ none-above w l a b x y e at_x at_y start child = elim (child-kept w l a.node x a
     low-parent : (m : Level) → shows_no_notice m ≡ true → m ≡ level.Parent → ⊥
     low-parent m h g = true≢false (sym h ∙ ap shows_no_notice g)
 
-    low-after : (g : Bool) (ss : List Signal) → has_no_notice ss ≡ true → shows_no_notice (level_after (level_shown x.state a.port) (if g then ss else [])) ≡ true
+    low-after :
+        (g : Bool) (ss : List Signal) → has_no_notice ss ≡ true →
+        shows_no_notice (level_after (level_shown x.state a.port) (if g then ss else [])) ≡ true
     low-after true ss h = level_after-low (level_shown x.state a.port) ss (here.no_notice known).0 h
     low-after false ss h = (here.no_notice known).0
 
@@ -106,7 +118,9 @@ none-above w l a b x y e at_x at_y start child = elim (child-kept w l a.node x a
         ap shows_no_notice ((hears w a.node x l.well_formed at_x).shown a.port (cable-connected w a b x l.well_formed e at_x) ∙ ap (level_after (level_shown x.state a.port)) (comes w b a e))
         ∙ low-after (gives w.delay (age_wire (wire_of w b))) (signals_of (wire_of w b).signals) (here.no_notice known).1
 
-    late : (p : Phase) (c : Bool) → p ≡ phase.Contend → (is_before_tree p || (is_shaking p && c)) ≡ true → ⊥
+    late :
+        (p : Phase) (c : Bool) → p ≡ phase.Contend → (is_before_tree p || (is_shaking p && c))
+        ≡ true → ⊥
     late p c h g = true≢false (sym g ∙ ap (λ q. is_before_tree q || (is_shaking q && c)) h)
 
 -- ---- new ranks
@@ -130,17 +144,26 @@ lift-most : (most : ℕ) (b : Bool) → lift most b ≤ most + 1
 lift-most most true = omega arith
 lift-most most false = omega arith
 
-falls-after : (w : CableWorld) → IsLawful w → (c : IsAcyclic w) → (a b : End) (x y : PortNode) → far w.cabling a ≡ Some b → slice_get w.nodes a.node ≡ Some x → slice_get w.nodes b.node ≡ Some y →
+falls-after :
+    (w : CableWorld) → IsLawful w → (c : IsAcyclic w) → (a b : End) (x y : PortNode) →
+    far w.cabling a ≡ Some b → slice_get w.nodes a.node ≡ Some x →
+    slice_get w.nodes b.node ≡ Some y →
     leads_down (turned w a.node x).view.ports a.port ≡ true → is_port (turned w b.node y).view.parent b.port ≡ true → later w c b.node < later w c a.node
 falls-after w l c a b x y e at_x at_y child parent = go (takes x.state (turned w a.node x)) (takes y.state (turned w b.node y)) refl refl
   where
-    is-x : (p : Bool) → takes x.state (turned w a.node x) ≡ p → lift c.most (takes_at w a.node) ≡ lift c.most p
+    is-x :
+        (p : Bool) → takes x.state (turned w a.node x) ≡ p → lift c.most (takes_at w a.node)
+        ≡ lift c.most p
     is-x p h = ap (λ o. lift c.most (takes-of w a.node o)) at_x ∙ ap (lift c.most) h
 
-    is-y : (p : Bool) → takes y.state (turned w b.node y) ≡ p → lift c.most (takes_at w b.node) ≡ lift c.most p
+    is-y :
+        (p : Bool) → takes y.state (turned w b.node y) ≡ p → lift c.most (takes_at w b.node)
+        ≡ lift c.most p
     is-y p h = ap (λ o. lift c.most (takes-of w b.node o)) at_y ∙ ap (lift c.most) h
 
-    go : (p q : Bool) → takes x.state (turned w a.node x) ≡ p → takes y.state (turned w b.node y) ≡ q → later w c b.node < later w c a.node
+    go :
+        (p q : Bool) → takes x.state (turned w a.node x) ≡ p → takes y.state (turned w b.node y)
+        ≡ q → later w c b.node < later w c a.node
     go p true h g = absurd (none-above w l a b x y e at_x at_y (takes-start y.state (turned w b.node y) b.port g parent) child)
     go true false h g = omega (arith, is-x true h, is-y false g, c.bounded b.node)
     go false false h g = elim (child-kept w l a.node x at_x a.port (cable-connected w a b x l.well_formed e at_x) child) [

@@ -20,5 +20,6 @@ acyclic-kept = record {
 pub reached-acyclic : (w : CableWorld) → IsReached w → IsAcyclic w
 reached-acyclic = kept-reached IsAcyclic acyclic-kept
 
-pub turns-acyclic : (k : ℕ) (w : CableWorld) → IsLawful w → IsAcyclic w → IsAcyclic (turns_after k w)
+pub turns-acyclic :
+    (k : ℕ) (w : CableWorld) → IsLawful w → IsAcyclic w → IsAcyclic (turns_after k w)
 turns-acyclic = kept-turns IsAcyclic acyclic-kept

@@ -1,4 +1,5 @@
--- In turns without acts nobody is in R0 or R1 any more, 81 d turns after the last entry at the latest.
+-- In turns without acts nobody is in R0 or R1 any more, 81 d turns after the last entry at the
+-- latest.
 use Rattle.std.proofs.Common.{◌≡◌, inl, inr, ℕ, zero, suc, ◌+◌, ◌-◌, ◌*◌, ◌<◌, ◌≤◌, Bool, true, false, not, ◌&&◌, ◌||◌, length, Option, Some, None, is_some, slice_get, refl, sym, ◌∙◌, ap, subst, arith, true≢false}
 use Rattle.port_state.specs.declared.signal.Phase.{Phase}
 use Rattle.port_state.specs.declared.signal.Phase.TheVariants as phase
@@ -40,7 +41,10 @@ use Rattle.convergence.proofs.turns.Flush.{turns-add, after-cabling, Tells, Show
 -- ---- holds end
 
 -- a node that a turn leaves in R0 has some of its hold left
-hold-runs : (w : CableWorld) → IsLawful w → (k : ℕ) (x y : PortNode) → slice_get w.nodes k ≡ Some x → slice_get (turn w).nodes k ≡ Some y → is_resetting x.state.view.phase ≡ true → is_resetting y.state.view.phase ≡ true → y.state.view.timer < 80 * w.delay
+hold-runs :
+    (w : CableWorld) → IsLawful w → (k : ℕ) (x y : PortNode) → slice_get w.nodes k ≡ Some x →
+    slice_get (turn w).nodes k ≡ Some y → is_resetting x.state.view.phase ≡ true →
+    is_resetting y.state.view.phase ≡ true → y.state.view.timer < 80 * w.delay
 hold-runs w l k x y at_x at_y was there =
     omega (arith, (in-turn w l k x y at_x at_y).rises was there, left, heard.timer, ap (λ (z : Timing). z.hold) h.timing, (l.well_formed.nodes k x at_x).timing.hold_most)
   where
@@ -81,12 +85,17 @@ module _ (w : CableWorld) (l : IsLawful w) where
   Risen n v = (k : ℕ) (x : PortNode) → slice_get v.nodes k ≡ Some x → is_resetting x.state.view.phase ≡ true → n ≤ x.state.view.timer
 
   -- it was there before
-  stayed : (i k : ℕ) (y : PortNode) → slice_get (turn (later i)).nodes k ≡ Some y → is_resetting y.state.view.phase ≡ true → (x : PortNode) × (slice_get (later i).nodes k ≡ Some x) × (is_resetting x.state.view.phase ≡ true)
+  stayed :
+      (i k : ℕ) (y : PortNode) → slice_get (turn (later i)).nodes k ≡ Some y →
+      is_resetting y.state.view.phase ≡ true → (x : PortNode)
+      × (slice_get (later i).nodes k ≡ Some x) × (is_resetting x.state.view.phase ≡ true)
   stayed i k y at there =
       let x = before (later i) k y (lawful-later i).well_formed at in
       (x.0, x.1, was x.0 x.1 (is_resetting x.0.state.view.phase) refl)
     where
-      was : (x : PortNode) → slice_get (later i).nodes k ≡ Some x → (b : Bool) → is_resetting x.state.view.phase ≡ b → b ≡ true
+      was :
+          (x : PortNode) → slice_get (later i).nodes k ≡ Some x → (b : Bool) →
+          is_resetting x.state.view.phase ≡ b → b ≡ true
       was x at_x true e = refl
       was x at_x false e =
           let late : enough ≤ enough + i = omega arith in
@@ -118,13 +127,20 @@ module _ (w : CableWorld) (l : IsLawful w) where
 -- ---- R1
 
 -- towards a node in R1 another node level_sent of R0 level_sent_at Idle or Parent
-calm-told : (y : NodeState) (q : ℕ) → IsValid y → is_connected y.view.ports q ≡ true → is_resetting y.view.phase ≡ false → (is_before_tree y.view.phase || is_asking y q) ≡ true → is_calm (level_sent_at y q) ≡ true
+calm-told :
+    (y : NodeState) (q : ℕ) → IsValid y → is_connected y.view.ports q ≡ true →
+    is_resetting y.view.phase ≡ false → (is_before_tree y.view.phase || is_asking y q) ≡ true →
+    is_calm (level_sent_at y q) ≡ true
 calm-told y q v on past early = go (is_before_tree y.view.phase) refl
   where
-    first : (f : Phase) (c : Bool) → is_resetting f ≡ false → is_before_tree f ≡ true → is_calm (level_sent f c) ≡ true
+    first :
+        (f : Phase) (c : Bool) → is_resetting f ≡ false → is_before_tree f ≡ true →
+        is_calm (level_sent f c) ≡ true
     first f c a b = grind arith
 
-    second : (f : Phase) (c i : Bool) → is_before_tree f ≡ false → c ≡ not i → (is_before_tree f || (is_shaking f && i)) ≡ true → is_calm (level_sent f c) ≡ true
+    second :
+        (f : Phase) (c i : Bool) → is_before_tree f ≡ false → c ≡ not i →
+        (is_before_tree f || (is_shaking f && i)) ≡ true → is_calm (level_sent f c) ≡ true
     second f c i a b e = grind arith
 
     go : (b : Bool) → is_before_tree y.view.phase ≡ b → is_calm (level_sent_at y q) ≡ true
@@ -134,11 +150,14 @@ calm-told y q v on past early = go (is_before_tree y.view.phase) refl
 only-wait : (p : Phase) → is_in_bus_reset p ≡ true → is_resetting p ≡ false → p ≡ phase.ResetWait
 only-wait p h g = grind arith
 
-wait-between : (p : Phase) → is_in_bus_reset p ≡ true → is_resetting p ≡ false → is_after_hold p ≡ true
+wait-between :
+    (p : Phase) → is_in_bus_reset p ≡ true → is_resetting p ≡ false → is_after_hold p ≡ true
 wait-between p h g = grind arith
 
 -- in a world with nobody in R0, and in the turns from there
-module _ (v : CableWorld) (l : IsLawful v) (calm : (i : ℕ) → NoneIn is_resetting (turns_after i v)) (k : ℕ) where
+module _
+    (v : CableWorld) (l : IsLawful v) (calm : (i : ℕ) → NoneIn is_resetting (turns_after i v))
+    (k : ℕ) where
   -- the node is in R1
   abbrev Waits : ℕ → Type 0
   Waits i = (x : PortNode) × (slice_get (turns_after i v).nodes k ≡ Some x) × (is_in_bus_reset x.state.view.phase ≡ true)
@@ -185,26 +204,36 @@ module _ (v : CableWorld) (l : IsLawful v) (calm : (i : ℕ) → NoneIn is_reset
       same : (q : ℕ) → level_shown h.0.state q ≡ level_shown now q
       same q = ap (λ (s : NodeState). level_shown s q) c.is ∙ c.ticks.shown q
 
-      test-at : (x : NodeState) (q : ℕ) → is_connected x.view.ports q ≡ true → is_calm (level_shown x q) ≡ true → port_is (λ r. is_calm r.shown) x.view.ports q ≡ true
+      test-at :
+          (x : NodeState) (q : ℕ) → is_connected x.view.ports q ≡ true → is_calm (level_shown x q)
+          ≡ true → port_is (λ r. is_calm r.shown) x.view.ports q ≡ true
       test-at x q on s = go (slice_get x.view.ports q) on s
         where
-          go : (o : Option PortView) → passes (λ r. r.connected) o ≡ true → is_calm (shown_or_idle o) ≡ true → passes (λ r. is_calm r.shown) o ≡ true
+          go :
+              (o : Option PortView) → passes (λ r. r.connected) o ≡ true → is_calm (shown_or_idle o)
+              ≡ true → passes (λ r. is_calm r.shown) o ≡ true
           go None on s = on
           go (Some r) on s = s
 
-      each : (q : ℕ) → is_connected now.view.ports q ≡ true → port_is (λ r. is_calm r.shown) now.view.ports q ≡ true
+      each :
+          (q : ℕ) → is_connected now.view.ports q ≡ true → port_is (λ r. is_calm r.shown)
+          now.view.ports q ≡ true
       each q on = test-at now q on (go (far (turns_after i v).cabling (end_at k q)) refl)
         where
           on-first : is_connected c.node.state.view.ports q ≡ true
           on-first = sym (c.hears.cables q) ∙ on
 
-          go : (o : Option End) → far (turns_after i v).cabling (end_at k q) ≡ o → is_calm (level_shown now q) ≡ true
+          go :
+              (o : Option End) → far (turns_after i v).cabling (end_at k q) ≡ o →
+              is_calm (level_shown now q) ≡ true
           go None e = absurd (true≢false (sym on-first ∙ ((turns-lawful i v l).well_formed.nodes k c.node c.at).connected q ∙ ap is_some e))
           go (Some a) e = ap is_calm (sym (same q)) ∙ shows-calm a q (sym (ap (λ (d : Wiring). far d (end_at k q)) (after-cabling i v)) ∙ e) (i + 1) late h h.0 h.1
 
 -- ---- 81 d turns
 
-pub resets-done : (w : CableWorld) → IsLawful w → (i : ℕ) → 81 * w.delay ≤ i → ResetsAreDone (turns_after (length w.nodes * w.delay + i) w)
+pub resets-done :
+    (w : CableWorld) → IsLawful w → (i : ℕ) → 81 * w.delay ≤ i →
+    ResetsAreDone (turns_after (length w.nodes * w.delay + i) w)
 resets-done w l i late k x at = go (is_in_bus_reset x.state.view.phase) refl
   where
     start : CableWorld
@@ -213,7 +242,9 @@ resets-done w l i late k x at = go (is_in_bus_reset x.state.view.phase) refl
     m : IsLawful (turns_after (length w.nodes * w.delay + 80 * w.delay) w)
     m = turns-lawful (length w.nodes * w.delay + 80 * w.delay) w l
 
-    calm : (j : ℕ) → NoneIn is_resetting (turns_after j (turns_after (length w.nodes * w.delay + 80 * w.delay) w))
+    calm :
+        (j : ℕ) →
+        NoneIn is_resetting (turns_after j (turns_after (length w.nodes * w.delay + 80 * w.delay) w))
     calm j =
         let z : length w.nodes * w.delay + (80 * w.delay + j) ≡ length w.nodes * w.delay + 80 * w.delay + j = omega arith in
         let low : 80 * w.delay ≤ 80 * w.delay + j = omega arith in
@@ -230,7 +261,9 @@ resets-done w l i late k x at = go (is_in_bus_reset x.state.view.phase) refl
         (x, ap (λ (u : CableWorld). slice_get u.nodes k) (sym is) ∙ at, e))
 
 -- then no Reset is under way
-pub no-resets : (w : CableWorld) (a b : End) → IsLawful w → ResetsAreDone w → far w.cabling a ≡ Some b → has_reset (signals_of (wire_of w a).signals) ≡ false
+pub no-resets :
+    (w : CableWorld) (a b : End) → IsLawful w → ResetsAreDone w → far w.cabling a ≡ Some b →
+    has_reset (signals_of (wire_of w a).signals) ≡ false
 no-resets w a b l done e = go (has_reset (signals_of (wire_of w a).signals)) refl
   where
     go : (r : Bool) → has_reset (signals_of (wire_of w a).signals) ≡ r → r ≡ false

@@ -1,4 +1,5 @@
--- A set of nodes, closed under cables, whose nodes know their tree, in a world in which resets are done. It stays so; its
+-- A set of nodes, closed under cables, whose nodes know their tree, in a world in which resets are
+-- done. It stays so; its
 -- child cables stay.
 use Rattle.std.proofs.Common.{◌≡◌, inl, inr, ℕ, zero, suc, ◌+◌, ◌≤◌, true, false, not, Option, Some, None, slice_get, refl, sym, ◌∙◌, ap, subst, arith, add-one}
 use Rattle.cabling.specs.declared.cable.End.{End}
@@ -45,7 +46,9 @@ pub record Grown (w : CableWorld) (set : ℕ) : Type 0 where
   pub contested : IsContested w
   pub done : ResetsAreDone w
   pub closed : IsClosed w.cabling set
-  pub late : (k : ℕ) (x : PortNode) → Holds set k → slice_get w.nodes k ≡ Some x → is_before_tree x.state.view.phase ≡ false
+  pub late :
+      (k : ℕ) (x : PortNode) → Holds set k → slice_get w.nodes k ≡ Some x →
+      is_before_tree x.state.view.phase ≡ false
 
 abbrev pub weight_in : Option PortNode → ℕ
 weight_in None = 0
@@ -62,7 +65,9 @@ module _ (w : CableWorld) (set : ℕ) (g : Grown w set) where
   valid-at k x at = (l.well_formed.nodes k x at).valid
 
   -- a cable from a child port is a child cable
-  pub child-cable : (a b : End) (x : PortNode) → far w.cabling a ≡ Some b → slice_get w.nodes a.node ≡ Some x → leads_down x.state.view.ports a.port ≡ true → IsChildCable w a b
+  pub child-cable :
+      (a b : End) (x : PortNode) → far w.cabling a ≡ Some b → slice_get w.nodes a.node ≡ Some x →
+      leads_down x.state.view.ports a.port ≡ true → IsChildCable w a b
   child-cable a b x e at c =
       let j = joined-of w a b l.well_formed e in
       record {
@@ -75,11 +80,14 @@ module _ (w : CableWorld) (set : ℕ) (g : Grown w set) where
         parent = ((l.coupled.cables a b x j.other e at j.other_at).child c (no-resets w b a l g.done (there-back a b e))).0;
       }
 
-  pub below-cable : (a b : End) → (e : IsChildCable w a b) → IsBelow e.above.state a.port e.below.state
+  pub below-cable :
+      (a b : End) → (e : IsChildCable w a b) → IsBelow e.above.state a.port e.below.state
   below-cable a b e = (g.contested.cables a b e.above e.below e.joined e.above_at e.below_at).below e.child (no-resets w b a l g.done (there-back a b e.joined))
 
   -- a parent port is no child port
-  pub parent-only : (a b : End) (x : PortNode) → far w.cabling a ≡ Some b → slice_get w.nodes a.node ≡ Some x → is_port x.state.view.parent a.port ≡ true → leads_down x.state.view.ports a.port ≡ false
+  pub parent-only :
+      (a b : End) (x : PortNode) → far w.cabling a ≡ Some b → slice_get w.nodes a.node ≡ Some x →
+      is_port x.state.view.parent a.port ≡ true → leads_down x.state.view.ports a.port ≡ false
   parent-only a b x e at u =
       child-if x.state.view.parent x.state.view.ports a.port (late-roles x.state (valid-at a.node x at) (parent-late x.state (valid-at a.node x at) a.port u)) (cable-connected w a b x l.well_formed e at) ∙ ap not u
 
@@ -88,7 +96,9 @@ module _ (w : CableWorld) (set : ℕ) (g : Grown w set) where
   pub calm-turn : (k : ℕ) (y : PortNode) → slice_get (turn w).nodes k ≡ Some y → Calmly w k y.state
   calm-turn k y at = calmly w l (done-calm w g.done) k y at
 
-  late-turn : (k : ℕ) (y : PortNode) → Holds set k → slice_get (turn w).nodes k ≡ Some y → is_before_tree y.state.view.phase ≡ false
+  late-turn :
+      (k : ℕ) (y : PortNode) → Holds set k → slice_get (turn w).nodes k ≡ Some y →
+      is_before_tree y.state.view.phase ≡ false
   late-turn k y h at =
       let c = calm-turn k y at in
       ap (λ (s : NodeState). is_before_tree s.view.phase) c.is ∙ tick-late (coin c.node.coins) (heard_by w k c.node) (ap is_before_tree c.heard.phase ∙ g.late k c.node h c.at)
@@ -104,21 +114,29 @@ module _ (w : CableWorld) (set : ℕ) (g : Grown w set) where
   }
 
   -- nobody gets heavier
-  pub weight-turn : (k : ℕ) → Holds set k → weight_in (slice_get (turn w).nodes k) ≤ weight_in (slice_get w.nodes k)
+  pub weight-turn :
+      (k : ℕ) → Holds set k → weight_in (slice_get (turn w).nodes k)
+      ≤ weight_in (slice_get w.nodes k)
   weight-turn k h = go (slice_get (turn w).nodes k) refl
     where
-      go : (o : Option PortNode) → slice_get (turn w).nodes k ≡ o → weight_in o ≤ weight_in (slice_get w.nodes k)
+      go :
+          (o : Option PortNode) → slice_get (turn w).nodes k ≡ o →
+          weight_in o ≤ weight_in (slice_get w.nodes k)
       go None e = omega arith
       go (Some y) e =
           let c = calm-turn k y e in
           let less = tick-weight (coin c.node.coins) (heard_by w k c.node) (ap is_before_tree c.heard.phase ∙ g.late k c.node h c.at) in
           omega (arith, less, ap weight c.is, ap weight_in c.at, same (heard_by w k c.node) c.node.state c.heard.phase c.heard.parent)
         where
-          same : (x y : NodeState) → x.view.phase ≡ y.view.phase → x.view.parent ≡ y.view.parent → weight x ≡ weight y
+          same :
+              (x y : NodeState) → x.view.phase ≡ y.view.phase → x.view.parent ≡ y.view.parent →
+              weight x ≡ weight y
           same x y e f = rw (e, f) refl
 
   -- no Reset comes
-  pub hears-on : (a b : End) (x y : PortNode) → Rivals w.delay (side w a x) (side w b y) → slice_get w.nodes a.node ≡ Some x → NoEntry x.state (hearing (side w a x))
+  pub hears-on :
+      (a b : End) (x y : PortNode) → Rivals w.delay (side w a x) (side w b y) →
+      slice_get w.nodes a.node ≡ Some x → NoEntry x.state (hearing (side w a x))
   hears-on a b x y r at = elim r.pair.near.hears.cases [
     | inl h ↦ h
     | inr h ↦ absurd (not-both (is_resetting (ticking (side w a x)).state.view.phase) (came w.delay (side w a x) (side w b y) r.pair h).0
@@ -170,14 +188,20 @@ module _ (v : CableWorld) (set : ℕ) (g : Grown v set) where
       subst (λ n. IsChildCable (turns_after n v) a b) (add-one i)
       (subst (λ (u : CableWorld). IsChildCable u a b) (sym (one-more i v)) (cable-turn (turns_after i v) set (grown-after i) a b (cable-after a b e i)))
 
-  pub weight-step : (k : ℕ) → Holds set k → (i : ℕ) → weight_in (slice_get (turns_after (i + 1) v).nodes k) ≤ weight_in (slice_get (turns_after i v).nodes k)
+  pub weight-step :
+      (k : ℕ) → Holds set k → (i : ℕ) → weight_in (slice_get (turns_after (i + 1) v).nodes k)
+      ≤ weight_in (slice_get (turns_after i v).nodes k)
   weight-step k h i = subst (λ (u : CableWorld). weight_in (slice_get u.nodes k) ≤ weight_in (slice_get (turns_after i v).nodes k)) (sym (one-more i v)) (weight-turn (turns_after i v) set (grown-after i) k h)
 
-  pub weight-after : (k : ℕ) → Holds set k → (i : ℕ) → weight_in (slice_get (turns_after i v).nodes k) ≤ weight_in (slice_get v.nodes k)
+  pub weight-after :
+      (k : ℕ) → Holds set k → (i : ℕ) → weight_in (slice_get (turns_after i v).nodes k)
+      ≤ weight_in (slice_get v.nodes k)
   weight-after k h zero = omega (arith, ap (λ (u : CableWorld). weight_in (slice_get u.nodes k)) (no-turns v))
   weight-after k h (suc i) =
       subst (λ n. weight_in (slice_get (turns_after n v).nodes k) ≤ weight_in (slice_get v.nodes k)) (add-one i) (omega (arith, weight-step k h i, weight-after k h i))
 
   -- a node after one turn more
-  pub calm-at : (i k : ℕ) (y : PortNode) → slice_get (turns_after (i + 1) v).nodes k ≡ Some y → Calmly (turns_after i v) k y.state
+  pub calm-at :
+      (i k : ℕ) (y : PortNode) → slice_get (turns_after (i + 1) v).nodes k ≡ Some y →
+      Calmly (turns_after i v) k y.state
   calm-at i k y at = calm-turn (turns_after i v) set (grown-after i) k y (ap (λ (u : CableWorld). slice_get u.nodes k) (sym (one-more i v)) ∙ at)

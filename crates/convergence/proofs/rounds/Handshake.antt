@@ -1,4 +1,5 @@
--- A node in T1 without child in T1 leaves T1 within 2d turns: its children see Child after d turns and go on, and it sees
+-- A node in T1 without child in T1 leaves T1 within 2d turns: its children see Child after d turns
+-- and go on, and it sees
 -- their Idle d turns later.
 use Rattle.std.proofs.Common.{◌≡◌, ◌⊎◌, inl, inr, ℕ, zero, suc, ◌+◌, ◌-◌, ◌≤◌, Bool, true, false, Option, Some, None, is_some, slice_get, refl, sym, ◌∙◌, ap, subst, arith, add-one, true≢false}
 use Rattle.cabling.specs.declared.cable.End.{End}
@@ -31,10 +32,13 @@ use Rattle.convergence.proofs.turns.PhaseFacts.{start-late, not-shake}
 shake-two : (f : Phase) → is_shaking f ≡ true → (f ≡ phase.ChildShake) ⊎ (f ≡ phase.ParentShake)
 shake-two f h = grind arith
 
-child-out : (f : Phase) (b : Bool) → f ≡ phase.ChildShake → b ≡ true → is_child (level_sent f b) ≡ true
+child-out :
+    (f : Phase) (b : Bool) → f ≡ phase.ChildShake → b ≡ true → is_child (level_sent f b) ≡ true
 child-out f b h c = grind arith
 
-idle-out : (f : Phase) (b : Bool) → is_before_tree f ≡ false → is_shaking f ≡ false → b ≡ false → is_idle (level_sent f b) ≡ true
+idle-out :
+    (f : Phase) (b : Bool) → is_before_tree f ≡ false → is_shaking f ≡ false → b ≡ false →
+    is_idle (level_sent f b) ≡ true
 idle-out f b l h c = grind arith
 
 not-ident : (f : Phase) → f ≡ phase.SelfIdent → f ≡ phase.ParentShake → ⊥
@@ -74,7 +78,9 @@ module _ (v : CableWorld) (set : ℕ) (g : Grown v set) (u : ℕ) (in_set : Hold
           let same : weight z.state ≡ weigh phase.ChildShake s.node.state.view.parent = omega (arith, c, heavy, ap weight_in e, weight-after v set g u in_set i, ap weight_in s.at) in
           record { node = z; at = e; shakes = still-shakes z.state.view.phase z.state.view.parent s.node.state.view.parent same }
 
-  before : (i : ℕ) (y : PortNode) (h : Calmly (later i) u y.state) → C i → h.node.state.view.phase ≡ phase.ChildShake
+  before :
+      (i : ℕ) (y : PortNode) (h : Calmly (later i) u y.state) → C i →
+      h.node.state.view.phase ≡ phase.ChildShake
   before i y h c =
       let t = there i c in
       ap (λ (z : PortNode). z.state.view.phase) (some-same h.node t.node (sym h.at ∙ t.at)) ∙ t.shakes
@@ -119,7 +125,9 @@ module _ (v : CableWorld) (set : ℕ) (g : Grown v set) (u : ℕ) (in_set : Hold
         }
 
     -- the child isn't in T1
-    never : (i : ℕ) (y : PortNode) → slice_get (later i).nodes b.node ≡ Some y → y.state.view.phase ≡ phase.ChildShake → ⊥
+    never :
+        (i : ℕ) (y : PortNode) → slice_get (later i).nodes b.node ≡ Some y →
+        y.state.view.phase ≡ phase.ChildShake → ⊥
     never zero y at t =
         bottom (end_at u p) b e refl
         (ap (λ (n : PortNode). n.state.view.phase) (some-same e.below y (sym e.below_at ∙ ap (λ (w : CableWorld). slice_get w.nodes b.node) (sym (no-turns v)) ∙ at)) ∙ t)
@@ -128,7 +136,9 @@ module _ (v : CableWorld) (set : ℕ) (g : Grown v set) (u : ℕ) (in_set : Hold
         c : Child i y
         c = child-of i y (subst (λ n. slice_get (turns_after n v).nodes b.node ≡ Some y) (sym (add-one i)) at)
 
-        go : ((z : PortNode) → slice_get (later i).nodes b.node ≡ Some z → z.state.view.phase ≡ phase.ChildShake → ⊥) → ⊥
+        go :
+            ((z : PortNode) → slice_get (later i).nodes b.node ≡ Some z → z.state.view.phase ≡ phase.ChildShake → ⊥)
+            → ⊥
         go none = elim (tick-child-shake-by (coin c.calm.node.coins) (heard_by (later i) b.node c.calm.node) (sym (ap (λ (z : NodeState). z.view.phase) c.calm.is) ∙ t)) [
           | inl f ↦ none c.calm.node c.calm.at (sym c.calm.heard.phase ∙ f)
           | inr f ↦ elim f [
@@ -138,7 +148,9 @@ module _ (v : CableWorld) (set : ℕ) (g : Grown v set) (u : ℕ) (in_set : Hold
         ]
 
     -- after d turns it isn't in T2 either
-    gone-on : (i : ℕ) → v.delay ≤ i → C i → (y : PortNode) → slice_get (later i).nodes b.node ≡ Some y → y.state.view.phase ≡ phase.ParentShake → ⊥
+    gone-on :
+        (i : ℕ) → v.delay ≤ i → C i → (y : PortNode) → slice_get (later i).nodes b.node ≡ Some y →
+        y.state.view.phase ≡ phase.ParentShake → ⊥
     gone-on zero d c y at t = omega (arith, d, g.lawful.well_formed.some_delay)
     gone-on (suc i) d c y at t = elim (tick-parent-shake-by (coin k.calm.node.coins) (heard_by (later i) b.node k.calm.node) (sym (ap (λ (z : NodeState). z.view.phase) k.calm.is) ∙ t)) [
       | inl f ↦ not-ident y.state.view.phase
@@ -188,7 +200,10 @@ module _ (v : CableWorld) (set : ℕ) (g : Grown v set) (u : ℕ) (in_set : Hold
   -- ---- all children
 
   -- a child port has been one
-  child-was : (p : ℕ) (b : End) → far v.cabling (end_at u p) ≡ Some b → (i : ℕ) → C i → (z : PortNode) → slice_get (later i).nodes u ≡ Some z → leads_down z.state.view.ports p ≡ true → leads_down s.node.state.view.ports p ≡ true
+  child-was :
+      (p : ℕ) (b : End) → far v.cabling (end_at u p) ≡ Some b → (i : ℕ) → C i → (z : PortNode) →
+      slice_get (later i).nodes u ≡ Some z → leads_down z.state.view.ports p ≡ true →
+      leads_down s.node.state.view.ports p ≡ true
   child-was p b e zero c z at d =
       ap (λ (n : PortNode). leads_down n.state.view.ports p) (some-same s.node z (sym s.at ∙ ap (λ (w : CableWorld). slice_get w.nodes u) (sym (no-turns v)) ∙ at)) ∙ d
   child-was p b e (suc i) c z at d = go (child-was p b e i ci)
@@ -205,7 +220,9 @@ module _ (v : CableWorld) (set : ℕ) (g : Grown v set) (u : ℕ) (in_set : Hold
       on : is_connected (heard_by (later i) u h.node).view.ports p ≡ true
       on = h.hears.cables p ∙ cable-connected (later i) (end_at u p) b h.node (grown-after v set g i).lawful.well_formed (ap (λ (c : Wiring). far c (end_at u p)) (after-cabling i v) ∙ e) h.at
 
-      go : ((n : PortNode) → slice_get (later i).nodes u ≡ Some n → leads_down n.state.view.ports p ≡ true → leads_down s.node.state.view.ports p ≡ true) → leads_down s.node.state.view.ports p ≡ true
+      go :
+          ((n : PortNode) → slice_get (later i).nodes u ≡ Some n → leads_down n.state.view.ports p ≡ true → leads_down s.node.state.view.ports p ≡ true)
+          → leads_down s.node.state.view.ports p ≡ true
       go before = elim (h.ticks.child p on (sym (ap (λ (n : NodeState). leads_down n.view.ports p) h.is) ∙ d)) [
         | inl k ↦ before h.node h.at (sym (h.heard.child p) ∙ k)
         | inr k ↦ elim k [
@@ -249,12 +266,16 @@ module _ (v : CableWorld) (set : ℕ) (g : Grown v set) (u : ℕ) (in_set : Hold
               let shown = shown-idle k.port b (child-cable v set g (end_at u k.port) b s.node e s.at down) c t.node t.at in
               true≢false (sym shown ∙ ap (λ (n : NodeState). is_idle (level_shown n k.port)) h.is ∙ ap is_idle (h.ticks.shown k.port) ∙ k.busy)
 
-      go : ((all_idle mid ≡ true) × ((tick (coin h.node.coins) mid).state.view.phase ≡ phase.ParentShake)) ⊎ ((all_idle mid ≡ false) × ((tick (coin h.node.coins) mid).state.view.phase ≡ phase.ChildShake)) → ⊥
+      go :
+          ((all_idle mid ≡ true) × ((tick (coin h.node.coins) mid).state.view.phase ≡ phase.ParentShake))
+          ⊎ ((all_idle mid ≡ false) × ((tick (coin h.node.coins) mid).state.view.phase ≡ phase.ChildShake))
+          → ⊥
       go (inl a) = not-shake t.node.state.view.phase (ap (λ (n : NodeState). n.view.phase) h.is ∙ a.1) t.shakes
       go (inr a) = busy (some-busy mid a.0)
 
   -- so it is lighter
-  pub lighter : weight_in (slice_get (turns_after (v.delay + v.delay) v).nodes u) + 1 ≤ weight s.node.state
+  pub lighter :
+      weight_in (slice_get (turns_after (v.delay + v.delay) v).nodes u) + 1 ≤ weight s.node.state
   lighter = elim (less-or (weight_in (slice_get (later (v.delay + v.delay)).nodes u)) (weight s.node.state)) [
     | inl a ↦ a
     | inr a ↦ absurd (not-still a)

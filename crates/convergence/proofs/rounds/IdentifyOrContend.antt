@@ -1,4 +1,5 @@
--- Where a component without loop knows its tree, it comes to self identify or to a contention, and stays there.
+-- Where a component without loop knows its tree, it comes to self identify or to a contention, and
+-- stays there.
 use Rattle.std.proofs.Common.{◌≡◌, ◌⊎◌, inl, inr, ℕ, ◌+◌, ◌-◌, ◌*◌, ◌≤◌, true, false, length, refl, sym, ◌∙◌, ap, subst, arith}
 use Rattle.std.proofs.lemmas.Bool.{cases_lt}
 use Rattle.cabling.specs.declared.cable.End.{End}
@@ -31,7 +32,9 @@ shake-parent : (f : Phase) → is_shaking f ≡ true → is_child_shake f ≡ fa
 shake-parent f a b = grind arith
 
 -- two rivals, where nobody is in T1
-rivals-up : (w : CableWorld) (set : ℕ) → Grown w set → NoneShakes w set → (a b : End) → Holds set a.node → AreMutual w a b → At w set a b (AreUp a.port b.port 0)
+rivals-up :
+    (w : CableWorld) (set : ℕ) → Grown w set → NoneShakes w set → (a b : End) → Holds set a.node →
+    AreMutual w a b → At w set a b (AreUp a.port b.port 0)
 rivals-up w set g none a b in_a m = record {
   ends = m.ends;
   holds = in_a;
@@ -49,10 +52,12 @@ rivals-up w set g none a b in_a m = record {
     y-quiet : is_child_shake m.ends.other.state.view.phase ≡ false
     y-quiet = none b.node m.ends.other (g.closed a b m.ends.joined in_a) m.ends.other_at
 
-    stand : AreRivals w.delay m.ends.near.state a.port (wire_of w a).signals m.ends.other.state b.port (wire_of w b).signals
+    stand :
+        AreRivals w.delay m.ends.near.state a.port (wire_of w a).signals m.ends.other.state b.port (wire_of w b).signals
     stand = (g.contested.cables a b m.ends.near m.ends.other m.ends.joined m.ends.near_at m.ends.other_at).rivals m.here m.there
 
-    go : AreRivals w.delay m.ends.near.state a.port (wire_of w a).signals m.ends.other.state b.port (wire_of w b).signals →
+    go :
+        AreRivals w.delay m.ends.near.state a.port (wire_of w a).signals m.ends.other.state b.port (wire_of w b).signals →
         ((m.ends.near.state.view.phase ≡ phase.ParentShake) ⊎ (m.ends.near.state.view.phase ≡ phase.Contend)) × ((m.ends.other.state.view.phase ≡ phase.ParentShake) ⊎ (m.ends.other.state.view.phase ≡ phase.Contend))
     go (inl h) = (inl (shake-parent m.ends.near.state.view.phase h.here x-quiet), inl (shake-parent m.ends.other.state.view.phase h.there y-quiet))
     go (inr (inl h)) = (inr h.here, inr h.there)
@@ -63,7 +68,10 @@ rivals-up w set g none a b in_a m = record {
 abbrev most : ℕ → ℕ → ℕ
 most n d = 3 * n * (d + d) + (33 * (12 * d) + 22 * d) + (3 * n * (d + d) + 1)
 
-settles : (v : CableWorld) (set node : ℕ) → Grown v set → IsComponent v.cabling node set → HasNoLoop v set → (i : ℕ) × (i ≤ most (length v.nodes) v.delay) × IdentifyOrContend (turns_after i v) set
+settles :
+    (v : CableWorld) (set node : ℕ) → Grown v set → IsComponent v.cabling node set →
+    HasNoLoop v set → (i : ℕ) × (i ≤ most (length v.nodes) v.delay)
+    × IdentifyOrContend (turns_after i v) set
 settles v set node g whole free =
     let s = shaken-out set v g in
     let w : CableWorld = turns_after s.0 v in
@@ -98,13 +106,18 @@ settles v set node g whole free =
     no-loop-after : (i : ℕ) → HasNoLoop (turns_after i v) set
     no-loop-after i = record { core = free.core; is_core = subst (λ c. IsCore c set free.core) (sym (after-cabling i v)) free.is_core; empty = free.empty }
 
-    sums : (n m d e c i j k : ℕ) → m ≡ n → e ≡ d → c ≡ d → i ≤ 3 * n * (d + d) → j ≤ 33 * (12 * c) + 22 * c → k ≤ 3 * m * (e + e) + 1 → i + (j + k) ≤ most n d
+    sums :
+        (n m d e c i j k : ℕ) → m ≡ n → e ≡ d → c ≡ d → i ≤ 3 * n * (d + d) → j ≤ 33 * (12 * c)
+        + 22 * c → k ≤ 3 * m * (e + e) + 1 → i + (j + k) ≤ most n d
     sums n m d e c i j k same delay delay_too h l q =
         let q_too : k ≤ 3 * n * (d + d) + 1 = subst (λ a. k ≤ 3 * a * (d + d) + 1) same (subst (λ a. k ≤ 3 * m * (a + a) + 1) delay q) in
         omega (arith, h, l, delay_too, q_too)
 
 -- and stays
-settled : (v : CableWorld) (set node : ℕ) → Grown v set → IsComponent v.cabling node set → HasNoLoop v set → (i : ℕ) → most (length v.nodes) v.delay ≤ i → IdentifyOrContend (turns_after i v) set
+settled :
+    (v : CableWorld) (set node : ℕ) → Grown v set → IsComponent v.cabling node set →
+    HasNoLoop v set → (i : ℕ) → most (length v.nodes) v.delay ≤ i →
+    IdentifyOrContend (turns_after i v) set
 settled v set node g whole free i late =
     let s = settles v set node g whole free in
     let w : CableWorld = turns_after s.0 v in

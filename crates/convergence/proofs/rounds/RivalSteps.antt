@@ -17,7 +17,8 @@ use Rattle.convergence.proofs.coins.Stands.{shaken, fought, waited-timer, over-t
 use Rattle.convergence.proofs.turns.Weights.{tick-child-shake-by}
 use Rattle.convergence.proofs.turns.PhaseFacts.{not-shake}
 
-shake-parent : (f : Phase) → is_shaking f ≡ true → (f ≡ phase.ChildShake → ⊥) → f ≡ phase.ParentShake
+shake-parent :
+    (f : Phase) → is_shaking f ≡ true → (f ≡ phase.ChildShake → ⊥) → f ≡ phase.ParentShake
 shake-parent phase.ChildShake s n = absurd (n refl)
 shake-parent phase.ParentShake s n = refl
 shake-parent f s n = absurd (true≢false (sym s))
@@ -74,7 +75,10 @@ pub record AreUp (p q m : ℕ) (x y : NodeState) : Type 0 where
   pub first : (x.view.phase ≡ phase.ParentShake) ⊎ (x.view.phase ≡ phase.Contend)
   pub second : (y.view.phase ≡ phase.ParentShake) ⊎ (y.view.phase ≡ phase.Contend)
 
-module _ (d : ℕ) (x y : Side) (r : Rivals d x y) (ux : is_port x.node.view.parent x.port ≡ true) (uy : is_port y.node.view.parent y.port ≡ true) (hx : NoEntry x.node (hearing x)) (hy : NoEntry y.node (hearing y)) where
+module _
+    (d : ℕ) (x y : Side) (r : Rivals d x y) (ux : is_port x.node.view.parent x.port ≡ true)
+    (uy : is_port y.node.view.parent y.port ≡ true) (hx : NoEntry x.node (hearing x))
+    (hy : NoEntry y.node (hearing y)) where
   record Held : Type 0 where
     pub phase : (ticking x).state.view.phase ≡ phase.ParentShake
     pub up : is_port (ticking x).state.view.parent x.port ≡ true
@@ -119,7 +123,8 @@ module _ (d : ℕ) (x y : Side) (r : Rivals d x y) (ux : is_port x.node.view.par
   ]
 
   -- out of T3
-  waited : x.node.view.phase ≡ phase.Contend → OnWait ⊎ (OnAsk ⊎ ((ticking x).state.view.parent ≡ None))
+  waited :
+      x.node.view.phase ≡ phase.Contend → OnWait ⊎ (OnAsk ⊎ ((ticking x).state.view.parent ≡ None))
   waited t = elim (fought d x y r ux uy hx t) [
     | inl w ↦ inl (record {
       phase = w.phase;
@@ -145,7 +150,10 @@ module _ (d : ℕ) (x y : Side) (r : Rivals d x y) (ux : is_port x.node.view.par
       rises : (t u w : ℕ) → u ≡ risen t → risen t < w → w ≤ 10 * d → t + 1 ≤ u
       rises t u w e l m = let small : d ≤ 16 = r.pair.short_delay in grind (arith, e, l, m, small)
 
-module _ (d : ℕ) (x y : Side) (r : Rivals d x y) (ux : is_port x.node.view.parent x.port ≡ true) (uy : is_port y.node.view.parent y.port ≡ true) (hx : NoEntry x.node (hearing x)) (hy : NoEntry y.node (hearing y)) where
+module _
+    (d : ℕ) (x y : Side) (r : Rivals d x y) (ux : is_port x.node.view.parent x.port ≡ true)
+    (uy : is_port y.node.view.parent y.port ≡ true) (hx : NoEntry x.node (hearing x))
+    (hy : NoEntry y.node (hearing y)) where
   sw : Rivals d y x
   sw = swapped d x y r
 
@@ -177,7 +185,9 @@ module _ (d : ℕ) (x y : Side) (r : Rivals d x y) (ux : is_port x.node.view.par
           both (inr (inr (inl a))) = absurd (no-contend y.node.view.phase a.there s.contends_too)
           both (inr (inr (inr a))) = absurd (no-contend x.node.view.phase a.there s.contends)
 
-      go : OnWait d x y r ux uy hx hy ⊎ (OnAsk d x y r ux uy hx hy ⊎ (X.view.parent ≡ None)) → OnWait d y x sw uy ux hy hx ⊎ (OnAsk d y x sw uy ux hy hx ⊎ (Y.view.parent ≡ None)) →
+      go :
+          OnWait d x y r ux uy hx hy ⊎ (OnAsk d x y r ux uy hx hy ⊎ (X.view.parent ≡ None)) →
+          OnWait d y x sw uy ux hy hx ⊎ (OnAsk d y x sw uy ux hy hx ⊎ (Y.view.parent ≡ None)) →
           (BothWait (i + 1) x.port y.port m X Y ⊎ (OneWaits d (i + 1) x.port y.port m X Y ⊎ OneWaits d (i + 1) y.port x.port m Y X)) ⊎ (BothAsk x.port y.port m X Y ⊎ Rooted)
       go (inr (inr a)) b = inr (inr (inl a))
       go a (inr (inr b)) = inr (inr (inr b))
@@ -212,10 +222,15 @@ module _ (d : ℕ) (x y : Side) (r : Rivals d x y) (ux : is_port x.node.view.par
         asks_too = b.phase;
       }))
 
-  pub step-one-waits : (i m : ℕ) → OneWaits d i x.port y.port m x.node y.node → OneWaits d (i + 1) x.port y.port m X Y ⊎ (BothAsk x.port y.port m X Y ⊎ Rooted)
+  pub step-one-waits :
+      (i m : ℕ) → OneWaits d i x.port y.port m x.node y.node → OneWaits d (i + 1)
+      x.port y.port m X Y ⊎ (BothAsk x.port y.port m X Y ⊎ Rooted)
   step-one-waits i m s = go (waited d x y r ux uy hx hy s.contends) (asked d y x sw uy ux hy hx s.asks)
     where
-      go : OnWait d x y r ux uy hx hy ⊎ (OnAsk d x y r ux uy hx hy ⊎ (X.view.parent ≡ None)) → Held d y x sw uy ux hy hx ⊎ Begun d y x sw uy ux hy hx → OneWaits d (i + 1) x.port y.port m X Y ⊎ (BothAsk x.port y.port m X Y ⊎ Rooted)
+      go :
+          OnWait d x y r ux uy hx hy ⊎ (OnAsk d x y r ux uy hx hy ⊎ (X.view.parent ≡ None)) →
+          Held d y x sw uy ux hy hx ⊎ Begun d y x sw uy ux hy hx → OneWaits d (i + 1)
+          x.port y.port m X Y ⊎ (BothAsk x.port y.port m X Y ⊎ Rooted)
       go a (inr b) = absurd (long-undrawn d x y r ux uy s.contends s.long hy b.drew)
       go (inr (inr a)) (inl b) = inr (inr (inl a))
       go (inl a) (inl b) = inl (record {
@@ -237,7 +252,9 @@ module _ (d : ℕ) (x y : Side) (r : Rivals d x y) (ux : is_port x.node.view.par
       BothAsk x.port y.port m X Y ⊎ (AreUp x.port y.port (m + 1) X Y ⊎ (OneAhead 0 x.port y.port m X Y ⊎ OneAhead 0 y.port x.port m Y X))
   step-both-ask m small s = go (asked d x y r ux uy hx hy s.asks) (asked d y x sw uy ux hy hx s.asks_too)
     where
-      go : Held d x y r ux uy hx hy ⊎ Begun d x y r ux uy hx hy → Held d y x sw uy ux hy hx ⊎ Begun d y x sw uy ux hy hx →
+      go :
+          Held d x y r ux uy hx hy ⊎ Begun d x y r ux uy hx hy →
+          Held d y x sw uy ux hy hx ⊎ Begun d y x sw uy ux hy hx →
           BothAsk x.port y.port m X Y ⊎ (AreUp x.port y.port (m + 1) X Y ⊎ (OneAhead 0 x.port y.port m X Y ⊎ OneAhead 0 y.port x.port m Y X))
       go (inl a) (inl b) = inl (record {
         here = record { up = a.up; draws = keep m x.node.view.draws X.view.draws s.here.draws a.draws };
@@ -269,7 +286,9 @@ module _ (d : ℕ) (x y : Side) (r : Rivals d x y) (ux : is_port x.node.view.par
       })))
 
   -- the other meets it while it began to wait lately; else it wins
-  pub step-one-ahead : (i m : ℕ) → m ≤ 64 → OneAhead i x.port y.port m x.node y.node → OneAhead (i + 1) x.port y.port m X Y ⊎ (((i < d) × AreUp x.port y.port (m + 1) X Y) ⊎ Rooted)
+  pub step-one-ahead :
+      (i m : ℕ) → m ≤ 64 → OneAhead i x.port y.port m x.node y.node → OneAhead (i + 1)
+      x.port y.port m X Y ⊎ (((i < d) × AreUp x.port y.port (m + 1) X Y) ⊎ Rooted)
   step-one-ahead i m small s = go (waited d x y r ux uy hx hy s.contends) (asked d y x sw uy ux hy hx s.asks)
     where
       asking : level_shown (hearing x).state x.port ≡ level.Parent
@@ -278,7 +297,10 @@ module _ (d : ℕ) (x y : Side) (r : Rivals d x y) (ux : is_port x.node.view.par
       late-or : (a b : ℕ) → (a < b) ⊎ (b ≤ a)
       late-or a b = grind arith
 
-      go : OnWait d x y r ux uy hx hy ⊎ (OnAsk d x y r ux uy hx hy ⊎ (X.view.parent ≡ None)) → Held d y x sw uy ux hy hx ⊎ Begun d y x sw uy ux hy hx → OneAhead (i + 1) x.port y.port m X Y ⊎ (((i < d) × AreUp x.port y.port (m + 1) X Y) ⊎ Rooted)
+      go :
+          OnWait d x y r ux uy hx hy ⊎ (OnAsk d x y r ux uy hx hy ⊎ (X.view.parent ≡ None)) →
+          Held d y x sw uy ux hy hx ⊎ Begun d y x sw uy ux hy hx → OneAhead (i + 1)
+          x.port y.port m X Y ⊎ (((i < d) × AreUp x.port y.port (m + 1) X Y) ⊎ Rooted)
       go (inr (inl a)) b = absurd (other-level (level_shown (hearing x).state x.port) asking a.shown)
       go (inr (inr a)) b = inr (inr (inl a))
       go (inl a) (inl b) = inl (record {

@@ -21,7 +21,9 @@ pub record HasRoot (w : CableWorld) (set : ℕ) : Type 0 where
   pub root : IsRoot w node
 
 module _ (set : ℕ) where
-  pub component-after : (v : CableWorld) (node i : ℕ) → IsComponent v.cabling node set → IsComponent (turns_after i v).cabling node set
+  pub component-after :
+      (v : CableWorld) (node i : ℕ) → IsComponent v.cabling node set →
+      IsComponent (turns_after i v).cabling node set
   component-after v node i c = subst (λ w. IsComponent w node set) (sym (after-cabling i v)) c
 
   root-next : (w : CableWorld) → Grown w set → HasRoot w set → HasRoot (turn w) set
@@ -34,16 +36,22 @@ module _ (set : ℕ) where
         root = record { node = y; at = at; late = (grown-turn w set g).late r.node y r.holds at; parentless = root-turn w set g r.node r.holds r.root y at };
       }
 
-  pub root-after : (v : CableWorld) → Grown v set → (i : ℕ) → HasRoot v set → HasRoot (turns_after i v) set
+  pub root-after :
+      (v : CableWorld) → Grown v set → (i : ℕ) → HasRoot v set → HasRoot (turns_after i v) set
   root-after v g zero r = subst (λ (u : CableWorld). HasRoot u set) (sym (no-turns v)) r
   root-after v g (suc i) r = subst (λ n. HasRoot (turns_after n v) set) (add-one i) (subst (λ (u : CableWorld). HasRoot u set) (sym (one-more i v)) (root-next (turns_after i v) (grown-after v set g i) (root-after v g i r)))
 
-  pub identify-after : (v : CableWorld) → Grown v set → (i : ℕ) → AreIdentifying v set → AreIdentifying (turns_after i v) set
+  pub identify-after :
+      (v : CableWorld) → Grown v set → (i : ℕ) → AreIdentifying v set →
+      AreIdentifying (turns_after i v) set
   identify-after v g zero r = subst (λ (u : CableWorld). AreIdentifying u set) (sym (no-turns v)) r
   identify-after v g (suc i) r =
       subst (λ n. AreIdentifying (turns_after n v) set) (add-one i) (subst (λ (u : CableWorld). AreIdentifying u set) (sym (one-more i v)) (identify-turn (turns_after i v) set (grown-after v set g i) (identify-after v g i r)))
 
-  pub rooted-ends : (v : CableWorld) → Grown v set → (node : ℕ) → IsComponent v.cabling node set → HasRoot v set → (i : ℕ) × (i ≤ 3 * length v.nodes * (v.delay + v.delay) + 1) × AreIdentifying (turns_after i v) set
+  pub rooted-ends :
+      (v : CableWorld) → Grown v set → (node : ℕ) → IsComponent v.cabling node set → HasRoot v set →
+      (i : ℕ) × (i ≤ 3 * length v.nodes * (v.delay + v.delay) + 1)
+      × AreIdentifying (turns_after i v) set
   rooted-ends v g node whole r =
       let s = shaken-out set v g in
       let w : CableWorld = turns_after s.0 v in

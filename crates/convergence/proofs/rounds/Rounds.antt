@@ -1,4 +1,5 @@
--- A round of a contention: within 12d turns both rivals draw once more, or within 22d turns one has taken the other as child.
+-- A round of a contention: within 12d turns both rivals draw once more, or within 22d turns one has
+-- taken the other as child.
 use Rattle.std.proofs.Common.{◌≡◌, ◌⊎◌, inl, inr, ℕ, zero, suc, ◌+◌, ◌-◌, ◌*◌, ◌<◌, ◌≤◌, Bool, true, false, None, Some, slice_get, sym, ◌∙◌, ap, subst, arith}
 use Rattle.std.specs.Prelude.{min}
 use Rattle.cabling.specs.declared.cable.End.{End}
@@ -35,25 +36,36 @@ use Rattle.convergence.proofs.turns.Weights.{tick-begins}
 -- ---- turn by turn
 
 module _ (set : ℕ) where
-  module _ (S : ℕ → CableWorld → Type 0) (T : CableWorld → Type 0) (step : (w : CableWorld) → Grown w set → (i : ℕ) → S i w → S (i + 1) (turn w) ⊎ T (turn w)) where
-    run : (n i : ℕ) (w : CableWorld) → Grown w set → S i w → S (i + n) (turns_after n w) ⊎ ((j : ℕ) × (j ≤ n) × T (turns_after j w))
-    unfolding turns_after
-    run zero i w g s = let z : i + 0 ≡ i = omega arith in inl (subst (λ k. S k w) (sym z) s)
-    run (suc n) i w g s = elim (step w g i s) [
-      | inr t ↦ let few : 1 ≤ suc n = omega arith in inr (1, few, t)
-      | inl t ↦ elim (run n (i + 1) (turn w) (grown-turn w set g) t) [
-        | inl u ↦ let z : i + 1 + n ≡ i + suc n = omega arith in inl (subst (λ k. S k (turns_after n (turn w))) z u)
-        | inr u ↦ let few : suc u.0 ≤ suc n = omega (arith, u.1) in inr (suc u.0, few, u.2)
+  module _
+      (S : ℕ → CableWorld → Type 0) (T : CableWorld → Type 0)
+      (step : (w : CableWorld) → Grown w set → (i : ℕ) → S i w → S (i + 1) (turn w) ⊎ T (turn w))
+    where
+      run :
+          (n i : ℕ) (w : CableWorld) → Grown w set → S i w → S (i + n) (turns_after n w)
+          ⊎ ((j : ℕ) × (j ≤ n) × T (turns_after j w))
+      unfolding turns_after
+      run zero i w g s = let z : i + 0 ≡ i = omega arith in inl (subst (λ k. S k w) (sym z) s)
+      run (suc n) i w g s = elim (step w g i s) [
+        | inr t ↦ let few : 1 ≤ suc n = omega arith in inr (1, few, t)
+        | inl t ↦ elim (run n (i + 1) (turn w) (grown-turn w set g) t) [
+          | inl u ↦ let z : i + 1 + n ≡ i + suc n = omega arith in inl (subst (λ k. S k (turns_after n (turn w))) z u)
+          | inr u ↦ let few : suc u.0 ≤ suc n = omega (arith, u.1) in inr (suc u.0, few, u.2)
+        ]
       ]
-    ]
 
-  module _ (S T : CableWorld → Type 0) (step : (w : CableWorld) → Grown w set → S w → S (turn w) ⊎ T (turn w)) where
-    all-along : (n : ℕ) (w : CableWorld) → S w → ((j : ℕ) → j ≤ n → S (turns_after j (turn w))) → (j : ℕ) → j ≤ suc n → S (turns_after j w)
+  module _
+      (S T : CableWorld → Type 0)
+      (step : (w : CableWorld) → Grown w set → S w → S (turn w) ⊎ T (turn w)) where
+    all-along :
+        (n : ℕ) (w : CableWorld) → S w → ((j : ℕ) → j ≤ n → S (turns_after j (turn w))) → (j : ℕ) →
+        j ≤ suc n → S (turns_after j w)
     unfolding turns_after
     all-along n w s rest zero h = s
     all-along n w s rest (suc j) h = rest j (omega (arith, h))
 
-    run-all : (n : ℕ) (w : CableWorld) → Grown w set → S w → ((j : ℕ) → j ≤ n → S (turns_after j w)) ⊎ ((j : ℕ) × (j ≤ n) × T (turns_after j w))
+    run-all :
+        (n : ℕ) (w : CableWorld) → Grown w set → S w → ((j : ℕ) → j ≤ n → S (turns_after j w))
+        ⊎ ((j : ℕ) × (j ≤ n) × T (turns_after j w))
     unfolding turns_after
     run-all zero w g s = inl (λ j h. let z : j ≡ 0 = omega (arith, h) in subst (λ k. S (turns_after k w)) (sym z) s)
     run-all (suc n) w g s = elim (step w g s) [
@@ -66,22 +78,29 @@ module _ (set : ℕ) where
 
 -- ---- two ends in a world
 
-pub record At (w : CableWorld) (set : ℕ) (a b : End) (S : NodeState → NodeState → Type 0) : Type 0 where
+pub record At
+    (w : CableWorld) (set : ℕ) (a b : End) (S : NodeState → NodeState → Type 0)
+    : Type 0 where
   pub ends : AreJoined w a b
   pub holds : Holds set a.node
   pub is : S ends.near.state ends.other.state
 
-abbrev pub ends-round : (w : CableWorld) (set : ℕ) → Grown w set → (a b : End) → AreJoined w a b → AreJoined w b a
+abbrev pub ends-round :
+    (w : CableWorld) (set : ℕ) → Grown w set → (a b : End) → AreJoined w a b → AreJoined w b a
 ends-round w set g a b e = record { joined = g.lawful.well_formed.cabling.both_ways a b e.joined; near = e.other; near_at = e.other_at; other = e.near; other_at = e.near_at }
 
-abbrev pub up-round : (w : CableWorld) (set : ℕ) → Grown w set → (a b : End) (m : ℕ) → At w set b a (AreUp b.port a.port m) → At w set a b (AreUp a.port b.port m)
+abbrev pub up-round :
+    (w : CableWorld) (set : ℕ) → Grown w set → (a b : End) (m : ℕ) →
+    At w set b a (AreUp b.port a.port m) → At w set a b (AreUp a.port b.port m)
 up-round w set g a b m s = record {
   ends = ends-round w set g b a s.ends;
   holds = g.closed b a s.ends.joined s.holds;
   is = record { here = s.is.there; there = s.is.here; first = s.is.second; second = s.is.first };
 }
 
-module _ (w : CableWorld) (set : ℕ) (g : Grown w set) (a b : End) (e : AreJoined w a b) (in_a : Holds set a.node) where
+module _
+    (w : CableWorld) (set : ℕ) (g : Grown w set) (a b : End) (e : AreJoined w a b)
+    (in_a : Holds set a.node) where
   r : Rivals w.delay (side w a e.near) (side w b e.other)
   r = rivals-of w g.lawful g.contested a b e.near e.other e.joined e.near_at e.other_at
 
@@ -103,7 +122,9 @@ module _ (w : CableWorld) (set : ℕ) (g : Grown w set) (a b : End) (e : AreJoin
     other_at = node-after w b.node e.other g.lawful.well_formed.count e.other_at;
   }
 
-  lift : (S : NodeState → NodeState → Type 0) → S (ticking (side w a e.near)).state (ticking (side w b e.other)).state → At (turn w) set a b S
+  lift :
+      (S : NodeState → NodeState → Type 0) →
+      S (ticking (side w a e.near)).state (ticking (side w b e.other)).state → At (turn w) set a b S
   unfolding next
   lift S s = record {
     ends = next;
@@ -111,7 +132,9 @@ module _ (w : CableWorld) (set : ℕ) (g : Grown w set) (a b : End) (e : AreJoin
     is = subst (λ n. S n (turn_at w b.node e.other).node.state) (sym (side-node w a e.near)) (subst (S (ticking (side w a e.near)).state) (sym (side-node w b e.other)) s);
   }
 
-  lift-round : (S : NodeState → NodeState → Type 0) → S (ticking (side w b e.other)).state (ticking (side w a e.near)).state → At (turn w) set b a S
+  lift-round :
+      (S : NodeState → NodeState → Type 0) →
+      S (ticking (side w b e.other)).state (ticking (side w a e.near)).state → At (turn w) set b a S
   unfolding next
   lift-round S s = record {
     ends = ends-round (turn w) set (grown-turn w set g) a b next;
@@ -119,7 +142,9 @@ module _ (w : CableWorld) (set : ℕ) (g : Grown w set) (a b : End) (e : AreJoin
     is = subst (λ n. S (turn_at w b.node e.other).node.state n) (sym (side-node w a e.near)) (subst (λ n. S n (ticking (side w a e.near)).state) (sym (side-node w b e.other)) s);
   }
 
-  lift-root : ((ticking (side w a e.near)).state.view.parent ≡ None) ⊎ ((ticking (side w b e.other)).state.view.parent ≡ None) → HasRoot (turn w) set
+  lift-root :
+      ((ticking (side w a e.near)).state.view.parent ≡ None)
+      ⊎ ((ticking (side w b e.other)).state.view.parent ≡ None) → HasRoot (turn w) set
   unfolding next
   lift-root (inl n) = record {
     node = a.node;
@@ -164,7 +189,9 @@ module _ (set : ℕ) (a b : End) (m : ℕ) (small : m ≤ 64) where
     is = record { here = s.is.there; there = s.is.here; asks = s.is.asks_too; asks_too = s.is.asks };
   }
 
-  wait-step : (w : CableWorld) → Grown w set → (i : ℕ) → Waiting i w → Waiting (i + 1) (turn w) ⊎ (Asking (turn w) ⊎ HasRoot (turn w) set)
+  wait-step :
+      (w : CableWorld) → Grown w set → (i : ℕ) → Waiting i w → Waiting (i + 1) (turn w)
+      ⊎ (Asking (turn w) ⊎ HasRoot (turn w) set)
   wait-step w g i (inl s) =
       let e = s.ends in
       elim (step-both-wait w.delay (side w a e.near) (side w b e.other) (r w set g a b e s.holds) s.is.here.up s.is.there.up (hx w set g a b e s.holds) (hy w set g a b e s.holds) i m s.is) [
@@ -203,7 +230,8 @@ module _ (set : ℕ) (a b : End) (m : ℕ) (small : m ≤ 64) where
         ]
       ]
 
-  ask-step : (w : CableWorld) → Grown w set → Asking w → Asking (turn w) ⊎ (Up (turn w) ⊎ Ahead (turn w))
+  ask-step :
+      (w : CableWorld) → Grown w set → Asking w → Asking (turn w) ⊎ (Up (turn w) ⊎ Ahead (turn w))
   ask-step w g s =
       let e = s.ends in
       elim (step-both-ask w.delay (side w a e.near) (side w b e.other) (r w set g a b e s.holds) s.is.here.up s.is.there.up (hx w set g a b e s.holds) (hy w set g a b e s.holds) m small s.is) [
@@ -217,7 +245,10 @@ module _ (set : ℕ) (a b : End) (m : ℕ) (small : m ≤ 64) where
         ]
       ]
 
-  ahead-step : (w : CableWorld) → Grown w set → (i : ℕ) → At w set a b (OneAhead i a.port b.port m) → At (turn w) set a b (OneAhead (i + 1) a.port b.port m) ⊎ (((i < w.delay) × Up (turn w)) ⊎ HasRoot (turn w) set)
+  ahead-step :
+      (w : CableWorld) → Grown w set → (i : ℕ) → At w set a b (OneAhead i a.port b.port m) →
+      At (turn w) set a b (OneAhead (i + 1) a.port b.port m)
+      ⊎ (((i < w.delay) × Up (turn w)) ⊎ HasRoot (turn w) set)
   ahead-step w g i s =
       let e = s.ends in
       elim (step-one-ahead w.delay (side w a e.near) (side w b e.other) (r w set g a b e s.holds) s.is.here.up s.is.there.up (hx w set g a b e s.holds) (hy w set g a b e s.holds) i m small s.is) [
@@ -229,7 +260,10 @@ module _ (set : ℕ) (a b : End) (m : ℕ) (small : m ≤ 64) where
       ]
 
 -- a wait isn't so long
-not-so-long : (w : CableWorld) (set : ℕ) → Grown w set → (k : ℕ) (x : PortNode) → slice_get w.nodes k ≡ Some x → x.state.view.phase ≡ phase.Contend → 10 * w.delay ≤ x.state.view.timer → ⊥
+not-so-long :
+    (w : CableWorld) (set : ℕ) → Grown w set → (k : ℕ) (x : PortNode) →
+    slice_get w.nodes k ≡ Some x → x.state.view.phase ≡ phase.Contend →
+    10 * w.delay ≤ x.state.view.timer → ⊥
 not-so-long w set g k x at c long =
     let knows : KnowsCoins w.delay x.state = g.contested.nodes k x at in
     elim (knows.shows c) [
@@ -239,13 +273,16 @@ not-so-long w set g k x at c long =
 
 -- ---- both ask
 
-parent-out : (f : Phase) (b : Bool) → f ≡ phase.ParentShake → b ≡ false → is_parent (level_sent f b) ≡ true
+parent-out :
+    (f : Phase) (b : Bool) → f ≡ phase.ParentShake → b ≡ false → is_parent (level_sent f b) ≡ true
 parent-out f b h c = grind arith
 
 shake-apart : (f : Phase) → f ≡ phase.Contend → f ≡ phase.ParentShake → ⊥
 shake-apart f a b = cc
 
-module _ (set : ℕ) (a b : End) (m : ℕ) (w : CableWorld) (g : Grown w set) (asking : (j : ℕ) → j ≤ w.delay → At (turns_after j w) set a b (BothAsk a.port b.port m)) where
+module _
+    (set : ℕ) (a b : End) (m : ℕ) (w : CableWorld) (g : Grown w set)
+    (asking : (j : ℕ) → j ≤ w.delay → At (turns_after j w) set a b (BothAsk a.port b.port m)) where
   tell : (i : ℕ) → i ≤ w.delay → Tells (turns_after i w) b is_parent
   tell i h y at =
       let s = asking i h in
@@ -299,17 +336,23 @@ module _ (set : ℕ) (m : ℕ) (small : m ≤ 64) where
   abbrev Ends : End → End → ℕ → ℕ → CableWorld → Type 0
   Ends a b up root w = ((j : ℕ) × (j ≤ up) × At (turns_after j w) set a b (AreUp a.port b.port (m + 1))) ⊎ ((j : ℕ) × (j ≤ root) × HasRoot (turns_after j w) set)
 
-  ends-later : (a b : End) (w : CableWorld) (i up root most least : ℕ) → i + up ≤ most → i + root ≤ least → Ends a b up root (turns_after i w) → Ends a b most least w
+  ends-later :
+      (a b : End) (w : CableWorld) (i up root most least : ℕ) → i + up ≤ most → i + root ≤ least →
+      Ends a b up root (turns_after i w) → Ends a b most least w
   ends-later a b w i up root most least h l (inl t) =
       inl (i + t.0, omega (arith, h, t.1), subst (λ (u : CableWorld). At u set a b (AreUp a.port b.port (m + 1))) (sym (turns-add i t.0 w)) t.2)
   ends-later a b w i up root most least h l (inr t) =
       inr (i + t.0, omega (arith, l, t.1), subst (λ (u : CableWorld). HasRoot u set) (sym (turns-add i t.0 w)) t.2)
 
-  ends-round-two : (a b : End) (w : CableWorld) → Grown w set → (up root : ℕ) → Ends b a up root w → Ends a b up root w
+  ends-round-two :
+      (a b : End) (w : CableWorld) → Grown w set → (up root : ℕ) → Ends b a up root w →
+      Ends a b up root w
   ends-round-two a b w g up root (inl t) = inl (t.0, t.1, up-round (turns_after t.0 w) set (grown-after w set g t.0) a b (m + 1) t.2)
   ends-round-two a b w g up root (inr t) = inr t
 
-  from-ahead : (a b : End) (w : CableWorld) → Grown w set → At w set a b (OneAhead 0 a.port b.port m) → Ends a b w.delay (11 * w.delay) w
+  from-ahead :
+      (a b : End) (w : CableWorld) → Grown w set → At w set a b (OneAhead 0 a.port b.port m) →
+      Ends a b w.delay (11 * w.delay) w
   from-ahead a b w g s = elim (run set (λ i v. At v set a b (OneAhead i a.port b.port m)) (λ v. At v set a b (AreUp a.port b.port (m + 1)) ⊎ HasRoot v set) first w.delay 0 w g s) [
     | inr t ↦ elim t.2 [
       | inl u ↦ inl (t.0, t.1, u)
@@ -331,19 +374,28 @@ module _ (set : ℕ) (m : ℕ) (small : m ≤ 64) where
       same : (turns_after w.delay w).delay ≡ w.delay
       same = after-delay w g.lawful w.delay
 
-      first : (u : CableWorld) → Grown u set → (i : ℕ) → At u set a b (OneAhead i a.port b.port m) → At (turn u) set a b (OneAhead (i + 1) a.port b.port m) ⊎ (At (turn u) set a b (AreUp a.port b.port (m + 1)) ⊎ HasRoot (turn u) set)
+      first :
+          (u : CableWorld) → Grown u set → (i : ℕ) → At u set a b (OneAhead i a.port b.port m) →
+          At (turn u) set a b (OneAhead (i + 1) a.port b.port m)
+          ⊎ (At (turn u) set a b (AreUp a.port b.port (m + 1)) ⊎ HasRoot (turn u) set)
       first u gu i s = elim (ahead-step set a b m small u gu i s) [
         | inl t ↦ inl t
         | inr t ↦ elim t [ inl t ↦ inr (inl t.1) | inr t ↦ inr (inr t) ]
       ]
 
-      second : (u : CableWorld) → Grown u set → (i : ℕ) → (u.delay ≤ i) × At u set a b (OneAhead i a.port b.port m) → (((turn u).delay ≤ i + 1) × At (turn u) set a b (OneAhead (i + 1) a.port b.port m)) ⊎ HasRoot (turn u) set
+      second :
+          (u : CableWorld) → Grown u set → (i : ℕ) → (u.delay ≤ i)
+          × At u set a b (OneAhead i a.port b.port m) →
+          (((turn u).delay ≤ i + 1) × At (turn u) set a b (OneAhead (i + 1) a.port b.port m))
+          ⊎ HasRoot (turn u) set
       second u gu i s = elim (ahead-step set a b m small u gu i s.1) [
         | inl t ↦ inl (omega (arith, s.0, delay-after u), t)
         | inr t ↦ elim t [ inl t ↦ absurd (omega (arith, t.0, s.0)) | inr t ↦ inr t ]
       ]
 
-  from-asking : (a b : End) (w : CableWorld) → Grown w set → At w set a b (BothAsk a.port b.port m) → Ends a b (2 * w.delay) (12 * w.delay) w
+  from-asking :
+      (a b : End) (w : CableWorld) → Grown w set → At w set a b (BothAsk a.port b.port m) →
+      Ends a b (2 * w.delay) (12 * w.delay) w
   from-asking a b w g s = elim (run-all set (Asking set a b m small) (λ v. Up set a b m small v ⊎ Ahead set a b m small v) (ask-step set a b m small) w.delay w g s) [
     | inl all ↦ absurd (not-all-along set a b m w g all)
     | inr t ↦ elim t.2 [
@@ -357,7 +409,9 @@ module _ (set : ℕ) (m : ℕ) (small : m ≤ 64) where
     ]
   ]
 
-  from-waiting : (a b : End) (w : CableWorld) → Grown w set → Waiting set a b m small 0 w → Ends a b (12 * w.delay) (22 * w.delay) w
+  from-waiting :
+      (a b : End) (w : CableWorld) → Grown w set → Waiting set a b m small 0 w →
+      Ends a b (12 * w.delay) (22 * w.delay) w
   from-waiting a b w g s = elim (run set (Waiting set a b m small) (λ v. Asking set a b m small v ⊎ HasRoot v set) (wait-step set a b m small) (10 * w.delay) 0 w g s) [
     | inl t ↦ absurd (over t)
     | inr t ↦ elim t.2 [
@@ -385,11 +439,18 @@ module _ (set : ℕ) (m : ℕ) (small : m ≤ 64) where
       over (inr (inr t)) = not-so-long v set gv b.node t.ends.near t.ends.near_at t.is.contends (omega (arith, t.is.waited, same))
 
   -- one in T3, the other in T2
-  one-of : (a b : End) (w : CableWorld) → Grown w set → (s : At w set a b (AreUp a.port b.port m)) → s.ends.near.state.view.phase ≡ phase.Contend → s.ends.other.state.view.phase ≡ phase.ParentShake →
+  one-of :
+      (a b : End) (w : CableWorld) → Grown w set → (s : At w set a b (AreUp a.port b.port m)) →
+      s.ends.near.state.view.phase ≡ phase.Contend →
+      s.ends.other.state.view.phase ≡ phase.ParentShake →
       At w set a b (OneAhead 0 a.port b.port m) ⊎ At w set a b (OneWaits w.delay 0 a.port b.port m)
   one-of a b w g s c t = go ((g.contested.cables a b s.ends.near s.ends.other s.ends.joined s.ends.near_at s.ends.other_at).rivals s.is.here.up s.is.there.up)
     where
-      how : IsAhead w.delay s.ends.near.state a.port s.ends.other.state ⊎ AsksAgain w.delay s.ends.near.state s.ends.other.state (wire_of w b).signals → At w set a b (OneAhead 0 a.port b.port m) ⊎ At w set a b (OneWaits w.delay 0 a.port b.port m)
+      how :
+          IsAhead w.delay s.ends.near.state a.port s.ends.other.state
+          ⊎ AsksAgain w.delay s.ends.near.state s.ends.other.state (wire_of w b).signals →
+          At w set a b (OneAhead 0 a.port b.port m)
+          ⊎ At w set a b (OneWaits w.delay 0 a.port b.port m)
       how (inl h) = inl (record {
         ends = s.ends;
         holds = s.holds;
@@ -411,23 +472,35 @@ module _ (set : ℕ) (m : ℕ) (small : m ≤ 64) where
         is = record { here = s.is.here; there = s.is.there; contends = c; asks = t; long = h.long; waited = omega arith };
       })
 
-      go : AreRivals w.delay s.ends.near.state a.port (wire_of w a).signals s.ends.other.state b.port (wire_of w b).signals → At w set a b (OneAhead 0 a.port b.port m) ⊎ At w set a b (OneWaits w.delay 0 a.port b.port m)
+      go :
+          AreRivals w.delay s.ends.near.state a.port (wire_of w a).signals s.ends.other.state b.port (wire_of w b).signals →
+          At w set a b (OneAhead 0 a.port b.port m)
+          ⊎ At w set a b (OneWaits w.delay 0 a.port b.port m)
       go (inl h) = absurd (no-contend s.ends.near.state.view.phase h.here c)
       go (inr (inl h)) = absurd (shake-apart s.ends.other.state.view.phase h.there t)
       go (inr (inr (inl h))) = how h.how
       go (inr (inr (inr h))) = absurd (shake-apart s.ends.other.state.view.phase h.here t)
 
-  pub round : (a b : End) (w : CableWorld) → Grown w set → At w set a b (AreUp a.port b.port m) → Ends a b (12 * w.delay) (22 * w.delay) w
+  pub round :
+      (a b : End) (w : CableWorld) → Grown w set → At w set a b (AreUp a.port b.port m) →
+      Ends a b (12 * w.delay) (22 * w.delay) w
   round a b w g s = go s.is.first s.is.second
     where
-      here : (up root : ℕ) → Ends a b up root w → up ≤ 12 * w.delay → root ≤ 22 * w.delay → Ends a b (12 * w.delay) (22 * w.delay) w
+      here :
+          (up root : ℕ) → Ends a b up root w → up ≤ 12 * w.delay → root ≤ 22 * w.delay →
+          Ends a b (12 * w.delay) (22 * w.delay) w
       here up root (inl t) h l = inl (t.0, omega (arith, t.1, h), t.2)
       here up root (inr t) h l = inr (t.0, omega (arith, t.1, l), t.2)
 
       back : At w set b a (AreUp b.port a.port m)
       back = up-round w set g b a m s
 
-      go : (s.ends.near.state.view.phase ≡ phase.ParentShake) ⊎ (s.ends.near.state.view.phase ≡ phase.Contend) → (s.ends.other.state.view.phase ≡ phase.ParentShake) ⊎ (s.ends.other.state.view.phase ≡ phase.Contend) → Ends a b (12 * w.delay) (22 * w.delay) w
+      go :
+          (s.ends.near.state.view.phase ≡ phase.ParentShake)
+          ⊎ (s.ends.near.state.view.phase ≡ phase.Contend) →
+          (s.ends.other.state.view.phase ≡ phase.ParentShake)
+          ⊎ (s.ends.other.state.view.phase ≡ phase.Contend) → Ends a b (12 * w.delay) (22 * w.delay)
+          w
       go (inl x) (inl y) = here (2 * w.delay) (12 * w.delay) (from-asking a b w g (record { ends = s.ends; holds = s.holds; is = record { here = s.is.here; there = s.is.there; asks = x; asks_too = y } })) (omega arith) (omega arith)
       go (inr x) (inr y) = from-waiting a b w g (inl (record {
         ends = s.ends;

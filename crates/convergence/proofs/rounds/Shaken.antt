@@ -57,26 +57,37 @@ pub record Picked (set : ℕ) (test : PortNode → Bool) (w : CableWorld) (k : �
   pub passes : test node ≡ true
   pub holds : Holds set k
 
-picked : (set : ℕ) (test : PortNode → Bool) (w : CableWorld) (k : ℕ) → picks set test w k ≡ true → Picked set test w k
+picked :
+    (set : ℕ) (test : PortNode → Bool) (w : CableWorld) (k : ℕ) → picks set test w k ≡ true →
+    Picked set test w k
 picked set test w k h =
     let p = and_parts (bit_at set k == 1) (in_node test (slice_get w.nodes k)) h in
     go (slice_get w.nodes k) refl p.1 (eqb-true (bit_at set k) 1 p.0)
   where
-    go : (o : Option PortNode) → slice_get w.nodes k ≡ o → in_node test o ≡ true → Holds set k → Picked set test w k
+    go :
+        (o : Option PortNode) → slice_get w.nodes k ≡ o → in_node test o ≡ true → Holds set k →
+        Picked set test w k
     go None e f i = absurd (true≢false (sym f))
     go (Some x) e f i = record { node = x; at = e; passes = f; holds = i }
 
-picks-from : (set : ℕ) (test : PortNode → Bool) (w : CableWorld) (k : ℕ) (x : PortNode) → Holds set k → slice_get w.nodes k ≡ Some x → test x ≡ true → picks set test w k ≡ true
+picks-from :
+    (set : ℕ) (test : PortNode → Bool) (w : CableWorld) (k : ℕ) (x : PortNode) → Holds set k →
+    slice_get w.nodes k ≡ Some x → test x ≡ true → picks set test w k ≡ true
 picks-from set test w k x h at t = and_from (bit_at set k == 1) (in_node test (slice_get w.nodes k)) (eq-eqb (bit_at set k) 1 h) (ap (in_node test) at ∙ t)
 
 -- none passes, or one does
-pub search-set : (set : ℕ) (test : PortNode → Bool) (w : CableWorld) → ((k : ℕ) (x : PortNode) → Holds set k → slice_get w.nodes k ≡ Some x → test x ≡ false) ⊎ ((k : ℕ) × Picked set test w k)
+pub search-set :
+    (set : ℕ) (test : PortNode → Bool) (w : CableWorld) →
+    ((k : ℕ) (x : PortNode) → Holds set k → slice_get w.nodes k ≡ Some x → test x ≡ false)
+    ⊎ ((k : ℕ) × Picked set test w k)
 search-set set test w = elim (count-found (picks set test w) (length w.nodes)) [
   | inr f ↦ inr (f.0, picked set test w f.0 f.1)
   | inl none ↦ inl (λ k x h at. go none k x h at (test x) refl)
 ]
   where
-    go : count (picks set test w) (length w.nodes) ≡ 0 → (k : ℕ) (x : PortNode) → Holds set k → slice_get w.nodes k ≡ Some x → (b : Bool) → test x ≡ b → b ≡ false
+    go :
+        count (picks set test w) (length w.nodes) ≡ 0 → (k : ℕ) (x : PortNode) → Holds set k →
+        slice_get w.nodes k ≡ Some x → (b : Bool) → test x ≡ b → b ≡ false
     go none k x h at false e = refl
     go none k x h at true e = absurd (omega (arith, none, count-some (picks set test w) (length w.nodes) k (slice_get_within w.nodes k x at) (picks-from set test w k x h at e)))
 
@@ -100,15 +111,22 @@ load-most set w k = go (bit_at set k == 1) (slice_get w.nodes k)
     go true (Some x) = weigh-most x.state.view.phase x.state.view.parent
 
 module _ (set : ℕ) where
-  load-after : (v : CableWorld) → Grown v set → (i k : ℕ) → load set (turns_after i v) k ≤ load set v k
+  load-after :
+      (v : CableWorld) → Grown v set → (i k : ℕ) → load set (turns_after i v) k ≤ load set v k
   load-after v g i k = go (bit_at set k == 1) refl
     where
-      go : (b : Bool) → (bit_at set k == 1) ≡ b → cond b (weight_in (slice_get (turns_after i v).nodes k)) 0 ≤ cond b (weight_in (slice_get v.nodes k)) 0
+      go :
+          (b : Bool) → (bit_at set k == 1) ≡ b →
+          cond b (weight_in (slice_get (turns_after i v).nodes k))
+          0 ≤ cond b (weight_in (slice_get v.nodes k)) 0
       go false e = omega arith
       go true e = weight-after v set g k (eqb-true (bit_at set k) 1 e) i
 
   -- while a node is in T1
-  falls : (v : CableWorld) → Grown v set → (k : ℕ) → Picked set in_shake v k → total (load set (turns_after (v.delay + v.delay) v)) (length v.nodes) + 1 ≤ total (load set v) (length v.nodes)
+  falls :
+      (v : CableWorld) → Grown v set → (k : ℕ) → Picked set in_shake v k →
+      total (load set (turns_after (v.delay + v.delay) v)) (length v.nodes) + 1 ≤ total (load set v)
+      (length v.nodes)
   falls v g k p =
       let b = has-bottom v g.acyclic (picks set in_shake v) k (picks-from set in_shake v k p.node p.holds p.at p.passes) in
       let u = picked set in_shake v b.0 b.1.is in
@@ -121,7 +139,9 @@ module _ (set : ℕ) where
       (subst (λ o. weight_in (slice_get (turns_after (v.delay + v.delay) v).nodes b.0) + 1 ≤ weight_in o) (sym u.at) less))
 
   -- so at some time there is none
-  dies-out : (m : ℕ) (v : CableWorld) → Grown v set → total (load set v) (length v.nodes) ≤ m → (i : ℕ) × (i ≤ m * (v.delay + v.delay)) × NoneShakes (turns_after i v) set
+  dies-out :
+      (m : ℕ) (v : CableWorld) → Grown v set → total (load set v) (length v.nodes) ≤ m → (i : ℕ)
+      × (i ≤ m * (v.delay + v.delay)) × NoneShakes (turns_after i v) set
   dies-out zero v g few = elim (search-set set in_shake v) [
     | inl none ↦ (0, omega arith, subst (λ (u : CableWorld). NoneShakes u set) (sym (no-turns v)) none)
     | inr f ↦ absurd (omega (arith, few, falls v g f.0 f.1))
@@ -143,7 +163,9 @@ module _ (set : ℕ) where
           let z : suc m * (d + d) ≡ m * (d + d) + (d + d) = grind arith in
           omega (arith, z, subst (λ c. i ≤ m * (c + c)) h l)
 
-  pub shaken-out : (v : CableWorld) → Grown v set → (i : ℕ) × (i ≤ 3 * length v.nodes * (v.delay + v.delay)) × NoneShakes (turns_after i v) set
+  pub shaken-out :
+      (v : CableWorld) → Grown v set → (i : ℕ) × (i ≤ 3 * length v.nodes * (v.delay + v.delay))
+      × NoneShakes (turns_after i v) set
   shaken-out v g = dies-out (3 * length v.nodes) v g (total-most (load set v) 3 (length v.nodes) (load-most set v))
 
 -- ---- nobody in T1
@@ -151,35 +173,45 @@ module _ (set : ℕ) where
 abbrev pub is_unrooted : PortNode → Bool
 is_unrooted x = (not (is_before_tree x.state.view.phase) && not (is_identifying x.state.view.phase)) && is_some x.state.view.parent
 
-phases-left : (f : Phase) → is_before_tree f ≡ false → is_child_shake f ≡ false → is_identifying f ≡ false → (f ≡ phase.ParentShake) ⊎ (f ≡ phase.Contend)
+phases-left :
+    (f : Phase) → is_before_tree f ≡ false → is_child_shake f ≡ false → is_identifying f ≡ false →
+    (f ≡ phase.ParentShake) ⊎ (f ≡ phase.Contend)
 phases-left f a b c = grind arith
 
 module _ (w : CableWorld) (set : ℕ) (g : Grown w set) (none : NoneShakes w set) where
   -- a node that asks or contends is one of two rivals
-  pub rival-of : (k : ℕ) → Picked set is_unrooted w k → (a : End) × (b : End) × (a.node ≡ k) × AreMutual w a b
+  pub rival-of :
+      (k : ℕ) → Picked set is_unrooted w k → (a : End) × (b : End) × (a.node ≡ k) × AreMutual w a b
   rival-of k p = parent p.node.state.view.parent refl parts.1
     where
       v : IsValid p.node.state
       v = valid-at w set g k p.node p.at
 
-      parts : ((not (is_before_tree p.node.state.view.phase) && not (is_identifying p.node.state.view.phase)) ≡ true) × (is_some p.node.state.view.parent ≡ true)
+      parts :
+          ((not (is_before_tree p.node.state.view.phase) && not (is_identifying p.node.state.view.phase)) ≡ true)
+          × (is_some p.node.state.view.parent ≡ true)
       parts = and_parts (not (is_before_tree p.node.state.view.phase) && not (is_identifying p.node.state.view.phase)) (is_some p.node.state.view.parent) p.passes
 
       not-true : (b : Bool) → not b ≡ true → b ≡ false
       not-true b h = grind arith
 
-      two : (p.node.state.view.phase ≡ phase.ParentShake) ⊎ (p.node.state.view.phase ≡ phase.Contend)
+      two :
+          (p.node.state.view.phase ≡ phase.ParentShake) ⊎ (p.node.state.view.phase ≡ phase.Contend)
       two = phases-left p.node.state.view.phase (g.late k p.node p.holds p.at) (none k p.node p.holds p.at)
           (not-true (is_identifying p.node.state.view.phase) (and_parts (not (is_before_tree p.node.state.view.phase)) (not (is_identifying p.node.state.view.phase)) parts.0).1)
 
-      parent : (o : Option ℕ) → p.node.state.view.parent ≡ o → is_some o ≡ true → (a : End) × (b : End) × (a.node ≡ k) × AreMutual w a b
+      parent :
+          (o : Option ℕ) → p.node.state.view.parent ≡ o → is_some o ≡ true → (a : End) × (b : End)
+          × (a.node ≡ k) × AreMutual w a b
       parent None e s = absurd (true≢false (sym s))
       parent (Some q) e s = there (far w.cabling (end_at k q)) refl (sym ((g.lawful.well_formed.nodes k p.node p.at).connected q) ∙ parent-connected p.node.state v q e)
         where
           here : is_port p.node.state.view.parent q ≡ true
           here = ap (λ o. is_port o q) e ∙ eq-eqb q q refl
 
-          there : (o : Option End) → far w.cabling (end_at k q) ≡ o → is_some o ≡ true → (a : End) × (b : End) × (a.node ≡ k) × AreMutual w a b
+          there :
+              (o : Option End) → far w.cabling (end_at k q) ≡ o → is_some o ≡ true → (a : End)
+              × (b : End) × (a.node ≡ k) × AreMutual w a b
           there None f t = absurd (true≢false (sym t))
           there (Some b) f t = (end_at k q, b, refl, record { ends = record { joined = f; near = p.node; near_at = p.at; other = y; other_at = at_y }; here = here; there = up (leads_down y.state.view.ports b.port) refl })
             where
@@ -209,13 +241,17 @@ module _ (w : CableWorld) (set : ℕ) (g : Grown w set) (none : NoneShakes w set
               turn true e = refl
               turn false e = absurd (true≢false e)
 
-              up : (c : Bool) → leads_down y.state.view.ports b.port ≡ c → is_port y.state.view.parent b.port ≡ true
+              up :
+                  (c : Bool) → leads_down y.state.view.ports b.port ≡ c →
+                  is_port y.state.view.parent b.port ≡ true
               up true c = absurd (child c)
               up false c = turn (is_port y.state.view.parent b.port)
                   (sym (child-if y.state.view.parent y.state.view.ports b.port (late-roles y.state (valid-at w set g b.node y at_y) (g.late b.node y in_y at_y)) (cable-connected w b (end_at k q) y g.lawful.well_formed back at_y)) ∙ c)
 
   -- where there are no rivals, a turn takes all out of tree identify
-  pub all-identify : ((k : ℕ) (x : PortNode) → Holds set k → slice_get w.nodes k ≡ Some x → is_unrooted x ≡ false) → AreIdentifying (turn w) set
+  pub all-identify :
+      ((k : ℕ) (x : PortNode) → Holds set k → slice_get w.nodes k ≡ Some x → is_unrooted x ≡ false)
+      → AreIdentifying (turn w) set
   all-identify alone k y h at =
       let c = calm-turn w set g k y at in
       ap (λ (s : NodeState). is_identifying s.view.phase) c.is ∙ go c (is_identifying c.node.state.view.phase) refl
@@ -231,7 +267,9 @@ module _ (w : CableWorld) (set : ℕ) (g : Grown w set) (none : NoneShakes w set
       contend-some None some e = absurd cc
       contend-some (Some q) some e = true≢false (sym (eq-eqb q q refl) ∙ ap (λ r. is_port r q) e)
 
-      go : (c : Calmly w k y.state) → (b : Bool) → is_identifying c.node.state.view.phase ≡ b → is_identifying (tick (coin c.node.coins) (heard_by w k c.node)).state.view.phase ≡ true
+      go :
+          (c : Calmly w k y.state) → (b : Bool) → is_identifying c.node.state.view.phase ≡ b →
+          is_identifying (tick (coin c.node.coins) (heard_by w k c.node)).state.view.phase ≡ true
       go c true e = tick-identifying (coin c.node.coins) (heard_by w k c.node) (ap is_identifying c.heard.phase ∙ e)
       go c false e =
           let late : is_before_tree c.node.state.view.phase ≡ false = g.late k c.node h c.at in
@@ -245,7 +283,9 @@ module _ (w : CableWorld) (set : ℕ) (g : Grown w set) (none : NoneShakes w set
 -- ---- a root
 
 module _ (w : CableWorld) (set : ℕ) (g : Grown w set) where
-  pub root-turn : (k : ℕ) → Holds set k → IsRoot w k → (y : PortNode) → slice_get (turn w).nodes k ≡ Some y → y.state.view.parent ≡ None
+  pub root-turn :
+      (k : ℕ) → Holds set k → IsRoot w k → (y : PortNode) → slice_get (turn w).nodes k ≡ Some y →
+      y.state.view.parent ≡ None
   root-turn k h r y at = go y.state.view.parent refl
     where
       c : Calmly w k y.state

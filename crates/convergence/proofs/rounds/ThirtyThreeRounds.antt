@@ -1,4 +1,5 @@
--- After 33 rounds the first 32 draws of two rivals are equal: their component is in contention, and stays so.
+-- After 33 rounds the first 32 draws of two rivals are equal: their component is in contention, and
+-- stays so.
 use Rattle.std.proofs.Common.{◌≡◌, ◌⊎◌, inl, inr, ℕ, zero, suc, ◌+◌, ◌*◌, ◌<◌, ◌≤◌, Bool, true, false, if◌then◌else◌, Some, slice_get, refl, sym, ◌∙◌, ap, subst, arith, add-one}
 use Rattle.std.specs.Prelude.{min, nat_lt, bit_or, ◌^◌}
 use Rattle.std.proofs.lemmas.Bool.{cases_lt}
@@ -47,14 +48,20 @@ added d n f x a h = a.coins ∙ kept-first _ n f (many n x.view.draws a.count h)
     many : (n k : ℕ) → k ≡ min (n + 1) 65535 → 33 ≤ k → 32 ≤ n
     many n k e l = omega (arith, e, l)
 
-together : (d : ℕ) (x y : NodeState) → DrewTogether d x y → 33 ≤ x.view.draws → 33 ≤ y.view.draws → x.view.first_draws ≡ y.view.first_draws
+together :
+    (d : ℕ) (x y : NodeState) → DrewTogether d x y → 33 ≤ x.view.draws → 33 ≤ y.view.draws →
+    x.view.first_draws ≡ y.view.first_draws
 together d x y t h l = added d t.draws t.first x t.here h ∙ sym (added d t.draws t.first y t.there l)
 
-module _ (w : CableWorld) (set : ℕ) (g : Grown w set) (a b : End) (s : At w set a b (AreUp a.port b.port 33)) where
+module _
+    (w : CableWorld) (set : ℕ) (g : Grown w set) (a b : End)
+    (s : At w set a b (AreUp a.port b.port 33)) where
   same-first : s.ends.near.state.view.first_draws ≡ s.ends.other.state.view.first_draws
   same-first = go ((g.contested.cables a b s.ends.near s.ends.other s.ends.joined s.ends.near_at s.ends.other_at).rivals s.is.here.up s.is.there.up)
     where
-      go : AreRivals w.delay s.ends.near.state a.port (wire_of w a).signals s.ends.other.state b.port (wire_of w b).signals → s.ends.near.state.view.first_draws ≡ s.ends.other.state.view.first_draws
+      go :
+          AreRivals w.delay s.ends.near.state a.port (wire_of w a).signals s.ends.other.state b.port (wire_of w b).signals →
+          s.ends.near.state.view.first_draws ≡ s.ends.other.state.view.first_draws
       go (inl h) = h.drew.first_draws
       go (inr (inl h)) = together w.delay s.ends.near.state s.ends.other.state h.drew s.is.here.draws s.is.there.draws
       go (inr (inr (inl h))) = elim h.how [
@@ -86,7 +93,9 @@ module _ (w : CableWorld) (set : ℕ) (g : Grown w set) (a b : End) (s : At w se
     };
   }
 
-pub contend : (w : CableWorld) (set : ℕ) → Grown w set → (a b : End) → At w set a b (AreUp a.port b.port 33) → HasNoLoop w set → HasContention w set
+pub contend :
+    (w : CableWorld) (set : ℕ) → Grown w set → (a b : End) → At w set a b (AreUp a.port b.port 33) →
+    HasNoLoop w set → HasContention w set
 contend w set g a b s none = elim (order a.node b.node (g.lawful.well_formed.cabling.two_nodes a b s.ends.joined)) [
   | inl h ↦ contend-rising w set g a b s none h
   | inr h ↦ contend-rising w set g b a (up-round w set g b a 33 s) none h
@@ -105,7 +114,9 @@ record ManyDraws (x z : NodeState) : Type 0 where
   first : z.view.first_draws ≡ x.view.first_draws
 
 module _ (w : CableWorld) (set : ℕ) (g : Grown w set) where
-  many-on : (k : ℕ) (x : PortNode) → slice_get w.nodes k ≡ Some x → 32 ≤ x.state.view.draws → ManyDraws x.state (turn_at w k x).node.state
+  many-on :
+      (k : ℕ) (x : PortNode) → slice_get w.nodes k ≡ Some x → 32 ≤ x.state.view.draws →
+      ManyDraws x.state (turn_at w k x).node.state
   many-on k x at many = subst (λ (n : NodeState). ManyDraws x.state n) (sym c.is) (go (tick-draws (coin c.node.coins) (heard_by w k c.node)))
     where
       c : Calmly w k (turn_at w k x).node.state
@@ -123,7 +134,11 @@ module _ (w : CableWorld) (set : ℕ) (g : Grown w set) where
       most : (n k m : ℕ) → k ≡ min (n + 1) 65535 → n ≡ m → 32 ≤ m → 32 ≤ k
       most n k m e f h = omega (arith, e, f, h)
 
-      go : Drew (coin c.node.coins) (heard_by w k c.node) (tick (coin c.node.coins) (heard_by w k c.node)).state ⊎ DrewNone (heard_by w k c.node) (tick (coin c.node.coins) (heard_by w k c.node)).state → ManyDraws x.state (tick (coin c.node.coins) (heard_by w k c.node)).state
+      go :
+          Drew (coin c.node.coins) (heard_by w k c.node)
+          (tick (coin c.node.coins) (heard_by w k c.node)).state ⊎ DrewNone (heard_by w k c.node)
+          (tick (coin c.node.coins) (heard_by w k c.node)).state →
+          ManyDraws x.state (tick (coin c.node.coins) (heard_by w k c.node)).state
       go (inl n) = record {
         many = most (heard_by w k c.node).view.draws (tick (coin c.node.coins) (heard_by w k c.node)).state.view.draws x.state.view.draws n.draws draws many;
         first = n.first_draws ∙ kept-first (coin c.node.coins) (heard_by w k c.node).view.draws (heard_by w k c.node).view.first_draws (omega (arith, draws, many)) ∙ first;
@@ -153,7 +168,9 @@ module _ (w : CableWorld) (set : ℕ) (g : Grown w set) where
         };
       }
 
-pub contention-after : (v : CableWorld) (set : ℕ) → Grown v set → (i : ℕ) → HasContention v set → HasContention (turns_after i v) set
+pub contention-after :
+    (v : CableWorld) (set : ℕ) → Grown v set → (i : ℕ) → HasContention v set →
+    HasContention (turns_after i v) set
 contention-after v set g zero r = subst (λ (u : CableWorld). HasContention u set) (sym (no-turns v)) r
 contention-after v set g (suc i) r =
     subst (λ n. HasContention (turns_after n v) set) (add-one i) (subst (λ (u : CableWorld). HasContention u set) (sym (one-more i v)) (contention-turn (turns_after i v) set (grown-after v set g i) (contention-after v set g i r)))
@@ -162,7 +179,9 @@ contention-after v set g (suc i) r =
 
 module _ (set : ℕ) (a b : End) where
   -- after n rounds both drew n times more, or one is root
-  pub rounds : (n m : ℕ) → m + n ≤ 64 → (w : CableWorld) → Grown w set → At w set a b (AreUp a.port b.port m) →
+  pub rounds :
+      (n m : ℕ) → m + n ≤ 64 → (w : CableWorld) → Grown w set → At w set a b (AreUp a.port b.port m)
+      →
       ((j : ℕ) × (j ≤ n * (12 * w.delay)) × At (turns_after j w) set a b (AreUp a.port b.port (m + n))) ⊎ ((j : ℕ) × (j ≤ n * (12 * w.delay) + 22 * w.delay) × HasRoot (turns_after j w) set)
   rounds zero m small w g s =
       let z : m + 0 ≡ m = omega arith in
@@ -186,7 +205,9 @@ module _ (set : ℕ) (a b : End) where
           let z : suc n * (12 * d) ≡ n * (12 * d) + 12 * d = grind arith in
           omega (arith, z, h, subst (λ q. j ≤ n * (12 * q)) same l)
 
-      up-to : (n e d i j c : ℕ) → e ≡ d → i ≤ 12 * d → j ≤ n * (12 * e) + c * e → i + j ≤ suc n * (12 * d) + c * d
+      up-to :
+          (n e d i j c : ℕ) → e ≡ d → i ≤ 12 * d → j ≤ n * (12 * e) + c * e →
+          i + j ≤ suc n * (12 * d) + c * d
       up-to n e d i j c same h l =
           let z : suc n * (12 * d) ≡ n * (12 * d) + 12 * d = grind arith in
           omega (arith, z, h, subst (λ q. j ≤ n * (12 * q) + c * q) same l)

@@ -1,4 +1,5 @@
--- What no cable leads out of holds the component of each of its nodes. It is so for sets of any kind, but then a
+-- What no cable leads out of holds the component of each of its nodes. It is so for sets of any
+-- kind, but then a
 -- member is found only where the goal can be refuted.
 use Rattle.std.proofs.Common.{◌≡◌, inl, inr, ◌↔◌, ℕ, zero, suc, ◌*◌, ◌%◌, ◌^◌, ◌<◌, ◌≤◌, bit_or, length, Some, sym, subst, arith}
 use Rattle.std.proofs.lemmas.Bool.{cases_eq, cases_lt}
@@ -30,7 +31,9 @@ part-without P n s is not-in k = (to, from)
     ]
 
 -- it is one
-pub part-with : (P : ℕ → Type 0) (n s : ℕ) → n < 64 → IsPart P n s → P n → IsPart P (suc n) (bit_or s (1 * 2 ^ n % 2 ^ 64))
+pub part-with :
+    (P : ℕ → Type 0) (n s : ℕ) → n < 64 → IsPart P n s → P n → IsPart P (suc n)
+    (bit_or s (1 * 2 ^ n % 2 ^ 64))
 part-with P n s small is there k = (to, from)
   where
     to : Holds (bit_or s (1 * 2 ^ n % 2 ^ 64)) k → (k < suc n) × P k
@@ -51,7 +54,10 @@ some-part P (suc n) small none = some-part P n (omega (arith, small)) (λ s is.
     let not-in : P n → ⊥ = λ there. none (bit_or s (1 * 2 ^ n % 2 ^ 64)) (part-with P n s (omega (arith, small)) is there) in
     none s (part-without P n s is not-in))
 
-pub in-component : (c : Wiring) (node set : ℕ) (P : ℕ → Type 0) → IsCabling c → IsComponent c node set → node < length c → P node → ((a b : End) → far c a ≡ Some b → P a.node → P b.node) → (k : ℕ) → Holds set k → (P k → ⊥) → ⊥
+pub in-component :
+    (c : Wiring) (node set : ℕ) (P : ℕ → Type 0) → IsCabling c → IsComponent c node set →
+    node < length c → P node → ((a b : End) → far c a ≡ Some b → P a.node → P b.node) → (k : ℕ) →
+    Holds set k → (P k → ⊥) → ⊥
 in-component c node set P is comp there start closed k h none = some-part P (length c) is.few_nodes (λ s part.
     let in-s : Holds s k = comp.least s ((part node).1 (there, start)) (λ a b e at. (part b.node).1 ((plugged c b a (is.both_ways a b e)).node, closed a b e ((part a.node).0 at).1)) k h in
     none ((part k).0 in-s).1)

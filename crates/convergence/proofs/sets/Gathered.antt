@@ -57,7 +57,9 @@ module _ (f g : ℕ → Bool) (follows : (k : ℕ) → f k ≡ true → g k ≡ 
       last : (b c : Bool) → b ≡ false → c ≡ true → cond b 1 0 + 1 ≤ cond c 1 0
       last b c e d = grind arith
 
-      go : (j < n → f j ≡ false → g j ≡ true → count f n + 1 ≤ count g n) → count f n + cond (f n) 1 0 + 1 ≤ count g n + cond (g n) 1 0
+      go :
+          (j < n → f j ≡ false → g j ≡ true → count f n + 1 ≤ count g n) → count f n + cond (f n)
+          1 0 + 1 ≤ count g n + cond (g n) 1 0
       go before = elim (cases_eq j n) [
         | inl same ↦ omega (arith, count-le n, last (f n) (g n) (ap f (sym same) ∙ out) (ap g (sym same) ∙ inside))
         | inr ne ↦ omega (arith, before (omega (arith, h, ne)) out inside, one-le (f n) (g n) (follows n))
@@ -72,7 +74,9 @@ pub count-found : (member : ℕ → Bool) (n : ℕ) → (count member n ≡ 0) �
 count-found member zero = inl refl
 count-found member (suc n) = go (member n) refl (count-found member n)
   where
-    go : (b : Bool) → member n ≡ b → (count member n ≡ 0) ⊎ ((k : ℕ) × (member k ≡ true)) → (count member n + cond b 1 0 ≡ 0) ⊎ ((k : ℕ) × (member k ≡ true))
+    go :
+        (b : Bool) → member n ≡ b → (count member n ≡ 0) ⊎ ((k : ℕ) × (member k ≡ true)) →
+        (count member n + cond b 1 0 ≡ 0) ⊎ ((k : ℕ) × (member k ≡ true))
     go true e f = inr (n, e)
     go false e (inl none) = inl (omega (arith, none))
     go false e (inr f) = inr f

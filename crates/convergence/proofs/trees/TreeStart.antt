@@ -18,7 +18,8 @@ use Rattle.convergence.specs.Milestones.{ResetsAreDone}
 use Rattle.convergence.proofs.turns.CalmTurns.{Calmly, calmly, heard_by, early-before, done-calm, turn-done}
 use Rattle.convergence.proofs.turns.BeforeTree.{StaysInStart, stays-in-start}
 
-pub only-start : (p : Phase) → is_before_tree p ≡ true → is_in_bus_reset p ≡ false → p ≡ phase.TreeStart
+pub only-start :
+    (p : Phase) → is_before_tree p ≡ true → is_in_bus_reset p ≡ false → p ≡ phase.TreeStart
 only-start p h g = grind arith
 
 pub start-early : (p : Phase) → p ≡ phase.TreeStart → is_before_tree p ≡ true
@@ -42,7 +43,9 @@ module _ (v : CableWorld) (l : IsLawful v) (done : ResetsAreDone v) where
     pub kept : StaysInStart (heard_by (turns_after i v) k calm.node) y
     pub is_start : y.view.phase ≡ phase.TreeStart
 
-  pub started : (i k : ℕ) (y : PortNode) → slice_get (turns_after (i + 1) v).nodes k ≡ Some y → is_before_tree y.state.view.phase ≡ true → Started i k y.state
+  pub started :
+      (i k : ℕ) (y : PortNode) → slice_get (turns_after (i + 1) v).nodes k ≡ Some y →
+      is_before_tree y.state.view.phase ≡ true → Started i k y.state
   started i k y at h =
       let u : CableWorld = turns_after i v in
       let c : Calmly u k y.state = calmly u (turns-lawful i v l) (done-calm u (done-at i)) k y (ap (λ (z : CableWorld). slice_get z.nodes k) (sym (one-more i v)) ∙ at) in
@@ -65,7 +68,9 @@ module _ (v : CableWorld) (l : IsLawful v) (done : ResetsAreDone v) where
   early-at-first (suc i) k n = early-at-first i k (early-was i k (subst (λ m. IsEarly (turns_after m v) k) (sym (add-one i)) n))
 
   -- the timer rises with the turns
-  pub start-timer : (i n k : ℕ) → n ≤ i → n ≤ 65535 → (e : IsEarly (turns_after i v) k) → n ≤ e.node.state.view.timer
+  pub start-timer :
+      (i n k : ℕ) → n ≤ i → n ≤ 65535 → (e : IsEarly (turns_after i v) k) →
+      n ≤ e.node.state.view.timer
   start-timer zero n k low high e = omega (arith, low)
   start-timer (suc i) n k low high e =
       let s = started i k e.node (subst (λ m. slice_get (turns_after m v).nodes k ≡ Some e.node) (sym (add-one i)) e.at) e.early in
@@ -77,7 +82,9 @@ module _ (v : CableWorld) (l : IsLawful v) (done : ResetsAreDone v) where
       up n a b c h e f m = omega (arith, h, e, f, m)
 
   -- after 512 d turns it reports a time out
-  pub start-reports : (i k : ℕ) → 512 * v.delay ≤ i → (e : IsEarly (turns_after i v) k) → (e.node.state.view.phase ≡ phase.TreeStart) × (e.node.state.view.timed_out ≡ true)
+  pub start-reports :
+      (i k : ℕ) → 512 * v.delay ≤ i → (e : IsEarly (turns_after i v) k) →
+      (e.node.state.view.phase ≡ phase.TreeStart) × (e.node.state.view.timed_out ≡ true)
   start-reports zero k late e = absurd (omega (arith, late, l.well_formed.some_delay))
   start-reports (suc i) k late e =
       let at : slice_get (turns_after (i + 1) v).nodes k ≡ Some e.node = subst (λ m. slice_get (turns_after m v).nodes k ≡ Some e.node) (sym (add-one i)) e.at in

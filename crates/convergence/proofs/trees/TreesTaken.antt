@@ -1,5 +1,7 @@
--- In a component without loop, once timers are at their force time, some node leaves T0 within each d turns: of the
--- nodes in T0 one has at most one cable to the others, as there is no loop, and all its other neighbours ask it.
+-- In a component without loop, once timers are at their force time, some node leaves T0 within each
+-- d turns: of the
+-- nodes in T0 one has at most one cable to the others, as there is no loop, and all its other
+-- neighbours ask it.
 use Rattle.std.proofs.Common.{◌≡◌, ◌⊎◌, inl, inr, ℕ, zero, suc, ◌+◌, ◌-◌, ◌*◌, ◌^◌, ◌<◌, ◌≤◌, Bool, true, false, not, ◌&&◌, ◌||◌, ◌==◌, length, min, Option, Some, None, is_some, slice_get, refl, sym, ◌∙◌, ap, subst, arith, true≢false}
 use Rattle.std.specs.Int.{bit_at}
 use Rattle.std.proofs.lemmas.Bool.{eqb-true, eq-eqb, and_from, and_parts}
@@ -42,14 +44,21 @@ use Rattle.convergence.proofs.trees.TreeStart.{IsEarly, Started, started, only-s
 
 -- ---- what neighbours that know their tree tell
 
-asking-tells : (y : NodeState) (q : ℕ) → IsValid y → is_connected y.view.ports q ≡ true → is_before_tree y.view.phase ≡ false → (is_before_tree y.view.phase || is_asking y q) ≡ true → is_parent (level_sent_at y q) ≡ true
+asking-tells :
+    (y : NodeState) (q : ℕ) → IsValid y → is_connected y.view.ports q ≡ true →
+    is_before_tree y.view.phase ≡ false → (is_before_tree y.view.phase || is_asking y q) ≡ true →
+    is_parent (level_sent_at y q) ≡ true
 asking-tells y q v on late early = told y.view.phase (leads_down y.view.ports q) (is_port y.view.parent q) late (child-if y.view.parent y.view.ports q (late-roles y v late) on) early
   where
-    told : (f : Phase) (c i : Bool) → is_before_tree f ≡ false → c ≡ not i → (is_before_tree f || (is_shaking f && i)) ≡ true → is_parent (level_sent f c) ≡ true
+    told :
+        (f : Phase) (c i : Bool) → is_before_tree f ≡ false → c ≡ not i →
+        (is_before_tree f || (is_shaking f && i)) ≡ true → is_parent (level_sent f c) ≡ true
     told f c i a b e = grind arith
 
 -- d turns after a neighbour of a node knew its tree, the node is shown Parent, if it is still in T0
-module _ (v : CableWorld) (l : IsLawful v) (done : ResetsAreDone v) (u p : ℕ) (a : End) (e : far v.cabling (end_at u p) ≡ Some a) (late : IsEarly v a.node → ⊥) where
+module _
+    (v : CableWorld) (l : IsLawful v) (done : ResetsAreDone v) (u p : ℕ) (a : End)
+    (e : far v.cabling (end_at u p) ≡ Some a) (late : IsEarly v a.node → ⊥) where
   abbrev StillEarly : ℕ → Type 0
   StillEarly i = IsEarly (turns_after i v) u
 
@@ -67,11 +76,14 @@ module _ (v : CableWorld) (l : IsLawful v) (done : ResetsAreDone v) (u p : ℕ) 
       asking-tells y.state a.port (m.well_formed.nodes a.node y at).valid (cable-connected w a (end_at u p) y m.well_formed here at) (out-of y at (is_before_tree y.state.view.phase) refl)
       (c.early (tree_start-known w.delay n.node.state start))
     where
-      out-of : (y : PortNode) → slice_get (turns_after i v).nodes a.node ≡ Some y → (b : Bool) → is_before_tree y.state.view.phase ≡ b → b ≡ false
+      out-of :
+          (y : PortNode) → slice_get (turns_after i v).nodes a.node ≡ Some y → (b : Bool) →
+          is_before_tree y.state.view.phase ≡ b → b ≡ false
       out-of y at false h = refl
       out-of y at true h = absurd (late (early-at-first v l done i a.node (record { node = y; at = at; early = h })))
 
-  pub shown-parent : (i : ℕ) → v.delay ≤ i → StillEarly i → Shown (turns_after i v) (end_at u p) is_parent
+  pub shown-parent :
+      (i : ℕ) → v.delay ≤ i → StillEarly i → Shown (turns_after i v) (end_at u p) is_parent
   shown-parent = flush v l a (end_at u p) back is_parent StillEarly (λ i n. early-was v l done i u n) tells-parent
 
 -- ---- a node that stays in T0
@@ -90,7 +102,9 @@ pub record TwoSilent (y : NodeState) : Type 0 where
 
 module _ (v : CableWorld) (l : IsLawful v) (done : ResetsAreDone v) where
   -- after 256 d turns two ports keep it there
-  stays-by-two : (i k : ℕ) → 256 * v.delay ≤ i → (n : IsEarly (turns_after (i + 1) v) k) → TwoSilent n.node.state
+  stays-by-two :
+      (i k : ℕ) → 256 * v.delay ≤ i → (n : IsEarly (turns_after (i + 1) v) k) →
+      TwoSilent n.node.state
   stays-by-two i k old n = record { low = two.low; high = two.high; apart = two.apart; low_silent = silent two.low two.low_left; high_silent = silent two.high two.high_left }
     where
       s : Started v l done i k n.node.state
@@ -119,14 +133,18 @@ module _ (v : CableWorld) (l : IsLawful v) (done : ResetsAreDone v) where
         silent = ap is_parent (ap (λ (z : NodeState). level_shown z p) s.calm.is ∙ s.calm.ticks.shown p) ∙ go (slice_get now.view.ports p) h.on h.silent;
       }
         where
-          go : (o : Option PortView) → passes (λ q. q.connected) o ≡ true → passes (λ q. is_parent q.shown) o ≡ false → is_parent (shown_or_idle o) ≡ false
+          go :
+              (o : Option PortView) → passes (λ q. q.connected) o ≡ true →
+              passes (λ q. is_parent q.shown) o ≡ false → is_parent (shown_or_idle o) ≡ false
           go None on e = refl
           go (Some q) on e = e
 
 -- ---- the nodes in T0 of a component without loop
 
 -- where there is no loop, a part has a node with at most one cable into the part
-leaf : (c : Wiring) (set core part node : ℕ) → IsCore c set core → IsEmpty core → part < 2 ^ 63 → IsWithin part set → Holds part node → (leaf : ℕ) × Holds part leaf × (HasTwo c part leaf → ⊥)
+leaf :
+    (c : Wiring) (set core part node : ℕ) → IsCore c set core → IsEmpty core → part < 2 ^ 63 →
+    IsWithin part set → Holds part node → (leaf : ℕ) × Holds part leaf × (HasTwo c part leaf → ⊥)
 leaf c set core part node is empty small within h = elim (weak_or_all c part 63 small) [
   | inl found ↦ (found.0, found.1.here, found.1.weak)
   | inr looped ↦ absurd (empty node ((is node).1 (part, within, (λ x k. looped x k (λ same. omega (arith, below part x small k))), h)))
@@ -136,7 +154,9 @@ abbrev pub early_there : Option PortNode → Bool
 early_there None = false
 early_there (Some x) = is_before_tree x.state.view.phase
 
-module _ (v : CableWorld) (l : IsLawful v) (done : ResetsAreDone v) (set core : ℕ) (closed : IsClosed v.cabling set) (is : IsCore v.cabling set core) (empty : IsEmpty core) where
+module _
+    (v : CableWorld) (l : IsLawful v) (done : ResetsAreDone v) (set core : ℕ)
+    (closed : IsClosed v.cabling set) (is : IsCore v.cabling set core) (empty : IsEmpty core) where
   -- those in T0 after so many turns
   member : ℕ → ℕ → Bool
   member i k = (bit_at set k == 1) && early_there (slice_get (turns_after i v).nodes k)
@@ -150,7 +170,9 @@ module _ (v : CableWorld) (l : IsLawful v) (done : ResetsAreDone v) (set core : 
       let p = and_parts (bit_at set k == 1) (early_there (slice_get (turns_after i v).nodes k)) h in
       (eqb-true (bit_at set k) 1 p.0, go (slice_get (turns_after i v).nodes k) refl p.1)
     where
-      go : (o : Option PortNode) → slice_get (turns_after i v).nodes k ≡ o → early_there o ≡ true → IsEarly (turns_after i v) k
+      go :
+          (o : Option PortNode) → slice_get (turns_after i v).nodes k ≡ o → early_there o ≡ true →
+          IsEarly (turns_after i v) k
       go None e f = absurd (true≢false (sym f))
       go (Some x) e f = record { node = x; at = e; early = f }
 
@@ -168,13 +190,19 @@ module _ (v : CableWorld) (l : IsLawful v) (done : ResetsAreDone v) (set core : 
     g = gathered (member t) (length v.nodes) few
 
     -- a port that shows no Parent leads to another of them
-    leads : (u : ℕ) → Holds set u → (n : IsEarly (turns_after (t + v.delay) v) u) → (q : ℕ) → Silent n.node.state q → LeadsInto v.cabling g.set (end_at u q)
+    leads :
+        (u : ℕ) → Holds set u → (n : IsEarly (turns_after (t + v.delay) v) u) → (q : ℕ) →
+        Silent n.node.state q → LeadsInto v.cabling g.set (end_at u q)
     leads u in_set n q s = go (far v.cabling (end_at u q)) refl
       where
-        cable : (o : Option End) → far v.cabling (end_at u q) ≡ o → far (turns_after (t + v.delay) v).cabling (end_at u q) ≡ o
+        cable :
+            (o : Option End) → far v.cabling (end_at u q) ≡ o →
+            far (turns_after (t + v.delay) v).cabling (end_at u q) ≡ o
         cable o e = ap (λ (c : Wiring). far c (end_at u q)) (after-cabling (t + v.delay) v) ∙ e
 
-        to : (a : End) → far v.cabling (end_at u q) ≡ Some a → (b : Bool) → member t a.node ≡ b → Holds g.set a.node
+        to :
+            (a : End) → far v.cabling (end_at u q) ≡ Some a → (b : Bool) → member t a.node ≡ b →
+            Holds g.set a.node
         to a e true m =
             let there : a.node < length v.cabling = (plugged v.cabling a (end_at u q) (l.well_formed.cabling.both_ways (end_at u q) a e)).node in
             (g.is a.node).1 (omega (arith, there, l.well_formed.count), m)
@@ -187,12 +215,16 @@ module _ (v : CableWorld) (l : IsLawful v) (done : ResetsAreDone v) (set core : 
             let same : w.delay ≤ v.delay = omega (arith, after-delay v l t) in
             absurd (true≢false (sym (shown-parent w (turns-lawful t v l) (done-at v l done t) u q a e_then late v.delay same n_then n.node at_then) ∙ s.silent))
 
-        go : (o : Option End) → far v.cabling (end_at u q) ≡ o → LeadsInto v.cabling g.set (end_at u q)
+        go :
+            (o : Option End) → far v.cabling (end_at u q) ≡ o →
+            LeadsInto v.cabling g.set (end_at u q)
         go None e = absurd (true≢false (sym s.on ∙ ((turns-lawful (t + v.delay) v l).well_formed.nodes u n.node n.at).connected q ∙ ap is_some (cable None e)))
         go (Some a) e = (a, e, to a e (member t a.node) refl)
 
     -- one of them is gone d turns later
-    gone : (u : ℕ) → Holds g.set u → (HasTwo v.cabling g.set u → ⊥) → (b : Bool) → member (t + v.delay) u ≡ b → b ≡ false
+    gone :
+        (u : ℕ) → Holds g.set u → (HasTwo v.cabling g.set u → ⊥) → (b : Bool) → member (t + v.delay)
+        u ≡ b → b ≡ false
     gone u h leaf false m = refl
     gone u h leaf true m =
         let p = member-parts (t + v.delay) u m in
@@ -208,7 +240,9 @@ module _ (v : CableWorld) (l : IsLawful v) (done : ResetsAreDone v) (set core : 
           high_leads = leads u p.0 now two.high two.high_silent;
         }))
 
-    falls : (k : ℕ) → member t k ≡ true → count (member (t + v.delay)) (length v.nodes) + 1 ≤ count (member t) (length v.nodes)
+    falls :
+        (k : ℕ) → member t k ≡ true → count (member (t + v.delay)) (length v.nodes)
+        + 1 ≤ count (member t) (length v.nodes)
     falls k m =
         let e = (member-parts t k m).1 in
         let inside : k < length v.nodes = omega (arith, slice_get_within (turns_after t v).nodes k e.node e.at, after-length v l t) in
@@ -225,14 +259,21 @@ module _ (v : CableWorld) (l : IsLawful v) (done : ResetsAreDone v) (set core : 
   time-is (suc c) = let z : suc c * v.delay ≡ c * v.delay + v.delay = grind arith in omega (arith, z, time-is c)
 
   -- after so many times d turns so many are gone, or all
-  fewer : (c : ℕ) → (count (member (time c)) (length v.nodes) + c ≤ length v.nodes) ⊎ (count (member (time c)) (length v.nodes) ≡ 0)
+  fewer :
+      (c : ℕ) → (count (member (time c)) (length v.nodes) + c ≤ length v.nodes)
+      ⊎ (count (member (time c)) (length v.nodes) ≡ 0)
   fewer zero = inl (omega (arith, count-most (member (time zero)) (length v.nodes)))
   fewer (suc c) = go (fewer c) (count-found (member (time c)) (length v.nodes))
     where
-      less : count (member (time c + v.delay)) (length v.nodes) ≤ count (member (time c)) (length v.nodes)
+      less :
+          count (member (time c + v.delay)) (length v.nodes) ≤ count (member (time c))
+          (length v.nodes)
       less = count-le (member (time c + v.delay)) (member (time c)) (λ j. member-was (time c) v.delay j) (length v.nodes)
 
-      go : (count (member (time c)) (length v.nodes) + c ≤ length v.nodes) ⊎ (count (member (time c)) (length v.nodes) ≡ 0) → (count (member (time c)) (length v.nodes) ≡ 0) ⊎ ((k : ℕ) × (member (time c) k ≡ true)) →
+      go :
+          (count (member (time c)) (length v.nodes) + c ≤ length v.nodes)
+          ⊎ (count (member (time c)) (length v.nodes) ≡ 0) →
+          (count (member (time c)) (length v.nodes) ≡ 0) ⊎ ((k : ℕ) × (member (time c) k ≡ true)) →
           (count (member (time c + v.delay)) (length v.nodes) + suc c ≤ length v.nodes) ⊎ (count (member (time c + v.delay)) (length v.nodes) ≡ 0)
       go f (inl none) = inr (omega (arith, less, none))
       go (inr none) k = inr (omega (arith, less, none))
@@ -242,7 +283,10 @@ module _ (v : CableWorld) (l : IsLawful v) (done : ResetsAreDone v) (set core : 
   none-left = elim (fewer (length v.nodes)) [ inl f ↦ omega (arith, f) | inr none ↦ none ]
 
   -- so in the end each node knows its tree
-  pub all-taken : (i : ℕ) → 256 * v.delay + length v.nodes * v.delay ≤ i → (k : ℕ) (x : PortNode) → Holds set k → slice_get (turns_after i v).nodes k ≡ Some x → is_before_tree x.state.view.phase ≡ false
+  pub all-taken :
+      (i : ℕ) → 256 * v.delay + length v.nodes * v.delay ≤ i → (k : ℕ) (x : PortNode) →
+      Holds set k → slice_get (turns_after i v).nodes k ≡ Some x →
+      is_before_tree x.state.view.phase ≡ false
   all-taken i late k x h at = go (is_before_tree x.state.view.phase) refl
     where
       go : (b : Bool) → is_before_tree x.state.view.phase ≡ b → b ≡ false

@@ -1,5 +1,6 @@
--- Nodes in R1 and T0 in a turn in which no Reset comes: how they come there, and what keeps them there.
-use Rattle.std.proofs.Common.{◌≡◌, ◌⊎◌, inl, inr, ℕ, suc, ◌+◌, ◌<◌, ◌≤◌, Bool, true, false, not, ◌&&◌, ◌||◌, ◌==◌, cond, List, [], ◌∷◌, count_by, nat_le, if◌then◌else◌, refl, sym, ◌∙◌, ap, arith, true≢false}
+-- Nodes in R1 and T0 in a turn in which no Reset comes: how they come there, and what keeps them
+-- there.
+use Rattle.std.proofs.Common.{◌≡◌, ◌⊎◌, inl, inr, ℕ, suc, ◌+◌, ◌<◌, ◌≤◌, Bool, true, false, not, ◌&&◌, ◌||◌, ◌==◌, cond, List, [], ◌∷◌, count_by, nat_le, if◌then◌else◌, refl, sym, ap, arith, true≢false}
 use Rattle.std.proofs.lemmas.Bool.{leb-false, and_from}
 use Rattle.std.proofs.lemmas.Bool.Decides.{nat_tests}
 use Rattle.std.proofs.lemmas.List.Sums.{sum_by-cons}
@@ -15,18 +16,22 @@ use Rattle.port_state.specs.Row.{Row}
 use Rattle.port_state.specs.Tick.{raise_timer, row_of, does, next_row, tick}
 use Rattle.cable_world.specs.Phases.{is_before_tree, is_in_bus_reset}
 use Rattle.cable_world.proofs.turns.NodeFacts.{risen}
-use Rattle.cable_world.proofs.turns.TicksWell.{Chosen, chosen, elsewhere}
+use Rattle.cable_world.proofs.turns.TicksWell.{Chosen, chosen}
 
 -- ---- how a node comes there
 
-row-waiting : (coin : Bool) (r : Row) (x : NodeState) → Chosen r x → is_in_bus_reset (does coin r x).state.view.phase ≡ true → is_in_bus_reset x.view.phase ≡ true
+row-waiting :
+    (coin : Bool) (r : Row) (x : NodeState) → Chosen r x →
+    is_in_bus_reset (does coin r x).state.view.phase ≡ true → is_in_bus_reset x.view.phase ≡ true
 row-waiting coin row.none x c h = h
 row-waiting coin row.ends_reset x c h = ap is_in_bus_reset c.0
 row-waiting coin row.times_out x c h = h
 row-waiting coin (row.asks_child p) x c h = h
 row-waiting coin r x c h = absurd (true≢false (sym h))
 
-row-early : (coin : Bool) (r : Row) (x : NodeState) → Chosen r x → is_before_tree (does coin r x).state.view.phase ≡ true → is_before_tree x.view.phase ≡ true
+row-early :
+    (coin : Bool) (r : Row) (x : NodeState) → Chosen r x →
+    is_before_tree (does coin r x).state.view.phase ≡ true → is_before_tree x.view.phase ≡ true
 row-early coin row.none x c h = h
 row-early coin row.ends_reset x c h = ap is_before_tree c.0
 row-early coin row.begins_tree x c h = ap is_before_tree c.0
@@ -35,25 +40,39 @@ row-early coin (row.asks_child p) x c h = h
 row-early coin r x c h = absurd (true≢false (sym h))
 
 -- in R0 or R1 after a tick: so before
-pub was-waiting : (coin : Bool) (x : NodeState) → is_in_bus_reset (tick coin x).state.view.phase ≡ true → is_in_bus_reset x.view.phase ≡ true
+pub was-waiting :
+    (coin : Bool) (x : NodeState) → is_in_bus_reset (tick coin x).state.view.phase ≡ true →
+    is_in_bus_reset x.view.phase ≡ true
 unfolding tick
 was-waiting coin x h = row-waiting coin (next_row x) (raise_timer x) (chosen x.view.phase (raise_timer x) refl) h
 
-pub was-early : (coin : Bool) (x : NodeState) → is_before_tree (tick coin x).state.view.phase ≡ true → is_before_tree x.view.phase ≡ true
+pub was-early :
+    (coin : Bool) (x : NodeState) → is_before_tree (tick coin x).state.view.phase ≡ true →
+    is_before_tree x.view.phase ≡ true
 unfolding tick
 was-early coin x h = row-early coin (next_row x) (raise_timer x) (chosen x.view.phase (raise_timer x) refl) h
 
 -- ---- what keeps it there
 
 -- in R1: some port isn't calm
-pub waits-for : (coin : Bool) (x : NodeState) → x.view.phase ≡ phase.ResetWait → is_in_bus_reset (tick coin x).state.view.phase ≡ true → every (λ p. is_calm p.shown) x.view.ports ≡ false
+pub waits-for :
+    (coin : Bool) (x : NodeState) → x.view.phase ≡ phase.ResetWait →
+    is_in_bus_reset (tick coin x).state.view.phase ≡ true → every (λ p. is_calm p.shown)
+    x.view.ports ≡ false
 unfolding tick
 waits-for coin x e h = kept x.view.phase (raise_timer x) e h
   where
-    kept : (p : Phase) (y : NodeState) → p ≡ phase.ResetWait → is_in_bus_reset (does coin (row_of p y) y).state.view.phase ≡ true → every (λ q. is_calm q.shown) y.view.ports ≡ false
+    kept :
+        (p : Phase) (y : NodeState) → p ≡ phase.ResetWait →
+        is_in_bus_reset (does coin (row_of p y) y).state.view.phase ≡ true →
+        every (λ q. is_calm q.shown) y.view.ports ≡ false
     kept phase.ResetWait y e h = go (every (λ q. is_calm q.shown) y.view.ports) refl h
       where
-        go : (b : Bool) → every (λ q. is_calm q.shown) y.view.ports ≡ b → is_in_bus_reset (does coin (if b then row.begins_tree else row.none) y).state.view.phase ≡ true → b ≡ false
+        go :
+            (b : Bool) → every (λ q. is_calm q.shown) y.view.ports ≡ b →
+            is_in_bus_reset (does coin (if b then row.begins_tree else row.none) y).state.view.phase
+            ≡ true →
+            b ≡ false
         go false e h = refl
         go true e h = absurd (true≢false (sym h))
     kept p y e h = absurd cc
@@ -64,7 +83,9 @@ pub record StaysInStart (x y : NodeState) : Type 0 where
   pub timer : y.view.timer ≡ risen x.view.timer
   pub reports : x.timing.timeout ≤ y.view.timer → y.view.timed_out ≡ true
 
-pub stays-in-start : (coin : Bool) (x : NodeState) → x.view.phase ≡ phase.TreeStart → (tick coin x).state.view.phase ≡ phase.TreeStart → StaysInStart x (tick coin x).state
+pub stays-in-start :
+    (coin : Bool) (x : NodeState) → x.view.phase ≡ phase.TreeStart →
+    (tick coin x).state.view.phase ≡ phase.TreeStart → StaysInStart x (tick coin x).state
 unfolding tick
 stays-in-start coin x e h = kept x.view.phase e h
   where
@@ -74,11 +95,17 @@ stays-in-start coin x e h = kept x.view.phase e h
     Result : Row → Type 0
     Result r = StaysInStart x (does coin r (raise_timer x)).state
 
-    late : is_decided (raise_timer x) ≡ false → (b : Bool) → nat_le x.timing.timeout (raise_timer x).view.timer ≡ b → StaysInStart x (does coin (if b then row.times_out else row.none) (raise_timer x)).state
+    late :
+        is_decided (raise_timer x) ≡ false → (b : Bool) →
+        nat_le x.timing.timeout (raise_timer x).view.timer ≡ b →
+        StaysInStart x (does coin (if b then row.times_out else row.none) (raise_timer x)).state
     late d true t = record { undecided = d; timer = refl; reports = λ l. refl }
     late d false t = record { undecided = d; timer = refl; reports = λ l. absurd (omega (arith, l, leb-false x.timing.timeout (raise_timer x).view.timer t)) }
 
-    kept : (p : Phase) → p ≡ phase.TreeStart → (does coin (row_of p (raise_timer x)) (raise_timer x)).state.view.phase ≡ phase.TreeStart → StaysInStart x (does coin (row_of p (raise_timer x)) (raise_timer x)).state
+    kept :
+        (p : Phase) → p ≡ phase.TreeStart →
+        (does coin (row_of p (raise_timer x)) (raise_timer x)).state.view.phase ≡ phase.TreeStart →
+        StaysInStart x (does coin (row_of p (raise_timer x)) (raise_timer x)).state
     kept phase.TreeStart e h = go (is_decided (raise_timer x)) refl h
       where
         go : (b : Bool) → is_decided (raise_timer x) ≡ b →
@@ -91,7 +118,9 @@ stays-in-start coin x e h = kept x.view.phase e h
 -- ---- ports
 
 -- a test that each connected port passes
-pub every-from : (test : PortView → Bool) (ports : List PortView) → ((k : ℕ) → is_connected ports k ≡ true → port_is test ports k ≡ true) → every test ports ≡ true
+pub every-from :
+    (test : PortView → Bool) (ports : List PortView) →
+    ((k : ℕ) → is_connected ports k ≡ true → port_is test ports k ≡ true) → every test ports ≡ true
 every-from test [] h = refl
 every-from test (p ∷ ps) h = and_from _ _ (go p.connected (h 0)) (every-from test ps (λ k. h (suc k)))
   where
@@ -99,7 +128,9 @@ every-from test (p ∷ ps) h = and_from _ _ (go p.connected (h 0)) (every-from t
     go true f = f refl
     go false f = refl
 
-pub count-cons : (q : PortView → Bool) (p : PortView) (ps : List PortView) → count_by q (p ∷ ps) ≡ cond (q p) 1 0 + count_by q ps
+pub count-cons :
+    (q : PortView → Bool) (p : PortView) (ps : List PortView) → count_by q (p ∷ ps) ≡ cond (q p)
+    1 0 + count_by q ps
 count-cons q p ps = sum_by-cons (λ x. cond (q x) 1 0) p ps
 
 -- a connected port that shows no Parent
@@ -111,7 +142,9 @@ left-next : (p : PortView) (ps : List PortView) (k : ℕ) → Left ps k → Left
 left-next p ps k h = record { on = h.on; silent = h.silent }
 
 -- a first port asks, is left or has no cable
-split : (p : PortView) → ((p.connected ≡ true) × (is_parent p.shown ≡ false)) ⊎ ◌≡◌ {A = ℕ} (cond p.connected 1 0) (cond (asks p) 1 0)
+split :
+    (p : PortView) → ((p.connected ≡ true) × (is_parent p.shown ≡ false)) ⊎ ◌≡◌ {A = ℕ}
+    (cond p.connected 1 0) (cond (asks p) 1 0)
 split p = go p.connected (is_parent p.shown)
   where
     go : (c s : Bool) → ((c ≡ true) × (s ≡ false)) ⊎ ◌≡◌ {A = ℕ} (cond c 1 0) (cond (c && s) 1 0)
@@ -125,7 +158,9 @@ most p = go p.connected (is_parent p.shown)
     go : (c s : Bool) → cond c 1 0 ≤ cond (c && s) 1 0 + 1
     go c s = grind arith
 
-pub one-left : (ports : List PortView) → count_by asks ports + 1 ≤ connected_count ports → (k : ℕ) × Left ports k
+pub one-left :
+    (ports : List PortView) → count_by asks ports + 1 ≤ connected_count ports → (k : ℕ)
+    × Left ports k
 one-left [] h = absurd (omega (arith, h))
 one-left (p ∷ ps) h = elim (split p) [
   | inl a ↦ (0, record { on = a.0; silent = a.1 })
@@ -142,7 +177,8 @@ pub record TwoLeft (ports : List PortView) : Type 0 where
   pub low_left : Left ports low
   pub high_left : Left ports high
 
-pub two-left : (ports : List PortView) → count_by asks ports + 2 ≤ connected_count ports → TwoLeft ports
+pub two-left :
+    (ports : List PortView) → count_by asks ports + 2 ≤ connected_count ports → TwoLeft ports
 two-left [] h = absurd (omega (arith, h))
 two-left (p ∷ ps) h = elim (split p) [
   | inl a ↦
@@ -161,8 +197,11 @@ asks-few (p ∷ ps) = omega (arith, less p.connected (is_parent p.shown), asks-f
     less c s = grind arith
 
 -- once a node needn't wait, two ports keep it undecided
-pub undecided-two : (x : NodeState) → is_decided x ≡ false → x.timing.force ≤ x.view.timer → TwoLeft x.view.ports
+pub undecided-two :
+    (x : NodeState) → is_decided x ≡ false → x.timing.force ≤ x.view.timer → TwoLeft x.view.ports
 undecided-two x d f = two-left x.view.ports (short (count_by asks x.view.ports) (connected_count x.view.ports) (not x.view.force) x.timing.force x.view.timer d f (asks-few x.view.ports))
   where
-    short : (a c : ℕ) (b : Bool) (f t : ℕ) → ((a == c) || ((a + 1 == c) && (b || nat_le f t))) ≡ false → f ≤ t → a ≤ c → a + 2 ≤ c
+    short :
+        (a c : ℕ) (b : Bool) (f t : ℕ) → ((a == c) || ((a + 1 == c) && (b || nat_le f t))) ≡ false →
+        f ≤ t → a ≤ c → a + 2 ≤ c
     short a c b f t d l m = grind (arith, nat_tests)

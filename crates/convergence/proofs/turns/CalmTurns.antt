@@ -36,7 +36,9 @@ pub record Calmly (w : CableWorld) (k : ℕ) (y : NodeState) : Type 0 where
   pub heard : NoEntry node.state (hear_all (signals w k) node.state)
   pub is : y ≡ (tick (coin node.coins) (heard_by w k node)).state
 
-pub calmly : (w : CableWorld) → IsLawful w → NoneIn is_resetting w → (k : ℕ) (y : PortNode) → slice_get (turn w).nodes k ≡ Some y → Calmly w k y.state
+pub calmly :
+    (w : CableWorld) → IsLawful w → NoneIn is_resetting w → (k : ℕ) (y : PortNode) →
+    slice_get (turn w).nodes k ≡ Some y → Calmly w k y.state
 calmly w l calm k y at_y =
     let x = before w k y l.well_formed at_y in
     let h : HearsWell (signals w k) x.0.state = hears w k x.0 l.well_formed x.1 in
@@ -55,10 +57,14 @@ calmly w l calm k y at_y =
       is = ap (λ (u : PortNode). u.state) x.2 ∙ turn-state (signals w k) x.0;
     }
 
-pub waiting-before : (w : CableWorld) (k : ℕ) (y : NodeState) → (c : Calmly w k y) → is_in_bus_reset y.view.phase ≡ true → is_in_bus_reset c.node.state.view.phase ≡ true
+pub waiting-before :
+    (w : CableWorld) (k : ℕ) (y : NodeState) → (c : Calmly w k y) →
+    is_in_bus_reset y.view.phase ≡ true → is_in_bus_reset c.node.state.view.phase ≡ true
 waiting-before w k y c h = sym (ap is_in_bus_reset c.heard.phase) ∙ was-waiting (coin c.node.coins) (heard_by w k c.node) (sym (ap (λ (s : NodeState). is_in_bus_reset s.view.phase) c.is) ∙ h)
 
-pub early-before : (w : CableWorld) (k : ℕ) (y : NodeState) → (c : Calmly w k y) → is_before_tree y.view.phase ≡ true → is_before_tree c.node.state.view.phase ≡ true
+pub early-before :
+    (w : CableWorld) (k : ℕ) (y : NodeState) → (c : Calmly w k y) →
+    is_before_tree y.view.phase ≡ true → is_before_tree c.node.state.view.phase ≡ true
 early-before w k y c h = sym (ap is_before_tree c.heard.phase) ∙ was-early (coin c.node.coins) (heard_by w k c.node) (sym (ap (λ (s : NodeState). is_before_tree s.view.phase) c.is) ∙ h)
 
 pub not-waiting : (p : Phase) → is_in_bus_reset p ≡ false → is_resetting p ≡ false

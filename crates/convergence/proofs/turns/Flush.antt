@@ -1,5 +1,7 @@
--- What a node level_sent_at over a cable for d turns is shown at the other end. A wire that gives gives all that is under
--- way, so the other end then shows what was told last; and one that doesn't give for d turns has a signal that is due.
+-- What a node level_sent_at over a cable for d turns is shown at the other end. A wire that gives
+-- gives all that is under
+-- way, so the other end then shows what was told last; and one that doesn't give for d turns has a
+-- signal that is due.
 use Rattle.std.proofs.Common.{◌≡◌, ℕ, zero, suc, ◌+◌, ◌-◌, ◌<◌, ◌≤◌, Bool, true, false, List, [], ◌∷◌, ◌++◌, map, Some, slice_get, if◌then◌else◌, refl, sym, ◌∙◌, ap, subst, arith, add-one, true≢false}
 use Rattle.port_state.specs.declared.signal.Level.{Level}
 use Rattle.port_state.specs.declared.states.NodeState.{NodeState}
@@ -52,15 +54,20 @@ FrontSince n (t ∷ ts) = n ≤ t.age
 abbrev Due : ℕ → CableWorld → End → End → (Level → Bool) → Type 0
 Due n w a b test = (y : PortNode) → slice_get w.nodes b.node ≡ Some y → test (level_shown y.state b.port) ≡ false → FrontSince n (wire_of w a).signals
 
-front-older : (n : ℕ) (ts us : List Travelling) → FrontSince n ts → FrontSince (n + 1) (map age_signal ts ++ us)
+front-older :
+    (n : ℕ) (ts us : List Travelling) → FrontSince n ts → FrontSince (n + 1)
+    (map age_signal ts ++ us)
 front-older n [] us h = absurd h
 front-older n (t ∷ ts) us h = omega (arith, h)
 
-front-young : (n most : ℕ) (ts : List Travelling) → 1 ≤ n → most < n → AgesFall most ts → FrontSince n ts → ⊥
+front-young :
+    (n most : ℕ) (ts : List Travelling) → 1 ≤ n → most < n → AgesFall most ts → FrontSince n ts → ⊥
 front-young n most [] o less f h = h
 front-young n most (t ∷ ts) o less f h = omega (arith, o, less, f.0, h)
 
-module _ (w : CableWorld) (l : IsLawful w) (a b : End) (e : far w.cabling a ≡ Some b) (test : Level → Bool) (tell : Tells w a test) where
+module _
+    (w : CableWorld) (l : IsLawful w) (a b : End) (e : far w.cabling a ≡ Some b)
+    (test : Level → Bool) (tell : Tells w a test) where
   abbrev x : PortNode
   x = (joined-of w a b l.well_formed e).near
 
@@ -70,7 +77,9 @@ module _ (w : CableWorld) (l : IsLawful w) (a b : End) (e : far w.cabling a ≡ 
   back : far w.cabling b ≡ Some a
   back = l.well_formed.cabling.both_ways a b e
 
-  level : (y : PortNode) → slice_get w.nodes b.node ≡ Some y → level_after (level_shown y.state b.port) (signals_of (wire_of w a).signals) ≡ level_sent_at x.state a.port
+  level :
+      (y : PortNode) → slice_get w.nodes b.node ≡ Some y → level_after (level_shown y.state b.port)
+      (signals_of (wire_of w a).signals) ≡ level_sent_at x.state a.port
   level y at = l.agrees.levels a b x y e at_x at
 
   due-first : Due 0 w a b test
@@ -81,7 +90,10 @@ module _ (w : CableWorld) (l : IsLawful w) (a b : End) (e : far w.cabling a ≡ 
       go [] h = absurd (true≢false
           (sym (tell x at_x) ∙ ap test (sym (level y at) ∙ ap (λ ts. level_after (level_shown y.state b.port) (signals_of ts)) h) ∙ bad))
 
-  shown-after : (y : PortNode) → slice_get w.nodes b.node ≡ Some y → level_shown (turn_at w b.node y).node.state b.port ≡ level_after (level_shown y.state b.port) (if gives w.delay (age_wire (wire_of w a)) then signals_of (wire_of w a).signals else [])
+  shown-after :
+      (y : PortNode) → slice_get w.nodes b.node ≡ Some y →
+      level_shown (turn_at w b.node y).node.state b.port ≡ level_after (level_shown y.state b.port)
+      (if gives w.delay (age_wire (wire_of w a)) then signals_of (wire_of w a).signals else [])
   shown-after y at =
       ap (λ (s : NodeState). level_shown s b.port) (turn-state (inbox w 0 (ports_of w.cabling b.node)) y)
       ∙ (ticks w b.node y l.well_formed at).shown b.port
@@ -94,15 +106,22 @@ module _ (w : CableWorld) (l : IsLawful w) (a b : End) (e : far w.cabling a ≡ 
       subst (FrontSince (n + 1)) (sym (side-wire w a b x l.well_formed e at_x))
       (go y.0 y.1 (gives w.delay (age_wire (wire_of w a))) (sym (ap (λ (u : PortNode). level_shown u.state b.port) y.2 ∙ shown-after y.0 y.1)))
     where
-      go : (y : PortNode) → slice_get w.nodes b.node ≡ Some y → (g : Bool) → level_after (level_shown y.state b.port) (if g then signals_of (wire_of w a).signals else []) ≡ level_shown z.state b.port →
+      go :
+          (y : PortNode) → slice_get w.nodes b.node ≡ Some y → (g : Bool) →
+          level_after (level_shown y.state b.port)
+          (if g then signals_of (wire_of w a).signals else []) ≡ level_shown z.state b.port →
           FrontSince (n + 1) ((if g then [] else map age_signal (wire_of w a).signals) ++ map new_signal (departures (side w a x)))
       go y at true s = absurd (true≢false (sym (tell x at_x) ∙ ap test (sym (level y at) ∙ s) ∙ bad))
       go y at false s = front-older n (wire_of w a).signals (map new_signal (departures (side w a x))) (due y at (ap test s ∙ bad))
 
 -- ---- d turns
 
--- a node level_sent_at what passes a test for as long as some condition holds, which held before where it holds
-module _ (w : CableWorld) (l : IsLawful w) (a b : End) (e : far w.cabling a ≡ Some b) (test : Level → Bool) (C : ℕ → Type 0) (was : (i : ℕ) → C (i + 1) → C i) (tell : (i : ℕ) → C i → Tells (turns_after i w) a test) where
+-- a node level_sent_at what passes a test for as long as some condition holds, which held before
+-- where it holds
+module _
+    (w : CableWorld) (l : IsLawful w) (a b : End) (e : far w.cabling a ≡ Some b)
+    (test : Level → Bool) (C : ℕ → Type 0) (was : (i : ℕ) → C (i + 1) → C i)
+    (tell : (i : ℕ) → C i → Tells (turns_after i w) a test) where
   cable : (i : ℕ) → far (turns_after i w).cabling a ≡ Some b
   cable i = ap (λ (c : Wiring). far c a) (after-cabling i w) ∙ e
 

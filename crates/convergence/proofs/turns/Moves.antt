@@ -38,21 +38,29 @@ pub record DrewNone (x y : NodeState) : Type 0 where
   pub first_draws : y.view.first_draws ≡ x.view.first_draws
   pub wait : y.view.wait ≡ x.view.wait
 
-level-at : (test : Level → Bool) (l : Level) → ((m : Level) → test m ≡ true → m ≡ l) → (x : NodeState) (p : ℕ) → port_is (λ q. test q.shown) x.view.ports p ≡ true → level_shown x p ≡ l
+level-at :
+    (test : Level → Bool) (l : Level) → ((m : Level) → test m ≡ true → m ≡ l) → (x : NodeState)
+    (p : ℕ) → port_is (λ q. test q.shown) x.view.ports p ≡ true → level_shown x p ≡ l
 level-at test l only-one x p h = go (slice_get x.view.ports p) h
   where
     go : (o : Option PortView) → passes (λ q. test q.shown) o ≡ true → shown_or_idle o ≡ l
     go None e = absurd (true≢false (sym e))
     go (Some q) e = only-one q.shown e
 
-not-at : (x : NodeState) (p : ℕ) → port_is (λ q. is_parent q.shown) x.view.ports p ≡ false → is_parent (level_shown x p) ≡ false
+not-at :
+    (x : NodeState) (p : ℕ) → port_is (λ q. is_parent q.shown) x.view.ports p ≡ false →
+    is_parent (level_shown x p) ≡ false
 not-at x p h = go (slice_get x.view.ports p) h
   where
-    go : (o : Option PortView) → passes (λ q. is_parent q.shown) o ≡ false → is_parent (shown_or_idle o) ≡ false
+    go :
+        (o : Option PortView) → passes (λ q. is_parent q.shown) o ≡ false →
+        is_parent (shown_or_idle o) ≡ false
     go None e = refl
     go (Some q) e = e
 
-drew : (coin : Bool) (x : NodeState) (p : ℕ) → Chosen (row.begins_contention p) x → Drew coin x (does coin (row.begins_contention p) x).state
+drew :
+    (coin : Bool) (x : NodeState) (p : ℕ) → Chosen (row.begins_contention p) x →
+    Drew coin x (does coin (row.begins_contention p) x).state
 drew coin x p c = record {
   before = c.0;
   port = p;
@@ -66,7 +74,9 @@ drew coin x p c = record {
   stays = refl;
 }
 
-drawing : (coin : Bool) (r : Row) (x : NodeState) → Chosen r x → Drew coin x (does coin r x).state ⊎ DrewNone x (does coin r x).state
+drawing :
+    (coin : Bool) (r : Row) (x : NodeState) → Chosen r x →
+    Drew coin x (does coin r x).state ⊎ DrewNone x (does coin r x).state
 drawing coin (row.begins_contention p) x c = inl (drew coin x p c)
 drawing coin r x c = inr (record { draws = refl; first_draws = refl; wait = refl })
 
@@ -86,7 +96,9 @@ pub record Accepted (x y : NodeState) : Type 0 where
 abbrev pub Shaken : Bool → NodeState → NodeState → List (ℕ × Signal) → Type 0
 Shaken coin x y sends = Shook x y sends ⊎ (Drew coin x y ⊎ ((x.view.parent ≡ None) ⊎ Accepted x y))
 
-shaking : (coin : Bool) (r : Row) (x : NodeState) → Chosen r x → is_shaking x.view.phase ≡ true → Shaken coin x (does coin r x).state (does coin r x).sends
+shaking :
+    (coin : Bool) (r : Row) (x : NodeState) → Chosen r x → is_shaking x.view.phase ≡ true →
+    Shaken coin x (does coin r x).state (does coin r x).sends
 shaking coin row.none x c h = inl (record { phase = h; parent = refl; sends_none = refl })
 shaking coin row.ends_reset x c h = absurd (elsewhere is_shaking c.0 refl h)
 shaking coin row.begins_tree x c h = absurd (elsewhere is_shaking c.0 refl h)
@@ -132,28 +144,39 @@ pub record AskedAgain (x y : NodeState) : Type 0 where
 abbrev pub Fought : NodeState → NodeState → List (ℕ × Signal) → Type 0
 Fought x y sends = Waited x y sends ⊎ (TookRival x y ⊎ AskedAgain x y)
 
-fighting : (coin : Bool) (x : NodeState) → IsSome x.view.parent → x.view.phase ≡ phase.Contend → Fought x (does coin (row_of phase.Contend x) x).state (does coin (row_of phase.Contend x) x).sends
+fighting :
+    (coin : Bool) (x : NodeState) → IsSome x.view.parent → x.view.phase ≡ phase.Contend →
+    Fought x (does coin (row_of phase.Contend x) x).state (does coin (row_of phase.Contend x) x).sends
 fighting coin x some c = over (nat_le x.view.wait x.view.timer) refl
   where
     Goal : Row → Type 0
     Goal r = Fought x (does coin r x).state (does coin r x).sends
 
-    sees : (p : ℕ) → x.view.parent ≡ Some p → x.view.wait ≤ x.view.timer → (b : Bool) → port_is (λ q. is_parent q.shown) x.view.ports p ≡ b → Goal (if b then row.takes_rival p else row.asks_again p)
+    sees :
+        (p : ℕ) → x.view.parent ≡ Some p → x.view.wait ≤ x.view.timer → (b : Bool) →
+        port_is (λ q. is_parent q.shown) x.view.ports p ≡ b →
+        Goal (if b then row.takes_rival p else row.asks_again p)
     sees p e t true s = inr (inl (record { over = t; port = p; parent = e; shown = level-at is_parent level.Parent is-parent x p s; phase = refl; root = refl }))
     sees p e t false s = inr (inr (record { over = t; port = p; parent = e; shown = not-at x p s; phase = refl; stays = refl }))
 
-    parent : (o : Option ℕ) → x.view.parent ≡ o → IsSome o → x.view.wait ≤ x.view.timer → Goal (contend_at o x)
+    parent :
+        (o : Option ℕ) → x.view.parent ≡ o → IsSome o → x.view.wait ≤ x.view.timer →
+        Goal (contend_at o x)
     parent None e s t = absurd cc
     parent (Some p) e s t = sees p e t (port_is (λ q. is_parent q.shown) x.view.ports p) refl
 
-    over : (b : Bool) → nat_le x.view.wait x.view.timer ≡ b → Goal (if b then contend_at x.view.parent x else row.none)
+    over :
+        (b : Bool) → nat_le x.view.wait x.view.timer ≡ b →
+        Goal (if b then contend_at x.view.parent x else row.none)
     over true t = parent x.view.parent refl some (leb-true _ _ t)
     over false t = inl (record { phase = c; parent = refl; timer = refl; not_yet = grind (arith, t); sends_none = refl })
 
 -- ---- phases
 
 -- past the tree stays past it
-late-on : (coin : Bool) (r : Row) (x : NodeState) → Chosen r x → is_before_tree x.view.phase ≡ false → is_before_tree (does coin r x).state.view.phase ≡ false
+late-on :
+    (coin : Bool) (r : Row) (x : NodeState) → Chosen r x → is_before_tree x.view.phase ≡ false →
+    is_before_tree (does coin r x).state.view.phase ≡ false
 late-on coin row.none x c h = h
 late-on coin row.ends_reset x c h = absurd (true≢false (sym (ap is_before_tree c.0) ∙ h))
 late-on coin row.begins_tree x c h = absurd (true≢false (sym (ap is_before_tree c.0) ∙ h))
@@ -162,7 +185,10 @@ late-on coin (row.asks_child p) x c h = h
 late-on coin r x c h = refl
 
 -- and begins in T0, with T1
-late-was : (coin : Bool) (r : Row) (x : NodeState) → Chosen r x → is_before_tree (does coin r x).state.view.phase ≡ false → (is_before_tree x.view.phase ≡ false) ⊎ ((x.view.phase ≡ phase.TreeStart) × ((does coin r x).state.view.phase ≡ phase.ChildShake))
+late-was :
+    (coin : Bool) (r : Row) (x : NodeState) → Chosen r x →
+    is_before_tree (does coin r x).state.view.phase ≡ false → (is_before_tree x.view.phase ≡ false)
+    ⊎ ((x.view.phase ≡ phase.TreeStart) × ((does coin r x).state.view.phase ≡ phase.ChildShake))
 late-was coin row.none x c h = inl h
 late-was coin row.takes_roles x c h = inr (c.0, refl)
 late-was coin row.times_out x c h = inl h
@@ -177,7 +203,10 @@ late-was coin row.names_itself x c h = inl (ap is_before_tree c)
 late-was coin r x c h = absurd (true≢false h)
 
 -- T3 goes on, or begins with a draw
-contending : (coin : Bool) (r : Row) (x : NodeState) → Chosen r x → (does coin r x).state.view.phase ≡ phase.Contend → (x.view.phase ≡ phase.Contend) ⊎ Drew coin x (does coin r x).state
+contending :
+    (coin : Bool) (r : Row) (x : NodeState) → Chosen r x →
+    (does coin r x).state.view.phase ≡ phase.Contend → (x.view.phase ≡ phase.Contend)
+    ⊎ Drew coin x (does coin r x).state
 contending coin row.none x c h = inl h
 contending coin row.times_out x c h = inl h
 contending coin (row.begins_contention p) x c h = inr (drew coin x p c)
@@ -185,7 +214,10 @@ contending coin (row.asks_child p) x c h = inl h
 contending coin r x c h = absurd (elsewhere is_contending (sym h) refl refl)
 
 -- T1 or T2 afterwards: it was that before, or in T0 or T3
-shaking-from : (coin : Bool) (r : Row) (x : NodeState) → Chosen r x → is_shaking (does coin r x).state.view.phase ≡ true → (is_shaking x.view.phase ≡ true) ⊎ ((x.view.phase ≡ phase.TreeStart) ⊎ (x.view.phase ≡ phase.Contend))
+shaking-from :
+    (coin : Bool) (r : Row) (x : NodeState) → Chosen r x →
+    is_shaking (does coin r x).state.view.phase ≡ true → (is_shaking x.view.phase ≡ true)
+    ⊎ ((x.view.phase ≡ phase.TreeStart) ⊎ (x.view.phase ≡ phase.Contend))
 shaking-from coin row.none x c h = inl h
 shaking-from coin row.takes_roles x c h = inr (inl c.0)
 shaking-from coin row.times_out x c h = inl h
@@ -197,21 +229,26 @@ shaking-from coin r x c h = absurd (true≢false (sym h))
 
 -- ---- of a tick
 
-pub tick-contending : (coin : Bool) (x : NodeState) → (tick coin x).state.view.phase ≡ phase.Contend → (x.view.phase ≡ phase.Contend) ⊎ Drew coin x (tick coin x).state
+pub tick-contending :
+    (coin : Bool) (x : NodeState) → (tick coin x).state.view.phase ≡ phase.Contend →
+    (x.view.phase ≡ phase.Contend) ⊎ Drew coin x (tick coin x).state
 unfolding tick
 tick-contending coin x h = elim (contending coin (next_row x) (raise_timer x) (chosen x.view.phase (raise_timer x) refl) h) [
   | inl a ↦ inl a
   | inr d ↦ inr (record { before = d.before; port = d.port; parent = d.parent; shown = d.shown; phase = d.phase; timer = d.timer; wait = d.wait; draws = d.draws; first_draws = d.first_draws; stays = d.stays })
 ]
 
-pub tick-draws : (coin : Bool) (x : NodeState) → Drew coin x (tick coin x).state ⊎ DrewNone x (tick coin x).state
+pub tick-draws :
+    (coin : Bool) (x : NodeState) → Drew coin x (tick coin x).state ⊎ DrewNone x (tick coin x).state
 unfolding tick
 tick-draws coin x = elim (drawing coin (next_row x) (raise_timer x) (chosen x.view.phase (raise_timer x) refl)) [
   | inl d ↦ inl (record { before = d.before; port = d.port; parent = d.parent; shown = d.shown; phase = d.phase; timer = d.timer; wait = d.wait; draws = d.draws; first_draws = d.first_draws; stays = d.stays })
   | inr d ↦ inr (record { draws = d.draws; first_draws = d.first_draws; wait = d.wait })
 ]
 
-pub tick-shaken : (coin : Bool) (x : NodeState) → is_shaking x.view.phase ≡ true → Shaken coin x (tick coin x).state (tick coin x).sends
+pub tick-shaken :
+    (coin : Bool) (x : NodeState) → is_shaking x.view.phase ≡ true →
+    Shaken coin x (tick coin x).state (tick coin x).sends
 unfolding tick
 tick-shaken coin x h = elim (shaking coin (next_row x) (raise_timer x) (chosen x.view.phase (raise_timer x) refl) h) [
   | inl d ↦ inl (record { phase = d.phase; parent = d.parent; sends_none = d.sends_none })
@@ -225,21 +262,31 @@ tick-shaken coin x h = elim (shaking coin (next_row x) (raise_timer x) (chosen x
 ]
 
 -- the timer rose before
-pub tick-fought : (coin : Bool) (x : NodeState) → IsValid x → x.view.phase ≡ phase.Contend → Fought (raise_timer x) (tick coin x).state (tick coin x).sends
+pub tick-fought :
+    (coin : Bool) (x : NodeState) → IsValid x → x.view.phase ≡ phase.Contend →
+    Fought (raise_timer x) (tick coin x).state (tick coin x).sends
 unfolding tick
 tick-fought coin x v c =
     let some : IsSome x.view.parent = (subst (λ f. FitsPhase f x.view.parent x.view.ports) c v.fits).1 in
     subst (λ f. Fought (raise_timer x) (does coin (row_of f (raise_timer x)) (raise_timer x)).state (does coin (row_of f (raise_timer x)) (raise_timer x)).sends) (sym c) (fighting coin (raise_timer x) some c)
 
-pub tick-late : (coin : Bool) (x : NodeState) → is_before_tree x.view.phase ≡ false → is_before_tree (tick coin x).state.view.phase ≡ false
+pub tick-late :
+    (coin : Bool) (x : NodeState) → is_before_tree x.view.phase ≡ false →
+    is_before_tree (tick coin x).state.view.phase ≡ false
 unfolding tick
 tick-late coin x h = late-on coin (next_row x) (raise_timer x) (chosen x.view.phase (raise_timer x) refl) h
 
-pub tick-late-was : (coin : Bool) (x : NodeState) → is_before_tree (tick coin x).state.view.phase ≡ false → (is_before_tree x.view.phase ≡ false) ⊎ ((x.view.phase ≡ phase.TreeStart) × ((tick coin x).state.view.phase ≡ phase.ChildShake))
+pub tick-late-was :
+    (coin : Bool) (x : NodeState) → is_before_tree (tick coin x).state.view.phase ≡ false →
+    (is_before_tree x.view.phase ≡ false)
+    ⊎ ((x.view.phase ≡ phase.TreeStart) × ((tick coin x).state.view.phase ≡ phase.ChildShake))
 unfolding tick
 tick-late-was coin x h = late-was coin (next_row x) (raise_timer x) (chosen x.view.phase (raise_timer x) refl) h
 
-pub tick-shaking-from : (coin : Bool) (x : NodeState) → is_shaking (tick coin x).state.view.phase ≡ true → (is_shaking x.view.phase ≡ true) ⊎ ((x.view.phase ≡ phase.TreeStart) ⊎ (x.view.phase ≡ phase.Contend))
+pub tick-shaking-from :
+    (coin : Bool) (x : NodeState) → is_shaking (tick coin x).state.view.phase ≡ true →
+    (is_shaking x.view.phase ≡ true)
+    ⊎ ((x.view.phase ≡ phase.TreeStart) ⊎ (x.view.phase ≡ phase.Contend))
 unfolding tick
 tick-shaking-from coin x h = shaking-from coin (next_row x) (raise_timer x) (chosen x.view.phase (raise_timer x) refl) h
 
@@ -255,20 +302,30 @@ shake-by coin true x c = inl (refl, refl)
 shake-by coin false x c = inr (refl, c)
 
 -- it goes on with that alone
-pub tick-child-shake : (coin : Bool) (x : NodeState) → x.view.phase ≡ phase.ChildShake → ((all_idle x ≡ true) × ((tick coin x).state.view.phase ≡ phase.ParentShake)) ⊎ ((all_idle x ≡ false) × ((tick coin x).state.view.phase ≡ phase.ChildShake))
+pub tick-child-shake :
+    (coin : Bool) (x : NodeState) → x.view.phase ≡ phase.ChildShake →
+    ((all_idle x ≡ true) × ((tick coin x).state.view.phase ≡ phase.ParentShake))
+    ⊎ ((all_idle x ≡ false) × ((tick coin x).state.view.phase ≡ phase.ChildShake))
 unfolding tick
 tick-child-shake coin x c = subst (λ f. ((all_idle x ≡ true) × ((does coin (row_of f (raise_timer x)) (raise_timer x)).state.view.phase ≡ phase.ParentShake)) ⊎ ((all_idle x ≡ false) × ((does coin (row_of f (raise_timer x)) (raise_timer x)).state.view.phase ≡ phase.ChildShake))) (sym c) (shake-by coin (all_idle (raise_timer x)) (raise_timer x) c)
 
 -- a child port that isn't idle
-idle-at : (ports : List PortView) (k : ℕ) → every (λ p. if p.child then is_idle p.shown else true) ports ≡ true → port_is (λ p. p.child) ports k ≡ true → is_connected ports k ≡ true → is_idle (shown_or_idle (slice_get ports k)) ≡ true
+idle-at :
+    (ports : List PortView) (k : ℕ) → every (λ p. if p.child then is_idle p.shown else true)
+    ports ≡ true → port_is (λ p. p.child) ports k ≡ true → is_connected ports k ≡ true →
+    is_idle (shown_or_idle (slice_get ports k)) ≡ true
 idle-at [] k e c on = absurd (true≢false (sym c))
 idle-at (p ∷ ps) zero e c on = go p.connected p.child (and_parts _ _ e).0 on c
   where
-    go : (b g : Bool) → (if b then (if g then is_idle p.shown else true) else true) ≡ true → b ≡ true → g ≡ true → is_idle p.shown ≡ true
+    go :
+        (b g : Bool) → (if b then (if g then is_idle p.shown else true) else true) ≡ true →
+        b ≡ true → g ≡ true → is_idle p.shown ≡ true
     go true true h e f = h
     go true false h e f = absurd cc
     go false g h e f = absurd cc
 idle-at (p ∷ ps) (suc k) e c on = idle-at ps k (and_parts _ _ e).1 c on
 
-pub child-idle : (x : NodeState) (k : ℕ) → all_idle x ≡ true → port_is (λ p. p.child) x.view.ports k ≡ true → is_connected x.view.ports k ≡ true → is_idle (level_shown x k) ≡ true
+pub child-idle :
+    (x : NodeState) (k : ℕ) → all_idle x ≡ true → port_is (λ p. p.child) x.view.ports k ≡ true →
+    is_connected x.view.ports k ≡ true → is_idle (level_shown x k) ≡ true
 child-idle x k e c on = idle-at x.view.ports k e c on

@@ -26,24 +26,31 @@ abbrev pub is_tree_start : Phase → Bool
 is_tree_start phase.TreeStart = true
 is_tree_start h = false
 
-pub early-parentless : (x : NodeState) → IsValid x → is_before_tree x.view.phase ≡ true → x.view.parent ≡ None
+pub early-parentless :
+    (x : NodeState) → IsValid x → is_before_tree x.view.phase ≡ true → x.view.parent ≡ None
 early-parentless x v h = fits x.view.phase h v.fits
   where
-    fits : (h : Phase) → is_before_tree h ≡ true → FitsPhase h x.view.parent x.view.ports → x.view.parent ≡ None
+    fits :
+        (h : Phase) → is_before_tree h ≡ true → FitsPhase h x.view.parent x.view.ports →
+        x.view.parent ≡ None
     fits phase.ResetStart e f = f.1
     fits phase.ResetWait e f = f.1
     fits phase.TreeStart e f = f.1
     fits h e f = absurd cc
 
 -- a node with a parent port knows its tree
-pub parent-late : (x : NodeState) → IsValid x → (k : ℕ) → is_port x.view.parent k ≡ true → is_before_tree x.view.phase ≡ false
+pub parent-late :
+    (x : NodeState) → IsValid x → (k : ℕ) → is_port x.view.parent k ≡ true →
+    is_before_tree x.view.phase ≡ false
 parent-late x v k p = go (is_before_tree x.view.phase) refl
   where
     go : (b : Bool) → is_before_tree x.view.phase ≡ b → b ≡ false
     go false e = refl
     go true e = absurd (true≢false (sym p ∙ ap (λ o. is_port o k) (early-parentless x v e)))
 
-pub child-late : (x : NodeState) → IsValid x → (k : ℕ) → leads_down x.view.ports k ≡ true → is_before_tree x.view.phase ≡ false
+pub child-late :
+    (x : NodeState) → IsValid x → (k : ℕ) → leads_down x.view.ports k ≡ true →
+    is_before_tree x.view.phase ≡ false
 child-late x v k c = go (is_before_tree x.view.phase) refl
   where
     go : (b : Bool) → is_before_tree x.view.phase ≡ b → b ≡ false
@@ -53,12 +60,17 @@ child-late x v k c = go (is_before_tree x.view.phase) refl
 -- ---- a tick
 
 -- a node gets a parent port in T0 alone
-parent-by : (coin : Bool) (r : Row) (x : NodeState) (k : ℕ) → Chosen r x → is_port (does coin r x).state.view.parent k ≡ true → (is_port x.view.parent k ≡ true) ⊎ (x.view.phase ≡ phase.TreeStart)
+parent-by :
+    (coin : Bool) (r : Row) (x : NodeState) (k : ℕ) → Chosen r x →
+    is_port (does coin r x).state.view.parent k ≡ true → (is_port x.view.parent k ≡ true)
+    ⊎ (x.view.phase ≡ phase.TreeStart)
 parent-by coin row.takes_roles x k c h = inr c.0
 parent-by coin (row.takes_rival p) x k c h = absurd (true≢false (sym h))
 parent-by coin r x k c h = inl h
 
-pub parent-was : (coin : Bool) (x : NodeState) (k : ℕ) → is_port (tick coin x).state.view.parent k ≡ true → (is_port x.view.parent k ≡ true) ⊎ (x.view.phase ≡ phase.TreeStart)
+pub parent-was :
+    (coin : Bool) (x : NodeState) (k : ℕ) → is_port (tick coin x).state.view.parent k ≡ true →
+    (is_port x.view.parent k ≡ true) ⊎ (x.view.phase ≡ phase.TreeStart)
 unfolding tick
 parent-was coin x k h = parent-by coin (next_row x) (raise_timer x) k (chosen x.view.phase (raise_timer x) refl) h
 
@@ -68,14 +80,20 @@ parent-was coin x k h = parent-by coin (next_row x) (raise_timer x) k (chosen x.
 abbrev pub takes : NodeState → NodeState → Bool
 takes x y = (is_tree_start x.view.phase && not (is_before_tree y.view.phase)) || (is_contending x.view.phase && not (is_some y.view.parent))
 
-takes-tree : (x y : NodeState) → x.view.phase ≡ phase.TreeStart → is_before_tree y.view.phase ≡ false → takes x y ≡ true
+takes-tree :
+    (x y : NodeState) → x.view.phase ≡ phase.TreeStart → is_before_tree y.view.phase ≡ false →
+    takes x y ≡ true
 takes-tree x y t e = or_left _ _ (and_from _ _ (ap is_tree_start t) (ap not e))
 
-takes-flip : (x y : NodeState) → x.view.phase ≡ phase.Contend → is_some y.view.parent ≡ false → takes x y ≡ true
+takes-flip :
+    (x y : NodeState) → x.view.phase ≡ phase.Contend → is_some y.view.parent ≡ false →
+    takes x y ≡ true
 takes-flip x y t e = or_right _ _ (and_from _ _ (ap is_contending t) (ap not e))
 
 -- one that takes roles and has a parent port afterwards was in T0
-pub takes-start : (x y : NodeState) (k : ℕ) → takes x y ≡ true → is_port y.view.parent k ≡ true → x.view.phase ≡ phase.TreeStart
+pub takes-start :
+    (x y : NodeState) (k : ℕ) → takes x y ≡ true → is_port y.view.parent k ≡ true →
+    x.view.phase ≡ phase.TreeStart
 takes-start x y k t p = elim (or_cases (in_start && not (is_before_tree y.view.phase)) (contends && not (is_some y.view.parent)) t) [
   | inl a ↦ is x.view.phase (and_parts in_start (not (is_before_tree y.view.phase)) a).0
   | inr a ↦ absurd (true≢false (sym p ∙ none y.view.parent (and_parts contends (not (is_some y.view.parent)) a).1))
@@ -95,7 +113,9 @@ takes-start x y k t p = elim (or_cases (in_start && not (is_before_tree y.view.p
     none None e = refl
     none (Some j) e = absurd (true≢false (sym e))
 
-module _ (signals : List (ℕ × Signal)) (coin : Bool) (x : NodeState) (h : HearsWell signals x) (t : TicksWell coin (hear_all signals x).state) where
+module _
+    (signals : List (ℕ × Signal)) (coin : Bool) (x : NodeState) (h : HearsWell signals x)
+    (t : TicksWell coin (hear_all signals x).state) where
   abbrev heard : NodeState
   heard = (hear_all signals x).state
 
@@ -109,7 +129,9 @@ module _ (signals : List (ℕ × Signal)) (coin : Bool) (x : NodeState) (h : Hea
   other-phase p a b = cc
 
   -- a parent port was that before, unless the node took its roles
-  pub parent-before : (k : ℕ) → is_port after.view.parent k ≡ true → takes x after ≡ false → is_port x.view.parent k ≡ true
+  pub parent-before :
+      (k : ℕ) → is_port after.view.parent k ≡ true → takes x after ≡ false →
+      is_port x.view.parent k ≡ true
   parent-before k p none = elim h.cases [
     | inl s ↦ elim (parent-was coin heard k p) [
       | inl was ↦ sym (ap (λ o. is_port o k) s.parent) ∙ was
@@ -129,7 +151,10 @@ module _ (signals : List (ℕ × Signal)) (coin : Bool) (x : NodeState) (h : Hea
       × (((x.view.phase ≡ phase.TreeStart) × (level_shown heard k ≡ level.Parent)) ⊎ (x.view.phase ≡ phase.Contend))
 
   -- a node whose parent port became a child port has no parent port
-  flipped : (k : ℕ) → is_connected x.view.ports k ≡ true → leads_down after.view.ports k ≡ true → heard.view.phase ≡ phase.Contend → heard.view.parent ≡ Some k → is_some after.view.parent ≡ false
+  flipped :
+      (k : ℕ) → is_connected x.view.ports k ≡ true → leads_down after.view.ports k ≡ true →
+      heard.view.phase ≡ phase.Contend → heard.view.parent ≡ Some k →
+      is_some after.view.parent ≡ false
   flipped k on c contend parent = go after.view.parent refl
     where
       not-here : is_port after.view.parent k ≡ true → ⊥
@@ -152,7 +177,9 @@ module _ (signals : List (ℕ × Signal)) (coin : Bool) (x : NodeState) (h : Hea
             | inr start ↦ phases heard.view.phase contend start
           ])
 
-  pub child-before : (k : ℕ) → is_connected x.view.ports k ≡ true → leads_down after.view.ports k ≡ true → (leads_down x.view.ports k ≡ true) ⊎ Became k
+  pub child-before :
+      (k : ℕ) → is_connected x.view.ports k ≡ true → leads_down after.view.ports k ≡ true →
+      (leads_down x.view.ports k ≡ true) ⊎ Became k
   child-before k on c = elim h.cases [
     | inl s ↦ elim (t.child k (h.cables k ∙ on) c) [
       | inl was ↦ inl (sym (s.child k) ∙ was)
@@ -167,7 +194,9 @@ module _ (signals : List (ℕ × Signal)) (coin : Bool) (x : NodeState) (h : Hea
       phases : (p : Phase) → p ≡ phase.ResetStart → p ≡ phase.Contend → ⊥
       phases p a b = cc
 
-      begun : EntersReset x (hear_all signals x) → (leads_down heard.view.ports k ≡ true) ⊎ (((heard.view.phase ≡ phase.TreeStart) × (level_shown heard k ≡ level.Parent)) ⊎
+      begun :
+          EntersReset x (hear_all signals x) → (leads_down heard.view.ports k ≡ true)
+          ⊎ (((heard.view.phase ≡ phase.TreeStart) × (level_shown heard k ≡ level.Parent)) ⊎
           ((heard.view.phase ≡ phase.Contend) × (heard.view.parent ≡ Some k) × (level_shown heard k ≡ level.Parent) × (heard.view.wait ≤ risen heard.view.timer))) → ⊥
       begun b (inl was) = not-both (leads_down heard.view.ports k) was (early-childless heard h.valid k (begun-early b))
       begun b (inr (inl a)) = other-phase heard.view.phase b.phase a.0

@@ -1,4 +1,5 @@
--- What T1 and a parent port weigh: a tick of a node past T0 makes it no heavier, and it gets lighter where it leaves T1.
+-- What T1 and a parent port weigh: a tick of a node past T0 makes it no heavier, and it gets
+-- lighter where it leaves T1.
 use Rattle.std.proofs.Common.{◌≡◌, ◌⊎◌, inl, inr, ℕ, zero, suc, ◌+◌, ◌*◌, ◌<◌, ◌≤◌, Bool, true, false, ◌&&◌, cond, List, [], ◌∷◌, Option, Some, None, is_some, slice_get, refl, sym, ◌∙◌, ap, subst, arith, true≢false, if◌then◌else◌}
 use Rattle.std.proofs.lemmas.Bool.{cases_eq, eqb-true}
 use Rattle.port_state.specs.declared.signal.Level.{Level}
@@ -40,7 +41,8 @@ is-child-shake phase.ChildShake h = refl
 is-child-shake f h = absurd (true≢false (sym h))
 
 -- a node in T1 that weighs as much as before is in T1
-pub still-shakes : (f : Phase) (o p : Option ℕ) → weigh f o ≡ weigh phase.ChildShake p → f ≡ phase.ChildShake
+pub still-shakes :
+    (f : Phase) (o p : Option ℕ) → weigh f o ≡ weigh phase.ChildShake p → f ≡ phase.ChildShake
 still-shakes f o p h = is-child-shake f (go (is_child_shake f) (is_some o) (is_some p) h)
   where
     go : (b c e : Bool) → cond b 1 0 + cond c 2 0 ≡ 1 + cond e 2 0 → b ≡ true
@@ -53,7 +55,9 @@ still-shakes f o p h = is-child-shake f (go (is_child_shake f) (is_some o) (is_s
 early-late : (f g : Phase) → f ≡ g → is_before_tree g ≡ true → is_before_tree f ≡ false → ⊥
 early-late f g e h l = true≢false (sym (ap is_before_tree e ∙ h) ∙ l)
 
-row-weight : (coin : Bool) (r : Row) (x : NodeState) → Chosen r x → is_before_tree x.view.phase ≡ false → weight (does coin r x).state ≤ weight x
+row-weight :
+    (coin : Bool) (r : Row) (x : NodeState) → Chosen r x → is_before_tree x.view.phase ≡ false →
+    weight (does coin r x).state ≤ weight x
 row-weight coin row.none x c l = omega arith
 row-weight coin row.ends_reset x c l = absurd (early-late x.view.phase phase.ResetStart c.0 refl l)
 row-weight coin row.begins_tree x c l = absurd (early-late x.view.phase phase.ResetWait c.0 refl l)
@@ -68,13 +72,18 @@ row-weight coin (row.asks_again p) x c l = omega arith
 row-weight coin (row.asks_child p) x c l = omega arith
 row-weight coin row.names_itself x c l = omega arith
 
-pub tick-weight : (coin : Bool) (x : NodeState) → is_before_tree x.view.phase ≡ false → weight (tick coin x).state ≤ weight x
+pub tick-weight :
+    (coin : Bool) (x : NodeState) → is_before_tree x.view.phase ≡ false →
+    weight (tick coin x).state ≤ weight x
 unfolding tick
 tick-weight coin x l = row-weight coin (next_row x) (raise_timer x) (chosen x.view.phase (raise_timer x) refl) l
 
 -- ---- where T1 and T2 come from
 
-child-shake-by : (coin : Bool) (r : Row) (x : NodeState) → Chosen r x → (does coin r x).state.view.phase ≡ phase.ChildShake → (x.view.phase ≡ phase.ChildShake) ⊎ ((x.view.phase ≡ phase.TreeStart) ⊎ (x.view.phase ≡ phase.Contend))
+child-shake-by :
+    (coin : Bool) (r : Row) (x : NodeState) → Chosen r x →
+    (does coin r x).state.view.phase ≡ phase.ChildShake → (x.view.phase ≡ phase.ChildShake)
+    ⊎ ((x.view.phase ≡ phase.TreeStart) ⊎ (x.view.phase ≡ phase.Contend))
 child-shake-by coin row.none x c h = inl h
 child-shake-by coin row.takes_roles x c h = inr (inl c.0)
 child-shake-by coin row.times_out x c h = inl h
@@ -82,11 +91,17 @@ child-shake-by coin (row.takes_rival p) x c h = inr (inr c.0)
 child-shake-by coin (row.asks_child p) x c h = inl h
 child-shake-by coin r x c h = absurd cc
 
-pub tick-child-shake-by : (coin : Bool) (x : NodeState) → (tick coin x).state.view.phase ≡ phase.ChildShake → (x.view.phase ≡ phase.ChildShake) ⊎ ((x.view.phase ≡ phase.TreeStart) ⊎ (x.view.phase ≡ phase.Contend))
+pub tick-child-shake-by :
+    (coin : Bool) (x : NodeState) → (tick coin x).state.view.phase ≡ phase.ChildShake →
+    (x.view.phase ≡ phase.ChildShake)
+    ⊎ ((x.view.phase ≡ phase.TreeStart) ⊎ (x.view.phase ≡ phase.Contend))
 unfolding tick
 tick-child-shake-by coin x h = child-shake-by coin (next_row x) (raise_timer x) (chosen x.view.phase (raise_timer x) refl) h
 
-parent-shake-by : (coin : Bool) (r : Row) (x : NodeState) → Chosen r x → (does coin r x).state.view.phase ≡ phase.ParentShake → (x.view.phase ≡ phase.ParentShake) ⊎ ((x.view.phase ≡ phase.ChildShake) ⊎ (x.view.phase ≡ phase.Contend))
+parent-shake-by :
+    (coin : Bool) (r : Row) (x : NodeState) → Chosen r x →
+    (does coin r x).state.view.phase ≡ phase.ParentShake → (x.view.phase ≡ phase.ParentShake)
+    ⊎ ((x.view.phase ≡ phase.ChildShake) ⊎ (x.view.phase ≡ phase.Contend))
 parent-shake-by coin row.none x c h = inl h
 parent-shake-by coin row.awaits_parent x c h = inr (inl c)
 parent-shake-by coin row.times_out x c h = inl h
@@ -94,7 +109,10 @@ parent-shake-by coin (row.asks_again p) x c h = inr (inr c.0)
 parent-shake-by coin (row.asks_child p) x c h = inl h
 parent-shake-by coin r x c h = absurd cc
 
-pub tick-parent-shake-by : (coin : Bool) (x : NodeState) → (tick coin x).state.view.phase ≡ phase.ParentShake → (x.view.phase ≡ phase.ParentShake) ⊎ ((x.view.phase ≡ phase.ChildShake) ⊎ (x.view.phase ≡ phase.Contend))
+pub tick-parent-shake-by :
+    (coin : Bool) (x : NodeState) → (tick coin x).state.view.phase ≡ phase.ParentShake →
+    (x.view.phase ≡ phase.ParentShake)
+    ⊎ ((x.view.phase ≡ phase.ChildShake) ⊎ (x.view.phase ≡ phase.Contend))
 unfolding tick
 tick-parent-shake-by coin x h = parent-shake-by coin (next_row x) (raise_timer x) (chosen x.view.phase (raise_timer x) refl) h
 
@@ -105,15 +123,22 @@ pub the-port : (o : Option ℕ) (k : ℕ) → is_port o k ≡ true → o ≡ Som
 the-port None k h = absurd (true≢false (sym h))
 the-port (Some p) k h = ap Some (eqb-true p k h)
 
-port-shows : (test : Level → Bool) (x : NodeState) (k : ℕ) → is_connected x.view.ports k ≡ true → test (level_shown x k) ≡ true → port_is (λ q. test q.shown) x.view.ports k ≡ true
+port-shows :
+    (test : Level → Bool) (x : NodeState) (k : ℕ) → is_connected x.view.ports k ≡ true →
+    test (level_shown x k) ≡ true → port_is (λ q. test q.shown) x.view.ports k ≡ true
 port-shows test x k on h = go (slice_get x.view.ports k) on h
   where
-    go : (o : Option PortView) → passes (λ q. q.connected) o ≡ true → test (shown_or_idle o) ≡ true → passes (λ q. test q.shown) o ≡ true
+    go :
+        (o : Option PortView) → passes (λ q. q.connected) o ≡ true → test (shown_or_idle o) ≡ true →
+        passes (λ q. test q.shown) o ≡ true
     go None e h = absurd (true≢false (sym e))
     go (Some q) e h = h
 
 -- a node in T2 whose parent port shows Child goes on
-pub tick-accepted : (coin : Bool) (x : NodeState) (k : ℕ) → x.view.phase ≡ phase.ParentShake → is_port x.view.parent k ≡ true → is_connected x.view.ports k ≡ true → is_child (level_shown x k) ≡ true → (tick coin x).state.view.phase ≡ phase.SelfIdent
+pub tick-accepted :
+    (coin : Bool) (x : NodeState) (k : ℕ) → x.view.phase ≡ phase.ParentShake →
+    is_port x.view.parent k ≡ true → is_connected x.view.ports k ≡ true → is_child (level_shown x k)
+    ≡ true → (tick coin x).state.view.phase ≡ phase.SelfIdent
 unfolding tick
 tick-accepted coin x k c u on s =
     subst (λ f. (does coin (row_of f (raise_timer x)) (raise_timer x)).state.view.phase ≡ phase.SelfIdent) (sym c)
@@ -135,16 +160,22 @@ some-busy x h = let r = go x.view.ports h in record { port = r.0; on = r.1; chil
     Found : List PortView → Type 0
     Found ps = (k : ℕ) × (is_connected ps k ≡ true) × (leads_down ps k ≡ true) × (is_idle (shown_or_idle (slice_get ps k)) ≡ false)
 
-    first : (p : PortView) (ps : List PortView) (b c : Bool) → p.connected ≡ b → p.child ≡ c → (if b then (if c then is_idle p.shown else true) else true) ≡ false → Found (p ∷ ps)
+    first :
+        (p : PortView) (ps : List PortView) (b c : Bool) → p.connected ≡ b → p.child ≡ c →
+        (if b then (if c then is_idle p.shown else true) else true) ≡ false → Found (p ∷ ps)
     first p ps true true e f h = (0, e, f, h)
     first p ps true false e f h = absurd (true≢false h)
     first p ps false c e f h = absurd (true≢false h)
 
-    go : (ps : List PortView) → every (λ p. if p.child then is_idle p.shown else true) ps ≡ false → Found ps
+    go :
+        (ps : List PortView) → every (λ p. if p.child then is_idle p.shown else true) ps ≡ false →
+        Found ps
     go [] h = absurd (true≢false h)
     go (p ∷ ps) h = two (if p.connected then (if p.child then is_idle p.shown else true) else true) refl h (go ps)
       where
-        two : (b : Bool) → (if p.connected then (if p.child then is_idle p.shown else true) else true) ≡ b → (b && every (λ p. if p.child then is_idle p.shown else true) ps) ≡ false →
+        two :
+            (b : Bool) → (if p.connected then (if p.child then is_idle p.shown else true) else true)
+            ≡ b → (b && every (λ p. if p.child then is_idle p.shown else true) ps) ≡ false →
             (every (λ p. if p.child then is_idle p.shown else true) ps ≡ false → Found ps) → Found (p ∷ ps)
         two false e h rest = first p ps p.connected p.child refl refl e
         two true e h rest = let r = rest h in (suc r.0, r.1, r.2, r.3)
@@ -168,7 +199,9 @@ module _ (f g : ℕ → ℕ) (less : (k : ℕ) → f k ≤ g k) where
   total-less zero j h s = absurd (omega (arith, h))
   total-less (suc n) j h s = go (total-less n j)
     where
-      go : (j < n → f j + 1 ≤ g j → total f n + 1 ≤ total g n) → total f n + f n + 1 ≤ total g n + g n
+      go :
+          (j < n → f j + 1 ≤ g j → total f n + 1 ≤ total g n) →
+          total f n + f n + 1 ≤ total g n + g n
       go before = elim (cases_eq j n) [
         | inl same ↦ omega (arith, total-le n, ap f same, ap g same, s)
         | inr ne ↦ omega (arith, before (omega (arith, h, ne)) s, less n)
@@ -176,7 +209,9 @@ module _ (f g : ℕ → ℕ) (less : (k : ℕ) → f k ≤ g k) where
 
 -- ---- past tree identify
 
-identifying-on : (coin : Bool) (r : Row) (x : NodeState) → Chosen r x → is_identifying x.view.phase ≡ true → is_identifying (does coin r x).state.view.phase ≡ true
+identifying-on :
+    (coin : Bool) (r : Row) (x : NodeState) → Chosen r x → is_identifying x.view.phase ≡ true →
+    is_identifying (does coin r x).state.view.phase ≡ true
 identifying-on coin row.none x c h = h
 identifying-on coin row.ends_reset x c h = absurd (elsewhere is_identifying c.0 refl h)
 identifying-on coin row.begins_tree x c h = absurd (elsewhere is_identifying c.0 refl h)
@@ -191,19 +226,26 @@ identifying-on coin (row.asks_again p) x c h = absurd (elsewhere is_identifying 
 identifying-on coin (row.asks_child p) x c h = h
 identifying-on coin row.names_itself x c h = refl
 
-pub tick-identifying : (coin : Bool) (x : NodeState) → is_identifying x.view.phase ≡ true → is_identifying (tick coin x).state.view.phase ≡ true
+pub tick-identifying :
+    (coin : Bool) (x : NodeState) → is_identifying x.view.phase ≡ true →
+    is_identifying (tick coin x).state.view.phase ≡ true
 unfolding tick
 tick-identifying coin x h = identifying-on coin (next_row x) (raise_timer x) (chosen x.view.phase (raise_timer x) refl) h
 
 -- a node in T2 with no parent port becomes root
-pub tick-root : (coin : Bool) (x : NodeState) → x.view.phase ≡ phase.ParentShake → x.view.parent ≡ None → (tick coin x).state.view.phase ≡ phase.SelfIdent
+pub tick-root :
+    (coin : Bool) (x : NodeState) → x.view.phase ≡ phase.ParentShake → x.view.parent ≡ None →
+    (tick coin x).state.view.phase ≡ phase.SelfIdent
 unfolding tick
 tick-root coin x c e =
     subst (λ f. (does coin (row_of f (raise_timer x)) (raise_timer x)).state.view.phase ≡ phase.SelfIdent) (sym c)
     (subst (λ o. (does coin (parent_shake_at o (raise_timer x)) (raise_timer x)).state.view.phase ≡ phase.SelfIdent) (sym e) refl)
 
 -- one whose parent port shows Parent draws
-pub tick-begins : (coin : Bool) (x : NodeState) (k : ℕ) → x.view.phase ≡ phase.ParentShake → is_port x.view.parent k ≡ true → is_connected x.view.ports k ≡ true → is_parent (level_shown x k) ≡ true → (tick coin x).state.view.phase ≡ phase.Contend
+pub tick-begins :
+    (coin : Bool) (x : NodeState) (k : ℕ) → x.view.phase ≡ phase.ParentShake →
+    is_port x.view.parent k ≡ true → is_connected x.view.ports k ≡ true →
+    is_parent (level_shown x k) ≡ true → (tick coin x).state.view.phase ≡ phase.Contend
 unfolding tick
 tick-begins coin x k c u on s =
     let no : port_is (λ q. is_child q.shown) x.view.ports k ≡ false = not-child (slice_get x.view.ports k) s in
@@ -215,6 +257,8 @@ tick-begins coin x k c u on s =
     clash : (m : Level) → is_parent m ≡ true → is_child m ≡ false
     clash m h = grind arith
 
-    not-child : (o : Option PortView) → is_parent (shown_or_idle o) ≡ true → passes (λ q. is_child q.shown) o ≡ false
+    not-child :
+        (o : Option PortView) → is_parent (shown_or_idle o) ≡ true → passes (λ q. is_child q.shown)
+        o ≡ false
     not-child None h = refl
     not-child (Some q) h = clash q.shown h
