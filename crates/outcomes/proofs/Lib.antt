@@ -1,0 +1,5 @@
+pub mod walks
+pub mod roots
+pub mod identify
+pub mod numbers
+pub mod forced

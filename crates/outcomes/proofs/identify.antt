@@ -1,0 +1,17 @@
+pub mod GreetTicks
+pub mod GreetsTurn
+pub mod HearAll
+pub mod Hearing
+pub mod Holders
+pub mod IdentifiesTurn
+pub mod IdentifyingActs
+pub mod IdentifyingTurn
+pub mod LinedHears
+pub mod LinedTicks
+pub mod LinedTurn
+pub mod Lines
+pub mod ListsFollow
+pub mod MarksKept
+pub mod Messages
+pub mod Ports
+pub mod StaysIdentifying
