@@ -126,7 +126,7 @@ module _ (w : CableWorld) (r : IsReached w) (first : ℕ) where
   same-decision : decision_turns start ≡ decision_turns w
   same-decision = rw (after-length w lawful first, after-delay w lawful first) refl
 
-  start-grown : turns_to_trees w ≤ first → TreesAreTaken start → IsGrown start
+  pub start-grown : turns_to_trees w ≤ first → TreesAreTaken start → IsGrown start
   start-grown late taken = record {
     lawful = start-lawful;
     acyclic = start-acyclic;

@@ -7,8 +7,8 @@ use Rattle.cabling.specs.NodeSet.{Holds, IsEmpty}
 use Rattle.cabling.specs.Component.{IsComponent}
 use Rattle.cabling.specs.Looped.{IsCore}
 use Rattle.port_state.specs.declared.signal.Phase.{Phase}
-use Rattle.port_state.specs.declared.signal.Phase.TheVariants.{TreeStart, SelfIdent, Ready}
-use Rattle.port_state.specs.Heard.{is_resetting}
+use Rattle.port_state.specs.declared.signal.Phase.TheVariants.{TreeStart}
+use Rattle.port_state.specs.Heard.{is_resetting, hears_packets}
 use Rattle.port_state.specs.Machine.{PortNode}
 use Rattle.cable_world.specs.World.{CableWorld, NodeNumber, NodeSet, wire_of}
 use Rattle.cable_world.specs.Phases.{is_before_tree, is_in_bus_reset}
@@ -56,17 +56,11 @@ KnowTheirTree w set =
 abbrev pub TreesAreTaken : CableWorld → Type 0
 TreesAreTaken w = OfTrees w (KnowTheirTree w)
 
--- S0 to S4, and A0: tree identify is over
-abbrev pub is_identifying : Phase → Bool
-is_identifying SelfIdent = true
-is_identifying Ready = true
-is_identifying phase = false
-
--- each node of a set identifies itself, or did
+-- each node of a set identifies itself, or did: tree identify is over
 abbrev pub AreIdentifying : CableWorld → NodeSet → Type 0
 AreIdentifying w set =
     (k : NodeNumber) (x : PortNode) → Holds set k → slice_get w.nodes k ≡ Some x →
-    is_identifying x.state.view.phase ≡ true
+    hears_packets x.state.view.phase ≡ true
 
 -- two nodes of a set contend, with 32 equal draws
 pub record HasContention (w : CableWorld) (set : NodeSet) : Type 0 where

@@ -3,3 +3,4 @@ pub mod roots
 pub mod identify
 pub mod numbers
 pub mod forced
+pub mod settled

@@ -11,5 +11,6 @@ pub mod NodeMarks
 pub mod Numbered
 pub mod Parents
 pub mod RootWalk
+pub mod Settled
 pub mod WalkMarks
 pub mod WaysUp

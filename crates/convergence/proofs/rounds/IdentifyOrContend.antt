@@ -160,7 +160,7 @@ share n d some =
 -- ---- a component without loop
 
 -- a world in which trees are taken, seen from one of its trees
-grown-of :
+pub grown-of :
     (w : CableWorld) (node set core : ℕ) → IsGrown w → IsComponent w.cabling node set →
     IsCore w.cabling set core → IsEmpty core → Grown w set
 grown-of w node set core g whole is empty = record {

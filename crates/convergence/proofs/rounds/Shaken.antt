@@ -12,6 +12,7 @@ use Rattle.port_state.specs.declared.signal.Phase.{Phase}
 use Rattle.port_state.specs.declared.signal.Phase.TheVariants as phase
 use Rattle.port_state.specs.declared.states.NodeState.{NodeState}
 use Rattle.port_state.specs.Coins.{coin}
+use Rattle.port_state.specs.Heard.{hears_packets}
 use Rattle.port_state.specs.Ports.{is_port}
 use Rattle.port_state.specs.Tick.{tick}
 use Rattle.port_state.specs.Valid.{FitsPhase, IsValid}
@@ -30,7 +31,7 @@ use Rattle.cable_world.proofs.coupling.Sides.{late-roles}
 use Rattle.convergence.specs.Acyclic.{IsChildCable}
 use Rattle.convergence.specs.Drawers.{AreMutual}
 use Rattle.convergence.specs.Roots.{IsRoot}
-use Rattle.convergence.specs.Milestones.{is_identifying, AreIdentifying}
+use Rattle.convergence.specs.Milestones.{AreIdentifying}
 use Rattle.convergence.proofs.turns.CalmTurns.{Calmly, heard_by}
 use Rattle.convergence.proofs.coins.Drawers.{parent-connected}
 use Rattle.convergence.proofs.turns.Flush.{turns-add}
@@ -171,10 +172,10 @@ module _ (set : ℕ) where
 -- ---- nobody in T1
 
 abbrev pub is_unrooted : PortNode → Bool
-is_unrooted x = (not (is_before_tree x.state.view.phase) && not (is_identifying x.state.view.phase)) && is_some x.state.view.parent
+is_unrooted x = (not (is_before_tree x.state.view.phase) && not (hears_packets x.state.view.phase)) && is_some x.state.view.parent
 
 phases-left :
-    (f : Phase) → is_before_tree f ≡ false → is_child_shake f ≡ false → is_identifying f ≡ false →
+    (f : Phase) → is_before_tree f ≡ false → is_child_shake f ≡ false → hears_packets f ≡ false →
     (f ≡ phase.ParentShake) ⊎ (f ≡ phase.Contend)
 phases-left f a b c = grind arith
 
@@ -188,9 +189,9 @@ module _ (w : CableWorld) (set : ℕ) (g : Grown w set) (none : NoneShakes w set
       v = valid-at w set g k p.node p.at
 
       parts :
-          ((not (is_before_tree p.node.state.view.phase) && not (is_identifying p.node.state.view.phase)) ≡ true)
+          ((not (is_before_tree p.node.state.view.phase) && not (hears_packets p.node.state.view.phase)) ≡ true)
           × (is_some p.node.state.view.parent ≡ true)
-      parts = and_parts (not (is_before_tree p.node.state.view.phase) && not (is_identifying p.node.state.view.phase)) (is_some p.node.state.view.parent) p.passes
+      parts = and_parts (not (is_before_tree p.node.state.view.phase) && not (hears_packets p.node.state.view.phase)) (is_some p.node.state.view.parent) p.passes
 
       not-true : (b : Bool) → not b ≡ true → b ≡ false
       not-true b h = grind arith
@@ -198,7 +199,7 @@ module _ (w : CableWorld) (set : ℕ) (g : Grown w set) (none : NoneShakes w set
       two :
           (p.node.state.view.phase ≡ phase.ParentShake) ⊎ (p.node.state.view.phase ≡ phase.Contend)
       two = phases-left p.node.state.view.phase (g.late k p.node p.holds p.at) (none k p.node p.holds p.at)
-          (not-true (is_identifying p.node.state.view.phase) (and_parts (not (is_before_tree p.node.state.view.phase)) (not (is_identifying p.node.state.view.phase)) parts.0).1)
+          (not-true (hears_packets p.node.state.view.phase) (and_parts (not (is_before_tree p.node.state.view.phase)) (not (hears_packets p.node.state.view.phase)) parts.0).1)
 
       parent :
           (o : Option ℕ) → p.node.state.view.parent ≡ o → is_some o ≡ true → (a : End) × (b : End)
@@ -254,7 +255,7 @@ module _ (w : CableWorld) (set : ℕ) (g : Grown w set) (none : NoneShakes w set
       → AreIdentifying (turn w) set
   all-identify alone k y h at =
       let c = calm-turn w set g k y at in
-      ap (λ (s : NodeState). is_identifying s.view.phase) c.is ∙ go c (is_identifying c.node.state.view.phase) refl
+      ap (λ (s : NodeState). hears_packets s.view.phase) c.is ∙ go c (hears_packets c.node.state.view.phase) refl
     where
       open-up : (a b c : Bool) → a ≡ false → b ≡ false → ((not a && not b) && c) ≡ false → c ≡ false
       open-up a b c e f h = grind arith
@@ -268,15 +269,15 @@ module _ (w : CableWorld) (set : ℕ) (g : Grown w set) (none : NoneShakes w set
       contend-some (Some q) some e = true≢false (sym (eq-eqb q q refl) ∙ ap (λ r. is_port r q) e)
 
       go :
-          (c : Calmly w k y.state) → (b : Bool) → is_identifying c.node.state.view.phase ≡ b →
-          is_identifying (tick (coin c.node.coins) (heard_by w k c.node)).state.view.phase ≡ true
-      go c true e = tick-identifying (coin c.node.coins) (heard_by w k c.node) (ap is_identifying c.heard.phase ∙ e)
+          (c : Calmly w k y.state) → (b : Bool) → hears_packets c.node.state.view.phase ≡ b →
+          hears_packets (tick (coin c.node.coins) (heard_by w k c.node)).state.view.phase ≡ true
+      go c true e = tick-identifying (coin c.node.coins) (heard_by w k c.node) (ap hears_packets c.heard.phase ∙ e)
       go c false e =
           let late : is_before_tree c.node.state.view.phase ≡ false = g.late k c.node h c.at in
           let root : c.node.state.view.parent ≡ None = is-none c.node.state.view.parent
-          (open-up (is_before_tree c.node.state.view.phase) (is_identifying c.node.state.view.phase) (is_some c.node.state.view.parent) late e (alone k c.node h c.at)) in
+          (open-up (is_before_tree c.node.state.view.phase) (hears_packets c.node.state.view.phase) (is_some c.node.state.view.parent) late e (alone k c.node h c.at)) in
           elim (phases-left c.node.state.view.phase late (none k c.node h c.at) e) [
-            | inl t ↦ ap is_identifying (tick-root (coin c.node.coins) (heard_by w k c.node) (c.heard.phase ∙ t) (c.heard.parent ∙ root))
+            | inl t ↦ ap hears_packets (tick-root (coin c.node.coins) (heard_by w k c.node) (c.heard.phase ∙ t) (c.heard.parent ∙ root))
             | inr t ↦ absurd (contend-some c.node.state.view.parent (subst (λ f. FitsPhase f c.node.state.view.parent c.node.state.view.ports) t (valid-at w set g k c.node c.at).fits).1 root)
           ]
 
@@ -304,4 +305,4 @@ module _ (w : CableWorld) (set : ℕ) (g : Grown w set) where
   pub identify-turn : AreIdentifying w set → AreIdentifying (turn w) set
   identify-turn all k y h at =
       let c = calm-turn w set g k y at in
-      ap (λ (s : NodeState). is_identifying s.view.phase) c.is ∙ tick-identifying (coin c.node.coins) (heard_by w k c.node) (ap is_identifying c.heard.phase ∙ all k c.node h c.at)
+      ap (λ (s : NodeState). hears_packets s.view.phase) c.is ∙ tick-identifying (coin c.node.coins) (heard_by w k c.node) (ap hears_packets c.heard.phase ∙ all k c.node h c.at)

@@ -7,6 +7,7 @@ use Rattle.port_state.specs.declared.signal.Phase.{Phase}
 use Rattle.port_state.specs.declared.signal.Phase.TheVariants as phase
 use Rattle.port_state.specs.declared.ports.PortView.{PortView}
 use Rattle.port_state.specs.declared.states.NodeState.{NodeState}
+use Rattle.port_state.specs.Heard.{hears_packets}
 use Rattle.port_state.specs.Ports.{is_idle, is_parent, is_child, passes, port_is, every, is_connected, is_port}
 use Rattle.port_state.specs.TreeIdentify.{parent_shake_at}
 use Rattle.port_state.specs.Row as row
@@ -15,7 +16,6 @@ use Rattle.port_state.specs.Tick.{raise_timer, row_of, does, next_row, tick}
 use Rattle.cable_world.specs.Phases.{is_before_tree}
 use Rattle.cable_world.specs.Agreement.{shown_or_idle, level_shown, leads_down}
 use Rattle.cable_world.proofs.turns.TicksWell.{Chosen, chosen, elsewhere}
-use Rattle.convergence.specs.Milestones.{is_identifying}
 use Rattle.convergence.proofs.turns.Moves.{all_idle}
 
 -- ---- weights
@@ -210,25 +210,25 @@ module _ (f g : ℕ → ℕ) (less : (k : ℕ) → f k ≤ g k) where
 -- ---- past tree identify
 
 identifying-on :
-    (coin : Bool) (r : Row) (x : NodeState) → Chosen r x → is_identifying x.view.phase ≡ true →
-    is_identifying (does coin r x).state.view.phase ≡ true
+    (coin : Bool) (r : Row) (x : NodeState) → Chosen r x → hears_packets x.view.phase ≡ true →
+    hears_packets (does coin r x).state.view.phase ≡ true
 identifying-on coin row.none x c h = h
-identifying-on coin row.ends_reset x c h = absurd (elsewhere is_identifying c.0 refl h)
-identifying-on coin row.begins_tree x c h = absurd (elsewhere is_identifying c.0 refl h)
-identifying-on coin row.takes_roles x c h = absurd (elsewhere is_identifying c.0 refl h)
+identifying-on coin row.ends_reset x c h = absurd (elsewhere hears_packets c.0 refl h)
+identifying-on coin row.begins_tree x c h = absurd (elsewhere hears_packets c.0 refl h)
+identifying-on coin row.takes_roles x c h = absurd (elsewhere hears_packets c.0 refl h)
 identifying-on coin row.times_out x c h = h
-identifying-on coin row.awaits_parent x c h = absurd (elsewhere is_identifying c refl h)
+identifying-on coin row.awaits_parent x c h = absurd (elsewhere hears_packets c refl h)
 identifying-on coin row.becomes_root x c h = refl
 identifying-on coin (row.finds_parent p) x c h = refl
-identifying-on coin (row.begins_contention p) x c h = absurd (elsewhere is_identifying c.0 refl h)
-identifying-on coin (row.takes_rival p) x c h = absurd (elsewhere is_identifying c.0 refl h)
-identifying-on coin (row.asks_again p) x c h = absurd (elsewhere is_identifying c.0 refl h)
+identifying-on coin (row.begins_contention p) x c h = absurd (elsewhere hears_packets c.0 refl h)
+identifying-on coin (row.takes_rival p) x c h = absurd (elsewhere hears_packets c.0 refl h)
+identifying-on coin (row.asks_again p) x c h = absurd (elsewhere hears_packets c.0 refl h)
 identifying-on coin (row.asks_child p) x c h = h
 identifying-on coin row.names_itself x c h = refl
 
 pub tick-identifying :
-    (coin : Bool) (x : NodeState) → is_identifying x.view.phase ≡ true →
-    is_identifying (tick coin x).state.view.phase ≡ true
+    (coin : Bool) (x : NodeState) → hears_packets x.view.phase ≡ true →
+    hears_packets (tick coin x).state.view.phase ≡ true
 unfolding tick
 tick-identifying coin x h = identifying-on coin (next_row x) (raise_timer x) (chosen x.view.phase (raise_timer x) refl) h
 

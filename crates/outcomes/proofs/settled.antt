@@ -1,0 +1,4 @@
+pub mod Unnamed
+pub mod Beginnings
+pub mod Outcomes
+pub mod QuietTurns
