@@ -5,10 +5,13 @@ use Rattle.cabling.specs.NodeSet.{Holds}
 use Rattle.port_state.specs.declared.signal.Phase.TheVariants.{SelfIdent}
 use Rattle.port_state.specs.declared.signal.Signal.{Signal}
 use Rattle.port_state.specs.Machine.{PortNode}
-use Rattle.cable_world.specs.World.{CableWorld, wire_of}
+use Rattle.cable_world.specs.World.{CableWorld, wire_of, NodeNumber, NodeSet}
 use Rattle.cable_world.specs.Signals.{signals_of}
-use Rattle.outcomes.specs.NodeMarks.{is_asked, is_named}
+use Rattle.outcomes.specs.NodeMarks.{is_asked, is_named, is_ready}
 use Rattle.outcomes.specs.Messages.{is_grant, is_done, has_grant, has_done}
+use Rattle.cabling.specs.Component.{IsComponent}
+use Rattle.cable_world.specs.Run.{IsReached}
+use Rattle.convergence.specs.Milestones.{AreIdentifying}
 
 pub data Holder : Type 0 where
   -- a Grant is under way from this end
@@ -50,3 +53,11 @@ pub record HasOneHolder (w : CableWorld) (set : ℕ) : Type 0 where
       (a : End) → Holds set a.node → how_many is_grant (signals_of (wire_of w a).signals) ≤ 1
   pub one_done :
       (a : End) → Holds set a.node → how_many is_done (signals_of (wire_of w a).signals) ≤ 1
+
+-- so it is in a component all of whose nodes are in self identify or A0, and one isn't in A0
+abbrev pub SelfIdentifyGoesOn : Type 0
+SelfIdentifyGoesOn =
+    (w : CableWorld) (node : NodeNumber) (set : NodeSet) (late : NodeNumber) (u : PortNode) →
+    IsReached w → IsComponent w.cabling node set → AreIdentifying w set →
+    Holds set late → slice_get w.nodes late ≡ Some u → is_ready u.state.view.phase ≡ false →
+    HasOneHolder w set

@@ -1,12 +1,15 @@
 -- What a record tells of the identification of its node: ID, grant, list, and the marks of its
 -- ports.
-use Rattle.std.specs.Prelude.{◌≡◌, ℕ, ◌<◌, Bool, true, false, [], None, is_some}
+use Rattle.std.specs.Prelude.{◌≡◌, ℕ, ◌<◌, Bool, true, false, [], None, is_some, Some, slice_get}
 use Rattle.port_state.specs.declared.signal.Phase.{Phase}
 use Rattle.port_state.specs.declared.signal.Phase.TheVariants.{Ready}
 use Rattle.port_state.specs.declared.states.NodeState.{NodeState}
-use Rattle.port_state.specs.Ports.{port_is}
+use Rattle.port_state.specs.Ports.{port_is, PortNumber}
 use Rattle.port_state.specs.Heard.{hears_packets}
 use Rattle.cable_world.specs.Agreement.{leads_down}
+use Rattle.cable_world.specs.World.{CableWorld, NodeNumber}
+use Rattle.port_state.specs.Machine.{PortNode}
+use Rattle.cable_world.specs.Run.{IsReached}
 
 -- A0
 abbrev pub is_ready : Phase → Bool
@@ -40,3 +43,19 @@ pub record IsMarked (x : NodeState) : Type 0 where
   pub order :
       (j k : ℕ) → j < k → is_asked x k ≡ true → leads_down x.view.ports j ≡ true →
       is_named x j ≡ true
+
+-- ---- laws
+
+-- each record of a reached world is so
+abbrev pub RecordsAreMarked : Type 0
+RecordsAreMarked =
+    (w : CableWorld) (k : NodeNumber) (x : PortNode) → IsReached w →
+    slice_get w.nodes k ≡ Some x → IsMarked x.state
+
+-- a node awaits one child at most
+abbrev pub NodesAwaitOneChild : Type 0
+NodesAwaitOneChild =
+    (w : CableWorld) (k : NodeNumber) (p q : PortNumber) (x : PortNode) → IsReached w →
+    slice_get w.nodes k ≡ Some x →
+    is_asked x.state p ≡ true → is_named x.state p ≡ false →
+    is_asked x.state q ≡ true → is_named x.state q ≡ false → p ≡ q

@@ -1,5 +1,5 @@
 -- The walk of the tree that has formed below a root.
-use Rattle.std.specs.Prelude.{◌≡◌, ℕ, ◌+◌, ◌<◌, ◌≤◌, Bool, false, Option, Some, None, [], ◌++◌, length, slice_get}
+use Rattle.std.specs.Prelude.{◌≡◌, ℕ, ◌+◌, ◌<◌, ◌≤◌, Bool, false, Option, Some, None, [], ◌++◌, length, slice_get, ◌^◌}
 use Rattle.topology_stack.specs.Tree.{Tree, emits}
 use Rattle.cabling.specs.declared.cable.End.{End}
 use Rattle.cabling.specs.NodeSet.{Holds}
@@ -13,10 +13,16 @@ use Rattle.outcomes.specs.InTurn.{InTurn, ReadyFirst}
 use Rattle.port_state.specs.Group.{own_group}
 use Rattle.self_id.specs.Group.{node_count}
 use Rattle.port_state.specs.Machine.{PortNode}
-use Rattle.cable_world.specs.World.{CableWorld}
+use Rattle.cable_world.specs.World.{CableWorld, NodeNumber, NodeSet}
 use Rattle.cable_world.specs.Agreement.{leads_down}
-use Rattle.cable_world.specs.Outcome.{attrs_now}
-use Rattle.convergence.specs.Acyclic.{IsChildCable}
+use Rattle.cable_world.specs.Outcome.{attrs_now, IsTree}
+use Rattle.convergence.specs.Acyclic.{IsChildCable, IsAcyclic}
+use Rattle.cabling.specs.Component.{IsComponent}
+use Rattle.cabling.specs.Looped.{IsCore}
+use Rattle.cable_world.specs.Lawful.{IsLawful}
+use Rattle.convergence.specs.Milestones.{ResetsAreOver}
+use Rattle.convergence.specs.Roots.{IsRoot}
+use Rattle.outcomes.specs.Alike.{Alike}
 
 abbrev pub parent_of : Option PortNode → Option ℕ
 parent_of None = None
@@ -84,3 +90,37 @@ pub record SameWalk (w v : CableWorld) (set root : ℕ) (t u : Tree) : Type 0 wh
   pub tree : t ≡ u
   pub marks : (k p : ℕ) → mark w.cabling root t 0 k p ≡ mark v.cabling root u 0 k p
   pub places : (k : ℕ) → Holds set k → place_now w root t k ≡ place_now v root u k
+
+-- ---- laws
+
+-- a root of a component, once resets are over
+pub record HasRoot (w : CableWorld) (node : NodeNumber) (set core root : NodeSet) : Type 0 where
+  pub lawful : IsLawful w
+  pub acyclic : IsAcyclic w
+  pub over : ResetsAreOver w
+  pub component : IsComponent w.cabling node set
+  pub is_core : IsCore w.cabling set core
+  pub small : set < 2 ^ 63
+  pub inside : Holds set root
+  pub is_root : IsRoot w root
+
+abbrev pub RootsHaveWalks : Type 0
+RootsHaveWalks =
+    (w : CableWorld) (node : NodeNumber) (set core : NodeSet) (root : NodeNumber) →
+    HasRoot w node set core root → (t : Tree) × RootWalk w set root t
+
+-- where all nodes are named and have the list, the component has come to its tree
+abbrev pub NamedRootsAreOutcomes : Type 0
+NamedRootsAreOutcomes =
+    (w : CableWorld) (node : NodeNumber) (set core : NodeSet) (root : NodeNumber) (t : Tree) →
+    HasRoot w node set core root → RootWalk w set root t → IsNamed w set root t →
+    IsTree w set root t
+
+-- a world in which the component has the same ports and attributes has the same walk there
+abbrev pub WalksStay : Type 0
+WalksStay =
+    (w v : CableWorld) (node : NodeNumber) (set core : NodeSet) (root : NodeNumber)
+    (t u : Tree) → HasRoot w node set core root →
+    RootWalk w set root t → RootWalk v set root u →
+    Alike w.cabling v.cabling (labels (attrs_now w)) (labels (attrs_now v)) set →
+    SameWalk w v set root t u

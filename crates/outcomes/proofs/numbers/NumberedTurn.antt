@@ -47,7 +47,8 @@ use Rattle.outcomes.specs.Messages.{is_message, silent, quads_in, is_grant, is_d
 use Rattle.outcomes.specs.Messages as message
 use Rattle.outcomes.specs.Identify.{Lined, IsIdentifying}
 use Rattle.outcomes.specs.RootWalk.{place_now, RootWalk}
-use Rattle.outcomes.specs.Numbered.{AllIdentify, IsNumbered}
+use Rattle.outcomes.specs.Numbered.{IsNumbered}
+use Rattle.convergence.specs.Milestones.{AreIdentifying}
 use Rattle.outcomes.proofs.identify.Messages.{quads-append, silent-quads, shut-silent}
 use Rattle.outcomes.proofs.identify.Holders.{no-grant, no-done, child-grants-none, parent-says-none, end-of}
 use Rattle.outcomes.proofs.identify.Hearing.{not-both-phases}
@@ -188,7 +189,7 @@ left w (Some b) = signals_of (if gives w.delay (age_wire (wire_of w b)) then [] 
 
 module _
     (w : CableWorld) (l : IsLawful w) (i : IsIdentifying w) (set root : ℕ) (t : Tree)
-    (closed : IsClosed w.cabling set) (walk : RootWalk w set root t) (all : AllIdentify w set) where
+    (closed : IsClosed w.cabling set) (walk : RootWalk w set root t) (all : AreIdentifying w set) where
   abbrev box : ℕ → List (ℕ × Signal)
   box k = inbox w 0 (ports_of w.cabling k)
 

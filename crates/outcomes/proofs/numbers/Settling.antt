@@ -35,13 +35,13 @@ use Rattle.cable_world.proofs.Options.{some-same}
 use Rattle.cable_world.proofs.StaysLawful.{turn-lawful}
 use Rattle.cable_world.proofs.turns.TurnParts.{turn-state}
 use Rattle.convergence.specs.Acyclic.{IsAcyclic}
-use Rattle.convergence.specs.Milestones.{ResetsAreOver}
+use Rattle.convergence.specs.Milestones.{ResetsAreOver, AreIdentifying}
 use Rattle.convergence.specs.Roots.{IsRoot}
 use Rattle.outcomes.specs.NodeMarks.{is_ready, is_asked, is_named, IsMarked}
 use Rattle.outcomes.specs.Messages.{has_grant, has_done, parent_mode, child_mode}
 use Rattle.outcomes.specs.Identify.{IsIdentifying}
 use Rattle.outcomes.specs.RootWalk.{RootWalk}
-use Rattle.outcomes.specs.Numbered.{StandsAt, AllIdentify, IsNumbered, IsSettling}
+use Rattle.outcomes.specs.Numbered.{StandsAt, IsNumbered, IsSettling}
 use Rattle.convergence.proofs.loops.Cores.{Down, all-under, one-root}
 use Rattle.outcomes.proofs.identify.Holders.{no-grant, no-done, child-grants-none, parent-says-none, end-of}
 use Rattle.outcomes.proofs.identify.Hearing.{parent-connected, not-both-phases}
@@ -63,7 +63,7 @@ start-mute h e = grind arith
 module _
     (w : CableWorld) (l : IsLawful w) (acyclic : IsAcyclic w) (i : IsIdentifying w) (set root : ℕ)
     (comp : IsComponent w.cabling root set) (inside : Holds set root) (over : ResetsAreOver w)
-    (r : IsRoot w root) (all : AllIdentify w set) where
+    (r : IsRoot w root) (all : AreIdentifying w set) where
   -- the node above
   pub record Up (k : ℕ) (x : PortNode) : Type 0 where
     pub port : ℕ
@@ -273,7 +273,7 @@ module _
       Stayed w l i set root t s.component.closed s.walk s.all s.numbered k x z
   stayed-so = stayed w l i set root t s.component.closed s.walk s.all s.numbered
 
-  all-after : AllIdentify (turn w) set
+  all-after : AreIdentifying (turn w) set
   all-after k z h at = let x = before w k z l.well_formed at in (stayed-so k x.0 z h x.1 at).hears
 
   comp-after : IsComponent (turn w).cabling root set
@@ -350,7 +350,7 @@ module _
       calm true h e f = absurd (not-both-phases h (f refl) e)
       calm false h e f = refl
 
-  pub all-below : AllIdentify w set
+  pub all-below : AreIdentifying w set
   all-below k x h at = go (hears_packets x.state.view.phase) refl
     where
       go : (b : Bool) → hears_packets x.state.view.phase ≡ b → b ≡ true
@@ -362,8 +362,8 @@ module _
     (over : ResetsAreOver w) (later : ResetsAreOver (turn w)) (set core root : ℕ) (t : Tree)
     (comp : IsComponent w.cabling root set) (is_core : IsCore w.cabling set core)
     (small : set < 2 ^ 63) (inside : Holds set root) (r : IsRoot (turn w) root)
-    (walk : RootWalk (turn w) set root t) (all : AllIdentify (turn w) set)
-    (not-yet : AllIdentify w set → ⊥) where
+    (walk : RootWalk (turn w) set root t) (all : AreIdentifying (turn w) set)
+    (not-yet : AreIdentifying w set → ⊥) where
   was : (x : PortNode) × (slice_get w.nodes root ≡ Some x) × (r.node ≡ (turn_at w root x).node)
   was = before w root r.node l.well_formed r.at
 

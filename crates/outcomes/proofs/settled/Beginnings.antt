@@ -1,16 +1,14 @@
 -- The turn in which the last node of a component comes to self identify: from there lists follow
 -- the walk, so that the component comes to its tree.
-use Rattle.std.proofs.Common.{◌≡◌, ◌⊎◌, inl, inr, ℕ, zero, suc, ◌+◌, ◌-◌, ◌*◌, ◌^◌, ◌<◌, ◌≤◌, Bool, true, false, not, ◌==◌, Option, Some, None, length, slice_get, refl, sym, ◌∙◌, ap, subst, arith, add-one, true≢false, eq-eqb}
+use Rattle.std.proofs.Common.{◌≡◌, ◌⊎◌, inl, inr, ℕ, zero, suc, ◌+◌, ◌^◌, ◌<◌, ◌≤◌, Bool, true, false, not, ◌==◌, Option, Some, None, length, slice_get, refl, sym, ◌∙◌, ap, subst, arith, true≢false, eq-eqb}
 use Rattle.std.specs.Int.{bit_at}
 use Rattle.std.proofs.lemmas.Bool.{cases_lt, eqb-true}
 use Rattle.std.proofs.lemmas.Option.{slice_get_cases, slice_get_within}
 use Rattle.topology_stack.specs.Tree.{Tree}
-use Rattle.cabling.specs.declared.cable.End.{End}
-use Rattle.cabling.specs.Wiring.{Wiring, IsCabling, far}
+use Rattle.cabling.specs.Wiring.{Wiring, IsCabling}
 use Rattle.cabling.specs.NodeSet.{Holds}
 use Rattle.cabling.specs.Component.{IsComponent}
 use Rattle.cabling.specs.Looped.{IsCore}
-use Rattle.cabling.specs.Sees.{numbers}
 use Rattle.cabling.proofs.Ends.{plugged}
 use Rattle.cabling.proofs.Near.{end_at}
 use Rattle.cabling.proofs.Whole.{shared}
@@ -20,7 +18,6 @@ use Rattle.cable_world.specs.World.{CableWorld}
 use Rattle.cable_world.specs.Turn.{turn, turns_after}
 use Rattle.cable_world.specs.Run.{IsReached}
 use Rattle.cable_world.specs.Lawful.{IsLawful}
-use Rattle.cable_world.specs.Outcome.{IsTree}
 use Rattle.cable_world.proofs.turns.ByNumber.{one-more}
 use Rattle.cable_world.proofs.StaysLawful.{reached-lawful, turns-lawful}
 use Rattle.convergence.specs.Acyclic.{IsAcyclic, IsTop}
@@ -30,7 +27,7 @@ use Rattle.convergence.specs.Turns.{turns_to_over}
 use Rattle.convergence.proofs.ranks.Ranks.{has-top}
 use Rattle.convergence.proofs.ranks.StaysAcyclic.{reached-acyclic, turns-acyclic}
 use Rattle.convergence.proofs.resets.ResetsOver.{resets-over}
-use Rattle.convergence.proofs.rounds.Shaken.{Picked, search-set}
+use Rattle.convergence.proofs.rounds.Shaken.{search-set}
 use Rattle.convergence.proofs.sets.Closure.{in-component}
 use Rattle.convergence.proofs.turns.Flush.{after-cabling}
 use Rattle.outcomes.specs.Identify.{IsIdentifying}

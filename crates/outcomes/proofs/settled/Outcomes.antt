@@ -1,25 +1,24 @@
 -- Whichever way a component without loop is decided, it has an outcome.
-use Rattle.std.proofs.Common.{◌≡◌, ◌≢◌, ◌⊎◌, inl, inr, ℕ, ◌+◌, ◌-◌, ◌*◌, ◌^◌, ◌<◌, ◌≤◌, Bool, true, false, not, ◌&&◌, ◌==◌, is_some, Option, Some, None, IsSome, IsSomeAnd, List, [], ◌∷◌, length, slice_get, refl, sym, ◌∙◌, ap, subst, arith, true≢false, eq-eqb}
+use Rattle.std.proofs.Common.{◌≡◌, ◌⊎◌, inl, inr, ℕ, ◌<◌, ◌≤◌, Bool, true, false, not, ◌&&◌, ◌==◌, is_some, Option, Some, None, IsSome, List, [], ◌∷◌, slice_get, refl, sym, ◌∙◌, ap, subst, arith, true≢false, eq-eqb}
 use Rattle.std.proofs.lemmas.Bool.{cases_eq, eqb-true, and_parts, and_from}
 use Rattle.topology_stack.specs.Tree.{Tree, emits}
 use Rattle.cabling.specs.NodeSet.{Holds}
 use Rattle.cabling.specs.Component.{IsComponent}
 use Rattle.cabling.specs.Labels.{labels}
-use Rattle.cabling.specs.Looped.{IsCore}
 use Rattle.cabling.proofs.OneTree.{one-tree}
 use Rattle.port_state.specs.Heard.{hears_packets}
 use Rattle.port_state.specs.declared.signal.Phase.{Phase}
 use Rattle.port_state.specs.Machine.{PortNode}
 use Rattle.cable_world.specs.World.{CableWorld}
 use Rattle.cable_world.specs.Lawful.{IsLawful}
-use Rattle.cable_world.specs.Outcome.{DrewAlike, IsContention, IsTree, IsFirstPair, IsSettled, attrs_now, tree, contention}
+use Rattle.cable_world.specs.Outcome.{IsContention, IsTree, IsFirstPair, IsSettled, attrs_now, tree, contention}
 use Rattle.cable_world.proofs.Options.{some-of, some-same}
 use Rattle.convergence.specs.Acyclic.{IsAcyclic}
 use Rattle.convergence.specs.Drawers.{HasDrawn}
 use Rattle.convergence.specs.Milestones.{ResetsAreOver, HasContention}
 use Rattle.convergence.specs.Rivals.{IsContested}
 use Rattle.convergence.proofs.coins.Drawers.{no-third}
-use Rattle.convergence.proofs.rounds.Shaken.{Picked, search-set}
+use Rattle.convergence.proofs.rounds.Shaken.{search-set}
 use Rattle.outcomes.specs.Identify.{IsIdentifying}
 use Rattle.outcomes.specs.NodeMarks.{is_ready}
 use Rattle.outcomes.specs.Numbered.{IsSettling}

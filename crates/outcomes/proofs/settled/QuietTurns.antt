@@ -1,6 +1,6 @@
 -- After so many quiet turns a component has an outcome, if it wasn't through tree identify when
 -- resets were over.
-use Rattle.std.proofs.Common.{◌≡◌, ◌⊎◌, inl, inr, ℕ, ◌+◌, ◌-◌, ◌*◌, ◌^◌, ◌<◌, ◌≤◌, true, false, length, slice_get, refl, sym, ◌∙◌, ap, subst, arith, true≢false}
+use Rattle.std.proofs.Common.{◌≡◌, ◌⊎◌, inl, inr, ℕ, ◌+◌, ◌-◌, ◌*◌, ◌^◌, ◌<◌, ◌≤◌, true, false, length, slice_get, sym, ◌∙◌, ap, subst, arith, true≢false}
 use Rattle.std.proofs.lemmas.Option.{slice_get_cases, slice_get_within}
 use Rattle.cabling.specs.Wiring.{Wiring}
 use Rattle.cabling.specs.NodeSet.{Holds, IsEmpty}
@@ -24,7 +24,7 @@ use Rattle.convergence.specs.Acyclic.{IsAcyclic}
 use Rattle.convergence.specs.Kept.{IsGrown}
 use Rattle.convergence.specs.Milestones.{ResetsAreOver, AreIdentifying, HasContention}
 use Rattle.convergence.specs.Rivals.{IsContested}
-use Rattle.convergence.specs.Turns.{turns_to_over, turns_to_trees, turns_to_loops, turns_to_decision}
+use Rattle.convergence.specs.Turns.{turns_to_over, turns_to_loops, turns_to_decision}
 use Rattle.convergence.proofs.AfterTurns.{taken-reached, decided-reached, start-grown}
 use Rattle.convergence.proofs.coins.StaysContested.{reached-contested, turns-contested}
 use Rattle.convergence.proofs.ranks.StaysAcyclic.{reached-acyclic, turns-acyclic}
@@ -136,7 +136,9 @@ module _
   middle = k - 315 * w.delay
 
   -- or only later, after 32 equal draws, or not yet
-  contended : IsEmpty core → HasContention (turns_after middle w) set → IsUnfinished (turns_after middle w) set → IsSettled v set
+  contended :
+      IsEmpty core → HasContention (turns_after middle w) set → IsUnfinished (turns_after middle w)
+      set → IsSettled v set
   contended empty h out = elim (all-or-not v set) [
     | inr still ↦ contention-outcome v v-lawful v-contested v-over node set (comp-at k) now (no-tree-yet v set v-identifies still)
     | inl all ↦ late-tree (begins-at w set middle (k - middle) out (subst (λ (i : ℕ). AreIdentifying (turns_after i w) set) (sym sum) all))

@@ -1,6 +1,6 @@
 -- In a component with a loop no node is granted, so none gets an ID: who is granted was asked by a
 -- node above that is granted too, and so on up to a root, which there isn't.
-use Rattle.std.proofs.Common.{◌≡◌, inl, inr, ℕ, ◌<◌, ◌≤◌, Bool, true, false, is_some, Option, Some, None, length, slice_get, refl, sym, ◌∙◌, ap, subst, arith, true≢false, eq-eqb}
+use Rattle.std.proofs.Common.{◌≡◌, inl, inr, ℕ, ◌<◌, ◌≤◌, Bool, true, false, is_some, Option, Some, None, length, slice_get, refl, sym, ◌∙◌, ap, arith, true≢false, eq-eqb}
 use Rattle.std.proofs.lemmas.Bool.{cases_lt}
 use Rattle.std.proofs.lemmas.Option.{slice_get_cases}
 use Rattle.cabling.specs.declared.cable.End.{End}
@@ -19,14 +19,13 @@ use Rattle.cable_world.specs.World.{CableWorld, wire_of}
 use Rattle.cable_world.specs.Turn.{turns_after}
 use Rattle.cable_world.specs.Run.{IsReached}
 use Rattle.cable_world.specs.Signals.{signals_of, has_reset}
-use Rattle.cable_world.specs.Agreement.{leads_down}
 use Rattle.cable_world.specs.Lawful.{IsLawful}
 use Rattle.cable_world.specs.Outcome.{Shows, IsLoop}
 use Rattle.cable_world.proofs.Options.{some-at}
 use Rattle.cable_world.proofs.StaysLawful.{reached-lawful, turns-lawful}
 use Rattle.convergence.specs.Acyclic.{IsAcyclic, IsChildCable, ComesDown}
 use Rattle.convergence.specs.Cables.{AreJoined}
-use Rattle.convergence.specs.Milestones.{ResetsAreOver, ResetsAreDone}
+use Rattle.convergence.specs.Milestones.{ResetsAreOver}
 use Rattle.convergence.specs.Turns.{turns_to_loops}
 use Rattle.convergence.proofs.AfterTurns.{done-after, reported-reached}
 use Rattle.convergence.proofs.loops.Cores.{no-root-with-loop}
@@ -35,7 +34,7 @@ use Rattle.convergence.proofs.ranks.StaysAcyclic.{reached-acyclic, turns-acyclic
 use Rattle.convergence.proofs.resets.ResetsDone.{done-over}
 use Rattle.convergence.proofs.sets.Closure.{in-component}
 use Rattle.convergence.proofs.turns.Cables.{joined-of}
-use Rattle.outcomes.specs.NodeMarks.{is_ready, is_asked}
+use Rattle.outcomes.specs.NodeMarks.{is_ready}
 use Rattle.outcomes.specs.Identify.{Identifies, IsIdentifying}
 use Rattle.outcomes.proofs.identify.Hearing.{parent-connected}
 use Rattle.outcomes.proofs.identify.MarksKept.{hears-late}
@@ -115,7 +114,8 @@ module _ (w : CableWorld) (l : IsLawful w) (i : IsIdentifying w) (over : ResetsA
       c.above.state.view.granted ≡ true
   granted-above a b c g = go (hears_packets c.above.state.view.phase) refl
     where
-      both : Identifies w.delay c.above.state a.port (wire_of w a).signals c.below.state b.port (wire_of w b).signals
+      both :
+          Identifies w.delay c.above.state a.port (wire_of w a).signals c.below.state b.port (wire_of w b).signals
       both = i.cables a b c.above c.below c.joined c.above_at c.below_at
 
       go :

@@ -3,10 +3,10 @@ use Rattle.outcomes.proofs.numbers.Spreads.{rest-soon, tree-soon}
 use Rattle.outcomes.proofs.laws.trees_settle.Goals as goal
 
 pub returns-clause-ready : goal.returns-clause-ready
-returns-clause-ready c = λ w set core root k t r late s. ready-soon w r k late set core root t s
+returns-clause-ready c = λ w set core root k t f. ready-soon w f.reached k f.late set core root t f.is
 
 pub returns-clause-rest : goal.returns-clause-rest
-returns-clause-rest c = λ w set core root k t r late s. rest-soon w r k late set core root t s
+returns-clause-rest c = λ w set core root k t f. rest-soon w f.reached k f.late set core root t f.is
 
 pub returns-clause-tree : goal.returns-clause-tree
-returns-clause-tree c = λ w set core root j k t r late s. tree-soon w r k late set core root t s j
+returns-clause-tree c = λ w set core root j k t f. tree-soon w f.reached k f.late set core root t f.is j
