@@ -6,6 +6,7 @@
 -- `Weights`: what T1 and a parent port weigh, which no tick raises. `CalmTurns`: a turn in which
 -- nobody enters R0. `Flush`: what a node tells for d turns is shown at the other end.
 pub mod PhaseFacts
+pub mod PortFacts
 pub mod Cables
 pub mod AlongRuns
 pub mod Roles

@@ -15,3 +15,4 @@ pub mod MarksKept
 pub mod Messages
 pub mod Ports
 pub mod StaysIdentifying
+pub mod OneMessage

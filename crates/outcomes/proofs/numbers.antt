@@ -6,3 +6,4 @@ pub mod Settles
 pub mod Settling
 pub mod Spreads
 pub mod Turning
+pub mod NodeMessages

@@ -24,7 +24,7 @@ use Rattle.convergence.proofs.turns.Moves.{Drew, DrewNone, Fought, tick-draws, t
 use Rattle.convergence.proofs.coins.Rivals.{child-told, Rivals, swapped, stand-round, other-level, after-knows, late-heard, late-before, late-after, calm, start-calm, up-late, up-heard, up-before, up-mid, not-down, drew-sees, accepted-sees, again-sees, still, draws-not, adds-still, asks-on}
 use Rattle.convergence.proofs.turns.Roles.{parent-late, parent-was, child-late}
 use Rattle.convergence.proofs.coins.Stands.{stand-after, contend-none, over-timer, long-idle, long-undrawn, contend-shaking, idle-parent}
-use Rattle.convergence.proofs.turns.PhaseFacts.{start-late}
+use Rattle.convergence.proofs.turns.PhaseFacts.{start-late, late-start}
 
 low-parent : (l : Level) → shows_no_notice l ≡ true → l ≡ level.Parent → ⊥
 low-parent l a b = grind arith
@@ -40,9 +40,6 @@ start-shake f a b = cc
 
 early-shake : (f : Phase) → is_before_tree f ≡ true → f ≡ phase.ParentShake → ⊥
 early-shake f a b = grind arith
-
-late-start : (f : Phase) → is_before_tree f ≡ false → is_resetting f ≡ false
-late-start f a = grind arith
 
 -- ---- a node in T0, and the other
 

@@ -35,9 +35,10 @@ use Rattle.convergence.specs.Rivals.{IsContested, AreRivals}
 use Rattle.convergence.specs.Coins.{DrawsAgree}
 use Rattle.convergence.specs.Drawers.{HasDrawn, AreMutual, DrewOnCable, AreUnequal}
 use Rattle.convergence.proofs.sets.Closure.{in-component}
-use Rattle.convergence.proofs.loops.Cores.{same-port, leads-down, below-late, one-root}
+use Rattle.convergence.proofs.loops.Cores.{leads-down, below-late, one-root}
 use Rattle.convergence.proofs.coins.DrawsAgree.{won-agree, stand-agree, stand-close, agree-round}
 use Rattle.convergence.proofs.turns.Roles.{parent-late, child-late}
+use Rattle.convergence.proofs.turns.PortFacts.{same-port}
 
 -- a parent port has a cable
 pub parent-connected :

@@ -24,10 +24,10 @@ use Rattle.cable_world.proofs.PhaseFacts.{start-before_tree}
 use Rattle.cable_world.proofs.coupling.CableInTurn.{Pair, turned-round, heard_shown, came}
 use Rattle.convergence.specs.Coins.{last_coin, AddsDraw, DrewTogether, DrewTheSame, KnowsCoins}
 use Rattle.convergence.specs.Rivals.{Contests, AreRivals}
-use Rattle.convergence.proofs.loops.Cores.{same-port}
 use Rattle.convergence.proofs.coins.CoinsInTurns.{drawn-coin, knows-after}
 use Rattle.convergence.proofs.turns.Moves.{Drew, DrewNone, Accepted, TookRival, AskedAgain, tick-draws, tick-late, tick-late-was}
 use Rattle.convergence.proofs.turns.Roles.{parent-late, parent-was}
+use Rattle.convergence.proofs.turns.PortFacts.{same-port}
 
 -- what is so of both ends before the turn
 pub record Rivals (d : ℕ) (x y : Side) : Type 0 where

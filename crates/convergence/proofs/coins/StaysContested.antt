@@ -40,11 +40,11 @@ use Rattle.cable_world.proofs.coupling.Streams.{not-both}
 use Rattle.cable_world.proofs.turns.TurnParts.{turn-state, comes}
 use Rattle.convergence.specs.Coins.{AddsDraw, DrewTogether, KnowsCoins}
 use Rattle.convergence.specs.Rivals.{AreApart, AreRivals, Contests, HasOneRival, IsContested}
-use Rattle.convergence.proofs.loops.Cores.{same-port}
 use Rattle.convergence.proofs.coins.ContestsInTurns.{contests-turn, won-from}
 use Rattle.convergence.proofs.coins.CoinsInTurns.{knows-after}
 use Rattle.convergence.proofs.coins.Rivals.{Rivals}
 use Rattle.convergence.proofs.turns.Roles.{early-parentless}
+use Rattle.convergence.proofs.turns.PortFacts.{same-port}
 
 -- ---- turns
 

@@ -31,11 +31,7 @@ use Rattle.convergence.specs.Roots.{IsLate, IsRoot}
 use Rattle.convergence.proofs.sets.Closure.{in-component}
 use Rattle.convergence.proofs.ranks.Ranks.{none-falls-on}
 use Rattle.convergence.proofs.turns.Roles.{parent-late}
-
--- the same port twice
-pub same-port : (o : Option ℕ) (p q : ℕ) → is_port o p ≡ true → is_port o q ≡ true → p ≡ q
-same-port None p q h g = absurd (true≢false (sym h))
-same-port (Some j) p q h g = sym (eqb-true j p h) ∙ eqb-true j q g
+use Rattle.convergence.proofs.turns.PortFacts.{same-port}
 
 module _ (w : CableWorld) (l : IsLawful w) (over : ResetsAreOver w) where
   -- a cable of a late node is a child cable, or leads from its parent port

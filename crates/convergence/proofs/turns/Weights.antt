@@ -17,6 +17,7 @@ use Rattle.cable_world.specs.Phases.{is_before_tree}
 use Rattle.cable_world.specs.Agreement.{shown_or_idle, level_shown, leads_down}
 use Rattle.cable_world.proofs.turns.TicksWell.{Chosen, chosen, elsewhere}
 use Rattle.convergence.proofs.turns.Moves.{all_idle}
+use Rattle.convergence.proofs.turns.PortFacts.{port-is}
 
 -- ---- weights
 
@@ -118,11 +119,6 @@ tick-parent-shake-by coin x h = parent-shake-by coin (next_row x) (raise_timer x
 
 -- ---- T2
 
--- the port of a node
-pub the-port : (o : Option ℕ) (k : ℕ) → is_port o k ≡ true → o ≡ Some k
-the-port None k h = absurd (true≢false (sym h))
-the-port (Some p) k h = ap Some (eqb-true p k h)
-
 port-shows :
     (test : Level → Bool) (x : NodeState) (k : ℕ) → is_connected x.view.ports k ≡ true →
     test (level_shown x k) ≡ true → port_is (λ q. test q.shown) x.view.ports k ≡ true
@@ -142,7 +138,7 @@ pub tick-accepted :
 unfolding tick
 tick-accepted coin x k c u on s =
     subst (λ f. (does coin (row_of f (raise_timer x)) (raise_timer x)).state.view.phase ≡ phase.SelfIdent) (sym c)
-    (subst (λ o. (does coin (parent_shake_at o (raise_timer x)) (raise_timer x)).state.view.phase ≡ phase.SelfIdent) (sym (the-port x.view.parent k u))
+    (subst (λ o. (does coin (parent_shake_at o (raise_timer x)) (raise_timer x)).state.view.phase ≡ phase.SelfIdent) (sym (port-is x.view.parent k u))
     (subst (λ b. (does coin (if b then row.finds_parent k else (if port_is (λ p. is_parent p.shown) x.view.ports k then row.begins_contention k else row.none)) (raise_timer x)).state.view.phase ≡ phase.SelfIdent) (sym (port-shows is_child x k on s)) refl))
 
 -- ---- T1
@@ -250,7 +246,7 @@ unfolding tick
 tick-begins coin x k c u on s =
     let no : port_is (λ q. is_child q.shown) x.view.ports k ≡ false = not-child (slice_get x.view.ports k) s in
     subst (λ f. (does coin (row_of f (raise_timer x)) (raise_timer x)).state.view.phase ≡ phase.Contend) (sym c)
-    (subst (λ o. (does coin (parent_shake_at o (raise_timer x)) (raise_timer x)).state.view.phase ≡ phase.Contend) (sym (the-port x.view.parent k u))
+    (subst (λ o. (does coin (parent_shake_at o (raise_timer x)) (raise_timer x)).state.view.phase ≡ phase.Contend) (sym (port-is x.view.parent k u))
     (subst (λ b. (does coin (if b then row.finds_parent k else (if port_is (λ p. is_parent p.shown) x.view.ports k then row.begins_contention k else row.none)) (raise_timer x)).state.view.phase ≡ phase.Contend) (sym no)
     (subst (λ b. (does coin (if b then row.begins_contention k else row.none) (raise_timer x)).state.view.phase ≡ phase.Contend) (sym (port-shows is_parent x k on s)) refl)))
   where

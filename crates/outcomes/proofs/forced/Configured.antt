@@ -1,9 +1,9 @@
 -- A configuration packet with R set makes a component fresh that has no node in a reset, and of its
 -- nodes the one with
 -- the ID that it names waits alone to become root.
-use Rattle.std.proofs.Common.{◌≡◌, ◌≢◌, inl, inr, ℕ, zero, suc, ◌+◌, Bool, true, false, ◌==◌, List, [], ◌∷◌, Option, Some, None, slice_get, slice_set, if◌then◌else◌, refl, sym, ◌∙◌, ap, subst, arith, true≢false, eq-eqb}
+use Rattle.std.proofs.Common.{◌≡◌, ◌≢◌, inl, inr, ℕ, zero, suc, ◌+◌, Bool, true, false, ◌==◌, List, [], ◌∷◌, Option, Some, slice_get, slice_set, if◌then◌else◌, refl, sym, ◌∙◌, ap, subst, arith, true≢false, eq-eqb}
 use Rattle.std.specs.Int.{bit_at}
-use Rattle.std.proofs.lemmas.Bool.{cases_eq, eqb-true}
+use Rattle.std.proofs.lemmas.Bool.{cases_eq}
 use Rattle.std.proofs.lemmas.Option.{slice_get_within}
 use Rattle.port_state.specs.declared.signal.Phase.{Phase}
 use Rattle.port_state.specs.declared.signal.Phase.TheVariants as phase
@@ -23,6 +23,7 @@ use Rattle.cable_world.specs.Fresh.{IsFresh}
 use Rattle.cable_world.proofs.Options.{some-of, some-at, some-same}
 use Rattle.cable_world.proofs.tables.TablesInSteps.{replaced, not-replaced}
 use Rattle.outcomes.specs.Forced.{waits_due, gap_due, WaitsAlone, IsNamedAlone}
+use Rattle.convergence.proofs.turns.PortFacts.{is-port, port-is-not}
 
 -- a member of a set after a change of the set
 in-set-at :
@@ -130,20 +131,6 @@ module _ (w : CableWorld) (from root_id : ℕ) (gap : Option ℕ) (own : ℕ) wh
           }
     ]
 
-named : (o : Option ℕ) (i : ℕ) → o ≡ Some i → is_port o i ≡ true
-named o i e = rw e (eq-eqb i i refl)
-
-unnamed : (o : Option ℕ) (i : ℕ) → o ≢ Some i → is_port o i ≡ false
-unnamed o i ne = go (is_port o i) refl
-  where
-    is : (o : Option ℕ) → is_port o i ≡ true → o ≡ Some i
-    is None e = absurd (true≢false (sym e))
-    is (Some p) e = ap Some (eqb-true p i e)
-
-    go : (b : Bool) → is_port o i ≡ b → b ≡ false
-    go false e = refl
-    go true e = absurd (ne (is o e))
-
 pub configured :
     (w v : CableWorld) (from root_id : ℕ) (gap : Option ℕ) (set root : ℕ) →
     ActLeads (Config from root_id true gap) w v → IsComponent w.cabling from set →
@@ -179,8 +166,8 @@ configured w v from root_id gap set root (own, comp, is) whole n = (fresh, alone
     alone : WaitsAlone v set root
     alone = record {
       holds = n.holds;
-      waits = (let s = some-of (slice_get w.nodes root) _ n.named in let a = after-at root s.0 n.holds s.1 in some-at (slice_get v.nodes root) a.node (λ (y : PortNode). waits_due y.state.view ≡ true) a.at (a.told.waits ∙ named s.0.state.view.id root_id s.2));
-      others = λ k h other. let s = some-of (slice_get w.nodes k) _ (n.others k h other) in let a = after-at k s.0 h s.1 in some-at (slice_get v.nodes k) a.node (λ (y : PortNode). waits_due y.state.view ≡ false) a.at (a.told.waits ∙ unnamed s.0.state.view.id root_id s.2);
+      waits = (let s = some-of (slice_get w.nodes root) _ n.named in let a = after-at root s.0 n.holds s.1 in some-at (slice_get v.nodes root) a.node (λ (y : PortNode). waits_due y.state.view ≡ true) a.at (a.told.waits ∙ is-port s.0.state.view.id root_id s.2));
+      others = λ k h other. let s = some-of (slice_get w.nodes k) _ (n.others k h other) in let a = after-at k s.0 h s.1 in some-at (slice_get v.nodes k) a.node (λ (y : PortNode). waits_due y.state.view ≡ false) a.at (a.told.waits ∙ port-is-not s.0.state.view.id root_id s.2);
     }
 
     gaps :

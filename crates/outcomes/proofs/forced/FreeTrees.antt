@@ -32,13 +32,7 @@ use Rattle.outcomes.proofs.forced.Forced.{kept-heard, undecided-free, undecided-
 use Rattle.convergence.proofs.sets.Gathered.{count, count-most, count-le, count-less, count-some, count-found}
 use Rattle.convergence.proofs.trees.TreeStart.{IsEarly, Started, started, start-early, early-at-first, done-at}
 use Rattle.convergence.proofs.trees.TreesTaken.{Silent, TwoSilent, early_there, shown-parent}
-
-same-port : (o : Option ℕ) (p q : ℕ) → is_port o p ≡ true → is_port o q ≡ true → p ≡ q
-same-port None p q h g = absurd (true≢false (sym h))
-same-port (Some j) p q h g = sym (eqb-true j p h) ∙ eqb-true j q g
-
-is-port : (o : Option ℕ) (p : ℕ) → o ≡ Some p → is_port o p ≡ true
-is-port o p e = rw e (eq-eqb p p refl)
+use Rattle.convergence.proofs.turns.PortFacts.{same-port, is-port}
 
 module _ (v : CableWorld) (l : IsLawful v) (done : ResetsAreDone v) where
   -- ---- a node that stays in T0

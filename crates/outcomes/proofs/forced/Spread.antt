@@ -136,9 +136,6 @@ reset-told v l a b x y e at_x at_y there out_y = go (has_reset (signals_of (wire
         (l.coupled.watches b.node y at_y b.port (cable-connected v b a y l.well_formed back at_y) (said-reset (level_shown y.state b.port) (signals_of (wire_of v a).signals) says h))
         ∙ out_y))
 
-waiting-start : (p : Phase) → is_resetting p ≡ true → is_in_bus_reset p ≡ true
-waiting-start p h = grind arith
-
 module _
     (set : ℕ) (v : CableWorld) (l : IsLawful v) (i : ℕ) (soon : i + 1 < 64 * v.delay)
     (s : Spreads v set i) where

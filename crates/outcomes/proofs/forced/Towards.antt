@@ -3,7 +3,7 @@
 -- nodes ask each other, and nobody contends.
 use Rattle.std.proofs.Common.{◌≡◌, ◌≢◌, inl, inr, ℕ, zero, suc, ◌+◌, ◌-◌, ◌*◌, ◌^◌, ◌<◌, ◌≤◌, Bool, true, false, not, ◌&&◌, ◌||◌, [], length, Option, Some, None, slice_get, if◌then◌else◌, refl, sym, ◌∙◌, ap, subst, arith, true≢false}
 use Rattle.std.specs.Prelude.{nat_lt}
-use Rattle.std.proofs.lemmas.Bool.{cases_eq, cases_lt, eqb-true}
+use Rattle.std.proofs.lemmas.Bool.{cases_eq, cases_lt}
 use Rattle.std.proofs.lemmas.Bool.Decides.{nat_tests}
 use Rattle.port_state.specs.declared.signal.Level.{Level}
 use Rattle.port_state.specs.declared.signal.Phase.{Phase}
@@ -51,7 +51,10 @@ use Rattle.convergence.proofs.turns.Flush.{after-cabling}
 use Rattle.outcomes.proofs.forced.Forced.{kept-heard, Takes, tick-takes}
 use Rattle.outcomes.proofs.forced.ForcedRoot.{up, late, parentless, enough}
 use Rattle.outcomes.proofs.forced.Spread.{Turned, turned, all-reset, some-nodes}
-use Rattle.outcomes.proofs.forced.Waits.{outside, late-out, steadily, spread-most, waiting}
+use Rattle.outcomes.proofs.forced.Waits.{outside, steadily, spread-most, waiting}
+use Rattle.convergence.proofs.turns.PortFacts.{port-is, port-is-not}
+use Rattle.convergence.proofs.turns.PhaseFacts.{late-start}
+use Rattle.cable_world.proofs.PhaseFacts.{start-before_tree}
 
 -- ---- ticks
 
@@ -109,17 +112,6 @@ left-parent x k d c l = go (slice_get x.view.ports k) refl c l
         let same : 0 + k ≡ k = omega arith in
         subst (λ j. is_port (lowest is_remaining x.view.ports) j ≡ is_remaining p) same (left_is 0 x.view.ports (decided_few x d) k p at) ∙ left p.connected (is_parent p.shown) c l
 
-port-some : (o : Option ℕ) (k : ℕ) → is_port o k ≡ true → o ≡ Some k
-port-some None k h = absurd (true≢false (sym h))
-port-some (Some p) k h = ap Some (eqb-true p k h)
-
-port-not : (o : Option ℕ) (k : ℕ) → o ≢ Some k → is_port o k ≡ false
-port-not o k ne = go (is_port o k) refl
-  where
-    go : (b : Bool) → is_port o k ≡ b → b ≡ false
-    go false e = refl
-    go true e = absurd (ne (port-some o k e))
-
 -- ---- phases
 
 early-tells : (h : Phase) (c : Bool) → is_before_tree h ≡ true → is_parent (level_sent h c) ≡ false
@@ -140,9 +132,6 @@ start-known h d t e l = grind (arith, nat_tests)
 
 start-calm : (h : Phase) → is_resetting h ≡ true → is_contending h ≡ false
 start-calm h e = grind arith
-
-start-early : (h : Phase) → is_resetting h ≡ true → is_before_tree h ≡ true
-start-early h e = grind arith
 
 module _
     (w : CableWorld) (l : IsLawful w) (node set core : ℕ) (comp : IsComponent w.cabling node set)
@@ -306,7 +295,7 @@ module _
         )
         go false g =
             let faced : y.state.view.parent ≡ way b.node = (all b.node y has at_y).faces g in
-            let other : is_port y.state.view.parent b.port ≡ false = port-not y.state.view.parent b.port (λ s. ne (sym faced ∙ s)) in
+            let other : is_port y.state.view.parent b.port ≡ false = port-is-not y.state.view.parent b.port (λ s. ne (sym faced ∙ s)) in
             let child : leads_down y.state.view.ports b.port ≡ true =
             child-if y.state.view.parent y.state.view.ports b.port (late-roles y.state (m.well_formed.nodes b.node y at_y).valid g) (cable-connected v b (end_at k p) y m.well_formed back at_y) ∙ ap not other in
             (late-tells y.state.view.phase (leads_down y.state.view.ports b.port) g child, (from_y.child child none-comes).1)
@@ -379,7 +368,7 @@ module _
     now = heard_by (turns_after i w) k (steadily w l i past k y at).node
 
     out-of : is_before_tree now.view.phase ≡ false → is_resetting c.node.state.view.phase ≡ false
-    out-of g = late-out c.node.state.view.phase (ap is_before_tree (sym c.heard.phase) ∙ g)
+    out-of g = late-start c.node.state.view.phase (ap is_before_tree (sym c.heard.phase) ∙ g)
 
     unasked : Unasked (way k) now
     unasked g = (
@@ -400,7 +389,7 @@ module _
             let out_x : is_resetting c.node.state.view.phase ≡ false = ap is_resetting (sym c.heard.phase ∙ takes.start) in
             let quiet : is_parent (level_shown now u.port) ≡ false = heard-unasked i past all k c.node h c.at out_x u.port u.end u.joined u.child in
             let left : is_port (lowest is_remaining now.view.ports) u.port ≡ true = left-parent (raise_timer now) u.port takes.decided (on i past all k c.node h c.at out_x u.port u.end u.joined u.child) quiet in
-            ap (λ (z : NodeState). z.view.parent) c.is ∙ takes.parent ∙ port-some (lowest is_remaining now.view.ports) u.port left ∙ sym u.is
+            ap (λ (z : NodeState). z.view.parent) c.is ∙ takes.parent ∙ port-is (lowest is_remaining now.view.ports) u.port left ∙ sym u.is
 
         go : (b : Bool) → is_before_tree now.view.phase ≡ b → y.state.view.parent ≡ way k
         go false e = ap (λ (z : NodeState). z.view.parent) c.is ∙ calms.parent e ∙ (unasked e).0
@@ -422,7 +411,7 @@ module _
   -- ---- many turns
 
   all-face : (j : ℕ) → AllFace (spread + j)
-  all-face zero k x h at = record { faces = λ g. absurd (true≢false (sym (start-early x.state.view.phase there) ∙ g)); calm = start-calm x.state.view.phase there }
+  all-face zero k x h at = record { faces = λ g. absurd (true≢false (sym (start-before_tree x.state.view.phase there) ∙ g)); calm = start-calm x.state.view.phase there }
     where
       z : spread + 0 ≡ spread
       z = omega arith

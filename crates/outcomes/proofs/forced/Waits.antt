@@ -33,6 +33,7 @@ use Rattle.convergence.proofs.turns.CalmTurns.{Calmly, signals, heard_by}
 use Rattle.outcomes.proofs.forced.Forced.{SameDue, due-heard, kept-heard, tick-holds, Takes, tick-takes, waits-parentless}
 use Rattle.convergence.proofs.turns.Roles.{parent-was}
 use Rattle.outcomes.proofs.forced.Spread.{Turned, turned, spreads, all-reset}
+use Rattle.convergence.proofs.turns.PhaseFacts.{late-start}
 
 -- a phase is up to T0 or past it; up to T0 it is R0, or R1 or T0
 pub outside :
@@ -47,9 +48,6 @@ tree-between p h = rw h refl
 
 tree-timed : (p : Phase) → p ≡ phase.TreeStart → is_timed p ≡ true
 tree-timed p h = rw h refl
-
-pub late-out : (p : Phase) → is_before_tree p ≡ false → is_resetting p ≡ false
-late-out p h = grind arith
 
 -- ---- turns after the last entry
 
@@ -336,7 +334,7 @@ module _
     start = λ r. omega (arith, there.1);
     between = λ b. absurd (true≢false (sym there.0 ∙ between-out x.state.view.phase b));
     tree = λ b. absurd (true≢false (sym there.0 ∙ between-out x.state.view.phase (tree-between x.state.view.phase b)));
-    late = λ b. absurd (true≢false (sym there.0 ∙ late-out x.state.view.phase b));
+    late = λ b. absurd (true≢false (sym there.0 ∙ late-start x.state.view.phase b));
   }
     where
       z : spread + 0 ≡ spread

@@ -31,7 +31,7 @@ use Rattle.cable_world.specs.Coupling.{is_asking}
 use Rattle.cable_world.proofs.levels.LastSent.{only, choose, child-if}
 use Rattle.cable_world.proofs.coupling.Sides.{late-roles}
 use Rattle.cable_world.proofs.turns.NodeFacts.{risen}
-use Rattle.cable_world.proofs.turns.TicksWell.{Chosen, chosen}
+use Rattle.cable_world.proofs.turns.TicksWell.{Chosen, chosen, elsewhere}
 use Rattle.outcomes.specs.Identify.{any_child}
 use Rattle.outcomes.proofs.identify.LinedTicks.{on-port}
 use Rattle.outcomes.proofs.identify.Ports.{changed-other, changed-here}
@@ -228,9 +228,6 @@ waited SelfIdent x = choose (λ r. Waited r x) x.view.granted (granted_row (lowe
     go (Some p) = choose (λ r. Waited r x) (port_is (λ q. q.asked) x.view.ports p) row.none (row.asks_child p) (λ _. tt) (λ _. tt)
 waited Ready x = tt
 
-apart : (test : Phase → Bool) {f g : Phase} → f ≡ g → test g ≡ false → test f ≡ true → ⊥
-apart test e out h = true≢false (sym h ∙ ap test e ∙ out)
-
 -- how a node comes to ask
 abbrev pub Asked : NodeState → ℕ → Type 0
 Asked x k = (is_asking x k ≡ true) ⊎ ((x.view.phase ≡ TreeStart) ⊎ ((x.view.phase ≡ Contend) × (is_port x.view.parent k ≡ true) × (x.view.wait ≤ risen x.view.timer)))
@@ -283,7 +280,7 @@ asking-sends coin x k v c h = go (next_row x) (chosen x.view.phase (raise_timer 
         ap has_no_takeback (notices-port k x.view.ports) ∙ notice (port_is asks x.view.ports k) (port_is is_remaining x.view.ports k)
         (λ a. true≢false (sym (asks-adopted (slice_get x.view.ports k) a) ∙ sym (ap (passes (λ p. p.child)) (map-port k adopt x.view.ports)) ∙ role ∙ ap not h))
     go (row.asks_again p) c v on h = one-kind (p == k) signal.Parent refl
-    go (row.asks_child p) c v on h = absurd (apart is_shaking c refl (and_parts (is_shaking x.view.phase) (is_port x.view.parent k) h).0)
+    go (row.asks_child p) c v on h = absurd (elsewhere is_shaking c refl (and_parts (is_shaking x.view.phase) (is_port x.view.parent k) h).0)
     go row.none c v on h = refl
     go row.times_out c v on h = refl
     go row.awaits_parent c v on h = refl
@@ -319,10 +316,10 @@ asks-on coin x k h s = go (next_row x) (chosen x.view.phase (raise_timer x) refl
     go (row.begins_contention p) c =
         let same : p ≡ k = eqb-true p k (sym (ap (λ o. is_port o k) c.1) ∙ both.1) in
         absurd (true≢false (sym (shows-parent (slice_get x.view.ports k) (subst (λ i. port_is (λ q. is_parent q.shown) x.view.ports i ≡ true) same c.2)) ∙ s))
-    go row.ends_reset c = absurd (apart is_shaking c.0 refl both.0)
-    go row.begins_tree c = absurd (apart is_shaking c.0 refl both.0)
-    go row.takes_roles c = absurd (apart is_shaking c.0 refl both.0)
-    go (row.takes_rival p) c = absurd (apart is_shaking c.0 refl both.0)
-    go (row.asks_again p) c = absurd (apart is_shaking c.0 refl both.0)
-    go (row.asks_child p) c = absurd (apart is_shaking c refl both.0)
-    go row.names_itself c = absurd (apart is_shaking c refl both.0)
+    go row.ends_reset c = absurd (elsewhere is_shaking c.0 refl both.0)
+    go row.begins_tree c = absurd (elsewhere is_shaking c.0 refl both.0)
+    go row.takes_roles c = absurd (elsewhere is_shaking c.0 refl both.0)
+    go (row.takes_rival p) c = absurd (elsewhere is_shaking c.0 refl both.0)
+    go (row.asks_again p) c = absurd (elsewhere is_shaking c.0 refl both.0)
+    go (row.asks_child p) c = absurd (elsewhere is_shaking c refl both.0)
+    go row.names_itself c = absurd (elsewhere is_shaking c refl both.0)

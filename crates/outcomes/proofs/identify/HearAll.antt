@@ -16,8 +16,10 @@ use Rattle.outcomes.specs.NodeMarks.{IsMarked}
 use Rattle.outcomes.specs.Messages.{silent, quads_in, mode, allows, next, fits}
 use Rattle.outcomes.proofs.identify.Messages.{silent-append}
 use Rattle.outcomes.proofs.identify.MarksKept.{signal-marked}
-use Rattle.outcomes.proofs.identify.Hearing.{signal-stays, not-both-phases, signal-silent, entering-silent}
+use Rattle.outcomes.proofs.identify.Hearing.{signal-stays, signal-silent, entering-silent}
 use Rattle.outcomes.proofs.identify.LinedHears.{with, front-hears, room-hears}
+use Rattle.convergence.proofs.turns.PhaseFacts.{start-hears}
+use Rattle.cable_world.proofs.coupling.Streams.{not-both}
 
 -- all that is heard may come
 abbrev pub MayCome : NodeState → List (ℕ × Signal) → Type 0
@@ -61,9 +63,6 @@ first-allowed x s rest f = go (s.0 == s.0) (eq-eqb s.0 s.0 refl) (f s.0)
     go true e h = (and_parts (allows (mode x s.0) s.1) (fits (next (mode x s.0) s.1) (sent_on s.0 rest)) h).0
     go false e h = absurd (true≢false (sym e))
 
-pub not-hearing : (b : Bool) → b ≡ true → b ≡ false → ⊥
-not-hearing b h g = true≢false (sym h ∙ g)
-
 -- a node that isn't there sends no message
 pub hear-silent :
     (signals : List (ℕ × Signal)) (x : NodeState) (p : ℕ) → hears_packets x.view.phase ≡ false →
@@ -100,9 +99,9 @@ hear-marked (s ∷ rest) x v m f = go (hears_packets x.view.phase) refl (hear-ma
         (IsMarked first.state → (hears_packets first.state.view.phase ≡ true → MayCome first.state rest) → IsMarked (hear_all rest first.state).state)
         → IsMarked (hear_all rest first.state).state
     go true h later = later (now (λ _. first-allowed x s rest (f h))) (λ n j. front-hears s.0 s.1 x j (sent_on j rest) v m h n (first-allowed x s rest (f h)) (f h j))
-    go false h later = later (now (λ e. absurd (not-hearing (hears_packets x.view.phase) e h))) (λ n. absurd (elim (signal-stays s.0 s.1 x) [
-      | inl t ↦ not-hearing (hears_packets x.view.phase) (sym (ap hears_packets t.phase) ∙ n) h
-      | inr r ↦ not-both-phases first.state.view.phase r n
+    go false h later = later (now (λ e. absurd (not-both (hears_packets x.view.phase) e h))) (λ n. absurd (elim (signal-stays s.0 s.1 x) [
+      | inl t ↦ not-both (hears_packets x.view.phase) (sym (ap hears_packets t.phase) ∙ n) h
+      | inr r ↦ start-hears first.state.view.phase r n
     ]))
 
 -- ---- what hearing one signal keeps, hearing all keeps

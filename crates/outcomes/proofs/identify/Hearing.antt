@@ -1,7 +1,7 @@
 -- A node in self identify or A0 hears a signal: what becomes of its ports and of its cables.
-use Rattle.std.proofs.Common.{◌≡◌, ◌⊎◌, inl, inr, ℕ, Bool, true, false, not, ◌&&◌, ◌==◌, Option, Some, None, refl, sym, ◌∙◌, ap, arith, true≢false, if◌then◌else◌}
+use Rattle.std.proofs.Common.{◌≡◌, ◌⊎◌, inl, inr, ℕ, Bool, true, false, not, ◌&&◌, ◌==◌, Option, refl, sym, ◌∙◌, ap, arith, true≢false, if◌then◌else◌}
 use Rattle.std.proofs.lemmas.Option.{slice_get_cases}
-use Rattle.std.proofs.lemmas.Bool.{eqb-true, and_parts, and_from}
+use Rattle.std.proofs.lemmas.Bool.{and_parts, and_from}
 use Rattle.port_state.specs.declared.signal.Level.{Level}
 use Rattle.port_state.specs.declared.signal.Level.TheVariants as level
 use Rattle.port_state.specs.declared.signal.Phase.{Phase}
@@ -25,13 +25,10 @@ use Rattle.outcomes.specs.Messages.{is_message, silent, Mode, parent_mode, child
 use Rattle.outcomes.specs.Messages as mode
 use Rattle.outcomes.proofs.identify.Ports.{child-role}
 use Rattle.outcomes.proofs.identify.MarksKept.{hears-late, awaited-one, done-asked}
+use Rattle.convergence.proofs.turns.PortFacts.{port-is}
+use Rattle.convergence.proofs.turns.PhaseFacts.{start-hears}
 
 -- ---- ports
-
--- a node has one parent port, and that is connected
-pub one-parent : (o : Option ℕ) (j k : ℕ) → is_port o j ≡ true → is_port o k ≡ true → j ≡ k
-one-parent None j k a b = absurd (true≢false (sym a))
-one-parent (Some p) j k a b = sym (eqb-true p j a) ∙ eqb-true p k b
 
 role-of-parent :
     (parent : Option ℕ) (k : ℕ) (p : PortView) → FitsRole parent k p → is_port parent k ≡ true →
@@ -88,16 +85,12 @@ message-heard k s x v m h c t a = and_from (is_connected x.view.ports k) (has_ef
     go signal.Done t a false ep false er = let b = done-asked x k ep a in and_from _ _ (identifies x.view.phase h er) (m.asked k b.0)
     go s t a p ep r er = absurd (true≢false (sym t))
 
-pub parent-is : (o : Option ℕ) (k : ℕ) → is_port o k ≡ true → o ≡ Some k
-parent-is None k h = absurd (true≢false (sym h))
-parent-is (Some p) k h = ap Some (eqb-true p k h)
-
 pub parent-connected :
     (x : NodeState) (k : ℕ) → IsValid x → hears_packets x.view.phase ≡ true →
     is_port x.view.parent k ≡ true → is_connected x.view.ports k ≡ true
 parent-connected x k v h e = elim (slice_get_cases x.view.ports k).1 [
   | inl found ↦ ap (passes (λ q. q.connected)) found.2 ∙ role-of-parent x.view.parent k found.0 (late-roles x v (hears-late x.view.phase h) k found.0 found.2) e
-  | inr lacks ↦ absurd (omega (arith, lacks.0, v.bounded.views, v.bounded.parent k (parent-is x.view.parent k e)))
+  | inr lacks ↦ absurd (omega (arith, lacks.0, v.bounded.views, v.bounded.parent k (port-is x.view.parent k e)))
 ]
 
 -- a port that a message may come to has a cable
@@ -226,9 +219,6 @@ signal-stays k s x = go (is_heard k s x)
     go true = hearing s
     go false = inl (same-stays x)
 
-pub not-both-phases : (h : Phase) → is_resetting h ≡ true → hears_packets h ≡ true → ⊥
-not-both-phases h a b = grind arith
-
 -- a Reset that is heard begins a reset
 pub reset-heard :
     (k : ℕ) (x : NodeState) → hears_packets x.view.phase ≡ true →
@@ -241,12 +231,12 @@ reset-heard k x h e = go (is_resetting x.view.phase) refl e
         hears_packets (if b then silent_step (with_level k level.Reset x) else enter false (with_level k level.Reset x)).state.view.phase
         ≡ true →
         ⊥
-    go true r e = not-both-phases x.view.phase r h
+    go true r e = start-hears x.view.phase r h
     go false r e = true≢false (sym e)
 
 -- ---- a node that isn't in self identify or A0 sends no message
 
-only-silent : (b : Bool) (s : Signal) → is_message s ≡ false → silent (only b s) ≡ true
+pub only-silent : (b : Bool) (s : Signal) → is_message s ≡ false → silent (only b s) ≡ true
 only-silent true s h = rw h refl
 only-silent false s h = refl
 
@@ -301,7 +291,7 @@ entering-silent k s x p h r = go (is_heard k s x) r
         (s : Signal) → is_resetting (hears k s x).state.view.phase ≡ true →
         silent (sent_on p (hears k s x).sends) ≡ true
     hearing signal.Reset r = resets (is_resetting x.view.phase)
-    hearing (signal.Packet quad) r = absurd (not-both-phases x.view.phase r h)
+    hearing (signal.Packet quad) r = absurd (start-hears x.view.phase r h)
     hearing signal.Idle r = refl
     hearing signal.Parent r = refl
     hearing signal.Child r = refl

@@ -3,8 +3,8 @@
 -- or one Done, or one granted node waits for no child. The granted nodes that aren't in A0 form a
 -- way down from
 -- the root; at its lower end it is.
-use Rattle.std.proofs.Common.{◌≡◌, ◌≢◌, ◌⊎◌, inl, inr, ℕ, zero, suc, ◌+◌, ◌-◌, ◌<◌, ◌≤◌, Bool, true, false, not, ◌&&◌, List, [], ◌∷◌, Option, Some, None, slice_get, is_some, length, refl, sym, ◌∙◌, ap, subst, arith, true≢false, if◌then◌else◌}
-use Rattle.std.proofs.lemmas.Bool.{eq-eqb, cases_eq, cases_lt, and_parts, or_from}
+use Rattle.std.proofs.Common.{◌≡◌, ◌≢◌, ◌⊎◌, inl, inr, ℕ, zero, suc, ◌-◌, ◌<◌, ◌≤◌, Bool, true, false, not, ◌&&◌, List, [], Option, Some, None, slice_get, length, refl, sym, ◌∙◌, ap, subst, arith, true≢false}
+use Rattle.std.proofs.lemmas.Bool.{eq-eqb, cases_eq, cases_lt}
 use Rattle.std.proofs.lemmas.Option.{slice_get_within}
 use Rattle.cabling.specs.declared.cable.End.{End}
 use Rattle.cabling.specs.Wiring.{far}
@@ -15,7 +15,6 @@ use Rattle.cabling.proofs.Whole.{shared}
 use Rattle.port_state.specs.declared.signal.Phase.{Phase}
 use Rattle.port_state.specs.declared.signal.Phase.TheVariants.{SelfIdent}
 use Rattle.port_state.specs.declared.signal.Signal.{Signal}
-use Rattle.port_state.specs.declared.signal.Signal.TheVariants as signal
 use Rattle.port_state.specs.declared.ports.PortView.{PortView}
 use Rattle.port_state.specs.Ports.{passes, is_connected, is_port}
 use Rattle.port_state.specs.Heard.{hears_packets}
@@ -29,133 +28,17 @@ use Rattle.convergence.proofs.turns.Cables.{joined-of}
 use Rattle.cable_world.proofs.Options.{some-same}
 use Rattle.convergence.specs.Acyclic.{IsAcyclic}
 use Rattle.outcomes.specs.NodeMarks.{is_ready, is_asked, is_named, IsMarked}
-use Rattle.outcomes.specs.Messages.{is_message, silent, is_grant, is_done, has_grant, has_done, Mode, parent_mode, child_mode, mode, allows, next, fits}
-use Rattle.outcomes.specs.Messages as mode
+use Rattle.outcomes.specs.Messages.{is_grant, is_done, has_grant, has_done, parent_mode, child_mode, mode}
 use Rattle.outcomes.specs.Identify.{IsIdentifying}
 use Rattle.outcomes.specs.Holders.{Holder, grant, done, node, IsHolder, place, how_many, HasOneHolder}
 use Rattle.convergence.proofs.sets.Closure.{in-component}
-use Rattle.outcomes.proofs.identify.Messages.{shut-silent}
 use Rattle.outcomes.proofs.identify.Ports.{child-role}
 use Rattle.outcomes.proofs.identify.MarksKept.{hears-late, one-awaited}
-use Rattle.outcomes.proofs.identify.Hearing.{one-parent, parent-connected}
+use Rattle.outcomes.proofs.identify.Hearing.{parent-connected}
 use Rattle.outcomes.proofs.identify.ListsFollow as lists
 use Rattle.outcomes.proofs.identify.ListsFollow.{IsAbove}
-
--- ---- signals
-
--- a kind of message
-record IsKind (test : Signal → Bool) : Type 0 where
-  message : (s : Signal) → test s ≡ true → is_message s ≡ true
-  -- behind one of it nothing may come
-  last : (m : Mode) (s : Signal) → test s ≡ true → allows m s ≡ true → next m s ≡ mode.shut
-
-grants : IsKind is_grant
-grants = record { message = λ s e. grind arith; last = λ m s e a. grind arith }
-
-dones : IsKind is_done
-dones = record { message = λ s e. grind arith; last = λ m s e a. grind arith }
-
-none-of :
-    (test : Signal → Bool) → IsKind test → (ss : List Signal) → silent ss ≡ true →
-    how_many test ss ≡ 0
-none-of test k [] h = refl
-none-of test k (s ∷ ss) h = go (test s) refl (none-of test k ss b.1)
-  where
-    b : (not (is_message s) ≡ true) × (silent ss ≡ true)
-    b = and_parts (not (is_message s)) (silent ss) h
-
-    go :
-        (c : Bool) → test s ≡ c → how_many test ss ≡ 0 →
-        (if c then how_many test ss + 1 else how_many test ss) ≡ 0
-    go true e rest = absurd (true≢false (sym b.0 ∙ ap not (k.message s e)))
-    go false e rest = rest
-
-few-of :
-    (test : Signal → Bool) → IsKind test → (m : Mode) (ss : List Signal) → fits m ss ≡ true →
-    how_many test ss ≤ 1
-few-of test k m [] h = omega arith
-few-of test k m (s ∷ ss) h = go (test s) refl (few-of test k (next m s) ss b.1)
-  where
-    b : (allows m s ≡ true) × (fits (next m s) ss ≡ true)
-    b = and_parts (allows m s) (fits (next m s) ss) h
-
-    go :
-        (c : Bool) → test s ≡ c → how_many test ss ≤ 1 →
-        (if c then how_many test ss + 1 else how_many test ss) ≤ 1
-    go true e rest = omega (arith, none-of test k ss (shut-silent ss (subst (λ n. fits n ss ≡ true) (k.last m s e b.0) b.1)))
-    go false e rest = rest
-
--- where no Grant may come none does, and no Done
-pub no-grant :
-    (m : Mode) (ss : List Signal) → allows m signal.Grant ≡ false → fits m ss ≡ true →
-    has_grant ss ≡ false
-no-grant m [] a h = refl
-no-grant m (s ∷ ss) a h =
-    let b = and_parts (allows m s) (fits (next m s) ss) h in
-    or_from _ _ (other m s a b.0) (no-grant (next m s) ss (still m s a b.0) b.1)
-  where
-    other :
-        (m : Mode) (s : Signal) → allows m signal.Grant ≡ false → allows m s ≡ true →
-        is_grant s ≡ false
-    other m s a b = grind arith
-
-    still :
-        (m : Mode) (s : Signal) → allows m signal.Grant ≡ false → allows m s ≡ true →
-        allows (next m s) signal.Grant ≡ false
-    still m s a b = grind arith
-
-pub no-done :
-    (m : Mode) (ss : List Signal) → allows m signal.Done ≡ false → fits m ss ≡ true →
-    has_done ss ≡ false
-no-done m [] a h = refl
-no-done m (s ∷ ss) a h =
-    let b = and_parts (allows m s) (fits (next m s) ss) h in
-    or_from _ _ (other m s a b.0) (no-done (next m s) ss (still m s a b.0) b.1)
-  where
-    other :
-        (m : Mode) (s : Signal) → allows m signal.Done ≡ false → allows m s ≡ true →
-        is_done s ≡ false
-    other m s a b = grind arith
-
-    still :
-        (m : Mode) (s : Signal) → allows m signal.Done ≡ false → allows m s ≡ true →
-        allows (next m s) signal.Done ≡ false
-    still m s a b = grind arith
-
-pub child-grants-none : (a n : Bool) → allows (child_mode a n) signal.Grant ≡ false
-child-grants-none a n = grind arith
-
-pub parent-says-none : (r g : Bool) → allows (parent_mode r g) signal.Done ≡ false
-parent-says-none r g = grind arith
-
--- ---- a search
-
-found : (test : ℕ → Bool) (n : ℕ) → ((k : ℕ) → k < n → test k ≡ false) ⊎ ((k : ℕ) × (test k ≡ true))
-found test zero = inl (λ k h. absurd (omega (arith, h)))
-found test (suc n) = go (test n) refl (found test n)
-  where
-    go :
-        (b : Bool) → test n ≡ b → ((k : ℕ) → k < n → test k ≡ false) ⊎ ((k : ℕ) × (test k ≡ true)) →
-        ((k : ℕ) → k < suc n → test k ≡ false) ⊎ ((k : ℕ) × (test k ≡ true))
-    go true e h = inr (n, e)
-    go false e (inr h) = inr h
-    go false e (inl h) = inl (λ k below. elim (cases_lt k n) [
-      | inl less ↦ h k less
-      | inr more ↦ let same : k ≡ n = omega (arith, below, more) in ap test same ∙ e
-    ])
-
-pub end-of : (o : Option End) → is_some o ≡ true → (b : End) × (o ≡ Some b)
-end-of None h = absurd (true≢false (sym h))
-end-of (Some b) h = (b, refl)
-
-both-false : (a n : Bool) → (a ≡ true → ⊥) → (a && not n) ≡ false
-both-false true n h = absurd (h refl)
-both-false false n h = refl
-
-two-parts : (a n : Bool) → (a && not n) ≡ true → (a ≡ true) × (n ≡ false)
-two-parts true false h = (refl, refl)
-two-parts true true h = absurd (true≢false (sym h))
-two-parts false n h = absurd (true≢false (sym h))
+use Rattle.convergence.proofs.turns.PortFacts.{same-port}
+use Rattle.outcomes.proofs.identify.OneMessage.{IsKind, grants, dones, few-of, no-grant, no-done, child-grants-none, parent-says-none, found, end-of, both-false, two-parts}
 
 -- ---- a set of nodes that no cable leaves, all in self identify or A0
 
@@ -433,7 +316,7 @@ module _
             absurd (true≢false (sym p ∙ ap (λ (z : PortNode). is_port z.state.view.parent a.port) (sym same) ∙ ap (λ o. is_port o a.port) r.parentless))
         up (suc n) d p =
             let same : d.4 ≡ x = some-same d.4 x (sym d.5 ∙ ap (slice_get w.nodes) d.3 ∙ at) in
-            let port : d.1.port ≡ a.port = one-parent x.state.view.parent d.1.port a.port (ap (λ (z : PortNode). is_port z.state.view.parent d.1.port) (sym same) ∙ d.6) p in
+            let port : d.1.port ≡ a.port = same-port x.state.view.parent d.1.port a.port (ap (λ (z : PortNode). is_port z.state.view.parent d.1.port) (sym same) ∙ d.6) p in
             let here : d.1 ≡ a = same_end d.1 a d.3 port in
             let there : d.0 ≡ b = one_other (far w.cabling a) d.0 b (ap (far w.cabling) (sym here) ∙ l.well_formed.cabling.both_ways d.0 d.1 d.2) e in
             (closed a b e h.0, (n, subst (λ (z : End). Under root n z.node) there d.7))

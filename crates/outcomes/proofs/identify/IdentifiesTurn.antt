@@ -32,6 +32,7 @@ use Rattle.outcomes.proofs.identify.LinedTicks.{ticks-on, ticks-parent, arrives,
 use Rattle.outcomes.proofs.identify.GreetTicks.{ticks-child, becomes-child}
 use Rattle.outcomes.proofs.identify.HearAll.{MayCome, HasRoom, hear-silent, hear-marked}
 use Rattle.outcomes.proofs.identify.LinedTurn.{Able, Taken, Comes, comes-adds, waits-turn, front-turn, split, lined-turn, above-front, below-front}
+use Rattle.convergence.proofs.turns.PhaseFacts.{start-mute}
 
 -- ---- phases
 
@@ -40,9 +41,6 @@ mute h e = grind arith
 
 mute-out : (h : Phase) → may_speak h ≡ false → is_resetting h ≡ false
 mute-out h e = grind arith
-
-start-mute : (h : Phase) → is_resetting h ≡ true → hears_packets h ≡ false
-start-mute h e = grind arith
 
 hears-out : (h : Phase) → hears_packets h ≡ true → is_resetting h ≡ false
 hears-out h e = grind arith

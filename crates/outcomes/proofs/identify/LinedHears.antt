@@ -23,7 +23,8 @@ use Rattle.outcomes.proofs.identify.Messages.{silent-append, silent-quads, shut-
 use Rattle.outcomes.proofs.identify.Lines.{up-level, down-level, level-fits, packet-fits, up-packet, down-packet, up-done, down-grant, packet-length, sends-down, sends-up}
 use Rattle.outcomes.proofs.identify.Ports.{changed-other, changed-here, child-role}
 use Rattle.outcomes.proofs.identify.MarksKept.{hears-late, identifying-is, awaited-one}
-use Rattle.outcomes.proofs.identify.Hearing.{one-parent, message-port, message-heard, parent-connected, none-awaited, speaking, level-asked, level-named, reset-heard}
+use Rattle.outcomes.proofs.identify.Hearing.{message-port, message-heard, parent-connected, none-awaited, speaking, level-asked, level-named, reset-heard}
+use Rattle.convergence.proofs.turns.PortFacts.{same-port}
 
 -- what comes to one port, or elsewhere
 abbrev pub with : Bool → Signal → List Signal → List Signal
@@ -159,7 +160,7 @@ module _
   below-grant :
       is_port y.view.parent k ≡ true → Lined x p (with (k == q) signal.Grant there) y back →
       Lined x p there (hears k signal.Grant y).state (back ++ [])
-  below-grant j l = subst (λ ss. Lined x p there (hears k signal.Grant y).state ss) (sym (append-nil back)) (go (k == q) (eq-eqb k q (one-parent y.view.parent k q j i)) l)
+  below-grant j l = subst (λ ss. Lined x p there (hears k signal.Grant y).state ss) (sym (append-nil back)) (go (k == q) (eq-eqb k q (same-port y.view.parent k q j i)) l)
     where
       go :
           (b : Bool) → b ≡ true → Lined x p (with b signal.Grant there) y back →
@@ -177,7 +178,7 @@ module _
       other e = none (is_port y.view.parent k) refl
         where
           none : (b : Bool) → is_port y.view.parent k ≡ b → b ≡ false
-          none true j = absurd (eqb-false k q e (one-parent y.view.parent k q j i))
+          none true j = absurd (eqb-false k q e (same-port y.view.parent k q j i))
           none false j = refl
 
       go :
@@ -270,11 +271,11 @@ module _
   waits-hearing signal.Done e n a w = record { parent = w.parent; ungranted = w.ungranted; nothing = w.nothing; said = said-nil w.said; comes = rest-silent (k == q) signal.Done w.comes }
   waits-hearing signal.Grant e n a w =
       let j = (and_parts (is_identifying y.view.phase) (is_port y.view.parent k) (and_parts (is_connected y.view.ports k) (is_identifying y.view.phase && is_port y.view.parent k) e).1).1 in
-      absurd (first-silent (k == q) signal.Grant (eq-eqb k q (one-parent y.view.parent k q j w.parent)) refl w.comes)
+      absurd (first-silent (k == q) signal.Grant (eq-eqb k q (same-port y.view.parent k q j w.parent)) refl w.comes)
   waits-hearing (signal.Packet quad) e n a w = absurd (go (is_port y.view.parent k) refl)
     where
       go : (b : Bool) → is_port y.view.parent k ≡ b → ⊥
-      go true j = first-silent (k == q) (signal.Packet quad) (eq-eqb k q (one-parent y.view.parent k q j w.parent)) refl w.comes
+      go true j = first-silent (k == q) (signal.Packet quad) (eq-eqb k q (same-port y.view.parent k q j w.parent)) refl w.comes
       go false j = true≢false (sym (speaking y k quad m j a).0 ∙ w.ungranted)
 
 pub waits-hears :
@@ -345,7 +346,7 @@ module _
       go :
           (b : Bool) → is_port x.view.parent j ≡ b → fits (mode (hears k signal.Grant x).state j)
           ss ≡ true
-      go true e = here (k == j) (eq-eqb k j (one-parent x.view.parent k j i e)) (is_port x.view.parent j) e f
+      go true e = here (k == j) (eq-eqb k j (same-port x.view.parent k j i e)) (is_port x.view.parent j) e f
       go false e = there (k == j) refl (is_port x.view.parent j) e refl f
 
   front-packet :
@@ -426,7 +427,7 @@ others-silent x k j quad ss m ne a f = go (is_port x.view.parent k) (is_ready x.
   where
     not-parent :
         is_port x.view.parent k ≡ true → (b : Bool) → is_port x.view.parent j ≡ b → b ≡ false
-    not-parent e true g = absurd (eqb-false k j ne (one-parent x.view.parent k j e g))
+    not-parent e true g = absurd (eqb-false k j ne (same-port x.view.parent k j e g))
     not-parent e false g = refl
 
     closed :

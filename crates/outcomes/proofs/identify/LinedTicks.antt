@@ -32,7 +32,7 @@ use Rattle.outcomes.proofs.identify.Messages.{silent-append, silent-quads, silen
 use Rattle.outcomes.proofs.identify.Lines.{asks-down, sends-all-down, sends-all-up, done-up}
 use Rattle.outcomes.proofs.identify.Ports.{changed-other, changed-here, lowest-is, child-role, is-unnamed}
 use Rattle.outcomes.proofs.identify.MarksKept.{hears-late, all-named, raised-marked, Goes, goes}
-use Rattle.outcomes.proofs.identify.Hearing.{parent-connected}
+use Rattle.outcomes.proofs.identify.Hearing.{parent-connected, only-silent}
 use Rattle.outcomes.proofs.identify.LinedHears.{Waiting}
 
 -- ---- rows of other phases
@@ -425,10 +425,6 @@ arrives coin x h n = go (next_row x) (chosen x.view.phase (raise_timer x) refl) 
 
 -- ---- a node that isn't in self identify or A0 sends no message
 
-one-silent : (b : Bool) (s : Signal) → is_message s ≡ false → silent (only b s) ≡ true
-one-silent true s h = rw h refl
-one-silent false s h = refl
-
 pub tick-silent :
     (coin : Bool) (x : NodeState) (k : ℕ) → hears_packets x.view.phase ≡ false →
     silent (sent_on k (tick coin x).sends) ≡ true
@@ -448,12 +444,12 @@ tick-silent coin x k h = go (next_row x) (chosen x.view.phase (raise_timer x) re
     go :
         (r : Row) → Chosen r (raise_timer x) →
         silent (sent_on k (does coin r (raise_timer x)).sends) ≡ true
-    go row.ends_reset c = ap silent (on_every-port k signal.Idle x.view.ports) ∙ one-silent (is_connected x.view.ports k) signal.Idle refl
+    go row.ends_reset c = ap silent (on_every-port k signal.Idle x.view.ports) ∙ only-silent (is_connected x.view.ports k) signal.Idle refl
     go row.takes_roles c = ap silent (notices-port k x.view.ports) ∙ notice (port_is asks x.view.ports k) (port_is is_remaining x.view.ports k)
-    go (row.finds_parent p) c = one-silent (p == k) signal.Idle refl
-    go (row.begins_contention p) c = one-silent (p == k) signal.Idle refl
-    go (row.takes_rival p) c = one-silent (p == k) signal.Child refl
-    go (row.asks_again p) c = one-silent (p == k) signal.Parent refl
+    go (row.finds_parent p) c = only-silent (p == k) signal.Idle refl
+    go (row.begins_contention p) c = only-silent (p == k) signal.Idle refl
+    go (row.takes_rival p) c = only-silent (p == k) signal.Child refl
+    go (row.asks_again p) c = only-silent (p == k) signal.Parent refl
     go (row.asks_child p) c = absurd (on c refl)
     go row.names_itself c = absurd (on c refl)
     go r c = refl

@@ -2,7 +2,6 @@
 -- at the other.
 use Rattle.std.proofs.Common.{◌≡◌, ◌⊎◌, inl, inr, ℕ, ◌+◌, ◌≤◌, length, Bool, true, false, List, [], ◌++◌, map, sym, ◌∙◌, ap, subst, arith, append-nil, true≢false, if◌then◌else◌}
 use Rattle.std.proofs.lemmas.List.{append_assoc}
-use Rattle.port_state.specs.declared.signal.Phase.{Phase}
 use Rattle.port_state.specs.declared.signal.Signal.{Signal}
 use Rattle.port_state.specs.declared.states.NodeState.{NodeState}
 use Rattle.port_state.specs.Ports.{is_port}
@@ -19,14 +18,12 @@ use Rattle.outcomes.specs.NodeMarks.{is_ready, is_asked, is_named, IsMarked}
 use Rattle.outcomes.specs.Messages.{silent, quads_in, Mode, parent_mode, child_mode, mode, fits}
 use Rattle.outcomes.specs.Identify.{Lined}
 use Rattle.outcomes.proofs.identify.Messages.{fits-silent, silent-append, silent-quads, quads-append}
-use Rattle.outcomes.proofs.identify.Hearing.{Stays, signal-stays, not-both-phases}
+use Rattle.outcomes.proofs.identify.Hearing.{Stays, signal-stays}
 use Rattle.outcomes.proofs.identify.LinedHears.{above-hears, below-hears, waits-hears, front-hears, room-hears, Waiting}
 use Rattle.outcomes.proofs.identify.LinedTicks.{above-ticks, below-ticks, waits-ticks, front-ticks, room-ticks, ticks-on, tick-silent, ticks-parent}
 use Rattle.outcomes.proofs.identify.GreetTicks.{ticks-child}
 use Rattle.outcomes.proofs.identify.HearAll.{MayCome, HasRoom, Keeps, hear-keeps, hear-marked}
-
-resetting-silent : (h : Phase) → is_resetting h ≡ true → hears_packets h ≡ false
-resetting-silent h r = grind arith
+use Rattle.convergence.proofs.turns.PhaseFacts.{start-mute, start-hears}
 
 -- what is known of a node before it takes its turn
 pub record Able (s : Side) : Type 0 where
@@ -58,13 +55,13 @@ takes :
     (out pend : List Signal) → Q s.node out (sent_on s.port s.inbox ++ pend) → Taken s (λ x o. Q x o pend) S out
 takes s a Q S keeps ticks out pend q = elim (hear-keeps s.port Q S keeps s.inbox s.node out pend a.valid a.marked a.hears a.comes a.room q) [
   | inl h ↦ inl (ticks-on s.coin (hearing s).state h.0, subst (λ o. Q (ticking s).state o pend) (parts s out) (ticks (out ++ sent_on s.port (hearing s).sends) pend h.0 h.1))
-  | inr h ↦ inr (h.0, subst S (parts s out) (keeps.adds (out ++ sent_on s.port (hearing s).sends) (sent_on s.port (ticking s).sends) h.1 (tick-silent s.coin (hearing s).state s.port (resetting-silent (hearing s).state.view.phase h.0))))
+  | inr h ↦ inr (h.0, subst S (parts s out) (keeps.adds (out ++ sent_on s.port (hearing s).sends) (sent_on s.port (ticking s).sends) h.1 (tick-silent s.coin (hearing s).state s.port (start-mute (hearing s).state.view.phase h.0))))
 ]
 
 stayed :
     (k : ℕ) (s : Signal) (x : NodeState) → hears_packets (on_signal k s x).state.view.phase ≡ true →
     Stays x (on_signal k s x).state
-stayed k s x n = elim (signal-stays k s x) [ inl t ↦ t | inr r ↦ absurd (not-both-phases (on_signal k s x).state.view.phase r n) ]
+stayed k s x n = elim (signal-stays k s x) [ inl t ↦ t | inr r ↦ absurd (start-hears (on_signal k s x).state.view.phase r n) ]
 
 -- what may come to the other end, and has room in its list
 abbrev pub Comes : Mode → List ℕ → List Signal → Type 0

@@ -1,9 +1,8 @@
 -- On a cable whose two ends are in self identify or A0, one list follows the other.
-use Rattle.std.proofs.Common.{◌≡◌, ◌⊎◌, inl, inr, ℕ, Bool, true, false, not, List, [], ◌++◌, Some, slice_get, refl, sym, ◌∙◌, ap, arith}
-use Rattle.port_state.specs.declared.signal.Phase.{Phase}
+use Rattle.std.proofs.Common.{◌≡◌, ◌⊎◌, inl, inr, ℕ, Bool, true, false, not, List, [], ◌++◌, Some, slice_get, refl, sym, ◌∙◌, ap}
 use Rattle.port_state.specs.declared.signal.Signal.{Signal}
 use Rattle.port_state.specs.Ports.{is_port}
-use Rattle.port_state.specs.Heard.{is_resetting, hears_packets}
+use Rattle.port_state.specs.Heard.{hears_packets}
 use Rattle.port_state.specs.Machine.{PortNode}
 use Rattle.cabling.specs.declared.cable.End.{End}
 use Rattle.cabling.specs.Wiring.{far}
@@ -19,6 +18,7 @@ use Rattle.outcomes.specs.Identify.{speaks, Line, Lined, IsIdentifying}
 use Rattle.outcomes.specs.Lists.{Follows, ListsFollow}
 use Rattle.outcomes.proofs.identify.Messages.{kept-room}
 use Rattle.outcomes.proofs.identify.MarksKept.{hears-late}
+use Rattle.convergence.proofs.turns.PhaseFacts.{start-hears}
 
 -- ---- one line
 
@@ -40,9 +40,6 @@ line-lists {a} {n} {g} {r} {above} {below} {down} {up} l = go (speaks g n) refl
 
 -- ---- a cable
 
-out : (h : Phase) → is_resetting h ≡ true → hears_packets h ≡ true → ⊥
-out h a b = grind arith
-
 -- the first node is the parent of the second
 pub record IsAbove (w : CableWorld) (a b : End) (x y : PortNode) : Type 0 where
   pub child : leads_down x.state.view.ports a.port ≡ true
@@ -59,7 +56,7 @@ module _ (w : CableWorld) (l : IsLawful w) (i : IsIdentifying w) where
   calm a b x y e at_x at_y h = go (has_reset (signals_of (wire_of w a).signals)) refl
     where
       go : (r : Bool) → has_reset (signals_of (wire_of w a).signals) ≡ r → r ≡ false
-      go true r = absurd (out x.state.view.phase ((l.coupled.cables a b x y e at_x at_y).reset r) h)
+      go true r = absurd (start-hears x.state.view.phase ((l.coupled.cables a b x y e at_x at_y).reset r) h)
       go false r = refl
 
   pub child-above :

@@ -46,12 +46,12 @@ use Rattle.convergence.specs.Acyclic.{IsAcyclic}
 use Rattle.convergence.specs.Milestones.{ResetsAreOver}
 use Rattle.outcomes.specs.NodeMarks.{is_ready, is_asked, is_named}
 use Rattle.outcomes.specs.Messages.{is_message, silent, quads_in, has_grant, has_done, kept, parent_mode, child_mode}
-use Rattle.outcomes.proofs.identify.Holders.{no-grant, no-done, child-grants-none, parent-says-none}
+use Rattle.outcomes.proofs.identify.OneMessage.{no-grant, no-done, child-grants-none, parent-says-none}
 use Rattle.outcomes.proofs.identify.Ports.{child-role}
 use Rattle.outcomes.specs.Identify.{IsIdentifying}
 use Rattle.outcomes.specs.RootWalk.{place_now, IsNamed}
 use Rattle.outcomes.specs.Numbered.{IsSettling, IsAtRest}
-use Rattle.outcomes.proofs.identify.Hearing.{Stays, signal-stays, not-both-phases, reset-heard}
+use Rattle.outcomes.proofs.identify.Hearing.{Stays, signal-stays, reset-heard}
 use Rattle.outcomes.proofs.identify.IdentifyingTurn.{turn-identifying}
 use Rattle.outcomes.proofs.identify.ListsFollow.{IsAbove, one-above}
 use Rattle.outcomes.proofs.identify.MarksKept.{hears-late, all-named}
@@ -63,6 +63,7 @@ use Rattle.outcomes.proofs.numbers.Settling.{Up, climbs, settles-on}
 use Rattle.convergence.proofs.ranks.StaysAcyclic.{reached-acyclic, turns-acyclic}
 use Rattle.outcomes.proofs.identify.StaysIdentifying.{reached-identifying, turns-identifying}
 use Rattle.convergence.proofs.resets.ResetsOver.{resets-over}
+use Rattle.convergence.proofs.turns.PhaseFacts.{start-hears}
 
 -- ---- the room for a group
 
@@ -226,7 +227,7 @@ hears-no-list :
 hears-no-list [] x h on q = refl
 hears-no-list (s ∷ rest) x h on q = elim (signal-stays s.0 s.1 x) [
   | inl t ↦ then-so t (hears-no-list rest (on_signal s.0 s.1 x).state)
-  | inr t ↦ absurd (not-both-phases (hear_all rest (on_signal s.0 s.1 x).state).state.view.phase (hear-stays rest (on_signal s.0 s.1 x).state t) on)
+  | inr t ↦ absurd (start-hears (hear_all rest (on_signal s.0 s.1 x).state).state.view.phase (hear-stays rest (on_signal s.0 s.1 x).state t) on)
 ]
   where
     use-level : is_message s.1 ≡ false

@@ -50,8 +50,7 @@ use Rattle.outcomes.specs.RootWalk.{place_now, RootWalk}
 use Rattle.outcomes.specs.Numbered.{IsNumbered}
 use Rattle.convergence.specs.Milestones.{AreIdentifying}
 use Rattle.outcomes.proofs.identify.Messages.{quads-append, silent-quads, shut-silent}
-use Rattle.outcomes.proofs.identify.Holders.{no-grant, no-done, child-grants-none, parent-says-none, end-of}
-use Rattle.outcomes.proofs.identify.Hearing.{not-both-phases}
+use Rattle.outcomes.proofs.identify.OneMessage.{no-grant, no-done, child-grants-none, parent-says-none, end-of, two-parts}
 use Rattle.outcomes.proofs.identify.IdentifiesTurn.{Told}
 use Rattle.outcomes.proofs.identify.IdentifyingTurn.{told}
 use Rattle.outcomes.proofs.identify.LinedTicks.{off, ticks-on, ticks-parent}
@@ -60,6 +59,7 @@ use Rattle.outcomes.proofs.identify.ListsFollow.{IsAbove, one-above}
 use Rattle.outcomes.proofs.identify.MarksKept.{hears-late}
 use Rattle.outcomes.proofs.identify.Ports.{child-role}
 use Rattle.outcomes.proofs.numbers.Turning.{Marks, Goes-on, Heard-so, goes-along, hears-all, Ticks-so, ticks-so}
+use Rattle.convergence.proofs.turns.PhaseFacts.{start-hears}
 
 -- ---- signals
 
@@ -107,11 +107,6 @@ given-reset :
     (g : Bool) (ss : List Signal) → has_reset (if g then ss else []) ≡ true → has_reset ss ≡ true
 given-reset true ss e = e
 given-reset false ss e = absurd (true≢false (sym e))
-
-pub first-of : (a b : Bool) → (a && not b) ≡ true → (a ≡ true) × (b ≡ false)
-first-of true false e = (refl, refl)
-first-of true true e = absurd (true≢false (sym e))
-first-of false b e = absurd (true≢false (sym e))
 
 not-then : (a b : Bool) → (a && not b) ≡ false → b ≡ false → a ≡ false
 not-then true false e f = absurd (true≢false e)
@@ -214,7 +209,7 @@ module _
           let n = joined-of w a b.0 l.well_formed b.1 in
           let back : far w.cabling b.0 ≡ Some a = l.well_formed.cabling.both_ways a b.0 b.1 in
           let there : has_reset (signals_of (wire_of w b.0).signals) ≡ true = given-reset (gives w.delay (age_wire (wire_of w b.0))) (signals_of (wire_of w b.0).signals) (sym (ap has_reset (comes w b.0 a b.1)) ∙ found.2) in
-          not-both-phases n.other.state.view.phase ((l.coupled.cables b.0 a n.other x back n.other_at at).reset there) (all b.0.node n.other (closed a b.0 b.1 h) n.other_at)
+          start-hears n.other.state.view.phase ((l.coupled.cables b.0 a n.other x back n.other_at at).reset there) (all b.0.node n.other (closed a b.0 b.1 h) n.other_at)
 
   pub stays-on :
       (k : ℕ) (x : PortNode) → Holds set k → slice_get w.nodes k ≡ Some x →
@@ -367,7 +362,7 @@ module _
       from-above : IsAbove w b a y x → Owed a.node a.port x (there ++ now)
       from-above r = elim (above-turn (side w b y) able-y x.state there (signals_of (leftovers (side w a x))) (r.child, subst (λ ss. Lined y.state b.port there x.state ss) (sym going) r.line)) [
         | inl u ↦ owed u.1.1
-        | inr u ↦ absurd (not-both-phases (hearing (side w b y)).state.view.phase u.0 (still-there b.node y h_y at_y))
+        | inr u ↦ absurd (start-hears (hearing (side w b y)).state.view.phase u.0 (still-there b.node y h_y at_y))
       ]
         where
           cable : IsChildCable w b a
@@ -380,7 +375,7 @@ module _
               message.kept x.state.list.items (quads_in (there ++ now)) ≡ emit t (marks a.node 0)
           granted line f true g = silent-more x.state.list.items there now (behind-grant (parent_mode (is_ready x.state.view.phase) x.state.view.granted) there now line.fits_down g) ∙ num.grants b a x h e at_x g
           granted line f false g =
-              let one = first-of (is_asked (ticking (side w b y)).state b.port) x.state.view.granted (sym line.granting ∙ f) in
+              let one = two-parts (is_asked (ticking (side w b y)).state b.port) x.state.view.granted (sym line.granting ∙ f) in
               let before-it : is_asked y.state b.port ≡ false = not-then (is_asked y.state b.port) x.state.view.granted (sym r.line.granting ∙ g) one.1 in
               let none : quads_in (signals_of (leftovers (side w a x))) ≡ [] = line.no_up (mute-so x.state.view.granted (is_named (ticking (side w b y)).state b.port) one.1) in
               sym line.agree ∙ ap (message.kept (ticking (side w b y)).state.list.items) none ∙ (so-far b.node y h_y at_y).asks b.port before-it one.0 ∙ ap (emit t) (sym (walk.along b a h_y cable).0)
@@ -398,7 +393,7 @@ module _
       from-below : IsAbove w a b x y → Owed a.node a.port x (there ++ now)
       from-below r = elim (below-turn (side w b y) able-y x.state a.port there (signals_of (leftovers (side w a x))) (r.parent, subst (λ ss. Lined x.state a.port ss y.state there) (sym going) r.line)) [
         | inl u ↦ owed u.1.1
-        | inr u ↦ absurd (not-both-phases (hearing (side w b y)).state.view.phase u.0 (still-there b.node y h_y at_y))
+        | inr u ↦ absurd (start-hears (hearing (side w b y)).state.view.phase u.0 (still-there b.node y h_y at_y))
       ]
         where
           cable : IsChildCable w a b
@@ -412,7 +407,7 @@ module _
               ≡ emit t (marks a.node (a.port + 1))
           named line f true g = silent-more x.state.list.items there now (behind-done (child_mode (is_asked x.state a.port) (is_named x.state a.port)) there now line.fits_up g) ∙ num.dones b a x h e at_x g
           named line f false g =
-              let one = first-of (is_ready (ticking (side w b y)).state.view.phase) (is_named x.state a.port) (sym line.naming ∙ f) in
+              let one = two-parts (is_ready (ticking (side w b y)).state.view.phase) (is_named x.state a.port) (sym line.naming ∙ f) in
               let before-it : is_ready y.state.view.phase ≡ false = not-then (is_ready y.state.view.phase) (is_named x.state a.port) (sym r.line.naming ∙ g) one.1 in
               let none : quads_in (signals_of (leftovers (side w a x))) ≡ [] = line.no_down (speaks-so (ticking (side w b y)).state.view.granted (is_named x.state a.port) (line.readies one.0) one.1) in
               line.agree ∙ ap (message.kept (ticking (side w b y)).state.list.items) none ∙ (so-far b.node y h_y at_y).names before-it one.0
@@ -433,7 +428,7 @@ module _
           x.state (signals_of (leftovers (side w a x)))
       above-line r = elim (above-turn (side w b y) able-y x.state there (signals_of (leftovers (side w a x))) (r.child, subst (λ ss. Lined y.state b.port there x.state ss) (sym going) r.line)) [
         | inl u ↦ u.1.1
-        | inr u ↦ absurd (not-both-phases (hearing (side w b y)).state.view.phase u.0 (still-there b.node y h_y at_y))
+        | inr u ↦ absurd (start-hears (hearing (side w b y)).state.view.phase u.0 (still-there b.node y h_y at_y))
       ]
 
       -- behind a Grant or Done the other end sends nothing

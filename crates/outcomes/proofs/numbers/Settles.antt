@@ -32,8 +32,8 @@ use Rattle.outcomes.specs.Holders as holder
 use Rattle.outcomes.specs.RootWalk.{parent_of, parent_now, place_now}
 use Rattle.outcomes.specs.Numbered.{IsSettling}
 use Rattle.outcomes.proofs.numbers.AtRest.{there, lawful-then, acyclic-then, identifying-then, over-then, next-turn, settles-always}
-use Rattle.outcomes.proofs.identify.Hearing.{parent-is}
-use Rattle.outcomes.proofs.identify.Holders.{one-holder, no-grant, no-done, child-grants-none, parent-says-none, end-of}
+use Rattle.outcomes.proofs.identify.Holders.{one-holder}
+use Rattle.outcomes.proofs.identify.OneMessage.{no-grant, no-done, child-grants-none, parent-says-none, end-of, two-parts}
 use Rattle.outcomes.proofs.identify.ListsFollow.{IsAbove, one-above, parent-below, child-above}
 use Rattle.outcomes.proofs.identify.MarksKept.{hears-late}
 use Rattle.outcomes.proofs.identify.Messages.{silent-grant, silent-done}
@@ -42,9 +42,10 @@ use Rattle.port_state.specs.Ports.{is_port}
 use Rattle.std.proofs.lemmas.Bool.{eq-eqb}
 use Rattle.cable_world.proofs.resets.Entries.{after-delay}
 use Rattle.cable_world.proofs.StaysLawful.{reached-lawful}
-use Rattle.outcomes.proofs.numbers.NumberedTurn.{first-of, stayed}
+use Rattle.outcomes.proofs.numbers.NumberedTurn.{stayed}
 use Rattle.outcomes.proofs.numbers.Progress.{node-rises, Old, old-grant, old-done, grant-old, done-old, none-older, moves, turn-used}
 use Rattle.outcomes.proofs.numbers.Settling.{Up, up-or-root, climbs}
+use Rattle.convergence.proofs.turns.PortFacts.{port-is}
 
 -- ---- counts
 
@@ -162,7 +163,7 @@ module _
       (k : ℕ) (x : PortNode) (u : Up-of k x) → slice_get w.nodes k ≡ Some x →
       up-end w k (parent_now w k) ≡ Some u.end
   end-of-up k x u at =
-      ap (up-end w k) (ap parent_of at ∙ parent-is x.state.view.parent u.port u.above.parent) ∙ l.well_formed.cabling.both_ways u.end (record { node = k; port = u.port }) u.joined
+      ap (up-end w k) (ap parent_of at ∙ port-is x.state.view.parent u.port u.above.parent) ∙ l.well_formed.cabling.both_ways u.end (record { node = k; port = u.port }) u.joined
 
   -- a turn
   after-up :
@@ -249,7 +250,7 @@ link-end :
     (v : CableWorld) → IsLawful v → (a b : End) → (n : Link v a b) → (f : NodeState → ℕ → Bool) →
     of-end f v (up-end v b.node (parent_now v b.node)) ≡ f n.above.state a.port
 link-end v l a b n f =
-    ap (λ (o : Option ℕ). of-end f v (up-end v b.node o)) (ap parent_of n.below_at ∙ parent-is n.below.state.view.parent b.port n.is.parent)
+    ap (λ (o : Option ℕ). of-end f v (up-end v b.node o)) (ap parent_of n.below_at ∙ port-is n.below.state.view.parent b.port n.is.parent)
     ∙ ap (of-end f v) (l.well_formed.cabling.both_ways a b n.joined) ∙ ap (of-node (λ x. f x a.port)) n.above_at
 
 module _
@@ -319,7 +320,7 @@ module _
   pub link-on : (j m : ℕ) (a b : End) → Holds set a.node → Link (W j) a b → Link (W (j + m)) a b
   link-on j m a b h n =
       let h_b : Holds set b.node = (S j).component.closed a b n.joined h in
-      link-by (j + m) a b h (ap (λ (d : Wiring). far d a) (wires-on j m) ∙ n.joined) (parent-on j m b.node h_b ∙ ap parent_of n.below_at ∙ parent-is n.below.state.view.parent b.port n.is.parent)
+      link-by (j + m) a b h (ap (λ (d : Wiring). far d a) (wires-on j m) ∙ n.joined) (parent-on j m b.node h_b ∙ ap parent_of n.below_at ∙ port-is n.below.state.view.parent b.port n.is.parent)
 
   -- ---- what is under way comes
 
@@ -370,7 +371,7 @@ module _
       has_grant (signals_of (wire_of (W j) a).signals) ≡ true → Rising j
   by-grant j a b h n g =
       let h_b : Holds set b.node = (S j).component.closed a b n.joined h in
-      let one = first-of (is_asked n.above.state a.port) n.below.state.view.granted (sym n.is.line.granting ∙ g) in
+      let one = two-parts (is_asked n.above.state a.port) n.below.state.view.granted (sym n.is.line.granting ∙ g) in
       let c = comes-by is_grant (λ n ts o. inl (grant-old n ts o)) j a b h_b n.joined (old-grant (wire_of (W j) a).signals g) in
       let n1 = link-on j c.0 a b h n in
       let asked : is_asked n1.above.state a.port ≡ true =
@@ -389,7 +390,7 @@ module _
       has_done (signals_of (wire_of (W j) b).signals) ≡ true → Rising j
   by-done j a b h n g =
       let h_b : Holds set b.node = (S j).component.closed a b n.joined h in
-      let one = first-of (is_ready n.below.state.view.phase) (is_named n.above.state a.port) (sym n.is.line.naming ∙ g) in
+      let one = two-parts (is_ready n.below.state.view.phase) (is_named n.above.state a.port) (sym n.is.line.naming ∙ g) in
       let c = comes-by is_done (λ n ts o. inr (done-old n ts o)) j b a h ((L j).well_formed.cabling.both_ways a b n.joined) (old-done (wire_of (W j) b).signals g) in
       let n1 = link-on j c.0 a b h n in
       let ready : is_ready n1.below.state.view.phase ≡ true =
@@ -430,7 +431,7 @@ module _
           let h_b : Holds set b.0.node = (S (j + 1)).component.closed a b.0 b.1 h in
           let u = child-above (W (j + 1)) (L (j + 1)) (I (j + 1)) a b.0 z n.other b.1 at_1 n.other_at ((S (j + 1)).all q z h at_1) ((S (j + 1)).all b.0.node n.other h_b n.other_at) child in
           let n1 : Link (W (j + 1)) a b.0 = record { joined = b.1; above = z; above_at = at_1; below = n.other; below_at = n.other_at; is = u } in
-          let n0 : Link (W j) a b.0 = link-by j a b.0 h (sym (ap (λ (d : Wiring). far d a) (wires-on j 1)) ∙ b.1) (sym (parent-on j 1 b.0.node h_b) ∙ ap parent_of n.other_at ∙ parent-is n.other.state.view.parent b.0.port u.parent) in
+          let n0 : Link (W j) a b.0 = link-by j a b.0 h (sym (ap (λ (d : Wiring). far d a) (wires-on j 1)) ∙ b.1) (sym (parent-on j 1 b.0.node h_b) ∙ ap parent_of n.other_at ∙ port-is n.other.state.view.parent b.0.port u.parent) in
           let same : n0.above ≡ x = some-same n0.above x (sym n0.above_at ∙ at) in
           record {
             turns = 1;

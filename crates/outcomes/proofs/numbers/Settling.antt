@@ -43,20 +43,18 @@ use Rattle.outcomes.specs.Identify.{IsIdentifying}
 use Rattle.outcomes.specs.RootWalk.{RootWalk}
 use Rattle.outcomes.specs.Numbered.{StandsAt, IsNumbered, IsSettling}
 use Rattle.convergence.proofs.loops.Cores.{Down, all-under, one-root}
-use Rattle.outcomes.proofs.identify.Holders.{no-grant, no-done, child-grants-none, parent-says-none, end-of}
-use Rattle.outcomes.proofs.identify.Hearing.{parent-connected, not-both-phases}
+use Rattle.outcomes.proofs.identify.OneMessage.{no-grant, no-done, child-grants-none, parent-says-none, end-of, two-parts}
+use Rattle.outcomes.proofs.identify.Hearing.{parent-connected}
 use Rattle.outcomes.proofs.identify.HearAll.{hear-marked}
 use Rattle.outcomes.proofs.identify.IdentifyingTurn.{turn-identifying}
 use Rattle.outcomes.proofs.identify.LinedTicks.{Arrives, arrives, ticks-parent}
 use Rattle.outcomes.proofs.identify.ListsFollow.{IsAbove, one-above, parent-below}
 use Rattle.outcomes.proofs.identify.MarksKept.{hears-late, none-asked}
 use Rattle.outcomes.proofs.roots.Named.{same-walk}
-use Rattle.outcomes.proofs.numbers.NumberedTurn.{first-of, turn-numbered, Stayed, stayed}
+use Rattle.outcomes.proofs.numbers.NumberedTurn.{turn-numbered, Stayed, stayed}
 use Rattle.outcomes.proofs.roots.RootWalk.{root-walk, node-at}
 use Rattle.convergence.proofs.ranks.RanksInTurns.{turn-acyclic}
-
-start-mute : (h : Phase) → is_resetting h ≡ true → hears_packets h ≡ false
-start-mute h e = grind arith
+use Rattle.convergence.proofs.turns.PhaseFacts.{start-hears}
 
 -- ---- up a component all of whose nodes are in self identify or A0
 
@@ -157,7 +155,7 @@ module _
         let h_a : Holds set a.node = comp.closed b a e h in
         elim (one-above w l i b a x n.other e at n.other_at (all b.node x h at) (all a.node n.other h_a n.other_at)) [
           | inl u ↦ true≢false (sym g ∙ no-grant (child_mode (is_asked x.state b.port) (is_named x.state b.port)) (signals_of (wire_of w a).signals) (child-grants-none (is_asked x.state b.port) (is_named x.state b.port)) u.line.fits_up)
-          | inr u ↦ none-asked-there a.node a.port n.other h_a n.other_at (first-of (is_asked n.other.state a.port) x.state.view.granted (sym u.line.granting ∙ g)).0
+          | inr u ↦ none-asked-there a.node a.port n.other h_a n.other_at (two-parts (is_asked n.other.state a.port) x.state.view.granted (sym u.line.granting ∙ g)).0
         ]
 
     no-dones :
@@ -167,7 +165,7 @@ module _
         let n = joined-of w b a l.well_formed e in
         let h_a : Holds set a.node = comp.closed b a e h in
         elim (one-above w l i b a x n.other e at n.other_at (all b.node x h at) (all a.node n.other h_a n.other_at)) [
-          | inl u ↦ none-ready a.node n.other h_a n.other_at (first-of (is_ready n.other.state.view.phase) (is_named x.state b.port) (sym u.line.naming ∙ g)).0
+          | inl u ↦ none-ready a.node n.other h_a n.other_at (two-parts (is_ready n.other.state.view.phase) (is_named x.state b.port) (sym u.line.naming ∙ g)).0
           | inr u ↦ true≢false (sym g ∙ no-done (parent_mode (is_ready x.state.view.phase) x.state.view.granted) (signals_of (wire_of w a).signals) (parent-says-none (is_ready x.state.view.phase) x.state.view.granted) u.line.fits_down)
         ]
 
@@ -347,7 +345,7 @@ module _
       calm :
           (b : Bool) (h : Phase) → hears_packets h ≡ true → (b ≡ true → is_resetting h ≡ true) →
           b ≡ false
-      calm true h e f = absurd (not-both-phases h (f refl) e)
+      calm true h e f = absurd (start-hears h (f refl) e)
       calm false h e f = refl
 
   pub all-below : AreIdentifying w set

@@ -24,7 +24,7 @@ use Rattle.outcomes.specs.Messages as message
 use Rattle.outcomes.specs.Numbered.{IsSettling, IsAtRest}
 use Rattle.outcomes.proofs.numbers.AtRest.{silent-of, stays-tree}
 use Rattle.cable_world.specs.Outcome.{IsTree}
-use Rattle.outcomes.proofs.identify.Holders.{no-grant, no-done, parent-says-none, child-grants-none}
+use Rattle.outcomes.proofs.identify.OneMessage.{no-grant, no-done, parent-says-none, child-grants-none}
 use Rattle.outcomes.proofs.identify.ListsFollow.{IsAbove, one-above}
 use Rattle.outcomes.proofs.numbers.Settling.{up-or-root}
 use Rattle.outcomes.proofs.identify.MarksKept.{hears-late}

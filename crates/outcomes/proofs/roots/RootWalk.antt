@@ -1,7 +1,6 @@
 -- Below a root that knows its tree the walk is there.
-use Rattle.std.proofs.Common.{◌≡◌, ◌≢◌, ◌⊎◌, ℕ, zero, suc, ◌+◌, ◌^◌, ◌<◌, ◌≤◌, Bool, true, false, cond, not, eq-eqb, true≢false, Option, Some, None, List, ◌++◌, length, get_or, slice_get, inl, inr, refl, sym, subst, ap, ◌∙◌, arith}
-use Rattle.std.proofs.lemmas.Bool.{eqb-true, cases_lt}
-use Rattle.std.proofs.lemmas.List.Sums.{sum_by-append}
+use Rattle.std.proofs.Common.{◌≡◌, ◌≢◌, ◌⊎◌, ℕ, zero, suc, ◌+◌, ◌^◌, ◌<◌, ◌≤◌, Bool, true, false, not, true≢false, Option, Some, None, ◌++◌, length, get_or, slice_get, inl, inr, refl, sym, subst, ap, ◌∙◌, arith}
+use Rattle.std.proofs.lemmas.Bool.{cases_lt}
 use Rattle.std.proofs.lemmas.Option.{slice_get_within, slice_get-get_or}
 use Rattle.self_id.specs.Node.{Node}
 use Rattle.self_id.specs.Group.{group, node_count}
@@ -30,7 +29,6 @@ use Rattle.outcomes.proofs.walks.InTurn.{ready-first}
 use Rattle.outcomes.proofs.walks.Intervals.{rest-of}
 use Rattle.port_state.specs.Ports.{is_port}
 use Rattle.port_state.specs.Group.{own_group}
-use Rattle.phy_packet.specs.Packet.{is_packet_zero}
 use Rattle.port_state.specs.Machine.{PortNode}
 use Rattle.port_state.proofs.Laws.{node_count-own_group}
 use Rattle.cable_world.specs.World.{CableWorld}
@@ -50,26 +48,10 @@ use Rattle.outcomes.specs.RootWalk.{parent_of, parent_now, place_now, RootWalk}
 use Rattle.convergence.proofs.sets.Closure.{in-component}
 use Rattle.convergence.proofs.loops.Cores.{leads-down, rooted-late, no-root-with-loop}
 use Rattle.outcomes.proofs.roots.OwnGroups.{shown-by-label}
+use Rattle.convergence.proofs.turns.PortFacts.{port-is, is-port, port-is-not}
+use Rattle.self_id.proofs.Zeros.{node_count-append}
 
-nodes-append : (xs ys : List ℕ) → node_count (xs ++ ys) ≡ node_count xs + node_count ys
-nodes-append xs ys = sum_by-append (λ (q : ℕ). cond (is_packet_zero q) 1 0) xs ys
-
-port-is : (o : Option ℕ) (p : ℕ) → is_port o p ≡ true → o ≡ Some p
-port-is None p e = absurd cc
-port-is (Some q) p e = ap (λ (n : ℕ). Some n) (eqb-true q p e)
-
-port-is-not : (o : Option ℕ) (p : ℕ) → o ≢ Some p → is_port o p ≡ false
-port-is-not o p ne = go (is_port o p) refl
-  where
-    go : (b : Bool) → is_port o p ≡ b → b ≡ false
-    go false e = refl
-    go true e = absurd (ne (port-is o p e))
-
-is-port : (o : Option ℕ) (p : ℕ) → o ≡ Some p → is_port o p ≡ true
-is-port None p e = absurd cc
-is-port (Some q) p e = let same : q ≡ p = cc in eq-eqb q p same
-
-not-false : (b : Bool) → not b ≡ false → b ≡ true
+pub not-false : (b : Bool) → not b ≡ false → b ≡ true
 not-false true e = refl
 not-false false e = absurd cc
 
@@ -194,7 +176,7 @@ module _
       let add : emit seen.tree (m + 1) ≡ emit seen.tree m ++ own_group n.0.state m = subst (λ (i : ℕ). emit seen.tree (i + 1) ≡ emit seen.tree i ++ own_group n.0.state i) here (next c.0 n.0 c.1 n.1) in
       let later : suc m ≡ m + 1 = omega arith in
       let one : node_count (own_group n.0.state m) ≡ 1 = node_count-own_group n.0.state m (l.well_formed.nodes c.0 n.0 n.1).valid.bounded (omega (arith, le, seen.few)) in
-      ap (λ (i : ℕ). node_count (emit seen.tree i)) later ∙ ap node_count add ∙ nodes-append (emit seen.tree m) (own_group n.0.state m) ∙ omega (arith, counts m (omega (arith, le)), one)
+      ap (λ (i : ℕ). node_count (emit seen.tree i)) later ∙ ap node_count add ∙ node_count-append (emit seen.tree m) (own_group n.0.state m) ∙ omega (arith, counts m (omega (arith, le)), one)
 
   pub root-walk : (t : Tree) × RootWalk w set root t
   root-walk = (

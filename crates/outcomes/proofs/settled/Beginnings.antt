@@ -37,24 +37,21 @@ use Rattle.outcomes.specs.Settled.{IsUnfinished}
 use Rattle.outcomes.proofs.identify.MarksKept.{hears-late}
 use Rattle.outcomes.proofs.identify.StaysIdentifying.{reached-identifying, turns-identifying}
 use Rattle.outcomes.proofs.numbers.Settling.{settles-first}
-use Rattle.outcomes.proofs.roots.RootWalk.{root-walk}
+use Rattle.outcomes.proofs.roots.RootWalk.{not-false, root-walk}
 use Rattle.outcomes.proofs.settled.Unnamed.{Above, above-of}
 
 -- ---- all, or one isn't
 
+-- a test that fails
+pub not-true : (b : Bool) → not b ≡ true → b ≡ false
+not-true true e = absurd (true≢false (sym e))
+not-true false e = refl
+
 pub all-or-not : (w : CableWorld) (set : ℕ) → AreIdentifying w set ⊎ IsUnfinished w set
 all-or-not w set = elim (search-set set (λ x. not (hears_packets x.state.view.phase)) w) [
-  | inl none ↦ inl (λ k x h at. twice (hears_packets x.state.view.phase) (none k x h at))
-  | inr f ↦ inr (record { number = f.0; holds = f.1.holds; node = f.1.node; at = f.1.at; out = once (hears_packets f.1.node.state.view.phase) f.1.passes })
+  | inl none ↦ inl (λ k x h at. not-false (hears_packets x.state.view.phase) (none k x h at))
+  | inr f ↦ inr (record { number = f.0; holds = f.1.holds; node = f.1.node; at = f.1.at; out = not-true (hears_packets f.1.node.state.view.phase) f.1.passes })
 ]
-  where
-    twice : (b : Bool) → not b ≡ false → b ≡ true
-    twice true e = refl
-    twice false e = absurd (true≢false e)
-
-    once : (b : Bool) → not b ≡ true → b ≡ false
-    once true e = absurd (true≢false (sym e))
-    once false e = refl
 
 pub not-both-ways : (w : CableWorld) (set : ℕ) → IsUnfinished w set → AreIdentifying w set → ⊥
 not-both-ways w set u all = true≢false (sym (all u.number u.node u.holds u.at) ∙ u.out)

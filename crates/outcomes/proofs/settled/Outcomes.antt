@@ -24,6 +24,8 @@ use Rattle.outcomes.specs.NodeMarks.{is_ready}
 use Rattle.outcomes.specs.Numbered.{IsSettling}
 use Rattle.outcomes.specs.Settled.{IsUnfinished}
 use Rattle.outcomes.proofs.roots.Named.{named-tree}
+use Rattle.outcomes.proofs.roots.RootWalk.{not-false}
+use Rattle.outcomes.proofs.settled.Beginnings.{not-true}
 
 -- ---- tests
 
@@ -46,14 +48,6 @@ same-self : (xs : List ℕ) → same_numbers xs xs ≡ true
 unfolding same_numbers
 same-self [] = refl
 same-self (x ∷ xs) = and_from (x == x) (same_numbers xs xs) (eq-eqb x x refl) (same-self xs)
-
-twice : (b : Bool) → not b ≡ false → b ≡ true
-twice true e = refl
-twice false e = absurd (true≢false e)
-
-once : (b : Bool) → not b ≡ true → b ≡ false
-once true e = absurd (true≢false (sym e))
-once false e = refl
 
 -- ---- a tree, or none
 
@@ -106,12 +100,12 @@ module _
   pub tree-or-none :
       IsTree w set root t ⊎ ((other : ℕ) (u : Tree) → IsTree w set other u → ⊥)
   tree-or-none = elim (search-set set (λ x. not (is_ready x.state.view.phase)) w) [
-    | inr f ↦ inr (λ other u h. true≢false (sym (tree-ready w set other u i h f.0 f.1.node f.1.holds f.1.at) ∙ once (is_ready f.1.node.state.view.phase) f.1.passes))
+    | inr f ↦ inr (λ other u h. true≢false (sym (tree-ready w set other u i h f.0 f.1.node f.1.holds f.1.at) ∙ not-true (is_ready f.1.node.state.view.phase) f.1.passes))
     | inl ready ↦ elim (search-set set (λ x. not (same_numbers x.state.list.items (emits t))) w) [
-      | inr f ↦ inr (λ other u h. true≢false (sym (listed f.0 f.1.node f.1.holds f.1.at other u h) ∙ once (same_numbers f.1.node.state.list.items (emits t)) f.1.passes))
+      | inr f ↦ inr (λ other u h. true≢false (sym (listed f.0 f.1.node f.1.holds f.1.at other u h) ∙ not-true (same_numbers f.1.node.state.list.items (emits t)) f.1.passes))
       | inl same ↦ inl (named-tree w l acyclic over root set core root s.component s.is_core s.small s.inside s.is_root t s.walk (record {
-        ids = λ k x h at. s.numbered.ids k x h at (twice (is_ready x.state.view.phase) (ready k x h at));
-        lists = λ k x h at. same-if x.state.list.items (emits t) (twice (same_numbers x.state.list.items (emits t)) (same k x h at));
+        ids = λ k x h at. s.numbered.ids k x h at (not-false (is_ready x.state.view.phase) (ready k x h at));
+        lists = λ k x h at. same-if x.state.list.items (emits t) (not-false (same_numbers x.state.list.items (emits t)) (same k x h at));
       }))
     ]
   ]

@@ -1,6 +1,6 @@
 -- After so many quiet turns a component has an outcome, if it wasn't through tree identify when
 -- resets were over.
-use Rattle.std.proofs.Common.{◌≡◌, ◌⊎◌, inl, inr, ℕ, ◌+◌, ◌-◌, ◌*◌, ◌^◌, ◌<◌, ◌≤◌, true, false, length, slice_get, sym, ◌∙◌, ap, subst, arith, true≢false}
+use Rattle.std.proofs.Common.{◌≡◌, ◌⊎◌, inl, inr, ℕ, ◌+◌, ◌-◌, ◌*◌, ◌^◌, ◌<◌, ◌≤◌, true, length, slice_get, sym, ◌∙◌, ap, subst, arith, true≢false}
 use Rattle.std.proofs.lemmas.Option.{slice_get_cases, slice_get_within}
 use Rattle.cabling.specs.Wiring.{Wiring}
 use Rattle.cabling.specs.NodeSet.{Holds, IsEmpty}
@@ -9,8 +9,6 @@ use Rattle.cabling.specs.Looped.{IsCore, HasTwo}
 use Rattle.cabling.specs.Sees.{numbers}
 use Rattle.cabling.proofs.Ends.{plugged}
 use Rattle.cabling.proofs.Near.{end_at}
-use Rattle.port_state.specs.declared.signal.Phase.{Phase}
-use Rattle.port_state.specs.Heard.{is_resetting, hears_packets}
 use Rattle.cable_world.specs.World.{CableWorld}
 use Rattle.cable_world.specs.Turn.{turns_after}
 use Rattle.cable_world.specs.Run.{IsReached, quiet_turns}
@@ -43,6 +41,7 @@ use Rattle.outcomes.proofs.numbers.Spreads.{tree-soon}
 use Rattle.outcomes.proofs.settled.Beginnings.{all-or-not, not-both-ways, Begins, begins-at, Settles, begins-to-settle}
 use Rattle.outcomes.proofs.settled.Outcomes.{no-tree-yet, tree-or-none, contention-outcome, tree-outcome}
 use Rattle.outcomes.proofs.settled.Unnamed.{loop-outcome}
+use Rattle.convergence.proofs.turns.PhaseFacts.{start-mute}
 
 -- ---- turns
 
@@ -197,9 +196,6 @@ module _
 
 -- ---- a component that has just been reset
 
-start-out : (h : Phase) → is_resetting h ≡ true → hears_packets h ≡ false
-start-out h e = grind (arith, e)
-
 -- after n d turns all its nodes are still in R0
 pub fresh-unfinished :
     (w : CableWorld) (node set : ℕ) → IsReached w → IsComponent w.cabling node set → IsFresh w set →
@@ -210,7 +206,7 @@ fresh-unfinished w node set r comp fresh = elim (slice_get_cases (turns_after fi
     holds = fresh.holds;
     node = found.0;
     at = found.2;
-    out = start-out found.0.state.view.phase (all-reset w lawful node set comp fresh first few soon fresh.node found.0 fresh.holds found.2).0;
+    out = start-mute found.0.state.view.phase (all-reset w lawful node set comp fresh first few soon fresh.node found.0 fresh.holds found.2).0;
   }
   | inr lacks ↦
       let there = some-of (slice_get w.nodes fresh.node) _ fresh.resets in

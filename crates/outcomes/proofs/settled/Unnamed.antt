@@ -11,8 +11,7 @@ use Rattle.cabling.specs.Looped.{IsCore, HasTwo}
 use Rattle.cabling.proofs.Ends.{plugged}
 use Rattle.cabling.proofs.Near.{end_at}
 use Rattle.cabling.proofs.Whole.{shared}
-use Rattle.port_state.specs.declared.signal.Phase.{Phase}
-use Rattle.port_state.specs.Heard.{is_resetting, hears_packets}
+use Rattle.port_state.specs.Heard.{hears_packets}
 use Rattle.port_state.specs.Ports.{is_port, is_connected}
 use Rattle.port_state.specs.Machine.{PortNode}
 use Rattle.cable_world.specs.World.{CableWorld, wire_of}
@@ -39,6 +38,8 @@ use Rattle.outcomes.specs.Identify.{Identifies, IsIdentifying}
 use Rattle.outcomes.proofs.identify.Hearing.{parent-connected}
 use Rattle.outcomes.proofs.identify.MarksKept.{hears-late}
 use Rattle.outcomes.proofs.identify.StaysIdentifying.{reached-identifying, turns-identifying}
+use Rattle.outcomes.proofs.identify.OneMessage.{end-of}
+use Rattle.convergence.proofs.turns.PhaseFacts.{start-hears}
 
 -- a granted node of a set
 pub record GrantedIn (w : CableWorld) (set k : ℕ) : Type 0 where
@@ -46,13 +47,6 @@ pub record GrantedIn (w : CableWorld) (set k : ℕ) : Type 0 where
   node : PortNode
   at : slice_get w.nodes k ≡ Some node
   granted : node.state.view.granted ≡ true
-
-cable-of : (o : Option End) → is_some o ≡ true → (a : End) × (o ≡ Some a)
-cable-of None h = absurd (true≢false (sym h))
-cable-of (Some a) h = (a, refl)
-
-hears-out : (h : Phase) → hears_packets h ≡ true → is_resetting h ≡ true → ⊥
-hears-out h a b = grind (arith, a, b)
 
 -- no Reset is under way to a node in self identify
 pub no-reset-to :
@@ -63,7 +57,7 @@ no-reset-to w over a b x e at h = go (has_reset (signals_of (wire_of w a).signal
   where
     go : (r : Bool) → has_reset (signals_of (wire_of w a).signals) ≡ r → r ≡ false
     go false s = refl
-    go true s = absurd (hears-out x.state.view.phase h (over a b x e at s))
+    go true s = absurd (start-hears x.state.view.phase (over a b x e at s) h)
 
 -- the cable at the parent port of a node in self identify is a child cable
 pub record Above (w : CableWorld) (k : ℕ) (x : PortNode) : Type 0 where
@@ -100,7 +94,7 @@ module _ (w : CableWorld) (l : IsLawful w) (i : IsIdentifying w) (over : ResetsA
       on = parent-connected x.state p (l.well_formed.nodes k x at).valid h up
 
       a : (b : End) × (far w.cabling (end_at k p) ≡ Some b)
-      a = cable-of (far w.cabling (end_at k p)) (sym ((l.well_formed.nodes k x at).connected p) ∙ on)
+      a = end-of (far w.cabling (end_at k p)) (sym ((l.well_formed.nodes k x at).connected p) ∙ on)
 
       back : far w.cabling a.0 ≡ Some (end_at k p)
       back = l.well_formed.cabling.both_ways (end_at k p) a.0 a.1
