@@ -2,3 +2,4 @@ pub mod Unnamed
 pub mod Beginnings
 pub mod Outcomes
 pub mod QuietTurns
+pub mod ForcedOutcome

@@ -61,7 +61,7 @@ tree-some w set root t h k x inside at =
     ap (λ (y : PortNode). is_some y.state.view.id) (some-same x s.0 (sym at ∙ s.1)) ∙ ap is_some i.1
 
 -- and is in A0
-tree-ready :
+pub tree-ready :
     (w : CableWorld) (set root : ℕ) (t : Tree) → IsIdentifying w → IsTree w set root t →
     (k : ℕ) (x : PortNode) → Holds set k → slice_get w.nodes k ≡ Some x →
     is_ready x.state.view.phase ≡ true

@@ -54,7 +54,7 @@ room-to-rest len d few =
     let q : 5 * 63 * d ≡ 315 * d = grind arith in
     omega (arith, p, q, ap (λ (m : ℕ). 5 * m * d) z)
 
-quiet-enough :
+pub quiet-enough :
     (n d : ℕ) →
     n * d + 100 * d + d * (300 + n * n + 2 * n) + d * (600 + n * n + 2 * n) + 315 * d
     ≤ d * (2000 + 4 * n * n + 8 * n)
@@ -196,6 +196,22 @@ module _
 
 -- ---- a component that has just been reset
 
+times-more : (m n d : ℕ) → m ≤ n → m * d ≤ n * d
+times-more m n d h =
+    let z : n ≡ m + (n - m) = omega (arith, h) in
+    let p : (m + (n - m)) * d ≡ m * d + (n - m) * d = grind arith in
+    omega (arith, p, ap (λ (i : ℕ). i * d) z)
+
+-- there are 63 nodes at most
+pub few-nodes :
+    (w : CableWorld) → IsLawful w →
+    ((length w.nodes - 1) * w.delay ≤ length w.nodes * w.delay)
+    × (length w.nodes * w.delay ≤ 63 * w.delay)
+few-nodes w l = (
+  times-more (length w.nodes - 1) (length w.nodes) w.delay (omega arith),
+  times-more (length w.nodes) 63 w.delay (omega (arith, l.well_formed.cabling.few_nodes, l.well_formed.count)),
+)
+
 -- after n d turns all its nodes are still in R0
 pub fresh-unfinished :
     (w : CableWorld) (node set : ℕ) → IsReached w → IsComponent w.cabling node set → IsFresh w set →
@@ -219,14 +235,8 @@ fresh-unfinished w node set r comp fresh = elim (slice_get_cases (turns_after fi
     lawful : IsLawful w
     lawful = reached-lawful w r
 
-    times-more : (m n d : ℕ) → m ≤ n → m * d ≤ n * d
-    times-more m n d h =
-        let z : n ≡ m + (n - m) = omega (arith, h) in
-        let p : (m + (n - m)) * d ≡ m * d + (n - m) * d = grind arith in
-        omega (arith, p, ap (λ (i : ℕ). i * d) z)
-
     few : (length w.nodes - 1) * w.delay ≤ first
-    few = times-more (length w.nodes - 1) (length w.nodes) w.delay (omega arith)
+    few = (few-nodes w lawful).0
 
     soon : first < 64 * w.delay
-    soon = omega (arith, times-more (length w.nodes) 63 w.delay (omega (arith, lawful.well_formed.cabling.few_nodes, lawful.well_formed.count)), lawful.well_formed.some_delay)
+    soon = omega (arith, (few-nodes w lawful).1, lawful.well_formed.some_delay)
