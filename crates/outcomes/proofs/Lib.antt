@@ -1,0 +1,6 @@
+pub mod walks
+pub mod roots
+pub mod identify
+pub mod numbers
+pub mod forced
+pub mod settled

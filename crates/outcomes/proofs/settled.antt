@@ -1,0 +1,5 @@
+pub mod Unnamed
+pub mod Beginnings
+pub mod Outcomes
+pub mod QuietTurns
+pub mod ForcedOutcome

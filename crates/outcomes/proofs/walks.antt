@@ -1,0 +1,10 @@
+pub mod Alike
+pub mod Emit
+pub mod Fits
+pub mod InTurn
+pub mod Intervals
+pub mod Marked
+pub mod Parents
+pub mod Rising
+pub mod WaysUp
+pub mod WorkedWalk
