@@ -17,7 +17,7 @@ use std::test::Fail;
 
 /// What a node of a test is made of; the rest is usual.
 #[derive(Clone, Copy)]
-struct Node {
+pub struct Node {
     ports: u8,
     coins: u64,
     contender: bool,
@@ -26,7 +26,7 @@ struct Node {
 }
 
 /// A node of three ports that draws zeros.
-const USUAL: Node = Node {
+pub const USUAL: Node = Node {
     ports: 3,
     coins: 0,
     contender: false,
@@ -82,7 +82,7 @@ use Look::{Changed, Child, Draws, FirstDraws, Granted, Id, List, Parent, Resets,
 use Step::{Done, Hold, InUse, Look as See, Plug, Pull, Reset, Turns};
 
 /// A specification of a node whose cables delay by at most `d` turns.
-fn spec(node: Node, d: u8) -> NodeSpec
+pub fn spec(node: Node, d: u8) -> NodeSpec
     requires some { 1 ≤ d }
     requires few { d ≤ 16 }
     ensures is { IsSpec result }

@@ -3,9 +3,12 @@
 use crate::cablings::{Question, Shape, answer_to, joined};
 use crate::captures::{Way, length_read};
 use crate::machines::{Kind, Nodes, Pace};
+use crate::worlds::{Course, running, settle, turns};
 use bus_manager::hops;
+use cable_world::World;
 use cabling::Cabling;
 use config_rom::{Rom, RomStop, blocks, decode_rom, encode_rom, rom_text};
+use phy_machine::FieldMachine;
 use quad_lanes::{QuadList, first_bad_pair, firsts, pairs_of};
 use speed_map::rows;
 use std::alloc::{AllocError, Global};
@@ -34,6 +37,7 @@ pub enum Call {
     Rom,
     Cabling(Question, Shape),
     Tick(Pace, Kind),
+    Course(Course, Shape),
 }
 
 /// The shape of this name.
@@ -56,6 +60,15 @@ fn question_named(name: &str) -> Option<Question> {
     }
 }
 
+/// The course of a bus of this name.
+fn course_named(name: &str) -> Option<Course> {
+    match name {
+        "turn" => Some(Course::Turn),
+        "settle" => Some(Course::Settle),
+        _ => None,
+    }
+}
+
 impl Call {
     /// The call of this name.
     pub fn named(name: &str) -> Option<Call> {
@@ -74,8 +87,12 @@ impl Call {
             "read_stream" => Some(Call::Read(Way::Stream)),
             "rom" => Some(Call::Rom),
             _ => {
-                let (question, shape) = name.split_once('_')?;
-                Some(Call::Cabling(question_named(question)?, shape_named(shape)?))
+                let (asked, shape) = name.split_once('_')?;
+                let shape = shape_named(shape)?;
+                match course_named(asked) {
+                    Some(course) => Some(Call::Course(course, shape)),
+                    None => Some(Call::Cabling(question_named(asked)?, shape)),
+                }
             }
         }
     }
@@ -91,6 +108,7 @@ struct Bus {
     pairs: QuadList,
     cabling: Cabling,
     nodes: Nodes,
+    world: World<FieldMachine>,
 }
 
 /// What the calls work on.
@@ -124,7 +142,7 @@ fn bus_of(alloc: Global, call: Call, bytes: &[u8]) -> Result<Option<Bus>, AllocE
         pairs.push(!first)?;
     }
     let shape = match call {
-        Call::Cabling(_, shape) => shape,
+        Call::Cabling(_, shape) | Call::Course(_, shape) => shape,
         _ => Shape::Line,
     };
     let cabling = joined(alloc, shape)?;
@@ -138,6 +156,7 @@ fn bus_of(alloc: Global, call: Call, bytes: &[u8]) -> Result<Option<Bus>, AllocE
         pairs,
         cabling,
         nodes: Nodes::new(),
+        world: running(alloc, shape)?,
     }))
 }
 
@@ -185,7 +204,8 @@ fn of_bus(alloc: Global, call: Call, work: &Bus) -> u64 {
             }
         }
         Call::Cabling(question, _) => answer_to(&work.cabling, question),
-        Call::Tick(_, _) => 0,
+        Call::Tick(_, _) | Call::Course(Course::Turn, _) => 0,
+        Call::Course(Course::Settle, shape) => settle(alloc, shape).unwrap_or(0),
         Call::PlainRead => {
             let mut sum = 0u32;
             for quad in work.pairs.as_slice() {
@@ -200,6 +220,9 @@ fn of_bus(alloc: Global, call: Call, work: &Bus) -> u64 {
 fn batch(alloc: Global, call: Call, times: u32, work: &mut Work) -> u64 {
     if let (Call::Tick(pace, kind), Work::Bus(bus)) = (call, &mut *work) {
         return bus.nodes.run(pace, kind, times);
+    }
+    if let (Call::Course(Course::Turn, _), Work::Bus(bus)) = (call, &mut *work) {
+        return turns(&mut bus.world, times);
     }
     let mut answers = 0u64;
     for _ in 0..times {

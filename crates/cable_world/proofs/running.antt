@@ -4,7 +4,7 @@
 -- the other. `Hearing`: a node hears signals one after the other. `Lists`: whether a list changed is seen from its
 -- length. `AllNodes`: the tables of a turn, entry by entry. `Stepping`: a step of one node between two turns.
 -- `Whole`: a world by its parts, and its vectors. `Start`: the tables at power-on. `Acting`: steps of one node and of
--- two, and the packet for a set of nodes. `Acts`: the four acts.
+-- two, and the packet for a set of nodes. `Acts`: the four acts. `Still`: turns in which nothing happens.
 pub mod Mixed
 pub mod Sending
 pub mod Hearing
@@ -15,3 +15,4 @@ pub mod Whole
 pub mod Start
 pub mod Acting
 pub mod Acts
+pub mod Still

@@ -6,6 +6,7 @@ pub mod Parts
 pub mod Turn
 pub mod Act
 pub mod Run
+pub mod Still
 -- what comes of it
 pub mod Outcome
 pub mod Fresh

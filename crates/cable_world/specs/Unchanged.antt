@@ -33,6 +33,9 @@ NoTurnIsNone = (w : CableWorld) → turns_after 0 w ≡ w
 abbrev pub OneTurnMore : Type 0
 OneTurnMore = (k : ℕ) (w : CableWorld) → turns_after (k + 1) w ≡ turn (turns_after k w)
 
+abbrev pub TurnsAdd : Type 0
+TurnsAdd = (j k : ℕ) (w : CableWorld) → turns_after (j + k) w ≡ turns_after k (turns_after j w)
+
 -- ---- an act
 
 abbrev pub ActKeepsNodes : Type 0

@@ -4,10 +4,11 @@ ghost use Rattle.cable_world.specs.Lawful.{IsLawful};
 ghost use Rattle.cable_world.specs.Run.{IsReached};
 ghost use Rattle.cable_world.specs.ByNumber.{NodesTakeTurns, WiresTakeTurns};
 ghost use Rattle.cable_world.specs.Unchanged.{TurnKeepsCables, TurnKeepsDelay, TurnIsCounted};
-ghost use Rattle.cable_world.specs.Unchanged.{TurnKeepsNodes, NoTurnIsNone, OneTurnMore};
+ghost use Rattle.cable_world.specs.Unchanged.{TurnKeepsNodes, NoTurnIsNone, OneTurnMore, TurnsAdd};
 ghost use Rattle.cable_world.specs.Unchanged.{ActKeepsNodes, ActKeepsTurns, ActKeepsDelay};
 ghost use Rattle.cable_world.specs.StaysLawful.{HoldsAtPowerOn, KeptByTurns, KeptByHolds, KeptByActs};
 ghost use Rattle.cable_world.specs.StaysLawful.{ReachedIsLawful};
+ghost use Rattle.cable_world.specs.Still.{StillTurnsPass};
 ghost use Rattle.cable_world.specs.ResetsEnd.{NoneEnters, CountsStand};
 
 /// What a turn makes of each node and of each wire, by number: a node hears what came to its ports,
@@ -36,6 +37,12 @@ pub fn acts_keep()
 pub fn turns_add_up()
     ensures none { NoTurnIsNone }
     ensures more { OneTurnMore }
+    ensures add { TurnsAdd }
+{}
+
+/// Turns in which nothing happens make timers later and holds shorter, and change nothing else.
+pub fn still_turns_pass()
+    ensures { StillTurnsPass }
 {}
 
 /// A power-on world is reached, and what comes of a reached world by turns, holds and acts that

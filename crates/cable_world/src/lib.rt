@@ -15,14 +15,15 @@ mod rows;
 mod run;
 mod start;
 mod steps;
+mod still;
 mod wire;
 mod world;
 
 pub use act::{Act, ActStop};
 pub use laws::{
-    acts_keep, outcomes_are_one, resets_end, turn_by_number, turn_keeps, turns_add_up,
-    worlds_stay_lawful, worlds_stay_reached,
+    acts_keep, outcomes_are_one, resets_end, still_turns_pass, turn_by_number, turn_keeps,
+    turns_add_up, worlds_stay_lawful, worlds_stay_reached,
 };
-pub use run::WorldRun;
+pub use run::{PassesTurns, WorldRun};
 pub use wire::Travelling;
 pub use world::World;

@@ -1,9 +1,10 @@
 //! The wires that leave a node, and what arrives at their far ends.
-ghost use Rattle.std.specs.Prelude.{◌≡◌, ◌<◌, [], ◌∷◌, length, map, replicate, slice_set, slice_index, slice_index_or, All, OnOk, IfOk};
+ghost use Rattle.std.specs.Prelude.{◌≡◌, ◌<◌, [], ◌∷◌, length, map, replicate, slice_set, slice_index, slice_index_or, All, OnOk, IfOk, ◌↔◌, IsTrue};
 ghost use Rattle.std.specs.List.{AllByRecursion};
 ghost use Rattle.port_state.specs.Ports.{PortNumber};
 ghost use Rattle.cable_world.specs.Wire.{Wire, empty_wire, arrives, stays};
 ghost use Rattle.cable_world.specs.Turn.{wires_after_sends};
+ghost use Rattle.cable_world.specs.Still.{IsSilent, hold_less};
 ghost use Rattle.cable_world.specs.codings.Ages.{AreYoung};
 
 use crate::wire::{Arrivals, Wire};
@@ -121,5 +122,26 @@ impl WireRow {
             self.wires[at].turn(delay, &mut arrivals.arrivals[at])?;
         }
         Ok(())
+    }
+
+    /// Whether nothing is under way on the wires.
+    pub fn is_silent(&self) -> bool
+        ensures { IsTrue result ↔ All IsSilent self.now }
+    {
+        for wire in &self.wires {
+            if !wire.is_silent() {
+                return false;
+            }
+        }
+        true
+    }
+
+    /// So many turns pass, in which nothing is under way.
+    pub fn pass(&mut self, turns: u32)
+        ensures { self.new ≡ map (hold_less turns) self.old }
+    {
+        for at in 0..self.wires.len() {
+            self.wires[at].pass(turns);
+        }
     }
 }

@@ -1,6 +1,7 @@
 //! A wire: one direction of a cable, with the signals that are under way on it.
-ghost use Rattle.std.specs.Prelude.{◌≡◌, ◌<◌, [], ◌∷◌, map, length, All, OnOk};
+ghost use Rattle.std.specs.Prelude.{◌≡◌, ◌<◌, [], ◌∷◌, map, length, All, OnOk, ◌↔◌, IsTrue};
 ghost use Rattle.cable_world.specs.Wire.{empty_wire, add_signals, age_signal, age_wire, gives, arrives, stays};
+ghost use Rattle.cable_world.specs.Still.{IsSilent, hold_less};
 
 use cabling::OutOfMemory;
 use port_state::Signal;
@@ -158,5 +159,23 @@ impl Wire {
         }
         self.held = self.held.saturating_sub(1);
         Ok(())
+    }
+
+    /// Whether nothing is under way.
+    pub fn is_silent(&self) -> bool
+        ensures { IsTrue result ↔ IsSilent self.now }
+    {
+        self.signals.is_empty()
+    }
+
+    /// A hold has so many turns less to go.
+    pub fn pass(&mut self, turns: u32)
+        ensures { self.new ≡ hold_less turns self.old }
+    {
+        self.held = if turns < self.held as u32 {
+            self.held - turns as u16
+        } else {
+            0
+        };
     }
 }

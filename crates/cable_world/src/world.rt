@@ -10,8 +10,9 @@ use crate::act::{Act, ActStop};
 use crate::acting::act_world;
 use crate::all_nodes::turn_world;
 use crate::rows::{ArrivalRow, WireRow};
-use crate::run::WorldRun;
+use crate::run::{PassesTurns, WorldRun};
 use crate::start::{arrival_rows, no_changes, port_counts, wire_rows};
+use crate::still::{all_idle_for, all_silent, pass_all, pass_wires};
 use arrayvec::ArrayVec;
 use cabling::{CableFault, Cabling, End, OutOfMemory};
 use port_state::{PortMachine, Sends, View};
@@ -181,4 +182,21 @@ impl<M: PortMachine> WorldRun for World<M> {
     }
 
     ghost reached = { λ w. w.reached };
+}
+
+impl<M: PortMachine> PassesTurns for World<M> {
+    fn still_for(&self) -> u32 {
+        if !all_silent(&self.wires) {
+            return 0;
+        }
+        all_idle_for(&self.machines)
+    }
+
+    fn pass(&mut self, turns: u32) {
+        self.spent = true;
+        pass_all(&mut self.machines, turns);
+        pass_wires(&mut self.wires, turns);
+        self.turns += turns;
+        self.spent = false;
+    }
 }

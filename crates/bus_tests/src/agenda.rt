@@ -1,0 +1,149 @@
+//! A world that passes over turns makes few calls of its machines.
+ghost use Rattle.std.specs.Prelude.{◌≡◌, ◌<◌, All, IfOk, length};
+ghost use Rattle.phy_machine.specs.Field.{field_node};
+ghost use Rattle.cable_world.specs.World.{IsNodeAtPowerOn};
+
+use crate::worlds::{USUAL, spec};
+use cable_world::{World, WorldRun};
+use phy_machine::FieldMachine;
+use port_state::{PortMachine, Sends, Signal, Timing, View};
+use self_id::Attrs;
+use std::alloc::{AllocError, Global};
+use std::cell::Cell;
+use std::process::Abort;
+use std::test::Fail;
+use world_agenda::AgendaWorld;
+
+/// A machine that counts its ticks and its passes.
+#[derive(Drop)]
+struct Counting<'a> {
+    machine: FieldMachine,
+    calls: &'a Cell<u32>,
+}
+
+impl Counting<'_> {
+    fn count(&self) {
+        self.calls.set(self.calls.get().wrapping_add(1));
+    }
+}
+
+impl PortMachine for Counting<'_> {
+    ghost use Rattle.phy_machine.specs.Field.{field_node};
+
+    ghost record_of = { λ m. field_node m.machine };
+
+    fn on_signal(&mut self, port: u8, signal: Signal, out: &mut Sends) {
+        self.machine.on_signal(port, signal, out);
+    }
+
+    fn tick(&mut self, out: &mut Sends) {
+        self.count();
+        self.machine.tick(out);
+    }
+
+    fn disturb(&mut self, out: &mut Sends) {
+        self.machine.disturb(out);
+    }
+
+    fn plugged(&mut self, port: u8, out: &mut Sends) {
+        self.machine.plugged(port, out);
+    }
+
+    fn pulled(&mut self, port: u8, out: &mut Sends) {
+        self.machine.pulled(port, out);
+    }
+
+    fn set_config(&mut self, root_id: u8, force: bool, gap: Option<u8>) {
+        self.machine.set_config(root_id, force, gap);
+    }
+
+    fn view(&self) -> View {
+        self.machine.view()
+    }
+
+    fn list(&self) -> &[u32] {
+        self.machine.list()
+    }
+
+    fn attrs(&self) -> Attrs {
+        self.machine.attrs()
+    }
+
+    fn timing(&self) -> Timing {
+        self.machine.timing()
+    }
+
+    fn ports(&self) -> u8 {
+        self.machine.ports()
+    }
+
+    fn idle_for(&self) -> u32 {
+        self.count();
+        self.machine.idle_for()
+    }
+
+    fn pass(&mut self, ticks: u32) {
+        self.count();
+        self.machine.pass(ticks);
+    }
+
+    ghost valid = { λ m. m.machine.valid };
+}
+
+/// A machine that was just powered on.
+fn powered_on() -> FieldMachine
+    ensures { IsNodeAtPowerOn 4 (field_node result).state }
+{
+    FieldMachine::new(spec(USUAL, 4))
+}
+
+/// One machine.
+fn alone<M: PortMachine + Drop>(alloc: Global, machine: M) -> Result<Vec<M>, AllocError>
+    requires { IsNodeAtPowerOn 4 (M.record_of machine).state }
+    ensures power_on { IfOk result (λ made.
+        All (λ m. IsNodeAtPowerOn 4 (M.record_of m).state) made.items) }
+    ensures length { IfOk result (λ made. length made.items ≡ 1) }
+{
+    let mut made = Vec::new(alloc);
+    made.push(machine)?;
+    Ok(made)
+}
+
+/// A million turns of the one node, which two worlds show alike.
+fn a_million<V: WorldRun, W: WorldRun>(
+    rt: &impl Abort,
+    plain: &mut V,
+    agenda: &mut W,
+) -> Result<(), Fail>
+    requires plain { length (V.world plain.old).nodes ≡ 1 }
+    requires agenda { length (W.world agenda.old).nodes ≡ 1 }
+{
+    assert!(rt; plain.turns() == 0 && agenda.turns() == 0);
+    plain.run_turns(1_000_000)?;
+    agenda.run_turns(1_000_000)?;
+    let was = plain.view(0);
+    let is = agenda.view(0);
+    assert_eq!(rt; is.phase, was.phase);
+    assert_eq!(rt; is.timer, was.timer);
+    assert_eq!(rt; is.id, was.id);
+    assert_eq!(rt; is.resets, was.resets);
+    assert_eq!(rt; is.timed_out, was.timed_out);
+    assert_eq!(rt; agenda.list(0), plain.list(0));
+    assert_eq!(rt; agenda.changed(0), plain.changed(0));
+    assert_eq!(rt; agenda.turns(), 1_000_000);
+    Ok(())
+}
+
+#[test]
+fn turns_in_which_nothing_happens_are_passed_over(rt: HostRuntime) -> Result<(), Fail> {
+    let calls = Cell::new(0);
+    let counting = Counting {
+        machine: powered_on(),
+        calls: &calls,
+    };
+    let mut agenda = AgendaWorld::new(rt.alloc(), 4, alone(rt.alloc(), counting)?)?;
+    let mut plain = World::new(rt.alloc(), 4, alone(rt.alloc(), powered_on())?)?;
+    a_million(&rt, &mut plain, &mut agenda)?;
+    assert!(rt; calls.get() < 100);
+    Ok(())
+}

@@ -1,0 +1,12 @@
+use Rattle.std.proofs.Common.{◌≡◌, All, length}
+use Rattle.phy_machine.specs.Field.{field_node}
+use Rattle.cable_world.specs.World.{IsNodeAtPowerOn}
+use Rattle.busconf_bench.proofs.worlds.machines.Given as goal
+
+-- those made so far were just powered on
+abbrev pub invariant-loop-node : goal.invariant-loop-node
+invariant-loop-node l =
+    record {
+      powered : All (λ m. IsNodeAtPowerOn 4 (field_node m).state) l.made.items;
+      count : length l.made.items ≡ l.node;
+    }
