@@ -24,3 +24,6 @@ pub use kind::{Kind, LineStop};
 pub use laws::one_reading;
 pub use line::parse_line;
 pub use topology_stack::{Name, OutOfMemory};
+
+#[cfg(test)]
+mod tests;
