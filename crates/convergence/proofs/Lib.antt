@@ -21,3 +21,4 @@ pub mod trees
 pub mod coins
 pub mod rounds
 pub mod AfterTurns
+pub mod worked

@@ -6,7 +6,6 @@ use Rattle.port_state.specs.declared.signal.Level.TheVariants as level
 use Rattle.port_state.specs.declared.signal.Phase.{Phase}
 use Rattle.port_state.specs.declared.signal.Phase.TheVariants as phase
 use Rattle.port_state.specs.Ports.{is_idle, is_parent, is_child, is_port}
-use Rattle.port_state.specs.Heard.{is_resetting}
 use Rattle.port_state.specs.Tick.{raise_timer}
 use Rattle.cable_world.specs.Agreement.{level_sent, level_shown, leads_down, level_after}
 use Rattle.cable_world.specs.Phases.{is_before_tree, is_after_hold, is_shaking}
