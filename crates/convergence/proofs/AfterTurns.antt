@@ -23,7 +23,8 @@ use Rattle.convergence.specs.Turns.{tree_turns, loop_turns, decision_turns, turn
 use Rattle.convergence.specs.Kept.{IsGrown}
 use Rattle.convergence.proofs.turns.Cables.{joined-of}
 use Rattle.convergence.proofs.turns.CalmTurns.{Calmly, calmly, early-before, done-calm}
-use Rattle.convergence.proofs.turns.Flush.{turns-add, after-cabling, Tells, flush}
+use Rattle.convergence.proofs.turns.Flush.{after-cabling, Tells, flush}
+use Rattle.cable_world.proofs.turns.ByNumber.{turns-then}
 use Rattle.convergence.proofs.loops.LoopsReported.{loops-reported}
 use Rattle.convergence.proofs.resets.ResetsDone.{resets-done}
 use Rattle.convergence.proofs.ranks.StaysAcyclic.{reached-acyclic, turns-acyclic}
@@ -102,7 +103,7 @@ later :
     P (turns_after (k - first) (turns_after first w)) → P (turns_after k w)
 later P w first k late h =
     let z : k ≡ first + (k - first) = omega (arith, late) in
-    subst P (sym (ap (λ m. turns_after m w) z ∙ turns-add first (k - first) w)) h
+    subst P (sym (ap (λ m. turns_after m w) z ∙ turns-then first (k - first) w)) h
 
 module _ (w : CableWorld) (r : IsReached w) (first : ℕ) where
   lawful : IsLawful w

@@ -36,7 +36,8 @@ use Rattle.cable_world.proofs.turns.TurnParts.{turn-state}
 use Rattle.convergence.specs.Milestones.{ResetsAreOver, NoneIn, ResetsAreDone}
 use Rattle.convergence.proofs.turns.CalmTurns.{Calmly, calmly, signals, heard_by, waiting-before, done-calm}
 use Rattle.convergence.proofs.turns.BeforeTree.{waits-for, every-from}
-use Rattle.convergence.proofs.turns.Flush.{turns-add, after-cabling, Tells, Shown, flush}
+use Rattle.convergence.proofs.turns.Flush.{after-cabling, Tells, Shown, flush}
+use Rattle.cable_world.proofs.turns.ByNumber.{turns-then}
 
 -- ---- holds end
 
@@ -248,7 +249,7 @@ resets-done w l i late k x at = go (is_in_bus_reset x.state.view.phase) refl
     calm j =
         let z : length w.nodes * w.delay + (80 * w.delay + j) ≡ length w.nodes * w.delay + 80 * w.delay + j = omega arith in
         let low : 80 * w.delay ≤ 80 * w.delay + j = omega arith in
-        subst (NoneIn is_resetting) (ap (λ n. turns_after n w) z ∙ turns-add (length w.nodes * w.delay + 80 * w.delay) j w) (holds-over w l (80 * w.delay + j) low)
+        subst (NoneIn is_resetting) (ap (λ n. turns_after n w) z ∙ turns-then (length w.nodes * w.delay + 80 * w.delay) j w) (holds-over w l (80 * w.delay + j) low)
 
     go : (b : Bool) → is_in_bus_reset x.state.view.phase ≡ b → b ≡ false
     go false e = refl
@@ -256,7 +257,7 @@ resets-done w l i late k x at = go (is_in_bus_reset x.state.view.phase) refl
         let j : ℕ = i - 80 * w.delay - 1 in
         let some : 1 ≤ w.delay = l.well_formed.some_delay in
         let z : length w.nodes * w.delay + i ≡ length w.nodes * w.delay + 80 * w.delay + (j + 1) = omega (arith, late, some) in
-        let is : turns_after (length w.nodes * w.delay + i) w ≡ turns_after (j + 1) start = ap (λ n. turns_after n w) z ∙ turns-add (length w.nodes * w.delay + 80 * w.delay) (j + 1) w in
+        let is : turns_after (length w.nodes * w.delay + i) w ≡ turns_after (j + 1) start = ap (λ n. turns_after n w) z ∙ turns-then (length w.nodes * w.delay + 80 * w.delay) (j + 1) w in
         absurd (wait-ends start m calm k j (omega (arith, late, some, after-delay w l (length w.nodes * w.delay + 80 * w.delay)))
         (x, ap (λ (u : CableWorld). slice_get u.nodes k) (sym is) ∙ at, e))
 

@@ -23,7 +23,8 @@ use Rattle.cable_world.proofs.tables.CableEnds.{cable-connected}
 use Rattle.cable_world.proofs.Options.{some-same}
 use Rattle.convergence.specs.Acyclic.{IsChildCable}
 use Rattle.convergence.proofs.turns.CalmTurns.{Calmly, heard_by}
-use Rattle.convergence.proofs.turns.Flush.{turns-add, after-cabling, Tells, Shown, flush}
+use Rattle.convergence.proofs.turns.Flush.{after-cabling, Tells, Shown, flush}
+use Rattle.cable_world.proofs.turns.ByNumber.{turns-then}
 use Rattle.convergence.proofs.rounds.Grown.{Grown, weight_in, child-cable, below-cable, parent-only, grown-after, cable-after, weight-step, weight-after, calm-at}
 use Rattle.convergence.proofs.turns.Moves.{all_idle, tick-child-shake}
 use Rattle.convergence.proofs.turns.Weights.{weigh, weight, still-shakes, tick-child-shake-by, tick-parent-shake-by, tick-accepted, Busy, some-busy}
@@ -187,14 +188,14 @@ module _ (v : CableWorld) (set : ℕ) (g : Grown v set) (u : ℕ) (in_set : Hold
     was-then i c = let z : v.delay + (i + 1) ≡ v.delay + i + 1 = omega arith in was (v.delay + i) (subst C z c)
 
     then-tells : (i : ℕ) → D i → Tells (turns_after i (later v.delay)) b is_idle
-    then-tells i c = subst (λ (w : CableWorld). Tells w b is_idle) (turns-add v.delay i v) (tells-idle (v.delay + i) (omega arith) c)
+    then-tells i c = subst (λ (w : CableWorld). Tells w b is_idle) (turns-then v.delay i v) (tells-idle (v.delay + i) (omega arith) c)
 
     -- d turns later u sees Idle
     shown-idle : C (v.delay + v.delay) → Shown (later (v.delay + v.delay)) (end_at u p) is_idle
     shown-idle c =
         let gd = grown-after v set g v.delay in
         let k = cable v.delay in
-        subst (λ (w : CableWorld). Shown w (end_at u p) is_idle) (sym (turns-add v.delay v.delay v))
+        subst (λ (w : CableWorld). Shown w (end_at u p) is_idle) (sym (turns-then v.delay v.delay v))
         (flush (later v.delay) gd.lawful b (end_at u p) (gd.lawful.well_formed.cabling.both_ways (end_at u p) b k.joined) is_idle D was-then then-tells v.delay (omega (arith, after-delay v g.lawful v.delay)) c)
 
   -- ---- all children

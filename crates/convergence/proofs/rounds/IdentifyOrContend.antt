@@ -20,7 +20,8 @@ use Rattle.convergence.specs.Kept.{IsGrown}
 use Rattle.convergence.specs.Turns.{decision_turns}
 use Rattle.convergence.specs.Milestones.{AreIdentifying, HasContention, IdentifyOrContend, TreesAreDecided}
 use Rattle.convergence.proofs.rounds.ThirtyThreeRounds.{contend, contention-turn, contention-after, rounds}
-use Rattle.convergence.proofs.turns.Flush.{turns-add, after-cabling}
+use Rattle.convergence.proofs.turns.Flush.{after-cabling}
+use Rattle.cable_world.proofs.turns.ByNumber.{turns-then}
 use Rattle.convergence.proofs.rounds.Grown.{Grown, grown-after}
 use Rattle.convergence.proofs.rounds.Rooted.{component-after, identify-after, rooted-ends}
 use Rattle.convergence.proofs.rounds.RivalSteps.{AreUp}
@@ -84,7 +85,7 @@ settles v set node g whole free =
           let d : w.delay ≡ v.delay = after-delay v g.lawful s.0 in
           elim (rounds set m.0 m.1 33 0 (omega arith) w gw up) [
             | inl t ↦
-                let same : turns_after (s.0 + t.0) v ≡ turns_after t.0 w = turns-add s.0 t.0 v in (
+                let same : turns_after (s.0 + t.0) v ≡ turns_after t.0 w = turns-then s.0 t.0 v in (
                   s.0 + t.0,
                   omega (arith, s.1, t.1, d),
                   inr (subst (λ (u : CableWorld). HasContention u set) (sym same)
@@ -98,7 +99,7 @@ settles v set node g whole free =
                 let z : s.0 + (t.0 + e.0) ≡ s.0 + (t.0 + e.0) = refl in (
                   s.0 + (t.0 + e.0),
                   sums (length v.nodes) (length u.nodes) v.delay u.delay w.delay s.0 t.0 e.0 (after-length w gw.lawful t.0 ∙ after-length v g.lawful s.0) (after-delay w gw.lawful t.0 ∙ d) d s.1 t.1 e.1,
-                  inl (subst (λ (u : CableWorld). AreIdentifying u set) (sym (turns-add s.0 (t.0 + e.0) v)) (subst (λ (u : CableWorld). AreIdentifying u set) (sym (turns-add t.0 e.0 w)) e.2)),
+                  inl (subst (λ (u : CableWorld). AreIdentifying u set) (sym (turns-then s.0 (t.0 + e.0) v)) (subst (λ (u : CableWorld). AreIdentifying u set) (sym (turns-then t.0 e.0 w)) e.2)),
                 )
           ]
     ]
@@ -123,7 +124,7 @@ settled v set node g whole free i late =
     let w : CableWorld = turns_after s.0 v in
     let gw : Grown w set = grown-after v set g s.0 in
     let z : i ≡ s.0 + (i - s.0) = omega (arith, late, s.1) in
-    let same : turns_after i v ≡ turns_after (i - s.0) w = ap (λ n. turns_after n v) z ∙ turns-add s.0 (i - s.0) v in
+    let same : turns_after i v ≡ turns_after (i - s.0) w = ap (λ n. turns_after n v) z ∙ turns-then s.0 (i - s.0) v in
     subst (λ (u : CableWorld). IdentifyOrContend u set) (sym same) (elim s.2 [
       | inl t ↦ inl (identify-after set w gw (i - s.0) t)
       | inr t ↦ inr (contention-after w set gw (i - s.0) t)

@@ -26,7 +26,8 @@ use Rattle.convergence.specs.Rivals.{IsAhead, AsksAgain, AreRivals}
 use Rattle.convergence.specs.Cables.{AreJoined}
 use Rattle.convergence.proofs.turns.CalmTurns.{Calmly, heard_by}
 use Rattle.convergence.proofs.coins.StaysContested.{rivals-of}
-use Rattle.convergence.proofs.turns.Flush.{turns-add, Tells, flush}
+use Rattle.convergence.proofs.turns.Flush.{Tells, flush}
+use Rattle.cable_world.proofs.turns.ByNumber.{turns-then}
 use Rattle.convergence.proofs.rounds.Grown.{Grown, parent-only, hears-on, grown-turn, grown-after, calm-at}
 use Rattle.convergence.proofs.coins.Rivals.{Rivals, swapped, no-contend}
 use Rattle.convergence.proofs.rounds.RivalSteps.{BothWait, OneWaits, BothAsk, OneAhead, AreUp, step-both-wait, step-one-waits, step-both-ask, step-one-ahead}
@@ -340,9 +341,9 @@ module _ (set : ℕ) (m : ℕ) (small : m ≤ 64) where
       (a b : End) (w : CableWorld) (i up root most least : ℕ) → i + up ≤ most → i + root ≤ least →
       Ends a b up root (turns_after i w) → Ends a b most least w
   ends-later a b w i up root most least h l (inl t) =
-      inl (i + t.0, omega (arith, h, t.1), subst (λ (u : CableWorld). At u set a b (AreUp a.port b.port (m + 1))) (sym (turns-add i t.0 w)) t.2)
+      inl (i + t.0, omega (arith, h, t.1), subst (λ (u : CableWorld). At u set a b (AreUp a.port b.port (m + 1))) (sym (turns-then i t.0 w)) t.2)
   ends-later a b w i up root most least h l (inr t) =
-      inr (i + t.0, omega (arith, l, t.1), subst (λ (u : CableWorld). HasRoot u set) (sym (turns-add i t.0 w)) t.2)
+      inr (i + t.0, omega (arith, l, t.1), subst (λ (u : CableWorld). HasRoot u set) (sym (turns-then i t.0 w)) t.2)
 
   ends-round-two :
       (a b : End) (w : CableWorld) → Grown w set → (up root : ℕ) → Ends b a up root w →
@@ -359,7 +360,7 @@ module _ (set : ℕ) (m : ℕ) (small : m ≤ 64) where
       | inr u ↦ inr (t.0, omega (arith, t.1), u)
     ]
     | inl t ↦ elim (run set (λ i v. (v.delay ≤ i) × At v set a b (OneAhead i a.port b.port m)) (λ v. HasRoot v set) second (10 * w.delay) w.delay v gv (omega (arith, same), (let z : 0 + w.delay ≡ w.delay = omega arith in subst (λ k. At (turns_after w.delay w) set a b (OneAhead k a.port b.port m)) z t))) [
-      | inr u ↦ inr (w.delay + u.0, omega (arith, u.1), subst (λ (z : CableWorld). HasRoot z set) (sym (turns-add w.delay u.0 w)) u.2)
+      | inr u ↦ inr (w.delay + u.0, omega (arith, u.1), subst (λ (z : CableWorld). HasRoot z set) (sym (turns-then w.delay u.0 w)) u.2)
       | inl u ↦ absurd (not-so-long (turns_after (10 * w.delay) v) set (grown-after v set gv (10 * w.delay)) a.node u.1.ends.near u.1.ends.near_at u.1.is.contends
           (omega (arith, u.1.is.waited, same, after-delay v gv.lawful (10 * w.delay))))
     ]

@@ -34,7 +34,7 @@ use Rattle.convergence.specs.Roots.{IsRoot}
 use Rattle.convergence.specs.Milestones.{AreIdentifying}
 use Rattle.convergence.proofs.turns.CalmTurns.{Calmly, heard_by}
 use Rattle.convergence.proofs.coins.Drawers.{parent-connected}
-use Rattle.convergence.proofs.turns.Flush.{turns-add}
+use Rattle.cable_world.proofs.turns.ByNumber.{turns-then}
 use Rattle.convergence.proofs.sets.Gathered.{count, count-some, count-found}
 use Rattle.convergence.proofs.rounds.Grown.{Grown, weight_in, child-cable, below-cable, valid-at, calm-turn, grown-after, weight-after}
 use Rattle.convergence.proofs.rounds.Handshake.{Shakes, lighter}
@@ -155,7 +155,7 @@ module _ (set : ℕ) where
         let r = dies-out m w (grown-after v set g (v.delay + v.delay)) (subst (λ n. total (load set w) n ≤ m) (sym same) (omega (arith, few, falls v g f.0 f.1))) in (
           v.delay + v.delay + r.0,
           more m r.0 w.delay v.delay (after-delay v g.lawful (v.delay + v.delay)) r.1,
-          subst (λ (u : CableWorld). NoneShakes u set) (sym (turns-add (v.delay + v.delay) r.0 v)) r.2,
+          subst (λ (u : CableWorld). NoneShakes u set) (sym (turns-then (v.delay + v.delay) r.0 v)) r.2,
         )
   ]
     where

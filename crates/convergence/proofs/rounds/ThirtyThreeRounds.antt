@@ -21,7 +21,7 @@ use Rattle.convergence.specs.Coins.{AddsDraw, DrewTogether}
 use Rattle.convergence.specs.Rivals.{AreRivals}
 use Rattle.convergence.specs.Milestones.{HasContention}
 use Rattle.convergence.proofs.turns.CalmTurns.{Calmly, heard_by}
-use Rattle.convergence.proofs.turns.Flush.{turns-add}
+use Rattle.cable_world.proofs.turns.ByNumber.{turns-then}
 use Rattle.convergence.proofs.rounds.Grown.{Grown, calm-turn, grown-after}
 use Rattle.convergence.proofs.turns.Moves.{Drew, DrewNone, tick-draws}
 use Rattle.convergence.proofs.rounds.Rooted.{HasRoot}
@@ -195,8 +195,8 @@ module _ (set : ℕ) (a b : End) where
         elim (rounds n (m + 1) (omega (arith, small)) v gv t.2) [
           | inl u ↦
               let z : m + 1 + n ≡ m + suc n = omega arith in
-              inl (t.0 + u.0, up-none n v.delay w.delay t.0 u.0 same t.1 u.1, subst (λ (q : CableWorld). At q set a b (AreUp a.port b.port (m + suc n))) (sym (turns-add t.0 u.0 w)) (subst (λ k. At (turns_after u.0 v) set a b (AreUp a.port b.port k)) z u.2))
-          | inr u ↦ inr (t.0 + u.0, up-to n v.delay w.delay t.0 u.0 22 same t.1 u.1, subst (λ (q : CableWorld). HasRoot q set) (sym (turns-add t.0 u.0 w)) u.2)
+              inl (t.0 + u.0, up-none n v.delay w.delay t.0 u.0 same t.1 u.1, subst (λ (q : CableWorld). At q set a b (AreUp a.port b.port (m + suc n))) (sym (turns-then t.0 u.0 w)) (subst (λ k. At (turns_after u.0 v) set a b (AreUp a.port b.port k)) z u.2))
+          | inr u ↦ inr (t.0 + u.0, up-to n v.delay w.delay t.0 u.0 22 same t.1 u.1, subst (λ (q : CableWorld). HasRoot q set) (sym (turns-then t.0 u.0 w)) u.2)
         ]
   ]
     where

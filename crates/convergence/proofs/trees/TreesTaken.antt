@@ -38,7 +38,8 @@ use Rattle.cable_world.proofs.StaysLawful.{turns-lawful}
 use Rattle.convergence.specs.Milestones.{ResetsAreDone}
 use Rattle.convergence.proofs.turns.CalmTurns.{heard_by}
 use Rattle.convergence.proofs.turns.BeforeTree.{Left, TwoLeft, undecided-two}
-use Rattle.convergence.proofs.turns.Flush.{turns-add, after-cabling, Tells, Shown, flush}
+use Rattle.convergence.proofs.turns.Flush.{after-cabling, Tells, Shown, flush}
+use Rattle.cable_world.proofs.turns.ByNumber.{turns-then}
 use Rattle.convergence.proofs.sets.Gathered.{Gathered, gathered, count, count-most, count-le, count-less, count-some, count-found}
 use Rattle.convergence.proofs.trees.TreeStart.{IsEarly, Started, started, only-start, start-early, early-was, early-at-first, start-timer, done-at}
 
@@ -183,7 +184,7 @@ module _
   member-was : (i j k : ℕ) → member (i + j) k ≡ true → member i k ≡ true
   member-was i j k h =
       let p = member-parts (i + j) k h in
-      member-from i k p.0 (early-at-first (turns_after i v) (turns-lawful i v l) (done-at v l done i) j k (subst (λ u. IsEarly u k) (turns-add i j v) p.1))
+      member-from i k p.0 (early-at-first (turns_after i v) (turns-lawful i v l) (done-at v l done i) j k (subst (λ u. IsEarly u k) (turns-then i j v) p.1))
 
   module _ (t : ℕ) (old : 256 * v.delay ≤ t) where
     abbrev g : Gathered (member t) (length v.nodes)
@@ -210,8 +211,8 @@ module _
             let w : CableWorld = turns_after t v in
             let late : IsEarly w a.node → ⊥ = λ y. true≢false (sym (member-from t a.node (closed (end_at u q) a e in_set) y) ∙ m) in
             let e_then : far w.cabling (end_at u q) ≡ Some a = ap (λ (c : Wiring). far c (end_at u q)) (after-cabling t v) ∙ e in
-            let n_then : IsEarly (turns_after v.delay w) u = subst (λ z. IsEarly z u) (turns-add t v.delay v) n in
-            let at_then : slice_get (turns_after v.delay w).nodes u ≡ Some n.node = ap (λ (z : CableWorld). slice_get z.nodes u) (sym (turns-add t v.delay v)) ∙ n.at in
+            let n_then : IsEarly (turns_after v.delay w) u = subst (λ z. IsEarly z u) (turns-then t v.delay v) n in
+            let at_then : slice_get (turns_after v.delay w).nodes u ≡ Some n.node = ap (λ (z : CableWorld). slice_get z.nodes u) (sym (turns-then t v.delay v)) ∙ n.at in
             let same : w.delay ≤ v.delay = omega (arith, after-delay v l t) in
             absurd (true≢false (sym (shown-parent w (turns-lawful t v l) (done-at v l done t) u q a e_then late v.delay same n_then n.node at_then) ∙ s.silent))
 

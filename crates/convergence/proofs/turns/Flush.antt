@@ -26,11 +26,6 @@ use Rattle.cable_world.proofs.turns.TurnParts.{turn-state, comes}
 
 -- ---- turns
 
-pub turns-add : (k i : ℕ) (w : CableWorld) → turns_after (k + i) w ≡ turns_after i (turns_after k w)
-unfolding turns_after
-turns-add zero i w = let z : 0 + i ≡ i = omega arith in ap (λ n. turns_after n w) z
-turns-add (suc k) i w = let z : suc k + i ≡ suc (k + i) = omega arith in ap (λ n. turns_after n w) z ∙ turns-add k i (turn w)
-
 pub after-cabling : (k : ℕ) (w : CableWorld) → (turns_after k w).cabling ≡ w.cabling
 after-cabling zero w = ap (λ (v : CableWorld). v.cabling) (no-turns w)
 after-cabling (suc k) w = rw (← add-one, one-more k w) (cabling-after (turns_after k w) ∙ after-cabling k w)

@@ -16,6 +16,3 @@ late-start f e = grind arith
 
 pub start-mute : (f : Phase) → is_resetting f ≡ true → hears_packets f ≡ false
 start-mute f e = grind arith
-
-pub start-hears : (f : Phase) → is_resetting f ≡ true → hears_packets f ≡ true → ⊥
-start-hears f a b = grind arith

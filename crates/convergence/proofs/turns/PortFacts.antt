@@ -2,10 +2,7 @@
 use Rattle.std.proofs.Common.{◌≡◌, ◌≢◌, ℕ, Bool, true, false, Option, Some, None, ap, refl, sym, ◌∙◌, eq-eqb, true≢false}
 use Rattle.std.proofs.lemmas.Bool.{eqb-true}
 use Rattle.port_state.specs.Ports.{is_port}
-
-pub port-is : (o : Option ℕ) (k : ℕ) → is_port o k ≡ true → o ≡ Some k
-port-is None k h = absurd (true≢false (sym h))
-port-is (Some p) k h = ap Some (eqb-true p k h)
+use Rattle.cable_world.proofs.coupling.RolesFollow.{port-is}
 
 pub is-port : (o : Option ℕ) (k : ℕ) → o ≡ Some k → is_port o k ≡ true
 is-port o k e = ap (λ q. is_port q k) e ∙ eq-eqb k k refl

@@ -17,7 +17,7 @@ use Rattle.cable_world.specs.Phases.{is_before_tree}
 use Rattle.cable_world.specs.Agreement.{shown_or_idle, level_shown, leads_down}
 use Rattle.cable_world.proofs.turns.TicksWell.{Chosen, chosen, elsewhere}
 use Rattle.convergence.proofs.turns.Moves.{all_idle}
-use Rattle.convergence.proofs.turns.PortFacts.{port-is}
+use Rattle.cable_world.proofs.coupling.RolesFollow.{port-is}
 
 -- ---- weights
 

@@ -27,7 +27,8 @@ use Rattle.convergence.specs.Roots.{IsRoot}
 use Rattle.outcomes.specs.RootWalk.{RootWalk}
 use Rattle.convergence.proofs.turns.CalmTurns.{Calmly}
 use Rattle.convergence.proofs.loops.Cores.{one-root}
-use Rattle.convergence.proofs.turns.Flush.{turns-add, after-cabling}
+use Rattle.convergence.proofs.turns.Flush.{after-cabling}
+use Rattle.cable_world.proofs.turns.ByNumber.{turns-then}
 use Rattle.outcomes.proofs.forced.FreeTrees.{all-late}
 use Rattle.convergence.proofs.resets.ResetsDone.{resets-done, done-over}
 use Rattle.outcomes.proofs.roots.RootWalk.{root-walk}
@@ -73,7 +74,7 @@ module _
       slice_get (turns_after i start).nodes k ≡ Some x → x.state.view.force ≡ false
   free i k x h other at =
       let z : spread + (81 * w.delay + i) ≡ first + i = omega arith in
-      let is : turns_after i start ≡ turns_after (spread + (81 * w.delay + i)) w = sym (ap (λ n. turns_after n w) z ∙ turns-add first i w) in
+      let is : turns_after i start ≡ turns_after (spread + (81 * w.delay + i)) w = sym (ap (λ n. turns_after n w) z ∙ turns-then first i w) in
       forces w l node set comp fresh (81 * w.delay + i) k false x h (alone.others k h other) (ap (λ (u : CableWorld). slice_get u.nodes k) (sym is) ∙ at)
 
   start-late :
@@ -97,7 +98,7 @@ module _
       let z : k ≡ first + (k - first) = omega (arith, h) in
       let same : length start.nodes ≡ length w.nodes = after-length w l first in
       let room : length w.nodes * w.delay ≤ k - first = omega (arith, h) in
-      let is : turns_after k w ≡ turns_after (k - first) start = ap (λ n. turns_after n w) z ∙ turns-add first (k - first) w in
+      let is : turns_after k w ≡ turns_after (k - first) start = ap (λ n. turns_after n w) z ∙ turns-then first (k - first) w in
       start-late (k - first) (rw (same, after-delay w l first) room) j x has (ap (λ (u : CableWorld). slice_get u.nodes j) (sym is) ∙ at)
 
   pub parentless :
@@ -133,7 +134,7 @@ module _
     over : ResetsAreOver (turns_after k w)
     over =
         let z : k ≡ first + (k - first) = omega (arith, h) in
-        let is : turns_after k w ≡ turns_after (k - first) start = ap (λ n. turns_after n w) z ∙ turns-add first (k - first) w in
+        let is : turns_after k w ≡ turns_after (k - first) start = ap (λ n. turns_after n w) z ∙ turns-then first (k - first) w in
         done-over (turns_after k w) (turns-lawful k w l) (subst ResetsAreDone (sym is) (done-at start start-lawful start-done (k - first)))
 
     comp_then : IsComponent (turns_after k w).cabling node set

@@ -27,7 +27,8 @@ use Rattle.cable_world.proofs.StaysLawful.{turns-lawful}
 use Rattle.convergence.specs.Milestones.{ResetsAreDone}
 use Rattle.convergence.proofs.turns.CalmTurns.{signals, heard_by}
 use Rattle.convergence.proofs.turns.BeforeTree.{Left, TwoLeft}
-use Rattle.convergence.proofs.turns.Flush.{turns-add, after-cabling}
+use Rattle.convergence.proofs.turns.Flush.{after-cabling}
+use Rattle.cable_world.proofs.turns.ByNumber.{turns-then}
 use Rattle.outcomes.proofs.forced.Forced.{kept-heard, undecided-free, undecided-one}
 use Rattle.convergence.proofs.sets.Gathered.{count, count-most, count-le, count-less, count-some, count-found}
 use Rattle.convergence.proofs.trees.TreeStart.{IsEarly, Started, started, start-early, early-at-first, done-at}
@@ -101,8 +102,8 @@ module _ (v : CableWorld) (l : IsLawful v) (done : ResetsAreDone v) where
   asked-by t u n q a e s late =
       let w : CableWorld = turns_after t v in
       let e_then : far w.cabling (end_at u q) ≡ Some a = ap (λ (c : Wiring). far c (end_at u q)) (after-cabling t v) ∙ e in
-      let n_then : IsEarly (turns_after v.delay w) u = subst (λ z. IsEarly z u) (turns-add t v.delay v) n in
-      let at_then : slice_get (turns_after v.delay w).nodes u ≡ Some n.node = ap (λ (z : CableWorld). slice_get z.nodes u) (sym (turns-add t v.delay v)) ∙ n.at in
+      let n_then : IsEarly (turns_after v.delay w) u = subst (λ z. IsEarly z u) (turns-then t v.delay v) n in
+      let at_then : slice_get (turns_after v.delay w).nodes u ≡ Some n.node = ap (λ (z : CableWorld). slice_get z.nodes u) (sym (turns-then t v.delay v)) ∙ n.at in
       let same : w.delay ≤ v.delay = omega (arith, after-delay v l t) in
       true≢false (sym (shown-parent w (turns-lawful t v l) (done-at v l done t) u q a e_then late v.delay same n_then n.node at_then) ∙ s.silent)
 
@@ -143,7 +144,7 @@ module _ (v : CableWorld) (l : IsLawful v) (done : ResetsAreDone v) (set top : �
       (ap early_there m.early.at ∙ m.early.early)
 
   early-was : (i j k : ℕ) → IsEarly (turns_after (i + j) v) k → IsEarly (turns_after i v) k
-  early-was i j k n = early-at-first (turns_after i v) (turns-lawful i v l) (done-at v l done i) j k (subst (λ u. IsEarly u k) (turns-add i j v) n)
+  early-was i j k n = early-at-first (turns_after i v) (turns-lawful i v l) (done-at v l done i) j k (subst (λ u. IsEarly u k) (turns-then i j v) n)
 
   member-was : (i j k : ℕ) → member (i + j) k ≡ true → member i k ≡ true
   member-was i j k h =

@@ -52,7 +52,8 @@ use Rattle.outcomes.proofs.forced.Forced.{kept-heard, Takes, tick-takes}
 use Rattle.outcomes.proofs.forced.ForcedRoot.{up, late, parentless, enough}
 use Rattle.outcomes.proofs.forced.Spread.{Turned, turned, all-reset, some-nodes}
 use Rattle.outcomes.proofs.forced.Waits.{outside, steadily, spread-most, waiting}
-use Rattle.convergence.proofs.turns.PortFacts.{port-is, port-is-not}
+use Rattle.convergence.proofs.turns.PortFacts.{port-is-not}
+use Rattle.cable_world.proofs.coupling.RolesFollow.{port-is}
 use Rattle.convergence.proofs.turns.PhaseFacts.{late-start}
 use Rattle.cable_world.proofs.PhaseFacts.{start-before_tree}
 

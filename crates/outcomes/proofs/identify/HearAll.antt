@@ -18,7 +18,7 @@ use Rattle.outcomes.proofs.identify.Messages.{silent-append}
 use Rattle.outcomes.proofs.identify.MarksKept.{signal-marked}
 use Rattle.outcomes.proofs.identify.Hearing.{signal-stays, signal-silent, entering-silent}
 use Rattle.outcomes.proofs.identify.LinedHears.{with, front-hears, room-hears}
-use Rattle.convergence.proofs.turns.PhaseFacts.{start-hears}
+use Rattle.cable_world.proofs.running.Lists.{no-packets}
 use Rattle.cable_world.proofs.coupling.Streams.{not-both}
 
 -- all that is heard may come
@@ -101,7 +101,7 @@ hear-marked (s ∷ rest) x v m f = go (hears_packets x.view.phase) refl (hear-ma
     go true h later = later (now (λ _. first-allowed x s rest (f h))) (λ n j. front-hears s.0 s.1 x j (sent_on j rest) v m h n (first-allowed x s rest (f h)) (f h j))
     go false h later = later (now (λ e. absurd (not-both (hears_packets x.view.phase) e h))) (λ n. absurd (elim (signal-stays s.0 s.1 x) [
       | inl t ↦ not-both (hears_packets x.view.phase) (sym (ap hears_packets t.phase) ∙ n) h
-      | inr r ↦ start-hears first.state.view.phase r n
+      | inr r ↦ no-packets first.state.view.phase r n
     ]))
 
 -- ---- what hearing one signal keeps, hearing all keeps

@@ -25,8 +25,8 @@ use Rattle.outcomes.specs.Messages.{is_message, silent, Mode, parent_mode, child
 use Rattle.outcomes.specs.Messages as mode
 use Rattle.outcomes.proofs.identify.Ports.{child-role}
 use Rattle.outcomes.proofs.identify.MarksKept.{hears-late, awaited-one, done-asked}
-use Rattle.convergence.proofs.turns.PortFacts.{port-is}
-use Rattle.convergence.proofs.turns.PhaseFacts.{start-hears}
+use Rattle.cable_world.proofs.coupling.RolesFollow.{port-is}
+use Rattle.cable_world.proofs.running.Lists.{no-packets}
 
 -- ---- ports
 
@@ -231,7 +231,7 @@ reset-heard k x h e = go (is_resetting x.view.phase) refl e
         hears_packets (if b then silent_step (with_level k level.Reset x) else enter false (with_level k level.Reset x)).state.view.phase
         ≡ true →
         ⊥
-    go true r e = start-hears x.view.phase r h
+    go true r e = no-packets x.view.phase r h
     go false r e = true≢false (sym e)
 
 -- ---- a node that isn't in self identify or A0 sends no message
@@ -291,7 +291,7 @@ entering-silent k s x p h r = go (is_heard k s x) r
         (s : Signal) → is_resetting (hears k s x).state.view.phase ≡ true →
         silent (sent_on p (hears k s x).sends) ≡ true
     hearing signal.Reset r = resets (is_resetting x.view.phase)
-    hearing (signal.Packet quad) r = absurd (start-hears x.view.phase r h)
+    hearing (signal.Packet quad) r = absurd (no-packets x.view.phase r h)
     hearing signal.Idle r = refl
     hearing signal.Parent r = refl
     hearing signal.Child r = refl

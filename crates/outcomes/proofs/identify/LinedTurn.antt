@@ -23,7 +23,8 @@ use Rattle.outcomes.proofs.identify.LinedHears.{above-hears, below-hears, waits-
 use Rattle.outcomes.proofs.identify.LinedTicks.{above-ticks, below-ticks, waits-ticks, front-ticks, room-ticks, ticks-on, tick-silent, ticks-parent}
 use Rattle.outcomes.proofs.identify.GreetTicks.{ticks-child}
 use Rattle.outcomes.proofs.identify.HearAll.{MayCome, HasRoom, Keeps, hear-keeps, hear-marked}
-use Rattle.convergence.proofs.turns.PhaseFacts.{start-mute, start-hears}
+use Rattle.convergence.proofs.turns.PhaseFacts.{start-mute}
+use Rattle.cable_world.proofs.running.Lists.{no-packets}
 
 -- what is known of a node before it takes its turn
 pub record Able (s : Side) : Type 0 where
@@ -61,7 +62,7 @@ takes s a Q S keeps ticks out pend q = elim (hear-keeps s.port Q S keeps s.inbox
 stayed :
     (k : ℕ) (s : Signal) (x : NodeState) → hears_packets (on_signal k s x).state.view.phase ≡ true →
     Stays x (on_signal k s x).state
-stayed k s x n = elim (signal-stays k s x) [ inl t ↦ t | inr r ↦ absurd (start-hears (on_signal k s x).state.view.phase r n) ]
+stayed k s x n = elim (signal-stays k s x) [ inl t ↦ t | inr r ↦ absurd (no-packets (on_signal k s x).state.view.phase r n) ]
 
 -- what may come to the other end, and has room in its list
 abbrev pub Comes : Mode → List ℕ → List Signal → Type 0

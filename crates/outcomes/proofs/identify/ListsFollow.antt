@@ -18,7 +18,7 @@ use Rattle.outcomes.specs.Identify.{speaks, Line, Lined, IsIdentifying}
 use Rattle.outcomes.specs.Lists.{Follows, ListsFollow}
 use Rattle.outcomes.proofs.identify.Messages.{kept-room}
 use Rattle.outcomes.proofs.identify.MarksKept.{hears-late}
-use Rattle.convergence.proofs.turns.PhaseFacts.{start-hears}
+use Rattle.cable_world.proofs.running.Lists.{no-packets}
 
 -- ---- one line
 
@@ -56,7 +56,7 @@ module _ (w : CableWorld) (l : IsLawful w) (i : IsIdentifying w) where
   calm a b x y e at_x at_y h = go (has_reset (signals_of (wire_of w a).signals)) refl
     where
       go : (r : Bool) → has_reset (signals_of (wire_of w a).signals) ≡ r → r ≡ false
-      go true r = absurd (start-hears x.state.view.phase ((l.coupled.cables a b x y e at_x at_y).reset r) h)
+      go true r = absurd (no-packets x.state.view.phase ((l.coupled.cables a b x y e at_x at_y).reset r) h)
       go false r = refl
 
   pub child-above :

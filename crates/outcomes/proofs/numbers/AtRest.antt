@@ -63,7 +63,7 @@ use Rattle.outcomes.proofs.numbers.Settling.{Up, climbs, settles-on}
 use Rattle.convergence.proofs.ranks.StaysAcyclic.{reached-acyclic, turns-acyclic}
 use Rattle.outcomes.proofs.identify.StaysIdentifying.{reached-identifying, turns-identifying}
 use Rattle.convergence.proofs.resets.ResetsOver.{resets-over}
-use Rattle.convergence.proofs.turns.PhaseFacts.{start-hears}
+use Rattle.cable_world.proofs.running.Lists.{no-packets}
 
 -- ---- the room for a group
 
@@ -227,7 +227,7 @@ hears-no-list :
 hears-no-list [] x h on q = refl
 hears-no-list (s ∷ rest) x h on q = elim (signal-stays s.0 s.1 x) [
   | inl t ↦ then-so t (hears-no-list rest (on_signal s.0 s.1 x).state)
-  | inr t ↦ absurd (start-hears (hear_all rest (on_signal s.0 s.1 x).state).state.view.phase (hear-stays rest (on_signal s.0 s.1 x).state t) on)
+  | inr t ↦ absurd (no-packets (hear_all rest (on_signal s.0 s.1 x).state).state.view.phase (hear-stays rest (on_signal s.0 s.1 x).state t) on)
 ]
   where
     use-level : is_message s.1 ≡ false

@@ -59,7 +59,7 @@ use Rattle.outcomes.proofs.identify.ListsFollow.{IsAbove, one-above}
 use Rattle.outcomes.proofs.identify.MarksKept.{hears-late}
 use Rattle.outcomes.proofs.identify.Ports.{child-role}
 use Rattle.outcomes.proofs.numbers.Turning.{Marks, Goes-on, Heard-so, goes-along, hears-all, Ticks-so, ticks-so}
-use Rattle.convergence.proofs.turns.PhaseFacts.{start-hears}
+use Rattle.cable_world.proofs.running.Lists.{no-packets}
 
 -- ---- signals
 
@@ -209,7 +209,7 @@ module _
           let n = joined-of w a b.0 l.well_formed b.1 in
           let back : far w.cabling b.0 ≡ Some a = l.well_formed.cabling.both_ways a b.0 b.1 in
           let there : has_reset (signals_of (wire_of w b.0).signals) ≡ true = given-reset (gives w.delay (age_wire (wire_of w b.0))) (signals_of (wire_of w b.0).signals) (sym (ap has_reset (comes w b.0 a b.1)) ∙ found.2) in
-          start-hears n.other.state.view.phase ((l.coupled.cables b.0 a n.other x back n.other_at at).reset there) (all b.0.node n.other (closed a b.0 b.1 h) n.other_at)
+          no-packets n.other.state.view.phase ((l.coupled.cables b.0 a n.other x back n.other_at at).reset there) (all b.0.node n.other (closed a b.0 b.1 h) n.other_at)
 
   pub stays-on :
       (k : ℕ) (x : PortNode) → Holds set k → slice_get w.nodes k ≡ Some x →
@@ -362,7 +362,7 @@ module _
       from-above : IsAbove w b a y x → Owed a.node a.port x (there ++ now)
       from-above r = elim (above-turn (side w b y) able-y x.state there (signals_of (leftovers (side w a x))) (r.child, subst (λ ss. Lined y.state b.port there x.state ss) (sym going) r.line)) [
         | inl u ↦ owed u.1.1
-        | inr u ↦ absurd (start-hears (hearing (side w b y)).state.view.phase u.0 (still-there b.node y h_y at_y))
+        | inr u ↦ absurd (no-packets (hearing (side w b y)).state.view.phase u.0 (still-there b.node y h_y at_y))
       ]
         where
           cable : IsChildCable w b a
@@ -393,7 +393,7 @@ module _
       from-below : IsAbove w a b x y → Owed a.node a.port x (there ++ now)
       from-below r = elim (below-turn (side w b y) able-y x.state a.port there (signals_of (leftovers (side w a x))) (r.parent, subst (λ ss. Lined x.state a.port ss y.state there) (sym going) r.line)) [
         | inl u ↦ owed u.1.1
-        | inr u ↦ absurd (start-hears (hearing (side w b y)).state.view.phase u.0 (still-there b.node y h_y at_y))
+        | inr u ↦ absurd (no-packets (hearing (side w b y)).state.view.phase u.0 (still-there b.node y h_y at_y))
       ]
         where
           cable : IsChildCable w a b
@@ -428,7 +428,7 @@ module _
           x.state (signals_of (leftovers (side w a x)))
       above-line r = elim (above-turn (side w b y) able-y x.state there (signals_of (leftovers (side w a x))) (r.child, subst (λ ss. Lined y.state b.port there x.state ss) (sym going) r.line)) [
         | inl u ↦ u.1.1
-        | inr u ↦ absurd (start-hears (hearing (side w b y)).state.view.phase u.0 (still-there b.node y h_y at_y))
+        | inr u ↦ absurd (no-packets (hearing (side w b y)).state.view.phase u.0 (still-there b.node y h_y at_y))
       ]
 
       -- behind a Grant or Done the other end sends nothing

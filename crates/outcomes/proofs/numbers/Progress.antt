@@ -56,7 +56,7 @@ use Rattle.outcomes.proofs.numbers.AtRest.{room-for}
 use Rattle.outcomes.proofs.numbers.Turning.{Heard-so}
 use Rattle.convergence.specs.Acyclic.{IsAcyclic}
 use Rattle.convergence.specs.Milestones.{ResetsAreOver}
-use Rattle.convergence.proofs.turns.PhaseFacts.{start-hears}
+use Rattle.cable_world.proofs.running.Lists.{no-packets}
 
 -- ---- what a node that hears and ticks keeps
 
@@ -125,7 +125,7 @@ hears-rises (s ∷ rest) x h on = elim (signal-stays s.0 s.1 x) [
   | inl t ↦
       let n1 : hears_packets (on_signal s.0 s.1 x).state.view.phase ≡ true = ap hears_packets t.phase ∙ h in
       rises-more x (on_signal s.0 s.1 x).state (hear_all rest (on_signal s.0 s.1 x).state).state (signal-rises s.0 s.1 x h n1) (hears-rises rest (on_signal s.0 s.1 x).state n1 on)
-  | inr t ↦ absurd (start-hears (hear_all rest (on_signal s.0 s.1 x).state).state.view.phase (hear-stays rest (on_signal s.0 s.1 x).state t) on)
+  | inr t ↦ absurd (no-packets (hear_all rest (on_signal s.0 s.1 x).state).state.view.phase (hear-stays rest (on_signal s.0 s.1 x).state t) on)
 ]
 
 ticks-rise :

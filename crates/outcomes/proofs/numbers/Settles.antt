@@ -45,7 +45,7 @@ use Rattle.cable_world.proofs.StaysLawful.{reached-lawful}
 use Rattle.outcomes.proofs.numbers.NumberedTurn.{stayed}
 use Rattle.outcomes.proofs.numbers.Progress.{node-rises, Old, old-grant, old-done, grant-old, done-old, none-older, moves, turn-used}
 use Rattle.outcomes.proofs.numbers.Settling.{Up, up-or-root, climbs}
-use Rattle.convergence.proofs.turns.PortFacts.{port-is}
+use Rattle.cable_world.proofs.coupling.RolesFollow.{port-is}
 
 -- ---- counts
 

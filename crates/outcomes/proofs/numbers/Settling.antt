@@ -54,7 +54,7 @@ use Rattle.outcomes.proofs.roots.Named.{same-walk}
 use Rattle.outcomes.proofs.numbers.NumberedTurn.{turn-numbered, Stayed, stayed}
 use Rattle.outcomes.proofs.roots.RootWalk.{root-walk, node-at}
 use Rattle.convergence.proofs.ranks.RanksInTurns.{turn-acyclic}
-use Rattle.convergence.proofs.turns.PhaseFacts.{start-hears}
+use Rattle.cable_world.proofs.running.Lists.{no-packets}
 
 -- ---- up a component all of whose nodes are in self identify or A0
 
@@ -345,7 +345,7 @@ module _
       calm :
           (b : Bool) (h : Phase) → hears_packets h ≡ true → (b ≡ true → is_resetting h ≡ true) →
           b ≡ false
-      calm true h e f = absurd (start-hears h (f refl) e)
+      calm true h e f = absurd (no-packets h (f refl) e)
       calm false h e f = refl
 
   pub all-below : AreIdentifying w set

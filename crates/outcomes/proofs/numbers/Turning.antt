@@ -35,7 +35,7 @@ use Rattle.outcomes.proofs.identify.MarksKept.{hears-late, done-asked, signal-ma
 use Rattle.outcomes.proofs.identify.Hearing.{Stays, signal-stays, level-asked, level-named, reset-heard}
 use Rattle.outcomes.proofs.identify.LinedHears.{with, unheard-level, front-hears, others-silent}
 use Rattle.outcomes.proofs.identify.LinedTicks.{off}
-use Rattle.convergence.proofs.turns.PhaseFacts.{start-hears}
+use Rattle.cable_world.proofs.running.Lists.{no-packets}
 use Rattle.outcomes.proofs.numbers.NodeMessages.{shown-port, level-owed, level-grant, level-done, rest-fits, after-grant, after-done, at-port, no-packet, root-packet, grant-comes}
 
 -- ---- a node of the walk
@@ -365,7 +365,7 @@ module _ (n : ℕ) (em : ℕ → List ℕ) (mk : ℕ → ℕ) (c : Node) where
   hears-all [] x pend v m h r on f g = (record { valid = v; marked = m; marks = r; asked = λ j. refl; stays = record { phase = refl; parent = refl; child = λ k. refl; cables = λ k. refl } }, g, f)
   hears-all (s ∷ rest) x pend v m h r on f g = elim (signal-stays s.0 s.1 x) [
     | inl t ↦ goes-first t (hears-all rest first.state pend)
-    | inr t ↦ absurd (start-hears (hear_all rest first.state).state.view.phase (hear-stays rest first.state t) on)
+    | inr t ↦ absurd (no-packets (hear_all rest first.state).state.view.phase (hear-stays rest first.state t) on)
   ]
     where
       first : Step

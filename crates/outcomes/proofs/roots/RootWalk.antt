@@ -48,7 +48,8 @@ use Rattle.outcomes.specs.RootWalk.{parent_of, parent_now, place_now, RootWalk}
 use Rattle.convergence.proofs.sets.Closure.{in-component}
 use Rattle.convergence.proofs.loops.Cores.{leads-down, rooted-late, no-root-with-loop}
 use Rattle.outcomes.proofs.roots.OwnGroups.{shown-by-label}
-use Rattle.convergence.proofs.turns.PortFacts.{port-is, is-port, port-is-not}
+use Rattle.convergence.proofs.turns.PortFacts.{is-port, port-is-not}
+use Rattle.cable_world.proofs.coupling.RolesFollow.{port-is}
 use Rattle.self_id.proofs.Zeros.{node_count-append}
 
 pub not-false : (b : Bool) → not b ≡ false → b ≡ true

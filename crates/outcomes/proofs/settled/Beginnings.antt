@@ -39,13 +39,9 @@ use Rattle.outcomes.proofs.identify.StaysIdentifying.{reached-identifying, turns
 use Rattle.outcomes.proofs.numbers.Settling.{settles-first}
 use Rattle.outcomes.proofs.roots.RootWalk.{not-false, root-walk}
 use Rattle.outcomes.proofs.settled.Unnamed.{Above, above-of}
+use Rattle.std.proofs.lemmas.Bool.{not-true}
 
 -- ---- all, or one isn't
-
--- a test that fails
-pub not-true : (b : Bool) → not b ≡ true → b ≡ false
-not-true true e = absurd (true≢false (sym e))
-not-true false e = refl
 
 pub all-or-not : (w : CableWorld) (set : ℕ) → AreIdentifying w set ⊎ IsUnfinished w set
 all-or-not w set = elim (search-set set (λ x. not (hears_packets x.state.view.phase)) w) [

@@ -25,7 +25,7 @@ use Rattle.outcomes.specs.Numbered.{IsSettling}
 use Rattle.outcomes.specs.Settled.{IsUnfinished}
 use Rattle.outcomes.proofs.roots.Named.{named-tree}
 use Rattle.outcomes.proofs.roots.RootWalk.{not-false}
-use Rattle.outcomes.proofs.settled.Beginnings.{not-true}
+use Rattle.std.proofs.lemmas.Bool.{not-true}
 
 -- ---- tests
 

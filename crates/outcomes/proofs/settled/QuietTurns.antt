@@ -30,7 +30,8 @@ use Rattle.convergence.proofs.resets.ResetsOver.{resets-over}
 use Rattle.convergence.proofs.rounds.IdentifyOrContend.{grown-of}
 use Rattle.convergence.proofs.rounds.Shaken.{search-set}
 use Rattle.convergence.proofs.rounds.ThirtyThreeRounds.{contention-after}
-use Rattle.convergence.proofs.turns.Flush.{turns-add, after-cabling}
+use Rattle.convergence.proofs.turns.Flush.{after-cabling}
+use Rattle.cable_world.proofs.turns.ByNumber.{turns-then}
 use Rattle.outcomes.specs.Identify.{IsIdentifying}
 use Rattle.outcomes.specs.Numbered.{IsSettling}
 use Rattle.outcomes.specs.Settled.{IsUnfinished}
@@ -150,7 +151,7 @@ module _
       grown = start-grown w r middle (omega (arith, enough)) (taken-reached w middle r (omega (arith, enough)))
 
       now : HasContention v set
-      now = subst (λ (u : CableWorld). HasContention u set) (sym (turns-add middle (k - middle) w) ∙ ap (λ (i : ℕ). turns_after i w) sum)
+      now = subst (λ (u : CableWorld). HasContention u set) (sym (turns-then middle (k - middle) w) ∙ ap (λ (i : ℕ). turns_after i w) sum)
           (contention-after (turns_after middle w) set (grown-of (turns_after middle w) node set core grown (comp-at middle) (core-at middle) empty) (k - middle) h)
 
       late-tree : Begins w set middle (middle + (k - middle)) → IsSettled v set

@@ -39,7 +39,7 @@ use Rattle.outcomes.proofs.identify.Hearing.{parent-connected}
 use Rattle.outcomes.proofs.identify.MarksKept.{hears-late}
 use Rattle.outcomes.proofs.identify.StaysIdentifying.{reached-identifying, turns-identifying}
 use Rattle.outcomes.proofs.identify.OneMessage.{end-of}
-use Rattle.convergence.proofs.turns.PhaseFacts.{start-hears}
+use Rattle.cable_world.proofs.running.Lists.{no-packets}
 
 -- a granted node of a set
 pub record GrantedIn (w : CableWorld) (set k : ℕ) : Type 0 where
@@ -57,7 +57,7 @@ no-reset-to w over a b x e at h = go (has_reset (signals_of (wire_of w a).signal
   where
     go : (r : Bool) → has_reset (signals_of (wire_of w a).signals) ≡ r → r ≡ false
     go false s = refl
-    go true s = absurd (start-hears x.state.view.phase (over a b x e at s) h)
+    go true s = absurd (no-packets x.state.view.phase (over a b x e at s) h)
 
 -- the cable at the parent port of a node in self identify is a child cable
 pub record Above (w : CableWorld) (k : ℕ) (x : PortNode) : Type 0 where
