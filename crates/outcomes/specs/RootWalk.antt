@@ -92,7 +92,9 @@ pub record SameWalk (w v : CableWorld) (set root : ℕ) (t u : Tree) : Type 0 wh
 -- ---- laws
 
 -- a root of a component, once resets are over
-pub record HasRoot (w : CableWorld) (node : NodeNumber) (set core root : NodeSet) : Type 0 where
+pub record HasRoot
+    (w : CableWorld) (node : NodeNumber) (set core : NodeSet) (root : NodeNumber)
+    : Type 0 where
   pub lawful : IsLawful w
   pub acyclic : IsAcyclic w
   pub over : ResetsAreOver w
