@@ -80,6 +80,13 @@ NoThirdDraws w =
     Holds set i → Holds set j → Holds set k → i ≢ j → i ≢ k → j ≢ k →
     HasDrawn w i → HasDrawn w j → HasDrawn w k → ⊥
 
+-- all four at once
+pub record FewDraw (w : CableWorld) : Type 0 where
+  pub close : RivalsAreClose w
+  pub agree : RivalsAgree w
+  pub two : DrawersShareACable w
+  pub no_third : NoThirdDraws w
+
 -- the first of two nodes has the second as its child, and no parent
 abbrev pub WinsOver : CableWorld → NodeNumber → NodeNumber → Type 0
 WinsOver w m n = (a : End) × (b : End) × (a.node ≡ m) × (b.node ≡ n) × HasWonAt w a b

@@ -11,8 +11,7 @@ abbrev pub emit : Tree → ℕ → List ℕ
 emit t m = groups 0 (take m (walk t))
 
 -- It begins with nothing and ends with all. Each node adds its group, in which its place is its ID
--- and its
--- parent port the one that is up.
+-- and its parent port the one that is up.
 pub record EmitsByNode
     (c : Wiring) (label : ℕ → Label) (parent : ℕ → Option ℕ) (set root : ℕ) (t : Tree)
     (mark : ℕ → ℕ → ℕ)

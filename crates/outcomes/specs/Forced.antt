@@ -78,7 +78,9 @@ EntriesTakeOver =
     (y.state.view.force ≡ waits_due x.state.view) × (y.state.view.gap ≡ gap_due x.state.view)
 
 -- in a component without loop, which has just been reset, this node alone waits to become root
-pub record IsForced (w : CableWorld) (node : NodeNumber) (set core root : NodeSet) : Type 0 where
+pub record IsForced
+    (w : CableWorld) (node : NodeNumber) (set core : NodeSet) (root : NodeNumber)
+    : Type 0 where
   pub lawful : IsLawful w
   pub component : IsComponent w.cabling node set
   pub is_core : IsCore w.cabling set core
@@ -124,7 +126,8 @@ NobodyDraws =
 
 -- a configuration packet with R set names one node of a component that isn't being reset
 pub record NamesRoot
-    (w v : CableWorld) (from : NodeNumber) (id : ℕ) (gap : Option ℕ) (set root : NodeSet)
+    (w v : CableWorld) (from : NodeNumber) (id : ℕ) (gap : Option ℕ) (set : NodeSet)
+    (root : NodeNumber)
     : Type 0 where
   pub act : ActLeads (Config from id true gap) w v
   pub component : IsComponent w.cabling from set
@@ -132,17 +135,19 @@ pub record NamesRoot
 
 abbrev pub ConfigsBeginAnew : Type 0
 ConfigsBeginAnew =
-    (w v : CableWorld) (from : NodeNumber) (id : ℕ) (gap : Option ℕ) (set root : NodeSet) →
+    (w v : CableWorld) (from : NodeNumber) (id : ℕ) (gap : Option ℕ) (set : NodeSet)
+    (root : NodeNumber) →
     NamesRoot w v from id gap set root → IsFresh v set
 
 abbrev pub ConfigsNameRoots : Type 0
 ConfigsNameRoots =
-    (w v : CableWorld) (from : NodeNumber) (id : ℕ) (gap : Option ℕ) (set root : NodeSet) →
+    (w v : CableWorld) (from : NodeNumber) (id : ℕ) (gap : Option ℕ) (set : NodeSet)
+    (root : NodeNumber) →
     NamesRoot w v from id gap set root → WaitsAlone v set root
 
 abbrev pub ConfigsGiveGaps : Type 0
 ConfigsGiveGaps =
-    (w v : CableWorld) (from : NodeNumber) (id : ℕ) (gap : Option ℕ) (set root : NodeSet)
-    (k : NodeNumber) (x y : PortNode) → NamesRoot w v from id gap set root →
+    (w v : CableWorld) (from : NodeNumber) (id : ℕ) (gap : Option ℕ) (set : NodeSet)
+    (root k : NodeNumber) (x y : PortNode) → NamesRoot w v from id gap set root →
     Holds set k → slice_get w.nodes k ≡ Some x → slice_get v.nodes k ≡ Some y →
     gap_due y.state.view ≡ gap_or gap x.state.view.next_gap

@@ -26,8 +26,7 @@ abbrev pub speaks : Bool → Bool → Bool
 speaks granted named = granted && not named
 
 -- The state of a child cable, where the parent asked the child, and named it, and the child is
--- granted, and in
--- A0; with the two lists, and what is under way down and up.
+-- granted, and in A0; with the two lists, and what is under way down and up.
 pub record Line
     (asked named granted ready : Bool) (above below : List ℕ) (down up : List Signal)
     : Type 0 where
@@ -51,7 +50,9 @@ pub record Line
 
 -- of two nodes, the first of which is above
 abbrev pub Lined : NodeState → ℕ → List Signal → NodeState → List Signal → Type 0
-Lined x p there y back = Line (is_asked x p) (is_named x p) y.view.granted (is_ready y.view.phase) x.list.items y.list.items there back
+Lined x p there y back =
+    Line (is_asked x p) (is_named x p) y.view.granted (is_ready y.view.phase)
+    x.list.items y.list.items there back
 
 -- ---- the two ends of a cable
 
@@ -68,8 +69,7 @@ any_child [] = false
 any_child (s ∷ ss) = is_child_signal s || any_child ss
 
 -- What is so of a node at one port of a cable, with the signals under way from there, and of the
--- node at the
--- other port, with the signals back: how the two come to self identify.
+-- node at the other port, with the signals back: how the two come to self identify.
 pub record Greets
     (x : NodeState) (p : ℕ) (there : List Travelling) (y : NodeState) (q : ℕ)
     (back : List Travelling)

@@ -7,8 +7,8 @@ use Rattle.outcomes.specs.WalkMarks.{place}
 use Rattle.outcomes.specs.Intervals.{LeadsToChild}
 
 -- What is so at each child cable, and at each two of a node: a ready node has its turn, and its
--- children are
--- ready; where a child has its turn, so has its parent, and the children at lower ports are ready.
+-- children are ready; where a child has its turn, so has its parent, and the children at lower
+-- ports are ready.
 pub record InTurn
     (c : Wiring) (parent : ℕ → Option ℕ) (set : ℕ) (turn ready : ℕ → Bool)
     : Type 0 where

@@ -14,8 +14,7 @@ abbrev pub HasNoChild : Wiring → (ℕ → Option ℕ) → ℕ → ℕ → ℕ 
 HasNoChild c parent k p q = (i : ℕ) (b : End) → p ≤ i → i < q → LeadsToChild c parent k i b → ⊥
 
 -- The nodes from k down have the places lo k to hi k - 1, k itself the last of them: the children
--- by rising
--- ports one after the other, and then k.
+-- by rising ports one after the other, and then k.
 pub record Intervals
     (c : Wiring) (parent : ℕ → Option ℕ) (set root n : ℕ) (lo hi : ℕ → ℕ)
     : Type 0 where

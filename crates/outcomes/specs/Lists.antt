@@ -13,8 +13,7 @@ abbrev pub packets_from : CableWorld → End → List ℕ
 packets_from w a = quads_in (signals_of (wire_of w a).signals)
 
 -- the list of the node y, followed by the packets under way to it from end a, is the list of the
--- node x, and no
--- packet is under way to that node from end b
+-- node x, and no packet is under way to that node from end b
 pub record Follows (w : CableWorld) (a b : End) (x y : PortNode) : Type 0 where
   pub joined : y.state.list.items ++ packets_from w a ≡ x.state.list.items
   pub none : packets_from w b ≡ []
@@ -22,5 +21,7 @@ pub record Follows (w : CableWorld) (a b : End) (x y : PortNode) : Type 0 where
 -- on each cable whose two ends are in self identify or A0, one list follows the other
 abbrev pub ListsFollow : CableWorld → Type 0
 ListsFollow w =
-    (a b : End) (x y : PortNode) → far w.cabling a ≡ Some b → slice_get w.nodes a.node ≡ Some x → slice_get w.nodes b.node ≡ Some y →
-    hears_packets x.state.view.phase ≡ true → hears_packets y.state.view.phase ≡ true → Follows w a b x y ⊎ Follows w b a y x
+    (a b : End) (x y : PortNode) → far w.cabling a ≡ Some b →
+    slice_get w.nodes a.node ≡ Some x → slice_get w.nodes b.node ≡ Some y →
+    hears_packets x.state.view.phase ≡ true → hears_packets y.state.view.phase ≡ true →
+    Follows w a b x y ⊎ Follows w b a y x

@@ -101,4 +101,6 @@ mode_of true parent child = parent
 mode_of false parent child = child
 
 abbrev pub mode : NodeState → ℕ → Mode
-mode x k = mode_of (is_port x.view.parent k) (parent_mode (is_ready x.view.phase) x.view.granted) (child_mode (is_asked x k) (is_named x k))
+mode x k =
+    mode_of (is_port x.view.parent k) (parent_mode (is_ready x.view.phase) x.view.granted)
+    (child_mode (is_asked x k) (is_named x k))

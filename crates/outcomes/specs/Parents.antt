@@ -19,8 +19,7 @@ pub record HasParents (c : Wiring) (set root : ℕ) (parent : ℕ → Option ℕ
   pub others : (k : ℕ) → Holds set k → k ≢ root → LeadsUp c parent k
 
 -- The same from above: the root has no parent port, and whatever port of a node isn't its parent
--- port leads to
--- the parent port of another.
+-- port leads to the parent port of another.
 pub record LeadDown (c : Wiring) (set root : ℕ) (parent : ℕ → Option ℕ) : Type 0 where
   pub none : parent root ≡ None
   pub others :
@@ -30,10 +29,12 @@ pub record LeadDown (c : Wiring) (set root : ℕ) (parent : ℕ → Option ℕ) 
 -- in a seen tree the parent ports are the ports by which its nodes are come to
 abbrev mutual
   pub ParentsAre : Wiring → (ℕ → Option ℕ) → ℕ → Option ℕ → Tree → Type 0
-  ParentsAre c parent x from (branch a s) = (parent x ≡ from) × ParentsBelow c parent (ports_of c x) s
+  ParentsAre c parent x from (branch a s) =
+      (parent x ≡ from) × ParentsBelow c parent (ports_of c x) s
 
   pub ParentsBelow : Wiring → (ℕ → Option ℕ) → List (Option End) → Slots → Type 0
-  ParentsBelow c parent (Some far ∷ ports) (down t s) = ParentsAre c parent far.node (Some far.port) t × ParentsBelow c parent ports s
+  ParentsBelow c parent (Some far ∷ ports) (down t s) =
+      ParentsAre c parent far.node (Some far.port) t × ParentsBelow c parent ports s
   ParentsBelow c parent (port ∷ ports) (absent s) = ParentsBelow c parent ports s
   ParentsBelow c parent (port ∷ ports) (unplugged s) = ParentsBelow c parent ports s
   ParentsBelow c parent (port ∷ ports) (up s) = ParentsBelow c parent ports s

@@ -37,10 +37,8 @@ abbrev pub place_now : CableWorld → ℕ → Tree → ℕ → ℕ
 place_now w root t k = place w.cabling (mark w.cabling root t 0) k
 
 -- A root's walk, for proofs about single cables. The cables show the tree from the root, its parent
--- ports are those of the nodes, and its list is the nodes'
--- own groups, one after the other. Of each part of the list that such groups make, the packet zeros
--- number
--- the nodes.
+-- ports are those of the nodes, and its list is the nodes' own groups, one after the other. Of each
+-- part of the list that such groups make, the packet zeros number the nodes.
 pub record RootWalk (w : CableWorld) (set root : ℕ) (t : Tree) : Type 0 where
   pub seen : Sees w.cabling (labels (attrs_now w)) root None t
   pub parents : ParentsAre w.cabling (parent_now w) root None t
@@ -94,7 +92,9 @@ pub record SameWalk (w v : CableWorld) (set root : ℕ) (t u : Tree) : Type 0 wh
 -- ---- laws
 
 -- a root of a component, once resets are over
-pub record HasRoot (w : CableWorld) (node : NodeNumber) (set core root : NodeSet) : Type 0 where
+pub record HasRoot
+    (w : CableWorld) (node : NodeNumber) (set core : NodeSet) (root : NodeNumber)
+    : Type 0 where
   pub lawful : IsLawful w
   pub acyclic : IsAcyclic w
   pub over : ResetsAreOver w

@@ -19,15 +19,18 @@ before c (Some far ∷ ports) (up s) (suc q) = before c ports s q
 before c ports s q = 0
 
 -- The mark of port q of node z, in a seen tree whose first node in the walk has the number `base`:
--- so many
--- nodes of the walk come before those below the port. A node's mark past its last port is its own
--- place.
+-- so many nodes of the walk come before those below the port. A node's mark past its last port is
+-- its own place.
 abbrev mutual
   pub mark : Wiring → ℕ → Tree → ℕ → ℕ → ℕ → ℕ
-  mark c x (branch a s) base z q = if z == x then base + before c (ports_of c x) s q else mark_below c (ports_of c x) s base z q
+  mark c x (branch a s) base z q =
+      if z == x then base + before c (ports_of c x) s q
+      else mark_below c (ports_of c x) s base z q
 
   pub mark_below : Wiring → List (Option End) → Slots → ℕ → ℕ → ℕ → ℕ
-  mark_below c (Some far ∷ ports) (down t s) base z q = if is_in z (numbers c far.node t) then mark c far.node t base z q else mark_below c ports s (base + length (numbers c far.node t)) z q
+  mark_below c (Some far ∷ ports) (down t s) base z q =
+      if is_in z (numbers c far.node t) then mark c far.node t base z q
+      else mark_below c ports s (base + length (numbers c far.node t)) z q
   mark_below c (None ∷ ports) (unplugged s) base z q = mark_below c ports s base z q
   mark_below c (Some far ∷ ports) (up s) base z q = mark_below c ports s base z q
   mark_below c ports s base z q = 0
@@ -37,8 +40,8 @@ abbrev pub place : Wiring → (ℕ → ℕ → ℕ) → ℕ → ℕ
 place c mark k = mark k (length (ports_of c k))
 
 -- What marks are, port by port. The nodes below a child port have the places from its mark on, and
--- the mark
--- of the next port is behind them; at any other port the mark stays. The root begins with 0.
+-- the mark of the next port is behind them; at any other port the mark stays. The root begins with
+-- 0.
 pub record Marked
     (c : Wiring) (parent : ℕ → Option ℕ) (set root : ℕ) (order : List ℕ) (mark : ℕ → ℕ → ℕ)
     : Type 0 where

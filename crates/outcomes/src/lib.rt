@@ -3,7 +3,8 @@
 //! The crate has laws alone, of worlds as `cable_world` defines them. `specs/` says what is so:
 //! `Identify` what two ends of a cable know of each other's lists, `WalkMarks` and `RootWalk` the
 //! walk of a tree node by node, `Numbered` whose list has what, `Forced` a node that waits to
-//! become root, `Settled` which components settle in how many turns. `docs/MODEL.md` tells the argument.
+//! become root, `Settled` which components settle in how many turns. `docs/MODEL.md` tells the
+//! argument.
 #![tactic(auto)]
 
 mod laws;

@@ -127,7 +127,7 @@ module _ (w : CableWorld) (l : IsLawful w) where
 
 -- ---- R1
 
--- towards a node in R1 another node level_sent of R0 level_sent_at Idle or Parent
+-- towards a node in R1 another node out of R0 tells Idle or Parent
 calm-told :
     (y : NodeState) (q : ℕ) → IsValid y → is_connected y.view.ports q ≡ true →
     is_resetting y.view.phase ≡ false → (is_before_tree y.view.phase || is_asking y q) ≡ true →

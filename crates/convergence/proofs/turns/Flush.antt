@@ -1,4 +1,4 @@
--- What a node level_sent_at over a cable for d turns is shown at the other end. A wire that gives
+-- What a node tells over a cable for d turns is shown at the other end. A wire that gives
 -- gives all that is under
 -- way, so the other end then shows what was told last; and one that doesn't give for d turns has a
 -- signal that is due.
@@ -32,7 +32,7 @@ after-cabling (suc k) w = rw (← add-one, one-more k w) (cabling-after (turns_a
 
 -- ---- the two ends of a cable
 
--- what the node at an end level_sent_at passes a test
+-- what the node at an end tells passes a test
 abbrev pub Tells : CableWorld → End → (Level → Bool) → Type 0
 Tells w a test = (x : PortNode) → slice_get w.nodes a.node ≡ Some x → test (level_sent_at x.state a.port) ≡ true
 
@@ -111,7 +111,7 @@ module _
 
 -- ---- d turns
 
--- a node level_sent_at what passes a test for as long as some condition holds, which held before
+-- a node tells what passes a test for as long as some condition holds, which held before
 -- where it holds
 module _
     (w : CableWorld) (l : IsLawful w) (a b : End) (e : far w.cabling a ≡ Some b)

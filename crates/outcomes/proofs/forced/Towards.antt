@@ -280,7 +280,7 @@ module _
         go false g = refl
         go true g = absurd (true≢false (sym (from_x.reset g) ∙ out_x))
 
-    -- the node up the way neither level_sent_at Parent nor is shown to
+    -- the node up the way neither tells Parent nor is shown to
     both :
         (is_parent (level_sent_at y.state b.port) ≡ false)
         × (is_parent (level_shown x.state p) ≡ false)

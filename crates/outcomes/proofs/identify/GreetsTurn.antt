@@ -101,7 +101,7 @@ module _
     shows-old : y.gives ≡ false → level_shown (hearing x).state x.port ≡ level_shown x.node x.port
     shows-old e = heard_shown d y x rounded ∙ ap (level_after (level_shown x.node x.port)) (given-none e)
 
-    -- ---- what the other node level_after isn't taken back
+    -- ---- what the other node said isn't taken back
 
     other-asked :
         is_asking (ticking y).state y.port ≡ true → NoEntry y.node (hearing y) → Asked y.node y.port
@@ -305,7 +305,7 @@ module _
     out-child : (h : Phase) (b : Bool) → level_sent h b ≡ level.Child → b ≡ true
     out-child h b e = grind arith
 
-    -- a node that has hearing a Child has a parent
+    -- a node that has heard a Child has a parent
     heard-child :
         has_reset (signals_of (leftovers y)) ≡ false →
         level_shown (hearing x).state x.port ≡ level.Child →

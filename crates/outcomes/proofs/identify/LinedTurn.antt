@@ -38,13 +38,13 @@ pub record Able (s : Side) : Type 0 where
 pub able-marked : (s : Side) → Able s → IsMarked (hearing s).state
 able-marked s a = hear-marked s.inbox s.node a.valid a.marked (λ _. a.comes)
 
--- what is departures in two parts
+-- what is sent in two parts
 parts :
     (s : Side) (out : List Signal) → (out ++ sent_on s.port (hearing s).sends)
     ++ sent_on s.port (ticking s).sends ≡ out ++ departures s
 parts s out = append_assoc out (sent_on s.port (hearing s).sends) (sent_on s.port (ticking s).sends)
 
--- a fact of the node after its turn, or one of what it departures where it began a reset
+-- a fact of the node after its turn, or one of what it sent where it began a reset
 abbrev pub Taken :
     Side → (NodeState → List Signal → Type 0) → (List Signal → Type 0) → List Signal → Type 0
 Taken s Q S out = ((hears_packets (ticking s).state.view.phase ≡ true) × Q (ticking s).state (out ++ departures s)) ⊎ ((is_resetting (hearing s).state.view.phase ≡ true) × S (out ++ departures s))

@@ -13,7 +13,7 @@ use Rattle.cable_world.specs.Phases.{is_before_tree}
 use Rattle.cable_world.specs.Agreement.{leads_down}
 use Rattle.cable_world.proofs.coupling.Sides.{late-roles}
 
--- ---- a change_port port
+-- ---- a changed port
 
 pub changed-other :
     (t : PortView → Bool) (n k : ℕ) (f : PortView → PortView) (ports : List PortView) → (k == n)

@@ -274,7 +274,7 @@ module _
       let same : z.state ≡ (tick (coin x.coins) y).state = ap (λ (u : PortNode). u.state) (some-same z (turn_at w k x).node (sym at_z ∙ node-after w k x l.well_formed.count at)) ∙ turn-state (inbox w 0 (ports_of w.cabling k)) x in
       subst (Rises x.state) (sym same) (rises-more x.state y (tick (coin x.coins) y).state (hears-rises (inbox w 0 (ports_of w.cabling k)) x.state (s.all k x h at) here) (ticks-rise (coin x.coins) y here))
 
-  -- it comes, and nothing is under way behind it, or it is a turn age_signal
+  -- it comes, and nothing is under way behind it, or it is a turn older
   pub moves :
       (test : Signal → Bool) →
       ((n : ℕ) (ts : List Travelling) → Old test n ts → (has_grant (signals_of ts) ≡ true) ⊎ (has_done (signals_of ts) ≡ true))
