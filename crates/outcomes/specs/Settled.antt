@@ -4,6 +4,7 @@ use Rattle.topology_stack.specs.Tree.{Tree}
 use Rattle.cabling.specs.NodeSet.{Holds, IsEmpty}
 use Rattle.cabling.specs.Component.{IsComponent}
 use Rattle.cabling.specs.Looped.{IsCore}
+use Rattle.port_state.specs.Config.{gap_or}
 use Rattle.port_state.specs.Heard.{hears_packets}
 use Rattle.port_state.specs.Machine.{PortNode}
 use Rattle.cable_world.specs.World.{CableWorld, NodeNumber, NodeSet}
@@ -73,3 +74,13 @@ ConfigsMoveRoots =
     NamesRoot w v from id gap set root → IsCore w.cabling set core → IsEmpty core →
     set < 2 ^ 63 → quiet_turns (length v.nodes) v.delay ≤ k →
     (t : Tree) × IsTree (turns_after k v) set root t
+
+-- from n d turns on each node of the component has the gap count that the packet gave
+abbrev pub ConfigsSetGaps : Type 0
+ConfigsSetGaps =
+    (w v : CableWorld) (k : ℕ) (from : NodeNumber) (id : ℕ) (gap : Option ℕ) (set : NodeSet)
+    (root j : NodeNumber) (x y : PortNode) → IsReached w →
+    IsAct (Config from id true gap) → act_fault (Config from id true gap) w ≡ None →
+    NamesRoot w v from id gap set root → turns_to_over v ≤ k → Holds set j →
+    slice_get w.nodes j ≡ Some x → slice_get (turns_after k v).nodes j ≡ Some y →
+    y.state.view.gap ≡ gap_or gap x.state.view.next_gap

@@ -15,7 +15,7 @@ ghost use Rattle.outcomes.specs.Numbered.{NodesGetReady, TreesComeToRest, TreesA
 ghost use Rattle.outcomes.specs.RootWalk.{RootsHaveWalks, NamedRootsAreOutcomes, WalksStay};
 ghost use Rattle.outcomes.specs.Settled.{LoopsComeOut, UnfinishedComponentsSettle};
 ghost use Rattle.outcomes.specs.Settled.{FreshComponentsSettle, ForcedRootsSettle};
-ghost use Rattle.outcomes.specs.Settled.{IdsNameOneNode, ConfigsMoveRoots};
+ghost use Rattle.outcomes.specs.Settled.{IdsNameOneNode, ConfigsMoveRoots, ConfigsSetGaps};
 
 /// What is so of self identify, at each node and at the two ends of each cable, is so at power-on,
 /// and turns, holds and acts of a lawful world keep it.
@@ -138,9 +138,11 @@ pub fn components_settle()
 
 /// Where of a fresh component without loop one node alone waits to become root, it comes to a tree
 /// with that root in as many quiet turns. So it does after a configuration packet with R set that
-/// names one node; and in a tree each ID names one node.
+/// names one node; from n d turns on each node has the gap count that the packet gave. In a tree
+/// each ID names one node.
 pub fn forced_roots_settle()
     ensures forced { ForcedRootsSettle }
     ensures names { IdsNameOneNode }
     ensures config { ConfigsMoveRoots }
+    ensures gaps { ConfigsSetGaps }
 {}

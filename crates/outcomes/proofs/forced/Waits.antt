@@ -319,6 +319,14 @@ module _
       let was = taken-over j k s q.node h at_s q.at in
       (now.0 ∙ was.0, now.1 ∙ was.1)
 
+  pub taken-by :
+      (j k : ℕ) (s x : PortNode) → spread ≤ j → Holds set k → slice_get w.nodes k ≡ Some s →
+      slice_get (turns_after j w).nodes k ≡ Some x →
+      (x.state.view.force ≡ waits_due s.state.view) × (x.state.view.gap ≡ gap_due s.state.view)
+  taken-by j k s x late h at_s at =
+      let z : j ≡ spread + (j - spread) = omega (arith, late) in
+      taken-over (j - spread) k s x h at_s (subst (λ n. slice_get (turns_after n w).nodes k ≡ Some x) z at)
+
   pub forces :
       (j k : ℕ) (b : Bool) (x : PortNode) → Holds set k → Shows w k (λ v. waits_due v ≡ b) →
       slice_get (turns_after (spread + j) w).nodes k ≡ Some x → x.state.view.force ≡ b

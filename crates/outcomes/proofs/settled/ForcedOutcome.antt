@@ -10,7 +10,7 @@ use Rattle.cabling.specs.Component.{IsComponent}
 use Rattle.cabling.specs.Looped.{IsCore}
 use Rattle.cabling.specs.Sees.{numbers}
 use Rattle.port_state.specs.declared.signal.Phase.{Phase}
-use Rattle.port_state.specs.Config.{config_packet}
+use Rattle.port_state.specs.Config.{config_packet, gap_or}
 use Rattle.port_state.specs.Machine.{PortNode, node_disturb, node_set_config}
 use Rattle.cable_world.specs.declared.act.Act.TheVariants.{Config}
 use Rattle.cable_world.specs.World.{CableWorld}
@@ -35,6 +35,7 @@ use Rattle.outcomes.proofs.forced.Configured.{configured}
 use Rattle.outcomes.proofs.forced.ForcedRoot as forced
 use Rattle.outcomes.proofs.forced.Spread.{all-reset}
 use Rattle.outcomes.proofs.forced.Towards.{no-draws}
+use Rattle.outcomes.proofs.forced.Waits.{taken-by}
 use Rattle.outcomes.proofs.settled.Outcomes.{tree-ready}
 use Rattle.outcomes.proofs.settled.QuietTurns.{quiet-enough, few-nodes, settles-at-last, fresh-unfinished}
 
@@ -143,10 +144,9 @@ named-alone w set old root id t i h inside named = record {
     stands-there = let y = some-of (slice_get w.nodes root) _ named in stands root y.0 inside y.1 y.2
 
 module _
-    (w v : CableWorld) (r : IsReached w) (from id : ℕ) (gap : Option ℕ) (set core root : ℕ)
+    (w v : CableWorld) (r : IsReached w) (from id : ℕ) (gap : Option ℕ) (set root : ℕ)
     (n : NamesRoot w v from id gap set root) (is : IsAct (Config from id true gap))
-    (none : act_fault (Config from id true gap) w ≡ None) (is_core : IsCore w.cabling set core)
-    (empty : IsEmpty core) (small : set < 2 ^ 63) where
+    (none : act_fault (Config from id true gap) w ≡ None) where
   reached : IsReached v
   reached = act-reached (Config from id true gap) w v is none n.act r
 
@@ -155,17 +155,33 @@ module _
       let told : CableWorld = record w { nodes = change_in_set n.act.0 (node_set_config (config_packet id true gap)) 0 w.nodes } in
       ap (λ (u : CableWorld). u.cabling) n.act.2 ∙ step-cables from node_disturb told
 
+  component : IsComponent v.cabling from set
+  component = subst (λ (d : Wiring). IsComponent d from set) (sym same-cables) n.component
+
+  -- the node that the packet names is the root of the tree
   pub config-outcome :
-      (k : ℕ) → quiet_turns (length v.nodes) v.delay ≤ k →
-      (t : Tree) × IsTree (turns_after k v) set root t
-  config-outcome k quiet =
+      (core : ℕ) → IsCore w.cabling set core → IsEmpty core → set < 2 ^ 63 → (k : ℕ) →
+      quiet_turns (length v.nodes) v.delay ≤ k → (t : Tree) × IsTree (turns_after k v) set root t
+  config-outcome core is_core empty small k quiet =
       let c = configured w v from id gap set root n.act n.component n.named in
       forced-outcome v reached from set core root (record {
         lawful = reached-lawful v reached;
-        component = subst (λ (d : Wiring). IsComponent d from set) (sym same-cables) n.component;
+        component = component;
         is_core = subst (λ (d : Wiring). IsCore d set core) (sym same-cables) is_core;
         empty = empty;
         small = small;
         fresh = c.0;
         alone = c.1;
       }) k quiet
+
+  -- and each node has the gap count that it gives
+  pub config-gaps :
+      (k j : ℕ) (x y : PortNode) → turns_to_over v ≤ k → Holds set j →
+      slice_get w.nodes j ≡ Some x → slice_get (turns_after k v).nodes j ≡ Some y →
+      y.state.view.gap ≡ gap_or gap x.state.view.next_gap
+  config-gaps k j x y late inside at_x at_y = elim (slice_get_cases v.nodes j).1 [
+    | inl found ↦
+        let c = configured w v from id gap set root n.act n.component n.named in
+        (taken-by v (reached-lawful v reached) from set component c.0 k j found.0 y late inside found.2 at_y).1 ∙ c.2 j x found.0 inside at_x found.2
+    | inr lacks ↦ absurd (omega (arith, lacks.0, slice_get_within (turns_after k v).nodes j y at_y, after-length v (reached-lawful v reached) k))
+  ]
