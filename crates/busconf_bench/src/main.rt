@@ -16,11 +16,12 @@
 //! - `tick_busy_field`, `tick_busy_packed`: a tick that takes a row of the step table, and a sixth of the
 //!   reset before it
 //! - `component_line`, `core_line`, `walk_line`: these of 63 nodes in a line, whatever the capture
-//! - `turn_line`, `turn_star`: a turn of 63 nodes in a world that does one turn after the other
-//! - `settle_line`, `settle_star`: 63 nodes from power-on until the bus has settled, which is 73,520
-//!   turns, in a world that passes over turns
-//! - `component`, `core` and `walk` with `_star`, each node below the first that has one of its sixteen ports left, and
+//! - the same with `_star`, each node below the first that has one of its sixteen ports left, and
 //!   with `_looped`, each node joined to the next eight
+//! - `turn_line`, `turn_star`, `turn_looped`: a turn of 63 nodes in a world that does one turn after the
+//!   other
+//! - `settle_line`, `settle_star`, `settle_looped`: 63 nodes from power-on until the bus has settled,
+//!   which is 73,520 turns, in a world that passes over turns
 //! - `rom`: a configuration ROM, which stands on standard input in place of a capture, written,
 //!   decoded, and told with its blocks as text
 #![tactic(auto)]

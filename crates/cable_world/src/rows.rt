@@ -1,11 +1,12 @@
 //! The wires that leave a node, and what arrives at their far ends.
-ghost use Rattle.std.specs.Prelude.{◌≡◌, ◌<◌, [], ◌∷◌, length, map, replicate, slice_set, slice_index, slice_index_or, All, OnOk, IfOk, ◌↔◌, IsTrue};
+ghost use Rattle.std.specs.Prelude.{◌≡◌, ◌<◌, [], ◌∷◌, length, map, replicate, slice_set, slice_index, slice_index_or, All, OnOk, IfOk, ◌↔◌, IsTrue, IsFalse};
 ghost use Rattle.std.specs.List.{AllByRecursion};
 ghost use Rattle.port_state.specs.Ports.{PortNumber};
 ghost use Rattle.cable_world.specs.Wire.{Wire, empty_wire, arrives, stays};
 ghost use Rattle.cable_world.specs.Turn.{wires_after_sends};
 ghost use Rattle.cable_world.specs.Still.{IsSilent, hold_less};
 ghost use Rattle.cable_world.specs.codings.Ages.{AreYoung};
+ghost use Rattle.cable_world.specs.codings.Rest.{AreAtRest, AreNone};
 
 use crate::wire::{Arrivals, Wire};
 use cabling::OutOfMemory;
@@ -17,6 +18,9 @@ use std::marker::Model;
 #[derive(Debug, Drop)]
 pub struct WireRow {
     wires: Vec<Wire>,
+    // Whether something may be under way on one of them, or one be held.
+    in_use: bool,
+    ghost at_rest: { IsFalse in_use → AreAtRest wires.items },
 }
 
 impl Model for WireRow {
@@ -32,6 +36,9 @@ impl Model for WireRow {
 #[derive(Debug, Drop)]
 pub struct ArrivalRow {
     arrivals: Vec<Arrivals>,
+    // Whether something may arrive from one of them.
+    any: bool,
+    ghost none: { IsFalse any → AreNone arrivals.items },
 }
 
 impl Model for ArrivalRow {
@@ -52,18 +59,49 @@ impl ArrivalRow {
         for _ in 0..ports {
             arrivals.push(Arrivals::new(alloc))?;
         }
-        Ok(ArrivalRow { arrivals })
+        Ok(ArrivalRow {
+            arrivals,
+            any: false,
+        })
     }
 
     /// What arrives from the wire of a port.
     pub fn from_port(&self, port: u8) -> &[Signal]
         ensures { result.now ≡ slice_index_or self.now port [] }
     {
+        if !self.any {
+            return &[];
+        }
         match self.arrivals.get(port as usize) {
             None => &[],
             Some(arrivals) => arrivals.as_slice(),
         }
     }
+
+    /// Nothing arrives any more.
+    fn clear(&mut self)
+        ensures { self.new ≡ map (λ old. []) self.old }
+    {
+        if !self.any {
+            return;
+        }
+        for at in 0..self.arrivals.len() {
+            self.arrivals[at].clear();
+        }
+        self.any = false;
+    }
+}
+
+/// Whether nothing is under way on the wires, and none is held.
+fn are_at_rest(wires: &[Wire]) -> bool
+    ensures { IsTrue result → AreAtRest wires.now }
+{
+    for wire in wires {
+        if !wire.is_at_rest() {
+            return false;
+        }
+    }
+    true
 }
 
 impl WireRow {
@@ -75,7 +113,10 @@ impl WireRow {
         for _ in 0..ports {
             wires.push(Wire::new(alloc))?;
         }
-        Ok(WireRow { wires })
+        Ok(WireRow {
+            wires,
+            in_use: false,
+        })
     }
 
     /// Sends signals on ports, the first first. The ports exist.
@@ -84,6 +125,10 @@ impl WireRow {
         ensures sent { OnOk result (self.new ≡ wires_after_sends 0 sends.now self.old) }
         ensures ports { length self.new ≡ length self.old }
     {
+        if sends.is_empty() {
+            return Ok(());
+        }
+        self.in_use = true;
         for (port, signal) in sends {
             self.wires[*port as usize].send(*signal)?;
         }
@@ -105,6 +150,7 @@ impl WireRow {
             ≡ slice_set self.old port
             (record (slice_index_or self.old port empty_wire) { held = turns }) }
     {
+        self.in_use = true;
         self.wires[port as usize].hold(turns);
     }
 
@@ -118,9 +164,15 @@ impl WireRow {
         ensures ports { length self.new ≡ length self.old }
         ensures rows { length arrivals.new ≡ length arrivals.old }
     {
+        if !self.in_use {
+            arrivals.clear();
+            return Ok(());
+        }
+        arrivals.any = true;
         for at in 0..self.wires.len() {
             self.wires[at].turn(delay, &mut arrivals.arrivals[at])?;
         }
+        self.in_use = !are_at_rest(&self.wires);
         Ok(())
     }
 
@@ -128,6 +180,9 @@ impl WireRow {
     pub fn is_silent(&self) -> bool
         ensures { IsTrue result ↔ All IsSilent self.now }
     {
+        if !self.in_use {
+            return true;
+        }
         for wire in &self.wires {
             if !wire.is_silent() {
                 return false;
@@ -140,6 +195,9 @@ impl WireRow {
     pub fn pass(&mut self, turns: u32)
         ensures { self.new ≡ map (hold_less turns) self.old }
     {
+        if !self.in_use {
+            return;
+        }
         for at in 0..self.wires.len() {
             self.wires[at].pass(turns);
         }

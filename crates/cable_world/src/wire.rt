@@ -60,7 +60,8 @@ impl Arrivals {
         Ok(())
     }
 
-    fn clear(&mut self)
+    /// No signal any more.
+    pub fn clear(&mut self)
         ensures { self.new ≡ [] }
     {
         self.signals.clear();
@@ -166,6 +167,13 @@ impl Wire {
         ensures { IsTrue result ↔ IsSilent self.now }
     {
         self.signals.is_empty()
+    }
+
+    /// Whether nothing is under way, and the wire isn't held.
+    pub fn is_at_rest(&self) -> bool
+        ensures { IsTrue result ↔ self.now ≡ empty_wire }
+    {
+        self.held == 0 && self.signals.is_empty()
     }
 
     /// A hold has so many turns less to go.

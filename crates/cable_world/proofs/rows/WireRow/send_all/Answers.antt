@@ -1,4 +1,4 @@
-use Rattle.std.proofs.Common.{◌<◌, ◌∙◌, [], ◌∷◌, length, get_or, slice_set, arith, ap, sym, rules}
+use Rattle.std.proofs.Common.{◌<◌, ◌≤◌, ◌∙◌, [], ◌∷◌, length, get_or, slice_set, arith, ap, sym, rules}
 use Rattle.std.proofs.lemmas.Grind.{common_steps}
 use Rattle.std.proofs.lemmas.List.{get_or_default, drop_all}
 use Rattle.port_state.specs.declared.signal.Signal.TheVariants as signal
@@ -19,6 +19,7 @@ loop-port-preserved c =
     let port : s.0 < length now = search rules in
     let wire = c.index_mut.ensures.value ∙ get_or_default now s.0 _ empty_wire port in
     record {
+      in_use = c.loop-port.invariant.in_use;
       ports = grind (arith, common_steps);
       sent =
           send-more sends i d now (slice_set now s.0 c.send.new.self) inside port
@@ -31,3 +32,8 @@ returns-clause-sent c =
     let now = c.loop-port.self-inside.wires.items in
     sym (no-sends 0 now) ∙ ap (λ xs. wires_after_sends 0 xs now) (sym (drop_all c.loop-port.port-index c.args.sends.now (omega arith))) ∙ c.loop-port.invariant.sent
     ∙ ap (wires_after_sends 0 c.args.sends.now) c.self.view_is
+
+pub returns-then-is_empty-clause-sent : goal.returns-then-is_empty-clause-sent
+returns-then-is_empty-clause-sent c =
+    let none : length c.args.sends.now ≤ 0 = search rules in
+    sym (ap (λ xs. wires_after_sends 0 xs c.args.self.now) (drop_all 0 c.args.sends.now none) ∙ no-sends 0 c.args.self.now)
