@@ -16,4 +16,6 @@ mod maps;
 #[cfg(test)]
 mod rom;
 #[cfg(test)]
+mod settled;
+#[cfg(test)]
 mod worlds;

@@ -1,13 +1,10 @@
 -- The bits of numbers, summed and shifted.
-use Rattle.std.proofs.Common.{◌≡◌, ℕ, zero, suc, ◌+◌, ◌-◌, ◌*◌, ◌/◌, ◌%◌, ◌^◌, ◌<◌, ◌≤◌, Bool, true, false, not, eqb, List, [], ◌∷◌, ◌++◌, length, replicate, refl, sym, ap, ◌∙◌, ⊎_elim, arith, bit_xor}
-use mathlib.Core.Bool.{beq}
+use Rattle.std.proofs.Common.{◌≡◌, ℕ, zero, suc, ◌+◌, ◌*◌, ◌/◌, ◌%◌, ◌^◌, ◌<◌, ◌≤◌, Bool, false, eqb, List, ◌∷◌, length, replicate, refl, sym, ap, ◌∙◌, ⊎_elim, arith, bit_xor}
 use Rattle.std.specs.Int.{bit_at}
-use Rattle.std.proofs.lemmas.Nat.Bits.{bit_at-suc, bit_at_xor, bit_at-lt, bit_at_cat_low, same_from_bits_below}
+use Rattle.std.proofs.lemmas.Nat.Bits.{bit_at_xor, bit_at-lt, bit_at_cat_low, same_from_bits_below}
 use Rattle.std.proofs.lemmas.Nat.{div-add-mod'}
 use Rattle.std.proofs.lemmas.Bool.{cases_lt}
-use Rattle.topology_map.specs.Crc.{xor, plus, times_bit, below_x16, bits_of}
-use Rattle.topology_map.specs.codings.Register.{after_bit}
-use Rattle.topology_map.proofs.Plus.{plus_comm, plus_zeros}
+use Rattle.topology_map.specs.Crc.{xor, plus, bits_of}
 
 pub length-bits_of : (k x : ℕ) → length (bits_of k x) ≡ k
 unfolding bits_of
@@ -31,15 +28,6 @@ bits_of-xor (suc k) a b =
     let one : eqb (bit_at (bit_xor a b) k) 1 ≡ xor (eqb (bit_at a k) 1) (eqb (bit_at b k) 1)
     = ap (λ (n : ℕ). eqb n 1) (bit_at_xor a b k) ∙ parity (bit_at a k) (bit_at b k) (bit_at-lt a k) (bit_at-lt b k) in
     rw (one, bits_of-xor k a b) refl
-
--- a number that was doubled
-pub bits_of-double : (k x : ℕ) → bits_of (suc k) (x * 2) ≡ bits_of k x ++ false ∷ []
-unfolding bits_of
-bits_of-double zero x = let low : bit_at (x * 2) 0 ≡ 0 = omega arith in rw low refl
-bits_of-double (suc k) x =
-    let half : x * 2 / 2 ≡ x = omega arith in
-    let one : bit_at (x * 2) (suc k) ≡ bit_at x k = bit_at-suc (x * 2) k ∙ ap (λ (n : ℕ). bit_at n k) half in
-    rw one (ap (λ (l : List Bool). eqb (bit_at x k) 1 ∷ l) (bits_of-double k x))
 
 -- a number cut off above
 pub bits_of-mod : (k n x : ℕ) → k ≤ n → bits_of k (x % 2 ^ n) ≡ bits_of k x
@@ -79,58 +67,6 @@ same_bits (suc k) x y e i lt =
 pub same_number : (k x y : ℕ) → x < 2 ^ k → y < 2 ^ k → bits_of k x ≡ bits_of k y → x ≡ y
 same_number k x y fits_x fits_y e =
     same_from_bits_below k x y fits_x fits_y (λ (i : ℕ) (lt : i < k). same_bit (bit_at x i) (bit_at y i) (bit_at-lt x i) (bit_at-lt y i) (same_bits k x y e i lt))
-
--- ---- the register
-
-bits_of-suc : (k x : ℕ) → bits_of (suc k) x ≡ eqb (bit_at x k) 1 ∷ bits_of k x
-unfolding bits_of
-bits_of-suc k x = refl
-
-low_bits : (crc : ℕ) → bits_of 16 (crc * 2 % 65536) ≡ bits_of 15 crc ++ false ∷ []
-low_bits crc = bits_of-mod 16 16 (crc * 2) (omega arith) ∙ bits_of-double 15 crc
-
--- a register of sixteen bits before and after it is shifted
-shifted_bits : (crc : ℕ) (bit : Bool) → crc < 65536 → after_bit (bits_of 16 crc) bit ≡ plus (bits_of 16 (crc * 2 % 65536)) (times_bit (xor (eqb (crc / 2 ^ 15) 1) bit) below_x16)
-shifted_bits crc bit fits =
-    let top : bit_at crc 15 ≡ crc / 2 ^ 15 = omega (arith, fits) in
-    ap (λ (r : List Bool). after_bit r bit) (bits_of-suc 15 crc)
-    ∙ ap (λ (r : List Bool). plus r (times_bit (xor (eqb (bit_at crc 15) 1) bit) below_x16)) (sym (low_bits crc))
-    ∙ ap (λ (n : ℕ). plus (bits_of 16 (crc * 2 % 65536)) (times_bit (xor (eqb n 1) bit) below_x16)) top
-
-divisor_bits : bits_of 16 4129 ≡ below_x16
-unfolding bits_of
-divisor_bits = refl
-
--- where the bit that falls out is the next bit the divisor isn't added, and else it is
-pub stays : (crc : ℕ) (bit : Bool) → crc < 65536 → xor (eqb (crc / 2 ^ 15) 1) bit ≡ false → bits_of 16 (crc * 2 % 65536) ≡ after_bit (bits_of 16 crc) bit
-stays crc bit fits e =
-    let r = bits_of 16 (crc * 2 % 65536) in
-    sym (
-    shifted_bits crc bit fits ∙ ap (λ (b : Bool). plus r (times_bit b below_x16)) e
-    ∙ plus_comm r (replicate 16 false) ∙ plus_zeros 16 r (length-bits_of 16 (crc * 2 % 65536))
-    )
-
-pub flips : (crc : ℕ) (bit : Bool) → crc < 65536 → xor (eqb (crc / 2 ^ 15) 1) bit ≡ true → bits_of 16 (bit_xor (crc * 2 % 65536) 4129) ≡ after_bit (bits_of 16 crc) bit
-flips crc bit fits e =
-    let r = bits_of 16 (crc * 2 % 65536) in
-    bits_of-xor 16 (crc * 2 % 65536) 4129 ∙ ap (plus r) divisor_bits
-    ∙ sym (shifted_bits crc bit fits ∙ ap (λ (b : Bool). plus r (times_bit b below_x16)) e)
-
--- two bits differ where their sum is 1
-pub differ : (a b : Bool) → not (beq a b) ≡ xor a b
-differ true true = refl
-differ true false = refl
-differ false true = refl
-differ false false = refl
-
--- a quadlet's next bit
-pub next_bit : (k x : ℕ) → 0 < k → bits_of k x ≡ eqb (x / 2 ^ (k - 1) % 2) 1 ∷ bits_of (k - 1) x
-next_bit zero x some = absurd (omega (arith, some))
-next_bit (suc k) x some = let before : suc k - 1 ≡ k = omega arith in rw before (bits_of-suc k x)
-
-pub no_bits : (x : ℕ) → bits_of 0 x ≡ []
-unfolding bits_of
-no_bits x = refl
 
 pub zero_bits : bits_of 16 0 ≡ replicate 16 false
 unfolding bits_of

@@ -1,5 +1,6 @@
 mod Plus
 mod Bits
 pub mod Division
+mod Bytes
 mod Emitted
 pub mod Parts

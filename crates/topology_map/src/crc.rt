@@ -1,29 +1,32 @@
 //! The CRC of quadlets.
 ghost use Rattle.std.specs.Prelude.{◌≡◌, ◌<◌, ◌^◌, ℕ, List};
 ghost use Rattle.topology_map.specs.Crc.{bits_of, IsCrc};
-ghost use Rattle.topology_map.specs.codings.Register.{after_bit, after_bits};
+ghost use Rattle.topology_map.specs.codings.Register.{after_bits};
 
-/// The powers of the divisor below x^16: x^12 + x^5 + 1.
-const BELOW_X16: u16 = 0x1021;
-
-/// The register after one more bit.
-fn with_bit(crc: u16, bit: bool) -> u16
-    ensures { bits_of 16 result ≡ after_bit (bits_of 16 crc) bit }
+/// What a register of zeros holds after the bits of this byte, the highest first.
+fn leaves(byte: u8) -> u16
+    ensures { bits_of 16 result ≡ after_bits (bits_of 16 0) (bits_of 8 byte) }
 {
-    let top = crc >> 15 == 1;
-    let low = crc << 1;
-    if top != bit { low ^ BELOW_X16 } else { low }
+    let sum = u16::from(byte ^ (byte >> 4));
+    (sum << 12) ^ (sum << 5) ^ sum
 }
 
-/// The register after the bits of one more quadlet, the highest first.
+/// The register after the bits of one more byte: what falls out of it meets them, and what their sum
+/// leaves is added to the rest.
+fn with_byte(crc: u16, byte: u8) -> u16
+    ensures { bits_of 16 result ≡ after_bits (bits_of 16 crc) (bits_of 8 byte) }
+{
+    (crc << 8) ^ leaves((crc >> 8) as u8 ^ byte)
+}
+
+/// The register after the bits of one more quadlet.
 fn with_quad(before: u16, quad: u32) -> u16
     ensures { bits_of 16 result ≡ after_bits (bits_of 16 before) (bits_of 32 quad) }
 {
-    let mut crc = before;
-    for place in (0..32u32).rev() {
-        crc = with_bit(crc, (quad >> place) % 2 == 1);
-    }
-    crc
+    let first = with_byte(before, (quad >> 24) as u8);
+    let second = with_byte(first, ((quad >> 16) % 256) as u8);
+    let third = with_byte(second, ((quad >> 8) % 256) as u8);
+    with_byte(third, (quad % 256) as u8)
 }
 
 /// The CRC of these quadlets (IEEE Std 1212): the remainder of their bits, the highest first and

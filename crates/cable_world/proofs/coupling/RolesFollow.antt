@@ -6,10 +6,10 @@ use Rattle.cable_world.specs.World.{CableWorld}
 use Rattle.cable_world.specs.Agreement.{RolesAgree}
 use Rattle.cable_world.specs.Coupling.{IsCoupled}
 
-same-port : (parent : Option ℕ) (port : ℕ) → is_port parent port ≡ true → parent ≡ Some port
-same-port None port h = absurd (cc)
-same-port (Some p) port h = ap Some (eqb-true p port h)
+pub port-is : (parent : Option ℕ) (port : ℕ) → is_port parent port ≡ true → parent ≡ Some port
+port-is None port h = absurd (cc)
+port-is (Some p) port h = ap Some (eqb-true p port h)
 
 pub coupled-roles : (w : CableWorld) → IsCoupled w → RolesAgree w
 coupled-roles w coupled a b x y e at_x at_y child none =
-    same-port y.state.view.parent b.port ((coupled.cables a b x y e at_x at_y).child child none).0
+    port-is y.state.view.parent b.port ((coupled.cables a b x y e at_x at_y).child child none).0

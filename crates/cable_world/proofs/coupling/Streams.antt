@@ -10,14 +10,12 @@ use Rattle.cable_world.specs.Agreement.{level_after_one, level_after}
 use Rattle.cable_world.specs.Signals.{is_reset, signals_of, has_reset, shows_no_notice, is_no_notice, has_no_notice, is_parent_signal, has_no_parent_signal, takes_back, has_no_takeback, AllAsOldAs}
 use Rattle.cable_world.specs.Coupling.{NoneTakesBack}
 use Rattle.cable_world.specs.Lawful.{AgesFall}
+use Rattle.std.proofs.lemmas.Bool.{not-true}
 
 -- ---- tests
 
 pub not-both : (b : Bool) → b ≡ true → b ≡ false → ⊥
 not-both b f g = cc
-
-not-so : (a : Bool) → not a ≡ true → a ≡ false
-not-so a h = grind arith
 
 -- ---- the signals under way
 
@@ -167,7 +165,7 @@ pub NoneTakesBack-has_no_takeback :
     NoneTakesBack b l (map new_signal ss)
 NoneTakesBack-has_no_takeback b l [] h = tt
 NoneTakesBack-has_no_takeback b l (s ∷ ss) h =
-    (λ a e. not-so (takes_back s) (and_parts (not (takes_back s)) (has_no_takeback ss) h).0, NoneTakesBack-has_no_takeback b (level_after_one s l) ss (and_parts (not (takes_back s)) (has_no_takeback ss) h).1)
+    (λ a e. not-true (takes_back s) (and_parts (not (takes_back s)) (has_no_takeback ss) h).0, NoneTakesBack-has_no_takeback b (level_after_one s l) ss (and_parts (not (takes_back s)) (has_no_takeback ss) h).1)
 
 pub NoneTakesBack-has_no_parent_signal :
     (b : ℕ) (l : Level) (ss : List Signal) → (l ≡ level.Parent → ⊥) →

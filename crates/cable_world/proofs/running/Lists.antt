@@ -54,7 +54,7 @@ reset-list : (b : Bool) (n : ℕ) (x : NodeState) → is_resetting x.view.phase 
 reset-list true n x e h = refl
 reset-list false n x e h = absurd cc
 
-no-packets : (h : Phase) → is_resetting h ≡ true → hears_packets h ≡ true → ⊥
+pub no-packets : (h : Phase) → is_resetting h ≡ true → hears_packets h ≡ true → ⊥
 no-packets phase.ResetStart r p = absurd cc
 no-packets h r p = absurd cc
 

@@ -1,0 +1,126 @@
+-- A turn keeps what a node knows of its draws.
+use Rattle.std.proofs.Common.{◌≡◌, ◌⊎◌, inl, inr, ℕ, ◌+◌, ◌*◌, ◌<◌, ◌≤◌, Bool, true, false, List, refl, sym, ◌∙◌, ap, subst, arith, true≢false, if◌then◌else◌}
+use Rattle.std.specs.Prelude.{min, nat_le}
+use Rattle.port_state.specs.declared.signal.Phase.{Phase}
+use Rattle.port_state.specs.declared.signal.Phase.TheVariants as phase
+use Rattle.port_state.specs.declared.signal.Signal.{Signal}
+use Rattle.port_state.specs.declared.timing.Timing.{Timing}
+use Rattle.port_state.specs.declared.states.NodeState.{NodeState}
+use Rattle.port_state.specs.Timing.{InRange}
+use Rattle.port_state.specs.Tick.{raise_timer, tick}
+use Rattle.cable_world.specs.Phases.{is_before_tree}
+use Rattle.cable_world.specs.Turn.{hear_all}
+use Rattle.cable_world.proofs.turns.NodeFacts.{NoEntry, HearsWell, TicksWell}
+use Rattle.convergence.specs.Coins.{KnowsCoins}
+use Rattle.convergence.proofs.turns.Moves.{Drew, Fought, tick-draws, tick-contending, tick-fought, tick-late}
+
+pub zero-or : (n : ℕ) → (n ≡ 0) ⊎ (1 ≤ n)
+zero-or n = grind arith
+
+-- the wait shows the coin
+pub drawn-coin :
+    (d : ℕ) (t : Timing) (c : Bool) → 1 ≤ d → InRange d t → nat_le (8 * d)
+    (if c then t.long else t.short) ≡ c
+drawn-coin d t true o i = let l : 8 * d ≤ t.long = i.long_least in grind (arith, l)
+drawn-coin d t false o i = let l : t.short ≤ 4 * d = i.short_most in grind (arith, l, o)
+
+pub drawn-wait :
+    (d : ℕ) (t : Timing) (n : ℕ) → InRange d t → (n ≡ t.short) ⊎ (n ≡ t.long) → (3 * d ≤ n)
+    × ((n ≤ 4 * d) ⊎ ((8 * d ≤ n) × (n ≤ 10 * d)))
+drawn-wait d t n i (inl s) = (omega (arith, s, i.short_least), inl (omega (arith, s, i.short_most)))
+drawn-wait d t n i (inr s) = (omega (arith, s, i.long_least), inr (omega (arith, s, i.long_least), omega (arith, s, i.long_most)))
+
+module _
+    (d : ℕ) (signals : List (ℕ × Signal)) (coin : Bool) (x : NodeState) (o : 1 ≤ d)
+    (i : InRange d x.timing) (h : HearsWell signals x)
+    (t : TicksWell coin (hear_all signals x).state) (k : KnowsCoins d x) where
+  abbrev m : NodeState
+  m = (hear_all signals x).state
+
+  abbrev n : NodeState
+  n = (tick coin m).state
+
+  range : InRange d m.timing
+  range = subst (InRange d) (sym h.timing) i
+
+  -- after hearing
+  heard-fresh : is_before_tree m.view.phase ≡ true → m.view.draws ≡ 0
+  heard-fresh e = elim h.cases [ inl s ↦ s.draws ∙ k.fresh (sym (ap is_before_tree s.phase) ∙ e) | inr c ↦ c.draws ]
+
+  heard-undrawn : m.view.draws ≡ 0 → m.view.first_draws ≡ 0
+  heard-undrawn e = elim h.cases [ inl s ↦ s.first_draws ∙ k.undrawn (sym s.draws ∙ e) | inr c ↦ c.first_draws ]
+
+  heard-counts : m.view.draws ≤ 65535
+  heard-counts = elim h.cases [ inl s ↦ omega (arith, s.draws, k.counts) | inr c ↦ omega (arith, c.draws) ]
+
+  drew-late : Drew coin m n → is_before_tree n.view.phase ≡ true → ⊥
+  drew-late e b = true≢false (sym b ∙ ap is_before_tree e.phase)
+
+  early-before : is_before_tree n.view.phase ≡ true → is_before_tree m.view.phase ≡ true
+  early-before e = go (is_before_tree m.view.phase) refl
+    where
+      go : (b : Bool) → is_before_tree m.view.phase ≡ b → b ≡ true
+      go true a = refl
+      go false a = absurd (true≢false (sym e ∙ tick-late coin m a))
+
+  -- in T3 a node drew, and waits
+  record InContend (z : NodeState) : Type 0 where
+    drawn : 1 ≤ z.view.draws
+    waits : z.view.timer < z.view.wait
+    shows : (z.view.wait ≤ 4 * d) ⊎ ((8 * d ≤ z.view.wait) × (z.view.wait ≤ 10 * d))
+
+  after-contend : n.view.phase ≡ phase.Contend → InContend n
+  after-contend c = elim (tick-contending coin m c) [
+    | inl was ↦ elim h.cases [ inl s ↦ on s (sym s.phase ∙ was) (tick-fought coin m h.valid was) | inr b ↦ absurd (start m.view.phase was b.phase) ]
+    | inr e ↦
+        let w = drawn-wait d m.timing n.view.wait range (either coin e.wait) in
+        record { drawn = some e.draws; waits = omega (arith, e.timer, w.0, o); shows = w.1 }
+  ]
+    where
+      clash : (f : Phase) → f ≡ phase.Contend → f ≡ phase.ChildShake → ⊥
+      clash f a b = cc
+
+      clash2 : (f : Phase) → f ≡ phase.Contend → f ≡ phase.ParentShake → ⊥
+      clash2 f a b = cc
+
+      start : (f : Phase) → f ≡ phase.Contend → f ≡ phase.ResetStart → ⊥
+      start f a b = cc
+
+      some : n.view.draws ≡ min (m.view.draws + 1) 65535 → 1 ≤ n.view.draws
+      some a = grind (arith, a)
+
+      either :
+          (b : Bool) → n.view.wait ≡ (if b then m.timing.long else m.timing.short) →
+          (n.view.wait ≡ m.timing.short) ⊎ (n.view.wait ≡ m.timing.long)
+      either true e = inr e
+      either false e = inl e
+
+      on :
+          NoEntry x (hear_all signals x) → x.view.phase ≡ phase.Contend → Fought (raise_timer m)
+          n (tick coin m).sends → InContend n
+      on s was (inl w) = elim (tick-draws coin m) [
+        | inl e ↦ absurd (clash2 m.view.phase (s.phase ∙ was) e.before)
+        | inr e ↦ record {
+          drawn = omega (arith, e.draws, s.draws, k.drawn was);
+          waits = omega (arith, w.timer, w.not_yet, e.wait);
+          shows = subst (λ z. (z ≤ 4 * d) ⊎ ((8 * d ≤ z) × (z ≤ 10 * d))) (sym (e.wait ∙ s.wait)) (k.shows was);
+        }
+      ]
+      on s was (inr (inl w)) = absurd (clash n.view.phase c w.phase)
+      on s was (inr (inr w)) = absurd (clash2 n.view.phase c w.phase)
+
+  pub knows-after : KnowsCoins d n
+  knows-after = record {
+    fresh = λ e. elim (tick-draws coin m) [ inl a ↦ absurd (drew-late a e) | inr a ↦ a.draws ∙ heard-fresh (early-before e) ];
+    undrawn = λ e. elim (tick-draws coin m) [ inl a ↦ absurd (some a.draws e) | inr a ↦ a.first_draws ∙ heard-undrawn (sym a.draws ∙ e) ];
+    counts = elim (tick-draws coin m) [ inl a ↦ most a.draws | inr a ↦ omega (arith, a.draws, heard-counts) ];
+    drawn = λ c. (after-contend c).drawn;
+    waits = λ c. (after-contend c).waits;
+    shows = λ c. (after-contend c).shows;
+  }
+    where
+      some : n.view.draws ≡ min (m.view.draws + 1) 65535 → n.view.draws ≡ 0 → ⊥
+      some a b = grind (arith, a, b)
+
+      most : n.view.draws ≡ min (m.view.draws + 1) 65535 → n.view.draws ≤ 65535
+      most a = grind (arith, a)

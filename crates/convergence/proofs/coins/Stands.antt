@@ -1,0 +1,501 @@
+-- Where two rivals stand after a turn.
+use Rattle.std.proofs.Common.{◌≡◌, ◌⊎◌, inl, inr, ℕ, ◌+◌, ◌-◌, ◌*◌, ◌<◌, ◌≤◌, Bool, true, false, [], map, refl, sym, ◌∙◌, ap, subst, arith, true≢false}
+use Rattle.std.proofs.lemmas.Bool.{leb-true}
+use Rattle.port_state.specs.declared.signal.Level.{Level}
+use Rattle.port_state.specs.declared.signal.Level.TheVariants as level
+use Rattle.port_state.specs.declared.signal.Phase.{Phase}
+use Rattle.port_state.specs.declared.signal.Phase.TheVariants as phase
+use Rattle.port_state.specs.declared.states.NodeState.{NodeState}
+use Rattle.port_state.specs.TreeIdentify.{draws_with}
+use Rattle.port_state.specs.Ports.{is_port}
+use Rattle.port_state.specs.Tick.{raise_timer}
+use Rattle.cable_world.specs.Wire.{new_signal}
+use Rattle.cable_world.specs.Agreement.{level_sent, level_shown, leads_down, level_after, level_sent_at}
+use Rattle.cable_world.specs.Phases.{is_shaking, is_timed, slack}
+use Rattle.cable_world.specs.Signals.{signals_of, AllAsOldAs}
+use Rattle.cable_world.proofs.turns.NodeFacts.{NoEntry, risen}
+use Rattle.cable_world.proofs.coupling.Streams.{not-both, AllAsOldAs-zero, AllAsOldAs-less}
+use Rattle.cable_world.proofs.coupling.Sides.{Side, hearing, ticking, arrivals, leftovers, departures, wire_after, kept_since, same_wire}
+use Rattle.cable_world.proofs.coupling.CableInTurn.{kept_levels, heard_shown, heard_idle}
+use Rattle.convergence.specs.Coins.{last_coin, AddsDraw, DrewTogether, DrewTheSame, KnowsCoins}
+use Rattle.convergence.specs.Rivals.{IsAhead, AsksAgain, AreAlike, HaveMet, AreApart, AreRivals}
+use Rattle.convergence.proofs.turns.Moves.{Drew, DrewNone, Shook, Waited, TookRival, AskedAgain, Fought, tick-shaken, tick-fought}
+use Rattle.convergence.proofs.coins.Rivals.{none-so-old, ages-first, Rivals, swapped, together-round, same-round, stand-round, no-contend, shaking-silent, other-level, up-late, up-mid, not-down, drew-sees, accepted-sees, took-sees, again-sees, draws-not, adds-draw, adds-still, coin-still, asks-on, asks-here, sees-child}
+
+pub idle-parent : (l : Level) → l ≡ level.Idle → l ≡ level.Parent → ⊥
+idle-parent l a b = cc
+
+pub contend-shaking : (f : Phase) → f ≡ phase.Contend → is_shaking f ≡ true → ⊥
+contend-shaking f a b = grind arith
+
+-- equal last coins
+pub same-coins :
+    (d : ℕ) (x y : NodeState) → DrewTogether d x y → last_coin d x ≡ last_coin d y → DrewTheSame x y
+same-coins d x y t e = record {
+  draws = t.here.count ∙ sym t.there.count;
+  first_draws = t.here.coins ∙ ap (λ b. draws_with b t.draws t.first) e ∙ sym t.there.coins;
+}
+
+pub coin-long : (d : ℕ) (x : NodeState) → last_coin d x ≡ true → 8 * d ≤ x.view.wait
+coin-long d x e = leb-true _ _ e
+
+pub coin-short :
+    (d : ℕ) (x : NodeState) → KnowsCoins d x → x.view.phase ≡ phase.Contend →
+    last_coin d x ≡ false → x.view.wait ≤ 4 * d
+coin-short d x k c e = elim (k.shows c) [ inl s ↦ s | inr l ↦ absurd (clash l.0) ]
+  where
+    clash : 8 * d ≤ x.view.wait → ⊥
+    clash l = grind (arith, l, e)
+
+-- ---- before the turn
+
+module _
+    (d : ℕ) (x y : Side) (r : Rivals d x y) (ux : is_port x.node.view.parent x.port ≡ true)
+    (uy : is_port y.node.view.parent y.port ≡ true) where
+  -- what comes of T1 and T2
+  pub shaken :
+      NoEntry x.node (hearing x) → is_shaking x.node.view.phase ≡ true →
+      Shook (hearing x).state (ticking x).state (ticking x).sends
+      ⊎ Drew x.coin (hearing x).state (ticking x).state
+  shaken h s = elim (tick-shaken x.coin (hearing x).state (ap is_shaking h.phase ∙ s)) [
+    | inl a ↦ inl a
+    | inr a ↦ elim a [
+      | inl b ↦ inr b
+      | inr b ↦ elim b [
+        | inl none ↦ absurd (true≢false (sym (up-mid d x y r h ux) ∙ ap (λ o. is_port o x.port) none))
+        | inr c ↦ absurd (not-both (leads_down y.node.view.ports y.port)
+            (sees-child d x y r (up-late d y x (swapped d x y r) uy) (accepted-sees d x y r c (up-mid d x y r h ux))) (not-down d y x (swapped d x y r) uy))
+      ]
+    ]
+  ]
+
+  -- and of T3
+  pub fought :
+      NoEntry x.node (hearing x) → x.node.view.phase ≡ phase.Contend →
+      Fought (raise_timer (hearing x).state) (ticking x).state (ticking x).sends
+  fought h c = tick-fought x.coin (hearing x).state r.pair.near.hears.valid (h.phase ∙ c)
+
+  pub waited-timer :
+      NoEntry x.node (hearing x) → Waited (raise_timer (hearing x).state)
+      (ticking x).state (ticking x).sends → ((ticking x).state.view.timer ≡ risen x.node.view.timer)
+      × (risen x.node.view.timer < x.node.view.wait)
+  waited-timer h w = (w.timer ∙ ap risen h.timer, omega (arith, ap risen h.timer, w.not_yet, h.wait))
+
+  -- a wait that is over was long
+  pub over-timer :
+      NoEntry x.node (hearing x) → x.node.view.phase ≡ phase.Contend →
+      (hearing x).state.view.wait ≤ risen (hearing x).state.view.timer →
+      (x.node.view.wait ≤ x.node.view.timer + 1) × (3 * d ≤ x.node.view.timer + 1)
+  over-timer h c o =
+      let w : x.node.view.wait ≤ x.node.view.timer + 1 = most (hearing x).state.view.wait (hearing x).state.view.timer x.node.view.wait x.node.view.timer o h.wait h.timer in
+      (w, omega (arith, w, r.pair.near.waits c))
+    where
+      most : (a b c e : ℕ) → a ≤ risen b → a ≡ c → b ≡ e → c ≤ e + 1
+      most a b c e o f g = grind (arith, o, f, g)
+
+  -- after a wait that long the other end sees Idle, and doesn't draw
+  pub long-idle :
+      x.node.view.phase ≡ phase.Contend → d ≤ x.node.view.timer →
+      level_shown (hearing y).state y.port ≡ level.Idle
+  long-idle c t = heard_idle d x y r.pair c ux t
+
+  pub long-undrawn :
+      x.node.view.phase ≡ phase.Contend → d ≤ x.node.view.timer → NoEntry y.node (hearing y) →
+      Drew y.coin (hearing y).state (ticking y).state → ⊥
+  long-undrawn c t h w = idle-parent (level_shown (hearing y).state y.port) (long-idle c t) (drew-sees d y x (swapped d x y r) w (up-mid d y x (swapped d x y r) h uy))
+
+  -- where the other end draws, the wait just began
+  pub young :
+      x.node.view.phase ≡ phase.Contend → NoEntry x.node (hearing x) → NoEntry y.node (hearing y) →
+      Drew y.coin (hearing y).state (ticking y).state → x.node.view.timer + 1 < d
+  young c hx hy w = elim (less-or (x.node.view.timer + 1) d) [
+    | inl a ↦ a
+    | inr a ↦ absurd (idle-parent (level_shown (hearing y).state y.port) (idle a) (drew-sees d y x (swapped d x y r) w (up-mid d y x (swapped d x y r) hy uy)))
+  ]
+    where
+      less-or : (a b : ℕ) → (a < b) ⊎ (b ≤ a)
+      less-or a b = grind arith
+
+      none : d ≤ x.node.view.timer + 1 → leftovers x ≡ []
+      none a =
+          let s : AllAsOldAs (x.node.view.timer - slack x.node.view.phase + 1) (leftovers x) = kept_since x (x.node.view.timer - slack x.node.view.phase) (r.pair.coupled.timed (ap is_timed c)) in
+          none-so-old d (x.node.view.timer - slack x.node.view.phase + 1) (leftovers x) r.pair.some_delay (omega (arith, a, ap slack c)) s (ages-first (d - 1) (leftovers x) (map new_signal (departures x)) r.pair.near.ages_after)
+
+      tells-idle : level_sent_at x.node x.port ≡ level.Idle
+      tells-idle = go x.node.view.phase (leads_down x.node.view.ports x.port) c (not-down d x y r ux)
+        where
+          go : (f : Phase) (b : Bool) → f ≡ phase.Contend → b ≡ false → level_sent f b ≡ level.Idle
+          go f b e g = grind arith
+
+      idle : d ≤ x.node.view.timer + 1 → level_shown (hearing y).state y.port ≡ level.Idle
+      idle a =
+          heard_shown d x y r.pair
+          ∙ ap (λ ts. level_after (level_after (level_shown y.node y.port) (arrivals x)) (signals_of ts)) (sym (none a))
+          ∙ kept_levels d x y r.pair
+          ∙ tells-idle
+
+-- ---- the turn, case by case
+
+module _
+    (d : ℕ) (x y : Side) (r : Rivals d x y) (ux : is_port x.node.view.parent x.port ≡ true)
+    (uy : is_port y.node.view.parent y.port ≡ true) (hx : NoEntry x.node (hearing x))
+    (hy : NoEntry y.node (hearing y)) where
+  s2 : Rivals d y x
+  s2 = swapped d x y r
+
+  abbrev After : Type 0
+  After = AreRivals d (ticking x).state x.port (wire_after x) (ticking y).state y.port (wire_after y)
+
+  shook-none :
+      Shook (hearing x).state (ticking x).state (ticking x).sends →
+      DrewNone x.node (ticking x).state
+  shook-none a = draws-not d x y r hx (λ w. no-contend (ticking x).state.view.phase a.phase w.phase)
+
+  pub contend-none : x.node.view.phase ≡ phase.Contend → DrewNone x.node (ticking x).state
+  contend-none c = draws-not d x y r hx (λ w. clash x.node.view.phase c (sym hx.phase ∙ w.before))
+    where
+      clash : (f : Phase) → f ≡ phase.Contend → f ≡ phase.ParentShake → ⊥
+      clash f a b = cc
+
+  -- both drew alike, and x draws once more
+  first-draw :
+      DrewTheSame x.node y.node → DrewNone y.node (ticking y).state →
+      Drew x.coin (hearing x).state (ticking x).state →
+      is_shaking (ticking y).state.view.phase ≡ true →
+      AreApart d (ticking x).state x.port (ticking y).state (wire_after y)
+  first-draw same n w sh = record {
+    here = w.phase;
+    there = sh;
+    how = inl (record {
+      drew =
+          let a : AddsDraw d x.node.view.draws x.node.view.first_draws (ticking x).state = adds-draw d x y r hx w in
+          subst (λ f. AddsDraw d (ticking y).state.view.draws f (ticking x).state) (same.first_draws ∙ sym n.first_draws)
+          (subst (λ k. AddsDraw d k x.node.view.first_draws (ticking x).state) (same.draws ∙ sym n.draws) a);
+      shown = r.pair.near.ticks.shown x.port ∙ drew-sees d x y r w (up-mid d x y r hx ux);
+    });
+  }
+
+  -- the wait of x goes on, and y, whose wait is over, asks again
+  pub waits-on :
+      HaveMet d x.node y.node → Waited (raise_timer (hearing x).state)
+      (ticking x).state (ticking x).sends → AskedAgain (raise_timer (hearing y).state)
+      (ticking y).state → AsksAgain d (ticking x).state (ticking y).state (wire_after y)
+  waits-on m w a = record {
+    drew = record { draws = m.drew.draws; first = m.drew.first; here = adds-still d x y r nx m.drew.draws m.drew.first m.drew.here; there = adds-still d y x s2 ny m.drew.draws m.drew.first m.drew.there };
+    long = omega (arith, tx, min-least, twice, r.pair.some_delay);
+    coins = two (last_coin d x.node) (last_coin d y.node) refl refl;
+  }
+    where
+      nx : DrewNone x.node (ticking x).state
+      nx = contend-none m.here
+
+      ny : DrewNone y.node (ticking y).state
+      ny = draws-not d y x s2 hy (λ v. clash y.node.view.phase m.there (sym hy.phase ∙ v.before))
+        where
+          clash : (f : Phase) → f ≡ phase.Contend → f ≡ phase.ParentShake → ⊥
+          clash f a b = cc
+
+      tx : (ticking x).state.view.timer ≡ risen x.node.view.timer
+      tx = (waited-timer d x y r ux uy hx w).0
+
+      o : (y.node.view.wait ≤ y.node.view.timer + 1) × (3 * d ≤ y.node.view.timer + 1)
+      o = over-timer d y x s2 uy ux hy m.there a.over
+
+      twice : 2 * d ≤ x.node.view.timer
+      twice = omega (arith, o.1, m.far, r.pair.some_delay)
+
+      min-least : d ≤ risen x.node.view.timer
+      min-least = grind (arith, twice, r.pair.short_delay)
+
+      y-under : y.node.view.timer < y.node.view.wait
+      y-under = r.other.waits m.there
+
+      early :
+          y.node.view.wait ≤ 4 * d → 8 * d ≤ x.node.view.wait →
+          (ticking x).state.view.timer + 3 * d + 1 - (ticking x).state.view.wait ≤ 0
+      early sh lo = omega (arith, tx, rises, nx.wait, m.near, y-under, sh, lo, r.pair.some_delay)
+        where
+          rises : risen x.node.view.timer ≤ x.node.view.timer + 1
+          rises = grind arith
+
+      two :
+          (b c : Bool) → last_coin d x.node ≡ b → last_coin d y.node ≡ c →
+          (last_coin d (ticking x).state ≡ last_coin d (ticking y).state) ⊎
+          ((last_coin d (ticking x).state ≡ true) × (last_coin d (ticking y).state ≡ false) × AllAsOldAs ((ticking x).state.view.timer + 3 * d + 1 - (ticking x).state.view.wait) (wire_after y))
+      two true true e f = inl (coin-still d x y r nx ∙ e ∙ sym f ∙ sym (coin-still d y x s2 ny))
+      two false false e f = inl (coin-still d x y r nx ∙ e ∙ sym f ∙ sym (coin-still d y x s2 ny))
+      two true false e f = inr (
+        coin-still d x y r nx ∙ e,
+        coin-still d y x s2 ny ∙ f,
+        AllAsOldAs-less ((ticking x).state.view.timer + 3 * d + 1 - (ticking x).state.view.wait) 0 (wire_after y)
+            (early (coin-short d y.node r.other m.there f) (coin-long d x.node e)) (AllAsOldAs-zero (wire_after y)),
+      )
+      two false true e f =
+          let sh : x.node.view.wait ≤ 4 * d = coin-short d x.node r.near m.here e in
+          let lo : 8 * d ≤ y.node.view.wait = coin-long d y.node f in
+          absurd (omega (arith, sh, lo, o.0, m.far, r.near.waits m.here, r.pair.some_delay))
+
+  -- y asks again, and the wait of x goes on
+  pub asks-still :
+      x.node.view.phase ≡ phase.Contend → is_shaking y.node.view.phase ≡ true →
+      Waited (raise_timer (hearing x).state) (ticking x).state (ticking x).sends →
+      Shook (hearing y).state (ticking y).state (ticking y).sends →
+      AsksAgain d x.node y.node y.wire →
+      AsksAgain d (ticking x).state (ticking y).state (wire_after y)
+  asks-still c sh w v h = record {
+    drew = record { draws = h.drew.draws; first = h.drew.first; here = adds-still d x y r nx h.drew.draws h.drew.first h.drew.here; there = adds-still d y x s2 ny h.drew.draws h.drew.first h.drew.there };
+    long = omega (arith, t, least x.node.view.timer h.long);
+    coins = elim h.coins [
+      | inl e ↦ inl (coin-still d x y r nx ∙ e ∙ sym (coin-still d y x s2 ny))
+      | inr e ↦ inr (coin-still d x y r nx ∙ e.0, coin-still d y x s2 ny ∙ e.1, older e.2)
+    ];
+  }
+    where
+      nx : DrewNone x.node (ticking x).state
+      nx = contend-none c
+
+      ny : DrewNone y.node (ticking y).state
+      ny = draws-not d y x s2 hy (λ u. no-contend (ticking y).state.view.phase v.phase u.phase)
+
+      t : (ticking x).state.view.timer ≡ risen x.node.view.timer
+      t = (waited-timer d x y r ux uy hx w).0
+
+      least : (n : ℕ) → d ≤ n → d ≤ risen n
+      least n h = grind (arith, h, r.pair.short_delay)
+
+      rises : risen x.node.view.timer ≤ x.node.view.timer + 1
+      rises = grind arith
+
+      less : (a b c e : ℕ) → a ≤ b + 1 → a + e + 1 - c ≤ b + e + 1 - c + 1
+      less a b c e h = omega (arith, h)
+
+      nothing : wire_after y ≡ leftovers y
+      nothing = same_wire y (hy.sends (shaking-silent y.node.view.phase sh)) v.sends_none
+
+      older :
+          AllAsOldAs (x.node.view.timer + 3 * d + 1 - x.node.view.wait) y.wire →
+          AllAsOldAs ((ticking x).state.view.timer + 3 * d + 1 - (ticking x).state.view.wait)
+          (wire_after y)
+      older e =
+          subst (AllAsOldAs ((ticking x).state.view.timer + 3 * d + 1 - (ticking x).state.view.wait)) (sym nothing)
+          (AllAsOldAs-less ((ticking x).state.view.timer + 3 * d + 1 - (ticking x).state.view.wait) (x.node.view.timer + 3 * d + 1 - x.node.view.wait + 1) (leftovers y)
+          (subst (λ u. (ticking x).state.view.timer + 3 * d + 1 - u ≤ x.node.view.timer + 3 * d + 1 - x.node.view.wait + 1) (sym nx.wait)
+          (less (ticking x).state.view.timer x.node.view.timer x.node.view.wait (3 * d) (omega (arith, t, rises))))
+          (kept_since y (x.node.view.timer + 3 * d + 1 - x.node.view.wait) e))
+
+  -- y asks again, and is seen before the wait of x is over
+  pub not-again :
+      x.node.view.phase ≡ phase.Contend → is_shaking y.node.view.phase ≡ true →
+      AskedAgain (raise_timer (hearing x).state) (ticking x).state →
+      AllAsOldAs (x.node.view.timer + 3 * d + 1 - x.node.view.wait) y.wire → ⊥
+  not-again c sh b e =
+      let o = over-timer d x y r ux uy hx c b.over in
+      let none : y.wire ≡ [] = none-so-old d (x.node.view.timer + 3 * d + 1 - x.node.view.wait) y.wire r.pair.some_delay (omega (arith, o.0, r.pair.some_delay)) e r.pair.other.ages in
+      other-level (level_shown (hearing x).state x.port) (asks-here d x y r sh uy none) (again-sees d x y r b (up-mid d x y r hx ux))
+
+  -- both are in T3 with unequal coins, x with the long wait: it isn't over yet
+  pub not-over :
+      HaveMet d x.node y.node → x.node.view.wait ≤ x.node.view.timer + 1 →
+      last_coin d x.node ≡ true → last_coin d y.node ≡ false → ⊥
+  not-over m o e f =
+      let lo : 8 * d ≤ x.node.view.wait = coin-long d x.node e in
+      let sh : y.node.view.wait ≤ 4 * d = coin-short d y.node r.other m.there f in
+      omega (arith, lo, sh, o, m.near, r.other.waits m.there, r.pair.some_delay)
+
+  -- no rival is seen while both are in T3
+  pub took-none :
+      HaveMet d x.node y.node → TookRival (raise_timer (hearing x).state) (ticking x).state → ⊥
+  took-none m t =
+      let o = over-timer d x y r ux uy hx m.here t.over in
+      idle-parent (level_shown (hearing x).state x.port)
+      (long-idle d y x s2 uy ux m.there (omega (arith, o.1, m.near, r.pair.some_delay)))
+      (took-sees d x y r t (up-mid d x y r hx ux))
+
+module _
+    (d : ℕ) (x y : Side) (r : Rivals d x y) (ux : is_port x.node.view.parent x.port ≡ true)
+    (uy : is_port y.node.view.parent y.port ≡ true) (hx : NoEntry x.node (hearing x))
+    (hy : NoEntry y.node (hearing y)) where
+  s3 : Rivals d y x
+  s3 = swapped d x y r
+
+  both-shaking : AreAlike x.node y.node → After d x y r ux uy hx hy
+  both-shaking a = go (shaken d x y r ux uy hx a.here) (shaken d y x s3 uy ux hy a.there)
+    where
+      go :
+          Shook (hearing x).state (ticking x).state (ticking x).sends
+          ⊎ Drew x.coin (hearing x).state (ticking x).state →
+          Shook (hearing y).state (ticking y).state (ticking y).sends
+          ⊎ Drew y.coin (hearing y).state (ticking y).state →
+          After d x y r ux uy hx hy
+      go (inl b) (inl c) =
+          let nx : DrewNone x.node (ticking x).state = shook-none d x y r ux uy hx hy b in
+          let ny : DrewNone y.node (ticking y).state = shook-none d y x s3 uy ux hy hx c in
+          inl (record {
+            here = b.phase;
+            there = c.phase;
+            drew = record { draws = nx.draws ∙ a.drew.draws ∙ sym ny.draws; first_draws = nx.first_draws ∙ a.drew.first_draws ∙ sym ny.first_draws };
+          })
+      go (inr b) (inl c) = inr (inr (inl (first-draw d x y r ux uy hx hy a.drew (shook-none d y x s3 uy ux hy hx c) b c.phase)))
+      go (inl b) (inr c) = inr (inr (inr (first-draw d y x s3 uy ux hy hx (same-round x.node y.node a.drew) (shook-none d x y r ux uy hx hy b) c b.phase)))
+      go (inr b) (inr c) = inr (inl (record {
+        here = b.phase;
+        there = c.phase;
+        drew = record {
+          draws = x.node.view.draws;
+          first = x.node.view.first_draws;
+          here = adds-draw d x y r hx b;
+          there = subst (λ f. AddsDraw d x.node.view.draws f (ticking y).state) (sym a.drew.first_draws)
+              (subst (λ k. AddsDraw d k y.node.view.first_draws (ticking y).state) (sym a.drew.draws) (adds-draw d y x s3 hy c));
+        };
+        near = omega (arith, b.timer, c.timer);
+        far = omega (arith, b.timer, c.timer);
+      }))
+
+  both-waiting : HaveMet d x.node y.node → After d x y r ux uy hx hy
+  both-waiting m = go (fought d x y r ux uy hx m.here) (fought d y x s3 uy ux hy m.there)
+    where
+      back : HaveMet d y.node x.node
+      back = record { here = m.there; there = m.here; drew = together-round d x.node y.node m.drew; near = m.far; far = m.near }
+
+      nx : DrewNone x.node (ticking x).state
+      nx = contend-none d x y r ux uy hx hy m.here
+
+      ny : DrewNone y.node (ticking y).state
+      ny = contend-none d y x s3 uy ux hy hx m.there
+
+      rises : (a b c : ℕ) → a ≤ b + c → risen a ≤ risen b + c
+      rises a b c h = grind (arith, h)
+
+      equal :
+          x.node.view.wait ≤ x.node.view.timer + 1 → y.node.view.wait ≤ y.node.view.timer + 1 →
+          (b c : Bool) → last_coin d x.node ≡ b → last_coin d y.node ≡ c →
+          last_coin d x.node ≡ last_coin d y.node
+      equal o p true true e f = e ∙ sym f
+      equal o p false false e f = e ∙ sym f
+      equal o p true false e f = absurd (not-over d x y r ux uy hx hy m o e f)
+      equal o p false true e f = absurd (not-over d y x s3 uy ux hy hx back p f e)
+
+      go :
+          Fought (raise_timer (hearing x).state) (ticking x).state (ticking x).sends →
+          Fought (raise_timer (hearing y).state) (ticking y).state (ticking y).sends →
+          After d x y r ux uy hx hy
+      go (inr (inl t)) q = absurd (took-none d x y r ux uy hx hy m t)
+      go (inl w) (inr (inl t)) = absurd (took-none d y x s3 uy ux hy hx back t)
+      go (inr (inr a)) (inr (inl t)) = absurd (took-none d y x s3 uy ux hy hx back t)
+      go (inl w) (inl v) =
+          let tx = (waited-timer d x y r ux uy hx w).0 in
+          let ty = (waited-timer d y x s3 uy ux hy v).0 in
+          inr (inl (record {
+            here = w.phase;
+            there = v.phase;
+            drew = record { draws = m.drew.draws; first = m.drew.first; here = adds-still d x y r nx m.drew.draws m.drew.first m.drew.here; there = adds-still d y x s3 ny m.drew.draws m.drew.first m.drew.there };
+            near = omega (arith, tx, ty, rises x.node.view.timer y.node.view.timer (d - 1) m.near);
+            far = omega (arith, tx, ty, rises y.node.view.timer x.node.view.timer (d - 1) m.far);
+          }))
+      go (inl w) (inr (inr a)) = inr (inr (inl (record { here = w.phase; there = ap is_shaking a.phase; how = inr (waits-on d x y r ux uy hx hy m w a) })))
+      go (inr (inr a)) (inl w) = inr (inr (inr (record { here = w.phase; there = ap is_shaking a.phase; how = inr (waits-on d y x s3 uy ux hy hx back w a) })))
+      go (inr (inr a)) (inr (inr b)) =
+          let o = (over-timer d x y r ux uy hx m.here a.over).0 in
+          let p = (over-timer d y x s3 uy ux hy m.there b.over).0 in
+          let same : DrewTheSame x.node y.node = same-coins d x.node y.node m.drew (equal o p (last_coin d x.node) (last_coin d y.node) refl refl) in
+          inl (record {
+            here = ap is_shaking a.phase;
+            there = ap is_shaking b.phase;
+            drew = record { draws = nx.draws ∙ same.draws ∙ sym ny.draws; first_draws = nx.first_draws ∙ same.first_draws ∙ sym ny.first_draws };
+          })
+
+  one-waiting :
+      AreApart d x.node x.port y.node y.wire → is_port (ticking x).state.view.parent x.port ≡ true →
+      After d x y r ux uy hx hy
+  one-waiting a stays = go (fought d x y r ux uy hx a.here) (shaken d y x s3 uy ux hy a.there)
+    where
+      nx : DrewNone x.node (ticking x).state
+      nx = contend-none d x y r ux uy hx hy a.here
+
+      -- y draws too
+      meets :
+          Waited (raise_timer (hearing x).state) (ticking x).state (ticking x).sends →
+          Drew y.coin (hearing y).state (ticking y).state →
+          IsAhead d x.node x.port y.node ⊎ AsksAgain d x.node y.node y.wire →
+          DrewTogether d (ticking x).state (ticking y).state
+      meets w v (inl h) = record { draws = y.node.view.draws; first = y.node.view.first_draws; here = adds-still d x y r nx y.node.view.draws y.node.view.first_draws h.drew; there = adds-draw d y x s3 hy v }
+      meets w v (inr h) = absurd (omega (arith, h.long, young d x y r ux uy a.here hx hy v))
+
+      -- it doesn't, and the wait goes on
+      waits :
+          Waited (raise_timer (hearing x).state) (ticking x).state (ticking x).sends →
+          Shook (hearing y).state (ticking y).state (ticking y).sends →
+          IsAhead d x.node x.port y.node ⊎ AsksAgain d x.node y.node y.wire →
+          IsAhead d (ticking x).state x.port (ticking y).state
+          ⊎ AsksAgain d (ticking x).state (ticking y).state (wire_after y)
+      waits w v (inl h) =
+          let ny : DrewNone y.node (ticking y).state = shook-none d y x s3 uy ux hy hx v in
+          let kept_draws = adds-still d x y r nx y.node.view.draws y.node.view.first_draws h.drew in
+          inl (record {
+            drew = subst (λ f. AddsDraw d (ticking y).state.view.draws f (ticking x).state) (sym ny.first_draws) (subst (λ k. AddsDraw d k y.node.view.first_draws (ticking x).state) (sym ny.draws) kept_draws);
+            shown = r.pair.near.ticks.shown x.port ∙ asks-on d x y r a.there uy h.shown;
+          })
+      waits w v (inr h) = inr (asks-still d x y r ux uy hx hy a.here a.there w v h)
+
+      -- the wait is over, and no Parent is shown
+      again :
+          AskedAgain (raise_timer (hearing x).state) (ticking x).state →
+          IsAhead d x.node x.port y.node ⊎ AsksAgain d x.node y.node y.wire →
+          DrewTheSame x.node y.node
+      again b (inl h) = absurd (other-level (level_shown (hearing x).state x.port) (asks-on d x y r a.there uy h.shown) (again-sees d x y r b (up-mid d x y r hx ux)))
+      again b (inr h) = elim h.coins [
+        | inl e ↦ same-coins d x.node y.node h.drew e
+        | inr e ↦ absurd (not-again d x y r ux uy hx hy a.here a.there b e.2)
+      ]
+
+      over-young :
+          (hearing x).state.view.wait ≤ risen (hearing x).state.view.timer →
+          Drew y.coin (hearing y).state (ticking y).state → ⊥
+      over-young o v = omega (arith, (over-timer d x y r ux uy hx a.here o).1, young d x y r ux uy a.here hx hy v, r.pair.some_delay)
+
+      go :
+          Fought (raise_timer (hearing x).state) (ticking x).state (ticking x).sends →
+          Shook (hearing y).state (ticking y).state (ticking y).sends
+          ⊎ Drew y.coin (hearing y).state (ticking y).state →
+          After d x y r ux uy hx hy
+      go (inl w) (inl v) = inr (inr (inl (record { here = w.phase; there = v.phase; how = waits w v a.how })))
+      go (inl w) (inr v) =
+          let t = (waited-timer d x y r ux uy hx w).0 in
+          let u = young d x y r ux uy a.here hx hy v in
+          inr (inl (record {
+            here = w.phase;
+            there = v.phase;
+            drew = meets w v a.how;
+            near = omega (arith, t, low x.node.view.timer u, v.timer);
+            far = omega (arith, v.timer);
+          }))
+        where
+          low : (n : ℕ) → n + 1 < d → risen n ≤ d - 1
+          low n h = grind (arith, h)
+      go (inr (inl b)) q = absurd (true≢false (sym stays ∙ ap (λ o. is_port o x.port) b.root))
+      go (inr (inr b)) (inl v) =
+          let ny : DrewNone y.node (ticking y).state = shook-none d y x s3 uy ux hy hx v in
+          let same : DrewTheSame x.node y.node = again b a.how in
+          inl (record {
+            here = ap is_shaking b.phase;
+            there = v.phase;
+            drew = record { draws = nx.draws ∙ same.draws ∙ sym ny.draws; first_draws = nx.first_draws ∙ same.first_draws ∙ sym ny.first_draws };
+          })
+      go (inr (inr b)) (inr v) = absurd (over-young b.over v)
+
+-- two nodes that have each other for parent, before and after
+pub stand-after :
+    (d : ℕ) (x y : Side) → Rivals d x y → is_port x.node.view.parent x.port ≡ true →
+    is_port y.node.view.parent y.port ≡ true → NoEntry x.node (hearing x) →
+    NoEntry y.node (hearing y) →
+    is_port (ticking x).state.view.parent x.port ≡ true → is_port (ticking y).state.view.parent y.port ≡ true → AreRivals d (ticking x).state x.port (wire_after x) (ticking y).state y.port (wire_after y)
+stand-after d x y r ux uy hx hy vx vy = go (r.here.rivals ux uy)
+  where
+    go :
+        AreRivals d x.node x.port x.wire y.node y.port y.wire →
+        AreRivals d (ticking x).state x.port (wire_after x) (ticking y).state y.port (wire_after y)
+    go (inl a) = both-shaking d x y r ux uy hx hy a
+    go (inr (inl m)) = both-waiting d x y r ux uy hx hy m
+    go (inr (inr (inl a))) = one-waiting d x y r ux uy hx hy a vx
+    go (inr (inr (inr a))) =
+        stand-round d (ticking y).state y.port (wire_after y) (ticking x).state x.port (wire_after x) (one-waiting d y x (swapped d x y r) uy ux hy hx a vy)

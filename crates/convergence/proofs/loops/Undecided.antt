@@ -1,0 +1,23 @@
+-- After n * d turns without acts.
+use Rattle.std.proofs.Common.{ℕ, ◌*◌, ◌≤◌, length}
+use Rattle.cable_world.specs.World.{CableWorld}
+use Rattle.cable_world.specs.Turn.{turns_after}
+use Rattle.cable_world.specs.Run.{IsReached}
+use Rattle.cable_world.specs.Lawful.{IsLawful}
+use Rattle.cable_world.proofs.StaysLawful.{reached-lawful, turns-lawful}
+use Rattle.convergence.specs.Acyclic.{IsAcyclic}
+use Rattle.convergence.specs.Milestones.{ResetsAreOver}
+use Rattle.convergence.specs.Roots.{IsUndecidedInLoops}
+use Rattle.convergence.proofs.loops.Cores.{core-shows, one-root}
+use Rattle.convergence.proofs.resets.ResetsOver.{resets-over}
+use Rattle.convergence.proofs.ranks.StaysAcyclic.{reached-acyclic, turns-acyclic}
+
+pub after-turns :
+    (w : CableWorld) (k : ℕ) → IsReached w → length w.nodes * w.delay ≤ k →
+    IsUndecidedInLoops (turns_after k w)
+after-turns w k r late =
+    let v : CableWorld = turns_after k w in
+    let l : IsLawful v = turns-lawful k w (reached-lawful w r) in
+    let c : IsAcyclic v = turns-acyclic k w (reached-lawful w r) (reached-acyclic w r) in
+    let over : ResetsAreOver v = resets-over w (reached-lawful w r) k late in
+    record { loops = core-shows v l over c; roots = one-root v l over }

@@ -1,0 +1,25 @@
+-- Every world that comes of a power-on world is acyclic.
+use Rattle.std.proofs.Common.{ℕ}
+use Rattle.cable_world.specs.World.{CableWorld}
+use Rattle.cable_world.specs.Run.{IsReached}
+use Rattle.cable_world.specs.Turn.{turns_after}
+use Rattle.cable_world.specs.Lawful.{IsLawful}
+use Rattle.convergence.specs.Acyclic.{IsAcyclic}
+use Rattle.convergence.proofs.turns.AlongRuns.{IsKept, kept-reached, kept-turns}
+use Rattle.convergence.proofs.ranks.RanksInActs.{power-on-acyclic, hold-acyclic, act-acyclic}
+use Rattle.convergence.proofs.ranks.RanksInTurns.{turn-acyclic}
+
+acyclic-kept : IsKept IsAcyclic
+acyclic-kept = record {
+  power_on = power-on-acyclic;
+  turn = turn-acyclic;
+  hold = λ end turns w none l. hold-acyclic end turns w;
+  act = act-acyclic;
+}
+
+pub reached-acyclic : (w : CableWorld) → IsReached w → IsAcyclic w
+reached-acyclic = kept-reached IsAcyclic acyclic-kept
+
+pub turns-acyclic :
+    (k : ℕ) (w : CableWorld) → IsLawful w → IsAcyclic w → IsAcyclic (turns_after k w)
+turns-acyclic = kept-turns IsAcyclic acyclic-kept

@@ -1,0 +1,278 @@
+-- In turns without acts nobody is in R0 or R1 any more, 81 d turns after the last entry at the
+-- latest.
+use Rattle.std.proofs.Common.{◌≡◌, inl, inr, ℕ, zero, suc, ◌+◌, ◌-◌, ◌*◌, ◌<◌, ◌≤◌, Bool, true, false, not, ◌&&◌, ◌||◌, length, Option, Some, None, is_some, slice_get, refl, sym, ◌∙◌, ap, subst, arith, true≢false}
+use Rattle.port_state.specs.declared.signal.Phase.{Phase}
+use Rattle.port_state.specs.declared.signal.Phase.TheVariants as phase
+use Rattle.port_state.specs.declared.ports.PortView.{PortView}
+use Rattle.port_state.specs.declared.states.NodeState.{NodeState}
+use Rattle.port_state.specs.declared.timing.Timing.{Timing}
+use Rattle.port_state.specs.Coins.{coin}
+use Rattle.port_state.specs.Ports.{passes, port_is, is_connected, is_port}
+use Rattle.port_state.specs.Heard.{is_resetting}
+use Rattle.port_state.specs.Resetting.{is_calm}
+use Rattle.port_state.specs.Machine.{PortNode}
+use Rattle.port_state.specs.Valid.{IsValid}
+use Rattle.cabling.specs.declared.cable.End.{End}
+use Rattle.cabling.specs.Wiring.{Wiring, far}
+use Rattle.cabling.proofs.Near.{end_at}
+use Rattle.cable_world.specs.World.{CableWorld, wire_of}
+use Rattle.cable_world.specs.Turn.{turn_at, turn, turns_after, hear_all}
+use Rattle.cable_world.specs.Agreement.{level_sent, level_shown, shown_or_idle, leads_down, level_sent_at}
+use Rattle.cable_world.specs.Signals.{signals_of, has_reset}
+use Rattle.cable_world.specs.Phases.{is_before_tree, is_after_hold, is_in_bus_reset, is_shaking}
+use Rattle.cable_world.specs.Coupling.{is_asking, Coupling}
+use Rattle.cable_world.specs.Lawful.{IsLawful}
+use Rattle.cable_world.proofs.turns.ByNumber.{node-after, one-more}
+use Rattle.cable_world.proofs.Options.{some-same}
+use Rattle.cable_world.proofs.coupling.CouplingInTurns.{before, hears}
+use Rattle.cable_world.proofs.resets.Entries.{in-turn, hold-left, steady, after-delay}
+use Rattle.cable_world.proofs.levels.LastSent.{child-if}
+use Rattle.convergence.proofs.turns.Cables.{joined-of}
+use Rattle.cable_world.proofs.tables.CableEnds.{cable-connected}
+use Rattle.cable_world.proofs.coupling.Sides.{late-roles, between-known}
+use Rattle.cable_world.proofs.StaysLawful.{turns-lawful}
+use Rattle.cable_world.proofs.turns.NodeFacts.{NoEntry, HearsWell}
+use Rattle.cable_world.proofs.turns.TurnParts.{turn-state}
+use Rattle.convergence.specs.Milestones.{ResetsAreOver, NoneIn, ResetsAreDone}
+use Rattle.convergence.proofs.turns.CalmTurns.{Calmly, calmly, signals, heard_by, waiting-before, done-calm}
+use Rattle.convergence.proofs.turns.BeforeTree.{waits-for, every-from}
+use Rattle.convergence.proofs.turns.Flush.{after-cabling, Tells, Shown, flush}
+use Rattle.cable_world.proofs.turns.ByNumber.{turns-then}
+
+-- ---- holds end
+
+-- a node that a turn leaves in R0 has some of its hold left
+hold-runs :
+    (w : CableWorld) → IsLawful w → (k : ℕ) (x y : PortNode) → slice_get w.nodes k ≡ Some x →
+    slice_get (turn w).nodes k ≡ Some y → is_resetting x.state.view.phase ≡ true →
+    is_resetting y.state.view.phase ≡ true → y.state.view.timer < 80 * w.delay
+hold-runs w l k x y at_x at_y was there =
+    omega (arith, (in-turn w l k x y at_x at_y).rises was there, left, heard.timer, ap (λ (z : Timing). z.hold) h.timing, (l.well_formed.nodes k x at_x).timing.hold_most)
+  where
+    h : HearsWell (signals w k) x.state
+    h = hears w k x l.well_formed at_x
+
+    heard : NoEntry x.state (hear_all (signals w k) x.state)
+    heard = elim (hears w k x l.well_formed at_x).cases [ inl s ↦ s | inr c ↦ absurd (true≢false (sym was ∙ c.before)) ]
+
+    same : (turn_at w k x).node ≡ y
+    same = some-same (turn_at w k x).node y (sym (node-after w k x l.well_formed.count at_x) ∙ at_y)
+
+    hold-most : (heard_by w k x).timing.hold ≤ 65535
+    hold-most = omega (arith, ap (λ (z : Timing). z.hold) (hears w k x l.well_formed at_x).timing, (l.well_formed.nodes k x at_x).timing.hold_most, l.well_formed.short_delay)
+
+    left : (heard_by w k x).view.timer + 1 < (heard_by w k x).timing.hold
+    left =
+        hold-left (coin x.coins) (heard_by w k x) (ap is_resetting heard.phase ∙ was) hold-most
+        (sym (ap (λ (s : NodeState). is_resetting s.view.phase) (turn-state (signals w k) x)) ∙ ap (λ (u : PortNode). is_resetting u.state.view.phase) same ∙ there)
+
+module _ (w : CableWorld) (l : IsLawful w) where
+  abbrev enough : ℕ
+  enough = length w.nodes * w.delay
+
+  abbrev later : ℕ → CableWorld
+  later i = turns_after (enough + i) w
+
+  lawful-later : (i : ℕ) → IsLawful (later i)
+  lawful-later i = turns-lawful (enough + i) w l
+
+  next : (i : ℕ) → turn (later i) ≡ later (suc i)
+  next i =
+      let z : enough + i + 1 ≡ enough + suc i = omega arith in
+      sym (one-more (enough + i) w) ∙ ap (λ n. turns_after n w) z
+
+  -- each node in R0 has been there for so many turns
+  abbrev Risen : ℕ → CableWorld → Type 0
+  Risen n v = (k : ℕ) (x : PortNode) → slice_get v.nodes k ≡ Some x → is_resetting x.state.view.phase ≡ true → n ≤ x.state.view.timer
+
+  -- it was there before
+  stayed :
+      (i k : ℕ) (y : PortNode) → slice_get (turn (later i)).nodes k ≡ Some y →
+      is_resetting y.state.view.phase ≡ true → (x : PortNode)
+      × (slice_get (later i).nodes k ≡ Some x) × (is_resetting x.state.view.phase ≡ true)
+  stayed i k y at there =
+      let x = before (later i) k y (lawful-later i).well_formed at in
+      (x.0, x.1, was x.0 x.1 (is_resetting x.0.state.view.phase) refl)
+    where
+      was :
+          (x : PortNode) → slice_get (later i).nodes k ≡ Some x → (b : Bool) →
+          is_resetting x.state.view.phase ≡ b → b ≡ true
+      was x at_x true e = refl
+      was x at_x false e =
+          let late : enough ≤ enough + i = omega arith in
+          absurd (true≢false (sym there ∙ steady w l (enough + i) late k x y at_x (ap (λ (u : CableWorld). slice_get u.nodes k) (one-more (enough + i) w) ∙ at) e))
+
+  rises : (i : ℕ) → Risen i (later i) → Risen (suc i) (turn (later i))
+  rises i h k y at there =
+      let x = stayed i k y at there in
+      omega (arith, (in-turn (later i) (lawful-later i) k x.0 y x.1 at).rises x.2 there, h k x.0 x.1 x.2)
+
+  all-risen : (i : ℕ) → Risen i (later i)
+  all-risen zero = λ k x at r. omega arith
+  all-risen (suc i) = subst (Risen (suc i)) (next i) (rises i (all-risen i))
+
+  -- 80 d turns later none is there
+  pub holds-over : (i : ℕ) → 80 * w.delay ≤ i → NoneIn is_resetting (later i)
+  holds-over zero h = absurd (omega (arith, h, l.well_formed.some_delay))
+  holds-over (suc i) h = subst (NoneIn is_resetting) (next i) none
+    where
+      none : NoneIn is_resetting (turn (later i))
+      none k y at = go (is_resetting y.state.view.phase) refl
+        where
+          go : (b : Bool) → is_resetting y.state.view.phase ≡ b → b ≡ false
+          go false e = refl
+          go true e =
+              let x = stayed i k y at e in
+              absurd (omega (arith, h, (in-turn (later i) (lawful-later i) k x.0 y x.1 at).rises x.2 e, all-risen i k x.0 x.1 x.2, hold-runs (later i) (lawful-later i) k x.0 y x.1 at x.2 e, after-delay w l (enough + i)))
+
+-- ---- R1
+
+-- towards a node in R1 another node out of R0 tells Idle or Parent
+calm-told :
+    (y : NodeState) (q : ℕ) → IsValid y → is_connected y.view.ports q ≡ true →
+    is_resetting y.view.phase ≡ false → (is_before_tree y.view.phase || is_asking y q) ≡ true →
+    is_calm (level_sent_at y q) ≡ true
+calm-told y q v on past early = go (is_before_tree y.view.phase) refl
+  where
+    first :
+        (f : Phase) (c : Bool) → is_resetting f ≡ false → is_before_tree f ≡ true →
+        is_calm (level_sent f c) ≡ true
+    first f c a b = grind arith
+
+    second :
+        (f : Phase) (c i : Bool) → is_before_tree f ≡ false → c ≡ not i →
+        (is_before_tree f || (is_shaking f && i)) ≡ true → is_calm (level_sent f c) ≡ true
+    second f c i a b e = grind arith
+
+    go : (b : Bool) → is_before_tree y.view.phase ≡ b → is_calm (level_sent_at y q) ≡ true
+    go true e = first y.view.phase (leads_down y.view.ports q) past e
+    go false e = second y.view.phase (leads_down y.view.ports q) (is_port y.view.parent q) e (child-if y.view.parent y.view.ports q (late-roles y v e) on) early
+
+only-wait : (p : Phase) → is_in_bus_reset p ≡ true → is_resetting p ≡ false → p ≡ phase.ResetWait
+only-wait p h g = grind arith
+
+wait-between :
+    (p : Phase) → is_in_bus_reset p ≡ true → is_resetting p ≡ false → is_after_hold p ≡ true
+wait-between p h g = grind arith
+
+-- in a world with nobody in R0, and in the turns from there
+module _
+    (v : CableWorld) (l : IsLawful v) (calm : (i : ℕ) → NoneIn is_resetting (turns_after i v))
+    (k : ℕ) where
+  -- the node is in R1
+  abbrev Waits : ℕ → Type 0
+  Waits i = (x : PortNode) × (slice_get (turns_after i v).nodes k ≡ Some x) × (is_in_bus_reset x.state.view.phase ≡ true)
+
+  waited : (i : ℕ) → Waits (i + 1) → Waits i
+  waited i h =
+      let c : Calmly (turns_after i v) k h.0.state = calmly (turns_after i v) (turns-lawful i v l) (calm i) k h.0 (ap (λ (u : CableWorld). slice_get u.nodes k) (sym (one-more i v)) ∙ h.1) in
+      (c.node, c.at, waiting-before (turns_after i v) k h.0.state c h.2)
+
+  module _ (a : End) (p : ℕ) (e : far v.cabling (end_at k p) ≡ Some a) where
+    back : far v.cabling a ≡ Some (end_at k p)
+    back = l.well_formed.cabling.both_ways (end_at k p) a e
+
+    tells-calm : (i : ℕ) → Waits i → Tells (turns_after i v) a is_calm
+    tells-calm i h y at =
+        let u : CableWorld = turns_after i v in
+        let m : IsLawful u = turns-lawful i v l in
+        let there : far u.cabling (end_at k p) ≡ Some a = ap (λ (c : Wiring). far c (end_at k p)) (after-cabling i v) ∙ e in
+        let here : far u.cabling a ≡ Some (end_at k p) = ap (λ (c : Wiring). far c a) (after-cabling i v) ∙ back in
+        let c : Coupling u.delay h.0.state p (wire_of u (end_at k p)).signals y.state a.port (wire_of u a).signals = m.coupled.cables (end_at k p) a h.0 y there h.1 at in
+        calm-told y.state a.port (m.well_formed.nodes a.node y at).valid (cable-connected u a (end_at k p) y m.well_formed here at) (calm i a.node y at)
+        (c.early (between-known u.delay h.0.state (wait-between h.0.state.view.phase h.2 (calm i k h.0 h.1))))
+
+    shows-calm : (i : ℕ) → v.delay ≤ i → Waits i → Shown (turns_after i v) (end_at k p) is_calm
+    shows-calm = flush v l a (end_at k p) back is_calm Waits waited tells-calm
+
+  -- d turns later every port is calm, so that R1 ends
+  wait-ends : (i : ℕ) → v.delay ≤ i + 1 → Waits (i + 1) → ⊥
+  wait-ends i late h =
+      true≢false (sym (every-from (λ q. is_calm q.shown) now.view.ports each)
+      ∙ waits-for (coin c.node.coins) now (only-wait now.view.phase (ap is_in_bus_reset c.heard.phase ∙ waiting-before u k h.0.state c h.2) (ap is_resetting c.heard.phase ∙ calm i k c.node c.at))
+      (sym (ap (λ (s : NodeState). is_in_bus_reset s.view.phase) c.is) ∙ h.2))
+    where
+      u : CableWorld
+      u = turns_after i v
+
+      c : Calmly (turns_after i v) k h.0.state
+      c = calmly (turns_after i v) (turns-lawful i v l) (calm i) k h.0 (ap (λ (u : CableWorld). slice_get u.nodes k) (sym (one-more i v)) ∙ h.1)
+
+      now : NodeState
+      now = heard_by (turns_after i v) k c.node
+
+      -- what a port shows is shown after the turn too
+      same : (q : ℕ) → level_shown h.0.state q ≡ level_shown now q
+      same q = ap (λ (s : NodeState). level_shown s q) c.is ∙ c.ticks.shown q
+
+      test-at :
+          (x : NodeState) (q : ℕ) → is_connected x.view.ports q ≡ true → is_calm (level_shown x q)
+          ≡ true → port_is (λ r. is_calm r.shown) x.view.ports q ≡ true
+      test-at x q on s = go (slice_get x.view.ports q) on s
+        where
+          go :
+              (o : Option PortView) → passes (λ r. r.connected) o ≡ true → is_calm (shown_or_idle o)
+              ≡ true → passes (λ r. is_calm r.shown) o ≡ true
+          go None on s = on
+          go (Some r) on s = s
+
+      each :
+          (q : ℕ) → is_connected now.view.ports q ≡ true → port_is (λ r. is_calm r.shown)
+          now.view.ports q ≡ true
+      each q on = test-at now q on (go (far (turns_after i v).cabling (end_at k q)) refl)
+        where
+          on-first : is_connected c.node.state.view.ports q ≡ true
+          on-first = sym (c.hears.cables q) ∙ on
+
+          go :
+              (o : Option End) → far (turns_after i v).cabling (end_at k q) ≡ o →
+              is_calm (level_shown now q) ≡ true
+          go None e = absurd (true≢false (sym on-first ∙ ((turns-lawful i v l).well_formed.nodes k c.node c.at).connected q ∙ ap is_some e))
+          go (Some a) e = ap is_calm (sym (same q)) ∙ shows-calm a q (sym (ap (λ (d : Wiring). far d (end_at k q)) (after-cabling i v)) ∙ e) (i + 1) late h h.0 h.1
+
+-- ---- 81 d turns
+
+pub resets-done :
+    (w : CableWorld) → IsLawful w → (i : ℕ) → 81 * w.delay ≤ i →
+    ResetsAreDone (turns_after (length w.nodes * w.delay + i) w)
+resets-done w l i late k x at = go (is_in_bus_reset x.state.view.phase) refl
+  where
+    start : CableWorld
+    start = turns_after (length w.nodes * w.delay + 80 * w.delay) w
+
+    m : IsLawful (turns_after (length w.nodes * w.delay + 80 * w.delay) w)
+    m = turns-lawful (length w.nodes * w.delay + 80 * w.delay) w l
+
+    calm :
+        (j : ℕ) →
+        NoneIn is_resetting (turns_after j (turns_after (length w.nodes * w.delay + 80 * w.delay) w))
+    calm j =
+        let z : length w.nodes * w.delay + (80 * w.delay + j) ≡ length w.nodes * w.delay + 80 * w.delay + j = omega arith in
+        let low : 80 * w.delay ≤ 80 * w.delay + j = omega arith in
+        subst (NoneIn is_resetting) (ap (λ n. turns_after n w) z ∙ turns-then (length w.nodes * w.delay + 80 * w.delay) j w) (holds-over w l (80 * w.delay + j) low)
+
+    go : (b : Bool) → is_in_bus_reset x.state.view.phase ≡ b → b ≡ false
+    go false e = refl
+    go true e =
+        let j : ℕ = i - 80 * w.delay - 1 in
+        let some : 1 ≤ w.delay = l.well_formed.some_delay in
+        let z : length w.nodes * w.delay + i ≡ length w.nodes * w.delay + 80 * w.delay + (j + 1) = omega (arith, late, some) in
+        let is : turns_after (length w.nodes * w.delay + i) w ≡ turns_after (j + 1) start = ap (λ n. turns_after n w) z ∙ turns-then (length w.nodes * w.delay + 80 * w.delay) (j + 1) w in
+        absurd (wait-ends start m calm k j (omega (arith, late, some, after-delay w l (length w.nodes * w.delay + 80 * w.delay)))
+        (x, ap (λ (u : CableWorld). slice_get u.nodes k) (sym is) ∙ at, e))
+
+-- then no Reset is under way
+pub no-resets :
+    (w : CableWorld) (a b : End) → IsLawful w → ResetsAreDone w → far w.cabling a ≡ Some b →
+    has_reset (signals_of (wire_of w a).signals) ≡ false
+no-resets w a b l done e = go (has_reset (signals_of (wire_of w a).signals)) refl
+  where
+    go : (r : Bool) → has_reset (signals_of (wire_of w a).signals) ≡ r → r ≡ false
+    go false h = refl
+    go true h =
+        let j = joined-of w a b l.well_formed e in
+        let there : is_resetting j.near.state.view.phase ≡ true = (l.coupled.cables a b j.near j.other e j.near_at j.other_at).reset h in
+        absurd (true≢false (sym there ∙ done-calm w done a.node j.near j.near_at))
+
+pub done-over : (w : CableWorld) → IsLawful w → ResetsAreDone w → ResetsAreOver w
+done-over w l done a b y e at r = absurd (true≢false (sym r ∙ no-resets w a b l done e))

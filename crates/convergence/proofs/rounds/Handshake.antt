@@ -1,0 +1,286 @@
+-- A node in T1 without child in T1 leaves T1 within 2d turns: its children see Child after d turns
+-- and go on, and it sees
+-- their Idle d turns later.
+use Rattle.std.proofs.Common.{◌≡◌, ◌⊎◌, inl, inr, ℕ, zero, suc, ◌+◌, ◌-◌, ◌≤◌, Bool, true, false, Option, Some, None, is_some, slice_get, refl, sym, ◌∙◌, ap, subst, arith, add-one, true≢false}
+use Rattle.cabling.specs.declared.cable.End.{End}
+use Rattle.cabling.specs.Wiring.{Wiring, far}
+use Rattle.cabling.specs.NodeSet.{Holds}
+use Rattle.cabling.proofs.Near.{end_at}
+use Rattle.port_state.specs.declared.signal.Phase.{Phase}
+use Rattle.port_state.specs.declared.signal.Phase.TheVariants as phase
+use Rattle.port_state.specs.declared.states.NodeState.{NodeState}
+use Rattle.port_state.specs.Coins.{coin}
+use Rattle.port_state.specs.Ports.{is_idle, is_child, is_port, is_connected}
+use Rattle.port_state.specs.Tick.{tick}
+use Rattle.port_state.specs.Machine.{PortNode}
+use Rattle.cable_world.specs.World.{CableWorld}
+use Rattle.cable_world.specs.Turn.{turns_after}
+use Rattle.cable_world.specs.Agreement.{level_sent, level_shown, leads_down}
+use Rattle.cable_world.specs.Phases.{is_before_tree, is_shaking}
+use Rattle.cable_world.proofs.turns.ByNumber.{no-turns}
+use Rattle.cable_world.proofs.resets.Entries.{after-delay}
+use Rattle.cable_world.proofs.tables.CableEnds.{cable-connected}
+use Rattle.cable_world.proofs.Options.{some-same}
+use Rattle.convergence.specs.Acyclic.{IsChildCable}
+use Rattle.convergence.proofs.turns.CalmTurns.{Calmly, heard_by}
+use Rattle.convergence.proofs.turns.Flush.{after-cabling, Tells, Shown, flush}
+use Rattle.cable_world.proofs.turns.ByNumber.{turns-then}
+use Rattle.convergence.proofs.rounds.Grown.{Grown, weight_in, child-cable, below-cable, parent-only, grown-after, cable-after, weight-step, weight-after, calm-at}
+use Rattle.convergence.proofs.turns.Moves.{all_idle, tick-child-shake}
+use Rattle.convergence.proofs.turns.Weights.{weigh, weight, still-shakes, tick-child-shake-by, tick-parent-shake-by, tick-accepted, Busy, some-busy}
+use Rattle.convergence.proofs.turns.PhaseFacts.{start-late, not-shake}
+
+shake-two : (f : Phase) → is_shaking f ≡ true → (f ≡ phase.ChildShake) ⊎ (f ≡ phase.ParentShake)
+shake-two f h = grind arith
+
+child-out :
+    (f : Phase) (b : Bool) → f ≡ phase.ChildShake → b ≡ true → is_child (level_sent f b) ≡ true
+child-out f b h c = grind arith
+
+idle-out :
+    (f : Phase) (b : Bool) → is_before_tree f ≡ false → is_shaking f ≡ false → b ≡ false →
+    is_idle (level_sent f b) ≡ true
+idle-out f b l h c = grind arith
+
+not-ident : (f : Phase) → f ≡ phase.SelfIdent → f ≡ phase.ParentShake → ⊥
+not-ident f a b = cc
+
+not-contend : (f : Phase) → f ≡ phase.ChildShake → f ≡ phase.Contend → ⊥
+not-contend f a b = cc
+
+-- a node of the set in T1
+pub record Shakes (w : CableWorld) (k : ℕ) : Type 0 where
+  pub node : PortNode
+  pub at : slice_get w.nodes k ≡ Some node
+  pub shakes : node.state.view.phase ≡ phase.ChildShake
+
+module _ (v : CableWorld) (set : ℕ) (g : Grown v set) (u : ℕ) (in_set : Holds set u) (s : Shakes v u)
+    (bottom : (a b : End) → (e : IsChildCable v a b) → a.node ≡ u → e.below.state.view.phase ≡ phase.ChildShake → ⊥) where
+  abbrev later : ℕ → CableWorld
+  later i = turns_after i v
+
+  -- u is as heavy as now
+  abbrev C : ℕ → Type 0
+  C i = weight s.node.state ≤ weight_in (slice_get (later i).nodes u)
+
+  was : (i : ℕ) → C (i + 1) → C i
+  was i c = omega (arith, c, weight-step v set g u in_set i)
+
+  -- so it is in T1
+  there : (i : ℕ) → C i → Shakes (later i) u
+  there i c = go (slice_get (later i).nodes u) refl
+    where
+      heavy : weight s.node.state ≡ weigh phase.ChildShake s.node.state.view.parent
+      heavy = ap (λ f. weigh f s.node.state.view.parent) s.shakes
+
+      go : (o : Option PortNode) → slice_get (later i).nodes u ≡ o → Shakes (later i) u
+      go None e = absurd (omega (arith, c, heavy, ap weight_in e))
+      go (Some z) e =
+          let same : weight z.state ≡ weigh phase.ChildShake s.node.state.view.parent = omega (arith, c, heavy, ap weight_in e, weight-after v set g u in_set i, ap weight_in s.at) in
+          record { node = z; at = e; shakes = still-shakes z.state.view.phase z.state.view.parent s.node.state.view.parent same }
+
+  before :
+      (i : ℕ) (y : PortNode) (h : Calmly (later i) u y.state) → C i →
+      h.node.state.view.phase ≡ phase.ChildShake
+  before i y h c =
+      let t = there i c in
+      ap (λ (z : PortNode). z.state.view.phase) (some-same h.node t.node (sym h.at ∙ t.at)) ∙ t.shakes
+
+  -- ---- one child
+
+  module _ (p : ℕ) (b : End) (e : IsChildCable v (end_at u p) b) where
+    cable : (i : ℕ) → IsChildCable (later i) (end_at u p) b
+    cable i = cable-after v set g (end_at u p) b e i
+
+    tells-child : (i : ℕ) → C i → Tells (later i) (end_at u p) is_child
+    tells-child i c z at =
+        let t = there i c in
+        let k = cable i in
+        child-out z.state.view.phase (leads_down z.state.view.ports p)
+        (ap (λ (n : PortNode). n.state.view.phase) (some-same z t.node (sym at ∙ t.at)) ∙ t.shakes)
+        (ap (λ (n : PortNode). leads_down n.state.view.ports p) (some-same z k.above (sym at ∙ k.above_at)) ∙ k.child)
+
+    shown-child : (i : ℕ) → v.delay ≤ i → C i → Shown (later i) b is_child
+    shown-child = flush v g.lawful (end_at u p) b e.joined is_child C was tells-child
+
+    -- what the child was a turn before, as the cable tells it
+    record Child (i : ℕ) (y : PortNode) : Type 0 where
+      calm : Calmly (later i) b.node y.state
+      parent : is_port (heard_by (later i) b.node calm.node).view.parent b.port ≡ true
+      on : is_connected (heard_by (later i) b.node calm.node).view.ports b.port ≡ true
+      late : is_before_tree (heard_by (later i) b.node calm.node).view.phase ≡ false
+      meets : (heard_by (later i) b.node calm.node).view.phase ≡ phase.Contend → ⊥
+
+    child-of : (i : ℕ) (y : PortNode) → slice_get (later (i + 1)).nodes b.node ≡ Some y → Child i y
+    child-of i y at =
+        let h = calm-at v set g i b.node y at in
+        let k = cable i in
+        let gi = grown-after v set g i in
+        let same : k.below ≡ h.node = some-same k.below h.node (sym k.below_at ∙ h.at) in
+        record {
+          calm = h;
+          parent = ap (λ o. is_port o b.port) h.heard.parent ∙ ap (λ (n : PortNode). is_port n.state.view.parent b.port) (sym same) ∙ k.parent;
+          on = h.hears.cables b.port ∙ cable-connected (later i) b (end_at u p) h.node gi.lawful.well_formed (gi.lawful.well_formed.cabling.both_ways (end_at u p) b k.joined) h.at;
+          late = ap is_before_tree h.heard.phase ∙ gi.late b.node h.node (gi.closed (end_at u p) b k.joined in_set) h.at;
+          meets = λ t. (below-cable (later i) set gi (end_at u p) b k).calm (ap (λ (n : PortNode). n.state.view.phase) same ∙ sym h.heard.phase ∙ t);
+        }
+
+    -- the child isn't in T1
+    never :
+        (i : ℕ) (y : PortNode) → slice_get (later i).nodes b.node ≡ Some y →
+        y.state.view.phase ≡ phase.ChildShake → ⊥
+    never zero y at t =
+        bottom (end_at u p) b e refl
+        (ap (λ (n : PortNode). n.state.view.phase) (some-same e.below y (sym e.below_at ∙ ap (λ (w : CableWorld). slice_get w.nodes b.node) (sym (no-turns v)) ∙ at)) ∙ t)
+    never (suc i) y at t = go (never i)
+      where
+        c : Child i y
+        c = child-of i y (subst (λ n. slice_get (turns_after n v).nodes b.node ≡ Some y) (sym (add-one i)) at)
+
+        go :
+            ((z : PortNode) → slice_get (later i).nodes b.node ≡ Some z → z.state.view.phase ≡ phase.ChildShake → ⊥)
+            → ⊥
+        go none = elim (tick-child-shake-by (coin c.calm.node.coins) (heard_by (later i) b.node c.calm.node) (sym (ap (λ (z : NodeState). z.view.phase) c.calm.is) ∙ t)) [
+          | inl f ↦ none c.calm.node c.calm.at (sym c.calm.heard.phase ∙ f)
+          | inr f ↦ elim f [
+            | inl f ↦ start-late (heard_by (later i) b.node c.calm.node).view.phase f c.late
+            | inr f ↦ c.meets f
+          ]
+        ]
+
+    -- after d turns it isn't in T2 either
+    gone-on :
+        (i : ℕ) → v.delay ≤ i → C i → (y : PortNode) → slice_get (later i).nodes b.node ≡ Some y →
+        y.state.view.phase ≡ phase.ParentShake → ⊥
+    gone-on zero d c y at t = omega (arith, d, g.lawful.well_formed.some_delay)
+    gone-on (suc i) d c y at t = elim (tick-parent-shake-by (coin k.calm.node.coins) (heard_by (later i) b.node k.calm.node) (sym (ap (λ (z : NodeState). z.view.phase) k.calm.is) ∙ t)) [
+      | inl f ↦ not-ident y.state.view.phase
+          (ap (λ (z : NodeState). z.view.phase) k.calm.is ∙ tick-accepted (coin k.calm.node.coins) (heard_by (later i) b.node k.calm.node) b.port f k.parent k.on shown)
+          t
+      | inr f ↦ elim f [
+        | inl f ↦ never i k.calm.node k.calm.at (sym k.calm.heard.phase ∙ f)
+        | inr f ↦ k.meets f
+      ]
+    ]
+      where
+        k : Child i y
+        k = child-of i y (subst (λ n. slice_get (turns_after n v).nodes b.node ≡ Some y) (sym (add-one i)) at)
+
+        shown : is_child (level_shown (heard_by (later i) b.node k.calm.node) b.port) ≡ true
+        shown = ap is_child (sym (k.calm.ticks.shown b.port)) ∙ ap (λ (z : NodeState). is_child (level_shown z b.port)) (sym k.calm.is) ∙ shown-child (suc i) d c y at
+
+    tells-idle : (i : ℕ) → v.delay ≤ i → C i → Tells (later i) b is_idle
+    tells-idle i d c y at =
+        let k = cable i in
+        let gi = grown-after v set g i in
+        let back : far (later i).cabling b ≡ Some (end_at u p) = gi.lawful.well_formed.cabling.both_ways (end_at u p) b k.joined in
+        idle-out y.state.view.phase (leads_down y.state.view.ports b.port) (gi.late b.node y (gi.closed (end_at u p) b k.joined in_set) at) (go (is_shaking y.state.view.phase) refl)
+        (parent-only (later i) set gi b (end_at u p) y back at (ap (λ (n : PortNode). is_port n.state.view.parent b.port) (some-same y k.below (sym at ∙ k.below_at)) ∙ k.parent))
+      where
+        go : (q : Bool) → is_shaking y.state.view.phase ≡ q → q ≡ false
+        go false h = refl
+        go true h = absurd (elim (shake-two y.state.view.phase h) [ inl f ↦ never i y at f | inr f ↦ gone-on i d c y at f ])
+
+    abbrev D : ℕ → Type 0
+    D i = C (v.delay + i)
+
+    was-then : (i : ℕ) → D (i + 1) → D i
+    was-then i c = let z : v.delay + (i + 1) ≡ v.delay + i + 1 = omega arith in was (v.delay + i) (subst C z c)
+
+    then-tells : (i : ℕ) → D i → Tells (turns_after i (later v.delay)) b is_idle
+    then-tells i c = subst (λ (w : CableWorld). Tells w b is_idle) (turns-then v.delay i v) (tells-idle (v.delay + i) (omega arith) c)
+
+    -- d turns later u sees Idle
+    shown-idle : C (v.delay + v.delay) → Shown (later (v.delay + v.delay)) (end_at u p) is_idle
+    shown-idle c =
+        let gd = grown-after v set g v.delay in
+        let k = cable v.delay in
+        subst (λ (w : CableWorld). Shown w (end_at u p) is_idle) (sym (turns-then v.delay v.delay v))
+        (flush (later v.delay) gd.lawful b (end_at u p) (gd.lawful.well_formed.cabling.both_ways (end_at u p) b k.joined) is_idle D was-then then-tells v.delay (omega (arith, after-delay v g.lawful v.delay)) c)
+
+  -- ---- all children
+
+  -- a child port has been one
+  child-was :
+      (p : ℕ) (b : End) → far v.cabling (end_at u p) ≡ Some b → (i : ℕ) → C i → (z : PortNode) →
+      slice_get (later i).nodes u ≡ Some z → leads_down z.state.view.ports p ≡ true →
+      leads_down s.node.state.view.ports p ≡ true
+  child-was p b e zero c z at d =
+      ap (λ (n : PortNode). leads_down n.state.view.ports p) (some-same s.node z (sym s.at ∙ ap (λ (w : CableWorld). slice_get w.nodes u) (sym (no-turns v)) ∙ at)) ∙ d
+  child-was p b e (suc i) c z at d = go (child-was p b e i ci)
+    where
+      ci : C i
+      ci = was i (subst C (sym (add-one i)) c)
+
+      h : Calmly (later i) u z.state
+      h = calm-at v set g i u z (subst (λ n. slice_get (turns_after n v).nodes u ≡ Some z) (sym (add-one i)) at)
+
+      shakes : (heard_by (later i) u h.node).view.phase ≡ phase.ChildShake
+      shakes = h.heard.phase ∙ before i z h ci
+
+      on : is_connected (heard_by (later i) u h.node).view.ports p ≡ true
+      on = h.hears.cables p ∙ cable-connected (later i) (end_at u p) b h.node (grown-after v set g i).lawful.well_formed (ap (λ (c : Wiring). far c (end_at u p)) (after-cabling i v) ∙ e) h.at
+
+      go :
+          ((n : PortNode) → slice_get (later i).nodes u ≡ Some n → leads_down n.state.view.ports p ≡ true → leads_down s.node.state.view.ports p ≡ true)
+          → leads_down s.node.state.view.ports p ≡ true
+      go before = elim (h.ticks.child p on (sym (ap (λ (n : NodeState). leads_down n.view.ports p) h.is) ∙ d)) [
+        | inl k ↦ before h.node h.at (sym (h.heard.child p) ∙ k)
+        | inr k ↦ elim k [
+          | inl k ↦ absurd (start-late (heard_by (later i) u h.node).view.phase k.0 (ap is_before_tree shakes))
+          | inr k ↦ absurd (not-contend (heard_by (later i) u h.node).view.phase shakes k.0)
+        ]
+      ]
+
+  not-still : C (v.delay + v.delay) → ⊥
+  not-still c = go (tick-child-shake (coin h.node.coins) mid (h.heard.phase ∙ before j t.node h cj))
+    where
+      j : ℕ
+      j = v.delay + v.delay - 1
+
+      z : j + 1 ≡ v.delay + v.delay
+      z = omega (arith, g.lawful.well_formed.some_delay)
+
+      cj : C j
+      cj = was j (subst C (sym z) c)
+
+      t : Shakes (later (v.delay + v.delay)) u
+      t = there (v.delay + v.delay) c
+
+      h : Calmly (later j) u t.node.state
+      h = calm-at v set g j u t.node (ap (λ n. slice_get (turns_after n v).nodes u) z ∙ t.at)
+
+      mid : NodeState
+      mid = heard_by (later j) u h.node
+
+      busy : Busy mid → ⊥
+      busy k = there-is (far v.cabling (end_at u k.port)) refl
+        where
+          gj : Grown (later j) set
+          gj = grown-after v set g j
+
+          there-is : (o : Option End) → far v.cabling (end_at u k.port) ≡ o → ⊥
+          there-is None e = true≢false
+              (sym k.on ∙ h.hears.cables k.port ∙ (gj.lawful.well_formed.nodes u h.node h.at).connected k.port ∙ ap (λ (c : Wiring). is_some (far c (end_at u k.port))) (after-cabling j v) ∙ ap is_some e)
+          there-is (Some b) e =
+              let down : leads_down s.node.state.view.ports k.port ≡ true = child-was k.port b e j cj h.node h.at (sym (h.heard.child k.port) ∙ k.child) in
+              let shown = shown-idle k.port b (child-cable v set g (end_at u k.port) b s.node e s.at down) c t.node t.at in
+              true≢false (sym shown ∙ ap (λ (n : NodeState). is_idle (level_shown n k.port)) h.is ∙ ap is_idle (h.ticks.shown k.port) ∙ k.busy)
+
+      go :
+          ((all_idle mid ≡ true) × ((tick (coin h.node.coins) mid).state.view.phase ≡ phase.ParentShake))
+          ⊎ ((all_idle mid ≡ false) × ((tick (coin h.node.coins) mid).state.view.phase ≡ phase.ChildShake))
+          → ⊥
+      go (inl a) = not-shake t.node.state.view.phase (ap (λ (n : NodeState). n.view.phase) h.is ∙ a.1) t.shakes
+      go (inr a) = busy (some-busy mid a.0)
+
+  -- so it is lighter
+  pub lighter :
+      weight_in (slice_get (turns_after (v.delay + v.delay) v).nodes u) + 1 ≤ weight s.node.state
+  lighter = elim (less-or (weight_in (slice_get (later (v.delay + v.delay)).nodes u)) (weight s.node.state)) [
+    | inl a ↦ a
+    | inr a ↦ absurd (not-still a)
+  ]
+    where
+      less-or : (m n : ℕ) → (m + 1 ≤ n) ⊎ (n ≤ m)
+      less-or m n = grind arith

@@ -1,0 +1,200 @@
+-- Where a component without loop knows its tree, it comes to self identify or to a contention, and
+-- stays there.
+use Rattle.std.proofs.Common.{◌≡◌, ◌⊎◌, inl, inr, ℕ, ◌+◌, ◌-◌, ◌*◌, ◌≤◌, true, false, length, refl, sym, ◌∙◌, ap, subst, arith}
+use Rattle.std.proofs.lemmas.Bool.{cases_lt}
+use Rattle.cabling.specs.declared.cable.End.{End}
+use Rattle.cabling.specs.NodeSet.{Holds, IsEmpty}
+use Rattle.cabling.specs.Component.{IsComponent}
+use Rattle.cabling.specs.Looped.{IsCore}
+use Rattle.port_state.specs.declared.signal.Phase.{Phase}
+use Rattle.port_state.specs.declared.signal.Phase.TheVariants as phase
+use Rattle.cable_world.specs.World.{CableWorld, wire_of}
+use Rattle.cable_world.specs.Turn.{turn, turns_after}
+use Rattle.cable_world.specs.Phases.{is_shaking}
+use Rattle.cable_world.specs.Outcome.{HasNoLoop}
+use Rattle.cable_world.proofs.turns.ByNumber.{cabling-after, one-more}
+use Rattle.cable_world.proofs.resets.Entries.{after-delay, after-length}
+use Rattle.convergence.specs.Rivals.{AreRivals}
+use Rattle.convergence.specs.Drawers.{AreMutual}
+use Rattle.convergence.specs.Kept.{IsGrown}
+use Rattle.convergence.specs.Turns.{decision_turns}
+use Rattle.convergence.specs.Milestones.{AreIdentifying, HasContention, IdentifyOrContend, TreesAreDecided}
+use Rattle.convergence.proofs.rounds.ThirtyThreeRounds.{contend, contention-turn, contention-after, rounds}
+use Rattle.convergence.proofs.turns.Flush.{after-cabling}
+use Rattle.cable_world.proofs.turns.ByNumber.{turns-then}
+use Rattle.convergence.proofs.rounds.Grown.{Grown, grown-after}
+use Rattle.convergence.proofs.rounds.Rooted.{component-after, identify-after, rooted-ends}
+use Rattle.convergence.proofs.rounds.RivalSteps.{AreUp}
+use Rattle.convergence.proofs.rounds.Rounds.{At}
+use Rattle.convergence.proofs.rounds.Shaken.{NoneShakes, is_unrooted, search-set, shaken-out, rival-of, all-identify, identify-turn}
+use Rattle.convergence.proofs.turns.Weights.{is_child_shake}
+
+shake-parent : (f : Phase) → is_shaking f ≡ true → is_child_shake f ≡ false → f ≡ phase.ParentShake
+shake-parent f a b = grind arith
+
+-- two rivals, where nobody is in T1
+rivals-up :
+    (w : CableWorld) (set : ℕ) → Grown w set → NoneShakes w set → (a b : End) → Holds set a.node →
+    AreMutual w a b → At w set a b (AreUp a.port b.port 0)
+rivals-up w set g none a b in_a m = record {
+  ends = m.ends;
+  holds = in_a;
+  is = record {
+    here = record { up = m.here; draws = omega arith };
+    there = record { up = m.there; draws = omega arith };
+    first = (go stand).0;
+    second = (go stand).1;
+  };
+}
+  where
+    x-quiet : is_child_shake m.ends.near.state.view.phase ≡ false
+    x-quiet = none a.node m.ends.near in_a m.ends.near_at
+
+    y-quiet : is_child_shake m.ends.other.state.view.phase ≡ false
+    y-quiet = none b.node m.ends.other (g.closed a b m.ends.joined in_a) m.ends.other_at
+
+    stand :
+        AreRivals w.delay m.ends.near.state a.port (wire_of w a).signals m.ends.other.state b.port (wire_of w b).signals
+    stand = (g.contested.cables a b m.ends.near m.ends.other m.ends.joined m.ends.near_at m.ends.other_at).rivals m.here m.there
+
+    go :
+        AreRivals w.delay m.ends.near.state a.port (wire_of w a).signals m.ends.other.state b.port (wire_of w b).signals →
+        ((m.ends.near.state.view.phase ≡ phase.ParentShake) ⊎ (m.ends.near.state.view.phase ≡ phase.Contend)) × ((m.ends.other.state.view.phase ≡ phase.ParentShake) ⊎ (m.ends.other.state.view.phase ≡ phase.Contend))
+    go (inl h) = (inl (shake-parent m.ends.near.state.view.phase h.here x-quiet), inl (shake-parent m.ends.other.state.view.phase h.there y-quiet))
+    go (inr (inl h)) = (inr h.here, inr h.there)
+    go (inr (inr (inl h))) = (inr h.here, inl (shake-parent m.ends.other.state.view.phase h.there y-quiet))
+    go (inr (inr (inr h))) = (inl (shake-parent m.ends.near.state.view.phase h.there x-quiet), inr h.here)
+
+-- within so many turns
+abbrev most : ℕ → ℕ → ℕ
+most n d = 3 * n * (d + d) + (33 * (12 * d) + 22 * d) + (3 * n * (d + d) + 1)
+
+settles :
+    (v : CableWorld) (set node : ℕ) → Grown v set → IsComponent v.cabling node set →
+    HasNoLoop v set → (i : ℕ) × (i ≤ most (length v.nodes) v.delay)
+    × IdentifyOrContend (turns_after i v) set
+settles v set node g whole free =
+    let s = shaken-out set v g in
+    let w : CableWorld = turns_after s.0 v in
+    let gw : Grown w set = grown-after v set g s.0 in
+    elim (search-set set is_unrooted w) [
+      | inl none ↦ (s.0 + 1, omega (arith, s.1), inl (subst (λ (u : CableWorld). AreIdentifying u set) (sym (one-more s.0 v)) (all-identify w set gw s.2 none)))
+      | inr f ↦
+          let m = rival-of w set gw s.2 f.0 f.1 in
+          let up = rivals-up w set gw s.2 m.0 m.1 (subst (Holds set) (sym m.2) f.1.holds) m.3 in
+          let d : w.delay ≡ v.delay = after-delay v g.lawful s.0 in
+          elim (rounds set m.0 m.1 33 0 (omega arith) w gw up) [
+            | inl t ↦
+                let same : turns_after (s.0 + t.0) v ≡ turns_after t.0 w = turns-then s.0 t.0 v in (
+                  s.0 + t.0,
+                  omega (arith, s.1, t.1, d),
+                  inr (subst (λ (u : CableWorld). HasContention u set) (sym same)
+                      (contend (turns_after t.0 w) set (grown-after w set gw t.0) m.0 m.1 (let z : 0 + 33 ≡ 33 = omega arith in subst (λ k. At (turns_after t.0 w) set m.0 m.1 (AreUp m.0.port m.1.port k)) z t.2)
+                      (subst (λ (u : CableWorld). HasNoLoop u set) same (no-loop-after (s.0 + t.0))))),
+                )
+            | inr t ↦
+                let u : CableWorld = turns_after t.0 w in
+                let gu : Grown u set = grown-after w set gw t.0 in
+                let e = rooted-ends set u gu node (component-after set w node t.0 (component-after set v node s.0 whole)) t.2 in
+                let z : s.0 + (t.0 + e.0) ≡ s.0 + (t.0 + e.0) = refl in (
+                  s.0 + (t.0 + e.0),
+                  sums (length v.nodes) (length u.nodes) v.delay u.delay w.delay s.0 t.0 e.0 (after-length w gw.lawful t.0 ∙ after-length v g.lawful s.0) (after-delay w gw.lawful t.0 ∙ d) d s.1 t.1 e.1,
+                  inl (subst (λ (u : CableWorld). AreIdentifying u set) (sym (turns-then s.0 (t.0 + e.0) v)) (subst (λ (u : CableWorld). AreIdentifying u set) (sym (turns-then t.0 e.0 w)) e.2)),
+                )
+          ]
+    ]
+  where
+    no-loop-after : (i : ℕ) → HasNoLoop (turns_after i v) set
+    no-loop-after i = record { core = free.core; is_core = subst (λ c. IsCore c set free.core) (sym (after-cabling i v)) free.is_core; empty = free.empty }
+
+    sums :
+        (n m d e c i j k : ℕ) → m ≡ n → e ≡ d → c ≡ d → i ≤ 3 * n * (d + d) → j ≤ 33 * (12 * c)
+        + 22 * c → k ≤ 3 * m * (e + e) + 1 → i + (j + k) ≤ most n d
+    sums n m d e c i j k same delay delay_too h l q =
+        let q_too : k ≤ 3 * n * (d + d) + 1 = subst (λ a. k ≤ 3 * a * (d + d) + 1) same (subst (λ a. k ≤ 3 * m * (a + a) + 1) delay q) in
+        omega (arith, h, l, delay_too, q_too)
+
+-- and stays
+settled :
+    (v : CableWorld) (set node : ℕ) → Grown v set → IsComponent v.cabling node set →
+    HasNoLoop v set → (i : ℕ) → most (length v.nodes) v.delay ≤ i →
+    IdentifyOrContend (turns_after i v) set
+settled v set node g whole free i late =
+    let s = settles v set node g whole free in
+    let w : CableWorld = turns_after s.0 v in
+    let gw : Grown w set = grown-after v set g s.0 in
+    let z : i ≡ s.0 + (i - s.0) = omega (arith, late, s.1) in
+    let same : turns_after i v ≡ turns_after (i - s.0) w = ap (λ n. turns_after n v) z ∙ turns-then s.0 (i - s.0) v in
+    subst (λ (u : CableWorld). IdentifyOrContend u set) (sym same) (elim s.2 [
+      | inl t ↦ inl (identify-after set w gw (i - s.0) t)
+      | inr t ↦ inr (contention-after w set gw (i - s.0) t)
+    ])
+
+-- ---- the share
+
+square : (n : ℕ) → 10 * n ≤ n * n + 100
+square n = elim (cases_lt n 10) [
+  | inl l ↦ omega (arith, l)
+  | inr l ↦
+      let k : ℕ = n - 10 in
+      let z : n ≡ 10 + k = omega (arith, l) in
+      high n k z
+]
+  where
+    high : (n k : ℕ) → n ≡ 10 + k → 10 * n ≤ n * n + 100
+    high n k z =
+        let p : (10 + k) * (10 + k) ≡ 10 * (10 + k) + k * (10 + k) = grind arith in
+        subst (λ m. 10 * m ≤ m * m + 100) (sym z) (omega (arith, p))
+
+share : (n d : ℕ) → 1 ≤ d → most n d ≤ d * (600 + n * n + 2 * n)
+share n d some =
+    let r : ℕ = 600 + n * n + 2 * n - (12 * n + 419) in
+    let z : 600 + n * n + 2 * n ≡ 12 * n + 419 + r = omega (arith, square n) in
+    parts n d r (600 + n * n + 2 * n) some z
+  where
+    parts : (n d r s : ℕ) → 1 ≤ d → s ≡ 12 * n + 419 + r → most n d ≤ d * s
+    parts n d r s some z =
+        let p : d * (12 * n + 419 + r) ≡ 12 * (n * d) + 419 * d + d * r = grind arith in
+        let q : 3 * n * (d + d) ≡ 6 * (n * d) = grind arith in
+        subst (λ t. most n d ≤ d * t) (sym z) (omega (arith, p, q, some))
+
+-- ---- a component without loop
+
+-- a world in which trees are taken, seen from one of its trees
+pub grown-of :
+    (w : CableWorld) (node set core : ℕ) → IsGrown w → IsComponent w.cabling node set →
+    IsCore w.cabling set core → IsEmpty core → Grown w set
+grown-of w node set core g whole is empty = record {
+  lawful = g.lawful;
+  acyclic = g.acyclic;
+  contested = g.contested;
+  done = g.done;
+  closed = whole.closed;
+  late = g.taken node set core whole is empty;
+}
+
+pub decided-after :
+    (w : CableWorld) (k : ℕ) → IsGrown w → decision_turns w ≤ k → TreesAreDecided (turns_after k w)
+decided-after w k g late node set core whole is empty =
+    let same = after-cabling k w in
+    let comp : IsComponent w.cabling node set = subst (λ c. IsComponent c node set) same whole in
+    let is_core : IsCore w.cabling set core = subst (λ c. IsCore c set core) same is in
+    settled w set node (grown-of w node set core g comp is_core empty) comp (record { core = core; is_core = is_core; empty = empty }) k
+    (omega (arith, share (length w.nodes) w.delay g.lawful.well_formed.some_delay, late))
+
+-- a turn keeps it
+pub decided-turn : (w : CableWorld) → IsGrown w → TreesAreDecided w → TreesAreDecided (turn w)
+decided-turn w grown s node set core whole is empty = go (s node set core comp is_core empty)
+  where
+    comp : IsComponent w.cabling node set
+    comp = subst (λ c. IsComponent c node set) (cabling-after w) whole
+
+    is_core : IsCore w.cabling set core
+    is_core = subst (λ c. IsCore c set core) (cabling-after w) is
+
+    g : Grown w set
+    g = grown-of w node set core grown comp is_core empty
+
+    go : IdentifyOrContend w set → IdentifyOrContend (turn w) set
+    go (inl a) = inl (identify-turn w set g a)
+    go (inr a) = inr (contention-turn w set g a)

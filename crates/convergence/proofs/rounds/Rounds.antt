@@ -1,0 +1,518 @@
+-- A round of a contention: within 12d turns both rivals draw once more, or within 22d turns one has
+-- taken the other as child.
+use Rattle.std.proofs.Common.{◌≡◌, ◌⊎◌, inl, inr, ℕ, zero, suc, ◌+◌, ◌-◌, ◌*◌, ◌<◌, ◌≤◌, Bool, true, false, None, Some, slice_get, sym, ◌∙◌, ap, subst, arith}
+use Rattle.std.specs.Prelude.{min}
+use Rattle.cabling.specs.declared.cable.End.{End}
+use Rattle.cabling.specs.Wiring.{Wiring, far}
+use Rattle.cabling.specs.NodeSet.{Holds}
+use Rattle.port_state.specs.declared.signal.Phase.{Phase}
+use Rattle.port_state.specs.declared.signal.Phase.TheVariants as phase
+use Rattle.port_state.specs.declared.states.NodeState.{NodeState}
+use Rattle.port_state.specs.Coins.{coin}
+use Rattle.port_state.specs.Ports.{is_parent, is_port}
+use Rattle.port_state.specs.Machine.{PortNode}
+use Rattle.cable_world.specs.World.{CableWorld, wire_of}
+use Rattle.cable_world.specs.Turn.{turn_at, turn, turns_after}
+use Rattle.cable_world.specs.Agreement.{level_sent, level_shown, leads_down}
+use Rattle.cable_world.proofs.turns.ByNumber.{no-turns, node-after, cabling-after, delay-after}
+use Rattle.cable_world.proofs.coupling.CouplingInTurns.{side, side-node}
+use Rattle.cable_world.proofs.resets.Entries.{after-delay}
+use Rattle.cable_world.proofs.tables.CableEnds.{cable-connected}
+use Rattle.cable_world.proofs.Options.{some-same}
+use Rattle.cable_world.proofs.coupling.Sides.{hearing, ticking}
+use Rattle.cable_world.proofs.turns.NodeFacts.{NoEntry}
+use Rattle.convergence.specs.Coins.{KnowsCoins}
+use Rattle.convergence.specs.Rivals.{IsAhead, AsksAgain, AreRivals}
+use Rattle.convergence.specs.Cables.{AreJoined}
+use Rattle.convergence.proofs.turns.CalmTurns.{Calmly, heard_by}
+use Rattle.convergence.proofs.coins.StaysContested.{rivals-of}
+use Rattle.convergence.proofs.turns.Flush.{Tells, flush}
+use Rattle.cable_world.proofs.turns.ByNumber.{turns-then}
+use Rattle.convergence.proofs.rounds.Grown.{Grown, parent-only, hears-on, grown-turn, grown-after, calm-at}
+use Rattle.convergence.proofs.coins.Rivals.{Rivals, swapped, no-contend}
+use Rattle.convergence.proofs.rounds.RivalSteps.{BothWait, OneWaits, BothAsk, OneAhead, AreUp, step-both-wait, step-one-waits, step-both-ask, step-one-ahead}
+use Rattle.convergence.proofs.rounds.Rooted.{HasRoot}
+use Rattle.convergence.proofs.turns.Weights.{tick-begins}
+
+-- ---- turn by turn
+
+module _ (set : ℕ) where
+  module _
+      (S : ℕ → CableWorld → Type 0) (T : CableWorld → Type 0)
+      (step : (w : CableWorld) → Grown w set → (i : ℕ) → S i w → S (i + 1) (turn w) ⊎ T (turn w))
+    where
+      run :
+          (n i : ℕ) (w : CableWorld) → Grown w set → S i w → S (i + n) (turns_after n w)
+          ⊎ ((j : ℕ) × (j ≤ n) × T (turns_after j w))
+      unfolding turns_after
+      run zero i w g s = let z : i + 0 ≡ i = omega arith in inl (subst (λ k. S k w) (sym z) s)
+      run (suc n) i w g s = elim (step w g i s) [
+        | inr t ↦ let few : 1 ≤ suc n = omega arith in inr (1, few, t)
+        | inl t ↦ elim (run n (i + 1) (turn w) (grown-turn w set g) t) [
+          | inl u ↦ let z : i + 1 + n ≡ i + suc n = omega arith in inl (subst (λ k. S k (turns_after n (turn w))) z u)
+          | inr u ↦ let few : suc u.0 ≤ suc n = omega (arith, u.1) in inr (suc u.0, few, u.2)
+        ]
+      ]
+
+  module _
+      (S T : CableWorld → Type 0)
+      (step : (w : CableWorld) → Grown w set → S w → S (turn w) ⊎ T (turn w)) where
+    all-along :
+        (n : ℕ) (w : CableWorld) → S w → ((j : ℕ) → j ≤ n → S (turns_after j (turn w))) → (j : ℕ) →
+        j ≤ suc n → S (turns_after j w)
+    unfolding turns_after
+    all-along n w s rest zero h = s
+    all-along n w s rest (suc j) h = rest j (omega (arith, h))
+
+    run-all :
+        (n : ℕ) (w : CableWorld) → Grown w set → S w → ((j : ℕ) → j ≤ n → S (turns_after j w))
+        ⊎ ((j : ℕ) × (j ≤ n) × T (turns_after j w))
+    unfolding turns_after
+    run-all zero w g s = inl (λ j h. let z : j ≡ 0 = omega (arith, h) in subst (λ k. S (turns_after k w)) (sym z) s)
+    run-all (suc n) w g s = elim (step w g s) [
+      | inr t ↦ let few : 1 ≤ suc n = omega arith in inr (1, few, t)
+      | inl t ↦ elim (run-all n (turn w) (grown-turn w set g) t) [
+        | inl rest ↦ inl (all-along n w s rest)
+        | inr u ↦ let few : suc u.0 ≤ suc n = omega (arith, u.1) in inr (suc u.0, few, u.2)
+      ]
+    ]
+
+-- ---- two ends in a world
+
+pub record At
+    (w : CableWorld) (set : ℕ) (a b : End) (S : NodeState → NodeState → Type 0)
+    : Type 0 where
+  pub ends : AreJoined w a b
+  pub holds : Holds set a.node
+  pub is : S ends.near.state ends.other.state
+
+abbrev pub ends-round :
+    (w : CableWorld) (set : ℕ) → Grown w set → (a b : End) → AreJoined w a b → AreJoined w b a
+ends-round w set g a b e = record { joined = g.lawful.well_formed.cabling.both_ways a b e.joined; near = e.other; near_at = e.other_at; other = e.near; other_at = e.near_at }
+
+abbrev pub up-round :
+    (w : CableWorld) (set : ℕ) → Grown w set → (a b : End) (m : ℕ) →
+    At w set b a (AreUp b.port a.port m) → At w set a b (AreUp a.port b.port m)
+up-round w set g a b m s = record {
+  ends = ends-round w set g b a s.ends;
+  holds = g.closed b a s.ends.joined s.holds;
+  is = record { here = s.is.there; there = s.is.here; first = s.is.second; second = s.is.first };
+}
+
+module _
+    (w : CableWorld) (set : ℕ) (g : Grown w set) (a b : End) (e : AreJoined w a b)
+    (in_a : Holds set a.node) where
+  r : Rivals w.delay (side w a e.near) (side w b e.other)
+  r = rivals-of w g.lawful g.contested a b e.near e.other e.joined e.near_at e.other_at
+
+  hx : NoEntry e.near.state (hearing (side w a e.near))
+  hx = hears-on w set g a b e.near e.other r e.near_at
+
+  hy : NoEntry e.other.state (hearing (side w b e.other))
+  hy = hears-on w set g b a e.other e.near (swapped w.delay (side w a e.near) (side w b e.other) r) e.other_at
+
+  in_b : Holds set b.node
+  in_b = g.closed a b e.joined in_a
+
+  next : AreJoined (turn w) a b
+  next = record {
+    joined = ap (λ (c : Wiring). far c a) (cabling-after w) ∙ e.joined;
+    near = (turn_at w a.node e.near).node;
+    near_at = node-after w a.node e.near g.lawful.well_formed.count e.near_at;
+    other = (turn_at w b.node e.other).node;
+    other_at = node-after w b.node e.other g.lawful.well_formed.count e.other_at;
+  }
+
+  lift :
+      (S : NodeState → NodeState → Type 0) →
+      S (ticking (side w a e.near)).state (ticking (side w b e.other)).state → At (turn w) set a b S
+  unfolding next
+  lift S s = record {
+    ends = next;
+    holds = in_a;
+    is = subst (λ n. S n (turn_at w b.node e.other).node.state) (sym (side-node w a e.near)) (subst (S (ticking (side w a e.near)).state) (sym (side-node w b e.other)) s);
+  }
+
+  lift-round :
+      (S : NodeState → NodeState → Type 0) →
+      S (ticking (side w b e.other)).state (ticking (side w a e.near)).state → At (turn w) set b a S
+  unfolding next
+  lift-round S s = record {
+    ends = ends-round (turn w) set (grown-turn w set g) a b next;
+    holds = in_b;
+    is = subst (λ n. S (turn_at w b.node e.other).node.state n) (sym (side-node w a e.near)) (subst (λ n. S n (ticking (side w a e.near)).state) (sym (side-node w b e.other)) s);
+  }
+
+  lift-root :
+      ((ticking (side w a e.near)).state.view.parent ≡ None)
+      ⊎ ((ticking (side w b e.other)).state.view.parent ≡ None) → HasRoot (turn w) set
+  unfolding next
+  lift-root (inl n) = record {
+    node = a.node;
+    holds = in_a;
+    root = record {
+      node = (turn_at w a.node e.near).node;
+      at = next.near_at;
+      late = (grown-turn w set g).late a.node (turn_at w a.node e.near).node in_a next.near_at;
+      parentless = ap (λ (s : NodeState). s.view.parent) (side-node w a e.near) ∙ n;
+    };
+  }
+  lift-root (inr n) = record {
+    node = b.node;
+    holds = in_b;
+    root = record {
+      node = (turn_at w b.node e.other).node;
+      at = next.other_at;
+      late = (grown-turn w set g).late b.node (turn_at w b.node e.other).node in_b next.other_at;
+      parentless = ap (λ (s : NodeState). s.view.parent) (side-node w b e.other) ∙ n;
+    };
+  }
+
+-- ---- the steps in a world
+
+module _ (set : ℕ) (a b : End) (m : ℕ) (small : m ≤ 64) where
+  abbrev Waiting : ℕ → CableWorld → Type 0
+  Waiting i w = At w set a b (BothWait i a.port b.port m) ⊎ (At w set a b (OneWaits w.delay i a.port b.port m) ⊎ At w set b a (OneWaits w.delay i b.port a.port m))
+
+  abbrev Asking : CableWorld → Type 0
+  Asking w = At w set a b (BothAsk a.port b.port m)
+
+  abbrev Up : CableWorld → Type 0
+  Up w = At w set a b (AreUp a.port b.port (m + 1))
+
+  abbrev Ahead : CableWorld → Type 0
+  Ahead w = At w set a b (OneAhead 0 a.port b.port m) ⊎ At w set b a (OneAhead 0 b.port a.port m)
+
+  ask-round : (w : CableWorld) → Grown w set → At w set b a (BothAsk b.port a.port m) → Asking w
+  ask-round w g s = record {
+    ends = ends-round w set g b a s.ends;
+    holds = g.closed b a s.ends.joined s.holds;
+    is = record { here = s.is.there; there = s.is.here; asks = s.is.asks_too; asks_too = s.is.asks };
+  }
+
+  wait-step :
+      (w : CableWorld) → Grown w set → (i : ℕ) → Waiting i w → Waiting (i + 1) (turn w)
+      ⊎ (Asking (turn w) ⊎ HasRoot (turn w) set)
+  wait-step w g i (inl s) =
+      let e = s.ends in
+      elim (step-both-wait w.delay (side w a e.near) (side w b e.other) (r w set g a b e s.holds) s.is.here.up s.is.there.up (hx w set g a b e s.holds) (hy w set g a b e s.holds) i m s.is) [
+        | inl t ↦ elim t [
+          | inl t ↦ inl (inl (lift w set g a b e s.holds (BothWait (i + 1) a.port b.port m) t))
+          | inr t ↦ elim t [
+            | inl t ↦ inl (inr (inl (lift w set g a b e s.holds (OneWaits (turn w).delay (i + 1) a.port b.port m)
+                (subst (λ d. OneWaits d (i + 1) a.port b.port m (ticking (side w a e.near)).state (ticking (side w b e.other)).state) (sym (delay-after w)) t))))
+            | inr t ↦ inl (inr (inr (lift-round w set g a b e s.holds (OneWaits (turn w).delay (i + 1) b.port a.port m)
+                (subst (λ d. OneWaits d (i + 1) b.port a.port m (ticking (side w b e.other)).state (ticking (side w a e.near)).state) (sym (delay-after w)) t))))
+          ]
+        ]
+        | inr t ↦ elim t [
+          | inl t ↦ inr (inl (lift w set g a b e s.holds (BothAsk a.port b.port m) t))
+          | inr t ↦ inr (inr (lift-root w set g a b e s.holds t))
+        ]
+      ]
+  wait-step w g i (inr (inl s)) =
+      let e = s.ends in
+      elim (step-one-waits w.delay (side w a e.near) (side w b e.other) (r w set g a b e s.holds) s.is.here.up s.is.there.up (hx w set g a b e s.holds) (hy w set g a b e s.holds) i m s.is) [
+        | inl t ↦ inl (inr (inl (lift w set g a b e s.holds (OneWaits (turn w).delay (i + 1) a.port b.port m)
+            (subst (λ d. OneWaits d (i + 1) a.port b.port m (ticking (side w a e.near)).state (ticking (side w b e.other)).state) (sym (delay-after w)) t))))
+        | inr t ↦ elim t [
+          | inl t ↦ inr (inl (lift w set g a b e s.holds (BothAsk a.port b.port m) t))
+          | inr t ↦ inr (inr (lift-root w set g a b e s.holds t))
+        ]
+      ]
+  wait-step w g i (inr (inr s)) =
+      let e = s.ends in
+      elim (step-one-waits w.delay (side w b e.near) (side w a e.other) (r w set g b a e s.holds) s.is.here.up s.is.there.up (hx w set g b a e s.holds) (hy w set g b a e s.holds) i m s.is) [
+        | inl t ↦ inl (inr (inr (lift w set g b a e s.holds (OneWaits (turn w).delay (i + 1) b.port a.port m)
+            (subst (λ d. OneWaits d (i + 1) b.port a.port m (ticking (side w b e.near)).state (ticking (side w a e.other)).state) (sym (delay-after w)) t))))
+        | inr t ↦ elim t [
+          | inl t ↦ inr (inl (ask-round (turn w) (grown-turn w set g) (lift w set g b a e s.holds (BothAsk b.port a.port m) t)))
+          | inr t ↦ inr (inr (lift-root w set g b a e s.holds t))
+        ]
+      ]
+
+  ask-step :
+      (w : CableWorld) → Grown w set → Asking w → Asking (turn w) ⊎ (Up (turn w) ⊎ Ahead (turn w))
+  ask-step w g s =
+      let e = s.ends in
+      elim (step-both-ask w.delay (side w a e.near) (side w b e.other) (r w set g a b e s.holds) s.is.here.up s.is.there.up (hx w set g a b e s.holds) (hy w set g a b e s.holds) m small s.is) [
+        | inl t ↦ inl (lift w set g a b e s.holds (BothAsk a.port b.port m) t)
+        | inr t ↦ elim t [
+          | inl t ↦ inr (inl (lift w set g a b e s.holds (AreUp a.port b.port (m + 1)) t))
+          | inr t ↦ elim t [
+            | inl t ↦ inr (inr (inl (lift w set g a b e s.holds (OneAhead 0 a.port b.port m) t)))
+            | inr t ↦ inr (inr (inr (lift-round w set g a b e s.holds (OneAhead 0 b.port a.port m) t)))
+          ]
+        ]
+      ]
+
+  ahead-step :
+      (w : CableWorld) → Grown w set → (i : ℕ) → At w set a b (OneAhead i a.port b.port m) →
+      At (turn w) set a b (OneAhead (i + 1) a.port b.port m)
+      ⊎ (((i < w.delay) × Up (turn w)) ⊎ HasRoot (turn w) set)
+  ahead-step w g i s =
+      let e = s.ends in
+      elim (step-one-ahead w.delay (side w a e.near) (side w b e.other) (r w set g a b e s.holds) s.is.here.up s.is.there.up (hx w set g a b e s.holds) (hy w set g a b e s.holds) i m small s.is) [
+        | inl t ↦ inl (lift w set g a b e s.holds (OneAhead (i + 1) a.port b.port m) t)
+        | inr t ↦ elim t [
+          | inl t ↦ inr (inl (t.0, lift w set g a b e s.holds (AreUp a.port b.port (m + 1)) t.1))
+          | inr t ↦ inr (inr (lift-root w set g a b e s.holds t))
+        ]
+      ]
+
+-- a wait isn't so long
+not-so-long :
+    (w : CableWorld) (set : ℕ) → Grown w set → (k : ℕ) (x : PortNode) →
+    slice_get w.nodes k ≡ Some x → x.state.view.phase ≡ phase.Contend →
+    10 * w.delay ≤ x.state.view.timer → ⊥
+not-so-long w set g k x at c long =
+    let knows : KnowsCoins w.delay x.state = g.contested.nodes k x at in
+    elim (knows.shows c) [
+      | inl s ↦ omega (arith, long, knows.waits c, s)
+      | inr s ↦ omega (arith, long, knows.waits c, s.1)
+    ]
+
+-- ---- both ask
+
+parent-out :
+    (f : Phase) (b : Bool) → f ≡ phase.ParentShake → b ≡ false → is_parent (level_sent f b) ≡ true
+parent-out f b h c = grind arith
+
+shake-apart : (f : Phase) → f ≡ phase.Contend → f ≡ phase.ParentShake → ⊥
+shake-apart f a b = cc
+
+module _
+    (set : ℕ) (a b : End) (m : ℕ) (w : CableWorld) (g : Grown w set)
+    (asking : (j : ℕ) → j ≤ w.delay → At (turns_after j w) set a b (BothAsk a.port b.port m)) where
+  tell : (i : ℕ) → i ≤ w.delay → Tells (turns_after i w) b is_parent
+  tell i h y at =
+      let s = asking i h in
+      let gi = grown-after w set g i in
+      let same : s.ends.other ≡ y = some-same s.ends.other y (sym s.ends.other_at ∙ at) in
+      parent-out y.state.view.phase (leads_down y.state.view.ports b.port) (ap (λ (n : PortNode). n.state.view.phase) (sym same) ∙ s.is.asks_too)
+      (parent-only (turns_after i w) set gi b a y (gi.lawful.well_formed.cabling.both_ways a b s.ends.joined) at (ap (λ (n : PortNode). is_port n.state.view.parent b.port) (sym same) ∙ s.is.there.up))
+
+  -- not for d turns
+  not-all-along : ⊥
+  not-all-along =
+      shake-apart z.ends.near.state.view.phase
+      (ap (λ (n : NodeState). n.view.phase) h.is ∙ tick-begins (coin h.node.coins) mid a.port
+      (h.heard.phase ∙ ap (λ (n : PortNode). n.state.view.phase) same ∙ s.is.asks)
+      (ap (λ o. is_port o a.port) h.heard.parent ∙ ap (λ (n : PortNode). is_port n.state.view.parent a.port) same ∙ s.is.here.up)
+      (h.hears.cables a.port ∙ cable-connected (turns_after j w) a b h.node (grown-after w set g j).lawful.well_formed s.ends.joined h.at)
+      (ap is_parent (sym (h.ticks.shown a.port)) ∙ ap (λ (n : NodeState). is_parent (level_shown n a.port)) (sym h.is) ∙ shown))
+      z.is.asks
+    where
+      j : ℕ
+      j = w.delay - 1
+
+      more : j + 1 ≡ w.delay
+      more = omega (arith, g.lawful.well_formed.some_delay)
+
+      s : At (turns_after j w) set a b (BothAsk a.port b.port m)
+      s = asking j (omega arith)
+
+      z : At (turns_after w.delay w) set a b (BothAsk a.port b.port m)
+      z = asking w.delay (omega arith)
+
+      h : Calmly (turns_after j w) a.node z.ends.near.state
+      h = calm-at w set g j a.node z.ends.near (ap (λ n. slice_get (turns_after n w).nodes a.node) more ∙ z.ends.near_at)
+
+      same : h.node ≡ s.ends.near
+      same = some-same h.node s.ends.near (sym h.at ∙ s.ends.near_at)
+
+      mid : NodeState
+      mid = heard_by (turns_after j w) a.node h.node
+
+      joined : far w.cabling a ≡ Some b
+      joined = ap (λ (u : CableWorld). far u.cabling a) (sym (no-turns w)) ∙ (asking 0 (omega arith)).ends.joined
+
+      shown : is_parent (level_shown z.ends.near.state a.port) ≡ true
+      shown = flush w g.lawful b a (g.lawful.well_formed.cabling.both_ways a b joined) is_parent (λ i. i ≤ w.delay) (λ i l. omega (arith, l)) tell w.delay (omega arith) (omega arith) z.ends.near z.ends.near_at
+
+-- ---- a round
+
+module _ (set : ℕ) (m : ℕ) (small : m ≤ 64) where
+  -- within so many turns both have drawn once more, or within so many one is root
+  abbrev Ends : End → End → ℕ → ℕ → CableWorld → Type 0
+  Ends a b up root w = ((j : ℕ) × (j ≤ up) × At (turns_after j w) set a b (AreUp a.port b.port (m + 1))) ⊎ ((j : ℕ) × (j ≤ root) × HasRoot (turns_after j w) set)
+
+  ends-later :
+      (a b : End) (w : CableWorld) (i up root most least : ℕ) → i + up ≤ most → i + root ≤ least →
+      Ends a b up root (turns_after i w) → Ends a b most least w
+  ends-later a b w i up root most least h l (inl t) =
+      inl (i + t.0, omega (arith, h, t.1), subst (λ (u : CableWorld). At u set a b (AreUp a.port b.port (m + 1))) (sym (turns-then i t.0 w)) t.2)
+  ends-later a b w i up root most least h l (inr t) =
+      inr (i + t.0, omega (arith, l, t.1), subst (λ (u : CableWorld). HasRoot u set) (sym (turns-then i t.0 w)) t.2)
+
+  ends-round-two :
+      (a b : End) (w : CableWorld) → Grown w set → (up root : ℕ) → Ends b a up root w →
+      Ends a b up root w
+  ends-round-two a b w g up root (inl t) = inl (t.0, t.1, up-round (turns_after t.0 w) set (grown-after w set g t.0) a b (m + 1) t.2)
+  ends-round-two a b w g up root (inr t) = inr t
+
+  from-ahead :
+      (a b : End) (w : CableWorld) → Grown w set → At w set a b (OneAhead 0 a.port b.port m) →
+      Ends a b w.delay (11 * w.delay) w
+  from-ahead a b w g s = elim (run set (λ i v. At v set a b (OneAhead i a.port b.port m)) (λ v. At v set a b (AreUp a.port b.port (m + 1)) ⊎ HasRoot v set) first w.delay 0 w g s) [
+    | inr t ↦ elim t.2 [
+      | inl u ↦ inl (t.0, t.1, u)
+      | inr u ↦ inr (t.0, omega (arith, t.1), u)
+    ]
+    | inl t ↦ elim (run set (λ i v. (v.delay ≤ i) × At v set a b (OneAhead i a.port b.port m)) (λ v. HasRoot v set) second (10 * w.delay) w.delay v gv (omega (arith, same), (let z : 0 + w.delay ≡ w.delay = omega arith in subst (λ k. At (turns_after w.delay w) set a b (OneAhead k a.port b.port m)) z t))) [
+      | inr u ↦ inr (w.delay + u.0, omega (arith, u.1), subst (λ (z : CableWorld). HasRoot z set) (sym (turns-then w.delay u.0 w)) u.2)
+      | inl u ↦ absurd (not-so-long (turns_after (10 * w.delay) v) set (grown-after v set gv (10 * w.delay)) a.node u.1.ends.near u.1.ends.near_at u.1.is.contends
+          (omega (arith, u.1.is.waited, same, after-delay v gv.lawful (10 * w.delay))))
+    ]
+  ]
+    where
+      v : CableWorld
+      v = turns_after w.delay w
+
+      gv : Grown (turns_after w.delay w) set
+      gv = grown-after w set g w.delay
+
+      same : (turns_after w.delay w).delay ≡ w.delay
+      same = after-delay w g.lawful w.delay
+
+      first :
+          (u : CableWorld) → Grown u set → (i : ℕ) → At u set a b (OneAhead i a.port b.port m) →
+          At (turn u) set a b (OneAhead (i + 1) a.port b.port m)
+          ⊎ (At (turn u) set a b (AreUp a.port b.port (m + 1)) ⊎ HasRoot (turn u) set)
+      first u gu i s = elim (ahead-step set a b m small u gu i s) [
+        | inl t ↦ inl t
+        | inr t ↦ elim t [ inl t ↦ inr (inl t.1) | inr t ↦ inr (inr t) ]
+      ]
+
+      second :
+          (u : CableWorld) → Grown u set → (i : ℕ) → (u.delay ≤ i)
+          × At u set a b (OneAhead i a.port b.port m) →
+          (((turn u).delay ≤ i + 1) × At (turn u) set a b (OneAhead (i + 1) a.port b.port m))
+          ⊎ HasRoot (turn u) set
+      second u gu i s = elim (ahead-step set a b m small u gu i s.1) [
+        | inl t ↦ inl (omega (arith, s.0, delay-after u), t)
+        | inr t ↦ elim t [ inl t ↦ absurd (omega (arith, t.0, s.0)) | inr t ↦ inr t ]
+      ]
+
+  from-asking :
+      (a b : End) (w : CableWorld) → Grown w set → At w set a b (BothAsk a.port b.port m) →
+      Ends a b (2 * w.delay) (12 * w.delay) w
+  from-asking a b w g s = elim (run-all set (Asking set a b m small) (λ v. Up set a b m small v ⊎ Ahead set a b m small v) (ask-step set a b m small) w.delay w g s) [
+    | inl all ↦ absurd (not-all-along set a b m w g all)
+    | inr t ↦ elim t.2 [
+      | inl u ↦ inl (t.0, omega (arith, t.1), u)
+      | inr u ↦
+          let v : CableWorld = turns_after t.0 w in
+          let gv : Grown v set = grown-after w set g t.0 in
+          let same : v.delay ≡ w.delay = after-delay w g.lawful t.0 in
+          ends-later a b w t.0 v.delay (11 * v.delay) (2 * w.delay) (12 * w.delay) (omega (arith, t.1, same)) (omega (arith, t.1, same))
+          (elim u [ inl c ↦ from-ahead a b v gv c | inr c ↦ ends-round-two a b v gv v.delay (11 * v.delay) (from-ahead b a v gv c) ])
+    ]
+  ]
+
+  from-waiting :
+      (a b : End) (w : CableWorld) → Grown w set → Waiting set a b m small 0 w →
+      Ends a b (12 * w.delay) (22 * w.delay) w
+  from-waiting a b w g s = elim (run set (Waiting set a b m small) (λ v. Asking set a b m small v ⊎ HasRoot v set) (wait-step set a b m small) (10 * w.delay) 0 w g s) [
+    | inl t ↦ absurd (over t)
+    | inr t ↦ elim t.2 [
+      | inr u ↦ inr (t.0, omega (arith, t.1), u)
+      | inl u ↦
+          let v : CableWorld = turns_after t.0 w in
+          let gv : Grown v set = grown-after w set g t.0 in
+          let same : v.delay ≡ w.delay = after-delay w g.lawful t.0 in
+          ends-later a b w t.0 (2 * v.delay) (12 * v.delay) (12 * w.delay) (22 * w.delay) (omega (arith, t.1, same)) (omega (arith, t.1, same)) (from-asking a b v gv u)
+    ]
+  ]
+    where
+      v : CableWorld
+      v = turns_after (10 * w.delay) w
+
+      gv : Grown (turns_after (10 * w.delay) w) set
+      gv = grown-after w set g (10 * w.delay)
+
+      same : (turns_after (10 * w.delay) w).delay ≡ w.delay
+      same = after-delay w g.lawful (10 * w.delay)
+
+      over : Waiting set a b m small (0 + 10 * w.delay) (turns_after (10 * w.delay) w) → ⊥
+      over (inl t) = not-so-long v set gv a.node t.ends.near t.ends.near_at t.is.contends (omega (arith, t.is.waited, same))
+      over (inr (inl t)) = not-so-long v set gv a.node t.ends.near t.ends.near_at t.is.contends (omega (arith, t.is.waited, same))
+      over (inr (inr t)) = not-so-long v set gv b.node t.ends.near t.ends.near_at t.is.contends (omega (arith, t.is.waited, same))
+
+  -- one in T3, the other in T2
+  one-of :
+      (a b : End) (w : CableWorld) → Grown w set → (s : At w set a b (AreUp a.port b.port m)) →
+      s.ends.near.state.view.phase ≡ phase.Contend →
+      s.ends.other.state.view.phase ≡ phase.ParentShake →
+      At w set a b (OneAhead 0 a.port b.port m) ⊎ At w set a b (OneWaits w.delay 0 a.port b.port m)
+  one-of a b w g s c t = go ((g.contested.cables a b s.ends.near s.ends.other s.ends.joined s.ends.near_at s.ends.other_at).rivals s.is.here.up s.is.there.up)
+    where
+      how :
+          IsAhead w.delay s.ends.near.state a.port s.ends.other.state
+          ⊎ AsksAgain w.delay s.ends.near.state s.ends.other.state (wire_of w b).signals →
+          At w set a b (OneAhead 0 a.port b.port m)
+          ⊎ At w set a b (OneWaits w.delay 0 a.port b.port m)
+      how (inl h) = inl (record {
+        ends = s.ends;
+        holds = s.holds;
+        is = record {
+          here = record { up = s.is.here.up; draws = more s.ends.near.state.view.draws s.ends.other.state.view.draws h.drew.count s.is.there.draws };
+          there = s.is.there;
+          contends = c;
+          asks = t;
+          shown = h.shown;
+          waited = omega arith;
+        };
+      })
+        where
+          more : (k n : ℕ) → k ≡ min (n + 1) 65535 → m ≤ n → m + 1 ≤ k
+          more k n e l = omega (arith, e, l, small)
+      how (inr h) = inr (record {
+        ends = s.ends;
+        holds = s.holds;
+        is = record { here = s.is.here; there = s.is.there; contends = c; asks = t; long = h.long; waited = omega arith };
+      })
+
+      go :
+          AreRivals w.delay s.ends.near.state a.port (wire_of w a).signals s.ends.other.state b.port (wire_of w b).signals →
+          At w set a b (OneAhead 0 a.port b.port m)
+          ⊎ At w set a b (OneWaits w.delay 0 a.port b.port m)
+      go (inl h) = absurd (no-contend s.ends.near.state.view.phase h.here c)
+      go (inr (inl h)) = absurd (shake-apart s.ends.other.state.view.phase h.there t)
+      go (inr (inr (inl h))) = how h.how
+      go (inr (inr (inr h))) = absurd (shake-apart s.ends.other.state.view.phase h.here t)
+
+  pub round :
+      (a b : End) (w : CableWorld) → Grown w set → At w set a b (AreUp a.port b.port m) →
+      Ends a b (12 * w.delay) (22 * w.delay) w
+  round a b w g s = go s.is.first s.is.second
+    where
+      here :
+          (up root : ℕ) → Ends a b up root w → up ≤ 12 * w.delay → root ≤ 22 * w.delay →
+          Ends a b (12 * w.delay) (22 * w.delay) w
+      here up root (inl t) h l = inl (t.0, omega (arith, t.1, h), t.2)
+      here up root (inr t) h l = inr (t.0, omega (arith, t.1, l), t.2)
+
+      back : At w set b a (AreUp b.port a.port m)
+      back = up-round w set g b a m s
+
+      go :
+          (s.ends.near.state.view.phase ≡ phase.ParentShake)
+          ⊎ (s.ends.near.state.view.phase ≡ phase.Contend) →
+          (s.ends.other.state.view.phase ≡ phase.ParentShake)
+          ⊎ (s.ends.other.state.view.phase ≡ phase.Contend) → Ends a b (12 * w.delay) (22 * w.delay)
+          w
+      go (inl x) (inl y) = here (2 * w.delay) (12 * w.delay) (from-asking a b w g (record { ends = s.ends; holds = s.holds; is = record { here = s.is.here; there = s.is.there; asks = x; asks_too = y } })) (omega arith) (omega arith)
+      go (inr x) (inr y) = from-waiting a b w g (inl (record {
+        ends = s.ends;
+        holds = s.holds;
+        is = record { here = s.is.here; there = s.is.there; contends = x; contends_too = y; waited = omega arith; waited_too = omega arith };
+      }))
+      go (inr x) (inl y) = elim (one-of a b w g s x y) [
+        | inl t ↦ here w.delay (11 * w.delay) (from-ahead a b w g t) (omega arith) (omega arith)
+        | inr t ↦ from-waiting a b w g (inr (inl t))
+      ]
+      go (inl x) (inr y) = elim (one-of b a w g back y x) [
+        | inl t ↦ here w.delay (11 * w.delay) (ends-round-two a b w g w.delay (11 * w.delay) (from-ahead b a w g t)) (omega arith) (omega arith)
+        | inr t ↦ from-waiting a b w g (inr (inr t))
+      ]

@@ -1,0 +1,37 @@
+-- What turns, holds and acts of a lawful world keep holds along runs.
+use Rattle.std.proofs.Common.{zero, suc, ℕ, List, [], ◌∷◌, sym, subst}
+use Rattle.cable_world.specs.World.{CableWorld}
+use Rattle.cable_world.specs.Run.{Event, acts, holds, turns, Happens, Runs, IsReached}
+use Rattle.cable_world.specs.Turn.{turn, turns_after}
+use Rattle.cable_world.specs.Lawful.{IsLawful}
+use Rattle.cable_world.specs.StaysLawful.{HoldsAtPowerOn}
+use Rattle.cable_world.proofs.StaysLawful.{power-on-lawful, turn-lawful, hold-lawful, act-lawful}
+use Rattle.convergence.specs.Kept.{KeptByTurn, KeptByHold, KeptByAct}
+
+pub record IsKept (P : CableWorld → Type 0) : Type 0 where
+  pub power_on : HoldsAtPowerOn P
+  pub turn : KeptByTurn P
+  pub hold : KeptByHold P
+  pub act : KeptByAct P
+
+module _ (P : CableWorld → Type 0) (k : IsKept P) where
+  abbrev Both : CableWorld → Type 0
+  Both w = IsLawful w × P w
+
+  event-both : (e : Event) (w v : CableWorld) → Happens e w v → Both w → Both v
+  event-both (acts a) w v h b = (act-lawful a w v h.0 h.1 h.2 b.0, k.act a w v h.0 h.1 h.2 b.0 b.1)
+  event-both (holds end n) w v h b = subst Both (sym h.1) (hold-lawful end n w h.0 b.0, k.hold end n w h.0 b.0 b.1)
+  event-both turns w v h b = subst Both (sym h) (turn-lawful w b.0, k.turn w b.0 b.1)
+
+  runs-both : (events : List Event) (w v : CableWorld) → Runs events w v → Both w → Both v
+  runs-both [] w v r b = subst Both (sym r) b
+  runs-both (e ∷ events) w v r b = runs-both events r.0 v r.2 (event-both e w r.0 r.1 b)
+
+  -- it holds of every reached world
+  pub kept-reached : (w : CableWorld) → IsReached w → P w
+  kept-reached w r = (runs-both r.events r.start w r.run (power-on-lawful r.start r.power_on, k.power_on r.start r.power_on)).1
+
+  pub kept-turns : (n : ℕ) (w : CableWorld) → IsLawful w → P w → P (turns_after n w)
+  unfolding turns_after
+  kept-turns zero w l c = c
+  kept-turns (suc n) w l c = kept-turns n (turn w) (turn-lawful w l) (k.turn w l c)

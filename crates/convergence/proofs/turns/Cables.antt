@@ -1,0 +1,21 @@
+-- The two ends of a cable are there.
+use Rattle.std.proofs.Common.{◌≡◌, Some}
+use Rattle.cabling.specs.declared.cable.End.{End}
+use Rattle.cabling.specs.Wiring.{far}
+use Rattle.cable_world.specs.World.{CableWorld}
+use Rattle.cable_world.specs.Lawful.{IsWellFormed}
+use Rattle.cable_world.proofs.tables.CableEnds.{CableEnd, cable-end}
+use Rattle.convergence.specs.Cables.{AreJoined}
+
+pub joined-of :
+    (w : CableWorld) (a b : End) → IsWellFormed w → far w.cabling a ≡ Some b → AreJoined w a b
+joined-of w a b f e =
+    let near : CableEnd w a = cable-end w a b f e in
+    let other : CableEnd w b = cable-end w b a f (f.cabling.both_ways a b e) in
+    record {
+      joined = e;
+      near = near.node;
+      near_at = near.node_at;
+      other = other.node;
+      other_at = other.node_at;
+    }

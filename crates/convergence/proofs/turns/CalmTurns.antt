@@ -1,0 +1,87 @@
+-- A turn of a world without a node in R0: no node enters a reset, and each comes from where it was.
+use Rattle.std.proofs.Common.{◌≡◌, inl, inr, ℕ, Bool, true, false, List, Some, slice_get, refl, sym, ◌∙◌, ap, arith, true≢false}
+use Rattle.port_state.specs.declared.signal.Signal.{Signal}
+use Rattle.port_state.specs.declared.signal.Phase.{Phase}
+use Rattle.port_state.specs.declared.states.NodeState.{NodeState}
+use Rattle.port_state.specs.Coins.{coin}
+use Rattle.port_state.specs.Heard.{is_resetting}
+use Rattle.port_state.specs.Tick.{tick}
+use Rattle.port_state.specs.Machine.{PortNode}
+use Rattle.cabling.specs.Wiring.{ports_of}
+use Rattle.cable_world.specs.World.{CableWorld}
+use Rattle.cable_world.specs.Turn.{inbox, turn, hear_all}
+use Rattle.cable_world.specs.Phases.{is_before_tree, is_in_bus_reset}
+use Rattle.cable_world.specs.Lawful.{IsLawful}
+use Rattle.cable_world.proofs.coupling.CouplingInTurns.{before, hears, ticks}
+use Rattle.cable_world.proofs.resets.Entries.{Recent, comes-from}
+use Rattle.cable_world.proofs.turns.HearsWell.{hear-came}
+use Rattle.cable_world.proofs.turns.NodeFacts.{NoEntry, HearsWell, TicksWell}
+use Rattle.cable_world.proofs.turns.TurnParts.{turn-state}
+use Rattle.convergence.specs.Milestones.{NoneIn, ResetsAreDone}
+use Rattle.convergence.proofs.turns.BeforeTree.{was-waiting, was-early}
+
+abbrev pub signals : CableWorld → ℕ → List (ℕ × Signal)
+signals w k = inbox w 0 (ports_of w.cabling k)
+
+-- what a node has heard in a turn before its clock ticks
+abbrev pub heard_by : CableWorld → ℕ → PortNode → NodeState
+heard_by w k x = (hear_all (inbox w 0 (ports_of w.cabling k)) x.state).state
+
+-- a node after a turn comes of one before it, which heard no Reset
+pub record Calmly (w : CableWorld) (k : ℕ) (y : NodeState) : Type 0 where
+  pub node : PortNode
+  pub at : slice_get w.nodes k ≡ Some node
+  pub hears : HearsWell (signals w k) node.state
+  pub ticks : TicksWell (coin node.coins) (heard_by w k node)
+  pub heard : NoEntry node.state (hear_all (signals w k) node.state)
+  pub is : y ≡ (tick (coin node.coins) (heard_by w k node)).state
+
+pub calmly :
+    (w : CableWorld) → IsLawful w → NoneIn is_resetting w → (k : ℕ) (y : PortNode) →
+    slice_get (turn w).nodes k ≡ Some y → Calmly w k y.state
+calmly w l calm k y at_y =
+    let x = before w k y l.well_formed at_y in
+    let h : HearsWell (signals w k) x.0.state = hears w k x.0 l.well_formed x.1 in
+    record {
+      node = x.0;
+      at = x.1;
+      hears = h;
+      ticks = ticks w k x.0 l.well_formed x.1;
+      heard = elim h.cases [
+        | inl s ↦ s
+        | inr c ↦
+            let port = hear-came (signals w k) x.0.state c.before (ap is_resetting c.phase) in
+            let r : Recent w = comes-from w l k x.0 x.1 port.0 port.1 port.2 in
+            absurd (true≢false (sym r.resets ∙ calm r.number r.node r.at))
+      ];
+      is = ap (λ (u : PortNode). u.state) x.2 ∙ turn-state (signals w k) x.0;
+    }
+
+pub waiting-before :
+    (w : CableWorld) (k : ℕ) (y : NodeState) → (c : Calmly w k y) →
+    is_in_bus_reset y.view.phase ≡ true → is_in_bus_reset c.node.state.view.phase ≡ true
+waiting-before w k y c h = sym (ap is_in_bus_reset c.heard.phase) ∙ was-waiting (coin c.node.coins) (heard_by w k c.node) (sym (ap (λ (s : NodeState). is_in_bus_reset s.view.phase) c.is) ∙ h)
+
+pub early-before :
+    (w : CableWorld) (k : ℕ) (y : NodeState) → (c : Calmly w k y) →
+    is_before_tree y.view.phase ≡ true → is_before_tree c.node.state.view.phase ≡ true
+early-before w k y c h = sym (ap is_before_tree c.heard.phase) ∙ was-early (coin c.node.coins) (heard_by w k c.node) (sym (ap (λ (s : NodeState). is_before_tree s.view.phase) c.is) ∙ h)
+
+pub not-waiting : (p : Phase) → is_in_bus_reset p ≡ false → is_resetting p ≡ false
+not-waiting p h = grind arith
+
+pub done-calm : (w : CableWorld) → ResetsAreDone w → NoneIn is_resetting w
+done-calm w done k x at = not-waiting x.state.view.phase (done k x at)
+
+-- once resets are done they stay so
+pub turn-done : (w : CableWorld) → IsLawful w → ResetsAreDone w → ResetsAreDone (turn w)
+turn-done w l done k y at = go (is_in_bus_reset y.state.view.phase) refl
+  where
+    c : Calmly w k y.state
+    c = calmly w l (done-calm w done) k y at
+
+    go : (b : Bool) → is_in_bus_reset y.state.view.phase ≡ b → b ≡ false
+    go false e = refl
+    go true e =
+        let d : Calmly w k y.state = calmly w l (done-calm w done) k y at in
+        absurd (true≢false (sym (waiting-before w k y.state d e) ∙ done k d.node d.at))

@@ -1,0 +1,139 @@
+-- What a node tells over a cable for d turns is shown at the other end. A wire that gives
+-- gives all that is under
+-- way, so the other end then shows what was told last; and one that doesn't give for d turns has a
+-- signal that is due.
+use Rattle.std.proofs.Common.{◌≡◌, ℕ, zero, suc, ◌+◌, ◌-◌, ◌<◌, ◌≤◌, Bool, true, false, List, [], ◌∷◌, ◌++◌, map, Some, slice_get, if◌then◌else◌, refl, sym, ◌∙◌, ap, subst, arith, add-one, true≢false}
+use Rattle.port_state.specs.declared.signal.Level.{Level}
+use Rattle.port_state.specs.declared.states.NodeState.{NodeState}
+use Rattle.port_state.specs.Machine.{PortNode}
+use Rattle.cabling.specs.declared.cable.End.{End}
+use Rattle.cabling.specs.Wiring.{Wiring, far, ports_of}
+use Rattle.cable_world.specs.declared.wire.Travelling.{Travelling}
+use Rattle.cable_world.specs.Wire.{age_wire, gives, age_signal, new_signal}
+use Rattle.cable_world.specs.World.{CableWorld, wire_of}
+use Rattle.cable_world.specs.Turn.{inbox, turn_at, turn, turns_after}
+use Rattle.cable_world.specs.Signals.{signals_of}
+use Rattle.cable_world.specs.Agreement.{level_shown, level_after, level_sent_at}
+use Rattle.cable_world.specs.Lawful.{AgesFall, IsLawful}
+use Rattle.cable_world.proofs.turns.ByNumber.{cabling-after, no-turns, one-more}
+use Rattle.cable_world.proofs.coupling.CouplingInTurns.{before, hears, ticks, side, side-wire}
+use Rattle.cable_world.proofs.resets.Entries.{after-delay}
+use Rattle.convergence.proofs.turns.Cables.{joined-of}
+use Rattle.cable_world.proofs.tables.CableEnds.{cable-connected}
+use Rattle.cable_world.proofs.coupling.Sides.{departures}
+use Rattle.cable_world.proofs.StaysLawful.{turns-lawful}
+use Rattle.cable_world.proofs.turns.TurnParts.{turn-state, comes}
+
+-- ---- turns
+
+pub after-cabling : (k : ℕ) (w : CableWorld) → (turns_after k w).cabling ≡ w.cabling
+after-cabling zero w = ap (λ (v : CableWorld). v.cabling) (no-turns w)
+after-cabling (suc k) w = rw (← add-one, one-more k w) (cabling-after (turns_after k w) ∙ after-cabling k w)
+
+-- ---- the two ends of a cable
+
+-- what the node at an end tells passes a test
+abbrev pub Tells : CableWorld → End → (Level → Bool) → Type 0
+Tells w a test = (x : PortNode) → slice_get w.nodes a.node ≡ Some x → test (level_sent_at x.state a.port) ≡ true
+
+-- what it shows does
+abbrev pub Shown : CableWorld → End → (Level → Bool) → Type 0
+Shown w b test = (y : PortNode) → slice_get w.nodes b.node ≡ Some y → test (level_shown y.state b.port) ≡ true
+
+-- a signal is under way, and the oldest has been for so many turns
+abbrev FrontSince : ℕ → List Travelling → Type 0
+FrontSince n [] = ⊥
+FrontSince n (t ∷ ts) = n ≤ t.age
+
+-- an end shows what doesn't pass because nothing came for so many turns
+abbrev Due : ℕ → CableWorld → End → End → (Level → Bool) → Type 0
+Due n w a b test = (y : PortNode) → slice_get w.nodes b.node ≡ Some y → test (level_shown y.state b.port) ≡ false → FrontSince n (wire_of w a).signals
+
+front-older :
+    (n : ℕ) (ts us : List Travelling) → FrontSince n ts → FrontSince (n + 1)
+    (map age_signal ts ++ us)
+front-older n [] us h = absurd h
+front-older n (t ∷ ts) us h = omega (arith, h)
+
+front-young :
+    (n most : ℕ) (ts : List Travelling) → 1 ≤ n → most < n → AgesFall most ts → FrontSince n ts → ⊥
+front-young n most [] o less f h = h
+front-young n most (t ∷ ts) o less f h = omega (arith, o, less, f.0, h)
+
+module _
+    (w : CableWorld) (l : IsLawful w) (a b : End) (e : far w.cabling a ≡ Some b)
+    (test : Level → Bool) (tell : Tells w a test) where
+  abbrev x : PortNode
+  x = (joined-of w a b l.well_formed e).near
+
+  at_x : slice_get w.nodes a.node ≡ Some x
+  at_x = (joined-of w a b l.well_formed e).near_at
+
+  back : far w.cabling b ≡ Some a
+  back = l.well_formed.cabling.both_ways a b e
+
+  level :
+      (y : PortNode) → slice_get w.nodes b.node ≡ Some y → level_after (level_shown y.state b.port)
+      (signals_of (wire_of w a).signals) ≡ level_sent_at x.state a.port
+  level y at = l.agrees.levels a b x y e at_x at
+
+  due-first : Due 0 w a b test
+  due-first y at bad = go (wire_of w a).signals refl
+    where
+      go : (ts : List Travelling) → (wire_of w a).signals ≡ ts → FrontSince 0 ts
+      go (t ∷ ts) h = omega arith
+      go [] h = absurd (true≢false
+          (sym (tell x at_x) ∙ ap test (sym (level y at) ∙ ap (λ ts. level_after (level_shown y.state b.port) (signals_of ts)) h) ∙ bad))
+
+  shown-after :
+      (y : PortNode) → slice_get w.nodes b.node ≡ Some y →
+      level_shown (turn_at w b.node y).node.state b.port ≡ level_after (level_shown y.state b.port)
+      (if gives w.delay (age_wire (wire_of w a)) then signals_of (wire_of w a).signals else [])
+  shown-after y at =
+      ap (λ (s : NodeState). level_shown s b.port) (turn-state (inbox w 0 (ports_of w.cabling b.node)) y)
+      ∙ (ticks w b.node y l.well_formed at).shown b.port
+      ∙ (hears w b.node y l.well_formed at).shown b.port (cable-connected w b a y l.well_formed back at)
+      ∙ ap (level_after (level_shown y.state b.port)) (comes w a b back)
+
+  due-next : (n : ℕ) → Due n w a b test → Due (n + 1) (turn w) a b test
+  due-next n due z at_z bad =
+      let y = before w b.node z l.well_formed at_z in
+      subst (FrontSince (n + 1)) (sym (side-wire w a b x l.well_formed e at_x))
+      (go y.0 y.1 (gives w.delay (age_wire (wire_of w a))) (sym (ap (λ (u : PortNode). level_shown u.state b.port) y.2 ∙ shown-after y.0 y.1)))
+    where
+      go :
+          (y : PortNode) → slice_get w.nodes b.node ≡ Some y → (g : Bool) →
+          level_after (level_shown y.state b.port)
+          (if g then signals_of (wire_of w a).signals else []) ≡ level_shown z.state b.port →
+          FrontSince (n + 1) ((if g then [] else map age_signal (wire_of w a).signals) ++ map new_signal (departures (side w a x)))
+      go y at true s = absurd (true≢false (sym (tell x at_x) ∙ ap test (sym (level y at) ∙ s) ∙ bad))
+      go y at false s = front-older n (wire_of w a).signals (map new_signal (departures (side w a x))) (due y at (ap test s ∙ bad))
+
+-- ---- d turns
+
+-- a node tells what passes a test for as long as some condition holds, which held before
+-- where it holds
+module _
+    (w : CableWorld) (l : IsLawful w) (a b : End) (e : far w.cabling a ≡ Some b)
+    (test : Level → Bool) (C : ℕ → Type 0) (was : (i : ℕ) → C (i + 1) → C i)
+    (tell : (i : ℕ) → C i → Tells (turns_after i w) a test) where
+  cable : (i : ℕ) → far (turns_after i w).cabling a ≡ Some b
+  cable i = ap (λ (c : Wiring). far c a) (after-cabling i w) ∙ e
+
+  due : (i : ℕ) → C i → Due i (turns_after i w) a b test
+  due zero c = due-first (turns_after zero w) (turns-lawful zero w l) a b (cable zero) test (tell zero c)
+  due (suc i) c =
+      let k : i + 1 ≡ suc i = add-one i in
+      let d : C i = was i (subst C (sym k) c) in
+      subst (λ n. Due n (turns_after n w) a b test) k
+      (subst (λ v. Due (i + 1) v a b test) (sym (one-more i w)) (due-next (turns_after i w) (turns-lawful i w l) a b (cable i) test (tell i d) i (due i d)))
+
+  pub flush : (i : ℕ) → w.delay ≤ i → C i → Shown (turns_after i w) b test
+  flush i late c y at = go (test (level_shown y.state b.port)) refl
+    where
+      go : (r : Bool) → test (level_shown y.state b.port) ≡ r → r ≡ true
+      go true s = refl
+      go false s =
+          let m : IsLawful (turns_after i w) = turns-lawful i w l in
+          let some : 1 ≤ w.delay = l.well_formed.some_delay in
+          absurd (front-young i ((turns_after i w).delay - 1) (wire_of (turns_after i w) a).signals (omega (arith, some, late)) (omega (arith, some, late, after-delay w l i)) (m.well_formed.ages a) (due i c y at s))

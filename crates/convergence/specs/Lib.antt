@@ -1,0 +1,9 @@
+pub mod Cables
+pub mod Acyclic
+pub mod Roots
+pub mod Coins
+pub mod Rivals
+pub mod Drawers
+pub mod Milestones
+pub mod Turns
+pub mod Kept

@@ -1,0 +1,449 @@
+-- Where one node alone waits, each other node that comes past T0 has its port towards it for parent
+-- port. So no two
+-- nodes ask each other, and nobody contends.
+use Rattle.std.proofs.Common.{◌≡◌, ◌≢◌, inl, inr, ℕ, zero, suc, ◌+◌, ◌-◌, ◌*◌, ◌^◌, ◌<◌, ◌≤◌, Bool, true, false, not, ◌&&◌, ◌||◌, [], length, Option, Some, None, slice_get, if◌then◌else◌, refl, sym, ◌∙◌, ap, subst, arith, true≢false}
+use Rattle.std.specs.Prelude.{nat_lt}
+use Rattle.std.proofs.lemmas.Bool.{cases_eq, cases_lt}
+use Rattle.std.proofs.lemmas.Bool.Decides.{nat_tests}
+use Rattle.port_state.specs.declared.signal.Level.{Level}
+use Rattle.port_state.specs.declared.signal.Phase.{Phase}
+use Rattle.port_state.specs.declared.ports.PortView.{PortView}
+use Rattle.port_state.specs.declared.states.NodeState.{NodeState}
+use Rattle.port_state.specs.Coins.{coin}
+use Rattle.port_state.specs.Ports.{is_parent, is_remaining, lowest, passes, port_is, is_connected, is_port}
+use Rattle.port_state.specs.Heard.{is_resetting}
+use Rattle.port_state.specs.TreeIdentify.{is_decided}
+use Rattle.port_state.specs.Row as row
+use Rattle.port_state.specs.Row.{Row}
+use Rattle.port_state.specs.Tick.{raise_timer, does, next_row, tick}
+use Rattle.port_state.specs.Machine.{PortNode}
+use Rattle.port_state.proofs.Roles.{decided_few, left_is}
+use Rattle.cabling.specs.declared.cable.End.{End}
+use Rattle.cabling.specs.Wiring.{Wiring, far}
+use Rattle.cabling.specs.NodeSet.{Holds, IsEmpty}
+use Rattle.cabling.specs.Component.{IsComponent}
+use Rattle.cabling.specs.Looped.{IsCore}
+use Rattle.outcomes.specs.Parents.{LeadsUp}
+use Rattle.cabling.proofs.Near.{end_at}
+use Rattle.cable_world.specs.Wire.{age_wire, gives}
+use Rattle.cable_world.specs.World.{CableWorld, wire_of}
+use Rattle.cable_world.specs.Turn.{turn, turns_after}
+use Rattle.cable_world.specs.Agreement.{level_sent, shown_or_idle, level_shown, leads_down, level_after, level_sent_at}
+use Rattle.cable_world.specs.Phases.{is_before_tree, is_after_hold, is_contending}
+use Rattle.cable_world.specs.Signals.{signals_of, has_reset, shows_no_notice}
+use Rattle.cable_world.specs.Coupling.{is_reset_known, Coupling}
+use Rattle.cable_world.specs.Lawful.{IsLawful}
+use Rattle.cable_world.specs.Fresh.{IsFresh}
+use Rattle.cable_world.proofs.turns.ByNumber.{one-more}
+use Rattle.cable_world.proofs.coupling.CouplingInTurns.{hears}
+use Rattle.cable_world.proofs.resets.Entries.{in-turn, steady, after-delay}
+use Rattle.cable_world.proofs.levels.LastSent.{child-if}
+use Rattle.convergence.proofs.turns.Cables.{joined-of}
+use Rattle.cable_world.proofs.tables.CableEnds.{cable-connected}
+use Rattle.cable_world.proofs.Options.{some-same}
+use Rattle.cable_world.proofs.coupling.Sides.{late-roles, between-known}
+use Rattle.cable_world.proofs.StaysLawful.{turns-lawful}
+use Rattle.cable_world.proofs.turns.TicksWell.{Chosen, chosen}
+use Rattle.cable_world.proofs.turns.TurnParts.{comes}
+use Rattle.outcomes.specs.Forced.{WaitsAlone}
+use Rattle.convergence.proofs.turns.CalmTurns.{Calmly, signals, heard_by}
+use Rattle.convergence.proofs.turns.Flush.{after-cabling}
+use Rattle.outcomes.proofs.forced.Forced.{kept-heard, Takes, tick-takes}
+use Rattle.outcomes.proofs.forced.ForcedRoot.{up, late, parentless, enough}
+use Rattle.outcomes.proofs.forced.Spread.{Turned, turned, all-reset, some-nodes}
+use Rattle.outcomes.proofs.forced.Waits.{outside, steadily, spread-most, waiting}
+use Rattle.convergence.proofs.turns.PortFacts.{port-is-not}
+use Rattle.cable_world.proofs.coupling.RolesFollow.{port-is}
+use Rattle.convergence.proofs.turns.PhaseFacts.{late-start}
+use Rattle.cable_world.proofs.PhaseFacts.{start-before_tree}
+
+-- ---- ticks
+
+-- in R1, T0 and after, a node that isn't shown Parent by its parent port doesn't contend
+record Calms (coin : Bool) (x y : NodeState) : Type 0 where
+  calm : is_contending y.view.phase ≡ false
+  draws : y.view.draws ≡ x.view.draws
+  parent : is_before_tree x.view.phase ≡ false → y.view.parent ≡ x.view.parent
+
+-- a node past T0 has this parent port, which doesn't show Parent
+abbrev Unasked : Option ℕ → NodeState → Type 0
+Unasked o x = is_before_tree x.view.phase ≡ false → (x.view.parent ≡ o) × ((p : ℕ) → o ≡ Some p → port_is (λ q. is_parent q.shown) x.view.ports p ≡ false)
+
+row-calms :
+    (coin : Bool) (r : Row) (x : NodeState) (o : Option ℕ) → Chosen r x →
+    is_contending x.view.phase ≡ false → Unasked o x → Calms coin x (does coin r x).state
+row-calms coin row.none x o c h u = record { calm = h; draws = refl; parent = λ g. refl }
+row-calms coin row.ends_reset x o c h u = record { calm = refl; draws = refl; parent = λ g. refl }
+row-calms coin row.begins_tree x o c h u = record { calm = refl; draws = refl; parent = λ g. refl }
+row-calms coin row.takes_roles x o c h u = record { calm = refl; draws = refl; parent = λ g. absurd (true≢false (sym (ap is_before_tree c.0) ∙ g)) }
+row-calms coin row.times_out x o c h u = record { calm = h; draws = refl; parent = λ g. refl }
+row-calms coin row.awaits_parent x o c h u = record { calm = refl; draws = refl; parent = λ g. refl }
+row-calms coin row.becomes_root x o c h u = record { calm = refl; draws = refl; parent = λ g. refl }
+row-calms coin (row.finds_parent p) x o c h u = record { calm = refl; draws = refl; parent = λ g. refl }
+row-calms coin (row.begins_contention p) x o c h u =
+    let k = u (ap is_before_tree c.0) in
+    absurd (true≢false (sym c.2 ∙ k.1 p (sym k.0 ∙ c.1)))
+row-calms coin (row.takes_rival p) x o c h u = absurd (true≢false (sym (ap is_contending c.0) ∙ h))
+row-calms coin (row.asks_again p) x o c h u = absurd (true≢false (sym (ap is_contending c.0) ∙ h))
+row-calms coin (row.asks_child p) x o c h u = record { calm = h; draws = refl; parent = λ g. refl }
+row-calms coin row.names_itself x o c h u = record { calm = refl; draws = refl; parent = λ g. refl }
+
+tick-calms :
+    (coin : Bool) (x : NodeState) (o : Option ℕ) → is_contending x.view.phase ≡ false →
+    Unasked o x → Calms coin x (tick coin x).state
+unfolding tick
+tick-calms coin x o h u =
+    let c = row-calms coin (next_row x) (raise_timer x) o (chosen x.view.phase (raise_timer x) refl) h u in
+    record { calm = c.calm; draws = c.draws; parent = c.parent }
+
+-- the one port that is left becomes the parent port
+left-parent :
+    (x : NodeState) (k : ℕ) → is_decided x ≡ true → is_connected x.view.ports k ≡ true →
+    is_parent (level_shown x k) ≡ false → is_port (lowest is_remaining x.view.ports) k ≡ true
+left-parent x k d c l = go (slice_get x.view.ports k) refl c l
+  where
+    left : (b s : Bool) → b ≡ true → s ≡ false → (b && not s) ≡ true
+    left b s e h = grind arith
+
+    go :
+        (o : Option PortView) → slice_get x.view.ports k ≡ o → passes (λ p. p.connected) o ≡ true →
+        is_parent (shown_or_idle o) ≡ false → is_port (lowest is_remaining x.view.ports) k ≡ true
+    go None at c l = absurd (true≢false (sym c))
+    go (Some p) at c l =
+        let same : 0 + k ≡ k = omega arith in
+        subst (λ j. is_port (lowest is_remaining x.view.ports) j ≡ is_remaining p) same (left_is 0 x.view.ports (decided_few x d) k p at) ∙ left p.connected (is_parent p.shown) c l
+
+-- ---- phases
+
+early-tells : (h : Phase) (c : Bool) → is_before_tree h ≡ true → is_parent (level_sent h c) ≡ false
+early-tells h c e = grind arith
+
+late-tells :
+    (h : Phase) (c : Bool) → is_before_tree h ≡ false → c ≡ true → is_parent (level_sent h c)
+    ≡ false
+late-tells h c e f = grind arith
+
+low-unasked : (l : Level) → shows_no_notice l ≡ true → is_parent l ≡ false
+low-unasked l e = grind arith
+
+start-known :
+    (h : Phase) (d t : ℕ) → is_resetting h ≡ true → d < t →
+    ((is_resetting h && nat_lt d t) || is_after_hold h) ≡ true
+start-known h d t e l = grind (arith, nat_tests)
+
+start-calm : (h : Phase) → is_resetting h ≡ true → is_contending h ≡ false
+start-calm h e = grind arith
+
+module _
+    (w : CableWorld) (l : IsLawful w) (node set core : ℕ) (comp : IsComponent w.cabling node set)
+    (is_core : IsCore w.cabling set core) (empty : IsEmpty core) (small : set < 2 ^ 63)
+    (fresh : IsFresh w set) (f : ℕ) (alone : WaitsAlone w set f) where
+  abbrev spread : ℕ
+  spread = length w.nodes * w.delay
+
+  abbrev reached : ℕ
+  reached = (length w.nodes - 1) * w.delay
+
+  reached-is : reached + w.delay ≤ 63 * w.delay
+  reached-is = omega (arith, sum (length w.nodes) w.delay (omega (arith, slice_inside)), spread-most w l node set comp fresh)
+    where
+      slice_inside : 1 ≤ length w.nodes
+      slice_inside = some-nodes w set fresh
+
+      sum : (n d : ℕ) → 1 ≤ n → (n - 1) * d + d ≡ n * d
+      sum zero d h = absurd (omega (arith, h))
+      sum (suc n) d h = let z : suc n - 1 ≡ n = omega arith in rw z (grind arith)
+
+  -- ---- nodes in R0
+
+  -- whoever is in R0 has been there since all were
+  risen :
+      (j k : ℕ) (x : PortNode) → Holds set k →
+      slice_get (turns_after (reached + j) w).nodes k ≡ Some x →
+      is_resetting x.state.view.phase ≡ true → j ≤ x.state.view.timer
+  risen zero k x h at r = omega arith
+  risen (suc j) k y h at r = go (risen j k)
+    where
+      v : CableWorld
+      v = turns_after (reached + j) w
+
+      step : turns_after (reached + suc j) w ≡ turn (turns_after (reached + j) w)
+      step = let z : reached + suc j ≡ reached + j + 1 = omega arith in ap (λ n. turns_after n w) z ∙ one-more (reached + j) w
+
+      at-turn : slice_get (turn (turns_after (reached + j) w)).nodes k ≡ Some y
+      at-turn = ap (λ (u : CableWorld). slice_get u.nodes k) (sym step) ∙ at
+
+      t : Turned (turns_after (reached + j) w) k y
+      t = turned (turns_after (reached + j) w) (turns-lawful (reached + j) w l) k y at-turn
+
+      was : (b : Bool) → is_resetting t.node.state.view.phase ≡ b → b ≡ true
+      was true e = refl
+      was false e = elim (cases_lt (reached + j) (64 * w.delay)) [
+        | inl soon ↦ (let low : reached ≤ reached + j = omega arith in sym e ∙ (all-reset w l node set comp fresh (reached + j) low soon k t.node h t.at).0)
+        | inr later ↦
+            absurd (true≢false (sym r ∙ steady w l (reached + j) (omega (arith, later, spread-most w l node set comp fresh)) k t.node y t.at
+            (ap (λ (u : CableWorld). slice_get u.nodes k) (one-more (reached + j) w) ∙ at-turn) e))
+      ]
+
+      go :
+          ((x : PortNode) → Holds set k → slice_get (turns_after (reached + j) w).nodes k ≡ Some x → is_resetting x.state.view.phase ≡ true → j ≤ x.state.view.timer)
+          → suc j ≤ y.state.view.timer
+      go before =
+          let there : is_resetting t.node.state.view.phase ≡ true = was (is_resetting t.node.state.view.phase) refl in
+          omega (arith, (in-turn (turns_after (reached + j) w) (turns-lawful (reached + j) w l) k t.node y t.at at-turn).rises there r, before t.node h t.at there)
+
+  -- once a node has left R0, those in R0 or before the tree have known of the reset for long
+  known :
+      (i : ℕ) → spread ≤ i → (k : ℕ) (x : PortNode) → Holds set k →
+      slice_get (turns_after i w).nodes k ≡ Some x → is_resetting x.state.view.phase ≡ false →
+      (j : ℕ) (y : PortNode) → Holds set j → slice_get (turns_after i w).nodes j ≡ Some y →
+      is_before_tree y.state.view.phase ≡ true →
+      is_reset_known (turns_after i w).delay y.state ≡ true
+  known i late k x h at out_x j y has at_y early = go (is_resetting y.state.view.phase) refl
+    where
+      before : reached ≤ i
+      before = omega (arith, late, reached-below)
+        where
+          reached-below : reached ≤ spread
+          reached-below = less (length w.nodes) w.delay (some-nodes w set fresh)
+            where
+              less : (n d : ℕ) → 1 ≤ n → (n - 1) * d ≤ n * d
+              less zero d h = absurd (omega (arith, h))
+              less (suc n) d h = let z : suc n - 1 ≡ n = omega arith in let p : suc n * d ≡ n * d + d = grind arith in rw z (omega (arith, p))
+
+      old : 64 * w.delay ≤ i
+      old = elim (cases_lt i (64 * w.delay)) [
+        | inl soon ↦ absurd (true≢false (sym (all-reset w l node set comp fresh i before soon k x h at).0 ∙ out_x))
+        | inr later ↦ omega (arith, later)
+      ]
+
+      go :
+          (b : Bool) → is_resetting y.state.view.phase ≡ b →
+          is_reset_known (turns_after i w).delay y.state ≡ true
+      go false e = between-known (turns_after i w).delay y.state (outside y.state.view.phase early e)
+      go true e =
+          let z : i ≡ reached + (i - reached) = omega (arith, before) in
+          let timer : i - reached ≤ y.state.view.timer = risen (i - reached) j y has (subst (λ n. slice_get (turns_after n w).nodes j ≡ Some y) z at_y) e in
+          start-known y.state.view.phase (turns_after i w).delay y.state.view.timer e (omega (arith, timer, old, reached-is, after-delay w l i, l.well_formed.some_delay))
+
+  -- ---- one turn
+
+  -- the port of each node towards the one that waits
+  abbrev pub way : ℕ → Option ℕ
+  way = (up w l node set core comp is_core empty small fresh f alone).0
+
+  -- what is so of each node
+  pub record Faces (i k : ℕ) (x : NodeState) : Type 0 where
+    pub faces : is_before_tree x.view.phase ≡ false → x.view.parent ≡ way k
+    pub calm : is_contending x.view.phase ≡ false
+
+  abbrev AllFace : ℕ → Type 0
+  AllFace i = (k : ℕ) (x : PortNode) → Holds set k → slice_get (turns_after i w).nodes k ≡ Some x → Faces i k x.state
+
+  module _ (i : ℕ) (past : spread ≤ i) (all : AllFace i) (k : ℕ) (x : PortNode) (h : Holds set k) (at : slice_get (turns_after i w).nodes k ≡ Some x) (out_x : is_resetting x.state.view.phase ≡ false)
+      (p : ℕ) (b : End) (e : far w.cabling (end_at k p) ≡ Some b) (ne : way b.node ≢ Some b.port) where
+    abbrev v : CableWorld
+    v = turns_after i w
+
+    m : IsLawful (turns_after i w)
+    m = turns-lawful i w l
+
+    cable : far (turns_after i w).cabling (end_at k p) ≡ Some b
+    cable = ap (λ (c : Wiring). far c (end_at k p)) (after-cabling i w) ∙ e
+
+    back : far (turns_after i w).cabling b ≡ Some (end_at k p)
+    back = m.well_formed.cabling.both_ways (end_at k p) b cable
+
+    has : Holds set b.node
+    has = comp.closed (end_at k p) b e h
+
+    abbrev y : PortNode
+    y = (joined-of (turns_after i w) b (end_at k p) (turns-lawful i w l).well_formed back).near
+
+    at_y : slice_get (turns_after i w).nodes b.node ≡ Some y
+    at_y = (joined-of (turns_after i w) b (end_at k p) (turns-lawful i w l).well_formed back).near_at
+
+    from_y :
+        Coupling (turns_after i w).delay y.state b.port (wire_of (turns_after i w) b).signals x.state p (wire_of (turns_after i w) (end_at k p)).signals
+    from_y = m.coupled.cables b (end_at k p) y x back at_y at
+
+    from_x :
+        Coupling (turns_after i w).delay x.state p (wire_of (turns_after i w) (end_at k p)).signals y.state b.port (wire_of (turns_after i w) b).signals
+    from_x = m.coupled.cables (end_at k p) b x y cable at at_y
+
+    none-comes : has_reset (signals_of (wire_of (turns_after i w) (end_at k p)).signals) ≡ false
+    none-comes = go (has_reset (signals_of (wire_of (turns_after i w) (end_at k p)).signals)) refl
+      where
+        go :
+            (r : Bool) → has_reset (signals_of (wire_of (turns_after i w) (end_at k p)).signals)
+            ≡ r → r ≡ false
+        go false g = refl
+        go true g = absurd (true≢false (sym (from_x.reset g) ∙ out_x))
+
+    -- the node up the way neither tells Parent nor is shown to
+    both :
+        (is_parent (level_sent_at y.state b.port) ≡ false)
+        × (is_parent (level_shown x.state p) ≡ false)
+    both = go (is_before_tree y.state.view.phase) refl
+      where
+        go :
+            (c : Bool) → is_before_tree y.state.view.phase ≡ c →
+            (is_parent (level_sent_at y.state b.port) ≡ false)
+            × (is_parent (level_shown x.state p) ≡ false)
+        go true g = (
+          early-tells y.state.view.phase (leads_down y.state.view.ports b.port) g,
+          low-unasked (level_shown x.state p) (from_y.no_notice (known i past k x h at out_x b.node y has at_y g)).0,
+        )
+        go false g =
+            let faced : y.state.view.parent ≡ way b.node = (all b.node y has at_y).faces g in
+            let other : is_port y.state.view.parent b.port ≡ false = port-is-not y.state.view.parent b.port (λ s. ne (sym faced ∙ s)) in
+            let child : leads_down y.state.view.ports b.port ≡ true =
+            child-if y.state.view.parent y.state.view.ports b.port (late-roles y.state (m.well_formed.nodes b.node y at_y).valid g) (cable-connected v b (end_at k p) y m.well_formed back at_y) ∙ ap not other in
+            (late-tells y.state.view.phase (leads_down y.state.view.ports b.port) g child, (from_y.child child none-comes).1)
+
+    -- so the port shows no Parent before the clock ticks
+    heard-unasked : is_parent (level_shown (heard_by (turns_after i w) k x) p) ≡ false
+    heard-unasked =
+        ap is_parent ((hears v k x m.well_formed at).shown p (cable-connected v (end_at k p) b x m.well_formed cable at) ∙ ap (level_after (level_shown x.state p)) (comes v b (end_at k p) cable))
+        ∙ go (gives v.delay (age_wire (wire_of v b)))
+      where
+        level :
+            level_after (level_shown x.state p) (signals_of (wire_of (turns_after i w) b).signals)
+            ≡ level_sent_at y.state b.port
+        level = m.agrees.levels b (end_at k p) y x back at_y at
+
+        go :
+            (g : Bool) →
+            is_parent (level_after (level_shown x.state p) (if g then signals_of (wire_of (turns_after i w) b).signals else []))
+            ≡ false
+        go true = ap is_parent level ∙ both.0
+        go false = both.1
+
+    on : is_connected (heard_by (turns_after i w) k x).view.ports p ≡ true
+    on = (hears v k x m.well_formed at).cables p ∙ cable-connected v (end_at k p) b x m.well_formed cable at
+
+  -- the way up of a node leads to one whose way up isn't there
+  way-leads :
+      (k p : ℕ) → Holds set k → way k ≡ Some p → (b : End) × (far w.cabling (end_at k p) ≡ Some b)
+      × (way b.node ≢ Some b.port)
+  way-leads k p h e = elim (cases_eq k f) [
+    | inl same ↦ (let none : None ≡ Some p = sym (ap way same ∙ (up w l node set core comp is_core empty small fresh f alone).1.ups.none) ∙ e in absurd cc)
+    | inr other ↦
+        let u : LeadsUp w.cabling way k = (up w l node set core comp is_core empty small fresh f alone).1.ups.others k h other in
+        let same : u.port ≡ p = some-same u.port p (sym u.is ∙ e) in
+        (u.end, ap (λ q. far w.cabling (end_at k q)) (sym same) ∙ u.joined, u.child)
+  ]
+
+  unasked-at :
+      (x : NodeState) (p : ℕ) → is_parent (level_shown x p) ≡ false →
+      port_is (λ q. is_parent q.shown) x.view.ports p ≡ false
+  unasked-at x p s = go (slice_get x.view.ports p) s
+    where
+      go :
+          (o : Option PortView) → is_parent (shown_or_idle o) ≡ false →
+          passes (λ q. is_parent q.shown) o ≡ false
+      go None s = refl
+      go (Some q) s = s
+
+  -- the node that waits gets no parent port
+  alone-parentless :
+      (i : ℕ) (y : PortNode) → spread ≤ i → slice_get (turns_after i w).nodes f ≡ Some y →
+      is_before_tree y.state.view.phase ≡ false → y.state.view.parent ≡ None
+  alone-parentless i y past at g = elim (cases_lt i (320 * w.delay)) [
+    | inl soon ↦
+        let z : i ≡ spread + (i - spread) = omega (arith, past) in
+        (waiting w l node set comp fresh (i - spread) f y (omega (arith, soon, past)) alone.holds alone.waits (subst (λ n. slice_get (turns_after n w).nodes f ≡ Some y) z at)).late g
+    | inr later ↦
+        let most : enough w l node set core comp is_core empty small fresh f alone ≤ i = omega (arith, later, spread-most w l node set comp fresh) in
+        let z : i ≡ enough w l node set core comp is_core empty small fresh f alone + (i - enough w l node set core comp is_core empty small fresh f alone) = omega (arith, most) in
+        parentless w l node set core comp is_core empty small fresh f alone (i - enough w l node set core comp is_core empty small fresh f alone) y (subst (λ n. slice_get (turns_after n w).nodes f ≡ Some y) z at)
+  ]
+
+  module _
+      (i : ℕ) (past : spread ≤ i) (all : AllFace i) (k : ℕ) (y : PortNode) (h : Holds set k)
+      (at : slice_get (turns_after (i + 1) w).nodes k ≡ Some y) where
+    abbrev c : Calmly (turns_after i w) k y.state
+    c = steadily w l i past k y at
+
+    abbrev now : NodeState
+    now = heard_by (turns_after i w) k (steadily w l i past k y at).node
+
+    out-of : is_before_tree now.view.phase ≡ false → is_resetting c.node.state.view.phase ≡ false
+    out-of g = late-start c.node.state.view.phase (ap is_before_tree (sym c.heard.phase) ∙ g)
+
+    unasked : Unasked (way k) now
+    unasked g = (
+      c.heard.parent ∙ (all k c.node h c.at).faces (ap is_before_tree (sym c.heard.phase) ∙ g),
+      (λ p e. let b = way-leads k p h e in unasked-at now p (heard-unasked i past all k c.node h c.at (out-of g) p b.0 b.1 b.2)),
+    )
+
+    calms : Calms (coin c.node.coins) now (tick (coin c.node.coins) now).state
+    calms = tick-calms (coin c.node.coins) now (way k) (ap is_contending c.heard.phase ∙ (all k c.node h c.at).calm) unasked
+
+    faces-next : is_before_tree y.state.view.phase ≡ false → y.state.view.parent ≡ way k
+    faces-next g = go (is_before_tree now.view.phase) refl
+      where
+        taken : is_before_tree now.view.phase ≡ true → k ≢ f → y.state.view.parent ≡ way k
+        taken e other =
+            let takes : Takes now (tick (coin c.node.coins) now).state = tick-takes (coin c.node.coins) now e (sym (ap (λ (z : NodeState). is_before_tree z.view.phase) c.is) ∙ g) in
+            let u : LeadsUp w.cabling way k = (up w l node set core comp is_core empty small fresh f alone).1.ups.others k h other in
+            let out_x : is_resetting c.node.state.view.phase ≡ false = ap is_resetting (sym c.heard.phase ∙ takes.start) in
+            let quiet : is_parent (level_shown now u.port) ≡ false = heard-unasked i past all k c.node h c.at out_x u.port u.end u.joined u.child in
+            let left : is_port (lowest is_remaining now.view.ports) u.port ≡ true = left-parent (raise_timer now) u.port takes.decided (on i past all k c.node h c.at out_x u.port u.end u.joined u.child) quiet in
+            ap (λ (z : NodeState). z.view.parent) c.is ∙ takes.parent ∙ port-is (lowest is_remaining now.view.ports) u.port left ∙ sym u.is
+
+        go : (b : Bool) → is_before_tree now.view.phase ≡ b → y.state.view.parent ≡ way k
+        go false e = ap (λ (z : NodeState). z.view.parent) c.is ∙ calms.parent e ∙ (unasked e).0
+        go true e = elim (cases_eq k f) [
+          | inl same ↦
+              let late : spread ≤ i + 1 = omega (arith, past) in
+              alone-parentless (i + 1) y late (subst (λ j. slice_get (turns_after (i + 1) w).nodes j ≡ Some y) same at) g
+              ∙ sym (ap way same ∙ (up w l node set core comp is_core empty small fresh f alone).1.ups.none)
+          | inr other ↦ taken e other
+        ]
+
+    face-next : Faces (i + 1) k y.state
+    face-next = record { faces = faces-next; calm = ap (λ (z : NodeState). is_contending z.view.phase) c.is ∙ calms.calm }
+
+    -- and it draws no coin
+    undrawn-next : y.state.view.draws ≡ c.node.state.view.draws
+    undrawn-next = ap (λ (z : NodeState). z.view.draws) c.is ∙ calms.draws ∙ (kept-heard (signals (turns_after i w) k) c.node.state (ap is_resetting c.heard.phase)).1
+
+  -- ---- many turns
+
+  all-face : (j : ℕ) → AllFace (spread + j)
+  all-face zero k x h at = record { faces = λ g. absurd (true≢false (sym (start-before_tree x.state.view.phase there) ∙ g)); calm = start-calm x.state.view.phase there }
+    where
+      z : spread + 0 ≡ spread
+      z = omega arith
+
+      below : (n d : ℕ) → 1 ≤ n → (n - 1) * d ≤ n * d
+      below zero d h = absurd (omega (arith, h))
+      below (suc n) d h = let z : suc n - 1 ≡ n = omega arith in let p : suc n * d ≡ n * d + d = grind arith in rw z (omega (arith, p))
+
+      there : is_resetting x.state.view.phase ≡ true
+      there =
+          (all-reset w l node set comp fresh spread (below (length w.nodes) w.delay (some-nodes w set fresh)) (omega (arith, spread-most w l node set comp fresh, l.well_formed.some_delay)) k x h
+          (subst (λ n. slice_get (turns_after n w).nodes k ≡ Some x) z at)).0
+  all-face (suc j) k x h at =
+      let z : spread + suc j ≡ spread + j + 1 = omega arith in
+      let past : spread ≤ spread + j = omega arith in
+      let q = face-next (spread + j) past (all-face j) k x h (subst (λ n. slice_get (turns_after n w).nodes k ≡ Some x) z at) in
+      record { faces = q.faces; calm = q.calm }
+
+  at-all : (i : ℕ) → spread ≤ i → AllFace i
+  at-all i past = let z : spread + (i - spread) ≡ i = omega (arith, past) in subst AllFace z (all-face (i - spread))
+
+  pub faces-up :
+      (i k : ℕ) (x : PortNode) → length w.nodes * w.delay ≤ i → Holds set k →
+      slice_get (turns_after i w).nodes k ≡ Some x → is_before_tree x.state.view.phase ≡ false →
+      x.state.view.parent ≡ (up w l node set core comp is_core empty small fresh f alone).0 k
+  faces-up i k x past h at g = (at-all i past k x h at).faces g
+
+  pub no-draws :
+      (i k : ℕ) (x y : PortNode) → length w.nodes * w.delay ≤ i → Holds set k →
+      slice_get (turns_after i w).nodes k ≡ Some x →
+      slice_get (turns_after (i + 1) w).nodes k ≡ Some y → y.state.view.draws ≡ x.state.view.draws
+  no-draws i k x y past h at_x at =
+      let q : Calmly (turns_after i w) k y.state = steadily w l i past k y at in
+      undrawn-next i past (at-all i past) k y h at ∙ ap (λ (u : PortNode). u.state.view.draws) (some-same q.node x (sym q.at ∙ at_x))

@@ -1,0 +1,390 @@
+-- What the walk gives a component that identifies itself: room for each next group, and at rest its
+-- tree.
+use Rattle.std.proofs.Common.{length-append, ◌≡◌, inl, inr, ℕ, zero, suc, ◌+◌, ◌-◌, ◌*◌, ◌<◌, ◌≤◌, Bool, true, false, not, ◌&&◌, ◌==◌, List, [], ◌∷◌, ◌++◌, length, Option, Some, None, slice_get, refl, sym, ◌∙◌, ap, subst, arith, true≢false, if◌then◌else◌}
+use Rattle.std.specs.Prelude.{nat_le}
+use Rattle.std.proofs.lemmas.Bool.{le-leb, and_parts, and_from, eq-eqb}
+use Rattle.std.proofs.lemmas.Option.{slice_get_within}
+use Rattle.self_id.specs.Node.{Node}
+use Rattle.self_id.specs.Group.{group, node_count}
+use Rattle.self_id.proofs.Laws.{length-group}
+use Rattle.topology_stack.specs.Tree.{Tree, emits}
+use Rattle.cabling.specs.declared.cable.End.{End}
+use Rattle.cabling.specs.Wiring.{far, ports_of}
+use Rattle.cabling.specs.NodeSet.{Holds}
+use Rattle.cabling.specs.Sees.{numbers}
+use Rattle.outcomes.specs.Emit.{emit}
+use Rattle.port_state.specs.declared.signal.Phase.{Phase}
+use Rattle.port_state.specs.declared.signal.Phase.TheVariants as phase
+use Rattle.port_state.specs.declared.signal.Signal.{Signal}
+use Rattle.port_state.specs.declared.signal.Signal.TheVariants as signal
+use Rattle.port_state.specs.declared.states.NodeState.{NodeState}
+use Rattle.port_state.specs.Coins.{coin}
+use Rattle.port_state.specs.Ports.{is_unnamed, lowest}
+use Rattle.port_state.specs.Sends.{sent_on}
+use Rattle.port_state.specs.Step.{silent_step}
+use Rattle.port_state.specs.Heard.{hears_packets, hears, is_heard, on_signal}
+use Rattle.port_state.specs.SelfIdentify.{may_name}
+use Rattle.port_state.specs.Group.{shown_node, own_group}
+use Rattle.port_state.specs.Machine.{PortNode}
+use Rattle.port_state.specs.Tick.{raise_timer, row_of, does, tick}
+use Rattle.port_state.proofs.Shown.{shown-is_node}
+use Rattle.cable_world.specs.Wire.{age_wire, gives}
+use Rattle.cable_world.specs.World.{CableWorld, wire_of}
+use Rattle.cable_world.specs.Turn.{inbox, turn, turns_after, hear_all}
+use Rattle.cable_world.specs.Run.{IsReached}
+use Rattle.cable_world.specs.Signals.{signals_of}
+use Rattle.cable_world.specs.Lawful.{IsLawful}
+use Rattle.cable_world.specs.Outcome.{IsTree}
+use Rattle.cable_world.proofs.turns.ByNumber.{one-more}
+use Rattle.cable_world.proofs.coupling.CouplingInTurns.{before}
+use Rattle.cable_world.proofs.turns.HearsWell.{hear-stays}
+use Rattle.convergence.proofs.turns.Cables.{joined-of}
+use Rattle.cable_world.proofs.tables.CableEnds.{port-there}
+use Rattle.cable_world.proofs.StaysLawful.{turn-lawful, turns-lawful, reached-lawful}
+use Rattle.cable_world.proofs.turns.TurnParts.{turn-state, comes}
+use Rattle.convergence.specs.Acyclic.{IsAcyclic}
+use Rattle.convergence.specs.Milestones.{ResetsAreOver}
+use Rattle.outcomes.specs.NodeMarks.{is_ready, is_asked, is_named}
+use Rattle.outcomes.specs.Messages.{is_message, silent, quads_in, has_grant, has_done, kept, parent_mode, child_mode}
+use Rattle.outcomes.proofs.identify.OneMessage.{no-grant, no-done, child-grants-none, parent-says-none}
+use Rattle.outcomes.proofs.identify.Ports.{child-role}
+use Rattle.outcomes.specs.Identify.{IsIdentifying}
+use Rattle.outcomes.specs.RootWalk.{place_now, IsNamed}
+use Rattle.outcomes.specs.Numbered.{IsSettling, IsAtRest}
+use Rattle.outcomes.proofs.identify.Hearing.{Stays, signal-stays, reset-heard}
+use Rattle.outcomes.proofs.identify.IdentifyingTurn.{turn-identifying}
+use Rattle.outcomes.proofs.identify.ListsFollow.{IsAbove, one-above}
+use Rattle.outcomes.proofs.identify.MarksKept.{hears-late, all-named}
+use Rattle.outcomes.proofs.identify.Messages.{kept-room, silent-quads}
+use Rattle.outcomes.proofs.roots.Named.{named-tree}
+use Rattle.outcomes.proofs.numbers.NumberedTurn.{still-there, nothing-comes, heard-so, stayed}
+use Rattle.outcomes.proofs.roots.RootWalk.{node-at}
+use Rattle.outcomes.proofs.numbers.Settling.{Up, climbs, settles-on}
+use Rattle.convergence.proofs.ranks.StaysAcyclic.{reached-acyclic, turns-acyclic}
+use Rattle.outcomes.proofs.identify.StaysIdentifying.{reached-identifying, turns-identifying}
+use Rattle.convergence.proofs.resets.ResetsOver.{resets-over}
+use Rattle.cable_world.proofs.running.Lists.{no-packets}
+
+-- ---- the room for a group
+
+module _
+    (w : CableWorld) (l : IsLawful w) (acyclic : IsAcyclic w) (i : IsIdentifying w)
+    (over : ResetsAreOver w) (set core root : ℕ) (t : Tree) (s : IsSettling w set core root t) where
+  pub there : (k : ℕ) → Holds set k → (x : PortNode) × (slice_get w.nodes k ≡ Some x)
+  there = node-at w l acyclic over root set core root s.component s.is_core s.small s.inside s.is_root
+
+  group-short :
+      (k id : ℕ) (x : PortNode) → slice_get w.nodes k ≡ Some x → length (own_group x.state id) ≤ 3
+  group-short k id x at = (length-group (shown_node x.state) id (shown-is_node x.state (l.well_formed.nodes k x at).valid.bounded)).1
+
+  emit-short : (m : ℕ) → m ≤ length (numbers w.cabling root t) → length (emit t m) ≤ 3 * m
+  emit-short zero le = omega (arith, ap length s.walk.none)
+  emit-short (suc m) le =
+      let c = s.walk.marked.covers m (omega (arith, le)) in
+      let here : place_now w root t c.0 ≡ m = c.2 in
+      let n = there c.0 c.1 in
+      let add : emit t (m + 1) ≡ emit t m ++ own_group n.0.state m = subst (λ (j : ℕ). emit t (j + 1) ≡ emit t j ++ own_group n.0.state j) here (s.walk.next c.0 n.0 c.1 n.1) in
+      let later : suc m ≡ m + 1 = omega arith in
+      omega (arith, ap (λ (j : ℕ). length (emit t j)) later, ap length add, length-append (emit t m) (own_group n.0.state m), emit-short m (omega (arith, le)), group-short c.0 m n.0 n.1)
+
+  place-few : (k : ℕ) → Holds set k → place_now w root t k < length (numbers w.cabling root t)
+  place-few k h = slice_get_within (numbers w.cabling root t) (place_now w root t k) k (s.walk.marked.at k h)
+
+  -- a granted node without an unnamed child has what the nodes before it emitted, and room for its
+  -- group
+  pub has-prefix :
+      (k : ℕ) (x : PortNode) → Holds set k → slice_get w.nodes k ≡ Some x →
+      x.state.view.granted ≡ true → is_ready x.state.view.phase ≡ false →
+      lowest is_unnamed x.state.view.ports ≡ None →
+      x.state.list.items ≡ emit t (place_now w root t k)
+  has-prefix k x h at g u low =
+      let m = i.nodes k x at in
+      let v = (l.well_formed.nodes k x at).valid in
+      s.numbered.turns k x.state.ports x h at g u (omega arith) (record {
+        named = λ j less d. all-named x.state v (hears-late x.state.view.phase (s.all k x h at)) low j d;
+        unasked = λ j more. beyond j more (is_asked x.state j) refl;
+      }) ∙ ap (emit t) (s.walk.last k x at)
+    where
+      beyond : (j : ℕ) → x.state.ports ≤ j → (b : Bool) → is_asked x.state j ≡ b → b ≡ false
+      beyond j more false e = refl
+      beyond j more true e =
+          let p = port-there x.state j (child-role x.state j (l.well_formed.nodes k x at).valid (hears-late x.state.view.phase (s.all k x h at)) ((i.nodes k x at).asked j e)).1 in
+          absurd (omega (arith, more, slice_get_within x.state.view.ports j p.0 p.1, (l.well_formed.nodes k x at).valid.bounded.views))
+
+  pub room-for :
+      (k : ℕ) (x : PortNode) → Holds set k → slice_get w.nodes k ≡ Some x → (y : NodeState) →
+      shown_node y ≡ shown_node x.state → y.list.items ≡ emit t (place_now w root t k) →
+      may_name y ≡ true
+  room-for k x h at y shown prefix =
+      let id = node_count y.list.items in
+      let few = place-few k h in
+      let many : id ≡ place_now w root t k = ap node_count prefix ∙ s.walk.counts (place_now w root t k) (omega (arith, few)) in
+      let short = emit-short (place_now w root t k) (omega (arith, few)) in
+      let own : length (own_group y id) ≡ length (own_group x.state id) = ap (λ (n : Node). length (group n id)) shown in
+      and_from (nat_le id 62) (nat_le (length y.list.items + length (own_group y id)) 252)
+      (le-leb id 62 (omega (arith, many, few, s.walk.few)))
+      (le-leb (length y.list.items + length (own_group y id)) 252 (omega (arith, ap length prefix, short, few, s.walk.few, own, group-short k id x at)))
+
+  pub has-room :
+      (k : ℕ) (x : PortNode) → Holds set k → slice_get w.nodes k ≡ Some x →
+      x.state.view.granted ≡ true → is_ready x.state.view.phase ≡ false →
+      lowest is_unnamed x.state.view.ports ≡ None → may_name x.state ≡ true
+  has-room k x h at g u low = room-for k x h at x.state refl (has-prefix k x h at g u low)
+
+  -- ---- at rest
+
+  module _ (rest : IsAtRest w set) where
+    up-same :
+        (k : ℕ) (x : PortNode)
+        (u : Up w l acyclic i set root s.component s.inside over s.is_root s.all k x) →
+        Holds set k → slice_get w.nodes k ≡ Some x → u.is.state.list.items ≡ x.state.list.items
+    up-same k x u h at =
+        let b : End = record { node = k; port = u.port } in
+        let back = l.well_formed.cabling.both_ways u.end b u.joined in
+        let no-up : quads_in (signals_of (wire_of w b).signals) ≡ [] = silent-quads (signals_of (wire_of w b).signals) (rest.silent b u.end h back) in
+        let no-down : quads_in (signals_of (wire_of w u.end).signals) ≡ [] = silent-quads (signals_of (wire_of w u.end).signals) (rest.silent u.end b u.inside_too u.joined) in
+        sym (ap (kept u.is.state.list.items) no-up) ∙ u.above.line.agree ∙ ap (kept x.state.list.items) no-down
+
+    root-list : s.is_root.node.state.list.items ≡ emits t
+    root-list =
+        s.numbered.last root s.is_root.node s.inside s.is_root.at (rest.ready root s.is_root.node s.inside s.is_root.at) s.is_root.parentless
+        ∙ ap (emit t) s.walk.marked.last ∙ s.walk.all
+
+    pub rest-lists :
+        (k : ℕ) (x : PortNode) → Holds set k → slice_get w.nodes k ≡ Some x →
+        x.state.list.items ≡ emits t
+    rest-lists k x h at =
+        climbs w l acyclic i set root s.component s.inside over s.is_root s.all (λ j y. x.state.list.items ≡ y.state.list.items) (λ j y u h_j at_j same. same ∙ sym (up-same j y u h_j at_j))
+        (acyclic.most - acyclic.rank k) k x (omega arith) h at refl
+        ∙ root-list
+
+    rest-named : IsNamed w set root t
+    rest-named = record { ids = λ k x h at. s.numbered.ids k x h at (rest.ready k x h at); lists = rest-lists }
+
+    pub rest-tree : IsTree w set root t
+    rest-tree = named-tree w l acyclic over root set core root s.component s.is_core s.small s.inside s.is_root t s.walk rest-named
+
+-- ---- a turn at rest
+
+pub silent-of :
+    (ss : List Signal) → has_grant ss ≡ false → has_done ss ≡ false → quads_in ss ≡ [] →
+    silent ss ≡ true
+silent-of [] g d q = refl
+silent-of (signal.Packet quad ∷ ss) g d q = absurd cc
+silent-of (signal.Grant ∷ ss) g d q = absurd (true≢false g)
+silent-of (signal.Done ∷ ss) g d q = absurd (true≢false d)
+silent-of (signal.Reset ∷ ss) g d q = silent-of ss g d q
+silent-of (signal.Idle ∷ ss) g d q = silent-of ss g d q
+silent-of (signal.Parent ∷ ss) g d q = silent-of ss g d q
+silent-of (signal.Child ∷ ss) g d q = silent-of ss g d q
+
+signal-list :
+    (k : ℕ) (s : Signal) (x : NodeState) → hears_packets x.view.phase ≡ true →
+    hears_packets (on_signal k s x).state.view.phase ≡ true → is_message s ≡ false →
+    (on_signal k s x).state.list.items ≡ x.list.items
+unfolding on_signal
+signal-list k s x h on t = go (is_heard k s x) on
+  where
+    heard-so :
+        (s : Signal) → is_message s ≡ false → hears_packets (hears k s x).state.view.phase ≡ true →
+        (hears k s x).state.list.items ≡ x.list.items
+    heard-so signal.Reset t on = absurd (reset-heard k x h on)
+    heard-so signal.Idle t on = refl
+    heard-so signal.Parent t on = refl
+    heard-so signal.Child t on = refl
+    heard-so signal.Grant t on = refl
+    heard-so (signal.Packet quad) t on = absurd (true≢false t)
+    heard-so signal.Done t on = refl
+
+    go :
+        (b : Bool) →
+        hears_packets (if b then hears k s x else silent_step x).state.view.phase ≡ true →
+        (if b then hears k s x else silent_step x).state.list.items ≡ x.list.items
+    go true on = heard-so s t on
+    go false on = refl
+
+first-level :
+    (b : Bool) (s : Signal) (ss : List Signal) → b ≡ true → silent (if b then s ∷ ss else ss)
+    ≡ true → is_message s ≡ false
+first-level false s ss e h = absurd (true≢false (sym e))
+first-level true s ss e h = go (is_message s) (and_parts (not (is_message s)) (silent ss) h).0
+  where
+    go : (c : Bool) → not c ≡ true → c ≡ false
+    go true e = absurd (true≢false (sym e))
+    go false e = refl
+
+later-silent :
+    (b : Bool) (s : Signal) (ss : List Signal) → silent (if b then s ∷ ss else ss) ≡ true →
+    silent ss ≡ true
+later-silent true s ss h = (and_parts (not (is_message s)) (silent ss) h).1
+later-silent false s ss h = h
+
+hears-no-list :
+    (signals : List (ℕ × Signal)) (x : NodeState) → hears_packets x.view.phase ≡ true →
+    hears_packets (hear_all signals x).state.view.phase ≡ true →
+    ((j : ℕ) → silent (sent_on j signals) ≡ true) →
+    (hear_all signals x).state.list.items ≡ x.list.items
+hears-no-list [] x h on q = refl
+hears-no-list (s ∷ rest) x h on q = elim (signal-stays s.0 s.1 x) [
+  | inl t ↦ then-so t (hears-no-list rest (on_signal s.0 s.1 x).state)
+  | inr t ↦ absurd (no-packets (hear_all rest (on_signal s.0 s.1 x).state).state.view.phase (hear-stays rest (on_signal s.0 s.1 x).state t) on)
+]
+  where
+    use-level : is_message s.1 ≡ false
+    use-level = first-level (s.0 == s.0) s.1 (sent_on s.0 rest) (eq-eqb s.0 s.0 refl) (q s.0)
+
+    then-so :
+        Stays x (on_signal s.0 s.1 x).state →
+        (hears_packets (on_signal s.0 s.1 x).state.view.phase ≡ true → hears_packets (hear_all rest (on_signal s.0 s.1 x).state).state.view.phase ≡ true → ((j : ℕ) → silent (sent_on j rest) ≡ true) → (hear_all rest (on_signal s.0 s.1 x).state).state.list.items ≡ (on_signal s.0 s.1 x).state.list.items)
+        →
+        (hear_all rest (on_signal s.0 s.1 x).state).state.list.items ≡ x.list.items
+    then-so t rest-so =
+        let n1 : hears_packets (on_signal s.0 s.1 x).state.view.phase ≡ true = ap hears_packets t.phase ∙ h in
+        rest-so n1 on (λ j. later-silent (s.0 == j) s.1 (sent_on j rest) (q j)) ∙ signal-list s.0 s.1 x h n1 use-level
+
+ready-list :
+    (coin : Bool) (x : NodeState) → is_ready x.view.phase ≡ true →
+    (tick coin x).state.list.items ≡ x.list.items
+unfolding tick
+ready-list coin x r = go x.view.phase r
+  where
+    go :
+        (f : Phase) → is_ready f ≡ true →
+        (does coin (row_of f (raise_timer x)) (raise_timer x)).state.list.items ≡ x.list.items
+    go phase.Ready r = refl
+    go f r = absurd cc
+
+module _
+    (w : CableWorld) (l : IsLawful w) (acyclic : IsAcyclic w) (i : IsIdentifying w)
+    (over : ResetsAreOver w) (later : ResetsAreOver (turn w)) (set core root : ℕ) (t : Tree)
+    (s : IsSettling w set core root t) (rest : IsAtRest w set) where
+  v-settles : IsSettling (turn w) set core root t
+  v-settles = settles-on w l acyclic i over later set core root t s
+
+  v-lawful : IsLawful (turn w)
+  v-lawful = turn-lawful w l
+
+  v-identifying : IsIdentifying (turn w)
+  v-identifying = turn-identifying w l i
+
+  box-silent :
+      (k j : ℕ) → Holds set k → silent (sent_on j (inbox w 0 (ports_of w.cabling k))) ≡ true
+  box-silent k j h = go (far w.cabling (record { node = k; port = j })) refl
+    where
+      given-silent :
+          (g : Bool) (ss : List Signal) → silent ss ≡ true → silent (if g then ss else []) ≡ true
+      given-silent true ss e = e
+      given-silent false ss e = refl
+
+      go :
+          (o : Option End) → far w.cabling (record { node = k; port = j }) ≡ o →
+          silent (sent_on j (inbox w 0 (ports_of w.cabling k))) ≡ true
+      go None e = ap silent (nothing-comes w l i set root t s.component.closed s.walk s.all k j e)
+      go (Some b) e =
+          let a : End = record { node = k; port = j } in
+          ap silent (comes w b a e) ∙ given-silent (gives w.delay (age_wire (wire_of w b))) (signals_of (wire_of w b).signals) (rest.silent b a (s.component.closed a b e h) (l.well_formed.cabling.both_ways a b e))
+
+  ready-after :
+      (k : ℕ) (z : PortNode) → Holds set k → slice_get (turn w).nodes k ≡ Some z →
+      is_ready z.state.view.phase ≡ true
+  ready-after k z h at =
+      let x = before w k z l.well_formed at in
+      (stayed w l i set root t s.component.closed s.walk s.all s.numbered k x.0 z h x.1 at).ready (rest.ready k x.0 h x.1)
+
+  list-after :
+      (k : ℕ) (z : PortNode) → Holds set k → slice_get (turn w).nodes k ≡ Some z →
+      z.state.list.items ≡ emits t
+  list-after k z h at =
+      let x = before w k z l.well_formed at in
+      let y = (hear_all (inbox w 0 (ports_of w.cabling k)) x.0.state).state in
+      let o = heard-so w l i set root t s.component.closed s.walk s.all s.numbered k x.0 h x.1 in
+      ap (λ (u : PortNode). u.state.list.items) x.2 ∙ ap (λ (u : NodeState). u.list.items) (turn-state (inbox w 0 (ports_of w.cabling k)) x.0)
+      ∙ ready-list (coin x.0.coins) y (ap is_ready o.stays.phase ∙ rest.ready k x.0 h x.1)
+      ∙ hears-no-list (inbox w 0 (ports_of w.cabling k)) x.0.state (s.all k x.0 h x.1) (still-there w l i set root t s.component.closed s.walk s.all k x.0 h x.1) (λ j. box-silent k j h)
+      ∙ rest-lists w l acyclic i over set core root t s rest k x.0 h x.1
+
+  none-added : (xs ys : List ℕ) → xs ≡ xs ++ ys → ys ≡ []
+  none-added xs [] e = refl
+  none-added xs (y ∷ ys) e = absurd (omega (arith, ap length e, length-append xs (y ∷ ys)))
+
+  -- on a child cable nothing is under way, down or up
+  both-silent :
+      (a b : End) (x y : PortNode) → Holds set a.node → Holds set b.node →
+      slice_get (turn w).nodes a.node ≡ Some x → slice_get (turn w).nodes b.node ≡ Some y →
+      IsAbove (turn w) a b x y → (silent (signals_of (wire_of (turn w) a).signals) ≡ true)
+      × (silent (signals_of (wire_of (turn w) b).signals) ≡ true)
+  both-silent a b x y h_a h_b at_x at_y r =
+      let granted : y.state.view.granted ≡ true = r.line.readies (ready-after b.node y h_b at_y) in
+      let named : is_named x.state a.port ≡ true = (v-identifying.nodes a.node x at_x).all_named (ready-after a.node x h_a at_x) a.port r.child in
+      let no-up : quads_in (signals_of (wire_of (turn w) b).signals) ≡ [] = r.line.no_up (speaks-not y.state.view.granted (is_named x.state a.port) named) in
+      let same : x.state.list.items ≡ y.state.list.items = list-after a.node x h_a at_x ∙ sym (list-after b.node y h_b at_y) in
+      let joined : y.state.list.items ≡ y.state.list.items ++ quads_in (signals_of (wire_of (turn w) a).signals) =
+      sym same ∙ sym (ap (kept x.state.list.items) no-up) ∙ r.line.agree ∙ kept-room y.state.list.items (quads_in (signals_of (wire_of (turn w) a).signals)) r.line.room_down in
+      let no-down : quads_in (signals_of (wire_of (turn w) a).signals) ≡ [] = none-added y.state.list.items (quads_in (signals_of (wire_of (turn w) a).signals)) joined in
+      let up-quads-silent : has_grant (signals_of (wire_of (turn w) b).signals) ≡ false = no-grant (child_mode (is_asked x.state a.port) (is_named x.state a.port)) (signals_of (wire_of (turn w) b).signals) (child-grants-none (is_asked x.state a.port) (is_named x.state a.port)) r.line.fits_up in
+      let down-done : has_done (signals_of (wire_of (turn w) a).signals) ≡ false = no-done (parent_mode (is_ready y.state.view.phase) y.state.view.granted) (signals_of (wire_of (turn w) a).signals) (parent-says-none (is_ready y.state.view.phase) y.state.view.granted) r.line.fits_down in (
+        silent-of (signals_of (wire_of (turn w) a).signals) (r.line.granting ∙ off-by (is_asked x.state a.port) y.state.view.granted granted) down-done no-down,
+        silent-of (signals_of (wire_of (turn w) b).signals) up-quads-silent (r.line.naming ∙ off-by (is_ready y.state.view.phase) (is_named x.state a.port) named) no-up,
+      )
+    where
+      speaks-not : (g n : Bool) → n ≡ true → (g && not n) ≡ false
+      speaks-not g n e = grind arith
+
+      off-by : (a g : Bool) → g ≡ true → (a && not g) ≡ false
+      off-by a g e = grind arith
+
+  pub rests-on : IsAtRest (turn w) set
+  rests-on = record {
+    ready = ready-after;
+    silent = λ a b h e.
+        let n = joined-of (turn w) a b v-lawful.well_formed e in
+        let h_b : Holds set b.node = v-settles.component.closed a b e h in
+        elim (one-above (turn w) v-lawful v-identifying a b n.near n.other e n.near_at n.other_at (v-settles.all a.node n.near h n.near_at) (v-settles.all b.node n.other h_b n.other_at)) [
+          | inl r ↦ (both-silent a b n.near n.other h h_b n.near_at n.other_at r).0
+          | inr r ↦ (both-silent b a n.other n.near h_b h n.other_at n.near_at r).1
+        ];
+  }
+
+-- ---- turns of a reached world
+
+module _
+    (w : CableWorld) (r : IsReached w) (k : ℕ) (late : length w.nodes * w.delay ≤ k)
+    (set core root : ℕ) (t : Tree) where
+  abbrev pub at-turn : ℕ → CableWorld
+  at-turn j = turns_after (k + j) w
+
+  pub lawful-then : (j : ℕ) → IsLawful (at-turn j)
+  lawful-then j = turns-lawful (k + j) w (reached-lawful w r)
+
+  pub acyclic-then : (j : ℕ) → IsAcyclic (at-turn j)
+  acyclic-then j = turns-acyclic (k + j) w (reached-lawful w r) (reached-acyclic w r)
+
+  pub identifying-then : (j : ℕ) → IsIdentifying (at-turn j)
+  identifying-then j = turns-identifying (k + j) w (reached-lawful w r) (reached-identifying w r)
+
+  pub over-then : (j : ℕ) → ResetsAreOver (at-turn j)
+  over-then j = resets-over w (reached-lawful w r) (k + j) (omega (arith, late))
+
+  pub next-turn : (j : ℕ) → turn (at-turn j) ≡ at-turn (suc j)
+  next-turn j = sym (one-more (k + j) w) ∙ ap (λ (n : ℕ). turns_after n w) (let e : k + j + 1 ≡ k + suc j = omega arith in e)
+
+  pub over-next : (j : ℕ) → ResetsAreOver (turn (at-turn j))
+  over-next j = subst ResetsAreOver (sym (next-turn j)) (over-then (suc j))
+
+  -- it goes on, and at rest it stays so
+  pub settles-always :
+      IsSettling (turns_after k w) set core root t → (j : ℕ) → IsSettling (at-turn j)
+      set core root t
+  settles-always s zero = subst (λ (n : ℕ). IsSettling (turns_after n w) set core root t) (let e : k ≡ k + 0 = omega arith in e) s
+  settles-always s (suc j) = subst (λ (v : CableWorld). IsSettling v set core root t) (next-turn j) (settles-on (at-turn j) (lawful-then j) (acyclic-then j) (identifying-then j) (over-then j) (over-next j) set core root t (settles-always s j))
+
+  pub rests-always :
+      (s : IsSettling (turns_after k w) set core root t) → IsAtRest (turns_after k w) set → (j : ℕ)
+      → IsAtRest (at-turn j) set
+  rests-always s q zero = subst (λ (n : ℕ). IsAtRest (turns_after n w) set) (let e : k ≡ k + 0 = omega arith in e) q
+  rests-always s q (suc j) = subst (λ (v : CableWorld). IsAtRest v set) (next-turn j) (rests-on (at-turn j) (lawful-then j) (acyclic-then j) (identifying-then j) (over-then j) (over-next j) set core root t (settles-always s j) (rests-always s q j))
+
+  pub stays-tree :
+      IsSettling (turns_after k w) set core root t → IsAtRest (turns_after k w) set → (j : ℕ) →
+      IsTree (at-turn j) set root t
+  stays-tree s q j = rest-tree (at-turn j) (lawful-then j) (acyclic-then j) (identifying-then j) (over-then j) set core root t (settles-always s j) (rests-always s q j)

@@ -1,0 +1,72 @@
+-- A hold keeps a component that identifies itself, and one at rest: nodes, cables and signals are
+-- the same.
+use Rattle.std.proofs.Common.{◌≡◌, ℕ, List, None, sym, ◌∙◌, ap}
+use Rattle.topology_stack.specs.Tree.{Tree}
+use Rattle.cabling.specs.declared.cable.End.{End}
+use Rattle.cable_world.specs.Act.{hold, hold_fault}
+use Rattle.cable_world.specs.Signals.{signals_of}
+use Rattle.cable_world.specs.Lawful.{IsLawful}
+use Rattle.cable_world.specs.declared.wire.Travelling.{Travelling}
+use Rattle.cable_world.specs.World.{CableWorld, wire_of}
+use Rattle.cable_world.proofs.acts.Happenings.{hold-signals}
+use Rattle.convergence.specs.Acyclic.{IsChildCable}
+use Rattle.outcomes.specs.Messages.{silent, quads_in, has_grant, has_done}
+use Rattle.outcomes.specs.Messages as message
+use Rattle.outcomes.specs.RootWalk.{RootWalk}
+use Rattle.outcomes.specs.Numbered.{IsNumbered, IsSettling, IsAtRest}
+
+module _
+    (end : End) (turns : ℕ) (w : CableWorld) (none : hold_fault end w ≡ None) (l : IsLawful w) where
+  same : (a : End) → (wire_of (hold end turns w) a).signals ≡ (wire_of w a).signals
+  same a = hold-signals end turns w none l.well_formed a
+
+  cable : (a b : End) → IsChildCable (hold end turns w) a b → IsChildCable w a b
+  cable a b e = record { joined = e.joined; above = e.above; above_at = e.above_at; child = e.child; below = e.below; below_at = e.below_at; parent = e.parent }
+
+  cable-then : (a b : End) → IsChildCable w a b → IsChildCable (hold end turns w) a b
+  cable-then a b e = record { joined = e.joined; above = e.above; above_at = e.above_at; child = e.child; below = e.below; below_at = e.below_at; parent = e.parent }
+
+  walk-held :
+      (set root : ℕ) (t : Tree) → RootWalk w set root t → RootWalk (hold end turns w) set root t
+  walk-held set root t k = record {
+    seen = k.seen;
+    parents = k.parents;
+    few = k.few;
+    marked = k.marked;
+    along = λ a b h c. k.along a b h (cable a b c);
+    flat = k.flat;
+    last = k.last;
+    children = λ j p b h c. cable-then (record { node = j; port = p }) b (k.children j p b h c);
+    in_turn = k.in_turn;
+    none = k.none;
+    all = k.all;
+    next = k.next;
+    counts = k.counts;
+  }
+
+  numbered-held :
+      (set root : ℕ) (t : Tree) → IsNumbered w set root t → IsNumbered (hold end turns w) set root t
+  numbered-held set root t n = record {
+    ids = n.ids;
+    turns = n.turns;
+    grants = λ a b x h e at g. ap (λ (ts : List Travelling). message.kept x.state.list.items (quads_in (signals_of ts))) (same a) ∙ n.grants a b x h e at (sym (ap (λ (ts : List Travelling). has_grant (signals_of ts)) (same a)) ∙ g);
+    dones = λ a b x h e at g. ap (λ (ts : List Travelling). message.kept x.state.list.items (quads_in (signals_of ts))) (same a) ∙ n.dones a b x h e at (sym (ap (λ (ts : List Travelling). has_done (signals_of ts)) (same a)) ∙ g);
+    last = n.last;
+  }
+
+  pub hold-settles :
+      (set core root : ℕ) (t : Tree) → IsSettling w set core root t → IsSettling (hold end turns w)
+      set core root t
+  hold-settles set core root t s = record {
+    component = s.component;
+    is_core = s.is_core;
+    small = s.small;
+    inside = s.inside;
+    is_root = record { node = s.is_root.node; at = s.is_root.at; late = s.is_root.late; parentless = s.is_root.parentless };
+    walk = walk-held set root t s.walk;
+    all = s.all;
+    numbered = numbered-held set root t s.numbered;
+  }
+
+  pub hold-rests : (set : ℕ) → IsAtRest w set → IsAtRest (hold end turns w) set
+  hold-rests set q = record { ready = q.ready; silent = λ a b h e. ap (λ (ts : List Travelling). silent (signals_of ts)) (same a) ∙ q.silent a b h e }

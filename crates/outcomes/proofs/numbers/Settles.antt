@@ -1,0 +1,533 @@
+-- A component that identifies itself comes to A0: of each node it is counted whether it was asked,
+-- granted, is in A0
+-- and was named, and the count rises within each d turns.
+use Rattle.std.proofs.Common.{◌≡◌, ◌⊎◌, inl, inr, ℕ, zero, suc, ◌+◌, ◌-◌, ◌*◌, ◌<◌, ◌≤◌, Bool, true, false, not, ◌&&◌, List, [], ◌∷◌, length, Option, Some, None, slice_get, refl, sym, ◌∙◌, ap, subst, arith, true≢false}
+use Rattle.std.proofs.lemmas.Option.{slice_get_within}
+use Rattle.phy_packet.specs.Layout.{bit}
+use Rattle.topology_stack.specs.Tree.{Tree}
+use Rattle.cabling.specs.declared.cable.End.{End}
+use Rattle.cabling.specs.Wiring.{Wiring, far}
+use Rattle.cabling.specs.NodeSet.{Holds}
+use Rattle.cabling.specs.Sees.{numbers}
+use Rattle.port_state.specs.declared.signal.Signal.{Signal}
+use Rattle.port_state.specs.declared.states.NodeState.{NodeState}
+use Rattle.port_state.specs.Machine.{PortNode}
+use Rattle.cable_world.specs.Wire.{Wire}
+use Rattle.cable_world.specs.declared.wire.Travelling.{Travelling}
+use Rattle.cable_world.specs.World.{CableWorld, wire_of}
+use Rattle.cable_world.specs.Run.{IsReached}
+use Rattle.cable_world.specs.Turn.{turn_at, turn, turns_after}
+use Rattle.cable_world.specs.Signals.{signals_of}
+use Rattle.cable_world.specs.Lawful.{IsLawful}
+use Rattle.cable_world.proofs.turns.ByNumber.{cabling-after, node-after}
+use Rattle.convergence.proofs.turns.Cables.{joined-of}
+use Rattle.cable_world.proofs.Options.{some-same}
+use Rattle.convergence.specs.Acyclic.{IsAcyclic}
+use Rattle.convergence.specs.Milestones.{ResetsAreOver}
+use Rattle.outcomes.specs.NodeMarks.{is_ready, is_asked, is_named}
+use Rattle.outcomes.specs.Messages.{silent, is_grant, is_done, has_grant, has_done, parent_mode, child_mode}
+use Rattle.outcomes.specs.Identify.{IsIdentifying}
+use Rattle.outcomes.specs.Holders.{Holder, grant, done, node, IsHolder, HasTurn, HasOneHolder}
+use Rattle.outcomes.specs.Holders as holder
+use Rattle.outcomes.specs.RootWalk.{parent_of, parent_now, place_now}
+use Rattle.outcomes.specs.Numbered.{IsSettling}
+use Rattle.outcomes.proofs.numbers.AtRest.{there, lawful-then, acyclic-then, identifying-then, over-then, next-turn, settles-always}
+use Rattle.outcomes.proofs.identify.Holders.{one-holder}
+use Rattle.outcomes.proofs.identify.OneMessage.{no-grant, no-done, child-grants-none, parent-says-none, end-of, two-parts}
+use Rattle.outcomes.proofs.identify.ListsFollow.{IsAbove, one-above, parent-below, child-above}
+use Rattle.outcomes.proofs.identify.MarksKept.{hears-late}
+use Rattle.outcomes.proofs.identify.Messages.{silent-grant, silent-done}
+use Rattle.outcomes.proofs.identify.Ports.{child-role}
+use Rattle.port_state.specs.Ports.{is_port}
+use Rattle.std.proofs.lemmas.Bool.{eq-eqb}
+use Rattle.cable_world.proofs.resets.Entries.{after-delay}
+use Rattle.cable_world.proofs.StaysLawful.{reached-lawful}
+use Rattle.outcomes.proofs.numbers.NumberedTurn.{stayed}
+use Rattle.outcomes.proofs.numbers.Progress.{node-rises, Old, old-grant, old-done, grant-old, done-old, none-older, moves, turn-used}
+use Rattle.outcomes.proofs.numbers.Settling.{Up, up-or-root, climbs}
+use Rattle.cable_world.proofs.coupling.RolesFollow.{port-is}
+
+-- ---- counts
+
+bit-le : (a b : Bool) → (a ≡ true → b ≡ true) → bit a ≤ bit b
+bit-le false b h = omega arith
+bit-le true b h = omega (arith, ap bit (h refl))
+
+bit-less : (a b : Bool) → a ≡ false → b ≡ true → bit a + 1 ≤ bit b
+bit-less a b e f = omega (arith, ap bit e, ap bit f)
+
+bit-most : (a : Bool) → bit a ≤ 1
+bit-most true = omega arith
+bit-most false = omega arith
+
+abbrev pub sum-over : (ℕ → ℕ) → List ℕ → ℕ
+sum-over f [] = 0
+sum-over f (k ∷ ks) = f k + sum-over f ks
+
+pub sum-more :
+    (f g : ℕ → ℕ) (ks : List ℕ) → ((i k : ℕ) → slice_get ks i ≡ Some k → f k ≤ g k) →
+    sum-over f ks ≤ sum-over g ks
+sum-more f g [] h = omega arith
+sum-more f g (k ∷ ks) h = omega (arith, h zero k refl, sum-more f g ks (λ i j e. h (suc i) j e))
+
+pub sum-strict :
+    (f g : ℕ → ℕ) (ks : List ℕ) (i k : ℕ) → ((i k : ℕ) → slice_get ks i ≡ Some k → f k ≤ g k) →
+    slice_get ks i ≡ Some k → f k + 1 ≤ g k → sum-over f ks + 1 ≤ sum-over g ks
+sum-strict f g [] i k h e less = absurd cc
+sum-strict f g (j ∷ ks) zero k h e less =
+    let same : j ≡ k = cc in
+    let here : f j + 1 ≤ g j = subst (λ (n : ℕ). f n + 1 ≤ g n) (sym same) less in
+    omega (arith, here, sum-more f g ks (λ i n e. h (suc i) n e))
+sum-strict f g (j ∷ ks) (suc i) k h e less = omega (arith, h zero j refl, sum-strict f g ks i k (λ i n e. h (suc i) n e) e less)
+
+pub sum-most :
+    (f : ℕ → ℕ) (most : ℕ) (ks : List ℕ) → ((k : ℕ) → f k ≤ most) → sum-over f ks ≤ most * length ks
+sum-most f most [] h = omega arith
+sum-most f most (k ∷ ks) h = let step : most * length (k ∷ ks) ≡ most + most * length ks = omega arith in omega (arith, h k, sum-most f most ks h, step)
+
+-- ---- how far a node is
+
+abbrev pub of-node : (NodeState → Bool) → Option PortNode → Bool
+of-node f None = false
+of-node f (Some x) = f x.state
+
+-- the end to which a parent port leads
+abbrev pub up-end : CableWorld → ℕ → Option ℕ → Option End
+up-end w k None = None
+up-end w k (Some p) = far w.cabling (record { node = k; port = p })
+
+abbrev pub of-end : (NodeState → ℕ → Bool) → CableWorld → Option End → Bool
+of-end f w None = false
+of-end f w (Some e) = of-node (λ x. f x e.port) (slice_get w.nodes e.node)
+
+abbrev pub was-granted : CableWorld → ℕ → Bool
+was-granted w k = of-node (λ x. x.view.granted) (slice_get w.nodes k)
+
+abbrev pub came-ready : CableWorld → ℕ → Bool
+came-ready w k = of-node (λ x. is_ready x.view.phase) (slice_get w.nodes k)
+
+abbrev pub was-asked : CableWorld → ℕ → Bool
+was-asked w k = of-end is_asked w (up-end w k (parent_now w k))
+
+abbrev pub was-named : CableWorld → ℕ → Bool
+was-named w k = of-end is_named w (up-end w k (parent_now w k))
+
+pub stage : CableWorld → ℕ → ℕ
+stage w k = bit (was-granted w k) + (bit (came-ready w k) + (bit (was-asked w k) + bit (was-named w k)))
+
+pub stage-most : (w : CableWorld) (k : ℕ) → stage w k ≤ 4
+unfolding stage
+stage-most w k = omega (arith, bit-most (was-granted w k), bit-most (came-ready w k), bit-most (was-asked w k), bit-most (was-named w k))
+
+-- it goes no way back
+pub record Gains (w v : CableWorld) (k : ℕ) : Type 0 where
+  pub granted : was-granted w k ≡ true → was-granted v k ≡ true
+  pub ready : came-ready w k ≡ true → came-ready v k ≡ true
+  pub asked : was-asked w k ≡ true → was-asked v k ≡ true
+  pub named : was-named w k ≡ true → was-named v k ≡ true
+
+pub gains-more : (u w v : CableWorld) (k : ℕ) → Gains u w k → Gains w v k → Gains u v k
+gains-more u w v k g h = record { granted = λ e. h.granted (g.granted e); ready = λ e. h.ready (g.ready e); asked = λ e. h.asked (g.asked e); named = λ e. h.named (g.named e) }
+
+pub same-gains : (w : CableWorld) (k : ℕ) → Gains w w k
+same-gains w k = record { granted = λ e. e; ready = λ e. e; asked = λ e. e; named = λ e. e }
+
+pub stage-rises : (w v : CableWorld) (k : ℕ) → Gains w v k → stage w k ≤ stage v k
+unfolding stage
+stage-rises w v k g =
+    omega (arith, bit-le (was-granted w k) (was-granted v k) g.granted, bit-le (came-ready w k) (came-ready v k) g.ready, bit-le (was-asked w k) (was-asked v k) g.asked, bit-le (was-named w k) (was-named v k) g.named)
+
+-- one of the four is new
+pub data News (w v : CableWorld) (k : ℕ) : Type 0 where
+  granting : was-granted w k ≡ false → was-granted v k ≡ true → News w v k
+  coming : came-ready w k ≡ false → came-ready v k ≡ true → News w v k
+  asking : was-asked w k ≡ false → was-asked v k ≡ true → News w v k
+  naming : was-named w k ≡ false → was-named v k ≡ true → News w v k
+
+pub stage-strict : (w v : CableWorld) (k : ℕ) → Gains w v k → News w v k → stage w k + 1 ≤ stage v k
+unfolding stage
+stage-strict w v k g (granting e f) = omega (arith, bit-less (was-granted w k) (was-granted v k) e f, bit-le (came-ready w k) (came-ready v k) g.ready, bit-le (was-asked w k) (was-asked v k) g.asked, bit-le (was-named w k) (was-named v k) g.named)
+stage-strict w v k g (coming e f) = omega (arith, bit-le (was-granted w k) (was-granted v k) g.granted, bit-less (came-ready w k) (came-ready v k) e f, bit-le (was-asked w k) (was-asked v k) g.asked, bit-le (was-named w k) (was-named v k) g.named)
+stage-strict w v k g (asking e f) = omega (arith, bit-le (was-granted w k) (was-granted v k) g.granted, bit-le (came-ready w k) (came-ready v k) g.ready, bit-less (was-asked w k) (was-asked v k) e f, bit-le (was-named w k) (was-named v k) g.named)
+stage-strict w v k g (naming e f) = omega (arith, bit-le (was-granted w k) (was-granted v k) g.granted, bit-le (came-ready w k) (came-ready v k) g.ready, bit-le (was-asked w k) (was-asked v k) g.asked, bit-less (was-named w k) (was-named v k) e f)
+
+-- ---- in a world that settles
+
+module _
+    (w : CableWorld) (l : IsLawful w) (acyclic : IsAcyclic w) (i : IsIdentifying w)
+    (over : ResetsAreOver w) (set core root : ℕ) (t : Tree) (s : IsSettling w set core root t) where
+  abbrev pub Up-of : ℕ → PortNode → Type 0
+  Up-of k x = Up w l acyclic i set root s.component s.inside over s.is_root s.all k x
+
+  pub end-of-up :
+      (k : ℕ) (x : PortNode) (u : Up-of k x) → slice_get w.nodes k ≡ Some x →
+      up-end w k (parent_now w k) ≡ Some u.end
+  end-of-up k x u at =
+      ap (up-end w k) (ap parent_of at ∙ port-is x.state.view.parent u.port u.above.parent) ∙ l.well_formed.cabling.both_ways u.end (record { node = k; port = u.port }) u.joined
+
+  -- a turn
+  after-up :
+      (f : NodeState → ℕ → Bool) →
+      ((k : ℕ) (x z : PortNode) → Holds set k → slice_get w.nodes k ≡ Some x → slice_get (turn w).nodes k ≡ Some z → (q : ℕ) → f x.state q ≡ true → f z.state q ≡ true)
+      →
+      (k : ℕ) → Holds set k → of-end f w (up-end w k (parent_now w k)) ≡ true → of-end f (turn w) (up-end (turn w) k (parent_now (turn w) k)) ≡ true
+  after-up f keeps k h e = elim (up-or-root w l acyclic i set root s.component s.inside over s.is_root s.all k x h at) [
+    | inl same ↦ absurd (true≢false (sym e ∙ ap (λ o. of-end f w (up-end w k o)) (ap (parent_now w) same ∙ ap parent_of s.is_root.at ∙ s.is_root.parentless)))
+    | inr u ↦
+        let y : PortNode = (turn_at w u.end.node u.is).node in
+        let at_y : slice_get (turn w).nodes u.end.node ≡ Some y = node-after w u.end.node u.is l.well_formed.count u.at in
+        let before-it : f u.is.state u.end.port ≡ true = sym (ap (of-end f w) (end-of-up k x u at) ∙ ap (of-node (λ v. f v u.end.port)) u.at) ∙ e in
+        let same-parent : parent_now (turn w) k ≡ parent_now w k = ap parent_of at_z ∙ (stayed w l i set root t s.component.closed s.walk s.all s.numbered k x z h at at_z).parent ∙ sym (ap parent_of at) in
+        let same-end : up-end (turn w) k (parent_now (turn w) k) ≡ Some u.end =
+        ap (up-end (turn w) k) same-parent ∙ wires (parent_now w k) ∙ end-of-up k x u at in
+        ap (of-end f (turn w)) same-end ∙ ap (of-node (λ v. f v u.end.port)) at_y ∙ keeps u.end.node u.is y u.inside_too u.at at_y u.end.port before-it
+  ]
+    where
+      x : PortNode
+      x = (there w l acyclic i over set core root t s k h).0
+
+      at : slice_get w.nodes k ≡ Some x
+      at = (there w l acyclic i over set core root t s k h).1
+
+      z : PortNode
+      z = (turn_at w k x).node
+
+      at_z : slice_get (turn w).nodes k ≡ Some z
+      at_z = node-after w k x l.well_formed.count at
+
+      wires : (o : Option ℕ) → up-end (turn w) k o ≡ up-end w k o
+      wires None = refl
+      wires (Some p) = ap (λ (d : Wiring). far d (record { node = k; port = p })) (cabling-after w)
+
+  pub turn-gains : (k : ℕ) → Holds set k → Gains w (turn w) k
+  turn-gains k h =
+      let n = there w l acyclic i over set core root t s k h in
+      let x : PortNode = n.0 in
+      let at : slice_get w.nodes k ≡ Some x = n.1 in
+      let z : PortNode = (turn_at w k x).node in
+      let at_z : slice_get (turn w).nodes k ≡ Some z = node-after w k x l.well_formed.count at in
+      record {
+        granted = λ e. ap (of-node (λ v. v.view.granted)) at_z ∙ (node-rises w l i set core root t s k x z h at at_z).granted (sym (ap (of-node (λ v. v.view.granted)) at) ∙ e);
+        ready = λ e. ap (of-node (λ v. is_ready v.view.phase)) at_z ∙ (stayed w l i set root t s.component.closed s.walk s.all s.numbered k x z h at at_z).ready (sym (ap (of-node (λ v. is_ready v.view.phase)) at) ∙ e);
+        asked = after-up is_asked (λ k x z h at at_z q e. (node-rises w l i set core root t s k x z h at at_z).asked q e) k h;
+        named = after-up is_named (λ k x z h at at_z q e. (node-rises w l i set core root t s k x z h at at_z).named q e) k h;
+      }
+
+  -- once the root is in A0 all nodes are
+  pub all-ready :
+      is_ready s.is_root.node.state.view.phase ≡ true → (k : ℕ) (x : PortNode) → Holds set k →
+      slice_get w.nodes k ≡ Some x → is_ready x.state.view.phase ≡ true
+  all-ready r k x h at = go (is_ready x.state.view.phase) refl
+    where
+      above :
+          (j : ℕ) (y : PortNode) (u : Up-of j y) → Holds set j → slice_get w.nodes j ≡ Some y →
+          is_ready y.state.view.phase ≡ false → is_ready u.is.state.view.phase ≡ false
+      above j y u h_j at_j e = by (is_ready u.is.state.view.phase) refl
+        where
+          by : (b : Bool) → is_ready u.is.state.view.phase ≡ b → b ≡ false
+          by false f = refl
+          by true f = absurd (true≢false (sym (u.above.line.names ((i.nodes u.end.node u.is u.at).all_named f u.end.port u.above.child)) ∙ e))
+
+      go : (b : Bool) → is_ready x.state.view.phase ≡ b → b ≡ true
+      go true e = refl
+      go false e = absurd (true≢false (sym r ∙ climbs w l acyclic i set root s.component s.inside over s.is_root s.all (λ j y. is_ready y.state.view.phase ≡ false) above (acyclic.most - acyclic.rank k) k x (omega arith) h at e))
+
+-- ---- turn by turn
+
+both-not : (a g : Bool) → (a && not g) ≡ false → a ≡ true → g ≡ true
+both-not a g e f = grind arith
+
+-- a child cable at some time
+pub record Link (v : CableWorld) (a b : End) : Type 0 where
+  pub joined : far v.cabling a ≡ Some b
+  pub above : PortNode
+  pub above_at : slice_get v.nodes a.node ≡ Some above
+  pub below : PortNode
+  pub below_at : slice_get v.nodes b.node ≡ Some below
+  pub is : IsAbove v a b above below
+
+link-end :
+    (v : CableWorld) → IsLawful v → (a b : End) → (n : Link v a b) → (f : NodeState → ℕ → Bool) →
+    of-end f v (up-end v b.node (parent_now v b.node)) ≡ f n.above.state a.port
+link-end v l a b n f =
+    ap (λ (o : Option ℕ). of-end f v (up-end v b.node o)) (ap parent_of n.below_at ∙ port-is n.below.state.view.parent b.port n.is.parent)
+    ∙ ap (of-end f v) (l.well_formed.cabling.both_ways a b n.joined) ∙ ap (of-node (λ x. f x a.port)) n.above_at
+
+module _
+    (w : CableWorld) (r : IsReached w) (k : ℕ) (late : length w.nodes * w.delay ≤ k)
+    (set core root : ℕ) (t : Tree) (s0 : IsSettling (turns_after k w) set core root t) where
+  abbrev pub W : ℕ → CableWorld
+  W j = turns_after (k + j) w
+
+  pub S : (j : ℕ) → IsSettling (W j) set core root t
+  S j = settles-always w r k late set core root t s0 j
+
+  pub L : (j : ℕ) → IsLawful (W j)
+  L j = lawful-then w r k late set core root t j
+
+  pub A : (j : ℕ) → IsAcyclic (W j)
+  A j = acyclic-then w r k late set core root t j
+
+  pub I : (j : ℕ) → IsIdentifying (W j)
+  I j = identifying-then w r k late set core root t j
+
+  pub O : (j : ℕ) → ResetsAreOver (W j)
+  O j = over-then w r k late set core root t j
+
+  pub next : (j : ℕ) → turn (W j) ≡ W (suc j)
+  next j = next-turn w r k late set core root t j
+
+  pub node-of : (j q : ℕ) → Holds set q → (x : PortNode) × (slice_get (W j).nodes q ≡ Some x)
+  node-of j q h = there (W j) (L j) (A j) (I j) (O j) set core root t (S j) q h
+
+  pub gains-on : (j m q : ℕ) → Holds set q → Gains (W j) (W (j + m)) q
+  gains-on j zero q h = let e : j ≡ j + 0 = omega arith in subst (λ (n : ℕ). Gains (W j) (W n) q) e (same-gains (W j) q)
+  gains-on j (suc m) q h =
+      let e : suc (j + m) ≡ j + suc m = omega arith in
+      subst (λ (n : ℕ). Gains (W j) (W n) q) e (gains-more (W j) (W (j + m)) (W (suc (j + m))) q (gains-on j m q h) (subst (λ (v : CableWorld). Gains (W (j + m)) v q) (next (j + m)) (turn-gains (W (j + m)) (L (j + m)) (A (j + m)) (I (j + m)) (O (j + m)) set core root t (S (j + m)) q h)))
+
+  pub wires-on : (j m : ℕ) → (W (j + m)).cabling ≡ (W j).cabling
+  wires-on j zero = let e : j + 0 ≡ j = omega arith in ap (λ (n : ℕ). (W n).cabling) e
+  wires-on j (suc m) = let e : j + suc m ≡ suc (j + m) = omega arith in ap (λ (n : ℕ). (W n).cabling) e ∙ sym (ap (λ (v : CableWorld). v.cabling) (next (j + m))) ∙ cabling-after (W (j + m)) ∙ wires-on j m
+
+  one-parent-on : (j q : ℕ) → Holds set q → parent_now (W (suc j)) q ≡ parent_now (W j) q
+  one-parent-on j q h =
+      let n = node-of j q h in
+      let z : PortNode = (turn_at (W j) q n.0).node in
+      let at_z : slice_get (turn (W j)).nodes q ≡ Some z = node-after (W j) q n.0 (L j).well_formed.count n.1 in
+      sym (ap (λ (v : CableWorld). parent_now v q) (next j)) ∙ ap parent_of at_z ∙ (stayed (W j) (L j) (I j) set root t (S j).component.closed (S j).walk (S j).all (S j).numbered q n.0 z h n.1 at_z).parent ∙ sym (ap parent_of n.1)
+
+  pub parent-on : (j m q : ℕ) → Holds set q → parent_now (W (j + m)) q ≡ parent_now (W j) q
+  parent-on j zero q h = let e : j + 0 ≡ j = omega arith in ap (λ (n : ℕ). parent_now (W n) q) e
+  parent-on j (suc m) q h = let e : j + suc m ≡ suc (j + m) = omega arith in ap (λ (n : ℕ). parent_now (W n) q) e ∙ one-parent-on (j + m) q h ∙ parent-on j m q h
+
+  pub link-by :
+      (j : ℕ) (a b : End) → Holds set a.node → far (W j).cabling a ≡ Some b → parent_now (W j)
+      b.node ≡ Some b.port → Link (W j) a b
+  link-by j a b h e p =
+      let n = joined-of (W j) a b (L j).well_formed e in
+      let h_b : Holds set b.node = (S j).component.closed a b e h in
+      let is : is_port n.other.state.view.parent b.port ≡ true = ap (λ (o : Option ℕ). is_port o b.port) (sym (ap parent_of n.other_at) ∙ p) ∙ eq-eqb b.port b.port refl in
+      record {
+        joined = e;
+        above = n.near;
+        above_at = n.near_at;
+        below = n.other;
+        below_at = n.other_at;
+        is = parent-below (W j) (L j) (I j) b a n.other n.near ((L j).well_formed.cabling.both_ways a b e) n.other_at n.near_at ((S j).all b.node n.other h_b n.other_at) ((S j).all a.node n.near h n.near_at) is;
+      }
+
+  pub link-on : (j m : ℕ) (a b : End) → Holds set a.node → Link (W j) a b → Link (W (j + m)) a b
+  link-on j m a b h n =
+      let h_b : Holds set b.node = (S j).component.closed a b n.joined h in
+      link-by (j + m) a b h (ap (λ (d : Wiring). far d a) (wires-on j m) ∙ n.joined) (parent-on j m b.node h_b ∙ ap parent_of n.below_at ∙ port-is n.below.state.view.parent b.port n.is.parent)
+
+  -- ---- what is under way comes
+
+  travels :
+      (test : Signal → Bool) →
+      ((n : ℕ) (ts : List Travelling) → Old test n ts → (has_grant (signals_of ts) ≡ true) ⊎ (has_done (signals_of ts) ≡ true))
+      → (j : ℕ) (a b : End) → Holds set b.node → far (W j).cabling a ≡ Some b →
+      Old test 0 (wire_of (W j) a).signals →
+      (n : ℕ) → Old test n (wire_of (W (j + n)) a).signals ⊎ ((m : ℕ) × (m ≤ n) × (silent (signals_of (wire_of (W (j + m)) a).signals) ≡ true))
+  travels test is j a b h e old zero = inl (let z : j ≡ j + 0 = omega arith in subst (λ (i : ℕ). Old test 0 (wire_of (W i) a).signals) z old)
+  travels test is j a b h e old (suc n) = elim (travels test is j a b h e old n) [
+    | inr m ↦ inr (m.0, omega (arith, m.1), m.2)
+    | inl o ↦ elim (moves (W (j + n)) (L (j + n)) (I (j + n)) set core root t (S (j + n)) test is a b n h (ap (λ (d : Wiring). far d a) (wires-on j n) ∙ e) o) [
+      | inl p ↦ inl (subst (λ (i : ℕ). Old test i (wire_of (W (j + suc n)) a).signals) one (subst (λ (v : CableWorld). Old test (n + 1) (wire_of v a).signals) world p))
+      | inr p ↦ inr (suc n, omega arith, subst (λ (v : CableWorld). silent (signals_of (wire_of v a).signals) ≡ true) world p)
+    ]
+  ]
+    where
+      one : n + 1 ≡ suc n
+      one = omega arith
+
+      world : turn (W (j + n)) ≡ W (j + suc n)
+      world = next (j + n) ∙ ap W (let e : suc (j + n) ≡ j + suc n = omega arith in e)
+
+  comes-by :
+      (test : Signal → Bool) →
+      ((n : ℕ) (ts : List Travelling) → Old test n ts → (has_grant (signals_of ts) ≡ true) ⊎ (has_done (signals_of ts) ≡ true))
+      → (j : ℕ) (a b : End) → Holds set b.node → far (W j).cabling a ≡ Some b →
+      Old test 0 (wire_of (W j) a).signals →
+      (m : ℕ) × (m ≤ w.delay) × (silent (signals_of (wire_of (W (j + m)) a).signals) ≡ true)
+  comes-by test is j a b h e old = elim (travels test is j a b h e old w.delay) [
+    | inr m ↦ m
+    | inl o ↦ absurd (none-older test ((W (j + w.delay)).delay - 1) w.delay (wire_of (W (j + w.delay)) a).signals
+        (omega (arith, after-delay w (reached-lawful w r) (k + (j + w.delay)), (reached-lawful w r).well_formed.some_delay)) ((L (j + w.delay)).well_formed.ages a) o)
+  ]
+
+  -- ---- and so the count rises
+
+  pub record Rising (j : ℕ) : Type 0 where
+    pub turns : ℕ
+    pub within : turns ≤ w.delay
+    pub node : ℕ
+    pub inside : Holds set node
+    pub news : News (W j) (W (j + turns)) node
+
+  by-grant :
+      (j : ℕ) (a b : End) → Holds set a.node → Link (W j) a b →
+      has_grant (signals_of (wire_of (W j) a).signals) ≡ true → Rising j
+  by-grant j a b h n g =
+      let h_b : Holds set b.node = (S j).component.closed a b n.joined h in
+      let one = two-parts (is_asked n.above.state a.port) n.below.state.view.granted (sym n.is.line.granting ∙ g) in
+      let c = comes-by is_grant (λ n ts o. inl (grant-old n ts o)) j a b h_b n.joined (old-grant (wire_of (W j) a).signals g) in
+      let n1 = link-on j c.0 a b h n in
+      let asked : is_asked n1.above.state a.port ≡ true =
+      sym (link-end (W (j + c.0)) (L (j + c.0)) a b n1 is_asked) ∙ (gains-on j c.0 b.node h_b).asked (link-end (W j) (L j) a b n is_asked ∙ one.0) in
+      let granted : n1.below.state.view.granted ≡ true = both-not (is_asked n1.above.state a.port) n1.below.state.view.granted (sym n1.is.line.granting ∙ silent-grant (signals_of (wire_of (W (j + c.0)) a).signals) c.2) asked in
+      record {
+        turns = c.0;
+        within = c.1;
+        node = b.node;
+        inside = h_b;
+        news = granting (ap (of-node (λ x. x.view.granted)) n.below_at ∙ one.1) (ap (of-node (λ x. x.view.granted)) n1.below_at ∙ granted);
+      }
+
+  by-done :
+      (j : ℕ) (a b : End) → Holds set a.node → Link (W j) a b →
+      has_done (signals_of (wire_of (W j) b).signals) ≡ true → Rising j
+  by-done j a b h n g =
+      let h_b : Holds set b.node = (S j).component.closed a b n.joined h in
+      let one = two-parts (is_ready n.below.state.view.phase) (is_named n.above.state a.port) (sym n.is.line.naming ∙ g) in
+      let c = comes-by is_done (λ n ts o. inr (done-old n ts o)) j b a h ((L j).well_formed.cabling.both_ways a b n.joined) (old-done (wire_of (W j) b).signals g) in
+      let n1 = link-on j c.0 a b h n in
+      let ready : is_ready n1.below.state.view.phase ≡ true =
+      sym (ap (of-node (λ x. is_ready x.view.phase)) n1.below_at) ∙ (gains-on j c.0 b.node h_b).ready (ap (of-node (λ x. is_ready x.view.phase)) n.below_at ∙ one.0) in
+      let named : is_named n1.above.state a.port ≡ true = both-not (is_ready n1.below.state.view.phase) (is_named n1.above.state a.port) (sym n1.is.line.naming ∙ silent-done (signals_of (wire_of (W (j + c.0)) b).signals) c.2) ready in
+      record {
+        turns = c.0;
+        within = c.1;
+        node = b.node;
+        inside = h_b;
+        news = naming (link-end (W j) (L j) a b n is_named ∙ one.1) (link-end (W (j + c.0)) (L (j + c.0)) a b n1 is_named ∙ named);
+      }
+
+  by-turn : (j q : ℕ) → Holds set q → HasTurn (W j) q → Rising j
+  by-turn j q h turn-of =
+      let x : PortNode = turn-of.is in
+      let z : PortNode = (turn_at (W j) q x).node in
+      let at_z : slice_get (turn (W j)).nodes q ≡ Some z = node-after (W j) q x (L j).well_formed.count turn-of.at in
+      let world : turn (W j) ≡ W (j + 1) = next j ∙ ap W (let e : suc j ≡ j + 1 = omega arith in e) in
+      let at_1 : slice_get (W (j + 1)).nodes q ≡ Some z = sym (ap (λ (v : CableWorld). slice_get v.nodes q) world) ∙ at_z in
+      let unready : is_ready x.state.view.phase ≡ false = ap is_ready turn-of.identifies in
+      let d : 1 ≤ w.delay = (reached-lawful w r).well_formed.some_delay in
+      elim (turn-used (W j) (L j) (I j) set core root t (S j) (A j) (O j) q x z h turn-of.at at_z turn-of.granted unready turn-of.awaits_none) [
+        | inl done-so ↦ record { turns = 1; within = d; node = q; inside = h; news = coming (ap (of-node (λ v. is_ready v.view.phase)) turn-of.at ∙ unready) (ap (of-node (λ v. is_ready v.view.phase)) at_1 ∙ done-so) }
+        | inr ask ↦ asks-one x z ask.0 turn-of.at at_1 d ask.1 ask.2
+      ]
+    where
+      asks-one :
+          (x z : PortNode) (p : ℕ) → slice_get (W j).nodes q ≡ Some x →
+          slice_get (W (j + 1)).nodes q ≡ Some z → 1 ≤ w.delay → is_asked x.state p ≡ false →
+          is_asked z.state p ≡ true → Rising j
+      asks-one x z p at at_1 d before-it now =
+          let a : End = record { node = q; port = p } in
+          let child = ((I (j + 1)).nodes q z at_1).asked p now in
+          let on = (child-role z.state p ((L (j + 1)).well_formed.nodes q z at_1).valid (hears-late z.state.view.phase ((S (j + 1)).all q z h at_1)) child).1 in
+          let b = end-of (far (W (j + 1)).cabling a) (sym (((L (j + 1)).well_formed.nodes q z at_1).connected p) ∙ on) in
+          let n = joined-of (W (j + 1)) a b.0 (L (j + 1)).well_formed b.1 in
+          let h_b : Holds set b.0.node = (S (j + 1)).component.closed a b.0 b.1 h in
+          let u = child-above (W (j + 1)) (L (j + 1)) (I (j + 1)) a b.0 z n.other b.1 at_1 n.other_at ((S (j + 1)).all q z h at_1) ((S (j + 1)).all b.0.node n.other h_b n.other_at) child in
+          let n1 : Link (W (j + 1)) a b.0 = record { joined = b.1; above = z; above_at = at_1; below = n.other; below_at = n.other_at; is = u } in
+          let n0 : Link (W j) a b.0 = link-by j a b.0 h (sym (ap (λ (d : Wiring). far d a) (wires-on j 1)) ∙ b.1) (sym (parent-on j 1 b.0.node h_b) ∙ ap parent_of n.other_at ∙ port-is n.other.state.view.parent b.0.port u.parent) in
+          let same : n0.above ≡ x = some-same n0.above x (sym n0.above_at ∙ at) in
+          record {
+            turns = 1;
+            within = d;
+            node = b.0.node;
+            inside = h_b;
+            news = asking (link-end (W j) (L j) a b.0 n0 is_asked ∙ ap (λ (v : PortNode). is_asked v.state p) same ∙ before-it) (link-end (W (j + 1)) (L (j + 1)) a b.0 n1 is_asked ∙ now);
+          }
+
+  -- while a node isn't in A0
+  pub rises-within :
+      (j q : ℕ) (x : PortNode) → Holds set q → slice_get (W j).nodes q ≡ Some x →
+      is_ready x.state.view.phase ≡ false → Rising j
+  rises-within j q x h at u =
+      let o = one-holder (W j) (L j) (I j) set (S j).component.closed (S j).all (A j) root (S j).component q x h at u in
+      by o.holder o.inside o.is
+    where
+      wired :
+          (a : End) → (test : List Signal → Bool) → test [] ≡ false →
+          test (signals_of (wire_of (W j) a).signals) ≡ true → (b : End)
+          × (far (W j).cabling a ≡ Some b)
+      wired a test none g = go (far (W j).cabling a) refl
+        where
+          go :
+              (o : Option End) → far (W j).cabling a ≡ o → (b : End)
+              × (far (W j).cabling a ≡ Some b)
+          go None e = absurd (true≢false (sym g ∙ ap (λ (v : Wire). test (signals_of v.signals)) ((L j).well_formed.unplugged a e) ∙ none))
+          go (Some b) e = (b, e)
+
+      by : (v : Holder) → Holds set (holder.place v) → IsHolder (W j) v → Rising j
+      by (grant a) h is =
+          let b = wired a has_grant refl is in
+          let n = joined-of (W j) a b.0 (L j).well_formed b.1 in
+          let h_b : Holds set b.0.node = (S j).component.closed a b.0 b.1 h in
+          elim (one-above (W j) (L j) (I j) a b.0 n.near n.other b.1 n.near_at n.other_at ((S j).all a.node n.near h n.near_at) ((S j).all b.0.node n.other h_b n.other_at)) [
+            | inl u ↦ by-grant j a b.0 h (record { joined = b.1; above = n.near; above_at = n.near_at; below = n.other; below_at = n.other_at; is = u }) is
+            | inr u ↦ absurd (true≢false (sym is ∙ no-grant (child_mode (is_asked n.other.state b.0.port) (is_named n.other.state b.0.port)) (signals_of (wire_of (W j) a).signals) (child-grants-none (is_asked n.other.state b.0.port) (is_named n.other.state b.0.port)) u.line.fits_up))
+          ]
+      by (done a) h is =
+          let b = wired a has_done refl is in
+          let n = joined-of (W j) a b.0 (L j).well_formed b.1 in
+          let h_b : Holds set b.0.node = (S j).component.closed a b.0 b.1 h in
+          elim (one-above (W j) (L j) (I j) a b.0 n.near n.other b.1 n.near_at n.other_at ((S j).all a.node n.near h n.near_at) ((S j).all b.0.node n.other h_b n.other_at)) [
+            | inr u ↦ by-done j b.0 a h_b (record { joined = (L j).well_formed.cabling.both_ways a b.0 b.1; above = n.other; above_at = n.other_at; below = n.near; below_at = n.near_at; is = u }) is
+            | inl u ↦ absurd (true≢false (sym is ∙ no-done (parent_mode (is_ready n.other.state.view.phase) n.other.state.view.granted) (signals_of (wire_of (W j) a).signals) (parent-says-none (is_ready n.other.state.view.phase) n.other.state.view.granted) u.line.fits_down))
+          ]
+      by (node q) h is = by-turn j q h is
+
+  -- ---- until all nodes are in A0
+
+  abbrev order : List ℕ
+  order = numbers (turns_after k w).cabling root t
+
+  member : (i q : ℕ) → slice_get (numbers (turns_after k w).cabling root t) i ≡ Some q → Holds set q
+  member i q e =
+      let c = s0.walk.marked.covers i (slice_get_within (numbers (turns_after k w).cabling root t) i q e) in
+      let at : slice_get (numbers (turns_after k w).cabling root t) i ≡ Some c.0 = subst (λ (n : ℕ). slice_get (numbers (turns_after k w).cabling root t) n ≡ Some c.0) c.2 (s0.walk.marked.at c.0 c.1) in
+      let same : c.0 ≡ q = some-same c.0 q (sym at ∙ e) in
+      subst (Holds set) same c.1
+
+  total-rises :
+      (j : ℕ) (p : Rising j) → sum-over (stage (W j)) order + 1 ≤ sum-over (stage (W (j + p.turns)))
+      order
+  total-rises j p =
+      sum-strict (stage (W j)) (stage (W (j + p.turns))) order (place_now (turns_after k w) root t p.node) p.node
+      (λ i q e. stage-rises (W j) (W (j + p.turns)) q (gains-on j p.turns q (member i q e))) (s0.walk.marked.at p.node p.inside)
+      (stage-strict (W j) (W (j + p.turns)) p.node (gains-on j p.turns p.node p.inside) p.news)
+
+  -- all nodes are in A0 then
+  abbrev pub ReadyAt : ℕ → Type 0
+  ReadyAt j = (q : ℕ) (x : PortNode) → Holds set q → slice_get (W j).nodes q ≡ Some x → is_ready x.state.view.phase ≡ true
+
+  pub readies :
+      (n j : ℕ) → 4 * length (numbers (turns_after k w).cabling root t) < sum-over (stage (W j))
+      (numbers (turns_after k w).cabling root t) + n → (m : ℕ) × (m ≤ n * w.delay) × ReadyAt (j + m)
+  readies zero j h = absurd (omega (arith, h, sum-most (stage (W j)) 4 (numbers (turns_after k w).cabling root t) (λ q. stage-most (W j) q)))
+  readies (suc n) j h = go (is_ready (S j).is_root.node.state.view.phase) refl (readies n)
+    where
+      more : suc n * w.delay ≡ w.delay + n * w.delay
+      more = omega arith
+
+      go :
+          (b : Bool) → is_ready (S j).is_root.node.state.view.phase ≡ b →
+          ((i : ℕ) → 4 * length (numbers (turns_after k w).cabling root t) < sum-over (stage (W i)) (numbers (turns_after k w).cabling root t) + n → (m : ℕ) × (m ≤ n * w.delay) × ReadyAt (i + m))
+          → (m : ℕ) × (m ≤ suc n * w.delay) × ReadyAt (j + m)
+      go true e rest = let z : j ≡ j + 0 = omega arith in (0, omega arith, subst ReadyAt z (all-ready (W j) (L j) (A j) (I j) (O j) set core root t (S j) e))
+      go false e rest =
+          let p = rises-within j root (S j).is_root.node s0.inside (S j).is_root.at e in
+          let u = rest (j + p.turns) (omega (arith, h, total-rises j p)) in
+          let z : j + p.turns + u.0 ≡ j + (p.turns + u.0) = omega arith in
+          (p.turns + u.0, omega (arith, more, p.within, u.1), subst ReadyAt z u.2)
+
+  pub ready-soon :
+      (m : ℕ) × (m ≤ (4 * length (numbers (turns_after k w).cabling root t) + 1) * w.delay)
+      × ReadyAt m
+  ready-soon =
+      let u = readies (4 * length (numbers (turns_after k w).cabling root t) + 1) 0 (omega arith) in
+      let z : 0 + u.0 ≡ u.0 = omega arith in
+      (u.0, u.1, subst ReadyAt z u.2)

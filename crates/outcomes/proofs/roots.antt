@@ -1,0 +1,7 @@
+-- The walk below a root.
+--
+-- `OwnGroups`: a node shows itself as its label in the tree does. `RootWalk`: a root has a walk,
+-- told by single cables. `Named`: where all are named and have the list, that is the outcome.
+pub mod OwnGroups
+pub mod RootWalk
+pub mod Named

@@ -1,0 +1,77 @@
+-- Where all nodes below a root are named and have the list, the component has come to a tree.
+use Rattle.std.proofs.Common.{◌≡◌, ℕ, ◌^◌, ◌<◌, is_some, Option, Some, None, IsSome, IsSomeAnd, List, length, slice_get, sym, ap, ◌∙◌}
+use Rattle.topology_stack.specs.Tree.{Tree, emits}
+use Rattle.cabling.specs.declared.cable.End.{End}
+use Rattle.cabling.specs.Wiring.{ports_of}
+use Rattle.cabling.specs.NodeSet.{Holds}
+use Rattle.cabling.specs.Component.{IsComponent}
+use Rattle.cabling.specs.Looped.{IsCore}
+use Rattle.cabling.specs.Labels.{labels}
+use Rattle.cabling.specs.Sees.{numbers}
+use Rattle.outcomes.specs.Parents.{LeadsUp}
+use Rattle.outcomes.specs.WalkMarks.{mark}
+use Rattle.outcomes.specs.Alike.{Alike, SeenAlike}
+use Rattle.cabling.proofs.Small.{Loopless}
+use Rattle.outcomes.proofs.walks.WaysUp.{tree-ways}
+use Rattle.outcomes.proofs.walks.Alike.{seen-alike}
+use Rattle.cabling.proofs.OneTree.{one-tree}
+use Rattle.port_state.specs.Machine.{PortNode}
+use Rattle.cable_world.specs.World.{CableWorld}
+use Rattle.cable_world.specs.Lawful.{IsLawful}
+use Rattle.cable_world.specs.Outcome.{attrs_now, IsTree}
+use Rattle.cable_world.proofs.Options.{some-at}
+use Rattle.convergence.specs.Acyclic.{IsAcyclic}
+use Rattle.convergence.specs.Milestones.{ResetsAreOver}
+use Rattle.convergence.specs.Roots.{IsRoot}
+use Rattle.outcomes.specs.RootWalk.{parent_of, parent_now, place_now, RootWalk, IsNamed, SameWalk}
+use Rattle.convergence.proofs.loops.Cores.{no-root-with-loop}
+use Rattle.outcomes.proofs.roots.RootWalk.{node-at, ground-less}
+
+module _
+    (w : CableWorld) (l : IsLawful w) (acyclic : IsAcyclic w) (over : ResetsAreOver w)
+    (node set core root : ℕ) (comp : IsComponent w.cabling node set)
+    (is_core : IsCore w.cabling set core) (small : set < 2 ^ 63) (has : Holds set root)
+    (r : IsRoot w root) (t : Tree) (walk : RootWalk w set root t) where
+  loop-less : Loopless w.cabling root set
+  loop-less = ground-less w l acyclic over node set core root comp is_core small has r
+
+  at-node : (k : ℕ) → Holds set k → (x : PortNode) × (slice_get w.nodes k ≡ Some x)
+  at-node = node-at w l acyclic over node set core root comp is_core small has r
+
+  has-parent : (o : Option ℕ) (p : ℕ) → o ≡ Some p → IsSome o
+  has-parent o p e = ap is_some e
+
+  pub named-tree : IsNamed w set root t → IsTree w set root t
+  named-tree named = record {
+    no_loop = record { core = core; is_core = is_core; empty = λ k h. no-root-with-loop w l over acyclic node set core root k comp is_core h has r };
+    holds_root = has;
+    seen = walk.seen;
+    no_parent = some-at (slice_get w.nodes root) r.node (λ (x : PortNode). x.state.view.parent ≡ None) r.at r.parentless;
+    parents = λ k h ne.
+        let n = at-node k h in
+        let up : LeadsUp w.cabling (parent_now w) k = (tree-ways w.cabling (labels (attrs_now w)) (parent_now w) root set t loop-less walk.seen walk.parents).ups.others k h ne in
+        some-at (slice_get w.nodes k) n.0 (λ (x : PortNode). IsSome x.state.view.parent) n.1 (has-parent n.0.state.view.parent up.port (sym (ap parent_of n.1) ∙ up.is));
+    ids = λ k h.
+        let n = at-node k h in
+        some-at (slice_get w.nodes k) n.0 (λ (x : PortNode). IsSomeAnd x.state.view.id (λ i. slice_get (numbers w.cabling root t) i ≡ Some k)) n.1
+        (some-at n.0.state.view.id (place_now w root t k) (λ (i : ℕ). slice_get (numbers w.cabling root t) i ≡ Some k) (named.ids k n.0 h n.1) (walk.marked.at k h));
+    lists = λ k h.
+        let n = at-node k h in
+        some-at (slice_get w.nodes k) n.0 (λ (x : PortNode). x.state.list.items ≡ emits t) n.1 (named.lists k n.0 h n.1);
+  }
+
+  -- a world in which the component has the same ports and shows the same attributes has the same
+  -- walk
+  pub same-walk :
+      (v : CableWorld) (u : Tree) → RootWalk v set root u →
+      Alike w.cabling v.cabling (labels (attrs_now w)) (labels (attrs_now v)) set →
+      SameWalk w v set root t u
+  same-walk v u other alike =
+      let s : SeenAlike w.cabling v.cabling (labels (attrs_now v)) root t = seen-alike w.cabling v.cabling (labels (attrs_now w)) (labels (attrs_now v)) root set t loop-less walk.seen alike in
+      let same : t ≡ u = one-tree v.cabling (labels (attrs_now v)) root None t u s.seen other.seen in
+      let marks : (k p : ℕ) → mark w.cabling root t 0 k p ≡ mark v.cabling root u 0 k p = λ k p. s.marks k p ∙ ap (λ (y : Tree). mark v.cabling root y 0 k p) same in
+      record {
+        tree = same;
+        marks = marks;
+        places = λ k h. marks k (length (ports_of w.cabling k)) ∙ ap (λ (row : List (Option End)). mark v.cabling root u 0 k (length row)) (alike.ports k h);
+      }

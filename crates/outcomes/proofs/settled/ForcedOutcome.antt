@@ -1,0 +1,187 @@
+-- Where one node alone waits to become root, the component comes to a tree with that root; and a
+-- configuration packet makes it so.
+use Rattle.std.proofs.Common.{◌≡◌, ◌≢◌, inl, inr, ℕ, zero, suc, ◌+◌, ◌-◌, ◌*◌, ◌^◌, ◌<◌, ◌≤◌, true, false, Option, Some, None, IsSome, length, slice_get, sym, ◌∙◌, ap, subst, arith, true≢false}
+use Rattle.std.proofs.lemmas.Bool.{cases_eq}
+use Rattle.std.proofs.lemmas.Option.{slice_get_cases, slice_get_within}
+use Rattle.topology_stack.specs.Tree.{Tree}
+use Rattle.cabling.specs.Wiring.{Wiring}
+use Rattle.cabling.specs.NodeSet.{Holds, IsEmpty}
+use Rattle.cabling.specs.Component.{IsComponent}
+use Rattle.cabling.specs.Looped.{IsCore}
+use Rattle.cabling.specs.Sees.{numbers}
+use Rattle.port_state.specs.declared.signal.Phase.{Phase}
+use Rattle.port_state.specs.Config.{config_packet, gap_or}
+use Rattle.port_state.specs.Machine.{PortNode, node_disturb, node_set_config}
+use Rattle.cable_world.specs.declared.act.Act.TheVariants.{Config}
+use Rattle.cable_world.specs.World.{CableWorld}
+use Rattle.cable_world.specs.Turn.{turns_after}
+use Rattle.cable_world.specs.Run.{IsReached, quiet_turns}
+use Rattle.cable_world.specs.Act.{IsAct, act_fault, change_in_set}
+use Rattle.cable_world.specs.Phases.{is_in_bus_reset}
+use Rattle.cable_world.specs.Outcome.{Shows, Outcome, IsOutcome, IsTree, IsSettled, loop, tree, contention}
+use Rattle.cable_world.proofs.Options.{some-of, some-at, some-same}
+use Rattle.cable_world.proofs.PhaseFacts.{start-before_tree}
+use Rattle.cable_world.proofs.StaysLawful.{reached-lawful}
+use Rattle.cable_world.proofs.StaysReached.{act-reached}
+use Rattle.cable_world.proofs.resets.Entries.{after-length}
+use Rattle.cable_world.proofs.tables.TablesInSteps.{step-cables}
+use Rattle.convergence.specs.Turns.{turns_to_over}
+use Rattle.convergence.proofs.coins.StaysContested.{reached-contested, turns-contested}
+use Rattle.convergence.proofs.turns.Flush.{after-cabling}
+use Rattle.outcomes.specs.Forced.{IsForced, IsNamedAlone, IsRooted, NamesRoot}
+use Rattle.outcomes.specs.Identify.{IsIdentifying}
+use Rattle.outcomes.specs.NodeMarks.{is_ready}
+use Rattle.outcomes.proofs.forced.Configured.{configured}
+use Rattle.outcomes.proofs.forced.ForcedRoot as forced
+use Rattle.outcomes.proofs.forced.Spread.{all-reset}
+use Rattle.outcomes.proofs.forced.Towards.{no-draws}
+use Rattle.outcomes.proofs.forced.Waits.{taken-by}
+use Rattle.outcomes.proofs.settled.Outcomes.{tree-ready}
+use Rattle.outcomes.proofs.settled.QuietTurns.{quiet-enough, few-nodes, settles-at-last, fresh-unfinished}
+
+-- ---- a component in which one node is forced
+
+module _
+    (w : CableWorld) (r : IsReached w) (node set core root : ℕ) (f : IsForced w node set core root)
+    (k : ℕ) (quiet : quiet_turns (length w.nodes) w.delay ≤ k) where
+  abbrev v : CableWorld
+  v = turns_after k w
+
+  abbrev first : ℕ
+  first = turns_to_over w
+
+  late : 2 * (length w.nodes * w.delay) + 81 * w.delay ≤ k
+  late = omega (arith, quiet, quiet-enough (length w.nodes) w.delay, (few-nodes w f.lawful).1)
+
+  rooted : IsRooted v set root
+  rooted = record {
+    is_root = forced.root w f.lawful node set core f.component f.is_core f.empty f.small f.fresh root f.alone k (omega (arith, late));
+    late = forced.late w f.lawful node set core f.component f.is_core f.empty f.small f.fresh root f.alone k (omega (arith, late));
+    parents = forced.others w f.lawful node set core f.component f.is_core f.empty f.small f.fresh root f.alone k (omega (arith, late));
+  }
+
+  -- nobody draws a coin
+  undrawn :
+      (i j : ℕ) (x : PortNode) → Holds set j → slice_get (turns_after (first + i) w).nodes j ≡ Some x →
+      x.state.view.draws ≡ 0
+  undrawn zero j x inside at =
+      let z : first + 0 ≡ first = omega arith in
+      let here : slice_get (turns_after first w).nodes j ≡ Some x = subst (λ n. slice_get (turns_after n w).nodes j ≡ Some x) z at in
+      let n = few-nodes w f.lawful in
+      ((turns-contested first w f.lawful (reached-contested w r)).nodes j x here).fresh
+      (start-before_tree x.state.view.phase (all-reset w f.lawful node set f.component f.fresh first (omega (arith, n.0)) (omega (arith, n.1, f.lawful.well_formed.some_delay)) j x inside here).0)
+  undrawn (suc i) j y inside at = elim (slice_get_cases (turns_after (first + i) w).nodes j).1 [
+    | inl found ↦
+        let z : first + suc i ≡ first + i + 1 = omega arith in
+        no-draws w f.lawful node set core f.component f.is_core f.empty f.small f.fresh root f.alone (first + i) j found.0 y (omega arith) inside found.2 (subst (λ n. slice_get (turns_after n w).nodes j ≡ Some y) z at)
+        ∙ undrawn i j found.0 inside found.2
+    | inr lacks ↦ absurd (omega (arith, lacks.0, slice_get_within (turns_after (first + suc i) w).nodes j y at, after-length w f.lawful (first + i), after-length w f.lawful (first + suc i)))
+  ]
+
+  none-drew : (j : ℕ) (x : PortNode) → Holds set j → slice_get v.nodes j ≡ Some x → x.state.view.draws ≡ 0
+  none-drew j x inside at =
+      let z : k ≡ first + (k - first) = omega (arith, quiet, quiet-enough (length w.nodes) w.delay) in
+      undrawn (k - first) j x inside (subst (λ n. slice_get (turns_after n w).nodes j ≡ Some x) z at)
+
+  pub forced-outcome : (t : Tree) × IsTree v set root t
+  forced-outcome = go outcome.0 outcome.1
+    where
+      outcome : IsSettled v set
+      outcome = settles-at-last w r node set core f.component f.is_core f.small k quiet (fresh-unfinished w node set r f.component f.fresh)
+
+      no-some : (o : Option ℕ) → IsSome o → o ≡ None → ⊥
+      no-some None h e = true≢false (sym h)
+      no-some (Some p) h e = absurd cc
+
+      same : (other : ℕ) (t : Tree) → IsTree v set other t → other ≡ root
+      same other t h = elim (cases_eq other root) [
+        | inl e ↦ e
+        | inr ne ↦
+            let x = some-of (slice_get v.nodes other) _ h.no_parent in
+            absurd (no-some x.0.state.view.parent (rooted.parents other x.0 h.holds_root ne x.1) x.2)
+      ]
+
+      go : (o : Outcome) → IsOutcome v set o → (t : Tree) × IsTree v set root t
+      go (loop c) h =
+          let is : IsCore v.cabling set core = subst (λ (d : Wiring). IsCore d set core) (sym (after-cabling k w)) f.is_core in
+          absurd (f.empty h.node ((is h.node).1 ((h.is_core h.node).0 h.in_core)))
+      go (tree other t) h = (t, subst (λ (q : ℕ). IsTree v set q t) (same other t h) h)
+      go (contention a b) h =
+          let x = some-of (slice_get v.nodes a) _ h.0.draws in
+          let y = some-of (slice_get v.nodes b) _ x.2 in
+          absurd (omega (arith, y.2.many, none-drew a x.0 h.0.holds_a x.1))
+
+-- ---- a configuration packet
+
+-- in a tree each ID is that of one node
+pub named-alone :
+    (w : CableWorld) (set old root id : ℕ) (t : Tree) → IsIdentifying w → IsTree w set old t →
+    Holds set root → Shows w root (λ v. v.id ≡ Some id) → IsNamedAlone w set root id
+named-alone w set old root id t i h inside named = record {
+  holds = inside;
+  calm = λ k m.
+      let x = some-of (slice_get w.nodes k) _ (h.ids k m) in
+      some-at (slice_get w.nodes k) x.0 (λ (y : PortNode). is_in_bus_reset y.state.view.phase ≡ false) x.1 (calm x.0.state.view.phase (tree-ready w set old t i h k x.0 m x.1));
+  named = named;
+  others = λ k m ne.
+      let x = some-of (slice_get w.nodes k) _ (h.ids k m) in
+      some-at (slice_get w.nodes k) x.0 (λ (y : PortNode). y.state.view.id ≢ Some id) x.1 (λ e. ne (some-same k root (sym (stands k x.0 m x.1 e) ∙ stands-there)));
+}
+  where
+    calm : (p : Phase) → is_ready p ≡ true → is_in_bus_reset p ≡ false
+    calm p e = grind (arith, e)
+
+    stands :
+        (k : ℕ) (x : PortNode) → Holds set k → slice_get w.nodes k ≡ Some x →
+        x.state.view.id ≡ Some id → slice_get (numbers w.cabling old t) id ≡ Some k
+    stands k x m at e =
+        let y = some-of (slice_get w.nodes k) _ (h.ids k m) in
+        let j = some-of y.0.state.view.id _ y.2 in
+        let same : j.0 ≡ id = some-same j.0 id (sym j.1 ∙ ap (λ (z : PortNode). z.state.view.id) (some-same y.0 x (sym y.1 ∙ at)) ∙ e) in
+        ap (slice_get (numbers w.cabling old t)) (sym same) ∙ j.2
+
+    stands-there : slice_get (numbers w.cabling old t) id ≡ Some root
+    stands-there = let y = some-of (slice_get w.nodes root) _ named in stands root y.0 inside y.1 y.2
+
+module _
+    (w v : CableWorld) (r : IsReached w) (from id : ℕ) (gap : Option ℕ) (set root : ℕ)
+    (n : NamesRoot w v from id gap set root) (is : IsAct (Config from id true gap))
+    (none : act_fault (Config from id true gap) w ≡ None) where
+  reached : IsReached v
+  reached = act-reached (Config from id true gap) w v is none n.act r
+
+  same-cables : v.cabling ≡ w.cabling
+  same-cables =
+      let told : CableWorld = record w { nodes = change_in_set n.act.0 (node_set_config (config_packet id true gap)) 0 w.nodes } in
+      ap (λ (u : CableWorld). u.cabling) n.act.2 ∙ step-cables from node_disturb told
+
+  component : IsComponent v.cabling from set
+  component = subst (λ (d : Wiring). IsComponent d from set) (sym same-cables) n.component
+
+  -- the node that the packet names is the root of the tree
+  pub config-outcome :
+      (core : ℕ) → IsCore w.cabling set core → IsEmpty core → set < 2 ^ 63 → (k : ℕ) →
+      quiet_turns (length v.nodes) v.delay ≤ k → (t : Tree) × IsTree (turns_after k v) set root t
+  config-outcome core is_core empty small k quiet =
+      let c = configured w v from id gap set root n.act n.component n.named in
+      forced-outcome v reached from set core root (record {
+        lawful = reached-lawful v reached;
+        component = component;
+        is_core = subst (λ (d : Wiring). IsCore d set core) (sym same-cables) is_core;
+        empty = empty;
+        small = small;
+        fresh = c.0;
+        alone = c.1;
+      }) k quiet
+
+  -- and each node has the gap count that it gives
+  pub config-gaps :
+      (k j : ℕ) (x y : PortNode) → turns_to_over v ≤ k → Holds set j →
+      slice_get w.nodes j ≡ Some x → slice_get (turns_after k v).nodes j ≡ Some y →
+      y.state.view.gap ≡ gap_or gap x.state.view.next_gap
+  config-gaps k j x y late inside at_x at_y = elim (slice_get_cases v.nodes j).1 [
+    | inl found ↦
+        let c = configured w v from id gap set root n.act n.component n.named in
+        (taken-by v (reached-lawful v reached) from set component c.0 k j found.0 y late inside found.2 at_y).1 ∙ c.2 j x found.0 inside at_x found.2
+    | inr lacks ↦ absurd (omega (arith, lacks.0, slice_get_within (turns_after k v).nodes j y at_y, after-length v (reached-lawful v reached) k))
+  ]

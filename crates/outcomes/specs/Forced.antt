@@ -1,0 +1,153 @@
+-- A node that waits to become root, and the others that don't.
+use Rattle.std.specs.Prelude.{◌≡◌, ◌≢◌, ℕ, ◌≤◌, Bool, true, false, Some, IsSome, slice_get, if◌then◌else◌, ◌+◌, ◌-◌, ◌*◌, ◌^◌, ◌<◌, Option, length}
+use Rattle.cabling.specs.NodeSet.{Holds, IsEmpty}
+use Rattle.port_state.specs.declared.view.View.{View}
+use Rattle.port_state.specs.Heard.{is_resetting}
+use Rattle.port_state.specs.Machine.{PortNode}
+use Rattle.cable_world.specs.World.{CableWorld, NodeNumber, NodeSet}
+use Rattle.cable_world.specs.Phases.{is_before_tree, is_in_bus_reset}
+use Rattle.cable_world.specs.Outcome.{Shows}
+use Rattle.convergence.specs.Roots.{IsRoot}
+use Rattle.topology_stack.specs.Tree.{Tree}
+use Rattle.cabling.specs.Component.{IsComponent}
+use Rattle.cabling.specs.Looped.{IsCore}
+use Rattle.port_state.specs.Config.{gap_or}
+use Rattle.cable_world.specs.Turn.{turns_after}
+use Rattle.cable_world.specs.Act.{ActLeads}
+use Rattle.cable_world.specs.declared.act.Act.TheVariants.{Config}
+use Rattle.cable_world.specs.Lawful.{IsLawful}
+use Rattle.cable_world.specs.Fresh.{IsFresh}
+use Rattle.convergence.specs.Acyclic.{IsAcyclic}
+use Rattle.outcomes.specs.WaysUp.{WaysUp}
+use Rattle.outcomes.specs.RootWalk.{RootWalk}
+
+-- each node of a set is in R0, and came there in the last so many turns
+abbrev pub AllReset : CableWorld → ℕ → ℕ → Type 0
+AllReset w set turns =
+    (k : ℕ) (x : PortNode) → Holds set k → slice_get w.nodes k ≡ Some x →
+    (is_resetting x.state.view.phase ≡ true) × (x.state.view.timer ≤ turns)
+
+-- whether a node waits in the reset that it is in, or else in the next
+abbrev pub waits_due : View → Bool
+waits_due v = if is_resetting v.phase then v.force else v.next_force
+
+-- its gap count in the reset that it is in, or else in the next
+abbrev pub gap_due : View → ℕ
+gap_due v = if is_resetting v.phase then v.gap else v.next_gap
+
+-- of a set of nodes this one waits, and no other does
+pub record WaitsAlone (w : CableWorld) (set waiting : ℕ) : Type 0 where
+  pub holds : Holds set waiting
+  pub waits : Shows w waiting (λ v. waits_due v ≡ true)
+  pub others : (k : ℕ) → Holds set k → k ≢ waiting → Shows w k (λ v. waits_due v ≡ false)
+
+-- of a set of nodes, none of which is in R0 or R1, this one has the ID, and no other does
+pub record IsNamedAlone (w : CableWorld) (set node id : ℕ) : Type 0 where
+  pub holds : Holds set node
+  pub calm : (k : ℕ) → Holds set k → Shows w k (λ v. is_in_bus_reset v.phase ≡ false)
+  pub named : Shows w node (λ v. v.id ≡ Some id)
+  pub others : (k : ℕ) → Holds set k → k ≢ node → Shows w k (λ v. v.id ≢ Some id)
+
+-- a root, and the others that know their tree and have a parent port
+pub record IsRooted (w : CableWorld) (set root : ℕ) : Type 0 where
+  pub is_root : IsRoot w root
+  pub late :
+      (k : ℕ) (x : PortNode) → Holds set k → slice_get w.nodes k ≡ Some x →
+      is_before_tree x.state.view.phase ≡ false
+  pub parents :
+      (k : ℕ) (x : PortNode) → Holds set k → k ≢ root → slice_get w.nodes k ≡ Some x →
+      IsSome x.state.view.parent
+
+-- ---- laws
+
+-- after (n - 1) d turns all nodes of a component that has just been reset are in R0, and nobody
+-- leaves it before 64 d turns are done
+abbrev pub ResetsSpread : Type 0
+ResetsSpread =
+    (w : CableWorld) (node : NodeNumber) (set : NodeSet) (i : ℕ) → IsLawful w →
+    IsComponent w.cabling node set → IsFresh w set →
+    (length w.nodes - 1) * w.delay ≤ i → i < 64 * w.delay → AllReset (turns_after i w) set i
+
+-- after n d turns each has what it takes over at its entry
+abbrev pub EntriesTakeOver : Type 0
+EntriesTakeOver =
+    (w : CableWorld) (node : NodeNumber) (set : NodeSet) (i : ℕ) (k : NodeNumber)
+    (x y : PortNode) → IsLawful w → IsComponent w.cabling node set → IsFresh w set →
+    length w.nodes * w.delay ≤ i → Holds set k →
+    slice_get w.nodes k ≡ Some x → slice_get (turns_after i w).nodes k ≡ Some y →
+    (y.state.view.force ≡ waits_due x.state.view) × (y.state.view.gap ≡ gap_due x.state.view)
+
+-- in a component without loop, which has just been reset, this node alone waits to become root
+pub record IsForced
+    (w : CableWorld) (node : NodeNumber) (set core : NodeSet) (root : NodeNumber)
+    : Type 0 where
+  pub lawful : IsLawful w
+  pub component : IsComponent w.cabling node set
+  pub is_core : IsCore w.cabling set core
+  pub empty : IsEmpty core
+  pub small : set < 2 ^ 63
+  pub fresh : IsFresh w set
+  pub alone : WaitsAlone w set root
+
+-- by so many turns it is the root
+abbrev pub forced_turns : CableWorld → ℕ
+forced_turns w = 2 * (length w.nodes * w.delay) + 81 * w.delay
+
+abbrev pub ForcedNodesBecomeRoots : Type 0
+ForcedNodesBecomeRoots =
+    (w : CableWorld) (node : NodeNumber) (set core : NodeSet) (root : NodeNumber) (k : ℕ) →
+    IsForced w node set core root → forced_turns w ≤ k → IsRooted (turns_after k w) set root
+
+abbrev pub ForcedRootsHaveWalks : Type 0
+ForcedRootsHaveWalks =
+    (w : CableWorld) (node : NodeNumber) (set core : NodeSet) (root : NodeNumber) (k : ℕ) →
+    IsForced w node set core root → IsAcyclic w → forced_turns w ≤ k →
+    (t : Tree) × RootWalk (turns_after k w) set root t
+
+-- from n d turns on each node past T0 has its port towards that node for parent port
+abbrev pub AllLeadToForcedRoots : Type 0
+AllLeadToForcedRoots =
+    (w : CableWorld) (node : NodeNumber) (set core : NodeSet) (root : NodeNumber) →
+    IsForced w node set core root →
+    (up : ℕ → Option ℕ) × WaysUp w.cabling set root up
+    × ((i : ℕ) (k : NodeNumber) (x : PortNode) → length w.nodes * w.delay ≤ i → Holds set k →
+    slice_get (turns_after i w).nodes k ≡ Some x → is_before_tree x.state.view.phase ≡ false →
+    x.state.view.parent ≡ up k)
+
+-- and nobody draws a coin
+abbrev pub NobodyDraws : Type 0
+NobodyDraws =
+    (w : CableWorld) (node : NodeNumber) (set core : NodeSet) (root : NodeNumber) (i : ℕ)
+    (k : NodeNumber) (x y : PortNode) → IsForced w node set core root →
+    length w.nodes * w.delay ≤ i → Holds set k →
+    slice_get (turns_after i w).nodes k ≡ Some x →
+    slice_get (turns_after (i + 1) w).nodes k ≡ Some y →
+    y.state.view.draws ≡ x.state.view.draws
+
+-- a configuration packet with R set names one node of a component that isn't being reset
+pub record NamesRoot
+    (w v : CableWorld) (from : NodeNumber) (id : ℕ) (gap : Option ℕ) (set : NodeSet)
+    (root : NodeNumber)
+    : Type 0 where
+  pub act : ActLeads (Config from id true gap) w v
+  pub component : IsComponent w.cabling from set
+  pub named : IsNamedAlone w set root id
+
+abbrev pub ConfigsBeginAnew : Type 0
+ConfigsBeginAnew =
+    (w v : CableWorld) (from : NodeNumber) (id : ℕ) (gap : Option ℕ) (set : NodeSet)
+    (root : NodeNumber) →
+    NamesRoot w v from id gap set root → IsFresh v set
+
+abbrev pub ConfigsNameRoots : Type 0
+ConfigsNameRoots =
+    (w v : CableWorld) (from : NodeNumber) (id : ℕ) (gap : Option ℕ) (set : NodeSet)
+    (root : NodeNumber) →
+    NamesRoot w v from id gap set root → WaitsAlone v set root
+
+abbrev pub ConfigsGiveGaps : Type 0
+ConfigsGiveGaps =
+    (w v : CableWorld) (from : NodeNumber) (id : ℕ) (gap : Option ℕ) (set : NodeSet)
+    (root k : NodeNumber) (x y : PortNode) → NamesRoot w v from id gap set root →
+    Holds set k → slice_get w.nodes k ≡ Some x → slice_get v.nodes k ≡ Some y →
+    gap_due y.state.view ≡ gap_or gap x.state.view.next_gap

@@ -1,0 +1,16 @@
+pub mod Alike
+pub mod Emit
+pub mod Forced
+pub mod Holders
+pub mod Identify
+pub mod InTurn
+pub mod Intervals
+pub mod Lists
+pub mod Messages
+pub mod NodeMarks
+pub mod Numbered
+pub mod Parents
+pub mod RootWalk
+pub mod Settled
+pub mod WalkMarks
+pub mod WaysUp

@@ -1,0 +1,86 @@
+-- Components that come to an outcome: a loop, a tree or a contention.
+use Rattle.std.specs.Prelude.{◌≡◌, ℕ, ◌^◌, ◌<◌, ◌≤◌, true, false, Option, Some, None, length, slice_get}
+use Rattle.topology_stack.specs.Tree.{Tree}
+use Rattle.cabling.specs.NodeSet.{Holds, IsEmpty}
+use Rattle.cabling.specs.Component.{IsComponent}
+use Rattle.cabling.specs.Looped.{IsCore}
+use Rattle.port_state.specs.Config.{gap_or}
+use Rattle.port_state.specs.Heard.{hears_packets}
+use Rattle.port_state.specs.Machine.{PortNode}
+use Rattle.cable_world.specs.World.{CableWorld, NodeNumber, NodeSet}
+use Rattle.cable_world.specs.Turn.{turns_after}
+use Rattle.cable_world.specs.Run.{IsReached, quiet_turns}
+use Rattle.cable_world.specs.declared.act.Act.TheVariants.{Config}
+use Rattle.cable_world.specs.Act.{IsAct, act_fault}
+use Rattle.cable_world.specs.Fresh.{IsFresh}
+use Rattle.cable_world.specs.Outcome.{Shows, IsLoop, IsTree, IsSettled}
+use Rattle.convergence.specs.Turns.{turns_to_over, turns_to_loops}
+use Rattle.outcomes.specs.Forced.{IsForced, IsNamedAlone, NamesRoot}
+
+-- a node of the set isn't in self identify or A0
+pub record IsUnfinished (w : CableWorld) (set : NodeSet) : Type 0 where
+  pub number : NodeNumber
+  pub holds : Holds set number
+  pub node : PortNode
+  pub at : slice_get w.nodes number ≡ Some node
+  pub out : hears_packets node.state.view.phase ≡ false
+
+-- a component with a loop comes to the outcome Loop, and stays there
+abbrev pub LoopsComeOut : Type 0
+LoopsComeOut =
+    (w : CableWorld) (k : ℕ) (node : NodeNumber) (set core : NodeSet) (member : NodeNumber) →
+    IsReached w → turns_to_loops w ≤ k → IsComponent (turns_after k w).cabling node set →
+    IsCore (turns_after k w).cabling set core → Holds core member →
+    IsLoop (turns_after k w) set core
+
+-- in so many quiet turns a component comes to an outcome that isn't through tree identify when
+-- resets are over
+abbrev pub UnfinishedComponentsSettle : Type 0
+UnfinishedComponentsSettle =
+    (w : CableWorld) (k : ℕ) (node : NodeNumber) (set core : NodeSet) → IsReached w →
+    IsComponent w.cabling node set → IsCore w.cabling set core → set < 2 ^ 63 →
+    IsUnfinished (turns_after (turns_to_over w) w) set →
+    quiet_turns (length w.nodes) w.delay ≤ k → IsSettled (turns_after k w) set
+
+-- so does one that has just been reset
+abbrev pub FreshComponentsSettle : Type 0
+FreshComponentsSettle =
+    (w : CableWorld) (k : ℕ) (node : NodeNumber) (set core : NodeSet) → IsReached w →
+    IsComponent w.cabling node set → IsCore w.cabling set core → set < 2 ^ 63 → IsFresh w set →
+    quiet_turns (length w.nodes) w.delay ≤ k → IsSettled (turns_after k w) set
+
+-- ---- forced roots
+
+-- where one node alone waits to become root, it is the root of the tree
+abbrev pub ForcedRootsSettle : Type 0
+ForcedRootsSettle =
+    (w : CableWorld) (k : ℕ) (node : NodeNumber) (set core : NodeSet) (root : NodeNumber) →
+    IsReached w → IsForced w node set core root →
+    quiet_turns (length w.nodes) w.delay ≤ k → (t : Tree) × IsTree (turns_after k w) set root t
+
+-- in a tree an ID names one node
+abbrev pub IdsNameOneNode : Type 0
+IdsNameOneNode =
+    (w : CableWorld) (set : NodeSet) (old root : NodeNumber) (id : ℕ) (t : Tree) →
+    IsReached w → IsTree w set old t → Holds set root → Shows w root (λ v. v.id ≡ Some id) →
+    IsNamedAlone w set root id
+
+-- a configuration packet with R set makes the node that it names root
+abbrev pub ConfigsMoveRoots : Type 0
+ConfigsMoveRoots =
+    (w v : CableWorld) (k : ℕ) (from : NodeNumber) (id : ℕ) (gap : Option ℕ)
+    (set core : NodeSet) (root : NodeNumber) → IsReached w →
+    IsAct (Config from id true gap) → act_fault (Config from id true gap) w ≡ None →
+    NamesRoot w v from id gap set root → IsCore w.cabling set core → IsEmpty core →
+    set < 2 ^ 63 → quiet_turns (length v.nodes) v.delay ≤ k →
+    (t : Tree) × IsTree (turns_after k v) set root t
+
+-- from n d turns on each node of the component has the gap count that the packet gave
+abbrev pub ConfigsSetGaps : Type 0
+ConfigsSetGaps =
+    (w v : CableWorld) (k : ℕ) (from : NodeNumber) (id : ℕ) (gap : Option ℕ) (set : NodeSet)
+    (root j : NodeNumber) (x y : PortNode) → IsReached w →
+    IsAct (Config from id true gap) → act_fault (Config from id true gap) w ≡ None →
+    NamesRoot w v from id gap set root → turns_to_over v ≤ k → Holds set j →
+    slice_get w.nodes j ≡ Some x → slice_get (turns_after k v).nodes j ≡ Some y →
+    y.state.view.gap ≡ gap_or gap x.state.view.next_gap

@@ -1,0 +1,148 @@
+//! Laws of what components come to. Each function is a fact for the crates above, which call it.
+ghost use Rattle.cable_world.specs.StaysLawful.{HoldsAtPowerOn};
+ghost use Rattle.convergence.specs.Kept.{KeptByTurn, KeptByHold, KeptByAct, HoldsOfReached};
+ghost use Rattle.outcomes.specs.Forced.{ResetsSpread, EntriesTakeOver, ForcedNodesBecomeRoots};
+ghost use Rattle.outcomes.specs.Forced.{ForcedRootsHaveWalks, AllLeadToForcedRoots, NobodyDraws};
+ghost use Rattle.outcomes.specs.Forced.{ConfigsBeginAnew, ConfigsNameRoots, ConfigsGiveGaps};
+ghost use Rattle.outcomes.specs.Holders.{SelfIdentifyGoesOn};
+ghost use Rattle.outcomes.specs.Identify.{IsIdentifying};
+ghost use Rattle.outcomes.specs.Lists.{ListsFollow};
+ghost use Rattle.outcomes.specs.NodeMarks.{RecordsAreMarked, NodesAwaitOneChild};
+ghost use Rattle.outcomes.specs.Numbered.{SettlingBegins, TurnsKeepSettling, HoldsKeepSettling};
+ghost use Rattle.outcomes.specs.Numbered.{NextHasItsPrefix, NextHasRoom, RestIsTree};
+ghost use Rattle.outcomes.specs.Numbered.{TurnsKeepRest, HoldsKeepRest, RestKeepsTree};
+ghost use Rattle.outcomes.specs.Numbered.{NodesGetReady, TreesComeToRest, TreesAreThere};
+ghost use Rattle.outcomes.specs.RootWalk.{RootsHaveWalks, NamedRootsAreOutcomes, WalksStay};
+ghost use Rattle.outcomes.specs.Settled.{LoopsComeOut, UnfinishedComponentsSettle};
+ghost use Rattle.outcomes.specs.Settled.{FreshComponentsSettle, ForcedRootsSettle};
+ghost use Rattle.outcomes.specs.Settled.{IdsNameOneNode, ConfigsMoveRoots, ConfigsSetGaps};
+
+/// What is so of self identify, at each node and at the two ends of each cable, is so at power-on,
+/// and turns, holds and acts of a lawful world keep it.
+pub fn worlds_stay_identifying()
+    ensures power_on { HoldsAtPowerOn IsIdentifying }
+    ensures turn { KeptByTurn IsIdentifying }
+    ensures hold { KeptByHold IsIdentifying }
+    ensures act { KeptByAct IsIdentifying }
+    ensures reached { HoldsOfReached IsIdentifying }
+{}
+
+/// In every reached world each record fits the progress of self identify: a node has an ID in A0
+/// alone, is granted in self identify and A0 alone, and asks its children one after the other, in
+/// rising port order; its list is empty before. It awaits one child at most.
+pub fn records_fit_self_identify()
+    ensures marks { RecordsAreMarked }
+    ensures one_awaited { NodesAwaitOneChild }
+{}
+
+/// In every reached world, on each cable whose two ends are both in self identify or A0, the list
+/// of one end, followed by the packets under way to it, is the list of the other end, and no packet
+/// is under way to that other end.
+pub fn lists_follow()
+    ensures { HoldsOfReached ListsFollow }
+{}
+
+/// Where all nodes of a component of a reached world are in self identify or A0, and one isn't in
+/// A0, exactly one of these is there: one Grant under way, one Done under way, or one granted node
+/// in self identify that waits for no child that it asked.
+pub fn self_identify_goes_on()
+    ensures { SelfIdentifyGoesOn }
+{}
+
+/// Once resets are over, the cables show a tree from a component's root, whose parent ports are
+/// those of the nodes. Its list is the nodes' own groups, each with the node's place as ID.
+pub fn roots_have_walks()
+    ensures { RootsHaveWalks }
+{}
+
+/// Where all nodes below a root have their places as IDs, and the tree's list, the component has
+/// come to that tree.
+pub fn named_roots_are_outcomes()
+    ensures { NamedRootsAreOutcomes }
+{}
+
+/// A world in which a component has the same ports, and shows the same attributes, has the same
+/// walk there.
+pub fn walks_stay()
+    ensures { WalksStay }
+{}
+
+/// A reset that has just begun spreads: after (n - 1) d turns without acts all of the component are
+/// in R0, and nobody leaves it before 64 d turns are done. After n d turns each has what it takes
+/// over at its entry.
+pub fn resets_spread()
+    ensures spread { ResetsSpread }
+    ensures taken { EntriesTakeOver }
+{}
+
+/// Where of a fresh component without loop one node alone waits to become root, it does: at each
+/// turn after 2 n d + 81 d, at most 207 d, it is the root, and each other node has a parent port.
+/// The cables show its tree. From n d turns on each node past T0 has its port towards it for parent
+/// port, and nobody draws a coin.
+pub fn waiting_nodes_become_roots()
+    ensures root { ForcedNodesBecomeRoots }
+    ensures walk { ForcedRootsHaveWalks }
+    ensures ways { AllLeadToForcedRoots }
+    ensures undrawn { NobodyDraws }
+{}
+
+/// A configuration packet with R set begins a reset in a component that had none. The node with the
+/// ID that it names waits alone to become root, and each node takes over the gap count that it
+/// gives.
+pub fn configs_choose_roots()
+    ensures fresh { ConfigsBeginAnew }
+    ensures waits { ConfigsNameRoots }
+    ensures gaps { ConfigsGiveGaps }
+{}
+
+/// Self identify goes in the order of the walk. A component whose nodes have all come to self
+/// identify begins with empty lists; after each turn each list that matters is what the first nodes
+/// of the walk emitted. The next of them always has room for its group.
+pub fn walks_are_numbered()
+    ensures begins { SettlingBegins }
+    ensures turn { TurnsKeepSettling }
+    ensures hold { HoldsKeepSettling }
+    ensures prefix { NextHasItsPrefix }
+    ensures room { NextHasRoom }
+{}
+
+/// Such a component at rest, with all nodes in A0 and nothing under way, has come to its tree, and
+/// stays at rest in turns without acts.
+pub fn trees_rest()
+    ensures tree { RestIsTree }
+    ensures turn { TurnsKeepRest }
+    ensures hold { HoldsKeepRest }
+    ensures after_turns { RestKeepsTree }
+{}
+
+/// From such a component of n nodes all nodes come to A0 within (4 n + 1) d turns, and to rest
+/// within 5 n d; after 5 n d turns it has its tree, and keeps it.
+pub fn trees_settle()
+    ensures ready { NodesGetReady }
+    ensures rest { TreesComeToRest }
+    ensures tree { TreesAreThere }
+{}
+
+/// Every component with a loop comes to the outcome Loop: after n d + 100 d + 600 d turns without
+/// acts each node of its core reports the timeout, and no node of it has an ID.
+pub fn loops_come_out()
+    ensures { LoopsComeOut }
+{}
+
+/// In as many quiet turns as a world is given to settle every component comes to an outcome that
+/// has just been reset, or in which a node isn't in self identify or A0 when resets are over.
+pub fn components_settle()
+    ensures unfinished { UnfinishedComponentsSettle }
+    ensures fresh { FreshComponentsSettle }
+{}
+
+/// Where of a fresh component without loop one node alone waits to become root, it comes to a tree
+/// with that root in as many quiet turns. So it does after a configuration packet with R set that
+/// names one node; from n d turns on each node has the gap count that the packet gave. In a tree
+/// each ID names one node.
+pub fn forced_roots_settle()
+    ensures forced { ForcedRootsSettle }
+    ensures names { IdsNameOneNode }
+    ensures config { ConfigsMoveRoots }
+    ensures gaps { ConfigsSetGaps }
+{}

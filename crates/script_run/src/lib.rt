@@ -1,0 +1,29 @@
+//! Scripts: lines of commands that build a bus, run it and ask its manager.
+//!
+//! A script names nodes, plugs and pulls cables, lets turns pass and asks for reports. What stands
+//! here reads it, a line at a time.
+#![tactic(auto)]
+
+mod acts;
+mod asks;
+mod coins;
+mod command;
+mod fixed;
+mod key;
+mod kind;
+mod laws;
+mod line;
+mod node;
+mod number;
+mod pairs;
+mod word;
+mod words;
+
+pub use command::Command;
+pub use kind::{Kind, LineStop};
+pub use laws::one_reading;
+pub use line::parse_line;
+pub use topology_stack::{Name, OutOfMemory};
+
+#[cfg(test)]
+mod tests;

@@ -1,0 +1,55 @@
+use Rattle.std.proofs.Common.{◌≡◌, ◌∙◌, ◌+◌, ◌≤◌, ℕ, length, ap, sym, subst, arith}
+use Rattle.cable_world.specs.Turn.{turns_after}
+use Rattle.cable_world.specs.Unchanged.{TurnsPass}
+use Rattle.cable_world.proofs.running.Whole.{lawful-now, not-spent}
+use Rattle.settle.specs.Report.{quiet_turns_of}
+use Rattle.settle.proofs.TurnsGiven.{quiet-is, on-err}
+use Rattle.settle.proofs.settling.settle.Goals as goal
+
+pub quiet_turns-quiet-requires-clause-some_delay :
+    goal.quiet_turns-quiet-requires-clause-some_delay
+quiet_turns-quiet-requires-clause-some_delay g c =
+    let w = g.W.WorldRun.world c.args.world.now in
+    let lawful = lawful-now w (g.met.W.WorldRun.reached c.args.world.now (sym c.spent.ensures ∙ c.if-spent.false)) in
+    omega (arith, c.delay.ensures, lawful.well_formed.some_delay)
+
+pub quiet_turns-quiet-requires-clause-short_delay :
+    goal.quiet_turns-quiet-requires-clause-short_delay
+quiet_turns-quiet-requires-clause-short_delay g c =
+    let w = g.W.WorldRun.world c.args.world.now in
+    let lawful = lawful-now w (g.met.W.WorldRun.reached c.args.world.now (sym c.spent.ensures ∙ c.if-spent.false)) in
+    omega (arith, c.delay.ensures, lawful.well_formed.short_delay)
+
+pub run_turns-requires : goal.run_turns-requires
+run_turns-requires g c =
+    let w = g.W.WorldRun.world c.args.world.now in
+    let q : c.quiet_turns-quiet.result ≡ quiet_turns_of w =
+    quiet-is w c.nodes.result c.delay.result c.quiet_turns-quiet.result c.quiet_turns-quiet.ensures (c.nodes.ensures.value ∙ ap length c.cabling.ensures) c.delay.ensures in
+    subst (λ (n : ℕ). w.turns + n ≤ 4000000000) (sym q) c.requires
+
+pub parts_of-requires : goal.parts_of-requires
+parts_of-requires g c =
+    let v = c.run_turns.new.self in
+    let lawful = lawful-now (g.W.WorldRun.world v) (g.met.W.WorldRun.reached v (not-spent (g.W.WorldRun.is_spent v) c.in_ok-run_turns.ensures.spent.1)) in
+    lawful.well_formed
+
+pub returns-in_err-parts_of-clause-memory : goal.returns-in_err-parts_of-clause-memory
+returns-in_err-parts_of-clause-memory g c =
+    let w = g.W.WorldRun.world c.args.world.now in
+    let q : c.quiet_turns-quiet.result ≡ quiet_turns_of w =
+    quiet-is w c.nodes.result c.delay.result c.quiet_turns-quiet.result c.quiet_turns-quiet.ensures (c.nodes.ensures.value ∙ ap length c.cabling.ensures) c.delay.ensures in
+    on-err c.from_residual-in_err-parts_of.result _ (λ fine. c.in_ok-run_turns.ensures.done ∙ ap (λ (n : ℕ). turns_after n w) q)
+
+pub returns-clause-quiet : goal.returns-clause-quiet
+returns-clause-quiet g c =
+    let w = g.W.WorldRun.world c.args.world.now in
+    let q : c.quiet_turns-quiet.result ≡ quiet_turns_of w =
+    quiet-is w c.nodes.result c.delay.result c.quiet_turns-quiet.result c.quiet_turns-quiet.ensures (c.nodes.ensures.value ∙ ap length c.cabling.ensures) c.delay.ensures in
+    c.in_ok-run_turns.ensures.done ∙ ap (λ (n : ℕ). turns_after n w) q
+
+pub returns-clause-passed : goal.returns-clause-passed
+returns-clause-passed g c =
+    let w = g.W.WorldRun.world c.args.world.now in
+    let q : c.quiet_turns-quiet.result ≡ quiet_turns_of w =
+    quiet-is w c.nodes.result c.delay.result c.quiet_turns-quiet.result c.quiet_turns-quiet.ensures (c.nodes.ensures.value ∙ ap length c.cabling.ensures) c.delay.ensures in
+    subst (λ (n : ℕ). TurnsPass n w (g.W.WorldRun.world c.run_turns.new.self)) q c.in_ok-run_turns.ensures.passed

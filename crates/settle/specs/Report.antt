@@ -1,0 +1,64 @@
+-- What is reported of a world.
+use Rattle.std.specs.Prelude.{◌≡◌, ℕ, ◌<◌, ◌≤◌, List, Some, length, slice_get, All, Any, AllPairs}
+use Rattle.cabling.specs.NodeSet.{Holds}
+use Rattle.cabling.specs.Component.{IsComponent}
+use Rattle.cable_world.specs.World.{CableWorld, NodeNumber, NodeSet}
+use Rattle.cable_world.specs.Turn.{turns_after}
+use Rattle.cable_world.specs.Run.{quiet_turns}
+use Rattle.cable_world.specs.Outcome.{Shows}
+use Rattle.settle.specs.declared.report.Part.{Part}
+use Rattle.settle.specs.declared.report.Report.{Report}
+use Rattle.settle.specs.Reported.{IsReported}
+
+-- ---- numbers of a component
+
+-- the greatest of the numbers of the nodes of a set
+pub record IsGreatest (set : NodeSet) (IsOf : NodeNumber → ℕ → Type 0) (most : ℕ) : Type 0 where
+  pub node : NodeNumber
+  pub holds : Holds set node
+  pub reached : IsOf node most
+  pub bound : (k : NodeNumber) (n : ℕ) → Holds set k → IsOf k n → n ≤ most
+
+-- a node drew so many coins since its last reset
+abbrev pub Drew : CableWorld → NodeNumber → ℕ → Type 0
+Drew w k n = Shows w k (λ v. v.draws ≡ n)
+
+-- a node's list last changed at the end of so many turns
+abbrev pub LastChanged : CableWorld → NodeNumber → ℕ → Type 0
+LastChanged w k n = slice_get w.changed k ≡ Some n
+
+-- ---- the report
+
+-- what is reported of a component
+pub record IsPart (w : CableWorld) (part : Part) : Type 0 where
+  pub node : NodeNumber
+  pub component : IsComponent w.cabling node part.nodes
+  pub rounds : IsGreatest part.nodes (Drew w) part.rounds
+  pub changed : IsGreatest part.nodes (LastChanged w) part.changed
+  pub outcome : IsReported w part.nodes part.outcome
+
+-- the least node of the one part is below that of the other
+pub record StartsBefore (one other : Part) : Type 0 where
+  pub least : NodeNumber
+  pub holds : Holds one.nodes least
+  pub below : (k : NodeNumber) → Holds other.nodes k → least < k
+
+-- of each component there is one part, and the parts stand by rising least node
+pub record AreParts (w : CableWorld) (parts : List Part) : Type 0 where
+  pub each : All (IsPart w) parts
+  pub rising : AllPairs StartsBefore parts
+  pub whole : (k : NodeNumber) → k < length w.cabling → Any (λ part. Holds part.nodes k) parts
+
+pub record IsReport (w : CableWorld) (report : Report) : Type 0 where
+  pub turn : report.turn ≡ w.turns
+  pub parts : AreParts w report.parts
+
+-- ---- the turns before it
+
+-- so many as its nodes and its cables want
+abbrev pub quiet_turns_of : CableWorld → ℕ
+quiet_turns_of w = quiet_turns (length w.cabling) w.delay
+
+-- all of these turns were done, and nothing else
+abbrev pub IsAfterQuiet : CableWorld → CableWorld → Type 0
+IsAfterQuiet w v = v ≡ turns_after (quiet_turns_of w) w

@@ -1,0 +1,78 @@
+-- What is asked of one node after the other.
+use Rattle.std.specs.Prelude.{◌≡◌, ◌≢◌, ◌⊎◌, ℕ, ◌<◌, ◌≤◌, List, None, Some, IsSome, IsSomeAnd, length, slice_get}
+use Rattle.self_id.specs.declared.node.Attrs.{Attrs}
+use Rattle.topology_stack.specs.Tree.{Tree, emits}
+use Rattle.cabling.specs.Wiring.{Wiring}
+use Rattle.cabling.specs.NodeSet.{Holds}
+use Rattle.cabling.specs.Component.{IsNeighbour}
+use Rattle.cabling.specs.Labels.{labels}
+use Rattle.cabling.specs.Sees.{Sees, numbers}
+use Rattle.cable_world.specs.World.{CableWorld, NodeNumber, NodeSet}
+use Rattle.cable_world.specs.Outcome.{AtNode, Shows, DrewAlike}
+
+-- the nodes of the set exist
+abbrev pub AreThere : CableWorld → NodeSet → Type 0
+AreThere w set = (k : NodeNumber) → Holds set k → k < length w.cabling
+
+-- no node of the set is below this one
+abbrev pub IsLeast : NodeSet → NodeNumber → Type 0
+IsLeast set node = (k : NodeNumber) → Holds set k → node ≤ k
+
+-- one is
+abbrev pub HasLess : NodeSet → NodeNumber → Type 0
+HasLess set node = (k : NodeNumber) × (k < node) × Holds set k
+
+-- ---- trees
+
+-- the cables show a tree from the root that emits the list, and has its nodes in this order
+pub record IsShown
+    (c : Wiring) (attrs : List Attrs) (root : NodeNumber) (list order : List ℕ) : Type 0 where
+  pub tree : Tree
+  pub seen : Sees c (labels attrs) root None tree
+  pub emitted : list ≡ emits tree
+  pub walked : order ≡ numbers c root tree
+
+-- the cables show no tree from there
+abbrev pub ShowsNone : Wiring → List Attrs → NodeNumber → Type 0
+ShowsNone c attrs root = (t : Tree) → Sees c (labels attrs) root None t → ⊥
+
+-- the node has no parent
+abbrev pub IsTop : CableWorld → NodeNumber → Type 0
+IsTop w k = Shows w k (λ v. v.parent ≡ None)
+
+abbrev pub HasNoTop : CableWorld → NodeSet → Type 0
+HasNoTop w set = (k : NodeNumber) → Holds set k → IsTop w k → ⊥
+
+-- the node shows what it has to in a tree with this root, list and order
+pub record FitsTree
+    (w : CableWorld) (root : NodeNumber) (list order : List ℕ) (k : NodeNumber) : Type 0 where
+  pub parent : k ≢ root → Shows w k (λ v. IsSome v.parent)
+  pub id : Shows w k (λ v. IsSomeAnd v.id (λ i. slice_get order i ≡ Some k))
+  pub has_list : AtNode w k (λ x. x.state.list.items ≡ list)
+
+abbrev pub AllFit : CableWorld → NodeSet → NodeNumber → List ℕ → List ℕ → Type 0
+AllFit w set root list order = (k : NodeNumber) → Holds set k → FitsTree w root list order k
+
+-- ---- contentions
+
+-- two neighbours, the lower first, drew alike
+pub record Contend (w : CableWorld) (a b : NodeNumber) : Type 0 where
+  pub rising : a < b
+  pub neighbours : IsNeighbour w.cabling a b
+  pub draws : Shows w a (λ v. Shows w b (λ u. DrewAlike v u))
+
+abbrev pub HasNoRival : CableWorld → NodeNumber → Type 0
+HasNoRival w a = (b : NodeNumber) → Contend w a b → ⊥
+
+pub record IsLeastRival (w : CableWorld) (a b : NodeNumber) : Type 0 where
+  pub is : Contend w a b
+  pub least : (other : NodeNumber) → Contend w a other → b ≤ other
+
+abbrev pub HasNoPair : CableWorld → NodeSet → Type 0
+HasNoPair w set = (a b : NodeNumber) → Holds set a → Contend w a b → ⊥
+
+pub record IsLeastPair (w : CableWorld) (set : NodeSet) (a b : NodeNumber) : Type 0 where
+  pub is : Contend w a b
+  pub holds : Holds set a
+  pub first :
+      (c d : NodeNumber) → Holds set c → Contend w c d → (a < c) ⊎ ((a ≡ c) × (b ≤ d))

@@ -1,0 +1,17 @@
+//! What a bus settles to: so many quiet turns are done that it has, and then each component is read.
+//!
+//! `specs/` has what is reported: `Reported` of the outcome of a component, `Report` of a whole
+//! world. What a component may settle to is in `cable_world/specs/Outcome.antt`.
+#![tactic(auto)]
+
+mod contention;
+mod part;
+mod quiet;
+mod report;
+mod settling;
+mod tree;
+
+pub use cabling::OutOfMemory;
+pub use quiet::quiet_turns;
+pub use report::{Outcome, Part, PartList, Report};
+pub use settling::settle;

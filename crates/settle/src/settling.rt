@@ -1,0 +1,70 @@
+//! A bus settles, and is read.
+ghost use Rattle.std.specs.Prelude.{◌≡◌, ◌+◌, ◌≤◌, IfOk, OnOk, OnErr, IsErr, IsTrue, IsFalse, MatchBool};
+ghost use Rattle.cabling.specs.NodeSet.{Holds};
+ghost use Rattle.cable_world.specs.Lawful.{IsWellFormed};
+ghost use Rattle.cable_world.specs.Unchanged.{TurnsPass};
+ghost use Rattle.settle.specs.codings.Reading.{IsLeast, HasLess};
+ghost use Rattle.settle.specs.Report.{AreParts, IsReport, quiet_turns_of, IsAfterQuiet};
+
+use crate::part::{attrs_of, part_of};
+use crate::quiet::quiet_turns;
+use crate::report::{PartList, Report};
+use cable_world::WorldRun;
+use cabling::{NodeSet, OutOfMemory, components_are_whole};
+use std::alloc::{AllocError, Global};
+
+/// Whether a node of a set is the least in it.
+fn is_least(set: NodeSet, node: u8) -> bool
+    requires { Holds set node }
+    ensures { MatchBool result (IsLeast set node) (HasLess set node) }
+{
+    match set.least() {
+        Some(least) => least == node,
+        None => false,
+    }
+}
+
+/// What is reported of each component of a world, by their least nodes.
+fn parts_of<W: WorldRun>(alloc: Global, world: &W) -> Result<PartList, OutOfMemory>
+    requires { IsWellFormed (W.world world.now) }
+    ensures { IfOk result (λ parts. AreParts (W.world world.now) parts) }
+{
+    let cabling = world.cabling();
+    components_are_whole(cabling);
+    let attrs = attrs_of(alloc, world)?;
+    let mut parts = PartList::new(alloc);
+    for node in 0..cabling.nodes() {
+        let nodes = cabling.component(node);
+        if is_least(nodes, node) {
+            parts.push(part_of(alloc, world, node, nodes, &attrs)?)?;
+        }
+    }
+    Ok(parts)
+}
+
+/// Does as many turns as `quiet_turns` says for the nodes and the delay of a world, and reports what
+/// each component came to. With the turns done before they are at most 4,000,000,000.
+///
+/// After want of memory the world is spent, or it has done all of these turns.
+pub fn settle<W: WorldRun>(alloc: Global, world: &mut W) -> Result<Report, OutOfMemory>
+    requires { (W.world world.old).turns + quiet_turns_of (W.world world.old) ≤ 4000000000 }
+    ensures report { IfOk result (λ report. IsReport (W.world world.new) report) }
+    ensures quiet { OnOk result (IsAfterQuiet (W.world world.old) (W.world world.new)) }
+    ensures passed { OnOk result
+        (TurnsPass (quiet_turns_of (W.world world.old)) (W.world world.old) (W.world world.new)) }
+    ensures fine { OnOk result (IsFalse (W.is_spent world.new)) }
+    ensures memory { OnErr result (IsFalse (W.is_spent world.new) →
+        IsAfterQuiet (W.world world.old) (W.world world.new)) }
+    ensures was_spent { IsTrue (W.is_spent world.old) →
+        IsErr result × (W.world world.new ≡ W.world world.old) }
+{
+    if world.spent() {
+        return Err(AllocError);
+    }
+    let quiet = quiet_turns(world.cabling().nodes(), world.delay());
+    world.run_turns(quiet)?;
+    Ok(Report {
+        turn: world.turns(),
+        parts: parts_of(alloc, world)?,
+    })
+}
