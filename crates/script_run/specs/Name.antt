@@ -1,6 +1,7 @@
 -- Whether a word is a name.
-use Rattle.std.specs.Prelude.{ℕ, ◌==◌, ◌||◌, ◌&&◌, nat_le, Bool, false, List, [], ◌∷◌, length}
+use Rattle.std.specs.Prelude.{ℕ, ◌==◌, ◌||◌, ◌&&◌, nat_le, Bool, false, List, [], ◌∷◌, length, IsTrue, ◌↔◌}
 use Rattle.std.specs.List.{list_all}
+use Rattle.topology_stack.specs.Name.{IsName}
 
 -- a to z
 abbrev pub is_letter : ℕ → Bool
@@ -14,3 +15,7 @@ is_name_char c = is_letter c || (nat_le 48 c && nat_le c 57) || (c == 95)
 unfoldable pub is_name : List ℕ → Bool
 is_name [] = false
 is_name (c ∷ cs) = is_letter c && nat_le (length (c ∷ cs)) 16 && list_all is_name_char (c ∷ cs)
+
+-- the test finds the names that the definition of names says
+abbrev pub NamesAreTested : Type 0
+NamesAreTested = (word : List ℕ) → IsTrue (is_name word) ↔ IsName word

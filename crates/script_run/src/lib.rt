@@ -21,7 +21,7 @@ mod words;
 
 pub use command::Command;
 pub use kind::{Kind, LineStop};
-pub use laws::one_reading;
+pub use laws::{names_are_tested, one_reading};
 pub use line::parse_line;
 pub use topology_stack::{Name, OutOfMemory};
 

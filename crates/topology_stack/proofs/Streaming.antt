@@ -1,5 +1,5 @@
 -- A list that comes quadlet by quadlet: which faults last, and where reading stands.
-use Rattle.std.proofs.Common.{◌⊎◌, inl, inr, ◌≡◌, ℕ, zero, suc, ◌+◌, ◌-◌, ◌*◌, ◌<◌, ◌≤◌, Bool, true, false, cond, eqb, ltb, ◌&&◌, List, [], ◌∷◌, ◌++◌, length, take, drop, Result, Ok, Err, refl, sym, ap, subst, ◌∙◌, append_assoc, arith, length-append, length-drop}
+use Rattle.std.proofs.Common.{◌⊎◌, inl, inr, ◌≡◌, ℕ, zero, suc, ◌+◌, ◌-◌, ◌<◌, ◌≤◌, Bool, true, false, cond, eqb, ltb, List, [], ◌∷◌, ◌++◌, length, take, drop, Result, Ok, Err, refl, sym, ap, subst, ◌∙◌, append_assoc, arith, length-append, length-drop}
 use Rattle.std.specs.Prelude.{MatchBool, Option, Some, None, is_some}
 use Rattle.std.proofs.lemmas.List.{append-nil, take-append-le, take-append-drop, length-take-le, take_all}
 use Rattle.std.proofs.lemmas.Bool.{and_parts, eqb-true, eqb-false, ltb-true, ltb-false}
@@ -15,7 +15,7 @@ use Rattle.topology_stack.specs.declared.fault.TreeFault.TheVariants.{Group, Emp
 use Rattle.topology_stack.specs.declared.reader.Place.{Place}
 use Rattle.topology_stack.specs.declared.waiting.Waiting.{Waiting}
 use Rattle.topology_stack.specs.Tree.{Tree, branch, Slots, walk, IsWhole, IsBusTree, groups, emits}
-use Rattle.topology_stack.specs.Forest.{AreWaiting, walks, Forest}
+use Rattle.topology_stack.specs.Forest.{walks, Forest}
 use Rattle.topology_stack.specs.Refused.{GoesOn, GroupNext, Refused}
 use Rattle.topology_stack.specs.declared.fault.TreeStop.{TreeStop}
 use Rattle.topology_stack.specs.declared.fault.TreeStop.TheVariants.{Fault}

@@ -1,10 +1,17 @@
 //! The names of nodes.
 ghost use Rattle.std.specs.Prelude.{◌≡◌, ◌≤◌, ◌↔◌, All, IsTrue, IsSome, IfSome, OnOk, OnErr, [], ◌∷◌, ◌++◌, length};
 ghost use Rattle.topology_stack.specs.Name.{IsName, IsNameChar};
+ghost use Rattle.std.specs.Cmp.{partial_equiv_from_equiv};
+ghost use Rattle.std.specs.Cmp.Lexicographic.{nat_list_eq_equiv};
+ghost use Rattle.std.specs.Cmp.Rules.{hashing};
+ghost use Rattle.std.specs.Hash as fed;
+ghost use Rattle.std.specs.Str.{bytes_eq};
+ghost use Rattle.std.proofs.Common.{rules};
 
 use arrayvec::ArrayVec;
 use quad_lanes::OutOfMemory;
-use std::alloc::Global;
+use std::alloc::{AllocError, Global};
+use std::hash::{Hash, Hasher};
 use std::marker::Model;
 
 /// A node's name: 1 to 16 letters a to z, digits and underlines, of which the first is a letter. In
@@ -46,6 +53,18 @@ fn is_name(bytes: &[u8]) -> bool
     }
 }
 
+/// At most 16 bytes.
+fn copy_of(bytes: &[u8]) -> ArrayVec<u8, 16>
+    requires { length bytes.now ≤ 16 }
+    ensures { result.items ≡ bytes.now }
+{
+    let mut copy = ArrayVec::new();
+    for byte in bytes {
+        copy.push(*byte);
+    }
+    copy
+}
+
 impl Name {
     /// The name with these bytes. `None` exactly where they are no name.
     pub fn new(bytes: &[u8]) -> Option<Name>
@@ -55,11 +74,9 @@ impl Name {
         if !is_name(bytes) {
             return None;
         }
-        let mut copy = ArrayVec::new();
-        for byte in bytes {
-            copy.push(*byte);
-        }
-        Some(Name { bytes: copy })
+        Some(Name {
+            bytes: copy_of(bytes),
+        })
     }
 
     /// The characters of the name.
@@ -68,6 +85,44 @@ impl Name {
         ensures valid { IsName result.now }
     {
         self.bytes.as_slice()
+    }
+}
+
+/// A name of the same bytes. It takes no memory.
+impl Clone for Name {
+    ghost is_clone = { λ name copy. copy ≡ name };
+
+    ghost is_infallible = { λ _. Unit {0} };
+
+    fn clone(&self) -> Result<Name, AllocError> {
+        Ok(Name {
+            bytes: copy_of(self.as_bytes()),
+        })
+    }
+}
+
+/// Two names are equal where their bytes are.
+impl PartialEq for Name {
+    ghost eq = { bytes_eq };
+
+    ghost laws = { partial_equiv_from_equiv nat_list_eq_equiv };
+
+    fn eq(&self, other: &Name) -> bool {
+        self.as_bytes() == other.as_bytes()
+    }
+}
+
+impl Eq for Name {
+    ghost laws = { nat_list_eq_equiv };
+}
+
+impl Hash for Name {
+    ghost hash_input = { λ name. fed.slice fed.u8 name };
+
+    ghost respects_eq = { Prim.search (hashing, rules) };
+
+    fn hash<H: Hasher>(&self, state: &mut H) {
+        self.as_bytes().hash(state);
     }
 }
 

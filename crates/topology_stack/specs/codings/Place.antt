@@ -1,5 +1,5 @@
 -- Where a reader stands in the quadlets that it keeps. No public contract cites this file.
-use Rattle.std.specs.Prelude.{◌≡◌, ℕ, ◌+◌, ◌*◌, ◌<◌, ◌≤◌, Bool, true, false, MatchBool, List, [], ◌++◌, length, take, drop, Option, MatchOption}
+use Rattle.std.specs.Prelude.{◌≡◌, ℕ, ◌+◌, ◌*◌, ◌<◌, ◌≤◌, true, false, MatchBool, List, [], ◌++◌, length, take, drop, Option, MatchOption}
 use Rattle.self_id.specs.declared.fault.GroupFault.TheVariants.{Cut}
 use Rattle.self_id.specs.Node.{Node, IsNode}
 use Rattle.self_id.specs.Group.{group}

@@ -1,4 +1,4 @@
-use Rattle.std.proofs.Common.{sym, arith}
+use Rattle.std.proofs.Common.{sym}
 use Rattle.topology_stack.proofs.Streaming.{behind, group_refused, lasting_group}
 use Rattle.topology_stack.proofs.reader.behind_group.Goals as goal
 

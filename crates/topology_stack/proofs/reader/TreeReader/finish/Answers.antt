@@ -1,4 +1,4 @@
-use Rattle.std.proofs.Common.{◌≡◌, ◌≤◌, length, refl, sym, arith}
+use Rattle.std.proofs.Common.{◌≡◌, length, refl, arith}
 use Rattle.topology_stack.proofs.Streaming.{none_of, placed, kept_list, kept_fault, no_tree, that_fault, accepted, ends_within, no_quads, ends_unrooted, ends_rooted}
 use Rattle.topology_stack.proofs.reader.TreeReader.finish.Goals as goal
 

@@ -1,4 +1,4 @@
-use Rattle.std.proofs.Common.{lit<, sym, arith}
+use Rattle.std.proofs.Common.{lit<, sym}
 use Rattle.topology_stack.proofs.Streaming.{kept_list, stops_with, room_left}
 use Rattle.topology_stack.proofs.reader.TreeReader.push.Goals as goal
 

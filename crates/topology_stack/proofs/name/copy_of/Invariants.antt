@@ -1,5 +1,5 @@
 use Rattle.std.proofs.Common.{◌≡◌, take}
-use Rattle.topology_stack.proofs.name.Name.new.Given as goal
+use Rattle.topology_stack.proofs.name.copy_of.Given as goal
 
 abbrev pub invariant-loop-byte : goal.invariant-loop-byte
 invariant-loop-byte l = l.copy.items ≡ take l.byte-index l.bytes
