@@ -23,6 +23,13 @@ ResetsAreOver w =
     (a b : End) (y : PortNode) → far w.cabling a ≡ Some b → slice_get w.nodes b.node ≡ Some y →
     has_reset (signals_of (wire_of w a).signals) ≡ true → is_resetting y.state.view.phase ≡ true
 
+-- in a set of nodes they are
+abbrev pub ResetsAreOverIn : CableWorld → NodeSet → Type 0
+ResetsAreOverIn w set =
+    (a b : End) (y : PortNode) → Holds set b.node → far w.cabling a ≡ Some b →
+    slice_get w.nodes b.node ≡ Some y → has_reset (signals_of (wire_of w a).signals) ≡ true →
+    is_resetting y.state.view.phase ≡ true
+
 -- no node is in a phase that passes this test
 abbrev pub NoneIn : (Phase → Bool) → CableWorld → Type 0
 NoneIn test w =

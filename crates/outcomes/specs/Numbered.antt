@@ -18,7 +18,7 @@ use Rattle.outcomes.specs.NodeMarks.{is_ready, is_asked, is_named}
 use Rattle.outcomes.specs.Messages.{silent, has_grant, has_done, kept}
 use Rattle.outcomes.specs.Lists.{packets_from}
 use Rattle.convergence.specs.Roots.{IsRoot}
-use Rattle.convergence.specs.Milestones.{AreIdentifying, ResetsAreOver}
+use Rattle.convergence.specs.Milestones.{AreIdentifying}
 use Rattle.outcomes.specs.RootWalk.{place_now, RootWalk}
 use Rattle.cable_world.specs.Turn.{turn, turns_after}
 use Rattle.cable_world.specs.Act.{hold, hold_fault}
@@ -76,6 +76,21 @@ pub record IsSettling (w : CableWorld) (set core root : ℕ) (t : Tree) : Type 0
   pub all : AreIdentifying w set
   pub numbered : IsNumbered w set root t
 
+-- So it does, from whichever root.
+pub record Settles (w : CableWorld) (set core : ℕ) : Type 0 where
+  pub root : ℕ
+  pub tree : Tree
+  pub is : IsSettling w set core root tree
+
+-- In every component all of whose nodes are in self identify or A0 lists follow the walk.
+pub record IsNumbering (w : CableWorld) : Type 0 where
+  pub acyclic : IsAcyclic w
+  pub identifies : IsIdentifying w
+  pub walks :
+      (node : NodeNumber) (set core : NodeSet) → node < length w.nodes →
+      IsComponent w.cabling node set → IsCore w.cabling set core → set < 2 ^ 63 →
+      AreIdentifying w set → Settles w set core
+
 -- all nodes of a set are in A0, and no Grant, packet or Done is under way between them
 pub record IsAtRest (w : CableWorld) (set : ℕ) : Type 0 where
   pub ready :
@@ -87,25 +102,24 @@ pub record IsAtRest (w : CableWorld) (set : ℕ) : Type 0 where
 
 -- ---- laws
 
--- a world in which resets are over
-pub record IsQuiet (w : CableWorld) : Type 0 where
+-- what is so of every reached world
+pub record IsSound (w : CableWorld) : Type 0 where
   pub lawful : IsLawful w
   pub acyclic : IsAcyclic w
   pub identifies : IsIdentifying w
-  pub over : ResetsAreOver w
 
 -- it begins in the turn in which the last node comes to self identify
 abbrev pub SettlingBegins : Type 0
 SettlingBegins =
-    (w : CableWorld) (set core : NodeSet) (root : NodeNumber) (t : Tree) → IsQuiet w →
-    ResetsAreOver (turn w) → IsComponent w.cabling root set → IsCore w.cabling set core →
+    (w : CableWorld) (set core : NodeSet) (root : NodeNumber) (t : Tree) → IsSound w →
+    IsComponent w.cabling root set → IsCore w.cabling set core →
     set < 2 ^ 63 → Holds set root → IsRoot (turn w) root → RootWalk (turn w) set root t →
     AreIdentifying (turn w) set → (AreIdentifying w set → ⊥) → IsSettling (turn w) set core root t
 
 abbrev pub TurnsKeepSettling : Type 0
 TurnsKeepSettling =
-    (w : CableWorld) (set core : NodeSet) (root : NodeNumber) (t : Tree) → IsQuiet w →
-    ResetsAreOver (turn w) → IsSettling w set core root t → IsSettling (turn w) set core root t
+    (w : CableWorld) (set core : NodeSet) (root : NodeNumber) (t : Tree) → IsSound w →
+    IsSettling w set core root t → IsSettling (turn w) set core root t
 
 abbrev pub HoldsKeepSettling : Type 0
 HoldsKeepSettling =
@@ -125,25 +139,25 @@ pub record IsNext (w : CableWorld) (set k : ℕ) (x : PortNode) : Type 0 where
 abbrev pub NextHasItsPrefix : Type 0
 NextHasItsPrefix =
     (w : CableWorld) (set core : NodeSet) (root k : NodeNumber) (t : Tree) (x : PortNode) →
-    IsQuiet w → IsSettling w set core root t → IsNext w set k x →
+    IsSound w → IsSettling w set core root t → IsNext w set k x →
     x.state.list.items ≡ emit t (place_now w root t k)
 
 -- and there is room for its group
 abbrev pub NextHasRoom : Type 0
 NextHasRoom =
     (w : CableWorld) (set core : NodeSet) (root k : NodeNumber) (t : Tree) (x : PortNode) →
-    IsQuiet w → IsSettling w set core root t → IsNext w set k x → may_name x.state ≡ true
+    IsSound w → IsSettling w set core root t → IsNext w set k x → may_name x.state ≡ true
 
 -- at rest it has come to its tree
 abbrev pub RestIsTree : Type 0
 RestIsTree =
-    (w : CableWorld) (set core : NodeSet) (root : NodeNumber) (t : Tree) → IsQuiet w →
+    (w : CableWorld) (set core : NodeSet) (root : NodeNumber) (t : Tree) → IsSound w →
     IsSettling w set core root t → IsAtRest w set → IsTree w set root t
 
 abbrev pub TurnsKeepRest : Type 0
 TurnsKeepRest =
-    (w : CableWorld) (set core : NodeSet) (root : NodeNumber) (t : Tree) → IsQuiet w →
-    ResetsAreOver (turn w) → IsSettling w set core root t → IsAtRest w set →
+    (w : CableWorld) (set core : NodeSet) (root : NodeNumber) (t : Tree) → IsSound w →
+    IsSettling w set core root t → IsAtRest w set →
     IsAtRest (turn w) set
 
 abbrev pub HoldsKeepRest : Type 0

@@ -20,7 +20,7 @@ use Rattle.convergence.specs.Acyclic.{IsChildCable, IsAcyclic}
 use Rattle.cabling.specs.Component.{IsComponent}
 use Rattle.cabling.specs.Looped.{IsCore}
 use Rattle.cable_world.specs.Lawful.{IsLawful}
-use Rattle.convergence.specs.Milestones.{ResetsAreOver}
+use Rattle.convergence.specs.Milestones.{ResetsAreOverIn}
 use Rattle.convergence.specs.Roots.{IsRoot}
 use Rattle.outcomes.specs.Alike.{Alike}
 
@@ -91,13 +91,13 @@ pub record SameWalk (w v : CableWorld) (set root : ℕ) (t u : Tree) : Type 0 wh
 
 -- ---- laws
 
--- a root of a component, once resets are over
+-- a root of a component in which resets are over
 pub record HasRoot
     (w : CableWorld) (node : NodeNumber) (set core : NodeSet) (root : NodeNumber)
     : Type 0 where
   pub lawful : IsLawful w
   pub acyclic : IsAcyclic w
-  pub over : ResetsAreOver w
+  pub over : ResetsAreOverIn w set
   pub component : IsComponent w.cabling node set
   pub is_core : IsCore w.cabling set core
   pub small : set < 2 ^ 63

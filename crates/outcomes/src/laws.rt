@@ -9,13 +9,13 @@ ghost use Rattle.outcomes.specs.Identify.{IsIdentifying};
 ghost use Rattle.outcomes.specs.Lists.{ListsFollow};
 ghost use Rattle.outcomes.specs.NodeMarks.{RecordsAreMarked, NodesAwaitOneChild};
 ghost use Rattle.outcomes.specs.Numbered.{SettlingBegins, TurnsKeepSettling, HoldsKeepSettling};
-ghost use Rattle.outcomes.specs.Numbered.{NextHasItsPrefix, NextHasRoom, RestIsTree};
+ghost use Rattle.outcomes.specs.Numbered.{IsNumbering, NextHasItsPrefix, NextHasRoom, RestIsTree};
 ghost use Rattle.outcomes.specs.Numbered.{TurnsKeepRest, HoldsKeepRest, RestKeepsTree};
 ghost use Rattle.outcomes.specs.Numbered.{NodesGetReady, TreesComeToRest, TreesAreThere};
 ghost use Rattle.outcomes.specs.RootWalk.{RootsHaveWalks, NamedRootsAreOutcomes, WalksStay};
-ghost use Rattle.outcomes.specs.Settled.{LoopsComeOut, UnfinishedComponentsSettle};
-ghost use Rattle.outcomes.specs.Settled.{FreshComponentsSettle, ForcedRootsSettle};
-ghost use Rattle.outcomes.specs.Settled.{IdsNameOneNode, ConfigsMoveRoots, ConfigsSetGaps};
+ghost use Rattle.outcomes.specs.Settled.{LoopsComeOut, EveryComponentSettles, ResetsAreDoneByThen};
+ghost use Rattle.outcomes.specs.Settled.{ForcedRootsSettle, IdsNameOneNode, ConfigsMoveRoots};
+ghost use Rattle.outcomes.specs.Settled.{ConfigsSetGaps};
 
 /// What is so of self identify, at each node and at the two ends of each cable, is so at power-on,
 /// and turns, holds and acts of a lawful world keep it.
@@ -106,6 +106,16 @@ pub fn walks_are_numbered()
     ensures room { NextHasRoom }
 {}
 
+/// So it is at power-on of every component all of whose nodes are in self identify or A0, and turns,
+/// holds and acts of a lawful world keep that: its lists follow the walk from its root.
+pub fn worlds_stay_numbering()
+    ensures power_on { HoldsAtPowerOn IsNumbering }
+    ensures turn { KeptByTurn IsNumbering }
+    ensures hold { KeptByHold IsNumbering }
+    ensures act { KeptByAct IsNumbering }
+    ensures reached { HoldsOfReached IsNumbering }
+{}
+
 /// Such a component at rest, with all nodes in A0 and nothing under way, has come to its tree, and
 /// stays at rest in turns without acts.
 pub fn trees_rest()
@@ -129,11 +139,11 @@ pub fn loops_come_out()
     ensures { LoopsComeOut }
 {}
 
-/// In as many quiet turns as a world is given to settle every component comes to an outcome that
-/// has just been reset, or in which a node isn't in self identify or A0 when resets are over.
+/// In as many quiet turns as a world is given to settle every component comes to an outcome, and no
+/// node is in R0 or R1.
 pub fn components_settle()
-    ensures unfinished { UnfinishedComponentsSettle }
-    ensures fresh { FreshComponentsSettle }
+    ensures settled { EveryComponentSettles }
+    ensures done { ResetsAreDoneByThen }
 {}
 
 /// Where of a fresh component without loop one node alone waits to become root, it comes to a tree

@@ -227,7 +227,7 @@ module _ (w : CableWorld) (l : IsLawful w) (c : IsContested w) (over : ResetsAre
 
     late-below : (n k : ℕ) → Below n k → IsLate w k
     late-below zero k h = base-late k h
-    late-below (suc n) k h = subst (IsLate w) h.3 (below-late w l over h.0 h.1 h.2)
+    late-below (suc n) k h = subst (IsLate w) h.3 (below-late w l h.0 h.1 h.2)
 
     closed :
         (e f : End) → far w.cabling e ≡ Some f → ((n : ℕ) × Below n e.node) → (n : ℕ)
@@ -249,7 +249,7 @@ module _ (w : CableWorld) (l : IsLawful w) (c : IsContested w) (over : ResetsAre
 
         go : (q : Bool) → is_port x.node.state.view.parent e.port ≡ q → (n : ℕ) × Below n f.node
         go true p = up u.0 u.1 p
-        go false p = (suc u.0, (e, f, leads-down w l over e f n x p, refl, u.1))
+        go false p = (suc u.0, (e, f, leads-down w l e f n x (quiet-to e f x.node n x.at x.late) p, refl, u.1))
 
     -- every node of the component is below the pair
     all-below :
@@ -345,7 +345,7 @@ module _ (w : CableWorld) (l : IsLawful w) (c : IsContested w) (over : ResetsAre
       (node set j k : ℕ) → IsComponent w.cabling node set → Holds set j → Holds set k →
       IsBeaten w j → IsBeaten w k → j ≡ k
   beaten-one node set j k is in_j in_k t u =
-      let same : t.from.node ≡ u.from.node = one-root w l over node set t.from.node u.from.node is (beaten-in node set j is in_j t) (beaten-in node set k is in_k u) (beaten-root j t) (beaten-root k u) in
+      let same : t.from.node ≡ u.from.node = one-root w l set (λ a b y h. over a b y) node t.from.node u.from.node is (beaten-in node set j is in_j t) (beaten-in node set k is in_k u) (beaten-root j t) (beaten-root k u) in
       let at : slice_get w.nodes u.from.node ≡ Some t.ends.near = ap (slice_get w.nodes) (sym same) ∙ t.ends.near_at in
       let node_same : t.ends.near ≡ u.ends.near = some-same t.ends.near u.ends.near (sym at ∙ u.ends.near_at) in
       let down : leads_down t.ends.near.state.view.ports u.from.port ≡ true = ap (λ (z : PortNode). leads_down z.state.view.ports u.from.port) node_same ∙ u.child in
@@ -380,10 +380,10 @@ module _ (w : CableWorld) (l : IsLawful w) (c : IsContested w) (over : ResetsAre
       go :
           IsRoot w j ⊎ (IsBeaten w j ⊎ IsPaired w j) → IsRoot w k ⊎ (IsBeaten w k ⊎ IsPaired w k) →
           DrewOnCable w j k
-      go (inl r) (inl s) = absurd (ne (one-root w l over node set j k is in_j in_k r s))
-      go (inl r) (inr (inl t)) = won-rivals j k t (one-root w l over node set t.from.node j is (beaten-in node set k is in_k t) in_j (beaten-root k t) r)
+      go (inl r) (inl s) = absurd (ne (one-root w l set (λ a b y h. over a b y) node j k is in_j in_k r s))
+      go (inl r) (inr (inl t)) = won-rivals j k t (one-root w l set (λ a b y h. over a b y) node t.from.node j is (beaten-in node set k is in_k t) in_j (beaten-root k t) r)
       go (inl r) (inr (inr t)) = absurd (paired-rootless node set k j is in_k in_j t r)
-      go (inr (inl t)) (inl s) = rivals-round k j (won-rivals k j t (one-root w l over node set t.from.node k is (beaten-in node set j is in_j t) in_k (beaten-root j t) s))
+      go (inr (inl t)) (inl s) = rivals-round k j (won-rivals k j t (one-root w l set (λ a b y h. over a b y) node t.from.node k is (beaten-in node set j is in_j t) in_k (beaten-root j t) s))
       go (inr (inl t)) (inr (inl u)) = absurd (ne (beaten-one node set j k is in_j in_k t u))
       go (inr (inl t)) (inr (inr u)) = absurd (paired-rootless node set k t.from.node is in_k (beaten-in node set j is in_j t) u (beaten-root j t))
       go (inr (inr t)) (inl s) = absurd (paired-rootless node set j k is in_j in_k t s)
@@ -401,7 +401,7 @@ module _ (w : CableWorld) (l : IsLawful w) (c : IsContested w) (over : ResetsAre
       rooted m n in_m in_n t (inr u) = paired-rootless node set m u.from.node is in_m (beaten-in node set n is in_n u) t (beaten-root n u)
 
       roots : (m n : ℕ) → Holds set m → Holds set n → m ≢ n → IsRoot w m → IsRoot w n → ⊥
-      roots m n in_m in_n ne r s = ne (one-root w l over node set m n is in_m in_n r s)
+      roots m n in_m in_n ne r s = ne (one-root w l set (λ a b y h. over a b y) node m n is in_m in_n r s)
 
       beaten : (m n : ℕ) → Holds set m → Holds set n → m ≢ n → IsBeaten w m → IsBeaten w n → ⊥
       beaten m n in_m in_n ne r s = ne (beaten-one node set m n is in_m in_n r s)

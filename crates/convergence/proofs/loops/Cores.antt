@@ -26,19 +26,20 @@ use Rattle.cable_world.proofs.tables.CableEnds.{cable-connected}
 use Rattle.cable_world.proofs.coupling.Sides.{late-roles}
 use Rattle.cable_world.proofs.PhaseFacts.{start-before_tree}
 use Rattle.convergence.specs.Acyclic.{IsChildCable, IsAcyclic, LeadsDown}
-use Rattle.convergence.specs.Milestones.{ResetsAreOver}
+use Rattle.convergence.specs.Milestones.{ResetsAreOverIn}
 use Rattle.convergence.specs.Roots.{IsLate, IsRoot}
 use Rattle.convergence.proofs.sets.Closure.{in-component}
 use Rattle.convergence.proofs.ranks.Ranks.{none-falls-on}
 use Rattle.convergence.proofs.turns.Roles.{parent-late}
 use Rattle.convergence.proofs.turns.PortFacts.{same-port}
 
-module _ (w : CableWorld) (l : IsLawful w) (over : ResetsAreOver w) where
-  -- a cable of a late node is a child cable, or leads from its parent port
+module _ (w : CableWorld) (l : IsLawful w) where
+  -- a cable of a late node to which no Reset comes is a child cable, or leads from its parent port
   pub leads-down :
       (a b : End) → far w.cabling a ≡ Some b → (n : IsLate w a.node) →
+      has_reset (signals_of (wire_of w b).signals) ≡ false →
       is_port n.node.state.view.parent a.port ≡ false → IsChildCable w a b
-  leads-down a b e n other = record {
+  leads-down a b e n no-reset other = record {
     joined = e;
     above = n.node;
     above_at = n.at;
@@ -63,16 +64,24 @@ module _ (w : CableWorld) (l : IsLawful w) (over : ResetsAreOver w) where
       child : leads_down n.node.state.view.ports a.port ≡ true
       child = child-if x.state.view.parent x.state.view.ports a.port (late-roles x.state (l.well_formed.nodes a.node x n.at).valid n.late) (cable-connected w a b x l.well_formed e n.at) ∙ ap not other
 
-      no-reset : has_reset (signals_of (wire_of w b).signals) ≡ false
-      no-reset = go (has_reset (signals_of (wire_of w b).signals)) refl
-        where
-          go : (r : Bool) → has_reset (signals_of (wire_of w b).signals) ≡ r → r ≡ false
-          go false s = refl
-          go true s = absurd (true≢false (sym (start-before_tree x.state.view.phase (over b a x back n.at s)) ∙ n.late))
-
   -- the node below a child cable is late
   pub below-late : (a b : End) → IsChildCable w a b → IsLate w b.node
   below-late a b e = record { node = e.below; at = e.below_at; late = parent-late e.below.state (l.well_formed.nodes b.node e.below e.below_at).valid b.port e.parent }
+
+-- in a set of nodes in which resets are over
+module _ (w : CableWorld) (l : IsLawful w) (set : ℕ) (over : ResetsAreOverIn w set) where
+  -- so it is at each late node
+  pub down-in :
+      (a b : End) → Holds set a.node → far w.cabling a ≡ Some b → (n : IsLate w a.node) →
+      is_port n.node.state.view.parent a.port ≡ false → IsChildCable w a b
+  down-in a b h e n other = leads-down w l a b e n (go (has_reset (signals_of (wire_of w b).signals)) refl) other
+    where
+      back : far w.cabling b ≡ Some a
+      back = l.well_formed.cabling.both_ways a b e
+
+      go : (r : Bool) → has_reset (signals_of (wire_of w b).signals) ≡ r → r ≡ false
+      go false s = refl
+      go true s = absurd (true≢false (sym (start-before_tree n.node.state.view.phase (over b a n.node h back n.at s)) ∙ n.late))
 
   -- ---- loops
 
@@ -80,8 +89,10 @@ module _ (w : CableWorld) (l : IsLawful w) (over : ResetsAreOver w) where
   abbrev LateIn : ℕ → ℕ → Type 0
   LateIn part k = Holds part k × IsLate w k
 
-  on-down : (part k : ℕ) → IsLooped w.cabling part → LateIn part k → LeadsDown w (LateIn part) k
-  on-down part k looped h = go (is_port h.1.node.state.view.parent two.low) refl
+  on-down :
+      (part k : ℕ) → IsWithin part set → IsLooped w.cabling part → LateIn part k →
+      LeadsDown w (LateIn part) k
+  on-down part k within looped h = go (is_port h.1.node.state.view.parent two.low) refl
     where
       two : HasTwo w.cabling part k
       two = looped k h.0
@@ -90,8 +101,8 @@ module _ (w : CableWorld) (l : IsLawful w) (over : ResetsAreOver w) where
           (p : ℕ) → LeadsInto w.cabling part (end_at k p) →
           is_port h.1.node.state.view.parent p ≡ false → LeadsDown w (LateIn part) k
       by p into e =
-          let cable : IsChildCable w (end_at k p) into.0 = leads-down (end_at k p) into.0 into.1 h.1 e in
-          record { from = end_at k p; to = into.0; cable = cable; is = refl; member = (into.2, below-late (end_at k p) into.0 cable) }
+          let cable : IsChildCable w (end_at k p) into.0 = down-in (end_at k p) into.0 (within k h.0) into.1 h.1 e in
+          record { from = end_at k p; to = into.0; cable = cable; is = refl; member = (into.2, below-late w l (end_at k p) into.0 cable) }
 
       high :
           is_port h.1.node.state.view.parent two.low ≡ true → (b : Bool) →
@@ -104,19 +115,20 @@ module _ (w : CableWorld) (l : IsLawful w) (over : ResetsAreOver w) where
       go true e = by two.high two.high_leads (high e (is_port h.1.node.state.view.parent two.high) refl)
 
   no-late-in-loop :
-      IsAcyclic w → (part : ℕ) → IsLooped w.cabling part → (k : ℕ) → Holds part k → IsLate w k → ⊥
-  no-late-in-loop c part looped k h n = none-falls-on w c (LateIn part) (λ j. on-down part j looped) k (h, n)
+      IsAcyclic w → (part : ℕ) → IsWithin part set → IsLooped w.cabling part → (k : ℕ) →
+      Holds part k → IsLate w k → ⊥
+  no-late-in-loop c part within looped k h n = none-falls-on w c (LateIn part) (λ j. on-down part j within looped) k (h, n)
 
   -- no core node is late
   pub core-early :
-      IsAcyclic w → (set core k : ℕ) → IsCore w.cabling set core → Holds core k → IsLate w k → ⊥
-  core-early c set core k is h n = let p = (is k).0 h in no-late-in-loop c p.0 p.2 k p.3 n
+      IsAcyclic w → (core k : ℕ) → IsCore w.cabling set core → Holds core k → IsLate w k → ⊥
+  core-early c core k is h n = let p = (is k).0 h in no-late-in-loop c p.0 p.1 p.2 k p.3 n
 
   -- so each core node is there, in a phase up to T0
   pub core-shows :
-      IsAcyclic w → (set core k : ℕ) → IsCore w.cabling set core → Holds core k →
+      IsAcyclic w → (core k : ℕ) → IsCore w.cabling set core → Holds core k →
       Shows w k (λ v. is_before_tree v.phase ≡ true)
-  core-shows c set core k is h = some-at (slice_get w.nodes k) x (λ y. is_before_tree y.state.view.phase ≡ true) at (go (is_before_tree x.state.view.phase) refl)
+  core-shows c core k is h = some-at (slice_get w.nodes k) x (λ y. is_before_tree y.state.view.phase ≡ true) at (go (is_before_tree x.state.view.phase) refl)
     where
       p : (part : ℕ) × IsWithin part set × IsLooped w.cabling part × Holds part k
       p = (is k).0 h
@@ -135,7 +147,7 @@ module _ (w : CableWorld) (l : IsLawful w) (over : ResetsAreOver w) where
 
       go : (b : Bool) → is_before_tree x.state.view.phase ≡ b → b ≡ true
       go true e = refl
-      go false e = absurd (core-early c set core k is h (record { node = x; at = at; late = e }))
+      go false e = absurd (core-early c core k is h (record { node = x; at = at; late = e }))
 
   -- ---- roots
 
@@ -152,7 +164,7 @@ module _ (w : CableWorld) (l : IsLawful w) (over : ResetsAreOver w) where
 
   under-late : (root : ℕ) → IsRoot w root → (n k : ℕ) → Down root n k → IsLate w k
   under-late root r zero k d = subst (IsLate w) (sym d) (late-of root r)
-  under-late root r (suc n) k d = subst (IsLate w) d.3 (below-late d.0 d.1 d.2)
+  under-late root r (suc n) k d = subst (IsLate w) d.3 (below-late w l d.0 d.1 d.2)
 
   -- a root is under no node
   not-under : (root n k : ℕ) → IsRoot w k → Down root (suc n) k → ⊥
@@ -162,9 +174,9 @@ module _ (w : CableWorld) (l : IsLawful w) (over : ResetsAreOver w) where
 
   -- no cable leads out of what is under a root
   under-closed :
-      (root : ℕ) → IsRoot w root → (a b : End) → far w.cabling a ≡ Some b → Under root a.node →
-      Under root b.node
-  under-closed root r a b e u = go (is_port x.node.state.view.parent a.port) refl
+      (root : ℕ) → IsRoot w root → (a b : End) → far w.cabling a ≡ Some b → Holds set a.node →
+      Under root a.node → Under root b.node
+  under-closed root r a b e in_a u = go (is_port x.node.state.view.parent a.port) refl
     where
       x : IsLate w a.node
       x = under-late root r u.0 a.node u.1
@@ -186,22 +198,23 @@ module _ (w : CableWorld) (l : IsLawful w) (over : ResetsAreOver w) where
 
       go : (q : Bool) → is_port x.node.state.view.parent a.port ≡ q → Under root b.node
       go true p = up u.0 u.1 p
-      go false p = (suc u.0, (a, b, leads-down a b e x p, refl, u.1))
+      go false p = (suc u.0, (a, b, down-in a b in_a e x p, refl, u.1))
 
   -- every node of a root's component is under it
   pub all-under :
-      (root set : ℕ) → IsRoot w root → IsComponent w.cabling root set → (k : ℕ) → Holds set k →
+      (root : ℕ) → IsRoot w root → IsComponent w.cabling root set → (k : ℕ) → Holds set k →
       (Under root k → ⊥) → ⊥
-  all-under root set r is =
-      in-component w.cabling root set (Under root) l.well_formed.cabling is (omega (arith, slice_get_within w.nodes root r.node r.at, l.well_formed.count)) (zero, refl) (under-closed root r)
+  all-under root r is k h none =
+      in-component w.cabling root set (λ j. Holds set j × Under root j) l.well_formed.cabling is
+      (omega (arith, slice_get_within w.nodes root r.node r.at, l.well_formed.count)) (is.holds, (zero, refl)) (λ a b e p. (is.closed a b e p.0, under-closed root r a b e p.0 p.1)) k h (λ p. none p.1)
 
   -- a component has one root at most
   pub one-root :
-      (node set a b : ℕ) → IsComponent w.cabling node set → Holds set a → Holds set b → IsRoot w a →
+      (node a b : ℕ) → IsComponent w.cabling node set → Holds set a → Holds set b → IsRoot w a →
       IsRoot w b → a ≡ b
-  one-root node set a b is in_a in_b r s = elim (cases_eq b a) [
+  one-root node a b is in_a in_b r s = elim (cases_eq b a) [
     | inl same ↦ sym same
-    | inr ne ↦ absurd (all-under a set r (shared w.cabling node a set l.well_formed.cabling is in_a) b in_b (λ u. go ne u.0 u.1))
+    | inr ne ↦ absurd (all-under a r (shared w.cabling node a set l.well_formed.cabling is in_a) b in_b (λ u. go ne u.0 u.1))
   ]
     where
       go : b ≢ a → (n : ℕ) → Down a n b → ⊥
@@ -210,22 +223,22 @@ module _ (w : CableWorld) (l : IsLawful w) (over : ResetsAreOver w) where
 
   -- where there is one, every node of the component is late
   pub rooted-late :
-      (node set root : ℕ) → IsComponent w.cabling node set → Holds set root → IsRoot w root →
+      (node root : ℕ) → IsComponent w.cabling node set → Holds set root → IsRoot w root →
       (k : ℕ) (x : PortNode) → Holds set k → slice_get w.nodes k ≡ Some x →
       is_before_tree x.state.view.phase ≡ false
-  rooted-late node set root is in_root r k x h at = go (is_before_tree x.state.view.phase) refl
+  rooted-late node root is in_root r k x h at = go (is_before_tree x.state.view.phase) refl
     where
       go : (b : Bool) → is_before_tree x.state.view.phase ≡ b → b ≡ false
       go false e = refl
-      go true e = absurd (all-under root set r (shared w.cabling node root set l.well_formed.cabling is in_root) k h (λ u.
+      go true e = absurd (all-under root r (shared w.cabling node root set l.well_formed.cabling is in_root) k h (λ u.
           let n : IsLate w k = under-late root r u.0 k u.1 in
           true≢false (sym e ∙ ap (λ (y : PortNode). is_before_tree y.state.view.phase) (some-same x n.node (sym at ∙ n.at)) ∙ n.late)))
 
   -- a component with a loop has none
   pub no-root-with-loop :
-      IsAcyclic w → (node set core root k : ℕ) → IsComponent w.cabling node set →
+      IsAcyclic w → (node core root k : ℕ) → IsComponent w.cabling node set →
       IsCore w.cabling set core → Holds core k → Holds set root → IsRoot w root → ⊥
-  no-root-with-loop c node set core root k whole is h in_root r =
+  no-root-with-loop c node core root k whole is h in_root r =
       let p = (is k).0 h in
-      all-under root set r (shared w.cabling node root set l.well_formed.cabling whole in_root) k (p.1 k p.3)
-      (λ u. core-early c set core k is h (under-late root r u.0 k u.1))
+      all-under root r (shared w.cabling node root set l.well_formed.cabling whole in_root) k (p.1 k p.3)
+      (λ u. core-early c core k is h (under-late root r u.0 k u.1))

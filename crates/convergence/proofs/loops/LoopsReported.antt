@@ -22,6 +22,6 @@ loops-reported v l c done i late set core k is h =
     let u : CableWorld = turns_after i v in
     let m : IsLawful u = turns-lawful i v l in
     let over : ResetsAreOver u = done-over u m (done-at v l done i) in
-    let x = some-of (slice_get u.nodes k) _ (core-shows u m over (turns-acyclic i v l c) set core k is h) in
+    let x = some-of (slice_get u.nodes k) _ (core-shows u m set (λ a b y h. over a b y) (turns-acyclic i v l c) core k is h) in
     some-at (slice_get u.nodes k) x.0 (λ (y : PortNode). (y.state.view.phase ≡ TreeStart) × (y.state.view.timed_out ≡ true)) x.1
     (start-reports v l done i k late (record { node = x.0; at = x.1; early = x.2 }))

@@ -20,4 +20,4 @@ after-turns w k r late =
     let l : IsLawful v = turns-lawful k w (reached-lawful w r) in
     let c : IsAcyclic v = turns-acyclic k w (reached-lawful w r) (reached-acyclic w r) in
     let over : ResetsAreOver v = resets-over w (reached-lawful w r) k late in
-    record { loops = core-shows v l over c; roots = one-root v l over }
+    record { loops = λ set core. core-shows v l set (λ a b y h. over a b y) c core; roots = λ node set. one-root v l set (λ a b y h. over a b y) node }

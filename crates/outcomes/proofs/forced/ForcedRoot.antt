@@ -151,8 +151,8 @@ module _
       where
         go : (o : Option ℕ) → x.state.view.parent ≡ o → IsSome o
         go (Some p) e = refl
-        go None e = absurd (other (one-root v lawful over node set j f comp_then has alone.holds (record { node = x; at = at; late = late k h j x has at; parentless = e }) (root k h)))
+        go None e = absurd (other (one-root v lawful set (λ a b y h. over a b y) node j f comp_then has alone.holds (record { node = x; at = at; late = late k h j x has at; parentless = e }) (root k h)))
 
     -- the tree from the root
     pub walk : IsAcyclic w → (t : Tree) × RootWalk (turns_after k w) set f t
-    walk acyclic = root-walk v lawful (turns-acyclic k w l acyclic) over node set core f comp_then core_then small alone.holds (root k h)
+    walk acyclic = root-walk v lawful (turns-acyclic k w l acyclic) node set (λ a b y h. over a b y) core f comp_then core_then small alone.holds (root k h)

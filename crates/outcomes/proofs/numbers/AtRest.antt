@@ -43,7 +43,7 @@ use Rattle.cable_world.proofs.tables.CableEnds.{port-there}
 use Rattle.cable_world.proofs.StaysLawful.{turn-lawful, turns-lawful, reached-lawful}
 use Rattle.cable_world.proofs.turns.TurnParts.{turn-state, comes}
 use Rattle.convergence.specs.Acyclic.{IsAcyclic}
-use Rattle.convergence.specs.Milestones.{ResetsAreOver}
+use Rattle.convergence.specs.Milestones.{ResetsAreOverIn}
 use Rattle.outcomes.specs.NodeMarks.{is_ready, is_asked, is_named}
 use Rattle.outcomes.specs.Messages.{is_message, silent, quads_in, has_grant, has_done, kept, parent_mode, child_mode}
 use Rattle.outcomes.proofs.identify.OneMessage.{no-grant, no-done, child-grants-none, parent-says-none}
@@ -56,22 +56,25 @@ use Rattle.outcomes.proofs.identify.IdentifyingTurn.{turn-identifying}
 use Rattle.outcomes.proofs.identify.ListsFollow.{IsAbove, one-above}
 use Rattle.outcomes.proofs.identify.MarksKept.{hears-late, all-named}
 use Rattle.outcomes.proofs.identify.Messages.{kept-room, silent-quads}
+use Rattle.outcomes.proofs.roots.Calm.{calm-in}
 use Rattle.outcomes.proofs.roots.Named.{named-tree}
 use Rattle.outcomes.proofs.numbers.NumberedTurn.{still-there, nothing-comes, heard-so, stayed}
 use Rattle.outcomes.proofs.roots.RootWalk.{node-at}
 use Rattle.outcomes.proofs.numbers.Settling.{Up, climbs, settles-on}
 use Rattle.convergence.proofs.ranks.StaysAcyclic.{reached-acyclic, turns-acyclic}
 use Rattle.outcomes.proofs.identify.StaysIdentifying.{reached-identifying, turns-identifying}
-use Rattle.convergence.proofs.resets.ResetsOver.{resets-over}
 use Rattle.cable_world.proofs.running.Lists.{no-packets}
 
 -- ---- the room for a group
 
 module _
     (w : CableWorld) (l : IsLawful w) (acyclic : IsAcyclic w) (i : IsIdentifying w)
-    (over : ResetsAreOver w) (set core root : ℕ) (t : Tree) (s : IsSettling w set core root t) where
+    (set core root : ℕ) (t : Tree) (s : IsSettling w set core root t) where
+  over : ResetsAreOverIn w set
+  over = calm-in w l set s.component.closed s.all
+
   pub there : (k : ℕ) → Holds set k → (x : PortNode) × (slice_get w.nodes k ≡ Some x)
-  there = node-at w l acyclic over root set core root s.component s.is_core s.small s.inside s.is_root
+  there = node-at w l acyclic root set over core root s.component s.is_core s.small s.inside s.is_root
 
   group-short :
       (k id : ℕ) (x : PortNode) → slice_get w.nodes k ≡ Some x → length (own_group x.state id) ≤ 3
@@ -136,7 +139,7 @@ module _
   module _ (rest : IsAtRest w set) where
     up-same :
         (k : ℕ) (x : PortNode)
-        (u : Up w l acyclic i set root s.component s.inside over s.is_root s.all k x) →
+        (u : Up w l acyclic i set root s.component s.inside s.is_root s.all k x) →
         Holds set k → slice_get w.nodes k ≡ Some x → u.is.state.list.items ≡ x.state.list.items
     up-same k x u h at =
         let b : End = record { node = k; port = u.port } in
@@ -154,7 +157,7 @@ module _
         (k : ℕ) (x : PortNode) → Holds set k → slice_get w.nodes k ≡ Some x →
         x.state.list.items ≡ emits t
     rest-lists k x h at =
-        climbs w l acyclic i set root s.component s.inside over s.is_root s.all (λ j y. x.state.list.items ≡ y.state.list.items) (λ j y u h_j at_j same. same ∙ sym (up-same j y u h_j at_j))
+        climbs w l acyclic i set root s.component s.inside s.is_root s.all (λ j y. x.state.list.items ≡ y.state.list.items) (λ j y u h_j at_j same. same ∙ sym (up-same j y u h_j at_j))
         (acyclic.most - acyclic.rank k) k x (omega arith) h at refl
         ∙ root-list
 
@@ -162,7 +165,7 @@ module _
     rest-named = record { ids = λ k x h at. s.numbered.ids k x h at (rest.ready k x h at); lists = rest-lists }
 
     pub rest-tree : IsTree w set root t
-    rest-tree = named-tree w l acyclic over root set core root s.component s.is_core s.small s.inside s.is_root t s.walk rest-named
+    rest-tree = named-tree w l acyclic root set over core root s.component s.is_core s.small s.inside s.is_root t s.walk rest-named
 
 -- ---- a turn at rest
 
@@ -256,10 +259,9 @@ ready-list coin x r = go x.view.phase r
 
 module _
     (w : CableWorld) (l : IsLawful w) (acyclic : IsAcyclic w) (i : IsIdentifying w)
-    (over : ResetsAreOver w) (later : ResetsAreOver (turn w)) (set core root : ℕ) (t : Tree)
-    (s : IsSettling w set core root t) (rest : IsAtRest w set) where
+    (set core root : ℕ) (t : Tree) (s : IsSettling w set core root t) (rest : IsAtRest w set) where
   v-settles : IsSettling (turn w) set core root t
-  v-settles = settles-on w l acyclic i over later set core root t s
+  v-settles = settles-on w l acyclic i set core root t s
 
   v-lawful : IsLawful (turn w)
   v-lawful = turn-lawful w l
@@ -301,7 +303,7 @@ module _
       ap (λ (u : PortNode). u.state.list.items) x.2 ∙ ap (λ (u : NodeState). u.list.items) (turn-state (inbox w 0 (ports_of w.cabling k)) x.0)
       ∙ ready-list (coin x.0.coins) y (ap is_ready o.stays.phase ∙ rest.ready k x.0 h x.1)
       ∙ hears-no-list (inbox w 0 (ports_of w.cabling k)) x.0.state (s.all k x.0 h x.1) (still-there w l i set root t s.component.closed s.walk s.all k x.0 h x.1) (λ j. box-silent k j h)
-      ∙ rest-lists w l acyclic i over set core root t s rest k x.0 h x.1
+      ∙ rest-lists w l acyclic i set core root t s rest k x.0 h x.1
 
   none-added : (xs ys : List ℕ) → xs ≡ xs ++ ys → ys ≡ []
   none-added xs [] e = refl
@@ -362,29 +364,23 @@ module _
   pub identifying-then : (j : ℕ) → IsIdentifying (at-turn j)
   identifying-then j = turns-identifying (k + j) w (reached-lawful w r) (reached-identifying w r)
 
-  pub over-then : (j : ℕ) → ResetsAreOver (at-turn j)
-  over-then j = resets-over w (reached-lawful w r) (k + j) (omega (arith, late))
-
   pub next-turn : (j : ℕ) → turn (at-turn j) ≡ at-turn (suc j)
   next-turn j = sym (one-more (k + j) w) ∙ ap (λ (n : ℕ). turns_after n w) (let e : k + j + 1 ≡ k + suc j = omega arith in e)
-
-  pub over-next : (j : ℕ) → ResetsAreOver (turn (at-turn j))
-  over-next j = subst ResetsAreOver (sym (next-turn j)) (over-then (suc j))
 
   -- it goes on, and at rest it stays so
   pub settles-always :
       IsSettling (turns_after k w) set core root t → (j : ℕ) → IsSettling (at-turn j)
       set core root t
   settles-always s zero = subst (λ (n : ℕ). IsSettling (turns_after n w) set core root t) (let e : k ≡ k + 0 = omega arith in e) s
-  settles-always s (suc j) = subst (λ (v : CableWorld). IsSettling v set core root t) (next-turn j) (settles-on (at-turn j) (lawful-then j) (acyclic-then j) (identifying-then j) (over-then j) (over-next j) set core root t (settles-always s j))
+  settles-always s (suc j) = subst (λ (v : CableWorld). IsSettling v set core root t) (next-turn j) (settles-on (at-turn j) (lawful-then j) (acyclic-then j) (identifying-then j) set core root t (settles-always s j))
 
   pub rests-always :
       (s : IsSettling (turns_after k w) set core root t) → IsAtRest (turns_after k w) set → (j : ℕ)
       → IsAtRest (at-turn j) set
   rests-always s q zero = subst (λ (n : ℕ). IsAtRest (turns_after n w) set) (let e : k ≡ k + 0 = omega arith in e) q
-  rests-always s q (suc j) = subst (λ (v : CableWorld). IsAtRest v set) (next-turn j) (rests-on (at-turn j) (lawful-then j) (acyclic-then j) (identifying-then j) (over-then j) (over-next j) set core root t (settles-always s j) (rests-always s q j))
+  rests-always s q (suc j) = subst (λ (v : CableWorld). IsAtRest v set) (next-turn j) (rests-on (at-turn j) (lawful-then j) (acyclic-then j) (identifying-then j) set core root t (settles-always s j) (rests-always s q j))
 
   pub stays-tree :
       IsSettling (turns_after k w) set core root t → IsAtRest (turns_after k w) set → (j : ℕ) →
       IsTree (at-turn j) set root t
-  stays-tree s q j = rest-tree (at-turn j) (lawful-then j) (acyclic-then j) (identifying-then j) (over-then j) set core root t (settles-always s j) (rests-always s q j)
+  stays-tree s q j = rest-tree (at-turn j) (lawful-then j) (acyclic-then j) (identifying-then j) set core root t (settles-always s j) (rests-always s q j)

@@ -55,7 +55,6 @@ use Rattle.outcomes.proofs.identify.MarksKept.{hears-late, all-named}
 use Rattle.outcomes.proofs.numbers.AtRest.{room-for}
 use Rattle.outcomes.proofs.numbers.Turning.{Heard-so}
 use Rattle.convergence.specs.Acyclic.{IsAcyclic}
-use Rattle.convergence.specs.Milestones.{ResetsAreOver}
 use Rattle.cable_world.proofs.running.Lists.{no-packets}
 
 -- ---- what a node that hears and ticks keeps
@@ -308,12 +307,12 @@ module _
 
   -- whoever has the turn asks a child or comes to A0
   pub turn-used :
-      (acyclic : IsAcyclic w) (over : ResetsAreOver w) (k : ℕ) (x z : PortNode) → Holds set k →
+      (acyclic : IsAcyclic w) (k : ℕ) (x z : PortNode) → Holds set k →
       slice_get w.nodes k ≡ Some x → slice_get (turn w).nodes k ≡ Some z →
       x.state.view.granted ≡ true → is_ready x.state.view.phase ≡ false →
       ((p : ℕ) → (is_asked x.state p && not (is_named x.state p)) ≡ false) →
       (is_ready z.state.view.phase ≡ true) ⊎ ((q : ℕ) × (is_asked x.state q ≡ false) × (is_asked z.state q ≡ true))
-  turn-used acyclic over k x z h at at_z g u waits =
+  turn-used acyclic k x z h at at_z g u waits =
       let same : z.state ≡ (tick (coin x.coins) y).state = ap (λ (v : PortNode). v.state) (some-same z (turn_at w k x).node (sym at_z ∙ node-after w k x l.well_formed.count at)) ∙ turn-state (inbox w 0 (ports_of w.cabling k)) x in
       elim (ticks-on-turn (coin x.coins) y (self-ident y.view.phase here (ap is_ready o.stays.phase ∙ u)) granted free may) [
         | inl r ↦ inl (ap (λ (v : NodeState). is_ready v.view.phase) same ∙ r)
@@ -346,7 +345,7 @@ module _
           go true e = absurd (unnamed-not y.view.ports p (lowest-is is_unnamed y.view.ports p low) (r.named p (named-so (is_asked x.state p) (is_named x.state p) (sym (o.asked p) ∙ e) (waits p))))
 
       may : lowest is_unnamed y.view.ports ≡ None → may_name y ≡ true
-      may low = room-for w l acyclic i over set core root t s k x h at y o.marks.shown
+      may low = room-for w l acyclic i set core root t s k x h at y o.marks.shown
           ((heard-goes w l i set root t s.component.closed s.walk s.all s.numbered k x h at).turn granted (ap is_ready o.stays.phase ∙ u) x.state.ports (omega arith) (record {
             named = λ j less d. all-named y o.valid (hears-late y.view.phase here) low j d;
             unasked = λ j more. beyond j more (is_asked y j) refl;

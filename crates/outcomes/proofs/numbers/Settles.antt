@@ -23,7 +23,6 @@ use Rattle.cable_world.proofs.turns.ByNumber.{cabling-after, node-after}
 use Rattle.convergence.proofs.turns.Cables.{joined-of}
 use Rattle.cable_world.proofs.Options.{some-same}
 use Rattle.convergence.specs.Acyclic.{IsAcyclic}
-use Rattle.convergence.specs.Milestones.{ResetsAreOver}
 use Rattle.outcomes.specs.NodeMarks.{is_ready, is_asked, is_named}
 use Rattle.outcomes.specs.Messages.{silent, is_grant, is_done, has_grant, has_done, parent_mode, child_mode}
 use Rattle.outcomes.specs.Identify.{IsIdentifying}
@@ -31,7 +30,7 @@ use Rattle.outcomes.specs.Holders.{Holder, grant, done, node, IsHolder, HasTurn,
 use Rattle.outcomes.specs.Holders as holder
 use Rattle.outcomes.specs.RootWalk.{parent_of, parent_now, place_now}
 use Rattle.outcomes.specs.Numbered.{IsSettling}
-use Rattle.outcomes.proofs.numbers.AtRest.{there, lawful-then, acyclic-then, identifying-then, over-then, next-turn, settles-always}
+use Rattle.outcomes.proofs.numbers.AtRest.{there, lawful-then, acyclic-then, identifying-then, next-turn, settles-always}
 use Rattle.outcomes.proofs.identify.Holders.{one-holder}
 use Rattle.outcomes.proofs.identify.OneMessage.{no-grant, no-done, child-grants-none, parent-says-none, end-of, two-parts}
 use Rattle.outcomes.proofs.identify.ListsFollow.{IsAbove, one-above, parent-below, child-above}
@@ -155,9 +154,9 @@ stage-strict w v k g (naming e f) = omega (arith, bit-le (was-granted w k) (was-
 
 module _
     (w : CableWorld) (l : IsLawful w) (acyclic : IsAcyclic w) (i : IsIdentifying w)
-    (over : ResetsAreOver w) (set core root : ℕ) (t : Tree) (s : IsSettling w set core root t) where
+    (set core root : ℕ) (t : Tree) (s : IsSettling w set core root t) where
   abbrev pub Up-of : ℕ → PortNode → Type 0
-  Up-of k x = Up w l acyclic i set root s.component s.inside over s.is_root s.all k x
+  Up-of k x = Up w l acyclic i set root s.component s.inside s.is_root s.all k x
 
   pub end-of-up :
       (k : ℕ) (x : PortNode) (u : Up-of k x) → slice_get w.nodes k ≡ Some x →
@@ -171,7 +170,7 @@ module _
       ((k : ℕ) (x z : PortNode) → Holds set k → slice_get w.nodes k ≡ Some x → slice_get (turn w).nodes k ≡ Some z → (q : ℕ) → f x.state q ≡ true → f z.state q ≡ true)
       →
       (k : ℕ) → Holds set k → of-end f w (up-end w k (parent_now w k)) ≡ true → of-end f (turn w) (up-end (turn w) k (parent_now (turn w) k)) ≡ true
-  after-up f keeps k h e = elim (up-or-root w l acyclic i set root s.component s.inside over s.is_root s.all k x h at) [
+  after-up f keeps k h e = elim (up-or-root w l acyclic i set root s.component s.inside s.is_root s.all k x h at) [
     | inl same ↦ absurd (true≢false (sym e ∙ ap (λ o. of-end f w (up-end w k o)) (ap (parent_now w) same ∙ ap parent_of s.is_root.at ∙ s.is_root.parentless)))
     | inr u ↦
         let y : PortNode = (turn_at w u.end.node u.is).node in
@@ -184,10 +183,10 @@ module _
   ]
     where
       x : PortNode
-      x = (there w l acyclic i over set core root t s k h).0
+      x = (there w l acyclic i set core root t s k h).0
 
       at : slice_get w.nodes k ≡ Some x
-      at = (there w l acyclic i over set core root t s k h).1
+      at = (there w l acyclic i set core root t s k h).1
 
       z : PortNode
       z = (turn_at w k x).node
@@ -201,7 +200,7 @@ module _
 
   pub turn-gains : (k : ℕ) → Holds set k → Gains w (turn w) k
   turn-gains k h =
-      let n = there w l acyclic i over set core root t s k h in
+      let n = there w l acyclic i set core root t s k h in
       let x : PortNode = n.0 in
       let at : slice_get w.nodes k ≡ Some x = n.1 in
       let z : PortNode = (turn_at w k x).node in
@@ -230,7 +229,7 @@ module _
 
       go : (b : Bool) → is_ready x.state.view.phase ≡ b → b ≡ true
       go true e = refl
-      go false e = absurd (true≢false (sym r ∙ climbs w l acyclic i set root s.component s.inside over s.is_root s.all (λ j y. is_ready y.state.view.phase ≡ false) above (acyclic.most - acyclic.rank k) k x (omega arith) h at e))
+      go false e = absurd (true≢false (sym r ∙ climbs w l acyclic i set root s.component s.inside s.is_root s.all (λ j y. is_ready y.state.view.phase ≡ false) above (acyclic.most - acyclic.rank k) k x (omega arith) h at e))
 
 -- ---- turn by turn
 
@@ -271,20 +270,17 @@ module _
   pub I : (j : ℕ) → IsIdentifying (W j)
   I j = identifying-then w r k late set core root t j
 
-  pub O : (j : ℕ) → ResetsAreOver (W j)
-  O j = over-then w r k late set core root t j
-
   pub next : (j : ℕ) → turn (W j) ≡ W (suc j)
   next j = next-turn w r k late set core root t j
 
   pub node-of : (j q : ℕ) → Holds set q → (x : PortNode) × (slice_get (W j).nodes q ≡ Some x)
-  node-of j q h = there (W j) (L j) (A j) (I j) (O j) set core root t (S j) q h
+  node-of j q h = there (W j) (L j) (A j) (I j) set core root t (S j) q h
 
   pub gains-on : (j m q : ℕ) → Holds set q → Gains (W j) (W (j + m)) q
   gains-on j zero q h = let e : j ≡ j + 0 = omega arith in subst (λ (n : ℕ). Gains (W j) (W n) q) e (same-gains (W j) q)
   gains-on j (suc m) q h =
       let e : suc (j + m) ≡ j + suc m = omega arith in
-      subst (λ (n : ℕ). Gains (W j) (W n) q) e (gains-more (W j) (W (j + m)) (W (suc (j + m))) q (gains-on j m q h) (subst (λ (v : CableWorld). Gains (W (j + m)) v q) (next (j + m)) (turn-gains (W (j + m)) (L (j + m)) (A (j + m)) (I (j + m)) (O (j + m)) set core root t (S (j + m)) q h)))
+      subst (λ (n : ℕ). Gains (W j) (W n) q) e (gains-more (W j) (W (j + m)) (W (suc (j + m))) q (gains-on j m q h) (subst (λ (v : CableWorld). Gains (W (j + m)) v q) (next (j + m)) (turn-gains (W (j + m)) (L (j + m)) (A (j + m)) (I (j + m)) set core root t (S (j + m)) q h)))
 
   pub wires-on : (j m : ℕ) → (W (j + m)).cabling ≡ (W j).cabling
   wires-on j zero = let e : j + 0 ≡ j = omega arith in ap (λ (n : ℕ). (W n).cabling) e
@@ -413,7 +409,7 @@ module _
       let at_1 : slice_get (W (j + 1)).nodes q ≡ Some z = sym (ap (λ (v : CableWorld). slice_get v.nodes q) world) ∙ at_z in
       let unready : is_ready x.state.view.phase ≡ false = ap is_ready turn-of.identifies in
       let d : 1 ≤ w.delay = (reached-lawful w r).well_formed.some_delay in
-      elim (turn-used (W j) (L j) (I j) set core root t (S j) (A j) (O j) q x z h turn-of.at at_z turn-of.granted unready turn-of.awaits_none) [
+      elim (turn-used (W j) (L j) (I j) set core root t (S j) (A j) q x z h turn-of.at at_z turn-of.granted unready turn-of.awaits_none) [
         | inl done-so ↦ record { turns = 1; within = d; node = q; inside = h; news = coming (ap (of-node (λ v. is_ready v.view.phase)) turn-of.at ∙ unready) (ap (of-node (λ v. is_ready v.view.phase)) at_1 ∙ done-so) }
         | inr ask ↦ asks-one x z ask.0 turn-of.at at_1 d ask.1 ask.2
       ]
@@ -517,7 +513,7 @@ module _
           (b : Bool) → is_ready (S j).is_root.node.state.view.phase ≡ b →
           ((i : ℕ) → 4 * length (numbers (turns_after k w).cabling root t) < sum-over (stage (W i)) (numbers (turns_after k w).cabling root t) + n → (m : ℕ) × (m ≤ n * w.delay) × ReadyAt (i + m))
           → (m : ℕ) × (m ≤ suc n * w.delay) × ReadyAt (j + m)
-      go true e rest = let z : j ≡ j + 0 = omega arith in (0, omega arith, subst ReadyAt z (all-ready (W j) (L j) (A j) (I j) (O j) set core root t (S j) e))
+      go true e rest = let z : j ≡ j + 0 = omega arith in (0, omega arith, subst ReadyAt z (all-ready (W j) (L j) (A j) (I j) set core root t (S j) e))
       go false e rest =
           let p = rises-within j root (S j).is_root.node s0.inside (S j).is_root.at e in
           let u = rest (j + p.turns) (omega (arith, h, total-rises j p)) in

@@ -35,7 +35,7 @@ use Rattle.cable_world.proofs.Options.{some-same}
 use Rattle.cable_world.proofs.StaysLawful.{turn-lawful}
 use Rattle.cable_world.proofs.turns.TurnParts.{turn-state}
 use Rattle.convergence.specs.Acyclic.{IsAcyclic}
-use Rattle.convergence.specs.Milestones.{ResetsAreOver, AreIdentifying}
+use Rattle.convergence.specs.Milestones.{ResetsAreOverIn, AreIdentifying}
 use Rattle.convergence.specs.Roots.{IsRoot}
 use Rattle.outcomes.specs.NodeMarks.{is_ready, is_asked, is_named, IsMarked}
 use Rattle.outcomes.specs.Messages.{has_grant, has_done, parent_mode, child_mode}
@@ -50,6 +50,7 @@ use Rattle.outcomes.proofs.identify.IdentifyingTurn.{turn-identifying}
 use Rattle.outcomes.proofs.identify.LinedTicks.{Arrives, arrives, ticks-parent}
 use Rattle.outcomes.proofs.identify.ListsFollow.{IsAbove, one-above, parent-below}
 use Rattle.outcomes.proofs.identify.MarksKept.{hears-late, none-asked}
+use Rattle.outcomes.proofs.roots.Calm.{calm-in, calm-before}
 use Rattle.outcomes.proofs.roots.Named.{same-walk}
 use Rattle.outcomes.proofs.numbers.NumberedTurn.{turn-numbered, Stayed, stayed}
 use Rattle.outcomes.proofs.roots.RootWalk.{root-walk, node-at}
@@ -60,8 +61,11 @@ use Rattle.cable_world.proofs.running.Lists.{no-packets}
 
 module _
     (w : CableWorld) (l : IsLawful w) (acyclic : IsAcyclic w) (i : IsIdentifying w) (set root : ℕ)
-    (comp : IsComponent w.cabling root set) (inside : Holds set root) (over : ResetsAreOver w)
+    (comp : IsComponent w.cabling root set) (inside : Holds set root)
     (r : IsRoot w root) (all : AreIdentifying w set) where
+  over : ResetsAreOverIn w set
+  over = calm-in w l set comp.closed all
+
   -- the node above
   pub record Up (k : ℕ) (x : PortNode) : Type 0 where
     pub port : ℕ
@@ -78,7 +82,7 @@ module _
   up-or-root k x h at = go x.state.view.parent refl
     where
       go : (o : Option ℕ) → x.state.view.parent ≡ o → (k ≡ root) ⊎ Up k x
-      go None e = inl (one-root w l over root set k root comp h inside (record { node = x; at = at; late = hears-late x.state.view.phase (all k x h at); parentless = e }) r)
+      go None e = inl (one-root w l set over root k root comp h inside (record { node = x; at = at; late = hears-late x.state.view.phase (all k x h at); parentless = e }) r)
       go (Some q) e =
           let a : End = record { node = k; port = q } in
           let p : is_port x.state.view.parent q ≡ true = ap (λ o. is_port o q) e ∙ eq-eqb q q refl in
@@ -241,7 +245,7 @@ module _
 
 -- ---- the component in a turn
 
-attrs-same :
+pub attrs-same :
     (w v : CableWorld) (k : ℕ) (x z : PortNode) → slice_get w.nodes k ≡ Some x →
     slice_get v.nodes k ≡ Some z → shown_attrs z.state ≡ shown_attrs x.state → labels (attrs_now w)
     k ≡ labels (attrs_now v) k
@@ -254,8 +258,10 @@ attrs-same w v k x z at at_z e = ap (λ (a : Attrs). record { attrs = a; kept_a 
 
 module _
     (w : CableWorld) (l : IsLawful w) (acyclic : IsAcyclic w) (i : IsIdentifying w)
-    (over : ResetsAreOver w) (later : ResetsAreOver (turn w)) (set core root : ℕ) (t : Tree)
-    (s : IsSettling w set core root t) where
+    (set core root : ℕ) (t : Tree) (s : IsSettling w set core root t) where
+  calm : ResetsAreOverIn w set
+  calm = calm-in w l set s.component.closed s.all
+
   v-lawful : IsLawful (turn w)
   v-lawful = turn-lawful w l
 
@@ -298,16 +304,19 @@ module _
   alike = record {
     ports = λ k h. ap (λ (d : Wiring). ports_of d k) (sym same-wires);
     labels = λ k h.
-        let x = node-at w l acyclic over root set core root s.component s.is_core s.small s.inside s.is_root k h in
+        let x = node-at w l acyclic root set calm core root s.component s.is_core s.small s.inside s.is_root k h in
         let at : slice_get (turn w).nodes k ≡ Some (turn_at w k x.0).node = node-after w k x.0 l.well_formed.count x.1 in
         attrs-same w (turn w) k x.0 (turn_at w k x.0).node x.1 at (stayed-so k x.0 (turn_at w k x.0).node h x.1 at).attrs;
   }
 
+  later : ResetsAreOverIn (turn w) set
+  later = calm-in (turn w) v-lawful set comp-after.closed all-after
+
   -- the walk stays
   pub walk-after : RootWalk (turn w) set root t
   walk-after =
-      let u = root-walk (turn w) v-lawful v-acyclic later root set core root comp-after core-after s.small s.inside root-after in
-      let same = same-walk w l acyclic over root set core root s.component s.is_core s.small s.inside s.is_root t s.walk (turn w) u.0 u.1 alike in
+      let u = root-walk (turn w) v-lawful v-acyclic root set later core root comp-after core-after s.small s.inside root-after in
+      let same = same-walk w l acyclic root set calm core root s.component s.is_core s.small s.inside s.is_root t s.walk (turn w) u.0 u.1 alike in
       subst (RootWalk (turn w) set root) (sym same.tree) u.1
 
   pub settles-on : IsSettling (turn w) set core root t
@@ -327,17 +336,19 @@ module _
 -- below a root in self identify all nodes are there
 module _
     (w : CableWorld) (l : IsLawful w) (i : IsIdentifying w) (set root : ℕ)
-    (comp : IsComponent w.cabling root set) (inside : Holds set root) (over : ResetsAreOver w)
+    (comp : IsComponent w.cabling root set) (inside : Holds set root) (over : ResetsAreOverIn w set)
     (r : IsRoot w root) (here : hears_packets r.node.state.view.phase ≡ true) where
   hears-down :
-      (n k : ℕ) → Down w l over root n k → (x : PortNode) → slice_get w.nodes k ≡ Some x →
+      (n k : ℕ) → Down w l set over root n k → Holds set k → (x : PortNode) → slice_get w.nodes k ≡ Some x →
       hears_packets x.state.view.phase ≡ true
-  hears-down zero k d x at = ap (λ (y : PortNode). hears_packets y.state.view.phase) (some-same x r.node (sym at ∙ ap (slice_get w.nodes) d ∙ r.at)) ∙ here
-  hears-down (suc n) k d x at =
+  hears-down zero k d h x at = ap (λ (y : PortNode). hears_packets y.state.view.phase) (some-same x r.node (sym at ∙ ap (slice_get w.nodes) d ∙ r.at)) ∙ here
+  hears-down (suc n) k d h x at =
       let c = d.2 in
-      let up : hears_packets c.above.state.view.phase ≡ true = hears-down n d.0.node d.4 c.above c.above_at in
+      let in_b : Holds set d.1.node = subst (Holds set) (sym d.3) h in
+      let in_a : Holds set d.0.node = comp.closed d.1 d.0 (l.well_formed.cabling.both_ways d.0 d.1 c.joined) in_b in
+      let up : hears_packets c.above.state.view.phase ≡ true = hears-down n d.0.node d.4 in_a c.above c.above_at in
       let same : x ≡ c.below = some-same x c.below (sym at ∙ sym (ap (slice_get w.nodes) d.3) ∙ c.below_at) in
-      elim ((i.greets d.0 d.1 c.above c.below c.joined c.above_at c.below_at).both c.child (calm (has_reset (signals_of (wire_of w d.1).signals)) c.above.state.view.phase up (over d.1 d.0 c.above (l.well_formed.cabling.both_ways d.0 d.1 c.joined) c.above_at))) [
+      elim ((i.greets d.0 d.1 c.above c.below c.joined c.above_at c.below_at).both c.child (calm (has_reset (signals_of (wire_of w d.1).signals)) c.above.state.view.phase up (over d.1 d.0 c.above in_a (l.well_formed.cabling.both_ways d.0 d.1 c.joined) c.above_at))) [
         | inl s ↦ absurd (true≢false (sym up ∙ ap hears_packets s))
         | inr s ↦ ap (λ (y : PortNode). hears_packets y.state.view.phase) same ∙ s
       ]
@@ -353,15 +364,17 @@ module _
     where
       go : (b : Bool) → hears_packets x.state.view.phase ≡ b → b ≡ true
       go true e = refl
-      go false e = absurd (all-under w l over root set r comp k h (λ u. true≢false (sym (hears-down u.0 k u.1 x at) ∙ e)))
+      go false e = absurd (all-under w l set over root r comp k h (λ u. true≢false (sym (hears-down u.0 k u.1 h x at) ∙ e)))
 
 module _
     (w : CableWorld) (l : IsLawful w) (acyclic : IsAcyclic w) (i : IsIdentifying w)
-    (over : ResetsAreOver w) (later : ResetsAreOver (turn w)) (set core root : ℕ) (t : Tree)
-    (comp : IsComponent w.cabling root set) (is_core : IsCore w.cabling set core)
+    (set core root : ℕ) (t : Tree) (comp : IsComponent w.cabling root set) (is_core : IsCore w.cabling set core)
     (small : set < 2 ^ 63) (inside : Holds set root) (r : IsRoot (turn w) root)
     (walk : RootWalk (turn w) set root t) (all : AreIdentifying (turn w) set)
     (not-yet : AreIdentifying w set → ⊥) where
+  calm-first : ResetsAreOverIn w set
+  calm-first = calm-before w l set comp.closed all
+
   was : (x : PortNode) × (slice_get w.nodes root ≡ Some x) × (r.node ≡ (turn_at w root x).node)
   was = before w root r.node l.well_formed r.at
 
@@ -398,7 +411,7 @@ module _
 
       go : (b : Bool) → hears_packets was.0.state.view.phase ≡ b → b ≡ false
       go false e = refl
-      go true e = absurd (not-yet (all-below w l i set root comp inside over (record { node = was.0; at = was.1; late = hears-late was.0.state.view.phase e; parentless = parent e }) e))
+      go true e = absurd (not-yet (all-below w l i set root comp inside calm-first (record { node = was.0; at = was.1; late = hears-late was.0.state.view.phase e; parentless = parent e }) e))
 
   pub settles-first : IsSettling (turn w) set core root t
   settles-first =
@@ -413,6 +426,6 @@ module _
         walk = walk;
         all = all;
         numbered =
-            begins-numbered (turn w) (turn-lawful w l) (turn-acyclic w l acyclic) (turn-identifying w l i) set root comp-v inside later r all
+            begins-numbered (turn w) (turn-lawful w l) (turn-acyclic w l acyclic) (turn-identifying w l i) set root comp-v inside r all
             (comes-empty w l i root was.0 r.node was.1 at root-out (all root r.node inside r.at)) (comes-unasked w l i root was.0 r.node was.1 at root-out (all root r.node inside r.at)) (comes-unready w l i root was.0 r.node was.1 at root-out (all root r.node inside r.at)) t walk;
       }

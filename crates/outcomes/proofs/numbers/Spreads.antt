@@ -41,7 +41,7 @@ use Rattle.convergence.proofs.turns.Cables.{joined-of}
 use Rattle.outcomes.proofs.identify.Messages.{kept-room, quads-append, has_grant-append, has_done-append, silent-quads, since-zero, since-older, since-append, since-silent, since-none}
 use Rattle.outcomes.proofs.numbers.NumberedTurn.{above-line}
 use Rattle.outcomes.proofs.numbers.Progress.{node-rises}
-use Rattle.outcomes.proofs.numbers.Settles.{of-node, S, L, A, I, O, next, node-of, gains-on, Link, link-on, wires-on, ReadyAt, ready-soon}
+use Rattle.outcomes.proofs.numbers.Settles.{of-node, S, L, A, I, next, node-of, gains-on, Link, link-on, wires-on, ReadyAt, ready-soon}
 
 none-of-more :
     (xs ys : List ℕ) (l below : ℕ) → l ≡ below + length xs → l ≡ below + length (xs ++ ys) → ys ≡ []
@@ -191,7 +191,7 @@ module _
         subst (HasAll (j + (0 * w.delay + m))) (sym same) (root-has (j + (0 * w.delay + m)) (ready-later j (0 * w.delay + m) rd))
     spreads (suc f) q h le m =
         let n = node-of w r k late set core root t s0 j q h in
-        elim (up-or-root (V j) (l j) (A w r k late set core root t s0 j) (I w r k late set core root t s0 j) set root (s j).component (s j).inside (O w r k late set core root t s0 j) (s j).is_root (s j).all q n.0 h n.1) [
+        elim (up-or-root (V j) (l j) (A w r k late set core root t s0 j) (I w r k late set core root t s0 j) set root (s j).component (s j).inside (s j).is_root (s j).all q n.0 h n.1) [
           | inl same ↦ subst (HasAll (j + (suc f * w.delay + m))) (sym same) (root-has (j + (suc f * w.delay + m)) (ready-later j (suc f * w.delay + m) rd))
           | inr u ↦
               let b : End = record { node = q; port = u.port } in

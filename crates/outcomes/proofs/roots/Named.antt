@@ -21,29 +21,29 @@ use Rattle.cable_world.specs.Lawful.{IsLawful}
 use Rattle.cable_world.specs.Outcome.{attrs_now, IsTree}
 use Rattle.cable_world.proofs.Options.{some-at}
 use Rattle.convergence.specs.Acyclic.{IsAcyclic}
-use Rattle.convergence.specs.Milestones.{ResetsAreOver}
+use Rattle.convergence.specs.Milestones.{ResetsAreOverIn}
 use Rattle.convergence.specs.Roots.{IsRoot}
 use Rattle.outcomes.specs.RootWalk.{parent_of, parent_now, place_now, RootWalk, IsNamed, SameWalk}
 use Rattle.convergence.proofs.loops.Cores.{no-root-with-loop}
 use Rattle.outcomes.proofs.roots.RootWalk.{node-at, ground-less}
 
 module _
-    (w : CableWorld) (l : IsLawful w) (acyclic : IsAcyclic w) (over : ResetsAreOver w)
-    (node set core root : ℕ) (comp : IsComponent w.cabling node set)
+    (w : CableWorld) (l : IsLawful w) (acyclic : IsAcyclic w) (node set : ℕ)
+    (over : ResetsAreOverIn w set) (core root : ℕ) (comp : IsComponent w.cabling node set)
     (is_core : IsCore w.cabling set core) (small : set < 2 ^ 63) (has : Holds set root)
     (r : IsRoot w root) (t : Tree) (walk : RootWalk w set root t) where
   loop-less : Loopless w.cabling root set
-  loop-less = ground-less w l acyclic over node set core root comp is_core small has r
+  loop-less = ground-less w l acyclic node set over core root comp is_core small has r
 
   at-node : (k : ℕ) → Holds set k → (x : PortNode) × (slice_get w.nodes k ≡ Some x)
-  at-node = node-at w l acyclic over node set core root comp is_core small has r
+  at-node = node-at w l acyclic node set over core root comp is_core small has r
 
   has-parent : (o : Option ℕ) (p : ℕ) → o ≡ Some p → IsSome o
   has-parent o p e = ap is_some e
 
   pub named-tree : IsNamed w set root t → IsTree w set root t
   named-tree named = record {
-    no_loop = record { core = core; is_core = is_core; empty = λ k h. no-root-with-loop w l over acyclic node set core root k comp is_core h has r };
+    no_loop = record { core = core; is_core = is_core; empty = λ k h. no-root-with-loop w l set over acyclic node core root k comp is_core h has r };
     holds_root = has;
     seen = walk.seen;
     no_parent = some-at (slice_get w.nodes root) r.node (λ (x : PortNode). x.state.view.parent ≡ None) r.at r.parentless;

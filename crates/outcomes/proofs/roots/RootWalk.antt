@@ -42,11 +42,11 @@ use Rattle.cable_world.proofs.tables.CableEnds.{cable-connected}
 use Rattle.cable_world.proofs.levels.LastSent.{child-if}
 use Rattle.cable_world.proofs.coupling.Sides.{late-roles}
 use Rattle.convergence.specs.Acyclic.{IsChildCable, IsAcyclic}
-use Rattle.convergence.specs.Milestones.{ResetsAreOver}
+use Rattle.convergence.specs.Milestones.{ResetsAreOverIn}
 use Rattle.convergence.specs.Roots.{IsRoot}
 use Rattle.outcomes.specs.RootWalk.{parent_of, parent_now, place_now, RootWalk}
 use Rattle.convergence.proofs.sets.Closure.{in-component}
-use Rattle.convergence.proofs.loops.Cores.{leads-down, rooted-late, no-root-with-loop}
+use Rattle.convergence.proofs.loops.Cores.{down-in, rooted-late, no-root-with-loop}
 use Rattle.outcomes.proofs.roots.OwnGroups.{shown-by-label}
 use Rattle.convergence.proofs.turns.PortFacts.{is-port, port-is-not}
 use Rattle.cable_world.proofs.coupling.RolesFollow.{port-is}
@@ -57,20 +57,20 @@ not-false true e = refl
 not-false false e = absurd cc
 
 module _
-    (w : CableWorld) (l : IsLawful w) (acyclic : IsAcyclic w) (over : ResetsAreOver w)
-    (node set core root : ℕ) (comp : IsComponent w.cabling node set)
+    (w : CableWorld) (l : IsLawful w) (acyclic : IsAcyclic w) (node set : ℕ)
+    (over : ResetsAreOverIn w set) (core root : ℕ) (comp : IsComponent w.cabling node set)
     (is_core : IsCore w.cabling set core) (small : set < 2 ^ 63) (has : Holds set root)
     (r : IsRoot w root) where
   there : root < length w.cabling
   there = omega (arith, slice_get_within w.nodes root r.node r.at, l.well_formed.count)
 
   pub ground-less : Loopless w.cabling root set
-  ground-less = loopless w.cabling root set core l.well_formed.cabling there (shared w.cabling node root set l.well_formed.cabling comp has) small is_core (λ k h. no-root-with-loop w l over acyclic node set core root k comp is_core h has r)
+  ground-less = loopless w.cabling root set core l.well_formed.cabling there (shared w.cabling node root set l.well_formed.cabling comp has) small is_core (λ k h. no-root-with-loop w l set over acyclic node core root k comp is_core h has r)
 
   late :
       (k : ℕ) (x : PortNode) → Holds set k → slice_get w.nodes k ≡ Some x →
       is_before_tree x.state.view.phase ≡ false
-  late k x h at = rooted-late w l over node set root comp has r k x h at
+  late k x h at = rooted-late w l set over node root comp has r k x h at
 
   -- a port that isn't the parent port leads down a child cable
   child-cable :
@@ -79,7 +79,7 @@ module _
   child-cable k p b h j ne =
       let n : AreJoined w (end_at k p) b = joined-of w (end_at k p) b l.well_formed j in
       let off : is_port n.near.state.view.parent p ≡ false = port-is-not n.near.state.view.parent p (λ e. ne (ap parent_of n.near_at ∙ e)) in
-      leads-down w l over (end_at k p) b j (record { node = n.near; at = n.near_at; late = late k n.near h n.near_at }) off
+      down-in w l set over (end_at k p) b h j (record { node = n.near; at = n.near_at; late = late k n.near h n.near_at }) off
 
   down : LeadDown w.cabling set root (parent_now w)
   down = record {

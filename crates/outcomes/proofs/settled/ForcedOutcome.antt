@@ -7,6 +7,7 @@ use Rattle.topology_stack.specs.Tree.{Tree}
 use Rattle.cabling.specs.Wiring.{Wiring}
 use Rattle.cabling.specs.NodeSet.{Holds, IsEmpty}
 use Rattle.cabling.specs.Component.{IsComponent}
+use Rattle.cabling.proofs.Whole.{shared}
 use Rattle.cabling.specs.Looped.{IsCore}
 use Rattle.cabling.specs.Sees.{numbers}
 use Rattle.port_state.specs.declared.signal.Phase.{Phase}
@@ -37,7 +38,7 @@ use Rattle.outcomes.proofs.forced.Spread.{all-reset}
 use Rattle.outcomes.proofs.forced.Towards.{no-draws}
 use Rattle.outcomes.proofs.forced.Waits.{taken-by}
 use Rattle.outcomes.proofs.settled.Outcomes.{tree-ready}
-use Rattle.outcomes.proofs.settled.QuietTurns.{quiet-enough, few-nodes, settles-at-last, fresh-unfinished}
+use Rattle.outcomes.proofs.settled.QuietTurns.{quiet-enough, few-nodes, settles-at-last}
 
 -- ---- a component in which one node is forced
 
@@ -87,7 +88,9 @@ module _
   forced-outcome = go outcome.0 outcome.1
     where
       outcome : IsSettled v set
-      outcome = settles-at-last w r node set core f.component f.is_core f.small k quiet (fresh-unfinished w node set r f.component f.fresh)
+      outcome =
+          let x = some-of (slice_get w.nodes f.fresh.node) _ f.fresh.resets in
+          settles-at-last w r f.fresh.node set core (slice_get_within w.nodes f.fresh.node x.0 x.1) (shared w.cabling node f.fresh.node set f.lawful.well_formed.cabling f.component f.fresh.holds) f.is_core f.small k quiet
 
       no-some : (o : Option ℕ) → IsSome o → o ≡ None → ⊥
       no-some None h e = true≢false (sym h)

@@ -22,7 +22,8 @@ use Rattle.convergence.proofs.rounds.Shaken.{search-set}
 use Rattle.outcomes.specs.Identify.{IsIdentifying}
 use Rattle.outcomes.specs.NodeMarks.{is_ready}
 use Rattle.outcomes.specs.Numbered.{IsSettling}
-use Rattle.outcomes.specs.Settled.{IsUnfinished}
+use Rattle.outcomes.proofs.settled.Beginnings.{IsUnfinished}
+use Rattle.outcomes.proofs.roots.Calm.{calm-in}
 use Rattle.outcomes.proofs.roots.Named.{named-tree}
 use Rattle.outcomes.proofs.roots.RootWalk.{not-false}
 use Rattle.std.proofs.lemmas.Bool.{not-true}
@@ -78,7 +79,7 @@ no-tree-yet w set i u root t h =
 
 module _
     (w : CableWorld) (l : IsLawful w) (acyclic : IsAcyclic w) (i : IsIdentifying w)
-    (over : ResetsAreOver w) (set core root : ℕ) (t : Tree) (s : IsSettling w set core root t) where
+    (set core root : ℕ) (t : Tree) (s : IsSettling w set core root t) where
   -- whatever tree it has come to is the tree of its root
   same-root : (other : ℕ) (u : Tree) → IsTree w set other u → other ≡ root
   same-root other u h = elim (cases_eq root other) [
@@ -103,7 +104,7 @@ module _
     | inr f ↦ inr (λ other u h. true≢false (sym (tree-ready w set other u i h f.0 f.1.node f.1.holds f.1.at) ∙ not-true (is_ready f.1.node.state.view.phase) f.1.passes))
     | inl ready ↦ elim (search-set set (λ x. not (same_numbers x.state.list.items (emits t))) w) [
       | inr f ↦ inr (λ other u h. true≢false (sym (listed f.0 f.1.node f.1.holds f.1.at other u h) ∙ not-true (same_numbers f.1.node.state.list.items (emits t)) f.1.passes))
-      | inl same ↦ inl (named-tree w l acyclic over root set core root s.component s.is_core s.small s.inside s.is_root t s.walk (record {
+      | inl same ↦ inl (named-tree w l acyclic root set (calm-in w l set s.component.closed s.all) core root s.component s.is_core s.small s.inside s.is_root t s.walk (record {
         ids = λ k x h at. s.numbered.ids k x h at (not-false (is_ready x.state.view.phase) (ready k x h at));
         lists = λ k x h at. same-if x.state.list.items (emits t) (not-false (same_numbers x.state.list.items (emits t)) (same k x h at));
       }))

@@ -1,7 +1,6 @@
--- After so many quiet turns a component has an outcome, if it wasn't through tree identify when
--- resets were over.
-use Rattle.std.proofs.Common.{◌≡◌, ◌⊎◌, inl, inr, ℕ, ◌+◌, ◌-◌, ◌*◌, ◌^◌, ◌<◌, ◌≤◌, true, length, slice_get, sym, ◌∙◌, ap, subst, arith, true≢false}
-use Rattle.std.proofs.lemmas.Option.{slice_get_cases, slice_get_within}
+-- After so many quiet turns every component has an outcome.
+use Rattle.std.proofs.Common.{◌≡◌, ◌⊎◌, inl, inr, ℕ, ◌+◌, ◌-◌, ◌*◌, ◌^◌, ◌<◌, ◌≤◌, true, length, sym, ◌∙◌, ap, subst, arith, true≢false}
+use Rattle.std.proofs.lemmas.Option.{slice_get_cases}
 use Rattle.cabling.specs.Wiring.{Wiring}
 use Rattle.cabling.specs.NodeSet.{Holds, IsEmpty}
 use Rattle.cabling.specs.Component.{IsComponent}
@@ -12,37 +11,28 @@ use Rattle.cabling.proofs.Near.{end_at}
 use Rattle.cable_world.specs.World.{CableWorld}
 use Rattle.cable_world.specs.Turn.{turns_after}
 use Rattle.cable_world.specs.Run.{IsReached, quiet_turns}
-use Rattle.cable_world.specs.Fresh.{IsFresh}
 use Rattle.cable_world.specs.Lawful.{IsLawful}
 use Rattle.cable_world.specs.Outcome.{IsTree, IsSettled, loop}
-use Rattle.cable_world.proofs.Options.{some-of}
 use Rattle.cable_world.proofs.resets.Entries.{after-length}
 use Rattle.cable_world.proofs.StaysLawful.{reached-lawful, turns-lawful}
-use Rattle.convergence.specs.Acyclic.{IsAcyclic}
 use Rattle.convergence.specs.Kept.{IsGrown}
-use Rattle.convergence.specs.Milestones.{ResetsAreOver, AreIdentifying, HasContention}
+use Rattle.convergence.specs.Milestones.{ResetsAreOver, ResetsAreDone, AreIdentifying, HasContention}
 use Rattle.convergence.specs.Rivals.{IsContested}
-use Rattle.convergence.specs.Turns.{turns_to_over, turns_to_loops, turns_to_decision}
-use Rattle.convergence.proofs.AfterTurns.{taken-reached, decided-reached, start-grown}
+use Rattle.convergence.specs.Turns.{turns_to_loops, turns_to_decision}
+use Rattle.convergence.proofs.AfterTurns.{done-after, taken-reached, decided-reached, start-grown}
 use Rattle.convergence.proofs.coins.StaysContested.{reached-contested, turns-contested}
-use Rattle.convergence.proofs.ranks.StaysAcyclic.{reached-acyclic, turns-acyclic}
 use Rattle.convergence.proofs.resets.ResetsOver.{resets-over}
 use Rattle.convergence.proofs.rounds.IdentifyOrContend.{grown-of}
 use Rattle.convergence.proofs.rounds.Shaken.{search-set}
 use Rattle.convergence.proofs.rounds.ThirtyThreeRounds.{contention-after}
 use Rattle.convergence.proofs.turns.Flush.{after-cabling}
 use Rattle.cable_world.proofs.turns.ByNumber.{turns-then}
-use Rattle.outcomes.specs.Identify.{IsIdentifying}
-use Rattle.outcomes.specs.Numbered.{IsSettling}
-use Rattle.outcomes.specs.Settled.{IsUnfinished}
-use Rattle.outcomes.proofs.forced.Spread.{all-reset}
-use Rattle.outcomes.proofs.identify.StaysIdentifying.{reached-identifying, turns-identifying}
-use Rattle.outcomes.proofs.numbers.Settles.{S}
+use Rattle.outcomes.specs.Numbered.{Settles, IsNumbering}
 use Rattle.outcomes.proofs.numbers.Spreads.{tree-soon}
-use Rattle.outcomes.proofs.settled.Beginnings.{all-or-not, not-both-ways, Begins, begins-at, Settles, begins-to-settle}
+use Rattle.outcomes.proofs.settled.Beginnings.{all-or-not, not-both-ways}
+use Rattle.outcomes.proofs.settled.Numbering.{reached-numbering, turns-numbering}
 use Rattle.outcomes.proofs.settled.Outcomes.{no-tree-yet, tree-or-none, contention-outcome, tree-outcome}
 use Rattle.outcomes.proofs.settled.Unnamed.{loop-outcome}
-use Rattle.convergence.proofs.turns.PhaseFacts.{start-mute}
 
 -- ---- turns
 
@@ -84,10 +74,9 @@ core-or-none w set core l is = elim (search-set core (λ x. true) w) [
 -- ---- a component
 
 module _
-    (w : CableWorld) (r : IsReached w) (node set core : ℕ) (comp : IsComponent w.cabling node set)
-    (is_core : IsCore w.cabling set core) (small : set < 2 ^ 63) (k : ℕ)
-    (quiet : quiet_turns (length w.nodes) w.delay ≤ k)
-    (start : IsUnfinished (turns_after (turns_to_over w) w) set) where
+    (w : CableWorld) (r : IsReached w) (node set core : ℕ) (there : node < length w.nodes)
+    (comp : IsComponent w.cabling node set) (is_core : IsCore w.cabling set core)
+    (small : set < 2 ^ 63) (k : ℕ) (quiet : quiet_turns (length w.nodes) w.delay ≤ k) where
   lawful : IsLawful w
   lawful = reached-lawful w r
 
@@ -100,14 +89,8 @@ module _
   v-lawful : IsLawful v
   v-lawful = turns-lawful k w lawful
 
-  v-acyclic : IsAcyclic v
-  v-acyclic = turns-acyclic k w lawful (reached-acyclic w r)
-
-  v-contested : IsContested v
-  v-contested = turns-contested k w lawful (reached-contested w r)
-
-  v-identifies : IsIdentifying v
-  v-identifies = turns-identifying k w lawful (reached-identifying w r)
+  v-numbering : IsNumbering v
+  v-numbering = turns-numbering k w lawful (reached-numbering w r)
 
   v-over : ResetsAreOver v
   v-over = resets-over w lawful k (omega (arith, enough))
@@ -118,34 +101,39 @@ module _
   core-at : (i : ℕ) → IsCore (turns_after i w).cabling set core
   core-at i = subst (λ (c : Wiring). IsCore c set core) (sym (after-cabling i w)) is_core
 
-  -- all came to self identify early enough
-  tree-by : (m : ℕ) → Begins w set (turns_to_over w) m → m + 315 * w.delay ≤ k → IsSettled v set
-  tree-by m b soon = tree-outcome v set s.root s.tree (subst (λ (i : ℕ). IsTree (turns_after i w) set s.root s.tree) z rest)
-    where
-      s : Settles (turns_after (b.turn + 1) w) set core
-      s = begins-to-settle w r node set core comp is_core small b.turn b.late b.before b.after
-
-      z : b.turn + 1 + (k - (b.turn + 1)) ≡ k
-      z = omega (arith, b.soon, soon)
-
-      rest : IsTree (turns_after (b.turn + 1 + (k - (b.turn + 1))) w) set s.root s.tree
-      rest = tree-soon w r (b.turn + 1) (omega (arith, b.late)) set core s.root s.tree s.is (k - (b.turn + 1))
-          (omega (arith, b.soon, soon, room-to-rest (length (numbers (turns_after (b.turn + 1) w).cabling s.root s.tree)) w.delay s.is.walk.few))
+  -- where all are in self identify or A0, lists follow the walk
+  settles-at : (i : ℕ) → AreIdentifying (turns_after i w) set → Settles (turns_after i w) set core
+  settles-at i all = (turns-numbering i w lawful (reached-numbering w r)).walks node set core (omega (arith, there, after-length w lawful i)) (comp-at i) (core-at i) small all
 
   abbrev middle : ℕ
   middle = k - 315 * w.delay
 
+  -- all came to self identify early enough
+  tree-by : AreIdentifying (turns_after middle w) set → IsSettled v set
+  tree-by all = tree-outcome v set s.root s.tree (subst (λ (i : ℕ). IsTree (turns_after i w) set s.root s.tree) sum rest)
+    where
+      s : Settles (turns_after middle w) set core
+      s = settles-at middle all
+
+      sum : middle + (k - middle) ≡ k
+      sum = omega (arith, enough)
+
+      rest : IsTree (turns_after (middle + (k - middle)) w) set s.root s.tree
+      rest = tree-soon w r middle (omega (arith, enough)) set core s.root s.tree s.is (k - middle)
+          (omega (arith, enough, room-to-rest (length (numbers (turns_after middle w).cabling s.root s.tree)) w.delay s.is.walk.few))
+
   -- or only later, after 32 equal draws, or not yet
-  contended :
-      IsEmpty core → HasContention (turns_after middle w) set → IsUnfinished (turns_after middle w)
-      set → IsSettled v set
-  contended empty h out = elim (all-or-not v set) [
-    | inr still ↦ contention-outcome v v-lawful v-contested v-over node set (comp-at k) now (no-tree-yet v set v-identifies still)
-    | inl all ↦ late-tree (begins-at w set middle (k - middle) out (subst (λ (i : ℕ). AreIdentifying (turns_after i w) set) (sym sum) all))
+  contended : IsEmpty core → HasContention (turns_after middle w) set → IsSettled v set
+  contended empty h = elim (all-or-not v set) [
+    | inr still ↦ contention-outcome v v-lawful v-contested v-over node set (comp-at k) now (no-tree-yet v set v-numbering.identifies still)
+    | inl all ↦ late-tree (settles-at k all)
   ]
     where
       sum : middle + (k - middle) ≡ k
       sum = omega (arith, enough)
+
+      v-contested : IsContested v
+      v-contested = turns-contested k w lawful (reached-contested w r)
 
       grown : IsGrown (turns_after middle w)
       grown = start-grown w r middle (omega (arith, enough)) (taken-reached w middle r (omega (arith, enough)))
@@ -154,32 +142,18 @@ module _
       now = subst (λ (u : CableWorld). HasContention u set) (sym (turns-then middle (k - middle) w) ∙ ap (λ (i : ℕ). turns_after i w) sum)
           (contention-after (turns_after middle w) set (grown-of (turns_after middle w) node set core grown (comp-at middle) (core-at middle) empty) (k - middle) h)
 
-      late-tree : Begins w set middle (middle + (k - middle)) → IsSettled v set
-      late-tree b = elim (tree-or-none v v-lawful v-acyclic v-identifies v-over set core s.root s.tree settling) [
+      late-tree : Settles v set core → IsSettled v set
+      late-tree s = elim (tree-or-none v v-lawful v-numbering.acyclic v-numbering.identifies set core s.root s.tree s.is) [
         | inl t ↦ tree-outcome v set s.root s.tree t
         | inr none ↦ contention-outcome v v-lawful v-contested v-over node set (comp-at k) now none
       ]
-        where
-          s : Settles (turns_after (b.turn + 1) w) set core
-          s = begins-to-settle w r node set core comp is_core small b.turn (omega (arith, b.late, enough)) b.before b.after
-
-          z : b.turn + 1 + (k - (b.turn + 1)) ≡ k
-          z = omega (arith, b.soon, sum)
-
-          settling : IsSettling v set core s.root s.tree
-          settling = subst (λ (i : ℕ). IsSettling (turns_after i w) set core s.root s.tree) z
-              (S w r (b.turn + 1) (omega (arith, b.late, enough)) set core s.root s.tree s.is (k - (b.turn + 1)))
 
   tree-settles : IsEmpty core → IsSettled v set
   tree-settles empty = elim (all-or-not (turns_after middle w) set) [
-    | inl all ↦
-        let a : ℕ = turns_to_over w in
-        let sum : a + (middle - a) ≡ middle = omega (arith, enough) in
-        let b = begins-at w set a (middle - a) start (subst (λ (i : ℕ). AreIdentifying (turns_after i w) set) (sym sum) all) in
-        tree-by (a + (middle - a)) b (omega (arith, sum, enough))
+    | inl all ↦ tree-by all
     | inr out ↦ elim (decided-reached w middle r (omega (arith, enough)) node set core (comp-at middle) (core-at middle) empty) [
       | inl all ↦ absurd (not-both-ways (turns_after middle w) set out all)
-      | inr h ↦ contended empty h out
+      | inr h ↦ contended empty h
     ]
   ]
 
@@ -195,7 +169,13 @@ module _
           let q : w.delay * (600 + length w.nodes * length w.nodes + 2 * length w.nodes) ≡ 600 * w.delay + w.delay * (length w.nodes * length w.nodes) + 2 * (length w.nodes * w.delay) = grind arith in
           omega (arith, p, q)
 
--- ---- a component that has just been reset
+-- by then no node is in R0 or R1
+pub done-at-last :
+    (w : CableWorld) (k : ℕ) → IsReached w → quiet_turns (length w.nodes) w.delay ≤ k →
+    ResetsAreDone (turns_after k w)
+done-at-last w k r quiet = done-after w k (reached-lawful w r) (omega (arith, quiet, quiet-enough (length w.nodes) w.delay))
+
+-- ---- how many turns n d are
 
 times-more : (m n d : ℕ) → m ≤ n → m * d ≤ n * d
 times-more m n d h =
@@ -212,32 +192,3 @@ few-nodes w l = (
   times-more (length w.nodes - 1) (length w.nodes) w.delay (omega arith),
   times-more (length w.nodes) 63 w.delay (omega (arith, l.well_formed.cabling.few_nodes, l.well_formed.count)),
 )
-
--- after n d turns all its nodes are still in R0
-pub fresh-unfinished :
-    (w : CableWorld) (node set : ℕ) → IsReached w → IsComponent w.cabling node set → IsFresh w set →
-    IsUnfinished (turns_after (turns_to_over w) w) set
-fresh-unfinished w node set r comp fresh = elim (slice_get_cases (turns_after first w).nodes fresh.node).1 [
-  | inl found ↦ record {
-    number = fresh.node;
-    holds = fresh.holds;
-    node = found.0;
-    at = found.2;
-    out = start-mute found.0.state.view.phase (all-reset w lawful node set comp fresh first few soon fresh.node found.0 fresh.holds found.2).0;
-  }
-  | inr lacks ↦
-      let there = some-of (slice_get w.nodes fresh.node) _ fresh.resets in
-      absurd (omega (arith, lacks.0, slice_get_within w.nodes fresh.node there.0 there.1, after-length w lawful first))
-]
-  where
-    first : ℕ
-    first = turns_to_over w
-
-    lawful : IsLawful w
-    lawful = reached-lawful w r
-
-    few : (length w.nodes - 1) * w.delay ≤ first
-    few = (few-nodes w lawful).0
-
-    soon : first < 64 * w.delay
-    soon = omega (arith, (few-nodes w lawful).1, lawful.well_formed.some_delay)

@@ -24,7 +24,7 @@ use Rattle.cable_world.proofs.Options.{some-at}
 use Rattle.cable_world.proofs.StaysLawful.{reached-lawful, turns-lawful}
 use Rattle.convergence.specs.Acyclic.{IsAcyclic, IsChildCable, ComesDown}
 use Rattle.convergence.specs.Cables.{AreJoined}
-use Rattle.convergence.specs.Milestones.{ResetsAreOver}
+use Rattle.convergence.specs.Milestones.{ResetsAreOver, ResetsAreOverIn}
 use Rattle.convergence.specs.Turns.{turns_to_loops}
 use Rattle.convergence.proofs.AfterTurns.{done-after, reported-reached}
 use Rattle.convergence.proofs.loops.Cores.{no-root-with-loop}
@@ -50,14 +50,14 @@ pub record GrantedIn (w : CableWorld) (set k : ℕ) : Type 0 where
 
 -- no Reset is under way to a node in self identify
 pub no-reset-to :
-    (w : CableWorld) → ResetsAreOver w → (a b : End) (x : PortNode) → far w.cabling a ≡ Some b →
-    slice_get w.nodes b.node ≡ Some x → hears_packets x.state.view.phase ≡ true →
+    (w : CableWorld) (set : ℕ) → ResetsAreOverIn w set → (a b : End) (x : PortNode) →
+    Holds set b.node → far w.cabling a ≡ Some b → slice_get w.nodes b.node ≡ Some x → hears_packets x.state.view.phase ≡ true →
     has_reset (signals_of (wire_of w a).signals) ≡ false
-no-reset-to w over a b x e at h = go (has_reset (signals_of (wire_of w a).signals)) refl
+no-reset-to w set over a b x in_b e at h = go (has_reset (signals_of (wire_of w a).signals)) refl
   where
     go : (r : Bool) → has_reset (signals_of (wire_of w a).signals) ≡ r → r ≡ false
     go false s = refl
-    go true s = absurd (no-packets x.state.view.phase (over a b x e at s) h)
+    go true s = absurd (no-packets x.state.view.phase (over a b x in_b e at s) h)
 
 -- the cable at the parent port of a node in self identify is a child cable
 pub record Above (w : CableWorld) (k : ℕ) (x : PortNode) : Type 0 where
@@ -67,18 +67,20 @@ pub record Above (w : CableWorld) (k : ℕ) (x : PortNode) : Type 0 where
   pub back : far w.cabling (end_at k port) ≡ Some from
   pub is : cable.below ≡ x
 
-module _ (w : CableWorld) (l : IsLawful w) (i : IsIdentifying w) (over : ResetsAreOver w) where
+module _
+    (w : CableWorld) (l : IsLawful w) (i : IsIdentifying w) (set : ℕ)
+    (over : ResetsAreOverIn w set) where
   pub above-of :
-      (k p : ℕ) (x : PortNode) → slice_get w.nodes k ≡ Some x →
+      (k p : ℕ) (x : PortNode) → Holds set k → slice_get w.nodes k ≡ Some x →
       hears_packets x.state.view.phase ≡ true → x.state.view.parent ≡ Some p → Above w k x
-  above-of k p x at h e = record {
+  above-of k p x in_k at h e = record {
     from = a.0;
     port = p;
     cable = record {
       joined = back;
       above = n.other;
       above_at = n.other_at;
-      child = (i.greets (end_at k p) a.0 x n.other a.1 at n.other_at).accepted h up (no-reset-to w over a.0 (end_at k p) x back at h);
+      child = (i.greets (end_at k p) a.0 x n.other a.1 at n.other_at).accepted h up (no-reset-to w set over a.0 (end_at k p) x in_k back at h);
       below = x;
       below_at = at;
       parent = up;
@@ -119,7 +121,7 @@ module _ (w : CableWorld) (l : IsLawful w) (i : IsIdentifying w) (over : ResetsA
       go false h = absurd (true≢false (sym g ∙ both.before c.child c.parent h))
 
   module _
-      (acyclic : IsAcyclic w) (node set core j : ℕ) (comp : IsComponent w.cabling node set)
+      (acyclic : IsAcyclic w) (node core j : ℕ) (comp : IsComponent w.cabling node set)
       (is_core : IsCore w.cabling set core) (in_core : Holds core j) where
     rises : (k : ℕ) → GrantedIn w set k → ComesDown w (GrantedIn w set) k
     rises k g = go g.node.state.view.parent refl
@@ -128,9 +130,9 @@ module _ (w : CableWorld) (l : IsLawful w) (i : IsIdentifying w) (over : ResetsA
         hears = (i.nodes k g.node g.at).granted g.granted
 
         go : (o : Option ℕ) → g.node.state.view.parent ≡ o → ComesDown w (GrantedIn w set) k
-        go None e = absurd (no-root-with-loop w l over acyclic node set core k j comp is_core in_core g.inside (record { node = g.node; at = g.at; late = hears-late g.node.state.view.phase hears; parentless = e }))
+        go None e = absurd (no-root-with-loop w l set over acyclic node core k j comp is_core in_core g.inside (record { node = g.node; at = g.at; late = hears-late g.node.state.view.phase hears; parentless = e }))
         go (Some p) e =
-            let u : Above w k g.node = above-of k p g.node g.at hears e in
+            let u : Above w k g.node = above-of k p g.node g.inside g.at hears e in
             record {
               from = u.from;
               to = end_at k u.port;
@@ -203,7 +205,7 @@ loop-outcome w k node set core j r late comp is_core in_core = record {
   node = j;
   in_core = in_core;
   timed_out = λ n h. reported-reached w k r late set core n is_core h;
-  unnamed = shows-unnamed v v-lawful v-identifies over v-acyclic node set core j comp is_core in_core;
+  unnamed = shows-unnamed v v-lawful v-identifies set (λ a b y h. over a b y) v-acyclic node core j comp is_core in_core;
 }
   where
     v : CableWorld

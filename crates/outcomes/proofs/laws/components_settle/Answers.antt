@@ -1,8 +1,8 @@
-use Rattle.outcomes.proofs.settled.QuietTurns.{settles-at-last, fresh-unfinished}
+use Rattle.outcomes.proofs.settled.QuietTurns.{settles-at-last, done-at-last}
 use Rattle.outcomes.proofs.laws.components_settle.Goals as goal
 
-pub returns-clause-unfinished : goal.returns-clause-unfinished
-returns-clause-unfinished c = λ w k node set core r comp is_core small start quiet. settles-at-last w r node set core comp is_core small k quiet start
+pub returns-clause-settled : goal.returns-clause-settled
+returns-clause-settled c = λ w k node set core r there comp is_core small quiet. settles-at-last w r node set core there comp is_core small k quiet
 
-pub returns-clause-fresh : goal.returns-clause-fresh
-returns-clause-fresh c = λ w k node set core r comp is_core small fresh quiet. settles-at-last w r node set core comp is_core small k quiet (fresh-unfinished w node set r comp fresh)
+pub returns-clause-done : goal.returns-clause-done
+returns-clause-done c = done-at-last

@@ -3,10 +3,10 @@ use Rattle.outcomes.proofs.numbers.AtRest.{rest-tree, rests-on, stays-tree}
 use Rattle.outcomes.proofs.laws.trees_rest.Goals as goal
 
 pub returns-clause-tree : goal.returns-clause-tree
-returns-clause-tree c = λ w set core root t q s rest. rest-tree w q.lawful q.acyclic q.identifies q.over set core root t s rest
+returns-clause-tree c = λ w set core root t q s rest. rest-tree w q.lawful q.acyclic q.identifies set core root t s rest
 
 pub returns-clause-turn : goal.returns-clause-turn
-returns-clause-turn c = λ w set core root t q later s rest. rests-on w q.lawful q.acyclic q.identifies q.over later set core root t s rest
+returns-clause-turn c = λ w set core root t q s rest. rests-on w q.lawful q.acyclic q.identifies set core root t s rest
 
 pub returns-clause-after_turns : goal.returns-clause-after_turns
 returns-clause-after_turns c = λ w set core root j k t f rest. stays-tree w f.reached k f.late set core root t f.is rest j

@@ -1,0 +1,70 @@
+-- In a component all of whose nodes are in self identify or A0 no Reset is under way, nor was one
+-- in the turn before.
+use Rattle.std.proofs.Common.{◌≡◌, inl, inr, ℕ, Bool, true, false, Some, slice_get, refl, sym, ◌∙◌, ap, true≢false}
+use Rattle.cabling.specs.Wiring.{ports_of}
+use Rattle.cabling.specs.NodeSet.{Holds}
+use Rattle.cabling.specs.Component.{IsClosed}
+use Rattle.port_state.specs.declared.signal.Phase.{Phase}
+use Rattle.port_state.specs.declared.signal.Phase.TheVariants.{ParentShake}
+use Rattle.port_state.specs.declared.states.NodeState.{NodeState}
+use Rattle.port_state.specs.Coins.{coin}
+use Rattle.port_state.specs.Heard.{is_resetting, hears_packets}
+use Rattle.port_state.specs.Machine.{PortNode}
+use Rattle.cable_world.specs.World.{CableWorld}
+use Rattle.cable_world.specs.Turn.{inbox, turn_at, turn, hear_all}
+use Rattle.cable_world.specs.Lawful.{IsLawful}
+use Rattle.cable_world.proofs.turns.ByNumber.{node-after}
+use Rattle.cable_world.proofs.coupling.CouplingInTurns.{hears}
+use Rattle.cable_world.proofs.turns.TurnParts.{turn-state}
+use Rattle.cable_world.proofs.running.Lists.{no-packets}
+use Rattle.convergence.proofs.turns.Cables.{joined-of}
+use Rattle.convergence.specs.Milestones.{ResetsAreOverIn, AreIdentifying}
+use Rattle.outcomes.proofs.identify.LinedTicks.{arrives}
+
+pub calm-in :
+    (w : CableWorld) → IsLawful w → (set : ℕ) → IsClosed w.cabling set → AreIdentifying w set →
+    ResetsAreOverIn w set
+calm-in w l set closed all a b y h e at r =
+    let n = joined-of w a b l.well_formed e in
+    let h_a : Holds set a.node = closed b a (l.well_formed.cabling.both_ways a b e) h in
+    absurd (no-packets n.near.state.view.phase ((l.coupled.cables a b n.near y e n.near_at at).reset r) (all a.node n.near h_a n.near_at))
+
+-- a node in R0 isn't in self identify or A0 after the turn
+module _
+    (w : CableWorld) (l : IsLawful w) (k : ℕ) (x : PortNode) (at : slice_get w.nodes k ≡ Some x)
+    (r : is_resetting x.state.view.phase ≡ true) where
+  abbrev y : NodeState
+  y = (hear_all (inbox w 0 (ports_of w.cabling k)) x.state).state
+
+  resets : is_resetting y.view.phase ≡ true
+  resets = elim (hears w k x l.well_formed at).cases [
+    | inl s ↦ ap is_resetting s.phase ∙ r
+    | inr c ↦ ap is_resetting c.phase
+  ]
+
+  mute : (h : Phase) → is_resetting h ≡ true → hears_packets h ≡ false
+  mute h e = go (hears_packets h) refl
+    where
+      go : (b : Bool) → hears_packets h ≡ b → b ≡ false
+      go false f = refl
+      go true f = absurd (no-packets h e f)
+
+  not-shaking : (h : Phase) → is_resetting h ≡ true → h ≡ ParentShake → ⊥
+  not-shaking h e f = true≢false (sym e ∙ ap is_resetting f)
+
+  pub still-out : hears_packets (turn_at w k x).node.state.view.phase ≡ false
+  still-out = go (hears_packets (turn_at w k x).node.state.view.phase) refl
+    where
+      go :
+          (b : Bool) → hears_packets (turn_at w k x).node.state.view.phase ≡ b → b ≡ false
+      go false e = refl
+      go true e = absurd (not-shaking y.view.phase resets (arrives (coin x.coins) y (mute y.view.phase resets) (sym (ap (λ (u : NodeState). hears_packets u.view.phase) (turn-state (inbox w 0 (ports_of w.cabling k)) x)) ∙ e)).shakes)
+
+pub calm-before :
+    (w : CableWorld) → IsLawful w → (set : ℕ) → IsClosed w.cabling set →
+    AreIdentifying (turn w) set → ResetsAreOverIn w set
+calm-before w l set closed all a b y h e at r =
+    let n = joined-of w a b l.well_formed e in
+    let h_a : Holds set a.node = closed b a (l.well_formed.cabling.both_ways a b e) h in
+    let out = still-out w l a.node n.near n.near_at ((l.coupled.cables a b n.near y e n.near_at at).reset r) in
+    absurd (true≢false (sym (all a.node (turn_at w a.node n.near).node h_a (node-after w a.node n.near l.well_formed.count n.near_at)) ∙ out))

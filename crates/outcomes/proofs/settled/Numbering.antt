@@ -1,0 +1,148 @@
+-- In every reached world the lists of a component follow its walk, once all its nodes are in self
+-- identify or A0.
+use Rattle.std.proofs.Common.{◌≡◌, inl, inr, ℕ, ◌^◌, ◌<◌, None, Some, length, slice_get, sym, ◌∙◌, ap, subst, arith, true≢false}
+use Rattle.std.proofs.lemmas.Option.{slice_get_cases, slice_get_within}
+use Rattle.cabling.specs.declared.cable.End.{End}
+use Rattle.cabling.specs.Wiring.{Wiring, ports_of}
+use Rattle.cabling.specs.NodeSet.{Holds}
+use Rattle.cabling.specs.Component.{IsComponent}
+use Rattle.cabling.specs.Looped.{IsCore}
+use Rattle.port_state.specs.Heard.{hears_packets}
+use Rattle.port_state.specs.Machine.{PortNode}
+use Rattle.cable_world.specs.declared.act.Act.{Act}
+use Rattle.cable_world.specs.World.{CableWorld, IsPowerOnWorld}
+use Rattle.cable_world.specs.Turn.{turn, turns_after}
+use Rattle.cable_world.specs.Act.{ActLeads, IsAct, act_fault, hold, hold_fault, note_changes}
+use Rattle.cable_world.specs.Run.{IsReached}
+use Rattle.cable_world.specs.Lawful.{IsLawful}
+use Rattle.cable_world.proofs.acts.Happenings.{acting}
+use Rattle.cable_world.proofs.StaysLawful.{turn-lawful, act-lawful}
+use Rattle.cable_world.proofs.turns.ByNumber.{cabling-after}
+use Rattle.convergence.specs.Acyclic.{IsAcyclic}
+use Rattle.convergence.specs.Milestones.{AreIdentifying}
+use Rattle.convergence.proofs.ranks.RanksInActs.{power-on-acyclic, hold-acyclic, act-acyclic}
+use Rattle.convergence.proofs.ranks.RanksInTurns.{turn-acyclic}
+use Rattle.convergence.proofs.turns.AlongRuns.{IsKept, kept-reached, kept-turns}
+use Rattle.cable_world.proofs.Options.{some-same}
+use Rattle.port_state.specs.declared.states.NodeState.{NodeState}
+use Rattle.outcomes.specs.Identify.{IsIdentifying}
+use Rattle.outcomes.specs.Numbered.{Settles, IsNumbering}
+use Rattle.outcomes.proofs.identify.IdentifyingTurn.{turn-identifying}
+use Rattle.outcomes.proofs.identify.IdentifyingActs.{act-identifying, hold-identifying, power-on-identifying}
+use Rattle.outcomes.proofs.numbers.HoldRests.{hold-settles}
+use Rattle.outcomes.proofs.numbers.Settling.{settles-on}
+use Rattle.outcomes.proofs.settled.Beginnings.{all-or-not, all-there, begins-to-settle}
+use Rattle.outcomes.proofs.settled.Elsewhere.{LeavesAlone, leaves-alone, same-component, same-core, settles-there}
+
+-- ---- turns
+
+pub turn-numbering : (w : CableWorld) → IsLawful w → IsNumbering w → IsNumbering (turn w)
+turn-numbering w l p = record {
+  acyclic = turn-acyclic w l p.acyclic;
+  identifies = turn-identifying w l p.identifies;
+  walks = λ node set core there comp is_core small all.
+      let same : (turn w).cabling ≡ w.cabling = cabling-after w in
+      let comp_w : IsComponent w.cabling node set = subst (λ (c : Wiring). IsComponent c node set) same comp in
+      let core_w : IsCore w.cabling set core = subst (λ (c : Wiring). IsCore c set core) same is_core in
+      elim (all-or-not w set) [
+        | inl before ↦
+            let s = p.walks node set core (omega (arith, there, l.well_formed.count, (turn-lawful w l).well_formed.count, ap (λ (c : Wiring). length c) same)) comp_w core_w small before in
+            record { root = s.root; tree = s.tree; is = settles-on w l p.acyclic p.identifies set core s.root s.tree s.is }
+        | inr out ↦ begins-to-settle w l p.acyclic p.identifies node set core comp_w core_w small out all
+      ];
+}
+
+-- ---- holds
+
+pub hold-numbering :
+    (end : End) (turns : ℕ) (w : CableWorld) → hold_fault end w ≡ None → IsLawful w →
+    IsNumbering w → IsNumbering (hold end turns w)
+hold-numbering end turns w none l p = record {
+  acyclic = hold-acyclic end turns w p.acyclic;
+  identifies = hold-identifying end turns w none l p.identifies;
+  walks = λ node set core there comp is_core small all.
+      let s = p.walks node set core there comp is_core small all in
+      record { root = s.root; tree = s.tree; is = hold-settles end turns w none l set core s.root s.tree s.is };
+}
+
+-- ---- acts
+
+module _
+    (a : Act) (w v : CableWorld) (is : IsAct a) (none : act_fault a w ≡ None) (leads : ActLeads a w v)
+    (l : IsLawful w) (p : IsNumbering w) where
+  abbrev after : CableWorld
+  after = note_changes w (acting a w v is none leads l.well_formed).done
+
+  m : IsLawful after
+  m = subst IsLawful (acting a w v is none leads l.well_formed).is (act-lawful a w v is none leads l)
+
+  after-acyclic : IsAcyclic after
+  after-acyclic = subst IsAcyclic (acting a w v is none leads l.well_formed).is (act-acyclic a w v is none leads l p.acyclic)
+
+  module _
+      (node set core : ℕ) (there : node < length after.nodes)
+      (comp : IsComponent after.cabling node set) (is_core : IsCore after.cabling set core)
+      (small : set < 2 ^ 63) (all : AreIdentifying after set) where
+    node-there : (k : ℕ) → Holds set k → (z : PortNode) × (slice_get after.nodes k ≡ Some z)
+    node-there k h = elim (slice_get_cases after.nodes k).1 [
+      | inl found ↦ (found.0, found.2)
+      | inr lacks ↦ absurd (omega (arith, lacks.0, all-there after.cabling node set node k m.well_formed.cabling comp comp.holds (omega (arith, there, m.well_formed.count)) h, m.well_formed.count))
+    ]
+
+    alone : LeavesAlone w after set
+    alone = leaves-alone w v a is none leads l set node-there all
+
+    back : (k : ℕ) → Holds set k → ports_of after.cabling k ≡ ports_of w.cabling k
+    back k h = sym (alone.ports k h)
+
+    all-before : AreIdentifying w set
+    all-before k x h at =
+        let z = node-there k h in
+        let y = alone.nodes k z.0 h z.1 in
+        ap (λ (u : PortNode). hears_packets u.state.view.phase) (some-same x y.0 (sym at ∙ y.1)) ∙ sym (ap hears_packets y.2.phase) ∙ all k z.0 h z.1
+
+    settled : Settles after set core
+    settled =
+        let z = node-there node comp.holds in
+        let y = alone.nodes node z.0 comp.holds z.1 in
+        let s = p.walks node set core (slice_get_within w.nodes node y.0 y.1) (same-component after.cabling w.cabling set back node comp) (same-core after.cabling w.cabling set back core is_core) small all-before in
+        settles-there w after l p.acyclic m after-acyclic set core s.root s.tree alone s.is node-there all
+
+  act-numbering-of : IsNumbering v
+  act-numbering-of = subst IsNumbering (sym (acting a w v is none leads l.well_formed).is) (record {
+    acyclic = after-acyclic;
+    identifies = subst IsIdentifying (acting a w v is none leads l.well_formed).is (act-identifying a w v is none leads l p.identifies);
+    walks = settled;
+  })
+
+pub act-numbering :
+    (a : Act) (w v : CableWorld) → IsAct a → act_fault a w ≡ None → ActLeads a w v → IsLawful w →
+    IsNumbering w → IsNumbering v
+act-numbering = act-numbering-of
+
+-- ---- power-on, and runs
+
+pub power-on-numbering : (w : CableWorld) → IsPowerOnWorld w → IsNumbering w
+power-on-numbering w h = record {
+  acyclic = power-on-acyclic w h;
+  identifies = power-on-identifying w h;
+  walks = λ node set core there comp is_core small all. elim (slice_get_cases w.nodes node).1 [
+    | inl found ↦ absurd (true≢false (sym (all node found.0 comp.holds found.2) ∙ ap (λ (x : NodeState). hears_packets x.view.phase) (h.nodes node found.0 found.2).is))
+    | inr lacks ↦ absurd (omega (arith, lacks.0, there))
+  ];
+}
+
+numbering-kept : IsKept IsNumbering
+numbering-kept = record {
+  power_on = power-on-numbering;
+  turn = turn-numbering;
+  hold = hold-numbering;
+  act = act-numbering;
+}
+
+pub reached-numbering : (w : CableWorld) → IsReached w → IsNumbering w
+reached-numbering = kept-reached IsNumbering numbering-kept
+
+pub turns-numbering :
+    (k : ℕ) (w : CableWorld) → IsLawful w → IsNumbering w → IsNumbering (turns_after k w)
+turns-numbering = kept-turns IsNumbering numbering-kept
