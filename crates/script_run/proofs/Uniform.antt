@@ -10,7 +10,7 @@ use Rattle.script_run.specs.Shape.{Shape, the, a_name, a_number, a_given, any_nu
 use Rattle.script_run.specs.Form.{Form, plug, pull, reset, turn, hold, settle, config_root, config_gap, config_both, csr_read, csr_write, csr_lock, look, allocate, release, manager, maps, delay, forms, shapes, command_of}
 use Rattle.script_run.specs.Node.{are_pairs, has_node_form, wrong_node, node_command}
 use Rattle.script_run.specs.Line.{LineForm, node, other, has_form, wrong_word, meaning, HasNoForm}
-use Rattle.script_run.specs.codings.Reading.{unless, read_by, read_words}
+use Rattle.script_run.specs.codings.Reading.{unless, read_by, read_node, read_words}
 
 -- a slice is its first word and the others
 pub first_and_others : (words : List (List ℕ)) (first : List ℕ) → 1 ≤ length words
@@ -22,9 +22,17 @@ first_and_others (word ∷ words) first h e =
 
 not_node : (word : List ℕ) (words : List (List ℕ)) → bytes_eq word (codes "node") ≡ false
     → has_node_form (word ∷ words) ≡ false
-not_node word [] h = refl
-not_node word (name ∷ []) h = refl
-not_node word (name ∷ ports ∷ pairs) h = ap (λ b. b && are_pairs pairs) h
+not_node word words h =
+    ap (λ b. (b && fit (a_name ∷ a_number 1 16 ∷ []) (take 2 words)) && are_pairs (drop 2 words)) h
+
+-- words that declare a node
+pub read_declared : (d : ℕ) (words : List (List ℕ)) (first : List ℕ) (others : List (List ℕ))
+    → words ≡ first ∷ others → bytes_eq first (codes "node") ≡ true
+    → read_node d (codes "node" ∷ others) ≡ read_words d words
+read_declared d words first others e h =
+    let same : first ≡ codes "node" = (bytes_eq-Decides first (codes "node")).0 h in
+    let all : words ≡ codes "node" ∷ others = e ∙ ap (λ w. w ∷ others) same in
+    ap (read_words d) (sym all)
 
 -- words that don't declare a node
 pub read_others : (d : ℕ) (words : List (List ℕ)) (first : List ℕ) (others : List (List ℕ))

@@ -1,15 +1,16 @@
 -- The lines that declare nodes: `node NAME PORTS` and pairs of a key and a value.
-use Rattle.std.specs.Prelude.{ℕ, ◌==◌, ◌||◌, ◌&&◌, ◌++◌, is_some, unwrap_or, length, Bool, true, false, List, [], ◌∷◌, codes, Option, Some, None, if◌then◌else◌}
+use Rattle.std.specs.Prelude.{ℕ, ◌==◌, ◌||◌, ◌&&◌, ◌++◌, is_some, unwrap_or, length, take, drop, Bool, true, false, List, [], ◌∷◌, codes, Option, Some, None, if◌then◌else◌}
 use Rattle.std.specs.Option.{option_or, option_and_then}
 use Rattle.std.specs.Str.{bytes_eq}
 use Rattle.script_run.specs.declared.kind.Kind as faults
 use Rattle.script_run.specs.declared.kind.Kind.TheVariants.{Twice}
 use Rattle.script_run.specs.declared.command.Command.{Command}
-use Rattle.script_run.specs.declared.command.Command.TheVariants.{Node, Settle}
+use Rattle.script_run.specs.declared.command.Command.TheVariants.{Node}
 use Rattle.script_run.specs.declared.key.Key.{Key}
 use Rattle.script_run.specs.declared.key.Key.TheVariants.{Speed, Link, Contender, Force, Power, Gap, Hold, Short, Long, Coins, Seed, Kind}
 use Rattle.script_run.specs.Number.{number_of}
-use Rattle.script_run.specs.Shape.{wrong_name, wrong_number}
+use Rattle.script_run.specs.Shape.{Shape, the, a_name, a_number, fit, first_wrong}
+use Rattle.script_run.specs.Form.{word_at, number_at}
 use Rattle.script_run.specs.Coins.{coin_word}
 use Rattle.script_run.specs.Key.{word_of, key_of, rival, is_pair, wrong_value}
 
@@ -19,11 +20,12 @@ are_pairs [] = true
 are_pairs (key ∷ []) = false
 are_pairs (key ∷ value ∷ words) = is_pair key value && are_pairs words
 
+-- the words before the pairs
+abbrev pub node_shapes : List Shape
+node_shapes = the (codes "node") ∷ a_name ∷ a_number 1 16 ∷ []
+
 abbrev pub has_node_form : List (List ℕ) → Bool
-has_node_form [] = false
-has_node_form (word ∷ []) = false
-has_node_form (word ∷ name ∷ []) = false
-has_node_form (word ∷ name ∷ ports ∷ pairs) = bytes_eq word (codes "node") && are_pairs pairs
+has_node_form words = fit node_shapes (take 3 words) && are_pairs (drop 3 words)
 
 -- the word behind a key, where the key stands in pairs
 abbrev pub given : Key → List (List ℕ) → Option (List ℕ)
@@ -52,12 +54,8 @@ first_wrong_pair d before (key ∷ value ∷ words) =
 
 -- the same of a line that has the form
 abbrev pub wrong_node : ℕ → List (List ℕ) → Option faults.Kind
-wrong_node d [] = None
-wrong_node d (word ∷ []) = None
-wrong_node d (word ∷ name ∷ []) = None
-wrong_node d (word ∷ name ∷ ports ∷ pairs) =
-    option_or (wrong_name name)
-    (option_or (wrong_number 1 16 ports) (first_wrong_pair d [] pairs))
+wrong_node d words =
+    option_or (first_wrong node_shapes (take 3 words)) (first_wrong_pair d [] (drop 3 words))
 
 -- the number behind a key
 abbrev pub number_given : Key → List (List ℕ) → Option ℕ
@@ -88,8 +86,4 @@ node_of name ports pairs =
 
 -- the command of a line that has the form
 abbrev pub node_command : List (List ℕ) → Command
-node_command [] = Settle
-node_command (word ∷ []) = Settle
-node_command (word ∷ name ∷ []) = Settle
-node_command (word ∷ name ∷ ports ∷ pairs) =
-    node_of name (unwrap_or (number_of ports) 0) pairs
+node_command words = node_of (word_at words 1) (number_at words 2) (drop 3 words)
