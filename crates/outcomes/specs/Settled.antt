@@ -1,5 +1,5 @@
 -- Components that come to an outcome: a loop, a tree or a contention.
-use Rattle.std.specs.Prelude.{◌≡◌, ℕ, ◌^◌, ◌<◌, ◌≤◌, true, Option, Some, None, length}
+use Rattle.std.specs.Prelude.{◌≡◌, ℕ, ◌^◌, ◌<◌, ◌≤◌, true, Option, Some, None, length, slice_get}
 use Rattle.topology_stack.specs.Tree.{Tree}
 use Rattle.cabling.specs.NodeSet.{Holds, IsEmpty}
 use Rattle.cabling.specs.Component.{IsComponent}
@@ -13,7 +13,7 @@ use Rattle.cable_world.specs.declared.act.Act.TheVariants.{Config}
 use Rattle.cable_world.specs.Act.{IsAct, act_fault}
 use Rattle.cable_world.specs.Outcome.{Shows, IsLoop, IsTree, IsSettled}
 use Rattle.convergence.specs.Milestones.{ResetsAreDone}
-use Rattle.convergence.specs.Turns.{turns_to_loops}
+use Rattle.convergence.specs.Turns.{turns_to_over, turns_to_loops}
 use Rattle.outcomes.specs.Forced.{IsForced, IsNamedAlone, NamesRoot}
 
 -- a component with a loop comes to the outcome Loop, and stays there
