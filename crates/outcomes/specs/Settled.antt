@@ -1,12 +1,12 @@
 -- Components that come to an outcome: a loop, a tree or a contention.
-use Rattle.std.specs.Prelude.{◌≡◌, ℕ, ◌^◌, ◌<◌, ◌≤◌, true, Option, Some, None, length}
+use Rattle.std.specs.Prelude.{◌≡◌, ℕ, ◌^◌, ◌<◌, ◌≤◌, true, Option, Some, None, List, [], ◌∷◌, length}
 use Rattle.topology_stack.specs.Tree.{Tree}
 use Rattle.cabling.specs.NodeSet.{Holds, IsEmpty}
 use Rattle.cabling.specs.Component.{IsComponent}
 use Rattle.cabling.specs.Looped.{IsCore}
 use Rattle.cable_world.specs.World.{CableWorld, NodeNumber, NodeSet}
 use Rattle.cable_world.specs.Turn.{turns_after}
-use Rattle.cable_world.specs.Run.{IsReached, quiet_turns}
+use Rattle.cable_world.specs.Run.{Event, acts, holds, turns, Runs, IsReached, quiet_turns}
 use Rattle.cable_world.specs.declared.act.Act.TheVariants.{Config}
 use Rattle.cable_world.specs.Act.{IsAct, act_fault}
 use Rattle.cable_world.specs.Outcome.{Shows, IsLoop, IsTree, IsSettled}
@@ -34,6 +34,20 @@ abbrev pub ResetsAreDoneByThen : Type 0
 ResetsAreDoneByThen =
     (w : CableWorld) (k : ℕ) → IsReached w → quiet_turns (length w.nodes) w.delay ≤ k →
     ResetsAreDone (turns_after k w)
+
+-- holds and turns, and no act
+abbrev pub HasNoAct : List Event → Type 0
+HasNoAct [] = Unit {0}
+HasNoAct (acts a ∷ events) = ⊥
+HasNoAct (holds end k ∷ events) = HasNoAct events
+HasNoAct (turns ∷ events) = HasNoAct events
+
+-- a tree stays in every hold and turn: the same root, IDs and lists
+abbrev pub TreesStay : Type 0
+TreesStay =
+    (w v : CableWorld) (events : List Event) (node : NodeNumber) (set : NodeSet)
+    (root : NodeNumber) (t : Tree) → IsReached w → HasNoAct events → Runs events w v →
+    IsComponent w.cabling node set → set < 2 ^ 63 → IsTree w set root t → IsTree v set root t
 
 -- ---- forced roots
 

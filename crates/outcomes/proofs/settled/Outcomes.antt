@@ -68,20 +68,20 @@ pub tree-ready :
     is_ready x.state.view.phase ≡ true
 tree-ready w set root t i h k x inside at = sym (i.nodes k x at).id ∙ tree-some w set root t h k x inside at
 
+pub ready-hears : (h : Phase) → is_ready h ≡ true → hears_packets h ≡ true
+ready-hears h e = grind (arith, e)
+
 pub no-tree-yet :
     (w : CableWorld) (set : ℕ) → IsIdentifying w → IsUnfinished w set → (root : ℕ) (t : Tree) →
     IsTree w set root t → ⊥
 no-tree-yet w set i u root t h =
     true≢false (sym (ready-hears u.node.state.view.phase (tree-ready w set root t i h u.number u.node u.holds u.at)) ∙ u.out)
-  where
-    ready-hears : (h : Phase) → is_ready h ≡ true → hears_packets h ≡ true
-    ready-hears h e = grind (arith, e)
 
 module _
     (w : CableWorld) (l : IsLawful w) (acyclic : IsAcyclic w) (i : IsIdentifying w)
     (set core root : ℕ) (t : Tree) (s : IsSettling w set core root t) where
   -- whatever tree it has come to is the tree of its root
-  same-root : (other : ℕ) (u : Tree) → IsTree w set other u → other ≡ root
+  pub same-root : (other : ℕ) (u : Tree) → IsTree w set other u → other ≡ root
   same-root other u h = elim (cases_eq root other) [
     | inl same ↦ sym same
     | inr ne ↦
@@ -93,7 +93,7 @@ module _
       no-some None h e = true≢false (sym h)
       no-some (Some p) h e = absurd cc
 
-  same-tree : (other : ℕ) (u : Tree) → IsTree w set other u → u ≡ t
+  pub same-tree : (other : ℕ) (u : Tree) → IsTree w set other u → u ≡ t
   same-tree other u h =
       let seen = subst (λ (k : ℕ). IsTree w set k u) (same-root other u h) h in
       one-tree w.cabling (labels (attrs_now w)) root None u t seen.seen s.walk.seen
