@@ -8,9 +8,10 @@ use Rattle.cable_world.specs.World.{CableWorld, NodeNumber, NodeSet}
 use Rattle.cable_world.specs.Turn.{turns_after}
 use Rattle.cable_world.specs.Run.{Event, acts, holds, turns, Runs, IsReached, quiet_turns}
 use Rattle.cable_world.specs.declared.act.Act.TheVariants.{Config}
-use Rattle.cable_world.specs.Act.{IsAct, act_fault}
+use Rattle.cable_world.specs.declared.act.Act.{Act}
+use Rattle.cable_world.specs.Act.{ActLeads, IsAct, act_fault}
 use Rattle.cable_world.specs.Outcome.{Shows, IsLoop, IsTree, IsSettled}
-use Rattle.convergence.specs.Milestones.{ResetsAreDone}
+use Rattle.convergence.specs.Milestones.{ResetsAreDone, AreIdentifying}
 use Rattle.convergence.specs.Turns.{turns_to_loops}
 use Rattle.outcomes.specs.Forced.{IsForced, IsNamedAlone, NamesRoot}
 
@@ -48,6 +49,14 @@ TreesStay =
     (w v : CableWorld) (events : List Event) (node : NodeNumber) (set : NodeSet)
     (root : NodeNumber) (t : Tree) → IsReached w → HasNoAct events → Runs events w v →
     IsComponent w.cabling node set → set < 2 ^ 63 → IsTree w set root t → IsTree v set root t
+
+-- it stays in an act after which all its nodes are in self identify or A0: one that resets others
+abbrev pub TreesStayInActs : Type 0
+TreesStayInActs =
+    (a : Act) (w v : CableWorld) (node : NodeNumber) (set : NodeSet) (root : NodeNumber)
+    (t : Tree) → IsAct a → act_fault a w ≡ None → ActLeads a w v → IsReached w →
+    IsComponent v.cabling node set → node < length v.nodes → set < 2 ^ 63 →
+    AreIdentifying v set → IsTree w set root t → IsTree v set root t
 
 -- ---- forced roots
 

@@ -14,7 +14,8 @@ ghost use Rattle.outcomes.specs.Numbered.{TurnsKeepRest, HoldsKeepRest, RestKeep
 ghost use Rattle.outcomes.specs.Numbered.{NodesGetReady, TreesComeToRest, TreesAreThere};
 ghost use Rattle.outcomes.specs.RootWalk.{RootsHaveWalks, NamedRootsAreOutcomes, WalksStay};
 ghost use Rattle.outcomes.specs.Settled.{LoopsComeOut, EveryComponentSettles, ResetsAreDoneByThen};
-ghost use Rattle.outcomes.specs.Settled.{TreesStay, ForcedRootsSettle, IdsNameOneNode, ConfigsMoveRoots};
+ghost use Rattle.outcomes.specs.Settled.{TreesStay, TreesStayInActs};
+ghost use Rattle.outcomes.specs.Settled.{ForcedRootsSettle, IdsNameOneNode, ConfigsMoveRoots};
 
 /// What is so of self identify, at each node and at the two ends of each cable, is so at power-on,
 /// and turns, holds and acts of a lawful world keep it.
@@ -146,9 +147,11 @@ pub fn components_settle()
 {}
 
 /// A component of a reached world that has come to a tree stays in it, with the same root, IDs and
-/// lists, in every hold and turn.
+/// lists, in every hold and turn; and in every act after which all its nodes are still in self
+/// identify or A0, since an act resets each component that it touches.
 pub fn trees_stay()
-    ensures { TreesStay }
+    ensures turns { TreesStay }
+    ensures acts { TreesStayInActs }
 {}
 
 /// Where of a fresh component without loop one node alone waits to become root, it comes to a tree
