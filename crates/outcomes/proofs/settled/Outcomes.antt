@@ -6,8 +6,6 @@ use Rattle.cabling.specs.NodeSet.{Holds}
 use Rattle.cabling.specs.Component.{IsComponent}
 use Rattle.cabling.specs.Labels.{labels}
 use Rattle.cabling.proofs.OneTree.{one-tree}
-use Rattle.port_state.specs.Heard.{hears_packets}
-use Rattle.port_state.specs.declared.signal.Phase.{Phase}
 use Rattle.port_state.specs.Machine.{PortNode}
 use Rattle.cable_world.specs.World.{CableWorld}
 use Rattle.cable_world.specs.Lawful.{IsLawful}
@@ -23,6 +21,7 @@ use Rattle.outcomes.specs.Identify.{IsIdentifying}
 use Rattle.outcomes.specs.NodeMarks.{is_ready}
 use Rattle.outcomes.specs.Numbered.{IsSettling}
 use Rattle.outcomes.proofs.settled.Beginnings.{IsUnfinished}
+use Rattle.outcomes.proofs.identify.MarksKept.{ready-hears}
 use Rattle.outcomes.proofs.roots.Calm.{calm-in}
 use Rattle.outcomes.proofs.roots.Named.{named-tree}
 use Rattle.outcomes.proofs.roots.RootWalk.{not-false}
@@ -67,9 +66,6 @@ pub tree-ready :
     (k : ℕ) (x : PortNode) → Holds set k → slice_get w.nodes k ≡ Some x →
     is_ready x.state.view.phase ≡ true
 tree-ready w set root t i h k x inside at = sym (i.nodes k x at).id ∙ tree-some w set root t h k x inside at
-
-pub ready-hears : (h : Phase) → is_ready h ≡ true → hears_packets h ≡ true
-ready-hears h e = grind (arith, e)
 
 pub no-tree-yet :
     (w : CableWorld) (set : ℕ) → IsIdentifying w → IsUnfinished w set → (root : ℕ) (t : Tree) →

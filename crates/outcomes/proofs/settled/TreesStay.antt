@@ -22,13 +22,14 @@ use Rattle.convergence.specs.Milestones.{AreIdentifying}
 use Rattle.outcomes.specs.NodeMarks.{is_ready}
 use Rattle.outcomes.specs.Numbered.{Settles, IsNumbering, IsSettling, IsAtRest}
 use Rattle.outcomes.specs.Settled.{HasNoAct}
+use Rattle.outcomes.proofs.identify.MarksKept.{ready-hears}
 use Rattle.outcomes.proofs.numbers.AtRest.{rests-where, rests-on, rest-tree}
 use Rattle.outcomes.proofs.numbers.HoldRests.{hold-settles, hold-rests}
 use Rattle.outcomes.proofs.numbers.Settling.{settles-on}
 use Rattle.outcomes.proofs.settled.Beginnings.{nodes-there}
 use Rattle.outcomes.proofs.settled.Elsewhere.{LeavesAlone, leaves-alone, same-component, settles-there}
 use Rattle.outcomes.proofs.settled.Numbering.{reached-numbering}
-use Rattle.outcomes.proofs.settled.Outcomes.{tree-ready, ready-hears, same-root, same-tree}
+use Rattle.outcomes.proofs.settled.Outcomes.{tree-ready, same-root, same-tree}
 
 module _
     (w : CableWorld) (r : IsReached w) (node set : ℕ) (comp : IsComponent w.cabling node set)
