@@ -106,16 +106,6 @@ pub fn walks_are_numbered()
     ensures room { NextHasRoom }
 {}
 
-/// So it is at power-on of every component all of whose nodes are in self identify or A0, and turns,
-/// holds and acts of a lawful world keep that: its lists follow the walk from its root.
-pub fn worlds_stay_numbering()
-    ensures power_on { HoldsAtPowerOn IsNumbering }
-    ensures turn { KeptByTurn IsNumbering }
-    ensures hold { KeptByHold IsNumbering }
-    ensures act { KeptByAct IsNumbering }
-    ensures reached { HoldsOfReached IsNumbering }
-{}
-
 /// Such a component at rest, with all nodes in A0 and nothing under way, has come to its tree, and
 /// stays at rest in turns without acts.
 pub fn trees_rest()
@@ -131,6 +121,16 @@ pub fn trees_settle()
     ensures ready { NodesGetReady }
     ensures rest { TreesComeToRest }
     ensures tree { TreesAreThere }
+{}
+
+/// In every component all of whose nodes are in self identify or A0 lists follow the walk from its
+/// root: so it is at power-on, and turns, holds and acts of a lawful world keep it so.
+pub fn worlds_stay_numbering()
+    ensures power_on { HoldsAtPowerOn IsNumbering }
+    ensures turn { KeptByTurn IsNumbering }
+    ensures hold { KeptByHold IsNumbering }
+    ensures act { KeptByAct IsNumbering }
+    ensures reached { HoldsOfReached IsNumbering }
 {}
 
 /// Every component with a loop comes to the outcome Loop: after n d + 100 d + 600 d turns without
