@@ -9,8 +9,8 @@
 --             `trees_settle`, `trees_rest`)
 --   forced    a node that waits alone becomes root (`resets_spread`,
 --             `waiting_nodes_become_roots`, `configs_choose_roots`)
---   settled   every component comes to an outcome (`loops_come_out`, `components_settle`,
---             `forced_roots_settle`)
+--   settled   every component comes to an outcome, and a tree stays (`worlds_stay_numbering`,
+--             `loops_come_out`, `components_settle`, `trees_stay`, `forced_roots_settle`)
 --   worked    runs that the check computes
 pub mod walks
 pub mod identify

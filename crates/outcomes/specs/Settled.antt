@@ -1,5 +1,5 @@
 -- Components that come to an outcome: a loop, a tree or a contention.
-use Rattle.std.specs.Prelude.{◌≡◌, ℕ, ◌^◌, ◌<◌, ◌≤◌, true, Option, Some, None, length, slice_get}
+use Rattle.std.specs.Prelude.{◌≡◌, ℕ, ◌^◌, ◌<◌, ◌≤◌, true, Option, Some, None, List, [], ◌∷◌, length, slice_get}
 use Rattle.topology_stack.specs.Tree.{Tree}
 use Rattle.cabling.specs.NodeSet.{Holds, IsEmpty}
 use Rattle.cabling.specs.Component.{IsComponent}
@@ -8,11 +8,12 @@ use Rattle.port_state.specs.Config.{gap_or}
 use Rattle.port_state.specs.Machine.{PortNode}
 use Rattle.cable_world.specs.World.{CableWorld, NodeNumber, NodeSet}
 use Rattle.cable_world.specs.Turn.{turns_after}
-use Rattle.cable_world.specs.Run.{IsReached, quiet_turns}
+use Rattle.cable_world.specs.Run.{Event, acts, holds, turns, Runs, IsReached, quiet_turns}
 use Rattle.cable_world.specs.declared.act.Act.TheVariants.{Config}
-use Rattle.cable_world.specs.Act.{IsAct, act_fault}
+use Rattle.cable_world.specs.declared.act.Act.{Act}
+use Rattle.cable_world.specs.Act.{ActLeads, IsAct, act_fault}
 use Rattle.cable_world.specs.Outcome.{Shows, IsLoop, IsTree, IsSettled}
-use Rattle.convergence.specs.Milestones.{ResetsAreDone}
+use Rattle.convergence.specs.Milestones.{ResetsAreDone, AreIdentifying}
 use Rattle.convergence.specs.Turns.{turns_to_over, turns_to_loops}
 use Rattle.outcomes.specs.Forced.{IsForced, IsNamedAlone, NamesRoot}
 
@@ -36,6 +37,28 @@ abbrev pub ResetsAreDoneByThen : Type 0
 ResetsAreDoneByThen =
     (w : CableWorld) (k : ℕ) → IsReached w → quiet_turns (length w.nodes) w.delay ≤ k →
     ResetsAreDone (turns_after k w)
+
+-- holds and turns, and no act
+abbrev pub HasNoAct : List Event → Type 0
+HasNoAct [] = Unit {0}
+HasNoAct (acts a ∷ events) = ⊥
+HasNoAct (holds end k ∷ events) = HasNoAct events
+HasNoAct (turns ∷ events) = HasNoAct events
+
+-- a tree stays in every hold and turn: the same root, IDs and lists
+abbrev pub TreesStay : Type 0
+TreesStay =
+    (w v : CableWorld) (events : List Event) (node : NodeNumber) (set : NodeSet)
+    (root : NodeNumber) (t : Tree) → IsReached w → HasNoAct events → Runs events w v →
+    IsComponent w.cabling node set → set < 2 ^ 63 → IsTree w set root t → IsTree v set root t
+
+-- it stays in an act after which all its nodes are in self identify or A0: one that resets others
+abbrev pub TreesStayInActs : Type 0
+TreesStayInActs =
+    (a : Act) (w v : CableWorld) (node : NodeNumber) (set : NodeSet) (root : NodeNumber)
+    (t : Tree) → IsAct a → act_fault a w ≡ None → ActLeads a w v → IsReached w →
+    IsComponent v.cabling node set → node < length v.nodes → set < 2 ^ 63 →
+    AreIdentifying v set → IsTree w set root t → IsTree v set root t
 
 -- ---- forced roots
 

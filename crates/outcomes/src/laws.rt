@@ -14,6 +14,7 @@ ghost use Rattle.outcomes.specs.Numbered.{TurnsKeepRest, HoldsKeepRest, RestKeep
 ghost use Rattle.outcomes.specs.Numbered.{NodesGetReady, TreesComeToRest, TreesAreThere};
 ghost use Rattle.outcomes.specs.RootWalk.{RootsHaveWalks, NamedRootsAreOutcomes, WalksStay};
 ghost use Rattle.outcomes.specs.Settled.{LoopsComeOut, EveryComponentSettles, ResetsAreDoneByThen};
+ghost use Rattle.outcomes.specs.Settled.{TreesStay, TreesStayInActs};
 ghost use Rattle.outcomes.specs.Settled.{ForcedRootsSettle, IdsNameOneNode, ConfigsMoveRoots};
 ghost use Rattle.outcomes.specs.Settled.{ConfigsSetGaps};
 
@@ -106,16 +107,6 @@ pub fn walks_are_numbered()
     ensures room { NextHasRoom }
 {}
 
-/// So it is at power-on of every component all of whose nodes are in self identify or A0, and turns,
-/// holds and acts of a lawful world keep that: its lists follow the walk from its root.
-pub fn worlds_stay_numbering()
-    ensures power_on { HoldsAtPowerOn IsNumbering }
-    ensures turn { KeptByTurn IsNumbering }
-    ensures hold { KeptByHold IsNumbering }
-    ensures act { KeptByAct IsNumbering }
-    ensures reached { HoldsOfReached IsNumbering }
-{}
-
 /// Such a component at rest, with all nodes in A0 and nothing under way, has come to its tree, and
 /// stays at rest in turns without acts.
 pub fn trees_rest()
@@ -133,6 +124,16 @@ pub fn trees_settle()
     ensures tree { TreesAreThere }
 {}
 
+/// In every component all of whose nodes are in self identify or A0 lists follow the walk from its
+/// root: so it is at power-on, and turns, holds and acts of a lawful world keep it so.
+pub fn worlds_stay_numbering()
+    ensures power_on { HoldsAtPowerOn IsNumbering }
+    ensures turn { KeptByTurn IsNumbering }
+    ensures hold { KeptByHold IsNumbering }
+    ensures act { KeptByAct IsNumbering }
+    ensures reached { HoldsOfReached IsNumbering }
+{}
+
 /// Every component with a loop comes to the outcome Loop: after n d + 100 d + 600 d turns without
 /// acts each node of its core reports the timeout, and no node of it has an ID.
 pub fn loops_come_out()
@@ -144,6 +145,14 @@ pub fn loops_come_out()
 pub fn components_settle()
     ensures settled { EveryComponentSettles }
     ensures done { ResetsAreDoneByThen }
+{}
+
+/// A component of a reached world that has come to a tree stays in it, with the same root, IDs and
+/// lists, in every hold and turn; and in every act after which all its nodes are still in self
+/// identify or A0, since an act resets each component that it touches.
+pub fn trees_stay()
+    ensures turns { TreesStay }
+    ensures acts { TreesStayInActs }
 {}
 
 /// Where of a fresh component without loop one node alone waits to become root, it comes to a tree

@@ -3,6 +3,7 @@ pub mod Shown
 -- the outcome of a component
 pub mod TreeShown
 pub mod Pairs
+pub mod Settled
 -- numbers of a component
 pub mod Greatest
 -- all components

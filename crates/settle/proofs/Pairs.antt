@@ -6,7 +6,7 @@ use Rattle.cabling.specs.NodeSet.{Holds}
 use Rattle.cabling.specs.Component.{IsClosed}
 use Rattle.cable_world.specs.World.{CableWorld}
 use Rattle.cable_world.specs.Outcome.{HasNoLoop, IsContention}
-use Rattle.settle.specs.Reported.{IsNoTree, IsNoContention, ReportsContention}
+use Rattle.settle.specs.Reported.{IsNoTree, ReportsContention}
 use Rattle.settle.specs.codings.Reading.{Contend, IsLeastPair, HasNoPair}
 
 -- the ends of a contention contend
@@ -46,5 +46,5 @@ pair-contends w set a b closed no_loop no_tree h = record {
   no_tree = no_tree;
 }
 
-pub none-contends : (w : CableWorld) (set : ℕ) → HasNoPair w set → IsNoContention w set
+pub none-contends : (w : CableWorld) (set : ℕ) → HasNoPair w set → (a b : ℕ) → IsContention w set a b → ⊥
 none-contends w set none a b h = none a b h.holds_a (ends-contend w set a b h)

@@ -1,11 +1,11 @@
 //! What is reported of one component.
-ghost use Rattle.std.specs.Prelude.{◌≡◌, ◌<◌, IfOk, length};
+ghost use Rattle.std.specs.Prelude.{◌≡◌, ◌<◌, ◌^◌, IfOk, length};
 ghost use Rattle.cabling.specs.NodeSet.{Holds};
-ghost use Rattle.cabling.specs.Component.{IsClosed, IsComponent};
+ghost use Rattle.cabling.specs.Component.{IsComponent};
 ghost use Rattle.cable_world.specs.Lawful.{IsWellFormed};
 ghost use Rattle.cable_world.specs.Outcome.{attrs_now};
 ghost use Rattle.settle.specs.Reported.{IsReported};
-ghost use Rattle.settle.specs.codings.Reading.{AreThere};
+ghost use Rattle.settle.specs.codings.Reading.{AreThere, IsPartOf, HasSettled};
 ghost use Rattle.settle.specs.Report.{IsGreatest, Drew, LastChanged, IsPart};
 
 use crate::contention::contention_in;
@@ -13,6 +13,7 @@ use crate::report::{Outcome, Part};
 use crate::tree::tree_of;
 use cable_world::WorldRun;
 use cabling::{NodeSet, OutOfMemory};
+use outcomes::components_settle;
 use self_id::Attrs;
 use std::alloc::Global;
 
@@ -28,7 +29,7 @@ pub fn attrs_of<W: WorldRun>(alloc: Global, world: &W) -> Result<Vec<Attrs>, Out
     Ok(attrs)
 }
 
-/// What a component came to. `attrs` has what the nodes of the world show.
+/// What a component came to, in a world that has settled. `attrs` has what its nodes show.
 fn outcome_of<W: WorldRun>(
     alloc: Global,
     world: &W,
@@ -37,10 +38,13 @@ fn outcome_of<W: WorldRun>(
 ) -> Result<Outcome, OutOfMemory>
     requires formed { IsWellFormed (W.world world.now) }
     requires attrs { attrs.now ≡ attrs_now (W.world world.now) }
-    requires closed { IsClosed (W.world world.now).cabling set }
+    requires component { IsPartOf (W.world world.now) set }
     requires there { AreThere (W.world world.now) set }
+    requires small { set < 2 ^ 63 }
+    requires settled { ∥ HasSettled (W.world world.now) ∥₁ }
     ensures { IfOk result (λ outcome. IsReported (W.world world.now) set outcome) }
 {
+    components_settle();
     let core = world.cabling().core(set);
     if !core.is_empty() {
         return Ok(Outcome::Loop { nodes: core });
@@ -50,7 +54,7 @@ fn outcome_of<W: WorldRun>(
     }
     match contention_in(world, set) {
         Some((a, b)) => Ok(Outcome::Contention { a, b }),
-        None => Ok(Outcome::Unsettled),
+        None => unreachable!(),
     }
 }
 
@@ -87,8 +91,8 @@ fn last_change_of<W: WorldRun>(world: &W, set: NodeSet, first: u8) -> u32
     most
 }
 
-/// What is reported of the component of a node, which exists. `attrs` has what the nodes of the
-/// world show.
+/// What is reported of the component of a node, which exists, in a world that has settled. `attrs`
+/// has what the nodes of the world show.
 pub fn part_of<W: WorldRun>(
     alloc: Global,
     world: &W,
@@ -100,6 +104,8 @@ pub fn part_of<W: WorldRun>(
     requires attrs { attrs.now ≡ attrs_now (W.world world.now) }
     requires component { IsComponent (W.world world.now).cabling node nodes }
     requires there { AreThere (W.world world.now) nodes }
+    requires small { nodes < 2 ^ 63 }
+    requires settled { ∥ HasSettled (W.world world.now) ∥₁ }
     ensures part { IfOk result (λ part. IsPart (W.world world.now) part) }
     ensures nodes { IfOk result (λ part. part.nodes ≡ nodes) }
 {

@@ -25,9 +25,6 @@ pub enum Outcome {
     Loop {
         nodes: NodeSet,
     },
-    /// None of these. That a component never comes to this isn't proved yet.
-    #[doc(hidden)]
-    Unsettled,
 }
 
 /// A component, and what it came to.

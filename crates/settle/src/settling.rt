@@ -3,7 +3,8 @@ ghost use Rattle.std.specs.Prelude.{◌≡◌, ◌+◌, ◌≤◌, IfOk, OnOk, O
 ghost use Rattle.cabling.specs.NodeSet.{Holds};
 ghost use Rattle.cable_world.specs.Lawful.{IsWellFormed};
 ghost use Rattle.cable_world.specs.Unchanged.{TurnsPass};
-ghost use Rattle.settle.specs.codings.Reading.{IsLeast, HasLess};
+ghost use Rattle.convergence.specs.Milestones.{ResetsAreDone};
+ghost use Rattle.settle.specs.codings.Reading.{IsLeast, HasLess, HasSettled};
 ghost use Rattle.settle.specs.Report.{AreParts, IsReport, quiet_turns_of, IsAfterQuiet};
 
 use crate::part::{attrs_of, part_of};
@@ -11,6 +12,7 @@ use crate::quiet::quiet_turns;
 use crate::report::{PartList, Report};
 use cable_world::WorldRun;
 use cabling::{NodeSet, OutOfMemory, components_are_whole};
+use outcomes::components_settle;
 use std::alloc::{AllocError, Global};
 
 /// Whether a node of a set is the least in it.
@@ -24,9 +26,10 @@ fn is_least(set: NodeSet, node: u8) -> bool
     }
 }
 
-/// What is reported of each component of a world, by their least nodes.
+/// What is reported of each component of a world that has settled, by their least nodes.
 fn parts_of<W: WorldRun>(alloc: Global, world: &W) -> Result<PartList, OutOfMemory>
-    requires { IsWellFormed (W.world world.now) }
+    requires formed { IsWellFormed (W.world world.now) }
+    requires settled { ∥ HasSettled (W.world world.now) ∥₁ }
     ensures { IfOk result (λ parts. AreParts (W.world world.now) parts) }
 {
     let cabling = world.cabling();
@@ -43,12 +46,14 @@ fn parts_of<W: WorldRun>(alloc: Global, world: &W) -> Result<PartList, OutOfMemo
 }
 
 /// Does as many turns as `quiet_turns` says for the nodes and the delay of a world, and reports what
-/// each component came to. With the turns done before they are at most 4,000,000,000.
+/// each component came to: each comes to a loop, a contention or a tree, and no node is in R0 or R1
+/// then. With the turns done before they are at most 4,000,000,000.
 ///
 /// After want of memory the world is spent, or it has done all of these turns.
 pub fn settle<W: WorldRun>(alloc: Global, world: &mut W) -> Result<Report, OutOfMemory>
     requires { (W.world world.old).turns + quiet_turns_of (W.world world.old) ≤ 4000000000 }
     ensures report { IfOk result (λ report. IsReport (W.world world.new) report) }
+    ensures done { OnOk result (ResetsAreDone (W.world world.new)) }
     ensures quiet { OnOk result (IsAfterQuiet (W.world world.old) (W.world world.new)) }
     ensures passed { OnOk result
         (TurnsPass (quiet_turns_of (W.world world.old)) (W.world world.old) (W.world world.new)) }
@@ -61,6 +66,7 @@ pub fn settle<W: WorldRun>(alloc: Global, world: &mut W) -> Result<Report, OutOf
     if world.spent() {
         return Err(AllocError);
     }
+    components_settle();
     let quiet = quiet_turns(world.cabling().nodes(), world.delay());
     world.run_turns(quiet)?;
     Ok(Report {

@@ -11,6 +11,7 @@ use Rattle.topology_stack.specs.Tree.{Tree, emits}
 use Rattle.cabling.specs.declared.cable.End.{End}
 use Rattle.cabling.specs.Wiring.{far, ports_of}
 use Rattle.cabling.specs.NodeSet.{Holds}
+use Rattle.cabling.specs.Component.{IsClosed}
 use Rattle.cabling.specs.Sees.{numbers}
 use Rattle.outcomes.specs.Emit.{emit}
 use Rattle.port_state.specs.declared.signal.Phase.{Phase}
@@ -43,7 +44,7 @@ use Rattle.cable_world.proofs.tables.CableEnds.{port-there}
 use Rattle.cable_world.proofs.StaysLawful.{turn-lawful, turns-lawful, reached-lawful}
 use Rattle.cable_world.proofs.turns.TurnParts.{turn-state, comes}
 use Rattle.convergence.specs.Acyclic.{IsAcyclic}
-use Rattle.convergence.specs.Milestones.{ResetsAreOverIn}
+use Rattle.convergence.specs.Milestones.{ResetsAreOverIn, AreIdentifying}
 use Rattle.outcomes.specs.NodeMarks.{is_ready, is_asked, is_named}
 use Rattle.outcomes.specs.Messages.{is_message, silent, quads_in, has_grant, has_done, kept, parent_mode, child_mode}
 use Rattle.outcomes.proofs.identify.OneMessage.{no-grant, no-done, child-grants-none, parent-says-none}
@@ -257,6 +258,56 @@ ready-list coin x r = go x.view.phase r
     go phase.Ready r = refl
     go f r = absurd cc
 
+-- ---- where all nodes of a component are in A0, with one list, it is at rest
+
+module _
+    (w : CableWorld) (l : IsLawful w) (i : IsIdentifying w) (set : ℕ)
+    (closed : IsClosed w.cabling set) (all : AreIdentifying w set) (list : List ℕ)
+    (ready : (k : ℕ) (x : PortNode) → Holds set k → slice_get w.nodes k ≡ Some x → is_ready x.state.view.phase ≡ true)
+    (has : (k : ℕ) (x : PortNode) → Holds set k → slice_get w.nodes k ≡ Some x → x.state.list.items ≡ list)
+  where
+    none-added : (xs ys : List ℕ) → xs ≡ xs ++ ys → ys ≡ []
+    none-added xs [] e = refl
+    none-added xs (y ∷ ys) e = absurd (omega (arith, ap length e, length-append xs (y ∷ ys)))
+
+    -- on a child cable nothing is under way, down or up
+    both-silent :
+        (a b : End) (x y : PortNode) → Holds set a.node → Holds set b.node →
+        slice_get w.nodes a.node ≡ Some x → slice_get w.nodes b.node ≡ Some y →
+        IsAbove w a b x y → (silent (signals_of (wire_of w a).signals) ≡ true)
+        × (silent (signals_of (wire_of w b).signals) ≡ true)
+    both-silent a b x y h_a h_b at_x at_y r =
+        let granted : y.state.view.granted ≡ true = r.line.readies (ready b.node y h_b at_y) in
+        let named : is_named x.state a.port ≡ true = (i.nodes a.node x at_x).all_named (ready a.node x h_a at_x) a.port r.child in
+        let no-up : quads_in (signals_of (wire_of w b).signals) ≡ [] = r.line.no_up (speaks-not y.state.view.granted (is_named x.state a.port) named) in
+        let same : x.state.list.items ≡ y.state.list.items = has a.node x h_a at_x ∙ sym (has b.node y h_b at_y) in
+        let joined : y.state.list.items ≡ y.state.list.items ++ quads_in (signals_of (wire_of w a).signals) =
+        sym same ∙ sym (ap (kept x.state.list.items) no-up) ∙ r.line.agree ∙ kept-room y.state.list.items (quads_in (signals_of (wire_of w a).signals)) r.line.room_down in
+        let no-down : quads_in (signals_of (wire_of w a).signals) ≡ [] = none-added y.state.list.items (quads_in (signals_of (wire_of w a).signals)) joined in
+        let up-quads-silent : has_grant (signals_of (wire_of w b).signals) ≡ false = no-grant (child_mode (is_asked x.state a.port) (is_named x.state a.port)) (signals_of (wire_of w b).signals) (child-grants-none (is_asked x.state a.port) (is_named x.state a.port)) r.line.fits_up in
+        let down-done : has_done (signals_of (wire_of w a).signals) ≡ false = no-done (parent_mode (is_ready y.state.view.phase) y.state.view.granted) (signals_of (wire_of w a).signals) (parent-says-none (is_ready y.state.view.phase) y.state.view.granted) r.line.fits_down in (
+          silent-of (signals_of (wire_of w a).signals) (r.line.granting ∙ off-by (is_asked x.state a.port) y.state.view.granted granted) down-done no-down,
+          silent-of (signals_of (wire_of w b).signals) up-quads-silent (r.line.naming ∙ off-by (is_ready y.state.view.phase) (is_named x.state a.port) named) no-up,
+        )
+      where
+        speaks-not : (g n : Bool) → n ≡ true → (g && not n) ≡ false
+        speaks-not g n e = grind arith
+
+        off-by : (a g : Bool) → g ≡ true → (a && not g) ≡ false
+        off-by a g e = grind arith
+
+    pub rests-where : IsAtRest w set
+    rests-where = record {
+      ready = ready;
+      silent = λ a b h e.
+          let n = joined-of w a b l.well_formed e in
+          let h_b : Holds set b.node = closed a b e h in
+          elim (one-above w l i a b n.near n.other e n.near_at n.other_at (all a.node n.near h n.near_at) (all b.node n.other h_b n.other_at)) [
+            | inl r ↦ (both-silent a b n.near n.other h h_b n.near_at n.other_at r).0
+            | inr r ↦ (both-silent b a n.other n.near h_b h n.other_at n.near_at r).1
+          ];
+    }
+
 module _
     (w : CableWorld) (l : IsLawful w) (acyclic : IsAcyclic w) (i : IsIdentifying w)
     (set core root : ℕ) (t : Tree) (s : IsSettling w set core root t) (rest : IsAtRest w set) where
@@ -305,47 +356,8 @@ module _
       ∙ hears-no-list (inbox w 0 (ports_of w.cabling k)) x.0.state (s.all k x.0 h x.1) (still-there w l i set root t s.component.closed s.walk s.all k x.0 h x.1) (λ j. box-silent k j h)
       ∙ rest-lists w l acyclic i set core root t s rest k x.0 h x.1
 
-  none-added : (xs ys : List ℕ) → xs ≡ xs ++ ys → ys ≡ []
-  none-added xs [] e = refl
-  none-added xs (y ∷ ys) e = absurd (omega (arith, ap length e, length-append xs (y ∷ ys)))
-
-  -- on a child cable nothing is under way, down or up
-  both-silent :
-      (a b : End) (x y : PortNode) → Holds set a.node → Holds set b.node →
-      slice_get (turn w).nodes a.node ≡ Some x → slice_get (turn w).nodes b.node ≡ Some y →
-      IsAbove (turn w) a b x y → (silent (signals_of (wire_of (turn w) a).signals) ≡ true)
-      × (silent (signals_of (wire_of (turn w) b).signals) ≡ true)
-  both-silent a b x y h_a h_b at_x at_y r =
-      let granted : y.state.view.granted ≡ true = r.line.readies (ready-after b.node y h_b at_y) in
-      let named : is_named x.state a.port ≡ true = (v-identifying.nodes a.node x at_x).all_named (ready-after a.node x h_a at_x) a.port r.child in
-      let no-up : quads_in (signals_of (wire_of (turn w) b).signals) ≡ [] = r.line.no_up (speaks-not y.state.view.granted (is_named x.state a.port) named) in
-      let same : x.state.list.items ≡ y.state.list.items = list-after a.node x h_a at_x ∙ sym (list-after b.node y h_b at_y) in
-      let joined : y.state.list.items ≡ y.state.list.items ++ quads_in (signals_of (wire_of (turn w) a).signals) =
-      sym same ∙ sym (ap (kept x.state.list.items) no-up) ∙ r.line.agree ∙ kept-room y.state.list.items (quads_in (signals_of (wire_of (turn w) a).signals)) r.line.room_down in
-      let no-down : quads_in (signals_of (wire_of (turn w) a).signals) ≡ [] = none-added y.state.list.items (quads_in (signals_of (wire_of (turn w) a).signals)) joined in
-      let up-quads-silent : has_grant (signals_of (wire_of (turn w) b).signals) ≡ false = no-grant (child_mode (is_asked x.state a.port) (is_named x.state a.port)) (signals_of (wire_of (turn w) b).signals) (child-grants-none (is_asked x.state a.port) (is_named x.state a.port)) r.line.fits_up in
-      let down-done : has_done (signals_of (wire_of (turn w) a).signals) ≡ false = no-done (parent_mode (is_ready y.state.view.phase) y.state.view.granted) (signals_of (wire_of (turn w) a).signals) (parent-says-none (is_ready y.state.view.phase) y.state.view.granted) r.line.fits_down in (
-        silent-of (signals_of (wire_of (turn w) a).signals) (r.line.granting ∙ off-by (is_asked x.state a.port) y.state.view.granted granted) down-done no-down,
-        silent-of (signals_of (wire_of (turn w) b).signals) up-quads-silent (r.line.naming ∙ off-by (is_ready y.state.view.phase) (is_named x.state a.port) named) no-up,
-      )
-    where
-      speaks-not : (g n : Bool) → n ≡ true → (g && not n) ≡ false
-      speaks-not g n e = grind arith
-
-      off-by : (a g : Bool) → g ≡ true → (a && not g) ≡ false
-      off-by a g e = grind arith
-
   pub rests-on : IsAtRest (turn w) set
-  rests-on = record {
-    ready = ready-after;
-    silent = λ a b h e.
-        let n = joined-of (turn w) a b v-lawful.well_formed e in
-        let h_b : Holds set b.node = v-settles.component.closed a b e h in
-        elim (one-above (turn w) v-lawful v-identifying a b n.near n.other e n.near_at n.other_at (v-settles.all a.node n.near h n.near_at) (v-settles.all b.node n.other h_b n.other_at)) [
-          | inl r ↦ (both-silent a b n.near n.other h h_b n.near_at n.other_at r).0
-          | inr r ↦ (both-silent b a n.other n.near h_b h n.other_at n.near_at r).1
-        ];
-  }
+  rests-on = rests-where (turn w) v-lawful v-identifying set v-settles.component.closed v-settles.all (emits t) ready-after list-after
 
 -- ---- turns of a reached world
 

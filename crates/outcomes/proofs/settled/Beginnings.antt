@@ -68,6 +68,14 @@ all-there c node set j k is comp in_j there h = elim (cases_lt k (length c)) [
       (λ a b e n. (plugged c b a (is.both_ways a b e)).node) k h (λ less. omega (arith, less, more)))
 ]
 
+pub nodes-there :
+    (w : CableWorld) → IsLawful w → (node set : ℕ) → IsComponent w.cabling node set →
+    node < length w.nodes → (k : ℕ) → Holds set k → (x : PortNode) × (slice_get w.nodes k ≡ Some x)
+nodes-there w l node set comp there k h = elim (slice_get_cases w.nodes k).1 [
+  | inl found ↦ (found.0, found.2)
+  | inr lacks ↦ absurd (omega (arith, lacks.0, all-there w.cabling node set node k l.well_formed.cabling comp comp.holds (omega (arith, there, l.well_formed.count)) h, l.well_formed.count))
+]
+
 -- where all identify, the node above the others has no parent
 pub has-root :
     (w : CableWorld) → IsLawful w → IsAcyclic w → IsIdentifying w → (node set j : ℕ) →

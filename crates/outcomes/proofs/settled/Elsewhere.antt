@@ -37,7 +37,7 @@ use Rattle.outcomes.specs.Alike.{Alike}
 use Rattle.outcomes.specs.Emit.{emit}
 use Rattle.outcomes.specs.Messages.{kept, quads_in, has_grant, has_done}
 use Rattle.outcomes.specs.NodeMarks.{is_ready}
-use Rattle.outcomes.specs.Numbered.{StandsAt, IsNumbered, IsSettling, Settles}
+use Rattle.outcomes.specs.Numbered.{StandsAt, IsNumbered, IsSettling}
 use Rattle.outcomes.specs.RootWalk.{place_now, RootWalk, SameWalk}
 use Rattle.outcomes.specs.WalkMarks.{mark}
 use Rattle.outcomes.proofs.numbers.Settling.{attrs-same}
@@ -200,21 +200,17 @@ module _
         ∙ emitted (place_now w root t k + 1) (place_now v root walk.0 k + 1) (ap (λ (n : ℕ). n + 1) (same.places k h));
   }
 
-  pub settles-there : Settles v set core
-  settles-there = record {
-    root = root;
-    tree = walk.0;
-    is = record {
-      component = comp;
-      is_core = is_core;
-      small = s.small;
-      inside = s.inside;
-      is_root = is_root;
-      walk = walk.1;
-      all = all;
-      numbered = numbered;
-    };
-  }
+  pub settles-there : IsSettling v set core root t
+  settles-there = subst (λ (u : Tree). IsSettling v set core root u) (sym same.tree) (record {
+    component = comp;
+    is_core = is_core;
+    small = s.small;
+    inside = s.inside;
+    is_root = is_root;
+    walk = walk.1;
+    all = all;
+    numbered = numbered;
+  })
 
 -- ---- an act
 

@@ -31,7 +31,7 @@ use Rattle.outcomes.proofs.identify.IdentifyingTurn.{turn-identifying}
 use Rattle.outcomes.proofs.identify.IdentifyingActs.{act-identifying, hold-identifying, power-on-identifying}
 use Rattle.outcomes.proofs.numbers.HoldRests.{hold-settles}
 use Rattle.outcomes.proofs.numbers.Settling.{settles-on}
-use Rattle.outcomes.proofs.settled.Beginnings.{all-or-not, all-there, begins-to-settle}
+use Rattle.outcomes.proofs.settled.Beginnings.{all-or-not, nodes-there, begins-to-settle}
 use Rattle.outcomes.proofs.settled.Elsewhere.{LeavesAlone, leaves-alone, same-component, same-core, settles-there}
 
 -- ---- turns
@@ -84,10 +84,7 @@ module _
       (comp : IsComponent after.cabling node set) (is_core : IsCore after.cabling set core)
       (small : set < 2 ^ 63) (all : AreIdentifying after set) where
     node-there : (k : ℕ) → Holds set k → (z : PortNode) × (slice_get after.nodes k ≡ Some z)
-    node-there k h = elim (slice_get_cases after.nodes k).1 [
-      | inl found ↦ (found.0, found.2)
-      | inr lacks ↦ absurd (omega (arith, lacks.0, all-there after.cabling node set node k m.well_formed.cabling comp comp.holds (omega (arith, there, m.well_formed.count)) h, m.well_formed.count))
-    ]
+    node-there = nodes-there after m node set comp there
 
     alone : LeavesAlone w after set
     alone = leaves-alone w v a is none leads l set node-there all
@@ -106,7 +103,7 @@ module _
         let z = node-there node comp.holds in
         let y = alone.nodes node z.0 comp.holds z.1 in
         let s = p.walks node set core (slice_get_within w.nodes node y.0 y.1) (same-component after.cabling w.cabling set back node comp) (same-core after.cabling w.cabling set back core is_core) small all-before in
-        settles-there w after l p.acyclic m after-acyclic set core s.root s.tree alone s.is node-there all
+        record { root = s.root; tree = s.tree; is = settles-there w after l p.acyclic m after-acyclic set core s.root s.tree alone s.is node-there all }
 
   act-numbering-of : IsNumbering v
   act-numbering-of = subst IsNumbering (sym (acting a w v is none leads l.well_formed).is) (record {

@@ -6,8 +6,6 @@ use Rattle.cabling.specs.NodeSet.{Holds}
 use Rattle.cabling.specs.Component.{IsComponent}
 use Rattle.cabling.specs.Labels.{labels}
 use Rattle.cabling.proofs.OneTree.{one-tree}
-use Rattle.port_state.specs.Heard.{hears_packets}
-use Rattle.port_state.specs.declared.signal.Phase.{Phase}
 use Rattle.port_state.specs.Machine.{PortNode}
 use Rattle.cable_world.specs.World.{CableWorld}
 use Rattle.cable_world.specs.Lawful.{IsLawful}
@@ -23,6 +21,7 @@ use Rattle.outcomes.specs.Identify.{IsIdentifying}
 use Rattle.outcomes.specs.NodeMarks.{is_ready}
 use Rattle.outcomes.specs.Numbered.{IsSettling}
 use Rattle.outcomes.proofs.settled.Beginnings.{IsUnfinished}
+use Rattle.outcomes.proofs.identify.MarksKept.{ready-hears}
 use Rattle.outcomes.proofs.roots.Calm.{calm-in}
 use Rattle.outcomes.proofs.roots.Named.{named-tree}
 use Rattle.outcomes.proofs.roots.RootWalk.{not-false}
@@ -73,15 +72,12 @@ pub no-tree-yet :
     IsTree w set root t → ⊥
 no-tree-yet w set i u root t h =
     true≢false (sym (ready-hears u.node.state.view.phase (tree-ready w set root t i h u.number u.node u.holds u.at)) ∙ u.out)
-  where
-    ready-hears : (h : Phase) → is_ready h ≡ true → hears_packets h ≡ true
-    ready-hears h e = grind (arith, e)
 
 module _
     (w : CableWorld) (l : IsLawful w) (acyclic : IsAcyclic w) (i : IsIdentifying w)
     (set core root : ℕ) (t : Tree) (s : IsSettling w set core root t) where
   -- whatever tree it has come to is the tree of its root
-  same-root : (other : ℕ) (u : Tree) → IsTree w set other u → other ≡ root
+  pub same-root : (other : ℕ) (u : Tree) → IsTree w set other u → other ≡ root
   same-root other u h = elim (cases_eq root other) [
     | inl same ↦ sym same
     | inr ne ↦
@@ -93,7 +89,7 @@ module _
       no-some None h e = true≢false (sym h)
       no-some (Some p) h e = absurd cc
 
-  same-tree : (other : ℕ) (u : Tree) → IsTree w set other u → u ≡ t
+  pub same-tree : (other : ℕ) (u : Tree) → IsTree w set other u → u ≡ t
   same-tree other u h =
       let seen = subst (λ (k : ℕ). IsTree w set k u) (same-root other u h) h in
       one-tree w.cabling (labels (attrs_now w)) root None u t seen.seen s.walk.seen

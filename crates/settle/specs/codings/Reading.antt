@@ -4,15 +4,27 @@ use Rattle.self_id.specs.declared.node.Attrs.{Attrs}
 use Rattle.topology_stack.specs.Tree.{Tree, emits}
 use Rattle.cabling.specs.Wiring.{Wiring}
 use Rattle.cabling.specs.NodeSet.{Holds}
-use Rattle.cabling.specs.Component.{IsNeighbour}
+use Rattle.cabling.specs.Component.{IsComponent, IsNeighbour}
 use Rattle.cabling.specs.Labels.{labels}
 use Rattle.cabling.specs.Sees.{Sees, numbers}
 use Rattle.cable_world.specs.World.{CableWorld, NodeNumber, NodeSet}
+use Rattle.cable_world.specs.Run.{IsReached}
 use Rattle.cable_world.specs.Outcome.{AtNode, Shows, DrewAlike}
+use Rattle.settle.specs.Report.{IsAfterQuiet}
 
 -- the nodes of the set exist
 abbrev pub AreThere : CableWorld → NodeSet → Type 0
 AreThere w set = (k : NodeNumber) → Holds set k → k < length w.cabling
+
+-- the set is the component of a node
+abbrev pub IsPartOf : CableWorld → NodeSet → Type 0
+IsPartOf w set = (node : NodeNumber) × IsComponent w.cabling node set
+
+-- the world comes of a reached one by as many turns without acts as that is given
+pub record HasSettled (w : CableWorld) : Type 0 where
+  pub before : CableWorld
+  pub reached : IsReached before
+  pub is : IsAfterQuiet before w
 
 -- no node of the set is below this one
 abbrev pub IsLeast : NodeSet → NodeNumber → Type 0

@@ -1,9 +1,11 @@
+use Rattle.std.proofs.Math.Logic.{∥∥₁_map}
 use Rattle.std.proofs.Common.{◌≡◌, ◌∙◌, ◌+◌, ◌≤◌, ℕ, length, ap, sym, subst, arith}
 use Rattle.cable_world.specs.Turn.{turns_after}
 use Rattle.cable_world.specs.Unchanged.{TurnsPass}
 use Rattle.cable_world.proofs.running.Whole.{lawful-now, not-spent}
 use Rattle.settle.specs.Report.{quiet_turns_of}
 use Rattle.settle.proofs.TurnsGiven.{quiet-is, on-err}
+use Rattle.settle.proofs.Settled.{done-by-then}
 use Rattle.settle.proofs.settling.settle.Goals as goal
 
 pub quiet_turns-quiet-requires-clause-some_delay :
@@ -27,8 +29,16 @@ run_turns-requires g c =
     quiet-is w c.nodes.result c.delay.result c.quiet_turns-quiet.result c.quiet_turns-quiet.ensures (c.nodes.ensures.value ∙ ap length c.cabling.ensures) c.delay.ensures in
     subst (λ (n : ℕ). w.turns + n ≤ 4000000000) (sym q) c.requires
 
-pub parts_of-requires : goal.parts_of-requires
-parts_of-requires g c =
+pub parts_of-requires-clause-settled : goal.parts_of-requires-clause-settled
+parts_of-requires-clause-settled g c =
+    let w = g.W.WorldRun.world c.args.world.now in
+    let q : c.quiet_turns-quiet.result ≡ quiet_turns_of w =
+    quiet-is w c.nodes.result c.delay.result c.quiet_turns-quiet.result c.quiet_turns-quiet.ensures (c.nodes.ensures.value ∙ ap length c.cabling.ensures) c.delay.ensures in
+    ∥∥₁_map (g.met.W.WorldRun.reached c.args.world.now (sym c.spent.ensures ∙ c.if-spent.false))
+    (λ r. record { before = w; reached = r; is = c.in_ok-run_turns.ensures.done ∙ ap (λ (n : ℕ). turns_after n w) q })
+
+pub parts_of-requires-clause-formed : goal.parts_of-requires-clause-formed
+parts_of-requires-clause-formed g c =
     let v = c.run_turns.new.self in
     let lawful = lawful-now (g.W.WorldRun.world v) (g.met.W.WorldRun.reached v (not-spent (g.W.WorldRun.is_spent v) c.in_ok-run_turns.ensures.spent.1)) in
     lawful.well_formed
@@ -53,3 +63,11 @@ returns-clause-passed g c =
     let q : c.quiet_turns-quiet.result ≡ quiet_turns_of w =
     quiet-is w c.nodes.result c.delay.result c.quiet_turns-quiet.result c.quiet_turns-quiet.ensures (c.nodes.ensures.value ∙ ap length c.cabling.ensures) c.delay.ensures in
     subst (λ (n : ℕ). TurnsPass n w (g.W.WorldRun.world c.run_turns.new.self)) q c.in_ok-run_turns.ensures.passed
+
+pub returns-clause-done : goal.returns-clause-done
+returns-clause-done g c =
+    let w = g.W.WorldRun.world c.args.world.now in
+    let q : c.quiet_turns-quiet.result ≡ quiet_turns_of w =
+    quiet-is w c.nodes.result c.delay.result c.quiet_turns-quiet.result c.quiet_turns-quiet.ensures (c.nodes.ensures.value ∙ ap length c.cabling.ensures) c.delay.ensures in
+    done-by-then c.components_settle.ensures.done w (g.W.WorldRun.world c.run_turns.new.self) (c.in_ok-run_turns.ensures.done ∙ ap (λ (n : ℕ). turns_after n w) q)
+    (g.met.W.WorldRun.reached c.args.world.now (sym c.spent.ensures ∙ c.if-spent.false))
