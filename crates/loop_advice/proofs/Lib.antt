@@ -1,0 +1,4 @@
+pub mod Listed
+pub mod Marking
+pub mod Grouping
+pub mod Components

@@ -1,0 +1,18 @@
+//! Which cables to pull where cables form a loop, and how such an advice is judged.
+//!
+//! `specs/Cables.antt` says what cables join, `specs/Certificate.antt` when an advice is valid.
+#![tactic(auto)]
+
+mod advice;
+mod cable_list;
+mod certificate;
+mod groups;
+mod marks;
+
+pub use advice::Advice;
+pub use cable_list::CableList;
+pub use cabling::OutOfMemory;
+pub use certificate::check;
+
+#[cfg(test)]
+mod tests;
