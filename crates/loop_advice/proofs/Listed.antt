@@ -113,3 +113,9 @@ lists_turned xs x l = lists_same xs x (turned x) (same_turned x) l
 
 pub not_true : IsTrue false → ⊥
 not_true h = cc
+
+-- no cable stands in both parts of a list in which none stands twice
+pub once_apart : (xs ys : List Cable) (z : Cable) → HasNoneTwice (xs ++ ys) → Lists xs z → Lists ys z → ⊥
+once_apart [] ys z h l m = l
+once_apart (x ∷ xs) ys z h (inl s) m = h.0 (lists_right xs ys x (lists_same ys z x (same_back z x s) m))
+once_apart (x ∷ xs) ys z h (inr l) m = once_apart xs ys z h.1 l m

@@ -1,3 +1,4 @@
 pub mod Cables
 pub mod Certificate
+pub mod Pulled
 pub mod codings

@@ -7,12 +7,14 @@ mod advice;
 mod cable_list;
 mod certificate;
 mod groups;
+mod laws;
 mod marks;
 
 pub use advice::Advice;
 pub use cable_list::CableList;
 pub use cabling::OutOfMemory;
 pub use certificate::check;
+pub use laws::{no_fewer_pulls_do, pulls_leave_a_tree};
 
 #[cfg(test)]
 mod tests;
