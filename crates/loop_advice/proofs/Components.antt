@@ -1,5 +1,5 @@
 -- A node has one component.
-use Rattle.std.proofs.Common.{◌≡◌, ℕ, zero, suc, ◌+◌, inl, inr, ◌↔◌, List, refl, sym, ap, ◌∙◌, arith}
+use Rattle.std.proofs.Common.{◌≡◌, ℕ, zero, suc, inl, inr, ◌↔◌, List, refl, sym, ◌∙◌, arith}
 use Rattle.std.specs.Int.{bit_at}
 use Rattle.cabling.specs.declared.cable.Cable.{Cable}
 use Rattle.cabling.specs.Wiring.{Wiring}
@@ -7,7 +7,7 @@ use Rattle.cabling.specs.NodeSet.{Holds, size_below}
 use Rattle.cabling.specs.Component.{IsComponent}
 use Rattle.cabling.proofs.Bits.{clear_bit}
 use Rattle.cabling.proofs.Cascade.{holds_or_not}
-use Rattle.loop_advice.specs.Cables.{Lists, IsCableOf, HoldsEachOnce, JoinAll}
+use Rattle.loop_advice.specs.Cables.{IsCableOf, HoldsEachOnce}
 
 abbrev pub HaveTheSame : ℕ → ℕ → Type 0
 HaveTheSame set other = (x : ℕ) → Holds set x ↔ Holds other x

@@ -1,10 +1,9 @@
 -- What groups say of the cables that joined them.
-use Rattle.std.proofs.Common.{◌≡◌, ◌≢◌, ℕ, ◌<◌, ◌⊎◌, inl, inr, Bool, true, false, eqb, cond, List, [], ◌∷◌, ◌++◌, refl, sym, subst, ap, ◌∙◌, arith}
+use Rattle.std.proofs.Common.{◌≡◌, ◌≢◌, ℕ, ◌<◌, inl, inr, Bool, true, false, eqb, cond, List, [], ◌∷◌, ◌++◌, refl, sym, subst, ap, ◌∙◌, arith}
 use Rattle.std.proofs.lemmas.Bool.{cases_eq, ne_eqb}
 use Rattle.std.proofs.lemmas.Bool.Decides.{nat_tests}
 use Rattle.cabling.specs.declared.cable.Cable.{Cable}
-use Rattle.cabling.specs.NodeSet.{Holds}
-use Rattle.loop_advice.specs.Cables.{Lists, NoneLeadsOut, AreJoined, JoinAll}
+use Rattle.loop_advice.specs.Cables.{Lists, NoneLeadsOut, AreJoined}
 use Rattle.loop_advice.specs.codings.Groups.{group, merged}
 use Rattle.loop_advice.specs.declared.groups.Groups.{Groups}
 use Rattle.loop_advice.proofs.Listed.{lists_left, lists_right, lists_last}

@@ -1,6 +1,6 @@
 -- Where as many cables join nodes as there are nodes, less one, no part of them is looped: each cable
 -- in turn joins one node more.
-use Rattle.std.proofs.Common.{◌≡◌, ◌≢◌, ℕ, zero, suc, ◌+◌, ◌^◌, ◌<◌, ◌≤◌, ◌⊎◌, inl, inr, ◌↔◌, Bool, true, false, List, [], ◌∷◌, length, refl, sym, subst, ap, ◌∙◌, arith}
+use Rattle.std.proofs.Common.{◌≡◌, ◌≢◌, ℕ, zero, suc, ◌+◌, ◌^◌, ◌<◌, ◌≤◌, ◌⊎◌, inl, inr, Bool, true, false, List, [], ◌∷◌, length, refl, sym, subst, ap, ◌∙◌, arith}
 use Rattle.cabling.specs.declared.cable.End.{End}
 use Rattle.cabling.specs.declared.cable.Cable.{Cable}
 use Rattle.cabling.specs.NodeSet.{Holds, size_below}
@@ -8,7 +8,7 @@ use Rattle.cabling.proofs.Cascade.{holds_or_not}
 use Rattle.cabling.proofs.Once.{In}
 use Rattle.cabling.proofs.Counting.{in_or_not}
 use Rattle.loop_advice.specs.Cables.{turned, IsSame, Lists, NoneLeadsOut, JoinAll}
-use Rattle.loop_advice.proofs.Listed.{lists_turned, same_along, same_turned}
+use Rattle.loop_advice.proofs.Listed.{lists_turned, same_along}
 use Rattle.loop_advice.proofs.Marking.{cable}
 use Rattle.loop_advice.proofs.Sizes.{size_within}
 

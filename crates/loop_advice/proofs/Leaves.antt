@@ -1,5 +1,5 @@
 -- Cables without a loop are fewer than the nodes that they are at.
-use Rattle.std.proofs.Common.{◌≡◌, ◌≢◌, ℕ, zero, suc, ◌+◌, ◌^◌, ◌<◌, ◌≤◌, ◌⊎◌, inl, inr, Some, List, [], ◌∷◌, ◌++◌, length, refl, sym, subst, ap, ◌∙◌, arith}
+use Rattle.std.proofs.Common.{◌≡◌, ◌≢◌, ℕ, zero, suc, ◌+◌, ◌^◌, ◌<◌, ◌≤◌, ◌⊎◌, inl, inr, Some, List, [], ◌∷◌, length, refl, sym, subst, ap, ◌∙◌, arith}
 use Rattle.std.proofs.lemmas.Bool.{cases_eq}
 use Rattle.cabling.specs.declared.cable.End.{End}
 use Rattle.cabling.specs.declared.cable.Cable.{Cable}
@@ -7,9 +7,9 @@ use Rattle.cabling.specs.Wiring.{Wiring, far, IsCabling}
 use Rattle.cabling.specs.NodeSet.{Holds, IsWithin, IsEmpty, size_below}
 use Rattle.cabling.specs.Looped.{HasTwo, IsCore, HasLeaves}
 use Rattle.cabling.proofs.Cascade.{Less, less_by, less_within, two_of}
-use Rattle.cabling.proofs.Ends.{cases_end, one_other, same_end}
+use Rattle.cabling.proofs.Ends.{one_other, same_end}
 use Rattle.loop_advice.specs.Cables.{turned, IsSame, Lists, HasNoneTwice}
-use Rattle.loop_advice.proofs.Listed.{lists_same, lists_turned, same_back, same_along}
+use Rattle.loop_advice.proofs.Listed.{lists_same, lists_turned, same_back}
 use Rattle.loop_advice.proofs.Marking.{cable}
 use Rattle.loop_advice.proofs.Sizes.{size_less, size_some}
 

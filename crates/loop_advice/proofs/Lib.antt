@@ -5,3 +5,4 @@ pub mod Components
 pub mod Sizes
 pub mod Growing
 pub mod Leaves
+pub mod Collecting

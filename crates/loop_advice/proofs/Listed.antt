@@ -1,9 +1,7 @@
 -- Cables in lists.
-use Rattle.std.proofs.Common.{◌≡◌, ℕ, ◌⊎◌, inl, inr, ◌↔◌, Bool, Option, Some, List, [], ◌∷◌, ◌++◌, zero, suc, ◌+◌, ◌<◌, length, take, drop, get_or, slice_get, add-one, arith, IsTrue, false, refl, sym, subst, ap, ◌∙◌}
-use Rattle.cabling.specs.declared.cable.End.{End}
+use Rattle.std.proofs.Common.{◌≡◌, ℕ, ◌⊎◌, inl, inr, Some, List, [], ◌∷◌, ◌++◌, zero, suc, ◌+◌, ◌<◌, length, take, drop, get_or, slice_get, add-one, arith, IsTrue, false, refl, sym, subst, ap, ◌∙◌}
 use Rattle.cabling.specs.declared.cable.Cable.{Cable}
-use Rattle.cabling.specs.Wiring.{Wiring, far, IsCabling}
-use Rattle.cabling.specs.NodeSet.{Holds}
+use Rattle.cabling.specs.Wiring.{Wiring, IsCabling}
 use Rattle.cabling.specs.Component.{IsClosed}
 use Rattle.loop_advice.specs.Cables.{turned, IsSame, Lists, HasNoneTwice, IsCableOf}
 

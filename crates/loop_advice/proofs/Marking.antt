@@ -1,16 +1,16 @@
 -- What marks say of the cables whose ends were marked.
-use Rattle.std.proofs.Common.{◌≡◌, ◌≢◌, ℕ, ◌+◌, ◌*◌, ◌<◌, ◌⊎◌, inl, inr, ◌↔◌, Some, List, [], ◌∷◌, ◌++◌, length, get_or, true, false, refl, sym, subst, ap, ◌∙◌, arith}
+use Rattle.std.proofs.Common.{◌≡◌, ◌≢◌, ℕ, ◌<◌, inl, inr, ◌↔◌, Some, List, [], ◌∷◌, ◌++◌, get_or, true, false, refl, sym, subst, ap, ◌∙◌, arith}
 use Rattle.std.proofs.lemmas.Bool.{cases_eq}
 use Rattle.cabling.specs.declared.cable.End.{End}
 use Rattle.cabling.specs.declared.cable.Cable.{Cable}
-use Rattle.cabling.specs.Wiring.{Wiring, ports_of, far, IsCabling}
+use Rattle.cabling.specs.Wiring.{Wiring, far, IsCabling}
 use Rattle.cabling.specs.NodeSet.{Holds}
 use Rattle.cabling.specs.Component.{IsClosed}
 use Rattle.cabling.proofs.Ends.{cases_end, one_other, plugged}
-use Rattle.loop_advice.specs.Cables.{turned, IsSame, Lists, HasNoneTwice, IsCableOf, HoldsEachOnce}
+use Rattle.loop_advice.specs.Cables.{Lists, HasNoneTwice, IsCableOf, HoldsEachOnce}
 use Rattle.loop_advice.specs.codings.Marks.{place, IsMarked, AreMarked}
 use Rattle.loop_advice.specs.declared.marks.Marks.{Marks}
-use Rattle.loop_advice.proofs.Listed.{lists_left, lists_right, lists_last, lists_same, once_last, once_parts, of_same}
+use Rattle.loop_advice.proofs.Listed.{lists_left, lists_right, lists_last, once_last, of_same}
 
 abbrev pub cable : End → End → Cable
 cable a b = record { a = a; b = b }

@@ -1,5 +1,5 @@
 -- Lists of cables, and which nodes they join.
-use Rattle.std.specs.Prelude.{◌≡◌, ◌⊎◌, ◌↔◌, ℕ, Bool, Some, List, [], ◌∷◌}
+use Rattle.std.specs.Prelude.{◌≡◌, ◌⊎◌, ◌↔◌, Bool, Some, List, [], ◌∷◌}
 use Rattle.cabling.specs.declared.cable.Cable.{Cable}
 use Rattle.cabling.specs.Wiring.{Wiring, NodeNumber, far}
 use Rattle.cabling.specs.NodeSet.{Nodes, Holds}

@@ -1,5 +1,5 @@
 -- When an advice is valid.
-use Rattle.std.specs.Prelude.{◌≡◌, ℕ, ◌+◌, List, ◌++◌, length}
+use Rattle.std.specs.Prelude.{◌≡◌, ◌+◌, List, ◌++◌, length}
 use Rattle.cabling.specs.declared.cable.Cable.{Cable}
 use Rattle.cabling.specs.Wiring.{Wiring, NodeNumber}
 use Rattle.cabling.specs.NodeSet.{Nodes, size_below}

@@ -2,3 +2,4 @@
 -- one of these files.
 pub mod Marks
 pub mod Groups
+pub mod Collected

@@ -5,6 +5,7 @@
 
 mod advice;
 mod cable_list;
+mod cables_in_order;
 mod certificate;
 mod groups;
 mod laws;
@@ -12,6 +13,7 @@ mod marks;
 
 pub use advice::Advice;
 pub use cable_list::CableList;
+pub use cables_in_order::cables_of;
 pub use cabling::OutOfMemory;
 pub use certificate::check;
 pub use laws::{no_fewer_pulls_do, pulls_leave_a_tree};

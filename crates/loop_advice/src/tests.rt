@@ -1,4 +1,4 @@
-use crate::{Advice, CableList, check};
+use crate::{Advice, CableList, cables_of, check};
 use cabling::{Cable, Cabling, End};
 use std::alloc::Global;
 use std::test::Fail;
@@ -28,6 +28,8 @@ fn a_ring_with_a_tail(rt: HostRuntime) -> Result<(), Fail> {
         assert!(rt; cabling.plug(one.a, one.b).is_ok());
     }
     assert!(rt; cabling.nodes() == 4);
+    let all = cables_of(rt.alloc(), &cabling, 3)?;
+    assert_eq!(rt; all.as_slice(), list(rt.alloc(), &cables)?.as_slice());
     let good = Advice {
         pulls: list(rt.alloc(), &[[2, 0, 1, 1]])?,
         kept: list(rt.alloc(), &[[0, 2, 3, 0], [0, 0, 1, 0], [2, 1, 0, 1]])?,

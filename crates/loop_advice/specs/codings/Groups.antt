@@ -1,5 +1,5 @@
 -- Nodes in groups: two nodes are in one group where they have the same group number.
-use Rattle.std.specs.Prelude.{◌≡◌, ◌==◌, ℕ, if◌then◌else◌, List, slice_index}
+use Rattle.std.specs.Prelude.{◌==◌, ℕ, if◌then◌else◌, slice_index}
 use Rattle.cabling.specs.Wiring.{NodeNumber}
 use Rattle.loop_advice.specs.declared.groups.Groups.{Groups}
 

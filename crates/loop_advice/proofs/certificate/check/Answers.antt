@@ -1,13 +1,13 @@
-use Rattle.std.proofs.Common.{◌≡◌, ◌≢◌, ℕ, ◌+◌, ◌<◌, length, List, ◌++◌, Bool, true, false, MatchBool, sym, subst, ap, ◌∙◌, arith}
+use Rattle.std.proofs.Common.{◌≡◌, ℕ, ◌+◌, ◌<◌, length, List, ◌++◌, Bool, true, false, MatchBool, sym, subst, ap, ◌∙◌}
 use Rattle.cabling.specs.declared.cable.Cable.{Cable}
 use Rattle.cabling.specs.Wiring.{Wiring, IsCabling}
-use Rattle.cabling.specs.NodeSet.{Holds, size_below}
+use Rattle.cabling.specs.NodeSet.{size_below}
 use Rattle.cabling.specs.Component.{IsComponent}
 use Rattle.loop_advice.specs.Cables.{Lists, HoldsEachOnce, JoinAll}
 use Rattle.loop_advice.specs.Certificate.{IsCertificate}
 use Rattle.loop_advice.proofs.Listed.{lists_right}
 use Rattle.loop_advice.proofs.Marking.{few_nodes}
-use Rattle.loop_advice.proofs.Components.{HaveTheSame, one_component, same_size, same_each}
+use Rattle.loop_advice.proofs.Components.{one_component, same_size, same_each}
 use Rattle.loop_advice.proofs.certificate.check.Goals as goal
 
 small : (c : Wiring) (set : ℕ) (pulls kept list : List Cable) → IsCabling c → HoldsEachOnce c set (pulls ++ kept) → list ≡ kept → (x : Cable) → Lists list x → x.a.node < 63

@@ -1,8 +1,8 @@
-use Rattle.std.proofs.Common.{◌≡◌, ℕ, ◌+◌, ◌<◌, ◌≤◌, length, List, ◌∷◌, ◌++◌, suc, Some, Bool, true, false, MatchBool, take, drop, slice_get, refl, sym, subst, ap, arith, length-append}
+use Rattle.std.proofs.Common.{◌≡◌, ℕ, ◌≤◌, length, List, ◌++◌, suc, Some, Bool, true, false, MatchBool, take, drop, slice_get, refl, sym, subst, ap, arith, length-append}
 use Rattle.std.proofs.Math.Seq.{take_all}
 use Rattle.cabling.specs.declared.cable.Cable.{Cable}
 use Rattle.cabling.specs.Wiring.{Wiring, IsCabling}
-use Rattle.loop_advice.specs.Cables.{turned, Lists, HasNoneTwice, IsCableOf, HoldsEachOnce}
+use Rattle.loop_advice.specs.Cables.{Lists, HasNoneTwice, IsCableOf, HoldsEachOnce}
 use Rattle.loop_advice.specs.codings.Marks.{IsMarked, AreMarked}
 use Rattle.loop_advice.specs.declared.marks.Marks.{Marks}
 use Rattle.loop_advice.proofs.Listed.{take_next, parted, lists_at, once_parts, of_turned, not_true}

@@ -1,4 +1,4 @@
-use Rattle.std.proofs.Common.{◌≡◌, Bool, true, Option, Some, None, is_some, IsTrue, refl, sym, ◌∙◌}
+use Rattle.std.proofs.Common.{◌≡◌, true, Option, Some, None, is_some, refl, sym, ◌∙◌}
 use Rattle.cabling.specs.declared.cable.End.{End}
 use Rattle.loop_advice.proofs.Listed.{not_true}
 use Rattle.loop_advice.proofs.certificate.is_marked_at.Goals as goal

@@ -4,7 +4,7 @@ use Rattle.std.proofs.Math.Seq.{take_all}
 use Rattle.cabling.specs.declared.cable.Cable.{Cable}
 use Rattle.cabling.specs.NodeSet.{Holds}
 use Rattle.cabling.proofs.Bits.{below}
-use Rattle.loop_advice.specs.Cables.{turned, Lists, JoinAll, AreJoined}
+use Rattle.loop_advice.specs.Cables.{turned, Lists, JoinAll}
 use Rattle.loop_advice.specs.codings.Groups.{group, merged}
 use Rattle.loop_advice.specs.declared.groups.Groups.{Groups}
 use Rattle.loop_advice.proofs.Listed.{read_at, lists_at, lists_take, lists_turned, not_true}

@@ -1,12 +1,9 @@
-use Rattle.std.proofs.Common.{◌≡◌, ◌≢◌, ℕ, suc, ◌+◌, ◌^◌, ◌<◌, ◌≤◌, ◌⊎◌, inl, inr, List, [], ◌∷◌, ◌++◌, length, length-append, refl, sym, ap, ◌∙◌, arith}
+use Rattle.std.proofs.Common.{◌≡◌, ℕ, ◌+◌, ◌^◌, ◌<◌, ◌≤◌, ◌⊎◌, inl, inr, List, [], ◌∷◌, ◌++◌, length, length-append, refl, ap, ◌∙◌, arith}
 use Rattle.cabling.specs.declared.cable.Cable.{Cable}
-use Rattle.cabling.specs.Wiring.{Wiring, IsCabling}
-use Rattle.cabling.specs.NodeSet.{IsEmpty, size_below}
-use Rattle.cabling.specs.Component.{IsComponent}
-use Rattle.cabling.specs.Looped.{IsCore}
+use Rattle.cabling.specs.Wiring.{Wiring}
+use Rattle.cabling.specs.NodeSet.{size_below}
 use Rattle.cabling.proofs.Ends.{cases_end}
 use Rattle.loop_advice.specs.Cables.{turned, IsSame, Lists, HasNoneTwice, HoldsEachOnce}
-use Rattle.loop_advice.specs.Certificate.{IsCertificate}
 use Rattle.loop_advice.specs.Pulled.{ArePulled}
 use Rattle.loop_advice.proofs.Listed.{same_back, same_along}
 use Rattle.loop_advice.proofs.Marking.{cable}

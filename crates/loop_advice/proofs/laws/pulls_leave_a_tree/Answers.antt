@@ -1,16 +1,16 @@
-use Rattle.std.proofs.Common.{◌≡◌, ◌≢◌, ℕ, ◌+◌, ◌^◌, ◌<◌, inl, inr, ◌↔◌, Bool, true, eqb, List, ◌++◌, length, Some, refl, sym, subst, ap, ◌∙◌, arith}
+use Rattle.std.proofs.Common.{◌≡◌, ℕ, ◌^◌, ◌<◌, inl, inr, eqb, List, ◌++◌, Some, refl, sym, ap, ◌∙◌, arith}
 use Rattle.std.specs.Int.{bit_at}
 use Rattle.std.proofs.lemmas.Bool.Decides.{nat_tests}
 use Rattle.cabling.specs.declared.cable.End.{End}
 use Rattle.cabling.specs.declared.cable.Cable.{Cable}
 use Rattle.cabling.specs.Wiring.{Wiring, far, IsCabling}
-use Rattle.cabling.specs.NodeSet.{Holds, IsWithin, size_below}
-use Rattle.cabling.specs.Component.{IsClosed, IsComponent}
-use Rattle.cabling.specs.Looped.{HasTwo, IsLooped, IsCore}
+use Rattle.cabling.specs.NodeSet.{Holds}
+use Rattle.cabling.specs.Component.{IsComponent}
+use Rattle.cabling.specs.Looped.{HasTwo, IsCore}
 use Rattle.cabling.proofs.Bits.{clear_bit}
 use Rattle.cabling.proofs.Cascade.{holds_or_not}
 use Rattle.cabling.proofs.Near.{end_at}
-use Rattle.loop_advice.specs.Cables.{Lists, IsCableOf, NoneLeadsOut, HoldsEachOnce, JoinAll}
+use Rattle.loop_advice.specs.Cables.{Lists, NoneLeadsOut, HoldsEachOnce, JoinAll}
 use Rattle.loop_advice.specs.Certificate.{IsCertificate}
 use Rattle.loop_advice.specs.Pulled.{ArePulled}
 use Rattle.loop_advice.proofs.Listed.{once_apart, lists_append, lists_right}
