@@ -1,0 +1,5 @@
+pub mod Cables
+pub mod Certificate
+pub mod Order
+pub mod Pulled
+pub mod codings

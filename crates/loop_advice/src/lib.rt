@@ -1,0 +1,22 @@
+//! Which cables to pull where cables form a loop, and how such an advice is judged.
+//!
+//! `specs/Cables.antt` says what cables join, `specs/Certificate.antt` when an advice is valid.
+#![tactic(auto)]
+
+mod advice;
+mod cable_list;
+mod cables_in_order;
+mod certificate;
+mod groups;
+mod laws;
+mod marks;
+
+pub use advice::Advice;
+pub use cable_list::CableList;
+pub use cables_in_order::cables_of;
+pub use cabling::OutOfMemory;
+pub use certificate::check;
+pub use laws::{no_fewer_pulls_do, pulls_leave_a_tree};
+
+#[cfg(test)]
+mod tests;
