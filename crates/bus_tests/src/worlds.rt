@@ -14,6 +14,7 @@ use self_id::Attrs;
 use std::alloc::{AllocError, Global};
 use std::process::Abort;
 use std::test::Fail;
+use world_agenda::AgendaWorld;
 
 /// What a node of a test is made of; the rest is usual.
 #[derive(Clone, Copy)]
@@ -160,6 +161,22 @@ fn world(
     Ok(World::new(alloc, d, machines(alloc, nodes, d, packed)?)?)
 }
 
+/// The same world, which passes over the turns in which nothing happens.
+fn agenda(
+    rt: &impl Abort,
+    alloc: Global,
+    nodes: &[Node],
+    d: u8,
+    packed: bool,
+) -> Result<AgendaWorld<AnyMachine>, Fail>
+    ensures { IfOk result (λ made.
+        length (⟦<AgendaWorld<AnyMachine> as WorldRun>⟧.world made).nodes ≡ length nodes.now) }
+{
+    assert!(rt; 1 <= d && d <= 16);
+    assert!(rt; nodes.len() <= 63);
+    Ok(AgendaWorld::new(alloc, d, machines(alloc, nodes, d, packed)?)?)
+}
+
 fn end(node: u8, port: u8) -> End {
     End { node, port }
 }
@@ -247,6 +264,26 @@ fn take_all<W: WorldRun>(
 {
     for step in steps {
         take(rt, world, nodes, *step, name)?;
+    }
+    Ok(())
+}
+
+/// Takes steps with these nodes in both worlds, over both machines.
+fn take_in_all(
+    rt: &impl Abort,
+    alloc: Global,
+    nodes: &[Node],
+    d: u8,
+    steps: &[Step],
+    name: &str,
+) -> Result<(), Fail> {
+    assert!(rt; nodes.len() <= 63);
+    let count = nodes.len() as u8;
+    for packed in [false, true] {
+        let mut world = world(rt, alloc, nodes, d, packed)?;
+        take_all(rt, &mut world, count, steps, name)?;
+        let mut agenda = agenda(rt, alloc, nodes, d, packed)?;
+        take_all(rt, &mut agenda, count, steps, name)?;
     }
     Ok(())
 }
@@ -488,10 +525,7 @@ fn nodes_show_what_was_worked_out(rt: HostRuntime) -> Result<(), Fail> {
         ("a cable pulled and plugged", &[USUAL, ONES], AGAIN),
         ("a desk", DESK_NODES, DESK),
     ] {
-        for packed in [false, true] {
-            let mut world = world(&rt, rt.alloc(), nodes, 4, packed)?;
-            take_all(&rt, &mut world, nodes.len() as u8, steps, name)?;
-        }
+        take_in_all(&rt, rt.alloc(), nodes, 4, steps, name)?;
     }
     Ok(())
 }
@@ -525,10 +559,7 @@ const FAR: &[Step] = &[
 #[test]
 fn delays(rt: HostRuntime) -> Result<(), Fail> {
     for (d, steps) in [(1, NEAR), (16, FAR)] {
-        for packed in [false, true] {
-            let mut world = world(&rt, rt.alloc(), &[USUAL, ONES], d, packed)?;
-            take_all(&rt, &mut world, 2, steps, "two nodes")?;
-        }
+        take_in_all(&rt, rt.alloc(), &[USUAL, ONES], d, steps, "two nodes")?;
     }
     Ok(())
 }
@@ -555,6 +586,10 @@ fn a_line_of_the_most_nodes(rt: HostRuntime) -> Result<(), Fail> {
         let middle = [Turns(2_000), See(31, Parent(None)), See(31, Id(Some(62)))];
         take_all(&rt, &mut world, 63, &middle, "line")?;
         agree(&rt, &world, 63, 63);
+        let mut agenda = agenda(&rt, rt.alloc(), &[USUAL; 63], 4, packed)?;
+        take_all(&rt, &mut agenda, 63, &cables, "line")?;
+        take_all(&rt, &mut agenda, 63, &middle, "line")?;
+        agree(&rt, &agenda, 63, 63);
     }
     Ok(())
 }
@@ -573,6 +608,10 @@ fn a_node_with_the_most_neighbours(rt: HostRuntime) -> Result<(), Fail> {
         let hub = [Turns(2_000), See(0, Parent(None)), See(0, Id(Some(16)))];
         take_all(&rt, &mut world, 17, &hub, "star")?;
         agree(&rt, &world, 17, 19);
+        let mut agenda = agenda(&rt, rt.alloc(), &nodes, 4, packed)?;
+        take_all(&rt, &mut agenda, 17, &cables, "star")?;
+        take_all(&rt, &mut agenda, 17, &hub, "star")?;
+        agree(&rt, &agenda, 17, 19);
     }
     Ok(())
 }
