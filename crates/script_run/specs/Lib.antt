@@ -8,4 +8,5 @@ pub mod Key
 pub mod Node
 pub mod Line
 pub mod Answer
+pub mod Summary
 pub mod codings

@@ -11,6 +11,7 @@ mod command;
 mod fixed;
 mod key;
 mod kind;
+mod last_report;
 mod laws;
 mod line;
 mod node;
@@ -21,6 +22,7 @@ mod words;
 
 pub use command::Command;
 pub use kind::{Kind, LineStop};
+pub use last_report::summary;
 pub use laws::one_reading;
 pub use line::parse_line;
 pub use topology_stack::{Name, OutOfMemory};
