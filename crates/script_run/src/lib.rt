@@ -17,6 +17,7 @@ mod line;
 mod node;
 mod number;
 mod pairs;
+mod report;
 mod word;
 mod words;
 
@@ -25,6 +26,7 @@ pub use kind::{Kind, LineStop};
 pub use last_report::summary;
 pub use laws::one_reading;
 pub use line::parse_line;
+pub use report::report_text;
 pub use topology_stack::{Name, OutOfMemory};
 
 #[cfg(test)]
