@@ -161,7 +161,7 @@ fn values(rt: HostRuntime) -> Result<(), Fail> {
 fn last_reports(rt: HostRuntime) -> Result<(), Fail> {
     let text = b"report 1 turn 5\nnode 0\n\nreport 2 turn 9\ntree root a\nnode 0 link 1\nnodes 1\n";
     let shown = summary(rt.alloc(), text)?;
-    assert!(rt; shown.as_slice() == b"report 2 turn 9\ntree root a\nnodes 1\n");
+    assert!(rt; shown.as_slice() == b"report 2 turn 9\ntree root a\nnodes 1\n".as_slice());
     let none = summary(rt.alloc(), b"node 0\nreports\n")?;
     assert!(rt; none.is_empty());
     Ok(())
