@@ -1,5 +1,5 @@
 -- Cutting a text behind its first line.
-use Rattle.std.proofs.Common.{◌≡◌, ℕ, ◌+◌, ◌<◌, ◌≤◌, List, [], ◌∷◌, ◌++◌, Some, None, true, false, Bool, suc, length, take, drop, refl, ap, arith}
+use Rattle.std.proofs.Common.{◌≡◌, ℕ, ◌+◌, ◌<◌, ◌≤◌, List, [], ◌∷◌, Some, None, true, false, Bool, suc, length, take, drop, refl, ap, arith}
 use Rattle.std.specs.Prelude.{position, not, cond, ◌||◌}
 use Rattle.std.specs.List.{position_or_len, onto_first, list_any}
 use Rattle.std.proofs.lemmas.Bool.Decides.{nat_tests}

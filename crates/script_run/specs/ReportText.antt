@@ -1,9 +1,9 @@
 -- The text of a report.
-use Rattle.std.specs.Prelude.{◌≡◌, ℕ, zero, suc, ◌<◌, ◌==◌, Option, Some, None, List, [], ◌∷◌, ◌++◌, All, length, map, slice_get, unwrap_or, cond, codes, decimal}
+use Rattle.std.specs.Prelude.{◌≡◌, ℕ, zero, suc, ◌<◌, ◌==◌, List, [], ◌∷◌, ◌++◌, All, length, map, slice_get, unwrap_or, cond, codes, decimal}
 use Rattle.std.specs.Int.{bit_at}
 use Rattle.topology_stack.specs.Tree.{Tree, IsBusTree, walk, emits}
 use Rattle.topology_stack.specs.Text.{tree_text}
-use Rattle.cabling.specs.NodeSet.{Nodes, Holds, size_below}
+use Rattle.cabling.specs.NodeSet.{Nodes, Holds}
 use Rattle.settle.specs.declared.report.Outcome.{Outcome}
 use Rattle.settle.specs.declared.report.Outcome.TheVariants as reported
 use Rattle.settle.specs.declared.report.Part.{Part}
