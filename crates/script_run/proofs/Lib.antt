@@ -5,3 +5,5 @@ pub mod GivenValues
 pub mod CoinBits
 pub mod Uniform
 pub mod LineRead
+pub mod TextLines
+pub mod ReportParts

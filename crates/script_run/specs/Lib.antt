@@ -8,4 +8,6 @@ pub mod Key
 pub mod Node
 pub mod Line
 pub mod Answer
+pub mod ReportText
+pub mod Summary
 pub mod codings

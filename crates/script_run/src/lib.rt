@@ -11,18 +11,22 @@ mod command;
 mod fixed;
 mod key;
 mod kind;
+mod last_report;
 mod laws;
 mod line;
 mod node;
 mod number;
 mod pairs;
+mod report;
 mod word;
 mod words;
 
 pub use command::Command;
 pub use kind::{Kind, LineStop};
+pub use last_report::summary;
 pub use laws::{names_are_tested, one_reading};
 pub use line::parse_line;
+pub use report::report_text;
 pub use topology_stack::{Name, OutOfMemory};
 
 #[cfg(test)]

@@ -1,6 +1,8 @@
-use crate::{Command, Kind, LineStop, parse_line};
+use crate::{Command, Kind, LineStop, parse_line, report_text, summary};
+use settle::{PartList, Report};
 use std::alloc::Global;
 use std::test::Fail;
+use topology_stack::NameList;
 
 /// The fault of a line, if it has one.
 fn fault(alloc: Global, line: &[u8], d: u8) -> Option<Kind> {
@@ -154,5 +156,26 @@ fn values(rt: HostRuntime) -> Result<(), Fail> {
         }
         _ => assert!(rt; false),
     }
+    Ok(())
+}
+
+#[test]
+fn last_reports(rt: HostRuntime) -> Result<(), Fail> {
+    let text = b"report 1 turn 5\nnode 0\n\nreport 2 turn 9\ntree root a\nnode 0 link 1\nnodes 1\n";
+    let shown = summary(rt.alloc(), text)?;
+    assert!(rt; shown.as_slice() == b"report 2 turn 9\ntree root a\nnodes 1\n".as_slice());
+    let none = summary(rt.alloc(), b"node 0\nreports\n")?;
+    assert!(rt; none.is_empty());
+    Ok(())
+}
+
+#[test]
+fn report_of_no_nodes(rt: HostRuntime) -> Result<(), Fail> {
+    let report = Report {
+        turn: 40,
+        parts: PartList::new(rt.alloc()),
+    };
+    let text = report_text(rt.alloc(), &report, 2, &NameList::new(rt.alloc()))?;
+    assert!(rt; text.as_slice() == b"report 2 turn 40\n".as_slice());
     Ok(())
 }
