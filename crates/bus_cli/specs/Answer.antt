@@ -17,7 +17,7 @@ use Rattle.bus_cli.specs.declared.fault.CaptureFault.{CaptureFault}
 use Rattle.bus_cli.specs.Form.{Asks, AsksCapture, IsForm}
 use Rattle.bus_cli.specs.Capture.{Spells, CaptureRefused}
 use Rattle.bus_cli.specs.Line.{fault_line, rom_line}
-use Rattle.bus_cli.specs.Maps.{IsMapsText}
+use Rattle.script_run.specs.Maps.{IsMapsText}
 
 -- the bytes are those of the ROM, and none of its blocks has a fault
 pub record TellsRom (bytes : List ℕ) (v : Parts) : Type 0 where

@@ -2,7 +2,6 @@ pub mod Answer
 pub mod Capture
 pub mod Form
 pub mod Line
-pub mod Maps
 pub mod OneOutcome
 pub mod OneReading
 pub mod Stop

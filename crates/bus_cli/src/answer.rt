@@ -14,11 +14,11 @@ use crate::fault::CaptureStop;
 use crate::form::{CaptureForm, Form};
 use crate::input::{MAX_INPUT, read_input};
 use crate::line::{FaultLine, fault_line};
-use crate::maps::maps_text;
 use crate::rom::answer_to_rom;
 use crate::status::{REFUSED, VALID};
 use io_edges::{ReadStop, Source, read_all};
 use quad_lanes::OutOfMemory;
+use script_run::maps_text;
 use std::alloc::Global;
 use topology_stack::{BusTree, NameList, tree_text};
 

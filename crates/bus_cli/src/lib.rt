@@ -8,7 +8,6 @@ mod form;
 mod input;
 mod laws;
 mod line;
-mod maps;
 mod reader;
 mod rom;
 mod status;

@@ -7,3 +7,4 @@ pub mod Uniform
 pub mod LineRead
 pub mod TextLines
 pub mod ReportParts
+pub mod OneMaps

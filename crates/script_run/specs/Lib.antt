@@ -10,4 +10,9 @@ pub mod Line
 pub mod Answer
 pub mod ReportText
 pub mod Summary
+pub mod Maps
+pub mod Bus
+pub mod CommandText
+pub mod Step
+pub mod Script
 pub mod codings

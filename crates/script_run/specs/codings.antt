@@ -1,3 +1,5 @@
 pub mod Digits
 pub mod Reading
 pub mod Appended
+pub mod Running
+pub mod Stop

@@ -1,6 +1,8 @@
 //! What is wrong with a line of a script.
 ghost use Rattle.std.specs.Prelude.{◌≡◌};
 
+use cable_world::ActStop;
+use cabling::CableFault;
 use std::alloc::{AllocError, AllocFailed};
 use thiserror::Error;
 use topology_stack::OutOfMemory;
@@ -42,6 +44,36 @@ pub enum Kind {
     TooManyMaps,
 }
 
+/// The fault of a script.
+#[derive(Clone, Copy, Debug, PartialEq, Eq)]
+pub struct ScriptFault {
+    /// The line, from 1. A fault at the end of the script has the number of lines and 1.
+    pub line: u32,
+    /// What is wrong.
+    pub kind: Kind,
+}
+
+/// Why a script has no text.
+#[derive(Debug, Drop, Error)]
+pub enum ScriptStop {
+    /// This is the fault of its first bad line.
+    #[error("refused: {0:?}")]
+    Fault(ScriptFault),
+    /// There was no memory.
+    #[error("out of memory")]
+    Memory(OutOfMemory),
+}
+
+impl From<AllocError> for ScriptStop {
+    ghost use Rattle.script_run.specs.declared.kind.ScriptStop.TheVariants.{Memory};
+
+    ghost from_gives = { λ x e. e ≡ Memory x };
+
+    fn from(error: AllocError) -> ScriptStop {
+        ScriptStop::Memory(error)
+    }
+}
+
 /// Why `parse_line` answers no command.
 #[derive(Debug, Drop, Error)]
 pub enum LineStop {
@@ -81,5 +113,34 @@ impl From<Kind> for LineStop {
 
     fn from(kind: Kind) -> LineStop {
         LineStop::Fault(kind)
+    }
+}
+
+impl From<ActStop> for LineStop {
+    ghost use Rattle.script_run.specs.codings.Stop.{of_act};
+
+    ghost from_gives = { λ stop e. e ≡ of_act stop };
+
+    fn from(stop: ActStop) -> LineStop {
+        match stop {
+            ActStop::Fault(fault) => LineStop::Fault(fault.into()),
+            ActStop::Memory(error) => LineStop::Memory(error),
+        }
+    }
+}
+
+impl From<CableFault> for Kind {
+    ghost use Rattle.script_run.specs.Step.{kind_of};
+
+    ghost from_gives = { λ fault kind. kind ≡ kind_of fault };
+
+    fn from(fault: CableFault) -> Kind {
+        match fault {
+            CableFault::NoNode { .. } => Kind::NoNode,
+            CableFault::NoPort { .. } => Kind::NoPort,
+            CableFault::InUse { .. } => Kind::InUse,
+            CableFault::SameNode { .. } => Kind::SameNode,
+            CableFault::NotPlugged { .. } => Kind::NotPlugged,
+        }
     }
 }

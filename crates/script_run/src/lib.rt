@@ -6,6 +6,8 @@
 
 mod acts;
 mod asks;
+mod bank;
+mod bus;
 mod coins;
 mod command;
 mod fixed;
@@ -14,18 +16,21 @@ mod kind;
 mod last_report;
 mod laws;
 mod line;
+mod maps;
 mod node;
 mod number;
 mod pairs;
 mod report;
+mod table;
 mod word;
 mod words;
 
 pub use command::Command;
-pub use kind::{Kind, LineStop};
+pub use kind::{Kind, LineStop, ScriptFault, ScriptStop};
 pub use last_report::summary;
 pub use laws::{names_are_tested, one_reading};
 pub use line::parse_line;
+pub use maps::maps_text;
 pub use report::report_text;
 pub use topology_stack::{Name, OutOfMemory};
 

@@ -1,6 +1,6 @@
 //! The text of a tree's maps.
 ghost use Rattle.std.specs.Prelude.{◌≡◌, ◌<◌, ◌∷◌, [], ◌++◌, IfOk, OnOk};
-ghost use Rattle.bus_cli.specs.Maps.{quad_line, quad_lines, IsMapsText};
+ghost use Rattle.script_run.specs.Maps.{quad_line, quad_lines, IsMapsText};
 
 use quad_lanes::OutOfMemory;
 use std::alloc::Global;
@@ -28,7 +28,7 @@ fn put_quads(out: &mut Vec<u8>, quads: &[u32]) -> Result<(), OutOfMemory>
 
 /// The topology map and the speed map of a tree with this generation, as images in eight
 /// hexadecimal digits a quadlet, a quadlet a line, each behind a line that names it.
-pub(crate) fn maps_text(
+pub fn maps_text(
     alloc: Global,
     tree: &BusTree,
     generation: u32,

@@ -1,0 +1,52 @@
+-- The bus of a script as the code keeps it.
+use Rattle.std.specs.Prelude.{◌≡◌, ℕ, ◌≤◌, List, length, map, Option, Some, Result, Ok, Err, IfSome, IsFalse, Bool}
+use Rattle.cable_world.specs.World.{CableWorld}
+use Rattle.cable_world.specs.Lawful.{IsWellFormed}
+use Rattle.script_run.specs.declared.kind.Kind.{Kind}
+use Rattle.script_run.specs.declared.kind.LineStop.{LineStop}
+use Rattle.script_run.specs.declared.kind.LineStop.TheVariants.{Fault, Memory}
+use Rattle.script_run.specs.declared.bus.Notes as kept
+use Rattle.script_run.specs.declared.bus.Bus as running
+use Rattle.script_run.specs.declared.bus.Reported as shown
+use Rattle.script_run.specs.ReportText.{IsNamedReport}
+use Rattle.script_run.specs.Bus.{Notes, Bus, Reported}
+use Rattle.script_run.specs.Step.{LineAnswer}
+
+abbrev pub notes_now : kept.Notes → Notes
+notes_now notes = record {
+  names = notes.names;
+  banks = notes.banks.items;
+  looks = notes.looks.items;
+  report = notes.report;
+  reports = notes.reports;
+  maps = notes.maps;
+}
+
+abbrev pub bus_now : {W : Type 0} → (W → CableWorld) → running.Bus W → Bus
+bus_now world bus = record { world = world bus.world; notes = notes_now bus.notes }
+
+abbrev pub reported : shown.Reported → Reported
+reported tree = record { root = tree.root; list = tree.list.now; order = tree.order.now }
+
+-- what holds of a bus between two lines
+pub record IsBus (bus : Bus) : Type 0 where
+  pub formed : IsWellFormed bus.world
+  pub names : length bus.notes.names ≡ length bus.world.nodes
+  pub banks : length bus.notes.banks ≡ length bus.world.nodes
+  pub looks : length bus.notes.looks ≡ length bus.world.nodes
+  pub few : length bus.world.nodes ≤ 63
+  pub turns : bus.world.turns ≤ 2000000
+  pub reports : bus.notes.reports ≤ bus.world.turns
+  pub maps : bus.notes.maps ≤ 100
+  pub report : IfSome bus.notes.report (λ report. IsNamedReport bus.notes.names report)
+
+-- the bus is sound, and its world isn't spent
+pub record IsSound {W : Type 0} (world : W → CableWorld) (spent : W → Bool) (b : running.Bus W) :
+    Type 0 where
+  pub bus : IsBus (bus_now world b)
+  pub fine : IsFalse (spent b.world)
+
+-- a fault is what the line comes to
+abbrev pub Stops : (LineAnswer → Type 0) → LineStop → Type 0
+Stops comes (Fault kind) = comes (Err kind)
+Stops comes (Memory none) = Unit {0}
