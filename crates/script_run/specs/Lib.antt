@@ -9,5 +9,7 @@ pub mod Node
 pub mod Line
 pub mod Answer
 pub mod ReportText
+pub mod CanBeShown
+pub mod OneText
 pub mod Summary
 pub mod codings

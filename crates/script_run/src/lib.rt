@@ -24,7 +24,7 @@ mod words;
 pub use command::Command;
 pub use kind::{Kind, LineStop};
 pub use last_report::summary;
-pub use laws::{names_are_tested, one_reading};
+pub use laws::{names_are_tested, one_reading, reports_can_be_shown, reports_have_one_text};
 pub use line::parse_line;
 pub use report::report_text;
 pub use topology_stack::{Name, OutOfMemory};
