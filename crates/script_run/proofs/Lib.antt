@@ -8,3 +8,5 @@ pub mod LineRead
 pub mod TextLines
 pub mod ReportParts
 pub mod OneMaps
+pub mod NamedReports
+pub mod OneText

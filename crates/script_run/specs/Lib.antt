@@ -9,6 +9,8 @@ pub mod Node
 pub mod Line
 pub mod Answer
 pub mod ReportText
+pub mod CanBeShown
+pub mod OneText
 pub mod Summary
 pub mod Maps
 pub mod Bus

@@ -1,6 +1,13 @@
-//! Laws of lines.
+//! Laws of lines and of reports.
+ghost use Rattle.std.specs.Prelude.{IsFalse};
 ghost use Rattle.script_run.specs.Answer.{OneReading, SomeReading};
 ghost use Rattle.script_run.specs.Name.{NamesAreTested};
+ghost use Rattle.script_run.specs.CanBeShown.{CanBeShown};
+ghost use Rattle.script_run.specs.OneText.{ReportsHaveOneText};
+
+use cable_world::WorldRun;
+use settle::reports_are_read_back;
+use topology_stack::one_tree;
 
 /// A law: each line of a script is nothing, a command or at fault, and no line is two of them.
 #[tactic(auto, using(crate::proofs::LineRead::one_reading, crate::proofs::LineRead::some_reading))]
@@ -13,3 +20,19 @@ pub fn one_reading()
 pub fn names_are_tested()
     ensures { NamesAreTested }
 {}
+
+/// A law: a report of a world that isn't spent, as `settle` gives it, can be shown by `report_text`
+/// where there are as many names as the world has nodes.
+pub fn reports_can_be_shown<W: WorldRun>(world: &W)
+    requires { IsFalse (W.is_spent world.now) }
+    ensures { CanBeShown (W.world world.now) }
+{
+    reports_are_read_back();
+}
+
+/// A law: a report has one text at most.
+pub fn reports_have_one_text()
+    ensures { ReportsHaveOneText }
+{
+    one_tree();
+}

@@ -8,5 +8,7 @@ pub mod Settled
 pub mod Greatest
 -- all components
 pub mod PartsSoFar
+pub mod ReadBack
+pub mod OneReport
 -- the turns before
 pub mod TurnsGiven

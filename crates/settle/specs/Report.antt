@@ -10,6 +10,10 @@ use Rattle.settle.specs.declared.report.Part.{Part}
 use Rattle.settle.specs.declared.report.Report.{Report}
 use Rattle.settle.specs.Reported.{IsReported}
 
+-- the nodes of the set exist
+abbrev pub AreThere : CableWorld → NodeSet → Type 0
+AreThere w set = (k : NodeNumber) → Holds set k → k < length w.cabling
+
 -- ---- numbers of a component
 
 -- the greatest of the numbers of the nodes of a set
@@ -33,6 +37,7 @@ LastChanged w k n = slice_get w.changed k ≡ Some n
 pub record IsPart (w : CableWorld) (part : Part) : Type 0 where
   pub node : NodeNumber
   pub component : IsComponent w.cabling node part.nodes
+  pub there : AreThere w part.nodes
   pub rounds : IsGreatest part.nodes (Drew w) part.rounds
   pub changed : IsGreatest part.nodes (LastChanged w) part.changed
   pub outcome : IsReported w part.nodes part.outcome

@@ -5,6 +5,7 @@
 #![tactic(auto)]
 
 mod contention;
+mod laws;
 mod part;
 mod quiet;
 mod report;
@@ -12,6 +13,7 @@ mod settling;
 mod tree;
 
 pub use cabling::OutOfMemory;
+pub use laws::{reports_are_one, reports_are_read_back};
 pub use quiet::quiet_turns;
 pub use report::{Outcome, Part, PartList, Report};
 pub use settling::settle;

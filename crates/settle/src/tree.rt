@@ -5,7 +5,8 @@ ghost use Rattle.cabling.specs.NodeSet.{Holds};
 ghost use Rattle.cable_world.specs.Lawful.{IsWellFormed};
 ghost use Rattle.cable_world.specs.Outcome.{HasNoLoop, attrs_now};
 ghost use Rattle.settle.specs.Reported.{IsReported, IsNoTree};
-ghost use Rattle.settle.specs.codings.Reading.{AreThere, IsShown, ShowsNone, IsTop, HasNoTop, FitsTree, AllFit};
+ghost use Rattle.settle.specs.Report.{AreThere};
+ghost use Rattle.settle.specs.codings.Reading.{IsShown, ShowsNone, IsTop, HasNoTop, FitsTree, AllFit};
 
 use crate::report::Outcome;
 use cable_world::WorldRun;

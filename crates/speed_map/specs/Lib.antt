@@ -1,3 +1,4 @@
 pub mod Path
 pub mod Rows
+pub mod SameBus
 pub mod codings

@@ -4,11 +4,13 @@
 
 mod paths;
 mod row;
+mod same_bus;
 mod sealed;
 mod sweeps;
 
 pub use paths::one_path;
 pub use quad_lanes::OutOfMemory;
+pub use same_bus::equal_lists_make_one_bus;
 pub use sealed::image;
 pub use sweeps::rows;
 

@@ -12,10 +12,6 @@ use Rattle.cable_world.specs.Run.{IsReached}
 use Rattle.cable_world.specs.Outcome.{AtNode, Shows, DrewAlike}
 use Rattle.settle.specs.Report.{IsAfterQuiet}
 
--- the nodes of the set exist
-abbrev pub AreThere : CableWorld → NodeSet → Type 0
-AreThere w set = (k : NodeNumber) → Holds set k → k < length w.cabling
-
 -- the set is the component of a node
 abbrev pub IsPartOf : CableWorld → NodeSet → Type 0
 IsPartOf w set = (node : NodeNumber) × IsComponent w.cabling node set

@@ -1,0 +1,119 @@
+-- The list of a reported tree is read back.
+use Rattle.std.proofs.Common.{◌≡◌, ℕ, ◌+◌, ◌-◌, ◌^◌, ◌<◌, ◌≤◌, inl, inr, None, List, All, map, length, sym, ◌∙◌, ap, subst, arith, bit_and}
+use Rattle.std.specs.Int.{bit_at}
+use Rattle.std.proofs.lemmas.Bool.{cases_lt}
+use Rattle.std.proofs.lemmas.Nat.{and_le_r, pow_pos}
+use Rattle.std.proofs.lemmas.Nat.Bits.{bit_at-lt, bit_at_and, bit_at_ones, bit_at_ones_above, same_from_bits}
+use Rattle.std.proofs.lemmas.List.{length-map}
+use Rattle.std.proofs.lemmas.List.Elements.{All-map, All-weaker}
+use Rattle.topology_stack.specs.Tree.{Tree, IsBusTree, walk, emits}
+use Rattle.topology_stack.specs.OneAnswer.{NoListHasTwoTrees}
+use Rattle.cabling.specs.Wiring.{IsCabling}
+use Rattle.cabling.specs.NodeSet.{Holds}
+use Rattle.cabling.specs.Component.{IsComponent}
+use Rattle.cabling.specs.Labels.{labels}
+use Rattle.cabling.specs.Sees.{Sees, numbers}
+use Rattle.cabling.specs.codings.Visits.{visits, at_root}
+use Rattle.cabling.specs.codings.Shown.{shown_node}
+use Rattle.cabling.proofs.Bits.{clear_bit}
+use Rattle.cabling.proofs.OneTree.{one-tree}
+use Rattle.cabling.proofs.Shown.{Fit, labels_fit, bus_seen, walk_seen, good_at, good_root, good_visits}
+use Rattle.cabling.proofs.Small.{Loopless, loopless, tree_few}
+use Rattle.cabling.proofs.Waiting.{node_of, nodes-visits, length-visits}
+use Rattle.cabling.proofs.Whole.{shared}
+use Rattle.cable_world.specs.World.{CableWorld}
+use Rattle.cable_world.specs.Lawful.{IsWellFormed}
+use Rattle.cable_world.specs.Run.{IsReached}
+use Rattle.cable_world.specs.Outcome.{IsTree, attrs_now}
+use Rattle.cable_world.proofs.running.Whole.{lawful-now}
+use Rattle.port_state.specs.Group.{shown_attrs}
+use Rattle.port_state.specs.Machine.{PortNode}
+use Rattle.settle.specs.declared.report.Outcome.{Outcome}
+use Rattle.settle.specs.declared.report.Outcome.TheVariants as reported
+use Rattle.settle.specs.declared.report.Part.{Part}
+use Rattle.settle.specs.declared.report.Report.{Report}
+use Rattle.settle.specs.Report.{AreThere, IsPart, IsReport}
+use Rattle.settle.specs.Reported.{IsReported, ReportsTree}
+use Rattle.settle.specs.ReadBack.{IsSeen, IsReadBack, IsTheCables, IfTree, AtTrees}
+use Rattle.settle.proofs.Shown.{attrs-fit}
+
+-- a number all of whose bits are below k is below 2 ^ k
+pub small-set : (set k : ℕ) → ((i : ℕ) → Holds set i → i < k) → set < 2 ^ k
+small-set set k within =
+    let same : set ≡ bit_and set (2 ^ k - 1) = same_from_bits set (bit_and set (2 ^ k - 1)) (λ i. bits i) in
+    omega (arith, same, and_le_r set (2 ^ k - 1), pow_pos k)
+  where
+    bits : (i : ℕ) → bit_at set i ≡ bit_at (bit_and set (2 ^ k - 1)) i
+    bits i = elim (cases_lt i k) [
+      | inl less ↦ sym (bit_at_and set (2 ^ k - 1) i ∙ rw (bit_at_ones k i less) (omega (arith, bit_at-lt set i)))
+      | inr more ↦
+          let none : bit_at set i ≡ 0 = clear_bit set i (λ h. omega (arith, within i h, more)) in
+          none ∙ sym (bit_at_and set (2 ^ k - 1) i ∙ rw (none) (omega arith))
+    ]
+
+module _ (w : CableWorld) (formed : IsWellFormed w) where
+  entries : length (attrs_now w) ≡ length w.cabling
+  entries = length-map w.nodes (λ (x : PortNode). shown_attrs x.state) ∙ formed.count
+
+  fit : Fit w.cabling (labels (attrs_now w))
+  fit = labels_fit w.cabling (attrs_now w) entries (attrs-fit w formed)
+
+  module _ (set node root : ℕ) (t : Tree) (is : IsComponent w.cabling node set) (there : AreThere w set) (h : IsTree w set root t) where
+    top : root < length w.cabling
+    top = there root h.holds_root
+
+    small : set < 2 ^ 63
+    small = small-set set 63 (λ i inside. omega (arith, there i inside, formed.cabling.few_nodes))
+
+    no-loop : Loopless w.cabling root set
+    no-loop = loopless w.cabling root set h.no_loop.core formed.cabling top (shared w.cabling node root set formed.cabling is h.holds_root) small h.no_loop.is_core h.no_loop.empty
+
+    walk-length : length (numbers w.cabling root t) ≡ length (walk t)
+    walk-length =
+        sym (length-visits w.cabling (at_root root) t)
+        ∙ sym (length-map (visits w.cabling (at_root root) t) (shown_node w.cabling (labels (attrs_now w))))
+        ∙ sym (ap length (walk_seen w.cabling (labels (attrs_now w)) (at_root root) t formed.cabling top h.seen))
+
+    nodes-there : All (λ (k : ℕ). k < length w.cabling) (numbers w.cabling root t)
+    nodes-there =
+        subst (All (λ (k : ℕ). k < length w.cabling)) (nodes-visits w.cabling (at_root root) t)
+        (All-map (λ (k : ℕ). k < length w.cabling) node_of (visits w.cabling (at_root root) t) (λ i d inside.
+        (good_at w.cabling (visits w.cabling (at_root root) t) i d
+        (good_visits w.cabling (labels (attrs_now w)) (at_root root) t formed.cabling (good_root w.cabling root top) h.seen) inside).there))
+
+    pub read-back : (list order : List ℕ) → list ≡ emits t → order ≡ numbers w.cabling root t → IsReadBack w root list order
+    read-back list order emitted walked = record {
+      tree = t;
+      bus = bus_seen w.cabling (labels (attrs_now w)) root t formed.cabling fit top h.seen (tree_few w.cabling (labels (attrs_now w)) root set t no-loop h.seen);
+      emitted = sym emitted;
+      seen = h.seen;
+      walked = walked;
+      whole = ap length walked ∙ walk-length;
+      top = top;
+      there = subst (All (λ (k : ℕ). k < length w.cabling)) (sym walked) nodes-there;
+    }
+
+  pub outcome-read : (set node : ℕ) (o : Outcome) → IsComponent w.cabling node set → AreThere w set → IsReported w set o → IfTree (IsReadBack w) o
+  outcome-read set node (reported.Tree root list order) is there h = read-back set node root h.tree is there h.is list order h.emitted h.walked
+  outcome-read set node (reported.Contention a b) is there h = tt
+  outcome-read set node (reported.Loop core) is there h = tt
+
+  pub part-read : (part : Part) → IsPart w part → IfTree (IsReadBack w) part.outcome
+  part-read part p = outcome-read part.nodes p.node part.outcome p.component p.there p.outcome
+
+pub lists-read : (w : CableWorld) (report : Report) → ∥ IsReached w ∥₁ → IsReport w report → AtTrees (IsReadBack w) report
+lists-read w report r is =
+    All-weaker (IsPart w) (λ (part : Part). IfTree (IsReadBack w) part.outcome) (part-read w (lawful-now w r).well_formed) report.parts is.parts.each
+
+-- ---- and the tree is that of the cables
+
+read-cables : NoListHasTwoTrees → (w : CableWorld) (o : Outcome) → IfTree (IsReadBack w) o → IfTree (λ root list order. IsTheCables w root list) o
+read-cables one w (reported.Tree root list order) h = λ t u bus emitted seen.
+    one t h.tree bus h.bus (emitted ∙ sym h.emitted) ∙ one-tree w.cabling (labels (attrs_now w)) root None h.tree u h.seen seen
+read-cables one w (reported.Contention a b) h = tt
+read-cables one w (reported.Loop core) h = tt
+
+pub lists-cables : NoListHasTwoTrees → (w : CableWorld) (report : Report) → ∥ IsReached w ∥₁ → IsReport w report → AtTrees (λ root list order. IsTheCables w root list) report
+lists-cables one w report r is =
+    All-weaker (λ (part : Part). IfTree (IsReadBack w) part.outcome) (λ (part : Part). IfTree (λ root list order. IsTheCables w root list) part.outcome)
+    (λ part h. read-cables one w part.outcome h) report.parts (lists-read w report r is)
