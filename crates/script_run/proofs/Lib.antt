@@ -10,3 +10,4 @@ pub mod ReportParts
 pub mod OneMaps
 pub mod NamedReports
 pub mod OneText
+pub mod Turns

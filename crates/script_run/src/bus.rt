@@ -1,5 +1,5 @@
 //! The bus of a script: acts, turns and reports.
-ghost use Rattle.std.specs.Prelude.{◌≡◌, ◌<◌, ◌≤◌, ◌==◌, [], Some, None, Ok, IfOk, IfErr, OnOk, length};
+ghost use Rattle.std.specs.Prelude.{◌≡◌, ◌<◌, ◌≤◌, ◌+◌, ◌==◌, nat_lt, true, false, [], Some, None, Ok, IfOk, IfErr, OnOk, length};
 ghost use Rattle.std.specs.Int.{bit_at};
 ghost use Rattle.std.specs.Option.{option_copied, ok_or};
 ghost use Rattle.cable_world.specs.Act.{IsAct};
@@ -9,6 +9,7 @@ ghost use Rattle.script_run.specs.codings.Running.{notes_now, bus_now, IsSound, 
 
 use crate::bank::Bank;
 use crate::kind::{Kind, LineStop};
+use crate::laws::reports_can_be_shown;
 use crate::table::NameTable;
 use crate::report::report_text;
 use cable_world::{Act, WorldRun};
@@ -149,6 +150,10 @@ impl<W: WorldRun> Bus<W> {
     /// Fails where the turns that were done and so many more pass the limit.
     fn check_turns(&self, turns: u32) -> Result<(), LineStop>
         requires { (W.world self.now.world).turns ≤ 2000000 }
+        ensures within { OnOk result
+            (nat_lt 2000000 ((W.world self.now.world).turns + turns) ≡ false) }
+        ensures past { IfErr result (λ stop. (stop ≡ LineStop.Fault Kind.TooManyTurns)
+            × (nat_lt 2000000 ((W.world self.now.world).turns + turns) ≡ true)) }
     {
         if turns > MAX_TURNS - self.world.turns() {
             return Err(LineStop::Fault(Kind::TooManyTurns));
@@ -180,6 +185,7 @@ impl<W: WorldRun> Bus<W> {
         let quiet = quiet_turns(self.world.cabling().nodes(), self.world.delay());
         self.check_turns(quiet)?;
         let report = settle(alloc, &mut self.world)?;
+        reports_can_be_shown(&self.world);
         self.notes.reports += 1;
         let text = report_text(alloc, &report, self.notes.reports, self.notes.names.list())?;
         self.notes.report = Some(report);

@@ -1,7 +1,6 @@
 -- The bus of a script as the code keeps it.
 use Rattle.std.specs.Prelude.{◌≡◌, ℕ, ◌≤◌, List, length, map, Option, Some, Result, Ok, Err, IfSome, IsFalse, Bool}
 use Rattle.cable_world.specs.World.{CableWorld}
-use Rattle.cable_world.specs.Lawful.{IsWellFormed}
 use Rattle.script_run.specs.declared.kind.Kind.{Kind}
 use Rattle.script_run.specs.declared.kind.LineStop.{LineStop}
 use Rattle.script_run.specs.declared.kind.LineStop.TheVariants.{Fault, Memory}
@@ -30,7 +29,6 @@ reported tree = record { root = tree.root; list = tree.list.now; order = tree.or
 
 -- what holds of a bus between two lines
 pub record IsBus (bus : Bus) : Type 0 where
-  pub formed : IsWellFormed bus.world
   pub names : length bus.notes.names ≡ length bus.world.nodes
   pub banks : length bus.notes.banks ≡ length bus.world.nodes
   pub looks : length bus.notes.looks ≡ length bus.world.nodes
