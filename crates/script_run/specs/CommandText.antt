@@ -13,13 +13,16 @@ csr_text name (Replied reply) =
     ++ (numbered (codes " value ") reply.value ++ codes "\n")))
 csr_text name answer = []
 
+-- ` changed OFFSET OLD`
+unfoldable pub changed_words : ℕ → ℕ → List ℕ
+changed_words offset old = codes " changed 0x" ++ (hex 3 offset ++ numbered (codes " ") old)
+
 -- ` done`, ` no_channel`, ` no_bandwidth LEFT` or ` changed OFFSET OLD`
 abbrev pub grant_words : Answer → List ℕ
 grant_words Done = codes " done"
 grant_words (Refused NoChannel) = codes " no_channel"
 grant_words (Refused (NoBandwidth left)) = numbered (codes " no_bandwidth ") left
-grant_words (Refused (Changed offset old)) =
-    codes " changed 0x" ++ (hex 3 offset ++ numbered (codes " ") old)
+grant_words (Refused (Changed offset old)) = changed_words offset old
 grant_words answer = []
 
 -- `allocate NAME` or `release NAME` and these words

@@ -1,6 +1,7 @@
 -- What a command of a script comes to on its bus: the bus then and the text that it prints, or the
 -- fault of its line.
 use Rattle.std.specs.Prelude.{◌≡◌, ℕ, ◌+◌, nat_lt, ◌==◌, is_some, length, replicate, List, [], ◌∷◌, ◌++◌, codes, Option, None, Some, unwrap_or, slice_index_or, position, Result, Ok, Err, IsSomeAnd, MatchBool, if◌then◌else◌}
+use Rattle.std.specs.Option.{option_map}
 use Rattle.topology_stack.specs.Tree.{Tree, IsBusTree, emits}
 use Rattle.topology_stack.specs.Elect.{elected}
 use Rattle.cabling.specs.declared.cable.End.{End}
@@ -51,22 +52,35 @@ AtTree (Some tree) comes answer = comes tree answer
 abbrev pub Settled : Bus → NodeNumber → (Reported → LineAnswer → Type 0) → LineAnswer → Type 0
 Settled bus node comes answer = AtTree (tree_with node bus.notes) comes answer
 
--- the node of an ID, else `NoManager`
-abbrev pub AtId : Reported → Option ℕ → (NodeNumber → LineAnswer → Type 0) → LineAnswer → Type 0
-AtId tree None comes answer = answer ≡ Err NoManager
-AtId tree (Some id) comes answer = comes (slice_index_or tree.order id 0) answer
-
 -- the bus tree that has this list
 pub record IsTreeOf (list : List ℕ) (t : Tree) : Type 0 where
   pub bus : IsBusTree t
   pub emitted : emits t ≡ list
 
--- the tree in which the node with a name stands settled, and its isochronous resource manager
+-- the node of an ID, and the ID of a node
+abbrev pub node_with : Reported → ℕ → NodeNumber
+node_with tree id = slice_index_or tree.order id 0
+
+abbrev pub id_of : Reported → NodeNumber → ℕ
+id_of tree node = unwrap_or (position (λ k. k == node) tree.order) 0
+
+-- the isochronous resource manager of a tree, or none
+pub record HasManager (tree : Reported) (manager : Option NodeNumber) : Type 0 where
+  pub shown : Tree
+  pub is : IsTreeOf tree.list shown
+  pub elects : manager ≡ option_map (node_with tree) (elected shown)
+
+-- the manager, else `NoManager`
+abbrev pub AtManager : Option NodeNumber → (NodeNumber → LineAnswer → Type 0) → LineAnswer → Type 0
+AtManager None comes answer = answer ≡ Err NoManager
+AtManager (Some manager) comes answer = comes manager answer
+
+-- a node with a name stands settled in a tree, where it has an ID and there is a manager
 abbrev pub Managed :
-    Bus → List ℕ → (NodeNumber → Reported → NodeNumber → LineAnswer → Type 0) → LineAnswer
-    → Type 0
+    Bus → List ℕ → (NodeNumber → ℕ → NodeNumber → LineAnswer → Type 0) → LineAnswer → Type 0
 Managed bus name comes answer = Named bus name (λ node. Settled bus node (λ tree r.
-    (t : Tree) × IsTreeOf tree.list t × AtId tree (elected t) (comes node tree) r)) answer
+    (manager : Option NodeNumber) × HasManager tree manager
+    × AtManager manager (comes node (id_of tree node)) r)) answer
 
 -- ---- acts and turns
 
@@ -155,11 +169,9 @@ abbrev pub Looks : Bus → NodeNumber → NodeNumber → LineAnswer → Type 0
 Looks bus node manager answer =
     answer ≡ Ok (put_look node (Some (seen_of (values_at manager bus))) bus, [])
 
--- the node tries to become bus manager, with the ID that it has in the tree
-abbrev pub Bids : Bus → List ℕ → NodeNumber → Reported → NodeNumber → LineAnswer → Type 0
-Bids bus name node tree manager answer =
-    let id : ℕ = unwrap_or (position (λ k. k == node) tree.order) 0 in
-    Accesses bus manager (lock_for id) (bid_text name) answer
+-- the node tries to become bus manager, with its ID
+abbrev pub Bids : Bus → List ℕ → ℕ → NodeNumber → LineAnswer → Type 0
+Bids bus name id manager answer = Accesses bus manager (lock_for id) (bid_text name) answer
 
 -- ---- maps
 
@@ -203,20 +215,20 @@ Does bus (Hold name port turns) r =
 Does bus Settle r = Settles bus r
 Does bus (Config name root_id gap) r = Named bus name (λ node. Settled bus node (λ tree.
     Acts bus (config_of node root_id gap))) r
-Does bus (CsrRead name offset) r = Managed bus name (λ node tree manager.
+Does bus (CsrRead name offset) r = Managed bus name (λ node id manager.
     Accesses bus manager (access.Read offset) (csr_text name)) r
-Does bus (CsrWrite name offset value) r = Managed bus name (λ node tree manager.
+Does bus (CsrWrite name offset value) r = Managed bus name (λ node id manager.
     Accesses bus manager (access.Write offset value) (csr_text name)) r
-Does bus (CsrLock name offset kind arg value) r = Managed bus name (λ node tree manager.
+Does bus (CsrLock name offset kind arg value) r = Managed bus name (λ node id manager.
     Accesses bus manager (access.Lock offset kind arg value) (csr_text name)) r
-Does bus (Look name) r = Managed bus name (λ node tree manager. Looks bus node manager) r
-Does bus (Allocate name channel units) r = Managed bus name (λ node tree manager.
+Does bus (Look name) r = Managed bus name (λ node id manager. Looks bus node manager) r
+Does bus (Allocate name channel units) r = Managed bus name (λ node id manager.
     Grants bus node manager (λ seen. access.Allocate seen channel units)
     (grant_text (codes "allocate ") name)) r
-Does bus (Release name channel units) r = Managed bus name (λ node tree manager.
+Does bus (Release name channel units) r = Managed bus name (λ node id manager.
     Grants bus node manager (λ seen. access.Release seen channel units)
     (grant_text (codes "release ") name)) r
-Does bus (Manager name) r = Managed bus name (λ node tree manager.
-    Bids bus name node tree manager) r
+Does bus (Manager name) r = Managed bus name (λ node id manager.
+    Bids bus name id manager) r
 Does bus (Maps name) r = Named bus name (λ node. Settled bus node (λ tree.
     MapsOf bus tree)) r

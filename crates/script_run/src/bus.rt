@@ -1,8 +1,9 @@
 //! The bus of a script: acts, turns and reports.
-ghost use Rattle.std.specs.Prelude.{◌≡◌, ◌<◌, ◌≤◌, ◌+◌, ◌==◌, nat_lt, true, false, [], Some, None, Ok, IfOk, IfErr, OnOk, length};
+ghost use Rattle.std.specs.Prelude.{◌≡◌, ◌<◌, ◌≤◌, ◌+◌, ◌==◌, nat_lt, true, false, [], Some, None, Ok, IfOk, IfErr, IfSome, OnOk, length};
 ghost use Rattle.std.specs.Int.{bit_at};
-ghost use Rattle.std.specs.Option.{option_copied, ok_or};
+ghost use Rattle.std.specs.Option.{option_copied, option_map, ok_or};
 ghost use Rattle.cable_world.specs.Act.{IsAct};
+ghost use Rattle.script_run.specs.ReportText.{IsNamedTree, IsNamedReport};
 ghost use Rattle.script_run.specs.Bus.{node_named, part_with, tree_with};
 ghost use Rattle.script_run.specs.Step.{Acts, Holds, Turns, Settles, end_of, notes_after_act};
 ghost use Rattle.script_run.specs.codings.Running.{notes_now, bus_now, IsSound, Stops, reported};
@@ -81,10 +82,10 @@ fn part_with(report: &Report, node: u8) -> Option<&Part>
 impl Notes {
     /// The number of the node with a name.
     pub fn node(&self, name: &Name) -> Result<u8, LineStop>
-        requires { length (notes_now self.now).names ≤ 63 }
-        ensures value { result ≡ ok_or (node_named (notes_now self.now).names name.now)
+        requires { length self.now.names ≤ 63 }
+        ensures value { result ≡ ok_or (node_named self.now.names name.now)
             (LineStop.Fault Kind.NoNode) }
-        ensures within { IfOk result (λ node. node < length (notes_now self.now).names) }
+        ensures within { IfOk result (λ node. node < length self.now.names) }
     {
         match self.names.number(name) {
             Some(number) => Ok(number as u8),
@@ -92,22 +93,34 @@ impl Notes {
         }
     }
 
-    /// The tree in which a node stands settled.
-    pub fn tree(&self, node: u8) -> Result<Reported<'_>, LineStop>
-        ensures found { IfOk result (λ tree. tree_with node (notes_now self.now)
-            ≡ Some (reported tree)) }
-        ensures none { IfErr result (λ stop. (stop ≡ LineStop.Fault Kind.NotSettled)
-            × (tree_with node (notes_now self.now) ≡ None)) }
+    /// The tree in which a node stands settled, if it does.
+    fn reported(&self, node: u8) -> Option<Reported<'_>>
+        ensures { option_map reported result ≡ tree_with node (notes_now self.now) }
     {
-        let report = self.report.as_ref().ok_or(LineStop::Fault(Kind::NotSettled))?;
-        let part = part_with(report, node).ok_or(LineStop::Fault(Kind::NotSettled))?;
+        let part = part_with(self.report.as_ref()?, node)?;
         match &part.outcome {
-            Outcome::Tree { root, list, order } => Ok(Reported {
+            Outcome::Tree { root, list, order } => Some(Reported {
                 root: *root,
                 list: list.as_slice(),
                 order: order.as_slice(),
             }),
-            _ => Err(LineStop::Fault(Kind::NotSettled)),
+            _ => None,
+        }
+    }
+
+    /// The tree in which a node stands settled.
+    pub fn tree(&self, node: u8) -> Result<Reported<'_>, LineStop>
+        requires { IfSome self.now.report (λ report. IsNamedReport self.now.names report) }
+        ensures found { IfOk result (λ tree. tree_with node (notes_now self.now)
+            ≡ Some (reported tree)) }
+        ensures named { IfOk result (λ tree.
+            IsNamedTree self.now.names tree.root tree.list.now tree.order.now) }
+        ensures none { IfErr result (λ stop. (stop ≡ LineStop.Fault Kind.NotSettled)
+            × (tree_with node (notes_now self.now) ≡ None)) }
+    {
+        match self.reported(node) {
+            Some(tree) => Ok(tree),
+            None => Err(LineStop::Fault(Kind::NotSettled)),
         }
     }
 

@@ -5,6 +5,7 @@
 #![tactic(auto)]
 
 mod acts;
+mod answers;
 mod asks;
 mod bank;
 mod bus;
@@ -16,6 +17,7 @@ mod kind;
 mod last_report;
 mod laws;
 mod line;
+mod managed;
 mod maps;
 mod node;
 mod number;

@@ -15,7 +15,7 @@ use topology_stack::{
 
 /// Appends a word and a number.
 #[tactic(auto, unfolding(crate::specs::ReportText::numbered))]
-fn put_numbered(out: &mut Vec<u8>, word: &[u8], n: u64) -> Result<(), OutOfMemory>
+pub(crate) fn put_numbered(out: &mut Vec<u8>, word: &[u8], n: u64) -> Result<(), OutOfMemory>
     ensures { OnOk result (out.new.items ≡ out.old.items ++ numbered word.now n) }
 {
     out.extend_from_slice(word)?;
@@ -152,11 +152,11 @@ fn names_in(alloc: Global, names: &[Name], order: &[u8]) -> Result<NameList, Out
 }
 
 /// The bus tree that emits a list, where there is one.
-fn tree_of(alloc: Global, list: &QuadList) -> Result<BusTree, OutOfMemory>
+pub(crate) fn tree_of(alloc: Global, list: &[u32]) -> Result<BusTree, OutOfMemory>
     requires { (tree : Tree) × IsBusTree tree × (emits tree ≡ list.now) }
     ensures tree { IfOk result (λ tree. IsBusTree tree × (emits tree ≡ list.now)) }
 {
-    match read_tree(alloc, list.as_slice()) {
+    match read_tree(alloc, list) {
         Ok(tree) => Ok(tree),
         Err(TreeStop::Memory(memory)) => Err(memory),
         Err(TreeStop::Fault(_)) => unreachable!(),
@@ -176,7 +176,7 @@ fn put_tree(
         (IsTreeText names.now root list.now order.now) out.new.items) }
 {
     let alloc = *out.allocator();
-    let tree = tree_of(alloc, list)?;
+    let tree = tree_of(alloc, list.as_slice())?;
     one_tree();
     let by_id = names_in(alloc, names, order)?;
     put_root_line(out, names, root)?;

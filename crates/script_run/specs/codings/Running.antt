@@ -8,8 +8,8 @@ use Rattle.script_run.specs.declared.bus.Notes as kept
 use Rattle.script_run.specs.declared.bus.Bus as running
 use Rattle.script_run.specs.declared.bus.Reported as shown
 use Rattle.script_run.specs.ReportText.{IsNamedReport}
-use Rattle.script_run.specs.Bus.{Notes, Bus, Reported}
-use Rattle.script_run.specs.Step.{LineAnswer}
+use Rattle.script_run.specs.Bus.{Notes, Bus, Reported, node_named, tree_with}
+use Rattle.script_run.specs.Step.{LineAnswer, HasManager, id_of}
 
 abbrev pub notes_now : kept.Notes → Notes
 notes_now notes = record {
@@ -48,3 +48,15 @@ pub record IsSound {W : Type 0} (world : W → CableWorld) (spent : W → Bool) 
 abbrev pub Stops : (LineAnswer → Type 0) → LineStop → Type 0
 Stops comes (Fault kind) = comes (Err kind)
 Stops comes (Memory none) = Unit {0}
+
+-- the node with a name has this number and this ID in its tree, and this is the tree's manager
+pub record IsAsked (bus : Bus) (name : List ℕ) (node id manager : ℕ) : Type 0 where
+  pub named : node_named bus.notes.names name ≡ Some node
+  pub tree : Reported
+  pub settled : tree_with node bus.notes ≡ Some tree
+  pub id_is : id ≡ id_of tree node
+  pub managed : HasManager tree (Some manager)
+
+-- nothing comes of a command but a fault
+abbrev pub nothing : ℕ → ℕ → ℕ → LineAnswer → Type 0
+nothing node id manager answer = ⊥
