@@ -32,7 +32,8 @@ fn put_changed(out: &mut Vec<u8>, offset: u32, old: u32) -> Result<(), OutOfMemo
 {
     out.extend_from_slice(b" changed 0x")?;
     put_hex(out, 3, offset)?;
-    put_numbered(out, b" ", u64::from(old))
+    put_numbered(out, b" ", u64::from(old))?;
+    Ok(())
 }
 
 /// Appends what came of a grant or a release.

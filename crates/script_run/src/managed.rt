@@ -1,5 +1,5 @@
 //! Questions to the isochronous resource manager of a tree, and its maps.
-ghost use Rattle.std.specs.Prelude.{◌≡◌, ◌<◌, ◌≤◌, ℕ, ◌==◌, Some, None, Ok, Err, List, codes, IfOk, IfErr, IfSome, OnOk, length};
+ghost use Rattle.std.specs.Prelude.{◌≡◌, ◌<◌, ◌≤◌, ℕ, ◌==◌, Some, None, Ok, Err, List, codes, IfOk, IfErr, IfSome, OnOk, length, position};
 ghost use Rattle.resource_manager.specs.Access.{IsPermitted, answer_of};
 ghost use Rattle.script_run.specs.Bus.{values_at, put_values, after_access, put_look};
 ghost use Rattle.script_run.specs.Step.{Accesses, Bids, Grants, Looks, Managed, HasManager, seen_by, id_of};
@@ -10,14 +10,14 @@ ghost use Rattle.resource_manager.specs.declared.access.Access.TheVariants as ac
 
 use crate::answers::{bid_text, csr_text, grant_text};
 use crate::bank::Bank;
-use crate::bus::{Bus, Reported};
+use crate::bus::{Bus, Notes, Reported};
 use crate::kind::{Kind, LineStop};
 use crate::report::tree_of;
 use bus_manager::{Bid, attempt};
 use cable_world::WorldRun;
 use resource_manager::{Access, Answer, Registers, Seen, look, serve};
 use std::alloc::Global;
-use topology_stack::{Name, OutOfMemory, elect};
+use topology_stack::{Name, OutOfMemory, elect, one_tree};
 
 /// A node that asks the isochronous resource manager of its tree.
 #[derive(Clone, Copy)]
@@ -30,18 +30,12 @@ pub(crate) struct Asked {
     pub manager: u8,
 }
 
-/// The isochronous resource manager of a tree, or none.
-fn manager_of(alloc: Global, tree: Reported<'_>) -> Result<Option<u8>, OutOfMemory>
-    ghost names: { List (List ℕ) }
-    requires { IsNamedTree names tree.root tree.list.now tree.order.now }
-    ensures has { IfOk result (λ manager. HasManager (reported tree.entry) manager) }
-    ensures within { IfOk result (λ manager. IfSome manager (λ node. node < length names)) }
+/// The place of a node in a walk.
+fn place_of(order: &[u8], node: u8) -> Option<usize>
+    ensures value { result ≡ position (λ k. k == node) order.now }
+    ensures within { IfSome result (λ place. place < length order.now) }
 {
-    let shown = tree_of(alloc, tree.list)?;
-    match elect(&shown) {
-        Some(id) => Ok(Some(tree.order[id as usize])),
-        None => Ok(None),
-    }
+    order.iter().position(|k| *k == node)
 }
 
 /// The ID of a node of a tree.
@@ -50,9 +44,26 @@ fn id_of(tree: Reported<'_>, node: u8) -> u8
     ensures value { result ≡ id_of (reported tree.entry) node }
     ensures few { result ≤ 62 }
 {
-    match tree.order.iter().position(|k| *k == node) {
+    match place_of(tree.order, node) {
         Some(id) => id as u8,
         None => 0,
+    }
+}
+
+impl Notes {
+    /// The isochronous resource manager of a tree of these nodes, or none.
+    fn manager(&self, alloc: Global, tree: Reported<'_>) -> Result<Option<u8>, OutOfMemory>
+        requires { IsNamedTree self.now.names tree.root tree.list.now tree.order.now }
+        ensures has { IfOk result (λ manager. HasManager (reported tree.entry) manager) }
+        ensures within { IfOk result (λ manager.
+            IfSome manager (λ node. node < length self.now.names)) }
+    {
+        let shown = tree_of(alloc, tree.list)?;
+        one_tree();
+        match elect(&shown) {
+            Some(id) => Ok(Some(tree.order[id as usize])),
+            None => Ok(None),
+        }
     }
 }
 
@@ -71,7 +82,7 @@ impl<W: WorldRun> Bus<W> {
     {
         let node = self.notes.node(name)?;
         let tree = self.notes.tree(node)?;
-        match manager_of(alloc, tree)? {
+        match self.notes.manager(alloc, tree)? {
             Some(manager) => Ok(Asked {
                 node,
                 id: id_of(tree, node),
