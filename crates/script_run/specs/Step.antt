@@ -178,11 +178,14 @@ Bids bus name id manager answer = Accesses bus manager (lock_for id) (bid_text n
 abbrev pub notes_after_maps : Notes → Notes
 notes_after_maps notes = record notes { maps = notes.maps + 1 }
 
+abbrev pub after_maps : Bus → Bus
+after_maps bus = record bus { notes = notes_after_maps bus.notes }
+
 -- the maps of a tree, with the root's count of resets as their generation
 pub record ShowsMaps (bus : Bus) (tree : Reported) (after : Bus) (text : List ℕ) : Type 0 where
   pub shown : Tree
   pub is : IsTreeOf tree.list shown
-  pub after_is : after ≡ record bus { notes = notes_after_maps bus.notes }
+  pub after_is : after ≡ after_maps bus
   pub told : IsMapsText (resets_of bus.world tree.root) shown text
 
 abbrev pub GivesMaps : Bus → Reported → LineAnswer → Type 0

@@ -23,6 +23,7 @@ mod node;
 mod number;
 mod pairs;
 mod report;
+mod steps;
 mod table;
 mod word;
 mod words;
