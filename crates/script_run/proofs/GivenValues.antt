@@ -16,6 +16,7 @@ use Rattle.std.specs.List.{list_all}
 use Rattle.script_run.specs.Coins.{is_coin, are_coins}
 use Rattle.script_run.specs.Shape.{out_of}
 use Rattle.script_run.specs.Key.{word_of, key_of, limits, wrong_value}
+use Rattle.script_run.specs.Range.{IsWithin}
 use Rattle.script_run.specs.Node.{given, is_taken, wrong_pair, first_wrong_pair}
 
 -- a key's word is that key's alone
@@ -72,15 +73,15 @@ right_value d key value before (word ∷ other ∷ words) h g =
         subst Q other_is here
     go false e right g rest = rest g
 
--- a number that is right isn't above the greatest
-within : (least most n : ℕ) → out_of least most (Some n) ≡ None → n ≤ most
-within least most n h = go (nat_le least n) (nat_le n most) refl h
+-- a number that is right lies in its range
+within : (least most n : ℕ) → out_of least most (Some n) ≡ None → (least ≤ n) × (n ≤ most)
+within least most n h = go (nat_le least n) (nat_le n most) refl refl h
   where
-    go : (above below : Bool) → nat_le n most ≡ below
-        → cond (above && below) None (Some Range) ≡ None → n ≤ most
-    go true true e h = grind (arith, nat_tests)
-    go true false e h = absurd (cc)
-    go false below e h = absurd (cc)
+    go : (above below : Bool) → nat_le least n ≡ above → nat_le n most ≡ below
+        → cond (above && below) None (Some Range) ≡ None → (least ≤ n) × (n ≤ most)
+    go true true f e h = (grind (arith, nat_tests), grind (arith, nat_tests))
+    go true false f e h = absurd (cc)
+    go false below f e h = absurd (cc)
 
 small_digits : (base most n : ℕ) (digits : List ℕ) → of_digits base most digits ≡ Some n → n < 2 ^ 32
 unfolding of_digits
@@ -95,23 +96,24 @@ small_number word n h = go (bytes_eq (take 2 word) (codes "0x")) h
     go true h = small_digits 16 8 n (drop 2 word) h
     go false h = small_digits 10 10 n word h
 
--- no number is above the greatest of its key
-below : (d : ℕ) (key : Key) (value : List ℕ) (n : ℕ) → wrong_value d key value ≡ None
-    → number_of value ≡ Some n → n ≤ (limits d key).1
-below d Coins value n h e = omega (arith, small_number value n e)
-below d Kind value n h e = omega (arith, small_number value n e)
-below d key value n h e =
+-- each number behind a key lies in the key's range
+ranged : (d : ℕ) (key : Key) (value : List ℕ) (n : ℕ) → wrong_value d key value ≡ None
+    → number_of value ≡ Some n → IsWithin (limits d key).0 (limits d key).1 n
+ranged d Coins value n h e = (omega arith, omega (arith, small_number value n e))
+ranged d Kind value n h e = (omega arith, omega (arith, small_number value n e))
+ranged d key value n h e =
     within (limits d key).0 (limits d key).1 n
     (ap (out_of (limits d key).0 (limits d key).1) (sym e) ∙ h)
 
 pub right_number : (d : ℕ) (key : Key) (pairs : List (List ℕ)) (value : List ℕ)
     → first_wrong_pair d [] pairs ≡ None → given key pairs ≡ Some value
-    → IfSome (number_of value) (λ n. n ≤ (limits d key).1)
+    → IfSome (number_of value) (IsWithin (limits d key).0 (limits d key).1)
 right_number d key pairs value h g = go (number_of value) refl
   where
-    go : (r : Option ℕ) → number_of value ≡ r → IfSome r (λ n. n ≤ (limits d key).1)
+    go : (r : Option ℕ) → number_of value ≡ r
+        → IfSome r (IsWithin (limits d key).0 (limits d key).1)
     go None e = tt
-    go (Some n) e = below d key value n (right_value d key value [] pairs h g) e
+    go (Some n) e = ranged d key value n (right_value d key value [] pairs h g) e
 
 -- what stands from a place on, as a slice to the end
 pub to_the_end : (words : List (List ℕ)) (place : ℕ)

@@ -8,6 +8,7 @@ pub mod Key
 pub mod Node
 pub mod Line
 pub mod Answer
+pub mod Range
 pub mod ReportText
 pub mod CanBeShown
 pub mod OneText

@@ -1,6 +1,7 @@
 //! The lines that change the bus or let turns pass.
-ghost use Rattle.std.specs.Prelude.{◌≡◌, codes, [], ◌∷◌};
+ghost use Rattle.std.specs.Prelude.{◌≡◌, codes, [], ◌∷◌, ℕ, IfOk};
 ghost use Rattle.script_run.specs.Form.{pull, plug, reset, turn, hold, settle, delay};
+ghost use Rattle.script_run.specs.Range.{IsInRange};
 ghost use Rattle.script_run.specs.codings.Reading.{read_by};
 
 use crate::command::Command;
@@ -9,7 +10,8 @@ use crate::word::Word;
 
 /// `plug NAME PORT NAME PORT`
 pub(crate) fn plug(args: &[Word]) -> Result<Command, Kind>
-    ensures { result ≡ read_by (plug ∷ []) (codes "plug" ∷ args.now) }
+    ensures value { result ≡ read_by (plug ∷ []) (codes "plug" ∷ args.now) }
+    ensures ranged { (d : ℕ) → IfOk result (IsInRange d) }
 {
     match args {
         [a, a_port, b, b_port] => Ok(Command::Plug {
@@ -24,7 +26,8 @@ pub(crate) fn plug(args: &[Word]) -> Result<Command, Kind>
 
 /// `pull NAME PORT`
 pub(crate) fn pull(args: &[Word]) -> Result<Command, Kind>
-    ensures { result ≡ read_by (pull ∷ []) (codes "pull" ∷ args.now) }
+    ensures value { result ≡ read_by (pull ∷ []) (codes "pull" ∷ args.now) }
+    ensures ranged { (d : ℕ) → IfOk result (IsInRange d) }
 {
     match args {
         [name, port] => Ok(Command::Pull {
@@ -37,7 +40,8 @@ pub(crate) fn pull(args: &[Word]) -> Result<Command, Kind>
 
 /// `reset NAME`
 pub(crate) fn reset(args: &[Word]) -> Result<Command, Kind>
-    ensures { result ≡ read_by (reset ∷ []) (codes "reset" ∷ args.now) }
+    ensures value { result ≡ read_by (reset ∷ []) (codes "reset" ∷ args.now) }
+    ensures ranged { (d : ℕ) → IfOk result (IsInRange d) }
 {
     match args {
         [name] => Ok(Command::Reset { name: name.name()? }),
@@ -47,7 +51,8 @@ pub(crate) fn reset(args: &[Word]) -> Result<Command, Kind>
 
 /// `turn K`
 pub(crate) fn turn(args: &[Word]) -> Result<Command, Kind>
-    ensures { result ≡ read_by (turn ∷ []) (codes "turn" ∷ args.now) }
+    ensures value { result ≡ read_by (turn ∷ []) (codes "turn" ∷ args.now) }
+    ensures ranged { (d : ℕ) → IfOk result (IsInRange d) }
 {
     match args {
         [count] => Ok(Command::Turn {
@@ -59,7 +64,8 @@ pub(crate) fn turn(args: &[Word]) -> Result<Command, Kind>
 
 /// `hold NAME PORT K`
 pub(crate) fn hold(args: &[Word]) -> Result<Command, Kind>
-    ensures { result ≡ read_by (hold ∷ []) (codes "hold" ∷ args.now) }
+    ensures value { result ≡ read_by (hold ∷ []) (codes "hold" ∷ args.now) }
+    ensures ranged { (d : ℕ) → IfOk result (IsInRange d) }
 {
     match args {
         [name, port, turns] => Ok(Command::Hold {
@@ -73,7 +79,8 @@ pub(crate) fn hold(args: &[Word]) -> Result<Command, Kind>
 
 /// `settle`
 pub(crate) fn settle(args: &[Word]) -> Result<Command, Kind>
-    ensures { result ≡ read_by (settle ∷ []) (codes "settle" ∷ args.now) }
+    ensures value { result ≡ read_by (settle ∷ []) (codes "settle" ∷ args.now) }
+    ensures ranged { (d : ℕ) → IfOk result (IsInRange d) }
 {
     match args {
         [] => Ok(Command::Settle),
@@ -83,7 +90,8 @@ pub(crate) fn settle(args: &[Word]) -> Result<Command, Kind>
 
 /// `delay D`
 pub(crate) fn delay(args: &[Word]) -> Result<Command, Kind>
-    ensures { result ≡ read_by (delay ∷ []) (codes "delay" ∷ args.now) }
+    ensures value { result ≡ read_by (delay ∷ []) (codes "delay" ∷ args.now) }
+    ensures ranged { (d : ℕ) → IfOk result (IsInRange d) }
 {
     match args {
         [delay] => Ok(Command::Delay {

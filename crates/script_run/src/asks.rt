@@ -1,6 +1,7 @@
 //! The lines that ask the manager of a bus, or change what it keeps.
-ghost use Rattle.std.specs.Prelude.{◌≡◌, codes, [], ◌∷◌};
+ghost use Rattle.std.specs.Prelude.{◌≡◌, codes, [], ◌∷◌, ℕ, IfOk};
 ghost use Rattle.script_run.specs.Form.{config_root, config_gap, config_both, csr_read, csr_write, csr_lock, look, allocate, release, manager, maps};
+ghost use Rattle.script_run.specs.Range.{IsInRange};
 ghost use Rattle.script_run.specs.codings.Reading.{read_by};
 
 use crate::command::Command;
@@ -9,8 +10,9 @@ use crate::word::Word;
 
 /// `config NAME ROOT GAP`, where one of the two may be `-`.
 pub(crate) fn config(args: &[Word]) -> Result<Command, Kind>
-    ensures { result ≡ read_by (config_root ∷ config_gap ∷ config_both ∷ [])
+    ensures value { result ≡ read_by (config_root ∷ config_gap ∷ config_both ∷ [])
         (codes "config" ∷ args.now) }
+    ensures ranged { (d : ℕ) → IfOk result (IsInRange d) }
 {
     match args {
         [name, root, gap] if root.is(b"-") && gap.is(b"-") => Err(Kind::Word),
@@ -35,7 +37,8 @@ pub(crate) fn config(args: &[Word]) -> Result<Command, Kind>
 
 /// `csr NAME read OFFSET`, `csr NAME write OFFSET VALUE` or `csr NAME lock OFFSET KIND ARG VALUE`
 pub(crate) fn csr(args: &[Word]) -> Result<Command, Kind>
-    ensures { result ≡ read_by (csr_read ∷ csr_write ∷ csr_lock ∷ []) (codes "csr" ∷ args.now) }
+    ensures value { result ≡ read_by (csr_read ∷ csr_write ∷ csr_lock ∷ []) (codes "csr" ∷ args.now) }
+    ensures ranged { (d : ℕ) → IfOk result (IsInRange d) }
 {
     match args {
         [name, access, offset] if access.is(b"read") => Ok(Command::CsrRead {
@@ -60,7 +63,8 @@ pub(crate) fn csr(args: &[Word]) -> Result<Command, Kind>
 
 /// `look NAME`
 pub(crate) fn look(args: &[Word]) -> Result<Command, Kind>
-    ensures { result ≡ read_by (look ∷ []) (codes "look" ∷ args.now) }
+    ensures value { result ≡ read_by (look ∷ []) (codes "look" ∷ args.now) }
+    ensures ranged { (d : ℕ) → IfOk result (IsInRange d) }
 {
     match args {
         [name] => Ok(Command::Look { name: name.name()? }),
@@ -70,7 +74,8 @@ pub(crate) fn look(args: &[Word]) -> Result<Command, Kind>
 
 /// `allocate NAME CHANNEL UNITS`
 pub(crate) fn allocate(args: &[Word]) -> Result<Command, Kind>
-    ensures { result ≡ read_by (allocate ∷ []) (codes "allocate" ∷ args.now) }
+    ensures value { result ≡ read_by (allocate ∷ []) (codes "allocate" ∷ args.now) }
+    ensures ranged { (d : ℕ) → IfOk result (IsInRange d) }
 {
     match args {
         [name, channel, units] => Ok(Command::Allocate {
@@ -84,7 +89,8 @@ pub(crate) fn allocate(args: &[Word]) -> Result<Command, Kind>
 
 /// `release NAME CHANNEL UNITS`
 pub(crate) fn release(args: &[Word]) -> Result<Command, Kind>
-    ensures { result ≡ read_by (release ∷ []) (codes "release" ∷ args.now) }
+    ensures value { result ≡ read_by (release ∷ []) (codes "release" ∷ args.now) }
+    ensures ranged { (d : ℕ) → IfOk result (IsInRange d) }
 {
     match args {
         [name, channel, units] => Ok(Command::Release {
@@ -98,7 +104,8 @@ pub(crate) fn release(args: &[Word]) -> Result<Command, Kind>
 
 /// `manager NAME`
 pub(crate) fn manager(args: &[Word]) -> Result<Command, Kind>
-    ensures { result ≡ read_by (manager ∷ []) (codes "manager" ∷ args.now) }
+    ensures value { result ≡ read_by (manager ∷ []) (codes "manager" ∷ args.now) }
+    ensures ranged { (d : ℕ) → IfOk result (IsInRange d) }
 {
     match args {
         [name] => Ok(Command::Manager { name: name.name()? }),
@@ -108,7 +115,8 @@ pub(crate) fn manager(args: &[Word]) -> Result<Command, Kind>
 
 /// `maps NAME`
 pub(crate) fn maps(args: &[Word]) -> Result<Command, Kind>
-    ensures { result ≡ read_by (maps ∷ []) (codes "maps" ∷ args.now) }
+    ensures value { result ≡ read_by (maps ∷ []) (codes "maps" ∷ args.now) }
+    ensures ranged { (d : ℕ) → IfOk result (IsInRange d) }
 {
     match args {
         [name] => Ok(Command::Maps { name: name.name()? }),

@@ -1,6 +1,7 @@
 //! The lines of each command but `node`.
-ghost use Rattle.std.specs.Prelude.{◌≡◌, codes, ◌∷◌};
+ghost use Rattle.std.specs.Prelude.{◌≡◌, codes, ◌∷◌, ℕ, IfOk};
 ghost use Rattle.script_run.specs.Form.{forms};
+ghost use Rattle.script_run.specs.Range.{IsInRange};
 ghost use Rattle.script_run.specs.codings.Reading.{read_by};
 
 use crate::acts::{delay, hold, plug, pull, reset, settle, turn};
@@ -11,7 +12,8 @@ use crate::word::Word;
 
 /// The command of a line with these words, of which the first isn't `node`.
 pub(crate) fn read_fixed(verb: &Word, args: &[Word]) -> Result<Command, Kind>
-    ensures { result ≡ read_by forms (verb.now ∷ args.now) }
+    ensures value { result ≡ read_by forms (verb.now ∷ args.now) }
+    ensures ranged { (d : ℕ) → IfOk result (IsInRange d) }
 {
     if verb.is(b"plug") {
         plug(args)

@@ -1,5 +1,5 @@
 //! A line of a script.
-ghost use Rattle.std.specs.Prelude.{◌≡◌, ◌≤◌, find, not, Option, Result, Ok, IfOk, IfErr};
+ghost use Rattle.std.specs.Prelude.{◌≡◌, ◌≤◌, find, not, Option, Result, Ok, IfOk, IfErr, IfSome};
 ghost use Rattle.std.specs.List.{list_all};
 ghost use Rattle.std.specs.Str.Lines.{strip_carriage_return};
 ghost use Rattle.script_run.specs.Words.{is_blank, is_permitted};
@@ -7,6 +7,7 @@ ghost use Rattle.script_run.specs.Line.{is_skipped};
 ghost use Rattle.script_run.specs.codings.Reading.{read_words, read_line};
 ghost use Rattle.script_run.specs.Answer.{Answers, Refuses};
 ghost use Rattle.script_run.specs.Line.{Reads};
+ghost use Rattle.script_run.specs.Range.{IsInRange};
 ghost use Rattle.script_run.specs.declared.command.Command.{Command};
 ghost use Rattle.script_run.specs.declared.kind.Kind.{Kind};
 
@@ -48,7 +49,8 @@ fn is_skipped(line: &[u8]) -> bool
 /// The command that words say.
 fn read_words(words: &[Word], d: u8) -> Result<Command, Kind>
     requires { d ≤ 16 }
-    ensures { result ≡ read_words d words.now }
+    ensures value { result ≡ read_words d words.now }
+    ensures ranged { IfOk result (IsInRange d) }
 {
     match words {
         [] => Err(Kind::Word),
@@ -65,7 +67,8 @@ fn read_words(words: &[Word], d: u8) -> Result<Command, Kind>
 /// The command of a line that has no carriage return at its end.
 fn read_line(alloc: Global, line: &[u8], d: u8) -> Result<Option<Command>, LineStop>
     requires { d ≤ 16 }
-    ensures { Answers result (read_line d line.now) }
+    ensures value { Answers result (read_line d line.now) }
+    ensures ranged { IfOk result (λ command. IfSome command (IsInRange d)) }
 {
     if is_skipped(line) {
         return Ok(None);
@@ -92,6 +95,7 @@ pub fn parse_line(alloc: Global, line: &[u8], d: u8) -> Result<Option<Command>, 
     ensures refused { IfErr result (λ stop. Refuses d line.now stop) }
     ensures only { (reading : Result (Option Command) Kind) → Reads d line.now reading
         → Answers result reading }
+    ensures ranged { IfOk result (λ command. IfSome command (IsInRange d)) }
 {
     read_line(alloc, without_return(line), d)
 }

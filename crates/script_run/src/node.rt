@@ -1,9 +1,10 @@
 //! The lines that declare nodes.
-ghost use Rattle.std.specs.Prelude.{◌≡◌, ◌≤◌, [], ◌∷◌, None, codes, unwrap_or, ◌==◌, length, true, if◌then◌else◌};
+ghost use Rattle.std.specs.Prelude.{◌≡◌, ◌≤◌, [], ◌∷◌, None, codes, unwrap_or, ◌==◌, length, IfOk, true, if◌then◌else◌};
 ghost use Rattle.std.specs.List.{list_all};
 ghost use Rattle.std.specs.Str.{bytes_eq};
 ghost use Rattle.script_run.specs.Coins.{is_coin};
 ghost use Rattle.script_run.specs.Node.{first_wrong_pair, given, number_given, coins_given, node_of};
+ghost use Rattle.script_run.specs.Range.{IsInRange};
 ghost use Rattle.script_run.specs.codings.Reading.{read_node};
 
 use crate::coins::coin_word;
@@ -54,7 +55,10 @@ fn is_packed(pairs: &[Word]) -> bool
 fn node_of(name: Name, ports: u8, pairs: &[Word], d: u8) -> Command
     requires right { first_wrong_pair d [] pairs.now ≡ None }
     requires few { d ≤ 16 }
-    ensures { result ≡ node_of name ports pairs.now }
+    requires some_port { 1 ≤ ports }
+    requires few_ports { ports ≤ 16 }
+    ensures value { result ≡ node_of name ports pairs.now }
+    ensures ranged { IsInRange d result }
 {
     let coins = coins(pairs, d);
     Command::Node {
@@ -79,7 +83,8 @@ fn node_of(name: Name, ports: u8, pairs: &[Word], d: u8) -> Command
 /// `node NAME PORTS` and pairs of key and value.
 pub(crate) fn node(args: &[Word], d: u8) -> Result<Command, Kind>
     requires { d ≤ 16 }
-    ensures { result ≡ read_node d (codes "node" ∷ args.now) }
+    ensures value { result ≡ read_node d (codes "node" ∷ args.now) }
+    ensures ranged { IfOk result (IsInRange d) }
 {
     match args {
         [name, ports, pairs @ ..] if are_pairs(pairs) => {

@@ -5,6 +5,7 @@ ghost use Rattle.std.specs.Result.{result_err};
 ghost use Rattle.script_run.specs.Key.{limits};
 ghost use Rattle.script_run.specs.Node.{are_pairs, given, is_taken, wrong_pair, first_wrong_pair, number_given};
 ghost use Rattle.script_run.specs.Key.{key_of};
+ghost use Rattle.script_run.specs.Range.{IsWithin};
 
 use crate::key::{Key, is_pair};
 use crate::kind::Kind;
@@ -83,17 +84,20 @@ pub(crate) fn number(pairs: &[Word], key: Key, d: u8) -> Option<u32>
     requires right { first_wrong_pair d [] pairs.now ≡ None }
     requires few { d ≤ 16 }
     ensures value { result ≡ number_given key pairs.now }
-    ensures most { IfSome result (λ n. n ≤ (limits d key).1) }
+    ensures ranged { IfSome result (IsWithin (limits d key).0 (limits d key).1) }
 {
     number_of(given(pairs, key)?.as_bytes())
 }
 
-/// The number behind a key, or this one where there is none. The key's numbers are small.
+/// The number behind a key, or where there is none this one, which could stand there. The key's
+/// numbers are small.
 pub(crate) fn small(pairs: &[Word], key: Key, d: u8, default: u8) -> u8
     requires right { first_wrong_pair d [] pairs.now ≡ None }
     requires few { d ≤ 16 }
     requires small { (limits d key).1 ≤ 255 }
-    ensures { result ≡ unwrap_or (number_given key pairs.now) default }
+    requires usual { default ≤ (limits d key).1 }
+    ensures value { result ≡ unwrap_or (number_given key pairs.now) default }
+    ensures most { result ≤ (limits d key).1 }
 {
     match number(pairs, key, d) {
         Some(n) => n as u8,
@@ -106,7 +110,8 @@ pub(crate) fn time(pairs: &[Word], key: Key, d: u8) -> Option<u16>
     requires right { first_wrong_pair d [] pairs.now ≡ None }
     requires few { d ≤ 16 }
     requires small { (limits d key).1 ≤ 65535 }
-    ensures { result ≡ number_given key pairs.now }
+    ensures value { result ≡ number_given key pairs.now }
+    ensures ranged { IfSome result (IsWithin (limits d key).0 (limits d key).1) }
 {
     match number(pairs, key, d) {
         Some(n) => Some(n as u16),
