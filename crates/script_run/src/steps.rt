@@ -2,14 +2,17 @@
 ghost use Rattle.std.specs.Prelude.{◌≡◌, ◌≤◌, ◌<◌, ◌⊎◌, Some, None, Ok, IfOk, IfErr, IfSome, IsSome, OnOk, length};
 ghost use Rattle.script_run.specs.Bus.{resets_of};
 ghost use Rattle.script_run.specs.Step.{Does, after_maps};
-ghost use Rattle.script_run.specs.codings.Running.{bus_now, IsSound, Stops};
+ghost use Rattle.script_run.specs.Range.{IsInRange};
+ghost use Rattle.script_run.specs.codings.Running.{bus_now, IsSound, AsksManager, Stops};
 ghost use Rattle.script_run.specs.declared.command.Command.TheVariants as command;
 
 use crate::bus::{Bus, end_of};
+use crate::command::Command;
 use crate::kind::{Kind, LineStop};
 use crate::maps::maps_text;
 use crate::report::tree_of;
 use cable_world::{Act, WorldRun};
+use resource_manager::Access;
 use std::alloc::Global;
 use topology_stack::Name;
 
@@ -150,5 +153,100 @@ impl<W: WorldRun> Bus<W> {
         let text = self.maps_shown(alloc, name)?;
         self.notes.maps += 1;
         Ok(text)
+    }
+
+    /// A command that asks the manager of a tree.
+    fn question(
+        &mut self,
+        alloc: Global,
+        d: u8,
+        command: &Command,
+    ) -> Result<Vec<u8>, LineStop>
+        requires sound { IsSound W.world W.is_spent self.old }
+        requires range { IsInRange d command.now }
+        requires asks { AsksManager command.now }
+        ensures done { IfOk result (λ text. Does (bus_now W.world self.old) command.now
+            (Ok (bus_now W.world self.new, text.items))) }
+        ensures stop { IfErr result (Stops (Does (bus_now W.world self.old) command.now)) }
+        ensures sound { OnOk result (IsSound W.world W.is_spent self.new) }
+    {
+        match command {
+            Command::CsrRead { name, offset } => {
+                self.csr(alloc, name, Access::Read { offset: *offset })
+            }
+            Command::CsrWrite {
+                name,
+                offset,
+                value,
+            } => {
+                let access = Access::Write {
+                    offset: *offset,
+                    value: *value,
+                };
+                self.csr(alloc, name, access)
+            }
+            Command::CsrLock {
+                name,
+                offset,
+                kind,
+                arg,
+                value,
+            } => {
+                let access = Access::Lock {
+                    offset: *offset,
+                    kind: *kind,
+                    arg: *arg,
+                    value: *value,
+                };
+                self.csr(alloc, name, access)
+            }
+            Command::Look { name } => self.look(alloc, name),
+            Command::Allocate {
+                name,
+                channel,
+                units,
+            } => self.allocate(alloc, name, *channel, *units),
+            Command::Release {
+                name,
+                channel,
+                units,
+            } => self.release(alloc, name, *channel, *units),
+            Command::Manager { name } => self.bid(alloc, name),
+            _ => unreachable!(),
+        }
+    }
+
+    /// What a command does. Its numbers are in range.
+    pub fn command(&mut self, alloc: Global, d: u8, command: &Command) -> Result<Vec<u8>, LineStop>
+        requires sound { IsSound W.world W.is_spent self.old }
+        requires range { IsInRange d command.now }
+        ensures done { IfOk result (λ text. Does (bus_now W.world self.old) command.now
+            (Ok (bus_now W.world self.new, text.items))) }
+        ensures stop { IfErr result (Stops (Does (bus_now W.world self.old) command.now)) }
+        ensures sound { OnOk result (IsSound W.world W.is_spent self.new) }
+    {
+        match command {
+            Command::Node { .. } | Command::Delay { .. } => Err(LineStop::Fault(Kind::Late)),
+            Command::Plug {
+                a,
+                a_port,
+                b,
+                b_port,
+            } => self.plug(alloc, a, *a_port, b, *b_port),
+            Command::Pull { name, port } => self.pull(alloc, name, *port),
+            Command::Reset { name } => self.reset(alloc, name),
+            Command::Turn { count } => self.turn(alloc, *count),
+            Command::Hold { name, port, turns } => self.hold_wire(alloc, name, *port, *turns),
+            Command::Settle => self.settle(alloc),
+            Command::Config { name, root_id, gap } => self.config(alloc, name, *root_id, *gap),
+            Command::Maps { name } => self.maps(alloc, name),
+            Command::CsrRead { .. }
+            | Command::CsrWrite { .. }
+            | Command::CsrLock { .. }
+            | Command::Look { .. }
+            | Command::Allocate { .. }
+            | Command::Release { .. }
+            | Command::Manager { .. } => self.question(alloc, d, command),
+        }
     }
 }

@@ -7,6 +7,8 @@ use Rattle.script_run.specs.declared.kind.LineStop.TheVariants.{Fault, Memory}
 use Rattle.script_run.specs.declared.bus.Notes as kept
 use Rattle.script_run.specs.declared.bus.Bus as running
 use Rattle.script_run.specs.declared.bus.Reported as shown
+use Rattle.script_run.specs.declared.command.Command.{Command}
+use Rattle.script_run.specs.declared.command.Command.TheVariants.{CsrRead, CsrWrite, CsrLock, Look, Allocate, Release, Manager}
 use Rattle.script_run.specs.ReportText.{IsNamedReport}
 use Rattle.script_run.specs.Bus.{Notes, Bus, Reported, node_named, tree_with}
 use Rattle.script_run.specs.Step.{LineAnswer, HasManager, id_of}
@@ -60,3 +62,14 @@ pub record IsAsked (bus : Bus) (name : List ℕ) (node id manager : ℕ) : Type 
 -- nothing comes of a command but a fault
 abbrev pub nothing : ℕ → ℕ → ℕ → LineAnswer → Type 0
 nothing node id manager answer = ⊥
+
+-- the commands that ask the manager of a tree
+abbrev pub AsksManager : Command → Type 0
+AsksManager (CsrRead name offset) = Unit {0}
+AsksManager (CsrWrite name offset value) = Unit {0}
+AsksManager (CsrLock name offset kind arg value) = Unit {0}
+AsksManager (Look name) = Unit {0}
+AsksManager (Allocate name channel units) = Unit {0}
+AsksManager (Release name channel units) = Unit {0}
+AsksManager (Manager name) = Unit {0}
+AsksManager command = ⊥
