@@ -11,3 +11,4 @@ pub mod OneMaps
 pub mod NamedReports
 pub mod OneText
 pub mod Turns
+pub mod told

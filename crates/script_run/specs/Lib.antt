@@ -17,4 +17,5 @@ pub mod Bus
 pub mod CommandText
 pub mod Step
 pub mod Script
+pub mod OneTold
 pub mod codings
