@@ -6,3 +6,4 @@
 pub mod Cables
 pub mod Commands
 pub mod Ports
+pub mod Lines
