@@ -26,17 +26,16 @@ alike w v same h = subst IsCabling (sym same) h
 
 -- ---- turns
 
-turns-cables : (k : ℕ) (w : CableWorld) → (turns_after k w).cabling ≡ w.cabling
-unfolding turns_after
-turns-cables zero w = refl
-turns-cables (suc k) w = turns-cables k (turn w) ∙ cabling-after w
-
 pub turns-cabled : (k : ℕ) (w : CableWorld) → IsCabled w → IsCabled (turns_after k w)
-turns-cabled k w h = alike w (turns_after k w) (turns-cables k w) h
+unfolding turns_after
+turns-cabled zero w h = h
+turns-cabled (suc k) w h = turns-cabled k (turn w) (alike w (turn w) (cabling-after w) h)
 
 -- ---- acts
 
-plug-cabled : (a b : End) (w : CableWorld) → act_fault (Plug a b) w ≡ None → IsCabled w → IsCabled (plug a b w)
+plug-cabled :
+    (a b : End) (w : CableWorld) → act_fault (Plug a b) w ≡ None → IsCabled w →
+    IsCabled (plug a b w)
 plug-cabled a b w none h =
     let may : Pluggable w.cabling a b = pluggable w.cabling a b none in
     let c : Wiring = put b (Some a) (put a (Some b) w.cabling) in
@@ -45,10 +44,13 @@ plug-cabled a b w none h =
     let start : CableWorld = add_cable a b w in
     let next : CableWorld = with_step a.node (node_plugged a.port) start in
     let same : (plug a b w).cabling ≡ c =
-    step-cables b.node (node_plugged b.port) next ∙ step-cables a.node (node_plugged a.port) start in
+    step-cables b.node (node_plugged b.port) next
+    ∙ step-cables a.node (node_plugged a.port) start in
     subst IsCabling (sym same) (cabling_added w.cabling c a b h may.apart added)
 
-pull-cabled : (a : End) (o : Option End) (w : CableWorld) → far w.cabling a ≡ o → IsCabled w → IsCabled (pull_from a o w)
+pull-cabled :
+    (a : End) (o : Option End) (w : CableWorld) → far w.cabling a ≡ o → IsCabled w →
+    IsCabled (pull_from a o w)
 pull-cabled a None w at h = h
 pull-cabled a (Some b) w at h =
     let c : Wiring = put b None (put a None w.cabling) in
@@ -62,7 +64,9 @@ pull-cabled a (Some b) w at h =
 noted : (w u v : CableWorld) → v ≡ note_changes w u → IsCabled u → IsCabled v
 noted w u v is h = subst IsCabled (sym is) h
 
-pub act-cabled : (a : Act) (w v : CableWorld) → act_fault a w ≡ None → ActLeads a w v → IsCabled w → IsCabled v
+pub act-cabled :
+    (a : Act) (w v : CableWorld) → act_fault a w ≡ None → ActLeads a w v → IsCabled w →
+    IsCabled v
 act-cabled (Plug a b) w v none is h = noted w (plug a b w) v is (plug-cabled a b w none h)
 act-cabled (Pull end) w v none is h =
     noted w (pull end w) v is (pull-cabled end (far w.cabling end) w refl h)

@@ -1,7 +1,7 @@
 -- A command comes to one answer, and leaves cables that are a cabling.
 use Rattle.std.proofs.Common.{◌≡◌, ℕ, Bool, true, false, Option, None, Some, List, refl, sym, ◌∙◌, ap, subst}
-use Rattle.std.specs.Prelude.{Result, Ok, Err, IsSomeAnd, MatchBool, nat_lt, ◌+◌}
-use Rattle.topology_stack.specs.Tree.{Tree, IsBusTree, emits}
+use Rattle.std.specs.Prelude.{Ok, Err, IsSomeAnd, MatchBool, nat_lt, ◌+◌}
+use Rattle.topology_stack.specs.Tree.{Tree}
 use Rattle.topology_stack.specs.Elect.{elected}
 use Rattle.topology_stack.specs.OneAnswer.{NoListHasTwoTrees}
 use Rattle.cabling.specs.declared.cable.CableFault.{CableFault}
@@ -9,7 +9,6 @@ use Rattle.cable_world.specs.declared.act.Act.{Act}
 use Rattle.cable_world.specs.declared.act.Act.TheVariants as act
 use Rattle.cable_world.specs.World.{CableWorld, NodeNumber}
 use Rattle.cable_world.specs.Act.{act_fault, hold_fault}
-use Rattle.cable_world.specs.Turn.{turns_after}
 use Rattle.settle.specs.declared.report.Report.{Report}
 use Rattle.settle.specs.Report.{IsReport, quiet_turns_of}
 use Rattle.settle.proofs.OneReport.{one-over-cabling}
@@ -19,7 +18,7 @@ use Rattle.script_run.specs.declared.command.Command.TheVariants.{Node, Plug, Pu
 use Rattle.script_run.specs.ReportText.{IsReportText}
 use Rattle.script_run.specs.Maps.{IsMapsText}
 use Rattle.script_run.specs.Bus.{Notes, Bus, Reported, node_named, resets_of, tree_with}
-use Rattle.script_run.specs.Step.{LineAnswer, AtNode, Named, AtTree, Settled, AtId, IsTreeOf, Managed, Acts, Holds, Within, Turns, Reports, Settles, Looks, MapsOf, GivesMaps, ShowsMaps, Does, end_of, config_of, kind_of, notes_after_act, notes_after_report}
+use Rattle.script_run.specs.Step.{LineAnswer, AtNode, Named, AtTree, Settled, AtId, IsTreeOf, Managed, Acts, Holds, Within, Reports, Settles, MapsOf, GivesMaps, Does, end_of, config_of, kind_of, notes_after_report}
 use Rattle.script_run.proofs.OneText.{one-text}
 use Rattle.script_run.proofs.OneMaps.{same_maps}
 use Rattle.script_run.proofs.told.Cables.{IsCabled, turns-cabled, act-cabled, one-world}
@@ -67,13 +66,14 @@ at-id :
 at-id tree None Comes one a b x y = known (Err Kind.NoManager) a b tt x y
 at-id tree (Some id) Comes one a b x y = one _ a b x y
 
-same-tree : NoListHasTwoTrees → (list : List ℕ) (t u : Tree) → IsTreeOf list t → IsTreeOf list u → t ≡ u
+same-tree :
+    NoListHasTwoTrees → (list : List ℕ) (t u : Tree) → IsTreeOf list t → IsTreeOf list u → t ≡ u
 same-tree trees list t u x y = trees t u x.bus y.bus (x.emitted ∙ sym y.emitted)
 
 managed :
     NoListHasTwoTrees → (bus : Bus) (name : List ℕ)
     (Comes : NodeNumber → Reported → NodeNumber → LineAnswer → Type 0) →
-    ((node : NodeNumber) (tree : Reported) (manager : NodeNumber) → IsOne (Comes node tree manager)) →
+    ((node : NodeNumber) (tree : Reported) (k : NodeNumber) → IsOne (Comes node tree k)) →
     IsOne (Managed bus name Comes)
 managed trees bus name Comes one =
     named bus name _ (λ node. settled bus node _ (λ tree a b x y.
@@ -104,7 +104,8 @@ not-refused : (fault : Option CableFault) (kind : Kind) → fault ≡ None →
 not-refused None kind none h = h
 not-refused (Some f) kind none h = absurd cc
 
-one-refusal : (fault : Option CableFault) (one other : Kind) → IsSomeAnd fault (λ f. one ≡ kind_of f) →
+one-refusal :
+    (fault : Option CableFault) (one other : Kind) → IsSomeAnd fault (λ f. one ≡ kind_of f) →
     IsSomeAnd fault (λ f. other ≡ kind_of f) → one ≡ other
 one-refusal None one other x y = absurd x
 one-refusal (Some f) one other x y = x ∙ sym y
@@ -113,7 +114,8 @@ acts : (bus : Bus) (act : Act) → IsCabled bus.world → IsOne (Acts bus act)
 unfolding answer-of
 acts bus act h (Ok (a, s)) (Ok (b, t)) x y = (
   same-answer a b s t
-  (same-bus a b (one-world act bus.world a.world b.world x.1 y.1) (x.2 ∙ sym y.2)) (x.3 ∙ sym y.3),
+      (same-bus a b (one-world act bus.world a.world b.world x.1 y.1) (x.2 ∙ sym y.2))
+      (x.3 ∙ sym y.3),
   act-cabled act bus.world a.world x.0 x.1 h,
 )
 acts bus act h (Ok (a, s)) (Err kind) x y =
@@ -130,7 +132,9 @@ holds bus end turns h a b x y = go (hold_fault end bus.world) refl
     go None e = known _ a b h (rw e at x) (rw e at y)
     go (Some fault) e = known (Err (kind_of fault)) a b tt (rw e at x) (rw e at y)
 
-within : (bus : Bus) (turns : ℕ) (Comes : LineAnswer → Type 0) → IsOne Comes → IsOne (Within bus turns Comes)
+within :
+    (bus : Bus) (turns : ℕ) (Comes : LineAnswer → Type 0) → IsOne Comes →
+    IsOne (Within bus turns Comes)
 within bus turns Comes one = go (nat_lt 2000000 (bus.world.turns + turns))
   where
     go : (past : Bool) → IsOne (λ r. MatchBool past (r ≡ Err Kind.TooManyTurns) (Comes r))
@@ -164,15 +168,15 @@ settles trees bus h =
 -- ---- maps
 
 gives-maps :
-    NoListHasTwoTrees → (bus : Bus) (tree : Reported) → IsCabled bus.world → IsOne (GivesMaps bus tree)
+    NoListHasTwoTrees → (bus : Bus) (tree : Reported) → IsCabled bus.world →
+    IsOne (GivesMaps bus tree)
 unfolding answer-of
 gives-maps trees bus tree h (Ok (a, s)) (Ok (b, t)) x y =
     let same : y.shown ≡ x.shown = same-tree trees tree.list y.shown x.shown y.is x.is in
     let generation : ℕ = resets_of bus.world tree.root in
     let other : IsMapsText generation x.shown t =
     subst (λ (u : Tree). IsMapsText generation u t) same y.told in
-    let texts : s ≡ t = same_maps generation x.shown s t x.is.bus x.told other in
-    (
+    let texts : s ≡ t = same_maps generation x.shown s t x.is.bus x.told other in (
       same-answer a b s t (x.after_is ∙ sym y.after_is) texts,
       subst (λ (u : Bus). IsCabled u.world) (sym x.after_is) h,
     )
@@ -196,7 +200,9 @@ call : (bus after : Bus) (text : List ℕ) → after.world ≡ bus.world → IsC
 call bus after text same h a b x y =
     known (Ok (after, text)) a b (subst IsCabled (sym same) h) x y
 
-pub does : NoListHasTwoTrees → (bus : Bus) (command : Command) → IsCabled bus.world → IsOne (Does bus command)
+pub does :
+    NoListHasTwoTrees → (bus : Bus) (command : Command) → IsCabled bus.world →
+    IsOne (Does bus command)
 does trees bus
     (Node name ports speed link contender force power gap hold short long word len seed packed)
     h = λ a b x y. known (Err Kind.Late) a b tt x y

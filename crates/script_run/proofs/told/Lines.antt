@@ -4,16 +4,15 @@ use Rattle.std.specs.Prelude.{nat_lt, Result, Ok, Err, IfSome, if◌then◌else�
 use Rattle.std.proofs.lemmas.List.{length-append, length-map}
 use Rattle.std.proofs.lemmas.Bool.Decides.{nat_tests}
 use Rattle.topology_stack.specs.OneAnswer.{NoListHasTwoTrees}
-use Rattle.cabling.specs.Wiring.{without_cables}
 use Rattle.cabling.proofs.Ends.{bare}
 use Rattle.port_state.specs.Machine.{PortNode}
 use Rattle.script_run.specs.declared.kind.Kind.{Kind}
 use Rattle.script_run.specs.declared.command.Command.{Command}
 use Rattle.script_run.specs.declared.command.Command.TheVariants.{Node, Delay}
 use Rattle.script_run.specs.Line.{Reads}
-use Rattle.script_run.specs.Bus.{Bus, is_declared}
-use Rattle.script_run.specs.Step.{LineAnswer, Does}
-use Rattle.script_run.specs.Script.{Draft, Stage, fresh, declaring, running, StageAnswer, draft_of, bus_of, delay_of, first_draft, with_node, Declares, Delays, onwards, Runs, Follows, Told, behind, fault_at, ends_with, Ends, Goes, Takes, Tells, script_lines}
+use Rattle.script_run.specs.Bus.{is_declared}
+use Rattle.script_run.specs.Step.{LineAnswer}
+use Rattle.script_run.specs.Script.{Draft, Stage, fresh, declaring, running, StageAnswer, draft_of, bus_of, delay_of, first_draft, with_node, Declares, Delays, onwards, Runs, Follows, Told, behind, ends_with, Ends, Goes, Takes, Tells, script_lines}
 use Rattle.script_run.specs.OneTold.{ScriptsTellOneThing}
 use Rattle.script_run.proofs.LineRead.{one_reading}
 use Rattle.script_run.proofs.told.Cables.{IsCabled}
@@ -29,11 +28,15 @@ HavePorts (x ∷ nodes) = MayBePorts x.state.ports × HavePorts nodes
 abbrev ports-of : List PortNode → List ℕ
 ports-of nodes = map (λ (x : PortNode). x.state.ports) nodes
 
-one-more : (nodes : List PortNode) (x : PortNode) → HavePorts nodes → MayBePorts x.state.ports → HavePorts (nodes ++ x ∷ [])
+one-more :
+    (nodes : List PortNode) (x : PortNode) → HavePorts nodes → MayBePorts x.state.ports →
+    HavePorts (nodes ++ x ∷ [])
 one-more [] x h p = (p, tt)
 one-more (y ∷ nodes) x h p = (h.0, one-more nodes x h.1 p)
 
-at-place : (nodes : List PortNode) → HavePorts nodes → (i : ℕ) → i < length (ports-of nodes) → MayBePorts (get_or (ports-of nodes) i 0)
+at-place :
+    (nodes : List PortNode) → HavePorts nodes → (i : ℕ) → i < length (ports-of nodes) →
+    MayBePorts (get_or (ports-of nodes) i 0)
 at-place [] h i inside = absurd (omega (arith, inside))
 at-place (x ∷ nodes) h zero inside = h.0
 at-place (x ∷ nodes) h (suc i) inside = at-place nodes h.1 i (omega (arith, inside))
@@ -75,7 +78,8 @@ known : (r a b : StageAnswer) → LeavesFit r → a ≡ r → b ≡ r → (a ≡
 known r a b h x y = (x ∙ sym y, subst LeavesFit (sym x) h)
 
 -- a node more, where there is room
-drafted : (draft : Draft) (name : List ℕ) (node : PortNode) → nat_lt 62 (length draft.names) ≡ false →
+drafted :
+    (draft : Draft) (name : List ℕ) (node : PortNode) → nat_lt 62 (length draft.names) ≡ false →
     IsDrafted draft → MayBePorts node.state.ports → IsDrafted (with_node draft name node)
 drafted draft name node room h p =
     let few : length draft.names ≤ 62 = grind (arith, nat_tests) in
@@ -91,7 +95,8 @@ drafted draft name node room h p =
 
 declares :
     (draft : Option Draft) (name : List ℕ) (node : ℕ → ℕ → PortNode) → IfSome draft IsDrafted →
-    ((d number : ℕ) → MayBePorts (node d number).state.ports) → IsOneStage (Declares draft name node)
+    ((d number : ℕ) → MayBePorts (node d number).state.ports) →
+    IsOneStage (Declares draft name node)
 declares None name node h p = λ a b x y. known (Err Kind.Late) a b tt x y
 declares (Some draft) name node h p =
     go (nat_lt 62 (length draft.names)) (is_declared draft.names name) refl
@@ -124,10 +129,11 @@ leaves : (r : LineAnswer) → LeavesCabled r → LeavesFit (onwards r)
 leaves (Ok (bus, text)) h = h
 leaves (Err kind) h = tt
 
-runs : NoListHasTwoTrees → (stage : Stage) (command : Command) → Fits stage → IsOneStage (Runs stage command)
+runs :
+    NoListHasTwoTrees → (stage : Stage) (command : Command) → Fits stage →
+    IsOneStage (Runs stage command)
 runs trees stage command h a b x y =
-    let same = does trees (bus_of stage) command (cabled stage h) x.0 y.0 x.1 y.1 in
-    (
+    let same = does trees (bus_of stage) command (cabled stage h) x.0 y.0 x.1 y.1 in (
       x.2 ∙ ap onwards same.0 ∙ sym y.2,
       subst LeavesFit (sym x.2) (leaves x.0 same.1),
     )
@@ -150,7 +156,9 @@ ends trees number stage one other h x y =
 
 -- what the rest of a script tells from a stage on is one thing
 abbrev IsOneRest : (Stage → Told → Type 0) → Type 0
-IsOneRest Rest = (stage : Stage) (one other : Told) → Fits stage → Rest stage one → Rest stage other → one ≡ other
+IsOneRest Rest =
+    (stage : Stage) (one other : Told) → Fits stage → Rest stage one → Rest stage other →
+    one ≡ other
 
 goes : (number : ℕ) (Rest : Stage → Told → Type 0) (r : StageAnswer) (one other : Told) →
     IsOneRest Rest → LeavesFit r → Goes number Rest r one → Goes number Rest r other → one ≡ other
@@ -158,8 +166,9 @@ goes number Rest (Ok (stage, text)) one other rest h x y =
     x.2 ∙ ap (behind text) (rest stage x.0 y.0 h x.1 y.1) ∙ sym y.2
 goes number Rest (Err kind) one other rest h x y = x ∙ sym y
 
-takes : NoListHasTwoTrees → (number : ℕ) (Rest : Stage → Told → Type 0) (stage : Stage) (line : List ℕ)
-    (reading : Result (Option Command) Kind) (one other : Told) → IsOneRest Rest → Fits stage →
+takes :
+    NoListHasTwoTrees → (number : ℕ) (Rest : Stage → Told → Type 0) (stage : Stage)
+    (line : List ℕ) (reading : Result (Option Command) Kind) (one other : Told) → IsOneRest Rest → Fits stage →
     Reads (delay_of stage) line reading → Takes number Rest stage reading one →
     Takes number Rest stage reading other → one ≡ other
 takes trees number Rest stage line (Ok None) one other rest h reads x y = rest stage one other h x y
@@ -175,9 +184,11 @@ tells : NoListHasTwoTrees → (number : ℕ) (lines : List (List ℕ)) → IsOne
 tells trees number [] stage one other h x y = ends trees number stage one other h x y
 tells trees number (line ∷ lines) stage one other h x y =
     let same : y.0 ≡ x.0 = one_reading (delay_of stage) line y.0 x.0 y.1 x.1 in
-    let again : Takes number (Tells (number + 1) lines) stage x.0 other =
-    subst (λ (r : Result (Option Command) Kind). Takes number (Tells (number + 1) lines) stage r other) same y.2 in
-    takes trees number (Tells (number + 1) lines) stage line x.0 one other (tells trees (number + 1) lines) h x.1 x.2 again
+    let Rest : Stage → Told → Type 0 = Tells (number + 1) lines in
+    let again : Takes number Rest stage x.0 other =
+    subst (λ (r : Result (Option Command) Kind). Takes number Rest stage r other) same y.2 in
+    takes trees number Rest stage line x.0 one other (tells trees (number + 1) lines) h
+    x.1 x.2 again
 
 pub one-told : NoListHasTwoTrees → ScriptsTellOneThing
 one-told trees bytes one other x y = tells trees 1 (script_lines bytes) fresh one other tt x y

@@ -1,20 +1,20 @@
 -- The line of a node says 1 to 16 ports.
-use Rattle.std.proofs.Common.{◌≡◌, ℕ, ◌≤◌, List, [], ◌∷◌, Option, Some, None, Bool, true, false, ◌&&◌, drop, take, codes, refl, sym, ap, subst, arith}
-use Rattle.std.specs.Prelude.{cond, nat_le, Result, Ok, unwrap_or}
+use Rattle.std.proofs.Common.{◌≡◌, ℕ, ◌≤◌, List, [], ◌∷◌, Option, Some, None, Bool, true, false, ◌&&◌, codes, refl, sym, subst, arith}
+use Rattle.std.specs.Prelude.{cond, nat_le, Ok, unwrap_or}
 use Rattle.std.specs.Option.{option_or}
 use Rattle.std.specs.Str.{bytes_eq}
 use Rattle.std.specs.Str.Lines.{strip_carriage_return}
 use Rattle.std.proofs.lemmas.Bool.Decides.{nat_tests}
-use Rattle.script_run.specs.declared.kind.Kind.{Kind}
-use Rattle.script_run.specs.declared.kind.Kind.TheVariants.{Number, Range}
+use Rattle.script_run.specs.declared.kind.Kind.TheVariants.{Range}
 use Rattle.script_run.specs.declared.command.Command.{Command}
 use Rattle.script_run.specs.declared.command.Command.TheVariants.{Node}
 use Rattle.script_run.specs.Number.{number_of}
-use Rattle.script_run.specs.Shape.{fit, first_wrong, out_of, wrong_name}
+use Rattle.script_run.specs.Shape.{first_wrong, out_of, wrong_name}
 use Rattle.script_run.specs.Form.{Form, number_at, command_of, plug, pull, reset, turn, hold, settle, config_root, config_gap, config_both, csr_read, csr_write, csr_lock, look, allocate, release, manager, maps, delay}
 use Rattle.script_run.specs.Words.{words_of}
-use Rattle.script_run.specs.Node.{has_node_form, node_shapes, wrong_node, first_wrong_pair, node_command, are_pairs}
+use Rattle.script_run.specs.Node.{has_node_form, node_shapes, wrong_node, first_wrong_pair}
 use Rattle.script_run.specs.Line.{LineForm, node, other, meaning, wrong_word, has_form, IsCommand, Reads}
+use Rattle.script_run.proofs.GivenValues.{neither}
 
 -- a number of ports that a node may have
 abbrev pub MayBePorts : ℕ → Type 0
@@ -61,10 +61,6 @@ number : (n : Option ℕ) → out_of 1 16 n ≡ None → MayBePorts (unwrap_or n
 number None h = absurd cc
 number (Some n) h = in-range n h
 
-neither : {A : Type 0} → (a b : Option A) → option_or a b ≡ None → (a ≡ None) × (b ≡ None)
-neither None b h = (refl, h)
-neither (Some x) b h = absurd cc
-
 -- fewer words than three have no such form
 too-few : (verb pairs : Bool) → ((verb && false) && pairs) ≡ true → ⊥
 too-few true pairs h = absurd cc
@@ -78,8 +74,9 @@ node-ports d [] h right = absurd cc
 node-ports d (verb ∷ []) h right = absurd (too-few (bytes_eq verb (codes "node")) _ h)
 node-ports d (verb ∷ name ∷ []) h right = absurd (too-few (bytes_eq verb (codes "node")) _ h)
 node-ports d (verb ∷ name ∷ ports ∷ pairs) h right =
-    let first : first_wrong node_shapes (verb ∷ name ∷ ports ∷ []) ≡ None =
-    (neither (first_wrong node_shapes (verb ∷ name ∷ ports ∷ [])) (first_wrong_pair d [] pairs) right).0 in
+    let words : List (List ℕ) = verb ∷ name ∷ ports ∷ [] in
+    let first : first_wrong node_shapes words ≡ None =
+    (neither (first_wrong node_shapes words) (first_wrong_pair d [] pairs) right).0 in
     let behind : option_or (out_of 1 16 (number_of ports)) None ≡ None =
     (neither (wrong_name name) (option_or (out_of 1 16 (number_of ports)) None) first).1 in
     number (number_of ports) (neither (out_of 1 16 (number_of ports)) None behind).0
@@ -92,7 +89,9 @@ said d words node h right = node-ports d words h right
 said d words (other form) h right = fixed form words
 
 pub read-ports :
-    (d : ℕ) (line : List ℕ) (command : Command) → Reads d line (Ok (Some command)) → HasPorts command
+    (d : ℕ) (line : List ℕ) (command : Command) → Reads d line (Ok (Some command)) →
+    HasPorts command
 read-ports d line command h =
-    let is : IsCommand d (words_of (strip_carriage_return line)) command = h.1.1 in
-    subst HasPorts (sym is.says) (said d (words_of (strip_carriage_return line)) is.form is.has is.right)
+    let words : List (List ℕ) = words_of (strip_carriage_return line) in
+    let is : IsCommand d words command = h.1.1 in
+    subst HasPorts (sym is.says) (said d words is.form is.has is.right)
