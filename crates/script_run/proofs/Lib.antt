@@ -12,3 +12,4 @@ pub mod NamedReports
 pub mod OneText
 pub mod Turns
 pub mod told
+pub mod WorkedScripts
