@@ -34,7 +34,7 @@ key_of-word_of Coins = refl
 key_of-word_of Seed = refl
 key_of-word_of Kind = refl
 
-neither : {A : Type 0} (a b : Option A) → option_or a b ≡ None → (a ≡ None) × (b ≡ None)
+pub neither : {A : Type 0} (a b : Option A) → option_or a b ≡ None → (a ≡ None) × (b ≡ None)
 neither None b h = (refl, h)
 neither (Some x) b h = absurd (cc)
 

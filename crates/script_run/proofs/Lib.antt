@@ -13,3 +13,5 @@ pub mod OneText
 pub mod Turns
 pub mod NamedTree
 pub mod BeforeAnything
+pub mod told
+pub mod WorkedScripts

@@ -18,4 +18,5 @@ pub mod Bus
 pub mod CommandText
 pub mod Step
 pub mod Script
+pub mod OneTold
 pub mod codings

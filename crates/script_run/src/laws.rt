@@ -1,9 +1,10 @@
-//! Laws of lines and of reports.
+//! Laws of lines, of reports and of scripts.
 ghost use Rattle.std.specs.Prelude.{IsFalse};
 ghost use Rattle.script_run.specs.Answer.{OneReading, SomeReading};
 ghost use Rattle.script_run.specs.Name.{NamesAreTested};
 ghost use Rattle.script_run.specs.CanBeShown.{CanBeShown};
 ghost use Rattle.script_run.specs.OneText.{ReportsHaveOneText};
+ghost use Rattle.script_run.specs.OneTold.{ScriptsTellOneThing};
 
 use cable_world::WorldRun;
 use settle::reports_are_read_back;
@@ -33,6 +34,13 @@ pub fn reports_can_be_shown<W: WorldRun>(world: &W)
 /// A law: a report has one text at most.
 pub fn reports_have_one_text()
     ensures { ReportsHaveOneText }
+{
+    one_tree();
+}
+
+/// A law: no script tells two things. It has one text, or one fault of one line.
+pub fn scripts_tell_one_thing()
+    ensures { ScriptsTellOneThing }
 {
     one_tree();
 }

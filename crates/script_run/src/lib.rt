@@ -31,7 +31,10 @@ mod words;
 pub use command::Command;
 pub use kind::{Kind, LineStop, ScriptFault, ScriptStop};
 pub use last_report::summary;
-pub use laws::{names_are_tested, one_reading, reports_can_be_shown, reports_have_one_text};
+pub use laws::{
+    names_are_tested, one_reading, reports_can_be_shown, reports_have_one_text,
+    scripts_tell_one_thing,
+};
 pub use line::parse_line;
 pub use maps::maps_text;
 pub use report::report_text;

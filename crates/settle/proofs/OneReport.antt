@@ -5,6 +5,7 @@ use Rattle.std.specs.Int.{w64, trailing_zeros}
 use Rattle.std.proofs.lemmas.Bool.{cases_eq}
 use Rattle.std.proofs.lemmas.Nat.Bits.{same_from_bits}
 use Rattle.topology_stack.specs.Tree.{Tree, emits}
+use Rattle.cabling.specs.Wiring.{IsCabling}
 use Rattle.cabling.specs.NodeSet.{Holds, IsWithin}
 use Rattle.cabling.specs.Component.{IsComponent}
 use Rattle.cabling.specs.Sees.{numbers}
@@ -12,7 +13,6 @@ use Rattle.cabling.proofs.Bits.{clear_bit, none_of_zero, some_node}
 use Rattle.cabling.proofs.Cascade.{holds_or_not}
 use Rattle.cabling.proofs.Whole.{shared}
 use Rattle.cable_world.specs.World.{CableWorld, NodeNumber, NodeSet}
-use Rattle.cable_world.specs.Lawful.{IsWellFormed}
 use Rattle.cable_world.specs.Run.{IsReached}
 use Rattle.cable_world.specs.Outcome.{Outcome, loop, tree, contention, IsOutcome, IsLoop}
 use Rattle.cable_world.proofs.OneOutcome.{one-outcome}
@@ -86,7 +86,7 @@ same-lists (x ∷ xs) (y ∷ ys) r s f g =
 -- ---- one part of a component
 
 -- sets that hold each other's nodes are one
-same-nodes : (a b : NodeSet) → IsWithin a b → IsWithin b a → a ≡ b
+pub same-nodes : (a b : NodeSet) → IsWithin a b → IsWithin b a → a ≡ b
 same-nodes a b f g = same_from_bits a b (λ k. elim (holds_or_not a k) [
   | inl is ↦ is ∙ sym (f k is)
   | inr out ↦ clear_bit a k out ∙ sym (clear_bit b k (λ is. out (g k is)))
@@ -106,7 +106,7 @@ same-part p q a b c d =
     ∙ ap (λ (x : ℕ). part-of q.nodes q.rounds x p.outcome) c
     ∙ ap (λ (x : Reported). part-of q.nodes q.rounds q.changed x) d
 
-module _ (w : CableWorld) (formed : IsWellFormed w) where
+module _ (w : CableWorld) (cabled : IsCabling w.cabling) where
   -- a loop has a node
   loop-is : (set core : NodeSet) → AreThere w set → ReportsLoop w set core → IsLoop w set core
   loop-is set core there h = record {
@@ -118,7 +118,7 @@ module _ (w : CableWorld) (formed : IsWellFormed w) where
   }
     where
       small : core < 2 ^ 63
-      small = small-set core 63 (λ k inside. let p = (h.is k).0 inside in omega (arith, there k (p.1 k p.3), formed.cabling.few_nodes))
+      small = small-set core 63 (λ k inside. let p = (h.is k).0 inside in omega (arith, there k (p.1 k p.3), cabled.few_nodes))
 
       some : 0 < core
       some = elim (cases_eq core 0) [
@@ -155,7 +155,7 @@ module _ (w : CableWorld) (formed : IsWellFormed w) where
       rw cores refl
 
   within : (p q : Part) (k : NodeNumber) → IsPart w p → IsPart w q → Holds p.nodes k → Holds q.nodes k → (i : NodeNumber) → Holds p.nodes i → Holds q.nodes i
-  within p q k x y a b = (shared w.cabling x.node k p.nodes formed.cabling x.component a).least q.nodes b y.component.closed
+  within p q k x y a b = (shared w.cabling x.node k p.nodes cabled x.component a).least q.nodes b y.component.closed
 
   -- parts that share a node are one
   one-part : (p q : Part) (k : NodeNumber) → IsPart w p → IsPart w q → Holds p.nodes k → Holds q.nodes k → p ≡ q
@@ -186,6 +186,10 @@ same-report : (r s : Report) → r.turn ≡ s.turn → r.parts ≡ s.parts → r
 unfolding report-of
 same-report r s a b = ap (λ (n : ℕ). report-of n r.parts) a ∙ ap (report-of s.turn) b
 
+-- so it is over any cabling
+pub one-over-cabling : (w : CableWorld) (one other : Report) → IsCabling w.cabling → IsReport w one → IsReport w other → one ≡ other
+one-over-cabling w one other cabled x y =
+    same-report one other (x.turn ∙ sym y.turn) (one-list w cabled one.parts other.parts x.parts y.parts)
+
 pub one-report : (w : CableWorld) (one other : Report) → ∥ IsReached w ∥₁ → IsReport w one → IsReport w other → one ≡ other
-one-report w one other r x y =
-    same-report one other (x.turn ∙ sym y.turn) (one-list w (lawful-now w r).well_formed one.parts other.parts x.parts y.parts)
+one-report w one other r x y = one-over-cabling w one other (lawful-now w r).well_formed.cabling x y

@@ -1,0 +1,159 @@
+-- Scripts and what the definitions tell of them, worked out by the check.
+use Rattle.std.proofs.Common.{◌≡◌, ℕ, zero, suc, ◌+◌, ◌<◌, Bool, true, false, List, [], ◌∷◌, Option, Some, None, codes, length, refl, sym, subst, ap, ◌∙◌, arith}
+use Rattle.std.specs.Prelude.{Result, Ok, Err, MatchBool, nat_lt}
+use Rattle.std.specs.Fmt.{digits}
+use Rattle.std.specs.Str.Lines.{strip_carriage_return}
+use Rattle.std.proofs.lemmas.Bool.{lt-ltb}
+use Rattle.port_state.specs.Machine.{PortNode}
+use Rattle.cable_world.specs.declared.act.Act.{Act}
+use Rattle.cable_world.specs.declared.act.Act.TheVariants as act
+use Rattle.cable_world.specs.World.{CableWorld, world_of_nodes}
+use Rattle.cable_world.specs.Turn.{turn, turns_after}
+use Rattle.cable_world.specs.Act.{note_changes, plug}
+use Rattle.cable_world.specs.Run.{quiet_turns}
+use Rattle.cable_world.proofs.turns.ByNumber.{turns-counted, delay-after, cabling-after}
+use Rattle.settle.specs.declared.report.Report.{Report}
+use Rattle.settle.specs.Report.{IsReport, quiet_turns_of}
+use Rattle.script_run.specs.declared.kind.Kind.{Kind}
+use Rattle.script_run.specs.declared.kind.Kind.TheVariants.{Word, Twice, Late, InUse, SameNode, NotPlugged, NotSettled, TooManyTurns}
+use Rattle.script_run.specs.declared.command.Command.{Command}
+use Rattle.script_run.specs.declared.command.Command.TheVariants.{Node, Plug, Pull, Turn, CsrRead}
+use Rattle.script_run.specs.Words.{words_of}
+use Rattle.script_run.specs.Number.{number_of, of_digits}
+use Rattle.script_run.specs.Name.{is_name}
+use Rattle.script_run.specs.Line.{IsRead, Reads}
+use Rattle.script_run.specs.ReportText.{report_line, numbered, none}
+use Rattle.script_run.specs.Bus.{Bus, bus_of_nodes}
+use Rattle.script_run.specs.Step.{LineAnswer, end_of, notes_after_act, notes_after_report, Reports, Settles}
+use Rattle.script_run.specs.Script.{script_lines, Stage, fresh, declaring, running, StageAnswer, bus_of, delay_of, first_draft, new_node, times_of, coins_of, Follows, Told, behind, fault_at, Tells, IsTold}
+use Rattle.script_run.specs.codings.Reading.{read_line}
+use Rattle.script_run.proofs.LineRead.{reads}
+
+-- ---- lines
+
+no-lines : script_lines [] ≡ []
+no-lines = refl
+
+without-a-feed : script_lines (codes "turn 1") ≡ codes "turn 1" ∷ []
+without-a-feed = refl
+
+with-a-feed : script_lines (codes "turn 1\n") ≡ codes "turn 1" ∷ []
+with-a-feed = refl
+
+two-feeds : script_lines (codes "turn 1\n\n") ≡ codes "turn 1" ∷ [] ∷ []
+two-feeds = refl
+
+one-feed : script_lines (codes "\n") ≡ [] ∷ []
+one-feed = refl
+
+empty-line : script_lines (codes "reset a\n\nturn 1") ≡ codes "reset a" ∷ [] ∷ codes "turn 1" ∷ []
+empty-line = refl
+
+-- ---- one line, and the rest
+
+module _ (number : ℕ) (line : List ℕ) (lines : List (List ℕ)) (stage : Stage) where
+  line-is : (reading : Result (Option Command) Kind) → read_line (delay_of stage) (strip_carriage_return line) ≡ reading → Reads (delay_of stage) line reading
+  line-is reading e = subst (IsRead (delay_of stage) (strip_carriage_return line)) e (reads (delay_of stage) (strip_carriage_return line))
+
+  -- a command is done
+  done :
+      (command : Command) (next : Stage) (text : List ℕ) (more : Told) →
+      read_line (delay_of stage) (strip_carriage_return line) ≡ Ok (Some command) →
+      Follows stage command (Ok (next, text)) → Tells (number + 1) lines next more →
+      Tells number (line ∷ lines) stage (behind text more)
+  done command next text more e f rest =
+      (Ok (Some command), line-is (Ok (Some command)) e, (Ok (next, text), f, (more, rest, refl)))
+
+  -- a command is at fault
+  refused :
+      (command : Command) (kind : Kind) →
+      read_line (delay_of stage) (strip_carriage_return line) ≡ Ok (Some command) →
+      Follows stage command (Err kind) → Tells number (line ∷ lines) stage (Err (fault_at number kind))
+  refused command kind e f = (Ok (Some command), line-is (Ok (Some command)) e, (Err kind, f, refl))
+
+  -- a line says no command
+  bad : (kind : Kind) → read_line (delay_of stage) (strip_carriage_return line) ≡ Err kind →
+      Tells number (line ∷ lines) stage (Err (fault_at number kind))
+  bad kind e = (Err kind, line-is (Err kind) e, refl)
+
+  -- a line is skipped
+  skipped : (told : Told) → read_line (delay_of stage) (strip_carriage_return line) ≡ Ok None →
+      Tells (number + 1) lines stage told → Tells number (line ∷ lines) stage told
+  skipped told e rest = (Ok None, line-is (Ok None) e, rest)
+
+-- ---- no nodes
+
+abbrev nothing : CableWorld
+nothing = world_of_nodes 4 []
+
+-- what so many turns leave as it is
+record AfterTurns (k : ℕ) (w v : CableWorld) : Type 0 where
+  turns : v.turns ≡ w.turns + k
+  delay : v.delay ≡ w.delay
+  cabling : v.cabling ≡ w.cabling
+
+after-turns : (k : ℕ) (w : CableWorld) → AfterTurns k w (turns_after k w)
+unfolding turns_after
+after-turns zero w = record { turns = omega arith; delay = refl; cabling = refl }
+after-turns (suc k) w =
+    let rest = after-turns k (turn w) in
+    record {
+      turns = omega (arith, rest.turns, turns-counted w);
+      delay = rest.delay ∙ delay-after w;
+      cabling = rest.cabling ∙ cabling-after w;
+    }
+
+abbrev no-parts : ℕ → Report
+no-parts turn = record { turn = turn; parts = [] }
+
+-- a world without nodes has a report without parts
+empty-report : (k : ℕ) → IsReport (turns_after k nothing) (no-parts k)
+empty-report k =
+    let same = after-turns k nothing in
+    let none-there : length (turns_after k nothing).cabling ≡ 0 = ap length same.cabling in
+    record {
+      turn = omega (arith, same.turns);
+      parts = record {
+        each = λ i d inside. absurd (omega (arith, inside));
+        rising = λ i j d less inside. absurd (omega (arith, inside));
+        whole = λ j inside. absurd (omega (arith, inside, none-there));
+      };
+    }
+
+-- at its end the bus settles once
+no-bytes : IsTold [] (Ok (codes "report 1 turn 8000\n"))
+unfolding report_line numbered digits
+no-bytes =
+    let bus : Bus = bus_of_nodes 4 [] [] in
+    let after : Bus = record {
+      world = turns_after 8000 nothing;
+      notes = notes_after_report bus.notes (no-parts 8000);
+    } in
+    let text : List ℕ = codes "report 1 turn 8000\n" in
+    (
+      Ok (after, text),
+      (no-parts 8000, refl, empty-report 8000, refl, record { parts = []; told = none; is = refl }),
+      refl,
+    )
+
+-- the turns before a report don't fit behind so many turns
+past : (w : CableWorld) → AfterTurns 2000000 nothing w → nat_lt 2000000 (w.turns + quiet_turns_of w) ≡ true
+past w h =
+    let delay : w.delay ≡ 4 = h.delay in
+    let nodes : length w.cabling ≡ 0 = ap length h.cabling in
+    let quiet : quiet_turns_of w ≡ 8000 =
+    ap (λ (n : ℕ). quiet_turns n w.delay) nodes ∙ ap (quiet_turns 0) delay in
+    lt-ltb 2000000 (w.turns + quiet_turns_of w) (omega (arith, h.turns, quiet))
+
+too-many-turns : IsTold (codes "turn 2000000") (Err (fault_at 2 TooManyTurns))
+unfolding words_of number_of of_digits is_name
+too-many-turns =
+    let bus : Bus = bus_of_nodes 4 [] [] in
+    let after : Bus = record bus { world = turns_after 2000000 nothing } in
+    let answer : LineAnswer = Err TooManyTurns in
+    let full = past after.world (after-turns 2000000 nothing) in
+    let ends : Settles after answer =
+    subst (λ (b : Bool). MatchBool b (answer ≡ Err TooManyTurns) (Reports after answer)) (sym full)
+    refl in
+    done 1 (codes "turn 2000000") [] fresh (Turn 2000000) (running after) []
+    (Err (fault_at 2 TooManyTurns)) refl (Ok (after, []), refl, refl) (answer, ends, refl)

@@ -1,0 +1,9 @@
+-- No script tells two things.
+--
+-- `Cables`: acts and turns leave cables that are a cabling, over which a world has one report.
+-- `Commands`: a command comes to one answer, and leaves a cabling. `Ports`: a node's line says 1 to
+-- 16 ports. `Lines`: what follows at a stage, and what lines tell.
+pub mod Cables
+pub mod Commands
+pub mod Ports
+pub mod Lines
