@@ -3,3 +3,4 @@ pub mod Reading
 pub mod Appended
 pub mod Running
 pub mod Stop
+pub mod Declaring
