@@ -4,3 +4,4 @@ pub mod Appended
 pub mod Running
 pub mod Stop
 pub mod Going
+pub mod Declaring

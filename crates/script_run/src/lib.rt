@@ -11,6 +11,7 @@ mod bank;
 mod bus;
 mod coins;
 mod command;
+mod draft;
 mod fixed;
 mod key;
 mod kind;

@@ -1,0 +1,62 @@
+-- The nodes that a script declares, as the code keeps them.
+use Rattle.std.specs.Prelude.{◌≡◌, ℕ, ◌≤◌, All, false, length, map, Result, Ok, Err, Some, []}
+use Rattle.phy_machine.specs.Any.{any_node}
+use Rattle.port_state.specs.Machine.{PortNode}
+use Rattle.cable_world.specs.World.{IsNodeAtPowerOn}
+use Rattle.script_run.specs.declared.kind.LineStop.{LineStop}
+use Rattle.script_run.specs.declared.kind.LineStop.TheVariants.{Fault, Memory}
+use Rattle.script_run.specs.declared.draft.Draft as kept
+use Rattle.script_run.specs.declared.draft.NodeLine.{NodeLine}
+use Rattle.script_run.specs.Range.{IsNodeInRange}
+use Rattle.script_run.specs.Script.{Draft, Declares, StageAnswer, declaring, new_node, times_of, coins_of}
+
+abbrev pub draft_now : kept.Draft → Draft
+draft_now draft = record {
+  delay = draft.delay;
+  names = draft.names;
+  nodes = map any_node draft.machines.items;
+}
+
+-- what holds of what was declared: there are 63 nodes at most, each just powered on
+pub record IsDraft (draft : kept.Draft) : Type 0 where
+  pub some_delay : 1 ≤ draft.delay
+  pub short_delay : draft.delay ≤ 16
+  pub few : length draft.machines.items ≤ 63
+  pub named : length draft.names ≡ length draft.machines.items
+  pub nodes : All (λ m. IsNodeAtPowerOn draft.delay (any_node m).state) draft.machines.items
+
+-- what a line says of a node, where a cable delays a signal by at most d ticks
+abbrev pub IsLine : ℕ → NodeLine → Type 0
+IsLine d node =
+    IsNodeInRange d node.ports node.speed node.power node.gap node.hold node.short node.long
+    node.coin_len
+
+-- the node that a line declares, where d is the delay and the node gets this number
+abbrev pub node_said : NodeLine → ℕ → ℕ → PortNode
+node_said node d number =
+    new_node
+    (record {
+      link = node.link;
+      gap = node.gap;
+      speed = node.speed;
+      delay = 0;
+      contender = node.contender;
+      power = node.power;
+      initiated = false;
+    })
+    node.ports node.force (times_of d node.hold node.short node.long)
+    (coins_of number node.coin_word node.coin_len node.seed)
+
+-- a fault is what the line comes to at a stage
+abbrev pub StopsAt : (StageAnswer → Type 0) → LineStop → Type 0
+StopsAt comes (Fault kind) = comes (Err kind)
+StopsAt comes (Memory none) = Unit {0}
+
+-- what comes of a line that declares a node
+abbrev pub DeclaresNode : kept.Draft → NodeLine → StageAnswer → Type 0
+DeclaresNode draft node answer =
+    Declares (Some (draft_now draft)) node.name (node_said node) answer
+
+-- the node is declared, and this is the draft then
+abbrev pub IsDeclared : kept.Draft → NodeLine → kept.Draft → Type 0
+IsDeclared draft node after = DeclaresNode draft node (Ok (declaring (draft_now after), []))

@@ -1,0 +1,257 @@
+//! The nodes that a script declares before its bus runs.
+ghost use Rattle.std.specs.Prelude.{◌≡◌, ◌≤◌, ℕ, None, Some, Err, false, IfOk, IfErr, OnOk, length, map, nat_lt, replicate};
+ghost use Rattle.port_state.specs.Timing.{InRange};
+ghost use Rattle.port_state.specs.Machine.{PortNode};
+ghost use Rattle.phy_machine.specs.Any.{any_node};
+ghost use Rattle.phy_machine.specs.PowerOn.{IsSpec, node_of_spec};
+ghost use Rattle.cable_world.specs.World.{IsNodeAtPowerOn};
+ghost use Rattle.script_run.specs.Bus.{bus_of_nodes, first_bank, is_declared};
+ghost use Rattle.script_run.specs.Script.{Declares, first_draft, with_node, times_of, coins_of};
+ghost use Rattle.script_run.specs.codings.Running.{bus_now, IsSound};
+ghost use Rattle.script_run.specs.codings.Declaring.{IsDraft, IsLine, IsDeclared, DeclaresNode, StopsAt, draft_now, node_said};
+
+use crate::bank::Bank;
+use crate::bus::{Bus, Notes};
+use crate::kind::{Kind, LineStop};
+use crate::table::NameTable;
+use cable_world::WorldRun;
+use phy_machine::{AnyMachine, FieldMachine, NodeSpec, PackedMachine};
+use port_state::{Coins, Timing};
+use resource_manager::Seen;
+use self_id::Attrs;
+use std::alloc::Global;
+use topology_stack::{Name, OutOfMemory};
+use world_agenda::AgendaWorld;
+
+/// The number of nodes of a script, at most.
+const MAX_NODES: usize = 63;
+
+/// What was declared so far.
+#[derive(Drop)]
+pub(crate) struct Draft {
+    /// A cable delays a signal by at most so many ticks.
+    pub delay: u8,
+    /// The names of the nodes.
+    pub names: NameTable,
+    /// The nodes, each just powered on.
+    pub machines: Vec<AnyMachine>,
+}
+
+/// What a `node` line says, with the usual values where it doesn't say one.
+#[derive(Drop)]
+pub(crate) struct NodeLine {
+    pub name: Name,
+    pub ports: u8,
+    pub speed: u8,
+    pub link: bool,
+    pub contender: bool,
+    pub force: bool,
+    pub power: u8,
+    pub gap: u8,
+    pub hold: Option<u16>,
+    pub short: Option<u16>,
+    pub long: Option<u16>,
+    pub coin_word: u64,
+    pub coin_len: u8,
+    pub seed: Option<u32>,
+    pub packed: bool,
+}
+
+/// The times of a node: where one isn't given, the usual one.
+fn times(node: &NodeLine, d: u8) -> Timing
+    requires some { 1 ≤ d }
+    requires few { d ≤ 16 }
+    requires line { IsLine d node.now }
+    ensures value { result ≡ times_of d node.now.hold node.now.short node.now.long }
+    ensures ranged { InRange d result }
+{
+    let usual = Timing::usual(d);
+    Timing {
+        hold: node.hold.unwrap_or(usual.hold),
+        short: node.short.unwrap_or(usual.short),
+        long: node.long.unwrap_or(usual.long),
+        ..usual
+    }
+}
+
+/// The coins of a node: those that are given, or of the seed, which is the node's number where none
+/// is given.
+fn coins(node: &NodeLine, number: u32) -> Coins
+    requires { node.now.coin_len ≤ 64 }
+    ensures { result
+        ≡ coins_of number node.now.coin_word node.now.coin_len node.now.seed }
+{
+    if node.coin_len == 0 {
+        Coins::seeded(node.seed.unwrap_or(number))
+    } else {
+        Coins::bits(node.coin_word, node.coin_len)
+    }
+}
+
+/// What a node is made of that gets this number.
+fn spec(node: &NodeLine, d: u8, number: u32) -> NodeSpec
+    requires some { 1 ≤ d }
+    requires few { d ≤ 16 }
+    requires line { IsLine d node.now }
+    ensures is { IsSpec result }
+    ensures timing { InRange d result.timing }
+    ensures value { node_of_spec result ≡ node_said node.now d number }
+{
+    NodeSpec {
+        ports: node.ports,
+        attrs: Attrs {
+            link: node.link,
+            gap: node.gap,
+            speed: node.speed,
+            delay: 0,
+            contender: node.contender,
+            power: node.power,
+            initiated: false,
+        },
+        timing: times(node, d),
+        force: node.force,
+        coins: coins(node, number),
+    }
+}
+
+/// A machine of one kind or the other.
+fn machine(spec: NodeSpec, packed: bool) -> AnyMachine
+    requires { IsSpec spec }
+    ensures { any_node result ≡ node_of_spec spec }
+{
+    if packed {
+        AnyMachine::Packed(PackedMachine::new(spec))
+    } else {
+        AnyMachine::Field(FieldMachine::new(spec))
+    }
+}
+
+/// The node that a line declares, just powered on.
+fn powered_on(node: &NodeLine, d: u8, number: u32) -> AnyMachine
+    requires some { 1 ≤ d }
+    requires few { d ≤ 16 }
+    requires line { IsLine d node.now }
+    ensures value { any_node result ≡ node_said node.now d number }
+    ensures power_on { IsNodeAtPowerOn d (any_node result).state }
+{
+    machine(spec(node, d, number), node.packed)
+}
+
+/// Registers that were never used, of so many nodes.
+fn first_banks(alloc: Global, nodes: usize) -> Result<Vec<Bank>, OutOfMemory>
+    ensures { IfOk result (λ banks. banks.items ≡ replicate nodes first_bank) }
+{
+    let mut banks = Vec::with_capacity(alloc, nodes)?;
+    for _ in 0..nodes {
+        banks.push(Bank::new())?;
+    }
+    Ok(banks)
+}
+
+/// No looks of so many nodes.
+fn no_looks(alloc: Global, nodes: usize) -> Result<Vec<Option<Seen>>, OutOfMemory>
+    ensures { IfOk result (λ looks. looks.items ≡ replicate nodes None) }
+{
+    let mut looks = Vec::with_capacity(alloc, nodes)?;
+    for _ in 0..nodes {
+        looks.push(None)?;
+    }
+    Ok(looks)
+}
+
+impl Draft {
+    /// Nothing but a delay, 1 to 16.
+    pub fn new(alloc: Global, delay: u8) -> Draft
+        requires some { 1 ≤ delay }
+        requires few { delay ≤ 16 }
+        ensures value { draft_now result ≡ record first_draft { delay = delay } }
+        ensures sound { IsDraft result }
+    {
+        Draft {
+            delay,
+            names: NameTable::new(alloc),
+            machines: Vec::new(alloc),
+        }
+    }
+
+    /// Fails where there are 63 nodes, and where one has the name.
+    fn check(&self, name: &Name) -> Result<(), LineStop>
+        requires { IsDraft self.now }
+        ensures few { OnOk result (nat_lt 62 (length self.now.names) ≡ false) }
+        ensures new { OnOk result (is_declared self.now.names name.now ≡ false) }
+        ensures stop { (node : ℕ → ℕ → PortNode)
+            → IfErr result (StopsAt (Declares (Some (draft_now self.now)) name.now node)) }
+    {
+        if self.machines.len() >= MAX_NODES {
+            return Err(LineStop::Fault(Kind::TooManyNodes));
+        }
+        if self.names.number(name).is_some() {
+            return Err(LineStop::Fault(Kind::Twice));
+        }
+        Ok(())
+    }
+
+    /// The draft with one node more, which gets the next number.
+    fn with(self, node: NodeLine) -> Result<Draft, OutOfMemory>
+        requires sound { IsDraft self }
+        requires line { IsLine self.delay node }
+        requires few { length self.machines.items ≤ 62 }
+        requires new { is_declared self.names node.name ≡ false }
+        ensures value { IfOk result (λ after. draft_now after
+            ≡ with_node (draft_now self) node.name (node_said node self.delay (length self.names))) }
+        ensures sound { IfOk result (λ after. IsDraft after) }
+    {
+        let Draft {
+            delay,
+            names,
+            mut machines,
+        } = self;
+        let number = machines.len() as u32;
+        machines.push(powered_on(&node, delay, number))?;
+        Ok(Draft {
+            delay,
+            names: names.with(node.name)?,
+            machines,
+        })
+    }
+
+    /// Declares a node, where it isn't the 64th and its name is new.
+    pub fn declare(self, node: NodeLine) -> Result<Draft, LineStop>
+        requires sound { IsDraft self }
+        requires line { IsLine self.delay node }
+        ensures done { IfOk result (IsDeclared self node) }
+        ensures stop { IfErr result (StopsAt (DeclaresNode self node)) }
+        ensures sound { IfOk result IsDraft }
+    {
+        self.check(&node.name)?;
+        Ok(self.with(node)?)
+    }
+
+    /// The bus of these nodes, without cables.
+    pub fn bus(self, alloc: Global) -> Result<Bus<AgendaWorld<AnyMachine>>, OutOfMemory>
+        requires { IsDraft self }
+        ensures value { IfOk result (λ bus.
+            bus_now ⟦<AgendaWorld<AnyMachine> as WorldRun>⟧.world bus
+            ≡ bus_of_nodes self.delay self.names (map any_node self.machines.items)) }
+        ensures sound { IfOk result (IsSound ⟦<AgendaWorld<AnyMachine> as WorldRun>⟧.world
+            ⟦<AgendaWorld<AnyMachine> as WorldRun>⟧.is_spent) }
+    {
+        let Draft {
+            delay,
+            names,
+            machines,
+        } = self;
+        let nodes = machines.len();
+        Ok(Bus {
+            world: AgendaWorld::new(alloc, delay, machines)?,
+            notes: Notes {
+                names,
+                banks: first_banks(alloc, nodes)?,
+                looks: no_looks(alloc, nodes)?,
+                report: None,
+                reports: 0,
+                maps: 0,
+            },
+        })
+    }
+}
