@@ -147,8 +147,8 @@ pub fn components_settle()
     ensures done { ResetsAreDoneByThen }
 {}
 
-/// Once so many quiet turns were done in a row, every component has an outcome at each later moment,
-/// whatever holds and turns follow.
+/// Once as many quiet turns as `components_settle` counts were done in a row, every component has an
+/// outcome at each later moment, whatever holds and turns follow.
 pub fn components_stay_settled()
     ensures { ComponentsStaySettled }
 {}
