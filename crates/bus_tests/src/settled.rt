@@ -1,17 +1,20 @@
 //! Worlds of a few nodes, and what they settle to.
-ghost use Rattle.std.specs.Prelude.{◌≡◌, ◌≤◌, All, IfOk, length};
+ghost use Rattle.std.specs.Prelude.{◌≡◌, ◌+◌, ◌≤◌, All, IfOk, length};
 ghost use Rattle.cable_world.specs.World.{IsNodeAtPowerOn};
 ghost use Rattle.phy_machine.specs.Field.{field_node};
+ghost use Rattle.settle.specs.Report.{quiet_turns_of};
 
 use cable_world::{Act, World, WorldRun};
 use cabling::{End, NodeSet};
 use phy_machine::{FieldMachine, NodeSpec};
 use port_state::{Coins, Timing, power_on_is_valid, usual_in_range};
+use script_run::{Name, report_text, reports_can_be_shown};
 use self_id::Attrs;
 use settle::{Outcome, Part, Report, quiet_turns, settle};
 use std::alloc::{AllocError, Global};
 use std::process::Abort;
 use std::test::Fail;
+use topology_stack::NameList;
 
 /// A node of three ports that draws the same coin over and over.
 fn machine(coin: u8) -> FieldMachine
@@ -39,6 +42,8 @@ fn machine(coin: u8) -> FieldMachine
 /// A world of nodes with these coins, and no cable.
 fn world_of(alloc: Global, coins: &[u8]) -> Result<World<FieldMachine>, AllocError>
     requires { length coins.now ≤ 63 }
+    ensures { IfOk result (λ w.
+        length (⟦<World<FieldMachine> as WorldRun>⟧.world w).nodes ≡ length coins.now) }
 {
     let mut machines = Vec::new(alloc);
     for coin in coins {
@@ -146,5 +151,56 @@ fn components_by_their_least_nodes(rt: HostRuntime) -> Result<(), Fail> {
     assert!(rt; has_just(parts[2].nodes, &[2]));
     assert!(rt; is_tree(&parts[0].outcome, 0, &[0x807f_8056], &[0]));
     assert!(rt; is_tree(&parts[1].outcome, 3, &[0x807f_8096, 0x817f_80d6], &[1, 3]));
+    Ok(())
+}
+
+/// The text of the report that a world comes to, where each of its nodes has a name.
+fn told<W: WorldRun>(alloc: Global, world: &mut W, names: &NameList) -> Result<Vec<u8>, AllocError>
+    requires few { (W.world world.old).turns + quiet_turns_of (W.world world.old) ≤ 4000000000 }
+    requires named { length names.now ≡ length (W.world world.old).nodes }
+{
+    let report = settle(alloc, world)?;
+    reports_can_be_shown(world);
+    report_text(alloc, &report, 1, names)
+}
+
+/// The names of two nodes.
+fn two_names(alloc: Global) -> Result<NameList, AllocError> {
+    let mut names = NameList::new(alloc);
+    for text in [b"a", b"b"] {
+        if let Some(name) = Name::new(text.as_slice()) {
+            names.push(name)?;
+        }
+    }
+    Ok(names)
+}
+
+#[test]
+fn a_tree_is_told(rt: HostRuntime) -> Result<(), Fail> {
+    let alloc = rt.alloc();
+    let names = two_names(alloc)?;
+    assert_eq!(rt; names.as_slice().len(), 2);
+    let mut world = world_of(alloc, &[0, 1])?;
+    world.act(&Act::Plug {
+        a: End { node: 0, port: 0 },
+        b: End { node: 1, port: 0 },
+    })?;
+    assert_eq!(rt; world.delay(), 4);
+    let turns = u64::from(world.turns()) + u64::from(quiet_turns(world.cabling().nodes(), 4));
+    assert!(rt; turns <= 4_000_000_000);
+    let text = told(alloc, &mut world, &names)?;
+    let lines: [&[u8]; 6] = [
+        b"report 1 turn 8128\n",
+        b"component rounds 1 changed 299 nodes a b\n",
+        b"tree root b\n",
+        b"node 0 link 1 gap 63 speed 2 contender 0 power 0 initiated 1 ports ^1 . . name a\n",
+        b"node 1 link 1 gap 63 speed 2 contender 0 power 0 initiated 1 ports v0 . . name b\n",
+        b"nodes 2 root 1 irm none\n",
+    ];
+    let mut wanted = Vec::new(alloc);
+    for line in lines {
+        wanted.extend_from_slice(line)?;
+    }
+    assert!(rt; text.as_slice() == wanted.as_slice());
     Ok(())
 }

@@ -18,7 +18,7 @@ use Rattle.cable_world.specs.Outcome.{HasNoLoop, IsLoop, IsTree, IsContention, I
 
 -- ---- sets and cores
 
-same-set : (a b : ℕ) → ((k : ℕ) → Holds a k ↔ Holds b k) → a ≡ b
+pub same-set : (a b : ℕ) → ((k : ℕ) → Holds a k ↔ Holds b k) → a ≡ b
 same-set a b h = same_from_bits a b (λ k. elim (holds_or_not a k) [
   | inl is ↦ is ∙ sym ((h k).0 is)
   | inr out ↦ clear_bit a k out ∙ sym (clear_bit b k (λ is. out ((h k).1 is)))

@@ -5,7 +5,8 @@
 -- an act leaves a component alone in which nobody enters R0. `Numbering`: so in every reached world
 -- lists follow the walk. `Outcomes`: whether a component has come to a tree can be told, and if not
 -- its contention is the outcome. `QuietTurns` counts the turns. `TreesStay`: a tree is at rest, and
--- stays so. `ForcedOutcome`: a forced root is the root of the tree.
+-- stays so. `StaySettled`: every outcome stays one. `ForcedOutcome`: a forced root is the root of
+-- the tree.
 pub mod Unnamed
 pub mod Beginnings
 pub mod Elsewhere
@@ -13,4 +14,5 @@ pub mod Numbering
 pub mod Outcomes
 pub mod QuietTurns
 pub mod TreesStay
+pub mod StaySettled
 pub mod ForcedOutcome

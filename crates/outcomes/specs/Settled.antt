@@ -45,6 +45,14 @@ HasNoAct (acts a ∷ events) = ⊥
 HasNoAct (holds end k ∷ events) = HasNoAct events
 HasNoAct (turns ∷ events) = HasNoAct events
 
+-- what has an outcome after so many quiet turns has one still, whatever holds and turns follow
+abbrev pub ComponentsStaySettled : Type 0
+ComponentsStaySettled =
+    (w v : CableWorld) (k : ℕ) (events : List Event) (node : NodeNumber) (set core : NodeSet) →
+    IsReached w → quiet_turns (length w.nodes) w.delay ≤ k → HasNoAct events →
+    Runs events (turns_after k w) v → node < length w.nodes → IsComponent w.cabling node set →
+    IsCore w.cabling set core → set < 2 ^ 63 → IsSettled v set
+
 -- a tree stays in every hold and turn: the same root, IDs and lists
 abbrev pub TreesStay : Type 0
 TreesStay =

@@ -14,7 +14,7 @@ ghost use Rattle.outcomes.specs.Numbered.{TurnsKeepRest, HoldsKeepRest, RestKeep
 ghost use Rattle.outcomes.specs.Numbered.{NodesGetReady, TreesComeToRest, TreesAreThere};
 ghost use Rattle.outcomes.specs.RootWalk.{RootsHaveWalks, NamedRootsAreOutcomes, WalksStay};
 ghost use Rattle.outcomes.specs.Settled.{LoopsComeOut, EveryComponentSettles, ResetsAreDoneByThen};
-ghost use Rattle.outcomes.specs.Settled.{TreesStay, TreesStayInActs};
+ghost use Rattle.outcomes.specs.Settled.{ComponentsStaySettled, TreesStay, TreesStayInActs};
 ghost use Rattle.outcomes.specs.Settled.{ForcedRootsSettle, IdsNameOneNode, ConfigsMoveRoots};
 ghost use Rattle.outcomes.specs.Settled.{ConfigsSetGaps};
 
@@ -145,6 +145,12 @@ pub fn loops_come_out()
 pub fn components_settle()
     ensures settled { EveryComponentSettles }
     ensures done { ResetsAreDoneByThen }
+{}
+
+/// Once as many quiet turns as `components_settle` counts were done in a row, every component has an
+/// outcome at each later moment, whatever holds and turns follow.
+pub fn components_stay_settled()
+    ensures { ComponentsStaySettled }
 {}
 
 /// A component of a reached world that has come to a tree stays in it, with the same root, IDs and

@@ -1,5 +1,5 @@
 -- A report of a world has what its text needs.
-use Rattle.std.proofs.Common.{◌≡◌, ℕ, ◌<◌, All, length, subst, sym, ◌∙◌}
+use Rattle.std.proofs.Common.{◌≡◌, ℕ, ◌<◌, length, subst, sym, ◌∙◌}
 use Rattle.std.proofs.lemmas.List.Elements.{All-weaker}
 use Rattle.cable_world.specs.World.{CableWorld, NodeSet}
 use Rattle.cable_world.specs.Run.{IsReached}

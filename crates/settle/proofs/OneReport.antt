@@ -1,21 +1,18 @@
 -- A world has one report at most.
-use Rattle.std.proofs.Common.{◌≡◌, ℕ, zero, suc, ◌+◌, ◌^◌, ◌<◌, ◌⊎◌, inl, inr, List, [], ◌∷◌, All, length, get_or, refl, sym, ◌∙◌, ap, subst, arith}
-use Rattle.std.specs.Prelude.{Any, AllPairs}
+use Rattle.std.proofs.Common.{◌≡◌, ℕ, zero, suc, ◌^◌, ◌<◌, ◌⊎◌, inl, inr, List, [], ◌∷◌, length, get_or, refl, sym, ◌∙◌, ap, subst, arith}
+use Rattle.std.specs.Prelude.{AllPairs}
 use Rattle.std.specs.Int.{w64, trailing_zeros}
 use Rattle.std.proofs.lemmas.Bool.{cases_eq}
-use Rattle.std.proofs.lemmas.Nat.Bits.{same_from_bits}
 use Rattle.topology_stack.specs.Tree.{Tree, emits}
 use Rattle.cabling.specs.Wiring.{IsCabling}
-use Rattle.cabling.specs.NodeSet.{Holds, IsWithin}
-use Rattle.cabling.specs.Component.{IsComponent}
+use Rattle.cabling.specs.NodeSet.{Holds}
 use Rattle.cabling.specs.Sees.{numbers}
-use Rattle.cabling.proofs.Bits.{clear_bit, none_of_zero, some_node}
-use Rattle.cabling.proofs.Cascade.{holds_or_not}
+use Rattle.cabling.proofs.Bits.{none_of_zero, some_node}
 use Rattle.cabling.proofs.Whole.{shared}
 use Rattle.cable_world.specs.World.{CableWorld, NodeNumber, NodeSet}
 use Rattle.cable_world.specs.Run.{IsReached}
-use Rattle.cable_world.specs.Outcome.{Outcome, loop, tree, contention, IsOutcome, IsLoop}
-use Rattle.cable_world.proofs.OneOutcome.{one-outcome}
+use Rattle.cable_world.specs.Outcome.{loop, tree, contention, IsLoop}
+use Rattle.cable_world.proofs.OneOutcome.{same-set, one-outcome}
 use Rattle.cable_world.proofs.running.Whole.{lawful-now}
 use Rattle.settle.specs.declared.report.Outcome.{Outcome as Reported}
 use Rattle.settle.specs.declared.report.Outcome.TheVariants as reported
@@ -85,13 +82,6 @@ same-lists (x ∷ xs) (y ∷ ys) r s f g =
 
 -- ---- one part of a component
 
--- sets that hold each other's nodes are one
-pub same-nodes : (a b : NodeSet) → IsWithin a b → IsWithin b a → a ≡ b
-same-nodes a b f g = same_from_bits a b (λ k. elim (holds_or_not a k) [
-  | inl is ↦ is ∙ sym (f k is)
-  | inr out ↦ clear_bit a k out ∙ sym (clear_bit b k (λ is. out (g k is)))
-])
-
 one-greatest : (set : NodeSet) (IsOf : NodeNumber → ℕ → Type 0) (m n : ℕ) → IsGreatest set IsOf m → IsGreatest set IsOf n → m ≡ n
 one-greatest set IsOf m n x y = omega (arith, y.bound x.node m x.holds x.reached, x.bound y.node n y.holds y.reached)
 
@@ -160,7 +150,7 @@ module _ (w : CableWorld) (cabled : IsCabling w.cabling) where
   -- parts that share a node are one
   one-part : (p q : Part) (k : NodeNumber) → IsPart w p → IsPart w q → Holds p.nodes k → Holds q.nodes k → p ≡ q
   one-part p q k x y a b =
-      let nodes : p.nodes ≡ q.nodes = same-nodes p.nodes q.nodes (within p q k x y a b) (within q p k y x b a) in
+      let nodes : p.nodes ≡ q.nodes = same-set p.nodes q.nodes (λ i. (within p q k x y a b i, within q p k y x b a i)) in
       same-part p q nodes
       (one-greatest q.nodes (Drew w) p.rounds q.rounds (subst (λ (set : NodeSet). IsGreatest set (Drew w) p.rounds) nodes x.rounds) y.rounds)
       (one-greatest q.nodes (LastChanged w) p.changed q.changed (subst (λ (set : NodeSet). IsGreatest set (LastChanged w) p.changed) nodes x.changed) y.changed)

@@ -1,18 +1,17 @@
 -- The list of a reported tree is read back.
-use Rattle.std.proofs.Common.{◌≡◌, ℕ, ◌+◌, ◌-◌, ◌^◌, ◌<◌, ◌≤◌, inl, inr, None, List, All, map, length, sym, ◌∙◌, ap, subst, arith, bit_and}
+use Rattle.std.proofs.Common.{◌≡◌, ℕ, ◌-◌, ◌^◌, ◌<◌, inl, inr, None, List, All, length, sym, ◌∙◌, ap, subst, arith, bit_and}
 use Rattle.std.specs.Int.{bit_at}
 use Rattle.std.proofs.lemmas.Bool.{cases_lt}
 use Rattle.std.proofs.lemmas.Nat.{and_le_r, pow_pos}
-use Rattle.std.proofs.lemmas.Nat.Bits.{bit_at-lt, bit_at_and, bit_at_ones, bit_at_ones_above, same_from_bits}
+use Rattle.std.proofs.lemmas.Nat.Bits.{bit_at-lt, bit_at_and, bit_at_ones, same_from_bits}
 use Rattle.std.proofs.lemmas.List.{length-map}
 use Rattle.std.proofs.lemmas.List.Elements.{All-map, All-weaker}
-use Rattle.topology_stack.specs.Tree.{Tree, IsBusTree, walk, emits}
+use Rattle.topology_stack.specs.Tree.{Tree, walk, emits}
 use Rattle.topology_stack.specs.OneAnswer.{NoListHasTwoTrees}
-use Rattle.cabling.specs.Wiring.{IsCabling}
 use Rattle.cabling.specs.NodeSet.{Holds}
 use Rattle.cabling.specs.Component.{IsComponent}
 use Rattle.cabling.specs.Labels.{labels}
-use Rattle.cabling.specs.Sees.{Sees, numbers}
+use Rattle.cabling.specs.Sees.{numbers}
 use Rattle.cabling.specs.codings.Visits.{visits, at_root}
 use Rattle.cabling.specs.codings.Shown.{shown_node}
 use Rattle.cabling.proofs.Bits.{clear_bit}
@@ -33,8 +32,8 @@ use Rattle.settle.specs.declared.report.Outcome.TheVariants as reported
 use Rattle.settle.specs.declared.report.Part.{Part}
 use Rattle.settle.specs.declared.report.Report.{Report}
 use Rattle.settle.specs.Report.{AreThere, IsPart, IsReport}
-use Rattle.settle.specs.Reported.{IsReported, ReportsTree}
-use Rattle.settle.specs.ReadBack.{IsSeen, IsReadBack, IsTheCables, IfTree, AtTrees}
+use Rattle.settle.specs.Reported.{IsReported}
+use Rattle.settle.specs.ReadBack.{IsReadBack, IsTheCables, IfTree, AtTrees}
 use Rattle.settle.proofs.Shown.{attrs-fit}
 
 -- a number all of whose bits are below k is below 2 ^ k

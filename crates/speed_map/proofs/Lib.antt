@@ -5,4 +5,4 @@ pub mod Facts
 mod Steps
 mod Copied
 pub mod Unique
-mod SameBus
+pub mod SameBus

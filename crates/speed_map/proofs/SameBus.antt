@@ -1,12 +1,10 @@
 -- Equal lists make one bus.
-use Rattle.std.proofs.Common.{◌≡◌, ℕ, ◌+◌, ◌*◌, ◌/◌, ◌%◌, ◌^◌, ◌<◌, ◌≤◌, inl, inr, List, ◌∷◌, length, get_or, sym, ap, subst, ◌∙◌, arith}
+use Rattle.std.proofs.Common.{◌≡◌, ℕ, ◌+◌, ◌*◌, ◌/◌, ◌%◌, ◌^◌, ◌<◌, inl, inr, List, ◌∷◌, length, get_or, sym, ap, subst, ◌∙◌, arith}
 use Rattle.std.proofs.lemmas.Bool.{cases_lt}
 use Rattle.std.proofs.lemmas.Grind.{same_number_lists}
 use Rattle.topology_stack.specs.Tree.{Tree, walk, IsBusTree}
 use Rattle.topology_stack.specs.Elect.{elected}
 use Rattle.topology_stack.specs.OneAnswer.{NoListHasTwoTrees}
-use Rattle.topology_map.specs.Sealed.{IsSealed}
-use Rattle.topology_map.specs.Map.{IsMap}
 use Rattle.topology_map.proofs.Division.{one_crc}
 use Rattle.speed_map.specs.Path.{path_speed}
 use Rattle.speed_map.specs.Rows.{cell, IsSpeed, AreRows}
@@ -28,7 +26,7 @@ same-cell t rows other from to bus x y there below = elim (cases_lt to (length (
   | inr past ↦ x.zeros from to there past below ∙ sym (y.zeros from to there past below)
 ]
 
-one-rows : (t : Tree) (rows other : List ℕ) → IsBusTree t → AreRows t rows → AreRows t other → rows ≡ other
+pub one-rows : (t : Tree) (rows other : List ℕ) → IsBusTree t → AreRows t rows → AreRows t other → rows ≡ other
 one-rows t rows other bus x y = same_number_lists rows other (x.size ∙ sym y.size) (λ k inside.
     let at : 64 * (k / 64) + k % 64 ≡ k = omega arith in
     subst (λ (i : ℕ). get_or rows i 0 ≡ get_or other i 0) at

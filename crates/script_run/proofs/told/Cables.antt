@@ -15,7 +15,7 @@ use Rattle.cable_world.specs.Turn.{turn, turns_after}
 use Rattle.cable_world.specs.Act.{ActLeads, act_fault, plug, pull, pull_from, add_cable, remove_cable, with_step, note_changes, configure, change_in_set}
 use Rattle.cable_world.proofs.tables.TablesInSteps.{step-cables}
 use Rattle.cable_world.proofs.turns.ByNumber.{cabling-after}
-use Rattle.settle.proofs.OneReport.{same-nodes}
+use Rattle.cable_world.proofs.OneOutcome.{same-set}
 
 -- the cables of a world are a cabling
 abbrev pub IsCabled : CableWorld → Type 0
@@ -89,6 +89,8 @@ one-world (Reset node) w u v x y = x ∙ sym y
 one-world (Config from root_id force gap) w u v x y =
     let packet = config_packet root_id force gap in
     let sets : x.0 ≡ y.0 =
-    same-nodes x.0 y.0 (component_within w.cabling from x.0 y.0 x.1 y.1)
-    (component_within w.cabling from y.0 x.0 y.1 x.1) in
+    same-set x.0 y.0 (λ k. (
+      component_within w.cabling from x.0 y.0 x.1 y.1 k,
+      component_within w.cabling from y.0 x.0 y.1 x.1 k,
+    )) in
     x.2 ∙ ap (λ (set : NodeSet). note_changes w (configure set from packet w)) sets ∙ sym y.2

@@ -1,0 +1,317 @@
+-- What has settled stays settled in turns and holds. A loop does, since its nodes don't leave T0 and their timers rise;
+-- a tree is at rest; of a contention it is told at the end whether a tree has come of it.
+use Rattle.std.proofs.Common.{◌≡◌, inl, inr, ℕ, ◌+◌, ◌-◌, ◌*◌, ◌^◌, ◌<◌, ◌≤◌, true, List, [], ◌∷◌, None, Some, length, slice_get, sym, ◌∙◌, ap, subst, arith}
+use Rattle.topology_stack.specs.Tree.{Tree}
+use Rattle.cabling.specs.Wiring.{Wiring}
+use Rattle.cabling.specs.NodeSet.{Holds}
+use Rattle.cabling.specs.Component.{IsComponent}
+use Rattle.cabling.specs.Looped.{IsCore}
+use Rattle.cabling.specs.declared.cable.End.{End}
+use Rattle.port_state.specs.declared.signal.Phase.TheVariants as phase
+use Rattle.port_state.specs.declared.states.NodeState.{NodeState}
+use Rattle.port_state.specs.declared.timing.Timing.{Timing}
+use Rattle.port_state.specs.Coins.{coin}
+use Rattle.port_state.specs.Machine.{PortNode}
+use Rattle.cable_world.specs.World.{CableWorld}
+use Rattle.cable_world.specs.Turn.{turn, turns_after}
+use Rattle.cable_world.specs.Act.{hold, hold_fault}
+use Rattle.cable_world.specs.Run.{Event, acts, holds, turns, Runs, IsReached, quiet_turns}
+use Rattle.cable_world.specs.Lawful.{IsLawful}
+use Rattle.cable_world.specs.Outcome.{Outcome, loop, tree, contention, IsLoop, IsTree, IsContention, IsOutcome, IsSettled}
+use Rattle.cable_world.specs.Phases.{is_before_tree}
+use Rattle.cable_world.proofs.Options.{some-of, some-at, some-same}
+use Rattle.cable_world.proofs.StaysLawful.{reached-lawful, turns-lawful}
+use Rattle.cable_world.proofs.StaysReached.{turn-reached, turns-reached, hold-reached}
+use Rattle.cable_world.proofs.resets.Entries.{after-delay, after-length}
+use Rattle.cable_world.proofs.turns.ByNumber.{cabling-after, delay-after, nodes-after, turns-then}
+use Rattle.cable_world.proofs.turns.NodeFacts.{risen}
+use Rattle.convergence.specs.Kept.{IsGrown}
+use Rattle.convergence.specs.Milestones.{ResetsAreDone, TreesAreTaken, ResetsAreOver, HasContention}
+use Rattle.convergence.specs.Turns.{turns_to_done}
+use Rattle.convergence.proofs.AfterTurns.{done-after, taken-reached, taken-turn}
+use Rattle.convergence.proofs.coins.StaysContested.{reached-contested}
+use Rattle.convergence.proofs.loops.Cores.{core-shows}
+use Rattle.convergence.proofs.ranks.StaysAcyclic.{reached-acyclic}
+use Rattle.convergence.proofs.resets.ResetsDone.{done-over}
+use Rattle.convergence.proofs.rounds.Grown.{Grown}
+use Rattle.convergence.proofs.rounds.IdentifyOrContend.{grown-of}
+use Rattle.convergence.proofs.rounds.ThirtyThreeRounds.{contention-turn}
+use Rattle.convergence.proofs.trees.TreeStart.{IsEarly, only-start, start-early, start-timer}
+use Rattle.convergence.proofs.turns.BeforeTree.{StaysInStart, stays-in-start}
+use Rattle.convergence.proofs.turns.CalmTurns.{Calmly, calmly, heard_by, early-before, done-calm, turn-done}
+use Rattle.convergence.proofs.turns.Flush.{after-cabling}
+use Rattle.outcomes.specs.Numbered.{IsNumbering}
+use Rattle.outcomes.specs.Settled.{HasNoAct}
+use Rattle.outcomes.proofs.settled.Beginnings.{all-or-not}
+use Rattle.outcomes.proofs.settled.Numbering.{reached-numbering}
+use Rattle.outcomes.proofs.settled.Outcomes.{no-tree-yet, tree-or-none, contention-outcome, tree-outcome}
+use Rattle.outcomes.proofs.settled.QuietTurns.{settles-at-last, quiet-enough}
+use Rattle.outcomes.proofs.settled.TreesStay.{turn-tree}
+use Rattle.outcomes.proofs.settled.Unnamed.{shows-unnamed}
+
+-- ---- what is kept
+
+-- the nodes of a core have been in T0 for so long that they report the timeout
+abbrev AreLate : CableWorld → ℕ → Type 0
+AreLate w core =
+    (k : ℕ) (x : PortNode) → Holds core k → slice_get w.nodes k ≡ Some x → 512 * w.delay ≤ x.state.view.timer
+
+data Come (w : CableWorld) (set : ℕ) : Type 0 where
+  looped : (core : ℕ) → IsLoop w set core → AreLate w core → Come w set
+  treed : (root : ℕ) (t : Tree) → IsTree w set root t → Come w set
+  contended : (a b : ℕ) → IsContention w set a b → Come w set
+
+-- a component of a world in which resets are done has come to something
+record Staying (w : CableWorld) (node set : ℕ) : Type 0 where
+  reached : IsReached w
+  done : ResetsAreDone w
+  taken : TreesAreTaken w
+  there : node < length w.nodes
+  component : IsComponent w.cabling node set
+  come : Come w set
+
+-- ---- a turn
+
+module _ (w : CableWorld) (r : IsReached w) (done : ResetsAreDone w) (node set : ℕ) (comp : IsComponent w.cabling node set) where
+  lawful : IsLawful w
+  lawful = reached-lawful w r
+
+  abbrev v : CableWorld
+  v = turn w
+
+  v-reached : IsReached v
+  v-reached = turn-reached w r
+
+  v-lawful : IsLawful v
+  v-lawful = reached-lawful v v-reached
+
+  v-done : ResetsAreDone v
+  v-done = turn-done w lawful done
+
+  v-over : ResetsAreOver v
+  v-over = done-over v v-lawful v-done
+
+  v-comp : IsComponent v.cabling node set
+  v-comp = subst (λ (c : Wiring). IsComponent c node set) (sym (cabling-after w)) comp
+
+  -- a node of a core is in T0 before and after
+  record StaysLate (y : NodeState) : Type 0 where
+    start : y.view.phase ≡ phase.TreeStart
+    reports : y.view.timed_out ≡ true
+    late : 512 * v.delay ≤ y.view.timer
+
+  module _ (core : ℕ) (h : IsLoop w set core) (late : AreLate w core) where
+    core-after : IsCore v.cabling set core
+    core-after = subst (λ (c : Wiring). IsCore c set core) (sym (cabling-after w)) h.is_core
+
+    stays-late : (k : ℕ) (y : PortNode) → Holds core k → slice_get v.nodes k ≡ Some y → StaysLate y.state
+    stays-late k y inside at = record { start = y-start; reports = kept.reports (omega (arith, risen-late, timeout)); late = omega (arith, risen-late, delay-after w) }
+      where
+        early : is_before_tree y.state.view.phase ≡ true
+        early =
+            let x = some-of (slice_get v.nodes k) _ (core-shows v v-lawful set (λ a b y h. v-over a b y) (reached-acyclic v v-reached) core k core-after inside) in
+            ap (λ (z : PortNode). is_before_tree z.state.view.phase) (some-same y x.0 (sym at ∙ x.1)) ∙ x.2
+
+        c : Calmly w k y.state
+        c = calmly w lawful (done-calm w done) k y at
+
+        y-start : y.state.view.phase ≡ phase.TreeStart
+        y-start = only-start y.state.view.phase early (v-done k y at)
+
+        x-start : c.node.state.view.phase ≡ phase.TreeStart
+        x-start = only-start c.node.state.view.phase (early-before w k y.state c early) (done k c.node c.at)
+
+        kept : StaysInStart (heard_by w k c.node) y.state
+        kept = subst (StaysInStart (heard_by w k c.node)) (sym c.is) (stays-in-start (coin c.node.coins) (heard_by w k c.node) (c.heard.phase ∙ x-start) (sym (ap (λ (z : NodeState). z.view.phase) c.is) ∙ y-start))
+
+        timeout : (heard_by w k c.node).timing.timeout ≡ 512 * w.delay
+        timeout = ap (λ (t : Timing). t.timeout) c.hears.timing ∙ (lawful.well_formed.nodes k c.node c.at).timing.timeout
+
+        risen-late : 512 * w.delay ≤ y.state.view.timer
+        risen-late = up (512 * w.delay) c.node.state.view.timer (heard_by w k c.node).view.timer y.state.view.timer (late k c.node inside c.at) c.heard.timer kept.timer (omega (arith, lawful.well_formed.short_delay))
+          where
+            up : (n a b c : ℕ) → n ≤ a → b ≡ a → c ≡ risen b → n ≤ 65535 → n ≤ c
+            up n a b c h e f m = omega (arith, h, e, f, m)
+
+    loop-turn : IsLoop v set core
+    loop-turn = record {
+      is_core = core-after;
+      node = h.node;
+      in_core = h.in_core;
+      timed_out = λ k inside.
+          let x = some-of (slice_get v.nodes k) _ (core-shows v v-lawful set (λ a b y h. v-over a b y) (reached-acyclic v v-reached) core k core-after inside) in
+          let s = stays-late k x.0 inside x.1 in
+          some-at (slice_get v.nodes k) x.0 (λ (y : PortNode). (y.state.view.phase ≡ phase.TreeStart) × (y.state.view.timed_out ≡ true)) x.1 (s.start, s.reports);
+      unnamed = shows-unnamed v v-lawful (reached-numbering v v-reached).identifies set (λ a b y h. v-over a b y) (reached-acyclic v v-reached) node core h.node v-comp core-after h.in_core;
+    }
+
+    loop-late : AreLate v core
+    loop-late k y inside at = (stays-late k y inside at).late
+
+  come-turn : TreesAreTaken w → set < 2 ^ 63 → Come w set → Come v set
+  come-turn taken small (looped core h late) = looped core (loop-turn core h late) (loop-late core h late)
+  come-turn taken small (treed root t h) = treed root t (turn-tree w r node set comp small root t h)
+  come-turn taken small (contended a b h) = contended now.low now.high now.is
+    where
+      whole : IsGrown w
+      whole = record { lawful = lawful; acyclic = reached-acyclic w r; contested = reached-contested w r; done = done; taken = taken }
+
+      grown : Grown w set
+      grown = grown-of w node set h.no_loop.core whole comp h.no_loop.is_core h.no_loop.empty
+
+      now : HasContention v set
+      now = contention-turn w set grown (record { low = a; high = b; is = h })
+
+turn-stays : (w : CableWorld) (node set : ℕ) → set < 2 ^ 63 → Staying w node set → Staying (turn w) node set
+turn-stays w node set small s = record {
+  reached = turn-reached w s.reached;
+  done = turn-done w (reached-lawful w s.reached) s.done;
+  taken = taken-turn w (reached-lawful w s.reached) s.done s.taken;
+  there = omega (arith, s.there, nodes-after w (reached-lawful w s.reached).well_formed.count);
+  component = v-comp w s.reached s.done node set s.component;
+  come = come-turn w s.reached s.done node set s.component s.taken small s.come;
+}
+
+-- ---- a hold
+
+come-held : (end : End) (k : ℕ) (w : CableWorld) (set : ℕ) → Come w set → Come (hold end k w) set
+come-held end k w set (looped core h late) = looped core (record { is_core = h.is_core; node = h.node; in_core = h.in_core; timed_out = h.timed_out; unnamed = h.unnamed }) late
+come-held end k w set (treed root t h) = treed root t (record {
+  no_loop = record { core = h.no_loop.core; is_core = h.no_loop.is_core; empty = h.no_loop.empty };
+  holds_root = h.holds_root;
+  seen = h.seen;
+  no_parent = h.no_parent;
+  parents = h.parents;
+  ids = h.ids;
+  lists = h.lists;
+})
+come-held end k w set (contended a b h) = contended a b (record {
+  no_loop = record { core = h.no_loop.core; is_core = h.no_loop.is_core; empty = h.no_loop.empty };
+  rising = h.rising;
+  holds_a = h.holds_a;
+  holds_b = h.holds_b;
+  port_a = h.port_a;
+  port_b = h.port_b;
+  cable = h.cable;
+  draws = h.draws;
+})
+
+hold-stays :
+    (end : End) (k : ℕ) (w : CableWorld) (node set : ℕ) → hold_fault end w ≡ None → Staying w node set →
+    Staying (hold end k w) node set
+hold-stays end k w node set none s = record {
+  reached = hold-reached end k w none s.reached;
+  done = s.done;
+  taken = s.taken;
+  there = s.there;
+  component = s.component;
+  come = come-held end k w set s.come;
+}
+
+stays-on :
+    (events : List Event) (w v : CableWorld) (node set : ℕ) → HasNoAct events → Runs events w v → set < 2 ^ 63 →
+    Staying w node set → Staying v node set
+stays-on [] w v node set none run small s = subst (λ (u : CableWorld). Staying u node set) (sym run) s
+stays-on (acts a ∷ events) w v node set none run small s = absurd none
+stays-on (holds end k ∷ events) w v node set none run small s =
+    stays-on events (hold end k w) v node set none (subst (λ (z : CableWorld). Runs events z v) run.1.1 run.2) small (hold-stays end k w node set run.1.0 s)
+stays-on (turns ∷ events) w v node set none run small s =
+    stays-on events (turn w) v node set none (subst (λ (z : CableWorld). Runs events z v) run.1 run.2) small (turn-stays w node set small s)
+
+-- ---- what it has come to
+
+settled-of : (w : CableWorld) (node set : ℕ) → set < 2 ^ 63 → Staying w node set → IsSettled w set
+settled-of w node set small s = go s.come
+  where
+    lawful : IsLawful w
+    lawful = reached-lawful w s.reached
+
+    n : IsNumbering w
+    n = reached-numbering w s.reached
+
+    over : ResetsAreOver w
+    over = done-over w lawful s.done
+
+    go : Come w set → IsSettled w set
+    go (looped core h late) = (loop core, h)
+    go (treed root t h) = tree-outcome w set root t h
+    go (contended a b h) = elim (all-or-not w set) [
+      | inr still ↦ contention-outcome w lawful (reached-contested w s.reached) over node set s.component now (no-tree-yet w set n.identifies still)
+      | inl all ↦
+          let walk = n.walks node set h.no_loop.core s.there s.component h.no_loop.is_core small all in
+          elim (tree-or-none w lawful n.acyclic n.identifies set h.no_loop.core walk.root walk.tree walk.is) [
+            | inl t ↦ tree-outcome w set walk.root walk.tree t
+            | inr none ↦ contention-outcome w lawful (reached-contested w s.reached) over node set s.component now none
+          ]
+    ]
+      where
+        now : HasContention w set
+        now = record { low = a; high = b; is = h }
+
+-- ---- after so many quiet turns
+
+module _
+    (w : CableWorld) (r : IsReached w) (node set core : ℕ) (there : node < length w.nodes)
+    (comp : IsComponent w.cabling node set) (is_core : IsCore w.cabling set core)
+    (small : set < 2 ^ 63) (k : ℕ) (quiet : quiet_turns (length w.nodes) w.delay ≤ k) where
+  abbrev u : CableWorld
+  u = turns_after k w
+
+  w-lawful : IsLawful w
+  w-lawful = reached-lawful w r
+
+  u-comp : IsComponent u.cabling node set
+  u-comp = subst (λ (c : Wiring). IsComponent c node set) (sym (after-cabling k w)) comp
+
+  abbrev first : ℕ
+  first = turns_to_done w
+
+  begun : first + 512 * w.delay ≤ k
+  begun = omega (arith, quiet, quiet-enough (length w.nodes) w.delay, many)
+    where
+      many : 512 * w.delay ≤ w.delay * (300 + length w.nodes * length w.nodes + 2 * length w.nodes) + w.delay * (600 + length w.nodes * length w.nodes + 2 * length w.nodes)
+      many =
+          let p : w.delay * (300 + length w.nodes * length w.nodes + 2 * length w.nodes) ≡ 300 * w.delay + w.delay * (length w.nodes * length w.nodes) + 2 * (length w.nodes * w.delay) = grind arith in
+          let q : w.delay * (600 + length w.nodes * length w.nodes + 2 * length w.nodes) ≡ 600 * w.delay + w.delay * (length w.nodes * length w.nodes) + 2 * (length w.nodes * w.delay) = grind arith in
+          omega (arith, p, q)
+
+  abbrev start : CableWorld
+  start = turns_after first w
+
+  same : turns_after (k - first) start ≡ u
+  same = let z : first + (k - first) ≡ k = omega (arith, begun) in sym (turns-then first (k - first) w) ∙ ap (λ (i : ℕ). turns_after i w) z
+
+  core-late : (c : ℕ) → IsLoop u set c → AreLate u c
+  core-late c h j x inside at =
+      let y = some-of (slice_get u.nodes j) _ (h.timed_out j inside) in
+      let begins : x.state.view.phase ≡ phase.TreeStart = ap (λ (z : PortNode). z.state.view.phase) (some-same x y.0 (sym at ∙ y.1)) ∙ y.2.0 in
+      let early : IsEarly (turns_after (k - first) start) j = record {
+        node = x;
+        at = ap (λ (z : CableWorld). slice_get z.nodes j) same ∙ at;
+        early = start-early x.state.view.phase begins;
+      } in
+      let late : 512 * w.delay ≤ x.state.view.timer =
+      start-timer start (turns-lawful first w w-lawful) (done-after w first w-lawful (omega arith)) (k - first) (512 * w.delay) j (omega (arith, begun))
+      (omega (arith, w-lawful.well_formed.short_delay)) early in
+      omega (arith, late, after-delay w w-lawful k)
+
+  come-of : IsSettled u set → Come u set
+  come-of s = go s.0 s.1
+    where
+      go : (o : Outcome) → IsOutcome u set o → Come u set
+      go (loop c) h = looped c h (core-late c h)
+      go (tree root t) h = treed root t h
+      go (contention a b) h = contended a b h.0
+
+  staying : Staying u node set
+  staying = record {
+    reached = turns-reached k w r;
+    done = done-after w k w-lawful (omega (arith, quiet, quiet-enough (length w.nodes) w.delay));
+    taken = taken-reached w k r (omega (arith, quiet, quiet-enough (length w.nodes) w.delay));
+    there = omega (arith, there, after-length w w-lawful k);
+    component = u-comp;
+    come = come-of (settles-at-last w r node set core there comp is_core small k quiet);
+  }
+
+  pub stays-settled : (v : CableWorld) (events : List Event) → HasNoAct events → Runs events u v → IsSettled v set
+  stays-settled v events none run = settled-of v node set small (stays-on events u v node set none run small staying)
