@@ -6,7 +6,7 @@ use std::alloc::Global;
 use topology_stack::OutOfMemory;
 
 /// The place of the first line feed of a text.
-fn first_feed(text: &[u8]) -> Option<usize>
+pub(crate) fn first_feed(text: &[u8]) -> Option<usize>
     ensures value { result ≡ position is_feed text.now }
     ensures within { IfSome result (λ place. place < length text.now) }
 {

@@ -24,6 +24,8 @@ mod node;
 mod number;
 mod pairs;
 mod report;
+mod run;
+mod script;
 mod steps;
 mod table;
 mod word;
@@ -39,6 +41,7 @@ pub use laws::{
 pub use line::parse_line;
 pub use maps::maps_text;
 pub use report::report_text;
+pub use script::run_script;
 pub use topology_stack::{Name, OutOfMemory};
 
 #[cfg(test)]

@@ -1,16 +1,15 @@
 //! The run of a script.
-ghost use Rattle.std.specs.Prelude.{◌≡◌, ◌≤◌, ◌<◌, ◌∷◌, ◌++◌, [], Ok, Err, IfOk, IfErr, OnOk, length};
+ghost use Rattle.std.specs.Prelude.{◌≡◌, ◌≤◌, ◌<◌, ◌∷◌, ◌++◌, [], ℕ, List, Some, None, Ok, Err, IfOk, IfErr, OnOk, length};
 ghost use Rattle.script_run.specs.Range.{IsInRange};
-ghost use Rattle.script_run.specs.Step.{Settles};
-ghost use Rattle.script_run.specs.Script.{Follows, Told, IsTold, bus_of, delay_of, script_lines};
-ghost use Rattle.script_run.specs.codings.Running.{bus_now, IsSound, Stops};
-ghost use Rattle.script_run.specs.codings.Declaring.{StopsAt};
+ghost use Rattle.script_run.specs.Script.{Delays, Follows, Runs, bus_of, delay_of, draft_of};
+ghost use Rattle.script_run.specs.codings.Running.{bus_now, IsSound};
+ghost use Rattle.script_run.specs.codings.Declaring.{IsDraft, StopsAt, draft_now};
 ghost use Rattle.script_run.specs.codings.Going.{stage_now, IsSoundStage, LineLeads, LineFails, IfFault};
 
 use crate::bus::Bus;
 use crate::command::Command;
 use crate::draft::{Draft, NodeLine};
-use crate::kind::{Kind, LineStop, ScriptFault, ScriptStop};
+use crate::kind::{Kind, LineStop};
 use crate::line::parse_line;
 use cable_world::WorldRun;
 use phy_machine::AnyMachine;
@@ -47,3 +46,172 @@ impl<W: WorldRun> Stage<W> {
         }
     }
 }
+
+impl Stage<AgendaWorld<AnyMachine>> {
+    /// The bus that runs from here on.
+    pub fn bus(self, alloc: Global) -> Result<Bus<AgendaWorld<AnyMachine>>, OutOfMemory>
+        requires { IsSoundStage ⟦<AgendaWorld<AnyMachine> as WorldRun>⟧.world
+            ⟦<AgendaWorld<AnyMachine> as WorldRun>⟧.is_spent self }
+        ensures value { IfOk result (λ bus.
+            bus_now ⟦<AgendaWorld<AnyMachine> as WorldRun>⟧.world bus
+            ≡ bus_of (stage_now ⟦<AgendaWorld<AnyMachine> as WorldRun>⟧.world self)) }
+        ensures sound { IfOk result (IsSound ⟦<AgendaWorld<AnyMachine> as WorldRun>⟧.world
+            ⟦<AgendaWorld<AnyMachine> as WorldRun>⟧.is_spent) }
+    {
+        match self {
+            Stage::Fresh => Draft::new(alloc, USUAL_DELAY).bus(alloc),
+            Stage::Declaring(draft) => draft.bus(alloc),
+            Stage::Running(bus) => Ok(bus),
+        }
+    }
+
+    /// What is declared so far, where declarations are taken.
+    fn draft(self, alloc: Global) -> Result<Draft, LineStop>
+        requires { IsSoundStage ⟦<AgendaWorld<AnyMachine> as WorldRun>⟧.world
+            ⟦<AgendaWorld<AnyMachine> as WorldRun>⟧.is_spent self }
+        ensures value { IfOk result (λ draft. draft_of
+            (stage_now ⟦<AgendaWorld<AnyMachine> as WorldRun>⟧.world self)
+            ≡ Some (draft_now draft)) }
+        ensures sound { IfOk result IsDraft }
+        ensures delay { IfOk result (λ draft. draft.delay
+            ≡ delay_of (stage_now ⟦<AgendaWorld<AnyMachine> as WorldRun>⟧.world self)) }
+        ensures late { IfErr result (λ stop. (stop ≡ LineStop.Fault Kind.Late)
+            × (draft_of (stage_now ⟦<AgendaWorld<AnyMachine> as WorldRun>⟧.world self)
+            ≡ None)) }
+    {
+        match self {
+            Stage::Fresh => Ok(Draft::new(alloc, USUAL_DELAY)),
+            Stage::Declaring(draft) => Ok(draft),
+            Stage::Running(_) => Err(LineStop::Fault(Kind::Late)),
+        }
+    }
+
+    /// A command that runs the bus.
+    fn run(self, alloc: Global, d: u8, command: &Command) -> Result<(Self, Vec<u8>), LineStop>
+        requires sound { IsSoundStage ⟦<AgendaWorld<AnyMachine> as WorldRun>⟧.world
+            ⟦<AgendaWorld<AnyMachine> as WorldRun>⟧.is_spent self }
+        requires range { IsInRange d command.now }
+        ensures done { IfOk result (λ r.
+            Runs (stage_now ⟦<AgendaWorld<AnyMachine> as WorldRun>⟧.world self) command.now
+            (Ok (stage_now ⟦<AgendaWorld<AnyMachine> as WorldRun>⟧.world r.0, r.1.items))) }
+        ensures stop { IfErr result (StopsAt
+            (Runs (stage_now ⟦<AgendaWorld<AnyMachine> as WorldRun>⟧.world self) command.now)) }
+        ensures sound { IfOk result (λ r.
+            IsSoundStage ⟦<AgendaWorld<AnyMachine> as WorldRun>⟧.world
+            ⟦<AgendaWorld<AnyMachine> as WorldRun>⟧.is_spent r.0) }
+    {
+        let mut bus = self.bus(alloc)?;
+        let text = bus.command(alloc, d, command)?;
+        Ok((Stage::Running(bus), text))
+    }
+
+    /// The delay is said.
+    fn say_delay(self, alloc: Global, delay: u8) -> Result<(Self, Vec<u8>), LineStop>
+        requires some { 1 ≤ delay }
+        requires few { delay ≤ 16 }
+        ensures done { IfOk result (λ r.
+            Delays (stage_now ⟦<AgendaWorld<AnyMachine> as WorldRun>⟧.world self) delay
+            (Ok (stage_now ⟦<AgendaWorld<AnyMachine> as WorldRun>⟧.world r.0, r.1.items))) }
+        ensures stop { IfErr result (StopsAt
+            (Delays (stage_now ⟦<AgendaWorld<AnyMachine> as WorldRun>⟧.world self) delay)) }
+        ensures sound { IfOk result (λ r.
+            IsSoundStage ⟦<AgendaWorld<AnyMachine> as WorldRun>⟧.world
+            ⟦<AgendaWorld<AnyMachine> as WorldRun>⟧.is_spent r.0) }
+    {
+        match self {
+            Stage::Fresh => Ok((
+                Stage::Declaring(Draft::new(alloc, delay)),
+                Vec::new(alloc),
+            )),
+            _ => Err(LineStop::Fault(Kind::Late)),
+        }
+    }
+
+    /// A command is done.
+    fn follow(self, alloc: Global, d: u8, command: Command) -> Result<(Self, Vec<u8>), LineStop>
+        requires sound { IsSoundStage ⟦<AgendaWorld<AnyMachine> as WorldRun>⟧.world
+            ⟦<AgendaWorld<AnyMachine> as WorldRun>⟧.is_spent self }
+        requires delay { d ≡ delay_of
+            (stage_now ⟦<AgendaWorld<AnyMachine> as WorldRun>⟧.world self) }
+        requires range { IsInRange d command }
+        ensures done { IfOk result (λ r.
+            Follows (stage_now ⟦<AgendaWorld<AnyMachine> as WorldRun>⟧.world self) command
+            (Ok (stage_now ⟦<AgendaWorld<AnyMachine> as WorldRun>⟧.world r.0, r.1.items))) }
+        ensures stop { IfErr result (StopsAt
+            (Follows (stage_now ⟦<AgendaWorld<AnyMachine> as WorldRun>⟧.world self) command)) }
+        ensures sound { IfOk result (λ r.
+            IsSoundStage ⟦<AgendaWorld<AnyMachine> as WorldRun>⟧.world
+            ⟦<AgendaWorld<AnyMachine> as WorldRun>⟧.is_spent r.0) }
+    {
+        match command {
+            Command::Node {
+                name,
+                ports,
+                speed,
+                link,
+                contender,
+                force,
+                power,
+                gap,
+                hold,
+                short,
+                long,
+                coin_word,
+                coin_len,
+                seed,
+                packed,
+            } => {
+                let line = NodeLine {
+                    name,
+                    ports,
+                    speed,
+                    link,
+                    contender,
+                    force,
+                    power,
+                    gap,
+                    hold,
+                    short,
+                    long,
+                    coin_word,
+                    coin_len,
+                    seed,
+                    packed,
+                };
+                let draft = self.draft(alloc)?.declare(line)?;
+                Ok((Stage::Declaring(draft), Vec::new(alloc)))
+            }
+            Command::Delay { delay } => self.say_delay(alloc, delay),
+            command => self.run(alloc, d, &command),
+        }
+    }
+
+    /// A line is taken, and what it prints is appended.
+    pub fn take(
+        self,
+        alloc: Global,
+        line: &[u8],
+        out: &mut Vec<u8>,
+    ) -> Result<Self, LineStop>
+        requires { IsSoundStage ⟦<AgendaWorld<AnyMachine> as WorldRun>⟧.world
+            ⟦<AgendaWorld<AnyMachine> as WorldRun>⟧.is_spent self }
+        ensures done { IfOk result (λ next. (text : List ℕ)
+            × LineLeads (stage_now ⟦<AgendaWorld<AnyMachine> as WorldRun>⟧.world self) line.now
+            (stage_now ⟦<AgendaWorld<AnyMachine> as WorldRun>⟧.world next) text
+            × (out.new.items ≡ out.old.items ++ text)) }
+        ensures stop { IfErr result (IfFault (LineFails
+            (stage_now ⟦<AgendaWorld<AnyMachine> as WorldRun>⟧.world self) line.now)) }
+        ensures sound { IfOk result
+            (IsSoundStage ⟦<AgendaWorld<AnyMachine> as WorldRun>⟧.world
+            ⟦<AgendaWorld<AnyMachine> as WorldRun>⟧.is_spent) }
+    {
+        let d = self.delay();
+        let Some(command) = parse_line(alloc, line, d)? else {
+            return Ok(self);
+        };
+        let (next, text) = self.follow(alloc, d, command)?;
+        out.extend_from_slice(text.as_slice())?;
+        Ok(next)
+    }
+}
+

@@ -1,0 +1,65 @@
+//! A whole script.
+ghost use Rattle.std.specs.Prelude.{◌≡◌, ◌≤◌, ◌<◌, ◌∷◌, Ok, Err, IfOk, IfErr, length};
+ghost use Rattle.script_run.specs.Script.{Told, IsTold, script_lines};
+ghost use Rattle.script_run.specs.Answer.{IsRefused, ToldBy};
+
+use crate::kind::{LineStop, ScriptFault, ScriptStop};
+use crate::last_report::first_feed;
+use crate::laws::scripts_tell_one_thing;
+use crate::run::Stage;
+use std::alloc::Global;
+
+/// The first line of what is left of a script, without its line feed, and what stands behind it.
+fn cut_line(rest: &[u8]) -> (&[u8], &[u8])
+    requires { 0 < length rest.now }
+    ensures lines { script_lines rest.now ≡ result.0.now ∷ script_lines result.1.now }
+    ensures shorter { length result.1.now < length rest.now }
+{
+    match first_feed(rest) {
+        Some(end) => (&rest[..end], &rest[end + 1..]),
+        None => (rest, &[]),
+    }
+}
+
+/// The stop of a script at a line.
+fn at_line(line: u32, stop: LineStop) -> ScriptStop
+    ensures { result ≡ stop_at line stop }
+{
+    match stop {
+        LineStop::Fault(kind) => ScriptStop::Fault(ScriptFault { line, kind }),
+        LineStop::Memory(error) => ScriptStop::Memory(error),
+    }
+}
+
+/// The text of a script, of 1,048,576 bytes at most: what its lines print, in order, and the report
+/// of the `settle` that stands behind its last line.
+///
+/// A script is refused for the fault of its first bad line, by the number of that line from 1. The
+/// last `settle` has the number of lines and 1.
+pub fn run_script(alloc: Global, bytes: &[u8]) -> Result<Vec<u8>, ScriptStop>
+    requires { length bytes.now ≤ 1048576 }
+    ensures told { IfOk result (λ text. IsTold bytes.now (Ok text.items)) }
+    ensures refused { IfErr result (IsRefused bytes.now) }
+    ensures only { (told : Told) → IsTold bytes.now told → UnlessMemory result told }
+{
+    scripts_tell_one_thing();
+    let mut out = Vec::new(alloc);
+    let mut stage = Stage::Fresh;
+    let mut rest = bytes;
+    let mut number = 1;
+    while !rest.is_empty() {
+        let (line, behind) = cut_line(rest);
+        stage = match stage.take(alloc, line, &mut out) {
+            Ok(next) => next,
+            Err(stop) => return Err(at_line(number, stop)),
+        };
+        rest = behind;
+        number += 1;
+    }
+    let mut bus = stage.bus(alloc)?;
+    match bus.settle(alloc) {
+        Ok(text) => out.extend_from_slice(text.as_slice())?,
+        Err(stop) => return Err(at_line(number, stop)),
+    }
+    Ok(out)
+}
