@@ -15,3 +15,4 @@ pub mod NamedTree
 pub mod BeforeAnything
 pub mod told
 pub mod WorkedScripts
+pub mod ScriptLines

@@ -18,5 +18,6 @@ pub mod Bus
 pub mod CommandText
 pub mod Step
 pub mod Script
+pub mod Answered
 pub mod OneTold
 pub mod codings
