@@ -12,4 +12,5 @@ pub mod NamedReports
 pub mod OneText
 pub mod Turns
 pub mod told
+pub mod ScriptLines
 pub mod WorkedScripts
