@@ -14,5 +14,6 @@ pub mod Turns
 pub mod NamedTree
 pub mod BeforeAnything
 pub mod told
+pub mod ScriptLines
 pub mod WorkedScripts
 pub mod ScriptLines
