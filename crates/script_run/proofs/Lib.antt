@@ -16,4 +16,4 @@ pub mod BeforeAnything
 pub mod told
 pub mod ScriptLines
 pub mod WorkedScripts
-pub mod ScriptLines
+pub mod Going
