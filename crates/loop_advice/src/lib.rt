@@ -11,7 +11,7 @@ mod groups;
 mod laws;
 mod marks;
 
-pub use advice::Advice;
+pub use advice::{Advice, advise};
 pub use cable_list::CableList;
 pub use cables_in_order::cables_of;
 pub use cabling::OutOfMemory;
