@@ -70,8 +70,8 @@ pub(crate) fn cables_within(
     Ok(list)
 }
 
-/// The cables of a node's component, each with its end at the lower node first, in the order of these
-/// ends. The node exists.
+/// The cables of a node's component, each with its end at the lower node first, in the order of
+/// these ends. The node exists. `Err` means that there is no memory for the list.
 pub fn cables_of(alloc: Global, cabling: &Cabling, node: u8) -> Result<CableList, OutOfMemory>
     requires { node < length cabling.now }
     ensures { IfOk result (λ list.
