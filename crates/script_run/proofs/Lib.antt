@@ -7,3 +7,5 @@ pub mod Uniform
 pub mod LineRead
 pub mod TextLines
 pub mod ReportParts
+pub mod MadeLines
+pub mod MadeSize

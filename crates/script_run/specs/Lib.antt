@@ -10,4 +10,5 @@ pub mod Line
 pub mod Answer
 pub mod ReportText
 pub mod Summary
+pub mod Made
 pub mod codings

@@ -14,6 +14,7 @@ mod kind;
 mod last_report;
 mod laws;
 mod line;
+mod made;
 mod node;
 mod number;
 mod pairs;
@@ -26,6 +27,7 @@ pub use kind::{Kind, LineStop};
 pub use last_report::summary;
 pub use laws::{names_are_tested, one_reading};
 pub use line::parse_line;
+pub use made::make_script;
 pub use report::report_text;
 pub use topology_stack::{Name, OutOfMemory};
 

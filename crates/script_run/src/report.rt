@@ -15,7 +15,7 @@ use topology_stack::{
 
 /// Appends a word and a number.
 #[tactic(auto, unfolding(crate::specs::ReportText::numbered))]
-fn put_numbered(out: &mut Vec<u8>, word: &[u8], n: u64) -> Result<(), OutOfMemory>
+pub(crate) fn put_numbered(out: &mut Vec<u8>, word: &[u8], n: u64) -> Result<(), OutOfMemory>
     ensures { OnOk result (out.new.items ≡ out.old.items ++ numbered word.now n) }
 {
     out.extend_from_slice(word)?;
