@@ -9,3 +9,5 @@ pub mod TextLines
 pub mod ReportParts
 pub mod MadeLines
 pub mod MadeSize
+pub mod MadeRead
+pub mod MadeCommands

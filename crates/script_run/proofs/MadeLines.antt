@@ -1,5 +1,5 @@
 -- The lines of a made script, one more at a time.
-use Rattle.std.proofs.Common.{◌≡◌, ◌∙◌, ℕ, zero, suc, ◌+◌, ◌-◌, ◌<◌, ◌≤◌, ◌%◌, Bool, true, false, nat_lt, codes, List, [], ◌∷◌, ◌++◌, length, get_or, refl, sym, ap, subst, append_assoc, arith, add-one}
+use Rattle.std.proofs.Common.{◌≡◌, ◌∙◌, ℕ, zero, suc, ◌+◌, ◌-◌, ◌<◌, ◌%◌, Bool, true, false, nat_lt, codes, List, [], ◌∷◌, ◌++◌, length, get_or, refl, sym, ap, append_assoc, arith, add-one}
 use Rattle.std.proofs.Math.Nat.{add-suc, add-zero, mod-lt}
 use Rattle.std.proofs.lemmas.List.{length-append, flat_map_more, get_or_append_left, get_or-append_right}
 use Rattle.std.proofs.lemmas.Bool.Decides.{nat_tests}

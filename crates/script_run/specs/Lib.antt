@@ -11,4 +11,5 @@ pub mod Answer
 pub mod ReportText
 pub mod Summary
 pub mod Made
+pub mod MadeRead
 pub mod codings

@@ -76,10 +76,10 @@ pull_line k = numbered (codes "pull n") k ++ codes " 0"
 unfoldable pub turn_line : ℕ → List ℕ
 turn_line w = numbered (codes "turn ") (w % 300 + 1)
 
--- the lines for each number below this one, one after the other
-abbrev pub for_each : ℕ → (ℕ → List (List ℕ)) → List (List ℕ)
-for_each zero lines = []
-for_each (suc k) lines = for_each k lines ++ lines k
+-- what there is for each number below this one, one after the other
+abbrev pub for_each : {A : Type 0} → ℕ → (ℕ → List A) → List A
+for_each zero items = []
+for_each (suc k) items = for_each k items ++ items k
 
 -- the lines that declare so many nodes
 abbrev pub node_lines : ℕ → ℕ → List (List ℕ)

@@ -1,5 +1,6 @@
 //! Laws of lines.
 ghost use Rattle.script_run.specs.Answer.{OneReading, SomeReading};
+ghost use Rattle.script_run.specs.MadeRead.{MadeIsRead, MadeIsSplit};
 ghost use Rattle.script_run.specs.Name.{NamesAreTested};
 
 /// A law: each line of a script is nothing, a command or at fault, and no line is two of them.
@@ -12,4 +13,11 @@ pub fn one_reading()
 /// A law: the test of names by which lines are read is true of names alone, and of each of them.
 pub fn names_are_tested()
     ensures { NamesAreTested }
+{}
+
+/// A law: the lines of a script that is made are what stands between line feeds, and each is read as
+/// its command.
+pub fn made_is_read()
+    ensures read { MadeIsRead }
+    ensures split { MadeIsSplit }
 {}

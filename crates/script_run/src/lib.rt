@@ -25,7 +25,7 @@ mod words;
 pub use command::Command;
 pub use kind::{Kind, LineStop};
 pub use last_report::summary;
-pub use laws::{names_are_tested, one_reading};
+pub use laws::{made_is_read, names_are_tested, one_reading};
 pub use line::parse_line;
 pub use made::make_script;
 pub use report::report_text;
