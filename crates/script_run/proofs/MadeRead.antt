@@ -13,6 +13,7 @@ use Rattle.std.specs.Str.Parse.{AllDigits, digits_value_after}
 use Rattle.script_run.specs.declared.command.Command.{Command}
 use Rattle.script_run.specs.Words.{is_blank, is_permitted, is_some_text, words_of}
 use Rattle.script_run.specs.Number.{of_digits, number_of}
+use Rattle.script_run.proofs.Uniform.{and_parts}
 use Rattle.script_run.specs.Line.{IsCommand, is_skipped, IsRead, Reads}
 
 -- ---- a line of words
@@ -34,10 +35,6 @@ abbrev pub spaced : List (List ℕ) → List ℕ
 spaced [] = []
 spaced (w ∷ ws) = 32 ∷ (w ++ spaced ws)
 
-both : (a b : Bool) → (a && b) ≡ true → (a ≡ true) × (b ≡ true)
-both true b h = (refl, h)
-both false b h = absurd (cc)
-
 pub within : (a b : Bool) → a ≡ true → b ≡ true → (a && b) ≡ true
 within a b h g = rw (h, g) refl
 
@@ -46,7 +43,7 @@ pub widens : (p q : ℕ → Bool) → ((c : ℕ) → p c ≡ true → q c ≡ tr
     → list_all p cs ≡ true → list_all q cs ≡ true
 widens p q h [] all = refl
 widens p q h (c ∷ cs) all =
-    let parts : (p c ≡ true) × (list_all p cs ≡ true) = both (p c) (list_all p cs) all in
+    let parts : (p c ≡ true) × (list_all p cs ≡ true) = and_parts (p c) (list_all p cs) all in
     within (q c) (list_all q cs) (h c parts.0) (widens p q h cs parts.1)
 
 unless_cut : {A : Type 0} (b : Bool) (x y : A) → not b ≡ true → cond b x y ≡ y
@@ -60,7 +57,7 @@ pub split_first : (p : ℕ → Bool) (s : ℕ) (text rest : List ℕ) → p s �
 split_first p s [] rest here none = rw here refl
 split_first p s (c ∷ cs) rest here none =
     let parts : (not (p c) ≡ true) × (list_all (λ c. not (p c)) cs ≡ true) =
-    both (not (p c)) (list_all (λ c. not (p c)) cs) none in
+    and_parts (not (p c)) (list_all (λ c. not (p c)) cs) none in
     unless_cut (p c) ([] ∷ slice_split p (cs ++ s ∷ rest)) (onto_first c (slice_split p (cs ++ s ∷ rest))) parts.0
     ∙ ap (onto_first c) (split_first p s cs rest here parts.1)
 
@@ -69,7 +66,7 @@ split_none : (p : ℕ → Bool) (text : List ℕ) → list_all (λ c. not (p c))
 split_none p [] none = refl
 split_none p (c ∷ cs) none =
     let parts : (not (p c) ≡ true) × (list_all (λ c. not (p c)) cs ≡ true) =
-    both (not (p c)) (list_all (λ c. not (p c)) cs) none in
+    and_parts (not (p c)) (list_all (λ c. not (p c)) cs) none in
     unless_cut (p c) ([] ∷ slice_split p cs) (onto_first c (slice_split p cs)) parts.0
     ∙ ap (onto_first c) (split_none p cs parts.1)
 
@@ -183,7 +180,7 @@ no_prefix (c ∷ []) h = go (c == 48)
     go true = refl
     go false = refl
 no_prefix (c ∷ e ∷ cs) h =
-    let digit : is_ten e ≡ true = (both (is_ten e) (list_all is_ten cs) (both (is_ten c) (list_all is_ten (e ∷ cs)) h).1).0 in
+    let digit : is_ten e ≡ true = (and_parts (is_ten e) (list_all is_ten cs) (and_parts (is_ten c) (list_all is_ten (e ∷ cs)) h).1).0 in
     let no : (e == 120) ≡ false = grind (arith, nat_tests) in
     go (c == 48) (e == 120) no
   where
