@@ -17,3 +17,7 @@ pub mod told
 pub mod ScriptLines
 pub mod WorkedScripts
 pub mod Going
+pub mod MadeLines
+pub mod MadeSize
+pub mod MadeRead
+pub mod MadeCommands

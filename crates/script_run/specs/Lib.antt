@@ -20,4 +20,6 @@ pub mod Step
 pub mod Script
 pub mod Answered
 pub mod OneTold
+pub mod Made
+pub mod MadeRead
 pub mod codings
