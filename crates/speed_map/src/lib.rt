@@ -10,7 +10,7 @@ mod sweeps;
 pub use paths::one_path;
 pub use quad_lanes::OutOfMemory;
 pub use sealed::image;
-pub use sweeps::rows;
+pub use sweeps::{parent_of, rows};
 
 #[cfg(test)]
 mod tests;
