@@ -1,0 +1,178 @@
+-- What is there once a plan is carried out.
+use Rattle.std.proofs.Common.{◌≡◌, inl, inr, ℕ, ◌^◌, ◌<◌, ◌≤◌, true, Option, Some, None, IsSome, Result, Ok, Err, List, length, slice_get, refl, sym, ◌∙◌, ap, subst, arith, true≢false}
+use Rattle.std.specs.Coded.{Coded-set, coded_ℕ}
+use Rattle.std.specs.Prelude.{Any, IfOk, OnOk}
+use Rattle.std.proofs.Math.Logic.{∥∥₁_elim}
+use Rattle.std.proofs.lemmas.Bool.{cases_eq}
+use Rattle.std.proofs.lemmas.List.Elements.{All-get_or}
+use Rattle.std.proofs.lemmas.Option.{slice_get_cases, slice_get_within}
+use Rattle.topology_stack.specs.Tree.{Tree}
+use Rattle.cabling.specs.Wiring.{Wiring}
+use Rattle.cabling.specs.NodeSet.{Holds}
+use Rattle.cabling.specs.Component.{IsComponent}
+use Rattle.cabling.specs.Labels.{labels}
+use Rattle.cabling.specs.Sees.{Sees, numbers}
+use Rattle.cabling.proofs.Small.{small_tree}
+use Rattle.cabling.proofs.Whole.{shared}
+use Rattle.port_state.specs.Config.{config_packet}
+use Rattle.port_state.specs.Machine.{PortNode, node_disturb, node_set_config}
+use Rattle.cable_world.specs.declared.act.Act.TheVariants.{Config}
+use Rattle.cable_world.specs.World.{CableWorld}
+use Rattle.cable_world.specs.Run.{IsReached, quiet_turns}
+use Rattle.cable_world.specs.Act.{IsAct, ActLeads, act_fault, change_in_set}
+use Rattle.cable_world.specs.Lawful.{IsLawful}
+use Rattle.cable_world.specs.Outcome.{IsTree, attrs_now}
+use Rattle.cable_world.proofs.Options.{some-of, some-at, some-same}
+use Rattle.cable_world.proofs.StaysLawful.{reached-lawful}
+use Rattle.cable_world.proofs.StaysReached.{act-reached}
+use Rattle.cable_world.proofs.tables.TablesInSteps.{step-cables}
+use Rattle.convergence.specs.Turns.{turns_to_over}
+use Rattle.convergence.proofs.turns.Flush.{after-cabling}
+use Rattle.outcomes.specs.Forced.{NamesRoot}
+use Rattle.outcomes.specs.Settled.{IdsNameOneNode, ConfigsMoveRoots, ConfigsSetGaps}
+use Rattle.outcomes.proofs.settled.QuietTurns.{quiet-enough}
+use Rattle.root_plan.specs.declared.choice.RootPlan.{RootPlan}
+use Rattle.settle.specs.Report.{IsPart, AreParts, IsAfterQuiet, quiet_turns_of}
+use Rattle.settle.specs.Reported.{IsReported}
+use Rattle.settle.specs.declared.report.Part.{Part}
+use Rattle.settle.specs.declared.report.Outcome.{Outcome}
+use Rattle.settle.specs.declared.report.Outcome.TheVariants as reported
+use Rattle.settle_plan.specs.Planned.{SuitsTree, HasId, IsTreeFrom, HaveGap}
+use Rattle.settle_plan.proofs.Relabelled.{one-order}
+use Rattle.settle_plan.proofs.Suited.{SameNodes, from-there, same-component, same-tree, tree-there, packet-fits, loopless-from}
+
+-- ---- answers
+
+pub on-ok : {A E : Type 0} → (r : Result A E) (P : Type 0) → P → OnOk r P
+on-ok (Ok x) P p = p
+on-ok (Err e) P p = tt
+
+pub if-ok :
+    {A E : Type 0} → (r : Result A E) (P R : A → Type 0) (Q : Type 0) → IfOk r P → OnOk r Q →
+    ((x : A) → P x → Q → R x) → IfOk r R
+if-ok (Ok x) P R Q p q f = f x p q
+if-ok (Err e) P R Q p q f = tt
+
+-- ---- the world that settled
+
+no-two : IsProp ⊥
+no-two = λ a b. absurd a
+
+module _
+    (names : IdsNameOneNode) (moves : ConfigsMoveRoots) (sets : ConfigsSetGaps)
+    (w sent v : CableWorld) (reached : ∥ IsReached w ∥₁) (l : IsLawful w) (from : ℕ)
+    (plan : RootPlan) (s : SuitsTree w from plan) (set : ℕ)
+    (component : IsComponent w.cabling from set) (small : set < 2 ^ 63)
+    (accepted : act_fault (Config from plan.root_id true (Some plan.gap)) w ≡ None)
+    (act : ActLeads (Config from plan.root_id true (Some plan.gap)) w sent)
+    (quiet : IsAfterQuiet sent v) where
+  fits : IsAct (Config from plan.root_id true (Some plan.gap))
+  fits = packet-fits w l from plan s set component small
+
+  -- ---- cables stay
+
+  sent-cables : sent.cabling ≡ w.cabling
+  sent-cables =
+      let told : CableWorld = record w { nodes = change_in_set act.0 (node_set_config (config_packet plan.root_id true (Some plan.gap))) 0 w.nodes } in
+      ap (λ (u : CableWorld). u.cabling) act.2 ∙ step-cables from node_disturb told
+
+  cables : v.cabling ≡ w.cabling
+  cables = ap (λ (u : CableWorld). u.cabling) quiet ∙ after-cabling (quiet_turns_of sent) sent ∙ sent-cables
+
+  -- as many turns as the nodes want
+  enough : IsReached w → quiet_turns (length sent.nodes) sent.delay ≤ quiet_turns_of sent
+  enough r =
+      let lawful = reached-lawful sent (act-reached (Config from plan.root_id true (Some plan.gap)) w sent fits accepted act r) in
+      omega (arith, ap (λ (n : ℕ). quiet_turns n sent.delay) lawful.well_formed.count)
+
+  module _ (root : ℕ) (h : HasId w from plan.root_id root) where
+    inside : Holds set root
+    inside = (same-component w.cabling from h.set set h.component component).0 root h.holds
+
+    named : IsReached w → NamesRoot w sent from plan.root_id (Some plan.gap) set root
+    named r = record {
+      act = act;
+      component = component;
+      named = names w set s.root root plan.root_id s.tree r (tree-there w l from plan s set component small) inside h.named;
+    }
+
+    -- ---- the tree
+
+    moved : IsReached w → (t : Tree) × IsTree v set root t
+    moved r =
+        let n = (tree-there w l from plan s set component small).no_loop in
+        let t = moves w sent (quiet_turns_of sent) from plan.root_id (Some plan.gap) set n.core root r fits accepted (named r) n.is_core n.empty small (enough r) in
+        (t.0, subst (λ (u : CableWorld). IsTree u set root t.0) (sym quiet) t.1)
+
+    part-of : (part : Part) → IsPart v part → Holds part.nodes from → IsTreeFrom w.cabling from root part
+    part-of part is here = go part.outcome refl is.outcome
+      where
+        lawful : IsComponent w.cabling is.node part.nodes
+        lawful = subst (λ (c : Wiring). IsComponent c is.node part.nodes) cables is.component
+
+        same : SameNodes set part.nodes
+        same = same-component w.cabling from set part.nodes component (shared w.cabling is.node from part.nodes l.well_formed.cabling lawful here)
+
+        there : IsReached w → (t : Tree) × IsTree v part.nodes root t
+        there r = let t = moved r in (t.0, same-tree v set part.nodes root t.0 same t.1)
+
+        no-some : (o : Option ℕ) → IsSome o → o ≡ None → ⊥
+        no-some None h e = true≢false (sym h)
+        no-some (Some p) h e = absurd cc
+
+        one-root : (top : ℕ) (t u : Tree) → IsTree v part.nodes top t → IsTree v part.nodes root u → top ≡ root
+        one-root top t u a b = elim (cases_eq top root) [
+          | inl e ↦ e
+          | inr ne ↦
+              let x = some-of (slice_get v.nodes top) _ a.no_parent in
+              let y = some-of (slice_get v.nodes top) _ (b.parents top a.holds_root ne) in
+              let z : x.0 ≡ y.0 = some-same x.0 y.0 (sym x.1 ∙ y.1) in
+              absurd (no-some y.0.state.view.parent y.2 (ap (λ (n : PortNode). n.state.view.parent) (sym z) ∙ x.2))
+        ]
+
+        go : (o : Outcome) → part.outcome ≡ o → IsReported v part.nodes o → IsTreeFrom w.cabling from root part
+        go (reported.Tree top list order) e k =
+            let at : top ≡ root = ∥∥₁_elim reached (Coded-set coded_ℕ top root) (λ r. let t = there r in one-root top k.tree t.0 k.is t.1) in
+            record {
+              holds = here;
+              list = list;
+              order = order;
+              outcome = e ∙ ap (λ (n : ℕ). reported.Tree n list order) at;
+              walk = λ label.
+                  let small = small_tree w.cabling label root set (loopless-from w l from plan s set component small root inside) in
+                  let seen = subst (λ (c : Wiring). Sees c (labels (attrs_now v)) root None k.tree) cables (subst (λ (n : ℕ). Sees v.cabling (labels (attrs_now v)) n None k.tree) at k.is.seen) in
+                  let walked : order ≡ numbers w.cabling root k.tree = k.walked ∙ ap (λ (n : ℕ). numbers v.cabling n k.tree) at ∙ ap (λ (c : Wiring). numbers c root k.tree) cables in
+                  record {
+                    tree = small.tree;
+                    seen = small.seen;
+                    order = walked ∙ one-order w.cabling (labels (attrs_now v)) label root None k.tree small.tree seen small.seen;
+                  };
+            }
+        go (reported.Loop core) e k = absurd (∥∥₁_elim reached no-two (λ r. let t = there r in k.some (λ x m. t.1.no_loop.empty x ((t.1.no_loop.is_core x).1 ((k.is x).0 m)))))
+        go (reported.Contention a b) e k = absurd (∥∥₁_elim reached no-two (λ r. let t = there r in k.no_tree root t.0 t.1))
+
+    pub tree-from : (parts : List Part) → AreParts v parts → Any (IsTreeFrom w.cabling from root) parts
+    tree-from parts are =
+        let h = are.whole from (subst (λ (c : Wiring). from < length c) (sym cables) (from-there w l from plan s)) in
+        (h.0, h.1, h.2, h.3, part-of h.1 (subst (IsPart v) h.3 (All-get_or (IsPart v) parts h.0 h.1 h.2 are.each)) h.4)
+
+    -- ---- gap counts
+
+    pub gap-of :
+        length v.nodes ≡ length w.nodes → HaveGap v from plan.gap
+    gap-of nodes other k is m = elim (slice_get_cases v.nodes k).1 [
+      | inl found ↦ some-at (slice_get v.nodes k) found.0 (λ (y : PortNode). y.state.view.gap ≡ plan.gap) found.2 (∥∥₁_elim reached (Coded-set coded_ℕ found.0.state.view.gap plan.gap) (λ r. gap-at r k found.0 (here k other is m) found.2))
+      | inr lacks ↦ absurd (let x = stood k (here k other is m) in omega (arith, lacks.0, nodes, slice_get_within w.nodes k x.0 x.1))
+    ]
+      where
+        here : (k : ℕ) (other : ℕ) → IsComponent v.cabling from other → Holds other k → Holds set k
+        here k other is m = (same-component w.cabling from other set (subst (λ (c : Wiring). IsComponent c from other) cables is) component).0 k m
+
+        stood : (k : ℕ) → Holds set k → (x : PortNode) × (slice_get w.nodes k ≡ Some x)
+        stood k m = let x = some-of (slice_get w.nodes k) _ ((tree-there w l from plan s set component small).ids k m) in (x.0, x.1)
+
+        gap-at : IsReached w → (k : ℕ) (y : PortNode) → Holds set k → slice_get v.nodes k ≡ Some y → y.state.view.gap ≡ plan.gap
+        gap-at r k y m at =
+            let x = stood k m in
+            let over : turns_to_over sent ≤ quiet_turns_of sent = omega (arith, enough r, quiet-enough (length sent.nodes) sent.delay) in
+            sets w sent (quiet_turns_of sent) from plan.root_id (Some plan.gap) set root k x.0 y r fits accepted (named r) over m x.1 (sym (ap (λ (u : CableWorld). slice_get u.nodes k) quiet) ∙ at)
