@@ -1,6 +1,7 @@
 -- What a plan asks of a bus, and what it makes of it.
 use Rattle.std.specs.Prelude.{◌≡◌, ℕ, ◌<◌, true, List, Some, length}
-use Rattle.topology_stack.specs.Tree.{Tree}
+use Rattle.topology_stack.specs.Tree.{Tree, walk, emits, IsBusTree}
+use Rattle.topology_stack.specs.Elect.{IsCandidate}
 use Rattle.cabling.specs.Wiring.{Wiring}
 use Rattle.cabling.specs.NodeSet.{Holds}
 use Rattle.cabling.specs.Component.{IsComponent}
@@ -58,3 +59,18 @@ abbrev pub HaveGap : CableWorld → NodeNumber → ℕ → Type 0
 HaveGap w from gap =
     (set : NodeSet) (k : NodeNumber) → IsComponent w.cabling from set → Holds set k →
     Shows w k (λ v. v.gap ≡ gap)
+
+-- ---- plans for reported trees
+
+-- a plan for a tree: the root is a candidate there, and the gap count is that of the tree's hops
+pub record IsPlanFor (t : Tree) (plan : RootPlan) : Type 0 where
+  pub candidate : IsCandidate (walk t) plan.root_id
+  pub hops : IsHops t plan.hops
+  pub gap : plan.gap ≡ gap_of plan.hops
+
+-- where the component of a node stands as a tree, a plan for the tree that its list tells suits it
+abbrev pub PlansSuit : CableWorld → NodeNumber → Type 0
+PlansSuit w from =
+    (set : NodeSet) (root : NodeNumber) (stands told : Tree) (plan : RootPlan) →
+    IsComponent w.cabling from set → IsTree w set root stands →
+    IsBusTree told → emits told ≡ emits stands → IsPlanFor told plan → SuitsTree w from plan

@@ -2,5 +2,7 @@
 #![tactic(auto)]
 
 mod carrying;
+mod suiting;
 
 pub use carrying::settle_plan;
+pub use suiting::plans_suit;
