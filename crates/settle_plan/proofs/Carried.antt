@@ -1,19 +1,13 @@
 -- What is there once a plan is carried out.
-use Rattle.std.proofs.Common.{◌≡◌, inl, inr, ℕ, ◌^◌, ◌<◌, ◌≤◌, true, Option, Some, None, IsSome, Result, Ok, Err, List, length, slice_get, refl, sym, ◌∙◌, ap, subst, arith, true≢false}
+use Rattle.std.proofs.Common.{◌≡◌, inl, inr, ℕ, ◌^◌, ◌<◌, ◌≤◌, true, Some, None, Result, Ok, Err, List, length, slice_get, sym, ◌∙◌, ap, subst, arith}
 use Rattle.std.specs.Coded.{Coded-set, coded_ℕ}
 use Rattle.std.specs.Prelude.{Any, IfOk, OnOk}
 use Rattle.std.proofs.Math.Logic.{∥∥₁_elim}
-use Rattle.std.proofs.lemmas.Bool.{cases_eq}
-use Rattle.std.proofs.lemmas.List.Elements.{All-get_or}
 use Rattle.std.proofs.lemmas.Option.{slice_get_cases, slice_get_within}
 use Rattle.topology_stack.specs.Tree.{Tree}
 use Rattle.cabling.specs.Wiring.{Wiring}
 use Rattle.cabling.specs.NodeSet.{Holds}
 use Rattle.cabling.specs.Component.{IsComponent}
-use Rattle.cabling.specs.Labels.{labels}
-use Rattle.cabling.specs.Sees.{Sees, numbers}
-use Rattle.cabling.proofs.Small.{small_tree}
-use Rattle.cabling.proofs.Whole.{shared}
 use Rattle.port_state.specs.Config.{config_packet}
 use Rattle.port_state.specs.Machine.{PortNode, node_disturb, node_set_config}
 use Rattle.cable_world.specs.declared.act.Act.TheVariants.{Config}
@@ -21,8 +15,8 @@ use Rattle.cable_world.specs.World.{CableWorld}
 use Rattle.cable_world.specs.Run.{IsReached, quiet_turns}
 use Rattle.cable_world.specs.Act.{IsAct, ActLeads, act_fault, change_in_set}
 use Rattle.cable_world.specs.Lawful.{IsLawful}
-use Rattle.cable_world.specs.Outcome.{IsTree, attrs_now}
-use Rattle.cable_world.proofs.Options.{some-of, some-at, some-same}
+use Rattle.cable_world.specs.Outcome.{IsTree}
+use Rattle.cable_world.proofs.Options.{some-of, some-at}
 use Rattle.cable_world.proofs.StaysLawful.{reached-lawful}
 use Rattle.cable_world.proofs.StaysReached.{act-reached}
 use Rattle.cable_world.proofs.tables.TablesInSteps.{step-cables}
@@ -32,14 +26,11 @@ use Rattle.outcomes.specs.Forced.{NamesRoot}
 use Rattle.outcomes.specs.Settled.{IdsNameOneNode, ConfigsMoveRoots, ConfigsSetGaps}
 use Rattle.outcomes.proofs.settled.QuietTurns.{quiet-enough}
 use Rattle.root_plan.specs.declared.choice.RootPlan.{RootPlan}
-use Rattle.settle.specs.Report.{IsPart, AreParts, IsAfterQuiet, quiet_turns_of}
-use Rattle.settle.specs.Reported.{IsReported}
+use Rattle.settle.specs.Report.{AreParts, IsAfterQuiet, quiet_turns_of}
 use Rattle.settle.specs.declared.report.Part.{Part}
-use Rattle.settle.specs.declared.report.Outcome.{Outcome}
-use Rattle.settle.specs.declared.report.Outcome.TheVariants as reported
 use Rattle.settle_plan.specs.Planned.{SuitsTree, HasId, IsTreeFrom, HaveGap}
-use Rattle.settle_plan.proofs.Relabelled.{one-order}
-use Rattle.settle_plan.proofs.Suited.{SameNodes, from-there, same-component, same-tree, tree-there, packet-fits, loopless-from}
+use Rattle.settle_plan.proofs.Reported.{found}
+use Rattle.settle_plan.proofs.Suited.{from-there, same-component, tree-there, packet-fits, loopless-from}
 
 -- ---- answers
 
@@ -54,9 +45,6 @@ if-ok (Ok x) P R Q p q f = f x p q
 if-ok (Err e) P R Q p q f = tt
 
 -- ---- the world that settled
-
-no-two : IsProp ⊥
-no-two = λ a b. absurd a
 
 module _
     (names : IdsNameOneNode) (moves : ConfigsMoveRoots) (sets : ConfigsSetGaps)
@@ -104,57 +92,8 @@ module _
         let t = moves w sent (quiet_turns_of sent) from plan.root_id (Some plan.gap) set n.core root r fits accepted (named r) n.is_core n.empty small (enough r) in
         (t.0, subst (λ (u : CableWorld). IsTree u set root t.0) (sym quiet) t.1)
 
-    part-of : (part : Part) → IsPart v part → Holds part.nodes from → IsTreeFrom w.cabling from root part
-    part-of part is here = go part.outcome refl is.outcome
-      where
-        lawful : IsComponent w.cabling is.node part.nodes
-        lawful = subst (λ (c : Wiring). IsComponent c is.node part.nodes) cables is.component
-
-        same : SameNodes set part.nodes
-        same = same-component w.cabling from set part.nodes component (shared w.cabling is.node from part.nodes l.well_formed.cabling lawful here)
-
-        there : IsReached w → (t : Tree) × IsTree v part.nodes root t
-        there r = let t = moved r in (t.0, same-tree v set part.nodes root t.0 same t.1)
-
-        no-some : (o : Option ℕ) → IsSome o → o ≡ None → ⊥
-        no-some None h e = true≢false (sym h)
-        no-some (Some p) h e = absurd cc
-
-        one-root : (top : ℕ) (t u : Tree) → IsTree v part.nodes top t → IsTree v part.nodes root u → top ≡ root
-        one-root top t u a b = elim (cases_eq top root) [
-          | inl e ↦ e
-          | inr ne ↦
-              let x = some-of (slice_get v.nodes top) _ a.no_parent in
-              let y = some-of (slice_get v.nodes top) _ (b.parents top a.holds_root ne) in
-              let z : x.0 ≡ y.0 = some-same x.0 y.0 (sym x.1 ∙ y.1) in
-              absurd (no-some y.0.state.view.parent y.2 (ap (λ (n : PortNode). n.state.view.parent) (sym z) ∙ x.2))
-        ]
-
-        go : (o : Outcome) → part.outcome ≡ o → IsReported v part.nodes o → IsTreeFrom w.cabling from root part
-        go (reported.Tree top list order) e k =
-            let at : top ≡ root = ∥∥₁_elim reached (Coded-set coded_ℕ top root) (λ r. let t = there r in one-root top k.tree t.0 k.is t.1) in
-            record {
-              holds = here;
-              list = list;
-              order = order;
-              outcome = e ∙ ap (λ (n : ℕ). reported.Tree n list order) at;
-              walk = λ label.
-                  let small = small_tree w.cabling label root set (loopless-from w l from plan s set component small root inside) in
-                  let seen = subst (λ (c : Wiring). Sees c (labels (attrs_now v)) root None k.tree) cables (subst (λ (n : ℕ). Sees v.cabling (labels (attrs_now v)) n None k.tree) at k.is.seen) in
-                  let walked : order ≡ numbers w.cabling root k.tree = k.walked ∙ ap (λ (n : ℕ). numbers v.cabling n k.tree) at ∙ ap (λ (c : Wiring). numbers c root k.tree) cables in
-                  record {
-                    tree = small.tree;
-                    seen = small.seen;
-                    order = walked ∙ one-order w.cabling (labels (attrs_now v)) label root None k.tree small.tree seen small.seen;
-                  };
-            }
-        go (reported.Loop core) e k = absurd (∥∥₁_elim reached no-two (λ r. let t = there r in k.some (λ x m. t.1.no_loop.empty x ((t.1.no_loop.is_core x).1 ((k.is x).0 m)))))
-        go (reported.Contention a b) e k = absurd (∥∥₁_elim reached no-two (λ r. let t = there r in k.no_tree root t.0 t.1))
-
     pub tree-from : (parts : List Part) → AreParts v parts → Any (IsTreeFrom w.cabling from root) parts
-    tree-from parts are =
-        let h = are.whole from (subst (λ (c : Wiring). from < length c) (sym cables) (from-there w l from plan s)) in
-        (h.0, h.1, h.2, h.3, part-of h.1 (subst (IsPart v) h.3 (All-get_or (IsPart v) parts h.0 h.1 h.2 are.each)) h.4)
+    tree-from parts are = found w.cabling v cables from set root component (loopless-from w l from plan s set component small root inside) (from-there w l from plan s) (IsReached w) reached moved parts are
 
     -- ---- gap counts
 

@@ -2,7 +2,11 @@
 pub mod Relabelled
 -- what a plan finds
 pub mod Suited
+-- what is reported of a tree
+pub mod Reported
 -- which plans suit
 pub mod Chosen
 -- what is there once it is carried out
 pub mod Carried
+-- one node alone is forced
+pub mod ForcedRoots

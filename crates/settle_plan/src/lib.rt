@@ -2,7 +2,9 @@
 #![tactic(auto)]
 
 mod carrying;
+mod forced;
 mod suiting;
 
 pub use carrying::settle_plan;
+pub use forced::forced_nodes_are_roots;
 pub use suiting::plans_suit;
