@@ -1,5 +1,5 @@
 //! A bus manager's plans, carried out.
-ghost use Rattle.std.specs.Prelude.{◌≡◌, ◌≤◌, IsFalse, length};
+ghost use Rattle.std.specs.Prelude.{◌≡◌, ◌≤◌, IsFalse, IfOk, IfSome, length};
 ghost use Rattle.cable_world.specs.World.{IsNodeAtPowerOn};
 ghost use Rattle.phy_machine.specs.Field.{field_node};
 ghost use Rattle.settle.specs.Report.{IsReport};
@@ -80,6 +80,8 @@ fn replanned<W: WorldRun>(
 ) -> Result<Option<(RootPlan, Report)>, Fail>
     requires report { IsReport (W.world world.old) report.now }
     requires fine { IsFalse (W.is_spent world.old) }
+    ensures report { IfOk result (λ o. IfSome o (λ p. IsReport (W.world world.new) p.1)) }
+    ensures fine { IfOk result (λ o. IfSome o (λ p. IsFalse (W.is_spent world.new))) }
 {
     let parts = report.parts.as_slice();
     assert_eq!(rt; parts.len(), 1);
@@ -107,7 +109,10 @@ fn settled_and_replanned<W: WorldRun>(
     alloc: Global,
     world: &mut W,
     from: u8,
-) -> Result<Option<(RootPlan, Report)>, Fail> {
+) -> Result<Option<(RootPlan, Report)>, Fail>
+    ensures report { IfOk result (λ o. IfSome o (λ p. IsReport (W.world world.new) p.1)) }
+    ensures fine { IfOk result (λ o. IfSome o (λ p. IsFalse (W.is_spent world.new))) }
+{
     assert_eq!(rt; world.delay(), 4);
     let turns = u64::from(world.turns()) + u64::from(quiet_turns(world.cabling().nodes(), 4));
     assert!(rt; turns <= 4_000_000_000);
@@ -126,6 +131,14 @@ fn is_tree(report: &Report, its_root: u8, its_list: &[u32], its_order: &[u8]) ->
             *root == its_root && list.as_slice() == its_list && order.as_slice() == its_order
         }
         _ => false,
+    }
+}
+
+/// The turn of the last change in the first part.
+fn last_change(report: &Report) -> Option<u32> {
+    match report.parts.as_slice().first() {
+        Some(part) => Some(part.changed),
+        None => None,
     }
 }
 
@@ -148,7 +161,7 @@ fn the_other_end_becomes_root(rt: HostRuntime) -> Result<(), Fail> {
     assert_eq!(rt; report.turn, 16_480);
     let list = [0x8047_8896, 0x8147_80e4, 0x8247_88d4];
     assert!(rt; is_tree(&report, 2, &list, &[0, 1, 2]));
-    assert_eq!(rt; report.parts.as_slice()[0].changed, 8511);
+    assert_eq!(rt; last_change(&report), Some(8511));
     Ok(())
 }
 
