@@ -1,3 +1,4 @@
 pub mod Reach
 pub mod Choice
+pub mod Hops
 pub mod codings
