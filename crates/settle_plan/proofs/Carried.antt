@@ -1,10 +1,13 @@
 -- What is there once a plan is carried out.
-use Rattle.std.proofs.Common.{◌≡◌, inl, inr, ℕ, ◌^◌, ◌<◌, ◌≤◌, true, Some, None, Result, Ok, Err, List, length, slice_get, sym, ◌∙◌, ap, subst, arith}
+use Rattle.std.proofs.Common.{◌≡◌, inl, inr, ℕ, ◌^◌, ◌<◌, ◌≤◌, true, Some, None, Result, Ok, Err, List, length, slice_get, refl, sym, ◌∙◌, ap, subst, arith}
 use Rattle.std.specs.Coded.{Coded-set, coded_ℕ}
 use Rattle.std.specs.Prelude.{Any, IfOk, OnOk}
 use Rattle.std.proofs.Math.Logic.{∥∥₁_elim}
 use Rattle.std.proofs.lemmas.Option.{slice_get_cases, slice_get_within}
-use Rattle.topology_stack.specs.Tree.{Tree}
+use Rattle.topology_stack.specs.Tree.{Tree, IsBusTree}
+use Rattle.cabling.specs.Labels.{labels}
+use Rattle.cabling.proofs.Small.{Loopless}
+use Rattle.root_plan.specs.Hops.{HopsStay}
 use Rattle.cabling.specs.Wiring.{Wiring}
 use Rattle.cabling.specs.NodeSet.{Holds}
 use Rattle.cabling.specs.Component.{IsComponent}
@@ -14,8 +17,8 @@ use Rattle.cable_world.specs.declared.act.Act.TheVariants.{Config}
 use Rattle.cable_world.specs.World.{CableWorld}
 use Rattle.cable_world.specs.Run.{IsReached, quiet_turns}
 use Rattle.cable_world.specs.Act.{IsAct, ActLeads, act_fault, change_in_set}
-use Rattle.cable_world.specs.Lawful.{IsLawful}
-use Rattle.cable_world.specs.Outcome.{IsTree}
+use Rattle.cable_world.specs.Lawful.{IsWellFormed, IsLawful}
+use Rattle.cable_world.specs.Outcome.{IsTree, attrs_now}
 use Rattle.cable_world.proofs.Options.{some-of, some-at}
 use Rattle.cable_world.proofs.StaysLawful.{reached-lawful}
 use Rattle.cable_world.proofs.StaysReached.{act-reached}
@@ -28,15 +31,19 @@ use Rattle.outcomes.proofs.settled.QuietTurns.{quiet-enough}
 use Rattle.root_plan.specs.declared.choice.RootPlan.{RootPlan}
 use Rattle.settle.specs.Report.{AreParts, IsAfterQuiet, quiet_turns_of}
 use Rattle.settle.specs.declared.report.Part.{Part}
-use Rattle.settle_plan.specs.Planned.{SuitsTree, HasId, IsTreeFrom, HaveGap}
-use Rattle.settle_plan.proofs.Reported.{found}
-use Rattle.settle_plan.proofs.Suited.{from-there, same-component, tree-there, packet-fits, loopless-from}
+use Rattle.settle_plan.specs.Planned.{WantsGap, SuitsTree, HasId, IsTreeFrom, HaveGap}
+use Rattle.settle_plan.proofs.Reported.{FoundTree, found, found-tree}
+use Rattle.settle_plan.proofs.Suited.{from-there, bus-of, same-component, tree-there, packet-fits, loopless-from}
 
 -- ---- answers
 
 pub on-ok : {A E : Type 0} → (r : Result A E) (P : Type 0) → P → OnOk r P
 on-ok (Ok x) P p = p
 on-ok (Err e) P p = tt
+
+pub on-both : {A E : Type 0} → (r : Result A E) (P Q : Type 0) → OnOk r P → OnOk r Q → OnOk r (P × Q)
+on-both (Ok x) P Q p q = (p, q)
+on-both (Err e) P Q p q = tt
 
 pub if-ok :
     {A E : Type 0} → (r : Result A E) (P R : A → Type 0) (Q : Type 0) → IfOk r P → OnOk r Q →
@@ -94,6 +101,42 @@ module _
 
     pub tree-from : (parts : List Part) → AreParts v parts → Any (IsTreeFrom w.cabling from root) parts
     tree-from parts are = found w.cabling v cables from set root component (loopless-from w l from plan s set component small root inside) (from-there w l from plan s) (IsReached w) reached moved parts are
+
+    -- the tree has as many hops as the one before
+    pub gap-wanted :
+        HopsStay w.cabling → IsWellFormed v → (parts : List Part) → AreParts v parts →
+        Any (WantsGap from plan.gap) parts
+    gap-wanted hops formed parts are = (
+      f.0,
+      f.1,
+      f.2,
+      f.3,
+      record {
+        holds = f.4.is.holds;
+        root = root;
+        list = f.4.is.list;
+        order = f.4.is.order;
+        outcome = f.4.is.outcome;
+        tree = f.4.tree;
+        bus = bus;
+        emitted = f.4.emitted;
+        hops = s.hops;
+        are_hops = hops (labels (attrs_now w)) (labels (attrs_now v)) s.root root set s.tree f.4.tree s.hops old.there new.there small old.component inside s.is.seen f.4.seen (bus-of w.cabling w l.well_formed refl s.root set old s.tree s.is.seen) bus s.are_hops;
+        gap_is = s.gap;
+      },
+    )
+      where
+        old : Loopless w.cabling s.root set
+        old = loopless-from w l from plan s set component small s.root (tree-there w l from plan s set component small).holds_root
+
+        new : Loopless w.cabling root set
+        new = loopless-from w l from plan s set component small root inside
+
+        f : Any (FoundTree w.cabling v from root) parts
+        f = found-tree w.cabling v cables from set root component new (from-there w l from plan s) (IsReached w) reached moved parts are
+
+        bus : IsBusTree f.4.tree
+        bus = bus-of w.cabling v formed cables root set new f.4.tree f.4.seen
 
     -- ---- gap counts
 

@@ -1,5 +1,5 @@
 -- A plan for the tree that a list tells suits the component that has the list.
-use Rattle.std.proofs.Common.{◌≡◌, ℕ, ◌^◌, ◌<◌, length, slice_get, ◌∙◌, ap, subst, arith}
+use Rattle.std.proofs.Common.{◌≡◌, ℕ, ◌^◌, ◌<◌, length, slice_get, ◌∙◌, ap, subst, arith, refl}
 use Rattle.std.proofs.lemmas.List.{length-map}
 use Rattle.std.proofs.lemmas.Option.{slice_get_within}
 use Rattle.topology_stack.specs.Tree.{Tree, walk, IsBusTree}
@@ -9,21 +9,18 @@ use Rattle.cabling.specs.Labels.{labels}
 use Rattle.cabling.specs.Sees.{numbers}
 use Rattle.cabling.specs.codings.Visits.{visits, at_root}
 use Rattle.cabling.specs.codings.Shown.{shown_node}
-use Rattle.cabling.proofs.Shown.{labels_fit, walk_seen, bus_seen}
-use Rattle.cabling.proofs.Small.{Loopless, tree_few}
+use Rattle.cabling.proofs.Shown.{walk_seen}
+use Rattle.cabling.proofs.Small.{Loopless}
 use Rattle.cabling.proofs.Waiting.{length-visits}
 use Rattle.cabling.proofs.Whole.{shared, seen_loopless}
-use Rattle.port_state.specs.Group.{shown_attrs}
-use Rattle.port_state.specs.Machine.{PortNode}
 use Rattle.cable_world.specs.World.{CableWorld}
 use Rattle.cable_world.specs.Lawful.{IsLawful}
 use Rattle.cable_world.specs.Outcome.{IsTree, attrs_now}
 use Rattle.cable_world.proofs.Options.{some-of}
-use Rattle.settle.proofs.Shown.{attrs-fit}
 use Rattle.bus_manager.specs.Hops.{IsHops}
 use Rattle.root_plan.proofs.Choosing.{candidate_within}
 use Rattle.settle_plan.specs.Planned.{PlansSuit}
-use Rattle.settle_plan.proofs.Suited.{same-component, same-tree}
+use Rattle.settle_plan.proofs.Suited.{same-component, same-tree, bus-of}
 
 pub suits :
     NoListHasTwoTrees → (w : CableWorld) → IsLawful w → (from whole : ℕ) → from < length w.cabling →
@@ -57,11 +54,8 @@ suits one w l from whole there component small set root stands told plan own is 
         ∙ length-map (visits w.cabling (at_root root) stands) (shown_node w.cabling (labels (attrs_now w)))
         ∙ length-visits w.cabling (at_root root) stands
 
-    attrs-count : length (attrs_now w) ≡ length w.cabling
-    attrs-count = length-map w.nodes (λ (x : PortNode). shown_attrs x.state) ∙ l.well_formed.count
-
     stands-bus : IsBusTree stands
-    stands-bus = bus_seen w.cabling (labels (attrs_now w)) root stands l.well_formed.cabling (labels_fit w.cabling (attrs_now w) attrs-count (attrs-fit w l.well_formed)) root-there is.seen (tree_few w.cabling (labels (attrs_now w)) root whole stands loopless is.seen)
+    stands-bus = bus-of w.cabling w l.well_formed refl root whole loopless stands is.seen
 
     equal : told ≡ stands
     equal = one told stands bus stands-bus same

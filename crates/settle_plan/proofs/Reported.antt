@@ -5,7 +5,7 @@ use Rattle.std.specs.Prelude.{Any}
 use Rattle.std.proofs.Math.Logic.{∥∥₁_elim}
 use Rattle.std.proofs.lemmas.Bool.{cases_eq}
 use Rattle.std.proofs.lemmas.List.Elements.{All-get_or}
-use Rattle.topology_stack.specs.Tree.{Tree}
+use Rattle.topology_stack.specs.Tree.{Tree, emits}
 use Rattle.cabling.specs.Wiring.{Wiring}
 use Rattle.cabling.specs.Component.{IsComponent}
 use Rattle.cabling.specs.Labels.{labels}
@@ -26,6 +26,13 @@ use Rattle.settle_plan.specs.Planned.{IsTreeFrom}
 use Rattle.settle_plan.proofs.Relabelled.{one-order}
 use Rattle.settle_plan.proofs.Suited.{SameNodes, same-component, same-tree}
 
+-- a tree that was found, as the cables show it
+pub record FoundTree (c : Wiring) (v : CableWorld) (from root : ℕ) (part : Part) : Type 0 where
+  pub is : IsTreeFrom c from root part
+  pub tree : Tree
+  pub seen : Sees c (labels (attrs_now v)) root None tree
+  pub emitted : is.list ≡ emits tree
+
 no-two : IsProp ⊥
 no-two = λ a b. absurd a
 
@@ -33,7 +40,7 @@ module _
     (c : Wiring) (v : CableWorld) (cables : v.cabling ≡ c) (from set root : ℕ)
     (component : IsComponent c from set) (loopless : Loopless c root set) (there-from : from < length c)
     (R : Type 0) (reached : ∥ R ∥₁) (moved : R → (t : Tree) × IsTree v set root t) where
-  part-of : (part : Part) → IsPart v part → Holds part.nodes from → IsTreeFrom c from root part
+  part-of : (part : Part) → IsPart v part → Holds part.nodes from → FoundTree c v from root part
   part-of part is here = go part.outcome refl is.outcome
     where
       lawful : IsComponent c is.node part.nodes
@@ -59,28 +66,37 @@ module _
             absurd (no-some y.0.state.view.parent y.2 (ap (λ (n : PortNode). n.state.view.parent) (sym z) ∙ x.2))
       ]
 
-      go : (o : Outcome) → part.outcome ≡ o → IsReported v part.nodes o → IsTreeFrom c from root part
+      go : (o : Outcome) → part.outcome ≡ o → IsReported v part.nodes o → FoundTree c v from root part
       go (reported.Tree top list order) e k =
           let at : top ≡ root = ∥∥₁_elim reached (Coded-set coded_ℕ top root) (λ r. let t = there r in one-root top k.tree t.0 k.is t.1) in
+          let seen : Sees c (labels (attrs_now v)) root None k.tree =
+          subst (λ (d : Wiring). Sees d (labels (attrs_now v)) root None k.tree) cables (subst (λ (n : ℕ). Sees v.cabling (labels (attrs_now v)) n None k.tree) at k.is.seen) in
           record {
-            holds = here;
-            list = list;
-            order = order;
-            outcome = e ∙ ap (λ (n : ℕ). reported.Tree n list order) at;
-            walk = λ label.
-                let small = small_tree c label root set loopless in
-                let seen = subst (λ (d : Wiring). Sees d (labels (attrs_now v)) root None k.tree) cables (subst (λ (n : ℕ). Sees v.cabling (labels (attrs_now v)) n None k.tree) at k.is.seen) in
-                let walked : order ≡ numbers c root k.tree = k.walked ∙ ap (λ (n : ℕ). numbers v.cabling n k.tree) at ∙ ap (λ (d : Wiring). numbers d root k.tree) cables in
-                record {
-                  tree = small.tree;
-                  seen = small.seen;
-                  order = walked ∙ one-order c (labels (attrs_now v)) label root None k.tree small.tree seen small.seen;
-                };
+            is = record {
+              holds = here;
+              list = list;
+              order = order;
+              outcome = e ∙ ap (λ (n : ℕ). reported.Tree n list order) at;
+              walk = λ label.
+                  let small = small_tree c label root set loopless in
+                  let walked : order ≡ numbers c root k.tree = k.walked ∙ ap (λ (n : ℕ). numbers v.cabling n k.tree) at ∙ ap (λ (d : Wiring). numbers d root k.tree) cables in
+                  record {
+                    tree = small.tree;
+                    seen = small.seen;
+                    order = walked ∙ one-order c (labels (attrs_now v)) label root None k.tree small.tree seen small.seen;
+                  };
+            };
+            tree = k.tree;
+            seen = seen;
+            emitted = k.emitted;
           }
       go (reported.Loop core) e k = absurd (∥∥₁_elim reached no-two (λ r. let t = there r in k.some (λ x m. t.1.no_loop.empty x ((t.1.no_loop.is_core x).1 ((k.is x).0 m)))))
       go (reported.Contention a b) e k = absurd (∥∥₁_elim reached no-two (λ r. let t = there r in k.no_tree root t.0 t.1))
 
-  pub found : (parts : List Part) → AreParts v parts → Any (IsTreeFrom c from root) parts
-  found parts are =
+  pub found-tree : (parts : List Part) → AreParts v parts → Any (FoundTree c v from root) parts
+  found-tree parts are =
       let h = are.whole from (subst (λ (d : Wiring). from < length d) (sym cables) there-from) in
       (h.0, h.1, h.2, h.3, part-of h.1 (subst (IsPart v) h.3 (All-get_or (IsPart v) parts h.0 h.1 h.2 are.each)) h.4)
+
+  pub found : (parts : List Part) → AreParts v parts → Any (IsTreeFrom c from root) parts
+  found parts are = let f = found-tree parts are in (f.0, f.1, f.2, f.3, f.4.is)

@@ -3,22 +3,26 @@ use Rattle.std.proofs.Common.{◌≡◌, ℕ, zero, suc, ◌^◌, ◌<◌, ◌�
 use Rattle.std.specs.Prelude.{unwrap_or}
 use Rattle.std.proofs.lemmas.Bool.{lt-ltb}
 use Rattle.std.proofs.lemmas.Option.{slice_get-get_or, slice_get_within}
-use Rattle.topology_stack.specs.Tree.{Tree}
+use Rattle.std.proofs.lemmas.List.{length-map}
+use Rattle.topology_stack.specs.Tree.{Tree, IsBusTree}
 use Rattle.cabling.specs.Wiring.{Wiring}
 use Rattle.cabling.specs.NodeSet.{Holds}
 use Rattle.cabling.specs.Component.{IsComponent}
 use Rattle.cabling.specs.Looped.{IsCore}
 use Rattle.cabling.specs.Labels.{labels}
-use Rattle.cabling.specs.Sees.{numbers}
+use Rattle.cabling.specs.Sees.{Sees, numbers}
+use Rattle.cabling.proofs.Shown.{labels_fit, bus_seen}
 use Rattle.cabling.proofs.Small.{Loopless, tree_within, tree_once, tree_few}
 use Rattle.cabling.proofs.Whole.{shared, seen_loopless}
 use Rattle.port_state.specs.Config.{config_packet}
+use Rattle.port_state.specs.Group.{shown_attrs}
 use Rattle.port_state.specs.Machine.{PortNode}
 use Rattle.cable_world.specs.World.{CableWorld}
 use Rattle.cabling.specs.declared.cable.CableFault.TheVariants.{NoNode}
 use Rattle.cable_world.specs.declared.act.Act.TheVariants.{Config}
 use Rattle.cable_world.specs.Act.{IsConfigPacket, act_fault}
-use Rattle.cable_world.specs.Lawful.{IsLawful}
+use Rattle.cable_world.specs.Lawful.{IsWellFormed, IsLawful}
+use Rattle.settle.proofs.Shown.{attrs-fit}
 use Rattle.cable_world.specs.Outcome.{IsTree, Shows, attrs_now}
 use Rattle.cable_world.proofs.Options.{some-of, some-at, some-same}
 use Rattle.outcomes.proofs.walks.Marked.{in-read, one-place}
@@ -51,6 +55,16 @@ same-tree w a b root t same h = record {
   ids = λ k m. h.ids k (same.1 k m);
   lists = λ k m. h.lists k (same.1 k m);
 }
+
+-- ---- bus trees
+
+-- a tree that cables without loop show is a bus tree
+pub bus-of :
+    (c : Wiring) (u : CableWorld) → IsWellFormed u → u.cabling ≡ c → (root set : ℕ) → Loopless c root set →
+    (t : Tree) → Sees c (labels (attrs_now u)) root None t → IsBusTree t
+bus-of c u f same root set l t seen =
+    let count : length (attrs_now u) ≡ length c = length-map u.nodes (λ (x : PortNode). shown_attrs x.state) ∙ f.count ∙ ap length same in
+    bus_seen c (labels (attrs_now u)) root t l.cabling (labels_fit c (attrs_now u) count (attrs-fit u f)) l.there seen (tree_few c (labels (attrs_now u)) root set t l seen)
 
 -- ---- gap counts have six bits
 

@@ -60,6 +60,20 @@ HaveGap w from gap =
     (set : NodeSet) (k : NodeNumber) → IsComponent w.cabling from set → Holds set k →
     Shows w k (λ v. v.gap ≡ gap)
 
+-- The part with a node is a tree whose hops want this gap count.
+pub record WantsGap (from : NodeNumber) (gap : ℕ) (part : Part) : Type 0 where
+  pub holds : Holds part.nodes from
+  pub root : NodeNumber
+  pub list : List ℕ
+  pub order : List NodeNumber
+  pub outcome : part.outcome ≡ reported.Tree root list order
+  pub tree : Tree
+  pub bus : IsBusTree tree
+  pub emitted : list ≡ emits tree
+  pub hops : ℕ
+  pub are_hops : IsHops tree hops
+  pub gap_is : gap ≡ gap_of hops
+
 -- ---- plans for reported trees
 
 -- a plan for a tree: the root is a candidate there, and the gap count is that of the tree's hops

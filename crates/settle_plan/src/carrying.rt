@@ -3,12 +3,12 @@ ghost use Rattle.std.specs.Prelude.{◌≡◌, ◌+◌, ◌≤◌, ℕ, IfOk, On
 ghost use Rattle.cable_world.specs.Unchanged.{TurnsPass};
 ghost use Rattle.convergence.specs.Milestones.{ResetsAreDone};
 ghost use Rattle.settle.specs.Report.{IsReport, quiet_turns_of};
-ghost use Rattle.settle_plan.specs.Planned.{SuitsTree, HasId, IsAfterPlan, IsTreeFrom, HaveGap};
+ghost use Rattle.settle_plan.specs.Planned.{SuitsTree, HasId, IsAfterPlan, IsTreeFrom, HaveGap, WantsGap};
 
 use cable_world::{Act, ActStop, WorldRun};
 use cabling::OutOfMemory;
 use outcomes::forced_roots_settle;
-use root_plan::RootPlan;
+use root_plan::{RootPlan, hops_stay};
 use settle::{Report, settle};
 use std::alloc::{AllocError, Global};
 
@@ -34,6 +34,8 @@ pub fn settle_plan<W: WorldRun>(
     // One node had it.
     ensures one { OnOk result ((root : ℕ) × HasId (W.world world.old) from plan.now.root_id root) }
     ensures gaps { OnOk result (HaveGap (W.world world.new) from plan.now.gap) }
+    // The new tree has as many hops as the old one, so the gap count suits it.
+    ensures hops { IfOk result (λ report. Any (WantsGap from plan.now.gap) report.parts) }
     ensures report { IfOk result (λ report. IsReport (W.world world.new) report) }
     ensures done { OnOk result (ResetsAreDone (W.world world.new)) }
     ensures carried { OnOk result
@@ -52,6 +54,7 @@ pub fn settle_plan<W: WorldRun>(
     forced_roots_settle();
     // the component, whose nodes are at most 63
     let _component = world.cabling().component(from);
+    hops_stay(world.cabling());
     let act = Act::Config {
         from,
         root_id: plan.root_id,

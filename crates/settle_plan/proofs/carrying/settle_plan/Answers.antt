@@ -8,8 +8,9 @@ use Rattle.cable_world.specs.Answer.{IfFault}
 use Rattle.cable_world.proofs.Options.{none-some}
 use Rattle.settle.specs.Report.{IsReport, IsAfterQuiet}
 use Rattle.cable_world.proofs.running.Whole.{lawful-now}
+use Rattle.root_plan.specs.Hops.{HopsStay}
 use Rattle.settle_plan.proofs.Suited.{from-there, not-refused, packet-fits, has-id}
-use Rattle.settle_plan.proofs.Carried.{on-ok, if-ok, tree-from, gap-of}
+use Rattle.settle_plan.proofs.Carried.{on-ok, on-both, if-ok, gap-wanted, tree-from, gap-of}
 use Rattle.settle_plan.proofs.carrying.settle_plan.Goals as goal
 
 pub component-component-requires : goal.component-component-requires
@@ -64,3 +65,16 @@ returns-in-Ok-clause-gaps g c =
     if-ok c.settle.result (λ report. IsAfterQuiet sent v) _ _ c.settle.ensures.quiet c.settle.ensures.passed (λ report quiet passed.
     gap-of laws.names laws.config laws.gaps w sent v reached l c.args.from c.args.plan.now c.requires.suits c.component-component.result component c.component-component.ensures.small
     c.in-Ok.ensures.accepted c.in-Ok.ensures.done quiet one.0 one.1 (passed.nodes ∙ c.in-Ok.ensures.passed.nodes))
+
+pub returns-in-Ok-clause-hops : goal.returns-in-Ok-clause-hops
+returns-in-Ok-clause-hops g c =
+    let w = g.W.WorldRun.world c.args.world.now in
+    let v = g.W.WorldRun.world c.settle.new.world in
+    let reached = g.met.W.WorldRun.reached c.args.world.now (sym c.spent.ensures ∙ c.if-spent.false) in
+    let l = lawful-now w reached in
+    let component = subst (λ (d : Wiring). IsComponent d c.args.from c.component-component.result) c.cabling.ensures c.component-component.ensures.component in
+    let laws = c.forced_roots_settle.ensures in
+    let one = has-id w l c.args.from c.args.plan.now c.requires.suits c.component-component.result component c.component-component.ensures.small in
+    if-ok c.settle.result (IsReport v) _ _ c.settle.ensures.report (on-both c.settle.result _ _ c.settle.ensures.quiet c.settle.ensures.fine) (λ report is both.
+    gap-wanted laws.names laws.config laws.gaps w (g.W.WorldRun.world c.act.new.self) v reached l c.args.from c.args.plan.now c.requires.suits c.component-component.result component c.component-component.ensures.small
+    c.in-Ok.ensures.accepted c.in-Ok.ensures.done both.0 one.0 one.1 (subst HopsStay c.cabling-2.ensures c.hops_stay.ensures) (lawful-now v (g.met.W.WorldRun.reached c.settle.new.world both.1)).well_formed report.parts is.parts)
