@@ -2,7 +2,3 @@
 pub mod Climbing
 -- the best candidate
 pub mod Choosing
--- slots lead where cables do
-pub mod Cables
--- hops don't depend on the root
-pub mod SameHops

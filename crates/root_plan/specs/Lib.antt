@@ -1,4 +1,3 @@
 pub mod Reach
 pub mod Choice
-pub mod Hops
 pub mod codings

@@ -3,11 +3,9 @@
 
 mod choice;
 mod expected;
-mod laws;
 mod reach;
 #[cfg(test)]
 mod tests;
 
 pub use choice::{RootPlan, choose};
 pub use expected::expect;
-pub use laws::hops_stay;

@@ -7,7 +7,7 @@ use Rattle.std.proofs.lemmas.Option.{slice_get_cases, slice_get_within}
 use Rattle.topology_stack.specs.Tree.{Tree, IsBusTree}
 use Rattle.cabling.specs.Labels.{labels}
 use Rattle.cabling.proofs.Small.{Loopless}
-use Rattle.root_plan.specs.Hops.{HopsStay}
+use Rattle.settle_plan.specs.Hops.{HopsStay}
 use Rattle.cabling.specs.Wiring.{Wiring}
 use Rattle.cabling.specs.NodeSet.{Holds}
 use Rattle.cabling.specs.Component.{IsComponent}

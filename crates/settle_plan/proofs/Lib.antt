@@ -1,5 +1,8 @@
 -- the order of a walk doesn't depend on labels
 pub mod Relabelled
+-- the hops don't depend on the root
+pub mod Cables
+pub mod SameHops
 -- what a plan finds
 pub mod Suited
 -- what is reported of a tree

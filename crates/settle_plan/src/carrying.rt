@@ -3,12 +3,14 @@ ghost use Rattle.std.specs.Prelude.{◌≡◌, ◌+◌, ◌≤◌, ℕ, IfOk, On
 ghost use Rattle.cable_world.specs.Unchanged.{TurnsPass};
 ghost use Rattle.convergence.specs.Milestones.{ResetsAreDone};
 ghost use Rattle.settle.specs.Report.{IsReport, quiet_turns_of};
-ghost use Rattle.settle_plan.specs.Planned.{SuitsTree, HasId, IsAfterPlan, IsTreeFrom, HaveGap, WantsGap};
+ghost use Rattle.settle_plan.specs.Planned.{SuitsTree, HasId, IsAfterPlan};
+ghost use Rattle.settle_plan.specs.Planned.{IsTreeFrom, HaveGap, WantsGap};
 
+use crate::laws::hops_stay;
 use cable_world::{Act, ActStop, WorldRun};
 use cabling::OutOfMemory;
 use outcomes::forced_roots_settle;
-use root_plan::{RootPlan, hops_stay};
+use root_plan::RootPlan;
 use settle::{Report, settle};
 use std::alloc::{AllocError, Global};
 

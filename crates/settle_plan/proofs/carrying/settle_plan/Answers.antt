@@ -8,7 +8,7 @@ use Rattle.cable_world.specs.Answer.{IfFault}
 use Rattle.cable_world.proofs.Options.{none-some}
 use Rattle.settle.specs.Report.{IsReport, IsAfterQuiet}
 use Rattle.cable_world.proofs.running.Whole.{lawful-now}
-use Rattle.root_plan.specs.Hops.{HopsStay}
+use Rattle.settle_plan.specs.Hops.{HopsStay}
 use Rattle.settle_plan.proofs.Suited.{from-there, not-refused, packet-fits, has-id}
 use Rattle.settle_plan.proofs.Carried.{on-ok, on-both, if-ok, gap-wanted, tree-from, gap-of}
 use Rattle.settle_plan.proofs.carrying.settle_plan.Goals as goal

@@ -1,5 +1,5 @@
 //! A law of hops.
-ghost use Rattle.root_plan.specs.Hops.{HopsStay};
+ghost use Rattle.settle_plan.specs.Hops.{HopsStay};
 
 use bus_manager::hops_are_of_node_paths;
 use cabling::{Cabling, cables_are_two_ended};

@@ -1,5 +1,5 @@
 -- Trees that the same cables show from two of their nodes have paths of the same lengths.
-use Rattle.std.proofs.Common.{◌≡◌, ℕ, zero, suc, ◌<◌, ◌≤◌, Option, Some, None, List, [], ◌∷◌, length, get_or, inl, inr, refl, sym, ◌∙◌, ap, subst, arith}
+use Rattle.std.proofs.Common.{◌≡◌, ℕ, suc, ◌<◌, ◌≤◌, Option, Some, None, List, [], ◌∷◌, length, get_or, inl, inr, refl, sym, ◌∙◌, ap, subst, arith}
 use Rattle.std.specs.Prelude.{slice_get}
 use Rattle.std.proofs.lemmas.Option.{slice_get-get_or, slice_get_within}
 use Rattle.topology_stack.specs.Tree.{Label, Tree, walk}
@@ -16,27 +16,16 @@ use Rattle.cabling.proofs.Small.{tree_within, tree_once}
 use Rattle.cabling.proofs.Whole.{shared, tree_has, seen_loopless}
 use Rattle.bus_manager.specs.Hops.{IsHops, IsLongestPath, HopsAreOfNodePaths}
 use Rattle.bus_manager.proofs.Longest.{reach, is_hops}
-use Rattle.root_plan.specs.Hops.{HopsStay}
-use Rattle.root_plan.proofs.Cables.{Agree, Leads, so-many, tree-leads}
+use Rattle.outcomes.proofs.walks.Marked.{in-read, one-place}
+use Rattle.settle_plan.specs.Hops.{HopsStay}
+use Rattle.settle_plan.proofs.Cables.{Agree, Leads, so-many, tree-leads}
 
 -- ---- places in lists
-
-in-list : (xs : List ℕ) (k x : ℕ) → slice_get xs k ≡ Some x → In x xs
-in-list [] k x e = absurd cc
-in-list (y ∷ xs) zero x e = inl cc
-in-list (y ∷ xs) (suc k) x e = inr (in-list xs k x e)
 
 place-of : (xs : List ℕ) (x : ℕ) → In x xs → (k : ℕ) × (slice_get xs k ≡ Some x)
 place-of [] x i = absurd i
 place-of (y ∷ xs) x (inl e) = (0, ap (λ (n : ℕ). Some n) (sym e))
 place-of (y ∷ xs) x (inr i) = let p = place-of xs x i in (suc p.0, p.1)
-
-one-place : (xs : List ℕ) (i j x : ℕ) → Once xs → slice_get xs i ≡ Some x → slice_get xs j ≡ Some x → i ≡ j
-one-place [] i j x o e f = absurd cc
-one-place (y ∷ xs) zero zero x o e f = refl
-one-place (y ∷ xs) zero (suc j) x o e f = let same : x ≡ y = cc in absurd (o.0 (subst (λ (n : ℕ). In n xs) same (in-list xs j x f)))
-one-place (y ∷ xs) (suc i) zero x o e f = let same : x ≡ y = cc in absurd (o.0 (subst (λ (n : ℕ). In n xs) same (in-list xs i x e)))
-one-place (y ∷ xs) (suc i) (suc j) x o e f = ap (λ (n : ℕ). suc n) (one-place xs i j x o.1 e f)
 
 -- two IDs in two trees are of one node
 abbrev Same : List ℕ → List ℕ → ℕ → ℕ → Type 0
@@ -114,7 +103,7 @@ module _
       let there : p.from < length N = omega (arith, p.there, so-many c label root None t h) in
       let x : ℕ = get_or N p.from 0 in
       let at : slice_get N p.from ≡ Some x = slice_get-get_or N p.from 0 there in
-      let m = place-of M x (all x (in-list N p.from x at)) in
+      let m = place-of M x (all x (in-read N p.from x at)) in
       let path = path-too p.from p.to m.0 p.ids (x, at, m.1) p.path in
       let within : m.0 < length (walk u) = omega (arith, slice_get_within M m.0 x m.1, so-many c other next None u k) in
       omega (arith, q.longest m.0 path.0 path.1 within path.2, path.4, p.long)
