@@ -51,8 +51,8 @@ fn world_of(alloc: Global, contenders: &[bool]) -> Result<World<FieldMachine>, A
     World::new(alloc, 4, machines)
 }
 
-/// A line of nodes, of which these contend: a cable leads from each node's port 1, of the first one's
-/// port 0, to port 0 of the next.
+/// A line of nodes, of which these contend: a cable leads from each node's port 1, or the first
+/// one's port 0, to port 0 of the next.
 fn line(rt: &impl Abort, alloc: Global, contenders: &[bool]) -> Result<World<FieldMachine>, Fail> {
     assert!(rt; 1 <= contenders.len() && contenders.len() <= 63);
     let mut world = world_of(alloc, contenders)?;
