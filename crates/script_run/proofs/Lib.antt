@@ -15,3 +15,7 @@ pub mod NamedTree
 pub mod BeforeAnything
 pub mod told
 pub mod WorkedScripts
+pub mod MadeLines
+pub mod MadeSize
+pub mod MadeRead
+pub mod MadeCommands

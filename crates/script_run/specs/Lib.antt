@@ -19,4 +19,6 @@ pub mod CommandText
 pub mod Step
 pub mod Script
 pub mod OneTold
+pub mod Made
+pub mod MadeRead
 pub mod codings

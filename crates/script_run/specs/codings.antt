@@ -5,3 +5,4 @@ pub mod Running
 pub mod Stop
 pub mod Going
 pub mod Declaring
+pub mod Plugged

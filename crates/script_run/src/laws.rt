@@ -1,6 +1,7 @@
 //! Laws of lines, of reports and of scripts.
 ghost use Rattle.std.specs.Prelude.{IsFalse};
 ghost use Rattle.script_run.specs.Answer.{OneReading, SomeReading};
+ghost use Rattle.script_run.specs.MadeRead.{MadeIsRead, MadeIsSplit};
 ghost use Rattle.script_run.specs.Name.{NamesAreTested};
 ghost use Rattle.script_run.specs.CanBeShown.{CanBeShown};
 ghost use Rattle.script_run.specs.OneText.{ReportsHaveOneText};
@@ -44,3 +45,10 @@ pub fn scripts_tell_one_thing()
 {
     one_tree();
 }
+
+/// A law: the lines of a script that is made are what stands between line feeds, and each is read as
+/// its command.
+pub fn made_is_read()
+    ensures read { MadeIsRead }
+    ensures split { MadeIsSplit }
+{}

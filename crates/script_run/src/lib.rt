@@ -18,6 +18,7 @@ mod kind;
 mod last_report;
 mod laws;
 mod line;
+mod made;
 mod managed;
 mod maps;
 mod node;
@@ -35,10 +36,11 @@ pub use command::Command;
 pub use kind::{Kind, LineStop, ScriptFault, ScriptStop};
 pub use last_report::summary;
 pub use laws::{
-    names_are_tested, one_reading, reports_can_be_shown, reports_have_one_text,
+    made_is_read, names_are_tested, one_reading, reports_can_be_shown, reports_have_one_text,
     scripts_tell_one_thing,
 };
 pub use line::parse_line;
+pub use made::make_script;
 pub use maps::maps_text;
 pub use report::report_text;
 pub use script::run_script;
