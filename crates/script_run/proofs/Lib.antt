@@ -14,6 +14,7 @@ pub mod Turns
 pub mod NamedTree
 pub mod BeforeAnything
 pub mod told
+pub mod ScriptLines
 pub mod WorkedScripts
 pub mod MadeLines
 pub mod MadeSize

@@ -18,6 +18,7 @@ pub mod Bus
 pub mod CommandText
 pub mod Step
 pub mod Script
+pub mod Answered
 pub mod OneTold
 pub mod Made
 pub mod MadeRead

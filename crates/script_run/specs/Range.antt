@@ -27,8 +27,9 @@ pub record IsConfigInRange (root_id gap : Option ℕ) : Type 0 where
 
 -- each number of a command is in its range; a port, an offset and a value may be any
 abbrev pub IsInRange : ℕ → Command → Type 0
-IsInRange d (Node name ports speed link contender force power gap hold short long word len seed packed)
-    = IsNodeInRange d ports speed power gap hold short long len
+IsInRange d
+    (Node name ports speed link contender force power gap hold short long word len seed packed) =
+    IsNodeInRange d ports speed power gap hold short long len
 IsInRange d (Turn count) = IsWithin 1 2000000 count
 IsInRange d (Hold name port turns) = IsWithin 1 65535 turns
 IsInRange d (Config name root_id gap) = IsConfigInRange root_id gap

@@ -197,9 +197,9 @@ impl Draft {
         requires line { IsLine self.delay node }
         requires few { length self.machines.items ≤ 62 }
         requires new { is_declared self.names node.name ≡ false }
-        ensures value { IfOk result (λ after. draft_now after
-            ≡ with_node (draft_now self) node.name (node_said node self.delay (length self.names))) }
-        ensures sound { IfOk result (λ after. IsDraft after) }
+        ensures value { IfOk result (λ after. draft_now after ≡ with_node (draft_now self)
+            node.name (node_said node self.delay (length self.names))) }
+        ensures sound { IfOk result IsDraft }
     {
         let Draft {
             delay,

@@ -1,7 +1,8 @@
 //! A whole script.
-ghost use Rattle.std.specs.Prelude.{◌≡◌, ◌≤◌, ◌<◌, ◌∷◌, Ok, Err, IfOk, IfErr, length};
+ghost use Rattle.std.specs.Prelude.{◌≡◌, ◌≤◌, ◌<◌, ◌∷◌, Ok, IfOk, IfErr, length};
 ghost use Rattle.script_run.specs.Script.{Told, IsTold, script_lines};
-ghost use Rattle.script_run.specs.Answer.{IsRefused, ToldBy};
+ghost use Rattle.script_run.specs.Answered.{IsRefused, IsOnlyFault};
+ghost use Rattle.script_run.specs.codings.Going.{stop_at};
 
 use crate::kind::{LineStop, ScriptFault, ScriptStop};
 use crate::last_report::first_feed;
@@ -40,7 +41,10 @@ pub fn run_script(alloc: Global, bytes: &[u8]) -> Result<Vec<u8>, ScriptStop>
     requires { length bytes.now ≤ 1048576 }
     ensures told { IfOk result (λ text. IsTold bytes.now (Ok text.items)) }
     ensures refused { IfErr result (IsRefused bytes.now) }
-    ensures only { (told : Told) → IsTold bytes.now told → UnlessMemory result told }
+    ensures only { IfOk result (λ text. (told : Told) → IsTold bytes.now told
+        → told ≡ Ok text.items) }
+    ensures exact { IfErr result (λ stop. (told : Told) → IsTold bytes.now told
+        → IsOnlyFault told stop) }
 {
     scripts_tell_one_thing();
     let mut out = Vec::new(alloc);

@@ -1,6 +1,6 @@
 -- A command comes to one answer, and leaves cables that are a cabling.
 use Rattle.std.proofs.Common.{◌≡◌, ℕ, Bool, true, false, Option, None, Some, List, refl, sym, ◌∙◌, ap, subst}
-use Rattle.std.specs.Prelude.{Ok, Err, IsSomeAnd, MatchBool, nat_lt, ◌+◌}
+use Rattle.std.specs.Prelude.{codes, Ok, Err, IsSomeAnd, MatchBool, nat_lt, ◌+◌}
 use Rattle.topology_stack.specs.Tree.{Tree}
 use Rattle.topology_stack.specs.Elect.{elected}
 use Rattle.topology_stack.specs.OneAnswer.{NoListHasTwoTrees}
@@ -9,6 +9,7 @@ use Rattle.cable_world.specs.declared.act.Act.{Act}
 use Rattle.cable_world.specs.declared.act.Act.TheVariants as act
 use Rattle.cable_world.specs.World.{CableWorld, NodeNumber}
 use Rattle.cable_world.specs.Act.{act_fault, hold_fault}
+use Rattle.resource_manager.specs.declared.access.Access.TheVariants as access
 use Rattle.settle.specs.declared.report.Report.{Report}
 use Rattle.settle.specs.Report.{IsReport, quiet_turns_of}
 use Rattle.settle.proofs.OneReport.{one-over-cabling}
@@ -17,9 +18,10 @@ use Rattle.script_run.specs.declared.command.Command.{Command}
 use Rattle.script_run.specs.declared.command.Command.TheVariants.{Node, Plug, Pull, Reset, Turn, Hold, Settle, Config, CsrRead, CsrWrite, CsrLock, Look, Allocate, Release, Manager, Maps, Delay}
 use Rattle.script_run.specs.ReportText.{IsReportText}
 use Rattle.script_run.specs.Maps.{IsMapsText}
+use Rattle.script_run.specs.CommandText.{csr_text, grant_text}
 use Rattle.std.specs.Option.{option_map}
 use Rattle.script_run.specs.Bus.{Notes, Bus, Reported, node_named, resets_of, tree_with}
-use Rattle.script_run.specs.Step.{LineAnswer, AtNode, Named, AtTree, Settled, AtManager, IsTreeOf, HasManager, Managed, node_with, id_of, Acts, Holds, Within, Reports, Settles, MapsOf, GivesMaps, Does, end_of, config_of, kind_of, notes_after_report}
+use Rattle.script_run.specs.Step.{LineAnswer, AtNode, Named, AtTree, Settled, AtManager, IsTreeOf, HasManager, Managed, node_with, id_of, Acts, Holds, Within, Reports, Settles, Accesses, Looks, Grants, Bids, MapsOf, GivesMaps, Does, end_of, config_of, kind_of, notes_after_report}
 use Rattle.script_run.proofs.OneText.{one-text}
 use Rattle.script_run.proofs.OneMaps.{same_maps}
 use Rattle.script_run.proofs.told.Cables.{IsCabled, turns-cabled, act-cabled, one-world}
@@ -226,18 +228,27 @@ does trees bus (Config name root_id gap) h =
     named bus name _ (λ node. settled bus node _ (λ tree.
     acts bus (config_of node root_id gap) h))
 does trees bus (CsrRead name offset) h =
-    managed trees bus name _ (λ node id manager. call bus _ _ refl h)
+    managed trees bus name (λ node id manager. Accesses bus manager (access.Read offset) (csr_text name))
+    (λ node id manager. call bus _ _ refl h)
 does trees bus (CsrWrite name offset value) h =
-    managed trees bus name _ (λ node id manager. call bus _ _ refl h)
+    managed trees bus name (λ node id manager. Accesses bus manager (access.Write offset value) (csr_text name))
+    (λ node id manager. call bus _ _ refl h)
 does trees bus (CsrLock name offset kind arg value) h =
-    managed trees bus name _ (λ node id manager. call bus _ _ refl h)
+    managed trees bus name (λ node id manager. Accesses bus manager (access.Lock offset kind arg value) (csr_text name))
+    (λ node id manager. call bus _ _ refl h)
 does trees bus (Look name) h =
-    managed trees bus name _ (λ node id manager. call bus _ _ refl h)
+    managed trees bus name (λ node id manager. Looks bus node manager)
+    (λ node id manager. call bus _ _ refl h)
 does trees bus (Allocate name channel units) h =
-    managed trees bus name _ (λ node id manager. call bus _ _ refl h)
+    managed trees bus name (λ node id manager. Grants bus node manager
+    (λ seen. access.Allocate seen channel units) (grant_text (codes "allocate ") name))
+    (λ node id manager. call bus _ _ refl h)
 does trees bus (Release name channel units) h =
-    managed trees bus name _ (λ node id manager. call bus _ _ refl h)
+    managed trees bus name (λ node id manager. Grants bus node manager
+    (λ seen. access.Release seen channel units) (grant_text (codes "release ") name))
+    (λ node id manager. call bus _ _ refl h)
 does trees bus (Manager name) h =
-    managed trees bus name _ (λ node id manager. call bus _ _ refl h)
+    managed trees bus name (λ node id manager. Bids bus name id manager)
+    (λ node id manager. call bus _ _ refl h)
 does trees bus (Maps name) h =
     named bus name _ (λ node. settled bus node _ (λ tree. maps-of trees bus tree h))

@@ -168,8 +168,9 @@ goes number Rest (Err kind) one other rest h x y = x ∙ sym y
 
 takes :
     NoListHasTwoTrees → (number : ℕ) (Rest : Stage → Told → Type 0) (stage : Stage)
-    (line : List ℕ) (reading : Result (Option Command) Kind) (one other : Told) → IsOneRest Rest → Fits stage →
-    Reads (delay_of stage) line reading → Takes number Rest stage reading one →
+    (line : List ℕ) (reading : Result (Option Command) Kind) (one other : Told) →
+    IsOneRest Rest → Fits stage → Reads (delay_of stage) line reading →
+    Takes number Rest stage reading one →
     Takes number Rest stage reading other → one ≡ other
 takes trees number Rest stage line (Ok None) one other rest h reads x y = rest stage one other h x y
 takes trees number Rest stage line (Ok (Some command)) one other rest h reads x y =

@@ -10,7 +10,7 @@ use Rattle.script_run.specs.declared.command.Command.{Command}
 use Rattle.script_run.specs.declared.run.Stage as kept
 use Rattle.script_run.specs.declared.run.Stage.TheVariants.{Fresh, Declaring, Running}
 use Rattle.script_run.specs.Line.{Reads}
-use Rattle.script_run.specs.Script.{Stage, fresh, declaring, running, delay_of, Follows, Told, IsTold}
+use Rattle.script_run.specs.Script.{Stage, fresh, declaring, running, delay_of, Follows, fault_at}
 use Rattle.script_run.specs.codings.Running.{bus_now, IsSound}
 use Rattle.script_run.specs.codings.Declaring.{draft_now, IsDraft}
 
@@ -42,3 +42,8 @@ LineFails stage line kind =
 abbrev pub IfFault : (Kind → Type 0) → LineStop → Type 0
 IfFault P (line.Fault kind) = P kind
 IfFault P (line.Memory none) = Unit {0}
+
+-- the stop of a script at a line
+abbrev pub stop_at : ℕ → LineStop → ScriptStop
+stop_at number (line.Fault kind) = script.Fault (fault_at number kind)
+stop_at number (line.Memory error) = script.Memory error
