@@ -16,6 +16,8 @@ mod maps;
 #[cfg(test)]
 mod rom;
 #[cfg(test)]
+mod scripts;
+#[cfg(test)]
 mod settled;
 #[cfg(test)]
 mod worlds;
