@@ -1,5 +1,5 @@
 -- How the top call ends.
-use Rattle.std.proofs.Common.{Result, Ok, Err, ◌≡◌, refl, ℕ, ◌≤◌, ◌⊎◌, inl, List, [], length, Option, Some, None, sym, subst, ◌∙◌}
+use Rattle.std.proofs.Common.{Result, Ok, Err, ◌≡◌, refl, ℕ, ◌≤◌, ◌⊎◌, inl, inr, List, [], length, Option, Some, None, sym, subst, ◌∙◌}
 use Rattle.std.specs.Io.KnownBytes.{Appends}
 use Rattle.std.specs.Prelude.{String, IfOk, IfSome}
 use Rattle.std.proofs.KnownBytes.{Appends-nil}
@@ -9,12 +9,14 @@ use Rattle.io_edges.specs.Told.{AppendsStart}
 use Rattle.topology_stack.specs.Tree.{Tree}
 use Rattle.bus_cli.specs.declared.fault.CaptureStop.{CaptureStop}
 use Rattle.bus_cli.specs.declared.answer.Answer.{Answer}
-use Rattle.bus_cli.specs.declared.form.Form.TheVariants.{Capture, Rom}
+use Rattle.bus_cli.specs.declared.form.Form.TheVariants.{Capture, Rom, Run, Make}
 use Rattle.bus_cli.specs.declared.form.CaptureForm.{CaptureForm}
-use Rattle.bus_cli.specs.Form.{Asks, AsksCapture, IsForm}
+use Rattle.bus_cli.specs.Form.{Asks, AsksCapture, AsksMake, IsForm}
 use Rattle.bus_cli.specs.codings.Reading.{Reads, status_with, text_with}
-use Rattle.bus_cli.specs.Answer.{Answers, Outcome, shown, refused, rom, rom_refused, no_form, HasOutcome, HasText, status_of}
+use Rattle.bus_cli.specs.Answer.{Answers, Outcome, shown, refused, rom, rom_refused, ran, made, no_form, HasOutcome, HasText, status_of}
 use Rattle.bus_cli.specs.OneOutcome.{NoInputHasTwoAnswers}
+use Rattle.script_run.specs.Script.{IsTold}
+use Rattle.bus_cli.proofs.Forms.{one_form}
 
 -- the start of the answer to the bytes that were told was written
 pub part_written : (words : List (String Global)) (left old new : Option (List ℕ)) (read text : List ℕ) (status : ℕ) → IfSome left (λ bytes. read ≡ bytes) → Answers words read status text → AppendsStart old new text →
@@ -58,6 +60,8 @@ no_form_answer words bytes (shown form t) text none has is = absurd (none (Captu
 no_form_answer words bytes (refused f) text none has is = absurd (none (Capture has.0.0, has.0.1))
 no_form_answer words bytes (rom v) text none has is = absurd (none (Rom, has.0))
 no_form_answer words bytes (rom_refused f) text none has is = absurd (none (Rom, has.0))
+no_form_answer words bytes (ran r) text none has is = absurd (none (Run, has.0))
+no_form_answer words bytes (made r) text none has is = absurd (none (Make has.nodes has.seed, has.asks))
 no_form_answer words bytes no_form text none has is = (refl, is)
 
 -- where no form was asked for, the answer is that
@@ -71,3 +75,48 @@ no_form_complete words None old none = tt
 no_form_complete words (Some bytes) old none = λ few s x is.
     let a = no_form_answer words bytes is.outcome x none is.has is.text_is in
     inl (a.0 ∙ sym is.status_is, subst (Appends old old) (sym a.1) (Appends-nil old))
+
+-- ---- `make` and `run`
+
+-- some bytes are those that are left, told or not
+pub some_left : (left : Option (List ℕ)) → (bytes : List ℕ) × IfSome left (λ told. bytes ≡ told)
+some_left None = ([], tt)
+some_left (Some bytes) = (bytes, refl)
+
+-- of two things the one that isn't another status
+pub or_else : (A : Type 0) (n m : ℕ) → (n ≡ m → ⊥) → (n ≡ m) ⊎ A → A
+or_else A n m apart (inl e) = absurd (apart e)
+or_else A n m apart (inr a) = a
+
+-- an outcome of `make` is one whatever the bytes
+any_bytes : (words : List (String Global)) (bytes other : List ℕ) (o : Outcome) → AsksMake words → HasOutcome words bytes o → HasOutcome words other o
+any_bytes words bytes other (shown form t) make has = absurd (let e : Capture form ≡ Make make.0 make.1 = one_form words _ _ has.0 make.2 in cc)
+any_bytes words bytes other (refused f) make has = absurd (let e : Capture has.0.0 ≡ Make make.0 make.1 = one_form words _ _ has.0.1 make.2 in cc)
+any_bytes words bytes other (rom v) make has = absurd (let e : Rom ≡ Make make.0 make.1 = one_form words _ _ has.0 make.2 in cc)
+any_bytes words bytes other (rom_refused f) make has = absurd (let e : Rom ≡ Make make.0 make.1 = one_form words _ _ has.0 make.2 in cc)
+any_bytes words bytes other (ran r) make has = absurd (let e : Run ≡ Make make.0 make.1 = one_form words _ _ has.0 make.2 in cc)
+any_bytes words bytes other (made r) make has = has
+any_bytes words bytes other no_form make has = absurd (has (Make make.0 make.1, make.2))
+
+-- and so is an answer
+pub answers_any : (words : List (String Global)) (bytes other : List ℕ) (status : ℕ) (text : List ℕ) → AsksMake words → Answers words bytes status text → Answers words other status text
+answers_any words bytes other status text make is = record {
+  outcome = is.outcome;
+  has = any_bytes words bytes other is.outcome make is.has;
+  status_is = is.status_is;
+  text_is = is.text_is;
+}
+
+-- what answers `run` with 0 is the text of the script
+told_outcome : (words : List (String Global)) (bytes : List ℕ) (o : Outcome) (text : List ℕ) → Asks words Run → HasOutcome words bytes o → 0 ≡ status_of o → HasText o text → IsTold bytes (Ok text)
+told_outcome words bytes (shown form t) text run has zero is = absurd (let e : Capture form ≡ Run = one_form words _ _ has.0 run in cc)
+told_outcome words bytes (refused f) text run has zero is = absurd cc
+told_outcome words bytes (rom v) text run has zero is = absurd (let e : Rom ≡ Run = one_form words _ _ has.0 run in cc)
+told_outcome words bytes (rom_refused f) text run has zero is = absurd cc
+told_outcome words bytes (ran (Ok told)) text run has zero is = subst (λ (t : List ℕ). IsTold bytes (Ok t)) (sym is) has.1
+told_outcome words bytes (ran (Err f)) text run has zero is = absurd cc
+told_outcome words bytes (made r) text run has zero is = absurd (let e : Make has.nodes has.seed ≡ Run = one_form words _ _ has.asks run in cc)
+told_outcome words bytes no_form text run has zero is = absurd cc
+
+pub told_answer : (words : List (String Global)) (bytes text : List ℕ) → Asks words Run → Answers words bytes 0 text → IsTold bytes (Ok text)
+told_answer words bytes text run is = told_outcome words bytes is.outcome text run is.has is.status_is is.text_is

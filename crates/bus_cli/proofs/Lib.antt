@@ -1,6 +1,7 @@
 pub mod Gathering
 pub mod Reading
 pub mod OneReading
+pub mod Forms
 pub mod OneOutcome
 pub mod Ends
 pub mod OneText

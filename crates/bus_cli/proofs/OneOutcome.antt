@@ -1,26 +1,28 @@
 -- Words and bytes have one outcome.
-use Rattle.std.proofs.Common.{cond, subst, Option, Some, None, ◌⊎◌, inl, inr, Bool, true, false, eqb, ◌≡◌, ℕ, List, [], ◌∷◌, refl, sym, ap, ◌∙◌}
-use Rattle.std.specs.Prelude.{String, map, string_bytes, All, ◌<◌}
-use Rattle.std.proofs.lemmas.Bool.{eqb-true}
+use Rattle.std.proofs.Common.{subst, Option, Some, ◌⊎◌, inl, inr, ◌≡◌, ℕ, List, refl, ap, ◌∙◌}
+use Rattle.std.specs.Prelude.{String, All, ◌<◌}
 use Rattle.std.specs.Global.{Global}
 use Rattle.topology_stack.specs.Tree.{Tree}
-use Rattle.bus_cli.specs.declared.form.Form.{Form}
-use Rattle.bus_cli.specs.declared.form.Form.TheVariants.{Capture, Rom}
-use Rattle.bus_cli.specs.declared.form.CaptureForm.{CaptureForm}
-use Rattle.bus_cli.specs.declared.form.CaptureForm.TheVariants.{Read, Maps}
 use Rattle.config_rom.specs.declared.fault.RomFault.{RomFault}
 use Rattle.config_rom.specs.Rom.{Parts}
 use Rattle.config_rom.specs.Fault.{rom_fault}
 use Rattle.config_rom.specs.Block.{BlocksRefused}
 use Rattle.config_rom.specs.OneReading.{IsRomOf, EachInputIsARomOrRefused, NoInputIsTwoRoms, NoRomIsRefused, EachRomHasGoodBlocksOrAFault, NoGoodBlocksAreRefused, NoBlocksHaveTwoFaults, NoRomHasTwoTexts}
+use Rattle.script_run.specs.Made.{made_script}
+use Rattle.script_run.specs.Script.{Told, IsTold}
+use Rattle.script_run.specs.OneTold.{ScriptsTellOneThing}
+use Rattle.bus_cli.specs.declared.form.Form.{Form}
+use Rattle.bus_cli.specs.declared.form.Form.TheVariants.{Capture, Rom, Run, Make}
+use Rattle.bus_cli.specs.declared.form.CaptureForm.{CaptureForm}
 use Rattle.bus_cli.specs.declared.fault.CaptureFault.{CaptureFault}
-use Rattle.bus_cli.specs.Form.{word_of, Asks, IsForm}
+use Rattle.bus_cli.specs.Form.{Asks, IsForm, AsksScript}
 use Rattle.bus_cli.specs.Capture.{Spells, CaptureRefused}
 use Rattle.bus_cli.specs.OneReading.{EachCaptureHasATreeOrAFault, NoCaptureHasTwoTrees, NoCaptureHasATreeAndAFault, NoCaptureHasTwoFaults}
-use Rattle.bus_cli.specs.OneOutcome.{EachInputHasAnOutcome, NoInputHasTwoOutcomes}
-use Rattle.bus_cli.specs.Answer.{Outcome, shown, refused, rom, rom_refused, no_form, HasOutcome, TellsRom, RomRefused}
+use Rattle.bus_cli.specs.OneOutcome.{EachInputButScriptsHasAnOutcome, NoInputHasTwoOutcomes}
+use Rattle.bus_cli.specs.Answer.{Outcome, shown, refused, rom, rom_refused, ran, made, no_form, HasOutcome, TellsRom, RomRefused, MadeTells}
+use Rattle.bus_cli.proofs.Forms.{one_form, one_make, form_or_none}
 
--- a capture has one reading, and so has a ROM
+-- a capture has one reading, and so has a ROM, and no script tells two things
 pub record HasOneReading : Type 0 where
   pub some : EachCaptureHasATreeOrAFault
   pub tree : NoCaptureHasTwoTrees
@@ -33,71 +35,7 @@ pub record HasOneReading : Type 0 where
   pub blocks_apart : NoGoodBlocksAreRefused
   pub block_fault : NoBlocksHaveTwoFaults
   pub text : NoRomHasTwoTexts
-
--- ---- the form of a word, found by trying them all
-
-same : List ℕ → List ℕ → Bool
-same [] [] = true
-same [] (y ∷ ys) = false
-same (x ∷ xs) [] = false
-same (x ∷ xs) (y ∷ ys) = cond (eqb x y) (same xs ys) false
-
-abbrev form_of : List ℕ → Option Form
-form_of word =
-    cond (same word (word_of (Capture Read))) (Some (Capture Read))
-    (cond (same word (word_of (Capture Maps))) (Some (Capture Maps))
-    (cond (same word (word_of Rom)) (Some Rom) None))
-
-both_true : (x y : Bool) → cond x y false ≡ true → (x ≡ true) × (y ≡ true)
-both_true true y e = (refl, e)
-both_true false y e = absurd cc
-
-same-true : (xs ys : List ℕ) → same xs ys ≡ true → xs ≡ ys
-unfolding same
-same-true [] [] e = refl
-same-true [] (y ∷ ys) e = absurd cc
-same-true (x ∷ xs) [] e = absurd cc
-same-true (x ∷ xs) (y ∷ ys) e =
-    let p = both_true _ _ e in
-    let head : x ≡ y = eqb-true x y p.0 in
-    rw (head, same-true xs ys p.1) refl
-
-form_of-word_of : (form : Form) → form_of (word_of form) ≡ Some form
-unfolding same
-form_of-word_of (Capture Read) = refl
-form_of-word_of (Capture Maps) = refl
-form_of-word_of Rom = refl
-
--- the first form whose word it is, or one of the rest
-tried : (test : Bool) (word : List ℕ) (first form : Form) (rest : Option Form) → (test ≡ true → word ≡ word_of first) → (rest ≡ Some form → word ≡ word_of form) → cond test (Some first) rest ≡ Some form →
-    word ≡ word_of form
-tried true word first form rest is go e = let f : first ≡ form = cc in subst (λ (g : Form). word ≡ word_of g) f (is refl)
-tried false word first form rest is go e = go e
-
-is_word_of : (word : List ℕ) (form : Form) → form_of word ≡ Some form → word ≡ word_of form
-is_word_of word form =
-    tried _ word (Capture Read) form _ (same-true word (word_of (Capture Read)))
-    (tried _ word (Capture Maps) form _ (same-true word (word_of (Capture Maps)))
-    (tried _ word Rom form _ (same-true word (word_of Rom)) (λ e. absurd cc)))
-
-same_form : (a b : Form) (x y : Option Form) → x ≡ Some a → y ≡ Some b → x ≡ y → a ≡ b
-same_form a b x y e f g = cc
-
-first_word : List (List ℕ) → List ℕ
-first_word [] = []
-first_word (w ∷ ws) = w
-
--- no words are those of two forms
-one_form : (a b : Form) → word_of a ∷ [] ≡ word_of b ∷ [] → a ≡ b
-unfolding first_word
-one_form a b e = same_form a b _ _ (form_of-word_of a) (form_of-word_of b) (ap (λ (ws : List (List ℕ)). form_of (first_word ws)) e)
-
-same_capture : (a b : CaptureForm) → Capture a ≡ Capture b → a ≡ b
-same_capture a b e = cc
-
--- a capture is no ROM
-not_rom : (words : List (String Global)) (a : CaptureForm) → Asks words (Capture a) → Asks words Rom → ⊥
-not_rom words a asks asks' = let e : Capture a ≡ Rom = one_form (Capture a) Rom (sym asks ∙ asks') in cc
+  pub script : ScriptsTellOneThing
 
 same_fault : (f g : RomFault) (o : Option RomFault) → o ≡ Some f → o ≡ Some g → f ≡ g
 same_fault f g o a b = cc
@@ -118,52 +56,83 @@ one_fault one bytes f g (inr (v, (of, first))) (inl b) = absurd (one.rom_apart b
 one_fault one bytes f g (inr (v, (of, first))) (inr (w, (of', first'))) =
     one.block_fault w f g (subst (λ (x : Parts). BlocksRefused x f) (one.one_rom bytes v w of of') first) first'
 
+-- two scripts that are made by the same words tell the same
+made_agrees : HasOneReading → (words : List (String Global)) (r s : Told) → MadeTells words r → MadeTells words s → r ≡ s
+made_agrees one words r s a b =
+    let same = one_make words a.nodes b.nodes a.seed b.seed a.asks b.asks in
+    let script : made_script a.nodes a.seed ≡ made_script b.nodes b.seed = ap (λ (n : ℕ). made_script n a.seed) same.0 ∙ ap (λ (k : ℕ). made_script b.nodes k) same.1 in
+    one.script (made_script b.nodes b.seed) r s (subst (λ (x : List ℕ). IsTold x r) script a.tells) b.tells
+
+same_capture : (a b : CaptureForm) → Capture a ≡ Capture b → a ≡ b
+same_capture a b e = cc
+
+-- ---- what words ask for, by kind
+
+kind : Form → ℕ
+kind (Capture form) = 0
+kind Rom = 1
+kind Run = 2
+kind (Make nodes seed) = 3
+
+two_kinds : (words : List (String Global)) (a b : Form) → Asks words a → Asks words b → (kind a ≡ kind b → ⊥) → ⊥
+two_kinds words a b x y apart = apart (ap kind (one_form words a b x y))
+
 pub outcomes_agree : HasOneReading → NoInputHasTwoOutcomes
+unfolding kind
 outcomes_agree one words bytes (shown a t) (shown b u) (asks, spells) (asks', spells') =
-    let forms : a ≡ b = same_capture a b (one_form (Capture a) (Capture b) (sym asks ∙ asks')) in
+    let forms : a ≡ b = same_capture a b (one_form words (Capture a) (Capture b) asks asks') in
     let trees : t ≡ u = one.tree bytes t u spells spells' in
     ap (λ (f : CaptureForm). shown f t) forms ∙ ap (λ (v : Tree). shown b v) trees
-outcomes_agree one words bytes (shown a t) (refused f) (asks, spells) (is_form, fault) = absurd (one.apart bytes t f spells fault)
-outcomes_agree one words bytes (shown a t) (rom v) (asks, spells) (asks', tells) = absurd (not_rom words a asks asks')
-outcomes_agree one words bytes (shown a t) (rom_refused f) (asks, spells) (asks', fault) = absurd (not_rom words a asks asks')
-outcomes_agree one words bytes (shown a t) no_form (asks, spells) none = absurd (none (Capture a, asks))
-outcomes_agree one words bytes (refused f) (shown b u) (is_form, fault) (asks, spells) = absurd (one.apart bytes u f spells fault)
-outcomes_agree one words bytes (refused f) (refused g) (is_form, fault) (is_form', fault') = ap (λ (h : CaptureFault). refused h) (one.fault bytes f g fault fault')
-outcomes_agree one words bytes (refused f) (rom v) ((a, asks), fault) (asks', tells) = absurd (not_rom words a asks asks')
-outcomes_agree one words bytes (refused f) (rom_refused g) ((a, asks), fault) (asks', fault') = absurd (not_rom words a asks asks')
-outcomes_agree one words bytes (refused f) no_form ((a, asks), fault) none = absurd (none (Capture a, asks))
-outcomes_agree one words bytes (rom v) (shown b u) (asks, tells) (asks', spells) = absurd (not_rom words b asks' asks)
-outcomes_agree one words bytes (rom v) (refused f) (asks, tells) ((a, asks'), fault) = absurd (not_rom words a asks' asks)
+outcomes_agree one words bytes (shown a t) (refused g) (asks, spells) ((b, asks'), fault') = absurd (one.apart bytes t g spells fault')
+outcomes_agree one words bytes (shown a t) (rom w) (asks, spells) (asks', tells') = absurd (two_kinds words (Capture a) Rom asks asks' (λ e. cc))
+outcomes_agree one words bytes (shown a t) (rom_refused g) (asks, spells) (asks', fault') = absurd (two_kinds words (Capture a) Rom asks asks' (λ e. cc))
+outcomes_agree one words bytes (shown a t) (ran s) (asks, spells) (asks', tells') = absurd (two_kinds words (Capture a) Run asks asks' (λ e. cc))
+outcomes_agree one words bytes (shown a t) (made s) (asks, spells) m' = absurd (two_kinds words (Capture a) (Make m'.nodes m'.seed) asks m'.asks (λ e. cc))
+outcomes_agree one words bytes (shown a t) no_form (asks, spells) none' = absurd (none' (Capture a, asks))
+outcomes_agree one words bytes (refused f) (shown b u) ((a, asks), fault) (asks', spells') = absurd (one.apart bytes u f spells' fault)
+outcomes_agree one words bytes (refused f) (refused g) ((a, asks), fault) ((b, asks'), fault') = ap (λ (h : CaptureFault). refused h) (one.fault bytes f g fault fault')
+outcomes_agree one words bytes (refused f) (rom w) ((a, asks), fault) (asks', tells') = absurd (two_kinds words (Capture a) Rom asks asks' (λ e. cc))
+outcomes_agree one words bytes (refused f) (rom_refused g) ((a, asks), fault) (asks', fault') = absurd (two_kinds words (Capture a) Rom asks asks' (λ e. cc))
+outcomes_agree one words bytes (refused f) (ran s) ((a, asks), fault) (asks', tells') = absurd (two_kinds words (Capture a) Run asks asks' (λ e. cc))
+outcomes_agree one words bytes (refused f) (made s) ((a, asks), fault) m' = absurd (two_kinds words (Capture a) (Make m'.nodes m'.seed) asks m'.asks (λ e. cc))
+outcomes_agree one words bytes (refused f) no_form ((a, asks), fault) none' = absurd (none' (Capture a, asks))
+outcomes_agree one words bytes (rom v) (shown b u) (asks, tells) (asks', spells') = absurd (two_kinds words Rom (Capture b) asks asks' (λ e. cc))
+outcomes_agree one words bytes (rom v) (refused g) (asks, tells) ((b, asks'), fault') = absurd (two_kinds words Rom (Capture b) asks asks' (λ e. cc))
 outcomes_agree one words bytes (rom v) (rom w) (asks, tells) (asks', tells') = ap (λ (x : Parts). rom x) (rom_agrees one bytes v w tells tells')
-outcomes_agree one words bytes (rom v) (rom_refused f) (asks, tells) (asks', fault) = absurd (rom_apart one bytes v f tells fault)
-outcomes_agree one words bytes (rom v) no_form (asks, tells) none = absurd (none (Rom, asks))
-outcomes_agree one words bytes (rom_refused f) (shown b u) (asks, fault) (asks', spells) = absurd (not_rom words b asks' asks)
-outcomes_agree one words bytes (rom_refused f) (refused g) (asks, fault) ((a, asks'), fault') = absurd (not_rom words a asks' asks)
-outcomes_agree one words bytes (rom_refused f) (rom v) (asks, fault) (asks', tells) = absurd (rom_apart one bytes v f tells fault)
+outcomes_agree one words bytes (rom v) (rom_refused g) (asks, tells) (asks', fault') = absurd (rom_apart one bytes v g tells fault')
+outcomes_agree one words bytes (rom v) (ran s) (asks, tells) (asks', tells') = absurd (two_kinds words Rom Run asks asks' (λ e. cc))
+outcomes_agree one words bytes (rom v) (made s) (asks, tells) m' = absurd (two_kinds words Rom (Make m'.nodes m'.seed) asks m'.asks (λ e. cc))
+outcomes_agree one words bytes (rom v) no_form (asks, tells) none' = absurd (none' (Rom, asks))
+outcomes_agree one words bytes (rom_refused f) (shown b u) (asks, fault) (asks', spells') = absurd (two_kinds words Rom (Capture b) asks asks' (λ e. cc))
+outcomes_agree one words bytes (rom_refused f) (refused g) (asks, fault) ((b, asks'), fault') = absurd (two_kinds words Rom (Capture b) asks asks' (λ e. cc))
+outcomes_agree one words bytes (rom_refused f) (rom w) (asks, fault) (asks', tells') = absurd (rom_apart one bytes w f tells' fault)
 outcomes_agree one words bytes (rom_refused f) (rom_refused g) (asks, fault) (asks', fault') = ap (λ (x : RomFault). rom_refused x) (one_fault one bytes f g fault fault')
-outcomes_agree one words bytes (rom_refused f) no_form (asks, fault) none = absurd (none (Rom, asks))
-outcomes_agree one words bytes no_form (shown b u) none (asks, spells) = absurd (none (Capture b, asks))
-outcomes_agree one words bytes no_form (refused g) none ((a, asks), fault) = absurd (none (Capture a, asks))
-outcomes_agree one words bytes no_form (rom v) none (asks, tells) = absurd (none (Rom, asks))
-outcomes_agree one words bytes no_form (rom_refused g) none (asks, fault) = absurd (none (Rom, asks))
+outcomes_agree one words bytes (rom_refused f) (ran s) (asks, fault) (asks', tells') = absurd (two_kinds words Rom Run asks asks' (λ e. cc))
+outcomes_agree one words bytes (rom_refused f) (made s) (asks, fault) m' = absurd (two_kinds words Rom (Make m'.nodes m'.seed) asks m'.asks (λ e. cc))
+outcomes_agree one words bytes (rom_refused f) no_form (asks, fault) none' = absurd (none' (Rom, asks))
+outcomes_agree one words bytes (ran r) (shown b u) (asks, tells) (asks', spells') = absurd (two_kinds words Run (Capture b) asks asks' (λ e. cc))
+outcomes_agree one words bytes (ran r) (refused g) (asks, tells) ((b, asks'), fault') = absurd (two_kinds words Run (Capture b) asks asks' (λ e. cc))
+outcomes_agree one words bytes (ran r) (rom w) (asks, tells) (asks', tells') = absurd (two_kinds words Run Rom asks asks' (λ e. cc))
+outcomes_agree one words bytes (ran r) (rom_refused g) (asks, tells) (asks', fault') = absurd (two_kinds words Run Rom asks asks' (λ e. cc))
+outcomes_agree one words bytes (ran r) (ran s) (asks, tells) (asks', tells') = ap (λ (x : Told). ran x) (one.script bytes r s tells tells')
+outcomes_agree one words bytes (ran r) (made s) (asks, tells) m' = absurd (two_kinds words Run (Make m'.nodes m'.seed) asks m'.asks (λ e. cc))
+outcomes_agree one words bytes (ran r) no_form (asks, tells) none' = absurd (none' (Run, asks))
+outcomes_agree one words bytes (made r) (shown b u) m (asks', spells') = absurd (two_kinds words (Make m.nodes m.seed) (Capture b) m.asks asks' (λ e. cc))
+outcomes_agree one words bytes (made r) (refused g) m ((b, asks'), fault') = absurd (two_kinds words (Make m.nodes m.seed) (Capture b) m.asks asks' (λ e. cc))
+outcomes_agree one words bytes (made r) (rom w) m (asks', tells') = absurd (two_kinds words (Make m.nodes m.seed) Rom m.asks asks' (λ e. cc))
+outcomes_agree one words bytes (made r) (rom_refused g) m (asks', fault') = absurd (two_kinds words (Make m.nodes m.seed) Rom m.asks asks' (λ e. cc))
+outcomes_agree one words bytes (made r) (ran s) m (asks', tells') = absurd (two_kinds words (Make m.nodes m.seed) Run m.asks asks' (λ e. cc))
+outcomes_agree one words bytes (made r) (made s) m m' = ap (λ (x : Told). made x) (made_agrees one words r s m m')
+outcomes_agree one words bytes (made r) no_form m none' = absurd (none' (Make m.nodes m.seed, m.asks))
+outcomes_agree one words bytes no_form (shown b u) none (asks', spells') = absurd (none (Capture b, asks'))
+outcomes_agree one words bytes no_form (refused g) none ((b, asks'), fault') = absurd (none (Capture b, asks'))
+outcomes_agree one words bytes no_form (rom w) none (asks', tells') = absurd (none (Rom, asks'))
+outcomes_agree one words bytes no_form (rom_refused g) none (asks', fault') = absurd (none (Rom, asks'))
+outcomes_agree one words bytes no_form (ran s) none (asks', tells') = absurd (none (Run, asks'))
+outcomes_agree one words bytes no_form (made s) none m' = absurd (none (Make m'.nodes m'.seed, m'.asks))
 outcomes_agree one words bytes no_form no_form none none' = refl
 
--- ---- words are those of a form, or of none
-
-abbrev AreForm : List (List ℕ) → Type 0
-AreForm words = (form : Form) × (words ≡ word_of form ∷ [])
-
-by_form : (word : List ℕ) (found : Option Form) → form_of word ≡ found → AreForm (word ∷ []) ⊎ (AreForm (word ∷ []) → ⊥)
-unfolding first_word
-by_form word (Some form) e = inl (form, ap (λ (w : List ℕ). w ∷ []) (is_word_of word form e))
-by_form word None e = inr (λ is.
-    let same_word : form_of word ≡ form_of (word_of is.0) = ap (λ (ws : List (List ℕ)). form_of (first_word ws)) is.1 in
-    let x : None ≡ Some is.0 = sym e ∙ same_word ∙ form_of-word_of is.0 in cc)
-
-are_form : (words : List (List ℕ)) → AreForm words ⊎ (AreForm words → ⊥)
-are_form [] = inr (λ is. let e = is.1 in cc)
-are_form (a ∷ b ∷ ws) = inr (λ is. let e = is.1 in cc)
-are_form (w ∷ []) = by_form w (form_of w) refl
+-- ---- an outcome
 
 -- what a ROM comes to
 rom_outcome : HasOneReading → (words : List (String Global)) (bytes : List ℕ) → Asks words Rom → ((v : Parts) × IsRomOf bytes v) ⊎ ((f : RomFault) × (rom_fault bytes ≡ Some f)) → (o : Outcome) × HasOutcome words bytes o
@@ -177,10 +146,12 @@ capture_outcome : (words : List (String Global)) (bytes : List ℕ) (form : Capt
 capture_outcome words bytes form asks (inl (t, spells)) = (shown form t, (asks, spells))
 capture_outcome words bytes form asks (inr (f, fault)) = (refused f, ((form, asks), fault))
 
-outcome_of : HasOneReading → (words : List (String Global)) (bytes : List ℕ) → All (λ b. b < 256) bytes → IsForm words ⊎ (IsForm words → ⊥) → (o : Outcome) × HasOutcome words bytes o
-outcome_of one words bytes fit (inl (Capture form, asks)) = capture_outcome words bytes form asks (one.some bytes fit)
-outcome_of one words bytes fit (inl (Rom, asks)) = rom_outcome one words bytes asks (one.some_rom bytes fit)
-outcome_of one words bytes fit (inr none) = (no_form, none)
+outcome_of : HasOneReading → (words : List (String Global)) (bytes : List ℕ) → All (λ b. b < 256) bytes → (AsksScript words → ⊥) → IsForm words ⊎ (IsForm words → ⊥) → (o : Outcome) × HasOutcome words bytes o
+outcome_of one words bytes fit other (inl (Capture form, asks)) = capture_outcome words bytes form asks (one.some bytes fit)
+outcome_of one words bytes fit other (inl (Rom, asks)) = rom_outcome one words bytes asks (one.some_rom bytes fit)
+outcome_of one words bytes fit other (inl (Run, asks)) = absurd (other (inl asks))
+outcome_of one words bytes fit other (inl (Make nodes seed, asks)) = absurd (other (inr (nodes, seed, asks)))
+outcome_of one words bytes fit other (inr none) = (no_form, none)
 
-pub some_outcome : HasOneReading → EachInputHasAnOutcome
-some_outcome one words bytes fit = outcome_of one words bytes fit (are_form (map string_bytes words))
+pub some_outcome : HasOneReading → EachInputButScriptsHasAnOutcome
+some_outcome one words bytes fit other = outcome_of one words bytes fit other (form_or_none words other)

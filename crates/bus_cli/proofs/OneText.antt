@@ -1,5 +1,5 @@
 -- A tree is shown by one text in each form.
-use Rattle.std.proofs.Common.{◌≡◌, ℕ, List, ap, subst, sym, ◌∙◌}
+use Rattle.std.proofs.Common.{◌≡◌, ℕ, List, Ok, Err, ap, subst, sym, ◌∙◌}
 use Rattle.std.specs.Prelude.{String}
 use Rattle.std.specs.Global.{Global}
 use Rattle.topology_stack.specs.Tree.{Tree, walk, IsBusTree}
@@ -7,7 +7,7 @@ use Rattle.config_rom.specs.OneReading.{NoRomHasTwoTexts}
 use Rattle.bus_cli.specs.declared.form.CaptureForm.{CaptureForm}
 use Rattle.bus_cli.specs.declared.form.CaptureForm.TheVariants.{Read, Maps}
 use Rattle.script_run.proofs.OneMaps.{same_maps}
-use Rattle.bus_cli.specs.Answer.{Outcome, shown, refused, rom, rom_refused, no_form, HasOutcome, Shows, HasText, status_of}
+use Rattle.bus_cli.specs.Answer.{Outcome, shown, refused, rom, rom_refused, ran, made, no_form, HasOutcome, Shows, HasText, status_of}
 use Rattle.bus_cli.specs.OneOutcome.{NoInputHasTwoAnswers}
 use Rattle.bus_cli.proofs.OneOutcome.{HasOneReading, outcomes_agree}
 
@@ -20,6 +20,10 @@ one_text roms words bytes (shown form t) a b has x y = same_shown form t a b has
 one_text roms words bytes (refused f) a b has x y = x ∙ sym y
 one_text roms words bytes (rom v) a b has x y = roms v x.list y.list a b x.are_blocks y.are_blocks x.is_text y.is_text
 one_text roms words bytes (rom_refused f) a b has x y = x ∙ sym y
+one_text roms words bytes (ran (Ok t)) a b has x y = x ∙ sym y
+one_text roms words bytes (ran (Err f)) a b has x y = x ∙ sym y
+one_text roms words bytes (made (Ok t)) a b has x y = x ∙ sym y
+one_text roms words bytes (made (Err f)) a b has x y = x ∙ sym y
 one_text roms words bytes no_form a b has x y = x ∙ sym y
 
 pub answers_agree : HasOneReading → NoInputHasTwoAnswers

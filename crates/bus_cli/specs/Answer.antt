@@ -1,5 +1,5 @@
 -- What is answered to words and bytes: the right-hand side of what `bus_main` promises.
-use Rattle.std.specs.Prelude.{◌≡◌, ◌⊎◌, ℕ, List, [], String, Some}
+use Rattle.std.specs.Prelude.{◌≡◌, ◌⊎◌, ℕ, List, [], String, Some, Ok, Err}
 use Rattle.std.specs.Global.{Global}
 use Rattle.topology_stack.specs.Tree.{Tree}
 use Rattle.topology_stack.specs.Text.{tree_text}
@@ -10,14 +10,17 @@ use Rattle.config_rom.specs.Fault.{rom_fault}
 use Rattle.config_rom.specs.Block.{AreBlocks, BlocksRefused}
 use Rattle.config_rom.specs.Text.{IsRomText}
 use Rattle.config_rom.specs.OneReading.{IsRomOf, HasGoodBlocks}
-use Rattle.bus_cli.specs.declared.form.Form.TheVariants.{Capture, Rom}
+use Rattle.bus_cli.specs.declared.form.Form.TheVariants.{Capture, Rom, Run, Make}
 use Rattle.bus_cli.specs.declared.form.CaptureForm.{CaptureForm}
 use Rattle.bus_cli.specs.declared.form.CaptureForm.TheVariants.{Read, Maps}
 use Rattle.bus_cli.specs.declared.fault.CaptureFault.{CaptureFault}
 use Rattle.bus_cli.specs.Form.{Asks, AsksCapture, IsForm}
 use Rattle.bus_cli.specs.Capture.{Spells, CaptureRefused}
-use Rattle.bus_cli.specs.Line.{fault_line, rom_line}
+use Rattle.bus_cli.specs.Line.{fault_line, rom_line, script_line}
 use Rattle.script_run.specs.Maps.{IsMapsText}
+use Rattle.script_run.specs.Made.{made_script}
+use Rattle.script_run.specs.Script.{Told, IsTold}
+use Rattle.script_run.specs.Summary.{summary}
 
 -- the bytes are those of the ROM, and none of its blocks has a fault
 pub record TellsRom (bytes : List ℕ) (v : Parts) : Type 0 where
@@ -29,13 +32,23 @@ abbrev pub RomRefused : List ℕ → RomFault → Type 0
 RomRefused bytes f =
     (rom_fault bytes ≡ Some f) ⊎ ((v : Parts) × (IsRomOf bytes v × BlocksRefused v f))
 
+-- the words ask for a script to be made, and it tells this
+pub record MadeTells (words : List (String Global)) (told : Told) : Type 0 where
+  pub nodes : ℕ
+  pub seed : ℕ
+  pub asks : Asks words (Make nodes seed)
+  pub tells : IsTold (made_script nodes seed) told
+
 -- What words and bytes come to: a tree that is shown in a form, the fault of a capture, a ROM, the
--- fault of a ROM, or no form at all.
+-- fault of a ROM, what a script tells, what a script that is made tells, or no form at all. A script
+-- tells a text or a fault.
 pub data Outcome : Type 0 where
   shown : CaptureForm → Tree → Outcome
   refused : CaptureFault → Outcome
   rom : Parts → Outcome
   rom_refused : RomFault → Outcome
+  ran : Told → Outcome
+  made : Told → Outcome
   no_form : Outcome
 
 -- the words ask for what the bytes are read as, or they are no form
@@ -44,6 +57,8 @@ HasOutcome words bytes (shown form t) = Asks words (Capture form) × Spells byte
 HasOutcome words bytes (refused f) = AsksCapture words × CaptureRefused bytes f
 HasOutcome words bytes (rom v) = Asks words Rom × TellsRom bytes v
 HasOutcome words bytes (rom_refused f) = Asks words Rom × RomRefused bytes f
+HasOutcome words bytes (ran told) = Asks words Run × IsTold bytes told
+HasOutcome words bytes (made told) = MadeTells words told
 HasOutcome words bytes no_form = ¬ IsForm words
 
 -- the exit status that tells it
@@ -52,6 +67,10 @@ status_of (shown form t) = 0
 status_of (refused f) = 1
 status_of (rom v) = 0
 status_of (rom_refused f) = 1
+status_of (ran (Ok text)) = 0
+status_of (ran (Err f)) = 1
+status_of (made (Ok text)) = 0
+status_of (made (Err f)) = 1
 status_of no_form = 2
 
 -- how a tree is shown: by `read` as its text with no names, by `maps` as its maps with generation 1
@@ -65,12 +84,16 @@ pub record TextOfRom (v : Parts) (text : List ℕ) : Type 0 where
   pub are_blocks : AreBlocks v list
   pub is_text : IsRomText v list text
 
--- the text of an outcome
+-- the text of an outcome; of a script that was made, its summary
 abbrev pub HasText : Outcome → List ℕ → Type 0
 HasText (shown form t) text = Shows form t text
 HasText (refused f) text = text ≡ fault_line f
 HasText (rom v) text = TextOfRom v text
 HasText (rom_refused f) text = text ≡ rom_line f
+HasText (ran (Ok script_text)) text = text ≡ script_text
+HasText (ran (Err f)) text = text ≡ script_line f
+HasText (made (Ok script_text)) text = text ≡ summary script_text
+HasText (made (Err f)) text = text ≡ script_line f
 HasText no_form text = text ≡ []
 
 -- the status and the text of what the words and the bytes come to

@@ -1,20 +1,33 @@
 -- The words that the program is asked with.
-use Rattle.std.specs.Prelude.{◌≡◌, ℕ, List, [], ◌∷◌, map, codes, string_bytes, String}
+use Rattle.std.specs.Prelude.{◌≡◌, ℕ, ◌≤◌, ◌⊎◌, List, [], ◌∷◌, map, codes, string_bytes, String, Some}
 use Rattle.std.specs.Global.{Global}
+use Rattle.script_run.specs.Number.{number_of}
 use Rattle.bus_cli.specs.declared.form.Form.{Form}
-use Rattle.bus_cli.specs.declared.form.Form.TheVariants.{Capture, Rom}
+use Rattle.bus_cli.specs.declared.form.Form.TheVariants.{Capture, Rom, Run, Make}
 use Rattle.bus_cli.specs.declared.form.CaptureForm.{CaptureForm}
 use Rattle.bus_cli.specs.declared.form.CaptureForm.TheVariants.{Read, Maps}
 
--- the word of a form
-abbrev pub word_of : Form → List ℕ
-word_of (Capture Read) = codes "read"
-word_of (Capture Maps) = codes "maps"
-word_of Rom = codes "rom"
+-- `make N SEED`: 1 to 63 nodes and a seed, each a number as scripts have them
+pub record AreMakeWords (nodes seed : ℕ) (words : List (List ℕ)) : Type 0 where
+  pub nodes_word : List ℕ
+  pub seed_word : List ℕ
+  pub words_are : words ≡ codes "make" ∷ nodes_word ∷ seed_word ∷ []
+  pub nodes_are : number_of nodes_word ≡ Some nodes
+  pub some_nodes : 1 ≤ nodes
+  pub few_nodes : nodes ≤ 63
+  pub seed_is : number_of seed_word ≡ Some seed
+
+-- the words of each form
+abbrev pub AreWordsOf : Form → List (List ℕ) → Type 0
+AreWordsOf (Capture Read) words = words ≡ codes "read" ∷ []
+AreWordsOf (Capture Maps) words = words ≡ codes "maps" ∷ []
+AreWordsOf Rom words = words ≡ codes "rom" ∷ []
+AreWordsOf Run words = words ≡ codes "run" ∷ []
+AreWordsOf (Make nodes seed) words = AreMakeWords nodes seed words
 
 -- the words are those of the form
 abbrev pub Asks : List (String Global) → Form → Type 0
-Asks words form = map string_bytes words ≡ word_of form ∷ []
+Asks words form = AreWordsOf form (map string_bytes words)
 
 -- the words are those of some form
 abbrev pub IsForm : List (String Global) → Type 0
@@ -23,3 +36,11 @@ IsForm words = (form : Form) × Asks words form
 -- the words are those of a form that reads a capture
 abbrev pub AsksCapture : List (String Global) → Type 0
 AsksCapture words = (form : CaptureForm) × Asks words (Capture form)
+
+-- the words ask for the script of some nodes and seed to be made
+abbrev pub AsksMake : List (String Global) → Type 0
+AsksMake words = (nodes : ℕ) × (seed : ℕ) × Asks words (Make nodes seed)
+
+-- the words ask for the run of a script
+abbrev pub AsksScript : List (String Global) → Type 0
+AsksScript words = Asks words Run ⊎ AsksMake words

@@ -1,12 +1,14 @@
--- Words and bytes have one outcome, and so one status and one text.
+-- Words and bytes have no two outcomes, and so no two answers. They have an outcome, unless they ask
+-- for the run of a script, of which that isn't said.
 use Rattle.std.specs.Prelude.{◌≡◌, ℕ, ◌<◌, All, List, String}
 use Rattle.std.specs.Global.{Global}
+use Rattle.bus_cli.specs.Form.{AsksScript}
 use Rattle.bus_cli.specs.Answer.{Outcome, HasOutcome, Answers}
 
-abbrev pub EachInputHasAnOutcome : Type 0
-EachInputHasAnOutcome =
+abbrev pub EachInputButScriptsHasAnOutcome : Type 0
+EachInputButScriptsHasAnOutcome =
     (words : List (String Global)) (bytes : List ℕ) → All (λ b. b < 256) bytes →
-    (o : Outcome) × HasOutcome words bytes o
+    ¬ AsksScript words → (o : Outcome) × HasOutcome words bytes o
 
 abbrev pub NoInputHasTwoOutcomes : Type 0
 NoInputHasTwoOutcomes =

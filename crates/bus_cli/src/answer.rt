@@ -8,13 +8,14 @@ ghost use Rattle.topology_stack.specs.Tree.{Tree};
 ghost use Rattle.bus_cli.specs.Capture.{Spells};
 ghost use Rattle.bus_cli.specs.Form.{Asks, AsksCapture};
 ghost use Rattle.bus_cli.specs.Answer.{Answers, Shows};
-ghost use Rattle.bus_cli.specs.codings.Reading.{Reads, IsNoFault, status_with, text_with};
+ghost use Rattle.bus_cli.specs.codings.Reading.{Reads, IsNoFault, IsRead, AsksFewNodes, status_with, text_with};
 
 use crate::fault::CaptureStop;
 use crate::form::{CaptureForm, Form};
 use crate::input::{MAX_INPUT, read_input};
 use crate::line::{FaultLine, fault_line};
 use crate::rom::answer_to_rom;
+use crate::script::{answer_to_make, answer_to_script};
 use crate::status::{REFUSED, VALID};
 use io_edges::{ReadStop, Source, read_all};
 use quad_lanes::OutOfMemory;
@@ -91,17 +92,20 @@ fn answer_to(
     }
 }
 
-/// The answer to what a source gives, in a form: it reads the source to its end.
+/// The answer to what a source gives, in a form: it reads the source to its end, unless the form is
+/// `make`, with which it reads nothing.
 pub(crate) fn read_answer<S: Source>(
     alloc: Global,
     form: Form,
     source: &mut S,
 ) -> Result<Answer, ReadStop>
+    requires { AsksFewNodes form }
     ensures answer { IfOk result (λ answer. (bytes : List ℕ)
         × (AreLeft (S.left source.old) bytes
         × ((words : List (String Global)) → Asks words form →
         Answers words bytes (status_with answer) (text_with answer)))) }
-    ensures end { OnOk result (IsAtEnd (S.left source.new)) }
+    ensures end { OnOk result (IsRead form → IsAtEnd (S.left source.new)) }
+    ensures unread { (¬ IsRead form) → source.new ≡ source.old }
 
     // When each stop comes.
     ensures fault { IsErrOf result ReadStop.ReadFault →
@@ -121,8 +125,13 @@ pub(crate) fn read_answer<S: Source>(
             Ok(answer_to(alloc, form, reading)?)
         }
         Form::Rom => {
-            let bytes = read_all(alloc, source, MAX_INPUT)?;
-            Ok(answer_to_rom(alloc, &bytes)?)
+            let rom = read_all(alloc, source, MAX_INPUT)?;
+            Ok(answer_to_rom(alloc, &rom)?)
         }
+        Form::Run => {
+            let script = read_all(alloc, source, MAX_INPUT)?;
+            Ok(answer_to_script(alloc, &script)?)
+        }
+        Form::Make { nodes, seed } => Ok(answer_to_make(alloc, nodes, seed)?),
     }
 }

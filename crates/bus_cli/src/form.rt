@@ -1,7 +1,9 @@
 //! The words of the program.
-ghost use Rattle.std.specs.Prelude.{◌≡◌, ◌↔◌};
-ghost use Rattle.bus_cli.specs.Form.{word_of, Asks};
+ghost use Rattle.std.specs.Prelude.{◌≡◌, ◌∷◌, [], ◌↔◌, codes};
+ghost use Rattle.bus_cli.specs.Form.{AreWordsOf, Asks};
 ghost use Rattle.bus_cli.specs.declared.form.Form.{Form};
+
+use script_run::number_of;
 
 /// What the program can be asked for of a capture.
 #[derive(Clone, Copy, Debug, PartialEq, Eq)]
@@ -19,17 +21,46 @@ pub enum Form {
     Capture(CaptureForm),
     /// `rom`: the text of a configuration ROM.
     Rom,
+    /// `run`: what a script prints.
+    Run,
+    /// `make N SEED`: the summary of what the script prints that is made for 1 to 63 nodes and a
+    /// seed. The numbers are written as in a script. Nothing is read.
+    Make { nodes: u8, seed: u32 },
 }
 
 impl Form {
     /// The form of this word.
     fn of_word(word: &str) -> Option<Form>
-        ensures { (form : Form) → (result ≡ Some form) ↔ (word.now ≡ word_of form) }
+        ensures { (form : Form) → (result ≡ Some form) ↔ AreWordsOf form (word.now ∷ []) }
     {
         match word {
             "read" => Some(Form::Capture(CaptureForm::Read)),
             "maps" => Some(Form::Capture(CaptureForm::Maps)),
             "rom" => Some(Form::Rom),
+            "run" => Some(Form::Run),
+            _ => None,
+        }
+    }
+
+    /// The form of `make` with these two words behind it.
+    fn of_make(nodes: &[u8], seed: &[u8]) -> Option<Form>
+        ensures { (form : Form) → (result ≡ Some form)
+            ↔ AreWordsOf form (codes "make" ∷ nodes.now ∷ seed.now ∷ []) }
+    {
+        let nodes = u8::try_from(number_of(nodes)?).ok()?;
+        let seed = number_of(seed)?;
+        (1..=63)
+            .contains(&nodes)
+            .then_some(Form::Make { nodes, seed })
+    }
+
+    /// The form of these three words.
+    fn of_three(word: &str, nodes: &str, seed: &str) -> Option<Form>
+        ensures { (form : Form) → (result ≡ Some form)
+            ↔ AreWordsOf form (word.now ∷ nodes.now ∷ seed.now ∷ []) }
+    {
+        match word {
+            "make" => Form::of_make(nodes.as_bytes(), seed.as_bytes()),
             _ => None,
         }
     }
@@ -41,11 +72,12 @@ impl Form {
     {
         match words {
             [word] => Form::of_word(word.as_str()),
+            [word, nodes, seed] => { Form::of_three(word.as_str(), nodes.as_str(), seed.as_str()) }
             _ => None,
         }
     }
 }
 
 /// How the program is called, in one line for a form.
-pub const USAGE: &str =
-    "usage: busconf read < CAPTURE\n       busconf maps < CAPTURE\n       busconf rom < ROM";
+pub const USAGE: &str = "usage: busconf run < SCRIPT\n       busconf read < CAPTURE\n       \
+    busconf maps < CAPTURE\n       busconf rom < ROM\n       busconf make N SEED";

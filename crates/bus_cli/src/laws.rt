@@ -1,9 +1,10 @@
 //! Laws of captures and of answers.
-ghost use Rattle.bus_cli.specs.OneOutcome.{EachInputHasAnOutcome, NoInputHasTwoOutcomes, NoInputHasTwoAnswers};
+ghost use Rattle.bus_cli.specs.OneOutcome.{EachInputButScriptsHasAnOutcome, NoInputHasTwoOutcomes, NoInputHasTwoAnswers};
 ghost use Rattle.bus_cli.specs.OneReading.{EachCaptureHasATreeOrAFault, NoCaptureHasTwoTrees, NoCaptureHasATreeAndAFault, NoCaptureHasTwoFaults};
 
 use config_rom::{one_list, one_rom};
 use quad_lanes::{capture_is_read_back, good_pairs_are_a_capture};
+use script_run::scripts_tell_one_thing;
 use topology_stack::{one_answer, one_tree};
 
 /// A law: each capture spells a tree or has a fault, none spells two trees, none spells a tree and
@@ -20,13 +21,15 @@ pub fn one_reading()
     one_answer();
 }
 
-/// A law: words and bytes have an outcome and no second one, and so one status and one text.
+/// A law: words and bytes have no two outcomes, and so no two statuses and no two texts. They have
+/// an outcome where the words don't ask for the run of a script.
 pub fn one_outcome()
-    ensures some { EachInputHasAnOutcome }
+    ensures some { EachInputButScriptsHasAnOutcome }
     ensures outcome { NoInputHasTwoOutcomes }
     ensures answer { NoInputHasTwoAnswers }
 {
     one_reading();
     one_rom();
     one_list();
+    scripts_tell_one_thing();
 }

@@ -10,6 +10,7 @@ mod laws;
 mod line;
 mod reader;
 mod rom;
+mod script;
 mod status;
 mod top;
 

@@ -1,11 +1,12 @@
 //! The line of a fault.
 ghost use Rattle.std.specs.Prelude.{◌≡◌, ◌+◌, ◌≤◌, [], ◌++◌, length, decimal};
-ghost use Rattle.bus_cli.specs.Line.{counts_of, refusal, fault_line, quadlet_refusal, rom_line};
+ghost use Rattle.bus_cli.specs.Line.{counts_of, refusal, fault_line, quadlet_refusal, rom_line, kind_word, script_line};
 
 use crate::fault::CaptureFault;
 use arrayvec::ArrayVec;
 use config_rom::RomFault;
 use itoa::Buffer;
+use script_run::{Kind, ScriptFault};
 use self_id::GroupFault;
 use std::marker::Model;
 use topology_stack::TreeFault;
@@ -176,4 +177,43 @@ pub(crate) fn rom_line(fault: RomFault) -> FaultLine
         RomFault::Outside { at } => quadlet_line(at, b"Outside"),
         RomFault::SelfTarget { at } => quadlet_line(at, b"SelfTarget"),
     }
+}
+
+/// The word of a kind of fault of a script. It has at most 20 bytes.
+fn kind_word(kind: Kind) -> &'static [u8]
+    ensures word { result.now ≡ kind_word kind }
+    ensures few { length result.now ≤ 20 }
+{
+    match kind {
+        Kind::Word => b"Word",
+        Kind::Number => b"Number",
+        Kind::Name => b"Name",
+        Kind::Twice => b"Twice",
+        Kind::Late => b"Late",
+        Kind::TooManyNodes => b"TooManyNodes",
+        Kind::NoNode => b"NoNode",
+        Kind::NoPort => b"NoPort",
+        Kind::InUse => b"InUse",
+        Kind::SameNode => b"SameNode",
+        Kind::NotPlugged => b"NotPlugged",
+        Kind::Range => b"Range",
+        Kind::NotSettled => b"NotSettled",
+        Kind::NoManager => b"NoManager",
+        Kind::TooManyTurns => b"TooManyTurns",
+        Kind::TooManyMaps => b"TooManyMaps",
+    }
+}
+
+/// The line `refused line L KIND` of a script's fault.
+#[tactic(auto, unfolding(crate::specs::Line::script_line))]
+pub(crate) fn script_line(fault: ScriptFault) -> FaultLine
+    ensures { result ≡ script_line fault }
+{
+    let mut line = FaultLine::new();
+    line.put(b"refused line ");
+    line.put_number(fault.line as usize);
+    line.put(b" ");
+    line.put(kind_word(fault.kind));
+    line.put(b"\n");
+    line
 }

@@ -1,11 +1,12 @@
 //! The top call.
-ghost use Rattle.std.specs.Prelude.{◌≡◌, ◌≢◌, ℕ, ◌≤◌, ◌⊎◌, ◌↔◌, List, length, IfSome};
+ghost use Rattle.std.specs.Prelude.{◌≡◌, ◌≢◌, ℕ, ◌≤◌, ◌⊎◌, ◌↔◌, List, [], length, Ok, IfSome};
 ghost use Rattle.std.specs.Io.KnownBytes.{Appends, IsAtEnd};
 ghost use Rattle.io_edges.specs.Faults.{Rose};
 ghost use Rattle.io_edges.specs.Told.{AppendsStart, IfTold, TookOver};
 ghost use Rattle.bus_cli.specs.declared.form.CaptureForm.{CaptureForm};
-ghost use Rattle.bus_cli.specs.Form.{Asks, IsForm};
+ghost use Rattle.bus_cli.specs.Form.{Asks, AsksMake, IsForm};
 ghost use Rattle.topology_stack.specs.Tree.{Tree};
+ghost use Rattle.script_run.specs.Script.{IsTold};
 ghost use Rattle.bus_cli.specs.Capture.{Spells};
 ghost use Rattle.bus_cli.specs.Answer.{Answers};
 
@@ -44,7 +45,18 @@ pub fn bus_main<S: Source, K: Sink>(
     ensures answer { (result ≡ 0) ⊎ (result ≡ 1) → IfSome (S.left source.old) (λ bytes.
         (text : List ℕ) × Answers words.now bytes result text
         × Appends (K.written sink.old) (K.written sink.new) text) }
-    ensures end { (result ≡ 0) ⊎ (result ≡ 1) ⊎ (result ≡ 4) → IsAtEnd (S.left source.new) }
+    ensures end { (result ≡ 0) ⊎ (result ≡ 1) ⊎ (result ≡ 4) → (¬ AsksMake words.now) →
+        IsAtEnd (S.left source.new) }
+
+    // With `run`, what is written at status 0 is the text that the script tells.
+    ensures run { result ≡ 0 → Asks words.now Form.Run → IfSome (S.left source.old) (λ bytes.
+        (text : List ℕ) × IsTold bytes (Ok text)
+        × Appends (K.written sink.old) (K.written sink.new) text) }
+
+    // With `make` nothing is read, and the answer is that of the words alone.
+    ensures make { (result ≡ 0) ⊎ (result ≡ 1) → AsksMake words.now → (text : List ℕ)
+        × Answers words.now [] result text
+        × Appends (K.written sink.old) (K.written sink.new) text }
 
     // When each other status comes.
     ensures no_form { (result ≡ 2) ↔ (¬ IsForm words.now) }
@@ -59,7 +71,7 @@ pub fn bus_main<S: Source, K: Sink>(
         × IfSome (S.left source.old) (λ bytes. (t : Tree) × Spells bytes t) }
 
     // What is left alone, or written in part.
-    ensures unread { result ≡ 2 → source.new ≡ source.old }
+    ensures unread { (result ≡ 2) ⊎ AsksMake words.now → source.new ≡ source.old }
     ensures unwritten { 2 ≤ result → result ≢ 4 → sink.new ≡ sink.old }
     ensures part { result ≡ 4 → IfSome (S.left source.old) (λ bytes.
         (status : ℕ) × (text : List ℕ) × Answers words.now bytes status text

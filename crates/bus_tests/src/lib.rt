@@ -18,6 +18,8 @@ mod plans;
 #[cfg(test)]
 mod rom;
 #[cfg(test)]
+mod scripts;
+#[cfg(test)]
 mod settled;
 #[cfg(test)]
 mod worlds;

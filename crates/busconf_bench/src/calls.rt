@@ -4,6 +4,7 @@ use crate::cablings::{Question, Shape, advice_for, answer_to, joined};
 use crate::captures::{Way, length_read};
 use crate::machines::{Kind, Nodes, Pace};
 use crate::worlds::{Course, running, settle, turns};
+use bus_cli::MAX_INPUT;
 use bus_manager::hops;
 use cable_world::World;
 use cabling::Cabling;
@@ -11,6 +12,7 @@ use config_rom::{Rom, RomStop, blocks, decode_rom, encode_rom, rom_text};
 use loop_advice::Advice;
 use phy_machine::FieldMachine;
 use quad_lanes::{QuadList, first_bad_pair, firsts, pairs_of};
+use script_run::run_script;
 use speed_map::rows;
 use std::alloc::{AllocError, Global};
 use std::io;
@@ -36,6 +38,7 @@ pub enum Call {
     PlainRead,
     Read(Way),
     Rom,
+    Run,
     Cabling(Question, Shape),
     Tick(Pace, Kind),
     Course(Course, Shape),
@@ -89,6 +92,7 @@ impl Call {
             "read_whole" => Some(Call::Read(Way::Whole)),
             "read_stream" => Some(Call::Read(Way::Stream)),
             "rom" => Some(Call::Rom),
+            "run" => Some(Call::Run),
             _ => {
                 let (asked, shape) = name.split_once('_')?;
                 let shape = shape_named(shape)?;
@@ -120,12 +124,16 @@ struct Bus {
 enum Work {
     Bus(Bus),
     Rom(Rom),
+    Script(Vec<u8>),
 }
 
 /// The work that an input gives, if it is one that the call reads.
 fn work_of(alloc: Global, call: Call, bytes: &[u8]) -> Result<Option<Work>, AllocError> {
     if call == Call::Rom {
         return Ok(decode_rom(alloc, bytes).ok().map(Work::Rom));
+    }
+    if call == Call::Run {
+        return Ok(Some(Work::Script(bytes.to_vec(alloc)?)));
     }
     Ok(bus_of(alloc, call, bytes)?.map(Work::Bus))
 }
@@ -174,18 +182,30 @@ fn told(alloc: Global, rom: &Rom) -> Result<u64, RomStop> {
     Ok(rom_text(alloc, &rom, &blocks)?.len() as u64)
 }
 
+/// Runs a script. The answer is the length of its text, and 0 where it has none.
+fn length_run(alloc: Global, script: &[u8]) -> u64 {
+    if script.len() > MAX_INPUT {
+        return 0;
+    }
+    match run_script(alloc, script) {
+        Ok(text) => text.len() as u64,
+        Err(_) => 0,
+    }
+}
+
 /// One call. The answer keeps the compiler from leaving it out.
 fn once(alloc: Global, call: Call, work: &Work) -> u64 {
     match work {
         Work::Bus(bus) => of_bus(alloc, call, bus),
         Work::Rom(rom) => told(alloc, rom).unwrap_or(0),
+        Work::Script(script) => length_run(alloc, script),
     }
 }
 
 /// One call over a bus.
 fn of_bus(alloc: Global, call: Call, work: &Bus) -> u64 {
     match call {
-        Call::Rom => 0,
+        Call::Rom | Call::Run => 0,
         Call::Read(way) => length_read(alloc, way, &work.words, &work.bytes),
         Call::ReadTree => match read_tree(alloc, work.quads.as_slice()) {
             Ok(tree) => u64::from(tree.len()),

@@ -43,6 +43,7 @@ pub use laws::{
 pub use line::parse_line;
 pub use made::make_script;
 pub use maps::maps_text;
+pub use number::number_of;
 pub use report::report_text;
 pub use script::run_script;
 pub use topology_stack::{Name, OutOfMemory};

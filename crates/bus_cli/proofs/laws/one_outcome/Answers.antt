@@ -16,5 +16,6 @@ returns c =
       blocks_apart = c.one_list.ensures.apart;
       block_fault = c.one_list.ensures.fault;
       text = c.one_list.ensures.text;
+      script = c.scripts_tell_one_thing.ensures;
     } in
     record { some = some_outcome one; outcome = outcomes_agree one; answer = answers_agree one }

@@ -1,7 +1,8 @@
 use Rattle.std.proofs.Common.{◌≡◌, refl, ap, Err}
 use Rattle.bus_cli.specs.declared.form.Form.TheVariants.{Capture}
 use Rattle.bus_cli.specs.declared.form.CaptureForm.TheVariants.{Read}
-use Rattle.bus_cli.proofs.Ends.{part_written, whole_written, taken_surely, exact_status, no_form_exact, no_form_complete}
+use Rattle.bus_cli.proofs.Forms.{few_nodes, is_unread}
+use Rattle.bus_cli.proofs.Ends.{or_else, part_written, whole_written, taken_surely, exact_status, no_form_exact, no_form_complete}
 use Rattle.bus_cli.proofs.top.bus_main.Goals as goal
 
 pub returns-in-Err-Memory-clause-memory : goal.returns-in-Err-Memory-clause-memory
@@ -9,6 +10,24 @@ returns-in-Err-Memory-clause-memory g c = λ five asks.
     let found = (c.in-Some.ensures (Capture Read)).1 asks in
     let form : c.in-Some.form ≡ Capture Read = cc in
     c.in-Err-Memory.ensures.memory (ap (λ e. Err e) c.in-Err-Memory.field-0-is) form
+
+pub read_answer-requires : goal.read_answer-requires
+read_answer-requires g c = few_nodes c.args.words.now c.in-Some.form ((c.in-Some.ensures c.in-Some.form).0 refl)
+
+pub returns-in-Err-ReadFault-clause-unread : goal.returns-in-Err-ReadFault-clause-unread
+returns-in-Err-ReadFault-clause-unread g c = λ which.
+    let asks = (c.in-Some.ensures c.in-Some.form).0 refl in
+    c.read_answer.ensures.unread (is_unread c.args.words.now c.in-Some.form asks (or_else _ 3 2 (λ e. cc) which))
+
+pub returns-in-Err-TooLong-clause-unread : goal.returns-in-Err-TooLong-clause-unread
+returns-in-Err-TooLong-clause-unread g c = λ which.
+    let asks = (c.in-Some.ensures c.in-Some.form).0 refl in
+    c.read_answer.ensures.unread (is_unread c.args.words.now c.in-Some.form asks (or_else _ 6 2 (λ e. cc) which))
+
+pub returns-in-Err-Memory-clause-unread : goal.returns-in-Err-Memory-clause-unread
+returns-in-Err-Memory-clause-unread g c = λ which.
+    let asks = (c.in-Some.ensures c.in-Some.form).0 refl in
+    c.read_answer.ensures.unread (is_unread c.args.words.now c.in-Some.form asks (or_else _ 5 2 (λ e. cc) which))
 
 pub returns-in_default-clause-exact : goal.returns-in_default-clause-exact
 returns-in_default-clause-exact g c = no_form_exact c.args.words.now (g.S.Source.left c.args.source.now) (λ is. absurd (let e = (c.in_default.ensures is.0).1 is.1 in cc))

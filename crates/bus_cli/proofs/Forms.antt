@@ -1,0 +1,155 @@
+-- Words are those of one form at most.
+use Rattle.std.proofs.Common.{cond, Option, Some, None, ◌⊎◌, inl, inr, Bool, true, false, eqb, ◌≡◌, ℕ, List, [], ◌∷◌, refl, sym, ap, subst, ◌∙◌}
+use Rattle.std.specs.Prelude.{String, map, string_bytes, codes}
+use Rattle.std.proofs.lemmas.Bool.{eqb-true}
+use Rattle.std.specs.Global.{Global}
+use Rattle.script_run.specs.Number.{number_of}
+use Rattle.bus_cli.specs.declared.form.Form.{Form}
+use Rattle.bus_cli.specs.declared.form.Form.TheVariants.{Capture, Rom, Run, Make}
+use Rattle.bus_cli.specs.declared.form.CaptureForm.{CaptureForm}
+use Rattle.bus_cli.specs.declared.form.CaptureForm.TheVariants.{Read, Maps}
+use Rattle.bus_cli.specs.Form.{AreWordsOf, AreMakeWords, Asks, IsForm, AsksMake, AsksScript}
+use Rattle.bus_cli.specs.codings.Reading.{IsRead, AsksFewNodes}
+
+-- ---- the form of words, found by trying them all
+
+same : List ℕ → List ℕ → Bool
+same [] [] = true
+same [] (y ∷ ys) = false
+same (x ∷ xs) [] = false
+same (x ∷ xs) (y ∷ ys) = cond (eqb x y) (same xs ys) false
+
+abbrev of_word : List ℕ → Option Form
+of_word word =
+    cond (same word (codes "read")) (Some (Capture Read))
+    (cond (same word (codes "maps")) (Some (Capture Maps))
+    (cond (same word (codes "rom")) (Some Rom)
+    (cond (same word (codes "run")) (Some Run) None)))
+
+of_make : Option ℕ → Option ℕ → Option Form
+of_make (Some nodes) (Some seed) = Some (Make nodes seed)
+of_make _ _ = None
+
+form_of : List (List ℕ) → Option Form
+form_of [] = None
+form_of (word ∷ []) = of_word word
+form_of (word ∷ next ∷ []) = None
+form_of (word ∷ nodes ∷ seed ∷ words) = of_make (number_of nodes) (number_of seed)
+
+both_true : (x y : Bool) → cond x y false ≡ true → (x ≡ true) × (y ≡ true)
+both_true true y e = (refl, e)
+both_true false y e = absurd cc
+
+same-true : (xs ys : List ℕ) → same xs ys ≡ true → xs ≡ ys
+unfolding same
+same-true [] [] e = refl
+same-true [] (y ∷ ys) e = absurd cc
+same-true (x ∷ xs) [] e = absurd cc
+same-true (x ∷ xs) (y ∷ ys) e =
+    let p = both_true _ _ e in
+    let head : x ≡ y = eqb-true x y p.0 in
+    rw (head, same-true xs ys p.1) refl
+
+from_numbers : (a b : Option ℕ) (nodes seed : ℕ) → a ≡ Some nodes → b ≡ Some seed → of_make a b ≡ Some (Make nodes seed)
+unfolding of_make
+from_numbers a b nodes seed x y = rw (x, y) refl
+
+is_found : (form : Form) (words : List (List ℕ)) → AreWordsOf form words → form_of words ≡ Some form
+unfolding same form_of
+is_found (Capture Read) words e = ap (λ (ws : List (List ℕ)). form_of ws) e
+is_found (Capture Maps) words e = ap (λ (ws : List (List ℕ)). form_of ws) e
+is_found Rom words e = ap (λ (ws : List (List ℕ)). form_of ws) e
+is_found Run words e = ap (λ (ws : List (List ℕ)). form_of ws) e
+is_found (Make nodes seed) words m =
+    ap (λ (ws : List (List ℕ)). form_of ws) m.words_are
+    ∙ from_numbers (number_of m.nodes_word) (number_of m.seed_word) nodes seed m.nodes_are m.seed_is
+
+same_form : (a b : Form) (x : Option Form) → x ≡ Some a → x ≡ Some b → a ≡ b
+same_form a b x e f = cc
+
+-- no words are those of two forms
+pub one_form : (words : List (String Global)) (a b : Form) → Asks words a → Asks words b → a ≡ b
+one_form words a b x y =
+    same_form a b (form_of (map string_bytes words)) (is_found a (map string_bytes words) x) (is_found b (map string_bytes words) y)
+
+-- the words of `make` are those of one number of nodes and one seed
+pub one_make : (words : List (String Global)) (n m s r : ℕ) → Asks words (Make n s) → Asks words (Make m r) → (n ≡ m) × (s ≡ r)
+one_make words n m s r x y =
+    let e : Make n s ≡ Make m r = one_form words (Make n s) (Make m r) x y in
+    (cc, cc)
+
+-- ---- the word of each form
+
+abbrev IsWordOf : List ℕ → Form → Type 0
+IsWordOf word form = AreWordsOf form (word ∷ [])
+
+-- the first form whose word it is, or one of the rest
+tried : (test : Bool) (word : List ℕ) (first form : Form) (rest : Option Form) → (test ≡ true → IsWordOf word first) → (rest ≡ Some form → IsWordOf word form) → cond test (Some first) rest ≡ Some form → IsWordOf word form
+tried true word first form rest is go e = let f : first ≡ form = cc in subst (λ (g : Form). IsWordOf word g) f (is refl)
+tried false word first form rest is go e = go e
+
+alone : (word wanted : List ℕ) → same word wanted ≡ true → word ∷ [] ≡ wanted ∷ []
+alone word wanted e = ap (λ (w : List ℕ). w ∷ []) (same-true word wanted e)
+
+is_word_of : (word : List ℕ) (form : Form) → of_word word ≡ Some form → IsWordOf word form
+is_word_of word form =
+    tried _ word (Capture Read) form _ (alone word (codes "read"))
+    (tried _ word (Capture Maps) form _ (alone word (codes "maps"))
+    (tried _ word Rom form _ (alone word (codes "rom"))
+    (tried _ word Run form _ (alone word (codes "run")) (λ e. absurd cc))))
+
+-- ---- words are those of a form, or of none
+
+abbrev AreForm : List (List ℕ) → Type 0
+AreForm words = (form : Form) × AreWordsOf form words
+
+abbrev AreMake : List (List ℕ) → Type 0
+AreMake words = (nodes : ℕ) × (seed : ℕ) × AreMakeWords nodes seed words
+
+not_found : (words : List (List ℕ)) → form_of words ≡ None → AreForm words → ⊥
+not_found words none is = let e : None ≡ Some is.0 = sym none ∙ is_found is.0 words is.1 in cc
+
+by_form : (word : List ℕ) (found : Option Form) → of_word word ≡ found → AreForm (word ∷ []) ⊎ (AreForm (word ∷ []) → ⊥)
+unfolding form_of
+by_form word (Some form) e = inl (form, is_word_of word form e)
+by_form word None e = inr (not_found (word ∷ []) e)
+
+only_make : (a b c : List ℕ) (words : List (List ℕ)) (form : Form) → (AreMake (a ∷ b ∷ c ∷ words) → ⊥) → AreWordsOf form (a ∷ b ∷ c ∷ words) → ⊥
+only_make a b c words (Capture Read) none e = cc
+only_make a b c words (Capture Maps) none e = cc
+only_make a b c words Rom none e = cc
+only_make a b c words Run none e = cc
+only_make a b c words (Make nodes seed) none m = none (nodes, seed, m)
+
+are_form : (words : List (List ℕ)) → (AreMake words → ⊥) → AreForm words ⊎ (AreForm words → ⊥)
+unfolding form_of
+are_form [] none = inr (not_found [] refl)
+are_form (a ∷ []) none = by_form a (of_word a) refl
+are_form (a ∷ b ∷ []) none = inr (not_found (a ∷ b ∷ []) refl)
+are_form (a ∷ b ∷ c ∷ words) none = inr (λ is. only_make a b c words is.0 none is.1)
+
+-- words that don't ask for a script are those of a form, or of none
+pub form_or_none : (words : List (String Global)) → (AsksScript words → ⊥) → IsForm words ⊎ (IsForm words → ⊥)
+form_or_none words none = are_form (map string_bytes words) (λ make. none (inr make))
+
+-- ---- what is read
+
+-- with words that aren't those of `make` the input is read
+pub is_read : (words : List (String Global)) (form : Form) → Asks words form → (AsksMake words → ⊥) → IsRead form
+is_read words (Capture form) asks none = tt
+is_read words Rom asks none = tt
+is_read words Run asks none = tt
+is_read words (Make nodes seed) asks none = absurd (none (nodes, seed, asks))
+
+-- with those of `make` it isn't
+pub is_unread : (words : List (String Global)) (form : Form) → Asks words form → AsksMake words → IsRead form → ⊥
+is_unread words form asks make read =
+    let e : Make make.0 make.1 ≡ form = one_form words (Make make.0 make.1) form make.2 asks in
+    subst (λ (f : Form). IsRead f → ⊥) e (λ none. none) read
+
+-- with those of `make` there are 1 to 63 nodes
+pub few_nodes : (words : List (String Global)) (form : Form) → Asks words form → AsksFewNodes form
+few_nodes words (Capture form) asks = tt
+few_nodes words Rom asks = tt
+few_nodes words Run asks = tt
+few_nodes words (Make nodes seed) asks = (asks.some_nodes, asks.few_nodes)

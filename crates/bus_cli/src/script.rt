@@ -1,0 +1,58 @@
+//! The answer to a script.
+ghost use Rattle.std.specs.Prelude.{◌≡◌, ◌≤◌, ℕ, List, Ok, IfOk, IfErr, String, length};
+ghost use Rattle.std.specs.Global.{Global};
+ghost use Rattle.script_run.specs.Answered.{IsRefused};
+ghost use Rattle.script_run.specs.Made.{made_script};
+ghost use Rattle.script_run.specs.Script.{IsTold};
+ghost use Rattle.script_run.specs.Summary.{summary};
+ghost use Rattle.bus_cli.specs.declared.form.Form.TheVariants.{Run, Make};
+ghost use Rattle.bus_cli.specs.Form.{Asks};
+ghost use Rattle.bus_cli.specs.Answer.{Answers};
+ghost use Rattle.bus_cli.specs.codings.Reading.{status_with, text_with};
+
+use crate::answer::Answer;
+use crate::line::script_line;
+use quad_lanes::OutOfMemory;
+use script_run::{ScriptStop, make_script, run_script, summary};
+use std::alloc::Global;
+
+/// The answer to the bytes of a script.
+pub(crate) fn answer_to_script(alloc: Global, bytes: &[u8]) -> Result<Answer, OutOfMemory>
+    requires { length bytes.now ≤ 1048576 }
+    ensures { IfOk result (λ answer. (words : List (String Global)) → Asks words Run →
+        Answers words bytes.now (status_with answer) (text_with answer)) }
+{
+    match run_script(alloc, bytes) {
+        Ok(text) => Ok(Answer::Valid(text)),
+        Err(ScriptStop::Fault(fault)) => Ok(Answer::Refused(script_line(fault))),
+        Err(ScriptStop::Memory(error)) => Err(error),
+    }
+}
+
+/// The summary of what the script prints that is made for so many nodes, 1 to 63, and a seed.
+fn made_summary(alloc: Global, nodes: u8, seed: u32) -> Result<Vec<u8>, ScriptStop>
+    requires least { 1 ≤ nodes }
+    requires most { nodes ≤ 63 }
+    ensures text { IfOk result (λ text. (told : List ℕ)
+        × IsTold (made_script nodes seed) (Ok told) × (text.items ≡ summary told)) }
+    ensures fault { IfErr result (IsRefused (made_script nodes seed)) }
+{
+    let script = make_script(alloc, nodes, seed)?;
+    let text = run_script(alloc, &script)?;
+    Ok(summary(alloc, &text)?)
+}
+
+/// The answer to a request for the script that is made for so many nodes, 1 to 63, and a seed.
+pub(crate) fn answer_to_make(alloc: Global, nodes: u8, seed: u32) -> Result<Answer, OutOfMemory>
+    requires least { 1 ≤ nodes }
+    requires most { nodes ≤ 63 }
+    ensures { IfOk result (λ answer. (words : List (String Global)) (bytes : List ℕ) →
+        Asks words (Make nodes seed) →
+        Answers words bytes (status_with answer) (text_with answer)) }
+{
+    match made_summary(alloc, nodes, seed) {
+        Ok(text) => Ok(Answer::Valid(text)),
+        Err(ScriptStop::Fault(fault)) => Ok(Answer::Refused(script_line(fault))),
+        Err(ScriptStop::Memory(error)) => Err(error),
+    }
+}
