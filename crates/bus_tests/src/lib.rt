@@ -14,6 +14,8 @@ mod inputs;
 #[cfg(test)]
 mod maps;
 #[cfg(test)]
+mod plans;
+#[cfg(test)]
 mod rom;
 #[cfg(test)]
 mod scripts;

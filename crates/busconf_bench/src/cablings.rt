@@ -1,6 +1,7 @@
 //! Cablings of 63 nodes with sixteen ports each, and the calls over them.
 
-use cabling::{Cabling, End};
+use cabling::{Cabling, End, OutOfMemory};
+use loop_advice::{Advice, CableList, advise, check};
 use std::alloc::{AllocError, Global};
 
 /// How many nodes there are, and how many ports each has.
@@ -25,6 +26,8 @@ pub enum Question {
     Component,
     Core,
     Walk,
+    Advice,
+    Check,
 }
 
 /// Plugs a cable, if its ends are free.
@@ -62,8 +65,20 @@ pub fn joined(alloc: Global, shape: Shape) -> Result<Cabling, AllocError> {
     Ok(cabling)
 }
 
-/// The answer of a call, as a number that keeps the compiler from leaving the call out.
-pub fn answer_to(cabling: &Cabling, question: Question) -> u64 {
+/// The advice for the component of the first node, if there is one.
+pub fn advice_for(alloc: Global, cabling: &Cabling) -> Result<Advice, OutOfMemory> {
+    if cabling.nodes() == 0 {
+        return Ok(Advice {
+            pulls: CableList::new(alloc),
+            kept: CableList::new(alloc),
+        });
+    }
+    advise(alloc, cabling, 0)
+}
+
+/// The answer of a call, as a number that keeps the compiler from leaving the call out. What is
+/// checked is this advice.
+pub fn answer_to(alloc: Global, cabling: &Cabling, advice: &Advice, question: Question) -> u64 {
     if cabling.nodes() == 0 {
         return 0;
     }
@@ -74,5 +89,10 @@ pub fn answer_to(cabling: &Cabling, question: Question) -> u64 {
             Ok(walk) => walk.as_slice().len() as u64,
             Err(cyclic) => u64::from(cyclic.core.len()),
         },
+        Question::Advice => match advise(alloc, cabling, 0) {
+            Ok(advice) => advice.pulls.as_slice().len() as u64,
+            Err(_) => 0,
+        },
+        Question::Check => u64::from(check(cabling, 0, advice)),
     }
 }

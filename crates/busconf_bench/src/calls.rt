@@ -1,6 +1,6 @@
 //! The calls that are measured.
 
-use crate::cablings::{Question, Shape, answer_to, joined};
+use crate::cablings::{Question, Shape, advice_for, answer_to, joined};
 use crate::captures::{Way, length_read};
 use crate::machines::{Kind, Nodes, Pace};
 use crate::worlds::{Course, running, settle, turns};
@@ -9,6 +9,7 @@ use bus_manager::hops;
 use cable_world::World;
 use cabling::Cabling;
 use config_rom::{Rom, RomStop, blocks, decode_rom, encode_rom, rom_text};
+use loop_advice::Advice;
 use phy_machine::FieldMachine;
 use quad_lanes::{QuadList, first_bad_pair, firsts, pairs_of};
 use script_run::run_script;
@@ -59,6 +60,8 @@ fn question_named(name: &str) -> Option<Question> {
         "component" => Some(Question::Component),
         "core" => Some(Question::Core),
         "walk" => Some(Question::Walk),
+        "advice" => Some(Question::Advice),
+        "check" => Some(Question::Check),
         _ => None,
     }
 }
@@ -111,6 +114,7 @@ struct Bus {
     tree: BusTree,
     pairs: QuadList,
     cabling: Cabling,
+    advice: Advice,
     nodes: Nodes,
     world: World<FieldMachine>,
 }
@@ -154,6 +158,7 @@ fn bus_of(alloc: Global, call: Call, bytes: &[u8]) -> Result<Option<Bus>, AllocE
         _ => Shape::Line,
     };
     let cabling = joined(alloc, shape)?;
+    let advice = advice_for(alloc, &cabling)?;
     let mut words = Vec::new(alloc);
     words.push(String::from_str(alloc, "read")?)?;
     Ok(Some(Bus {
@@ -163,6 +168,7 @@ fn bus_of(alloc: Global, call: Call, bytes: &[u8]) -> Result<Option<Bus>, AllocE
         tree,
         pairs,
         cabling,
+        advice,
         nodes: Nodes::new(),
         world: running(alloc, shape)?,
     }))
@@ -223,7 +229,7 @@ fn of_bus(alloc: Global, call: Call, work: &Bus) -> u64 {
                 0
             }
         }
-        Call::Cabling(question, _) => answer_to(&work.cabling, question),
+        Call::Cabling(question, _) => answer_to(alloc, &work.cabling, &work.advice, question),
         Call::Tick(_, _) | Call::Course(Course::Turn, _) => 0,
         Call::Course(Course::Settle, shape) => settle(alloc, shape).unwrap_or(0),
         Call::PlainRead => {

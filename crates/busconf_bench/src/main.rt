@@ -16,8 +16,9 @@
 //! - `tick_busy_field`, `tick_busy_packed`: a tick that takes a row of the step table, and a sixth of the
 //!   reset before it
 //! - `component_line`, `core_line`, `walk_line`: these of 63 nodes in a line, whatever the capture
+//! - `advice_line`, `check_line`: which of their cables to pull, and whether this advice is valid
 //! - the same with `_star`, each node below the first that has one of its sixteen ports left, and
-//!   with `_looped`, each node joined to the next eight
+//!   with `_looped`, each node joined to the next eight, by 504 cables in all
 //! - `turn_line`, `turn_star`, `turn_looped`: a turn of 63 nodes in a world that does one turn after the
 //!   other
 //! - `settle_line`, `settle_star`, `settle_looped`: 63 nodes from power-on until the bus has settled,

@@ -14,13 +14,13 @@ use Rattle.loop_advice.specs.codings.Collected.{AllComeBefore, Collected}
 use Rattle.loop_advice.proofs.Listed.{lists_left, lists_right, lists_last, lists_same, of_same}
 use Rattle.loop_advice.proofs.Marking.{cable}
 
-before_along : (a b d : End) → ComesBefore a b → ComesBefore b d → ComesBefore a d
+pub before_along : (a b d : End) → ComesBefore a b → ComesBefore b d → ComesBefore a d
 before_along a b d (inl p) (inl q) = inl (omega (arith, p, q))
 before_along a b d (inl p) (inr q) = inl (omega (arith, p, q.0))
 before_along a b d (inr p) (inl q) = inl (omega (arith, p.0, q))
 before_along a b d (inr p) (inr q) = inr (omega (arith, p.0, q.0), omega (arith, p.1, q.1))
 
-not_before : (a : End) → ComesBefore a a → ⊥
+pub not_before : (a : End) → ComesBefore a a → ⊥
 not_before a (inl p) = omega (arith, p)
 not_before a (inr p) = omega (arith, p.1)
 
@@ -28,7 +28,7 @@ before_last : (a : End) (xs : List Cable) (x : Cable) → ComesBeforeAll a xs �
 before_last a [] x h p = (p, tt)
 before_last a (y ∷ ys) x h p = (h.0, before_last a ys x h.1 p)
 
-rising_last : (xs : List Cable) (x : Cable) → AreRising xs → AllComeBefore xs x.a → x.a.node < x.b.node → AreRising (xs ++ x ∷ [])
+pub rising_last : (xs : List Cable) (x : Cable) → AreRising xs → AllComeBefore xs x.a → x.a.node < x.b.node → AreRising (xs ++ x ∷ [])
 rising_last [] x h b low = (low, tt, tt)
 rising_last (y ∷ ys) x h b low = (h.0, before_last y.a ys x h.1 b.0, rising_last ys x h.2 b.1 low)
 
@@ -36,7 +36,7 @@ all_before : (xs : List Cable) (a b : End) → AllComeBefore xs a → ComesBefor
 all_before [] a b h p = tt
 all_before (x ∷ xs) a b h p = (before_along x.a a b h.0 p, all_before xs a b h.1 p)
 
-all_before_last : (xs : List Cable) (x : Cable) (b : End) → AllComeBefore xs b → ComesBefore x.a b → AllComeBefore (xs ++ x ∷ []) b
+pub all_before_last : (xs : List Cable) (x : Cable) (b : End) → AllComeBefore xs b → ComesBefore x.a b → AllComeBefore (xs ++ x ∷ []) b
 all_before_last [] x b h p = (p, tt)
 all_before_last (y ∷ ys) x b h p = (h.0, all_before_last ys x b h.1 p)
 
@@ -47,7 +47,7 @@ none_again x (y ∷ ys) low h r (inl (inl e)) = not_before x.a (subst (λ (z : C
 none_again x (y ∷ ys) low h r (inl (inr e)) = let a : x.a.node ≡ y.b.node = ap (λ (z : Cable). z.a.node) e in let b : x.b.node ≡ y.a.node = ap (λ (z : Cable). z.b.node) e in omega (arith, low, r.0, a, b)
 none_again x (y ∷ ys) low h r (inr l) = none_again x ys low h.1 r.2 l
 
-rising_once : (xs : List Cable) → AreRising xs → HasNoneTwice xs
+pub rising_once : (xs : List Cable) → AreRising xs → HasNoneTwice xs
 rising_once [] r = tt
 rising_once (x ∷ xs) r = (none_again x xs r.0 r.1 r.2, rising_once xs r.2)
 

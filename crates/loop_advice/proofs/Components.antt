@@ -8,6 +8,7 @@ use Rattle.cabling.specs.Component.{IsComponent}
 use Rattle.cabling.proofs.Bits.{clear_bit}
 use Rattle.cabling.proofs.Cascade.{holds_or_not}
 use Rattle.loop_advice.specs.Cables.{IsCableOf, HoldsEachOnce}
+use Rattle.loop_advice.specs.Order.{AreInOrder}
 
 abbrev pub HaveTheSame : ℕ → ℕ → Type 0
 HaveTheSame set other = (x : ℕ) → Holds set x ↔ Holds other x
@@ -25,7 +26,7 @@ pub same_size : (set other n : ℕ) → HaveTheSame set other → size_below set
 same_size set other zero h = refl
 same_size set other (suc n) h = omega (arith, same_size set other n h, same_bit set other n h)
 
-of_other : (c : Wiring) (set other : ℕ) (x : Cable) → HaveTheSame set other → IsCableOf c set x → IsCableOf c other x
+pub of_other : (c : Wiring) (set other : ℕ) (x : Cable) → HaveTheSame set other → IsCableOf c set x → IsCableOf c other x
 of_other c set other x h of = record { joined = of.joined; here = (h x.a.node).0 of.here }
 
 pub same_each : (c : Wiring) (set other : ℕ) (cables : List Cable) → HaveTheSame set other → HoldsEachOnce c set cables → HoldsEachOnce c other cables
@@ -36,3 +37,6 @@ same_each c set other cables h each = record {
     (λ of. (each.all x).1 (of_other c other set x (λ y. ((h y).1, (h y).0)) of)),
   );
 }
+
+pub same_order : (c : Wiring) (set other : ℕ) (cables : List Cable) → HaveTheSame set other → AreInOrder c set cables → AreInOrder c other cables
+same_order c set other cables h order = record { each = same_each c set other cables h order.each; rising = order.rising }

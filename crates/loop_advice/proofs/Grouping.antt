@@ -76,6 +76,19 @@ grouped_next g after done x small_a small_b h smalls_a smalls_b is =
           ];
     }
 
+-- one cable more within a group
+pub grouped_same : (g : Groups) (done : List Cable) (x : Cable) → Grouped g done → group g x.a.node ≡ group g x.b.node → Grouped g (done ++ x ∷ [])
+grouped_same g done x h same = record {
+  closed = λ z l. elim (lists_last done x z l) [
+    | inl before ↦ h.closed z before
+    | inr s ↦ elim s [
+      | inl e ↦ subst (λ (y : Cable). group g y.a.node ≡ group g y.b.node) (sym e) same
+      | inr e ↦ subst (λ (y : Cable). group g y.a.node ≡ group g y.b.node) (sym e) (sym same)
+    ]
+  ];
+  joined = λ a b p q e test none. h.joined a b p q e test (λ z l. none z (lists_left done (x ∷ []) z l));
+}
+
 -- a node outside the group isn't joined
 pub not_joined : (g : Groups) (done : List Cable) (a b : ℕ) → Grouped g done → group g a ≢ group g b → AreJoined done a b → ⊥
 not_joined g done a b h ne joined =

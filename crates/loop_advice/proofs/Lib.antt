@@ -6,3 +6,6 @@ pub mod Sizes
 pub mod Growing
 pub mod Leaves
 pub mod Collecting
+pub mod Before
+pub mod Rooted
+pub mod Splitting

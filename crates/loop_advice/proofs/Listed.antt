@@ -117,3 +117,11 @@ pub once_apart : (xs ys : List Cable) (z : Cable) → HasNoneTwice (xs ++ ys) �
 once_apart [] ys z h l m = l
 once_apart (x ∷ xs) ys z h (inl s) m = h.0 (lists_right xs ys x (lists_same ys z x (same_back z x s) m))
 once_apart (x ∷ xs) ys z h (inr l) m = once_apart xs ys z h.1 l m
+
+-- two lists with no cable in both
+pub once_both : (xs ys : List Cable) → HasNoneTwice xs → HasNoneTwice ys → ((z : Cable) → Lists xs z → Lists ys z → ⊥) → HasNoneTwice (xs ++ ys)
+once_both [] ys h k out = k
+once_both (x ∷ xs) ys h k out = (
+  (λ l. elim (lists_append xs ys x l) [ inl a ↦ h.0 a | inr b ↦ out x (inl (inl refl)) b ]),
+  once_both xs ys h.1 k (λ z a b. out z (inr a) b),
+)

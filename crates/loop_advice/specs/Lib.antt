@@ -1,3 +1,4 @@
+pub mod Advised
 pub mod Cables
 pub mod Certificate
 pub mod Order

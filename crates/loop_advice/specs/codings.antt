@@ -3,3 +3,4 @@
 pub mod Marks
 pub mod Groups
 pub mod Collected
+pub mod Placed

@@ -52,18 +52,30 @@ fn push_cables(
     Ok(())
 }
 
-/// The cables of a node's component, each with its end at the lower node first, in the order of these
-/// ends. The node exists.
+/// The cables of a set of nodes, each with its end at the lower node first, in the order of these
+/// ends. The nodes of the set exist, and no cable leads out of it.
+pub(crate) fn cables_within(
+    alloc: Global,
+    cabling: &Cabling,
+    set: NodeSet,
+) -> Result<CableList, OutOfMemory>
+    requires { IsClosed cabling.now set }
+    ensures { IfOk result (λ list. AreInOrder cabling.now set list) }
+{
+    cables_are_two_ended(cabling);
+    let mut list = CableList::new(alloc);
+    for node in 0..cabling.nodes() {
+        push_cables(cabling, set, node, &mut list)?;
+    }
+    Ok(list)
+}
+
+/// The cables of a node's component, each with its end at the lower node first, in the order of
+/// these ends. The node exists. `Err` means that there is no memory for the list.
 pub fn cables_of(alloc: Global, cabling: &Cabling, node: u8) -> Result<CableList, OutOfMemory>
     requires { node < length cabling.now }
     ensures { IfOk result (λ list.
         (set : ℕ) → IsComponent cabling.now node set → AreInOrder cabling.now set list) }
 {
-    cables_are_two_ended(cabling);
-    let component = cabling.component(node);
-    let mut list = CableList::new(alloc);
-    for next in 0..cabling.nodes() {
-        push_cables(cabling, component, next, &mut list)?;
-    }
-    Ok(list)
+    cables_within(alloc, cabling, cabling.component(node))
 }

@@ -1,6 +1,7 @@
 //! Which cables to pull where cables form a loop, and how such an advice is judged.
 //!
-//! `specs/Cables.antt` says what cables join, `specs/Certificate.antt` when an advice is valid.
+//! `specs/Cables.antt` says what cables join, `specs/Order.antt` in which order they stand,
+//! `specs/Advised.antt` which of them are advised, and `specs/Certificate.antt` when an advice is valid.
 #![tactic(auto)]
 
 mod advice;
@@ -11,7 +12,7 @@ mod groups;
 mod laws;
 mod marks;
 
-pub use advice::Advice;
+pub use advice::{Advice, advise};
 pub use cable_list::CableList;
 pub use cables_in_order::cables_of;
 pub use cabling::OutOfMemory;

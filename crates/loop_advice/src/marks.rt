@@ -48,7 +48,8 @@ impl Marks {
         requires node { end.node < 63 }
         requires port { end.port < 16 }
         ensures held { IsMarked self.new end }
-        ensures others { (e : End) → place e ≢ place end → (IsMarked self.new e ↔ IsMarked self.old e) }
+        ensures others { (e : End) → place e ≢ place end →
+            (IsMarked self.new e ↔ IsMarked self.old e) }
     {
         self.marked[place(end)] = true;
     }

@@ -16,6 +16,7 @@ pub mod BeforeAnything
 pub mod told
 pub mod ScriptLines
 pub mod WorkedScripts
+pub mod Going
 pub mod MadeLines
 pub mod MadeSize
 pub mod MadeRead

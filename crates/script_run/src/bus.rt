@@ -5,6 +5,7 @@ ghost use Rattle.std.specs.Option.{option_copied, option_map, ok_or};
 ghost use Rattle.cable_world.specs.Act.{IsAct};
 ghost use Rattle.script_run.specs.ReportText.{IsNamedTree, IsNamedReport};
 ghost use Rattle.script_run.specs.Bus.{node_named, part_with, tree_with};
+ghost use Rattle.script_run.specs.Bus as shown;
 ghost use Rattle.script_run.specs.Step.{Acts, Holds, Turns, Settles, end_of, notes_after_act};
 ghost use Rattle.script_run.specs.codings.Running.{notes_now, bus_now, IsSound, Stops, reported};
 
@@ -206,3 +207,15 @@ impl<W: WorldRun> Bus<W> {
     }
 }
 
+impl<W: WorldRun + Drop> Bus<W> {
+    /// Settles and reports for the last time.
+    pub fn last_report(mut self, alloc: Global) -> Result<Vec<u8>, LineStop>
+        requires sound { IsSound W.world W.is_spent self }
+        ensures done { IfOk result (λ text. (after : shown.Bus)
+            × Settles (bus_now W.world self) (Ok (after, text.items))) }
+        ensures stop { IfErr result (Stops (Settles (bus_now W.world self))) }
+    {
+        let text = self.settle(alloc)?;
+        Ok(text)
+    }
+}

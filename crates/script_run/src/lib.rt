@@ -11,6 +11,7 @@ mod bank;
 mod bus;
 mod coins;
 mod command;
+mod course;
 mod draft;
 mod fixed;
 mod key;

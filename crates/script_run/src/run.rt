@@ -4,13 +4,12 @@ ghost use Rattle.script_run.specs.Range.{IsInRange};
 ghost use Rattle.script_run.specs.Script.{Delays, Follows, Runs, bus_of, delay_of, draft_of};
 ghost use Rattle.script_run.specs.codings.Running.{bus_now, IsSound};
 ghost use Rattle.script_run.specs.codings.Declaring.{IsDraft, StopsAt, draft_now};
-ghost use Rattle.script_run.specs.codings.Going.{stage_now, IsSoundStage, LineLeads, LineFails, IfFault};
+ghost use Rattle.script_run.specs.codings.Going.{stage_now, IsSoundStage};
 
 use crate::bus::Bus;
 use crate::command::Command;
 use crate::draft::{Draft, NodeLine};
 use crate::kind::{Kind, LineStop};
-use crate::line::parse_line;
 use cable_world::WorldRun;
 use phy_machine::AnyMachine;
 use std::alloc::Global;
@@ -33,7 +32,7 @@ pub(crate) enum Stage<W> {
 
 impl<W: WorldRun> Stage<W> {
     /// By how many turns a cable delays a signal at most.
-    fn delay(&self) -> u8
+    pub fn delay(&self) -> u8
         requires { IsSoundStage W.world W.is_spent self.now }
         ensures value { result ≡ delay_of (stage_now W.world self.now) }
         ensures some { 1 ≤ result }
@@ -128,7 +127,7 @@ impl Stage<AgendaWorld<AnyMachine>> {
     }
 
     /// A command is done.
-    fn follow(self, alloc: Global, d: u8, command: Command) -> Result<(Self, Vec<u8>), LineStop>
+    pub fn follow(self, alloc: Global, d: u8, command: Command) -> Result<(Self, Vec<u8>), LineStop>
         requires sound { IsSoundStage ⟦<AgendaWorld<AnyMachine> as WorldRun>⟧.world
             ⟦<AgendaWorld<AnyMachine> as WorldRun>⟧.is_spent self }
         requires delay { d ≡ delay_of
@@ -185,33 +184,4 @@ impl Stage<AgendaWorld<AnyMachine>> {
             command => self.run(alloc, d, &command),
         }
     }
-
-    /// A line is taken, and what it prints is appended.
-    pub fn take(
-        self,
-        alloc: Global,
-        line: &[u8],
-        out: &mut Vec<u8>,
-    ) -> Result<Self, LineStop>
-        requires { IsSoundStage ⟦<AgendaWorld<AnyMachine> as WorldRun>⟧.world
-            ⟦<AgendaWorld<AnyMachine> as WorldRun>⟧.is_spent self }
-        ensures done { IfOk result (λ next. (text : List ℕ)
-            × LineLeads (stage_now ⟦<AgendaWorld<AnyMachine> as WorldRun>⟧.world self) line.now
-            (stage_now ⟦<AgendaWorld<AnyMachine> as WorldRun>⟧.world next) text
-            × (out.new.items ≡ out.old.items ++ text)) }
-        ensures stop { IfErr result (IfFault (LineFails
-            (stage_now ⟦<AgendaWorld<AnyMachine> as WorldRun>⟧.world self) line.now)) }
-        ensures sound { IfOk result
-            (IsSoundStage ⟦<AgendaWorld<AnyMachine> as WorldRun>⟧.world
-            ⟦<AgendaWorld<AnyMachine> as WorldRun>⟧.is_spent) }
-    {
-        let d = self.delay();
-        let Some(command) = parse_line(alloc, line, d)? else {
-            return Ok(self);
-        };
-        let (next, text) = self.follow(alloc, d, command)?;
-        out.extend_from_slice(text.as_slice())?;
-        Ok(next)
-    }
 }
-

@@ -4,10 +4,10 @@ ghost use Rattle.script_run.specs.Script.{Told, IsTold, script_lines};
 ghost use Rattle.script_run.specs.Answered.{IsRefused, IsOnlyFault};
 ghost use Rattle.script_run.specs.codings.Going.{stop_at};
 
+use crate::course::Course;
 use crate::kind::{LineStop, ScriptFault, ScriptStop};
 use crate::last_report::first_feed;
 use crate::laws::scripts_tell_one_thing;
-use crate::run::Stage;
 use std::alloc::Global;
 
 /// The first line of what is left of a script, without its line feed, and what stands behind it.
@@ -48,20 +48,19 @@ pub fn run_script(alloc: Global, bytes: &[u8]) -> Result<Vec<u8>, ScriptStop>
 {
     scripts_tell_one_thing();
     let mut out = Vec::new(alloc);
-    let mut stage = Stage::Fresh;
+    let mut course = Course::new();
     let mut rest = bytes;
     let mut number = 1;
     while !rest.is_empty() {
         let (line, behind) = cut_line(rest);
-        stage = match stage.take(alloc, line, &mut out) {
+        course = match course.take(alloc, line, &mut out) {
             Ok(next) => next,
             Err(stop) => return Err(at_line(number, stop)),
         };
         rest = behind;
         number += 1;
     }
-    let mut bus = stage.bus(alloc)?;
-    match bus.settle(alloc) {
+    match course.last_report(alloc) {
         Ok(text) => out.extend_from_slice(text.as_slice())?,
         Err(stop) => return Err(at_line(number, stop)),
     }

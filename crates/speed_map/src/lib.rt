@@ -12,7 +12,7 @@ pub use paths::one_path;
 pub use quad_lanes::OutOfMemory;
 pub use same_bus::equal_lists_make_one_bus;
 pub use sealed::image;
-pub use sweeps::rows;
+pub use sweeps::{parent_of, rows};
 
 #[cfg(test)]
 mod tests;

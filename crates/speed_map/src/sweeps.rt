@@ -52,8 +52,8 @@ fn fill_below(rows: &mut [u8], tree: &BusTree, firsts: &[u8], id: u8) -> u8
     first
 }
 
-/// A node's parent. The node isn't the root.
-fn parent_of(tree: &BusTree, id: u8) -> u8
+/// The ID of a node's parent. The node isn't the root, whose ID is the last.
+pub fn parent_of(tree: &BusTree, id: u8) -> u8
     requires { id + 1 < length (walk tree.now) }
     ensures far { Joined tree.now id result }
     ensures after { id < result }

@@ -10,7 +10,7 @@ use Rattle.script_run.specs.declared.command.Command.{Command}
 use Rattle.script_run.specs.declared.run.Stage as kept
 use Rattle.script_run.specs.declared.run.Stage.TheVariants.{Fresh, Declaring, Running}
 use Rattle.script_run.specs.Line.{Reads}
-use Rattle.script_run.specs.Script.{Stage, fresh, declaring, running, delay_of, Follows, fault_at}
+use Rattle.script_run.specs.Script.{Stage, fresh, declaring, running, delay_of, Follows, Told, fault_at, behind, Tells, IsTold}
 use Rattle.script_run.specs.codings.Running.{bus_now, IsSound}
 use Rattle.script_run.specs.codings.Declaring.{draft_now, IsDraft}
 
@@ -47,3 +47,9 @@ IfFault P (line.Memory none) = Unit {0}
 abbrev pub stop_at : ℕ → LineStop → ScriptStop
 stop_at number (line.Fault kind) = script.Fault (fault_at number kind)
 stop_at number (line.Memory error) = script.Memory error
+
+-- the lines of a script that were taken printed this, and the script tells it and what the lines
+-- that are left tell
+abbrev pub Leaves : List ℕ → List ℕ → ℕ → List (List ℕ) → Stage → Type 0
+Leaves bytes out number lines stage =
+    (told : Told) → Tells number lines stage told → IsTold bytes (behind out told)

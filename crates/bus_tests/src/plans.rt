@@ -1,0 +1,192 @@
+//! A bus manager's plans, carried out.
+ghost use Rattle.std.specs.Prelude.{◌≡◌, ◌≤◌, IsFalse, IfOk, IfSome, length};
+ghost use Rattle.cable_world.specs.World.{IsNodeAtPowerOn};
+ghost use Rattle.phy_machine.specs.Field.{field_node};
+ghost use Rattle.settle.specs.Report.{IsReport};
+
+use cable_world::{Act, World, WorldRun};
+use cabling::{End, components_are_whole};
+use phy_machine::{FieldMachine, NodeSpec};
+use port_state::{Coins, Timing, power_on_is_valid, usual_in_range};
+use root_plan::{RootPlan, choose};
+use self_id::Attrs;
+use settle::{Outcome, Report, quiet_turns, settle};
+use settle_plan::{plans_suit, settle_plan};
+use std::alloc::{AllocError, Global};
+use std::process::Abort;
+use std::test::Fail;
+use topology_stack::read_tree;
+
+/// A node of three ports, which may contend to be isochronous resource manager.
+fn machine(contender: bool) -> FieldMachine
+    ensures { IsNodeAtPowerOn 4 (field_node result).state }
+{
+    power_on_is_valid();
+    usual_in_range();
+    FieldMachine::new(NodeSpec {
+        ports: 3,
+        attrs: Attrs {
+            link: true,
+            gap: 63,
+            speed: 2,
+            delay: 0,
+            contender,
+            power: 0,
+            initiated: false,
+        },
+        timing: Timing::usual(4),
+        force: false,
+        coins: Coins::bits(0, 1),
+    })
+}
+
+/// A world of nodes, of which these contend, and no cable.
+fn world_of(alloc: Global, contenders: &[bool]) -> Result<World<FieldMachine>, AllocError>
+    requires { length contenders.now ≤ 63 }
+{
+    let mut machines = Vec::new(alloc);
+    for contender in contenders {
+        machines.push(machine(*contender))?;
+    }
+    World::new(alloc, 4, machines)
+}
+
+/// A line of nodes, of which these contend: a cable leads from each node's port 1, or the first
+/// one's port 0, to port 0 of the next.
+fn line(rt: &impl Abort, alloc: Global, contenders: &[bool]) -> Result<World<FieldMachine>, Fail> {
+    assert!(rt; 1 <= contenders.len() && contenders.len() <= 63);
+    let mut world = world_of(alloc, contenders)?;
+    for node in 1..contenders.len() as u8 {
+        let port = if node == 1 { 0 } else { 1 };
+        world.act(&Act::Plug {
+            a: End {
+                node: node - 1,
+                port,
+            },
+            b: End { node, port: 0 },
+        })?;
+    }
+    Ok(world)
+}
+
+/// Chooses a root for the one component of a world that has settled, and carries the plan out from
+/// a node. None where there is no tree, or no candidate.
+fn replanned<W: WorldRun>(
+    rt: &impl Abort,
+    alloc: Global,
+    world: &mut W,
+    report: &Report,
+    from: u8,
+) -> Result<Option<(RootPlan, Report)>, Fail>
+    requires report { IsReport (W.world world.old) report.now }
+    requires fine { IsFalse (W.is_spent world.old) }
+    ensures report { IfOk result (λ o. IfSome o (λ p. IsReport (W.world world.new) p.1)) }
+    ensures fine { IfOk result (λ o. IfSome o (λ p. IsFalse (W.is_spent world.new))) }
+{
+    let parts = report.parts.as_slice();
+    assert_eq!(rt; parts.len(), 1);
+    assert!(rt; from < world.cabling().nodes());
+    assert!(rt; parts[0].nodes.has(from));
+    let Outcome::Tree { list, .. } = &parts[0].outcome else {
+        return Ok(None);
+    };
+    let tree = read_tree(alloc, list.as_slice())?;
+    let Some(plan) = choose(&tree) else {
+        return Ok(None);
+    };
+    assert_eq!(rt; world.delay(), 4);
+    let turns = u64::from(world.turns()) + u64::from(quiet_turns(world.cabling().nodes(), 4));
+    assert!(rt; turns <= 4_000_000_000);
+    plans_suit(world, from);
+    components_are_whole(world.cabling());
+    let settled = settle_plan(alloc, world, from, &plan)?;
+    Ok(Some((plan, settled)))
+}
+
+/// Settles a world, and plans for it.
+fn settled_and_replanned<W: WorldRun>(
+    rt: &impl Abort,
+    alloc: Global,
+    world: &mut W,
+    from: u8,
+) -> Result<Option<(RootPlan, Report)>, Fail>
+    ensures report { IfOk result (λ o. IfSome o (λ p. IsReport (W.world world.new) p.1)) }
+    ensures fine { IfOk result (λ o. IfSome o (λ p. IsFalse (W.is_spent world.new))) }
+{
+    assert_eq!(rt; world.delay(), 4);
+    let turns = u64::from(world.turns()) + u64::from(quiet_turns(world.cabling().nodes(), 4));
+    assert!(rt; turns <= 4_000_000_000);
+    let report = settle(alloc, world)?;
+    replanned(rt, alloc, world, &report, from)
+}
+
+/// Whether the only part of a report is a tree with this root, list and order.
+fn is_tree(report: &Report, its_root: u8, its_list: &[u32], its_order: &[u8]) -> bool {
+    let parts = report.parts.as_slice();
+    if parts.len() != 1 {
+        return false;
+    }
+    match &parts[0].outcome {
+        Outcome::Tree { root, list, order } => {
+            *root == its_root && list.as_slice() == its_list && order.as_slice() == its_order
+        }
+        _ => false,
+    }
+}
+
+/// The turn of the last change in the first part.
+fn last_change(report: &Report) -> Option<u32> {
+    match report.parts.as_slice().first() {
+        Some(part) => Some(part.changed),
+        None => None,
+    }
+}
+
+// the first of three nodes plans; both ends contend
+#[test]
+fn the_other_end_becomes_root(rt: HostRuntime) -> Result<(), Fail> {
+    let mut world = line(&rt, rt.alloc(), &[true, false, true])?;
+    let Some((plan, report)) = settled_and_replanned(&rt, rt.alloc(), &mut world, 0)? else {
+        assert!(rt; false, "a plan");
+        return Ok(());
+    };
+    let wanted = RootPlan {
+        root_id: 1,
+        hops: 2,
+        gap: 7,
+        far: 2,
+        packet: 0x01c7_0000,
+    };
+    assert_eq!(rt; plan, wanted);
+    assert_eq!(rt; report.turn, 16_480);
+    let list = [0x8047_8896, 0x8147_80e4, 0x8247_88d4];
+    assert!(rt; is_tree(&report, 2, &list, &[0, 1, 2]));
+    assert_eq!(rt; last_change(&report), Some(8511));
+    Ok(())
+}
+
+// all of five nodes contend; a second plan follows the first, and finds the root in the middle
+#[test]
+fn the_middle_becomes_root_and_stays(rt: HostRuntime) -> Result<(), Fail> {
+    let mut world = line(&rt, rt.alloc(), &[true; 5])?;
+    let Some((first, report)) = settled_and_replanned(&rt, rt.alloc(), &mut world, 4)? else {
+        assert!(rt; false, "a plan");
+        return Ok(());
+    };
+    assert_eq!(rt; (first.hops, first.gap, first.far), (4, 10, 2));
+    let list = [
+        0x804a_8894,
+        0x814a_88e4,
+        0x824a_8896,
+        0x834a_88b4,
+        0x844a_88f4,
+    ];
+    assert!(rt; is_tree(&report, 2, &list, &[0, 1, 4, 3, 2]));
+    let Some((second, report)) = replanned(&rt, rt.alloc(), &mut world, &report, 4)? else {
+        assert!(rt; false, "a plan");
+        return Ok(());
+    };
+    assert_eq!(rt; (second.root_id, second.far), (4, 2));
+    assert!(rt; is_tree(&report, 2, &list, &[0, 1, 4, 3, 2]));
+    Ok(())
+}

@@ -1,0 +1,11 @@
+//! The root that suits a bus best, and the configuration packet that makes it root.
+#![tactic(auto)]
+
+mod choice;
+mod expected;
+mod reach;
+#[cfg(test)]
+mod tests;
+
+pub use choice::{RootPlan, choose};
+pub use expected::expect;

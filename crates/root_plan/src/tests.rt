@@ -1,0 +1,109 @@
+use crate::{RootPlan, choose, expect};
+use cabling::{Cabling, End, Walk};
+use std::test::Fail;
+use topology_stack::read_tree;
+
+// a line of three whose root is its second node; both ends contend
+#[test]
+fn of_equal_reach_the_highest_id(rt: HostRuntime) -> Result<(), Fail> {
+    let tree = read_tree(rt.alloc(), &[0x807f_8894, 0x817f_8894, 0x827f_80f4])?;
+    let wanted = RootPlan {
+        root_id: 1,
+        hops: 2,
+        gap: 7,
+        far: 2,
+        packet: 0x01c7_0000,
+    };
+    assert_eq!(rt; choose(&tree), Some(wanted));
+    Ok(())
+}
+
+// a line of 20 whose root is its last node; all contend, and two are in the middle
+#[test]
+fn middle_of_a_line(rt: HostRuntime) -> Result<(), Fail> {
+    let mut list = [0; 20];
+    for (id, quad) in list.iter_mut().enumerate() {
+        let ports = match id {
+            0 => 0x94,
+            19 => 0xd4,
+            _ => 0xe4,
+        };
+        *quad = 0x807f_8800 + 0x0100_0000 * id as u32 + ports;
+    }
+    let tree = read_tree(rt.alloc(), &list)?;
+    let wanted = RootPlan {
+        root_id: 10,
+        hops: 19,
+        gap: 63,
+        far: 10,
+        packet: 0x0aff_0000,
+    };
+    assert_eq!(rt; choose(&tree), Some(wanted));
+    Ok(())
+}
+
+// The root of each list, or none, and the number of cables from it to the farthest node.
+#[test]
+fn who_may_be_root(rt: HostRuntime) -> Result<(), Fail> {
+    let cases: [(&[u32], Option<(u8, u8)>); 5] = [
+        // three leaves on a hub; all contend
+        (
+            &[0x807f_8894, 0x817f_8894, 0x827f_8894, 0x837f_88fc],
+            Some((3, 1)),
+        ),
+        // the hub doesn't contend
+        (
+            &[0x807f_8894, 0x817f_8894, 0x827f_8894, 0x837f_80fc],
+            Some((2, 2)),
+        ),
+        // its link isn't active
+        (
+            &[0x807f_8894, 0x817f_8894, 0x827f_8094, 0x833f_88fc],
+            Some((1, 2)),
+        ),
+        // a line of five whose first two contend
+        (
+            &[
+                0x807f_8894,
+                0x817f_88e4,
+                0x827f_80e4,
+                0x837f_80e4,
+                0x847f_80d4,
+            ],
+            Some((1, 3)),
+        ),
+        // nobody contends
+        (&[0x807f_8094, 0x817f_80d4], None),
+    ];
+    for (list, wanted) in cases {
+        let tree = read_tree(rt.alloc(), list)?;
+        let plan = choose(&tree);
+        assert_eq!(rt; plan.map(|plan| (plan.root_id, plan.far)), wanted);
+    }
+    Ok(())
+}
+
+// two cables between three nodes, of which the second was root
+#[test]
+fn order_after_the_plan(rt: HostRuntime) -> Result<(), Fail> {
+    let mut cabling = Cabling::new(rt.alloc(), &[3, 3, 3])?;
+    let first = cabling.plug(End { node: 0, port: 0 }, End { node: 1, port: 0 });
+    let second = cabling.plug(End { node: 1, port: 1 }, End { node: 2, port: 0 });
+    assert!(rt; first.is_ok() && second.is_ok() && cabling.nodes() == 3);
+    let mut order = Walk::new();
+    order.push(0);
+    order.push(2);
+    order.push(1);
+    let plan = RootPlan {
+        root_id: 1,
+        hops: 2,
+        gap: 7,
+        far: 2,
+        packet: 0x01c7_0000,
+    };
+    match expect(&cabling, &order, &plan) {
+        Ok(walk) => assert_eq!(rt; walk.as_slice(), [0, 1, 2].as_slice()),
+        Err(_) => assert!(rt; false, "there is no loop"),
+    }
+    Ok(())
+}

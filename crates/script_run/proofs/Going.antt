@@ -1,0 +1,91 @@
+-- The lines that were taken, and those that are left.
+use Rattle.std.proofs.Common.{◌≡◌, ◌⊎◌, inl, inr, ℕ, ◌+◌, List, [], ◌∷◌, ◌++◌, refl, sym, ap, subst, ◌∙◌, append_assoc, length, arith}
+use Rattle.std.specs.Prelude.{Option, None, Some, Result, Ok, Err}
+use Rattle.script_run.specs.declared.kind.Kind.{Kind}
+use Rattle.script_run.specs.declared.kind.LineStop.{LineStop}
+use Rattle.script_run.specs.declared.kind.LineStop.TheVariants.{Fault, Memory}
+use Rattle.script_run.specs.declared.kind.ScriptStop.{ScriptStop}
+use Rattle.script_run.specs.declared.kind.ScriptStop.TheVariants as script
+use Rattle.script_run.specs.declared.command.Command.{Command}
+use Rattle.script_run.specs.Line.{Reads}
+use Rattle.script_run.specs.Step.{LineAnswer, Settles}
+use Rattle.script_run.specs.Script.{Stage, StageAnswer, Told, bus_of, delay_of, behind, fault_at, script_lines, Follows, Tells, IsTold}
+use Rattle.script_run.specs.OneTold.{ScriptsTellOneThing}
+use Rattle.script_run.specs.Answered.{IsRefused, IsOnlyFault}
+use Rattle.script_run.specs.codings.Running.{Stops}
+use Rattle.script_run.specs.codings.Going.{LineLeads, LineFails, IfFault, Leaves, stop_at}
+
+behind-behind : (one other : List ℕ) (told : Told) → behind one (behind other told) ≡ behind (one ++ other) told
+behind-behind one other (Ok text) = ap Ok (sym (append_assoc one other text))
+behind-behind one other (Err fault) = refl
+
+-- a line is taken, and the rest tells the rest
+one-more :
+    (number : ℕ) (line : List ℕ) (lines : List (List ℕ)) (stage next : Stage) (text : List ℕ) (told : Told) →
+    LineLeads stage line next text → Tells (number + 1) lines next told → Tells number (line ∷ lines) stage (behind text told)
+one-more number line lines stage next text told (inl skipped) rest =
+    (Ok None, skipped.0, subst (λ (t : Told). Tells (number + 1) lines stage t) same (subst (λ (s : Stage). Tells (number + 1) lines s told) skipped.1 rest))
+  where
+    nothing-before : (t : Told) → t ≡ behind [] t
+    nothing-before (Ok t) = refl
+    nothing-before (Err f) = refl
+    same : told ≡ behind text told
+    same = nothing-before told ∙ ap (λ (l : List ℕ). behind l told) (sym skipped.2)
+one-more number line lines stage next text told (inr done) rest =
+    (Ok (Some done.0), done.1, (Ok (next, text), done.2, (told, rest, refl)))
+
+pub leaves-more :
+    (bytes out more : List ℕ) (number : ℕ) (line : List ℕ) (lines : List (List ℕ)) (stage next : Stage) →
+    LineLeads stage line next more → Leaves bytes out number (line ∷ lines) stage → Leaves bytes (out ++ more) (number + 1) lines next
+leaves-more bytes out more number line lines stage next leads leaves told rest =
+    subst (IsTold bytes) (behind-behind out more told)
+    (leaves (behind more told) (one-more number line lines stage next more told leads rest))
+
+-- a line is at fault, and so is the script
+fails : (number : ℕ) (line : List ℕ) (lines : List (List ℕ)) (stage : Stage) (kind : Kind) →
+    LineFails stage line kind → Tells number (line ∷ lines) stage (Err (fault_at number kind))
+fails number line lines stage kind (inl wrong) = (Err kind, wrong, refl)
+fails number line lines stage kind (inr done) = (Ok (Some done.0), done.1, (Err kind, done.2, refl))
+
+pub script-fails :
+    (bytes out : List ℕ) (number : ℕ) (line : List ℕ) (lines : List (List ℕ)) (stage : Stage) (kind : Kind) →
+    LineFails stage line kind → Leaves bytes out number (line ∷ lines) stage → IsTold bytes (Err (fault_at number kind))
+script-fails bytes out number line lines stage kind wrong leaves =
+    leaves (Err (fault_at number kind)) (fails number line lines stage kind wrong)
+
+-- the bus settles at the end, and the script has told its text
+pub script-ends :
+    (bytes out text : List ℕ) (number : ℕ) (stage : Stage) (r : LineAnswer) → Leaves bytes out number [] stage →
+    Settles (bus_of stage) r → (bus : _) → r ≡ Ok (bus, text) → IsTold bytes (Ok (out ++ text))
+script-ends bytes out text number stage r leaves settles bus is =
+    leaves (Ok text) (Ok (bus, text), subst (Settles (bus_of stage)) is settles, refl)
+
+pub end-fails :
+    (bytes out : List ℕ) (number : ℕ) (stage : Stage) (kind : Kind) → Leaves bytes out number [] stage →
+    Settles (bus_of stage) (Err kind) → IsTold bytes (Err (fault_at number kind))
+end-fails bytes out number stage kind leaves settles = leaves (Err (fault_at number kind)) (Err kind, settles, refl)
+
+-- ---- what is answered
+
+pub refused-line :
+    (bytes out : List ℕ) (number : ℕ) (line : List ℕ) (lines : List (List ℕ)) (stage : Stage) (stop : LineStop) (r : ScriptStop) →
+    r ≡ stop_at number stop → IfFault (LineFails stage line) stop → Leaves bytes out number (line ∷ lines) stage → IsRefused bytes r
+refused-line bytes out number line lines stage (Fault kind) r is wrong leaves =
+    subst (IsRefused bytes) (sym is) (script-fails bytes out number line lines stage kind wrong leaves)
+refused-line bytes out number line lines stage (Memory e) r is wrong leaves = subst (IsRefused bytes) (sym is) tt
+
+pub refused-end :
+    (bytes out : List ℕ) (number : ℕ) (stage : Stage) (stop : LineStop) (r : ScriptStop) →
+    r ≡ stop_at number stop → Stops (Settles (bus_of stage)) stop → Leaves bytes out number [] stage → IsRefused bytes r
+refused-end bytes out number stage (Fault kind) r is wrong leaves =
+    subst (IsRefused bytes) (sym is) (end-fails bytes out number stage kind leaves wrong)
+refused-end bytes out number stage (Memory e) r is wrong leaves = subst (IsRefused bytes) (sym is) tt
+
+pub only-fault :
+    ScriptsTellOneThing → (bytes : List ℕ) (r : ScriptStop) → IsRefused bytes r → (told : Told) → IsTold bytes told → IsOnlyFault told r
+only-fault one bytes (script.Fault fault) is told other = one bytes told (Err fault) other is
+only-fault one bytes (script.Memory e) is told other = tt
+
+pub none-left : (rest : List ℕ) → length rest ≡ 0 → script_lines rest ≡ []
+none-left [] e = refl
+none-left (c ∷ cs) e = absurd (omega (arith, e))

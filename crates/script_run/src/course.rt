@@ -1,0 +1,74 @@
+//! A script that is gone through, a line at a time.
+ghost use Rattle.std.specs.Prelude.{◌≡◌, ◌++◌, ℕ, List, Ok, IfOk, IfErr};
+ghost use Rattle.script_run.specs.Step.{Settles};
+ghost use Rattle.script_run.specs.Bus.{Bus};
+ghost use Rattle.script_run.specs.Script.{fresh, bus_of};
+ghost use Rattle.script_run.specs.codings.Running.{Stops};
+ghost use Rattle.script_run.specs.codings.Going.{LineLeads, LineFails, IfFault};
+
+use crate::kind::LineStop;
+use crate::line::parse_line;
+use crate::run::Stage;
+use cable_world::WorldRun;
+use phy_machine::AnyMachine;
+use std::alloc::Global;
+use std::marker::Model;
+use world_agenda::AgendaWorld;
+
+/// A script that is gone through, between two of its lines. In a contract it is its stage.
+#[derive(Drop)]
+pub(crate) struct Course {
+    stage: Stage<AgendaWorld<AnyMachine>>,
+}
+
+impl Model for Course {
+    ghost use Rattle.script_run.specs.Script.{Stage};
+    ghost use Rattle.script_run.specs.codings.Going.{stage_now, IsSoundStage};
+
+    ghost Value = { Stage };
+
+    ghost view = { λ c. stage_now ⟦<AgendaWorld<AnyMachine> as WorldRun>⟧.world c.stage };
+
+    ghost invariant = { λ c. IsSoundStage ⟦<AgendaWorld<AnyMachine> as WorldRun>⟧.world
+        ⟦<AgendaWorld<AnyMachine> as WorldRun>⟧.is_spent c.stage };
+}
+
+impl Course {
+    /// Before the first line.
+    pub fn new() -> Course
+        ensures { result ≡ fresh }
+    {
+        Course {
+            stage: Stage::Fresh,
+        }
+    }
+
+    /// A line is taken, and what it prints is appended.
+    pub fn take(
+        self,
+        alloc: Global,
+        line: &[u8],
+        out: &mut Vec<u8>,
+    ) -> Result<Course, LineStop>
+        ensures done { IfOk result (λ next. (text : List ℕ)
+            × LineLeads self line.now next text × (out.new.items ≡ out.old.items ++ text)) }
+        ensures stop { IfErr result (IfFault (LineFails self line.now)) }
+    {
+        let d = self.stage.delay();
+        let Some(command) = parse_line(alloc, line, d)? else {
+            return Ok(self);
+        };
+        let (stage, text) = self.stage.follow(alloc, d, command)?;
+        out.extend_from_slice(text.as_slice())?;
+        Ok(Course { stage })
+    }
+
+    /// The report of the `settle` behind the last line.
+    pub fn last_report(self, alloc: Global) -> Result<Vec<u8>, LineStop>
+        ensures done { IfOk result (λ text. (bus : Bus)
+            × Settles (bus_of self) (Ok (bus, text.items))) }
+        ensures stop { IfErr result (Stops (Settles (bus_of self))) }
+    {
+        self.stage.bus(alloc)?.last_report(alloc)
+    }
+}

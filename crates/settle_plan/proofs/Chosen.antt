@@ -1,0 +1,61 @@
+-- A plan for the tree that a list tells suits the component that has the list.
+use Rattle.std.proofs.Common.{◌≡◌, ℕ, ◌^◌, ◌<◌, length, slice_get, ◌∙◌, ap, subst, arith, refl}
+use Rattle.std.proofs.lemmas.List.{length-map}
+use Rattle.std.proofs.lemmas.Option.{slice_get_within}
+use Rattle.topology_stack.specs.Tree.{Tree, walk, IsBusTree}
+use Rattle.topology_stack.specs.OneAnswer.{NoListHasTwoTrees}
+use Rattle.cabling.specs.Component.{IsComponent}
+use Rattle.cabling.specs.Labels.{labels}
+use Rattle.cabling.specs.Sees.{numbers}
+use Rattle.cabling.specs.codings.Visits.{visits, at_root}
+use Rattle.cabling.specs.codings.Shown.{shown_node}
+use Rattle.cabling.proofs.Shown.{walk_seen}
+use Rattle.cabling.proofs.Small.{Loopless}
+use Rattle.cabling.proofs.Waiting.{length-visits}
+use Rattle.cabling.proofs.Whole.{shared, seen_loopless}
+use Rattle.cable_world.specs.World.{CableWorld}
+use Rattle.cable_world.specs.Lawful.{IsLawful}
+use Rattle.cable_world.specs.Outcome.{IsTree, attrs_now}
+use Rattle.cable_world.proofs.Options.{some-of}
+use Rattle.bus_manager.specs.Hops.{IsHops}
+use Rattle.root_plan.proofs.Choosing.{candidate_within}
+use Rattle.settle_plan.specs.Planned.{PlansSuit}
+use Rattle.settle_plan.proofs.Suited.{same-component, same-tree, bus-of}
+
+pub suits :
+    NoListHasTwoTrees → (w : CableWorld) → IsLawful w → (from whole : ℕ) → from < length w.cabling →
+    IsComponent w.cabling from whole → whole < 2 ^ 63 → PlansSuit w from
+suits one w l from whole there component small set root stands told plan own is bus same plans = record {
+  set = set;
+  component = own;
+  root = root;
+  tree = stands;
+  is = is;
+  place = omega (arith, candidate_within told plan.root_id plans.candidate, ap (λ (t : Tree). length (walk t)) equal, counts);
+  hops = plan.hops;
+  are_hops = subst (λ (t : Tree). IsHops t plan.hops) equal plans.hops;
+  gap = plans.gap;
+}
+  where
+    tree-there : IsTree w whole root stands
+    tree-there = same-tree w set whole root stands (same-component w.cabling from set whole own component) is
+
+    root-there : root < length w.cabling
+    root-there =
+        let x = some-of (slice_get w.nodes root) _ (is.ids root is.holds_root) in
+        omega (arith, slice_get_within w.nodes root x.0 x.1, l.well_formed.count)
+
+    loopless : Loopless w.cabling root whole
+    loopless = seen_loopless w.cabling (labels (attrs_now w)) root whole stands l.well_formed.cabling root-there small (shared w.cabling from root whole l.well_formed.cabling component tree-there.holds_root) is.seen
+
+    counts : length (walk stands) ≡ length (numbers w.cabling root stands)
+    counts =
+        ap length (walk_seen w.cabling (labels (attrs_now w)) (at_root root) stands l.well_formed.cabling root-there is.seen)
+        ∙ length-map (visits w.cabling (at_root root) stands) (shown_node w.cabling (labels (attrs_now w)))
+        ∙ length-visits w.cabling (at_root root) stands
+
+    stands-bus : IsBusTree stands
+    stands-bus = bus-of w.cabling w l.well_formed refl root whole loopless stands is.seen
+
+    equal : told ≡ stands
+    equal = one told stands bus stands-bus same

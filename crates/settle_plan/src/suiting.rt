@@ -1,0 +1,18 @@
+//! Which plans suit a component.
+ghost use Rattle.std.specs.Prelude.{◌<◌, IsFalse, length};
+ghost use Rattle.settle_plan.specs.Planned.{PlansSuit};
+
+use cable_world::WorldRun;
+use topology_stack::one_tree;
+
+/// A law: where the component of a node, which exists, stands as a tree, a plan that was chosen for
+/// the tree that its list tells suits it. The world isn't spent.
+pub fn plans_suit<W: WorldRun>(world: &W, from: u8)
+    requires sound { IsFalse (W.is_spent world.now) }
+    requires there { from < length (W.world world.now).cabling }
+    ensures { PlansSuit (W.world world.now) from }
+{
+    one_tree();
+    // the component, whose nodes are at most 63
+    let _component = world.cabling().component(from);
+}
