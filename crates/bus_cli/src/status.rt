@@ -1,4 +1,4 @@
-//! The statuses of the program.
+//! The statuses of the program. What is said of the input holds of the forms that read one.
 
 /// The input was read to its end and is valid, and its whole text was written.
 pub const VALID: u8 = 0;

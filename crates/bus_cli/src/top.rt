@@ -32,7 +32,11 @@ use std::alloc::Global;
 ///
 /// The words are judged first, without memory; then the input is read to its end; then it is
 /// judged; and only then is anything written. What is said of the input holds where the source
-/// tells its bytes.
+/// tells its bytes. With `make` nothing is read, and the script that is made is the input.
+///
+/// With `run`, the text at status 0 is what the script tells over the one run of its bus. In each
+/// report of it, each component is a loop with its core in configuration timeout, or a cable whose
+/// ends contend and drew the same coins, or a tree whose list every node has.
 pub fn bus_main<S: Source, K: Sink>(
     alloc: Global,
     words: &[String],
