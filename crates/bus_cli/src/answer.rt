@@ -106,6 +106,7 @@ pub(crate) fn read_answer<S: Source>(
         Answers words bytes (status_with answer) (text_with answer)))) }
     ensures end { OnOk result (IsRead form → IsAtEnd (S.left source.new)) }
     ensures unread { (¬ IsRead form) → source.new ≡ source.old }
+    ensures unfailing { (¬ IsRead form) → IsOkUnless result (ReadStop.Memory alloc_error) }
 
     // When each stop comes.
     ensures fault { IsErrOf result ReadStop.ReadFault →

@@ -57,7 +57,8 @@ pub fn bus_main<S: Source, K: Sink>(
         (text : List ℕ) × IsTold bytes (Ok text)
         × Appends (K.written sink.old) (K.written sink.new) text) }
 
-    // With `make` nothing is read, and the answer is that of the words alone.
+    // With `make` no fault of reading comes, and the answer is that of the words alone.
+    ensures unfailing { AsksMake words.now → (result ≢ 3) × (result ≢ 6) }
     ensures make { (result ≡ 0) ⊎ (result ≡ 1) → AsksMake words.now → (text : List ℕ)
         × Answers words.now [] result text
         × Appends (K.written sink.old) (K.written sink.new) text }

@@ -29,6 +29,20 @@ returns-in-Err-Memory-clause-unread g c = λ which.
     let asks = (c.in-Some.ensures c.in-Some.form).0 refl in
     c.read_answer.ensures.unread (is_unread c.args.words.now c.in-Some.form asks (or_else _ 5 2 (λ e. cc) which))
 
+pub returns-in-Err-ReadFault-clause-unfailing : goal.returns-in-Err-ReadFault-clause-unfailing
+returns-in-Err-ReadFault-clause-unfailing g c = λ make.
+    let asks = (c.in-Some.ensures c.in-Some.form).0 refl in
+    let want = c.in-Err-ReadFault.ensures.unfailing (is_unread c.args.words.now c.in-Some.form asks make) in
+    let fault = c.in-Err-ReadFault.field-0-is in
+    absurd cc
+
+pub returns-in-Err-TooLong-clause-unfailing : goal.returns-in-Err-TooLong-clause-unfailing
+returns-in-Err-TooLong-clause-unfailing g c = λ make.
+    let asks = (c.in-Some.ensures c.in-Some.form).0 refl in
+    let want = c.in-Err-TooLong.ensures.unfailing (is_unread c.args.words.now c.in-Some.form asks make) in
+    let fault = c.in-Err-TooLong.field-0-is in
+    absurd cc
+
 pub returns-in_default-clause-exact : goal.returns-in_default-clause-exact
 returns-in_default-clause-exact g c = no_form_exact c.args.words.now (g.S.Source.left c.args.source.now) (λ is. absurd (let e = (c.in_default.ensures is.0).1 is.1 in cc))
 
