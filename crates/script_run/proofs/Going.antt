@@ -29,6 +29,7 @@ one-more number line lines stage next text told (inl skipped) rest =
     nothing-before : (t : Told) → t ≡ behind [] t
     nothing-before (Ok t) = refl
     nothing-before (Err f) = refl
+
     same : told ≡ behind text told
     same = nothing-before told ∙ ap (λ (l : List ℕ). behind l told) (sym skipped.2)
 one-more number line lines stage next text told (inr done) rest =

@@ -120,17 +120,17 @@ abbrev pub Follows : Stage → Command → StageAnswer → Type 0
 Follows stage
     (Node name ports speed link contender force power gap hold short long word len seed packed)
     answer = Declares (draft_of stage) name (λ d number.
-        new_node
-        (record {
-          link = link;
-          gap = gap;
-          speed = speed;
-          delay = 0;
-          contender = contender;
-          power = power;
-          initiated = false;
-        })
-        ports force (times_of d hold short long) (coins_of number word len seed)) answer
+    new_node
+    (record {
+      link = link;
+      gap = gap;
+      speed = speed;
+      delay = 0;
+      contender = contender;
+      power = power;
+      initiated = false;
+    })
+    ports force (times_of d hold short long) (coins_of number word len seed)) answer
 Follows stage (Delay delay) answer = Delays stage delay answer
 Follows stage command answer = Runs stage command answer
 

@@ -12,8 +12,8 @@ ghost use Rattle.script_run.specs.codings.Running.{notes_now, bus_now, IsSound, 
 use crate::bank::Bank;
 use crate::kind::{Kind, LineStop};
 use crate::laws::reports_can_be_shown;
-use crate::table::NameTable;
 use crate::report::report_text;
+use crate::table::NameTable;
 use cable_world::{Act, WorldRun};
 use cabling::End;
 use resource_manager::Seen;

@@ -44,12 +44,7 @@ impl Course {
     }
 
     /// A line is taken, and what it prints is appended.
-    pub fn take(
-        self,
-        alloc: Global,
-        line: &[u8],
-        out: &mut Vec<u8>,
-    ) -> Result<Course, LineStop>
+    pub fn take(self, alloc: Global, line: &[u8], out: &mut Vec<u8>) -> Result<Course, LineStop>
         ensures done { IfOk result (λ next. (text : List ℕ)
             × LineLeads self line.now next text × (out.new.items ≡ out.old.items ++ text)) }
         ensures stop { IfErr result (IfFault (LineFails self line.now)) }

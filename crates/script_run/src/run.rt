@@ -118,10 +118,7 @@ impl Stage<AgendaWorld<AnyMachine>> {
             ⟦<AgendaWorld<AnyMachine> as WorldRun>⟧.is_spent r.0) }
     {
         match self {
-            Stage::Fresh => Ok((
-                Stage::Declaring(Draft::new(alloc, delay)),
-                Vec::new(alloc),
-            )),
+            Stage::Fresh => Ok((Stage::Declaring(Draft::new(alloc, delay)), Vec::new(alloc))),
             _ => Err(LineStop::Fault(Kind::Late)),
         }
     }

@@ -156,12 +156,7 @@ impl<W: WorldRun> Bus<W> {
     }
 
     /// A command that asks the manager of a tree.
-    fn question(
-        &mut self,
-        alloc: Global,
-        d: u8,
-        command: &Command,
-    ) -> Result<Vec<u8>, LineStop>
+    fn question(&mut self, alloc: Global, d: u8, command: &Command) -> Result<Vec<u8>, LineStop>
         requires sound { IsSound W.world W.is_spent self.old }
         requires range { IsInRange d command.now }
         requires asks { AsksManager command.now }
