@@ -7,7 +7,7 @@ use Rattle.bus_cli.specs.declared.fault.CaptureFault.TheVariants.{BadLength, Bad
 use Rattle.config_rom.specs.declared.fault.RomFault.{RomFault}
 use Rattle.config_rom.specs.declared.fault.RomFault.TheVariants.{RomLength, RomTooLong, RomEmpty, NoInfo, Minimal, RomCut, BusName, Outside, SelfTarget}
 use Rattle.script_run.specs.declared.kind.Kind.{Kind}
-use Rattle.script_run.specs.declared.kind.Kind.TheVariants.{Word, Number, Name, Twice, Late, TooManyNodes, NoNode, NoPort, InUse, SameNode, NotPlugged, Range, NotSettled, NoManager, TooManyTurns, TooManyMaps}
+use Rattle.script_run.specs.declared.kind.Kind.TheVariants.{Word, Number, Name, Twice, Late, TooManyNodes, NoNode, NoPort, InUse, SameNode, NotPlugged, Range, NotSettled, NoManager, NotManager, TooManyTurns, TooManyMaps}
 use Rattle.script_run.specs.declared.kind.ScriptFault.{ScriptFault}
 use Rattle.bus_cli.specs.declared.line.Counts.{Counts}
 
@@ -76,6 +76,7 @@ kind_word NotPlugged = codes "NotPlugged"
 kind_word Range = codes "Range"
 kind_word NotSettled = codes "NotSettled"
 kind_word NoManager = codes "NoManager"
+kind_word NotManager = codes "NotManager"
 kind_word TooManyTurns = codes "TooManyTurns"
 kind_word TooManyMaps = codes "TooManyMaps"
 

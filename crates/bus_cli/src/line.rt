@@ -199,6 +199,7 @@ fn kind_word(kind: Kind) -> &'static [u8]
         Kind::Range => b"Range",
         Kind::NotSettled => b"NotSettled",
         Kind::NoManager => b"NoManager",
+        Kind::NotManager => b"NotManager",
         Kind::TooManyTurns => b"TooManyTurns",
         Kind::TooManyMaps => b"TooManyMaps",
     }

@@ -12,6 +12,9 @@ pub mod NamedReports
 pub mod OneText
 pub mod Turns
 pub mod NamedTree
+pub mod Standing
+pub mod Planning
+pub mod PlansAsked
 pub mod BeforeAnything
 pub mod told
 pub mod ScriptLines

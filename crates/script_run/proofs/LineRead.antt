@@ -7,7 +7,7 @@ use Rattle.script_run.specs.declared.kind.Kind.{Kind}
 use Rattle.script_run.specs.declared.kind.Kind.TheVariants.{Word}
 use Rattle.script_run.specs.Words.{words_of}
 use Rattle.script_run.specs.Shape.{fit}
-use Rattle.script_run.specs.Form.{Form, plug, pull, reset, turn, hold, settle, config_root, config_gap, config_both, csr_read, csr_write, csr_lock, look, allocate, release, manager, maps, delay, forms, shapes}
+use Rattle.script_run.specs.Form.{Form, plug, pull, reset, turn, hold, settle, config_root, config_gap, config_both, csr_read, csr_write, csr_lock, look, allocate, release, manager, plan, maps, delay, forms, shapes}
 use Rattle.script_run.specs.Node.{has_node_form}
 use Rattle.script_run.specs.Line.{LineForm, node, other, has_form, wrong_word, meaning, IsWrong, HasNoForm, is_skipped, is_permitted_line, IsNoLine, IsRead, Reads}
 use Rattle.script_run.specs.codings.Reading.{unless, read_words, in_line, read_line}
@@ -38,8 +38,9 @@ none_at words h look = h.1.1.1.1.1.1.1.1.1.1.1.1.0
 none_at words h allocate = h.1.1.1.1.1.1.1.1.1.1.1.1.1.0
 none_at words h release = h.1.1.1.1.1.1.1.1.1.1.1.1.1.1.0
 none_at words h manager = h.1.1.1.1.1.1.1.1.1.1.1.1.1.1.1.0
-none_at words h maps = h.1.1.1.1.1.1.1.1.1.1.1.1.1.1.1.1.0
-none_at words h delay = h.1.1.1.1.1.1.1.1.1.1.1.1.1.1.1.1.1.0
+none_at words h plan = h.1.1.1.1.1.1.1.1.1.1.1.1.1.1.1.1.0
+none_at words h maps = h.1.1.1.1.1.1.1.1.1.1.1.1.1.1.1.1.1.0
+none_at words h delay = h.1.1.1.1.1.1.1.1.1.1.1.1.1.1.1.1.1.1.0
 
 some_of : (forms : List Form) (words : List (List ℕ))
     → ((form : Form) × (fit (shapes form) words ≡ true)) ⊎ NoneOf forms words

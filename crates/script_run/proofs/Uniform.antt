@@ -7,7 +7,7 @@ use Rattle.script_run.specs.declared.command.Command.{Command}
 use Rattle.script_run.specs.declared.kind.Kind.{Kind}
 use Rattle.script_run.specs.declared.kind.Kind.TheVariants.{Word}
 use Rattle.script_run.specs.Shape.{Shape, the, a_name, a_number, a_given, any_number, fit, first_wrong}
-use Rattle.script_run.specs.Form.{Form, plug, pull, reset, turn, hold, settle, config_root, config_gap, config_both, csr_read, csr_write, csr_lock, look, allocate, release, manager, maps, delay, forms, shapes, command_of}
+use Rattle.script_run.specs.Form.{Form, plug, pull, reset, turn, hold, settle, config_root, config_gap, config_both, csr_read, csr_write, csr_lock, look, allocate, release, manager, plan, maps, delay, forms, shapes, command_of}
 use Rattle.script_run.specs.Node.{are_pairs, has_node_form, wrong_node, node_command}
 use Rattle.script_run.specs.Line.{LineForm, node, other, has_form, wrong_word, meaning, HasNoForm}
 use Rattle.script_run.specs.codings.Reading.{unless, read_by, read_node, read_words}
@@ -70,6 +70,7 @@ verb look = codes "look"
 verb allocate = codes "allocate"
 verb release = codes "release"
 verb manager = codes "manager"
+verb plan = codes "plan"
 verb maps = codes "maps"
 verb delay = codes "delay"
 
@@ -91,6 +92,7 @@ group look = look ∷ []
 group allocate = allocate ∷ []
 group release = release ∷ []
 group manager = manager ∷ []
+group plan = plan ∷ []
 group maps = maps ∷ []
 group delay = delay ∷ []
 
@@ -112,6 +114,7 @@ grouped look args = refl
 grouped allocate args = refl
 grouped release args = refl
 grouped manager args = refl
+grouped plan args = refl
 grouped maps args = refl
 grouped delay args = refl
 
@@ -132,6 +135,7 @@ not_node_verb look = refl
 not_node_verb allocate = refl
 not_node_verb release = refl
 not_node_verb manager = refl
+not_node_verb plan = refl
 not_node_verb maps = refl
 not_node_verb delay = refl
 
@@ -156,6 +160,7 @@ begins look word args h = begins_so word _ _ h
 begins allocate word args h = begins_so word _ _ h
 begins release word args h = begins_so word _ _ h
 begins manager word args h = begins_so word _ _ h
+begins plan word args h = begins_so word _ _ h
 begins maps word args h = begins_so word _ _ h
 begins delay word args h = begins_so word _ _ h
 
@@ -250,6 +255,7 @@ in_group look args h = taken look [] (codes "look" ∷ args) h
 in_group allocate args h = taken allocate [] (codes "allocate" ∷ args) h
 in_group release args h = taken release [] (codes "release" ∷ args) h
 in_group manager args h = taken manager [] (codes "manager" ∷ args) h
+in_group plan args h = taken plan [] (codes "plan" ∷ args) h
 in_group maps args h = taken maps [] (codes "maps" ∷ args) h
 in_group delay args h = taken delay [] (codes "delay" ∷ args) h
 
@@ -270,6 +276,7 @@ unfit look = refl
 unfit allocate = refl
 unfit release = refl
 unfit manager = refl
+unfit plan = refl
 unfit maps = refl
 unfit delay = refl
 

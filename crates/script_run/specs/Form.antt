@@ -1,7 +1,7 @@
 -- The lines of a script, but for those that declare nodes.
 use Rattle.std.specs.Prelude.{ℕ, List, [], ◌∷◌, codes, slice_get, unwrap_or, Some, None}
 use Rattle.script_run.specs.declared.command.Command.{Command}
-use Rattle.script_run.specs.declared.command.Command.TheVariants.{Plug, Pull, Reset, Turn, Hold, Settle, Config, CsrRead, CsrWrite, CsrLock, Look, Allocate, Release, Manager, Maps, Delay}
+use Rattle.script_run.specs.declared.command.Command.TheVariants.{Plug, Pull, Reset, Turn, Hold, Settle, Config, CsrRead, CsrWrite, CsrLock, Look, Allocate, Release, Manager, Plan, Maps, Delay}
 use Rattle.script_run.specs.Number.{number_of}
 use Rattle.script_run.specs.Shape.{Shape, the, a_name, a_number, a_given, any_number}
 
@@ -22,6 +22,7 @@ pub data Form : Type 0 where
   allocate : Form
   release : Form
   manager : Form
+  plan : Form
   maps : Form
   delay : Form
 
@@ -29,7 +30,7 @@ pub data Form : Type 0 where
 abbrev pub forms : List Form
 forms =
     plug ∷ pull ∷ reset ∷ turn ∷ hold ∷ settle ∷ config_root ∷ config_gap ∷ config_both ∷ csr_read
-    ∷ csr_write ∷ csr_lock ∷ look ∷ allocate ∷ release ∷ manager ∷ maps ∷ delay ∷ []
+    ∷ csr_write ∷ csr_lock ∷ look ∷ allocate ∷ release ∷ manager ∷ plan ∷ maps ∷ delay ∷ []
 
 -- the words of each form
 abbrev pub shapes : Form → List Shape
@@ -52,6 +53,7 @@ shapes look = the (codes "look") ∷ a_name ∷ []
 shapes allocate = the (codes "allocate") ∷ a_name ∷ a_number 0 63 ∷ a_number 0 4915 ∷ []
 shapes release = the (codes "release") ∷ a_name ∷ a_number 0 63 ∷ a_number 0 4915 ∷ []
 shapes manager = the (codes "manager") ∷ a_name ∷ []
+shapes plan = the (codes "plan") ∷ a_name ∷ []
 shapes maps = the (codes "maps") ∷ a_name ∷ []
 shapes delay = the (codes "delay") ∷ a_number 1 16 ∷ []
 
@@ -82,5 +84,6 @@ command_of look ws = Look (word_at ws 1)
 command_of allocate ws = Allocate (word_at ws 1) (number_at ws 2) (number_at ws 3)
 command_of release ws = Release (word_at ws 1) (number_at ws 2) (number_at ws 3)
 command_of manager ws = Manager (word_at ws 1)
+command_of plan ws = Plan (word_at ws 1)
 command_of maps ws = Maps (word_at ws 1)
 command_of delay ws = Delay (number_at ws 1)

@@ -16,6 +16,7 @@ pub mod Summary
 pub mod Maps
 pub mod Bus
 pub mod CommandText
+pub mod Plan
 pub mod Step
 pub mod Script
 pub mod Answered

@@ -1,12 +1,13 @@
 -- What a command of a script comes to on its bus: the bus then and the text that it prints, or the
 -- fault of its line.
-use Rattle.std.specs.Prelude.{◌≡◌, ℕ, ◌+◌, nat_lt, ◌==◌, is_some, length, replicate, List, [], ◌∷◌, ◌++◌, codes, Option, None, Some, unwrap_or, slice_index_or, position, Result, Ok, Err, IsSomeAnd, MatchBool, if◌then◌else◌}
+use Rattle.std.specs.Prelude.{◌≡◌, ℕ, ◌+◌, nat_lt, ◌==◌, is_some, length, replicate, List, [], ◌∷◌, ◌++◌, codes, Option, None, Some, unwrap_or, slice_index_or, position, Result, Ok, Err, Any, IfSome, IsSomeAnd, MatchBool, if◌then◌else◌}
 use Rattle.std.specs.Option.{option_map}
 use Rattle.topology_stack.specs.Tree.{Tree, IsBusTree, emits}
 use Rattle.topology_stack.specs.Elect.{elected}
 use Rattle.cabling.specs.declared.cable.End.{End}
 use Rattle.cabling.specs.declared.cable.CableFault.{CableFault}
 use Rattle.cabling.specs.declared.cable.CableFault.TheVariants as cable
+use Rattle.cabling.specs.Walk.{IsWalk}
 use Rattle.cable_world.specs.declared.act.Act.{Act}
 use Rattle.cable_world.specs.declared.act.Act.TheVariants as act
 use Rattle.cable_world.specs.World.{CableWorld, NodeNumber}
@@ -19,15 +20,18 @@ use Rattle.resource_manager.specs.Channel.{seen_of}
 use Rattle.resource_manager.specs.declared.access.Answer.{Answer}
 use Rattle.resource_manager.specs.Access.{answer_of}
 use Rattle.bus_manager.specs.Election.{lock_for}
+use Rattle.root_plan.specs.declared.choice.RootPlan.{RootPlan}
+use Rattle.settle_plan.specs.Planned.{IsTreeFrom, HaveGap}
 use Rattle.settle.specs.declared.report.Report.{Report}
 use Rattle.settle.specs.Report.{IsReport, quiet_turns_of}
 use Rattle.script_run.specs.declared.kind.Kind.{Kind}
-use Rattle.script_run.specs.declared.kind.Kind.TheVariants.{Word, Late, NoNode, NoPort, InUse, SameNode, NotPlugged, NotSettled, NoManager, TooManyTurns, TooManyMaps}
+use Rattle.script_run.specs.declared.kind.Kind.TheVariants.{Word, Late, NoNode, NoPort, InUse, SameNode, NotPlugged, NotSettled, NoManager, NotManager, TooManyTurns, TooManyMaps}
 use Rattle.script_run.specs.declared.command.Command.{Command}
-use Rattle.script_run.specs.declared.command.Command.TheVariants.{Node, Plug, Pull, Reset, Turn, Hold, Settle, Config, CsrRead, CsrWrite, CsrLock, Look, Allocate, Release, Manager, Maps, Delay}
+use Rattle.script_run.specs.declared.command.Command.TheVariants.{Node, Plug, Pull, Reset, Turn, Hold, Settle, Config, CsrRead, CsrWrite, CsrLock, Look, Allocate, Release, Manager, Plan, Maps, Delay}
 use Rattle.script_run.specs.ReportText.{name_of, IsReportText}
 use Rattle.script_run.specs.Maps.{IsMapsText}
 use Rattle.script_run.specs.CommandText.{csr_text, grant_text, bid_text}
+use Rattle.script_run.specs.Plan.{IsPlan, plan_line}
 use Rattle.script_run.specs.Bus.{Notes, Bus, Reported, node_named, resets_of, tree_with, values_at, after_access, look_of, put_look}
 
 -- the bus and what was printed, or a fault
@@ -110,6 +114,10 @@ Acts bus a (Ok (after, text)) =
     × (after.notes ≡ notes_after_act bus.notes) × (text ≡ [])
 Acts bus a (Err kind) = IsSomeAnd (act_fault a bus.world) (λ fault. kind ≡ kind_of fault)
 
+-- the configuration packet: R is set where an ID is given, and T where a gap count is
+abbrev pub config_of : NodeNumber → Option ℕ → Option ℕ → Act
+config_of from root_id gap = act.Config from (unwrap_or root_id 0) (is_some root_id) gap
+
 -- the wire that leaves an end is held, or this is refused
 abbrev pub Holds : Bus → End → ℕ → LineAnswer → Type 0
 Holds bus end turns answer = unless (hold_fault end bus.world)
@@ -173,6 +181,48 @@ Looks bus node manager answer =
 abbrev pub Bids : Bus → List ℕ → ℕ → NodeNumber → LineAnswer → Type 0
 Bids bus name id manager answer = Accesses bus manager (lock_for id) (bid_text name) answer
 
+-- ---- plans
+
+-- the node's ID stands in the register of the bus manager, else `NotManager`
+abbrev pub AsBusManager : Bus → ℕ → NodeNumber → (LineAnswer → Type 0) → LineAnswer → Type 0
+AsBusManager bus id manager comes answer =
+    MatchBool ((values_at manager bus).bus_manager_id == id) (comes answer)
+    (answer ≡ Err NotManager)
+
+-- The plan for the tree of a node is carried out. The node sends the packet that names the root and
+-- the gap count and resets the bus, the quiet turns are done, and what then is reported is printed
+-- behind the line of the plan.
+pub record CarriesOut
+    (bus : Bus) (name : List ℕ) (node : NodeNumber) (tree : Reported) (after : Bus)
+    (text : List ℕ) : Type 0 where
+  pub shown : Tree
+  pub is : IsTreeOf tree.list shown
+  pub plan : RootPlan
+  pub planned : IsPlan shown plan
+  -- the nodes in the order in which they identify themselves under the new root
+  pub expected : List NodeNumber
+  pub walk : IsWalk bus.world.cabling (node_with tree plan.root_id) expected
+  pub sent : Bus
+  pub sends : Acts bus (config_of node (Some plan.root_id) (Some plan.gap)) (Ok (sent, []))
+  pub report : List ℕ
+  pub reports : Reports sent (Ok (after, report))
+  pub text_is :
+      text ≡ plan_line bus.notes.names name (node_with tree plan.root_id) plan expected ++ report
+  -- it comes out as planned: that node is the root of the tree that is reported
+  pub root : IfSome after.notes.report (λ r.
+      Any (IsTreeFrom bus.world.cabling node (node_with tree plan.root_id)) r.parts)
+  -- and every node of it has the gap count
+  pub gaps : HaveGap after.world node plan.gap
+
+abbrev pub Plans : Bus → List ℕ → NodeNumber → Reported → LineAnswer → Type 0
+Plans bus name node tree (Ok (after, text)) = CarriesOut bus name node tree after text
+Plans bus name node tree (Err kind) = ⊥
+
+-- the bus manager plans, where the quiet turns are within the limit
+abbrev pub PlansAs : Bus → List ℕ → NodeNumber → ℕ → NodeNumber → LineAnswer → Type 0
+PlansAs bus name node id manager answer = AsBusManager bus id manager
+    (Within bus (quiet_turns_of bus.world) (Settled bus node (Plans bus name node))) answer
+
 -- ---- maps
 
 abbrev pub notes_after_maps : Notes → Notes
@@ -198,10 +248,6 @@ MapsOf bus tree answer =
     MatchBool (nat_lt bus.notes.maps 100) (GivesMaps bus tree answer) (answer ≡ Err TooManyMaps)
 
 -- ---- the commands
-
--- the configuration packet: R is set where an ID is given, and T where a gap count is
-abbrev pub config_of : NodeNumber → Option ℕ → Option ℕ → Act
-config_of from root_id gap = act.Config from (unwrap_or root_id 0) (is_some root_id) gap
 
 -- what each command comes to on a bus whose nodes are all declared
 abbrev pub Does : Bus → Command → LineAnswer → Type 0
@@ -233,5 +279,6 @@ Does bus (Release name channel units) r = Managed bus name (λ node id manager.
     (grant_text (codes "release ") name)) r
 Does bus (Manager name) r = Managed bus name (λ node id manager.
     Bids bus name id manager) r
+Does bus (Plan name) r = Managed bus name (PlansAs bus name) r
 Does bus (Maps name) r = Named bus name (λ node. Settled bus node (λ tree.
     MapsOf bus tree)) r

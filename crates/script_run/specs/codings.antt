@@ -1,6 +1,7 @@
 pub mod Digits
 pub mod Reading
 pub mod Appended
+pub mod Standing
 pub mod Running
 pub mod Stop
 pub mod Going

@@ -1,6 +1,6 @@
 //! The lines that ask the manager of a bus, or change what it keeps.
 ghost use Rattle.std.specs.Prelude.{◌≡◌, codes, [], ◌∷◌, ℕ, IfOk};
-ghost use Rattle.script_run.specs.Form.{config_root, config_gap, config_both, csr_read, csr_write, csr_lock, look, allocate, release, manager, maps};
+ghost use Rattle.script_run.specs.Form.{config_root, config_gap, config_both, csr_read, csr_write, csr_lock, look, allocate, release, manager, plan, maps};
 ghost use Rattle.script_run.specs.Range.{IsInRange};
 ghost use Rattle.script_run.specs.codings.Reading.{read_by};
 
@@ -109,6 +109,17 @@ pub(crate) fn manager(args: &[Word]) -> Result<Command, Kind>
 {
     match args {
         [name] => Ok(Command::Manager { name: name.name()? }),
+        _ => Err(Kind::Word),
+    }
+}
+
+/// `plan NAME`
+pub(crate) fn plan(args: &[Word]) -> Result<Command, Kind>
+    ensures value { result ≡ read_by (plan ∷ []) (codes "plan" ∷ args.now) }
+    ensures ranged { (d : ℕ) → IfOk result (IsInRange d) }
+{
+    match args {
+        [name] => Ok(Command::Plan { name: name.name()? }),
         _ => Err(Kind::Word),
     }
 }

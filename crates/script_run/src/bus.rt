@@ -126,7 +126,7 @@ impl Notes {
     }
 
     /// An act drops all looks, and the last report no longer stands.
-    fn drop_after_act(&mut self)
+    pub fn drop_after_act(&mut self)
         ensures { notes_now self.new ≡ notes_after_act (notes_now self.old) }
     {
         self.looks.fill(None);
@@ -162,7 +162,7 @@ impl<W: WorldRun> Bus<W> {
     }
 
     /// Fails where the turns that were done and so many more pass the limit.
-    fn check_turns(&self, turns: u32) -> Result<(), LineStop>
+    pub fn check_turns(&self, turns: u32) -> Result<(), LineStop>
         requires { (W.world self.now.world).turns ≤ 2000000 }
         ensures within { OnOk result
             (nat_lt 2000000 ((W.world self.now.world).turns + turns) ≡ false) }

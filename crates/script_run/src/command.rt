@@ -97,6 +97,10 @@ pub enum Command {
     Manager {
         name: Name,
     },
+    /// `plan NAME`
+    Plan {
+        name: Name,
+    },
     /// `maps NAME`
     Maps {
         name: Name,

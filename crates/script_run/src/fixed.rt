@@ -5,7 +5,7 @@ ghost use Rattle.script_run.specs.Range.{IsInRange};
 ghost use Rattle.script_run.specs.codings.Reading.{read_by};
 
 use crate::acts::{delay, hold, plug, pull, reset, settle, turn};
-use crate::asks::{allocate, config, csr, look, manager, maps, release};
+use crate::asks::{allocate, config, csr, look, manager, maps, plan, release};
 use crate::command::Command;
 use crate::kind::Kind;
 use crate::word::Word;
@@ -39,6 +39,8 @@ pub(crate) fn read_fixed(verb: &Word, args: &[Word]) -> Result<Command, Kind>
         release(args)
     } else if verb.is(b"manager") {
         manager(args)
+    } else if verb.is(b"plan") {
+        plan(args)
     } else if verb.is(b"maps") {
         maps(args)
     } else if verb.is(b"delay") {

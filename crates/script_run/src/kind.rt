@@ -38,6 +38,8 @@ pub enum Kind {
     NotSettled,
     /// The tree has no isochronous resource manager.
     NoManager,
+    /// The node isn't the bus manager of its tree.
+    NotManager,
     /// The turns pass the script's limit.
     TooManyTurns,
     /// It is the 101st `maps`.

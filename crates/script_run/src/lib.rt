@@ -25,6 +25,7 @@ mod maps;
 mod node;
 mod number;
 mod pairs;
+mod planned;
 mod report;
 mod run;
 mod script;

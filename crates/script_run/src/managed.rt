@@ -69,7 +69,7 @@ impl Notes {
 
 impl<W: WorldRun> Bus<W> {
     /// The node with a name asks the manager of its tree.
-    fn asked(&self, alloc: Global, name: &Name) -> Result<Asked, LineStop>
+    pub fn asked(&self, alloc: Global, name: &Name) -> Result<Asked, LineStop>
         requires { IsSound W.world W.is_spent self.now }
         ensures is { IfOk result (λ asked. IsAsked (bus_now W.world self.now) name.now
             asked.node asked.id asked.manager) }
@@ -93,7 +93,7 @@ impl<W: WorldRun> Bus<W> {
     }
 
     /// The registers of a node.
-    fn registers(&self, node: u8) -> Registers
+    pub fn registers(&self, node: u8) -> Registers
         requires sound { IsSound W.world W.is_spent self.now }
         requires there { node < length (W.world self.now.world).nodes }
         ensures { result ≡ values_at node (bus_now W.world self.now) }

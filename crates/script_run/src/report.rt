@@ -24,7 +24,7 @@ pub(crate) fn put_numbered(out: &mut Vec<u8>, word: &[u8], n: u64) -> Result<(),
 
 /// Appends a space and the name of a node.
 #[tactic(auto, unfolding(crate::specs::ReportText::spaced))]
-fn put_name(out: &mut Vec<u8>, names: &[Name], node: u8) -> Result<(), OutOfMemory>
+pub(crate) fn put_name(out: &mut Vec<u8>, names: &[Name], node: u8) -> Result<(), OutOfMemory>
     requires { node < length names.now }
     ensures { OnOk result (out.new.items ≡ out.old.items ++ spaced names.now node) }
 {

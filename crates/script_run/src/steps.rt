@@ -234,6 +234,7 @@ impl<W: WorldRun> Bus<W> {
             Command::Hold { name, port, turns } => self.hold_wire(alloc, name, *port, *turns),
             Command::Settle => self.settle(alloc),
             Command::Config { name, root_id, gap } => self.config(alloc, name, *root_id, *gap),
+            Command::Plan { name } => self.plan(alloc, name),
             Command::Maps { name } => self.maps(alloc, name),
             Command::CsrRead { .. }
             | Command::CsrWrite { .. }

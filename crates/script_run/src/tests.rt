@@ -40,6 +40,7 @@ fn lines_with_no_fault(rt: HostRuntime) -> Result<(), Fail> {
         b"allocate a 63 4915".as_slice(),
         b"release a 0 0".as_slice(),
         b"manager a".as_slice(),
+        b"plan a".as_slice(),
         b"maps a".as_slice(),
         b"delay 16".as_slice(),
         b"node a 16".as_slice(),
@@ -71,7 +72,7 @@ fn lines_with_a_fault(rt: HostRuntime) -> Result<(), Fail> {
         // Words that are none of the forms, whatever else is wrong.
         (b"resets a".as_slice(), Kind::Word),
         (b"Reset a".as_slice(), Kind::Word),
-        (b"plan a".as_slice(), Kind::Word),
+        (b"plans a".as_slice(), Kind::Word),
         (b"pull A".as_slice(), Kind::Word),
         (b"csr a reads 1".as_slice(), Kind::Word),
         (b"csr a read 1 2".as_slice(), Kind::Word),

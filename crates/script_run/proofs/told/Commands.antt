@@ -1,27 +1,37 @@
 -- A command comes to one answer, and leaves cables that are a cabling.
-use Rattle.std.proofs.Common.{◌≡◌, ℕ, Bool, true, false, Option, None, Some, List, refl, sym, ◌∙◌, ap, subst}
+use Rattle.std.proofs.Common.{◌≡◌, ◌++◌, ◌==◌, ℕ, Bool, true, false, Option, None, Some, List, [], refl, sym, ◌∙◌, ap, subst, arith}
 use Rattle.std.specs.Prelude.{codes, Ok, Err, IsSomeAnd, MatchBool, nat_lt, ◌+◌}
-use Rattle.topology_stack.specs.Tree.{Tree}
+use Rattle.phy_packet.specs.Packet.{quad_of}
+use Rattle.phy_packet.specs.declared.packet.PhyPacket.TheVariants as packet
+use Rattle.topology_stack.specs.Tree.{Label, Tree}
 use Rattle.topology_stack.specs.Elect.{elected}
 use Rattle.topology_stack.specs.OneAnswer.{NoListHasTwoTrees}
 use Rattle.cabling.specs.declared.cable.CableFault.{CableFault}
+use Rattle.cabling.specs.Labels.{labels}
+use Rattle.cabling.specs.Walk.{IsWalk}
+use Rattle.cabling.specs.Wiring.{Wiring}
 use Rattle.cable_world.specs.declared.act.Act.{Act}
 use Rattle.cable_world.specs.declared.act.Act.TheVariants as act
 use Rattle.cable_world.specs.World.{CableWorld, NodeNumber}
 use Rattle.cable_world.specs.Act.{act_fault, hold_fault}
 use Rattle.resource_manager.specs.declared.access.Access.TheVariants as access
+use Rattle.bus_manager.specs.Gap.{gap_of}
+use Rattle.root_plan.specs.Reach.{IsReach}
+use Rattle.root_plan.specs.declared.choice.RootPlan.{RootPlan}
+use Rattle.settle_plan.proofs.Relabelled.{one-order}
 use Rattle.settle.specs.declared.report.Report.{Report}
 use Rattle.settle.specs.Report.{IsReport, quiet_turns_of}
 use Rattle.settle.proofs.OneReport.{one-over-cabling}
 use Rattle.script_run.specs.declared.kind.Kind.{Kind}
 use Rattle.script_run.specs.declared.command.Command.{Command}
-use Rattle.script_run.specs.declared.command.Command.TheVariants.{Node, Plug, Pull, Reset, Turn, Hold, Settle, Config, CsrRead, CsrWrite, CsrLock, Look, Allocate, Release, Manager, Maps, Delay}
+use Rattle.script_run.specs.declared.command.Command.TheVariants.{Node, Plug, Pull, Reset, Turn, Hold, Settle, Config, CsrRead, CsrWrite, CsrLock, Look, Allocate, Release, Manager, Plan, Maps, Delay}
 use Rattle.script_run.specs.ReportText.{IsReportText}
 use Rattle.script_run.specs.Maps.{IsMapsText}
 use Rattle.script_run.specs.CommandText.{csr_text, grant_text}
 use Rattle.std.specs.Option.{option_map}
-use Rattle.script_run.specs.Bus.{Notes, Bus, Reported, node_named, resets_of, tree_with}
-use Rattle.script_run.specs.Step.{LineAnswer, AtNode, Named, AtTree, Settled, AtManager, IsTreeOf, HasManager, Managed, node_with, id_of, Acts, Holds, Within, Reports, Settles, Accesses, Looks, Grants, Bids, MapsOf, GivesMaps, Does, end_of, config_of, kind_of, notes_after_report}
+use Rattle.script_run.specs.Plan.{IsPlan, plan_line}
+use Rattle.script_run.specs.Bus.{Notes, Bus, Reported, node_named, resets_of, tree_with, values_at}
+use Rattle.script_run.specs.Step.{LineAnswer, AtNode, Named, AtTree, Settled, AtManager, IsTreeOf, HasManager, Managed, node_with, id_of, Acts, Holds, Within, Reports, Settles, Accesses, Looks, Grants, Bids, Plans, PlansAs, MapsOf, GivesMaps, Does, end_of, config_of, kind_of, notes_after_report}
 use Rattle.script_run.proofs.OneText.{one-text}
 use Rattle.script_run.proofs.OneMaps.{same_maps}
 use Rattle.script_run.proofs.told.Cables.{IsCabled, turns-cabled, act-cabled, one-world}
@@ -100,6 +110,15 @@ same-bus a b w n =
 
 answer-of : Bus → List ℕ → LineAnswer
 answer-of bus text = Ok (bus, text)
+
+-- the bus and the text of an answer that isn't a fault
+abbrev bus-in : Bus → LineAnswer → Bus
+bus-in bus (Ok (after, text)) = after
+bus-in bus (Err kind) = bus
+
+abbrev text-in : LineAnswer → List ℕ
+text-in (Ok (after, text)) = text
+text-in (Err kind) = []
 
 same-answer : (a b : Bus) (s t : List ℕ) → a ≡ b → s ≡ t → answer-of a s ≡ answer-of b t
 same-answer a b s t x y =
@@ -198,6 +217,97 @@ maps-of trees bus tree h = go (nat_lt bus.notes.maps 100)
     go true a b x y = gives-maps trees bus tree h a b x y
     go false a b x y = known (Err Kind.TooManyMaps) a b tt x y
 
+-- ---- plans
+
+plan-of : ℕ → ℕ → ℕ → RootPlan
+plan-of root hops far = record {
+  root_id = root;
+  hops = hops;
+  gap = gap_of hops;
+  far = far;
+  packet = quad_of (packet.Config root true true (gap_of hops) 0);
+}
+
+-- a plan is made by its root, its hops and its reach
+plan-is : (t : Tree) (p : RootPlan) → IsPlan t p → p ≡ plan-of p.root_id p.hops p.far
+unfolding plan-of
+plan-is t p x =
+    ap (λ (q : ℕ). record p { packet = q }) (x.packet ∙ ap (λ (g : ℕ). quad_of (packet.Config p.root_id true true g 0)) x.gap)
+    ∙ ap (λ (g : ℕ). record (plan-of p.root_id p.hops p.far) { gap = g }) x.gap
+
+one-plan : (t : Tree) (p q : RootPlan) → IsPlan t p → IsPlan t q → p ≡ q
+one-plan t p q x y =
+    let far : p.far ≡ q.far =
+    omega (arith, x.least q.root_id q.far y.candidate y.far, y.least p.root_id p.far x.candidate x.far) in
+    let root : p.root_id ≡ q.root_id =
+    omega (arith, x.highest q.root_id y.candidate (subst (IsReach t q.root_id) (sym far) y.far), y.highest p.root_id x.candidate (subst (IsReach t p.root_id) far x.far)) in
+    let hops : p.hops ≡ q.hops =
+    omega (arith, x.hops.longest q.hops y.hops.path, y.hops.longest p.hops x.hops.path) in
+    plan-is t p x
+    ∙ ap (λ (r : ℕ). plan-of r p.hops p.far) root
+    ∙ ap (λ (h : ℕ). plan-of q.root_id h p.far) hops
+    ∙ ap (λ (f : ℕ). plan-of q.root_id q.hops f) far
+    ∙ sym (plan-is t q y)
+
+no-label : NodeNumber → Label
+no-label = labels []
+
+one-walk : (c : Wiring) (root : ℕ) (a b : List ℕ) → IsWalk c root a → IsWalk c root b → a ≡ b
+one-walk c root a b x y =
+    let p = x no-label in
+    let q = y no-label in
+    p.order ∙ one-order c no-label no-label root None p.tree q.tree p.seen q.seen ∙ sym q.order
+
+plans :
+    NoListHasTwoTrees → (bus : Bus) (name : List ℕ) (node : NodeNumber) (tree : Reported) →
+    IsCabled bus.world → IsOne (Plans bus name node tree)
+unfolding answer-of
+plans trees bus name node tree h (Ok (a, s)) (Ok (b, t)) x y =
+    let shown : y.shown ≡ x.shown = same-tree trees tree.list y.shown x.shown y.is x.is in
+    let plan : x.plan ≡ y.plan =
+    one-plan x.shown x.plan y.plan x.planned (subst (λ (u : Tree). IsPlan u y.plan) shown y.planned) in
+    let root : node_with tree x.plan.root_id ≡ node_with tree y.plan.root_id =
+    ap (λ (p : RootPlan). node_with tree p.root_id) plan in
+    let expected : x.expected ≡ y.expected =
+    one-walk bus.world.cabling (node_with tree y.plan.root_id) x.expected y.expected
+    (subst (λ (r : ℕ). IsWalk bus.world.cabling r x.expected) root x.walk) y.walk in
+    let act : RootPlan → Act = λ p. config_of node (Some p.root_id) (Some p.gap) in
+    let here = acts bus (act y.plan) h (answer-of x.sent []) (answer-of y.sent [])
+    (subst (λ (p : RootPlan). Acts bus (act p) (answer-of x.sent [])) plan x.sends) y.sends in
+    let sent : x.sent ≡ y.sent = ap (bus-in x.sent) here.0 in
+    let there = reports trees x.sent here.1 (answer-of a x.report) (answer-of b y.report) x.reports
+    (subst (λ (u : Bus). Reports u (answer-of b y.report)) (sym sent) y.reports) in
+    let line : NodeNumber → RootPlan → List ℕ → List ℕ → List ℕ =
+    λ r p e u. plan_line bus.notes.names name r p e ++ u in
+    let texts : s ≡ t =
+    x.text_is
+    ∙ ap (λ (r : ℕ). line r x.plan x.expected x.report) root
+    ∙ ap (λ (p : RootPlan). line (node_with tree y.plan.root_id) p x.expected x.report) plan
+    ∙ ap (λ (e : List ℕ). line (node_with tree y.plan.root_id) y.plan e x.report) expected
+    ∙ ap (line (node_with tree y.plan.root_id) y.plan y.expected) (ap text-in there.0)
+    ∙ sym y.text_is in
+    (same-answer a b s t (ap (bus-in a) there.0) texts, there.1)
+plans trees bus name node tree h (Ok p) (Err kind) x y = absurd y
+plans trees bus name node tree h (Err kind) b x y = absurd x
+
+plans-as :
+    NoListHasTwoTrees → (bus : Bus) (name : List ℕ) (node : NodeNumber) (id : ℕ)
+    (manager : NodeNumber) → IsCabled bus.world → IsOne (PlansAs bus name node id manager)
+plans-as trees bus name node id manager h = go ((values_at manager bus).bus_manager_id == id)
+  where
+    one : IsOne (Within bus (quiet_turns_of bus.world) (Settled bus node (Plans bus name node)))
+    one =
+        within bus (quiet_turns_of bus.world) (Settled bus node (Plans bus name node))
+        (settled bus node (Plans bus name node) (λ tree. plans trees bus name node tree h))
+
+    go :
+        (its : Bool) →
+        IsOne (λ r. MatchBool its
+        (Within bus (quiet_turns_of bus.world) (Settled bus node (Plans bus name node)) r)
+        (r ≡ Err Kind.NotManager))
+    go true a b x y = one a b x y
+    go false a b x y = known (Err Kind.NotManager) a b tt x y
+
 -- ---- the commands
 
 -- no call to registers touches the world
@@ -250,5 +360,7 @@ does trees bus (Release name channel units) h =
 does trees bus (Manager name) h =
     managed trees bus name (λ node id manager. Bids bus name id manager)
     (λ node id manager. call bus _ _ refl h)
+does trees bus (Plan name) h =
+    managed trees bus name (PlansAs bus name) (λ node id manager. plans-as trees bus name node id manager h)
 does trees bus (Maps name) h =
     named bus name _ (λ node. settled bus node _ (λ tree. maps-of trees bus tree h))

@@ -10,7 +10,7 @@ use Rattle.script_run.specs.declared.command.Command.{Command}
 use Rattle.script_run.specs.declared.command.Command.TheVariants.{Node}
 use Rattle.script_run.specs.Number.{number_of}
 use Rattle.script_run.specs.Shape.{first_wrong, out_of, wrong_name}
-use Rattle.script_run.specs.Form.{Form, number_at, command_of, plug, pull, reset, turn, hold, settle, config_root, config_gap, config_both, csr_read, csr_write, csr_lock, look, allocate, release, manager, maps, delay}
+use Rattle.script_run.specs.Form.{Form, number_at, command_of, plug, pull, reset, turn, hold, settle, config_root, config_gap, config_both, csr_read, csr_write, csr_lock, look, allocate, release, manager, plan, maps, delay}
 use Rattle.script_run.specs.Words.{words_of}
 use Rattle.script_run.specs.Node.{has_node_form, node_shapes, wrong_node, first_wrong_pair}
 use Rattle.script_run.specs.Line.{LineForm, node, other, meaning, wrong_word, has_form, IsCommand, Reads}
@@ -44,6 +44,7 @@ fixed look words = tt
 fixed allocate words = tt
 fixed release words = tt
 fixed manager words = tt
+fixed plan words = tt
 fixed maps words = tt
 fixed delay words = tt
 

@@ -11,6 +11,7 @@ use Rattle.script_run.specs.declared.command.Command.{Command}
 use Rattle.script_run.specs.declared.command.Command.TheVariants.{CsrRead, CsrWrite, CsrLock, Look, Allocate, Release, Manager}
 use Rattle.script_run.specs.ReportText.{IsNamedReport}
 use Rattle.script_run.specs.Bus.{Notes, Bus, Reported, node_named, tree_with}
+use Rattle.script_run.specs.codings.Standing.{StandsSince}
 use Rattle.script_run.specs.Step.{LineAnswer, HasManager, id_of}
 
 abbrev pub notes_now : kept.Notes → Notes
@@ -39,6 +40,7 @@ pub record IsBus (bus : Bus) : Type 0 where
   pub reports : bus.notes.reports ≤ bus.world.turns
   pub maps : bus.notes.maps ≤ 100
   pub report : IfSome bus.notes.report (λ report. IsNamedReport bus.notes.names report)
+  pub stands : IfSome bus.notes.report (λ report. StandsSince report bus.world)
 
 -- the bus is sound, and its world isn't spent
 pub record IsSound {W : Type 0} (world : W → CableWorld) (spent : W → Bool) (b : running.Bus W) :

@@ -3,6 +3,7 @@ use Rattle.std.proofs.lemmas.Bool.{ltb-false}
 use Rattle.cable_world.proofs.running.Whole.{lawful-now}
 use Rattle.settle.specs.Report.{quiet_turns_of}
 use Rattle.settle.proofs.TurnsGiven.{quiet-is}
+use Rattle.script_run.proofs.Standing.{new-stands}
 use Rattle.script_run.proofs.Turns.{some-quiet}
 use Rattle.script_run.proofs.bus.Bus.settle.Goals as goal
 
@@ -40,6 +41,7 @@ returns-clause-sound g c =
         reports = omega (arith, passed.turns, some, old.reports);
         maps = old.maps;
         report = c.reports_can_be_shown.ensures c.in_ok-report.report c.args.self.now.notes.names c.in_ok-report.ensures.report (old.names ∙ sym passed.nodes);
+        stands = new-stands (g.W.WorldRun.world c.settle.new.world) c.in_ok-report.report (g.met.W.WorldRun.reached c.settle.new.world c.in_ok-report.ensures.fine) c.in_ok-report.ensures.report;
       };
       fine = c.in_ok-report.ensures.fine;
     }
