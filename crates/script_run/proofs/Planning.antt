@@ -114,6 +114,7 @@ is-elected trees tree manager has shown bus same none = by (elected has.shown) (
   where
     one : has.shown ≡ shown
     one = trees has.shown shown has.is.bus bus (has.is.emitted ∙ sym same)
+
     by : (o : Option ℕ) → o ≡ None → Some manager ≡ option_map (node_with tree) o → ⊥
     by None e h = absurd cc
     by (Some id) e h = absurd cc

@@ -36,7 +36,7 @@ returns-clause-sent g c =
         c.in_ok-report.ensures.report,
         ap (λ (n : Notes). notes_after_report n c.in_ok-report.report) c.drop_after_act.ensures,
         subst (λ (ns : List (List ℕ)). IsReportText ns (c.drop_after_act.new.self.reports + 1) c.in_ok-report.report c.in_ok-text.text.items)
-        (c.list.ensures ∙ names) c.in_ok-text.ensures,
+            (c.list.ensures ∙ names) c.in_ok-text.ensures,
       );
       root = c.in_ok-report.ensures.root;
       gaps = c.in_ok-report.ensures.gaps;
