@@ -3,7 +3,7 @@ ghost use Rattle.std.specs.Prelude.{◌≡◌, ◌<◌, All, IfOk, length};
 ghost use Rattle.phy_machine.specs.Field.{field_node};
 ghost use Rattle.cable_world.specs.World.{IsNodeAtPowerOn};
 
-use crate::worlds::{USUAL, spec};
+use crate::nodes::{USUAL, spec};
 use cable_world::{World, WorldRun};
 use phy_machine::FieldMachine;
 use port_state::{PortMachine, Sends, Signal, Timing, View};

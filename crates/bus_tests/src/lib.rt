@@ -18,6 +18,8 @@ mod inputs;
 #[cfg(test)]
 mod maps;
 #[cfg(test)]
+mod nodes;
+#[cfg(test)]
 mod plans;
 #[cfg(test)]
 mod rom;
@@ -25,5 +27,7 @@ mod rom;
 mod scripts;
 #[cfg(test)]
 mod settled;
+#[cfg(test)]
+mod spent;
 #[cfg(test)]
 mod worlds;

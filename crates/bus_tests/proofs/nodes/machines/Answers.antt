@@ -3,7 +3,7 @@ use Rattle.std.proofs.lemmas.List.Elements.{All-append, All-cons, All-nil}
 use Rattle.phy_machine.specs.declared.any.AnyMachine.{AnyMachine}
 use Rattle.phy_machine.specs.Any.{any_node}
 use Rattle.cable_world.specs.World.{IsNodeAtPowerOn}
-use Rattle.bus_tests.proofs.worlds.machines.Goals as goal
+use Rattle.bus_tests.proofs.nodes.machines.Goals as goal
 
 abbrev WasPoweredOn : ℕ → AnyMachine → Type 0
 WasPoweredOn d m = IsNodeAtPowerOn d (any_node m).state

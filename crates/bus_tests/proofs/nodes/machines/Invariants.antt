@@ -1,7 +1,7 @@
 use Rattle.std.proofs.Common.{◌≡◌, All, length}
 use Rattle.phy_machine.specs.Any.{any_node}
 use Rattle.cable_world.specs.World.{IsNodeAtPowerOn}
-use Rattle.bus_tests.proofs.worlds.machines.Given as goal
+use Rattle.bus_tests.proofs.nodes.machines.Given as goal
 
 -- those made so far were just powered on
 abbrev pub invariant-loop-node : goal.invariant-loop-node

@@ -3,7 +3,7 @@ use Rattle.port_state.specs.Machine.{PortNode}
 use Rattle.port_state.specs.Valid.{IsValid}
 use Rattle.phy_machine.specs.Any.{any_valid}
 use Rattle.cable_world.specs.World.{IsNodeAtPowerOn}
-use Rattle.bus_tests.proofs.worlds.powered_on.Goals as goal
+use Rattle.bus_tests.proofs.nodes.powered_on.Goals as goal
 
 pub returns : goal.returns
 returns c =
