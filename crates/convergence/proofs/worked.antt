@@ -4,5 +4,4 @@ pub mod TwoNodes
 pub mod HeldContention
 pub mod AllNodes
 pub mod FiveNodes
-pub mod FiveSettled
 pub mod LoopWithTail

@@ -8,7 +8,6 @@ use Rattle.topology_stack.specs.Tree.{Tree, IsBusTree}
 use Rattle.cabling.specs.Wiring.{Wiring}
 use Rattle.cabling.specs.NodeSet.{Holds}
 use Rattle.cabling.specs.Component.{IsComponent}
-use Rattle.cabling.specs.Looped.{IsCore}
 use Rattle.cabling.specs.Labels.{labels}
 use Rattle.cabling.specs.Sees.{Sees, numbers}
 use Rattle.cabling.proofs.Shown.{labels_fit, bus_seen}

@@ -1,21 +1,20 @@
 -- Two nodes that contend while the wire that leaves the first is held again and again, so that the
 -- second does each step a turn later, or hears a step later. The first draws 0 and 0, the second 0
 -- and 1.
-use Rattle.std.proofs.Common.{◌≡◌, ℕ, zero, suc, ◌+◌, ◌<◌, true, false, [], ◌∷◌, inl, refl, sym, subst, arith}
-use Rattle.std.specs.Int.{bit_at}
-use Rattle.cabling.specs.declared.cable.End.{End}
+use Rattle.std.proofs.Common.{◌≡◌, List, map, ℕ, false, [], ◌∷◌, refl, arith}
+use Rattle.port_state.specs.declared.signal.Phase.TheVariants.{Contend}
+use Rattle.port_state.specs.declared.states.NodeState.{NodeState}
 use Rattle.port_state.specs.Coins.{coins_of_bits}
 use Rattle.port_state.specs.Entry.{enter}
 use Rattle.port_state.specs.Heard.{on_signal}
 use Rattle.port_state.specs.Tick.{tick}
 use Rattle.port_state.specs.Machine.{PortNode}
-use Rattle.cable_world.specs.World.{CableWorld, world_of_nodes, wire_of}
+use Rattle.cable_world.specs.World.{CableWorld, world_of_nodes}
 use Rattle.cable_world.specs.Act.{hold}
 use Rattle.cable_world.specs.Turn.{turn, turns_after}
 use Rattle.cable_world.proofs.worked.Summary.{plain_node, at, after_plug}
-use Rattle.convergence.specs.Cables.{AreJoined}
-use Rattle.convergence.specs.Coins.{AddsDraw, DrewTogether, DrawsAgree}
-use Rattle.convergence.specs.Rivals.{IsAhead, HaveMet, AreRivals}
+use Rattle.convergence.specs.Coins.{last_coin, AddsDraw, DrewTogether, DrawsAgree}
+use Rattle.convergence.specs.Rivals.{IsAhead, HaveMet}
 use Rattle.convergence.specs.Drawers.{AreMutual, AreUnequal, CountsAreClose, WinsOver}
 use Rattle.convergence.proofs.worked.TwoNodes.{node_in}
 
@@ -44,18 +43,23 @@ again = held_for 1 2 (turns_after 11 met)
 abbrev over : CableWorld
 over = held_for 3 20 (turns_after 12 again)
 
+-- how many coins a node drew, which, its wait, and its timer
+abbrev coins : CableWorld → List (ℕ × ℕ × ℕ × ℕ)
+coins w = map (λ (x : PortNode). (x.state.view.draws, x.state.view.first_draws, x.state.view.wait, x.state.view.timer)) w.nodes
+
+ahead-coins : coins ahead ≡ (1, 0, 12, 0) ∷ (0, 0, 0, 2) ∷ []
+unfolding turn turns_after enter tick on_signal
+ahead-coins = refl
+
+met-coins : coins met ≡ (1, 0, 12, 1) ∷ (1, 0, 12, 0) ∷ []
+unfolding turn turns_after enter tick on_signal
+met-coins = refl
+
+again-coins : coins again ≡ (2, 0, 12, 0) ∷ (2, 2, 32, 0) ∷ []
+unfolding turn turns_after enter tick on_signal
+again-coins = refl
+
 -- ---- counts differ by one at most
-
-ahead-is : IsAhead 4 (node_in ahead 0).state 0 (node_in ahead 1).state
-unfolding turn turns_after enter tick on_signal
-ahead-is = record { drew = record { count = refl; coins = refl }; shown = refl }
-
-ahead-counts : ((node_in ahead 0).state.view.draws ≡ 1) × ((node_in ahead 1).state.view.draws ≡ 0)
-unfolding turn turns_after enter tick on_signal
-ahead-counts = (refl, refl)
-
-ahead-close : CountsAreClose (node_in ahead 0).state (node_in ahead 1).state
-ahead-close = (omega (arith, ahead-counts.0, ahead-counts.1), omega (arith, ahead-counts.0, ahead-counts.1))
 
 ahead-mutual : AreMutual ahead (at 0 0) (at 1 0)
 unfolding turn turns_after enter tick on_signal
@@ -65,21 +69,46 @@ ahead-mutual = record {
   there = refl;
 }
 
--- ---- both wait, and their waits began less than d turns apart
+-- a node that drew its first coin, a 0
+drew-0 :
+    (x : NodeState) (draws first : ℕ) → draws ≡ 0 → first ≡ 0 → x.view.draws ≡ 1 → x.view.first_draws ≡ 0 →
+    last_coin 4 x ≡ false → AddsDraw 4 draws first x
+drew-0 x draws first none no-coin one no-one last = record { count = rw (none, one) refl; coins = rw (none, no-coin, no-one, last) refl }
 
-met-drew : DrewTogether 4 (node_in met 0).state (node_in met 1).state
+ahead-is : IsAhead 4 (node_in ahead 0).state 0 (node_in ahead 1).state
 unfolding turn turns_after enter tick on_signal
-met-drew = record { draws = 0; first = 0; here = record { count = refl; coins = refl }; there = record { count = refl; coins = refl } }
+ahead-is = record { drew = drew-0 (node_in ahead 0).state (node_in ahead 1).state.view.draws (node_in ahead 1).state.view.first_draws refl refl refl refl refl; shown = refl }
+
+ahead-counts : ((node_in ahead 0).state.view.draws ≡ 1) × ((node_in ahead 1).state.view.draws ≡ 0)
+unfolding turn turns_after enter tick on_signal
+ahead-counts = (refl, refl)
+
+ahead-close : CountsAreClose (node_in ahead 0).state (node_in ahead 1).state
+ahead-close = (omega (arith, ahead-counts.0, ahead-counts.1), omega (arith, ahead-counts.0, ahead-counts.1))
+
+-- ---- both wait, and their waits began less than d turns apart
 
 met-timers : ((node_in met 0).state.view.timer ≡ 1) × ((node_in met 1).state.view.timer ≡ 0)
 unfolding turn turns_after enter tick on_signal
 met-timers = (refl, refl)
 
-met-here : HaveMet 4 (node_in met 0).state (node_in met 1).state
+met-phases : ((node_in met 0).state.view.phase ≡ Contend) × ((node_in met 1).state.view.phase ≡ Contend)
 unfolding turn turns_after enter tick on_signal
-met-here = record {
-  here = refl;
-  there = refl;
+met-phases = (refl, refl)
+
+met-drew : DrewTogether 4 (node_in met 0).state (node_in met 1).state
+unfolding turn turns_after enter tick on_signal
+met-drew = record {
+  draws = 0;
+  first = 0;
+  here = drew-0 (node_in met 0).state 0 0 refl refl refl refl refl;
+  there = drew-0 (node_in met 1).state 0 0 refl refl refl refl refl;
+}
+
+met-is : HaveMet 4 (node_in met 0).state (node_in met 1).state
+met-is = record {
+  here = met-phases.0;
+  there = met-phases.1;
   drew = met-drew;
   near = omega (arith, met-timers.0, met-timers.1);
   far = omega (arith, met-timers.0, met-timers.1);
@@ -88,16 +117,15 @@ met-here = record {
 -- ---- equal draws but for the last
 
 again-draws :
-    ((node_in again 0).state.view.draws ≡ 2) × ((node_in again 1).state.view.draws ≡ 2)
+    ((node_in again 0).state.view.draws ≡ 2)
     × ((node_in again 0).state.view.first_draws ≡ 0) × ((node_in again 1).state.view.first_draws ≡ 2)
 unfolding turn turns_after enter tick on_signal
-again-draws = (refl, refl, refl, refl)
+again-draws = (refl, refl, refl)
 
 again-agree : DrawsAgree (node_in again 0).state (node_in again 1).state
-again-agree j below here there = rw (first, again-draws.2, again-draws.3) refl
-  where
-    first : j ≡ 0
-    first = omega (arith, here, again-draws.0)
+again-agree j below here there =
+    let first : j ≡ 0 = omega (arith, here, again-draws.0) in
+    rw (first, again-draws.1, again-draws.2) refl
 
 again-unequal : AreUnequal again 1 0
 unfolding turn turns_after enter tick on_signal

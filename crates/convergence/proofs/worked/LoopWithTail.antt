@@ -1,6 +1,6 @@
 -- Three nodes in a ring and a fourth that hangs on the first: the ring stays in T0 and times out,
 -- the tail asks in vain.
-use Rattle.std.proofs.Common.{◌≡◌, ℕ, zero, suc, ◌<◌, Bool, true, false, List, [], ◌∷◌, map, Option, Some, None, slice_get, refl, sym, subst, arith}
+use Rattle.std.proofs.Common.{◌≡◌, ℕ, zero, suc, Bool, true, false, List, [], ◌∷◌, map, Option, Some, None, slice_get, refl, subst, arith}
 use Rattle.std.specs.Prelude.{IsSomeAnd}
 use Rattle.cabling.specs.declared.cable.End.{End}
 use Rattle.cabling.specs.Wiring.{Wiring, far}
@@ -70,8 +70,10 @@ has-two : (k : ℕ) → Holds 7 k → HasTwo cables 7 k
 has-two k h =
     each-held (λ k. HasTwo cables 7 k) 7 (0 ∷ 1 ∷ 2 ∷ []) refl (
       record { low = 0; high = 1; apart = omega arith; low_leads = (at 1 0, refl, refl); high_leads = (at 2 1, refl, refl) },
-      (record { low = 0; high = 1; apart = omega arith; low_leads = (at 0 0, refl, refl); high_leads = (at 2 0, refl, refl) },
-      (record { low = 0; high = 1; apart = omega arith; low_leads = (at 1 1, refl, refl); high_leads = (at 0 1, refl, refl) }, tt)),
+      (
+        record { low = 0; high = 1; apart = omega arith; low_leads = (at 0 0, refl, refl); high_leads = (at 2 0, refl, refl) },
+        (record { low = 0; high = 1; apart = omega arith; low_leads = (at 1 1, refl, refl); high_leads = (at 0 1, refl, refl) }, tt),
+      ),
     ) k h
 
 within : (k : ℕ) → Holds 7 k → Holds 15 k

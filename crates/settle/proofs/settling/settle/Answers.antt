@@ -82,4 +82,4 @@ returns-clause-forced g c =
     forced-nodes c.resets_spread.ensures.taken c.forced_roots_settle.ensures.forced w v
     (g.met.W.WorldRun.reached c.args.world.now (sym c.spent.ensures ∙ c.if-spent.false))
     (c.in_ok-run_turns.ensures.done ∙ ap (λ (n : ℕ). turns_after n w) q)
-    _ c.returns-clause-report
+    _ (record { turn = c.turns.ensures; parts = c.in_ok-parts_of.ensures })
