@@ -60,8 +60,9 @@ impl Notes {
     {
         let shown = tree_of(alloc, tree.list)?;
         one_tree();
+        let order = tree.order.as_slice();
         match elect(&shown) {
-            Some(id) => Ok(Some(tree.order.as_slice()[id as usize])),
+            Some(id) => Ok(Some(order[id as usize])),
             None => Ok(None),
         }
     }

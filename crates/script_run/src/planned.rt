@@ -191,7 +191,8 @@ impl<W: WorldRun> Bus<W> {
         let shown = tree_of(alloc, tree.list)?;
         let plan = chosen(&shown);
         let expected = self.expected(node, tree, &plan);
-        let root = tree.order.as_slice()[plan.root_id as usize];
+        let order = tree.order.as_slice();
+        let root = order[plan.root_id as usize];
         let names = self.notes.names.list().as_slice();
         let line = plan_line(alloc, names, name, root, &plan, expected.as_slice())?;
         Ok(Planned { plan, line })

@@ -55,11 +55,16 @@ came-to w set (reported.Tree root list order) h = record {
 settled-so : (w : CableWorld) (report : Report) → IsCabled w → IsReport w report → EachComponentCameTo w report
 settled-so w report c is node there =
     let a = is.parts.whole node there in
-    let part : IsPart w a.1 = subst (IsPart w) a.3 (All-get_or (IsPart w) report.parts a.0 a.1 a.2 is.parts.each) in
-    (a.0, a.1, a.2, a.3, record {
-      component = shared w.cabling part.node node a.1.nodes c part.component a.4;
-      came = came-to w a.1.nodes a.1.outcome part.outcome;
-    })
+    let part : IsPart w a.1 = subst (IsPart w) a.3 (All-get_or (IsPart w) report.parts a.0 a.1 a.2 is.parts.each) in (
+      a.0,
+      a.1,
+      a.2,
+      a.3,
+      record {
+        component = shared w.cabling part.node node a.1.nodes c part.component a.4;
+        came = came-to w a.1.nodes a.1.outcome part.outcome;
+      },
+    )
 
 -- ---- what an answer says, where a report stands behind it
 
