@@ -16,6 +16,7 @@ use Rattle.bus_cli.specs.codings.Reading.{Reads, status_with, text_with}
 use Rattle.bus_cli.specs.Answer.{Answers, Outcome, shown, refused, rom, rom_refused, ran, made, no_form, HasOutcome, HasText, status_of}
 use Rattle.bus_cli.specs.OneOutcome.{NoInputHasTwoAnswers}
 use Rattle.script_run.specs.Script.{IsTold}
+use Rattle.script_run.specs.EachReport.{EachReportIsSettled, ReportsAreSettled}
 use Rattle.bus_cli.proofs.Forms.{one_form}
 
 -- the start of the answer to the bytes that were told was written
@@ -120,3 +121,10 @@ told_outcome words bytes no_form text run has zero is = absurd cc
 
 pub told_answer : (words : List (String Global)) (bytes text : List ℕ) → Asks words Run → Answers words bytes 0 text → IsTold bytes (Ok text)
 told_answer words bytes text run is = told_outcome words bytes is.outcome text run is.has is.status_is is.text_is
+
+-- ---- reports
+
+-- what is so of every script is so of the bytes, where they are told
+pub all_settled : ReportsAreSettled → (o : Option (List ℕ)) → IfSome o EachReportIsSettled
+all_settled h None = tt
+all_settled h (Some bytes) = h bytes

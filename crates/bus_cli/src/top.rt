@@ -7,6 +7,7 @@ ghost use Rattle.bus_cli.specs.declared.form.CaptureForm.{CaptureForm};
 ghost use Rattle.bus_cli.specs.Form.{Asks, AsksMake, IsForm};
 ghost use Rattle.topology_stack.specs.Tree.{Tree};
 ghost use Rattle.script_run.specs.Script.{IsTold};
+ghost use Rattle.script_run.specs.EachReport.{EachReportIsSettled};
 ghost use Rattle.bus_cli.specs.Capture.{Spells};
 ghost use Rattle.bus_cli.specs.Answer.{Answers};
 
@@ -15,6 +16,7 @@ use crate::form::Form;
 use crate::laws::one_outcome;
 use crate::status::{NO_FORM, NO_MEMORY, READ_FAULT, TOO_LONG, WRITE_FAULT};
 use io_edges::{ReadStop, Sink, Source, write_whole};
+use script_run::reports_are_settled;
 use std::alloc::Global;
 
 /// Does what the words after the program's name ask for: reads the input from `source`, writes the
@@ -56,6 +58,10 @@ pub fn bus_main<S: Source, K: Sink>(
     ensures run { result ≡ 0 → Asks words.now Form.Run → IfSome (S.left source.old) (λ bytes.
         (text : List ℕ) × IsTold bytes (Ok text)
         × Appends (K.written sink.old) (K.written sink.new) text) }
+    // In each of its reports every component is a loop in configuration timeout, one cable whose
+    // ends drew 32 equal coins, or one list at every node, the walk from its one root.
+    ensures settled { result ≡ 0 → Asks words.now Form.Run →
+        IfSome (S.left source.old) EachReportIsSettled }
 
     // With `make` no fault of reading comes, and the answer is that of the words alone.
     ensures unfailing { AsksMake words.now → (result ≢ 3) × (result ≢ 6) }
@@ -98,6 +104,7 @@ pub fn bus_main<S: Source, K: Sink>(
         K.faults sink.new ≡ K.faults sink.old) }
 {
     one_outcome();
+    reports_are_settled();
     let Some(form) = Form::of_words(words) else {
         return NO_FORM;
     };

@@ -91,6 +91,10 @@ module _ (w : CableWorld) (l : IsLawful w) (node : ℕ) (tree : Reported) (s : S
         let has : In k (numbers w.cabling its p.tree) = subst (In k) p.order (in-read ns i k (slice_get-get_or ns i d inside)) in
         omega (arith, same, node-there k (tree_within w.cabling (labels (attrs_now w)) its s.set p.tree root p.seen k has))
 
+  -- each node of the order exists
+  pub all-there : All (λ k. k < length w.cabling) tree.order
+  all-there = λ i d inside. omega (arith, its-there i inside, get_or_default tree.order i d 0 inside)
+
   -- a plan for the tree suits it
   pub plan-suits : PlansSuit w node → (shown : Tree) → IsBusTree shown → emits shown ≡ tree.list → (plan : RootPlan) → IsPlan shown plan → SuitsTree w node plan
   plan-suits suit shown bus same plan p =

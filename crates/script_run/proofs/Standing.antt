@@ -35,8 +35,8 @@ use Rattle.settle.specs.declared.report.Part.{Part}
 use Rattle.settle.specs.declared.report.Report.{Report}
 use Rattle.settle.specs.Report.{IsPart, IsReport}
 use Rattle.settle.specs.Reported.{IsReported, ReportsTree}
-use Rattle.settle_plan.proofs.Relabelled.{one-order}
-use Rattle.settle_plan.proofs.Suited.{SameNodes, same-component, same-tree}
+use Rattle.settle.proofs.Relabelled.{one-order}
+use Rattle.settle.proofs.SameNodes.{SameNodes, same-component, same-tree}
 use Rattle.script_run.specs.Bus.{Notes, Reported, tree_of, part_with, tree_with}
 use Rattle.script_run.specs.codings.Standing.{StandsSince, StandsAs}
 

@@ -21,6 +21,7 @@ pub mod Step
 pub mod Script
 pub mod Answered
 pub mod OneTold
+pub mod EachReport
 pub mod Made
 pub mod MadeRead
 pub mod codings

@@ -21,9 +21,9 @@ use Rattle.resource_manager.specs.declared.access.Answer.{Answer}
 use Rattle.resource_manager.specs.Access.{answer_of}
 use Rattle.bus_manager.specs.Election.{lock_for}
 use Rattle.root_plan.specs.declared.choice.RootPlan.{RootPlan}
-use Rattle.settle_plan.specs.Planned.{IsTreeFrom, HaveGap}
+use Rattle.settle_plan.specs.Planned.{HaveGap}
 use Rattle.settle.specs.declared.report.Report.{Report}
-use Rattle.settle.specs.Report.{IsReport, quiet_turns_of}
+use Rattle.settle.specs.Report.{IsReport, IsTreeFrom, quiet_turns_of}
 use Rattle.script_run.specs.declared.kind.Kind.{Kind}
 use Rattle.script_run.specs.declared.kind.Kind.TheVariants.{Word, Late, NoNode, NoPort, InUse, SameNode, NotPlugged, NotSettled, NoManager, NotManager, TooManyTurns, TooManyMaps}
 use Rattle.script_run.specs.declared.command.Command.{Command}

@@ -15,7 +15,7 @@ use crate::laws::reports_can_be_shown;
 use crate::report::report_text;
 use crate::table::NameTable;
 use cable_world::{Act, WorldRun};
-use cabling::End;
+use cabling::{End, Walk};
 use resource_manager::Seen;
 use settle::{Outcome, Part, Report, quiet_turns, settle};
 use std::alloc::Global;
@@ -53,7 +53,7 @@ pub(crate) struct Bus<W> {
 pub(crate) struct Reported<'a> {
     pub root: u8,
     pub list: &'a [u32],
-    pub order: &'a [u8],
+    pub order: &'a Walk,
 }
 
 /// The end at a port of a node.
@@ -103,7 +103,7 @@ impl Notes {
             Outcome::Tree { root, list, order } => Some(Reported {
                 root: *root,
                 list: list.as_slice(),
-                order: order.as_slice(),
+                order,
             }),
             _ => None,
         }

@@ -6,6 +6,7 @@ ghost use Rattle.script_run.specs.Name.{NamesAreTested};
 ghost use Rattle.script_run.specs.CanBeShown.{CanBeShown};
 ghost use Rattle.script_run.specs.OneText.{ReportsHaveOneText};
 ghost use Rattle.script_run.specs.OneTold.{ScriptsTellOneThing};
+ghost use Rattle.script_run.specs.EachReport.{ReportsAreSettled};
 
 use cable_world::WorldRun;
 use settle::reports_are_read_back;
@@ -42,6 +43,15 @@ pub fn reports_have_one_text()
 /// A law: no script tells two things. It has one text, or one fault of one line.
 pub fn scripts_tell_one_thing()
     ensures { ScriptsTellOneThing }
+{
+    one_tree();
+}
+
+/// A law: in each report of a script every component of the cables, as they then stand, is a loop
+/// whose core is in configuration timeout, or one cable whose ends drew thirty-two equal coins, or
+/// one list at every node, the child-first walk from its one root.
+pub fn reports_are_settled()
+    ensures { ReportsAreSettled }
 {
     one_tree();
 }

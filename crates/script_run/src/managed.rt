@@ -44,7 +44,7 @@ fn id_of(tree: Reported<'_>, node: u8) -> u8
     ensures value { result ≡ id_of (reported tree.entry) node }
     ensures few { result ≤ 62 }
 {
-    match place_of(tree.order, node) {
+    match place_of(tree.order.as_slice(), node) {
         Some(id) => id as u8,
         None => 0,
     }
@@ -60,8 +60,9 @@ impl Notes {
     {
         let shown = tree_of(alloc, tree.list)?;
         one_tree();
+        let order = tree.order.as_slice();
         match elect(&shown) {
-            Some(id) => Ok(Some(tree.order[id as usize])),
+            Some(id) => Ok(Some(order[id as usize])),
             None => Ok(None),
         }
     }

@@ -21,7 +21,7 @@ use cable_world::WorldRun;
 use cabling::Walk;
 use outcomes::trees_stay;
 use resource_manager::Register;
-use root_plan::{RootPlan, choose};
+use root_plan::{RootPlan, choose, expect};
 use settle::quiet_turns;
 use settle_plan::{plans_suit, settle_plan};
 use std::alloc::Global;
@@ -150,17 +150,16 @@ impl<W: WorldRun> Bus<W> {
         let _component = self.world.cabling().component(node);
     }
 
-    /// The nodes of a tree in the order in which they identify themselves where the node with an ID
-    /// is root.
-    fn expected(&self, node: u8, tree: Reported<'_>, root_id: u8) -> Walk
+    /// The nodes of a tree in the order in which they identify themselves once a plan's root is root.
+    fn expected(&self, node: u8, tree: Reported<'_>, plan: &RootPlan) -> Walk
         requires sound { IsSound W.world W.is_spent self.now }
         requires stands { StandsAs (W.world self.now.world) node (reported tree) }
-        requires place { root_id < length tree.order.now }
+        requires place { plan.now.root_id < length tree.order.now }
         ensures walk { IsWalk (W.world self.now.world).cabling
-            (node_with (reported tree.entry) root_id) result }
+            (node_with (reported tree.entry) plan.now.root_id) result }
         ensures nodes { All (λ k. k < length self.now.notes.names) result }
     {
-        match self.world.cabling().walk_from(tree.order[root_id as usize]) {
+        match expect(self.world.cabling(), tree.order, plan) {
             Ok(walk) => walk,
             Err(_) => unreachable!(),
         }
@@ -191,8 +190,9 @@ impl<W: WorldRun> Bus<W> {
         plans_suit(&self.world, node);
         let shown = tree_of(alloc, tree.list)?;
         let plan = chosen(&shown);
-        let expected = self.expected(node, tree, plan.root_id);
-        let root = tree.order[plan.root_id as usize];
+        let expected = self.expected(node, tree, &plan);
+        let order = tree.order.as_slice();
+        let root = order[plan.root_id as usize];
         let names = self.notes.names.list().as_slice();
         let line = plan_line(alloc, names, name, root, &plan, expected.as_slice())?;
         Ok(Planned { plan, line })

@@ -10,5 +10,10 @@ pub mod Greatest
 pub mod PartsSoFar
 pub mod ReadBack
 pub mod OneReport
+-- a tree from a root, and a node that alone is forced
+pub mod SameNodes
+pub mod Relabelled
+pub mod Found
+pub mod ForcedRoots
 -- the turns before
 pub mod TurnsGiven

@@ -3,7 +3,7 @@ use Rattle.std.proofs.Common.{◌≡◌, ℕ, zero, suc, ◌^◌, ◌<◌, ◌�
 use Rattle.std.specs.Prelude.{AllPairs}
 use Rattle.std.specs.Int.{w64, trailing_zeros}
 use Rattle.std.proofs.lemmas.Bool.{cases_eq}
-use Rattle.topology_stack.specs.Tree.{Tree, emits}
+use Rattle.topology_stack.specs.Tree.{emits}
 use Rattle.cabling.specs.Wiring.{IsCabling}
 use Rattle.cabling.specs.NodeSet.{Holds}
 use Rattle.cabling.specs.Sees.{numbers}

@@ -3,5 +3,7 @@ pub mod Reported
 pub mod Report
 pub mod ReadBack
 pub mod OneReport
+-- who is reported as root where one node is forced
+pub mod Forced
 -- how it is found
 pub mod codings

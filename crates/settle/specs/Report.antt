@@ -1,12 +1,15 @@
 -- What is reported of a world.
 use Rattle.std.specs.Prelude.{◌≡◌, ℕ, ◌<◌, ◌≤◌, List, Some, length, slice_get, All, Any, AllPairs}
+use Rattle.cabling.specs.Wiring.{Wiring}
 use Rattle.cabling.specs.NodeSet.{Holds}
 use Rattle.cabling.specs.Component.{IsComponent}
+use Rattle.cabling.specs.Walk.{IsWalk}
 use Rattle.cable_world.specs.World.{CableWorld, NodeNumber, NodeSet}
 use Rattle.cable_world.specs.Turn.{turns_after}
 use Rattle.cable_world.specs.Run.{quiet_turns}
 use Rattle.cable_world.specs.Outcome.{Shows}
 use Rattle.settle.specs.declared.report.Part.{Part}
+use Rattle.settle.specs.declared.report.Outcome.TheVariants as reported
 use Rattle.settle.specs.declared.report.Report.{Report}
 use Rattle.settle.specs.Reported.{IsReported}
 
@@ -57,6 +60,16 @@ pub record AreParts (w : CableWorld) (parts : List Part) : Type 0 where
 pub record IsReport (w : CableWorld) (report : Report) : Type 0 where
   pub turn : report.turn ≡ w.turns
   pub parts : AreParts w report.parts
+
+-- ---- a tree in it
+
+-- The part with a node is a tree with this root, whose order is the walk from there.
+pub record IsTreeFrom (c : Wiring) (from root : NodeNumber) (part : Part) : Type 0 where
+  pub holds : Holds part.nodes from
+  pub list : List ℕ
+  pub order : List NodeNumber
+  pub outcome : part.outcome ≡ reported.Tree root list order
+  pub walk : IsWalk c root order
 
 -- ---- the turns before it
 

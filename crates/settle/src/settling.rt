@@ -6,13 +6,14 @@ ghost use Rattle.cable_world.specs.Unchanged.{TurnsPass};
 ghost use Rattle.convergence.specs.Milestones.{ResetsAreDone};
 ghost use Rattle.settle.specs.codings.Reading.{IsLeast, HasLess, HasSettled};
 ghost use Rattle.settle.specs.Report.{AreParts, IsReport, quiet_turns_of, IsAfterQuiet};
+ghost use Rattle.settle.specs.Forced.{ForcedNodeIsRoot};
 
 use crate::part::{attrs_of, part_of};
 use crate::quiet::quiet_turns;
 use crate::report::{PartList, Report};
 use cable_world::WorldRun;
 use cabling::{NodeSet, OutOfMemory, components_are_whole};
-use outcomes::components_settle;
+use outcomes::{components_settle, forced_roots_settle, resets_spread};
 use std::alloc::{AllocError, Global};
 
 /// Whether a node of a set is the least in it.
@@ -49,12 +50,17 @@ fn parts_of<W: WorldRun>(alloc: Global, world: &W) -> Result<PartList, OutOfMemo
 /// each component came to: each comes to a loop, a contention or a tree, and no node is in R0 or R1
 /// then. With the turns done before they are at most 4,000,000,000.
 ///
+/// Where a reset had just begun in a component without loop, and one of its nodes alone is forced
+/// then, that node is the root of its tree.
+///
 /// After want of memory the world is spent, or it has done all of these turns.
 pub fn settle<W: WorldRun>(alloc: Global, world: &mut W) -> Result<Report, OutOfMemory>
     requires { (W.world world.old).turns + quiet_turns_of (W.world world.old) ≤ 4000000000 }
     ensures report { IfOk result (λ report. IsReport (W.world world.new) report) }
     ensures done { OnOk result (ResetsAreDone (W.world world.new)) }
     ensures quiet { OnOk result (IsAfterQuiet (W.world world.old) (W.world world.new)) }
+    ensures forced { IfOk result
+        (ForcedNodeIsRoot (W.world world.old) (W.world world.new)) }
     ensures passed { OnOk result
         (TurnsPass (quiet_turns_of (W.world world.old)) (W.world world.old) (W.world world.new)) }
     ensures fine { OnOk result (IsFalse (W.is_spent world.new)) }
@@ -67,6 +73,8 @@ pub fn settle<W: WorldRun>(alloc: Global, world: &mut W) -> Result<Report, OutOf
         return Err(AllocError);
     }
     components_settle();
+    resets_spread();
+    forced_roots_settle();
     let quiet = quiet_turns(world.cabling().nodes(), world.delay());
     world.run_turns(quiet)?;
     Ok(Report {

@@ -29,11 +29,12 @@ use Rattle.outcomes.specs.Forced.{NamesRoot}
 use Rattle.outcomes.specs.Settled.{IdsNameOneNode, ConfigsMoveRoots, ConfigsSetGaps}
 use Rattle.outcomes.proofs.settled.QuietTurns.{quiet-enough}
 use Rattle.root_plan.specs.declared.choice.RootPlan.{RootPlan}
-use Rattle.settle.specs.Report.{AreParts, IsAfterQuiet, quiet_turns_of}
+use Rattle.settle.specs.Report.{AreParts, IsTreeFrom, IsAfterQuiet, quiet_turns_of}
 use Rattle.settle.specs.declared.report.Part.{Part}
-use Rattle.settle_plan.specs.Planned.{WantsGap, SuitsTree, HasId, IsTreeFrom, HaveGap}
-use Rattle.settle_plan.proofs.Reported.{FoundTree, found, found-tree}
-use Rattle.settle_plan.proofs.Suited.{from-there, bus-of, same-component, tree-there, packet-fits, loopless-from}
+use Rattle.settle_plan.specs.Planned.{WantsGap, SuitsTree, HasId, HaveGap}
+use Rattle.settle.proofs.Found.{FoundTree, found, found-tree}
+use Rattle.settle.proofs.SameNodes.{same-component}
+use Rattle.settle_plan.proofs.Suited.{from-there, bus-of, tree-there, packet-fits, loopless-from}
 
 -- ---- answers
 

@@ -20,7 +20,8 @@ use Rattle.cable_world.proofs.Options.{some-of}
 use Rattle.bus_manager.specs.Hops.{IsHops}
 use Rattle.root_plan.proofs.Choosing.{candidate_within}
 use Rattle.settle_plan.specs.Planned.{PlansSuit}
-use Rattle.settle_plan.proofs.Suited.{same-component, same-tree, bus-of}
+use Rattle.settle.proofs.SameNodes.{same-component, same-tree}
+use Rattle.settle_plan.proofs.Suited.{bus-of}
 
 pub suits :
     NoListHasTwoTrees → (w : CableWorld) → IsLawful w → (from whole : ℕ) → from < length w.cabling →

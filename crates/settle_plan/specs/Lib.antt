@@ -1,3 +1,2 @@
 pub mod Planned
-pub mod Forced
 pub mod Hops

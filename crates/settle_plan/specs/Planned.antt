@@ -2,11 +2,9 @@
 use Rattle.std.specs.Prelude.{◌≡◌, ℕ, ◌<◌, true, List, Some, length}
 use Rattle.topology_stack.specs.Tree.{Tree, walk, emits, IsBusTree}
 use Rattle.topology_stack.specs.Elect.{IsCandidate}
-use Rattle.cabling.specs.Wiring.{Wiring}
 use Rattle.cabling.specs.NodeSet.{Holds}
 use Rattle.cabling.specs.Component.{IsComponent}
 use Rattle.cabling.specs.Sees.{numbers}
-use Rattle.cabling.specs.Walk.{IsWalk}
 use Rattle.cable_world.specs.declared.act.Act.TheVariants.{Config}
 use Rattle.cable_world.specs.World.{CableWorld, NodeNumber, NodeSet}
 use Rattle.cable_world.specs.Act.{ActLeads}
@@ -45,14 +43,6 @@ pub record IsAfterPlan
   pub sent : CableWorld
   pub act : ActLeads (Config from plan.root_id true (Some plan.gap)) w sent
   pub quiet : IsAfterQuiet sent v
-
--- The part with a node is a tree with this root, whose order is the walk from there.
-pub record IsTreeFrom (c : Wiring) (from root : NodeNumber) (part : Part) : Type 0 where
-  pub holds : Holds part.nodes from
-  pub list : List ℕ
-  pub order : List NodeNumber
-  pub outcome : part.outcome ≡ reported.Tree root list order
-  pub walk : IsWalk c root order
 
 -- each node of the component of a node has this gap count
 abbrev pub HaveGap : CableWorld → NodeNumber → ℕ → Type 0

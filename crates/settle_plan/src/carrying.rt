@@ -3,9 +3,9 @@ ghost use Rattle.std.specs.Prelude.{◌≡◌, ◌+◌, ◌≤◌, ℕ, Any};
 ghost use Rattle.std.specs.Prelude.{IfOk, OnOk, OnErr, IsErr, IsTrue, IsFalse};
 ghost use Rattle.cable_world.specs.Unchanged.{TurnsPass};
 ghost use Rattle.convergence.specs.Milestones.{ResetsAreDone};
-ghost use Rattle.settle.specs.Report.{IsReport, quiet_turns_of};
+ghost use Rattle.settle.specs.Report.{IsReport, IsTreeFrom, quiet_turns_of};
 ghost use Rattle.settle_plan.specs.Planned.{SuitsTree, HasId, IsAfterPlan};
-ghost use Rattle.settle_plan.specs.Planned.{IsTreeFrom, HaveGap, WantsGap};
+ghost use Rattle.settle_plan.specs.Planned.{HaveGap, WantsGap};
 
 use crate::laws::hops_stay;
 use cable_world::{Act, ActStop, WorldRun};

@@ -1,4 +1,5 @@
--- Five nodes in a line, and five in a star: the middle becomes root without contention.
+-- Five nodes in a line, and five in a star: the middle becomes root without contention. Each milestone
+-- on the way is there by the share that it is allowed, and long before.
 use Rattle.std.proofs.Common.{◌≡◌, ℕ, Bool, true, false, not, List, [], ◌∷◌, Option, Some, None, map, refl}
 use Rattle.std.specs.Prelude.{slice_index_or}
 use Rattle.port_state.specs.Entry.{enter}
@@ -7,9 +8,12 @@ use Rattle.port_state.specs.Tick.{tick}
 use Rattle.port_state.specs.Machine.{PortNode}
 use Rattle.cable_world.specs.World.{CableWorld, world_of_nodes}
 use Rattle.cable_world.specs.Turn.{turn, turns_after}
-use Rattle.cable_world.specs.Phases.{is_before_tree}
+use Rattle.cable_world.specs.Phases.{is_before_tree, is_in_bus_reset}
 use Rattle.cable_world.proofs.worked.Summary.{node_of, attrs, at, after_plug}
+use Rattle.convergence.specs.Milestones.{ResetsAreOver, ResetsAreDone, TreesAreTaken, TreesAreDecided}
+use Rattle.convergence.specs.Turns.{turns_to_over, turns_to_done, turns_to_trees, turns_to_decision}
 use Rattle.convergence.specs.Roots.{IsRoot}
+use Rattle.convergence.proofs.worked.AllNodes.{none-in, resets-over, trees-taken, trees-decided}
 
 -- with four ports each
 abbrev five : List PortNode
@@ -17,12 +21,12 @@ five =
     let x : PortNode = node_of 4 (attrs true 2 false) 0 in
     x ∷ x ∷ x ∷ x ∷ x ∷ []
 
-abbrev line : CableWorld
+abbrev pub line : CableWorld
 line =
     after_plug (at 3 1) (at 4 0) (after_plug (at 2 1) (at 3 0)
     (after_plug (at 1 1) (at 2 0) (after_plug (at 0 0) (at 1 0) (world_of_nodes 4 five))))
 
-abbrev star : CableWorld
+abbrev pub star : CableWorld
 star =
     after_plug (at 0 3) (at 4 0) (after_plug (at 0 2) (at 3 0)
     (after_plug (at 0 1) (at 2 0) (after_plug (at 0 0) (at 1 0) (world_of_nodes 4 five))))
@@ -55,3 +59,35 @@ star-grows :
     ≡ (true, None) ∷ (true, Some 0) ∷ (true, Some 0) ∷ (true, Some 0) ∷ (true, Some 0) ∷ []
 unfolding turn turns_after enter tick on_signal
 star-grows = refl
+
+-- ---- milestones
+
+shares :
+    (turns_to_over line ≡ 20) × (turns_to_done line ≡ 420) × (turns_to_trees line ≡ 1760)
+    × (turns_to_decision line ≡ 4300)
+unfolding enter
+shares = (refl, refl, refl, refl)
+
+line-over : ResetsAreOver (turns_after 1 line)
+unfolding turn turns_after enter tick on_signal
+line-over = resets-over (turns_after 1 line) refl
+
+line-done : ResetsAreDone (turns_after 257 line)
+unfolding turn turns_after enter tick on_signal
+line-done = none-in is_in_bus_reset (turns_after 257 line) refl
+
+line-taken : TreesAreTaken (turns_after 260 line)
+unfolding turn turns_after enter tick on_signal
+line-taken = trees-taken (turns_after 260 line) refl
+
+line-decided : TreesAreDecided (turns_after 264 line)
+unfolding turn turns_after enter tick on_signal
+line-decided = trees-decided (turns_after 264 line) refl
+
+star-taken : TreesAreTaken (turns_after 259 star)
+unfolding turn turns_after enter tick on_signal
+star-taken = trees-taken (turns_after 259 star) refl
+
+star-decided : TreesAreDecided (turns_after 262 star)
+unfolding turn turns_after enter tick on_signal
+star-decided = trees-decided (turns_after 262 star) refl

@@ -13,7 +13,7 @@ use Rattle.convergence.specs.Turns.{turns_to_over, turns_to_done, turns_to_trees
 use Rattle.convergence.specs.Coins.{last_coin}
 use Rattle.convergence.specs.Drawers.{AreUnequal, WinsOver}
 
-abbrev node_in : CableWorld → ℕ → PortNode
+abbrev pub node_in : CableWorld → ℕ → PortNode
 node_in w k = slice_index_or w.nodes k (plain_node 0)
 
 -- by which turns two nodes reach each milestone at the latest, where d is 4

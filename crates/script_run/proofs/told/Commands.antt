@@ -18,7 +18,7 @@ use Rattle.resource_manager.specs.declared.access.Access.TheVariants as access
 use Rattle.bus_manager.specs.Gap.{gap_of}
 use Rattle.root_plan.specs.Reach.{IsReach}
 use Rattle.root_plan.specs.declared.choice.RootPlan.{RootPlan}
-use Rattle.settle_plan.proofs.Relabelled.{one-order}
+use Rattle.settle.proofs.Relabelled.{one-order}
 use Rattle.settle.specs.declared.report.Report.{Report}
 use Rattle.settle.specs.Report.{IsReport, quiet_turns_of}
 use Rattle.settle.proofs.OneReport.{one-over-cabling}

@@ -21,7 +21,7 @@ use Rattle.script_run.proofs.told.Ports.{MayBePorts, HasPorts, read-ports}
 
 -- ---- nodes that are declared
 
-abbrev HavePorts : List PortNode → Type 0
+abbrev pub HavePorts : List PortNode → Type 0
 HavePorts [] = Unit {0}
 HavePorts (x ∷ nodes) = MayBePorts x.state.ports × HavePorts nodes
 
@@ -42,13 +42,13 @@ at-place (x ∷ nodes) h zero inside = h.0
 at-place (x ∷ nodes) h (suc i) inside = at-place nodes h.1 i (omega (arith, inside))
 
 -- 63 nodes at most are declared, each with its name and its ports
-record IsDrafted (draft : Draft) : Type 0 where
-  named : length draft.names ≡ length draft.nodes
-  few : length draft.names ≤ 63
-  ports : HavePorts draft.nodes
+pub record IsDrafted (draft : Draft) : Type 0 where
+  pub named : length draft.names ≡ length draft.nodes
+  pub few : length draft.names ≤ 63
+  pub ports : HavePorts draft.nodes
 
 -- at each stage the bus that runs on has a cabling
-abbrev Fits : Stage → Type 0
+abbrev pub Fits : Stage → Type 0
 Fits fresh = Unit {0}
 Fits (declaring draft) = IsDrafted draft
 Fits (running bus) = IsCabled bus.world
@@ -59,7 +59,7 @@ drafted-cabled draft h =
     length-map draft.nodes (λ (x : PortNode). x.state.ports) in
     bare (ports-of draft.nodes) (omega (arith, size, h.named, h.few)) (at-place draft.nodes h.ports)
 
-cabled : (stage : Stage) → Fits stage → IsCabled (bus_of stage).world
+pub cabled : (stage : Stage) → Fits stage → IsCabled (bus_of stage).world
 cabled fresh h = bare [] (omega arith) (λ i inside. absurd (omega (arith, inside)))
 cabled (declaring draft) h = drafted-cabled draft h
 cabled (running bus) h = h
@@ -67,11 +67,11 @@ cabled (running bus) h = h
 -- ---- a command
 
 -- after an answer the stage fits, unless the line was at fault
-abbrev LeavesFit : StageAnswer → Type 0
+abbrev pub LeavesFit : StageAnswer → Type 0
 LeavesFit (Ok (stage, text)) = Fits stage
 LeavesFit (Err kind) = Unit {0}
 
-abbrev IsOneStage : (StageAnswer → Type 0) → Type 0
+abbrev pub IsOneStage : (StageAnswer → Type 0) → Type 0
 IsOneStage Comes = (a b : StageAnswer) → Comes a → Comes b → (a ≡ b) × LeavesFit a
 
 known : (r a b : StageAnswer) → LeavesFit r → a ≡ r → b ≡ r → (a ≡ b) × LeavesFit a
@@ -138,7 +138,7 @@ runs trees stage command h a b x y =
       subst LeavesFit (sym x.2) (leaves x.0 same.1),
     )
 
-follows : NoListHasTwoTrees → (stage : Stage) (command : Command) → HasPorts command → Fits stage →
+pub follows : NoListHasTwoTrees → (stage : Stage) (command : Command) → HasPorts command → Fits stage →
     IsOneStage (Follows stage command)
 follows trees stage
     (Node name ports speed link contender force power gap hold short long word len seed packed)

@@ -9,9 +9,9 @@ use Rattle.cable_world.specs.Run.{Event, Runs, IsReached}
 use Rattle.outcomes.specs.Settled.{HasNoAct}
 use Rattle.root_plan.specs.declared.choice.RootPlan.{RootPlan}
 use Rattle.settle.specs.declared.report.Report.{Report}
-use Rattle.settle.specs.Report.{IsReport}
+use Rattle.settle.specs.Report.{IsReport, IsTreeFrom}
 use Rattle.settle.specs.Reported.{ReportsTree}
-use Rattle.settle_plan.specs.Planned.{HasId, IsTreeFrom, HaveGap}
+use Rattle.settle_plan.specs.Planned.{HasId, HaveGap}
 use Rattle.script_run.specs.Bus.{Bus, Reported}
 use Rattle.script_run.specs.Plan.{IsPlan, plan_line}
 use Rattle.script_run.specs.Step.{IsTreeOf, Acts, Reports, config_of, node_with}

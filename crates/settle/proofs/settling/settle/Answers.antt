@@ -6,6 +6,7 @@ use Rattle.cable_world.proofs.running.Whole.{lawful-now, not-spent}
 use Rattle.settle.specs.Report.{quiet_turns_of}
 use Rattle.settle.proofs.TurnsGiven.{quiet-is, on-err}
 use Rattle.settle.proofs.Settled.{done-by-then}
+use Rattle.settle.proofs.ForcedRoots.{forced-nodes}
 use Rattle.settle.proofs.settling.settle.Goals as goal
 
 pub quiet_turns-quiet-requires-clause-some_delay :
@@ -71,3 +72,14 @@ returns-clause-done g c =
     quiet-is w c.nodes.result c.delay.result c.quiet_turns-quiet.result c.quiet_turns-quiet.ensures (c.nodes.ensures.value ∙ ap length c.cabling.ensures) c.delay.ensures in
     done-by-then c.components_settle.ensures.done w (g.W.WorldRun.world c.run_turns.new.self) (c.in_ok-run_turns.ensures.done ∙ ap (λ (n : ℕ). turns_after n w) q)
     (g.met.W.WorldRun.reached c.args.world.now (sym c.spent.ensures ∙ c.if-spent.false))
+
+pub returns-clause-forced : goal.returns-clause-forced
+returns-clause-forced g c =
+    let w = g.W.WorldRun.world c.args.world.now in
+    let v = g.W.WorldRun.world c.run_turns.new.self in
+    let q : c.quiet_turns-quiet.result ≡ quiet_turns_of w =
+    quiet-is w c.nodes.result c.delay.result c.quiet_turns-quiet.result c.quiet_turns-quiet.ensures (c.nodes.ensures.value ∙ ap length c.cabling.ensures) c.delay.ensures in
+    forced-nodes c.resets_spread.ensures.taken c.forced_roots_settle.ensures.forced w v
+    (g.met.W.WorldRun.reached c.args.world.now (sym c.spent.ensures ∙ c.if-spent.false))
+    (c.in_ok-run_turns.ensures.done ∙ ap (λ (n : ℕ). turns_after n w) q)
+    _ (record { turn = c.turns.ensures; parts = c.in_ok-parts_of.ensures })

@@ -23,10 +23,11 @@ expected-expected-requires-clause-place g c =
     plan-place c.one_tree.ensures c.args.self.now.notes.names (reported c.args.tree) c.requires.named c.in_ok-shown.shown
     c.in_ok-shown.ensures.tree.0 c.in_ok-shown.ensures.tree.1 c.chosen-plan.result c.chosen-plan.ensures
 
-pub bounds-tree-plan : goal.bounds-tree-plan
-bounds-tree-plan g c =
-    plan-place c.one_tree.ensures c.args.self.now.notes.names (reported c.args.tree) c.requires.named c.in_ok-shown.shown
-    c.in_ok-shown.ensures.tree.0 c.in_ok-shown.ensures.tree.1 c.chosen-plan.result c.chosen-plan.ensures
+pub bounds-order-plan : goal.bounds-order-plan
+bounds-order-plan g c =
+    subst (λ (ns : List ℕ). c.chosen-plan.result.root_id < length ns) (sym c.as_slice-order.ensures.value)
+    (plan-place c.one_tree.ensures c.args.self.now.notes.names (reported c.args.tree) c.requires.named c.in_ok-shown.shown
+    c.in_ok-shown.ensures.tree.0 c.in_ok-shown.ensures.tree.1 c.chosen-plan.result c.chosen-plan.ensures)
 
 pub plan_line-requires-clause-root : goal.plan_line-requires-clause-root
 plan_line-requires-clause-root g c =
@@ -35,7 +36,8 @@ plan_line-requires-clause-root g c =
     let place = plan-place c.one_tree.ensures c.args.self.now.notes.names (reported c.args.tree) c.requires.named c.in_ok-shown.shown
     c.in_ok-shown.ensures.tree.0 c.in_ok-shown.ensures.tree.1 c.chosen-plan.result c.chosen-plan.ensures in
     let there = its-there w lawful c.args.node (reported c.args.tree) c.stands.ensures c.chosen-plan.result.root_id place in
-    omega (arith, there, get_or_default c.args.tree.order.now c.chosen-plan.result.root_id 0 0 place, c.requires.sound.bus.names, lawful.well_formed.count, ap length c.as_slice-names.ensures, ap length c.list.ensures)
+    let order = ap (λ (ns : List ℕ). get_or ns c.chosen-plan.result.root_id 0) c.as_slice-order.ensures.value in
+    omega (arith, there, order, get_or_default c.args.tree.order.now c.chosen-plan.result.root_id 0 0 place, c.requires.sound.bus.names, lawful.well_formed.count, ap length c.as_slice-names.ensures, ap length c.list.ensures)
 
 pub plan_line-requires-clause-nodes : goal.plan_line-requires-clause-nodes
 plan_line-requires-clause-nodes g c =
@@ -57,7 +59,8 @@ returns-clause-is g c =
       walk = c.expected-expected.ensures.walk;
       line_is =
           c.in_ok-line.ensures
-          ∙ ap (λ (ns : List (List ℕ)). plan_line ns c.args.name.now (get_or c.args.tree.order.now plan.root_id 0) plan c.as_slice.result.now) (c.as_slice-names.ensures ∙ c.list.ensures)
+          ∙ ap (λ (ns : List (List ℕ)). plan_line ns c.args.name.now (get_or c.as_slice-order.result.now plan.root_id 0) plan c.as_slice.result.now) (c.as_slice-names.ensures ∙ c.list.ensures)
+          ∙ ap (λ (ns : List ℕ). plan_line names c.args.name.now (get_or ns plan.root_id 0) plan c.as_slice.result.now) c.as_slice-order.ensures.value
           ∙ ap (λ (r : ℕ). plan_line names c.args.name.now r plan c.as_slice.result.now) (get_or_default c.args.tree.order.now plan.root_id 0 0 place)
           ∙ ap (λ (e : List ℕ). plan_line names c.args.name.now (node_with tree plan.root_id) plan e) c.as_slice.ensures.value;
     }

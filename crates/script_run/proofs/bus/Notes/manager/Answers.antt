@@ -12,8 +12,8 @@ there ns id P h = by (slice_get ns id) refl h
     by None e h = absurd h
     by (Some n) e h = slice_get_within ns id n e
 
-pub bounds-tree-id : goal.bounds-tree-id
-bounds-tree-id c =
+pub bounds-order-id : goal.bounds-order-id
+bounds-order-id c =
     let same : c.requires.tree ≡ c.in_ok-shown.shown = c.one_tree.ensures c.requires.tree c.in_ok-shown.shown c.requires.valid c.in_ok-shown.ensures.tree.0 (c.requires.emitted ∙ sym c.in_ok-shown.ensures.tree.1) in
     let inside : c.in-Some.id < length (walk c.in_ok-shown.shown) = there (walk c.in_ok-shown.shown) c.in-Some.id _ c.in-Some.ensures.highest.0 in
-    subst (λ (n : ℕ). c.in-Some.id < n) (ap (λ (t : Tree). length (walk t)) (sym same) ∙ sym c.requires.whole) inside
+    subst (λ (n : ℕ). c.in-Some.id < n) (ap (λ (t : Tree). length (walk t)) (sym same) ∙ sym c.requires.whole ∙ ap length (sym c.as_slice-order.ensures.value)) inside

@@ -18,11 +18,10 @@ use Rattle.convergence.proofs.turns.Flush.{after-cabling}
 use Rattle.outcomes.specs.Forced.{EntriesTakeOver, waits_due}
 use Rattle.outcomes.specs.Settled.{ForcedRootsSettle}
 use Rattle.outcomes.proofs.settled.QuietTurns.{quiet-enough}
-use Rattle.settle.specs.Report.{IsReport, quiet_turns_of, IsAfterQuiet}
+use Rattle.settle.specs.Report.{IsReport, IsTreeFrom, quiet_turns_of, IsAfterQuiet}
 use Rattle.settle.specs.declared.report.Report.{Report}
-use Rattle.settle_plan.specs.Planned.{IsTreeFrom}
-use Rattle.settle_plan.specs.Forced.{BeginsAnew, IsForcedAlone, ForcedNodesAreRoots}
-use Rattle.settle_plan.proofs.Reported.{found}
+use Rattle.settle.specs.Forced.{BeginsAnew, IsForcedAlone, ForcedNodeIsRoot}
+use Rattle.settle.proofs.Found.{found}
 
 module _
     (takes : EntriesTakeOver) (settles : ForcedRootsSettle) (w v : CableWorld) (l : IsLawful w)
@@ -72,5 +71,7 @@ module _
   forced-found : (report : Report) → IsReport v report → Any (IsTreeFrom w.cabling from node) report.parts
   forced-found report is = found w.cabling v cables from set node b.component tree-shape (there from b.component.holds) (IsReached w) reached moved report.parts is.parts
 
-pub forced-nodes : EntriesTakeOver → ForcedRootsSettle → ForcedNodesAreRoots
-forced-nodes takes settles w v report from set node reached quiet is b f = forced-found takes settles w v (lawful-now w reached) reached from set node quiet b f report is
+pub forced-nodes :
+    EntriesTakeOver → ForcedRootsSettle → (w v : CableWorld) → ∥ IsReached w ∥₁ → IsAfterQuiet w v →
+    (report : Report) → IsReport v report → ForcedNodeIsRoot w v report
+forced-nodes takes settles w v reached quiet report is from set node b f = forced-found takes settles w v (lawful-now w reached) reached from set node quiet b f report is

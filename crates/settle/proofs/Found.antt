@@ -17,14 +17,13 @@ use Rattle.port_state.specs.Machine.{PortNode}
 use Rattle.cable_world.specs.World.{CableWorld}
 use Rattle.cable_world.specs.Outcome.{IsTree, attrs_now}
 use Rattle.cable_world.proofs.Options.{some-of, some-same}
-use Rattle.settle.specs.Report.{IsPart, AreParts}
+use Rattle.settle.specs.Report.{IsPart, AreParts, IsTreeFrom}
 use Rattle.settle.specs.Reported.{IsReported}
 use Rattle.settle.specs.declared.report.Part.{Part}
 use Rattle.settle.specs.declared.report.Outcome.{Outcome}
 use Rattle.settle.specs.declared.report.Outcome.TheVariants as reported
-use Rattle.settle_plan.specs.Planned.{IsTreeFrom}
-use Rattle.settle_plan.proofs.Relabelled.{one-order}
-use Rattle.settle_plan.proofs.Suited.{SameNodes, same-component, same-tree}
+use Rattle.settle.proofs.Relabelled.{one-order}
+use Rattle.settle.proofs.SameNodes.{SameNodes, same-component, same-tree}
 
 -- a tree that was found, as the cables show it
 pub record FoundTree (c : Wiring) (v : CableWorld) (from root : ℕ) (part : Part) : Type 0 where
