@@ -23,4 +23,5 @@ pub mod Answered
 pub mod OneTold
 pub mod Made
 pub mod MadeRead
+pub mod MadeValid
 pub mod codings
