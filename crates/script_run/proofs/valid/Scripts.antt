@@ -20,15 +20,13 @@ use Rattle.script_run.specs.MadeRead.{made_name, declares, plugs, pulls, turns, 
 use Rattle.script_run.specs.MadeValid.{MadeScriptsHaveNoFault}
 use Rattle.script_run.proofs.MadeSize.{Near, end-near}
 use Rattle.script_run.proofs.MadeCommands.{made_is_read, made_is_split}
+use Rattle.script_run.proofs.told.Lines.{ports-of}
 use Rattle.script_run.proofs.valid.Names.{names_below, length-names, is-new}
 use Rattle.script_run.proofs.valid.Cables.{at, first, ArePlugged, none-plugged, taken-free, one-more, put-back}
 use Rattle.script_run.proofs.valid.Steps.{Leads, After, runs-lead, wider, and-then, each, SettlesAtEnd, text-told}
 use Rattle.script_run.proofs.valid.Buses.{IsBusOf, plug-goes, pull-goes, turn-goes, settle-goes}
 
 -- ---- the nodes
-
-abbrev ports-of : List PortNode → List ℕ
-ports-of nodes = map (λ (x : PortNode). x.state.ports) nodes
 
 -- three ports for each of so many nodes
 abbrev threes : ℕ → List ℕ
@@ -90,9 +88,7 @@ declare seed k few stage h r x =
 
 -- ---- the bus before its first cable
 
-no-ports : Option cable.End
-no-ports = None
-
+-- no end of it has a cable
 loose : (n node port : ℕ) → far (without_cables (threes n)) (at (end node port)) ≡ None
 loose zero node port = refl
 loose (suc n) zero zero = refl
@@ -101,12 +97,13 @@ loose (suc n) zero (suc (suc zero)) = refl
 loose (suc n) zero (suc (suc (suc port))) = refl
 loose (suc n) (suc node) port = loose n node port
 
+-- each node has its ports
 counted : (n : ℕ) → map length (without_cables (threes n)) ≡ threes n
 counted zero = refl
 counted (suc n) = ap (λ (counts : List ℕ). 3 ∷ counts) (counted n)
 
--- the bus that is declared
-pub record IsPlugged (n : ℕ) (g : Lcg) (k : ℕ) (stage : Stage) : Type 0 where
+-- the first so many cables are plugged, and no turn was done
+record IsPlugged (n : ℕ) (g : Lcg) (k : ℕ) (stage : Stage) : Type 0 where
   bus : IsBusOf n 0 (bus_of stage)
   cables : ArePlugged g k (bus_of stage).world.cabling
 
@@ -158,6 +155,7 @@ plug-one n g k few less stage h =
 abbrev AreAll : Lcg → ℕ → Wiring → Type 0
 AreAll g cables c = (j : ℕ) → j < cables → far c (first (suc j)) ≡ Some (at (end_of g j))
 
+-- they are, after no more than so many turns
 record IsWhole (n : ℕ) (g : Lcg) (turns : ℕ) (stage : Stage) : Type 0 where
   bus : IsBusOf n turns (bus_of stage)
   cables : AreAll g (n - 1) (bus_of stage).world.cabling
