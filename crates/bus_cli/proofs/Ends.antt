@@ -13,10 +13,11 @@ use Rattle.bus_cli.specs.declared.form.Form.TheVariants.{Capture, Rom, Run, Make
 use Rattle.bus_cli.specs.declared.form.CaptureForm.{CaptureForm}
 use Rattle.bus_cli.specs.Form.{Asks, AsksCapture, AsksMake, IsForm}
 use Rattle.bus_cli.specs.codings.Reading.{Reads, status_with, text_with}
-use Rattle.bus_cli.specs.Answer.{Answers, Outcome, shown, refused, rom, rom_refused, ran, made, no_form, HasOutcome, HasText, status_of}
+use Rattle.bus_cli.specs.Answer.{Answers, Outcome, shown, refused, rom, rom_refused, ran, made, no_form, MadeTells, HasOutcome, HasText, status_of}
 use Rattle.bus_cli.specs.OneOutcome.{NoInputHasTwoAnswers}
 use Rattle.script_run.specs.Script.{IsTold}
 use Rattle.script_run.specs.EachReport.{EachReportIsSettled, ReportsAreSettled}
+use Rattle.script_run.specs.Summary.{summary}
 use Rattle.bus_cli.proofs.Forms.{one_form}
 
 -- the start of the answer to the bytes that were told was written
@@ -89,24 +90,23 @@ pub or_else : (A : Type 0) (n m : ℕ) → (n ≡ m → ⊥) → (n ≡ m) ⊎ A
 or_else A n m apart (inl e) = absurd (apart e)
 or_else A n m apart (inr a) = a
 
--- an outcome of `make` is one whatever the bytes
-any_bytes : (words : List (String Global)) (bytes other : List ℕ) (o : Outcome) → AsksMake words → HasOutcome words bytes o → HasOutcome words other o
-any_bytes words bytes other (shown form t) make has = absurd (let e : Capture form ≡ Make make.0 make.1 = one_form words _ _ has.0 make.2 in cc)
-any_bytes words bytes other (refused f) make has = absurd (let e : Capture has.0.0 ≡ Make make.0 make.1 = one_form words _ _ has.0.1 make.2 in cc)
-any_bytes words bytes other (rom v) make has = absurd (let e : Rom ≡ Make make.0 make.1 = one_form words _ _ has.0 make.2 in cc)
-any_bytes words bytes other (rom_refused f) make has = absurd (let e : Rom ≡ Make make.0 make.1 = one_form words _ _ has.0 make.2 in cc)
-any_bytes words bytes other (ran r) make has = absurd (let e : Run ≡ Make make.0 make.1 = one_form words _ _ has.0 make.2 in cc)
-any_bytes words bytes other (made r) make has = has
-any_bytes words bytes other no_form make has = absurd (has (Make make.0 make.1, make.2))
+-- what answers `make` answers with 0, and is the summary of the text that the made script tells
+made_outcome : (words : List (String Global)) (bytes : List ℕ) (o : Outcome) (text : List ℕ) → AsksMake words → HasOutcome words bytes o → HasText o text → (status_of o ≡ 0) × ((told : List ℕ) × MadeTells words told × (text ≡ summary told))
+made_outcome words bytes (shown form t) text make has is = absurd (let e : Capture form ≡ Make make.0 make.1 = one_form words _ _ has.0 make.2 in cc)
+made_outcome words bytes (refused f) text make has is = absurd (let e : Capture has.0.0 ≡ Make make.0 make.1 = one_form words _ _ has.0.1 make.2 in cc)
+made_outcome words bytes (rom v) text make has is = absurd (let e : Rom ≡ Make make.0 make.1 = one_form words _ _ has.0 make.2 in cc)
+made_outcome words bytes (rom_refused f) text make has is = absurd (let e : Rom ≡ Make make.0 make.1 = one_form words _ _ has.0 make.2 in cc)
+made_outcome words bytes (ran r) text make has is = absurd (let e : Run ≡ Make make.0 make.1 = one_form words _ _ has.0 make.2 in cc)
+made_outcome words bytes (made told) text make has is = (refl, (told, has, is))
+made_outcome words bytes no_form text make has is = absurd (has (Make make.0 make.1, make.2))
 
--- and so is an answer
-pub answers_any : (words : List (String Global)) (bytes other : List ℕ) (status : ℕ) (text : List ℕ) → AsksMake words → Answers words bytes status text → Answers words other status text
-answers_any words bytes other status text make is = record {
-  outcome = is.outcome;
-  has = any_bytes words bytes other is.outcome make is.has;
-  status_is = is.status_is;
-  text_is = is.text_is;
-}
+pub made_status : (words : List (String Global)) (bytes : List ℕ) (status : ℕ) (text : List ℕ) → AsksMake words → Answers words bytes status text → status ≡ 0
+made_status words bytes status text make is =
+    is.status_is ∙ (made_outcome words bytes is.outcome text make is.has is.text_is).0
+
+pub made_answer : (words : List (String Global)) (bytes : List ℕ) (status : ℕ) (text : List ℕ) → AsksMake words → Answers words bytes status text → (told : List ℕ) × MadeTells words told × (text ≡ summary told)
+made_answer words bytes status text make is =
+    (made_outcome words bytes is.outcome text make is.has is.text_is).1
 
 -- what answers `run` with 0 is the text of the script
 told_outcome : (words : List (String Global)) (bytes : List ℕ) (o : Outcome) (text : List ℕ) → Asks words Run → HasOutcome words bytes o → 0 ≡ status_of o → HasText o text → IsTold bytes (Ok text)

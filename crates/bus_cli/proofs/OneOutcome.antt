@@ -1,5 +1,5 @@
 -- Words and bytes have one outcome.
-use Rattle.std.proofs.Common.{subst, Option, Some, ◌⊎◌, inl, inr, ◌≡◌, ℕ, List, refl, ap, ◌∙◌}
+use Rattle.std.proofs.Common.{subst, Option, Some, Ok, ◌⊎◌, inl, inr, ◌≡◌, ℕ, List, refl, ap, ◌∙◌}
 use Rattle.std.specs.Prelude.{String, All, ◌<◌}
 use Rattle.std.specs.Global.{Global}
 use Rattle.topology_stack.specs.Tree.{Tree}
@@ -56,12 +56,17 @@ one_fault one bytes f g (inr (v, (of, first))) (inl b) = absurd (one.rom_apart b
 one_fault one bytes f g (inr (v, (of, first))) (inr (w, (of', first'))) =
     one.block_fault w f g (subst (λ (x : Parts). BlocksRefused x f) (one.one_rom bytes v w of of') first) first'
 
--- two scripts that are made by the same words tell the same
-made_agrees : HasOneReading → (words : List (String Global)) (r s : Told) → MadeTells words r → MadeTells words s → r ≡ s
+same_text : (r s : List ℕ) → ◌≡◌ {A = Told} (Ok r) (Ok s) → r ≡ s
+same_text r s e = cc
+
+-- two scripts that are made by the same words tell the same text
+made_agrees : HasOneReading → (words : List (String Global)) (r s : List ℕ) → MadeTells words r → MadeTells words s → r ≡ s
 made_agrees one words r s a b =
     let same = one_make words a.nodes b.nodes a.seed b.seed a.asks b.asks in
     let script : made_script a.nodes a.seed ≡ made_script b.nodes b.seed = ap (λ (n : ℕ). made_script n a.seed) same.0 ∙ ap (λ (k : ℕ). made_script b.nodes k) same.1 in
-    one.script (made_script b.nodes b.seed) r s (subst (λ (x : List ℕ). IsTold x r) script a.tells) b.tells
+    same_text r s
+    (one.script (made_script b.nodes b.seed) (Ok r) (Ok s)
+    (subst (λ (x : List ℕ). IsTold x (Ok r)) script a.tells) b.tells)
 
 same_capture : (a b : CaptureForm) → Capture a ≡ Capture b → a ≡ b
 same_capture a b e = cc
@@ -122,7 +127,7 @@ outcomes_agree one words bytes (made r) (refused g) m ((b, asks'), fault') = abs
 outcomes_agree one words bytes (made r) (rom w) m (asks', tells') = absurd (two_kinds words (Make m.nodes m.seed) Rom m.asks asks' (λ e. cc))
 outcomes_agree one words bytes (made r) (rom_refused g) m (asks', fault') = absurd (two_kinds words (Make m.nodes m.seed) Rom m.asks asks' (λ e. cc))
 outcomes_agree one words bytes (made r) (ran s) m (asks', tells') = absurd (two_kinds words (Make m.nodes m.seed) Run m.asks asks' (λ e. cc))
-outcomes_agree one words bytes (made r) (made s) m m' = ap (λ (x : Told). made x) (made_agrees one words r s m m')
+outcomes_agree one words bytes (made r) (made s) m m' = ap (λ (x : List ℕ). made x) (made_agrees one words r s m m')
 outcomes_agree one words bytes (made r) no_form m none' = absurd (none' (Make m.nodes m.seed, m.asks))
 outcomes_agree one words bytes no_form (shown b u) none (asks', spells') = absurd (none (Capture b, asks'))
 outcomes_agree one words bytes no_form (refused g) none ((b, asks'), fault') = absurd (none (Capture b, asks'))

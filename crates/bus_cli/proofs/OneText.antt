@@ -22,8 +22,7 @@ one_text roms words bytes (rom v) a b has x y = roms v x.list y.list a b x.are_b
 one_text roms words bytes (rom_refused f) a b has x y = x ∙ sym y
 one_text roms words bytes (ran (Ok t)) a b has x y = x ∙ sym y
 one_text roms words bytes (ran (Err f)) a b has x y = x ∙ sym y
-one_text roms words bytes (made (Ok t)) a b has x y = x ∙ sym y
-one_text roms words bytes (made (Err f)) a b has x y = x ∙ sym y
+one_text roms words bytes (made t) a b has x y = x ∙ sym y
 one_text roms words bytes no_form a b has x y = x ∙ sym y
 
 pub answers_agree : HasOneReading → NoInputHasTwoAnswers

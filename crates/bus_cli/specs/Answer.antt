@@ -32,23 +32,23 @@ abbrev pub RomRefused : List ℕ → RomFault → Type 0
 RomRefused bytes f =
     (rom_fault bytes ≡ Some f) ⊎ ((v : Parts) × (IsRomOf bytes v × BlocksRefused v f))
 
--- the words ask for a script to be made, and it tells this
-pub record MadeTells (words : List (String Global)) (told : Told) : Type 0 where
+-- the words ask for a script to be made, and this is the text that it tells
+pub record MadeTells (words : List (String Global)) (text : List ℕ) : Type 0 where
   pub nodes : ℕ
   pub seed : ℕ
   pub asks : Asks words (Make nodes seed)
-  pub tells : IsTold (made_script nodes seed) told
+  pub tells : IsTold (made_script nodes seed) (Ok text)
 
 -- What words and bytes come to: a tree that is shown in a form, the fault of a capture, a ROM, the
--- fault of a ROM, what a script tells, what a script that is made tells, or no form at all. A script
--- tells a text or a fault.
+-- fault of a ROM, what a script tells, the text that a script that is made tells, or no form at all. A
+-- script tells a text or a fault, and one that is made tells a text.
 pub data Outcome : Type 0 where
   shown : CaptureForm → Tree → Outcome
   refused : CaptureFault → Outcome
   rom : Parts → Outcome
   rom_refused : RomFault → Outcome
   ran : Told → Outcome
-  made : Told → Outcome
+  made : List ℕ → Outcome
   no_form : Outcome
 
 -- the words ask for what the bytes are read as, or they are no form
@@ -58,7 +58,7 @@ HasOutcome words bytes (refused f) = AsksCapture words × CaptureRefused bytes f
 HasOutcome words bytes (rom v) = Asks words Rom × TellsRom bytes v
 HasOutcome words bytes (rom_refused f) = Asks words Rom × RomRefused bytes f
 HasOutcome words bytes (ran told) = Asks words Run × IsTold bytes told
-HasOutcome words bytes (made told) = MadeTells words told
+HasOutcome words bytes (made text) = MadeTells words text
 HasOutcome words bytes no_form = ¬ IsForm words
 
 -- the exit status that tells it
@@ -69,8 +69,7 @@ status_of (rom v) = 0
 status_of (rom_refused f) = 1
 status_of (ran (Ok text)) = 0
 status_of (ran (Err f)) = 1
-status_of (made (Ok text)) = 0
-status_of (made (Err f)) = 1
+status_of (made text) = 0
 status_of no_form = 2
 
 -- how a tree is shown: by `read` as its text with no names, by `maps` as its maps with generation 1
@@ -92,8 +91,7 @@ HasText (rom v) text = TextOfRom v text
 HasText (rom_refused f) text = text ≡ rom_line f
 HasText (ran (Ok script_text)) text = text ≡ script_text
 HasText (ran (Err f)) text = text ≡ script_line f
-HasText (made (Ok script_text)) text = text ≡ summary script_text
-HasText (made (Err f)) text = text ≡ script_line f
+HasText (made script_text) text = text ≡ summary script_text
 HasText no_form text = text ≡ []
 
 -- the status and the text of what the words and the bytes come to

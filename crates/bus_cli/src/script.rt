@@ -1,7 +1,6 @@
 //! The answer to a script.
-ghost use Rattle.std.specs.Prelude.{◌≡◌, ◌≤◌, ℕ, List, Ok, IfOk, IfErr, String, length};
+ghost use Rattle.std.specs.Prelude.{◌≡◌, ◌≤◌, ℕ, List, Ok, IfOk, String, length};
 ghost use Rattle.std.specs.Global.{Global};
-ghost use Rattle.script_run.specs.Answered.{IsRefused};
 ghost use Rattle.script_run.specs.Made.{made_script};
 ghost use Rattle.script_run.specs.Script.{IsTold};
 ghost use Rattle.script_run.specs.Summary.{summary};
@@ -13,7 +12,7 @@ ghost use Rattle.bus_cli.specs.codings.Reading.{status_with, text_with};
 use crate::answer::Answer;
 use crate::line::script_line;
 use quad_lanes::OutOfMemory;
-use script_run::{ScriptStop, make_script, run_script, summary};
+use script_run::{ScriptStop, made_scripts_have_no_fault, make_script, run_script, summary};
 use std::alloc::Global;
 
 /// The answer to the bytes of a script.
@@ -30,16 +29,19 @@ pub(crate) fn answer_to_script(alloc: Global, bytes: &[u8]) -> Result<Answer, Ou
 }
 
 /// The summary of what the script prints that is made for so many nodes, 1 to 63, and a seed.
-fn made_summary(alloc: Global, nodes: u8, seed: u32) -> Result<Vec<u8>, ScriptStop>
+fn made_summary(alloc: Global, nodes: u8, seed: u32) -> Result<Vec<u8>, OutOfMemory>
     requires least { 1 ≤ nodes }
     requires most { nodes ≤ 63 }
-    ensures text { IfOk result (λ text. (told : List ℕ)
+    ensures { IfOk result (λ text. (told : List ℕ)
         × IsTold (made_script nodes seed) (Ok told) × (text.items ≡ summary told)) }
-    ensures fault { IfErr result (IsRefused (made_script nodes seed)) }
 {
+    made_scripts_have_no_fault();
     let script = make_script(alloc, nodes, seed)?;
-    let text = run_script(alloc, &script)?;
-    Ok(summary(alloc, &text)?)
+    match run_script(alloc, &script) {
+        Ok(text) => summary(alloc, &text),
+        Err(ScriptStop::Fault(_)) => unreachable!(),
+        Err(ScriptStop::Memory(error)) => Err(error),
+    }
 }
 
 /// The answer to a request for the script that is made for so many nodes, 1 to 63, and a seed.
@@ -50,9 +52,5 @@ pub(crate) fn answer_to_make(alloc: Global, nodes: u8, seed: u32) -> Result<Answ
         Asks words (Make nodes seed) →
         Answers words bytes (status_with answer) (text_with answer)) }
 {
-    match made_summary(alloc, nodes, seed) {
-        Ok(text) => Ok(Answer::Valid(text)),
-        Err(ScriptStop::Fault(fault)) => Ok(Answer::Refused(script_line(fault))),
-        Err(ScriptStop::Memory(error)) => Err(error),
-    }
+    Ok(Answer::Valid(made_summary(alloc, nodes, seed)?))
 }

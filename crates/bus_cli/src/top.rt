@@ -1,5 +1,5 @@
 //! The top call.
-ghost use Rattle.std.specs.Prelude.{◌≡◌, ◌≢◌, ℕ, ◌≤◌, ◌⊎◌, ◌↔◌, List, [], length, Ok, IfSome};
+ghost use Rattle.std.specs.Prelude.{◌≡◌, ◌≢◌, ℕ, ◌≤◌, ◌⊎◌, ◌↔◌, List, length, Ok, IfSome};
 ghost use Rattle.std.specs.Io.KnownBytes.{Appends, IsAtEnd};
 ghost use Rattle.io_edges.specs.Faults.{Rose};
 ghost use Rattle.io_edges.specs.Told.{AppendsStart, IfTold, TookOver};
@@ -8,8 +8,9 @@ ghost use Rattle.bus_cli.specs.Form.{Asks, AsksMake, IsForm};
 ghost use Rattle.topology_stack.specs.Tree.{Tree};
 ghost use Rattle.script_run.specs.Script.{IsTold};
 ghost use Rattle.script_run.specs.EachReport.{EachReportIsSettled};
+ghost use Rattle.script_run.specs.Summary.{summary};
 ghost use Rattle.bus_cli.specs.Capture.{Spells};
-ghost use Rattle.bus_cli.specs.Answer.{Answers};
+ghost use Rattle.bus_cli.specs.Answer.{Answers, MadeTells};
 
 use crate::answer::read_answer;
 use crate::form::Form;
@@ -34,7 +35,8 @@ use std::alloc::Global;
 ///
 /// The words are judged first, without memory; then the input is read to its end; then it is
 /// judged; and only then is anything written. What is said of the input holds where the source
-/// tells its bytes. With `make` nothing is read, and the script that is made is the input.
+/// tells its bytes. With `make` nothing is read, and the script that is made is the input; it has no
+/// fault, so 1 doesn't come.
 ///
 /// With `run`, the text at status 0 is what the script tells over the one run of its bus. In each
 /// report of it, each component is a loop with its core in configuration timeout, or a cable whose
@@ -63,11 +65,12 @@ pub fn bus_main<S: Source, K: Sink>(
     ensures settled { result ≡ 0 → Asks words.now Form.Run →
         IfSome (S.left source.old) EachReportIsSettled }
 
-    // With `make` no fault of reading comes, and the answer is that of the words alone.
-    ensures unfailing { AsksMake words.now → (result ≢ 3) × (result ≢ 6) }
-    ensures make { (result ≡ 0) ⊎ (result ≡ 1) → AsksMake words.now → (text : List ℕ)
-        × Answers words.now [] result text
-        × Appends (K.written sink.old) (K.written sink.new) text }
+    // With `make` the script has no fault and nothing is read, and what is written at status 0 is
+    // the summary of the text that the script tells.
+    ensures unfailing { AsksMake words.now → (result ≢ 1) × (result ≢ 3) × (result ≢ 6) }
+    ensures make { result ≡ 0 → AsksMake words.now → (text : List ℕ)
+        × MadeTells words.now text
+        × Appends (K.written sink.old) (K.written sink.new) (summary text) }
 
     // When each other status comes.
     ensures no_form { (result ≡ 2) ↔ (¬ IsForm words.now) }

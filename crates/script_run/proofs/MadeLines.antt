@@ -81,29 +81,40 @@ again_more ends g now k node old before pulled turned new w same h p t n =
 
 -- ---- the ends in a list and by their numbers
 
+-- a list of one item for each number
+pub length-each : {A : Type 0} (n : ℕ) (item : ℕ → A) → length (for_each n (λ k. item k ∷ [])) ≡ n
+length-each zero item = refl
+length-each {A = A} (suc n) item =
+    let others : List A = for_each n (λ k. item k ∷ []) in
+    let one : length (others ++ item n ∷ []) ≡ length others + 1 = length-append others (item n ∷ []) in
+    omega (arith, one, length-each n item)
+
+pub at-each : {A : Type 0} (n k : ℕ) (item : ℕ → A) (d : A) → k < n
+    → get_or (for_each n (λ k. item k ∷ [])) k d ≡ item k
+at-each zero k item d h = absurd (omega (arith, h))
+at-each {A = A} (suc n) k item d h = go (nat_lt k n) refl (at-each n k item d)
+  where
+    others : List A
+    others = for_each n (λ k. item k ∷ [])
+
+    go : (less : Bool) → nat_lt k n ≡ less → (k < n → get_or others k d ≡ item k)
+        → get_or (others ++ item n ∷ []) k d ≡ item k
+    go true e before =
+        let less : k < n = grind (arith, nat_tests) in
+        let inside : k < length others = omega (arith, less, length-each n item) in
+        get_or_append_left others (item n ∷ []) d k inside ∙ before less
+    go false e before =
+        let same : k ≡ n = grind (arith, nat_tests) in
+        let first : n - n ≡ 0 = omega arith in
+        rw same
+        (get_or-append_right others (item n ∷ []) n n d (length-each n item) (omega arith)
+        ∙ ap (λ i. get_or (item n ∷ []) i d) first)
+
 pub length-ends : (g : Lcg) (k : ℕ) → length (ends_below g k) ≡ k
-length-ends g zero = refl
-length-ends g (suc k) =
-    let one : length (ends_below g k ++ end_of g k ∷ []) ≡ length (ends_below g k) + 1 =
-    length-append (ends_below g k) (end_of g k ∷ []) in
-    omega (arith, one, length-ends g k)
+length-ends g k = length-each k (end_of g)
 
 end_at-ends : (g : Lcg) (c k : ℕ) → k < c → end_at (ends_below g c) k ≡ end_of g k
-end_at-ends g zero k h = absurd (omega (arith, h))
-end_at-ends g (suc c) k h = go (nat_lt k c) refl (end_at-ends g c k)
-  where
-    go : (less : Bool) → nat_lt k c ≡ less → (k < c → end_at (ends_below g c) k ≡ end_of g k)
-        → end_at (ends_below g (suc c)) k ≡ end_of g k
-    go true e before =
-        let less : k < c = grind (arith, nat_tests) in
-        let inside : k < length (ends_below g c) = omega (arith, length-ends g c) in
-        get_or_append_left (ends_below g c) (end_of g c ∷ []) (end 0 0) k inside ∙ before less
-    go false e before =
-        let same : k ≡ c = grind (arith, nat_tests) in
-        let first : c - c ≡ 0 = omega arith in
-        rw same
-        (get_or-append_right (ends_below g c) (end_of g c ∷ []) c c (end 0 0) (length-ends g c) (omega arith)
-        ∙ ap (λ i. get_or (end_of g c ∷ []) i (end 0 0)) first)
+end_at-ends g c k h = at-each c k (end_of g) (end 0 0) h
 
 words_after : (g : Lcg) (c k : ℕ) → words_from (words_from g c) k ≡ words_from g (c + k)
 words_after g c zero = rw add-zero refl

@@ -32,7 +32,7 @@ added-near k zero d h = record { node = omega arith; port = omega arith }
 added-near k (suc zero) d h = record { node = omega arith; port = omega arith }
 added-near k (suc (suc i)) d h = absurd (omega (arith, h))
 
-free-near : (g : Lcg) (k : ℕ) → All (Near k) (free_ends g k)
+pub free-near : (g : Lcg) (k : ℕ) → All (Near k) (free_ends g k)
 unfolding left
 free-near g zero = first-near
 free-near g (suc k) =

@@ -6,10 +6,9 @@ use Rattle.std.specs.Str.Lines.{strip_carriage_return}
 use Rattle.std.proofs.lemmas.Bool.{lt-ltb}
 use Rattle.port_state.specs.Machine.{PortNode}
 use Rattle.cable_world.specs.World.{CableWorld, world_of_nodes}
-use Rattle.cable_world.specs.Turn.{turn, turns_after}
+use Rattle.cable_world.specs.Turn.{turns_after}
 use Rattle.cable_world.specs.Act.{note_changes, plug}
 use Rattle.cable_world.specs.Run.{quiet_turns}
-use Rattle.cable_world.proofs.turns.ByNumber.{turns-counted, delay-after, cabling-after}
 use Rattle.settle.specs.declared.report.Report.{Report}
 use Rattle.settle.specs.Report.{IsReport, quiet_turns_of}
 use Rattle.script_run.specs.declared.kind.Kind.{Kind}
@@ -27,6 +26,7 @@ use Rattle.script_run.specs.Step.{LineAnswer, end_of, notes_after_act, notes_aft
 use Rattle.script_run.specs.Script.{script_lines, Stage, fresh, declaring, running, bus_of, delay_of, new_node, times_of, coins_of, Follows, Told, behind, fault_at, Tells, IsTold}
 use Rattle.script_run.specs.codings.Reading.{read_line}
 use Rattle.script_run.proofs.LineRead.{reads}
+use Rattle.script_run.proofs.Turns.{AfterTurns, after-turns}
 
 -- ---- lines
 
@@ -94,23 +94,6 @@ module _ (number : ℕ) (line : List ℕ) (lines : List (List ℕ)) (stage : Sta
 
 abbrev nothing : CableWorld
 nothing = world_of_nodes 4 []
-
--- what so many turns leave as it is
-record AfterTurns (k : ℕ) (w v : CableWorld) : Type 0 where
-  turns : v.turns ≡ w.turns + k
-  delay : v.delay ≡ w.delay
-  cabling : v.cabling ≡ w.cabling
-
-after-turns : (k : ℕ) (w : CableWorld) → AfterTurns k w (turns_after k w)
-unfolding turns_after
-after-turns zero w = record { turns = omega arith; delay = refl; cabling = refl }
-after-turns (suc k) w =
-    let rest = after-turns k (turn w) in
-    record {
-      turns = omega (arith, rest.turns, turns-counted w);
-      delay = rest.delay ∙ delay-after w;
-      cabling = rest.cabling ∙ cabling-after w;
-    }
 
 abbrev no-parts : ℕ → Report
 no-parts turn = record { turn = turn; parts = [] }

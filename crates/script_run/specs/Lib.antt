@@ -24,4 +24,5 @@ pub mod OneTold
 pub mod EachReport
 pub mod Made
 pub mod MadeRead
+pub mod MadeValid
 pub mod codings

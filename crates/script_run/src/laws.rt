@@ -2,6 +2,7 @@
 ghost use Rattle.std.specs.Prelude.{IsFalse};
 ghost use Rattle.script_run.specs.Answer.{OneReading, SomeReading};
 ghost use Rattle.script_run.specs.MadeRead.{MadeIsRead, MadeIsSplit};
+ghost use Rattle.script_run.specs.MadeValid.{MadeScriptsHaveNoFault};
 ghost use Rattle.script_run.specs.Name.{NamesAreTested};
 ghost use Rattle.script_run.specs.CanBeShown.{CanBeShown};
 ghost use Rattle.script_run.specs.OneText.{ReportsHaveOneText};
@@ -61,4 +62,9 @@ pub fn reports_are_settled()
 pub fn made_is_read()
     ensures read { MadeIsRead }
     ensures split { MadeIsSplit }
+{}
+
+/// A law: the run of a script that is made has no fault.
+pub fn made_scripts_have_no_fault()
+    ensures { MadeScriptsHaveNoFault }
 {}

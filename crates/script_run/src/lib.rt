@@ -38,8 +38,7 @@ pub use command::Command;
 pub use kind::{Kind, LineStop, ScriptFault, ScriptStop};
 pub use last_report::summary;
 pub use laws::{
-    made_is_read, names_are_tested, one_reading, reports_are_settled, reports_can_be_shown,
-    reports_have_one_text, scripts_tell_one_thing,
+    made_is_read, made_scripts_have_no_fault, names_are_tested, one_reading, reports_are_settled, reports_can_be_shown, reports_have_one_text, scripts_tell_one_thing,
 };
 pub use line::parse_line;
 pub use made::make_script;

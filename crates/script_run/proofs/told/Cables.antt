@@ -33,10 +33,10 @@ turns-cabled (suc k) w h = turns-cabled k (turn w) (alike w (turn w) (cabling-af
 
 -- ---- acts
 
-plug-cabled :
-    (a b : End) (w : CableWorld) → act_fault (Plug a b) w ≡ None → IsCabled w →
-    IsCabled (plug a b w)
-plug-cabled a b w none h =
+plug-adds :
+    (a b : End) (w : CableWorld) → act_fault (Plug a b) w ≡ None →
+    Added w.cabling (plug a b w).cabling a b
+plug-adds a b w none =
     let may : Pluggable w.cabling a b = pluggable w.cabling a b none in
     let c : Wiring = put b (Some a) (put a (Some b) w.cabling) in
     let added : Added w.cabling c a b =
@@ -46,20 +46,32 @@ plug-cabled a b w none h =
     let same : (plug a b w).cabling ≡ c =
     step-cables b.node (node_plugged b.port) next
     ∙ step-cables a.node (node_plugged a.port) start in
-    subst IsCabling (sym same) (cabling_added w.cabling c a b h may.apart added)
+    subst (λ (new : Wiring). Added w.cabling new a b) (sym same) added
+
+plug-cabled :
+    (a b : End) (w : CableWorld) → act_fault (Plug a b) w ≡ None → IsCabled w →
+    IsCabled (plug a b w)
+plug-cabled a b w none h =
+    cabling_added w.cabling (plug a b w).cabling a b h (pluggable w.cabling a b none).apart
+    (plug-adds a b w none)
+
+pull-takes :
+    (a b : End) (w : CableWorld) → far w.cabling a ≡ Some b → IsCabled w →
+    TakenOut w.cabling (pull_from a (Some b) w).cabling a b
+pull-takes a b w at h =
+    let c : Wiring = put b None (put a None w.cabling) in
+    let start : CableWorld = remove_cable a b w in
+    let next : CableWorld = with_step a.node (node_pulled a.port) start in
+    let same : (pull_from a (Some b) w).cabling ≡ c =
+    step-cables b.node (node_pulled b.port) next ∙ step-cables a.node (node_pulled a.port) start in
+    subst (λ (new : Wiring). TakenOut w.cabling new a b) (sym same) (taken_by_writes w.cabling a b h at)
 
 pull-cabled :
     (a : End) (o : Option End) (w : CableWorld) → far w.cabling a ≡ o → IsCabled w →
     IsCabled (pull_from a o w)
 pull-cabled a None w at h = h
 pull-cabled a (Some b) w at h =
-    let c : Wiring = put b None (put a None w.cabling) in
-    let taken : TakenOut w.cabling c a b = taken_by_writes w.cabling a b h at in
-    let start : CableWorld = remove_cable a b w in
-    let next : CableWorld = with_step a.node (node_pulled a.port) start in
-    let same : (pull_from a (Some b) w).cabling ≡ c =
-    step-cables b.node (node_pulled b.port) next ∙ step-cables a.node (node_pulled a.port) start in
-    subst IsCabling (sym same) (cabling_taken w.cabling c a b h taken)
+    cabling_taken w.cabling (pull_from a (Some b) w).cabling a b h (pull-takes a b w at h)
 
 noted : (w u v : CableWorld) → v ≡ note_changes w u → IsCabled u → IsCabled v
 noted w u v is h = subst IsCabled (sym is) h
@@ -79,6 +91,22 @@ act-cabled (Config from root_id force gap) w v none is h =
     record w { nodes = change_in_set is.0 (node_set_config packet) 0 w.nodes } in
     noted w (configure is.0 from packet w) v is.2
     (alike w (configure is.0 from packet w) (step-cables from node_disturb told) h)
+
+-- ---- the cable of an act
+
+pub act-adds :
+    (a b : End) (w v : CableWorld) → act_fault (Plug a b) w ≡ None → ActLeads (Plug a b) w v →
+    Added w.cabling v.cabling a b
+act-adds a b w v none is =
+    subst (λ (u : CableWorld). Added w.cabling u.cabling a b) (sym is) (plug-adds a b w none)
+
+pub act-takes :
+    (a b : End) (w v : CableWorld) → far w.cabling a ≡ Some b → IsCabled w →
+    ActLeads (Pull a) w v → TakenOut w.cabling v.cabling a b
+act-takes a b w v at h is =
+    let from : v ≡ note_changes w (pull_from a (Some b) w) =
+    is ∙ ap (λ (o : Option End). note_changes w (pull_from a o w)) at in
+    subst (λ (u : CableWorld). TakenOut w.cabling u.cabling a b) (sym from) (pull-takes a b w at h)
 
 -- ---- one world
 

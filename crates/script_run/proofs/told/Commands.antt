@@ -124,7 +124,7 @@ same-answer : (a b : Bus) (s t : List ℕ) → a ≡ b → s ≡ t → answer-of
 same-answer a b s t x y =
     ap (λ (bus : Bus). answer-of bus s) x ∙ ap (answer-of b) y
 
-not-refused : (fault : Option CableFault) (kind : Kind) → fault ≡ None →
+pub not-refused : (fault : Option CableFault) (kind : Kind) → fault ≡ None →
     IsSomeAnd fault (λ f. kind ≡ kind_of f) → ⊥
 not-refused None kind none h = h
 not-refused (Some f) kind none h = absurd cc

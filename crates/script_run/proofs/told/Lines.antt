@@ -25,7 +25,7 @@ abbrev pub HavePorts : List PortNode → Type 0
 HavePorts [] = Unit {0}
 HavePorts (x ∷ nodes) = MayBePorts x.state.ports × HavePorts nodes
 
-abbrev ports-of : List PortNode → List ℕ
+abbrev pub ports-of : List PortNode → List ℕ
 ports-of nodes = map (λ (x : PortNode). x.state.ports) nodes
 
 one-more :

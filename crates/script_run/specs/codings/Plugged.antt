@@ -1,13 +1,12 @@
 -- The lines of cables by a list of ends. No public contract cites this file.
-use Rattle.std.specs.Prelude.{ℕ, zero, suc, List, [], ◌∷◌, ◌++◌}
+use Rattle.std.specs.Prelude.{ℕ, suc, List, [], ◌∷◌}
 use Rattle.rand_pcg.specs.Lcg.{Lcg}
 use Rattle.script_run.specs.declared.made.End.{End}
 use Rattle.script_run.specs.Made.{word, end_at, end_of, for_each, plug_line, pull_line, turn_line}
 
 -- the ends at which the first so many cables plug
 abbrev pub ends_below : Lcg → ℕ → List End
-ends_below g zero = []
-ends_below g (suc k) = ends_below g k ++ end_of g k ∷ []
+ends_below g cables = for_each cables (λ k. end_of g k ∷ [])
 
 -- the lines that plug the first so many cables of a list
 abbrev pub plugged : List End → ℕ → List (List ℕ)
