@@ -1,5 +1,5 @@
 //! The turn of one node.
-ghost use Rattle.std.specs.Prelude.{◌≡◌, ◌<◌, length, OnOk};
+ghost use Rattle.std.specs.Prelude.{◌≡◌, ◌<◌, [], length, OnOk, IsFalse};
 ghost use Rattle.cabling.specs.Wiring.{ports_of};
 ghost use Rattle.cable_world.specs.Turn.{node_turn, wires_after_sends};
 ghost use Rattle.cable_world.specs.codings.Hearing.{node_hears, on_one, arriving_from, inbox_of};
@@ -48,15 +48,18 @@ fn arriving(arrivals: &[ArrivalRow], far: Option<End>) -> &[Signal]
 }
 
 /// A node hears what arrives at its ports, by rising port. What it sends goes onto its wires.
+/// `hears` may be false only where nothing arrives.
 fn hear_ports<M: PortMachine>(
     machine: &mut M,
     cabling: &Cabling,
     node: u8,
     arrivals: &[ArrivalRow],
+    hears: bool,
     out: &mut Sends,
     wires: &mut WireRow,
 ) -> Result<(), OutOfMemory>
     requires exists { node < length cabling.now }
+    requires spared { IsFalse hears → inbox_of arrivals.now 0 (ports_of cabling.now node) ≡ [] }
     requires ports { length (ports_of cabling.now node) ≡ (M.record_of machine.old).state.ports }
     requires wires { length wires.old ≡ (M.record_of machine.old).state.ports }
     ensures node { OnOk result (M.record_of machine.new
@@ -69,7 +72,7 @@ fn hear_ports<M: PortMachine>(
         ≡ (M.record_of machine.old).state.ports) }
     ensures row { length wires.new ≡ length wires.old }
 {
-    if arrivals.is_empty() {
+    if !hears {
         return Ok(());
     }
     for port in 0..cabling.ports(node) {
@@ -86,10 +89,12 @@ pub fn turn_node<M: PortMachine>(
     cabling: &Cabling,
     node: u8,
     arrivals: &[ArrivalRow],
+    hears: bool,
     out: &mut Sends,
     wires: &mut WireRow,
 ) -> Result<(), OutOfMemory>
     requires exists { node < length cabling.now }
+    requires spared { IsFalse hears → inbox_of arrivals.now 0 (ports_of cabling.now node) ≡ [] }
     requires ports { length (ports_of cabling.now node) ≡ (M.record_of machine.old).state.ports }
     requires wires { length wires.old ≡ (M.record_of machine.old).state.ports }
     ensures node { OnOk result (M.record_of machine.new
@@ -100,7 +105,7 @@ pub fn turn_node<M: PortMachine>(
         (M.record_of machine.old)).sends wires.old) }
     ensures row { length wires.new ≡ length wires.old }
 {
-    hear_ports(machine, cabling, node, arrivals, out, wires)?;
+    hear_ports(machine, cabling, node, arrivals, hears, out, wires)?;
     out.clear();
     machine.tick(out);
     wires.send_all(out.as_slice())?;
