@@ -48,8 +48,37 @@ fn arriving(arrivals: &[ArrivalRow], far: Option<End>) -> &[Signal]
 }
 
 /// A node hears what arrives at its ports, by rising port. What it sends goes onto its wires.
-/// `hears` may be false only where nothing arrives.
+#[inline(never)]
 fn hear_ports<M: PortMachine>(
+    machine: &mut M,
+    cabling: &Cabling,
+    node: u8,
+    arrivals: &[ArrivalRow],
+    out: &mut Sends,
+    wires: &mut WireRow,
+) -> Result<(), OutOfMemory>
+    requires exists { node < length cabling.now }
+    requires ports { length (ports_of cabling.now node) ≡ (M.record_of machine.old).state.ports }
+    requires wires { length wires.old ≡ (M.record_of machine.old).state.ports }
+    ensures node { OnOk result (M.record_of machine.new
+        ≡ (node_hears (inbox_of arrivals.now 0 (ports_of cabling.now node))
+        (M.record_of machine.old)).node) }
+    ensures sent { OnOk result (wires.new ≡ wires_after_sends 0
+        (node_hears (inbox_of arrivals.now 0 (ports_of cabling.now node))
+        (M.record_of machine.old)).sends wires.old) }
+    ensures ports { OnOk result ((M.record_of machine.new).state.ports
+        ≡ (M.record_of machine.old).state.ports) }
+    ensures row { length wires.new ≡ length wires.old }
+{
+    for port in 0..cabling.ports(node) {
+        let far = cabling.far(End { node, port });
+        hear_port(machine, port, arriving(arrivals, far), out, wires)?;
+    }
+    Ok(())
+}
+
+/// A node hears what arrives at its ports, as `hear_ports` has it, where it `hears` anything.
+fn hear<M: PortMachine>(
     machine: &mut M,
     cabling: &Cabling,
     node: u8,
@@ -72,12 +101,8 @@ fn hear_ports<M: PortMachine>(
         ≡ (M.record_of machine.old).state.ports) }
     ensures row { length wires.new ≡ length wires.old }
 {
-    if !hears {
-        return Ok(());
-    }
-    for port in 0..cabling.ports(node) {
-        let far = cabling.far(End { node, port });
-        hear_port(machine, port, arriving(arrivals, far), out, wires)?;
+    if hears {
+        hear_ports(machine, cabling, node, arrivals, out, wires)?;
     }
     Ok(())
 }
@@ -105,7 +130,7 @@ pub fn turn_node<M: PortMachine>(
         (M.record_of machine.old)).sends wires.old) }
     ensures row { length wires.new ≡ length wires.old }
 {
-    hear_ports(machine, cabling, node, arrivals, hears, out, wires)?;
+    hear(machine, cabling, node, arrivals, hears, out, wires)?;
     out.clear();
     machine.tick(out);
     wires.send_all(out.as_slice())?;

@@ -139,6 +139,7 @@ impl WireRow {
     }
 
     /// Puts signals on wires, as `send_all` has it.
+    #[inline(never)]
     fn put(&mut self, sends: &[(u8, Signal)]) -> Result<(), OutOfMemory>
         requires { All (λ s. s.0 < length self.old) sends.now }
         ensures sent { OnOk result (self.new ≡ wires_after_sends 0 sends.now self.old) }

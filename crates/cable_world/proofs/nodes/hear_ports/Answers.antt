@@ -34,14 +34,3 @@ returns-clause-sent g c =
     sym (no-sends 0 c.loop-port.wires)
     ∙ ap (λ es. wires_after_sends 0 (node_hears (inbox_of c.args.arrivals.now c.loop-port.port es) n).sends c.loop-port.wires) (sym (drop_all c.loop-port.port ports (omega (arith, c.ports-port-end.ensures.value))))
     ∙ c.loop-port.invariant.sent
-
-pub returns-then-not-hears-clause-node : goal.returns-then-not-hears-clause-node
-returns-then-not-hears-clause-node g c =
-    let n = g.M.PortMachine.record_of c.args.machine.now in
-    sym (ap (λ ss. (node_hears ss n).node) (c.requires.spared c.if-not-hears.true))
-
-pub returns-then-not-hears-clause-sent : goal.returns-then-not-hears-clause-sent
-returns-then-not-hears-clause-sent g c =
-    let n = g.M.PortMachine.record_of c.args.machine.now in
-    sym (ap (λ ss. wires_after_sends 0 (node_hears ss n).sends c.args.wires.now) (c.requires.spared c.if-not-hears.true)
-    ∙ no-sends 0 c.args.wires.now)
