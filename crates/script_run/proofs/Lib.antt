@@ -24,3 +24,4 @@ pub mod MadeLines
 pub mod MadeSize
 pub mod MadeRead
 pub mod MadeCommands
+pub mod Onwards
