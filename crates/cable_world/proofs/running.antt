@@ -2,7 +2,7 @@
 --
 -- `Mixed`: a table that a loop writes anew from its head on. `Rest`: wires on which nothing is under way stay as they
 -- are. `Sending`: signals put onto a node's wires one after the other. `Hearing`: a node hears signals one after the
--- other. `Lists`: whether a list changed is seen from its length. `AllNodes`: the tables of a turn, entry by entry.
+-- other. `Spared`: nothing arrives at a node that isn't marked. `Lists`: whether a list changed is seen from its length. `AllNodes`: the tables of a turn, entry by entry.
 -- `Stepping`: a step of one node between two turns. `Whole`: a world by its parts, and its vectors. `Start`: the
 -- tables at power-on. `Acting`: steps of one node and of two, and the packet for a set of nodes. `Acts`: the four
 -- acts. `Still`: turns in which nothing happens.
@@ -10,6 +10,7 @@ pub mod Mixed
 pub mod Rest
 pub mod Sending
 pub mod Hearing
+pub mod Spared
 pub mod Lists
 pub mod AllNodes
 pub mod Stepping

@@ -3,4 +3,5 @@ pub mod Ages
 pub mod Rest
 pub mod Hearing
 pub mod Steps
+pub mod Spared
 pub mod NodeActs

@@ -1,13 +1,13 @@
 //! The turn of a world, over its parts.
-ghost use Rattle.std.specs.Prelude.{◌≡◌, ◌==◌, ◌+◌, ◌<◌, ◌≤◌, length, map, OnOk, IfOk, IsTrue, List, All, if◌then◌else◌};
+ghost use Rattle.std.specs.Prelude.{◌≡◌, ◌==◌, ◌+◌, ◌<◌, ◌≤◌, [], length, map, OnOk, IfOk, IfSome, IsFalse, All, if◌then◌else◌};
 ghost use Rattle.port_state.specs.Machine.{PortNode, NodeStep};
 ghost use Rattle.cable_world.specs.Wire.{arrives, stays};
-ghost use Rattle.cabling.specs.Wiring.{Wiring, ports_of};
+ghost use Rattle.cabling.specs.Wiring.{ports_of};
 ghost use Rattle.cable_world.specs.Turn.{node_turn, wires_after_sends, same_list};
 ghost use Rattle.cable_world.specs.Turn.{all_wires_after_sends, last_changes};
 ghost use Rattle.cable_world.specs.codings.Hearing.{inbox_of};
 ghost use Rattle.cable_world.specs.codings.Ages.{AreYoung};
-ghost use Rattle.cable_world.specs.codings.Rest.{AreNone};
+ghost use Rattle.cable_world.specs.codings.Spared.{IsMarked, AreMarked, StaysMarked, AreSpared};
 ghost use Rattle.cable_world.specs.codings.Steps.{turns_of, HasItsPorts};
 ghost use Rattle.cable_world.specs.Parts.{world_record};
 ghost use Rattle.cable_world.specs.Turn.{turn};
@@ -15,37 +15,66 @@ ghost use Rattle.cable_world.specs.Lawful.{IsLawful};
 
 use crate::nodes::turn_node;
 use crate::rows::{ArrivalRow, WireRow};
-use cabling::{Cabling, OutOfMemory};
+use cabling::{Cabling, End, OutOfMemory, cables_are_two_ended};
 use port_state::{PortMachine, Sends};
 
 /// A turn of every wire. What arrives at their far ends takes the place of what is in `arrivals`.
-/// Answers whether it is known that nothing arrives.
 pub fn turn_wires(
     wires: &mut [WireRow],
     delay: u8,
     arrivals: &mut [ArrivalRow],
-) -> Result<bool, OutOfMemory>
+) -> Result<(), OutOfMemory>
     requires young { All (λ row. All AreYoung row) wires.old }
     requires same { map length arrivals.old ≡ map length wires.old }
     ensures stays { OnOk result (wires.new ≡ map (map (stays delay)) wires.old) }
     ensures arrives { OnOk result (arrivals.new ≡ map (map (arrives delay)) wires.old) }
-    ensures none { IfOk result (λ none. IsTrue none → All AreNone arrivals.new) }
 {
-    let mut none = true;
     for at in 0..wires.len() {
         wires[at].turn(delay, &mut arrivals[at])?;
-        none &= arrivals[at].is_none();
     }
-    Ok(none)
+    Ok(())
 }
 
-/// What arrives, or an empty table where nothing does.
-fn if_any(arrivals: &[ArrivalRow], none: bool) -> &[ArrivalRow]
-    requires { IsTrue none → All AreNone arrivals.now }
-    ensures { (c : Wiring) (nodes : List PortNode) →
-        turns_of result.now c nodes ≡ turns_of arrivals.now c nodes }
+/// Marks the node at a far end.
+#[tactic(auto, using(crate::proofs::running::Spared::set_marks, crate::proofs::running::Spared::set_keeps, crate::proofs::running::Spared::past_marks))]
+fn mark_far(far: Option<End>, hears: &mut [bool])
+    ensures marked { IfSome far (λ end. IsMarked hears.new end.node) }
+    ensures kept { StaysMarked hears.old hears.new }
+    ensures count { length hears.new ≡ length hears.old }
 {
-    if none { &[] } else { arrivals }
+    if let Some(End { node, .. }) = far {
+        let node = usize::from(node);
+        if node < hears.len() {
+            hears[node] = true;
+        }
+    }
+}
+
+/// Marks the nodes at the far ends of a node's cables. The node exists.
+fn mark_neighbours(cabling: &Cabling, node: u8, hears: &mut [bool])
+    requires { node < length cabling.now }
+    ensures marked { AreMarked cabling.now node hears.new }
+    ensures kept { StaysMarked hears.old hears.new }
+    ensures count { length hears.new ≡ length hears.old }
+{
+    for port in 0..cabling.ports(node) {
+        mark_far(cabling.far(End { node, port }), hears);
+    }
+}
+
+/// Which nodes may hear something: the neighbours of those from whose wires something may arrive.
+fn hearers(cabling: &Cabling, arrivals: &[ArrivalRow]) -> [bool; 63]
+    requires { length arrivals.now ≡ length cabling.now }
+    ensures { AreSpared arrivals.now cabling.now result }
+{
+    cables_are_two_ended(cabling);
+    let mut hears = [false; 63];
+    for node in 0..cabling.nodes() {
+        if !arrivals[usize::from(node)].is_none() {
+            mark_neighbours(cabling, node, &mut hears);
+        }
+    }
+    hears
 }
 
 /// When a list changed last, by its lengths before and after a turn. A list only grows at its end or is
@@ -63,12 +92,14 @@ fn turn_one<M: PortMachine>(
     cabling: &Cabling,
     node: u8,
     arrivals: &[ArrivalRow],
+    hears: bool,
     turns: u32,
     last: u32,
     out: &mut Sends,
     wires: &mut WireRow,
 ) -> Result<u32, OutOfMemory>
     requires exists { node < length cabling.now }
+    requires spared { IsFalse hears → inbox_of arrivals.now 0 (ports_of cabling.now node) ≡ [] }
     requires ports { length (ports_of cabling.now node) ≡ (M.record_of machine.old).state.ports }
     requires wires { length wires.old ≡ (M.record_of machine.old).state.ports }
     ensures node { OnOk result (M.record_of machine.new
@@ -82,7 +113,7 @@ fn turn_one<M: PortMachine>(
         else turns)) }
 {
     let before = machine.list().len();
-    turn_node(machine, cabling, node, arrivals, out, wires)?;
+    turn_node(machine, cabling, node, arrivals, hears, out, wires)?;
     Ok(last_change(before, machine.list().len(), turns, last))
 }
 
@@ -91,6 +122,7 @@ pub fn turn_nodes<M: PortMachine>(
     machines: &mut [M],
     cabling: &Cabling,
     arrivals: &[ArrivalRow],
+    hears: &[bool; 63],
     turns: u32,
     changed: &mut [u32],
     out: &mut Sends,
@@ -98,6 +130,7 @@ pub fn turn_nodes<M: PortMachine>(
 ) -> Result<(), OutOfMemory>
     requires few { length machines.old ≤ 63 }
     requires nodes { length machines.old ≡ length cabling.now }
+    requires spared { AreSpared arrivals.now cabling.now hears.now }
     requires changes { length changed.old ≡ length cabling.now }
     requires rows { length wires.old ≡ length cabling.now }
     requires ports { HasItsPorts cabling.now (map M.record_of machines.old) wires.old }
@@ -117,6 +150,7 @@ pub fn turn_nodes<M: PortMachine>(
             cabling,
             node as u8,
             arrivals,
+            hears[node],
             turns,
             changed[node],
             out,
@@ -148,8 +182,17 @@ pub fn turn_world<M: PortMachine>(
         turns)) }
     ensures same { OnOk result (map length arrivals.new ≡ map length wires.new) }
 {
-    let none = turn_wires(wires, delay, arrivals)?;
-    let heard = if_any(arrivals, none);
-    turn_nodes(machines, cabling, heard, turns + 1, changed, out, wires)?;
+    turn_wires(wires, delay, arrivals)?;
+    let hears = hearers(cabling, arrivals);
+    turn_nodes(
+        machines,
+        cabling,
+        arrivals,
+        &hears,
+        turns + 1,
+        changed,
+        out,
+        wires,
+    )?;
     Ok(())
 }

@@ -135,6 +135,16 @@ impl WireRow {
         if sends.is_empty() {
             return Ok(());
         }
+        self.put(sends)
+    }
+
+    /// Puts signals on wires, as `send_all` has it.
+    #[inline(never)]
+    fn put(&mut self, sends: &[(u8, Signal)]) -> Result<(), OutOfMemory>
+        requires { All (λ s. s.0 < length self.old) sends.now }
+        ensures sent { OnOk result (self.new ≡ wires_after_sends 0 sends.now self.old) }
+        ensures ports { length self.new ≡ length self.old }
+    {
         self.in_use = true;
         for (port, signal) in sends {
             self.wires[*port as usize].send(*signal)?;

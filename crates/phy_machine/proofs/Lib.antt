@@ -4,3 +4,4 @@ pub mod TickRows
 pub mod WordBits
 pub mod PortLists
 pub mod PlainLevels
+pub mod Resting

@@ -25,3 +25,4 @@ pub mod MadeSize
 pub mod MadeRead
 pub mod MadeCommands
 pub mod valid
+pub mod Onwards

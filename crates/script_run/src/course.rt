@@ -1,5 +1,5 @@
 //! A script that is gone through, a line at a time.
-ghost use Rattle.std.specs.Prelude.{◌≡◌, ◌++◌, ℕ, List, Ok, IfOk, IfErr};
+ghost use Rattle.std.specs.Prelude.{◌≡◌, ◌++◌, ℕ, List, Ok, IfOk, IfErr, OnOk};
 ghost use Rattle.script_run.specs.Step.{Settles};
 ghost use Rattle.script_run.specs.Bus.{Bus};
 ghost use Rattle.script_run.specs.Script.{fresh, bus_of};
@@ -7,7 +7,7 @@ ghost use Rattle.script_run.specs.codings.Running.{Stops};
 ghost use Rattle.script_run.specs.codings.Going.{LineLeads, LineFails, IfFault};
 
 use crate::kind::LineStop;
-use crate::line::parse_line;
+use crate::line::{parse_line, says_nothing};
 use crate::run::Stage;
 use cable_world::WorldRun;
 use phy_machine::AnyMachine;
@@ -44,18 +44,31 @@ impl Course {
     }
 
     /// A line is taken, and what it prints is appended.
-    pub fn take(self, alloc: Global, line: &[u8], out: &mut Vec<u8>) -> Result<Course, LineStop>
-        ensures done { IfOk result (λ next. (text : List ℕ)
-            × LineLeads self line.now next text × (out.new.items ≡ out.old.items ++ text)) }
-        ensures stop { IfErr result (IfFault (LineFails self line.now)) }
+    pub fn take(&mut self, alloc: Global, line: &[u8], out: &mut Vec<u8>) -> Result<(), LineStop>
+        ensures done { OnOk result ((text : List ℕ) × LineLeads self.old line.now self.new text
+            × (out.new.items ≡ out.old.items ++ text)) }
+        ensures stop { IfErr result (IfFault (LineFails self.old line.now)) }
+    {
+        if says_nothing(line) {
+            return Ok(());
+        }
+        self.obey(alloc, line, out)
+    }
+
+    /// A line is taken, as `take` has it.
+    #[inline(never)]
+    fn obey(&mut self, alloc: Global, line: &[u8], out: &mut Vec<u8>) -> Result<(), LineStop>
+        ensures done { OnOk result ((text : List ℕ) × LineLeads self.old line.now self.new text
+            × (out.new.items ≡ out.old.items ++ text)) }
+        ensures stop { IfErr result (IfFault (LineFails self.old line.now)) }
     {
         let d = self.stage.delay();
         let Some(command) = parse_line(alloc, line, d)? else {
-            return Ok(self);
+            return Ok(());
         };
-        let (stage, text) = self.stage.follow(alloc, d, command)?;
+        let text = self.stage.follow(alloc, d, command)?;
         out.extend_from_slice(text.as_slice())?;
-        Ok(Course { stage })
+        Ok(())
     }
 
     /// The report of the `settle` behind the last line.

@@ -1,5 +1,5 @@
 //! A line of a script.
-ghost use Rattle.std.specs.Prelude.{◌≡◌, ◌≤◌, find, not, Option, Result, Ok, IfOk, IfErr, IfSome};
+ghost use Rattle.std.specs.Prelude.{◌≡◌, ◌≤◌, ℕ, find, not, Option, None, Result, Ok, IsTrue, IfOk, IfErr, IfSome};
 ghost use Rattle.std.specs.List.{list_all};
 ghost use Rattle.std.specs.Str.Lines.{strip_carriage_return};
 ghost use Rattle.script_run.specs.Words.{is_blank, is_permitted};
@@ -44,6 +44,13 @@ fn is_skipped(line: &[u8]) -> bool
         Some(c) => c == b'#',
         None => true,
     }
+}
+
+/// Whether a line of a script is nothing: it has no words, or is a comment.
+pub(crate) fn says_nothing(line: &[u8]) -> bool
+    ensures { IsTrue result → (d : ℕ) → Reads d line.now (Ok None) }
+{
+    is_skipped(without_return(line))
 }
 
 /// The command that words say.

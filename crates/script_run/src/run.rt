@@ -1,9 +1,9 @@
 //! The run of a script.
 ghost use Rattle.std.specs.Prelude.{◌≡◌, ◌≤◌, ◌<◌, ◌∷◌, ◌++◌, [], ℕ, List, Some, None, Ok, Err, IfOk, IfErr, OnOk, length};
 ghost use Rattle.script_run.specs.Range.{IsInRange};
-ghost use Rattle.script_run.specs.Script.{Delays, Follows, Runs, bus_of, delay_of, draft_of};
+ghost use Rattle.script_run.specs.Script.{Declares, Delays, Follows, Runs, bus_of, delay_of, draft_of};
 ghost use Rattle.script_run.specs.codings.Running.{bus_now, IsSound};
-ghost use Rattle.script_run.specs.codings.Declaring.{IsDraft, StopsAt, draft_now};
+ghost use Rattle.script_run.specs.codings.Declaring.{IsDraft, IsLine, StopsAt, draft_now, node_said};
 ghost use Rattle.script_run.specs.codings.Going.{stage_now, IsSoundStage};
 
 use crate::bus::Bus;
@@ -13,6 +13,7 @@ use crate::kind::{Kind, LineStop};
 use cable_world::WorldRun;
 use phy_machine::AnyMachine;
 use std::alloc::Global;
+use std::mem;
 use topology_stack::OutOfMemory;
 use world_agenda::AgendaWorld;
 
@@ -85,59 +86,109 @@ impl Stage<AgendaWorld<AnyMachine>> {
         }
     }
 
-    /// A command that runs the bus.
-    fn run(self, alloc: Global, d: u8, command: &Command) -> Result<(Self, Vec<u8>), LineStop>
+    /// A node is declared, where declarations are taken.
+    fn declare(&mut self, alloc: Global, line: NodeLine) -> Result<Vec<u8>, LineStop>
         requires sound { IsSoundStage ⟦<AgendaWorld<AnyMachine> as WorldRun>⟧.world
-            ⟦<AgendaWorld<AnyMachine> as WorldRun>⟧.is_spent self }
-        requires range { IsInRange d command.now }
-        ensures done { IfOk result (λ r.
-            Runs (stage_now ⟦<AgendaWorld<AnyMachine> as WorldRun>⟧.world self) command.now
-            (Ok (stage_now ⟦<AgendaWorld<AnyMachine> as WorldRun>⟧.world r.0, r.1.items))) }
+            ⟦<AgendaWorld<AnyMachine> as WorldRun>⟧.is_spent self.old }
+        requires line { IsLine (delay_of
+            (stage_now ⟦<AgendaWorld<AnyMachine> as WorldRun>⟧.world self.old)) line }
+        ensures done { IfOk result (λ text.
+            Declares (draft_of (stage_now ⟦<AgendaWorld<AnyMachine> as WorldRun>⟧.world self.old))
+            line.name (node_said line)
+            (Ok (stage_now ⟦<AgendaWorld<AnyMachine> as WorldRun>⟧.world self.new, text.items))) }
         ensures stop { IfErr result (StopsAt
-            (Runs (stage_now ⟦<AgendaWorld<AnyMachine> as WorldRun>⟧.world self) command.now)) }
-        ensures sound { IfOk result (λ r.
-            IsSoundStage ⟦<AgendaWorld<AnyMachine> as WorldRun>⟧.world
-            ⟦<AgendaWorld<AnyMachine> as WorldRun>⟧.is_spent r.0) }
+            (Declares (draft_of (stage_now ⟦<AgendaWorld<AnyMachine> as WorldRun>⟧.world self.old))
+            line.name (node_said line))) }
+        ensures sound { IsSoundStage ⟦<AgendaWorld<AnyMachine> as WorldRun>⟧.world
+            ⟦<AgendaWorld<AnyMachine> as WorldRun>⟧.is_spent self.new }
     {
-        let mut bus = self.bus(alloc)?;
-        let text = bus.command(alloc, d, command)?;
-        Ok((Stage::Running(bus), text))
+        let stage = mem::replace(self, Stage::Fresh);
+        let draft = stage.draft(alloc)?.declare(line)?;
+        *self = Stage::Declaring(draft);
+        Ok(Vec::new(alloc))
     }
 
-    /// The delay is said.
-    fn say_delay(self, alloc: Global, delay: u8) -> Result<(Self, Vec<u8>), LineStop>
-        requires some { 1 ≤ delay }
-        requires few { delay ≤ 16 }
-        ensures done { IfOk result (λ r.
-            Delays (stage_now ⟦<AgendaWorld<AnyMachine> as WorldRun>⟧.world self) delay
-            (Ok (stage_now ⟦<AgendaWorld<AnyMachine> as WorldRun>⟧.world r.0, r.1.items))) }
+    /// The first command that runs the bus.
+    fn begin(&mut self, alloc: Global, d: u8, command: &Command) -> Result<Vec<u8>, LineStop>
+        requires sound { IsSoundStage ⟦<AgendaWorld<AnyMachine> as WorldRun>⟧.world
+            ⟦<AgendaWorld<AnyMachine> as WorldRun>⟧.is_spent self.old }
+        requires range { IsInRange d command.now }
+        ensures done { IfOk result (λ text.
+            Runs (stage_now ⟦<AgendaWorld<AnyMachine> as WorldRun>⟧.world self.old) command.now
+            (Ok (stage_now ⟦<AgendaWorld<AnyMachine> as WorldRun>⟧.world self.new, text.items))) }
         ensures stop { IfErr result (StopsAt
-            (Delays (stage_now ⟦<AgendaWorld<AnyMachine> as WorldRun>⟧.world self) delay)) }
-        ensures sound { IfOk result (λ r.
-            IsSoundStage ⟦<AgendaWorld<AnyMachine> as WorldRun>⟧.world
-            ⟦<AgendaWorld<AnyMachine> as WorldRun>⟧.is_spent r.0) }
+            (Runs (stage_now ⟦<AgendaWorld<AnyMachine> as WorldRun>⟧.world self.old)
+            command.now)) }
+        ensures sound { IsSoundStage ⟦<AgendaWorld<AnyMachine> as WorldRun>⟧.world
+            ⟦<AgendaWorld<AnyMachine> as WorldRun>⟧.is_spent self.new }
     {
-        match self {
-            Stage::Fresh => Ok((Stage::Declaring(Draft::new(alloc, delay)), Vec::new(alloc))),
-            _ => Err(LineStop::Fault(Kind::Late)),
+        let mut bus = mem::replace(self, Stage::Fresh).bus(alloc)?;
+        let text = bus.command(alloc, d, command)?;
+        *self = Stage::Running(bus);
+        Ok(text)
+    }
+
+    /// A command that runs the bus.
+    fn run(&mut self, alloc: Global, d: u8, command: &Command) -> Result<Vec<u8>, LineStop>
+        requires sound { IsSoundStage ⟦<AgendaWorld<AnyMachine> as WorldRun>⟧.world
+            ⟦<AgendaWorld<AnyMachine> as WorldRun>⟧.is_spent self.old }
+        requires range { IsInRange d command.now }
+        ensures done { IfOk result (λ text.
+            Runs (stage_now ⟦<AgendaWorld<AnyMachine> as WorldRun>⟧.world self.old) command.now
+            (Ok (stage_now ⟦<AgendaWorld<AnyMachine> as WorldRun>⟧.world self.new, text.items))) }
+        ensures stop { IfErr result (StopsAt
+            (Runs (stage_now ⟦<AgendaWorld<AnyMachine> as WorldRun>⟧.world self.old)
+            command.now)) }
+        ensures sound { IsSoundStage ⟦<AgendaWorld<AnyMachine> as WorldRun>⟧.world
+            ⟦<AgendaWorld<AnyMachine> as WorldRun>⟧.is_spent self.new }
+    {
+        let Stage::Running(bus) = self else {
+            return self.begin(alloc, d, command);
+        };
+        match bus.command(alloc, d, command) {
+            Ok(text) => Ok(text),
+            Err(stop) => {
+                *self = Stage::Fresh;
+                Err(stop)
+            }
         }
     }
 
-    /// A command is done.
-    pub fn follow(self, alloc: Global, d: u8, command: Command) -> Result<(Self, Vec<u8>), LineStop>
+    /// The delay is said.
+    fn say_delay(&mut self, alloc: Global, delay: u8) -> Result<Vec<u8>, LineStop>
         requires sound { IsSoundStage ⟦<AgendaWorld<AnyMachine> as WorldRun>⟧.world
-            ⟦<AgendaWorld<AnyMachine> as WorldRun>⟧.is_spent self }
-        requires delay { d ≡ delay_of
-            (stage_now ⟦<AgendaWorld<AnyMachine> as WorldRun>⟧.world self) }
-        requires range { IsInRange d command }
-        ensures done { IfOk result (λ r.
-            Follows (stage_now ⟦<AgendaWorld<AnyMachine> as WorldRun>⟧.world self) command
-            (Ok (stage_now ⟦<AgendaWorld<AnyMachine> as WorldRun>⟧.world r.0, r.1.items))) }
+            ⟦<AgendaWorld<AnyMachine> as WorldRun>⟧.is_spent self.old }
+        requires some { 1 ≤ delay }
+        requires few { delay ≤ 16 }
+        ensures done { IfOk result (λ text.
+            Delays (stage_now ⟦<AgendaWorld<AnyMachine> as WorldRun>⟧.world self.old) delay
+            (Ok (stage_now ⟦<AgendaWorld<AnyMachine> as WorldRun>⟧.world self.new, text.items))) }
         ensures stop { IfErr result (StopsAt
-            (Follows (stage_now ⟦<AgendaWorld<AnyMachine> as WorldRun>⟧.world self) command)) }
-        ensures sound { IfOk result (λ r.
-            IsSoundStage ⟦<AgendaWorld<AnyMachine> as WorldRun>⟧.world
-            ⟦<AgendaWorld<AnyMachine> as WorldRun>⟧.is_spent r.0) }
+            (Delays (stage_now ⟦<AgendaWorld<AnyMachine> as WorldRun>⟧.world self.old) delay)) }
+        ensures sound { IsSoundStage ⟦<AgendaWorld<AnyMachine> as WorldRun>⟧.world
+            ⟦<AgendaWorld<AnyMachine> as WorldRun>⟧.is_spent self.new }
+    {
+        if !matches!(self, Stage::Fresh) {
+            return Err(LineStop::Fault(Kind::Late));
+        }
+        *self = Stage::Declaring(Draft::new(alloc, delay));
+        Ok(Vec::new(alloc))
+    }
+
+    /// A command is done. Where it isn't, nothing is left of the stage.
+    pub fn follow(&mut self, alloc: Global, d: u8, command: Command) -> Result<Vec<u8>, LineStop>
+        requires sound { IsSoundStage ⟦<AgendaWorld<AnyMachine> as WorldRun>⟧.world
+            ⟦<AgendaWorld<AnyMachine> as WorldRun>⟧.is_spent self.old }
+        requires delay { d ≡ delay_of
+            (stage_now ⟦<AgendaWorld<AnyMachine> as WorldRun>⟧.world self.old) }
+        requires range { IsInRange d command }
+        ensures done { IfOk result (λ text.
+            Follows (stage_now ⟦<AgendaWorld<AnyMachine> as WorldRun>⟧.world self.old) command
+            (Ok (stage_now ⟦<AgendaWorld<AnyMachine> as WorldRun>⟧.world self.new, text.items))) }
+        ensures stop { IfErr result (StopsAt
+            (Follows (stage_now ⟦<AgendaWorld<AnyMachine> as WorldRun>⟧.world self.old) command)) }
+        ensures sound { IsSoundStage ⟦<AgendaWorld<AnyMachine> as WorldRun>⟧.world
+            ⟦<AgendaWorld<AnyMachine> as WorldRun>⟧.is_spent self.new }
     {
         match command {
             Command::Node {
@@ -174,8 +225,7 @@ impl Stage<AgendaWorld<AnyMachine>> {
                     seed,
                     packed,
                 };
-                let draft = self.draft(alloc)?.declare(line)?;
-                Ok((Stage::Declaring(draft), Vec::new(alloc)))
+                self.declare(alloc, line)
             }
             Command::Delay { delay } => self.say_delay(alloc, delay),
             command => self.run(alloc, d, &command),

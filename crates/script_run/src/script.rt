@@ -53,10 +53,10 @@ pub fn run_script(alloc: Global, bytes: &[u8]) -> Result<Vec<u8>, ScriptStop>
     let mut number = 1;
     while !rest.is_empty() {
         let (line, behind) = cut_line(rest);
-        course = match course.take(alloc, line, &mut out) {
-            Ok(next) => next,
+        match course.take(alloc, line, &mut out) {
+            Ok(()) => {}
             Err(stop) => return Err(at_line(number, stop)),
-        };
+        }
         rest = behind;
         number += 1;
     }

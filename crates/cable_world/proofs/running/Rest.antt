@@ -1,16 +1,10 @@
 -- Wires at rest stay so, and nothing arrives from them.
-use Rattle.std.proofs.Common.{◌≡◌, ℕ, zero, suc, ◌-◌, List, [], ◌∷◌, map, length, refl, sym, ◌∙◌, ap, subst, arith, ◌+◌, ◌≤◌, ◌++◌, All, Option, Some, None, slice_index_or}
-use Rattle.std.proofs.lemmas.List.Elements.{All-nil, All-tail, All-map}
+use Rattle.std.proofs.Common.{◌≡◌, ℕ, zero, suc, ◌-◌, List, [], ◌∷◌, map, length, refl, sym, ◌∙◌, ap, subst, arith, slice_index_or}
+use Rattle.std.proofs.lemmas.List.Elements.{All-tail, All-map}
 use Rattle.port_state.specs.declared.signal.Signal.{Signal}
 use Rattle.cable_world.specs.Wire.{Wire, empty_wire, arrives, stays}
 use Rattle.cable_world.specs.Still.{hold_less}
 use Rattle.cable_world.specs.codings.Rest.{AreAtRest, AreNone}
-use Rattle.cable_world.specs.Turn.{node_turn}
-use Rattle.cable_world.specs.codings.Hearing.{Arriving, on_one, arriving_from, inbox_of}
-use Rattle.cable_world.specs.codings.Steps.{turns_of}
-use Rattle.cabling.specs.declared.cable.End.{End}
-use Rattle.cabling.specs.Wiring.{Wiring}
-use Rattle.port_state.specs.Machine.{PortNode}
 
 abbrev pub AtRest : Wire → Type 0
 AtRest w = w ≡ empty_wire
@@ -56,31 +50,7 @@ rest-arrives d (w ∷ row) (a ∷ arrivals) h e =
 
 -- ---- nothing is heard where nothing arrives
 
-none-at : (arrivals : List (List Signal)) (p : ℕ) → AreNone arrivals → slice_index_or arrivals p [] ≡ []
+pub none-at : (arrivals : List (List Signal)) (p : ℕ) → AreNone arrivals → slice_index_or arrivals p [] ≡ []
 none-at [] p h = refl
 none-at (a ∷ arrivals) zero h = h 0 a (omega arith)
 none-at (a ∷ arrivals) (suc p) h = none-at arrivals p (All-tail NoneHere a arrivals h)
-
-none-in : (table : Arriving) (k p : ℕ) → All AreNone table → slice_index_or (slice_index_or table k []) p [] ≡ []
-none-in [] k p h = refl
-none-in (r ∷ table) zero p h = none-at r p (h 0 r (omega arith))
-none-in (r ∷ table) (suc k) p h = none-in table k p (All-tail AreNone r table h)
-
-none-from : (table : Arriving) (end : Option End) → All AreNone table → arriving_from table end ≡ []
-none-from table None h = refl
-none-from table (Some far) h = none-in table far.node far.port h
-
-pub inbox-none : (table : Arriving) (p : ℕ) (ports : List (Option End)) → All AreNone table → inbox_of table p ports ≡ []
-inbox-none table p [] h = refl
-inbox-none table p (end ∷ ports) h =
-    ap (λ ss. on_one p ss ++ inbox_of table (p + 1) ports) (none-from table end h) ∙ inbox-none table (p + 1) ports h
-
-pub none-there : (table : Arriving) → length table ≤ 0 → All AreNone table
-none-there table few = λ k d inside. absurd (omega (arith, few, inside))
-
-pub turns-none : (table : Arriving) → All AreNone table → (rows : Wiring) (nodes : List PortNode) → turns_of [] rows nodes ≡ turns_of table rows nodes
-turns-none table h [] nodes = refl
-turns-none table h (r ∷ rows) [] = refl
-turns-none table h (r ∷ rows) (x ∷ nodes) =
-    ap (λ ss. node_turn ss x ∷ turns_of [] rows nodes) (inbox-none [] 0 r (All-nil AreNone) ∙ sym (inbox-none table 0 r h))
-    ∙ ap (λ l. node_turn (inbox_of table 0 r) x ∷ l) (turns-none table h rows nodes)

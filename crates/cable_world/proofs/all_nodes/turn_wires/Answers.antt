@@ -36,15 +36,6 @@ loop-at-preserved c =
     let row = next-is k (map (map (stays d)) old) old c.loop-at.wires r
     (length-map old (map (stays d))) c.loop-at-test.true c.loop-at.invariant.wires c.index-wires-at.is in
     record {
-      none = λ both.
-          let parts = and_parts c.loop-at.none c.is_none-none.result both in
-          let arrived : c.turn.new.arrivals ≡ map (arrives d) r = c.in_ok-turn.ensures.arrives ∙ ap (map (arrives d)) (sym c.index-wires-at.is) in
-          let there : get_or (map (map (arrives d)) old) k (map (arrives d) r) ≡ c.turn.new.arrivals =
-          get_or-map (map (arrives d)) old k r ∙ ap (map (arrives d)) (sym row) ∙ sym arrived in
-          let fits : k < length c.loop-at.arrivals = omega (arith, long, c.loop-at.auto.arrivals) in
-          let seen = get_or-set_same c.loop-at.arrivals k c.turn.new.arrivals c.index-arrivals-at-in-loop-at.result fits in
-          All-more AreNone (map (map (arrives d)) old) k (map (arrives d) r) (omega (arith, length-map old (map (arrives d)))) (c.loop-at.invariant.none parts.0)
-          (subst AreNone (seen ∙ sym there) (c.is_none-none.ensures parts.1));
       wires =
           mixed-map (map (stays d)) k old old c.loop-at.wires r c.turn.new.self refl c.loop-at-test.true c.loop-at.invariant.wires row
           (c.in_ok-turn.ensures.stays ∙ ap (map (stays d)) (sym c.index-wires-at.is));
@@ -52,15 +43,3 @@ loop-at-preserved c =
           mixed-map (map (arrives d)) k old first c.loop-at.arrivals r c.turn.new.arrivals long c.loop-at-test.true c.loop-at.invariant.arrivals row
           (c.in_ok-turn.ensures.arrives ∙ ap (map (arrives d)) (sym c.index-wires-at.is));
     }
-
-pub returns-clause-none : goal.returns-clause-none
-returns-clause-none c = λ none.
-    let k = c.loop-at.at in
-    let old = c.args.wires.now in
-    let first = c.args.arrivals.now in
-    let new = map (map (arrives c.args.delay)) old in
-    let long : length old ≡ length first = omega (arith, length-map first length, length-map old length, ap length c.requires.same) in
-    let over : length new ≤ k = omega (arith, length-map old (map (arrives c.args.delay)), c.loop-at-test.false) in
-    subst (All AreNone)
-    (sym (c.loop-at.invariant.arrivals ∙ mixed-all k new first (length-map old (map (arrives c.args.delay)) ∙ long) (omega (arith, long, c.loop-at-test.false))))
-    (all-taken AreNone k new over (c.loop-at.invariant.none none))

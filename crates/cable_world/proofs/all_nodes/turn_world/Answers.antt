@@ -1,9 +1,7 @@
 use Rattle.std.proofs.Common.{◌∙◌, List, length, map, ap, sym, arith}
 use Rattle.std.proofs.lemmas.List.{length-map}
 use Rattle.cable_world.specs.Wire.{Wire, arrives, stays}
-use Rattle.cable_world.specs.Turn.{all_wires_after_sends}
 use Rattle.cable_world.specs.Parts.{world_record}
-use Rattle.port_state.specs.Machine.{NodeStep}
 use Rattle.cable_world.proofs.running.Whole.{all-young, has-its-ports, turn-is, rows-long, sent-long}
 use Rattle.cable_world.proofs.all_nodes.turn_world.Goals as goal
 
@@ -29,27 +27,25 @@ turn_nodes-requires-clause-changes g c = c.requires.lawful.well_formed.changes
 
 pub turn_nodes-requires-clause-rows : goal.turn_nodes-requires-clause-rows
 turn_nodes-requires-clause-rows g c =
-    ap length c.in_ok-none.ensures.stays ∙ length-map c.args.wires.now (map (stays c.args.delay)) ∙ c.requires.lawful.well_formed.wire_rows
+    ap length c.in_ok-turn_wires.ensures.stays ∙ length-map c.args.wires.now (map (stays c.args.delay)) ∙ c.requires.lawful.well_formed.wire_rows
 
 pub turn_nodes-requires-clause-ports : goal.turn_nodes-requires-clause-ports
 turn_nodes-requires-clause-ports g c =
     has-its-ports (world_record c.args.delay c.args.cabling.now (map g.M.PortMachine.record_of c.args.machines.now) c.args.wires.now c.args.changed.now c.args.turns)
-    c.turn_wires.new.wires c.requires.lawful.well_formed c.in_ok-none.ensures.stays
+    c.turn_wires.new.wires c.requires.lawful.well_formed c.in_ok-turn_wires.ensures.stays
 
 pub returns-clause-done : goal.returns-clause-done
 returns-clause-done g c =
-    let steps = c.if_any-heard.ensures c.args.cabling.now (map g.M.PortMachine.record_of c.args.machines.now) in
     turn-is (world_record c.args.delay c.args.cabling.now (map g.M.PortMachine.record_of c.args.machines.now) c.args.wires.now c.args.changed.now c.args.turns)
     c.turn_wires.new.arrivals (map g.M.PortMachine.record_of c.turn_nodes.new.machines) c.turn_wires.new.wires c.turn_nodes.new.wires
-    c.turn_nodes.new.changed c.in_ok-none.ensures.arrives c.in_ok-none.ensures.stays
-    (c.in_ok-turn_nodes.ensures.node ∙ ap (λ ss. map (λ (s : NodeStep). s.node) ss) steps) c.in_ok-turn_nodes.ensures.changes
-    (c.in_ok-turn_nodes.ensures.wires ∙ ap (λ ss. all_wires_after_sends ss c.turn_wires.new.wires) steps)
+    c.turn_nodes.new.changed c.in_ok-turn_wires.ensures.arrives c.in_ok-turn_wires.ensures.stays
+    c.in_ok-turn_nodes.ensures.node c.in_ok-turn_nodes.ensures.changes c.in_ok-turn_nodes.ensures.wires
 
 pub returns-clause-same : goal.returns-clause-same
 returns-clause-same g c =
     let rows = c.args.wires.now in
     let lengths = λ (ws : List (List Wire)). map length ws in
-    ap (λ (ws : List (List (List _))). map length ws) c.in_ok-none.ensures.arrives
+    ap (λ (ws : List (List (List _))). map length ws) c.in_ok-turn_wires.ensures.arrives
     ∙ rows-long (arrives c.args.delay) rows ∙ sym (rows-long (stays c.args.delay) rows)
-    ∙ ap lengths (sym c.in_ok-none.ensures.stays)
+    ∙ ap lengths (sym c.in_ok-turn_wires.ensures.stays)
     ∙ sym (sent-long _ c.turn_wires.new.wires) ∙ ap lengths (sym c.in_ok-turn_nodes.ensures.wires)

@@ -5,7 +5,6 @@ use Rattle.cable_world.specs.Turn.{wires_after_sends}
 use Rattle.cable_world.specs.codings.Hearing.{node_hears, on_one, arriving_from, inbox_of}
 use Rattle.cable_world.proofs.running.Sending.{no-sends}
 use Rattle.cable_world.proofs.running.Hearing.{port-more, port-more-sent}
-use Rattle.cable_world.proofs.running.Rest.{inbox-none, none-there}
 use Rattle.cable_world.proofs.nodes.hear_ports.Goals as goal
 
 pub loop-port-preserved : goal.loop-port-preserved
@@ -35,18 +34,3 @@ returns-clause-sent g c =
     sym (no-sends 0 c.loop-port.wires)
     ∙ ap (λ es. wires_after_sends 0 (node_hears (inbox_of c.args.arrivals.now c.loop-port.port es) n).sends c.loop-port.wires) (sym (drop_all c.loop-port.port ports (omega (arith, c.ports-port-end.ensures.value))))
     ∙ c.loop-port.invariant.sent
-
-pub returns-then-is_empty-clause-node : goal.returns-then-is_empty-clause-node
-returns-then-is_empty-clause-node g c =
-    let n = g.M.PortMachine.record_of c.args.machine.now in
-    let table = c.args.arrivals.now in
-    let none : length table ≤ 0 = search rules in
-    sym (ap (λ ss. (node_hears ss n).node) (inbox-none table 0 (ports_of c.args.cabling.now c.args.node) (none-there table none)))
-
-pub returns-then-is_empty-clause-sent : goal.returns-then-is_empty-clause-sent
-returns-then-is_empty-clause-sent g c =
-    let n = g.M.PortMachine.record_of c.args.machine.now in
-    let table = c.args.arrivals.now in
-    let none : length table ≤ 0 = search rules in
-    sym (ap (λ ss. wires_after_sends 0 (node_hears ss n).sends c.args.wires.now) (inbox-none table 0 (ports_of c.args.cabling.now c.args.node) (none-there table none))
-    ∙ no-sends 0 c.args.wires.now)

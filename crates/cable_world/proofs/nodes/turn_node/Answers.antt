@@ -12,20 +12,20 @@ use Rattle.cable_world.proofs.nodes.turn_node.Goals as goal
 
 pub send_all-requires : goal.send_all-requires
 send_all-requires g c =
-    let m = c.hear_ports.new.machine in
+    let m = c.hear.new.machine in
     let n = g.M.PortMachine.record_of m in
-    sends-fit n.state (tick (coin n.coins) n.state) c.as_slice.result.now c.hear_ports.new.wires
+    sends-fit n.state (tick (coin n.coins) n.state) c.as_slice.result.now c.hear.new.wires
     (sound-tick (coin n.coins) n.state (g.met.M.PortMachine.valid m))
     (c.as_slice.ensures.value ∙ c.tick.ensures.sends)
-    (c.in_ok-hear_ports.ensures.row ∙ c.requires.wires ∙ sym c.in_ok-hear_ports.ensures.ports)
+    (c.in_ok-hear.ensures.row ∙ c.requires.wires ∙ sym c.in_ok-hear.ensures.ports)
 
 pub returns-clause-sent : goal.returns-clause-sent
 returns-clause-sent g c =
     let n = g.M.PortMachine.record_of c.args.machine.now in
     let heard = node_hears (inbox_of c.args.arrivals.now 0 (ports_of c.args.cabling.now c.args.node)) n in
-    let first = c.hear_ports.new.wires in
+    let first = c.hear.new.wires in
     c.in_ok-send_all.ensures.sent
     ∙ ap (λ o. wires_after_sends 0 o first) (c.as_slice.ensures.value ∙ c.tick.ensures.sends)
-    ∙ ap (λ m. wires_after_sends 0 (node_tick m).sends first) c.in_ok-hear_ports.ensures.node
-    ∙ ap (λ ws. wires_after_sends 0 (node_tick heard.node).sends ws) c.in_ok-hear_ports.ensures.sent
+    ∙ ap (λ m. wires_after_sends 0 (node_tick m).sends first) c.in_ok-hear.ensures.node
+    ∙ ap (λ ws. wires_after_sends 0 (node_tick heard.node).sends ws) c.in_ok-hear.ensures.sent
     ∙ sym (sends-then 0 heard.sends (node_tick heard.node).sends c.args.wires.now)

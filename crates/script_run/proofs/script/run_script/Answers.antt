@@ -24,8 +24,8 @@ loop-rest-preserved c =
     let lines = subst (λ (l : List (List ℕ)). Leaves c.args.bytes.now c.loop-rest.out.items c.loop-rest.number l c.loop-rest.course) c.cut_line.ensures.lines c.loop-rest.invariant.1 in
     let done = c.in-Ok.ensures.done in (
       omega (arith, c.cut_line.ensures.shorter, c.loop-rest.invariant.0),
-      subst (λ (l : List ℕ). Leaves c.args.bytes.now l (c.loop-rest.number + 1) (script_lines c.cut_line.result.1.now) c.in-Ok.next) (sym done.2)
-          (leaves-more c.args.bytes.now c.loop-rest.out.items done.0 c.loop-rest.number c.cut_line.result.0.now (script_lines c.cut_line.result.1.now) c.loop-rest.course c.in-Ok.next done.1 lines),
+      subst (λ (l : List ℕ). Leaves c.args.bytes.now l (c.loop-rest.number + 1) (script_lines c.cut_line.result.1.now) c.take.new.self) (sym done.2)
+          (leaves-more c.args.bytes.now c.loop-rest.out.items done.0 c.loop-rest.number c.cut_line.result.0.now (script_lines c.cut_line.result.1.now) c.loop-rest.course c.take.new.self done.1 lines),
     )
 
 pub returns-in-Err-last_report-clause-refused : goal.returns-in-Err-last_report-clause-refused

@@ -1,6 +1,6 @@
 use Rattle.std.proofs.Common.{◌≡◌, true, length, drop}
 use Rattle.cable_world.specs.Turn.{wires_after_sends}
-use Rattle.cable_world.proofs.rows.WireRow.send_all.Given as goal
+use Rattle.cable_world.proofs.rows.WireRow.put.Given as goal
 
 abbrev pub invariant-loop-port : goal.invariant-loop-port
 invariant-loop-port l = record {

@@ -1,0 +1,11 @@
+use Rattle.std.proofs.Common.{◌≡◌, ◌<◌, ℕ, length, Some, None, get_or}
+use Rattle.cabling.specs.declared.cable.End.{End}
+use Rattle.cabling.specs.Wiring.{ports_of}
+use Rattle.cable_world.specs.codings.Spared.{IsMarked, StaysMarked}
+use Rattle.cable_world.proofs.all_nodes.mark_neighbours.Given as goal
+
+abbrev pub invariant-loop-port : goal.invariant-loop-port
+invariant-loop-port l = record {
+  marked : (port : ℕ) (end : End) → port < l.port → get_or (ports_of l.cabling l.node) port None ≡ Some end → IsMarked l.hears end.node;
+  kept : StaysMarked l.initial.hears l.hears;
+}

@@ -1,0 +1,11 @@
+use Rattle.std.proofs.Common.{[], inl, refl, sym}
+use Rattle.std.proofs.lemmas.List.{append-nil}
+use Rattle.script_run.specs.Script.{delay_of}
+use Rattle.script_run.proofs.course.Course.take.Goals as goal
+
+pub returns-then-says_nothing-clause-done : goal.returns-then-says_nothing-clause-done
+returns-then-says_nothing-clause-done c = (
+  [],
+  inl (c.says_nothing.ensures c.if-says_nothing.true (delay_of c.args.self.now), refl, refl),
+  sym (append-nil c.args.out.now.items),
+)
