@@ -3,7 +3,7 @@ use Rattle.std.proofs.Common.{cond, Option, Some, None, ◌⊎◌, inl, inr, Boo
 use Rattle.std.specs.Prelude.{String, map, string_bytes, codes}
 use Rattle.std.proofs.lemmas.Bool.{eqb-true}
 use Rattle.std.specs.Global.{Global}
-use Rattle.script_run.specs.Number.{number_of}
+use Rattle.script_lines.specs.Number.{number_of}
 use Rattle.bus_cli.specs.declared.form.Form.{Form}
 use Rattle.bus_cli.specs.declared.form.Form.TheVariants.{Capture, Rom, Run, Make}
 use Rattle.bus_cli.specs.declared.form.CaptureForm.{CaptureForm}

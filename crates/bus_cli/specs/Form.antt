@@ -1,7 +1,7 @@
 -- The words that the program is asked with.
 use Rattle.std.specs.Prelude.{◌≡◌, ℕ, ◌≤◌, ◌⊎◌, List, [], ◌∷◌, map, codes, string_bytes, String, Some}
 use Rattle.std.specs.Global.{Global}
-use Rattle.script_run.specs.Number.{number_of}
+use Rattle.script_lines.specs.Number.{number_of}
 use Rattle.bus_cli.specs.declared.form.Form.{Form}
 use Rattle.bus_cli.specs.declared.form.Form.TheVariants.{Capture, Rom, Run, Make}
 use Rattle.bus_cli.specs.declared.form.CaptureForm.{CaptureForm}

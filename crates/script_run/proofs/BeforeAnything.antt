@@ -1,8 +1,8 @@
 -- A fault of a command that asks the manager comes before whatever the command does.
 use Rattle.std.proofs.Common.{◌≡◌, ℕ, List, [], ◌∷◌, Option, None, Some, Result, Ok, Err, IfErr}
-use Rattle.script_run.specs.declared.kind.Kind.{Kind}
-use Rattle.script_run.specs.declared.kind.LineStop.{LineStop}
-use Rattle.script_run.specs.declared.kind.LineStop.TheVariants.{Fault, Memory}
+use Rattle.script_lines.specs.declared.kind.Kind.{Kind}
+use Rattle.script_lines.specs.declared.kind.LineStop.{LineStop}
+use Rattle.script_lines.specs.declared.kind.LineStop.TheVariants.{Fault, Memory}
 use Rattle.script_run.specs.Bus.{Bus, Reported, node_named, tree_with}
 use Rattle.script_run.specs.Step.{LineAnswer, HasManager, AtNode, AtTree, AtManager, Managed, id_of}
 use Rattle.script_run.specs.codings.Running.{Stops, nothing}

@@ -1,13 +1,13 @@
 -- The lines that were taken, and those that are left.
 use Rattle.std.proofs.Common.{◌≡◌, ◌⊎◌, inl, inr, ℕ, ◌+◌, List, [], ◌∷◌, ◌++◌, refl, sym, ap, subst, ◌∙◌, append_assoc, length, arith}
 use Rattle.std.specs.Prelude.{Option, None, Some, Result, Ok, Err}
-use Rattle.script_run.specs.declared.kind.Kind.{Kind}
-use Rattle.script_run.specs.declared.kind.LineStop.{LineStop}
-use Rattle.script_run.specs.declared.kind.LineStop.TheVariants.{Fault, Memory}
-use Rattle.script_run.specs.declared.kind.ScriptStop.{ScriptStop}
-use Rattle.script_run.specs.declared.kind.ScriptStop.TheVariants as script
-use Rattle.script_run.specs.declared.command.Command.{Command}
-use Rattle.script_run.specs.Line.{Reads}
+use Rattle.script_lines.specs.declared.kind.Kind.{Kind}
+use Rattle.script_lines.specs.declared.kind.LineStop.{LineStop}
+use Rattle.script_lines.specs.declared.kind.LineStop.TheVariants.{Fault, Memory}
+use Rattle.script_lines.specs.declared.kind.ScriptStop.{ScriptStop}
+use Rattle.script_lines.specs.declared.kind.ScriptStop.TheVariants as script
+use Rattle.script_lines.specs.declared.command.Command.{Command}
+use Rattle.script_lines.specs.Line.{Reads}
 use Rattle.script_run.specs.Step.{LineAnswer, Settles}
 use Rattle.script_run.specs.Script.{Stage, StageAnswer, Told, bus_of, delay_of, behind, fault_at, script_lines, Follows, Tells, IsTold}
 use Rattle.script_run.specs.OneTold.{ScriptsTellOneThing}

@@ -1,10 +1,3 @@
-pub mod Names
-pub mod Digits
-pub mod Parts
-pub mod GivenValues
-pub mod CoinBits
-pub mod Uniform
-pub mod LineRead
 pub mod TextLines
 pub mod ReportParts
 pub mod OneMaps

@@ -7,15 +7,15 @@ use Rattle.std.specs.Prelude.{not, nat_le, ◌==◌, Ok}
 use Rattle.std.specs.List.{list_all, slice_split, AllZip}
 use Rattle.rand_pcg.specs.Lcg.{Lcg}
 use Rattle.script_run.specs.declared.made.End.{End}
-use Rattle.script_run.specs.declared.command.Command.{Command}
-use Rattle.script_run.specs.declared.command.Command.TheVariants.{Settle}
+use Rattle.script_lines.specs.declared.command.Command.{Command}
+use Rattle.script_lines.specs.declared.command.Command.TheVariants.{Settle}
 use Rattle.script_run.specs.ReportText.{numbered}
-use Rattle.script_run.specs.Words.{is_permitted, is_some_text}
-use Rattle.script_run.specs.Number.{of_digits, number_of}
-use Rattle.script_run.specs.Name.{is_name_char, is_name}
-use Rattle.script_run.specs.Shape.{out_of}
-use Rattle.script_run.specs.Form.{plug, pull, turn, settle}
-use Rattle.script_run.specs.Line.{node, other, Reads}
+use Rattle.script_lines.specs.Words.{is_permitted, is_some_text}
+use Rattle.script_lines.specs.Number.{of_digits, number_of}
+use Rattle.script_lines.specs.Name.{is_name_char, is_name}
+use Rattle.script_lines.specs.Shape.{out_of}
+use Rattle.script_lines.specs.Form.{plug, pull, turn, settle}
+use Rattle.script_lines.specs.Line.{node, other, Reads}
 use Rattle.script_run.specs.Made.{generator, word, end_of, node_line, plug_line, pull_line, turn_line, for_each, made_lines, text_of, made_script}
 use Rattle.script_run.specs.MadeRead.{made_name, declares, plugs, pulls, turns, made_commands, MadeIsRead, MadeIsSplit}
 use Rattle.script_run.proofs.MadeSize.{Near, end-near}

@@ -10,11 +10,11 @@ use Rattle.std.specs.List.{list_all, slice_split, onto_first}
 use Rattle.std.specs.Str.{bytes_eq}
 use Rattle.std.specs.Str.Lines.{strip_carriage_return}
 use Rattle.std.specs.Str.Parse.{AllDigits, digits_value_after}
-use Rattle.script_run.specs.declared.command.Command.{Command}
-use Rattle.script_run.specs.Words.{is_blank, is_permitted, is_some_text, words_of}
-use Rattle.script_run.specs.Number.{of_digits, number_of}
-use Rattle.script_run.proofs.Uniform.{and_parts}
-use Rattle.script_run.specs.Line.{IsCommand, is_skipped, IsRead, Reads}
+use Rattle.script_lines.specs.declared.command.Command.{Command}
+use Rattle.script_lines.specs.Words.{is_blank, is_permitted, is_some_text, words_of}
+use Rattle.script_lines.specs.Number.{of_digits, number_of}
+use Rattle.script_lines.proofs.Uniform.{and_parts}
+use Rattle.script_lines.specs.Line.{IsCommand, is_skipped, IsRead, Reads}
 
 -- ---- a line of words
 

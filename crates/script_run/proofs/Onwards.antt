@@ -2,9 +2,9 @@
 use Rattle.std.proofs.Common.{◌≡◌, ℕ, List, refl, sym, subst}
 use Rattle.std.specs.Prelude.{Ok, Err}
 use Rattle.cable_world.specs.World.{CableWorld}
-use Rattle.script_run.specs.declared.command.Command.{Command}
-use Rattle.script_run.specs.declared.kind.LineStop.{LineStop}
-use Rattle.script_run.specs.declared.kind.LineStop.TheVariants.{Fault, Memory}
+use Rattle.script_lines.specs.declared.command.Command.{Command}
+use Rattle.script_lines.specs.declared.kind.LineStop.{LineStop}
+use Rattle.script_lines.specs.declared.kind.LineStop.TheVariants.{Fault, Memory}
 use Rattle.script_run.specs.declared.bus.Bus as kept
 use Rattle.script_run.specs.declared.run.Stage as stage
 use Rattle.script_run.specs.declared.run.Stage.TheVariants.{Running}

@@ -11,21 +11,21 @@ use Rattle.cable_world.specs.Act.{note_changes, plug}
 use Rattle.cable_world.specs.Run.{quiet_turns}
 use Rattle.settle.specs.declared.report.Report.{Report}
 use Rattle.settle.specs.Report.{IsReport, quiet_turns_of}
-use Rattle.script_run.specs.declared.kind.Kind.{Kind}
-use Rattle.script_run.specs.declared.kind.Kind.TheVariants.{Word, Late, InUse, SameNode, NotPlugged, NotSettled, TooManyTurns}
-use Rattle.script_run.specs.declared.kind.ScriptFault.{ScriptFault}
-use Rattle.script_run.specs.declared.command.Command.{Command}
-use Rattle.script_run.specs.declared.command.Command.TheVariants.{Node, Plug, Pull, Turn, CsrRead}
-use Rattle.script_run.specs.Words.{words_of}
-use Rattle.script_run.specs.Number.{number_of, of_digits}
-use Rattle.script_run.specs.Name.{is_name}
-use Rattle.script_run.specs.Line.{IsRead, Reads}
+use Rattle.script_lines.specs.declared.kind.Kind.{Kind}
+use Rattle.script_lines.specs.declared.kind.Kind.TheVariants.{Word, Late, InUse, SameNode, NotPlugged, NotSettled, TooManyTurns}
+use Rattle.script_lines.specs.declared.kind.ScriptFault.{ScriptFault}
+use Rattle.script_lines.specs.declared.command.Command.{Command}
+use Rattle.script_lines.specs.declared.command.Command.TheVariants.{Node, Plug, Pull, Turn, CsrRead}
+use Rattle.script_lines.specs.Words.{words_of}
+use Rattle.script_lines.specs.Number.{number_of, of_digits}
+use Rattle.script_lines.specs.Name.{is_name}
+use Rattle.script_lines.specs.Line.{IsRead, Reads}
 use Rattle.script_run.specs.ReportText.{report_line, numbered, none}
 use Rattle.script_run.specs.Bus.{Bus, bus_of_nodes}
 use Rattle.script_run.specs.Step.{LineAnswer, end_of, notes_after_act, notes_after_report, Reports, Settles}
 use Rattle.script_run.specs.Script.{script_lines, Stage, fresh, declaring, running, bus_of, delay_of, new_node, times_of, coins_of, Follows, Told, behind, fault_at, Tells, IsTold}
-use Rattle.script_run.specs.codings.Reading.{read_line}
-use Rattle.script_run.proofs.LineRead.{reads}
+use Rattle.script_lines.specs.codings.Reading.{read_line}
+use Rattle.script_lines.proofs.LineRead.{reads}
 use Rattle.script_run.proofs.Turns.{AfterTurns, after-turns}
 
 -- ---- lines

@@ -1,7 +1,7 @@
 -- What `run_script` answers.
 use Rattle.std.specs.Prelude.{◌≡◌, ℕ, List, Result, Ok, Err}
-use Rattle.script_run.specs.declared.kind.ScriptStop.{ScriptStop}
-use Rattle.script_run.specs.declared.kind.ScriptStop.TheVariants.{Fault, Memory}
+use Rattle.script_lines.specs.declared.kind.ScriptStop.{ScriptStop}
+use Rattle.script_lines.specs.declared.kind.ScriptStop.TheVariants.{Fault, Memory}
 use Rattle.script_run.specs.Script.{Told, IsTold}
 
 -- a stop for a fault is the script's fault

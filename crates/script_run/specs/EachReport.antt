@@ -14,10 +14,10 @@ use Rattle.settle.specs.declared.report.Outcome.{Outcome}
 use Rattle.settle.specs.declared.report.Outcome.TheVariants as reported
 use Rattle.settle.specs.declared.report.Part.{Part}
 use Rattle.settle.specs.declared.report.Report.{Report}
-use Rattle.script_run.specs.declared.kind.Kind.{Kind}
-use Rattle.script_run.specs.declared.command.Command.{Command}
-use Rattle.script_run.specs.declared.command.Command.TheVariants.{Settle, Plan}
-use Rattle.script_run.specs.Line.{Reads}
+use Rattle.script_lines.specs.declared.kind.Kind.{Kind}
+use Rattle.script_lines.specs.declared.command.Command.{Command}
+use Rattle.script_lines.specs.declared.command.Command.TheVariants.{Settle, Plan}
+use Rattle.script_lines.specs.Line.{Reads}
 use Rattle.script_run.specs.Bus.{Bus}
 use Rattle.script_run.specs.Step.{Settles}
 use Rattle.script_run.specs.Script.{Stage, fresh, running, StageAnswer, bus_of, delay_of, Follows, script_lines}

@@ -3,10 +3,10 @@ use Rattle.std.specs.Prelude.{◌≡◌, ℕ, suc, ◌+◌, ◌-◌, ◌%◌, �
 use Rattle.std.specs.List.{AllZip, slice_split}
 use Rattle.rand_pcg.specs.Lcg.{Lcg}
 use Rattle.script_run.specs.declared.made.End.{End}
-use Rattle.script_run.specs.declared.command.Command.{Command}
-use Rattle.script_run.specs.declared.command.Command.TheVariants.{Node, Plug, Pull, Turn, Settle}
+use Rattle.script_lines.specs.declared.command.Command.{Command}
+use Rattle.script_lines.specs.declared.command.Command.TheVariants.{Node, Plug, Pull, Turn, Settle}
 use Rattle.script_run.specs.ReportText.{numbered}
-use Rattle.script_run.specs.Line.{Reads}
+use Rattle.script_lines.specs.Line.{Reads}
 use Rattle.script_run.specs.Made.{generator, word, end_of, for_each, made_lines, made_script}
 
 -- the name of node number k

@@ -6,12 +6,12 @@ use Rattle.port_state.specs.Coins.{Coins, coins_of_bits, coins_of_seed}
 use Rattle.port_state.specs.declared.timing.Timing.{Timing}
 use Rattle.port_state.specs.PowerOn.{power_on}
 use Rattle.port_state.specs.Machine.{PortNode}
-use Rattle.script_run.specs.declared.kind.Kind.{Kind}
-use Rattle.script_run.specs.declared.kind.Kind.TheVariants.{Twice, Late, TooManyNodes}
-use Rattle.script_run.specs.declared.kind.ScriptFault.{ScriptFault}
-use Rattle.script_run.specs.declared.command.Command.{Command}
-use Rattle.script_run.specs.declared.command.Command.TheVariants.{Node, Delay}
-use Rattle.script_run.specs.Line.{Reads}
+use Rattle.script_lines.specs.declared.kind.Kind.{Kind}
+use Rattle.script_lines.specs.declared.kind.Kind.TheVariants.{Twice, Late, TooManyNodes}
+use Rattle.script_lines.specs.declared.kind.ScriptFault.{ScriptFault}
+use Rattle.script_lines.specs.declared.command.Command.{Command}
+use Rattle.script_lines.specs.declared.command.Command.TheVariants.{Node, Delay}
+use Rattle.script_lines.specs.Line.{Reads}
 use Rattle.script_run.specs.ReportText.{Names}
 use Rattle.script_run.specs.Bus.{Bus, bus_of_nodes, is_declared}
 use Rattle.script_run.specs.Step.{LineAnswer, Does, Settles}

@@ -24,10 +24,11 @@ use Rattle.root_plan.specs.declared.choice.RootPlan.{RootPlan}
 use Rattle.settle_plan.specs.Planned.{HaveGap}
 use Rattle.settle.specs.declared.report.Report.{Report}
 use Rattle.settle.specs.Report.{IsReport, IsTreeFrom, quiet_turns_of}
-use Rattle.script_run.specs.declared.kind.Kind.{Kind}
-use Rattle.script_run.specs.declared.kind.Kind.TheVariants.{Word, Late, NoNode, NoPort, InUse, SameNode, NotPlugged, NotSettled, NoManager, NotManager, TooManyTurns, TooManyMaps}
-use Rattle.script_run.specs.declared.command.Command.{Command}
-use Rattle.script_run.specs.declared.command.Command.TheVariants.{Node, Plug, Pull, Reset, Turn, Hold, Settle, Config, CsrRead, CsrWrite, CsrLock, Look, Allocate, Release, Manager, Plan, Maps, Delay}
+use Rattle.script_lines.specs.declared.kind.Kind.{Kind}
+use Rattle.script_lines.specs.declared.kind.Kind.TheVariants.{Word, Late, NoNode, NoPort, InUse, SameNode, NotPlugged, NotSettled, NoManager, NotManager, TooManyTurns, TooManyMaps}
+use Rattle.script_lines.specs.declared.command.Command.{Command}
+use Rattle.script_lines.specs.declared.command.Command.TheVariants.{Node, Plug, Pull, Reset, Turn, Hold, Settle, Config, CsrRead, CsrWrite, CsrLock, Look, Allocate, Release, Manager, Plan, Maps, Delay}
+use Rattle.script_lines.specs.Refusal.{kind_of}
 use Rattle.script_run.specs.ReportText.{name_of, IsReportText}
 use Rattle.script_run.specs.Maps.{IsMapsText}
 use Rattle.script_run.specs.CommandText.{csr_text, grant_text, bid_text}
@@ -94,13 +95,6 @@ port_of port = if nat_lt 255 port then 255 else port
 
 abbrev pub end_of : NodeNumber → ℕ → End
 end_of node port = record { node = node; port = port_of port }
-
-abbrev pub kind_of : CableFault → Kind
-kind_of (cable.NoNode end) = NoNode
-kind_of (cable.NoPort end) = NoPort
-kind_of (cable.InUse end) = InUse
-kind_of (cable.SameNode node) = SameNode
-kind_of (cable.NotPlugged end) = NotPlugged
 
 -- an act drops all looks, and the last report no longer stands
 abbrev pub notes_after_act : Notes → Notes

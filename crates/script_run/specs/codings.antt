@@ -1,9 +1,6 @@
-pub mod Digits
-pub mod Reading
 pub mod Appended
 pub mod Standing
 pub mod Running
-pub mod Stop
 pub mod Going
 pub mod Declaring
 pub mod Plugged

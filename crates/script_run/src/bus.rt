@@ -10,13 +10,13 @@ ghost use Rattle.script_run.specs.Step.{Acts, Holds, Turns, Settles, end_of, not
 ghost use Rattle.script_run.specs.codings.Running.{notes_now, bus_now, IsSound, Stops, reported};
 
 use crate::bank::Bank;
-use crate::kind::{Kind, LineStop};
 use crate::laws::reports_can_be_shown;
 use crate::report::report_text;
 use crate::table::NameTable;
 use cable_world::{Act, WorldRun};
 use cabling::{End, Walk};
 use resource_manager::Seen;
+use script_lines::{Kind, LineStop};
 use settle::{Outcome, Part, Report, quiet_turns, settle};
 use std::alloc::Global;
 use topology_stack::{Name, OutOfMemory};

@@ -6,11 +6,10 @@ ghost use Rattle.script_run.specs.Script.{fresh, bus_of};
 ghost use Rattle.script_run.specs.codings.Running.{Stops};
 ghost use Rattle.script_run.specs.codings.Going.{LineLeads, LineFails, IfFault};
 
-use crate::kind::LineStop;
-use crate::line::{parse_line, says_nothing};
 use crate::run::Stage;
 use cable_world::WorldRun;
 use phy_machine::AnyMachine;
+use script_lines::{LineStop, parse_line, says_nothing};
 use std::alloc::Global;
 use std::marker::Model;
 use world_agenda::AgendaWorld;

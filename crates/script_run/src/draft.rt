@@ -12,12 +12,12 @@ ghost use Rattle.script_run.specs.codings.Declaring.{IsDraft, IsLine, IsDeclared
 
 use crate::bank::Bank;
 use crate::bus::{Bus, Notes};
-use crate::kind::{Kind, LineStop};
 use crate::table::NameTable;
 use cable_world::WorldRun;
 use phy_machine::{AnyMachine, FieldMachine, NodeSpec, PackedMachine};
 use port_state::{Coins, Timing};
 use resource_manager::Seen;
+use script_lines::{Kind, LineStop};
 use self_id::Attrs;
 use std::alloc::Global;
 use topology_stack::{Name, OutOfMemory};

@@ -1,9 +1,7 @@
-//! Laws of lines, of reports and of scripts.
+//! Laws of reports and of scripts.
 ghost use Rattle.std.specs.Prelude.{IsFalse};
-ghost use Rattle.script_run.specs.Answer.{OneReading, SomeReading};
 ghost use Rattle.script_run.specs.MadeRead.{MadeIsRead, MadeIsSplit};
 ghost use Rattle.script_run.specs.MadeValid.{MadeScriptsHaveNoFault};
-ghost use Rattle.script_run.specs.Name.{NamesAreTested};
 ghost use Rattle.script_run.specs.CanBeShown.{CanBeShown};
 ghost use Rattle.script_run.specs.OneText.{ReportsHaveOneText};
 ghost use Rattle.script_run.specs.OneTold.{ScriptsTellOneThing};
@@ -12,18 +10,6 @@ ghost use Rattle.script_run.specs.EachReport.{ReportsAreSettled};
 use cable_world::WorldRun;
 use settle::reports_are_read_back;
 use topology_stack::one_tree;
-
-/// A law: each line of a script is nothing, a command or at fault, and no line is two of them.
-#[tactic(auto, using(crate::proofs::LineRead::one_reading, crate::proofs::LineRead::some_reading))]
-pub fn one_reading()
-    ensures some { SomeReading }
-    ensures one { OneReading }
-{}
-
-/// A law: the test of names by which lines are read is true of names alone, and of each of them.
-pub fn names_are_tested()
-    ensures { NamesAreTested }
-{}
 
 /// A law: a report of a world that isn't spent, as `settle` gives it, can be shown by `report_text`
 /// where there are as many names as the world has nodes.

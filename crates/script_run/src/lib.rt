@@ -1,51 +1,39 @@
 //! Scripts: lines of commands that build a bus, run it and ask its manager.
 //!
-//! A script names nodes, plugs and pulls cables, lets turns pass and asks for reports. What stands
-//! here reads it, a line at a time.
+//! A script names nodes, plugs and pulls cables, lets turns pass and asks for reports. What a line
+//! says stands in `script_lines`; here stands what it does to a bus, and what is printed of it.
 #![tactic(auto)]
 
-mod acts;
 mod answers;
-mod asks;
 mod bank;
 mod bus;
-mod coins;
-mod command;
 mod course;
 mod draft;
-mod fixed;
-mod key;
-mod kind;
 mod last_report;
 mod laws;
-mod line;
 mod made;
 mod managed;
 mod maps;
-mod node;
-mod number;
-mod pairs;
 mod planned;
 mod report;
 mod run;
 mod script;
 mod steps;
 mod table;
-mod word;
-mod words;
 
-pub use command::Command;
-pub use kind::{Kind, LineStop, ScriptFault, ScriptStop};
 pub use last_report::summary;
 pub use laws::{
-    made_is_read, made_scripts_have_no_fault, names_are_tested, one_reading, reports_are_settled, reports_can_be_shown, reports_have_one_text, scripts_tell_one_thing,
+    made_is_read, made_scripts_have_no_fault, reports_are_settled, reports_can_be_shown,
+    reports_have_one_text, scripts_tell_one_thing,
 };
-pub use line::parse_line;
 pub use made::make_script;
 pub use maps::maps_text;
-pub use number::number_of;
 pub use report::report_text;
 pub use script::run_script;
+pub use script_lines::{
+    Command, Kind, LineStop, ScriptFault, ScriptStop, names_are_tested, number_of, one_reading,
+    parse_line,
+};
 pub use topology_stack::{Name, OutOfMemory};
 
 #[cfg(test)]

@@ -11,11 +11,11 @@ ghost use Rattle.resource_manager.specs.declared.access.Access.TheVariants as ac
 use crate::answers::{bid_text, csr_text, grant_text};
 use crate::bank::Bank;
 use crate::bus::{Bus, Notes, Reported};
-use crate::kind::{Kind, LineStop};
 use crate::report::tree_of;
 use bus_manager::{Bid, attempt};
 use cable_world::WorldRun;
 use resource_manager::{Access, Answer, Registers, Seen, look, serve};
+use script_lines::{Kind, LineStop};
 use std::alloc::Global;
 use topology_stack::{Name, OutOfMemory, elect, one_tree};
 

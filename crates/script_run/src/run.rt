@@ -1,17 +1,16 @@
 //! The run of a script.
 ghost use Rattle.std.specs.Prelude.{◌≡◌, ◌≤◌, ◌<◌, ◌∷◌, ◌++◌, [], ℕ, List, Some, None, Ok, Err, IfOk, IfErr, OnOk, length};
-ghost use Rattle.script_run.specs.Range.{IsInRange};
+ghost use Rattle.script_lines.specs.Range.{IsInRange};
 ghost use Rattle.script_run.specs.Script.{Declares, Delays, Follows, Runs, bus_of, delay_of, draft_of};
 ghost use Rattle.script_run.specs.codings.Running.{bus_now, IsSound};
 ghost use Rattle.script_run.specs.codings.Declaring.{IsDraft, IsLine, StopsAt, draft_now, node_said};
 ghost use Rattle.script_run.specs.codings.Going.{stage_now, IsSoundStage};
 
 use crate::bus::Bus;
-use crate::command::Command;
 use crate::draft::{Draft, NodeLine};
-use crate::kind::{Kind, LineStop};
 use cable_world::WorldRun;
 use phy_machine::AnyMachine;
+use script_lines::{Command, Kind, LineStop};
 use std::alloc::Global;
 use std::mem;
 use topology_stack::OutOfMemory;

@@ -5,9 +5,9 @@ ghost use Rattle.script_run.specs.Answered.{IsRefused, IsOnlyFault};
 ghost use Rattle.script_run.specs.codings.Going.{stop_at};
 
 use crate::course::Course;
-use crate::kind::{LineStop, ScriptFault, ScriptStop};
 use crate::last_report::first_feed;
 use crate::laws::scripts_tell_one_thing;
+use script_lines::{LineStop, ScriptFault, ScriptStop};
 use std::alloc::Global;
 
 /// The first line of what is left of a script, without its line feed, and what stands behind it.

@@ -2,17 +2,16 @@
 ghost use Rattle.std.specs.Prelude.{◌≡◌, ◌≤◌, ◌<◌, ◌⊎◌, Some, None, Ok, IfOk, IfErr, IfSome, IsSome, OnOk, length};
 ghost use Rattle.script_run.specs.Bus.{resets_of};
 ghost use Rattle.script_run.specs.Step.{Does, after_maps};
-ghost use Rattle.script_run.specs.Range.{IsInRange};
+ghost use Rattle.script_lines.specs.Range.{IsInRange};
 ghost use Rattle.script_run.specs.codings.Running.{bus_now, IsSound, AsksManager, Stops};
-ghost use Rattle.script_run.specs.declared.command.Command.TheVariants as command;
+ghost use Rattle.script_lines.specs.declared.command.Command.TheVariants as command;
 
 use crate::bus::{Bus, end_of};
-use crate::command::Command;
-use crate::kind::{Kind, LineStop};
 use crate::maps::maps_text;
 use crate::report::tree_of;
 use cable_world::{Act, WorldRun};
 use resource_manager::Access;
+use script_lines::{Command, Kind, LineStop};
 use std::alloc::Global;
 use topology_stack::Name;
 

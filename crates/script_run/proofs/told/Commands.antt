@@ -22,16 +22,17 @@ use Rattle.settle.proofs.Relabelled.{one-order}
 use Rattle.settle.specs.declared.report.Report.{Report}
 use Rattle.settle.specs.Report.{IsReport, quiet_turns_of}
 use Rattle.settle.proofs.OneReport.{one-over-cabling}
-use Rattle.script_run.specs.declared.kind.Kind.{Kind}
-use Rattle.script_run.specs.declared.command.Command.{Command}
-use Rattle.script_run.specs.declared.command.Command.TheVariants.{Node, Plug, Pull, Reset, Turn, Hold, Settle, Config, CsrRead, CsrWrite, CsrLock, Look, Allocate, Release, Manager, Plan, Maps, Delay}
+use Rattle.script_lines.specs.declared.kind.Kind.{Kind}
+use Rattle.script_lines.specs.declared.command.Command.{Command}
+use Rattle.script_lines.specs.declared.command.Command.TheVariants.{Node, Plug, Pull, Reset, Turn, Hold, Settle, Config, CsrRead, CsrWrite, CsrLock, Look, Allocate, Release, Manager, Plan, Maps, Delay}
 use Rattle.script_run.specs.ReportText.{IsReportText}
 use Rattle.script_run.specs.Maps.{IsMapsText}
 use Rattle.script_run.specs.CommandText.{csr_text, grant_text}
 use Rattle.std.specs.Option.{option_map}
 use Rattle.script_run.specs.Plan.{IsPlan, plan_line}
 use Rattle.script_run.specs.Bus.{Notes, Bus, Reported, node_named, resets_of, tree_with, values_at}
-use Rattle.script_run.specs.Step.{LineAnswer, AtNode, Named, AtTree, Settled, AtManager, IsTreeOf, HasManager, Managed, node_with, id_of, Acts, Holds, Within, Reports, Settles, Accesses, Looks, Grants, Bids, Plans, PlansAs, MapsOf, GivesMaps, Does, end_of, config_of, kind_of, notes_after_report}
+use Rattle.script_run.specs.Step.{LineAnswer, AtNode, Named, AtTree, Settled, AtManager, IsTreeOf, HasManager, Managed, node_with, id_of, Acts, Holds, Within, Reports, Settles, Accesses, Looks, Grants, Bids, Plans, PlansAs, MapsOf, GivesMaps, Does, end_of, config_of, notes_after_report}
+use Rattle.script_lines.specs.Refusal.{kind_of}
 use Rattle.script_run.proofs.OneText.{one-text}
 use Rattle.script_run.proofs.OneMaps.{same_maps}
 use Rattle.script_run.proofs.told.Cables.{IsCabled, turns-cabled, act-cabled, one-world}

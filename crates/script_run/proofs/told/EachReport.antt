@@ -13,10 +13,10 @@ use Rattle.settle.specs.declared.report.Outcome.TheVariants as reported
 use Rattle.settle.specs.declared.report.Report.{Report}
 use Rattle.settle.specs.Report.{IsPart, IsReport, quiet_turns_of}
 use Rattle.settle.specs.Reported.{IsReported}
-use Rattle.script_run.specs.declared.kind.Kind.{Kind}
-use Rattle.script_run.specs.declared.command.Command.{Command}
-use Rattle.script_run.specs.declared.command.Command.TheVariants.{Settle, Plan}
-use Rattle.script_run.specs.Line.{Reads}
+use Rattle.script_lines.specs.declared.kind.Kind.{Kind}
+use Rattle.script_lines.specs.declared.command.Command.{Command}
+use Rattle.script_lines.specs.declared.command.Command.TheVariants.{Settle, Plan}
+use Rattle.script_lines.specs.Line.{Reads}
 use Rattle.script_run.specs.Bus.{Notes, Bus, Reported, node_named, tree_with, values_at}
 use Rattle.script_run.specs.Step.{LineAnswer, AtNode, AtTree, AtManager, HasManager, Settled, Within, Reports, Settles, Plans, PlansAs, Does, id_of, notes_after_report}
 use Rattle.script_run.specs.Script.{Stage, fresh, declaring, running, StageAnswer, bus_of, delay_of, onwards, Follows, script_lines}

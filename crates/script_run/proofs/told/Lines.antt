@@ -6,15 +6,15 @@ use Rattle.std.proofs.lemmas.Bool.Decides.{nat_tests}
 use Rattle.topology_stack.specs.OneAnswer.{NoListHasTwoTrees}
 use Rattle.cabling.proofs.Ends.{bare}
 use Rattle.port_state.specs.Machine.{PortNode}
-use Rattle.script_run.specs.declared.kind.Kind.{Kind}
-use Rattle.script_run.specs.declared.command.Command.{Command}
-use Rattle.script_run.specs.declared.command.Command.TheVariants.{Node, Delay}
-use Rattle.script_run.specs.Line.{Reads}
+use Rattle.script_lines.specs.declared.kind.Kind.{Kind}
+use Rattle.script_lines.specs.declared.command.Command.{Command}
+use Rattle.script_lines.specs.declared.command.Command.TheVariants.{Node, Delay}
+use Rattle.script_lines.specs.Line.{Reads}
 use Rattle.script_run.specs.Bus.{is_declared}
 use Rattle.script_run.specs.Step.{LineAnswer}
 use Rattle.script_run.specs.Script.{Draft, Stage, fresh, declaring, running, StageAnswer, draft_of, bus_of, delay_of, first_draft, with_node, Declares, Delays, onwards, Runs, Follows, Told, behind, ends_with, Ends, Goes, Takes, Tells, script_lines}
 use Rattle.script_run.specs.OneTold.{ScriptsTellOneThing}
-use Rattle.script_run.proofs.LineRead.{one_reading}
+use Rattle.script_lines.proofs.LineRead.{one_reading}
 use Rattle.script_run.proofs.told.Cables.{IsCabled}
 use Rattle.script_run.proofs.told.Commands.{LeavesCabled, does, settles}
 use Rattle.script_run.proofs.told.Ports.{MayBePorts, HasPorts, read-ports}

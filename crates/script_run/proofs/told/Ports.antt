@@ -5,16 +5,16 @@ use Rattle.std.specs.Option.{option_or}
 use Rattle.std.specs.Str.{bytes_eq}
 use Rattle.std.specs.Str.Lines.{strip_carriage_return}
 use Rattle.std.proofs.lemmas.Bool.Decides.{nat_tests}
-use Rattle.script_run.specs.declared.kind.Kind.TheVariants.{Range}
-use Rattle.script_run.specs.declared.command.Command.{Command}
-use Rattle.script_run.specs.declared.command.Command.TheVariants.{Node}
-use Rattle.script_run.specs.Number.{number_of}
-use Rattle.script_run.specs.Shape.{first_wrong, out_of, wrong_name}
-use Rattle.script_run.specs.Form.{Form, number_at, command_of, plug, pull, reset, turn, hold, settle, config_root, config_gap, config_both, csr_read, csr_write, csr_lock, look, allocate, release, manager, plan, maps, delay}
-use Rattle.script_run.specs.Words.{words_of}
-use Rattle.script_run.specs.Node.{has_node_form, node_shapes, wrong_node, first_wrong_pair}
-use Rattle.script_run.specs.Line.{LineForm, node, other, meaning, wrong_word, has_form, IsCommand, Reads}
-use Rattle.script_run.proofs.GivenValues.{neither}
+use Rattle.script_lines.specs.declared.kind.Kind.TheVariants.{Range}
+use Rattle.script_lines.specs.declared.command.Command.{Command}
+use Rattle.script_lines.specs.declared.command.Command.TheVariants.{Node}
+use Rattle.script_lines.specs.Number.{number_of}
+use Rattle.script_lines.specs.Shape.{first_wrong, out_of, wrong_name}
+use Rattle.script_lines.specs.Form.{Form, number_at, command_of, plug, pull, reset, turn, hold, settle, config_root, config_gap, config_both, csr_read, csr_write, csr_lock, look, allocate, release, manager, plan, maps, delay}
+use Rattle.script_lines.specs.Words.{words_of}
+use Rattle.script_lines.specs.Node.{has_node_form, node_shapes, wrong_node, first_wrong_pair}
+use Rattle.script_lines.specs.Line.{LineForm, node, other, meaning, wrong_word, has_form, IsCommand, Reads}
+use Rattle.script_lines.proofs.GivenValues.{neither}
 
 -- a number of ports that a node may have
 abbrev pub MayBePorts : ℕ → Type 0

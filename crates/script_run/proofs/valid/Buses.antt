@@ -19,8 +19,8 @@ use Rattle.cable_world.specs.Run.{quiet_turns}
 use Rattle.cable_world.proofs.tables.CountsInActs.{Keeps, act-keeps}
 use Rattle.settle.specs.Report.{quiet_turns_of}
 use Rattle.script_run.specs.declared.made.End.{End}
-use Rattle.script_run.specs.declared.kind.Kind.TheVariants.{TooManyTurns}
-use Rattle.script_run.specs.declared.command.Command.TheVariants.{Turn}
+use Rattle.script_lines.specs.declared.kind.Kind.TheVariants.{TooManyTurns}
+use Rattle.script_lines.specs.declared.command.Command.TheVariants.{Turn}
 use Rattle.script_run.specs.Bus.{Notes, Bus, node_named}
 use Rattle.script_run.specs.Step.{LineAnswer, AtNode, Named, Acts, Within, Reports, Settles, Does, end_of}
 use Rattle.script_run.specs.Made.{end}

@@ -11,8 +11,8 @@ use Rattle.cabling.specs.Change.{TakenOut}
 use Rattle.cabling.proofs.Ends.{bare}
 use Rattle.port_state.specs.Machine.{PortNode}
 use Rattle.rand_pcg.specs.Lcg.{Lcg}
-use Rattle.script_run.specs.declared.command.Command.{Command}
-use Rattle.script_run.specs.declared.command.Command.TheVariants.{Settle}
+use Rattle.script_lines.specs.declared.command.Command.{Command}
+use Rattle.script_lines.specs.declared.command.Command.TheVariants.{Settle}
 use Rattle.script_run.specs.Bus.{Bus, bus_of_nodes, is_declared}
 use Rattle.script_run.specs.Script.{without_last_if_empty, script_lines, Draft, with_node, new_node, times_of, coins_of, Stage, fresh, declaring, running, draft_of, bus_of, Declares, Tells}
 use Rattle.script_run.specs.Made.{generator, word, end, end_of, for_each, made_lines, made_script}

@@ -2,14 +2,14 @@
 use Rattle.std.proofs.Common.{◌≡◌, ◌∙◌, ℕ, zero, suc, ◌+◌, ◌<◌, List, [], ◌∷◌, ◌++◌, Option, Some, sym, subst, ap, arith}
 use Rattle.std.specs.Prelude.{Result, Ok, Err}
 use Rattle.std.specs.List.{AllZip}
-use Rattle.script_run.specs.declared.kind.Kind.{Kind}
-use Rattle.script_run.specs.declared.command.Command.{Command}
-use Rattle.script_run.specs.Line.{Reads}
+use Rattle.script_lines.specs.declared.kind.Kind.{Kind}
+use Rattle.script_lines.specs.declared.command.Command.{Command}
+use Rattle.script_lines.specs.Line.{Reads}
 use Rattle.script_run.specs.Bus.{Bus}
 use Rattle.script_run.specs.Step.{LineAnswer, Does, Settles}
 use Rattle.script_run.specs.Script.{Stage, running, StageAnswer, bus_of, delay_of, onwards, Runs, Follows, Told, behind, ends_with, Goes, Takes, Tells}
 use Rattle.script_run.specs.Made.{for_each}
-use Rattle.script_run.proofs.LineRead.{one_reading}
+use Rattle.script_lines.proofs.LineRead.{one_reading}
 
 -- ---- a command
 

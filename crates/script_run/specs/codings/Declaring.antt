@@ -3,11 +3,11 @@ use Rattle.std.specs.Prelude.{◌≡◌, ℕ, ◌≤◌, All, false, length, map
 use Rattle.phy_machine.specs.Any.{any_node}
 use Rattle.port_state.specs.Machine.{PortNode}
 use Rattle.cable_world.specs.World.{IsNodeAtPowerOn}
-use Rattle.script_run.specs.declared.kind.LineStop.{LineStop}
-use Rattle.script_run.specs.declared.kind.LineStop.TheVariants.{Fault, Memory}
+use Rattle.script_lines.specs.declared.kind.LineStop.{LineStop}
+use Rattle.script_lines.specs.declared.kind.LineStop.TheVariants.{Fault, Memory}
 use Rattle.script_run.specs.declared.draft.Draft as kept
 use Rattle.script_run.specs.declared.draft.NodeLine.{NodeLine}
-use Rattle.script_run.specs.Range.{IsNodeInRange}
+use Rattle.script_lines.specs.Range.{IsNodeInRange}
 use Rattle.script_run.specs.Script.{Draft, Declares, StageAnswer, declaring, new_node, times_of, coins_of}
 
 abbrev pub draft_now : kept.Draft → Draft

@@ -1,15 +1,15 @@
 -- How the lines of a script are gone through.
 use Rattle.std.specs.Prelude.{◌≡◌, ◌⊎◌, ℕ, Bool, List, [], Option, None, Some, Result, Ok, Err}
 use Rattle.cable_world.specs.World.{CableWorld}
-use Rattle.script_run.specs.declared.kind.Kind.{Kind}
-use Rattle.script_run.specs.declared.kind.LineStop.{LineStop}
-use Rattle.script_run.specs.declared.kind.LineStop.TheVariants as line
-use Rattle.script_run.specs.declared.kind.ScriptStop.{ScriptStop}
-use Rattle.script_run.specs.declared.kind.ScriptStop.TheVariants as script
-use Rattle.script_run.specs.declared.command.Command.{Command}
+use Rattle.script_lines.specs.declared.kind.Kind.{Kind}
+use Rattle.script_lines.specs.declared.kind.LineStop.{LineStop}
+use Rattle.script_lines.specs.declared.kind.LineStop.TheVariants as line
+use Rattle.script_lines.specs.declared.kind.ScriptStop.{ScriptStop}
+use Rattle.script_lines.specs.declared.kind.ScriptStop.TheVariants as script
+use Rattle.script_lines.specs.declared.command.Command.{Command}
 use Rattle.script_run.specs.declared.run.Stage as kept
 use Rattle.script_run.specs.declared.run.Stage.TheVariants.{Fresh, Declaring, Running}
-use Rattle.script_run.specs.Line.{Reads}
+use Rattle.script_lines.specs.Line.{Reads}
 use Rattle.script_run.specs.Script.{Stage, fresh, declaring, running, delay_of, Follows, Told, fault_at, behind, Tells, IsTold}
 use Rattle.script_run.specs.codings.Running.{bus_now, IsSound}
 use Rattle.script_run.specs.codings.Declaring.{draft_now, IsDraft}

@@ -1,14 +1,14 @@
 -- The bus of a script as the code keeps it.
 use Rattle.std.specs.Prelude.{◌≡◌, ℕ, ◌≤◌, List, length, map, Option, Some, Result, Ok, Err, IfSome, IsFalse, Bool}
 use Rattle.cable_world.specs.World.{CableWorld}
-use Rattle.script_run.specs.declared.kind.Kind.{Kind}
-use Rattle.script_run.specs.declared.kind.LineStop.{LineStop}
-use Rattle.script_run.specs.declared.kind.LineStop.TheVariants.{Fault, Memory}
+use Rattle.script_lines.specs.declared.kind.Kind.{Kind}
+use Rattle.script_lines.specs.declared.kind.LineStop.{LineStop}
+use Rattle.script_lines.specs.declared.kind.LineStop.TheVariants.{Fault, Memory}
 use Rattle.script_run.specs.declared.bus.Notes as kept
 use Rattle.script_run.specs.declared.bus.Bus as running
 use Rattle.script_run.specs.declared.bus.Reported as shown
-use Rattle.script_run.specs.declared.command.Command.{Command}
-use Rattle.script_run.specs.declared.command.Command.TheVariants.{CsrRead, CsrWrite, CsrLock, Look, Allocate, Release, Manager}
+use Rattle.script_lines.specs.declared.command.Command.{Command}
+use Rattle.script_lines.specs.declared.command.Command.TheVariants.{CsrRead, CsrWrite, CsrLock, Look, Allocate, Release, Manager}
 use Rattle.script_run.specs.ReportText.{IsNamedReport}
 use Rattle.script_run.specs.Bus.{Notes, Bus, Reported, node_named, tree_with}
 use Rattle.script_run.specs.codings.Standing.{StandsSince}

@@ -1,0 +1,13 @@
+pub mod Words
+pub mod Number
+pub mod Name
+pub mod Shape
+pub mod Form
+pub mod Coins
+pub mod Key
+pub mod Node
+pub mod Line
+pub mod Answer
+pub mod Range
+pub mod Refusal
+pub mod codings

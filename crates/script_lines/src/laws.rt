@@ -1,0 +1,15 @@
+//! Laws of lines.
+ghost use Rattle.script_lines.specs.Answer.{OneReading, SomeReading};
+ghost use Rattle.script_lines.specs.Name.{NamesAreTested};
+
+/// A law: each line of a script is nothing, a command or at fault, and no line is two of them.
+#[tactic(auto, using(crate::proofs::LineRead::one_reading, crate::proofs::LineRead::some_reading))]
+pub fn one_reading()
+    ensures some { SomeReading }
+    ensures one { OneReading }
+{}
+
+/// A law: the test of names by which lines are read is true of names alone, and of each of them.
+pub fn names_are_tested()
+    ensures { NamesAreTested }
+{}

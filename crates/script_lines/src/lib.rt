@@ -1,0 +1,30 @@
+//! The lines of a script: what each line says, or what is wrong with it.
+//!
+//! A line is split into words, the words have one of the forms of `specs/Form.antt`, and so say a
+//! command; or the first fault decides. What a command does to a bus stands in `script_run`.
+#![tactic(auto)]
+
+mod acts;
+mod asks;
+mod coins;
+mod command;
+mod fixed;
+mod key;
+mod kind;
+mod laws;
+mod line;
+mod node;
+mod number;
+mod pairs;
+mod word;
+mod words;
+
+pub use command::Command;
+pub use kind::{Kind, LineStop, ScriptFault, ScriptStop};
+pub use laws::{names_are_tested, one_reading};
+pub use line::parse_line;
+pub use number::number_of;
+pub use topology_stack::{Name, OutOfMemory};
+
+#[cfg(test)]
+mod tests;
