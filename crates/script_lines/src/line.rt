@@ -46,9 +46,11 @@ fn is_skipped(line: &[u8]) -> bool
     }
 }
 
-/// Whether a line of a script is nothing: it has no words, or is a comment.
-pub(crate) fn says_nothing(line: &[u8]) -> bool
-    ensures { IsTrue result → (d : ℕ) → Reads d line.now (Ok None) }
+/// Whether a line of a script is nothing: it has no words, or is a comment. `line` has no line feed;
+/// a carriage return at its end doesn't count. It takes no memory.
+pub fn says_nothing(line: &[u8]) -> bool
+    ensures value { result ≡ is_skipped (strip_carriage_return line.now) }
+    ensures nothing { IsTrue result → (d : ℕ) → Reads d line.now (Ok None) }
 {
     is_skipped(without_return(line))
 }
