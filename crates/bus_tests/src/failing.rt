@@ -39,7 +39,11 @@ fn valid_runs(alloc: Global) -> Result<Vec<Run>, AllocError> {
 /// The status of a run whose reads come in pieces of five bytes and fail at one call, and the sink.
 fn failing_read(alloc: Global, run: &Run, call: u32) -> Result<(u8, MemSink), AllocError> {
     let words = words(alloc, &[run.form])?;
-    let mut source = MemSource::new(run.input.as_slice().to_vec(alloc)?, vec![in alloc; call]?, 5);
+    let mut source = MemSource::new(
+        run.input.as_slice().to_vec(alloc)?,
+        vec![in alloc; call]?,
+        5,
+    );
     let mut sink = MemSink::new(alloc, 10_000, Vec::new(alloc), 10_000)?;
     let status = bus_main(alloc, &words, &mut source, &mut sink);
     Ok((status, sink))

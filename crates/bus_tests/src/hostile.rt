@@ -108,8 +108,7 @@ fn as_many_as_may_be(rt: HostRuntime) -> Result<(), Fail> {
         (
             "63 nodes",
             declared(alloc, 63, b"")?,
-            b"report 1 turn 73520\ncomponent rounds 0 changed 261 nodes n0\ntree root n0\n"
-                .as_slice(),
+            b"report 1 turn 73520\ncomponent rounds 0 changed 261 nodes n0\ntree root n0\n".as_slice(),
             b"name n62\nnodes 1 root 0 irm none\n".as_slice(),
         ),
         (
@@ -133,7 +132,11 @@ fn as_many_as_may_be(rt: HostRuntime) -> Result<(), Fail> {
     ] {
         let mut source = SureSource::new(script);
         let mut sink = MemSink::new(alloc, 100_000, Vec::new(alloc), 100_000)?;
-        assert_eq!(rt; bus_main(alloc, &words, &mut source, &mut sink), 0, "{name}");
+        assert_eq!(rt;
+            bus_main(alloc, &words, &mut source, &mut sink),
+            0,
+            "{name}"
+        );
         assert!(rt; sink.written().starts_with(start), "{name}");
         assert!(rt; sink.written().ends_with(end), "{name}");
     }

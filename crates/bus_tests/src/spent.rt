@@ -42,8 +42,10 @@ fn check_spent<W: WorldRun>(rt: &impl Abort, alloc: Global, world: &mut W) {
     assert!(rt; world.turns() <= 1000);
     assert!(rt; world.run_turns(1).is_err());
     assert!(rt; world.turns() == turns);
-    let quiet = quiet_turns(world.cabling().nodes(), world.delay());
-    assert!(rt; quiet <= 1_000_000);
+    let d = world.delay();
+    assert!(rt; 1 <= d && d <= 16);
+    let all = u64::from(world.turns()) + u64::from(quiet_turns(world.cabling().nodes(), d));
+    assert!(rt; all <= 4_000_000_000);
     assert!(rt; settle(alloc, world).is_err());
     assert!(rt; world.spent());
     assert_eq!(rt; world.turns(), turns);
