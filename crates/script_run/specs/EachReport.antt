@@ -34,8 +34,8 @@ pub record IsLoopInTimeout (w : CableWorld) (set core : NodeSet) : Type 0 where
       Shows w k (λ v. (v.phase ≡ TreeStart) × (v.timed_out ≡ true))
   pub unnamed : (k : NodeNumber) → Holds set k → Shows w k (λ v. v.id ≡ None)
 
--- One cable whose ends drew thirty-two coins each since the last reset, the same ones in the same
--- order.
+-- One cable whose ends drew thirty-two coins each since the last reset, or more, of which the first
+-- thirty-two are equal one by one.
 pub record DrewEqualCoins (w : CableWorld) (set : NodeSet) (a b : NodeNumber) : Type 0 where
   pub holds_a : Holds set a
   pub holds_b : Holds set b
