@@ -1,5 +1,5 @@
 -- Which nodes are marked as those that may hear something. No public contract of a world cites this file.
-use Rattle.std.specs.Prelude.{◌≡◌, ◌<◌, ℕ, Bool, true, false, [], List, length, Some, slice_index_or}
+use Rattle.std.specs.Prelude.{◌≡◌, ℕ, Bool, true, false, [], List, Some, slice_index_or}
 use Rattle.cabling.specs.declared.cable.End.{End}
 use Rattle.cabling.specs.Wiring.{Wiring, NodeNumber, ports_of, far}
 use Rattle.port_state.specs.declared.signal.Signal.{Signal}
