@@ -1,5 +1,5 @@
 //! The turn of a world, over its parts.
-ghost use Rattle.std.specs.Prelude.{◌≡◌, ◌==◌, ◌+◌, ◌<◌, ◌≤◌, [], length, map, OnOk, IfOk, IfSome, IsFalse, All, if◌then◌else◌};
+ghost use Rattle.std.specs.Prelude.{◌≡◌, ◌==◌, ◌+◌, ◌<◌, ◌≤◌, [], true, false, slice_index_or, length, map, OnOk, IfOk, IfSome, IsFalse, All, if◌then◌else◌};
 ghost use Rattle.port_state.specs.Machine.{PortNode, NodeStep};
 ghost use Rattle.cable_world.specs.Wire.{arrives, stays};
 ghost use Rattle.cabling.specs.Wiring.{ports_of};
@@ -7,7 +7,7 @@ ghost use Rattle.cable_world.specs.Turn.{node_turn, wires_after_sends, same_list
 ghost use Rattle.cable_world.specs.Turn.{all_wires_after_sends, last_changes};
 ghost use Rattle.cable_world.specs.codings.Hearing.{inbox_of};
 ghost use Rattle.cable_world.specs.codings.Ages.{AreYoung};
-ghost use Rattle.cable_world.specs.codings.Spared.{IsMarked, AreMarked, StaysMarked, AreSpared};
+ghost use Rattle.cable_world.specs.codings.Spared.{AreMarked, StaysMarked, AreSpared};
 ghost use Rattle.cable_world.specs.codings.Steps.{turns_of, HasItsPorts};
 ghost use Rattle.cable_world.specs.Parts.{world_record};
 ghost use Rattle.cable_world.specs.Turn.{turn};
@@ -16,7 +16,7 @@ ghost use Rattle.cable_world.specs.Lawful.{IsLawful};
 use crate::nodes::turn_node;
 use crate::rows::{ArrivalRow, WireRow};
 use cabling::{Cabling, End, OutOfMemory, cables_are_two_ended};
-use port_state::{PortMachine, Sends};
+use port_state::{PortMachine, Sends, Signal};
 
 /// A turn of every wire. What arrives at their far ends takes the place of what is in `arrivals`.
 pub fn turn_wires(
@@ -35,13 +35,17 @@ pub fn turn_wires(
     Ok(())
 }
 
-/// Marks the node at a far end.
+/// Marks the node at a far end, where signals arrive there.
 #[tactic(auto, using(crate::proofs::running::Spared::set_marks, crate::proofs::running::Spared::set_keeps, crate::proofs::running::Spared::past_marks))]
-fn mark_far(far: Option<End>, hears: &mut [bool])
-    ensures marked { IfSome far (λ end. IsMarked hears.new end.node) }
+fn mark_far(far: Option<End>, signals: &[Signal], hears: &mut [bool])
+    ensures marked { IfSome far (λ end.
+        slice_index_or hears.new end.node true ≡ false → signals.now ≡ []) }
     ensures kept { StaysMarked hears.old hears.new }
     ensures count { length hears.new ≡ length hears.old }
 {
+    if signals.is_empty() {
+        return;
+    }
     if let Some(End { node, .. }) = far {
         let node = usize::from(node);
         if node < hears.len() {
@@ -50,19 +54,19 @@ fn mark_far(far: Option<End>, hears: &mut [bool])
     }
 }
 
-/// Marks the nodes at the far ends of a node's cables. The node exists.
-fn mark_neighbours(cabling: &Cabling, node: u8, hears: &mut [bool])
+/// Marks the nodes at the far ends of a node's wires from which something arrives. The node exists.
+fn mark_hearers(cabling: &Cabling, node: u8, row: &ArrivalRow, hears: &mut [bool])
     requires { node < length cabling.now }
-    ensures marked { AreMarked cabling.now node hears.new }
+    ensures marked { AreMarked cabling.now node row.now hears.new }
     ensures kept { StaysMarked hears.old hears.new }
     ensures count { length hears.new ≡ length hears.old }
 {
     for port in 0..cabling.ports(node) {
-        mark_far(cabling.far(End { node, port }), hears);
+        mark_far(cabling.far(End { node, port }), row.from_port(port), hears);
     }
 }
 
-/// Which nodes may hear something: the neighbours of those from whose wires something may arrive.
+/// Which nodes hear something.
 fn hearers(cabling: &Cabling, arrivals: &[ArrivalRow]) -> [bool; 63]
     requires { length arrivals.now ≡ length cabling.now }
     ensures { AreSpared arrivals.now cabling.now result }
@@ -70,8 +74,9 @@ fn hearers(cabling: &Cabling, arrivals: &[ArrivalRow]) -> [bool; 63]
     cables_are_two_ended(cabling);
     let mut hears = [false; 63];
     for node in 0..cabling.nodes() {
-        if !arrivals[usize::from(node)].is_none() {
-            mark_neighbours(cabling, node, &mut hears);
+        let row = &arrivals[usize::from(node)];
+        if !row.is_none() {
+            mark_hearers(cabling, node, row, &mut hears);
         }
     }
     hears

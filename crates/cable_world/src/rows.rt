@@ -79,8 +79,9 @@ impl ArrivalRow {
     }
 
     /// Whether it is known that nothing arrives.
+    #[tactic(auto, using(crate::proofs::running::Rest::none_at))]
     pub fn is_none(&self) -> bool
-        ensures { IsTrue result → AreNone self.now }
+        ensures { IsTrue result → (port : PortNumber) → slice_index_or self.now port [] ≡ [] }
     {
         !self.any
     }

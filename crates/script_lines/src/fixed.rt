@@ -16,36 +16,49 @@ pub(crate) fn read_fixed(verb: &Word, args: &[Word]) -> Result<Command, Kind>
     ensures ranged { (d : ℕ) → IfOk result (IsInRange d) }
 {
     if verb.is(b"plug") {
-        plug(args)
-    } else if verb.is(b"pull") {
-        pull(args)
-    } else if verb.is(b"reset") {
-        reset(args)
-    } else if verb.is(b"turn") {
-        turn(args)
-    } else if verb.is(b"hold") {
-        hold(args)
-    } else if verb.is(b"settle") {
-        settle(args)
-    } else if verb.is(b"config") {
-        config(args)
-    } else if verb.is(b"csr") {
-        csr(args)
-    } else if verb.is(b"look") {
-        look(args)
-    } else if verb.is(b"allocate") {
-        allocate(args)
-    } else if verb.is(b"release") {
-        release(args)
-    } else if verb.is(b"manager") {
-        manager(args)
-    } else if verb.is(b"plan") {
-        plan(args)
-    } else if verb.is(b"maps") {
-        maps(args)
-    } else if verb.is(b"delay") {
-        delay(args)
-    } else {
-        Err(Kind::Word)
+        return plug(args);
     }
+    if verb.is(b"pull") {
+        return pull(args);
+    }
+    if verb.is(b"reset") {
+        return reset(args);
+    }
+    if verb.is(b"turn") {
+        return turn(args);
+    }
+    if verb.is(b"hold") {
+        return hold(args);
+    }
+    if verb.is(b"settle") {
+        return settle(args);
+    }
+    if verb.is(b"config") {
+        return config(args);
+    }
+    if verb.is(b"csr") {
+        return csr(args);
+    }
+    if verb.is(b"look") {
+        return look(args);
+    }
+    if verb.is(b"allocate") {
+        return allocate(args);
+    }
+    if verb.is(b"release") {
+        return release(args);
+    }
+    if verb.is(b"manager") {
+        return manager(args);
+    }
+    if verb.is(b"plan") {
+        return plan(args);
+    }
+    if verb.is(b"maps") {
+        return maps(args);
+    }
+    if verb.is(b"delay") {
+        return delay(args);
+    }
+    Err(Kind::Word)
 }

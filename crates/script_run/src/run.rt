@@ -227,7 +227,7 @@ impl Stage<AgendaWorld<AnyMachine>> {
                 self.declare(alloc, line)
             }
             Command::Delay { delay } => self.say_delay(alloc, delay),
-            command => self.run(alloc, d, &command),
+            _ => self.run(alloc, d, &command),
         }
     }
 }

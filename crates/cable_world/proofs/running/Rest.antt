@@ -50,7 +50,7 @@ rest-arrives d (w ∷ row) (a ∷ arrivals) h e =
 
 -- ---- nothing is heard where nothing arrives
 
-pub none-at : (arrivals : List (List Signal)) (p : ℕ) → AreNone arrivals → slice_index_or arrivals p [] ≡ []
-none-at [] p h = refl
-none-at (a ∷ arrivals) zero h = h 0 a (omega arith)
-none-at (a ∷ arrivals) (suc p) h = none-at arrivals p (All-tail NoneHere a arrivals h)
+pub none_at : (arrivals : List (List Signal)) (p : ℕ) → AreNone arrivals → slice_index_or arrivals p [] ≡ []
+none_at [] p h = refl
+none_at (a ∷ arrivals) zero h = h 0 a (omega arith)
+none_at (a ∷ arrivals) (suc p) h = none_at arrivals p (All-tail NoneHere a arrivals h)

@@ -3,10 +3,8 @@ use Rattle.std.proofs.Common.{◌≡◌, ℕ, zero, suc, ◌+◌, ◌<◌, ◌�
 use Rattle.cabling.specs.declared.cable.End.{End}
 use Rattle.cabling.specs.Wiring.{Wiring, ports_of, far, IsCabling}
 use Rattle.cabling.proofs.Ends.{plugged}
-use Rattle.cable_world.specs.codings.Rest.{AreNone}
 use Rattle.cable_world.specs.codings.Hearing.{Arriving, on_one, arriving_from, inbox_of}
-use Rattle.cable_world.specs.codings.Spared.{IsMarked, AreSpared}
-use Rattle.cable_world.proofs.running.Rest.{none-at}
+use Rattle.cable_world.specs.codings.Spared.{IsMarked, StaysMarked, AreSpared}
 
 -- a mark that is set is there, and takes none away
 pub set_marks : (hears : List Bool) (i : ℕ) → IsMarked (slice_set hears i true) i
@@ -21,17 +19,25 @@ set_keeps (h ∷ hears) zero (suc k) m = m
 set_keeps (h ∷ hears) (suc i) zero m = m
 set_keeps (h ∷ hears) (suc i) (suc k) m = set_keeps hears i k m
 
+-- a node that isn't marked wasn't
+pub was-spared : (old new : List Bool) (k : ℕ) → StaysMarked old new → slice_index_or new k true ≡ false → slice_index_or old k true ≡ false
+was-spared old new k kept quiet = go (slice_index_or old k true) refl
+  where
+    go : (b : Bool) → slice_index_or old k true ≡ b → b ≡ false
+    go true is = let e : true ≡ false = sym (kept k is) ∙ quiet in absurd cc
+    go false is = refl
+
 -- a node for which there is no mark
 pub past_marks : (hears : List Bool) (k : ℕ) → length hears ≤ k → IsMarked hears k
 past_marks [] k past = refl
 past_marks (h ∷ hears) zero past = absurd (omega (arith, past))
 past_marks (h ∷ hears) (suc k) past = past_marks hears k (omega (arith, past))
 
--- the nodes before a number whose wires may give something have all their neighbours marked
+-- the wires of the nodes before a number give something to marked nodes alone
 abbrev pub MarkedBelow : ℕ → Arriving → Wiring → List Bool → Type 0
 MarkedBelow n table c hears =
     (j port : ℕ) (end : End) → j < n → far c (record { node = j; port = port }) ≡ Some end →
-    slice_index_or hears end.node true ≡ false → AreNone (slice_index_or table j [])
+    slice_index_or hears end.node true ≡ false → slice_index_or (slice_index_or table j []) port [] ≡ []
 
 inbox-spared :
     (table : Arriving) (p : ℕ) (ports : List (Option End)) →
@@ -46,4 +52,4 @@ pub all-spared : (table : Arriving) (c : Wiring) (hears : List Bool) → IsCabli
 all-spared table c hears is m k quiet =
     inbox-spared table 0 (ports_of c k) (λ port end e.
     let back = is.both_ways (record { node = k; port = port }) end e in
-    none-at (slice_index_or table end.node []) end.port (m end.node end.port (record { node = k; port = port }) (plugged c end (record { node = k; port = port }) back).node back quiet))
+    m end.node end.port (record { node = k; port = port }) (plugged c end (record { node = k; port = port }) back).node back quiet)

@@ -1,13 +1,8 @@
-use Rattle.std.proofs.Common.{◌∙◌, ◌≡◌, ◌<◌, ◌≤◌, All, get_or, length, map, arith, ap, refl, subst, sym}
-use Rattle.std.proofs.lemmas.List.{length-map, get_or-set_same}
+use Rattle.std.proofs.Common.{◌∙◌, ◌≡◌, length, map, arith, ap, refl, sym}
+use Rattle.std.proofs.lemmas.List.{length-map}
 use Rattle.cable_world.specs.Wire.{arrives, stays}
-use Rattle.std.proofs.lemmas.Bool.{and_parts}
-use Rattle.std.proofs.lemmas.List.Elements.{All-more}
-use Rattle.std.proofs.Math.ListN.{get_or-map}
-use Rattle.cable_world.specs.codings.Rest.{AreNone}
-use Rattle.cable_world.proofs.running.Mixed.{next-is, mixed-map, mixed-all}
+use Rattle.cable_world.proofs.running.Mixed.{next-is, mixed-map}
 use Rattle.cable_world.proofs.running.AllNodes.{same-row}
-use Rattle.cable_world.proofs.running.Still.{all-taken}
 use Rattle.cable_world.proofs.all_nodes.turn_wires.Goals as goal
 
 pub turn-requires-clause-same : goal.turn-requires-clause-same

@@ -1,4 +1,4 @@
-use Rattle.std.proofs.Common.{◌≡◌, ◌∙◌, ◌<◌, ◌≤◌, rules, None, length, get_or, arith, ap, sym}
+use Rattle.std.proofs.Common.{◌≡◌, ◌∙◌, ◌<◌, None, length, get_or, arith, ap, sym}
 use Rattle.std.proofs.lemmas.List.{drop_all}
 use Rattle.cabling.specs.Wiring.{ports_of}
 use Rattle.cable_world.specs.Turn.{wires_after_sends}
