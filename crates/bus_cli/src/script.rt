@@ -13,7 +13,7 @@ ghost use Rattle.bus_cli.specs.codings.Reading.{status_with, text_with};
 use crate::answer::Answer;
 use crate::line::script_line;
 use quad_lanes::OutOfMemory;
-use script_run::{ScriptStop, make_script, run_script, summary};
+use script_run::{ScriptStop, advise_script, make_script, run_script, summary};
 use std::alloc::Global;
 
 /// The answer to the bytes of a script.
@@ -23,6 +23,19 @@ pub(crate) fn answer_to_script(alloc: Global, bytes: &[u8]) -> Result<Answer, Ou
         Answers words bytes.now (status_with answer) (text_with answer)) }
 {
     match run_script(alloc, bytes) {
+        Ok(text) => Ok(Answer::Valid(text)),
+        Err(ScriptStop::Fault(fault)) => Ok(Answer::Refused(script_line(fault))),
+        Err(ScriptStop::Memory(error)) => Err(error),
+    }
+}
+
+/// The answer to the bytes of a script of whose bus the advice is asked for.
+pub(crate) fn answer_to_advice(alloc: Global, bytes: &[u8]) -> Result<Answer, OutOfMemory>
+    requires { length bytes.now ≤ 1048576 }
+    ensures { IfOk result (λ answer. (words : List (String Global)) → Asks words Advice →
+        Answers words bytes.now (status_with answer) (text_with answer)) }
+{
+    match advise_script(alloc, bytes) {
         Ok(text) => Ok(Answer::Valid(text)),
         Err(ScriptStop::Fault(fault)) => Ok(Answer::Refused(script_line(fault))),
         Err(ScriptStop::Memory(error)) => Err(error),

@@ -6,6 +6,7 @@ ghost use Rattle.script_run.specs.Script.{fresh, bus_of};
 ghost use Rattle.script_run.specs.codings.Running.{Stops};
 ghost use Rattle.script_run.specs.codings.Going.{LineLeads, LineFails, IfFault};
 
+use crate::bus::Bus;
 use crate::kind::LineStop;
 use crate::line::parse_line;
 use crate::run::Stage;
@@ -65,5 +66,19 @@ impl Course {
         ensures stop { IfErr result (Stops (Settles (bus_of self))) }
     {
         self.stage.bus(alloc)?.last_report(alloc)
+    }
+
+    /// The bus after the `settle` behind the last line.
+    pub fn settled(self, alloc: Global) -> Result<Bus<AgendaWorld<AnyMachine>>, LineStop>
+    {
+        let mut bus = self.stage.bus(alloc)?;
+        bus.settle(alloc)?;
+        Ok(bus)
+    }
+
+    /// What is advised after the `settle` behind the last line, and the report of the next one.
+    pub fn advised(self, alloc: Global) -> Result<Vec<u8>, LineStop>
+    {
+        self.settled(alloc)?.advised(alloc)
     }
 }

@@ -5,6 +5,9 @@
 #![tactic(auto)]
 
 mod acts;
+mod advice;
+mod advise;
+mod advised;
 mod answers;
 mod asks;
 mod bank;
@@ -34,6 +37,7 @@ mod table;
 mod word;
 mod words;
 
+pub use advise::advise_script;
 pub use command::Command;
 pub use kind::{Kind, LineStop, ScriptFault, ScriptStop};
 pub use last_report::summary;
