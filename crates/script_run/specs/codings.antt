@@ -7,3 +7,4 @@ pub mod Stop
 pub mod Going
 pub mod Declaring
 pub mod Plugged
+pub mod Advising

@@ -1,13 +1,11 @@
 //! Which cables to pull where the cables of a settled bus form loops.
-ghost use Rattle.std.specs.Prelude.{◌≡◌, ◌++◌, ◌<◌, ℕ, All, length, IfOk, OnOk};
-ghost use Rattle.cabling.specs.NodeSet.{Holds};
-ghost use Rattle.cabling.specs.Component.{IsComponent};
+ghost use Rattle.std.specs.Prelude.{◌≡◌, ◌++◌, ◌<◌, ℕ, List, All, length, IfOk, OnOk};
 ghost use Rattle.script_run.specs.ReportText.{AreNamed};
-ghost use Rattle.script_run.specs.Advice.{loops_of, loops_in, AreAdvices, spaced_end, pull_line, pull_lines, left_line, advice_line, loop_advice_text, all_advice_texts, advice_text};
-ghost use Rattle.script_run.specs.codings.Advising.{IsNamedEnd, IsNamedCable, IsNamedAdvice, ArePartsOf, IsPartOf};
+ghost use Rattle.script_run.specs.Advice.{loops_of, if_loop, AreAdvices, spaced_end, pull_line, pull_lines, left_line, advice_line, loop_advice_text, advice_text};
+ghost use Rattle.script_run.specs.codings.Advising.{IsNamedCable, IsNamedAdvice, IsPartOf};
 
 use crate::report::{put_name, put_names, put_numbered};
-use cabling::{Cable, Cabling, End, NodeSet};
+use cabling::{Cable, Cabling, End, NodeSet, components_are_whole};
 use loop_advice::{Advice, advise};
 use settle::{Outcome, Part};
 use std::alloc::Global;
@@ -30,8 +28,10 @@ fn push_advice(
 ) -> Result<(), OutOfMemory>
     requires { IsPartOf cabling.now part.now }
     ensures { (sets : List ℕ) → AreAdvices cabling.now sets list.old.items →
-        OnOk result (AreAdvices cabling.now (sets ++ loops_in part.now) list.new.items) }
+        OnOk result (AreAdvices cabling.now
+            (sets ++ if_loop part.now.outcome part.now.nodes) list.new.items) }
 {
+    components_are_whole(cabling);
     let Outcome::Loop { .. } = part.outcome else {
         return Ok(());
     };
@@ -75,7 +75,7 @@ fn put_end(out: &mut Vec<u8>, names: &[Name], end: End) -> Result<(), OutOfMemor
 
 /// Appends the line of a cable to be pulled.
 #[tactic(auto, unfolding(crate::specs::Advice::pull_line))]
-fn put_pull(out: &mut Vec<u8>, names: &[Name], cable: Cable) -> Result<(), OutOfMemory>
+fn put_cable(out: &mut Vec<u8>, names: &[Name], cable: Cable) -> Result<(), OutOfMemory>
     requires { IsNamedCable names.now cable }
     ensures { OnOk result (out.new.items ≡ out.old.items ++ pull_line names.now cable) }
 {
@@ -87,12 +87,12 @@ fn put_pull(out: &mut Vec<u8>, names: &[Name], cable: Cable) -> Result<(), OutOf
 }
 
 /// Appends the lines of the cables to be pulled.
-fn put_pulls(out: &mut Vec<u8>, names: &[Name], cables: &[Cable]) -> Result<(), OutOfMemory>
+fn put_cables(out: &mut Vec<u8>, names: &[Name], cables: &[Cable]) -> Result<(), OutOfMemory>
     requires { All (IsNamedCable names.now) cables.now }
     ensures { OnOk result (out.new.items ≡ out.old.items ++ pull_lines names.now cables.now) }
 {
     for cable in cables {
-        put_pull(out, names, *cable)?;
+        put_cable(out, names, *cable)?;
     }
     Ok(())
 }
@@ -125,7 +125,7 @@ fn put_advice(out: &mut Vec<u8>, names: &[Name], advice: &LoopAdvice) -> Result<
     ensures { OnOk result (out.new.items ≡ out.old.items ++ loop_advice_text names.now advice.now) }
 {
     put_advice_line(out, names, advice.nodes)?;
-    put_pulls(out, names, advice.advice.pulls.as_slice())?;
+    put_cables(out, names, advice.advice.pulls.as_slice())?;
     put_left(out, advice.advice.kept.as_slice().len())
 }
 

@@ -6,6 +6,7 @@ ghost use Rattle.script_run.specs.Name.{NamesAreTested};
 ghost use Rattle.script_run.specs.CanBeShown.{CanBeShown};
 ghost use Rattle.script_run.specs.OneText.{ReportsHaveOneText};
 ghost use Rattle.script_run.specs.OneTold.{ScriptsTellOneThing};
+ghost use Rattle.script_run.specs.OneAdvice.{ScriptsHaveOneAdvice, AdvicesLeaveNoLoop};
 
 use cable_world::WorldRun;
 use settle::reports_are_read_back;
@@ -42,6 +43,20 @@ pub fn reports_have_one_text()
 /// A law: no script tells two things. It has one text, or one fault of one line.
 pub fn scripts_tell_one_thing()
     ensures { ScriptsTellOneThing }
+{
+    one_tree();
+}
+
+/// A law: no script has two advices. Its advice has one text, or one fault of one line.
+pub fn scripts_have_one_advice()
+    ensures { ScriptsHaveOneAdvice }
+{
+    one_tree();
+}
+
+/// A law: no component of the report that an advice ends with is a loop.
+pub fn advices_leave_no_loop()
+    ensures { AdvicesLeaveNoLoop }
 {
     one_tree();
 }

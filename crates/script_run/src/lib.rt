@@ -42,8 +42,8 @@ pub use command::Command;
 pub use kind::{Kind, LineStop, ScriptFault, ScriptStop};
 pub use last_report::summary;
 pub use laws::{
-    made_is_read, names_are_tested, one_reading, reports_can_be_shown, reports_have_one_text,
-    scripts_tell_one_thing,
+    advices_leave_no_loop, made_is_read, names_are_tested, one_reading, reports_can_be_shown,
+    reports_have_one_text, scripts_have_one_advice, scripts_tell_one_thing,
 };
 pub use line::parse_line;
 pub use made::make_script;

@@ -1,8 +1,9 @@
 //! A whole script.
-ghost use Rattle.std.specs.Prelude.{◌≡◌, ◌≤◌, ◌<◌, ◌∷◌, Ok, IfOk, IfErr, length};
+ghost use Rattle.std.specs.Prelude.{◌≡◌, ◌≤◌, ◌<◌, ◌+◌, ◌∷◌, [], Ok, IfOk, IfErr, length};
+ghost use Rattle.script_run.specs.Bus.{Bus};
 ghost use Rattle.script_run.specs.Script.{Told, IsTold, script_lines};
 ghost use Rattle.script_run.specs.Answered.{IsRefused, IsOnlyFault};
-ghost use Rattle.script_run.specs.codings.Going.{stop_at};
+ghost use Rattle.script_run.specs.codings.Going.{Leaves, LeavesTo, stop_at};
 
 use crate::course::Course;
 use crate::kind::{LineStop, ScriptFault, ScriptStop};
