@@ -7,3 +7,5 @@ pub mod Cables
 pub mod Commands
 pub mod Ports
 pub mod Lines
+pub mod Advice
+pub mod NoLoop

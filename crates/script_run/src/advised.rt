@@ -83,9 +83,13 @@ impl<W: WorldRun> Bus<W> {
         let advices = self.advices(alloc)?;
         let mut text = advice_text(alloc, self.notes.names.list().as_slice(), &advices)?;
         self.pull_all(alloc, &advices)?;
-        let report = self.settle(alloc)?;
-        text.extend_from_slice(report.as_slice())?;
-        Ok(text)
+        match self.settle(alloc) {
+            Ok(report) => {
+                text.extend_from_slice(report.as_slice())?;
+                Ok(text)
+            }
+            Err(stop) => Err(stop),
+        }
     }
 }
 
