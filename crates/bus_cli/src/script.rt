@@ -5,7 +5,7 @@ ghost use Rattle.script_run.specs.Answered.{IsRefused};
 ghost use Rattle.script_run.specs.Made.{made_script};
 ghost use Rattle.script_run.specs.Script.{IsTold};
 ghost use Rattle.script_run.specs.Summary.{summary};
-ghost use Rattle.bus_cli.specs.declared.form.Form.TheVariants.{Run, Make};
+ghost use Rattle.bus_cli.specs.declared.form.Form.TheVariants.{Run, Advice, Make};
 ghost use Rattle.bus_cli.specs.Form.{Asks};
 ghost use Rattle.bus_cli.specs.Answer.{Answers};
 ghost use Rattle.bus_cli.specs.codings.Reading.{status_with, text_with};

@@ -7,6 +7,7 @@ ghost use Rattle.bus_cli.specs.declared.form.CaptureForm.{CaptureForm};
 ghost use Rattle.bus_cli.specs.Form.{Asks, AsksMake, IsForm};
 ghost use Rattle.topology_stack.specs.Tree.{Tree};
 ghost use Rattle.script_run.specs.Script.{IsTold};
+ghost use Rattle.script_run.specs.Advice.{IsAdvice, EndsWithoutLoop};
 ghost use Rattle.bus_cli.specs.Capture.{Spells};
 ghost use Rattle.bus_cli.specs.Answer.{Answers};
 
@@ -15,6 +16,7 @@ use crate::form::Form;
 use crate::laws::one_outcome;
 use crate::status::{NO_FORM, NO_MEMORY, READ_FAULT, TOO_LONG, WRITE_FAULT};
 use io_edges::{ReadStop, Sink, Source, write_whole};
+use script_run::advices_leave_no_loop;
 use std::alloc::Global;
 
 /// Does what the words after the program's name ask for: reads the input from `source`, writes the
@@ -37,6 +39,9 @@ use std::alloc::Global;
 /// With `run`, the text at status 0 is what the script tells over the one run of its bus. In each
 /// report of it, each component is a loop with its core in configuration timeout, or a cable whose
 /// ends contend and drew the same coins, or a tree whose list every node has.
+///
+/// With `advice` the script is run to its end, the cables that are advised for each looped component
+/// are pulled, and the bus settles once more. No component is a loop then.
 pub fn bus_main<S: Source, K: Sink>(
     alloc: Global,
     words: &[String],
@@ -55,6 +60,14 @@ pub fn bus_main<S: Source, K: Sink>(
     // With `run`, what is written at status 0 is the text that the script tells.
     ensures run { result ≡ 0 → Asks words.now Form.Run → IfSome (S.left source.old) (λ bytes.
         (text : List ℕ) × IsTold bytes (Ok text)
+        × Appends (K.written sink.old) (K.written sink.new) text) }
+
+    // With `advice` it is the text of the script's advice, whose report has no loop.
+    ensures advice { result ≡ 0 → Asks words.now Form.Advice → IfSome (S.left source.old) (λ bytes.
+        (text : List ℕ) × IsAdvice bytes (Ok text)
+        × Appends (K.written sink.old) (K.written sink.new) text) }
+    ensures no_loop { result ≡ 0 → Asks words.now Form.Advice → IfSome (S.left source.old) (λ bytes.
+        (text : List ℕ) × EndsWithoutLoop bytes text
         × Appends (K.written sink.old) (K.written sink.new) text) }
 
     // With `make` no fault of reading comes, and the answer is that of the words alone.
@@ -98,6 +111,7 @@ pub fn bus_main<S: Source, K: Sink>(
         K.faults sink.new ≡ K.faults sink.old) }
 {
     one_outcome();
+    advices_leave_no_loop();
     let Some(form) = Form::of_words(words) else {
         return NO_FORM;
     };

@@ -23,6 +23,7 @@ pub mod Going
 pub mod Pulling
 pub mod Advising
 pub mod Settled
+pub mod AdviceEnds
 pub mod MadeLines
 pub mod MadeSize
 pub mod MadeRead

@@ -3,11 +3,26 @@ ghost use Rattle.std.specs.Prelude.{◌≡◌, ◌≤◌, Ok, IfOk, IfErr, lengt
 ghost use Rattle.script_run.specs.Script.{Told};
 ghost use Rattle.script_run.specs.Advice.{IsAdvice, EndsWithoutLoop};
 ghost use Rattle.script_run.specs.Answered.{IsAdviceRefused, IsOnlyFault};
+ghost use Rattle.script_run.specs.codings.Advising.{EndsWith};
 
 use crate::kind::ScriptStop;
 use crate::laws::{advices_leave_no_loop, scripts_have_one_advice};
 use crate::script::{Taken, at_line, take_lines};
 use std::alloc::Global;
+
+/// The text of a script's advice.
+fn text_of(alloc: Global, bytes: &[u8]) -> Result<Vec<u8>, ScriptStop>
+    requires { length bytes.now ≤ 1048576 }
+    ensures told { IfOk result (λ text. EndsWith bytes.now text.items) }
+    ensures refused { IfErr result (IsAdviceRefused bytes.now) }
+{
+    let Taken { course, number, .. } = take_lines(alloc, bytes)?;
+    let text = match course.advised(alloc) {
+        Ok(text) => text,
+        Err(stop) => return Err(at_line(number, stop)),
+    };
+    Ok(text)
+}
 
 /// Which cables of a script's bus to pull, and what it then settles on. The script has 1,048,576
 /// bytes at most.
@@ -35,9 +50,5 @@ pub fn advise_script(alloc: Global, bytes: &[u8]) -> Result<Vec<u8>, ScriptStop>
 {
     scripts_have_one_advice();
     advices_leave_no_loop();
-    let Taken { course, number, .. } = take_lines(alloc, bytes)?;
-    match course.advised(alloc) {
-        Ok(text) => Ok(text),
-        Err(stop) => Err(at_line(number, stop)),
-    }
+    text_of(alloc, bytes)
 }

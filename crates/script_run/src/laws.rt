@@ -6,7 +6,7 @@ ghost use Rattle.script_run.specs.Name.{NamesAreTested};
 ghost use Rattle.script_run.specs.CanBeShown.{CanBeShown};
 ghost use Rattle.script_run.specs.OneText.{ReportsHaveOneText};
 ghost use Rattle.script_run.specs.OneTold.{ScriptsTellOneThing};
-ghost use Rattle.script_run.specs.OneAdvice.{ScriptsHaveOneAdvice, AdvicesLeaveNoLoop};
+ghost use Rattle.script_run.specs.OneAdvice.{ScriptsHaveOneAdvice, AdvicesLeaveNoLoop, AdvicesEndWithoutLoop};
 
 use cable_world::WorldRun;
 use settle::reports_are_read_back;
@@ -56,7 +56,8 @@ pub fn scripts_have_one_advice()
 
 /// A law: no component of the report that an advice ends with is a loop.
 pub fn advices_leave_no_loop()
-    ensures { AdvicesLeaveNoLoop }
+    ensures report { AdvicesLeaveNoLoop }
+    ensures text { AdvicesEndWithoutLoop }
 {
     one_tree();
 }

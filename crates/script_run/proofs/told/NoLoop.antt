@@ -31,16 +31,16 @@ use Rattle.script_run.specs.declared.advice.LoopAdvice.{LoopAdvice}
 use Rattle.script_run.specs.declared.kind.Kind.TheVariants as Kind
 use Rattle.script_run.specs.Bus.{Bus, Notes}
 use Rattle.script_run.specs.Step.{LineAnswer, Reports, Settles}
-use Rattle.script_run.specs.Advice.{EndsOn, RunsTo, if_loop, loops_of, IsAdviceFor, AreAdvices, all_pulls, PullsLead, advice_text, after_text, Advises, IsLoop, HasNoLoop}
-use Rattle.script_run.specs.OneAdvice.{AdvicesLeaveNoLoop}
-use Rattle.script_run.specs.codings.Advising.{ArePullable}
+use Rattle.script_run.specs.Advice.{EndsOn, RunsTo, if_loop, loops_of, IsAdviceFor, AreAdvices, all_pulls, PullsLead, advice_text, after_text, Advises, IsAdvice, IsLoop, HasNoLoop, EndsWithoutLoop}
+use Rattle.script_run.specs.OneAdvice.{AdvicesLeaveNoLoop, AdvicesEndWithoutLoop}
+use Rattle.script_run.specs.codings.Advising.{ArePullable, EndsWith}
 use Rattle.script_run.proofs.Pulling.{pull-taken, next-pullable}
 use Rattle.script_run.proofs.Settled.{reported-pullable}
 use Rattle.script_run.proofs.told.Cables.{IsCabled}
 use Rattle.script_run.proofs.told.Commands.{bus-in}
 use Rattle.script_run.proofs.told.Lines.{Meet, meet, cabled}
 use Rattle.script_run.proofs.told.Advice.{one-bus, no-fault}
-use Rattle.script_run.specs.Script.{Stage, bus_of}
+use Rattle.script_run.specs.Script.{Stage, bus_of, ends_with, script_lines}
 
 -- ---- what settling leaves
 
@@ -276,3 +276,32 @@ no-loop trees bytes text bus after last ran a last_is =
     no-loop-report bus.world after.world a.report last a.advices cables is a.are
     (subst (λ (c : Wiring). Pulled bus.world.cabling c (all_pulls a.advices)) (sym cabling) out)
     (subst (IsReport after.world) (one-report after.notes.report s.report last s.last last_is) s.is)
+
+-- the text of an advice is one without a loop
+pub without-loop : AdvicesLeaveNoLoop → (bytes text : List ℕ) → EndsWith bytes text → EndsWithoutLoop bytes text
+without-loop none bytes text e =
+    let a : Advises e.0 (Ok (e.1, text)) = e.3 in
+    let again = settled-again a.pulled e.1 (advice_text e.0.notes.names a.advices) text a.settled a.settles a.answer_is in
+    let s = has-settled a.pulled e.1 again.0 again.1 in
+    record {
+      bus = e.0;
+      ran = e.2;
+      after = e.1;
+      advises = a;
+      report = s.report;
+      last = s.last;
+      no_loop = none bytes text e.0 e.1 s.report e.2 a s.last;
+    }
+
+ends-so : (bytes text : List ℕ) (bus : Bus) (answer : LineAnswer) (n : ℕ) → RunsTo bytes bus → Advises bus answer → Ok text ≡ ends_with n answer → EndsWith bytes text
+ends-so bytes text bus (Ok (after, t)) n ran a e =
+    let same : t ≡ text = cc in
+    (bus, after, ran, subst (λ (u : List ℕ). Advises bus (Ok (after, u))) same a)
+ends-so bytes text bus (Err kind) n ran a e = absurd cc
+
+ends-of : (bytes text : List ℕ) → IsAdvice bytes (Ok text) → EndsWith bytes text
+ends-of bytes text (inl x) = no-fault x.fault text _ x.is
+ends-of bytes text (inr x) = ends-so bytes text x.bus x.answer (length (script_lines bytes) + 1) x.ran x.advises x.is
+
+pub all-without-loop : NoListHasTwoTrees → AdvicesEndWithoutLoop
+all-without-loop trees bytes text is = without-loop (no-loop trees) bytes text (ends-of bytes text is)

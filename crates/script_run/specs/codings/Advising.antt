@@ -11,7 +11,7 @@ use Rattle.script_run.specs.ReportText.{Names, AreNamed}
 use Rattle.script_run.specs.Bus.{Bus}
 use Rattle.script_run.specs.Step.{LineAnswer, Settles}
 use Rattle.script_run.specs.Script.{Stage, bus_of}
-use Rattle.script_run.specs.Advice.{Advises}
+use Rattle.script_run.specs.Advice.{RunsTo, Advises}
 
 -- the nodes of a part are a component
 pub record IsPartOf (c : Wiring) (part : Part) : Type 0 where
@@ -37,3 +37,8 @@ ArePullable c (x ∷ cables) =
 abbrev pub IsAdvised : Stage → LineAnswer → Type 0
 IsAdvised stage answer =
     (bus : Bus) × (text : List ℕ) × Settles (bus_of stage) (Ok (bus, text)) × Advises bus answer
+
+-- the script runs to its end, and this is the text of its advice
+abbrev pub EndsWith : List ℕ → List ℕ → Type 0
+EndsWith bytes text =
+    (bus : Bus) × (after : Bus) × RunsTo bytes bus × Advises bus (Ok (after, text))

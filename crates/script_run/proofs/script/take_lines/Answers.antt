@@ -2,14 +2,28 @@ use Rattle.std.proofs.Common.{◌≡◌, ◌∙◌, ◌+◌, ◌++◌, ◌∷◌
 use Rattle.std.proofs.lemmas.Bool.Decides.{nat_tests}
 use Rattle.std.proofs.lemmas.Grind.{common_steps}
 use Rattle.script_run.specs.Bus.{Bus}
-use Rattle.script_run.specs.Script.{Stage, Told, Ends, script_lines}
+use Rattle.script_run.specs.Script.{Stage, fresh, Told, Ends, script_lines}
 use Rattle.script_run.specs.Advice.{EndsOn}
 use Rattle.script_run.specs.codings.Going.{LineLeads, LeavesBy}
 use Rattle.script_run.proofs.Going.{leaves-first, leaves-more, refused-line, none-left}
 use Rattle.script_run.proofs.script.take_lines.Goals as goal
 
+-- no line was taken yet
+first :
+    (End : ℕ → Stage → Told → Type 0) (bytes out : List ℕ) (stage : Stage) → out ≡ [] →
+    stage ≡ fresh → LeavesBy End bytes out 1 (script_lines bytes) stage
+first End bytes out stage empty new =
+    subst (λ (o : List ℕ). LeavesBy End bytes o 1 (script_lines bytes) stage) (sym empty)
+    (subst (λ (s : Stage). LeavesBy End bytes [] 1 (script_lines bytes) s) (sym new)
+    (leaves-first End bytes))
+
 pub loop-rest-init : goal.loop-rest-init
-loop-rest-init c = ?
+loop-rest-init c = (
+  omega (arith, c.requires),
+  omega arith,
+  first Ends c.args.bytes.now _ _ c.new-text.ensures.items c.new-course.ensures,
+  (λ bus. first (EndsOn bus) c.args.bytes.now _ _ c.new-text.ensures.items c.new-course.ensures),
+)
 
 pub returns-in-Err-clause-refused : goal.returns-in-Err-clause-refused
 returns-in-Err-clause-refused c =

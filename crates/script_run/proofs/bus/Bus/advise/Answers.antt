@@ -23,32 +23,3 @@ pull_all-requires-clause-plugged g c =
     let lawful = lawful-now w (g.met.W.WorldRun.reached c.args.self.now.world c.requires.sound.fine) in
     subst (λ (advices : List LoopAdvice). ArePullable w.cabling (all_pulls advices)) (sym c.deref-2.ensures.value)
     (pullable-now w c.args.self.now.notes.report c.in_ok-advices.advices.items lawful.well_formed.cabling c.requires.settled c.in_ok-advices.ensures.are)
-
-pub returns-in-Err-clause-stop : goal.returns-in-Err-clause-stop
-returns-in-Err-clause-stop g c =
-    let bus = bus_now g.W.WorldRun.world c.args.self.now in
-    let pulled = bus_now g.W.WorldRun.world c.pull_all.new.self in
-    stops-now bus pulled (advice_text c.args.self.now.notes.names c.in_ok-advices.advices.items) c.in-Err.stop
-    (λ r settles. advises-now bus pulled c.args.self.now.notes.report c.in_ok-advices.advices.items r refl c.requires.settled c.in_ok-advices.ensures.are
-    (subst (λ (advices : List LoopAdvice). PullsLead bus (all_pulls advices) pulled) c.deref-2.ensures.value c.in_ok-pull_all.ensures.done) settles)
-    c.in-Err.ensures.stop
-
-pub returns-in_ok-extend_from_slice-in-Ok-clause-done : goal.returns-in_ok-extend_from_slice-in-Ok-clause-done
-returns-in_ok-extend_from_slice-in-Ok-clause-done g c =
-    let bus = bus_now g.W.WorldRun.world c.args.self.now in
-    let pulled = bus_now g.W.WorldRun.world c.pull_all.new.self in
-    let after = bus_now g.W.WorldRun.world c.settle.new.self in
-    let names = c.args.self.now.notes.names in
-    let advices = c.in_ok-advices.advices.items in
-    let before : c.in_ok-text.text.items ≡ advice_text names advices =
-    c.in_ok-text.ensures
-    ∙ ap (λ (ns : Names). advice_text ns c.deref.result.now) (c.as_slice.ensures ∙ c.list.ensures)
-    ∙ ap (advice_text names) c.deref.ensures.value in
-    let whole : c.extend_from_slice.new.self.items ≡ advice_text names advices ++ c.in-Ok.report.items =
-    c.in_ok-extend_from_slice-in-Ok.ensures.items
-    ∙ ap (λ (t : List ℕ). t ++ c.as_slice-in-Ok.result.now) before
-    ∙ ap (λ (t : List ℕ). advice_text names advices ++ t) c.as_slice-in-Ok.ensures.value in
-    subst (λ (t : List ℕ). Advises bus (Ok (after, t))) (sym whole)
-    (advises-now bus pulled c.args.self.now.notes.report advices (Ok (after, c.in-Ok.report.items)) refl c.requires.settled c.in_ok-advices.ensures.are
-    (subst (λ (list : List LoopAdvice). PullsLead bus (all_pulls list) pulled) c.deref-2.ensures.value c.in_ok-pull_all.ensures.done)
-    c.in-Ok.ensures.done)
