@@ -9,13 +9,14 @@ use Rattle.io_edges.specs.Told.{AppendsStart}
 use Rattle.topology_stack.specs.Tree.{Tree}
 use Rattle.bus_cli.specs.declared.fault.CaptureStop.{CaptureStop}
 use Rattle.bus_cli.specs.declared.answer.Answer.{Answer}
-use Rattle.bus_cli.specs.declared.form.Form.TheVariants.{Capture, Rom, Run, Make}
+use Rattle.bus_cli.specs.declared.form.Form.TheVariants.{Capture, Rom, Run, Advice, Make}
 use Rattle.bus_cli.specs.declared.form.CaptureForm.{CaptureForm}
 use Rattle.bus_cli.specs.Form.{Asks, AsksCapture, AsksMake, IsForm}
 use Rattle.bus_cli.specs.codings.Reading.{Reads, status_with, text_with}
-use Rattle.bus_cli.specs.Answer.{Answers, Outcome, shown, refused, rom, rom_refused, ran, made, no_form, MadeTells, HasOutcome, HasText, status_of}
+use Rattle.bus_cli.specs.Answer.{Answers, Outcome, shown, refused, rom, rom_refused, ran, advised, made, no_form, MadeTells, HasOutcome, HasText, status_of}
 use Rattle.bus_cli.specs.OneOutcome.{NoInputHasTwoAnswers}
 use Rattle.script_run.specs.Script.{IsTold}
+use Rattle.script_run.specs.Advice.{IsAdvice}
 use Rattle.script_run.specs.EachReport.{EachReportIsSettled, ReportsAreSettled}
 use Rattle.script_run.specs.Summary.{summary}
 use Rattle.bus_cli.proofs.Forms.{one_form}
@@ -63,6 +64,7 @@ no_form_answer words bytes (refused f) text none has is = absurd (none (Capture 
 no_form_answer words bytes (rom v) text none has is = absurd (none (Rom, has.0))
 no_form_answer words bytes (rom_refused f) text none has is = absurd (none (Rom, has.0))
 no_form_answer words bytes (ran r) text none has is = absurd (none (Run, has.0))
+no_form_answer words bytes (advised r) text none has is = absurd (none (Advice, has.0))
 no_form_answer words bytes (made r) text none has is = absurd (none (Make has.nodes has.seed, has.asks))
 no_form_answer words bytes no_form text none has is = (refl, is)
 
@@ -97,6 +99,7 @@ made_outcome words bytes (refused f) text make has is = absurd (let e : Capture 
 made_outcome words bytes (rom v) text make has is = absurd (let e : Rom ≡ Make make.0 make.1 = one_form words _ _ has.0 make.2 in cc)
 made_outcome words bytes (rom_refused f) text make has is = absurd (let e : Rom ≡ Make make.0 make.1 = one_form words _ _ has.0 make.2 in cc)
 made_outcome words bytes (ran r) text make has is = absurd (let e : Run ≡ Make make.0 make.1 = one_form words _ _ has.0 make.2 in cc)
+made_outcome words bytes (advised r) text make has is = absurd (let e : Advice ≡ Make make.0 make.1 = one_form words _ _ has.0 make.2 in cc)
 made_outcome words bytes (made told) text make has is = (refl, (told, has, is))
 made_outcome words bytes no_form text make has is = absurd (has (Make make.0 make.1, make.2))
 
@@ -116,11 +119,27 @@ told_outcome words bytes (rom v) text run has zero is = absurd (let e : Rom ≡ 
 told_outcome words bytes (rom_refused f) text run has zero is = absurd cc
 told_outcome words bytes (ran (Ok told)) text run has zero is = subst (λ (t : List ℕ). IsTold bytes (Ok t)) (sym is) has.1
 told_outcome words bytes (ran (Err f)) text run has zero is = absurd cc
+told_outcome words bytes (advised r) text run has zero is = absurd (let e : Advice ≡ Run = one_form words _ _ has.0 run in cc)
 told_outcome words bytes (made r) text run has zero is = absurd (let e : Make has.nodes has.seed ≡ Run = one_form words _ _ has.asks run in cc)
 told_outcome words bytes no_form text run has zero is = absurd cc
 
 pub told_answer : (words : List (String Global)) (bytes text : List ℕ) → Asks words Run → Answers words bytes 0 text → IsTold bytes (Ok text)
 told_answer words bytes text run is = told_outcome words bytes is.outcome text run is.has is.status_is is.text_is
+
+-- what answers `advice` with 0 is the text of the script's advice
+advice_outcome : (words : List (String Global)) (bytes : List ℕ) (o : Outcome) (text : List ℕ) → Asks words Advice → HasOutcome words bytes o → 0 ≡ status_of o → HasText o text → IsAdvice bytes (Ok text)
+advice_outcome words bytes (shown form t) text asks has zero is = absurd (let e : Capture form ≡ Advice = one_form words _ _ has.0 asks in cc)
+advice_outcome words bytes (refused f) text asks has zero is = absurd cc
+advice_outcome words bytes (rom v) text asks has zero is = absurd (let e : Rom ≡ Advice = one_form words _ _ has.0 asks in cc)
+advice_outcome words bytes (rom_refused f) text asks has zero is = absurd cc
+advice_outcome words bytes (ran r) text asks has zero is = absurd (let e : Run ≡ Advice = one_form words _ _ has.0 asks in cc)
+advice_outcome words bytes (advised (Ok advice)) text asks has zero is = subst (λ (t : List ℕ). IsAdvice bytes (Ok t)) (sym is) has.1
+advice_outcome words bytes (advised (Err f)) text asks has zero is = absurd cc
+advice_outcome words bytes (made r) text asks has zero is = absurd (let e : Make has.nodes has.seed ≡ Advice = one_form words _ _ has.asks asks in cc)
+advice_outcome words bytes no_form text asks has zero is = absurd cc
+
+pub advice_answer : (words : List (String Global)) (bytes text : List ℕ) → Asks words Advice → Answers words bytes 0 text → IsAdvice bytes (Ok text)
+advice_answer words bytes text asks is = advice_outcome words bytes is.outcome text asks is.has is.status_is is.text_is
 
 -- ---- reports
 

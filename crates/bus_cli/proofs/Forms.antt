@@ -5,7 +5,7 @@ use Rattle.std.proofs.lemmas.Bool.{eqb-true}
 use Rattle.std.specs.Global.{Global}
 use Rattle.script_lines.specs.Number.{number_of}
 use Rattle.bus_cli.specs.declared.form.Form.{Form}
-use Rattle.bus_cli.specs.declared.form.Form.TheVariants.{Capture, Rom, Run, Make}
+use Rattle.bus_cli.specs.declared.form.Form.TheVariants.{Capture, Rom, Run, Advice, Make}
 use Rattle.bus_cli.specs.declared.form.CaptureForm.{CaptureForm}
 use Rattle.bus_cli.specs.declared.form.CaptureForm.TheVariants.{Read, Maps}
 use Rattle.bus_cli.specs.Form.{AreWordsOf, AreMakeWords, Asks, IsForm, AsksMake, AsksScript}
@@ -24,7 +24,8 @@ of_word word =
     cond (same word (codes "read")) (Some (Capture Read))
     (cond (same word (codes "maps")) (Some (Capture Maps))
     (cond (same word (codes "rom")) (Some Rom)
-    (cond (same word (codes "run")) (Some Run) None)))
+    (cond (same word (codes "run")) (Some Run)
+    (cond (same word (codes "advice")) (Some Advice) None))))
 
 of_make : Option ℕ → Option ℕ → Option Form
 of_make (Some nodes) (Some seed) = Some (Make nodes seed)
@@ -60,6 +61,7 @@ is_found (Capture Read) words e = ap (λ (ws : List (List ℕ)). form_of ws) e
 is_found (Capture Maps) words e = ap (λ (ws : List (List ℕ)). form_of ws) e
 is_found Rom words e = ap (λ (ws : List (List ℕ)). form_of ws) e
 is_found Run words e = ap (λ (ws : List (List ℕ)). form_of ws) e
+is_found Advice words e = ap (λ (ws : List (List ℕ)). form_of ws) e
 is_found (Make nodes seed) words m =
     ap (λ (ws : List (List ℕ)). form_of ws) m.words_are
     ∙ from_numbers (number_of m.nodes_word) (number_of m.seed_word) nodes seed m.nodes_are m.seed_is
@@ -96,7 +98,8 @@ is_word_of word form =
     tried _ word (Capture Read) form _ (alone word (codes "read"))
     (tried _ word (Capture Maps) form _ (alone word (codes "maps"))
     (tried _ word Rom form _ (alone word (codes "rom"))
-    (tried _ word Run form _ (alone word (codes "run")) (λ e. absurd cc))))
+    (tried _ word Run form _ (alone word (codes "run"))
+    (tried _ word Advice form _ (alone word (codes "advice")) (λ e. absurd cc)))))
 
 -- ---- words are those of a form, or of none
 
@@ -119,6 +122,7 @@ only_make a b c words (Capture Read) none e = cc
 only_make a b c words (Capture Maps) none e = cc
 only_make a b c words Rom none e = cc
 only_make a b c words Run none e = cc
+only_make a b c words Advice none e = cc
 only_make a b c words (Make nodes seed) none m = none (nodes, seed, m)
 
 are_form : (words : List (List ℕ)) → (AreMake words → ⊥) → AreForm words ⊎ (AreForm words → ⊥)
@@ -130,7 +134,7 @@ are_form (a ∷ b ∷ c ∷ words) none = inr (λ is. only_make a b c words is.0
 
 -- words that don't ask for a script are those of a form, or of none
 pub form_or_none : (words : List (String Global)) → (AsksScript words → ⊥) → IsForm words ⊎ (IsForm words → ⊥)
-form_or_none words none = are_form (map string_bytes words) (λ make. none (inr make))
+form_or_none words none = are_form (map string_bytes words) (λ make. none (inr (inr make)))
 
 -- ---- what is read
 
@@ -139,6 +143,7 @@ pub is_read : (words : List (String Global)) (form : Form) → Asks words form �
 is_read words (Capture form) asks none = tt
 is_read words Rom asks none = tt
 is_read words Run asks none = tt
+is_read words Advice asks none = tt
 is_read words (Make nodes seed) asks none = absurd (none (nodes, seed, asks))
 
 -- with those of `make` it isn't
@@ -152,4 +157,5 @@ pub few_nodes : (words : List (String Global)) (form : Form) → Asks words form
 few_nodes words (Capture form) asks = tt
 few_nodes words Rom asks = tt
 few_nodes words Run asks = tt
+few_nodes words Advice asks = tt
 few_nodes words (Make nodes seed) asks = (asks.some_nodes, asks.few_nodes)

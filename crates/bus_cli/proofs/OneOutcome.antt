@@ -11,15 +11,16 @@ use Rattle.config_rom.specs.OneReading.{IsRomOf, EachInputIsARomOrRefused, NoInp
 use Rattle.script_run.specs.Made.{made_script}
 use Rattle.script_run.specs.Script.{Told, IsTold}
 use Rattle.script_run.specs.OneTold.{ScriptsTellOneThing}
+use Rattle.script_run.specs.OneAdvice.{ScriptsHaveOneAdvice}
 use Rattle.bus_cli.specs.declared.form.Form.{Form}
-use Rattle.bus_cli.specs.declared.form.Form.TheVariants.{Capture, Rom, Run, Make}
+use Rattle.bus_cli.specs.declared.form.Form.TheVariants.{Capture, Rom, Run, Advice, Make}
 use Rattle.bus_cli.specs.declared.form.CaptureForm.{CaptureForm}
 use Rattle.bus_cli.specs.declared.fault.CaptureFault.{CaptureFault}
 use Rattle.bus_cli.specs.Form.{Asks, IsForm, AsksScript}
 use Rattle.bus_cli.specs.Capture.{Spells, CaptureRefused}
 use Rattle.bus_cli.specs.OneReading.{EachCaptureHasATreeOrAFault, NoCaptureHasTwoTrees, NoCaptureHasATreeAndAFault, NoCaptureHasTwoFaults}
 use Rattle.bus_cli.specs.OneOutcome.{EachInputButScriptsHasAnOutcome, NoInputHasTwoOutcomes}
-use Rattle.bus_cli.specs.Answer.{Outcome, shown, refused, rom, rom_refused, ran, made, no_form, HasOutcome, TellsRom, RomRefused, MadeTells}
+use Rattle.bus_cli.specs.Answer.{Outcome, shown, refused, rom, rom_refused, ran, advised, made, no_form, HasOutcome, TellsRom, RomRefused, MadeTells}
 use Rattle.bus_cli.proofs.Forms.{one_form, one_make, form_or_none}
 
 -- a capture has one reading, and so has a ROM, and no script tells two things
@@ -36,6 +37,7 @@ pub record HasOneReading : Type 0 where
   pub block_fault : NoBlocksHaveTwoFaults
   pub text : NoRomHasTwoTexts
   pub script : ScriptsTellOneThing
+  pub advice : ScriptsHaveOneAdvice
 
 same_fault : (f g : RomFault) (o : Option RomFault) → o ≡ Some f → o ≡ Some g → f ≡ g
 same_fault f g o a b = cc
@@ -77,7 +79,8 @@ kind : Form → ℕ
 kind (Capture form) = 0
 kind Rom = 1
 kind Run = 2
-kind (Make nodes seed) = 3
+kind Advice = 3
+kind (Make nodes seed) = 4
 
 two_kinds : (words : List (String Global)) (a b : Form) → Asks words a → Asks words b → (kind a ≡ kind b → ⊥) → ⊥
 two_kinds words a b x y apart = apart (ap kind (one_form words a b x y))
@@ -92,6 +95,7 @@ outcomes_agree one words bytes (shown a t) (refused g) (asks, spells) ((b, asks'
 outcomes_agree one words bytes (shown a t) (rom w) (asks, spells) (asks', tells') = absurd (two_kinds words (Capture a) Rom asks asks' (λ e. cc))
 outcomes_agree one words bytes (shown a t) (rom_refused g) (asks, spells) (asks', fault') = absurd (two_kinds words (Capture a) Rom asks asks' (λ e. cc))
 outcomes_agree one words bytes (shown a t) (ran s) (asks, spells) (asks', tells') = absurd (two_kinds words (Capture a) Run asks asks' (λ e. cc))
+outcomes_agree one words bytes (shown a t) (advised s) (asks, spells) (asks', tells') = absurd (two_kinds words (Capture a) Advice asks asks' (λ e. cc))
 outcomes_agree one words bytes (shown a t) (made s) (asks, spells) m' = absurd (two_kinds words (Capture a) (Make m'.nodes m'.seed) asks m'.asks (λ e. cc))
 outcomes_agree one words bytes (shown a t) no_form (asks, spells) none' = absurd (none' (Capture a, asks))
 outcomes_agree one words bytes (refused f) (shown b u) ((a, asks), fault) (asks', spells') = absurd (one.apart bytes u f spells' fault)
@@ -99,6 +103,7 @@ outcomes_agree one words bytes (refused f) (refused g) ((a, asks), fault) ((b, a
 outcomes_agree one words bytes (refused f) (rom w) ((a, asks), fault) (asks', tells') = absurd (two_kinds words (Capture a) Rom asks asks' (λ e. cc))
 outcomes_agree one words bytes (refused f) (rom_refused g) ((a, asks), fault) (asks', fault') = absurd (two_kinds words (Capture a) Rom asks asks' (λ e. cc))
 outcomes_agree one words bytes (refused f) (ran s) ((a, asks), fault) (asks', tells') = absurd (two_kinds words (Capture a) Run asks asks' (λ e. cc))
+outcomes_agree one words bytes (refused f) (advised s) ((a, asks), fault) (asks', tells') = absurd (two_kinds words (Capture a) Advice asks asks' (λ e. cc))
 outcomes_agree one words bytes (refused f) (made s) ((a, asks), fault) m' = absurd (two_kinds words (Capture a) (Make m'.nodes m'.seed) asks m'.asks (λ e. cc))
 outcomes_agree one words bytes (refused f) no_form ((a, asks), fault) none' = absurd (none' (Capture a, asks))
 outcomes_agree one words bytes (rom v) (shown b u) (asks, tells) (asks', spells') = absurd (two_kinds words Rom (Capture b) asks asks' (λ e. cc))
@@ -106,6 +111,7 @@ outcomes_agree one words bytes (rom v) (refused g) (asks, tells) ((b, asks'), fa
 outcomes_agree one words bytes (rom v) (rom w) (asks, tells) (asks', tells') = ap (λ (x : Parts). rom x) (rom_agrees one bytes v w tells tells')
 outcomes_agree one words bytes (rom v) (rom_refused g) (asks, tells) (asks', fault') = absurd (rom_apart one bytes v g tells fault')
 outcomes_agree one words bytes (rom v) (ran s) (asks, tells) (asks', tells') = absurd (two_kinds words Rom Run asks asks' (λ e. cc))
+outcomes_agree one words bytes (rom v) (advised s) (asks, tells) (asks', tells') = absurd (two_kinds words Rom Advice asks asks' (λ e. cc))
 outcomes_agree one words bytes (rom v) (made s) (asks, tells) m' = absurd (two_kinds words Rom (Make m'.nodes m'.seed) asks m'.asks (λ e. cc))
 outcomes_agree one words bytes (rom v) no_form (asks, tells) none' = absurd (none' (Rom, asks))
 outcomes_agree one words bytes (rom_refused f) (shown b u) (asks, fault) (asks', spells') = absurd (two_kinds words Rom (Capture b) asks asks' (λ e. cc))
@@ -113,6 +119,7 @@ outcomes_agree one words bytes (rom_refused f) (refused g) (asks, fault) ((b, as
 outcomes_agree one words bytes (rom_refused f) (rom w) (asks, fault) (asks', tells') = absurd (rom_apart one bytes w f tells' fault)
 outcomes_agree one words bytes (rom_refused f) (rom_refused g) (asks, fault) (asks', fault') = ap (λ (x : RomFault). rom_refused x) (one_fault one bytes f g fault fault')
 outcomes_agree one words bytes (rom_refused f) (ran s) (asks, fault) (asks', tells') = absurd (two_kinds words Rom Run asks asks' (λ e. cc))
+outcomes_agree one words bytes (rom_refused f) (advised s) (asks, fault) (asks', tells') = absurd (two_kinds words Rom Advice asks asks' (λ e. cc))
 outcomes_agree one words bytes (rom_refused f) (made s) (asks, fault) m' = absurd (two_kinds words Rom (Make m'.nodes m'.seed) asks m'.asks (λ e. cc))
 outcomes_agree one words bytes (rom_refused f) no_form (asks, fault) none' = absurd (none' (Rom, asks))
 outcomes_agree one words bytes (ran r) (shown b u) (asks, tells) (asks', spells') = absurd (two_kinds words Run (Capture b) asks asks' (λ e. cc))
@@ -120,13 +127,23 @@ outcomes_agree one words bytes (ran r) (refused g) (asks, tells) ((b, asks'), fa
 outcomes_agree one words bytes (ran r) (rom w) (asks, tells) (asks', tells') = absurd (two_kinds words Run Rom asks asks' (λ e. cc))
 outcomes_agree one words bytes (ran r) (rom_refused g) (asks, tells) (asks', fault') = absurd (two_kinds words Run Rom asks asks' (λ e. cc))
 outcomes_agree one words bytes (ran r) (ran s) (asks, tells) (asks', tells') = ap (λ (x : Told). ran x) (one.script bytes r s tells tells')
+outcomes_agree one words bytes (ran r) (advised s) (asks, tells) (asks', tells') = absurd (two_kinds words Run Advice asks asks' (λ e. cc))
 outcomes_agree one words bytes (ran r) (made s) (asks, tells) m' = absurd (two_kinds words Run (Make m'.nodes m'.seed) asks m'.asks (λ e. cc))
 outcomes_agree one words bytes (ran r) no_form (asks, tells) none' = absurd (none' (Run, asks))
+outcomes_agree one words bytes (advised r) (shown b u) (asks, tells) (asks', spells') = absurd (two_kinds words Advice (Capture b) asks asks' (λ e. cc))
+outcomes_agree one words bytes (advised r) (refused g) (asks, tells) ((b, asks'), fault') = absurd (two_kinds words Advice (Capture b) asks asks' (λ e. cc))
+outcomes_agree one words bytes (advised r) (rom w) (asks, tells) (asks', tells') = absurd (two_kinds words Advice Rom asks asks' (λ e. cc))
+outcomes_agree one words bytes (advised r) (rom_refused g) (asks, tells) (asks', fault') = absurd (two_kinds words Advice Rom asks asks' (λ e. cc))
+outcomes_agree one words bytes (advised r) (ran s) (asks, tells) (asks', tells') = absurd (two_kinds words Advice Run asks asks' (λ e. cc))
+outcomes_agree one words bytes (advised r) (advised s) (asks, tells) (asks', tells') = ap (λ (x : Told). advised x) (one.advice bytes r s tells tells')
+outcomes_agree one words bytes (advised r) (made s) (asks, tells) m' = absurd (two_kinds words Advice (Make m'.nodes m'.seed) asks m'.asks (λ e. cc))
+outcomes_agree one words bytes (advised r) no_form (asks, tells) none' = absurd (none' (Advice, asks))
 outcomes_agree one words bytes (made r) (shown b u) m (asks', spells') = absurd (two_kinds words (Make m.nodes m.seed) (Capture b) m.asks asks' (λ e. cc))
 outcomes_agree one words bytes (made r) (refused g) m ((b, asks'), fault') = absurd (two_kinds words (Make m.nodes m.seed) (Capture b) m.asks asks' (λ e. cc))
 outcomes_agree one words bytes (made r) (rom w) m (asks', tells') = absurd (two_kinds words (Make m.nodes m.seed) Rom m.asks asks' (λ e. cc))
 outcomes_agree one words bytes (made r) (rom_refused g) m (asks', fault') = absurd (two_kinds words (Make m.nodes m.seed) Rom m.asks asks' (λ e. cc))
 outcomes_agree one words bytes (made r) (ran s) m (asks', tells') = absurd (two_kinds words (Make m.nodes m.seed) Run m.asks asks' (λ e. cc))
+outcomes_agree one words bytes (made r) (advised s) m (asks', tells') = absurd (two_kinds words (Make m.nodes m.seed) Advice m.asks asks' (λ e. cc))
 outcomes_agree one words bytes (made r) (made s) m m' = ap (λ (x : List ℕ). made x) (made_agrees one words r s m m')
 outcomes_agree one words bytes (made r) no_form m none' = absurd (none' (Make m.nodes m.seed, m.asks))
 outcomes_agree one words bytes no_form (shown b u) none (asks', spells') = absurd (none (Capture b, asks'))
@@ -134,6 +151,7 @@ outcomes_agree one words bytes no_form (refused g) none ((b, asks'), fault') = a
 outcomes_agree one words bytes no_form (rom w) none (asks', tells') = absurd (none (Rom, asks'))
 outcomes_agree one words bytes no_form (rom_refused g) none (asks', fault') = absurd (none (Rom, asks'))
 outcomes_agree one words bytes no_form (ran s) none (asks', tells') = absurd (none (Run, asks'))
+outcomes_agree one words bytes no_form (advised s) none (asks', tells') = absurd (none (Advice, asks'))
 outcomes_agree one words bytes no_form (made s) none m' = absurd (none (Make m'.nodes m'.seed, m'.asks))
 outcomes_agree one words bytes no_form no_form none none' = refl
 
@@ -155,7 +173,8 @@ outcome_of : HasOneReading → (words : List (String Global)) (bytes : List ℕ)
 outcome_of one words bytes fit other (inl (Capture form, asks)) = capture_outcome words bytes form asks (one.some bytes fit)
 outcome_of one words bytes fit other (inl (Rom, asks)) = rom_outcome one words bytes asks (one.some_rom bytes fit)
 outcome_of one words bytes fit other (inl (Run, asks)) = absurd (other (inl asks))
-outcome_of one words bytes fit other (inl (Make nodes seed, asks)) = absurd (other (inr (nodes, seed, asks)))
+outcome_of one words bytes fit other (inl (Advice, asks)) = absurd (other (inr (inl asks)))
+outcome_of one words bytes fit other (inl (Make nodes seed, asks)) = absurd (other (inr (inr (nodes, seed, asks))))
 outcome_of one words bytes fit other (inr none) = (no_form, none)
 
 pub some_outcome : HasOneReading → EachInputButScriptsHasAnOutcome

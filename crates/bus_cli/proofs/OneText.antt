@@ -7,7 +7,7 @@ use Rattle.config_rom.specs.OneReading.{NoRomHasTwoTexts}
 use Rattle.bus_cli.specs.declared.form.CaptureForm.{CaptureForm}
 use Rattle.bus_cli.specs.declared.form.CaptureForm.TheVariants.{Read, Maps}
 use Rattle.script_run.proofs.OneMaps.{same_maps}
-use Rattle.bus_cli.specs.Answer.{Outcome, shown, refused, rom, rom_refused, ran, made, no_form, HasOutcome, Shows, HasText, status_of}
+use Rattle.bus_cli.specs.Answer.{Outcome, shown, refused, rom, rom_refused, ran, advised, made, no_form, HasOutcome, Shows, HasText, status_of}
 use Rattle.bus_cli.specs.OneOutcome.{NoInputHasTwoAnswers}
 use Rattle.bus_cli.proofs.OneOutcome.{HasOneReading, outcomes_agree}
 
@@ -22,6 +22,8 @@ one_text roms words bytes (rom v) a b has x y = roms v x.list y.list a b x.are_b
 one_text roms words bytes (rom_refused f) a b has x y = x ∙ sym y
 one_text roms words bytes (ran (Ok t)) a b has x y = x ∙ sym y
 one_text roms words bytes (ran (Err f)) a b has x y = x ∙ sym y
+one_text roms words bytes (advised (Ok t)) a b has x y = x ∙ sym y
+one_text roms words bytes (advised (Err f)) a b has x y = x ∙ sym y
 one_text roms words bytes (made t) a b has x y = x ∙ sym y
 one_text roms words bytes no_form a b has x y = x ∙ sym y
 

@@ -10,7 +10,7 @@ use Rattle.config_rom.specs.Fault.{rom_fault}
 use Rattle.config_rom.specs.Block.{AreBlocks, BlocksRefused}
 use Rattle.config_rom.specs.Text.{IsRomText}
 use Rattle.config_rom.specs.OneReading.{IsRomOf, HasGoodBlocks}
-use Rattle.bus_cli.specs.declared.form.Form.TheVariants.{Capture, Rom, Run, Make}
+use Rattle.bus_cli.specs.declared.form.Form.TheVariants.{Capture, Rom, Run, Advice, Make}
 use Rattle.bus_cli.specs.declared.form.CaptureForm.{CaptureForm}
 use Rattle.bus_cli.specs.declared.form.CaptureForm.TheVariants.{Read, Maps}
 use Rattle.bus_cli.specs.declared.fault.CaptureFault.{CaptureFault}
@@ -20,6 +20,7 @@ use Rattle.bus_cli.specs.Line.{fault_line, rom_line, script_line}
 use Rattle.script_run.specs.Maps.{IsMapsText}
 use Rattle.script_run.specs.Made.{made_script}
 use Rattle.script_run.specs.Script.{Told, IsTold}
+use Rattle.script_run.specs.Advice.{IsAdvice}
 use Rattle.script_run.specs.Summary.{summary}
 
 -- the bytes are those of the ROM, and none of its blocks has a fault
@@ -40,14 +41,15 @@ pub record MadeTells (words : List (String Global)) (text : List ℕ) : Type 0 w
   pub tells : IsTold (made_script nodes seed) (Ok text)
 
 -- What words and bytes come to: a tree that is shown in a form, the fault of a capture, a ROM, the
--- fault of a ROM, what a script tells, the text that a script that is made tells, or no form at all. A
--- script tells a text or a fault, and one that is made tells a text.
+-- fault of a ROM, what a script tells, what is advised for its bus, the text that a script that is made
+-- tells, or no form at all. A script tells a text or a fault, and one that is made tells a text.
 pub data Outcome : Type 0 where
   shown : CaptureForm → Tree → Outcome
   refused : CaptureFault → Outcome
   rom : Parts → Outcome
   rom_refused : RomFault → Outcome
   ran : Told → Outcome
+  advised : Told → Outcome
   made : List ℕ → Outcome
   no_form : Outcome
 
@@ -58,6 +60,7 @@ HasOutcome words bytes (refused f) = AsksCapture words × CaptureRefused bytes f
 HasOutcome words bytes (rom v) = Asks words Rom × TellsRom bytes v
 HasOutcome words bytes (rom_refused f) = Asks words Rom × RomRefused bytes f
 HasOutcome words bytes (ran told) = Asks words Run × IsTold bytes told
+HasOutcome words bytes (advised told) = Asks words Advice × IsAdvice bytes told
 HasOutcome words bytes (made text) = MadeTells words text
 HasOutcome words bytes no_form = ¬ IsForm words
 
@@ -69,6 +72,8 @@ status_of (rom v) = 0
 status_of (rom_refused f) = 1
 status_of (ran (Ok text)) = 0
 status_of (ran (Err f)) = 1
+status_of (advised (Ok text)) = 0
+status_of (advised (Err f)) = 1
 status_of (made text) = 0
 status_of no_form = 2
 
@@ -91,6 +96,8 @@ HasText (rom v) text = TextOfRom v text
 HasText (rom_refused f) text = text ≡ rom_line f
 HasText (ran (Ok script_text)) text = text ≡ script_text
 HasText (ran (Err f)) text = text ≡ script_line f
+HasText (advised (Ok advice)) text = text ≡ advice
+HasText (advised (Err f)) text = text ≡ script_line f
 HasText (made script_text) text = text ≡ summary script_text
 HasText no_form text = text ≡ []
 

@@ -3,7 +3,7 @@ use Rattle.std.specs.Prelude.{◌≡◌, ℕ, ◌≤◌, ◌⊎◌, List, [], �
 use Rattle.std.specs.Global.{Global}
 use Rattle.script_lines.specs.Number.{number_of}
 use Rattle.bus_cli.specs.declared.form.Form.{Form}
-use Rattle.bus_cli.specs.declared.form.Form.TheVariants.{Capture, Rom, Run, Make}
+use Rattle.bus_cli.specs.declared.form.Form.TheVariants.{Capture, Rom, Run, Advice, Make}
 use Rattle.bus_cli.specs.declared.form.CaptureForm.{CaptureForm}
 use Rattle.bus_cli.specs.declared.form.CaptureForm.TheVariants.{Read, Maps}
 
@@ -23,6 +23,7 @@ AreWordsOf (Capture Read) words = words ≡ codes "read" ∷ []
 AreWordsOf (Capture Maps) words = words ≡ codes "maps" ∷ []
 AreWordsOf Rom words = words ≡ codes "rom" ∷ []
 AreWordsOf Run words = words ≡ codes "run" ∷ []
+AreWordsOf Advice words = words ≡ codes "advice" ∷ []
 AreWordsOf (Make nodes seed) words = AreMakeWords nodes seed words
 
 -- the words are those of the form
@@ -41,6 +42,6 @@ AsksCapture words = (form : CaptureForm) × Asks words (Capture form)
 abbrev pub AsksMake : List (String Global) → Type 0
 AsksMake words = (nodes : ℕ) × (seed : ℕ) × Asks words (Make nodes seed)
 
--- the words ask for the run of a script
+-- the words ask for the run of a script, or for its advice
 abbrev pub AsksScript : List (String Global) → Type 0
-AsksScript words = Asks words Run ⊎ AsksMake words
+AsksScript words = Asks words Run ⊎ Asks words Advice ⊎ AsksMake words

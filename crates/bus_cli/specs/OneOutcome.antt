@@ -1,5 +1,5 @@
 -- Words and bytes have no two outcomes, and so no two answers. They have an outcome, unless they ask
--- for the run of a script, of which that isn't said.
+-- for the run of a script or for its advice, of which that isn't said.
 use Rattle.std.specs.Prelude.{◌≡◌, ℕ, ◌<◌, All, List, String}
 use Rattle.std.specs.Global.{Global}
 use Rattle.bus_cli.specs.Form.{AsksScript}

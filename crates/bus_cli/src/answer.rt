@@ -15,7 +15,7 @@ use crate::form::{CaptureForm, Form};
 use crate::input::{MAX_INPUT, read_input};
 use crate::line::{FaultLine, fault_line};
 use crate::rom::answer_to_rom;
-use crate::script::{answer_to_make, answer_to_script};
+use crate::script::{answer_to_advice, answer_to_make, answer_to_script};
 use crate::status::{REFUSED, VALID};
 use io_edges::{ReadStop, Source, read_all};
 use quad_lanes::OutOfMemory;
@@ -132,6 +132,10 @@ pub(crate) fn read_answer<S: Source>(
         Form::Run => {
             let script = read_all(alloc, source, MAX_INPUT)?;
             Ok(answer_to_script(alloc, &script)?)
+        }
+        Form::Advice => {
+            let script = read_all(alloc, source, MAX_INPUT)?;
+            Ok(answer_to_advice(alloc, &script)?)
         }
         Form::Make { nodes, seed } => Ok(answer_to_make(alloc, nodes, seed)?),
     }

@@ -23,6 +23,8 @@ pub enum Form {
     Rom,
     /// `run`: what a script prints.
     Run,
+    /// `advice`: which cables of a script's bus to pull, and what it then settles on.
+    Advice,
     /// `make N SEED`: the summary of what the script prints that is made for 1 to 63 nodes and a
     /// seed. The numbers are written as in a script. Nothing is read.
     Make { nodes: u8, seed: u32 },
@@ -38,6 +40,7 @@ impl Form {
             "maps" => Some(Form::Capture(CaptureForm::Maps)),
             "rom" => Some(Form::Rom),
             "run" => Some(Form::Run),
+            "advice" => Some(Form::Advice),
             _ => None,
         }
     }
@@ -79,5 +82,6 @@ impl Form {
 }
 
 /// How the program is called, in one line for a form.
-pub const USAGE: &str = "usage: busconf run < SCRIPT\n       busconf read < CAPTURE\n       \
-    busconf maps < CAPTURE\n       busconf rom < ROM\n       busconf make N SEED";
+pub const USAGE: &str = "usage: busconf run < SCRIPT\n       busconf advice < SCRIPT\n       \
+    busconf read < CAPTURE\n       busconf maps < CAPTURE\n       busconf rom < ROM\n       \
+    busconf make N SEED";

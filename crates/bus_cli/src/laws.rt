@@ -4,7 +4,7 @@ ghost use Rattle.bus_cli.specs.OneReading.{EachCaptureHasATreeOrAFault, NoCaptur
 
 use config_rom::{one_list, one_rom};
 use quad_lanes::{capture_is_read_back, good_pairs_are_a_capture};
-use script_run::scripts_tell_one_thing;
+use script_run::{scripts_have_one_advice, scripts_tell_one_thing};
 use topology_stack::{one_answer, one_tree};
 
 /// A law: each capture spells a tree or has a fault, none spells two trees, none spells a tree and
@@ -22,7 +22,7 @@ pub fn one_reading()
 }
 
 /// A law: words and bytes have no two outcomes, and so no two statuses and no two texts. They have
-/// an outcome where the words don't ask for the run of a script.
+/// an outcome where the words don't ask for the run of a script or its advice.
 pub fn one_outcome()
     ensures some { EachInputButScriptsHasAnOutcome }
     ensures outcome { NoInputHasTwoOutcomes }
@@ -32,4 +32,5 @@ pub fn one_outcome()
     one_rom();
     one_list();
     scripts_tell_one_thing();
+    scripts_have_one_advice();
 }

@@ -4,7 +4,7 @@ ghost use Rattle.std.specs.Global.{Global};
 ghost use Rattle.script_run.specs.Made.{made_script};
 ghost use Rattle.script_run.specs.Script.{IsTold};
 ghost use Rattle.script_run.specs.Summary.{summary};
-ghost use Rattle.bus_cli.specs.declared.form.Form.TheVariants.{Run, Make};
+ghost use Rattle.bus_cli.specs.declared.form.Form.TheVariants.{Run, Advice, Make};
 ghost use Rattle.bus_cli.specs.Form.{Asks};
 ghost use Rattle.bus_cli.specs.Answer.{Answers};
 ghost use Rattle.bus_cli.specs.codings.Reading.{status_with, text_with};
@@ -12,7 +12,9 @@ ghost use Rattle.bus_cli.specs.codings.Reading.{status_with, text_with};
 use crate::answer::Answer;
 use crate::line::script_line;
 use quad_lanes::OutOfMemory;
-use script_run::{ScriptStop, made_scripts_have_no_fault, make_script, run_script, summary};
+use script_run::{
+    ScriptStop, advise_script, made_scripts_have_no_fault, make_script, run_script, summary,
+};
 use std::alloc::Global;
 
 /// The answer to the bytes of a script.
@@ -22,6 +24,19 @@ pub(crate) fn answer_to_script(alloc: Global, bytes: &[u8]) -> Result<Answer, Ou
         Answers words bytes.now (status_with answer) (text_with answer)) }
 {
     match run_script(alloc, bytes) {
+        Ok(text) => Ok(Answer::Valid(text)),
+        Err(ScriptStop::Fault(fault)) => Ok(Answer::Refused(script_line(fault))),
+        Err(ScriptStop::Memory(error)) => Err(error),
+    }
+}
+
+/// The answer to the bytes of a script of whose bus the advice is asked for.
+pub(crate) fn answer_to_advice(alloc: Global, bytes: &[u8]) -> Result<Answer, OutOfMemory>
+    requires { length bytes.now ≤ 1048576 }
+    ensures { IfOk result (λ answer. (words : List (String Global)) → Asks words Advice →
+        Answers words bytes.now (status_with answer) (text_with answer)) }
+{
+    match advise_script(alloc, bytes) {
         Ok(text) => Ok(Answer::Valid(text)),
         Err(ScriptStop::Fault(fault)) => Ok(Answer::Refused(script_line(fault))),
         Err(ScriptStop::Memory(error)) => Err(error),

@@ -9,6 +9,7 @@ ghost use Rattle.topology_stack.specs.Tree.{Tree};
 ghost use Rattle.script_run.specs.Script.{IsTold};
 ghost use Rattle.script_run.specs.EachReport.{EachReportIsSettled};
 ghost use Rattle.script_run.specs.Summary.{summary};
+ghost use Rattle.script_run.specs.Advice.{IsAdvice, EndsWithoutLoop};
 ghost use Rattle.bus_cli.specs.Capture.{Spells};
 ghost use Rattle.bus_cli.specs.Answer.{Answers, MadeTells};
 
@@ -17,7 +18,7 @@ use crate::form::Form;
 use crate::laws::one_outcome;
 use crate::status::{NO_FORM, NO_MEMORY, READ_FAULT, TOO_LONG, WRITE_FAULT};
 use io_edges::{ReadStop, Sink, Source, write_whole};
-use script_run::reports_are_settled;
+use script_run::{advices_leave_no_loop, reports_are_settled};
 use std::alloc::Global;
 
 /// Does what the words after the program's name ask for: reads the input from `source`, writes the
@@ -41,6 +42,9 @@ use std::alloc::Global;
 /// With `run`, the text at status 0 is what the script tells over the one run of its bus. In each
 /// report of it, each component is a loop with its core in configuration timeout, or a cable whose
 /// ends contend and drew the same coins, or a tree whose list every node has.
+///
+/// With `advice` the script is run to its end, the cables that are advised for each looped component
+/// are pulled, and the bus settles once more. No component is a loop then.
 pub fn bus_main<S: Source, K: Sink>(
     alloc: Global,
     words: &[String],
@@ -64,6 +68,14 @@ pub fn bus_main<S: Source, K: Sink>(
     // ends drew 32 equal coins, or one list at every node, the walk from its one root.
     ensures settled { result ≡ 0 → Asks words.now Form.Run →
         IfSome (S.left source.old) EachReportIsSettled }
+
+    // With `advice` it is the text of the script's advice, whose report has no loop.
+    ensures advice { result ≡ 0 → Asks words.now Form.Advice → IfSome (S.left source.old) (λ bytes.
+        (text : List ℕ) × IsAdvice bytes (Ok text)
+        × Appends (K.written sink.old) (K.written sink.new) text) }
+    ensures no_loop { result ≡ 0 → Asks words.now Form.Advice → IfSome (S.left source.old) (λ bytes.
+        (text : List ℕ) × EndsWithoutLoop bytes text
+        × Appends (K.written sink.old) (K.written sink.new) text) }
 
     // With `make` the script has no fault and nothing is read, and what is written at status 0 is
     // the summary of the text that the script tells.
@@ -108,6 +120,7 @@ pub fn bus_main<S: Source, K: Sink>(
 {
     one_outcome();
     reports_are_settled();
+    advices_leave_no_loop();
     let Some(form) = Form::of_words(words) else {
         return NO_FORM;
     };

@@ -3,6 +3,7 @@
 use crate::inputs::{answer, words};
 use bus_cli::bus_main;
 use io_edges::{MemSink, MemSource, SureSource};
+use script_run::advise_script;
 use std::test::Fail;
 
 #[test]
@@ -104,6 +105,35 @@ fn refused_scripts(rt: HostRuntime) -> Result<(), Fail> {
     Ok(())
 }
 
+/// Two nodes with two cables, and what is advised.
+const DOUBLED: &[u8] = b"node a 3 coins 0\nnode b 3 coins 1\nplug a 0 b 0\nplug a 1 b 1\n";
+
+const ADVISED: &[u8] =
+    b"advice a b\npull a 1 b 1\nleft 1\nreport 2 turn 16256\ncomponent rounds 1 changed 8427 nodes a b\ntree root b\nnode 0 link 1 gap 63 speed 2 contender 0 power 0 initiated 1 ports ^1 . . name a\nnode 1 link 1 gap 63 speed 2 contender 0 power 0 initiated 1 ports v0 . . name b\nnodes 2 root 1 irm none\n";
+
+#[test]
+fn advice(rt: HostRuntime) -> Result<(), Fail> {
+    let alloc = rt.alloc();
+    let Ok(text) = advise_script(alloc, DOUBLED) else {
+        return Err(Fail);
+    };
+    assert_eq!(rt; text.as_slice(), ADVISED);
+    for (script, status, text) in [
+        (DOUBLED, 0, ADVISED),
+        (
+            b"node a 3\nturn 1991000\n".as_slice(),
+            1,
+            b"refused line 3 TooManyTurns\n".as_slice(),
+        ),
+        (b"node a 3\nplug a 0 b 0\n", 1, b"refused line 2 NoNode\n"),
+    ] {
+        let (found, sink) = answer(alloc, "advice", script.to_vec(alloc)?)?;
+        assert_eq!(rt; sink.written(), text);
+        assert_eq!(rt; found, status);
+    }
+    Ok(())
+}
+
 /// The summary of the script that is made for one node.
 const MADE: &[u8] =
     b"report 2 turn 16096\ncomponent rounds 0 changed 261 nodes n0\ntree root n0\nnodes 1 root 0 irm 0\n";
@@ -123,6 +153,7 @@ fn made_scripts(rt: HostRuntime) -> Result<(), Fail> {
         (&["make", "1", "-7"], 2, b""),
         (&["make", "1", "7", "7"], 2, b""),
         (&["run", "1", "7"], 2, b""),
+        (&["advice", "1", "7"], 2, b""),
     ] {
         let words = words(alloc, texts)?;
         let mut source = MemSource::new(Vec::new(alloc), vec![in alloc; 0u32]?, 8);

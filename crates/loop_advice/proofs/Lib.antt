@@ -9,3 +9,4 @@ pub mod Collecting
 pub mod Before
 pub mod Rooted
 pub mod Splitting
+pub mod Without

@@ -9,38 +9,41 @@ use Rattle.script_lines.specs.declared.kind.ScriptStop.TheVariants as script
 use Rattle.script_lines.specs.declared.command.Command.{Command}
 use Rattle.script_lines.specs.Line.{Reads}
 use Rattle.script_run.specs.Step.{LineAnswer, Settles}
-use Rattle.script_run.specs.Script.{Stage, StageAnswer, Told, bus_of, delay_of, behind, fault_at, script_lines, Follows, Tells, IsTold}
-use Rattle.script_run.specs.OneTold.{ScriptsTellOneThing}
-use Rattle.script_run.specs.Answered.{IsRefused, IsOnlyFault}
+use Rattle.script_run.specs.Script.{Stage, StageAnswer, fresh, Told, bus_of, delay_of, behind, fault_at, script_lines, Follows, TellsBy, Tells, IsTold}
+use Rattle.script_run.specs.Answered.{StopsWith, IsRefused, IsOnlyFault}
 use Rattle.script_run.specs.codings.Running.{Stops}
-use Rattle.script_run.specs.codings.Going.{LineLeads, LineFails, IfFault, Leaves, stop_at}
+use Rattle.script_run.specs.codings.Going.{LineLeads, LineFails, IfFault, LeavesBy, Leaves, stop_at}
 
 behind-behind : (one other : List ℕ) (told : Told) → behind one (behind other told) ≡ behind (one ++ other) told
 behind-behind one other (Ok text) = ap Ok (sym (append_assoc one other text))
 behind-behind one other (Err fault) = refl
 
 -- a line is taken, and the rest tells the rest
-one-more :
-    (number : ℕ) (line : List ℕ) (lines : List (List ℕ)) (stage next : Stage) (text : List ℕ) (told : Told) →
-    LineLeads stage line next text → Tells (number + 1) lines next told → Tells number (line ∷ lines) stage (behind text told)
-one-more number line lines stage next text told (inl skipped) rest =
-    (Ok None, skipped.0, subst (λ (t : Told). Tells (number + 1) lines stage t) same (subst (λ (s : Stage). Tells (number + 1) lines s told) skipped.1 rest))
-  where
-    nothing-before : (t : Told) → t ≡ behind [] t
-    nothing-before (Ok t) = refl
-    nothing-before (Err f) = refl
+nothing-before : (t : Told) → t ≡ behind [] t
+nothing-before (Ok t) = refl
+nothing-before (Err f) = refl
 
+one-more :
+    (End : ℕ → Stage → Told → Type 0) (number : ℕ) (line : List ℕ) (lines : List (List ℕ)) (stage next : Stage) (text : List ℕ) (told : Told) →
+    LineLeads stage line next text → TellsBy End (number + 1) lines next told → TellsBy End number (line ∷ lines) stage (behind text told)
+one-more End number line lines stage next text told (inl skipped) rest =
+    (Ok None, skipped.0, subst (λ (t : Told). TellsBy End (number + 1) lines stage t) same (subst (λ (s : Stage). TellsBy End (number + 1) lines s told) skipped.1 rest))
+  where
     same : told ≡ behind text told
     same = nothing-before told ∙ ap (λ (l : List ℕ). behind l told) (sym skipped.2)
-one-more number line lines stage next text told (inr done) rest =
+one-more End number line lines stage next text told (inr done) rest =
     (Ok (Some done.0), done.1, (Ok (next, text), done.2, (told, rest, refl)))
 
 pub leaves-more :
-    (bytes out more : List ℕ) (number : ℕ) (line : List ℕ) (lines : List (List ℕ)) (stage next : Stage) →
-    LineLeads stage line next more → Leaves bytes out number (line ∷ lines) stage → Leaves bytes (out ++ more) (number + 1) lines next
-leaves-more bytes out more number line lines stage next leads leaves told rest =
-    subst (IsTold bytes) (behind-behind out more told)
-    (leaves (behind more told) (one-more number line lines stage next more told leads rest))
+    (End : ℕ → Stage → Told → Type 0) (bytes out more : List ℕ) (number : ℕ) (line : List ℕ) (lines : List (List ℕ)) (stage next : Stage) →
+    LineLeads stage line next more → LeavesBy End bytes out number (line ∷ lines) stage → LeavesBy End bytes (out ++ more) (number + 1) lines next
+leaves-more End bytes out more number line lines stage next leads leaves told rest =
+    subst (TellsBy End 1 (script_lines bytes) fresh) (behind-behind out more told)
+    (leaves (behind more told) (one-more End number line lines stage next more told leads rest))
+
+-- no line was taken yet
+pub leaves-first : (End : ℕ → Stage → Told → Type 0) (bytes : List ℕ) → LeavesBy End bytes [] 1 (script_lines bytes) fresh
+leaves-first End bytes told tells = subst (TellsBy End 1 (script_lines bytes) fresh) (nothing-before told) tells
 
 -- a line is at fault, and so is the script
 fails : (number : ℕ) (line : List ℕ) (lines : List (List ℕ)) (stage : Stage) (kind : Kind) →
@@ -83,9 +86,9 @@ refused-end bytes out number stage (Fault kind) r is wrong leaves =
 refused-end bytes out number stage (Memory e) r is wrong leaves = subst (IsRefused bytes) (sym is) tt
 
 pub only-fault :
-    ScriptsTellOneThing → (bytes : List ℕ) (r : ScriptStop) → IsRefused bytes r → (told : Told) → IsTold bytes told → IsOnlyFault told r
-only-fault one bytes (script.Fault fault) is told other = one bytes told (Err fault) other is
-only-fault one bytes (script.Memory e) is told other = tt
+    (Tells : Told → Type 0) (r : ScriptStop) → ((one other : Told) → Tells one → Tells other → one ≡ other) → StopsWith Tells r → (told : Told) → Tells told → IsOnlyFault told r
+only-fault Tells (script.Fault fault) one is told other = one told (Err fault) other is
+only-fault Tells (script.Memory e) one is told other = tt
 
 pub none-left : (rest : List ℕ) → length rest ≡ 0 → script_lines rest ≡ []
 none-left [] e = refl

@@ -13,6 +13,10 @@ pub mod told
 pub mod ScriptLines
 pub mod WorkedScripts
 pub mod Going
+pub mod Pulling
+pub mod Advising
+pub mod Settled
+pub mod AdviceEnds
 pub mod MadeLines
 pub mod MadeSize
 pub mod MadeRead

@@ -8,3 +8,5 @@ pub mod Commands
 pub mod Ports
 pub mod Lines
 pub mod EachReport
+pub mod Advice
+pub mod NoLoop

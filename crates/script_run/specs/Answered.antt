@@ -1,13 +1,22 @@
--- What `run_script` answers.
+-- What `run_script` and `advise_script` answer.
 use Rattle.std.specs.Prelude.{◌≡◌, ℕ, List, Result, Ok, Err}
 use Rattle.script_lines.specs.declared.kind.ScriptStop.{ScriptStop}
 use Rattle.script_lines.specs.declared.kind.ScriptStop.TheVariants.{Fault, Memory}
 use Rattle.script_run.specs.Script.{Told, IsTold}
+use Rattle.script_run.specs.Advice.{IsAdvice}
+
+-- a stop for a fault is the fault that is told
+abbrev pub StopsWith : (Told → Type 0) → ScriptStop → Type 0
+StopsWith Tells (Fault fault) = Tells (Err fault)
+StopsWith Tells (Memory none) = Unit {0}
 
 -- a stop for a fault is the script's fault
 abbrev pub IsRefused : List ℕ → ScriptStop → Type 0
-IsRefused bytes (Fault fault) = IsTold bytes (Err fault)
-IsRefused bytes (Memory none) = Unit {0}
+IsRefused bytes = StopsWith (IsTold bytes)
+
+-- a stop for a fault is that of the script or of its advice
+abbrev pub IsAdviceRefused : List ℕ → ScriptStop → Type 0
+IsAdviceRefused bytes = StopsWith (IsAdvice bytes)
 
 -- a stop for a fault is all that the script tells
 abbrev pub IsOnlyFault : Told → ScriptStop → Type 0

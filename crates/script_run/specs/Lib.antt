@@ -8,9 +8,11 @@ pub mod CommandText
 pub mod Plan
 pub mod Step
 pub mod Script
+pub mod Advice
 pub mod Answered
 pub mod OneTold
 pub mod EachReport
+pub mod OneAdvice
 pub mod Made
 pub mod MadeRead
 pub mod MadeValid

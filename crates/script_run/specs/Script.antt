@@ -171,12 +171,18 @@ Takes number rest stage (Ok (Some command)) told =
     (r : StageAnswer) × Follows stage command r × Goes number rest r told
 Takes number rest stage (Err kind) told = told ≡ Err (fault_at number kind)
 
--- what lines tell from a stage on, of which the first has this number
-abbrev pub Tells : ℕ → List (List ℕ) → Stage → Told → Type 0
-Tells number [] stage told = Ends number stage told
-Tells number (line ∷ lines) stage told =
+-- what lines tell from a stage on, of which the first has this number, where at the end `End` says
+-- what a stage tells
+abbrev pub TellsBy :
+    (ℕ → Stage → Told → Type 0) → ℕ → List (List ℕ) → Stage → Told → Type 0
+TellsBy End number [] stage told = End number stage told
+TellsBy End number (line ∷ lines) stage told =
     (reading : Result (Option Command) Kind) × Reads (delay_of stage) line reading
-    × Takes number (Tells (number + 1) lines) stage reading told
+    × Takes number (TellsBy End (number + 1) lines) stage reading told
+
+-- what they tell where the bus settles at the end
+abbrev pub Tells : ℕ → List (List ℕ) → Stage → Told → Type 0
+Tells = TellsBy Ends
 
 -- A script's text is what its lines print and the last report, over the one run of its bus. Or it
 -- is refused for the fault of its first bad line.

@@ -4,3 +4,4 @@ pub mod Running
 pub mod Going
 pub mod Declaring
 pub mod Plugged
+pub mod Advising

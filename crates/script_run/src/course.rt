@@ -1,11 +1,14 @@
 //! A script that is gone through, a line at a time.
-ghost use Rattle.std.specs.Prelude.{◌≡◌, ◌++◌, ℕ, List, Ok, IfOk, IfErr, OnOk};
+ghost use Rattle.std.specs.Prelude.{◌≡◌, ◌⊎◌, ◌++◌, ℕ, List, Ok, IfOk, IfErr, OnOk, IsSomeAnd};
+ghost use Rattle.settle.specs.Report.{IsReport};
 ghost use Rattle.script_run.specs.Step.{Settles};
-ghost use Rattle.script_run.specs.Bus.{Bus};
+ghost use Rattle.script_run.specs.Bus as shown;
 ghost use Rattle.script_run.specs.Script.{fresh, bus_of};
-ghost use Rattle.script_run.specs.codings.Running.{Stops};
+ghost use Rattle.script_run.specs.codings.Running.{bus_now, IsSound, Stops};
 ghost use Rattle.script_run.specs.codings.Going.{LineLeads, LineFails, IfFault};
+ghost use Rattle.script_run.specs.codings.Advising.{IsAdvised};
 
+use crate::bus::Bus;
 use crate::run::Stage;
 use cable_world::WorldRun;
 use phy_machine::AnyMachine;
@@ -72,10 +75,34 @@ impl Course {
 
     /// The report of the `settle` behind the last line.
     pub fn last_report(self, alloc: Global) -> Result<Vec<u8>, LineStop>
-        ensures done { IfOk result (λ text. (bus : Bus)
+        ensures done { IfOk result (λ text. (bus : shown.Bus)
             × Settles (bus_of self) (Ok (bus, text.items))) }
         ensures stop { IfErr result (Stops (Settles (bus_of self))) }
     {
         self.stage.bus(alloc)?.last_report(alloc)
+    }
+
+    /// The bus after the `settle` behind the last line.
+    fn settled(self, alloc: Global) -> Result<Bus<AgendaWorld<AnyMachine>>, LineStop>
+        ensures done { IfOk result (λ bus. (text : List ℕ) × Settles (bus_of self)
+            (Ok (bus_now ⟦<AgendaWorld<AnyMachine> as WorldRun>⟧.world bus, text))) }
+        ensures stop { IfErr result (Stops (Settles (bus_of self))) }
+        ensures sound { IfOk result (IsSound ⟦<AgendaWorld<AnyMachine> as WorldRun>⟧.world
+            ⟦<AgendaWorld<AnyMachine> as WorldRun>⟧.is_spent) }
+        ensures reported { IfOk result (λ bus. IsSomeAnd bus.notes.report
+            (IsReport (⟦<AgendaWorld<AnyMachine> as WorldRun>⟧.world bus.world))) }
+    {
+        let mut bus = self.stage.bus(alloc)?;
+        bus.settle(alloc)?;
+        Ok(bus)
+    }
+
+    /// What is advised after the `settle` behind the last line, and the report of the next one.
+    pub fn advised(self, alloc: Global) -> Result<Vec<u8>, LineStop>
+        ensures done { IfOk result (λ text. (after : shown.Bus)
+            × IsAdvised self (Ok (after, text.items))) }
+        ensures stop { IfErr result (Stops (λ r. Settles (bus_of self) r ⊎ IsAdvised self r)) }
+    {
+        self.settled(alloc)?.advised(alloc)
     }
 }

@@ -6,6 +6,7 @@ ghost use Rattle.script_run.specs.CanBeShown.{CanBeShown};
 ghost use Rattle.script_run.specs.OneText.{ReportsHaveOneText};
 ghost use Rattle.script_run.specs.OneTold.{ScriptsTellOneThing};
 ghost use Rattle.script_run.specs.EachReport.{ReportsAreSettled};
+ghost use Rattle.script_run.specs.OneAdvice.{ScriptsHaveOneAdvice, AdvicesLeaveNoLoop, AdvicesEndWithoutLoop};
 
 use cable_world::WorldRun;
 use settle::reports_are_read_back;
@@ -39,6 +40,21 @@ pub fn scripts_tell_one_thing()
 /// one list at every node, the child-first walk from its one root.
 pub fn reports_are_settled()
     ensures { ReportsAreSettled }
+{
+    one_tree();
+}
+
+/// A law: no script has two advices. Its advice has one text, or one fault of one line.
+pub fn scripts_have_one_advice()
+    ensures { ScriptsHaveOneAdvice }
+{
+    one_tree();
+}
+
+/// A law: no component of the report that an advice ends with is a loop.
+pub fn advices_leave_no_loop()
+    ensures report { AdvicesLeaveNoLoop }
+    ensures text { AdvicesEndWithoutLoop }
 {
     one_tree();
 }

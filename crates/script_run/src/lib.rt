@@ -4,6 +4,9 @@
 //! says stands in `script_lines`; here stands what it does to a bus, and what is printed of it.
 #![tactic(auto)]
 
+mod advice;
+mod advise;
+mod advised;
 mod answers;
 mod bank;
 mod bus;
@@ -21,10 +24,11 @@ mod script;
 mod steps;
 mod table;
 
+pub use advise::advise_script;
 pub use last_report::summary;
 pub use laws::{
-    made_is_read, made_scripts_have_no_fault, reports_are_settled, reports_can_be_shown,
-    reports_have_one_text, scripts_tell_one_thing,
+    advices_leave_no_loop, made_is_read, made_scripts_have_no_fault, reports_are_settled,
+    reports_can_be_shown, reports_have_one_text, scripts_have_one_advice, scripts_tell_one_thing,
 };
 pub use made::make_script;
 pub use maps::maps_text;

@@ -46,7 +46,7 @@ fn put_held(out: &mut Vec<u8>, names: &[Name], set: NodeSet, node: u8) -> Result
 }
 
 /// Appends the names of the nodes of a set.
-fn put_names(out: &mut Vec<u8>, names: &[Name], set: NodeSet) -> Result<(), OutOfMemory>
+pub(crate) fn put_names(out: &mut Vec<u8>, names: &[Name], set: NodeSet) -> Result<(), OutOfMemory>
     requires { AreNamed names.now set }
     ensures { OnOk result (out.new.items ≡ out.old.items ++ all_spaced names.now set) }
 {

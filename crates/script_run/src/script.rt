@@ -1,8 +1,9 @@
 //! A whole script.
-ghost use Rattle.std.specs.Prelude.{◌≡◌, ◌≤◌, ◌<◌, ◌∷◌, Ok, IfOk, IfErr, length};
+ghost use Rattle.std.specs.Prelude.{◌≡◌, ◌≤◌, ◌<◌, ◌+◌, ◌∷◌, [], Ok, IfOk, IfErr, length};
+ghost use Rattle.script_run.specs.Bus.{Bus};
 ghost use Rattle.script_run.specs.Script.{Told, IsTold, script_lines};
 ghost use Rattle.script_run.specs.Answered.{IsRefused, IsOnlyFault};
-ghost use Rattle.script_run.specs.codings.Going.{stop_at};
+ghost use Rattle.script_run.specs.codings.Going.{Leaves, LeavesTo, stop_at};
 
 use crate::course::Course;
 use crate::last_report::first_feed;
@@ -23,13 +24,55 @@ fn cut_line(rest: &[u8]) -> (&[u8], &[u8])
 }
 
 /// The stop of a script at a line.
-fn at_line(line: u32, stop: LineStop) -> ScriptStop
+pub(crate) fn at_line(line: u32, stop: LineStop) -> ScriptStop
     ensures { result ≡ stop_at line stop }
 {
     match stop {
         LineStop::Fault(kind) => ScriptStop::Fault(ScriptFault { line, kind }),
         LineStop::Memory(error) => ScriptStop::Memory(error),
     }
+}
+
+/// A script whose lines were taken.
+#[derive(Drop)]
+pub(crate) struct Taken {
+    /// What comes of it.
+    pub course: Course,
+    /// The number of lines and 1.
+    pub number: u32,
+    /// What the lines printed.
+    pub text: Vec<u8>,
+}
+
+/// Takes the lines of a script, of 1,048,576 bytes at most.
+pub(crate) fn take_lines(alloc: Global, bytes: &[u8]) -> Result<Taken, ScriptStop>
+    requires { length bytes.now ≤ 1048576 }
+    ensures lines { IfOk result (λ taken.
+        Leaves bytes.now taken.text.items taken.number [] taken.course) }
+    ensures ends { IfOk result (λ taken. (bus : Bus) →
+        LeavesTo bus bytes.now taken.text.items taken.number [] taken.course) }
+    ensures number { IfOk result (λ taken. taken.number
+        ≡ length (script_lines bytes.now) + 1) }
+    ensures refused { IfErr result (IsRefused bytes.now) }
+{
+    let mut text = Vec::new(alloc);
+    let mut course = Course::new();
+    let mut rest = bytes;
+    let mut number = 1;
+    while !rest.is_empty() {
+        let (line, behind) = cut_line(rest);
+        match course.take(alloc, line, &mut text) {
+            Ok(()) => {}
+            Err(stop) => return Err(at_line(number, stop)),
+        }
+        rest = behind;
+        number += 1;
+    }
+    Ok(Taken {
+        course,
+        number,
+        text,
+    })
 }
 
 /// The text of a script, of 1,048,576 bytes at most: what its lines print, in order, and the report
@@ -47,22 +90,14 @@ pub fn run_script(alloc: Global, bytes: &[u8]) -> Result<Vec<u8>, ScriptStop>
         → IsOnlyFault told stop) }
 {
     scripts_tell_one_thing();
-    let mut out = Vec::new(alloc);
-    let mut course = Course::new();
-    let mut rest = bytes;
-    let mut number = 1;
-    while !rest.is_empty() {
-        let (line, behind) = cut_line(rest);
-        match course.take(alloc, line, &mut out) {
-            Ok(()) => {}
-            Err(stop) => return Err(at_line(number, stop)),
-        }
-        rest = behind;
-        number += 1;
-    }
+    let Taken {
+        course,
+        number,
+        mut text,
+    } = take_lines(alloc, bytes)?;
     match course.last_report(alloc) {
-        Ok(text) => out.extend_from_slice(text.as_slice())?,
+        Ok(report) => text.extend_from_slice(report.as_slice())?,
         Err(stop) => return Err(at_line(number, stop)),
     }
-    Ok(out)
+    Ok(text)
 }

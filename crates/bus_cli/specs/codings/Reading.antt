@@ -4,7 +4,7 @@ use Rattle.topology_stack.specs.Tree.{Tree}
 use Rattle.bus_cli.specs.declared.answer.Answer.{Answer}
 use Rattle.bus_cli.specs.declared.answer.Answer.TheVariants.{Valid, Refused}
 use Rattle.bus_cli.specs.declared.form.Form.{Form}
-use Rattle.bus_cli.specs.declared.form.Form.TheVariants.{Capture, Rom, Run, Make}
+use Rattle.bus_cli.specs.declared.form.Form.TheVariants.{Capture, Rom, Run, Advice, Make}
 use Rattle.bus_cli.specs.declared.fault.CaptureStop.{CaptureStop}
 use Rattle.bus_cli.specs.declared.fault.CaptureStop.TheVariants.{Fault, Memory}
 use Rattle.bus_cli.specs.Capture.{Spells, CaptureRefused}
@@ -14,6 +14,7 @@ abbrev pub IsRead : Form → Type 0
 IsRead (Capture form) = Unit {0}
 IsRead Rom = Unit {0}
 IsRead Run = Unit {0}
+IsRead Advice = Unit {0}
 IsRead (Make nodes seed) = ⊥
 
 -- the form asks for 1 to 63 nodes, where it asks for nodes
@@ -21,6 +22,7 @@ abbrev pub AsksFewNodes : Form → Type 0
 AsksFewNodes (Capture form) = Unit {0}
 AsksFewNodes Rom = Unit {0}
 AsksFewNodes Run = Unit {0}
+AsksFewNodes Advice = Unit {0}
 AsksFewNodes (Make nodes seed) = (1 ≤ nodes) × (nodes ≤ 63)
 
 -- the bytes spell the tree or have the fault; of want of memory nothing is said

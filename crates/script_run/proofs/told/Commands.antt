@@ -113,7 +113,7 @@ answer-of : Bus → List ℕ → LineAnswer
 answer-of bus text = Ok (bus, text)
 
 -- the bus and the text of an answer that isn't a fault
-abbrev bus-in : Bus → LineAnswer → Bus
+abbrev pub bus-in : Bus → LineAnswer → Bus
 bus-in bus (Ok (after, text)) = after
 bus-in bus (Err kind) = bus
 
@@ -136,7 +136,7 @@ one-refusal :
 one-refusal None one other x y = absurd x
 one-refusal (Some f) one other x y = x ∙ sym y
 
-acts : (bus : Bus) (act : Act) → IsCabled bus.world → IsOne (Acts bus act)
+pub acts : (bus : Bus) (act : Act) → IsCabled bus.world → IsOne (Acts bus act)
 unfolding answer-of
 acts bus act h (Ok (a, s)) (Ok (b, t)) x y = (
   same-answer a b s t

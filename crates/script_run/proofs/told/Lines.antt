@@ -1,18 +1,19 @@
 -- What follows at a stage, and what lines tell.
-use Rattle.std.proofs.Common.{◌≡◌, ◌++◌, ℕ, ◌+◌, ◌<◌, ◌≤◌, zero, suc, Bool, true, false, List, [], ◌∷◌, Option, Some, None, length, map, get_or, refl, sym, ◌∙◌, ap, subst, arith}
+use Rattle.std.proofs.Common.{◌≡◌, ◌⊎◌, inl, inr, ◌++◌, ℕ, ◌+◌, ◌<◌, ◌≤◌, zero, suc, Bool, true, false, List, [], ◌∷◌, Option, Some, None, length, map, get_or, refl, sym, ◌∙◌, ap, subst, arith}
 use Rattle.std.specs.Prelude.{nat_lt, Result, Ok, Err, IfSome, if◌then◌else◌}
-use Rattle.std.proofs.lemmas.List.{length-append, length-map}
+use Rattle.std.proofs.lemmas.List.{append_assoc, length-append, length-map}
 use Rattle.std.proofs.lemmas.Bool.Decides.{nat_tests}
 use Rattle.topology_stack.specs.OneAnswer.{NoListHasTwoTrees}
 use Rattle.cabling.proofs.Ends.{bare}
 use Rattle.port_state.specs.Machine.{PortNode}
 use Rattle.script_lines.specs.declared.kind.Kind.{Kind}
+use Rattle.script_lines.specs.declared.kind.ScriptFault.{ScriptFault}
 use Rattle.script_lines.specs.declared.command.Command.{Command}
 use Rattle.script_lines.specs.declared.command.Command.TheVariants.{Node, Delay}
 use Rattle.script_lines.specs.Line.{Reads}
 use Rattle.script_run.specs.Bus.{is_declared}
 use Rattle.script_run.specs.Step.{LineAnswer}
-use Rattle.script_run.specs.Script.{Draft, Stage, fresh, declaring, running, StageAnswer, draft_of, bus_of, delay_of, first_draft, with_node, Declares, Delays, onwards, Runs, Follows, Told, behind, ends_with, Ends, Goes, Takes, Tells, script_lines}
+use Rattle.script_run.specs.Script.{Draft, Stage, fresh, declaring, running, StageAnswer, draft_of, bus_of, delay_of, first_draft, with_node, Declares, Delays, onwards, Runs, Follows, Told, behind, fault_at, ends_with, Ends, Goes, Takes, TellsBy, script_lines}
 use Rattle.script_run.specs.OneTold.{ScriptsTellOneThing}
 use Rattle.script_lines.proofs.LineRead.{one_reading}
 use Rattle.script_run.proofs.told.Cables.{IsCabled}
@@ -154,42 +155,127 @@ ends trees number stage one other h x y =
     let same : x.0 ≡ y.0 = (settles trees (bus_of stage) (cabled stage h) x.0 y.0 x.1 y.1).0 in
     x.2 ∙ ap (ends_with number) same ∙ sym y.2
 
--- what the rest of a script tells from a stage on is one thing
-abbrev IsOneRest : (Stage → Told → Type 0) → Type 0
-IsOneRest Rest =
-    (stage : Stage) (one other : Told) → Fits stage → Rest stage one → Rest stage other →
-    one ≡ other
+-- ---- two runs
 
-goes : (number : ℕ) (Rest : Stage → Told → Type 0) (r : StageAnswer) (one other : Told) →
-    IsOneRest Rest → LeavesFit r → Goes number Rest r one → Goes number Rest r other → one ≡ other
-goes number Rest (Ok (stage, text)) one other rest h x y =
-    x.2 ∙ ap (behind text) (rest stage x.0 y.0 h x.1 y.1) ∙ sym y.2
-goes number Rest (Err kind) one other rest h x y = x ∙ sym y
+-- two runs of a script go alike up to its end: both stop for one fault, or both come to its end at
+-- one stage
+pub record Ended
+    (One Other : ℕ → Stage → Told → Type 0) (one other : Told) : Type 0 where
+  pub number : ℕ
+  pub stage : Stage
+  pub fits : Fits stage
+  pub before : List ℕ
+  pub end : Told
+  pub other_end : Told
+  pub ends : One number stage end
+  pub other_ends : Other number stage other_end
+  pub is : one ≡ behind before end
+  pub other_is : other ≡ behind before other_end
+
+abbrev pub Meet : (One Other : ℕ → Stage → Told → Type 0) → Told → Told → Type 0
+Meet One Other one other =
+    ((fault : ScriptFault) × (one ≡ Err fault) × (other ≡ Err fault)) ⊎ Ended One Other one other
+
+abbrev RestsMeet : (One Other : ℕ → Stage → Told → Type 0) → (Rest Again : Stage → Told → Type 0) → Type 0
+RestsMeet One Other Rest Again =
+    (stage : Stage) (one other : Told) → Fits stage → Rest stage one → Again stage other →
+    Meet One Other one other
+
+behind-more : (text before : List ℕ) (told more : Told) → told ≡ behind before more →
+    behind text told ≡ behind (text ++ before) more
+behind-more text before told (Ok rest) e =
+    ap (behind text) e ∙ ap Ok (sym (append_assoc text before rest))
+behind-more text before told (Err fault) e = ap (behind text) e
+
+meet-behind :
+    (One Other : ℕ → Stage → Told → Type 0) (text : List ℕ) (one other : Told) →
+    Meet One Other one other → Meet One Other (behind text one) (behind text other)
+meet-behind One Other text one other (inl stop) =
+    inl (stop.0, ap (behind text) stop.1, ap (behind text) stop.2)
+meet-behind One Other text one other (inr m) = inr (record {
+  number = m.number;
+  stage = m.stage;
+  fits = m.fits;
+  before = text ++ m.before;
+  end = m.end;
+  other_end = m.other_end;
+  ends = m.ends;
+  other_ends = m.other_ends;
+  is = behind-more text m.before one m.end m.is;
+  other_is = behind-more text m.before other m.other_end m.other_is;
+})
+
+goes :
+    (One Other : ℕ → Stage → Told → Type 0) (number : ℕ) (Rest Again : Stage → Told → Type 0)
+    (r : StageAnswer) (one other : Told) → RestsMeet One Other Rest Again → LeavesFit r →
+    Goes number Rest r one → Goes number Again r other → Meet One Other one other
+goes One Other number Rest Again (Ok (stage, text)) one other rest h x y =
+    let both = meet-behind One Other text x.0 y.0 (rest stage x.0 y.0 h x.1 y.1) in
+    subst (λ (t : Told). Meet One Other t other) (sym x.2)
+    (subst (λ (t : Told). Meet One Other (behind text x.0) t) (sym y.2) both)
+goes One Other number Rest Again (Err kind) one other rest h x y = inl (fault_at number kind, x, y)
 
 takes :
-    NoListHasTwoTrees → (number : ℕ) (Rest : Stage → Told → Type 0) (stage : Stage)
+    NoListHasTwoTrees → (One Other : ℕ → Stage → Told → Type 0) (number : ℕ)
+    (Rest Again : Stage → Told → Type 0) (stage : Stage)
     (line : List ℕ) (reading : Result (Option Command) Kind) (one other : Told) →
-    IsOneRest Rest → Fits stage → Reads (delay_of stage) line reading →
+    RestsMeet One Other Rest Again → Fits stage → Reads (delay_of stage) line reading →
     Takes number Rest stage reading one →
-    Takes number Rest stage reading other → one ≡ other
-takes trees number Rest stage line (Ok None) one other rest h reads x y = rest stage one other h x y
-takes trees number Rest stage line (Ok (Some command)) one other rest h reads x y =
+    Takes number Again stage reading other → Meet One Other one other
+takes trees One Other number Rest Again stage line (Ok None) one other rest h reads x y =
+    rest stage one other h x y
+takes trees One Other number Rest Again stage line (Ok (Some command)) one other rest h reads x y =
     let ports : HasPorts command = read-ports (delay_of stage) line command reads in
     let same = follows trees stage command ports h x.0 y.0 x.1 y.1 in
-    let again : Goes number Rest x.0 other =
-    subst (λ (r : StageAnswer). Goes number Rest r other) (sym same.0) y.2 in
-    goes number Rest x.0 one other rest same.1 x.2 again
-takes trees number Rest stage line (Err kind) one other rest h reads x y = x ∙ sym y
+    let again : Goes number Again x.0 other =
+    subst (λ (r : StageAnswer). Goes number Again r other) (sym same.0) y.2 in
+    goes One Other number Rest Again x.0 one other rest same.1 x.2 again
+takes trees One Other number Rest Again stage line (Err kind) one other rest h reads x y =
+    inl (fault_at number kind, x, y)
 
-tells : NoListHasTwoTrees → (number : ℕ) (lines : List (List ℕ)) → IsOneRest (Tells number lines)
-tells trees number [] stage one other h x y = ends trees number stage one other h x y
-tells trees number (line ∷ lines) stage one other h x y =
+meets :
+    NoListHasTwoTrees → (One Other : ℕ → Stage → Told → Type 0) (number : ℕ)
+    (lines : List (List ℕ)) →
+    RestsMeet One Other (TellsBy One number lines) (TellsBy Other number lines)
+meets trees One Other number [] stage one other h x y = inr (record {
+  number = number;
+  stage = stage;
+  fits = h;
+  before = [];
+  end = one;
+  other_end = other;
+  ends = x;
+  other_ends = y;
+  is = nothing-before one;
+  other_is = nothing-before other;
+})
+  where
+    nothing-before : (told : Told) → told ≡ behind [] told
+    nothing-before (Ok text) = refl
+    nothing-before (Err fault) = refl
+meets trees One Other number (line ∷ lines) stage one other h x y =
     let same : y.0 ≡ x.0 = one_reading (delay_of stage) line y.0 x.0 y.1 x.1 in
-    let Rest : Stage → Told → Type 0 = Tells (number + 1) lines in
-    let again : Takes number Rest stage x.0 other =
-    subst (λ (r : Result (Option Command) Kind). Takes number Rest stage r other) same y.2 in
-    takes trees number Rest stage line x.0 one other (tells trees (number + 1) lines) h
-    x.1 x.2 again
+    let Rest : Stage → Told → Type 0 = TellsBy One (number + 1) lines in
+    let Again : Stage → Told → Type 0 = TellsBy Other (number + 1) lines in
+    let again : Takes number Again stage x.0 other =
+    subst (λ (r : Result (Option Command) Kind). Takes number Again stage r other) same y.2 in
+    takes trees One Other number Rest Again stage line x.0 one other
+    (meets trees One Other (number + 1) lines) h x.1 x.2 again
+
+pub meet :
+    NoListHasTwoTrees → (One Other : ℕ → Stage → Told → Type 0) (bytes : List ℕ)
+    (one other : Told) → TellsBy One 1 (script_lines bytes) fresh one →
+    TellsBy Other 1 (script_lines bytes) fresh other → Meet One Other one other
+meet trees One Other bytes one other x y =
+    meets trees One Other 1 (script_lines bytes) fresh one other tt x y
+
+one-end : NoListHasTwoTrees → (one other : Told) → Meet Ends Ends one other → one ≡ other
+one-end trees one other (inl stop) = stop.1 ∙ sym stop.2
+one-end trees one other (inr m) =
+    m.is
+    ∙ ap (behind m.before) (ends trees m.number m.stage m.end m.other_end m.fits m.ends m.other_ends)
+    ∙ sym m.other_is
 
 pub one-told : NoListHasTwoTrees → ScriptsTellOneThing
-one-told trees bytes one other x y = tells trees 1 (script_lines bytes) fresh one other tt x y
+one-told trees bytes one other x y =
+    one-end trees one other (meet trees Ends Ends bytes one other x y)

@@ -10,7 +10,9 @@ use Rattle.script_lines.specs.declared.command.Command.{Command}
 use Rattle.script_run.specs.declared.run.Stage as kept
 use Rattle.script_run.specs.declared.run.Stage.TheVariants.{Fresh, Declaring, Running}
 use Rattle.script_lines.specs.Line.{Reads}
-use Rattle.script_run.specs.Script.{Stage, fresh, declaring, running, delay_of, Follows, Told, fault_at, behind, Tells, IsTold}
+use Rattle.script_run.specs.Bus.{Bus}
+use Rattle.script_run.specs.Script.{Stage, fresh, declaring, running, script_lines, delay_of, Follows, Told, fault_at, behind, Ends, TellsBy}
+use Rattle.script_run.specs.Advice.{EndsOn}
 use Rattle.script_run.specs.codings.Running.{bus_now, IsSound}
 use Rattle.script_run.specs.codings.Declaring.{draft_now, IsDraft}
 
@@ -50,6 +52,15 @@ stop_at number (line.Memory error) = script.Memory error
 
 -- the lines of a script that were taken printed this, and the script tells it and what the lines
 -- that are left tell
+abbrev pub LeavesBy :
+    (ℕ → Stage → Told → Type 0) → List ℕ → List ℕ → ℕ → List (List ℕ) → Stage → Type 0
+LeavesBy End bytes out number lines stage =
+    (told : Told) → TellsBy End number lines stage told →
+    TellsBy End 1 (script_lines bytes) fresh (behind out told)
+
+-- whether its bus settles at the end, or is asked for then
 abbrev pub Leaves : List ℕ → List ℕ → ℕ → List (List ℕ) → Stage → Type 0
-Leaves bytes out number lines stage =
-    (told : Told) → Tells number lines stage told → IsTold bytes (behind out told)
+Leaves = LeavesBy Ends
+
+abbrev pub LeavesTo : Bus → List ℕ → List ℕ → ℕ → List (List ℕ) → Stage → Type 0
+LeavesTo bus = LeavesBy (EndsOn bus)

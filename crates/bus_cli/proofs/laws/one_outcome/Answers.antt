@@ -17,5 +17,6 @@ returns c =
       block_fault = c.one_list.ensures.fault;
       text = c.one_list.ensures.text;
       script = c.scripts_tell_one_thing.ensures;
+      advice = c.scripts_have_one_advice.ensures;
     } in
     record { some = some_outcome one; outcome = outcomes_agree one; answer = answers_agree one }

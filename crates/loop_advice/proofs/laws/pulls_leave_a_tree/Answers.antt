@@ -1,22 +1,19 @@
-use Rattle.std.proofs.Common.{◌≡◌, ℕ, ◌^◌, ◌<◌, inl, inr, eqb, List, ◌++◌, Some, refl, sym, ap, ◌∙◌, arith}
+use Rattle.std.proofs.Common.{◌≡◌, ℕ, ◌^◌, ◌<◌, inl, inr, eqb, List, Some, sym, ap, ◌∙◌, arith}
 use Rattle.std.specs.Int.{bit_at}
 use Rattle.std.proofs.lemmas.Bool.Decides.{nat_tests}
-use Rattle.cabling.specs.declared.cable.End.{End}
 use Rattle.cabling.specs.declared.cable.Cable.{Cable}
 use Rattle.cabling.specs.Wiring.{Wiring, far, IsCabling}
 use Rattle.cabling.specs.NodeSet.{Holds}
 use Rattle.cabling.specs.Component.{IsComponent}
-use Rattle.cabling.specs.Looped.{HasTwo, IsCore}
+use Rattle.cabling.specs.Looped.{IsCore}
 use Rattle.cabling.proofs.Bits.{clear_bit}
 use Rattle.cabling.proofs.Cascade.{holds_or_not}
-use Rattle.cabling.proofs.Near.{end_at}
-use Rattle.loop_advice.specs.Cables.{Lists, NoneLeadsOut, HoldsEachOnce, JoinAll}
+use Rattle.loop_advice.specs.Cables.{Lists, NoneLeadsOut}
 use Rattle.loop_advice.specs.Certificate.{IsCertificate}
 use Rattle.loop_advice.specs.Pulled.{ArePulled}
-use Rattle.loop_advice.proofs.Listed.{once_apart, lists_append, lists_right}
-use Rattle.loop_advice.proofs.Marking.{cable}
-use Rattle.loop_advice.proofs.Components.{one_component, same_size, same_each}
-use Rattle.loop_advice.proofs.Growing.{TwoOf, no_loop}
+use Rattle.loop_advice.proofs.Listed.{once_apart, lists_right}
+use Rattle.loop_advice.proofs.Components.{one_component}
+use Rattle.loop_advice.proofs.Without.{no_loop_left}
 use Rattle.loop_advice.proofs.laws.pulls_leave_a_tree.Goals as goal
 
 -- a kept cable is still plugged in
@@ -47,38 +44,12 @@ component old new node pulls kept set both k p is = record {
 pub returns-clause-component : goal.returns-clause-component
 returns-clause-component c node pulls kept set k p is = component c.args.old.now c.args.new.now node pulls kept set c.cables_are_two_ended-2.ensures k p is
 
--- a cable that is left is a kept one
-kept_one : (old new : Wiring) (set : ℕ) (pulls kept : List Cable) → HoldsEachOnce old set (pulls ++ kept) → ArePulled old new pulls → (a b : End) → Holds set a.node → far new a ≡ Some b → Lists kept (cable a b)
-kept_one old new set pulls kept each p a b h e =
-    let was = (p.left a b).0 e in
-    elim (lists_append pulls kept (cable a b) ((each.all (cable a b)).1 (record { joined = was.0; here = h }))) [
-      | inl l ↦ absurd (was.1 l)
-      | inr r ↦ r
-    ]
-
-two_kept : (old new : Wiring) (set : ℕ) (pulls kept : List Cable) (part x : ℕ) → HoldsEachOnce old set (pulls ++ kept) → ArePulled old new pulls → Holds set x → HasTwo new part x → TwoOf kept part x
-two_kept old new set pulls kept part x each p h two = record {
-  one = end_at x two.low;
-  other = end_at x two.high;
-  apart = λ e. let same : two.low ≡ two.high = ap (λ (y : End). y.port) e in omega (arith, same, two.apart);
-  at_one = refl;
-  at_other = refl;
-  far_one = two.low_leads.0;
-  far_other = two.high_leads.0;
-  lists_one = kept_one old new set pulls kept each p (end_at x two.low) two.low_leads.0 h two.low_leads.1;
-  lists_other = kept_one old new set pulls kept each p (end_at x two.high) two.high_leads.0 h two.high_leads.1;
-  into_one = two.low_leads.2;
-  into_other = two.high_leads.2;
-}
-
 leaves : (old new : Wiring) (node : ℕ) (pulls kept : List Cable) (set core : ℕ) → set < 2 ^ 63 → IsCertificate old node pulls kept → ArePulled old new pulls → IsComponent old node set → IsCore new set core → (x : ℕ) → Holds core x → ⊥
 leaves old new node pulls kept set core small k p is is_core x h =
-    let same = one_component old node k.component set k.of_node is in
-    let each : HoldsEachOnce old set (pulls ++ kept) = same_each old k.component set (pulls ++ kept) same k.each in
-    let join : JoinAll kept node set = λ y hy. k.join y ((same y).1 hy) in
     let part = (is_core x).0 h in
-    no_loop kept set node 63 refl small join (k.count ∙ same_size k.component set 63 same) part.0 x part.3
-    (λ y hy. two_kept old new set pulls kept part.0 y each p (part.1 y hy) (part.2 y hy))
+    no_loop_left old new node pulls kept set part.0 x small k
+    (record { within = λ a b e. ((p.left a b).0 e).0; gone = λ a b e l. ((p.left a b).0 e).1 l })
+    is part.1 part.2 part.3
 
 pub returns-clause-no_core : goal.returns-clause-no_core
 returns-clause-no_core c node pulls kept set core small k p is is_core x h = leaves c.args.old.now c.args.new.now node pulls kept set core small k p is is_core x h

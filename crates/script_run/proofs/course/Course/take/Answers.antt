@@ -6,6 +6,6 @@ use Rattle.script_run.proofs.course.Course.take.Goals as goal
 pub returns-then-says_nothing-clause-done : goal.returns-then-says_nothing-clause-done
 returns-then-says_nothing-clause-done c = (
   [],
-  inl (c.says_nothing.ensures c.if-says_nothing.true (delay_of c.args.self.now), refl, refl),
+  inl (c.says_nothing.ensures.nothing c.if-says_nothing.true (delay_of c.args.self.now), refl, refl),
   sym (append-nil c.args.out.now.items),
 )

@@ -1,0 +1,61 @@
+-- How the advice for a script ends.
+use Rattle.std.proofs.Common.{◌≡◌, ℕ, ◌⊎◌, ◌+◌, inl, inr, List, [], ◌++◌, Result, Ok, Err, length, refl, sym, ap, subst}
+use Rattle.std.specs.Prelude.{IfOk, IfErr}
+use Rattle.script_lines.specs.declared.kind.LineStop.{LineStop}
+use Rattle.script_lines.specs.declared.kind.LineStop.TheVariants.{Fault, Memory}
+use Rattle.script_lines.specs.declared.kind.ScriptStop.{ScriptStop}
+use Rattle.script_run.specs.Bus.{Bus}
+use Rattle.script_run.specs.Step.{LineAnswer, Settles}
+use Rattle.script_run.specs.Script.{Stage, Told, bus_of, fault_at, script_lines}
+use Rattle.script_run.specs.Advice.{IsAdvice}
+use Rattle.script_run.specs.Answered.{StopsWith, IsAdviceRefused}
+use Rattle.script_run.specs.codings.Advising.{IsAdvised, EndsWith}
+use Rattle.script_run.specs.codings.Going.{Leaves, LeavesTo, stop_at}
+use Rattle.script_run.specs.codings.Running.{Stops}
+use Rattle.script_run.proofs.Going.{end-fails}
+
+-- what holds of each answer holds of this one
+pub ok-all :
+    {X E : Type 0} (P Q : X → Type 0) → ((x : X) → P x → Q x) → (r : Result X E) → IfOk r P →
+    IfOk r Q
+ok-all P Q all (Ok x) h = all x h
+ok-all P Q all (Err e) h = tt
+
+pub err-all :
+    {X E : Type 0} (P Q : E → Type 0) → ((e : E) → P e → Q e) → (r : Result X E) → IfErr r P →
+    IfErr r Q
+err-all P Q all (Ok x) h = tt
+err-all P Q all (Err e) h = all e h
+
+pub is-advice : (bytes text : List ℕ) → EndsWith bytes text → IsAdvice bytes (Ok text)
+is-advice bytes text e =
+    inr (record { bus = e.0; ran = e.2; answer = Ok (e.1, text); advises = e.3; is = refl })
+
+pub ends-with :
+    (bytes out text : List ℕ) (number : ℕ) (stage : Stage) →
+    ((bus : Bus) → LeavesTo bus bytes out number [] stage) →
+    ((after : Bus) × IsAdvised stage (Ok (after, text))) → EndsWith bytes text
+ends-with bytes out text number stage leaves (after, is) =
+    (is.0, after, (out ++ is.1, leaves is.0 (Ok is.1) (is.1, is.2, refl)), is.3)
+
+pub refused-advice :
+    (bytes out : List ℕ) (number : ℕ) (stage : Stage) (stop : LineStop) (r : ScriptStop) →
+    r ≡ stop_at number stop → number ≡ length (script_lines bytes) + 1 →
+    Leaves bytes out number [] stage → ((bus : Bus) → LeavesTo bus bytes out number [] stage) →
+    Stops (λ a. Settles (bus_of stage) a ⊎ IsAdvised stage a) stop → IsAdviceRefused bytes r
+refused-advice bytes out number stage (Fault kind) r is lines leaves all (inl settles) =
+    subst (IsAdviceRefused bytes) (sym is) (inl (record {
+      fault = fault_at number kind;
+      told_so = end-fails bytes out number stage kind leaves settles;
+      is = refl;
+    }))
+refused-advice bytes out number stage (Fault kind) r is lines leaves all (inr advised) =
+    subst (IsAdviceRefused bytes) (sym is) (inr (record {
+      bus = advised.0;
+      ran = (out ++ advised.1, all advised.0 (Ok advised.1) (advised.1, advised.2, refl));
+      answer = Err kind;
+      advises = advised.3;
+      is = ap (λ (n : ℕ). Err (fault_at n kind)) lines;
+    }))
+refused-advice bytes out number stage (Memory e) r is lines leaves all h =
+    subst (IsAdviceRefused bytes) (sym is) tt
