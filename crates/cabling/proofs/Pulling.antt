@@ -13,7 +13,7 @@ use Rattle.cabling.proofs.Whole.{shared}
 
 -- ---- the cables that are left
 
-was-there : (old new : Wiring) (a b : End) → TakenOut old new a b → (e o : End) → far new e ≡ Some o → far old e ≡ Some o
+pub was-there : (old new : Wiring) (a b : End) → TakenOut old new a b → (e o : End) → far new e ≡ Some o → far old e ≡ Some o
 was-there old new a b t e o h = elim (cases_end e a) [
   | inl is ↦ absurd (none_some (far new e) o (ap (far new) is ∙ t.free_a) h)
   | inr not_a ↦ elim (cases_end e b) [

@@ -158,7 +158,8 @@ same-advices c (x ∷ xs) (y ∷ ys) p q e =
     ∙ ap (λ (zs : List LoopAdvice). y ∷ zs)
     (same-advices c xs ys (All-tail (IsAdviceFor c) x xs p) (All-tail (IsAdviceFor c) y ys q) tail)
 
-same-report : (o : Option Report) (a b : Report) → o ≡ Some a → o ≡ Some b → a ≡ b
+-- a report that is kept is one
+pub same-report : (o : Option Report) (a b : Report) → o ≡ Some a → o ≡ Some b → a ≡ b
 same-report o a b x y = cc
 
 one-advices : (bus : Bus) (r s : LineAnswer) → (x : Advises bus r) → (y : Advises bus s) → x.advices ≡ y.advices

@@ -10,12 +10,13 @@ use Rattle.cabling.specs.NodeSet.{Nodes, Holds, IsWithin, IsEmpty}
 use Rattle.cabling.specs.Component.{IsComponent}
 use Rattle.cabling.specs.Looped.{HasTwo, IsLooped, IsCore}
 use Rattle.cabling.specs.Change.{TakenOut}
-use Rattle.cabling.proofs.Ends.{cases_end, none_some, same_length}
+use Rattle.cabling.proofs.Ends.{none_some, same_length}
 use Rattle.cabling.proofs.Whole.{shared}
+use Rattle.cabling.proofs.Pulling.{was-there}
 use Rattle.cable_world.specs.World.{CableWorld}
 use Rattle.cable_world.specs.Turn.{turn, turns_after}
 use Rattle.cable_world.specs.Outcome.{HasNoLoop as HasNoLoopIn}
-use Rattle.cable_world.proofs.turns.ByNumber.{cabling-after}
+use Rattle.convergence.proofs.turns.Flush.{after-cabling}
 use Rattle.loop_advice.specs.Cables.{Lists, IsSame}
 use Rattle.loop_advice.proofs.Listed.{lists_left, lists_right}
 use Rattle.loop_advice.proofs.Marking.{cable}
@@ -39,7 +40,7 @@ use Rattle.script_run.proofs.Settled.{reported-pullable}
 use Rattle.script_run.proofs.told.Cables.{IsCabled}
 use Rattle.script_run.proofs.told.Commands.{bus-in}
 use Rattle.script_run.proofs.told.Lines.{Meet, meet, cabled}
-use Rattle.script_run.proofs.told.Advice.{one-bus, no-fault}
+use Rattle.script_run.proofs.told.Advice.{one-bus, no-fault, same-report}
 use Rattle.script_run.specs.Script.{Stage, bus_of, ends_with, script_lines}
 
 -- ---- what settling leaves
@@ -63,26 +64,12 @@ has-settled bus after text = go (nat_lt 2000000 (bus.world.turns + quiet_turns_o
       last = ap (λ (n : Notes). n.report) is.3;
     }
 
-same-cables : (k : ℕ) (w : CableWorld) → (turns_after k w).cabling ≡ w.cabling
-unfolding turns_after
-same-cables zero w = refl
-same-cables (suc k) w = same-cables k (turn w) ∙ cabling-after w
-
 -- ---- what pulls leave
 
 -- after these cables were pulled
 record Pulled (old new : Wiring) (cables : List Cable) : Type 0 where
   without : Without old new cables
   size : length new ≡ length old
-
-was-there : (old new : Wiring) (a b : End) → TakenOut old new a b → (e o : End) → far new e ≡ Some o → far old e ≡ Some o
-was-there old new a b t e o h = elim (cases_end e a) [
-  | inl is ↦ absurd (none_some (far new e) o (ap (far new) is ∙ t.free_a) h)
-  | inr not_a ↦ elim (cases_end e b) [
-    | inl is ↦ absurd (none_some (far new e) o (ap (far new) is ∙ t.free_b) h)
-    | inr not_b ↦ sym (t.others.others e not_a not_b) ∙ h
-  ]
-]
 
 -- the cable that was taken out is gone
 is-gone : (old new : Wiring) (x : Cable) (a b : End) → TakenOut old new x.a x.b → far new a ≡ Some b → IsSame (cable a b) x → ⊥
@@ -249,9 +236,6 @@ reported-now trees bytes bus ran = go (meet trees (EndsOn bus) (EndsOn bus) byte
         let s = has-settled (bus_of m.stage) bus m.ends.0 m.ends.1 in
         (s.report, s.last, s.is)
 
-one-report : (o : Option Report) (a b : Report) → o ≡ Some a → o ≡ Some b → a ≡ b
-one-report o a b x y = cc
-
 -- the second settle of an advice
 settled-again :
     (out after : Bus) (before text : List ℕ) (settled : LineAnswer) → Settles out settled →
@@ -265,17 +249,17 @@ pub no-loop : NoListHasTwoTrees → AdvicesLeaveNoLoop
 no-loop trees bytes text bus after last ran a last_is =
     let first = reported-now trees bytes bus ran in
     let cables : IsCabled bus.world = (one-bus trees bytes bus bus ran ran).1 in
-    let same : first.0 ≡ a.report = one-report bus.notes.report first.0 a.report first.1 a.last in
+    let same : first.0 ≡ a.report = same-report bus.notes.report first.0 a.report first.1 a.last in
     let is : IsReport bus.world a.report = subst (IsReport bus.world) same first.2 in
     let out : Pulled bus.world.cabling a.pulled.world.cabling (all_pulls a.advices) =
     pulled bus a.pulled (all_pulls a.advices) cables (reported-pullable bus.world a.report a.advices cables is a.are) a.pulls in
     let again = settled-again a.pulled after (advice_text bus.notes.names a.advices) text a.settled a.settles a.answer_is in
     let s = has-settled a.pulled after again.0 again.1 in
     let cabling : after.world.cabling ≡ a.pulled.world.cabling =
-    ap (λ (w : CableWorld). w.cabling) s.world ∙ same-cables (quiet_turns_of a.pulled.world) a.pulled.world in
+    ap (λ (w : CableWorld). w.cabling) s.world ∙ after-cabling (quiet_turns_of a.pulled.world) a.pulled.world in
     no-loop-report bus.world after.world a.report last a.advices cables is a.are
     (subst (λ (c : Wiring). Pulled bus.world.cabling c (all_pulls a.advices)) (sym cabling) out)
-    (subst (IsReport after.world) (one-report after.notes.report s.report last s.last last_is) s.is)
+    (subst (IsReport after.world) (same-report after.notes.report s.report last s.last last_is) s.is)
 
 -- the text of an advice is one without a loop
 pub without-loop : AdvicesLeaveNoLoop → (bytes text : List ℕ) → EndsWith bytes text → EndsWithoutLoop bytes text
