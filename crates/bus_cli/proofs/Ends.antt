@@ -16,7 +16,8 @@ use Rattle.bus_cli.specs.codings.Reading.{Reads, status_with, text_with}
 use Rattle.bus_cli.specs.Answer.{Answers, Outcome, shown, refused, rom, rom_refused, ran, advised, made, no_form, MadeTells, HasOutcome, HasText, status_of}
 use Rattle.bus_cli.specs.OneOutcome.{NoInputHasTwoAnswers}
 use Rattle.script_run.specs.Script.{IsTold}
-use Rattle.script_run.specs.Advice.{IsAdvice}
+use Rattle.script_run.specs.Advice.{IsAdvice, EndsWithoutLoop}
+use Rattle.script_run.specs.OneAdvice.{AdvicesEndWithoutLoop}
 use Rattle.script_run.specs.EachReport.{EachReportIsSettled, ReportsAreSettled}
 use Rattle.script_run.specs.Summary.{summary}
 use Rattle.bus_cli.proofs.Forms.{one_form}
@@ -140,6 +141,14 @@ advice_outcome words bytes no_form text asks has zero is = absurd cc
 
 pub advice_answer : (words : List (String Global)) (bytes text : List ℕ) → Asks words Advice → Answers words bytes 0 text → IsAdvice bytes (Ok text)
 advice_answer words bytes text asks is = advice_outcome words bytes is.outcome text asks is.has is.status_is is.text_is
+
+-- the text of an advice that was written has a report without a loop
+pub advice_written : AdvicesEndWithoutLoop → (words : List (String Global)) (left old new : Option (List ℕ)) (read text : List ℕ) (status : ℕ) → IfSome left (λ bytes. read ≡ bytes) → Answers words read status text → status ≡ 0 → Asks words Advice → Appends old new text →
+    IfSome left (λ bytes. (x : List ℕ) × EndsWithoutLoop bytes x × Appends old new x)
+advice_written none words None old new read text status all answers zero asks whole = tt
+advice_written none words (Some bytes) old new read text status all answers zero asks whole =
+    let here : Answers words bytes 0 text = subst (λ (s : ℕ). Answers words bytes s text) zero (subst (λ (b : List ℕ). Answers words b status text) all answers) in
+    (text, none bytes text (advice_answer words bytes text asks here), whole)
 
 -- ---- reports
 

@@ -134,8 +134,8 @@ pub(crate) fn read_answer<S: Source>(
             Ok(answer_to_script(alloc, &script)?)
         }
         Form::Advice => {
-            let script = read_all(alloc, source, MAX_INPUT)?;
-            Ok(answer_to_advice(alloc, &script)?)
+            let bytes = read_all(alloc, source, MAX_INPUT)?;
+            Ok(answer_to_advice(alloc, &bytes)?)
         }
         Form::Make { nodes, seed } => Ok(answer_to_make(alloc, nodes, seed)?),
     }

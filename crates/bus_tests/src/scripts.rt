@@ -114,10 +114,10 @@ const ADVISED: &[u8] =
 #[test]
 fn advice(rt: HostRuntime) -> Result<(), Fail> {
     let alloc = rt.alloc();
-    let Ok(text) = advise_script(alloc, DOUBLED) else {
-        return Err(Fail);
-    };
-    assert_eq!(rt; text.as_slice(), ADVISED);
+    match advise_script(alloc, DOUBLED) {
+        Ok(text) => assert_eq!(rt; text.as_slice(), ADVISED),
+        Err(_) => assert!(rt; false),
+    }
     for (script, status, text) in [
         (DOUBLED, 0, ADVISED),
         (

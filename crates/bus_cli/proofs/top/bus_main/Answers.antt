@@ -1,8 +1,8 @@
-use Rattle.std.proofs.Common.{◌≡◌, refl, ap, Err}
+use Rattle.std.proofs.Common.{◌≡◌, ◌∙◌, refl, sym, ap, Err}
 use Rattle.bus_cli.specs.declared.form.Form.TheVariants.{Capture}
 use Rattle.bus_cli.specs.declared.form.CaptureForm.TheVariants.{Read}
 use Rattle.bus_cli.proofs.Forms.{few_nodes, is_unread}
-use Rattle.bus_cli.proofs.Ends.{all_settled, or_else, part_written, whole_written, taken_surely, exact_status, no_form_exact, no_form_complete}
+use Rattle.bus_cli.proofs.Ends.{all_settled, or_else, part_written, whole_written, taken_surely, advice_written, exact_status, no_form_exact, no_form_complete}
 use Rattle.bus_cli.proofs.top.bus_main.Goals as goal
 
 pub returns-in-Err-Memory-clause-memory : goal.returns-in-Err-Memory-clause-memory
@@ -87,6 +87,14 @@ returns-clause-sure g c =
     let answers = told.1.1 c.args.words.now asks in
     let sure = rw c.text.ensures at c.in-Err.ensures.sure in
     taken_surely c.one_outcome.ensures.answer _ _ _ _ _ (g.K.Sink.surely_takes c.args.sink.now) _ told.1.0 answers (λ k. (sure k).1)
+
+pub returns-in-Ok-write_whole-clause-no_loop : goal.returns-in-Ok-write_whole-clause-no_loop
+returns-in-Ok-write_whole-clause-no_loop g c = λ zero asks.
+    let told = c.in-Ok.ensures.answer in
+    let form = (c.in-Some.ensures c.in-Some.form).0 refl in
+    let answers = told.1.1 c.args.words.now form in
+    let written = rw c.text.ensures at c.in-Ok-write_whole.ensures.ok in
+    advice_written c.advices_leave_no_loop.ensures.text _ _ _ _ _ _ _ told.1.0 answers (sym c.status.ensures ∙ zero) asks written
 
 pub returns-in-Ok-write_whole-clause-settled : goal.returns-in-Ok-write_whole-clause-settled
 returns-in-Ok-write_whole-clause-settled g c = λ done asks. all_settled c.reports_are_settled.ensures (g.S.Source.left c.args.source.now)
