@@ -1,5 +1,5 @@
 -- Scripts and what the definitions tell of them, worked out by the check.
-use Rattle.std.proofs.Common.{◌≡◌, ◌++◌, ℕ, zero, suc, ◌+◌, Bool, true, false, List, [], ◌∷◌, Option, Some, None, codes, length, refl, sym, subst, ap, ◌∙◌, arith}
+use Rattle.std.proofs.Common.{◌≡◌, ◌++◌, ℕ, ◌+◌, Bool, true, false, List, [], ◌∷◌, Option, Some, None, codes, length, refl, sym, subst, ap, ◌∙◌, arith}
 use Rattle.std.specs.Prelude.{Result, Ok, Err, MatchBool, nat_lt}
 use Rattle.std.specs.Fmt.{digits}
 use Rattle.std.specs.Str.Lines.{strip_carriage_return}
