@@ -1,5 +1,5 @@
 -- What each report of a script says of its bus, spelt out.
-use Rattle.std.specs.Prelude.{◌≡◌, ◌≢◌, ◌⊎◌, ℕ, ◌<◌, ◌≤◌, true, Bool, List, [], ◌∷◌, Any, Option, None, Some, IsSome, IsSomeAnd, Result, Ok, Err, length, slice_get}
+use Rattle.std.specs.Prelude.{◌≡◌, ◌≢◌, ◌⊎◌, ℕ, ◌<◌, ◌≤◌, true, List, [], ◌∷◌, Any, Option, None, Some, IsSome, IsSomeAnd, Result, Ok, Err, length, slice_get}
 use Rattle.topology_stack.specs.Tree.{Tree, emits}
 use Rattle.cabling.specs.Wiring.{far}
 use Rattle.cabling.specs.NodeSet.{Holds, IsEmpty}
@@ -20,7 +20,7 @@ use Rattle.script_lines.specs.declared.command.Command.TheVariants.{Settle, Plan
 use Rattle.script_lines.specs.Line.{Reads}
 use Rattle.script_run.specs.Bus.{Bus}
 use Rattle.script_run.specs.Step.{Settles}
-use Rattle.script_run.specs.Script.{Stage, fresh, running, StageAnswer, bus_of, delay_of, Follows, script_lines}
+use Rattle.script_run.specs.Script.{Stage, fresh, running, bus_of, delay_of, Follows, script_lines}
 
 -- ---- the three things that a component may have come to
 

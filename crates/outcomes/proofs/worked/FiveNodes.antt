@@ -79,12 +79,28 @@ line-told = refl
 line-settled : IsTree (turns_after 275 line) 31 2 line_tree
 unfolding group
 line-settled =
-    tree-settled (turns_after 275 line) 31 2 line_tree line_cables five_attrs line_rows line-cables line-attrs line-told refl refl
-    (refl, refl, ((λ e. absurd cc), (refl, refl, ((λ e. absurd cc), (refl, refl, (refl, tt)), (refl, tt))),
-    ((λ e. absurd cc), (refl, refl, (refl, ((λ e. absurd cc), (refl, refl, (refl, tt)), tt))), tt)))
-    refl
-    (((λ ne. refl), refl, refl), (((λ ne. refl), refl, refl), (((λ ne. refl), refl, refl), (((λ ne. refl), refl, refl),
-    (((λ ne. absurd (ne refl)), refl, refl), tt)))))
+    tree-settled (turns_after 275 line) 31 2 line_tree line_cables five_attrs line_rows line-cables line-attrs line-told refl refl (
+      refl,
+      refl,
+      (
+        (λ e. absurd cc),
+        (refl, refl, ((λ e. absurd cc), (refl, refl, (refl, tt)), (refl, tt))),
+        ((λ e. absurd cc), (refl, refl, (refl, ((λ e. absurd cc), (refl, refl, (refl, tt)), tt))), tt),
+      ),
+    )
+    refl (
+      ((λ ne. refl), refl, refl),
+      (
+        ((λ ne. refl), refl, refl),
+        (
+          ((λ ne. refl), refl, refl),
+          (
+            ((λ ne. refl), refl, refl),
+            (((λ ne. absurd (ne refl)), refl, refl), tt),
+          ),
+        ),
+      ),
+    )
 
 -- ---- the star
 
@@ -128,9 +144,29 @@ star-told = refl
 star-settled : IsTree (turns_after 272 star) 31 0 star_tree
 unfolding group
 star-settled =
-    tree-settled (turns_after 272 star) 31 0 star_tree star_cables five_attrs star_rows star-cables star-attrs star-told refl refl
-    (refl, refl, ((λ e. absurd cc), (refl, refl, (refl, tt)), ((λ e. absurd cc), (refl, refl, (refl, tt)),
-    ((λ e. absurd cc), (refl, refl, (refl, tt)), ((λ e. absurd cc), (refl, refl, (refl, tt)), tt)))))
-    refl
-    (((λ ne. refl), refl, refl), (((λ ne. refl), refl, refl), (((λ ne. refl), refl, refl), (((λ ne. refl), refl, refl),
-    (((λ ne. absurd (ne refl)), refl, refl), tt)))))
+    tree-settled (turns_after 272 star) 31 0 star_tree star_cables five_attrs star_rows star-cables star-attrs star-told refl refl (
+      refl,
+      refl,
+      (
+        (λ e. absurd cc),
+        (refl, refl, (refl, tt)),
+        (
+          (λ e. absurd cc),
+          (refl, refl, (refl, tt)),
+          ((λ e. absurd cc), (refl, refl, (refl, tt)), ((λ e. absurd cc), (refl, refl, (refl, tt)), tt)),
+        ),
+      ),
+    )
+    refl (
+      ((λ ne. refl), refl, refl),
+      (
+        ((λ ne. refl), refl, refl),
+        (
+          ((λ ne. refl), refl, refl),
+          (
+            ((λ ne. refl), refl, refl),
+            (((λ ne. absurd (ne refl)), refl, refl), tt),
+          ),
+        ),
+      ),
+    )

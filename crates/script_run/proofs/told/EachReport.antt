@@ -1,9 +1,8 @@
 -- Each report of a script is one of a settled bus.
-use Rattle.std.proofs.Common.{◌≡◌, ◌⊎◌, ◌==◌, inl, inr, ℕ, ◌<◌, Bool, true, false, List, [], ◌∷◌, Option, None, Some, slice_get, refl, sym, ◌∙◌, ap, subst}
-use Rattle.std.specs.Prelude.{Any, Result, Ok, Err, MatchBool, nat_lt, ◌+◌}
+use Rattle.std.proofs.Common.{◌≡◌, ◌⊎◌, ◌==◌, inl, inr, ℕ, Bool, true, false, List, [], ◌∷◌, Option, None, Some, slice_get, sym, ◌∙◌, ap, subst}
+use Rattle.std.specs.Prelude.{Result, Ok, Err, MatchBool, nat_lt, ◌+◌}
 use Rattle.std.proofs.lemmas.List.Elements.{All-get_or}
 use Rattle.topology_stack.specs.OneAnswer.{NoListHasTwoTrees}
-use Rattle.cabling.specs.NodeSet.{Holds}
 use Rattle.cabling.proofs.Whole.{shared}
 use Rattle.cable_world.specs.World.{CableWorld, NodeNumber, NodeSet}
 use Rattle.cable_world.specs.Outcome.{Shows, DrewAlike}
@@ -18,11 +17,11 @@ use Rattle.script_lines.specs.declared.command.Command.{Command}
 use Rattle.script_lines.specs.declared.command.Command.TheVariants.{Settle, Plan}
 use Rattle.script_lines.specs.Line.{Reads}
 use Rattle.script_run.specs.Bus.{Notes, Bus, Reported, node_named, tree_with, values_at}
-use Rattle.script_run.specs.Step.{LineAnswer, AtNode, AtTree, AtManager, HasManager, Settled, Within, Reports, Settles, Plans, PlansAs, Does, id_of, notes_after_report}
-use Rattle.script_run.specs.Script.{Stage, fresh, declaring, running, StageAnswer, bus_of, delay_of, onwards, Follows, script_lines}
-use Rattle.script_run.specs.EachReport.{CameTo, EachComponentCameTo, WasReported, ReportedBy, LineMakes, LinesMake, ReportsAreSettled}
+use Rattle.script_run.specs.Step.{LineAnswer, AtNode, AtTree, AtManager, Settled, Within, Reports, Settles, Plans, PlansAs, Does, id_of}
+use Rattle.script_run.specs.Script.{Stage, fresh, running, StageAnswer, bus_of, delay_of, onwards, Follows, script_lines}
+use Rattle.script_run.specs.EachReport.{CameTo, EachComponentCameTo, ReportedBy, LineMakes, LinesMake, ReportsAreSettled}
 use Rattle.script_run.proofs.told.Cables.{IsCabled}
-use Rattle.script_run.proofs.told.Commands.{LeavesCabled, does, settles}
+use Rattle.script_run.proofs.told.Commands.{settles}
 use Rattle.script_run.proofs.told.Lines.{Fits, cabled, follows}
 use Rattle.script_run.proofs.told.Ports.{read-ports}
 
