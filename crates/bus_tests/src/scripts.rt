@@ -107,6 +107,7 @@ fn refused_scripts(rt: HostRuntime) -> Result<(), Fail> {
 
 /// Two nodes with two cables, and what is advised.
 const DOUBLED: &[u8] = b"node a 3 coins 0\nnode b 3 coins 1\nplug a 0 b 0\nplug a 1 b 1\n";
+
 const ADVISED: &[u8] =
     b"advice a b\npull a 1 b 1\nleft 1\nreport 2 turn 16256\ncomponent rounds 1 changed 8427 nodes a b\ntree root b\nnode 0 link 1 gap 63 speed 2 contender 0 power 0 initiated 1 ports ^1 . . name a\nnode 1 link 1 gap 63 speed 2 contender 0 power 0 initiated 1 ports v0 . . name b\nnodes 2 root 1 irm none\n";
 
