@@ -56,10 +56,10 @@ apart :
     (Lists (y ∷ []) x → ⊥) → (y.a ≡ x.a → ⊥) × (y.a ≡ x.b → ⊥)
 apart c x y is at_x at_y out = (
   (λ e. out (inl (inl (same x y (sym e)
-    (one_other (far c x.a) x.b y.b at_x (ap (far c) (sym e) ∙ at_y)))))),
+      (one_other (far c x.a) x.b y.b at_x (ap (far c) (sym e) ∙ at_y)))))),
   (λ e. out (inl (inr (same x (turned y)
-    (one_other (far c x.b) x.a y.b (is.both_ways x.a x.b at_x) (ap (far c) (sym e) ∙ at_y))
-    (sym e))))),
+      (one_other (far c x.b) x.a y.b (is.both_ways x.a x.b at_x) (ap (far c) (sym e) ∙ at_y))
+      (sym e))))),
 )
 
 still-pullable :

@@ -29,7 +29,7 @@ fn push_advice(
     requires { IsPartOf cabling.now part.now }
     ensures { (sets : List ℕ) → AreAdvices cabling.now sets list.old.items →
         OnOk result (AreAdvices cabling.now
-            (sets ++ if_loop part.now.outcome part.now.nodes) list.new.items) }
+        (sets ++ if_loop part.now.outcome part.now.nodes) list.new.items) }
 {
     components_are_whole(cabling);
     let Outcome::Loop { .. } = part.outcome else {
