@@ -1,17 +1,16 @@
 -- An advice, component by component.
-use Rattle.std.proofs.Common.{◌≡◌, ℕ, ◌<◌, suc, inl, inr, List, [], ◌∷◌, ◌++◌, length, map, refl, sym, ◌∙◌, ap, subst, append-nil, append_assoc, arith}
+use Rattle.std.proofs.Common.{◌≡◌, ℕ, suc, inl, inr, List, [], ◌∷◌, ◌++◌, map, refl, sym, ◌∙◌, ap, subst, append-nil, append_assoc, arith}
 use Rattle.std.proofs.lemmas.List.{map-append}
 use Rattle.std.specs.Prelude.{All, AllPairs, Some}
 use Rattle.std.proofs.lemmas.List.Elements.{All-cons, All-nil, All-push, All-tail}
 use Rattle.cabling.specs.declared.cable.Cable.{Cable}
 use Rattle.cabling.specs.Wiring.{Wiring, IsCabling, far}
 use Rattle.cabling.specs.NodeSet.{Nodes, Holds}
-use Rattle.cabling.specs.Component.{IsComponent}
 use Rattle.cabling.proofs.Cores.{component_within}
 use Rattle.cabling.proofs.Whole.{shared}
 use Rattle.loop_advice.specs.Cables.{Lists, HasNoneTwice, IsCableOf}
 use Rattle.loop_advice.proofs.Collecting.{rising_once}
-use Rattle.loop_advice.proofs.Listed.{lists_append, lists_left, lists_right}
+use Rattle.loop_advice.proofs.Listed.{lists_append, lists_left}
 use Rattle.settle.specs.declared.report.Outcome.{Outcome}
 use Rattle.settle.specs.declared.report.Outcome.TheVariants as reported
 use Rattle.settle.specs.declared.report.Part.{Part}

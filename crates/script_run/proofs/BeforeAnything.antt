@@ -1,5 +1,5 @@
 -- A fault of a command that asks the manager comes before whatever the command does.
-use Rattle.std.proofs.Common.{◌≡◌, ℕ, List, [], ◌∷◌, Option, None, Some, Result, Ok, Err, IfErr}
+use Rattle.std.proofs.Common.{ℕ, List, Option, None, Some, Result, Ok, Err, IfErr}
 use Rattle.script_lines.specs.declared.kind.Kind.{Kind}
 use Rattle.script_lines.specs.declared.kind.LineStop.{LineStop}
 use Rattle.script_lines.specs.declared.kind.LineStop.TheVariants.{Fault, Memory}

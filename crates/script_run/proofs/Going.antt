@@ -1,15 +1,13 @@
 -- The lines that were taken, and those that are left.
-use Rattle.std.proofs.Common.{◌≡◌, ◌⊎◌, inl, inr, ℕ, ◌+◌, List, [], ◌∷◌, ◌++◌, refl, sym, ap, subst, ◌∙◌, append_assoc, length, arith}
-use Rattle.std.specs.Prelude.{Option, None, Some, Result, Ok, Err}
+use Rattle.std.proofs.Common.{◌≡◌, inl, inr, ℕ, ◌+◌, List, [], ◌∷◌, ◌++◌, refl, sym, ap, subst, ◌∙◌, append_assoc, length, arith}
+use Rattle.std.specs.Prelude.{None, Some, Ok, Err}
 use Rattle.script_lines.specs.declared.kind.Kind.{Kind}
 use Rattle.script_lines.specs.declared.kind.LineStop.{LineStop}
 use Rattle.script_lines.specs.declared.kind.LineStop.TheVariants.{Fault, Memory}
 use Rattle.script_lines.specs.declared.kind.ScriptStop.{ScriptStop}
 use Rattle.script_lines.specs.declared.kind.ScriptStop.TheVariants as script
-use Rattle.script_lines.specs.declared.command.Command.{Command}
-use Rattle.script_lines.specs.Line.{Reads}
 use Rattle.script_run.specs.Step.{LineAnswer, Settles}
-use Rattle.script_run.specs.Script.{Stage, StageAnswer, fresh, Told, bus_of, delay_of, behind, fault_at, script_lines, Follows, TellsBy, Tells, IsTold}
+use Rattle.script_run.specs.Script.{Stage, fresh, Told, bus_of, behind, fault_at, script_lines, TellsBy, Tells, IsTold}
 use Rattle.script_run.specs.Answered.{StopsWith, IsRefused, IsOnlyFault}
 use Rattle.script_run.specs.codings.Running.{Stops}
 use Rattle.script_run.specs.codings.Going.{LineLeads, LineFails, IfFault, LeavesBy, Leaves, stop_at}

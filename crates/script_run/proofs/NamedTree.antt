@@ -1,5 +1,5 @@
 -- The tree in which a node stands settled has names.
-use Rattle.std.proofs.Common.{◌≡◌, ℕ, suc, ◌<◌, ◌==◌, Bool, true, false, cond, List, [], ◌∷◌, find, length, All, Option, None, Some, IfSome, refl, sym, subst, ap, arith}
+use Rattle.std.proofs.Common.{◌≡◌, ℕ, suc, ◌==◌, Bool, true, false, cond, List, [], ◌∷◌, find, All, Option, None, Some, IfSome, refl, subst, arith}
 use Rattle.std.specs.Int.{bit_at}
 use Rattle.std.specs.Option.{option_and_then}
 use Rattle.settle.specs.declared.report.Outcome.{Outcome}

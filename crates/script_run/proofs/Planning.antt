@@ -1,12 +1,12 @@
 -- What a plan asks of the tree that stands.
-use Rattle.std.proofs.Common.{◌≡◌, ℕ, ◌<◌, length, slice_get, All, get_or, Option, None, Some, List, refl, sym, ◌∙◌, subst, ap, arith}
+use Rattle.std.proofs.Common.{◌≡◌, ℕ, ◌<◌, length, slice_get, All, get_or, Option, None, Some, List, sym, ◌∙◌, subst, ap, arith}
 use Rattle.std.specs.Option.{option_map}
 use Rattle.std.proofs.lemmas.List.{get_or_default}
 use Rattle.std.proofs.lemmas.Option.{slice_get_within, slice_get-get_or}
 use Rattle.topology_stack.specs.Tree.{Tree, walk, emits, IsBusTree}
 use Rattle.topology_stack.specs.Elect.{elected}
 use Rattle.topology_stack.specs.OneAnswer.{NoListHasTwoTrees}
-use Rattle.cabling.specs.NodeSet.{Holds, IsEmpty}
+use Rattle.cabling.specs.NodeSet.{Holds}
 use Rattle.cabling.specs.Component.{IsComponent}
 use Rattle.cabling.specs.Looped.{IsCoreOf}
 use Rattle.cabling.specs.Labels.{labels}
@@ -17,7 +17,7 @@ use Rattle.cabling.proofs.Small.{Loopless, tree_within, tree_once}
 use Rattle.cabling.proofs.Whole.{shared, seen_loopless}
 use Rattle.cable_world.specs.World.{CableWorld}
 use Rattle.cable_world.specs.Lawful.{IsLawful}
-use Rattle.cable_world.specs.Outcome.{IsTree, Shows, attrs_now}
+use Rattle.cable_world.specs.Outcome.{attrs_now}
 use Rattle.cable_world.proofs.Options.{some-of, some-at}
 use Rattle.outcomes.proofs.walks.Marked.{in-read, one-place}
 use Rattle.port_state.specs.Machine.{PortNode}

@@ -1,11 +1,11 @@
 -- What comes of a plan, by what was asked before.
-use Rattle.std.proofs.Common.{◌≡◌, ◌==◌, ◌+◌, ◌++◌, ℕ, Bool, true, false, List, Option, None, Some, Err, sym, ◌∙◌, ap, subst}
+use Rattle.std.proofs.Common.{◌≡◌, ◌==◌, ◌+◌, ◌++◌, ℕ, Bool, true, false, List, Option, Some, Err, sym, ◌∙◌, ap, subst}
 use Rattle.std.specs.Prelude.{MatchBool, nat_lt}
 use Rattle.root_plan.specs.declared.choice.RootPlan.{RootPlan}
 use Rattle.settle.specs.Report.{quiet_turns_of}
 use Rattle.settle_plan.specs.Planned.{HasId}
 use Rattle.script_lines.specs.declared.kind.Kind.{Kind}
-use Rattle.script_run.specs.Bus.{Bus, Reported, node_named, tree_with, values_at}
+use Rattle.script_run.specs.Bus.{Bus, Reported, tree_with, values_at}
 use Rattle.script_run.specs.Step.{LineAnswer, HasManager, AtNode, AtTree, AtManager, Managed, CarriesOut, Plans, PlansAs, Settled, Within, id_of, node_with}
 use Rattle.script_run.specs.codings.Running.{IsAsked}
 use Rattle.script_run.specs.codings.Standing.{IsPlanned, IsSent}

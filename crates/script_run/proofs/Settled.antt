@@ -1,6 +1,6 @@
 -- What is advised on a bus that has settled.
 use Rattle.std.proofs.Common.{◌≡◌, ℕ, Option, None, Some, List, refl}
-use Rattle.std.specs.Prelude.{All, IfSome, IsSomeAnd, Ok, Err}
+use Rattle.std.specs.Prelude.{All, IfSome, IsSomeAnd, Err}
 use Rattle.cable_world.specs.World.{CableWorld}
 use Rattle.settle.specs.declared.report.Part.{Part}
 use Rattle.settle.specs.declared.report.Report.{Report}

@@ -18,7 +18,6 @@ use Rattle.cabling.specs.Sees.{Sees, numbers, SmallTree}
 use Rattle.cabling.proofs.OneTree.{one-tree}
 use Rattle.cabling.proofs.Small.{Loopless, small_tree}
 use Rattle.cabling.proofs.Whole.{shared, seen_loopless}
-use Rattle.port_state.specs.Machine.{PortNode}
 use Rattle.cable_world.specs.World.{CableWorld}
 use Rattle.cable_world.specs.Turn.{turn, turns_after}
 use Rattle.cable_world.specs.Act.{hold, hold_fault}
@@ -36,7 +35,7 @@ use Rattle.settle.specs.declared.report.Report.{Report}
 use Rattle.settle.specs.Report.{IsPart, IsReport}
 use Rattle.settle.specs.Reported.{IsReported, ReportsTree}
 use Rattle.settle.proofs.Relabelled.{one-order}
-use Rattle.settle.proofs.SameNodes.{SameNodes, same-component, same-tree}
+use Rattle.settle.proofs.SameNodes.{same-component, same-tree}
 use Rattle.script_run.specs.Bus.{Notes, Reported, tree_of, part_with, tree_with}
 use Rattle.script_run.specs.codings.Standing.{StandsSince, StandsAs}
 

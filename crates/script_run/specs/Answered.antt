@@ -1,5 +1,5 @@
 -- What `run_script` and `advise_script` answer.
-use Rattle.std.specs.Prelude.{◌≡◌, ℕ, List, Result, Ok, Err}
+use Rattle.std.specs.Prelude.{◌≡◌, ℕ, List, Err}
 use Rattle.script_lines.specs.declared.kind.ScriptStop.{ScriptStop}
 use Rattle.script_lines.specs.declared.kind.ScriptStop.TheVariants.{Fault, Memory}
 use Rattle.script_run.specs.Script.{Told, IsTold}

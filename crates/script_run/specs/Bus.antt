@@ -1,5 +1,5 @@
 -- The bus of a script between two of its lines, and what the script keeps beside it.
-use Rattle.std.specs.Prelude.{◌≡◌, ℕ, ◌==◌, Bool, List, [], ◌∷◌, length, find, map, replicate, slice_get, slice_set, slice_index_or, position, Option, None, Some, if◌then◌else◌}
+use Rattle.std.specs.Prelude.{ℕ, ◌==◌, Bool, List, length, find, replicate, slice_get, slice_set, slice_index_or, position, Option, None, Some, if◌then◌else◌}
 use Rattle.std.specs.Int.{bit_at}
 use Rattle.std.specs.List.{list_any}
 use Rattle.std.specs.Option.{option_and_then}

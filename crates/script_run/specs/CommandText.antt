@@ -1,8 +1,8 @@
 -- What commands print.
-use Rattle.std.specs.Prelude.{ℕ, ◌==◌, List, [], ◌∷◌, ◌++◌, codes, Option, Some, None, if◌then◌else◌}
+use Rattle.std.specs.Prelude.{ℕ, ◌==◌, List, [], ◌++◌, codes, if◌then◌else◌}
 use Rattle.topology_stack.specs.Hex.{hex}
 use Rattle.resource_manager.specs.declared.access.Answer.{Answer}
-use Rattle.resource_manager.specs.declared.access.Answer.TheVariants.{Replied, Saw, Done, Refused}
+use Rattle.resource_manager.specs.declared.access.Answer.TheVariants.{Replied, Done, Refused}
 use Rattle.resource_manager.specs.declared.grant.GrantFault.TheVariants.{NoChannel, NoBandwidth, Changed}
 use Rattle.script_run.specs.ReportText.{numbered}
 

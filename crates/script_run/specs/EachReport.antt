@@ -1,18 +1,19 @@
 -- What each report of a script says of its bus, spelt out.
-use Rattle.std.specs.Prelude.{◌≡◌, ◌≢◌, ◌⊎◌, ℕ, ◌<◌, ◌≤◌, List, [], ◌∷◌, Any, Option, None, Some, IsSome, IsSomeAnd, Result, Ok, Err, length, slice_get}
+use Rattle.std.specs.Prelude.{◌≡◌, ◌≢◌, ◌⊎◌, ℕ, ◌<◌, ◌≤◌, true, List, [], ◌∷◌, Any, Option, None, Some, IsSome, IsSomeAnd, Result, Ok, Err, length, slice_get}
 use Rattle.topology_stack.specs.Tree.{Tree, emits}
 use Rattle.cabling.specs.Wiring.{far}
-use Rattle.cabling.specs.NodeSet.{Holds}
+use Rattle.cabling.specs.NodeSet.{Holds, IsEmpty}
 use Rattle.cabling.specs.Component.{IsComponent}
 use Rattle.cabling.specs.Labels.{labels}
+use Rattle.cabling.specs.Looped.{IsCore}
 use Rattle.cabling.specs.Sees.{Sees, numbers}
+use Rattle.port_state.specs.declared.signal.Phase.TheVariants.{TreeStart}
 use Rattle.cable_world.specs.World.{CableWorld, NodeNumber, NodeSet}
 use Rattle.cable_world.specs.Outcome.{AtNode, Shows, attrs_now}
 use Rattle.settle.specs.declared.report.Outcome.{Outcome}
 use Rattle.settle.specs.declared.report.Outcome.TheVariants as reported
 use Rattle.settle.specs.declared.report.Part.{Part}
 use Rattle.settle.specs.declared.report.Report.{Report}
-use Rattle.settle.specs.Reported.{ReportsLoop}
 use Rattle.script_lines.specs.declared.kind.Kind.{Kind}
 use Rattle.script_lines.specs.declared.command.Command.{Command}
 use Rattle.script_lines.specs.declared.command.Command.TheVariants.{Settle, Plan}
@@ -22,6 +23,16 @@ use Rattle.script_run.specs.Step.{Settles}
 use Rattle.script_run.specs.Script.{Stage, fresh, running, bus_of, delay_of, Follows, script_lines}
 
 -- ---- the three things that a component may have come to
+
+-- Cables form a loop. Each node of the core, which is in a loop or between loops, is in T0 and
+-- reports the configuration timeout; no node of the component has an ID.
+pub record IsLoopInTimeout (w : CableWorld) (set core : NodeSet) : Type 0 where
+  pub is : IsCore w.cabling set core
+  pub some : IsEmpty core → ⊥
+  pub timed_out :
+      (k : NodeNumber) → Holds core k →
+      Shows w k (λ v. (v.phase ≡ TreeStart) × (v.timed_out ≡ true))
+  pub unnamed : (k : NodeNumber) → Holds set k → Shows w k (λ v. v.id ≡ None)
 
 -- One cable whose ends drew thirty-two coins each since the last reset, or more, of which the first
 -- thirty-two are equal one by one.
@@ -53,10 +64,9 @@ pub record HaveOneList
       Shows w k (λ v. IsSomeAnd v.id (λ i. slice_get order i ≡ Some k))
   pub lists : (k : NodeNumber) → Holds set k → AtNode w k (λ x. x.state.list.items ≡ list)
 
--- One of these two, or a loop: each node of the core, which is in a loop or between loops, is in T0 and
--- reports the configuration timeout, and no node of the component has an ID.
+-- one of the three
 abbrev pub CameTo : CableWorld → NodeSet → Outcome → Type 0
-CameTo w set (reported.Loop core) = ReportsLoop w set core
+CameTo w set (reported.Loop core) = IsLoopInTimeout w set core
 CameTo w set (reported.Contention a b) = DrewEqualCoins w set a b
 CameTo w set (reported.Tree root list order) = HaveOneList w set root list order
 

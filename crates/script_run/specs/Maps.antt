@@ -1,5 +1,5 @@
 -- The text of a tree's maps: the topology map and the speed map as images, a quadlet a line.
-use Rattle.std.specs.Prelude.{◌≡◌, ℕ, ◌+◌, ◌/◌, ◌%◌, ◌^◌, nat_lt, if◌then◌else◌, List, [], ◌∷◌, ◌++◌, length, codes}
+use Rattle.std.specs.Prelude.{◌≡◌, ℕ, List, [], ◌∷◌, ◌++◌, length, codes}
 use Rattle.quad_lanes.specs.Pairs.{quads_of}
 use Rattle.topology_stack.specs.Hex.{hex}
 use Rattle.topology_stack.specs.Tree.{Tree, walk, emits}

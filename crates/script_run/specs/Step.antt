@@ -1,16 +1,15 @@
 -- What a command of a script comes to on its bus: the bus then and the text that it prints, or the
 -- fault of its line.
-use Rattle.std.specs.Prelude.{◌≡◌, ℕ, ◌+◌, nat_lt, ◌==◌, is_some, length, replicate, List, [], ◌∷◌, ◌++◌, codes, Option, None, Some, unwrap_or, slice_index_or, position, Result, Ok, Err, Any, IfSome, IsSomeAnd, MatchBool, if◌then◌else◌}
+use Rattle.std.specs.Prelude.{◌≡◌, ℕ, ◌+◌, nat_lt, ◌==◌, is_some, length, replicate, List, [], ◌++◌, codes, Option, None, Some, unwrap_or, slice_index_or, position, Result, Ok, Err, Any, IfSome, IsSomeAnd, MatchBool, if◌then◌else◌}
 use Rattle.std.specs.Option.{option_map}
 use Rattle.topology_stack.specs.Tree.{Tree, IsBusTree, emits}
 use Rattle.topology_stack.specs.Elect.{elected}
 use Rattle.cabling.specs.declared.cable.End.{End}
 use Rattle.cabling.specs.declared.cable.CableFault.{CableFault}
-use Rattle.cabling.specs.declared.cable.CableFault.TheVariants as cable
 use Rattle.cabling.specs.Walk.{IsWalk}
 use Rattle.cable_world.specs.declared.act.Act.{Act}
 use Rattle.cable_world.specs.declared.act.Act.TheVariants as act
-use Rattle.cable_world.specs.World.{CableWorld, NodeNumber}
+use Rattle.cable_world.specs.World.{NodeNumber}
 use Rattle.cable_world.specs.Act.{ActLeads, act_fault, hold, hold_fault}
 use Rattle.cable_world.specs.Turn.{turns_after}
 use Rattle.resource_manager.specs.declared.access.Access.{Access}
@@ -25,11 +24,11 @@ use Rattle.settle_plan.specs.Planned.{HaveGap}
 use Rattle.settle.specs.declared.report.Report.{Report}
 use Rattle.settle.specs.Report.{IsReport, IsTreeFrom, quiet_turns_of}
 use Rattle.script_lines.specs.declared.kind.Kind.{Kind}
-use Rattle.script_lines.specs.declared.kind.Kind.TheVariants.{Word, Late, NoNode, NoPort, InUse, SameNode, NotPlugged, NotSettled, NoManager, NotManager, TooManyTurns, TooManyMaps}
+use Rattle.script_lines.specs.declared.kind.Kind.TheVariants.{Late, NoNode, NotSettled, NoManager, NotManager, TooManyTurns, TooManyMaps}
 use Rattle.script_lines.specs.declared.command.Command.{Command}
 use Rattle.script_lines.specs.declared.command.Command.TheVariants.{Node, Plug, Pull, Reset, Turn, Hold, Settle, Config, CsrRead, CsrWrite, CsrLock, Look, Allocate, Release, Manager, Plan, Maps, Delay}
 use Rattle.script_lines.specs.Refusal.{kind_of}
-use Rattle.script_run.specs.ReportText.{name_of, IsReportText}
+use Rattle.script_run.specs.ReportText.{IsReportText}
 use Rattle.script_run.specs.Maps.{IsMapsText}
 use Rattle.script_run.specs.CommandText.{csr_text, grant_text, bid_text}
 use Rattle.script_run.specs.Plan.{IsPlan, plan_line}

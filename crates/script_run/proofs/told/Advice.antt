@@ -1,31 +1,29 @@
 -- No script has two advices.
-use Rattle.std.proofs.Common.{◌≡◌, ◌++◌, ◌⊎◌, inl, inr, ℕ, ◌+◌, ◌<◌, suc, List, [], ◌∷◌, Option, Some, None, Bool, true, false, length, map, refl, sym, ◌∙◌, ap, subst, arith}
-use Rattle.std.specs.Prelude.{All, MatchBool, nat_lt, Ok, Err}
+use Rattle.std.proofs.Common.{◌≡◌, ◌++◌, inl, inr, ℕ, ◌+◌, ◌<◌, List, [], ◌∷◌, Option, Some, length, map, refl, sym, ◌∙◌, ap, subst, arith}
+use Rattle.std.specs.Prelude.{All, Ok, Err}
 use Rattle.std.proofs.lemmas.List.Elements.{All-tail}
 use Rattle.topology_stack.specs.OneAnswer.{NoListHasTwoTrees}
 use Rattle.cabling.specs.declared.cable.Cable.{Cable}
 use Rattle.cabling.specs.Wiring.{Wiring}
 use Rattle.cabling.specs.NodeSet.{Nodes}
 use Rattle.cable_world.specs.declared.act.Act.TheVariants.{Pull}
-use Rattle.loop_advice.specs.declared.advice.Advice.{Advice}
 use Rattle.loop_advice.specs.Cables.{Lists}
 use Rattle.loop_advice.specs.Order.{ComesBefore, ComesBeforeAll, AreRising}
-use Rattle.loop_advice.specs.Advised.{AreAdvised, IsLowFirst, IsAdvised}
+use Rattle.loop_advice.specs.Advised.{AreAdvised, IsLowFirst}
 use Rattle.loop_advice.proofs.Before.{same_low}
 use Rattle.loop_advice.proofs.Listed.{lists_left, lists_right}
 use Rattle.settle.specs.declared.report.Report.{Report}
-use Rattle.settle.specs.Report.{IsReport}
 use Rattle.script_run.specs.declared.advice.LoopAdvice.{LoopAdvice}
 use Rattle.script_lines.specs.declared.kind.ScriptFault.{ScriptFault}
 use Rattle.script_run.specs.Bus.{Bus}
-use Rattle.script_run.specs.Step.{LineAnswer, Reports, Settles}
-use Rattle.script_run.specs.Script.{Stage, bus_of, Told, behind, ends_with, Ends, IsTold, TellsBy, script_lines}
-use Rattle.script_run.specs.Advice.{EndsOn, RunsTo, loops_of, IsAdviceFor, AreAdvices, all_pulls, PullsLead, advice_text, after_text, Advises, HasScriptFault, AdvisesAtEnd, IsAdvice}
+use Rattle.script_run.specs.Step.{LineAnswer, Settles}
+use Rattle.script_run.specs.Script.{Stage, bus_of, Told, behind, ends_with, Ends, IsTold, script_lines}
+use Rattle.script_run.specs.Advice.{EndsOn, RunsTo, loops_of, IsAdviceFor, all_pulls, PullsLead, advice_text, after_text, Advises, AdvisesAtEnd}
 use Rattle.script_run.specs.OneTold.{ScriptsTellOneThing}
 use Rattle.script_run.specs.OneAdvice.{ScriptsHaveOneAdvice}
 use Rattle.script_run.proofs.told.Cables.{IsCabled}
 use Rattle.script_run.proofs.told.Commands.{acts, settles, bus-in}
-use Rattle.script_run.proofs.told.Lines.{Ended, Meet, meet, cabled}
+use Rattle.script_run.proofs.told.Lines.{Meet, meet, cabled}
 
 -- ---- the bus at the end
 

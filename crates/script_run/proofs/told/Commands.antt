@@ -31,7 +31,7 @@ use Rattle.script_run.specs.CommandText.{csr_text, grant_text}
 use Rattle.std.specs.Option.{option_map}
 use Rattle.script_run.specs.Plan.{IsPlan, plan_line}
 use Rattle.script_run.specs.Bus.{Notes, Bus, Reported, node_named, resets_of, tree_with, values_at}
-use Rattle.script_run.specs.Step.{LineAnswer, AtNode, Named, AtTree, Settled, AtManager, IsTreeOf, HasManager, Managed, node_with, id_of, Acts, Holds, Within, Reports, Settles, Accesses, Looks, Grants, Bids, Plans, PlansAs, MapsOf, GivesMaps, Does, end_of, config_of, notes_after_report}
+use Rattle.script_run.specs.Step.{LineAnswer, AtNode, Named, AtTree, Settled, AtManager, IsTreeOf, Managed, node_with, id_of, Acts, Holds, Within, Reports, Settles, Accesses, Looks, Grants, Bids, Plans, PlansAs, MapsOf, GivesMaps, Does, end_of, config_of, notes_after_report}
 use Rattle.script_lines.specs.Refusal.{kind_of}
 use Rattle.script_run.proofs.OneText.{one-text}
 use Rattle.script_run.proofs.OneMaps.{same_maps}

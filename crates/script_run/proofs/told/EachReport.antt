@@ -28,7 +28,7 @@ use Rattle.script_run.proofs.told.Ports.{read-ports}
 -- ---- a report
 
 came-to : (w : CableWorld) (set : NodeSet) (o : Outcome) → IsReported w set o → CameTo w set o
-came-to w set (reported.Loop core) h = h
+came-to w set (reported.Loop core) h = record { is = h.is; some = h.some; timed_out = h.timed_out; unnamed = h.unnamed }
 came-to w set (reported.Contention a b) h = record {
   holds_a = h.is.holds_a;
   holds_b = h.is.holds_b;

@@ -1,20 +1,20 @@
 -- An advice leaves no loop.
-use Rattle.std.proofs.Common.{◌≡◌, ◌++◌, ◌⊎◌, inl, inr, ℕ, zero, suc, ◌+◌, ◌^◌, ◌<◌, get_or, List, [], ◌∷◌, Option, Some, None, Bool, true, false, length, map, refl, sym, ◌∙◌, ap, subst, arith}
-use Rattle.std.specs.Prelude.{All, Any, MatchBool, nat_lt, Ok, Err}
+use Rattle.std.proofs.Common.{◌≡◌, ◌++◌, ◌⊎◌, inl, inr, ℕ, zero, suc, ◌+◌, ◌^◌, ◌<◌, get_or, List, [], ◌∷◌, Some, Bool, true, false, length, map, refl, sym, ◌∙◌, ap, subst, arith}
+use Rattle.std.specs.Prelude.{All, MatchBool, nat_lt, Ok, Err}
 use Rattle.std.proofs.lemmas.List.Elements.{All-tail}
 use Rattle.topology_stack.specs.OneAnswer.{NoListHasTwoTrees}
 use Rattle.cabling.specs.declared.cable.End.{End}
 use Rattle.cabling.specs.declared.cable.Cable.{Cable}
-use Rattle.cabling.specs.Wiring.{Wiring, IsCabling, far}
-use Rattle.cabling.specs.NodeSet.{Nodes, Holds, IsWithin, IsEmpty}
+use Rattle.cabling.specs.Wiring.{Wiring, far}
+use Rattle.cabling.specs.NodeSet.{Nodes, Holds, IsWithin}
 use Rattle.cabling.specs.Component.{IsComponent}
-use Rattle.cabling.specs.Looped.{HasTwo, IsLooped, IsCore}
+use Rattle.cabling.specs.Looped.{HasTwo, IsLooped}
 use Rattle.cabling.specs.Change.{TakenOut}
 use Rattle.cabling.proofs.Ends.{none_some, same_length}
 use Rattle.cabling.proofs.Whole.{shared}
 use Rattle.cabling.proofs.Pulling.{was-there}
 use Rattle.cable_world.specs.World.{CableWorld}
-use Rattle.cable_world.specs.Turn.{turn, turns_after}
+use Rattle.cable_world.specs.Turn.{turns_after}
 use Rattle.cable_world.specs.Outcome.{HasNoLoop as HasNoLoopIn}
 use Rattle.convergence.proofs.turns.Flush.{after-cabling}
 use Rattle.loop_advice.specs.Cables.{Lists, IsSame}
@@ -26,7 +26,7 @@ use Rattle.settle.specs.declared.report.Outcome.TheVariants as reported
 use Rattle.settle.specs.declared.report.Part.{Part}
 use Rattle.settle.specs.declared.report.Report.{Report}
 use Rattle.settle.specs.Report.{IsPart, IsReport, quiet_turns_of}
-use Rattle.settle.specs.Reported.{IsReported, ReportsLoop}
+use Rattle.settle.specs.Reported.{IsReported}
 use Rattle.settle.proofs.ReadBack.{small-set}
 use Rattle.script_run.specs.declared.advice.LoopAdvice.{LoopAdvice}
 use Rattle.script_lines.specs.declared.kind.Kind.TheVariants as Kind
@@ -39,9 +39,9 @@ use Rattle.script_run.proofs.Pulling.{pull-taken, next-pullable}
 use Rattle.script_run.proofs.Settled.{reported-pullable}
 use Rattle.script_run.proofs.told.Cables.{IsCabled}
 use Rattle.script_run.proofs.told.Commands.{bus-in}
-use Rattle.script_run.proofs.told.Lines.{Meet, meet, cabled}
+use Rattle.script_run.proofs.told.Lines.{Meet, meet}
 use Rattle.script_run.proofs.told.Advice.{one-bus, no-fault, same-report}
-use Rattle.script_run.specs.Script.{Stage, bus_of, ends_with, script_lines}
+use Rattle.script_run.specs.Script.{bus_of, ends_with, script_lines}
 
 -- ---- what settling leaves
 

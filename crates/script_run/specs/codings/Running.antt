@@ -1,7 +1,6 @@
 -- The bus of a script as the code keeps it.
-use Rattle.std.specs.Prelude.{◌≡◌, ℕ, ◌≤◌, List, length, map, Option, Some, Result, Ok, Err, IfSome, IsFalse, Bool}
+use Rattle.std.specs.Prelude.{◌≡◌, ℕ, ◌≤◌, List, length, Some, Err, IfSome, IsFalse, Bool}
 use Rattle.cable_world.specs.World.{CableWorld}
-use Rattle.script_lines.specs.declared.kind.Kind.{Kind}
 use Rattle.script_lines.specs.declared.kind.LineStop.{LineStop}
 use Rattle.script_lines.specs.declared.kind.LineStop.TheVariants.{Fault, Memory}
 use Rattle.script_run.specs.declared.bus.Notes as kept

@@ -1,4 +1,4 @@
-use Rattle.std.proofs.Common.{◌≡◌, ℕ, List, Vec, Global}
+use Rattle.std.proofs.Common.{◌≡◌, ℕ, Vec, Global}
 use Rattle.std.specs.Prelude.{Ok}
 use Rattle.script_lines.specs.declared.kind.ScriptStop.{ScriptStop}
 use Rattle.script_run.specs.Script.{Told}

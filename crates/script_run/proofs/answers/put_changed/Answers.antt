@@ -1,4 +1,4 @@
-use Rattle.std.proofs.Common.{◌≡◌, ◌++◌, ◌∙◌, List, ℕ, codes, ap, append_assoc}
+use Rattle.std.proofs.Common.{◌++◌, ◌∙◌, List, ℕ, codes, ap, append_assoc}
 use Rattle.topology_stack.specs.Hex.{hex}
 use Rattle.script_run.specs.ReportText.{numbered}
 use Rattle.script_run.specs.CommandText.{changed_words}

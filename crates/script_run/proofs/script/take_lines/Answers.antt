@@ -1,11 +1,8 @@
-use Rattle.std.proofs.Common.{◌≡◌, ◌∙◌, ◌+◌, ◌++◌, ◌∷◌, [], List, ℕ, length, refl, sym, ap, subst, arith}
-use Rattle.std.proofs.lemmas.Bool.Decides.{nat_tests}
-use Rattle.std.proofs.lemmas.Grind.{common_steps}
-use Rattle.script_run.specs.Bus.{Bus}
+use Rattle.std.proofs.Common.{◌≡◌, ◌+◌, ◌++◌, ◌∷◌, [], List, ℕ, length, sym, ap, subst, arith}
 use Rattle.script_run.specs.Script.{Stage, fresh, Told, Ends, script_lines}
 use Rattle.script_run.specs.Advice.{EndsOn}
 use Rattle.script_run.specs.codings.Going.{LineLeads, LeavesBy}
-use Rattle.script_run.proofs.Going.{leaves-first, leaves-more, refused-line, none-left}
+use Rattle.script_run.proofs.Going.{leaves-first, leaves-more, refused-line}
 use Rattle.script_run.proofs.script.take_lines.Goals as goal
 
 -- no line was taken yet

@@ -1,13 +1,10 @@
-use Rattle.std.proofs.Common.{◌≡◌, ◌++◌, All, List, ℕ, Ok, get_or, sym, subst, ap, ◌∙◌, refl}
+use Rattle.std.proofs.Common.{All, List, get_or, sym, subst, ◌∙◌}
 use Rattle.cable_world.proofs.running.Whole.{lawful-now}
 use Rattle.script_run.specs.declared.advice.LoopAdvice.{LoopAdvice}
 use Rattle.script_run.specs.ReportText.{Names}
-use Rattle.script_run.specs.Bus.{Bus}
-use Rattle.script_run.specs.Step.{LineAnswer, Settles}
-use Rattle.script_run.specs.Advice.{all_pulls, PullsLead, advice_text, after_text, Advises}
+use Rattle.script_run.specs.Advice.{all_pulls}
 use Rattle.script_run.specs.codings.Advising.{IsNamedAdvice, ArePullable}
-use Rattle.script_run.specs.codings.Running.{bus_now}
-use Rattle.script_run.proofs.Settled.{named-now, pullable-now, advises-now, stops-now}
+use Rattle.script_run.proofs.Settled.{named-now, pullable-now}
 use Rattle.script_run.proofs.bus.Bus.advise.Goals as goal
 
 pub advice_text-requires : goal.advice_text-requires

@@ -1,9 +1,8 @@
-use Rattle.std.proofs.Common.{◌≡◌, ◌≤◌, ◌+◌, ℕ, List, length, replicate, ap, sym, subst, ◌∙◌, refl, arith}
-use Rattle.std.specs.Prelude.{Option, None}
+use Rattle.std.proofs.Common.{◌≡◌, ◌≤◌, ◌+◌, ℕ, List, length, ap, sym, subst, ◌∙◌, refl, arith}
+use Rattle.std.specs.Prelude.{None}
 use Rattle.std.proofs.lemmas.Bool.{ltb-false}
 use Rattle.std.proofs.lemmas.List.{length-replicate}
 use Rattle.cable_world.proofs.running.Whole.{lawful-now}
-use Rattle.resource_manager.specs.declared.grant.Seen.{Seen}
 use Rattle.settle.specs.Report.{quiet_turns_of}
 use Rattle.settle_plan.proofs.Suited.{not-refused}
 use Rattle.script_run.specs.Bus.{Notes}

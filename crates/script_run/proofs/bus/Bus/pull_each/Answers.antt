@@ -1,4 +1,4 @@
-use Rattle.std.proofs.Common.{◌≡◌, ◌+◌, ◌∷◌, List, drop, sym, subst}
+use Rattle.std.proofs.Common.{◌+◌, List, drop, sym, subst}
 use Rattle.std.proofs.lemmas.List.{drop_more}
 use Rattle.cabling.specs.declared.cable.Cable.{Cable}
 use Rattle.cable_world.proofs.running.Whole.{lawful-now}

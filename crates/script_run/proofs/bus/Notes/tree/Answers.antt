@@ -1,5 +1,4 @@
-use Rattle.std.proofs.Common.{◌≡◌, sym, ◌∙◌, ap}
-use Rattle.std.specs.Option.{option_map}
+use Rattle.std.proofs.Common.{sym}
 use Rattle.script_run.specs.codings.Running.{notes_now, reported}
 use Rattle.script_run.proofs.NamedTree.{named_tree}
 use Rattle.script_run.proofs.bus.Notes.tree.Goals as goal
