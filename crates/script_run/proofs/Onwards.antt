@@ -8,7 +8,6 @@ use Rattle.script_run.specs.declared.kind.LineStop.TheVariants.{Fault, Memory}
 use Rattle.script_run.specs.declared.bus.Bus as kept
 use Rattle.script_run.specs.declared.run.Stage as stage
 use Rattle.script_run.specs.declared.run.Stage.TheVariants.{Running}
-use Rattle.script_run.specs.Bus.{Bus}
 use Rattle.script_run.specs.Step.{Does}
 use Rattle.script_run.specs.Script.{Runs, bus_of}
 use Rattle.script_run.specs.codings.Running.{bus_now, Stops}

@@ -1,9 +1,8 @@
-use Rattle.std.proofs.Common.{◌≡◌, ◌∙◌, ◌+◌, ◌∷◌, ◌++◌, List, ℕ, [], length, refl, sym, ap, subst, arith}
+use Rattle.std.proofs.Common.{◌∙◌, ◌+◌, ◌++◌, List, ℕ, refl, sym, ap, subst, arith}
 use Rattle.std.specs.Prelude.{Ok}
 use Rattle.std.proofs.lemmas.Bool.Decides.{nat_tests}
 use Rattle.std.proofs.lemmas.Grind.{common_steps}
-use Rattle.script_run.specs.Script.{Told, IsTold, script_lines, bus_of}
-use Rattle.script_run.specs.Answered.{IsRefused}
+use Rattle.script_run.specs.Script.{IsTold, script_lines}
 use Rattle.script_run.specs.codings.Going.{Leaves}
 use Rattle.script_run.proofs.Going.{leaves-more, script-ends, refused-line, refused-end, only-fault, none-left}
 use Rattle.script_run.proofs.script.run_script.Goals as goal
