@@ -6,7 +6,6 @@ use Rattle.std.specs.Global.{Global}
 use Rattle.script_lines.specs.Number.{number_of}
 use Rattle.bus_cli.specs.declared.form.Form.{Form}
 use Rattle.bus_cli.specs.declared.form.Form.TheVariants.{Capture, Rom, Run, Advice, Make}
-use Rattle.bus_cli.specs.declared.form.CaptureForm.{CaptureForm}
 use Rattle.bus_cli.specs.declared.form.CaptureForm.TheVariants.{Read, Maps}
 use Rattle.bus_cli.specs.Form.{AreWordsOf, AreMakeWords, Asks, IsForm, AsksMake, AsksScript}
 use Rattle.bus_cli.specs.codings.Reading.{IsRead, AsksFewNodes}

@@ -2,7 +2,7 @@
 use Rattle.std.proofs.Common.{◌≡◌, ℕ, List, Ok, Err, ap, subst, sym, ◌∙◌}
 use Rattle.std.specs.Prelude.{String}
 use Rattle.std.specs.Global.{Global}
-use Rattle.topology_stack.specs.Tree.{Tree, walk, IsBusTree}
+use Rattle.topology_stack.specs.Tree.{Tree, IsBusTree}
 use Rattle.config_rom.specs.OneReading.{NoRomHasTwoTexts}
 use Rattle.bus_cli.specs.declared.form.CaptureForm.{CaptureForm}
 use Rattle.bus_cli.specs.declared.form.CaptureForm.TheVariants.{Read, Maps}
