@@ -25,4 +25,5 @@ pub mod Options
 pub mod OneProof
 pub mod StaysReached
 pub mod StaysLawful
+pub mod QuietTurns
 pub mod OneOutcome

@@ -5,6 +5,7 @@ pub mod Parts
 -- what happens
 pub mod Turn
 pub mod Act
+pub mod Quiet
 pub mod Run
 pub mod Still
 -- what comes of it

@@ -8,6 +8,8 @@ ghost use Rattle.cable_world.specs.Unchanged.{TurnKeepsNodes, NoTurnIsNone, OneT
 ghost use Rattle.cable_world.specs.Unchanged.{ActKeepsNodes, ActKeepsTurns, ActKeepsDelay};
 ghost use Rattle.cable_world.specs.StaysLawful.{HoldsAtPowerOn, KeptByTurns, KeptByHolds, KeptByActs};
 ghost use Rattle.cable_world.specs.StaysLawful.{ReachedIsLawful};
+ghost use Rattle.cable_world.specs.Quiet.{HoldsAreCalls, PlainTurnsAreQuiet, OneQuietTurnMore};
+ghost use Rattle.cable_world.specs.Quiet.{NoQuietTurnIsHolds, QuietTurnsAdd, KeptByQuietTurns};
 ghost use Rattle.cable_world.specs.Still.{StillTurnsPass};
 ghost use Rattle.cable_world.specs.ResetsEnd.{NoneEnters, CountsStand};
 
@@ -40,6 +42,17 @@ pub fn turns_add_up()
     ensures add { TurnsAdd }
 {}
 
+/// Quiet turns: before, between and after them any holds may be placed. A hold is placed as the call does it,
+/// and one that is refused changes nothing. Turns without holds between them are quiet too. Quiet
+/// turns are done one after the other.
+pub fn quiet_turns_add_up()
+    ensures holds { HoldsAreCalls }
+    ensures plain { PlainTurnsAreQuiet }
+    ensures none { NoQuietTurnIsHolds }
+    ensures more { OneQuietTurnMore }
+    ensures add { QuietTurnsAdd }
+{}
+
 /// Turns in which nothing happens make timers later and holds shorter, and change nothing else.
 pub fn still_turns_pass()
     ensures { StillTurnsPass }
@@ -50,6 +63,7 @@ pub fn still_turns_pass()
 pub fn worlds_stay_reached()
     ensures power_on { HoldsAtPowerOn IsReached }
     ensures turns { KeptByTurns IsReached }
+    ensures quiet { KeptByQuietTurns IsReached }
     ensures hold { KeptByHolds IsReached }
     ensures act { KeptByActs IsReached }
 {}
@@ -61,14 +75,15 @@ pub fn worlds_stay_reached()
 pub fn worlds_stay_lawful()
     ensures power_on { HoldsAtPowerOn IsLawful }
     ensures turns { KeptByTurns IsLawful }
+    ensures quiet { KeptByQuietTurns IsLawful }
     ensures hold { KeptByHolds IsLawful }
     ensures act { KeptByActs IsLawful }
     ensures reached { ReachedIsLawful }
 {}
 
-/// In turns without acts resets end. For n nodes, whose cables delay by at most d turns, no turn
-/// after the first n d makes a node enter a reset, so that each node's count of resets stands still
-/// from there. It is so in components with loops too.
+/// In quiet turns resets end, whatever holds are placed between them. For n nodes, whose cables
+/// delay by at most d turns, no turn after the first n d makes a node enter a reset, so that each
+/// node's count of resets stands still from there. It is so in components with loops too.
 pub fn resets_end()
     ensures entered { NoneEnters }
     ensures counted { CountsStand }

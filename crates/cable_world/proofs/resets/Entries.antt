@@ -24,13 +24,15 @@ use Rattle.cabling.specs.declared.cable.End.{End}
 use Rattle.cabling.specs.Wiring.{far, ports_of}
 use Rattle.cable_world.specs.Wire.{age_wire, gives}
 use Rattle.cable_world.specs.World.{CableWorld, wire_of}
-use Rattle.cable_world.specs.Turn.{inbox, turn_at, turn, turns_after}
+use Rattle.cable_world.specs.Turn.{inbox, turn_at, turn}
+use Rattle.cable_world.specs.Quiet.{HoldSchedule, with_holds, quiet_after}
 use Rattle.cable_world.specs.Signals.{signals_of, has_reset}
 use Rattle.cable_world.specs.Phases.{slack}
 use Rattle.cable_world.specs.Coupling.{Coupling}
 use Rattle.cable_world.specs.Lawful.{IsLawful}
 use Rattle.cable_world.proofs.Options.{some-same}
-use Rattle.cable_world.proofs.turns.ByNumber.{node-after, nodes-after, delay-after, no-turns, one-more}
+use Rattle.cable_world.proofs.turns.ByNumber.{node-after, nodes-after, delay-after}
+use Rattle.cable_world.proofs.QuietTurns.{no-quiet, one-quiet, quiet-lawful}
 use Rattle.cable_world.specs.Turn.{hear_all}
 use Rattle.cable_world.proofs.turns.NodeFacts.{NoEntry, EntersReset, HearsWell, TicksWell}
 use Rattle.cable_world.proofs.turns.HearsWell.{hear-came}
@@ -39,7 +41,6 @@ use Rattle.cable_world.proofs.PhaseFacts.{start-timed, start-slack}
 use Rattle.cable_world.proofs.turns.TurnParts.{turn-state, comes}
 use Rattle.cable_world.proofs.tables.CableEnds.{CableEnd, cable-end}
 use Rattle.cable_world.proofs.coupling.CouplingInTurns.{before, hears, ticks}
-use Rattle.cable_world.proofs.StaysLawful.{turns-lawful}
 
 -- ---- counting
 
@@ -392,19 +393,19 @@ module _ (w : CableWorld) (l : IsLawful w) where
           let u = (in-turn w l j x y at_x at_y).cause out e in
           absurd (omega (arith, u.recent, late, old u.number u.node u.at u.resets))
 
--- ---- turns without acts
+-- ---- quiet turns
 
-module _ (w : CableWorld) (l : IsLawful w) where
+module _ (hs : HoldSchedule) (w : CableWorld) (l : IsLawful w) where
   abbrev later : ℕ → CableWorld
-  later k = turns_after k w
+  later k = quiet_after hs k w
 
   pub after-delay : (k : ℕ) → (later k).delay ≡ w.delay
-  after-delay zero = ap (λ (v : CableWorld). v.delay) (no-turns w)
-  after-delay (suc k) = rw (← add-one, one-more k w) (delay-after (later k) ∙ after-delay k)
+  after-delay zero = ap (λ (v : CableWorld). v.delay) (no-quiet hs w)
+  after-delay (suc k) = rw (← add-one, one-quiet hs k w) (delay-after (later k) ∙ after-delay k)
 
   pub after-length : (k : ℕ) → length (later k).nodes ≡ length w.nodes
-  after-length zero = ap (λ (v : CableWorld). length v.nodes) (no-turns w)
-  after-length (suc k) = rw (← add-one, one-more k w) (nodes-after (later k) (turns-lawful k w l).well_formed.count ∙ after-length k)
+  after-length zero = ap (λ (v : CableWorld). length v.nodes) (no-quiet hs w)
+  after-length (suc k) = rw (← add-one, one-quiet hs k w) (nodes-after (later k) (quiet-lawful hs k w l).well_formed.count ∙ after-length k)
 
   -- a node in R0 at the start is an entry itself
   start-chained : Chained w 0
@@ -419,10 +420,10 @@ module _ (w : CableWorld) (l : IsLawful w) where
       cases (suc t) h = omega arith
 
   after-chained : (k : ℕ) → k < 64 * w.delay → Chained (later k) k
-  after-chained zero high = subst (λ v. Chained v 0) (sym (no-turns w)) start-chained
+  after-chained zero high = subst (λ v. Chained v 0) (sym (no-quiet hs w)) start-chained
   after-chained (suc k) high =
-      let chained : Chained (turn (later k)) (k + 1) = turn-chained (later k) (turns-lawful k w l) k (omega (arith, ap (λ d. 64 * d) (after-delay k), high)) (after-chained k (omega (arith, high))) in
-      subst (λ n. Chained (later n) n) (add-one k) (subst (λ v. Chained v (k + 1)) (sym (one-more k w)) chained)
+      let chained : Chained (turn (later k)) (k + 1) = turn-chained (later k) (quiet-lawful hs k w l) k (omega (arith, ap (λ d. 64 * d) (after-delay k), high)) (after-chained k (omega (arith, high))) in
+      subst (λ n. Chained (later n) n) (add-one k) (subst (λ v. Chained v (k + 1)) (sym (one-quiet hs k w)) chained)
 
   few : length w.nodes ≤ 63
   few = omega (arith, l.well_formed.count, l.well_formed.cabling.few_nodes)
@@ -432,7 +433,7 @@ module _ (w : CableWorld) (l : IsLawful w) where
 
   early-steady : (k : ℕ) → enough ≤ k → k < enough + w.delay → Steady (later k)
   early-steady k late soon =
-      chained-steady (later k) (turns-lawful k w l) k (rw (after-length k, after-delay k) late) (after-chained k (room (length w.nodes) w.delay few soon))
+      chained-steady (later k) (quiet-lawful hs k w l) k (rw (after-length k, after-delay k) late) (after-chained k (room (length w.nodes) w.delay few soon))
     where
       room : (n d : ℕ) → n ≤ 63 → k < n * d + d → k < 64 * d
       room n d f h = let m : (n + 1) * d ≤ 64 * d = grind arith in omega (arith, m, h)
@@ -440,7 +441,7 @@ module _ (w : CableWorld) (l : IsLawful w) where
   next-old :
       (k least : ℕ) → (1 ≤ least → Steady (later k)) → Old least (later k) →
       Old (least + 1) (later (k + 1))
-  next-old k least calm old = subst (Old (least + 1)) (sym (one-more k w)) (turn-old (later k) (turns-lawful k w l) least calm old)
+  next-old k least calm old = subst (Old (least + 1)) (sym (one-quiet hs k w)) (turn-old (later k) (quiet-lawful hs k w l) least calm old)
 
   -- whoever is in R0 after a turn has been there for one
   first-old : (k : ℕ) → 1 ≤ k → Old 1 (later k)
@@ -454,7 +455,7 @@ module _ (w : CableWorld) (l : IsLawful w) where
   aged-steady : (i : ℕ) → Aged i → Steady (later (enough + i))
   aged-steady i old = elim (cases_lt i w.delay) [
     | inl soon ↦ early-steady (enough + i) (omega arith) (omega (arith, soon))
-    | inr past ↦ old-steady (later (enough + i)) (turns-lawful (enough + i) w l) (w.delay + 1) (omega (arith, after-delay (enough + i))) (old (w.delay + 1) (omega (arith, past)) (le_refl (w.delay + 1)))
+    | inr past ↦ old-steady (later (enough + i)) (quiet-lawful hs (enough + i) w l) (w.delay + 1) (omega (arith, after-delay (enough + i))) (old (w.delay + 1) (omega (arith, past)) (le_refl (w.delay + 1)))
   ]
 
   all-aged : 1 ≤ enough → (i : ℕ) → Aged i
@@ -479,11 +480,11 @@ module _ (w : CableWorld) (l : IsLawful w) where
       product : (n d : ℕ) → 1 ≤ n → 1 ≤ d → 1 ≤ n * d
       product n d o p = omega (arith, mul-le-mul_left n p, o)
 
--- no turn after the first n * d makes a node enter R0
+-- no quiet turn after the first n * d makes a node enter R0
 pub steady :
-    (w : CableWorld) → IsLawful w → (k : ℕ) → length w.nodes * w.delay ≤ k →
-    (j : ℕ) (x y : PortNode) → slice_get (turns_after k w).nodes j ≡ Some x →
-    slice_get (turns_after (k + 1) w).nodes j ≡ Some y → is_resetting x.state.view.phase ≡ false →
+    (hs : HoldSchedule) (w : CableWorld) → IsLawful w → (k : ℕ) → length w.nodes * w.delay ≤ k →
+    (j : ℕ) (x y : PortNode) → slice_get (quiet_after hs k w).nodes j ≡ Some x →
+    slice_get (quiet_after hs (k + 1) w).nodes j ≡ Some y → is_resetting x.state.view.phase ≡ false →
     is_resetting y.state.view.phase ≡ false
-steady w l k late j x y at_x at_y out =
-    late-steady w l k (omega (arith, slice_get_within (turns_after k w).nodes j x at_x, after-length w l k)) late j x y at_x (rw (one-more k w) at at_y) out
+steady hs w l k late j x y at_x at_y out =
+    late-steady hs w l k (omega (arith, slice_get_within (quiet_after hs k w).nodes j x at_x, after-length hs w l k)) late j x y at_x (rw (one-quiet hs k w) at at_y) out

@@ -1,4 +1,5 @@
 use Rattle.cable_world.proofs.StaysReached.{power-on-reached, turns-reached, hold-reached, act-reached}
+use Rattle.cable_world.proofs.QuietTurns.{quiet-reached}
 use Rattle.cable_world.proofs.laws.worlds_stay_reached.Goals as goal
 
 pub returns-clause-power_on : goal.returns-clause-power_on
@@ -6,6 +7,9 @@ returns-clause-power_on c = power-on-reached
 
 pub returns-clause-turns : goal.returns-clause-turns
 returns-clause-turns c = turns-reached
+
+pub returns-clause-quiet : goal.returns-clause-quiet
+returns-clause-quiet c = quiet-reached
 
 pub returns-clause-hold : goal.returns-clause-hold
 returns-clause-hold c = hold-reached
