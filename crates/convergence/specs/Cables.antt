@@ -5,7 +5,7 @@ use Rattle.cabling.specs.Wiring.{far}
 use Rattle.port_state.specs.declared.signal.Level.{Level}
 use Rattle.port_state.specs.Machine.{PortNode}
 use Rattle.cable_world.specs.World.{CableWorld}
-use Rattle.cable_world.specs.Turn.{turns_after}
+use Rattle.cable_world.specs.Quiet.{HoldSchedule, quiet_after}
 use Rattle.cable_world.specs.Outcome.{AtNode}
 use Rattle.cable_world.specs.Lawful.{IsLawful}
 use Rattle.cable_world.specs.Agreement.{level_sent_at, level_shown}
@@ -26,10 +26,11 @@ TellsAt w end test = AtNode w end.node (λ x. test (level_sent_at x.state end.po
 abbrev pub ShowsAt : CableWorld → End → (Level → Bool) → Type 0
 ShowsAt w end test = AtNode w end.node (λ x. test (level_shown x.state end.port) ≡ true)
 
--- Where each level that a node told over a cable passes a test, for d turns at least, the level
+-- Where each level that a node told over a cable passes a test, for d quiet turns at least, the level
 -- that the other end shows passes it.
 abbrev pub LevelsComeThrough : Type 0
 LevelsComeThrough =
-    (w : CableWorld) (a b : End) (test : Level → Bool) (k : ℕ) →
+    (holds : HoldSchedule) (w : CableWorld) (a b : End) (test : Level → Bool) (k : ℕ) →
     IsLawful w → far w.cabling a ≡ Some b → w.delay ≤ k →
-    ((i : ℕ) → i ≤ k → TellsAt (turns_after i w) a test) → ShowsAt (turns_after k w) b test
+    ((i : ℕ) → i ≤ k → TellsAt (quiet_after holds i w) a test) →
+    ShowsAt (quiet_after holds k w) b test

@@ -8,7 +8,7 @@ use Rattle.port_state.specs.declared.states.NodeState.{NodeState}
 use Rattle.port_state.specs.Ports.{is_port}
 use Rattle.port_state.specs.Machine.{PortNode}
 use Rattle.cable_world.specs.World.{CableWorld, NodeNumber, NodeSet}
-use Rattle.cable_world.specs.Turn.{turns_after}
+use Rattle.cable_world.specs.Quiet.{HoldSchedule, quiet_after}
 use Rattle.cable_world.specs.Agreement.{leads_down}
 use Rattle.cable_world.specs.Run.{IsReached}
 use Rattle.convergence.specs.Cables.{AreJoined}
@@ -95,7 +95,8 @@ WinsOver w m n = (a : End) × (b : End) × (a.node ≡ m) × (b.node ≡ n) × H
 -- first has won 10 d turns later, and at each turn from there.
 abbrev pub LongWaitsWin : Type 0
 LongWaitsWin =
-    (w : CableWorld) (k : ℕ) (node : NodeNumber) (set : NodeSet) (m n : NodeNumber) (i : ℕ) →
-    IsReached w → turns_to_over w ≤ k → IsComponent (turns_after k w).cabling node set →
-    Holds set m → Holds set n → m ≢ n → AreUnequal (turns_after k w) m n →
-    10 * w.delay ≤ i → WinsOver (turns_after (k + i) w) m n
+    (holds : HoldSchedule) (w : CableWorld) (k : ℕ) (node : NodeNumber) (set : NodeSet)
+    (m n : NodeNumber) (i : ℕ) → IsReached w → turns_to_over w ≤ k →
+    IsComponent (quiet_after holds k w).cabling node set → Holds set m → Holds set n → m ≢ n →
+    AreUnequal (quiet_after holds k w) m n → 10 * w.delay ≤ i →
+    WinsOver (quiet_after holds (k + i) w) m n

@@ -3,7 +3,8 @@ use Rattle.std.specs.Prelude.{◌≡◌, ℕ, ◌≤◌, None}
 use Rattle.cabling.specs.declared.cable.End.{End}
 use Rattle.cable_world.specs.declared.act.Act.{Act}
 use Rattle.cable_world.specs.World.{CableWorld}
-use Rattle.cable_world.specs.Turn.{turn, turns_after}
+use Rattle.cable_world.specs.Turn.{turn}
+use Rattle.cable_world.specs.Quiet.{HoldSchedule, quiet_after}
 use Rattle.cable_world.specs.Act.{ActLeads, IsAct, act_fault, hold, hold_fault}
 use Rattle.cable_world.specs.Lawful.{IsLawful}
 use Rattle.cable_world.specs.Run.{IsReached}
@@ -46,22 +47,24 @@ OnceOverAndContested P = (w : CableWorld) → IsLawful w → IsContested w → R
 abbrev pub OnceDone : (CableWorld → Type 0) → Type 0
 OnceDone P = (w : CableWorld) → IsLawful w → ResetsAreDone w → P w
 
--- ---- what comes after so many turns
+-- ---- what comes after so many quiet turns, whatever holds are placed between them
 
 -- whatever was before
 abbrev pub AfterAny : (CableWorld → ℕ) → (CableWorld → Type 0) → Type 0
 AfterAny count P =
-    (w : CableWorld) (k : ℕ) → IsLawful w → count w ≤ k → P (turns_after k w)
+    (holds : HoldSchedule) (w : CableWorld) (k : ℕ) → IsLawful w → count w ≤ k →
+    P (quiet_after holds k w)
 
 -- after resets are done
 abbrev pub AfterDone : (CableWorld → ℕ) → (CableWorld → Type 0) → Type 0
 AfterDone count P =
-    (w : CableWorld) (k : ℕ) → IsLawful w → ResetsAreDone w → count w ≤ k → P (turns_after k w)
+    (holds : HoldSchedule) (w : CableWorld) (k : ℕ) → IsLawful w → ResetsAreDone w → count w ≤ k →
+    P (quiet_after holds k w)
 
 abbrev pub AfterDoneAcyclic : (CableWorld → ℕ) → (CableWorld → Type 0) → Type 0
 AfterDoneAcyclic count P =
-    (w : CableWorld) (k : ℕ) → IsLawful w → IsAcyclic w → ResetsAreDone w →
-    count w ≤ k → P (turns_after k w)
+    (holds : HoldSchedule) (w : CableWorld) (k : ℕ) → IsLawful w → IsAcyclic w → ResetsAreDone w →
+    count w ≤ k → P (quiet_after holds k w)
 
 abbrev pub KeptOnceDone : (CableWorld → Type 0) → Type 0
 KeptOnceDone P = (w : CableWorld) → IsLawful w → ResetsAreDone w → P w → P (turn w)
@@ -76,7 +79,8 @@ pub record IsGrown (w : CableWorld) : Type 0 where
 
 abbrev pub AfterGrown : (CableWorld → ℕ) → (CableWorld → Type 0) → Type 0
 AfterGrown count P =
-    (w : CableWorld) (k : ℕ) → IsGrown w → count w ≤ k → P (turns_after k w)
+    (holds : HoldSchedule) (w : CableWorld) (k : ℕ) → IsGrown w → count w ≤ k →
+    P (quiet_after holds k w)
 
 abbrev pub KeptOnceGrown : (CableWorld → Type 0) → Type 0
 KeptOnceGrown P = (w : CableWorld) → IsGrown w → P w → P (turn w)

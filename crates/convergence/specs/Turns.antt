@@ -1,8 +1,8 @@
--- After how many turns without acts a milestone is reached, for n nodes whose cables delay by at
+-- After how many quiet turns a milestone is reached, for n nodes whose cables delay by at
 -- most d turns.
 use Rattle.std.specs.Prelude.{ℕ, ◌+◌, ◌*◌, ◌≤◌, length}
 use Rattle.cable_world.specs.World.{CableWorld}
-use Rattle.cable_world.specs.Turn.{turns_after}
+use Rattle.cable_world.specs.Quiet.{HoldSchedule, quiet_after}
 use Rattle.cable_world.specs.Run.{IsReached}
 
 -- ---- from one milestone to the next
@@ -44,8 +44,9 @@ turns_to_loops w = turns_to_done w + loop_turns w
 abbrev pub turns_to_decision : CableWorld → ℕ
 turns_to_decision w = turns_to_trees w + decision_turns w
 
--- This holds after so many turns without acts of a world that comes of power-on, and at each turn
--- from there.
+-- This holds after so many quiet turns of a world that comes of power-on, and at each turn from
+-- there, whatever holds are placed between them.
 abbrev pub HoldsAfter : (CableWorld → ℕ) → (CableWorld → Type 0) → Type 0
 HoldsAfter count P =
-    (w : CableWorld) (k : ℕ) → IsReached w → count w ≤ k → P (turns_after k w)
+    (holds : HoldSchedule) (w : CableWorld) (k : ℕ) → IsReached w → count w ≤ k →
+    P (quiet_after holds k w)

@@ -19,7 +19,7 @@ use Rattle.cable_world.specs.Wire.{new_signal}
 use Rattle.cable_world.specs.World.{CableWorld, wire_of, IsPowerOnWorld}
 use Rattle.cable_world.specs.Act.{change_in_set, note_changes, ActLeads, act_fault, IsAct, hold, hold_fault}
 use Rattle.cable_world.specs.Run.{IsReached}
-use Rattle.cable_world.specs.Turn.{inbox, turn_at, turn, turns_after}
+use Rattle.cable_world.specs.Turn.{inbox, turn_at, turn}
 use Rattle.cable_world.specs.Lawful.{IsLawful, IsWellFormed}
 use Rattle.cable_world.specs.Phases.{is_before_tree, is_shaking}
 use Rattle.cable_world.specs.Signals.{signals_of, has_reset}
@@ -35,9 +35,11 @@ use Rattle.cable_world.proofs.acts.ResettingSteps.{HasBegun}
 use Rattle.cable_world.proofs.tables.CableEnds.{CableEnd, cable-end}
 use Rattle.cable_world.proofs.Options.{none-some}
 use Rattle.cable_world.proofs.coupling.Sides.{ticking}
-use Rattle.convergence.proofs.turns.AlongRuns.{IsKept, kept-reached, kept-turns}
+use Rattle.convergence.proofs.turns.AlongRuns.{IsKept, kept-reached, kept-quiet}
 use Rattle.cable_world.proofs.coupling.Streams.{not-both}
 use Rattle.cable_world.proofs.turns.TurnParts.{turn-state, comes}
+use Rattle.cable_world.specs.Quiet.{PlacedHold, HoldSchedule, with_holds, quiet_after}
+use Rattle.cable_world.proofs.QuietTurns.{holds-kept}
 use Rattle.convergence.specs.Coins.{AddsDraw, DrewTogether, KnowsCoins}
 use Rattle.convergence.specs.Rivals.{AreApart, AreRivals, Contests, HasOneRival, IsContested}
 use Rattle.convergence.proofs.coins.ContestsInTurns.{contests-turn, won-from}
@@ -375,6 +377,11 @@ contested-kept = record {
 pub reached-contested : (w : CableWorld) → IsReached w → IsContested w
 reached-contested = kept-reached IsContested contested-kept
 
-pub turns-contested :
-    (k : ℕ) (w : CableWorld) → IsLawful w → IsContested w → IsContested (turns_after k w)
-turns-contested = kept-turns IsContested contested-kept
+pub holds-contested :
+    (holds : List PlacedHold) (w : CableWorld) → IsLawful w → IsContested w →
+    IsContested (with_holds holds w)
+holds-contested = holds-kept IsContested contested-kept.hold
+
+pub quiet-contested :
+    (hs : HoldSchedule) (k : ℕ) (w : CableWorld) → IsLawful w → IsContested w → IsContested (quiet_after hs k w)
+quiet-contested = kept-quiet IsContested contested-kept

@@ -14,26 +14,30 @@ use Rattle.port_state.specs.Tick.{raise_timer}
 use Rattle.port_state.specs.Machine.{PortNode}
 use Rattle.cable_world.specs.declared.wire.Travelling.{Travelling}
 use Rattle.cable_world.specs.World.{CableWorld, wire_of}
-use Rattle.cable_world.specs.Turn.{turn_at, turn, turns_after}
+use Rattle.cable_world.specs.Turn.{turn_at, turn}
 use Rattle.cable_world.specs.Run.{IsReached}
 use Rattle.cable_world.specs.Phases.{is_before_tree, is_shaking}
 use Rattle.cable_world.specs.Agreement.{leads_down}
 use Rattle.cable_world.specs.Lawful.{IsLawful}
-use Rattle.cable_world.proofs.turns.ByNumber.{node-after, cabling-after, delay-after, one-more}
+use Rattle.cable_world.proofs.turns.ByNumber.{node-after, cabling-after, delay-after}
 use Rattle.cable_world.proofs.coupling.CableInTurn.{came}
 use Rattle.cable_world.proofs.coupling.CouplingInTurns.{side, side-node, side-wire}
 use Rattle.cable_world.proofs.resets.Entries.{steady, after-delay}
 use Rattle.cable_world.proofs.levels.LastSent.{child-if}
 use Rattle.cable_world.proofs.Options.{some-same}
 use Rattle.cable_world.proofs.coupling.Sides.{Side, hearing, ticking, wire_after, late-roles, heard_connected}
-use Rattle.cable_world.proofs.StaysLawful.{reached-lawful, turns-lawful}
+use Rattle.cable_world.proofs.StaysLawful.{reached-lawful}
 use Rattle.cable_world.proofs.coupling.Streams.{not-both}
 use Rattle.cable_world.proofs.turns.NodeFacts.{NoEntry, risen}
+use Rattle.cable_world.specs.Quiet.{PlacedHold, HoldSchedule, with_holds, quiet_after}
+use Rattle.cable_world.proofs.QuietTurns.{holds-signals, one-quiet, quiet-lawful}
+use Rattle.cable_world.proofs.StaysLawful.{turn-lawful}
 use Rattle.convergence.specs.Coins.{last_coin, KnowsCoins}
 use Rattle.convergence.specs.Rivals.{AsksAgain, IsContested, HaveMet, AreRivals}
 use Rattle.convergence.specs.Cables.{AreJoined}
+use Rattle.convergence.proofs.turns.Cables.{joined-held}
 use Rattle.convergence.specs.Drawers.{AreMutual, AreUnequal, HasWonAt}
-use Rattle.convergence.proofs.coins.StaysContested.{rivals-of, reached-contested, turns-contested}
+use Rattle.convergence.proofs.coins.StaysContested.{rivals-of, reached-contested, quiet-contested}
 use Rattle.convergence.proofs.coins.ContestsInTurns.{down-after}
 use Rattle.convergence.proofs.coins.Drawers.{unequal-mutual}
 use Rattle.convergence.proofs.turns.Moves.{Drew, DrewNone, Shook, Waited, TookRival, Fought}
@@ -270,26 +274,39 @@ module _
         | inr g ↦ inr (faces-next f.ends (i + 1) g)
       ]
 
+-- ---- holds
+
+state-held :
+    (holds : List PlacedHold) (w : CableWorld) (a b : End) (i : ℕ) → IsLawful w → State w a b i →
+    State (with_holds holds w) a b i
+state-held holds w a b i l (inl o) = inl (record { ends = joined-held holds w a b o.ends; over = o.over })
+state-held holds w a b i l (inr f) = inr (record {
+  ends = joined-held holds w a b f.ends;
+  faces = subst (λ ts. Faces w.delay f.ends.near.state a.port f.ends.other.state b.port ts i) (sym (holds-signals holds w b l)) f.faces;
+})
+
 -- ---- late
 
 module _
-    (w : CableWorld) (l : IsLawful w) (c : IsContested w) (k : ℕ)
+    (hs : HoldSchedule) (w : CableWorld) (l : IsLawful w) (c : IsContested w) (k : ℕ)
     (late : length w.nodes * w.delay ≤ k) (a b : End) where
   abbrev later : ℕ → CableWorld
-  later i = turns_after (k + i) w
+  later i = quiet_after hs (k + i) w
 
   one-turn : (i : ℕ) → State (later i) a b i → State (later (i + 1)) a b (i + 1)
   one-turn i h =
       let v : CableWorld = later i in
-      let m : IsLawful v = turns-lawful (k + i) w l in
-      let step : turns_after (k + i + 1) w ≡ turn v = one-more (k + i) w in
+      let m : IsLawful v = quiet-lawful hs (k + i) w l in
+      let held : CableWorld = with_holds (hs (k + i + 1)) (turn v) in
+      let step : quiet_after hs (k + i + 1) w ≡ held = one-quiet hs (k + i) w in
       let n : k + (i + 1) ≡ k + i + 1 = omega arith in
-      let is : later (i + 1) ≡ turn v = ap (λ (j : ℕ). turns_after j w) n ∙ step in
+      let is : later (i + 1) ≡ held = ap (λ (j : ℕ). quiet_after hs j w) n ∙ step in
       subst (λ (u : CableWorld). State u a b (i + 1)) (sym is)
-      (state-next v m (turns-contested (k + i) w l c)
-      (λ j x at out. steady w l (k + i) (omega (arith, late)) j x (turn_at v j x).node at
+      (state-held (hs (k + i + 1)) (turn v) a b (i + 1) (turn-lawful v m)
+      (state-next v m (quiet-contested hs (k + i) w l c)
+      (λ j x at out. steady hs w l (k + i) (omega (arith, late)) j x (turn_at v j x).node at
       (ap (λ (u : CableWorld). slice_get u.nodes j) step ∙ node-after v j x m.well_formed.count at) out)
-      a b i h)
+      a b i h))
 
   turn-by-turn : State (later 0) a b 0 → (i : ℕ) → State (later i) a b i
   turn-by-turn h zero = h
@@ -298,48 +315,48 @@ module _
   won-by : (i : ℕ) → 10 * (later i).delay ≤ i → State (later i) a b i → HasWonAt (later i) a b
   won-by i long (inl o) = record { ends = o.ends; child = o.over.0; root = o.over.1 }
   won-by i long (inr f) =
-      let knows : KnowsCoins (later i).delay f.ends.near.state = (turns-contested (k + i) w l c).nodes a.node f.ends.near f.ends.near_at in
+      let knows : KnowsCoins (later i).delay f.ends.near.state = (quiet-contested hs (k + i) w l c).nodes a.node f.ends.near f.ends.near_at in
       absurd (elim (knows.shows f.faces.contends) [
         | inl s ↦ omega (arith, long, f.faces.waited, knows.waits f.faces.contends, s)
         | inr s ↦ omega (arith, long, f.faces.waited, knows.waits f.faces.contends, s.1)
       ])
 
   starts :
-      (m : AreMutual (turns_after k w) a b) → m.ends.near.state.view.phase ≡ phase.Contend →
+      (m : AreMutual (quiet_after hs k w) a b) → m.ends.near.state.view.phase ≡ phase.Contend →
       m.ends.other.state.view.phase ≡ phase.Contend →
-      last_coin (turns_after k w).delay m.ends.near.state ≡ true → last_coin (turns_after k w).delay m.ends.other.state ≡ false → State (later 0) a b 0
+      last_coin (quiet_after hs k w).delay m.ends.near.state ≡ true → last_coin (quiet_after hs k w).delay m.ends.other.state ≡ false → State (later 0) a b 0
   starts m here there long short =
       let z : k + 0 ≡ k = omega arith in
-      subst (λ (n : ℕ). State (turns_after n w) a b 0) (sym z) (inr (record {
+      subst (λ (n : ℕ). State (quiet_after hs n w) a b 0) (sym z) (inr (record {
         ends = m.ends;
         faces = record { here = m.here; there = m.there; contends = here; long = long; short = short; waited = omega arith; how = inl there };
       }))
 
   pub wins :
-      (m : AreMutual (turns_after k w) a b) → m.ends.near.state.view.phase ≡ phase.Contend →
+      (m : AreMutual (quiet_after hs k w) a b) → m.ends.near.state.view.phase ≡ phase.Contend →
       m.ends.other.state.view.phase ≡ phase.Contend →
-      last_coin (turns_after k w).delay m.ends.near.state ≡ true → last_coin (turns_after k w).delay m.ends.other.state ≡ false → (i : ℕ) → 10 * w.delay ≤ i → HasWonAt (turns_after (k + i) w) a b
+      last_coin (quiet_after hs k w).delay m.ends.near.state ≡ true → last_coin (quiet_after hs k w).delay m.ends.other.state ≡ false → (i : ℕ) → 10 * w.delay ≤ i → HasWonAt (quiet_after hs (k + i) w) a b
   wins m here there long short i h =
-      won-by i (omega (arith, h, after-delay w l (k + i))) (turn-by-turn (starts m here there long short) i)
+      won-by i (omega (arith, h, after-delay hs w l (k + i))) (turn-by-turn (starts m here there long short) i)
 
 -- two nodes of a component
 pub unequal-won :
-    (w : CableWorld) → IsReached w → (k node set m n i : ℕ) → length w.nodes * w.delay ≤ k →
-    IsComponent (turns_after k w).cabling node set → Holds set m → Holds set n → m ≢ n →
-    AreUnequal (turns_after k w) m n → 10 * w.delay ≤ i →
-    (a : End) × (b : End) × (a.node ≡ m) × (b.node ≡ n) × HasWonAt (turns_after (k + i) w) a b
-unequal-won w reached k node set m n i late is in_m in_n ne u long =
+    (hs : HoldSchedule) (w : CableWorld) → IsReached w → (k node set m n i : ℕ) → length w.nodes * w.delay ≤ k →
+    IsComponent (quiet_after hs k w).cabling node set → Holds set m → Holds set n → m ≢ n →
+    AreUnequal (quiet_after hs k w) m n → 10 * w.delay ≤ i →
+    (a : End) × (b : End) × (a.node ≡ m) × (b.node ≡ n) × HasWonAt (quiet_after hs (k + i) w) a b
+unequal-won hs w reached k node set m n i late is in_m in_n ne u long =
     let l : IsLawful w = reached-lawful w reached in
     let c : IsContested w = reached-contested w reached in
-    let v : CableWorld = turns_after k w in
-    let t = unequal-mutual v (turns-lawful k w l) (turns-contested k w l c) (resets-over w l k late) node set m n is in_m in_n ne u in
+    let v : CableWorld = quiet_after hs k w in
+    let t = unequal-mutual v (quiet-lawful hs k w l) (quiet-contested hs k w l c) (resets-over hs w l k late) node set m n is in_m in_n ne u in
     let near : u.near ≡ t.4.ends.near = some-same u.near t.4.ends.near (sym u.near_at ∙ ap (slice_get v.nodes) (sym t.2) ∙ t.4.ends.near_at) in
     let other : u.other ≡ t.4.ends.other = some-same u.other t.4.ends.other (sym u.other_at ∙ ap (slice_get v.nodes) (sym t.3) ∙ t.4.ends.other_at) in (
       t.0,
       t.1,
       t.2,
       t.3,
-      wins w l c k late t.0 t.1 t.4
+      wins hs w l c k late t.0 t.1 t.4
           (ap (λ (z : PortNode). z.state.view.phase) (sym near) ∙ u.here)
           (ap (λ (z : PortNode). z.state.view.phase) (sym other) ∙ u.there)
           (ap (λ (z : PortNode). last_coin v.delay z.state) (sym near) ∙ u.long)

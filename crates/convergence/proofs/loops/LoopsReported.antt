@@ -4,24 +4,24 @@ use Rattle.std.proofs.Common.{◌≡◌, ℕ, ◌*◌, ◌≤◌, true, slice_ge
 use Rattle.port_state.specs.declared.signal.Phase.TheVariants.{TreeStart}
 use Rattle.port_state.specs.Machine.{PortNode}
 use Rattle.cable_world.specs.World.{CableWorld}
-use Rattle.cable_world.specs.Turn.{turns_after}
 use Rattle.cable_world.specs.Lawful.{IsLawful}
 use Rattle.cable_world.proofs.Options.{some-of, some-at}
-use Rattle.cable_world.proofs.StaysLawful.{turns-lawful}
+use Rattle.cable_world.specs.Quiet.{HoldSchedule, quiet_after}
+use Rattle.cable_world.proofs.QuietTurns.{quiet-lawful}
 use Rattle.convergence.specs.Acyclic.{IsAcyclic}
 use Rattle.convergence.specs.Milestones.{ResetsAreOver, ResetsAreDone, LoopsAreReported}
 use Rattle.convergence.proofs.loops.Cores.{core-shows}
 use Rattle.convergence.proofs.resets.ResetsDone.{done-over}
-use Rattle.convergence.proofs.ranks.StaysAcyclic.{turns-acyclic}
+use Rattle.convergence.proofs.ranks.StaysAcyclic.{quiet-acyclic}
 use Rattle.convergence.proofs.trees.TreeStart.{done-at, start-reports}
 
 pub loops-reported :
-    (v : CableWorld) → IsLawful v → IsAcyclic v → ResetsAreDone v → (i : ℕ) → 512 * v.delay ≤ i →
-    LoopsAreReported (turns_after i v)
-loops-reported v l c done i late set core k is h =
-    let u : CableWorld = turns_after i v in
-    let m : IsLawful u = turns-lawful i v l in
-    let over : ResetsAreOver u = done-over u m (done-at v l done i) in
-    let x = some-of (slice_get u.nodes k) _ (core-shows u m set (λ a b y h. over a b y) (turns-acyclic i v l c) core k is h) in
+    (hs : HoldSchedule) (v : CableWorld) → IsLawful v → IsAcyclic v → ResetsAreDone v → (i : ℕ) → 512 * v.delay ≤ i →
+    LoopsAreReported (quiet_after hs i v)
+loops-reported hs v l c done i late set core k is h =
+    let u : CableWorld = quiet_after hs i v in
+    let m : IsLawful u = quiet-lawful hs i v l in
+    let over : ResetsAreOver u = done-over u m (done-at hs v l done i) in
+    let x = some-of (slice_get u.nodes k) _ (core-shows u m set (λ a b y h. over a b y) (quiet-acyclic hs i v l c) core k is h) in
     some-at (slice_get u.nodes k) x.0 (λ (y : PortNode). (y.state.view.phase ≡ TreeStart) × (y.state.view.timed_out ≡ true)) x.1
-    (start-reports v l done i k late (record { node = x.0; at = x.1; early = x.2 }))
+    (start-reports hs v l done i k late (record { node = x.0; at = x.1; early = x.2 }))

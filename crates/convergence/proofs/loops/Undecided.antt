@@ -1,23 +1,24 @@
 -- After n * d turns without acts.
 use Rattle.std.proofs.Common.{ℕ, ◌*◌, ◌≤◌, length}
 use Rattle.cable_world.specs.World.{CableWorld}
-use Rattle.cable_world.specs.Turn.{turns_after}
 use Rattle.cable_world.specs.Run.{IsReached}
 use Rattle.cable_world.specs.Lawful.{IsLawful}
-use Rattle.cable_world.proofs.StaysLawful.{reached-lawful, turns-lawful}
+use Rattle.cable_world.proofs.StaysLawful.{reached-lawful}
+use Rattle.cable_world.specs.Quiet.{HoldSchedule, quiet_after}
+use Rattle.cable_world.proofs.QuietTurns.{quiet-lawful}
 use Rattle.convergence.specs.Acyclic.{IsAcyclic}
 use Rattle.convergence.specs.Milestones.{ResetsAreOver}
 use Rattle.convergence.specs.Roots.{IsUndecidedInLoops}
 use Rattle.convergence.proofs.loops.Cores.{core-shows, one-root}
 use Rattle.convergence.proofs.resets.ResetsOver.{resets-over}
-use Rattle.convergence.proofs.ranks.StaysAcyclic.{reached-acyclic, turns-acyclic}
+use Rattle.convergence.proofs.ranks.StaysAcyclic.{reached-acyclic, quiet-acyclic}
 
 pub after-turns :
-    (w : CableWorld) (k : ℕ) → IsReached w → length w.nodes * w.delay ≤ k →
-    IsUndecidedInLoops (turns_after k w)
-after-turns w k r late =
-    let v : CableWorld = turns_after k w in
-    let l : IsLawful v = turns-lawful k w (reached-lawful w r) in
-    let c : IsAcyclic v = turns-acyclic k w (reached-lawful w r) (reached-acyclic w r) in
-    let over : ResetsAreOver v = resets-over w (reached-lawful w r) k late in
+    (hs : HoldSchedule) (w : CableWorld) (k : ℕ) → IsReached w → length w.nodes * w.delay ≤ k →
+    IsUndecidedInLoops (quiet_after hs k w)
+after-turns hs w k r late =
+    let v : CableWorld = quiet_after hs k w in
+    let l : IsLawful v = quiet-lawful hs k w (reached-lawful w r) in
+    let c : IsAcyclic v = quiet-acyclic hs k w (reached-lawful w r) (reached-acyclic w r) in
+    let over : ResetsAreOver v = resets-over hs w (reached-lawful w r) k late in
     record { loops = λ set core. core-shows v l set (λ a b y h. over a b y) c core; roots = λ node set. one-root v l set (λ a b y h. over a b y) node }

@@ -1,11 +1,12 @@
 -- Every world that comes of a power-on world is acyclic.
-use Rattle.std.proofs.Common.{ℕ}
+use Rattle.std.proofs.Common.{ℕ, List}
 use Rattle.cable_world.specs.World.{CableWorld}
 use Rattle.cable_world.specs.Run.{IsReached}
-use Rattle.cable_world.specs.Turn.{turns_after}
 use Rattle.cable_world.specs.Lawful.{IsLawful}
+use Rattle.cable_world.specs.Quiet.{PlacedHold, HoldSchedule, with_holds, quiet_after}
+use Rattle.cable_world.proofs.QuietTurns.{holds-kept}
 use Rattle.convergence.specs.Acyclic.{IsAcyclic}
-use Rattle.convergence.proofs.turns.AlongRuns.{IsKept, kept-reached, kept-turns}
+use Rattle.convergence.proofs.turns.AlongRuns.{IsKept, kept-reached, kept-quiet}
 use Rattle.convergence.proofs.ranks.RanksInActs.{power-on-acyclic, hold-acyclic, act-acyclic}
 use Rattle.convergence.proofs.ranks.RanksInTurns.{turn-acyclic}
 
@@ -20,6 +21,11 @@ acyclic-kept = record {
 pub reached-acyclic : (w : CableWorld) → IsReached w → IsAcyclic w
 reached-acyclic = kept-reached IsAcyclic acyclic-kept
 
-pub turns-acyclic :
-    (k : ℕ) (w : CableWorld) → IsLawful w → IsAcyclic w → IsAcyclic (turns_after k w)
-turns-acyclic = kept-turns IsAcyclic acyclic-kept
+pub holds-acyclic :
+    (holds : List PlacedHold) (w : CableWorld) → IsLawful w → IsAcyclic w →
+    IsAcyclic (with_holds holds w)
+holds-acyclic = holds-kept IsAcyclic acyclic-kept.hold
+
+pub quiet-acyclic :
+    (hs : HoldSchedule) (k : ℕ) (w : CableWorld) → IsLawful w → IsAcyclic w → IsAcyclic (quiet_after hs k w)
+quiet-acyclic = kept-quiet IsAcyclic acyclic-kept

@@ -1,4 +1,4 @@
--- In turns without acts nobody is in R0 or R1 any more, 81 d turns after the last entry at the
+-- In quiet turns nobody is in R0 or R1 any more, 81 d turns after the last entry at the
 -- latest.
 use Rattle.std.proofs.Common.{◌≡◌, inl, inr, ℕ, zero, suc, ◌+◌, ◌-◌, ◌*◌, ◌<◌, ◌≤◌, Bool, true, false, not, ◌&&◌, ◌||◌, length, Option, Some, None, is_some, slice_get, refl, sym, ◌∙◌, ap, subst, arith, true≢false}
 use Rattle.port_state.specs.declared.signal.Phase.{Phase}
@@ -16,13 +16,13 @@ use Rattle.cabling.specs.declared.cable.End.{End}
 use Rattle.cabling.specs.Wiring.{Wiring, far}
 use Rattle.cabling.proofs.Near.{end_at}
 use Rattle.cable_world.specs.World.{CableWorld, wire_of}
-use Rattle.cable_world.specs.Turn.{turn_at, turn, turns_after, hear_all}
+use Rattle.cable_world.specs.Turn.{turn_at, turn, hear_all}
 use Rattle.cable_world.specs.Agreement.{level_sent, level_shown, shown_or_idle, leads_down, level_sent_at}
 use Rattle.cable_world.specs.Signals.{signals_of, has_reset}
 use Rattle.cable_world.specs.Phases.{is_before_tree, is_after_hold, is_in_bus_reset, is_shaking}
 use Rattle.cable_world.specs.Coupling.{is_asking, Coupling}
 use Rattle.cable_world.specs.Lawful.{IsLawful}
-use Rattle.cable_world.proofs.turns.ByNumber.{node-after, one-more}
+use Rattle.cable_world.proofs.turns.ByNumber.{node-after}
 use Rattle.cable_world.proofs.Options.{some-same}
 use Rattle.cable_world.proofs.coupling.CouplingInTurns.{before, hears}
 use Rattle.cable_world.proofs.resets.Entries.{in-turn, hold-left, steady, after-delay}
@@ -30,14 +30,14 @@ use Rattle.cable_world.proofs.levels.LastSent.{child-if}
 use Rattle.convergence.proofs.turns.Cables.{joined-of}
 use Rattle.cable_world.proofs.tables.CableEnds.{cable-connected}
 use Rattle.cable_world.proofs.coupling.Sides.{late-roles, between-known}
-use Rattle.cable_world.proofs.StaysLawful.{turns-lawful}
 use Rattle.cable_world.proofs.turns.NodeFacts.{NoEntry, HearsWell}
 use Rattle.cable_world.proofs.turns.TurnParts.{turn-state}
+use Rattle.cable_world.specs.Quiet.{HoldSchedule, holds_after, with_holds, quiet_after}
+use Rattle.cable_world.proofs.QuietTurns.{one-quiet, quiet-then, quiet-lawful, after-cabling}
 use Rattle.convergence.specs.Milestones.{ResetsAreOver, NoneIn, ResetsAreDone}
 use Rattle.convergence.proofs.turns.CalmTurns.{Calmly, calmly, signals, heard_by, waiting-before, done-calm}
 use Rattle.convergence.proofs.turns.BeforeTree.{waits-for, every-from}
-use Rattle.convergence.proofs.turns.Flush.{after-cabling, Tells, Shown, flush}
-use Rattle.cable_world.proofs.turns.ByNumber.{turns-then}
+use Rattle.convergence.proofs.turns.Flush.{Tells, Shown, flush}
 
 -- ---- holds end
 
@@ -66,20 +66,20 @@ hold-runs w l k x y at_x at_y was there =
         hold-left (coin x.coins) (heard_by w k x) (ap is_resetting heard.phase ∙ was) hold-most
         (sym (ap (λ (s : NodeState). is_resetting s.view.phase) (turn-state (signals w k) x)) ∙ ap (λ (u : PortNode). is_resetting u.state.view.phase) same ∙ there)
 
-module _ (w : CableWorld) (l : IsLawful w) where
+module _ (hs : HoldSchedule) (w : CableWorld) (l : IsLawful w) where
   abbrev enough : ℕ
   enough = length w.nodes * w.delay
 
   abbrev later : ℕ → CableWorld
-  later i = turns_after (enough + i) w
+  later i = quiet_after hs (enough + i) w
 
   lawful-later : (i : ℕ) → IsLawful (later i)
-  lawful-later i = turns-lawful (enough + i) w l
+  lawful-later i = quiet-lawful hs (enough + i) w l
 
-  next : (i : ℕ) → turn (later i) ≡ later (suc i)
+  next : (i : ℕ) → with_holds (hs (enough + i + 1)) (turn (later i)) ≡ later (suc i)
   next i =
       let z : enough + i + 1 ≡ enough + suc i = omega arith in
-      sym (one-more (enough + i) w) ∙ ap (λ n. turns_after n w) z
+      sym (one-quiet hs (enough + i) w) ∙ ap (λ n. quiet_after hs n w) z
 
   -- each node in R0 has been there for so many turns
   abbrev Risen : ℕ → CableWorld → Type 0
@@ -100,7 +100,7 @@ module _ (w : CableWorld) (l : IsLawful w) where
       was x at_x true e = refl
       was x at_x false e =
           let late : enough ≤ enough + i = omega arith in
-          absurd (true≢false (sym there ∙ steady w l (enough + i) late k x y at_x (ap (λ (u : CableWorld). slice_get u.nodes k) (one-more (enough + i) w) ∙ at) e))
+          absurd (true≢false (sym there ∙ steady hs w l (enough + i) late k x y at_x (ap (λ (u : CableWorld). slice_get u.nodes k) (one-quiet hs (enough + i) w) ∙ at) e))
 
   rises : (i : ℕ) → Risen i (later i) → Risen (suc i) (turn (later i))
   rises i h k y at there =
@@ -123,7 +123,7 @@ module _ (w : CableWorld) (l : IsLawful w) where
           go false e = refl
           go true e =
               let x = stayed i k y at e in
-              absurd (omega (arith, h, (in-turn (later i) (lawful-later i) k x.0 y x.1 at).rises x.2 e, all-risen i k x.0 x.1 x.2, hold-runs (later i) (lawful-later i) k x.0 y x.1 at x.2 e, after-delay w l (enough + i)))
+              absurd (omega (arith, h, (in-turn (later i) (lawful-later i) k x.0 y x.1 at).rises x.2 e, all-risen i k x.0 x.1 x.2, hold-runs (later i) (lawful-later i) k x.0 y x.1 at x.2 e, after-delay hs w l (enough + i)))
 
 -- ---- R1
 
@@ -157,33 +157,33 @@ wait-between p h g = grind arith
 
 -- in a world with nobody in R0, and in the turns from there
 module _
-    (v : CableWorld) (l : IsLawful v) (calm : (i : ℕ) → NoneIn is_resetting (turns_after i v))
+    (hs : HoldSchedule) (v : CableWorld) (l : IsLawful v) (calm : (i : ℕ) → NoneIn is_resetting (quiet_after hs i v))
     (k : ℕ) where
   -- the node is in R1
   abbrev Waits : ℕ → Type 0
-  Waits i = (x : PortNode) × (slice_get (turns_after i v).nodes k ≡ Some x) × (is_in_bus_reset x.state.view.phase ≡ true)
+  Waits i = (x : PortNode) × (slice_get (quiet_after hs i v).nodes k ≡ Some x) × (is_in_bus_reset x.state.view.phase ≡ true)
 
   waited : (i : ℕ) → Waits (i + 1) → Waits i
   waited i h =
-      let c : Calmly (turns_after i v) k h.0.state = calmly (turns_after i v) (turns-lawful i v l) (calm i) k h.0 (ap (λ (u : CableWorld). slice_get u.nodes k) (sym (one-more i v)) ∙ h.1) in
-      (c.node, c.at, waiting-before (turns_after i v) k h.0.state c h.2)
+      let c : Calmly (quiet_after hs i v) k h.0.state = calmly (quiet_after hs i v) (quiet-lawful hs i v l) (calm i) k h.0 (ap (λ (u : CableWorld). slice_get u.nodes k) (sym (one-quiet hs i v)) ∙ h.1) in
+      (c.node, c.at, waiting-before (quiet_after hs i v) k h.0.state c h.2)
 
   module _ (a : End) (p : ℕ) (e : far v.cabling (end_at k p) ≡ Some a) where
     back : far v.cabling a ≡ Some (end_at k p)
     back = l.well_formed.cabling.both_ways (end_at k p) a e
 
-    tells-calm : (i : ℕ) → Waits i → Tells (turns_after i v) a is_calm
+    tells-calm : (i : ℕ) → Waits i → Tells (quiet_after hs i v) a is_calm
     tells-calm i h y at =
-        let u : CableWorld = turns_after i v in
-        let m : IsLawful u = turns-lawful i v l in
-        let there : far u.cabling (end_at k p) ≡ Some a = ap (λ (c : Wiring). far c (end_at k p)) (after-cabling i v) ∙ e in
-        let here : far u.cabling a ≡ Some (end_at k p) = ap (λ (c : Wiring). far c a) (after-cabling i v) ∙ back in
+        let u : CableWorld = quiet_after hs i v in
+        let m : IsLawful u = quiet-lawful hs i v l in
+        let there : far u.cabling (end_at k p) ≡ Some a = ap (λ (c : Wiring). far c (end_at k p)) (after-cabling hs i v) ∙ e in
+        let here : far u.cabling a ≡ Some (end_at k p) = ap (λ (c : Wiring). far c a) (after-cabling hs i v) ∙ back in
         let c : Coupling u.delay h.0.state p (wire_of u (end_at k p)).signals y.state a.port (wire_of u a).signals = m.coupled.cables (end_at k p) a h.0 y there h.1 at in
         calm-told y.state a.port (m.well_formed.nodes a.node y at).valid (cable-connected u a (end_at k p) y m.well_formed here at) (calm i a.node y at)
         (c.early (between-known u.delay h.0.state (wait-between h.0.state.view.phase h.2 (calm i k h.0 h.1))))
 
-    shows-calm : (i : ℕ) → v.delay ≤ i → Waits i → Shown (turns_after i v) (end_at k p) is_calm
-    shows-calm = flush v l a (end_at k p) back is_calm Waits waited tells-calm
+    shows-calm : (i : ℕ) → v.delay ≤ i → Waits i → Shown (quiet_after hs i v) (end_at k p) is_calm
+    shows-calm = flush hs v l a (end_at k p) back is_calm Waits waited tells-calm
 
   -- d turns later every port is calm, so that R1 ends
   wait-ends : (i : ℕ) → v.delay ≤ i + 1 → Waits (i + 1) → ⊥
@@ -193,13 +193,13 @@ module _
       (sym (ap (λ (s : NodeState). is_in_bus_reset s.view.phase) c.is) ∙ h.2))
     where
       u : CableWorld
-      u = turns_after i v
+      u = quiet_after hs i v
 
-      c : Calmly (turns_after i v) k h.0.state
-      c = calmly (turns_after i v) (turns-lawful i v l) (calm i) k h.0 (ap (λ (u : CableWorld). slice_get u.nodes k) (sym (one-more i v)) ∙ h.1)
+      c : Calmly (quiet_after hs i v) k h.0.state
+      c = calmly (quiet_after hs i v) (quiet-lawful hs i v l) (calm i) k h.0 (ap (λ (u : CableWorld). slice_get u.nodes k) (sym (one-quiet hs i v)) ∙ h.1)
 
       now : NodeState
-      now = heard_by (turns_after i v) k c.node
+      now = heard_by (quiet_after hs i v) k c.node
 
       -- what a port shows is shown after the turn too
       same : (q : ℕ) → level_shown h.0.state q ≡ level_shown now q
@@ -219,37 +219,41 @@ module _
       each :
           (q : ℕ) → is_connected now.view.ports q ≡ true → port_is (λ r. is_calm r.shown)
           now.view.ports q ≡ true
-      each q on = test-at now q on (go (far (turns_after i v).cabling (end_at k q)) refl)
+      each q on = test-at now q on (go (far (quiet_after hs i v).cabling (end_at k q)) refl)
         where
           on-first : is_connected c.node.state.view.ports q ≡ true
           on-first = sym (c.hears.cables q) ∙ on
 
           go :
-              (o : Option End) → far (turns_after i v).cabling (end_at k q) ≡ o →
+              (o : Option End) → far (quiet_after hs i v).cabling (end_at k q) ≡ o →
               is_calm (level_shown now q) ≡ true
-          go None e = absurd (true≢false (sym on-first ∙ ((turns-lawful i v l).well_formed.nodes k c.node c.at).connected q ∙ ap is_some e))
-          go (Some a) e = ap is_calm (sym (same q)) ∙ shows-calm a q (sym (ap (λ (d : Wiring). far d (end_at k q)) (after-cabling i v)) ∙ e) (i + 1) late h h.0 h.1
+          go None e = absurd (true≢false (sym on-first ∙ ((quiet-lawful hs i v l).well_formed.nodes k c.node c.at).connected q ∙ ap is_some e))
+          go (Some a) e = ap is_calm (sym (same q)) ∙ shows-calm a q (sym (ap (λ (d : Wiring). far d (end_at k q)) (after-cabling hs i v)) ∙ e) (i + 1) late h h.0 h.1
 
 -- ---- 81 d turns
 
 pub resets-done :
-    (w : CableWorld) → IsLawful w → (i : ℕ) → 81 * w.delay ≤ i →
-    ResetsAreDone (turns_after (length w.nodes * w.delay + i) w)
-resets-done w l i late k x at = go (is_in_bus_reset x.state.view.phase) refl
+    (hs : HoldSchedule) (w : CableWorld) → IsLawful w → (i : ℕ) → 81 * w.delay ≤ i →
+    ResetsAreDone (quiet_after hs (length w.nodes * w.delay + i) w)
+resets-done hs w l i late k x at = go (is_in_bus_reset x.state.view.phase) refl
   where
-    start : CableWorld
-    start = turns_after (length w.nodes * w.delay + 80 * w.delay) w
+    rest : HoldSchedule
+    rest = holds_after (length w.nodes * w.delay + 80 * w.delay) hs
 
-    m : IsLawful (turns_after (length w.nodes * w.delay + 80 * w.delay) w)
-    m = turns-lawful (length w.nodes * w.delay + 80 * w.delay) w l
+    start : CableWorld
+    start = quiet_after hs (length w.nodes * w.delay + 80 * w.delay) w
+
+    m : IsLawful (quiet_after hs (length w.nodes * w.delay + 80 * w.delay) w)
+    m = quiet-lawful hs (length w.nodes * w.delay + 80 * w.delay) w l
 
     calm :
         (j : ℕ) →
-        NoneIn is_resetting (turns_after j (turns_after (length w.nodes * w.delay + 80 * w.delay) w))
+        NoneIn is_resetting
+        (quiet_after (holds_after (length w.nodes * w.delay + 80 * w.delay) hs) j (quiet_after hs (length w.nodes * w.delay + 80 * w.delay) w))
     calm j =
         let z : length w.nodes * w.delay + (80 * w.delay + j) ≡ length w.nodes * w.delay + 80 * w.delay + j = omega arith in
         let low : 80 * w.delay ≤ 80 * w.delay + j = omega arith in
-        subst (NoneIn is_resetting) (ap (λ n. turns_after n w) z ∙ turns-then (length w.nodes * w.delay + 80 * w.delay) j w) (holds-over w l (80 * w.delay + j) low)
+        subst (NoneIn is_resetting) (ap (λ n. quiet_after hs n w) z ∙ quiet-then hs (length w.nodes * w.delay + 80 * w.delay) j w) (holds-over hs w l (80 * w.delay + j) low)
 
     go : (b : Bool) → is_in_bus_reset x.state.view.phase ≡ b → b ≡ false
     go false e = refl
@@ -257,8 +261,8 @@ resets-done w l i late k x at = go (is_in_bus_reset x.state.view.phase) refl
         let j : ℕ = i - 80 * w.delay - 1 in
         let some : 1 ≤ w.delay = l.well_formed.some_delay in
         let z : length w.nodes * w.delay + i ≡ length w.nodes * w.delay + 80 * w.delay + (j + 1) = omega (arith, late, some) in
-        let is : turns_after (length w.nodes * w.delay + i) w ≡ turns_after (j + 1) start = ap (λ n. turns_after n w) z ∙ turns-then (length w.nodes * w.delay + 80 * w.delay) (j + 1) w in
-        absurd (wait-ends start m calm k j (omega (arith, late, some, after-delay w l (length w.nodes * w.delay + 80 * w.delay)))
+        let is : quiet_after hs (length w.nodes * w.delay + i) w ≡ quiet_after rest (j + 1) start = ap (λ n. quiet_after hs n w) z ∙ quiet-then hs (length w.nodes * w.delay + 80 * w.delay) (j + 1) w in
+        absurd (wait-ends rest start m calm k j (omega (arith, late, some, after-delay hs w l (length w.nodes * w.delay + 80 * w.delay)))
         (x, ap (λ (u : CableWorld). slice_get u.nodes k) (sym is) ∙ at, e))
 
 -- then no Reset is under way

@@ -1,4 +1,4 @@
--- After n * d turns without acts a Reset is under way to nodes in R0 alone: any other would enter
+-- After n * d quiet turns a Reset is under way to nodes in R0 alone: any other would enter
 -- R0 when it comes.
 use Rattle.std.proofs.Common.{◌≡◌, ◌⊎◌, inl, inr, ℕ, zero, suc, ◌+◌, ◌-◌, ◌*◌, ◌<◌, ◌≤◌, Bool, true, false, ◌||◌, List, [], ◌∷◌, ◌++◌, map, Some, length, slice_get, if◌then◌else◌, refl, sym, ◌∙◌, ap, subst, arith, add-one, true≢false}
 use Rattle.port_state.specs.declared.signal.Signal.{Signal}
@@ -12,19 +12,21 @@ use Rattle.cabling.specs.Wiring.{Wiring, far, ports_of}
 use Rattle.cable_world.specs.declared.wire.Travelling.{Travelling}
 use Rattle.cable_world.specs.Wire.{age_wire, gives, age_signal, new_signal}
 use Rattle.cable_world.specs.World.{CableWorld, wire_of}
-use Rattle.cable_world.specs.Turn.{inbox, turn_at, turn, turns_after, hear_all}
+use Rattle.cable_world.specs.Turn.{inbox, turn_at, turn, hear_all}
 use Rattle.cable_world.specs.Signals.{is_reset, signals_of, has_reset}
 use Rattle.cable_world.specs.Lawful.{AgesFall, IsLawful}
-use Rattle.cable_world.proofs.turns.ByNumber.{node-after, cabling-after, one-more}
+use Rattle.cable_world.proofs.turns.ByNumber.{node-after, cabling-after}
 use Rattle.cable_world.proofs.coupling.CouplingInTurns.{hears, ticks, side, side-wire}
 use Rattle.cable_world.proofs.resets.Entries.{steady, after-delay}
 use Rattle.convergence.proofs.turns.Cables.{joined-of}
 use Rattle.cable_world.proofs.tables.CableEnds.{cable-connected}
 use Rattle.cable_world.proofs.Options.{some-same}
 use Rattle.cable_world.proofs.coupling.Sides.{departures}
-use Rattle.cable_world.proofs.StaysLawful.{turns-lawful}
 use Rattle.cable_world.proofs.turns.NodeFacts.{HearsWell, TicksWell}
 use Rattle.cable_world.proofs.turns.TurnParts.{turn-state, comes}
+use Rattle.cable_world.specs.Quiet.{HoldSchedule, with_holds, quiet_after}
+use Rattle.cable_world.proofs.QuietTurns.{holds-signals, one-quiet, quiet-lawful}
+use Rattle.cable_world.proofs.StaysLawful.{turn-lawful}
 use Rattle.convergence.specs.Milestones.{ResetsAreOver}
 
 -- ---- old Resets
@@ -135,10 +137,10 @@ old-after w l a b y z n e at at_z out out_z old =
 -- ---- many turns
 
 module _
-    (w : CableWorld) (l : IsLawful w) (k : ℕ) (late : length w.nodes * w.delay ≤ k) (a b : End)
+    (hs : HoldSchedule) (w : CableWorld) (l : IsLawful w) (k : ℕ) (late : length w.nodes * w.delay ≤ k) (a b : End)
   where
     abbrev later : ℕ → CableWorld
-    later i = turns_after (k + i) w
+    later i = quiet_after hs (k + i) w
 
     -- at the far end a node outside R0, and a Reset under way to it for so many turns
     record Waits (i : ℕ) : Type 0 where
@@ -151,20 +153,22 @@ module _
     next : (i : ℕ) → Waits i → Waits (i + 1)
     next i h =
         let v : CableWorld = later i in
-        let m : IsLawful v = turns-lawful (k + i) w l in
+        let m : IsLawful v = quiet-lawful hs (k + i) w l in
         let z : PortNode = (turn_at v b.node h.node).node in
         let at_z : slice_get (turn v).nodes b.node ≡ Some z = node-after v b.node h.node m.well_formed.count h.at in
-        let step : turns_after (k + i + 1) w ≡ turn v = one-more (k + i) w in
+        let held : CableWorld = with_holds (hs (k + i + 1)) (turn v) in
+        let step : quiet_after hs (k + i + 1) w ≡ held = one-quiet hs (k + i) w in
         let n : k + (i + 1) ≡ k + i + 1 = omega arith in
-        let is : later (i + 1) ≡ turn v = ap (λ (j : ℕ). turns_after j w) n ∙ step in
+        let is : later (i + 1) ≡ held = ap (λ (j : ℕ). quiet_after hs j w) n ∙ step in
         let out_z : is_resetting z.state.view.phase ≡ false =
-        steady w l (k + i) (omega (arith, late)) b.node h.node z h.at (ap (λ (u : CableWorld). slice_get u.nodes b.node) step ∙ at_z) h.out in
+        steady hs w l (k + i) (omega (arith, late)) b.node h.node z h.at (ap (λ (u : CableWorld). slice_get u.nodes b.node) step ∙ at_z) h.out in
         record {
           cable = ap (λ (u : CableWorld). far u.cabling a) is ∙ ap (λ (c : Wiring). far c a) (cabling-after v) ∙ h.cable;
           node = z;
           at = ap (λ (u : CableWorld). slice_get u.nodes b.node) is ∙ at_z;
           out = out_z;
-          old = subst (λ (u : CableWorld). OldReset (i + 1) (wire_of u a).signals) (sym is) (old-after v m a b h.node z i h.cable h.at at_z h.out out_z h.old);
+          old = subst (λ (u : CableWorld). OldReset (i + 1) (wire_of u a).signals) (sym is)
+              (subst (OldReset (i + 1)) (sym (holds-signals (hs (k + i + 1)) (turn v) a (turn-lawful v m))) (old-after v m a b h.node z i h.cable h.at at_z h.out out_z h.old));
         }
 
     all : Waits 0 → (i : ℕ) → Waits i
@@ -175,26 +179,26 @@ module _
     never h =
         let i : ℕ = (later 0).delay in
         let u : Waits i = all h i in
-        let m : IsLawful (later i) = turns-lawful (k + i) w l in
+        let m : IsLawful (later i) = quiet-lawful hs (k + i) w l in
         none-older ((later i).delay - 1) i (wire_of (later i) a).signals (less i m) (m.well_formed.ages a) u.old
       where
         less : (i : ℕ) → IsLawful (later i) → (later i).delay - 1 < (later 0).delay
-        less i m = omega (arith, after-delay w l (k + i), after-delay w l (k + 0), l.well_formed.some_delay)
+        less i m = omega (arith, after-delay hs w l (k + i), after-delay hs w l (k + 0), l.well_formed.some_delay)
 
 pub resets-over :
-    (w : CableWorld) → IsLawful w → (k : ℕ) → length w.nodes * w.delay ≤ k →
-    ResetsAreOver (turns_after k w)
-resets-over w l k late a b y e at r = go (is_resetting y.state.view.phase) refl
+    (hs : HoldSchedule) (w : CableWorld) → IsLawful w → (k : ℕ) → length w.nodes * w.delay ≤ k →
+    ResetsAreOver (quiet_after hs k w)
+resets-over hs w l k late a b y e at r = go (is_resetting y.state.view.phase) refl
   where
     z : k + 0 ≡ k
     z = omega arith
 
     go : (c : Bool) → is_resetting y.state.view.phase ≡ c → c ≡ true
     go true h = refl
-    go false h = absurd (never w l k late a b (record {
-      cable = subst (λ n. far (turns_after n w).cabling a ≡ Some b) (sym z) e;
+    go false h = absurd (never hs w l k late a b (record {
+      cable = subst (λ n. far (quiet_after hs n w).cabling a ≡ Some b) (sym z) e;
       node = y;
-      at = subst (λ n. slice_get (turns_after n w).nodes b.node ≡ Some y) (sym z) at;
+      at = subst (λ n. slice_get (quiet_after hs n w).nodes b.node ≡ Some y) (sym z) at;
       out = h;
-      old = subst (λ n. OldReset 0 (wire_of (turns_after n w) a).signals) (sym z) (some-old (wire_of (turns_after k w) a).signals r);
+      old = subst (λ n. OldReset 0 (wire_of (quiet_after hs n w) a).signals) (sym z) (some-old (wire_of (quiet_after hs k w) a).signals r);
     }))

@@ -1,7 +1,7 @@
 -- A set of nodes, closed under cables, whose nodes know their tree, in a world in which resets are
 -- done. It stays so; its
 -- child cables stay.
-use Rattle.std.proofs.Common.{◌≡◌, inl, inr, ℕ, zero, suc, ◌+◌, ◌≤◌, true, false, not, Option, Some, None, slice_get, refl, sym, ◌∙◌, ap, subst, arith, add-one}
+use Rattle.std.proofs.Common.{◌≡◌, inl, inr, ℕ, zero, suc, ◌+◌, ◌≤◌, true, false, not, List, Option, Some, None, slice_get, refl, sym, ◌∙◌, ap, subst, arith, add-one}
 use Rattle.cabling.specs.declared.cable.End.{End}
 use Rattle.cabling.specs.Wiring.{Wiring, far}
 use Rattle.cabling.specs.NodeSet.{Holds}
@@ -13,11 +13,11 @@ use Rattle.port_state.specs.Ports.{is_port}
 use Rattle.port_state.specs.Valid.{IsValid}
 use Rattle.port_state.specs.Machine.{PortNode}
 use Rattle.cable_world.specs.World.{CableWorld}
-use Rattle.cable_world.specs.Turn.{turn_at, turn, turns_after}
+use Rattle.cable_world.specs.Turn.{turn_at, turn}
 use Rattle.cable_world.specs.Phases.{is_before_tree}
 use Rattle.cable_world.specs.Agreement.{leads_down}
 use Rattle.cable_world.specs.Lawful.{IsLawful}
-use Rattle.cable_world.proofs.turns.ByNumber.{cabling-after, no-turns, one-more, node-after}
+use Rattle.cable_world.proofs.turns.ByNumber.{cabling-after, node-after}
 use Rattle.cable_world.proofs.coupling.CableInTurn.{came}
 use Rattle.cable_world.proofs.coupling.CouplingInTurns.{side, side-node}
 use Rattle.cable_world.proofs.levels.LastSent.{child-if}
@@ -27,17 +27,20 @@ use Rattle.cable_world.proofs.coupling.Sides.{hearing, ticking, late-roles}
 use Rattle.cable_world.proofs.StaysLawful.{turn-lawful}
 use Rattle.cable_world.proofs.coupling.Streams.{not-both}
 use Rattle.cable_world.proofs.turns.NodeFacts.{NoEntry}
+use Rattle.cable_world.specs.Quiet.{PlacedHold, HoldSchedule, with_holds, quiet_after}
+use Rattle.cable_world.proofs.QuietTurns.{holds-lawful, no-quiet, one-quiet}
 use Rattle.convergence.specs.Acyclic.{IsChildCable, IsAcyclic}
 use Rattle.convergence.specs.Rivals.{IsContested, IsBelow}
 use Rattle.convergence.specs.Milestones.{ResetsAreDone}
 use Rattle.convergence.proofs.turns.CalmTurns.{Calmly, calmly, heard_by, turn-done, done-calm}
-use Rattle.convergence.proofs.coins.StaysContested.{rivals-of, turn-contested}
+use Rattle.convergence.proofs.coins.StaysContested.{rivals-of, turn-contested, holds-contested}
 use Rattle.convergence.proofs.coins.ContestsInTurns.{down-after}
 use Rattle.convergence.proofs.turns.Moves.{tick-late}
 use Rattle.convergence.proofs.resets.ResetsDone.{no-resets}
 use Rattle.convergence.proofs.coins.Rivals.{Rivals}
 use Rattle.convergence.proofs.turns.Roles.{parent-late, child-late}
 use Rattle.convergence.proofs.ranks.RanksInTurns.{turn-acyclic}
+use Rattle.convergence.proofs.ranks.StaysAcyclic.{holds-acyclic}
 use Rattle.convergence.proofs.turns.Weights.{weight, tick-weight}
 
 pub record Grown (w : CableWorld) (set : ℕ) : Type 0 where
@@ -175,33 +178,60 @@ module _ (w : CableWorld) (set : ℕ) (g : Grown w set) where
             (no-resets (turn w) b a (turn-lawful w l) (turn-done w l g.done) (ap (λ (c : Wiring). far c b) (cabling-after w) ∙ there-back a b e.joined))).0;
       }
 
--- ---- turns
+-- ---- holds
 
-module _ (v : CableWorld) (set : ℕ) (g : Grown v set) where
-  pub grown-after : (i : ℕ) → Grown (turns_after i v) set
-  grown-after zero = subst (λ (u : CableWorld). Grown u set) (sym (no-turns v)) g
-  grown-after (suc i) = subst (λ n. Grown (turns_after n v) set) (add-one i) (subst (λ (u : CableWorld). Grown u set) (sym (one-more i v)) (grown-turn (turns_after i v) set (grown-after i)))
+pub grown-held :
+    (holds : List PlacedHold) (w : CableWorld) (set : ℕ) → Grown w set →
+    Grown (with_holds holds w) set
+grown-held holds w set g = record {
+  lawful = holds-lawful holds w g.lawful;
+  acyclic = holds-acyclic holds w g.lawful g.acyclic;
+  contested = holds-contested holds w g.lawful g.contested;
+  done = g.done;
+  closed = g.closed;
+  late = g.late;
+}
 
-  pub cable-after : (a b : End) → IsChildCable v a b → (i : ℕ) → IsChildCable (turns_after i v) a b
-  cable-after a b e zero = subst (λ (u : CableWorld). IsChildCable u a b) (sym (no-turns v)) e
+cable-held :
+    (holds : List PlacedHold) (w : CableWorld) (a b : End) → IsChildCable w a b →
+    IsChildCable (with_holds holds w) a b
+cable-held holds w a b e = record {
+  joined = e.joined;
+  above = e.above;
+  above_at = e.above_at;
+  child = e.child;
+  below = e.below;
+  below_at = e.below_at;
+  parent = e.parent;
+}
+
+-- ---- quiet turns
+
+module _ (hs : HoldSchedule) (v : CableWorld) (set : ℕ) (g : Grown v set) where
+  pub grown-after : (i : ℕ) → Grown (quiet_after hs i v) set
+  grown-after zero = subst (λ (u : CableWorld). Grown u set) (sym (no-quiet hs v)) (grown-held (hs 0) v set g)
+  grown-after (suc i) = subst (λ n. Grown (quiet_after hs n v) set) (add-one i) (subst (λ (u : CableWorld). Grown u set) (sym (one-quiet hs i v)) (grown-held (hs (i + 1)) (turn (quiet_after hs i v)) set (grown-turn (quiet_after hs i v) set (grown-after i))))
+
+  pub cable-after : (a b : End) → IsChildCable v a b → (i : ℕ) → IsChildCable (quiet_after hs i v) a b
+  cable-after a b e zero = subst (λ (u : CableWorld). IsChildCable u a b) (sym (no-quiet hs v)) (cable-held (hs 0) v a b e)
   cable-after a b e (suc i) =
-      subst (λ n. IsChildCable (turns_after n v) a b) (add-one i)
-      (subst (λ (u : CableWorld). IsChildCable u a b) (sym (one-more i v)) (cable-turn (turns_after i v) set (grown-after i) a b (cable-after a b e i)))
+      subst (λ n. IsChildCable (quiet_after hs n v) a b) (add-one i)
+      (subst (λ (u : CableWorld). IsChildCable u a b) (sym (one-quiet hs i v)) (cable-held (hs (i + 1)) (turn (quiet_after hs i v)) a b (cable-turn (quiet_after hs i v) set (grown-after i) a b (cable-after a b e i))))
 
   pub weight-step :
-      (k : ℕ) → Holds set k → (i : ℕ) → weight_in (slice_get (turns_after (i + 1) v).nodes k)
-      ≤ weight_in (slice_get (turns_after i v).nodes k)
-  weight-step k h i = subst (λ (u : CableWorld). weight_in (slice_get u.nodes k) ≤ weight_in (slice_get (turns_after i v).nodes k)) (sym (one-more i v)) (weight-turn (turns_after i v) set (grown-after i) k h)
+      (k : ℕ) → Holds set k → (i : ℕ) → weight_in (slice_get (quiet_after hs (i + 1) v).nodes k)
+      ≤ weight_in (slice_get (quiet_after hs i v).nodes k)
+  weight-step k h i = subst (λ (u : CableWorld). weight_in (slice_get u.nodes k) ≤ weight_in (slice_get (quiet_after hs i v).nodes k)) (sym (one-quiet hs i v)) (weight-turn (quiet_after hs i v) set (grown-after i) k h)
 
   pub weight-after :
-      (k : ℕ) → Holds set k → (i : ℕ) → weight_in (slice_get (turns_after i v).nodes k)
+      (k : ℕ) → Holds set k → (i : ℕ) → weight_in (slice_get (quiet_after hs i v).nodes k)
       ≤ weight_in (slice_get v.nodes k)
-  weight-after k h zero = omega (arith, ap (λ (u : CableWorld). weight_in (slice_get u.nodes k)) (no-turns v))
+  weight-after k h zero = omega (arith, ap (λ (u : CableWorld). weight_in (slice_get u.nodes k)) (no-quiet hs v))
   weight-after k h (suc i) =
-      subst (λ n. weight_in (slice_get (turns_after n v).nodes k) ≤ weight_in (slice_get v.nodes k)) (add-one i) (omega (arith, weight-step k h i, weight-after k h i))
+      subst (λ n. weight_in (slice_get (quiet_after hs n v).nodes k) ≤ weight_in (slice_get v.nodes k)) (add-one i) (omega (arith, weight-step k h i, weight-after k h i))
 
   -- a node after one turn more
   pub calm-at :
-      (i k : ℕ) (y : PortNode) → slice_get (turns_after (i + 1) v).nodes k ≡ Some y →
-      Calmly (turns_after i v) k y.state
-  calm-at i k y at = calm-turn (turns_after i v) set (grown-after i) k y (ap (λ (u : CableWorld). slice_get u.nodes k) (sym (one-more i v)) ∙ at)
+      (i k : ℕ) (y : PortNode) → slice_get (quiet_after hs (i + 1) v).nodes k ≡ Some y →
+      Calmly (quiet_after hs i v) k y.state
+  calm-at i k y at = calm-turn (quiet_after hs i v) set (grown-after i) k y (ap (λ (u : CableWorld). slice_get u.nodes k) (sym (one-quiet hs i v)) ∙ at)

@@ -14,17 +14,16 @@ use Rattle.port_state.specs.Ports.{is_idle, is_child, is_port, is_connected}
 use Rattle.port_state.specs.Tick.{tick}
 use Rattle.port_state.specs.Machine.{PortNode}
 use Rattle.cable_world.specs.World.{CableWorld}
-use Rattle.cable_world.specs.Turn.{turns_after}
 use Rattle.cable_world.specs.Agreement.{level_sent, level_shown, leads_down}
 use Rattle.cable_world.specs.Phases.{is_before_tree, is_shaking}
-use Rattle.cable_world.proofs.turns.ByNumber.{no-turns}
 use Rattle.cable_world.proofs.resets.Entries.{after-delay}
 use Rattle.cable_world.proofs.tables.CableEnds.{cable-connected}
 use Rattle.cable_world.proofs.Options.{some-same}
+use Rattle.cable_world.specs.Quiet.{HoldSchedule, holds_after, quiet_after}
+use Rattle.cable_world.proofs.QuietTurns.{no-quiet, quiet-then, after-cabling}
 use Rattle.convergence.specs.Acyclic.{IsChildCable}
 use Rattle.convergence.proofs.turns.CalmTurns.{Calmly, heard_by}
-use Rattle.convergence.proofs.turns.Flush.{after-cabling, Tells, Shown, flush}
-use Rattle.cable_world.proofs.turns.ByNumber.{turns-then}
+use Rattle.convergence.proofs.turns.Flush.{Tells, Shown, flush}
 use Rattle.convergence.proofs.rounds.Grown.{Grown, weight_in, child-cable, below-cable, parent-only, grown-after, cable-after, weight-step, weight-after, calm-at}
 use Rattle.convergence.proofs.turns.Moves.{all_idle, tick-child-shake}
 use Rattle.convergence.proofs.turns.Weights.{weigh, weight, still-shakes, tick-child-shake-by, tick-parent-shake-by, tick-accepted, Busy, some-busy}
@@ -54,17 +53,17 @@ pub record Shakes (w : CableWorld) (k : ℕ) : Type 0 where
   pub at : slice_get w.nodes k ≡ Some node
   pub shakes : node.state.view.phase ≡ phase.ChildShake
 
-module _ (v : CableWorld) (set : ℕ) (g : Grown v set) (u : ℕ) (in_set : Holds set u) (s : Shakes v u)
+module _ (hs : HoldSchedule) (v : CableWorld) (set : ℕ) (g : Grown v set) (u : ℕ) (in_set : Holds set u) (s : Shakes v u)
     (bottom : (a b : End) → (e : IsChildCable v a b) → a.node ≡ u → e.below.state.view.phase ≡ phase.ChildShake → ⊥) where
   abbrev later : ℕ → CableWorld
-  later i = turns_after i v
+  later i = quiet_after hs i v
 
   -- u is as heavy as now
   abbrev C : ℕ → Type 0
   C i = weight s.node.state ≤ weight_in (slice_get (later i).nodes u)
 
   was : (i : ℕ) → C (i + 1) → C i
-  was i c = omega (arith, c, weight-step v set g u in_set i)
+  was i c = omega (arith, c, weight-step hs v set g u in_set i)
 
   -- so it is in T1
   there : (i : ℕ) → C i → Shakes (later i) u
@@ -76,7 +75,7 @@ module _ (v : CableWorld) (set : ℕ) (g : Grown v set) (u : ℕ) (in_set : Hold
       go : (o : Option PortNode) → slice_get (later i).nodes u ≡ o → Shakes (later i) u
       go None e = absurd (omega (arith, c, heavy, ap weight_in e))
       go (Some z) e =
-          let same : weight z.state ≡ weigh phase.ChildShake s.node.state.view.parent = omega (arith, c, heavy, ap weight_in e, weight-after v set g u in_set i, ap weight_in s.at) in
+          let same : weight z.state ≡ weigh phase.ChildShake s.node.state.view.parent = omega (arith, c, heavy, ap weight_in e, weight-after hs v set g u in_set i, ap weight_in s.at) in
           record { node = z; at = e; shakes = still-shakes z.state.view.phase z.state.view.parent s.node.state.view.parent same }
 
   before :
@@ -90,7 +89,7 @@ module _ (v : CableWorld) (set : ℕ) (g : Grown v set) (u : ℕ) (in_set : Hold
 
   module _ (p : ℕ) (b : End) (e : IsChildCable v (end_at u p) b) where
     cable : (i : ℕ) → IsChildCable (later i) (end_at u p) b
-    cable i = cable-after v set g (end_at u p) b e i
+    cable i = cable-after hs v set g (end_at u p) b e i
 
     tells-child : (i : ℕ) → C i → Tells (later i) (end_at u p) is_child
     tells-child i c z at =
@@ -101,7 +100,7 @@ module _ (v : CableWorld) (set : ℕ) (g : Grown v set) (u : ℕ) (in_set : Hold
         (ap (λ (n : PortNode). leads_down n.state.view.ports p) (some-same z k.above (sym at ∙ k.above_at)) ∙ k.child)
 
     shown-child : (i : ℕ) → v.delay ≤ i → C i → Shown (later i) b is_child
-    shown-child = flush v g.lawful (end_at u p) b e.joined is_child C was tells-child
+    shown-child = flush hs v g.lawful (end_at u p) b e.joined is_child C was tells-child
 
     -- what the child was a turn before, as the cable tells it
     record Child (i : ℕ) (y : PortNode) : Type 0 where
@@ -113,9 +112,9 @@ module _ (v : CableWorld) (set : ℕ) (g : Grown v set) (u : ℕ) (in_set : Hold
 
     child-of : (i : ℕ) (y : PortNode) → slice_get (later (i + 1)).nodes b.node ≡ Some y → Child i y
     child-of i y at =
-        let h = calm-at v set g i b.node y at in
+        let h = calm-at hs v set g i b.node y at in
         let k = cable i in
-        let gi = grown-after v set g i in
+        let gi = grown-after hs v set g i in
         let same : k.below ≡ h.node = some-same k.below h.node (sym k.below_at ∙ h.at) in
         record {
           calm = h;
@@ -131,11 +130,11 @@ module _ (v : CableWorld) (set : ℕ) (g : Grown v set) (u : ℕ) (in_set : Hold
         y.state.view.phase ≡ phase.ChildShake → ⊥
     never zero y at t =
         bottom (end_at u p) b e refl
-        (ap (λ (n : PortNode). n.state.view.phase) (some-same e.below y (sym e.below_at ∙ ap (λ (w : CableWorld). slice_get w.nodes b.node) (sym (no-turns v)) ∙ at)) ∙ t)
+        (ap (λ (n : PortNode). n.state.view.phase) (some-same e.below y (sym e.below_at ∙ ap (λ (w : CableWorld). slice_get w.nodes b.node) (sym (no-quiet hs v)) ∙ at)) ∙ t)
     never (suc i) y at t = go (never i)
       where
         c : Child i y
-        c = child-of i y (subst (λ n. slice_get (turns_after n v).nodes b.node ≡ Some y) (sym (add-one i)) at)
+        c = child-of i y (subst (λ n. slice_get (quiet_after hs n v).nodes b.node ≡ Some y) (sym (add-one i)) at)
 
         go :
             ((z : PortNode) → slice_get (later i).nodes b.node ≡ Some z → z.state.view.phase ≡ phase.ChildShake → ⊥)
@@ -164,7 +163,7 @@ module _ (v : CableWorld) (set : ℕ) (g : Grown v set) (u : ℕ) (in_set : Hold
     ]
       where
         k : Child i y
-        k = child-of i y (subst (λ n. slice_get (turns_after n v).nodes b.node ≡ Some y) (sym (add-one i)) at)
+        k = child-of i y (subst (λ n. slice_get (quiet_after hs n v).nodes b.node ≡ Some y) (sym (add-one i)) at)
 
         shown : is_child (level_shown (heard_by (later i) b.node k.calm.node) b.port) ≡ true
         shown = ap is_child (sym (k.calm.ticks.shown b.port)) ∙ ap (λ (z : NodeState). is_child (level_shown z b.port)) (sym k.calm.is) ∙ shown-child (suc i) d c y at
@@ -172,7 +171,7 @@ module _ (v : CableWorld) (set : ℕ) (g : Grown v set) (u : ℕ) (in_set : Hold
     tells-idle : (i : ℕ) → v.delay ≤ i → C i → Tells (later i) b is_idle
     tells-idle i d c y at =
         let k = cable i in
-        let gi = grown-after v set g i in
+        let gi = grown-after hs v set g i in
         let back : far (later i).cabling b ≡ Some (end_at u p) = gi.lawful.well_formed.cabling.both_ways (end_at u p) b k.joined in
         idle-out y.state.view.phase (leads_down y.state.view.ports b.port) (gi.late b.node y (gi.closed (end_at u p) b k.joined in_set) at) (go (is_shaking y.state.view.phase) refl)
         (parent-only (later i) set gi b (end_at u p) y back at (ap (λ (n : PortNode). is_port n.state.view.parent b.port) (some-same y k.below (sym at ∙ k.below_at)) ∙ k.parent))
@@ -187,16 +186,20 @@ module _ (v : CableWorld) (set : ℕ) (g : Grown v set) (u : ℕ) (in_set : Hold
     was-then : (i : ℕ) → D (i + 1) → D i
     was-then i c = let z : v.delay + (i + 1) ≡ v.delay + i + 1 = omega arith in was (v.delay + i) (subst C z c)
 
-    then-tells : (i : ℕ) → D i → Tells (turns_after i (later v.delay)) b is_idle
-    then-tells i c = subst (λ (w : CableWorld). Tells w b is_idle) (turns-then v.delay i v) (tells-idle (v.delay + i) (omega arith) c)
+    -- the holds from there
+    abbrev rest : HoldSchedule
+    rest = holds_after v.delay hs
+
+    then-tells : (i : ℕ) → D i → Tells (quiet_after rest i (later v.delay)) b is_idle
+    then-tells i c = subst (λ (w : CableWorld). Tells w b is_idle) (quiet-then hs v.delay i v) (tells-idle (v.delay + i) (omega arith) c)
 
     -- d turns later u sees Idle
     shown-idle : C (v.delay + v.delay) → Shown (later (v.delay + v.delay)) (end_at u p) is_idle
     shown-idle c =
-        let gd = grown-after v set g v.delay in
+        let gd = grown-after hs v set g v.delay in
         let k = cable v.delay in
-        subst (λ (w : CableWorld). Shown w (end_at u p) is_idle) (sym (turns-then v.delay v.delay v))
-        (flush (later v.delay) gd.lawful b (end_at u p) (gd.lawful.well_formed.cabling.both_ways (end_at u p) b k.joined) is_idle D was-then then-tells v.delay (omega (arith, after-delay v g.lawful v.delay)) c)
+        subst (λ (w : CableWorld). Shown w (end_at u p) is_idle) (sym (quiet-then hs v.delay v.delay v))
+        (flush rest (later v.delay) gd.lawful b (end_at u p) (gd.lawful.well_formed.cabling.both_ways (end_at u p) b k.joined) is_idle D was-then then-tells v.delay (omega (arith, after-delay hs v g.lawful v.delay)) c)
 
   -- ---- all children
 
@@ -206,20 +209,20 @@ module _ (v : CableWorld) (set : ℕ) (g : Grown v set) (u : ℕ) (in_set : Hold
       slice_get (later i).nodes u ≡ Some z → leads_down z.state.view.ports p ≡ true →
       leads_down s.node.state.view.ports p ≡ true
   child-was p b e zero c z at d =
-      ap (λ (n : PortNode). leads_down n.state.view.ports p) (some-same s.node z (sym s.at ∙ ap (λ (w : CableWorld). slice_get w.nodes u) (sym (no-turns v)) ∙ at)) ∙ d
+      ap (λ (n : PortNode). leads_down n.state.view.ports p) (some-same s.node z (sym s.at ∙ ap (λ (w : CableWorld). slice_get w.nodes u) (sym (no-quiet hs v)) ∙ at)) ∙ d
   child-was p b e (suc i) c z at d = go (child-was p b e i ci)
     where
       ci : C i
       ci = was i (subst C (sym (add-one i)) c)
 
       h : Calmly (later i) u z.state
-      h = calm-at v set g i u z (subst (λ n. slice_get (turns_after n v).nodes u ≡ Some z) (sym (add-one i)) at)
+      h = calm-at hs v set g i u z (subst (λ n. slice_get (quiet_after hs n v).nodes u ≡ Some z) (sym (add-one i)) at)
 
       shakes : (heard_by (later i) u h.node).view.phase ≡ phase.ChildShake
       shakes = h.heard.phase ∙ before i z h ci
 
       on : is_connected (heard_by (later i) u h.node).view.ports p ≡ true
-      on = h.hears.cables p ∙ cable-connected (later i) (end_at u p) b h.node (grown-after v set g i).lawful.well_formed (ap (λ (c : Wiring). far c (end_at u p)) (after-cabling i v) ∙ e) h.at
+      on = h.hears.cables p ∙ cable-connected (later i) (end_at u p) b h.node (grown-after hs v set g i).lawful.well_formed (ap (λ (c : Wiring). far c (end_at u p)) (after-cabling hs i v) ∙ e) h.at
 
       go :
           ((n : PortNode) → slice_get (later i).nodes u ≡ Some n → leads_down n.state.view.ports p ≡ true → leads_down s.node.state.view.ports p ≡ true)
@@ -248,7 +251,7 @@ module _ (v : CableWorld) (set : ℕ) (g : Grown v set) (u : ℕ) (in_set : Hold
       t = there (v.delay + v.delay) c
 
       h : Calmly (later j) u t.node.state
-      h = calm-at v set g j u t.node (ap (λ n. slice_get (turns_after n v).nodes u) z ∙ t.at)
+      h = calm-at hs v set g j u t.node (ap (λ n. slice_get (quiet_after hs n v).nodes u) z ∙ t.at)
 
       mid : NodeState
       mid = heard_by (later j) u h.node
@@ -257,11 +260,11 @@ module _ (v : CableWorld) (set : ℕ) (g : Grown v set) (u : ℕ) (in_set : Hold
       busy k = there-is (far v.cabling (end_at u k.port)) refl
         where
           gj : Grown (later j) set
-          gj = grown-after v set g j
+          gj = grown-after hs v set g j
 
           there-is : (o : Option End) → far v.cabling (end_at u k.port) ≡ o → ⊥
           there-is None e = true≢false
-              (sym k.on ∙ h.hears.cables k.port ∙ (gj.lawful.well_formed.nodes u h.node h.at).connected k.port ∙ ap (λ (c : Wiring). is_some (far c (end_at u k.port))) (after-cabling j v) ∙ ap is_some e)
+              (sym k.on ∙ h.hears.cables k.port ∙ (gj.lawful.well_formed.nodes u h.node h.at).connected k.port ∙ ap (λ (c : Wiring). is_some (far c (end_at u k.port))) (after-cabling hs j v) ∙ ap is_some e)
           there-is (Some b) e =
               let down : leads_down s.node.state.view.ports k.port ≡ true = child-was k.port b e j cj h.node h.at (sym (h.heard.child k.port) ∙ k.child) in
               let shown = shown-idle k.port b (child-cable v set g (end_at u k.port) b s.node e s.at down) c t.node t.at in
@@ -276,7 +279,7 @@ module _ (v : CableWorld) (set : ℕ) (g : Grown v set) (u : ℕ) (in_set : Hold
 
   -- so it is lighter
   pub lighter :
-      weight_in (slice_get (turns_after (v.delay + v.delay) v).nodes u) + 1 ≤ weight s.node.state
+      weight_in (slice_get (quiet_after hs (v.delay + v.delay) v).nodes u) + 1 ≤ weight s.node.state
   lighter = elim (less-or (weight_in (slice_get (later (v.delay + v.delay)).nodes u)) (weight s.node.state)) [
     | inl a ↦ a
     | inr a ↦ absurd (not-still a)

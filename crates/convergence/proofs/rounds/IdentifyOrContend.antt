@@ -9,19 +9,19 @@ use Rattle.cabling.specs.Looped.{IsCore}
 use Rattle.port_state.specs.declared.signal.Phase.{Phase}
 use Rattle.port_state.specs.declared.signal.Phase.TheVariants as phase
 use Rattle.cable_world.specs.World.{CableWorld, wire_of}
-use Rattle.cable_world.specs.Turn.{turn, turns_after}
+use Rattle.cable_world.specs.Turn.{turn}
 use Rattle.cable_world.specs.Phases.{is_shaking}
 use Rattle.cable_world.specs.Outcome.{HasNoLoop}
-use Rattle.cable_world.proofs.turns.ByNumber.{cabling-after, one-more}
+use Rattle.cable_world.proofs.turns.ByNumber.{cabling-after}
 use Rattle.cable_world.proofs.resets.Entries.{after-delay, after-length}
+use Rattle.cable_world.specs.Quiet.{HoldSchedule, holds_after, quiet_after}
+use Rattle.cable_world.proofs.QuietTurns.{one-quiet, quiet-then, after-cabling}
 use Rattle.convergence.specs.Rivals.{AreRivals}
 use Rattle.convergence.specs.Drawers.{AreMutual}
 use Rattle.convergence.specs.Kept.{IsGrown}
 use Rattle.convergence.specs.Turns.{decision_turns}
 use Rattle.convergence.specs.Milestones.{AreIdentifying, HasContention, IdentifyOrContend, TreesAreDecided}
 use Rattle.convergence.proofs.rounds.ThirtyThreeRounds.{contend, contention-turn, contention-after, rounds}
-use Rattle.convergence.proofs.turns.Flush.{after-cabling}
-use Rattle.cable_world.proofs.turns.ByNumber.{turns-then}
 use Rattle.convergence.proofs.rounds.Grown.{Grown, grown-after}
 use Rattle.convergence.proofs.rounds.Rooted.{component-after, identify-after, rooted-ends}
 use Rattle.convergence.proofs.rounds.RivalSteps.{AreUp}
@@ -70,42 +70,43 @@ abbrev most : ℕ → ℕ → ℕ
 most n d = 3 * n * (d + d) + (33 * (12 * d) + 22 * d) + (3 * n * (d + d) + 1)
 
 settles :
-    (v : CableWorld) (set node : ℕ) → Grown v set → IsComponent v.cabling node set →
+    (hs : HoldSchedule) (v : CableWorld) (set node : ℕ) → Grown v set → IsComponent v.cabling node set →
     HasNoLoop v set → (i : ℕ) × (i ≤ most (length v.nodes) v.delay)
-    × IdentifyOrContend (turns_after i v) set
-settles v set node g whole free =
-    let s = shaken-out set v g in
-    let w : CableWorld = turns_after s.0 v in
-    let gw : Grown w set = grown-after v set g s.0 in
+    × IdentifyOrContend (quiet_after hs i v) set
+settles hs v set node g whole free =
+    let s = shaken-out set hs v g in
+    let w : CableWorld = quiet_after hs s.0 v in
+    let gw : Grown w set = grown-after hs v set g s.0 in
+    let rest : HoldSchedule = holds_after s.0 hs in
     elim (search-set set is_unrooted w) [
-      | inl none ↦ (s.0 + 1, omega (arith, s.1), inl (subst (λ (u : CableWorld). AreIdentifying u set) (sym (one-more s.0 v)) (all-identify w set gw s.2 none)))
+      | inl none ↦ (s.0 + 1, omega (arith, s.1), inl (subst (λ (u : CableWorld). AreIdentifying u set) (sym (one-quiet hs s.0 v)) (all-identify w set gw s.2 none)))
       | inr f ↦
           let m = rival-of w set gw s.2 f.0 f.1 in
           let up = rivals-up w set gw s.2 m.0 m.1 (subst (Holds set) (sym m.2) f.1.holds) m.3 in
-          let d : w.delay ≡ v.delay = after-delay v g.lawful s.0 in
-          elim (rounds set m.0 m.1 33 0 (omega arith) w gw up) [
+          let d : w.delay ≡ v.delay = after-delay hs v g.lawful s.0 in
+          elim (rounds set m.0 m.1 rest 33 0 (omega arith) w gw up) [
             | inl t ↦
-                let same : turns_after (s.0 + t.0) v ≡ turns_after t.0 w = turns-then s.0 t.0 v in (
+                let same : quiet_after hs (s.0 + t.0) v ≡ quiet_after rest t.0 w = quiet-then hs s.0 t.0 v in (
                   s.0 + t.0,
                   omega (arith, s.1, t.1, d),
                   inr (subst (λ (u : CableWorld). HasContention u set) (sym same)
-                      (contend (turns_after t.0 w) set (grown-after w set gw t.0) m.0 m.1 (let z : 0 + 33 ≡ 33 = omega arith in subst (λ k. At (turns_after t.0 w) set m.0 m.1 (AreUp m.0.port m.1.port k)) z t.2)
+                      (contend (quiet_after rest t.0 w) set (grown-after rest w set gw t.0) m.0 m.1 (let z : 0 + 33 ≡ 33 = omega arith in subst (λ k. At (quiet_after rest t.0 w) set m.0 m.1 (AreUp m.0.port m.1.port k)) z t.2)
                       (subst (λ (u : CableWorld). HasNoLoop u set) same (no-loop-after (s.0 + t.0))))),
                 )
             | inr t ↦
-                let u : CableWorld = turns_after t.0 w in
-                let gu : Grown u set = grown-after w set gw t.0 in
-                let e = rooted-ends set u gu node (component-after set w node t.0 (component-after set v node s.0 whole)) t.2 in
+                let u : CableWorld = quiet_after rest t.0 w in
+                let gu : Grown u set = grown-after rest w set gw t.0 in
+                let e = rooted-ends (holds_after t.0 rest) set u gu node (component-after rest set w node t.0 (component-after hs set v node s.0 whole)) t.2 in
                 let z : s.0 + (t.0 + e.0) ≡ s.0 + (t.0 + e.0) = refl in (
                   s.0 + (t.0 + e.0),
-                  sums (length v.nodes) (length u.nodes) v.delay u.delay w.delay s.0 t.0 e.0 (after-length w gw.lawful t.0 ∙ after-length v g.lawful s.0) (after-delay w gw.lawful t.0 ∙ d) d s.1 t.1 e.1,
-                  inl (subst (λ (u : CableWorld). AreIdentifying u set) (sym (turns-then s.0 (t.0 + e.0) v)) (subst (λ (u : CableWorld). AreIdentifying u set) (sym (turns-then t.0 e.0 w)) e.2)),
+                  sums (length v.nodes) (length u.nodes) v.delay u.delay w.delay s.0 t.0 e.0 (after-length rest w gw.lawful t.0 ∙ after-length hs v g.lawful s.0) (after-delay rest w gw.lawful t.0 ∙ d) d s.1 t.1 e.1,
+                  inl (subst (λ (u : CableWorld). AreIdentifying u set) (sym (quiet-then hs s.0 (t.0 + e.0) v)) (subst (λ (u : CableWorld). AreIdentifying u set) (sym (quiet-then rest t.0 e.0 w)) e.2)),
                 )
           ]
     ]
   where
-    no-loop-after : (i : ℕ) → HasNoLoop (turns_after i v) set
-    no-loop-after i = record { core = free.core; is_core = subst (λ c. IsCore c set free.core) (sym (after-cabling i v)) free.is_core; empty = free.empty }
+    no-loop-after : (i : ℕ) → HasNoLoop (quiet_after hs i v) set
+    no-loop-after i = record { core = free.core; is_core = subst (λ c. IsCore c set free.core) (sym (after-cabling hs i v)) free.is_core; empty = free.empty }
 
     sums :
         (n m d e c i j k : ℕ) → m ≡ n → e ≡ d → c ≡ d → i ≤ 3 * n * (d + d) → j ≤ 33 * (12 * c)
@@ -116,18 +117,19 @@ settles v set node g whole free =
 
 -- and stays
 settled :
-    (v : CableWorld) (set node : ℕ) → Grown v set → IsComponent v.cabling node set →
+    (hs : HoldSchedule) (v : CableWorld) (set node : ℕ) → Grown v set → IsComponent v.cabling node set →
     HasNoLoop v set → (i : ℕ) → most (length v.nodes) v.delay ≤ i →
-    IdentifyOrContend (turns_after i v) set
-settled v set node g whole free i late =
-    let s = settles v set node g whole free in
-    let w : CableWorld = turns_after s.0 v in
-    let gw : Grown w set = grown-after v set g s.0 in
+    IdentifyOrContend (quiet_after hs i v) set
+settled hs v set node g whole free i late =
+    let s = settles hs v set node g whole free in
+    let w : CableWorld = quiet_after hs s.0 v in
+    let gw : Grown w set = grown-after hs v set g s.0 in
     let z : i ≡ s.0 + (i - s.0) = omega (arith, late, s.1) in
-    let same : turns_after i v ≡ turns_after (i - s.0) w = ap (λ n. turns_after n v) z ∙ turns-then s.0 (i - s.0) v in
+    let rest : HoldSchedule = holds_after s.0 hs in
+    let same : quiet_after hs i v ≡ quiet_after rest (i - s.0) w = ap (λ n. quiet_after hs n v) z ∙ quiet-then hs s.0 (i - s.0) v in
     subst (λ (u : CableWorld). IdentifyOrContend u set) (sym same) (elim s.2 [
-      | inl t ↦ inl (identify-after set w gw (i - s.0) t)
-      | inr t ↦ inr (contention-after w set gw (i - s.0) t)
+      | inl t ↦ inl (identify-after rest set w gw (i - s.0) t)
+      | inr t ↦ inr (contention-after rest w set gw (i - s.0) t)
     ])
 
 -- ---- the share
@@ -174,12 +176,12 @@ grown-of w node set core g whole is empty = record {
 }
 
 pub decided-after :
-    (w : CableWorld) (k : ℕ) → IsGrown w → decision_turns w ≤ k → TreesAreDecided (turns_after k w)
-decided-after w k g late node set core whole is empty =
-    let same = after-cabling k w in
+    (hs : HoldSchedule) (w : CableWorld) (k : ℕ) → IsGrown w → decision_turns w ≤ k → TreesAreDecided (quiet_after hs k w)
+decided-after hs w k g late node set core whole is empty =
+    let same = after-cabling hs k w in
     let comp : IsComponent w.cabling node set = subst (λ c. IsComponent c node set) same whole in
     let is_core : IsCore w.cabling set core = subst (λ c. IsCore c set core) same is in
-    settled w set node (grown-of w node set core g comp is_core empty) comp (record { core = core; is_core = is_core; empty = empty }) k
+    settled hs w set node (grown-of w node set core g comp is_core empty) comp (record { core = core; is_core = is_core; empty = empty }) k
     (omega (arith, share (length w.nodes) w.delay g.lawful.well_formed.some_delay, late))
 
 -- a turn keeps it

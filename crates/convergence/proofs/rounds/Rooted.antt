@@ -1,15 +1,16 @@
 -- A set with a root comes to self identify.
-use Rattle.std.proofs.Common.{◌≡◌, inl, inr, ℕ, zero, suc, ◌+◌, ◌*◌, ◌≤◌, false, length, Some, slice_get, sym, subst, arith, add-one}
+use Rattle.std.proofs.Common.{◌≡◌, inl, inr, ℕ, zero, suc, ◌+◌, ◌*◌, ◌≤◌, false, length, List, Some, slice_get, sym, subst, arith, add-one}
 use Rattle.cabling.specs.NodeSet.{Holds}
 use Rattle.cabling.specs.Component.{IsComponent}
 use Rattle.port_state.specs.Machine.{PortNode}
 use Rattle.cable_world.specs.World.{CableWorld}
-use Rattle.cable_world.specs.Turn.{turn_at, turn, turns_after}
-use Rattle.cable_world.proofs.turns.ByNumber.{no-turns, one-more, node-after}
+use Rattle.cable_world.specs.Turn.{turn_at, turn}
+use Rattle.cable_world.proofs.turns.ByNumber.{node-after}
+use Rattle.cable_world.specs.Quiet.{PlacedHold, HoldSchedule, with_holds, quiet_after}
+use Rattle.cable_world.proofs.QuietTurns.{one-quiet, no-quiet, after-cabling}
 use Rattle.convergence.specs.Roots.{IsRoot}
 use Rattle.convergence.specs.Milestones.{AreIdentifying}
 use Rattle.convergence.proofs.coins.Drawers.{pair-no-root}
-use Rattle.convergence.proofs.turns.Flush.{after-cabling}
 use Rattle.convergence.proofs.rounds.Grown.{Grown, grown-turn, grown-after}
 use Rattle.convergence.proofs.resets.ResetsDone.{done-over}
 use Rattle.convergence.proofs.rounds.Shaken.{is_unrooted, search-set, shaken-out, rival-of, all-identify, root-turn, identify-turn}
@@ -21,11 +22,6 @@ pub record HasRoot (w : CableWorld) (set : ℕ) : Type 0 where
   pub root : IsRoot w node
 
 module _ (set : ℕ) where
-  pub component-after :
-      (v : CableWorld) (node i : ℕ) → IsComponent v.cabling node set →
-      IsComponent (turns_after i v).cabling node set
-  component-after v node i c = subst (λ w. IsComponent w node set) (sym (after-cabling i v)) c
-
   root-next : (w : CableWorld) → Grown w set → HasRoot w set → HasRoot (turn w) set
   root-next w g r =
       let y : PortNode = (turn_at w r.node r.root.node).node in
@@ -36,26 +32,40 @@ module _ (set : ℕ) where
         root = record { node = y; at = at; late = (grown-turn w set g).late r.node y r.holds at; parentless = root-turn w set g r.node r.holds r.root y at };
       }
 
+  pub root-held :
+      (holds : List PlacedHold) (w : CableWorld) → HasRoot w set → HasRoot (with_holds holds w) set
+  root-held holds w r = record {
+    node = r.node;
+    holds = r.holds;
+    root = record { node = r.root.node; at = r.root.at; late = r.root.late; parentless = r.root.parentless };
+  }
+
+module _ (hs : HoldSchedule) (set : ℕ) where
+  pub component-after :
+      (v : CableWorld) (node i : ℕ) → IsComponent v.cabling node set →
+      IsComponent (quiet_after hs i v).cabling node set
+  component-after v node i c = subst (λ w. IsComponent w node set) (sym (after-cabling hs i v)) c
+
   pub root-after :
-      (v : CableWorld) → Grown v set → (i : ℕ) → HasRoot v set → HasRoot (turns_after i v) set
-  root-after v g zero r = subst (λ (u : CableWorld). HasRoot u set) (sym (no-turns v)) r
-  root-after v g (suc i) r = subst (λ n. HasRoot (turns_after n v) set) (add-one i) (subst (λ (u : CableWorld). HasRoot u set) (sym (one-more i v)) (root-next (turns_after i v) (grown-after v set g i) (root-after v g i r)))
+      (v : CableWorld) → Grown v set → (i : ℕ) → HasRoot v set → HasRoot (quiet_after hs i v) set
+  root-after v g zero r = subst (λ (u : CableWorld). HasRoot u set) (sym (no-quiet hs v)) (root-held set (hs 0) v r)
+  root-after v g (suc i) r = subst (λ n. HasRoot (quiet_after hs n v) set) (add-one i) (subst (λ (u : CableWorld). HasRoot u set) (sym (one-quiet hs i v)) (root-held set (hs (i + 1)) (turn (quiet_after hs i v)) (root-next set (quiet_after hs i v) (grown-after hs v set g i) (root-after v g i r))))
 
   pub identify-after :
       (v : CableWorld) → Grown v set → (i : ℕ) → AreIdentifying v set →
-      AreIdentifying (turns_after i v) set
-  identify-after v g zero r = subst (λ (u : CableWorld). AreIdentifying u set) (sym (no-turns v)) r
+      AreIdentifying (quiet_after hs i v) set
+  identify-after v g zero r = subst (λ (u : CableWorld). AreIdentifying u set) (sym (no-quiet hs v)) r
   identify-after v g (suc i) r =
-      subst (λ n. AreIdentifying (turns_after n v) set) (add-one i) (subst (λ (u : CableWorld). AreIdentifying u set) (sym (one-more i v)) (identify-turn (turns_after i v) set (grown-after v set g i) (identify-after v g i r)))
+      subst (λ n. AreIdentifying (quiet_after hs n v) set) (add-one i) (subst (λ (u : CableWorld). AreIdentifying u set) (sym (one-quiet hs i v)) (identify-turn (quiet_after hs i v) set (grown-after hs v set g i) (identify-after v g i r)))
 
   pub rooted-ends :
       (v : CableWorld) → Grown v set → (node : ℕ) → IsComponent v.cabling node set → HasRoot v set →
       (i : ℕ) × (i ≤ 3 * length v.nodes * (v.delay + v.delay) + 1)
-      × AreIdentifying (turns_after i v) set
+      × AreIdentifying (quiet_after hs i v) set
   rooted-ends v g node whole r =
-      let s = shaken-out set v g in
-      let w : CableWorld = turns_after s.0 v in
-      let gw : Grown w set = grown-after v set g s.0 in
+      let s = shaken-out set hs v g in
+      let w : CableWorld = quiet_after hs s.0 v in
+      let gw : Grown w set = grown-after hs v set g s.0 in
       let alone : (k : ℕ) (x : PortNode) → Holds set k → slice_get w.nodes k ≡ Some x → is_unrooted x ≡ false = elim (search-set set is_unrooted w) [
         | inl none ↦ none
         | inr f ↦
@@ -63,4 +73,4 @@ module _ (set : ℕ) where
             let root = root-after v g s.0 r in
             absurd (pair-no-root w gw.lawful gw.contested (done-over w gw.lawful gw.done) m.0 m.1 m.3 node set root.node (component-after v node s.0 whole) (subst (Holds set) (sym m.2) f.1.holds) root.holds root.root)
       ] in
-      (s.0 + 1, omega (arith, s.1), subst (λ (u : CableWorld). AreIdentifying u set) (sym (one-more s.0 v)) (all-identify w set gw s.2 alone))
+      (s.0 + 1, omega (arith, s.1), subst (λ (u : CableWorld). AreIdentifying u set) (sym (one-quiet hs s.0 v)) (all-identify w set gw s.2 alone))

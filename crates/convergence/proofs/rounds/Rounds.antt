@@ -1,6 +1,6 @@
 -- A round of a contention: within 12d turns both rivals draw once more, or within 22d turns one has
 -- taken the other as child.
-use Rattle.std.proofs.Common.{◌≡◌, ◌⊎◌, inl, inr, ℕ, zero, suc, ◌+◌, ◌-◌, ◌*◌, ◌<◌, ◌≤◌, Bool, true, false, None, Some, slice_get, sym, ◌∙◌, ap, subst, arith}
+use Rattle.std.proofs.Common.{◌≡◌, ◌⊎◌, inl, inr, ℕ, zero, suc, ◌+◌, ◌-◌, ◌*◌, ◌<◌, ◌≤◌, Bool, true, false, List, None, Some, slice_get, sym, ◌∙◌, ap, subst, arith}
 use Rattle.std.specs.Prelude.{min}
 use Rattle.cabling.specs.declared.cable.End.{End}
 use Rattle.cabling.specs.Wiring.{Wiring, far}
@@ -12,70 +12,98 @@ use Rattle.port_state.specs.Coins.{coin}
 use Rattle.port_state.specs.Ports.{is_parent, is_port}
 use Rattle.port_state.specs.Machine.{PortNode}
 use Rattle.cable_world.specs.World.{CableWorld, wire_of}
-use Rattle.cable_world.specs.Turn.{turn_at, turn, turns_after}
+use Rattle.cable_world.specs.Turn.{turn_at, turn}
 use Rattle.cable_world.specs.Agreement.{level_sent, level_shown, leads_down}
-use Rattle.cable_world.proofs.turns.ByNumber.{no-turns, node-after, cabling-after, delay-after}
+use Rattle.cable_world.proofs.turns.ByNumber.{node-after, cabling-after, delay-after}
 use Rattle.cable_world.proofs.coupling.CouplingInTurns.{side, side-node}
 use Rattle.cable_world.proofs.resets.Entries.{after-delay}
 use Rattle.cable_world.proofs.tables.CableEnds.{cable-connected}
 use Rattle.cable_world.proofs.Options.{some-same}
 use Rattle.cable_world.proofs.coupling.Sides.{hearing, ticking}
 use Rattle.cable_world.proofs.turns.NodeFacts.{NoEntry}
+use Rattle.cable_world.specs.Quiet.{PlacedHold, HoldSchedule, holds_after, with_holds, quiet_after}
+use Rattle.cable_world.proofs.QuietTurns.{no-quiet, quiet-then, quiet-first}
 use Rattle.convergence.specs.Coins.{KnowsCoins}
 use Rattle.convergence.specs.Rivals.{IsAhead, AsksAgain, AreRivals}
 use Rattle.convergence.specs.Cables.{AreJoined}
+use Rattle.convergence.proofs.turns.Cables.{joined-held}
 use Rattle.convergence.proofs.turns.CalmTurns.{Calmly, heard_by}
 use Rattle.convergence.proofs.coins.StaysContested.{rivals-of}
 use Rattle.convergence.proofs.turns.Flush.{Tells, flush}
-use Rattle.cable_world.proofs.turns.ByNumber.{turns-then}
-use Rattle.convergence.proofs.rounds.Grown.{Grown, parent-only, hears-on, grown-turn, grown-after, calm-at}
+use Rattle.convergence.proofs.rounds.Grown.{Grown, parent-only, hears-on, grown-turn, grown-held, grown-after, calm-at}
 use Rattle.convergence.proofs.coins.Rivals.{Rivals, swapped, no-contend}
 use Rattle.convergence.proofs.rounds.RivalSteps.{BothWait, OneWaits, BothAsk, OneAhead, AreUp, step-both-wait, step-one-waits, step-both-ask, step-one-ahead}
-use Rattle.convergence.proofs.rounds.Rooted.{HasRoot}
+use Rattle.convergence.proofs.rounds.Rooted.{HasRoot, root-held}
 use Rattle.convergence.proofs.turns.Weights.{tick-begins}
 
 -- ---- turn by turn
 
+-- holds keep this
+abbrev pub KeptInHolds : (CableWorld → Type 0) → Type 0
+KeptInHolds P = (holds : List PlacedHold) (w : CableWorld) → P w → P (with_holds holds w)
+
 module _ (set : ℕ) where
   module _
       (S : ℕ → CableWorld → Type 0) (T : CableWorld → Type 0)
+      (held : (i : ℕ) → KeptInHolds (S i)) (held-then : KeptInHolds T)
       (step : (w : CableWorld) → Grown w set → (i : ℕ) → S i w → S (i + 1) (turn w) ⊎ T (turn w))
     where
       run :
-          (n i : ℕ) (w : CableWorld) → Grown w set → S i w → S (i + n) (turns_after n w)
-          ⊎ ((j : ℕ) × (j ≤ n) × T (turns_after j w))
-      unfolding turns_after
-      run zero i w g s = let z : i + 0 ≡ i = omega arith in inl (subst (λ k. S k w) (sym z) s)
-      run (suc n) i w g s = elim (step w g i s) [
-        | inr t ↦ let few : 1 ≤ suc n = omega arith in inr (1, few, t)
-        | inl t ↦ elim (run n (i + 1) (turn w) (grown-turn w set g) t) [
-          | inl u ↦ let z : i + 1 + n ≡ i + suc n = omega arith in inl (subst (λ k. S k (turns_after n (turn w))) z u)
-          | inr u ↦ let few : suc u.0 ≤ suc n = omega (arith, u.1) in inr (suc u.0, few, u.2)
+          (hs : HoldSchedule) (n i : ℕ) (w : CableWorld) → Grown w set → S i w →
+          S (i + n) (quiet_after hs n w) ⊎ ((j : ℕ) × (j ≤ n) × T (quiet_after hs j w))
+      run hs zero i w g s = let z : i + 0 ≡ i = omega arith in inl (subst (S (i + 0)) (sym (no-quiet hs w)) (subst (λ k. S k (with_holds (hs 0) w)) (sym z) (held i (hs 0) w s)))
+      run hs (suc n) i w g s = elim (step v gv i (held i (hs 0) w s)) [
+        | inr t ↦
+            let few : 1 ≤ suc n = omega arith in
+            inr (1, few, subst T (sym (quiet-first hs 0 w)) (subst T (sym (no-quiet rest (turn v))) (held-then (rest 0) (turn v) t)))
+        | inl t ↦ elim (run rest n (i + 1) (turn v) (grown-turn v set gv) t) [
+          | inl u ↦ let z : i + 1 + n ≡ i + suc n = omega arith in inl (subst (S (i + suc n)) (sym (quiet-first hs n w)) (subst (λ k. S k (quiet_after rest n (turn v))) z u))
+          | inr u ↦ let few : suc u.0 ≤ suc n = omega (arith, u.1) in inr (suc u.0, few, subst T (sym (quiet-first hs u.0 w)) u.2)
         ]
       ]
+        where
+          v : CableWorld
+          v = with_holds (hs 0) w
+
+          gv : Grown (with_holds (hs 0) w) set
+          gv = grown-held (hs 0) w set g
+
+          rest : HoldSchedule
+          rest i = hs (suc i)
 
   module _
-      (S T : CableWorld → Type 0)
+      (S T : CableWorld → Type 0) (held : KeptInHolds S) (held-then : KeptInHolds T)
       (step : (w : CableWorld) → Grown w set → S w → S (turn w) ⊎ T (turn w)) where
     all-along :
-        (n : ℕ) (w : CableWorld) → S w → ((j : ℕ) → j ≤ n → S (turns_after j (turn w))) → (j : ℕ) →
-        j ≤ suc n → S (turns_after j w)
-    unfolding turns_after
-    all-along n w s rest zero h = s
-    all-along n w s rest (suc j) h = rest j (omega (arith, h))
+        (hs : HoldSchedule) (n : ℕ) (w : CableWorld) → S w →
+        ((j : ℕ) → j ≤ n → S (quiet_after (λ i. hs (suc i)) j (turn (with_holds (hs 0) w)))) →
+        (j : ℕ) → j ≤ suc n → S (quiet_after hs j w)
+    all-along hs n w s rest zero h = subst S (sym (no-quiet hs w)) (held (hs 0) w s)
+    all-along hs n w s rest (suc j) h = subst S (sym (quiet-first hs j w)) (rest j (omega (arith, h)))
 
     run-all :
-        (n : ℕ) (w : CableWorld) → Grown w set → S w → ((j : ℕ) → j ≤ n → S (turns_after j w))
-        ⊎ ((j : ℕ) × (j ≤ n) × T (turns_after j w))
-    unfolding turns_after
-    run-all zero w g s = inl (λ j h. let z : j ≡ 0 = omega (arith, h) in subst (λ k. S (turns_after k w)) (sym z) s)
-    run-all (suc n) w g s = elim (step w g s) [
-      | inr t ↦ let few : 1 ≤ suc n = omega arith in inr (1, few, t)
-      | inl t ↦ elim (run-all n (turn w) (grown-turn w set g) t) [
-        | inl rest ↦ inl (all-along n w s rest)
-        | inr u ↦ let few : suc u.0 ≤ suc n = omega (arith, u.1) in inr (suc u.0, few, u.2)
+        (hs : HoldSchedule) (n : ℕ) (w : CableWorld) → Grown w set → S w →
+        ((j : ℕ) → j ≤ n → S (quiet_after hs j w))
+        ⊎ ((j : ℕ) × (j ≤ n) × T (quiet_after hs j w))
+    run-all hs zero w g s = inl (λ j h. let z : j ≡ 0 = omega (arith, h) in subst (λ k. S (quiet_after hs k w)) (sym z) (subst S (sym (no-quiet hs w)) (held (hs 0) w s)))
+    run-all hs (suc n) w g s = elim (step v gv (held (hs 0) w s)) [
+      | inr t ↦
+          let few : 1 ≤ suc n = omega arith in
+          inr (1, few, subst T (sym (quiet-first hs 0 w)) (subst T (sym (no-quiet rest (turn v))) (held-then (rest 0) (turn v) t)))
+      | inl t ↦ elim (run-all rest n (turn v) (grown-turn v set gv) t) [
+        | inl all ↦ inl (all-along hs n w s all)
+        | inr u ↦ let few : suc u.0 ≤ suc n = omega (arith, u.1) in inr (suc u.0, few, subst T (sym (quiet-first hs u.0 w)) u.2)
       ]
     ]
+      where
+        v : CableWorld
+        v = with_holds (hs 0) w
+
+        gv : Grown (with_holds (hs 0) w) set
+        gv = grown-held (hs 0) w set g
+
+        rest : HoldSchedule
+        rest i = hs (suc i)
 
 -- ---- two ends in a world
 
@@ -85,6 +113,11 @@ pub record At
   pub ends : AreJoined w a b
   pub holds : Holds set a.node
   pub is : S ends.near.state ends.other.state
+
+pub at-held :
+    (set : ℕ) (a b : End) (S : NodeState → NodeState → Type 0) →
+    KeptInHolds (λ w. At w set a b S)
+at-held set a b S holds w s = record { ends = joined-held holds w a b s.ends; holds = s.holds; is = s.is }
 
 abbrev pub ends-round :
     (w : CableWorld) (set : ℕ) → Grown w set → (a b : End) → AreJoined w a b → AreJoined w b a
@@ -182,6 +215,24 @@ module _ (set : ℕ) (a b : End) (m : ℕ) (small : m ≤ 64) where
 
   abbrev Ahead : CableWorld → Type 0
   Ahead w = At w set a b (OneAhead 0 a.port b.port m) ⊎ At w set b a (OneAhead 0 b.port a.port m)
+
+  waiting-held : (i : ℕ) → KeptInHolds (Waiting i)
+  waiting-held i holds w (inl s) = inl (at-held set a b (BothWait i a.port b.port m) holds w s)
+  waiting-held i holds w (inr (inl s)) = inr (inl (at-held set a b (OneWaits w.delay i a.port b.port m) holds w s))
+  waiting-held i holds w (inr (inr s)) = inr (inr (at-held set b a (OneWaits w.delay i b.port a.port m) holds w s))
+
+  up-or-ahead-held : KeptInHolds (λ w. Up w ⊎ Ahead w)
+  up-or-ahead-held holds w (inl s) = inl (at-held set a b (AreUp a.port b.port (m + 1)) holds w s)
+  up-or-ahead-held holds w (inr (inl s)) = inr (inl (at-held set a b (OneAhead 0 a.port b.port m) holds w s))
+  up-or-ahead-held holds w (inr (inr s)) = inr (inr (at-held set b a (OneAhead 0 b.port a.port m) holds w s))
+
+  asking-or-root-held : KeptInHolds (λ w. Asking w ⊎ HasRoot w set)
+  asking-or-root-held holds w (inl s) = inl (at-held set a b (BothAsk a.port b.port m) holds w s)
+  asking-or-root-held holds w (inr r) = inr (root-held set holds w r)
+
+  up-or-root-held : KeptInHolds (λ w. Up w ⊎ HasRoot w set)
+  up-or-root-held holds w (inl s) = inl (at-held set a b (AreUp a.port b.port (m + 1)) holds w s)
+  up-or-root-held holds w (inr r) = inr (root-held set holds w r)
 
   ask-round : (w : CableWorld) → Grown w set → At w set b a (BothAsk b.port a.port m) → Asking w
   ask-round w g s = record {
@@ -282,15 +333,15 @@ shake-apart : (f : Phase) → f ≡ phase.Contend → f ≡ phase.ParentShake �
 shake-apart f a b = cc
 
 module _
-    (set : ℕ) (a b : End) (m : ℕ) (w : CableWorld) (g : Grown w set)
-    (asking : (j : ℕ) → j ≤ w.delay → At (turns_after j w) set a b (BothAsk a.port b.port m)) where
-  tell : (i : ℕ) → i ≤ w.delay → Tells (turns_after i w) b is_parent
+    (hs : HoldSchedule) (set : ℕ) (a b : End) (m : ℕ) (w : CableWorld) (g : Grown w set)
+    (asking : (j : ℕ) → j ≤ w.delay → At (quiet_after hs j w) set a b (BothAsk a.port b.port m)) where
+  tell : (i : ℕ) → i ≤ w.delay → Tells (quiet_after hs i w) b is_parent
   tell i h y at =
       let s = asking i h in
-      let gi = grown-after w set g i in
+      let gi = grown-after hs w set g i in
       let same : s.ends.other ≡ y = some-same s.ends.other y (sym s.ends.other_at ∙ at) in
       parent-out y.state.view.phase (leads_down y.state.view.ports b.port) (ap (λ (n : PortNode). n.state.view.phase) (sym same) ∙ s.is.asks_too)
-      (parent-only (turns_after i w) set gi b a y (gi.lawful.well_formed.cabling.both_ways a b s.ends.joined) at (ap (λ (n : PortNode). is_port n.state.view.parent b.port) (sym same) ∙ s.is.there.up))
+      (parent-only (quiet_after hs i w) set gi b a y (gi.lawful.well_formed.cabling.both_ways a b s.ends.joined) at (ap (λ (n : PortNode). is_port n.state.view.parent b.port) (sym same) ∙ s.is.there.up))
 
   -- not for d turns
   not-all-along : ⊥
@@ -299,7 +350,7 @@ module _
       (ap (λ (n : NodeState). n.view.phase) h.is ∙ tick-begins (coin h.node.coins) mid a.port
       (h.heard.phase ∙ ap (λ (n : PortNode). n.state.view.phase) same ∙ s.is.asks)
       (ap (λ o. is_port o a.port) h.heard.parent ∙ ap (λ (n : PortNode). is_port n.state.view.parent a.port) same ∙ s.is.here.up)
-      (h.hears.cables a.port ∙ cable-connected (turns_after j w) a b h.node (grown-after w set g j).lawful.well_formed s.ends.joined h.at)
+      (h.hears.cables a.port ∙ cable-connected (quiet_after hs j w) a b h.node (grown-after hs w set g j).lawful.well_formed s.ends.joined h.at)
       (ap is_parent (sym (h.ticks.shown a.port)) ∙ ap (λ (n : NodeState). is_parent (level_shown n a.port)) (sym h.is) ∙ shown))
       z.is.asks
     where
@@ -309,71 +360,76 @@ module _
       more : j + 1 ≡ w.delay
       more = omega (arith, g.lawful.well_formed.some_delay)
 
-      s : At (turns_after j w) set a b (BothAsk a.port b.port m)
+      s : At (quiet_after hs j w) set a b (BothAsk a.port b.port m)
       s = asking j (omega arith)
 
-      z : At (turns_after w.delay w) set a b (BothAsk a.port b.port m)
+      z : At (quiet_after hs w.delay w) set a b (BothAsk a.port b.port m)
       z = asking w.delay (omega arith)
 
-      h : Calmly (turns_after j w) a.node z.ends.near.state
-      h = calm-at w set g j a.node z.ends.near (ap (λ n. slice_get (turns_after n w).nodes a.node) more ∙ z.ends.near_at)
+      h : Calmly (quiet_after hs j w) a.node z.ends.near.state
+      h = calm-at hs w set g j a.node z.ends.near (ap (λ n. slice_get (quiet_after hs n w).nodes a.node) more ∙ z.ends.near_at)
 
       same : h.node ≡ s.ends.near
       same = some-same h.node s.ends.near (sym h.at ∙ s.ends.near_at)
 
       mid : NodeState
-      mid = heard_by (turns_after j w) a.node h.node
+      mid = heard_by (quiet_after hs j w) a.node h.node
 
       joined : far w.cabling a ≡ Some b
-      joined = ap (λ (u : CableWorld). far u.cabling a) (sym (no-turns w)) ∙ (asking 0 (omega arith)).ends.joined
+      joined = ap (λ (u : CableWorld). far u.cabling a) (sym (no-quiet hs w)) ∙ (asking 0 (omega arith)).ends.joined
 
       shown : is_parent (level_shown z.ends.near.state a.port) ≡ true
-      shown = flush w g.lawful b a (g.lawful.well_formed.cabling.both_ways a b joined) is_parent (λ i. i ≤ w.delay) (λ i l. omega (arith, l)) tell w.delay (omega arith) (omega arith) z.ends.near z.ends.near_at
+      shown = flush hs w g.lawful b a (g.lawful.well_formed.cabling.both_ways a b joined) is_parent (λ i. i ≤ w.delay) (λ i l. omega (arith, l)) tell w.delay (omega arith) (omega arith) z.ends.near z.ends.near_at
 
 -- ---- a round
 
 module _ (set : ℕ) (m : ℕ) (small : m ≤ 64) where
   -- within so many turns both have drawn once more, or within so many one is root
-  abbrev Ends : End → End → ℕ → ℕ → CableWorld → Type 0
-  Ends a b up root w = ((j : ℕ) × (j ≤ up) × At (turns_after j w) set a b (AreUp a.port b.port (m + 1))) ⊎ ((j : ℕ) × (j ≤ root) × HasRoot (turns_after j w) set)
+  abbrev Ends : HoldSchedule → End → End → ℕ → ℕ → CableWorld → Type 0
+  Ends hs a b up root w = ((j : ℕ) × (j ≤ up) × At (quiet_after hs j w) set a b (AreUp a.port b.port (m + 1))) ⊎ ((j : ℕ) × (j ≤ root) × HasRoot (quiet_after hs j w) set)
 
   ends-later :
-      (a b : End) (w : CableWorld) (i up root most least : ℕ) → i + up ≤ most → i + root ≤ least →
-      Ends a b up root (turns_after i w) → Ends a b most least w
-  ends-later a b w i up root most least h l (inl t) =
-      inl (i + t.0, omega (arith, h, t.1), subst (λ (u : CableWorld). At u set a b (AreUp a.port b.port (m + 1))) (sym (turns-then i t.0 w)) t.2)
-  ends-later a b w i up root most least h l (inr t) =
-      inr (i + t.0, omega (arith, l, t.1), subst (λ (u : CableWorld). HasRoot u set) (sym (turns-then i t.0 w)) t.2)
+      (hs : HoldSchedule) (a b : End) (w : CableWorld) (i up root most least : ℕ) → i + up ≤ most → i + root ≤ least →
+      Ends (holds_after i hs) a b up root (quiet_after hs i w) → Ends hs a b most least w
+  ends-later hs a b w i up root most least h l (inl t) =
+      inl (i + t.0, omega (arith, h, t.1), subst (λ (u : CableWorld). At u set a b (AreUp a.port b.port (m + 1))) (sym (quiet-then hs i t.0 w)) t.2)
+  ends-later hs a b w i up root most least h l (inr t) =
+      inr (i + t.0, omega (arith, l, t.1), subst (λ (u : CableWorld). HasRoot u set) (sym (quiet-then hs i t.0 w)) t.2)
 
   ends-round-two :
-      (a b : End) (w : CableWorld) → Grown w set → (up root : ℕ) → Ends b a up root w →
-      Ends a b up root w
-  ends-round-two a b w g up root (inl t) = inl (t.0, t.1, up-round (turns_after t.0 w) set (grown-after w set g t.0) a b (m + 1) t.2)
-  ends-round-two a b w g up root (inr t) = inr t
+      (hs : HoldSchedule) (a b : End) (w : CableWorld) → Grown w set → (up root : ℕ) → Ends hs b a up root w →
+      Ends hs a b up root w
+  ends-round-two hs a b w g up root (inl t) = inl (t.0, t.1, up-round (quiet_after hs t.0 w) set (grown-after hs w set g t.0) a b (m + 1) t.2)
+  ends-round-two hs a b w g up root (inr t) = inr t
 
   from-ahead :
-      (a b : End) (w : CableWorld) → Grown w set → At w set a b (OneAhead 0 a.port b.port m) →
-      Ends a b w.delay (11 * w.delay) w
-  from-ahead a b w g s = elim (run set (λ i v. At v set a b (OneAhead i a.port b.port m)) (λ v. At v set a b (AreUp a.port b.port (m + 1)) ⊎ HasRoot v set) first w.delay 0 w g s) [
+      (hs : HoldSchedule) (a b : End) (w : CableWorld) → Grown w set → At w set a b (OneAhead 0 a.port b.port m) →
+      Ends hs a b w.delay (11 * w.delay) w
+  from-ahead hs a b w g s = elim (run set (λ i v. At v set a b (OneAhead i a.port b.port m)) (λ v. At v set a b (AreUp a.port b.port (m + 1)) ⊎ HasRoot v set)
+      (λ i. at-held set a b (OneAhead i a.port b.port m)) (up-or-root-held set a b m small) first hs w.delay 0 w g s) [
     | inr t ↦ elim t.2 [
       | inl u ↦ inl (t.0, t.1, u)
       | inr u ↦ inr (t.0, omega (arith, t.1), u)
     ]
-    | inl t ↦ elim (run set (λ i v. (v.delay ≤ i) × At v set a b (OneAhead i a.port b.port m)) (λ v. HasRoot v set) second (10 * w.delay) w.delay v gv (omega (arith, same), (let z : 0 + w.delay ≡ w.delay = omega arith in subst (λ k. At (turns_after w.delay w) set a b (OneAhead k a.port b.port m)) z t))) [
-      | inr u ↦ inr (w.delay + u.0, omega (arith, u.1), subst (λ (z : CableWorld). HasRoot z set) (sym (turns-then w.delay u.0 w)) u.2)
-      | inl u ↦ absurd (not-so-long (turns_after (10 * w.delay) v) set (grown-after v set gv (10 * w.delay)) a.node u.1.ends.near u.1.ends.near_at u.1.is.contends
-          (omega (arith, u.1.is.waited, same, after-delay v gv.lawful (10 * w.delay))))
+    | inl t ↦ elim (run set (λ i v. (v.delay ≤ i) × At v set a b (OneAhead i a.port b.port m)) (λ v. HasRoot v set)
+        (λ i holds u s. (s.0, at-held set a b (OneAhead i a.port b.port m) holds u s.1)) (root-held set) second rest (10 * w.delay) w.delay v gv (omega (arith, same), (let z : 0 + w.delay ≡ w.delay = omega arith in subst (λ k. At (quiet_after hs w.delay w) set a b (OneAhead k a.port b.port m)) z t))) [
+      | inr u ↦ inr (w.delay + u.0, omega (arith, u.1), subst (λ (z : CableWorld). HasRoot z set) (sym (quiet-then hs w.delay u.0 w)) u.2)
+      | inl u ↦ absurd (not-so-long (quiet_after rest (10 * w.delay) v) set (grown-after rest v set gv (10 * w.delay)) a.node u.1.ends.near u.1.ends.near_at u.1.is.contends
+          (omega (arith, u.1.is.waited, same, after-delay rest v gv.lawful (10 * w.delay))))
     ]
   ]
     where
+      rest : HoldSchedule
+      rest = holds_after w.delay hs
+
       v : CableWorld
-      v = turns_after w.delay w
+      v = quiet_after hs w.delay w
 
-      gv : Grown (turns_after w.delay w) set
-      gv = grown-after w set g w.delay
+      gv : Grown (quiet_after hs w.delay w) set
+      gv = grown-after hs w set g w.delay
 
-      same : (turns_after w.delay w).delay ≡ w.delay
-      same = after-delay w g.lawful w.delay
+      same : (quiet_after hs w.delay w).delay ≡ w.delay
+      same = after-delay hs w g.lawful w.delay
 
       first :
           (u : CableWorld) → Grown u set → (i : ℕ) → At u set a b (OneAhead i a.port b.port m) →
@@ -395,46 +451,47 @@ module _ (set : ℕ) (m : ℕ) (small : m ≤ 64) where
       ]
 
   from-asking :
-      (a b : End) (w : CableWorld) → Grown w set → At w set a b (BothAsk a.port b.port m) →
-      Ends a b (2 * w.delay) (12 * w.delay) w
-  from-asking a b w g s = elim (run-all set (Asking set a b m small) (λ v. Up set a b m small v ⊎ Ahead set a b m small v) (ask-step set a b m small) w.delay w g s) [
-    | inl all ↦ absurd (not-all-along set a b m w g all)
+      (hs : HoldSchedule) (a b : End) (w : CableWorld) → Grown w set → At w set a b (BothAsk a.port b.port m) →
+      Ends hs a b (2 * w.delay) (12 * w.delay) w
+  from-asking hs a b w g s = elim (run-all set (Asking set a b m small) (λ v. Up set a b m small v ⊎ Ahead set a b m small v) (at-held set a b (BothAsk a.port b.port m)) (up-or-ahead-held set a b m small) (ask-step set a b m small) hs w.delay w g s) [
+    | inl all ↦ absurd (not-all-along hs set a b m w g all)
     | inr t ↦ elim t.2 [
       | inl u ↦ inl (t.0, omega (arith, t.1), u)
       | inr u ↦
-          let v : CableWorld = turns_after t.0 w in
-          let gv : Grown v set = grown-after w set g t.0 in
-          let same : v.delay ≡ w.delay = after-delay w g.lawful t.0 in
-          ends-later a b w t.0 v.delay (11 * v.delay) (2 * w.delay) (12 * w.delay) (omega (arith, t.1, same)) (omega (arith, t.1, same))
-          (elim u [ inl c ↦ from-ahead a b v gv c | inr c ↦ ends-round-two a b v gv v.delay (11 * v.delay) (from-ahead b a v gv c) ])
+          let v : CableWorld = quiet_after hs t.0 w in
+          let gv : Grown v set = grown-after hs w set g t.0 in
+          let same : v.delay ≡ w.delay = after-delay hs w g.lawful t.0 in
+          ends-later hs a b w t.0 v.delay (11 * v.delay) (2 * w.delay) (12 * w.delay) (omega (arith, t.1, same)) (omega (arith, t.1, same))
+          (elim u [ inl c ↦ from-ahead (holds_after t.0 hs) a b v gv c | inr c ↦ ends-round-two (holds_after t.0 hs) a b v gv v.delay (11 * v.delay) (from-ahead (holds_after t.0 hs) b a v gv c) ])
     ]
   ]
 
   from-waiting :
-      (a b : End) (w : CableWorld) → Grown w set → Waiting set a b m small 0 w →
-      Ends a b (12 * w.delay) (22 * w.delay) w
-  from-waiting a b w g s = elim (run set (Waiting set a b m small) (λ v. Asking set a b m small v ⊎ HasRoot v set) (wait-step set a b m small) (10 * w.delay) 0 w g s) [
+      (hs : HoldSchedule) (a b : End) (w : CableWorld) → Grown w set → Waiting set a b m small 0 w →
+      Ends hs a b (12 * w.delay) (22 * w.delay) w
+  from-waiting hs a b w g s = elim (run set (Waiting set a b m small) (λ v. Asking set a b m small v ⊎ HasRoot v set)
+      (waiting-held set a b m small) (asking-or-root-held set a b m small) (wait-step set a b m small) hs (10 * w.delay) 0 w g s) [
     | inl t ↦ absurd (over t)
     | inr t ↦ elim t.2 [
       | inr u ↦ inr (t.0, omega (arith, t.1), u)
       | inl u ↦
-          let v : CableWorld = turns_after t.0 w in
-          let gv : Grown v set = grown-after w set g t.0 in
-          let same : v.delay ≡ w.delay = after-delay w g.lawful t.0 in
-          ends-later a b w t.0 (2 * v.delay) (12 * v.delay) (12 * w.delay) (22 * w.delay) (omega (arith, t.1, same)) (omega (arith, t.1, same)) (from-asking a b v gv u)
+          let v : CableWorld = quiet_after hs t.0 w in
+          let gv : Grown v set = grown-after hs w set g t.0 in
+          let same : v.delay ≡ w.delay = after-delay hs w g.lawful t.0 in
+          ends-later hs a b w t.0 (2 * v.delay) (12 * v.delay) (12 * w.delay) (22 * w.delay) (omega (arith, t.1, same)) (omega (arith, t.1, same)) (from-asking (holds_after t.0 hs) a b v gv u)
     ]
   ]
     where
       v : CableWorld
-      v = turns_after (10 * w.delay) w
+      v = quiet_after hs (10 * w.delay) w
 
-      gv : Grown (turns_after (10 * w.delay) w) set
-      gv = grown-after w set g (10 * w.delay)
+      gv : Grown (quiet_after hs (10 * w.delay) w) set
+      gv = grown-after hs w set g (10 * w.delay)
 
-      same : (turns_after (10 * w.delay) w).delay ≡ w.delay
-      same = after-delay w g.lawful (10 * w.delay)
+      same : (quiet_after hs (10 * w.delay) w).delay ≡ w.delay
+      same = after-delay hs w g.lawful (10 * w.delay)
 
-      over : Waiting set a b m small (0 + 10 * w.delay) (turns_after (10 * w.delay) w) → ⊥
+      over : Waiting set a b m small (0 + 10 * w.delay) (quiet_after hs (10 * w.delay) w) → ⊥
       over (inl t) = not-so-long v set gv a.node t.ends.near t.ends.near_at t.is.contends (omega (arith, t.is.waited, same))
       over (inr (inl t)) = not-so-long v set gv a.node t.ends.near t.ends.near_at t.is.contends (omega (arith, t.is.waited, same))
       over (inr (inr t)) = not-so-long v set gv b.node t.ends.near t.ends.near_at t.is.contends (omega (arith, t.is.waited, same))
@@ -483,13 +540,13 @@ module _ (set : ℕ) (m : ℕ) (small : m ≤ 64) where
       go (inr (inr (inr h))) = absurd (shake-apart s.ends.other.state.view.phase h.here t)
 
   pub round :
-      (a b : End) (w : CableWorld) → Grown w set → At w set a b (AreUp a.port b.port m) →
-      Ends a b (12 * w.delay) (22 * w.delay) w
-  round a b w g s = go s.is.first s.is.second
+      (hs : HoldSchedule) (a b : End) (w : CableWorld) → Grown w set → At w set a b (AreUp a.port b.port m) →
+      Ends hs a b (12 * w.delay) (22 * w.delay) w
+  round hs a b w g s = go s.is.first s.is.second
     where
       here :
-          (up root : ℕ) → Ends a b up root w → up ≤ 12 * w.delay → root ≤ 22 * w.delay →
-          Ends a b (12 * w.delay) (22 * w.delay) w
+          (up root : ℕ) → Ends hs a b up root w → up ≤ 12 * w.delay → root ≤ 22 * w.delay →
+          Ends hs a b (12 * w.delay) (22 * w.delay) w
       here up root (inl t) h l = inl (t.0, omega (arith, t.1, h), t.2)
       here up root (inr t) h l = inr (t.0, omega (arith, t.1, l), t.2)
 
@@ -500,19 +557,19 @@ module _ (set : ℕ) (m : ℕ) (small : m ≤ 64) where
           (s.ends.near.state.view.phase ≡ phase.ParentShake)
           ⊎ (s.ends.near.state.view.phase ≡ phase.Contend) →
           (s.ends.other.state.view.phase ≡ phase.ParentShake)
-          ⊎ (s.ends.other.state.view.phase ≡ phase.Contend) → Ends a b (12 * w.delay) (22 * w.delay)
+          ⊎ (s.ends.other.state.view.phase ≡ phase.Contend) → Ends hs a b (12 * w.delay) (22 * w.delay)
           w
-      go (inl x) (inl y) = here (2 * w.delay) (12 * w.delay) (from-asking a b w g (record { ends = s.ends; holds = s.holds; is = record { here = s.is.here; there = s.is.there; asks = x; asks_too = y } })) (omega arith) (omega arith)
-      go (inr x) (inr y) = from-waiting a b w g (inl (record {
+      go (inl x) (inl y) = here (2 * w.delay) (12 * w.delay) (from-asking hs a b w g (record { ends = s.ends; holds = s.holds; is = record { here = s.is.here; there = s.is.there; asks = x; asks_too = y } })) (omega arith) (omega arith)
+      go (inr x) (inr y) = from-waiting hs a b w g (inl (record {
         ends = s.ends;
         holds = s.holds;
         is = record { here = s.is.here; there = s.is.there; contends = x; contends_too = y; waited = omega arith; waited_too = omega arith };
       }))
       go (inr x) (inl y) = elim (one-of a b w g s x y) [
-        | inl t ↦ here w.delay (11 * w.delay) (from-ahead a b w g t) (omega arith) (omega arith)
-        | inr t ↦ from-waiting a b w g (inr (inl t))
+        | inl t ↦ here w.delay (11 * w.delay) (from-ahead hs a b w g t) (omega arith) (omega arith)
+        | inr t ↦ from-waiting hs a b w g (inr (inl t))
       ]
       go (inl x) (inr y) = elim (one-of b a w g back y x) [
-        | inl t ↦ here w.delay (11 * w.delay) (ends-round-two a b w g w.delay (11 * w.delay) (from-ahead b a w g t)) (omega arith) (omega arith)
-        | inr t ↦ from-waiting a b w g (inr (inr t))
+        | inl t ↦ here w.delay (11 * w.delay) (ends-round-two hs a b w g w.delay (11 * w.delay) (from-ahead hs b a w g t)) (omega arith) (omega arith)
+        | inr t ↦ from-waiting hs a b w g (inr (inr t))
       ]

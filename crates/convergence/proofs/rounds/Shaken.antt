@@ -18,23 +18,23 @@ use Rattle.port_state.specs.Tick.{tick}
 use Rattle.port_state.specs.Valid.{FitsPhase, IsValid}
 use Rattle.port_state.specs.Machine.{PortNode}
 use Rattle.cable_world.specs.World.{CableWorld}
-use Rattle.cable_world.specs.Turn.{turn, turns_after}
+use Rattle.cable_world.specs.Turn.{turn}
 use Rattle.cable_world.specs.Phases.{is_before_tree, is_shaking}
 use Rattle.cable_world.specs.Agreement.{leads_down}
-use Rattle.cable_world.proofs.turns.ByNumber.{no-turns}
 use Rattle.cable_world.proofs.resets.Entries.{after-delay, after-length}
 use Rattle.cable_world.proofs.levels.LastSent.{child-if}
 use Rattle.convergence.proofs.turns.Cables.{joined-of}
 use Rattle.cable_world.proofs.tables.CableEnds.{cable-connected}
 use Rattle.cable_world.proofs.Options.{some-same}
 use Rattle.cable_world.proofs.coupling.Sides.{late-roles}
+use Rattle.cable_world.specs.Quiet.{HoldSchedule, holds_after, quiet_after}
+use Rattle.cable_world.proofs.QuietTurns.{no-quiet, quiet-then}
 use Rattle.convergence.specs.Acyclic.{IsChildCable}
 use Rattle.convergence.specs.Drawers.{AreMutual}
 use Rattle.convergence.specs.Roots.{IsRoot}
 use Rattle.convergence.specs.Milestones.{AreIdentifying}
 use Rattle.convergence.proofs.turns.CalmTurns.{Calmly, heard_by}
 use Rattle.convergence.proofs.coins.Drawers.{parent-connected}
-use Rattle.cable_world.proofs.turns.ByNumber.{turns-then}
 use Rattle.convergence.proofs.sets.Gathered.{count, count-some, count-found}
 use Rattle.convergence.proofs.rounds.Grown.{Grown, weight_in, child-cable, below-cable, valid-at, calm-turn, grown-after, weight-after}
 use Rattle.convergence.proofs.rounds.Handshake.{Shakes, lighter}
@@ -113,49 +113,49 @@ load-most set w k = go (bit_at set k == 1) (slice_get w.nodes k)
 
 module _ (set : ℕ) where
   load-after :
-      (v : CableWorld) → Grown v set → (i k : ℕ) → load set (turns_after i v) k ≤ load set v k
-  load-after v g i k = go (bit_at set k == 1) refl
+      (hs : HoldSchedule) (v : CableWorld) → Grown v set → (i k : ℕ) → load set (quiet_after hs i v) k ≤ load set v k
+  load-after hs v g i k = go (bit_at set k == 1) refl
     where
       go :
           (b : Bool) → (bit_at set k == 1) ≡ b →
-          cond b (weight_in (slice_get (turns_after i v).nodes k))
+          cond b (weight_in (slice_get (quiet_after hs i v).nodes k))
           0 ≤ cond b (weight_in (slice_get v.nodes k)) 0
       go false e = omega arith
-      go true e = weight-after v set g k (eqb-true (bit_at set k) 1 e) i
+      go true e = weight-after hs v set g k (eqb-true (bit_at set k) 1 e) i
 
   -- while a node is in T1
   falls :
-      (v : CableWorld) → Grown v set → (k : ℕ) → Picked set in_shake v k →
-      total (load set (turns_after (v.delay + v.delay) v)) (length v.nodes) + 1 ≤ total (load set v)
+      (hs : HoldSchedule) (v : CableWorld) → Grown v set → (k : ℕ) → Picked set in_shake v k →
+      total (load set (quiet_after hs (v.delay + v.delay) v)) (length v.nodes) + 1 ≤ total (load set v)
       (length v.nodes)
-  falls v g k p =
+  falls hs v g k p =
       let b = has-bottom v g.acyclic (picks set in_shake v) k (picks-from set in_shake v k p.node p.holds p.at p.passes) in
       let u = picked set in_shake v b.0 b.1.is in
       let s : Shakes v b.0 = record { node = u.node; at = u.at; shakes = is-child-shake u.node.state.view.phase u.passes } in
       let in_bits : (bit_at set b.0 == 1) ≡ true = eq-eqb (bit_at set b.0) 1 u.holds in
-      let less = lighter v set g b.0 u.holds s (λ c e cable at t. b.1.none c e cable at
+      let less = lighter hs v set g b.0 u.holds s (λ c e cable at t. b.1.none c e cable at
       (picks-from set in_shake v e.node cable.below (g.closed c e cable.joined (subst (Holds set) (sym at) u.holds)) cable.below_at (ap is_child_shake t))) in
-      total-less (load set (turns_after (v.delay + v.delay) v)) (load set v) (load-after v g (v.delay + v.delay)) (length v.nodes) b.0 (slice_get_within v.nodes b.0 u.node u.at)
-      (subst (λ q. cond q (weight_in (slice_get (turns_after (v.delay + v.delay) v).nodes b.0)) 0 + 1 ≤ cond q (weight_in (slice_get v.nodes b.0)) 0) (sym in_bits)
-      (subst (λ o. weight_in (slice_get (turns_after (v.delay + v.delay) v).nodes b.0) + 1 ≤ weight_in o) (sym u.at) less))
+      total-less (load set (quiet_after hs (v.delay + v.delay) v)) (load set v) (load-after hs v g (v.delay + v.delay)) (length v.nodes) b.0 (slice_get_within v.nodes b.0 u.node u.at)
+      (subst (λ q. cond q (weight_in (slice_get (quiet_after hs (v.delay + v.delay) v).nodes b.0)) 0 + 1 ≤ cond q (weight_in (slice_get v.nodes b.0)) 0) (sym in_bits)
+      (subst (λ o. weight_in (slice_get (quiet_after hs (v.delay + v.delay) v).nodes b.0) + 1 ≤ weight_in o) (sym u.at) less))
 
   -- so at some time there is none
   dies-out :
-      (m : ℕ) (v : CableWorld) → Grown v set → total (load set v) (length v.nodes) ≤ m → (i : ℕ)
-      × (i ≤ m * (v.delay + v.delay)) × NoneShakes (turns_after i v) set
-  dies-out zero v g few = elim (search-set set in_shake v) [
-    | inl none ↦ (0, omega arith, subst (λ (u : CableWorld). NoneShakes u set) (sym (no-turns v)) none)
-    | inr f ↦ absurd (omega (arith, few, falls v g f.0 f.1))
+      (hs : HoldSchedule) (m : ℕ) (v : CableWorld) → Grown v set → total (load set v) (length v.nodes) ≤ m → (i : ℕ)
+      × (i ≤ m * (v.delay + v.delay)) × NoneShakes (quiet_after hs i v) set
+  dies-out hs zero v g few = elim (search-set set in_shake v) [
+    | inl none ↦ (0, omega arith, subst (λ (u : CableWorld). NoneShakes u set) (sym (no-quiet hs v)) none)
+    | inr f ↦ absurd (omega (arith, few, falls hs v g f.0 f.1))
   ]
-  dies-out (suc m) v g few = elim (search-set set in_shake v) [
-    | inl none ↦ (0, omega arith, subst (λ (u : CableWorld). NoneShakes u set) (sym (no-turns v)) none)
+  dies-out hs (suc m) v g few = elim (search-set set in_shake v) [
+    | inl none ↦ (0, omega arith, subst (λ (u : CableWorld). NoneShakes u set) (sym (no-quiet hs v)) none)
     | inr f ↦
-        let w : CableWorld = turns_after (v.delay + v.delay) v in
-        let same : length w.nodes ≡ length v.nodes = after-length v g.lawful (v.delay + v.delay) in
-        let r = dies-out m w (grown-after v set g (v.delay + v.delay)) (subst (λ n. total (load set w) n ≤ m) (sym same) (omega (arith, few, falls v g f.0 f.1))) in (
+        let w : CableWorld = quiet_after hs (v.delay + v.delay) v in
+        let same : length w.nodes ≡ length v.nodes = after-length hs v g.lawful (v.delay + v.delay) in
+        let r = dies-out (holds_after (v.delay + v.delay) hs) m w (grown-after hs v set g (v.delay + v.delay)) (subst (λ n. total (load set w) n ≤ m) (sym same) (omega (arith, few, falls hs v g f.0 f.1))) in (
           v.delay + v.delay + r.0,
-          more m r.0 w.delay v.delay (after-delay v g.lawful (v.delay + v.delay)) r.1,
-          subst (λ (u : CableWorld). NoneShakes u set) (sym (turns-then (v.delay + v.delay) r.0 v)) r.2,
+          more m r.0 w.delay v.delay (after-delay hs v g.lawful (v.delay + v.delay)) r.1,
+          subst (λ (u : CableWorld). NoneShakes u set) (sym (quiet-then hs (v.delay + v.delay) r.0 v)) r.2,
         )
   ]
     where
@@ -165,9 +165,9 @@ module _ (set : ℕ) where
           omega (arith, z, subst (λ c. i ≤ m * (c + c)) h l)
 
   pub shaken-out :
-      (v : CableWorld) → Grown v set → (i : ℕ) × (i ≤ 3 * length v.nodes * (v.delay + v.delay))
-      × NoneShakes (turns_after i v) set
-  shaken-out v g = dies-out (3 * length v.nodes) v g (total-most (load set v) 3 (length v.nodes) (load-most set v))
+      (hs : HoldSchedule) (v : CableWorld) → Grown v set → (i : ℕ) × (i ≤ 3 * length v.nodes * (v.delay + v.delay))
+      × NoneShakes (quiet_after hs i v) set
+  shaken-out hs v g = dies-out hs (3 * length v.nodes) v g (total-most (load set v) 3 (length v.nodes) (load-most set v))
 
 -- ---- nobody in T1
 

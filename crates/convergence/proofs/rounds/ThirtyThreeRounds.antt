@@ -1,6 +1,6 @@
 -- After 33 rounds the first 32 draws of two rivals are equal: their component is in contention, and
 -- stays so.
-use Rattle.std.proofs.Common.{◌≡◌, ◌⊎◌, inl, inr, ℕ, zero, suc, ◌+◌, ◌*◌, ◌<◌, ◌≤◌, Bool, true, false, if◌then◌else◌, Some, slice_get, refl, sym, ◌∙◌, ap, subst, arith, add-one}
+use Rattle.std.proofs.Common.{◌≡◌, ◌⊎◌, inl, inr, ℕ, zero, suc, ◌+◌, ◌*◌, ◌<◌, ◌≤◌, Bool, true, false, if◌then◌else◌, List, Some, slice_get, refl, sym, ◌∙◌, ap, subst, arith, add-one}
 use Rattle.std.specs.Prelude.{min, nat_lt, bit_or, ◌^◌}
 use Rattle.std.proofs.lemmas.Bool.{cases_lt}
 use Rattle.cabling.specs.declared.cable.End.{End}
@@ -12,21 +12,22 @@ use Rattle.port_state.specs.TreeIdentify.{draws_with}
 use Rattle.port_state.specs.Tick.{tick}
 use Rattle.port_state.specs.Machine.{PortNode}
 use Rattle.cable_world.specs.World.{CableWorld, wire_of}
-use Rattle.cable_world.specs.Turn.{turn_at, turn, turns_after}
+use Rattle.cable_world.specs.Turn.{turn_at, turn}
 use Rattle.cable_world.specs.Outcome.{Shows, HasNoLoop, DrewAlike}
-use Rattle.cable_world.proofs.turns.ByNumber.{no-turns, one-more, node-after, cabling-after}
+use Rattle.cable_world.proofs.turns.ByNumber.{node-after, cabling-after}
 use Rattle.cable_world.proofs.resets.Entries.{after-delay}
 use Rattle.cable_world.proofs.Options.{some-of, some-at, some-same}
+use Rattle.cable_world.specs.Quiet.{PlacedHold, HoldSchedule, holds_after, with_holds, quiet_after}
+use Rattle.cable_world.proofs.QuietTurns.{one-quiet, no-quiet, quiet-then}
 use Rattle.convergence.specs.Coins.{AddsDraw, DrewTogether}
 use Rattle.convergence.specs.Rivals.{AreRivals}
 use Rattle.convergence.specs.Milestones.{HasContention}
 use Rattle.convergence.proofs.turns.CalmTurns.{Calmly, heard_by}
-use Rattle.cable_world.proofs.turns.ByNumber.{turns-then}
 use Rattle.convergence.proofs.rounds.Grown.{Grown, calm-turn, grown-after}
 use Rattle.convergence.proofs.turns.Moves.{Drew, DrewNone, tick-draws}
 use Rattle.convergence.proofs.rounds.Rooted.{HasRoot}
 use Rattle.convergence.proofs.rounds.RivalSteps.{AreUp}
-use Rattle.convergence.proofs.rounds.Rounds.{At, up-round, round}
+use Rattle.convergence.proofs.rounds.Rounds.{At, at-held, up-round, round}
 
 -- ---- many draws
 
@@ -168,35 +169,60 @@ module _ (w : CableWorld) (set : ℕ) (g : Grown w set) where
         };
       }
 
+no-loop-held :
+    (holds : List PlacedHold) (w : CableWorld) (set : ℕ) → HasNoLoop w set →
+    HasNoLoop (with_holds holds w) set
+no-loop-held holds w set n = record { core = n.core; is_core = n.is_core; empty = n.empty }
+
+contention-held :
+    (holds : List PlacedHold) (w : CableWorld) (set : ℕ) → HasContention w set →
+    HasContention (with_holds holds w) set
+contention-held holds w set h = record {
+  low = h.low;
+  high = h.high;
+  is = record {
+    no_loop = no-loop-held holds w set h.is.no_loop;
+    rising = h.is.rising;
+    holds_a = h.is.holds_a;
+    holds_b = h.is.holds_b;
+    port_a = h.is.port_a;
+    port_b = h.is.port_b;
+    cable = h.is.cable;
+    draws = h.is.draws;
+  };
+}
+
 pub contention-after :
-    (v : CableWorld) (set : ℕ) → Grown v set → (i : ℕ) → HasContention v set →
-    HasContention (turns_after i v) set
-contention-after v set g zero r = subst (λ (u : CableWorld). HasContention u set) (sym (no-turns v)) r
-contention-after v set g (suc i) r =
-    subst (λ n. HasContention (turns_after n v) set) (add-one i) (subst (λ (u : CableWorld). HasContention u set) (sym (one-more i v)) (contention-turn (turns_after i v) set (grown-after v set g i) (contention-after v set g i r)))
+    (hs : HoldSchedule) (v : CableWorld) (set : ℕ) → Grown v set → (i : ℕ) → HasContention v set →
+    HasContention (quiet_after hs i v) set
+contention-after hs v set g zero r = subst (λ (u : CableWorld). HasContention u set) (sym (no-quiet hs v)) (contention-held (hs 0) v set r)
+contention-after hs v set g (suc i) r =
+    subst (λ n. HasContention (quiet_after hs n v) set) (add-one i) (subst (λ (u : CableWorld). HasContention u set) (sym (one-quiet hs i v)) (contention-held (hs (i + 1)) (turn (quiet_after hs i v)) set (contention-turn (quiet_after hs i v) set (grown-after hs v set g i) (contention-after hs v set g i r))))
 
 -- ---- rounds
 
 module _ (set : ℕ) (a b : End) where
   -- after n rounds both drew n times more, or one is root
   pub rounds :
-      (n m : ℕ) → m + n ≤ 64 → (w : CableWorld) → Grown w set → At w set a b (AreUp a.port b.port m)
+      (hs : HoldSchedule) (n m : ℕ) → m + n ≤ 64 → (w : CableWorld) → Grown w set → At w set a b (AreUp a.port b.port m)
       →
-      ((j : ℕ) × (j ≤ n * (12 * w.delay)) × At (turns_after j w) set a b (AreUp a.port b.port (m + n))) ⊎ ((j : ℕ) × (j ≤ n * (12 * w.delay) + 22 * w.delay) × HasRoot (turns_after j w) set)
-  rounds zero m small w g s =
+      ((j : ℕ) × (j ≤ n * (12 * w.delay)) × At (quiet_after hs j w) set a b (AreUp a.port b.port (m + n))) ⊎ ((j : ℕ) × (j ≤ n * (12 * w.delay) + 22 * w.delay) × HasRoot (quiet_after hs j w) set)
+  rounds hs zero m small w g s =
       let z : m + 0 ≡ m = omega arith in
-      inl (0, omega arith, subst (λ (u : CableWorld). At u set a b (AreUp a.port b.port (m + 0))) (sym (no-turns w)) (subst (λ k. At w set a b (AreUp a.port b.port k)) (sym z) s))
-  rounds (suc n) m small w g s = elim (round set m (omega (arith, small)) a b w g s) [
+      inl (0, omega arith, subst (λ (u : CableWorld). At u set a b (AreUp a.port b.port (m + 0))) (sym (no-quiet hs w))
+          (at-held set a b (AreUp a.port b.port (m + 0)) (hs 0) w (subst (λ k. At w set a b (AreUp a.port b.port k)) (sym z) s)))
+  rounds hs (suc n) m small w g s = elim (round set m (omega (arith, small)) hs a b w g s) [
     | inr t ↦ inr (t.0, omega (arith, t.1), t.2)
     | inl t ↦
-        let v : CableWorld = turns_after t.0 w in
-        let gv : Grown v set = grown-after w set g t.0 in
-        let same : v.delay ≡ w.delay = after-delay w g.lawful t.0 in
-        elim (rounds n (m + 1) (omega (arith, small)) v gv t.2) [
+        let v : CableWorld = quiet_after hs t.0 w in
+        let gv : Grown v set = grown-after hs w set g t.0 in
+        let same : v.delay ≡ w.delay = after-delay hs w g.lawful t.0 in
+        let rest : HoldSchedule = holds_after t.0 hs in
+        elim (rounds rest n (m + 1) (omega (arith, small)) v gv t.2) [
           | inl u ↦
               let z : m + 1 + n ≡ m + suc n = omega arith in
-              inl (t.0 + u.0, up-none n v.delay w.delay t.0 u.0 same t.1 u.1, subst (λ (q : CableWorld). At q set a b (AreUp a.port b.port (m + suc n))) (sym (turns-then t.0 u.0 w)) (subst (λ k. At (turns_after u.0 v) set a b (AreUp a.port b.port k)) z u.2))
-          | inr u ↦ inr (t.0 + u.0, up-to n v.delay w.delay t.0 u.0 22 same t.1 u.1, subst (λ (q : CableWorld). HasRoot q set) (sym (turns-then t.0 u.0 w)) u.2)
+              inl (t.0 + u.0, up-none n v.delay w.delay t.0 u.0 same t.1 u.1, subst (λ (q : CableWorld). At q set a b (AreUp a.port b.port (m + suc n))) (sym (quiet-then hs t.0 u.0 w)) (subst (λ k. At (quiet_after rest u.0 v) set a b (AreUp a.port b.port k)) z u.2))
+          | inr u ↦ inr (t.0 + u.0, up-to n v.delay w.delay t.0 u.0 22 same t.1 u.1, subst (λ (q : CableWorld). HasRoot q set) (sym (quiet-then hs t.0 u.0 w)) u.2)
         ]
   ]
     where

@@ -7,13 +7,12 @@ use Rattle.port_state.specs.declared.timing.Timing.{Timing}
 use Rattle.port_state.specs.Coins.{coin}
 use Rattle.port_state.specs.Machine.{PortNode}
 use Rattle.cable_world.specs.World.{CableWorld}
-use Rattle.cable_world.specs.Turn.{turns_after}
 use Rattle.cable_world.specs.Phases.{is_before_tree, is_in_bus_reset}
 use Rattle.cable_world.specs.Lawful.{IsLawful}
-use Rattle.cable_world.proofs.turns.ByNumber.{no-turns, one-more}
 use Rattle.cable_world.proofs.resets.Entries.{after-delay}
-use Rattle.cable_world.proofs.StaysLawful.{turns-lawful}
 use Rattle.cable_world.proofs.turns.NodeFacts.{risen}
+use Rattle.cable_world.specs.Quiet.{HoldSchedule, quiet_after}
+use Rattle.cable_world.proofs.QuietTurns.{one-quiet, no-quiet, quiet-lawful}
 use Rattle.convergence.specs.Milestones.{ResetsAreDone}
 use Rattle.convergence.proofs.turns.CalmTurns.{Calmly, calmly, heard_by, early-before, done-calm, turn-done}
 use Rattle.convergence.proofs.turns.BeforeTree.{StaysInStart, stays-in-start}
@@ -31,24 +30,24 @@ pub record IsEarly (w : CableWorld) (k : ℕ) : Type 0 where
   pub at : slice_get w.nodes k ≡ Some node
   pub early : is_before_tree node.state.view.phase ≡ true
 
-module _ (v : CableWorld) (l : IsLawful v) (done : ResetsAreDone v) where
-  pub done-at : (i : ℕ) → ResetsAreDone (turns_after i v)
-  done-at zero = subst ResetsAreDone (sym (no-turns v)) done
-  done-at (suc i) = subst (λ n. ResetsAreDone (turns_after n v)) (add-one i) (subst ResetsAreDone (sym (one-more i v)) (turn-done (turns_after i v) (turns-lawful i v l) (done-at i)))
+module _ (hs : HoldSchedule) (v : CableWorld) (l : IsLawful v) (done : ResetsAreDone v) where
+  pub done-at : (i : ℕ) → ResetsAreDone (quiet_after hs i v)
+  done-at zero = subst ResetsAreDone (sym (no-quiet hs v)) done
+  done-at (suc i) = subst (λ n. ResetsAreDone (quiet_after hs n v)) (add-one i) (subst ResetsAreDone (sym (one-quiet hs i v)) (turn-done (quiet_after hs i v) (quiet-lawful hs i v l) (done-at i)))
 
   -- a node in T0 after a turn, and what kept it there
   pub record Started (i k : ℕ) (y : NodeState) : Type 0 where
-    pub calm : Calmly (turns_after i v) k y
+    pub calm : Calmly (quiet_after hs i v) k y
     pub start : calm.node.state.view.phase ≡ phase.TreeStart
-    pub kept : StaysInStart (heard_by (turns_after i v) k calm.node) y
+    pub kept : StaysInStart (heard_by (quiet_after hs i v) k calm.node) y
     pub is_start : y.view.phase ≡ phase.TreeStart
 
   pub started :
-      (i k : ℕ) (y : PortNode) → slice_get (turns_after (i + 1) v).nodes k ≡ Some y →
+      (i k : ℕ) (y : PortNode) → slice_get (quiet_after hs (i + 1) v).nodes k ≡ Some y →
       is_before_tree y.state.view.phase ≡ true → Started i k y.state
   started i k y at h =
-      let u : CableWorld = turns_after i v in
-      let c : Calmly u k y.state = calmly u (turns-lawful i v l) (done-calm u (done-at i)) k y (ap (λ (z : CableWorld). slice_get z.nodes k) (sym (one-more i v)) ∙ at) in
+      let u : CableWorld = quiet_after hs i v in
+      let c : Calmly u k y.state = calmly u (quiet-lawful hs i v l) (done-calm u (done-at i)) k y (ap (λ (z : CableWorld). slice_get z.nodes k) (sym (one-quiet hs i v)) ∙ at) in
       let x-start : c.node.state.view.phase ≡ phase.TreeStart = only-start c.node.state.view.phase (early-before u k y.state c h) (done-at i k c.node c.at) in
       let y-start : y.state.view.phase ≡ phase.TreeStart = only-start y.state.view.phase h (done-at (i + 1) k y at) in
       record {
@@ -58,38 +57,38 @@ module _ (v : CableWorld) (l : IsLawful v) (done : ResetsAreDone v) where
         is_start = y-start;
       }
 
-  pub early-was : (i k : ℕ) → IsEarly (turns_after (i + 1) v) k → IsEarly (turns_after i v) k
+  pub early-was : (i k : ℕ) → IsEarly (quiet_after hs (i + 1) v) k → IsEarly (quiet_after hs i v) k
   early-was i k n =
       let s = started i k n.node n.at n.early in
       record { node = s.calm.node; at = s.calm.at; early = start-early s.calm.node.state.view.phase s.start }
 
-  pub early-at-first : (i k : ℕ) → IsEarly (turns_after i v) k → IsEarly v k
-  early-at-first zero k n = subst (λ u. IsEarly u k) (no-turns v) n
-  early-at-first (suc i) k n = early-at-first i k (early-was i k (subst (λ m. IsEarly (turns_after m v) k) (sym (add-one i)) n))
+  pub early-at-first : (i k : ℕ) → IsEarly (quiet_after hs i v) k → IsEarly v k
+  early-at-first zero k n = let m = subst (λ u. IsEarly u k) (no-quiet hs v) n in record { node = m.node; at = m.at; early = m.early }
+  early-at-first (suc i) k n = early-at-first i k (early-was i k (subst (λ m. IsEarly (quiet_after hs m v) k) (sym (add-one i)) n))
 
   -- the timer rises with the turns
   pub start-timer :
-      (i n k : ℕ) → n ≤ i → n ≤ 65535 → (e : IsEarly (turns_after i v) k) →
+      (i n k : ℕ) → n ≤ i → n ≤ 65535 → (e : IsEarly (quiet_after hs i v) k) →
       n ≤ e.node.state.view.timer
   start-timer zero n k low high e = omega (arith, low)
   start-timer (suc i) n k low high e =
-      let s = started i k e.node (subst (λ m. slice_get (turns_after m v).nodes k ≡ Some e.node) (sym (add-one i)) e.at) e.early in
+      let s = started i k e.node (subst (λ m. slice_get (quiet_after hs m v).nodes k ≡ Some e.node) (sym (add-one i)) e.at) e.early in
       let before : n - 1 ≤ s.calm.node.state.view.timer =
       start-timer i (n - 1) k (omega (arith, low)) (omega (arith, high)) (record { node = s.calm.node; at = s.calm.at; early = start-early s.calm.node.state.view.phase s.start }) in
-      up n s.calm.node.state.view.timer (heard_by (turns_after i v) k s.calm.node).view.timer e.node.state.view.timer before s.calm.heard.timer s.kept.timer high
+      up n s.calm.node.state.view.timer (heard_by (quiet_after hs i v) k s.calm.node).view.timer e.node.state.view.timer before s.calm.heard.timer s.kept.timer high
     where
       up : (n a b c : ℕ) → n - 1 ≤ a → b ≡ a → c ≡ risen b → n ≤ 65535 → n ≤ c
       up n a b c h e f m = omega (arith, h, e, f, m)
 
   -- after 512 d turns it reports a time out
   pub start-reports :
-      (i k : ℕ) → 512 * v.delay ≤ i → (e : IsEarly (turns_after i v) k) →
+      (i k : ℕ) → 512 * v.delay ≤ i → (e : IsEarly (quiet_after hs i v) k) →
       (e.node.state.view.phase ≡ phase.TreeStart) × (e.node.state.view.timed_out ≡ true)
   start-reports zero k late e = absurd (omega (arith, late, l.well_formed.some_delay))
   start-reports (suc i) k late e =
-      let at : slice_get (turns_after (i + 1) v).nodes k ≡ Some e.node = subst (λ m. slice_get (turns_after m v).nodes k ≡ Some e.node) (sym (add-one i)) e.at in
+      let at : slice_get (quiet_after hs (i + 1) v).nodes k ≡ Some e.node = subst (λ m. slice_get (quiet_after hs m v).nodes k ≡ Some e.node) (sym (add-one i)) e.at in
       let s = started i k e.node at e.early in
       let old : 512 * v.delay ≤ e.node.state.view.timer = start-timer (suc i) (512 * v.delay) k late (omega (arith, l.well_formed.short_delay)) e in
-      let timeout : (heard_by (turns_after i v) k s.calm.node).timing.timeout ≡ 512 * v.delay =
-      ap (λ (t : Timing). t.timeout) s.calm.hears.timing ∙ ((turns-lawful i v l).well_formed.nodes k s.calm.node s.calm.at).timing.timeout ∙ ap (λ d. 512 * d) (after-delay v l i) in
+      let timeout : (heard_by (quiet_after hs i v) k s.calm.node).timing.timeout ≡ 512 * v.delay =
+      ap (λ (t : Timing). t.timeout) s.calm.hears.timing ∙ ((quiet-lawful hs i v l).well_formed.nodes k s.calm.node s.calm.at).timing.timeout ∙ ap (λ d. 512 * d) (after-delay hs v l i) in
       (s.is_start, s.kept.reports (omega (arith, old, timeout)))

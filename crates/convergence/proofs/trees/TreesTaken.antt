@@ -25,7 +25,6 @@ use Rattle.cabling.proofs.Cascade.{weak_or_all}
 use Rattle.cabling.proofs.Ends.{plugged}
 use Rattle.cabling.proofs.Near.{end_at}
 use Rattle.cable_world.specs.World.{CableWorld, wire_of}
-use Rattle.cable_world.specs.Turn.{turns_after}
 use Rattle.cable_world.specs.Agreement.{level_sent, level_shown, shown_or_idle, leads_down, level_sent_at}
 use Rattle.cable_world.specs.Phases.{is_before_tree, is_shaking}
 use Rattle.cable_world.specs.Coupling.{is_asking, Coupling}
@@ -34,12 +33,12 @@ use Rattle.cable_world.proofs.resets.Entries.{after-delay, after-length}
 use Rattle.cable_world.proofs.levels.LastSent.{child-if}
 use Rattle.cable_world.proofs.tables.CableEnds.{cable-connected}
 use Rattle.cable_world.proofs.coupling.Sides.{late-roles, tree_start-known}
-use Rattle.cable_world.proofs.StaysLawful.{turns-lawful}
+use Rattle.cable_world.specs.Quiet.{HoldSchedule, holds_after, quiet_after}
+use Rattle.cable_world.proofs.QuietTurns.{quiet-then, quiet-lawful, after-cabling}
 use Rattle.convergence.specs.Milestones.{ResetsAreDone}
 use Rattle.convergence.proofs.turns.CalmTurns.{heard_by}
 use Rattle.convergence.proofs.turns.BeforeTree.{Left, TwoLeft, undecided-two}
-use Rattle.convergence.proofs.turns.Flush.{after-cabling, Tells, Shown, flush}
-use Rattle.cable_world.proofs.turns.ByNumber.{turns-then}
+use Rattle.convergence.proofs.turns.Flush.{Tells, Shown, flush}
 use Rattle.convergence.proofs.sets.Gathered.{Gathered, gathered, count, count-most, count-le, count-less, count-some, count-found}
 use Rattle.convergence.proofs.trees.TreeStart.{IsEarly, Started, started, only-start, start-early, early-was, early-at-first, start-timer, done-at}
 
@@ -58,34 +57,34 @@ asking-tells y q v on late early = told y.view.phase (leads_down y.view.ports q)
 
 -- d turns after a neighbour of a node knew its tree, the node is shown Parent, if it is still in T0
 module _
-    (v : CableWorld) (l : IsLawful v) (done : ResetsAreDone v) (u p : ℕ) (a : End)
+    (hs : HoldSchedule) (v : CableWorld) (l : IsLawful v) (done : ResetsAreDone v) (u p : ℕ) (a : End)
     (e : far v.cabling (end_at u p) ≡ Some a) (late : IsEarly v a.node → ⊥) where
   abbrev StillEarly : ℕ → Type 0
-  StillEarly i = IsEarly (turns_after i v) u
+  StillEarly i = IsEarly (quiet_after hs i v) u
 
   back : far v.cabling a ≡ Some (end_at u p)
   back = l.well_formed.cabling.both_ways (end_at u p) a e
 
-  tells-parent : (i : ℕ) → StillEarly i → Tells (turns_after i v) a is_parent
+  tells-parent : (i : ℕ) → StillEarly i → Tells (quiet_after hs i v) a is_parent
   tells-parent i n y at =
-      let w : CableWorld = turns_after i v in
-      let m : IsLawful w = turns-lawful i v l in
-      let there : far w.cabling (end_at u p) ≡ Some a = ap (λ (c : Wiring). far c (end_at u p)) (after-cabling i v) ∙ e in
-      let here : far w.cabling a ≡ Some (end_at u p) = ap (λ (c : Wiring). far c a) (after-cabling i v) ∙ back in
+      let w : CableWorld = quiet_after hs i v in
+      let m : IsLawful w = quiet-lawful hs i v l in
+      let there : far w.cabling (end_at u p) ≡ Some a = ap (λ (c : Wiring). far c (end_at u p)) (after-cabling hs i v) ∙ e in
+      let here : far w.cabling a ≡ Some (end_at u p) = ap (λ (c : Wiring). far c a) (after-cabling hs i v) ∙ back in
       let c : Coupling w.delay n.node.state p (wire_of w (end_at u p)).signals y.state a.port (wire_of w a).signals = m.coupled.cables (end_at u p) a n.node y there n.at at in
-      let start : n.node.state.view.phase ≡ phase.TreeStart = only-start n.node.state.view.phase n.early (done-at v l done i u n.node n.at) in
+      let start : n.node.state.view.phase ≡ phase.TreeStart = only-start n.node.state.view.phase n.early (done-at hs v l done i u n.node n.at) in
       asking-tells y.state a.port (m.well_formed.nodes a.node y at).valid (cable-connected w a (end_at u p) y m.well_formed here at) (out-of y at (is_before_tree y.state.view.phase) refl)
       (c.early (tree_start-known w.delay n.node.state start))
     where
       out-of :
-          (y : PortNode) → slice_get (turns_after i v).nodes a.node ≡ Some y → (b : Bool) →
+          (y : PortNode) → slice_get (quiet_after hs i v).nodes a.node ≡ Some y → (b : Bool) →
           is_before_tree y.state.view.phase ≡ b → b ≡ false
       out-of y at false h = refl
-      out-of y at true h = absurd (late (early-at-first v l done i a.node (record { node = y; at = at; early = h })))
+      out-of y at true h = absurd (late (early-at-first hs v l done i a.node (record { node = y; at = at; early = h })))
 
   pub shown-parent :
-      (i : ℕ) → v.delay ≤ i → StillEarly i → Shown (turns_after i v) (end_at u p) is_parent
-  shown-parent = flush v l a (end_at u p) back is_parent StillEarly (λ i n. early-was v l done i u n) tells-parent
+      (i : ℕ) → v.delay ≤ i → StillEarly i → Shown (quiet_after hs i v) (end_at u p) is_parent
+  shown-parent = flush hs v l a (end_at u p) back is_parent StillEarly (λ i n. early-was hs v l done i u n) tells-parent
 
 -- ---- a node that stays in T0
 
@@ -101,25 +100,25 @@ pub record TwoSilent (y : NodeState) : Type 0 where
   pub low_silent : Silent y low
   pub high_silent : Silent y high
 
-module _ (v : CableWorld) (l : IsLawful v) (done : ResetsAreDone v) where
+module _ (hs : HoldSchedule) (v : CableWorld) (l : IsLawful v) (done : ResetsAreDone v) where
   -- after 256 d turns two ports keep it there
   stays-by-two :
-      (i k : ℕ) → 256 * v.delay ≤ i → (n : IsEarly (turns_after (i + 1) v) k) →
+      (i k : ℕ) → 256 * v.delay ≤ i → (n : IsEarly (quiet_after hs (i + 1) v) k) →
       TwoSilent n.node.state
   stays-by-two i k old n = record { low = two.low; high = two.high; apart = two.apart; low_silent = silent two.low two.low_left; high_silent = silent two.high two.high_left }
     where
-      s : Started v l done i k n.node.state
-      s = started v l done i k n.node n.at n.early
+      s : Started hs v l done i k n.node.state
+      s = started hs v l done i k n.node n.at n.early
 
       now : NodeState
-      now = heard_by (turns_after i v) k s.calm.node
+      now = heard_by (quiet_after hs i v) k s.calm.node
 
       force : (raise_timer now).timing.force ≤ (raise_timer now).view.timer
       force =
           let needed : now.timing.force ≡ 256 * v.delay =
-          ap (λ (t : Timing). t.force) s.calm.hears.timing ∙ ((turns-lawful i v l).well_formed.nodes k s.calm.node s.calm.at).timing.force ∙ ap (λ d. 256 * d) (after-delay v l i) in
+          ap (λ (t : Timing). t.force) s.calm.hears.timing ∙ ((quiet-lawful hs i v l).well_formed.nodes k s.calm.node s.calm.at).timing.force ∙ ap (λ d. 256 * d) (after-delay hs v l i) in
           let timer : 256 * v.delay ≤ s.calm.node.state.view.timer =
-          start-timer v l done i (256 * v.delay) k old (omega (arith, l.well_formed.short_delay)) (record { node = s.calm.node; at = s.calm.at; early = start-early s.calm.node.state.view.phase s.start }) in
+          start-timer hs v l done i (256 * v.delay) k old (omega (arith, l.well_formed.short_delay)) (record { node = s.calm.node; at = s.calm.at; early = start-early s.calm.node.state.view.phase s.start }) in
           enough now.timing.force now.view.timer (omega (arith, needed, timer, s.calm.heard.timer)) (omega (arith, needed, l.well_formed.short_delay))
         where
           enough : (f t : ℕ) → f ≤ t → f ≤ 65535 → f ≤ min (t + 1) 65535
@@ -156,35 +155,35 @@ early_there None = false
 early_there (Some x) = is_before_tree x.state.view.phase
 
 module _
-    (v : CableWorld) (l : IsLawful v) (done : ResetsAreDone v) (set core : ℕ)
+    (hs : HoldSchedule) (v : CableWorld) (l : IsLawful v) (done : ResetsAreDone v) (set core : ℕ)
     (closed : IsClosed v.cabling set) (is : IsCore v.cabling set core) (empty : IsEmpty core) where
   -- those in T0 after so many turns
   member : ℕ → ℕ → Bool
-  member i k = (bit_at set k == 1) && early_there (slice_get (turns_after i v).nodes k)
+  member i k = (bit_at set k == 1) && early_there (slice_get (quiet_after hs i v).nodes k)
 
   few : length v.nodes ≤ 63
   few = omega (arith, l.well_formed.count, l.well_formed.cabling.few_nodes)
 
-  member-parts : (i k : ℕ) → member i k ≡ true → Holds set k × IsEarly (turns_after i v) k
+  member-parts : (i k : ℕ) → member i k ≡ true → Holds set k × IsEarly (quiet_after hs i v) k
   unfolding member
   member-parts i k h =
-      let p = and_parts (bit_at set k == 1) (early_there (slice_get (turns_after i v).nodes k)) h in
-      (eqb-true (bit_at set k) 1 p.0, go (slice_get (turns_after i v).nodes k) refl p.1)
+      let p = and_parts (bit_at set k == 1) (early_there (slice_get (quiet_after hs i v).nodes k)) h in
+      (eqb-true (bit_at set k) 1 p.0, go (slice_get (quiet_after hs i v).nodes k) refl p.1)
     where
       go :
-          (o : Option PortNode) → slice_get (turns_after i v).nodes k ≡ o → early_there o ≡ true →
-          IsEarly (turns_after i v) k
+          (o : Option PortNode) → slice_get (quiet_after hs i v).nodes k ≡ o → early_there o ≡ true →
+          IsEarly (quiet_after hs i v) k
       go None e f = absurd (true≢false (sym f))
       go (Some x) e f = record { node = x; at = e; early = f }
 
-  member-from : (i k : ℕ) → Holds set k → IsEarly (turns_after i v) k → member i k ≡ true
+  member-from : (i k : ℕ) → Holds set k → IsEarly (quiet_after hs i v) k → member i k ≡ true
   unfolding member
-  member-from i k h n = and_from (bit_at set k == 1) (early_there (slice_get (turns_after i v).nodes k)) (eq-eqb (bit_at set k) 1 h) (ap early_there n.at ∙ n.early)
+  member-from i k h n = and_from (bit_at set k == 1) (early_there (slice_get (quiet_after hs i v).nodes k)) (eq-eqb (bit_at set k) 1 h) (ap early_there n.at ∙ n.early)
 
   member-was : (i j k : ℕ) → member (i + j) k ≡ true → member i k ≡ true
   member-was i j k h =
       let p = member-parts (i + j) k h in
-      member-from i k p.0 (early-at-first (turns_after i v) (turns-lawful i v l) (done-at v l done i) j k (subst (λ u. IsEarly u k) (turns-then i j v) p.1))
+      member-from i k p.0 (early-at-first (holds_after i hs) (quiet_after hs i v) (quiet-lawful hs i v l) (done-at hs v l done i) j k (subst (λ u. IsEarly u k) (quiet-then hs i j v) p.1))
 
   module _ (t : ℕ) (old : 256 * v.delay ≤ t) where
     abbrev g : Gathered (member t) (length v.nodes)
@@ -192,14 +191,14 @@ module _
 
     -- a port that shows no Parent leads to another of them
     leads :
-        (u : ℕ) → Holds set u → (n : IsEarly (turns_after (t + v.delay) v) u) → (q : ℕ) →
+        (u : ℕ) → Holds set u → (n : IsEarly (quiet_after hs (t + v.delay) v) u) → (q : ℕ) →
         Silent n.node.state q → LeadsInto v.cabling g.set (end_at u q)
     leads u in_set n q s = go (far v.cabling (end_at u q)) refl
       where
         cable :
             (o : Option End) → far v.cabling (end_at u q) ≡ o →
-            far (turns_after (t + v.delay) v).cabling (end_at u q) ≡ o
-        cable o e = ap (λ (c : Wiring). far c (end_at u q)) (after-cabling (t + v.delay) v) ∙ e
+            far (quiet_after hs (t + v.delay) v).cabling (end_at u q) ≡ o
+        cable o e = ap (λ (c : Wiring). far c (end_at u q)) (after-cabling hs (t + v.delay) v) ∙ e
 
         to :
             (a : End) → far v.cabling (end_at u q) ≡ Some a → (b : Bool) → member t a.node ≡ b →
@@ -208,18 +207,18 @@ module _
             let there : a.node < length v.cabling = (plugged v.cabling a (end_at u q) (l.well_formed.cabling.both_ways (end_at u q) a e)).node in
             (g.is a.node).1 (omega (arith, there, l.well_formed.count), m)
         to a e false m =
-            let w : CableWorld = turns_after t v in
+            let w : CableWorld = quiet_after hs t v in
             let late : IsEarly w a.node → ⊥ = λ y. true≢false (sym (member-from t a.node (closed (end_at u q) a e in_set) y) ∙ m) in
-            let e_then : far w.cabling (end_at u q) ≡ Some a = ap (λ (c : Wiring). far c (end_at u q)) (after-cabling t v) ∙ e in
-            let n_then : IsEarly (turns_after v.delay w) u = subst (λ z. IsEarly z u) (turns-then t v.delay v) n in
-            let at_then : slice_get (turns_after v.delay w).nodes u ≡ Some n.node = ap (λ (z : CableWorld). slice_get z.nodes u) (sym (turns-then t v.delay v)) ∙ n.at in
-            let same : w.delay ≤ v.delay = omega (arith, after-delay v l t) in
-            absurd (true≢false (sym (shown-parent w (turns-lawful t v l) (done-at v l done t) u q a e_then late v.delay same n_then n.node at_then) ∙ s.silent))
+            let e_then : far w.cabling (end_at u q) ≡ Some a = ap (λ (c : Wiring). far c (end_at u q)) (after-cabling hs t v) ∙ e in
+            let n_then : IsEarly (quiet_after (holds_after t hs) v.delay w) u = subst (λ z. IsEarly z u) (quiet-then hs t v.delay v) n in
+            let at_then : slice_get (quiet_after (holds_after t hs) v.delay w).nodes u ≡ Some n.node = ap (λ (z : CableWorld). slice_get z.nodes u) (sym (quiet-then hs t v.delay v)) ∙ n.at in
+            let same : w.delay ≤ v.delay = omega (arith, after-delay hs v l t) in
+            absurd (true≢false (sym (shown-parent (holds_after t hs) w (quiet-lawful hs t v l) (done-at hs v l done t) u q a e_then late v.delay same n_then n.node at_then) ∙ s.silent))
 
         go :
             (o : Option End) → far v.cabling (end_at u q) ≡ o →
             LeadsInto v.cabling g.set (end_at u q)
-        go None e = absurd (true≢false (sym s.on ∙ ((turns-lawful (t + v.delay) v l).well_formed.nodes u n.node n.at).connected q ∙ ap is_some (cable None e)))
+        go None e = absurd (true≢false (sym s.on ∙ ((quiet-lawful hs (t + v.delay) v l).well_formed.nodes u n.node n.at).connected q ∙ ap is_some (cable None e)))
         go (Some a) e = (a, e, to a e (member t a.node) refl)
 
     -- one of them is gone d turns later
@@ -230,9 +229,9 @@ module _
     gone u h leaf true m =
         let p = member-parts (t + v.delay) u m in
         let z : t + v.delay ≡ t + (v.delay - 1) + 1 = omega (arith, l.well_formed.some_delay) in
-        let n : IsEarly (turns_after (t + (v.delay - 1) + 1) v) u = subst (λ j. IsEarly (turns_after j v) u) z p.1 in
-        let two : TwoSilent n.node.state = stays-by-two v l done (t + (v.delay - 1)) u (omega (arith, old)) n in
-        let now : IsEarly (turns_after (t + v.delay) v) u = record { node = n.node; at = ap (λ j. slice_get (turns_after j v).nodes u) z ∙ n.at; early = n.early } in
+        let n : IsEarly (quiet_after hs (t + (v.delay - 1) + 1) v) u = subst (λ j. IsEarly (quiet_after hs j v) u) z p.1 in
+        let two : TwoSilent n.node.state = stays-by-two hs v l done (t + (v.delay - 1)) u (omega (arith, old)) n in
+        let now : IsEarly (quiet_after hs (t + v.delay) v) u = record { node = n.node; at = ap (λ j. slice_get (quiet_after hs j v).nodes u) z ∙ n.at; early = n.early } in
         absurd (leaf (record {
           low = two.low;
           high = two.high;
@@ -246,7 +245,7 @@ module _
         + 1 ≤ count (member t) (length v.nodes)
     falls k m =
         let e = (member-parts t k m).1 in
-        let inside : k < length v.nodes = omega (arith, slice_get_within (turns_after t v).nodes k e.node e.at, after-length v l t) in
+        let inside : k < length v.nodes = omega (arith, slice_get_within (quiet_after hs t v).nodes k e.node e.at, after-length hs v l t) in
         let found = leaf v.cabling set core g.set k is empty g.small (λ j h. (member-parts t j ((g.is j).0 h).1).0) ((g.is k).1 (inside, m)) in
         let u = (g.is found.0).0 found.1 in
         count-less (member (t + v.delay)) (member t) (λ j. member-was t v.delay j) (length v.nodes) found.0 u.0 (gone found.0 found.1 found.2 (member (t + v.delay) found.0) refl) u.1
@@ -286,7 +285,7 @@ module _
   -- so in the end each node knows its tree
   pub all-taken :
       (i : ℕ) → 256 * v.delay + length v.nodes * v.delay ≤ i → (k : ℕ) (x : PortNode) →
-      Holds set k → slice_get (turns_after i v).nodes k ≡ Some x →
+      Holds set k → slice_get (quiet_after hs i v).nodes k ≡ Some x →
       is_before_tree x.state.view.phase ≡ false
   all-taken i late k x h at = go (is_before_tree x.state.view.phase) refl
     where
@@ -297,5 +296,5 @@ module _
           let z : i ≡ s + (i - s) = omega (arith, late, time-is (length v.nodes)) in
           let m : member i k ≡ true = member-from i k h (record { node = x; at = at; early = e }) in
           let was : member s k ≡ true = member-was s (i - s) k (ap (λ j. member j k) (sym z) ∙ m) in
-          let inside : k < length v.nodes = omega (arith, slice_get_within (turns_after i v).nodes k x at, after-length v l i) in
+          let inside : k < length v.nodes = omega (arith, slice_get_within (quiet_after hs i v).nodes k x at, after-length hs v l i) in
           absurd (omega (arith, none-left, count-some (member s) (length v.nodes) k inside was))

@@ -2,10 +2,12 @@
 use Rattle.std.proofs.Common.{zero, suc, ℕ, List, [], ◌∷◌, sym, subst}
 use Rattle.cable_world.specs.World.{CableWorld}
 use Rattle.cable_world.specs.Run.{Event, acts, holds, turns, Happens, Runs, IsReached}
-use Rattle.cable_world.specs.Turn.{turn, turns_after}
+use Rattle.cable_world.specs.Turn.{turn}
 use Rattle.cable_world.specs.Lawful.{IsLawful}
 use Rattle.cable_world.specs.StaysLawful.{HoldsAtPowerOn}
 use Rattle.cable_world.proofs.StaysLawful.{power-on-lawful, turn-lawful, hold-lawful, act-lawful}
+use Rattle.cable_world.specs.Quiet.{HoldSchedule, quiet_after}
+use Rattle.cable_world.proofs.QuietTurns.{holds-kept, quiet-lawful}
 use Rattle.convergence.specs.Kept.{KeptByTurn, KeptByHold, KeptByAct}
 
 pub record IsKept (P : CableWorld → Type 0) : Type 0 where
@@ -31,7 +33,12 @@ module _ (P : CableWorld → Type 0) (k : IsKept P) where
   pub kept-reached : (w : CableWorld) → IsReached w → P w
   kept-reached w r = (runs-both r.events r.start w r.run (power-on-lawful r.start r.power_on, k.power_on r.start r.power_on)).1
 
-  pub kept-turns : (n : ℕ) (w : CableWorld) → IsLawful w → P w → P (turns_after n w)
-  unfolding turns_after
-  kept-turns zero w l c = c
-  kept-turns (suc n) w l c = kept-turns n (turn w) (turn-lawful w l) (k.turn w l c)
+  -- and after quiet turns
+  pub kept-quiet :
+      (hs : HoldSchedule) (n : ℕ) (w : CableWorld) → IsLawful w → P w → P (quiet_after hs n w)
+  unfolding quiet_after
+  kept-quiet hs zero w l c = holds-kept P k.hold (hs 0) w l c
+  kept-quiet hs (suc n) w l c =
+      let v : CableWorld = quiet_after hs n w in
+      let m : IsLawful v = quiet-lawful hs n w l in
+      holds-kept P k.hold (hs (suc n)) (turn v) (turn-lawful v m) (k.turn v m (kept-quiet hs n w l c))

@@ -1,8 +1,9 @@
 -- The two ends of a cable are there.
-use Rattle.std.proofs.Common.{◌≡◌, Some}
+use Rattle.std.proofs.Common.{◌≡◌, List, Some}
 use Rattle.cabling.specs.declared.cable.End.{End}
 use Rattle.cabling.specs.Wiring.{far}
 use Rattle.cable_world.specs.World.{CableWorld}
+use Rattle.cable_world.specs.Quiet.{PlacedHold, with_holds}
 use Rattle.cable_world.specs.Lawful.{IsWellFormed}
 use Rattle.cable_world.proofs.tables.CableEnds.{CableEnd, cable-end}
 use Rattle.convergence.specs.Cables.{AreJoined}
@@ -19,3 +20,15 @@ joined-of w a b f e =
       other = other.node;
       other_at = other.node_at;
     }
+
+-- holds leave them as they are
+abbrev pub joined-held :
+    (holds : List PlacedHold) (w : CableWorld) (a b : End) → AreJoined w a b →
+    AreJoined (with_holds holds w) a b
+joined-held holds w a b e = record {
+  joined = e.joined;
+  near = e.near;
+  near_at = e.near_at;
+  other = e.other;
+  other_at = e.other_at;
+}

@@ -11,24 +11,20 @@ use Rattle.cabling.specs.Wiring.{Wiring, far, ports_of}
 use Rattle.cable_world.specs.declared.wire.Travelling.{Travelling}
 use Rattle.cable_world.specs.Wire.{age_wire, gives, age_signal, new_signal}
 use Rattle.cable_world.specs.World.{CableWorld, wire_of}
-use Rattle.cable_world.specs.Turn.{inbox, turn_at, turn, turns_after}
+use Rattle.cable_world.specs.Turn.{inbox, turn_at, turn}
 use Rattle.cable_world.specs.Signals.{signals_of}
 use Rattle.cable_world.specs.Agreement.{level_shown, level_after, level_sent_at}
 use Rattle.cable_world.specs.Lawful.{AgesFall, IsLawful}
-use Rattle.cable_world.proofs.turns.ByNumber.{cabling-after, no-turns, one-more}
+use Rattle.cable_world.proofs.turns.ByNumber.{cabling-after}
 use Rattle.cable_world.proofs.coupling.CouplingInTurns.{before, hears, ticks, side, side-wire}
 use Rattle.cable_world.proofs.resets.Entries.{after-delay}
 use Rattle.convergence.proofs.turns.Cables.{joined-of}
 use Rattle.cable_world.proofs.tables.CableEnds.{cable-connected}
 use Rattle.cable_world.proofs.coupling.Sides.{departures}
-use Rattle.cable_world.proofs.StaysLawful.{turns-lawful}
 use Rattle.cable_world.proofs.turns.TurnParts.{turn-state, comes}
-
--- ---- turns
-
-pub after-cabling : (k : ℕ) (w : CableWorld) → (turns_after k w).cabling ≡ w.cabling
-after-cabling zero w = ap (λ (v : CableWorld). v.cabling) (no-turns w)
-after-cabling (suc k) w = rw (← add-one, one-more k w) (cabling-after (turns_after k w) ∙ after-cabling k w)
+use Rattle.cable_world.specs.Quiet.{PlacedHold, HoldSchedule, with_holds, quiet_after}
+use Rattle.cable_world.proofs.QuietTurns.{holds-signals, one-quiet, quiet-lawful, after-cabling}
+use Rattle.cable_world.proofs.StaysLawful.{turn-lawful}
 
 -- ---- the two ends of a cable
 
@@ -48,6 +44,12 @@ FrontSince n (t ∷ ts) = n ≤ t.age
 -- an end shows what doesn't pass because nothing came for so many turns
 abbrev Due : ℕ → CableWorld → End → End → (Level → Bool) → Type 0
 Due n w a b test = (y : PortNode) → slice_get w.nodes b.node ≡ Some y → test (level_shown y.state b.port) ≡ false → FrontSince n (wire_of w a).signals
+
+-- so it is after holds
+due-held :
+    (holds : List PlacedHold) (w : CableWorld) → IsLawful w → (a b : End) (test : Level → Bool)
+    (n : ℕ) → Due n w a b test → Due n (with_holds holds w) a b test
+due-held holds w l a b test n due y at bad = subst (FrontSince n) (sym (holds-signals holds w a l)) (due y at bad)
 
 front-older :
     (n : ℕ) (ts us : List Travelling) → FrontSince n ts → FrontSince (n + 1)
@@ -109,31 +111,33 @@ module _
       go y at true s = absurd (true≢false (sym (tell x at_x) ∙ ap test (sym (level y at) ∙ s) ∙ bad))
       go y at false s = front-older n (wire_of w a).signals (map new_signal (departures (side w a x))) (due y at (ap test s ∙ bad))
 
--- ---- d turns
+-- ---- d quiet turns
 
 -- a node tells what passes a test for as long as some condition holds, which held before
 -- where it holds
 module _
-    (w : CableWorld) (l : IsLawful w) (a b : End) (e : far w.cabling a ≡ Some b)
+    (hs : HoldSchedule) (w : CableWorld) (l : IsLawful w) (a b : End) (e : far w.cabling a ≡ Some b)
     (test : Level → Bool) (C : ℕ → Type 0) (was : (i : ℕ) → C (i + 1) → C i)
-    (tell : (i : ℕ) → C i → Tells (turns_after i w) a test) where
-  cable : (i : ℕ) → far (turns_after i w).cabling a ≡ Some b
-  cable i = ap (λ (c : Wiring). far c a) (after-cabling i w) ∙ e
+    (tell : (i : ℕ) → C i → Tells (quiet_after hs i w) a test) where
+  cable : (i : ℕ) → far (quiet_after hs i w).cabling a ≡ Some b
+  cable i = ap (λ (c : Wiring). far c a) (after-cabling hs i w) ∙ e
 
-  due : (i : ℕ) → C i → Due i (turns_after i w) a b test
-  due zero c = due-first (turns_after zero w) (turns-lawful zero w l) a b (cable zero) test (tell zero c)
+  due : (i : ℕ) → C i → Due i (quiet_after hs i w) a b test
+  due zero c = due-first (quiet_after hs zero w) (quiet-lawful hs zero w l) a b (cable zero) test (tell zero c)
   due (suc i) c =
       let k : i + 1 ≡ suc i = add-one i in
       let d : C i = was i (subst C (sym k) c) in
-      subst (λ n. Due n (turns_after n w) a b test) k
-      (subst (λ v. Due (i + 1) v a b test) (sym (one-more i w)) (due-next (turns_after i w) (turns-lawful i w l) a b (cable i) test (tell i d) i (due i d)))
+      subst (λ n. Due n (quiet_after hs n w) a b test) k
+      (subst (λ v. Due (i + 1) v a b test) (sym (one-quiet hs i w))
+      (due-held (hs (i + 1)) (turn (quiet_after hs i w)) (turn-lawful (quiet_after hs i w) (quiet-lawful hs i w l)) a b test (i + 1)
+      (due-next (quiet_after hs i w) (quiet-lawful hs i w l) a b (cable i) test (tell i d) i (due i d))))
 
-  pub flush : (i : ℕ) → w.delay ≤ i → C i → Shown (turns_after i w) b test
+  pub flush : (i : ℕ) → w.delay ≤ i → C i → Shown (quiet_after hs i w) b test
   flush i late c y at = go (test (level_shown y.state b.port)) refl
     where
       go : (r : Bool) → test (level_shown y.state b.port) ≡ r → r ≡ true
       go true s = refl
       go false s =
-          let m : IsLawful (turns_after i w) = turns-lawful i w l in
+          let m : IsLawful (quiet_after hs i w) = quiet-lawful hs i w l in
           let some : 1 ≤ w.delay = l.well_formed.some_delay in
-          absurd (front-young i ((turns_after i w).delay - 1) (wire_of (turns_after i w) a).signals (omega (arith, some, late)) (omega (arith, some, late, after-delay w l i)) (m.well_formed.ages a) (due i c y at s))
+          absurd (front-young i ((quiet_after hs i w).delay - 1) (wire_of (quiet_after hs i w) a).signals (omega (arith, some, late)) (omega (arith, some, late, after-delay hs w l i)) (m.well_formed.ages a) (due i c y at s))

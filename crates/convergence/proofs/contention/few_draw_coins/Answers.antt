@@ -1,10 +1,11 @@
 use Rattle.cable_world.specs.World.{CableWorld}
-use Rattle.cable_world.specs.Turn.{turns_after}
+use Rattle.cable_world.specs.Quiet.{quiet_after}
 use Rattle.cable_world.specs.Lawful.{IsLawful}
-use Rattle.cable_world.proofs.StaysLawful.{reached-lawful, turns-lawful}
+use Rattle.cable_world.proofs.StaysLawful.{reached-lawful}
+use Rattle.cable_world.proofs.QuietTurns.{quiet-lawful}
 use Rattle.convergence.specs.Milestones.{ResetsAreOver}
 use Rattle.convergence.specs.Rivals.{IsContested}
-use Rattle.convergence.proofs.coins.StaysContested.{reached-contested, turns-contested}
+use Rattle.convergence.proofs.coins.StaysContested.{reached-contested, quiet-contested}
 use Rattle.convergence.proofs.resets.ResetsOver.{resets-over}
 use Rattle.convergence.proofs.coins.Drawers.{mutual-close, mutual-agree, two-rivals, no-third}
 use Rattle.convergence.proofs.contention.few_draw_coins.Goals as goal
@@ -22,12 +23,12 @@ pub returns-clause-no_third : goal.returns-clause-no_third
 returns-clause-no_third c = λ w l h over. no-third w l h over
 
 pub returns-clause-after_turns : goal.returns-clause-after_turns
-returns-clause-after_turns c = λ w k r late.
+returns-clause-after_turns c = λ holds w k r late.
     let lawful : IsLawful w = reached-lawful w r in
-    let v : CableWorld = turns_after k w in
-    let l : IsLawful v = turns-lawful k w lawful in
-    let knows : IsContested v = turns-contested k w lawful (reached-contested w r) in
-    let over : ResetsAreOver v = resets-over w lawful k late in
+    let v : CableWorld = quiet_after holds k w in
+    let l : IsLawful v = quiet-lawful holds k w lawful in
+    let knows : IsContested v = quiet-contested holds k w lawful (reached-contested w r) in
+    let over : ResetsAreOver v = resets-over holds w lawful k late in
     record {
       close = λ a b m. mutual-close v l knows a b m;
       agree = λ a b m. mutual-agree v l knows a b m;
