@@ -130,3 +130,6 @@ pub plainly :
     (P : CableWorld → Type 0) (k : ℕ) (w : CableWorld) → P (quiet_after no_holds k w) →
     P (turns_after k w)
 plainly P k w = subst P (plain-quiet k w)
+
+pub turns-cabling : (k : ℕ) (w : CableWorld) → (turns_after k w).cabling ≡ w.cabling
+turns-cabling k w = plainly (λ v. v.cabling ≡ w.cabling) k w (after-cabling no_holds k w)

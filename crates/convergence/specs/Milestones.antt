@@ -1,5 +1,5 @@
--- The milestones of a bus that settles: what holds of its world, one after the other, in turns
--- without acts.
+-- The milestones of a bus that settles: what holds of its world, one after the other, in quiet
+-- turns.
 use Rattle.std.specs.Prelude.{◌≡◌, ◌⊎◌, ℕ, Bool, true, false, Some, slice_get}
 use Rattle.cabling.specs.declared.cable.End.{End}
 use Rattle.cabling.specs.Wiring.{far}

@@ -20,7 +20,7 @@ pub fn worlds_stay_contested()
 /// counts of draws differ by one at most, and draw number j is the same at both, for each j below
 /// 32 with j + 1 below both counts. Once resets are over, two nodes of a component that drew coins
 /// are the ends of one cable, with equal draws in that sense, and no third node drew. So all of it
-/// is so after n d turns without acts.
+/// is so after n d quiet turns, whatever holds are placed between them.
 pub fn few_draw_coins()
     ensures close { OnceContested RivalsAreClose }
     ensures agree { OnceContested RivalsAgree }
@@ -30,8 +30,8 @@ pub fn few_draw_coins()
 {}
 
 /// Of two nodes of a component in T3 whose last coins differ the one with coin 1 has the other as
-/// its child, and has no parent, 10 d turns later and from then on: in turns without acts, after
-/// n d such turns.
+/// its child, and has no parent, 10 d turns later and from then on: in quiet turns, after n d of
+/// them, whatever holds are placed between them.
 pub fn long_waits_win()
     ensures { LongWaitsWin }
 {}

@@ -1,4 +1,5 @@
-//! The milestones of a bus of n nodes whose cables delay by at most d turns, in turns without acts.
+//! The milestones of a bus of n nodes whose cables delay by at most d turns, in quiet turns. Any
+//! holds may be placed before, between and after these turns.
 ghost use Rattle.convergence.specs.Kept.{KeptByTurn, KeptOnceDone, OnceDone, AfterAny};
 ghost use Rattle.convergence.specs.Kept.{AfterDone, AfterDoneAcyclic, AfterGrown, KeptOnceGrown};
 ghost use Rattle.convergence.specs.Milestones.{ResetsAreOver, ResetsAreDone, NoResetIsUnderWay};

@@ -12,7 +12,7 @@ use Rattle.topology_stack.specs.Tree.{Tree}
 use Rattle.cabling.specs.Component.{IsComponent}
 use Rattle.cabling.specs.Looped.{IsCore}
 use Rattle.port_state.specs.Config.{gap_or}
-use Rattle.cable_world.specs.Turn.{turns_after}
+use Rattle.cable_world.specs.Quiet.{HoldSchedule, quiet_after}
 use Rattle.cable_world.specs.Act.{ActLeads}
 use Rattle.cable_world.specs.declared.act.Act.TheVariants.{Config}
 use Rattle.cable_world.specs.Lawful.{IsLawful}
@@ -64,17 +64,18 @@ pub record IsRooted (w : CableWorld) (set root : ℕ) : Type 0 where
 -- leaves it before 64 d turns are done
 abbrev pub ResetsSpread : Type 0
 ResetsSpread =
-    (w : CableWorld) (node : NodeNumber) (set : NodeSet) (i : ℕ) → IsLawful w →
+    (holds : HoldSchedule) (w : CableWorld) (node : NodeNumber) (set : NodeSet) (i : ℕ) →
+    IsLawful w →
     IsComponent w.cabling node set → IsFresh w set →
-    (length w.nodes - 1) * w.delay ≤ i → i < 64 * w.delay → AllReset (turns_after i w) set i
+    (length w.nodes - 1) * w.delay ≤ i → i < 64 * w.delay → AllReset (quiet_after holds i w) set i
 
 -- after n d turns each has what it takes over at its entry
 abbrev pub EntriesTakeOver : Type 0
 EntriesTakeOver =
-    (w : CableWorld) (node : NodeNumber) (set : NodeSet) (i : ℕ) (k : NodeNumber)
-    (x y : PortNode) → IsLawful w → IsComponent w.cabling node set → IsFresh w set →
+    (holds : HoldSchedule) (w : CableWorld) (node : NodeNumber) (set : NodeSet) (i : ℕ)
+    (k : NodeNumber) (x y : PortNode) → IsLawful w → IsComponent w.cabling node set → IsFresh w set →
     length w.nodes * w.delay ≤ i → Holds set k →
-    slice_get w.nodes k ≡ Some x → slice_get (turns_after i w).nodes k ≡ Some y →
+    slice_get w.nodes k ≡ Some x → slice_get (quiet_after holds i w).nodes k ≡ Some y →
     (y.state.view.force ≡ waits_due x.state.view) × (y.state.view.gap ≡ gap_due x.state.view)
 
 -- in a component without loop, which has just been reset, this node alone waits to become root
@@ -95,33 +96,36 @@ forced_turns w = 2 * (length w.nodes * w.delay) + 81 * w.delay
 
 abbrev pub ForcedNodesBecomeRoots : Type 0
 ForcedNodesBecomeRoots =
-    (w : CableWorld) (node : NodeNumber) (set core : NodeSet) (root : NodeNumber) (k : ℕ) →
-    IsForced w node set core root → forced_turns w ≤ k → IsRooted (turns_after k w) set root
+    (holds : HoldSchedule) (w : CableWorld) (node : NodeNumber) (set core : NodeSet)
+    (root : NodeNumber) (k : ℕ) →
+    IsForced w node set core root → forced_turns w ≤ k → IsRooted (quiet_after holds k w) set root
 
 abbrev pub ForcedRootsHaveWalks : Type 0
 ForcedRootsHaveWalks =
-    (w : CableWorld) (node : NodeNumber) (set core : NodeSet) (root : NodeNumber) (k : ℕ) →
+    (holds : HoldSchedule) (w : CableWorld) (node : NodeNumber) (set core : NodeSet)
+    (root : NodeNumber) (k : ℕ) →
     IsForced w node set core root → IsAcyclic w → forced_turns w ≤ k →
-    (t : Tree) × RootWalk (turns_after k w) set root t
+    (t : Tree) × RootWalk (quiet_after holds k w) set root t
 
 -- from n d turns on each node past T0 has its port towards that node for parent port
 abbrev pub AllLeadToForcedRoots : Type 0
 AllLeadToForcedRoots =
-    (w : CableWorld) (node : NodeNumber) (set core : NodeSet) (root : NodeNumber) →
+    (holds : HoldSchedule) (w : CableWorld) (node : NodeNumber) (set core : NodeSet)
+    (root : NodeNumber) →
     IsForced w node set core root →
     (up : ℕ → Option ℕ) × WaysUp w.cabling set root up
     × ((i : ℕ) (k : NodeNumber) (x : PortNode) → length w.nodes * w.delay ≤ i → Holds set k →
-    slice_get (turns_after i w).nodes k ≡ Some x → is_before_tree x.state.view.phase ≡ false →
+    slice_get (quiet_after holds i w).nodes k ≡ Some x → is_before_tree x.state.view.phase ≡ false →
     x.state.view.parent ≡ up k)
 
 -- and nobody draws a coin
 abbrev pub NobodyDraws : Type 0
 NobodyDraws =
-    (w : CableWorld) (node : NodeNumber) (set core : NodeSet) (root : NodeNumber) (i : ℕ)
-    (k : NodeNumber) (x y : PortNode) → IsForced w node set core root →
+    (holds : HoldSchedule) (w : CableWorld) (node : NodeNumber) (set core : NodeSet)
+    (root : NodeNumber) (i : ℕ) (k : NodeNumber) (x y : PortNode) → IsForced w node set core root →
     length w.nodes * w.delay ≤ i → Holds set k →
-    slice_get (turns_after i w).nodes k ≡ Some x →
-    slice_get (turns_after (i + 1) w).nodes k ≡ Some y →
+    slice_get (quiet_after holds i w).nodes k ≡ Some x →
+    slice_get (quiet_after holds (i + 1) w).nodes k ≡ Some y →
     y.state.view.draws ≡ x.state.view.draws
 
 -- a configuration packet with R set names one node of a component that isn't being reset

@@ -20,7 +20,8 @@ use Rattle.outcomes.specs.Lists.{packets_from}
 use Rattle.convergence.specs.Roots.{IsRoot}
 use Rattle.convergence.specs.Milestones.{AreIdentifying}
 use Rattle.outcomes.specs.RootWalk.{place_now, RootWalk}
-use Rattle.cable_world.specs.Turn.{turn, turns_after}
+use Rattle.cable_world.specs.Turn.{turn}
+use Rattle.cable_world.specs.Quiet.{HoldSchedule, quiet_after}
 use Rattle.cable_world.specs.Act.{hold, hold_fault}
 use Rattle.cable_world.specs.Run.{IsReached}
 use Rattle.cable_world.specs.Lawful.{IsLawful}
@@ -165,41 +166,47 @@ HoldsKeepRest =
     (end : End) (turns : ℕ) (w : CableWorld) (set : NodeSet) → hold_fault end w ≡ None →
     IsLawful w → IsAtRest w set → IsAtRest (hold end turns w) set
 
--- a component that identifies itself, k turns after the last act
+-- a component that identifies itself after k quiet turns
 pub record SettlesFrom
-    (w : CableWorld) (k : ℕ) (set core : NodeSet) (root : NodeNumber) (t : Tree) : Type 0 where
+    (holds : HoldSchedule) (w : CableWorld) (k : ℕ) (set core : NodeSet) (root : NodeNumber)
+    (t : Tree)
+    : Type 0 where
   pub reached : IsReached w
   pub late : turns_to_over w ≤ k
-  pub is : IsSettling (turns_after k w) set core root t
+  pub is : IsSettling (quiet_after holds k w) set core root t
 
 -- once at rest it keeps its tree
 abbrev pub RestKeepsTree : Type 0
 RestKeepsTree =
-    (w : CableWorld) (set core : NodeSet) (root : NodeNumber) (j k : ℕ) (t : Tree) →
-    SettlesFrom w k set core root t → IsAtRest (turns_after k w) set →
-    IsTree (turns_after (k + j) w) set root t
+    (holds : HoldSchedule) (w : CableWorld) (set core : NodeSet) (root : NodeNumber) (j k : ℕ)
+    (t : Tree) →
+    SettlesFrom holds w k set core root t → IsAtRest (quiet_after holds k w) set →
+    IsTree (quiet_after holds (k + j) w) set root t
 
 -- all its nodes are in A0 within (4 n + 1) d turns
 abbrev pub NodesGetReady : Type 0
 NodesGetReady =
-    (w : CableWorld) (set core : NodeSet) (root : NodeNumber) (k : ℕ) (t : Tree) →
-    SettlesFrom w k set core root t →
-    (m : ℕ) × (m ≤ (4 * length (numbers (turns_after k w).cabling root t) + 1) * w.delay)
+    (holds : HoldSchedule) (w : CableWorld) (set core : NodeSet) (root : NodeNumber) (k : ℕ)
+    (t : Tree) →
+    SettlesFrom holds w k set core root t →
+    (m : ℕ) × (m ≤ (4 * length (numbers (quiet_after holds k w).cabling root t) + 1) * w.delay)
     × ((q : NodeNumber) (x : PortNode) → Holds set q →
-    slice_get (turns_after (k + m) w).nodes q ≡ Some x → is_ready x.state.view.phase ≡ true)
+    slice_get (quiet_after holds (k + m) w).nodes q ≡ Some x → is_ready x.state.view.phase ≡ true)
 
 -- it is at rest within 5 n d
 abbrev pub TreesComeToRest : Type 0
 TreesComeToRest =
-    (w : CableWorld) (set core : NodeSet) (root : NodeNumber) (k : ℕ) (t : Tree) →
-    SettlesFrom w k set core root t →
-    (m : ℕ) × (m ≤ 5 * length (numbers (turns_after k w).cabling root t) * w.delay)
-    × IsAtRest (turns_after (k + m) w) set
+    (holds : HoldSchedule) (w : CableWorld) (set core : NodeSet) (root : NodeNumber) (k : ℕ)
+    (t : Tree) →
+    SettlesFrom holds w k set core root t →
+    (m : ℕ) × (m ≤ 5 * length (numbers (quiet_after holds k w).cabling root t) * w.delay)
+    × IsAtRest (quiet_after holds (k + m) w) set
 
 -- and has its tree after 5 n d turns, and from there on
 abbrev pub TreesAreThere : Type 0
 TreesAreThere =
-    (w : CableWorld) (set core : NodeSet) (root : NodeNumber) (j k : ℕ) (t : Tree) →
-    SettlesFrom w k set core root t →
-    5 * length (numbers (turns_after k w).cabling root t) * w.delay ≤ j →
-    IsTree (turns_after (k + j) w) set root t
+    (holds : HoldSchedule) (w : CableWorld) (set core : NodeSet) (root : NodeNumber) (j k : ℕ)
+    (t : Tree) →
+    SettlesFrom holds w k set core root t →
+    5 * length (numbers (quiet_after holds k w).cabling root t) * w.delay ≤ j →
+    IsTree (quiet_after holds (k + j) w) set root t

@@ -7,7 +7,7 @@ use Rattle.cabling.specs.Looped.{IsCore}
 use Rattle.port_state.specs.Config.{gap_or}
 use Rattle.port_state.specs.Machine.{PortNode}
 use Rattle.cable_world.specs.World.{CableWorld, NodeNumber, NodeSet}
-use Rattle.cable_world.specs.Turn.{turns_after}
+use Rattle.cable_world.specs.Quiet.{HoldSchedule, quiet_after}
 use Rattle.cable_world.specs.Run.{Event, acts, holds, turns, Runs, IsReached, quiet_turns}
 use Rattle.cable_world.specs.declared.act.Act.TheVariants.{Config}
 use Rattle.cable_world.specs.declared.act.Act.{Act}
@@ -17,26 +17,30 @@ use Rattle.convergence.specs.Milestones.{ResetsAreDone, AreIdentifying}
 use Rattle.convergence.specs.Turns.{turns_to_over, turns_to_loops}
 use Rattle.outcomes.specs.Forced.{IsForced, IsNamedAlone, NamesRoot}
 
--- a component with a loop comes to the outcome Loop, and stays there
+-- in quiet turns a component with a loop comes to the outcome Loop, and stays there
 abbrev pub LoopsComeOut : Type 0
 LoopsComeOut =
-    (w : CableWorld) (k : ℕ) (node : NodeNumber) (set core : NodeSet) (member : NodeNumber) →
-    IsReached w → turns_to_loops w ≤ k → IsComponent (turns_after k w).cabling node set →
-    IsCore (turns_after k w).cabling set core → Holds core member →
-    IsLoop (turns_after k w) set core
+    (holds : HoldSchedule) (w : CableWorld) (k : ℕ) (node : NodeNumber) (set core : NodeSet)
+    (member : NodeNumber) →
+    IsReached w → turns_to_loops w ≤ k → IsComponent (quiet_after holds k w).cabling node set →
+    IsCore (quiet_after holds k w).cabling set core → Holds core member →
+    IsLoop (quiet_after holds k w) set core
 
--- after so many quiet turns every component has an outcome
+-- after so many quiet turns, whatever holds are placed between them, every component has an
+-- outcome
 abbrev pub EveryComponentSettles : Type 0
 EveryComponentSettles =
-    (w : CableWorld) (k : ℕ) (node : NodeNumber) (set core : NodeSet) → IsReached w →
+    (holds : HoldSchedule) (w : CableWorld) (k : ℕ) (node : NodeNumber) (set core : NodeSet) →
+    IsReached w →
     node < length w.nodes → IsComponent w.cabling node set → IsCore w.cabling set core →
-    set < 2 ^ 63 → quiet_turns (length w.nodes) w.delay ≤ k → IsSettled (turns_after k w) set
+    set < 2 ^ 63 → quiet_turns (length w.nodes) w.delay ≤ k → IsSettled (quiet_after holds k w) set
 
 -- and no node is in R0 or R1 by then
 abbrev pub ResetsAreDoneByThen : Type 0
 ResetsAreDoneByThen =
-    (w : CableWorld) (k : ℕ) → IsReached w → quiet_turns (length w.nodes) w.delay ≤ k →
-    ResetsAreDone (turns_after k w)
+    (holds : HoldSchedule) (w : CableWorld) (k : ℕ) → IsReached w →
+    quiet_turns (length w.nodes) w.delay ≤ k →
+    ResetsAreDone (quiet_after holds k w)
 
 -- holds and turns, and no act
 abbrev pub HasNoAct : List Event → Type 0
@@ -48,9 +52,10 @@ HasNoAct (turns ∷ events) = HasNoAct events
 -- what has an outcome after so many quiet turns has one still, whatever holds and turns follow
 abbrev pub ComponentsStaySettled : Type 0
 ComponentsStaySettled =
-    (w v : CableWorld) (k : ℕ) (events : List Event) (node : NodeNumber) (set core : NodeSet) →
+    (holds : HoldSchedule) (w v : CableWorld) (k : ℕ) (events : List Event) (node : NodeNumber)
+    (set core : NodeSet) →
     IsReached w → quiet_turns (length w.nodes) w.delay ≤ k → HasNoAct events →
-    Runs events (turns_after k w) v → node < length w.nodes → IsComponent w.cabling node set →
+    Runs events (quiet_after holds k w) v → node < length w.nodes → IsComponent w.cabling node set →
     IsCore w.cabling set core → set < 2 ^ 63 → IsSettled v set
 
 -- a tree stays in every hold and turn: the same root, IDs and lists
@@ -73,9 +78,10 @@ TreesStayInActs =
 -- where one node alone waits to become root, it is the root of the tree
 abbrev pub ForcedRootsSettle : Type 0
 ForcedRootsSettle =
-    (w : CableWorld) (k : ℕ) (node : NodeNumber) (set core : NodeSet) (root : NodeNumber) →
+    (holds : HoldSchedule) (w : CableWorld) (k : ℕ) (node : NodeNumber) (set core : NodeSet)
+    (root : NodeNumber) →
     IsReached w → IsForced w node set core root →
-    quiet_turns (length w.nodes) w.delay ≤ k → (t : Tree) × IsTree (turns_after k w) set root t
+    quiet_turns (length w.nodes) w.delay ≤ k → (t : Tree) × IsTree (quiet_after holds k w) set root t
 
 -- in a tree an ID names one node
 abbrev pub IdsNameOneNode : Type 0
@@ -87,19 +93,19 @@ IdsNameOneNode =
 -- a configuration packet with R set makes the node that it names root
 abbrev pub ConfigsMoveRoots : Type 0
 ConfigsMoveRoots =
-    (w v : CableWorld) (k : ℕ) (from : NodeNumber) (id : ℕ) (gap : Option ℕ)
+    (holds : HoldSchedule) (w v : CableWorld) (k : ℕ) (from : NodeNumber) (id : ℕ) (gap : Option ℕ)
     (set core : NodeSet) (root : NodeNumber) → IsReached w →
     IsAct (Config from id true gap) → act_fault (Config from id true gap) w ≡ None →
     NamesRoot w v from id gap set root → IsCore w.cabling set core → IsEmpty core →
     set < 2 ^ 63 → quiet_turns (length v.nodes) v.delay ≤ k →
-    (t : Tree) × IsTree (turns_after k v) set root t
+    (t : Tree) × IsTree (quiet_after holds k v) set root t
 
 -- from n d turns on each node of the component has the gap count that the packet gave
 abbrev pub ConfigsSetGaps : Type 0
 ConfigsSetGaps =
-    (w v : CableWorld) (k : ℕ) (from : NodeNumber) (id : ℕ) (gap : Option ℕ) (set : NodeSet)
-    (root j : NodeNumber) (x y : PortNode) → IsReached w →
+    (holds : HoldSchedule) (w v : CableWorld) (k : ℕ) (from : NodeNumber) (id : ℕ)
+    (gap : Option ℕ) (set : NodeSet) (root j : NodeNumber) (x y : PortNode) → IsReached w →
     IsAct (Config from id true gap) → act_fault (Config from id true gap) w ≡ None →
     NamesRoot w v from id gap set root → turns_to_over v ≤ k → Holds set j →
-    slice_get w.nodes j ≡ Some x → slice_get (turns_after k v).nodes j ≡ Some y →
+    slice_get w.nodes j ≡ Some x → slice_get (quiet_after holds k v).nodes j ≡ Some y →
     y.state.view.gap ≡ gap_or gap x.state.view.next_gap

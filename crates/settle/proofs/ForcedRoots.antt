@@ -13,8 +13,8 @@ use Rattle.cable_world.specs.Lawful.{IsLawful}
 use Rattle.cable_world.specs.Outcome.{IsTree, Shows}
 use Rattle.cable_world.proofs.Options.{some-of, some-at}
 use Rattle.cable_world.proofs.running.Whole.{lawful-now}
-use Rattle.cable_world.specs.Turn.{turns_after}
-use Rattle.convergence.proofs.turns.Flush.{after-cabling}
+use Rattle.cable_world.specs.Quiet.{no_holds, quiet_after}
+use Rattle.cable_world.proofs.QuietTurns.{plain-quiet, plainly, turns-cabling}
 use Rattle.outcomes.specs.Forced.{EntriesTakeOver, waits_due}
 use Rattle.outcomes.specs.Settled.{ForcedRootsSettle}
 use Rattle.outcomes.proofs.settled.QuietTurns.{quiet-enough}
@@ -35,14 +35,14 @@ module _
   waited k bit m shown =
       let x = some-of (slice_get w.nodes k) _ (b.fresh.waits k m) in
       let y = some-of (slice_get v.nodes k) _ shown in
-      let at : slice_get (turns_after (quiet_turns_of w) w).nodes k ≡ Some y.0 = sym (ap (λ (u : CableWorld). slice_get u.nodes k) quiet) ∙ y.1 in
+      let at : slice_get (quiet_after no_holds (quiet_turns_of w) w).nodes k ≡ Some y.0 = ap (λ (u : CableWorld). slice_get u.nodes k) (plain-quiet (quiet_turns_of w) w ∙ sym quiet) ∙ y.1 in
       let over : length w.nodes * w.delay ≤ quiet_turns_of w = omega (arith, enough, quiet-enough (length w.nodes) w.delay) in
-      let t = takes w from set (quiet_turns_of w) k x.0 y.0 l b.component b.fresh over m x.1 at in
+      let t = takes no_holds w from set (quiet_turns_of w) k x.0 y.0 l b.component b.fresh over m x.1 at in
       some-at (slice_get w.nodes k) x.0 (λ (z : PortNode). waits_due z.state.view ≡ bit) x.1 (sym t.0 ∙ y.2)
 
   moved : IsReached w → (t : Tree) × IsTree v set node t
   moved r =
-      let t = settles w (quiet_turns_of w) from set b.no_loop.core node r (record {
+      let t = settles no_holds w (quiet_turns_of w) from set b.no_loop.core node r (record {
         lawful = l;
         component = b.component;
         is_core = b.no_loop.is_core;
@@ -55,7 +55,7 @@ module _
           others = λ k m ne. waited k false m (f.others k m ne);
         };
       }) enough in
-      (t.0, subst (λ (u : CableWorld). IsTree u set node t.0) (sym quiet) t.1)
+      (t.0, subst (λ (u : CableWorld). IsTree u set node t.0) (sym quiet) (plainly (λ u. IsTree u set node t.0) (quiet_turns_of w) w t.1))
 
   there : (k : ℕ) → Holds set k → k < length w.cabling
   there k m =
@@ -63,7 +63,7 @@ module _
       omega (arith, slice_get_within w.nodes k x.0 x.1, l.well_formed.count)
 
   cables : v.cabling ≡ w.cabling
-  cables = ap (λ (u : CableWorld). u.cabling) quiet ∙ after-cabling (quiet_turns_of w) w
+  cables = ap (λ (u : CableWorld). u.cabling) quiet ∙ turns-cabling (quiet_turns_of w) w
 
   tree-shape : Loopless w.cabling node set
   tree-shape = loopless w.cabling node set b.no_loop.core l.well_formed.cabling (there node f.holds) (shared w.cabling from node set l.well_formed.cabling b.component f.holds) b.small b.no_loop.is_core b.no_loop.empty

@@ -16,7 +16,8 @@ use Rattle.cable_world.specs.Run.{IsReached, quiet_turns}
 use Rattle.cable_world.specs.Lawful.{IsLawful}
 use Rattle.cable_world.specs.Outcome.{Outcome, loop, tree, contention, HasNoLoop, IsLoop, IsContention, IsOutcome, IsSettled, Shows}
 use Rattle.cable_world.proofs.StaysLawful.{reached-lawful}
-use Rattle.convergence.proofs.turns.Flush.{after-cabling}
+use Rattle.cable_world.specs.Quiet.{no_holds}
+use Rattle.cable_world.proofs.QuietTurns.{plainly, turns-cabling}
 use Rattle.cable_world.specs.Phases.{is_in_bus_reset}
 use Rattle.convergence.specs.Milestones.{ResetsAreDone}
 use Rattle.outcomes.specs.Settled.{EveryComponentSettles, ResetsAreDoneByThen}
@@ -88,7 +89,7 @@ quiet-same w r = omega (arith, ap (λ (n : ℕ). quiet_turns n w.delay) (reached
 pub done-by-then :
     ResetsAreDoneByThen → (w v : CableWorld) → IsAfterQuiet w v → ∥ IsReached w ∥₁ → ResetsAreDone v
 done-by-then done w v is r k x at = ∥∥₁_elim r (Coded-set coded_bool (is_in_bus_reset x.state.view.phase) false)
-    (λ reached. done w (quiet_turns_of w) reached (quiet-same w reached) k x (sym (ap (λ (u : CableWorld). slice_get u.nodes k) is) ∙ at))
+    (λ reached. plainly ResetsAreDone (quiet_turns_of w) w (done no_holds w (quiet_turns_of w) reached (quiet-same w reached)) k x (sym (ap (λ (u : CableWorld). slice_get u.nodes k) is) ∙ at))
 
 -- ---- a component of a world that has settled
 
@@ -96,10 +97,11 @@ module _
     (every : EveryComponentSettles) (w : CableWorld) (set core : ℕ) (part : IsPartOf w set)
     (there : AreThere w set) (small : set < 2 ^ 63) (is : IsCore w.cabling set core) where
   pub settled : HasSettled w → IsSettled w set
-  settled h = subst (λ (v : CableWorld). IsSettled v set) (sym h.is) (every h.before (quiet_turns_of h.before) part.0 set core h.reached inside (subst (λ (c : Wiring). IsComponent c part.0 set) same part.1) (subst (λ (c : Wiring). IsCore c set core) same is) small (quiet-same h.before h.reached))
+  settled h = subst (λ (v : CableWorld). IsSettled v set) (sym h.is) (plainly (λ (v : CableWorld). IsSettled v set) (quiet_turns_of h.before) h.before
+      (every no_holds h.before (quiet_turns_of h.before) part.0 set core h.reached inside (subst (λ (c : Wiring). IsComponent c part.0 set) same part.1) (subst (λ (c : Wiring). IsCore c set core) same is) small (quiet-same h.before h.reached)))
     where
       same : w.cabling ≡ h.before.cabling
-      same = ap (λ (v : CableWorld). v.cabling) h.is ∙ after-cabling (quiet_turns_of h.before) h.before
+      same = ap (λ (v : CableWorld). v.cabling) h.is ∙ turns-cabling (quiet_turns_of h.before) h.before
 
       l : IsLawful h.before
       l = reached-lawful h.before h.reached

@@ -24,7 +24,8 @@ use Rattle.cable_world.proofs.StaysLawful.{reached-lawful}
 use Rattle.cable_world.proofs.StaysReached.{act-reached}
 use Rattle.cable_world.proofs.tables.TablesInSteps.{step-cables}
 use Rattle.convergence.specs.Turns.{turns_to_over}
-use Rattle.convergence.proofs.turns.Flush.{after-cabling}
+use Rattle.cable_world.specs.Quiet.{no_holds}
+use Rattle.cable_world.proofs.QuietTurns.{plain-quiet, plainly, turns-cabling}
 use Rattle.outcomes.specs.Forced.{NamesRoot}
 use Rattle.outcomes.specs.Settled.{IdsNameOneNode, ConfigsMoveRoots, ConfigsSetGaps}
 use Rattle.outcomes.proofs.settled.QuietTurns.{quiet-enough}
@@ -73,7 +74,7 @@ module _
       ap (λ (u : CableWorld). u.cabling) act.2 ∙ step-cables from node_disturb told
 
   cables : v.cabling ≡ w.cabling
-  cables = ap (λ (u : CableWorld). u.cabling) quiet ∙ after-cabling (quiet_turns_of sent) sent ∙ sent-cables
+  cables = ap (λ (u : CableWorld). u.cabling) quiet ∙ turns-cabling (quiet_turns_of sent) sent ∙ sent-cables
 
   -- as many turns as the nodes want
   enough : IsReached w → quiet_turns (length sent.nodes) sent.delay ≤ quiet_turns_of sent
@@ -97,8 +98,8 @@ module _
     moved : IsReached w → (t : Tree) × IsTree v set root t
     moved r =
         let n = (tree-there w l from plan s set component small).no_loop in
-        let t = moves w sent (quiet_turns_of sent) from plan.root_id (Some plan.gap) set n.core root r fits accepted (named r) n.is_core n.empty small (enough r) in
-        (t.0, subst (λ (u : CableWorld). IsTree u set root t.0) (sym quiet) t.1)
+        let t = moves no_holds w sent (quiet_turns_of sent) from plan.root_id (Some plan.gap) set n.core root r fits accepted (named r) n.is_core n.empty small (enough r) in
+        (t.0, subst (λ (u : CableWorld). IsTree u set root t.0) (sym quiet) (plainly (λ u. IsTree u set root t.0) (quiet_turns_of sent) sent t.1))
 
     pub tree-from : (parts : List Part) → AreParts v parts → Any (IsTreeFrom w.cabling from root) parts
     tree-from parts are = found w.cabling v cables from set root component (loopless-from w l from plan s set component small root inside) (from-there w l from plan s) (IsReached w) reached moved parts are
@@ -158,4 +159,4 @@ module _
         gap-at r k y m at =
             let x = stood k m in
             let over : turns_to_over sent ≤ quiet_turns_of sent = omega (arith, enough r, quiet-enough (length sent.nodes) sent.delay) in
-            sets w sent (quiet_turns_of sent) from plan.root_id (Some plan.gap) set root k x.0 y r fits accepted (named r) over m x.1 (sym (ap (λ (u : CableWorld). slice_get u.nodes k) quiet) ∙ at)
+            sets no_holds w sent (quiet_turns_of sent) from plan.root_id (Some plan.gap) set root k x.0 y r fits accepted (named r) over m x.1 (ap (λ (u : CableWorld). slice_get u.nodes k) (plain-quiet (quiet_turns_of sent) sent ∙ sym quiet) ∙ at)

@@ -18,7 +18,7 @@ use Rattle.convergence.specs.Rivals.{IsAhead, HaveMet}
 use Rattle.convergence.specs.Drawers.{AreMutual, AreUnequal, CountsAreClose, WinsOver}
 use Rattle.convergence.proofs.worked.TwoNodes.{node_in}
 
-abbrev start : CableWorld
+abbrev pub start : CableWorld
 start =
     let second : PortNode = record (plain_node 0) { coins = coins_of_bits 2 2 } in
     after_plug (at 0 0) (at 1 0) (world_of_nodes 4 (plain_node 0 ∷ second ∷ []))
@@ -32,15 +32,15 @@ abbrev ahead : CableWorld
 ahead = held_for 1 2 (held_for 1 2 (turns_after 256 start))
 
 -- after 261 turns, held in the last: the second still hears the first ask, and has drawn too
-abbrev met : CableWorld
+abbrev pub met : CableWorld
 met = held_for 1 1 ahead
 
 -- after 274 turns, held in turn 273: both asked again, and drew once more
-abbrev again : CableWorld
+abbrev pub again : CableWorld
 again = held_for 1 2 (turns_after 11 met)
 
 -- after 306 turns, held in turns 287 to 289: the long wait of the second is over
-abbrev over : CableWorld
+abbrev pub over : CableWorld
 over = held_for 3 20 (turns_after 12 again)
 
 -- how many coins a node drew, which, its wait, and its timer
@@ -127,7 +127,7 @@ again-agree j below here there =
     let first : j ≡ 0 = omega (arith, here, again-draws.0) in
     rw (first, again-draws.1, again-draws.2) refl
 
-again-unequal : AreUnequal again 1 0
+pub again-unequal : AreUnequal again 1 0
 unfolding turn turns_after enter tick on_signal
 again-unequal = record {
   near = node_in again 1;
@@ -142,7 +142,7 @@ again-unequal = record {
 
 -- ---- the end with the long wait wins
 
-won : WinsOver over 1 0
+pub won : WinsOver over 1 0
 unfolding turn turns_after enter tick on_signal
 won = (
   at 1 0,

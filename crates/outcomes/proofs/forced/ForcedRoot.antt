@@ -13,13 +13,14 @@ use Rattle.cabling.proofs.Small.{loopless}
 use Rattle.outcomes.proofs.walks.WaysUp.{ways}
 use Rattle.cabling.proofs.Whole.{shared}
 use Rattle.cable_world.specs.World.{CableWorld}
-use Rattle.cable_world.specs.Turn.{turns_after}
 use Rattle.cable_world.specs.Phases.{is_before_tree}
 use Rattle.cable_world.specs.Lawful.{IsLawful}
 use Rattle.cable_world.specs.Fresh.{IsFresh}
 use Rattle.cable_world.proofs.resets.Entries.{after-delay, after-length}
 use Rattle.cable_world.proofs.Options.{some-of}
-use Rattle.cable_world.proofs.StaysLawful.{turns-lawful}
+use Rattle.cable_world.specs.Quiet.{HoldSchedule, holds_after, quiet_after}
+use Rattle.cable_world.proofs.QuietTurns.{quiet-then, quiet-lawful, after-cabling}
+use Rattle.convergence.proofs.ranks.StaysAcyclic.{quiet-acyclic}
 use Rattle.convergence.specs.Acyclic.{IsAcyclic}
 use Rattle.outcomes.specs.Forced.{WaitsAlone}
 use Rattle.convergence.specs.Milestones.{ResetsAreDone, ResetsAreOver}
@@ -27,13 +28,10 @@ use Rattle.convergence.specs.Roots.{IsRoot}
 use Rattle.outcomes.specs.RootWalk.{RootWalk}
 use Rattle.convergence.proofs.turns.CalmTurns.{Calmly}
 use Rattle.convergence.proofs.loops.Cores.{one-root}
-use Rattle.convergence.proofs.turns.Flush.{after-cabling}
-use Rattle.cable_world.proofs.turns.ByNumber.{turns-then}
 use Rattle.outcomes.proofs.forced.FreeTrees.{all-late}
 use Rattle.convergence.proofs.resets.ResetsDone.{resets-done, done-over}
 use Rattle.outcomes.proofs.roots.RootWalk.{root-walk}
 use Rattle.convergence.proofs.trees.TreeStart.{done-at}
-use Rattle.convergence.proofs.ranks.StaysAcyclic.{turns-acyclic}
 use Rattle.outcomes.proofs.forced.Waits.{steadily, late-parentless, spread-most, forces, waiting}
 
 node-at :
@@ -44,7 +42,7 @@ node-at v k h = elim (slice_get_cases v.nodes k).1 [
 ]
 
 module _
-    (w : CableWorld) (l : IsLawful w) (node set core : ℕ) (comp : IsComponent w.cabling node set)
+    (hs : HoldSchedule) (w : CableWorld) (l : IsLawful w) (node set core : ℕ) (comp : IsComponent w.cabling node set)
     (is_core : IsCore w.cabling set core) (empty : IsEmpty core) (small : set < 2 ^ 63)
     (fresh : IsFresh w set) (f : ℕ) (alone : WaitsAlone w set f) where
   abbrev spread : ℕ
@@ -55,13 +53,17 @@ module _
   first = spread + 81 * w.delay
 
   abbrev start : CableWorld
-  start = turns_after first w
+  start = quiet_after hs first w
+
+  -- the holds from there
+  abbrev rest : HoldSchedule
+  rest = holds_after first hs
 
   start-lawful : IsLawful start
-  start-lawful = turns-lawful first w l
+  start-lawful = quiet-lawful hs first w l
 
   start-done : ResetsAreDone start
-  start-done = let low : 81 * w.delay ≤ 81 * w.delay = omega arith in resets-done w l (81 * w.delay) low
+  start-done = let low : 81 * w.delay ≤ 81 * w.delay = omega arith in resets-done hs w l (81 * w.delay) low
 
   there : f < length w.nodes
   there = let y = some-of (slice_get w.nodes f) _ alone.waits in slice_get_within w.nodes f y.0 y.1
@@ -71,20 +73,20 @@ module _
 
   free :
       (i k : ℕ) (x : PortNode) → Holds set k → k ≢ f →
-      slice_get (turns_after i start).nodes k ≡ Some x → x.state.view.force ≡ false
+      slice_get (quiet_after rest i start).nodes k ≡ Some x → x.state.view.force ≡ false
   free i k x h other at =
       let z : spread + (81 * w.delay + i) ≡ first + i = omega arith in
-      let is : turns_after i start ≡ turns_after (spread + (81 * w.delay + i)) w = sym (ap (λ n. turns_after n w) z ∙ turns-then first i w) in
-      forces w l node set comp fresh (81 * w.delay + i) k false x h (alone.others k h other) (ap (λ (u : CableWorld). slice_get u.nodes k) (sym is) ∙ at)
+      let is : quiet_after rest i start ≡ quiet_after hs (spread + (81 * w.delay + i)) w = sym (ap (λ n. quiet_after hs n w) z ∙ quiet-then hs first i w) in
+      forces hs w l node set comp fresh (81 * w.delay + i) k false x h (alone.others k h other) (ap (λ (u : CableWorld). slice_get u.nodes k) (sym is) ∙ at)
 
   start-late :
       (i : ℕ) → length start.nodes * start.delay ≤ i → (k : ℕ) (x : PortNode) → Holds set k →
-      slice_get (turns_after i start).nodes k ≡ Some x → is_before_tree x.state.view.phase ≡ false
+      slice_get (quiet_after rest i start).nodes k ≡ Some x → is_before_tree x.state.view.phase ≡ false
   start-late =
-      let same : length start.nodes ≡ length w.nodes = after-length w l first in
-      let closed : IsClosed start.cabling set = subst (λ c. IsClosed c set) (sym (after-cabling first w)) comp.closed in
-      let ways_then : WaysUp start.cabling set f up.0 = subst (λ c. WaysUp c set f up.0) (sym (after-cabling first w)) up.1 in
-      all-late start start-lawful start-done set f closed alone.holds (omega (arith, there, same)) up.0 ways_then free
+      let same : length start.nodes ≡ length w.nodes = after-length hs w l first in
+      let closed : IsClosed start.cabling set = subst (λ c. IsClosed c set) (sym (after-cabling hs first w)) comp.closed in
+      let ways_then : WaysUp start.cabling set f up.0 = subst (λ c. WaysUp c set f up.0) (sym (after-cabling hs first w)) up.1 in
+      all-late rest start start-lawful start-done set f closed alone.holds (omega (arith, there, same)) up.0 ways_then free
 
   -- 2 n d + 81 d turns
   abbrev pub enough : ℕ
@@ -93,60 +95,60 @@ module _
   -- all know their tree
   pub late :
       (k : ℕ) → enough ≤ k → (j : ℕ) (x : PortNode) → Holds set j →
-      slice_get (turns_after k w).nodes j ≡ Some x → is_before_tree x.state.view.phase ≡ false
+      slice_get (quiet_after hs k w).nodes j ≡ Some x → is_before_tree x.state.view.phase ≡ false
   late k h j x has at =
       let z : k ≡ first + (k - first) = omega (arith, h) in
-      let same : length start.nodes ≡ length w.nodes = after-length w l first in
+      let same : length start.nodes ≡ length w.nodes = after-length hs w l first in
       let room : length w.nodes * w.delay ≤ k - first = omega (arith, h) in
-      let is : turns_after k w ≡ turns_after (k - first) start = ap (λ n. turns_after n w) z ∙ turns-then first (k - first) w in
-      start-late (k - first) (rw (same, after-delay w l first) room) j x has (ap (λ (u : CableWorld). slice_get u.nodes j) (sym is) ∙ at)
+      let is : quiet_after hs k w ≡ quiet_after rest (k - first) start = ap (λ n. quiet_after hs n w) z ∙ quiet-then hs first (k - first) w in
+      start-late (k - first) (rw (same, after-delay hs w l first) room) j x has (ap (λ (u : CableWorld). slice_get u.nodes j) (sym is) ∙ at)
 
   pub parentless :
-      (i : ℕ) (x : PortNode) → slice_get (turns_after (enough + i) w).nodes f ≡ Some x →
+      (i : ℕ) (x : PortNode) → slice_get (quiet_after hs (enough + i) w).nodes f ≡ Some x →
       x.state.view.parent ≡ None
   parentless zero x at =
       let z : enough + 0 ≡ spread + (81 * w.delay + spread) = omega arith in
-      let soon : spread + (81 * w.delay + spread) < 320 * w.delay = omega (arith, spread-most w l node set comp fresh, l.well_formed.some_delay) in
+      let soon : spread + (81 * w.delay + spread) < 320 * w.delay = omega (arith, spread-most hs w l node set comp fresh, l.well_formed.some_delay) in
       let n : enough ≤ enough + 0 = omega arith in
-      (waiting w l node set comp fresh (81 * w.delay + spread) f x soon alone.holds alone.waits (subst (λ n. slice_get (turns_after n w).nodes f ≡ Some x) z at)).late (late (enough + 0) n f x alone.holds at)
+      (waiting hs w l node set comp fresh (81 * w.delay + spread) f x soon alone.holds alone.waits (subst (λ n. slice_get (quiet_after hs n w).nodes f ≡ Some x) z at)).late (late (enough + 0) n f x alone.holds at)
   parentless (suc i) x at =
       let z : enough + suc i ≡ enough + i + 1 = omega arith in
       let past : spread ≤ enough + i = omega arith in
       let n : enough ≤ enough + i = omega arith in
-      let at_next : slice_get (turns_after (enough + i + 1) w).nodes f ≡ Some x = subst (λ n. slice_get (turns_after n w).nodes f ≡ Some x) z at in
-      let c : Calmly (turns_after (enough + i) w) f x.state = steadily w l (enough + i) past f x at_next in
-      late-parentless w l (enough + i) past f x at_next (late (enough + i) n f c.node alone.holds c.at) (parentless i c.node c.at)
+      let at_next : slice_get (quiet_after hs (enough + i + 1) w).nodes f ≡ Some x = subst (λ n. slice_get (quiet_after hs n w).nodes f ≡ Some x) z at in
+      let c : Calmly (quiet_after hs (enough + i) w) f x.state = steadily hs w l (enough + i) past f x at_next in
+      late-parentless hs w l (enough + i) past f x at_next (late (enough + i) n f c.node alone.holds c.at) (parentless i c.node c.at)
 
-  pub root : (k : ℕ) → enough ≤ k → IsRoot (turns_after k w) f
+  pub root : (k : ℕ) → enough ≤ k → IsRoot (quiet_after hs k w) f
   root k h =
       let z : enough + (k - enough) ≡ k = omega (arith, h) in
-      let inside : f < length (turns_after k w).nodes = omega (arith, there, after-length w l k) in
-      let x = node-at (turns_after k w) f inside in
-      record { node = x.0; at = x.1; late = late k h f x.0 alone.holds x.1; parentless = parentless (k - enough) x.0 (subst (λ n. slice_get (turns_after n w).nodes f ≡ Some x.0) (sym z) x.1) }
+      let inside : f < length (quiet_after hs k w).nodes = omega (arith, there, after-length hs w l k) in
+      let x = node-at (quiet_after hs k w) f inside in
+      record { node = x.0; at = x.1; late = late k h f x.0 alone.holds x.1; parentless = parentless (k - enough) x.0 (subst (λ n. slice_get (quiet_after hs n w).nodes f ≡ Some x.0) (sym z) x.1) }
 
   module _ (k : ℕ) (h : enough ≤ k) where
     abbrev v : CableWorld
-    v = turns_after k w
+    v = quiet_after hs k w
 
-    lawful : IsLawful (turns_after k w)
-    lawful = turns-lawful k w l
+    lawful : IsLawful (quiet_after hs k w)
+    lawful = quiet-lawful hs k w l
 
-    over : ResetsAreOver (turns_after k w)
+    over : ResetsAreOver (quiet_after hs k w)
     over =
         let z : k ≡ first + (k - first) = omega (arith, h) in
-        let is : turns_after k w ≡ turns_after (k - first) start = ap (λ n. turns_after n w) z ∙ turns-then first (k - first) w in
-        done-over (turns_after k w) (turns-lawful k w l) (subst ResetsAreDone (sym is) (done-at start start-lawful start-done (k - first)))
+        let is : quiet_after hs k w ≡ quiet_after rest (k - first) start = ap (λ n. quiet_after hs n w) z ∙ quiet-then hs first (k - first) w in
+        done-over (quiet_after hs k w) (quiet-lawful hs k w l) (subst ResetsAreDone (sym is) (done-at rest start start-lawful start-done (k - first)))
 
-    comp_then : IsComponent (turns_after k w).cabling node set
-    comp_then = subst (λ c. IsComponent c node set) (sym (after-cabling k w)) comp
+    comp_then : IsComponent (quiet_after hs k w).cabling node set
+    comp_then = subst (λ c. IsComponent c node set) (sym (after-cabling hs k w)) comp
 
-    core_then : IsCore (turns_after k w).cabling set core
-    core_then = subst (λ c. IsCore c set core) (sym (after-cabling k w)) is_core
+    core_then : IsCore (quiet_after hs k w).cabling set core
+    core_then = subst (λ c. IsCore c set core) (sym (after-cabling hs k w)) is_core
 
     -- each other node has a parent port
     pub others :
         (j : ℕ) (x : PortNode) → Holds set j → j ≢ f →
-        slice_get (turns_after k w).nodes j ≡ Some x → IsSome x.state.view.parent
+        slice_get (quiet_after hs k w).nodes j ≡ Some x → IsSome x.state.view.parent
     others j x has other at = go x.state.view.parent refl
       where
         go : (o : Option ℕ) → x.state.view.parent ≡ o → IsSome o
@@ -154,5 +156,5 @@ module _
         go None e = absurd (other (one-root v lawful set (λ a b y h. over a b y) node j f comp_then has alone.holds (record { node = x; at = at; late = late k h j x has at; parentless = e }) (root k h)))
 
     -- the tree from the root
-    pub walk : IsAcyclic w → (t : Tree) × RootWalk (turns_after k w) set f t
-    walk acyclic = root-walk v lawful (turns-acyclic k w l acyclic) node set (λ a b y h. over a b y) core f comp_then core_then small alone.holds (root k h)
+    pub walk : IsAcyclic w → (t : Tree) × RootWalk (quiet_after hs k w) set f t
+    walk acyclic = root-walk v lawful (quiet-acyclic hs k w l acyclic) node set (λ a b y h. over a b y) core f comp_then core_then small alone.holds (root k h)

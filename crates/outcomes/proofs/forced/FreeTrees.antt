@@ -18,40 +18,38 @@ use Rattle.cabling.specs.Component.{IsClosed}
 use Rattle.outcomes.specs.WaysUp.{Lowest, WaysUp}
 use Rattle.cabling.proofs.Near.{end_at}
 use Rattle.cable_world.specs.World.{CableWorld}
-use Rattle.cable_world.specs.Turn.{turns_after}
 use Rattle.cable_world.specs.Phases.{is_before_tree}
 use Rattle.cable_world.specs.Agreement.{level_shown, shown_or_idle}
 use Rattle.cable_world.specs.Lawful.{IsLawful}
 use Rattle.cable_world.proofs.resets.Entries.{after-delay, after-length}
-use Rattle.cable_world.proofs.StaysLawful.{turns-lawful}
+use Rattle.cable_world.specs.Quiet.{HoldSchedule, holds_after, quiet_after}
+use Rattle.cable_world.proofs.QuietTurns.{quiet-then, quiet-lawful, after-cabling}
 use Rattle.convergence.specs.Milestones.{ResetsAreDone}
 use Rattle.convergence.proofs.turns.CalmTurns.{signals, heard_by}
 use Rattle.convergence.proofs.turns.BeforeTree.{Left, TwoLeft}
-use Rattle.convergence.proofs.turns.Flush.{after-cabling}
-use Rattle.cable_world.proofs.turns.ByNumber.{turns-then}
 use Rattle.outcomes.proofs.forced.Forced.{kept-heard, undecided-free, undecided-one}
 use Rattle.convergence.proofs.sets.Gathered.{count, count-most, count-le, count-less, count-some, count-found}
 use Rattle.convergence.proofs.trees.TreeStart.{IsEarly, Started, started, start-early, early-at-first, done-at}
 use Rattle.convergence.proofs.trees.TreesTaken.{Silent, TwoSilent, early_there, shown-parent}
 use Rattle.convergence.proofs.turns.PortFacts.{same-port, is-port}
 
-module _ (v : CableWorld) (l : IsLawful v) (done : ResetsAreDone v) where
+module _ (hs : HoldSchedule) (v : CableWorld) (l : IsLawful v) (done : ResetsAreDone v) where
   -- ---- a node that stays in T0
 
-  abbrev now : (i k : ℕ) (n : IsEarly (turns_after (i + 1) v) k) → NodeState
-  now i k n = heard_by (turns_after i v) k (started v l done i k n.node n.at n.early).calm.node
+  abbrev now : (i k : ℕ) (n : IsEarly (quiet_after hs (i + 1) v) k) → NodeState
+  now i k n = heard_by (quiet_after hs i v) k (started hs v l done i k n.node n.at n.early).calm.node
 
   -- a port that is left there shows no Parent after the turn
   silent :
-      (i k : ℕ) (n : IsEarly (turns_after (i + 1) v) k) (p : ℕ) → Left (now i k n).view.ports p →
+      (i k : ℕ) (n : IsEarly (quiet_after hs (i + 1) v) k) (p : ℕ) → Left (now i k n).view.ports p →
       Silent n.node.state p
   silent i k n p h = record {
     on = ap (λ (z : NodeState). is_connected z.view.ports p) s.calm.is ∙ s.calm.ticks.cables p ∙ h.on;
     silent = ap is_parent (ap (λ (z : NodeState). level_shown z p) s.calm.is ∙ s.calm.ticks.shown p) ∙ go (slice_get (now i k n).view.ports p) h.on h.silent;
   }
     where
-      s : Started v l done i k n.node.state
-      s = started v l done i k n.node n.at n.early
+      s : Started hs v l done i k n.node.state
+      s = started hs v l done i k n.node n.at n.early
 
       go :
           (o : Option PortView) → passes (λ q. q.connected) o ≡ true →
@@ -61,90 +59,90 @@ module _ (v : CableWorld) (l : IsLawful v) (done : ResetsAreDone v) where
 
   -- one that needn't wait has two
   stays-by-two :
-      (i k : ℕ) (n : IsEarly (turns_after (i + 1) v) k) →
-      ((x : IsEarly (turns_after i v) k) → x.node.state.view.force ≡ false) → TwoSilent n.node.state
+      (i k : ℕ) (n : IsEarly (quiet_after hs (i + 1) v) k) →
+      ((x : IsEarly (quiet_after hs i v) k) → x.node.state.view.force ≡ false) → TwoSilent n.node.state
   stays-by-two i k n free = record { low = two.low; high = two.high; apart = two.apart; low_silent = silent i k n two.low two.low_left; high_silent = silent i k n two.high two.high_left }
     where
-      s : Started v l done i k n.node.state
-      s = started v l done i k n.node n.at n.early
+      s : Started hs v l done i k n.node.state
+      s = started hs v l done i k n.node n.at n.early
 
       force : (raise_timer (now i k n)).view.force ≡ false
       force =
-          (kept-heard (signals (turns_after i v) k) s.calm.node.state (ap is_resetting s.calm.heard.phase)).0
+          (kept-heard (signals (quiet_after hs i v) k) s.calm.node.state (ap is_resetting s.calm.heard.phase)).0
           ∙ free (record { node = s.calm.node; at = s.calm.at; early = start-early s.calm.node.state.view.phase s.start })
 
       two : TwoLeft (now i k n).view.ports
       two = undecided-free (raise_timer (now i k n)) s.kept.undecided force
 
   -- any has one
-  stays-by-one : (i k : ℕ) (n : IsEarly (turns_after (i + 1) v) k) → (p : ℕ) × Silent n.node.state p
+  stays-by-one : (i k : ℕ) (n : IsEarly (quiet_after hs (i + 1) v) k) → (p : ℕ) × Silent n.node.state p
   stays-by-one i k n =
-      let s : Started v l done i k n.node.state = started v l done i k n.node n.at n.early in
+      let s : Started hs v l done i k n.node.state = started hs v l done i k n.node n.at n.early in
       let one = undecided-one (raise_timer (now i k n)) s.kept.undecided in
       (one.0, silent i k n one.0 one.1)
 
   -- it leads to a node that was in T0 d turns ago
   leads :
-      (i u : ℕ) (n : IsEarly (turns_after i v) u) (q : ℕ) → Silent n.node.state q → (a : End)
+      (i u : ℕ) (n : IsEarly (quiet_after hs i v) u) (q : ℕ) → Silent n.node.state q → (a : End)
       × (far v.cabling (end_at u q) ≡ Some a)
   leads i u n q s = go (far v.cabling (end_at u q)) refl
     where
       go :
           (o : Option End) → far v.cabling (end_at u q) ≡ o → (a : End)
           × (far v.cabling (end_at u q) ≡ Some a)
-      go None e = absurd (true≢false (sym s.on ∙ ((turns-lawful i v l).well_formed.nodes u n.node n.at).connected q ∙ ap is_some (ap (λ (c : Wiring). far c (end_at u q)) (after-cabling i v) ∙ e)))
+      go None e = absurd (true≢false (sym s.on ∙ ((quiet-lawful hs i v l).well_formed.nodes u n.node n.at).connected q ∙ ap is_some (ap (λ (c : Wiring). far c (end_at u q)) (after-cabling hs i v) ∙ e)))
       go (Some a) e = (a, e)
 
   asked-by :
-      (t u : ℕ) (n : IsEarly (turns_after (t + v.delay) v) u) (q : ℕ) (a : End) →
+      (t u : ℕ) (n : IsEarly (quiet_after hs (t + v.delay) v) u) (q : ℕ) (a : End) →
       far v.cabling (end_at u q) ≡ Some a → Silent n.node.state q →
-      (IsEarly (turns_after t v) a.node → ⊥) → ⊥
+      (IsEarly (quiet_after hs t v) a.node → ⊥) → ⊥
   asked-by t u n q a e s late =
-      let w : CableWorld = turns_after t v in
-      let e_then : far w.cabling (end_at u q) ≡ Some a = ap (λ (c : Wiring). far c (end_at u q)) (after-cabling t v) ∙ e in
-      let n_then : IsEarly (turns_after v.delay w) u = subst (λ z. IsEarly z u) (turns-then t v.delay v) n in
-      let at_then : slice_get (turns_after v.delay w).nodes u ≡ Some n.node = ap (λ (z : CableWorld). slice_get z.nodes u) (sym (turns-then t v.delay v)) ∙ n.at in
-      let same : w.delay ≤ v.delay = omega (arith, after-delay v l t) in
-      true≢false (sym (shown-parent w (turns-lawful t v l) (done-at v l done t) u q a e_then late v.delay same n_then n.node at_then) ∙ s.silent)
+      let w : CableWorld = quiet_after hs t v in
+      let e_then : far w.cabling (end_at u q) ≡ Some a = ap (λ (c : Wiring). far c (end_at u q)) (after-cabling hs t v) ∙ e in
+      let n_then : IsEarly (quiet_after (holds_after t hs) v.delay w) u = subst (λ z. IsEarly z u) (quiet-then hs t v.delay v) n in
+      let at_then : slice_get (quiet_after (holds_after t hs) v.delay w).nodes u ≡ Some n.node = ap (λ (z : CableWorld). slice_get z.nodes u) (sym (quiet-then hs t v.delay v)) ∙ n.at in
+      let same : w.delay ≤ v.delay = omega (arith, after-delay hs v l t) in
+      true≢false (sym (shown-parent (holds_after t hs) w (quiet-lawful hs t v l) (done-at hs v l done t) u q a e_then late v.delay same n_then n.node at_then) ∙ s.silent)
 
 -- ---- the nodes but one
 
-module _ (v : CableWorld) (l : IsLawful v) (done : ResetsAreDone v) (set top : ℕ) (closed : IsClosed v.cabling set) (has : Holds set top) (there : top < length v.nodes) (up : ℕ → Option ℕ) (ways : WaysUp v.cabling set top up)
-    (free : (i k : ℕ) (x : PortNode) → Holds set k → k ≢ top → slice_get (turns_after i v).nodes k ≡ Some x → x.state.view.force ≡ false) where
+module _ (hs : HoldSchedule) (v : CableWorld) (l : IsLawful v) (done : ResetsAreDone v) (set top : ℕ) (closed : IsClosed v.cabling set) (has : Holds set top) (there : top < length v.nodes) (up : ℕ → Option ℕ) (ways : WaysUp v.cabling set top up)
+    (free : (i k : ℕ) (x : PortNode) → Holds set k → k ≢ top → slice_get (quiet_after hs i v).nodes k ≡ Some x → x.state.view.force ≡ false) where
   -- those in T0 after so many turns
   member : ℕ → ℕ → Bool
-  member i k = ((bit_at set k == 1) && not (k == top)) && early_there (slice_get (turns_after i v).nodes k)
+  member i k = ((bit_at set k == 1) && not (k == top)) && early_there (slice_get (quiet_after hs i v).nodes k)
 
   record Member (i k : ℕ) : Type 0 where
     holds : Holds set k
     other : k ≢ top
-    early : IsEarly (turns_after i v) k
+    early : IsEarly (quiet_after hs i v) k
 
   member-parts : (i k : ℕ) → member i k ≡ true → Member i k
   unfolding member
   member-parts i k h =
-      let p = and_parts ((bit_at set k == 1) && not (k == top)) (early_there (slice_get (turns_after i v).nodes k)) h in
+      let p = and_parts ((bit_at set k == 1) && not (k == top)) (early_there (slice_get (quiet_after hs i v).nodes k)) h in
       let r = and_parts (bit_at set k == 1) (not (k == top)) p.0 in
-      record { holds = eqb-true (bit_at set k) 1 r.0; other = apart r.1; early = go (slice_get (turns_after i v).nodes k) refl p.1 }
+      record { holds = eqb-true (bit_at set k) 1 r.0; other = apart r.1; early = go (slice_get (quiet_after hs i v).nodes k) refl p.1 }
     where
       apart : not (k == top) ≡ true → k ≢ top
       apart h e = true≢false (sym h ∙ ap not (eq-eqb k top e))
 
       go :
-          (o : Option PortNode) → slice_get (turns_after i v).nodes k ≡ o → early_there o ≡ true →
-          IsEarly (turns_after i v) k
+          (o : Option PortNode) → slice_get (quiet_after hs i v).nodes k ≡ o → early_there o ≡ true →
+          IsEarly (quiet_after hs i v) k
       go None e f = absurd (true≢false (sym f))
       go (Some x) e f = record { node = x; at = e; early = f }
 
   member-from : (i k : ℕ) → Member i k → member i k ≡ true
   unfolding member
   member-from i k m =
-      and_from ((bit_at set k == 1) && not (k == top)) (early_there (slice_get (turns_after i v).nodes k))
+      and_from ((bit_at set k == 1) && not (k == top)) (early_there (slice_get (quiet_after hs i v).nodes k))
       (and_from (bit_at set k == 1) (not (k == top)) (eq-eqb (bit_at set k) 1 m.holds) (ap not (ne_eqb k top m.other)))
       (ap early_there m.early.at ∙ m.early.early)
 
-  early-was : (i j k : ℕ) → IsEarly (turns_after (i + j) v) k → IsEarly (turns_after i v) k
-  early-was i j k n = early-at-first (turns_after i v) (turns-lawful i v l) (done-at v l done i) j k (subst (λ u. IsEarly u k) (turns-then i j v) n)
+  early-was : (i j k : ℕ) → IsEarly (quiet_after hs (i + j) v) k → IsEarly (quiet_after hs i v) k
+  early-was i j k n = early-at-first (holds_after i hs) (quiet_after hs i v) (quiet-lawful hs i v l) (done-at hs v l done i) j k (subst (λ u. IsEarly u k) (quiet-then hs i j v) n)
 
   member-was : (i j k : ℕ) → member (i + j) k ≡ true → member i k ≡ true
   member-was i j k h =
@@ -165,14 +163,14 @@ module _ (v : CableWorld) (l : IsLawful v) (done : ResetsAreDone v) (set top : �
   module _ (t : ℕ) where
     only-up :
         (low : Lowest v.cabling up set (member t))
-        (n : IsEarly (turns_after (t + v.delay) v) low.node) (q : ℕ) → Silent n.node.state q →
+        (n : IsEarly (quiet_after hs (t + v.delay) v) low.node) (q : ℕ) → Silent n.node.state q →
         (b : Bool) → is_port (up low.node) q ≡ b → b ≡ true
     only-up low n q s true e = refl
     only-up low n q s false e =
-        let a = leads v l done (t + v.delay) low.node n q s in
+        let a = leads hs v l done (t + v.delay) low.node n q s in
         let ne : up low.node ≢ Some q = λ f. true≢false (sym (is-port (up low.node) q f) ∙ e) in
         let other : a.0.node ≢ top = not-top low.node q a.0 low.in_set a.1 ne in
-        absurd (asked-by v l done t low.node n q a.0 a.1 s (λ y.
+        absurd (asked-by hs v l done t low.node n q a.0 a.1 s (λ y.
         true≢false (sym (member-from t a.0.node (record { holds = closed (end_at low.node q) a.0 a.1 low.in_set; other = other; early = y })) ∙ low.others q a.0 a.1 ne)))
 
     gone :
@@ -182,9 +180,9 @@ module _ (v : CableWorld) (l : IsLawful v) (done : ResetsAreDone v) (set top : �
     gone low true m =
         let p = member-parts (t + v.delay) low.node m in
         let z = before-last t in
-        let n : IsEarly (turns_after (t + (v.delay - 1) + 1) v) low.node = subst (λ j. IsEarly (turns_after j v) low.node) z p.early in
-        let two : TwoSilent n.node.state = stays-by-two v l done (t + (v.delay - 1)) low.node n (λ x. free (t + (v.delay - 1)) low.node x.node p.holds p.other x.at) in
-        let at-end : IsEarly (turns_after (t + v.delay) v) low.node = record { node = n.node; at = ap (λ j. slice_get (turns_after j v).nodes low.node) z ∙ n.at; early = n.early } in
+        let n : IsEarly (quiet_after hs (t + (v.delay - 1) + 1) v) low.node = subst (λ j. IsEarly (quiet_after hs j v) low.node) z p.early in
+        let two : TwoSilent n.node.state = stays-by-two hs v l done (t + (v.delay - 1)) low.node n (λ x. free (t + (v.delay - 1)) low.node x.node p.holds p.other x.at) in
+        let at-end : IsEarly (quiet_after hs (t + v.delay) v) low.node = record { node = n.node; at = ap (λ j. slice_get (quiet_after hs j v).nodes low.node) z ∙ n.at; early = n.early } in
         absurd (omega (
           arith,
           two.apart,
@@ -199,7 +197,7 @@ module _ (v : CableWorld) (l : IsLawful v) (done : ResetsAreDone v) (set top : �
     falls k m =
         let low : Lowest v.cabling up set (member t) = ways.lowest (member t) k (member-parts t k m).holds m in
         let p = member-parts t low.node low.is in
-        let inside : low.node < length v.nodes = omega (arith, slice_get_within (turns_after t v).nodes low.node p.early.node p.early.at, after-length v l t) in
+        let inside : low.node < length v.nodes = omega (arith, slice_get_within (quiet_after hs t v).nodes low.node p.early.node p.early.at, after-length hs v l t) in
         count-less (member (t + v.delay)) (member t) (λ j. member-was t v.delay j) (length v.nodes) low.node inside (gone low (member (t + v.delay) low.node) refl) low.is
 
   time : ℕ → ℕ
@@ -248,35 +246,35 @@ module _ (v : CableWorld) (l : IsLawful v) (done : ResetsAreDone v) (set top : �
   none-left = subst (λ t. count (member t) (length v.nodes) ≡ 0) (time-is (length v.nodes - 1)) (elim (fewer (length v.nodes - 1)) [ inl f ↦ omega (arith, f, there) | inr none ↦ none ])
 
   -- the others are past T0
-  others-late : (k : ℕ) → Holds set k → k ≢ top → IsEarly (turns_after last v) k → ⊥
+  others-late : (k : ℕ) → Holds set k → k ≢ top → IsEarly (quiet_after hs last v) k → ⊥
   others-late k h other n =
-      let inside : k < length v.nodes = omega (arith, slice_get_within (turns_after last v).nodes k n.node n.at, after-length v l last) in
+      let inside : k < length v.nodes = omega (arith, slice_get_within (quiet_after hs last v).nodes k n.node n.at, after-length hs v l last) in
       omega (arith, none-left, count-some (member last) (length v.nodes) k inside (member-from last k (record { holds = h; other = other; early = n })))
 
   -- d turns later the top is, as all of its ports ask
-  top-late : IsEarly (turns_after (last + v.delay) v) top → ⊥
+  top-late : IsEarly (quiet_after hs (last + v.delay) v) top → ⊥
   top-late early =
       let z = before-last last in
-      let n : IsEarly (turns_after (last + (v.delay - 1) + 1) v) top = subst (λ j. IsEarly (turns_after j v) top) z early in
-      let one = stays-by-one v l done (last + (v.delay - 1)) top n in
-      let at-end : IsEarly (turns_after (last + v.delay) v) top = record { node = n.node; at = ap (λ j. slice_get (turns_after j v).nodes top) z ∙ n.at; early = n.early } in
-      let a = leads v l done (last + v.delay) top at-end one.0 one.1 in
+      let n : IsEarly (quiet_after hs (last + (v.delay - 1) + 1) v) top = subst (λ j. IsEarly (quiet_after hs j v) top) z early in
+      let one = stays-by-one hs v l done (last + (v.delay - 1)) top n in
+      let at-end : IsEarly (quiet_after hs (last + v.delay) v) top = record { node = n.node; at = ap (λ j. slice_get (quiet_after hs j v).nodes top) z ∙ n.at; early = n.early } in
+      let a = leads hs v l done (last + v.delay) top at-end one.0 one.1 in
       let ne : up top ≢ Some one.0 = λ f. let bad : None ≡ Some one.0 = sym ways.ups.none ∙ f in absurd cc in
-      asked-by v l done last top at-end one.0 a.0 a.1 one.1
+      asked-by hs v l done last top at-end one.0 a.0 a.1 one.1
       (others-late a.0.node (closed (end_at top one.0) a.0 a.1 has) (not-top top one.0 a.0 has a.1 ne))
 
   -- so after n d turns all are
   pub all-late :
       (i : ℕ) → length v.nodes * v.delay ≤ i → (k : ℕ) (x : PortNode) → Holds set k →
-      slice_get (turns_after i v).nodes k ≡ Some x → is_before_tree x.state.view.phase ≡ false
+      slice_get (quiet_after hs i v).nodes k ≡ Some x → is_before_tree x.state.view.phase ≡ false
   unfolding last
   all-late i late k x h at = go (is_before_tree x.state.view.phase) refl
     where
-      early-last : IsEarly (turns_after i v) k → IsEarly (turns_after (last + v.delay) v) k
+      early-last : IsEarly (quiet_after hs i v) k → IsEarly (quiet_after hs (last + v.delay) v) k
       early-last n =
           let sum : (length v.nodes - 1) * v.delay + v.delay ≡ length v.nodes * v.delay = one-round (length v.nodes - 1) (length v.nodes) v.delay (omega (arith, there)) in
           let z : i ≡ last + v.delay + (i - (last + v.delay)) = omega (arith, late, sum) in
-          early-was (last + v.delay) (i - (last + v.delay)) k (subst (λ j. IsEarly (turns_after j v) k) z n)
+          early-was (last + v.delay) (i - (last + v.delay)) k (subst (λ j. IsEarly (quiet_after hs j v) k) z n)
         where
           one-round : (a b d : ℕ) → a + 1 ≡ b → a * d + d ≡ b * d
           one-round a b d e = rw (← e) (grind arith)
@@ -284,8 +282,8 @@ module _ (v : CableWorld) (l : IsLawful v) (done : ResetsAreDone v) (set top : �
       go : (b : Bool) → is_before_tree x.state.view.phase ≡ b → b ≡ false
       go false e = refl
       go true e =
-          let n : IsEarly (turns_after i v) k = record { node = x; at = at; early = e } in
+          let n : IsEarly (quiet_after hs i v) k = record { node = x; at = at; early = e } in
           elim (cases_eq k top) [
-            | inl same ↦ absurd (top-late (subst (λ j. IsEarly (turns_after (last + v.delay) v) j) same (early-last n)))
+            | inl same ↦ absurd (top-late (subst (λ j. IsEarly (quiet_after hs (last + v.delay) v) j) same (early-last n)))
             | inr other ↦ absurd (others-late k h other (early-was last v.delay k (early-last n)))
           ]

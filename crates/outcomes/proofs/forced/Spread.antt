@@ -25,25 +25,26 @@ use Rattle.cabling.specs.Component.{IsComponent}
 use Rattle.cabling.proofs.Ends.{plugged}
 use Rattle.cabling.proofs.Whole.{shared}
 use Rattle.cable_world.specs.World.{CableWorld, wire_of}
-use Rattle.cable_world.specs.Turn.{turn_at, turn, turns_after}
+use Rattle.cable_world.specs.Turn.{turn_at, turn}
 use Rattle.cable_world.specs.Agreement.{level_sent, level_shown, leads_down, level_after}
 use Rattle.cable_world.specs.Phases.{is_in_bus_reset}
 use Rattle.cable_world.specs.Signals.{signals_of, has_reset}
 use Rattle.cable_world.specs.Lawful.{IsLawful}
 use Rattle.cable_world.specs.Fresh.{IsFresh}
-use Rattle.cable_world.proofs.turns.ByNumber.{node-after, no-turns, one-more}
+use Rattle.cable_world.proofs.turns.ByNumber.{node-after}
 use Rattle.cable_world.proofs.coupling.CouplingInTurns.{before, hears, ticks}
 use Rattle.cable_world.proofs.resets.Entries.{in-turn, after-delay}
 use Rattle.convergence.proofs.turns.Cables.{joined-of}
 use Rattle.cable_world.proofs.tables.CableEnds.{cable-connected}
 use Rattle.cable_world.proofs.Options.{some-of, some-same}
-use Rattle.cable_world.proofs.StaysLawful.{turns-lawful}
 use Rattle.cable_world.proofs.turns.NodeFacts.{HearsWell, TicksWell}
 use Rattle.cable_world.proofs.turns.TurnParts.{turn-state}
+use Rattle.cable_world.specs.Quiet.{PlacedHold, HoldSchedule, with_holds, quiet_after}
+use Rattle.cable_world.proofs.QuietTurns.{holds-signals, one-quiet, no-quiet, quiet-lawful, after-cabling}
+use Rattle.cable_world.proofs.StaysLawful.{turn-lawful}
 use Rattle.convergence.proofs.turns.CalmTurns.{signals, heard_by}
 use Rattle.convergence.proofs.sets.Closure.{in-component}
 use Rattle.convergence.proofs.turns.BeforeTree.{was-waiting}
-use Rattle.convergence.proofs.turns.Flush.{after-cabling}
 use Rattle.convergence.proofs.sets.Gathered.{count, count-most, count-less, count-some}
 use Rattle.convergence.proofs.resets.ResetsOver.{OldReset, some-old, none-older, old-after}
 
@@ -57,6 +58,11 @@ pub record Spreads (v : CableWorld) (set turns : ℕ) : Type 0 where
   pub waits :
       (k : ℕ) (x : PortNode) → Holds set k → slice_get v.nodes k ≡ Some x →
       is_in_bus_reset x.state.view.phase ≡ true → is_resetting x.state.view.phase ≡ true
+
+spreads-held :
+    (holds : List PlacedHold) (w : CableWorld) (set turns : ℕ) → Spreads w set turns →
+    Spreads (with_holds holds w) set turns
+spreads-held holds w set turns s = record { timers = s.timers; waits = s.waits }
 
 -- node number k is in R0
 pub record Resets (v : CableWorld) (k : ℕ) : Type 0 where
@@ -185,7 +191,7 @@ resets_there None = false
 resets_there (Some x) = is_resetting x.state.view.phase
 
 module _
-    (w : CableWorld) (l : IsLawful w) (node set : ℕ) (comp : IsComponent w.cabling node set)
+    (hs : HoldSchedule) (w : CableWorld) (l : IsLawful w) (node set : ℕ) (comp : IsComponent w.cabling node set)
     (fresh : IsFresh w set) where
   start-spreads : Spreads w set 0
   start-spreads = record {
@@ -209,38 +215,39 @@ module _
       not-wait phase.ResetWait h n = absurd (n refl)
       not-wait p h n = absurd cc
 
-  pub spreads : (i : ℕ) → i < 64 * w.delay → Spreads (turns_after i w) set i
-  spreads zero soon = subst (λ v. Spreads v set 0) (sym (no-turns w)) start-spreads
+  pub spreads : (i : ℕ) → i < 64 * w.delay → Spreads (quiet_after hs i w) set i
+  spreads zero soon = subst (λ v. Spreads v set 0) (sym (no-quiet hs w)) (spreads-held (hs 0) w set 0 start-spreads)
   spreads (suc i) soon =
-      subst (λ n. Spreads (turns_after n w) set n) (add-one i)
-      (subst (λ v. Spreads v set (i + 1)) (sym (one-more i w))
-      (turn-spreads set (turns_after i w) (turns-lawful i w l) i (omega (arith, soon, after-delay w l i)) (spreads i (omega (arith, soon)))))
+      subst (λ n. Spreads (quiet_after hs n w) set n) (add-one i)
+      (subst (λ v. Spreads v set (i + 1)) (sym (one-quiet hs i w))
+      (spreads-held (hs (i + 1)) (turn (quiet_after hs i w)) set (i + 1)
+      (turn-spreads set (quiet_after hs i w) (quiet-lawful hs i w l) i (omega (arith, soon, after-delay hs w l i)) (spreads i (omega (arith, soon))))))
 
   -- whoever is in R0 stays there
   pub resets-stay :
-      (j i k : ℕ) → i + j < 64 * w.delay → Holds set k → Resets (turns_after i w) k →
-      Resets (turns_after (i + j) w) k
-  resets-stay zero i k soon h r = let z : i ≡ i + 0 = omega arith in subst (λ n. Resets (turns_after n w) k) z r
+      (j i k : ℕ) → i + j < 64 * w.delay → Holds set k → Resets (quiet_after hs i w) k →
+      Resets (quiet_after hs (i + j) w) k
+  resets-stay zero i k soon h r = let z : i ≡ i + 0 = omega arith in subst (λ n. Resets (quiet_after hs n w) k) z r
   resets-stay (suc j) i k soon h r =
-      let v : CableWorld = turns_after (i + j) w in
-      let m : IsLawful v = turns-lawful (i + j) w l in
+      let v : CableWorld = quiet_after hs (i + j) w in
+      let m : IsLawful v = quiet-lawful hs (i + j) w l in
       let z : i + j + 1 ≡ i + suc j = omega arith in
       let was : Resets v k = resets-stay j i k (omega (arith, soon)) h r in
       let next : Turns v k was.node = turns-to v m k was.node was.at in
       let timer : was.node.state.view.timer ≤ i + j = (spreads (i + j) (omega (arith, soon))).timers k was.node h was.at was.resets in
-      subst (λ n. Resets (turns_after n w) k) z
-      (subst (λ u. Resets u k) (sym (one-more (i + j) w))
-      (record { node = next.node; at = next.at; resets = (in-turn v m k was.node next.node was.at next.at).stays was.resets (omega (arith, timer, soon, after-delay w l (i + j))) }))
+      subst (λ n. Resets (quiet_after hs n w) k) z
+      (subst (λ u. Resets u k) (sym (one-quiet hs (i + j) w))
+      (record { node = next.node; at = next.at; resets = (in-turn v m k was.node next.node was.at next.at).stays was.resets (omega (arith, timer, soon, after-delay hs w l (i + j))) }))
 
   -- d turns after one node is in R0 its neighbours are
   module _
       (i : ℕ) (soon : i + w.delay < 64 * w.delay) (a b : End) (e : far w.cabling a ≡ Some b)
-      (has : Holds set a.node) (r : Resets (turns_after i w) a.node) where
+      (has : Holds set a.node) (r : Resets (quiet_after hs i w) a.node) where
     abbrev later : ℕ → CableWorld
-    later t = turns_after (i + t) w
+    later t = quiet_after hs (i + t) w
 
     cable : (t : ℕ) → far (later t).cabling a ≡ Some b
-    cable t = ap (λ (c : Wiring). far c a) (after-cabling (i + t) w) ∙ e
+    cable t = ap (λ (c : Wiring). far c a) (after-cabling hs (i + t) w) ∙ e
 
     has-b : Holds set b.node
     has-b = comp.closed a b e has
@@ -258,8 +265,8 @@ module _
       under-way : (t : ℕ) → t ≤ w.delay → OldReset t (wire_of (later t) a).signals
       under-way zero h =
           let z : i ≡ i + 0 = omega arith in
-          let x : Resets (later 0) a.node = subst (λ n. Resets (turns_after n w) a.node) z r in
-          let m : IsLawful (later 0) = turns-lawful (i + 0) w l in
+          let x : Resets (later 0) a.node = subst (λ n. Resets (quiet_after hs n w) a.node) z r in
+          let m : IsLawful (later 0) = quiet-lawful hs (i + 0) w l in
           let y = (joined-of (later 0) a b m.well_formed (cable 0)).other in
           let at_y = (joined-of (later 0) a b m.well_formed (cable 0)).other_at in
           some-old (wire_of (later 0) a).signals
@@ -275,28 +282,30 @@ module _
               absurd (true≢false (sym ((spreads (i + 0) (omega (arith, soon))).waits b.node y has-b at f) ∙ out-of 0 none y at))
       under-way (suc t) h =
           let v : CableWorld = later t in
-          let m : IsLawful v = turns-lawful (i + t) w l in
+          let m : IsLawful v = quiet-lawful hs (i + t) w l in
           let y = (joined-of v a b m.well_formed (cable t)).other in
           let at_y = (joined-of v a b m.well_formed (cable t)).other_at in
           let next : Turns v b.node y = turns-to v m b.node y at_y in
           let z : i + t + 1 ≡ i + suc t = omega arith in
-          let is : turns_after (i + suc t) w ≡ turn v = sym (ap (λ n. turns_after n w) z) ∙ one-more (i + t) w in
+          let held : CableWorld = with_holds (hs (i + t + 1)) (turn v) in
+          let is : quiet_after hs (i + suc t) w ≡ held = sym (ap (λ n. quiet_after hs n w) z) ∙ one-quiet hs (i + t) w in
           let n : t + 1 ≡ suc t = add-one t in
           subst (λ j. OldReset j (wire_of (later (suc t)) a).signals) n
           (subst (λ (u : CableWorld). OldReset (t + 1) (wire_of u a).signals) (sym is)
-          (old-after v m a b y next.node t (cable t) at_y next.at (out-of t (omega (arith, h)) y at_y) (out-of (suc t) h next.node (ap (λ (u : CableWorld). slice_get u.nodes b.node) is ∙ next.at)) (under-way t (omega (arith, h)))))
+          (subst (OldReset (t + 1)) (sym (holds-signals (hs (i + t + 1)) (turn v) a (turn-lawful v m)))
+          (old-after v m a b y next.node t (cable t) at_y next.at (out-of t (omega (arith, h)) y at_y) (out-of (suc t) h next.node (ap (λ (u : CableWorld). slice_get u.nodes b.node) is ∙ next.at)) (under-way t (omega (arith, h))))))
 
       no-way : ⊥
       no-way =
-          let m : IsLawful (later w.delay) = turns-lawful (i + w.delay) w l in
+          let m : IsLawful (later w.delay) = quiet-lawful hs (i + w.delay) w l in
           let all : w.delay ≤ w.delay = omega arith in
-          none-older ((later w.delay).delay - 1) w.delay (wire_of (later w.delay) a).signals (omega (arith, after-delay w l (i + w.delay), l.well_formed.some_delay)) (m.well_formed.ages a) (under-way w.delay all)
+          none-older ((later w.delay).delay - 1) w.delay (wire_of (later w.delay) a).signals (omega (arith, after-delay hs w l (i + w.delay), l.well_formed.some_delay)) (m.well_formed.ages a) (under-way w.delay all)
 
     crosses : Resets (later w.delay) b.node
     crosses = go (is_resetting y.state.view.phase) refl
       where
         m : IsLawful (later w.delay)
-        m = turns-lawful (i + w.delay) w l
+        m = quiet-lawful hs (i + w.delay) w l
 
         y : PortNode
         y = (joined-of (later w.delay) a b m.well_formed (cable w.delay)).other
@@ -308,30 +317,30 @@ module _
         go true f = record { node = y; at = at; resets = f }
         go false f = absurd (no-way (λ t h s.
             let z : i + t + (w.delay - t) ≡ i + w.delay = omega (arith, h) in
-            let then : Resets (later w.delay) b.node = subst (λ n. Resets (turns_after n w) b.node) z (resets-stay (w.delay - t) (i + t) b.node (omega (arith, z, soon)) has-b s) in
+            let then : Resets (later w.delay) b.node = subst (λ n. Resets (quiet_after hs n w) b.node) z (resets-stay (w.delay - t) (i + t) b.node (omega (arith, z, soon)) has-b s) in
             let same : then.node ≡ y = some-same then.node y (sym then.at ∙ at) in
             true≢false (sym then.resets ∙ ap (λ (u : PortNode). is_resetting u.state.view.phase) same ∙ f)))
 
   -- ---- all of them
 
   member : ℕ → ℕ → Bool
-  member i k = (bit_at set k == 1) && resets_there (slice_get (turns_after i w).nodes k)
+  member i k = (bit_at set k == 1) && resets_there (slice_get (quiet_after hs i w).nodes k)
 
-  member-parts : (i k : ℕ) → member i k ≡ true → Holds set k × Resets (turns_after i w) k
+  member-parts : (i k : ℕ) → member i k ≡ true → Holds set k × Resets (quiet_after hs i w) k
   unfolding member
   member-parts i k h =
-      let p = and_parts (bit_at set k == 1) (resets_there (slice_get (turns_after i w).nodes k)) h in
-      (eqb-true (bit_at set k) 1 p.0, go (slice_get (turns_after i w).nodes k) refl p.1)
+      let p = and_parts (bit_at set k == 1) (resets_there (slice_get (quiet_after hs i w).nodes k)) h in
+      (eqb-true (bit_at set k) 1 p.0, go (slice_get (quiet_after hs i w).nodes k) refl p.1)
     where
       go :
-          (o : Option PortNode) → slice_get (turns_after i w).nodes k ≡ o → resets_there o ≡ true →
-          Resets (turns_after i w) k
+          (o : Option PortNode) → slice_get (quiet_after hs i w).nodes k ≡ o → resets_there o ≡ true →
+          Resets (quiet_after hs i w) k
       go None e f = absurd (true≢false (sym f))
       go (Some x) e f = record { node = x; at = e; resets = f }
 
-  member-from : (i k : ℕ) → Holds set k → Resets (turns_after i w) k → member i k ≡ true
+  member-from : (i k : ℕ) → Holds set k → Resets (quiet_after hs i w) k → member i k ≡ true
   unfolding member
-  member-from i k h r = and_from (bit_at set k == 1) (resets_there (slice_get (turns_after i w).nodes k)) (eq-eqb (bit_at set k) 1 h) (ap resets_there r.at ∙ r.resets)
+  member-from i k h r = and_from (bit_at set k == 1) (resets_there (slice_get (quiet_after hs i w).nodes k)) (eq-eqb (bit_at set k) 1 h) (ap resets_there r.at ∙ r.resets)
 
   member-stays : (i j k : ℕ) → i + j < 64 * w.delay → member i k ≡ true → member (i + j) k ≡ true
   member-stays i j k soon h = let p = member-parts i k h in member-from (i + j) k p.0 (resets-stay j i k soon p.0 p.1)
@@ -345,10 +354,10 @@ module _
   first-at : (i : ℕ) → i < 64 * w.delay → member i fresh.node ≡ true
   first-at i soon =
       let z : 0 + i ≡ i = omega arith in
-      member-from i fresh.node fresh.holds (subst (λ j. Resets (turns_after j w) fresh.node) z (resets-stay i 0 fresh.node (omega (arith, soon)) fresh.holds (subst (λ u. Resets u fresh.node) (sym (no-turns w)) first)))
+      member-from i fresh.node fresh.holds (subst (λ j. Resets (quiet_after hs j w) fresh.node) z (resets-stay i 0 fresh.node (omega (arith, soon)) fresh.holds (subst (λ u. Resets u fresh.node) (sym (no-quiet hs w)) (record { node = first.node; at = first.at; resets = first.resets }))))
 
   abbrev AllIn : ℕ → Type 0
-  AllIn i = (k : ℕ) → Holds set k → Resets (turns_after i w) k
+  AllIn i = (k : ℕ) → Holds set k → Resets (quiet_after hs i w) k
 
   -- in d turns there are more, unless they are all
   grows :
@@ -426,15 +435,15 @@ module _
   -- after (n - 1) d turns all are in R0, and stay there until 64 d turns are done
   pub all-reset :
       (i : ℕ) → (n - 1) * w.delay ≤ i → i < 64 * w.delay → (k : ℕ) (x : PortNode) → Holds set k →
-      slice_get (turns_after i w).nodes k ≡ Some x → (is_resetting x.state.view.phase ≡ true)
+      slice_get (quiet_after hs i w).nodes k ≡ Some x → (is_resetting x.state.view.phase ≡ true)
       × (x.state.view.timer ≤ i)
   all-reset i late soon k x h at = (there, (spreads i soon).timers k x h at there)
     where
       z : (n - 1) * w.delay + (i - (n - 1) * w.delay) ≡ i
       z = omega (arith, late)
 
-      r : Resets (turns_after i w) k
-      r = subst (λ j. Resets (turns_after j w) k) z (resets-stay (i - (n - 1) * w.delay) ((n - 1) * w.delay) k (omega (arith, z, soon)) h (first-all k h))
+      r : Resets (quiet_after hs i w) k
+      r = subst (λ j. Resets (quiet_after hs j w) k) z (resets-stay (i - (n - 1) * w.delay) ((n - 1) * w.delay) k (omega (arith, z, soon)) h (first-all k h))
 
       there : is_resetting x.state.view.phase ≡ true
       there = ap (λ (u : PortNode). is_resetting u.state.view.phase) (some-same x r.node (sym at ∙ r.at)) ∙ r.resets

@@ -27,14 +27,13 @@ use Rattle.outcomes.specs.Parents.{LeadsUp}
 use Rattle.cabling.proofs.Near.{end_at}
 use Rattle.cable_world.specs.Wire.{age_wire, gives}
 use Rattle.cable_world.specs.World.{CableWorld, wire_of}
-use Rattle.cable_world.specs.Turn.{turn, turns_after}
+use Rattle.cable_world.specs.Turn.{turn}
 use Rattle.cable_world.specs.Agreement.{level_sent, shown_or_idle, level_shown, leads_down, level_after, level_sent_at}
 use Rattle.cable_world.specs.Phases.{is_before_tree, is_after_hold, is_contending}
 use Rattle.cable_world.specs.Signals.{signals_of, has_reset, shows_no_notice}
 use Rattle.cable_world.specs.Coupling.{is_reset_known, Coupling}
 use Rattle.cable_world.specs.Lawful.{IsLawful}
 use Rattle.cable_world.specs.Fresh.{IsFresh}
-use Rattle.cable_world.proofs.turns.ByNumber.{one-more}
 use Rattle.cable_world.proofs.coupling.CouplingInTurns.{hears}
 use Rattle.cable_world.proofs.resets.Entries.{in-turn, steady, after-delay}
 use Rattle.cable_world.proofs.levels.LastSent.{child-if}
@@ -42,12 +41,10 @@ use Rattle.convergence.proofs.turns.Cables.{joined-of}
 use Rattle.cable_world.proofs.tables.CableEnds.{cable-connected}
 use Rattle.cable_world.proofs.Options.{some-same}
 use Rattle.cable_world.proofs.coupling.Sides.{late-roles, between-known}
-use Rattle.cable_world.proofs.StaysLawful.{turns-lawful}
 use Rattle.cable_world.proofs.turns.TicksWell.{Chosen, chosen}
 use Rattle.cable_world.proofs.turns.TurnParts.{comes}
 use Rattle.outcomes.specs.Forced.{WaitsAlone}
 use Rattle.convergence.proofs.turns.CalmTurns.{Calmly, signals, heard_by}
-use Rattle.convergence.proofs.turns.Flush.{after-cabling}
 use Rattle.outcomes.proofs.forced.Forced.{kept-heard, Takes, tick-takes}
 use Rattle.outcomes.proofs.forced.ForcedRoot.{up, late, parentless, enough}
 use Rattle.outcomes.proofs.forced.Spread.{Turned, turned, all-reset, some-nodes}
@@ -56,6 +53,8 @@ use Rattle.convergence.proofs.turns.PortFacts.{port-is-not}
 use Rattle.cable_world.proofs.coupling.RolesFollow.{port-is}
 use Rattle.convergence.proofs.turns.PhaseFacts.{late-start}
 use Rattle.cable_world.proofs.PhaseFacts.{start-before_tree}
+use Rattle.cable_world.specs.Quiet.{HoldSchedule, with_holds, quiet_after}
+use Rattle.cable_world.proofs.QuietTurns.{one-quiet, quiet-lawful, after-cabling}
 
 -- ---- ticks
 
@@ -135,7 +134,7 @@ start-calm : (h : Phase) → is_resetting h ≡ true → is_contending h ≡ fal
 start-calm h e = grind arith
 
 module _
-    (w : CableWorld) (l : IsLawful w) (node set core : ℕ) (comp : IsComponent w.cabling node set)
+    (hs : HoldSchedule) (w : CableWorld) (l : IsLawful w) (node set core : ℕ) (comp : IsComponent w.cabling node set)
     (is_core : IsCore w.cabling set core) (empty : IsEmpty core) (small : set < 2 ^ 63)
     (fresh : IsFresh w set) (f : ℕ) (alone : WaitsAlone w set f) where
   abbrev spread : ℕ
@@ -145,7 +144,7 @@ module _
   reached = (length w.nodes - 1) * w.delay
 
   reached-is : reached + w.delay ≤ 63 * w.delay
-  reached-is = omega (arith, sum (length w.nodes) w.delay (omega (arith, slice_inside)), spread-most w l node set comp fresh)
+  reached-is = omega (arith, sum (length w.nodes) w.delay (omega (arith, slice_inside)), spread-most hs w l node set comp fresh)
     where
       slice_inside : 1 ≤ length w.nodes
       slice_inside = some-nodes w set fresh
@@ -159,46 +158,46 @@ module _
   -- whoever is in R0 has been there since all were
   risen :
       (j k : ℕ) (x : PortNode) → Holds set k →
-      slice_get (turns_after (reached + j) w).nodes k ≡ Some x →
+      slice_get (quiet_after hs (reached + j) w).nodes k ≡ Some x →
       is_resetting x.state.view.phase ≡ true → j ≤ x.state.view.timer
   risen zero k x h at r = omega arith
   risen (suc j) k y h at r = go (risen j k)
     where
       v : CableWorld
-      v = turns_after (reached + j) w
+      v = quiet_after hs (reached + j) w
 
-      step : turns_after (reached + suc j) w ≡ turn (turns_after (reached + j) w)
-      step = let z : reached + suc j ≡ reached + j + 1 = omega arith in ap (λ n. turns_after n w) z ∙ one-more (reached + j) w
+      step : quiet_after hs (reached + suc j) w ≡ with_holds (hs (reached + j + 1)) (turn (quiet_after hs (reached + j) w))
+      step = let z : reached + suc j ≡ reached + j + 1 = omega arith in ap (λ n. quiet_after hs n w) z ∙ one-quiet hs (reached + j) w
 
-      at-turn : slice_get (turn (turns_after (reached + j) w)).nodes k ≡ Some y
+      at-turn : slice_get (turn (quiet_after hs (reached + j) w)).nodes k ≡ Some y
       at-turn = ap (λ (u : CableWorld). slice_get u.nodes k) (sym step) ∙ at
 
-      t : Turned (turns_after (reached + j) w) k y
-      t = turned (turns_after (reached + j) w) (turns-lawful (reached + j) w l) k y at-turn
+      t : Turned (quiet_after hs (reached + j) w) k y
+      t = turned (quiet_after hs (reached + j) w) (quiet-lawful hs (reached + j) w l) k y at-turn
 
       was : (b : Bool) → is_resetting t.node.state.view.phase ≡ b → b ≡ true
       was true e = refl
       was false e = elim (cases_lt (reached + j) (64 * w.delay)) [
-        | inl soon ↦ (let low : reached ≤ reached + j = omega arith in sym e ∙ (all-reset w l node set comp fresh (reached + j) low soon k t.node h t.at).0)
+        | inl soon ↦ (let low : reached ≤ reached + j = omega arith in sym e ∙ (all-reset hs w l node set comp fresh (reached + j) low soon k t.node h t.at).0)
         | inr later ↦
-            absurd (true≢false (sym r ∙ steady w l (reached + j) (omega (arith, later, spread-most w l node set comp fresh)) k t.node y t.at
-            (ap (λ (u : CableWorld). slice_get u.nodes k) (one-more (reached + j) w) ∙ at-turn) e))
+            absurd (true≢false (sym r ∙ steady hs w l (reached + j) (omega (arith, later, spread-most hs w l node set comp fresh)) k t.node y t.at
+            (ap (λ (u : CableWorld). slice_get u.nodes k) (one-quiet hs (reached + j) w) ∙ at-turn) e))
       ]
 
       go :
-          ((x : PortNode) → Holds set k → slice_get (turns_after (reached + j) w).nodes k ≡ Some x → is_resetting x.state.view.phase ≡ true → j ≤ x.state.view.timer)
+          ((x : PortNode) → Holds set k → slice_get (quiet_after hs (reached + j) w).nodes k ≡ Some x → is_resetting x.state.view.phase ≡ true → j ≤ x.state.view.timer)
           → suc j ≤ y.state.view.timer
       go before =
           let there : is_resetting t.node.state.view.phase ≡ true = was (is_resetting t.node.state.view.phase) refl in
-          omega (arith, (in-turn (turns_after (reached + j) w) (turns-lawful (reached + j) w l) k t.node y t.at at-turn).rises there r, before t.node h t.at there)
+          omega (arith, (in-turn (quiet_after hs (reached + j) w) (quiet-lawful hs (reached + j) w l) k t.node y t.at at-turn).rises there r, before t.node h t.at there)
 
   -- once a node has left R0, those in R0 or before the tree have known of the reset for long
   known :
       (i : ℕ) → spread ≤ i → (k : ℕ) (x : PortNode) → Holds set k →
-      slice_get (turns_after i w).nodes k ≡ Some x → is_resetting x.state.view.phase ≡ false →
-      (j : ℕ) (y : PortNode) → Holds set j → slice_get (turns_after i w).nodes j ≡ Some y →
+      slice_get (quiet_after hs i w).nodes k ≡ Some x → is_resetting x.state.view.phase ≡ false →
+      (j : ℕ) (y : PortNode) → Holds set j → slice_get (quiet_after hs i w).nodes j ≡ Some y →
       is_before_tree y.state.view.phase ≡ true →
-      is_reset_known (turns_after i w).delay y.state ≡ true
+      is_reset_known (quiet_after hs i w).delay y.state ≡ true
   known i late k x h at out_x j y has at_y early = go (is_resetting y.state.view.phase) refl
     where
       before : reached ≤ i
@@ -213,24 +212,24 @@ module _
 
       old : 64 * w.delay ≤ i
       old = elim (cases_lt i (64 * w.delay)) [
-        | inl soon ↦ absurd (true≢false (sym (all-reset w l node set comp fresh i before soon k x h at).0 ∙ out_x))
+        | inl soon ↦ absurd (true≢false (sym (all-reset hs w l node set comp fresh i before soon k x h at).0 ∙ out_x))
         | inr later ↦ omega (arith, later)
       ]
 
       go :
           (b : Bool) → is_resetting y.state.view.phase ≡ b →
-          is_reset_known (turns_after i w).delay y.state ≡ true
-      go false e = between-known (turns_after i w).delay y.state (outside y.state.view.phase early e)
+          is_reset_known (quiet_after hs i w).delay y.state ≡ true
+      go false e = between-known (quiet_after hs i w).delay y.state (outside y.state.view.phase early e)
       go true e =
           let z : i ≡ reached + (i - reached) = omega (arith, before) in
-          let timer : i - reached ≤ y.state.view.timer = risen (i - reached) j y has (subst (λ n. slice_get (turns_after n w).nodes j ≡ Some y) z at_y) e in
-          start-known y.state.view.phase (turns_after i w).delay y.state.view.timer e (omega (arith, timer, old, reached-is, after-delay w l i, l.well_formed.some_delay))
+          let timer : i - reached ≤ y.state.view.timer = risen (i - reached) j y has (subst (λ n. slice_get (quiet_after hs n w).nodes j ≡ Some y) z at_y) e in
+          start-known y.state.view.phase (quiet_after hs i w).delay y.state.view.timer e (omega (arith, timer, old, reached-is, after-delay hs w l i, l.well_formed.some_delay))
 
   -- ---- one turn
 
   -- the port of each node towards the one that waits
   abbrev pub way : ℕ → Option ℕ
-  way = (up w l node set core comp is_core empty small fresh f alone).0
+  way = (up hs w l node set core comp is_core empty small fresh f alone).0
 
   -- what is so of each node
   pub record Faces (i k : ℕ) (x : NodeState) : Type 0 where
@@ -238,44 +237,44 @@ module _
     pub calm : is_contending x.view.phase ≡ false
 
   abbrev AllFace : ℕ → Type 0
-  AllFace i = (k : ℕ) (x : PortNode) → Holds set k → slice_get (turns_after i w).nodes k ≡ Some x → Faces i k x.state
+  AllFace i = (k : ℕ) (x : PortNode) → Holds set k → slice_get (quiet_after hs i w).nodes k ≡ Some x → Faces i k x.state
 
-  module _ (i : ℕ) (past : spread ≤ i) (all : AllFace i) (k : ℕ) (x : PortNode) (h : Holds set k) (at : slice_get (turns_after i w).nodes k ≡ Some x) (out_x : is_resetting x.state.view.phase ≡ false)
+  module _ (i : ℕ) (past : spread ≤ i) (all : AllFace i) (k : ℕ) (x : PortNode) (h : Holds set k) (at : slice_get (quiet_after hs i w).nodes k ≡ Some x) (out_x : is_resetting x.state.view.phase ≡ false)
       (p : ℕ) (b : End) (e : far w.cabling (end_at k p) ≡ Some b) (ne : way b.node ≢ Some b.port) where
     abbrev v : CableWorld
-    v = turns_after i w
+    v = quiet_after hs i w
 
-    m : IsLawful (turns_after i w)
-    m = turns-lawful i w l
+    m : IsLawful (quiet_after hs i w)
+    m = quiet-lawful hs i w l
 
-    cable : far (turns_after i w).cabling (end_at k p) ≡ Some b
-    cable = ap (λ (c : Wiring). far c (end_at k p)) (after-cabling i w) ∙ e
+    cable : far (quiet_after hs i w).cabling (end_at k p) ≡ Some b
+    cable = ap (λ (c : Wiring). far c (end_at k p)) (after-cabling hs i w) ∙ e
 
-    back : far (turns_after i w).cabling b ≡ Some (end_at k p)
+    back : far (quiet_after hs i w).cabling b ≡ Some (end_at k p)
     back = m.well_formed.cabling.both_ways (end_at k p) b cable
 
     has : Holds set b.node
     has = comp.closed (end_at k p) b e h
 
     abbrev y : PortNode
-    y = (joined-of (turns_after i w) b (end_at k p) (turns-lawful i w l).well_formed back).near
+    y = (joined-of (quiet_after hs i w) b (end_at k p) (quiet-lawful hs i w l).well_formed back).near
 
-    at_y : slice_get (turns_after i w).nodes b.node ≡ Some y
-    at_y = (joined-of (turns_after i w) b (end_at k p) (turns-lawful i w l).well_formed back).near_at
+    at_y : slice_get (quiet_after hs i w).nodes b.node ≡ Some y
+    at_y = (joined-of (quiet_after hs i w) b (end_at k p) (quiet-lawful hs i w l).well_formed back).near_at
 
     from_y :
-        Coupling (turns_after i w).delay y.state b.port (wire_of (turns_after i w) b).signals x.state p (wire_of (turns_after i w) (end_at k p)).signals
+        Coupling (quiet_after hs i w).delay y.state b.port (wire_of (quiet_after hs i w) b).signals x.state p (wire_of (quiet_after hs i w) (end_at k p)).signals
     from_y = m.coupled.cables b (end_at k p) y x back at_y at
 
     from_x :
-        Coupling (turns_after i w).delay x.state p (wire_of (turns_after i w) (end_at k p)).signals y.state b.port (wire_of (turns_after i w) b).signals
+        Coupling (quiet_after hs i w).delay x.state p (wire_of (quiet_after hs i w) (end_at k p)).signals y.state b.port (wire_of (quiet_after hs i w) b).signals
     from_x = m.coupled.cables (end_at k p) b x y cable at at_y
 
-    none-comes : has_reset (signals_of (wire_of (turns_after i w) (end_at k p)).signals) ≡ false
-    none-comes = go (has_reset (signals_of (wire_of (turns_after i w) (end_at k p)).signals)) refl
+    none-comes : has_reset (signals_of (wire_of (quiet_after hs i w) (end_at k p)).signals) ≡ false
+    none-comes = go (has_reset (signals_of (wire_of (quiet_after hs i w) (end_at k p)).signals)) refl
       where
         go :
-            (r : Bool) → has_reset (signals_of (wire_of (turns_after i w) (end_at k p)).signals)
+            (r : Bool) → has_reset (signals_of (wire_of (quiet_after hs i w) (end_at k p)).signals)
             ≡ r → r ≡ false
         go false g = refl
         go true g = absurd (true≢false (sym (from_x.reset g) ∙ out_x))
@@ -302,24 +301,24 @@ module _
             (late-tells y.state.view.phase (leads_down y.state.view.ports b.port) g child, (from_y.child child none-comes).1)
 
     -- so the port shows no Parent before the clock ticks
-    heard-unasked : is_parent (level_shown (heard_by (turns_after i w) k x) p) ≡ false
+    heard-unasked : is_parent (level_shown (heard_by (quiet_after hs i w) k x) p) ≡ false
     heard-unasked =
         ap is_parent ((hears v k x m.well_formed at).shown p (cable-connected v (end_at k p) b x m.well_formed cable at) ∙ ap (level_after (level_shown x.state p)) (comes v b (end_at k p) cable))
         ∙ go (gives v.delay (age_wire (wire_of v b)))
       where
         level :
-            level_after (level_shown x.state p) (signals_of (wire_of (turns_after i w) b).signals)
+            level_after (level_shown x.state p) (signals_of (wire_of (quiet_after hs i w) b).signals)
             ≡ level_sent_at y.state b.port
         level = m.agrees.levels b (end_at k p) y x back at_y at
 
         go :
             (g : Bool) →
-            is_parent (level_after (level_shown x.state p) (if g then signals_of (wire_of (turns_after i w) b).signals else []))
+            is_parent (level_after (level_shown x.state p) (if g then signals_of (wire_of (quiet_after hs i w) b).signals else []))
             ≡ false
         go true = ap is_parent level ∙ both.0
         go false = both.1
 
-    on : is_connected (heard_by (turns_after i w) k x).view.ports p ≡ true
+    on : is_connected (heard_by (quiet_after hs i w) k x).view.ports p ≡ true
     on = (hears v k x m.well_formed at).cables p ∙ cable-connected v (end_at k p) b x m.well_formed cable at
 
   -- the way up of a node leads to one whose way up isn't there
@@ -327,9 +326,9 @@ module _
       (k p : ℕ) → Holds set k → way k ≡ Some p → (b : End) × (far w.cabling (end_at k p) ≡ Some b)
       × (way b.node ≢ Some b.port)
   way-leads k p h e = elim (cases_eq k f) [
-    | inl same ↦ (let none : None ≡ Some p = sym (ap way same ∙ (up w l node set core comp is_core empty small fresh f alone).1.ups.none) ∙ e in absurd cc)
+    | inl same ↦ (let none : None ≡ Some p = sym (ap way same ∙ (up hs w l node set core comp is_core empty small fresh f alone).1.ups.none) ∙ e in absurd cc)
     | inr other ↦
-        let u : LeadsUp w.cabling way k = (up w l node set core comp is_core empty small fresh f alone).1.ups.others k h other in
+        let u : LeadsUp w.cabling way k = (up hs w l node set core comp is_core empty small fresh f alone).1.ups.others k h other in
         let same : u.port ≡ p = some-same u.port p (sym u.is ∙ e) in
         (u.end, ap (λ q. far w.cabling (end_at k q)) (sym same) ∙ u.joined, u.child)
   ]
@@ -347,26 +346,26 @@ module _
 
   -- the node that waits gets no parent port
   alone-parentless :
-      (i : ℕ) (y : PortNode) → spread ≤ i → slice_get (turns_after i w).nodes f ≡ Some y →
+      (i : ℕ) (y : PortNode) → spread ≤ i → slice_get (quiet_after hs i w).nodes f ≡ Some y →
       is_before_tree y.state.view.phase ≡ false → y.state.view.parent ≡ None
   alone-parentless i y past at g = elim (cases_lt i (320 * w.delay)) [
     | inl soon ↦
         let z : i ≡ spread + (i - spread) = omega (arith, past) in
-        (waiting w l node set comp fresh (i - spread) f y (omega (arith, soon, past)) alone.holds alone.waits (subst (λ n. slice_get (turns_after n w).nodes f ≡ Some y) z at)).late g
+        (waiting hs w l node set comp fresh (i - spread) f y (omega (arith, soon, past)) alone.holds alone.waits (subst (λ n. slice_get (quiet_after hs n w).nodes f ≡ Some y) z at)).late g
     | inr later ↦
-        let most : enough w l node set core comp is_core empty small fresh f alone ≤ i = omega (arith, later, spread-most w l node set comp fresh) in
-        let z : i ≡ enough w l node set core comp is_core empty small fresh f alone + (i - enough w l node set core comp is_core empty small fresh f alone) = omega (arith, most) in
-        parentless w l node set core comp is_core empty small fresh f alone (i - enough w l node set core comp is_core empty small fresh f alone) y (subst (λ n. slice_get (turns_after n w).nodes f ≡ Some y) z at)
+        let most : enough hs w l node set core comp is_core empty small fresh f alone ≤ i = omega (arith, later, spread-most hs w l node set comp fresh) in
+        let z : i ≡ enough hs w l node set core comp is_core empty small fresh f alone + (i - enough hs w l node set core comp is_core empty small fresh f alone) = omega (arith, most) in
+        parentless hs w l node set core comp is_core empty small fresh f alone (i - enough hs w l node set core comp is_core empty small fresh f alone) y (subst (λ n. slice_get (quiet_after hs n w).nodes f ≡ Some y) z at)
   ]
 
   module _
       (i : ℕ) (past : spread ≤ i) (all : AllFace i) (k : ℕ) (y : PortNode) (h : Holds set k)
-      (at : slice_get (turns_after (i + 1) w).nodes k ≡ Some y) where
-    abbrev c : Calmly (turns_after i w) k y.state
-    c = steadily w l i past k y at
+      (at : slice_get (quiet_after hs (i + 1) w).nodes k ≡ Some y) where
+    abbrev c : Calmly (quiet_after hs i w) k y.state
+    c = steadily hs w l i past k y at
 
     abbrev now : NodeState
-    now = heard_by (turns_after i w) k (steadily w l i past k y at).node
+    now = heard_by (quiet_after hs i w) k (steadily hs w l i past k y at).node
 
     out-of : is_before_tree now.view.phase ≡ false → is_resetting c.node.state.view.phase ≡ false
     out-of g = late-start c.node.state.view.phase (ap is_before_tree (sym c.heard.phase) ∙ g)
@@ -386,7 +385,7 @@ module _
         taken : is_before_tree now.view.phase ≡ true → k ≢ f → y.state.view.parent ≡ way k
         taken e other =
             let takes : Takes now (tick (coin c.node.coins) now).state = tick-takes (coin c.node.coins) now e (sym (ap (λ (z : NodeState). is_before_tree z.view.phase) c.is) ∙ g) in
-            let u : LeadsUp w.cabling way k = (up w l node set core comp is_core empty small fresh f alone).1.ups.others k h other in
+            let u : LeadsUp w.cabling way k = (up hs w l node set core comp is_core empty small fresh f alone).1.ups.others k h other in
             let out_x : is_resetting c.node.state.view.phase ≡ false = ap is_resetting (sym c.heard.phase ∙ takes.start) in
             let quiet : is_parent (level_shown now u.port) ≡ false = heard-unasked i past all k c.node h c.at out_x u.port u.end u.joined u.child in
             let left : is_port (lowest is_remaining now.view.ports) u.port ≡ true = left-parent (raise_timer now) u.port takes.decided (on i past all k c.node h c.at out_x u.port u.end u.joined u.child) quiet in
@@ -397,8 +396,8 @@ module _
         go true e = elim (cases_eq k f) [
           | inl same ↦
               let late : spread ≤ i + 1 = omega (arith, past) in
-              alone-parentless (i + 1) y late (subst (λ j. slice_get (turns_after (i + 1) w).nodes j ≡ Some y) same at) g
-              ∙ sym (ap way same ∙ (up w l node set core comp is_core empty small fresh f alone).1.ups.none)
+              alone-parentless (i + 1) y late (subst (λ j. slice_get (quiet_after hs (i + 1) w).nodes j ≡ Some y) same at) g
+              ∙ sym (ap way same ∙ (up hs w l node set core comp is_core empty small fresh f alone).1.ups.none)
           | inr other ↦ taken e other
         ]
 
@@ -407,7 +406,7 @@ module _
 
     -- and it draws no coin
     undrawn-next : y.state.view.draws ≡ c.node.state.view.draws
-    undrawn-next = ap (λ (z : NodeState). z.view.draws) c.is ∙ calms.draws ∙ (kept-heard (signals (turns_after i w) k) c.node.state (ap is_resetting c.heard.phase)).1
+    undrawn-next = ap (λ (z : NodeState). z.view.draws) c.is ∙ calms.draws ∙ (kept-heard (signals (quiet_after hs i w) k) c.node.state (ap is_resetting c.heard.phase)).1
 
   -- ---- many turns
 
@@ -423,12 +422,12 @@ module _
 
       there : is_resetting x.state.view.phase ≡ true
       there =
-          (all-reset w l node set comp fresh spread (below (length w.nodes) w.delay (some-nodes w set fresh)) (omega (arith, spread-most w l node set comp fresh, l.well_formed.some_delay)) k x h
-          (subst (λ n. slice_get (turns_after n w).nodes k ≡ Some x) z at)).0
+          (all-reset hs w l node set comp fresh spread (below (length w.nodes) w.delay (some-nodes w set fresh)) (omega (arith, spread-most hs w l node set comp fresh, l.well_formed.some_delay)) k x h
+          (subst (λ n. slice_get (quiet_after hs n w).nodes k ≡ Some x) z at)).0
   all-face (suc j) k x h at =
       let z : spread + suc j ≡ spread + j + 1 = omega arith in
       let past : spread ≤ spread + j = omega arith in
-      let q = face-next (spread + j) past (all-face j) k x h (subst (λ n. slice_get (turns_after n w).nodes k ≡ Some x) z at) in
+      let q = face-next (spread + j) past (all-face j) k x h (subst (λ n. slice_get (quiet_after hs n w).nodes k ≡ Some x) z at) in
       record { faces = q.faces; calm = q.calm }
 
   at-all : (i : ℕ) → spread ≤ i → AllFace i
@@ -436,14 +435,14 @@ module _
 
   pub faces-up :
       (i k : ℕ) (x : PortNode) → length w.nodes * w.delay ≤ i → Holds set k →
-      slice_get (turns_after i w).nodes k ≡ Some x → is_before_tree x.state.view.phase ≡ false →
-      x.state.view.parent ≡ (up w l node set core comp is_core empty small fresh f alone).0 k
+      slice_get (quiet_after hs i w).nodes k ≡ Some x → is_before_tree x.state.view.phase ≡ false →
+      x.state.view.parent ≡ (up hs w l node set core comp is_core empty small fresh f alone).0 k
   faces-up i k x past h at g = (at-all i past k x h at).faces g
 
   pub no-draws :
       (i k : ℕ) (x y : PortNode) → length w.nodes * w.delay ≤ i → Holds set k →
-      slice_get (turns_after i w).nodes k ≡ Some x →
-      slice_get (turns_after (i + 1) w).nodes k ≡ Some y → y.state.view.draws ≡ x.state.view.draws
+      slice_get (quiet_after hs i w).nodes k ≡ Some x →
+      slice_get (quiet_after hs (i + 1) w).nodes k ≡ Some y → y.state.view.draws ≡ x.state.view.draws
   no-draws i k x y past h at_x at =
-      let q : Calmly (turns_after i w) k y.state = steadily w l i past k y at in
+      let q : Calmly (quiet_after hs i w) k y.state = steadily hs w l i past k y at in
       undrawn-next i past (at-all i past) k y h at ∙ ap (λ (u : PortNode). u.state.view.draws) (some-same q.node x (sym q.at ∙ at_x))

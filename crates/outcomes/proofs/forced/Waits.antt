@@ -18,16 +18,16 @@ use Rattle.port_state.specs.Machine.{PortNode}
 use Rattle.cabling.specs.NodeSet.{Holds}
 use Rattle.cabling.specs.Component.{IsComponent}
 use Rattle.cable_world.specs.World.{CableWorld}
-use Rattle.cable_world.specs.Turn.{turn, turns_after}
+use Rattle.cable_world.specs.Turn.{turn}
 use Rattle.cable_world.specs.Phases.{is_before_tree, is_after_hold, is_timed}
 use Rattle.cable_world.specs.Lawful.{IsLawful}
 use Rattle.cable_world.specs.Fresh.{IsFresh}
 use Rattle.cable_world.specs.Outcome.{Shows}
-use Rattle.cable_world.proofs.turns.ByNumber.{no-turns, one-more}
 use Rattle.cable_world.proofs.resets.Entries.{in-turn, steady, after-delay}
 use Rattle.cable_world.proofs.Options.{some-of, some-same}
-use Rattle.cable_world.proofs.StaysLawful.{turns-lawful}
 use Rattle.cable_world.proofs.turns.NodeFacts.{risen}
+use Rattle.cable_world.specs.Quiet.{HoldSchedule, quiet_after}
+use Rattle.cable_world.proofs.QuietTurns.{one-quiet, no-quiet, quiet-lawful}
 use Rattle.outcomes.specs.Forced.{waits_due, gap_due}
 use Rattle.convergence.proofs.turns.CalmTurns.{Calmly, signals, heard_by}
 use Rattle.outcomes.proofs.forced.Forced.{SameDue, due-heard, kept-heard, tick-holds, Takes, tick-takes, waits-parentless}
@@ -52,28 +52,28 @@ tree-timed p h = rw h refl
 -- ---- turns after the last entry
 
 module _
-    (w : CableWorld) (l : IsLawful w) (i : ℕ) (late : length w.nodes * w.delay ≤ i) (k : ℕ)
-    (y : PortNode) (at : slice_get (turns_after (i + 1) w).nodes k ≡ Some y) where
+    (hs : HoldSchedule) (w : CableWorld) (l : IsLawful w) (i : ℕ) (late : length w.nodes * w.delay ≤ i) (k : ℕ)
+    (y : PortNode) (at : slice_get (quiet_after hs (i + 1) w).nodes k ≡ Some y) where
   abbrev u : CableWorld
-  u = turns_after i w
+  u = quiet_after hs i w
 
-  m : IsLawful (turns_after i w)
-  m = turns-lawful i w l
+  m : IsLawful (quiet_after hs i w)
+  m = quiet-lawful hs i w l
 
-  at-turn : slice_get (turn (turns_after i w)).nodes k ≡ Some y
-  at-turn = ap (λ (z : CableWorld). slice_get z.nodes k) (sym (one-more i w)) ∙ at
+  at-turn : slice_get (turn (quiet_after hs i w)).nodes k ≡ Some y
+  at-turn = ap (λ (z : CableWorld). slice_get z.nodes k) (sym (one-quiet hs i w)) ∙ at
 
-  t : Turned (turns_after i w) k y
-  t = turned (turns_after i w) (turns-lawful i w l) k y (ap (λ (z : CableWorld). slice_get z.nodes k) (sym (one-more i w)) ∙ at)
+  t : Turned (quiet_after hs i w) k y
+  t = turned (quiet_after hs i w) (quiet-lawful hs i w l) k y (ap (λ (z : CableWorld). slice_get z.nodes k) (sym (one-quiet hs i w)) ∙ at)
 
   -- whoever is out of R0 stays out of it
   out-stays :
-      (x : PortNode) → slice_get (turns_after i w).nodes k ≡ Some x →
+      (x : PortNode) → slice_get (quiet_after hs i w).nodes k ≡ Some x →
       is_resetting x.state.view.phase ≡ false → is_resetting y.state.view.phase ≡ false
-  out-stays x at_x = steady w l i late k x y at_x at
+  out-stays x at_x = steady hs w l i late k x y at_x at
 
   -- so no node hears of a reset
-  pub steadily : Calmly (turns_after i w) k y.state
+  pub steadily : Calmly (quiet_after hs i w) k y.state
   steadily = record {
     node = t.node;
     at = t.at;
@@ -119,16 +119,16 @@ no-port None h = refl
 no-port (Some p) h = absurd (h p (eq-eqb p p refl))
 
 module _
-    (w : CableWorld) (l : IsLawful w) (i : ℕ) (late : length w.nodes * w.delay ≤ i) (k : ℕ)
-    (y : PortNode) (at : slice_get (turns_after (i + 1) w).nodes k ≡ Some y) where
+    (hs : HoldSchedule) (w : CableWorld) (l : IsLawful w) (i : ℕ) (late : length w.nodes * w.delay ≤ i) (k : ℕ)
+    (y : PortNode) (at : slice_get (quiet_after hs (i + 1) w).nodes k ≡ Some y) where
   abbrev v : CableWorld
-  v = turns_after i w
+  v = quiet_after hs i w
 
-  abbrev pub c : Calmly (turns_after i w) k y.state
-  c = steadily w l i late k y at
+  abbrev pub c : Calmly (quiet_after hs i w) k y.state
+  c = steadily hs w l i late k y at
 
   abbrev now : NodeState
-  now = heard_by (turns_after i w) k (steadily w l i late k y at).node
+  now = heard_by (quiet_after hs i w) k (steadily hs w l i late k y at).node
 
   -- a node past T0 gets no parent port
   pub late-parentless :
@@ -144,7 +144,7 @@ module _
     between-next h = elim (c.ticks.between (sym (ap (λ (z : NodeState). is_after_hold z.view.phase) c.is) ∙ h)) [
       | inl was ↦ omega (arith, q.between (sym (ap is_after_hold c.heard.phase) ∙ was))
       | inr left ↦
-          let hold : 64 * w.delay ≤ now.timing.hold = omega (arith, ap (λ (z : Timing). z.hold) c.hears.timing, ((turns-lawful i w l).well_formed.nodes k c.node c.at).timing.hold_least, after-delay w l i) in
+          let hold : 64 * w.delay ≤ now.timing.hold = omega (arith, ap (λ (z : Timing). z.hold) c.hears.timing, ((quiet-lawful hs i w l).well_formed.nodes k c.node c.at).timing.hold_least, after-delay hs w l i) in
           up (64 * w.delay) now.timing.hold now.view.timer i hold left.1 (omega (arith, q.start (sym (ap is_resetting c.heard.phase) ∙ left.0), c.heard.timer))
     ]
       where
@@ -171,7 +171,7 @@ module _
             let takes : Takes now (tick (coin c.node.coins) now).state = tick-takes (coin c.node.coins) now (ap is_before_tree c.heard.phase ∙ e) (sym (ap (λ (z : NodeState). is_before_tree z.view.phase) c.is) ∙ h) in
             let timer : c.node.state.view.timer + 64 * w.delay ≤ i = q.tree (sym c.heard.phase ∙ takes.start) in
             let force : now.timing.force ≡ 256 * w.delay =
-            ap (λ (z : Timing). z.force) c.hears.timing ∙ ((turns-lawful i w l).well_formed.nodes k c.node c.at).timing.force ∙ ap (λ d. 256 * d) (after-delay w l i) in
+            ap (λ (z : Timing). z.force) c.hears.timing ∙ ((quiet-lawful hs i w l).well_formed.nodes k c.node c.at).timing.force ∙ ap (λ d. 256 * d) (after-delay hs w l i) in
             let waits : now.view.force ≡ true = (kept-heard (signals v k) c.node.state (ap is_resetting c.heard.phase)).0 ∙ q.waits in
             ap (λ (z : NodeState). z.view.parent) c.is ∙ takes.parent
             ∙ waits-parentless (raise_timer now) takes.decided waits (low now.view.timer c.node.state.view.timer w.delay i now.timing.force c.heard.timer timer force soon)
@@ -183,10 +183,10 @@ module _
 
     pub waits-on : Waiting w.delay (i + 1) y.state
     waits-on = record {
-      waits = (force-stays w l i late k y at).0 ∙ q.waits;
+      waits = (force-stays hs w l i late k y at).0 ∙ q.waits;
       start = λ h.
           let was : is_resetting c.node.state.view.phase ≡ true = back (is_resetting c.node.state.view.phase) refl h in
-          omega (arith, (in-turn v (turns-lawful i w l) k c.node y c.at (at-turn w l i late k y at)).rises was h, q.start was);
+          omega (arith, (in-turn v (quiet-lawful hs i w l) k c.node y c.at (at-turn hs w l i late k y at)).rises was h, q.start was);
       between = between-next;
       tree = tree-next;
       late = late-next;
@@ -196,58 +196,58 @@ module _
             (b : Bool) → is_resetting c.node.state.view.phase ≡ b →
             is_resetting y.state.view.phase ≡ true → b ≡ true
         back true e h = refl
-        back false e h = absurd (true≢false (sym h ∙ out-stays w l i late k y at c.node c.at e))
+        back false e h = absurd (true≢false (sym h ∙ out-stays hs w l i late k y at c.node c.at e))
 
 -- ---- from a fresh component
 
 module _
-    (w : CableWorld) (l : IsLawful w) (node set : ℕ) (comp : IsComponent w.cabling node set)
+    (hs : HoldSchedule) (w : CableWorld) (l : IsLawful w) (node set : ℕ) (comp : IsComponent w.cabling node set)
     (fresh : IsFresh w set) where
   -- until n d turns are done each node has, or will take over, what it would at the start
   abbrev Due : CableWorld → ℕ → PortNode → Type 0
   Due v k s = (x : PortNode) → slice_get v.nodes k ≡ Some x → SameDue x.state s.state
 
   due-turn :
-      (i k : ℕ) (s : PortNode) → i + 1 < 64 * w.delay → Holds set k → Due (turns_after i w) k s →
-      Due (turn (turns_after i w)) k s
+      (i k : ℕ) (s : PortNode) → i + 1 < 64 * w.delay → Holds set k → Due (quiet_after hs i w) k s →
+      Due (turn (quiet_after hs i w)) k s
   due-turn i k s soon h due y at =
       let f = tick-holds (coin t.node.coins) x in
-      let heard = due-heard (signals (turns_after i w) k) t.node.state in
+      let heard = due-heard (signals (quiet_after hs i w) k) t.node.state in
       let was = due t.node t.at in
       let same = same-due x.view (tick (coin t.node.coins) x).state.view (stays (is_resetting x.view.phase) refl) f.0 f.1 f.2 f.3 in (
         ap (λ (z : NodeState). waits_due z.view) t.is ∙ same.0 ∙ heard.0 ∙ was.0,
         ap (λ (z : NodeState). gap_due z.view) t.is ∙ same.1 ∙ heard.1 ∙ was.1,
       )
     where
-      t : Turned (turns_after i w) k y
-      t = turned (turns_after i w) (turns-lawful i w l) k y at
+      t : Turned (quiet_after hs i w) k y
+      t = turned (quiet_after hs i w) (quiet-lawful hs i w l) k y at
 
       x : NodeState
-      x = heard_by (turns_after i w) k t.node
+      x = heard_by (quiet_after hs i w) k t.node
 
       timer :
-          is_resetting (heard_by (turns_after i w) k t.node).view.phase ≡ true →
-          (heard_by (turns_after i w) k t.node).view.timer ≤ i
+          is_resetting (heard_by (quiet_after hs i w) k t.node).view.phase ≡ true →
+          (heard_by (quiet_after hs i w) k t.node).view.timer ≤ i
       timer r = elim t.hears.cases [
-        | inl s ↦ omega (arith, s.timer, (spreads w l node set comp fresh i (omega (arith, soon))).timers k t.node h t.at (sym (ap is_resetting s.phase) ∙ r))
+        | inl s ↦ omega (arith, s.timer, (spreads hs w l node set comp fresh i (omega (arith, soon))).timers k t.node h t.at (sym (ap is_resetting s.phase) ∙ r))
         | inr s ↦ omega (arith, s.timer)
       ]
 
       stays :
-          (c : Bool) → is_resetting (heard_by (turns_after i w) k t.node).view.phase ≡ c →
-          is_resetting (tick (coin t.node.coins) (heard_by (turns_after i w) k t.node)).state.view.phase
+          (c : Bool) → is_resetting (heard_by (quiet_after hs i w) k t.node).view.phase ≡ c →
+          is_resetting (tick (coin t.node.coins) (heard_by (quiet_after hs i w) k t.node)).state.view.phase
           ≡ c
       stays false e = t.ticks.out e
       stays true e = (t.ticks.holds e (omega (arith, timer e, hold-least, soon)) hold-most).0
         where
-          fits : InRange (turns_after i w).delay t.node.state.timing
-          fits = ((turns-lawful i w l).well_formed.nodes k t.node t.at).timing
+          fits : InRange (quiet_after hs i w).delay t.node.state.timing
+          fits = ((quiet-lawful hs i w l).well_formed.nodes k t.node t.at).timing
 
-          hold-least : 64 * w.delay ≤ (heard_by (turns_after i w) k t.node).timing.hold
-          hold-least = omega (arith, ap (λ (z : Timing). z.hold) t.hears.timing, fits.hold_least, after-delay w l i)
+          hold-least : 64 * w.delay ≤ (heard_by (quiet_after hs i w) k t.node).timing.hold
+          hold-least = omega (arith, ap (λ (z : Timing). z.hold) t.hears.timing, fits.hold_least, after-delay hs w l i)
 
-          hold-most : (heard_by (turns_after i w) k t.node).timing.hold ≤ 65535
-          hold-most = omega (arith, ap (λ (z : Timing). z.hold) t.hears.timing, fits.hold_most, after-delay w l i, l.well_formed.short_delay)
+          hold-most : (heard_by (quiet_after hs i w) k t.node).timing.hold ≤ 65535
+          hold-most = omega (arith, ap (λ (z : Timing). z.hold) t.hears.timing, fits.hold_most, after-delay hs w l i, l.well_formed.short_delay)
 
       same-due :
           (x y : View) → is_resetting y.phase ≡ is_resetting x.phase → y.force ≡ x.force →
@@ -257,11 +257,11 @@ module _
 
   dues :
       (i k : ℕ) (s : PortNode) → i < 64 * w.delay → Holds set k → slice_get w.nodes k ≡ Some s →
-      Due (turns_after i w) k s
-  dues zero k s soon h at_s = subst (λ v. Due v k s) (sym (no-turns w)) (λ x at. let same : s ≡ x = some-same s x (sym at_s ∙ at) in (ap (λ (z : PortNode). waits_due z.state.view) (sym same), ap (λ (z : PortNode). gap_due z.state.view) (sym same)))
+      Due (quiet_after hs i w) k s
+  dues zero k s soon h at_s = subst (λ v. Due v k s) (sym (no-quiet hs w)) (λ x at. let same : s ≡ x = some-same s x (sym at_s ∙ at) in (ap (λ (z : PortNode). waits_due z.state.view) (sym same), ap (λ (z : PortNode). gap_due z.state.view) (sym same)))
   dues (suc i) k s soon h at_s =
-      subst (λ n. Due (turns_after n w) k s) (add-one i)
-      (subst (λ v. Due v k s) (sym (one-more i w)) (due-turn i k s (omega (arith, soon)) h (dues i k s (omega (arith, soon)) h at_s)))
+      subst (λ n. Due (quiet_after hs n w) k s) (add-one i)
+      (subst (λ v. Due v k s) (sym (one-quiet hs i w)) (due-turn i k s (omega (arith, soon)) h (dues i k s (omega (arith, soon)) h at_s)))
 
   -- ---- from n d turns on
 
@@ -295,10 +295,10 @@ module _
   -- (the first node is the one at the start)
   spread-due :
       (k : ℕ) (s x : PortNode) → Holds set k → slice_get w.nodes k ≡ Some s →
-      slice_get (turns_after spread w).nodes k ≡ Some x →
+      slice_get (quiet_after hs spread w).nodes k ≡ Some x →
       (x.state.view.force ≡ waits_due s.state.view) × (x.state.view.gap ≡ gap_due s.state.view)
   spread-due k s x h at_s at =
-      let there = (all-reset w l node set comp fresh spread spread-after in-time k x h at).0 in
+      let there = (all-reset hs w l node set comp fresh spread spread-after in-time k x h at).0 in
       let due = dues spread k s in-time h at_s x at in (
         ap (λ c. if c then x.state.view.force else x.state.view.next_force) (sym there) ∙ due.0,
         ap (λ c. if c then x.state.view.gap else x.state.view.next_gap) (sym there) ∙ due.1,
@@ -307,36 +307,36 @@ module _
   -- they have it from then on
   pub taken-over :
       (j k : ℕ) (s x : PortNode) → Holds set k → slice_get w.nodes k ≡ Some s →
-      slice_get (turns_after (spread + j) w).nodes k ≡ Some x →
+      slice_get (quiet_after hs (spread + j) w).nodes k ≡ Some x →
       (x.state.view.force ≡ waits_due s.state.view) × (x.state.view.gap ≡ gap_due s.state.view)
-  taken-over zero k s x h at_s at = let z : spread + 0 ≡ spread = omega arith in spread-due k s x h at_s (subst (λ n. slice_get (turns_after n w).nodes k ≡ Some x) z at)
+  taken-over zero k s x h at_s at = let z : spread + 0 ≡ spread = omega arith in spread-due k s x h at_s (subst (λ n. slice_get (quiet_after hs n w).nodes k ≡ Some x) z at)
   taken-over (suc j) k s x h at_s at =
       let z : spread + suc j ≡ spread + j + 1 = omega arith in
       let late : spread ≤ spread + j = omega arith in
-      let there : slice_get (turns_after (spread + j + 1) w).nodes k ≡ Some x = subst (λ n. slice_get (turns_after n w).nodes k ≡ Some x) z at in
-      let q : Calmly (turns_after (spread + j) w) k x.state = steadily w l (spread + j) late k x there in
-      let now = force-stays w l (spread + j) late k x there in
+      let there : slice_get (quiet_after hs (spread + j + 1) w).nodes k ≡ Some x = subst (λ n. slice_get (quiet_after hs n w).nodes k ≡ Some x) z at in
+      let q : Calmly (quiet_after hs (spread + j) w) k x.state = steadily hs w l (spread + j) late k x there in
+      let now = force-stays hs w l (spread + j) late k x there in
       let was = taken-over j k s q.node h at_s q.at in
       (now.0 ∙ was.0, now.1 ∙ was.1)
 
   pub taken-by :
       (j k : ℕ) (s x : PortNode) → spread ≤ j → Holds set k → slice_get w.nodes k ≡ Some s →
-      slice_get (turns_after j w).nodes k ≡ Some x →
+      slice_get (quiet_after hs j w).nodes k ≡ Some x →
       (x.state.view.force ≡ waits_due s.state.view) × (x.state.view.gap ≡ gap_due s.state.view)
   taken-by j k s x late h at_s at =
       let z : j ≡ spread + (j - spread) = omega (arith, late) in
-      taken-over (j - spread) k s x h at_s (subst (λ n. slice_get (turns_after n w).nodes k ≡ Some x) z at)
+      taken-over (j - spread) k s x h at_s (subst (λ n. slice_get (quiet_after hs n w).nodes k ≡ Some x) z at)
 
   pub forces :
       (j k : ℕ) (b : Bool) (x : PortNode) → Holds set k → Shows w k (λ v. waits_due v ≡ b) →
-      slice_get (turns_after (spread + j) w).nodes k ≡ Some x → x.state.view.force ≡ b
+      slice_get (quiet_after hs (spread + j) w).nodes k ≡ Some x → x.state.view.force ≡ b
   forces j k b x h due at = let s = some-of (slice_get w.nodes k) _ due in (taken-over j k s.0 x h s.1 at).0 ∙ s.2
 
   -- so a node that waits takes no parent port in 320 d turns
   pub waiting :
       (j k : ℕ) (x : PortNode) → spread + j < 320 * w.delay → Holds set k →
       Shows w k (λ v. waits_due v ≡ true) →
-      slice_get (turns_after (spread + j) w).nodes k ≡ Some x → Waiting w.delay (spread + j) x.state
+      slice_get (quiet_after hs (spread + j) w).nodes k ≡ Some x → Waiting w.delay (spread + j) x.state
   waiting zero k x soon h due at = record {
     waits = forces 0 k true x h due at;
     start = λ r. omega (arith, there.1);
@@ -349,11 +349,11 @@ module _
       z = omega arith
 
       there : (is_resetting x.state.view.phase ≡ true) × (x.state.view.timer ≤ spread)
-      there = all-reset w l node set comp fresh spread spread-after in-time k x h (subst (λ n. slice_get (turns_after n w).nodes k ≡ Some x) z at)
+      there = all-reset hs w l node set comp fresh spread spread-after in-time k x h (subst (λ n. slice_get (quiet_after hs n w).nodes k ≡ Some x) z at)
   waiting (suc j) k x soon h due at =
       let z : spread + suc j ≡ spread + j + 1 = omega arith in
       let late : spread ≤ spread + j = omega arith in
-      let there : slice_get (turns_after (spread + j + 1) w).nodes k ≡ Some x = subst (λ n. slice_get (turns_after n w).nodes k ≡ Some x) z at in
-      let q : Calmly (turns_after (spread + j) w) k x.state = steadily w l (spread + j) late k x there in
+      let there : slice_get (quiet_after hs (spread + j + 1) w).nodes k ≡ Some x = subst (λ n. slice_get (quiet_after hs n w).nodes k ≡ Some x) z at in
+      let q : Calmly (quiet_after hs (spread + j) w) k x.state = steadily hs w l (spread + j) late k x there in
       subst (λ n. Waiting w.delay n x.state) (sym z)
-      (waits-on w l (spread + j) late k x there (waiting j k q.node (omega (arith, soon)) h due q.at) (omega (arith, soon)))
+      (waits-on hs w l (spread + j) late k x there (waiting j k q.node (omega (arith, soon)) h due q.at) (omega (arith, soon)))

@@ -2,9 +2,10 @@
 use Rattle.std.proofs.Common.{ℕ}
 use Rattle.cable_world.specs.World.{CableWorld}
 use Rattle.cable_world.specs.Run.{IsReached}
-use Rattle.cable_world.specs.Turn.{turns_after}
 use Rattle.cable_world.specs.Lawful.{IsLawful}
-use Rattle.convergence.proofs.turns.AlongRuns.{IsKept, kept-reached, kept-turns}
+use Rattle.cable_world.specs.Quiet.{HoldSchedule, quiet_after}
+use Rattle.convergence.proofs.turns.AlongRuns.{kept-quiet}
+use Rattle.convergence.proofs.turns.AlongRuns.{IsKept, kept-reached}
 use Rattle.outcomes.specs.Identify.{IsIdentifying}
 use Rattle.outcomes.proofs.identify.IdentifyingTurn.{turn-identifying}
 use Rattle.outcomes.proofs.identify.IdentifyingActs.{act-identifying, hold-identifying, power-on-identifying}
@@ -20,6 +21,7 @@ identifying-kept = record {
 pub reached-identifying : (w : CableWorld) → IsReached w → IsIdentifying w
 reached-identifying = kept-reached IsIdentifying identifying-kept
 
-pub turns-identifying :
-    (k : ℕ) (w : CableWorld) → IsLawful w → IsIdentifying w → IsIdentifying (turns_after k w)
-turns-identifying = kept-turns IsIdentifying identifying-kept
+pub quiet-identifying :
+    (hs : HoldSchedule) (k : ℕ) (w : CableWorld) → IsLawful w → IsIdentifying w →
+    IsIdentifying (quiet_after hs k w)
+quiet-identifying = kept-quiet IsIdentifying identifying-kept

@@ -31,22 +31,22 @@ use Rattle.port_state.specs.Tick.{raise_timer, row_of, does, tick}
 use Rattle.port_state.proofs.Shown.{shown-is_node}
 use Rattle.cable_world.specs.Wire.{age_wire, gives}
 use Rattle.cable_world.specs.World.{CableWorld, wire_of}
-use Rattle.cable_world.specs.Turn.{inbox, turn, turns_after, hear_all}
+use Rattle.cable_world.specs.Turn.{inbox, turn, hear_all}
 use Rattle.cable_world.specs.Run.{IsReached}
 use Rattle.cable_world.specs.Signals.{signals_of}
 use Rattle.cable_world.specs.Lawful.{IsLawful}
 use Rattle.cable_world.specs.Outcome.{IsTree}
-use Rattle.cable_world.proofs.turns.ByNumber.{one-more}
 use Rattle.cable_world.proofs.coupling.CouplingInTurns.{before}
 use Rattle.cable_world.proofs.turns.HearsWell.{hear-stays}
 use Rattle.convergence.proofs.turns.Cables.{joined-of}
 use Rattle.cable_world.proofs.tables.CableEnds.{port-there}
-use Rattle.cable_world.proofs.StaysLawful.{turn-lawful, turns-lawful, reached-lawful}
+use Rattle.cable_world.proofs.StaysLawful.{turn-lawful, reached-lawful}
 use Rattle.cable_world.proofs.turns.TurnParts.{turn-state, comes}
 use Rattle.convergence.specs.Acyclic.{IsAcyclic}
 use Rattle.convergence.specs.Milestones.{ResetsAreOverIn, AreIdentifying}
 use Rattle.outcomes.specs.NodeMarks.{is_ready, is_asked, is_named}
 use Rattle.outcomes.specs.Messages.{is_message, silent, quads_in, has_grant, has_done, kept, parent_mode, child_mode}
+use Rattle.outcomes.proofs.numbers.HoldRests.{holds-settle, holds-rest}
 use Rattle.outcomes.proofs.identify.OneMessage.{no-grant, no-done, child-grants-none, parent-says-none}
 use Rattle.outcomes.proofs.identify.Ports.{child-role}
 use Rattle.outcomes.specs.Identify.{IsIdentifying}
@@ -62,9 +62,11 @@ use Rattle.outcomes.proofs.roots.Named.{named-tree}
 use Rattle.outcomes.proofs.numbers.NumberedTurn.{still-there, nothing-comes, heard-so, stayed}
 use Rattle.outcomes.proofs.roots.RootWalk.{node-at}
 use Rattle.outcomes.proofs.numbers.Settling.{Up, climbs, settles-on}
-use Rattle.convergence.proofs.ranks.StaysAcyclic.{reached-acyclic, turns-acyclic}
-use Rattle.outcomes.proofs.identify.StaysIdentifying.{reached-identifying, turns-identifying}
+use Rattle.convergence.proofs.ranks.StaysAcyclic.{reached-acyclic, quiet-acyclic}
+use Rattle.outcomes.proofs.identify.StaysIdentifying.{reached-identifying, quiet-identifying}
 use Rattle.cable_world.proofs.running.Lists.{no-packets}
+use Rattle.cable_world.specs.Quiet.{HoldSchedule, with_holds, quiet_after}
+use Rattle.cable_world.proofs.QuietTurns.{one-quiet, quiet-lawful}
 
 -- ---- the room for a group
 
@@ -359,40 +361,44 @@ module _
   pub rests-on : IsAtRest (turn w) set
   rests-on = rests-where (turn w) v-lawful v-identifying set v-settles.component.closed v-settles.all (emits t) ready-after list-after
 
--- ---- turns of a reached world
+-- ---- quiet turns of a reached world
 
 module _
-    (w : CableWorld) (r : IsReached w) (k : ℕ) (late : length w.nodes * w.delay ≤ k)
+    (hs : HoldSchedule) (w : CableWorld) (r : IsReached w) (k : ℕ) (late : length w.nodes * w.delay ≤ k)
     (set core root : ℕ) (t : Tree) where
   abbrev pub at-turn : ℕ → CableWorld
-  at-turn j = turns_after (k + j) w
+  at-turn j = quiet_after hs (k + j) w
 
   pub lawful-then : (j : ℕ) → IsLawful (at-turn j)
-  lawful-then j = turns-lawful (k + j) w (reached-lawful w r)
+  lawful-then j = quiet-lawful hs (k + j) w (reached-lawful w r)
 
   pub acyclic-then : (j : ℕ) → IsAcyclic (at-turn j)
-  acyclic-then j = turns-acyclic (k + j) w (reached-lawful w r) (reached-acyclic w r)
+  acyclic-then j = quiet-acyclic hs (k + j) w (reached-lawful w r) (reached-acyclic w r)
 
   pub identifying-then : (j : ℕ) → IsIdentifying (at-turn j)
-  identifying-then j = turns-identifying (k + j) w (reached-lawful w r) (reached-identifying w r)
+  identifying-then j = quiet-identifying hs (k + j) w (reached-lawful w r) (reached-identifying w r)
 
-  pub next-turn : (j : ℕ) → turn (at-turn j) ≡ at-turn (suc j)
-  next-turn j = sym (one-more (k + j) w) ∙ ap (λ (n : ℕ). turns_after n w) (let e : k + j + 1 ≡ k + suc j = omega arith in e)
+  pub next-turn : (j : ℕ) → with_holds (hs (k + j + 1)) (turn (at-turn j)) ≡ at-turn (suc j)
+  next-turn j = sym (one-quiet hs (k + j) w) ∙ ap (λ (n : ℕ). quiet_after hs n w) (let e : k + j + 1 ≡ k + suc j = omega arith in e)
 
   -- it goes on, and at rest it stays so
   pub settles-always :
-      IsSettling (turns_after k w) set core root t → (j : ℕ) → IsSettling (at-turn j)
+      IsSettling (quiet_after hs k w) set core root t → (j : ℕ) → IsSettling (at-turn j)
       set core root t
-  settles-always s zero = subst (λ (n : ℕ). IsSettling (turns_after n w) set core root t) (let e : k ≡ k + 0 = omega arith in e) s
-  settles-always s (suc j) = subst (λ (v : CableWorld). IsSettling v set core root t) (next-turn j) (settles-on (at-turn j) (lawful-then j) (acyclic-then j) (identifying-then j) set core root t (settles-always s j))
+  settles-always s zero = subst (λ (n : ℕ). IsSettling (quiet_after hs n w) set core root t) (let e : k ≡ k + 0 = omega arith in e) s
+  settles-always s (suc j) = subst (λ (v : CableWorld). IsSettling v set core root t) (next-turn j)
+      (holds-settle (hs (k + j + 1)) (turn (at-turn j)) (turn-lawful (at-turn j) (lawful-then j)) set core root t
+      (settles-on (at-turn j) (lawful-then j) (acyclic-then j) (identifying-then j) set core root t (settles-always s j)))
 
   pub rests-always :
-      (s : IsSettling (turns_after k w) set core root t) → IsAtRest (turns_after k w) set → (j : ℕ)
+      (s : IsSettling (quiet_after hs k w) set core root t) → IsAtRest (quiet_after hs k w) set → (j : ℕ)
       → IsAtRest (at-turn j) set
-  rests-always s q zero = subst (λ (n : ℕ). IsAtRest (turns_after n w) set) (let e : k ≡ k + 0 = omega arith in e) q
-  rests-always s q (suc j) = subst (λ (v : CableWorld). IsAtRest v set) (next-turn j) (rests-on (at-turn j) (lawful-then j) (acyclic-then j) (identifying-then j) set core root t (settles-always s j) (rests-always s q j))
+  rests-always s q zero = subst (λ (n : ℕ). IsAtRest (quiet_after hs n w) set) (let e : k ≡ k + 0 = omega arith in e) q
+  rests-always s q (suc j) = subst (λ (v : CableWorld). IsAtRest v set) (next-turn j)
+      (holds-rest (hs (k + j + 1)) (turn (at-turn j)) (turn-lawful (at-turn j) (lawful-then j)) set
+      (rests-on (at-turn j) (lawful-then j) (acyclic-then j) (identifying-then j) set core root t (settles-always s j) (rests-always s q j)))
 
   pub stays-tree :
-      IsSettling (turns_after k w) set core root t → IsAtRest (turns_after k w) set → (j : ℕ) →
+      IsSettling (quiet_after hs k w) set core root t → IsAtRest (quiet_after hs k w) set → (j : ℕ) →
       IsTree (at-turn j) set root t
   stays-tree s q j = rest-tree (at-turn j) (lawful-then j) (acyclic-then j) (identifying-then j) set core root t (settles-always s j) (rests-always s q j)

@@ -8,6 +8,8 @@ use Rattle.cable_world.specs.Signals.{signals_of}
 use Rattle.cable_world.specs.Lawful.{IsLawful}
 use Rattle.cable_world.specs.declared.wire.Travelling.{Travelling}
 use Rattle.cable_world.specs.World.{CableWorld, wire_of}
+use Rattle.cable_world.specs.Quiet.{PlacedHold, with_holds}
+use Rattle.cable_world.proofs.QuietTurns.{holds-kept}
 use Rattle.cable_world.proofs.acts.Happenings.{hold-signals}
 use Rattle.convergence.specs.Acyclic.{IsChildCable}
 use Rattle.outcomes.specs.Messages.{silent, quads_in, has_grant, has_done}
@@ -70,3 +72,14 @@ module _
 
   pub hold-rests : (set : ℕ) → IsAtRest w set → IsAtRest (hold end turns w) set
   hold-rests set q = record { ready = q.ready; silent = λ a b h e. ap (λ (ts : List Travelling). silent (signals_of ts)) (same a) ∙ q.silent a b h e }
+
+-- so do holds, one after the other
+module _ (holds : List PlacedHold) (w : CableWorld) (l : IsLawful w) where
+  pub holds-settle :
+      (set core root : ℕ) (t : Tree) → IsSettling w set core root t →
+      IsSettling (with_holds holds w) set core root t
+  holds-settle set core root t =
+      holds-kept (λ v. IsSettling v set core root t) (λ end turns v none m. hold-settles end turns v none m set core root t) holds w l
+
+  pub holds-rest : (set : ℕ) → IsAtRest w set → IsAtRest (with_holds holds w) set
+  holds-rest set = holds-kept (λ v. IsAtRest v set) (λ end turns v none m. hold-rests end turns v none m set) holds w l

@@ -16,7 +16,7 @@ use Rattle.cable_world.specs.Wire.{Wire}
 use Rattle.cable_world.specs.declared.wire.Travelling.{Travelling}
 use Rattle.cable_world.specs.World.{CableWorld, wire_of}
 use Rattle.cable_world.specs.Run.{IsReached}
-use Rattle.cable_world.specs.Turn.{turn_at, turn, turns_after}
+use Rattle.cable_world.specs.Turn.{turn_at, turn}
 use Rattle.cable_world.specs.Signals.{signals_of}
 use Rattle.cable_world.specs.Lawful.{IsLawful}
 use Rattle.cable_world.proofs.turns.ByNumber.{cabling-after, node-after}
@@ -40,11 +40,13 @@ use Rattle.outcomes.proofs.identify.Ports.{child-role}
 use Rattle.port_state.specs.Ports.{is_port}
 use Rattle.std.proofs.lemmas.Bool.{eq-eqb}
 use Rattle.cable_world.proofs.resets.Entries.{after-delay}
-use Rattle.cable_world.proofs.StaysLawful.{reached-lawful}
+use Rattle.cable_world.proofs.StaysLawful.{reached-lawful, turn-lawful}
 use Rattle.outcomes.proofs.numbers.NumberedTurn.{stayed}
 use Rattle.outcomes.proofs.numbers.Progress.{node-rises, Old, old-grant, old-done, grant-old, done-old, none-older, moves, turn-used}
 use Rattle.outcomes.proofs.numbers.Settling.{Up, up-or-root, climbs}
 use Rattle.cable_world.proofs.coupling.RolesFollow.{port-is}
+use Rattle.cable_world.specs.Quiet.{PlacedHold, HoldSchedule, with_holds, quiet_after}
+use Rattle.cable_world.proofs.QuietTurns.{holds-signals}
 
 -- ---- counts
 
@@ -231,6 +233,12 @@ module _
       go true e = refl
       go false e = absurd (true≢false (sym r ∙ climbs w l acyclic i set root s.component s.inside s.is_root s.all (λ j y. is_ready y.state.view.phase ≡ false) above (acyclic.most - acyclic.rank k) k x (omega arith) h at e))
 
+-- holds change nothing of it
+gains-held :
+    (holds : List PlacedHold) (w v : CableWorld) (k : ℕ) → Gains w v k →
+    Gains w (with_holds holds v) k
+gains-held holds w v k g = record { granted = g.granted; ready = g.ready; asked = g.asked; named = g.named }
+
 -- ---- turn by turn
 
 both-not : (a g : Bool) → (a && not g) ≡ false → a ≡ true → g ≡ true
@@ -253,25 +261,29 @@ link-end v l a b n f =
     ∙ ap (of-end f v) (l.well_formed.cabling.both_ways a b n.joined) ∙ ap (of-node (λ x. f x a.port)) n.above_at
 
 module _
-    (w : CableWorld) (r : IsReached w) (k : ℕ) (late : length w.nodes * w.delay ≤ k)
-    (set core root : ℕ) (t : Tree) (s0 : IsSettling (turns_after k w) set core root t) where
+    (hs : HoldSchedule) (w : CableWorld) (r : IsReached w) (k : ℕ) (late : length w.nodes * w.delay ≤ k)
+    (set core root : ℕ) (t : Tree) (s0 : IsSettling (quiet_after hs k w) set core root t) where
   abbrev pub W : ℕ → CableWorld
-  W j = turns_after (k + j) w
+  W j = quiet_after hs (k + j) w
 
   pub S : (j : ℕ) → IsSettling (W j) set core root t
-  S j = settles-always w r k late set core root t s0 j
+  S j = settles-always hs w r k late set core root t s0 j
 
   pub L : (j : ℕ) → IsLawful (W j)
-  L j = lawful-then w r k late set core root t j
+  L j = lawful-then hs w r k late set core root t j
 
   pub A : (j : ℕ) → IsAcyclic (W j)
-  A j = acyclic-then w r k late set core root t j
+  A j = acyclic-then hs w r k late set core root t j
 
   pub I : (j : ℕ) → IsIdentifying (W j)
-  I j = identifying-then w r k late set core root t j
+  I j = identifying-then hs w r k late set core root t j
 
-  pub next : (j : ℕ) → turn (W j) ≡ W (suc j)
-  next j = next-turn w r k late set core root t j
+  pub next : (j : ℕ) → with_holds (hs (k + j + 1)) (turn (W j)) ≡ W (suc j)
+  next j = next-turn hs w r k late set core root t j
+
+  -- what is under way doesn't change in holds
+  pub wire-next : (j : ℕ) (a : End) → (wire_of (W (suc j)) a).signals ≡ (wire_of (turn (W j)) a).signals
+  wire-next j a = ap (λ (v : CableWorld). (wire_of v a).signals) (sym (next j)) ∙ holds-signals (hs (k + j + 1)) (turn (W j)) a (turn-lawful (W j) (L j))
 
   pub node-of : (j q : ℕ) → Holds set q → (x : PortNode) × (slice_get (W j).nodes q ≡ Some x)
   node-of j q h = there (W j) (L j) (A j) (I j) set core root t (S j) q h
@@ -280,7 +292,8 @@ module _
   gains-on j zero q h = let e : j ≡ j + 0 = omega arith in subst (λ (n : ℕ). Gains (W j) (W n) q) e (same-gains (W j) q)
   gains-on j (suc m) q h =
       let e : suc (j + m) ≡ j + suc m = omega arith in
-      subst (λ (n : ℕ). Gains (W j) (W n) q) e (gains-more (W j) (W (j + m)) (W (suc (j + m))) q (gains-on j m q h) (subst (λ (v : CableWorld). Gains (W (j + m)) v q) (next (j + m)) (turn-gains (W (j + m)) (L (j + m)) (A (j + m)) (I (j + m)) set core root t (S (j + m)) q h)))
+      subst (λ (n : ℕ). Gains (W j) (W n) q) e (gains-more (W j) (W (j + m)) (W (suc (j + m))) q (gains-on j m q h) (subst (λ (v : CableWorld). Gains (W (j + m)) v q) (next (j + m))
+      (gains-held (hs (k + (j + m) + 1)) (W (j + m)) (turn (W (j + m))) q (turn-gains (W (j + m)) (L (j + m)) (A (j + m)) (I (j + m)) set core root t (S (j + m)) q h))))
 
   pub wires-on : (j m : ℕ) → (W (j + m)).cabling ≡ (W j).cabling
   wires-on j zero = let e : j + 0 ≡ j = omega arith in ap (λ (n : ℕ). (W n).cabling) e
@@ -330,16 +343,16 @@ module _
   travels test is j a b h e old (suc n) = elim (travels test is j a b h e old n) [
     | inr m ↦ inr (m.0, omega (arith, m.1), m.2)
     | inl o ↦ elim (moves (W (j + n)) (L (j + n)) (I (j + n)) set core root t (S (j + n)) test is a b n h (ap (λ (d : Wiring). far d a) (wires-on j n) ∙ e) o) [
-      | inl p ↦ inl (subst (λ (i : ℕ). Old test i (wire_of (W (j + suc n)) a).signals) one (subst (λ (v : CableWorld). Old test (n + 1) (wire_of v a).signals) world p))
-      | inr p ↦ inr (suc n, omega arith, subst (λ (v : CableWorld). silent (signals_of (wire_of v a).signals) ≡ true) world p)
+      | inl p ↦ inl (subst (λ (i : ℕ). Old test i (wire_of (W (j + suc n)) a).signals) one (subst (Old test (n + 1)) (sym now) p))
+      | inr p ↦ inr (suc n, omega arith, subst (λ (ts : List Travelling). silent (signals_of ts) ≡ true) (sym now) p)
     ]
   ]
     where
       one : n + 1 ≡ suc n
       one = omega arith
 
-      world : turn (W (j + n)) ≡ W (j + suc n)
-      world = next (j + n) ∙ ap W (let e : suc (j + n) ≡ j + suc n = omega arith in e)
+      now : (wire_of (W (j + suc n)) a).signals ≡ (wire_of (turn (W (j + n))) a).signals
+      now = ap (λ (i : ℕ). (wire_of (W i) a).signals) (let e : j + suc n ≡ suc (j + n) = omega arith in e) ∙ wire-next (j + n) a
 
   comes-by :
       (test : Signal → Bool) →
@@ -350,7 +363,7 @@ module _
   comes-by test is j a b h e old = elim (travels test is j a b h e old w.delay) [
     | inr m ↦ m
     | inl o ↦ absurd (none-older test ((W (j + w.delay)).delay - 1) w.delay (wire_of (W (j + w.delay)) a).signals
-        (omega (arith, after-delay w (reached-lawful w r) (k + (j + w.delay)), (reached-lawful w r).well_formed.some_delay)) ((L (j + w.delay)).well_formed.ages a) o)
+        (omega (arith, after-delay hs w (reached-lawful w r) (k + (j + w.delay)), (reached-lawful w r).well_formed.some_delay)) ((L (j + w.delay)).well_formed.ages a) o)
   ]
 
   -- ---- and so the count rises
@@ -405,7 +418,7 @@ module _
       let x : PortNode = turn-of.is in
       let z : PortNode = (turn_at (W j) q x).node in
       let at_z : slice_get (turn (W j)).nodes q ≡ Some z = node-after (W j) q x (L j).well_formed.count turn-of.at in
-      let world : turn (W j) ≡ W (j + 1) = next j ∙ ap W (let e : suc j ≡ j + 1 = omega arith in e) in
+      let world : with_holds (hs (k + j + 1)) (turn (W j)) ≡ W (j + 1) = next j ∙ ap W (let e : suc j ≡ j + 1 = omega arith in e) in
       let at_1 : slice_get (W (j + 1)).nodes q ≡ Some z = sym (ap (λ (v : CableWorld). slice_get v.nodes q) world) ∙ at_z in
       let unready : is_ready x.state.view.phase ≡ false = ap is_ready turn-of.identifies in
       let d : 1 ≤ w.delay = (reached-lawful w r).well_formed.some_delay in
@@ -479,12 +492,12 @@ module _
   -- ---- until all nodes are in A0
 
   abbrev order : List ℕ
-  order = numbers (turns_after k w).cabling root t
+  order = numbers (quiet_after hs k w).cabling root t
 
-  member : (i q : ℕ) → slice_get (numbers (turns_after k w).cabling root t) i ≡ Some q → Holds set q
+  member : (i q : ℕ) → slice_get (numbers (quiet_after hs k w).cabling root t) i ≡ Some q → Holds set q
   member i q e =
-      let c = s0.walk.marked.covers i (slice_get_within (numbers (turns_after k w).cabling root t) i q e) in
-      let at : slice_get (numbers (turns_after k w).cabling root t) i ≡ Some c.0 = subst (λ (n : ℕ). slice_get (numbers (turns_after k w).cabling root t) n ≡ Some c.0) c.2 (s0.walk.marked.at c.0 c.1) in
+      let c = s0.walk.marked.covers i (slice_get_within (numbers (quiet_after hs k w).cabling root t) i q e) in
+      let at : slice_get (numbers (quiet_after hs k w).cabling root t) i ≡ Some c.0 = subst (λ (n : ℕ). slice_get (numbers (quiet_after hs k w).cabling root t) n ≡ Some c.0) c.2 (s0.walk.marked.at c.0 c.1) in
       let same : c.0 ≡ q = some-same c.0 q (sym at ∙ e) in
       subst (Holds set) same c.1
 
@@ -492,7 +505,7 @@ module _
       (j : ℕ) (p : Rising j) → sum-over (stage (W j)) order + 1 ≤ sum-over (stage (W (j + p.turns)))
       order
   total-rises j p =
-      sum-strict (stage (W j)) (stage (W (j + p.turns))) order (place_now (turns_after k w) root t p.node) p.node
+      sum-strict (stage (W j)) (stage (W (j + p.turns))) order (place_now (quiet_after hs k w) root t p.node) p.node
       (λ i q e. stage-rises (W j) (W (j + p.turns)) q (gains-on j p.turns q (member i q e))) (s0.walk.marked.at p.node p.inside)
       (stage-strict (W j) (W (j + p.turns)) p.node (gains-on j p.turns p.node p.inside) p.news)
 
@@ -501,9 +514,9 @@ module _
   ReadyAt j = (q : ℕ) (x : PortNode) → Holds set q → slice_get (W j).nodes q ≡ Some x → is_ready x.state.view.phase ≡ true
 
   pub readies :
-      (n j : ℕ) → 4 * length (numbers (turns_after k w).cabling root t) < sum-over (stage (W j))
-      (numbers (turns_after k w).cabling root t) + n → (m : ℕ) × (m ≤ n * w.delay) × ReadyAt (j + m)
-  readies zero j h = absurd (omega (arith, h, sum-most (stage (W j)) 4 (numbers (turns_after k w).cabling root t) (λ q. stage-most (W j) q)))
+      (n j : ℕ) → 4 * length (numbers (quiet_after hs k w).cabling root t) < sum-over (stage (W j))
+      (numbers (quiet_after hs k w).cabling root t) + n → (m : ℕ) × (m ≤ n * w.delay) × ReadyAt (j + m)
+  readies zero j h = absurd (omega (arith, h, sum-most (stage (W j)) 4 (numbers (quiet_after hs k w).cabling root t) (λ q. stage-most (W j) q)))
   readies (suc n) j h = go (is_ready (S j).is_root.node.state.view.phase) refl (readies n)
     where
       more : suc n * w.delay ≡ w.delay + n * w.delay
@@ -511,7 +524,7 @@ module _
 
       go :
           (b : Bool) → is_ready (S j).is_root.node.state.view.phase ≡ b →
-          ((i : ℕ) → 4 * length (numbers (turns_after k w).cabling root t) < sum-over (stage (W i)) (numbers (turns_after k w).cabling root t) + n → (m : ℕ) × (m ≤ n * w.delay) × ReadyAt (i + m))
+          ((i : ℕ) → 4 * length (numbers (quiet_after hs k w).cabling root t) < sum-over (stage (W i)) (numbers (quiet_after hs k w).cabling root t) + n → (m : ℕ) × (m ≤ n * w.delay) × ReadyAt (i + m))
           → (m : ℕ) × (m ≤ suc n * w.delay) × ReadyAt (j + m)
       go true e rest = let z : j ≡ j + 0 = omega arith in (0, omega arith, subst ReadyAt z (all-ready (W j) (L j) (A j) (I j) set core root t (S j) e))
       go false e rest =
@@ -521,9 +534,9 @@ module _
           (p.turns + u.0, omega (arith, more, p.within, u.1), subst ReadyAt z u.2)
 
   pub ready-soon :
-      (m : ℕ) × (m ≤ (4 * length (numbers (turns_after k w).cabling root t) + 1) * w.delay)
+      (m : ℕ) × (m ≤ (4 * length (numbers (quiet_after hs k w).cabling root t) + 1) * w.delay)
       × ReadyAt m
   ready-soon =
-      let u = readies (4 * length (numbers (turns_after k w).cabling root t) + 1) 0 (omega arith) in
+      let u = readies (4 * length (numbers (quiet_after hs k w).cabling root t) + 1) 0 (omega arith) in
       let z : 0 + u.0 ≡ u.0 = omega arith in
       (u.0, u.1, subst ReadyAt z u.2)

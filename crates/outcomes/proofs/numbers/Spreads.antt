@@ -9,7 +9,7 @@ use Rattle.port_state.specs.Machine.{PortNode}
 use Rattle.cable_world.specs.Wire.{new_signal, age_signal, age_wire, gives}
 use Rattle.cable_world.specs.World.{CableWorld, wire_of}
 use Rattle.cable_world.specs.Run.{IsReached}
-use Rattle.cable_world.specs.Turn.{turn_at, turn, turns_after}
+use Rattle.cable_world.specs.Turn.{turn_at, turn}
 use Rattle.cable_world.specs.Signals.{signals_of}
 use Rattle.cable_world.specs.Lawful.{IsLawful}
 use Rattle.cable_world.proofs.turns.ByNumber.{node-after}
@@ -24,6 +24,7 @@ use Rattle.outcomes.specs.Messages as message
 use Rattle.outcomes.specs.Numbered.{IsSettling, IsAtRest}
 use Rattle.outcomes.proofs.numbers.AtRest.{silent-of, stays-tree}
 use Rattle.cable_world.specs.Outcome.{IsTree}
+use Rattle.cable_world.specs.Quiet.{HoldSchedule, quiet_after}
 use Rattle.outcomes.proofs.identify.OneMessage.{no-grant, no-done, parent-says-none, child-grants-none}
 use Rattle.outcomes.proofs.identify.ListsFollow.{IsAbove, one-above}
 use Rattle.outcomes.proofs.numbers.Settling.{up-or-root}
@@ -41,7 +42,7 @@ use Rattle.convergence.proofs.turns.Cables.{joined-of}
 use Rattle.outcomes.proofs.identify.Messages.{kept-room, quads-append, has_grant-append, has_done-append, silent-quads, since-zero, since-older, since-append, since-silent, since-none}
 use Rattle.outcomes.proofs.numbers.NumberedTurn.{above-line}
 use Rattle.outcomes.proofs.numbers.Progress.{node-rises}
-use Rattle.outcomes.proofs.numbers.Settles.{of-node, S, L, A, I, next, node-of, gains-on, Link, link-on, wires-on, ReadyAt, ready-soon}
+use Rattle.outcomes.proofs.numbers.Settles.{of-node, S, L, A, I, next, wire-next, node-of, gains-on, Link, link-on, wires-on, ReadyAt, ready-soon}
 
 none-of-more :
     (xs ys : List ℕ) (l below : ℕ) → l ≡ below + length xs → l ≡ below + length (xs ++ ys) → ys ≡ []
@@ -59,27 +60,27 @@ ready-grants : (r g : Bool) → r ≡ true → allows (parent_mode r g) signal.G
 ready-grants r g e = grind arith
 
 module _
-    (w : CableWorld) (r : IsReached w) (k : ℕ) (late : length w.nodes * w.delay ≤ k)
-    (set core root : ℕ) (t : Tree) (s0 : IsSettling (turns_after k w) set core root t) where
+    (hs : HoldSchedule) (w : CableWorld) (r : IsReached w) (k : ℕ) (late : length w.nodes * w.delay ≤ k)
+    (set core root : ℕ) (t : Tree) (s0 : IsSettling (quiet_after hs k w) set core root t) where
   abbrev V : ℕ → CableWorld
-  V j = turns_after (k + j) w
+  V j = quiet_after hs (k + j) w
 
   abbrev AllReady : ℕ → Type 0
-  AllReady j = ReadyAt w r k late set core root t s0 j
+  AllReady j = ReadyAt hs w r k late set core root t s0 j
 
   pub ready-later : (j m : ℕ) → AllReady j → AllReady (j + m)
   ready-later j m rd q x h at =
-      let n = node-of w r k late set core root t s0 j q h in
-      sym (ap (of-node (λ v. is_ready v.view.phase)) at) ∙ (gains-on w r k late set core root t s0 j m q h).ready (ap (of-node (λ v. is_ready v.view.phase)) n.1 ∙ rd q n.0 h n.1)
+      let n = node-of hs w r k late set core root t s0 j q h in
+      sym (ap (of-node (λ v. is_ready v.view.phase)) at) ∙ (gains-on hs w r k late set core root t s0 j m q h).ready (ap (of-node (λ v. is_ready v.view.phase)) n.1 ∙ rd q n.0 h n.1)
 
   abbrev pub HasAll : ℕ → ℕ → Type 0
   HasAll j q = (x : PortNode) → slice_get (V j).nodes q ≡ Some x → x.state.list.items ≡ emits t
 
   s : (j : ℕ) → IsSettling (V j) set core root t
-  s j = S w r k late set core root t s0 j
+  s j = S hs w r k late set core root t s0 j
 
   l : (j : ℕ) → IsLawful (V j)
-  l j = L w r k late set core root t s0 j
+  l j = L hs w r k late set core root t s0 j
 
   -- a parent that has all, and has all after the turn, sends nothing to its child
   sends-none :
@@ -87,7 +88,7 @@ module _
       HasAll (suc j) a.node → silent (departures (side (V j) a n.above)) ≡ true
   sends-none j a b h rd n has has-then =
       let v : CableWorld = V j in
-      let i = I w r k late set core root t s0 j in
+      let i = I hs w r k late set core root t s0 j in
       let h_b : Holds set b.node = (s j).component.closed a b n.joined h in
       let z : PortNode = (turn_at v a.node n.above).node in
       let at_z : slice_get (turn v).nodes a.node ≡ Some z = node-after v a.node n.above (l j).well_formed.count n.above_at in
@@ -100,7 +101,7 @@ module _
       let before-it : length (emits t) ≡ length n.below.state.list.items + length (quads_in there) =
       ap length (sym (has n.above n.above_at) ∙ sym (ap (message.kept n.above.state.list.items) (n.is.line.no_up (mute-named n.below.state.view.granted (is_named n.above.state a.port) named))) ∙ n.is.line.agree ∙ kept-room n.below.state.list.items (quads_in there) n.is.line.room_down)
       ∙ length-append n.below.state.list.items (quads_in there) in
-      let list-then : (ticking (side v a n.above)).state.list.items ≡ emits t = ap (λ u. u.list.items) (sym (side-node v a n.above)) ∙ has-then z (sym (ap (λ (u : CableWorld). slice_get u.nodes a.node) (next w r k late set core root t s0 j)) ∙ at_z) in
+      let list-then : (ticking (side v a n.above)).state.list.items ≡ emits t = ap (λ u. u.list.items) (sym (side-node v a n.above)) ∙ has-then z (sym (ap (λ (u : CableWorld). slice_get u.nodes a.node) (next hs w r k late set core root t s0 j)) ∙ at_z) in
       let after-it : length (emits t) ≡ length n.below.state.list.items + length (quads_in (there ++ now)) =
       ap length (sym list-then ∙ sym (ap (message.kept (ticking (side v a n.above)).state.list.items) (line.no_up (mute-named n.below.state.view.granted (is_named (ticking (side v a n.above)).state a.port) named-then))) ∙ line.agree ∙ kept-room n.below.state.list.items (quads_in (there ++ now)) line.room_down)
       ∙ length-append n.below.state.list.items (quads_in (there ++ now)) in
@@ -115,7 +116,7 @@ module _
       HasAll (suc j) a.node → MessagesSince i (wire_of (V j) a).signals → MessagesSince (i + 1)
       (wire_of (V (suc j)) a).signals
   ages j i a b h rd n has has-then since =
-      subst (λ (v : CableWorld). MessagesSince (i + 1) (wire_of v a).signals) (next w r k late set core root t s0 j)
+      subst (MessagesSince (i + 1)) (sym (wire-next hs w r k late set core root t s0 j a))
       (subst (MessagesSince (i + 1)) (sym (side-wire (V j) a b n.above (l j).well_formed n.joined n.above_at)) (go (gives (V j).delay (age_wire (wire_of (V j) a)))))
     where
       new : MessagesSince (i + 1) (map new_signal (departures (side (V j) a n.above)))
@@ -137,15 +138,15 @@ module _
       let e : suc (j + i) ≡ j + suc i = omega arith in
       subst (λ (m : ℕ). MessagesSince m (wire_of (V (j + suc i)) a).signals) one
       (subst (λ (m : ℕ). MessagesSince (i + 1) (wire_of (V m) a).signals) e
-      (ages (j + i) i a b h (ready-later j i rd) (link-on w r k late set core root t s0 j i a b h n) (has i) (subst (λ (m : ℕ). HasAll m a.node) (sym e) (has (suc i))) (since j a b h rd n has i)))
+      (ages (j + i) i a b h (ready-later j i rd) (link-on hs w r k late set core root t s0 j i a b h n) (has i) (subst (λ (m : ℕ). HasAll m a.node) (sym e) (has (suc i))) (since j a b h rd n has i)))
 
   pub child-has :
       (j : ℕ) (a b : End) → Holds set a.node → AllReady j → Link (V j) a b →
       ((m : ℕ) → HasAll (j + m) a.node) → HasAll (j + w.delay) b.node
   child-has j a b h rd n has x at =
-      let d : (V (j + w.delay)).delay ≡ w.delay = after-delay w (reached-lawful w r) (k + (j + w.delay)) in
-      let n1 = link-on w r k late set core root t s0 j w.delay a b h n in
-      let i1 = I w r k late set core root t s0 (j + w.delay) in
+      let d : (V (j + w.delay)).delay ≡ w.delay = after-delay hs w (reached-lawful w r) (k + (j + w.delay)) in
+      let n1 = link-on hs w r k late set core root t s0 j w.delay a b h n in
+      let i1 = I hs w r k late set core root t s0 (j + w.delay) in
       let rd1 = ready-later j w.delay rd in
       let old : MessagesSince (V (j + w.delay)).delay (wire_of (V (j + w.delay)) a).signals = subst (λ (m : ℕ). MessagesSince m (wire_of (V (j + w.delay)) a).signals) (sym d) (since j a b h rd n has w.delay) in
       let still : silent (signals_of (wire_of (V (j + w.delay)) a).signals) ≡ true = since-none (V (j + w.delay)).delay (wire_of (V (j + w.delay)) a).signals (l (j + w.delay)).well_formed.some_delay old ((l (j + w.delay)).well_formed.ages a) in
@@ -190,8 +191,8 @@ module _
         let same : q ≡ root = only-root q h (omega (arith, le)) in
         subst (HasAll (j + (0 * w.delay + m))) (sym same) (root-has (j + (0 * w.delay + m)) (ready-later j (0 * w.delay + m) rd))
     spreads (suc f) q h le m =
-        let n = node-of w r k late set core root t s0 j q h in
-        elim (up-or-root (V j) (l j) (A w r k late set core root t s0 j) (I w r k late set core root t s0 j) set root (s j).component (s j).inside (s j).is_root (s j).all q n.0 h n.1) [
+        let n = node-of hs w r k late set core root t s0 j q h in
+        elim (up-or-root (V j) (l j) (A hs w r k late set core root t s0 j) (I hs w r k late set core root t s0 j) set root (s j).component (s j).inside (s j).is_root (s j).all q n.0 h n.1) [
           | inl same ↦ subst (HasAll (j + (suc f * w.delay + m))) (sym same) (root-has (j + (suc f * w.delay + m)) (ready-later j (suc f * w.delay + m) rd))
           | inr u ↦
               let b : End = record { node = q; port = u.port } in
@@ -200,7 +201,7 @@ module _
               let step : suc f * w.delay ≡ w.delay + f * w.delay = omega arith in
               let now : j + (f * w.delay + m) + w.delay ≡ j + (suc f * w.delay + m) = omega (arith, step) in
               subst (λ (i : ℕ). HasAll i q) now
-              (child-has (j + (f * w.delay + m)) u.end b u.inside_too (ready-later j (f * w.delay + m) rd) (link-on w r k late set core root t s0 j (f * w.delay + m) u.end b u.inside_too link)
+              (child-has (j + (f * w.delay + m)) u.end b u.inside_too (ready-later j (f * w.delay + m) rd) (link-on hs w r k late set core root t s0 j (f * w.delay + m) u.end b u.inside_too link)
               (λ more. let e : j + (f * w.delay + (m + more)) ≡ j + (f * w.delay + m) + more = omega arith in subst (λ (i : ℕ). HasAll i u.end.node) e (spreads f u.end.node u.inside_too (omega (arith, le, less)) (m + more))))
         ]
 
@@ -220,7 +221,7 @@ module _
     silent = λ a b h e.
         let n = joined-of (V j) a b (l j).well_formed e in
         let h_b : Holds set b.node = (s j).component.closed a b e h in
-        elim (one-above (V j) (l j) (I w r k late set core root t s0 j) a b n.near n.other e n.near_at n.other_at ((s j).all a.node n.near h n.near_at) ((s j).all b.node n.other h_b n.other_at)) [
+        elim (one-above (V j) (l j) (I hs w r k late set core root t s0 j) a b n.near n.other e n.near_at n.other_at ((s j).all a.node n.near h n.near_at) ((s j).all b.node n.other h_b n.other_at)) [
           | inl u ↦ (both a b n.near n.other h h_b n.near_at n.other_at u).0
           | inr u ↦ (both b a n.other n.near h_b h n.other_at n.near_at u).1
         ];
@@ -232,7 +233,7 @@ module _
           IsAbove (V j) a b x y → (silent (signals_of (wire_of (V j) a).signals) ≡ true)
           × (silent (signals_of (wire_of (V j) b).signals) ≡ true)
       both a b x y h_a h_b at_x at_y u =
-          let i = I w r k late set core root t s0 j in
+          let i = I hs w r k late set core root t s0 j in
           let ready : is_ready y.state.view.phase ≡ true = rd b.node y h_b at_y in
           let granted : y.state.view.granted ≡ true = u.line.readies ready in
           let named : is_named x.state a.port ≡ true = (i.nodes a.node x at_x).all_named (rd a.node x h_a at_x) a.port u.child in
@@ -248,13 +249,13 @@ module _
           )
 
   pub rest-soon :
-      (m : ℕ) × (m ≤ 5 * length (numbers (turns_after k w).cabling root t) * w.delay)
+      (m : ℕ) × (m ≤ 5 * length (numbers (quiet_after hs k w).cabling root t) * w.delay)
       × IsAtRest (V m) set
   rest-soon =
-      let u = ready-soon w r k late set core root t s0 in
-      let n = length (numbers (turns_after k w).cabling root t) in
-      let some : place_now (turns_after k w) root t root + 1 ≡ n = s0.walk.marked.last in
-      let same : (V u.0).cabling ≡ (turns_after k w).cabling = ap (λ (i : ℕ). (turns_after (k + i) w).cabling) (let e : u.0 ≡ 0 + u.0 = omega arith in e) ∙ wires-on w r k late set core root t s0 0 u.0 ∙ ap (λ (i : ℕ). (turns_after i w).cabling) (let e : k + 0 ≡ k = omega arith in e) in
+      let u = ready-soon hs w r k late set core root t s0 in
+      let n = length (numbers (quiet_after hs k w).cabling root t) in
+      let some : place_now (quiet_after hs k w) root t root + 1 ≡ n = s0.walk.marked.last in
+      let same : (V u.0).cabling ≡ (quiet_after hs k w).cabling = ap (λ (i : ℕ). (quiet_after hs (k + i) w).cabling) (let e : u.0 ≡ 0 + u.0 = omega arith in e) ∙ wires-on hs w r k late set core root t s0 0 u.0 ∙ ap (λ (i : ℕ). (quiet_after hs i w).cabling) (let e : k + 0 ≡ k = omega arith in e) in
       let long : length (numbers (V u.0).cabling root t) ≡ n = ap (λ (c : Wiring). length (numbers c root t)) same in
       let later : ℕ = (length (numbers (V u.0).cabling root t) - 1) * w.delay in
       (u.0 + later, bound n (length (numbers (V u.0).cabling root t)) w.delay u.0 long (omega (arith, some)) u.1, rest-of-lists (u.0 + later) (ready-later u.0 later u.2) (λ q h. all-have u.0 u.2 q h))
@@ -268,9 +269,9 @@ module _
 
   -- from then on it is a tree
   pub tree-soon :
-      (j : ℕ) → 5 * length (numbers (turns_after k w).cabling root t) * w.delay ≤ j → IsTree (V j)
+      (j : ℕ) → 5 * length (numbers (quiet_after hs k w).cabling root t) * w.delay ≤ j → IsTree (V j)
       set root t
   tree-soon j le =
       let q = rest-soon in
       let e : k + q.0 + (j - q.0) ≡ k + j = omega (arith, le, q.1) in
-      subst (λ (i : ℕ). IsTree (turns_after i w) set root t) e (stays-tree w r (k + q.0) (omega (arith, late)) set core root t (s q.0) q.2 (j - q.0))
+      subst (λ (i : ℕ). IsTree (quiet_after hs i w) set root t) e (stays-tree hs w r (k + q.0) (omega (arith, late)) set core root t (s q.0) q.2 (j - q.0))

@@ -15,7 +15,6 @@ use Rattle.port_state.specs.Config.{config_packet, gap_or}
 use Rattle.port_state.specs.Machine.{PortNode, node_disturb, node_set_config}
 use Rattle.cable_world.specs.declared.act.Act.TheVariants.{Config}
 use Rattle.cable_world.specs.World.{CableWorld}
-use Rattle.cable_world.specs.Turn.{turns_after}
 use Rattle.cable_world.specs.Run.{IsReached, quiet_turns}
 use Rattle.cable_world.specs.Act.{IsAct, act_fault, change_in_set}
 use Rattle.cable_world.specs.Phases.{is_in_bus_reset}
@@ -26,9 +25,11 @@ use Rattle.cable_world.proofs.StaysLawful.{reached-lawful}
 use Rattle.cable_world.proofs.StaysReached.{act-reached}
 use Rattle.cable_world.proofs.resets.Entries.{after-length}
 use Rattle.cable_world.proofs.tables.TablesInSteps.{step-cables}
+use Rattle.cable_world.specs.Quiet.{HoldSchedule, quiet_after}
+use Rattle.cable_world.proofs.QuietTurns.{after-cabling}
+use Rattle.convergence.proofs.coins.StaysContested.{quiet-contested}
 use Rattle.convergence.specs.Turns.{turns_to_over}
-use Rattle.convergence.proofs.coins.StaysContested.{reached-contested, turns-contested}
-use Rattle.convergence.proofs.turns.Flush.{after-cabling}
+use Rattle.convergence.proofs.coins.StaysContested.{reached-contested}
 use Rattle.outcomes.specs.Forced.{IsForced, IsNamedAlone, IsRooted, NamesRoot}
 use Rattle.outcomes.specs.Identify.{IsIdentifying}
 use Rattle.outcomes.specs.NodeMarks.{is_ready}
@@ -43,10 +44,10 @@ use Rattle.outcomes.proofs.settled.QuietTurns.{quiet-enough, few-nodes, settles-
 -- ---- a component in which one node is forced
 
 module _
-    (w : CableWorld) (r : IsReached w) (node set core root : ℕ) (f : IsForced w node set core root)
+    (hs : HoldSchedule) (w : CableWorld) (r : IsReached w) (node set core root : ℕ) (f : IsForced w node set core root)
     (k : ℕ) (quiet : quiet_turns (length w.nodes) w.delay ≤ k) where
   abbrev v : CableWorld
-  v = turns_after k w
+  v = quiet_after hs k w
 
   abbrev first : ℕ
   first = turns_to_over w
@@ -56,33 +57,33 @@ module _
 
   rooted : IsRooted v set root
   rooted = record {
-    is_root = forced.root w f.lawful node set core f.component f.is_core f.empty f.small f.fresh root f.alone k (omega (arith, late));
-    late = forced.late w f.lawful node set core f.component f.is_core f.empty f.small f.fresh root f.alone k (omega (arith, late));
-    parents = forced.others w f.lawful node set core f.component f.is_core f.empty f.small f.fresh root f.alone k (omega (arith, late));
+    is_root = forced.root hs w f.lawful node set core f.component f.is_core f.empty f.small f.fresh root f.alone k (omega (arith, late));
+    late = forced.late hs w f.lawful node set core f.component f.is_core f.empty f.small f.fresh root f.alone k (omega (arith, late));
+    parents = forced.others hs w f.lawful node set core f.component f.is_core f.empty f.small f.fresh root f.alone k (omega (arith, late));
   }
 
   -- nobody draws a coin
   undrawn :
-      (i j : ℕ) (x : PortNode) → Holds set j → slice_get (turns_after (first + i) w).nodes j ≡ Some x →
+      (i j : ℕ) (x : PortNode) → Holds set j → slice_get (quiet_after hs (first + i) w).nodes j ≡ Some x →
       x.state.view.draws ≡ 0
   undrawn zero j x inside at =
       let z : first + 0 ≡ first = omega arith in
-      let here : slice_get (turns_after first w).nodes j ≡ Some x = subst (λ n. slice_get (turns_after n w).nodes j ≡ Some x) z at in
+      let here : slice_get (quiet_after hs first w).nodes j ≡ Some x = subst (λ n. slice_get (quiet_after hs n w).nodes j ≡ Some x) z at in
       let n = few-nodes w f.lawful in
-      ((turns-contested first w f.lawful (reached-contested w r)).nodes j x here).fresh
-      (start-before_tree x.state.view.phase (all-reset w f.lawful node set f.component f.fresh first (omega (arith, n.0)) (omega (arith, n.1, f.lawful.well_formed.some_delay)) j x inside here).0)
-  undrawn (suc i) j y inside at = elim (slice_get_cases (turns_after (first + i) w).nodes j).1 [
+      ((quiet-contested hs first w f.lawful (reached-contested w r)).nodes j x here).fresh
+      (start-before_tree x.state.view.phase (all-reset hs w f.lawful node set f.component f.fresh first (omega (arith, n.0)) (omega (arith, n.1, f.lawful.well_formed.some_delay)) j x inside here).0)
+  undrawn (suc i) j y inside at = elim (slice_get_cases (quiet_after hs (first + i) w).nodes j).1 [
     | inl found ↦
         let z : first + suc i ≡ first + i + 1 = omega arith in
-        no-draws w f.lawful node set core f.component f.is_core f.empty f.small f.fresh root f.alone (first + i) j found.0 y (omega arith) inside found.2 (subst (λ n. slice_get (turns_after n w).nodes j ≡ Some y) z at)
+        no-draws hs w f.lawful node set core f.component f.is_core f.empty f.small f.fresh root f.alone (first + i) j found.0 y (omega arith) inside found.2 (subst (λ n. slice_get (quiet_after hs n w).nodes j ≡ Some y) z at)
         ∙ undrawn i j found.0 inside found.2
-    | inr lacks ↦ absurd (omega (arith, lacks.0, slice_get_within (turns_after (first + suc i) w).nodes j y at, after-length w f.lawful (first + i), after-length w f.lawful (first + suc i)))
+    | inr lacks ↦ absurd (omega (arith, lacks.0, slice_get_within (quiet_after hs (first + suc i) w).nodes j y at, after-length hs w f.lawful (first + i), after-length hs w f.lawful (first + suc i)))
   ]
 
   none-drew : (j : ℕ) (x : PortNode) → Holds set j → slice_get v.nodes j ≡ Some x → x.state.view.draws ≡ 0
   none-drew j x inside at =
       let z : k ≡ first + (k - first) = omega (arith, quiet, quiet-enough (length w.nodes) w.delay) in
-      undrawn (k - first) j x inside (subst (λ n. slice_get (turns_after n w).nodes j ≡ Some x) z at)
+      undrawn (k - first) j x inside (subst (λ n. slice_get (quiet_after hs n w).nodes j ≡ Some x) z at)
 
   pub forced-outcome : (t : Tree) × IsTree v set root t
   forced-outcome = go outcome.0 outcome.1
@@ -90,7 +91,7 @@ module _
       outcome : IsSettled v set
       outcome =
           let x = some-of (slice_get w.nodes f.fresh.node) _ f.fresh.resets in
-          settles-at-last w r f.fresh.node set core (slice_get_within w.nodes f.fresh.node x.0 x.1) (shared w.cabling node f.fresh.node set f.lawful.well_formed.cabling f.component f.fresh.holds) f.is_core f.small k quiet
+          settles-at-last hs w r f.fresh.node set core (slice_get_within w.nodes f.fresh.node x.0 x.1) (shared w.cabling node f.fresh.node set f.lawful.well_formed.cabling f.component f.fresh.holds) f.is_core f.small k quiet
 
       no-some : (o : Option ℕ) → IsSome o → o ≡ None → ⊥
       no-some None h e = true≢false (sym h)
@@ -106,7 +107,7 @@ module _
 
       go : (o : Outcome) → IsOutcome v set o → (t : Tree) × IsTree v set root t
       go (loop c) h =
-          let is : IsCore v.cabling set core = subst (λ (d : Wiring). IsCore d set core) (sym (after-cabling k w)) f.is_core in
+          let is : IsCore v.cabling set core = subst (λ (d : Wiring). IsCore d set core) (sym (after-cabling hs k w)) f.is_core in
           absurd (f.empty h.node ((is h.node).1 ((h.is_core h.node).0 h.in_core)))
       go (tree other t) h = (t, subst (λ (q : ℕ). IsTree v set q t) (same other t h) h)
       go (contention a b) h =
@@ -147,7 +148,7 @@ named-alone w set old root id t i h inside named = record {
     stands-there = let y = some-of (slice_get w.nodes root) _ named in stands root y.0 inside y.1 y.2
 
 module _
-    (w v : CableWorld) (r : IsReached w) (from id : ℕ) (gap : Option ℕ) (set root : ℕ)
+    (hs : HoldSchedule) (w v : CableWorld) (r : IsReached w) (from id : ℕ) (gap : Option ℕ) (set root : ℕ)
     (n : NamesRoot w v from id gap set root) (is : IsAct (Config from id true gap))
     (none : act_fault (Config from id true gap) w ≡ None) where
   reached : IsReached v
@@ -164,10 +165,10 @@ module _
   -- the node that the packet names is the root of the tree
   pub config-outcome :
       (core : ℕ) → IsCore w.cabling set core → IsEmpty core → set < 2 ^ 63 → (k : ℕ) →
-      quiet_turns (length v.nodes) v.delay ≤ k → (t : Tree) × IsTree (turns_after k v) set root t
+      quiet_turns (length v.nodes) v.delay ≤ k → (t : Tree) × IsTree (quiet_after hs k v) set root t
   config-outcome core is_core empty small k quiet =
       let c = configured w v from id gap set root n.act n.component n.named in
-      forced-outcome v reached from set core root (record {
+      forced-outcome hs v reached from set core root (record {
         lawful = reached-lawful v reached;
         component = component;
         is_core = subst (λ (d : Wiring). IsCore d set core) (sym same-cables) is_core;
@@ -180,11 +181,11 @@ module _
   -- and each node has the gap count that it gives
   pub config-gaps :
       (k j : ℕ) (x y : PortNode) → turns_to_over v ≤ k → Holds set j →
-      slice_get w.nodes j ≡ Some x → slice_get (turns_after k v).nodes j ≡ Some y →
+      slice_get w.nodes j ≡ Some x → slice_get (quiet_after hs k v).nodes j ≡ Some y →
       y.state.view.gap ≡ gap_or gap x.state.view.next_gap
   config-gaps k j x y late inside at_x at_y = elim (slice_get_cases v.nodes j).1 [
     | inl found ↦
         let c = configured w v from id gap set root n.act n.component n.named in
-        (taken-by v (reached-lawful v reached) from set component c.0 k j found.0 y late inside found.2 at_y).1 ∙ c.2 j x found.0 inside at_x found.2
-    | inr lacks ↦ absurd (omega (arith, lacks.0, slice_get_within (turns_after k v).nodes j y at_y, after-length v (reached-lawful v reached) k))
+        (taken-by hs v (reached-lawful v reached) from set component c.0 k j found.0 y late inside found.2 at_y).1 ∙ c.2 j x found.0 inside at_x found.2
+    | inr lacks ↦ absurd (omega (arith, lacks.0, slice_get_within (quiet_after hs k v).nodes j y at_y, after-length hs v (reached-lawful v reached) k))
   ]

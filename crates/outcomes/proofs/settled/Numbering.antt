@@ -11,7 +11,7 @@ use Rattle.port_state.specs.Heard.{hears_packets}
 use Rattle.port_state.specs.Machine.{PortNode}
 use Rattle.cable_world.specs.declared.act.Act.{Act}
 use Rattle.cable_world.specs.World.{CableWorld, IsPowerOnWorld}
-use Rattle.cable_world.specs.Turn.{turn, turns_after}
+use Rattle.cable_world.specs.Turn.{turn}
 use Rattle.cable_world.specs.Act.{ActLeads, IsAct, act_fault, hold, hold_fault, note_changes}
 use Rattle.cable_world.specs.Run.{IsReached}
 use Rattle.cable_world.specs.Lawful.{IsLawful}
@@ -22,8 +22,10 @@ use Rattle.convergence.specs.Acyclic.{IsAcyclic}
 use Rattle.convergence.specs.Milestones.{AreIdentifying}
 use Rattle.convergence.proofs.ranks.RanksInActs.{power-on-acyclic, hold-acyclic, act-acyclic}
 use Rattle.convergence.proofs.ranks.RanksInTurns.{turn-acyclic}
-use Rattle.convergence.proofs.turns.AlongRuns.{IsKept, kept-reached, kept-turns}
+use Rattle.convergence.proofs.turns.AlongRuns.{IsKept, kept-reached}
 use Rattle.cable_world.proofs.Options.{some-same}
+use Rattle.cable_world.specs.Quiet.{HoldSchedule, quiet_after}
+use Rattle.convergence.proofs.turns.AlongRuns.{kept-quiet}
 use Rattle.port_state.specs.declared.states.NodeState.{NodeState}
 use Rattle.outcomes.specs.Identify.{IsIdentifying}
 use Rattle.outcomes.specs.Numbered.{Settles, IsNumbering}
@@ -140,6 +142,7 @@ numbering-kept = record {
 pub reached-numbering : (w : CableWorld) → IsReached w → IsNumbering w
 reached-numbering = kept-reached IsNumbering numbering-kept
 
-pub turns-numbering :
-    (k : ℕ) (w : CableWorld) → IsLawful w → IsNumbering w → IsNumbering (turns_after k w)
-turns-numbering = kept-turns IsNumbering numbering-kept
+pub quiet-numbering :
+    (hs : HoldSchedule) (k : ℕ) (w : CableWorld) → IsLawful w → IsNumbering w →
+    IsNumbering (quiet_after hs k w)
+quiet-numbering = kept-quiet IsNumbering numbering-kept

@@ -9,28 +9,29 @@ use Rattle.cabling.specs.Sees.{numbers}
 use Rattle.cabling.proofs.Ends.{plugged}
 use Rattle.cabling.proofs.Near.{end_at}
 use Rattle.cable_world.specs.World.{CableWorld}
-use Rattle.cable_world.specs.Turn.{turns_after}
 use Rattle.cable_world.specs.Run.{IsReached, quiet_turns}
 use Rattle.cable_world.specs.Lawful.{IsLawful}
 use Rattle.cable_world.specs.Outcome.{IsTree, IsSettled, loop}
 use Rattle.cable_world.proofs.resets.Entries.{after-length}
-use Rattle.cable_world.proofs.StaysLawful.{reached-lawful, turns-lawful}
+use Rattle.cable_world.proofs.StaysLawful.{reached-lawful}
+use Rattle.cable_world.specs.Quiet.{HoldSchedule, holds_after, quiet_after}
+use Rattle.cable_world.proofs.QuietTurns.{quiet-then, quiet-lawful, after-cabling}
+use Rattle.convergence.proofs.coins.StaysContested.{quiet-contested}
+use Rattle.outcomes.proofs.settled.Numbering.{quiet-numbering}
 use Rattle.convergence.specs.Kept.{IsGrown}
 use Rattle.convergence.specs.Milestones.{ResetsAreOver, ResetsAreDone, AreIdentifying, HasContention}
 use Rattle.convergence.specs.Rivals.{IsContested}
 use Rattle.convergence.specs.Turns.{turns_to_loops, turns_to_decision}
 use Rattle.convergence.proofs.AfterTurns.{done-after, taken-reached, decided-reached, start-grown}
-use Rattle.convergence.proofs.coins.StaysContested.{reached-contested, turns-contested}
+use Rattle.convergence.proofs.coins.StaysContested.{reached-contested}
 use Rattle.convergence.proofs.resets.ResetsOver.{resets-over}
 use Rattle.convergence.proofs.rounds.IdentifyOrContend.{grown-of}
 use Rattle.convergence.proofs.rounds.Shaken.{search-set}
 use Rattle.convergence.proofs.rounds.ThirtyThreeRounds.{contention-after}
-use Rattle.convergence.proofs.turns.Flush.{after-cabling}
-use Rattle.cable_world.proofs.turns.ByNumber.{turns-then}
 use Rattle.outcomes.specs.Numbered.{Settles, IsNumbering}
 use Rattle.outcomes.proofs.numbers.Spreads.{tree-soon}
 use Rattle.outcomes.proofs.settled.Beginnings.{all-or-not, not-both-ways}
-use Rattle.outcomes.proofs.settled.Numbering.{reached-numbering, turns-numbering}
+use Rattle.outcomes.proofs.settled.Numbering.{reached-numbering}
 use Rattle.outcomes.proofs.settled.Outcomes.{no-tree-yet, tree-or-none, contention-outcome, tree-outcome}
 use Rattle.outcomes.proofs.settled.Unnamed.{loop-outcome}
 
@@ -74,56 +75,56 @@ core-or-none w set core l is = elim (search-set core (λ x. true) w) [
 -- ---- a component
 
 module _
-    (w : CableWorld) (r : IsReached w) (node set core : ℕ) (there : node < length w.nodes)
+    (hs : HoldSchedule) (w : CableWorld) (r : IsReached w) (node set core : ℕ) (there : node < length w.nodes)
     (comp : IsComponent w.cabling node set) (is_core : IsCore w.cabling set core)
     (small : set < 2 ^ 63) (k : ℕ) (quiet : quiet_turns (length w.nodes) w.delay ≤ k) where
   lawful : IsLawful w
   lawful = reached-lawful w r
 
   abbrev v : CableWorld
-  v = turns_after k w
+  v = quiet_after hs k w
 
   enough : turns_to_decision w + 315 * w.delay ≤ k
   enough = omega (arith, quiet, quiet-enough (length w.nodes) w.delay)
 
   v-lawful : IsLawful v
-  v-lawful = turns-lawful k w lawful
+  v-lawful = quiet-lawful hs k w lawful
 
   v-numbering : IsNumbering v
-  v-numbering = turns-numbering k w lawful (reached-numbering w r)
+  v-numbering = quiet-numbering hs k w lawful (reached-numbering w r)
 
   v-over : ResetsAreOver v
-  v-over = resets-over w lawful k (omega (arith, enough))
+  v-over = resets-over hs w lawful k (omega (arith, enough))
 
-  comp-at : (i : ℕ) → IsComponent (turns_after i w).cabling node set
-  comp-at i = subst (λ (c : Wiring). IsComponent c node set) (sym (after-cabling i w)) comp
+  comp-at : (i : ℕ) → IsComponent (quiet_after hs i w).cabling node set
+  comp-at i = subst (λ (c : Wiring). IsComponent c node set) (sym (after-cabling hs i w)) comp
 
-  core-at : (i : ℕ) → IsCore (turns_after i w).cabling set core
-  core-at i = subst (λ (c : Wiring). IsCore c set core) (sym (after-cabling i w)) is_core
+  core-at : (i : ℕ) → IsCore (quiet_after hs i w).cabling set core
+  core-at i = subst (λ (c : Wiring). IsCore c set core) (sym (after-cabling hs i w)) is_core
 
   -- where all are in self identify or A0, lists follow the walk
-  settles-at : (i : ℕ) → AreIdentifying (turns_after i w) set → Settles (turns_after i w) set core
-  settles-at i all = (turns-numbering i w lawful (reached-numbering w r)).walks node set core (omega (arith, there, after-length w lawful i)) (comp-at i) (core-at i) small all
+  settles-at : (i : ℕ) → AreIdentifying (quiet_after hs i w) set → Settles (quiet_after hs i w) set core
+  settles-at i all = (quiet-numbering hs i w lawful (reached-numbering w r)).walks node set core (omega (arith, there, after-length hs w lawful i)) (comp-at i) (core-at i) small all
 
   abbrev middle : ℕ
   middle = k - 315 * w.delay
 
   -- all came to self identify early enough
-  tree-by : AreIdentifying (turns_after middle w) set → IsSettled v set
-  tree-by all = tree-outcome v set s.root s.tree (subst (λ (i : ℕ). IsTree (turns_after i w) set s.root s.tree) sum rest)
+  tree-by : AreIdentifying (quiet_after hs middle w) set → IsSettled v set
+  tree-by all = tree-outcome v set s.root s.tree (subst (λ (i : ℕ). IsTree (quiet_after hs i w) set s.root s.tree) sum rest)
     where
-      s : Settles (turns_after middle w) set core
+      s : Settles (quiet_after hs middle w) set core
       s = settles-at middle all
 
       sum : middle + (k - middle) ≡ k
       sum = omega (arith, enough)
 
-      rest : IsTree (turns_after (middle + (k - middle)) w) set s.root s.tree
-      rest = tree-soon w r middle (omega (arith, enough)) set core s.root s.tree s.is (k - middle)
-          (omega (arith, enough, room-to-rest (length (numbers (turns_after middle w).cabling s.root s.tree)) w.delay s.is.walk.few))
+      rest : IsTree (quiet_after hs (middle + (k - middle)) w) set s.root s.tree
+      rest = tree-soon hs w r middle (omega (arith, enough)) set core s.root s.tree s.is (k - middle)
+          (omega (arith, enough, room-to-rest (length (numbers (quiet_after hs middle w).cabling s.root s.tree)) w.delay s.is.walk.few))
 
   -- or only later, after 32 equal draws, or not yet
-  contended : IsEmpty core → HasContention (turns_after middle w) set → IsSettled v set
+  contended : IsEmpty core → HasContention (quiet_after hs middle w) set → IsSettled v set
   contended empty h = elim (all-or-not v set) [
     | inr still ↦ contention-outcome v v-lawful v-contested v-over node set (comp-at k) now (no-tree-yet v set v-numbering.identifies still)
     | inl all ↦ late-tree (settles-at k all)
@@ -133,14 +134,14 @@ module _
       sum = omega (arith, enough)
 
       v-contested : IsContested v
-      v-contested = turns-contested k w lawful (reached-contested w r)
+      v-contested = quiet-contested hs k w lawful (reached-contested w r)
 
-      grown : IsGrown (turns_after middle w)
-      grown = start-grown w r middle (omega (arith, enough)) (taken-reached w middle r (omega (arith, enough)))
+      grown : IsGrown (quiet_after hs middle w)
+      grown = start-grown hs w r middle (omega (arith, enough)) (taken-reached hs w middle r (omega (arith, enough)))
 
       now : HasContention v set
-      now = subst (λ (u : CableWorld). HasContention u set) (sym (turns-then middle (k - middle) w) ∙ ap (λ (i : ℕ). turns_after i w) sum)
-          (contention-after (turns_after middle w) set (grown-of (turns_after middle w) node set core grown (comp-at middle) (core-at middle) empty) (k - middle) h)
+      now = subst (λ (u : CableWorld). HasContention u set) (sym (quiet-then hs middle (k - middle) w) ∙ ap (λ (i : ℕ). quiet_after hs i w) sum)
+          (contention-after (holds_after middle hs) (quiet_after hs middle w) set (grown-of (quiet_after hs middle w) node set core grown (comp-at middle) (core-at middle) empty) (k - middle) h)
 
       late-tree : Settles v set core → IsSettled v set
       late-tree s = elim (tree-or-none v v-lawful v-numbering.acyclic v-numbering.identifies set core s.root s.tree s.is) [
@@ -149,10 +150,10 @@ module _
       ]
 
   tree-settles : IsEmpty core → IsSettled v set
-  tree-settles empty = elim (all-or-not (turns_after middle w) set) [
+  tree-settles empty = elim (all-or-not (quiet_after hs middle w) set) [
     | inl all ↦ tree-by all
-    | inr out ↦ elim (decided-reached w middle r (omega (arith, enough)) node set core (comp-at middle) (core-at middle) empty) [
-      | inl all ↦ absurd (not-both-ways (turns_after middle w) set out all)
+    | inr out ↦ elim (decided-reached hs w middle r (omega (arith, enough)) node set core (comp-at middle) (core-at middle) empty) [
+      | inl all ↦ absurd (not-both-ways (quiet_after hs middle w) set out all)
       | inr h ↦ contended empty h
     ]
   ]
@@ -160,7 +161,7 @@ module _
   pub settles-at-last : IsSettled v set
   settles-at-last = elim (core-or-none w set core lawful is_core) [
     | inl empty ↦ tree-settles empty
-    | inr j ↦ (loop core, loop-outcome w k node set core j.0 r (omega (arith, enough, loops-first)) (comp-at k) (core-at k) j.1)
+    | inr j ↦ (loop core, loop-outcome hs w k node set core j.0 r (omega (arith, enough, loops-first)) (comp-at k) (core-at k) j.1)
   ]
     where
       loops-first : turns_to_loops w ≤ turns_to_decision w
@@ -171,9 +172,9 @@ module _
 
 -- by then no node is in R0 or R1
 pub done-at-last :
-    (w : CableWorld) (k : ℕ) → IsReached w → quiet_turns (length w.nodes) w.delay ≤ k →
-    ResetsAreDone (turns_after k w)
-done-at-last w k r quiet = done-after w k (reached-lawful w r) (omega (arith, quiet, quiet-enough (length w.nodes) w.delay))
+    (hs : HoldSchedule) (w : CableWorld) (k : ℕ) → IsReached w → quiet_turns (length w.nodes) w.delay ≤ k →
+    ResetsAreDone (quiet_after hs k w)
+done-at-last hs w k r quiet = done-after hs w k (reached-lawful w r) (omega (arith, quiet, quiet-enough (length w.nodes) w.delay))
 
 -- ---- how many turns n d are
 

@@ -13,18 +13,20 @@ use Rattle.port_state.specs.declared.timing.Timing.{Timing}
 use Rattle.port_state.specs.Coins.{coin}
 use Rattle.port_state.specs.Machine.{PortNode}
 use Rattle.cable_world.specs.World.{CableWorld}
-use Rattle.cable_world.specs.Turn.{turn, turns_after}
+use Rattle.cable_world.specs.Turn.{turn}
 use Rattle.cable_world.specs.Act.{hold, hold_fault}
 use Rattle.cable_world.specs.Run.{Event, acts, holds, turns, Runs, IsReached, quiet_turns}
 use Rattle.cable_world.specs.Lawful.{IsLawful}
 use Rattle.cable_world.specs.Outcome.{Outcome, loop, tree, contention, IsLoop, IsTree, IsContention, IsOutcome, IsSettled}
 use Rattle.cable_world.specs.Phases.{is_before_tree}
 use Rattle.cable_world.proofs.Options.{some-of, some-at, some-same}
-use Rattle.cable_world.proofs.StaysLawful.{reached-lawful, turns-lawful}
-use Rattle.cable_world.proofs.StaysReached.{turn-reached, turns-reached, hold-reached}
+use Rattle.cable_world.proofs.StaysLawful.{reached-lawful}
+use Rattle.cable_world.proofs.StaysReached.{turn-reached, hold-reached}
 use Rattle.cable_world.proofs.resets.Entries.{after-delay, after-length}
-use Rattle.cable_world.proofs.turns.ByNumber.{cabling-after, delay-after, nodes-after, turns-then}
+use Rattle.cable_world.proofs.turns.ByNumber.{cabling-after, delay-after, nodes-after}
 use Rattle.cable_world.proofs.turns.NodeFacts.{risen}
+use Rattle.cable_world.specs.Quiet.{HoldSchedule, holds_after, quiet_after}
+use Rattle.cable_world.proofs.QuietTurns.{quiet-then, quiet-lawful, quiet-reached, after-cabling}
 use Rattle.convergence.specs.Kept.{IsGrown}
 use Rattle.convergence.specs.Milestones.{ResetsAreDone, TreesAreTaken, ResetsAreOver, HasContention}
 use Rattle.convergence.specs.Turns.{turns_to_done}
@@ -39,7 +41,6 @@ use Rattle.convergence.proofs.rounds.ThirtyThreeRounds.{contention-turn}
 use Rattle.convergence.proofs.trees.TreeStart.{IsEarly, only-start, start-early, start-timer}
 use Rattle.convergence.proofs.turns.BeforeTree.{StaysInStart, stays-in-start}
 use Rattle.convergence.proofs.turns.CalmTurns.{Calmly, calmly, heard_by, early-before, done-calm, turn-done}
-use Rattle.convergence.proofs.turns.Flush.{after-cabling}
 use Rattle.outcomes.specs.Numbered.{IsNumbering}
 use Rattle.outcomes.specs.Settled.{HasNoAct}
 use Rattle.outcomes.proofs.settled.Beginnings.{all-or-not}
@@ -251,17 +252,17 @@ settled-of w node set small s = go s.come
 -- ---- after so many quiet turns
 
 module _
-    (w : CableWorld) (r : IsReached w) (node set core : ℕ) (there : node < length w.nodes)
+    (hs : HoldSchedule) (w : CableWorld) (r : IsReached w) (node set core : ℕ) (there : node < length w.nodes)
     (comp : IsComponent w.cabling node set) (is_core : IsCore w.cabling set core)
     (small : set < 2 ^ 63) (k : ℕ) (quiet : quiet_turns (length w.nodes) w.delay ≤ k) where
   abbrev u : CableWorld
-  u = turns_after k w
+  u = quiet_after hs k w
 
   w-lawful : IsLawful w
   w-lawful = reached-lawful w r
 
   u-comp : IsComponent u.cabling node set
-  u-comp = subst (λ (c : Wiring). IsComponent c node set) (sym (after-cabling k w)) comp
+  u-comp = subst (λ (c : Wiring). IsComponent c node set) (sym (after-cabling hs k w)) comp
 
   abbrev first : ℕ
   first = turns_to_done w
@@ -276,24 +277,24 @@ module _
           omega (arith, p, q)
 
   abbrev start : CableWorld
-  start = turns_after first w
+  start = quiet_after hs first w
 
-  same : turns_after (k - first) start ≡ u
-  same = let z : first + (k - first) ≡ k = omega (arith, begun) in sym (turns-then first (k - first) w) ∙ ap (λ (i : ℕ). turns_after i w) z
+  same : quiet_after (holds_after first hs) (k - first) start ≡ u
+  same = let z : first + (k - first) ≡ k = omega (arith, begun) in sym (quiet-then hs first (k - first) w) ∙ ap (λ (i : ℕ). quiet_after hs i w) z
 
   core-late : (c : ℕ) → IsLoop u set c → AreLate u c
   core-late c h j x inside at =
       let y = some-of (slice_get u.nodes j) _ (h.timed_out j inside) in
       let begins : x.state.view.phase ≡ phase.TreeStart = ap (λ (z : PortNode). z.state.view.phase) (some-same x y.0 (sym at ∙ y.1)) ∙ y.2.0 in
-      let early : IsEarly (turns_after (k - first) start) j = record {
+      let early : IsEarly (quiet_after (holds_after first hs) (k - first) start) j = record {
         node = x;
         at = ap (λ (z : CableWorld). slice_get z.nodes j) same ∙ at;
         early = start-early x.state.view.phase begins;
       } in
       let late : 512 * w.delay ≤ x.state.view.timer =
-      start-timer start (turns-lawful first w w-lawful) (done-after w first w-lawful (omega arith)) (k - first) (512 * w.delay) j (omega (arith, begun))
+      start-timer (holds_after first hs) start (quiet-lawful hs first w w-lawful) (done-after hs w first w-lawful (omega arith)) (k - first) (512 * w.delay) j (omega (arith, begun))
       (omega (arith, w-lawful.well_formed.short_delay)) early in
-      omega (arith, late, after-delay w w-lawful k)
+      omega (arith, late, after-delay hs w w-lawful k)
 
   come-of : IsSettled u set → Come u set
   come-of s = go s.0 s.1
@@ -305,12 +306,12 @@ module _
 
   staying : Staying u node set
   staying = record {
-    reached = turns-reached k w r;
-    done = done-after w k w-lawful (omega (arith, quiet, quiet-enough (length w.nodes) w.delay));
-    taken = taken-reached w k r (omega (arith, quiet, quiet-enough (length w.nodes) w.delay));
-    there = omega (arith, there, after-length w w-lawful k);
+    reached = quiet-reached hs k w r;
+    done = done-after hs w k w-lawful (omega (arith, quiet, quiet-enough (length w.nodes) w.delay));
+    taken = taken-reached hs w k r (omega (arith, quiet, quiet-enough (length w.nodes) w.delay));
+    there = omega (arith, there, after-length hs w w-lawful k);
     component = u-comp;
-    come = come-of (settles-at-last w r node set core there comp is_core small k quiet);
+    come = come-of (settles-at-last hs w r node set core there comp is_core small k quiet);
   }
 
   pub stays-settled : (v : CableWorld) (events : List Event) → HasNoAct events → Runs events u v → IsSettled v set

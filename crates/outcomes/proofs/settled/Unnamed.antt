@@ -15,13 +15,12 @@ use Rattle.port_state.specs.Heard.{hears_packets}
 use Rattle.port_state.specs.Ports.{is_port, is_connected}
 use Rattle.port_state.specs.Machine.{PortNode}
 use Rattle.cable_world.specs.World.{CableWorld, wire_of}
-use Rattle.cable_world.specs.Turn.{turns_after}
 use Rattle.cable_world.specs.Run.{IsReached}
 use Rattle.cable_world.specs.Signals.{signals_of, has_reset}
 use Rattle.cable_world.specs.Lawful.{IsLawful}
 use Rattle.cable_world.specs.Outcome.{Shows, IsLoop}
 use Rattle.cable_world.proofs.Options.{some-at}
-use Rattle.cable_world.proofs.StaysLawful.{reached-lawful, turns-lawful}
+use Rattle.cable_world.proofs.StaysLawful.{reached-lawful}
 use Rattle.convergence.specs.Acyclic.{IsAcyclic, IsChildCable, ComesDown}
 use Rattle.convergence.specs.Cables.{AreJoined}
 use Rattle.convergence.specs.Milestones.{ResetsAreOver, ResetsAreOverIn}
@@ -29,7 +28,7 @@ use Rattle.convergence.specs.Turns.{turns_to_loops}
 use Rattle.convergence.proofs.AfterTurns.{done-after, reported-reached}
 use Rattle.convergence.proofs.loops.Cores.{no-root-with-loop}
 use Rattle.convergence.proofs.ranks.Ranks.{none-rises-on}
-use Rattle.convergence.proofs.ranks.StaysAcyclic.{reached-acyclic, turns-acyclic}
+use Rattle.convergence.proofs.ranks.StaysAcyclic.{reached-acyclic}
 use Rattle.convergence.proofs.resets.ResetsDone.{done-over}
 use Rattle.convergence.proofs.sets.Closure.{in-component}
 use Rattle.convergence.proofs.turns.Cables.{joined-of}
@@ -37,9 +36,13 @@ use Rattle.outcomes.specs.NodeMarks.{is_ready}
 use Rattle.outcomes.specs.Identify.{Identifies, IsIdentifying}
 use Rattle.outcomes.proofs.identify.Hearing.{parent-connected}
 use Rattle.outcomes.proofs.identify.MarksKept.{hears-late}
-use Rattle.outcomes.proofs.identify.StaysIdentifying.{reached-identifying, turns-identifying}
+use Rattle.outcomes.proofs.identify.StaysIdentifying.{reached-identifying}
 use Rattle.outcomes.proofs.identify.OneMessage.{end-of}
 use Rattle.cable_world.proofs.running.Lists.{no-packets}
+use Rattle.cable_world.specs.Quiet.{HoldSchedule, quiet_after}
+use Rattle.cable_world.proofs.QuietTurns.{quiet-lawful}
+use Rattle.convergence.proofs.ranks.StaysAcyclic.{quiet-acyclic}
+use Rattle.outcomes.proofs.identify.StaysIdentifying.{quiet-identifying}
 
 -- a granted node of a set
 pub record GrantedIn (w : CableWorld) (set k : ℕ) : Type 0 where
@@ -197,31 +200,31 @@ module _
 -- ---- after turns
 
 pub loop-outcome :
-    (w : CableWorld) (k node set core j : ℕ) → IsReached w → turns_to_loops w ≤ k →
-    IsComponent (turns_after k w).cabling node set → IsCore (turns_after k w).cabling set core →
-    Holds core j → IsLoop (turns_after k w) set core
-loop-outcome w k node set core j r late comp is_core in_core = record {
+    (hs : HoldSchedule) (w : CableWorld) (k node set core j : ℕ) → IsReached w → turns_to_loops w ≤ k →
+    IsComponent (quiet_after hs k w).cabling node set → IsCore (quiet_after hs k w).cabling set core →
+    Holds core j → IsLoop (quiet_after hs k w) set core
+loop-outcome hs w k node set core j r late comp is_core in_core = record {
   is_core = is_core;
   node = j;
   in_core = in_core;
-  timed_out = λ n h. reported-reached w k r late set core n is_core h;
+  timed_out = λ n h. reported-reached hs w k r late set core n is_core h;
   unnamed = shows-unnamed v v-lawful v-identifies set (λ a b y h. over a b y) v-acyclic node core j comp is_core in_core;
 }
   where
     v : CableWorld
-    v = turns_after k w
+    v = quiet_after hs k w
 
     lawful : IsLawful w
     lawful = reached-lawful w r
 
     v-lawful : IsLawful v
-    v-lawful = turns-lawful k w lawful
+    v-lawful = quiet-lawful hs k w lawful
 
     v-acyclic : IsAcyclic v
-    v-acyclic = turns-acyclic k w lawful (reached-acyclic w r)
+    v-acyclic = quiet-acyclic hs k w lawful (reached-acyclic w r)
 
     v-identifies : IsIdentifying v
-    v-identifies = turns-identifying k w lawful (reached-identifying w r)
+    v-identifies = quiet-identifying hs k w lawful (reached-identifying w r)
 
     over : ResetsAreOver v
-    over = done-over v v-lawful (done-after w k lawful (omega (arith, late)))
+    over = done-over v v-lawful (done-after hs w k lawful (omega (arith, late)))

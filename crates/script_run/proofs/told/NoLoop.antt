@@ -16,7 +16,7 @@ use Rattle.cabling.proofs.Pulling.{was-there}
 use Rattle.cable_world.specs.World.{CableWorld}
 use Rattle.cable_world.specs.Turn.{turns_after}
 use Rattle.cable_world.specs.Outcome.{HasNoLoop as HasNoLoopIn}
-use Rattle.convergence.proofs.turns.Flush.{after-cabling}
+use Rattle.cable_world.proofs.QuietTurns.{turns-cabling}
 use Rattle.loop_advice.specs.Cables.{Lists, IsSame}
 use Rattle.loop_advice.proofs.Listed.{lists_left, lists_right}
 use Rattle.loop_advice.proofs.Marking.{cable}
@@ -256,7 +256,7 @@ no-loop trees bytes text bus after last ran a last_is =
     let again = settled-again a.pulled after (advice_text bus.notes.names a.advices) text a.settled a.settles a.answer_is in
     let s = has-settled a.pulled after again.0 again.1 in
     let cabling : after.world.cabling ≡ a.pulled.world.cabling =
-    ap (λ (w : CableWorld). w.cabling) s.world ∙ after-cabling (quiet_turns_of a.pulled.world) a.pulled.world in
+    ap (λ (w : CableWorld). w.cabling) s.world ∙ turns-cabling (quiet_turns_of a.pulled.world) a.pulled.world in
     no-loop-report bus.world after.world a.report last a.advices cables is a.are
     (subst (λ (c : Wiring). Pulled bus.world.cabling c (all_pulls a.advices)) (sym cabling) out)
     (subst (IsReport after.world) (same-report after.notes.report s.report last s.last last_is) s.is)

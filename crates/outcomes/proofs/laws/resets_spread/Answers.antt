@@ -3,7 +3,7 @@ use Rattle.outcomes.proofs.forced.Waits.{taken-by}
 use Rattle.outcomes.proofs.laws.resets_spread.Goals as goal
 
 pub returns-clause-spread : goal.returns-clause-spread
-returns-clause-spread c = λ w node set i l comp fresh late soon k x h at. all-reset w l node set comp fresh i late soon k x h at
+returns-clause-spread c = λ holds w node set i l comp fresh late soon k x h at. all-reset holds w l node set comp fresh i late soon k x h at
 
 pub returns-clause-taken : goal.returns-clause-taken
-returns-clause-taken c = λ w node set i k x y l comp fresh late h. taken-by w l node set comp fresh i k x y late h
+returns-clause-taken c = λ holds w node set i k x y l comp fresh late h. taken-by holds w l node set comp fresh i k x y late h
