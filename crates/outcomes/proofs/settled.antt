@@ -4,7 +4,7 @@
 -- turn in which the last node comes to self identify, and the root that there is then. `Elsewhere`:
 -- an act leaves a component alone in which nobody enters R0. `Numbering`: so in every reached world
 -- lists follow the walk. `Outcomes`: whether a component has come to a tree can be told, and if not
--- its contention is the outcome. `QuietTurns` counts the turns. `TreesStay`: a tree is at rest, and
+-- its contention is the outcome. `QuietTurns` counts the turns, and `QuietRuns` says the same of runs. `TreesStay`: a tree is at rest, and
 -- stays so. `StaySettled`: every outcome stays one. `ForcedOutcome`: a forced root is the root of
 -- the tree.
 pub mod Unnamed
@@ -13,6 +13,7 @@ pub mod Elsewhere
 pub mod Numbering
 pub mod Outcomes
 pub mod QuietTurns
+pub mod QuietRuns
 pub mod TreesStay
 pub mod StaySettled
 pub mod ForcedOutcome

@@ -1,5 +1,5 @@
 -- Components that come to an outcome: a loop, a tree or a contention.
-use Rattle.std.specs.Prelude.{◌≡◌, ℕ, ◌^◌, ◌<◌, ◌≤◌, true, Option, Some, None, List, [], ◌∷◌, length, slice_get}
+use Rattle.std.specs.Prelude.{◌≡◌, ℕ, suc, ◌^◌, ◌<◌, ◌≤◌, true, Option, Some, None, List, [], ◌∷◌, length, slice_get}
 use Rattle.topology_stack.specs.Tree.{Tree}
 use Rattle.cabling.specs.NodeSet.{Holds, IsEmpty}
 use Rattle.cabling.specs.Component.{IsComponent}
@@ -31,16 +31,15 @@ LoopsComeOut =
 abbrev pub EveryComponentSettles : Type 0
 EveryComponentSettles =
     (holds : HoldSchedule) (w : CableWorld) (k : ℕ) (node : NodeNumber) (set core : NodeSet) →
-    IsReached w →
-    node < length w.nodes → IsComponent w.cabling node set → IsCore w.cabling set core →
-    set < 2 ^ 63 → quiet_turns (length w.nodes) w.delay ≤ k → IsSettled (quiet_after holds k w) set
+    IsReached w → node < length w.nodes → IsComponent w.cabling node set →
+    IsCore w.cabling set core → set < 2 ^ 63 → quiet_turns (length w.nodes) w.delay ≤ k →
+    IsSettled (quiet_after holds k w) set
 
 -- and no node is in R0 or R1 by then
 abbrev pub ResetsAreDoneByThen : Type 0
 ResetsAreDoneByThen =
     (holds : HoldSchedule) (w : CableWorld) (k : ℕ) → IsReached w →
-    quiet_turns (length w.nodes) w.delay ≤ k →
-    ResetsAreDone (quiet_after holds k w)
+    quiet_turns (length w.nodes) w.delay ≤ k → ResetsAreDone (quiet_after holds k w)
 
 -- holds and turns, and no act
 abbrev pub HasNoAct : List Event → Type 0
@@ -49,14 +48,28 @@ HasNoAct (acts a ∷ events) = ⊥
 HasNoAct (holds end k ∷ events) = HasNoAct events
 HasNoAct (turns ∷ events) = HasNoAct events
 
+-- how many turns are among these events
+abbrev pub turn_count : List Event → ℕ
+turn_count [] = 0
+turn_count (acts a ∷ events) = turn_count events
+turn_count (holds end k ∷ events) = turn_count events
+turn_count (turns ∷ events) = suc (turn_count events)
+
+-- So every component has an outcome after each run of holds and turns that has so many turns.
+abbrev pub EveryQuietRunSettles : Type 0
+EveryQuietRunSettles =
+    (w v : CableWorld) (events : List Event) (node : NodeNumber) (set core : NodeSet) →
+    IsReached w → HasNoAct events → Runs events w v →
+    quiet_turns (length w.nodes) w.delay ≤ turn_count events → node < length w.nodes →
+    IsComponent w.cabling node set → IsCore w.cabling set core → set < 2 ^ 63 → IsSettled v set
+
 -- what has an outcome after so many quiet turns has one still, whatever holds and turns follow
 abbrev pub ComponentsStaySettled : Type 0
 ComponentsStaySettled =
     (holds : HoldSchedule) (w v : CableWorld) (k : ℕ) (events : List Event) (node : NodeNumber)
-    (set core : NodeSet) →
-    IsReached w → quiet_turns (length w.nodes) w.delay ≤ k → HasNoAct events →
-    Runs events (quiet_after holds k w) v → node < length w.nodes → IsComponent w.cabling node set →
-    IsCore w.cabling set core → set < 2 ^ 63 → IsSettled v set
+    (set core : NodeSet) → IsReached w → quiet_turns (length w.nodes) w.delay ≤ k →
+    HasNoAct events → Runs events (quiet_after holds k w) v → node < length w.nodes →
+    IsComponent w.cabling node set → IsCore w.cabling set core → set < 2 ^ 63 → IsSettled v set
 
 -- a tree stays in every hold and turn: the same root, IDs and lists
 abbrev pub TreesStay : Type 0

@@ -14,6 +14,7 @@ ghost use Rattle.outcomes.specs.Numbered.{TurnsKeepRest, HoldsKeepRest, RestKeep
 ghost use Rattle.outcomes.specs.Numbered.{NodesGetReady, TreesComeToRest, TreesAreThere};
 ghost use Rattle.outcomes.specs.RootWalk.{RootsHaveWalks, NamedRootsAreOutcomes, WalksStay};
 ghost use Rattle.outcomes.specs.Settled.{LoopsComeOut, EveryComponentSettles, ResetsAreDoneByThen};
+ghost use Rattle.outcomes.specs.Settled.{EveryQuietRunSettles};
 ghost use Rattle.outcomes.specs.Settled.{ComponentsStaySettled, TreesStay, TreesStayInActs};
 ghost use Rattle.outcomes.specs.Settled.{ForcedRootsSettle, IdsNameOneNode, ConfigsMoveRoots};
 ghost use Rattle.outcomes.specs.Settled.{ConfigsSetGaps};
@@ -68,7 +69,7 @@ pub fn walks_stay()
     ensures { WalksStay }
 {}
 
-/// A reset that has just begun spreads: after (n - 1) d turns without acts all of the component are
+/// A reset that has just begun spreads: after (n - 1) d quiet turns all of the component are
 /// in R0, and nobody leaves it before 64 d turns are done. After n d turns each has what it takes
 /// over at its entry.
 pub fn resets_spread()
@@ -108,7 +109,7 @@ pub fn walks_are_numbered()
 {}
 
 /// Such a component at rest, with all nodes in A0 and nothing under way, has come to its tree, and
-/// stays at rest in turns without acts.
+/// stays at rest in quiet turns.
 pub fn trees_rest()
     ensures tree { RestIsTree }
     ensures turn { TurnsKeepRest }
@@ -134,21 +135,23 @@ pub fn worlds_stay_numbering()
     ensures reached { HoldsOfReached IsNumbering }
 {}
 
-/// Every component with a loop comes to the outcome Loop: after n d + 100 d + 600 d turns without
-/// acts each node of its core reports the timeout, and no node of it has an ID.
+/// Every component with a loop comes to the outcome Loop: after n d + 100 d + 600 d quiet turns each
+/// node of its core reports the timeout, and no node of it has an ID.
 pub fn loops_come_out()
     ensures { LoopsComeOut }
 {}
 
-/// In as many quiet turns as a world is given to settle every component comes to an outcome, and no
-/// node is in R0 or R1.
+/// In as many quiet turns as a world is given to settle, whatever holds are placed before, between
+/// and after them, every component comes to an outcome, and no node is in R0 or R1. So every
+/// component has an outcome after each run of holds and turns that has so many turns.
 pub fn components_settle()
     ensures settled { EveryComponentSettles }
+    ensures runs { EveryQuietRunSettles }
     ensures done { ResetsAreDoneByThen }
 {}
 
-/// Once as many quiet turns as `components_settle` counts were done in a row, every component has an
-/// outcome at each later moment, whatever holds and turns follow.
+/// Once as many quiet turns as `components_settle` counts were done, every component has an outcome
+/// at each later moment, whatever holds and turns follow.
 pub fn components_stay_settled()
     ensures { ComponentsStaySettled }
 {}

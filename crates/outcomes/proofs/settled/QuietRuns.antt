@@ -1,0 +1,61 @@
+-- A run of holds and turns is so many quiet turns, with its holds between them.
+use Rattle.std.proofs.Common.{◌≡◌, ℕ, zero, suc, List, [], ◌∷◌, None, sym, ◌∙◌, ap, subst}
+use Rattle.cable_world.specs.World.{CableWorld}
+use Rattle.cable_world.specs.Outcome.{IsSettled}
+use Rattle.cable_world.specs.Turn.{turn}
+use Rattle.cable_world.specs.Act.{hold, hold_fault}
+use Rattle.cable_world.specs.Run.{Event, acts, holds, turns, Runs}
+use Rattle.cable_world.specs.Quiet.{PlacedHold, HoldSchedule, no_holds, with_hold, with_holds, quiet_after}
+use Rattle.cable_world.proofs.QuietTurns.{holds-are-calls, no-quiet, quiet-first}
+use Rattle.outcomes.specs.Settled.{HasNoAct, turn_count, EveryQuietRunSettles}
+use Rattle.outcomes.proofs.settled.QuietTurns.{settles-at-last}
+
+-- ---- schedules
+
+-- a hold before all others
+abbrev held_first : PlacedHold → HoldSchedule → HoldSchedule
+held_first h hs zero = h ∷ hs zero
+held_first h hs (suc k) = hs (suc k)
+
+-- a turn before all of them
+abbrev turned_first : HoldSchedule → HoldSchedule
+turned_first hs zero = []
+turned_first hs (suc k) = hs k
+
+quiet-held :
+    (h : PlacedHold) (hs : HoldSchedule) (k : ℕ) (w : CableWorld) →
+    quiet_after (held_first h hs) k w ≡ quiet_after hs k (with_hold h w)
+unfolding quiet_after
+quiet-held h hs zero w = (holds-are-calls h (hs 0) w).1
+quiet-held h hs (suc k) w = ap (λ (v : CableWorld). with_holds (hs (suc k)) (turn v)) (quiet-held h hs k w)
+
+-- ---- runs
+
+-- a world comes of another one by so many quiet turns
+record ComesBy (w v : CableWorld) (k : ℕ) : Type 0 where
+  schedule : HoldSchedule
+  is : v ≡ quiet_after schedule k w
+
+after-turn : (w v : CableWorld) (k : ℕ) → ComesBy (turn w) v k → ComesBy w v (suc k)
+after-turn w v k c = record { schedule = turned_first c.schedule; is = c.is ∙ sym (quiet-first (turned_first c.schedule) k w) }
+
+after-hold : (h : PlacedHold) (w v : CableWorld) (k : ℕ) → ComesBy (with_hold h w) v k → ComesBy w v k
+after-hold h w v k c = record { schedule = held_first h c.schedule; is = c.is ∙ sym (quiet-held h c.schedule k w) }
+
+comes-by :
+    (events : List Event) (w v : CableWorld) → HasNoAct events → Runs events w v →
+    ComesBy w v (turn_count events)
+comes-by [] w v none run = record { schedule = no_holds; is = run ∙ sym (no-quiet no_holds w) }
+comes-by (acts a ∷ events) w v none run = absurd none
+comes-by (turns ∷ events) w v none run =
+    after-turn w v (turn_count events) (comes-by events (turn w) v none (subst (λ (u : CableWorld). Runs events u v) run.1 run.2))
+comes-by (holds end n ∷ events) w v none run =
+    let h : PlacedHold = record { end = end; turns = n } in
+    let same : run.0 ≡ with_hold h w = run.1.1 ∙ sym ((holds-are-calls h [] w).2 run.1.0) in
+    after-hold h w v (turn_count events) (comes-by events (with_hold h w) v none (subst (λ (u : CableWorld). Runs events u v) same run.2))
+
+-- so every component settles in it
+pub run-settles : EveryQuietRunSettles
+run-settles w v events node set core r none run enough there comp is_core small =
+    let c : ComesBy w v (turn_count events) = comes-by events w v none run in
+    subst (λ (u : CableWorld). IsSettled u set) (sym c.is) (settles-at-last c.schedule w r node set core there comp is_core small (turn_count events) enough)
