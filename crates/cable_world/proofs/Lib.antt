@@ -5,13 +5,13 @@
 --   levels    the level that a node last sent is under way or shown
 --   coupling  what holds at the two ends of a cable, so that child ports lead to parent ports
 --   acts      what happens between two turns to each node and to each end of a cable
---   resets    in turns without acts resets end (`resets_end`)
+--   resets    in quiet turns resets end (`resets_end`)
 --   worked    runs that the check computes
 --   running   worlds that run: how the code goes from item to item
 --
 -- `StaysLawful` joins tables, levels and coupling (`worlds_stay_lawful`); `StaysReached` has
--- `worlds_stay_reached`, `OneOutcome` has `outcomes_are_one`. `PhaseFacts` and `Options` are used
--- throughout.
+-- `worlds_stay_reached`, `QuietTurns` has `quiet_turns_add_up`, `OneOutcome` has
+-- `outcomes_are_one`. `PhaseFacts` and `Options` are used throughout.
 pub mod turns
 pub mod tables
 pub mod levels

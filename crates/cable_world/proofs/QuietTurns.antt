@@ -1,14 +1,12 @@
 -- Quiet turns, with holds placed between them: how they are counted, and what they keep.
-use Rattle.std.proofs.Common.{◌≡◌, ◌≢◌, ℕ, zero, suc, ◌+◌, Bool, true, false, List, [], ◌∷◌, length, Option, Some, None, is_some, refl, sym, ◌∙◌, ap, subst, arith, add-one, if◌then◌else◌}
+use Rattle.std.proofs.Common.{◌≡◌, ◌≢◌, ℕ, zero, suc, ◌+◌, List, [], ◌∷◌, Option, Some, None, is_some, refl, sym, ◌∙◌, ap, subst, arith, add-one, if◌then◌else◌}
 use Rattle.cabling.specs.declared.cable.End.{End}
 use Rattle.cabling.specs.declared.cable.CableFault.{CableFault}
-use Rattle.cabling.specs.Wiring.{Wiring, far}
-use Rattle.cable_world.specs.declared.wire.Travelling.{Travelling}
 use Rattle.cable_world.specs.World.{CableWorld, wire_of}
 use Rattle.cable_world.specs.Turn.{turn, turns_after}
 use Rattle.cable_world.specs.Act.{hold, hold_fault}
-use Rattle.cable_world.specs.Quiet.{PlacedHold, HoldSchedule, no_holds, with_hold, wires_held, with_holds, quiet_after, KeptByQuietTurns, HoldsAreCalls, PlainTurnsAreQuiet, OneQuietTurnMore, NoQuietTurnIsHolds, QuietTurnsAdd}
-use Rattle.cable_world.specs.Lawful.{IsWellFormed, IsLawful}
+use Rattle.cable_world.specs.Quiet.{PlacedHold, HoldSchedule, no_holds, with_hold, with_holds, quiet_after, KeptByQuietTurns, HoldsAreCalls, PlainTurnsAreQuiet, OneQuietTurnMore, NoQuietTurnIsHolds, QuietTurnsAdd}
+use Rattle.cable_world.specs.Lawful.{IsLawful}
 use Rattle.cable_world.specs.Run.{IsReached}
 use Rattle.cable_world.specs.StaysLawful.{KeptByHolds}
 use Rattle.cable_world.proofs.acts.Happenings.{hold-signals}

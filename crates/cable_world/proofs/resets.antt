@@ -1,4 +1,4 @@
--- In turns without acts resets end: the law `resets_end`.
+-- In quiet turns resets end: the law `resets_end`.
 --
 -- `Entries`: a node enters R0 because a neighbour did, at most d turns before, so that the nodes
 -- that entered lately form a chain no longer than there are nodes; after n d turns none enters.

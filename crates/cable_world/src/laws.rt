@@ -42,9 +42,9 @@ pub fn turns_add_up()
     ensures add { TurnsAdd }
 {}
 
-/// Quiet turns: before, between and after them any holds may be placed. A hold is placed as the call does it,
-/// and one that is refused changes nothing. Turns without holds between them are quiet too. Quiet
-/// turns are done one after the other.
+/// Quiet turns: before, between and after them any holds may be placed. A hold is placed as the call
+/// does it, and one that is refused changes nothing. Turns without holds between them are quiet too.
+/// Quiet turns are done one after the other.
 pub fn quiet_turns_add_up()
     ensures holds { HoldsAreCalls }
     ensures plain { PlainTurnsAreQuiet }

@@ -21,8 +21,8 @@ mod world;
 
 pub use act::{Act, ActStop};
 pub use laws::{
-    acts_keep, outcomes_are_one, quiet_turns_add_up, resets_end, still_turns_pass, turn_by_number, turn_keeps,
-    turns_add_up, worlds_stay_lawful, worlds_stay_reached,
+    acts_keep, outcomes_are_one, quiet_turns_add_up, resets_end, still_turns_pass, turn_by_number,
+    turn_keeps, turns_add_up, worlds_stay_lawful, worlds_stay_reached,
 };
 pub use run::{PassesTurns, WorldRun};
 pub use wire::Travelling;

@@ -1,4 +1,4 @@
--- What is so after how many turns without acts.
+-- What is so after how many quiet turns.
 use Rattle.std.proofs.Common.{◌≡◌, ℕ, ◌+◌, ◌-◌, ◌*◌, ◌≤◌, Bool, true, false, Some, length, slice_get, refl, sym, ◌∙◌, ap, subst, arith, true≢false}
 use Rattle.cabling.specs.declared.cable.End.{End}
 use Rattle.cabling.specs.Wiring.{Wiring, far}

@@ -26,8 +26,8 @@ TellsAt w end test = AtNode w end.node (λ x. test (level_sent_at x.state end.po
 abbrev pub ShowsAt : CableWorld → End → (Level → Bool) → Type 0
 ShowsAt w end test = AtNode w end.node (λ x. test (level_shown x.state end.port) ≡ true)
 
--- Where each level that a node told over a cable passes a test, for d quiet turns at least, the level
--- that the other end shows passes it.
+-- Where each level that a node told over a cable passes a test, for d quiet turns at least, the
+-- level that the other end shows passes it.
 abbrev pub LevelsComeThrough : Type 0
 LevelsComeThrough =
     (holds : HoldSchedule) (w : CableWorld) (a b : End) (test : Level → Bool) (k : ℕ) →

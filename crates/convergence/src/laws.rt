@@ -35,8 +35,8 @@ pub fn loops_stay_undecided()
     ensures after_turns { HoldsAfter turns_to_over IsUndecidedInLoops }
 {}
 
-/// What a node tells over a cable comes through in d quiet turns, whatever is held: where each level that it told
-/// meanwhile passes a test, the level that the other end shows does.
+/// What a node tells over a cable comes through in d quiet turns, whatever is held: where each level
+/// that it told meanwhile passes a test, the level that the other end shows does.
 pub fn levels_come_through()
     ensures { LevelsComeThrough }
 {}

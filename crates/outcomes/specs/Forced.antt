@@ -73,7 +73,8 @@ ResetsSpread =
 abbrev pub EntriesTakeOver : Type 0
 EntriesTakeOver =
     (holds : HoldSchedule) (w : CableWorld) (node : NodeNumber) (set : NodeSet) (i : ℕ)
-    (k : NodeNumber) (x y : PortNode) → IsLawful w → IsComponent w.cabling node set → IsFresh w set →
+    (k : NodeNumber) (x y : PortNode) → IsLawful w → IsComponent w.cabling node set →
+    IsFresh w set →
     length w.nodes * w.delay ≤ i → Holds set k →
     slice_get w.nodes k ≡ Some x → slice_get (quiet_after holds i w).nodes k ≡ Some y →
     (y.state.view.force ≡ waits_due x.state.view) × (y.state.view.gap ≡ gap_due x.state.view)

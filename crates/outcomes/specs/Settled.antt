@@ -94,7 +94,8 @@ ForcedRootsSettle =
     (holds : HoldSchedule) (w : CableWorld) (k : ℕ) (node : NodeNumber) (set core : NodeSet)
     (root : NodeNumber) →
     IsReached w → IsForced w node set core root →
-    quiet_turns (length w.nodes) w.delay ≤ k → (t : Tree) × IsTree (quiet_after holds k w) set root t
+    quiet_turns (length w.nodes) w.delay ≤ k →
+    (t : Tree) × IsTree (quiet_after holds k w) set root t
 
 -- in a tree an ID names one node
 abbrev pub IdsNameOneNode : Type 0

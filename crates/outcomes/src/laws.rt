@@ -135,8 +135,8 @@ pub fn worlds_stay_numbering()
     ensures reached { HoldsOfReached IsNumbering }
 {}
 
-/// Every component with a loop comes to the outcome Loop: after n d + 100 d + 600 d quiet turns each
-/// node of its core reports the timeout, and no node of it has an ID.
+/// Every component with a loop comes to the outcome Loop: after n d + 100 d + 600 d quiet turns
+/// each node of its core reports the timeout, and no node of it has an ID.
 pub fn loops_come_out()
     ensures { LoopsComeOut }
 {}

@@ -1,4 +1,4 @@
--- In turns without acts resets die out: after n * d turns no node enters R0, where there are n
+-- In quiet turns resets die out: after n * d turns no node enters R0, where there are n
 -- nodes, and cables delay by at most d turns. A node enters R0 because a neighbour did, at most d
 -- turns before. So the nodes that entered in the last turns form a chain, and there are no more of
 -- them than nodes.
@@ -25,7 +25,7 @@ use Rattle.cabling.specs.Wiring.{far, ports_of}
 use Rattle.cable_world.specs.Wire.{age_wire, gives}
 use Rattle.cable_world.specs.World.{CableWorld, wire_of}
 use Rattle.cable_world.specs.Turn.{inbox, turn_at, turn}
-use Rattle.cable_world.specs.Quiet.{HoldSchedule, with_holds, quiet_after}
+use Rattle.cable_world.specs.Quiet.{HoldSchedule, quiet_after}
 use Rattle.cable_world.specs.Signals.{signals_of, has_reset}
 use Rattle.cable_world.specs.Phases.{slack}
 use Rattle.cable_world.specs.Coupling.{Coupling}

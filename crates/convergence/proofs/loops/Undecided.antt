@@ -1,4 +1,4 @@
--- After n * d turns without acts.
+-- After n * d quiet turns.
 use Rattle.std.proofs.Common.{ℕ, ◌*◌, ◌≤◌, length}
 use Rattle.cable_world.specs.World.{CableWorld}
 use Rattle.cable_world.specs.Run.{IsReached}

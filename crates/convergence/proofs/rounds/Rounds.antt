@@ -407,17 +407,17 @@ module _ (set : ℕ) (m : ℕ) (small : m ≤ 64) where
       Ends hs a b w.delay (11 * w.delay) w
   from-ahead hs a b w g s = elim (run set (λ i v. At v set a b (OneAhead i a.port b.port m)) (λ v. At v set a b (AreUp a.port b.port (m + 1)) ⊎ HasRoot v set)
       (λ i. at-held set a b (OneAhead i a.port b.port m)) (up-or-root-held set a b m small) first hs w.delay 0 w g s) [
-    | inr t ↦ elim t.2 [
-      | inl u ↦ inl (t.0, t.1, u)
-      | inr u ↦ inr (t.0, omega (arith, t.1), u)
-    ]
-    | inl t ↦ elim (run set (λ i v. (v.delay ≤ i) × At v set a b (OneAhead i a.port b.port m)) (λ v. HasRoot v set)
-        (λ i holds u s. (s.0, at-held set a b (OneAhead i a.port b.port m) holds u s.1)) (root-held set) second rest (10 * w.delay) w.delay v gv (omega (arith, same), (let z : 0 + w.delay ≡ w.delay = omega arith in subst (λ k. At (quiet_after hs w.delay w) set a b (OneAhead k a.port b.port m)) z t))) [
-      | inr u ↦ inr (w.delay + u.0, omega (arith, u.1), subst (λ (z : CableWorld). HasRoot z set) (sym (quiet-then hs w.delay u.0 w)) u.2)
-      | inl u ↦ absurd (not-so-long (quiet_after rest (10 * w.delay) v) set (grown-after rest v set gv (10 * w.delay)) a.node u.1.ends.near u.1.ends.near_at u.1.is.contends
-          (omega (arith, u.1.is.waited, same, after-delay rest v gv.lawful (10 * w.delay))))
-    ]
-  ]
+        | inr t ↦ elim t.2 [
+          | inl u ↦ inl (t.0, t.1, u)
+          | inr u ↦ inr (t.0, omega (arith, t.1), u)
+        ]
+        | inl t ↦ elim (run set (λ i v. (v.delay ≤ i) × At v set a b (OneAhead i a.port b.port m)) (λ v. HasRoot v set)
+            (λ i holds u s. (s.0, at-held set a b (OneAhead i a.port b.port m) holds u s.1)) (root-held set) second rest (10 * w.delay) w.delay v gv (omega (arith, same), (let z : 0 + w.delay ≡ w.delay = omega arith in subst (λ k. At (quiet_after hs w.delay w) set a b (OneAhead k a.port b.port m)) z t))) [
+              | inr u ↦ inr (w.delay + u.0, omega (arith, u.1), subst (λ (z : CableWorld). HasRoot z set) (sym (quiet-then hs w.delay u.0 w)) u.2)
+              | inl u ↦ absurd (not-so-long (quiet_after rest (10 * w.delay) v) set (grown-after rest v set gv (10 * w.delay)) a.node u.1.ends.near u.1.ends.near_at u.1.is.contends
+                  (omega (arith, u.1.is.waited, same, after-delay rest v gv.lawful (10 * w.delay))))
+            ]
+      ]
     where
       rest : HoldSchedule
       rest = holds_after w.delay hs
@@ -471,16 +471,16 @@ module _ (set : ℕ) (m : ℕ) (small : m ≤ 64) where
       Ends hs a b (12 * w.delay) (22 * w.delay) w
   from-waiting hs a b w g s = elim (run set (Waiting set a b m small) (λ v. Asking set a b m small v ⊎ HasRoot v set)
       (waiting-held set a b m small) (asking-or-root-held set a b m small) (wait-step set a b m small) hs (10 * w.delay) 0 w g s) [
-    | inl t ↦ absurd (over t)
-    | inr t ↦ elim t.2 [
-      | inr u ↦ inr (t.0, omega (arith, t.1), u)
-      | inl u ↦
-          let v : CableWorld = quiet_after hs t.0 w in
-          let gv : Grown v set = grown-after hs w set g t.0 in
-          let same : v.delay ≡ w.delay = after-delay hs w g.lawful t.0 in
-          ends-later hs a b w t.0 (2 * v.delay) (12 * v.delay) (12 * w.delay) (22 * w.delay) (omega (arith, t.1, same)) (omega (arith, t.1, same)) (from-asking (holds_after t.0 hs) a b v gv u)
-    ]
-  ]
+        | inl t ↦ absurd (over t)
+        | inr t ↦ elim t.2 [
+          | inr u ↦ inr (t.0, omega (arith, t.1), u)
+          | inl u ↦
+              let v : CableWorld = quiet_after hs t.0 w in
+              let gv : Grown v set = grown-after hs w set g t.0 in
+              let same : v.delay ≡ w.delay = after-delay hs w g.lawful t.0 in
+              ends-later hs a b w t.0 (2 * v.delay) (12 * v.delay) (12 * w.delay) (22 * w.delay) (omega (arith, t.1, same)) (omega (arith, t.1, same)) (from-asking (holds_after t.0 hs) a b v gv u)
+        ]
+      ]
     where
       v : CableWorld
       v = quiet_after hs (10 * w.delay) w

@@ -209,8 +209,12 @@ module _ (set : ℕ) (a b : End) where
       ((j : ℕ) × (j ≤ n * (12 * w.delay)) × At (quiet_after hs j w) set a b (AreUp a.port b.port (m + n))) ⊎ ((j : ℕ) × (j ≤ n * (12 * w.delay) + 22 * w.delay) × HasRoot (quiet_after hs j w) set)
   rounds hs zero m small w g s =
       let z : m + 0 ≡ m = omega arith in
-      inl (0, omega arith, subst (λ (u : CableWorld). At u set a b (AreUp a.port b.port (m + 0))) (sym (no-quiet hs w))
-          (at-held set a b (AreUp a.port b.port (m + 0)) (hs 0) w (subst (λ k. At w set a b (AreUp a.port b.port k)) (sym z) s)))
+      inl (
+        0,
+        omega arith,
+        subst (λ (u : CableWorld). At u set a b (AreUp a.port b.port (m + 0))) (sym (no-quiet hs w))
+            (at-held set a b (AreUp a.port b.port (m + 0)) (hs 0) w (subst (λ k. At w set a b (AreUp a.port b.port k)) (sym z) s)),
+      )
   rounds hs (suc n) m small w g s = elim (round set m (omega (arith, small)) hs a b w g s) [
     | inr t ↦ inr (t.0, omega (arith, t.1), t.2)
     | inl t ↦

@@ -15,7 +15,6 @@ use Rattle.cable_world.specs.Turn.{inbox, turn_at, turn}
 use Rattle.cable_world.specs.Signals.{signals_of}
 use Rattle.cable_world.specs.Agreement.{level_shown, level_after, level_sent_at}
 use Rattle.cable_world.specs.Lawful.{AgesFall, IsLawful}
-use Rattle.cable_world.proofs.turns.ByNumber.{cabling-after}
 use Rattle.cable_world.proofs.coupling.CouplingInTurns.{before, hears, ticks, side, side-wire}
 use Rattle.cable_world.proofs.resets.Entries.{after-delay}
 use Rattle.convergence.proofs.turns.Cables.{joined-of}

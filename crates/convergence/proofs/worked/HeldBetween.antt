@@ -6,7 +6,6 @@ use Rattle.std.specs.Prelude.{◌==◌, if◌then◌else◌}
 use Rattle.port_state.specs.Entry.{enter}
 use Rattle.port_state.specs.Heard.{on_signal}
 use Rattle.port_state.specs.Tick.{tick}
-use Rattle.cable_world.specs.World.{CableWorld}
 use Rattle.cable_world.specs.Turn.{turn, turns_after}
 use Rattle.cable_world.specs.Quiet.{PlacedHold, HoldSchedule, quiet_after}
 use Rattle.cable_world.proofs.worked.Summary.{at}

@@ -1,9 +1,8 @@
 -- A run of holds and turns is so many quiet turns, with its holds between them.
-use Rattle.std.proofs.Common.{◌≡◌, ℕ, zero, suc, List, [], ◌∷◌, None, sym, ◌∙◌, ap, subst}
+use Rattle.std.proofs.Common.{◌≡◌, ℕ, zero, suc, List, [], ◌∷◌, sym, ◌∙◌, ap, subst}
 use Rattle.cable_world.specs.World.{CableWorld}
 use Rattle.cable_world.specs.Outcome.{IsSettled}
 use Rattle.cable_world.specs.Turn.{turn}
-use Rattle.cable_world.specs.Act.{hold, hold_fault}
 use Rattle.cable_world.specs.Run.{Event, acts, holds, turns, Runs}
 use Rattle.cable_world.specs.Quiet.{PlacedHold, HoldSchedule, no_holds, with_hold, with_holds, quiet_after}
 use Rattle.cable_world.proofs.QuietTurns.{holds-are-calls, no-quiet, quiet-first}

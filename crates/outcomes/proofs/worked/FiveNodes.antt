@@ -4,12 +4,10 @@ use Rattle.self_id.specs.declared.node.Attrs.{Attrs}
 use Rattle.self_id.specs.Group.{group}
 use Rattle.topology_stack.specs.Tree.{Label, Tree, Slots, branch, no_more, absent, unplugged, up, down}
 use Rattle.port_state.specs.declared.signal.Phase.TheVariants.{Ready}
-use Rattle.port_state.specs.declared.ports.PortView.{PortView}
 use Rattle.port_state.specs.Entry.{enter}
 use Rattle.port_state.specs.Heard.{on_signal}
 use Rattle.port_state.specs.Tick.{tick}
 use Rattle.cabling.specs.Wiring.{Wiring}
-use Rattle.cable_world.specs.World.{CableWorld}
 use Rattle.cable_world.specs.Turn.{turn, turns_after}
 use Rattle.cable_world.specs.Outcome.{attrs_now, IsTree}
 use Rattle.cable_world.proofs.worked.Summary.{Summary, summary_of, attrs, at}
