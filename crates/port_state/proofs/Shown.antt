@@ -1,5 +1,5 @@
 -- The node that a record shows is one that packets can show.
-use Rattle.std.proofs.Common.{◌≡◌, ℕ, zero, suc, ◌+◌, ◌-◌, ◌≤◌, ◌<◌, Bool, true, false, ◌==◌, List, [], ◌∷◌, ◌++◌, length, replicate, Option, Some, None, refl, ◌∙◌, ap, arith, length-append, if◌then◌else◌}
+use Rattle.std.proofs.Common.{◌≡◌, ℕ, zero, suc, ◌+◌, ◌-◌, ◌^◌, ◌≤◌, ◌<◌, Bool, true, false, ◌==◌, List, [], ◌∷◌, ◌++◌, length, replicate, Option, Some, None, refl, ◌∙◌, ap, arith, length-append, if◌then◌else◌}
 use Rattle.std.specs.Prelude.{nat_le, IsTrue}
 use Rattle.std.proofs.lemmas.Bool.{leb-true, eqb-true, ne_eqb}
 use Rattle.std.proofs.lemmas.List.{length-replicate}
@@ -10,8 +10,10 @@ use Rattle.self_id.specs.declared.standard.Standard.TheVariants.{Ieee2000}
 use Rattle.self_id.specs.Node.{IsOf, ups, is_width, is_width_of, kept_a_bits, kept_b_bits, blank_b_bits}
 use Rattle.std.proofs.Math.Nat.{zero-mod}
 use Rattle.port_state.specs.declared.ports.PortView.{PortView}
+use Rattle.port_state.specs.declared.states.NodeState.{NodeState}
 use Rattle.self_id.specs.Slots.{slot_count}
 use Rattle.self_id.proofs.Zeros.{node_count-group}
+use Rattle.port_state.specs.Valid.{IsBounded}
 use Rattle.port_state.specs.Group.{status, statuses_from, shown_node, NodesAreShown, GroupsHaveOneZero}
 
 pub length-statuses_from :
