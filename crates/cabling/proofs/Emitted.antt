@@ -2,8 +2,9 @@
 use Rattle.std.proofs.Common.{◌≡◌, ℕ, ◌<◌, ◌≤◌, None, List, ◌++◌, length, map, drop, get_or, Result, Ok, Err, sym, subst, ap, ◌∙◌}
 use Rattle.std.specs.Prelude.{All}
 use Rattle.self_id.specs.declared.node.Attrs.{Attrs}
+use Rattle.self_id.specs.declared.standard.Standard.TheVariants.{Ieee2000}
 use Rattle.self_id.specs.Node.{FitBits, IsNode}
-use Rattle.topology_stack.specs.Tree.{Tree, IsBusTree, groups, emits}
+use Rattle.topology_stack.specs.Tree.{Tree, IsBusTreeOf, groups, emits}
 use Rattle.topology_stack.specs.Answer.{UnlessMemory}
 use Rattle.topology_stack.specs.declared.fault.TreeFault.{TreeFault}
 use Rattle.topology_stack.specs.declared.fault.TreeStop.{TreeStop}
@@ -34,7 +35,7 @@ item_node c attrs root items i d l less =
     let g = good_item c attrs root items i d l less in
     shown_is_node c (labels attrs) (get_or items i d) l.cabling (labels_fit c attrs l.entries l.valid) g.there g.few
 
-pub tree_is_bus : (c : Wiring) (attrs : List Attrs) (root : ℕ) (items : List Visit) (l : Listed c attrs root items) → IsBusTree l.small.tree
+pub tree_is_bus : (c : Wiring) (attrs : List Attrs) (root : ℕ) (items : List Visit) (l : Listed c attrs root items) → IsBusTreeOf Ieee2000 l.small.tree
 tree_is_bus c attrs root items l = bus_seen c (labels attrs) root l.small.tree l.cabling (labels_fit c attrs l.entries l.valid) l.there l.small.seen l.small.few
 
 pub list_is : (c : Wiring) (attrs : List Attrs) (root : ℕ) (items : List Visit) (i : ℕ) (quads : List ℕ) (l : Listed c attrs root items) → length items ≤ i → quads ++ groups i (map (shown_node c (labels attrs)) (drop i items)) ≡ groups 0 (map (shown_node c (labels attrs)) items) → emits l.small.tree ≡ quads

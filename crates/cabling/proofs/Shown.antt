@@ -1,5 +1,5 @@
 -- A seen tree is a bus tree, and its walk is what its nodes show.
-use Rattle.std.proofs.Common.{◌≡◌, ◌≢◌, ℕ, zero, suc, ◌+◌, ◌-◌, ◌<◌, ◌≤◌, inl, inr, Bool, true, false, cond, eqb, nat_le, Option, Some, None, List, [], ◌∷◌, ◌++◌, length, map, drop, get_or, refl, sym, subst, ap, ◌∙◌, arith, append_assoc, length-append, append-nil, drop-cons, add-one}
+use Rattle.std.proofs.Common.{◌≡◌, ◌≢◌, ℕ, zero, suc, ◌+◌, ◌-◌, ◌^◌, ◌<◌, ◌≤◌, inl, inr, Bool, true, false, cond, eqb, nat_le, Option, Some, None, List, [], ◌∷◌, ◌++◌, length, map, drop, get_or, refl, sym, subst, ap, ◌∙◌, arith, append_assoc, length-append, append-nil, drop-cons, add-one}
 use Rattle.std.specs.Prelude.{All}
 use Rattle.std.proofs.Math.ListN.{replicate}
 use Rattle.std.proofs.lemmas.List.{length-replicate, map-append, length-map}
@@ -10,9 +10,10 @@ use Rattle.std.proofs.lemmas.Bool.Decides.{nat_tests}
 use Rattle.self_id.specs.declared.node.Attrs.{Attrs}
 use Rattle.self_id.specs.declared.node.PortStatus.{PortStatus}
 use Rattle.self_id.specs.declared.node.PortStatus.TheVariants.{Absent, Unplugged, Up, Down}
-use Rattle.self_id.specs.Node.{Node, IsNode, FitBits, ups, is_width, kept_a_bits, kept_b_bits}
+use Rattle.self_id.specs.declared.standard.Standard.TheVariants.{Ieee2000}
+use Rattle.self_id.specs.Node.{Node, IsNode, IsOf, FitBits, ups, is_width, is_width_of, kept_a_bits, kept_b_bits, blank_b_bits}
 use Rattle.self_id.specs.Group.{group}
-use Rattle.topology_stack.specs.Tree.{Label, Tree, branch, Slots, no_more, absent, unplugged, up, down, statuses, node_of, walk, walk_below, IsPart, AreParts, IsWhole, IsBusTree, groups, emits}
+use Rattle.topology_stack.specs.Tree.{Label, Tree, branch, Slots, no_more, absent, unplugged, up, down, statuses, node_of, walk, walk_below, IsPart, AreParts, IsWhole, AreOf, IsBusTreeOf, groups, emits}
 use Rattle.cabling.specs.declared.cable.End.{End}
 use Rattle.cabling.specs.declared.visits.Visit.{Visit}
 use Rattle.cabling.specs.Wiring.{Wiring, ports_of, far, IsCabling}
@@ -22,6 +23,7 @@ use Rattle.cabling.specs.codings.Visits.{visits, visits_below, is_from, at_root}
 use Rattle.cabling.specs.Labels.{no_attrs, labels}
 use Rattle.cabling.specs.codings.Shown.{statuses_from, slots_of, shown_node}
 use Rattle.std.proofs.lemmas.Nat.{pow_pos}
+use Rattle.std.proofs.Math.Nat.{zero-mod}
 use Rattle.cabling.proofs.Ends.{plugged, none_some}
 use Rattle.cabling.proofs.Near.{end_at}
 use Rattle.cabling.proofs.Seen.{RowAt, row_all, row_head, row_tail, wide}
@@ -125,13 +127,13 @@ pub record Fit (c : Wiring) (label : ℕ → Label) : Type 0 where
   pub kept_a : (x : ℕ) → (label x).kept_a ≡ 0
   pub kept_b : (x : ℕ) → (label x).kept_b ≡ 0
 
-is_width-slot_count : (n : ℕ) → is_width (slot_count n) ≡ true
+is_width-slot_count : (n : ℕ) → (is_width (slot_count n) ≡ true) × (is_width_of Ieee2000 (slot_count n) ≡ true)
 is_width-slot_count n = go (nat_le n 3) (nat_le n 11)
   where
-    go : (a b : Bool) → is_width (cond a 3 (cond b 11 16)) ≡ true
-    go true b = refl
-    go false true = refl
-    go false false = refl
+    go : (a b : Bool) → (is_width (cond a 3 (cond b 11 16)) ≡ true) × (is_width_of Ieee2000 (cond a 3 (cond b 11 16)) ≡ true)
+    go true b = (refl, refl)
+    go false true = (refl, refl)
+    go false false = (refl, refl)
 
 slots-length : (c : Wiring) (v : Visit) → IsCabling c → v.node < length c → length (slots_of c v) ≡ slot_count (length (ports_of c v.node))
 slots-length c v is there =
@@ -143,12 +145,17 @@ pub shown_is_node : (c : Wiring) (label : ℕ → Label) (v : Visit) → IsCabli
 shown_is_node c label v is fit there few = record {
   form = record {
     attrs = fit.attrs v.node there;
-    width = rw (slots-length c v is there) (is_width-slot_count (length (ports_of c v.node)));
+    width = rw (slots-length c v is there) (is_width-slot_count (length (ports_of c v.node))).0;
     kept_a = rw (fit.kept_a v.node) (pow_pos (kept_a_bits (length (slots_of c v))));
     kept_b = rw (fit.kept_b v.node) (pow_pos (kept_b_bits (length (slots_of c v))));
+    blank_b = rw (fit.kept_b v.node) (zero-mod (2 ^ blank_b_bits (length (slots_of c v))));
   };
   one_parent = few;
 }
+
+-- by IEEE 1394a-2000
+shown_is_of : (c : Wiring) (label : ℕ → Label) (v : Visit) → IsCabling c → v.node < length c → IsOf Ieee2000 (shown_node c label v)
+shown_is_of c label v is there = rw (slots-length c v is there) (is_width-slot_count (length (ports_of c v.node))).1
 
 -- the node of a seen tree is the one that is statuses_from
 node_shown : (c : Wiring) (label : ℕ → Label) (v : Visit) (a : Label) (s : Slots) → a ≡ label v.node → statuses s ≡ slots_of c v → node_of a s ≡ shown_node c label v
@@ -217,18 +224,6 @@ mutual
       ∙ sym (map-append (shown_node c label) (visits c next t) (visits_below c row s))
   walk_below_seen c label x from p row s is at h = absurd h
 
-pub bus_seen : (c : Wiring) (label : ℕ → Label) (root : ℕ) (t : Tree) → IsCabling c → Fit c label → root < length c → Sees c label root None t → length (numbers c root t) ≤ 63 → IsBusTree t
-bus_seen c label root t is fit there h few = record { whole = whole t h; small = omega (arith, few, length-visits c (at_root root) t, ap length (walk_seen c label (at_root root) t is there h), length-map (visits c (at_root root) t) (shown_node c label)) }
-  where
-    whole : (t : Tree) → Sees c label root None t → IsWhole t
-    whole (branch a s) h =
-        let slots : statuses s ≡ slots_of c (at_root root) = are_slots c label (at_root root) s is there h.2 h.1 in
-        let none : ups (slots_of c (at_root root)) ≡ 0 = ups_root c root in (
-          subst IsNode (sym (node_shown c label (at_root root) a s h.0 slots)) (shown_is_node c label (at_root root) is fit there (omega (arith, none))),
-          ap ups slots ∙ none,
-          parts_seen c label root None 0 (ports_of c root) s is fit (row_all c root) h.2,
-        )
-
 -- ---- each visit of a seen tree is of a node that packets can show
 
 pub record Good (c : Wiring) (v : Visit) : Type 0 where
@@ -267,6 +262,34 @@ mutual
 
 pub good_root : (c : Wiring) (root : ℕ) → root < length c → Good c (at_root root)
 good_root c root there = let none : ups (slots_of c (at_root root)) ≡ 0 = ups_root c root in record { there = there; few = omega (arith, none) }
+
+-- ---- a seen tree is a bus tree
+
+shown_are_of : (c : Wiring) (label : ℕ → Label) (vs : List Visit) → IsCabling c → AllGood c vs → AreOf Ieee2000 (map (shown_node c label) vs)
+shown_are_of c label [] is all = tt
+shown_are_of c label (v ∷ vs) is all = (shown_is_of c label v is all.0.there, shown_are_of c label vs is all.1)
+
+pub bus_seen : (c : Wiring) (label : ℕ → Label) (root : ℕ) (t : Tree) → IsCabling c → Fit c label → root < length c → Sees c label root None t → length (numbers c root t) ≤ 63 → IsBusTreeOf Ieee2000 t
+bus_seen c label root t is fit there h few = record {
+  bus = record {
+    whole = whole t h;
+    small = omega (arith, few, length-visits c (at_root root) t, ap length (walk_seen c label (at_root root) t is there h), length-map (visits c (at_root root) t) (shown_node c label));
+    one_standard = (Ieee2000, all_of);
+  };
+  nodes = all_of;
+}
+  where
+    all_of : AreOf Ieee2000 (walk t)
+    all_of = subst (AreOf Ieee2000) (sym (walk_seen c label (at_root root) t is there h)) (shown_are_of c label (visits c (at_root root) t) is (good_visits c label (at_root root) t is (good_root c root there) h))
+
+    whole : (t : Tree) → Sees c label root None t → IsWhole t
+    whole (branch a s) h =
+        let slots : statuses s ≡ slots_of c (at_root root) = are_slots c label (at_root root) s is there h.2 h.1 in
+        let none : ups (slots_of c (at_root root)) ≡ 0 = ups_root c root in (
+          subst IsNode (sym (node_shown c label (at_root root) a s h.0 slots)) (shown_is_node c label (at_root root) is fit there (omega (arith, none))),
+          ap ups slots ∙ none,
+          parts_seen c label root None 0 (ports_of c root) s is fit (row_all c root) h.2,
+        )
 
 -- ---- the list, group by group
 

@@ -1,6 +1,7 @@
 //! The bus tree that cables make.
 ghost use Rattle.std.specs.Prelude.{◌≡◌, ◌+◌, ◌<◌, ◌≤◌, ℕ, All, length, IfOk, None};
-ghost use Rattle.topology_stack.specs.Tree.{Tree, IsBusTree};
+ghost use Rattle.self_id.specs.declared.standard.Standard.TheVariants.{Ieee2000};
+ghost use Rattle.topology_stack.specs.Tree.{Tree, IsBusTreeOf};
 ghost use Rattle.self_id.specs.Node.{FitBits};
 ghost use Rattle.cabling.specs.NodeSet.{IsEmpty};
 ghost use Rattle.cabling.specs.Looped.{IsCoreOf};
@@ -78,9 +79,9 @@ impl Cabling {
     /// `attrs` has one entry for each node of the cabling, by its number, and each fits its bits.
     /// `Cyclic` where the component of the root has a core.
     ///
-    /// The tree is made as a bus makes it: the nodes write their self-ID packets in the order of
-    /// the walk, and the list is read. So trees are made in one place alone, and what is known of
-    /// reading says that the tree whose list this is comes out.
+    /// The nodes show themselves by IEEE 1394a-2000. The tree is made as a bus makes it: they write
+    /// their self-ID packets in the order of the walk, and the list is read. So trees are made in one
+    /// place alone, and what is known of reading says that the tree whose list this is comes out.
     pub fn tree_from(
         &self,
         alloc: Global,
@@ -92,7 +93,7 @@ impl Cabling {
         requires valid { All FitBits attrs.now }
         // The tree is the one that is seen from the root.
         ensures tree { IfOk result (λ t. Sees self.now (labels attrs.now) root None t) }
-        ensures bus { IfOk result IsBusTree }
+        ensures bus { IfOk result (IsBusTreeOf Ieee2000) }
         // A core that is answered is the component's, and there is a node in it.
         ensures core { IfCyclic result (λ core. IsCoreOf self.now root core × (IsEmpty core → ⊥)) }
         // Where a tree is answered, the component has no core.

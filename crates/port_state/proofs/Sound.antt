@@ -24,8 +24,8 @@ use Rattle.port_state.specs.Resetting as reset
 use Rattle.port_state.specs.TreeIdentify as tree
 use Rattle.self_id.specs.Group.{node_count}
 use Rattle.port_state.specs.Group.{own_group, shown_node}
-use Rattle.self_id.proofs.Laws.{length-group}
-use Rattle.port_state.proofs.Shown.{shown-is_node}
+use Rattle.self_id.proofs.Laws.{three_packets}
+use Rattle.port_state.proofs.Shown.{shown-is_node, shown-is_of}
 use Rattle.port_state.specs.SelfIdentify as ident
 use Rattle.port_state.specs.Row as row
 use Rattle.port_state.specs.Row.{Row}
@@ -437,7 +437,7 @@ sound-names x v e m =
       ports = refl;
       attrs = refl;
       timing = refl;
-      few = let few = few-packets packets x.view.ports (few_views x b) in let three : length packets ≤ 3 = (length-group (shown_node x) id (shown-is_node x b)).1 in omega (arith, few, three, few-on_port x.view.parent signal.Done, length-append (packets_on_every packets x.view.ports) (on_port x.view.parent signal.Done));
+      few = let few = few-packets packets x.view.ports (few_views x b) in let three : length packets ≤ 3 = three_packets (shown_node x) id (shown-is_node x b) (shown-is_of x b) in omega (arith, few, three, few-on_port x.view.parent signal.Done, length-append (packets_on_every packets x.view.ports) (on_port x.view.parent signal.Done));
       connected = on-append x.view.ports (packets_on_every packets x.view.ports) (on_port x.view.parent signal.Done) (packets-connected packets x.view.ports)
           (on-port x.view.ports x.view.parent signal.Done (λ p o. up-connected x p b r o));
     }

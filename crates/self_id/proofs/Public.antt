@@ -2,15 +2,16 @@
 use Rattle.std.proofs.Common.{◌≡◌, ℕ, ◌+◌, ◌-◌, ◌<◌, ◌≤◌, List, ◌++◌, length, drop, Result, Ok, Err, sym, ap, ◌∙◌, arith, drop-drop, length-drop, length-append}
 use Rattle.std.specs.Prelude.{MatchResult, IfOk, IfErr, IsOkAnd, IsErrOf}
 use Rattle.self_id.specs.declared.fault.GroupFault.{GroupFault}
-use Rattle.self_id.specs.Node.{Node, IsNode}
+use Rattle.self_id.specs.declared.standard.Standard.{Standard}
+use Rattle.self_id.specs.Node.{Node, IsNode, IsOf}
 use Rattle.self_id.specs.Group.{group, BeginsWith, StandsAt}
 use Rattle.self_id.specs.Refused.{GroupRefused}
 use Rattle.self_id.specs.codings.Reading.{read_at, Gives}
 use Rattle.self_id.proofs.Laws.{group-read_at, refused-read_at, read_at-group, read_at-refused}
 
 -- what was read of the list q at a place
-abbrev pub Taken : ℕ → ℕ → List ℕ → Result (Node × ℕ) GroupFault → Type 0
-Taken at id q r = MatchResult r (λ x. Gives at id (drop at q) x.0 x.1) (λ f. read_at at id (drop at q) ≡ Err f)
+abbrev pub Taken : Standard → ℕ → ℕ → List ℕ → Result (Node × ℕ) GroupFault → Type 0
+Taken standard at id q r = MatchResult r (λ x. Gives standard at id (drop at q) x.0 x.1) (λ f. read_at standard at id (drop at q) ≡ Err f)
 
 abbrev ok_node : Node → Result Node GroupFault
 ok_node n = Ok n
@@ -27,24 +28,24 @@ same_fault f g e = cc
 apart : (n : Node) (f : GroupFault) → ok_node n ≡ bad f → ⊥
 apart n f e = cc
 
-pub found : (at id : ℕ) (q : List ℕ) (r : Result (Node × ℕ) GroupFault) → at < length q → Taken at id q r →
-    IfOk r (λ x. StandsAt q at id x.0 x.1)
-found at id q (Ok (n, after)) lt t =
-    let p = group-read_at at id (drop at q) n t.read in
+pub found : (standard : Standard) (at id : ℕ) (q : List ℕ) (r : Result (Node × ℕ) GroupFault) → at < length q → Taken standard at id q r →
+    IfOk r (λ x. StandsAt standard q at id x.0 x.1)
+found standard at id q (Ok (n, after)) lt t =
+    let p = group-read_at standard at id (drop at q) n t.read in
     let on : drop (length (group n id)) (drop at q) ≡ drop after q = drop-drop (length (group n id)) at q ∙ ap (λ (k : ℕ). drop k q) (sym t.place) in
-    let parts : drop at q ≡ group n id ++ drop after q = p.1 ∙ ap (λ (l : List ℕ). group n id ++ l) on in
+    let parts : drop at q ≡ group n id ++ drop after q = p.2 ∙ ap (λ (l : List ℕ). group n id ++ l) on in
     let e : length q - at ≡ length (group n id) + length (drop after q) = sym (length-drop at q) ∙ ap length parts ∙ length-append (group n id) (drop after q) in
-    record { is_node = p.0; parts = parts; place = t.place; inside = omega (arith, t.place) }
-found at id q (Err f) lt t = tt
+    record { is_node = p.0; is_of = p.1; parts = parts; place = t.place; inside = omega (arith, t.place) }
+found standard at id q (Err f) lt t = tt
 
-pub only : (at id : ℕ) (q : List ℕ) (r : Result (Node × ℕ) GroupFault) → id ≤ 62 → Taken at id q r → (n : Node) → BeginsWith (drop at q) id n → IsOkAnd r (λ x. x.0 ≡ n)
-only at id q (Ok (m, after)) lt t n h = same_node m n (sym t.read ∙ ap (read_at at id) h.parts ∙ read_at-group n at id h.rest h.is_node lt)
-only at id q (Err f) lt t n h = absurd (apart n f (sym (read_at-group n at id h.rest h.is_node lt) ∙ ap (read_at at id) (sym h.parts) ∙ t))
+pub only : (standard : Standard) (at id : ℕ) (q : List ℕ) (r : Result (Node × ℕ) GroupFault) → id ≤ 62 → Taken standard at id q r → (n : Node) → BeginsWith standard (drop at q) id n → IsOkAnd r (λ x. x.0 ≡ n)
+only standard at id q (Ok (m, after)) lt t n h = same_node m n (sym t.read ∙ ap (read_at standard at id) h.parts ∙ read_at-group standard n at id h.rest h.is_node h.is_of lt)
+only standard at id q (Err f) lt t n h = absurd (apart n f (sym (read_at-group standard n at id h.rest h.is_node h.is_of lt) ∙ ap (read_at standard at id) (sym h.parts) ∙ t))
 
-pub refused : (at id : ℕ) (q : List ℕ) (r : Result (Node × ℕ) GroupFault) → at < length q → Taken at id q r → IfErr r (λ f. GroupRefused at id (drop at q) f)
-refused at id q (Ok x) lt t = tt
-refused at id q (Err f) lt t = refused-read_at at id (drop at q) f (omega (arith, length-drop at q)) t
+pub refused : (standard : Standard) (at id : ℕ) (q : List ℕ) (r : Result (Node × ℕ) GroupFault) → at < length q → Taken standard at id q r → IfErr r (λ f. GroupRefused standard at id (drop at q) f)
+refused standard at id q (Ok x) lt t = tt
+refused standard at id q (Err f) lt t = refused-read_at standard at id (drop at q) f (omega (arith, length-drop at q)) t
 
-pub exact : (at id : ℕ) (q : List ℕ) (r : Result (Node × ℕ) GroupFault) → id ≤ 62 → Taken at id q r → (f : GroupFault) → GroupRefused at id (drop at q) f → IsErrOf r f
-exact at id q (Ok (m, after)) lt t f is = absurd (apart m f (sym t.read ∙ read_at-refused at id (drop at q) f lt is))
-exact at id q (Err g) lt t f is = ap (λ (h : GroupFault). Err h) (same_fault g f (sym t ∙ read_at-refused at id (drop at q) f lt is))
+pub exact : (standard : Standard) (at id : ℕ) (q : List ℕ) (r : Result (Node × ℕ) GroupFault) → id ≤ 62 → Taken standard at id q r → (f : GroupFault) → GroupRefused standard at id (drop at q) f → IsErrOf r f
+exact standard at id q (Ok (m, after)) lt t f is = absurd (apart m f (sym t.read ∙ read_at-refused standard at id (drop at q) f lt is))
+exact standard at id q (Err g) lt t f is = ap (λ (h : GroupFault). Err h) (same_fault g f (sym t ∙ read_at-refused standard at id (drop at q) f lt is))

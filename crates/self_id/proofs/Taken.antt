@@ -10,6 +10,7 @@ use Rattle.self_id.specs.declared.fault.GroupFault.{GroupFault}
 use Rattle.self_id.specs.declared.fault.GroupFault.TheVariants.{NotSelfId, WrongId, BadOrder, Cut}
 use Rattle.self_id.specs.declared.packets.ZeroPart.{ZeroPart}
 use Rattle.self_id.specs.declared.packets.FurtherPart.{FurtherPart}
+use Rattle.self_id.specs.declared.standard.Standard.{Standard}
 use Rattle.self_id.specs.Node.{FitBits, status_bits}
 use Rattle.self_id.specs.Refused.{is_in_order, LeadsTo, GroupRefused}
 use Rattle.self_id.specs.codings.Reading.{taken, packet_at, zero_in, further_in}
@@ -54,11 +55,11 @@ takes at id j q qs p shows self own order = rw (packet-shown q p shows, self, eq
 
 -- ---- refusals
 
-refused_packet : (at id j : ℕ) (start : ℕ) (l front : List ℕ) (q : ℕ) (qs : List ℕ) (f : GroupFault) → LeadsTo id start l front (q ∷ qs) at → length front ≡ j →
-    taken at id j (packet_of q) ≡ Err f → GroupRefused start id l f
-refused_packet at id j start l front q qs f leads count e =
+refused_packet : (standard : Standard) (at id j : ℕ) (start : ℕ) (l front : List ℕ) (q : ℕ) (qs : List ℕ) (f : GroupFault) → LeadsTo standard id start l front (q ∷ qs) at → length front ≡ j →
+    taken at id j (packet_of q) ≡ Err f → GroupRefused standard start id l f
+refused_packet standard at id j start l front q qs f leads count e =
     let x = packet_of q in
-    let P : GroupFault → Type 0 = λ (g : GroupFault). GroupRefused start id l g in
+    let P : GroupFault → Type 0 = λ (g : GroupFault). GroupRefused standard start id l g in
     if_err (is_self_id x) _ (NotSelfId at) f e
     (λ self e1. if_err (eqb (owner x) id) _ (WrongId at (owner x) id) f e1
     (λ own e2. if_err (is_in_order j x) (Ok x) (BadOrder at) f e2
@@ -68,13 +69,13 @@ refused_packet at id j start l front q qs f leads count e =
     (λ self same. subst P same (front, qs, q, leads, λ p shows. ap is_self_id (sym (packet-shown q p shows)) ∙ self))
 
 -- what a list that leads to here is refused for
-pub refused : (at id j : ℕ) (start : ℕ) (l front rest : List ℕ) (f : GroupFault) → LeadsTo id start l front rest at → length front ≡ j → (0 < length front + length rest) →
-    packet_at at id j rest ≡ Err f → GroupRefused start id l f
+pub refused : (standard : Standard) (at id j : ℕ) (start : ℕ) (l front rest : List ℕ) (f : GroupFault) → LeadsTo standard id start l front rest at → length front ≡ j → (0 < length front + length rest) →
+    packet_at at id j rest ≡ Err f → GroupRefused standard start id l f
 unfolding packet_at
-refused at id j start l front [] f leads count some e =
+refused standard at id j start l front [] f leads count some e =
     let same : Cut at ≡ f = cc in
-    subst (λ (g : GroupFault). GroupRefused start id l g) same (front, leads, omega arith)
-refused at id j start l front (q ∷ qs) f leads count some e = refused_packet at id j start l front q qs f leads count e
+    subst (λ (g : GroupFault). GroupRefused standard start id l g) same (front, leads, omega arith)
+refused standard at id j start l front (q ∷ qs) f leads count some e = refused_packet standard at id j start l front q qs f leads count e
 
 -- and a packet is refused so
 pub refuses_end : (at id j : ℕ) → packet_at at id j [] ≡ Err (Cut at)

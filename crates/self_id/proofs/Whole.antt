@@ -1,19 +1,22 @@
 -- A whole group taken packet by packet.
-use Rattle.std.proofs.Common.{◌≡◌, ℕ, suc, ◌+◌, ◌<◌, Bool, true, false, cond, leb, List, [], ◌∷◌, length, drop, Result, Ok, Err, refl, sym, ap, subst, ◌∙◌, arith, drop-drop}
+use Rattle.std.proofs.Common.{◌≡◌, ℕ, suc, ◌+◌, ◌<◌, Bool, true, false, cond, leb, List, [], ◌∷◌, length, drop, Result, Ok, Err, refl, sym, ap, subst, ◌∙◌, arith, drop-drop, length-drop}
+use Rattle.std.specs.Prelude.{MatchResult}
 use Rattle.phy_packet.specs.codings.Decoding.{packet_of}
 use Rattle.phy_packet.specs.declared.packet.PhyPacket.{PhyPacket}
 use Rattle.self_id.specs.declared.fault.GroupFault.{GroupFault}
 use Rattle.self_id.specs.declared.fault.GroupFault.TheVariants.{TwoParents}
 use Rattle.self_id.specs.declared.packets.ZeroPart.{ZeroPart}
 use Rattle.self_id.specs.declared.packets.FurtherPart.{FurtherPart}
-use Rattle.self_id.specs.Node.{Node, HasForm, ups}
+use Rattle.self_id.specs.declared.standard.Standard.{Standard}
+use Rattle.self_id.specs.declared.standard.Standard.TheVariants.{Ieee1995, Ieee2000}
+use Rattle.self_id.specs.Node.{Node, FitBits, HasForm, ups}
 use Rattle.self_id.specs.Group.{group}
 use Rattle.self_id.specs.Refused.{is_in_order}
-use Rattle.self_id.specs.codings.Reading.{packet_at, owned_at, and_then, zero_in, further_in, zero_from, further_from, node3, node11, node16, single, read_at, Gives}
+use Rattle.self_id.specs.codings.Reading.{packet_at, owned_at, and_then, zero_in, further_in, zero_from, further_from, node3, node11, node16, node19, node27, node_of_three, goes_past, single, read_at, Gives}
 use Rattle.self_id.proofs.Taken.{found, ZeroSaid, zero_said, FurtherSaid, further_said}
 use Rattle.self_id.proofs.Steps.{TakenAs, whole, fault, tests}
-use Rattle.self_id.proofs.Sound.{bit_below}
-use Rattle.self_id.proofs.Again.{turn3, turn11, turn16, stop_second, stop_third, group3, group11, group16}
+use Rattle.self_id.proofs.Sound.{Fits, form11, form_three, form27}
+use Rattle.self_id.proofs.Again.{turn3, turn11, turn_three, turn27, stop_second, stop_third, stop_fourth, group3, group11, group16, group19, group27}
 
 -- ---- one packet
 
@@ -92,68 +95,127 @@ some at id n l a h =
 
 -- ---- the whole group, in a list of which it stands at a place
 
-one_on : (l : List ℕ) (at : ℕ) → drop 1 (drop at l) ≡ drop (at + 1) l
-one_on l at = drop-drop 1 at l
+-- further on
+on : (j : ℕ) (l : List ℕ) (at : ℕ) → drop j (drop at l) ≡ drop (at + j) l
+on j l at = drop-drop j at l
 
-two_on : (l : List ℕ) (at : ℕ) → drop 2 (drop at l) ≡ drop (at + 2) l
-two_on l at = drop-drop 2 at l
+pub zero_fits : (at id : ℕ) (l : List ℕ) (z : ZeroPart) → ZeroTaken at id l z → FitBits z.attrs
+zero_fits at id l z h = (zero_facts at id l z h).fit
 
-pub form3 : (at id : ℕ) (l : List ℕ) (z : ZeroPart) → ZeroTaken at id l z → HasForm (node3 z)
-form3 at id l z h = let s = zero_facts at id l z h in record { attrs = s.fit; width = refl; kept_a = omega arith; kept_b = omega arith }
+pub further_fits : (at id n : ℕ) (l : List ℕ) (a : FurtherPart) → FurtherTaken at id n l a → Fits a
+further_fits at id n l a h = let s = further_facts at id n l a h in record { kept = s.kept; fields = s.fields }
 
-pub form11 : (at id : ℕ) (l m : List ℕ) (z : ZeroPart) (a : FurtherPart) → ZeroTaken at id l z → FurtherTaken (at + 1) id 0 m a → HasForm (node11 z a)
-form11 at id l m z a h h' =
-    let s = zero_facts at id l z h in
-    let s' = further_facts (at + 1) id 0 m a h' in
-    let r = bit_below a.r in
-    record { attrs = s.fit; width = refl; kept_a = omega (arith, s'.kept); kept_b = omega arith }
+-- a further packet of the group
+taken_on : (at id j : ℕ) (q : List ℕ) (a : FurtherPart) (h : FurtherTaken (at + suc j) id j (drop (at + suc j) q) a) → packet_at (at + suc j) id (suc j) (drop (suc j) (drop at q)) ≡ Ok h.packet
+taken_on at id j q a h = ap (packet_at (at + suc j) id (suc j)) (on (suc j) q at) ∙ h.taken
 
-pub form16 : (at id : ℕ) (l m k : List ℕ) (z : ZeroPart) (a b : FurtherPart) → ZeroTaken at id l z → FurtherTaken (at + 1) id 0 m a → FurtherTaken (at + 2) id 1 k b → HasForm (node16 z a b)
-form16 at id l m k z a b h h' h'' =
-    let s = zero_facts at id l z h in
-    let s' = further_facts (at + 1) id 0 m a h' in
-    let s'' = further_facts (at + 2) id 1 k b h'' in
-    let r = bit_below a.r in
-    let r' = bit_below b.r in
-    let m' = bit_below b.more in
-    record { attrs = s.fit; width = refl; kept_a = omega (arith, s'.kept); kept_b = omega (arith, s''.kept) }
+-- packets that were taken, one after the other
+pub record Two (at id : ℕ) (q : List ℕ) (z : ZeroPart) (a : FurtherPart) : Type 0 where
+  pub zero_is : ZeroTaken at id (drop at q) z
+  pub goes_on : z.more ≡ true
+  pub first_is : FurtherTaken (at + 1) id 0 (drop (at + 1) q) a
 
-pub read3 : (at id : ℕ) (q : List ℕ) (z : ZeroPart) → ZeroTaken at id (drop at q) z → z.more ≡ false → read_at at id (drop at q) ≡ single at (node3 z)
-read3 at id q z h last =
+pub record Three (at id : ℕ) (q : List ℕ) (z : ZeroPart) (a b : FurtherPart) : Type 0 where
+  pub two : Two at id q z a
+  pub goes_on : a.more ≡ true
+  pub second_is : FurtherTaken (at + 2) id 1 (drop (at + 2) q) b
+
+pub record Four (at id : ℕ) (q : List ℕ) (z : ZeroPart) (a b c : FurtherPart) : Type 0 where
+  pub three : Three at id q z a b
+  pub goes_on : b.more ≡ true
+  pub third_is : FurtherTaken (at + 3) id 2 (drop (at + 3) q) c
+
+pub two_taken : (at id : ℕ) (q : List ℕ) (z : ZeroPart) (a : FurtherPart) → Ok z ≡ and_then (owned_at at id (drop at q)) (zero_from at) → z.more ≡ true →
+    Ok a ≡ and_then (owned_at (at + 1) id (drop (at + 1) q)) (further_from (at + 1) 0) → Two at id q z a
+two_taken at id q z a zero more first = record { zero_is = zero_ok at id (drop at q) z zero; goes_on = more; first_is = further_ok (at + 1) id 0 (drop (at + 1) q) a first }
+
+pub three_taken : (at id : ℕ) (q : List ℕ) (z : ZeroPart) (a b : FurtherPart) → Two at id q z a → a.more ≡ true → Ok b ≡ and_then (owned_at (at + 2) id (drop (at + 2) q)) (further_from (at + 2) 1) → Three at id q z a b
+three_taken at id q z a b two more second = record { two = two; goes_on = more; second_is = further_ok (at + 2) id 1 (drop (at + 2) q) b second }
+
+pub four_taken : (at id : ℕ) (q : List ℕ) (z : ZeroPart) (a b c : FurtherPart) → Three at id q z a b → b.more ≡ true → Ok c ≡ and_then (owned_at (at + 3) id (drop (at + 3) q)) (further_from (at + 3) 2) → Four at id q z a b c
+four_taken at id q z a b c three more third = record { three = three; goes_on = more; third_is = further_ok (at + 3) id 2 (drop (at + 3) q) c third }
+
+-- a further packet that was taken lies within the list, and what it says fits
+pub taken_fits : (at id n : ℕ) (q : List ℕ) (a : FurtherPart) → Ok a ≡ and_then (owned_at at id (drop at q)) (further_from at n) → (a.kept < 4) × (at < length q)
+taken_fits at id n q a e =
+    let h = further_ok at id n (drop at q) a e in
+    ((further_facts at id n (drop at q) a h).kept, omega (arith, some at id n (drop at q) a h, length-drop at q))
+
+pub two_forms : (at id : ℕ) (q : List ℕ) (z : ZeroPart) (a : FurtherPart) → Two at id q z a → HasForm (node11 z a)
+two_forms at id q z a h = form11 z a (zero_fits at id (drop at q) z h.zero_is) (further_fits (at + 1) id 0 (drop (at + 1) q) a h.first_is)
+
+pub three_forms : (standard : Standard) (at id : ℕ) (q : List ℕ) (z : ZeroPart) (a b : FurtherPart) → Three at id q z a b → HasForm (node_of_three standard z a b)
+three_forms standard at id q z a b h =
+    form_three standard z a b (zero_fits at id (drop at q) z h.two.zero_is) (further_fits (at + 1) id 0 (drop (at + 1) q) a h.two.first_is) (further_fits (at + 2) id 1 (drop (at + 2) q) b h.second_is)
+
+pub four_forms : (at id : ℕ) (q : List ℕ) (z : ZeroPart) (a b c : FurtherPart) → Four at id q z a b c → HasForm (node27 z a b c)
+four_forms at id q z a b c h =
+    let t = h.three in
+    form27 z a b c (zero_fits at id (drop at q) z t.two.zero_is) (further_fits (at + 1) id 0 (drop (at + 1) q) a t.two.first_is) (further_fits (at + 2) id 1 (drop (at + 2) q) b t.second_is) (further_fits (at + 3) id 2 (drop (at + 3) q) c h.third_is)
+
+pub read3 : (standard : Standard) (at id : ℕ) (q : List ℕ) (z : ZeroPart) → ZeroTaken at id (drop at q) z → z.more ≡ false → read_at standard at id (drop at q) ≡ single at (node3 z)
+read3 standard at id q z h last =
     let s = zero_facts at id (drop at q) z h in
-    turn3 at id (drop at q) h.packet h.taken (s.more ∙ last) ∙ ap (λ (y : ZeroPart). single at (node3 y)) h.part
+    turn3 standard at id (drop at q) h.packet h.taken (s.more ∙ last) ∙ ap (λ (y : ZeroPart). single at (node3 y)) h.part
 
-pub read11 : (at id : ℕ) (q : List ℕ) (z : ZeroPart) (a : FurtherPart) → ZeroTaken at id (drop at q) z → z.more ≡ true → FurtherTaken (at + 1) id 0 (drop (at + 1) q) a → a.more ≡ false →
-    read_at at id (drop at q) ≡ single at (node11 z a)
-read11 at id q z a h more h' last =
+pub read11 : (standard : Standard) (at id : ℕ) (q : List ℕ) (z : ZeroPart) (a : FurtherPart) → Two at id q z a → a.more ≡ false → read_at standard at id (drop at q) ≡ single at (node11 z a)
+read11 standard at id q z a t last =
+    let h = t.zero_is in
+    let i = t.first_is in
     let s = zero_facts at id (drop at q) z h in
-    let s' = further_facts (at + 1) id 0 (drop (at + 1) q) a h' in
-    let e' : packet_at (at + 1) id 1 (drop 1 (drop at q)) ≡ Ok h'.packet = ap (packet_at (at + 1) id 1) (one_on q at) ∙ h'.taken in
-    turn11 at id (drop at q) h.packet h'.packet h.taken (s.more ∙ more) e' (s'.more ∙ last)
-    ∙ ap (λ (y : ZeroPart). single at (node11 y (further_in h'.packet))) h.part ∙ ap (λ (y : FurtherPart). single at (node11 z y)) h'.part
+    let s_a = further_facts (at + 1) id 0 (drop (at + 1) q) a i in
+    turn11 standard at id (drop at q) h.packet i.packet h.taken (s.more ∙ t.goes_on) (taken_on at id 0 q a i) (s_a.more ∙ last)
+    ∙ ap (λ (y : ZeroPart). single at (node11 y (further_in i.packet))) h.part ∙ ap (λ (y : FurtherPart). single at (node11 z y)) i.part
 
-pub read16 : (at id : ℕ) (q : List ℕ) (z : ZeroPart) (a b : FurtherPart) → ZeroTaken at id (drop at q) z → z.more ≡ true → FurtherTaken (at + 1) id 0 (drop (at + 1) q) a → a.more ≡ true →
-    FurtherTaken (at + 2) id 1 (drop (at + 2) q) b → read_at at id (drop at q) ≡ single at (node16 z a b)
-read16 at id q z a b h more h' more' h'' =
+pub read_three : (standard : Standard) (at id : ℕ) (q : List ℕ) (z : ZeroPart) (a b : FurtherPart) → Three at id q z a b → goes_past standard b.more ≡ false → read_at standard at id (drop at q) ≡ single at (node_of_three standard z a b)
+read_three standard at id q z a b t last =
+    let h = t.two.zero_is in
+    let i = t.two.first_is in
+    let j = t.second_is in
     let s = zero_facts at id (drop at q) z h in
-    let s' = further_facts (at + 1) id 0 (drop (at + 1) q) a h' in
-    let e' : packet_at (at + 1) id 1 (drop 1 (drop at q)) ≡ Ok h'.packet = ap (packet_at (at + 1) id 1) (one_on q at) ∙ h'.taken in
-    let e'' : packet_at (at + 2) id 2 (drop 2 (drop at q)) ≡ Ok h''.packet = ap (packet_at (at + 2) id 2) (two_on q at) ∙ h''.taken in
-    turn16 at id (drop at q) h.packet h'.packet h''.packet h.taken (s.more ∙ more) e' (s'.more ∙ more') e''
-    ∙ ap (λ (y : ZeroPart). single at (node16 y (further_in h'.packet) (further_in h''.packet))) h.part
-    ∙ ap (λ (y : FurtherPart). single at (node16 z y (further_in h''.packet))) h'.part ∙ ap (λ (y : FurtherPart). single at (node16 z a y)) h''.part
+    let s_a = further_facts (at + 1) id 0 (drop (at + 1) q) a i in
+    let s_b = further_facts (at + 2) id 1 (drop (at + 2) q) b j in
+    turn_three standard at id (drop at q) h.packet i.packet j.packet h.taken (s.more ∙ t.two.goes_on) (taken_on at id 0 q a i) (s_a.more ∙ t.goes_on) (taken_on at id 1 q b j) (ap (goes_past standard) s_b.more ∙ last)
+    ∙ ap (λ (y : ZeroPart). single at (node_of_three standard y (further_in i.packet) (further_in j.packet))) h.part
+    ∙ ap (λ (y : FurtherPart). single at (node_of_three standard z y (further_in j.packet))) i.part ∙ ap (λ (y : FurtherPart). single at (node_of_three standard z a y)) j.part
 
-pub stopped_second : (at id : ℕ) (q : List ℕ) (z : ZeroPart) (f : GroupFault) → ZeroTaken at id (drop at q) z → z.more ≡ true → packet_at (at + 1) id 1 (drop (at + 1) q) ≡ Err f → read_at at id (drop at q) ≡ Err f
-stopped_second at id q z f h more e =
+pub read27 : (at id : ℕ) (q : List ℕ) (z : ZeroPart) (a b c : FurtherPart) → Four at id q z a b c → read_at Ieee1995 at id (drop at q) ≡ single at (node27 z a b c)
+read27 at id q z a b c f =
+    let t = f.three in
+    let h = t.two.zero_is in
+    let i = t.two.first_is in
+    let j = t.second_is in
+    let k = f.third_is in
     let s = zero_facts at id (drop at q) z h in
-    stop_second at id (drop at q) h.packet f h.taken (s.more ∙ more) (ap (packet_at (at + 1) id 1) (one_on q at) ∙ e)
+    let s_a = further_facts (at + 1) id 0 (drop (at + 1) q) a i in
+    let s_b = further_facts (at + 2) id 1 (drop (at + 2) q) b j in
+    turn27 at id (drop at q) h.packet i.packet j.packet k.packet h.taken (s.more ∙ t.two.goes_on) (taken_on at id 0 q a i) (s_a.more ∙ t.goes_on) (taken_on at id 1 q b j) (s_b.more ∙ f.goes_on) (taken_on at id 2 q c k)
+    ∙ ap (λ (y : ZeroPart). single at (node27 y (further_in i.packet) (further_in j.packet) (further_in k.packet))) h.part
+    ∙ ap (λ (y : FurtherPart). single at (node27 z y (further_in j.packet) (further_in k.packet))) i.part
+    ∙ ap (λ (y : FurtherPart). single at (node27 z a y (further_in k.packet))) j.part ∙ ap (λ (y : FurtherPart). single at (node27 z a b y)) k.part
 
-pub stopped_third : (at id : ℕ) (q : List ℕ) (z : ZeroPart) (a : FurtherPart) (f : GroupFault) → ZeroTaken at id (drop at q) z → z.more ≡ true → FurtherTaken (at + 1) id 0 (drop (at + 1) q) a → a.more ≡ true →
-    packet_at (at + 2) id 2 (drop (at + 2) q) ≡ Err f → read_at at id (drop at q) ≡ Err f
-stopped_third at id q z a f h more h' more' e =
+pub stopped_second : (standard : Standard) (at id : ℕ) (q : List ℕ) (z : ZeroPart) (f : GroupFault) → ZeroTaken at id (drop at q) z → z.more ≡ true → packet_at (at + 1) id 1 (drop (at + 1) q) ≡ Err f → read_at standard at id (drop at q) ≡ Err f
+stopped_second standard at id q z f h more e =
     let s = zero_facts at id (drop at q) z h in
-    let s' = further_facts (at + 1) id 0 (drop (at + 1) q) a h' in
-    stop_third at id (drop at q) h.packet h'.packet f h.taken (s.more ∙ more) (ap (packet_at (at + 1) id 1) (one_on q at) ∙ h'.taken) (s'.more ∙ more') (ap (packet_at (at + 2) id 2) (two_on q at) ∙ e)
+    stop_second standard at id (drop at q) h.packet f h.taken (s.more ∙ more) (ap (packet_at (at + 1) id 1) (on 1 q at) ∙ e)
+
+pub stopped_third : (standard : Standard) (at id : ℕ) (q : List ℕ) (z : ZeroPart) (a : FurtherPart) (f : GroupFault) → Two at id q z a → a.more ≡ true → packet_at (at + 2) id 2 (drop (at + 2) q) ≡ Err f → read_at standard at id (drop at q) ≡ Err f
+stopped_third standard at id q z a f t more e =
+    let h = t.zero_is in
+    let i = t.first_is in
+    let s = zero_facts at id (drop at q) z h in
+    let s_a = further_facts (at + 1) id 0 (drop (at + 1) q) a i in
+    stop_third standard at id (drop at q) h.packet i.packet f h.taken (s.more ∙ t.goes_on) (taken_on at id 0 q a i) (s_a.more ∙ more) (ap (packet_at (at + 2) id 2) (on 2 q at) ∙ e)
+
+pub stopped_fourth : (at id : ℕ) (q : List ℕ) (z : ZeroPart) (a b : FurtherPart) (f : GroupFault) → Three at id q z a b → b.more ≡ true → packet_at (at + 3) id 3 (drop (at + 3) q) ≡ Err f → read_at Ieee1995 at id (drop at q) ≡ Err f
+stopped_fourth at id q z a b f t more e =
+    let h = t.two.zero_is in
+    let i = t.two.first_is in
+    let j = t.second_is in
+    let s = zero_facts at id (drop at q) z h in
+    let s_a = further_facts (at + 1) id 0 (drop (at + 1) q) a i in
+    let s_b = further_facts (at + 2) id 1 (drop (at + 2) q) b j in
+    stop_fourth at id (drop at q) h.packet i.packet j.packet f h.taken (s.more ∙ t.two.goes_on) (taken_on at id 0 q a i) (s_a.more ∙ t.goes_on) (taken_on at id 1 q b j) (s_b.more ∙ more) (ap (packet_at (at + 3) id 3) (on 3 q at) ∙ e)
 
 -- ---- what a group that was taken gives
 
@@ -161,11 +223,17 @@ single_is : (at : ℕ) (b : Bool) (m n : Node) → ok_part n ≡ cond b (Ok m) (
 single_is at true m n e = cc
 single_is at false m n e = absurd cc
 
-pub gives : (at id k : ℕ) (l : List ℕ) (m n : Node) → length (group m id) ≡ k → read_at at id l ≡ single at m → Ok n ≡ single at m → Gives at id l n (at + k)
-gives at id k l m n size reads is = record {
-  read = reads ∙ sym is;
-  place = ap (λ (j : ℕ). at + j) (sym size ∙ ap (λ (x : Node). length (group x id)) (single_is at (leb (ups m.ports) 1) m n is));
+-- what is answered for a whole group's node
+abbrev pub Whole : ℕ → ℕ → Node → Result (Node × ℕ) GroupFault → Type 0
+Whole at after m r = MatchResult r (λ x. (Ok x.0 ≡ single at m) × (x.1 ≡ after)) (λ f. Err f ≡ single at m)
+
+pub gives : (standard : Standard) (at id k : ℕ) (l : List ℕ) (m : Node) (r : Result (Node × ℕ) GroupFault) → length (group m id) ≡ k → read_at standard at id l ≡ single at m → Whole at (at + k) m r →
+    MatchResult r (λ x. Gives standard at id l x.0 x.1) (λ f. read_at standard at id l ≡ Err f)
+gives standard at id k l m (Ok (n, after)) size reads w = record {
+  read = reads ∙ sym w.0;
+  place = w.1 ∙ ap (λ (j : ℕ). at + j) (sym size ∙ ap (λ (x : Node). length (group x id)) (single_is at (leb (ups m.ports) 1) m n w.0));
 }
+gives standard at id k l m (Err f) size reads w = reads ∙ sym w
 
 pub size3 : (z : ZeroPart) (id : ℕ) → length (group (node3 z) id) ≡ 1
 size3 z id = ap length (group3 (node3 z) id refl)
@@ -173,5 +241,9 @@ size3 z id = ap length (group3 (node3 z) id refl)
 pub size11 : (z : ZeroPart) (a : FurtherPart) (id : ℕ) → length (group (node11 z a) id) ≡ 2
 size11 z a id = ap length (group11 (node11 z a) id refl)
 
-pub size16 : (z : ZeroPart) (a b : FurtherPart) (id : ℕ) → length (group (node16 z a b) id) ≡ 3
-size16 z a b id = ap length (group16 (node16 z a b) id refl)
+pub size_three : (standard : Standard) (z : ZeroPart) (a b : FurtherPart) (id : ℕ) → length (group (node_of_three standard z a b) id) ≡ 3
+size_three Ieee1995 z a b id = ap length (group19 (node19 z a b) id refl)
+size_three Ieee2000 z a b id = ap length (group16 (node16 z a b) id refl)
+
+pub size27 : (z : ZeroPart) (a b c : FurtherPart) (id : ℕ) → length (group (node27 z a b c) id) ≡ 4
+size27 z a b c id = ap length (group27 (node27 z a b c) id refl)

@@ -1,15 +1,15 @@
 -- Of the packets of a group the first alone is a packet zero, so a list of groups has as many packet
 -- zeros as nodes.
-use Rattle.std.proofs.Common.{◌≡◌, ℕ, zero, suc, ◌+◌, ◌*◌, ◌/◌, ◌%◌, ◌^◌, ◌<◌, ◌≤◌, Bool, true, false, cond, ◌&&◌, eqb, List, [], ◌∷◌, ◌++◌, length, take, drop, refl, arith}
+use Rattle.std.proofs.Common.{◌≡◌, ℕ, zero, suc, ◌+◌, ◌*◌, ◌/◌, ◌%◌, ◌^◌, ◌<◌, ◌≤◌, Bool, true, false, cond, ◌&&◌, eqb, List, [], ◌∷◌, ◌++◌, length, take, drop, refl, sym, ap, ◌∙◌, arith}
 use Rattle.std.proofs.lemmas.List.Recursion.{is_count_by}
 use Rattle.phy_packet.specs.Layout.{bit}
 use Rattle.phy_packet.specs.Packet.{quad_of, is_packet_zero}
 use Rattle.self_id.specs.declared.node.PortStatus.{PortStatus}
 use Rattle.self_id.specs.Node.{Node, HasForm, FitBits}
-use Rattle.self_id.specs.Group.{field, fields, group, node_count, zero_packet, first_packet, second_packet}
+use Rattle.self_id.specs.Group.{field, fields, group, node_count, zero_packet, eight_packet, five_packet}
 pub use Rattle.self_id.proofs.Again.{field_below}
-use Rattle.self_id.proofs.Again.{group3, group11, group16, eight_small, five_small}
-use Rattle.self_id.proofs.Sound.{three, eleven, sixteen, width_of, bit_below}
+use Rattle.self_id.proofs.Again.{group3, group11, group16, group19, group27, eight_small, five_small}
+use Rattle.self_id.proofs.Sound.{three, eleven, sixteen, nineteen, full, width_of, bit_below}
 
 -- the marks of a quadlet that shows packet zero, and of one that shows a further packet
 zero_marks : (q id l g s d c w p0 p1 p2 i m : ℕ) → id < 64 → l < 2 → g < 64 → s < 4 → d < 4 → c < 2 → w < 8 → p0 < 4 → p1 < 4 → p2 < 4 → i < 2 → m < 2 →
@@ -38,14 +38,15 @@ zero_shows n id m fits lt =
     lt (bit_below n.attrs.link) fits.gap fits.speed fits.delay (bit_below n.attrs.contender) fits.power (field_below n.ports 0) (field_below n.ports 1) (field_below n.ports 2) (bit_below n.attrs.initiated) (bit_below m) (omega arith) in
     is_zero q h.0 h.1
 
-pub first_shows : (n : Node) (id : ℕ) (m : Bool) → id < 64 → n.kept_a < 8 → fields (take 8 (drop 3 n.ports)) < 2 ^ 16 → is_packet_zero (quad_of (first_packet n id m)) ≡ false
-first_shows n id m lt kept small =
-    let q = quad_of (first_packet n id m) in
-    is_further q (more_mark q id 0 (n.kept_a / 2) (fields (take 8 (drop 3 n.ports))) (bit (eqb (n.kept_a % 2) 1)) (bit m) lt (omega arith) (omega arith) small (bit_below (eqb (n.kept_a % 2) 1)) (bit_below m) (omega arith))
+pub eight_shows : (n : Node) (id number kept : ℕ) (m : Bool) → id < 64 → number < 8 → kept < 8 → 11 + 8 * number ≤ length n.ports → is_packet_zero (quad_of (eight_packet n id number kept m)) ≡ false
+eight_shows n id number kept m lt few small some =
+    let q = quad_of (eight_packet n id number kept m) in
+    let f = fields (take 8 (drop (3 + 8 * number) n.ports)) in
+    is_further q (more_mark q id number (kept / 2) f (bit (eqb (kept % 2) 1)) (bit m) lt few (omega arith) (eight_small n (3 + 8 * number) (omega arith)) (bit_below (eqb (kept % 2) 1)) (bit_below m) (omega arith))
 
-pub second_shows : (n : Node) (id : ℕ) → id < 64 → n.kept_b < 1024 → fields (drop 11 n.ports) < 2 ^ 10 → is_packet_zero (quad_of (second_packet n id)) ≡ false
-second_shows n id lt kept small =
-    let q = quad_of (second_packet n id) in
+pub five_shows : (n : Node) (id : ℕ) → id < 64 → n.kept_b < 1024 → fields (drop 11 n.ports) < 2 ^ 10 → is_packet_zero (quad_of (five_packet n id)) ≡ false
+five_shows n id lt kept small =
+    let q = quad_of (five_packet n id) in
     let f = fields (drop 11 n.ports) * 2 ^ 6 + n.kept_b / 2 ^ 2 % 2 ^ 6 in
     is_further q (more_mark q id 1 (n.kept_b / 2 ^ 8) f (bit (eqb (n.kept_b / 2 % 2) 1)) (bit (eqb (n.kept_b % 2) 1)) lt (omega arith) (omega arith) (omega arith) (bit_below (eqb (n.kept_b / 2 % 2) 1)) (bit_below (eqb (n.kept_b % 2) 1)) (omega arith))
 
@@ -71,27 +72,48 @@ zeros_in-append (q ∷ k) l = rw (zeros_in-append k l) (one_more (is_packet_zero
 pub node_count-append : (k l : List ℕ) → node_count (k ++ l) ≡ node_count k + node_count l
 node_count-append k l = rw (← counted (k ++ l), ← counted k, ← counted l) (zeros_in-append k l)
 
-one : (q : ℕ) → is_packet_zero q ≡ true → node_count (q ∷ []) ≡ 1
-one q z = rw z refl
+-- further packets have none
+NoneOf : List ℕ → Type 0
+NoneOf [] = Unit {0}
+NoneOf (q ∷ qs) = (is_packet_zero q ≡ false) × NoneOf qs
 
-one_of_two : (q a : ℕ) → is_packet_zero q ≡ true → is_packet_zero a ≡ false → node_count (q ∷ a ∷ []) ≡ 1
-one_of_two q a z m = rw (z, m) refl
+none_of : (qs : List ℕ) → NoneOf qs → zeros_in qs ≡ 0
+unfolding zeros_in NoneOf
+none_of [] h = refl
+none_of (q ∷ qs) h = rw h.0 (none_of qs h.1)
 
-one_of_three : (q a b : ℕ) → is_packet_zero q ≡ true → is_packet_zero a ≡ false → is_packet_zero b ≡ false → node_count (q ∷ a ∷ b ∷ []) ≡ 1
-one_of_three q a b z m l = rw (z, m, l) refl
+one_of : (l : List ℕ) (q : ℕ) (qs : List ℕ) → l ≡ q ∷ qs → is_packet_zero q ≡ true → NoneOf qs → node_count l ≡ 1
+unfolding zeros_in
+one_of l q qs e z h = ap node_count e ∙ sym (counted (q ∷ qs)) ∙ rw (z, none_of qs h) refl
 
 -- a group shows one node
 pub node_count-group : (n : Node) (id : ℕ) → HasForm n → id < 64 → node_count (group n id) ≡ 1
-node_count-group n id h lt = elim (width_of n h) [
-  | three count ↦ rw (group3 n id count) (one (quad_of (zero_packet n id false)) (zero_shows n id false h.attrs lt))
-  | eleven count ↦
-      let kept : n.kept_a < 8 = rw count at h.kept_a in
-      let small : fields (take 8 (drop 3 n.ports)) < 2 ^ 16 = eight_small n (omega arith) in
-      rw (group11 n id count) (one_of_two (quad_of (zero_packet n id true)) (quad_of (first_packet n id false)) (zero_shows n id true h.attrs lt) (first_shows n id false lt kept small))
-  | sixteen count ↦
-      let kept : n.kept_a < 8 = rw count at h.kept_a in
-      let kept' : n.kept_b < 1024 = rw count at h.kept_b in
-      let small : fields (take 8 (drop 3 n.ports)) < 2 ^ 16 = eight_small n (omega arith) in
-      let small' : fields (drop 11 n.ports) < 2 ^ 10 = five_small n count in
-      rw (group16 n id count) (one_of_three (quad_of (zero_packet n id true)) (quad_of (first_packet n id true)) (quad_of (second_packet n id)) (zero_shows n id true h.attrs lt) (first_shows n id true lt kept small) (second_shows n id lt kept' small'))
-]
+unfolding NoneOf
+node_count-group n id h lt =
+    let zero = λ (m : Bool). zero_shows n id m h.attrs lt in
+    elim (width_of n h) [
+      | three count ↦ one_of (group n id) _ [] (group3 n id count) (zero false) tt
+      | eleven count ↦
+          let kept : n.kept_a < 8 = rw count at h.kept_a in
+          one_of (group n id) _ _ (group11 n id count) (zero true) (eight_shows n id 0 n.kept_a false lt (omega arith) kept (omega arith), tt)
+      | sixteen count ↦
+          let kept : n.kept_a < 8 = rw count at h.kept_a in
+          let kept_b : n.kept_b < 1024 = rw count at h.kept_b in
+          one_of (group n id) _ _ (group16 n id count) (zero true)
+          (eight_shows n id 0 n.kept_a true lt (omega arith) kept (omega arith), (five_shows n id lt kept_b (five_small n count), tt))
+      | nineteen count ↦
+          let kept : n.kept_a < 8 = rw count at h.kept_a in
+          let kept_b : n.kept_b < 128 = rw count at h.kept_b in
+          one_of (group n id) _ _ (group19 n id count) (zero true)
+          (eight_shows n id 0 n.kept_a true lt (omega arith) kept (omega arith), (eight_shows n id 1 (n.kept_b / 2 ^ 4) false lt (omega arith) (omega arith) (omega arith), tt))
+      | full count ↦
+          let kept : n.kept_a < 8 = rw count at h.kept_a in
+          let kept_b : n.kept_b < 128 = rw count at h.kept_b in
+          one_of (group n id) _ _ (group27 n id count) (zero true) (
+            eight_shows n id 0 n.kept_a true lt (omega arith) kept (omega arith),
+            (
+              eight_shows n id 1 (n.kept_b / 2 ^ 4) true lt (omega arith) (omega arith) (omega arith),
+              (eight_shows n id 2 (n.kept_b / 2 % 2 ^ 3) (eqb (n.kept_b % 2) 1) lt (omega arith) (omega arith) (omega arith), tt),
+            ),
+          )
+    ]

@@ -1,11 +1,13 @@
 -- What a node says of itself in its self-ID packets.
-use Rattle.std.specs.Prelude.{◌≡◌, ℕ, zero, suc, ◌+◌, ◌^◌, ◌<◌, ◌≤◌, Bool, ◌==◌, ◌||◌, if◌then◌else◌, IsTrue, List, [], ◌∷◌, length, refl}
+use Rattle.std.specs.Prelude.{◌≡◌, ℕ, zero, suc, ◌+◌, ◌%◌, ◌^◌, ◌<◌, ◌≤◌, Bool, ◌==◌, ◌||◌, if◌then◌else◌, IsTrue, List, [], ◌∷◌, length, refl}
 use Rattle.self_id.specs.declared.node.Attrs.{Attrs}
 use Rattle.self_id.specs.declared.node.PortStatus.{PortStatus}
 use Rattle.self_id.specs.declared.node.PortStatus.TheVariants.{Absent, Unplugged, Up, Down}
+use Rattle.self_id.specs.declared.standard.Standard.{Standard}
+use Rattle.self_id.specs.declared.standard.Standard.TheVariants.{Ieee1995, Ieee2000}
 
 -- attributes, the statuses of the slots by rising number, and the bits that its further packets
--- carry unread: kept_a those of packet n = 0, kept_b those of packet n = 1
+-- carry unread: kept_a those of packet n = 0, kept_b those of n = 1 and n = 2
 pub record Node : Type 0 where
   pub attrs : Attrs
   pub ports : List PortStatus
@@ -39,16 +41,29 @@ pub record FitBits (a : Attrs) : Type 0 where
   pub delay : a.delay < 4
   pub power : a.power < 8
 
--- how many slots a node may show (IEEE 1394a-2000: one packet, two, or three)
+-- how many slots a node may show by a standard: in IEEE Std 1394-1995 packet zero has three, and up
+-- to three further packets have eight each; in IEEE 1394a-2000 the second of two has five
+abbrev pub is_width_of : Standard → ℕ → Bool
+is_width_of Ieee1995 slots =
+    (slots == 3) || ((slots == 11) || ((slots == 19) || (slots == 27)))
+is_width_of Ieee2000 slots = (slots == 3) || ((slots == 11) || (slots == 16))
+
+-- and by either
 abbrev pub is_width : ℕ → Bool
-is_width slots = (slots == 3) || ((slots == 11) || (slots == 16))
+is_width slots =
+    (slots == 3) || ((slots == 11) || ((slots == 16) || ((slots == 19) || (slots == 27))))
 
 -- how many bits are carried in kept_a and kept_b: none of a packet that isn't there
 abbrev pub kept_a_bits : ℕ → ℕ
 kept_a_bits slots = if slots == 3 then 0 else 3
 
 abbrev pub kept_b_bits : ℕ → ℕ
-kept_b_bits slots = if slots == 16 then 10 else 0
+kept_b_bits slots =
+    if slots == 16 then 10 else (if (slots == 19) || (slots == 27) then 7 else 0)
+
+-- how many of the last bits of kept_b are those of a packet n = 2 that isn't there
+abbrev pub blank_b_bits : ℕ → ℕ
+blank_b_bits slots = if slots == 19 then 4 else 0
 
 -- a node that packets can show
 pub record HasForm (n : Node) : Type 0 where
@@ -56,11 +71,16 @@ pub record HasForm (n : Node) : Type 0 where
   pub width : IsTrue (is_width (length n.ports))
   pub kept_a : n.kept_a < 2 ^ kept_a_bits (length n.ports)
   pub kept_b : n.kept_b < 2 ^ kept_b_bits (length n.ports)
+  pub blank_b : n.kept_b % 2 ^ blank_b_bits (length n.ports) ≡ 0
 
 -- and that has one parent at most
 pub record IsNode (n : Node) : Type 0 where
   pub form : HasForm n
   pub one_parent : ups n.ports ≤ 1
+
+-- its number of slots is one of this standard
+abbrev pub IsOf : Standard → Node → Type 0
+IsOf standard n = IsTrue (is_width_of standard (length n.ports))
 
 -- the two bits of a port status
 abbrev pub status_bits : PortStatus → ℕ

@@ -10,7 +10,8 @@ pub enum GroupFault {
     NotSelfId { at: usize },
     /// The packet has the phy_ID `found` in place of `wanted`.
     WrongId { at: usize, found: u8, wanted: u8 },
-    /// The packet isn't the next one of its group: packet zero, then n = 0, then n = 1.
+    /// The packet isn't the next one of its group: packet zero, then n = 0, n = 1 and, in a group of
+    /// IEEE Std 1394-1995, n = 2.
     BadOrder { at: usize },
     /// The list ends where a further packet of the group is to stand.
     Cut { at: usize },

@@ -4,18 +4,20 @@ ghost use Rattle.phy_packet.specs.Layout.{spelled};
 ghost use Rattle.self_id.specs.Node.{Node, node_with, HasForm};
 ghost use Rattle.self_id.specs.Group.{StandsAt, BeginsWith};
 ghost use Rattle.self_id.specs.Refused.{GroupRefused};
-ghost use Rattle.self_id.specs.codings.Reading.{statuses, carried_a, carried_b, single, read_at, Gives};
+ghost use Rattle.self_id.specs.codings.Reading.{statuses, carried_a, carried_b, carried_c, single, read_at, Gives};
 ghost use Rattle.self_id.specs.declared.fault.GroupFault.{GroupFault};
+ghost use Rattle.self_id.specs.declared.standard.Standard.TheVariants.{Ieee1995, Ieee2000};
 
 use crate::fault::GroupFault;
 use crate::node::{Attrs, PortList, SelfId};
 use crate::packets::{FurtherPart, ZeroPart, read_further, read_zero, status};
 use crate::slots::count_up;
+use crate::standard::Standard;
 
 /// Appends the statuses of so many fields of two bits, at most eight, the last of them lowest.
 fn push_fields(ports: &mut PortList, fields: u16, count: u32)
     requires few { count ≤ 8 }
-    requires room { length ports.old + count ≤ 16 }
+    requires room { length ports.old + count ≤ 27 }
     ensures { ports.new ≡ ports.old ++ statuses count fields }
 {
     for below in (0..count).rev() {
@@ -23,26 +25,30 @@ fn push_fields(ports: &mut PortList, fields: u16, count: u32)
     }
 }
 
-/// The node of a whole group, unless it has two parents.
-fn single(
+/// The node of a whole group and the place after it, unless the node has two parents.
+fn whole(
     at: usize,
+    after: usize,
     attrs: Attrs,
     ports: PortList,
     kept_a: u8,
     kept_b: u16,
-) -> Result<SelfId, GroupFault>
+) -> Result<(SelfId, usize), GroupFault>
     requires { HasForm (node_with attrs ports kept_a kept_b) }
-    ensures { result ≡ single at (node_with attrs ports kept_a kept_b) }
+    ensures { MatchResult result
+        (λ x. (Ok x.0 ≡ single at (node_with attrs ports kept_a kept_b)) × (x.1 ≡ after))
+        (λ f. Err f ≡ single at (node_with attrs ports kept_a kept_b)) }
 {
     if count_up(ports.as_slice()) > 1 {
         return Err(GroupFault::TwoParents { at });
     }
-    Ok(SelfId {
+    let node = SelfId {
         attrs,
         ports,
         kept_a,
         kept_b,
-    })
+    };
+    Ok((node, after))
 }
 
 /// The slots that packet zero shows.
@@ -56,17 +62,19 @@ fn first_ports(zero: &ZeroPart) -> PortList
     ports
 }
 
-/// The carried bits of packet n = 0: its reserved bits and r.
-fn first_carried(first: &FurtherPart) -> u8
-    requires { first.now.kept < 4 }
-    ensures { result ≡ spelled (carried_a first.now) }
+/// The carried bits of a packet with eight slots: its reserved bits and r.
+fn carried_of_eight(part: &FurtherPart) -> u8
+    requires { part.now.kept < 4 }
+    ensures value { result ≡ spelled (carried_a part.now) }
+    ensures small { result < 8 }
 {
-    let r = if first.r { 1 } else { 0 };
-    first.kept * 2 + r
+    let r = if part.r { 1 } else { 0 };
+    part.kept * 2 + r
 }
 
-/// The carried bits of packet n = 1: its reserved bits and the eight after its port fields.
-fn second_carried(second: &FurtherPart) -> u16
+/// The carried bits of the second of two further packets of IEEE 1394a-2000: its reserved bits and
+/// the eight after its port fields.
+fn carried_of_five(second: &FurtherPart) -> u16
     requires { second.now.kept < 4 }
     ensures { result ≡ spelled (carried_b second.now) }
 {
@@ -75,51 +83,113 @@ fn second_carried(second: &FurtherPart) -> u16
     u16::from(second.kept) * 256 + second.fields % 64 * 4 + r + more
 }
 
-/// The node of the group at a place and the place after it, or the first fault.
-fn take_group(quads: &[u32], at: usize, wanted: u8) -> Result<(SelfId, usize), GroupFault>
+/// The carried bits of packet n = 2: its reserved bits, r and m.
+fn carried_of_last(third: &FurtherPart) -> u8
+    requires { third.now.kept < 4 }
+    ensures value { result ≡ spelled (carried_c third.now) }
+    ensures small { result < 16 }
+{
+    let r = if third.r { 2 } else { 0 };
+    let more = if third.more { 1 } else { 0 };
+    third.kept * 4 + r + more
+}
+
+/// The node of a standard's group at a place and the place after it, or the first fault.
+fn take_group(
+    standard: Standard,
+    quads: &[u32],
+    at: usize,
+    wanted: u8,
+) -> Result<(SelfId, usize), GroupFault>
     requires inside { at < length quads.now }
-    ensures { MatchResult result (λ x. Gives at wanted (drop at quads.now) x.0 x.1)
-        (λ f. read_at at wanted (drop at quads.now) ≡ Err f) }
+    ensures { MatchResult result (λ x. Gives standard at wanted (drop at quads.now) x.0 x.1)
+        (λ f. read_at standard at wanted (drop at quads.now) ≡ Err f) }
 {
     let zero = read_zero(quads, at, wanted)?;
     let mut ports = first_ports(&zero);
     if !zero.more {
-        let node = single(at, zero.attrs, ports, 0, 0)?;
-        return Ok((node, at + 1));
+        return whole(at, at + 1, zero.attrs, ports, 0, 0);
     }
     let first = read_further(quads, at + 1, wanted, 0)?;
     push_fields(&mut ports, first.fields, 8);
-    let kept_a = first_carried(&first);
+    let kept_a = carried_of_eight(&first);
     if !first.more {
-        let node = single(at, zero.attrs, ports, kept_a, 0)?;
-        return Ok((node, at + 2));
+        return whole(at, at + 2, zero.attrs, ports, kept_a, 0);
     }
     let second = read_further(quads, at + 2, wanted, 1)?;
-    push_fields(&mut ports, second.fields >> 6, 5);
-    let kept_b = second_carried(&second);
-    let node = single(at, zero.attrs, ports, kept_a, kept_b)?;
-    Ok((node, at + 3))
+    match standard {
+        Standard::Ieee2000 => {
+            push_fields(&mut ports, second.fields >> 6, 5);
+            let kept_b = carried_of_five(&second);
+            whole(at, at + 3, zero.attrs, ports, kept_a, kept_b)
+        }
+        Standard::Ieee1995 => {
+            push_fields(&mut ports, second.fields, 8);
+            let kept_b = u16::from(carried_of_eight(&second)) * 16;
+            if !second.more {
+                return whole(at, at + 3, zero.attrs, ports, kept_a, kept_b);
+            }
+            let third = read_further(quads, at + 3, wanted, 2)?;
+            push_fields(&mut ports, third.fields, 8);
+            let kept_b = kept_b + u16::from(carried_of_last(&third));
+            whole(at, at + 4, zero.attrs, ports, kept_a, kept_b)
+        }
+    }
 }
 
-/// Reads the group of the node with ID `wanted` that stands at a place of a list.
+/// Reads the group of the node with ID `wanted` that stands at a place of a list, by a standard.
 ///
 /// `at` counts quadlets from 0 and lies inside the list; `wanted` is 0 to 62. The answer is the
 /// node and the place after its group. Else it is the first rule that is broken: the packets are
 /// taken in turn, and of each it is asked whether the list goes on to it, whether it is a self-ID
 /// packet, whether it is this node's, and whether it is the next of the group; at the end, whether
-/// the node has two parents (IEEE 1394a-2000, self-ID packets).
-pub fn read_group(quads: &[u32], at: usize, wanted: u8) -> Result<(SelfId, usize), GroupFault>
+/// the node has two parents. It takes no memory.
+pub fn read_group_of(
+    standard: Standard,
+    quads: &[u32],
+    at: usize,
+    wanted: u8,
+) -> Result<(SelfId, usize), GroupFault>
     requires inside { at < length quads.now }
     requires id { wanted ≤ 62 }
     // The group of the answered node stands there, and the answered place follows it.
-    ensures found { IfOk result (λ x. StandsAt quads.now at wanted x.0 x.1) }
+    ensures found { IfOk result (λ x. StandsAt standard quads.now at wanted x.0 x.1) }
     // A node whose group stands there is answered.
-    ensures only { (n : Node) → BeginsWith (drop at quads.now) wanted n
+    ensures only { (n : Node) → BeginsWith standard (drop at quads.now) wanted n
         → IsOkAnd result (λ x. x.0 ≡ n) }
     // A fault that is answered is the list's, and the list's fault is answered.
-    ensures refused { IfErr result (λ f. GroupRefused at wanted (drop at quads.now) f) }
-    ensures exact { (f : GroupFault) → GroupRefused at wanted (drop at quads.now) f
+    ensures refused { IfErr result (λ f. GroupRefused standard at wanted (drop at quads.now) f) }
+    ensures exact { (f : GroupFault) → GroupRefused standard at wanted (drop at quads.now) f
         → IsErrOf result f }
 {
-    take_group(quads, at, wanted)
+    take_group(standard, quads, at, wanted)
+}
+
+/// `read_group_of` by IEEE 1394a-2000, self-ID packets: up to three packets with 3, 11 or 16 slots.
+pub fn read_group(quads: &[u32], at: usize, wanted: u8) -> Result<(SelfId, usize), GroupFault>
+    requires inside { at < length quads.now }
+    requires id { wanted ≤ 62 }
+    ensures found { IfOk result (λ x. StandsAt Ieee2000 quads.now at wanted x.0 x.1) }
+    ensures only { (n : Node) → BeginsWith Ieee2000 (drop at quads.now) wanted n
+        → IsOkAnd result (λ x. x.0 ≡ n) }
+    ensures refused { IfErr result (λ f. GroupRefused Ieee2000 at wanted (drop at quads.now) f) }
+    ensures exact { (f : GroupFault) → GroupRefused Ieee2000 at wanted (drop at quads.now) f
+        → IsErrOf result f }
+{
+    read_group_of(Standard::Ieee2000, quads, at, wanted)
+}
+
+/// `read_group_of` by IEEE Std 1394-1995, self-ID packets: up to four packets with 3, 11, 19 or 27
+/// slots.
+pub fn read_group95(quads: &[u32], at: usize, wanted: u8) -> Result<(SelfId, usize), GroupFault>
+    requires inside { at < length quads.now }
+    requires id { wanted ≤ 62 }
+    ensures found { IfOk result (λ x. StandsAt Ieee1995 quads.now at wanted x.0 x.1) }
+    ensures only { (n : Node) → BeginsWith Ieee1995 (drop at quads.now) wanted n
+        → IsOkAnd result (λ x. x.0 ≡ n) }
+    ensures refused { IfErr result (λ f. GroupRefused Ieee1995 at wanted (drop at quads.now) f) }
+    ensures exact { (f : GroupFault) → GroupRefused Ieee1995 at wanted (drop at quads.now) f
+        → IsErrOf result f }
+{
+    read_group_of(Standard::Ieee1995, quads, at, wanted)
 }

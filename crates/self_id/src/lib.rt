@@ -1,4 +1,5 @@
-//! What one node says of itself: its group of self-ID packets (IEEE 1394a-2000, self-ID packets).
+//! What one node says of itself: its group of self-ID packets (IEEE Std 1394-1995 and IEEE
+//! 1394a-2000, self-ID packets).
 #![tactic(auto)]
 
 mod fault;
@@ -7,13 +8,15 @@ mod node;
 mod packets;
 mod quad_group;
 mod slots;
+mod standard;
 #[cfg(test)]
 mod tests;
 mod writing;
 
 pub use fault::GroupFault;
-pub use group::read_group;
+pub use group::{read_group, read_group_of, read_group95};
 pub use node::{Attrs, PortList, PortStatus, SelfId};
 pub use quad_group::QuadGroup;
 pub use slots::{count_down, count_up, slot_count};
+pub use standard::Standard;
 pub use writing::write_group;

@@ -37,10 +37,10 @@ pub struct Attrs {
     pub initiated: bool,
 }
 
-/// Port statuses by rising slot number, at most 16.
+/// Port statuses by rising slot number, at most 27.
 #[derive(Debug, Drop)]
 pub struct PortList {
-    items: ArrayVec<PortStatus, 16>,
+    items: ArrayVec<PortStatus, 27>,
 }
 
 impl Model for PortList {
@@ -51,7 +51,7 @@ impl Model for PortList {
 
     ghost view = { λ p. p.items.items };
 
-    ghost invariant = { λ p. length p.items.items ≤ 16 };
+    ghost invariant = { λ p. length p.items.items ≤ 27 };
 }
 
 impl PortList {
@@ -66,7 +66,7 @@ impl PortList {
 
     /// Appends the status of the next slot.
     pub fn push(&mut self, status: PortStatus)
-        requires { length self.old < 16 }
+        requires { length self.old < 27 }
         ensures { self.new ≡ self.old ++ status ∷ [] }
     {
         self.items.push(status);
@@ -75,7 +75,7 @@ impl PortList {
     /// The statuses, slot 0 first.
     pub fn as_slice(&self) -> &[PortStatus]
         ensures value { result.now ≡ self.now }
-        ensures few { length result.now ≤ 16 }
+        ensures few { length result.now ≤ 27 }
     {
         self.items.as_slice()
     }
@@ -83,17 +83,20 @@ impl PortList {
 
 /// What one node says of itself in its self-ID packets.
 ///
-/// It always has 3, 11 or 16 slots, one slot at the most that is up, attributes that fit their
-/// bits, and no carried bits of a packet that it doesn't have.
+/// It always has 3, 11, 16, 19 or 27 slots, one slot at the most that is up, attributes that fit
+/// their bits, and no carried bits of a packet that it doesn't have. With 16 slots its packets are
+/// those of IEEE 1394a-2000, with 19 or 27 those of IEEE Std 1394-1995, else those of both.
 #[derive(Debug, Drop)]
 pub struct SelfId {
     /// What packet zero says besides the ports.
     pub attrs: Attrs,
-    /// The slots: 3, 11 or 16.
+    /// The slots: 3, 11, 16, 19 or 27.
     pub ports: PortList,
-    /// With 11 or 16 slots three carried bits of packet n = 0: the two reserved bits, then r.
+    /// With more than 3 slots three carried bits of packet n = 0: the two reserved bits, then r.
     pub kept_a: u8,
     /// With 16 slots ten carried bits of packet n = 1: the two reserved bits, then its last eight.
+    /// With 19 or 27 slots seven: the two reserved bits and r of n = 1, then the two reserved bits,
+    /// r and m of n = 2. With 19 slots the last four are 0.
     pub kept_b: u16,
 }
 
@@ -112,7 +115,8 @@ ghost use Rattle.self_id.specs.Node.{node_with, IsNode};
 impl SelfId {
     /// A node with these attributes and slots that carries no other bits.
     ///
-    /// The attributes fit their bits; `ports` has 3, 11 or 16 entries, and one at most is `Up`.
+    /// The attributes fit their bits; `ports` has 3, 11, 16, 19 or 27 entries, and one at most is
+    /// `Up`.
     pub fn new(attrs: Attrs, ports: &[PortStatus]) -> SelfId
         requires { IsNode (node_with attrs ports.now 0 0) }
         ensures { result ≡ node_with attrs ports.now 0 0 }

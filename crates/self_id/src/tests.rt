@@ -1,4 +1,6 @@
-use crate::{Attrs, GroupFault, PortStatus, QuadGroup, SelfId, read_group, write_group};
+use crate::{
+    Attrs, GroupFault, PortStatus, QuadGroup, SelfId, read_group, read_group95, write_group,
+};
 use std::test::Fail;
 
 const PLAIN: Attrs = Attrs {
@@ -26,6 +28,25 @@ fn groups(rt: HostRuntime) -> Result<(), Fail> {
         assert_eq!(rt; node.ports.as_slice().len(), slots);
         let mut out = QuadGroup::new();
         write_group(&node, id, &mut out);
+        assert_eq!(rt; out.as_slice(), *list);
+    }
+    Ok(())
+}
+
+// Nineteen slots and twenty-seven with carried bits, which IEEE 1394a-2000 reads otherwise.
+#[test]
+fn groups95(rt: HostRuntime) -> Result<(), Fail> {
+    let lists: [&[u32]; 2] = [
+        &[0x807f_8055, 0x8081_5555, 0x809d_5556],
+        &[0x807f_8055, 0x8081_5555, 0x8091_5555, 0x80ad_5557],
+    ];
+    for (list, slots) in lists.iter().zip([19, 27]) {
+        assert!(rt; list.len() > 0);
+        let (node, after) = read_group95(list, 0, 0).map_err(|_| "refused")?;
+        assert_eq!(rt; after, list.len());
+        assert_eq!(rt; node.ports.as_slice().len(), slots);
+        let mut out = QuadGroup::new();
+        write_group(&node, 0, &mut out);
         assert_eq!(rt; out.as_slice(), *list);
     }
     Ok(())

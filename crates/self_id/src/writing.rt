@@ -2,7 +2,7 @@
 ghost use Rattle.std.specs.Prelude.{◌≡◌, ◌+◌, ◌*◌, ◌^◌, ◌<◌, ◌≤◌, [], length, IsTrue};
 ghost use Rattle.phy_packet.specs.Packet.{quad_of};
 ghost use Rattle.self_id.specs.Node.{status_bits};
-ghost use Rattle.self_id.specs.Group.{fields, zero_packet, first_packet, second_packet, group};
+ghost use Rattle.self_id.specs.Group.{fields, zero_packet, eight_packet, five_packet, group};
 
 use crate::node::{PortStatus, SelfId};
 use crate::quad_group::QuadGroup;
@@ -57,27 +57,31 @@ fn zero_quad(node: &SelfId, id: u8, more: bool) -> u32
     })
 }
 
-/// Packet n = 0 of a node with at least 11 slots.
-fn first_quad(node: &SelfId, id: u8, more: bool) -> u32
+/// A further packet of a node, counted from 0, that has eight of its slots. `kept` is its two
+/// reserved bits and r.
+fn eight_quad(node: &SelfId, id: u8, number: u8, kept: u8, more: bool) -> u32
     requires id { id ≤ 62 }
-    requires slots { 11 ≤ length node.now.ports }
-    ensures { result ≡ quad_of (first_packet node.now id more) }
+    requires number { number ≤ 2 }
+    requires kept { kept < 8 }
+    requires slots { 11 + 8 * number ≤ length node.now.ports }
+    ensures { result ≡ quad_of (eight_packet node.now id number kept more) }
 {
+    let start = 3 + 8 * number as usize;
     encode(&PhyPacket::SelfMore {
         phy_id: id,
-        n: 0,
-        kept: node.kept_a / 2,
-        fields: fields(&node.ports.as_slice()[3..11]),
-        r: node.kept_a % 2 == 1,
+        n: number,
+        kept: kept / 2,
+        fields: fields(&node.ports.as_slice()[start..start + 8]),
+        r: kept % 2 == 1,
         more,
     })
 }
 
 /// Packet n = 1 of a node with 16 slots.
-fn second_quad(node: &SelfId, id: u8) -> u32
+fn five_quad(node: &SelfId, id: u8) -> u32
     requires id { id ≤ 62 }
     requires slots { length node.now.ports ≡ 16 }
-    ensures { result ≡ quad_of (second_packet node.now id) }
+    ensures { result ≡ quad_of (five_packet node.now id) }
 {
     let carried = node.kept_b;
     encode(&PhyPacket::SelfMore {
@@ -91,7 +95,8 @@ fn second_quad(node: &SelfId, id: u8) -> u32
 }
 
 /// Writes the group of a node with its ID, 0 to 62, into an empty list: one quadlet with 3 slots,
-/// two with 11, three with 16 (IEEE 1394a-2000, self-ID packets).
+/// two with 11, three with 16 or 19, four with 27 (IEEE Std 1394-1995 and IEEE 1394a-2000, self-ID
+/// packets).
 pub fn write_group(s: &SelfId, id: u8, out: &mut QuadGroup)
     requires id { id ≤ 62 }
     requires empty { out.old ≡ [] }
@@ -100,12 +105,24 @@ pub fn write_group(s: &SelfId, id: u8, out: &mut QuadGroup)
     let slots = s.ports.as_slice().len();
     if slots == 3 {
         out.push(zero_quad(s, id, false));
-    } else if slots == 11 {
-        out.push(zero_quad(s, id, true));
-        out.push(first_quad(s, id, false));
-    } else {
-        out.push(zero_quad(s, id, true));
-        out.push(first_quad(s, id, true));
-        out.push(second_quad(s, id));
+        return;
     }
+    out.push(zero_quad(s, id, true));
+    if slots == 11 {
+        out.push(eight_quad(s, id, 0, s.kept_a, false));
+        return;
+    }
+    out.push(eight_quad(s, id, 0, s.kept_a, true));
+    if slots == 16 {
+        out.push(five_quad(s, id));
+        return;
+    }
+    let kept = (s.kept_b / 16) as u8;
+    if slots == 19 {
+        out.push(eight_quad(s, id, 1, kept, false));
+        return;
+    }
+    let last = (s.kept_b / 2 % 8) as u8;
+    out.push(eight_quad(s, id, 1, kept, true));
+    out.push(eight_quad(s, id, 2, last, s.kept_b % 2 == 1));
 }

@@ -12,7 +12,7 @@ use Rattle.speed_map.specs.SameBus.{ElectOneManager, HaveOneSpeedMap, HaveOneTop
 use Rattle.speed_map.proofs.Unique.{one_path}
 
 pub one-manager : NoListHasTwoTrees → ElectOneManager
-one-manager one t u p q e = ap elected (one t u p q e)
+one-manager one standard t u p q e = ap elected (one standard t u p q e)
 
 -- ---- rows
 
@@ -33,8 +33,8 @@ one-rows t rows other bus x y = same_number_lists rows other (x.size ∙ sym y.s
     (same-cell t rows other (k / 64) (k % 64) bus x y (omega (arith, inside, x.size)) (omega arith)))
 
 pub one-speed-map : NoListHasTwoTrees → HaveOneSpeedMap
-one-speed-map one t u rows other p q e x y =
-    one-rows t rows other p x (subst (λ (s : Tree). AreRows s other) (sym (one t u p q e)) y)
+one-speed-map one standard t u rows other p q e x y =
+    one-rows t rows other p.bus x (subst (λ (s : Tree). AreRows s other) (sym (one standard t u p q e)) y)
 
 -- ---- images
 

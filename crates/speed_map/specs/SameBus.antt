@@ -1,21 +1,24 @@
 -- What nodes make of equal lists.
 use Rattle.std.specs.Prelude.{◌≡◌, ℕ, List}
-use Rattle.topology_stack.specs.Tree.{Tree, IsBusTree, emits}
+use Rattle.self_id.specs.declared.standard.Standard.{Standard}
+use Rattle.topology_stack.specs.Tree.{Tree, IsBusTreeOf, emits}
 use Rattle.topology_stack.specs.Elect.{elected}
 use Rattle.topology_map.specs.Sealed.{IsSealed}
 use Rattle.topology_map.specs.Map.{IsMap}
 use Rattle.speed_map.specs.Rows.{AreRows}
 
--- the trees that are read from equal lists have the same elected node
+-- the trees of one standard that are read from equal lists have the same elected node
 abbrev pub ElectOneManager : Type 0
 ElectOneManager =
-    (t u : Tree) → IsBusTree t → IsBusTree u → emits t ≡ emits u → elected t ≡ elected u
+    (standard : Standard) (t u : Tree) → IsBusTreeOf standard t → IsBusTreeOf standard u →
+    emits t ≡ emits u → elected t ≡ elected u
 
 -- and the same rows of speeds
 abbrev pub HaveOneSpeedMap : Type 0
 HaveOneSpeedMap =
-    (t u : Tree) (rows other : List ℕ) → IsBusTree t → IsBusTree u → emits t ≡ emits u →
-    AreRows t rows → AreRows u other → rows ≡ other
+    (standard : Standard) (t u : Tree) (rows other : List ℕ) → IsBusTreeOf standard t →
+    IsBusTreeOf standard u → emits t ≡ emits u → AreRows t rows → AreRows u other →
+    rows ≡ other
 
 -- a list has one image of its topology map in a generation
 abbrev pub HaveOneTopologyMap : Type 0

@@ -20,7 +20,7 @@ node_count-groups id (n ∷ ns) each few =
     let first = node_count-group n id (each 0 n refl).form (omega arith) in
     node_count-append (group n id) (groups (id + 1) ns) ∙ (rw (first, rest) (omega arith))
 
-length-groups : (id : ℕ) (ns : List Node) → AreNodes ns → length (groups id ns) ≤ 3 * length ns
+length-groups : (id : ℕ) (ns : List Node) → AreNodes ns → length (groups id ns) ≤ 4 * length ns
 unfolding AreNodes
 length-groups id [] each = omega arith
 length-groups id (n ∷ ns) each =
@@ -28,12 +28,12 @@ length-groups id (n ∷ ns) each =
     let first = length-group n id (each 0 n refl) in
     omega (arith, rest, first.1, length-append (group n id) (groups (id + 1) ns))
 
--- a bus has as many packet zeros as nodes, and at most 189 quadlets
+-- a bus has as many packet zeros as nodes, and at most 252 quadlets
 pub node_count-emits : (t : Tree) → IsBusTree t → node_count (emits t) ≡ length (walk t)
 unfolding AreNodes
 node_count-emits t h = node_count-groups 0 (walk t) (λ (i : ℕ) (n : Node) (e : slice_get (walk t) i ≡ Some n). are_nodes t i n h e) (let few = h.small in omega arith)
 
-pub length-emits : (t : Tree) → IsBusTree t → length (emits t) ≤ 189
+pub length-emits : (t : Tree) → IsBusTree t → length (emits t) ≤ 252
 unfolding AreNodes
 length-emits t h =
     let few = h.small in

@@ -3,22 +3,23 @@
 use Rattle.std.proofs.Common.{◌≡◌, ℕ, zero, suc, ◌<◌, ◌⊎◌, inl, inr, List, [], ◌∷◌, ◌++◌, length, Result, Ok, Err, sym, ap, subst, ◌∙◌, arith, length-append}
 use Rattle.topology_stack.specs.declared.fault.TreeFault.{TreeFault}
 use Rattle.std.specs.Prelude.{slice_get, Some}
+use Rattle.self_id.specs.declared.standard.Standard.{Standard}
 use Rattle.self_id.specs.Node.{Node, IsNode}
-use Rattle.topology_stack.specs.Tree.{Tree, branch, Slots, no_more, absent, unplugged, up, down, walk_below, node_of, walk, IsPart, AreParts, IsBusTree, emits}
+use Rattle.topology_stack.specs.Tree.{Tree, branch, Slots, no_more, absent, unplugged, up, down, walk_below, node_of, walk, IsPart, AreParts, IsBusTree, IsBusTreeOf, emits}
 use Rattle.topology_stack.specs.codings.Code.{tree_of, tree_of-walk}
 use Rattle.topology_stack.specs.Refused.{Refused}
 use Rattle.topology_stack.proofs.ReadFrom.{read}
 use Rattle.topology_stack.proofs.Sound.{Explained, read_sound}
 use Rattle.topology_stack.proofs.Exact.{emits_again, refused_again}
 
-explained : (l : List ℕ) (r : Result (List Node) TreeFault) → read l ≡ r → Explained l r
-explained l r e = subst (Explained l) e (read_sound l)
+explained : (standard : Standard) (l : List ℕ) (r : Result (List Node) TreeFault) → read standard l ≡ r → Explained standard l r
+explained standard l r e = subst (Explained standard l) e (read_sound standard l)
 
-pub is_refused : (l : List ℕ) (f : TreeFault) → read l ≡ Err f → Refused l f
-is_refused l f e = explained l (Err f) e
+pub is_refused : (standard : Standard) (l : List ℕ) (f : TreeFault) → read standard l ≡ Err f → Refused standard l f
+is_refused standard l f e = explained standard l (Err f) e
 
-pub is_emitted : (l : List ℕ) (ns : List Node) → read l ≡ Ok ns → (t : Tree) × IsBusTree t × (ns ≡ walk t) × (emits t ≡ l)
-is_emitted l ns e = let x = explained l (Ok ns) e in (x.0, x.1.bus, x.1.nodes, sym x.1.list)
+pub is_emitted : (standard : Standard) (l : List ℕ) (ns : List Node) → read standard l ≡ Ok ns → (t : Tree) × IsBusTreeOf standard t × (ns ≡ walk t) × (emits t ≡ l)
+is_emitted standard l ns e = let x = explained standard l (Ok ns) e in (x.0, x.1.bus, x.1.nodes, sym x.1.list)
 
 abbrev ok_nodes : List Node → Result (List Node) TreeFault
 ok_nodes ns = Ok ns
@@ -36,28 +37,28 @@ same_nodes : (ms ns : List Node) → ok_nodes ms ≡ ok_nodes ns → ms ≡ ns
 same_nodes ms ns e = cc
 
 -- no list has two trees
-pub one_tree : (t u : Tree) → IsBusTree t → IsBusTree u → emits t ≡ emits u → t ≡ u
-one_tree t u bt bu e = sym (tree_of-walk t) ∙ ap tree_of (same_nodes (walk t) (walk u) (sym (emits_again t bt) ∙ ap read e ∙ emits_again u bu)) ∙ tree_of-walk u
+pub one_tree : (standard : Standard) (t u : Tree) → IsBusTreeOf standard t → IsBusTreeOf standard u → emits t ≡ emits u → t ≡ u
+one_tree standard t u bt bu e = sym (tree_of-walk t) ∙ ap tree_of (same_nodes (walk t) (walk u) (sym (emits_again standard t bt) ∙ ap (read standard) e ∙ emits_again standard u bu)) ∙ tree_of-walk u
 
 -- a list that a tree emits has no fault
-pub no_fault : (t : Tree) (f : TreeFault) → IsBusTree t → Refused (emits t) f → ⊥
-no_fault t f bus is = apart (walk t) f (sym (emits_again t bus) ∙ refused_again (emits t) f is)
+pub no_fault : (standard : Standard) (t : Tree) (f : TreeFault) → IsBusTreeOf standard t → Refused standard (emits t) f → ⊥
+no_fault standard t f bus is = apart (walk t) f (sym (emits_again standard t bus) ∙ refused_again standard (emits t) f is)
 
 -- no list has two faults
-pub one_fault : (l : List ℕ) (f g : TreeFault) → Refused l f → Refused l g → f ≡ g
-one_fault l f g a b = same_fault f g (sym (refused_again l f a) ∙ refused_again l g b)
+pub one_fault : (standard : Standard) (l : List ℕ) (f g : TreeFault) → Refused standard l f → Refused standard l g → f ≡ g
+one_fault standard l f g a b = same_fault f g (sym (refused_again standard l f a) ∙ refused_again standard l g b)
 
 -- each list has a tree or a fault
-data Answer (l : List ℕ) : Type 0 where
-  accepted : (t : Tree) → IsBusTree t → emits t ≡ l → Answer l
-  refused : (f : TreeFault) → Refused l f → Answer l
+data Answer (standard : Standard) (l : List ℕ) : Type 0 where
+  accepted : (t : Tree) → IsBusTreeOf standard t → emits t ≡ l → Answer standard l
+  refused : (f : TreeFault) → Refused standard l f → Answer standard l
 
-answer_by : (l : List ℕ) (r : Result (List Node) TreeFault) → Explained l r → Answer l
-answer_by l (Ok ns) (t, e) = accepted t e.bus (sym e.list)
-answer_by l (Err f) is = refused f is
+answer_by : (standard : Standard) (l : List ℕ) (r : Result (List Node) TreeFault) → Explained standard l r → Answer standard l
+answer_by standard l (Ok ns) (t, e) = accepted t e.bus (sym e.list)
+answer_by standard l (Err f) is = refused f is
 
-pub one_of : (l : List ℕ) → ((t : Tree) × IsBusTree t × (emits t ≡ l)) ⊎ ((f : TreeFault) × Refused l f)
-one_of l = elim (answer_by l (read l) (read_sound l)) [
+pub one_of : (standard : Standard) (l : List ℕ) → ((t : Tree) × IsBusTreeOf standard t × (emits t ≡ l)) ⊎ ((f : TreeFault) × Refused standard l f)
+one_of standard l = elim (answer_by standard l (read standard l) (read_sound standard l)) [
   | accepted t bus is ↦ inl (t, bus, is)
   | refused f is ↦ inr (f, is)
 ]

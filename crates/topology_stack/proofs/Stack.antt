@@ -3,9 +3,10 @@ use Rattle.std.proofs.Common.{◌≡◌, ℕ, suc, ◌+◌, ◌≤◌, List, [],
 use Rattle.std.proofs.lemmas.List.{append-nil}
 use Rattle.self_id.specs.declared.node.PortStatus.{PortStatus}
 use Rattle.self_id.specs.declared.node.PortStatus.TheVariants.{Absent, Unplugged, Up, Down}
-use Rattle.self_id.specs.Node.{Node, downs}
+use Rattle.self_id.specs.declared.standard.Standard.{Standard}
+use Rattle.self_id.specs.Node.{Node, IsOf, downs}
 use Rattle.self_id.specs.Group.{group}
-use Rattle.topology_stack.specs.Tree.{Tree, Slots, no_more, absent, unplugged, up, down, statuses, walk, walk_below, AreParts, groups}
+use Rattle.topology_stack.specs.Tree.{Tree, Slots, no_more, absent, unplugged, up, down, statuses, walk, walk_below, AreParts, AreOf, groups}
 use Rattle.topology_stack.specs.codings.Code.{with_child, build, with_parts}
 use Rattle.topology_stack.specs.Forest.{AreWaiting, walks}
 
@@ -59,3 +60,17 @@ pub groups-snoc : (ns : List Node) (n : Node) → groups 0 (ns ++ n ∷ []) ≡ 
 groups-snoc ns n =
     let e : 0 + length ns ≡ length ns = omega arith in
     groups-append 0 ns (n ∷ []) ∙ ap (λ (x : List ℕ). groups 0 ns ++ x) (append-nil (group n (0 + length ns)) ∙ ap (group n) e)
+
+-- ---- nodes of one standard
+
+pub AreOf-append : (standard : Standard) (xs ys : List Node) → AreOf standard xs → AreOf standard ys → AreOf standard (xs ++ ys)
+AreOf-append standard [] ys a b = b
+AreOf-append standard (x ∷ xs) ys a b = (a.0, AreOf-append standard xs ys a.1 b)
+
+pub AreOf-parts : (standard : Standard) (xs ys : List Node) → AreOf standard (xs ++ ys) → AreOf standard xs × AreOf standard ys
+AreOf-parts standard [] ys h = (tt, h)
+AreOf-parts standard (x ∷ xs) ys h = let both = AreOf-parts standard xs ys h.1 in ((h.0, both.0), both.1)
+
+-- one more node
+pub AreOf-snoc : (standard : Standard) (xs : List Node) (n : Node) → AreOf standard xs → IsOf standard n → AreOf standard (xs ++ n ∷ [])
+AreOf-snoc standard xs n a is = AreOf-append standard xs (n ∷ []) a (is, tt)

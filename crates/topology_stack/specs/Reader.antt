@@ -1,6 +1,8 @@
--- A reader of a list that comes quadlet by quadlet: what it keeps, and for which list it stands.
+-- A reader, by IEEE 1394a-2000, of a list that comes quadlet by quadlet: what it keeps, and for
+-- which list it stands.
 use Rattle.std.specs.Prelude.{◌≡◌, ℕ, List, Option, MatchOption}
 use Rattle.self_id.specs.declared.fault.GroupFault.TheVariants.{NotSelfId, WrongId, BadOrder, Cut, TwoParents}
+use Rattle.self_id.specs.declared.standard.Standard.TheVariants.{Ieee2000}
 use Rattle.topology_stack.specs.declared.fault.TreeFault.{TreeFault}
 use Rattle.topology_stack.specs.declared.fault.TreeFault.TheVariants.{Group, Empty, TooFewChildren, TreesLeft, AfterRoot, NoRoot, TooMany}
 use Rattle.topology_stack.specs.Refused.{Refused}
@@ -26,4 +28,4 @@ IsLasting (TooMany at) = Unit {0}
 
 -- the reader keeps the whole list and no fault, or the list's fault, which lasts
 abbrev pub StandsFor : Kept → List ℕ → Type 0
-StandsFor kept l = MatchOption kept.fault (kept.quads ≡ l) (λ f. Refused l f × IsLasting f)
+StandsFor kept l = MatchOption kept.fault (kept.quads ≡ l) (λ f. Refused Ieee2000 l f × IsLasting f)

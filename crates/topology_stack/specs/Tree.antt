@@ -4,7 +4,8 @@ use Rattle.std.specs.Prelude.{◌≡◌, ℕ, ◌+◌, ◌≤◌, List, [], ◌�
 use Rattle.self_id.specs.declared.node.Attrs.{Attrs}
 use Rattle.self_id.specs.declared.node.PortStatus.{PortStatus}
 use Rattle.self_id.specs.declared.node.PortStatus.TheVariants.{Absent, Unplugged, Up, Down}
-use Rattle.self_id.specs.Node.{Node, IsNode, ups}
+use Rattle.self_id.specs.declared.standard.Standard.{Standard}
+use Rattle.self_id.specs.Node.{Node, IsNode, IsOf, ups}
 use Rattle.self_id.specs.Group.{group}
 
 -- what a node says of itself beside its slots
@@ -65,10 +66,22 @@ abbrev mutual
 abbrev pub IsWhole : Tree → Type 0
 IsWhole (branch a s) = IsNode (node_of a s) × (ups (statuses s) ≡ 0) × AreParts s
 
--- a bus has at most 63 nodes, since ID 63 means all of them
+-- each of these nodes has as many slots as this standard lets it show
+abbrev pub AreOf : Standard → List Node → Type 0
+AreOf standard [] = Unit {0}
+AreOf standard (n ∷ ns) = IsOf standard n × AreOf standard ns
+
+-- A bus has at most 63 nodes, since ID 63 means all of them. The nodes of one tree are all of one
+-- standard.
 pub record IsBusTree (t : Tree) : Type 0 where
   pub whole : IsWhole t
   pub small : length (walk t) ≤ 63
+  pub one_standard : (standard : Standard) × AreOf standard (walk t)
+
+-- a bus tree of this standard
+pub record IsBusTreeOf (standard : Standard) (t : Tree) : Type 0 where
+  pub bus : IsBusTree t
+  pub nodes : AreOf standard (walk t)
 
 -- the groups of nodes, whose IDs are counted from `id`
 abbrev pub groups : ℕ → List Node → List ℕ

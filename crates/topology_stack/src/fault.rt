@@ -7,7 +7,8 @@ use self_id::GroupFault;
 use std::alloc::{AllocError, AllocFailed};
 use thiserror::Error;
 
-/// Why no bus tree emits a list. Each list that no tree emits has exactly one fault. `at` is a
+/// Why no bus tree of a standard emits a list. Each list that no tree emits has exactly one fault.
+/// `at` is a
 /// place in the list, counted in quadlets from 0.
 #[derive(Clone, Copy, Debug, PartialEq, Eq)]
 pub enum TreeFault {
@@ -28,7 +29,7 @@ pub enum TreeFault {
     TooMany { at: usize },
 }
 
-/// Why `read_tree` answers no tree.
+/// Why `read_tree` or `read_tree95` answers no tree.
 #[derive(Debug, Drop, Error)]
 pub enum TreeStop {
     /// No bus tree emits the list.

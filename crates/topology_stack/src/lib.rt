@@ -27,7 +27,7 @@ pub use number::{put_hex, put_number};
 pub use quad_lanes::OutOfMemory;
 pub use reader::TreeReader;
 pub use text::tree_text;
-pub use tree::{BusTree, read_tree};
+pub use tree::{BusTree, read_tree, read_tree95};
 pub use writing::write_tree;
 
 #[cfg(test)]

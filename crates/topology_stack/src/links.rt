@@ -11,10 +11,10 @@ use self_id::{SelfId, count_down};
 use std::alloc::Global;
 use std::marker::Model;
 
-/// IDs, at most 16.
+/// IDs, at most 27.
 #[derive(Debug, Drop)]
 pub(crate) struct ChildList {
-    items: ArrayVec<u8, 16>,
+    items: ArrayVec<u8, 27>,
 }
 
 impl Model for ChildList {
@@ -28,7 +28,7 @@ impl Model for ChildList {
 impl ChildList {
     /// A list of these, which are few enough.
     fn from_slice(ids: &[u8]) -> ChildList
-        requires { length ids.now ≤ 16 }
+        requires { length ids.now ≤ 27 }
         ensures { result ≡ ids.now }
     {
         let mut items = ArrayVec::new();

@@ -1,6 +1,7 @@
 //! Reading a list as it comes.
 ghost use Rattle.std.specs.Prelude.{◌≡◌, ◌≤◌, ℕ, List, [], ◌∷◌, ◌++◌, length, Ok, Err, IfOk, IfErr, IsSome, IfSome, IfNone};
-ghost use Rattle.topology_stack.specs.Tree.{Tree, IsBusTree, emits};
+ghost use Rattle.self_id.specs.declared.standard.Standard.TheVariants.{Ieee2000};
+ghost use Rattle.topology_stack.specs.Tree.{Tree, IsBusTreeOf, emits};
 ghost use Rattle.topology_stack.specs.Refused.{Refused};
 ghost use Rattle.topology_stack.specs.Reader.{IsLasting, StandsFor};
 ghost use Rattle.topology_stack.specs.codings.Place.{StandsAtEnd, GroupMayEnd};
@@ -33,7 +34,7 @@ struct Place {
 fn fault_of_more(quads: &[u32], place: Place) -> Option<TreeFault>
     requires { StandsAtEnd quads.now place }
     ensures none { (quad : ℕ) → IfNone result (GroupMayEnd (quads.now ++ quad ∷ []) place) }
-    ensures fault { (quad : ℕ) → IfSome result (λ f. Refused (quads.now ++ quad ∷ []) f
+    ensures fault { (quad : ℕ) → IfSome result (λ f. Refused Ieee2000 (quads.now ++ quad ∷ []) f
         × IsLasting f) }
 {
     let at = place.at;
@@ -53,7 +54,7 @@ fn fault_of_more(quads: &[u32], place: Place) -> Option<TreeFault>
 fn behind_group(quads: &[u32], place: Place) -> Result<Place, TreeFault>
     requires { GroupMayEnd quads.now place }
     ensures place { IfOk result (λ p. StandsAtEnd quads.now p) }
-    ensures fault { IfErr result (λ f. Refused quads.now f × IsLasting f) }
+    ensures fault { IfErr result (λ f. Refused Ieee2000 quads.now f × IsLasting f) }
 {
     match read_group(quads, place.at, place.nodes) {
         Ok((node, after)) => Ok(Place {
@@ -68,9 +69,9 @@ fn behind_group(quads: &[u32], place: Place) -> Result<Place, TreeFault>
     }
 }
 
-/// A reader of a list that comes quadlet by quadlet. It keeps the list, at most 189 quadlets, or the
-/// list's first fault that doesn't depend on how the list goes on. It takes no memory until the tree
-/// is asked for.
+/// A reader, by IEEE 1394a-2000, of a list that comes quadlet by quadlet. It keeps the list, at most
+/// 189 quadlets, or the list's first fault that doesn't depend on how the list goes on. It takes no
+/// memory until the tree is asked for.
 #[derive(Debug, Drop)]
 pub struct TreeReader {
     quads: ArrayVec<u32, MAX_QUADS>,
@@ -142,13 +143,14 @@ impl TreeReader {
     pub fn finish(&self, alloc: Global) -> Result<BusTree, TreeStop>
         // The tree that is answered emits the list, and a fault that is answered is the list's.
         ensures found { IfOk result (λ t. (l : List ℕ) → StandsFor self.now l
-            → IsBusTree t × (emits t ≡ l)) }
-        ensures refused { IfFault result (λ f. (l : List ℕ) → StandsFor self.now l → Refused l f) }
+            → IsBusTreeOf Ieee2000 t × (emits t ≡ l)) }
+        ensures refused { IfFault result (λ f. (l : List ℕ) → StandsFor self.now l
+            → Refused Ieee2000 l f) }
         // A tree that emits the list is answered, unless memory ran out.
-        ensures only { (l : List ℕ) (t : Tree) → StandsFor self.now l → IsBusTree t → emits t ≡ l
-            → UnlessMemory result (Ok t) }
+        ensures only { (l : List ℕ) (t : Tree) → StandsFor self.now l → IsBusTreeOf Ieee2000 t
+            → emits t ≡ l → UnlessMemory result (Ok t) }
         // The list's fault is answered, and no memory is taken for it.
-        ensures exact { (l : List ℕ) (f : TreeFault) → StandsFor self.now l → Refused l f
+        ensures exact { (l : List ℕ) (f : TreeFault) → StandsFor self.now l → Refused Ieee2000 l f
             → result ≡ Err (TreeStop.Fault f) }
     {
         if let Some(fault) = self.fault {

@@ -1,22 +1,26 @@
 //! Reading the nodes of a list, with the first fault.
 ghost use Rattle.std.specs.Prelude.{◌≡◌, IfOk};
-ghost use Rattle.topology_stack.specs.Tree.{Tree, IsBusTree, walk, emits};
+ghost use Rattle.topology_stack.specs.Tree.{Tree, IsBusTreeOf, walk, emits};
 ghost use Rattle.topology_stack.specs.Refused.{Refused};
 ghost use Rattle.topology_stack.specs.Answer.{IfFault};
 
 use crate::fault::{TreeFault, TreeStop};
 use crate::waiting::{Waiting, after_node};
-use self_id::{SelfId, read_group};
+use self_id::{SelfId, Standard, read_group_of};
 use std::alloc::Global;
 
 /// The most nodes of a bus: IDs run from 0 to 62, and 63 means all nodes.
 pub(crate) const MAX_NODES: usize = 63;
 
-/// The nodes, by ID, of the bus tree that emits a list.
-pub(crate) fn nodes_of(alloc: Global, quads: &[u32]) -> Result<Vec<SelfId>, TreeStop>
-    ensures found { IfOk result (λ v. (t : Tree) × IsBusTree t × (v.items ≡ walk t)
+/// The nodes, by ID, of the bus tree of a standard that emits a list.
+pub(crate) fn nodes_of(
+    alloc: Global,
+    standard: Standard,
+    quads: &[u32],
+) -> Result<Vec<SelfId>, TreeStop>
+    ensures found { IfOk result (λ v. (t : Tree) × IsBusTreeOf standard t × (v.items ≡ walk t)
         × (emits t ≡ quads.now)) }
-    ensures refused { IfFault result (λ f. Refused quads.now f) }
+    ensures refused { IfFault result (λ f. Refused standard quads.now f) }
 {
     let mut nodes = Vec::with_capacity(alloc, quads.len().min(MAX_NODES))?;
     let mut at = 0;
@@ -31,7 +35,7 @@ pub(crate) fn nodes_of(alloc: Global, quads: &[u32]) -> Result<Vec<SelfId>, Tree
         if nodes.len() == MAX_NODES {
             return Err(TreeStop::Fault(TreeFault::TooMany { at }));
         }
-        let (node, after) = read_group(quads, at, nodes.len() as u8)?;
+        let (node, after) = read_group_of(standard, quads, at, nodes.len() as u8)?;
         waiting = after_node(at, waiting.trees, &node)?;
         nodes.push(node)?;
         at = after;

@@ -1,6 +1,7 @@
 //! The bus tree.
 ghost use Rattle.std.specs.Prelude.{◌≡◌, ◌↔◌, ◌+◌, ◌<◌, ◌≤◌, ℕ, List, length, slice_get, Some, Ok, Err, IfOk, IfSome, IsNone};
-ghost use Rattle.topology_stack.specs.Tree.{Tree, IsBusTree, emits, walk};
+ghost use Rattle.self_id.specs.declared.standard.Standard.TheVariants.{Ieee1995, Ieee2000};
+ghost use Rattle.topology_stack.specs.Tree.{Tree, IsBusTree, IsBusTreeOf, emits, walk};
 ghost use Rattle.topology_stack.specs.Refused.{Refused};
 ghost use Rattle.topology_stack.specs.Far.{Far, IsLooseAt};
 ghost use Rattle.topology_stack.specs.codings.Stored.{parents_from, children_from};
@@ -12,13 +13,13 @@ use crate::links::{ChildList, links_of};
 use crate::reading::{MAX_NODES, nodes_of};
 use crate::slots::far_end;
 use arrayvec::ArrayVec;
-use self_id::SelfId;
+use self_id::{SelfId, Standard};
 use std::alloc::Global;
 use std::marker::Model;
 
 /// The tree of a bus: 1 to 63 nodes by ID, each child before its parent. The ID of a node is its
-/// place in the order of self identify (IEEE Std 1394-1995). In a contract a `BusTree` is a `Tree`,
-/// and always one of the form `IsBusTree`.
+/// place in the order of self identify (IEEE Std 1394-1995). All nodes show themselves by one
+/// standard. In a contract a `BusTree` is a `Tree`, and always one of the form `IsBusTree`.
 #[derive(Debug, Drop)]
 pub struct BusTree {
     nodes: Vec<SelfId>,
@@ -41,26 +42,52 @@ impl Model for BusTree {
         b.children.items };
 }
 
-/// The bus tree whose nodes emit `quads`, the first quadlets of the self-ID packets of a bus in the
-/// order in which they came. It refuses each list that no bus tree emits, with its one fault.
-pub fn read_tree(alloc: Global, quads: &[u32]) -> Result<BusTree, TreeStop>
-    // The tree that is answered emits the list.
-    ensures found { IfOk result (λ t. IsBusTree t × (emits t ≡ quads.now)) }
-    // A fault that is answered is the list's.
-    ensures refused { IfFault result (λ f. Refused quads.now f) }
-    // A tree that emits the list is answered, unless memory ran out.
-    ensures only { (t : Tree) → IsBusTree t → emits t ≡ quads.now → UnlessMemory result (Ok t) }
-    // The list's fault is answered, unless memory ran out.
-    ensures exact { (f : TreeFault) → Refused quads.now f
+/// The bus tree of a standard whose nodes emit `quads`, as `read_tree` and `read_tree95` answer it.
+fn read_tree_of(alloc: Global, standard: Standard, quads: &[u32]) -> Result<BusTree, TreeStop>
+    ensures found { IfOk result (λ t. IsBusTreeOf standard t × (emits t ≡ quads.now)) }
+    ensures refused { IfFault result (λ f. Refused standard quads.now f) }
+    ensures only { (t : Tree) → IsBusTreeOf standard t → emits t ≡ quads.now
+        → UnlessMemory result (Ok t) }
+    ensures exact { (f : TreeFault) → Refused standard quads.now f
         → UnlessMemory result (Err (TreeStop.Fault f)) }
 {
-    let nodes = nodes_of(alloc, quads)?;
+    let nodes = nodes_of(alloc, standard, quads)?;
     let links = links_of(alloc, &nodes)?;
     Ok(BusTree {
         nodes,
         parents: links.parents,
         children: links.children,
     })
+}
+
+/// The bus tree of IEEE 1394a-2000 whose nodes emit `quads`, the first quadlets of the self-ID
+/// packets of a bus in the order in which they came. It refuses each list that no such tree emits,
+/// with its one fault.
+pub fn read_tree(alloc: Global, quads: &[u32]) -> Result<BusTree, TreeStop>
+    // The tree that is answered emits the list.
+    ensures found { IfOk result (λ t. IsBusTreeOf Ieee2000 t × (emits t ≡ quads.now)) }
+    // A fault that is answered is the list's.
+    ensures refused { IfFault result (λ f. Refused Ieee2000 quads.now f) }
+    // A tree that emits the list is answered, unless memory ran out.
+    ensures only { (t : Tree) → IsBusTreeOf Ieee2000 t → emits t ≡ quads.now
+        → UnlessMemory result (Ok t) }
+    // The list's fault is answered, unless memory ran out.
+    ensures exact { (f : TreeFault) → Refused Ieee2000 quads.now f
+        → UnlessMemory result (Err (TreeStop.Fault f)) }
+{
+    read_tree_of(alloc, Standard::Ieee2000, quads)
+}
+
+/// The same by IEEE Std 1394-1995, in which a node has up to 27 slots in up to four packets.
+pub fn read_tree95(alloc: Global, quads: &[u32]) -> Result<BusTree, TreeStop>
+    ensures found { IfOk result (λ t. IsBusTreeOf Ieee1995 t × (emits t ≡ quads.now)) }
+    ensures refused { IfFault result (λ f. Refused Ieee1995 quads.now f) }
+    ensures only { (t : Tree) → IsBusTreeOf Ieee1995 t → emits t ≡ quads.now
+        → UnlessMemory result (Ok t) }
+    ensures exact { (f : TreeFault) → Refused Ieee1995 quads.now f
+        → UnlessMemory result (Err (TreeStop.Fault f)) }
+{
+    read_tree_of(alloc, Standard::Ieee1995, quads)
 }
 
 impl BusTree {

@@ -6,7 +6,7 @@ use Rattle.std.proofs.lemmas.Bool.{le-leb, and_parts, and_from, eq-eqb}
 use Rattle.std.proofs.lemmas.Option.{slice_get_within}
 use Rattle.self_id.specs.Node.{Node}
 use Rattle.self_id.specs.Group.{group, node_count}
-use Rattle.self_id.proofs.Laws.{length-group}
+use Rattle.self_id.proofs.Laws.{three_packets}
 use Rattle.topology_stack.specs.Tree.{Tree, emits}
 use Rattle.cabling.specs.declared.cable.End.{End}
 use Rattle.cabling.specs.Wiring.{far, ports_of}
@@ -28,7 +28,7 @@ use Rattle.port_state.specs.SelfIdentify.{may_name}
 use Rattle.port_state.specs.Group.{shown_node, own_group}
 use Rattle.port_state.specs.Machine.{PortNode}
 use Rattle.port_state.specs.Tick.{raise_timer, row_of, does, tick}
-use Rattle.port_state.proofs.Shown.{shown-is_node}
+use Rattle.port_state.proofs.Shown.{shown-is_node, shown-is_of}
 use Rattle.cable_world.specs.Wire.{age_wire, gives}
 use Rattle.cable_world.specs.World.{CableWorld, wire_of}
 use Rattle.cable_world.specs.Turn.{inbox, turn, hear_all}
@@ -81,7 +81,9 @@ module _
 
   group-short :
       (k id : ℕ) (x : PortNode) → slice_get w.nodes k ≡ Some x → length (own_group x.state id) ≤ 3
-  group-short k id x at = (length-group (shown_node x.state) id (shown-is_node x.state (l.well_formed.nodes k x at).valid.bounded)).1
+  group-short k id x at =
+      let bounded = (l.well_formed.nodes k x at).valid.bounded in
+      three_packets (shown_node x.state) id (shown-is_node x.state bounded) (shown-is_of x.state bounded)
 
   emit-short : (m : ℕ) → m ≤ length (numbers w.cabling root t) → length (emit t m) ≤ 3 * m
   emit-short zero le = omega (arith, ap length s.walk.none)

@@ -6,42 +6,42 @@ use Rattle.topology_stack.proofs.Laws.{is_refused, is_emitted}
 use Rattle.topology_stack.proofs.reading.nodes_of.Goals as goal
 
 pub returns-then-waiting-clause-refused : goal.returns-then-waiting-clause-refused
-returns-then-waiting-clause-refused c = is_refused _ _ (is_after_root _ _ _ _ _ c.loop-at-test.true c.if-waiting.true c.loop-at.invariant.reads)
+returns-then-waiting-clause-refused c = is_refused c.args.standard _ _ (is_after_root c.args.standard _ _ _ _ _ c.loop-at-test.true c.if-waiting.true c.loop-at.invariant.reads)
 
 pub returns-then-len-eq-MAX_NODES-clause-refused : goal.returns-then-len-eq-MAX_NODES-clause-refused
-returns-then-len-eq-MAX_NODES-clause-refused c = is_refused _ _ (is_full _ _ _ _ _ c.loop-at-test.true c.if-waiting.false (omega (arith, c.len.ensures, c.if-len-eq-MAX_NODES.true)) c.loop-at.invariant.reads)
+returns-then-len-eq-MAX_NODES-clause-refused c = is_refused c.args.standard _ _ (is_full c.args.standard _ _ _ _ _ c.loop-at-test.true c.if-waiting.false (omega (arith, c.len.ensures, c.if-len-eq-MAX_NODES.true)) c.loop-at.invariant.reads)
 
 pub returns-in_err-node-clause-refused : goal.returns-in_err-node-clause-refused
 returns-in_err-node-clause-refused c =
     let e : c.len-in-loop-at.result ≡ length c.loop-at.nodes.items = omega (arith, c.len-in-loop-at.ensures) in
     let room : length c.loop-at.nodes.items < 63 = omega (arith, c.len.ensures, c.if-len-eq-MAX_NODES.false, c.loop-at.invariant.room) in
     let p = err_from_is_err_and c.from_residual-in_err-node.result c.from_residual-in_err-node.ensures.1 in
-    rw (p.1, p.2) (is_refused _ _ (is_group_fault _ _ _ _ _ c.in_err-node.field-0.0 c.loop-at-test.true c.if-waiting.false room c.loop-at.invariant.reads
-    (refuses _ _ _ _ _ e room c.in_err-node.ensures.refused)))
+    rw (p.1, p.2) (is_refused c.args.standard _ _ (is_group_fault c.args.standard _ _ _ _ _ c.in_err-node.field-0.0 c.loop-at-test.true c.if-waiting.false room c.loop-at.invariant.reads
+    (refuses c.args.standard _ _ _ _ _ e room c.in_err-node.ensures.refused)))
 
 pub returns-in_err-waiting-clause-refused : goal.returns-in_err-waiting-clause-refused
 returns-in_err-waiting-clause-refused c =
     let e : c.len-in-loop-at.result ≡ length c.loop-at.nodes.items = omega (arith, c.len-in-loop-at.ensures) in
     let room : length c.loop-at.nodes.items < 63 = omega (arith, c.len.ensures, c.if-len-eq-MAX_NODES.false, c.loop-at.invariant.room) in
     let p = err_from_is_err_and c.from_residual-in_err-waiting.result c.from_residual-in_err-waiting.ensures.1 in
-    rw (p.1, p.2) (is_refused _ _ (is_node_fault _ _ _ _ _ c.in_ok-node.node c.in_err-waiting.field-0.0 c.loop-at-test.true c.if-waiting.false room c.loop-at.invariant.reads
-    (takes _ _ _ _ _ _ e room c.in_ok-node.ensures.found) (sym c.in_err-waiting.ensures)))
+    rw (p.1, p.2) (is_refused c.args.standard _ _ (is_node_fault c.args.standard _ _ _ _ _ c.in_ok-node.node c.in_err-waiting.field-0.0 c.loop-at-test.true c.if-waiting.false room c.loop-at.invariant.reads
+    (takes c.args.standard _ _ _ _ _ _ e room c.in_ok-node.ensures.found) (sym c.in_err-waiting.ensures)))
 
 pub loop-at-smaller : goal.loop-at-smaller
-loop-at-smaller c = omega (arith, moves _ _ _ _ _ c.in_ok-node.ensures.found, c.in_ok-node.ensures.found.inside)
+loop-at-smaller c = omega (arith, moves c.args.standard _ _ _ _ _ c.in_ok-node.ensures.found, c.in_ok-node.ensures.found.inside)
 
 pub loop-at-preserved : goal.loop-at-preserved
 loop-at-preserved c =
     let e : c.len-in-loop-at.result ≡ length c.loop-at.nodes.items = omega (arith, c.len-in-loop-at.ensures) in
     let room : length c.loop-at.nodes.items < 63 = omega (arith, c.len.ensures, c.if-len-eq-MAX_NODES.false, c.loop-at.invariant.room) in
-    rw c.in_ok-push.ensures.items (goes_round _ _ _ _ _ _ c.in_ok-node.node c.in_ok-waiting.waiting c.loop-at-test.true c.if-waiting.false (omega arith) c.loop-at.invariant
-    (takes _ _ _ _ _ _ e room c.in_ok-node.ensures.found) (place_is _ _ _ _ _ _ e c.in_ok-node.ensures.found) c.in_ok-node.ensures.found.inside (sym c.in_ok-waiting.ensures))
+    rw c.in_ok-push.ensures.items (goes_round c.args.standard _ _ _ _ _ _ c.in_ok-node.node c.in_ok-waiting.waiting c.loop-at-test.true c.if-waiting.false (omega arith) c.loop-at.invariant
+    (takes c.args.standard _ _ _ _ _ _ e room c.in_ok-node.ensures.found) (place_is c.args.standard _ _ _ _ _ _ e c.in_ok-node.ensures.found) c.in_ok-node.ensures.found.inside (sym c.in_ok-waiting.ensures))
 
 pub returns-then-waiting-2-clause-found : goal.returns-then-waiting-2-clause-found
-returns-then-waiting-2-clause-found c = is_emitted _ _ (is_end _ _ _ _ _ c.loop-at-test.false c.loop-at.invariant.reads ∙ ended_rooted _ _ _ c.if-waiting-2.true)
+returns-then-waiting-2-clause-found c = is_emitted c.args.standard _ _ (is_end c.args.standard _ _ _ _ _ c.loop-at-test.false c.loop-at.invariant.reads ∙ ended_rooted _ _ _ c.if-waiting-2.true)
 
 pub returns-then-is_empty-clause-refused : goal.returns-then-is_empty-clause-refused
-returns-then-is_empty-clause-refused c = is_refused _ _ (is_end _ _ _ _ _ c.loop-at-test.false c.loop-at.invariant.reads ∙ ended_empty _ _ _ c.if-waiting-2.false (omega (arith, eqb-true _ _ (sym c.if-is_empty.ensures))))
+returns-then-is_empty-clause-refused c = is_refused c.args.standard _ _ (is_end c.args.standard _ _ _ _ _ c.loop-at-test.false c.loop-at.invariant.reads ∙ ended_empty _ _ _ c.if-waiting-2.false (omega (arith, eqb-true _ _ (sym c.if-is_empty.ensures))))
 
 pub returns-clause-refused : goal.returns-clause-refused
-returns-clause-refused c = is_refused _ _ (is_end _ _ _ _ _ c.loop-at-test.false c.loop-at.invariant.reads ∙ ended_unrooted _ _ _ c.if-waiting-2.false (omega (arith, eqb-false _ _ (sym c.if-is_empty.ensures))))
+returns-clause-refused c = is_refused c.args.standard _ _ (is_end c.args.standard _ _ _ _ _ c.loop-at-test.false c.loop-at.invariant.reads ∙ ended_unrooted _ _ _ c.if-waiting-2.false (omega (arith, eqb-false _ _ (sym c.if-is_empty.ensures))))
