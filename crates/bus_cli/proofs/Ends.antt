@@ -15,11 +15,11 @@ use Rattle.bus_cli.specs.Form.{Asks, AsksCapture, AsksMake, IsForm}
 use Rattle.bus_cli.specs.codings.Reading.{Reads, status_with, text_with}
 use Rattle.bus_cli.specs.Answer.{Answers, Outcome, shown, refused, rom, rom_refused, ran, advised, made, no_form, MadeTells, HasOutcome, HasText, status_of}
 use Rattle.bus_cli.specs.OneOutcome.{NoInputHasTwoAnswers}
-use Rattle.script_run.specs.Script.{IsTold}
-use Rattle.script_run.specs.Advice.{IsAdvice, EndsWithoutLoop}
-use Rattle.script_run.specs.OneAdvice.{AdvicesEndWithoutLoop}
-use Rattle.script_run.specs.EachReport.{EachReportIsSettled, ReportsAreSettled}
-use Rattle.script_run.specs.Summary.{summary}
+use Rattle.script_told.specs.Script.{IsTold}
+use Rattle.script_advice.specs.Advice.{IsAdvice, EndsWithoutLoop}
+use Rattle.script_advice.specs.OneAdvice.{AdvicesEndWithoutLoop}
+use Rattle.script_told.specs.EachReport.{EachReportIsSettled, ReportsAreSettled}
+use Rattle.script_text.specs.Summary.{summary}
 use Rattle.bus_cli.proofs.Forms.{one_form}
 
 -- the start of the answer to the bytes that were told was written

@@ -8,10 +8,10 @@ use Rattle.config_rom.specs.Rom.{Parts}
 use Rattle.config_rom.specs.Fault.{rom_fault}
 use Rattle.config_rom.specs.Block.{BlocksRefused}
 use Rattle.config_rom.specs.OneReading.{IsRomOf, EachInputIsARomOrRefused, NoInputIsTwoRoms, NoRomIsRefused, EachRomHasGoodBlocksOrAFault, NoGoodBlocksAreRefused, NoBlocksHaveTwoFaults, NoRomHasTwoTexts}
-use Rattle.script_run.specs.Made.{made_script}
-use Rattle.script_run.specs.Script.{Told, IsTold}
-use Rattle.script_run.specs.OneTold.{ScriptsTellOneThing}
-use Rattle.script_run.specs.OneAdvice.{ScriptsHaveOneAdvice}
+use Rattle.script_made.specs.Made.{made_script}
+use Rattle.script_told.specs.Script.{Told, IsTold}
+use Rattle.script_told.specs.OneTold.{ScriptsTellOneThing}
+use Rattle.script_advice.specs.OneAdvice.{ScriptsHaveOneAdvice}
 use Rattle.bus_cli.specs.declared.form.Form.{Form}
 use Rattle.bus_cli.specs.declared.form.Form.TheVariants.{Capture, Rom, Run, Advice, Make}
 use Rattle.bus_cli.specs.declared.form.CaptureForm.{CaptureForm}

@@ -6,7 +6,7 @@ use Rattle.topology_stack.specs.Tree.{Tree, IsBusTree}
 use Rattle.config_rom.specs.OneReading.{NoRomHasTwoTexts}
 use Rattle.bus_cli.specs.declared.form.CaptureForm.{CaptureForm}
 use Rattle.bus_cli.specs.declared.form.CaptureForm.TheVariants.{Read, Maps}
-use Rattle.script_run.proofs.OneMaps.{same_maps}
+use Rattle.script_text.proofs.OneMaps.{same_maps}
 use Rattle.bus_cli.specs.Answer.{Outcome, shown, refused, rom, rom_refused, ran, advised, made, no_form, HasOutcome, Shows, HasText, status_of}
 use Rattle.bus_cli.specs.OneOutcome.{NoInputHasTwoAnswers}
 use Rattle.bus_cli.proofs.OneOutcome.{HasOneReading, outcomes_agree}

@@ -17,11 +17,11 @@ use Rattle.bus_cli.specs.declared.fault.CaptureFault.{CaptureFault}
 use Rattle.bus_cli.specs.Form.{Asks, AsksCapture, IsForm}
 use Rattle.bus_cli.specs.Capture.{Spells, CaptureRefused}
 use Rattle.bus_cli.specs.Line.{fault_line, rom_line, script_line}
-use Rattle.script_run.specs.Maps.{IsMapsText}
-use Rattle.script_run.specs.Made.{made_script}
-use Rattle.script_run.specs.Script.{Told, IsTold}
-use Rattle.script_run.specs.Advice.{IsAdvice}
-use Rattle.script_run.specs.Summary.{summary}
+use Rattle.script_text.specs.Maps.{IsMapsText}
+use Rattle.script_made.specs.Made.{made_script}
+use Rattle.script_told.specs.Script.{Told, IsTold}
+use Rattle.script_advice.specs.Advice.{IsAdvice}
+use Rattle.script_text.specs.Summary.{summary}
 
 -- the bytes are those of the ROM, and none of its blocks has a fault
 pub record TellsRom (bytes : List ℕ) (v : Parts) : Type 0 where

@@ -19,7 +19,7 @@ use crate::script::{answer_to_advice, answer_to_make, answer_to_script};
 use crate::status::{REFUSED, VALID};
 use io_edges::{ReadStop, Source, read_all};
 use quad_lanes::OutOfMemory;
-use script_run::maps_text;
+use script_text::maps_text;
 use std::alloc::Global;
 use topology_stack::{BusTree, NameList, tree_text};
 

@@ -3,7 +3,7 @@ ghost use Rattle.std.specs.Prelude.{◌≡◌, ◌∷◌, [], ◌↔◌, codes};
 ghost use Rattle.bus_cli.specs.Form.{AreWordsOf, Asks};
 ghost use Rattle.bus_cli.specs.declared.form.Form.{Form};
 
-use script_run::number_of;
+use script_lines::number_of;
 
 /// What the program can be asked for of a capture.
 #[derive(Clone, Copy, Debug, PartialEq, Eq)]

@@ -4,7 +4,8 @@ ghost use Rattle.bus_cli.specs.OneReading.{EachCaptureHasATreeOrAFault, NoCaptur
 
 use config_rom::{one_list, one_rom};
 use quad_lanes::{capture_is_read_back, good_pairs_are_a_capture};
-use script_run::{scripts_have_one_advice, scripts_tell_one_thing};
+use script_advice::scripts_have_one_advice;
+use script_told::scripts_tell_one_thing;
 use topology_stack::{one_answer, one_tree};
 
 /// A law: each capture spells a tree or has a fault, none spells two trees, none spells a tree and

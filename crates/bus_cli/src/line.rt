@@ -6,7 +6,7 @@ use crate::fault::CaptureFault;
 use arrayvec::ArrayVec;
 use config_rom::RomFault;
 use itoa::Buffer;
-use script_run::{Kind, ScriptFault};
+use script_lines::{Kind, ScriptFault};
 use self_id::GroupFault;
 use std::marker::Model;
 use topology_stack::TreeFault;

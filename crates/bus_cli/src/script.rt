@@ -1,9 +1,9 @@
 //! The answer to a script.
 ghost use Rattle.std.specs.Prelude.{◌≡◌, ◌≤◌, ℕ, List, Ok, IfOk, String, length};
 ghost use Rattle.std.specs.Global.{Global};
-ghost use Rattle.script_run.specs.Made.{made_script};
-ghost use Rattle.script_run.specs.Script.{IsTold};
-ghost use Rattle.script_run.specs.Summary.{summary};
+ghost use Rattle.script_made.specs.Made.{made_script};
+ghost use Rattle.script_told.specs.Script.{IsTold};
+ghost use Rattle.script_text.specs.Summary.{summary};
 ghost use Rattle.bus_cli.specs.declared.form.Form.TheVariants.{Run, Advice, Make};
 ghost use Rattle.bus_cli.specs.Form.{Asks};
 ghost use Rattle.bus_cli.specs.Answer.{Answers};
@@ -12,9 +12,10 @@ ghost use Rattle.bus_cli.specs.codings.Reading.{status_with, text_with};
 use crate::answer::Answer;
 use crate::line::script_line;
 use quad_lanes::OutOfMemory;
-use script_run::{
-    ScriptStop, advise_script, made_scripts_have_no_fault, make_script, run_script, summary,
-};
+use script_lines::ScriptStop;
+use script_made::{made_scripts_have_no_fault, make_script};
+use script_run::{advise_script, run_script};
+use script_text::summary;
 use std::alloc::Global;
 
 /// The answer to the bytes of a script.

@@ -6,10 +6,10 @@ ghost use Rattle.io_edges.specs.Told.{AppendsStart, IfTold, TookOver};
 ghost use Rattle.bus_cli.specs.declared.form.CaptureForm.{CaptureForm};
 ghost use Rattle.bus_cli.specs.Form.{Asks, AsksMake, IsForm};
 ghost use Rattle.topology_stack.specs.Tree.{Tree};
-ghost use Rattle.script_run.specs.Script.{IsTold};
-ghost use Rattle.script_run.specs.EachReport.{EachReportIsSettled};
-ghost use Rattle.script_run.specs.Summary.{summary};
-ghost use Rattle.script_run.specs.Advice.{IsAdvice, EndsWithoutLoop};
+ghost use Rattle.script_told.specs.Script.{IsTold};
+ghost use Rattle.script_told.specs.EachReport.{EachReportIsSettled};
+ghost use Rattle.script_text.specs.Summary.{summary};
+ghost use Rattle.script_advice.specs.Advice.{IsAdvice, EndsWithoutLoop};
 ghost use Rattle.bus_cli.specs.Capture.{Spells};
 ghost use Rattle.bus_cli.specs.Answer.{Answers, MadeTells};
 
@@ -18,7 +18,8 @@ use crate::form::Form;
 use crate::laws::one_outcome;
 use crate::status::{NO_FORM, NO_MEMORY, READ_FAULT, TOO_LONG, WRITE_FAULT};
 use io_edges::{ReadStop, Sink, Source, write_whole};
-use script_run::{advices_leave_no_loop, reports_are_settled};
+use script_advice::advices_leave_no_loop;
+use script_told::reports_are_settled;
 use std::alloc::Global;
 
 /// Does what the words after the program's name ask for: reads the input from `source`, writes the

@@ -8,7 +8,7 @@ use cable_world::{Act, World, WorldRun};
 use cabling::{End, NodeSet};
 use phy_machine::{FieldMachine, NodeSpec};
 use port_state::{Coins, Timing, power_on_is_valid, usual_in_range};
-use script_run::{Name, report_text, reports_can_be_shown};
+use script_text::{Name, report_text, reports_can_be_shown};
 use self_id::Attrs;
 use settle::{Outcome, Part, Report, quiet_turns, settle};
 use std::alloc::{AllocError, Global};

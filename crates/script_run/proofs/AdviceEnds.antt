@@ -4,14 +4,14 @@ use Rattle.std.specs.Prelude.{IfOk, IfErr}
 use Rattle.script_lines.specs.declared.kind.LineStop.{LineStop}
 use Rattle.script_lines.specs.declared.kind.LineStop.TheVariants.{Fault, Memory}
 use Rattle.script_lines.specs.declared.kind.ScriptStop.{ScriptStop}
-use Rattle.script_run.specs.Bus.{Bus}
-use Rattle.script_run.specs.Step.{Settles}
-use Rattle.script_run.specs.Script.{Stage, bus_of, fault_at, script_lines}
-use Rattle.script_run.specs.Advice.{IsAdvice}
+use Rattle.script_told.specs.Bus.{Bus}
+use Rattle.script_told.specs.Step.{Settles}
+use Rattle.script_told.specs.Script.{Stage, bus_of, fault_at, script_lines}
+use Rattle.script_advice.specs.Advice.{IsAdvice}
 use Rattle.script_run.specs.Answered.{IsAdviceRefused}
-use Rattle.script_run.specs.codings.Advising.{IsAdvised, EndsWith}
+use Rattle.script_advice.specs.Advising.{IsAdvised, EndsWith}
 use Rattle.script_run.specs.codings.Going.{Leaves, LeavesTo, stop_at}
-use Rattle.script_run.specs.codings.Running.{Stops}
+use Rattle.script_bus.specs.Running.{Stops}
 use Rattle.script_run.proofs.Going.{end-fails}
 
 -- what holds of each answer holds of this one

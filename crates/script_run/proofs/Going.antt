@@ -6,10 +6,10 @@ use Rattle.script_lines.specs.declared.kind.LineStop.{LineStop}
 use Rattle.script_lines.specs.declared.kind.LineStop.TheVariants.{Fault, Memory}
 use Rattle.script_lines.specs.declared.kind.ScriptStop.{ScriptStop}
 use Rattle.script_lines.specs.declared.kind.ScriptStop.TheVariants as script
-use Rattle.script_run.specs.Step.{LineAnswer, Settles}
-use Rattle.script_run.specs.Script.{Stage, fresh, Told, bus_of, behind, fault_at, script_lines, TellsBy, Tells, IsTold}
+use Rattle.script_told.specs.Step.{LineAnswer, Settles}
+use Rattle.script_told.specs.Script.{Stage, fresh, Told, bus_of, behind, fault_at, script_lines, TellsBy, Tells, IsTold}
 use Rattle.script_run.specs.Answered.{StopsWith, IsRefused, IsOnlyFault}
-use Rattle.script_run.specs.codings.Running.{Stops}
+use Rattle.script_bus.specs.Running.{Stops}
 use Rattle.script_run.specs.codings.Going.{LineLeads, LineFails, IfFault, LeavesBy, Leaves, stop_at}
 
 behind-behind : (one other : List ℕ) (told : Told) → behind one (behind other told) ≡ behind (one ++ other) told

@@ -5,12 +5,12 @@ use Rattle.cable_world.specs.World.{CableWorld}
 use Rattle.script_lines.specs.declared.command.Command.{Command}
 use Rattle.script_lines.specs.declared.kind.LineStop.{LineStop}
 use Rattle.script_lines.specs.declared.kind.LineStop.TheVariants.{Fault, Memory}
-use Rattle.script_run.specs.declared.bus.Bus as kept
+use Rattle.script_bus.specs.declared.bus.Bus as kept
 use Rattle.script_run.specs.declared.run.Stage as stage
 use Rattle.script_run.specs.declared.run.Stage.TheVariants.{Running}
-use Rattle.script_run.specs.Step.{Does}
-use Rattle.script_run.specs.Script.{Runs, bus_of}
-use Rattle.script_run.specs.codings.Running.{bus_now, Stops}
+use Rattle.script_told.specs.Step.{Does}
+use Rattle.script_told.specs.Script.{Runs, bus_of}
+use Rattle.script_bus.specs.Running.{bus_now, Stops}
 use Rattle.script_run.specs.codings.Declaring.{StopsAt}
 use Rattle.script_run.specs.codings.Going.{stage_now}
 

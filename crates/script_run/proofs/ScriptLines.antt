@@ -3,8 +3,8 @@ use Rattle.std.proofs.Common.{◌≡◌, ℕ, ◌+◌, ◌<◌, ◌==◌, ◌≤
 use Rattle.std.specs.Prelude.{position, cond}
 use Rattle.std.specs.List.{slice_split, position_or_len, onto_first}
 use Rattle.std.proofs.lemmas.Bool.Decides.{nat_tests}
-use Rattle.script_run.specs.Summary.{is_feed}
-use Rattle.script_run.specs.Script.{without_last_if_empty, script_lines}
+use Rattle.script_text.specs.Summary.{is_feed}
+use Rattle.script_told.specs.Script.{without_last_if_empty, script_lines}
 use Rattle.script_lines.proofs.Parts.{cut, uncut}
 
 -- there is always a part, so a line stands before it

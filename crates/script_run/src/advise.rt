@@ -1,12 +1,12 @@
 //! The advice for a whole script.
 ghost use Rattle.std.specs.Prelude.{◌≡◌, ◌≤◌, Ok, IfOk, IfErr, length};
-ghost use Rattle.script_run.specs.Script.{Told};
-ghost use Rattle.script_run.specs.Advice.{IsAdvice, EndsWithoutLoop};
+ghost use Rattle.script_told.specs.Script.{Told};
+ghost use Rattle.script_advice.specs.Advice.{IsAdvice, EndsWithoutLoop};
 ghost use Rattle.script_run.specs.Answered.{IsAdviceRefused, IsOnlyFault};
-ghost use Rattle.script_run.specs.codings.Advising.{EndsWith};
+ghost use Rattle.script_advice.specs.Advising.{EndsWith};
 
-use crate::laws::{advices_leave_no_loop, scripts_have_one_advice};
 use crate::script::{Taken, at_line, take_lines};
+use script_advice::{advices_leave_no_loop, scripts_have_one_advice};
 use script_lines::ScriptStop;
 use std::alloc::Global;
 

@@ -1,17 +1,17 @@
 //! A script that is gone through, a line at a time.
 ghost use Rattle.std.specs.Prelude.{◌≡◌, ◌⊎◌, ◌++◌, ℕ, List, Ok, IfOk, IfErr, OnOk, IsSomeAnd};
 ghost use Rattle.settle.specs.Report.{IsReport};
-ghost use Rattle.script_run.specs.Step.{Settles};
-ghost use Rattle.script_run.specs.Bus as shown;
-ghost use Rattle.script_run.specs.Script.{fresh, bus_of};
-ghost use Rattle.script_run.specs.codings.Running.{bus_now, IsSound, Stops};
+ghost use Rattle.script_told.specs.Step.{Settles};
+ghost use Rattle.script_told.specs.Bus as shown;
+ghost use Rattle.script_told.specs.Script.{fresh, bus_of};
+ghost use Rattle.script_bus.specs.Running.{bus_now, IsSound, Stops};
 ghost use Rattle.script_run.specs.codings.Going.{LineLeads, LineFails, IfFault};
-ghost use Rattle.script_run.specs.codings.Advising.{IsAdvised};
+ghost use Rattle.script_advice.specs.Advising.{IsAdvised};
 
-use crate::bus::Bus;
 use crate::run::Stage;
 use cable_world::WorldRun;
 use phy_machine::AnyMachine;
+use script_bus::Bus;
 use script_lines::{LineStop, parse_line, says_nothing};
 use std::alloc::Global;
 use std::marker::Model;
@@ -24,7 +24,7 @@ pub(crate) struct Course {
 }
 
 impl Model for Course {
-    ghost use Rattle.script_run.specs.Script.{Stage};
+    ghost use Rattle.script_told.specs.Script.{Stage};
     ghost use Rattle.script_run.specs.codings.Going.{stage_now, IsSoundStage};
 
     ghost Value = { Stage };

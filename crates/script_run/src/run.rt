@@ -1,15 +1,15 @@
 //! The run of a script.
 ghost use Rattle.std.specs.Prelude.{◌≡◌, ◌≤◌, ◌<◌, ◌∷◌, ◌++◌, [], ℕ, List, Some, None, Ok, Err, IfOk, IfErr, OnOk, length};
 ghost use Rattle.script_lines.specs.Range.{IsInRange};
-ghost use Rattle.script_run.specs.Script.{Declares, Delays, Follows, Runs, bus_of, delay_of, draft_of};
-ghost use Rattle.script_run.specs.codings.Running.{bus_now, IsSound};
+ghost use Rattle.script_told.specs.Script.{Declares, Delays, Follows, Runs, bus_of, delay_of, draft_of};
+ghost use Rattle.script_bus.specs.Running.{bus_now, IsSound};
 ghost use Rattle.script_run.specs.codings.Declaring.{IsDraft, IsLine, StopsAt, draft_now, node_said};
 ghost use Rattle.script_run.specs.codings.Going.{stage_now, IsSoundStage};
 
-use crate::bus::Bus;
 use crate::draft::{Draft, NodeLine};
 use cable_world::WorldRun;
 use phy_machine::AnyMachine;
+use script_bus::Bus;
 use script_lines::{Command, Kind, LineStop};
 use std::alloc::Global;
 use std::mem;

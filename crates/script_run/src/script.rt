@@ -1,14 +1,14 @@
 //! A whole script.
 ghost use Rattle.std.specs.Prelude.{◌≡◌, ◌≤◌, ◌<◌, ◌+◌, ◌∷◌, [], Ok, IfOk, IfErr, length};
-ghost use Rattle.script_run.specs.Bus.{Bus};
-ghost use Rattle.script_run.specs.Script.{Told, IsTold, script_lines};
+ghost use Rattle.script_told.specs.Bus.{Bus};
+ghost use Rattle.script_told.specs.Script.{Told, IsTold, script_lines};
 ghost use Rattle.script_run.specs.Answered.{IsRefused, IsOnlyFault};
 ghost use Rattle.script_run.specs.codings.Going.{Leaves, LeavesTo, stop_at};
 
 use crate::course::Course;
-use crate::last_report::first_feed;
-use crate::laws::scripts_tell_one_thing;
 use script_lines::{LineStop, ScriptFault, ScriptStop};
+use script_text::first_feed;
+use script_told::scripts_tell_one_thing;
 use std::alloc::Global;
 
 /// The first line of what is left of a script, without its line feed, and what stands behind it.

@@ -8,7 +8,7 @@ use Rattle.script_lines.specs.declared.kind.LineStop.TheVariants.{Fault, Memory}
 use Rattle.script_run.specs.declared.draft.Draft as kept
 use Rattle.script_run.specs.declared.draft.NodeLine.{NodeLine}
 use Rattle.script_lines.specs.Range.{IsNodeInRange}
-use Rattle.script_run.specs.Script.{Draft, Declares, StageAnswer, declaring, new_node, times_of, coins_of}
+use Rattle.script_told.specs.Script.{Draft, Declares, StageAnswer, declaring, new_node, times_of, coins_of}
 
 abbrev pub draft_now : kept.Draft → Draft
 draft_now draft = record {

@@ -10,10 +10,10 @@ use Rattle.script_lines.specs.declared.command.Command.{Command}
 use Rattle.script_run.specs.declared.run.Stage as kept
 use Rattle.script_run.specs.declared.run.Stage.TheVariants.{Fresh, Declaring, Running}
 use Rattle.script_lines.specs.Line.{Reads}
-use Rattle.script_run.specs.Bus.{Bus}
-use Rattle.script_run.specs.Script.{Stage, fresh, declaring, running, script_lines, delay_of, Follows, Told, fault_at, behind, Ends, TellsBy}
-use Rattle.script_run.specs.Advice.{EndsOn}
-use Rattle.script_run.specs.codings.Running.{bus_now, IsSound}
+use Rattle.script_told.specs.Bus.{Bus}
+use Rattle.script_told.specs.Script.{Stage, fresh, declaring, running, script_lines, delay_of, Follows, Told, fault_at, behind, Ends, TellsBy}
+use Rattle.script_advice.specs.Advice.{EndsOn}
+use Rattle.script_bus.specs.Running.{bus_now, IsSound}
 use Rattle.script_run.specs.codings.Declaring.{draft_now, IsDraft}
 
 abbrev pub stage_now : {W : Type 0} → (W → CableWorld) → kept.Stage W → Stage

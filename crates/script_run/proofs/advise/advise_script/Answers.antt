@@ -1,10 +1,10 @@
 use Rattle.std.proofs.Common.{◌≡◌, ℕ, Vec, Global}
 use Rattle.std.specs.Prelude.{Ok}
 use Rattle.script_lines.specs.declared.kind.ScriptStop.{ScriptStop}
-use Rattle.script_run.specs.Script.{Told}
-use Rattle.script_run.specs.Advice.{IsAdvice, EndsWithoutLoop}
+use Rattle.script_told.specs.Script.{Told}
+use Rattle.script_advice.specs.Advice.{IsAdvice, EndsWithoutLoop}
 use Rattle.script_run.specs.Answered.{IsAdviceRefused, IsOnlyFault}
-use Rattle.script_run.specs.codings.Advising.{EndsWith}
+use Rattle.script_advice.specs.Advising.{EndsWith}
 use Rattle.script_run.proofs.Going.{only-fault}
 use Rattle.script_run.proofs.AdviceEnds.{ok-all, err-all, is-advice}
 use Rattle.script_run.proofs.advise.advise_script.Goals as goal

@@ -1,5 +1,5 @@
 use Rattle.std.proofs.Common.{◌≡◌, replicate}
-use Rattle.script_run.specs.Bus.{first_bank}
+use Rattle.script_told.specs.Bus.{first_bank}
 use Rattle.script_run.proofs.draft.first_banks.Given as goal
 
 abbrev pub invariant-loop : goal.invariant-loop

@@ -1,6 +1,6 @@
 use Rattle.std.proofs.Common.{◌++◌, List, ℕ, refl, sym, ap, subst, ◌∙◌}
 use Rattle.std.specs.Prelude.{Ok}
-use Rattle.script_run.specs.Script.{IsTold}
+use Rattle.script_told.specs.Script.{IsTold}
 use Rattle.script_run.proofs.Going.{script-ends, refused-end, only-fault}
 use Rattle.script_run.proofs.script.run_script.Goals as goal
 

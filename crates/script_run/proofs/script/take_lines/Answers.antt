@@ -1,6 +1,6 @@
 use Rattle.std.proofs.Common.{◌≡◌, ◌+◌, ◌++◌, ◌∷◌, [], List, ℕ, length, sym, ap, subst, arith}
-use Rattle.script_run.specs.Script.{Stage, fresh, Told, Ends, script_lines}
-use Rattle.script_run.specs.Advice.{EndsOn}
+use Rattle.script_told.specs.Script.{Stage, fresh, Told, Ends, script_lines}
+use Rattle.script_advice.specs.Advice.{EndsOn}
 use Rattle.script_run.specs.codings.Going.{LineLeads, LeavesBy}
 use Rattle.script_run.proofs.Going.{leaves-first, leaves-more, refused-line}
 use Rattle.script_run.proofs.script.take_lines.Goals as goal

@@ -1,6 +1,6 @@
 use Rattle.std.proofs.Common.{◌≡◌, ◌≤◌, ◌+◌, length}
-use Rattle.script_run.specs.Bus.{Bus}
-use Rattle.script_run.specs.Script.{script_lines}
+use Rattle.script_told.specs.Bus.{Bus}
+use Rattle.script_told.specs.Script.{script_lines}
 use Rattle.script_run.specs.codings.Going.{Leaves, LeavesTo}
 use Rattle.script_run.proofs.script.take_lines.Given as goal
 

@@ -1,6 +1,6 @@
 use Rattle.std.proofs.Common.{[], inl, refl, sym}
 use Rattle.std.proofs.lemmas.List.{append-nil}
-use Rattle.script_run.specs.Script.{delay_of}
+use Rattle.script_told.specs.Script.{delay_of}
 use Rattle.script_run.proofs.course.Course.take.Goals as goal
 
 pub returns-then-says_nothing-clause-done : goal.returns-then-says_nothing-clause-done

@@ -1,0 +1,5 @@
+pub mod Pulling
+pub mod Advising
+pub mod Settled
+pub mod OneAdvice
+pub mod NoLoop

@@ -1,0 +1,167 @@
+-- Which cables of a script's bus are advised for pulling, and what the bus then settles on.
+use Rattle.std.specs.Prelude.{◌≡◌, ◌⊎◌, ℕ, ◌+◌, List, [], ◌∷◌, ◌++◌, All, length, map, codes, Some, Ok, Err}
+use Rattle.cabling.specs.declared.cable.End.{End}
+use Rattle.cabling.specs.declared.cable.Cable.{Cable}
+use Rattle.cabling.specs.Wiring.{Wiring, NodeNumber}
+use Rattle.cabling.specs.NodeSet.{Nodes}
+use Rattle.cabling.specs.Component.{IsComponent}
+use Rattle.cable_world.specs.declared.act.Act.TheVariants.{Pull}
+use Rattle.loop_advice.specs.Advised.{AreAdvised}
+use Rattle.loop_advice.specs.Certificate.{IsCertificate}
+use Rattle.settle.specs.declared.report.Outcome.{Outcome}
+use Rattle.settle.specs.declared.report.Outcome.TheVariants.{Loop}
+use Rattle.settle.specs.declared.report.Part.{Part}
+use Rattle.settle.specs.declared.report.Report.{Report}
+use Rattle.script_lines.specs.declared.kind.ScriptFault.{ScriptFault}
+use Rattle.script_advice.specs.declared.advice.LoopAdvice.{LoopAdvice}
+use Rattle.script_text.specs.ReportText.{Names, spaced, all_spaced, numbered}
+use Rattle.script_told.specs.Bus.{Bus}
+use Rattle.script_told.specs.Step.{LineAnswer, Acts, Settles}
+use Rattle.script_told.specs.Script.{Stage, fresh, bus_of, Told, ends_with, TellsBy, IsTold, script_lines}
+
+-- ---- the bus after the last settle
+
+-- at the end of the script its bus settles, and this is the bus then
+abbrev pub EndsOn : Bus → ℕ → Stage → Told → Type 0
+EndsOn bus number stage told =
+    (text : List ℕ) × Settles (bus_of stage) (Ok (bus, text)) × (told ≡ Ok text)
+
+-- the one run of the script, with the `settle` at its end, leads to this bus
+abbrev pub RunsTo : List ℕ → Bus → Type 0
+RunsTo bytes bus =
+    (text : List ℕ) × TellsBy (EndsOn bus) 1 (script_lines bytes) fresh (Ok text)
+
+-- ---- what is advised
+
+-- the nodes of a component that came to a loop, and else nothing
+abbrev pub if_loop : Outcome → Nodes → List Nodes
+if_loop (Loop core) nodes = nodes ∷ []
+if_loop outcome nodes = []
+
+-- the components that are reported as loops, in the order of the report
+abbrev pub loops_of : List Part → List Nodes
+loops_of [] = []
+loops_of (part ∷ parts) = if_loop part.outcome part.nodes ++ loops_of parts
+
+-- the pulls are the advised cables of the component, and they are a valid advice for it
+pub record IsAdviceFor (c : Wiring) (a : LoopAdvice) : Type 0 where
+  pub node : NodeNumber
+  pub component : IsComponent c node a.nodes
+  pub advised : AreAdvised c a.nodes a.advice.pulls a.advice.kept
+  pub valid : IsCertificate c node a.advice.pulls a.advice.kept
+
+-- there is an advice for each of these components, and they stand in this order
+pub record AreAdvices (c : Wiring) (components : List Nodes) (advices : List LoopAdvice) :
+    Type 0 where
+  pub each : All (IsAdviceFor c) advices
+  pub are : map (λ (a : LoopAdvice). a.nodes) advices ≡ components
+
+-- ---- pulls
+
+abbrev pub all_pulls : List LoopAdvice → List Cable
+all_pulls [] = []
+all_pulls (a ∷ advices) = a.advice.pulls ++ all_pulls advices
+
+-- cables are pulled one after the other, each at its lower end
+abbrev pub PullsLead : Bus → List Cable → Bus → Type 0
+PullsLead bus [] after = after ≡ bus
+PullsLead bus (x ∷ cables) after =
+    (next : Bus) × Acts bus (Pull x.a) (Ok (next, [])) × PullsLead next cables after
+
+-- ---- the text
+
+-- ` NAME PORT`
+unfoldable pub spaced_end : Names → End → List ℕ
+spaced_end names end = spaced names end.node ++ numbered (codes " ") end.port
+
+-- `pull NAME PORT NAME PORT`
+unfoldable pub pull_line : Names → Cable → List ℕ
+pull_line names x =
+    codes "pull" ++ (spaced_end names x.a ++ (spaced_end names x.b ++ codes "\n"))
+
+abbrev pub pull_lines : Names → List Cable → List ℕ
+pull_lines names [] = []
+pull_lines names (x ∷ cables) = pull_line names x ++ pull_lines names cables
+
+-- `advice NAME NAME`, with the nodes of the component
+unfoldable pub advice_line : Names → Nodes → List ℕ
+advice_line names nodes = codes "advice" ++ (all_spaced names nodes ++ codes "\n")
+
+-- `left L`
+unfoldable pub left_line : ℕ → List ℕ
+left_line kept = numbered (codes "left ") kept ++ codes "\n"
+
+-- the lines for a looped component
+abbrev pub loop_advice_text : Names → LoopAdvice → List ℕ
+loop_advice_text names a =
+    advice_line names a.nodes
+    ++ (pull_lines names a.advice.pulls ++ left_line (length a.advice.kept))
+
+abbrev pub all_advice_texts : Names → List LoopAdvice → List ℕ
+all_advice_texts names [] = []
+all_advice_texts names (a ∷ advices) =
+    loop_advice_text names a ++ all_advice_texts names advices
+
+-- those for each looped component, or `advice none`
+abbrev pub advice_text : Names → List LoopAdvice → List ℕ
+advice_text names [] = codes "advice none\n"
+advice_text names (a ∷ advices) = all_advice_texts names (a ∷ advices)
+
+-- ---- the whole
+
+-- what stands before the text of an answer
+abbrev pub after_text : List ℕ → LineAnswer → LineAnswer
+after_text before (Ok (bus, text)) = Ok (bus, before ++ text)
+after_text before (Err kind) = Err kind
+
+-- The bus has settled. The advised cables of each component that was reported as a loop are pulled,
+-- and the bus settles once more.
+pub record Advises (bus : Bus) (answer : LineAnswer) : Type 0 where
+  pub report : Report
+  pub last : bus.notes.report ≡ Some report
+  pub advices : List LoopAdvice
+  pub are : AreAdvices bus.world.cabling (loops_of report.parts) advices
+  pub pulled : Bus
+  pub pulls : PullsLead bus (all_pulls advices) pulled
+  pub settled : LineAnswer
+  pub settles : Settles pulled settled
+  pub answer_is : answer ≡ after_text (advice_text bus.notes.names advices) settled
+
+-- a fault of the script is that of its advice
+pub record HasScriptFault (bytes : List ℕ) (told : Told) : Type 0 where
+  pub fault : ScriptFault
+  pub told_so : IsTold bytes (Err fault)
+  pub is : told ≡ Err fault
+
+-- The script runs to its end, and what is advised then is told. A fault of the second settle has the
+-- line of the first.
+pub record AdvisesAtEnd (bytes : List ℕ) (told : Told) : Type 0 where
+  pub bus : Bus
+  pub ran : RunsTo bytes bus
+  pub answer : LineAnswer
+  pub advises : Advises bus answer
+  pub is : told ≡ ends_with (length (script_lines bytes) + 1) answer
+
+-- the text of a script's advice, or the fault of the script or of the advice
+abbrev pub IsAdvice : List ℕ → Told → Type 0
+IsAdvice bytes told = HasScriptFault bytes told ⊎ AdvisesAtEnd bytes told
+
+-- ---- the report
+
+abbrev pub IsLoop : Outcome → Type 0
+IsLoop (Loop core) = Unit {0}
+IsLoop outcome = ⊥
+
+-- no component in a report came to a loop
+abbrev pub HasNoLoop : Report → Type 0
+HasNoLoop report = All (λ part. ¬ IsLoop part.outcome) report.parts
+
+-- The text is that of the script's advice, and no component of the report in it is a loop.
+pub record EndsWithoutLoop (bytes text : List ℕ) : Type 0 where
+  pub bus : Bus
+  pub ran : RunsTo bytes bus
+  pub after : Bus
+  pub advises : Advises bus (Ok (after, text))
+  pub report : Report
+  pub last : after.notes.report ≡ Some report
+  pub no_loop : HasNoLoop report

@@ -1,0 +1,3 @@
+pub mod Advice
+pub mod OneAdvice
+pub mod Advising

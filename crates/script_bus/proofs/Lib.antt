@@ -1,0 +1,4 @@
+pub mod NamedTree
+pub mod Standing
+pub mod Planning
+pub mod PlansAsked

@@ -1,0 +1,76 @@
+-- The bus of a script as the code keeps it.
+use Rattle.std.specs.Prelude.{◌≡◌, ℕ, ◌≤◌, List, length, Some, Err, IfSome, IsFalse, Bool}
+use Rattle.cable_world.specs.World.{CableWorld}
+use Rattle.script_lines.specs.declared.kind.LineStop.{LineStop}
+use Rattle.script_lines.specs.declared.kind.LineStop.TheVariants.{Fault, Memory}
+use Rattle.script_bus.specs.declared.bus.Notes as kept
+use Rattle.script_bus.specs.declared.bus.Bus as running
+use Rattle.script_bus.specs.declared.bus.Reported as shown
+use Rattle.script_lines.specs.declared.command.Command.{Command}
+use Rattle.script_lines.specs.declared.command.Command.TheVariants.{CsrRead, CsrWrite, CsrLock, Look, Allocate, Release, Manager}
+use Rattle.script_text.specs.ReportText.{IsNamedReport}
+use Rattle.script_told.specs.Bus.{Notes, Bus, Reported, node_named, tree_with}
+use Rattle.script_bus.specs.codings.Standing.{StandsSince}
+use Rattle.script_told.specs.Step.{LineAnswer, HasManager, id_of}
+
+abbrev pub notes_now : kept.Notes → Notes
+notes_now notes = record {
+  names = notes.names;
+  banks = notes.banks.items;
+  looks = notes.looks.items;
+  report = notes.report;
+  reports = notes.reports;
+  maps = notes.maps;
+}
+
+abbrev pub bus_now : {W : Type 0} → (W → CableWorld) → running.Bus W → Bus
+bus_now world bus = record { world = world bus.world; notes = notes_now bus.notes }
+
+abbrev pub reported : shown.Reported → Reported
+reported tree = record { root = tree.root; list = tree.list.now; order = tree.order.now }
+
+-- what holds of a bus between two lines
+pub record IsBus (bus : Bus) : Type 0 where
+  pub names : length bus.notes.names ≡ length bus.world.nodes
+  pub banks : length bus.notes.banks ≡ length bus.world.nodes
+  pub looks : length bus.notes.looks ≡ length bus.world.nodes
+  pub few : length bus.world.nodes ≤ 63
+  pub turns : bus.world.turns ≤ 2000000
+  pub reports : bus.notes.reports ≤ bus.world.turns
+  pub maps : bus.notes.maps ≤ 100
+  pub report : IfSome bus.notes.report (λ report. IsNamedReport bus.notes.names report)
+  pub stands : IfSome bus.notes.report (λ report. StandsSince report bus.world)
+
+-- the bus is sound, and its world isn't spent
+pub record IsSound {W : Type 0} (world : W → CableWorld) (spent : W → Bool) (b : running.Bus W) :
+    Type 0 where
+  pub bus : IsBus (bus_now world b)
+  pub fine : IsFalse (spent b.world)
+
+-- a fault is what the line comes to
+abbrev pub Stops : (LineAnswer → Type 0) → LineStop → Type 0
+Stops comes (Fault kind) = comes (Err kind)
+Stops comes (Memory none) = Unit {0}
+
+-- the node with a name has this number and this ID in its tree, and this is the tree's manager
+pub record IsAsked (bus : Bus) (name : List ℕ) (node id manager : ℕ) : Type 0 where
+  pub named : node_named bus.notes.names name ≡ Some node
+  pub tree : Reported
+  pub settled : tree_with node bus.notes ≡ Some tree
+  pub id_is : id ≡ id_of tree node
+  pub managed : HasManager tree (Some manager)
+
+-- nothing comes of a command but a fault
+abbrev pub nothing : ℕ → ℕ → ℕ → LineAnswer → Type 0
+nothing node id manager answer = ⊥
+
+-- the commands that ask the manager of a tree
+abbrev pub AsksManager : Command → Type 0
+AsksManager (CsrRead name offset) = Unit {0}
+AsksManager (CsrWrite name offset value) = Unit {0}
+AsksManager (CsrLock name offset kind arg value) = Unit {0}
+AsksManager (Look name) = Unit {0}
+AsksManager (Allocate name channel units) = Unit {0}
+AsksManager (Release name channel units) = Unit {0}
+AsksManager (Manager name) = Unit {0}
+AsksManager command = ⊥

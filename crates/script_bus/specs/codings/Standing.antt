@@ -1,0 +1,55 @@
+-- Trees that stand since they were reported, and plans for them. No public contract cites this
+-- file.
+use Rattle.std.specs.Prelude.{◌≡◌, ◌<◌, ◌^◌, ℕ, List, [], Ok, Some, Any, IfSome}
+use Rattle.topology_stack.specs.Tree.{Tree}
+use Rattle.cabling.specs.Walk.{IsWalk}
+use Rattle.cabling.specs.Component.{IsComponent}
+use Rattle.cable_world.specs.World.{CableWorld, NodeNumber, NodeSet}
+use Rattle.cable_world.specs.Run.{Event, Runs, IsReached}
+use Rattle.outcomes.specs.Settled.{HasNoAct}
+use Rattle.root_plan.specs.declared.choice.RootPlan.{RootPlan}
+use Rattle.settle.specs.declared.report.Report.{Report}
+use Rattle.settle.specs.Report.{IsReport, IsTreeFrom}
+use Rattle.settle.specs.Reported.{ReportsTree}
+use Rattle.settle_plan.specs.Planned.{HasId, HaveGap}
+use Rattle.script_told.specs.Bus.{Bus, Reported}
+use Rattle.script_text.specs.Plan.{IsPlan, plan_line}
+use Rattle.script_told.specs.Step.{IsTreeOf, Acts, Reports, config_of, node_with}
+
+-- no act came since a report was made: holds and turns alone led from its world to this one
+pub record StandsSince (report : Report) (w : CableWorld) : Type 0 where
+  pub before : CableWorld
+  pub reached : ∥ IsReached before ∥₁
+  pub is : IsReport before report
+  pub events : List Event
+  pub no_act : HasNoAct events
+  pub run : Runs events before w
+
+-- the component of a node stands as a reported tree
+pub record StandsAs (w : CableWorld) (node : NodeNumber) (tree : Reported) : Type 0 where
+  pub set : NodeSet
+  pub component : IsComponent w.cabling node set
+  pub small : set < 2 ^ 63
+  pub stands : ReportsTree w set tree.root tree.list tree.order
+
+-- a plan for a reported tree, and its line
+pub record IsPlanned
+    (bus : Bus) (name : List ℕ) (tree : Reported) (plan : RootPlan) (line : List ℕ) : Type 0 where
+  pub shown : Tree
+  pub is : IsTreeOf tree.list shown
+  pub planned : IsPlan shown plan
+  pub expected : List NodeNumber
+  pub walk : IsWalk bus.world.cabling (node_with tree plan.root_id) expected
+  pub line_is :
+      line ≡ plan_line bus.notes.names name (node_with tree plan.root_id) plan expected
+
+-- a node sent the packet of a plan, the bus settled, and this is the text of the report
+pub record IsSent (bus : Bus) (node : NodeNumber) (plan : RootPlan) (after : Bus) (text : List ℕ) :
+    Type 0 where
+  pub sent : Bus
+  pub sends : Acts bus (config_of node (Some plan.root_id) (Some plan.gap)) (Ok (sent, []))
+  pub reports : Reports sent (Ok (after, text))
+  pub root :
+      (root : NodeNumber) → HasId bus.world node plan.root_id root →
+      IfSome after.notes.report (λ r. Any (IsTreeFrom bus.world.cabling node root) r.parts)
+  pub gaps : HaveGap after.world node plan.gap

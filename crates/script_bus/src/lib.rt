@@ -1,0 +1,18 @@
+//! The bus of a script: acts, turns and reports, questions to the manager of a tree, plans, and the
+//! cables that are pulled by an advice.
+//!
+//! What each command does stands in `script_told`, and what is printed in `script_text`. `script_run`
+//! goes from line to line.
+#![tactic(auto)]
+
+mod advised;
+mod bank;
+mod bus;
+mod managed;
+mod planned;
+mod steps;
+mod table;
+
+pub use bank::Bank;
+pub use bus::{Bus, Notes};
+pub use table::NameTable;

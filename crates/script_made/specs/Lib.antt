@@ -1,0 +1,4 @@
+pub mod Made
+pub mod MadeRead
+pub mod MadeValid
+pub mod codings

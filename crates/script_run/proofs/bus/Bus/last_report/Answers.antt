@@ -1,5 +1,0 @@
-use Rattle.script_run.specs.codings.Running.{bus_now}
-use Rattle.script_run.proofs.bus.Bus.last_report.Goals as goal
-
-pub returns-clause-done : goal.returns-clause-done
-returns-clause-done g c = (bus_now g.W.WorldRun.world c.settle.new.self, c.in_ok-text.ensures.done)

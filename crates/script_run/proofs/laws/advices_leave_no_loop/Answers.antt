@@ -1,8 +1,0 @@
-use Rattle.script_run.proofs.told.NoLoop.{no-loop, all-without-loop}
-use Rattle.script_run.proofs.laws.advices_leave_no_loop.Goals as goal
-
-pub returns-clause-report : goal.returns-clause-report
-returns-clause-report c = no-loop c.one_tree.ensures
-
-pub returns-clause-text : goal.returns-clause-text
-returns-clause-text c = all-without-loop c.one_tree.ensures

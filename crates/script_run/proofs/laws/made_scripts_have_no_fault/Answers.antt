@@ -1,5 +1,0 @@
-use Rattle.script_run.proofs.valid.Scripts.{made-scripts-have-no-fault}
-use Rattle.script_run.proofs.laws.made_scripts_have_no_fault.Goals as goal
-
-pub returns : goal.returns
-returns c = made-scripts-have-no-fault

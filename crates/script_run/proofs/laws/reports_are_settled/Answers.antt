@@ -1,5 +1,0 @@
-use Rattle.script_run.proofs.told.EachReport.{each-report}
-use Rattle.script_run.proofs.laws.reports_are_settled.Goals as goal
-
-pub returns : goal.returns
-returns c = each-report c.one_tree.ensures

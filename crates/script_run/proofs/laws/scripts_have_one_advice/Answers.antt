@@ -1,6 +1,0 @@
-use Rattle.script_run.proofs.told.Lines.{one-told}
-use Rattle.script_run.proofs.told.Advice.{one-script-advice}
-use Rattle.script_run.proofs.laws.scripts_have_one_advice.Goals as goal
-
-pub returns : goal.returns
-returns c = one-script-advice c.one_tree.ensures (one-told c.one_tree.ensures)

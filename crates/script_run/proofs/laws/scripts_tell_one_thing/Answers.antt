@@ -1,5 +1,0 @@
-use Rattle.script_run.proofs.told.Lines.{one-told}
-use Rattle.script_run.proofs.laws.scripts_tell_one_thing.Goals as goal
-
-pub returns : goal.returns
-returns c = one-told c.one_tree.ensures

@@ -1,6 +1,0 @@
-use Rattle.std.proofs.Common.{◌≡◌, ◌++◌, drop}
-use Rattle.script_run.specs.Maps.{quad_lines}
-use Rattle.script_run.proofs.maps.put_quads.Given as goal
-
-abbrev pub invariant-loop-quad : goal.invariant-loop-quad
-invariant-loop-quad l = l.out.items ++ quad_lines (drop l.quad-index l.quads) ≡ l.initial.out.items ++ quad_lines l.quads

@@ -1,6 +1,0 @@
-use Rattle.std.proofs.Common.{◌≡◌, ◌++◌, drop}
-use Rattle.script_run.specs.Plan.{all_in}
-use Rattle.script_run.proofs.planned.put_all_in.Given as goal
-
-abbrev pub invariant-loop-node : goal.invariant-loop-node
-invariant-loop-node l = l.out.items ++ all_in l.names (drop l.node-index l.nodes) ≡ l.initial.out.items ++ all_in l.names l.nodes

@@ -1,0 +1,5 @@
+pub mod TextLines
+pub mod ReportParts
+pub mod OneMaps
+pub mod NamedReports
+pub mod OneText

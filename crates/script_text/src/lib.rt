@@ -1,0 +1,20 @@
+//! The texts of a script's run: reports, maps, what commands print, and what a made run is worth.
+//!
+//! Each is said of a value and of the names of nodes. What a script does to a bus stands in
+//! `script_told` and `script_bus`.
+#![tactic(auto)]
+
+mod answers;
+mod last_report;
+mod laws;
+mod maps;
+mod plan;
+mod report;
+
+pub use answers::{bid_text, csr_text, grant_text};
+pub use last_report::{first_feed, summary};
+pub use laws::{reports_can_be_shown, reports_have_one_text};
+pub use maps::maps_text;
+pub use plan::plan_line;
+pub use report::{put_name, put_names, put_numbered, report_text, tree_of};
+pub use topology_stack::{Name, NameList, OutOfMemory};

@@ -1,0 +1,274 @@
+-- Scripts and what the definitions tell of them, worked out by the check.
+use Rattle.std.proofs.Common.{◌≡◌, ◌++◌, ℕ, ◌+◌, Bool, true, false, List, [], ◌∷◌, Option, Some, None, codes, length, refl, sym, subst, ap, ◌∙◌, arith}
+use Rattle.std.specs.Prelude.{Result, Ok, Err, MatchBool, nat_lt}
+use Rattle.std.specs.Fmt.{digits}
+use Rattle.std.specs.Str.Lines.{strip_carriage_return}
+use Rattle.std.proofs.lemmas.Bool.{lt-ltb}
+use Rattle.port_state.specs.Machine.{PortNode}
+use Rattle.cable_world.specs.World.{CableWorld, world_of_nodes}
+use Rattle.cable_world.specs.Turn.{turns_after}
+use Rattle.cable_world.specs.Act.{note_changes, plug}
+use Rattle.cable_world.specs.Run.{quiet_turns}
+use Rattle.settle.specs.declared.report.Report.{Report}
+use Rattle.settle.specs.Report.{IsReport, quiet_turns_of}
+use Rattle.script_lines.specs.declared.kind.Kind.{Kind}
+use Rattle.script_lines.specs.declared.kind.Kind.TheVariants.{Word, Late, InUse, SameNode, NotPlugged, NotSettled, TooManyTurns}
+use Rattle.script_lines.specs.declared.kind.ScriptFault.{ScriptFault}
+use Rattle.script_lines.specs.declared.command.Command.{Command}
+use Rattle.script_lines.specs.declared.command.Command.TheVariants.{Node, Plug, Pull, Turn, CsrRead}
+use Rattle.script_lines.specs.Words.{words_of}
+use Rattle.script_lines.specs.Number.{number_of, of_digits}
+use Rattle.script_lines.specs.Name.{is_name}
+use Rattle.script_lines.specs.Line.{IsRead, Reads}
+use Rattle.script_text.specs.ReportText.{report_line, numbered, none}
+use Rattle.script_told.specs.Bus.{Bus, bus_of_nodes}
+use Rattle.script_told.specs.Step.{LineAnswer, end_of, notes_after_act, notes_after_report, Reports, Settles}
+use Rattle.script_told.specs.Script.{script_lines, Stage, fresh, declaring, running, bus_of, delay_of, new_node, times_of, coins_of, Follows, Told, behind, fault_at, Tells, IsTold}
+use Rattle.script_lines.specs.codings.Reading.{read_line}
+use Rattle.script_lines.proofs.LineRead.{reads}
+use Rattle.script_told.proofs.Turns.{AfterTurns, after-turns}
+
+-- ---- lines
+
+no-lines : script_lines [] ≡ []
+no-lines = refl
+
+without-a-feed : script_lines (codes "turn 1") ≡ codes "turn 1" ∷ []
+without-a-feed = refl
+
+with-a-feed : script_lines (codes "turn 1\n") ≡ codes "turn 1" ∷ []
+with-a-feed = refl
+
+two-feeds : script_lines (codes "turn 1\n\n") ≡ codes "turn 1" ∷ [] ∷ []
+two-feeds = refl
+
+one-feed : script_lines (codes "\n") ≡ [] ∷ []
+one-feed = refl
+
+empty-line : script_lines (codes "reset a\n\nturn 1") ≡ codes "reset a" ∷ [] ∷ codes "turn 1" ∷ []
+empty-line = refl
+
+-- ---- one line, and the rest
+
+module _ (number : ℕ) (line : List ℕ) (lines : List (List ℕ)) (stage : Stage) where
+  -- what the line says
+  abbrev said : Result (Option Command) Kind
+  said = read_line (delay_of stage) (strip_carriage_return line)
+
+  line-is :
+      (reading : Result (Option Command) Kind) → said ≡ reading →
+      Reads (delay_of stage) line reading
+  line-is reading e =
+      let text : List ℕ = strip_carriage_return line in
+      subst (IsRead (delay_of stage) text) e (reads (delay_of stage) text)
+
+  -- a command is done
+  done :
+      (command : Command) (next : Stage) (text : List ℕ) (more : Told) →
+      said ≡ Ok (Some command) → Follows stage command (Ok (next, text)) →
+      Tells (number + 1) lines next more →
+      Tells number (line ∷ lines) stage (behind text more)
+  done command next text more e f rest =
+      (Ok (Some command), line-is (Ok (Some command)) e, (Ok (next, text), f, (more, rest, refl)))
+
+  -- a command is at fault
+  refused :
+      (command : Command) (kind : Kind) →
+      said ≡ Ok (Some command) → Follows stage command (Err kind) →
+      Tells number (line ∷ lines) stage (Err (fault_at number kind))
+  refused command kind e f = (Ok (Some command), line-is (Ok (Some command)) e, (Err kind, f, refl))
+
+  -- a line says no command
+  bad :
+      (kind : Kind) → said ≡ Err kind →
+      Tells number (line ∷ lines) stage (Err (fault_at number kind))
+  bad kind e = (Err kind, line-is (Err kind) e, refl)
+
+  -- a line is skipped
+  skipped :
+      (told : Told) → said ≡ Ok None → Tells (number + 1) lines stage told →
+      Tells number (line ∷ lines) stage told
+  skipped told e rest = (Ok None, line-is (Ok None) e, rest)
+
+-- ---- no nodes
+
+abbrev nothing : CableWorld
+nothing = world_of_nodes 4 []
+
+abbrev no-parts : ℕ → Report
+no-parts turn = record { turn = turn; parts = [] }
+
+-- a world without nodes has a report without parts
+empty-report : (k : ℕ) → IsReport (turns_after k nothing) (no-parts k)
+empty-report k =
+    let same = after-turns k nothing in
+    let none-there : length (turns_after k nothing).cabling ≡ 0 = ap length same.cabling in
+    record {
+      turn = omega (arith, same.turns);
+      parts = record {
+        each = λ i d inside. absurd (omega (arith, inside));
+        rising = λ i j d less inside. absurd (omega (arith, inside));
+        whole = λ j inside. absurd (omega (arith, inside, none-there));
+      };
+    }
+
+-- at its end the bus settles once
+no-bytes : IsTold [] (Ok (codes "report 1 turn 8000\n"))
+unfolding report_line numbered digits
+no-bytes =
+    let bus : Bus = bus_of_nodes 4 [] [] in
+    let after : Bus = record {
+      world = turns_after 8000 nothing;
+      notes = notes_after_report bus.notes (no-parts 8000);
+    } in
+    let text : List ℕ = codes "report 1 turn 8000\n" in (
+      Ok (after, text),
+      (no-parts 8000, refl, empty-report 8000, refl, record { parts = []; told = none; is = refl }),
+      refl,
+    )
+
+-- the turns before a report don't fit behind so many turns
+past :
+    (w : CableWorld) → AfterTurns 2000000 nothing w →
+    nat_lt 2000000 (w.turns + quiet_turns_of w) ≡ true
+past w h =
+    let delay : w.delay ≡ 4 = h.delay in
+    let nodes : length w.cabling ≡ 0 = ap length h.cabling in
+    let quiet : quiet_turns_of w ≡ 8000 =
+    ap (λ (n : ℕ). quiet_turns n w.delay) nodes ∙ ap (quiet_turns 0) delay in
+    lt-ltb 2000000 (w.turns + quiet_turns_of w) (omega (arith, h.turns, quiet))
+
+too-many-turns : IsTold (codes "turn 2000000") (Err (fault_at 2 TooManyTurns))
+unfolding words_of number_of of_digits is_name
+too-many-turns =
+    let bus : Bus = bus_of_nodes 4 [] [] in
+    let after : Bus = record bus { world = turns_after 2000000 nothing } in
+    let answer : LineAnswer = Err TooManyTurns in
+    let full = past after.world (after-turns 2000000 nothing) in
+    let ends : Settles after answer =
+    subst (λ (b : Bool). MatchBool b (answer ≡ Err TooManyTurns) (Reports after answer)) (sym full)
+    refl in
+    done 1 (codes "turn 2000000") [] fresh (Turn 2000000) (running after) []
+    (Err (fault_at 2 TooManyTurns)) refl (Ok (after, []), refl, refl) (answer, ends, refl)
+
+-- ---- three nodes, of which two are joined
+
+abbrev node : ℕ → PortNode
+node number =
+    new_node
+    (record {
+      link = true;
+      gap = 63;
+      speed = 2;
+      delay = 0;
+      contender = false;
+      power = 0;
+      initiated = false;
+    })
+    3 false (times_of 4 None None None) (coins_of number 0 0 None)
+
+abbrev declared : List (List ℕ) → List PortNode → Stage
+declared names nodes = declaring (record { delay = 4; names = names; nodes = nodes })
+
+abbrev plain : List ℕ → Command
+plain name = Node name 3 2 true false false 0 63 None None None 0 0 None false
+
+abbrev three : Stage
+three = declared (codes "a" ∷ codes "b" ∷ codes "c" ∷ []) (node 0 ∷ node 1 ∷ node 2 ∷ [])
+
+abbrev joined : Bus
+joined =
+    let bus : Bus = bus_of three in
+    record {
+      world = note_changes bus.world (plug (end_of 0 0) (end_of 1 0) bus.world);
+      notes = notes_after_act bus.notes;
+    }
+
+-- the lines of three nodes and of a cable
+abbrev desk : List ℕ
+desk = codes "node a 3\nnode b 3\nnode c 3\nplug a 0 b 0\n"
+
+abbrev from-fourth : List ℕ → List (List ℕ)
+from-fourth line = codes "plug a 0 b 0" ∷ line ∷ []
+
+abbrev from-second : List ℕ → List (List ℕ)
+from-second line = codes "node b 3" ∷ codes "node c 3" ∷ from-fourth line
+
+abbrev one : Stage
+one = declared (codes "a" ∷ []) (node 0 ∷ [])
+
+abbrev two : Stage
+two = declared (codes "a" ∷ codes "b" ∷ []) (node 0 ∷ node 1 ∷ [])
+
+-- what a fifth line tells, the script tells
+fifth :
+    (line : List ℕ) (fault : ScriptFault) →
+    script_lines (desk ++ line) ≡ codes "node a 3" ∷ from-second line →
+    Tells 5 (line ∷ []) (running joined) (Err fault) → IsTold (desk ++ line) (Err fault)
+unfolding words_of number_of of_digits is_name
+fifth line fault split rest =
+    let told : Told = Err fault in
+    let fourth : Tells 4 (from-fourth line) three told =
+    done 4 (codes "plug a 0 b 0") (line ∷ []) three (Plug (codes "a") 0 (codes "b") 0)
+    (running joined) [] told refl (Ok (joined, []), (refl, refl, refl, refl), refl) rest in
+    let third : Tells 3 (codes "node c 3" ∷ from-fourth line) two told =
+    done 3 (codes "node c 3") (from-fourth line) two (plain (codes "c")) three [] told refl refl
+    fourth in
+    let second : Tells 2 (from-second line) one told =
+    done 2 (codes "node b 3") (codes "node c 3" ∷ from-fourth line) one (plain (codes "b")) two
+    [] told refl refl third in
+    let first : Tells 1 (codes "node a 3" ∷ from-second line) fresh told =
+    done 1 (codes "node a 3") (from-second line) fresh (plain (codes "a")) one [] told refl refl
+    second in
+    subst (λ (lines : List (List ℕ)). Tells 1 lines fresh told) (sym split) first
+
+in-use : IsTold (desk ++ codes "plug a 0 c 0") (Err (fault_at 5 InUse))
+unfolding words_of number_of of_digits is_name
+in-use =
+    fifth (codes "plug a 0 c 0") (fault_at 5 InUse) refl
+    (refused 5 (codes "plug a 0 c 0") [] (running joined) (Plug (codes "a") 0 (codes "c") 0) InUse
+    refl (Err InUse, refl, refl))
+
+same-node : IsTold (desk ++ codes "plug c 0 c 1") (Err (fault_at 5 SameNode))
+unfolding words_of number_of of_digits is_name
+same-node =
+    fifth (codes "plug c 0 c 1") (fault_at 5 SameNode) refl
+    (refused 5 (codes "plug c 0 c 1") [] (running joined) (Plug (codes "c") 0 (codes "c") 1)
+    SameNode refl (Err SameNode, refl, refl))
+
+not-plugged : IsTold (desk ++ codes "pull c 0") (Err (fault_at 5 NotPlugged))
+unfolding words_of number_of of_digits is_name
+not-plugged =
+    fifth (codes "pull c 0") (fault_at 5 NotPlugged) refl
+    (refused 5 (codes "pull c 0") [] (running joined) (Pull (codes "c") 0) NotPlugged
+    refl (Err NotPlugged, refl, refl))
+
+late : IsTold (desk ++ codes "node e 3") (Err (fault_at 5 Late))
+unfolding words_of number_of of_digits is_name
+late =
+    fifth (codes "node e 3") (fault_at 5 Late) refl
+    (refused 5 (codes "node e 3") [] (running joined) (plain (codes "e")) Late refl refl)
+
+not-settled : IsTold (desk ++ codes "csr a read 0x220") (Err (fault_at 5 NotSettled))
+unfolding words_of number_of of_digits is_name
+not-settled =
+    fifth (codes "csr a read 0x220") (fault_at 5 NotSettled) refl
+    (refused 5 (codes "csr a read 0x220") [] (running joined) (CsrRead (codes "a") 0x220) NotSettled
+    refl (Err NotSettled, refl, refl))
+
+no-command : IsTold (desk ++ codes "plug a 0 b") (Err (fault_at 5 Word))
+unfolding words_of number_of of_digits is_name
+no-command =
+    fifth (codes "plug a 0 b") (fault_at 5 Word) refl
+    (bad 5 (codes "plug a 0 b") [] (running joined) Word refl)
+
+-- ---- lines that are skipped
+
+skipped-lines : IsTold (codes "# none\n\n  \r\nplug a 0 b") (Err (fault_at 4 Word))
+unfolding words_of number_of of_digits is_name
+skipped-lines =
+    let told : Told = Err (fault_at 4 Word) in
+    skipped 1 (codes "# none") ([] ∷ codes "  \r" ∷ codes "plug a 0 b" ∷ []) fresh told refl
+    (skipped 2 [] (codes "  \r" ∷ codes "plug a 0 b" ∷ []) fresh told refl
+    (skipped 3 (codes "  \r") (codes "plug a 0 b" ∷ []) fresh told refl
+    (bad 4 (codes "plug a 0 b") [] fresh Word refl)))

@@ -1,0 +1,5 @@
+use Rattle.script_told.proofs.told.EachReport.{each-report}
+use Rattle.script_told.proofs.laws.reports_are_settled.Goals as goal
+
+pub returns : goal.returns
+returns c = each-report c.one_tree.ensures

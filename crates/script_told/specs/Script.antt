@@ -1,0 +1,190 @@
+-- A script: its lines, and what they come to, one after the other.
+use Rattle.std.specs.Prelude.{◌≡◌, ℕ, ◌+◌, ◌*◌, nat_lt, ◌==◌, Bool, false, List, [], ◌∷◌, ◌++◌, length, Option, None, Some, unwrap_or, Result, Ok, Err, if◌then◌else◌}
+use Rattle.std.specs.List.{slice_split}
+use Rattle.self_id.specs.declared.node.Attrs.{Attrs}
+use Rattle.port_state.specs.Coins.{Coins, coins_of_bits, coins_of_seed}
+use Rattle.port_state.specs.declared.timing.Timing.{Timing}
+use Rattle.port_state.specs.PowerOn.{power_on}
+use Rattle.port_state.specs.Machine.{PortNode}
+use Rattle.script_lines.specs.declared.kind.Kind.{Kind}
+use Rattle.script_lines.specs.declared.kind.Kind.TheVariants.{Twice, Late, TooManyNodes}
+use Rattle.script_lines.specs.declared.kind.ScriptFault.{ScriptFault}
+use Rattle.script_lines.specs.declared.command.Command.{Command}
+use Rattle.script_lines.specs.declared.command.Command.TheVariants.{Node, Delay}
+use Rattle.script_lines.specs.Line.{Reads}
+use Rattle.script_text.specs.ReportText.{Names}
+use Rattle.script_told.specs.Bus.{Bus, bus_of_nodes, is_declared}
+use Rattle.script_told.specs.Step.{LineAnswer, Does, Settles}
+
+-- ---- lines
+
+-- the lines of a script stand between its line feeds; behind a line feed at its end there is none
+abbrev pub without_last_if_empty : List (List ℕ) → List (List ℕ)
+without_last_if_empty [] = []
+without_last_if_empty (line ∷ []) = if length line == 0 then [] else line ∷ []
+without_last_if_empty (line ∷ next ∷ lines) = line ∷ without_last_if_empty (next ∷ lines)
+
+abbrev pub script_lines : List ℕ → List (List ℕ)
+script_lines bytes = without_last_if_empty (slice_split (λ c. c == 10) bytes)
+
+-- ---- the nodes that a script declares
+
+-- what was declared so far
+pub record Draft : Type 0 where
+  -- d: a cable delays a signal by at most so many turns
+  pub delay : ℕ
+  pub names : Names
+  pub nodes : List PortNode
+
+-- without a line that says it the delay is 4
+abbrev pub first_draft : Draft
+first_draft = record { delay = 4; names = []; nodes = [] }
+
+-- the times of a node: where one isn't given, the usual one
+abbrev pub times_of : ℕ → Option ℕ → Option ℕ → Option ℕ → Timing
+times_of d hold short long = record {
+  hold = unwrap_or hold (64 * d);
+  force = 256 * d;
+  timeout = 512 * d;
+  short = unwrap_or short (3 * d);
+  long = unwrap_or long (8 * d);
+}
+
+-- the coins of a node: those that are given, or of the seed, which is the node's number where none
+-- is given
+abbrev pub coins_of : ℕ → ℕ → ℕ → Option ℕ → Coins
+coins_of number word len seed =
+    if len == 0 then coins_of_seed (unwrap_or seed number) else coins_of_bits word len
+
+-- a node that was just powered on
+abbrev pub new_node : Attrs → ℕ → Bool → Timing → Coins → PortNode
+new_node attrs ports force timing coins =
+    record { state = power_on ports attrs force timing; coins = coins }
+
+abbrev pub with_node : Draft → List ℕ → PortNode → Draft
+with_node draft name node =
+    record draft { names = draft.names ++ name ∷ []; nodes = draft.nodes ++ node ∷ [] }
+
+-- ---- a command
+
+-- between two lines: no command came yet, or nodes were declared, or the bus runs
+pub data Stage : Type 0 where
+  fresh : Stage
+  declaring : Draft → Stage
+  running : Bus → Stage
+
+abbrev pub StageAnswer : Type 0
+StageAnswer = Result (Stage × List ℕ) Kind
+
+-- what is declared at a stage at which declarations are taken
+abbrev pub draft_of : Stage → Option Draft
+draft_of fresh = Some first_draft
+draft_of (declaring draft) = Some draft
+draft_of (running bus) = None
+
+-- the bus that runs from a stage on
+abbrev pub bus_of : Stage → Bus
+bus_of fresh = bus_of_nodes 4 [] []
+bus_of (declaring draft) = bus_of_nodes draft.delay draft.names draft.nodes
+bus_of (running bus) = bus
+
+-- d at a stage
+abbrev pub delay_of : Stage → ℕ
+delay_of stage = (bus_of stage).world.delay
+
+-- a node is declared, where it isn't the 64th and its name is new
+abbrev pub Declares : Option Draft → List ℕ → (ℕ → ℕ → PortNode) → StageAnswer → Type 0
+Declares None name node answer = answer ≡ Err Late
+Declares (Some draft) name node answer =
+    answer ≡ (if nat_lt 62 (length draft.names) then Err TooManyNodes
+    else if is_declared draft.names name then Err Twice
+    else Ok (declaring (with_node draft name (node draft.delay (length draft.names))), []))
+
+-- the delay is said, where no command came yet
+abbrev pub Delays : Stage → ℕ → StageAnswer → Type 0
+Delays fresh delay answer = answer ≡ Ok (declaring (record first_draft { delay = delay }), [])
+Delays (declaring draft) delay answer = answer ≡ Err Late
+Delays (running bus) delay answer = answer ≡ Err Late
+
+-- the bus runs from now on
+abbrev pub onwards : LineAnswer → StageAnswer
+onwards (Ok (bus, text)) = Ok (running bus, text)
+onwards (Err kind) = Err kind
+
+abbrev pub Runs : Stage → Command → StageAnswer → Type 0
+Runs stage command answer =
+    (r : LineAnswer) × Does (bus_of stage) command r × (answer ≡ onwards r)
+
+-- what a command comes to
+abbrev pub Follows : Stage → Command → StageAnswer → Type 0
+Follows stage
+    (Node name ports speed link contender force power gap hold short long word len seed packed)
+    answer = Declares (draft_of stage) name (λ d number.
+    new_node
+    (record {
+      link = link;
+      gap = gap;
+      speed = speed;
+      delay = 0;
+      contender = contender;
+      power = power;
+      initiated = false;
+    })
+    ports force (times_of d hold short long) (coins_of number word len seed)) answer
+Follows stage (Delay delay) answer = Delays stage delay answer
+Follows stage command answer = Runs stage command answer
+
+-- ---- the whole
+
+-- the text of a script, or its fault
+abbrev pub Told : Type 0
+Told = Result (List ℕ) ScriptFault
+
+abbrev pub fault_at : ℕ → Kind → ScriptFault
+fault_at line kind = record { line = line; kind = kind }
+
+-- what stands before the rest of the text
+abbrev pub behind : List ℕ → Told → Told
+behind text (Ok rest) = Ok (text ++ rest)
+behind text (Err fault) = Err fault
+
+-- at the end of a script its bus settles once more; the fault of that has a line of its own
+abbrev pub ends_with : ℕ → LineAnswer → Told
+ends_with number (Ok (bus, text)) = Ok text
+ends_with number (Err kind) = Err (fault_at number kind)
+
+abbrev pub Ends : ℕ → Stage → Told → Type 0
+Ends number stage told =
+    (r : LineAnswer) × Settles (bus_of stage) r × (told ≡ ends_with number r)
+
+-- a command was done, and the rest of the script tells what it tells, or the command is at fault
+abbrev pub Goes : ℕ → (Stage → Told → Type 0) → StageAnswer → Told → Type 0
+Goes number rest (Ok (stage, text)) told =
+    (more : Told) × rest stage more × (told ≡ behind text more)
+Goes number rest (Err kind) told = told ≡ Err (fault_at number kind)
+
+-- a line that was read is nothing, a command or at fault
+abbrev pub Takes :
+    ℕ → (Stage → Told → Type 0) → Stage → Result (Option Command) Kind → Told → Type 0
+Takes number rest stage (Ok None) told = rest stage told
+Takes number rest stage (Ok (Some command)) told =
+    (r : StageAnswer) × Follows stage command r × Goes number rest r told
+Takes number rest stage (Err kind) told = told ≡ Err (fault_at number kind)
+
+-- what lines tell from a stage on, of which the first has this number, where at the end `End` says
+-- what a stage tells
+abbrev pub TellsBy :
+    (ℕ → Stage → Told → Type 0) → ℕ → List (List ℕ) → Stage → Told → Type 0
+TellsBy End number [] stage told = End number stage told
+TellsBy End number (line ∷ lines) stage told =
+    (reading : Result (Option Command) Kind) × Reads (delay_of stage) line reading
+    × Takes number (TellsBy End (number + 1) lines) stage reading told
+
+-- what they tell where the bus settles at the end
+abbrev pub Tells : ℕ → List (List ℕ) → Stage → Told → Type 0
+Tells = TellsBy Ends
+
+-- A script's text is what its lines print and the last report, over the one run of its bus. Or it
+-- is refused for the fault of its first bad line.
+abbrev pub IsTold : List ℕ → Told → Type 0
+IsTold bytes told = Tells 1 (script_lines bytes) fresh told

@@ -1,0 +1,10 @@
+//! What a script tells: its bus, what each command does to it, and what its lines come to. Two laws
+//! of it.
+//!
+//! Here stands what is to be told, and no code that tells it: that is in `script_bus` and
+//! `script_run`.
+#![tactic(auto)]
+
+mod laws;
+
+pub use laws::{reports_are_settled, scripts_tell_one_thing};
