@@ -58,6 +58,9 @@ fn made_texts(rt: HostRuntime) -> Result<(), Fail> {
 fn made_text_of_63_nodes(rt: HostRuntime) -> Result<(), Fail> {
     let text = make_script(rt.alloc(), 63, 1)?;
     assert_eq!(rt; text.len(), 5201);
-    assert!(rt; text.as_slice().ends_with(b"pull n62 0\nturn 106\nplug n59 2 n62 0\n"));
+    assert!(rt;
+        text.as_slice()
+            .ends_with(b"pull n62 0\nturn 106\nplug n59 2 n62 0\n")
+    );
     Ok(())
 }

@@ -1,5 +1,5 @@
 -- What is advised on a bus that has settled.
-use Rattle.std.proofs.Common.{◌≡◌, ℕ, Option, None, Some, List, refl}
+use Rattle.std.proofs.Common.{◌≡◌, Option, None, Some, List, refl}
 use Rattle.std.specs.Prelude.{All, IfSome, IsSomeAnd}
 use Rattle.cable_world.specs.World.{CableWorld}
 use Rattle.settle.specs.declared.report.Part.{Part}

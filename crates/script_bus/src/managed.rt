@@ -148,7 +148,12 @@ impl<W: WorldRun> Bus<W> {
     }
 
     /// A read, a write or a lock at the manager.
-    pub(crate) fn csr(&mut self, alloc: Global, name: &Name, access: Access) -> Result<Vec<u8>, LineStop>
+    pub(crate) fn csr(
+        &mut self,
+        alloc: Global,
+        name: &Name,
+        access: Access,
+    ) -> Result<Vec<u8>, LineStop>
         requires sound { IsSound W.world W.is_spent self.old }
         requires permitted { IsPermitted access }
         ensures done { IfOk result (λ text. Managed (bus_now W.world self.old) name.now
