@@ -30,4 +30,6 @@ mod settled;
 #[cfg(test)]
 mod spent;
 #[cfg(test)]
+mod standards;
+#[cfg(test)]
 mod worlds;
