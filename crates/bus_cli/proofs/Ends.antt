@@ -11,7 +11,7 @@ use Rattle.bus_cli.specs.declared.fault.CaptureStop.{CaptureStop}
 use Rattle.bus_cli.specs.declared.answer.Answer.{Answer}
 use Rattle.bus_cli.specs.declared.form.Form.TheVariants.{Capture, Rom, Run, Advice, Make}
 use Rattle.bus_cli.specs.declared.form.CaptureForm.{CaptureForm}
-use Rattle.bus_cli.specs.Form.{Asks, AsksCapture, AsksMake, IsForm}
+use Rattle.bus_cli.specs.Form.{Asks, AsksCapture, AsksMake, IsForm, standard_of}
 use Rattle.bus_cli.specs.codings.Reading.{Reads, status_with, text_with}
 use Rattle.bus_cli.specs.Answer.{Answers, Outcome, shown, refused, rom, rom_refused, ran, advised, made, no_form, MadeTells, HasOutcome, HasText, status_of}
 use Rattle.bus_cli.specs.OneOutcome.{NoInputHasTwoAnswers}
@@ -53,9 +53,9 @@ exact_status one words (Some bytes) read text status all answers = λ s x is.
 
 -- what answers a stop answers the reading that stopped
 pub stopped : (form : CaptureForm) (reading : Result Tree CaptureStop) (stop : CaptureStop) (r : Result Answer AllocError) → reading ≡ Err stop →
-    IfOk r (λ a. (words : List (String Global)) (bytes : List ℕ) → AsksCapture words → Reads bytes (Err stop) → Answers words bytes (status_with a) (text_with a)) →
-    IfOk r (λ a. (words : List (String Global)) (bytes : List ℕ) → Asks words (Capture form) → Reads bytes reading → Answers words bytes (status_with a) (text_with a))
-stopped form reading stop (Ok a) is h = λ words bytes asks reads. h words bytes (form, asks) (subst (λ (x : Result Tree CaptureStop). Reads bytes x) is reads)
+    IfOk r (λ a. (words : List (String Global)) (bytes : List ℕ) → (asks : AsksCapture words) → Reads (standard_of asks.0) bytes (Err stop) → Answers words bytes (status_with a) (text_with a)) →
+    IfOk r (λ a. (words : List (String Global)) (bytes : List ℕ) → Asks words (Capture form) → Reads (standard_of form) bytes reading → Answers words bytes (status_with a) (text_with a))
+stopped form reading stop (Ok a) is h = λ words bytes asks reads. h words bytes (form, asks) (subst (λ (x : Result Tree CaptureStop). Reads (standard_of form) bytes x) is reads)
 stopped form reading stop (Err e) is h = tt
 
 -- words that are no form answer no other status and write nothing

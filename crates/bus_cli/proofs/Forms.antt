@@ -6,7 +6,7 @@ use Rattle.std.specs.Global.{Global}
 use Rattle.script_lines.specs.Number.{number_of}
 use Rattle.bus_cli.specs.declared.form.Form.{Form}
 use Rattle.bus_cli.specs.declared.form.Form.TheVariants.{Capture, Rom, Run, Advice, Make}
-use Rattle.bus_cli.specs.declared.form.CaptureForm.TheVariants.{Read, Maps}
+use Rattle.bus_cli.specs.declared.form.CaptureForm.TheVariants.{Read, Read95, Maps}
 use Rattle.bus_cli.specs.Form.{AreWordsOf, AreMakeWords, Asks, IsForm, AsksMake, AsksScript}
 use Rattle.bus_cli.specs.codings.Reading.{IsRead, AsksFewNodes}
 
@@ -21,10 +21,11 @@ same (x ∷ xs) (y ∷ ys) = cond (eqb x y) (same xs ys) false
 abbrev of_word : List ℕ → Option Form
 of_word word =
     cond (same word (codes "read")) (Some (Capture Read))
+    (cond (same word (codes "read95")) (Some (Capture Read95))
     (cond (same word (codes "maps")) (Some (Capture Maps))
     (cond (same word (codes "rom")) (Some Rom)
     (cond (same word (codes "run")) (Some Run)
-    (cond (same word (codes "advice")) (Some Advice) None))))
+    (cond (same word (codes "advice")) (Some Advice) None)))))
 
 of_make : Option ℕ → Option ℕ → Option Form
 of_make (Some nodes) (Some seed) = Some (Make nodes seed)
@@ -57,6 +58,7 @@ from_numbers a b nodes seed x y = rw (x, y) refl
 is_found : (form : Form) (words : List (List ℕ)) → AreWordsOf form words → form_of words ≡ Some form
 unfolding same form_of
 is_found (Capture Read) words e = ap (λ (ws : List (List ℕ)). form_of ws) e
+is_found (Capture Read95) words e = ap (λ (ws : List (List ℕ)). form_of ws) e
 is_found (Capture Maps) words e = ap (λ (ws : List (List ℕ)). form_of ws) e
 is_found Rom words e = ap (λ (ws : List (List ℕ)). form_of ws) e
 is_found Run words e = ap (λ (ws : List (List ℕ)). form_of ws) e
@@ -95,10 +97,11 @@ alone word wanted e = ap (λ (w : List ℕ). w ∷ []) (same-true word wanted e)
 is_word_of : (word : List ℕ) (form : Form) → of_word word ≡ Some form → IsWordOf word form
 is_word_of word form =
     tried _ word (Capture Read) form _ (alone word (codes "read"))
+    (tried _ word (Capture Read95) form _ (alone word (codes "read95"))
     (tried _ word (Capture Maps) form _ (alone word (codes "maps"))
     (tried _ word Rom form _ (alone word (codes "rom"))
     (tried _ word Run form _ (alone word (codes "run"))
-    (tried _ word Advice form _ (alone word (codes "advice")) (λ e. absurd cc)))))
+    (tried _ word Advice form _ (alone word (codes "advice")) (λ e. absurd cc))))))
 
 -- ---- words are those of a form, or of none
 
@@ -118,6 +121,7 @@ by_form word None e = inr (not_found (word ∷ []) e)
 
 only_make : (a b c : List ℕ) (words : List (List ℕ)) (form : Form) → (AreMake (a ∷ b ∷ c ∷ words) → ⊥) → AreWordsOf form (a ∷ b ∷ c ∷ words) → ⊥
 only_make a b c words (Capture Read) none e = cc
+only_make a b c words (Capture Read95) none e = cc
 only_make a b c words (Capture Maps) none e = cc
 only_make a b c words Rom none e = cc
 only_make a b c words Run none e = cc

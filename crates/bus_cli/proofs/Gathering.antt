@@ -15,7 +15,8 @@ use Rattle.topology_stack.specs.declared.fault.TreeStop.TheVariants.{Fault as Tr
 use Rattle.topology_stack.specs.Answer.{IfFault as IfTreeFault}
 use Rattle.topology_stack.specs.OneAnswer.{EachListHasATreeOrAFault}
 use Rattle.topology_stack.specs.Refused.{Refused}
-use Rattle.topology_stack.specs.Tree.{Tree, IsBusTree, emits}
+use Rattle.self_id.specs.declared.standard.Standard.TheVariants.{Ieee2000}
+use Rattle.topology_stack.specs.Tree.{Tree, IsBusTreeOf, emits}
 use Rattle.topology_stack.specs.Reader.{Kept, StandsFor}
 use Rattle.bus_cli.specs.Capture.{IsCaptureOf, Spells, CaptureRefused}
 use Rattle.bus_cli.specs.Stop.{of_tree, IfFault, IfMemory}
@@ -112,34 +113,34 @@ captured good r bytes h none no_bad =
     let none_bad : first_bad_pair (quads_of bytes) ≡ None = ap (λ (x : List ℕ). first_bad_pair (quads_of x)) whole ∙ sym h.bad ∙ no_bad in
     (is_capture bytes (firsts (quads_of bytes)) h.fit refl (good bytes h.fit even none_bad), subst (λ (x : List ℕ). StandsFor r.packets (firsts (quads_of x))) (sym whole) h.list)
 
-pub spelled : (bytes quads : List ℕ) (t : Tree) → IsCaptureOf quads bytes → IsBusTree t × (emits t ≡ quads) → Spells bytes t
+pub spelled : (bytes quads : List ℕ) (t : Tree) → IsCaptureOf quads bytes → IsBusTreeOf Ieee2000 t × (emits t ≡ quads) → Spells Ieee2000 bytes t
 spelled bytes quads t c (bus, e) = record { bus = bus; captured = subst (λ (l : List ℕ). IsCaptureOf l bytes) (sym e) c }
 
 -- a fault of the list is the capture's
-pub stop_fault : (A B : Type 0) (k : Kept) (stop : TreeStop) (Held : List ℕ → Type 0) → IfTreeFault {A = A} (Err stop) (λ f. (l : List ℕ) → StandsFor k l → Refused l f) →
-    ((bytes : List ℕ) → Held bytes → IsCaptureOf (firsts (quads_of bytes)) bytes × StandsFor k (firsts (quads_of bytes))) → IfFault {A = B} (Err (of_tree stop)) (λ f. (bytes : List ℕ) → Held bytes → CaptureRefused bytes f)
+pub stop_fault : (A B : Type 0) (k : Kept) (stop : TreeStop) (Held : List ℕ → Type 0) → IfTreeFault {A = A} (Err stop) (λ f. (l : List ℕ) → StandsFor k l → Refused Ieee2000 l f) →
+    ((bytes : List ℕ) → Held bytes → IsCaptureOf (firsts (quads_of bytes)) bytes × StandsFor k (firsts (quads_of bytes))) → IfFault {A = B} (Err (of_tree stop)) (λ f. (bytes : List ℕ) → Held bytes → CaptureRefused Ieee2000 bytes f)
 stop_fault A B k (TreeFaulty f) Held refused known = λ bytes h. let c = known bytes h in (firsts (quads_of bytes), c.0, refused (firsts (quads_of bytes)) c.1)
 stop_fault A B k (NoMemory e) Held refused known = tt
 
 -- want of memory comes only where there is no fault
-pub stop_memory : (A B : Type 0) (k : Kept) (stop : TreeStop) (Held : List ℕ → Type 0) → EachListHasATreeOrAFault → ((l : List ℕ) (f : TreeFault) → StandsFor k l → Refused l f → ◌≡◌ {A = Result A TreeStop} (Err stop) (Err (TreeFaulty f))) →
-    ((bytes : List ℕ) → Held bytes → IsCaptureOf (firsts (quads_of bytes)) bytes × StandsFor k (firsts (quads_of bytes))) → IfMemory {A = B} (Err (of_tree stop)) ((bytes : List ℕ) → Held bytes → (t : Tree) × Spells bytes t)
+pub stop_memory : (A B : Type 0) (k : Kept) (stop : TreeStop) (Held : List ℕ → Type 0) → EachListHasATreeOrAFault → ((l : List ℕ) (f : TreeFault) → StandsFor k l → Refused Ieee2000 l f → ◌≡◌ {A = Result A TreeStop} (Err stop) (Err (TreeFaulty f))) →
+    ((bytes : List ℕ) → Held bytes → IsCaptureOf (firsts (quads_of bytes)) bytes × StandsFor k (firsts (quads_of bytes))) → IfMemory {A = B} (Err (of_tree stop)) ((bytes : List ℕ) → Held bytes → (t : Tree) × Spells Ieee2000 bytes t)
 stop_memory A B k (TreeFaulty f) Held some exact known = tt
 stop_memory A B k (NoMemory e) Held some exact known = λ bytes h.
     let c = known bytes h in
-    elim (some (firsts (quads_of bytes))) [
+    elim (some Ieee2000 (firsts (quads_of bytes))) [
       | inl tree ↦ (tree.0, spelled bytes (firsts (quads_of bytes)) tree.0 c.0 (tree.1, tree.2))
       | inr fault ↦ absurd (let e = exact (firsts (quads_of bytes)) fault.0 c.1 fault.1 in cc)
     ]
 
 -- ---- what a reader of captures answers for all bytes that it was given
 
-pub reads_all : (bytes : List ℕ) (r : Pieces) (reading : Result Tree CaptureStop) → HoldsExactly r bytes → IfOk reading (λ t. (b : List ℕ) → HoldsExactly r b → Spells b t) → IfFault reading (λ f. (b : List ℕ) → HoldsExactly r b → CaptureRefused b f) → Reads bytes reading
+pub reads_all : (bytes : List ℕ) (r : Pieces) (reading : Result Tree CaptureStop) → HoldsExactly r bytes → IfOk reading (λ t. (b : List ℕ) → HoldsExactly r b → Spells Ieee2000 b t) → IfFault reading (λ f. (b : List ℕ) → HoldsExactly r b → CaptureRefused Ieee2000 b f) → Reads Ieee2000 bytes reading
 reads_all bytes r (Ok t) h tree fault = tree bytes h
 reads_all bytes r (Err (Fault f)) h tree fault = fault bytes h
 reads_all bytes r (Err (Memory e)) h tree fault = tt
 
-pub spares : (bytes : List ℕ) (r : Pieces) (reading : Result Tree CaptureStop) → HoldsExactly r bytes → IfMemory reading ((b : List ℕ) → HoldsExactly r b → (t : Tree) × Spells b t) → SparesMemory bytes reading
+pub spares : (bytes : List ℕ) (r : Pieces) (reading : Result Tree CaptureStop) → HoldsExactly r bytes → IfMemory reading ((b : List ℕ) → HoldsExactly r b → (t : Tree) × Spells Ieee2000 b t) → SparesMemory bytes reading
 spares bytes r (Ok t) h memory = tt
 spares bytes r (Err (Fault f)) h memory = tt
 spares bytes r (Err (Memory e)) h memory = memory bytes h

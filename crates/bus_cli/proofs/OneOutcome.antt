@@ -16,7 +16,7 @@ use Rattle.bus_cli.specs.declared.form.Form.{Form}
 use Rattle.bus_cli.specs.declared.form.Form.TheVariants.{Capture, Rom, Run, Advice, Make}
 use Rattle.bus_cli.specs.declared.form.CaptureForm.{CaptureForm}
 use Rattle.bus_cli.specs.declared.fault.CaptureFault.{CaptureFault}
-use Rattle.bus_cli.specs.Form.{Asks, IsForm, AsksScript}
+use Rattle.bus_cli.specs.Form.{Asks, IsForm, AsksScript, standard_of}
 use Rattle.bus_cli.specs.Capture.{Spells, CaptureRefused}
 use Rattle.bus_cli.specs.OneReading.{EachCaptureHasATreeOrAFault, NoCaptureHasTwoTrees, NoCaptureHasATreeAndAFault, NoCaptureHasTwoFaults}
 use Rattle.bus_cli.specs.OneOutcome.{EachInputButScriptsHasAnOutcome, NoInputHasTwoOutcomes}
@@ -89,17 +89,21 @@ pub outcomes_agree : HasOneReading → NoInputHasTwoOutcomes
 unfolding kind
 outcomes_agree one words bytes (shown a t) (shown b u) (asks, spells) (asks', spells') =
     let forms : a ≡ b = same_capture a b (one_form words (Capture a) (Capture b) asks asks') in
-    let trees : t ≡ u = one.tree bytes t u spells spells' in
+    let trees : t ≡ u = one.tree (standard_of b) bytes t u (subst (λ (f : CaptureForm). Spells (standard_of f) bytes t) forms spells) spells' in
     ap (λ (f : CaptureForm). shown f t) forms ∙ ap (λ (v : Tree). shown b v) trees
-outcomes_agree one words bytes (shown a t) (refused g) (asks, spells) ((b, asks'), fault') = absurd (one.apart bytes t g spells fault')
+outcomes_agree one words bytes (shown a t) (refused g) (asks, spells) ((b, asks'), fault') =
+    absurd (one.apart (standard_of b) bytes t g (subst (λ (f : CaptureForm). Spells (standard_of f) bytes t) (same_capture a b (one_form words (Capture a) (Capture b) asks asks')) spells) fault')
 outcomes_agree one words bytes (shown a t) (rom w) (asks, spells) (asks', tells') = absurd (two_kinds words (Capture a) Rom asks asks' (λ e. cc))
 outcomes_agree one words bytes (shown a t) (rom_refused g) (asks, spells) (asks', fault') = absurd (two_kinds words (Capture a) Rom asks asks' (λ e. cc))
 outcomes_agree one words bytes (shown a t) (ran s) (asks, spells) (asks', tells') = absurd (two_kinds words (Capture a) Run asks asks' (λ e. cc))
 outcomes_agree one words bytes (shown a t) (advised s) (asks, spells) (asks', tells') = absurd (two_kinds words (Capture a) Advice asks asks' (λ e. cc))
 outcomes_agree one words bytes (shown a t) (made s) (asks, spells) m' = absurd (two_kinds words (Capture a) (Make m'.nodes m'.seed) asks m'.asks (λ e. cc))
 outcomes_agree one words bytes (shown a t) no_form (asks, spells) none' = absurd (none' (Capture a, asks))
-outcomes_agree one words bytes (refused f) (shown b u) ((a, asks), fault) (asks', spells') = absurd (one.apart bytes u f spells' fault)
-outcomes_agree one words bytes (refused f) (refused g) ((a, asks), fault) ((b, asks'), fault') = ap (λ (h : CaptureFault). refused h) (one.fault bytes f g fault fault')
+outcomes_agree one words bytes (refused f) (shown b u) ((a, asks), fault) (asks', spells') =
+    absurd (one.apart (standard_of a) bytes u f (subst (λ (g : CaptureForm). Spells (standard_of g) bytes u) (same_capture b a (one_form words (Capture b) (Capture a) asks' asks)) spells') fault)
+outcomes_agree one words bytes (refused f) (refused g) ((a, asks), fault) ((b, asks'), fault') =
+    ap (λ (h : CaptureFault). refused h)
+    (one.fault (standard_of b) bytes f g (subst (λ (x : CaptureForm). CaptureRefused (standard_of x) bytes f) (same_capture a b (one_form words (Capture a) (Capture b) asks asks')) fault) fault')
 outcomes_agree one words bytes (refused f) (rom w) ((a, asks), fault) (asks', tells') = absurd (two_kinds words (Capture a) Rom asks asks' (λ e. cc))
 outcomes_agree one words bytes (refused f) (rom_refused g) ((a, asks), fault) (asks', fault') = absurd (two_kinds words (Capture a) Rom asks asks' (λ e. cc))
 outcomes_agree one words bytes (refused f) (ran s) ((a, asks), fault) (asks', tells') = absurd (two_kinds words (Capture a) Run asks asks' (λ e. cc))
@@ -165,12 +169,12 @@ rom_outcome one words bytes asks (inl (v, of)) = elim (one.some_blocks v) [
   | inr found ↦ (rom_refused found.0, (asks, inr (v, (of, found.1))))
 ]
 
-capture_outcome : (words : List (String Global)) (bytes : List ℕ) (form : CaptureForm) → Asks words (Capture form) → ((t : Tree) × Spells bytes t) ⊎ ((f : CaptureFault) × CaptureRefused bytes f) → (o : Outcome) × HasOutcome words bytes o
+capture_outcome : (words : List (String Global)) (bytes : List ℕ) (form : CaptureForm) → Asks words (Capture form) → ((t : Tree) × Spells (standard_of form) bytes t) ⊎ ((f : CaptureFault) × CaptureRefused (standard_of form) bytes f) → (o : Outcome) × HasOutcome words bytes o
 capture_outcome words bytes form asks (inl (t, spells)) = (shown form t, (asks, spells))
 capture_outcome words bytes form asks (inr (f, fault)) = (refused f, ((form, asks), fault))
 
 outcome_of : HasOneReading → (words : List (String Global)) (bytes : List ℕ) → All (λ b. b < 256) bytes → (AsksScript words → ⊥) → IsForm words ⊎ (IsForm words → ⊥) → (o : Outcome) × HasOutcome words bytes o
-outcome_of one words bytes fit other (inl (Capture form, asks)) = capture_outcome words bytes form asks (one.some bytes fit)
+outcome_of one words bytes fit other (inl (Capture form, asks)) = capture_outcome words bytes form asks (one.some (standard_of form) bytes fit)
 outcome_of one words bytes fit other (inl (Rom, asks)) = rom_outcome one words bytes asks (one.some_rom bytes fit)
 outcome_of one words bytes fit other (inl (Run, asks)) = absurd (other (inl asks))
 outcome_of one words bytes fit other (inl (Advice, asks)) = absurd (other (inr (inl asks)))

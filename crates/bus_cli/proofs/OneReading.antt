@@ -5,7 +5,8 @@ use Rattle.std.proofs.lemmas.Bool.{eqb-true, eqb-false}
 use Rattle.quad_lanes.specs.Capture.{CapturesAreWhole, CapturesAreGood, CapturesAreReadBack, GoodPairsAreACapture}
 use Rattle.quad_lanes.specs.Pairs.{quads_of, firsts, first_bad_pair}
 use Rattle.topology_stack.specs.declared.fault.TreeFault.{TreeFault}
-use Rattle.topology_stack.specs.Tree.{Tree, IsBusTree, emits}
+use Rattle.self_id.specs.declared.standard.Standard.{Standard}
+use Rattle.topology_stack.specs.Tree.{Tree, IsBusTreeOf, emits}
 use Rattle.topology_stack.specs.OneAnswer.{EachListHasATreeOrAFault, NoListHasTwoTrees, NoListHasATreeAndAFault, NoListHasTwoFaults}
 use Rattle.topology_stack.specs.Refused.{Refused}
 use Rattle.bus_cli.specs.declared.fault.CaptureFault.{CaptureFault}
@@ -46,49 +47,49 @@ not_bad : ReadsBack → (quads bytes : List ℕ) (pair : ℕ) → IsCaptureOf qu
 not_bad back quads bytes pair h bad = let good = is_good back quads bytes h in cc
 
 pub one_tree : ReadsBack → OneAnswer → NoCaptureHasTwoTrees
-one_tree back lists bytes t u a b = lists.trees t u a.bus b.bus (same_list back _ _ bytes a.captured b.captured)
+one_tree back lists standard bytes t u a b = lists.trees standard t u a.bus b.bus (same_list back _ _ bytes a.captured b.captured)
 
 pub apart : ReadsBack → OneAnswer → NoCaptureHasATreeAndAFault
-apart back lists bytes t (BadLength pair) a r = r.0 (is_whole back _ bytes a.captured)
-apart back lists bytes t (BadInverse pair) a r = not_bad back _ bytes pair a.captured r.1
-apart back lists bytes t (TreeRefused f) a (quads, captured, refused) =
-    lists.tree t f a.bus (subst (λ (l : List ℕ). Refused l f) (same_list back _ _ bytes captured a.captured) refused)
+apart back lists standard bytes t (BadLength pair) a r = r.0 (is_whole back _ bytes a.captured)
+apart back lists standard bytes t (BadInverse pair) a r = not_bad back _ bytes pair a.captured r.1
+apart back lists standard bytes t (TreeRefused f) a (quads, captured, refused) =
+    lists.tree standard t f a.bus (subst (λ (l : List ℕ). Refused standard l f) (same_list back _ _ bytes captured a.captured) refused)
 
 same_pair : (p q : ℕ) (found : Option ℕ) → found ≡ Some p → found ≡ Some q → p ≡ q
 same_pair p q found a b = cc
 
 pub one_fault : ReadsBack → OneAnswer → NoCaptureHasTwoFaults
-one_fault back lists bytes (BadLength p) (BadLength q) a b = ap (λ (n : ℕ). BadLength n) (a.1 ∙ sym b.1)
-one_fault back lists bytes (BadLength p) (BadInverse q) a b = absurd (a.0 b.0)
-one_fault back lists bytes (BadLength p) (TreeRefused g) a (quads, captured, refused) = absurd (a.0 (is_whole back quads bytes captured))
-one_fault back lists bytes (BadInverse p) (BadLength q) a b = absurd (b.0 a.0)
-one_fault back lists bytes (BadInverse p) (BadInverse q) a b = ap (λ (n : ℕ). BadInverse n) (same_pair p q _ a.1 b.1)
-one_fault back lists bytes (BadInverse p) (TreeRefused g) a (quads, captured, refused) = absurd (not_bad back quads bytes p captured a.1)
-one_fault back lists bytes (TreeRefused f) (BadLength q) (quads, captured, refused) b = absurd (b.0 (is_whole back quads bytes captured))
-one_fault back lists bytes (TreeRefused f) (BadInverse q) (quads, captured, refused) b = absurd (not_bad back quads bytes q captured b.1)
-one_fault back lists bytes (TreeRefused f) (TreeRefused g) (quads, captured, refused) (others, again, too) =
-    ap (λ (h : TreeFault). TreeRefused h) (lists.fault others f g (subst (λ (l : List ℕ). Refused l f) (same_list back quads others bytes captured again) refused) too)
+one_fault back lists standard bytes (BadLength p) (BadLength q) a b = ap (λ (n : ℕ). BadLength n) (a.1 ∙ sym b.1)
+one_fault back lists standard bytes (BadLength p) (BadInverse q) a b = absurd (a.0 b.0)
+one_fault back lists standard bytes (BadLength p) (TreeRefused g) a (quads, captured, refused) = absurd (a.0 (is_whole back quads bytes captured))
+one_fault back lists standard bytes (BadInverse p) (BadLength q) a b = absurd (b.0 a.0)
+one_fault back lists standard bytes (BadInverse p) (BadInverse q) a b = ap (λ (n : ℕ). BadInverse n) (same_pair p q _ a.1 b.1)
+one_fault back lists standard bytes (BadInverse p) (TreeRefused g) a (quads, captured, refused) = absurd (not_bad back quads bytes p captured a.1)
+one_fault back lists standard bytes (TreeRefused f) (BadLength q) (quads, captured, refused) b = absurd (b.0 (is_whole back quads bytes captured))
+one_fault back lists standard bytes (TreeRefused f) (BadInverse q) (quads, captured, refused) b = absurd (not_bad back quads bytes q captured b.1)
+one_fault back lists standard bytes (TreeRefused f) (TreeRefused g) (quads, captured, refused) (others, again, too) =
+    ap (λ (h : TreeFault). TreeRefused h) (lists.fault standard others f g (subst (λ (l : List ℕ). Refused standard l f) (same_list back quads others bytes captured again) refused) too)
 
 -- the reading of bytes that are the capture of a list
-read_list : (bytes quads : List ℕ) → IsCaptureOf quads bytes →
-    ((t : Tree) × IsBusTree t × (emits t ≡ quads)) ⊎ ((f : TreeFault) × Refused quads f) →
-    ((t : Tree) × Spells bytes t) ⊎ ((f : CaptureFault) × CaptureRefused bytes f)
-read_list bytes quads captured (inl (t, bus, is)) =
+read_list : (standard : Standard) (bytes quads : List ℕ) → IsCaptureOf quads bytes →
+    ((t : Tree) × IsBusTreeOf standard t × (emits t ≡ quads)) ⊎ ((f : TreeFault) × Refused standard quads f) →
+    ((t : Tree) × Spells standard bytes t) ⊎ ((f : CaptureFault) × CaptureRefused standard bytes f)
+read_list standard bytes quads captured (inl (t, bus, is)) =
     inl (t, record { bus = bus; captured = subst (λ (l : List ℕ). IsCaptureOf l bytes) (sym is) captured })
-read_list bytes quads captured (inr (f, is)) = inr (TreeRefused f, (quads, captured, is))
+read_list standard bytes quads captured (inr (f, is)) = inr (TreeRefused f, (quads, captured, is))
 
 -- that of whole pairs, by the first bad one of them
-read_pairs : ReadsBack → OneAnswer → (bytes : List ℕ) (bad : Option ℕ) → All (λ b. b < 256) bytes →
+read_pairs : (standard : Standard) → ReadsBack → OneAnswer → (bytes : List ℕ) (bad : Option ℕ) → All (λ b. b < 256) bytes →
     length bytes % 8 ≡ 0 → first_bad_pair (quads_of bytes) ≡ bad →
-    ((t : Tree) × Spells bytes t) ⊎ ((f : CaptureFault) × CaptureRefused bytes f)
-read_pairs back lists bytes None fit whole good =
+    ((t : Tree) × Spells standard bytes t) ⊎ ((f : CaptureFault) × CaptureRefused standard bytes f)
+read_pairs standard back lists bytes None fit whole good =
     let quads = firsts (quads_of bytes) in
-    read_list bytes quads (is_capture bytes quads fit refl (back.all bytes fit whole good)) (lists.some quads)
-read_pairs back lists bytes (Some pair) fit whole bad = inr (BadInverse pair, (whole, bad))
+    read_list standard bytes quads (is_capture bytes quads fit refl (back.all bytes fit whole good)) (lists.some standard quads)
+read_pairs standard back lists bytes (Some pair) fit whole bad = inr (BadInverse pair, (whole, bad))
 
 pub some_reading : ReadsBack → OneAnswer → EachCaptureHasATreeOrAFault
-some_reading back lists bytes fit =
-    elim (eqb (length bytes % 8) 0) as (λ (v : Bool). eqb (length bytes % 8) 0 ≡ v → ((t : Tree) × Spells bytes t) ⊎ ((f : CaptureFault) × CaptureRefused bytes f)) [
-      | true ↦ λ e. read_pairs back lists bytes (first_bad_pair (quads_of bytes)) fit (eqb-true _ _ e) refl
+some_reading back lists standard bytes fit =
+    elim (eqb (length bytes % 8) 0) as (λ (v : Bool). eqb (length bytes % 8) 0 ≡ v → ((t : Tree) × Spells standard bytes t) ⊎ ((f : CaptureFault) × CaptureRefused standard bytes f)) [
+      | true ↦ λ e. read_pairs standard back lists bytes (first_bad_pair (quads_of bytes)) fit (eqb-true _ _ e) refl
       | false ↦ λ e. inr (BadLength (length bytes / 8), (eqb-false _ _ e, refl))
     ] refl

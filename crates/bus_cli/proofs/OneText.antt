@@ -5,7 +5,7 @@ use Rattle.std.specs.Global.{Global}
 use Rattle.topology_stack.specs.Tree.{Tree, IsBusTree}
 use Rattle.config_rom.specs.OneReading.{NoRomHasTwoTexts}
 use Rattle.bus_cli.specs.declared.form.CaptureForm.{CaptureForm}
-use Rattle.bus_cli.specs.declared.form.CaptureForm.TheVariants.{Read, Maps}
+use Rattle.bus_cli.specs.declared.form.CaptureForm.TheVariants.{Read, Read95, Maps}
 use Rattle.script_text.proofs.OneMaps.{same_maps}
 use Rattle.bus_cli.specs.Answer.{Outcome, shown, refused, rom, rom_refused, ran, advised, made, no_form, HasOutcome, Shows, HasText, status_of}
 use Rattle.bus_cli.specs.OneOutcome.{NoInputHasTwoAnswers}
@@ -13,10 +13,11 @@ use Rattle.bus_cli.proofs.OneOutcome.{HasOneReading, outcomes_agree}
 
 same_shown : (form : CaptureForm) (t : Tree) (a b : List ℕ) → IsBusTree t → Shows form t a → Shows form t b → a ≡ b
 same_shown Read t a b bus x y = x ∙ sym y
+same_shown Read95 t a b bus x y = x ∙ sym y
 same_shown Maps t a b bus x y = same_maps 1 t a b bus x y
 
 pub one_text : NoRomHasTwoTexts → (words : List (String Global)) (bytes : List ℕ) (o : Outcome) (a b : List ℕ) → HasOutcome words bytes o → HasText o a → HasText o b → a ≡ b
-one_text roms words bytes (shown form t) a b has x y = same_shown form t a b has.1.bus x y
+one_text roms words bytes (shown form t) a b has x y = same_shown form t a b has.1.bus.bus x y
 one_text roms words bytes (refused f) a b has x y = x ∙ sym y
 one_text roms words bytes (rom v) a b has x y = roms v x.list y.list a b x.are_blocks y.are_blocks x.is_text y.is_text
 one_text roms words bytes (rom_refused f) a b has x y = x ∙ sym y

@@ -8,6 +8,7 @@ use Rattle.quad_lanes.specs.declared.pairs.PairFault.{PairFault}
 use Rattle.quad_lanes.specs.declared.pairs.PairFault.TheVariants.{Length, Memory as NoPairMemory}
 use Rattle.topology_stack.specs.declared.fault.TreeStop.{TreeStop}
 use Rattle.topology_stack.specs.declared.fault.TreeStop.TheVariants.{Fault, Memory}
+use Rattle.self_id.specs.declared.standard.Standard.{Standard}
 use Rattle.topology_stack.specs.Answer.{IfFault as IfTreeFault}
 use Rattle.topology_stack.specs.Refused.{Refused}
 use Rattle.bus_cli.specs.Capture.{IsCaptureOf, CaptureRefused}
@@ -22,10 +23,10 @@ fit_firsts _ h = All-nil (λ q. q < 2 ^ 32)
 pub is_capture : (bytes list : List ℕ) → All (λ b. b < 256) bytes → list ≡ firsts (quads_of bytes) → bytes ≡ capture (firsts (quads_of bytes)) → IsCaptureOf list bytes
 is_capture bytes list fit is captured = rw is (record { fit = fit_firsts bytes (recursion_from_All (λ b. b < 256) bytes fit); bytes_are = captured })
 
-pub is_pair_fault : {A : Type 0} (B : Type 0) (bytes : List ℕ) (fault : PairFault) → ((n : ℕ) → (◌≡◌ {A = Result A PairFault} (Err fault) (Err (Length n))) ↔ ((length bytes % 8 ≢ 0) × (n ≡ length bytes / 8))) → IfFault {A = B} (Err (of_pairs fault)) (λ f. CaptureRefused bytes f)
-is_pair_fault B bytes (Length n) cut = (cut n).0 refl
-is_pair_fault B bytes (NoPairMemory e) cut = tt
+pub is_pair_fault : {A : Type 0} (B : Type 0) (standard : Standard) (bytes : List ℕ) (fault : PairFault) → ((n : ℕ) → (◌≡◌ {A = Result A PairFault} (Err fault) (Err (Length n))) ↔ ((length bytes % 8 ≢ 0) × (n ≡ length bytes / 8))) → IfFault {A = B} (Err (of_pairs fault)) (λ f. CaptureRefused standard bytes f)
+is_pair_fault B standard bytes (Length n) cut = (cut n).0 refl
+is_pair_fault B standard bytes (NoPairMemory e) cut = tt
 
-pub is_tree_fault : (A B : Type 0) (bytes list : List ℕ) (stop : TreeStop) → IsCaptureOf list bytes → IfTreeFault {A = A} (Err stop) (λ f. Refused list f) → IfFault {A = B} (Err (of_tree stop)) (λ f. CaptureRefused bytes f)
-is_tree_fault A B bytes list (Fault f) captured refused = (list, captured, refused)
-is_tree_fault A B bytes list (Memory e) captured refused = tt
+pub is_tree_fault : (A B : Type 0) (standard : Standard) (bytes list : List ℕ) (stop : TreeStop) → IsCaptureOf list bytes → IfTreeFault {A = A} (Err stop) (λ f. Refused standard list f) → IfFault {A = B} (Err (of_tree stop)) (λ f. CaptureRefused standard bytes f)
+is_tree_fault A B standard bytes list (Fault f) captured refused = (list, captured, refused)
+is_tree_fault A B standard bytes list (Memory e) captured refused = tt

@@ -12,9 +12,9 @@ use Rattle.config_rom.specs.Text.{IsRomText}
 use Rattle.config_rom.specs.OneReading.{IsRomOf, HasGoodBlocks}
 use Rattle.bus_cli.specs.declared.form.Form.TheVariants.{Capture, Rom, Run, Advice, Make}
 use Rattle.bus_cli.specs.declared.form.CaptureForm.{CaptureForm}
-use Rattle.bus_cli.specs.declared.form.CaptureForm.TheVariants.{Read, Maps}
+use Rattle.bus_cli.specs.declared.form.CaptureForm.TheVariants.{Read, Read95, Maps}
 use Rattle.bus_cli.specs.declared.fault.CaptureFault.{CaptureFault}
-use Rattle.bus_cli.specs.Form.{Asks, AsksCapture, IsForm}
+use Rattle.bus_cli.specs.Form.{Asks, AsksCapture, IsForm, standard_of}
 use Rattle.bus_cli.specs.Capture.{Spells, CaptureRefused}
 use Rattle.bus_cli.specs.Line.{fault_line, rom_line, script_line}
 use Rattle.script_text.specs.Maps.{IsMapsText}
@@ -55,8 +55,10 @@ pub data Outcome : Type 0 where
 
 -- the words ask for what the bytes are read as, or they are no form
 abbrev pub HasOutcome : List (String Global) → List ℕ → Outcome → Type 0
-HasOutcome words bytes (shown form t) = Asks words (Capture form) × Spells bytes t
-HasOutcome words bytes (refused f) = AsksCapture words × CaptureRefused bytes f
+HasOutcome words bytes (shown form t) =
+    Asks words (Capture form) × Spells (standard_of form) bytes t
+HasOutcome words bytes (refused f) =
+    (asks : AsksCapture words) × CaptureRefused (standard_of asks.0) bytes f
 HasOutcome words bytes (rom v) = Asks words Rom × TellsRom bytes v
 HasOutcome words bytes (rom_refused f) = Asks words Rom × RomRefused bytes f
 HasOutcome words bytes (ran told) = Asks words Run × IsTold bytes told
@@ -77,9 +79,11 @@ status_of (advised (Err f)) = 1
 status_of (made text) = 0
 status_of no_form = 2
 
--- how a tree is shown: by `read` as its text with no names, by `maps` as its maps with generation 1
+-- how a tree is shown: by `read` and `read95` as its text with no names, by `maps` as its maps with
+-- generation 1
 abbrev pub Shows : CaptureForm → Tree → List ℕ → Type 0
 Shows Read t text = text ≡ tree_text t []
+Shows Read95 t text = text ≡ tree_text t []
 Shows Maps t text = IsMapsText 1 t text
 
 -- how a ROM is told: with the blocks that its root directory leads to

@@ -1,11 +1,19 @@
 -- The words that the program is asked with.
 use Rattle.std.specs.Prelude.{◌≡◌, ℕ, ◌≤◌, ◌⊎◌, List, [], ◌∷◌, map, codes, string_bytes, String, Some}
 use Rattle.std.specs.Global.{Global}
+use Rattle.self_id.specs.declared.standard.Standard.{Standard}
+use Rattle.self_id.specs.declared.standard.Standard.TheVariants.{Ieee1995, Ieee2000}
 use Rattle.script_lines.specs.Number.{number_of}
 use Rattle.bus_cli.specs.declared.form.Form.{Form}
 use Rattle.bus_cli.specs.declared.form.Form.TheVariants.{Capture, Rom, Run, Advice, Make}
 use Rattle.bus_cli.specs.declared.form.CaptureForm.{CaptureForm}
-use Rattle.bus_cli.specs.declared.form.CaptureForm.TheVariants.{Read, Maps}
+use Rattle.bus_cli.specs.declared.form.CaptureForm.TheVariants.{Read, Read95, Maps}
+
+-- by which standard each form reads a capture
+abbrev pub standard_of : CaptureForm → Standard
+standard_of Read = Ieee2000
+standard_of Read95 = Ieee1995
+standard_of Maps = Ieee2000
 
 -- `make N SEED`: 1 to 63 nodes and a seed, each a number as scripts have them
 pub record AreMakeWords (nodes seed : ℕ) (words : List (List ℕ)) : Type 0 where
@@ -20,6 +28,7 @@ pub record AreMakeWords (nodes seed : ℕ) (words : List (List ℕ)) : Type 0 wh
 -- the words of each form
 abbrev pub AreWordsOf : Form → List (List ℕ) → Type 0
 AreWordsOf (Capture Read) words = words ≡ codes "read" ∷ []
+AreWordsOf (Capture Read95) words = words ≡ codes "read95" ∷ []
 AreWordsOf (Capture Maps) words = words ≡ codes "maps" ∷ []
 AreWordsOf Rom words = words ≡ codes "rom" ∷ []
 AreWordsOf Run words = words ≡ codes "run" ∷ []

@@ -4,9 +4,10 @@ ghost use Rattle.std.specs.Global.{Global};
 ghost use Rattle.std.specs.Io.KnownBytes.{IsAtEnd};
 ghost use Rattle.io_edges.specs.Faults.{Rose};
 ghost use Rattle.io_edges.specs.Told.{AreLeft, IfTold, TookOver};
+ghost use Rattle.self_id.specs.declared.standard.Standard.TheVariants.{Ieee2000};
 ghost use Rattle.topology_stack.specs.Tree.{Tree};
 ghost use Rattle.bus_cli.specs.Capture.{Spells};
-ghost use Rattle.bus_cli.specs.Form.{Asks, AsksCapture};
+ghost use Rattle.bus_cli.specs.Form.{Asks, AsksCapture, standard_of};
 ghost use Rattle.bus_cli.specs.Answer.{Answers, Shows};
 ghost use Rattle.bus_cli.specs.codings.Reading.{Reads, IsNoFault, IsRead, AsksFewNodes, status_with, text_with};
 
@@ -57,7 +58,7 @@ fn shown_text(alloc: Global, form: CaptureForm, tree: &BusTree) -> Result<Vec<u8
     ensures { IfOk result (λ text. Shows form tree.now text.items) }
 {
     match form {
-        CaptureForm::Read => tree_text(alloc, tree, &NameList::new(alloc)),
+        CaptureForm::Read | CaptureForm::Read95 => tree_text(alloc, tree, &NameList::new(alloc)),
         CaptureForm::Maps => maps_text(alloc, tree, 1),
     }
 }
@@ -65,7 +66,7 @@ fn shown_text(alloc: Global, form: CaptureForm, tree: &BusTree) -> Result<Vec<u8
 /// The answer where no tree was found. No memory is taken.
 fn answer_to_stop(stop: CaptureStop) -> Result<Answer, OutOfMemory>
     ensures answer { IfOk result (λ answer. (words : List (String Global)) (bytes : List ℕ) →
-        AsksCapture words → Reads bytes (Err stop) →
+        (asks : AsksCapture words) → Reads (standard_of asks.0) bytes (Err stop) →
         Answers words bytes (status_with answer) (text_with answer)) }
     ensures memory { OnErr result (IsNoFault (Err stop)) }
 {
@@ -82,7 +83,7 @@ fn answer_to(
     reading: Result<BusTree, CaptureStop>,
 ) -> Result<Answer, OutOfMemory>
     ensures answer { IfOk result (λ answer. (words : List (String Global)) (bytes : List ℕ) →
-        Asks words (Form.Capture form) → Reads bytes reading →
+        Asks words (Form.Capture form) → Reads (standard_of form) bytes reading →
         Answers words bytes (status_with answer) (text_with answer)) }
     ensures memory { OnErr result (IsNoFault reading) }
 {
@@ -115,7 +116,7 @@ pub(crate) fn read_answer<S: Source>(
         IsErrOf result ReadStop.TooLong ↔ TookOver 1048576 old new) }
     ensures memory { IsErrOf result (ReadStop.Memory alloc_error) →
         form ≡ Form.Capture CaptureForm.Read → IsAtEnd (S.left source.new)
-        × IfSome (S.left source.old) (λ bytes. (t : Tree) × Spells bytes t) }
+        × IfSome (S.left source.old) (λ bytes. (t : Tree) × Spells Ieee2000 bytes t) }
     ensures complete { ¬ Rose (S.faults source.old) (S.faults source.new) →
         IfSome (S.left source.old) (λ bytes. length bytes ≤ 1048576 →
         IsOkUnless result (ReadStop.Memory alloc_error)) }

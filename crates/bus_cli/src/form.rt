@@ -1,17 +1,32 @@
 //! The words of the program.
 ghost use Rattle.std.specs.Prelude.{◌≡◌, ◌∷◌, [], ◌↔◌, codes};
-ghost use Rattle.bus_cli.specs.Form.{AreWordsOf, Asks};
+ghost use Rattle.bus_cli.specs.Form.{AreWordsOf, Asks, standard_of};
 ghost use Rattle.bus_cli.specs.declared.form.Form.{Form};
 
 use script_lines::number_of;
+use self_id::Standard;
 
 /// What the program can be asked for of a capture.
 #[derive(Clone, Copy, Debug, PartialEq, Eq)]
 pub enum CaptureForm {
-    /// `read`: the text of the tree that a capture spells.
+    /// `read`: the text of the tree that a capture spells by IEEE 1394a-2000.
     Read,
-    /// `maps`: the topology map and the speed map of that tree, with generation 1.
+    /// `read95`: the same by IEEE Std 1394-1995.
+    Read95,
+    /// `maps`: the topology map and the speed map of the tree of `read`, with generation 1.
     Maps,
+}
+
+impl CaptureForm {
+    /// By which standard a capture is read in this form.
+    pub(crate) fn standard(self) -> Standard
+        ensures { result ≡ standard_of self }
+    {
+        match self {
+            CaptureForm::Read | CaptureForm::Maps => Standard::Ieee2000,
+            CaptureForm::Read95 => Standard::Ieee1995,
+        }
+    }
 }
 
 /// What the program can be asked for.
@@ -37,6 +52,7 @@ impl Form {
     {
         match word {
             "read" => Some(Form::Capture(CaptureForm::Read)),
+            "read95" => Some(Form::Capture(CaptureForm::Read95)),
             "maps" => Some(Form::Capture(CaptureForm::Maps)),
             "rom" => Some(Form::Rom),
             "run" => Some(Form::Run),
@@ -83,5 +99,5 @@ impl Form {
 
 /// How the program is called, in one line for a form.
 pub const USAGE: &str = "usage: busconf run < SCRIPT\n       busconf advice < SCRIPT\n       \
-    busconf read < CAPTURE\n       busconf maps < CAPTURE\n       busconf rom < ROM\n       \
-    busconf make N SEED";
+    busconf read < CAPTURE\n       busconf read95 < CAPTURE\n       busconf maps < CAPTURE\n       \
+    busconf rom < ROM\n       busconf make N SEED";

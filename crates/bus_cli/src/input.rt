@@ -3,6 +3,7 @@ ghost use Rattle.std.specs.Prelude.{◌≡◌, ◌≢◌, ◌<◌, ◌≤◌, �
 ghost use Rattle.std.specs.Io.KnownBytes.{IsAtEnd};
 ghost use Rattle.io_edges.specs.Faults.{Rose};
 ghost use Rattle.io_edges.specs.Told.{AreLeft, IfTold, TookOver};
+ghost use Rattle.bus_cli.specs.Form.{standard_of};
 ghost use Rattle.bus_cli.specs.codings.Reading.{Reads, SparesMemory};
 
 use crate::capture::read_capture;
@@ -17,14 +18,15 @@ use topology_stack::BusTree;
 pub const MAX_INPUT: usize = 1_048_576;
 
 /// Reads the capture that a form asks for. With `read` it is taken piece by piece, and memory is
-/// taken for the tree that it spells and for nothing else.
+/// taken for the tree that it spells and for nothing else. Else the whole capture is read first.
 pub(crate) fn read_input<S: Source>(
     alloc: Global,
     form: CaptureForm,
     source: &mut S,
 ) -> Result<Result<BusTree, CaptureStop>, ReadStop>
     ensures reading { IfOk result (λ reading. (bytes : List ℕ) × AreLeft (S.left source.old) bytes
-        × Reads bytes reading × (form ≡ CaptureForm.Read → SparesMemory bytes reading)) }
+        × Reads (standard_of form) bytes reading
+        × (form ≡ CaptureForm.Read → SparesMemory bytes reading)) }
     ensures end { OnOk result (IsAtEnd (S.left source.new)) }
 
     // When each stop comes.
@@ -44,9 +46,9 @@ pub(crate) fn read_input<S: Source>(
             read_pieces(source, MAX_INPUT, &mut reader)?;
             Ok(reader.finish(alloc))
         }
-        CaptureForm::Maps => {
+        CaptureForm::Read95 | CaptureForm::Maps => {
             let bytes = read_all(alloc, source, MAX_INPUT)?;
-            Ok(read_capture(alloc, &bytes))
+            Ok(read_capture(alloc, form.standard(), &bytes))
         }
     }
 }

@@ -8,8 +8,8 @@ use script_advice::scripts_have_one_advice;
 use script_told::scripts_tell_one_thing;
 use topology_stack::{one_answer, one_tree};
 
-/// A law: each capture spells a tree or has a fault, none spells two trees, none spells a tree and
-/// has a fault, and none has two faults.
+/// A law: by either standard each capture spells a tree or has a fault, none spells two trees, none
+/// spells a tree and has a fault, and none has two faults.
 pub fn one_reading()
     ensures some { EachCaptureHasATreeOrAFault }
     ensures tree { NoCaptureHasTwoTrees }

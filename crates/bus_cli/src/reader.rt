@@ -1,5 +1,6 @@
 //! Reading a capture as it comes.
 ghost use Rattle.std.specs.Prelude.{◌≡◌, ◌↔◌, ◌+◌, ◌<◌, ◌≤◌, ◌^◌, ℕ, List, [], ◌∷◌, ◌++◌, length, IfOk, IfSome, IsSome};
+ghost use Rattle.self_id.specs.declared.standard.Standard.TheVariants.{Ieee2000};
 ghost use Rattle.topology_stack.specs.Tree.{Tree};
 ghost use Rattle.topology_stack.specs.Reader.{StandsFor};
 ghost use Rattle.bus_cli.specs.Capture.{Spells, CaptureRefused};
@@ -101,11 +102,11 @@ impl CaptureReader {
     /// spell a tree.
     pub(crate) fn finish(&self, alloc: Global) -> Result<BusTree, CaptureStop>
         ensures tree { IfOk result (λ t. (bytes : List ℕ) → HoldsExactly self.now bytes
-            → Spells bytes t) }
+            → Spells Ieee2000 bytes t) }
         ensures fault { IfFault result (λ f. (bytes : List ℕ) → HoldsExactly self.now bytes
-            → CaptureRefused bytes f) }
+            → CaptureRefused Ieee2000 bytes f) }
         ensures memory { IfMemory result ((bytes : List ℕ) → HoldsExactly self.now bytes
-            → (t : Tree) × Spells bytes t) }
+            → (t : Tree) × Spells Ieee2000 bytes t) }
     {
         good_pairs_are_a_capture();
         one_answer();

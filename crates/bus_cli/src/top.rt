@@ -5,6 +5,7 @@ ghost use Rattle.io_edges.specs.Faults.{Rose};
 ghost use Rattle.io_edges.specs.Told.{AppendsStart, IfTold, TookOver};
 ghost use Rattle.bus_cli.specs.declared.form.CaptureForm.{CaptureForm};
 ghost use Rattle.bus_cli.specs.Form.{Asks, AsksMake, IsForm};
+ghost use Rattle.self_id.specs.declared.standard.Standard.TheVariants.{Ieee2000};
 ghost use Rattle.topology_stack.specs.Tree.{Tree};
 ghost use Rattle.script_told.specs.Script.{IsTold};
 ghost use Rattle.script_told.specs.EachReport.{EachReportIsSettled};
@@ -95,7 +96,7 @@ pub fn bus_main<S: Source, K: Sink>(
     // With `read`, memory is taken only once the input was read to its end and is valid.
     ensures memory { result ≡ 5 → Asks words.now (Form.Capture CaptureForm.Read) →
         IsAtEnd (S.left source.new)
-        × IfSome (S.left source.old) (λ bytes. (t : Tree) × Spells bytes t) }
+        × IfSome (S.left source.old) (λ bytes. (t : Tree) × Spells Ieee2000 bytes t) }
 
     // What is left alone, or written in part.
     ensures unread { (result ≡ 2) ⊎ AsksMake words.now → source.new ≡ source.old }

@@ -30,6 +30,8 @@ mod settled;
 #[cfg(test)]
 mod spent;
 #[cfg(test)]
+mod standards;
+#[cfg(test)]
 mod texts;
 #[cfg(test)]
 mod worlds;

@@ -3,7 +3,8 @@ use Rattle.std.proofs.Common.{◌≡◌, ℕ, ◌<◌, length, slice_get, All, g
 use Rattle.std.specs.Option.{option_map}
 use Rattle.std.proofs.lemmas.List.{get_or_default}
 use Rattle.std.proofs.lemmas.Option.{slice_get_within, slice_get-get_or}
-use Rattle.topology_stack.specs.Tree.{Tree, walk, emits, IsBusTree}
+use Rattle.self_id.specs.declared.standard.Standard.TheVariants.{Ieee2000}
+use Rattle.topology_stack.specs.Tree.{Tree, walk, emits, IsBusTreeOf}
 use Rattle.topology_stack.specs.Elect.{elected}
 use Rattle.topology_stack.specs.OneAnswer.{NoListHasTwoTrees}
 use Rattle.cabling.specs.NodeSet.{Holds}
@@ -96,7 +97,7 @@ module _ (w : CableWorld) (l : IsLawful w) (node : ℕ) (tree : Reported) (s : S
   all-there = λ i d inside. omega (arith, its-there i inside, get_or_default tree.order i d 0 inside)
 
   -- a plan for the tree suits it
-  pub plan-suits : PlansSuit w node → (shown : Tree) → IsBusTree shown → emits shown ≡ tree.list → (plan : RootPlan) → IsPlan shown plan → SuitsTree w node plan
+  pub plan-suits : PlansSuit w node → (shown : Tree) → IsBusTreeOf Ieee2000 shown → emits shown ≡ tree.list → (plan : RootPlan) → IsPlan shown plan → SuitsTree w node plan
   plan-suits suit shown bus same plan p =
       suit s.set tree.root t shown plan s.component s.stands.is bus (same ∙ s.stands.emitted)
       (record { candidate = p.candidate; hops = p.hops; gap = p.gap })
@@ -104,20 +105,20 @@ module _ (w : CableWorld) (l : IsLawful w) (node : ℕ) (tree : Reported) (s : S
 -- the root of a plan has a place in the order
 pub plan-place :
     NoListHasTwoTrees → (names : Names) (tree : Reported) → IsNamedTree names tree.root tree.list tree.order →
-    (shown : Tree) → IsBusTree shown → emits shown ≡ tree.list → (plan : RootPlan) → IsPlan shown plan →
+    (shown : Tree) → IsBusTreeOf Ieee2000 shown → emits shown ≡ tree.list → (plan : RootPlan) → IsPlan shown plan →
     plan.root_id < length tree.order
 plan-place trees names tree named shown bus same plan p =
-    let one : named.tree ≡ shown = trees named.tree shown named.valid bus (named.emitted ∙ sym same) in
+    let one : named.tree ≡ shown = trees Ieee2000 named.tree shown named.valid bus (named.emitted ∙ sym same) in
     omega (arith, candidate_within shown plan.root_id p.candidate, ap (λ (t : Tree). length (walk t)) one, named.whole)
 
 -- where there is a manager, some node is elected
 pub is-elected :
     NoListHasTwoTrees → (tree : Reported) (manager : ℕ) → HasManager tree (Some manager) → (shown : Tree) →
-    IsBusTree shown → emits shown ≡ tree.list → elected shown ≡ None → ⊥
+    IsBusTreeOf Ieee2000 shown → emits shown ≡ tree.list → elected shown ≡ None → ⊥
 is-elected trees tree manager has shown bus same none = by (elected has.shown) (ap elected one ∙ none) has.elects
   where
     one : has.shown ≡ shown
-    one = trees has.shown shown has.is.bus bus (has.is.emitted ∙ sym same)
+    one = trees Ieee2000 has.shown shown has.is.bus bus (has.is.emitted ∙ sym same)
 
     by : (o : Option ℕ) → o ≡ None → Some manager ≡ option_map (node_with tree) o → ⊥
     by None e h = absurd cc

@@ -1,5 +1,6 @@
 -- A report has one text at most.
 use Rattle.std.proofs.Common.{◌≡◌, ℕ, List, [], ◌∷◌, ◌++◌, ap, refl, sym, ◌∙◌, append-nil, append_assoc}
+use Rattle.self_id.specs.declared.standard.Standard.TheVariants.{Ieee2000}
 use Rattle.topology_stack.specs.Tree.{Tree}
 use Rattle.topology_stack.specs.Text.{tree_text}
 use Rattle.topology_stack.specs.OneAnswer.{NoListHasTwoTrees}
@@ -38,7 +39,7 @@ in-order names parts text (more before so-far part its told is) =
 one-outcome : NoListHasTwoTrees → (names : Names) (o : Outcome) (a b : List ℕ) → IsOutcomeText names o a → IsOutcomeText names o b → a ≡ b
 one-outcome one names (reported.Tree root list order) a b x y =
     x.is
-    ∙ ap (λ (t : Tree). root_line names root ++ tree_text t (names_in names order)) (one x.tree y.tree x.valid y.valid (x.emitted ∙ sym y.emitted))
+    ∙ ap (λ (t : Tree). root_line names root ++ tree_text t (names_in names order)) (one Ieee2000 x.tree y.tree x.valid y.valid (x.emitted ∙ sym y.emitted))
     ∙ sym y.is
 one-outcome one names (reported.Contention c d) a b x y = x ∙ sym y
 one-outcome one names (reported.Loop core) a b x y = x ∙ sym y

@@ -1,7 +1,8 @@
 -- The text of a report.
 use Rattle.std.specs.Prelude.{◌≡◌, ℕ, zero, suc, ◌<◌, ◌==◌, List, [], ◌∷◌, ◌++◌, All, length, map, slice_get, unwrap_or, cond, codes, decimal}
 use Rattle.std.specs.Int.{bit_at}
-use Rattle.topology_stack.specs.Tree.{Tree, IsBusTree, walk, emits}
+use Rattle.self_id.specs.declared.standard.Standard.TheVariants.{Ieee2000}
+use Rattle.topology_stack.specs.Tree.{Tree, IsBusTreeOf, walk, emits}
 use Rattle.topology_stack.specs.Text.{tree_text}
 use Rattle.cabling.specs.NodeSet.{Nodes, Holds}
 use Rattle.settle.specs.declared.report.Outcome.{Outcome}
@@ -71,7 +72,7 @@ names_in names order = map (name_of names) order
 -- the line of the root, and the text of the tree that emits the list, with its names by ID
 pub record IsTreeText (names : Names) (root : ℕ) (list order : List ℕ) (text : List ℕ) : Type 0 where
   pub tree : Tree
-  pub valid : IsBusTree tree
+  pub valid : IsBusTreeOf Ieee2000 tree
   pub emitted : emits tree ≡ list
   pub is : text ≡ root_line names root ++ tree_text tree (names_in names order)
 
@@ -109,7 +110,7 @@ AreNamed names set = (node : ℕ) → Holds set node → node < length names
 -- the list is a bus tree's, whose nodes the order has, and each has a name
 pub record IsNamedTree (names : Names) (root : ℕ) (list order : List ℕ) : Type 0 where
   pub tree : Tree
-  pub valid : IsBusTree tree
+  pub valid : IsBusTreeOf Ieee2000 tree
   pub emitted : emits tree ≡ list
   pub whole : length order ≡ length (walk tree)
   pub top : root < length names

@@ -3,7 +3,8 @@ ghost use Rattle.std.specs.Prelude.{◌≡◌, ◌++◌, ◌<◌, ◌==◌, [], 
 ghost use Rattle.std.specs.Int.{bit_at};
 ghost use Rattle.script_text.specs.ReportText.{AreNamed, IsNamedTree, IsNamedOutcome, IsNamedPart, IsNamedReport, IsTreeText, IsOutcomeText, IsPartText, ArePartTexts, IsReportText, spaced, all_spaced, numbered, report_line, counts, component_line, root_line, contention_line, loop_line, names_in};
 ghost use Rattle.script_text.specs.codings.Appended.{IsAppended};
-ghost use Rattle.topology_stack.specs.Tree.{Tree, IsBusTree, emits};
+ghost use Rattle.self_id.specs.declared.standard.Standard.TheVariants.{Ieee2000};
+ghost use Rattle.topology_stack.specs.Tree.{Tree, IsBusTreeOf, emits};
 
 use cabling::NodeSet;
 use quad_lanes::QuadList;
@@ -153,8 +154,8 @@ fn names_in(alloc: Global, names: &[Name], order: &[u8]) -> Result<NameList, Out
 
 /// The bus tree that emits a list, where there is one.
 pub fn tree_of(alloc: Global, list: &[u32]) -> Result<BusTree, OutOfMemory>
-    requires { (tree : Tree) × IsBusTree tree × (emits tree ≡ list.now) }
-    ensures tree { IfOk result (λ tree. IsBusTree tree × (emits tree ≡ list.now)) }
+    requires { (tree : Tree) × IsBusTreeOf Ieee2000 tree × (emits tree ≡ list.now) }
+    ensures tree { IfOk result (λ tree. IsBusTreeOf Ieee2000 tree × (emits tree ≡ list.now)) }
 {
     match read_tree(alloc, list) {
         Ok(tree) => Ok(tree),

@@ -2,7 +2,8 @@
 -- fault of its line.
 use Rattle.std.specs.Prelude.{◌≡◌, ℕ, ◌+◌, nat_lt, ◌==◌, is_some, length, replicate, List, [], ◌++◌, codes, Option, None, Some, unwrap_or, slice_index_or, position, Result, Ok, Err, Any, IfSome, IsSomeAnd, MatchBool, if◌then◌else◌}
 use Rattle.std.specs.Option.{option_map}
-use Rattle.topology_stack.specs.Tree.{Tree, IsBusTree, emits}
+use Rattle.self_id.specs.declared.standard.Standard.TheVariants.{Ieee2000}
+use Rattle.topology_stack.specs.Tree.{Tree, IsBusTreeOf, emits}
 use Rattle.topology_stack.specs.Elect.{elected}
 use Rattle.cabling.specs.declared.cable.End.{End}
 use Rattle.cabling.specs.declared.cable.CableFault.{CableFault}
@@ -58,7 +59,7 @@ Settled bus node comes answer = AtTree (tree_with node bus.notes) comes answer
 
 -- the bus tree that has this list
 pub record IsTreeOf (list : List ℕ) (t : Tree) : Type 0 where
-  pub bus : IsBusTree t
+  pub bus : IsBusTreeOf Ieee2000 t
   pub emitted : emits t ≡ list
 
 -- the node of an ID, and the ID of a node

@@ -6,6 +6,7 @@ use Rattle.std.proofs.lemmas.Nat.{and_le_r, pow_pos}
 use Rattle.std.proofs.lemmas.Nat.Bits.{bit_at-lt, bit_at_and, bit_at_ones, same_from_bits}
 use Rattle.std.proofs.lemmas.List.{length-map}
 use Rattle.std.proofs.lemmas.List.Elements.{All-map, All-weaker}
+use Rattle.self_id.specs.declared.standard.Standard.TheVariants.{Ieee2000}
 use Rattle.topology_stack.specs.Tree.{Tree, walk, emits}
 use Rattle.topology_stack.specs.OneAnswer.{NoListHasTwoTrees}
 use Rattle.cabling.specs.NodeSet.{Holds}
@@ -108,7 +109,7 @@ lists-read w report r is =
 
 read-cables : NoListHasTwoTrees → (w : CableWorld) (o : Outcome) → IfTree (IsReadBack w) o → IfTree (λ root list order. IsTheCables w root list) o
 read-cables one w (reported.Tree root list order) h = λ t u bus emitted seen.
-    one t h.tree bus h.bus (emitted ∙ sym h.emitted) ∙ one-tree w.cabling (labels (attrs_now w)) root None h.tree u h.seen seen
+    one Ieee2000 t h.tree bus h.bus (emitted ∙ sym h.emitted) ∙ one-tree w.cabling (labels (attrs_now w)) root None h.tree u h.seen seen
 read-cables one w (reported.Contention a b) h = tt
 read-cables one w (reported.Loop core) h = tt
 

@@ -1,6 +1,7 @@
 -- What a report says of trees is read back.
 use Rattle.std.specs.Prelude.{◌≡◌, ℕ, ◌<◌, None, List, All, length}
-use Rattle.topology_stack.specs.Tree.{Tree, IsBusTree, walk, emits}
+use Rattle.self_id.specs.declared.standard.Standard.TheVariants.{Ieee2000}
+use Rattle.topology_stack.specs.Tree.{Tree, IsBusTreeOf, walk, emits}
 use Rattle.cabling.specs.Labels.{labels}
 use Rattle.cabling.specs.Sees.{Sees, numbers}
 use Rattle.cable_world.specs.World.{CableWorld, NodeNumber}
@@ -15,12 +16,12 @@ use Rattle.settle.specs.Report.{IsReport}
 abbrev pub IsSeen : CableWorld → NodeNumber → Tree → Type 0
 IsSeen w root t = Sees w.cabling (labels (attrs_now w)) root None t
 
--- The list is a bus tree's, which is the one that the cables show from the root. The order has the
--- nodes of its walk, which exist.
+-- The list is a bus tree's of IEEE 1394a-2000, which is the one that the cables show from the root.
+-- The order has the nodes of its walk, which exist.
 pub record IsReadBack
     (w : CableWorld) (root : NodeNumber) (list : List ℕ) (order : List NodeNumber) : Type 0 where
   pub tree : Tree
-  pub bus : IsBusTree tree
+  pub bus : IsBusTreeOf Ieee2000 tree
   pub emitted : emits tree ≡ list
   pub seen : IsSeen w root tree
   pub walked : order ≡ numbers w.cabling root tree
@@ -31,7 +32,7 @@ pub record IsReadBack
 -- the tree that is read from the list is the tree that the cables show from the root
 abbrev pub IsTheCables : CableWorld → NodeNumber → List ℕ → Type 0
 IsTheCables w root list =
-    (t u : Tree) → IsBusTree t → emits t ≡ list → IsSeen w root u → t ≡ u
+    (t u : Tree) → IsBusTreeOf Ieee2000 t → emits t ≡ list → IsSeen w root u → t ≡ u
 
 -- this holds of an outcome that is a tree
 abbrev pub IfTree : (NodeNumber → List ℕ → List NodeNumber → Type 0) → Outcome → Type 0

@@ -4,7 +4,8 @@ use Rattle.std.specs.Coded.{Coded-set, coded_ℕ}
 use Rattle.std.specs.Prelude.{Any, IfOk, OnOk}
 use Rattle.std.proofs.Math.Logic.{∥∥₁_elim}
 use Rattle.std.proofs.lemmas.Option.{slice_get_cases, slice_get_within}
-use Rattle.topology_stack.specs.Tree.{Tree, IsBusTree}
+use Rattle.self_id.specs.declared.standard.Standard.TheVariants.{Ieee2000}
+use Rattle.topology_stack.specs.Tree.{Tree, IsBusTreeOf}
 use Rattle.cabling.specs.Labels.{labels}
 use Rattle.cabling.proofs.Small.{Loopless}
 use Rattle.settle_plan.specs.Hops.{HopsStay}
@@ -123,7 +124,7 @@ module _
         bus = bus;
         emitted = f.4.emitted;
         hops = s.hops;
-        are_hops = hops (labels (attrs_now w)) (labels (attrs_now v)) s.root root set s.tree f.4.tree s.hops old.there new.there small old.component inside s.is.seen f.4.seen (bus-of w.cabling w l.well_formed refl s.root set old s.tree s.is.seen) bus s.are_hops;
+        are_hops = hops (labels (attrs_now w)) (labels (attrs_now v)) s.root root set s.tree f.4.tree s.hops old.there new.there small old.component inside s.is.seen f.4.seen (bus-of w.cabling w l.well_formed refl s.root set old s.tree s.is.seen).bus bus.bus s.are_hops;
         gap_is = s.gap;
       },
     )
@@ -137,7 +138,7 @@ module _
         f : Any (FoundTree w.cabling v from root) parts
         f = found-tree w.cabling v cables from set root component new (from-there w l from plan s) (IsReached w) reached moved parts are
 
-        bus : IsBusTree f.4.tree
+        bus : IsBusTreeOf Ieee2000 f.4.tree
         bus = bus-of w.cabling v formed cables root set new f.4.tree f.4.seen
 
     -- ---- gap counts

@@ -2,7 +2,8 @@
 use Rattle.std.proofs.Common.{◌≡◌, ℕ, ◌^◌, ◌<◌, length, slice_get, ◌∙◌, ap, subst, arith, refl}
 use Rattle.std.proofs.lemmas.List.{length-map}
 use Rattle.std.proofs.lemmas.Option.{slice_get_within}
-use Rattle.topology_stack.specs.Tree.{Tree, walk, IsBusTree}
+use Rattle.self_id.specs.declared.standard.Standard.TheVariants.{Ieee2000}
+use Rattle.topology_stack.specs.Tree.{Tree, walk, IsBusTreeOf}
 use Rattle.topology_stack.specs.OneAnswer.{NoListHasTwoTrees}
 use Rattle.cabling.specs.Component.{IsComponent}
 use Rattle.cabling.specs.Labels.{labels}
@@ -55,8 +56,8 @@ suits one w l from whole there component small set root stands told plan own is 
         ∙ length-map (visits w.cabling (at_root root) stands) (shown_node w.cabling (labels (attrs_now w)))
         ∙ length-visits w.cabling (at_root root) stands
 
-    stands-bus : IsBusTree stands
+    stands-bus : IsBusTreeOf Ieee2000 stands
     stands-bus = bus-of w.cabling w l.well_formed refl root whole loopless stands is.seen
 
     equal : told ≡ stands
-    equal = one told stands bus stands-bus same
+    equal = one Ieee2000 told stands bus stands-bus same

@@ -4,7 +4,8 @@ use Rattle.std.specs.Prelude.{unwrap_or}
 use Rattle.std.proofs.lemmas.Bool.{lt-ltb}
 use Rattle.std.proofs.lemmas.Option.{slice_get-get_or, slice_get_within}
 use Rattle.std.proofs.lemmas.List.{length-map}
-use Rattle.topology_stack.specs.Tree.{Tree, IsBusTree}
+use Rattle.self_id.specs.declared.standard.Standard.TheVariants.{Ieee2000}
+use Rattle.topology_stack.specs.Tree.{Tree, IsBusTreeOf}
 use Rattle.cabling.specs.Wiring.{Wiring}
 use Rattle.cabling.specs.NodeSet.{Holds}
 use Rattle.cabling.specs.Component.{IsComponent}
@@ -35,7 +36,7 @@ use Rattle.settle_plan.specs.Planned.{SuitsTree, HasId}
 -- a tree that cables without loop show is a bus tree
 pub bus-of :
     (c : Wiring) (u : CableWorld) → IsWellFormed u → u.cabling ≡ c → (root set : ℕ) → Loopless c root set →
-    (t : Tree) → Sees c (labels (attrs_now u)) root None t → IsBusTree t
+    (t : Tree) → Sees c (labels (attrs_now u)) root None t → IsBusTreeOf Ieee2000 t
 bus-of c u f same root set l t seen =
     let count : length (attrs_now u) ≡ length c = length-map u.nodes (λ (x : PortNode). shown_attrs x.state) ∙ f.count ∙ ap length same in
     bus_seen c (labels (attrs_now u)) root t l.cabling (labels_fit c (attrs_now u) count (attrs-fit u f)) l.there seen (tree_few c (labels (attrs_now u)) root set t l seen)

@@ -1,6 +1,7 @@
 -- What a plan asks of a bus, and what it makes of it.
 use Rattle.std.specs.Prelude.{◌≡◌, ℕ, ◌<◌, true, List, Some, length}
-use Rattle.topology_stack.specs.Tree.{Tree, walk, emits, IsBusTree}
+use Rattle.self_id.specs.declared.standard.Standard.TheVariants.{Ieee2000}
+use Rattle.topology_stack.specs.Tree.{Tree, walk, emits, IsBusTreeOf}
 use Rattle.topology_stack.specs.Elect.{IsCandidate}
 use Rattle.cabling.specs.NodeSet.{Holds}
 use Rattle.cabling.specs.Component.{IsComponent}
@@ -58,7 +59,7 @@ pub record WantsGap (from : NodeNumber) (gap : ℕ) (part : Part) : Type 0 where
   pub order : List NodeNumber
   pub outcome : part.outcome ≡ reported.Tree root list order
   pub tree : Tree
-  pub bus : IsBusTree tree
+  pub bus : IsBusTreeOf Ieee2000 tree
   pub emitted : list ≡ emits tree
   pub hops : ℕ
   pub are_hops : IsHops tree hops
@@ -77,4 +78,4 @@ abbrev pub PlansSuit : CableWorld → NodeNumber → Type 0
 PlansSuit w from =
     (set : NodeSet) (root : NodeNumber) (stands told : Tree) (plan : RootPlan) →
     IsComponent w.cabling from set → IsTree w set root stands →
-    IsBusTree told → emits told ≡ emits stands → IsPlanFor told plan → SuitsTree w from plan
+    IsBusTreeOf Ieee2000 told → emits told ≡ emits stands → IsPlanFor told plan → SuitsTree w from plan

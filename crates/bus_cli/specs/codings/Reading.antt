@@ -1,5 +1,7 @@
 -- What reading an input may answer. No public contract cites this file.
 use Rattle.std.specs.Prelude.{ℕ, ◌≤◌, List, Result, Ok, Err}
+use Rattle.self_id.specs.declared.standard.Standard.{Standard}
+use Rattle.self_id.specs.declared.standard.Standard.TheVariants.{Ieee2000}
 use Rattle.topology_stack.specs.Tree.{Tree}
 use Rattle.bus_cli.specs.declared.answer.Answer.{Answer}
 use Rattle.bus_cli.specs.declared.answer.Answer.TheVariants.{Valid, Refused}
@@ -25,17 +27,17 @@ AsksFewNodes Run = Unit {0}
 AsksFewNodes Advice = Unit {0}
 AsksFewNodes (Make nodes seed) = (1 ≤ nodes) × (nodes ≤ 63)
 
--- the bytes spell the tree or have the fault; of want of memory nothing is said
-abbrev pub Reads : List ℕ → Result Tree CaptureStop → Type 0
-Reads bytes (Ok t) = Spells bytes t
-Reads bytes (Err (Fault f)) = CaptureRefused bytes f
-Reads bytes (Err (Memory e)) = Unit {0}
+-- by a standard the bytes spell the tree or have the fault; of want of memory nothing is said
+abbrev pub Reads : Standard → List ℕ → Result Tree CaptureStop → Type 0
+Reads standard bytes (Ok t) = Spells standard bytes t
+Reads standard bytes (Err (Fault f)) = CaptureRefused standard bytes f
+Reads standard bytes (Err (Memory e)) = Unit {0}
 
 -- want of memory comes only where the bytes spell a tree
 abbrev pub SparesMemory : List ℕ → Result Tree CaptureStop → Type 0
 SparesMemory bytes (Ok t) = Unit {0}
 SparesMemory bytes (Err (Fault f)) = Unit {0}
-SparesMemory bytes (Err (Memory e)) = (t : Tree) × Spells bytes t
+SparesMemory bytes (Err (Memory e)) = (t : Tree) × Spells Ieee2000 bytes t
 
 -- no fault was found
 abbrev pub IsNoFault : Result Tree CaptureStop → Type 0

@@ -3,6 +3,7 @@ use Rattle.std.proofs.Common.{◌≡◌, ◌++◌, ◌==◌, ℕ, Bool, true, fa
 use Rattle.std.specs.Prelude.{codes, Ok, Err, IsSomeAnd, MatchBool, nat_lt, ◌+◌}
 use Rattle.phy_packet.specs.Packet.{quad_of}
 use Rattle.phy_packet.specs.declared.packet.PhyPacket.TheVariants as packet
+use Rattle.self_id.specs.declared.standard.Standard.TheVariants.{Ieee2000}
 use Rattle.topology_stack.specs.Tree.{Label, Tree}
 use Rattle.topology_stack.specs.Elect.{elected}
 use Rattle.topology_stack.specs.OneAnswer.{NoListHasTwoTrees}
@@ -82,7 +83,7 @@ at-manager (Some k) Comes one a b x y = one k a b x y
 
 same-tree :
     NoListHasTwoTrees → (list : List ℕ) (t u : Tree) → IsTreeOf list t → IsTreeOf list u → t ≡ u
-same-tree trees list t u x y = trees t u x.bus y.bus (x.emitted ∙ sym y.emitted)
+same-tree trees list t u x y = trees Ieee2000 t u x.bus y.bus (x.emitted ∙ sym y.emitted)
 
 managed :
     NoListHasTwoTrees → (bus : Bus) (name : List ℕ)
@@ -202,7 +203,7 @@ gives-maps trees bus tree h (Ok (a, s)) (Ok (b, t)) x y =
     let generation : ℕ = resets_of bus.world tree.root in
     let other : IsMapsText generation x.shown t =
     subst (λ (u : Tree). IsMapsText generation u t) same y.told in
-    let texts : s ≡ t = same_maps generation x.shown s t x.is.bus x.told other in (
+    let texts : s ≡ t = same_maps generation x.shown s t x.is.bus.bus x.told other in (
       same-answer a b s t (x.after_is ∙ sym y.after_is) texts,
       subst (λ (u : Bus). IsCabled u.world) (sym x.after_is) h,
     )

@@ -2,6 +2,7 @@ use Rattle.std.proofs.Common.{Result, refl, subst}
 use Rattle.topology_stack.specs.Tree.{Tree}
 use Rattle.bus_cli.specs.declared.fault.CaptureStop.{CaptureStop}
 use Rattle.bus_cli.specs.Answer.{shown}
+use Rattle.bus_cli.specs.Form.{standard_of}
 use Rattle.bus_cli.specs.codings.Reading.{Reads}
 use Rattle.bus_cli.proofs.Ends.{stopped}
 use Rattle.bus_cli.proofs.answer.answer_to.Goals as goal
@@ -9,7 +10,7 @@ use Rattle.bus_cli.proofs.answer.answer_to.Goals as goal
 pub returns-in_ok-shown_text-in-Ok-clause-answer : goal.returns-in_ok-shown_text-in-Ok-clause-answer
 returns-in_ok-shown_text-in-Ok-clause-answer c = λ words bytes asks reads. record {
   outcome = shown c.args.form c.in-Ok.tree;
-  has = (asks, subst (λ (r : Result Tree CaptureStop). Reads bytes r) c.in-Ok.is reads);
+  has = (asks, subst (λ (r : Result Tree CaptureStop). Reads (standard_of c.args.form) bytes r) c.in-Ok.is reads);
   status_is = refl;
   text_is = c.in_ok-shown_text-in-Ok.ensures;
 }

@@ -6,9 +6,9 @@ use Rattle.bus_cli.proofs.Reading.{is_capture, is_pair_fault}
 use Rattle.bus_cli.proofs.capture.packets_of.Goals as goal
 
 pub returns-in_err-pairs-clause-fault : goal.returns-in_err-pairs-clause-fault
-returns-in_err-pairs-clause-fault c =
+returns-in_err-pairs-clause-fault c = λ standard.
     let p = err_from_is_err_and c.from_residual.result c.from_residual.ensures.1 in
-    rw (p.1, p.2) (is_pair_fault (List ℕ) c.args.bytes.now c.in_err-pairs.field-0.0 c.in_err-pairs.ensures.cut)
+    rw (p.1, p.2) (is_pair_fault (List ℕ) standard c.args.bytes.now c.in_err-pairs.field-0.0 c.in_err-pairs.ensures.cut)
 
 pub returns-clause-packets : goal.returns-clause-packets
 returns-clause-packets c =

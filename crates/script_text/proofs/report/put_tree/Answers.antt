@@ -1,5 +1,6 @@
 use Rattle.std.proofs.Common.{◌≡◌, ◌∙◌, ap, inr, length, sym}
 use Rattle.std.proofs.lemmas.List.{length-map}
+use Rattle.self_id.specs.declared.standard.Standard.TheVariants.{Ieee2000}
 use Rattle.topology_stack.specs.Tree.{Tree, walk}
 use Rattle.script_text.specs.ReportText.{name_of}
 use Rattle.script_text.proofs.report.put_tree.Goals as goal
@@ -7,7 +8,7 @@ use Rattle.script_text.proofs.report.put_tree.Goals as goal
 pub tree_text-requires : goal.tree_text-requires
 tree_text-requires c =
     let same : c.requires.tree ≡ c.in_ok-tree.tree =
-    c.one_tree.ensures c.requires.tree c.in_ok-tree.tree c.requires.valid c.in_ok-tree.ensures.tree.0
+    c.one_tree.ensures Ieee2000 c.requires.tree c.in_ok-tree.tree c.requires.valid c.in_ok-tree.ensures.tree.0
     (c.requires.emitted ∙ sym (c.in_ok-tree.ensures.tree.1 ∙ c.as_slice.ensures)) in
     inr
     (ap length c.in_ok-by_id.ensures ∙ length-map c.args.order.now (name_of c.args.names.now)
