@@ -30,7 +30,7 @@ pub record IsReached (w : CableWorld) : Type 0 where
   pub power_on : IsPowerOnWorld start
   pub run : Runs events start w
 
--- A turn is quiet where no act came since the turn before; holds may stand. After so many quiet
+-- A turn is quiet where no act came since the turn before; holds may have come. After so many quiet
 -- turns a world of n nodes has settled, where cables delay by at most d turns.
 abbrev pub quiet_turns : ℕ → ℕ → ℕ
 quiet_turns n d = d * (2000 + 4 * n * n + 8 * n)
