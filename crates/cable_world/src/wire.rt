@@ -151,6 +151,10 @@ impl Wire {
         ensures stays { OnOk result (self.new ≡ stays delay self.old) }
         ensures arrives { OnOk result (arrivals.new ≡ arrives delay self.old) }
     {
+        if self.is_at_rest() {
+            arrivals.clear();
+            return Ok(());
+        }
         grow_older(&mut self.signals);
         if self.gives(delay) {
             arrivals.take_from(&self.signals)?;

@@ -1,30 +1,33 @@
 //! A bus settles, and is read.
-ghost use Rattle.std.specs.Prelude.{◌≡◌, ◌+◌, ◌≤◌, IfOk, OnOk, OnErr, IsErr, IsTrue, IsFalse, MatchBool};
-ghost use Rattle.cabling.specs.NodeSet.{Holds};
+ghost use Rattle.std.specs.Prelude.{◌≡◌, ◌+◌, ◌≤◌, ◌==◌, IfOk, OnOk, OnErr, IsErr, IsTrue, IsFalse};
+ghost use Rattle.std.specs.Int.{bit_at};
 ghost use Rattle.cable_world.specs.Lawful.{IsWellFormed};
 ghost use Rattle.cable_world.specs.Unchanged.{TurnsPass};
 ghost use Rattle.convergence.specs.Milestones.{ResetsAreDone};
-ghost use Rattle.settle.specs.codings.Reading.{IsLeast, HasLess, HasSettled};
+ghost use Rattle.settle.specs.codings.Reading.{is_in, HasSettled};
 ghost use Rattle.settle.specs.Report.{AreParts, IsReport, quiet_turns_of, IsAfterQuiet};
 ghost use Rattle.settle.specs.Forced.{ForcedNodeIsRoot};
 
 use crate::part::{attrs_of, part_of};
 use crate::quiet::quiet_turns;
-use crate::report::{PartList, Report};
+use crate::report::{Part, PartList, Report};
 use cable_world::WorldRun;
-use cabling::{NodeSet, OutOfMemory, components_are_whole};
+use cabling::{OutOfMemory, components_are_whole};
 use outcomes::{components_settle, forced_roots_settle, resets_spread};
 use std::alloc::{AllocError, Global};
 
-/// Whether a node of a set is the least in it.
-fn is_least(set: NodeSet, node: u8) -> bool
-    requires { Holds set node }
-    ensures { MatchBool result (IsLeast set node) (HasLess set node) }
+/// Whether a part has a node.
+fn has(part: &Part, node: u8) -> bool
+    ensures { result ≡ (bit_at part.now.nodes node == 1) }
 {
-    match set.least() {
-        Some(least) => least == node,
-        None => false,
-    }
+    part.nodes.has(node)
+}
+
+/// Whether one of these parts has a node.
+fn is_in(parts: &[Part], node: u8) -> bool
+    ensures { result ≡ is_in parts.now node }
+{
+    parts.iter().any(|part| has(part, node))
 }
 
 /// What is reported of each component of a world that has settled, by their least nodes.
@@ -38,8 +41,8 @@ fn parts_of<W: WorldRun>(alloc: Global, world: &W) -> Result<PartList, OutOfMemo
     let attrs = attrs_of(alloc, world)?;
     let mut parts = PartList::new(alloc);
     for node in 0..cabling.nodes() {
-        let nodes = cabling.component(node);
-        if is_least(nodes, node) {
+        if !is_in(parts.as_slice(), node) {
+            let nodes = cabling.component(node);
             parts.push(part_of(alloc, world, node, nodes, &attrs)?)?;
         }
     }

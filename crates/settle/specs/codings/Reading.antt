@@ -1,5 +1,7 @@
 -- What is asked of one node after the other.
-use Rattle.std.specs.Prelude.{◌≡◌, ◌≢◌, ◌⊎◌, ℕ, ◌<◌, ◌≤◌, List, None, Some, IsSome, IsSomeAnd, slice_get}
+use Rattle.std.specs.Prelude.{◌≡◌, ◌≢◌, ◌⊎◌, ℕ, ◌<◌, ◌≤◌, ◌==◌, Bool, List, None, Some, IsSome, IsSomeAnd, slice_get}
+use Rattle.std.specs.Int.{bit_at}
+use Rattle.std.specs.List.{list_any}
 use Rattle.self_id.specs.declared.node.Attrs.{Attrs}
 use Rattle.topology_stack.specs.Tree.{Tree, emits}
 use Rattle.cabling.specs.Wiring.{Wiring}
@@ -10,6 +12,7 @@ use Rattle.cabling.specs.Sees.{Sees, numbers}
 use Rattle.cable_world.specs.World.{CableWorld, NodeNumber, NodeSet}
 use Rattle.cable_world.specs.Run.{IsReached}
 use Rattle.cable_world.specs.Outcome.{AtNode, Shows, DrewAlike}
+use Rattle.settle.specs.declared.report.Part.{Part}
 use Rattle.settle.specs.Report.{IsAfterQuiet}
 
 -- the set is the component of a node
@@ -26,9 +29,9 @@ pub record HasSettled (w : CableWorld) : Type 0 where
 abbrev pub IsLeast : NodeSet → NodeNumber → Type 0
 IsLeast set node = (k : NodeNumber) → Holds set k → node ≤ k
 
--- one is
-abbrev pub HasLess : NodeSet → NodeNumber → Type 0
-HasLess set node = (k : NodeNumber) × (k < node) × Holds set k
+-- whether one of the parts has a node
+abbrev pub is_in : List Part → NodeNumber → Bool
+is_in parts node = list_any (λ part. bit_at part.nodes node == 1) parts
 
 -- ---- trees
 
