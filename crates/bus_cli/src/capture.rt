@@ -23,8 +23,9 @@ fn packets_of(alloc: Global, bytes: &[u8]) -> Result<QuadList, CaptureStop>
     Ok(firsts(alloc, quads)?)
 }
 
-/// The bus tree that a capture spells, or the fault that the capture has.
-pub(crate) fn read_capture(alloc: Global, bytes: &[u8]) -> Result<BusTree, CaptureStop>
+/// The bus tree that the bytes of a capture spell, or the fault that they have, as `read` and `maps`
+/// refuse it. `one_reading` says that there is one of the two, and never a second.
+pub fn read_capture(alloc: Global, bytes: &[u8]) -> Result<BusTree, CaptureStop>
     ensures tree { IfOk result (λ t. Spells bytes.now t) }
     ensures fault { IfFault result (λ f. CaptureRefused bytes.now f) }
 {
