@@ -1,9 +1,9 @@
 -- The cables of a bus tree: one for each slot that is down.
-use Rattle.std.specs.Prelude.{◌≡◌, ℕ, ◌+◌, ◌<◌, min, ◌==◌, Bool, true, false, Option, Some, None, List, [], ◌∷◌, ◌++◌, length, slice_get, count_by}
+use Rattle.std.specs.Prelude.{◌≡◌, ℕ, ◌+◌, ◌<◌, min, ◌==◌, if◌then◌else◌, Option, Some, None, List, [], ◌∷◌, ◌++◌, length, slice_get}
 use Rattle.self_id.specs.declared.node.PortStatus.{PortStatus}
 use Rattle.self_id.specs.declared.node.PortStatus.TheVariants.{Absent, Unplugged, Up, Down}
 use Rattle.self_id.specs.Node.{Node}
-use Rattle.topology_stack.specs.Tree.{Tree, walk, IsBusTree}
+use Rattle.topology_stack.specs.Tree.{Tree, walk}
 use Rattle.topology_stack.specs.Far.{ends}
 use Rattle.speed_map.specs.Path.{node_speed}
 use Rattle.view_text.specs.declared.cable.Cable.{Cable}
@@ -61,11 +61,18 @@ cables_from t id (n ∷ ns) (es ∷ ends) =
 abbrev pub cables : Tree → List Cable
 cables t = cables_from t 0 (walk t) (ends t)
 
--- A law: each node but the root hangs on exactly one of them, so a tree has one cable less than nodes.
+-- ---- laws
+
+-- on how many of the cables a node hangs
+abbrev pub times : ℕ → List Cable → ℕ
+times id [] = 0
+times id (c ∷ cs) = (if c.child == id then 1 else 0) + times id cs
+
+-- each node but the root, whose ID is the last, hangs on exactly one cable
 abbrev pub EachNodeHangsOnOneCable : Type 0
 EachNodeHangsOnOneCable =
-    (t : Tree) (id : ℕ) → id + 1 < length (walk t) →
-    count_by (λ c. c.child == id) (cables t) ≡ 1
+    (t : Tree) (id : ℕ) → id + 1 < length (walk t) → times id (cables t) ≡ 1
 
+-- so a tree has one cable less than nodes
 abbrev pub CablesAreOneLessThanNodes : Type 0
 CablesAreOneLessThanNodes = (t : Tree) → length (cables t) + 1 ≡ length (walk t)

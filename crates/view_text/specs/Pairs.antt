@@ -5,7 +5,6 @@ use Rattle.phy_packet.specs.Packet.{Shows}
 use Rattle.phy_packet.specs.declared.packet.PhyPacket.{PhyPacket}
 use Rattle.topology_stack.specs.Hex.{hex}
 use Rattle.view_text.specs.Packet.{field, packet_text}
-use Rattle.view_text.specs.declared.pairs.Note.{Note}
 
 -- the packets that quadlets show, one each
 abbrev pub AreShown : List ℕ → List PhyPacket → Type 0
@@ -25,15 +24,15 @@ pair_line number first second p =
     pair_quads number first second ++ (codes " " ++ (packet_text p ++ codes "\n"))
 
 -- the note, where it stands below this pair
-abbrev pub below : ℕ → Note → List ℕ
-below number note = if number == note.pair then note.text.items else []
+abbrev pub below : ℕ → ℕ → List ℕ → List ℕ
+below number at note = if number == at then note else []
 
 -- the lines of pairs, whose numbers are counted from `number`
-abbrev pub lines : ℕ → List (ℕ × ℕ) → List PhyPacket → Note → List ℕ
-lines number [] packets note = []
-lines number (pair ∷ rest) [] note = []
-lines number (pair ∷ rest) (p ∷ ps) note =
-    pair_line number pair.0 pair.1 p ++ (below number note ++ lines (number + 1) rest ps note)
+abbrev pub lines : ℕ → List (ℕ × ℕ) → List PhyPacket → ℕ → List ℕ → List ℕ
+lines number [] packets at note = []
+lines number (pair ∷ rest) [] at note = []
+lines number (pair ∷ rest) (p ∷ ps) at note =
+    pair_line number pair.0 pair.1 p ++ (below number at note ++ lines (number + 1) rest ps at note)
 
 -- bytes in hexadecimal digits
 abbrev pub bytes_text : List ℕ → List ℕ
@@ -47,14 +46,14 @@ cut_line number (b ∷ bytes) =
     field (codes "pair ") number
     ++ (codes " " ++ (bytes_text (b ∷ bytes) ++ codes " cut\n"))
 
--- the note, where as many pairs are whole as come before it, or fewer
-abbrev pub at_end : ℕ → Note → List ℕ
-at_end count note = if nat_le count note.pair then note.text.items else []
+-- the note, where no more pairs are whole than come before it
+abbrev pub at_end : ℕ → ℕ → List ℕ → List ℕ
+at_end count at note = if nat_le count at then note else []
 
--- All pairs of bytes, with the packets of their first quadlets. The note stands below the pair that it
--- names, or at the end where there is no such pair.
-abbrev pub pairs_text : List ℕ → List PhyPacket → Note → List ℕ
-pairs_text bytes packets note =
-    lines 0 (pairs (quads_of bytes)) packets note
+-- All pairs of bytes, with the packets of their first quadlets. The note stands below the pair `at`, or at
+-- the end where there is no such pair.
+abbrev pub pairs_text : List ℕ → List PhyPacket → ℕ → List ℕ → List ℕ
+pairs_text bytes packets at note =
+    lines 0 (pairs (quads_of bytes)) packets at note
     ++ (cut_line (length bytes / 8) (drop (8 * (length bytes / 8)) bytes)
-    ++ at_end (length bytes / 8) note)
+    ++ at_end (length bytes / 8) at note)

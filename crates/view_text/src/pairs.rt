@@ -71,7 +71,7 @@ fn put_pair(
 
 /// Appends the note where it stands below this pair.
 fn put_below(out: &mut Vec<u8>, number: usize, note: &Note) -> Result<(), OutOfMemory>
-    ensures { OnOk result (out.new.items ≡ out.old.items ++ below number note.now) }
+    ensures { OnOk result (out.new.items ≡ out.old.items ++ below number note.now.pair note.now.text.items) }
 {
     if number == note.pair {
         out.extend_from_slice(&note.text)?;
@@ -106,7 +106,7 @@ fn put_bytes(out: &mut Vec<u8>, bytes: &[u8]) -> Result<(), OutOfMemory>
 
 /// Appends the note where no pair that it stands below is whole.
 fn put_at_end(out: &mut Vec<u8>, count: usize, note: &Note) -> Result<(), OutOfMemory>
-    ensures { OnOk result (out.new.items ≡ out.old.items ++ at_end count note.now) }
+    ensures { OnOk result (out.new.items ≡ out.old.items ++ at_end count note.now.pair note.now.text.items) }
 {
     if count <= note.pair {
         out.extend_from_slice(&note.text)?;
@@ -124,7 +124,8 @@ fn put_lines(
     requires few { length quads.now < 2 ^ 60 }
     requires shown { AreShown (firsts quads.now) packets.now }
     ensures { OnOk result (out.new.items
-        ≡ out.old.items ++ lines 0 (pairs quads.now) packets.now note.now) }
+        ≡ out.old.items ++ lines 0 (pairs quads.now) packets.now
+        note.now.pair note.now.text.items) }
 {
     let mut number = 0;
     let mut rest = quads;
@@ -150,7 +151,8 @@ pub fn pairs_text(
 ) -> Result<Vec<u8>, OutOfMemory>
     requires few { length bytes.now < 2 ^ 60 }
     requires shown { AreShown (firsts (quads_of bytes.now)) packets.now }
-    ensures { IfOk result (λ text. text.items ≡ pairs_text bytes.now packets.now note.now) }
+    ensures { IfOk result (λ text. text.items
+        ≡ pairs_text bytes.now packets.now note.now.pair note.now.text.items) }
 {
     let mut out = Vec::new(alloc);
     let quads = quads_of(alloc, bytes)?;

@@ -5,7 +5,7 @@ use Rattle.view_text.proofs.pairs.put_lines.Given as goal
 
 abbrev pub invariant-loop-rest : goal.invariant-loop-rest
 invariant-loop-rest l = record {
-  text : l.out.items ++ lines l.number (pairs l.rest) l.left l.note ≡ l.fn.out.items ++ lines 0 (pairs l.quads) l.packets l.note;
+  text : l.out.items ++ lines l.number (pairs l.rest) l.left l.note.pair l.note.text.items ≡ l.fn.out.items ++ lines 0 (pairs l.quads) l.packets l.note.pair l.note.text.items;
   shown : AreShown (firsts l.rest) l.left;
   place : 2 * l.number + length l.rest ≡ length l.quads;
 }
