@@ -1,12 +1,13 @@
 -- What is written, and when, of the answer to the bytes that were told.
-use Rattle.std.proofs.Common.{◌≡◌, ◌∙◌, ℕ, ◌≤◌, ◌⊎◌, inl, Option, Some, None, List, [], length, refl, sym, subst}
+use Rattle.std.proofs.Common.{◌≡◌, ◌∙◌, ℕ, ◌≤◌, ◌⊎◌, inl, Option, Some, None, List, [], length, refl, sym, subst, arith, ◌↔◌}
 use Rattle.std.specs.Prelude.{IfSome, String}
 use Rattle.std.specs.Global.{Global}
 use Rattle.std.specs.Io.KnownBytes.{Appends}
 use Rattle.std.proofs.KnownBytes.{Appends-nil}
-use Rattle.io_edges.specs.Told.{AppendsStart}
+use Rattle.io_edges.specs.Told.{AppendsStart, IfTold, TookOver}
 use Rattle.bus_view.specs.Form.{IsForm}
-use Rattle.bus_view.specs.Answer.{Answers, viewed, no_form}
+use Rattle.bus_view.specs.declared.form.ViewForm.{ViewForm}
+use Rattle.bus_view.specs.Answer.{Reading, spelt, refused, status_of, IsView, Answers, viewed, no_form}
 use Rattle.bus_view.specs.OneAnswer.{NoInputHasTwoViews}
 
 -- the words' answer to these bytes is that to the bytes that were told
@@ -53,3 +54,18 @@ no_form_complete words None old none = tt
 no_form_complete words (Some bytes) old none = λ few s x is.
     let a = no_form_answer words bytes x s none is in
     inl (a.0, subst (Appends old old) (sym a.1) (Appends-nil old))
+
+-- ---- the status of a view
+
+of_reading : (reading : Reading) (status : ℕ) → status ≡ status_of reading → status ≤ 1
+of_reading (spelt t) status e = omega (arith, e)
+of_reading (refused f) status e = omega (arith, e)
+
+pub few_status : (form : ViewForm) (bytes : List ℕ) (status : ℕ) (text : List ℕ) → IsView form bytes status text → status ≤ 1
+few_status form bytes status text view = of_reading view.reading status view.status_is
+
+-- it isn't 6, where not too many bytes were taken
+pub not_six : (X : Type 0) (old new : Option (List ℕ)) (status : ℕ) → status ≤ 1 → IfTold old new (λ xs ys. X ↔ TookOver 1048576 xs ys) → (X → ⊥) → IfTold old new (λ xs ys. (status ≡ 6) ↔ TookOver 1048576 xs ys)
+not_six X None new status few h none = tt
+not_six X (Some xs) None status few h none = tt
+not_six X (Some xs) (Some ys) status few h none = (λ six. absurd (omega (arith, six, few)), λ took. absurd (none (h.1 took)))

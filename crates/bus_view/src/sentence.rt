@@ -50,7 +50,11 @@ fn next_after(packet: &PhyPacket) -> &'static [u8]
 {
     match *packet {
         PhyPacket::SelfZero { more: true, .. } => b"packet n 0",
-        PhyPacket::SelfMore { n: 0, more: true, .. } => b"packet n 1",
+        PhyPacket::SelfMore {
+            n: 0,
+            more: true,
+            ..
+        } => b"packet n 1",
         _ => b"packet zero",
     }
 }
@@ -122,7 +126,11 @@ fn put_children_sentence(
     ensures { OnOk result (out.new.items
         ≡ out.old.items ++ children_sentence found wanted why.now) }
 {
-    put_field(out, b"Found trees of nodes that wait for a parent: ", u64::from(found))?;
+    put_field(
+        out,
+        b"Found trees of nodes that wait for a parent: ",
+        u64::from(found),
+    )?;
     put_field(out, b", wanted ", u64::from(wanted))?;
     out.extend_from_slice(why)?;
     Ok(())

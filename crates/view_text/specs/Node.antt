@@ -4,7 +4,6 @@ use Rattle.self_id.specs.declared.node.Attrs.{Attrs}
 use Rattle.topology_stack.specs.Text.{truth}
 use Rattle.view_text.specs.Packet.{field}
 
-
 abbrev pub root_mark : ℕ → ℕ → List ℕ
 root_mark id root = if id == root then codes " root" else []
 

@@ -6,8 +6,8 @@ ghost use Rattle.view_text.specs.Cable.{cables};
 ghost use Rattle.view_text.specs.Drawing.{hung, goes_on, bar, corner, margin, cable_text, branch_text, node_words, node_line, node_lines, hops_line, drawing, IsDrawing};
 
 use crate::cable::{Cable, cables};
-use crate::node::{put_gap_words, put_link_words, put_title, speed_word};
 use crate::gaps::{gap_at, put_gaps};
+use crate::node::{put_gap_words, put_link_words, put_title, speed_word};
 use crate::words::put_field;
 use bus_manager::{gap_for, hops};
 use self_id::SelfId;

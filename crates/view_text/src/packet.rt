@@ -160,9 +160,13 @@ pub fn put_packet(out: &mut Vec<u8>, packet: &PhyPacket) -> Result<(), OutOfMemo
     ensures { OnOk result (out.new.items ≡ out.old.items ++ packet_text packet.now) }
 {
     match *packet {
-        PhyPacket::Config { root_id, force, set_gap, gap, rest } => {
-            put_config(out, root_id, force, set_gap, gap, rest)?
-        }
+        PhyPacket::Config {
+            root_id,
+            force,
+            set_gap,
+            gap,
+            rest,
+        } => { put_config(out, root_id, force, set_gap, gap, rest)? }
         PhyPacket::LinkOn { phy_id, rest } => put_link_on(out, phy_id, rest)?,
         PhyPacket::SelfZero {
             phy_id,
@@ -182,9 +186,14 @@ pub fn put_packet(out: &mut Vec<u8>, packet: &PhyPacket) -> Result<(), OutOfMemo
             put_zero_power(out, delay, contender, power)?;
             put_zero_ports(out, p0, p1, p2, initiated, more)?;
         }
-        PhyPacket::SelfMore { phy_id, n, kept, fields, r, more } => {
-            put_more(out, phy_id, n, kept, fields, r, more)?
-        }
+        PhyPacket::SelfMore {
+            phy_id,
+            n,
+            kept,
+            fields,
+            r,
+            more,
+        } => { put_more(out, phy_id, n, kept, fields, r, more)? }
         PhyPacket::Extended { word } => put_extended(out, word)?,
         PhyPacket::Other { .. } => out.extend_from_slice(b"no PHY packet")?,
     }

@@ -34,12 +34,7 @@ pub fn packets_of(alloc: Global, quads: &[u32]) -> Result<Vec<PhyPacket>, OutOfM
 }
 
 /// Appends the number of a pair and its quadlets.
-fn put_quads(
-    out: &mut Vec<u8>,
-    number: usize,
-    first: u32,
-    second: u32,
-) -> Result<(), OutOfMemory>
+fn put_quads(out: &mut Vec<u8>, number: usize, first: u32, second: u32) -> Result<(), OutOfMemory>
     ensures { OnOk result (out.new.items ≡ out.old.items ++ pair_quads number first second) }
 {
     put_field(out, b"pair ", number as u64)?;
