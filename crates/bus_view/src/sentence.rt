@@ -1,14 +1,13 @@
 //! What was found and what was wanted where a capture is refused, in a sentence.
 ghost use Rattle.std.specs.Prelude.{◌≡◌, ◌<◌, ◌^◌, ◌++◌, length, IfOk, OnOk};
 ghost use Rattle.bus_view.specs.Sentence.{first_at, second_at, top_bits, next_after, next_words, inverse_sentence, top_sentence, id_sentence, order_sentence, children_sentence, group_sentence, tree_sentence, sentence, group_place, tree_place, place, note};
-ghost use Rattle.view_text.specs.Packet.{field};
 
 use bus_cli::{CaptureFault, fault_line};
 use phy_packet::PhyPacket;
 use self_id::GroupFault;
 use std::alloc::Global;
-use topology_stack::{OutOfMemory, TreeFault, put_hex, put_number};
-use view_text::Note;
+use topology_stack::{OutOfMemory, TreeFault, put_hex};
+use view_text::{Note, put_field};
 
 /// The first quadlet of a pair, where it is whole.
 fn first_at(quads: &[u32], pair: usize) -> u32
@@ -68,15 +67,6 @@ fn next_words(packets: &[PhyPacket], at: usize) -> &'static [u8]
     } else {
         next_after(&packets[at - 1])
     }
-}
-
-/// Appends a word and a number.
-#[tactic(auto, unfolding(view_text::specs::Packet::field))]
-fn put_field(out: &mut Vec<u8>, word: &[u8], n: u64) -> Result<(), OutOfMemory>
-    ensures { OnOk result (out.new.items ≡ out.old.items ++ field word.now n) }
-{
-    out.extend_from_slice(word)?;
-    put_number(out, n)
 }
 
 fn put_inverse_sentence(out: &mut Vec<u8>, first: u32, second: u32) -> Result<(), OutOfMemory>

@@ -17,3 +17,4 @@ pub use graph::tree_graph;
 pub use laws::each_node_hangs_on_one_cable;
 pub use packet::put_packet;
 pub use pairs::{Note, packets_of, pairs_text};
+pub use words::put_field;

@@ -5,9 +5,9 @@ ghost use Rattle.view_text.specs.Packet.{field, reserved};
 
 use topology_stack::{OutOfMemory, put_number};
 
-/// Appends a word and a number.
+/// Appends a word and a number, in decimal digits without leading zeros.
 #[tactic(auto, unfolding(crate::specs::Packet::field))]
-pub(crate) fn put_field(out: &mut Vec<u8>, word: &[u8], n: u64) -> Result<(), OutOfMemory>
+pub fn put_field(out: &mut Vec<u8>, word: &[u8], n: u64) -> Result<(), OutOfMemory>
     ensures { OnOk result (out.new.items ≡ out.old.items ++ field word.now n) }
 {
     out.extend_from_slice(word)?;
