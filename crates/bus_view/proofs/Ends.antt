@@ -1,5 +1,5 @@
 -- What is written, and when, of the answer to the bytes that were told.
-use Rattle.std.proofs.Common.{◌≡◌, ◌∙◌, ℕ, ◌≤◌, ◌⊎◌, inl, Option, Some, None, List, [], length, refl, sym, subst, arith, ◌↔◌}
+use Rattle.std.proofs.Common.{◌≡◌, ℕ, ◌≤◌, ◌⊎◌, inl, Option, Some, None, List, [], length, sym, subst, arith, ◌↔◌}
 use Rattle.std.specs.Prelude.{IfSome, String}
 use Rattle.std.specs.Global.{Global}
 use Rattle.std.specs.Io.KnownBytes.{Appends}

@@ -1,5 +1,5 @@
 -- Words are those of one form at most.
-use Rattle.std.proofs.Common.{◌≡◌, ◌∙◌, ℕ, ◌+◌, List, [], ◌∷◌, length, refl, sym, ap, arith}
+use Rattle.std.proofs.Common.{◌≡◌, ◌∙◌, ℕ, List, [], ◌∷◌, length, refl, sym, ap, arith}
 use Rattle.std.specs.Prelude.{String, map, string_bytes}
 use Rattle.std.specs.Global.{Global}
 use Rattle.bus_view.specs.declared.form.ViewForm.{ViewForm}

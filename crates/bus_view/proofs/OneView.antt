@@ -1,9 +1,7 @@
 -- Words and bytes have one answer.
-use Rattle.std.proofs.Common.{◌≡◌, ◌∙◌, ℕ, ◌≤◌, Some, List, [], ◌∷◌, length, refl, sym, ap, subst, arith}
-use Rattle.std.specs.Prelude.{String, slice_get}
-use Rattle.std.specs.Global.{Global}
+use Rattle.std.proofs.Common.{◌≡◌, ◌∙◌, ℕ, List, [], ◌∷◌, refl, sym, ap, subst, arith}
 use Rattle.quad_lanes.specs.Pairs.{firsts, quads_of}
-use Rattle.phy_packet.specs.Packet.{Shows, IsValid, quad_of}
+use Rattle.phy_packet.specs.Packet.{Shows}
 use Rattle.phy_packet.specs.declared.packet.PhyPacket.{PhyPacket}
 use Rattle.phy_packet.specs.codings.Decoding.{packet_of}
 use Rattle.phy_packet.proofs.Laws.{packet_of-quad_of}
@@ -16,8 +14,7 @@ use Rattle.view_text.specs.Pairs.{AreShown, pairs_text}
 use Rattle.view_text.specs.Drawing.{IsDrawing, IsRoot, drawing}
 use Rattle.bus_view.specs.declared.form.ViewForm.{ViewForm}
 use Rattle.bus_view.specs.declared.form.ViewForm.TheVariants.{Packets, Tree as Drawn, Dot}
-use Rattle.bus_view.specs.Form.{Asks}
-use Rattle.bus_view.specs.Answer.{Reading, spelt, refused, IsReading, status_of, ShowsPackets, HasText, IsView, Answers, viewed, no_form}
+use Rattle.bus_view.specs.Answer.{Reading, spelt, refused, IsReading, status_of, ShowsPackets, HasText, IsView, viewed, no_form}
 use Rattle.bus_view.specs.OneAnswer.{NoInputHasTwoViews}
 use Rattle.bus_view.proofs.Forms.{one_form}
 

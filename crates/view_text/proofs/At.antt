@@ -1,5 +1,5 @@
 -- A list from a place on.
-use Rattle.std.proofs.Common.{◌≡◌, ℕ, zero, suc, ◌+◌, ◌<◌, Option, Some, List, [], ◌∷◌, length, get_or, drop, refl, arith}
+use Rattle.std.proofs.Common.{◌≡◌, ℕ, zero, suc, ◌+◌, ◌<◌, Some, List, [], ◌∷◌, length, get_or, drop, refl, arith}
 use Rattle.std.specs.Prelude.{slice_get}
 
 -- it begins with the item that stands there

@@ -1,15 +1,13 @@
 -- The cables of a tree, by the tree's form: each node but the outermost hangs on one.
-use Rattle.std.proofs.Common.{◌≡◌, ◌≢◌, ◌∙◌, ℕ, zero, suc, ◌+◌, ◌-◌, ◌<◌, ◌≤◌, Bool, true, false, cond, eqb, ◌⊎◌, ⊎_elim, Option, Some, None, List, [], ◌∷◌, ◌++◌, length, refl, sym, ap, arith, append_assoc, length-append}
+use Rattle.std.proofs.Common.{◌≡◌, ◌≢◌, ◌∙◌, ℕ, ◌+◌, ◌-◌, ◌<◌, ◌≤◌, cond, eqb, ⊎_elim, Option, List, [], ◌∷◌, ◌++◌, length, refl, sym, ap, arith, append_assoc, length-append}
 use Rattle.std.proofs.lemmas.Bool.{cases_lt}
 use Rattle.std.proofs.lemmas.Bool.Decides.{nat_tests}
-use Rattle.self_id.specs.declared.node.PortStatus.{PortStatus}
-use Rattle.self_id.specs.declared.node.PortStatus.TheVariants.{Absent, Unplugged, Up, Down}
 use Rattle.self_id.specs.Node.{Node}
 use Rattle.topology_stack.specs.Tree.{Tree, branch, Slots, no_more, absent, unplugged, up, down, statuses, node_of, walk, walk_below}
 use Rattle.topology_stack.specs.Far.{slot_ends, ends_from, ends_below}
 use Rattle.speed_map.proofs.Nodes.{length-walk, length-ends_from, length-ends_below, some_node}
 use Rattle.view_text.specs.declared.cable.Cable.{Cable}
-use Rattle.view_text.specs.Cable.{cable_to, cable_at, cables_of, cables_from, cables, times, EachNodeHangsOnOneCable, CablesAreOneLessThanNodes}
+use Rattle.view_text.specs.Cable.{cables_of, cables_from, times, EachNodeHangsOnOneCable, CablesAreOneLessThanNodes}
 
 -- ---- lists of nodes in two parts
 

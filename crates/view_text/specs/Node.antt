@@ -1,5 +1,5 @@
 -- A node and a cable in words.
-use Rattle.std.specs.Prelude.{◌≡◌, ℕ, zero, suc, ◌==◌, Bool, true, false, if◌then◌else◌, Option, Some, None, List, [], ◌++◌, codes, decimal}
+use Rattle.std.specs.Prelude.{ℕ, zero, suc, ◌==◌, if◌then◌else◌, Option, Some, None, List, [], ◌++◌, codes}
 use Rattle.self_id.specs.declared.node.Attrs.{Attrs}
 use Rattle.topology_stack.specs.Text.{truth}
 use Rattle.view_text.specs.Packet.{field}

@@ -1,5 +1,5 @@
 -- A PHY packet in words: its kind, and its fields by the standard's names.
-use Rattle.std.specs.Prelude.{ℕ, zero, suc, ◌+◌, ◌-◌, ◌*◌, ◌/◌, ◌%◌, ◌^◌, Bool, true, false, ◌==◌, if◌then◌else◌, List, [], ◌++◌, codes, decimal}
+use Rattle.std.specs.Prelude.{ℕ, zero, suc, ◌+◌, ◌-◌, ◌*◌, ◌/◌, ◌%◌, ◌^◌, Bool, ◌==◌, if◌then◌else◌, List, [], ◌++◌, codes, decimal}
 use Rattle.phy_packet.specs.declared.packet.PhyPacket.{PhyPacket}
 use Rattle.phy_packet.specs.declared.packet.PhyPacket.TheVariants.{Config, LinkOn, SelfZero, SelfMore, Extended, Other}
 use Rattle.self_id.specs.declared.node.PortStatus.{PortStatus}

@@ -1,6 +1,6 @@
 use Rattle.std.proofs.Common.{refl}
 use Rattle.bus_view.specs.Answer.{viewed}
-use Rattle.bus_view.proofs.Ends.{written, part_written, whole_written, exact_status, few_status, not_six, no_form_exact, no_form_complete}
+use Rattle.bus_view.proofs.Ends.{written, part_written, whole_written, exact_status, few_status, not_six}
 use Rattle.bus_view.proofs.top.view_main.Goals as goal
 
 pub returns-in-Ok-write_whole-clause-answer : goal.returns-in-Ok-write_whole-clause-answer

@@ -1,6 +1,5 @@
-use Rattle.std.proofs.Common.{◌≡◌, ◌∙◌, ℕ, ◌+◌, ◌-◌, ◌<◌, Some, List, ◌++◌, length, refl, sym, ap, subst, arith, append_assoc}
-use Rattle.std.specs.Prelude.{slice_get, Option}
-use Rattle.self_id.specs.Node.{Node}
+use Rattle.std.proofs.Common.{◌≡◌, ℕ, ◌-◌, Some, length, subst, arith, append_assoc}
+use Rattle.std.specs.Prelude.{slice_get}
 use Rattle.topology_stack.specs.Tree.{walk}
 use Rattle.view_text.proofs.At.{item_at}
 use Rattle.view_text.proofs.drawing.tree_drawing.Goals as goal
