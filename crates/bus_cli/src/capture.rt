@@ -26,8 +26,10 @@ fn packets_of(alloc: Global, bytes: &[u8]) -> Result<QuadList, CaptureStop>
     Ok(firsts(alloc, quads)?)
 }
 
-/// The bus tree that a capture spells by a standard, or the fault that the capture has.
-pub(crate) fn read_capture(
+/// The bus tree of a standard that the bytes of a capture spell, or the fault that they have by it, as
+/// `read`, `read95` and `maps` refuse them. `one_reading` says that there is one of the two, and never
+/// a second.
+pub fn read_capture(
     alloc: Global,
     standard: Standard,
     bytes: &[u8],

@@ -19,7 +19,7 @@ pub enum CaptureFault {
 
 /// Why a capture gives no tree.
 #[derive(Debug, Drop)]
-pub(crate) enum CaptureStop {
+pub enum CaptureStop {
     /// The capture spells none.
     Fault(CaptureFault),
     /// There was no memory.

@@ -21,9 +21,9 @@ struct Counts {
 /// The room of a line, which is more than the longest one has.
 const ROOM: usize = 128;
 
-/// A line. It takes no memory.
+/// The line of a fault. It takes no memory. In a contract it is its bytes.
 #[derive(Debug, Drop)]
-pub(crate) struct FaultLine {
+pub struct FaultLine {
     bytes: ArrayVec<u8, ROOM>,
 }
 
@@ -44,7 +44,8 @@ impl FaultLine {
         }
     }
 
-    pub(crate) fn as_bytes(&self) -> &[u8]
+    /// The bytes of the line, up to its line feed.
+    pub fn as_bytes(&self) -> &[u8]
         ensures { result.now ≡ self.now }
     {
         self.bytes.as_slice()
@@ -135,9 +136,9 @@ fn tree_line(fault: TreeFault) -> FaultLine
     }
 }
 
-/// The line of a capture's fault.
+/// The line of a capture's fault: `refused pair P KIND`, and behind some kinds ` found F wanted W`.
 #[tactic(auto, unfolding(crate::specs::Line::fault_line))]
-pub(crate) fn fault_line(fault: CaptureFault) -> FaultLine
+pub fn fault_line(fault: CaptureFault) -> FaultLine
     ensures { result ≡ fault_line fault }
 {
     match fault {

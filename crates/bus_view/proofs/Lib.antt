@@ -1,0 +1,4 @@
+pub mod Forms
+pub mod OneView
+pub mod Ends
+pub mod Joined

@@ -1,0 +1,88 @@
+-- Words and bytes have one answer.
+use Rattle.std.proofs.Common.{◌≡◌, ◌∙◌, ℕ, List, [], ◌∷◌, refl, sym, ap, subst, arith}
+use Rattle.quad_lanes.specs.Pairs.{firsts, quads_of}
+use Rattle.phy_packet.specs.Packet.{Shows}
+use Rattle.phy_packet.specs.declared.packet.PhyPacket.{PhyPacket}
+use Rattle.phy_packet.specs.codings.Decoding.{packet_of}
+use Rattle.phy_packet.proofs.Laws.{packet_of-quad_of}
+use Rattle.self_id.specs.declared.standard.Standard.TheVariants.{Ieee2000}
+use Rattle.self_id.specs.Node.{Node}
+use Rattle.topology_stack.specs.Tree.{Tree}
+use Rattle.bus_manager.specs.Hops.{IsHops}
+use Rattle.bus_cli.specs.declared.fault.CaptureFault.{CaptureFault}
+use Rattle.bus_cli.specs.OneReading.{NoCaptureHasTwoTrees, NoCaptureHasATreeAndAFault, NoCaptureHasTwoFaults}
+use Rattle.view_text.specs.Pairs.{AreShown, pairs_text}
+use Rattle.view_text.specs.Drawing.{IsDrawing, IsRoot, drawing}
+use Rattle.bus_view.specs.declared.form.ViewForm.{ViewForm}
+use Rattle.bus_view.specs.declared.form.ViewForm.TheVariants.{Packets, Tree as Drawn, Dot}
+use Rattle.bus_view.specs.Answer.{Reading, spelt, refused, IsReading, status_of, ShowsPackets, HasText, IsView, viewed, no_form}
+use Rattle.bus_view.specs.OneAnswer.{NoInputHasTwoViews}
+use Rattle.bus_view.proofs.Forms.{one_form}
+
+-- ---- a capture has one reading
+
+pub record HasOneReading : Type 0 where
+  pub trees : NoCaptureHasTwoTrees
+  pub apart : NoCaptureHasATreeAndAFault
+  pub faults : NoCaptureHasTwoFaults
+
+same_reading : HasOneReading → (bytes : List ℕ) (a b : Reading) → IsReading bytes a → IsReading bytes b → a ≡ b
+same_reading one bytes (spelt t) (spelt u) x y = ap (λ (v : Tree). spelt v) (one.trees Ieee2000 bytes t u x y)
+same_reading one bytes (spelt t) (refused g) x y = absurd (one.apart Ieee2000 bytes t g x y)
+same_reading one bytes (refused f) (spelt u) x y = absurd (one.apart Ieee2000 bytes u f y x)
+same_reading one bytes (refused f) (refused g) x y = ap (λ (h : CaptureFault). refused h) (one.faults Ieee2000 bytes f g x y)
+
+-- ---- a reading has one text
+
+-- a quadlet shows one packet
+one_packet : (quad : ℕ) (p q : PhyPacket) → Shows quad p → Shows quad q → p ≡ q
+one_packet quad p q x y =
+    sym (packet_of-quad_of p x.valid) ∙ ap packet_of (x.quad_is ∙ sym y.quad_is) ∙ packet_of-quad_of q y.valid
+
+same_packets : (quads : List ℕ) (ps qs : List PhyPacket) → AreShown quads ps → AreShown quads qs → ps ≡ qs
+same_packets [] [] [] x y = refl
+same_packets [] [] (q ∷ qs) x y = absurd y
+same_packets [] (p ∷ ps) qs x y = absurd x
+same_packets (a ∷ quads) [] qs x y = absurd x
+same_packets (a ∷ quads) (p ∷ ps) [] x y = absurd y
+same_packets (a ∷ quads) (p ∷ ps) (q ∷ qs) x y =
+    let head : p ≡ q = one_packet a p q x.0 y.0 in
+    rw (head, same_packets quads ps qs x.1 y.1) refl
+
+same_shown : (bytes : List ℕ) (at : ℕ) (below : List PhyPacket → List ℕ) (a b : List ℕ) → ShowsPackets bytes at below a → ShowsPackets bytes at below b → a ≡ b
+same_shown bytes at below a b x y =
+    x.text_is ∙ ap (λ (ps : List PhyPacket). pairs_text bytes ps at (below ps)) (same_packets (firsts (quads_of bytes)) x.packets y.packets x.shown y.shown) ∙ sym y.text_is
+
+one_hops : (t : Tree) (h k : ℕ) → IsHops t h → IsHops t k → h ≡ k
+one_hops t h k x y = omega (arith, x.longest k y.path, y.longest h x.path)
+
+one_root : (t : Tree) (m n : Node) → IsRoot t m → IsRoot t n → m ≡ n
+one_root t m n x y = cc
+
+same_drawing : (t : Tree) (a b : List ℕ) → IsDrawing t a → IsDrawing t b → a ≡ b
+same_drawing t a b x y =
+    x.text_is ∙ ap (λ (h : ℕ). drawing t h x.root.attrs.gap) (one_hops t x.hops y.hops x.are_hops y.are_hops)
+    ∙ ap (λ (n : Node). drawing t y.hops n.attrs.gap) (one_root t x.root y.root x.is_root y.is_root) ∙ sym y.text_is
+
+same_text : (form : ViewForm) (bytes : List ℕ) (r : Reading) (a b : List ℕ) → HasText form bytes r a → HasText form bytes r b → a ≡ b
+same_text Packets bytes (spelt t) a b x y = same_shown bytes _ _ a b x y
+same_text Packets bytes (refused f) a b x y = same_shown bytes _ _ a b x y
+same_text Drawn bytes (spelt t) a b x y = same_drawing t a b x y
+same_text Drawn bytes (refused f) a b x y = x ∙ sym y
+same_text Dot bytes (spelt t) a b x y = x ∙ sym y
+same_text Dot bytes (refused f) a b x y = x ∙ sym y
+
+same_view : HasOneReading → (form : ViewForm) (bytes : List ℕ) (s r : ℕ) (a b : List ℕ) → IsView form bytes s a → IsView form bytes r b → (s ≡ r) × (a ≡ b)
+same_view one form bytes s r a b x y =
+    let same : x.reading ≡ y.reading = same_reading one bytes x.reading y.reading x.reads y.reads in
+    (x.status_is ∙ ap status_of same ∙ sym y.status_is, same_text form bytes y.reading a b (subst (λ (v : Reading). HasText form bytes v a) same x.text_is) y.text_is)
+
+-- ---- words and bytes have one answer
+
+pub one_answer : HasOneReading → NoInputHasTwoViews
+one_answer one words bytes s r a b (viewed form asks x) (viewed other again y) =
+    let same : form ≡ other = one_form words form other asks again in
+    same_view one other bytes s r a b (subst (λ (f : ViewForm). IsView f bytes s a) same x) y
+one_answer one words bytes s r a b (viewed form asks x) (no_form none is empty) = absurd (none (form, asks))
+one_answer one words bytes s r a b (no_form none is empty) (viewed form asks y) = absurd (none (form, asks))
+one_answer one words bytes s r a b (no_form none is empty) (no_form no_one too nothing) = (is ∙ sym too, empty ∙ sym nothing)

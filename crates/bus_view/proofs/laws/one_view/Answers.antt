@@ -1,0 +1,6 @@
+use Rattle.bus_view.proofs.OneView.{one_answer}
+use Rattle.bus_view.proofs.laws.one_view.Goals as goal
+
+pub returns : goal.returns
+returns c =
+    one_answer record { trees = c.one_reading.ensures.tree; apart = c.one_reading.ensures.apart; faults = c.one_reading.ensures.fault }

@@ -1,0 +1,8 @@
+use Rattle.bus_view.specs.Sentence.{order_sentence}
+use Rattle.bus_view.proofs.Joined.{three}
+use Rattle.bus_view.proofs.sentence.put_order_sentence.Goals as goal
+
+pub returns : goal.returns
+unfolding order_sentence
+returns c =
+    three _ _ _ _ _ _ _ c.in_ok-extend_from_slice.ensures.items c.in_ok-extend_from_slice-2.ensures.items c.in_ok-extend_from_slice-3.ensures.items

@@ -1,0 +1,35 @@
+use Rattle.std.proofs.Common.{refl}
+use Rattle.bus_view.specs.Answer.{viewed}
+use Rattle.bus_view.proofs.Ends.{written, part_written, whole_written, exact_status, few_status, not_six}
+use Rattle.bus_view.proofs.top.view_main.Goals as goal
+
+pub returns-in-Ok-write_whole-clause-answer : goal.returns-in-Ok-write_whole-clause-answer
+returns-in-Ok-write_whole-clause-answer g c = λ which.
+    let asks = (c.in-Some.ensures c.in-Some.form).0 refl in
+    let view = rw c.deref.ensures.value at c.in-Ok-view_of.ensures in
+    let whole = rw c.deref-2.ensures.value at c.in-Ok-write_whole.ensures.ok in
+    written c.args.words.now _ _ _ c.in-Ok.bytes.items c.in-Ok-view_of.view.text.items c.in-Ok-view_of.view.status c.in-Ok.ensures.all (viewed c.in-Some.form asks view) whole
+
+pub returns-in-Ok-write_whole-clause-too_long : goal.returns-in-Ok-write_whole-clause-too_long
+returns-in-Ok-write_whole-clause-too_long g c =
+    not_six _ (g.S.Source.left c.args.source.now) (g.S.Source.left c.read_all.new.source) c.in-Ok-view_of.view.status (few_status _ _ _ _ c.in-Ok-view_of.ensures) c.in-Ok.ensures.long (λ e. cc)
+
+pub returns-in-Ok-write_whole-clause-exact : goal.returns-in-Ok-write_whole-clause-exact
+returns-in-Ok-write_whole-clause-exact g c =
+    let asks = (c.in-Some.ensures c.in-Some.form).0 refl in
+    let view = rw c.deref.ensures.value at c.in-Ok-view_of.ensures in
+    exact_status c.one_view.ensures c.args.words.now _ c.in-Ok.bytes.items c.in-Ok-view_of.view.text.items c.in-Ok-view_of.view.status c.in-Ok.ensures.all (viewed c.in-Some.form asks view)
+
+pub returns-in-Ok-write_whole-clause-complete : goal.returns-in-Ok-write_whole-clause-complete
+returns-in-Ok-write_whole-clause-complete g c = λ reads writes.
+    let asks = (c.in-Some.ensures c.in-Some.form).0 refl in
+    let view = rw c.deref.ensures.value at c.in-Ok-view_of.ensures in
+    let whole = rw c.deref-2.ensures.value at c.in-Ok-write_whole.ensures.ok in
+    whole_written c.one_view.ensures c.args.words.now _ _ _ c.in-Ok.bytes.items c.in-Ok-view_of.view.text.items c.in-Ok-view_of.view.status c.in-Ok.ensures.all (viewed c.in-Some.form asks view) whole
+
+pub returns-clause-part : goal.returns-clause-part
+returns-clause-part g c = λ four.
+    let asks = (c.in-Some.ensures c.in-Some.form).0 refl in
+    let view = rw c.deref.ensures.value at c.in-Ok-view_of.ensures in
+    let start = rw c.deref-2.ensures.value at c.in-Err.ensures.start in
+    part_written c.args.words.now _ _ _ c.in-Ok.bytes.items c.in-Ok-view_of.view.text.items c.in-Ok-view_of.view.status c.in-Ok.ensures.all (viewed c.in-Some.form asks view) start

@@ -1,0 +1,67 @@
+-- What is answered to words and bytes.
+use Rattle.std.specs.Prelude.{◌≡◌, ℕ, List, [], Option, Some, None, String}
+use Rattle.std.specs.Global.{Global}
+use Rattle.quad_lanes.specs.Pairs.{firsts, quads_of}
+use Rattle.phy_packet.specs.declared.packet.PhyPacket.{PhyPacket}
+use Rattle.self_id.specs.declared.standard.Standard.TheVariants.{Ieee2000}
+use Rattle.topology_stack.specs.Tree.{Tree}
+use Rattle.bus_cli.specs.declared.fault.CaptureFault.{CaptureFault}
+use Rattle.bus_cli.specs.Capture.{Spells, CaptureRefused}
+use Rattle.bus_cli.specs.Line.{fault_line}
+use Rattle.view_text.specs.Pairs.{AreShown, pairs_text}
+use Rattle.view_text.specs.Drawing.{IsDrawing}
+use Rattle.view_text.specs.Graph.{graph}
+use Rattle.bus_view.specs.declared.form.ViewForm.{ViewForm}
+use Rattle.bus_view.specs.declared.form.ViewForm.TheVariants.{Packets, Tree as Drawn, Dot}
+use Rattle.bus_view.specs.Form.{Asks, IsForm}
+use Rattle.bus_view.specs.Sentence.{place, note}
+
+-- what a capture is read as: the tree that it spells, or its fault, as `busconf read` has both
+pub data Reading : Type 0 where
+  spelt : Tree → Reading
+  refused : CaptureFault → Reading
+
+abbrev pub IsReading : List ℕ → Reading → Type 0
+IsReading bytes (spelt t) = Spells Ieee2000 bytes t
+IsReading bytes (refused f) = CaptureRefused Ieee2000 bytes f
+
+-- a fault that the bytes have, or none where they spell a tree
+abbrev pub IsFault : List ℕ → Option CaptureFault → Type 0
+IsFault bytes None = (t : Tree) × Spells Ieee2000 bytes t
+IsFault bytes (Some f) = CaptureRefused Ieee2000 bytes f
+
+abbrev pub status_of : Reading → ℕ
+status_of (spelt t) = 0
+status_of (refused f) = 1
+
+-- the text of the pairs of bytes, with the packets that their first quadlets show
+pub record ShowsPackets (bytes : List ℕ) (at : ℕ) (below : List PhyPacket → List ℕ)
+    (text : List ℕ) : Type 0 where
+  pub packets : List PhyPacket
+  pub shown : AreShown (firsts (quads_of bytes)) packets
+  pub text_is : text ≡ pairs_text bytes packets at (below packets)
+
+-- the text of a reading in a form
+abbrev pub HasText : ViewForm → List ℕ → Reading → List ℕ → Type 0
+HasText Packets bytes (spelt t) text = ShowsPackets bytes 0 (λ packets. []) text
+HasText Packets bytes (refused f) text =
+    ShowsPackets bytes (place f) (λ packets. note (quads_of bytes) packets f) text
+HasText Drawn bytes (spelt t) text = IsDrawing t text
+HasText Drawn bytes (refused f) text = text ≡ fault_line f
+HasText Dot bytes (spelt t) text = text ≡ graph t
+HasText Dot bytes (refused f) text = text ≡ fault_line f
+
+-- the status and the text of bytes in a form
+pub record IsView (form : ViewForm) (bytes : List ℕ) (status : ℕ) (text : List ℕ) :
+    Type 0 where
+  pub reading : Reading
+  pub reads : IsReading bytes reading
+  pub status_is : status ≡ status_of reading
+  pub text_is : HasText form bytes reading text
+
+-- the status and the text of words and bytes
+pub data Answers (words : List (String Global)) (bytes : List ℕ) (status : ℕ)
+    (text : List ℕ) : Type 0 where
+  viewed : (form : ViewForm) → Asks words form → IsView form bytes status text →
+      Answers words bytes status text
+  no_form : ¬ IsForm words → status ≡ 2 → text ≡ [] → Answers words bytes status text

@@ -1,0 +1,4 @@
+pub mod Form
+pub mod Sentence
+pub mod Answer
+pub mod OneAnswer

@@ -1,0 +1,117 @@
+//! The answer to the bytes of a capture.
+ghost use Rattle.std.specs.Prelude.{◌≡◌, ◌<◌, ◌^◌, length, IfOk};
+ghost use Rattle.bus_view.specs.declared.form.ViewForm.{ViewForm};
+ghost use Rattle.bus_view.specs.Answer.{IsFault, IsView};
+ghost use Rattle.bus_cli.specs.Line.{fault_line};
+
+use crate::form::ViewForm;
+use crate::sentence::note_of;
+use bus_cli::{CaptureFault, CaptureStop, REFUSED, VALID, fault_line, read_capture};
+use quad_lanes::quads_of;
+use self_id::Standard;
+use std::alloc::Global;
+use topology_stack::{BusTree, OutOfMemory};
+use view_text::{Note, packets_of, pairs_text, tree_drawing, tree_graph};
+
+/// What is written, and the status.
+#[derive(Debug, Drop)]
+pub(crate) struct View {
+    pub(crate) status: u8,
+    pub(crate) text: Vec<u8>,
+}
+
+/// The fault of a capture, if it has one.
+fn fault_of(alloc: Global, bytes: &[u8]) -> Result<Option<CaptureFault>, OutOfMemory>
+    ensures { IfOk result (λ fault. IsFault bytes.now fault) }
+{
+    match read_capture(alloc, Standard::Ieee2000, bytes) {
+        Ok(_) => Ok(None),
+        Err(CaptureStop::Fault(fault)) => Ok(Some(fault)),
+        Err(CaptureStop::Memory(error)) => Err(error),
+    }
+}
+
+/// The view of a capture's packets.
+fn view_packets(alloc: Global, bytes: &[u8]) -> Result<View, OutOfMemory>
+    requires { length bytes.now < 2 ^ 60 }
+    ensures { IfOk result (λ view. IsView ViewForm.Packets bytes.now view.status view.text.items) }
+{
+    let fault = fault_of(alloc, bytes)?;
+    let quads = quads_of(alloc, bytes)?;
+    let packets = packets_of(alloc, quads.as_slice())?;
+    match fault {
+        None => {
+            let none = Note {
+                pair: 0,
+                text: Vec::new(alloc),
+            };
+            let text = pairs_text(alloc, bytes, &packets, &none)?;
+            Ok(View {
+                status: VALID,
+                text,
+            })
+        }
+        Some(fault) => {
+            let note = note_of(alloc, quads.as_slice(), &packets, fault)?;
+            let text = pairs_text(alloc, bytes, &packets, &note)?;
+            Ok(View {
+                status: REFUSED,
+                text,
+            })
+        }
+    }
+}
+
+/// The line of a fault.
+fn line_text(alloc: Global, fault: CaptureFault) -> Result<Vec<u8>, OutOfMemory>
+    ensures { IfOk result (λ text. text.items ≡ fault_line fault) }
+{
+    let line = fault_line(fault);
+    Vec::from_slice(alloc, line.as_bytes())
+}
+
+/// The view of the tree that a capture spells, as a drawing.
+fn view_tree(alloc: Global, bytes: &[u8]) -> Result<View, OutOfMemory>
+    ensures { IfOk result (λ view. IsView ViewForm.Tree bytes.now view.status view.text.items) }
+{
+    match read_capture(alloc, Standard::Ieee2000, bytes) {
+        Ok(tree) => Ok(View {
+            status: VALID,
+            text: tree_drawing(alloc, &tree)?,
+        }),
+        Err(CaptureStop::Fault(fault)) => Ok(View {
+            status: REFUSED,
+            text: line_text(alloc, fault)?,
+        }),
+        Err(CaptureStop::Memory(error)) => Err(error),
+    }
+}
+
+/// The same as a graph.
+fn view_dot(alloc: Global, bytes: &[u8]) -> Result<View, OutOfMemory>
+    ensures { IfOk result (λ view. IsView ViewForm.Dot bytes.now view.status view.text.items) }
+{
+    match read_capture(alloc, Standard::Ieee2000, bytes) {
+        Ok(tree) => Ok(View {
+            status: VALID,
+            text: tree_graph(alloc, &tree)?,
+        }),
+        Err(CaptureStop::Fault(fault)) => Ok(View {
+            status: REFUSED,
+            text: line_text(alloc, fault)?,
+        }),
+        Err(CaptureStop::Memory(error)) => Err(error),
+    }
+}
+
+/// The view of a capture's bytes in a form.
+pub(crate) fn view_of(alloc: Global, form: ViewForm, bytes: &[u8]) -> Result<View, OutOfMemory>
+    requires { length bytes.now < 2 ^ 60 }
+    ensures { IfOk result (λ view. IsView form bytes.now view.status view.text.items) }
+{
+    match form {
+        ViewForm::Packets => view_packets(alloc, bytes),
+        ViewForm::Tree => view_tree(alloc, bytes),
+        ViewForm::Dot => view_dot(alloc, bytes),
+    }
+}

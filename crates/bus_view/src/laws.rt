@@ -1,0 +1,11 @@
+//! Laws of views.
+ghost use Rattle.bus_view.specs.OneAnswer.{NoInputHasTwoViews};
+
+use bus_cli::one_reading;
+
+/// A law: words and bytes have no two answers, and so no two statuses and no two texts.
+pub fn one_view()
+    ensures { NoInputHasTwoViews }
+{
+    one_reading();
+}

@@ -1,0 +1,12 @@
+//! The top call of `busview`: words and the bytes of a capture in, a status and a view out.
+#![tactic(auto)]
+
+mod answer;
+mod form;
+mod laws;
+mod sentence;
+mod top;
+
+pub use form::{VIEW_USAGE, ViewForm};
+pub use laws::one_view;
+pub use top::view_main;

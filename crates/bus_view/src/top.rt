@@ -1,0 +1,87 @@
+//! The top call.
+ghost use Rattle.std.specs.Prelude.{◌≡◌, ◌≢◌, ℕ, ◌≤◌, ◌⊎◌, ◌↔◌, List, length, IfSome};
+ghost use Rattle.std.specs.Io.KnownBytes.{Appends, IsAtEnd};
+ghost use Rattle.io_edges.specs.Faults.{Rose};
+ghost use Rattle.io_edges.specs.Told.{AppendsStart, IfTold, TookOver};
+ghost use Rattle.bus_view.specs.Form.{IsForm};
+ghost use Rattle.bus_view.specs.Answer.{Answers};
+
+use crate::answer::view_of;
+use crate::form::ViewForm;
+use crate::laws::one_view;
+use bus_cli::{MAX_INPUT, NO_FORM, NO_MEMORY, READ_FAULT, TOO_LONG, WRITE_FAULT};
+use io_edges::{ReadStop, Sink, Source, read_all, write_whole};
+use std::alloc::Global;
+
+/// Does what the words after the program's name ask for: reads a capture from `source`, writes the
+/// view of it to `sink`, and answers the exit status, which is one of `bus_cli`.
+///
+/// | status | comes |
+/// |---|---|
+/// | 0 | the capture was read to its end and spells a tree, and its whole view was written |
+/// | 1 | the capture was read to its end and is refused, as `busconf read` refuses it; with `packets` all its pairs were written, with the line of the fault and a sentence on it below the pair at fault, with the other forms the line alone |
+/// | 2 | the words are none of the forms; nothing was read or written |
+/// | 3 | the source failed; nothing was written |
+/// | 4 | the sink failed; the first bytes of the text were written, or none |
+/// | 5 | there was no memory; nothing was written |
+/// | 6 | the input has more than 1,048,576 bytes; nothing was written |
+///
+/// The words are judged first, without memory; then the input is read to its end; then it is judged;
+/// and only then is anything written. What is said of the input holds where the source tells its
+/// bytes.
+pub fn view_main<S: Source, K: Sink>(
+    alloc: Global,
+    words: &[String],
+    source: &mut S,
+    sink: &mut K,
+) -> u8
+    ensures status { result ≤ 6 }
+
+    // What is written whole is the text that answers the words and the bytes.
+    ensures answer { (result ≡ 0) ⊎ (result ≡ 1) → IfSome (S.left source.old) (λ bytes.
+        (text : List ℕ) × Answers words.now bytes result text
+        × Appends (K.written sink.old) (K.written sink.new) text) }
+    ensures end { (result ≡ 0) ⊎ (result ≡ 1) ⊎ (result ≡ 4) → IsAtEnd (S.left source.new) }
+
+    // When each other status comes.
+    ensures no_form { (result ≡ 2) ↔ (¬ IsForm words.now) }
+    ensures read_fault { result ≡ 3 → Rose (S.faults source.old) (S.faults source.new) }
+    ensures write_fault { result ≡ 4 → Rose (K.faults sink.old) (K.faults sink.new) }
+    ensures too_long { IfTold (S.left source.old) (S.left source.new) (λ old new.
+        (result ≡ 6) ↔ TookOver 1048576 old new) }
+
+    // What is left alone, or written in part.
+    ensures unread { result ≡ 2 → source.new ≡ source.old }
+    ensures unwritten { 2 ≤ result → result ≢ 4 → sink.new ≡ sink.old }
+    ensures part { result ≡ 4 → IfSome (S.left source.old) (λ bytes.
+        (status : ℕ) × (text : List ℕ) × Answers words.now bytes status text
+        × AppendsStart (K.written sink.old) (K.written sink.new) text) }
+
+    // The answer to the words and the bytes is given, unless another status has its cause.
+    ensures exact { IfSome (S.left source.old) (λ bytes. (status : ℕ) (text : List ℕ) →
+        Answers words.now bytes status text → (result ≡ status) ⊎ (3 ≤ result)) }
+    ensures complete { ¬ Rose (S.faults source.old) (S.faults source.new) →
+        ¬ Rose (K.faults sink.old) (K.faults sink.new) →
+        IfSome (S.left source.old) (λ bytes. length bytes ≤ 1048576 →
+        (status : ℕ) (text : List ℕ) → Answers words.now bytes status text →
+        ((result ≡ status) × Appends (K.written sink.old) (K.written sink.new) text)
+        ⊎ (result ≡ 5)) }
+{
+    one_view();
+    let Some(form) = ViewForm::of_words(words) else {
+        return NO_FORM;
+    };
+    let bytes = match read_all(alloc, source, MAX_INPUT) {
+        Ok(bytes) => bytes,
+        Err(ReadStop::ReadFault) => return READ_FAULT,
+        Err(ReadStop::TooLong) => return TOO_LONG,
+        Err(ReadStop::Memory(_)) => return NO_MEMORY,
+    };
+    let Ok(view) = view_of(alloc, form, &bytes) else {
+        return NO_MEMORY;
+    };
+    match write_whole(sink, &view.text) {
+        Ok(()) => view.status,
+        Err(_) => WRITE_FAULT,
+    }
+}

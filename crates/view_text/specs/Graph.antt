@@ -1,0 +1,51 @@
+-- The graph of a bus tree in Graphviz's language: a node a node, an edge a cable.
+use Rattle.std.specs.Prelude.{ℕ, ◌+◌, ◌-◌, Option, List, [], ◌∷◌, ◌++◌, length, codes}
+use Rattle.self_id.specs.Node.{Node}
+use Rattle.topology_stack.specs.Tree.{Tree, walk}
+use Rattle.topology_stack.specs.Elect.{elected}
+use Rattle.view_text.specs.declared.cable.Cable.{Cable}
+use Rattle.view_text.specs.Packet.{field}
+use Rattle.view_text.specs.Cable.{cables}
+use Rattle.view_text.specs.Node.{title, link_words, gap_words, speed_word}
+
+-- Graphviz breaks a line of a label at a backslash and an n
+abbrev pub line_break : List ℕ
+line_break = 92 ∷ 110 ∷ []
+
+-- `  nID [label="node ID\nlink ..\ninitiated .."];`
+unfoldable pub graph_label : ℕ → Node → ℕ → Option ℕ → List ℕ
+graph_label id n root irm =
+    title id root irm ++ (line_break ++ (link_words n.attrs ++ (line_break ++ gap_words n.attrs)))
+
+unfoldable pub graph_node : ℕ → Node → ℕ → Option ℕ → List ℕ
+graph_node id n root irm =
+    field (codes "  n") id
+    ++ (codes " [label=\"" ++ (graph_label id n root irm ++ codes "\"];\n"))
+
+abbrev pub graph_nodes : ℕ → List Node → ℕ → Option ℕ → List ℕ
+graph_nodes id [] root irm = []
+graph_nodes id (n ∷ ns) root irm = graph_node id n root irm ++ graph_nodes (id + 1) ns root irm
+
+-- `  nPARENT -- nCHILD [label="SPEED", taillabel="PORT", headlabel="PORT"];`
+unfoldable pub edge_ends : Cable → List ℕ
+edge_ends c = field (codes "  n") c.parent ++ field (codes " -- n") c.child
+
+unfoldable pub edge_ports : Cable → List ℕ
+edge_ports c =
+    field (codes "\", taillabel=\"") c.port
+    ++ (field (codes "\", headlabel=\"") c.child_port ++ codes "\"];\n")
+
+abbrev pub graph_edge : Cable → List ℕ
+graph_edge c =
+    edge_ends c ++ (codes " [label=\"" ++ (speed_word c.speed ++ edge_ports c))
+
+abbrev pub graph_edges : List Cable → List ℕ
+graph_edges [] = []
+graph_edges (c ∷ cs) = graph_edge c ++ graph_edges cs
+
+-- the nodes by rising ID, and then the cables
+abbrev pub graph : Tree → List ℕ
+graph t =
+    codes "graph bus {\n  node [shape=box];\n"
+    ++ (graph_nodes 0 (walk t) (length (walk t) - 1) (elected t)
+    ++ (graph_edges (cables t) ++ codes "}\n"))

@@ -1,0 +1,6 @@
+pub mod Packet
+pub mod Pairs
+pub mod Cable
+pub mod Node
+pub mod Drawing
+pub mod Graph

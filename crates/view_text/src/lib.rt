@@ -1,0 +1,20 @@
+//! Texts that show a bus: its PHY packets field by field, the drawing of its tree, and its graph.
+#![tactic(auto)]
+
+mod cable;
+mod drawing;
+mod gaps;
+mod graph;
+mod laws;
+mod node;
+mod packet;
+mod pairs;
+mod words;
+
+pub use cable::{Cable, cables};
+pub use drawing::tree_drawing;
+pub use graph::tree_graph;
+pub use laws::each_node_hangs_on_one_cable;
+pub use packet::put_packet;
+pub use pairs::{Note, packets_of, pairs_text};
+pub use words::put_field;
