@@ -127,7 +127,8 @@ fn put_node(
 ) -> Result<(), OutOfMemory>
     requires { id < length (walk tree.now) }
     ensures { OnOk result (out.new.items ≡ out.old.items
-        ++ node_line cables.now id (slice_get (walk tree.now) id) (length (walk tree.now) - 1) irm) }
+        ++ node_line cables.now id (slice_get (walk tree.now) id)
+        (length (walk tree.now) - 1) irm) }
 {
     put_branch(out, cables, id)?;
     put_node_words(out, id, tree.node(id), tree.root(), irm)?;

@@ -66,7 +66,8 @@ fn put_pair(
 
 /// Appends the note where it stands below this pair.
 fn put_below(out: &mut Vec<u8>, number: usize, note: &Note) -> Result<(), OutOfMemory>
-    ensures { OnOk result (out.new.items ≡ out.old.items ++ below number note.now.pair note.now.text.items) }
+    ensures { OnOk result (out.new.items
+        ≡ out.old.items ++ below number note.now.pair note.now.text.items) }
 {
     if number == note.pair {
         out.extend_from_slice(&note.text)?;
@@ -101,7 +102,8 @@ fn put_bytes(out: &mut Vec<u8>, bytes: &[u8]) -> Result<(), OutOfMemory>
 
 /// Appends the note where no pair that it stands below is whole.
 fn put_at_end(out: &mut Vec<u8>, count: usize, note: &Note) -> Result<(), OutOfMemory>
-    ensures { OnOk result (out.new.items ≡ out.old.items ++ at_end count note.now.pair note.now.text.items) }
+    ensures { OnOk result (out.new.items
+        ≡ out.old.items ++ at_end count note.now.pair note.now.text.items) }
 {
     if count <= note.pair {
         out.extend_from_slice(&note.text)?;
@@ -136,8 +138,8 @@ fn put_lines(
 }
 
 /// The text of a capture's bytes: a line for each pair with its packet field by field, and one for
-/// the bytes behind the last whole pair; and the note below its pair, or at the end where there is no
-/// such pair. `packets` are those of the pairs' first quadlets.
+/// the bytes behind the last whole pair; and the note below its pair, or at the end where there is
+/// no such pair. `packets` are those of the pairs' first quadlets.
 pub fn pairs_text(
     alloc: Global,
     bytes: &[u8],
