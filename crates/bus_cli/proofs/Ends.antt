@@ -22,20 +22,6 @@ use Rattle.script_told.specs.EachReport.{EachReportIsSettled, ReportsAreSettled}
 use Rattle.script_text.specs.Summary.{summary}
 use Rattle.bus_cli.proofs.Forms.{one_form}
 
--- the start of the answer to the bytes that were told was written
-pub part_written : (words : List (String Global)) (left old new : Option (List ℕ)) (read text : List ℕ) (status : ℕ) → IfSome left (λ bytes. read ≡ bytes) → Answers words read status text → AppendsStart old new text →
-    IfSome left (λ bytes. (s : ℕ) × (x : List ℕ) × Answers words bytes s x × AppendsStart old new x)
-part_written words None old new read text status all answers start = tt
-part_written words (Some bytes) old new read text status all answers start = (status, text, subst (λ (b : List ℕ). Answers words b status text) all answers, start)
-
--- the whole answer to the bytes that were told was written
-pub whole_written : NoInputHasTwoAnswers → (words : List (String Global)) (left old new : Option (List ℕ)) (read text : List ℕ) (status : ℕ) → IfSome left (λ bytes. read ≡ bytes) → Answers words read status text → Appends old new text →
-    IfSome left (λ bytes. length bytes ≤ 1048576 → (s : ℕ) (x : List ℕ) → Answers words bytes s x → ((status ≡ s) × Appends old new x) ⊎ (status ≡ 5))
-whole_written one words None old new read text status all answers whole = tt
-whole_written one words (Some bytes) old new read text status all answers whole = λ few s x is.
-    let same = one words bytes status s text x (subst (λ (b : List ℕ). Answers words b status text) all answers) is in
-    inl (same.0, subst (Appends old new) same.1 whole)
-
 -- what holds where the text is taken holds where the answer is
 pub taken_surely : NoInputHasTwoAnswers → (words : List (String Global)) (left : Option (List ℕ)) (read text : List ℕ) (status : ℕ) (takes : ℕ → Type 0) (same : Type 0) → IfSome left (λ bytes. read ≡ bytes) → Answers words read status text →
     (takes (length text) → same) → IfSome left (λ bytes. (s : ℕ) (x : List ℕ) → Answers words bytes s x → takes (length x) → same)
@@ -43,13 +29,6 @@ taken_surely one words None read text status takes same all answers go = tt
 taken_surely one words (Some bytes) read text status takes same all answers go = λ s x is sure.
     let one_text = (one words bytes status s text x (subst (λ (b : List ℕ). Answers words b status text) all answers) is).1 in
     go (subst (λ (t : List ℕ). takes (length t)) (sym one_text) sure)
-
--- the answer to the bytes that were told is given, or a later status
-pub exact_status : NoInputHasTwoAnswers → (words : List (String Global)) (left : Option (List ℕ)) (read text : List ℕ) (status : ℕ) → IfSome left (λ bytes. read ≡ bytes) → Answers words read status text →
-    IfSome left (λ bytes. (s : ℕ) (x : List ℕ) → Answers words bytes s x → (status ≡ s) ⊎ (3 ≤ status))
-exact_status one words None read text status all answers = tt
-exact_status one words (Some bytes) read text status all answers = λ s x is.
-    inl (one words bytes status s text x (subst (λ (b : List ℕ). Answers words b status text) all answers) is).0
 
 -- what answers a stop answers the reading that stopped
 pub stopped : (form : CaptureForm) (reading : Result Tree CaptureStop) (stop : CaptureStop) (r : Result Answer AllocError) → reading ≡ Err stop →
@@ -69,17 +48,8 @@ no_form_answer words bytes (advised r) text none has is = absurd (none (Advice, 
 no_form_answer words bytes (made r) text none has is = absurd (none (Make has.nodes has.seed, has.asks))
 no_form_answer words bytes no_form text none has is = (refl, is)
 
--- where no form was asked for, the answer is that
-pub no_form_exact : (words : List (String Global)) (left : Option (List ℕ)) → (IsForm words → ⊥) → IfSome left (λ bytes. (s : ℕ) (x : List ℕ) → Answers words bytes s x → (2 ≡ s) ⊎ (3 ≤ 2))
-no_form_exact words None none = tt
-no_form_exact words (Some bytes) none = λ s x is. let a = no_form_answer words bytes is.outcome x none is.has is.text_is in inl (a.0 ∙ sym is.status_is)
-
--- where no form was asked for, nothing is what is written
-pub no_form_complete : (words : List (String Global)) (left old : Option (List ℕ)) → (IsForm words → ⊥) → IfSome left (λ bytes. length bytes ≤ 1048576 → (s : ℕ) (x : List ℕ) → Answers words bytes s x → ((2 ≡ s) × Appends old old x) ⊎ (◌≡◌ {A = ℕ} 2 5))
-no_form_complete words None old none = tt
-no_form_complete words (Some bytes) old none = λ few s x is.
-    let a = no_form_answer words bytes is.outcome x none is.has is.text_is in
-    inl (a.0 ∙ sym is.status_is, subst (Appends old old) (sym a.1) (Appends-nil old))
+pub no_form_answers : (words : List (String Global)) → (IsForm words → ⊥) → (bytes : List ℕ) (s : ℕ) (x : List ℕ) → Answers words bytes s x → (2 ≡ s) × (x ≡ [])
+no_form_answers words none bytes s x is = let a = no_form_answer words bytes is.outcome x none is.has is.text_is in (a.0 ∙ sym is.status_is, a.1)
 
 -- ---- `make` and `run`
 

@@ -20,40 +20,10 @@ pub written : (words : List (String Global)) (left old new : Option (List ℕ)) 
 written words None old new read text status all answers whole = tt
 written words (Some bytes) old new read text status all answers whole = (text, told words read bytes text status all answers, whole)
 
--- the start of the answer was written
-pub part_written : (words : List (String Global)) (left old new : Option (List ℕ)) (read text : List ℕ) (status : ℕ) → IfSome left (λ bytes. read ≡ bytes) → Answers words read status text → AppendsStart old new text →
-    IfSome left (λ bytes. (s : ℕ) × (x : List ℕ) × Answers words bytes s x × AppendsStart old new x)
-part_written words None old new read text status all answers start = tt
-part_written words (Some bytes) old new read text status all answers start = (status, text, told words read bytes text status all answers, start)
-
--- no other answer is the whole one
-pub whole_written : NoInputHasTwoViews → (words : List (String Global)) (left old new : Option (List ℕ)) (read text : List ℕ) (status : ℕ) → IfSome left (λ bytes. read ≡ bytes) → Answers words read status text → Appends old new text →
-    IfSome left (λ bytes. length bytes ≤ 1048576 → (s : ℕ) (x : List ℕ) → Answers words bytes s x → ((status ≡ s) × Appends old new x) ⊎ (status ≡ 5))
-whole_written one words None old new read text status all answers whole = tt
-whole_written one words (Some bytes) old new read text status all answers whole = λ few s x is.
-    let same = one words bytes status s text x (told words read bytes text status all answers) is in
-    inl (same.0, subst (Appends old new) same.1 whole)
-
-pub exact_status : NoInputHasTwoViews → (words : List (String Global)) (left : Option (List ℕ)) (read text : List ℕ) (status : ℕ) → IfSome left (λ bytes. read ≡ bytes) → Answers words read status text →
-    IfSome left (λ bytes. (s : ℕ) (x : List ℕ) → Answers words bytes s x → (status ≡ s) ⊎ (3 ≤ status))
-exact_status one words None read text status all answers = tt
-exact_status one words (Some bytes) read text status all answers = λ s x is.
-    inl (one words bytes status s text x (told words read bytes text status all answers) is).0
-
 -- words that are no form answer 2 and nothing
-no_form_answer : (words : List (String Global)) (bytes text : List ℕ) (status : ℕ) → (IsForm words → ⊥) → Answers words bytes status text → (2 ≡ status) × (text ≡ [])
-no_form_answer words bytes text status none (viewed form asks x) = absurd (none (form, asks))
-no_form_answer words bytes text status none (no_form no_one is empty) = (sym is, empty)
-
-pub no_form_exact : (words : List (String Global)) (left : Option (List ℕ)) → (IsForm words → ⊥) → IfSome left (λ bytes. (s : ℕ) (x : List ℕ) → Answers words bytes s x → (2 ≡ s) ⊎ (3 ≤ 2))
-no_form_exact words None none = tt
-no_form_exact words (Some bytes) none = λ s x is. inl (no_form_answer words bytes x s none is).0
-
-pub no_form_complete : (words : List (String Global)) (left old : Option (List ℕ)) → (IsForm words → ⊥) → IfSome left (λ bytes. length bytes ≤ 1048576 → (s : ℕ) (x : List ℕ) → Answers words bytes s x → ((2 ≡ s) × Appends old old x) ⊎ (◌≡◌ {A = ℕ} 2 5))
-no_form_complete words None old none = tt
-no_form_complete words (Some bytes) old none = λ few s x is.
-    let a = no_form_answer words bytes x s none is in
-    inl (a.0, subst (Appends old old) (sym a.1) (Appends-nil old))
+pub no_form_answers : (words : List (String Global)) → (IsForm words → ⊥) → (bytes : List ℕ) (status : ℕ) (text : List ℕ) → Answers words bytes status text → (2 ≡ status) × (text ≡ [])
+no_form_answers words none bytes status text (viewed form asks x) = absurd (none (form, asks))
+no_form_answers words none bytes status text (no_form no_one is empty) = (sym is, empty)
 
 -- ---- the status of a view
 

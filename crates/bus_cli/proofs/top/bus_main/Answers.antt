@@ -2,7 +2,9 @@ use Rattle.std.proofs.Common.{◌≡◌, ◌∙◌, refl, sym, ap, Err}
 use Rattle.bus_cli.specs.declared.form.Form.TheVariants.{Capture}
 use Rattle.bus_cli.specs.declared.form.CaptureForm.TheVariants.{Read}
 use Rattle.bus_cli.proofs.Forms.{few_nodes, is_unread}
-use Rattle.bus_cli.proofs.Ends.{all_settled, or_else, part_written, whole_written, taken_surely, advice_written, exact_status, no_form_exact, no_form_complete}
+use Rattle.bus_cli.specs.Answer.{Answers}
+use Rattle.bus_cli.proofs.Answering.{part_written, whole_written, exact_status, no_form_exact, no_form_complete}
+use Rattle.bus_cli.proofs.Ends.{all_settled, or_else, taken_surely, advice_written, no_form_answers}
 use Rattle.bus_cli.proofs.top.bus_main.Goals as goal
 
 pub returns-in-Err-Memory-clause-memory : goal.returns-in-Err-Memory-clause-memory
@@ -44,18 +46,18 @@ returns-in-Err-TooLong-clause-unfailing g c = λ make.
     absurd cc
 
 pub returns-in_default-clause-exact : goal.returns-in_default-clause-exact
-returns-in_default-clause-exact g c = no_form_exact c.args.words.now (g.S.Source.left c.args.source.now) (λ is. absurd (let e = (c.in_default.ensures is.0).1 is.1 in cc))
+returns-in_default-clause-exact g c = no_form_exact (Answers c.args.words.now) (g.S.Source.left c.args.source.now) (no_form_answers c.args.words.now (λ is. absurd (let e = (c.in_default.ensures is.0).1 is.1 in cc)))
 
 pub returns-in_default-clause-complete : goal.returns-in_default-clause-complete
 returns-in_default-clause-complete g c = λ reads writes.
-    no_form_complete c.args.words.now (g.S.Source.left c.args.source.now) (g.K.Sink.written c.args.sink.now) (λ is. absurd (let e = (c.in_default.ensures is.0).1 is.1 in cc))
+    no_form_complete (Answers c.args.words.now) (g.S.Source.left c.args.source.now) (g.K.Sink.written c.args.sink.now) (no_form_answers c.args.words.now (λ is. absurd (let e = (c.in_default.ensures is.0).1 is.1 in cc)))
 
 pub returns-in-Ok-write_whole-clause-exact : goal.returns-in-Ok-write_whole-clause-exact
 returns-in-Ok-write_whole-clause-exact g c =
     let told = c.in-Ok.ensures.answer in
     let asks = (c.in-Some.ensures c.in-Some.form).0 refl in
     let answers = told.1.1 c.args.words.now asks in
-    rw c.status.ensures (exact_status c.one_outcome.ensures.answer _ _ _ _ _ told.1.0 answers)
+    rw c.status.ensures (exact_status (Answers c.args.words.now) (c.one_outcome.ensures.answer c.args.words.now) _ _ _ _ told.1.0 answers)
 
 pub returns-in-Ok-write_whole-clause-complete : goal.returns-in-Ok-write_whole-clause-complete
 returns-in-Ok-write_whole-clause-complete g c = λ reads writes.
@@ -63,7 +65,7 @@ returns-in-Ok-write_whole-clause-complete g c = λ reads writes.
     let asks = (c.in-Some.ensures c.in-Some.form).0 refl in
     let answers = told.1.1 c.args.words.now asks in
     let written = rw c.text.ensures at c.in-Ok-write_whole.ensures.ok in
-    rw c.status.ensures (whole_written c.one_outcome.ensures.answer _ _ _ _ _ _ _ told.1.0 answers written)
+    rw c.status.ensures (whole_written (Answers c.args.words.now) (c.one_outcome.ensures.answer c.args.words.now) _ _ _ _ _ _ told.1.0 answers written)
 
 pub returns-in-Ok-write_whole-clause-sure : goal.returns-in-Ok-write_whole-clause-sure
 returns-in-Ok-write_whole-clause-sure g c =
@@ -78,7 +80,7 @@ returns-clause-part g c = λ four.
     let told = c.in-Ok.ensures.answer in
     let asks = (c.in-Some.ensures c.in-Some.form).0 refl in
     let answers = told.1.1 c.args.words.now asks in
-    part_written _ _ _ _ _ _ _ told.1.0 answers (rw c.text.ensures at c.in-Err.ensures.start)
+    part_written (Answers c.args.words.now) _ _ _ _ _ _ told.1.0 answers (rw c.text.ensures at c.in-Err.ensures.start)
 
 pub returns-clause-sure : goal.returns-clause-sure
 returns-clause-sure g c =

@@ -1,6 +1,7 @@
 use Rattle.std.proofs.Common.{refl}
-use Rattle.bus_view.specs.Answer.{viewed}
-use Rattle.bus_view.proofs.Ends.{written, part_written, whole_written, exact_status, few_status, not_six}
+use Rattle.bus_view.specs.Answer.{Answers, viewed}
+use Rattle.bus_cli.proofs.Answering.{part_written, whole_written, exact_status}
+use Rattle.bus_view.proofs.Ends.{written, few_status, not_six}
 use Rattle.bus_view.proofs.top.view_main.Goals as goal
 
 pub returns-in-Ok-write_whole-clause-answer : goal.returns-in-Ok-write_whole-clause-answer
@@ -18,18 +19,18 @@ pub returns-in-Ok-write_whole-clause-exact : goal.returns-in-Ok-write_whole-clau
 returns-in-Ok-write_whole-clause-exact g c =
     let asks = (c.in-Some.ensures c.in-Some.form).0 refl in
     let view = rw c.deref.ensures.value at c.in-Ok-view_of.ensures in
-    exact_status c.one_view.ensures c.args.words.now _ c.in-Ok.bytes.items c.in-Ok-view_of.view.text.items c.in-Ok-view_of.view.status c.in-Ok.ensures.all (viewed c.in-Some.form asks view)
+    exact_status (Answers c.args.words.now) (c.one_view.ensures c.args.words.now) _ c.in-Ok.bytes.items c.in-Ok-view_of.view.text.items c.in-Ok-view_of.view.status c.in-Ok.ensures.all (viewed c.in-Some.form asks view)
 
 pub returns-in-Ok-write_whole-clause-complete : goal.returns-in-Ok-write_whole-clause-complete
 returns-in-Ok-write_whole-clause-complete g c = λ reads writes.
     let asks = (c.in-Some.ensures c.in-Some.form).0 refl in
     let view = rw c.deref.ensures.value at c.in-Ok-view_of.ensures in
     let whole = rw c.deref-2.ensures.value at c.in-Ok-write_whole.ensures.ok in
-    whole_written c.one_view.ensures c.args.words.now _ _ _ c.in-Ok.bytes.items c.in-Ok-view_of.view.text.items c.in-Ok-view_of.view.status c.in-Ok.ensures.all (viewed c.in-Some.form asks view) whole
+    whole_written (Answers c.args.words.now) (c.one_view.ensures c.args.words.now) _ _ _ c.in-Ok.bytes.items c.in-Ok-view_of.view.text.items c.in-Ok-view_of.view.status c.in-Ok.ensures.all (viewed c.in-Some.form asks view) whole
 
 pub returns-clause-part : goal.returns-clause-part
 returns-clause-part g c = λ four.
     let asks = (c.in-Some.ensures c.in-Some.form).0 refl in
     let view = rw c.deref.ensures.value at c.in-Ok-view_of.ensures in
     let start = rw c.deref-2.ensures.value at c.in-Err.ensures.start in
-    part_written c.args.words.now _ _ _ c.in-Ok.bytes.items c.in-Ok-view_of.view.text.items c.in-Ok-view_of.view.status c.in-Ok.ensures.all (viewed c.in-Some.form asks view) start
+    part_written (Answers c.args.words.now) _ _ _ c.in-Ok.bytes.items c.in-Ok-view_of.view.text.items c.in-Ok-view_of.view.status c.in-Ok.ensures.all (viewed c.in-Some.form asks view) start
