@@ -94,7 +94,8 @@ impl<W: WorldRun> Bus<W> {
 }
 
 impl<W: WorldRun + Drop> Bus<W> {
-    /// The advice on a bus that has settled, and the report once the advised cables are pulled.
+    /// The advice on a bus that has settled, and the report once the advised cables are pulled. The
+    /// faults are those of `settle`.
     pub fn advised(mut self, alloc: Global) -> Result<Vec<u8>, LineStop>
         requires sound { IsSound W.world W.is_spent self }
         requires settled { IsSomeAnd self.notes.report (IsReport (W.world self.world)) }

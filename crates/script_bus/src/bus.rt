@@ -189,7 +189,8 @@ impl<W: WorldRun> Bus<W> {
         Ok(Vec::new(alloc))
     }
 
-    /// Settles and reports.
+    /// Does the quiet turns, and answers the text of the report, whose number is the next one.
+    /// `TooManyTurns` comes where they would pass 2,000,000 turns.
     pub fn settle(&mut self, alloc: Global) -> Result<Vec<u8>, LineStop>
         requires sound { IsSound W.world W.is_spent self.old }
         ensures done { IfOk result (λ text. Settles (bus_now W.world self.old)
@@ -209,7 +210,7 @@ impl<W: WorldRun> Bus<W> {
 }
 
 impl<W: WorldRun + Drop> Bus<W> {
-    /// Settles and reports for the last time.
+    /// Settles and reports, as `settle` does, for the last time.
     pub fn last_report(mut self, alloc: Global) -> Result<Vec<u8>, LineStop>
         requires sound { IsSound W.world W.is_spent self }
         ensures done { IfOk result (λ text. (after : shown.Bus)

@@ -209,7 +209,9 @@ impl<W: WorldRun> Bus<W> {
         }
     }
 
-    /// What a command does. Its numbers are in range.
+    /// Does a command, whose numbers are in range where a cable delays by at most `d` turns, and
+    /// answers what it prints. A command that is at fault leaves no bus to go on with; `node` and
+    /// `delay` are `Late`.
     pub fn command(&mut self, alloc: Global, d: u8, command: &Command) -> Result<Vec<u8>, LineStop>
         requires sound { IsSound W.world W.is_spent self.old }
         requires range { IsInRange d command.now }

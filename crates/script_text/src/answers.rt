@@ -9,7 +9,9 @@ use resource_manager::{Answer, GrantFault};
 use std::alloc::Global;
 use topology_stack::{Name, OutOfMemory, put_hex};
 
-/// The text of an answer to a read, a write or a lock.
+/// The line of an answer to a read, a write or a lock that the node with a name asked for: `csr NAME
+/// rcode R value V`, with the code and the value of the reply. It is empty where the answer is no
+/// reply.
 pub fn csr_text(alloc: Global, name: &Name, answer: Answer) -> Result<Vec<u8>, OutOfMemory>
     ensures { IfOk result (λ text. text.items ≡ csr_text name.now answer) }
 {
@@ -54,7 +56,9 @@ fn put_grant(out: &mut Vec<u8>, answer: Answer) -> Result<(), OutOfMemory>
     Ok(())
 }
 
-/// The text of an answer to an allocation or a release, behind its word.
+/// The line of an answer to an allocation or a release that the node with a name asked for. `word` is
+/// `allocate ` or `release `; behind it and the name stands `done`, why nothing was granted, or which
+/// register changed meanwhile.
 pub fn grant_text(
     alloc: Global,
     word: &[u8],
@@ -83,7 +87,8 @@ fn put_bid(out: &mut Vec<u8>, found: u32) -> Result<(), OutOfMemory>
     Ok(())
 }
 
-/// The text of an attempt to become bus manager, which found a value in the register.
+/// The line of an attempt of the node with a name to become bus manager: `manager NAME won` where it
+/// found 63 in the register, and else `manager NAME lost ID` with the ID that it found.
 pub fn bid_text(alloc: Global, name: &Name, found: u32) -> Result<Vec<u8>, OutOfMemory>
     ensures { IfOk result (λ text. text.items ≡ bid_text name.now (Replied (complete found))) }
 {

@@ -26,7 +26,7 @@ fn put_quads(out: &mut Vec<u8>, quads: &[u32]) -> Result<(), OutOfMemory>
     Ok(())
 }
 
-/// The topology map and the speed map of a tree with this generation, as images in eight
+/// The topology map and the speed map of a tree with this generation number, as images in eight
 /// hexadecimal digits a quadlet, a quadlet a line, each behind a line that names it.
 pub fn maps_text(alloc: Global, tree: &BusTree, generation: u32) -> Result<Vec<u8>, OutOfMemory>
     ensures { IfOk result (λ text. IsMapsText generation tree.now text.items) }

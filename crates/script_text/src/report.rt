@@ -14,7 +14,7 @@ use topology_stack::{
     BusTree, Name, NameList, OutOfMemory, TreeStop, one_tree, put_number, read_tree, tree_text,
 };
 
-/// Appends a word and a number.
+/// Appends a word and a number in decimal digits.
 #[tactic(auto, unfolding(crate::specs::ReportText::numbered))]
 pub fn put_numbered(out: &mut Vec<u8>, word: &[u8], n: u64) -> Result<(), OutOfMemory>
     ensures { OnOk result (out.new.items ≡ out.old.items ++ numbered word.now n) }
@@ -23,7 +23,7 @@ pub fn put_numbered(out: &mut Vec<u8>, word: &[u8], n: u64) -> Result<(), OutOfM
     put_number(out, n)
 }
 
-/// Appends a space and the name of a node.
+/// Appends a space and the name of a node. `names` has the name of each node by its number.
 #[tactic(auto, unfolding(crate::specs::ReportText::spaced))]
 pub fn put_name(out: &mut Vec<u8>, names: &[Name], node: u8) -> Result<(), OutOfMemory>
     requires { node < length names.now }
@@ -46,7 +46,8 @@ fn put_held(out: &mut Vec<u8>, names: &[Name], set: NodeSet, node: u8) -> Result
     Ok(())
 }
 
-/// Appends the names of the nodes of a set.
+/// Appends a space and a name for each node of a set, by rising number. `names` has the name of each
+/// node by its number.
 pub fn put_names(out: &mut Vec<u8>, names: &[Name], set: NodeSet) -> Result<(), OutOfMemory>
     requires { AreNamed names.now set }
     ensures { OnOk result (out.new.items ≡ out.old.items ++ all_spaced names.now set) }
@@ -152,7 +153,7 @@ fn names_in(alloc: Global, names: &[Name], order: &[u8]) -> Result<NameList, Out
     Ok(list)
 }
 
-/// The bus tree that emits a list, where there is one.
+/// The bus tree that emits a list. Some tree does.
 pub fn tree_of(alloc: Global, list: &[u32]) -> Result<BusTree, OutOfMemory>
     requires { (tree : Tree) × IsBusTreeOf Ieee2000 tree × (emits tree ≡ list.now) }
     ensures tree { IfOk result (λ tree. IsBusTreeOf Ieee2000 tree × (emits tree ≡ list.now)) }
