@@ -29,11 +29,7 @@ fn packets_of(alloc: Global, bytes: &[u8]) -> Result<QuadList, CaptureStop>
 /// The bus tree of a standard that the bytes of a capture spell, or the fault that they have by it, as
 /// `read`, `read95` and `maps` refuse them. `one_reading` says that there is one of the two, and never
 /// a second.
-pub fn read_capture(
-    alloc: Global,
-    standard: Standard,
-    bytes: &[u8],
-) -> Result<BusTree, CaptureStop>
+pub fn read_capture(alloc: Global, standard: Standard, bytes: &[u8]) -> Result<BusTree, CaptureStop>
     ensures tree { IfOk result (λ t. Spells standard bytes.now t) }
     ensures fault { IfFault result (λ f. CaptureRefused standard bytes.now f) }
 {
