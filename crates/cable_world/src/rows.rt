@@ -8,7 +8,7 @@ ghost use Rattle.cable_world.specs.Still.{IsSilent, hold_less};
 ghost use Rattle.cable_world.specs.codings.Ages.{AreYoung};
 ghost use Rattle.cable_world.specs.codings.Rest.{AreAtRest, AreNone};
 
-use crate::wire::{Arrivals, Wire};
+use crate::wire::{Arrivals, Travelling, Wire};
 use cabling::OutOfMemory;
 use port_state::Signal;
 use std::alloc::Global;
@@ -192,6 +192,16 @@ impl WireRow {
         }
         self.in_use = !are_at_rest(&self.wires);
         Ok(())
+    }
+
+    /// What is under way on the wire of a port, the oldest first; nothing where the port doesn't exist.
+    pub fn under_way(&self, port: u8) -> &[Travelling]
+        ensures { result.now ≡ (slice_index_or self.now port empty_wire).signals }
+    {
+        match self.wires.get(port as usize) {
+            None => &[],
+            Some(wire) => wire.signals(),
+        }
     }
 
     /// Whether nothing is under way on the wires.

@@ -1,7 +1,7 @@
 //! What every world does.
 ghost use Rattle.std.specs.Prelude.{◌≡◌, ◌+◌, ◌<◌, ◌≤◌, ◌↔◌, Bool, Some, None, length, slice_get, IsTrue, IsFalse, IsErr, IsSomeAnd, OnOk};
 ghost use Rattle.port_state.specs.Group.{shown_attrs};
-ghost use Rattle.cable_world.specs.World.{CableWorld};
+ghost use Rattle.cable_world.specs.World.{CableWorld, wire_of};
 ghost use Rattle.cable_world.specs.Turn.{turn, turns_after};
 ghost use Rattle.cable_world.specs.Act.{ActLeads, IsAct, act_fault, hold, hold_fault};
 ghost use Rattle.cable_world.specs.Run.{IsReached};
@@ -10,6 +10,7 @@ ghost use Rattle.cable_world.specs.Unchanged.{TurnsPass};
 ghost use Rattle.cable_world.specs.Answer.{IfFault, IsMemory};
 
 use crate::act::{Act, ActStop};
+use crate::wire::Travelling;
 use cabling::{Cabling, End, OutOfMemory};
 use port_state::View;
 use self_id::Attrs;
@@ -113,6 +114,11 @@ pub trait WorldRun {
     fn changed(&self, node: u8) -> u32
         requires { node < length (world self.now).nodes }
         ensures { slice_get (world self.now).changed node ≡ Some result };
+
+    /// What is under way on the wire that leaves an end, the oldest first, each with the number of
+    /// turns for which it has been. Nothing is where there is no such end, or no cable at it.
+    fn under_way(&self, end: End) -> &[Travelling]
+        ensures { result.now ≡ (wire_of (world self.now) end).signals };
 
     /// Whether a call found no memory.
     fn spent(&self) -> bool

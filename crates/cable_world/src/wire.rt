@@ -166,6 +166,13 @@ impl Wire {
         Ok(())
     }
 
+    /// What is under way, the oldest first.
+    pub fn signals(&self) -> &[Travelling]
+        ensures { result.now ≡ self.now.signals }
+    {
+        self.signals.as_slice()
+    }
+
     /// Whether nothing is under way.
     pub fn is_silent(&self) -> bool
         ensures { IsTrue result ↔ IsSilent self.now }

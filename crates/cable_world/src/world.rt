@@ -13,6 +13,7 @@ use crate::rows::{ArrivalRow, WireRow};
 use crate::run::{PassesTurns, WorldRun};
 use crate::start::{arrival_rows, no_changes, port_counts, wire_rows};
 use crate::still::{all_idle_for, all_silent, pass_all, pass_wires};
+use crate::wire::Travelling;
 use arrayvec::ArrayVec;
 use cabling::{CableFault, Cabling, End, OutOfMemory};
 use port_state::{PortMachine, Sends, View};
@@ -175,6 +176,13 @@ impl<M: PortMachine> WorldRun for World<M> {
 
     fn changed(&self, node: u8) -> u32 {
         self.changed[node as usize]
+    }
+
+    fn under_way(&self, end: End) -> &[Travelling] {
+        match self.wires.get(end.node as usize) {
+            None => &[],
+            Some(row) => row.under_way(end.port),
+        }
     }
 
     fn spent(&self) -> bool {

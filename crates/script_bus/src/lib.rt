@@ -1,5 +1,5 @@
-//! The bus of a script: acts, turns and reports, questions to the manager of a tree, plans, and the
-//! cables that are pulled by an advice.
+//! The bus of a script: acts, turns and reports, questions to the manager of a tree, plans, the cables
+//! that are pulled by an advice, and commands that are traced.
 //!
 //! What each command does stands in `script_told`, and what is printed in `script_text`. `script_run`
 //! goes from line to line.
@@ -12,6 +12,7 @@ mod managed;
 mod planned;
 mod steps;
 mod table;
+mod traced;
 
 pub use bank::Bank;
 pub use bus::{Bus, Notes};

@@ -28,9 +28,9 @@ use topology_stack::{BusTree, Name, OutOfMemory, one_tree};
 
 /// A plan and its line.
 #[derive(Drop)]
-struct Planned {
-    plan: RootPlan,
-    line: Vec<u8>,
+pub(crate) struct Planned {
+    pub plan: RootPlan,
+    pub line: Vec<u8>,
 }
 
 /// The plan for a tree, in which some node is elected.
@@ -46,7 +46,7 @@ fn chosen(tree: &BusTree) -> RootPlan
 
 impl<W: WorldRun> Bus<W> {
     /// Fails where the node that asks isn't the bus manager of its tree.
-    fn check_bus_manager(&self, asked: Asked) -> Result<(), LineStop>
+    pub(crate) fn check_bus_manager(&self, asked: Asked) -> Result<(), LineStop>
         requires sound { IsSound W.world W.is_spent self.now }
         requires manager { asked.manager < length (W.world self.now.world).nodes }
         ensures is { OnOk result
@@ -64,7 +64,7 @@ impl<W: WorldRun> Bus<W> {
     }
 
     /// Fails where the quiet turns pass the limit.
-    fn check_quiet_turns(&self) -> Result<(), LineStop>
+    pub(crate) fn check_quiet_turns(&self) -> Result<(), LineStop>
         requires { IsSound W.world W.is_spent self.now }
         ensures within { OnOk result (nat_lt 2000000 ((W.world self.now.world).turns
             + quiet_turns_of (W.world self.now.world)) ≡ false) }
@@ -103,7 +103,7 @@ impl<W: WorldRun> Bus<W> {
     }
 
     /// The plan for the tree of a node, and its line.
-    fn planned(
+    pub(crate) fn planned(
         &self,
         alloc: Global,
         name: &Name,

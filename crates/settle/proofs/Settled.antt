@@ -21,9 +21,9 @@ use Rattle.cable_world.proofs.QuietTurns.{plainly, turns-cabling}
 use Rattle.cable_world.specs.Phases.{is_in_bus_reset}
 use Rattle.convergence.specs.Milestones.{ResetsAreDone}
 use Rattle.outcomes.specs.Settled.{EveryComponentSettles, ResetsAreDoneByThen}
-use Rattle.settle.specs.Report.{AreThere, quiet_turns_of, IsAfterQuiet}
+use Rattle.settle.specs.Report.{AreThere, quiet_turns_of, IsAfterQuiet, HasSettled}
 use Rattle.settle.specs.Reported.{IsNoTree, ReportsLoop}
-use Rattle.settle.specs.codings.Reading.{IsPartOf, HasSettled}
+use Rattle.settle.specs.codings.Reading.{IsPartOf}
 
 -- ---- facts with one proof at most
 

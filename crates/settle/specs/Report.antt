@@ -6,7 +6,7 @@ use Rattle.cabling.specs.Component.{IsComponent}
 use Rattle.cabling.specs.Walk.{IsWalk}
 use Rattle.cable_world.specs.World.{CableWorld, NodeNumber, NodeSet}
 use Rattle.cable_world.specs.Turn.{turns_after}
-use Rattle.cable_world.specs.Run.{quiet_turns}
+use Rattle.cable_world.specs.Run.{IsReached, quiet_turns}
 use Rattle.cable_world.specs.Outcome.{Shows}
 use Rattle.settle.specs.declared.report.Part.{Part}
 use Rattle.settle.specs.declared.report.Outcome.TheVariants as reported
@@ -80,3 +80,9 @@ quiet_turns_of w = quiet_turns (length w.cabling) w.delay
 -- all of these turns were done, and nothing else
 abbrev pub IsAfterQuiet : CableWorld → CableWorld → Type 0
 IsAfterQuiet w v = v ≡ turns_after (quiet_turns_of w) w
+
+-- the world comes of a reached one by as many turns without acts as that is given
+pub record HasSettled (w : CableWorld) : Type 0 where
+  pub before : CableWorld
+  pub reached : IsReached before
+  pub is : IsAfterQuiet before w

@@ -16,4 +16,4 @@ pub use cabling::OutOfMemory;
 pub use laws::{reports_are_one, reports_are_read_back};
 pub use quiet::quiet_turns;
 pub use report::{Outcome, Part, PartList, Report};
-pub use settling::settle;
+pub use settling::{report_of, settle};

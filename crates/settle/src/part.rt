@@ -5,8 +5,8 @@ ghost use Rattle.cabling.specs.Component.{IsComponent};
 ghost use Rattle.cable_world.specs.Lawful.{IsWellFormed};
 ghost use Rattle.cable_world.specs.Outcome.{attrs_now};
 ghost use Rattle.settle.specs.Reported.{IsReported};
-ghost use Rattle.settle.specs.codings.Reading.{IsPartOf, HasSettled};
-ghost use Rattle.settle.specs.Report.{AreThere, IsGreatest, Drew, LastChanged, IsPart};
+ghost use Rattle.settle.specs.codings.Reading.{IsPartOf};
+ghost use Rattle.settle.specs.Report.{AreThere, IsGreatest, Drew, LastChanged, IsPart, HasSettled};
 
 use crate::contention::contention_in;
 use crate::report::{Outcome, Part};

@@ -4,8 +4,8 @@ ghost use Rattle.std.specs.Int.{bit_at};
 ghost use Rattle.cable_world.specs.Lawful.{IsWellFormed};
 ghost use Rattle.cable_world.specs.Unchanged.{TurnsPass};
 ghost use Rattle.convergence.specs.Milestones.{ResetsAreDone};
-ghost use Rattle.settle.specs.codings.Reading.{is_in, HasSettled};
-ghost use Rattle.settle.specs.Report.{AreParts, IsReport, quiet_turns_of, IsAfterQuiet};
+ghost use Rattle.settle.specs.codings.Reading.{is_in};
+ghost use Rattle.settle.specs.Report.{AreParts, IsReport, quiet_turns_of, IsAfterQuiet, HasSettled};
 ghost use Rattle.settle.specs.Forced.{ForcedNodeIsRoot};
 
 use crate::part::{attrs_of, part_of};
@@ -49,6 +49,19 @@ fn parts_of<W: WorldRun>(alloc: Global, world: &W) -> Result<PartList, OutOfMemo
     Ok(parts)
 }
 
+/// Reports what each component of a world came to that has settled: it comes of a world by as many
+/// turns without acts as `quiet_turns` says, and isn't spent.
+pub fn report_of<W: WorldRun>(alloc: Global, world: &W) -> Result<Report, OutOfMemory>
+    requires fine { IsFalse (W.is_spent world.now) }
+    requires settled { ∥ HasSettled (W.world world.now) ∥₁ }
+    ensures { IfOk result (IsReport (W.world world.now)) }
+{
+    Ok(Report {
+        turn: world.turns(),
+        parts: parts_of(alloc, world)?,
+    })
+}
+
 /// Does as many turns as `quiet_turns` says for the nodes and the delay of a world, and reports what
 /// each component came to: each comes to a loop, a contention or a tree, and no node is in R0 or R1
 /// then. With the turns done before they are at most 4,000,000,000.
@@ -80,8 +93,6 @@ pub fn settle<W: WorldRun>(alloc: Global, world: &mut W) -> Result<Report, OutOf
     forced_roots_settle();
     let quiet = quiet_turns(world.cabling().nodes(), world.delay());
     world.run_turns(quiet)?;
-    Ok(Report {
-        turn: world.turns(),
-        parts: parts_of(alloc, world)?,
-    })
+    let report = report_of(alloc, &*world)?;
+    Ok(report)
 }

@@ -22,7 +22,7 @@ use Rattle.cable_world.specs.Lawful.{IsWellFormed, IsLawful}
 use Rattle.cable_world.specs.Outcome.{IsTree, attrs_now}
 use Rattle.cable_world.proofs.Options.{some-of, some-at}
 use Rattle.cable_world.proofs.StaysLawful.{reached-lawful}
-use Rattle.cable_world.proofs.StaysReached.{act-reached}
+use Rattle.cable_world.proofs.StaysReached.{act-reached, turns-reached}
 use Rattle.cable_world.proofs.tables.TablesInSteps.{step-cables}
 use Rattle.convergence.specs.Turns.{turns_to_over}
 use Rattle.cable_world.specs.Quiet.{no_holds}
@@ -76,6 +76,12 @@ module _
 
   cables : v.cabling ≡ w.cabling
   cables = ap (λ (u : CableWorld). u.cabling) quiet ∙ turns-cabling (quiet_turns_of sent) sent ∙ sent-cables
+
+  pub nodes-stay : length v.nodes ≡ length w.nodes
+  nodes-stay = ∥∥₁_elim reached (Coded-set coded_ℕ (length v.nodes) (length w.nodes)) (λ r.
+      let s = act-reached (Config from plan.root_id true (Some plan.gap)) w sent fits accepted act r in
+      let u = reached-lawful v (subst IsReached (sym quiet) (turns-reached (quiet_turns_of sent) sent s)) in
+      u.well_formed.count ∙ ap length cables ∙ sym l.well_formed.count)
 
   -- as many turns as the nodes want
   enough : IsReached w → quiet_turns (length sent.nodes) sent.delay ≤ quiet_turns_of sent

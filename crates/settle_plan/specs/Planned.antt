@@ -1,5 +1,5 @@
 -- What a plan asks of a bus, and what it makes of it.
-use Rattle.std.specs.Prelude.{◌≡◌, ℕ, ◌<◌, true, List, Some, length}
+use Rattle.std.specs.Prelude.{◌≡◌, ℕ, ◌<◌, true, List, Some, Any, length}
 use Rattle.self_id.specs.declared.standard.Standard.TheVariants.{Ieee2000}
 use Rattle.topology_stack.specs.Tree.{Tree, walk, emits, IsBusTreeOf}
 use Rattle.topology_stack.specs.Elect.{IsCandidate}
@@ -13,8 +13,9 @@ use Rattle.cable_world.specs.Outcome.{Shows, IsTree}
 use Rattle.bus_manager.specs.Gap.{gap_of}
 use Rattle.bus_manager.specs.Hops.{IsHops}
 use Rattle.root_plan.specs.declared.choice.RootPlan.{RootPlan}
-use Rattle.settle.specs.Report.{IsAfterQuiet}
+use Rattle.settle.specs.Report.{IsAfterQuiet, IsReport, IsTreeFrom}
 use Rattle.settle.specs.declared.report.Part.{Part}
+use Rattle.settle.specs.declared.report.Report.{Report}
 use Rattle.settle.specs.declared.report.Outcome.TheVariants as reported
 
 -- The component of a node has settled as a tree, and the plan suits it: one of its nodes has the
@@ -79,3 +80,13 @@ PlansSuit w from =
     (set : NodeSet) (root : NodeNumber) (stands told : Tree) (plan : RootPlan) →
     IsComponent w.cabling from set → IsTree w set root stands →
     IsBusTreeOf Ieee2000 told → emits told ≡ emits stands → IsPlanFor told plan → SuitsTree w from plan
+
+-- where a plan that suits the component of a node was carried out, it came out as planned: the node
+-- that had the root's ID is the root that is reported, and every node has the gap count
+abbrev pub PlansComeOut : CableWorld → NodeNumber → Type 0
+PlansComeOut w from =
+    (plan : RootPlan) (v : CableWorld) (report : Report) →
+    SuitsTree w from plan → IsAfterPlan w v from plan → IsReport v report →
+    ((root : NodeNumber) → HasId w from plan.root_id root →
+    Any (IsTreeFrom w.cabling from root) report.parts)
+    × HaveGap v from plan.gap

@@ -7,4 +7,4 @@ mod suiting;
 
 pub use carrying::settle_plan;
 pub use laws::hops_stay;
-pub use suiting::plans_suit;
+pub use suiting::{plans_come_out, plans_suit};

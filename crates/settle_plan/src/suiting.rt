@@ -1,8 +1,9 @@
-//! Which plans suit a component.
+//! Which plans suit a component, and what they come to.
 ghost use Rattle.std.specs.Prelude.{◌<◌, IsFalse, length};
-ghost use Rattle.settle_plan.specs.Planned.{PlansSuit};
+ghost use Rattle.settle_plan.specs.Planned.{PlansSuit, PlansComeOut};
 
 use cable_world::WorldRun;
+use outcomes::forced_roots_settle;
 use topology_stack::one_tree;
 
 /// A law: where the component of a node, which exists, stands as a tree, a plan that was chosen for
@@ -13,6 +14,19 @@ pub fn plans_suit<W: WorldRun>(world: &W, from: u8)
     ensures { PlansSuit (W.world world.now) from }
 {
     one_tree();
+    // the component, whose nodes are at most 63
+    let _component = world.cabling().component(from);
+}
+
+/// A law: where a plan suits the component of a node, which exists, and its packet is sent and the
+/// quiet turns are done, the node that had the plan's root ID is reported as root, and every node of
+/// the component has the plan's gap count. The world isn't spent.
+pub fn plans_come_out<W: WorldRun>(world: &W, from: u8)
+    requires sound { IsFalse (W.is_spent world.now) }
+    requires there { from < length (W.world world.now).cabling }
+    ensures { PlansComeOut (W.world world.now) from }
+{
+    forced_roots_settle();
     // the component, whose nodes are at most 63
     let _component = world.cabling().component(from);
 }

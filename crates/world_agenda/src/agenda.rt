@@ -3,7 +3,7 @@ ghost use Rattle.std.specs.Prelude.{◌≡◌, ◌≤◌, length, map, IfOk, IsF
 ghost use Rattle.cable_world.specs.World.{world_of_nodes, IsNodeAtPowerOn};
 
 use crate::passing::run_over;
-use cable_world::{Act, ActStop, World, WorldRun};
+use cable_world::{Act, ActStop, Travelling, World, WorldRun};
 use cabling::{Cabling, End, OutOfMemory};
 use port_state::{PortMachine, View};
 use self_id::Attrs;
@@ -80,6 +80,10 @@ impl<M: PortMachine> WorldRun for AgendaWorld<M> {
 
     fn changed(&self, node: u8) -> u32 {
         self.nodes.changed(node)
+    }
+
+    fn under_way(&self, end: End) -> &[Travelling] {
+        self.nodes.under_way(end)
     }
 
     fn spent(&self) -> bool {

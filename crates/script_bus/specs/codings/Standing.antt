@@ -1,6 +1,6 @@
--- Trees that stand since they were reported, and plans for them. No public contract cites this
--- file.
-use Rattle.std.specs.Prelude.{◌≡◌, ◌<◌, ◌^◌, ℕ, List, [], Ok, Some, Any, IfSome}
+-- Trees that stand since they were reported, plans for them, and commands that are traced. No public
+-- contract cites this file.
+use Rattle.std.specs.Prelude.{◌≡◌, ◌<◌, ◌^◌, ◌++◌, ℕ, List, [], Ok, Some, Any, IfSome}
 use Rattle.topology_stack.specs.Tree.{Tree}
 use Rattle.cabling.specs.Walk.{IsWalk}
 use Rattle.cabling.specs.Component.{IsComponent}
@@ -12,9 +12,13 @@ use Rattle.settle.specs.declared.report.Report.{Report}
 use Rattle.settle.specs.Report.{IsReport, IsTreeFrom}
 use Rattle.settle.specs.Reported.{ReportsTree}
 use Rattle.settle_plan.specs.Planned.{HasId, HaveGap}
+use Rattle.script_lines.specs.declared.command.Command.{Command}
+use Rattle.script_lines.specs.declared.command.Command.TheVariants.{Plug, Pull, Reset, Config, Hold}
+use Rattle.script_text.specs.ReportText.{IsReportText}
 use Rattle.script_told.specs.Bus.{Bus, Reported}
 use Rattle.script_text.specs.Plan.{IsPlan, plan_line}
-use Rattle.script_told.specs.Step.{IsTreeOf, Acts, Reports, config_of, node_with}
+use Rattle.script_told.specs.Step.{IsTreeOf, Acts, Reports, config_of, node_with, notes_after_report}
+use Rattle.script_trace.specs.Trace.{act_trace, quiet_trace}
 
 -- no act came since a report was made: holds and turns alone led from its world to this one
 pub record StandsSince (report : Report) (w : CableWorld) : Type 0 where
@@ -53,3 +57,46 @@ pub record IsSent (bus : Bus) (node : NodeNumber) (plan : RootPlan) (after : Bus
       (root : NodeNumber) → HasId bus.world node plan.root_id root →
       IfSome after.notes.report (λ r. Any (IsTreeFrom bus.world.cabling node root) r.parts)
   pub gaps : HaveGap after.world node plan.gap
+
+-- ---- commands that are traced
+
+abbrev pub IsActCommand : Command → Type 0
+IsActCommand (Plug a a_port b b_port) = Unit {0}
+IsActCommand (Pull name port) = Unit {0}
+IsActCommand (Reset name) = Unit {0}
+IsActCommand (Config name root_id gap) = Unit {0}
+IsActCommand command = ⊥
+
+abbrev pub IsHoldCommand : Command → Type 0
+IsHoldCommand (Hold name port turns) = Unit {0}
+IsHoldCommand command = ⊥
+
+-- a bus whose world has settled is reported, and this is the text
+pub record IsReportedNow (bus after : Bus) (text : List ℕ) : Type 0 where
+  pub report : Report
+  pub is : IsReport bus.world report
+  pub same : after.world ≡ bus.world
+  pub notes : after.notes ≡ notes_after_report bus.notes report
+  pub text_is : IsReportText bus.notes.names after.notes.reports report text
+
+-- the packet of a plan was sent, and what it does was appended
+pub record IsPacketSent
+    (bus : Bus) (name : List ℕ) (node : NodeNumber) (plan : RootPlan) (sent : Bus) (out new : List ℕ)
+    : Type 0 where
+  pub sends : Acts bus (config_of node (Some plan.root_id) (Some plan.gap)) (Ok (sent, []))
+  pub appended :
+      new
+      ≡ out
+      ++ act_trace sent.notes.names (Config name (Some plan.root_id) (Some plan.gap)) bus.world
+      sent.world
+
+-- and then the bus settled, as `IsSent` has it
+pub record IsSentTraced
+    (bus : Bus) (name : List ℕ) (node : NodeNumber) (plan : RootPlan) (after : Bus)
+    (text out new : List ℕ) : Type 0 where
+  pub sent : IsSent bus node plan after text
+  pub appended :
+      new
+      ≡ out
+      ++ (act_trace after.notes.names (Config name (Some plan.root_id) (Some plan.gap)) bus.world
+      sent.sent.world ++ quiet_trace after.notes.names sent.sent.world)

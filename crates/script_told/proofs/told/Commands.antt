@@ -32,7 +32,7 @@ use Rattle.script_text.specs.CommandText.{csr_text, grant_text}
 use Rattle.std.specs.Option.{option_map}
 use Rattle.script_text.specs.Plan.{IsPlan, plan_line}
 use Rattle.script_told.specs.Bus.{Notes, Bus, Reported, node_named, resets_of, tree_with, values_at}
-use Rattle.script_told.specs.Step.{LineAnswer, AtNode, Named, AtTree, Settled, AtManager, IsTreeOf, Managed, node_with, id_of, Acts, Holds, Within, Reports, Settles, Accesses, Looks, Grants, Bids, Plans, PlansAs, MapsOf, GivesMaps, Does, end_of, config_of, notes_after_report}
+use Rattle.script_told.specs.Step.{LineAnswer, AtNode, Named, AtTree, Settled, AtManager, IsTreeOf, Managed, node_with, id_of, Acts, Holds, Within, Reports, Settles, Accesses, Looks, Grants, Bids, CarriesOut, Plans, PlansAs, MapsOf, GivesMaps, Does, end_of, config_of, notes_after_report}
 use Rattle.script_lines.specs.Refusal.{kind_of}
 use Rattle.script_text.proofs.OneText.{one-text}
 use Rattle.script_text.proofs.OneMaps.{same_maps}
@@ -260,23 +260,39 @@ one-walk c root a b x y =
     let q = y no-label in
     p.order ∙ one-order c no-label no-label root None p.tree q.tree p.seen q.seen ∙ sym q.order
 
+pub same-plan :
+    NoListHasTwoTrees → (bus : Bus) (name : List ℕ) (node : NodeNumber) (tree : Reported)
+    (a : Bus) (s : List ℕ) (b : Bus) (t : List ℕ) (x : CarriesOut bus name node tree a s)
+    (y : CarriesOut bus name node tree b t) → x.plan ≡ y.plan
+same-plan trees bus name node tree a s b t x y =
+    let shown : y.shown ≡ x.shown = same-tree trees tree.list y.shown x.shown y.is x.is in
+    one-plan x.shown x.plan y.plan x.planned (subst (λ (u : Tree). IsPlan u y.plan) shown y.planned)
+
+pub same-sent :
+    NoListHasTwoTrees → (bus : Bus) (name : List ℕ) (node : NodeNumber) (tree : Reported) →
+    IsCabled bus.world → (a : Bus) (s : List ℕ) (b : Bus) (t : List ℕ)
+    (x : CarriesOut bus name node tree a s) (y : CarriesOut bus name node tree b t) →
+    (x.sent ≡ y.sent) × IsCabled x.sent.world
+unfolding answer-of
+same-sent trees bus name node tree h a s b t x y =
+    let act : RootPlan → Act = λ p. config_of node (Some p.root_id) (Some p.gap) in
+    let here = acts bus (act y.plan) h (answer-of x.sent []) (answer-of y.sent [])
+    (subst (λ (p : RootPlan). Acts bus (act p) (answer-of x.sent [])) (same-plan trees bus name node tree a s b t x y) x.sends) y.sends in
+    (ap (bus-in x.sent) here.0, here.1)
+
 plans :
     NoListHasTwoTrees → (bus : Bus) (name : List ℕ) (node : NodeNumber) (tree : Reported) →
     IsCabled bus.world → IsOne (Plans bus name node tree)
 unfolding answer-of
 plans trees bus name node tree h (Ok (a, s)) (Ok (b, t)) x y =
-    let shown : y.shown ≡ x.shown = same-tree trees tree.list y.shown x.shown y.is x.is in
-    let plan : x.plan ≡ y.plan =
-    one-plan x.shown x.plan y.plan x.planned (subst (λ (u : Tree). IsPlan u y.plan) shown y.planned) in
+    let plan : x.plan ≡ y.plan = same-plan trees bus name node tree a s b t x y in
     let root : node_with tree x.plan.root_id ≡ node_with tree y.plan.root_id =
     ap (λ (p : RootPlan). node_with tree p.root_id) plan in
     let expected : x.expected ≡ y.expected =
     one-walk bus.world.cabling (node_with tree y.plan.root_id) x.expected y.expected
     (subst (λ (r : ℕ). IsWalk bus.world.cabling r x.expected) root x.walk) y.walk in
-    let act : RootPlan → Act = λ p. config_of node (Some p.root_id) (Some p.gap) in
-    let here = acts bus (act y.plan) h (answer-of x.sent []) (answer-of y.sent [])
-    (subst (λ (p : RootPlan). Acts bus (act p) (answer-of x.sent [])) plan x.sends) y.sends in
-    let sent : x.sent ≡ y.sent = ap (bus-in x.sent) here.0 in
+    let here = same-sent trees bus name node tree h a s b t x y in
+    let sent : x.sent ≡ y.sent = here.0 in
     let there = reports trees x.sent here.1 (answer-of a x.report) (answer-of b y.report) x.reports
     (subst (λ (u : Bus). Reports u (answer-of b y.report)) (sym sent) y.reports) in
     let line : NodeNumber → RootPlan → List ℕ → List ℕ → List ℕ =

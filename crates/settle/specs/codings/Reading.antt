@@ -10,20 +10,12 @@ use Rattle.cabling.specs.Component.{IsComponent, IsNeighbour}
 use Rattle.cabling.specs.Labels.{labels}
 use Rattle.cabling.specs.Sees.{Sees, numbers}
 use Rattle.cable_world.specs.World.{CableWorld, NodeNumber, NodeSet}
-use Rattle.cable_world.specs.Run.{IsReached}
 use Rattle.cable_world.specs.Outcome.{AtNode, Shows, DrewAlike}
 use Rattle.settle.specs.declared.report.Part.{Part}
-use Rattle.settle.specs.Report.{IsAfterQuiet}
 
 -- the set is the component of a node
 abbrev pub IsPartOf : CableWorld → NodeSet → Type 0
 IsPartOf w set = (node : NodeNumber) × IsComponent w.cabling node set
-
--- the world comes of a reached one by as many turns without acts as that is given
-pub record HasSettled (w : CableWorld) : Type 0 where
-  pub before : CableWorld
-  pub reached : IsReached before
-  pub is : IsAfterQuiet before w
 
 -- no node of the set is below this one
 abbrev pub IsLeast : NodeSet → NodeNumber → Type 0

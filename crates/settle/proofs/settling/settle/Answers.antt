@@ -2,7 +2,7 @@ use Rattle.std.proofs.Math.Logic.{∥∥₁_map}
 use Rattle.std.proofs.Common.{◌≡◌, ◌∙◌, ◌+◌, ◌≤◌, ℕ, length, ap, sym, subst, arith}
 use Rattle.cable_world.specs.Turn.{turns_after}
 use Rattle.cable_world.specs.Unchanged.{TurnsPass}
-use Rattle.cable_world.proofs.running.Whole.{lawful-now, not-spent}
+use Rattle.cable_world.proofs.running.Whole.{lawful-now}
 use Rattle.settle.specs.Report.{quiet_turns_of}
 use Rattle.settle.proofs.TurnsGiven.{quiet-is, on-err}
 use Rattle.settle.proofs.Settled.{done-by-then}
@@ -30,26 +30,20 @@ run_turns-requires g c =
     quiet-is w c.nodes.result c.delay.result c.quiet_turns-quiet.result c.quiet_turns-quiet.ensures (c.nodes.ensures.value ∙ ap length c.cabling.ensures) c.delay.ensures in
     subst (λ (n : ℕ). w.turns + n ≤ 4000000000) (sym q) c.requires
 
-pub parts_of-requires-clause-settled : goal.parts_of-requires-clause-settled
-parts_of-requires-clause-settled g c =
+pub report_of-requires-clause-settled : goal.report_of-requires-clause-settled
+report_of-requires-clause-settled g c =
     let w = g.W.WorldRun.world c.args.world.now in
     let q : c.quiet_turns-quiet.result ≡ quiet_turns_of w =
     quiet-is w c.nodes.result c.delay.result c.quiet_turns-quiet.result c.quiet_turns-quiet.ensures (c.nodes.ensures.value ∙ ap length c.cabling.ensures) c.delay.ensures in
     ∥∥₁_map (g.met.W.WorldRun.reached c.args.world.now (sym c.spent.ensures ∙ c.if-spent.false))
     (λ r. record { before = w; reached = r; is = c.in_ok-run_turns.ensures.done ∙ ap (λ (n : ℕ). turns_after n w) q })
 
-pub parts_of-requires-clause-formed : goal.parts_of-requires-clause-formed
-parts_of-requires-clause-formed g c =
-    let v = c.run_turns.new.self in
-    let lawful = lawful-now (g.W.WorldRun.world v) (g.met.W.WorldRun.reached v (not-spent (g.W.WorldRun.is_spent v) c.in_ok-run_turns.ensures.spent.1)) in
-    lawful.well_formed
-
-pub returns-in_err-parts_of-clause-memory : goal.returns-in_err-parts_of-clause-memory
-returns-in_err-parts_of-clause-memory g c =
+pub returns-in_err-report-clause-memory : goal.returns-in_err-report-clause-memory
+returns-in_err-report-clause-memory g c =
     let w = g.W.WorldRun.world c.args.world.now in
     let q : c.quiet_turns-quiet.result ≡ quiet_turns_of w =
     quiet-is w c.nodes.result c.delay.result c.quiet_turns-quiet.result c.quiet_turns-quiet.ensures (c.nodes.ensures.value ∙ ap length c.cabling.ensures) c.delay.ensures in
-    on-err c.from_residual-in_err-parts_of.result _ (λ fine. c.in_ok-run_turns.ensures.done ∙ ap (λ (n : ℕ). turns_after n w) q)
+    on-err c.from_residual-in_err-report.result _ (λ fine. c.in_ok-run_turns.ensures.done ∙ ap (λ (n : ℕ). turns_after n w) q)
 
 pub returns-clause-quiet : goal.returns-clause-quiet
 returns-clause-quiet g c =
@@ -82,4 +76,4 @@ returns-clause-forced g c =
     forced-nodes c.resets_spread.ensures.taken c.forced_roots_settle.ensures.forced w v
     (g.met.W.WorldRun.reached c.args.world.now (sym c.spent.ensures ∙ c.if-spent.false))
     (c.in_ok-run_turns.ensures.done ∙ ap (λ (n : ℕ). turns_after n w) q)
-    _ (record { turn = c.turns.ensures; parts = c.in_ok-parts_of.ensures })
+    _ c.in_ok-report.ensures

@@ -1,0 +1,2 @@
+pub mod OneTrace
+pub mod Walked

@@ -1,0 +1,156 @@
+-- What happens at a node from one moment to the next, as text: a line for each thing.
+use Rattle.std.specs.Prelude.{ℕ, ◌+◌, ◌-◌, ◌==◌, ◌&&◌, ◌||◌, not, nat_lt, nat_le, Bool, List, [], ◌∷◌, ◌++◌, codes, cond, drop, is_some, is_none, slice_index_or, unwrap_or, Option, None, Some}
+use Rattle.std.specs.Int.{bit_at}
+use Rattle.topology_stack.specs.Hex.{hex}
+use Rattle.cabling.specs.declared.cable.End.{End}
+use Rattle.port_state.specs.declared.signal.Signal.{Signal}
+use Rattle.port_state.specs.declared.signal.Signal.TheVariants as signal
+use Rattle.port_state.specs.declared.signal.Phase.{Phase}
+use Rattle.port_state.specs.declared.signal.Phase.TheVariants as phase
+use Rattle.port_state.specs.declared.ports.PortView.{PortView}
+use Rattle.port_state.specs.declared.view.View.{View}
+use Rattle.port_state.specs.Ports.{PortNumber, port_is}
+use Rattle.cable_world.specs.declared.wire.Travelling.{Travelling}
+use Rattle.cable_world.specs.World.{CableWorld, NodeNumber, wire_of}
+use Rattle.script_text.specs.ReportText.{Names, spaced, numbered}
+
+-- ---- lines
+
+-- `turn T NAME`
+unfoldable pub head : Names → ℕ → NodeNumber → List ℕ
+head names turn node = numbered (codes "turn ") turn ++ spaced names node
+
+-- `turn T NAME` and these words
+abbrev pub line_of : Names → ℕ → NodeNumber → List ℕ → List ℕ
+line_of names turn node words = head names turn node ++ (words ++ codes "\n")
+
+-- ---- states
+
+-- the standard's name of a state; Self-ID is entered at S0
+abbrev pub state_words : Phase → List ℕ
+state_words phase.ResetStart = codes " enters R0"
+state_words phase.ResetWait = codes " enters R1"
+state_words phase.TreeStart = codes " enters T0"
+state_words phase.ChildShake = codes " enters T1"
+state_words phase.ParentShake = codes " enters T2"
+state_words phase.Contend = codes " enters T3"
+state_words phase.SelfIdent = codes " enters S0"
+state_words phase.Ready = codes " enters A0"
+
+-- the number of a state in the standard's order
+abbrev pub state_number : Phase → ℕ
+state_number phase.ResetStart = 0
+state_number phase.ResetWait = 1
+state_number phase.TreeStart = 2
+state_number phase.ChildShake = 3
+state_number phase.ParentShake = 4
+state_number phase.Contend = 5
+state_number phase.SelfIdent = 6
+state_number phase.Ready = 7
+
+-- another state was entered, or R0 once more
+abbrev pub enters : View → View → Bool
+enters before after =
+    not (state_number before.phase == state_number after.phase)
+    || not (before.resets == after.resets)
+
+abbrev pub state_line : Names → ℕ → NodeNumber → View → View → List ℕ
+state_line names turn node before after =
+    cond (enters before after) (line_of names turn node (state_words after.phase)) []
+
+-- the configuration timed out
+abbrev pub timeout_line : Names → ℕ → NodeNumber → View → View → List ℕ
+timeout_line names turn node before after =
+    cond (not before.timed_out && after.timed_out)
+    (line_of names turn node (codes " configuration timeout")) []
+
+-- ---- roles
+
+abbrev pub parent_line : Names → ℕ → NodeNumber → View → View → List ℕ
+parent_line names turn node before after =
+    cond (is_none before.parent && is_some after.parent)
+    (line_of names turn node
+    (numbered (codes " port ") (unwrap_or after.parent 0) ++ codes " to its parent")) []
+
+-- port k came to lead to a child
+abbrev pub child_line : Names → ℕ → NodeNumber → List PortView → PortNumber → PortView → List ℕ
+child_line names turn node before k p =
+    cond (p.child && not (port_is (λ q. q.child) before k))
+    (line_of names turn node (numbered (codes " port ") k ++ codes " to a child")) []
+
+-- each of the ports from number k on that did
+abbrev pub child_lines : Names → ℕ → NodeNumber → List PortView → PortNumber → List PortView → List ℕ
+child_lines names turn node before k [] = []
+child_lines names turn node before k (p ∷ ports) =
+    child_line names turn node before k p ++ child_lines names turn node before (k + 1) ports
+
+-- ---- coins and IDs
+
+-- the coin, where it is one of the first 32 since the reset
+abbrev pub coin_digit : View → List ℕ
+coin_digit v =
+    cond (nat_le v.draws 32) (numbered (codes " ") (bit_at v.first_draws (v.draws - 1))) []
+
+abbrev pub coin_line : Names → ℕ → NodeNumber → View → View → List ℕ
+coin_line names turn node before after =
+    cond (nat_lt before.draws after.draws)
+    (line_of names turn node
+    (codes " coin" ++ (coin_digit after ++ numbered (codes " wait ") after.wait))) []
+
+abbrev pub id_line : Names → ℕ → NodeNumber → View → View → List ℕ
+id_line names turn node before after =
+    cond (is_none before.id && is_some after.id)
+    (line_of names turn node (numbered (codes " phy_ID ") (unwrap_or after.id 0))) []
+
+-- ---- signals
+
+-- the standard's name of a signal
+abbrev pub signal_words : Signal → List ℕ
+signal_words signal.Reset = codes " BUS_RESET"
+signal_words signal.Idle = codes " IDLE"
+signal_words signal.Parent = codes " TX_PARENT_NOTIFY"
+signal_words signal.Child = codes " TX_CHILD_NOTIFY"
+signal_words signal.Grant = codes " TX_GRANT"
+signal_words (signal.Packet quad) = codes " packet " ++ hex 8 quad
+signal_words signal.Done = codes " TX_IDENT_DONE"
+
+-- a signal that was sent just now
+abbrev pub sent_line : Names → ℕ → NodeNumber → PortNumber → Travelling → List ℕ
+sent_line names turn node port t =
+    cond (t.age == 0)
+    (line_of names turn node
+    (numbered (codes " port ") port ++ (codes " sends" ++ signal_words t.signal))) []
+
+-- each of these signals that was, on one port
+abbrev pub sent_lines : Names → ℕ → NodeNumber → PortNumber → List Travelling → List ℕ
+sent_lines names turn node port [] = []
+sent_lines names turn node port (t ∷ ts) =
+    sent_line names turn node port t ++ sent_lines names turn node port ts
+
+-- the same on the ports from number k on; of what is under way on each wire the first so many
+-- signals were there before
+abbrev pub all_sent_lines : Names → CableWorld → NodeNumber → List ℕ → PortNumber → List PortView → List ℕ
+all_sent_lines names w node there k [] = []
+all_sent_lines names w node there k (p ∷ ports) =
+    sent_lines names w.turns node k
+    (drop (slice_index_or there k 0) (wire_of w (record { node = node; port = k })).signals)
+    ++ all_sent_lines names w node there (k + 1) ports
+
+-- ---- a node
+
+-- what a node showed before, and how many signals were under way on each of its wires
+pub record Seen : Type 0 where
+  pub view : View
+  pub there : List ℕ
+
+-- A node, which showed this before and now has this view: what state it entered, which roles its
+-- ports took, its coin, its ID, and what it sent.
+abbrev pub node_lines : Names → CableWorld → NodeNumber → Seen → View → List ℕ
+node_lines names w node seen v =
+    state_line names w.turns node seen.view v
+    ++ (timeout_line names w.turns node seen.view v
+    ++ (parent_line names w.turns node seen.view v
+    ++ (child_lines names w.turns node seen.view.ports 0 v.ports
+    ++ (coin_line names w.turns node seen.view v
+    ++ (id_line names w.turns node seen.view v
+    ++ all_sent_lines names w node seen.there 0 v.ports)))))

@@ -1,0 +1,4 @@
+pub mod Event
+pub mod Step
+pub mod Trace
+pub mod OneTrace

@@ -1,0 +1,20 @@
+-- No script has two traces, and a script has one exactly where it has a text.
+use Rattle.std.specs.Prelude.{◌≡◌, ℕ, List, Ok, Err}
+use Rattle.script_lines.specs.declared.kind.ScriptFault.{ScriptFault}
+use Rattle.script_told.specs.Script.{Told, IsTold}
+use Rattle.script_trace.specs.Trace.{IsTrace}
+
+abbrev pub ScriptsHaveOneTrace : Type 0
+ScriptsHaveOneTrace =
+    (bytes : List ℕ) (one other : Told) → IsTrace bytes one → IsTrace bytes other → one ≡ other
+
+-- a script with a trace has a text
+abbrev pub TracedScriptsAreTold : Type 0
+TracedScriptsAreTold =
+    (bytes lines : List ℕ) → IsTrace bytes (Ok lines) →
+    (text : List ℕ) × IsTold bytes (Ok text)
+
+-- and its fault is the same
+abbrev pub TraceFaultsAreTold : Type 0
+TraceFaultsAreTold =
+    (bytes : List ℕ) (fault : ScriptFault) → IsTrace bytes (Err fault) → IsTold bytes (Err fault)

@@ -1,0 +1,179 @@
+//! What the nodes of a world show, to be told from what they show later.
+ghost use Rattle.std.specs.Prelude.{◌≡◌, ◌<◌, ◌≤◌, ◌++◌, length, map, slice_index_or, drop, IfOk, OnOk};
+ghost use Rattle.script_trace.specs.Event.{node_lines, all_sent_lines};
+ghost use Rattle.script_trace.specs.Step.{lines_since, seen_before_turn, seen_before_act, counts_from};
+
+use crate::node::{
+    put_children, put_coin, put_id, put_parent, put_sent, put_state, put_timeout,
+};
+use cable_world::{Travelling, WorldRun};
+use cabling::End;
+use port_state::{PortView, View};
+use script_text::{Name, OutOfMemory};
+use std::alloc::Global;
+use std::marker::Model;
+
+/// What a node shows, and how many signals are under way on each of its wires.
+#[derive(Drop)]
+pub struct Seen {
+    view: View,
+    there: Vec<usize>,
+}
+
+impl Model for Seen {
+    ghost use Rattle.script_trace.specs.Event.{Seen};
+
+    ghost Value = { Seen };
+
+    ghost view = { λ s. record { view = s.view; there = s.there.items } };
+}
+
+/// The nodes before a turn. The world has 63 nodes at most, so many as are said.
+pub(crate) fn seen_before_turn<W: WorldRun>(
+    alloc: Global,
+    world: &W,
+    nodes: usize,
+) -> Result<Vec<Seen>, OutOfMemory>
+    requires few { nodes ≤ 63 }
+    requires nodes { nodes ≡ length (W.world world.now).nodes }
+    ensures { IfOk result (λ seen. seen.items ≡ map seen_before_turn (W.world world.now).nodes) }
+{
+    let mut seen = Vec::with_capacity(alloc, nodes)?;
+    for node in 0..nodes {
+        seen.push(Seen {
+            view: world.view(node as u8),
+            there: Vec::new(alloc),
+        })?;
+    }
+    Ok(seen)
+}
+
+/// How many signals are under way on each wire of a node with so many ports.
+fn counts<W: WorldRun>(
+    alloc: Global,
+    world: &W,
+    node: u8,
+    ports: &[PortView],
+) -> Result<Vec<usize>, OutOfMemory>
+    requires { length ports.now < 256 }
+    ensures { IfOk result (λ list. list.items ≡ counts_from (W.world world.now) node 0 ports.now) }
+{
+    let mut list = Vec::new(alloc);
+    for port in 0..ports.len() {
+        let end = End {
+            node,
+            port: port as u8,
+        };
+        list.push(world.under_way(end).len())?;
+    }
+    Ok(list)
+}
+
+/// The nodes before an act. The world has 63 nodes at most, so many as are said.
+pub fn seen_before_act<W: WorldRun>(
+    alloc: Global,
+    world: &W,
+    nodes: usize,
+) -> Result<Vec<Seen>, OutOfMemory>
+    requires few { nodes ≤ 63 }
+    requires nodes { nodes ≡ length (W.world world.now).nodes }
+    ensures { IfOk result (λ seen. seen.items
+        ≡ seen_before_act (W.world world.now) 0 (W.world world.now).nodes) }
+{
+    let mut seen = Vec::with_capacity(alloc, nodes)?;
+    for node in 0..nodes {
+        let view = world.view(node as u8);
+        let there = counts(alloc, world, node as u8, view.ports.as_slice())?;
+        seen.push(Seen { view, there })?;
+    }
+    Ok(seen)
+}
+
+/// How many signals were there before on the wire of a port.
+fn there_at(there: &[usize], port: usize) -> usize
+    ensures { result ≡ slice_index_or there.now port 0 }
+{
+    match there.get(port) {
+        None => 0,
+        Some(count) => *count,
+    }
+}
+
+/// The signals behind so many.
+fn behind(signals: &[Travelling], count: usize) -> &[Travelling]
+    ensures { result.now ≡ drop count signals.now }
+{
+    if count < signals.len() {
+        &signals[count..]
+    } else {
+        &[]
+    }
+}
+
+/// Appends a line for each signal that a node has sent since.
+fn put_all_sent<W: WorldRun>(
+    out: &mut Vec<u8>,
+    names: &[Name],
+    world: &W,
+    node: u8,
+    there: &[usize],
+    ports: &[PortView],
+) -> Result<(), OutOfMemory>
+    requires there { node < length names.now }
+    requires few { length ports.now < 256 }
+    ensures { OnOk result (out.new.items ≡ out.old.items
+        ++ all_sent_lines names.now (W.world world.now) node there.now 0 ports.now) }
+{
+    for port in 0..ports.len() {
+        let end = End {
+            node,
+            port: port as u8,
+        };
+        let new = behind(world.under_way(end), there_at(there, port));
+        put_sent(out, names, world.turns(), node, port as u8, new)?;
+    }
+    Ok(())
+}
+
+/// Appends what happened at a node since it showed this.
+fn put_node<W: WorldRun>(
+    out: &mut Vec<u8>,
+    names: &[Name],
+    world: &W,
+    node: u8,
+    seen: &Seen,
+    view: &View,
+) -> Result<(), OutOfMemory>
+    requires there { node < length names.now }
+    ensures { OnOk result (out.new.items
+        ≡ out.old.items ++ node_lines names.now (W.world world.now) node seen.now view.now) }
+{
+    let turn = world.turns();
+    let ports = view.ports.as_slice();
+    put_state(out, names, turn, node, &seen.view, view)?;
+    put_timeout(out, names, turn, node, &seen.view, view)?;
+    put_parent(out, names, turn, node, &seen.view, view)?;
+    put_children(out, names, turn, node, seen.view.ports.as_slice(), ports)?;
+    put_coin(out, names, turn, node, &seen.view, view)?;
+    put_id(out, names, turn, node, &seen.view, view)?;
+    put_all_sent(out, names, world, node, &seen.there, ports)
+}
+
+/// Appends what happened since the nodes showed this. `names` has the name of each node, at most 63.
+pub fn put_since<W: WorldRun>(
+    out: &mut Vec<u8>,
+    names: &[Name],
+    seen: &[Seen],
+    world: &W,
+) -> Result<(), OutOfMemory>
+    requires few { length names.now ≤ 63 }
+    requires nodes { length names.now ≡ length (W.world world.now).nodes }
+    ensures { OnOk result (out.new.items
+        ≡ out.old.items ++ lines_since names.now seen.now (W.world world.now)) }
+{
+    for node in 0..seen.len().min(names.len()) {
+        let view = world.view(node as u8);
+        put_node(out, names, world, node as u8, &seen[node], &view)?;
+    }
+    Ok(())
+}
