@@ -2,3 +2,4 @@ pub mod NamedTree
 pub mod Standing
 pub mod Planning
 pub mod PlansAsked
+pub mod Tracing

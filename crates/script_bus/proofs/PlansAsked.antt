@@ -27,7 +27,7 @@ asked-comes bus name node id manager is Comes r h =
     At k = AtTree (tree_with k bus.notes) (In k)
 
 -- a plan that is carried out
-pub carries-out :
+abbrev pub carries-out :
     (bus after : Bus) (name : List ℕ) (node : ℕ) (tree : Reported) (plan : RootPlan) (line report text : List ℕ) →
     IsPlanned bus name tree plan line → IsSent bus node plan after report →
     HasId bus.world node plan.root_id (node_with tree plan.root_id) → text ≡ line ++ report →

@@ -10,10 +10,10 @@ ghost use Rattle.script_lines.specs.Range.{IsInRange};
 ghost use Rattle.script_lines.specs.declared.command.Command.TheVariants as command;
 ghost use Rattle.script_bus.specs.Running.{bus_now, notes_now, IsSound, Stops};
 ghost use Rattle.script_bus.specs.Tracing.{DoesTraced, SettlesTraced};
-ghost use Rattle.script_bus.specs.codings.Standing.{IsReportedNow, IsSentTraced, IsPacketSent, IsActCommand, IsHoldCommand};
+ghost use Rattle.script_bus.specs.codings.Standing.{IsReportedNow, IsSentTraced, IsPacketSent, IsActCommand, IsHoldCommand, IsQuestion};
 
 use crate::bus::Bus;
-use cable_world::{Act, ActStop, WorldRun};
+use cable_world::{Act, ActStop, WorldRun, acts_keep};
 use root_plan::RootPlan;
 use script_lines::{Command, LineStop};
 use script_text::{report_text, reports_can_be_shown};
@@ -105,6 +105,26 @@ impl<W: WorldRun> Bus<W> {
         Ok(())
     }
 
+    /// A command in which nothing happens to the bus.
+    fn ask_traced(
+        &mut self,
+        alloc: Global,
+        d: u8,
+        command: &Command,
+        out: &mut Vec<u8>,
+    ) -> Result<(), LineStop>
+        requires sound { IsSound W.world W.is_spent self.old }
+        requires range { IsInRange d command.now }
+        requires asks { IsQuestion command.now }
+        ensures done { OnOk result (DoesTraced (bus_now W.world self.old) command.now
+            (bus_now W.world self.new) out.old.items out.new.items) }
+        ensures stop { IfErr result (Stops (Does (bus_now W.world self.old) command.now)) }
+        ensures sound { OnOk result (IsSound W.world W.is_spent self.new) }
+    {
+        self.command(alloc, d, command)?;
+        Ok(())
+    }
+
     /// `turn K`
     fn turn_traced(
         &mut self,
@@ -151,8 +171,11 @@ impl<W: WorldRun> Bus<W> {
         requires suits { SuitsTree (W.world self.old.world) node plan.now }
         ensures sent { OnOk result (IsPacketSent (bus_now W.world self.old) name.now node plan.now
             (bus_now W.world self.new) out.old.items out.new.items) }
+        ensures passed { OnOk result (TurnsPass 0 (W.world self.old.world) (W.world self.new.world)) }
         ensures fine { OnOk result (IsFalse (W.is_spent self.new.world)) }
     {
+        // the component, whose nodes are at most 63
+        let _component = self.world.cabling().component(node);
         let nodes = self.notes.names.list().as_slice().len();
         let seen = seen_before_act(alloc, &self.world, nodes)?;
         let packet = Command::Config {
@@ -173,7 +196,8 @@ impl<W: WorldRun> Bus<W> {
             Err(ActStop::Fault(_)) => unreachable!(),
         }
         self.notes.drop_after_act();
-        put_since(out, self.notes.names.list().as_slice(), &seen, &self.world)
+        put_since(out, self.notes.names.list().as_slice(), &seen, &self.world)?;
+        Ok(())
     }
 
     /// A plan is carried out; answers the text of the report.
@@ -193,10 +217,12 @@ impl<W: WorldRun> Bus<W> {
             plan.now (bus_now W.world self.new) text.items out.old.items out.new.items) }
         ensures sound { OnOk result (IsSound W.world W.is_spent self.new) }
     {
+        acts_keep();
         plans_come_out(&self.world, node);
         self.send_traced(alloc, name, node, plan, out)?;
         self.pass_traced(alloc, out)?;
-        self.report(alloc)
+        let text = self.report(alloc)?;
+        Ok(text)
     }
 
     /// `plan NAME`
@@ -250,10 +276,16 @@ impl<W: WorldRun> Bus<W> {
                 Ok(())
             }
             Command::Plan { name } => self.plan_traced(alloc, name, out),
-            _ => {
-                self.command(alloc, d, command)?;
-                Ok(())
-            }
+            Command::Node { .. }
+            | Command::Delay { .. }
+            | Command::Maps { .. }
+            | Command::CsrRead { .. }
+            | Command::CsrWrite { .. }
+            | Command::CsrLock { .. }
+            | Command::Look { .. }
+            | Command::Allocate { .. }
+            | Command::Release { .. }
+            | Command::Manager { .. } => self.ask_traced(alloc, d, command, out),
         }
     }
 }

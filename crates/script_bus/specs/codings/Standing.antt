@@ -13,8 +13,8 @@ use Rattle.settle.specs.Report.{IsReport, IsTreeFrom}
 use Rattle.settle.specs.Reported.{ReportsTree}
 use Rattle.settle_plan.specs.Planned.{HasId, HaveGap}
 use Rattle.script_lines.specs.declared.command.Command.{Command}
-use Rattle.script_lines.specs.declared.command.Command.TheVariants.{Plug, Pull, Reset, Config, Hold}
-use Rattle.script_text.specs.ReportText.{IsReportText}
+use Rattle.script_lines.specs.declared.command.Command.TheVariants.{Plug, Pull, Reset, Config, Hold, Turn, Settle, Plan}
+use Rattle.script_text.specs.ReportText.{IsNamedReport, IsReportText}
 use Rattle.script_told.specs.Bus.{Bus, Reported}
 use Rattle.script_text.specs.Plan.{IsPlan, plan_line}
 use Rattle.script_told.specs.Step.{IsTreeOf, Acts, Reports, config_of, node_with, notes_after_report}
@@ -71,12 +71,24 @@ abbrev pub IsHoldCommand : Command → Type 0
 IsHoldCommand (Hold name port turns) = Unit {0}
 IsHoldCommand command = ⊥
 
+abbrev pub IsQuestion : Command → Type 0
+IsQuestion (Plug a a_port b b_port) = ⊥
+IsQuestion (Pull name port) = ⊥
+IsQuestion (Reset name) = ⊥
+IsQuestion (Config name root_id gap) = ⊥
+IsQuestion (Hold name port turns) = ⊥
+IsQuestion (Turn count) = ⊥
+IsQuestion Settle = ⊥
+IsQuestion (Plan name) = ⊥
+IsQuestion command = Unit {0}
+
 -- a bus whose world has settled is reported, and this is the text
 pub record IsReportedNow (bus after : Bus) (text : List ℕ) : Type 0 where
   pub report : Report
   pub is : IsReport bus.world report
   pub same : after.world ≡ bus.world
   pub notes : after.notes ≡ notes_after_report bus.notes report
+  pub named : IsNamedReport bus.notes.names report
   pub text_is : IsReportText bus.notes.names after.notes.reports report text
 
 -- the packet of a plan was sent, and what it does was appended

@@ -1,0 +1,49 @@
+use Rattle.std.proofs.Common.{◌≡◌, ◌++◌, ◌<◌, ℕ, List, true, Some, Err, length, refl, sym, ◌∙◌, ap, subst}
+use Rattle.cabling.specs.Wiring.{Wiring}
+use Rattle.cabling.specs.Component.{IsComponent}
+use Rattle.cable_world.specs.declared.act.Act.TheVariants.{Config}
+use Rattle.cable_world.specs.declared.act.ActStop.{ActStop}
+use Rattle.cable_world.specs.Act.{act_fault}
+use Rattle.cable_world.specs.Answer.{IfFault}
+use Rattle.cable_world.proofs.Options.{none-some}
+use Rattle.cable_world.proofs.running.Whole.{lawful-now}
+use Rattle.settle_plan.proofs.Suited.{from-there, not-refused, packet-fits}
+use Rattle.script_lines.specs.declared.command.Command.TheVariants as command
+use Rattle.script_trace.specs.Trace.{command_line}
+use Rattle.script_told.specs.Bus.{Notes}
+use Rattle.script_bus.specs.Running.{bus_now}
+use Rattle.script_bus.proofs.Tracing.{acted}
+use Rattle.script_bus.proofs.bus.Bus.send_traced.Goals as goal
+
+pub component-component-requires : goal.component-component-requires
+component-component-requires g c =
+    let w = g.W.WorldRun.world c.args.self.now.world in
+    let l = lawful-now w (g.met.W.WorldRun.reached c.args.self.now.world c.requires.sound.fine) in
+    subst (λ (d : Wiring). c.args.node < length d) (sym c.cabling.ensures) (from-there w l c.args.node c.args.plan.now c.requires.suits)
+
+pub act-requires : goal.act-requires
+act-requires g c =
+    let w = g.W.WorldRun.world c.args.self.now.world in
+    let l = lawful-now w (g.met.W.WorldRun.reached c.args.self.now.world c.requires.sound.fine) in
+    let component = subst (λ (d : Wiring). IsComponent d c.args.node c.component-component.result) c.cabling.ensures c.component-component.ensures.component in
+    packet-fits w l c.args.node c.args.plan.now c.requires.suits c.component-component.result component c.component-component.ensures.small
+
+pub unreachable-requires : goal.unreachable-requires
+unreachable-requires g c =
+    let w = g.W.WorldRun.world c.args.self.now.world in
+    let l = lawful-now w (g.met.W.WorldRun.reached c.args.self.now.world c.requires.sound.fine) in
+    let refused = subst (λ (e : ActStop). IfFault {A = Unit {0}} (Err e) (λ f. act_fault (Config c.args.node c.args.plan.now.root_id true (Some c.args.plan.now.gap)) w ≡ Some f)) c.in-Err-Fault.field-0-is c.in-Err-Fault.ensures.refused in
+    none-some (act_fault (Config c.args.node c.args.plan.now.root_id true (Some c.args.plan.now.gap)) w) c.in-Err-Fault.field-0-0 (not-refused w l c.args.node c.args.plan.now c.requires.suits) refused
+
+pub returns-clause-sent : goal.returns-clause-sent
+returns-clause-sent g c =
+    let w = g.W.WorldRun.world c.args.self.now.world in
+    let v = g.W.WorldRun.world c.act.new.self in
+    let l = lawful-now w (g.met.W.WorldRun.reached c.args.self.now.world c.requires.sound.fine) in
+    let plan = c.args.plan.now in
+    let said = c.in_ok-put_command.ensures ∙ ap (λ (n : List ℕ). c.args.out.now.items ++ command_line c.turns.result (command.Config n (Some plan.root_id) (Some plan.gap))) c.in_ok-clone.ensures.cases in
+    record {
+      sends = (not-refused w l c.args.node plan c.requires.suits, c.in-Ok.ensures.done, c.drop_after_act.ensures, refl);
+      appended = acted c.drop_after_act.new.self.names w v c.turns.result (command.Config c.args.name.now (Some plan.root_id) (Some plan.gap)) c.args.out.now.items c.put_command.new.out.items _ c.deref.result.now c.as_slice.result.now
+          c.turns.ensures said (c.deref.ensures.value ∙ c.in_ok-seen.ensures) (c.as_slice.ensures ∙ c.list-2.ensures) c.in_ok-put_since.ensures;
+    }
