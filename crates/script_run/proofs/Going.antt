@@ -12,12 +12,12 @@ use Rattle.script_run.specs.Answered.{StopsWith, IsRefused, IsOnlyFault}
 use Rattle.script_bus.specs.Running.{Stops}
 use Rattle.script_run.specs.codings.Going.{LineLeads, LineFails, IfFault, LeavesBy, Leaves, stop_at}
 
-behind-behind : (one other : List ℕ) (told : Told) → behind one (behind other told) ≡ behind (one ++ other) told
+pub behind-behind : (one other : List ℕ) (told : Told) → behind one (behind other told) ≡ behind (one ++ other) told
 behind-behind one other (Ok text) = ap Ok (sym (append_assoc one other text))
 behind-behind one other (Err fault) = refl
 
 -- a line is taken, and the rest tells the rest
-nothing-before : (t : Told) → t ≡ behind [] t
+pub nothing-before : (t : Told) → t ≡ behind [] t
 nothing-before (Ok t) = refl
 nothing-before (Err f) = refl
 

@@ -5,7 +5,9 @@ ghost use Rattle.script_told.specs.Step.{Settles};
 ghost use Rattle.script_told.specs.Bus as shown;
 ghost use Rattle.script_told.specs.Script.{fresh, bus_of};
 ghost use Rattle.script_bus.specs.Running.{bus_now, IsSound, Stops};
+ghost use Rattle.script_bus.specs.Tracing.{SettlesTraced};
 ghost use Rattle.script_run.specs.codings.Going.{LineLeads, LineFails, IfFault};
+ghost use Rattle.script_run.specs.codings.Tracing.{LineTraces};
 ghost use Rattle.script_advice.specs.Advising.{IsAdvised};
 
 use crate::run::Stage;
@@ -104,5 +106,28 @@ impl Course {
         ensures stop { IfErr result (Stops (λ r. Settles (bus_of self) r ⊎ IsAdvised self r)) }
     {
         self.settled(alloc)?.advised(alloc)
+    }
+
+    /// A line is taken, and what happens at it is appended.
+    pub fn trace(&mut self, alloc: Global, line: &[u8], out: &mut Vec<u8>) -> Result<(), LineStop>
+        ensures done { OnOk result ((lines : List ℕ) × LineTraces self.old line.now self.new lines
+            × (out.new.items ≡ out.old.items ++ lines)) }
+        ensures stop { IfErr result (IfFault (LineFails self.old line.now)) }
+    {
+        let d = self.stage.delay();
+        let Some(command) = parse_line(alloc, line, d)? else {
+            return Ok(());
+        };
+        self.stage.trace(alloc, d, command, out)?;
+        Ok(())
+    }
+
+    /// What happens in the `settle` behind the last line is appended.
+    pub fn last_trace(self, alloc: Global, out: &mut Vec<u8>) -> Result<(), LineStop>
+        ensures done { OnOk result ((after : shown.Bus)
+            × SettlesTraced (bus_of self) after out.old.items out.new.items) }
+        ensures stop { IfErr result (Stops (Settles (bus_of self))) }
+    {
+        self.stage.bus(alloc)?.last_trace(alloc, out)
     }
 }

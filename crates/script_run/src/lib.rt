@@ -10,8 +10,10 @@ mod course;
 mod draft;
 mod run;
 mod script;
+mod trace;
 
 pub use advise::advise_script;
 pub use script::run_script;
 pub use script_lines::{Kind, ScriptFault, ScriptStop};
 pub use topology_stack::OutOfMemory;
+pub use trace::trace_script;

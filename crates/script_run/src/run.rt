@@ -5,6 +5,7 @@ ghost use Rattle.script_told.specs.Script.{Declares, Delays, Follows, Runs, bus_
 ghost use Rattle.script_bus.specs.Running.{bus_now, IsSound};
 ghost use Rattle.script_run.specs.codings.Declaring.{IsDraft, IsLine, StopsAt, draft_now, node_said};
 ghost use Rattle.script_run.specs.codings.Going.{stage_now, IsSoundStage};
+ghost use Rattle.script_run.specs.codings.Tracing.{RunsTraced, FollowsTraced};
 
 use crate::draft::{Draft, NodeLine};
 use cable_world::WorldRun;
@@ -228,6 +229,65 @@ impl Stage<AgendaWorld<AnyMachine>> {
             }
             Command::Delay { delay } => self.say_delay(alloc, delay),
             _ => self.run(alloc, d, &command),
+        }
+    }
+
+    /// A command that runs the bus, traced.
+    fn run_traced(
+        &mut self,
+        alloc: Global,
+        d: u8,
+        command: &Command,
+        out: &mut Vec<u8>,
+    ) -> Result<(), LineStop>
+        requires sound { IsSoundStage ⟦<AgendaWorld<AnyMachine> as WorldRun>⟧.world
+            ⟦<AgendaWorld<AnyMachine> as WorldRun>⟧.is_spent self.old }
+        requires range { IsInRange d command.now }
+        ensures done { OnOk result (RunsTraced
+            (stage_now ⟦<AgendaWorld<AnyMachine> as WorldRun>⟧.world self.old) command.now
+            (stage_now ⟦<AgendaWorld<AnyMachine> as WorldRun>⟧.world self.new)
+            out.old.items out.new.items) }
+        ensures stop { IfErr result (StopsAt
+            (Runs (stage_now ⟦<AgendaWorld<AnyMachine> as WorldRun>⟧.world self.old)
+            command.now)) }
+        ensures sound { IsSoundStage ⟦<AgendaWorld<AnyMachine> as WorldRun>⟧.world
+            ⟦<AgendaWorld<AnyMachine> as WorldRun>⟧.is_spent self.new }
+    {
+        let mut bus = mem::replace(self, Stage::Fresh).bus(alloc)?;
+        bus.trace(alloc, d, command, out)?;
+        *self = Stage::Running(bus);
+        Ok(())
+    }
+
+    /// A command is done as `follow` does it, and what happens in it is appended in place of what it
+    /// prints.
+    pub fn trace(
+        &mut self,
+        alloc: Global,
+        d: u8,
+        command: Command,
+        out: &mut Vec<u8>,
+    ) -> Result<(), LineStop>
+        requires sound { IsSoundStage ⟦<AgendaWorld<AnyMachine> as WorldRun>⟧.world
+            ⟦<AgendaWorld<AnyMachine> as WorldRun>⟧.is_spent self.old }
+        requires delay { d ≡ delay_of
+            (stage_now ⟦<AgendaWorld<AnyMachine> as WorldRun>⟧.world self.old) }
+        requires range { IsInRange d command }
+        ensures done { OnOk result (FollowsTraced
+            (stage_now ⟦<AgendaWorld<AnyMachine> as WorldRun>⟧.world self.old) command
+            (stage_now ⟦<AgendaWorld<AnyMachine> as WorldRun>⟧.world self.new)
+            out.old.items out.new.items) }
+        ensures stop { IfErr result (StopsAt
+            (Follows (stage_now ⟦<AgendaWorld<AnyMachine> as WorldRun>⟧.world self.old) command)) }
+        ensures sound { IsSoundStage ⟦<AgendaWorld<AnyMachine> as WorldRun>⟧.world
+            ⟦<AgendaWorld<AnyMachine> as WorldRun>⟧.is_spent self.new }
+    {
+        match command {
+            Command::Node { .. } | Command::Delay { .. } => {
+                self.follow(alloc, d, command)?;
+                Ok(())
+            }
+            _ => self.run_traced(alloc, d, &command, out),
         }
     }
 }

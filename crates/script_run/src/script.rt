@@ -12,7 +12,7 @@ use script_told::scripts_tell_one_thing;
 use std::alloc::Global;
 
 /// The first line of what is left of a script, without its line feed, and what stands behind it.
-fn cut_line(rest: &[u8]) -> (&[u8], &[u8])
+pub(crate) fn cut_line(rest: &[u8]) -> (&[u8], &[u8])
     requires { 0 < length rest.now }
     ensures lines { script_lines rest.now ≡ result.0.now ∷ script_lines result.1.now }
     ensures shorter { length result.1.now < length rest.now }

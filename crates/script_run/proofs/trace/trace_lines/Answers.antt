@@ -1,0 +1,22 @@
+use Rattle.std.proofs.Common.{arith}
+use Rattle.script_told.specs.Script.{script_lines}
+use Rattle.script_run.proofs.Tracing.{trace-first, trace-next, trace-refused}
+use Rattle.script_run.proofs.trace.trace_lines.Goals as goal
+
+pub loop-rest-init : goal.loop-rest-init
+loop-rest-init c = (
+  omega (arith, c.requires),
+  trace-first c.args.bytes.now _ _ c.new-text.ensures.items c.new-course.ensures,
+)
+
+pub returns-in-Err-clause-refused : goal.returns-in-Err-clause-refused
+returns-in-Err-clause-refused c =
+    trace-refused c.args.bytes.now c.loop-rest.text.items c.loop-rest.number c.cut_line.result.0.now (script_lines c.cut_line.result.1.now) _ c.loop-rest.course c.in-Err.stop c.at_line.result
+    c.cut_line.ensures.lines c.at_line.ensures c.in-Err.ensures.stop c.loop-rest.invariant.1
+
+pub loop-rest-preserved : goal.loop-rest-preserved
+loop-rest-preserved c =
+    let done = c.in-Ok.ensures.done in (
+      omega (arith, c.cut_line.ensures.shorter, c.loop-rest.invariant.0),
+      trace-next c.args.bytes.now c.loop-rest.text.items _ done.0 c.loop-rest.number c.cut_line.result.0.now (script_lines c.cut_line.result.1.now) _ c.loop-rest.course c.trace.new.self c.cut_line.ensures.lines done.2 done.1 c.loop-rest.invariant.1,
+    )
