@@ -15,6 +15,7 @@ use crate::slots::count_up;
 use crate::standard::Standard;
 
 /// Appends the statuses of so many fields of two bits, at most eight, the last of them lowest.
+#[inline(always)]
 fn push_fields(ports: &mut PortList, fields: u16, count: u32)
     requires few { count ≤ 8 }
     requires room { length ports.old + count ≤ 27 }
@@ -26,6 +27,7 @@ fn push_fields(ports: &mut PortList, fields: u16, count: u32)
 }
 
 /// The node of a whole group and the place after it, unless the node has two parents.
+#[inline(always)]
 fn whole(
     at: usize,
     after: usize,
@@ -52,6 +54,7 @@ fn whole(
 }
 
 /// The slots that packet zero shows.
+#[inline(always)]
 fn first_ports(zero: &ZeroPart) -> PortList
     ensures { result ≡ zero.now.p0 ∷ zero.now.p1 ∷ zero.now.p2 ∷ [] }
 {
@@ -63,6 +66,7 @@ fn first_ports(zero: &ZeroPart) -> PortList
 }
 
 /// The carried bits of a packet with eight slots: its reserved bits and r.
+#[inline(always)]
 fn carried_of_eight(part: &FurtherPart) -> u8
     requires { part.now.kept < 4 }
     ensures value { result ≡ spelled (carried_a part.now) }
@@ -74,6 +78,7 @@ fn carried_of_eight(part: &FurtherPart) -> u8
 
 /// The carried bits of the second of two further packets of IEEE 1394a-2000: its reserved bits and
 /// the eight after its port fields.
+#[inline(always)]
 fn carried_of_five(second: &FurtherPart) -> u16
     requires { second.now.kept < 4 }
     ensures { result ≡ spelled (carried_b second.now) }
@@ -84,6 +89,7 @@ fn carried_of_five(second: &FurtherPart) -> u16
 }
 
 /// The carried bits of packet n = 2: its reserved bits, r and m.
+#[inline(always)]
 fn carried_of_last(third: &FurtherPart) -> u8
     requires { third.now.kept < 4 }
     ensures value { result ≡ spelled (carried_c third.now) }
@@ -95,6 +101,7 @@ fn carried_of_last(third: &FurtherPart) -> u8
 }
 
 /// The node of a standard's group at a place and the place after it, or the first fault.
+#[inline(always)]
 fn take_group(
     standard: Standard,
     quads: &[u32],
@@ -144,6 +151,7 @@ fn take_group(
 /// taken in turn, and of each it is asked whether the list goes on to it, whether it is a self-ID
 /// packet, whether it is this node's, and whether it is the next of the group; at the end, whether
 /// the node has two parents. It takes no memory.
+#[inline(always)]
 pub fn read_group_of(
     standard: Standard,
     quads: &[u32],

@@ -27,6 +27,7 @@ pub(crate) struct FurtherPart {
 }
 
 /// The status that a port field of two bits shows.
+#[inline(always)]
 pub(crate) fn status(field: u8) -> PortStatus
     ensures { result ≡ status_of field }
 {
@@ -39,6 +40,7 @@ pub(crate) fn status(field: u8) -> PortStatus
 }
 
 /// A packet that stands at a place as a self-ID packet of this node.
+#[inline(always)]
 fn owned(packet: PhyPacket, at: usize, wanted: u8) -> Result<PhyPacket, GroupFault>
     ensures { result ≡ owned at wanted packet }
 {
@@ -55,6 +57,7 @@ fn owned(packet: PhyPacket, at: usize, wanted: u8) -> Result<PhyPacket, GroupFau
 }
 
 /// The self-ID packet of this node at a place.
+#[inline(always)]
 fn owned_packet(quads: &[u32], at: usize, wanted: u8) -> Result<PhyPacket, GroupFault>
     requires { at ≤ length quads.now }
     ensures { result ≡ owned_at at wanted (drop at quads.now) }
@@ -66,6 +69,7 @@ fn owned_packet(quads: &[u32], at: usize, wanted: u8) -> Result<PhyPacket, Group
 }
 
 /// Packet zero of this node at a place.
+#[inline(always)]
 pub(crate) fn read_zero(quads: &[u32], at: usize, wanted: u8) -> Result<ZeroPart, GroupFault>
     requires { at ≤ length quads.now }
     ensures { result ≡ and_then (owned_at at wanted (drop at quads.now)) (zero_from at) }
@@ -104,6 +108,7 @@ pub(crate) fn read_zero(quads: &[u32], at: usize, wanted: u8) -> Result<ZeroPart
 }
 
 /// The further packet of this node with this number at a place.
+#[inline(always)]
 pub(crate) fn read_further(
     quads: &[u32],
     at: usize,

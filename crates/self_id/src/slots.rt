@@ -20,6 +20,7 @@ pub fn slot_count(ports: usize) -> usize
 
 /// How many slots lead to the parent.
 #[tactic(auto, using(crate::proofs::Count::ups_is))]
+#[inline(always)]
 pub fn count_up(slots: &[PortStatus]) -> usize
     ensures value { result ≡ ups slots.now }
     ensures few { result ≤ length slots.now }
@@ -32,6 +33,7 @@ pub fn count_up(slots: &[PortStatus]) -> usize
 
 /// How many slots lead to a child.
 #[tactic(auto, using(crate::proofs::Count::downs_is))]
+#[inline(always)]
 pub fn count_down(slots: &[PortStatus]) -> usize
     ensures value { result ≡ downs slots.now }
     ensures few { result ≤ length slots.now }

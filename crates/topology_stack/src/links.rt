@@ -27,6 +27,7 @@ impl Model for ChildList {
 
 impl ChildList {
     /// A list of these, which are few enough.
+    #[inline(always)]
     fn from_slice(ids: &[u8]) -> ChildList
         requires { length ids.now ≤ 27 }
         ensures { result ≡ ids.now }
@@ -46,6 +47,7 @@ impl ChildList {
 }
 
 /// Gives these nodes their parent.
+#[inline(always)]
 fn set_parent(parents: &mut [u8], children: &[u8], id: u8)
     ensures { parents.new ≡ set_all children.now id parents.old }
 {
@@ -65,6 +67,7 @@ pub(crate) struct Links {
 }
 
 /// The links of the nodes of a walk.
+#[inline(always)]
 pub(crate) fn links_of(alloc: Global, nodes: &[SelfId]) -> Result<Links, OutOfMemory>
     requires { length nodes.now ≤ 63 }
     ensures { (t : Tree) → IsBusTree t → nodes.now ≡ walk t
