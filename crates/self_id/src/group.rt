@@ -10,7 +10,9 @@ ghost use Rattle.self_id.specs.declared.standard.Standard.TheVariants.{Ieee1995,
 
 use crate::fault::GroupFault;
 use crate::node::{Attrs, PortList, SelfId};
-use crate::packets::{FurtherPart, ZeroPart, read_further, read_zero, status};
+use crate::packets::{
+    FurtherPart, ZeroPart, further_part, further_quad, status, zero_part, zero_quad,
+};
 use crate::slots::count_up;
 use crate::standard::Standard;
 
@@ -112,18 +114,18 @@ fn take_group(
     ensures { MatchResult result (λ x. Gives standard at wanted (drop at quads.now) x.0 x.1)
         (λ f. read_at standard at wanted (drop at quads.now) ≡ Err f) }
 {
-    let zero = read_zero(quads, at, wanted)?;
+    let zero = zero_part(zero_quad(quads, at, wanted)?);
     let mut ports = first_ports(&zero);
     if !zero.more {
         return whole(at, at + 1, zero.attrs, ports, 0, 0);
     }
-    let first = read_further(quads, at + 1, wanted, 0)?;
+    let first = further_part(further_quad(quads, at + 1, wanted, 0)?);
     push_fields(&mut ports, first.fields, 8);
     let kept_a = carried_of_eight(&first);
     if !first.more {
         return whole(at, at + 2, zero.attrs, ports, kept_a, 0);
     }
-    let second = read_further(quads, at + 2, wanted, 1)?;
+    let second = further_part(further_quad(quads, at + 2, wanted, 1)?);
     match standard {
         Standard::Ieee2000 => {
             push_fields(&mut ports, second.fields >> 6, 5);
@@ -136,7 +138,7 @@ fn take_group(
             if !second.more {
                 return whole(at, at + 3, zero.attrs, ports, kept_a, kept_b);
             }
-            let third = read_further(quads, at + 3, wanted, 2)?;
+            let third = further_part(further_quad(quads, at + 3, wanted, 2)?);
             push_fields(&mut ports, third.fields, 8);
             let kept_b = kept_b + u16::from(carried_of_last(&third));
             whole(at, at + 4, zero.attrs, ports, kept_a, kept_b)
