@@ -1,10 +1,10 @@
 //! The group of a node, read and written.
-ghost use Rattle.std.specs.Prelude.{◌≡◌, ◌+◌, ◌<◌, ◌≤◌, [], ◌∷◌, ◌++◌, length, drop, Ok, Err, MatchResult, IfOk, IfErr, IsOkAnd, IsErrOf};
+ghost use Rattle.std.specs.Prelude.{◌≡◌, ◌+◌, ◌<◌, ◌≤◌, [], ◌∷◌, ◌++◌, length, drop, true, Ok, Err, MatchResult, IfOk, IfErr, IsOkAnd, IsErrOf};
 ghost use Rattle.phy_packet.specs.Layout.{spelled};
 ghost use Rattle.self_id.specs.Node.{Node, node_with, HasForm};
 ghost use Rattle.self_id.specs.Group.{StandsAt, BeginsWith};
 ghost use Rattle.self_id.specs.Refused.{GroupRefused};
-ghost use Rattle.self_id.specs.codings.Reading.{statuses, carried_a, carried_b, carried_c, single, read_at, Gives};
+ghost use Rattle.self_id.specs.codings.Reading.{and_then, owned_at, zero_from, statuses, carried_a, carried_b, carried_c, single, read_at, Gives};
 ghost use Rattle.self_id.specs.declared.fault.GroupFault.{GroupFault};
 ghost use Rattle.self_id.specs.declared.standard.Standard.TheVariants.{Ieee1995, Ieee2000};
 
@@ -102,23 +102,22 @@ fn carried_of_last(third: &FurtherPart) -> u8
     third.kept * 4 + r + more
 }
 
-/// The node of a standard's group at a place and the place after it, or the first fault.
-#[inline(always)]
-fn take_group(
+/// The node of a standard's group of several packets at a place and the place after it, or the first
+/// fault. Packet zero was read.
+fn take_further(
     standard: Standard,
     quads: &[u32],
     at: usize,
     wanted: u8,
+    zero: &ZeroPart,
 ) -> Result<(SelfId, usize), GroupFault>
     requires inside { at < length quads.now }
+    requires zero { Ok zero.now ≡ and_then (owned_at at wanted (drop at quads.now)) (zero_from at) }
+    requires more { zero.now.more ≡ true }
     ensures { MatchResult result (λ x. Gives standard at wanted (drop at quads.now) x.0 x.1)
         (λ f. read_at standard at wanted (drop at quads.now) ≡ Err f) }
 {
-    let zero = zero_part(zero_quad(quads, at, wanted)?);
-    let mut ports = first_ports(&zero);
-    if !zero.more {
-        return whole(at, at + 1, zero.attrs, ports, 0, 0);
-    }
+    let mut ports = first_ports(zero);
     let first = further_part(further_quad(quads, at + 1, wanted, 0)?);
     push_fields(&mut ports, first.fields, 8);
     let kept_a = carried_of_eight(&first);
@@ -144,6 +143,25 @@ fn take_group(
             whole(at, at + 4, zero.attrs, ports, kept_a, kept_b)
         }
     }
+}
+
+/// The node of a standard's group at a place and the place after it, or the first fault.
+#[inline(always)]
+fn take_group(
+    standard: Standard,
+    quads: &[u32],
+    at: usize,
+    wanted: u8,
+) -> Result<(SelfId, usize), GroupFault>
+    requires inside { at < length quads.now }
+    ensures { MatchResult result (λ x. Gives standard at wanted (drop at quads.now) x.0 x.1)
+        (λ f. read_at standard at wanted (drop at quads.now) ≡ Err f) }
+{
+    let zero = zero_part(zero_quad(quads, at, wanted)?);
+    if zero.more {
+        return take_further(standard, quads, at, wanted, &zero);
+    }
+    whole(at, at + 1, zero.attrs, first_ports(&zero), 0, 0)
 }
 
 /// Reads the group of the node with ID `wanted` that stands at a place of a list, by a standard.
