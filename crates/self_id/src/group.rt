@@ -17,7 +17,7 @@ use crate::slots::count_up;
 use crate::standard::Standard;
 
 /// Appends the statuses of so many fields of two bits, at most eight, the last of them lowest.
-#[inline(always)]
+#[inline]
 fn push_fields(ports: &mut PortList, fields: u16, count: u32)
     requires few { count ≤ 8 }
     requires room { length ports.old + count ≤ 27 }
@@ -29,7 +29,7 @@ fn push_fields(ports: &mut PortList, fields: u16, count: u32)
 }
 
 /// The node of a whole group and the place after it, unless the node has two parents.
-#[inline(always)]
+#[inline]
 fn whole(
     at: usize,
     after: usize,
@@ -56,7 +56,7 @@ fn whole(
 }
 
 /// The slots that packet zero shows.
-#[inline(always)]
+#[inline]
 fn first_ports(zero: &ZeroPart) -> PortList
     ensures { result ≡ zero.now.p0 ∷ zero.now.p1 ∷ zero.now.p2 ∷ [] }
 {
@@ -68,7 +68,7 @@ fn first_ports(zero: &ZeroPart) -> PortList
 }
 
 /// The carried bits of a packet with eight slots: its reserved bits and r.
-#[inline(always)]
+#[inline]
 fn carried_of_eight(part: &FurtherPart) -> u8
     requires { part.now.kept < 4 }
     ensures value { result ≡ spelled (carried_a part.now) }
@@ -80,7 +80,7 @@ fn carried_of_eight(part: &FurtherPart) -> u8
 
 /// The carried bits of the second of two further packets of IEEE 1394a-2000: its reserved bits and
 /// the eight after its port fields.
-#[inline(always)]
+#[inline]
 fn carried_of_five(second: &FurtherPart) -> u16
     requires { second.now.kept < 4 }
     ensures { result ≡ spelled (carried_b second.now) }
@@ -91,7 +91,7 @@ fn carried_of_five(second: &FurtherPart) -> u16
 }
 
 /// The carried bits of packet n = 2: its reserved bits, r and m.
-#[inline(always)]
+#[inline]
 fn carried_of_last(third: &FurtherPart) -> u8
     requires { third.now.kept < 4 }
     ensures value { result ≡ spelled (carried_c third.now) }
@@ -146,7 +146,7 @@ fn take_further(
 }
 
 /// The node of a standard's group at a place and the place after it, or the first fault.
-#[inline(always)]
+#[inline]
 fn take_group(
     standard: Standard,
     quads: &[u32],
@@ -171,7 +171,7 @@ fn take_group(
 /// taken in turn, and of each it is asked whether the list goes on to it, whether it is a self-ID
 /// packet, whether it is this node's, and whether it is the next of the group; at the end, whether
 /// the node has two parents. It takes no memory.
-#[inline(always)]
+#[inline]
 pub fn read_group_of(
     standard: Standard,
     quads: &[u32],

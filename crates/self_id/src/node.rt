@@ -56,7 +56,7 @@ impl Model for PortList {
 
 impl PortList {
     /// The empty list.
-    #[inline(always)]
+    #[inline]
     pub fn new() -> PortList
         ensures { result ≡ [] }
     {
@@ -66,7 +66,7 @@ impl PortList {
     }
 
     /// Appends the status of the next slot.
-    #[inline(always)]
+    #[inline]
     pub fn push(&mut self, status: PortStatus)
         requires { length self.old < 27 }
         ensures { self.new ≡ self.old ++ status ∷ [] }
@@ -75,7 +75,7 @@ impl PortList {
     }
 
     /// The statuses, slot 0 first.
-    #[inline(always)]
+    #[inline]
     pub fn as_slice(&self) -> &[PortStatus]
         ensures value { result.now ≡ self.now }
         ensures few { length result.now ≤ 27 }

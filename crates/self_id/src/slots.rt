@@ -19,7 +19,7 @@ pub fn slot_count(ports: usize) -> usize
 }
 
 /// How many slots lead to the parent.
-#[inline(always)]
+#[inline]
 pub fn count_up(slots: &[PortStatus]) -> usize
     ensures value { result ≡ ups slots.now }
     ensures few { result ≤ length slots.now }
@@ -34,7 +34,7 @@ pub fn count_up(slots: &[PortStatus]) -> usize
 }
 
 /// How many slots lead to a child.
-#[inline(always)]
+#[inline]
 pub fn count_down(slots: &[PortStatus]) -> usize
     ensures value { result ≡ downs slots.now }
     ensures few { result ≤ length slots.now }

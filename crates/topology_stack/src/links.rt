@@ -37,7 +37,7 @@ impl ChildLists {
     }
 
     /// Appends the children of one node more.
-    #[inline(always)]
+    #[inline]
     fn push(&mut self, children: &[u8])
         requires nodes { length self.old < 63 }
         requires room { total self.old + length children.now ≤ 63 }
@@ -64,7 +64,7 @@ impl ChildLists {
 }
 
 /// Gives these nodes their parent.
-#[inline(always)]
+#[inline]
 fn set_parent(parents: &mut [u8], children: &[u8], id: u8)
     ensures { parents.new ≡ set_all children.now id parents.old }
 {
@@ -104,7 +104,7 @@ impl Roots {
     }
 
     /// All but the first ones, which are so many.
-    #[inline(always)]
+    #[inline]
     pub(crate) fn latest(&self, kept: usize) -> &[u8]
         requires { kept ≤ length self.now }
         ensures { result.now ≡ drop kept self.now }
@@ -113,7 +113,7 @@ impl Roots {
     }
 
     /// Puts one root in the place of all but the first ones, which are so many.
-    #[inline(always)]
+    #[inline]
     pub(crate) fn join(&mut self, kept: usize, id: u8)
         requires room { kept < 63 }
         requires kept { kept ≤ length self.old }
@@ -144,7 +144,7 @@ impl Links {
     }
 
     /// Links one node more, at most 63 in all, with its children.
-    #[inline(always)]
+    #[inline]
     pub(crate) fn add(&mut self, children: &[u8])
         requires parents { length self.old.parents.items < 63 }
         requires children { length self.old.children < 63 }

@@ -15,7 +15,7 @@ use std::alloc::Global;
 pub(crate) const MAX_NODES: usize = 63;
 
 /// The nodes, by ID, of the bus tree of a standard that emits a list. It links them.
-#[inline(always)]
+#[inline]
 pub(crate) fn nodes_of(
     alloc: Global,
     standard: Standard,
