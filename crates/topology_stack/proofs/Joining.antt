@@ -1,14 +1,13 @@
 -- Reading one group after the other and linking the nodes, as a loop does.
-use Rattle.std.proofs.Common.{◌≡◌, ℕ, ◌+◌, ◌-◌, ◌<◌, ◌≤◌, ◌≢◌, Bool, false, List, [], ◌∷◌, ◌++◌, length, take, drop, set, Ok, refl, sym, ap, ◌∙◌, arith, length-append, length-drop}
+use Rattle.std.proofs.Common.{◌≡◌, ℕ, ◌+◌, ◌-◌, ◌<◌, ◌≤◌, Bool, List, [], ◌∷◌, ◌++◌, length, take, drop, set, Ok, refl, sym, ap, ◌∙◌, arith, length-append, length-drop}
 use Rattle.std.proofs.lemmas.List.{length-set, length-take-le}
 use Rattle.self_id.specs.declared.standard.Standard.{Standard}
 use Rattle.self_id.specs.Node.{Node, downs}
-use Rattle.self_id.specs.Group.{StandsAt}
 use Rattle.topology_stack.specs.declared.waiting.Waiting.{Waiting}
 use Rattle.topology_stack.specs.codings.Waiting.{after_node}
-use Rattle.topology_stack.specs.codings.Links.{set_all, total, Linking, linked, all_linked, unlinked, AreLinks}
+use Rattle.topology_stack.specs.codings.Links.{set_all, total, Linking, linked, unlinked, AreLinks}
 use Rattle.topology_stack.proofs.Linking.{all_linked-append}
-use Rattle.topology_stack.proofs.Loop.{Reading, goes_round, trees_are}
+use Rattle.topology_stack.proofs.Loop.{Reading, trees_are}
 
 length-set_all : (ks : List ℕ) (id : ℕ) (ps : List ℕ) → length (set_all ks id ps) ≡ length ps
 length-set_all [] id ps = refl

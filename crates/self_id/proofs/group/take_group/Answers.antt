@@ -1,11 +1,10 @@
-use Rattle.std.proofs.Common.{◌≡◌, ◌+◌, ◌<◌, drop, refl, sym, ◌∙◌, arith, rules, true, false}
+use Rattle.std.proofs.Common.{◌≡◌, drop, rules, false}
 use Rattle.std.proofs.lemmas.Result.{err_from_is_err_and}
-use Rattle.self_id.specs.declared.standard.Standard.TheVariants.{Ieee1995, Ieee2000}
-use Rattle.self_id.specs.codings.Reading.{node3, node11, node16, node19, node27}
+use Rattle.self_id.specs.codings.Reading.{node3}
 use Rattle.self_id.proofs.Again.{stop_first}
 use Rattle.self_id.proofs.Quads.{shown}
 use Rattle.self_id.proofs.Sound.{form3}
-use Rattle.self_id.proofs.Whole.{zero_ok, zero_err, zero_fits, further_err, taken_fits, two_taken, three_taken, four_taken, two_forms, three_forms, four_forms, read3, read11, read_three, read27, stopped_second, stopped_third, stopped_fourth, gives, size3, size11, size_three, size27}
+use Rattle.self_id.proofs.Whole.{zero_ok, zero_err, zero_fits, read3, gives, size3}
 use Rattle.self_id.proofs.group.take_group.Goals as goal
 
 -- ---- packet zero
