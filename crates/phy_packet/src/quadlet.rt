@@ -44,6 +44,7 @@ const FIELDS: u32 = 2;
 
 const R: u32 = 1;
 
+#[inline(always)]
 fn config_or_extended(quad: u32) -> PhyPacket
     requires { quad / 2 ^ 30 ≡ 0 }
     ensures valid { IsValid result }
@@ -64,6 +65,7 @@ fn config_or_extended(quad: u32) -> PhyPacket
     }
 }
 
+#[inline(always)]
 fn self_zero(quad: u32) -> PhyPacket
     requires top { quad / 2 ^ 30 ≡ 2 }
     requires zero { quad / 2 ^ 23 % 2 ≡ 0 }
@@ -86,6 +88,7 @@ fn self_zero(quad: u32) -> PhyPacket
     }
 }
 
+#[inline(always)]
 fn self_more(quad: u32) -> PhyPacket
     requires top { quad / 2 ^ 30 ≡ 2 }
     requires one { quad / 2 ^ 23 % 2 ≡ 1 }
@@ -105,6 +108,7 @@ fn self_more(quad: u32) -> PhyPacket
 /// The packet that a quadlet shows. Every quadlet shows exactly one.
 ///
 /// `encode` of the answer is `quad` again, and `decode` of an encoded packet is that packet.
+#[inline(always)]
 pub fn decode(quad: u32) -> PhyPacket
     ensures valid { IsValid result }
     ensures shown { quad_of result ≡ quad }

@@ -1,8 +1,8 @@
 pub mod Again
-pub mod Count
 pub mod Fields
 pub mod Laws
 pub mod Public
+pub mod Quads
 pub mod Sound
 pub mod Steps
 pub mod Summed

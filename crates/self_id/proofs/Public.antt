@@ -3,7 +3,7 @@ use Rattle.std.proofs.Common.{◌≡◌, ℕ, ◌+◌, ◌-◌, ◌<◌, ◌≤�
 use Rattle.std.specs.Prelude.{MatchResult, IfOk, IfErr, IsOkAnd, IsErrOf}
 use Rattle.self_id.specs.declared.fault.GroupFault.{GroupFault}
 use Rattle.self_id.specs.declared.standard.Standard.{Standard}
-use Rattle.self_id.specs.Node.{Node, IsNode, IsOf}
+use Rattle.self_id.specs.Node.{Node}
 use Rattle.self_id.specs.Group.{group, BeginsWith, StandsAt}
 use Rattle.self_id.specs.Refused.{GroupRefused}
 use Rattle.self_id.specs.codings.Reading.{read_at, Gives}

@@ -1,10 +1,9 @@
 -- Of the packets of a group the first alone is a packet zero, so a list of groups has as many packet
 -- zeros as nodes.
-use Rattle.std.proofs.Common.{◌≡◌, ℕ, zero, suc, ◌+◌, ◌*◌, ◌/◌, ◌%◌, ◌^◌, ◌<◌, ◌≤◌, Bool, true, false, cond, ◌&&◌, eqb, List, [], ◌∷◌, ◌++◌, length, take, drop, refl, sym, ap, ◌∙◌, arith}
+use Rattle.std.proofs.Common.{◌≡◌, ℕ, ◌+◌, ◌*◌, ◌/◌, ◌%◌, ◌^◌, ◌<◌, ◌≤◌, Bool, true, false, cond, ◌&&◌, eqb, List, [], ◌∷◌, ◌++◌, length, take, drop, refl, sym, ap, ◌∙◌, arith}
 use Rattle.std.proofs.lemmas.List.Recursion.{is_count_by}
 use Rattle.phy_packet.specs.Layout.{bit}
 use Rattle.phy_packet.specs.Packet.{quad_of, is_packet_zero}
-use Rattle.self_id.specs.declared.node.PortStatus.{PortStatus}
 use Rattle.self_id.specs.Node.{Node, HasForm, FitBits}
 use Rattle.self_id.specs.Group.{field, fields, group, node_count, zero_packet, eight_packet, five_packet}
 pub use Rattle.self_id.proofs.Again.{field_below}

@@ -1,20 +1,23 @@
 //! The group of a node, read and written.
-ghost use Rattle.std.specs.Prelude.{◌≡◌, ◌+◌, ◌<◌, ◌≤◌, [], ◌∷◌, ◌++◌, length, drop, Ok, Err, MatchResult, IfOk, IfErr, IsOkAnd, IsErrOf};
+ghost use Rattle.std.specs.Prelude.{◌≡◌, ◌+◌, ◌<◌, ◌≤◌, [], ◌∷◌, ◌++◌, length, drop, true, Ok, Err, MatchResult, IfOk, IfErr, IsOkAnd, IsErrOf};
 ghost use Rattle.phy_packet.specs.Layout.{spelled};
 ghost use Rattle.self_id.specs.Node.{Node, node_with, HasForm};
 ghost use Rattle.self_id.specs.Group.{StandsAt, BeginsWith};
 ghost use Rattle.self_id.specs.Refused.{GroupRefused};
-ghost use Rattle.self_id.specs.codings.Reading.{statuses, carried_a, carried_b, carried_c, single, read_at, Gives};
+ghost use Rattle.self_id.specs.codings.Reading.{and_then, owned_at, zero_from, statuses, carried_a, carried_b, carried_c, single, read_at, Gives};
 ghost use Rattle.self_id.specs.declared.fault.GroupFault.{GroupFault};
 ghost use Rattle.self_id.specs.declared.standard.Standard.TheVariants.{Ieee1995, Ieee2000};
 
 use crate::fault::GroupFault;
 use crate::node::{Attrs, PortList, SelfId};
-use crate::packets::{FurtherPart, ZeroPart, read_further, read_zero, status};
+use crate::packets::{
+    FurtherPart, ZeroPart, further_part, further_quad, status, zero_part, zero_quad,
+};
 use crate::slots::count_up;
 use crate::standard::Standard;
 
 /// Appends the statuses of so many fields of two bits, at most eight, the last of them lowest.
+#[inline]
 fn push_fields(ports: &mut PortList, fields: u16, count: u32)
     requires few { count ≤ 8 }
     requires room { length ports.old + count ≤ 27 }
@@ -26,6 +29,7 @@ fn push_fields(ports: &mut PortList, fields: u16, count: u32)
 }
 
 /// The node of a whole group and the place after it, unless the node has two parents.
+#[inline]
 fn whole(
     at: usize,
     after: usize,
@@ -52,6 +56,7 @@ fn whole(
 }
 
 /// The slots that packet zero shows.
+#[inline]
 fn first_ports(zero: &ZeroPart) -> PortList
     ensures { result ≡ zero.now.p0 ∷ zero.now.p1 ∷ zero.now.p2 ∷ [] }
 {
@@ -63,6 +68,7 @@ fn first_ports(zero: &ZeroPart) -> PortList
 }
 
 /// The carried bits of a packet with eight slots: its reserved bits and r.
+#[inline]
 fn carried_of_eight(part: &FurtherPart) -> u8
     requires { part.now.kept < 4 }
     ensures value { result ≡ spelled (carried_a part.now) }
@@ -74,6 +80,7 @@ fn carried_of_eight(part: &FurtherPart) -> u8
 
 /// The carried bits of the second of two further packets of IEEE 1394a-2000: its reserved bits and
 /// the eight after its port fields.
+#[inline]
 fn carried_of_five(second: &FurtherPart) -> u16
     requires { second.now.kept < 4 }
     ensures { result ≡ spelled (carried_b second.now) }
@@ -84,6 +91,7 @@ fn carried_of_five(second: &FurtherPart) -> u16
 }
 
 /// The carried bits of packet n = 2: its reserved bits, r and m.
+#[inline]
 fn carried_of_last(third: &FurtherPart) -> u8
     requires { third.now.kept < 4 }
     ensures value { result ≡ spelled (carried_c third.now) }
@@ -94,29 +102,29 @@ fn carried_of_last(third: &FurtherPart) -> u8
     third.kept * 4 + r + more
 }
 
-/// The node of a standard's group at a place and the place after it, or the first fault.
-fn take_group(
+/// The node of a standard's group of several packets at a place and the place after it, or the first
+/// fault. Packet zero was read.
+fn take_further(
     standard: Standard,
     quads: &[u32],
     at: usize,
     wanted: u8,
+    zero: &ZeroPart,
 ) -> Result<(SelfId, usize), GroupFault>
     requires inside { at < length quads.now }
+    requires zero { Ok zero.now ≡ and_then (owned_at at wanted (drop at quads.now)) (zero_from at) }
+    requires more { zero.now.more ≡ true }
     ensures { MatchResult result (λ x. Gives standard at wanted (drop at quads.now) x.0 x.1)
         (λ f. read_at standard at wanted (drop at quads.now) ≡ Err f) }
 {
-    let zero = read_zero(quads, at, wanted)?;
-    let mut ports = first_ports(&zero);
-    if !zero.more {
-        return whole(at, at + 1, zero.attrs, ports, 0, 0);
-    }
-    let first = read_further(quads, at + 1, wanted, 0)?;
+    let mut ports = first_ports(zero);
+    let first = further_part(further_quad(quads, at + 1, wanted, 0)?);
     push_fields(&mut ports, first.fields, 8);
     let kept_a = carried_of_eight(&first);
     if !first.more {
         return whole(at, at + 2, zero.attrs, ports, kept_a, 0);
     }
-    let second = read_further(quads, at + 2, wanted, 1)?;
+    let second = further_part(further_quad(quads, at + 2, wanted, 1)?);
     match standard {
         Standard::Ieee2000 => {
             push_fields(&mut ports, second.fields >> 6, 5);
@@ -129,12 +137,31 @@ fn take_group(
             if !second.more {
                 return whole(at, at + 3, zero.attrs, ports, kept_a, kept_b);
             }
-            let third = read_further(quads, at + 3, wanted, 2)?;
+            let third = further_part(further_quad(quads, at + 3, wanted, 2)?);
             push_fields(&mut ports, third.fields, 8);
             let kept_b = kept_b + u16::from(carried_of_last(&third));
             whole(at, at + 4, zero.attrs, ports, kept_a, kept_b)
         }
     }
+}
+
+/// The node of a standard's group at a place and the place after it, or the first fault.
+#[inline]
+fn take_group(
+    standard: Standard,
+    quads: &[u32],
+    at: usize,
+    wanted: u8,
+) -> Result<(SelfId, usize), GroupFault>
+    requires inside { at < length quads.now }
+    ensures { MatchResult result (λ x. Gives standard at wanted (drop at quads.now) x.0 x.1)
+        (λ f. read_at standard at wanted (drop at quads.now) ≡ Err f) }
+{
+    let zero = zero_part(zero_quad(quads, at, wanted)?);
+    if zero.more {
+        return take_further(standard, quads, at, wanted, &zero);
+    }
+    whole(at, at + 1, zero.attrs, first_ports(&zero), 0, 0)
 }
 
 /// Reads the group of the node with ID `wanted` that stands at a place of a list, by a standard.
@@ -144,6 +171,7 @@ fn take_group(
 /// taken in turn, and of each it is asked whether the list goes on to it, whether it is a self-ID
 /// packet, whether it is this node's, and whether it is the next of the group; at the end, whether
 /// the node has two parents. It takes no memory.
+#[inline]
 pub fn read_group_of(
     standard: Standard,
     quads: &[u32],

@@ -56,6 +56,7 @@ impl Model for PortList {
 
 impl PortList {
     /// The empty list.
+    #[inline]
     pub fn new() -> PortList
         ensures { result ≡ [] }
     {
@@ -65,6 +66,7 @@ impl PortList {
     }
 
     /// Appends the status of the next slot.
+    #[inline]
     pub fn push(&mut self, status: PortStatus)
         requires { length self.old < 27 }
         ensures { self.new ≡ self.old ++ status ∷ [] }
@@ -73,6 +75,7 @@ impl PortList {
     }
 
     /// The statuses, slot 0 first.
+    #[inline]
     pub fn as_slice(&self) -> &[PortStatus]
         ensures value { result.now ≡ self.now }
         ensures few { length result.now ≤ 27 }

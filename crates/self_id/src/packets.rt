@@ -1,7 +1,9 @@
 //! The packets of a group, one at a time.
-ghost use Rattle.std.specs.Prelude.{◌≡◌, ◌≤◌, ◌<◌, length, drop};
+ghost use Rattle.std.specs.Prelude.{◌≡◌, ◌≤◌, ◌<◌, ℕ, suc, true, length, drop, Ok, Err, IfOk, IfErr};
 ghost use Rattle.self_id.specs.Node.{status_of};
-ghost use Rattle.self_id.specs.codings.Reading.{and_then, owned, owned_at, zero_from, further_from};
+ghost use Rattle.phy_packet.specs.codings.Decoding.{packet_of};
+ghost use Rattle.self_id.specs.Refused.{is_in_order};
+ghost use Rattle.self_id.specs.codings.Reading.{and_then, owned, owned_at, zero_in, further_in, zero_from, further_from};
 
 use crate::fault::GroupFault;
 use crate::node::{Attrs, PortStatus};
@@ -27,6 +29,7 @@ pub(crate) struct FurtherPart {
 }
 
 /// The status that a port field of two bits shows.
+#[inline(always)]
 pub(crate) fn status(field: u8) -> PortStatus
     ensures { result ≡ status_of field }
 {
@@ -39,6 +42,7 @@ pub(crate) fn status(field: u8) -> PortStatus
 }
 
 /// A packet that stands at a place as a self-ID packet of this node.
+#[inline(always)]
 fn owned(packet: PhyPacket, at: usize, wanted: u8) -> Result<PhyPacket, GroupFault>
     ensures { result ≡ owned at wanted packet }
 {
@@ -55,6 +59,7 @@ fn owned(packet: PhyPacket, at: usize, wanted: u8) -> Result<PhyPacket, GroupFau
 }
 
 /// The self-ID packet of this node at a place.
+#[inline(always)]
 fn owned_packet(quads: &[u32], at: usize, wanted: u8) -> Result<PhyPacket, GroupFault>
     requires { at ≤ length quads.now }
     ensures { result ≡ owned_at at wanted (drop at quads.now) }
@@ -65,12 +70,29 @@ fn owned_packet(quads: &[u32], at: usize, wanted: u8) -> Result<PhyPacket, Group
     owned(decode(quads[at]), at, wanted)
 }
 
-/// Packet zero of this node at a place.
-pub(crate) fn read_zero(quads: &[u32], at: usize, wanted: u8) -> Result<ZeroPart, GroupFault>
+/// The quadlet at a place, where it shows packet zero of this node.
+#[inline(always)]
+pub(crate) fn zero_quad(quads: &[u32], at: usize, wanted: u8) -> Result<u32, GroupFault>
     requires { at ≤ length quads.now }
-    ensures { result ≡ and_then (owned_at at wanted (drop at quads.now)) (zero_from at) }
+    ensures ok { IfOk result (λ quad. Ok (zero_in (packet_of quad))
+        ≡ and_then (owned_at at wanted (drop at quads.now)) (zero_from at)) }
+    ensures order { IfOk result (λ quad. is_in_order 0 (packet_of quad) ≡ true) }
+    ensures err { IfErr result (λ f. Err f
+        ≡ and_then (owned_at at wanted (drop at quads.now)) (zero_from at)) }
 {
     match owned_packet(quads, at, wanted)? {
+        PhyPacket::SelfZero { .. } => Ok(quads[at]),
+        _ => Err(GroupFault::BadOrder { at }),
+    }
+}
+
+/// What a packet zero says that a quadlet shows.
+#[inline(always)]
+pub(crate) fn zero_part(quad: u32) -> ZeroPart
+    requires { is_in_order 0 (packet_of quad) ≡ true }
+    ensures { result ≡ zero_in (packet_of quad) }
+{
+    match decode(quad) {
         PhyPacket::SelfZero {
             link,
             gap,
@@ -84,7 +106,7 @@ pub(crate) fn read_zero(quads: &[u32], at: usize, wanted: u8) -> Result<ZeroPart
             initiated,
             more,
             ..
-        } => Ok(ZeroPart {
+        } => ZeroPart {
             attrs: Attrs {
                 link,
                 gap,
@@ -98,36 +120,51 @@ pub(crate) fn read_zero(quads: &[u32], at: usize, wanted: u8) -> Result<ZeroPart
             p1: status(p1),
             p2: status(p2),
             more,
-        }),
-        _ => Err(GroupFault::BadOrder { at }),
+        },
+        _ => unreachable!(),
     }
 }
 
-/// The further packet of this node with this number at a place.
-pub(crate) fn read_further(
+/// The quadlet at a place, where it shows the further packet of this node with this number.
+#[inline(always)]
+pub(crate) fn further_quad(
     quads: &[u32],
     at: usize,
     wanted: u8,
     number: u8,
-) -> Result<FurtherPart, GroupFault>
+) -> Result<u32, GroupFault>
     requires { at ≤ length quads.now }
-    ensures { result ≡ and_then (owned_at at wanted (drop at quads.now))
-        (further_from at number) }
+    ensures ok { IfOk result (λ quad. Ok (further_in (packet_of quad))
+        ≡ and_then (owned_at at wanted (drop at quads.now)) (further_from at number)) }
+    ensures order { IfOk result (λ quad. is_in_order (suc number) (packet_of quad) ≡ true) }
+    ensures err { IfErr result (λ f. Err f
+        ≡ and_then (owned_at at wanted (drop at quads.now)) (further_from at number)) }
 {
     match owned_packet(quads, at, wanted)? {
+        PhyPacket::SelfMore { n, .. } if n == number => Ok(quads[at]),
+        _ => Err(GroupFault::BadOrder { at }),
+    }
+}
+
+/// What a further packet says that a quadlet shows.
+#[inline(always)]
+pub(crate) fn further_part(quad: u32) -> FurtherPart
+    requires { (number : ℕ) × (is_in_order (suc number) (packet_of quad) ≡ true) }
+    ensures { result ≡ further_in (packet_of quad) }
+{
+    match decode(quad) {
         PhyPacket::SelfMore {
-            n,
             kept,
             fields,
             r,
             more,
             ..
-        } if n == number => Ok(FurtherPart {
+        } => FurtherPart {
             kept,
             fields,
             r,
             more,
-        }),
-        _ => Err(GroupFault::BadOrder { at }),
+        },
+        _ => unreachable!(),
     }
 }

@@ -19,25 +19,31 @@ pub fn slot_count(ports: usize) -> usize
 }
 
 /// How many slots lead to the parent.
-#[tactic(auto, using(crate::proofs::Count::ups_is))]
+#[inline]
 pub fn count_up(slots: &[PortStatus]) -> usize
     ensures value { result ≡ ups slots.now }
     ensures few { result ≤ length slots.now }
 {
-    slots
-        .iter()
-        .filter(|slot| matches!(slot, PortStatus::Up))
-        .count()
+    let mut count = 0;
+    for slot in slots {
+        if matches!(slot, PortStatus::Up) {
+            count += 1;
+        }
+    }
+    count
 }
 
 /// How many slots lead to a child.
-#[tactic(auto, using(crate::proofs::Count::downs_is))]
+#[inline]
 pub fn count_down(slots: &[PortStatus]) -> usize
     ensures value { result ≡ downs slots.now }
     ensures few { result ≤ length slots.now }
 {
-    slots
-        .iter()
-        .filter(|slot| matches!(slot, PortStatus::Down))
-        .count()
+    let mut count = 0;
+    for slot in slots {
+        if matches!(slot, PortStatus::Down) {
+            count += 1;
+        }
+    }
+    count
 }

@@ -7,6 +7,8 @@ pub mod Exact
 pub mod Laws
 pub mod Linking
 pub mod Answered
+pub mod Cutting
 pub mod Ends
+pub mod Joining
 pub mod Highest
 mod Streaming

@@ -1,33 +1,17 @@
 -- Linking the nodes of a walk one by one gives the parents and children of its tree.
-use Rattle.std.proofs.Common.{◌≡◌, ℕ, ◌+◌, ◌-◌, ◌≤◌, List, [], ◌∷◌, ◌++◌, length, take, drop, set, refl, sym, ap, ◌∙◌, append_assoc, arith, length-append}
-use Rattle.std.proofs.lemmas.List.{append-nil, take_at, drop_at, drop_all}
+use Rattle.std.proofs.Common.{◌≡◌, ℕ, ◌+◌, ◌-◌, List, [], ◌∷◌, ◌++◌, length, take, drop, set, refl, sym, ap, ◌∙◌, append_assoc, arith, length-append}
+use Rattle.std.proofs.lemmas.List.{append-nil, take_at, drop_at}
 use Rattle.self_id.specs.Node.{Node, downs}
 use Rattle.topology_stack.specs.Tree.{Label, Tree, branch, Slots, no_more, absent, unplugged, up, down, statuses, node_of, walk, walk_below, IsBusTree}
 use Rattle.topology_stack.specs.codings.Stored.{parents_from, parents_below, child_ids, children_from, children_below, Stored}
-use Rattle.topology_stack.specs.codings.Links.{set_all}
-
-pub record Linking : Type 0 where
-  pub waiting : List ℕ
-  pub above : List ℕ
-  pub below : List (List ℕ)
+use Rattle.topology_stack.specs.codings.Links.{set_all, Linking, linked, all_linked, unlinked}
 
 abbrev pub link : Linking → Node → Linking
-link l n = record {
-  waiting = take (length l.waiting - downs n.ports) l.waiting ++ length l.above ∷ [];
-  above = set_all (drop (length l.waiting - downs n.ports) l.waiting) (length l.above) l.above ++ 63 ∷ [];
-  below = l.below ++ drop (length l.waiting - downs n.ports) l.waiting ∷ [];
-}
+link l n = linked (length l.waiting - downs n.ports) l
 
-abbrev pub links : Linking → List Node → Linking
-links l [] = l
-links l (n ∷ ns) = links (link l n) ns
-
-abbrev pub unlinked : Linking
-unlinked = record { waiting = []; above = []; below = [] }
-
-links-append : (l : Linking) (ms ns : List Node) → links l (ms ++ ns) ≡ links (links l ms) ns
-links-append l [] ns = refl
-links-append l (m ∷ ms) ns = links-append (link l m) ms ns
+pub all_linked-append : (l : Linking) (ms ns : List Node) → all_linked l (ms ++ ns) ≡ all_linked (all_linked l ms) ns
+all_linked-append l [] ns = refl
+all_linked-append l (m ∷ ms) ns = all_linked-append (link l m) ms ns
 
 pub length-child_ids : (from : ℕ) (s : Slots) → length (child_ids from s) ≡ downs (statuses s)
 length-child_ids from no_more = refl
@@ -122,18 +106,18 @@ one_after l t s =
     (ap (λ (k : ℕ). (l.below ++ children_from from t) ++ children_below k s) next ∙ append_assoc l.below (children_from from t) (children_below (from + length (walk t)) s))
 
 mutual
-  links-walk : (t : Tree) (l : Linking) → links l (walk t) ≡ with_tree l t
-  links-walk (branch a s) l = links-append l (walk_below s) (node_of a s ∷ []) ∙ ap (λ (k : Linking). link k (node_of a s)) (links-walk_below s l) ∙ closed l a s
+  links-walk : (t : Tree) (l : Linking) → all_linked l (walk t) ≡ with_tree l t
+  links-walk (branch a s) l = all_linked-append l (walk_below s) (node_of a s ∷ []) ∙ ap (λ (k : Linking). link k (node_of a s)) (links-walk_below s l) ∙ closed l a s
 
-  links-walk_below : (s : Slots) (l : Linking) → links l (walk_below s) ≡ with_slots l s
+  links-walk_below : (s : Slots) (l : Linking) → all_linked l (walk_below s) ≡ with_slots l s
   links-walk_below no_more l = same_linking l (with_slots l no_more) (sym (append-nil l.waiting)) (sym (append-nil l.above)) (sym (append-nil l.below))
   links-walk_below (absent s) l = links-walk_below s l
   links-walk_below (unplugged s) l = links-walk_below s l
   links-walk_below (up s) l = links-walk_below s l
-  links-walk_below (down t s) l = links-append l (walk t) (walk_below s) ∙ ap (λ (k : Linking). links k (walk_below s)) (links-walk t l) ∙ links-walk_below s (with_tree l t) ∙ one_after l t s
+  links-walk_below (down t s) l = all_linked-append l (walk t) (walk_below s) ∙ ap (λ (k : Linking). all_linked k (walk_below s)) (links-walk t l) ∙ links-walk_below s (with_tree l t) ∙ one_after l t s
 
 -- the links of a tree
-pub links_of-walk : (t : Tree) → links unlinked (walk t) ≡ with_tree unlinked t
+pub links_of-walk : (t : Tree) → all_linked unlinked (walk t) ≡ with_tree unlinked t
 links_of-walk t = links-walk t unlinked
 
 mutual
@@ -148,11 +132,7 @@ mutual
   length-children_below from (down t s) = omega (arith, length-append (children_from from t) (children_below (from + length (walk t)) s), length-append (walk t) (walk_below s), length-children_from from t, length-children_below (from + length (walk t)) s)
 
 -- what is linked is what a tree keeps
-pub stored : (t : Tree) (ns : List Node) (l : Linking) → IsBusTree t → ns ≡ walk t → l ≡ links unlinked ns → Stored t ns l.above l.below
+pub stored : (t : Tree) (ns : List Node) (l : Linking) → IsBusTree t → ns ≡ walk t → l ≡ all_linked unlinked ns → Stored t ns l.above l.below
 stored t ns l bus nodes is =
-    let linked : l ≡ with_tree unlinked t = is ∙ ap (links unlinked) nodes ∙ links_of-walk t in
+    let linked : l ≡ with_tree unlinked t = is ∙ ap (all_linked unlinked) nodes ∙ links_of-walk t in
     record { bus = bus; walk_is = nodes; above = ap (λ (k : Linking). k.above) linked; below = ap (λ (k : Linking). k.below) linked }
-
--- after the last node nothing is left to link
-pub finished : (ns : List Node) (i : ℕ) (l : Linking) → length ns ≤ i → links l (drop i ns) ≡ links unlinked ns → l ≡ links unlinked ns
-finished ns i l le e = sym (ap (links l) (drop_all i ns le)) ∙ e

@@ -134,6 +134,10 @@ few_wait at found n w go =
     let trees : found - downs n.ports + 1 ≡ w.trees = ap (λ (v : Waiting). v.trees) (passes at found n w (Ok []) go).1 in
     omega (arith, trees)
 
+-- how many trees wait
+pub trees_are : (at found : ℕ) (n : Node) (w : Waiting) → after_node at found n ≡ Ok w → w.trees ≡ found - downs n.ports + 1
+trees_are at found n w go = sym (ap (λ (v : Waiting). v.trees) (passes at found n w (Ok []) go).1)
+
 -- one more turn of the loop
 pub goes_round : (standard : Standard) (quads : List ℕ) (at found place : ℕ) (rooted : Bool) (ns : List Node) (n : Node) (w : Waiting) → at < length quads → rooted ≡ false → length ns ≢ 63 → Reading standard quads at found rooted ns →
     read_at standard at (length ns) (drop at quads) ≡ Ok n → place ≡ at + length (group n (length ns)) → place ≤ length quads → after_node at found n ≡ Ok w →

@@ -1,51 +1,70 @@
 //! The IDs at the other ends of slots.
-ghost use Rattle.std.specs.Prelude.{◌≡◌, ◌≤◌, length, IfOk};
-ghost use Rattle.topology_stack.specs.Tree.{Tree, IsBusTree, walk};
-ghost use Rattle.topology_stack.specs.codings.Stored.{Stored};
-ghost use Rattle.topology_stack.specs.codings.Links.{set_all};
+ghost use Rattle.std.specs.Prelude.{◌≡◌, ◌+◌, ◌<◌, ◌≤◌, Some, [], ◌∷◌, ◌++◌, length, drop, take, slice_get};
+ghost use Rattle.topology_stack.specs.codings.Links.{set_all, total};
 
 use crate::reading::MAX_NODES;
 use arrayvec::ArrayVec;
-use quad_lanes::OutOfMemory;
-use self_id::{SelfId, count_down};
-use std::alloc::Global;
 use std::marker::Model;
 
-/// IDs, at most 27.
+/// The IDs of each node's children, one node's behind the other's.
 #[derive(Debug, Drop)]
-pub(crate) struct ChildList {
-    items: ArrayVec<u8, 27>,
+pub(crate) struct ChildLists {
+    ids: ArrayVec<u8, MAX_NODES>,
+    /// Where the IDs of each node end.
+    ends: ArrayVec<u8, MAX_NODES>,
 }
 
-impl Model for ChildList {
-    ghost use Rattle.std.specs.Prelude.{List, ℕ};
+impl Model for ChildLists {
+    ghost use Rattle.std.specs.Prelude.{List, ℕ, ◌≤◌, length};
+    ghost use Rattle.topology_stack.specs.codings.Links.{cut, Rises};
 
-    ghost Value = { List ℕ };
+    ghost Value = { List (List ℕ) };
 
-    ghost view = { λ p. p.items.items };
+    ghost view = { λ c. cut c.ids.items 0 c.ends.items };
+
+    ghost invariant = { λ c. (length c.ids.items ≤ 63)
+        × Rises (length c.ids.items) 0 c.ends.items };
 }
 
-impl ChildList {
-    /// A list of these, which are few enough.
-    fn from_slice(ids: &[u8]) -> ChildList
-        requires { length ids.now ≤ 27 }
-        ensures { result ≡ ids.now }
+impl ChildLists {
+    fn new() -> ChildLists
+        ensures { result ≡ [] }
     {
-        let mut items = ArrayVec::new();
-        for id in ids {
-            items.push(*id);
+        ChildLists {
+            ids: ArrayVec::new(),
+            ends: ArrayVec::new(),
         }
-        ChildList { items }
     }
 
-    pub(crate) fn as_slice(&self) -> &[u8]
-        ensures { result.now ≡ self.now }
+    /// Appends the children of one node more.
+    #[inline]
+    fn push(&mut self, children: &[u8])
+        requires nodes { length self.old < 63 }
+        requires room { total self.old + length children.now ≤ 63 }
+        ensures { self.new ≡ self.old ++ children.now ∷ [] }
     {
-        self.items.as_slice()
+        for child in children {
+            self.ids.push(*child);
+        }
+        self.ends.push(self.ids.len() as u8);
+    }
+
+    /// The children of the node with this ID.
+    pub(crate) fn of(&self, id: usize) -> &[u8]
+        requires { id < length self.now }
+        ensures { slice_get self.now id ≡ Some result.now }
+    {
+        if id == 0 {
+            return &self.ids[..self.ends[0] as usize];
+        }
+        let start = self.ends[id - 1] as usize;
+        let end = self.ends[id] as usize;
+        &self.ids[start..end]
     }
 }
 
 /// Gives these nodes their parent.
+#[inline]
 fn set_parent(parents: &mut [u8], children: &[u8], id: u8)
     ensures { parents.new ≡ set_all children.now id parents.old }
 {
@@ -57,31 +76,86 @@ fn set_parent(parents: &mut [u8], children: &[u8], id: u8)
     }
 }
 
-/// Parents and children by ID.
+/// The roots of the trees that wait for a parent, the latest last.
+#[derive(Debug, Drop)]
+pub(crate) struct Roots {
+    ids: [u8; MAX_NODES],
+    count: usize,
+}
+
+impl Model for Roots {
+    ghost use Rattle.std.specs.Prelude.{List, ℕ, ◌≤◌, take};
+
+    ghost Value = { List ℕ };
+
+    ghost view = { λ r. take r.count r.ids };
+
+    ghost invariant = { λ r. r.count ≤ 63 };
+}
+
+impl Roots {
+    pub(crate) fn new() -> Roots
+        ensures { result ≡ [] }
+    {
+        Roots {
+            ids: [0; MAX_NODES],
+            count: 0,
+        }
+    }
+
+    /// All but the first ones, which are so many.
+    #[inline]
+    pub(crate) fn latest(&self, kept: usize) -> &[u8]
+        requires { kept ≤ length self.now }
+        ensures { result.now ≡ drop kept self.now }
+    {
+        &self.ids[kept..self.count]
+    }
+
+    /// Puts one root in the place of all but the first ones, which are so many.
+    #[inline]
+    pub(crate) fn join(&mut self, kept: usize, id: u8)
+        requires room { kept < 63 }
+        requires kept { kept ≤ length self.old }
+        ensures { self.new ≡ take kept self.old ++ id ∷ [] }
+    {
+        self.ids[kept] = id;
+        self.count = kept + 1;
+    }
+}
+
+/// Parents and children by ID, as far as the nodes have come.
 #[derive(Debug, Drop)]
 pub(crate) struct Links {
     pub parents: ArrayVec<u8, MAX_NODES>,
-    pub children: Vec<ChildList>,
+    pub children: ChildLists,
 }
 
-/// The links of the nodes of a walk.
-pub(crate) fn links_of(alloc: Global, nodes: &[SelfId]) -> Result<Links, OutOfMemory>
-    requires { length nodes.now ≤ 63 }
-    ensures { (t : Tree) → IsBusTree t → nodes.now ≡ walk t
-        → IfOk result (λ l. Stored t nodes.now l.parents.items l.children.items) }
-{
-    let mut waiting = ArrayVec::<u8, MAX_NODES>::new();
-    let mut parents = ArrayVec::<u8, MAX_NODES>::new();
-    let mut children = Vec::with_capacity(alloc, nodes.len())?;
-    for node in nodes {
-        let id = parents.len() as u8;
-        let wanted = count_down(node.ports.as_slice());
-        let start = waiting.len().saturating_sub(wanted);
-        set_parent(&mut parents, &waiting[start..], id);
-        children.push(ChildList::from_slice(&waiting[start..]))?;
-        waiting.truncate(start);
-        waiting.push(id);
-        parents.push(63);
+impl Links {
+    /// The links of no nodes.
+    pub(crate) fn new() -> Links
+        ensures parents { result.parents.items ≡ [] }
+        ensures children { result.children ≡ [] }
+    {
+        Links {
+            parents: ArrayVec::new(),
+            children: ChildLists::new(),
+        }
     }
-    Ok(Links { parents, children })
+
+    /// Links one node more, at most 63 in all, with its children.
+    #[inline]
+    pub(crate) fn add(&mut self, children: &[u8])
+        requires parents { length self.old.parents.items < 63 }
+        requires children { length self.old.children < 63 }
+        requires room { total self.old.children + length children.now ≤ 63 }
+        ensures parents { self.new.parents.items ≡ set_all children.now
+            (length self.old.parents.items) self.old.parents.items ++ 63 ∷ [] }
+        ensures children { self.new.children ≡ self.old.children ++ children.now ∷ [] }
+    {
+        let id = self.parents.len() as u8;
+        set_parent(&mut self.parents, children, id);
+        self.parents.push(63);
+        self.children.push(children);
+    }
 }

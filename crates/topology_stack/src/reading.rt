@@ -1,10 +1,12 @@
-//! Reading the nodes of a list, with the first fault.
-ghost use Rattle.std.specs.Prelude.{◌≡◌, IfOk};
+//! Reading the nodes of a list and their links, with the first fault.
+ghost use Rattle.std.specs.Prelude.{◌≡◌, ℕ, List, [], IfOk};
 ghost use Rattle.topology_stack.specs.Tree.{Tree, IsBusTreeOf, walk, emits};
 ghost use Rattle.topology_stack.specs.Refused.{Refused};
 ghost use Rattle.topology_stack.specs.Answer.{IfFault};
+ghost use Rattle.topology_stack.specs.codings.Links.{AreLinks};
 
 use crate::fault::{TreeFault, TreeStop};
+use crate::links::{Links, Roots};
 use crate::waiting::{Waiting, after_node};
 use self_id::{SelfId, Standard, read_group_of};
 use std::alloc::Global;
@@ -12,17 +14,24 @@ use std::alloc::Global;
 /// The most nodes of a bus: IDs run from 0 to 62, and 63 means all nodes.
 pub(crate) const MAX_NODES: usize = 63;
 
-/// The nodes, by ID, of the bus tree of a standard that emits a list.
+/// The nodes, by ID, of the bus tree of a standard that emits a list. It links them.
+#[inline]
 pub(crate) fn nodes_of(
     alloc: Global,
     standard: Standard,
     quads: &[u32],
+    links: &mut Links,
 ) -> Result<Vec<SelfId>, TreeStop>
+    requires parents { links.old.parents.items ≡ [] }
+    requires children { links.old.children ≡ [] }
     ensures found { IfOk result (λ v. (t : Tree) × IsBusTreeOf standard t × (v.items ≡ walk t)
         × (emits t ≡ quads.now)) }
+    ensures linked { IfOk result (λ v. (roots : List ℕ)
+        × AreLinks v.items roots links.new.parents.items links.new.children) }
     ensures refused { IfFault result (λ f. Refused standard quads.now f) }
 {
     let mut nodes = Vec::with_capacity(alloc, quads.len().min(MAX_NODES))?;
+    let mut roots = Roots::new();
     let mut at = 0;
     let mut waiting = Waiting {
         trees: 0,
@@ -37,6 +46,9 @@ pub(crate) fn nodes_of(
         }
         let (node, after) = read_group_of(standard, quads, at, nodes.len() as u8)?;
         waiting = after_node(at, waiting.trees, &node)?;
+        let kept = waiting.trees as usize - 1;
+        links.add(roots.latest(kept));
+        roots.join(kept, nodes.len() as u8);
         nodes.push(node)?;
         at = after;
     }

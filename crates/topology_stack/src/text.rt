@@ -4,7 +4,7 @@ ghost use Rattle.topology_stack.specs.Tree.{walk};
 ghost use Rattle.topology_stack.specs.codings.Stored.{ends_of, all_ends};
 ghost use Rattle.topology_stack.specs.Text.{attrs_text, field, truth, signs, naming, node_line, lines_from, irm, last_line, tree_text};
 
-use crate::links::ChildList;
+use crate::links::ChildLists;
 use crate::manager::elect;
 use crate::name::{Name, NameList};
 use crate::number::put_number;
@@ -117,7 +117,7 @@ fn put_lines(
     out: &mut Vec<u8>,
     nodes: &[SelfId],
     parents: &[u8],
-    children: &[ChildList],
+    children: &ChildLists,
     names: &[Name],
 ) -> Result<(), OutOfMemory>
     requires few { length nodes.now ≤ 63 }
@@ -127,14 +127,7 @@ fn put_lines(
         ++ lines_from 0 nodes.now (all_ends nodes.now parents.now children.now) names.now) }
 {
     for (i, node) in nodes.iter().enumerate() {
-        put_line(
-            out,
-            i as u8,
-            node,
-            parents[i],
-            children[i].as_slice(),
-            names,
-        )?;
+        put_line(out, i as u8, node, parents[i], children.of(i), names)?;
     }
     Ok(())
 }

@@ -9,7 +9,7 @@ ghost use Rattle.topology_stack.specs.Answer.{IfFault, UnlessMemory};
 ghost use Rattle.topology_stack.specs.declared.fault.TreeFault.{TreeFault};
 
 use crate::fault::TreeStop;
-use crate::links::{ChildList, links_of};
+use crate::links::{ChildLists, Links};
 use crate::reading::{MAX_NODES, nodes_of};
 use crate::slots::far_end;
 use arrayvec::ArrayVec;
@@ -24,7 +24,7 @@ use std::marker::Model;
 pub struct BusTree {
     nodes: Vec<SelfId>,
     parents: ArrayVec<u8, MAX_NODES>,
-    children: Vec<ChildList>,
+    children: ChildLists,
 }
 
 impl Model for BusTree {
@@ -39,7 +39,7 @@ impl Model for BusTree {
     ghost view = { λ b. tree_of b.nodes.items };
 
     ghost invariant = { λ b. Stored (tree_of b.nodes.items) b.nodes.items b.parents.items
-        b.children.items };
+        b.children };
 }
 
 /// The bus tree of a standard whose nodes emit `quads`, as `read_tree` and `read_tree95` answer it.
@@ -51,8 +51,8 @@ fn read_tree_of(alloc: Global, standard: Standard, quads: &[u32]) -> Result<BusT
     ensures exact { (f : TreeFault) → Refused standard quads.now f
         → UnlessMemory result (Err (TreeStop.Fault f)) }
 {
-    let nodes = nodes_of(alloc, standard, quads)?;
-    let links = links_of(alloc, &nodes)?;
+    let mut links = Links::new();
+    let nodes = nodes_of(alloc, standard, quads, &mut links)?;
     Ok(BusTree {
         nodes,
         parents: links.parents,
@@ -127,12 +127,7 @@ impl BusTree {
     {
         let id = id as usize;
         let ports = self.nodes[id].ports.as_slice();
-        far_end(
-            ports,
-            slot as usize,
-            self.parents[id],
-            self.children[id].as_slice(),
-        )
+        far_end(ports, slot as usize, self.parents[id], self.children.of(id))
     }
 
     /// The nodes by ID.
@@ -153,7 +148,7 @@ impl BusTree {
     }
 
     /// The IDs of each node's children.
-    pub(crate) fn children(&self) -> &[ChildList]
+    pub(crate) fn children(&self) -> &ChildLists
         ensures value { result.now ≡ children_from 0 self.now }
         ensures len { length result.now ≡ length (walk self.now) }
     {

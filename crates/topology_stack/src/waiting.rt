@@ -15,6 +15,7 @@ pub(crate) struct Waiting {
 
 /// What waits after the node of the group at `at`, where so many trees waited before. The node's
 /// children are the latest of them.
+#[inline]
 pub(crate) fn after_node(at: usize, found: u8, node: &SelfId) -> Result<Waiting, TreeFault>
     requires { found ≤ 63 }
     ensures { result ≡ after_node at found node.now }

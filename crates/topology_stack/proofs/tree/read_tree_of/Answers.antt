@@ -2,7 +2,8 @@ use Rattle.std.proofs.Common.{Ok, ap}
 use Rattle.std.proofs.lemmas.Result.{err_from_is_err_and}
 use Rattle.topology_stack.specs.Tree.{Tree}
 use Rattle.topology_stack.specs.codings.Code.{tree_of}
-use Rattle.topology_stack.proofs.Answered.{only_stop, exact_stop, few_nodes, is_found, is_walk, is_only, no_exact}
+use Rattle.topology_stack.proofs.Answered.{only_stop, exact_stop, is_found, is_walk, is_only, no_exact}
+use Rattle.topology_stack.proofs.Linking.{stored}
 use Rattle.topology_stack.proofs.tree.read_tree_of.Goals as goal
 
 pub returns-in_err-nodes-clause-only : goal.returns-in_err-nodes-clause-only
@@ -15,15 +16,11 @@ returns-in_err-nodes-clause-exact c =
     let p = err_from_is_err_and c.from_residual.result c.from_residual.ensures.1 in
     rw (p.1, p.2) (λ f is. exact_stop c.args.standard Tree c.args.quads.now c.in_err-nodes.field-0.0 f c.in_err-nodes.ensures.refused is)
 
-pub links_of-requires : goal.links_of-requires
-links_of-requires c = rw c.deref.ensures.value (few_nodes c.args.standard c.args.quads.now c.in_ok-nodes.nodes.items c.in_ok-nodes.ensures.found)
-
 pub invariant_of-result : goal.invariant_of-result
 invariant_of-result c =
     let bus = (is_found c.args.standard c.args.quads.now c.in_ok-nodes.nodes.items c.in_ok-nodes.ensures.found).0.bus in
     let walk = is_walk c.args.standard c.args.quads.now c.in_ok-nodes.nodes.items c.in_ok-nodes.ensures.found in
-    let links = c.in_ok-links.ensures (tree_of c.in_ok-nodes.nodes.items) bus (rw c.deref.ensures.value walk) in
-    rw c.deref.ensures.value at links
+    stored (tree_of c.in_ok-nodes.nodes.items) c.in_ok-nodes.nodes.items _ bus walk c.in_ok-nodes.ensures.linked.1
 
 pub returns-clause-found : goal.returns-clause-found
 returns-clause-found c = is_found c.args.standard c.args.quads.now c.in_ok-nodes.nodes.items c.in_ok-nodes.ensures.found

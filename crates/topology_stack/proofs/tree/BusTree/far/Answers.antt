@@ -9,8 +9,8 @@ use Rattle.topology_stack.proofs.tree.BusTree.far.Goals as goal
 pub bounds-deref-id : goal.bounds-deref-id
 bounds-deref-id c = omega (arith, c.requires.id, length-parents _ _ _ _ c.self.invariant, ap length c.deref.ensures.0, ap length c.self.invariant.walk_is, ap (λ (t : Tree). length (walk t)) c.self.view_is)
 
-pub index-requires-2 : goal.index-requires-2
-index-requires-2 c = omega (arith, c.requires.id, length-children _ _ _ _ c.self.invariant, ap length c.self.invariant.walk_is, ap (λ (t : Tree). length (walk t)) c.self.view_is)
+pub of-requires : goal.of-requires
+of-requires c = omega (arith, c.requires.id, length-children _ _ _ _ c.self.invariant, ap length c.self.invariant.walk_is, ap (λ (t : Tree). length (walk t)) c.self.view_is)
 
 pub far_end-requires-clause-inside : goal.far_end-requires-clause-inside
 far_end-requires-clause-inside c =
@@ -23,23 +23,19 @@ far_end-requires-clause-inside c =
 pub far_end-requires-clause-children : goal.far_end-requires-clause-children
 far_end-requires-clause-children c =
     let small : c.args.id < length c.self.inside.nodes.items = omega (arith, c.requires.id, ap length c.self.invariant.walk_is, ap (λ (t : Tree). length (walk t)) c.self.view_is) in
-    let children = length-children _ _ _ _ c.self.invariant in
     let node = slice_get_read c.self.inside.nodes.items (length c.self.inside.nodes.items) c.args.id c.index.result.now refl small c.index.ensures in
-    let children = slice_get_read c.self.inside.children.items (length c.self.inside.nodes.items) c.args.id c.index-2.result.now (sym children) small c.index-2.ensures in
     let ports = c.as_slice-ports.ensures.value ∙ ap (λ (n : Node). n.ports) c.behind-self.view_is in
-    ap length c.as_slice.ensures ∙ kids_enough _ _ _ _ c.args.id c.index.result.now c.index-2.result.now c.self.invariant node children ∙ ap downs (sym ports)
+    kids_enough _ _ _ _ c.args.id c.index.result.now c.of.result.now c.self.invariant node c.of.ensures ∙ ap downs (sym ports)
 
 pub returns-clause-end : goal.returns-clause-end
 returns-clause-end c =
     let small : c.args.id < length c.self.inside.nodes.items = omega (arith, c.requires.id, ap length c.self.invariant.walk_is, ap (λ (t : Tree). length (walk t)) c.self.view_is) in
     let parents = length-parents _ _ _ _ c.self.invariant in
-    let children = length-children _ _ _ _ c.self.invariant in
     let node = slice_get_read c.self.inside.nodes.items (length c.self.inside.nodes.items) c.args.id c.index.result.now refl small c.index.ensures in
     let parent : slice_get c.self.inside.parents.items c.args.id ≡ Some (get_or c.deref.result.now c.args.id 0) = rw c.deref.ensures.0 (slice_get-get_or c.self.inside.parents.items c.args.id 0 (omega (arith, parents))) in
-    let children = slice_get_read c.self.inside.children.items (length c.self.inside.nodes.items) c.args.id c.index-2.result.now (sym children) small c.index-2.ensures in
     let ports = c.as_slice-ports.ensures.value ∙ ap (λ (n : Node). n.ports) c.behind-self.view_is in
-    rw (← c.self.view_is) (far_is _ _ _ _ c.args.id c.args.slot c.index.result.now (get_or c.deref.result.now c.args.id 0) c.index-2.result.now c.far_end.result c.self.invariant node parent children
-    (rw (c.as_slice.ensures, ports) at c.far_end.ensures.end))
+    rw (← c.self.view_is) (far_is _ _ _ _ c.args.id c.args.slot c.index.result.now (get_or c.deref.result.now c.args.id 0) c.of.result.now c.far_end.result c.self.invariant node parent c.of.ensures
+    (rw ports at c.far_end.ensures.end))
 
 pub returns-clause-none : goal.returns-clause-none
 returns-clause-none c =

@@ -1,0 +1,7 @@
+use Rattle.std.proofs.Common.{◌≡◌, ◌+◌, ◌≤◌, drop}
+use Rattle.self_id.specs.Node.{downs}
+use Rattle.self_id.proofs.slots.count_down.Given as goal
+
+-- what was counted and what the slots after it have make the whole
+abbrev pub invariant-loop-slot : goal.invariant-loop-slot
+invariant-loop-slot l = (l.count + downs (drop l.slot-index l.slots) ≡ downs l.slots) × (l.count ≤ l.slot-index)
