@@ -206,9 +206,9 @@ fn kind_word(kind: Kind) -> &'static [u8]
     }
 }
 
-/// The line `refused line L KIND` of a script's fault.
+/// The line of a script's fault: `refused line L KIND`.
 #[tactic(auto, unfolding(crate::specs::Line::script_line))]
-pub(crate) fn script_line(fault: ScriptFault) -> FaultLine
+pub fn script_line(fault: ScriptFault) -> FaultLine
     ensures { result ≡ script_line fault }
 {
     let mut line = FaultLine::new();

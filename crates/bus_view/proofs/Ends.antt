@@ -1,5 +1,5 @@
 -- What is written, and when, of the answer to the bytes that were told.
-use Rattle.std.proofs.Common.{◌≡◌, ℕ, ◌≤◌, ◌⊎◌, inl, Option, Some, None, List, [], length, sym, subst, arith, ◌↔◌}
+use Rattle.std.proofs.Common.{◌≡◌, ℕ, ◌≤◌, ◌⊎◌, inl, Option, Some, None, List, [], Ok, length, sym, subst, arith, ◌↔◌}
 use Rattle.std.specs.Prelude.{IfSome, String}
 use Rattle.std.specs.Global.{Global}
 use Rattle.std.specs.Io.KnownBytes.{Appends}
@@ -7,7 +7,9 @@ use Rattle.std.proofs.KnownBytes.{Appends-nil}
 use Rattle.io_edges.specs.Told.{AppendsStart, IfTold, TookOver}
 use Rattle.bus_view.specs.Form.{IsForm}
 use Rattle.bus_view.specs.declared.form.ViewForm.{ViewForm}
-use Rattle.bus_view.specs.Answer.{Reading, spelt, refused, status_of, IsView, Answers, viewed, no_form}
+use Rattle.bus_view.specs.declared.form.ViewForm.TheVariants.{Packets, Tree, Dot, Trace}
+use Rattle.bus_view.specs.Answer.{Reading, spelt, refused, status_of, IsCaptureView, IsTraceView, traced, at_fault, IsView, Answers, viewed, no_form}
+use Rattle.script_trace.specs.Trace.{IsTrace}
 use Rattle.bus_view.specs.OneAnswer.{NoInputHasTwoViews}
 
 -- the words' answer to these bytes is that to the bytes that were told
@@ -31,11 +33,40 @@ of_reading : (reading : Reading) (status : ℕ) → status ≡ status_of reading
 of_reading (spelt t) status e = omega (arith, e)
 of_reading (refused f) status e = omega (arith, e)
 
+of_capture : (form : ViewForm) (bytes : List ℕ) (status : ℕ) (text : List ℕ) → IsCaptureView form bytes status text → status ≤ 1
+of_capture form bytes status text view = of_reading view.reading status view.status_is
+
 pub few_status : (form : ViewForm) (bytes : List ℕ) (status : ℕ) (text : List ℕ) → IsView form bytes status text → status ≤ 1
-few_status form bytes status text view = of_reading view.reading status view.status_is
+few_status Trace bytes status text (traced e x) = omega (arith, e)
+few_status Trace bytes status text (at_fault fault e x t) = omega (arith, e)
+few_status Packets bytes status text view = of_capture Packets bytes status text view
+few_status Tree bytes status text view = of_capture Tree bytes status text view
+few_status Dot bytes status text view = of_capture Dot bytes status text view
 
 -- it isn't 6, where not too many bytes were taken
 pub not_six : (X : Type 0) (old new : Option (List ℕ)) (status : ℕ) → status ≤ 1 → IfTold old new (λ xs ys. X ↔ TookOver 1048576 xs ys) → (X → ⊥) → IfTold old new (λ xs ys. (status ≡ 6) ↔ TookOver 1048576 xs ys)
 not_six X None new status few h none = tt
 not_six X (Some xs) None status few h none = tt
 not_six X (Some xs) (Some ys) status few h none = (λ six. absurd (omega (arith, six, few)), λ took. absurd (none (h.1 took)))
+
+-- ---- a sink that surely takes the text
+
+pub taken_surely : NoInputHasTwoViews → (words : List (String Global)) (left : Option (List ℕ)) (read text : List ℕ) (status : ℕ) (takes : ℕ → Type 0) (same : Type 0) → IfSome left (λ bytes. read ≡ bytes) → Answers words read status text →
+    (takes (length text) → same) → IfSome left (λ bytes. (s : ℕ) (x : List ℕ) → Answers words bytes s x → takes (length x) → same)
+taken_surely one words None read text status takes same all answers go = tt
+taken_surely one words (Some bytes) read text status takes same all answers go = λ s x is sure.
+    let one_text = (one words bytes status s text x (told words read bytes text status all answers) is).1 in
+    go (subst (λ (t : List ℕ). takes (length t)) (sym one_text) sure)
+
+-- ---- a trace
+
+-- what answers the words of a trace at status 0
+pub trace_written : (words : List (String Global)) (form : ViewForm) (left old new : Option (List ℕ)) (read text : List ℕ) (status : ℕ) → form ≡ Trace → status ≡ 0 → IfSome left (λ bytes. read ≡ bytes) → IsView form read status text → Appends old new text →
+    IfSome left (λ bytes. (lines : List ℕ) × IsTrace bytes (Ok lines) × Appends old new lines)
+trace_written words form None old new read text status is zero all view whole = tt
+trace_written words form (Some bytes) old new read text status is zero all view whole =
+    (text, subst (λ (b : List ℕ). IsTrace b (Ok text)) all (lines (subst (λ (f : ViewForm). IsView f read status text) is view)), whole)
+  where
+    lines : IsTraceView read status text → IsTrace read (Ok text)
+    lines (traced e x) = x
+    lines (at_fault fault e x t) = absurd (omega (arith, e, zero))

@@ -1,5 +1,5 @@
 -- Words and bytes have one answer.
-use Rattle.std.proofs.Common.{◌≡◌, ◌∙◌, ℕ, List, [], ◌∷◌, refl, sym, ap, subst, arith}
+use Rattle.std.proofs.Common.{◌≡◌, ◌∙◌, ℕ, Bool, true, false, List, [], ◌∷◌, Ok, Err, refl, sym, ap, subst, arith}
 use Rattle.quad_lanes.specs.Pairs.{firsts, quads_of}
 use Rattle.phy_packet.specs.Packet.{Shows}
 use Rattle.phy_packet.specs.declared.packet.PhyPacket.{PhyPacket}
@@ -11,11 +11,17 @@ use Rattle.topology_stack.specs.Tree.{Tree}
 use Rattle.bus_manager.specs.Hops.{IsHops}
 use Rattle.bus_cli.specs.declared.fault.CaptureFault.{CaptureFault}
 use Rattle.bus_cli.specs.OneReading.{NoCaptureHasTwoTrees, NoCaptureHasATreeAndAFault, NoCaptureHasTwoFaults}
+use Rattle.bus_cli.specs.Line.{script_line}
+use Rattle.script_lines.specs.declared.kind.ScriptFault.{ScriptFault}
+use Rattle.script_told.specs.Script.{Told, IsTold}
+use Rattle.script_told.specs.OneTold.{ScriptsTellOneThing}
+use Rattle.script_trace.specs.Trace.{IsTrace}
+use Rattle.script_trace.specs.OneTrace.{ScriptsHaveOneTrace, TracedScriptsAreTold}
 use Rattle.view_text.specs.Pairs.{AreShown, pairs_text}
 use Rattle.view_text.specs.Drawing.{IsDrawing, IsRoot, drawing}
 use Rattle.bus_view.specs.declared.form.ViewForm.{ViewForm}
-use Rattle.bus_view.specs.declared.form.ViewForm.TheVariants.{Packets, Tree as Drawn, Dot}
-use Rattle.bus_view.specs.Answer.{Reading, spelt, refused, IsReading, status_of, ShowsPackets, HasText, IsView, viewed, no_form}
+use Rattle.bus_view.specs.declared.form.ViewForm.TheVariants.{Packets, Tree as Drawn, Dot, Trace}
+use Rattle.bus_view.specs.Answer.{Reading, spelt, refused, IsReading, status_of, ShowsPackets, HasText, IsCaptureView, IsTraceView, traced, at_fault, IsView, viewed, no_form}
 use Rattle.bus_view.specs.OneAnswer.{NoInputHasTwoViews}
 use Rattle.bus_view.proofs.Forms.{one_form}
 
@@ -25,6 +31,9 @@ pub record HasOneReading : Type 0 where
   pub trees : NoCaptureHasTwoTrees
   pub apart : NoCaptureHasATreeAndAFault
   pub faults : NoCaptureHasTwoFaults
+  pub told : ScriptsTellOneThing
+  pub traces : ScriptsHaveOneTrace
+  pub texts : TracedScriptsAreTold
 
 same_reading : HasOneReading → (bytes : List ℕ) (a b : Reading) → IsReading bytes a → IsReading bytes b → a ≡ b
 same_reading one bytes (spelt t) (spelt u) x y = ap (λ (v : Tree). spelt v) (one.trees Ieee2000 bytes t u x y)
@@ -71,11 +80,48 @@ same_text Drawn bytes (spelt t) a b x y = same_drawing t a b x y
 same_text Drawn bytes (refused f) a b x y = x ∙ sym y
 same_text Dot bytes (spelt t) a b x y = x ∙ sym y
 same_text Dot bytes (refused f) a b x y = x ∙ sym y
+same_text Trace bytes (spelt t) a b x y = absurd x
+same_text Trace bytes (refused f) a b x y = absurd x
 
-same_view : HasOneReading → (form : ViewForm) (bytes : List ℕ) (s r : ℕ) (a b : List ℕ) → IsView form bytes s a → IsView form bytes r b → (s ≡ r) × (a ≡ b)
-same_view one form bytes s r a b x y =
+same_capture : HasOneReading → (form : ViewForm) (bytes : List ℕ) (s r : ℕ) (a b : List ℕ) → IsCaptureView form bytes s a → IsCaptureView form bytes r b → (s ≡ r) × (a ≡ b)
+same_capture one form bytes s r a b x y =
     let same : x.reading ≡ y.reading = same_reading one bytes x.reading y.reading x.reads y.reads in
     (x.status_is ∙ ap status_of same ∙ sym y.status_is, same_text form bytes y.reading a b (subst (λ (v : Reading). HasText form bytes v a) same x.text_is) y.text_is)
+
+-- ---- a script has one trace
+
+trace-text : Told → List ℕ
+trace-text (Ok text) = text
+trace-text (Err fault) = []
+
+is-ok : Told → Bool
+is-ok (Ok text) = true
+is-ok (Err fault) = false
+
+same_fault : (g h : ScriptFault) → ◌≡◌ {A = Told} (Err g) (Err h) → g ≡ h
+same_fault g h e = cc
+
+-- a script with a trace has no fault
+apart : HasOneReading → (bytes lines : List ℕ) (fault : ScriptFault) → IsTrace bytes (Ok lines) → IsTold bytes (Err fault) → ⊥
+unfolding is-ok
+apart one bytes lines fault x y =
+    let text = one.texts bytes lines x in
+    let e = ap is-ok (one.told bytes (Ok text.0) (Err fault) text.1 y) in cc
+
+same_trace : HasOneReading → (bytes : List ℕ) (s r : ℕ) (a b : List ℕ) → IsTraceView bytes s a → IsTraceView bytes r b → (s ≡ r) × (a ≡ b)
+unfolding trace-text
+same_trace one bytes s r a b (traced e x) (traced f y) =
+    (e ∙ sym f, ap trace-text (one.traces bytes (Ok a) (Ok b) x y))
+same_trace one bytes s r a b (traced e x) (at_fault g f y t) = absurd (apart one bytes a g x y)
+same_trace one bytes s r a b (at_fault g e x t) (traced f y) = absurd (apart one bytes b g y x)
+same_trace one bytes s r a b (at_fault g e x t) (at_fault h f y u) =
+    (e ∙ sym f, t ∙ ap script_line (same_fault g h (one.told bytes (Err g) (Err h) x y)) ∙ sym u)
+
+same_view : HasOneReading → (form : ViewForm) (bytes : List ℕ) (s r : ℕ) (a b : List ℕ) → IsView form bytes s a → IsView form bytes r b → (s ≡ r) × (a ≡ b)
+same_view one Trace bytes s r a b x y = same_trace one bytes s r a b x y
+same_view one Packets bytes s r a b x y = same_capture one Packets bytes s r a b x y
+same_view one Drawn bytes s r a b x y = same_capture one Drawn bytes s r a b x y
+same_view one Dot bytes s r a b x y = same_capture one Dot bytes s r a b x y
 
 -- ---- words and bytes have one answer
 

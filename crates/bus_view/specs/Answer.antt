@@ -1,5 +1,5 @@
 -- What is answered to words and bytes.
-use Rattle.std.specs.Prelude.{◌≡◌, ℕ, List, [], Option, Some, None, String}
+use Rattle.std.specs.Prelude.{◌≡◌, ℕ, List, [], Option, Some, None, Ok, Err, String}
 use Rattle.std.specs.Global.{Global}
 use Rattle.quad_lanes.specs.Pairs.{firsts, quads_of}
 use Rattle.phy_packet.specs.declared.packet.PhyPacket.{PhyPacket}
@@ -7,12 +7,15 @@ use Rattle.self_id.specs.declared.standard.Standard.TheVariants.{Ieee2000}
 use Rattle.topology_stack.specs.Tree.{Tree}
 use Rattle.bus_cli.specs.declared.fault.CaptureFault.{CaptureFault}
 use Rattle.bus_cli.specs.Capture.{Spells, CaptureRefused}
-use Rattle.bus_cli.specs.Line.{fault_line}
+use Rattle.bus_cli.specs.Line.{fault_line, script_line}
+use Rattle.script_lines.specs.declared.kind.ScriptFault.{ScriptFault}
+use Rattle.script_told.specs.Script.{IsTold}
+use Rattle.script_trace.specs.Trace.{IsTrace}
 use Rattle.view_text.specs.Pairs.{AreShown, pairs_text}
 use Rattle.view_text.specs.Drawing.{IsDrawing}
 use Rattle.view_text.specs.Graph.{graph}
 use Rattle.bus_view.specs.declared.form.ViewForm.{ViewForm}
-use Rattle.bus_view.specs.declared.form.ViewForm.TheVariants.{Packets, Tree as Drawn, Dot}
+use Rattle.bus_view.specs.declared.form.ViewForm.TheVariants.{Packets, Tree as Drawn, Dot, Trace}
 use Rattle.bus_view.specs.Form.{Asks, IsForm}
 use Rattle.bus_view.specs.Sentence.{place, note}
 
@@ -41,7 +44,7 @@ pub record ShowsPackets (bytes : List ℕ) (at : ℕ) (below : List PhyPacket �
   pub shown : AreShown (firsts (quads_of bytes)) packets
   pub text_is : text ≡ pairs_text bytes packets at (below packets)
 
--- the text of a reading in a form
+-- the text of a reading in a form; a trace isn't one of a capture
 abbrev pub HasText : ViewForm → List ℕ → Reading → List ℕ → Type 0
 HasText Packets bytes (spelt t) text = ShowsPackets bytes 0 (λ packets. []) text
 HasText Packets bytes (refused f) text =
@@ -50,14 +53,26 @@ HasText Drawn bytes (spelt t) text = IsDrawing t text
 HasText Drawn bytes (refused f) text = text ≡ fault_line f
 HasText Dot bytes (spelt t) text = text ≡ graph t
 HasText Dot bytes (refused f) text = text ≡ fault_line f
+HasText Trace bytes reading text = ⊥
 
--- the status and the text of bytes in a form
-pub record IsView (form : ViewForm) (bytes : List ℕ) (status : ℕ) (text : List ℕ) :
+-- the status and the text of a capture in a form
+pub record IsCaptureView (form : ViewForm) (bytes : List ℕ) (status : ℕ) (text : List ℕ) :
     Type 0 where
   pub reading : Reading
   pub reads : IsReading bytes reading
   pub status_is : status ≡ status_of reading
   pub text_is : HasText form bytes reading text
+
+-- a script that has a text is traced; one at fault is refused as `busconf run` refuses it
+pub data IsTraceView (bytes : List ℕ) (status : ℕ) (text : List ℕ) : Type 0 where
+  traced : status ≡ 0 → IsTrace bytes (Ok text) → IsTraceView bytes status text
+  at_fault : (fault : ScriptFault) → status ≡ 1 → IsTold bytes (Err fault) →
+      text ≡ script_line fault → IsTraceView bytes status text
+
+-- the status and the text of bytes in a form
+abbrev pub IsView : ViewForm → List ℕ → ℕ → List ℕ → Type 0
+IsView Trace bytes status text = IsTraceView bytes status text
+IsView form bytes status text = IsCaptureView form bytes status text
 
 -- the status and the text of words and bytes
 pub data Answers (words : List (String Global)) (bytes : List ℕ) (status : ℕ)

@@ -1,13 +1,16 @@
-//! The answer to the bytes of a capture.
-ghost use Rattle.std.specs.Prelude.{◌≡◌, ◌<◌, ◌^◌, length, IfOk};
+//! The answer to the bytes of a capture or of a script.
+ghost use Rattle.std.specs.Prelude.{◌≡◌, ◌≤◌, ◌<◌, ◌^◌, length, IfOk};
 ghost use Rattle.bus_view.specs.declared.form.ViewForm.{ViewForm};
-ghost use Rattle.bus_view.specs.Answer.{IsFault, IsView};
+ghost use Rattle.bus_view.specs.Answer.{IsFault, IsCaptureView, IsTraceView, IsView};
 ghost use Rattle.bus_cli.specs.Line.{fault_line};
 
 use crate::form::ViewForm;
 use crate::sentence::note_of;
-use bus_cli::{CaptureFault, CaptureStop, REFUSED, VALID, fault_line, read_capture};
+use bus_cli::{
+    CaptureFault, CaptureStop, REFUSED, VALID, fault_line, read_capture, script_line,
+};
 use quad_lanes::quads_of;
+use script_run::{ScriptStop, trace_script};
 use self_id::Standard;
 use std::alloc::Global;
 use topology_stack::{BusTree, OutOfMemory};
@@ -34,7 +37,7 @@ fn fault_of(alloc: Global, bytes: &[u8]) -> Result<Option<CaptureFault>, OutOfMe
 /// The view of a capture's packets.
 fn view_packets(alloc: Global, bytes: &[u8]) -> Result<View, OutOfMemory>
     requires { length bytes.now < 2 ^ 60 }
-    ensures { IfOk result (λ view. IsView ViewForm.Packets bytes.now view.status view.text.items) }
+    ensures { IfOk result (λ view. IsCaptureView ViewForm.Packets bytes.now view.status view.text.items) }
 {
     let fault = fault_of(alloc, bytes)?;
     let quads = quads_of(alloc, bytes)?;
@@ -72,7 +75,7 @@ fn line_text(alloc: Global, fault: CaptureFault) -> Result<Vec<u8>, OutOfMemory>
 
 /// The view of the tree that a capture spells, as a drawing.
 fn view_tree(alloc: Global, bytes: &[u8]) -> Result<View, OutOfMemory>
-    ensures { IfOk result (λ view. IsView ViewForm.Tree bytes.now view.status view.text.items) }
+    ensures { IfOk result (λ view. IsCaptureView ViewForm.Tree bytes.now view.status view.text.items) }
 {
     match read_capture(alloc, Standard::Ieee2000, bytes) {
         Ok(tree) => Ok(View {
@@ -89,7 +92,7 @@ fn view_tree(alloc: Global, bytes: &[u8]) -> Result<View, OutOfMemory>
 
 /// The same as a graph.
 fn view_dot(alloc: Global, bytes: &[u8]) -> Result<View, OutOfMemory>
-    ensures { IfOk result (λ view. IsView ViewForm.Dot bytes.now view.status view.text.items) }
+    ensures { IfOk result (λ view. IsCaptureView ViewForm.Dot bytes.now view.status view.text.items) }
 {
     match read_capture(alloc, Standard::Ieee2000, bytes) {
         Ok(tree) => Ok(View {
@@ -104,14 +107,33 @@ fn view_dot(alloc: Global, bytes: &[u8]) -> Result<View, OutOfMemory>
     }
 }
 
-/// The view of a capture's bytes in a form.
+/// The trace of a script.
+fn view_trace(alloc: Global, bytes: &[u8]) -> Result<View, OutOfMemory>
+    requires { length bytes.now ≤ 1048576 }
+    ensures { IfOk result (λ view. IsTraceView bytes.now view.status view.text.items) }
+{
+    match trace_script(alloc, bytes) {
+        Ok(text) => Ok(View {
+            status: VALID,
+            text,
+        }),
+        Err(ScriptStop::Fault(fault)) => Ok(View {
+            status: REFUSED,
+            text: Vec::from_slice(alloc, script_line(fault).as_bytes())?,
+        }),
+        Err(ScriptStop::Memory(error)) => Err(error),
+    }
+}
+
+/// The view of the bytes in a form.
 pub(crate) fn view_of(alloc: Global, form: ViewForm, bytes: &[u8]) -> Result<View, OutOfMemory>
-    requires { length bytes.now < 2 ^ 60 }
+    requires { length bytes.now ≤ 1048576 }
     ensures { IfOk result (λ view. IsView form bytes.now view.status view.text.items) }
 {
     match form {
         ViewForm::Packets => view_packets(alloc, bytes),
         ViewForm::Tree => view_tree(alloc, bytes),
         ViewForm::Dot => view_dot(alloc, bytes),
+        ViewForm::Trace => view_trace(alloc, bytes),
     }
 }

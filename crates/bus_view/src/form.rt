@@ -3,7 +3,7 @@ ghost use Rattle.std.specs.Prelude.{◌≡◌, ◌∷◌, [], ◌↔◌};
 ghost use Rattle.bus_view.specs.Form.{AreWordsOf, Asks};
 ghost use Rattle.bus_view.specs.declared.form.ViewForm.{ViewForm};
 
-/// What the program can be asked for of a capture.
+/// What the program can be asked for: of a capture, or of a script.
 #[derive(Clone, Copy, Debug, PartialEq, Eq)]
 pub enum ViewForm {
     /// `packets`: a line for each pair, its packet field by field.
@@ -12,6 +12,8 @@ pub enum ViewForm {
     Tree,
     /// `dot`: the tree as a Graphviz graph.
     Dot,
+    /// `trace`: what happens on the bus of a script.
+    Trace,
 }
 
 impl ViewForm {
@@ -23,6 +25,7 @@ impl ViewForm {
             "packets" => Some(ViewForm::Packets),
             "tree" => Some(ViewForm::Tree),
             "dot" => Some(ViewForm::Dot),
+            "trace" => Some(ViewForm::Trace),
             _ => None,
         }
     }
@@ -41,4 +44,4 @@ impl ViewForm {
 
 /// How the program is called, in one line for a form.
 pub const VIEW_USAGE: &str = "usage: busview packets < CAPTURE\n       \
-    busview tree < CAPTURE\n       busview dot < CAPTURE";
+    busview tree < CAPTURE\n       busview dot < CAPTURE\n       busview trace < SCRIPT";

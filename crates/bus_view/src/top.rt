@@ -1,9 +1,11 @@
 //! The top call.
-ghost use Rattle.std.specs.Prelude.{◌≡◌, ◌≢◌, ℕ, ◌≤◌, ◌⊎◌, ◌↔◌, List, length, IfSome};
+ghost use Rattle.std.specs.Prelude.{◌≡◌, ◌≢◌, ℕ, ◌≤◌, ◌⊎◌, ◌↔◌, List, length, Ok, IfSome};
 ghost use Rattle.std.specs.Io.KnownBytes.{Appends, IsAtEnd};
 ghost use Rattle.io_edges.specs.Faults.{Rose};
 ghost use Rattle.io_edges.specs.Told.{AppendsStart, IfTold, TookOver};
-ghost use Rattle.bus_view.specs.Form.{IsForm};
+ghost use Rattle.script_trace.specs.Trace.{IsTrace};
+ghost use Rattle.bus_view.specs.declared.form.ViewForm.{ViewForm};
+ghost use Rattle.bus_view.specs.Form.{Asks, IsForm};
 ghost use Rattle.bus_view.specs.Answer.{Answers};
 
 use crate::answer::view_of;
@@ -13,13 +15,13 @@ use bus_cli::{MAX_INPUT, NO_FORM, NO_MEMORY, READ_FAULT, TOO_LONG, WRITE_FAULT};
 use io_edges::{ReadStop, Sink, Source, read_all, write_whole};
 use std::alloc::Global;
 
-/// Does what the words after the program's name ask for: reads a capture from `source`, writes the
-/// view of it to `sink`, and answers the exit status, which is one of `bus_cli`.
+/// Does what the words after the program's name ask for: reads a capture or a script from `source`,
+/// writes the view of it to `sink`, and answers the exit status, which is one of `bus_cli`.
 ///
 /// | status | comes |
 /// |---|---|
-/// | 0 | the capture was read to its end and spells a tree, and its whole view was written |
-/// | 1 | the capture was read to its end and is refused, as `busconf read` refuses it; with `packets` all its pairs were written, with the line of the fault and a sentence on it below the pair at fault, with the other forms the line alone |
+/// | 0 | the capture was read to its end and spells a tree, or the script has no fault, and the whole view was written |
+/// | 1 | the capture was read to its end and is refused, as `busconf read` refuses it; with `packets` all its pairs were written, with the line of the fault and a sentence on it below the pair at fault, with the other forms the line alone. Or the script is refused, as `busconf run` refuses it, and the line of its fault was written |
 /// | 2 | the words are none of the forms; nothing was read or written |
 /// | 3 | the source failed; nothing was written |
 /// | 4 | the sink failed; the first bytes of the text were written, or none |
@@ -66,6 +68,16 @@ pub fn view_main<S: Source, K: Sink>(
         (status : ℕ) (text : List ℕ) → Answers words.now bytes status text →
         ((result ≡ status) × Appends (K.written sink.old) (K.written sink.new) text)
         ⊎ (result ≡ 5)) }
+
+    // A sink that surely takes the text has no fault.
+    ensures sure { IfSome (S.left source.old) (λ bytes. (status : ℕ) (text : List ℕ) →
+        Answers words.now bytes status text → K.surely_takes sink.old (length text) →
+        K.faults sink.new ≡ K.faults sink.old) }
+
+    // With `trace`, what is written at status 0 is the trace of the script.
+    ensures trace { result ≡ 0 → Asks words.now ViewForm.Trace → IfSome (S.left source.old)
+        (λ bytes. (lines : List ℕ) × IsTrace bytes (Ok lines)
+        × Appends (K.written sink.old) (K.written sink.new) lines) }
 {
     one_view();
     let Some(form) = ViewForm::of_words(words) else {
