@@ -8,7 +8,7 @@ ghost use Rattle.script_run.specs.codings.Tracing.{LeavesTrace};
 use crate::course::Course;
 use crate::script::{Taken, at_line, cut_line};
 use script_lines::ScriptStop;
-use script_trace::scripts_have_one_trace;
+use script_trace::{scripts_have_one_trace, turns_show_what_is_sent};
 use std::alloc::Global;
 
 /// Takes the lines of a script, of 1,048,576 bytes at most, and keeps what happens at them.
@@ -76,5 +76,6 @@ pub fn trace_script(alloc: Global, bytes: &[u8]) -> Result<Vec<u8>, ScriptStop>
         → IsOnlyFault told stop) }
 {
     scripts_have_one_trace();
+    turns_show_what_is_sent();
     trace_of(alloc, bytes)
 }

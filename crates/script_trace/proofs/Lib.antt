@@ -1,2 +1,3 @@
 pub mod OneTrace
 pub mod Walked
+pub mod Shown

@@ -2,3 +2,4 @@ pub mod Event
 pub mod Step
 pub mod Trace
 pub mod OneTrace
+pub mod Shown
