@@ -6,13 +6,9 @@ use Rattle.quad_lanes.specs.Capture.{capture}
 use Rattle.quad_lanes.specs.Pairs.{quads_of, firsts}
 use Rattle.quad_lanes.specs.declared.pairs.PairFault.{PairFault}
 use Rattle.quad_lanes.specs.declared.pairs.PairFault.TheVariants.{Length, Memory as NoPairMemory}
-use Rattle.topology_stack.specs.declared.fault.TreeStop.{TreeStop}
-use Rattle.topology_stack.specs.declared.fault.TreeStop.TheVariants.{Fault, Memory}
 use Rattle.self_id.specs.declared.standard.Standard.{Standard}
-use Rattle.topology_stack.specs.Answer.{IfFault as IfTreeFault}
-use Rattle.topology_stack.specs.Refused.{Refused}
 use Rattle.bus_cli.specs.Capture.{IsCaptureOf, CaptureRefused}
-use Rattle.bus_cli.specs.Stop.{of_pairs, of_tree, IfFault}
+use Rattle.bus_cli.specs.Stop.{of_pairs, IfFault}
 
 -- the packets' quadlets fit 32 bits, since bytes fit eight
 fit_firsts : (bytes : List ℕ) → AllByRecursion (λ b. b < 256) bytes → All (λ q. q < 2 ^ 32) (firsts (quads_of bytes))
@@ -26,7 +22,3 @@ is_capture bytes list fit is captured = rw is (record { fit = fit_firsts bytes (
 pub is_pair_fault : {A : Type 0} (B : Type 0) (standard : Standard) (bytes : List ℕ) (fault : PairFault) → ((n : ℕ) → (◌≡◌ {A = Result A PairFault} (Err fault) (Err (Length n))) ↔ ((length bytes % 8 ≢ 0) × (n ≡ length bytes / 8))) → IfFault {A = B} (Err (of_pairs fault)) (λ f. CaptureRefused standard bytes f)
 is_pair_fault B standard bytes (Length n) cut = (cut n).0 refl
 is_pair_fault B standard bytes (NoPairMemory e) cut = tt
-
-pub is_tree_fault : (A B : Type 0) (standard : Standard) (bytes list : List ℕ) (stop : TreeStop) → IsCaptureOf list bytes → IfTreeFault {A = A} (Err stop) (λ f. Refused standard list f) → IfFault {A = B} (Err (of_tree stop)) (λ f. CaptureRefused standard bytes f)
-is_tree_fault A B standard bytes list (Fault f) captured refused = (list, captured, refused)
-is_tree_fault A B standard bytes list (Memory e) captured refused = tt

@@ -1,3 +1,4 @@
 pub mod Longest
 pub mod Waiting
 pub mod Routes
+pub mod OneHops

@@ -1,10 +1,9 @@
 -- What is written, and when, of the answer to the bytes that were told.
-use Rattle.std.proofs.Common.{◌≡◌, ℕ, ◌≤◌, ◌⊎◌, inl, Option, Some, None, List, [], Ok, length, sym, subst, arith, ◌↔◌}
+use Rattle.std.proofs.Common.{◌≡◌, ℕ, ◌≤◌, Option, Some, None, List, [], Ok, length, sym, subst, arith, ◌↔◌}
 use Rattle.std.specs.Prelude.{IfSome, String}
 use Rattle.std.specs.Global.{Global}
 use Rattle.std.specs.Io.KnownBytes.{Appends}
-use Rattle.std.proofs.KnownBytes.{Appends-nil}
-use Rattle.io_edges.specs.Told.{AppendsStart, IfTold, TookOver}
+use Rattle.io_edges.specs.Told.{IfTold, TookOver}
 use Rattle.bus_view.specs.Form.{IsForm}
 use Rattle.bus_view.specs.declared.form.ViewForm.{ViewForm}
 use Rattle.bus_view.specs.declared.form.ViewForm.TheVariants.{Packets, Tree, Dot, Trace}

@@ -1,5 +1,5 @@
 -- Words and bytes have one answer.
-use Rattle.std.proofs.Common.{◌≡◌, ◌∙◌, ℕ, Bool, true, false, List, [], ◌∷◌, Ok, Err, refl, sym, ap, subst, arith}
+use Rattle.std.proofs.Common.{◌≡◌, ◌∙◌, ℕ, Bool, true, false, List, [], ◌∷◌, Ok, Err, refl, sym, ap, subst}
 use Rattle.quad_lanes.specs.Pairs.{firsts, quads_of}
 use Rattle.phy_packet.specs.Packet.{Shows}
 use Rattle.phy_packet.specs.declared.packet.PhyPacket.{PhyPacket}
@@ -8,7 +8,7 @@ use Rattle.phy_packet.proofs.Laws.{packet_of-quad_of}
 use Rattle.self_id.specs.declared.standard.Standard.TheVariants.{Ieee2000}
 use Rattle.self_id.specs.Node.{Node}
 use Rattle.topology_stack.specs.Tree.{Tree}
-use Rattle.bus_manager.specs.Hops.{IsHops}
+use Rattle.bus_manager.proofs.OneHops.{one_hops}
 use Rattle.bus_cli.specs.declared.fault.CaptureFault.{CaptureFault}
 use Rattle.bus_cli.specs.OneReading.{NoCaptureHasTwoTrees, NoCaptureHasATreeAndAFault, NoCaptureHasTwoFaults}
 use Rattle.bus_cli.specs.Line.{script_line}
@@ -61,9 +61,6 @@ same_packets (a ∷ quads) (p ∷ ps) (q ∷ qs) x y =
 same_shown : (bytes : List ℕ) (at : ℕ) (below : List PhyPacket → List ℕ) (a b : List ℕ) → ShowsPackets bytes at below a → ShowsPackets bytes at below b → a ≡ b
 same_shown bytes at below a b x y =
     x.text_is ∙ ap (λ (ps : List PhyPacket). pairs_text bytes ps at (below ps)) (same_packets (firsts (quads_of bytes)) x.packets y.packets x.shown y.shown) ∙ sym y.text_is
-
-one_hops : (t : Tree) (h k : ℕ) → IsHops t h → IsHops t k → h ≡ k
-one_hops t h k x y = omega (arith, x.longest k y.path, y.longest h x.path)
 
 one_root : (t : Tree) (m n : Node) → IsRoot t m → IsRoot t n → m ≡ n
 one_root t m n x y = cc

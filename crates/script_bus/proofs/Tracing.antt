@@ -1,5 +1,5 @@
 -- Commands that are traced.
-use Rattle.std.proofs.Common.{◌≡◌, ◌++◌, ◌+◌, ◌≤◌, ℕ, List, [], ◌∷◌, length, Bool, false, Option, Some, None, refl, sym, ◌∙◌, ap, subst, arith}
+use Rattle.std.proofs.Common.{◌≡◌, ◌++◌, ◌+◌, ◌≤◌, ℕ, List, [], length, Bool, false, Option, Some, None, refl, sym, ◌∙◌, ap, subst, arith}
 use Rattle.std.specs.Prelude.{Ok, Err, Any, IfSome, MatchBool, nat_lt}
 use Rattle.std.proofs.lemmas.List.{append-nil, append_assoc, length-replicate}
 use Rattle.cable_world.specs.World.{CableWorld}

@@ -6,12 +6,11 @@ use Rattle.script_lines.specs.declared.command.Command.TheVariants.{Node, Delay}
 use Rattle.script_lines.specs.declared.kind.Kind.{Kind}
 use Rattle.script_lines.specs.declared.kind.LineStop.{LineStop}
 use Rattle.script_lines.specs.declared.kind.LineStop.TheVariants.{Fault, Memory}
-use Rattle.script_lines.specs.declared.kind.ScriptFault.{ScriptFault}
 use Rattle.script_lines.specs.declared.kind.ScriptStop.{ScriptStop}
 use Rattle.script_lines.specs.declared.kind.ScriptStop.TheVariants as script
 use Rattle.script_told.specs.Bus.{Bus}
 use Rattle.script_told.specs.Step.{Settles}
-use Rattle.script_told.specs.Script.{Stage, StageAnswer, fresh, Runs, Follows, Told, IsTold, bus_of, behind, fault_at, script_lines}
+use Rattle.script_told.specs.Script.{Stage, StageAnswer, fresh, Runs, Follows, Told, bus_of, behind, fault_at, script_lines}
 use Rattle.script_trace.specs.Trace.{TracesFrom, IsTrace, quiet_trace}
 use Rattle.script_trace.specs.OneTrace.{TraceFaultsAreTold}
 use Rattle.script_bus.specs.Running.{Stops}

@@ -7,17 +7,17 @@ use Rattle.root_plan.specs.declared.choice.RootPlan.{RootPlan}
 use Rattle.script_lines.specs.declared.kind.Kind.{Kind}
 use Rattle.script_lines.specs.declared.kind.ScriptFault.{ScriptFault}
 use Rattle.script_lines.specs.declared.command.Command.{Command}
-use Rattle.script_lines.specs.declared.command.Command.TheVariants.{Plug, Pull, Reset, Turn, Hold, Settle, Config, Plan}
+use Rattle.script_lines.specs.declared.command.Command.TheVariants.{Config, Plan}
 use Rattle.script_lines.specs.Line.{Reads}
 use Rattle.script_lines.proofs.LineRead.{one_reading}
 use Rattle.script_told.specs.Bus.{Bus, Reported, tree_with}
-use Rattle.script_told.specs.Step.{LineAnswer, CarriesOut, Settles}
-use Rattle.script_told.specs.Script.{Stage, fresh, declaring, running, StageAnswer, Follows, Told, bus_of, delay_of, behind, fault_at, ends_with, Goes, Takes, Tells, script_lines}
+use Rattle.script_told.specs.Step.{LineAnswer, CarriesOut}
+use Rattle.script_told.specs.Script.{Stage, fresh, declaring, running, StageAnswer, Told, bus_of, delay_of, behind, fault_at, ends_with, Goes, Takes, Tells, script_lines}
 use Rattle.script_told.proofs.told.Cables.{IsCabled}
 use Rattle.script_told.proofs.told.Commands.{settles, same-plan, same-sent}
 use Rattle.script_told.proofs.told.Lines.{Fits, LeavesFit, cabled, follows}
 use Rattle.script_told.proofs.told.Ports.{HasPorts, read-ports}
-use Rattle.script_trace.specs.Trace.{act_trace, quiet_trace, TracesPlan, Traces, TracesAt, trace_ends_with, TraceEnds, TraceGoes, TraceTakes, TracesFrom}
+use Rattle.script_trace.specs.Trace.{act_trace, quiet_trace, TracesPlan, Traces, TracesAt, trace_ends_with, TraceGoes, TraceTakes, TracesFrom}
 use Rattle.script_trace.specs.OneTrace.{ScriptsHaveOneTrace, TracedScriptsAreTold, TraceFaultsAreTold}
 
 -- ---- one command

@@ -6,7 +6,6 @@ use Rattle.std.proofs.lemmas.Bool.Decides.{nat_tests}
 use Rattle.std.proofs.lemmas.List.{append-nil, map_more}
 use Rattle.cable_world.specs.Turn.{turn}
 use Rattle.std.proofs.lemmas.Option.{slice_get_within, get_or_from_slice_get}
-use Rattle.cabling.specs.declared.cable.End.{End}
 use Rattle.port_state.specs.declared.ports.PortView.{PortView}
 use Rattle.port_state.specs.declared.view.View.{View}
 use Rattle.port_state.specs.Machine.{PortNode}

@@ -1,8 +1,7 @@
 -- What happens at a node from one moment to the next, as text: a line for each thing.
-use Rattle.std.specs.Prelude.{ℕ, ◌+◌, ◌-◌, ◌==◌, ◌&&◌, ◌||◌, not, nat_lt, nat_le, Bool, List, [], ◌∷◌, ◌++◌, codes, cond, drop, is_some, is_none, slice_index_or, unwrap_or, Option, None, Some}
+use Rattle.std.specs.Prelude.{ℕ, ◌+◌, ◌-◌, ◌==◌, ◌&&◌, ◌||◌, not, nat_lt, nat_le, Bool, List, [], ◌∷◌, ◌++◌, codes, cond, drop, is_some, is_none, slice_index_or, unwrap_or}
 use Rattle.std.specs.Int.{bit_at}
 use Rattle.topology_stack.specs.Hex.{hex}
-use Rattle.cabling.specs.declared.cable.End.{End}
 use Rattle.port_state.specs.declared.signal.Signal.{Signal}
 use Rattle.port_state.specs.declared.signal.Signal.TheVariants as signal
 use Rattle.port_state.specs.declared.signal.Phase.{Phase}

@@ -1,6 +1,5 @@
 -- What happens in a turn and at an act: the nodes by rising number.
 use Rattle.std.specs.Prelude.{ℕ, zero, suc, ◌+◌, List, [], ◌∷◌, ◌++◌, map, length}
-use Rattle.cabling.specs.declared.cable.End.{End}
 use Rattle.port_state.specs.declared.ports.PortView.{PortView}
 use Rattle.port_state.specs.Ports.{PortNumber}
 use Rattle.port_state.specs.Machine.{PortNode}

@@ -1,4 +1,4 @@
-use Rattle.std.proofs.Common.{◌∙◌, List}
+use Rattle.std.proofs.Common.{◌∙◌}
 use Rattle.script_trace.proofs.Walked.{turn-told}
 use Rattle.script_trace.proofs.steps.trace_turn.Goals as goal
 

@@ -1,4 +1,4 @@
-use Rattle.std.proofs.Common.{◌≡◌, ◌-◌, ◌++◌, ◌≤◌, length}
+use Rattle.std.proofs.Common.{◌≡◌, ◌-◌, ◌++◌}
 use Rattle.std.specs.Prelude.{IsFalse}
 use Rattle.cable_world.specs.Turn.{turns_after}
 use Rattle.cable_world.specs.Unchanged.{TurnsPass}

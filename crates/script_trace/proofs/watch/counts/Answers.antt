@@ -1,4 +1,4 @@
-use Rattle.std.proofs.Common.{ap, length, ◌∙◌, arith}
+use Rattle.std.proofs.Common.{ap, length, arith}
 use Rattle.script_trace.proofs.Walked.{next-count}
 use Rattle.script_trace.proofs.watch.counts.Goals as goal
 

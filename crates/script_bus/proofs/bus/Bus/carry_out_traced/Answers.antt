@@ -8,7 +8,6 @@ use Rattle.settle_plan.proofs.Suited.{from-there}
 use Rattle.script_told.specs.Bus.{Notes}
 use Rattle.script_told.specs.Step.{notes_after_act}
 use Rattle.script_told.proofs.Turns.{some-quiet}
-use Rattle.script_bus.specs.declared.bus.Notes as kept
 use Rattle.script_bus.specs.Running.{bus_now, notes_now}
 use Rattle.script_bus.proofs.Tracing.{notes-are, after-act, reported-bus, same-quiet, sent-traced}
 use Rattle.script_bus.proofs.bus.Bus.carry_out_traced.Goals as goal

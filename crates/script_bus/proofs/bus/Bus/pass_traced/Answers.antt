@@ -1,4 +1,4 @@
-use Rattle.std.proofs.Common.{ap, length, ◌∙◌, arith}
+use Rattle.std.proofs.Common.{ap, length, arith}
 use Rattle.cable_world.proofs.running.Whole.{lawful-now}
 use Rattle.script_bus.proofs.bus.Bus.pass_traced.Goals as goal
 

@@ -10,8 +10,6 @@ use Rattle.cable_world.proofs.running.Whole.{lawful-now}
 use Rattle.settle_plan.proofs.Suited.{from-there, not-refused, packet-fits}
 use Rattle.script_lines.specs.declared.command.Command.TheVariants as command
 use Rattle.script_trace.specs.Trace.{command_line}
-use Rattle.script_told.specs.Bus.{Notes}
-use Rattle.script_bus.specs.Running.{bus_now}
 use Rattle.script_bus.proofs.Tracing.{acted}
 use Rattle.script_bus.proofs.bus.Bus.send_traced.Goals as goal
 
