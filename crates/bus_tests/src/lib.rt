@@ -34,4 +34,6 @@ mod standards;
 #[cfg(test)]
 mod texts;
 #[cfg(test)]
+mod traces;
+#[cfg(test)]
 mod worlds;
