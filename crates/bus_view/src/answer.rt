@@ -6,9 +6,7 @@ ghost use Rattle.bus_cli.specs.Line.{fault_line};
 
 use crate::form::ViewForm;
 use crate::sentence::note_of;
-use bus_cli::{
-    CaptureFault, CaptureStop, REFUSED, VALID, fault_line, read_capture, script_line,
-};
+use bus_cli::{CaptureFault, CaptureStop, REFUSED, VALID, fault_line, read_capture, script_line};
 use quad_lanes::quads_of;
 use script_run::{ScriptStop, trace_script};
 use self_id::Standard;

@@ -126,12 +126,7 @@ impl<W: WorldRun> Bus<W> {
     }
 
     /// `turn K`
-    fn turn_traced(
-        &mut self,
-        alloc: Global,
-        count: u32,
-        out: &mut Vec<u8>,
-    ) -> Result<(), LineStop>
+    fn turn_traced(&mut self, alloc: Global, count: u32, out: &mut Vec<u8>) -> Result<(), LineStop>
         requires sound { IsSound W.world W.is_spent self.old }
         ensures done { OnOk result (DoesTraced (bus_now W.world self.old) (command.Turn count)
             (bus_now W.world self.new) out.old.items out.new.items) }
@@ -226,12 +221,7 @@ impl<W: WorldRun> Bus<W> {
     }
 
     /// `plan NAME`
-    fn plan_traced(
-        &mut self,
-        alloc: Global,
-        name: &Name,
-        out: &mut Vec<u8>,
-    ) -> Result<(), LineStop>
+    fn plan_traced(&mut self, alloc: Global, name: &Name, out: &mut Vec<u8>) -> Result<(), LineStop>
         requires sound { IsSound W.world W.is_spent self.old }
         ensures done { OnOk result (DoesTraced (bus_now W.world self.old) (command.Plan name.now)
             (bus_now W.world self.new) out.old.items out.new.items) }

@@ -3,9 +3,7 @@ ghost use Rattle.std.specs.Prelude.{◌≡◌, ◌<◌, ◌≤◌, ◌++◌, len
 ghost use Rattle.script_trace.specs.Event.{node_lines, all_sent_lines};
 ghost use Rattle.script_trace.specs.Step.{lines_since, seen_before_turn, seen_before_act, counts_from};
 
-use crate::node::{
-    put_children, put_coin, put_id, put_parent, put_sent, put_state, put_timeout,
-};
+use crate::node::{put_children, put_coin, put_id, put_parent, put_sent, put_state, put_timeout};
 use cable_world::{Travelling, WorldRun};
 use cabling::End;
 use port_state::{PortView, View};
