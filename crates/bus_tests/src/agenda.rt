@@ -141,8 +141,8 @@ fn turns_in_which_nothing_happens_are_passed_over(rt: HostRuntime) -> Result<(),
         machine: powered_on(),
         calls: &calls,
     };
-    let mut agenda = AgendaWorld::new(rt.alloc(), 4, alone(rt.alloc(), counting)?)?;
-    let mut plain = World::new(rt.alloc(), 4, alone(rt.alloc(), powered_on())?)?;
+    let mut agenda = AgendaWorld::new(rt.alloc(), alone(rt.alloc(), counting)?, 4)?;
+    let mut plain = World::new(rt.alloc(), alone(rt.alloc(), powered_on())?, 4)?;
     a_million(&rt, &mut plain, &mut agenda)?;
     assert!(rt; calls.get() < 100);
     Ok(())

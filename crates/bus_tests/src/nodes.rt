@@ -115,7 +115,7 @@ pub fn world(
 {
     assert!(rt; 1 <= d && d <= 16);
     assert!(rt; nodes.len() <= 63);
-    Ok(World::new(alloc, d, machines(alloc, nodes, d, packed)?)?)
+    Ok(World::new(alloc, machines(alloc, nodes, d, packed)?, d)?)
 }
 
 /// The same world, which passes over the turns in which nothing happens.
@@ -131,5 +131,5 @@ pub fn agenda(
 {
     assert!(rt; 1 <= d && d <= 16);
     assert!(rt; nodes.len() <= 63);
-    Ok(AgendaWorld::new(alloc, d, machines(alloc, nodes, d, packed)?)?)
+    Ok(AgendaWorld::new(alloc, machines(alloc, nodes, d, packed)?, d)?)
 }

@@ -48,7 +48,7 @@ fn world_of(alloc: Global, contenders: &[bool]) -> Result<World<FieldMachine>, A
     for contender in contenders {
         machines.push(machine(*contender))?;
     }
-    World::new(alloc, 4, machines)
+    World::new(alloc, machines, 4)
 }
 
 /// A line of nodes, of which these contend: a cable leads from each node's port 1, or the first

@@ -49,7 +49,7 @@ fn world_of(alloc: Global, coins: &[u8]) -> Result<World<FieldMachine>, AllocErr
     for coin in coins {
         machines.push(machine(*coin))?;
     }
-    World::new(alloc, 4, machines)
+    World::new(alloc, machines, 4)
 }
 
 /// What a world of nodes with these coins settles to, with cables that are given as node, port,

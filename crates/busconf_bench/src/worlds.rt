@@ -101,7 +101,7 @@ fn plug_all<W: WorldRun>(world: &mut W, cabling: &Cabling) -> u64 {
 
 /// The nodes joined in a shape, in a world that does one turn after the other.
 pub fn running(alloc: Global, shape: Shape) -> Result<World<FieldMachine>, AllocError> {
-    let mut world = World::new(alloc, DELAY, machines(alloc, shape)?)?;
+    let mut world = World::new(alloc, machines(alloc, shape)?, DELAY)?;
     let _refused = plug_all(&mut world, &joined(alloc, shape)?);
     Ok(world)
 }
@@ -118,7 +118,7 @@ pub fn turns<W: WorldRun>(world: &mut W, count: u32) -> u64 {
 /// From power-on to the turn in which the bus has settled. The answer counts the resets of the first
 /// node and the packets that it knows.
 pub fn settle(alloc: Global, shape: Shape) -> Result<u64, AllocError> {
-    let mut world = AgendaWorld::new(alloc, DELAY, machines(alloc, shape)?)?;
+    let mut world = AgendaWorld::new(alloc, machines(alloc, shape)?, DELAY)?;
     let refused = plug_all(&mut world, &joined(alloc, shape)?);
     Ok(turns(&mut world, SETTLED).wrapping_add(refused))
 }

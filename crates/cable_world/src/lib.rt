@@ -9,7 +9,7 @@
 mod act;
 mod acting;
 mod all_nodes;
-mod laws;
+pub mod laws;
 mod nodes;
 mod rows;
 mod run;
@@ -20,6 +20,7 @@ mod wire;
 mod world;
 
 pub use act::{Act, ActStop};
+pub use cabling::OutOfMemory;
 pub use laws::{
     acts_keep, outcomes_are_one, quiet_turns_add_up, resets_end, still_turns_pass, turn_by_number,
     turn_keeps, turns_add_up, worlds_stay_lawful, worlds_stay_reached,

@@ -42,7 +42,7 @@ pub struct World<M: PortMachine> {
 impl<M: PortMachine + Drop> World<M> {
     /// The world at power-on: nodes with these machines, each just powered on, and no cable. A cable
     /// delays a signal by at most `delay` turns, 1 to 16. At most 63 nodes.
-    pub fn new(alloc: Global, delay: u8, machines: Vec<M>) -> Result<World<M>, OutOfMemory>
+    pub fn new(alloc: Global, machines: Vec<M>, delay: u8) -> Result<World<M>, OutOfMemory>
         requires some_delay { 1 ≤ delay }
         requires short_delay { delay ≤ 16 }
         requires few { length machines.items ≤ 63 }

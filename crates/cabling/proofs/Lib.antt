@@ -19,3 +19,4 @@ pub mod Emitted
 pub mod Whole
 pub mod Pulling
 pub mod OneTree
+pub mod Existing

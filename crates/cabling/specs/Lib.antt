@@ -2,6 +2,7 @@ pub mod Wiring
 pub mod NodeSet
 pub mod Component
 pub mod Looped
+pub mod Existence
 pub mod Change
 pub mod Sees
 pub mod Walk

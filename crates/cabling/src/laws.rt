@@ -2,6 +2,7 @@
 ghost use Rattle.cabling.specs.Wiring.{AreTheirCables};
 ghost use Rattle.cabling.specs.Component.{SharesComponents, ClosedSetsHoldComponents};
 ghost use Rattle.cabling.specs.Looped.{HasLeaves, OtherCablesKeepCores};
+ghost use Rattle.cabling.specs.Existence.{ComponentsExist, CoresExist};
 ghost use Rattle.cabling.specs.Sees.{SeesOneTree};
 ghost use Rattle.cabling.specs.Walk.{WalksHoldEachNodeOnce};
 ghost use Rattle.cabling.specs.Trees.{ShowsTreesWithoutCore, SeenTreesHaveNoCore};
@@ -58,4 +59,14 @@ pub fn cores_keep_without_other_cables(old: &Cabling, new: &Cabling)
 /// From a root one tree at most is seen.
 pub fn trees_are_seen_once(c: &Cabling)
     ensures { SeesOneTree c.now }
+{}
+
+/// Each node of a cabling has a component, all of whose nodes exist.
+pub fn components_exist()
+    ensures { ComponentsExist }
+{}
+
+/// Each set of nodes has a core.
+pub fn cores_exist()
+    ensures { CoresExist }
 {}

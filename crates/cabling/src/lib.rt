@@ -14,8 +14,9 @@ mod wiring;
 
 pub use cable::{Cable, CableFault, End};
 pub use laws::{
-    cablings_are_their_cables, components_are_whole, cores_keep_without_other_cables,
-    trees_are_seen_once, trees_have_leaves, trees_have_no_core, walks_hold_each_node_once,
+    cablings_are_their_cables, components_are_whole, components_exist, cores_exist,
+    cores_keep_without_other_cables, trees_are_seen_once, trees_have_leaves, trees_have_no_core,
+    walks_hold_each_node_once,
 };
 pub use node_set::NodeSet;
 pub use quad_lanes::OutOfMemory;

@@ -2,3 +2,5 @@
 pub mod Climbing
 -- the best candidate
 pub mod Choosing
+-- reaches and best candidates exist
+pub mod SomeChoice

@@ -1,3 +1,4 @@
 pub mod Reach
 pub mod Choice
+pub mod SomeChoice
 pub mod codings

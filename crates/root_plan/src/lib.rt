@@ -3,9 +3,11 @@
 
 mod choice;
 mod expected;
+mod laws;
 mod reach;
 #[cfg(test)]
 mod tests;
 
 pub use choice::{RootPlan, choose};
 pub use expected::expect;
+pub use laws::best_roots_exist;

@@ -3,3 +3,5 @@ pub mod Standing
 pub mod Planning
 pub mod PlansAsked
 pub mod Tracing
+pub mod SomePlan
+pub mod SomeTold

@@ -1,3 +1,4 @@
 pub mod Running
+pub mod SomeTold
 pub mod Tracing
 pub mod codings

@@ -8,6 +8,7 @@
 mod advised;
 mod bank;
 mod bus;
+mod laws;
 mod managed;
 mod planned;
 mod steps;
@@ -16,4 +17,5 @@ mod traced;
 
 pub use bank::Bank;
 pub use bus::{Bus, Notes};
+pub use laws::{plans_have_answers, scripts_tell_something};
 pub use table::NameTable;

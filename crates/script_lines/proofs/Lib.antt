@@ -5,3 +5,4 @@ pub mod GivenValues
 pub mod CoinBits
 pub mod Uniform
 pub mod LineRead
+pub mod Ranged

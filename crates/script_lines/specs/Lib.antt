@@ -9,5 +9,6 @@ pub mod Node
 pub mod Line
 pub mod Answer
 pub mod Range
+pub mod Ranged
 pub mod Refusal
 pub mod codings

@@ -1,6 +1,7 @@
 //! Laws of lines.
 ghost use Rattle.script_lines.specs.Answer.{OneReading, SomeReading};
 ghost use Rattle.script_lines.specs.Name.{NamesAreTested};
+ghost use Rattle.script_lines.specs.Ranged.{CommandsAreInRange};
 
 /// A law: each line of a script is nothing, a command or at fault, and no line is two of them.
 #[tactic(auto, using(crate::proofs::LineRead::one_reading, crate::proofs::LineRead::some_reading))]
@@ -12,4 +13,9 @@ pub fn one_reading()
 /// A law: the test of names by which lines are read is true of names alone, and of each of them.
 pub fn names_are_tested()
     ensures { NamesAreTested }
+{}
+
+/// A law: the numbers of each command that a line says are in their ranges.
+pub fn commands_are_in_range()
+    ensures { CommandsAreInRange }
 {}

@@ -241,7 +241,7 @@ impl Draft {
         } = self;
         let nodes = machines.len();
         Ok(Bus {
-            world: AgendaWorld::new(alloc, delay, machines)?,
+            world: AgendaWorld::new(alloc, machines, delay)?,
             notes: Notes {
                 names,
                 banks: first_banks(alloc, nodes)?,

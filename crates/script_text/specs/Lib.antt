@@ -1,8 +1,11 @@
 pub mod ReportText
 pub mod CanBeShown
 pub mod OneText
+pub mod SomeText
 pub mod Summary
 pub mod Maps
+pub mod SomeMaps
 pub mod CommandText
 pub mod Plan
+pub mod SomePlan
 pub mod codings

@@ -13,7 +13,10 @@ mod report;
 
 pub use answers::{bid_text, csr_text, grant_text};
 pub use last_report::{first_feed, summary};
-pub use laws::{reports_can_be_shown, reports_have_one_text};
+pub use laws::{
+    maps_have_texts, plans_exist, reports_can_be_shown, reports_have_one_text, reports_have_texts,
+    settled_worlds_have_texts,
+};
 pub use maps::maps_text;
 pub use plan::plan_line;
 pub use report::{put_name, put_names, put_numbered, report_text, tree_of};

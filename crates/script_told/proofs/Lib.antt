@@ -1,3 +1,5 @@
 pub mod Turns
 pub mod told
+pub mod SomeManager
+pub mod SomeAnswer
 pub mod WorkedScripts

@@ -7,4 +7,6 @@
 
 mod laws;
 
-pub use laws::{reports_are_settled, scripts_tell_one_thing};
+pub use laws::{
+    commands_have_answers, reported_trees_are_managed, reports_are_settled, scripts_tell_one_thing,
+};

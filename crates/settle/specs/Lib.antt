@@ -3,6 +3,8 @@ pub mod Reported
 pub mod Report
 pub mod ReadBack
 pub mod OneReport
+pub mod SomeReport
+pub mod SomeWalk
 -- who is reported as root where one node is forced
 pub mod Forced
 -- how it is found

@@ -1,7 +1,11 @@
 //! Laws of reports. Each function is a fact for the crates above, which call it.
 ghost use Rattle.settle.specs.ReadBack.{ListsAreReadBack, ListsAreTheCables};
 ghost use Rattle.settle.specs.OneReport.{OneReportAtMost};
+ghost use Rattle.settle.specs.SomeReport.{ReportsExist};
+ghost use Rattle.settle.specs.SomeWalk.{WalksExist};
 
+use cabling::{components_exist, cores_exist};
+use outcomes::components_settle;
 use topology_stack::one_tree;
 
 /// Each list in a report of a reached world is accepted by `read_tree`, and the tree is the one
@@ -17,4 +21,19 @@ pub fn reports_are_read_back()
 /// A reached world has one report at most: of each component one part, and the parts in one order.
 pub fn reports_are_one()
     ensures { OneReportAtMost }
+{}
+
+/// Each world that has settled has a report, whatever memory there is to make it.
+pub fn reports_exist()
+    ensures { ReportsExist }
+{
+    components_exist();
+    cores_exist();
+    components_settle();
+}
+
+/// From each node of a component without a core there is a walk, the order in which the nodes of the
+/// component identify themselves where that node is root.
+pub fn walks_exist()
+    ensures { WalksExist }
 {}

@@ -6,3 +6,4 @@ mod Steps
 mod Copied
 pub mod Unique
 pub mod SameBus
+pub mod SomeRows

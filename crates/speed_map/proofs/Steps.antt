@@ -21,7 +21,7 @@ lowered t id k to (j ∷ ids) lt all =
     let rest = lowered t id k to ids lt all.2 in
     ((omega (arith, all.0, lt), all.1, rest.0), (omega (arith, all.0, lt), rest.1))
 
-down_one : (t : Tree) (id slot k to speed cap new : ℕ) → Far t id slot (Some k) → k < id → IsUnder t to k → IsDown t k to speed → cap ≡ speed_at t id → new ≡ min speed cap → IsDown t id to new
+pub down_one : (t : Tree) (id slot k to speed cap new : ℕ) → Far t id slot (Some k) → k < id → IsUnder t to k → IsDown t k to speed → cap ≡ speed_at t id → new ≡ min speed cap → IsDown t id to new
 down_one t id slot k to speed cap new far lt under d limit is =
     let r = lowered t id k to d.ids lt d.down_all in
     record {
@@ -36,7 +36,7 @@ down_leads : (t : Tree) (id to : ℕ) (ids : List ℕ) → id < length (walk t) 
 down_leads t id to [] lt all = tt
 down_leads t id to (k ∷ ids) lt all = (omega (arith, all.0, lt), inr all.1, down_leads t id to ids lt all.2)
 
-leads_down : (t : Tree) (id to speed : ℕ) → id < length (walk t) → IsDown t id to speed → Leads t id to speed
+pub leads_down : (t : Tree) (id to speed : ℕ) → id < length (walk t) → IsDown t id to speed → Leads t id to speed
 leads_down t id to speed lt d = record { ids = d.ids; path = d.path; between = down_leads t id to d.ids lt d.down_all; speed_is = d.speed_is }
 
 -- a path from the parent to a node outside of the subtree, seen from the node
@@ -52,7 +52,7 @@ raised t id p to (k ∷ ids) lt low own out all =
     (λ (u : IsUnder t to k). ((all.0, inr u, rest.0), ((λ (same : id ≡ k). out (subst (IsUnder t to) (sym same) u)), rest.1)))
     all.1
 
-leads_one : (t : Tree) (id slot p to speed cap new : ℕ) → Far t id slot (Some p) → id < p → p < length (walk t) → first_of t p ≤ first_of t id → first_of t id ≤ id → (IsUnder t to id → ⊥) →
+pub leads_one : (t : Tree) (id slot p to speed cap new : ℕ) → Far t id slot (Some p) → id < p → p < length (walk t) → first_of t p ≤ first_of t id → first_of t id ≤ id → (IsUnder t to id → ⊥) →
     Leads t p to speed → cap ≡ speed_at t id → new ≡ min speed cap → Leads t id to new
 leads_one t id slot p to speed cap new far lt within low own out l limit is =
     let r = raised t id p to l.ids lt low own out l.between in

@@ -1,4 +1,5 @@
 pub mod Path
 pub mod Rows
+pub mod SomeRows
 pub mod SameBus
 pub mod codings

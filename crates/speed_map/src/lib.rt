@@ -2,12 +2,14 @@
 //! SPEED_MAP).
 #![tactic(auto)]
 
+mod laws;
 mod paths;
 mod row;
 mod same_bus;
 mod sealed;
 mod sweeps;
 
+pub use laws::rows_exist;
 pub use paths::one_path;
 pub use quad_lanes::OutOfMemory;
 pub use same_bus::equal_lists_make_one_bus;

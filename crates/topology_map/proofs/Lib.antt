@@ -4,3 +4,4 @@ pub mod Division
 mod Bytes
 mod Emitted
 pub mod Parts
+pub mod SomeMap

@@ -4,11 +4,13 @@
 
 mod crc;
 mod fault;
+mod laws;
 mod map;
 mod sealed;
 
 pub use crc::crc16;
 pub use fault::{ImageFault, OutOfMemory};
+pub use laws::images_exist;
 pub use map::{MapParts, image, read_image};
 pub use sealed::seal;
 

@@ -18,7 +18,7 @@ pub struct AgendaWorld<M: PortMachine> {
 impl<M: PortMachine + Drop> AgendaWorld<M> {
     /// The world at power-on: nodes with these machines, each just powered on, and no cable. A cable
     /// delays a signal by at most `delay` turns, 1 to 16. At most 63 nodes.
-    pub fn new(alloc: Global, delay: u8, machines: Vec<M>) -> Result<AgendaWorld<M>, OutOfMemory>
+    pub fn new(alloc: Global, machines: Vec<M>, delay: u8) -> Result<AgendaWorld<M>, OutOfMemory>
         requires some_delay { 1 ≤ delay }
         requires short_delay { delay ≤ 16 }
         requires few { length machines.items ≤ 63 }
@@ -28,7 +28,7 @@ impl<M: PortMachine + Drop> AgendaWorld<M> {
         ensures spent { IfOk result (λ w. IsFalse (⟦<AgendaWorld<M> as WorldRun>⟧.is_spent w)) }
     {
         Ok(AgendaWorld {
-            nodes: World::new(alloc, delay, machines)?,
+            nodes: World::new(alloc, machines, delay)?,
         })
     }
 }

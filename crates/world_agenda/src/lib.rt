@@ -6,3 +6,4 @@ mod agenda;
 mod passing;
 
 pub use agenda::AgendaWorld;
+pub use cabling::OutOfMemory;

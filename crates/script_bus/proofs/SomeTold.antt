@@ -1,0 +1,440 @@
+-- A command leaves a bus whose world is reached. So a script tells something.
+use Rattle.std.proofs.Common.{◌≡◌, ◌+◌, ◌++◌, ◌≤◌, ◌*◌, ◌==◌, ℕ, zero, suc, Bool, true, false, List, [], ◌∷◌, Option, Some, None, IfSome, length, refl, sym, subst, ◌∙◌, ap, arith}
+use Rattle.std.specs.Prelude.{codes, slice_get, if◌then◌else◌, Result, Ok, Err, MatchBool, nat_lt, unwrap_or}
+use Rattle.std.proofs.lemmas.Bool.Decides.{nat_tests}
+use Rattle.std.proofs.lemmas.List.{length-append}
+use Rattle.cabling.specs.declared.cable.End.{End}
+use Rattle.cabling.specs.declared.cable.CableFault.{CableFault}
+use Rattle.cable_world.specs.declared.act.Act.{Act}
+use Rattle.cable_world.specs.declared.act.Act.TheVariants as act
+use Rattle.self_id.specs.declared.node.Attrs.{Attrs}
+use Rattle.port_state.specs.Coins.{Coins}
+use Rattle.port_state.specs.declared.timing.Timing.{Timing}
+use Rattle.port_state.specs.Machine.{PortNode}
+use Rattle.port_state.proofs.Sound.{valid-power_on}
+use Rattle.cable_world.specs.World.{CableWorld, NodeNumber, IsNodeAtPowerOn, world_of_nodes}
+use Rattle.cable_world.proofs.running.Start.{power-on}
+use Rattle.cable_world.specs.Run.{Event, acts, holds, turns, Happens, Runs, IsReached}
+use Rattle.cable_world.specs.Act.{IsAct, hold, hold_fault}
+use Rattle.cable_world.specs.Turn.{turn, turns_after}
+use Rattle.cable_world.specs.Unchanged.{ActKeepsNodes}
+use Rattle.cable_world.proofs.Options.{some-same}
+use Rattle.cable_world.proofs.StaysLawful.{reached-lawful}
+use Rattle.cable_world.proofs.StaysReached.{power-on-reached, turns-reached, act-reached, hold-reached}
+use Rattle.outcomes.specs.Settled.{HasNoAct}
+use Rattle.resource_manager.specs.declared.access.Access.{Access}
+use Rattle.resource_manager.specs.declared.access.Access.TheVariants as access
+use Rattle.resource_manager.specs.declared.access.Answer.{Answer}
+use Rattle.resource_manager.specs.declared.grant.Seen.{Seen}
+use Rattle.resource_manager.specs.Access.{answer_of}
+use Rattle.resource_manager.specs.Channel.{seen_of}
+use Rattle.bus_manager.specs.Election.{lock_for}
+use Rattle.root_plan.proofs.Choosing.{candidate_within}
+use Rattle.settle.specs.declared.report.Report.{Report}
+use Rattle.settle.specs.Report.{quiet_turns_of}
+use Rattle.settle_plan.proofs.Suited.{gap-fits}
+use Rattle.script_lines.specs.declared.kind.Kind.{Kind}
+use Rattle.script_lines.specs.declared.command.Command.{Command}
+use Rattle.script_lines.specs.declared.command.Command.TheVariants.{Node, Plug, Pull, Reset, Turn, Hold, Settle, Config, CsrRead, CsrWrite, CsrLock, Look, Allocate, Release, Manager, Plan, Maps, Delay}
+use Rattle.script_lines.specs.Range.{IsWithin, IsInRange, IsNodeInRange, IsConfigInRange}
+use Rattle.script_lines.specs.Line.{Reads}
+use Rattle.script_lines.specs.Ranged.{CommandsAreInRange}
+use Rattle.script_lines.proofs.LineRead.{some_reading}
+use Rattle.script_lines.specs.Refusal.{kind_of}
+use Rattle.script_text.specs.CommandText.{csr_text, grant_text, bid_text}
+use Rattle.script_told.specs.Bus.{Bus, Notes, Reported, node_named, tree_with, values_at, after_access, put_look}
+use Rattle.script_told.specs.Step.{LineAnswer, AtNode, Named, AtTree, Settled, AtManager, Managed, id_of, Acts, Holds, Within, Turns, Reports, Settles, Accesses, Grants, Looks, seen_by, Plans, GivesMaps, Does, end_of, config_of}
+use Rattle.script_told.specs.SomeAnswer.{IsOfReached, IsReachedBus, HasAnswer, CommandsHaveAnswers, PlansHaveAnswers, BusesSettle}
+use Rattle.script_told.specs.Script.{Draft, Stage, fresh, declaring, running, StageAnswer, bus_of, delay_of, first_draft, new_node, times_of, coins_of, with_node, Declares, Delays, onwards, Runs as StageRuns, ends_with, Follows, Told, behind, fault_at, Goes, Takes, Tells, script_lines}
+use Rattle.script_told.specs.Bus.{bus_of_nodes, is_declared}
+use Rattle.script_bus.specs.SomeTold.{ScriptsTellSomething}
+use Rattle.script_told.proofs.Turns.{after-turns}
+
+-- ---- a report of a reached world, a turn or a hold later
+
+runs-then :
+    (events : List Event) (e : Event) (w u v : CableWorld) → Runs events w u → Happens e u v →
+    Runs (events ++ e ∷ []) w v
+runs-then [] e w u v same h = (v, subst (λ (z : CableWorld). Happens e z v) same h, refl)
+runs-then (f ∷ events) e w u v r h = (r.0, r.1, runs-then events e r.0 u v r.2 h)
+
+none-then : (events : List Event) (e : Event) → HasNoAct events → HasNoAct (e ∷ []) → HasNoAct (events ++ e ∷ [])
+none-then [] e h k = k
+none-then (acts a ∷ events) e h k = absurd h
+none-then (holds end n ∷ events) e h k = none-then events e h k
+none-then (turns ∷ events) e h k = none-then events e h k
+
+of-event : (e : Event) (w v : CableWorld) (o : Option Report) → HasNoAct (e ∷ []) → Happens e w v → IfSome o (IsOfReached w) → IfSome o (IsOfReached v)
+of-event e w v None none is h = tt
+of-event e w v (Some report) none is h = record {
+  world = h.world;
+  reached = h.reached;
+  is = h.is;
+  events = h.events ++ e ∷ [];
+  no_act = none-then h.events e h.no_act none;
+  run = runs-then h.events e h.world w v h.run is;
+}
+
+of-turns : (k : ℕ) (w : CableWorld) (o : Option Report) → IfSome o (IsOfReached w) → IfSome o (IsOfReached (turns_after k w))
+unfolding turns_after
+of-turns zero w o h = h
+of-turns (suc k) w o h = of-turns k (turn w) o (of-event turns w (turn w) o tt refl h)
+
+-- ---- what an answer leaves
+
+abbrev pub LeavesReached : LineAnswer → Type 0
+LeavesReached (Ok (after, text)) = IsReachedBus after
+LeavesReached (Err kind) = Unit {0}
+
+abbrev pub Leaves : (LineAnswer → Type 0) → Type 0
+Leaves Comes = (r : LineAnswer) → Comes r → LeavesReached r
+
+known : (x : LineAnswer) → LeavesReached x → Leaves (λ r. r ≡ x)
+known x h r e = subst LeavesReached (sym e) h
+
+at-node : (o : Option NodeNumber) (Comes : NodeNumber → LineAnswer → Type 0) → ((k : NodeNumber) → Leaves (Comes k)) → Leaves (AtNode o Comes)
+at-node None Comes some r e = known (Err Kind.NoNode) tt r e
+at-node (Some k) Comes some r e = some k r e
+
+named : (bus : Bus) (name : List ℕ) (Comes : NodeNumber → LineAnswer → Type 0) → ((k : NodeNumber) → Leaves (Comes k)) → Leaves (Named bus name Comes)
+named bus name Comes some = at-node (node_named bus.notes.names name) Comes some
+
+at-tree : (o : Option Reported) (Comes : Reported → LineAnswer → Type 0) → ((t : Reported) → Leaves (Comes t)) → Leaves (AtTree o Comes)
+at-tree None Comes some r e = known (Err Kind.NotSettled) tt r e
+at-tree (Some t) Comes some r e = some t r e
+
+settled : (bus : Bus) (node : NodeNumber) (Comes : Reported → LineAnswer → Type 0) → ((t : Reported) → Leaves (Comes t)) → Leaves (Settled bus node Comes)
+settled bus node Comes some = at-tree (tree_with node bus.notes) Comes some
+
+at-manager : (o : Option NodeNumber) (Comes : NodeNumber → LineAnswer → Type 0) → ((k : NodeNumber) → Leaves (Comes k)) → Leaves (AtManager o Comes)
+at-manager None Comes some r e = known (Err Kind.NoManager) tt r e
+at-manager (Some k) Comes some r e = some k r e
+
+managed :
+    (bus : Bus) (name : List ℕ) (Comes : NodeNumber → ℕ → NodeNumber → LineAnswer → Type 0) →
+    ((node : NodeNumber) (id : ℕ) (manager : NodeNumber) → Leaves (Comes node id manager)) → Leaves (Managed bus name Comes)
+managed bus name Comes some = named bus name _ (λ node. settled bus node _ (λ tree r x.
+    at-manager x.0 (Comes node (id_of tree node)) (λ manager. some node (id_of tree node) manager) r x.2))
+
+if-test : (b : Bool) (One Other : LineAnswer → Type 0) → Leaves One → Leaves Other → Leaves (λ r. MatchBool b (One r) (Other r))
+if-test true One Other one other r x = one r x
+if-test false One Other one other r x = other r x
+
+within : (bus : Bus) (n : ℕ) (Comes : LineAnswer → Type 0) → Leaves Comes → Leaves (Within bus n Comes)
+within bus n Comes some = if-test (nat_lt 2000000 (bus.world.turns + n)) (λ r. r ≡ Err Kind.TooManyTurns) Comes (known (Err Kind.TooManyTurns) tt) some
+
+-- ---- acts, holds, turns
+
+do-act : ActKeepsNodes → (bus : Bus) (a : Act) → IsReachedBus bus → IsAct a → Leaves (Acts bus a)
+do-act keeps bus a h is (Ok (after, text)) x = record {
+  reached = act-reached a bus.world after.world is x.0 x.1 h.reached;
+  named = ap (λ (n : Notes). length n.names) x.2 ∙ h.named ∙ sym (keeps a bus.world after.world x.1);
+  reported = subst (λ (n : Notes). IfSome n.report (IsOfReached after.world)) (sym x.2) tt;
+}
+do-act keeps bus a h is (Err kind) x = tt
+
+do-hold : (bus : Bus) (end : End) (n : ℕ) → IsReachedBus bus → Leaves (Holds bus end n)
+do-hold bus end n h r x = by (hold_fault end bus.world) refl
+  where
+    by : (o : Option CableFault) → hold_fault end bus.world ≡ o → LeavesReached r
+    by None e = known (Ok (record bus { world = hold end n bus.world }, [])) (record {
+      reached = hold-reached end n bus.world e h.reached;
+      named = h.named;
+      reported = of-event (holds end n) bus.world (hold end n bus.world) bus.notes.report tt (e, refl) h.reported;
+    }) r (rw e at x)
+    by (Some fault) e = known (Err (kind_of fault)) tt r (rw e at x)
+
+-- as many nodes after turns
+same-nodes : (k : ℕ) (w : CableWorld) → IsReached w → length (turns_after k w).nodes ≡ length w.nodes
+same-nodes k w r =
+    let f = (reached-lawful w r).well_formed in
+    let g = (reached-lawful (turns_after k w) (turns-reached k w r)).well_formed in
+    g.count ∙ ap (λ c. length c) (after-turns k w).cabling ∙ sym f.count
+
+do-turns : (bus : Bus) (n : ℕ) → IsReachedBus bus → Leaves (Turns bus n)
+do-turns bus n h = within bus n _ (known (Ok (record bus { world = turns_after n bus.world }, [])) (record {
+  reached = turns-reached n bus.world h.reached;
+  named = h.named ∙ sym (same-nodes n bus.world h.reached);
+  reported = of-turns n bus.world bus.notes.report h.reported;
+}))
+
+-- ---- reports
+
+do-report : (bus : Bus) → IsReachedBus bus → Leaves (Reports bus)
+do-report bus h (Ok (after, text)) x =
+    let quiet : ℕ = quiet_turns_of bus.world in
+    let reached : IsReached after.world = subst IsReached (sym x.1) (turns-reached quiet bus.world h.reached) in
+    record {
+      reached = reached;
+      named = ap (λ (n : Notes). length n.names) x.3 ∙ h.named ∙ sym (same-nodes quiet bus.world h.reached) ∙ ap (λ (w : CableWorld). length w.nodes) (sym x.1);
+      reported = subst (λ (n : Notes). IfSome n.report (IsOfReached after.world)) (sym x.3)
+          (record { world = after.world; reached = reached; is = x.2; events = []; no_act = tt; run = refl });
+    }
+do-report bus h (Err kind) x = absurd x
+
+do-settle : (bus : Bus) → IsReachedBus bus → Leaves (Settles bus)
+do-settle bus h = within bus (quiet_turns_of bus.world) (Reports bus) (do-report bus h)
+
+-- ---- questions
+
+do-access : (bus : Bus) (manager : NodeNumber) (a : Access) (text : Answer → List ℕ) → IsReachedBus bus → Leaves (Accesses bus manager a text)
+do-access bus manager a text h = known (Ok (after_access manager a bus, text (answer_of (values_at manager bus) a))) (record { reached = h.reached; named = h.named; reported = h.reported })
+
+do-grant : (bus : Bus) (node manager : NodeNumber) (a : Seen → Access) (text : Answer → List ℕ) → IsReachedBus bus → Leaves (Grants bus node manager a text)
+do-grant bus node manager a text h = do-access (put_look node None bus) manager (a (seen_by node manager bus)) text (record { reached = h.reached; named = h.named; reported = h.reported })
+
+do-look : (bus : Bus) (node manager : NodeNumber) → IsReachedBus bus → Leaves (Looks bus node manager)
+do-look bus node manager h = known (Ok (put_look node (Some (seen_of (values_at manager bus))) bus, [])) (record { reached = h.reached; named = h.named; reported = h.reported })
+
+-- ---- maps and plans
+
+do-maps : (bus : Bus) (tree : Reported) → IsReachedBus bus → Leaves (GivesMaps bus tree)
+do-maps bus tree h (Ok (after, text)) x = subst IsReachedBus (sym x.after_is) (record { reached = h.reached; named = h.named; reported = h.reported })
+do-maps bus tree h (Err kind) x = absurd x
+
+do-plan : ActKeepsNodes → (bus : Bus) (name : List ℕ) (node : NodeNumber) (tree : Reported) → IsReachedBus bus → Leaves (Plans bus name node tree)
+do-plan keeps bus name node tree h (Ok (after, text)) x =
+    let few = x.is.bus.bus.small in
+    let a : Act = config_of node (Some x.plan.root_id) (Some x.plan.gap) in
+    let is : IsAct a = record {
+      bits = record {
+        root_bits = omega (arith, candidate_within x.shown x.plan.root_id x.planned.candidate, few);
+        gap_bits = λ g e. omega (arith, some-same x.plan.gap g e, x.planned.gap, gap-fits x.plan.hops);
+      };
+      says = refl;
+    } in
+    do-report x.sent (do-act keeps bus a h is (Ok (x.sent, [])) x.sends) (Ok (after, x.report)) x.reports
+do-plan keeps bus name node tree h (Err kind) x = absurd x
+
+-- ---- the commands
+
+six : (o : Option ℕ) (most : ℕ) → IfSome o (λ n. n ≤ most) → unwrap_or o 0 ≤ most
+six None most h = omega arith
+six (Some n) most h = h
+
+six-gap : (o : Option ℕ) (g : ℕ) → o ≡ Some g → IfSome o (λ n. n ≤ 63) → g ≤ 63
+six-gap o g e h = subst (λ (p : Option ℕ). IfSome p (λ n. n ≤ 63)) e h
+
+config-act : (node : NodeNumber) (root_id gap : Option ℕ) → IsConfigInRange root_id gap → IsAct (config_of node root_id gap)
+config-act node root_id gap h = record {
+  bits = record {
+    root_bits = omega (arith, six root_id 62 h.root_most);
+    gap_bits = λ g e. omega (arith, six-gap gap g e h.gap_most);
+  };
+  says = h.some_given;
+}
+
+pub leaves : ActKeepsNodes → (d : ℕ) (bus : Bus) (command : Command) → IsReachedBus bus → IsInRange d command → Leaves (Does bus command)
+leaves keeps d bus (Node name ports speed link contender force power gap held short long word len seed packed) h i = known (Err Kind.Late) tt
+leaves keeps d bus (Delay delay) h i = known (Err Kind.Late) tt
+leaves keeps d bus (Plug a a_port b b_port) h i = named bus a _ (λ n. named bus b _ (λ m. do-act keeps bus (act.Plug (end_of n a_port) (end_of m b_port)) h tt))
+leaves keeps d bus (Pull name port) h i = named bus name _ (λ node. do-act keeps bus (act.Pull (end_of node port)) h tt)
+leaves keeps d bus (Reset name) h i = named bus name _ (λ node. do-act keeps bus (act.Reset node) h tt)
+leaves keeps d bus (Turn count) h i = do-turns bus count h
+leaves keeps d bus (Hold name port n) h i = named bus name _ (λ node. do-hold bus (end_of node port) n h)
+leaves keeps d bus Settle h i = do-settle bus h
+leaves keeps d bus (Config name root_id gap) h i =
+    named bus name _ (λ node. settled bus node _ (λ tree. do-act keeps bus (config_of node root_id gap) h (config-act node root_id gap i)))
+leaves keeps d bus (CsrRead name offset) h i =
+    managed bus name _ (λ node id manager. do-access bus manager (access.Read offset) (csr_text name) h)
+leaves keeps d bus (CsrWrite name offset value) h i =
+    managed bus name _ (λ node id manager. do-access bus manager (access.Write offset value) (csr_text name) h)
+leaves keeps d bus (CsrLock name offset kind arg value) h i =
+    managed bus name _ (λ node id manager. do-access bus manager (access.Lock offset kind arg value) (csr_text name) h)
+leaves keeps d bus (Look name) h i =
+    managed bus name _ (λ node id manager. do-look bus node manager h)
+leaves keeps d bus (Allocate name channel units) h i =
+    managed bus name _ (λ node id manager. do-grant bus node manager (λ seen. access.Allocate seen channel units) (grant_text (codes "allocate ") name) h)
+leaves keeps d bus (Release name channel units) h i =
+    managed bus name _ (λ node id manager. do-grant bus node manager (λ seen. access.Release seen channel units) (grant_text (codes "release ") name) h)
+leaves keeps d bus (Manager name) h i =
+    managed bus name _ (λ node id manager. do-access bus manager (lock_for id) (bid_text name) h)
+leaves keeps d bus (Plan name) h i = managed bus name _ (λ node id manager.
+    if-test ((values_at manager bus).bus_manager_id == id) _ (λ r. r ≡ Err Kind.NotManager)
+    (within bus (quiet_turns_of bus.world) _ (settled bus node _ (λ tree. do-plan keeps bus name node tree h))) (known (Err Kind.NotManager) tt))
+leaves keeps d bus (Maps name) h i = named bus name _ (λ node. settled bus node _ (λ tree.
+    if-test (nat_lt bus.notes.maps 100) (GivesMaps bus tree) (λ r. r ≡ Err Kind.TooManyMaps) (do-maps bus tree h) (known (Err Kind.TooManyMaps) tt)))
+
+-- ---- nodes that are declared
+
+pub record IsSoundDraft (draft : Draft) : Type 0 where
+  some_delay : 1 ≤ draft.delay
+  short_delay : draft.delay ≤ 16
+  few : length draft.nodes ≤ 63
+  same : length draft.names ≡ length draft.nodes
+  powered : (k : ℕ) (x : PortNode) → slice_get draft.nodes k ≡ Some x → IsNodeAtPowerOn draft.delay x.state
+
+draft-bus : (draft : Draft) → IsSoundDraft draft → IsReachedBus (bus_of_nodes draft.delay draft.names draft.nodes)
+draft-bus draft h = record {
+  reached = power-on-reached (world_of_nodes draft.delay draft.nodes) (power-on draft.delay draft.nodes h.some_delay h.short_delay h.few h.powered);
+  named = h.same;
+  reported = tt;
+}
+
+no-nodes : (d : ℕ) → 1 ≤ d → d ≤ 16 → IsSoundDraft (record first_draft { delay = d })
+no-nodes d one most = record { some_delay = one; short_delay = most; few = omega arith; same = refl; powered = λ k x e. absurd cc }
+
+abbrev IsSound : Stage → Type 0
+IsSound fresh = Unit {0}
+IsSound (declaring draft) = IsSoundDraft draft
+IsSound (running bus) = IsReachedBus bus
+
+sound-bus : (stage : Stage) → IsSound stage → IsReachedBus (bus_of stage)
+sound-bus fresh h = draft-bus first_draft (no-nodes 4 (omega arith) (omega arith))
+sound-bus (declaring draft) h = draft-bus draft h
+sound-bus (running bus) h = h
+
+more-at :
+    (nodes : List PortNode) (x : PortNode) (P : PortNode → Type 0) → ((k : ℕ) (y : PortNode) → slice_get nodes k ≡ Some y → P y) → P x →
+    (k : ℕ) (y : PortNode) → slice_get (nodes ++ x ∷ []) k ≡ Some y → P y
+more-at [] x P h p zero y e = subst P (some-same x y e) p
+more-at [] x P h p (suc k) y e = absurd cc
+more-at (z ∷ nodes) x P h p zero y e = h zero y e
+more-at (z ∷ nodes) x P h p (suc k) y e = more-at nodes x P (λ j w f. h (suc j) w f) p k y e
+
+between : (o : Option ℕ) (least most usual : ℕ) → IfSome o (IsWithin least most) → least ≤ usual → usual ≤ most → IsWithin least most (unwrap_or o usual)
+between None least most usual h l m = (l, m)
+between (Some n) least most usual h l m = h
+
+at-power-on :
+    (d ports : ℕ) (attrs : Attrs) (force : Bool) (held short long : Option ℕ) (len : ℕ) (coins : Coins) → attrs.delay ≡ 0 →
+    IsNodeInRange d ports attrs.speed attrs.power attrs.gap held short long len →
+    IsNodeAtPowerOn d (new_node attrs ports force (times_of d held short long) coins).state
+at-power-on d ports attrs force held short long len coins none h =
+    let t : Timing = times_of d held short long in
+    let a = between held (64 * d) (80 * d) (64 * d) h.hold_within (omega arith) (omega arith) in
+    let b = between short (3 * d) (4 * d) (3 * d) h.short_within (omega arith) (omega arith) in
+    let c = between long (8 * d) (10 * d) (8 * d) h.long_within (omega arith) (omega arith) in
+    record {
+      is = refl;
+      valid = valid-power_on ports attrs force t h.some_port h.few_ports
+          (record { gap = omega (arith, h.gap_most); speed = omega (arith, h.speed_most); delay = omega (arith, none); power = omega (arith, h.power_most) }) none;
+      timing = record { hold_least = a.0; hold_most = a.1; force = refl; timeout = refl; short_least = b.0; short_most = b.1; long_least = c.0; long_most = c.1 };
+    }
+
+-- ---- a command at a stage
+
+abbrev LeavesSound : StageAnswer → Type 0
+LeavesSound (Ok (stage, text)) = IsSound stage
+LeavesSound (Err kind) = Unit {0}
+
+record Step (Comes : StageAnswer → Type 0) : Type 0 where
+  answer : StageAnswer
+  is : Comes answer
+  sound : LeavesSound answer
+
+declare :
+    (draft : Draft) (name : List ℕ) (node : ℕ → ℕ → PortNode) → IsSoundDraft draft →
+    IsNodeAtPowerOn draft.delay (node draft.delay (length draft.names)).state → Step (Declares (Some draft) name node)
+declare draft name node h on =
+    let s = go (nat_lt 62 (length draft.names)) (is_declared draft.names name) refl in
+    record { answer = s.answer; is = s.is; sound = s.sound }
+  where
+    new : PortNode
+    new = node draft.delay (length draft.names)
+
+    next : nat_lt 62 (length draft.names) ≡ false → IsSoundDraft (with_node draft name new)
+    next e =
+        let room : length draft.names ≤ 62 = grind (arith, nat_tests) in
+        let names = length-append draft.names (name ∷ []) in
+        let nodes = length-append draft.nodes (new ∷ []) in
+        record {
+          some_delay = h.some_delay;
+          short_delay = h.short_delay;
+          few = omega (arith, nodes, room, h.same);
+          same = omega (arith, names, nodes, h.same);
+          powered = more-at draft.nodes new (λ x. IsNodeAtPowerOn draft.delay x.state) h.powered on;
+        }
+
+    go : (full twice : Bool) → nat_lt 62 (length draft.names) ≡ full →
+        Step (λ r. r ≡ (if full then Err Kind.TooManyNodes
+        else if twice then Err Kind.Twice else Ok (declaring (with_node draft name new), [])))
+    go true twice e = record { answer = Err Kind.TooManyNodes; is = refl; sound = tt }
+    go false true e = record { answer = Err Kind.Twice; is = refl; sound = tt }
+    go false false e = record { answer = Ok (declaring (with_node draft name new), []); is = refl; sound = next e }
+
+abbrev attrs_said : ℕ → Bool → Bool → ℕ → ℕ → Attrs
+attrs_said speed link contender power gap = record {
+  link = link;
+  gap = gap;
+  speed = speed;
+  delay = 0;
+  contender = contender;
+  power = power;
+  initiated = false;
+}
+
+declare-node :
+    (draft : Draft) → IsSoundDraft draft → (name : List ℕ) (ports speed : ℕ) (link contender force : Bool) (power gap : ℕ)
+    (held short long : Option ℕ) (word len : ℕ) (seed : Option ℕ) → IsNodeInRange draft.delay ports speed power gap held short long len →
+    Step (Declares (Some draft) name (λ d number.
+    new_node (attrs_said speed link contender power gap) ports force (times_of d held short long) (coins_of number word len seed)))
+declare-node draft h name ports speed link contender force power gap held short long word len seed i =
+    declare draft name (λ d number. new_node (attrs_said speed link contender power gap) ports force (times_of d held short long) (coins_of number word len seed)) h
+    (at-power-on draft.delay ports (attrs_said speed link contender power gap) force held short long len (coins_of (length draft.names) word len seed) refl i)
+
+delays : (stage : Stage) (delay : ℕ) → IsWithin 1 16 delay → Step (Delays stage delay)
+delays fresh delay i = record { answer = Ok (declaring (record first_draft { delay = delay }), []); is = refl; sound = no-nodes delay i.0 i.1 }
+delays (declaring draft) delay i = record { answer = Err Kind.Late; is = refl; sound = tt }
+delays (running bus) delay i = record { answer = Err Kind.Late; is = refl; sound = tt }
+
+onwards-sound : (r : LineAnswer) → LeavesReached r → LeavesSound (onwards r)
+onwards-sound (Ok (bus, text)) h = h
+onwards-sound (Err kind) h = tt
+
+module _ (keeps : ActKeepsNodes) (commands : CommandsHaveAnswers) (plans : PlansHaveAnswers) (settle : BusesSettle) (ranged : CommandsAreInRange) where
+  any-answer : (bus : Bus) (command : Command) → IsReachedBus bus → HasAnswer (Does bus command)
+  any-answer bus (Plan name) h = plans bus name h
+  any-answer bus command h = commands bus command h tt
+
+  runs : (stage : Stage) (command : Command) → IsSound stage → IsInRange (delay_of stage) command → Step (StageRuns stage command)
+  runs stage command h i =
+      let a = any-answer (bus_of stage) command (sound-bus stage h) in
+      record {
+        answer = onwards a.answer;
+        is = (a.answer, a.is, refl);
+        sound = onwards-sound a.answer (leaves keeps (delay_of stage) (bus_of stage) command (sound-bus stage h) i a.answer a.is);
+      }
+
+  follow : (stage : Stage) (command : Command) → IsSound stage → IsInRange (delay_of stage) command → Step (Follows stage command)
+  follow fresh (Node name ports speed link contender force power gap held short long word len seed packed) h i =
+      declare-node first_draft (no-nodes 4 (omega arith) (omega arith)) name ports speed link contender force power gap held short long word len seed i
+  follow (declaring draft) (Node name ports speed link contender force power gap held short long word len seed packed) h i =
+      declare-node draft h name ports speed link contender force power gap held short long word len seed i
+  follow (running bus) (Node name ports speed link contender force power gap held short long word len seed packed) h i =
+      record { answer = Err Kind.Late; is = refl; sound = tt }
+  follow stage (Delay delay) h i = delays stage delay i
+  follow stage command h i = runs stage command h i
+
+  -- ---- lines
+
+  goes :
+      (number : ℕ) (Rest : Stage → Told → Type 0) → ((stage : Stage) → IsSound stage → (told : Told) × Rest stage told) →
+      (r : StageAnswer) → LeavesSound r → (told : Told) × Goes number Rest r told
+  goes number Rest rest (Ok (stage, text)) h = let more = rest stage h in (behind text more.0, (more.0, more.1, refl))
+  goes number Rest rest (Err kind) h = (Err (fault_at number kind), refl)
+
+  takes :
+      (number : ℕ) (Rest : Stage → Told → Type 0) → ((stage : Stage) → IsSound stage → (told : Told) × Rest stage told) →
+      (stage : Stage) (line : List ℕ) (reading : Result (Option Command) Kind) → IsSound stage → Reads (delay_of stage) line reading →
+      (told : Told) × Takes number Rest stage reading told
+  takes number Rest rest stage line (Ok None) h reads = rest stage h
+  takes number Rest rest stage line (Ok (Some command)) h reads =
+      let s = follow stage command h (ranged (delay_of stage) line command reads) in
+      let g = goes number Rest rest s.answer s.sound in
+      (g.0, (s.answer, s.is, g.1))
+  takes number Rest rest stage line (Err kind) h reads = (Err (fault_at number kind), refl)
+
+  tells : (lines : List (List ℕ)) (number : ℕ) (stage : Stage) → IsSound stage → (told : Told) × Tells number lines stage told
+  tells [] number stage h =
+      let a = settle (bus_of stage) (sound-bus stage h) in
+      (ends_with number a.answer, (a.answer, a.is, refl))
+  tells (line ∷ lines) number stage h =
+      let r = some_reading (delay_of stage) line in
+      let t = takes number (Tells (number + 1) lines) (λ next k. tells lines (number + 1) next k) stage line r.0 h r.1 in
+      (t.0, (r.0, r.1, t.1))
+
+  pub some-told : ScriptsTellSomething
+  some-told bytes =
+      let t = tells (script_lines bytes) 1 fresh tt in
+      record { told = t.0; is = t.1 }

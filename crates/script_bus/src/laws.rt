@@ -1,0 +1,37 @@
+//! Laws of plans, and of scripts.
+ghost use Rattle.script_told.specs.SomeAnswer.{PlansHaveAnswers};
+ghost use Rattle.script_bus.specs.SomeTold.{ScriptsTellSomething};
+
+use cable_world::acts_keep;
+use cabling::components_exist;
+use outcomes::{forced_roots_settle, trees_stay};
+use script_lines::commands_are_in_range;
+use script_text::{plans_exist, settled_worlds_have_texts};
+use script_told::{commands_have_answers, reported_trees_are_managed};
+use settle::walks_exist;
+use topology_stack::one_tree;
+
+/// A law: on a bus whose world is reached a plan has an answer, so it can be carried out where it isn't
+/// refused.
+pub fn plans_have_answers()
+    ensures { PlansHaveAnswers }
+{
+    one_tree();
+    trees_stay();
+    components_exist();
+    walks_exist();
+    plans_exist();
+    settled_worlds_have_texts();
+    reported_trees_are_managed();
+    forced_roots_settle();
+}
+
+/// A law: each script tells something, a text or a fault, whatever memory there is to run it.
+pub fn scripts_tell_something()
+    ensures { ScriptsTellSomething }
+{
+    acts_keep();
+    commands_have_answers();
+    plans_have_answers();
+    commands_are_in_range();
+}
