@@ -1,6 +1,8 @@
 -- What is answered to words and bytes: the right-hand side of what `bus_main` promises.
 use Rattle.std.specs.Prelude.{◌≡◌, ◌⊎◌, ℕ, List, [], String, Some, Ok, Err}
 use Rattle.std.specs.Global.{Global}
+use Rattle.self_id.specs.declared.standard.Standard.{Standard}
+use Rattle.self_id.specs.declared.standard.Standard.TheVariants.{Ieee1995, Ieee2000}
 use Rattle.topology_stack.specs.Tree.{Tree}
 use Rattle.topology_stack.specs.Text.{tree_text}
 use Rattle.config_rom.specs.declared.fault.RomFault.{RomFault}
@@ -10,18 +12,47 @@ use Rattle.config_rom.specs.Fault.{rom_fault}
 use Rattle.config_rom.specs.Block.{AreBlocks, BlocksRefused}
 use Rattle.config_rom.specs.Text.{IsRomText}
 use Rattle.config_rom.specs.OneReading.{IsRomOf, HasGoodBlocks}
+use Rattle.bus_cli.specs.declared.form.Form.{Form}
 use Rattle.bus_cli.specs.declared.form.Form.TheVariants.{Capture, Rom, Run, Advice, Make}
-use Rattle.bus_cli.specs.declared.form.CaptureForm.{CaptureForm}
 use Rattle.bus_cli.specs.declared.form.CaptureForm.TheVariants.{Read, Read95, Maps}
 use Rattle.bus_cli.specs.declared.fault.CaptureFault.{CaptureFault}
-use Rattle.bus_cli.specs.Form.{Asks, AsksCapture, IsForm, standard_of}
+use Rattle.bus_cli.specs.Form.{Asks, IsForm}
 use Rattle.bus_cli.specs.Capture.{Spells, CaptureRefused}
 use Rattle.bus_cli.specs.Line.{fault_line, rom_line, script_line}
+use Rattle.script_lines.specs.declared.kind.ScriptFault.{ScriptFault}
 use Rattle.script_text.specs.Maps.{IsMapsText}
-use Rattle.script_made.specs.Made.{made_script}
-use Rattle.script_told.specs.Script.{Told, IsTold}
-use Rattle.script_advice.specs.Advice.{IsAdvice}
 use Rattle.script_text.specs.Summary.{summary}
+use Rattle.script_made.specs.Made.{made_script}
+use Rattle.script_told.specs.Bus.{Bus}
+use Rattle.script_told.specs.Run.{ScriptRun, IsRun, printed, IsTold}
+use Rattle.script_told.specs.EachReport.{EachReportIsSettled}
+use Rattle.script_advice.specs.Advice.{IsAdvice, EndsWithoutLoop}
+
+-- A valid input has status 0 and such a text, and one that is refused has 1 and the line of its fault.
+abbrev pub ValidOrRefused : (List ℕ → Type 0) → (List ℕ → Type 0) → ℕ → List ℕ → Type 0
+ValidOrRefused valid refused status text =
+    ((status ≡ 0) × valid text) ⊎ ((status ≡ 1) × refused text)
+
+-- ---- captures
+
+-- the line of the fault that the capture has by a standard
+abbrev pub IsCaptureLine : Standard → List ℕ → List ℕ → Type 0
+IsCaptureLine standard bytes text =
+    (f : CaptureFault) × CaptureRefused standard bytes f × (text ≡ fault_line f)
+
+-- `read` and `read95`: the text of the tree that the capture spells by the standard
+abbrev pub AnswersRead : Standard → List ℕ → ℕ → List ℕ → Type 0
+AnswersRead standard bytes = ValidOrRefused
+    (λ text. (t : Tree) × Spells standard bytes t × (text ≡ tree_text t []))
+    (IsCaptureLine standard bytes)
+
+-- `maps`: the maps of the tree that the capture spells, with generation 1
+abbrev pub AnswersMaps : List ℕ → ℕ → List ℕ → Type 0
+AnswersMaps bytes = ValidOrRefused
+    (λ text. (t : Tree) × Spells Ieee2000 bytes t × IsMapsText 1 t text)
+    (IsCaptureLine Ieee2000 bytes)
+
+-- ---- configuration ROMs
 
 -- the bytes are those of the ROM, and none of its blocks has a fault
 pub record TellsRom (bytes : List ℕ) (v : Parts) : Type 0 where
@@ -33,82 +64,60 @@ abbrev pub RomRefused : List ℕ → RomFault → Type 0
 RomRefused bytes f =
     (rom_fault bytes ≡ Some f) ⊎ ((v : Parts) × (IsRomOf bytes v × BlocksRefused v f))
 
--- the words ask for a script to be made, and this is the text that it tells
-pub record MadeTells (words : List (String Global)) (text : List ℕ) : Type 0 where
-  pub nodes : ℕ
-  pub seed : ℕ
-  pub asks : Asks words (Make nodes seed)
-  pub tells : IsTold (made_script nodes seed) (Ok text)
-
--- What words and bytes come to: a tree that is shown in a form, the fault of a capture, a ROM, the
--- fault of a ROM, what a script tells, what is advised for its bus, the text that a script that is made
--- tells, or no form at all. A script tells a text or a fault, and one that is made tells a text.
-pub data Outcome : Type 0 where
-  shown : CaptureForm → Tree → Outcome
-  refused : CaptureFault → Outcome
-  rom : Parts → Outcome
-  rom_refused : RomFault → Outcome
-  ran : Told → Outcome
-  advised : Told → Outcome
-  made : List ℕ → Outcome
-  no_form : Outcome
-
--- the words ask for what the bytes are read as, or they are no form
-abbrev pub HasOutcome : List (String Global) → List ℕ → Outcome → Type 0
-HasOutcome words bytes (shown form t) =
-    Asks words (Capture form) × Spells (standard_of form) bytes t
-HasOutcome words bytes (refused f) =
-    (asks : AsksCapture words) × CaptureRefused (standard_of asks.0) bytes f
-HasOutcome words bytes (rom v) = Asks words Rom × TellsRom bytes v
-HasOutcome words bytes (rom_refused f) = Asks words Rom × RomRefused bytes f
-HasOutcome words bytes (ran told) = Asks words Run × IsTold bytes told
-HasOutcome words bytes (advised told) = Asks words Advice × IsAdvice bytes told
-HasOutcome words bytes (made text) = MadeTells words text
-HasOutcome words bytes no_form = ¬ IsForm words
-
--- the exit status that tells it
-abbrev pub status_of : Outcome → ℕ
-status_of (shown form t) = 0
-status_of (refused f) = 1
-status_of (rom v) = 0
-status_of (rom_refused f) = 1
-status_of (ran (Ok text)) = 0
-status_of (ran (Err f)) = 1
-status_of (advised (Ok text)) = 0
-status_of (advised (Err f)) = 1
-status_of (made text) = 0
-status_of no_form = 2
-
--- how a tree is shown: by `read` and `read95` as its text with no names, by `maps` as its maps with
--- generation 1
-abbrev pub Shows : CaptureForm → Tree → List ℕ → Type 0
-Shows Read t text = text ≡ tree_text t []
-Shows Read95 t text = text ≡ tree_text t []
-Shows Maps t text = IsMapsText 1 t text
-
 -- how a ROM is told: with the blocks that its root directory leads to
 pub record TextOfRom (v : Parts) (text : List ℕ) : Type 0 where
   pub list : List Block
   pub are_blocks : AreBlocks v list
   pub is_text : IsRomText v list text
 
--- the text of an outcome; of a script that was made, its summary
-abbrev pub HasText : Outcome → List ℕ → Type 0
-HasText (shown form t) text = Shows form t text
-HasText (refused f) text = text ≡ fault_line f
-HasText (rom v) text = TextOfRom v text
-HasText (rom_refused f) text = text ≡ rom_line f
-HasText (ran (Ok script_text)) text = text ≡ script_text
-HasText (ran (Err f)) text = text ≡ script_line f
-HasText (advised (Ok advice)) text = text ≡ advice
-HasText (advised (Err f)) text = text ≡ script_line f
-HasText (made script_text) text = text ≡ summary script_text
-HasText no_form text = text ≡ []
+-- `rom`
+abbrev pub AnswersRom : List ℕ → ℕ → List ℕ → Type 0
+AnswersRom bytes = ValidOrRefused
+    (λ text. (v : Parts) × TellsRom bytes v × TextOfRom v text)
+    (λ text. (f : RomFault) × RomRefused bytes f × (text ≡ rom_line f))
 
--- the status and the text of what the words and the bytes come to
-pub record Answers (words : List (String Global)) (bytes : List ℕ) (status : ℕ)
-    (text : List ℕ) : Type 0 where
-  pub outcome : Outcome
-  pub has : HasOutcome words bytes outcome
-  pub status_is : status ≡ status_of outcome
-  pub text_is : HasText outcome text
+-- ---- scripts
+
+-- The run of the script comes to its end, and the text is what its commands print, one after the
+-- other. Each report in it is that of a world that comes of power-on and has settled.
+pub record PrintsRun (bytes text : List ℕ) : Type 0 where
+  pub run : ScriptRun
+  pub is : IsRun bytes run
+  pub bus : Bus
+  pub ends : run.end ≡ Ok bus
+  pub text_is : text ≡ printed run.entries
+  pub settled : EachReportIsSettled run
+
+-- `run`
+abbrev pub AnswersRun : List ℕ → ℕ → List ℕ → Type 0
+AnswersRun bytes = ValidOrRefused (PrintsRun bytes)
+    (λ text. (f : ScriptFault) × IsTold bytes (Err f) × (text ≡ script_line f))
+
+-- `advice`: the text of the script's advice, whose report has no loop
+abbrev pub AnswersAdvice : List ℕ → ℕ → List ℕ → Type 0
+AnswersAdvice bytes = ValidOrRefused (EndsWithoutLoop bytes)
+    (λ text. (f : ScriptFault) × IsAdvice bytes (Err f) × (text ≡ script_line f))
+
+-- `make N SEED`: the summary of what the script prints that is made of them, which has no fault
+abbrev pub AnswersMake : ℕ → ℕ → ℕ → List ℕ → Type 0
+AnswersMake nodes seed status text =
+    (status ≡ 0)
+    × ((whole : List ℕ) × PrintsRun (made_script nodes seed) whole × (text ≡ summary whole))
+
+-- ---- the whole
+
+-- the status and the text of a form for these bytes
+abbrev pub AnswersForm : Form → List ℕ → ℕ → List ℕ → Type 0
+AnswersForm (Capture Read) bytes status text = AnswersRead Ieee2000 bytes status text
+AnswersForm (Capture Read95) bytes status text = AnswersRead Ieee1995 bytes status text
+AnswersForm (Capture Maps) bytes status text = AnswersMaps bytes status text
+AnswersForm Rom bytes status text = AnswersRom bytes status text
+AnswersForm Run bytes status text = AnswersRun bytes status text
+AnswersForm Advice bytes status text = AnswersAdvice bytes status text
+AnswersForm (Make nodes seed) bytes status text = AnswersMake nodes seed status text
+
+-- what the words ask for is answered, and words that are no form by 2 and nothing
+abbrev pub Answers : List (String Global) → List ℕ → ℕ → List ℕ → Type 0
+Answers words bytes status text =
+    ((form : Form) × Asks words form × AnswersForm form bytes status text)
+    ⊎ ((¬ IsForm words) × (status ≡ 2) × (text ≡ []))

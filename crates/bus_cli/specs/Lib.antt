@@ -2,7 +2,8 @@ pub mod Answer
 pub mod Capture
 pub mod Form
 pub mod Line
-pub mod OneOutcome
+pub mod OneAnswer
 pub mod OneReading
 pub mod Stop
+pub mod Written
 pub mod codings

@@ -1,15 +1,16 @@
 //! The answer to what was read.
-ghost use Rattle.std.specs.Prelude.{◌≡◌, ◌≤◌, ◌↔◌, ℕ, List, length, alloc_error, Err, IfOk, IfSome, OnOk, OnErr, IsErrOf, IsOkUnless, String};
-ghost use Rattle.std.specs.Global.{Global};
+ghost use Rattle.std.specs.Prelude.{◌≡◌, ◌≤◌, ◌↔◌, ℕ, List, length, alloc_error, Err, IfOk, IfSome, OnOk, OnErr, IsErrOf, IsOkUnless};
 ghost use Rattle.std.specs.Io.KnownBytes.{IsAtEnd};
 ghost use Rattle.io_edges.specs.Faults.{Rose};
 ghost use Rattle.io_edges.specs.Told.{AreLeft, IfTold, TookOver};
 ghost use Rattle.self_id.specs.declared.standard.Standard.TheVariants.{Ieee2000};
 ghost use Rattle.topology_stack.specs.Tree.{Tree};
 ghost use Rattle.bus_cli.specs.Capture.{Spells};
-ghost use Rattle.bus_cli.specs.Form.{Asks, AsksCapture, standard_of};
-ghost use Rattle.bus_cli.specs.Answer.{Answers, Shows};
-ghost use Rattle.bus_cli.specs.codings.Reading.{Reads, IsNoFault, IsRead, AsksFewNodes, status_with, text_with};
+ghost use Rattle.bus_cli.specs.declared.form.Form.TheVariants.{Capture};
+ghost use Rattle.bus_cli.specs.declared.form.CaptureForm.{CaptureForm};
+ghost use Rattle.bus_cli.specs.Form.{standard_of};
+ghost use Rattle.bus_cli.specs.Answer.{AnswersForm};
+ghost use Rattle.bus_cli.specs.codings.Reading.{Reads, Shows, IsNoFault, IsRead, AsksFewNodes, status_with, text_with};
 
 use crate::fault::CaptureStop;
 use crate::form::{CaptureForm, Form};
@@ -65,9 +66,9 @@ fn shown_text(alloc: Global, form: CaptureForm, tree: &BusTree) -> Result<Vec<u8
 
 /// The answer where no tree was found. No memory is taken.
 fn answer_to_stop(stop: CaptureStop) -> Result<Answer, OutOfMemory>
-    ensures answer { IfOk result (λ answer. (words : List (String Global)) (bytes : List ℕ) →
-        (asks : AsksCapture words) → Reads (standard_of asks.0) bytes (Err stop) →
-        Answers words bytes (status_with answer) (text_with answer)) }
+    ensures answer { IfOk result (λ answer. (form : CaptureForm) (bytes : List ℕ) →
+        Reads (standard_of form) bytes (Err stop) →
+        AnswersForm (Capture form) bytes (status_with answer) (text_with answer)) }
     ensures memory { OnErr result (IsNoFault (Err stop)) }
 {
     match stop {
@@ -82,9 +83,9 @@ fn answer_to(
     form: CaptureForm,
     reading: Result<BusTree, CaptureStop>,
 ) -> Result<Answer, OutOfMemory>
-    ensures answer { IfOk result (λ answer. (words : List (String Global)) (bytes : List ℕ) →
-        Asks words (Form.Capture form) → Reads (standard_of form) bytes reading →
-        Answers words bytes (status_with answer) (text_with answer)) }
+    ensures answer { IfOk result (λ answer. (bytes : List ℕ) →
+        Reads (standard_of form) bytes reading →
+        AnswersForm (Capture form) bytes (status_with answer) (text_with answer)) }
     ensures memory { OnErr result (IsNoFault reading) }
 {
     match reading {
@@ -102,9 +103,8 @@ pub(crate) fn read_answer<S: Source>(
 ) -> Result<Answer, ReadStop>
     requires { AsksFewNodes form }
     ensures answer { IfOk result (λ answer. (bytes : List ℕ)
-        × (AreLeft (S.left source.old) bytes
-        × ((words : List (String Global)) → Asks words form →
-        Answers words bytes (status_with answer) (text_with answer)))) }
+        × AreLeft (S.left source.old) bytes
+        × AnswersForm form bytes (status_with answer) (text_with answer)) }
     ensures end { OnOk result (IsRead form → IsAtEnd (S.left source.new)) }
     ensures unread { (¬ IsRead form) → source.new ≡ source.old }
     ensures unfailing { (¬ IsRead form) → IsOkUnless result (ReadStop.Memory alloc_error) }

@@ -1,12 +1,15 @@
 //! Laws of captures and of answers.
-ghost use Rattle.bus_cli.specs.OneOutcome.{EachInputButScriptsHasAnOutcome, NoInputHasTwoOutcomes, NoInputHasTwoAnswers};
+ghost use Rattle.bus_cli.specs.OneAnswer.{EachInputHasAnAnswer, NoInputHasTwoAnswers};
 ghost use Rattle.bus_cli.specs.OneReading.{EachCaptureHasATreeOrAFault, NoCaptureHasTwoTrees, NoCaptureHasATreeAndAFault, NoCaptureHasTwoFaults};
 
-use config_rom::{one_list, one_rom};
+use config_rom::{one_list, one_rom, roms_have_texts};
 use quad_lanes::{capture_is_read_back, good_pairs_are_a_capture};
-use script_advice::scripts_have_one_advice;
-use script_told::scripts_tell_one_thing;
-use topology_stack::{one_answer, one_tree};
+use script_advice::{advices_leave_no_loop, scripts_have_one_advice};
+use script_bus::{each_script_has_a_run, each_script_has_an_advice};
+use script_made::made_scripts_have_no_fault;
+use script_text::maps_have_texts;
+use script_told::{reports_are_settled, scripts_tell_one_thing};
+use topology_stack::{one_answer as one_list_answer, one_tree};
 
 /// A law: by either standard each capture spells a tree or has a fault, none spells two trees, none
 /// spells a tree and has a fault, and none has two faults.
@@ -19,19 +22,24 @@ pub fn one_reading()
     capture_is_read_back();
     good_pairs_are_a_capture();
     one_tree();
-    one_answer();
+    one_list_answer();
 }
 
-/// A law: words and bytes have no two outcomes, and so no two statuses and no two texts. They have
-/// an outcome where the words don't ask for the run of a script or its advice.
-pub fn one_outcome()
-    ensures some { EachInputButScriptsHasAnOutcome }
-    ensures outcome { NoInputHasTwoOutcomes }
-    ensures answer { NoInputHasTwoAnswers }
+/// A law: all words and bytes have one answer, one status and one text.
+pub fn one_answer()
+    ensures some { EachInputHasAnAnswer }
+    ensures one { NoInputHasTwoAnswers }
 {
     one_reading();
+    maps_have_texts();
     one_rom();
     one_list();
+    roms_have_texts();
     scripts_tell_one_thing();
+    each_script_has_a_run();
+    reports_are_settled();
+    made_scripts_have_no_fault();
     scripts_have_one_advice();
+    each_script_has_an_advice();
+    advices_leave_no_loop();
 }

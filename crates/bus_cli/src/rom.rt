@@ -1,11 +1,8 @@
 //! The answer to a ROM.
-ghost use Rattle.std.specs.Prelude.{◌≡◌, List, IfOk, String};
-ghost use Rattle.std.specs.Global.{Global};
+ghost use Rattle.std.specs.Prelude.{IfOk};
 ghost use Rattle.config_rom.specs.Rom.{Parts};
 ghost use Rattle.config_rom.specs.Answer.{IfFault};
-ghost use Rattle.bus_cli.specs.declared.form.Form.TheVariants.{Rom};
-ghost use Rattle.bus_cli.specs.Form.{Asks};
-ghost use Rattle.bus_cli.specs.Answer.{Answers, RomRefused, TellsRom, TextOfRom};
+ghost use Rattle.bus_cli.specs.Answer.{AnswersRom, RomRefused, TellsRom, TextOfRom};
 ghost use Rattle.bus_cli.specs.codings.Reading.{status_with, text_with};
 
 use crate::answer::Answer;
@@ -27,8 +24,8 @@ fn text_of(alloc: Global, bytes: &[u8]) -> Result<Vec<u8>, RomStop>
 
 /// The answer to the bytes of a ROM.
 pub(crate) fn answer_to_rom(alloc: Global, bytes: &[u8]) -> Result<Answer, OutOfMemory>
-    ensures { IfOk result (λ answer. (words : List (String Global)) → Asks words Rom →
-        Answers words bytes.now (status_with answer) (text_with answer)) }
+    ensures { IfOk result (λ answer.
+        AnswersRom bytes.now (status_with answer) (text_with answer)) }
 {
     match text_of(alloc, bytes) {
         Ok(text) => Ok(Answer::Valid(text)),

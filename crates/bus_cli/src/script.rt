@@ -1,12 +1,8 @@
 //! The answer to a script.
-ghost use Rattle.std.specs.Prelude.{◌≡◌, ◌≤◌, ℕ, List, Ok, IfOk, String, length};
-ghost use Rattle.std.specs.Global.{Global};
+ghost use Rattle.std.specs.Prelude.{◌≡◌, ◌≤◌, ℕ, List, IfOk, length};
 ghost use Rattle.script_made.specs.Made.{made_script};
-ghost use Rattle.script_told.specs.Script.{IsTold};
 ghost use Rattle.script_text.specs.Summary.{summary};
-ghost use Rattle.bus_cli.specs.declared.form.Form.TheVariants.{Run, Advice, Make};
-ghost use Rattle.bus_cli.specs.Form.{Asks};
-ghost use Rattle.bus_cli.specs.Answer.{Answers};
+ghost use Rattle.bus_cli.specs.Answer.{PrintsRun, AnswersRun, AnswersAdvice, AnswersMake};
 ghost use Rattle.bus_cli.specs.codings.Reading.{status_with, text_with};
 
 use crate::answer::Answer;
@@ -16,14 +12,16 @@ use script_lines::ScriptStop;
 use script_made::{made_scripts_have_no_fault, make_script};
 use script_run::{advise_script, run_script};
 use script_text::summary;
+use script_told::reports_are_settled;
 use std::alloc::Global;
 
 /// The answer to the bytes of a script.
 pub(crate) fn answer_to_script(alloc: Global, bytes: &[u8]) -> Result<Answer, OutOfMemory>
     requires { length bytes.now ≤ 1048576 }
-    ensures { IfOk result (λ answer. (words : List (String Global)) → Asks words Run →
-        Answers words bytes.now (status_with answer) (text_with answer)) }
+    ensures { IfOk result (λ answer.
+        AnswersRun bytes.now (status_with answer) (text_with answer)) }
 {
+    reports_are_settled();
     match run_script(alloc, bytes) {
         Ok(text) => Ok(Answer::Valid(text)),
         Err(ScriptStop::Fault(fault)) => Ok(Answer::Refused(script_line(fault))),
@@ -34,8 +32,8 @@ pub(crate) fn answer_to_script(alloc: Global, bytes: &[u8]) -> Result<Answer, Ou
 /// The answer to the bytes of a script of whose bus the advice is asked for.
 pub(crate) fn answer_to_advice(alloc: Global, bytes: &[u8]) -> Result<Answer, OutOfMemory>
     requires { length bytes.now ≤ 1048576 }
-    ensures { IfOk result (λ answer. (words : List (String Global)) → Asks words Advice →
-        Answers words bytes.now (status_with answer) (text_with answer)) }
+    ensures { IfOk result (λ answer.
+        AnswersAdvice bytes.now (status_with answer) (text_with answer)) }
 {
     match advise_script(alloc, bytes) {
         Ok(text) => Ok(Answer::Valid(text)),
@@ -48,10 +46,11 @@ pub(crate) fn answer_to_advice(alloc: Global, bytes: &[u8]) -> Result<Answer, Ou
 fn made_summary(alloc: Global, nodes: u8, seed: u32) -> Result<Vec<u8>, OutOfMemory>
     requires least { 1 ≤ nodes }
     requires most { nodes ≤ 63 }
-    ensures { IfOk result (λ text. (told : List ℕ)
-        × IsTold (made_script nodes seed) (Ok told) × (text.items ≡ summary told)) }
+    ensures { IfOk result (λ text. (whole : List ℕ)
+        × PrintsRun (made_script nodes seed) whole × (text.items ≡ summary whole)) }
 {
     made_scripts_have_no_fault();
+    reports_are_settled();
     let script = make_script(alloc, nodes, seed)?;
     match run_script(alloc, &script) {
         Ok(text) => summary(alloc, &text),
@@ -64,9 +63,8 @@ fn made_summary(alloc: Global, nodes: u8, seed: u32) -> Result<Vec<u8>, OutOfMem
 pub(crate) fn answer_to_make(alloc: Global, nodes: u8, seed: u32) -> Result<Answer, OutOfMemory>
     requires least { 1 ≤ nodes }
     requires most { nodes ≤ 63 }
-    ensures { IfOk result (λ answer. (words : List (String Global)) (bytes : List ℕ) →
-        Asks words (Make nodes seed) →
-        Answers words bytes (status_with answer) (text_with answer)) }
+    ensures { IfOk result (λ answer.
+        AnswersMake nodes seed (status_with answer) (text_with answer)) }
 {
     Ok(Answer::Valid(made_summary(alloc, nodes, seed)?))
 }

@@ -5,22 +5,18 @@ ghost use Rattle.io_edges.specs.Faults.{Rose};
 ghost use Rattle.io_edges.specs.Told.{AppendsStart, IfTold, TookOver};
 ghost use Rattle.bus_cli.specs.declared.form.CaptureForm.{CaptureForm};
 ghost use Rattle.bus_cli.specs.Form.{Asks, AsksMake, IsForm};
-ghost use Rattle.self_id.specs.declared.standard.Standard.TheVariants.{Ieee2000};
+ghost use Rattle.self_id.specs.declared.standard.Standard.TheVariants.{Ieee1995, Ieee2000};
 ghost use Rattle.topology_stack.specs.Tree.{Tree};
-ghost use Rattle.script_told.specs.Script.{IsTold};
-ghost use Rattle.script_told.specs.EachReport.{EachReportIsSettled};
-ghost use Rattle.script_text.specs.Summary.{summary};
-ghost use Rattle.script_advice.specs.Advice.{IsAdvice, EndsWithoutLoop};
 ghost use Rattle.bus_cli.specs.Capture.{Spells};
-ghost use Rattle.bus_cli.specs.Answer.{Answers, MadeTells};
+ghost use Rattle.bus_cli.specs.Answer.{AnswersRead, AnswersMaps, AnswersRom, AnswersRun, AnswersAdvice};
+ghost use Rattle.bus_cli.specs.Answer.{AnswersMake, Answers};
+ghost use Rattle.bus_cli.specs.Written.{IsWritten, OfTheAnswer};
 
 use crate::answer::read_answer;
 use crate::form::Form;
-use crate::laws::one_outcome;
+use crate::laws::one_answer;
 use crate::status::{NO_FORM, NO_MEMORY, READ_FAULT, TOO_LONG, WRITE_FAULT};
 use io_edges::{ReadStop, Sink, Source, write_whole};
-use script_advice::advices_leave_no_loop;
-use script_told::reports_are_settled;
 use std::alloc::Global;
 
 /// Does what the words after the program's name ask for: reads the input from `source`, writes the
@@ -62,29 +58,33 @@ pub fn bus_main<S: Source, K: Sink>(
     ensures end { (result ≡ 0) ⊎ (result ≡ 1) ⊎ (result ≡ 4) → (¬ AsksMake words.now) →
         IsAtEnd (S.left source.new) }
 
-    // With `run`, what is written at status 0 is the text that the script tells.
-    ensures run { result ≡ 0 → Asks words.now Form.Run → IfSome (S.left source.old) (λ bytes.
-        (text : List ℕ) × IsTold bytes (Ok text)
-        × Appends (K.written sink.old) (K.written sink.new) text) }
-    // In each of its reports every component is a loop in configuration timeout, one cable whose
-    // ends drew 32 equal coins, or one list at every node, the walk from its one root.
-    ensures settled { result ≡ 0 → Asks words.now Form.Run →
-        IfSome (S.left source.old) EachReportIsSettled }
+    // With `read` and `read95` it is the tree that the capture spells, or its fault.
+    ensures read { Asks words.now (Form.Capture CaptureForm.Read) → IsWritten (AnswersRead Ieee2000)
+        result (S.left source.old) (K.written sink.old) (K.written sink.new) }
+    ensures read95 { Asks words.now (Form.Capture CaptureForm.Read95) →
+        IsWritten (AnswersRead Ieee1995) result
+        (S.left source.old) (K.written sink.old) (K.written sink.new) }
+    // With `maps` it is the maps of that tree, and with `rom` what the ROM says.
+    ensures maps { Asks words.now (Form.Capture CaptureForm.Maps) → IsWritten AnswersMaps
+        result (S.left source.old) (K.written sink.old) (K.written sink.new) }
+    ensures rom { Asks words.now Form.Rom → IsWritten AnswersRom
+        result (S.left source.old) (K.written sink.old) (K.written sink.new) }
 
-    // With `advice` it is the text of the script's advice, whose report has no loop.
-    ensures advice { result ≡ 0 → Asks words.now Form.Advice → IfSome (S.left source.old) (λ bytes.
-        (text : List ℕ) × IsAdvice bytes (Ok text)
-        × Appends (K.written sink.old) (K.written sink.new) text) }
-    ensures no_loop { result ≡ 0 → Asks words.now Form.Advice → IfSome (S.left source.old) (λ bytes.
-        (text : List ℕ) × EndsWithoutLoop bytes text
-        × Appends (K.written sink.old) (K.written sink.new) text) }
+    // With `run` it is what the commands of the script's run print, and each report among that is
+    // the report of a world that comes of power-on: every component is a loop in configuration
+    // timeout, one cable whose ends drew 32 equal coins, or one list at every node.
+    ensures run { Asks words.now Form.Run → IsWritten AnswersRun
+        result (S.left source.old) (K.written sink.old) (K.written sink.new) }
+    // With `advice` it is the script's advice and such a report, in which no component is a loop.
+    ensures advice { Asks words.now Form.Advice → IsWritten AnswersAdvice
+        result (S.left source.old) (K.written sink.old) (K.written sink.new) }
 
     // With `make` the script has no fault and nothing is read, and what is written at status 0 is
-    // the summary of the text that the script tells.
+    // the summary of what the script prints.
     ensures unfailing { AsksMake words.now → (result ≢ 1) × (result ≢ 3) × (result ≢ 6) }
-    ensures make { result ≡ 0 → AsksMake words.now → (text : List ℕ)
-        × MadeTells words.now text
-        × Appends (K.written sink.old) (K.written sink.new) (summary text) }
+    ensures make { (nodes seed : ℕ) → Asks words.now (Form.Make nodes seed) → result ≡ 0 →
+        (text : List ℕ) × AnswersMake nodes seed 0 text
+        × Appends (K.written sink.old) (K.written sink.new) text }
 
     // When each other status comes.
     ensures no_form { (result ≡ 2) ↔ (¬ IsForm words.now) }
@@ -105,24 +105,23 @@ pub fn bus_main<S: Source, K: Sink>(
         (status : ℕ) × (text : List ℕ) × Answers words.now bytes status text
         × AppendsStart (K.written sink.old) (K.written sink.new) text) }
 
-    // The answer to the words and the bytes is given, unless another status has its cause.
-    ensures exact { IfSome (S.left source.old) (λ bytes. (status : ℕ) (text : List ℕ) →
-        Answers words.now bytes status text → (result ≡ status) ⊎ (3 ≤ result)) }
+    // The answer to the words and the bytes, which there is, is given, unless another status has
+    // its cause.
+    ensures exact { IfSome (S.left source.old) (λ bytes. OfTheAnswer words.now bytes
+        (λ status text. (result ≡ status) ⊎ (3 ≤ result))) }
     ensures complete { ¬ Rose (S.faults source.old) (S.faults source.new) →
         ¬ Rose (K.faults sink.old) (K.faults sink.new) →
         IfSome (S.left source.old) (λ bytes. length bytes ≤ 1048576 →
-        (status : ℕ) (text : List ℕ) → Answers words.now bytes status text →
+        OfTheAnswer words.now bytes (λ status text.
         ((result ≡ status) × Appends (K.written sink.old) (K.written sink.new) text)
-        ⊎ (result ≡ 5)) }
+        ⊎ (result ≡ 5))) }
 
     // A sink that surely takes the text has no fault.
-    ensures sure { IfSome (S.left source.old) (λ bytes. (status : ℕ) (text : List ℕ) →
-        Answers words.now bytes status text → K.surely_takes sink.old (length text) →
-        K.faults sink.new ≡ K.faults sink.old) }
+    ensures sure { IfSome (S.left source.old) (λ bytes. OfTheAnswer words.now bytes
+        (λ status text. K.surely_takes sink.old (length text) →
+        K.faults sink.new ≡ K.faults sink.old)) }
 {
-    one_outcome();
-    reports_are_settled();
-    advices_leave_no_loop();
+    one_answer();
     let Some(form) = Form::of_words(words) else {
         return NO_FORM;
     };

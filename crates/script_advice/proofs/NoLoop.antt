@@ -32,16 +32,20 @@ use Rattle.script_advice.specs.declared.advice.LoopAdvice.{LoopAdvice}
 use Rattle.script_lines.specs.declared.kind.Kind.TheVariants as Kind
 use Rattle.script_told.specs.Bus.{Bus, Notes}
 use Rattle.script_told.specs.Step.{LineAnswer, Reports, Settles}
-use Rattle.script_advice.specs.Advice.{EndsOn, RunsTo, if_loop, loops_of, IsAdviceFor, AreAdvices, all_pulls, PullsLead, advice_text, after_text, Advises, IsAdvice, IsLoop, HasNoLoop, EndsWithoutLoop}
+use Rattle.script_advice.specs.Advice.{RunsTo, told_at_end, if_loop, loops_of, IsAdviceFor, AreAdvices, all_pulls, PullsLead, advice_text, after_text, Advises, IsAdvice, IsLoop, HasNoLoop, EndsWithoutLoop}
 use Rattle.script_advice.specs.OneAdvice.{AdvicesLeaveNoLoop, AdvicesEndWithoutLoop}
 use Rattle.script_advice.specs.Advising.{ArePullable, EndsWith}
 use Rattle.script_advice.proofs.Pulling.{pull-taken, next-pullable}
 use Rattle.script_advice.proofs.Settled.{reported-pullable}
 use Rattle.script_told.proofs.told.Cables.{IsCabled}
 use Rattle.script_told.proofs.told.Commands.{bus-in}
-use Rattle.script_told.proofs.told.Lines.{Meet, meet}
-use Rattle.script_advice.proofs.OneAdvice.{one-bus, no-fault, same-report}
-use Rattle.script_told.specs.Script.{bus_of, ends_with, script_lines}
+use Rattle.script_advice.proofs.OneAdvice.{end-of, end-cabled, no-fault, same-report}
+use Rattle.script_told.specs.EachReport.{IsReportOf}
+use Rattle.script_told.specs.SomeAnswer.{IsReachedBus}
+use Rattle.script_told.proofs.told.Reached.{do-act, do-settle}
+use Rattle.script_told.proofs.told.EachReport.{Says, is-none, settles-say, settled-so}
+use Rattle.settle.specs.ReadBack.{ListsAreReadBack}
+use Rattle.cable_world.specs.Unchanged.{ActKeepsNodes}
 
 -- ---- what settling leaves
 
@@ -226,31 +230,25 @@ no-loop-report w v report last advices cables is are out then i d within loop =
 
 -- ---- the law
 
--- the bus at the end of a script has the report of its world
-reported-now : NoListHasTwoTrees → (bytes : List ℕ) (bus : Bus) → RunsTo bytes bus → (report : Report) × (bus.notes.report ≡ Some report) × IsReport bus.world report
-reported-now trees bytes bus ran = go (meet trees (EndsOn bus) (EndsOn bus) bytes (Ok ran.0) (Ok ran.0) ran.1 ran.1)
-  where
-    go : Meet (EndsOn bus) (EndsOn bus) (Ok ran.0) (Ok ran.0) → (report : Report) × (bus.notes.report ≡ Some report) × IsReport bus.world report
-    go (inl stop) = no-fault stop.0 ran.0 _ stop.1
-    go (inr m) =
-        let s = has-settled (bus_of m.stage) bus m.ends.0 m.ends.1 in
-        (s.report, s.last, s.is)
-
--- the second settle of an advice
+-- the second settle of an advice, whose text stands behind what was advised
 settled-again :
     (out after : Bus) (before text : List ℕ) (settled : LineAnswer) → Settles out settled →
-    Ok (after, text) ≡ after_text before settled → (report : List ℕ) × Settles out (Ok (after, report))
+    Ok (after, text) ≡ after_text before settled →
+    (report : List ℕ) × Settles out (Ok (after, report)) × (text ≡ before ++ report)
 settled-again out after before text (Ok (bus, report)) settles e =
     let same : bus ≡ after = sym (ap (bus-in bus) e) in
-    (report, subst (λ (u : Bus). Settles out (Ok (u, report))) same settles)
+    (report, subst (λ (u : Bus). Settles out (Ok (u, report))) same settles, text-of bus report e)
+  where
+    text-of : (b : Bus) (r : List ℕ) → Ok (after, text) ≡ Ok (b, before ++ r) → text ≡ before ++ r
+    text-of b r f = cc
 settled-again out after before text (Err kind) settles e = absurd cc
 
-pub no-loop : NoListHasTwoTrees → AdvicesLeaveNoLoop
-no-loop trees bytes text bus after last ran a last_is =
-    let first = reported-now trees bytes bus ran in
-    let cables : IsCabled bus.world = (one-bus trees bytes bus bus ran ran).1 in
-    let same : first.0 ≡ a.report = same-report bus.notes.report first.0 a.report first.1 a.last in
-    let is : IsReport bus.world a.report = subst (IsReport bus.world) same first.2 in
+pub no-loop : NoListHasTwoTrees → ActKeepsNodes → AdvicesLeaveNoLoop
+no-loop trees keeps bytes text bus after last ran a last_is =
+    let first = end-of trees keeps bytes bus ran in
+    let cables : IsCabled bus.world = end-cabled trees keeps bytes bus ran in
+    let same : first.report ≡ a.report = same-report bus.notes.report first.report a.report first.last a.last in
+    let is : IsReport bus.world a.report = subst (IsReport bus.world) same first.is in
     let out : Pulled bus.world.cabling a.pulled.world.cabling (all_pulls a.advices) =
     pulled bus a.pulled (all_pulls a.advices) cables (reported-pullable bus.world a.report a.advices cables is a.are) a.pulls in
     let again = settled-again a.pulled after (advice_text bus.notes.names a.advices) text a.settled a.settles a.answer_is in
@@ -261,31 +259,55 @@ no-loop trees bytes text bus after last ran a last_is =
     (subst (λ (c : Wiring). Pulled bus.world.cabling c (all_pulls a.advices)) (sym cabling) out)
     (subst (IsReport after.world) (same-report after.notes.report s.report last s.last last_is) s.is)
 
--- the text of an advice is one without a loop
-pub without-loop : AdvicesLeaveNoLoop → (bytes text : List ℕ) → EndsWith bytes text → EndsWithoutLoop bytes text
-without-loop none bytes text e =
-    let a : Advises e.0 (Ok (e.1, text)) = e.3 in
-    let again = settled-again a.pulled e.1 (advice_text e.0.notes.names a.advices) text a.settled a.settles a.answer_is in
-    let s = has-settled a.pulled e.1 again.0 again.1 in
+-- the bus is of a reached world once cables are pulled
+pulls-reached :
+    ActKeepsNodes → (bus after : Bus) (cables : List Cable) → IsReachedBus bus → PullsLead bus cables after →
+    IsReachedBus after
+pulls-reached keeps bus after [] h x = subst IsReachedBus (sym x) h
+pulls-reached keeps bus after (c ∷ cables) h x =
+    pulls-reached keeps x.0 after cables (do-act keeps bus (Pull c.a) h tt (Ok (x.0, [])) x.1) x.2
+
+-- the text of an advice ends with a report without a loop
+pub without-loop :
+    NoListHasTwoTrees → ActKeepsNodes → ListsAreReadBack → (bytes text : List ℕ) → EndsWith bytes text →
+    EndsWithoutLoop bytes text
+without-loop trees keeps read bytes text e =
+    let bus : Bus = e.0 in
+    let after : Bus = e.1 in
+    let a : Advises bus (Ok (after, text)) = e.3 in
+    let before : List ℕ = advice_text bus.notes.names a.advices in
+    let again = settled-again a.pulled after before text a.settled a.settles a.answer_is in
+    let s : Says is-none after again.0 = settles-say a.pulled (Ok (after, again.0)) again.1 in
+    let start : IsReachedBus bus = (end-of trees keeps bytes bus e.2).reached in
+    let pulled : IsReachedBus a.pulled = pulls-reached keeps bus a.pulled (all_pulls a.advices) start a.pulls in
+    let reached = (do-settle a.pulled pulled (Ok (after, again.0)) again.1).reached in
     record {
-      bus = e.0;
+      bus = bus;
       ran = e.2;
-      after = e.1;
+      after = after;
       advises = a;
-      report = s.report;
-      last = s.last;
-      no_loop = none bytes text e.0 e.1 s.report e.2 a s.last;
+      last = s.piece;
+      ends = again.2 ∙ ap (λ (l : List ℕ). before ++ l) (s.printed ∙ ap (λ (b : List ℕ). b ++ s.piece) s.alone);
+      of = record {
+        reached = reached;
+        report = s.report;
+        kept = s.kept;
+        is = s.is;
+        each = settled-so read after.world s.report reached s.is;
+        told = s.told;
+      };
+      no_loop = no-loop trees keeps bytes text bus after s.report e.2 a s.kept;
     }
 
-ends-so : (bytes text : List ℕ) (bus : Bus) (answer : LineAnswer) (n : ℕ) → RunsTo bytes bus → Advises bus answer → Ok text ≡ ends_with n answer → EndsWith bytes text
-ends-so bytes text bus (Ok (after, t)) n ran a e =
+ends-so : (bytes text : List ℕ) (bus : Bus) (answer : LineAnswer) → RunsTo bytes bus → Advises bus answer → Ok text ≡ told_at_end bytes answer → EndsWith bytes text
+ends-so bytes text bus (Ok (after, t)) ran a e =
     let same : t ≡ text = cc in
     (bus, after, ran, subst (λ (u : List ℕ). Advises bus (Ok (after, u))) same a)
-ends-so bytes text bus (Err kind) n ran a e = absurd cc
+ends-so bytes text bus (Err kind) ran a e = absurd cc
 
 ends-of : (bytes text : List ℕ) → IsAdvice bytes (Ok text) → EndsWith bytes text
 ends-of bytes text (inl x) = no-fault x.fault text _ x.is
-ends-of bytes text (inr x) = ends-so bytes text x.bus x.answer (length (script_lines bytes) + 1) x.ran x.advises x.is
+ends-of bytes text (inr x) = ends-so bytes text x.bus x.answer x.ran x.advises x.is
 
-pub all-without-loop : NoListHasTwoTrees → AdvicesEndWithoutLoop
-all-without-loop trees bytes text is = without-loop (no-loop trees) bytes text (ends-of bytes text is)
+pub all-without-loop : NoListHasTwoTrees → ActKeepsNodes → ListsAreReadBack → AdvicesEndWithoutLoop
+all-without-loop trees keeps read bytes text is = without-loop trees keeps read bytes text (ends-of bytes text is)

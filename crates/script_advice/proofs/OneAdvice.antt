@@ -1,12 +1,14 @@
 -- No script has two advices.
 use Rattle.std.proofs.Common.{◌≡◌, ◌++◌, inl, inr, ℕ, ◌+◌, ◌<◌, List, [], ◌∷◌, Option, Some, length, map, refl, sym, ◌∙◌, ap, subst, arith}
-use Rattle.std.specs.Prelude.{All, Ok, Err}
+use Rattle.std.specs.Prelude.{All, Result, Ok, Err, IfOk}
 use Rattle.std.proofs.lemmas.List.Elements.{All-tail}
 use Rattle.topology_stack.specs.OneAnswer.{NoListHasTwoTrees}
 use Rattle.cabling.specs.declared.cable.Cable.{Cable}
 use Rattle.cabling.specs.Wiring.{Wiring}
 use Rattle.cabling.specs.NodeSet.{Nodes}
 use Rattle.cable_world.specs.declared.act.Act.TheVariants.{Pull}
+use Rattle.cable_world.specs.Unchanged.{ActKeepsNodes}
+use Rattle.cable_world.proofs.StaysLawful.{reached-lawful}
 use Rattle.loop_advice.specs.Cables.{Lists}
 use Rattle.loop_advice.specs.Order.{ComesBefore, ComesBeforeAll, AreRising}
 use Rattle.loop_advice.specs.Advised.{AreAdvised, IsLowFirst}
@@ -17,13 +19,14 @@ use Rattle.script_advice.specs.declared.advice.LoopAdvice.{LoopAdvice}
 use Rattle.script_lines.specs.declared.kind.ScriptFault.{ScriptFault}
 use Rattle.script_told.specs.Bus.{Bus}
 use Rattle.script_told.specs.Step.{LineAnswer, Settles}
-use Rattle.script_told.specs.Script.{Stage, bus_of, Told, behind, ends_with, Ends, IsTold, script_lines}
-use Rattle.script_advice.specs.Advice.{EndsOn, RunsTo, loops_of, IsAdviceFor, all_pulls, PullsLead, advice_text, after_text, Advises, AdvisesAtEnd}
-use Rattle.script_told.specs.OneTold.{ScriptsTellOneThing}
+use Rattle.script_told.specs.Script.{Told}
+use Rattle.script_told.specs.Run.{ScriptRun, IsTold, printed, unless_stopped, told_by}
+use Rattle.script_advice.specs.Advice.{RunsTo, loops_of, IsAdviceFor, all_pulls, PullsLead, advice_text, after_text, Advises, told_at_end, AdvisesAtEnd}
 use Rattle.script_advice.specs.OneAdvice.{ScriptsHaveOneAdvice}
 use Rattle.script_told.proofs.told.Cables.{IsCabled}
 use Rattle.script_told.proofs.told.Commands.{acts, settles, bus-in}
-use Rattle.script_told.proofs.told.Lines.{Meet, meet, cabled}
+use Rattle.script_told.proofs.told.Lines.{one-run, one-told}
+use Rattle.script_told.proofs.told.EachDone.{IsEnd, each-done}
 
 -- ---- the bus at the end
 
@@ -31,21 +34,27 @@ use Rattle.script_told.proofs.told.Lines.{Meet, meet, cabled}
 pub no-fault : (f : ScriptFault) (text : List ℕ) (A : Type 0) → Ok text ≡ Err f → A
 no-fault f text A e = absurd cc
 
-same-end :
-    NoListHasTwoTrees → (n : ℕ) (stage : Stage) (a b : Bus) (s t : Told) → IsCabled (bus_of stage).world →
-    EndsOn a n stage s → EndsOn b n stage t → (a ≡ b) × IsCabled a.world
-same-end trees n stage a b s t h x y =
-    let one = settles trees (bus_of stage) h (Ok (a, x.0)) (Ok (b, y.0)) x.1 y.1 in
-    (ap (bus-in a) one.0, one.1)
-
-pub one-bus :
-    NoListHasTwoTrees → (bytes : List ℕ) (a b : Bus) → RunsTo bytes a → RunsTo bytes b →
-    (a ≡ b) × IsCabled a.world
-one-bus trees bytes a b x y = go (meet trees (EndsOn a) (EndsOn b) bytes (Ok x.0) (Ok y.0) x.1 y.1)
+one-bus :
+    NoListHasTwoTrees → ActKeepsNodes → (bytes : List ℕ) (a b : Bus) → RunsTo bytes a → RunsTo bytes b →
+    a ≡ b
+one-bus trees keeps bytes a b x y = same a b (sym x.2 ∙ ap (λ (r : ScriptRun). r.end) (one-run trees keeps bytes x.0 y.0 x.1 y.1) ∙ y.2)
   where
-    go : Meet (EndsOn a) (EndsOn b) (Ok x.0) (Ok y.0) → (a ≡ b) × IsCabled a.world
-    go (inl stop) = no-fault stop.0 x.0 _ stop.1
-    go (inr m) = same-end trees m.number m.stage a b m.end m.other_end (cabled m.stage m.fits) m.ends m.other_ends
+    same : (u v : Bus) → Ok u ≡ Ok v → u ≡ v
+    same u v e = cc
+
+-- and it was reported
+pub end-of :
+    NoListHasTwoTrees → ActKeepsNodes → (bytes : List ℕ) (bus : Bus) → RunsTo bytes bus → IsEnd bus
+end-of trees keeps bytes bus x = go x.0.end (each-done trees keeps bytes x.0 x.1).end x.2
+  where
+    go : (end : Result Bus ScriptFault) → IfOk end IsEnd → end ≡ Ok bus → IsEnd bus
+    go end h e = subst (λ (r : Result Bus ScriptFault). IfOk r IsEnd) e h
+
+pub end-cabled :
+    NoListHasTwoTrees → ActKeepsNodes → (bytes : List ℕ) (bus : Bus) → RunsTo bytes bus →
+    IsCabled bus.world
+end-cabled trees keeps bytes bus x =
+    (reached-lawful bus.world (end-of trees keeps bytes bus x).reached.reached).well_formed.cabling
 
 -- ---- one list of cables
 
@@ -195,40 +204,29 @@ one-answer trees bus r s h x y =
 -- ---- the whole
 
 -- a script that runs to its end has no fault
-end-is-fine :
-    NoListHasTwoTrees → (n : ℕ) (stage : Stage) (bus : Bus) (s : Told) (f : ScriptFault) (before : List ℕ) (t : Told) →
-    IsCabled (bus_of stage).world → EndsOn bus n stage s → Ends n stage t → Err f ≡ behind before t → ⊥
-end-is-fine trees n stage bus s f before t h x y is =
-    let one = settles trees (bus_of stage) h (Ok (bus, x.0)) y.0 x.1 y.1 in
-    let text : t ≡ Ok x.0 = y.2 ∙ ap (ends_with n) (sym one.0) in
-    no-fault f (before ++ x.0) ⊥ (sym (is ∙ ap (behind before) text))
-
 no-script-fault :
-    NoListHasTwoTrees → (bytes : List ℕ) (bus : Bus) (f : ScriptFault) → RunsTo bytes bus →
-    IsTold bytes (Err f) → ⊥
-no-script-fault trees bytes bus f x y = go (meet trees (EndsOn bus) Ends bytes (Ok x.0) (Err f) x.1 y)
-  where
-    go : Meet (EndsOn bus) Ends (Ok x.0) (Err f) → ⊥
-    go (inl stop) = no-fault stop.0 x.0 ⊥ stop.1
-    go (inr m) =
-        end-is-fine trees m.number m.stage bus m.end f m.before m.other_end (cabled m.stage m.fits)
-        m.ends m.other_ends m.other_is
+    NoListHasTwoTrees → ActKeepsNodes → (bytes : List ℕ) (bus : Bus) (f : ScriptFault) →
+    RunsTo bytes bus → IsTold bytes (Err f) → ⊥
+no-script-fault trees keeps bytes bus f x y =
+    let run : y.0 ≡ x.0 = one-run trees keeps bytes y.0 x.0 y.1 x.1 in
+    no-fault f (printed x.0.entries) ⊥
+    (sym (y.2 ∙ ap told_by run ∙ ap (unless_stopped (printed x.0.entries)) x.2))
 
 one-end-advice :
-    NoListHasTwoTrees → (bytes : List ℕ) (one other : Told) → AdvisesAtEnd bytes one →
+    NoListHasTwoTrees → ActKeepsNodes → (bytes : List ℕ) (one other : Told) → AdvisesAtEnd bytes one →
     AdvisesAtEnd bytes other → one ≡ other
-one-end-advice trees bytes one other x y =
-    let bus = one-bus trees bytes x.bus y.bus x.ran y.ran in
+one-end-advice trees keeps bytes one other x y =
+    let bus : x.bus ≡ y.bus = one-bus trees keeps bytes x.bus y.bus x.ran y.ran in
     let same : x.answer ≡ y.answer =
-    one-answer trees x.bus x.answer y.answer bus.1 x.advises
-    (subst (λ (u : Bus). Advises u y.answer) (sym bus.0) y.advises) in
-    x.is ∙ ap (ends_with (length (script_lines bytes) + 1)) same ∙ sym y.is
+    one-answer trees x.bus x.answer y.answer (end-cabled trees keeps bytes x.bus x.ran) x.advises
+    (subst (λ (u : Bus). Advises u y.answer) (sym bus) y.advises) in
+    x.is ∙ ap (told_at_end bytes) same ∙ sym y.is
 
-pub one-script-advice : NoListHasTwoTrees → ScriptsTellOneThing → ScriptsHaveOneAdvice
-one-script-advice trees told bytes one other (inl x) (inl y) =
-    x.is ∙ told bytes (Err x.fault) (Err y.fault) x.told_so y.told_so ∙ sym y.is
-one-script-advice trees told bytes one other (inl x) (inr y) =
-    absurd (no-script-fault trees bytes y.bus x.fault y.ran x.told_so)
-one-script-advice trees told bytes one other (inr x) (inl y) =
-    absurd (no-script-fault trees bytes x.bus y.fault x.ran y.told_so)
-one-script-advice trees told bytes one other (inr x) (inr y) = one-end-advice trees bytes one other x y
+pub one-script-advice : NoListHasTwoTrees → ActKeepsNodes → ScriptsHaveOneAdvice
+one-script-advice trees keeps bytes one other (inl x) (inl y) =
+    x.is ∙ one-told trees keeps bytes (Err x.fault) (Err y.fault) x.told_so y.told_so ∙ sym y.is
+one-script-advice trees keeps bytes one other (inl x) (inr y) =
+    absurd (no-script-fault trees keeps bytes y.bus x.fault y.ran x.told_so)
+one-script-advice trees keeps bytes one other (inr x) (inl y) =
+    absurd (no-script-fault trees keeps bytes x.bus y.fault x.ran y.told_so)
+one-script-advice trees keeps bytes one other (inr x) (inr y) = one-end-advice trees keeps bytes one other x y

@@ -17,19 +17,15 @@ use Rattle.script_advice.specs.declared.advice.LoopAdvice.{LoopAdvice}
 use Rattle.script_text.specs.ReportText.{Names, spaced, all_spaced, numbered}
 use Rattle.script_told.specs.Bus.{Bus}
 use Rattle.script_told.specs.Step.{LineAnswer, Acts, Settles}
-use Rattle.script_told.specs.Script.{Stage, fresh, bus_of, Told, ends_with, TellsBy, IsTold, script_lines}
+use Rattle.script_told.specs.Script.{Told, fault_at, script_lines}
+use Rattle.script_told.specs.Run.{ScriptRun, IsRun, IsTold}
+use Rattle.script_told.specs.EachReport.{IsReportOf}
 
 -- ---- the bus after the last settle
 
--- at the end of the script its bus settles, and this is the bus then
-abbrev pub EndsOn : Bus → ℕ → Stage → Told → Type 0
-EndsOn bus number stage told =
-    (text : List ℕ) × Settles (bus_of stage) (Ok (bus, text)) × (told ≡ Ok text)
-
--- the one run of the script, with the `settle` at its end, leads to this bus
+-- the run of the script, with the `settle` at its end, leads to this bus
 abbrev pub RunsTo : List ℕ → Bus → Type 0
-RunsTo bytes bus =
-    (text : List ℕ) × TellsBy (EndsOn bus) 1 (script_lines bytes) fresh (Ok text)
+RunsTo bytes bus = (run : ScriptRun) × IsRun bytes run × (run.end ≡ Ok bus)
 
 -- ---- what is advised
 
@@ -133,6 +129,11 @@ pub record HasScriptFault (bytes : List ℕ) (told : Told) : Type 0 where
   pub told_so : IsTold bytes (Err fault)
   pub is : told ≡ Err fault
 
+-- what an answer at the end of a script tells; its fault stands on the line behind the last
+abbrev pub told_at_end : List ℕ → LineAnswer → Told
+told_at_end bytes (Ok (bus, text)) = Ok text
+told_at_end bytes (Err kind) = Err (fault_at (length (script_lines bytes) + 1) kind)
+
 -- The script runs to its end, and what is advised then is told. A fault of the second settle has the
 -- line of the first.
 pub record AdvisesAtEnd (bytes : List ℕ) (told : Told) : Type 0 where
@@ -140,7 +141,7 @@ pub record AdvisesAtEnd (bytes : List ℕ) (told : Told) : Type 0 where
   pub ran : RunsTo bytes bus
   pub answer : LineAnswer
   pub advises : Advises bus answer
-  pub is : told ≡ ends_with (length (script_lines bytes) + 1) answer
+  pub is : told ≡ told_at_end bytes answer
 
 -- the text of a script's advice, or the fault of the script or of the advice
 abbrev pub IsAdvice : List ℕ → Told → Type 0
@@ -156,12 +157,14 @@ IsLoop outcome = ⊥
 abbrev pub HasNoLoop : Report → Type 0
 HasNoLoop report = All (λ part. ¬ IsLoop part.outcome) report.parts
 
--- The text is that of the script's advice, and no component of the report in it is a loop.
+-- The text is that of the script's advice. It ends with the report of the bus that is left, and no
+-- component in that is a loop.
 pub record EndsWithoutLoop (bytes text : List ℕ) : Type 0 where
   pub bus : Bus
   pub ran : RunsTo bytes bus
   pub after : Bus
   pub advises : Advises bus (Ok (after, text))
-  pub report : Report
-  pub last : after.notes.report ≡ Some report
-  pub no_loop : HasNoLoop report
+  pub last : List ℕ
+  pub ends : text ≡ advice_text bus.notes.names advises.advices ++ last
+  pub of : IsReportOf after last
+  pub no_loop : HasNoLoop of.report

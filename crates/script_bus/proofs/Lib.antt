@@ -4,4 +4,5 @@ pub mod Planning
 pub mod PlansAsked
 pub mod Tracing
 pub mod SomePlan
-pub mod SomeTold
+pub mod SomeRun
+pub mod EachPlan

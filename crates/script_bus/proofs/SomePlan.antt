@@ -26,10 +26,10 @@ use Rattle.root_plan.proofs.Choosing.{candidate_within}
 use Rattle.settle.specs.declared.report.Report.{Report}
 use Rattle.settle.specs.Report.{HasSettled, quiet_turns_of}
 use Rattle.settle.specs.SomeWalk.{HasWalk, WalksExist}
-use Rattle.settle_plan.specs.Planned.{SuitsTree, HasId}
+use Rattle.settle_plan.specs.Planned.{SuitsTree}
 use Rattle.settle_plan.proofs.Suited.{not-refused, packet-fits}
 use Rattle.settle_plan.proofs.Chosen.{suits}
-use Rattle.settle_plan.proofs.Carried.{nodes-stay, tree-from, gap-of}
+use Rattle.settle_plan.proofs.Carried.{nodes-stay}
 use Rattle.script_lines.specs.declared.kind.Kind.{Kind}
 use Rattle.script_text.specs.Plan.{plan_line}
 use Rattle.script_text.specs.SomePlan.{HasPlan, PlansExist}
@@ -41,9 +41,9 @@ use Rattle.script_told.specs.SomeAnswer.{IsOfReached, IsReachedBus, HasAnswer, P
 use Rattle.script_told.proofs.SomeAnswer.{known, within, if-test, act-leads, tree-managed}
 use Rattle.script_bus.specs.codings.Standing.{StandsSince, StandsAs}
 use Rattle.script_bus.proofs.Standing.{reported-stands}
-use Rattle.script_bus.proofs.Planning.{holds-its, its-there, its-id}
+use Rattle.script_bus.proofs.Planning.{holds-its, its-there}
 
-stands-since : (w : CableWorld) (o : Option Report) → IfSome o (IsOfReached w) → IfSome o (λ r. StandsSince r w)
+pub stands-since : (w : CableWorld) (o : Option Report) → IfSome o (IsOfReached w) → IfSome o (λ r. StandsSince r w)
 stands-since w None h = tt
 stands-since w (Some report) h = record {
   before = h.world;
@@ -134,9 +134,6 @@ module _
         let has-settled : HasSettled after = record { before = sent.0; reached = sent-reached; is = refl } in
         texts after bus.notes.names (bus.notes.reports + 1) has-settled (h.named ∙ sym stay-nodes)
 
-    id-is : HasId w node p.plan.root_id root
-    id-is = its-id w l node tree s p.plan.root_id place
-
     carried : HasAnswer (Plans bus name node tree)
     carried =
         let sent-bus : Bus = record { world = sent.0; notes = notes_after_act bus.notes } in
@@ -155,8 +152,6 @@ module _
             report = t.text;
             reports = (t.report, refl, t.is, refl, t.told);
             text_is = refl;
-            root = tree-from names-one moves sets w sent.0 after ∣ h.reached ∣₁ l node p.plan suit c.set c.is c.small accepted sent.1 refl root id-is t.report.parts t.is.parts;
-            gaps = gap-of names-one moves sets w sent.0 after ∣ h.reached ∣₁ l node p.plan suit c.set c.is c.small accepted sent.1 refl root id-is stay-nodes;
           };
         }
 

@@ -1,6 +1,7 @@
 //! Laws of plans, and of scripts.
 ghost use Rattle.script_told.specs.SomeAnswer.{PlansHaveAnswers};
-ghost use Rattle.script_bus.specs.SomeTold.{ScriptsTellSomething};
+ghost use Rattle.script_told.specs.EachPlan.{EachPlanComesOut};
+ghost use Rattle.script_bus.specs.SomeRun.{EachScriptHasARun};
 
 use cable_world::acts_keep;
 use cabling::components_exist;
@@ -26,9 +27,23 @@ pub fn plans_have_answers()
     forced_roots_settle();
 }
 
-/// A law: each script tells something, a text or a fault, whatever memory there is to run it.
-pub fn scripts_tell_something()
-    ensures { ScriptsTellSomething }
+/// A law: each `plan` of a script comes out. The node with the planned ID is the root of the tree that
+/// is reported, and every node of that has the planned gap count.
+pub fn each_plan_comes_out()
+    ensures { EachPlanComesOut }
+{
+    one_tree();
+    acts_keep();
+    trees_stay();
+    components_exist();
+    reported_trees_are_managed();
+    forced_roots_settle();
+}
+
+/// A law: each script has a run, whatever its bytes are and whatever memory there is to run it. So it
+/// tells a text or a fault.
+pub fn each_script_has_a_run()
+    ensures { EachScriptHasARun }
 {
     acts_keep();
     commands_have_answers();

@@ -17,5 +17,5 @@ mod traced;
 
 pub use bank::Bank;
 pub use bus::{Bus, Notes};
-pub use laws::{plans_have_answers, scripts_tell_something};
+pub use laws::{each_plan_comes_out, each_script_has_a_run, plans_have_answers};
 pub use table::NameTable;

@@ -1,87 +1,137 @@
 -- The lines that were taken, and those that are left.
 use Rattle.std.proofs.Common.{◌≡◌, inl, inr, ℕ, ◌+◌, List, [], ◌∷◌, ◌++◌, refl, sym, ap, subst, ◌∙◌, append_assoc, length, arith}
 use Rattle.std.specs.Prelude.{None, Some, Ok, Err}
+use Rattle.std.proofs.lemmas.List.{append-nil}
 use Rattle.script_lines.specs.declared.kind.Kind.{Kind}
 use Rattle.script_lines.specs.declared.kind.LineStop.{LineStop}
 use Rattle.script_lines.specs.declared.kind.LineStop.TheVariants.{Fault, Memory}
 use Rattle.script_lines.specs.declared.kind.ScriptStop.{ScriptStop}
 use Rattle.script_lines.specs.declared.kind.ScriptStop.TheVariants as script
-use Rattle.script_told.specs.Step.{LineAnswer, Settles}
-use Rattle.script_told.specs.Script.{Stage, fresh, Told, bus_of, behind, fault_at, script_lines, TellsBy, Tells, IsTold}
+use Rattle.script_lines.specs.declared.command.Command.{Command}
+use Rattle.script_lines.specs.declared.command.Command.TheVariants.{Settle}
+use Rattle.script_told.specs.Bus.{Bus}
+use Rattle.script_told.specs.Step.{Settles}
+use Rattle.script_told.specs.Script.{Stage, fresh, running, Told, bus_of, fault_at, script_lines}
+use Rattle.script_told.specs.Run.{Entry, ScriptRun, done, stopped, behind, last_run, RunsFrom, IsRun, printed, IsTold}
 use Rattle.script_run.specs.Answered.{StopsWith, IsRefused, IsOnlyFault}
 use Rattle.script_bus.specs.Running.{Stops}
-use Rattle.script_run.specs.codings.Going.{LineLeads, LineFails, IfFault, LeavesBy, Leaves, stop_at}
+use Rattle.script_run.specs.codings.Going.{LineLeads, LineFails, IfFault, Went, HavePrinted, stop_at}
 
-pub behind-behind : (one other : List ℕ) (told : Told) → behind one (behind other told) ≡ behind (one ++ other) told
-behind-behind one other (Ok text) = ap Ok (sym (append_assoc one other text))
-behind-behind one other (Err fault) = refl
+-- ---- commands that were done
 
--- a line is taken, and the rest tells the rest
-pub nothing-before : (t : Told) → t ≡ behind [] t
-nothing-before (Ok t) = refl
-nothing-before (Err f) = refl
+pub behind-more :
+    (entries : List Entry) (entry : Entry) (more : ScriptRun) →
+    behind entries (behind (entry ∷ []) more) ≡ behind (entries ++ entry ∷ []) more
+behind-more entries entry more =
+    ap (λ (l : List Entry). record { entries = l; end = more.end })
+    (sym (append_assoc entries (entry ∷ []) more.entries))
 
-one-more :
-    (End : ℕ → Stage → Told → Type 0) (number : ℕ) (line : List ℕ) (lines : List (List ℕ)) (stage next : Stage) (text : List ℕ) (told : Told) →
-    LineLeads stage line next text → TellsBy End (number + 1) lines next told → TellsBy End number (line ∷ lines) stage (behind text told)
-one-more End number line lines stage next text told (inl skipped) rest =
-    (Ok None, skipped.0, subst (λ (t : Told). TellsBy End (number + 1) lines stage t) same (subst (λ (s : Stage). TellsBy End (number + 1) lines s told) skipped.1 rest))
-  where
-    same : told ≡ behind text told
-    same = nothing-before told ∙ ap (λ (l : List ℕ). behind l told) (sym skipped.2)
-one-more End number line lines stage next text told (inr done) rest =
-    (Ok (Some done.0), done.1, (Ok (next, text), done.2, (told, rest, refl)))
-
-pub leaves-more :
-    (End : ℕ → Stage → Told → Type 0) (bytes out more : List ℕ) (number : ℕ) (line : List ℕ) (lines : List (List ℕ)) (stage next : Stage) →
-    LineLeads stage line next more → LeavesBy End bytes out number (line ∷ lines) stage → LeavesBy End bytes (out ++ more) (number + 1) lines next
-leaves-more End bytes out more number line lines stage next leads leaves told rest =
-    subst (TellsBy End 1 (script_lines bytes) fresh) (behind-behind out more told)
-    (leaves (behind more told) (one-more End number line lines stage next more told leads rest))
+printed-more : (entries : List Entry) (entry : Entry) → printed (entries ++ entry ∷ []) ≡ printed entries ++ entry.text
+printed-more [] entry = append-nil entry.text
+printed-more (e ∷ entries) entry =
+    ap (λ (l : List ℕ). e.text ++ l) (printed-more entries entry)
+    ∙ sym (append_assoc e.text (printed entries) entry.text)
 
 -- no line was taken yet
-pub leaves-first : (End : ℕ → Stage → Told → Type 0) (bytes : List ℕ) → LeavesBy End bytes [] 1 (script_lines bytes) fresh
-leaves-first End bytes told tells = subst (TellsBy End 1 (script_lines bytes) fresh) (nothing-before told) tells
+pub went-first : (bytes : List ℕ) → Went bytes [] 1 (script_lines bytes) fresh
+went-first bytes run is = is
+
+-- a command was done
+pub went-on :
+    (bytes : List ℕ) (entries : List Entry) (number : ℕ) (line : List ℕ) (lines : List (List ℕ))
+    (stage next : Stage) (command : Command) (text : List ℕ) → Went bytes entries number (line ∷ lines) stage →
+    ((more : ScriptRun) → RunsFrom (number + 1) lines next more →
+    RunsFrom number (line ∷ lines) stage (behind (done number stage command next text ∷ []) more)) →
+    Went bytes (entries ++ done number stage command next text ∷ []) (number + 1) lines next
+went-on bytes entries number line lines stage next command text went one more rest =
+    let entry : Entry = done number stage command next text in
+    subst (IsRun bytes) (behind-more entries entry more) (went (behind (entry ∷ []) more) (one more rest))
+
+-- a line was taken
+pub printed-next :
+    (bytes out after text : List ℕ) (number : ℕ) (line : List ℕ) (lines all : List (List ℕ))
+    (stage next : Stage) → all ≡ line ∷ lines → after ≡ out ++ text → LineLeads stage line next text →
+    HavePrinted bytes out number all stage → HavePrinted bytes after (number + 1) lines next
+printed-next bytes out after text number line lines all stage next cut is leads have =
+    go leads (subst (λ (l : List (List ℕ)). Went bytes have.entries number l stage) cut have.went)
+  where
+    go : LineLeads stage line next text → Went bytes have.entries number (line ∷ lines) stage → HavePrinted bytes after (number + 1) lines next
+    go (inl skipped) went = record {
+      entries = have.entries;
+      went = λ more rest. went more (Ok None, skipped.0, subst (λ (s : Stage). RunsFrom (number + 1) lines s more) skipped.1 rest);
+      out_is = is ∙ ap (λ (l : List ℕ). out ++ l) skipped.2 ∙ append-nil out ∙ have.out_is;
+    }
+    go (inr did) went =
+        let entry : Entry = done number stage did.0 next text in
+        record {
+          entries = have.entries ++ entry ∷ [];
+          went = went-on bytes have.entries number line lines stage next did.0 text went
+              (λ more rest. (Ok (Some did.0), did.1, (Ok (next, text), did.2, (more, rest, refl))));
+          out_is = is ∙ ap (λ (l : List ℕ). l ++ text) have.out_is ∙ sym (printed-more have.entries entry);
+        }
+
+pub printed-first :
+    (bytes out : List ℕ) (stage : Stage) → out ≡ [] → stage ≡ fresh →
+    HavePrinted bytes out 1 (script_lines bytes) stage
+printed-first bytes out stage empty new = record {
+  entries = [];
+  went = λ more rest. went-first bytes more (subst (λ (s : Stage). RunsFrom 1 (script_lines bytes) s more) new rest);
+  out_is = empty;
+}
+
+-- ---- faults and ends
 
 -- a line is at fault, and so is the script
-fails : (number : ℕ) (line : List ℕ) (lines : List (List ℕ)) (stage : Stage) (kind : Kind) →
-    LineFails stage line kind → Tells number (line ∷ lines) stage (Err (fault_at number kind))
-fails number line lines stage kind (inl wrong) = (Err kind, wrong, refl)
-fails number line lines stage kind (inr done) = (Ok (Some done.0), done.1, (Err kind, done.2, refl))
+pub line-fails : (number : ℕ) (line : List ℕ) (lines : List (List ℕ)) (stage : Stage) (kind : Kind) →
+    LineFails stage line kind → RunsFrom number (line ∷ lines) stage (stopped number kind)
+line-fails number line lines stage kind (inl wrong) = (Err kind, wrong, refl)
+line-fails number line lines stage kind (inr did) = (Ok (Some did.0), did.1, (Err kind, did.2, refl))
 
-pub script-fails :
-    (bytes out : List ℕ) (number : ℕ) (line : List ℕ) (lines : List (List ℕ)) (stage : Stage) (kind : Kind) →
-    LineFails stage line kind → Leaves bytes out number (line ∷ lines) stage → IsTold bytes (Err (fault_at number kind))
-script-fails bytes out number line lines stage kind wrong leaves =
-    leaves (Err (fault_at number kind)) (fails number line lines stage kind wrong)
+-- the run that stops there
+pub stops-there :
+    (bytes : List ℕ) (entries : List Entry) (number : ℕ) (lines : List (List ℕ)) (stage : Stage) (kind : Kind) →
+    RunsFrom number lines stage (stopped number kind) → Went bytes entries number lines stage →
+    IsTold bytes (Err (fault_at number kind))
+stops-there bytes entries number lines stage kind stop went =
+    (behind entries (stopped number kind), went (stopped number kind) stop, refl)
+
+-- the run where the bus settles at the end
+pub run-ends :
+    (bytes : List ℕ) (entries : List Entry) (number : ℕ) (stage : Stage) (bus : Bus) (text : List ℕ) →
+    Went bytes entries number [] stage → Settles (bus_of stage) (Ok (bus, text)) →
+    IsRun bytes (behind entries (last_run number stage (Ok (bus, text))))
+run-ends bytes entries number stage bus text went settles =
+    went (last_run number stage (Ok (bus, text))) (Ok (bus, text), settles, refl)
 
 -- the bus settles at the end, and the script has told its text
 pub script-ends :
-    (bytes out text : List ℕ) (number : ℕ) (stage : Stage) (r : LineAnswer) → Leaves bytes out number [] stage →
-    Settles (bus_of stage) r → (bus : _) → r ≡ Ok (bus, text) → IsTold bytes (Ok (out ++ text))
-script-ends bytes out text number stage r leaves settles bus is =
-    leaves (Ok text) (Ok (bus, text), subst (Settles (bus_of stage)) is settles, refl)
-
-pub end-fails :
-    (bytes out : List ℕ) (number : ℕ) (stage : Stage) (kind : Kind) → Leaves bytes out number [] stage →
-    Settles (bus_of stage) (Err kind) → IsTold bytes (Err (fault_at number kind))
-end-fails bytes out number stage kind leaves settles = leaves (Err (fault_at number kind)) (Err kind, settles, refl)
+    (bytes out text : List ℕ) (number : ℕ) (stage : Stage) (bus : Bus) → HavePrinted bytes out number [] stage →
+    Settles (bus_of stage) (Ok (bus, text)) → IsTold bytes (Ok (out ++ text))
+script-ends bytes out text number stage bus have settles = (
+  behind have.entries (last_run number stage (Ok (bus, text))),
+  run-ends bytes have.entries number stage bus text have.went settles,
+  ap Ok (ap (λ (l : List ℕ). l ++ text) have.out_is
+  ∙ sym (printed-more have.entries (done number stage Settle (running bus) text))),
+)
 
 -- ---- what is answered
 
 pub refused-line :
-    (bytes out : List ℕ) (number : ℕ) (line : List ℕ) (lines : List (List ℕ)) (stage : Stage) (stop : LineStop) (r : ScriptStop) →
-    r ≡ stop_at number stop → IfFault (LineFails stage line) stop → Leaves bytes out number (line ∷ lines) stage → IsRefused bytes r
-refused-line bytes out number line lines stage (Fault kind) r is wrong leaves =
-    subst (IsRefused bytes) (sym is) (script-fails bytes out number line lines stage kind wrong leaves)
-refused-line bytes out number line lines stage (Memory e) r is wrong leaves = subst (IsRefused bytes) (sym is) tt
+    (bytes : List ℕ) (entries : List Entry) (number : ℕ) (line : List ℕ) (lines all : List (List ℕ)) (stage : Stage)
+    (stop : LineStop) (r : ScriptStop) → all ≡ line ∷ lines → r ≡ stop_at number stop →
+    IfFault (LineFails stage line) stop → Went bytes entries number all stage → IsRefused bytes r
+refused-line bytes entries number line lines all stage (Fault kind) r cut is wrong went =
+    subst (IsRefused bytes) (sym is)
+    (stops-there bytes entries number (line ∷ lines) stage kind (line-fails number line lines stage kind wrong)
+    (subst (λ (l : List (List ℕ)). Went bytes entries number l stage) cut went))
+refused-line bytes entries number line lines all stage (Memory e) r cut is wrong went = subst (IsRefused bytes) (sym is) tt
 
 pub refused-end :
-    (bytes out : List ℕ) (number : ℕ) (stage : Stage) (stop : LineStop) (r : ScriptStop) →
-    r ≡ stop_at number stop → Stops (Settles (bus_of stage)) stop → Leaves bytes out number [] stage → IsRefused bytes r
-refused-end bytes out number stage (Fault kind) r is wrong leaves =
-    subst (IsRefused bytes) (sym is) (end-fails bytes out number stage kind leaves wrong)
-refused-end bytes out number stage (Memory e) r is wrong leaves = subst (IsRefused bytes) (sym is) tt
+    (bytes : List ℕ) (entries : List Entry) (number : ℕ) (stage : Stage) (stop : LineStop) (r : ScriptStop) →
+    r ≡ stop_at number stop → Stops (Settles (bus_of stage)) stop → Went bytes entries number [] stage → IsRefused bytes r
+refused-end bytes entries number stage (Fault kind) r is wrong went =
+    subst (IsRefused bytes) (sym is) (stops-there bytes entries number [] stage kind (Err kind, wrong, refl) went)
+refused-end bytes entries number stage (Memory e) r is wrong went = subst (IsRefused bytes) (sym is) tt
 
 pub only-fault :
     (Tells : Told → Type 0) (r : ScriptStop) → ((one other : Told) → Tells one → Tells other → one ≡ other) → StopsWith Tells r → (told : Told) → Tells told → IsOnlyFault told r

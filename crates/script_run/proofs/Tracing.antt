@@ -1,8 +1,9 @@
 -- The lines that were traced, and those that are left.
-use Rattle.std.proofs.Common.{◌≡◌, inl, inr, Bool, Option, ℕ, ◌+◌, List, [], ◌∷◌, ◌++◌, refl, sym, ap, subst, ◌∙◌}
+use Rattle.std.proofs.Common.{◌≡◌, inl, inr, Bool, Option, ℕ, ◌+◌, List, [], ◌∷◌, ◌++◌, append_assoc, refl, sym, ap, subst, ◌∙◌}
 use Rattle.std.specs.Prelude.{None, Some, Ok, Err, OnOk, IfErr, Result}
+use Rattle.std.proofs.lemmas.List.{append-nil}
 use Rattle.script_lines.specs.declared.command.Command.{Command}
-use Rattle.script_lines.specs.declared.command.Command.TheVariants.{Node, Delay}
+use Rattle.script_lines.specs.declared.command.Command.TheVariants.{Node, Delay, Settle}
 use Rattle.script_lines.specs.declared.kind.Kind.{Kind}
 use Rattle.script_lines.specs.declared.kind.LineStop.{LineStop}
 use Rattle.script_lines.specs.declared.kind.LineStop.TheVariants.{Fault, Memory}
@@ -10,87 +11,111 @@ use Rattle.script_lines.specs.declared.kind.ScriptStop.{ScriptStop}
 use Rattle.script_lines.specs.declared.kind.ScriptStop.TheVariants as script
 use Rattle.script_told.specs.Bus.{Bus}
 use Rattle.script_told.specs.Step.{Settles}
-use Rattle.script_told.specs.Script.{Stage, StageAnswer, fresh, Runs, Follows, Told, bus_of, behind, fault_at, script_lines}
-use Rattle.script_trace.specs.Trace.{TracesFrom, IsTrace, quiet_trace}
+use Rattle.script_told.specs.Script.{Stage, StageAnswer, fresh, running, Runs, Follows, bus_of, script_lines}
+use Rattle.script_told.specs.Run.{Entry, done, stopped, behind, last_run, RunsFrom}
+use Rattle.script_trace.specs.Trace.{TracesAt, AllTrace, IsTrace}
 use Rattle.script_trace.specs.OneTrace.{TraceFaultsAreTold}
 use Rattle.script_bus.specs.Running.{Stops}
 use Rattle.script_bus.specs.Tracing.{SettlesTraced}
 use Rattle.script_run.specs.Answered.{StopsWith, IsRefused}
-use Rattle.script_run.specs.codings.Going.{LineFails, IfFault, stop_at}
+use Rattle.script_run.specs.codings.Going.{LineFails, IfFault, Went, stop_at}
 use Rattle.script_run.specs.codings.Declaring.{StopsAt}
-use Rattle.script_run.specs.codings.Tracing.{RunsTraced, FollowsTraced, LineTraces, LeavesTrace}
-use Rattle.script_run.proofs.Going.{behind-behind, nothing-before}
+use Rattle.script_run.specs.codings.Tracing.{RunsTraced, FollowsTraced, LineTraces, HaveTraced}
+use Rattle.script_run.proofs.Going.{went-first, went-on, line-fails, run-ends}
 
--- a line is taken, and the rest is traced
-one-more :
-    (number : ℕ) (line : List ℕ) (lines : List (List ℕ)) (stage next : Stage) (text : List ℕ) (told : Told) →
-    LineTraces stage line next text → TracesFrom (number + 1) lines next told →
-    TracesFrom number (line ∷ lines) stage (behind text told)
-one-more number line lines stage next text told (inl skipped) rest =
-    (Ok None, skipped.0, subst (λ (t : Told). TracesFrom (number + 1) lines stage t) same (subst (λ (s : Stage). TracesFrom (number + 1) lines s told) skipped.1 rest))
-  where
-    same : told ≡ behind text told
-    same = nothing-before told ∙ ap (λ (l : List ℕ). behind l told) (sym skipped.2)
-one-more number line lines stage next text told (inr done) rest =
-    (Ok (Some done.0), done.1, (Ok (next, done.2.0), done.2.1, (text, done.3, (told, rest, refl))))
+all-traced :
+    (entries more : List Entry) (lines rest : List ℕ) → AllTrace entries lines → AllTrace more rest →
+    AllTrace (entries ++ more) (lines ++ rest)
+all-traced [] more lines rest h k = subst (λ (l : List ℕ). AllTrace more (l ++ rest)) (sym h) k
+all-traced (e ∷ entries) more lines rest h k = (
+  h.0,
+  h.1 ++ rest,
+  h.2,
+  all-traced entries more h.1 rest h.3 k,
+  ap (λ (l : List ℕ). l ++ rest) h.4 ∙ append_assoc h.0 h.1 rest,
+)
+
+one-traced :
+    (entries : List Entry) (entry : Entry) (lines one : List ℕ) → AllTrace entries lines →
+    TracesAt entry.before entry.command entry.after one → AllTrace (entries ++ entry ∷ []) (lines ++ one)
+one-traced entries entry lines one h is =
+    all-traced entries (entry ∷ []) lines one h (one, [], is, refl, sym (append-nil one))
 
 -- no line was taken yet
 pub trace-first :
     (bytes out : List ℕ) (stage : Stage) → out ≡ [] → stage ≡ fresh →
-    LeavesTrace bytes out 1 (script_lines bytes) stage
-trace-first bytes out stage empty new told is =
-    subst (λ (o : List ℕ). IsTrace bytes (behind o told)) (sym empty)
-    (subst (IsTrace bytes) (nothing-before told)
-    (subst (λ (s : Stage). TracesFrom 1 (script_lines bytes) s told) new is))
+    HaveTraced bytes out 1 (script_lines bytes) stage
+trace-first bytes out stage empty new = record {
+  entries = [];
+  went = λ more rest. went-first bytes more (subst (λ (s : Stage). RunsFrom 1 (script_lines bytes) s more) new rest);
+  traced = empty;
+}
 
 -- a line was taken
 pub trace-next :
     (bytes out after more : List ℕ) (number : ℕ) (line : List ℕ) (lines all : List (List ℕ))
     (stage next : Stage) → all ≡ line ∷ lines → after ≡ out ++ more → LineTraces stage line next more →
-    LeavesTrace bytes out number all stage → LeavesTrace bytes after (number + 1) lines next
-trace-next bytes out after more number line lines all stage next cut is leads leaves told rest =
-    subst (λ (l : List ℕ). IsTrace bytes (behind l told)) (sym is)
-    (subst (IsTrace bytes) (behind-behind out more told)
-    (leaves (behind more told)
-    (subst (λ (l : List (List ℕ)). TracesFrom number l stage (behind more told)) (sym cut)
-    (one-more number line lines stage next more told leads rest))))
+    HaveTraced bytes out number all stage → HaveTraced bytes after (number + 1) lines next
+trace-next bytes out after more number line lines all stage next cut is leads have =
+    go leads (subst (λ (l : List (List ℕ)). Went bytes have.entries number l stage) cut have.went)
+  where
+    go : LineTraces stage line next more → Went bytes have.entries number (line ∷ lines) stage → HaveTraced bytes after (number + 1) lines next
+    go (inl skipped) went = record {
+      entries = have.entries;
+      went = λ m rest. went m (Ok None, skipped.0, subst (λ (s : Stage). RunsFrom (number + 1) lines s m) skipped.1 rest);
+      traced = subst (AllTrace have.entries) (sym (is ∙ ap (λ (l : List ℕ). out ++ l) skipped.2 ∙ append-nil out)) have.traced;
+    }
+    go (inr did) went =
+        let text : List ℕ = did.2.0 in
+        let entry : Entry = done number stage did.0 next text in
+        record {
+          entries = have.entries ++ entry ∷ [];
+          went = went-on bytes have.entries number line lines stage next did.0 text went
+              (λ m rest. (Ok (Some did.0), did.1, (Ok (next, text), did.2.1, (m, rest, refl))));
+          traced = subst (AllTrace (have.entries ++ entry ∷ [])) (sym is) (one-traced have.entries entry out more have.traced did.3);
+        }
 
 -- a line is at fault, and so is the script
-fails : (number : ℕ) (line : List ℕ) (lines : List (List ℕ)) (stage : Stage) (kind : Kind) →
-    LineFails stage line kind → TracesFrom number (line ∷ lines) stage (Err (fault_at number kind))
-fails number line lines stage kind (inl wrong) = (Err kind, wrong, refl)
-fails number line lines stage kind (inr done) = (Ok (Some done.0), done.1, (Err kind, done.2, refl))
-
 pub trace-refused :
-    (bytes out : List ℕ) (number : ℕ) (line : List ℕ) (lines all : List (List ℕ)) (stage : Stage)
+    (bytes : List ℕ) (entries : List Entry) (number : ℕ) (line : List ℕ) (lines all : List (List ℕ)) (stage : Stage)
     (stop : LineStop) (r : ScriptStop) → all ≡ line ∷ lines → r ≡ stop_at number stop →
-    IfFault (LineFails stage line) stop → LeavesTrace bytes out number all stage →
+    IfFault (LineFails stage line) stop → Went bytes entries number all stage →
     StopsWith (IsTrace bytes) r
-trace-refused bytes out number line lines all stage (Fault kind) r cut is wrong leaves =
-    subst (StopsWith (IsTrace bytes)) (sym is)
-    (leaves (Err (fault_at number kind))
-    (subst (λ (l : List (List ℕ)). TracesFrom number l stage (Err (fault_at number kind))) (sym cut)
-    (fails number line lines stage kind wrong)))
-trace-refused bytes out number line lines all stage (Memory e) r cut is wrong leaves =
+trace-refused bytes entries number line lines all stage (Fault kind) r cut is wrong went =
+    subst (StopsWith (IsTrace bytes)) (sym is) (
+      behind entries (stopped number kind),
+      subst (λ (l : List (List ℕ)). Went bytes entries number l stage) cut went (stopped number kind)
+          (line-fails number line lines stage kind wrong),
+      refl,
+    )
+trace-refused bytes entries number line lines all stage (Memory e) r cut is wrong went =
     subst (StopsWith (IsTrace bytes)) (sym is) tt
 
 -- ---- the end
 
 pub trace-ends :
     (bytes out new : List ℕ) (number : ℕ) (stage : Stage) (after : Bus) →
-    LeavesTrace bytes out number [] stage → SettlesTraced (bus_of stage) after out new →
+    HaveTraced bytes out number [] stage → SettlesTraced (bus_of stage) after out new →
     IsTrace bytes (Ok new)
-trace-ends bytes out new number stage after leaves s =
-    subst (λ (l : List ℕ). IsTrace bytes (Ok l)) (sym s.appended)
-    (leaves (Ok (quiet_trace after.notes.names (bus_of stage).world)) (Ok (after, s.text), s.settles, refl))
+trace-ends bytes out new number stage after have s =
+    let entry : Entry = done number stage Settle (running after) s.text in (
+      behind have.entries (last_run number stage (Ok (after, s.text))),
+      run-ends bytes have.entries number stage after s.text have.went s.settles,
+      (
+        after,
+        refl,
+        subst (AllTrace (have.entries ++ entry ∷ [])) (sym s.appended) (one-traced have.entries entry out _ have.traced refl),
+      ),
+    )
 
 pub trace-end-refused :
-    (bytes out : List ℕ) (number : ℕ) (stage : Stage) (stop : LineStop) (r : ScriptStop) →
+    (bytes : List ℕ) (entries : List Entry) (number : ℕ) (stage : Stage) (stop : LineStop) (r : ScriptStop) →
     r ≡ stop_at number stop → Stops (Settles (bus_of stage)) stop →
-    LeavesTrace bytes out number [] stage → StopsWith (IsTrace bytes) r
-trace-end-refused bytes out number stage (Fault kind) r is wrong leaves =
-    subst (StopsWith (IsTrace bytes)) (sym is) (leaves (Err (fault_at number kind)) (Err kind, wrong, refl))
-trace-end-refused bytes out number stage (Memory e) r is wrong leaves =
+    Went bytes entries number [] stage → StopsWith (IsTrace bytes) r
+trace-end-refused bytes entries number stage (Fault kind) r is wrong went =
+    subst (StopsWith (IsTrace bytes)) (sym is)
+    (behind entries (stopped number kind), went (stopped number kind) (Err kind, wrong, refl), refl)
+trace-end-refused bytes entries number stage (Memory e) r is wrong went =
     subst (StopsWith (IsTrace bytes)) (sym is) tt
 
 -- the fault of a trace is the script's

@@ -2,7 +2,8 @@
 use Rattle.std.specs.Prelude.{◌≡◌, ℕ, List, Err}
 use Rattle.script_lines.specs.declared.kind.ScriptStop.{ScriptStop}
 use Rattle.script_lines.specs.declared.kind.ScriptStop.TheVariants.{Fault, Memory}
-use Rattle.script_told.specs.Script.{Told, IsTold}
+use Rattle.script_told.specs.Script.{Told}
+use Rattle.script_told.specs.Run.{IsTold}
 use Rattle.script_advice.specs.Advice.{IsAdvice}
 
 -- a stop for a fault is the fault that is told

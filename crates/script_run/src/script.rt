@@ -1,9 +1,9 @@
 //! A whole script.
 ghost use Rattle.std.specs.Prelude.{◌≡◌, ◌≤◌, ◌<◌, ◌+◌, ◌∷◌, [], Ok, IfOk, IfErr, length};
-ghost use Rattle.script_told.specs.Bus.{Bus};
-ghost use Rattle.script_told.specs.Script.{Told, IsTold, script_lines};
+ghost use Rattle.script_told.specs.Script.{Told, script_lines};
+ghost use Rattle.script_told.specs.Run.{IsTold};
 ghost use Rattle.script_run.specs.Answered.{IsRefused, IsOnlyFault};
-ghost use Rattle.script_run.specs.codings.Going.{Leaves, LeavesTo, stop_at};
+ghost use Rattle.script_run.specs.codings.Going.{HavePrinted, stop_at};
 
 use crate::course::Course;
 use script_lines::{LineStop, ScriptFault, ScriptStop};
@@ -48,9 +48,7 @@ pub(crate) struct Taken {
 pub(crate) fn take_lines(alloc: Global, bytes: &[u8]) -> Result<Taken, ScriptStop>
     requires { length bytes.now ≤ 1048576 }
     ensures lines { IfOk result (λ taken.
-        Leaves bytes.now taken.text.items taken.number [] taken.course) }
-    ensures ends { IfOk result (λ taken. (bus : Bus) →
-        LeavesTo bus bytes.now taken.text.items taken.number [] taken.course) }
+        HavePrinted bytes.now taken.text.items taken.number [] taken.course) }
     ensures number { IfOk result (λ taken. taken.number
         ≡ length (script_lines bytes.now) + 1) }
     ensures refused { IfErr result (IsRefused bytes.now) }

@@ -3,7 +3,7 @@ ghost use Rattle.std.specs.Prelude.{◌≡◌, ◌≤◌, [], Ok, IfOk, IfErr, l
 ghost use Rattle.script_told.specs.Script.{Told};
 ghost use Rattle.script_trace.specs.Trace.{IsTrace};
 ghost use Rattle.script_run.specs.Answered.{StopsWith, IsRefused, IsOnlyFault};
-ghost use Rattle.script_run.specs.codings.Tracing.{LeavesTrace};
+ghost use Rattle.script_run.specs.codings.Tracing.{HaveTraced};
 
 use crate::course::Course;
 use crate::script::{Taken, at_line, cut_line};
@@ -15,7 +15,7 @@ use std::alloc::Global;
 fn trace_lines(alloc: Global, bytes: &[u8]) -> Result<Taken, ScriptStop>
     requires { length bytes.now ≤ 1048576 }
     ensures lines { IfOk result (λ taken.
-        LeavesTrace bytes.now taken.text.items taken.number [] taken.course) }
+        HaveTraced bytes.now taken.text.items taken.number [] taken.course) }
     ensures refused { IfErr result (StopsWith (IsTrace bytes.now)) }
 {
     let mut text = Vec::new(alloc);

@@ -23,7 +23,8 @@ use Rattle.script_lines.specs.Line.{IsRead, Reads}
 use Rattle.script_text.specs.ReportText.{report_line, numbered, none}
 use Rattle.script_told.specs.Bus.{Bus, bus_of_nodes}
 use Rattle.script_told.specs.Step.{LineAnswer, end_of, notes_after_act, notes_after_report, Reports, Settles}
-use Rattle.script_told.specs.Script.{script_lines, Stage, fresh, declaring, running, bus_of, delay_of, new_node, times_of, coins_of, Follows, Told, behind, fault_at, Tells, IsTold}
+use Rattle.script_told.specs.Script.{script_lines, Stage, fresh, declaring, running, bus_of, delay_of, new_node, times_of, coins_of, Follows, fault_at}
+use Rattle.script_told.specs.Run.{ScriptRun, done, stopped, behind, last_run, RunsFrom, IsTold}
 use Rattle.script_lines.specs.codings.Reading.{read_line}
 use Rattle.script_lines.proofs.LineRead.{reads}
 use Rattle.script_told.proofs.Turns.{AfterTurns, after-turns}
@@ -63,32 +64,32 @@ module _ (number : ℕ) (line : List ℕ) (lines : List (List ℕ)) (stage : Sta
       subst (IsRead (delay_of stage) text) e (reads (delay_of stage) text)
 
   -- a command is done
-  done :
-      (command : Command) (next : Stage) (text : List ℕ) (more : Told) →
+  step :
+      (command : Command) (next : Stage) (text : List ℕ) (more : ScriptRun) →
       said ≡ Ok (Some command) → Follows stage command (Ok (next, text)) →
-      Tells (number + 1) lines next more →
-      Tells number (line ∷ lines) stage (behind text more)
-  done command next text more e f rest =
+      RunsFrom (number + 1) lines next more →
+      RunsFrom number (line ∷ lines) stage (behind (done number stage command next text ∷ []) more)
+  step command next text more e f rest =
       (Ok (Some command), line-is (Ok (Some command)) e, (Ok (next, text), f, (more, rest, refl)))
 
   -- a command is at fault
   refused :
       (command : Command) (kind : Kind) →
       said ≡ Ok (Some command) → Follows stage command (Err kind) →
-      Tells number (line ∷ lines) stage (Err (fault_at number kind))
+      RunsFrom number (line ∷ lines) stage (stopped number kind)
   refused command kind e f = (Ok (Some command), line-is (Ok (Some command)) e, (Err kind, f, refl))
 
   -- a line says no command
   bad :
       (kind : Kind) → said ≡ Err kind →
-      Tells number (line ∷ lines) stage (Err (fault_at number kind))
+      RunsFrom number (line ∷ lines) stage (stopped number kind)
   bad kind e = (Err kind, line-is (Err kind) e, refl)
 
   -- a line is skipped
   skipped :
-      (told : Told) → said ≡ Ok None → Tells (number + 1) lines stage told →
-      Tells number (line ∷ lines) stage told
-  skipped told e rest = (Ok None, line-is (Ok None) e, rest)
+      (run : ScriptRun) → said ≡ Ok None → RunsFrom (number + 1) lines stage run →
+      RunsFrom number (line ∷ lines) stage run
+  skipped run e rest = (Ok None, line-is (Ok None) e, rest)
 
 -- ---- no nodes
 
@@ -122,8 +123,12 @@ no-bytes =
       notes = notes_after_report bus.notes (no-parts 8000);
     } in
     let text : List ℕ = codes "report 1 turn 8000\n" in (
-      Ok (after, text),
-      (no-parts 8000, refl, empty-report 8000, refl, record { parts = []; told = none; is = refl }),
+      last_run 1 fresh (Ok (after, text)),
+      (
+        Ok (after, text),
+        (no-parts 8000, refl, empty-report 8000, refl, record { parts = []; told = none; is = refl }),
+        refl,
+      ),
       refl,
     )
 
@@ -147,9 +152,12 @@ too-many-turns =
     let full = past after.world (after-turns 2000000 nothing) in
     let ends : Settles after answer =
     subst (λ (b : Bool). MatchBool b (answer ≡ Err TooManyTurns) (Reports after answer)) (sym full)
-    refl in
-    done 1 (codes "turn 2000000") [] fresh (Turn 2000000) (running after) []
-    (Err (fault_at 2 TooManyTurns)) refl (Ok (after, []), refl, refl) (answer, ends, refl)
+    refl in (
+      behind (done 1 fresh (Turn 2000000) (running after) [] ∷ []) (stopped 2 TooManyTurns),
+      step 1 (codes "turn 2000000") [] fresh (Turn 2000000) (running after) []
+          (stopped 2 TooManyTurns) refl (Ok (after, []), refl, refl) (answer, ends, refl),
+      refl,
+    )
 
 -- ---- three nodes, of which two are joined
 
@@ -200,66 +208,75 @@ one = declared (codes "a" ∷ []) (node 0 ∷ [])
 abbrev two : Stage
 two = declared (codes "a" ∷ codes "b" ∷ []) (node 0 ∷ node 1 ∷ [])
 
--- what a fifth line tells, the script tells
+-- the fault of a fifth line is the script's
 fifth :
-    (line : List ℕ) (fault : ScriptFault) →
+    (line : List ℕ) (kind : Kind) →
     script_lines (desk ++ line) ≡ codes "node a 3" ∷ from-second line →
-    Tells 5 (line ∷ []) (running joined) (Err fault) → IsTold (desk ++ line) (Err fault)
+    RunsFrom 5 (line ∷ []) (running joined) (stopped 5 kind) →
+    IsTold (desk ++ line) (Err (fault_at 5 kind))
 unfolding words_of number_of of_digits is_name
-fifth line fault split rest =
-    let told : Told = Err fault in
-    let fourth : Tells 4 (from-fourth line) three told =
-    done 4 (codes "plug a 0 b 0") (line ∷ []) three (Plug (codes "a") 0 (codes "b") 0)
-    (running joined) [] told refl (Ok (joined, []), (refl, refl, refl, refl), refl) rest in
-    let third : Tells 3 (codes "node c 3" ∷ from-fourth line) two told =
-    done 3 (codes "node c 3") (from-fourth line) two (plain (codes "c")) three [] told refl refl
+fifth line kind split rest =
+    let end : ScriptRun = stopped 5 kind in
+    let plugged : ScriptRun =
+    behind (done 4 three (Plug (codes "a") 0 (codes "b") 0) (running joined) [] ∷ []) end in
+    let third : ScriptRun = behind (done 3 two (plain (codes "c")) three [] ∷ []) plugged in
+    let second : ScriptRun = behind (done 2 one (plain (codes "b")) two [] ∷ []) third in
+    let whole : ScriptRun = behind (done 1 fresh (plain (codes "a")) one [] ∷ []) second in
+    let fourth : RunsFrom 4 (from-fourth line) three plugged =
+    step 4 (codes "plug a 0 b 0") (line ∷ []) three (Plug (codes "a") 0 (codes "b") 0)
+    (running joined) [] end refl (Ok (joined, []), (refl, refl, refl, refl), refl) rest in
+    let with-third : RunsFrom 3 (codes "node c 3" ∷ from-fourth line) two third =
+    step 3 (codes "node c 3") (from-fourth line) two (plain (codes "c")) three [] plugged refl refl
     fourth in
-    let second : Tells 2 (from-second line) one told =
-    done 2 (codes "node b 3") (codes "node c 3" ∷ from-fourth line) one (plain (codes "b")) two
-    [] told refl refl third in
-    let first : Tells 1 (codes "node a 3" ∷ from-second line) fresh told =
-    done 1 (codes "node a 3") (from-second line) fresh (plain (codes "a")) one [] told refl refl
-    second in
-    subst (λ (lines : List (List ℕ)). Tells 1 lines fresh told) (sym split) first
+    let with-second : RunsFrom 2 (from-second line) one second =
+    step 2 (codes "node b 3") (codes "node c 3" ∷ from-fourth line) one (plain (codes "b")) two
+    [] third refl refl with-third in
+    let first : RunsFrom 1 (codes "node a 3" ∷ from-second line) fresh whole =
+    step 1 (codes "node a 3") (from-second line) fresh (plain (codes "a")) one [] second refl refl
+    with-second in (
+      whole,
+      subst (λ (lines : List (List ℕ)). RunsFrom 1 lines fresh whole) (sym split) first,
+      refl,
+    )
 
 in-use : IsTold (desk ++ codes "plug a 0 c 0") (Err (fault_at 5 InUse))
 unfolding words_of number_of of_digits is_name
 in-use =
-    fifth (codes "plug a 0 c 0") (fault_at 5 InUse) refl
+    fifth (codes "plug a 0 c 0") InUse refl
     (refused 5 (codes "plug a 0 c 0") [] (running joined) (Plug (codes "a") 0 (codes "c") 0) InUse
     refl (Err InUse, refl, refl))
 
 same-node : IsTold (desk ++ codes "plug c 0 c 1") (Err (fault_at 5 SameNode))
 unfolding words_of number_of of_digits is_name
 same-node =
-    fifth (codes "plug c 0 c 1") (fault_at 5 SameNode) refl
+    fifth (codes "plug c 0 c 1") SameNode refl
     (refused 5 (codes "plug c 0 c 1") [] (running joined) (Plug (codes "c") 0 (codes "c") 1)
     SameNode refl (Err SameNode, refl, refl))
 
 not-plugged : IsTold (desk ++ codes "pull c 0") (Err (fault_at 5 NotPlugged))
 unfolding words_of number_of of_digits is_name
 not-plugged =
-    fifth (codes "pull c 0") (fault_at 5 NotPlugged) refl
+    fifth (codes "pull c 0") NotPlugged refl
     (refused 5 (codes "pull c 0") [] (running joined) (Pull (codes "c") 0) NotPlugged
     refl (Err NotPlugged, refl, refl))
 
 late : IsTold (desk ++ codes "node e 3") (Err (fault_at 5 Late))
 unfolding words_of number_of of_digits is_name
 late =
-    fifth (codes "node e 3") (fault_at 5 Late) refl
+    fifth (codes "node e 3") Late refl
     (refused 5 (codes "node e 3") [] (running joined) (plain (codes "e")) Late refl refl)
 
 not-settled : IsTold (desk ++ codes "csr a read 0x220") (Err (fault_at 5 NotSettled))
 unfolding words_of number_of of_digits is_name
 not-settled =
-    fifth (codes "csr a read 0x220") (fault_at 5 NotSettled) refl
+    fifth (codes "csr a read 0x220") NotSettled refl
     (refused 5 (codes "csr a read 0x220") [] (running joined) (CsrRead (codes "a") 0x220) NotSettled
     refl (Err NotSettled, refl, refl))
 
 no-command : IsTold (desk ++ codes "plug a 0 b") (Err (fault_at 5 Word))
 unfolding words_of number_of of_digits is_name
 no-command =
-    fifth (codes "plug a 0 b") (fault_at 5 Word) refl
+    fifth (codes "plug a 0 b") Word refl
     (bad 5 (codes "plug a 0 b") [] (running joined) Word refl)
 
 -- ---- lines that are skipped
@@ -267,8 +284,11 @@ no-command =
 skipped-lines : IsTold (codes "# none\n\n  \r\nplug a 0 b") (Err (fault_at 4 Word))
 unfolding words_of number_of of_digits is_name
 skipped-lines =
-    let told : Told = Err (fault_at 4 Word) in
-    skipped 1 (codes "# none") ([] ∷ codes "  \r" ∷ codes "plug a 0 b" ∷ []) fresh told refl
-    (skipped 2 [] (codes "  \r" ∷ codes "plug a 0 b" ∷ []) fresh told refl
-    (skipped 3 (codes "  \r") (codes "plug a 0 b" ∷ []) fresh told refl
-    (bad 4 (codes "plug a 0 b") [] fresh Word refl)))
+    let run : ScriptRun = stopped 4 Word in (
+      run,
+      skipped 1 (codes "# none") ([] ∷ codes "  \r" ∷ codes "plug a 0 b" ∷ []) fresh run refl
+          (skipped 2 [] (codes "  \r" ∷ codes "plug a 0 b" ∷ []) fresh run refl
+          (skipped 3 (codes "  \r") (codes "plug a 0 b" ∷ []) fresh run refl
+          (bad 4 (codes "plug a 0 b") [] fresh Word refl))),
+      refl,
+    )

@@ -1,10 +1,15 @@
--- No script tells two things, and each of its reports is one of a settled bus.
+-- A script has one run at most, and each of its reports is one of a settled bus.
 --
 -- `Cables`: acts and turns leave cables that are a cabling, over which a world has one report.
--- `Commands`: a command comes to one answer, and leaves a cabling. `Ports`: a node's line says 1 to
--- 16 ports. `Lines`: what follows at a stage, and what lines tell. `EachReport`: what reports say.
+-- `Commands`: a command comes to one answer. `Reached`: it leaves a world that comes of power-on.
+-- `Lines`: what follows at a stage, and that lines have one run. `EachDone`: what holds of each command
+-- of a run. `EachReport`: what reports say. `ReachedRuns`: the worlds of a run. `PlanCarried`: what stands
+-- behind a plan.
 pub mod Cables
 pub mod Commands
-pub mod Ports
+pub mod Reached
 pub mod Lines
+pub mod EachDone
 pub mod EachReport
+pub mod ReachedRuns
+pub mod PlanCarried

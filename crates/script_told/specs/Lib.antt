@@ -1,7 +1,10 @@
 pub mod Bus
 pub mod Step
 pub mod Script
+pub mod Run
 pub mod OneTold
 pub mod SomeManager
 pub mod SomeAnswer
 pub mod EachReport
+pub mod Reached
+pub mod EachPlan

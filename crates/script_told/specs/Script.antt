@@ -1,4 +1,4 @@
--- A script: its lines, and what they come to, one after the other.
+-- A script: its lines, and what a command comes to between two of them.
 use Rattle.std.specs.Prelude.{◌≡◌, ℕ, ◌+◌, ◌*◌, nat_lt, ◌==◌, Bool, false, List, [], ◌∷◌, ◌++◌, length, Option, None, Some, unwrap_or, Result, Ok, Err, if◌then◌else◌}
 use Rattle.std.specs.List.{slice_split}
 use Rattle.self_id.specs.declared.node.Attrs.{Attrs}
@@ -134,7 +134,7 @@ Follows stage
 Follows stage (Delay delay) answer = Delays stage delay answer
 Follows stage command answer = Runs stage command answer
 
--- ---- the whole
+-- ---- faults
 
 -- the text of a script, or its fault
 abbrev pub Told : Type 0
@@ -142,49 +142,3 @@ Told = Result (List ℕ) ScriptFault
 
 abbrev pub fault_at : ℕ → Kind → ScriptFault
 fault_at line kind = record { line = line; kind = kind }
-
--- what stands before the rest of the text
-abbrev pub behind : List ℕ → Told → Told
-behind text (Ok rest) = Ok (text ++ rest)
-behind text (Err fault) = Err fault
-
--- at the end of a script its bus settles once more; the fault of that has a line of its own
-abbrev pub ends_with : ℕ → LineAnswer → Told
-ends_with number (Ok (bus, text)) = Ok text
-ends_with number (Err kind) = Err (fault_at number kind)
-
-abbrev pub Ends : ℕ → Stage → Told → Type 0
-Ends number stage told =
-    (r : LineAnswer) × Settles (bus_of stage) r × (told ≡ ends_with number r)
-
--- a command was done, and the rest of the script tells what it tells, or the command is at fault
-abbrev pub Goes : ℕ → (Stage → Told → Type 0) → StageAnswer → Told → Type 0
-Goes number rest (Ok (stage, text)) told =
-    (more : Told) × rest stage more × (told ≡ behind text more)
-Goes number rest (Err kind) told = told ≡ Err (fault_at number kind)
-
--- a line that was read is nothing, a command or at fault
-abbrev pub Takes :
-    ℕ → (Stage → Told → Type 0) → Stage → Result (Option Command) Kind → Told → Type 0
-Takes number rest stage (Ok None) told = rest stage told
-Takes number rest stage (Ok (Some command)) told =
-    (r : StageAnswer) × Follows stage command r × Goes number rest r told
-Takes number rest stage (Err kind) told = told ≡ Err (fault_at number kind)
-
--- what lines tell from a stage on, of which the first has this number, where at the end `End` says
--- what a stage tells
-abbrev pub TellsBy :
-    (ℕ → Stage → Told → Type 0) → ℕ → List (List ℕ) → Stage → Told → Type 0
-TellsBy End number [] stage told = End number stage told
-TellsBy End number (line ∷ lines) stage told =
-    (reading : Result (Option Command) Kind) × Reads (delay_of stage) line reading
-    × Takes number (TellsBy End (number + 1) lines) stage reading told
-
--- what they tell where the bus settles at the end
-abbrev pub Tells : ℕ → List (List ℕ) → Stage → Told → Type 0
-Tells = TellsBy Ends
-
--- A script's text is what its lines print and the last report, over the one run of its bus. Or it
--- is refused for the fault of its first bad line.
-abbrev pub IsTold : List ℕ → Told → Type 0
-IsTold bytes told = Tells 1 (script_lines bytes) fresh told

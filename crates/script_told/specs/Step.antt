@@ -1,6 +1,6 @@
 -- What a command of a script comes to on its bus: the bus then and the text that it prints, or the
 -- fault of its line.
-use Rattle.std.specs.Prelude.{◌≡◌, ℕ, ◌+◌, nat_lt, ◌==◌, is_some, length, replicate, List, [], ◌++◌, codes, Option, None, Some, unwrap_or, slice_index_or, position, Result, Ok, Err, Any, IfSome, IsSomeAnd, MatchBool, if◌then◌else◌}
+use Rattle.std.specs.Prelude.{◌≡◌, ℕ, ◌+◌, nat_lt, ◌==◌, is_some, length, replicate, List, [], ◌++◌, codes, Option, None, Some, unwrap_or, slice_index_or, position, Result, Ok, Err, IsSomeAnd, MatchBool, if◌then◌else◌}
 use Rattle.std.specs.Option.{option_map}
 use Rattle.self_id.specs.declared.standard.Standard.TheVariants.{Ieee2000}
 use Rattle.topology_stack.specs.Tree.{Tree, IsBusTreeOf, emits}
@@ -21,9 +21,8 @@ use Rattle.resource_manager.specs.declared.access.Answer.{Answer}
 use Rattle.resource_manager.specs.Access.{answer_of}
 use Rattle.bus_manager.specs.Election.{lock_for}
 use Rattle.root_plan.specs.declared.choice.RootPlan.{RootPlan}
-use Rattle.settle_plan.specs.Planned.{HaveGap}
 use Rattle.settle.specs.declared.report.Report.{Report}
-use Rattle.settle.specs.Report.{IsReport, IsTreeFrom, quiet_turns_of}
+use Rattle.settle.specs.Report.{IsReport, quiet_turns_of}
 use Rattle.script_lines.specs.declared.kind.Kind.{Kind}
 use Rattle.script_lines.specs.declared.kind.Kind.TheVariants.{Late, NoNode, NotSettled, NoManager, NotManager, TooManyTurns, TooManyMaps}
 use Rattle.script_lines.specs.declared.command.Command.{Command}
@@ -202,11 +201,6 @@ pub record CarriesOut
   pub reports : Reports sent (Ok (after, report))
   pub text_is :
       text ≡ plan_line bus.notes.names name (node_with tree plan.root_id) plan expected ++ report
-  -- it comes out as planned: that node is the root of the tree that is reported
-  pub root : IfSome after.notes.report (λ r.
-      Any (IsTreeFrom bus.world.cabling node (node_with tree plan.root_id)) r.parts)
-  -- and every node of it has the gap count
-  pub gaps : HaveGap after.world node plan.gap
 
 abbrev pub Plans : Bus → List ℕ → NodeNumber → Reported → LineAnswer → Type 0
 Plans bus name node tree (Ok (after, text)) = CarriesOut bus name node tree after text

@@ -1,28 +1,44 @@
 //! Laws of what a script tells.
-ghost use Rattle.script_told.specs.OneTold.{ScriptsTellOneThing};
+ghost use Rattle.script_told.specs.OneTold.{ScriptsHaveOneRun, ScriptsTellOneThing};
 ghost use Rattle.script_told.specs.EachReport.{ReportsAreSettled};
+ghost use Rattle.script_told.specs.Reached.{ScriptWorldsAreReached};
 ghost use Rattle.script_told.specs.SomeAnswer.{CommandsHaveAnswers, BusesSettle};
 ghost use Rattle.script_told.specs.SomeManager.{ReportedTreesAreManaged};
 
+use cable_world::acts_keep;
 use cabling::components_exist;
 use script_text::{maps_have_texts, settled_worlds_have_texts};
 use settle::reports_are_read_back;
 use topology_stack::one_tree;
 
-/// A law: no script tells two things. It has one text, or one fault of one line.
+/// A law: no script has two runs, so it tells one text at most, or one fault of one line.
 pub fn scripts_tell_one_thing()
-    ensures { ScriptsTellOneThing }
+    ensures run { ScriptsHaveOneRun }
+    ensures told { ScriptsTellOneThing }
 {
     one_tree();
+    acts_keep();
 }
 
-/// A law: in each report of a script every component of the cables, as they then stand, is a loop
-/// whose core is in configuration timeout, or one cable whose ends drew thirty-two equal coins, or
-/// one list at every node, the child-first walk from its one root.
+/// A law: before and behind each command of a script's run the world comes of power-on by acts, holds
+/// and turns.
+pub fn script_worlds_are_reached()
+    ensures { ScriptWorldsAreReached }
+{
+    one_tree();
+    acts_keep();
+}
+
+/// A law: each `settle` and each `plan` of a script's run prints the report of a world that comes of
+/// power-on. In it every component of the cables, as they then stand, is a loop whose core is in
+/// configuration timeout, or one cable whose ends drew thirty-two equal coins, or one list at every
+/// node, the child-first walk from its one root.
 pub fn reports_are_settled()
     ensures { ReportsAreSettled }
 {
     one_tree();
+    acts_keep();
+    reports_are_read_back();
 }
 
 /// A law: each tree of a report is a bus tree's, which elects an isochronous resource manager, or

@@ -8,5 +8,6 @@
 mod laws;
 
 pub use laws::{
-    commands_have_answers, reported_trees_are_managed, reports_are_settled, scripts_tell_one_thing,
+    commands_have_answers, reported_trees_are_managed, reports_are_settled,
+    script_worlds_are_reached, scripts_tell_one_thing,
 };

@@ -1,24 +1,28 @@
--- No script has two traces, and a script has one exactly where it has a text.
-use Rattle.std.proofs.Common.{◌≡◌, ◌++◌, ℕ, ◌+◌, List, [], ◌∷◌, Option, Some, None, refl, sym, ◌∙◌, ap, subst}
-use Rattle.std.specs.Prelude.{Result, Ok, Err}
+-- A script has one trace, exactly where it has a text.
+use Rattle.std.proofs.Common.{◌≡◌, ◌++◌, ℕ, List, [], ◌∷◌, Option, Some, None, refl, sym, ◌∙◌, ap, subst}
+use Rattle.std.specs.Prelude.{Result, Ok, Err, All}
+use Rattle.std.proofs.lemmas.List.Elements.{All-head, All-tail}
+use Rattle.cable_world.specs.Unchanged.{ActKeepsNodes}
 use Rattle.cable_world.proofs.Options.{some-same}
 use Rattle.topology_stack.specs.OneAnswer.{NoListHasTwoTrees}
 use Rattle.root_plan.specs.declared.choice.RootPlan.{RootPlan}
 use Rattle.script_lines.specs.declared.kind.Kind.{Kind}
 use Rattle.script_lines.specs.declared.kind.ScriptFault.{ScriptFault}
 use Rattle.script_lines.specs.declared.command.Command.{Command}
-use Rattle.script_lines.specs.declared.command.Command.TheVariants.{Config, Plan}
-use Rattle.script_lines.specs.Line.{Reads}
-use Rattle.script_lines.proofs.LineRead.{one_reading}
+use Rattle.script_lines.specs.declared.command.Command.TheVariants.{Node, Plug, Pull, Reset, Turn, Hold, Settle, Config, Plan, Delay}
 use Rattle.script_told.specs.Bus.{Bus, Reported, tree_with}
-use Rattle.script_told.specs.Step.{LineAnswer, CarriesOut}
-use Rattle.script_told.specs.Script.{Stage, fresh, declaring, running, StageAnswer, Told, bus_of, delay_of, behind, fault_at, ends_with, Goes, Takes, Tells, script_lines}
+use Rattle.script_told.specs.Step.{LineAnswer, CarriesOut, Does}
+use Rattle.script_told.specs.Script.{Stage, fresh, declaring, running, Runs, Follows, onwards, Told, bus_of}
+use Rattle.script_told.specs.Run.{Entry, ScriptRun, IsRun, printed, unless_stopped}
+use Rattle.script_told.specs.EachPlan.{IsCarriedOut}
 use Rattle.script_told.proofs.told.Cables.{IsCabled}
-use Rattle.script_told.proofs.told.Commands.{settles, same-plan, same-sent}
-use Rattle.script_told.proofs.told.Lines.{Fits, LeavesFit, cabled, follows}
-use Rattle.script_told.proofs.told.Ports.{HasPorts, read-ports}
-use Rattle.script_trace.specs.Trace.{act_trace, quiet_trace, TracesPlan, Traces, TracesAt, trace_ends_with, TraceGoes, TraceTakes, TracesFrom}
-use Rattle.script_trace.specs.OneTrace.{ScriptsHaveOneTrace, TracedScriptsAreTold, TraceFaultsAreTold}
+use Rattle.script_told.proofs.told.Commands.{same-plan, same-sent}
+use Rattle.script_told.proofs.told.Reached.{IsSound}
+use Rattle.script_told.proofs.told.Lines.{cabled, one-run}
+use Rattle.script_told.proofs.told.EachDone.{IsDone, each-done}
+use Rattle.script_told.proofs.told.PlanCarried.{plan-carried}
+use Rattle.script_trace.specs.Trace.{act_trace, quiet_trace, TracesPlan, Traces, TracesAt, AllTrace, IsTraceOf}
+use Rattle.script_trace.specs.OneTrace.{ScriptsHaveOneTrace, TracedScriptsAreTold, TraceFaultsAreTold, HasTrace, RunsHaveTraces}
 
 -- ---- one command
 
@@ -61,138 +65,130 @@ one-command trees bus after command xs ys h x y = x ∙ sym y
 
 one-at :
     NoListHasTwoTrees → (stage : Stage) (command : Command) (next : Stage) (xs ys : List ℕ) →
-    Fits stage → TracesAt stage command next xs → TracesAt stage command next ys → xs ≡ ys
+    IsSound stage → TracesAt stage command next xs → TracesAt stage command next ys → xs ≡ ys
 one-at trees stage command fresh xs ys h x y = x ∙ sym y
 one-at trees stage command (declaring draft) xs ys h x y = x ∙ sym y
 one-at trees stage command (running after) xs ys h x y =
     one-command trees (bus_of stage) after command xs ys (cabled stage h) x y
 
--- ---- lines
+-- ---- the commands of a run
 
-abbrev IsOneFrom : (Stage → Told → Type 0) → Type 0
-IsOneFrom Rest = (stage : Stage) (one other : Told) → Fits stage → Rest stage one → Rest stage other → one ≡ other
+one-trace-of :
+    NoListHasTwoTrees → (entries : List Entry) (xs ys : List ℕ) → All IsDone entries →
+    AllTrace entries xs → AllTrace entries ys → xs ≡ ys
+one-trace-of trees [] xs ys h x y = x ∙ sym y
+one-trace-of trees (e ∷ entries) xs ys h x y =
+    let sound = (All-head IsDone e entries h).sound in
+    let one = one-at trees e.before e.command e.after x.0 y.0 sound x.2 y.2 in
+    let more = one-trace-of trees entries x.1 y.1 (All-tail IsDone e entries h) x.3 y.3 in
+    x.4 ∙ ap (λ (l : List ℕ). l ++ x.1) one ∙ ap (λ (l : List ℕ). y.0 ++ l) more ∙ sym y.4
 
-goes :
-    NoListHasTwoTrees → (number : ℕ) (Rest : Stage → Told → Type 0) (stage : Stage)
-    (command : Command) (r : StageAnswer) (one other : Told) → IsOneFrom Rest → Fits stage →
-    LeavesFit r → TraceGoes number Rest stage command r one →
-    TraceGoes number Rest stage command r other → one ≡ other
-goes trees number Rest stage command (Ok (next, text)) one other rest h fits x y =
-    let lines : x.0 ≡ y.0 = one-at trees stage command next x.0 y.0 h x.1 y.1 in
-    let more : x.2.0 ≡ y.2.0 = rest next x.2.0 y.2.0 fits x.2.1 y.2.1 in
-    x.2.2 ∙ ap (λ (l : List ℕ). behind l x.2.0) lines ∙ ap (behind y.0) more ∙ sym y.2.2
-goes trees number Rest stage command (Err kind) one other rest h fits x y = x ∙ sym y
+same-told :
+    NoListHasTwoTrees → (run : ScriptRun) (one other : Told) → All IsDone run.entries →
+    IsTraceOf run one → IsTraceOf run other → one ≡ other
+same-told trees run (Ok xs) (Ok ys) h x y = ap Ok (one-trace-of trees run.entries xs ys h x.2 y.2)
+same-told trees run (Ok xs) (Err f) h x y = absurd (not-both x.0 f (sym x.1 ∙ y))
+  where
+    not-both : (bus : Bus) (fault : ScriptFault) → Ok bus ≡ Err fault → ⊥
+    not-both bus fault e = absurd cc
+same-told trees run (Err f) (Ok ys) h x y = absurd (not-both y.0 f (sym y.1 ∙ x))
+  where
+    not-both : (bus : Bus) (fault : ScriptFault) → Ok bus ≡ Err fault → ⊥
+    not-both bus fault e = absurd cc
+same-told trees run (Err f) (Err g) h x y = ap Err (same-fault f g (sym x ∙ y))
+  where
+    same-fault : (a b : ScriptFault) → Err a ≡ Err b → a ≡ b
+    same-fault a b e = cc
 
-takes :
-    NoListHasTwoTrees → (number : ℕ) (Rest : Stage → Told → Type 0) (stage : Stage) (line : List ℕ)
-    (reading : Result (Option Command) Kind) (one other : Told) → IsOneFrom Rest → Fits stage →
-    Reads (delay_of stage) line reading → TraceTakes number Rest stage reading one →
-    TraceTakes number Rest stage reading other → one ≡ other
-takes trees number Rest stage line (Ok None) one other rest h reads x y = rest stage one other h x y
-takes trees number Rest stage line (Ok (Some command)) one other rest h reads x y =
-    let ports : HasPorts command = read-ports (delay_of stage) line command reads in
-    let same = follows trees stage command ports h x.0 y.0 x.1 y.1 in
-    let again : TraceGoes number Rest stage command x.0 other =
-    subst (λ (r : StageAnswer). TraceGoes number Rest stage command r other) (sym same.0) y.2 in
-    goes trees number Rest stage command x.0 one other rest h same.1 x.2 again
-takes trees number Rest stage line (Err kind) one other rest h reads x y = x ∙ sym y
-
-from-each :
-    NoListHasTwoTrees → (number : ℕ) (lines : List (List ℕ)) → IsOneFrom (TracesFrom number lines)
-from-each trees number [] stage one other h x y =
-    let same : x.0 ≡ y.0 = (settles trees (bus_of stage) (cabled stage h) x.0 y.0 x.1 y.1).0 in
-    x.2 ∙ ap (trace_ends_with number (bus_of stage)) same ∙ sym y.2
-from-each trees number (line ∷ lines) stage one other h x y =
-    let same : y.0 ≡ x.0 = one_reading (delay_of stage) line y.0 x.0 y.1 x.1 in
-    let Rest : Stage → Told → Type 0 = TracesFrom (number + 1) lines in
-    let again : TraceTakes number Rest stage x.0 other =
-    subst (λ (r : Result (Option Command) Kind). TraceTakes number Rest stage r other) same y.2 in
-    takes trees number Rest stage line x.0 one other (from-each trees (number + 1) lines) h x.1 x.2 again
-
-pub one-trace : NoListHasTwoTrees → ScriptsHaveOneTrace
-one-trace trees bytes one other x y = from-each trees 1 (script_lines bytes) fresh one other tt x y
+pub one-trace : NoListHasTwoTrees → ActKeepsNodes → ScriptsHaveOneTrace
+one-trace trees keeps bytes one other x y =
+    let run : y.0 ≡ x.0 = one-run trees keeps bytes y.0 x.0 y.1 x.1 in
+    same-told trees x.0 one other (each-done trees keeps bytes x.0 x.1).each x.2
+    (subst (λ (r : ScriptRun). IsTraceOf r other) run y.2)
 
 -- ---- a trace and a text
 
--- both are there, or both are the same fault
-abbrev AreAlike : Told → Told → Type 0
-AreAlike (Ok lines) (Ok text) = Unit {0}
-AreAlike (Err one) (Err other) = one ≡ other
-AreAlike one other = ⊥
-
-alike-behind :
-    (lines text : List ℕ) (one other : Told) → AreAlike one other →
-    AreAlike (behind lines one) (behind text other)
-alike-behind lines text (Ok one) (Ok other) h = tt
-alike-behind lines text (Err one) (Err other) h = h
-alike-behind lines text (Ok one) (Err other) h = absurd h
-alike-behind lines text (Err one) (Ok other) h = absurd h
-
--- the same lines tell something like it
-abbrev IsToldToo : (Stage → Told → Type 0) → Stage → Told → Type 0
-IsToldToo Rest stage traced = (told : Told) × Rest stage told × AreAlike traced told
-
-too-goes :
-    (number : ℕ) (Traced Rest : Stage → Told → Type 0) (stage : Stage) (command : Command)
-    (r : StageAnswer) (traced : Told) →
-    ((next : Stage) (more : Told) → Traced next more → IsToldToo Rest next more) →
-    TraceGoes number Traced stage command r traced →
-    (told : Told) × Goes number Rest r told × AreAlike traced told
-too-goes number Traced Rest stage command (Ok (next, text)) traced rest x =
-    let more = rest next x.2.0 x.2.1 in (
-      behind text more.0,
-      (more.0, more.1, refl),
-      subst (λ (t : Told). AreAlike t (behind text more.0)) (sym x.2.2)
-          (alike-behind x.0 text x.2.0 more.0 more.2),
-    )
-too-goes number Traced Rest stage command (Err kind) traced rest x =
-    (Err (fault_at number kind), refl, subst (λ (t : Told). AreAlike t (Err (fault_at number kind))) (sym x) refl)
-
-too-takes :
-    (number : ℕ) (Traced Rest : Stage → Told → Type 0) (stage : Stage)
-    (reading : Result (Option Command) Kind) (traced : Told) →
-    ((next : Stage) (more : Told) → Traced next more → IsToldToo Rest next more) →
-    TraceTakes number Traced stage reading traced →
-    (told : Told) × Takes number Rest stage reading told × AreAlike traced told
-too-takes number Traced Rest stage (Ok None) traced rest x = rest stage traced x
-too-takes number Traced Rest stage (Ok (Some command)) traced rest x =
-    let more = too-goes number Traced Rest stage command x.0 traced rest x.2 in
-    (more.0, (x.0, x.1, more.1), more.2)
-too-takes number Traced Rest stage (Err kind) traced rest x =
-    (Err (fault_at number kind), refl, subst (λ (t : Told). AreAlike t (Err (fault_at number kind))) (sym x) refl)
-
-too-ends : (number : ℕ) (bus : Bus) (r : LineAnswer) → AreAlike (trace_ends_with number bus r) (ends_with number r)
-too-ends number bus (Ok (after, text)) = tt
-too-ends number bus (Err kind) = refl
-
-told-too :
-    (number : ℕ) (lines : List (List ℕ)) (stage : Stage) (traced : Told) →
-    TracesFrom number lines stage traced → IsToldToo (Tells number lines) stage traced
-told-too number [] stage traced x = (
-  ends_with number x.0,
-  (x.0, x.1, refl),
-  subst (λ (t : Told). AreAlike t (ends_with number x.0)) (sym x.2) (too-ends number (bus_of stage) x.0),
-)
-told-too number (line ∷ lines) stage traced x =
-    let more = too-takes number (TracesFrom (number + 1) lines) (Tells (number + 1) lines) stage x.0 traced (told-too (number + 1) lines) x.2 in
-    (more.0, (x.0, x.1, more.1), more.2)
-
 pub traced-told : TracedScriptsAreTold
-traced-told bytes lines x = go more.0 more.1 more.2
-  where
-    more : IsToldToo (Tells 1 (script_lines bytes)) fresh (Ok lines)
-    more = told-too 1 (script_lines bytes) fresh (Ok lines) x
-
-    go : (told : Told) → Tells 1 (script_lines bytes) fresh told → AreAlike (Ok lines) told → (text : List ℕ) × Tells 1 (script_lines bytes) fresh (Ok text)
-    go (Ok text) h alike = (text, h)
-    go (Err fault) h alike = absurd alike
+traced-told bytes lines x =
+    (printed x.0.entries, (x.0, x.1, sym (ap (unless_stopped (printed x.0.entries)) x.2.1)))
 
 pub fault-told : TraceFaultsAreTold
-fault-told bytes fault x = go more.0 more.1 more.2
-  where
-    more : IsToldToo (Tells 1 (script_lines bytes)) fresh (Err fault)
-    more = told-too 1 (script_lines bytes) fresh (Err fault) x
+fault-told bytes fault x = (x.0, x.1, sym (ap (unless_stopped (printed x.0.entries)) x.2))
 
-    go : (told : Told) → Tells 1 (script_lines bytes) fresh told → AreAlike (Err fault) told → Tells 1 (script_lines bytes) fresh (Err fault)
-    go (Ok text) h alike = absurd alike
-    go (Err other) h alike = subst (λ (f : ScriptFault). Tells 1 (script_lines bytes) fresh (Err f)) (sym alike) h
+-- ---- each run has a trace
+
+abbrev HasLines : Bus → Command → Bus → Type 0
+HasLines bus command after = (lines : List ℕ) × Traces bus command after lines
+
+-- where a plan was carried out, what happened in it can be told
+plan-has-lines :
+    (bus : Bus) (name : List ℕ) (after : Bus) (text : List ℕ) → IsCarriedOut bus name after text →
+    HasLines bus (Plan name) after
+unfolding plan-lines
+plan-has-lines bus name after text c = (
+  plan-lines bus after name c.carried.plan c.carried.sent,
+  record {
+    node = c.node;
+    named = c.named;
+    tree = c.tree;
+    settled = c.settled;
+    text = text;
+    carried = c.carried;
+    lines_are = refl;
+  },
+)
+
+command-lines : (bus : Bus) (command : Command) (after : Bus) (text : List ℕ) → Does bus command (Ok (after, text)) → HasLines bus command after
+command-lines bus (Plan name) after text x = plan-has-lines bus name after text (plan-carried bus name after text x)
+command-lines bus (Plug a a_port b b_port) after text x = (_, refl)
+command-lines bus (Pull name port) after text x = (_, refl)
+command-lines bus (Reset name) after text x = (_, refl)
+command-lines bus (Config name root_id gap) after text x = (_, refl)
+command-lines bus (Hold name port turns) after text x = (_, refl)
+command-lines bus (Turn count) after text x = (_, refl)
+command-lines bus Settle after text x = (_, refl)
+command-lines bus command after text x = ([], refl)
+
+stage-lines :
+    (stage : Stage) (command : Command) (next : Stage) (text : List ℕ) →
+    Follows stage command (Ok (next, text)) → (lines : List ℕ) × TracesAt stage command next lines
+stage-lines stage command fresh text f = ([], refl)
+stage-lines stage command (declaring draft) text f = ([], refl)
+stage-lines stage command (running after) text f = by-command command f
+  where
+    of-runs : (c : Command) → Runs stage c (Ok (running after, text)) → HasLines (bus_of stage) c after
+    of-runs c r = go r.0 r.1 r.2
+      where
+        go : (a : LineAnswer) → Does (bus_of stage) c a → Ok (running after, text) ≡ onwards a → HasLines (bus_of stage) c after
+        go (Ok (bus, t)) d e = command-lines (bus_of stage) c after t (subst (λ (z : Bus). Does (bus_of stage) c (Ok (z, t))) (same bus t e) d)
+          where
+            same : (z : Bus) (u : List ℕ) → Ok (running after, text) ≡ onwards (Ok (z, u)) → z ≡ after
+            same z u k = cc
+        go (Err kind) d e = absurd (no kind e)
+          where
+            no : (k : Kind) → Ok (running after, text) ≡ onwards (Err k) → ⊥
+            no k g = absurd cc
+
+    by-command : (c : Command) → Follows stage c (Ok (running after, text)) → HasLines (bus_of stage) c after
+    by-command
+        (Node name ports speed link contender force power gap hold short long word len seed packed)
+        g = ([], refl)
+    by-command (Delay delay) g = ([], refl)
+    by-command c g = of-runs c g
+
+each-has-lines : (entries : List Entry) → All IsDone entries → (lines : List ℕ) × AllTrace entries lines
+each-has-lines [] h = ([], refl)
+each-has-lines (e ∷ entries) h =
+    let one = stage-lines e.before e.command e.after e.text (All-head IsDone e entries h).follows in
+    let more = each-has-lines entries (All-tail IsDone e entries h) in
+    (one.0 ++ more.0, (one.0, more.0, one.1, more.1, refl))
+
+some-trace : (run : ScriptRun) → All IsDone run.entries → HasTrace run
+some-trace run h = go run.end refl
+  where
+    go : (end : Result Bus ScriptFault) → run.end ≡ end → HasTrace run
+    go (Ok bus) e = let l = each-has-lines run.entries h in record { told = Ok l.0; is = (bus, e, l.1) }
+    go (Err fault) e = record { told = Err fault; is = e }
+
+pub some-traces : NoListHasTwoTrees → ActKeepsNodes → RunsHaveTraces
+some-traces trees keeps bytes run x = some-trace run (each-done trees keeps bytes run x).each

@@ -1,8 +1,9 @@
--- No script has two traces, and a script has one exactly where it has a text.
+-- A script has one trace, exactly where it has a text.
 use Rattle.std.specs.Prelude.{◌≡◌, ℕ, List, Ok, Err}
 use Rattle.script_lines.specs.declared.kind.ScriptFault.{ScriptFault}
-use Rattle.script_told.specs.Script.{Told, IsTold}
-use Rattle.script_trace.specs.Trace.{IsTrace}
+use Rattle.script_told.specs.Script.{Told}
+use Rattle.script_told.specs.Run.{ScriptRun, IsRun, IsTold}
+use Rattle.script_trace.specs.Trace.{IsTraceOf, IsTrace}
 
 abbrev pub ScriptsHaveOneTrace : Type 0
 ScriptsHaveOneTrace =
@@ -18,3 +19,11 @@ TracedScriptsAreTold =
 abbrev pub TraceFaultsAreTold : Type 0
 TraceFaultsAreTold =
     (bytes : List ℕ) (fault : ScriptFault) → IsTrace bytes (Err fault) → IsTold bytes (Err fault)
+
+-- each run has a trace
+pub record HasTrace (run : ScriptRun) : Type 0 where
+  pub told : Told
+  pub is : IsTraceOf run told
+
+abbrev pub RunsHaveTraces : Type 0
+RunsHaveTraces = (bytes : List ℕ) (run : ScriptRun) → IsRun bytes run → HasTrace run

@@ -1,15 +1,14 @@
 -- The trace of a script: what happens in its one run, act by act and turn by turn.
-use Rattle.std.specs.Prelude.{◌≡◌, ℕ, ◌+◌, List, [], ◌∷◌, ◌++◌, codes, Option, None, Some, Result, Ok, Err}
+use Rattle.std.specs.Prelude.{◌≡◌, ℕ, List, [], ◌∷◌, ◌++◌, codes, Option, None, Some, Ok, Err}
 use Rattle.cable_world.specs.World.{CableWorld, NodeNumber}
 use Rattle.settle.specs.Report.{quiet_turns_of}
-use Rattle.script_lines.specs.declared.kind.Kind.{Kind}
 use Rattle.script_lines.specs.declared.command.Command.{Command}
 use Rattle.script_lines.specs.declared.command.Command.TheVariants.{Plug, Pull, Reset, Turn, Hold, Settle, Config, Plan}
-use Rattle.script_lines.specs.Line.{Reads}
 use Rattle.script_text.specs.ReportText.{Names, numbered}
 use Rattle.script_told.specs.Bus.{Bus, Reported, node_named, tree_with}
-use Rattle.script_told.specs.Step.{LineAnswer, CarriesOut, Settles}
-use Rattle.script_told.specs.Script.{Stage, fresh, running, StageAnswer, bus_of, delay_of, Follows, Told, behind, fault_at, script_lines}
+use Rattle.script_told.specs.Step.{CarriesOut}
+use Rattle.script_told.specs.Script.{Stage, running, bus_of, Told}
+use Rattle.script_told.specs.Run.{Entry, ScriptRun, IsRun}
 use Rattle.script_trace.specs.Step.{turns_lines, act_lines}
 
 -- ---- the line of a command
@@ -85,39 +84,18 @@ TracesAt stage command next lines = lines ≡ []
 
 -- ---- the whole
 
--- at the end the bus settles once more
-abbrev pub trace_ends_with : ℕ → Bus → LineAnswer → Told
-trace_ends_with number bus (Ok (after, text)) = Ok (quiet_trace after.notes.names bus.world)
-trace_ends_with number bus (Err kind) = Err (fault_at number kind)
+-- what happens at commands, one after the other
+abbrev pub AllTrace : List Entry → List ℕ → Type 0
+AllTrace [] lines = lines ≡ []
+AllTrace (entry ∷ entries) lines =
+    (one : List ℕ) × (more : List ℕ) × TracesAt entry.before entry.command entry.after one
+    × AllTrace entries more × (lines ≡ one ++ more)
 
-abbrev pub TraceEnds : ℕ → Stage → Told → Type 0
-TraceEnds number stage told =
-    (r : LineAnswer) × Settles (bus_of stage) r × (told ≡ trace_ends_with number (bus_of stage) r)
-
--- a command was done, and what happened stands before what happens at the rest of the script; or the
--- command is at fault
-abbrev pub TraceGoes :
-    ℕ → (Stage → Told → Type 0) → Stage → Command → StageAnswer → Told → Type 0
-TraceGoes number rest stage command (Ok (next, text)) told =
-    (lines : List ℕ) × TracesAt stage command next lines
-    × ((more : Told) × rest next more × (told ≡ behind lines more))
-TraceGoes number rest stage command (Err kind) told = told ≡ Err (fault_at number kind)
-
--- a line that was read is nothing, a command or at fault
-abbrev pub TraceTakes :
-    ℕ → (Stage → Told → Type 0) → Stage → Result (Option Command) Kind → Told → Type 0
-TraceTakes number rest stage (Ok None) told = rest stage told
-TraceTakes number rest stage (Ok (Some command)) told =
-    (r : StageAnswer) × Follows stage command r × TraceGoes number rest stage command r told
-TraceTakes number rest stage (Err kind) told = told ≡ Err (fault_at number kind)
-
--- what happens at these lines from a stage on, of which the first has this number
-abbrev pub TracesFrom : ℕ → List (List ℕ) → Stage → Told → Type 0
-TracesFrom number [] stage told = TraceEnds number stage told
-TracesFrom number (line ∷ lines) stage told =
-    (reading : Result (Option Command) Kind) × Reads (delay_of stage) line reading
-    × TraceTakes number (TracesFrom (number + 1) lines) stage reading told
+-- what happens in a run, or its fault
+abbrev pub IsTraceOf : ScriptRun → Told → Type 0
+IsTraceOf run (Ok lines) = (bus : Bus) × (run.end ≡ Ok bus) × AllTrace run.entries lines
+IsTraceOf run (Err fault) = run.end ≡ Err fault
 
 -- The trace of a script, or the fault of its first bad line.
 abbrev pub IsTrace : List ℕ → Told → Type 0
-IsTrace bytes told = TracesFrom 1 (script_lines bytes) fresh told
+IsTrace bytes told = (run : ScriptRun) × IsRun bytes run × IsTraceOf run told

@@ -1,12 +1,16 @@
 -- What reading an input may answer. No public contract cites this file.
-use Rattle.std.specs.Prelude.{ℕ, ◌≤◌, List, Result, Ok, Err}
+use Rattle.std.specs.Prelude.{◌≡◌, ℕ, ◌≤◌, List, [], Result, Ok, Err}
 use Rattle.self_id.specs.declared.standard.Standard.{Standard}
 use Rattle.self_id.specs.declared.standard.Standard.TheVariants.{Ieee2000}
 use Rattle.topology_stack.specs.Tree.{Tree}
+use Rattle.topology_stack.specs.Text.{tree_text}
+use Rattle.script_text.specs.Maps.{IsMapsText}
 use Rattle.bus_cli.specs.declared.answer.Answer.{Answer}
 use Rattle.bus_cli.specs.declared.answer.Answer.TheVariants.{Valid, Refused}
 use Rattle.bus_cli.specs.declared.form.Form.{Form}
 use Rattle.bus_cli.specs.declared.form.Form.TheVariants.{Capture, Rom, Run, Advice, Make}
+use Rattle.bus_cli.specs.declared.form.CaptureForm.{CaptureForm}
+use Rattle.bus_cli.specs.declared.form.CaptureForm.TheVariants.{Read, Read95, Maps}
 use Rattle.bus_cli.specs.declared.fault.CaptureStop.{CaptureStop}
 use Rattle.bus_cli.specs.declared.fault.CaptureStop.TheVariants.{Fault, Memory}
 use Rattle.bus_cli.specs.Capture.{Spells, CaptureRefused}
@@ -53,3 +57,9 @@ status_with (Refused line) = 1
 abbrev pub text_with : Answer → List ℕ
 text_with (Valid text) = text.items
 text_with (Refused line) = line
+
+-- how a tree is shown in a form: as its text with no names, or as its maps with generation 1
+abbrev pub Shows : CaptureForm → Tree → List ℕ → Type 0
+Shows Read t text = text ≡ tree_text t []
+Shows Read95 t text = text ≡ tree_text t []
+Shows Maps t text = IsMapsText 1 t text

@@ -14,19 +14,23 @@ use Rattle.rand_pcg.specs.Lcg.{Lcg}
 use Rattle.script_lines.specs.declared.command.Command.{Command}
 use Rattle.script_lines.specs.declared.command.Command.TheVariants.{Settle}
 use Rattle.script_told.specs.Bus.{Bus, bus_of_nodes, is_declared}
-use Rattle.script_told.specs.Script.{without_last_if_empty, script_lines, Draft, with_node, new_node, times_of, coins_of, Stage, fresh, declaring, running, draft_of, bus_of, Declares, Tells}
+use Rattle.script_told.specs.Script.{without_last_if_empty, script_lines, Draft, with_node, new_node, times_of, coins_of, Stage, fresh, declaring, running, draft_of, bus_of, Declares}
+use Rattle.script_told.specs.Run.{ScriptRun, RunsFrom, printed, unless_stopped}
 use Rattle.script_made.specs.Made.{generator, word, end, end_of, for_each, made_lines, made_script}
 use Rattle.script_made.specs.MadeRead.{made_name, declares, plugs, pulls, turns, again_commands, made_commands}
-use Rattle.script_made.specs.MadeValid.{MadeScriptsHaveNoFault}
+use Rattle.script_made.specs.MadeValid.{MadeScriptsRunThrough, MadeScriptsHaveNoFault}
 use Rattle.script_made.proofs.MadeSize.{Near, end-near}
 use Rattle.script_made.proofs.MadeCommands.{made_is_read, made_is_split}
-use Rattle.script_told.proofs.told.Lines.{ports-of}
 use Rattle.script_made.proofs.valid.Names.{names_below, length-names, is-new}
 use Rattle.script_made.proofs.valid.Cables.{at, first, ArePlugged, none-plugged, taken-free, one-more, put-back}
-use Rattle.script_made.proofs.valid.Steps.{Leads, After, runs-lead, wider, and-then, each, SettlesAtEnd, text-told}
+use Rattle.script_made.proofs.valid.Steps.{Leads, After, runs-lead, wider, and-then, each, SettlesAtEnd, comes-through}
 use Rattle.script_made.proofs.valid.Buses.{IsBusOf, plug-goes, pull-goes, turn-goes, settle-goes}
 
 -- ---- the nodes
+
+-- how many ports nodes have
+abbrev ports-of : List PortNode → List ℕ
+ports-of nodes = map (λ (x : PortNode). x.state.ports) nodes
 
 -- three ports for each of so many nodes
 abbrev threes : ℕ → List ℕ
@@ -251,11 +255,16 @@ trimmed [] = refl
 trimmed (line ∷ []) = refl
 trimmed (line ∷ next ∷ lines) = ap (λ (rest : List (List ℕ)). line ∷ rest) (trimmed (next ∷ lines))
 
-pub made-scripts-have-no-fault : MadeScriptsHaveNoFault
-made-scripts-have-no-fault n seed told few x =
+pub made-scripts-run-through : MadeScriptsRunThrough
+made-scripts-run-through n seed run few x =
     let lines : List (List ℕ) = made_lines n seed in
     let same : script_lines (made_script n seed) ≡ lines =
     ap without_last_if_empty (made_is_split n seed few) ∙ trimmed lines in
-    text-told lines (made_commands n seed) (λ d. made_is_read d n seed few) 1 fresh told
+    comes-through lines (made_commands n seed) (λ d. made_is_read d n seed few) 1 fresh run
     (no-fault n seed few)
-    (subst (λ (lines : List (List ℕ)). Tells 1 lines fresh told) same x)
+    (subst (λ (lines : List (List ℕ)). RunsFrom 1 lines fresh run) same x)
+
+pub made-scripts-have-no-fault : MadeScriptsHaveNoFault
+made-scripts-have-no-fault n seed told few x =
+    let end = made-scripts-run-through n seed x.0 few x.1 in
+    (printed x.0.entries, x.2 ∙ ap (unless_stopped (printed x.0.entries)) end.1)

@@ -7,7 +7,8 @@ use Rattle.script_lines.specs.declared.command.Command.{Command}
 use Rattle.script_lines.specs.Line.{Reads}
 use Rattle.script_told.specs.Bus.{Bus}
 use Rattle.script_told.specs.Step.{LineAnswer, Does, Settles}
-use Rattle.script_told.specs.Script.{Stage, running, StageAnswer, bus_of, delay_of, onwards, Runs, Follows, Told, behind, ends_with, Goes, Takes, Tells}
+use Rattle.script_told.specs.Script.{Stage, running, StageAnswer, bus_of, delay_of, onwards, Runs, Follows}
+use Rattle.script_told.specs.Run.{ScriptRun, done, behind, last_run, Goes, Takes, RunsFrom}
 use Rattle.script_made.specs.Made.{for_each}
 use Rattle.script_lines.proofs.LineRead.{one_reading}
 
@@ -87,8 +88,9 @@ each (suc n) commands P step stage h =
 abbrev pub SettlesAtEnd : Stage → Type 0
 SettlesAtEnd stage = (r : LineAnswer) → Settles (bus_of stage) r → GoesOn (λ bus. Unit {0}) r
 
-abbrev pub IsText : Told → Type 0
-IsText told = (text : List ℕ) × (told ≡ Ok text)
+-- a run comes to its end
+abbrev pub ComesThrough : ScriptRun → Type 0
+ComesThrough run = (bus : Bus) × (run.end ≡ Ok bus)
 
 -- each line is read as its command
 abbrev pub Say : List (List ℕ) → List Command → Type 0
@@ -96,35 +98,37 @@ Say lines commands =
     (d : ℕ) → AllZip (λ line command. Reads d line (Ok (Some command))) lines commands
 
 ended :
-    (number : ℕ) (r : LineAnswer) (told : Told) → GoesOn (λ bus. Unit {0}) r →
-    told ≡ ends_with number r → IsText told
-ended number (Ok (bus, text)) told h e = (text, e)
-ended number (Err kind) told h e = absurd h
+    (number : ℕ) (stage : Stage) (r : LineAnswer) (run : ScriptRun) → GoesOn (λ bus. Unit {0}) r →
+    run ≡ last_run number stage r → ComesThrough run
+ended number stage (Ok (bus, text)) run h e = (bus, ap (λ (r : ScriptRun). r.end) e)
+ended number stage (Err kind) run h e = absurd h
 
--- the texts of a command and of what stands behind it are one
+-- a command is done, and what stands behind it is
 gone :
-    (number : ℕ) (Rest : Stage → Told → Type 0) (P : Stage → Type 0) →
-    ((stage : Stage) (more : Told) → P stage → Rest stage more → IsText more) →
-    (r : StageAnswer) (told : Told) → Leads P r → Goes number Rest r told → IsText told
-gone number Rest P f (Ok (stage, text)) told h x =
-    let rest : IsText x.0 = f stage x.0 h x.1 in
-    (text ++ rest.0, x.2 ∙ ap (behind text) rest.1)
-gone number Rest P f (Err kind) told h x = absurd h
+    (number : ℕ) (Rest : Stage → ScriptRun → Type 0) (P : Stage → Type 0) (stage : Stage)
+    (command : Command) →
+    ((next : Stage) (more : ScriptRun) → P next → Rest next more → ComesThrough more) →
+    (r : StageAnswer) (run : ScriptRun) → Leads P r → Goes number Rest stage command r run →
+    ComesThrough run
+gone number Rest P stage command f (Ok (next, text)) run h x =
+    let rest : ComesThrough x.0 = f next x.0 h x.1 in
+    (rest.0, ap (λ (r : ScriptRun). r.end) x.2 ∙ rest.1)
+gone number Rest P stage command f (Err kind) run h x = absurd h
 
-pub text-told :
+pub comes-through :
     (lines : List (List ℕ)) (commands : List Command) → Say lines commands → (number : ℕ)
-    (stage : Stage) (told : Told) → After commands SettlesAtEnd stage →
-    Tells number lines stage told → IsText told
-text-told [] [] say number stage told h x = ended number x.0 told (h x.0 x.1) x.2
-text-told [] (command ∷ commands) say number stage told h x = absurd (say 0)
-text-told (line ∷ lines) [] say number stage told h x = absurd (say 0)
-text-told (line ∷ lines) (command ∷ commands) say number stage told h x =
-    let Rest : Stage → Told → Type 0 = Tells (number + 1) lines in
+    (stage : Stage) (run : ScriptRun) → After commands SettlesAtEnd stage →
+    RunsFrom number lines stage run → ComesThrough run
+comes-through [] [] say number stage run h x = ended number stage x.0 run (h x.0 x.1) x.2
+comes-through [] (command ∷ commands) say number stage run h x = absurd (say 0)
+comes-through (line ∷ lines) [] say number stage run h x = absurd (say 0)
+comes-through (line ∷ lines) (command ∷ commands) say number stage run h x =
+    let Rest : Stage → ScriptRun → Type 0 = RunsFrom (number + 1) lines in
     let d : ℕ = delay_of stage in
     let same : x.0 ≡ Ok (Some command) =
     one_reading d line x.0 (Ok (Some command)) x.1 (say d).0 in
-    let taken : Takes number Rest stage (Ok (Some command)) told =
-    subst (λ (reading : Result (Option Command) Kind). Takes number Rest stage reading told) same x.2 in
-    gone number Rest (After commands SettlesAtEnd)
-    (λ next more after rest. text-told lines commands (λ d. (say d).1) (number + 1) next more after rest)
-    taken.0 told (h taken.0 taken.1) taken.2
+    let taken : Takes number Rest stage (Ok (Some command)) run =
+    subst (λ (reading : Result (Option Command) Kind). Takes number Rest stage reading run) same x.2 in
+    gone number Rest (After commands SettlesAtEnd) stage command
+    (λ next more after rest. comes-through lines commands (λ d. (say d).1) (number + 1) next more after rest)
+    taken.0 run (h taken.0 taken.1) taken.2

@@ -10,9 +10,8 @@ use Rattle.script_lines.specs.declared.command.Command.{Command}
 use Rattle.script_run.specs.declared.run.Stage as kept
 use Rattle.script_run.specs.declared.run.Stage.TheVariants.{Fresh, Declaring, Running}
 use Rattle.script_lines.specs.Line.{Reads}
-use Rattle.script_told.specs.Bus.{Bus}
-use Rattle.script_told.specs.Script.{Stage, fresh, declaring, running, script_lines, delay_of, Follows, Told, fault_at, behind, Ends, TellsBy}
-use Rattle.script_advice.specs.Advice.{EndsOn}
+use Rattle.script_told.specs.Script.{Stage, fresh, declaring, running, delay_of, Follows, fault_at}
+use Rattle.script_told.specs.Run.{Entry, ScriptRun, behind, RunsFrom, IsRun, printed}
 use Rattle.script_bus.specs.Running.{bus_now, IsSound}
 use Rattle.script_run.specs.codings.Declaring.{draft_now, IsDraft}
 
@@ -50,17 +49,15 @@ abbrev pub stop_at : ℕ → LineStop → ScriptStop
 stop_at number (line.Fault kind) = script.Fault (fault_at number kind)
 stop_at number (line.Memory error) = script.Memory error
 
--- the lines of a script that were taken printed this, and the script tells it and what the lines
--- that are left tell
-abbrev pub LeavesBy :
-    (ℕ → Stage → Told → Type 0) → List ℕ → List ℕ → ℕ → List (List ℕ) → Stage → Type 0
-LeavesBy End bytes out number lines stage =
-    (told : Told) → TellsBy End number lines stage told →
-    TellsBy End 1 (script_lines bytes) fresh (behind out told)
+-- the lines that were taken did these commands, and the script's run is these and what the lines that
+-- are left make
+abbrev pub Went : List ℕ → List Entry → ℕ → List (List ℕ) → Stage → Type 0
+Went bytes entries number lines stage =
+    (more : ScriptRun) → RunsFrom number lines stage more → IsRun bytes (behind entries more)
 
--- whether its bus settles at the end, or is asked for then
-abbrev pub Leaves : List ℕ → List ℕ → ℕ → List (List ℕ) → Stage → Type 0
-Leaves = LeavesBy Ends
-
-abbrev pub LeavesTo : Bus → List ℕ → List ℕ → ℕ → List (List ℕ) → Stage → Type 0
-LeavesTo bus = LeavesBy (EndsOn bus)
+-- so they went, and this is what they printed
+pub record HavePrinted
+    (bytes out : List ℕ) (number : ℕ) (lines : List (List ℕ)) (stage : Stage) : Type 0 where
+  pub entries : List Entry
+  pub went : Went bytes entries number lines stage
+  pub out_is : out ≡ printed entries

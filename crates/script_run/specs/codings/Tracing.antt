@@ -2,8 +2,10 @@
 use Rattle.std.specs.Prelude.{◌≡◌, ◌⊎◌, ℕ, List, [], ◌++◌, None, Some, Ok}
 use Rattle.script_lines.specs.declared.command.Command.{Command}
 use Rattle.script_lines.specs.Line.{Reads}
-use Rattle.script_told.specs.Script.{Stage, delay_of, Runs, Follows, Told, behind}
-use Rattle.script_trace.specs.Trace.{TracesAt, TracesFrom, IsTrace}
+use Rattle.script_told.specs.Script.{Stage, delay_of, Runs, Follows}
+use Rattle.script_told.specs.Run.{Entry}
+use Rattle.script_trace.specs.Trace.{TracesAt, AllTrace}
+use Rattle.script_run.specs.codings.Going.{Went}
 
 -- a command that runs the bus leads to a stage, and what happens in it is appended to a text
 pub record RunsTraced (stage : Stage) (command : Command) (next : Stage) (out new : List ℕ) :
@@ -31,8 +33,9 @@ LineTraces stage line next lines =
     × ((text : List ℕ) × Follows stage command (Ok (next, text)))
     × TracesAt stage command next lines)
 
--- the script's trace is what happened at the lines that were taken, and what happens at those that
--- are left
-abbrev pub LeavesTrace : List ℕ → List ℕ → ℕ → List (List ℕ) → Stage → Type 0
-LeavesTrace bytes out number lines stage =
-    (told : Told) → TracesFrom number lines stage told → IsTrace bytes (behind out told)
+-- the lines that were taken went so, and this is what happened at them
+pub record HaveTraced
+    (bytes out : List ℕ) (number : ℕ) (lines : List (List ℕ)) (stage : Stage) : Type 0 where
+  pub entries : List Entry
+  pub went : Went bytes entries number lines stage
+  pub traced : AllTrace entries out

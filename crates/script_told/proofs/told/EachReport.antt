@@ -1,204 +1,204 @@
 -- Each report of a script is one of a settled bus.
-use Rattle.std.proofs.Common.{◌≡◌, ◌⊎◌, ◌==◌, inl, inr, ℕ, Bool, true, false, List, [], ◌∷◌, Option, None, Some, slice_get, sym, ◌∙◌, ap, subst}
-use Rattle.std.specs.Prelude.{Result, Ok, Err, MatchBool, nat_lt, ◌+◌}
-use Rattle.std.proofs.lemmas.List.Elements.{All-get_or}
+use Rattle.std.proofs.Common.{◌≡◌, ◌++◌, ◌==◌, ℕ, Bool, true, false, List, [], ◌∷◌, Option, None, Some, refl, sym, ◌∙◌, ap, subst}
+use Rattle.std.specs.Prelude.{Result, Ok, Err, All, MatchBool, nat_lt, ◌+◌}
+use Rattle.std.proofs.lemmas.List.Elements.{All-get_or, All-weaker}
 use Rattle.topology_stack.specs.OneAnswer.{NoListHasTwoTrees}
 use Rattle.cabling.proofs.Whole.{shared}
-use Rattle.cable_world.specs.World.{CableWorld, NodeNumber, NodeSet}
-use Rattle.cable_world.specs.Outcome.{Shows, DrewAlike}
-use Rattle.cable_world.proofs.Options.{some-and, some-same}
-use Rattle.settle.specs.declared.report.Outcome.{Outcome}
-use Rattle.settle.specs.declared.report.Outcome.TheVariants as reported
+use Rattle.cable_world.specs.World.{CableWorld, NodeNumber}
+use Rattle.cable_world.specs.Run.{IsReached}
+use Rattle.cable_world.specs.Unchanged.{ActKeepsNodes}
+use Rattle.cable_world.proofs.StaysLawful.{reached-lawful}
+use Rattle.settle.specs.declared.report.Part.{Part}
 use Rattle.settle.specs.declared.report.Report.{Report}
 use Rattle.settle.specs.Report.{IsPart, IsReport, quiet_turns_of}
-use Rattle.settle.specs.Reported.{IsReported}
+use Rattle.settle.specs.ReadBack.{IfTree, IsReadBack, ListsAreReadBack}
 use Rattle.script_lines.specs.declared.kind.Kind.{Kind}
 use Rattle.script_lines.specs.declared.command.Command.{Command}
 use Rattle.script_lines.specs.declared.command.Command.TheVariants.{Settle, Plan}
-use Rattle.script_lines.specs.Line.{Reads}
+use Rattle.script_text.specs.ReportText.{IsReportText}
+use Rattle.script_text.specs.Plan.{plan_line}
 use Rattle.script_told.specs.Bus.{Notes, Bus, Reported, node_named, tree_with, values_at}
-use Rattle.script_told.specs.Step.{LineAnswer, AtNode, AtTree, AtManager, Settled, Within, Reports, Settles, Plans, PlansAs, Does, id_of}
-use Rattle.script_told.specs.Script.{Stage, fresh, running, StageAnswer, bus_of, delay_of, onwards, Follows, script_lines}
-use Rattle.script_told.specs.EachReport.{CameTo, EachComponentCameTo, ReportedBy, LineMakes, LinesMake, ReportsAreSettled}
-use Rattle.script_told.proofs.told.Cables.{IsCabled}
-use Rattle.script_told.proofs.told.Commands.{settles}
-use Rattle.script_told.proofs.told.Lines.{Fits, cabled, follows}
-use Rattle.script_told.proofs.told.Ports.{read-ports}
+use Rattle.script_told.specs.Step.{LineAnswer, AtNode, AtTree, AtManager, Settled, Within, Reports, Settles, Plans, PlansAs, Does, id_of, node_with}
+use Rattle.script_told.specs.Script.{Stage, running, StageAnswer, bus_of, onwards, Follows}
+use Rattle.script_told.specs.Run.{Entry, ScriptRun, IsRun}
+use Rattle.script_told.specs.EachReport.{EachComponentCameTo, DoesReport, IsBeforeReport, IsReportedAt, ReportsAreSettled}
+use Rattle.script_told.proofs.told.Reached.{IsSound, LeavesSound}
+use Rattle.script_told.proofs.told.EachDone.{IsDone, each-done}
 
 -- ---- a report
 
-came-to : (w : CableWorld) (set : NodeSet) (o : Outcome) → IsReported w set o → CameTo w set o
-came-to w set (reported.Loop core) h = record { is = h.is; some = h.some; timed_out = h.timed_out; unnamed = h.unnamed }
-came-to w set (reported.Contention a b) h = record {
-  holds_a = h.is.holds_a;
-  holds_b = h.is.holds_b;
-  port_a = h.is.port_a;
-  port_b = h.is.port_b;
-  cable = h.is.cable;
-  coins = some-and (slice_get w.nodes a) (λ x. Shows w b (λ u. DrewAlike x.state.view u)) _
-      (λ x k. some-and (slice_get w.nodes b) (λ y. DrewAlike x.state.view y.state.view) _ (λ y d. (d.many, d.many_too, d.alike)) k)
-      h.is.draws;
-}
-came-to w set (reported.Tree root list order) h = record {
-  holds_root = h.is.holds_root;
-  no_parent = h.is.no_parent;
-  parents = h.is.parents;
-  tree = h.tree;
-  seen = h.is.seen;
-  emitted = h.emitted;
-  walked = h.walked;
-  ids = rw h.walked h.is.ids;
-  lists = rw h.emitted h.is.lists;
-}
-
-settled-so : (w : CableWorld) (report : Report) → IsCabled w → IsReport w report → EachComponentCameTo w report
-settled-so w report c is node there =
+pub settled-so : ListsAreReadBack → (w : CableWorld) (report : Report) → IsReached w → IsReport w report → EachComponentCameTo w report
+settled-so read w report r is node there =
     let a = is.parts.whole node there in
-    let part : IsPart w a.1 = subst (IsPart w) a.3 (All-get_or (IsPart w) report.parts a.0 a.1 a.2 is.parts.each) in (
+    let part : IsPart w a.1 = subst (IsPart w) a.3 (All-get_or (IsPart w) report.parts a.0 a.1 a.2 is.parts.each) in
+    let tree : IfTree (IsReadBack w) a.1.outcome =
+    subst (λ (p : Part). IfTree (IsReadBack w) p.outcome) a.3
+    (All-get_or (λ (p : Part). IfTree (IsReadBack w) p.outcome) report.parts a.0 a.1 a.2 (read w report ∣ r ∣₁ is)) in (
       a.0,
       a.1,
       a.2,
       a.3,
       record {
-        component = shared w.cabling part.node node a.1.nodes c part.component a.4;
-        came = came-to w a.1.nodes a.1.outcome part.outcome;
+        component = shared w.cabling part.node node a.1.nodes (reached-lawful w r).well_formed.cabling part.component a.4;
+        came = part.outcome;
+        read = tree;
       },
     )
 
 -- ---- what an answer says, where a report stands behind it
 
-abbrev Says : Bus → Type 0
-Says bus = (report : Report) → bus.notes.report ≡ Some report → IsReport bus.world report
+-- the text is that of the report of the world, and this stands before it
+pub record Says (Before : List ℕ → Type 0) (bus : Bus) (text : List ℕ) : Type 0 where
+  pub report : Report
+  pub kept : bus.notes.report ≡ Some report
+  pub is : IsReport bus.world report
+  pub before : List ℕ
+  pub alone : Before before
+  pub piece : List ℕ
+  pub told : IsReportText bus.notes.names bus.notes.reports report piece
+  pub printed : text ≡ before ++ piece
 
-abbrev AnswerSays : LineAnswer → Type 0
-AnswerSays (Ok (after, text)) = Says after
-AnswerSays (Err kind) = Unit {0}
+abbrev AnswerSays : (List ℕ → Type 0) → LineAnswer → Type 0
+AnswerSays Before (Ok (after, text)) = Says Before after text
+AnswerSays Before (Err kind) = Unit {0}
 
-abbrev AllSay : (LineAnswer → Type 0) → Type 0
-AllSay Comes = (r : LineAnswer) → Comes r → AnswerSays r
+abbrev AllSay : (List ℕ → Type 0) → (LineAnswer → Type 0) → Type 0
+AllSay Before Comes = (r : LineAnswer) → Comes r → AnswerSays Before r
 
-fault : (kind : Kind) → AllSay (λ r. r ≡ Err kind)
-fault kind r e = subst AnswerSays (sym e) tt
+module _ (Before : List ℕ → Type 0) where
+  fault : (kind : Kind) → AllSay Before (λ r. r ≡ Err kind)
+  fault kind r e = subst (AnswerSays Before) (sym e) tt
 
-at-node :
-    (node : Option NodeNumber) (Comes : NodeNumber → LineAnswer → Type 0) →
-    ((k : NodeNumber) → AllSay (Comes k)) → AllSay (AtNode node Comes)
-at-node None Comes f r h = fault Kind.NoNode r h
-at-node (Some k) Comes f r h = f k r h
+  at-node :
+      (node : Option NodeNumber) (Comes : NodeNumber → LineAnswer → Type 0) →
+      ((k : NodeNumber) → AllSay Before (Comes k)) → AllSay Before (AtNode node Comes)
+  at-node None Comes f r h = fault Kind.NoNode r h
+  at-node (Some k) Comes f r h = f k r h
 
-at-tree :
-    (tree : Option Reported) (Comes : Reported → LineAnswer → Type 0) →
-    ((t : Reported) → AllSay (Comes t)) → AllSay (AtTree tree Comes)
-at-tree None Comes f r h = fault Kind.NotSettled r h
-at-tree (Some t) Comes f r h = f t r h
+  at-tree :
+      (tree : Option Reported) (Comes : Reported → LineAnswer → Type 0) →
+      ((t : Reported) → AllSay Before (Comes t)) → AllSay Before (AtTree tree Comes)
+  at-tree None Comes f r h = fault Kind.NotSettled r h
+  at-tree (Some t) Comes f r h = f t r h
 
-at-manager :
-    (manager : Option NodeNumber) (Comes : NodeNumber → LineAnswer → Type 0) →
-    ((k : NodeNumber) → AllSay (Comes k)) → AllSay (AtManager manager Comes)
-at-manager None Comes f r h = fault Kind.NoManager r h
-at-manager (Some k) Comes f r h = f k r h
+  at-manager :
+      (manager : Option NodeNumber) (Comes : NodeNumber → LineAnswer → Type 0) →
+      ((k : NodeNumber) → AllSay Before (Comes k)) → AllSay Before (AtManager manager Comes)
+  at-manager None Comes f r h = fault Kind.NoManager r h
+  at-manager (Some k) Comes f r h = f k r h
 
-by-test :
-    (b : Bool) (Left Right : LineAnswer → Type 0) → AllSay Left → AllSay Right →
-    AllSay (λ r. MatchBool b (Left r) (Right r))
-by-test true Left Right f g r h = f r h
-by-test false Left Right f g r h = g r h
+  by-test :
+      (b : Bool) (Left Right : LineAnswer → Type 0) → AllSay Before Left → AllSay Before Right →
+      AllSay Before (λ r. MatchBool b (Left r) (Right r))
+  by-test true Left Right f g r h = f r h
+  by-test false Left Right f g r h = g r h
 
-within :
-    (bus : Bus) (turns : ℕ) (Comes : LineAnswer → Type 0) → AllSay Comes →
-    AllSay (Within bus turns Comes)
-within bus turns Comes f = by-test (nat_lt 2000000 (bus.world.turns + turns)) _ Comes (fault Kind.TooManyTurns) f
+  within :
+      (bus : Bus) (turns : ℕ) (Comes : LineAnswer → Type 0) → AllSay Before Comes →
+      AllSay Before (Within bus turns Comes)
+  within bus turns Comes f = by-test (nat_lt 2000000 (bus.world.turns + turns)) _ Comes (fault Kind.TooManyTurns) f
 
-reports : (bus : Bus) → AllSay (Reports bus)
-reports bus (Ok (after, text)) h = λ report at.
-    let same : h.0 ≡ report = some-same h.0 report (sym (ap (λ (n : Notes). n.report) h.3) ∙ at) in
-    subst (IsReport after.world) same h.2
+abbrev pub is-none : List ℕ → Type 0
+is-none before = before ≡ []
+
+abbrev pub is-any : List ℕ → Type 0
+is-any before = Unit {0}
+
+reports : (bus : Bus) → AllSay is-none (Reports bus)
+reports bus (Ok (after, text)) h = record {
+  report = h.0;
+  kept = ap (λ (n : Notes). n.report) h.3;
+  is = h.2;
+  before = [];
+  alone = refl;
+  piece = text;
+  told = subst (λ names. IsReportText names after.notes.reports h.0 text) (sym (ap (λ (n : Notes). n.names) h.3)) h.4;
+  printed = refl;
+}
 reports bus (Err kind) h = absurd h
 
-settles-say : (bus : Bus) → AllSay (Settles bus)
-settles-say bus = within bus (quiet_turns_of bus.world) (Reports bus) (reports bus)
+pub settles-say : (bus : Bus) → AllSay is-none (Settles bus)
+settles-say bus = within is-none bus (quiet_turns_of bus.world) (Reports bus) (reports bus)
 
-plans : (bus : Bus) (name : List ℕ) (node : NodeNumber) (tree : Reported) → AllSay (Plans bus name node tree)
-plans bus name node tree (Ok (after, text)) h = reports h.sent (Ok (after, h.report)) h.reports
+plans : (bus : Bus) (name : List ℕ) (node : NodeNumber) (tree : Reported) → AllSay is-any (Plans bus name node tree)
+plans bus name node tree (Ok (after, text)) h =
+    let s = reports h.sent (Ok (after, h.report)) h.reports in
+    record {
+      report = s.report;
+      kept = s.kept;
+      is = s.is;
+      before = plan_line bus.notes.names name (node_with tree h.plan.root_id) h.plan h.expected;
+      alone = tt;
+      piece = h.report;
+      told = subst (λ t. IsReportText after.notes.names after.notes.reports s.report t) (sym (s.printed ∙ ap (λ b. b ++ s.piece) s.alone)) s.told;
+      printed = h.text_is;
+    }
 plans bus name node tree (Err kind) h = absurd h
 
 plans-as :
     (bus : Bus) (name : List ℕ) (node : NodeNumber) (id : ℕ) (manager : NodeNumber) →
-    AllSay (PlansAs bus name node id manager)
+    AllSay is-any (PlansAs bus name node id manager)
 plans-as bus name node id manager =
-    by-test ((values_at manager bus).bus_manager_id == id) _ _
-    (within bus (quiet_turns_of bus.world) (Settled bus node (Plans bus name node))
-    (at-tree (tree_with node bus.notes) (Plans bus name node) (plans bus name node)))
-    (fault Kind.NotManager)
+    by-test is-any ((values_at manager bus).bus_manager_id == id) _ _
+    (within is-any bus (quiet_turns_of bus.world) (Settled bus node (Plans bus name node))
+    (at-tree is-any (tree_with node bus.notes) (Plans bus name node) (plans bus name node)))
+    (fault is-any Kind.NotManager)
 
-plan-says : (bus : Bus) (name : List ℕ) → AllSay (Does bus (Plan name))
+plan-says : (bus : Bus) (name : List ℕ) → AllSay is-any (Does bus (Plan name))
 plan-says bus name =
-    at-node (node_named bus.notes.names name) _ (λ node. at-tree (tree_with node bus.notes) _ (λ tree r h.
-    at-manager h.0 (PlansAs bus name node (id_of tree node)) (plans-as bus name node (id_of tree node)) r h.2))
+    at-node is-any (node_named bus.notes.names name) _ (λ node. at-tree is-any (tree_with node bus.notes) _ (λ tree r h.
+    at-manager is-any h.0 (PlansAs bus name node (id_of tree node)) (plans-as bus name node (id_of tree node)) r h.2))
 
--- ---- lines
+-- ---- the commands of a run
 
-abbrev StageSays : Stage → Type 0
-StageSays (running bus) = Says bus
-StageSays stage = Unit {0}
+-- what a command left and printed
+abbrev StageSays : (List ℕ → Type 0) → Stage → List ℕ → Type 0
+StageSays Before next text = (bus : Bus) × (next ≡ running bus) × Says Before bus text
 
-stage-of : StageAnswer → Stage
-stage-of (Ok (stage, text)) = stage
-stage-of (Err kind) = fresh
+abbrev StageAnswerSays : (List ℕ → Type 0) → StageAnswer → Type 0
+StageAnswerSays Before (Ok (next, text)) = StageSays Before next text
+StageAnswerSays Before (Err kind) = Unit {0}
 
-says-next :
-    (r : LineAnswer) (next : Stage) (text : List ℕ) → Ok (next, text) ≡ onwards r → AnswerSays r → StageSays next
-unfolding stage-of
-says-next (Ok (bus, more)) next text e h = subst StageSays (sym (ap stage-of e)) h
-says-next (Err kind) next text e h = absurd cc
+onwards-says : (Before : List ℕ → Type 0) (r : LineAnswer) → AnswerSays Before r → StageAnswerSays Before (onwards r)
+onwards-says Before (Ok (bus, text)) h = (bus, refl, h)
+onwards-says Before (Err kind) h = tt
 
-reported-so :
-    (w : CableWorld) (report : Report) (command : Command) (stage next : Stage) (text : List ℕ) →
-    Follows stage command (Ok (next, text)) → ReportedBy w report command next → IsReport w report
-reported-so w report Settle stage (running bus) text f h =
-    subst (λ (v : CableWorld). IsReport v report) h.0
-    (says-next f.0 (running bus) text f.2 (settles-say (bus_of stage) f.0 f.1) report h.1)
-reported-so w report (Plan name) stage (running bus) text f h =
-    subst (λ (v : CableWorld). IsReport v report) h.0
-    (says-next f.0 (running bus) text f.2 (plan-says (bus_of stage) name f.0 f.1) report h.1)
-reported-so w report command stage next text f h = absurd h
+reported-at :
+    ListsAreReadBack → (entry : Entry) → IsSound entry.after →
+    StageSays (IsBeforeReport entry.command) entry.after entry.text → IsReportedAt entry
+reported-at read entry sound h =
+    let reached : IsReached h.0.world = (subst IsSound h.1 sound).reached in
+    record {
+      bus = h.0;
+      after = h.1;
+      before = h.2.before;
+      alone = h.2.alone;
+      text = h.2.piece;
+      of = record {
+        reached = reached;
+        report = h.2.report;
+        kept = h.2.kept;
+        is = h.2.is;
+        each = settled-so read h.0.world h.2.report reached h.2.is;
+        told = h.2.told;
+      };
+      printed = h.2.printed;
+    }
 
--- the stage behind a command that reports has the world of the report
-reported-world :
-    (w : CableWorld) (report : Report) (command : Command) (next : Stage) →
-    ReportedBy w report command next → Fits next → IsCabled w
-reported-world w report Settle (running bus) h fits = subst IsCabled h.0 fits
-reported-world w report (Plan name) (running bus) h fits = subst IsCabled h.0 fits
-reported-world w report command next h fits = absurd h
+says :
+    (stage : Stage) (command : Command) (next : Stage) (text : List ℕ) → DoesReport command →
+    Follows stage command (Ok (next, text)) → StageSays (IsBeforeReport command) next text
+says stage Settle next text does f =
+    subst (StageAnswerSays is-none) (sym f.2) (onwards-says is-none f.0 (settles-say (bus_of stage) f.0 f.1))
+says stage (Plan name) next text does f =
+    subst (StageAnswerSays is-any) (sym f.2) (onwards-says is-any f.0 (plan-says (bus_of stage) name f.0 f.1))
+says stage command next text does f = absurd does
 
-module _ (trees : NoListHasTwoTrees) (w : CableWorld) (report : Report) where
-  abbrev Is : Type 0
-  Is = IsCabled w × IsReport w report
+reports-so : ListsAreReadBack → (entry : Entry) → IsDone entry → DoesReport entry.command → IsReportedAt entry
+reports-so read entry is does =
+    reported-at read entry is.left (says entry.before entry.command entry.after entry.text does is.follows)
 
-  line-makes :
-      (Later : Stage → Type 0) → ((stage : Stage) → Fits stage → Later stage → Is) → (stage : Stage) → Fits stage →
-      (line : List ℕ) (reading : Result (Option Command) Kind) → Reads (delay_of stage) line reading →
-      LineMakes w report Later stage reading → Is
-  line-makes Later rest stage fits line (Ok None) reads h = rest stage fits h
-  line-makes Later rest stage fits line (Ok (Some command)) reads h = by h.3
-    where
-      next-fits : Fits h.0
-      next-fits = (follows trees stage command (read-ports (delay_of stage) line command reads) fits (Ok (h.0, h.1)) (Ok (h.0, h.1)) h.2 h.2).1
-
-      by : (ReportedBy w report command h.0 ⊎ Later h.0) → Is
-      by (inl here) = (reported-world w report command h.0 here next-fits, reported-so w report command stage h.0 h.1 h.2 here)
-      by (inr later) = rest h.0 next-fits later
-  line-makes Later rest stage fits line (Err kind) reads h = absurd h
-
-  lines-make : (lines : List (List ℕ)) (stage : Stage) → Fits stage → LinesMake w report lines stage → Is
-  lines-make [] stage fits h =
-      let r : LineAnswer = Ok (h.0, h.1) in (
-        subst IsCabled h.3.0 (settles trees (bus_of stage) (cabled stage fits) r r h.2 h.2).1,
-        subst (λ (v : CableWorld). IsReport v report) h.3.0 (settles-say (bus_of stage) r h.2 report h.3.1),
-      )
-  lines-make (line ∷ lines) stage fits h =
-      line-makes (LinesMake w report lines) (lines-make lines) stage fits line h.0 h.1 h.2
-
-pub each-report : NoListHasTwoTrees → ReportsAreSettled
-each-report trees bytes w report h =
-    let is = lines-make trees w report (script_lines bytes) fresh tt h in settled-so w report is.0 is.1
+pub each-report : NoListHasTwoTrees → ActKeepsNodes → ListsAreReadBack → ReportsAreSettled
+each-report trees keeps read bytes run x =
+    All-weaker IsDone (λ entry. DoesReport entry.command → IsReportedAt entry) (λ entry is. reports-so read entry is)
+    run.entries (each-done trees keeps bytes run x).each

@@ -1,19 +1,16 @@
-use Rattle.std.proofs.Common.{Result, refl, subst}
+use Rattle.std.proofs.Common.{Result, subst}
 use Rattle.topology_stack.specs.Tree.{Tree}
 use Rattle.bus_cli.specs.declared.fault.CaptureStop.{CaptureStop}
-use Rattle.bus_cli.specs.Answer.{shown}
 use Rattle.bus_cli.specs.Form.{standard_of}
 use Rattle.bus_cli.specs.codings.Reading.{Reads}
-use Rattle.bus_cli.proofs.Ends.{stopped}
+use Rattle.bus_cli.proofs.Ends.{shown, stopped}
 use Rattle.bus_cli.proofs.answer.answer_to.Goals as goal
 
 pub returns-in_ok-shown_text-in-Ok-clause-answer : goal.returns-in_ok-shown_text-in-Ok-clause-answer
-returns-in_ok-shown_text-in-Ok-clause-answer c = λ words bytes asks reads. record {
-  outcome = shown c.args.form c.in-Ok.tree;
-  has = (asks, subst (λ (r : Result Tree CaptureStop). Reads (standard_of c.args.form) bytes r) c.in-Ok.is reads);
-  status_is = refl;
-  text_is = c.in_ok-shown_text-in-Ok.ensures;
-}
+returns-in_ok-shown_text-in-Ok-clause-answer c = λ bytes reads.
+    shown c.args.form bytes c.in-Ok.tree _
+    (subst (λ (r : Result Tree CaptureStop). Reads (standard_of c.args.form) bytes r) c.in-Ok.is reads)
+    c.in_ok-shown_text-in-Ok.ensures
 
 pub returns-in-Err-clause-answer : goal.returns-in-Err-clause-answer
 returns-in-Err-clause-answer c = stopped c.args.form c.args.reading c.in-Err.stop c.answer_to_stop.result c.in-Err.is c.answer_to_stop.ensures.answer

@@ -1,19 +1,11 @@
-use Rattle.std.proofs.Common.{Ok, Err, refl}
-use Rattle.bus_cli.specs.Answer.{ran}
+use Rattle.std.proofs.Common.{inl, inr, refl}
+use Rattle.bus_cli.proofs.Ends.{told_prints}
 use Rattle.bus_cli.proofs.script.answer_to_script.Goals as goal
 
 pub returns-in-Ok : goal.returns-in-Ok
-returns-in-Ok c = λ words asks. record {
-  outcome = ran (Ok c.in-Ok.text.items);
-  has = (asks, c.in-Ok.ensures.told);
-  status_is = refl;
-  text_is = refl;
-}
+returns-in-Ok c =
+    inl (refl, told_prints c.reports_are_settled.ensures c.args.bytes.now c.in-Ok.text.items c.in-Ok.ensures.told)
 
 pub returns-in-Err-Fault : goal.returns-in-Err-Fault
-returns-in-Err-Fault c = λ words asks. record {
-  outcome = ran (Err c.in-Err-Fault.fault);
-  has = (asks, (rw c.in-Err-Fault.field-0-is at c.in-Err-Fault.ensures.refused));
-  status_is = refl;
-  text_is = c.script_line.ensures;
-}
+returns-in-Err-Fault c =
+    inr (refl, (c.in-Err-Fault.fault, rw c.in-Err-Fault.field-0-is at c.in-Err-Fault.ensures.refused, c.script_line.ensures))

@@ -1,18 +1,18 @@
-use Rattle.std.proofs.Common.{◌++◌, List, ℕ, refl, sym, ap, subst, ◌∙◌}
+use Rattle.std.proofs.Common.{◌++◌, List, ℕ, sym, ap, subst, ◌∙◌}
 use Rattle.std.specs.Prelude.{Ok}
-use Rattle.script_told.specs.Script.{IsTold}
+use Rattle.script_told.specs.Run.{IsTold}
 use Rattle.script_run.proofs.Going.{script-ends, refused-end, only-fault}
 use Rattle.script_run.proofs.script.run_script.Goals as goal
 
 pub returns-in-Err-clause-refused : goal.returns-in-Err-clause-refused
 returns-in-Err-clause-refused c =
     let taken = c.in_ok-course.field-0 in
-    refused-end c.args.bytes.now taken.text.items taken.number taken.course c.in-Err.stop c.at_line.result c.at_line.ensures c.in-Err.ensures.stop c.in_ok-course.ensures.lines
+    refused-end c.args.bytes.now c.in_ok-course.ensures.lines.entries taken.number taken.course c.in-Err.stop c.at_line.result c.at_line.ensures c.in-Err.ensures.stop c.in_ok-course.ensures.lines.went
 
 pub returns-in-Err-clause-exact : goal.returns-in-Err-clause-exact
 returns-in-Err-clause-exact c =
     only-fault (IsTold c.args.bytes.now) c.at_line.result
-    (λ one other. c.scripts_tell_one_thing.ensures c.args.bytes.now one other)
+    (λ one other. c.scripts_tell_one_thing.ensures.told c.args.bytes.now one other)
     (returns-in-Err-clause-refused c)
 
 pub returns-clause-told : goal.returns-clause-told
@@ -20,8 +20,8 @@ returns-clause-told c =
     let taken = c.in_ok-course.field-0 in
     let done = c.in-Ok.ensures.done in
     subst (λ (l : List ℕ). IsTold c.args.bytes.now (Ok l)) (sym (c.in_ok-extend_from_slice-in-Ok.ensures.items ∙ ap (λ (l : List ℕ). taken.text.items ++ l) c.as_slice.ensures.value))
-    (script-ends c.args.bytes.now taken.text.items c.in-Ok.report.items taken.number taken.course _ c.in_ok-course.ensures.lines done.1 done.0 refl)
+    (script-ends c.args.bytes.now taken.text.items c.in-Ok.report.items taken.number taken.course done.0 c.in_ok-course.ensures.lines done.1)
 
 pub returns-clause-only : goal.returns-clause-only
 returns-clause-only c = λ told is.
-    c.scripts_tell_one_thing.ensures c.args.bytes.now told _ is (returns-clause-told c)
+    c.scripts_tell_one_thing.ensures.told c.args.bytes.now told _ is (returns-clause-told c)

@@ -11,8 +11,8 @@ loop-rest-init c = (
 
 pub returns-in-Err-clause-refused : goal.returns-in-Err-clause-refused
 returns-in-Err-clause-refused c =
-    trace-refused c.args.bytes.now c.loop-rest.text.items c.loop-rest.number c.cut_line.result.0.now (script_lines c.cut_line.result.1.now) _ c.loop-rest.course c.in-Err.stop c.at_line.result
-    c.cut_line.ensures.lines c.at_line.ensures c.in-Err.ensures.stop c.loop-rest.invariant.1
+    trace-refused c.args.bytes.now c.loop-rest.invariant.1.entries c.loop-rest.number c.cut_line.result.0.now (script_lines c.cut_line.result.1.now) _ c.loop-rest.course c.in-Err.stop c.at_line.result
+    c.cut_line.ensures.lines c.at_line.ensures c.in-Err.ensures.stop c.loop-rest.invariant.1.went
 
 pub loop-rest-preserved : goal.loop-rest-preserved
 loop-rest-preserved c =

@@ -1,12 +1,12 @@
 use Rattle.std.proofs.Common.{◌≤◌, ◌+◌, length}
 use Rattle.script_told.specs.Script.{script_lines}
-use Rattle.script_run.specs.codings.Tracing.{LeavesTrace}
+use Rattle.script_run.specs.codings.Tracing.{HaveTraced}
 use Rattle.script_run.proofs.trace.trace_lines.Given as goal
 
 abbrev pub invariant-loop-rest : goal.invariant-loop-rest
 invariant-loop-rest l =
     (l.number + length l.rest ≤ 1048577)
-    × LeavesTrace l.bytes l.text.items l.number (script_lines l.rest) l.course
+    × HaveTraced l.bytes l.text.items l.number (script_lines l.rest) l.course
 
 abbrev pub decreases-loop-rest : goal.decreases-loop-rest
 decreases-loop-rest l = length l.rest

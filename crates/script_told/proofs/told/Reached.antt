@@ -1,4 +1,4 @@
--- A command leaves a bus whose world is reached. So a script tells something.
+-- A command leaves a bus whose world comes of power-on, and so does each line of a script.
 use Rattle.std.proofs.Common.{◌≡◌, ◌+◌, ◌++◌, ◌≤◌, ◌*◌, ◌==◌, ℕ, zero, suc, Bool, true, false, List, [], ◌∷◌, Option, Some, None, IfSome, length, refl, sym, subst, ◌∙◌, ap, arith}
 use Rattle.std.specs.Prelude.{codes, slice_get, if◌then◌else◌, Result, Ok, Err, MatchBool, nat_lt, unwrap_or}
 use Rattle.std.proofs.lemmas.Bool.Decides.{nat_tests}
@@ -45,9 +45,8 @@ use Rattle.script_text.specs.CommandText.{csr_text, grant_text, bid_text}
 use Rattle.script_told.specs.Bus.{Bus, Notes, Reported, node_named, tree_with, values_at, after_access, put_look}
 use Rattle.script_told.specs.Step.{LineAnswer, AtNode, Named, AtTree, Settled, AtManager, Managed, id_of, Acts, Holds, Within, Turns, Reports, Settles, Accesses, Grants, Looks, seen_by, Plans, GivesMaps, Does, end_of, config_of}
 use Rattle.script_told.specs.SomeAnswer.{IsOfReached, IsReachedBus, HasAnswer, CommandsHaveAnswers, PlansHaveAnswers, BusesSettle}
-use Rattle.script_told.specs.Script.{Draft, Stage, fresh, declaring, running, StageAnswer, bus_of, delay_of, first_draft, new_node, times_of, coins_of, with_node, Declares, Delays, onwards, Runs as StageRuns, ends_with, Follows, Told, behind, fault_at, Goes, Takes, Tells, script_lines}
+use Rattle.script_told.specs.Script.{Draft, Stage, fresh, declaring, running, StageAnswer, bus_of, delay_of, first_draft, new_node, times_of, coins_of, with_node, Declares, Delays, onwards}
 use Rattle.script_told.specs.Bus.{bus_of_nodes, is_declared}
-use Rattle.script_bus.specs.SomeTold.{ScriptsTellSomething}
 use Rattle.script_told.proofs.Turns.{after-turns}
 
 -- ---- a report of a reached world, a turn or a hold later
@@ -125,7 +124,7 @@ within bus n Comes some = if-test (nat_lt 2000000 (bus.world.turns + n)) (λ r. 
 
 -- ---- acts, holds, turns
 
-do-act : ActKeepsNodes → (bus : Bus) (a : Act) → IsReachedBus bus → IsAct a → Leaves (Acts bus a)
+pub do-act : ActKeepsNodes → (bus : Bus) (a : Act) → IsReachedBus bus → IsAct a → Leaves (Acts bus a)
 do-act keeps bus a h is (Ok (after, text)) x = record {
   reached = act-reached a bus.world after.world is x.0 x.1 h.reached;
   named = ap (λ (n : Notes). length n.names) x.2 ∙ h.named ∙ sym (keeps a bus.world after.world x.1);
@@ -172,7 +171,7 @@ do-report bus h (Ok (after, text)) x =
     }
 do-report bus h (Err kind) x = absurd x
 
-do-settle : (bus : Bus) → IsReachedBus bus → Leaves (Settles bus)
+pub do-settle : (bus : Bus) → IsReachedBus bus → Leaves (Settles bus)
 do-settle bus h = within bus (quiet_turns_of bus.world) (Reports bus) (do-report bus h)
 
 -- ---- questions
@@ -258,33 +257,33 @@ leaves keeps d bus (Maps name) h i = named bus name _ (λ node. settled bus node
 -- ---- nodes that are declared
 
 pub record IsSoundDraft (draft : Draft) : Type 0 where
-  some_delay : 1 ≤ draft.delay
-  short_delay : draft.delay ≤ 16
-  few : length draft.nodes ≤ 63
-  same : length draft.names ≡ length draft.nodes
-  powered : (k : ℕ) (x : PortNode) → slice_get draft.nodes k ≡ Some x → IsNodeAtPowerOn draft.delay x.state
+  pub some_delay : 1 ≤ draft.delay
+  pub short_delay : draft.delay ≤ 16
+  pub few : length draft.nodes ≤ 63
+  pub same : length draft.names ≡ length draft.nodes
+  pub powered : (k : ℕ) (x : PortNode) → slice_get draft.nodes k ≡ Some x → IsNodeAtPowerOn draft.delay x.state
 
-draft-bus : (draft : Draft) → IsSoundDraft draft → IsReachedBus (bus_of_nodes draft.delay draft.names draft.nodes)
+pub draft-bus : (draft : Draft) → IsSoundDraft draft → IsReachedBus (bus_of_nodes draft.delay draft.names draft.nodes)
 draft-bus draft h = record {
   reached = power-on-reached (world_of_nodes draft.delay draft.nodes) (power-on draft.delay draft.nodes h.some_delay h.short_delay h.few h.powered);
   named = h.same;
   reported = tt;
 }
 
-no-nodes : (d : ℕ) → 1 ≤ d → d ≤ 16 → IsSoundDraft (record first_draft { delay = d })
+pub no-nodes : (d : ℕ) → 1 ≤ d → d ≤ 16 → IsSoundDraft (record first_draft { delay = d })
 no-nodes d one most = record { some_delay = one; short_delay = most; few = omega arith; same = refl; powered = λ k x e. absurd cc }
 
-abbrev IsSound : Stage → Type 0
+abbrev pub IsSound : Stage → Type 0
 IsSound fresh = Unit {0}
 IsSound (declaring draft) = IsSoundDraft draft
 IsSound (running bus) = IsReachedBus bus
 
-sound-bus : (stage : Stage) → IsSound stage → IsReachedBus (bus_of stage)
+pub sound-bus : (stage : Stage) → IsSound stage → IsReachedBus (bus_of stage)
 sound-bus fresh h = draft-bus first_draft (no-nodes 4 (omega arith) (omega arith))
 sound-bus (declaring draft) h = draft-bus draft h
 sound-bus (running bus) h = h
 
-more-at :
+pub more-at :
     (nodes : List PortNode) (x : PortNode) (P : PortNode → Type 0) → ((k : ℕ) (y : PortNode) → slice_get nodes k ≡ Some y → P y) → P x →
     (k : ℕ) (y : PortNode) → slice_get (nodes ++ x ∷ []) k ≡ Some y → P y
 more-at [] x P h p zero y e = subst P (some-same x y e) p
@@ -296,7 +295,7 @@ between : (o : Option ℕ) (least most usual : ℕ) → IfSome o (IsWithin least
 between None least most usual h l m = (l, m)
 between (Some n) least most usual h l m = h
 
-at-power-on :
+pub at-power-on :
     (d ports : ℕ) (attrs : Attrs) (force : Bool) (held short long : Option ℕ) (len : ℕ) (coins : Coins) → attrs.delay ≡ 0 →
     IsNodeInRange d ports attrs.speed attrs.power attrs.gap held short long len →
     IsNodeAtPowerOn d (new_node attrs ports force (times_of d held short long) coins).state
@@ -312,48 +311,34 @@ at-power-on d ports attrs force held short long len coins none h =
       timing = record { hold_least = a.0; hold_most = a.1; force = refl; timeout = refl; short_least = b.0; short_most = b.1; long_least = c.0; long_most = c.1 };
     }
 
--- ---- a command at a stage
+-- a node more, where there is room
+pub drafted :
+    (draft : Draft) (name : List ℕ) (node : PortNode) → nat_lt 62 (length draft.names) ≡ false → IsSoundDraft draft →
+    IsNodeAtPowerOn draft.delay node.state → IsSoundDraft (with_node draft name node)
+drafted draft name node e h on =
+    let room : length draft.names ≤ 62 = grind (arith, nat_tests) in
+    let names = length-append draft.names (name ∷ []) in
+    let nodes = length-append draft.nodes (node ∷ []) in
+    record {
+      some_delay = h.some_delay;
+      short_delay = h.short_delay;
+      few = omega (arith, nodes, room, h.same);
+      same = omega (arith, names, nodes, h.same);
+      powered = more-at draft.nodes node (λ x. IsNodeAtPowerOn draft.delay x.state) h.powered on;
+    }
 
-abbrev LeavesSound : StageAnswer → Type 0
+-- ---- a stage
+
+abbrev pub LeavesSound : StageAnswer → Type 0
 LeavesSound (Ok (stage, text)) = IsSound stage
 LeavesSound (Err kind) = Unit {0}
 
-record Step (Comes : StageAnswer → Type 0) : Type 0 where
-  answer : StageAnswer
-  is : Comes answer
-  sound : LeavesSound answer
+pub onwards-sound : (r : LineAnswer) → LeavesReached r → LeavesSound (onwards r)
+onwards-sound (Ok (bus, text)) h = h
+onwards-sound (Err kind) h = tt
 
-declare :
-    (draft : Draft) (name : List ℕ) (node : ℕ → ℕ → PortNode) → IsSoundDraft draft →
-    IsNodeAtPowerOn draft.delay (node draft.delay (length draft.names)).state → Step (Declares (Some draft) name node)
-declare draft name node h on =
-    let s = go (nat_lt 62 (length draft.names)) (is_declared draft.names name) refl in
-    record { answer = s.answer; is = s.is; sound = s.sound }
-  where
-    new : PortNode
-    new = node draft.delay (length draft.names)
-
-    next : nat_lt 62 (length draft.names) ≡ false → IsSoundDraft (with_node draft name new)
-    next e =
-        let room : length draft.names ≤ 62 = grind (arith, nat_tests) in
-        let names = length-append draft.names (name ∷ []) in
-        let nodes = length-append draft.nodes (new ∷ []) in
-        record {
-          some_delay = h.some_delay;
-          short_delay = h.short_delay;
-          few = omega (arith, nodes, room, h.same);
-          same = omega (arith, names, nodes, h.same);
-          powered = more-at draft.nodes new (λ x. IsNodeAtPowerOn draft.delay x.state) h.powered on;
-        }
-
-    go : (full twice : Bool) → nat_lt 62 (length draft.names) ≡ full →
-        Step (λ r. r ≡ (if full then Err Kind.TooManyNodes
-        else if twice then Err Kind.Twice else Ok (declaring (with_node draft name new), [])))
-    go true twice e = record { answer = Err Kind.TooManyNodes; is = refl; sound = tt }
-    go false true e = record { answer = Err Kind.Twice; is = refl; sound = tt }
-    go false false e = record { answer = Ok (declaring (with_node draft name new), []); is = refl; sound = next e }
-
-abbrev attrs_said : ℕ → Bool → Bool → ℕ → ℕ → Attrs
+-- what a line says of a node
+abbrev pub attrs_said : ℕ → Bool → Bool → ℕ → ℕ → Attrs
 attrs_said speed link contender power gap = record {
   link = link;
   gap = gap;
@@ -364,77 +349,14 @@ attrs_said speed link contender power gap = record {
   initiated = false;
 }
 
-declare-node :
-    (draft : Draft) → IsSoundDraft draft → (name : List ℕ) (ports speed : ℕ) (link contender force : Bool) (power gap : ℕ)
+pub node-at-power-on :
+    (draft : Draft) (ports speed : ℕ) (link contender force : Bool) (power gap : ℕ)
     (held short long : Option ℕ) (word len : ℕ) (seed : Option ℕ) → IsNodeInRange draft.delay ports speed power gap held short long len →
-    Step (Declares (Some draft) name (λ d number.
-    new_node (attrs_said speed link contender power gap) ports force (times_of d held short long) (coins_of number word len seed)))
-declare-node draft h name ports speed link contender force power gap held short long word len seed i =
-    declare draft name (λ d number. new_node (attrs_said speed link contender power gap) ports force (times_of d held short long) (coins_of number word len seed)) h
-    (at-power-on draft.delay ports (attrs_said speed link contender power gap) force held short long len (coins_of (length draft.names) word len seed) refl i)
+    IsNodeAtPowerOn draft.delay
+    (new_node (attrs_said speed link contender power gap) ports force (times_of draft.delay held short long) (coins_of (length draft.names) word len seed)).state
+node-at-power-on draft ports speed link contender force power gap held short long word len seed i =
+    at-power-on draft.delay ports (attrs_said speed link contender power gap) force held short long len (coins_of (length draft.names) word len seed) refl i
 
-delays : (stage : Stage) (delay : ℕ) → IsWithin 1 16 delay → Step (Delays stage delay)
-delays fresh delay i = record { answer = Ok (declaring (record first_draft { delay = delay }), []); is = refl; sound = no-nodes delay i.0 i.1 }
-delays (declaring draft) delay i = record { answer = Err Kind.Late; is = refl; sound = tt }
-delays (running bus) delay i = record { answer = Err Kind.Late; is = refl; sound = tt }
-
-onwards-sound : (r : LineAnswer) → LeavesReached r → LeavesSound (onwards r)
-onwards-sound (Ok (bus, text)) h = h
-onwards-sound (Err kind) h = tt
-
-module _ (keeps : ActKeepsNodes) (commands : CommandsHaveAnswers) (plans : PlansHaveAnswers) (settle : BusesSettle) (ranged : CommandsAreInRange) where
-  any-answer : (bus : Bus) (command : Command) → IsReachedBus bus → HasAnswer (Does bus command)
-  any-answer bus (Plan name) h = plans bus name h
-  any-answer bus command h = commands bus command h tt
-
-  runs : (stage : Stage) (command : Command) → IsSound stage → IsInRange (delay_of stage) command → Step (StageRuns stage command)
-  runs stage command h i =
-      let a = any-answer (bus_of stage) command (sound-bus stage h) in
-      record {
-        answer = onwards a.answer;
-        is = (a.answer, a.is, refl);
-        sound = onwards-sound a.answer (leaves keeps (delay_of stage) (bus_of stage) command (sound-bus stage h) i a.answer a.is);
-      }
-
-  follow : (stage : Stage) (command : Command) → IsSound stage → IsInRange (delay_of stage) command → Step (Follows stage command)
-  follow fresh (Node name ports speed link contender force power gap held short long word len seed packed) h i =
-      declare-node first_draft (no-nodes 4 (omega arith) (omega arith)) name ports speed link contender force power gap held short long word len seed i
-  follow (declaring draft) (Node name ports speed link contender force power gap held short long word len seed packed) h i =
-      declare-node draft h name ports speed link contender force power gap held short long word len seed i
-  follow (running bus) (Node name ports speed link contender force power gap held short long word len seed packed) h i =
-      record { answer = Err Kind.Late; is = refl; sound = tt }
-  follow stage (Delay delay) h i = delays stage delay i
-  follow stage command h i = runs stage command h i
-
-  -- ---- lines
-
-  goes :
-      (number : ℕ) (Rest : Stage → Told → Type 0) → ((stage : Stage) → IsSound stage → (told : Told) × Rest stage told) →
-      (r : StageAnswer) → LeavesSound r → (told : Told) × Goes number Rest r told
-  goes number Rest rest (Ok (stage, text)) h = let more = rest stage h in (behind text more.0, (more.0, more.1, refl))
-  goes number Rest rest (Err kind) h = (Err (fault_at number kind), refl)
-
-  takes :
-      (number : ℕ) (Rest : Stage → Told → Type 0) → ((stage : Stage) → IsSound stage → (told : Told) × Rest stage told) →
-      (stage : Stage) (line : List ℕ) (reading : Result (Option Command) Kind) → IsSound stage → Reads (delay_of stage) line reading →
-      (told : Told) × Takes number Rest stage reading told
-  takes number Rest rest stage line (Ok None) h reads = rest stage h
-  takes number Rest rest stage line (Ok (Some command)) h reads =
-      let s = follow stage command h (ranged (delay_of stage) line command reads) in
-      let g = goes number Rest rest s.answer s.sound in
-      (g.0, (s.answer, s.is, g.1))
-  takes number Rest rest stage line (Err kind) h reads = (Err (fault_at number kind), refl)
-
-  tells : (lines : List (List ℕ)) (number : ℕ) (stage : Stage) → IsSound stage → (told : Told) × Tells number lines stage told
-  tells [] number stage h =
-      let a = settle (bus_of stage) (sound-bus stage h) in
-      (ends_with number a.answer, (a.answer, a.is, refl))
-  tells (line ∷ lines) number stage h =
-      let r = some_reading (delay_of stage) line in
-      let t = takes number (Tells (number + 1) lines) (λ next k. tells lines (number + 1) next k) stage line r.0 h r.1 in
-      (t.0, (r.0, r.1, t.1))
-
-  pub some-told : ScriptsTellSomething
-  some-told bytes =
-      let t = tells (script_lines bytes) 1 fresh tt in
-      record { told = t.0; is = t.1 }
+-- the world that runs from a stage on comes of power-on
+pub stage-reached : (stage : Stage) → IsSound stage → IsReached (bus_of stage).world
+stage-reached stage h = (sound-bus stage h).reached

@@ -1,0 +1,20 @@
+-- All words and bytes have one status and one text.
+use Rattle.std.specs.Prelude.{◌≡◌, ℕ, ◌<◌, All, List, String}
+use Rattle.std.specs.Global.{Global}
+use Rattle.bus_cli.specs.Answer.{Answers}
+
+-- a status and a text that answer
+pub record HasAnswer (words : List (String Global)) (bytes : List ℕ) : Type 0 where
+  pub status : ℕ
+  pub text : List ℕ
+  pub is : Answers words bytes status text
+
+abbrev pub EachInputHasAnAnswer : Type 0
+EachInputHasAnAnswer =
+    (words : List (String Global)) (bytes : List ℕ) → All (λ b. b < 256) bytes →
+    HasAnswer words bytes
+
+abbrev pub NoInputHasTwoAnswers : Type 0
+NoInputHasTwoAnswers =
+    (words : List (String Global)) (bytes : List ℕ) (s r : ℕ) (a b : List ℕ) →
+    Answers words bytes s a → Answers words bytes r b → (s ≡ r) × (a ≡ b)
