@@ -37,6 +37,7 @@ use Rattle.script_advice.specs.OneAdvice.{AdvicesLeaveNoLoop, AdvicesEndWithoutL
 use Rattle.script_advice.specs.Advising.{ArePullable, EndsWith}
 use Rattle.script_advice.proofs.Pulling.{pull-taken, next-pullable}
 use Rattle.script_advice.proofs.Settled.{reported-pullable}
+use Rattle.script_told.proofs.told.Parts.{text-in}
 use Rattle.script_told.proofs.told.Cables.{IsCabled}
 use Rattle.script_told.proofs.told.Commands.{bus-in}
 use Rattle.script_advice.proofs.OneAdvice.{end-of, end-cabled, no-fault, same-report}
@@ -239,8 +240,8 @@ settled-again out after before text (Ok (bus, report)) settles e =
     let same : bus ≡ after = sym (ap (bus-in bus) e) in
     (report, subst (λ (u : Bus). Settles out (Ok (u, report))) same settles, text-of bus report e)
   where
-    text-of : (b : Bus) (r : List ℕ) → Ok (after, text) ≡ Ok (b, before ++ r) → text ≡ before ++ r
-    text-of b r f = cc
+    text-of : (b : Bus) (r : List ℕ) → ◌≡◌ {A = LineAnswer} (Ok (after, text)) (Ok (b, before ++ r)) → text ≡ before ++ r
+    text-of b r f = ap text-in f
 settled-again out after before text (Err kind) settles e = absurd cc
 
 pub no-loop : NoListHasTwoTrees → ActKeepsNodes → AdvicesLeaveNoLoop

@@ -30,6 +30,7 @@ use Rattle.script_told.specs.EachPlan.{IsCarriedOut, ComesOut, EachPlanComesOut}
 use Rattle.script_told.specs.SomeAnswer.{IsReachedBus}
 use Rattle.script_told.specs.SomeManager.{IsManaged, ReportedTreesAreManaged}
 use Rattle.script_told.proofs.SomeAnswer.{tree-managed}
+use Rattle.script_told.proofs.told.Parts.{stage-in, printed-in}
 use Rattle.script_told.proofs.told.Reached.{sound-bus}
 use Rattle.script_told.proofs.told.PlanCarried.{plan-carried}
 use Rattle.script_told.proofs.told.EachDone.{IsDone, each-done}
@@ -116,10 +117,10 @@ module _
       }
     where
       texts : (next : Stage) (t : List ℕ) (b : Bus) (u : List ℕ) → Ok (next, t) ≡ Ok (running b, u) → t ≡ u
-      texts next t b u f = cc
+      texts next t b u f = ap printed-in f
 
       stages : (next : Stage) (t : List ℕ) (b : Bus) (u : List ℕ) → Ok (next, t) ≡ Ok (running b, u) → next ≡ running b
-      stages next t b u f = cc
+      stages next t b u f = ap stage-in f
   comes e name is (Err kind) does same = absurd (no e.after e.text kind same)
     where
       no : (next : Stage) (t : List ℕ) (x : Kind) → Ok (next, t) ≡ Err x → ⊥

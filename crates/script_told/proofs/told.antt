@@ -5,6 +5,7 @@
 -- `Lines`: what follows at a stage, and that lines have one run. `EachDone`: what holds of each command
 -- of a run. `EachReport`: what reports say. `ReachedRuns`: the worlds of a run. `PlanCarried`: what stands
 -- behind a plan.
+pub mod Parts
 pub mod Cables
 pub mod Commands
 pub mod Reached

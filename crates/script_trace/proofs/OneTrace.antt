@@ -15,6 +15,7 @@ use Rattle.script_told.specs.Step.{LineAnswer, CarriesOut, Does}
 use Rattle.script_told.specs.Script.{Stage, fresh, declaring, running, Runs, Follows, onwards, Told, bus_of}
 use Rattle.script_told.specs.Run.{Entry, ScriptRun, IsRun, printed, unless_stopped}
 use Rattle.script_told.specs.EachPlan.{IsCarriedOut}
+use Rattle.script_told.proofs.told.Parts.{stage-in}
 use Rattle.script_told.proofs.told.Cables.{IsCabled}
 use Rattle.script_told.proofs.told.Commands.{same-plan, same-sent}
 use Rattle.script_told.proofs.told.Reached.{IsSound}
@@ -97,7 +98,7 @@ same-told trees run (Err f) (Ok ys) h x y = absurd (not-both y.0 f (sym y.1 ∙ 
     not-both bus fault e = absurd cc
 same-told trees run (Err f) (Err g) h x y = ap Err (same-fault f g (sym x ∙ y))
   where
-    same-fault : (a b : ScriptFault) → Err a ≡ Err b → a ≡ b
+    same-fault : (a b : ScriptFault) → ◌≡◌ {A = Result Bus ScriptFault} (Err a) (Err b) → a ≡ b
     same-fault a b e = cc
 
 pub one-trace : NoListHasTwoTrees → ActKeepsNodes → ScriptsHaveOneTrace
@@ -162,8 +163,11 @@ stage-lines stage command (running after) text f = by-command command f
         go : (a : LineAnswer) → Does (bus_of stage) c a → Ok (running after, text) ≡ onwards a → HasLines (bus_of stage) c after
         go (Ok (bus, t)) d e = command-lines (bus_of stage) c after t (subst (λ (z : Bus). Does (bus_of stage) c (Ok (z, t))) (same bus t e) d)
           where
+            one-bus : (z : Bus) → running after ≡ running z → z ≡ after
+            one-bus z k = cc
+
             same : (z : Bus) (u : List ℕ) → Ok (running after, text) ≡ onwards (Ok (z, u)) → z ≡ after
-            same z u k = cc
+            same z u k = one-bus z (ap stage-in k)
         go (Err kind) d e = absurd (no kind e)
           where
             no : (k : Kind) → Ok (running after, text) ≡ onwards (Err k) → ⊥
