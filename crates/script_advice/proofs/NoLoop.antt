@@ -46,6 +46,7 @@ use Rattle.script_told.specs.SomeAnswer.{IsReachedBus}
 use Rattle.script_told.proofs.told.Reached.{do-act, do-settle}
 use Rattle.script_told.proofs.told.EachReport.{Says, is-none, settles-say, settled-so}
 use Rattle.settle.specs.ReadBack.{ListsAreReadBack}
+use Rattle.cable_world.specs.declared.act.Act.TheVariants.{Pull}
 use Rattle.cable_world.specs.Unchanged.{ActKeepsNodes}
 
 -- ---- what settling leaves

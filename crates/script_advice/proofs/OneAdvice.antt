@@ -39,7 +39,7 @@ one-bus :
     a ≡ b
 one-bus trees keeps bytes a b x y = same a b (sym x.2 ∙ ap (λ (r : ScriptRun). r.end) (one-run trees keeps bytes x.0 y.0 x.1 y.1) ∙ y.2)
   where
-    same : (u v : Bus) → Ok u ≡ Ok v → u ≡ v
+    same : (u v : Bus) → ◌≡◌ {A = Result Bus ScriptFault} (Ok u) (Ok v) → u ≡ v
     same u v e = cc
 
 -- and it was reported
