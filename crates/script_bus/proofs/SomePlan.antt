@@ -103,7 +103,7 @@ module _
     expected : HasWalk w.cabling root
     expected =
         let n = s.stands.is.no_loop in
-        walks w.cabling root s.set n.core l.well_formed.cabling (its-there w l node tree s p.plan.root_id place) s.small
+        walks w.cabling root s.set n.core l.well_formed.cabling (its-there w l node tree s p.plan.root_id place)
         (shared w.cabling node root s.set l.well_formed.cabling s.component (holds-its w l node tree s p.plan.root_id place)) n.is_core n.empty
 
     suit : SuitsTree w node p.plan

@@ -228,7 +228,7 @@ module _
   }
 
   later : IsReached u → IsTree w whole tree.root k.tree
-  later r = stay u w s.events node whole tree.root k.tree r s.no_act s.run before-whole small there
+  later r = stay u w s.events node whole tree.root k.tree r s.no_act s.run before-whole there
 
   pub stands-as : StandsAs w node tree
   stands-as = record {
