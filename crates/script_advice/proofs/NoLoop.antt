@@ -46,6 +46,7 @@ use Rattle.script_told.specs.SomeAnswer.{IsReachedBus}
 use Rattle.script_told.proofs.told.Reached.{do-act, do-settle}
 use Rattle.script_told.proofs.told.EachReport.{Says, is-none, settles-say, settled-so}
 use Rattle.settle.specs.ReadBack.{ListsAreReadBack}
+use Rattle.settle.specs.ReportedOutcome.{ReportedIsOutcome}
 use Rattle.cable_world.specs.declared.act.Act.TheVariants.{Pull}
 use Rattle.cable_world.specs.Unchanged.{ActKeepsNodes}
 
@@ -271,9 +272,9 @@ pulls-reached keeps bus after (c ∷ cables) h x =
 
 -- the text of an advice ends with a report without a loop
 pub without-loop :
-    NoListHasTwoTrees → ActKeepsNodes → ListsAreReadBack → (bytes text : List ℕ) → EndsWith bytes text →
+    NoListHasTwoTrees → ActKeepsNodes → ListsAreReadBack → ReportedIsOutcome → (bytes text : List ℕ) → EndsWith bytes text →
     EndsWithoutLoop bytes text
-without-loop trees keeps read bytes text e =
+without-loop trees keeps read came bytes text e =
     let bus : Bus = e.0 in
     let after : Bus = e.1 in
     let a : Advises bus (Ok (after, text)) = e.3 in
@@ -295,7 +296,7 @@ without-loop trees keeps read bytes text e =
         report = s.report;
         kept = s.kept;
         is = s.is;
-        each = settled-so read after.world s.report reached s.is;
+        each = settled-so read came after.world s.report reached s.is;
         told = s.told;
       };
       no_loop = no-loop trees keeps bytes text bus after s.report e.2 a s.kept;
@@ -311,5 +312,5 @@ ends-of : (bytes text : List ℕ) → IsAdvice bytes (Ok text) → EndsWith byte
 ends-of bytes text (inl x) = no-fault x.fault text _ x.is
 ends-of bytes text (inr x) = ends-so bytes text x.bus x.answer x.ran x.advises x.is
 
-pub all-without-loop : NoListHasTwoTrees → ActKeepsNodes → ListsAreReadBack → AdvicesEndWithoutLoop
-all-without-loop trees keeps read bytes text is = without-loop trees keeps read bytes text (ends-of bytes text is)
+pub all-without-loop : NoListHasTwoTrees → ActKeepsNodes → ListsAreReadBack → ReportedIsOutcome → AdvicesEndWithoutLoop
+all-without-loop trees keeps read came bytes text is = without-loop trees keeps read came bytes text (ends-of bytes text is)

@@ -2,7 +2,7 @@
 ghost use Rattle.script_advice.specs.OneAdvice.{ScriptsHaveOneAdvice, AdvicesLeaveNoLoop, AdvicesEndWithoutLoop};
 
 use cable_world::acts_keep;
-use settle::reports_are_read_back;
+use settle::{reports_are_outcomes, reports_are_read_back};
 use topology_stack::one_tree;
 
 /// A law: no script has two advices. Its advice has one text, or one fault of one line.
@@ -22,4 +22,5 @@ pub fn advices_leave_no_loop()
     one_tree();
     acts_keep();
     reports_are_read_back();
+    reports_are_outcomes();
 }

@@ -3,10 +3,11 @@ use Rattle.std.specs.Prelude.{◌≡◌, ℕ, ◌<◌, Some, List, [], ◌++◌,
 use Rattle.cabling.specs.Component.{IsComponent}
 use Rattle.cable_world.specs.World.{CableWorld, NodeNumber}
 use Rattle.cable_world.specs.Run.{IsReached}
+use Rattle.cable_world.specs.Outcome.{Outcome, IsOutcome}
 use Rattle.settle.specs.declared.report.Part.{Part}
 use Rattle.settle.specs.declared.report.Report.{Report}
 use Rattle.settle.specs.Report.{IsReport}
-use Rattle.settle.specs.Reported.{IsReported}
+use Rattle.settle.specs.ReportedOutcome.{Tells}
 use Rattle.settle.specs.ReadBack.{IfTree, IsReadBack}
 use Rattle.script_lines.specs.declared.command.Command.{Command}
 use Rattle.script_lines.specs.declared.command.Command.TheVariants.{Settle, Plan}
@@ -15,11 +16,13 @@ use Rattle.script_told.specs.Bus.{Bus}
 use Rattle.script_told.specs.Script.{running}
 use Rattle.script_told.specs.Run.{Entry, ScriptRun, IsRun}
 
--- The part is of the component of a node, as the cables now are, and says what that came to: a loop, a
+-- The part is of the component of a node, as the cables now are, and tells what that came to: a loop, a
 -- tree, or a contention. Its tree is the bus tree that is read from its list.
 pub record IsOfComponent (w : CableWorld) (node : NodeNumber) (part : Part) : Type 0 where
   pub component : IsComponent w.cabling node part.nodes
-  pub came : IsReported w part.nodes part.outcome
+  pub outcome : Outcome
+  pub came : IsOutcome w part.nodes outcome
+  pub told : Tells w part.outcome outcome
   pub read : IfTree (IsReadBack w) part.outcome
 
 -- the component of each node is in the report

@@ -1,11 +1,8 @@
 -- The worlds of a script come of power-on, wherever it is cut, and so settle where they are left alone.
-use Rattle.std.specs.Prelude.{ℕ, ◌<◌, List, All, length}
-use Rattle.cabling.specs.Component.{IsComponent}
-use Rattle.cable_world.specs.World.{CableWorld, NodeNumber, NodeSet}
-use Rattle.cable_world.specs.Turn.{turns_after}
+use Rattle.std.specs.Prelude.{ℕ, List, All}
+use Rattle.cable_world.specs.World.{CableWorld}
 use Rattle.cable_world.specs.Run.{IsReached}
-use Rattle.cable_world.specs.Outcome.{IsSettled}
-use Rattle.settle.specs.Report.{quiet_turns_of}
+use Rattle.outcomes.specs.Headline.{IsLeftAlone, AllSettled}
 use Rattle.script_told.specs.Script.{Stage, bus_of}
 use Rattle.script_told.specs.Run.{Entry, ScriptRun, IsRun}
 
@@ -19,15 +16,8 @@ ScriptWorldsAreReached =
     (bytes : List ℕ) (run : ScriptRun) → IsRun bytes run →
     All (λ (e : Entry). IsReached (world_of e.before) × IsReached (world_of e.after)) run.entries
 
--- each component has an outcome
-abbrev pub AreAllSettled : CableWorld → Type 0
-AreAllSettled w =
-    (node : NodeNumber) (set : NodeSet) → node < length w.cabling →
-    IsComponent w.cabling node set → IsSettled w set
-
--- so a script that is cut behind any of its commands and left alone for the quiet turns settles
+-- a script that is cut behind any of its commands and left alone settles
 abbrev pub ScriptsConverge : Type 0
 ScriptsConverge =
     (bytes : List ℕ) (run : ScriptRun) → IsRun bytes run →
-    All (λ (e : Entry). AreAllSettled (turns_after (quiet_turns_of (world_of e.after)) (world_of e.after)))
-    run.entries
+    All (λ (e : Entry). (v : CableWorld) → IsLeftAlone (world_of e.after) v → AllSettled v) run.entries

@@ -1,14 +1,15 @@
 //! Laws of what a script tells.
 ghost use Rattle.script_told.specs.OneTold.{ScriptsHaveOneRun, ScriptsTellOneThing};
 ghost use Rattle.script_told.specs.EachReport.{ReportsAreSettled};
-ghost use Rattle.script_told.specs.Reached.{ScriptWorldsAreReached};
+ghost use Rattle.script_told.specs.Reached.{ScriptWorldsAreReached, ScriptsConverge};
 ghost use Rattle.script_told.specs.SomeAnswer.{CommandsHaveAnswers, BusesSettle};
 ghost use Rattle.script_told.specs.SomeManager.{ReportedTreesAreManaged};
 
 use cable_world::acts_keep;
 use cabling::components_exist;
+use outcomes::every_bus_settles;
 use script_text::{maps_have_texts, settled_worlds_have_texts};
-use settle::reports_are_read_back;
+use settle::{reports_are_outcomes, reports_are_read_back};
 use topology_stack::one_tree;
 
 /// A law: no script has two runs, so it tells one text at most, or one fault of one line.
@@ -21,12 +22,14 @@ pub fn scripts_tell_one_thing()
 }
 
 /// A law: before and behind each command of a script's run the world comes of power-on by acts, holds
-/// and turns.
+/// and turns. So a script that is cut behind any of its commands settles where it is left alone.
 pub fn script_worlds_are_reached()
-    ensures { ScriptWorldsAreReached }
+    ensures reached { ScriptWorldsAreReached }
+    ensures converge { ScriptsConverge }
 {
     one_tree();
     acts_keep();
+    every_bus_settles();
 }
 
 /// A law: each `settle` and each `plan` of a script's run prints the report of a world that comes of
@@ -39,6 +42,7 @@ pub fn reports_are_settled()
     one_tree();
     acts_keep();
     reports_are_read_back();
+    reports_are_outcomes();
 }
 
 /// A law: each tree of a report is a bus tree's, which elects an isochronous resource manager, or

@@ -12,6 +12,7 @@ use Rattle.settle.specs.declared.report.Part.{Part}
 use Rattle.settle.specs.declared.report.Report.{Report}
 use Rattle.settle.specs.Report.{IsPart, IsReport, quiet_turns_of}
 use Rattle.settle.specs.ReadBack.{IfTree, IsReadBack, ListsAreReadBack}
+use Rattle.settle.specs.ReportedOutcome.{ReportedIsOutcome}
 use Rattle.script_lines.specs.declared.kind.Kind.{Kind}
 use Rattle.script_lines.specs.declared.command.Command.{Command}
 use Rattle.script_lines.specs.declared.command.Command.TheVariants.{Settle, Plan}
@@ -27,20 +28,24 @@ use Rattle.script_told.proofs.told.EachDone.{IsDone, each-done}
 
 -- ---- a report
 
-pub settled-so : ListsAreReadBack → (w : CableWorld) (report : Report) → IsReached w → IsReport w report → EachComponentCameTo w report
-settled-so read w report r is node there =
+pub settled-so : ListsAreReadBack → ReportedIsOutcome → (w : CableWorld) (report : Report) → IsReached w → IsReport w report → EachComponentCameTo w report
+settled-so read came w report r is node there =
+    let cables = (reached-lawful w r).well_formed.cabling in
     let a = is.parts.whole node there in
     let part : IsPart w a.1 = subst (IsPart w) a.3 (All-get_or (IsPart w) report.parts a.0 a.1 a.2 is.parts.each) in
     let tree : IfTree (IsReadBack w) a.1.outcome =
     subst (λ (p : Part). IfTree (IsReadBack w) p.outcome) a.3
-    (All-get_or (λ (p : Part). IfTree (IsReadBack w) p.outcome) report.parts a.0 a.1 a.2 (read w report ∣ r ∣₁ is)) in (
+    (All-get_or (λ (p : Part). IfTree (IsReadBack w) p.outcome) report.parts a.0 a.1 a.2 (read w report ∣ r ∣₁ is)) in
+    let outcome = (came w a.1.nodes a.1.outcome cables part.there).0 part.outcome in (
       a.0,
       a.1,
       a.2,
       a.3,
       record {
-        component = shared w.cabling part.node node a.1.nodes (reached-lawful w r).well_formed.cabling part.component a.4;
-        came = part.outcome;
+        component = shared w.cabling part.node node a.1.nodes cables part.component a.4;
+        outcome = outcome.0;
+        came = outcome.1;
+        told = outcome.2;
         read = tree;
       },
     )
@@ -164,9 +169,9 @@ onwards-says Before (Ok (bus, text)) h = (bus, refl, h)
 onwards-says Before (Err kind) h = tt
 
 reported-at :
-    ListsAreReadBack → (entry : Entry) → IsSound entry.after →
+    ListsAreReadBack → ReportedIsOutcome → (entry : Entry) → IsSound entry.after →
     StageSays (IsBeforeReport entry.command) entry.after entry.text → IsReportedAt entry
-reported-at read entry sound h =
+reported-at read came entry sound h =
     let reached : IsReached h.0.world = (subst IsSound h.1 sound).reached in
     record {
       bus = h.0;
@@ -179,7 +184,7 @@ reported-at read entry sound h =
         report = h.2.report;
         kept = h.2.kept;
         is = h.2.is;
-        each = settled-so read h.0.world h.2.report reached h.2.is;
+        each = settled-so read came h.0.world h.2.report reached h.2.is;
         told = h.2.told;
       };
       printed = h.2.printed;
@@ -194,11 +199,11 @@ says stage (Plan name) next text does f =
     subst (StageAnswerSays is-any) (sym f.2) (onwards-says is-any f.0 (plan-says (bus_of stage) name f.0 f.1))
 says stage command next text does f = absurd does
 
-reports-so : ListsAreReadBack → (entry : Entry) → IsDone entry → DoesReport entry.command → IsReportedAt entry
-reports-so read entry is does =
-    reported-at read entry is.left (says entry.before entry.command entry.after entry.text does is.follows)
+reports-so : ListsAreReadBack → ReportedIsOutcome → (entry : Entry) → IsDone entry → DoesReport entry.command → IsReportedAt entry
+reports-so read came entry is does =
+    reported-at read came entry is.left (says entry.before entry.command entry.after entry.text does is.follows)
 
-pub each-report : NoListHasTwoTrees → ActKeepsNodes → ListsAreReadBack → ReportsAreSettled
-each-report trees keeps read bytes run x =
-    All-weaker IsDone (λ entry. DoesReport entry.command → IsReportedAt entry) (λ entry is. reports-so read entry is)
+pub each-report : NoListHasTwoTrees → ActKeepsNodes → ListsAreReadBack → ReportedIsOutcome → ReportsAreSettled
+each-report trees keeps read came bytes run x =
+    All-weaker IsDone (λ entry. DoesReport entry.command → IsReportedAt entry) (λ entry is. reports-so read came entry is)
     run.entries (each-done trees keeps bytes run x).each

@@ -5,4 +5,4 @@ pub returns-clause-report : goal.returns-clause-report
 returns-clause-report c = no-loop c.one_tree.ensures c.acts_keep.ensures.nodes
 
 pub returns-clause-text : goal.returns-clause-text
-returns-clause-text c = all-without-loop c.one_tree.ensures c.acts_keep.ensures.nodes c.reports_are_read_back.ensures.lists
+returns-clause-text c = all-without-loop c.one_tree.ensures c.acts_keep.ensures.nodes c.reports_are_read_back.ensures.lists c.reports_are_outcomes.ensures
