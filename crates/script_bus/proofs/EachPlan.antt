@@ -24,7 +24,7 @@ use Rattle.script_lines.specs.declared.command.Command.{Command}
 use Rattle.script_lines.specs.declared.command.Command.TheVariants.{Plan}
 use Rattle.script_told.specs.Bus.{Bus, Notes}
 use Rattle.script_told.specs.Step.{LineAnswer, Does, node_with}
-use Rattle.script_told.specs.Script.{Stage, running, bus_of, onwards, Follows}
+use Rattle.script_told.specs.Script.{Stage, StageAnswer, running, bus_of, onwards, Follows}
 use Rattle.script_told.specs.Run.{Entry}
 use Rattle.script_told.specs.EachPlan.{IsCarriedOut, ComesOut, EachPlanComesOut}
 use Rattle.script_told.specs.SomeAnswer.{IsReachedBus}
@@ -102,7 +102,7 @@ module _
 
   comes :
       (e : Entry) (name : List ℕ) → IsDone e → (r : LineAnswer) → Does (bus_of e.before) (Plan name) r →
-      Ok (e.after, e.text) ≡ onwards r → ComesOut e name
+      ◌≡◌ {A = StageAnswer} (Ok (e.after, e.text)) (onwards r) → ComesOut e name
   comes e name is (Ok (bus, text)) does same =
       let said : e.text ≡ text = texts e.after e.text bus text same in
       let carried : IsCarriedOut (bus_of e.before) name bus e.text =
@@ -116,14 +116,14 @@ module _
         gaps = have-gap (bus_of e.before) h name bus e.text carried;
       }
     where
-      texts : (next : Stage) (t : List ℕ) (b : Bus) (u : List ℕ) → Ok (next, t) ≡ Ok (running b, u) → t ≡ u
+      texts : (next : Stage) (t : List ℕ) (b : Bus) (u : List ℕ) → ◌≡◌ {A = StageAnswer} (Ok (next, t)) (Ok (running b, u)) → t ≡ u
       texts next t b u f = ap printed-in f
 
-      stages : (next : Stage) (t : List ℕ) (b : Bus) (u : List ℕ) → Ok (next, t) ≡ Ok (running b, u) → next ≡ running b
+      stages : (next : Stage) (t : List ℕ) (b : Bus) (u : List ℕ) → ◌≡◌ {A = StageAnswer} (Ok (next, t)) (Ok (running b, u)) → next ≡ running b
       stages next t b u f = ap stage-in f
   comes e name is (Err kind) does same = absurd (no e.after e.text kind same)
     where
-      no : (next : Stage) (t : List ℕ) (x : Kind) → Ok (next, t) ≡ Err x → ⊥
+      no : (next : Stage) (t : List ℕ) (x : Kind) → ◌≡◌ {A = StageAnswer} (Ok (next, t)) (Err x) → ⊥
       no next t x f = absurd cc
 
   at-plan : (e : Entry) → IsDone e → (name : List ℕ) → e.command ≡ Plan name → ComesOut e name

@@ -44,8 +44,6 @@ carries-out bus after name node tree plan line report text p s named is = record
   report = report;
   reports = s.reports;
   text_is = is ∙ ap (λ (l : List ℕ). l ++ report) p.line_is;
-  root = s.root (node_with tree plan.root_id) named;
-  gaps = s.gaps;
 }
 
 -- the tests of a plan
