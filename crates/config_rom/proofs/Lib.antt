@@ -5,6 +5,7 @@ pub mod Reading
 pub mod Reached
 pub mod Listed
 pub mod SomeFault
+pub mod SomeText
 pub mod OneText
 pub mod Told
 pub mod Appended

@@ -1,5 +1,5 @@
 -- The reached blocks have a first fault, or none of them has a fault.
-use Rattle.std.proofs.Common.{◌≡◌, ℕ, zero, suc, ◌+◌, ◌^◌, ◌<◌, ◌≤◌, ◌⊎◌, inl, inr, Bool, true, false, cond, eqb, Option, Some, None, List, length, refl, sym, ap, subst, arith}
+use Rattle.std.proofs.Common.{◌≡◌, ℕ, zero, suc, ◌+◌, ◌^◌, ◌<◌, ◌≤◌, ◌⊎◌, ◌↔◌, inl, inr, Bool, true, false, cond, eqb, Option, Some, None, List, length, refl, sym, ap, subst, arith}
 use Rattle.std.specs.Prelude.{slice_index}
 use Rattle.std.proofs.Math.ListN.{get_or-eq_default}
 use Rattle.std.proofs.lemmas.Bool.{cases_lt, cases_eq, eqb-true, eqb-false}
@@ -201,6 +201,18 @@ upto_reached quads root (suc n) k p h set c = elim (either-true _ _ h) [
       let l = leads-true quads n (length_at quads n) k p (omega arith) t.1 in
       c.targets_in n l.0 p k (upto_reached quads root n Directory n t.0 set c) l.1
 ]
+
+-- the set of the reached blocks
+pub record ReachedSet (quads : List ℕ) (root : ℕ) : Type 0 where
+  pub set : Blocks
+  pub set_is : (k : BlockKind) (p : ℕ) → (set k p ≡ true) ↔ IsReached quads root k p
+
+pub reached_set : (quads : List ℕ) (root : ℕ) → ReachedSet quads root
+unfolding reached
+reached_set quads root = record {
+  set = reached quads root;
+  set_is = λ k p. (upto_reached quads root (length quads) k p, λ r. r (reached quads root) (reached_closed quads root));
+}
 
 pub is_reached : (quads : List ℕ) (root : ℕ) (k : BlockKind) (p : ℕ) → Decided (IsReached quads root k p)
 unfolding reached

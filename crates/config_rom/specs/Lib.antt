@@ -6,5 +6,6 @@ pub mod Block
 pub mod Seal
 pub mod Text
 pub mod OneReading
+pub mod SomeText
 pub mod Answer
 pub mod codings

@@ -1,5 +1,5 @@
 -- The text of a ROM: its bus information block, its blocks, and the entries of its directories.
-use Rattle.std.specs.Prelude.{◌≡◌, ℕ, zero, suc, ◌+◌, ◌*◌, ◌/◌, ◌%◌, ◌^◌, nat_lt, if◌then◌else◌, Option, Some, None, List, [], ◌∷◌, ◌++◌, length, slice_index, codes, decimal}
+use Rattle.std.specs.Prelude.{◌≡◌, ℕ, zero, suc, ◌+◌, Option, Some, None, List, [], ◌∷◌, ◌++◌, length, slice_index, codes, decimal}
 use Rattle.topology_stack.specs.Hex.{hex}
 use Rattle.config_rom.specs.declared.crc.CrcState.{CrcState}
 use Rattle.config_rom.specs.declared.crc.CrcState.TheVariants.{Good, Bad, Past}

@@ -1,5 +1,6 @@
 //! Laws of ROMs.
 ghost use Rattle.config_rom.specs.OneReading.{EachInputIsARomOrRefused, NoInputIsTwoRoms, NoRomIsRefused, EachRomHasGoodBlocksOrAFault, NoGoodBlocksAreRefused, NoBlocksHaveTwoFaults, NoRomHasTwoLists, NoRomHasTwoTexts};
+ghost use Rattle.config_rom.specs.SomeText.{RomsHaveTexts};
 
 /// A law: each input is the bytes of a ROM or is refused, none is those of two ROMs, and none of a
 /// ROM is refused.
@@ -17,4 +18,9 @@ pub fn one_list()
     ensures fault { NoBlocksHaveTwoFaults }
     ensures list { NoRomHasTwoLists }
     ensures text { NoRomHasTwoTexts }
+{}
+
+/// A law: each ROM has a list of blocks and a text, where none of its blocks has a fault.
+pub fn roms_have_texts()
+    ensures { RomsHaveTexts }
 {}

@@ -15,7 +15,7 @@ mod text;
 pub use block::{Block, BlockKind, BlockList, blocks};
 pub use crc::CrcState;
 pub use fault::{RomFault, RomStop};
-pub use laws::{one_list, one_rom};
+pub use laws::{one_list, one_rom, roms_have_texts};
 pub use quad_lanes::OutOfMemory;
 pub use rom::{Rom, decode_rom, encode_rom};
 pub use sealing::seal;

@@ -10,3 +10,4 @@ pub mod Before
 pub mod Rooted
 pub mod Splitting
 pub mod Without
+pub mod SomeAdvice

@@ -1,5 +1,6 @@
-//! What a valid advice does.
+//! What a valid advice does, and that there is one.
 ghost use Rattle.loop_advice.specs.Pulled.{PullsKeepTheComponent, PullsLeaveNoCore, NoFewerPullsDo};
+ghost use Rattle.loop_advice.specs.SomeAdvice.{AdvicesExist};
 
 use cabling::{Cabling, cables_are_two_ended, trees_have_leaves};
 
@@ -21,3 +22,8 @@ pub fn no_fewer_pulls_do(old: &Cabling, new: &Cabling)
     cables_are_two_ended(new);
     trees_have_leaves(new);
 }
+
+/// The component of each node of a cabling has an advice, and it is valid.
+pub fn advices_exist()
+    ensures { AdvicesExist }
+{}

@@ -17,7 +17,7 @@ pub use cable_list::CableList;
 pub use cables_in_order::cables_of;
 pub use cabling::OutOfMemory;
 pub use certificate::check;
-pub use laws::{no_fewer_pulls_do, pulls_leave_a_tree};
+pub use laws::{advices_exist, no_fewer_pulls_do, pulls_leave_a_tree};
 
 #[cfg(test)]
 mod tests;
