@@ -2,6 +2,6 @@ pub mod NamedTree
 pub mod Standing
 pub mod Planning
 pub mod PlansAsked
-pub mod Tracing
+pub mod Hearing
 pub mod SomePlan
 pub mod SomeTold

@@ -5,12 +5,12 @@ ghost use Rattle.script_told.specs.Script.{Declares, Delays, Follows, Runs, bus_
 ghost use Rattle.script_bus.specs.Running.{bus_now, IsSound};
 ghost use Rattle.script_run.specs.codings.Declaring.{IsDraft, IsLine, StopsAt, draft_now, node_said};
 ghost use Rattle.script_run.specs.codings.Going.{stage_now, IsSoundStage};
-ghost use Rattle.script_run.specs.codings.Tracing.{RunsTraced, FollowsTraced};
+ghost use Rattle.script_run.specs.codings.Tracing.{HearsAt};
 
 use crate::draft::{Draft, NodeLine};
 use cable_world::WorldRun;
 use phy_machine::AnyMachine;
-use script_bus::Bus;
+use script_bus::{Bus, Listener};
 use script_lines::{Command, Kind, LineStop};
 use std::alloc::Global;
 use std::mem;
@@ -109,13 +109,23 @@ impl Stage<AgendaWorld<AnyMachine>> {
     }
 
     /// The first command that runs the bus.
-    fn begin(&mut self, alloc: Global, d: u8, command: &Command) -> Result<Vec<u8>, LineStop>
+    fn begin<L: Listener>(
+        &mut self,
+        alloc: Global,
+        d: u8,
+        command: &Command,
+        listener: &mut L,
+    ) -> Result<Vec<u8>, LineStop>
         requires sound { IsSoundStage ⟦<AgendaWorld<AnyMachine> as WorldRun>⟧.world
             ⟦<AgendaWorld<AnyMachine> as WorldRun>⟧.is_spent self.old }
         requires range { IsInRange d command.now }
         ensures done { IfOk result (λ text.
             Runs (stage_now ⟦<AgendaWorld<AnyMachine> as WorldRun>⟧.world self.old) command.now
             (Ok (stage_now ⟦<AgendaWorld<AnyMachine> as WorldRun>⟧.world self.new, text.items))) }
+        ensures heard { OnOk result (HearsAt L.writes
+            (stage_now ⟦<AgendaWorld<AnyMachine> as WorldRun>⟧.world self.old) command.now
+            (stage_now ⟦<AgendaWorld<AnyMachine> as WorldRun>⟧.world self.new)
+            (L.written listener.old) (L.written listener.new)) }
         ensures stop { IfErr result (StopsAt
             (Runs (stage_now ⟦<AgendaWorld<AnyMachine> as WorldRun>⟧.world self.old)
             command.now)) }
@@ -123,19 +133,29 @@ impl Stage<AgendaWorld<AnyMachine>> {
             ⟦<AgendaWorld<AnyMachine> as WorldRun>⟧.is_spent self.new }
     {
         let mut bus = mem::replace(self, Stage::Fresh).bus(alloc)?;
-        let text = bus.command(alloc, d, command)?;
+        let text = bus.command(alloc, d, command, listener)?;
         *self = Stage::Running(bus);
         Ok(text)
     }
 
     /// A command that runs the bus.
-    fn run(&mut self, alloc: Global, d: u8, command: &Command) -> Result<Vec<u8>, LineStop>
+    fn run<L: Listener>(
+        &mut self,
+        alloc: Global,
+        d: u8,
+        command: &Command,
+        listener: &mut L,
+    ) -> Result<Vec<u8>, LineStop>
         requires sound { IsSoundStage ⟦<AgendaWorld<AnyMachine> as WorldRun>⟧.world
             ⟦<AgendaWorld<AnyMachine> as WorldRun>⟧.is_spent self.old }
         requires range { IsInRange d command.now }
         ensures done { IfOk result (λ text.
             Runs (stage_now ⟦<AgendaWorld<AnyMachine> as WorldRun>⟧.world self.old) command.now
             (Ok (stage_now ⟦<AgendaWorld<AnyMachine> as WorldRun>⟧.world self.new, text.items))) }
+        ensures heard { OnOk result (HearsAt L.writes
+            (stage_now ⟦<AgendaWorld<AnyMachine> as WorldRun>⟧.world self.old) command.now
+            (stage_now ⟦<AgendaWorld<AnyMachine> as WorldRun>⟧.world self.new)
+            (L.written listener.old) (L.written listener.new)) }
         ensures stop { IfErr result (StopsAt
             (Runs (stage_now ⟦<AgendaWorld<AnyMachine> as WorldRun>⟧.world self.old)
             command.now)) }
@@ -143,9 +163,9 @@ impl Stage<AgendaWorld<AnyMachine>> {
             ⟦<AgendaWorld<AnyMachine> as WorldRun>⟧.is_spent self.new }
     {
         let Stage::Running(bus) = self else {
-            return self.begin(alloc, d, command);
+            return self.begin(alloc, d, command, listener);
         };
-        match bus.command(alloc, d, command) {
+        match bus.command(alloc, d, command, listener) {
             Ok(text) => Ok(text),
             Err(stop) => {
                 *self = Stage::Fresh;
@@ -175,8 +195,15 @@ impl Stage<AgendaWorld<AnyMachine>> {
         Ok(Vec::new(alloc))
     }
 
-    /// A command is done. Where it isn't, nothing is left of the stage.
-    pub fn follow(&mut self, alloc: Global, d: u8, command: Command) -> Result<Vec<u8>, LineStop>
+    /// A command is done, and the listener hears what happens in it. Where it isn't, nothing is left
+    /// of the stage.
+    pub fn follow<L: Listener>(
+        &mut self,
+        alloc: Global,
+        d: u8,
+        command: Command,
+        listener: &mut L,
+    ) -> Result<Vec<u8>, LineStop>
         requires sound { IsSoundStage ⟦<AgendaWorld<AnyMachine> as WorldRun>⟧.world
             ⟦<AgendaWorld<AnyMachine> as WorldRun>⟧.is_spent self.old }
         requires delay { d ≡ delay_of
@@ -185,6 +212,10 @@ impl Stage<AgendaWorld<AnyMachine>> {
         ensures done { IfOk result (λ text.
             Follows (stage_now ⟦<AgendaWorld<AnyMachine> as WorldRun>⟧.world self.old) command
             (Ok (stage_now ⟦<AgendaWorld<AnyMachine> as WorldRun>⟧.world self.new, text.items))) }
+        ensures heard { OnOk result (HearsAt L.writes
+            (stage_now ⟦<AgendaWorld<AnyMachine> as WorldRun>⟧.world self.old) command
+            (stage_now ⟦<AgendaWorld<AnyMachine> as WorldRun>⟧.world self.new)
+            (L.written listener.old) (L.written listener.new)) }
         ensures stop { IfErr result (StopsAt
             (Follows (stage_now ⟦<AgendaWorld<AnyMachine> as WorldRun>⟧.world self.old) command)) }
         ensures sound { IsSoundStage ⟦<AgendaWorld<AnyMachine> as WorldRun>⟧.world
@@ -228,66 +259,7 @@ impl Stage<AgendaWorld<AnyMachine>> {
                 self.declare(alloc, line)
             }
             Command::Delay { delay } => self.say_delay(alloc, delay),
-            _ => self.run(alloc, d, &command),
-        }
-    }
-
-    /// A command that runs the bus, traced.
-    fn run_traced(
-        &mut self,
-        alloc: Global,
-        d: u8,
-        command: &Command,
-        out: &mut Vec<u8>,
-    ) -> Result<(), LineStop>
-        requires sound { IsSoundStage ⟦<AgendaWorld<AnyMachine> as WorldRun>⟧.world
-            ⟦<AgendaWorld<AnyMachine> as WorldRun>⟧.is_spent self.old }
-        requires range { IsInRange d command.now }
-        ensures done { OnOk result (RunsTraced
-            (stage_now ⟦<AgendaWorld<AnyMachine> as WorldRun>⟧.world self.old) command.now
-            (stage_now ⟦<AgendaWorld<AnyMachine> as WorldRun>⟧.world self.new)
-            out.old.items out.new.items) }
-        ensures stop { IfErr result (StopsAt
-            (Runs (stage_now ⟦<AgendaWorld<AnyMachine> as WorldRun>⟧.world self.old)
-            command.now)) }
-        ensures sound { IsSoundStage ⟦<AgendaWorld<AnyMachine> as WorldRun>⟧.world
-            ⟦<AgendaWorld<AnyMachine> as WorldRun>⟧.is_spent self.new }
-    {
-        let mut bus = mem::replace(self, Stage::Fresh).bus(alloc)?;
-        bus.trace(alloc, d, command, out)?;
-        *self = Stage::Running(bus);
-        Ok(())
-    }
-
-    /// A command is done as `follow` does it, and what happens in it is appended in place of what it
-    /// prints.
-    pub fn trace(
-        &mut self,
-        alloc: Global,
-        d: u8,
-        command: Command,
-        out: &mut Vec<u8>,
-    ) -> Result<(), LineStop>
-        requires sound { IsSoundStage ⟦<AgendaWorld<AnyMachine> as WorldRun>⟧.world
-            ⟦<AgendaWorld<AnyMachine> as WorldRun>⟧.is_spent self.old }
-        requires delay { d ≡ delay_of
-            (stage_now ⟦<AgendaWorld<AnyMachine> as WorldRun>⟧.world self.old) }
-        requires range { IsInRange d command }
-        ensures done { OnOk result (FollowsTraced
-            (stage_now ⟦<AgendaWorld<AnyMachine> as WorldRun>⟧.world self.old) command
-            (stage_now ⟦<AgendaWorld<AnyMachine> as WorldRun>⟧.world self.new)
-            out.old.items out.new.items) }
-        ensures stop { IfErr result (StopsAt
-            (Follows (stage_now ⟦<AgendaWorld<AnyMachine> as WorldRun>⟧.world self.old) command)) }
-        ensures sound { IsSoundStage ⟦<AgendaWorld<AnyMachine> as WorldRun>⟧.world
-            ⟦<AgendaWorld<AnyMachine> as WorldRun>⟧.is_spent self.new }
-    {
-        match command {
-            Command::Node { .. } | Command::Delay { .. } => {
-                self.follow(alloc, d, command)?;
-                Ok(())
-            }
-            _ => self.run_traced(alloc, d, &command, out),
+            _ => self.run(alloc, d, &command, listener),
         }
     }
 }
