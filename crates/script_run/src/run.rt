@@ -7,11 +7,12 @@ ghost use Rattle.script_run.specs.codings.Declaring.{IsDraft, IsLine, StopsAt, d
 ghost use Rattle.script_run.specs.codings.Going.{stage_now, IsSoundStage};
 ghost use Rattle.script_run.specs.codings.Tracing.{HearsAt};
 
-use crate::draft::{Draft, NodeLine};
+use crate::draft::{Draft, GivenCoins, GivenTimes, NodeLine};
 use cable_world::WorldRun;
 use phy_machine::AnyMachine;
 use script_bus::{Bus, Listener};
 use script_lines::{Command, Kind, LineStop};
+use self_id::Attrs;
 use std::alloc::Global;
 use std::mem;
 use topology_stack::OutOfMemory;
@@ -239,21 +240,26 @@ impl Stage<AgendaWorld<AnyMachine>> {
                 seed,
                 packed,
             } => {
+                let attrs = Attrs {
+                    link,
+                    gap,
+                    speed,
+                    delay: 0,
+                    contender,
+                    power,
+                    initiated: false,
+                };
                 let line = NodeLine {
                     name,
                     ports,
-                    speed,
-                    link,
-                    contender,
+                    attrs,
                     force,
-                    power,
-                    gap,
-                    hold,
-                    short,
-                    long,
-                    coin_word,
-                    coin_len,
-                    seed,
+                    times: GivenTimes { hold, short, long },
+                    coins: GivenCoins {
+                        word: coin_word,
+                        len: coin_len,
+                        seed,
+                    },
                     packed,
                 };
                 self.declare(alloc, line)
