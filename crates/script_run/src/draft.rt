@@ -7,8 +7,8 @@ ghost use Rattle.phy_machine.specs.PowerOn.{IsSpec, node_of_spec};
 ghost use Rattle.cable_world.specs.World.{IsNodeAtPowerOn};
 ghost use Rattle.script_told.specs.Bus.{bus_of_nodes, first_bank, is_declared};
 ghost use Rattle.script_told.specs.Script.{Declares, first_draft, with_node, times_of, coins_of};
-ghost use Rattle.script_bus.specs.Running.{bus_now, IsSound};
-ghost use Rattle.script_run.specs.codings.Declaring.{IsDraft, IsLine, IsDeclared, DeclaresNode, StopsAt, draft_now, node_said};
+ghost use Rattle.script_bus.specs.Running.{bus_now, IsSound, Stops};
+ghost use Rattle.script_run.specs.codings.Declaring.{IsDraft, IsLine, IsDeclared, DeclaresNode, draft_now, node_said};
 
 use cable_world::WorldRun;
 use phy_machine::{AnyMachine, FieldMachine, NodeSpec, PackedMachine};
@@ -183,7 +183,7 @@ impl Draft {
         ensures few { OnOk result (nat_lt 62 (length self.now.names) ≡ false) }
         ensures new { OnOk result (is_declared self.now.names name.now ≡ false) }
         ensures stop { (node : ℕ → ℕ → PortNode)
-            → IfErr result (StopsAt (Declares (Some (draft_now self.now)) name.now node)) }
+            → IfErr result (Stops (Declares (Some (draft_now self.now)) name.now node)) }
     {
         if self.machines.len() >= MAX_NODES {
             return Err(LineStop::Fault(Kind::TooManyNodes));
@@ -223,7 +223,7 @@ impl Draft {
         requires sound { IsDraft self }
         requires line { IsLine self.delay node }
         ensures done { IfOk result (IsDeclared self node) }
-        ensures stop { IfErr result (StopsAt (DeclaresNode self node)) }
+        ensures stop { IfErr result (Stops (DeclaresNode self node)) }
         ensures sound { IfOk result IsDraft }
     {
         self.check(&node.name)?;

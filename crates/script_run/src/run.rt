@@ -2,8 +2,8 @@
 ghost use Rattle.std.specs.Prelude.{◌≡◌, ◌≤◌, ◌<◌, ◌∷◌, ◌++◌, [], ℕ, List, Some, None, Ok, Err, IfOk, IfErr, OnOk, length};
 ghost use Rattle.script_lines.specs.Range.{IsInRange};
 ghost use Rattle.script_told.specs.Script.{Declares, Delays, Follows, Runs, bus_of, delay_of, draft_of};
-ghost use Rattle.script_bus.specs.Running.{bus_now, IsSound};
-ghost use Rattle.script_run.specs.codings.Declaring.{IsDraft, IsLine, StopsAt, draft_now, node_said};
+ghost use Rattle.script_bus.specs.Running.{bus_now, IsSound, Stops};
+ghost use Rattle.script_run.specs.codings.Declaring.{IsDraft, IsLine, draft_now, node_said};
 ghost use Rattle.script_run.specs.codings.Going.{stage_now, IsSoundStage};
 ghost use Rattle.script_run.specs.codings.Tracing.{HearsAt};
 
@@ -97,7 +97,7 @@ impl Stage<AgendaWorld<AnyMachine>> {
             Declares (draft_of (stage_now ⟦<AgendaWorld<AnyMachine> as WorldRun>⟧.world self.old))
             line.name (node_said line)
             (Ok (stage_now ⟦<AgendaWorld<AnyMachine> as WorldRun>⟧.world self.new, text.items))) }
-        ensures stop { IfErr result (StopsAt
+        ensures stop { IfErr result (Stops
             (Declares (draft_of (stage_now ⟦<AgendaWorld<AnyMachine> as WorldRun>⟧.world self.old))
             line.name (node_said line))) }
         ensures sound { IsSoundStage ⟦<AgendaWorld<AnyMachine> as WorldRun>⟧.world
@@ -127,7 +127,7 @@ impl Stage<AgendaWorld<AnyMachine>> {
             (stage_now ⟦<AgendaWorld<AnyMachine> as WorldRun>⟧.world self.old) command.now
             (stage_now ⟦<AgendaWorld<AnyMachine> as WorldRun>⟧.world self.new)
             (L.written listener.old) (L.written listener.new)) }
-        ensures stop { IfErr result (StopsAt
+        ensures stop { IfErr result (Stops
             (Runs (stage_now ⟦<AgendaWorld<AnyMachine> as WorldRun>⟧.world self.old)
             command.now)) }
         ensures sound { IsSoundStage ⟦<AgendaWorld<AnyMachine> as WorldRun>⟧.world
@@ -157,7 +157,7 @@ impl Stage<AgendaWorld<AnyMachine>> {
             (stage_now ⟦<AgendaWorld<AnyMachine> as WorldRun>⟧.world self.old) command.now
             (stage_now ⟦<AgendaWorld<AnyMachine> as WorldRun>⟧.world self.new)
             (L.written listener.old) (L.written listener.new)) }
-        ensures stop { IfErr result (StopsAt
+        ensures stop { IfErr result (Stops
             (Runs (stage_now ⟦<AgendaWorld<AnyMachine> as WorldRun>⟧.world self.old)
             command.now)) }
         ensures sound { IsSoundStage ⟦<AgendaWorld<AnyMachine> as WorldRun>⟧.world
@@ -184,7 +184,7 @@ impl Stage<AgendaWorld<AnyMachine>> {
         ensures done { IfOk result (λ text.
             Delays (stage_now ⟦<AgendaWorld<AnyMachine> as WorldRun>⟧.world self.old) delay
             (Ok (stage_now ⟦<AgendaWorld<AnyMachine> as WorldRun>⟧.world self.new, text.items))) }
-        ensures stop { IfErr result (StopsAt
+        ensures stop { IfErr result (Stops
             (Delays (stage_now ⟦<AgendaWorld<AnyMachine> as WorldRun>⟧.world self.old) delay)) }
         ensures sound { IsSoundStage ⟦<AgendaWorld<AnyMachine> as WorldRun>⟧.world
             ⟦<AgendaWorld<AnyMachine> as WorldRun>⟧.is_spent self.new }
@@ -217,7 +217,7 @@ impl Stage<AgendaWorld<AnyMachine>> {
             (stage_now ⟦<AgendaWorld<AnyMachine> as WorldRun>⟧.world self.old) command
             (stage_now ⟦<AgendaWorld<AnyMachine> as WorldRun>⟧.world self.new)
             (L.written listener.old) (L.written listener.new)) }
-        ensures stop { IfErr result (StopsAt
+        ensures stop { IfErr result (Stops
             (Follows (stage_now ⟦<AgendaWorld<AnyMachine> as WorldRun>⟧.world self.old) command)) }
         ensures sound { IsSoundStage ⟦<AgendaWorld<AnyMachine> as WorldRun>⟧.world
             ⟦<AgendaWorld<AnyMachine> as WorldRun>⟧.is_spent self.new }

@@ -3,8 +3,6 @@ use Rattle.std.specs.Prelude.{◌≡◌, ℕ, ◌≤◌, All, false, length, map
 use Rattle.phy_machine.specs.Any.{any_node}
 use Rattle.port_state.specs.Machine.{PortNode}
 use Rattle.cable_world.specs.World.{IsNodeAtPowerOn}
-use Rattle.script_lines.specs.declared.kind.LineStop.{LineStop}
-use Rattle.script_lines.specs.declared.kind.LineStop.TheVariants.{Fault, Memory}
 use Rattle.script_run.specs.declared.draft.Draft as kept
 use Rattle.script_run.specs.declared.draft.NodeLine.{NodeLine}
 use Rattle.script_lines.specs.Range.{IsNodeInRange}
@@ -38,11 +36,6 @@ node_said node d number =
     new_node node.attrs node.ports node.force
     (times_of d node.times.hold node.times.short node.times.long)
     (coins_of number node.coins.word node.coins.len node.coins.seed)
-
--- a fault is what the line comes to at a stage
-abbrev pub StopsAt : (StageAnswer → Type 0) → LineStop → Type 0
-StopsAt comes (Fault kind) = comes (Err kind)
-StopsAt comes (Memory none) = Unit {0}
 
 -- what comes of a line that declares a node
 abbrev pub DeclaresNode : kept.Draft → NodeLine → StageAnswer → Type 0
