@@ -13,7 +13,8 @@ use std::alloc::Global;
 use topology_stack::{Name, OutOfMemory};
 
 /// Hears the acts, the holds and the turns of a bus, and may write them down, a line for each thing
-/// that happens. `names` has the names of the nodes, 63 at most.
+/// that happens, as `script_trace` has it. `names` has the name of each node by its number, 63 at
+/// most. Each call fails for want of memory alone.
 pub trait Listener {
     // what it has written
     ghost written: { Self → List ℕ };
@@ -21,12 +22,12 @@ pub trait Listener {
     // whether it writes
     ghost writes: { Bool };
 
-    /// An act or a hold comes, in the words of its line.
+    /// An act or a hold comes, once `turn` turns are done.
     fn command(&mut self, turn: u32, command: &Command) -> Result<(), OutOfMemory>
         ensures { OnOk result (written self.new
             ≡ written self.old ++ heard writes (command_line turn command.now)) };
 
-    /// What the nodes show before an act, if it writes.
+    /// What so many nodes, all of them, show before an act, if it writes.
     fn before_act<W: WorldRun>(
         &self,
         alloc: Global,
@@ -38,7 +39,7 @@ pub trait Listener {
         ensures { IfOk result (λ seen. IsTrue writes → seen.items
             ≡ seen_before_act (W.world world.now) 0 (W.world world.now).nodes) };
 
-    /// An act was done, before which the nodes showed this.
+    /// An act was done, before which the nodes showed `seen`.
     fn after_act<W: WorldRun>(
         &mut self,
         names: &[Name],
@@ -69,7 +70,7 @@ pub trait Listener {
         ensures fine { OnOk result (IsFalse (W.is_spent world.new)) };
 }
 
-/// Nobody listens.
+/// Writes nothing, and passes over turns in which nothing happens where the world does.
 #[derive(Clone, Copy, Drop)]
 pub struct Silent;
 
