@@ -1,6 +1,6 @@
 -- What is heard of commands.
 use Rattle.std.proofs.Common.{◌≡◌, ◌++◌, ◌+◌, ◌≤◌, ℕ, List, [], length, Bool, true, false, Option, Some, None, refl, sym, ◌∙◌, ap, subst, arith}
-use Rattle.std.specs.Prelude.{Ok, Err, Any, IfSome, IsTrue, MatchBool, nat_lt}
+use Rattle.std.specs.Prelude.{Result, Ok, Err, OnOk, Any, IfSome, IsTrue, MatchBool, nat_lt}
 use Rattle.std.proofs.lemmas.List.{append-nil, append_assoc, length-replicate}
 use Rattle.cable_world.specs.World.{CableWorld}
 use Rattle.cable_world.specs.Turn.{turns_after}
@@ -107,7 +107,7 @@ hold-hears writes bus after command out new turn hold at is = record {
   written = is ∙ ap (λ (t : ℕ). out ++ heard writes (command_line t command)) at;
 }
 
-pub question-hears :
+question-hears :
     (writes : Bool) (bus after : Bus) (command : Command) (out : List ℕ) → IsQuestion command →
     Hears writes bus command after out out
 question-hears writes bus after command out asks = record {
@@ -115,6 +115,12 @@ question-hears writes bus after command out asks = record {
   traces = no-lines bus after command asks;
   written = none-heard writes out;
 }
+
+pub asked-hears :
+    {A E : Type 0} → (answer : Result A E) (writes : Bool) (bus after : Bus) (command : Command)
+    (out : List ℕ) → IsQuestion command → OnOk answer (Hears writes bus command after out out)
+asked-hears (Ok x) writes bus after command out asks = question-hears writes bus after command out asks
+asked-hears (Err e) writes bus after command out asks = tt
 
 -- ---- reports
 
