@@ -1,4 +1,4 @@
 pub mod Running
 pub mod SomeRun
-pub mod Tracing
+pub mod Heard
 pub mod codings

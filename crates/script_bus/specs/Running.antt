@@ -1,6 +1,7 @@
 -- The bus of a script as the code keeps it.
-use Rattle.std.specs.Prelude.{◌≡◌, ℕ, ◌≤◌, List, length, Some, Err, IfSome, IsFalse, Bool}
+use Rattle.std.specs.Prelude.{◌≡◌, ℕ, ◌≤◌, List, length, Some, Result, Err, IfSome, IsFalse, Bool}
 use Rattle.cable_world.specs.World.{CableWorld}
+use Rattle.script_lines.specs.declared.kind.Kind.{Kind}
 use Rattle.script_lines.specs.declared.kind.LineStop.{LineStop}
 use Rattle.script_lines.specs.declared.kind.LineStop.TheVariants.{Fault, Memory}
 use Rattle.script_bus.specs.declared.bus.Notes as kept
@@ -47,8 +48,8 @@ pub record IsSound {W : Type 0} (world : W → CableWorld) (spent : W → Bool) 
   pub bus : IsBus (bus_now world b)
   pub fine : IsFalse (spent b.world)
 
--- a fault is what the line comes to
-abbrev pub Stops : (LineAnswer → Type 0) → LineStop → Type 0
+-- a stop for a fault is what comes of a line
+abbrev pub Stops : {A : Type 0} → (Result A Kind → Type 0) → LineStop → Type 0
 Stops comes (Fault kind) = comes (Err kind)
 Stops comes (Memory none) = Unit {0}
 

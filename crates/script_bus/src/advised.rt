@@ -9,6 +9,7 @@ ghost use Rattle.script_advice.specs.Advising.{ArePullable};
 ghost use Rattle.script_bus.specs.Running.{bus_now, IsSound, Stops};
 
 use crate::bus::Bus;
+use crate::listener::Silent;
 use cable_world::{Act, WorldRun};
 use cabling::{Cable, End};
 use script_advice::{LoopAdvice, advice_text, advices};
@@ -83,7 +84,7 @@ impl<W: WorldRun> Bus<W> {
         let advices = self.advices(alloc)?;
         let mut text = advice_text(alloc, self.notes.names.list().as_slice(), &advices)?;
         self.pull_all(alloc, &advices)?;
-        match self.settle(alloc) {
+        match self.settle(alloc, &mut Silent) {
             Ok(report) => {
                 text.extend_from_slice(report.as_slice())?;
                 Ok(text)

@@ -1,12 +1,11 @@
-//! The bus of a script: acts, turns and reports.
+//! The bus of a script: what is kept of it, acts and holds.
 ghost use Rattle.std.specs.Prelude.{◌≡◌, ◌<◌, ◌≤◌, ◌+◌, ◌==◌, nat_lt, true, false, [], Some, None, Ok, IfOk, IfErr, IfSome, OnOk, length};
 ghost use Rattle.std.specs.Int.{bit_at};
 ghost use Rattle.std.specs.Option.{option_copied, option_map, ok_or};
 ghost use Rattle.cable_world.specs.Act.{IsAct};
 ghost use Rattle.script_text.specs.ReportText.{IsNamedTree, IsNamedReport};
 ghost use Rattle.script_told.specs.Bus.{node_named, part_with, tree_with};
-ghost use Rattle.script_told.specs.Bus as shown;
-ghost use Rattle.script_told.specs.Step.{Acts, Holds, Turns, Settles, end_of, notes_after_act};
+ghost use Rattle.script_told.specs.Step.{Acts, Holds, end_of, notes_after_act};
 ghost use Rattle.script_bus.specs.Running.{notes_now, bus_now, IsSound, Stops, reported};
 
 use crate::bank::Bank;
@@ -15,10 +14,9 @@ use cable_world::{Act, WorldRun};
 use cabling::{End, Walk};
 use resource_manager::Seen;
 use script_lines::{Kind, LineStop};
-use script_text::{report_text, reports_can_be_shown};
-use settle::{Outcome, Part, Report, quiet_turns, settle};
+use settle::{Outcome, Part, Report};
 use std::alloc::Global;
-use topology_stack::{Name, OutOfMemory};
+use topology_stack::Name;
 
 /// The number of turns of a script, at most.
 const MAX_TURNS: u32 = 2_000_000;
@@ -174,50 +172,5 @@ impl<W: WorldRun> Bus<W> {
             return Err(LineStop::Fault(Kind::TooManyTurns));
         }
         Ok(())
-    }
-
-    /// Does so many turns.
-    pub(crate) fn turn(&mut self, alloc: Global, count: u32) -> Result<Vec<u8>, LineStop>
-        requires sound { IsSound W.world W.is_spent self.old }
-        ensures done { IfOk result (λ text. Turns (bus_now W.world self.old) count
-            (Ok (bus_now W.world self.new, text.items))) }
-        ensures stop { IfErr result (Stops (Turns (bus_now W.world self.old) count)) }
-        ensures sound { OnOk result (IsSound W.world W.is_spent self.new) }
-    {
-        self.check_turns(count)?;
-        self.world.run_turns(count)?;
-        Ok(Vec::new(alloc))
-    }
-
-    /// Does the quiet turns, and answers the text of the report, whose number is the next one.
-    /// `TooManyTurns` comes where they would pass 2,000,000 turns.
-    pub fn settle(&mut self, alloc: Global) -> Result<Vec<u8>, LineStop>
-        requires sound { IsSound W.world W.is_spent self.old }
-        ensures done { IfOk result (λ text. Settles (bus_now W.world self.old)
-            (Ok (bus_now W.world self.new, text.items))) }
-        ensures stop { IfErr result (Stops (Settles (bus_now W.world self.old))) }
-        ensures sound { OnOk result (IsSound W.world W.is_spent self.new) }
-    {
-        let quiet = quiet_turns(self.world.cabling().nodes(), self.world.delay());
-        self.check_turns(quiet)?;
-        let report = settle(alloc, &mut self.world)?;
-        reports_can_be_shown(&self.world);
-        self.notes.reports += 1;
-        let text = report_text(alloc, &report, self.notes.reports, self.notes.names.list())?;
-        self.notes.report = Some(report);
-        Ok(text)
-    }
-}
-
-impl<W: WorldRun + Drop> Bus<W> {
-    /// Settles and reports, as `settle` does, for the last time.
-    pub fn last_report(mut self, alloc: Global) -> Result<Vec<u8>, LineStop>
-        requires sound { IsSound W.world W.is_spent self }
-        ensures done { IfOk result (λ text. (after : shown.Bus)
-            × Settles (bus_now W.world self) (Ok (after, text.items))) }
-        ensures stop { IfErr result (Stops (Settles (bus_now W.world self))) }
-    {
-        let text = self.settle(alloc)?;
-        Ok(text)
     }
 }

@@ -1,5 +1,5 @@
 //! The bus of a script: acts, turns and reports, questions to the manager of a tree, plans, the cables
-//! that are pulled by an advice, and commands that are traced.
+//! that are pulled by an advice. A listener hears what happens, and may write it down.
 //!
 //! What each command does stands in `script_told`, and what is printed in `script_text`. `script_run`
 //! goes from line to line.
@@ -9,13 +9,15 @@ mod advised;
 mod bank;
 mod bus;
 mod laws;
+mod listener;
 mod managed;
 mod planned;
 mod steps;
 mod table;
-mod traced;
+mod turns;
 
 pub use bank::Bank;
 pub use bus::{Bus, Notes};
 pub use laws::{each_plan_comes_out, each_script_has_a_run, plans_have_answers};
+pub use listener::{Listener, Silent};
 pub use table::NameTable;

@@ -1,7 +1,8 @@
 //! The plan of a bus manager, and how it is carried out.
-ghost use Rattle.std.specs.Prelude.{◌≡◌, ◌<◌, ◌+◌, ◌++◌, ◌==◌, ℕ, All, nat_lt, true, false, Some, None, Ok, IfOk, IfErr, OnOk, length};
+ghost use Rattle.std.specs.Prelude.{◌≡◌, ◌<◌, ◌+◌, ◌++◌, ◌==◌, ℕ, All, nat_lt, true, false, Some, None, Ok, IfOk, IfErr, OnOk, IsFalse, length};
 ghost use Rattle.topology_stack.specs.Elect.{elected};
 ghost use Rattle.cabling.specs.Walk.{IsWalk};
+ghost use Rattle.cable_world.specs.Unchanged.{TurnsPass};
 ghost use Rattle.settle.specs.Report.{quiet_turns_of};
 ghost use Rattle.settle_plan.specs.Planned.{SuitsTree, HasId};
 ghost use Rattle.script_told.specs.Bus.{tree_with, values_at};
@@ -9,20 +10,21 @@ ghost use Rattle.script_text.specs.Plan.{IsPlan, all_in, plan_numbers, plan_node
 ghost use Rattle.script_text.specs.ReportText.{IsNamedTree};
 ghost use Rattle.script_told.specs.Step.{Does, HasManager, node_with};
 ghost use Rattle.script_bus.specs.Running.{bus_now, notes_now, IsSound, Stops, reported};
-ghost use Rattle.script_bus.specs.codings.Standing.{StandsAs, IsPlanned, IsSent};
+ghost use Rattle.script_bus.specs.Heard.{Hears};
+ghost use Rattle.script_bus.specs.codings.Standing.{StandsAs, IsPlanned, IsPacketSent, IsSentHeard};
 ghost use Rattle.script_lines.specs.declared.command.Command.TheVariants as command;
 
 use crate::bus::{Bus, Reported};
+use crate::listener::Listener;
 use crate::managed::Asked;
-use cable_world::WorldRun;
+use cable_world::{Act, ActStop, WorldRun, acts_keep};
 use cabling::Walk;
 use outcomes::trees_stay;
 use resource_manager::Register;
 use root_plan::{RootPlan, choose, expect};
-use script_lines::{Kind, LineStop};
-use script_text::{plan_line, report_text, reports_can_be_shown, tree_of};
-use settle::quiet_turns;
-use settle_plan::{plans_suit, settle_plan};
+use script_lines::{Command, Kind, LineStop};
+use script_text::{plan_line, tree_of};
+use settle_plan::{plans_come_out, plans_suit};
 use std::alloc::Global;
 use topology_stack::{BusTree, Name, OutOfMemory, one_tree};
 
@@ -61,19 +63,6 @@ impl<W: WorldRun> Bus<W> {
             return Err(LineStop::Fault(Kind::NotManager));
         }
         Ok(())
-    }
-
-    /// Fails where the quiet turns pass the limit.
-    pub(crate) fn check_quiet_turns(&self) -> Result<(), LineStop>
-        requires { IsSound W.world W.is_spent self.now }
-        ensures within { OnOk result (nat_lt 2000000 ((W.world self.now.world).turns
-            + quiet_turns_of (W.world self.now.world)) ≡ false) }
-        ensures past { IfErr result (λ stop. (stop ≡ LineStop.Fault Kind.TooManyTurns)
-            × (nat_lt 2000000 ((W.world self.now.world).turns
-            + quiet_turns_of (W.world self.now.world)) ≡ true)) }
-    {
-        let quiet = quiet_turns(self.world.cabling().nodes(), self.world.delay());
-        self.check_turns(quiet)
     }
 
     /// The component of a node stands as the tree that was reported.
@@ -135,36 +124,87 @@ impl<W: WorldRun> Bus<W> {
         Ok(Planned { plan, line })
     }
 
-    /// A node sends the packet of a plan, and the bus settles and is reported.
-    fn carry_out(
+    /// A node sends the packet of a plan, which a listener hears as a `config`.
+    fn send<L: Listener>(
         &mut self,
         alloc: Global,
+        name: &Name,
         node: u8,
         plan: &RootPlan,
+        listener: &mut L,
+    ) -> Result<(), OutOfMemory>
+        requires sound { IsSound W.world W.is_spent self.old }
+        requires suits { SuitsTree (W.world self.old.world) node plan.now }
+        ensures sent { OnOk result (IsPacketSent L.writes (bus_now W.world self.old) name.now node
+            plan.now (bus_now W.world self.new) (L.written listener.old) (L.written listener.new)) }
+        ensures passed { OnOk result (TurnsPass 0 (W.world self.old.world) (W.world self.new.world)) }
+        ensures fine { OnOk result (IsFalse (W.is_spent self.new.world)) }
+    {
+        // the component, whose nodes are at most 63
+        let _component = self.world.cabling().component(node);
+        let nodes = self.notes.names.list().as_slice().len();
+        let seen = listener.before_act(alloc, &self.world, nodes)?;
+        let packet = Command::Config {
+            name: name.clone()?,
+            root_id: Some(plan.root_id),
+            gap: Some(plan.gap),
+        };
+        listener.command(self.world.turns(), &packet)?;
+        let act = Act::Config {
+            from: node,
+            root_id: plan.root_id,
+            force: true,
+            gap: Some(plan.gap),
+        };
+        match self.world.act(&act) {
+            Ok(()) => {}
+            Err(ActStop::Memory(error)) => return Err(error),
+            Err(ActStop::Fault(_)) => unreachable!(),
+        }
+        self.notes.drop_after_act();
+        listener.after_act(self.notes.names.list().as_slice(), &seen, &self.world)?;
+        Ok(())
+    }
+
+    /// A node sends the packet of a plan, and the bus settles and is reported.
+    fn carry_out<L: Listener>(
+        &mut self,
+        alloc: Global,
+        name: &Name,
+        node: u8,
+        plan: &RootPlan,
+        listener: &mut L,
     ) -> Result<Vec<u8>, OutOfMemory>
         requires sound { IsSound W.world W.is_spent self.old }
-        requires there { node < length (W.world self.old.world).nodes }
         requires suits { SuitsTree (W.world self.old.world) node plan.now }
         requires within { nat_lt 2000000 ((W.world self.old.world).turns
             + quiet_turns_of (W.world self.old.world)) ≡ false }
-        ensures sent { IfOk result (λ text. IsSent (bus_now W.world self.old) node plan.now
-            (bus_now W.world self.new) text.items) }
+        ensures sent { IfOk result (λ text. IsSentHeard L.writes (bus_now W.world self.old) name.now
+            node plan.now (bus_now W.world self.new) text.items
+            (L.written listener.old) (L.written listener.new)) }
         ensures sound { OnOk result (IsSound W.world W.is_spent self.new) }
     {
-        let report = settle_plan(alloc, &mut self.world, node, plan)?;
-        self.notes.drop_after_act();
-        reports_can_be_shown(&self.world);
-        self.notes.reports += 1;
-        let text = report_text(alloc, &report, self.notes.reports, self.notes.names.list())?;
-        self.notes.report = Some(report);
+        acts_keep();
+        plans_come_out(&self.world, node);
+        self.send(alloc, name, node, plan, listener)?;
+        self.pass(alloc, listener)?;
+        let text = self.report(alloc)?;
         Ok(text)
     }
 
     /// `plan NAME`
-    pub(crate) fn plan(&mut self, alloc: Global, name: &Name) -> Result<Vec<u8>, LineStop>
+    pub(crate) fn plan<L: Listener>(
+        &mut self,
+        alloc: Global,
+        name: &Name,
+        listener: &mut L,
+    ) -> Result<Vec<u8>, LineStop>
         requires sound { IsSound W.world W.is_spent self.old }
         ensures done { IfOk result (λ text. Does (bus_now W.world self.old)
             (command.Plan name.now) (Ok (bus_now W.world self.new, text.items))) }
+        ensures heard { OnOk result (Hears L.writes (bus_now W.world self.old)
+            (command.Plan name.now) (bus_now W.world self.new)
+            (L.written listener.old) (L.written listener.new)) }
         ensures stop { IfErr result (Stops
             (Does (bus_now W.world self.old) (command.Plan name.now))) }
         ensures sound { OnOk result (IsSound W.world W.is_spent self.new) }
@@ -174,7 +214,7 @@ impl<W: WorldRun> Bus<W> {
         self.check_quiet_turns()?;
         let tree = self.notes.tree(asked.node)?;
         let planned = self.planned(alloc, name, asked.node, tree)?;
-        let report = self.carry_out(alloc, asked.node, &planned.plan)?;
+        let report = self.carry_out(alloc, name, asked.node, &planned.plan, listener)?;
         let mut text = planned.line;
         text.extend_from_slice(report.as_slice())?;
         Ok(text)

@@ -4,9 +4,12 @@ ghost use Rattle.script_told.specs.Bus.{resets_of};
 ghost use Rattle.script_told.specs.Step.{Does, after_maps};
 ghost use Rattle.script_lines.specs.Range.{IsInRange};
 ghost use Rattle.script_bus.specs.Running.{bus_now, IsSound, AsksManager, Stops};
+ghost use Rattle.script_bus.specs.Heard.{Hears};
+ghost use Rattle.script_bus.specs.codings.Standing.{IsActCommand, IsHoldCommand, IsQuestion};
 ghost use Rattle.script_lines.specs.declared.command.Command.TheVariants as command;
 
 use crate::bus::{Bus, end_of};
+use crate::listener::Listener;
 use cable_world::{Act, WorldRun};
 use resource_manager::Access;
 use script_lines::{Command, Kind, LineStop};
@@ -209,12 +212,11 @@ impl<W: WorldRun> Bus<W> {
         }
     }
 
-    /// Does a command, whose numbers are in range where a cable delays by at most `d` turns, and
-    /// answers what it prints. A command that is at fault leaves no bus to go on with; `node` and
-    /// `delay` are `Late`.
-    pub fn command(&mut self, alloc: Global, d: u8, command: &Command) -> Result<Vec<u8>, LineStop>
+    /// A command in which nothing happens to the world.
+    fn ask(&mut self, alloc: Global, d: u8, command: &Command) -> Result<Vec<u8>, LineStop>
         requires sound { IsSound W.world W.is_spent self.old }
         requires range { IsInRange d command.now }
+        requires asks { IsQuestion command.now }
         ensures done { IfOk result (λ text. Does (bus_now W.world self.old) command.now
             (Ok (bus_now W.world self.new, text.items))) }
         ensures stop { IfErr result (Stops (Does (bus_now W.world self.old) command.now)) }
@@ -222,19 +224,6 @@ impl<W: WorldRun> Bus<W> {
     {
         match command {
             Command::Node { .. } | Command::Delay { .. } => Err(LineStop::Fault(Kind::Late)),
-            Command::Plug {
-                a,
-                a_port,
-                b,
-                b_port,
-            } => self.plug(alloc, a, *a_port, b, *b_port),
-            Command::Pull { name, port } => self.pull(alloc, name, *port),
-            Command::Reset { name } => self.reset(alloc, name),
-            Command::Turn { count } => self.turn(alloc, *count),
-            Command::Hold { name, port, turns } => self.hold_wire(alloc, name, *port, *turns),
-            Command::Settle => self.settle(alloc),
-            Command::Config { name, root_id, gap } => self.config(alloc, name, *root_id, *gap),
-            Command::Plan { name } => self.plan(alloc, name),
             Command::Maps { name } => self.maps(alloc, name),
             Command::CsrRead { .. }
             | Command::CsrWrite { .. }
@@ -243,6 +232,121 @@ impl<W: WorldRun> Bus<W> {
             | Command::Allocate { .. }
             | Command::Release { .. }
             | Command::Manager { .. } => self.question(alloc, d, command),
+            _ => unreachable!(),
+        }
+    }
+
+    /// An act in a script's words.
+    fn act_said(&mut self, alloc: Global, d: u8, command: &Command) -> Result<Vec<u8>, LineStop>
+        requires sound { IsSound W.world W.is_spent self.old }
+        requires range { IsInRange d command.now }
+        requires act { IsActCommand command.now }
+        ensures done { IfOk result (λ text. Does (bus_now W.world self.old) command.now
+            (Ok (bus_now W.world self.new, text.items))) }
+        ensures stop { IfErr result (Stops (Does (bus_now W.world self.old) command.now)) }
+        ensures sound { OnOk result (IsSound W.world W.is_spent self.new) }
+    {
+        match command {
+            Command::Plug {
+                a,
+                a_port,
+                b,
+                b_port,
+            } => self.plug(alloc, a, *a_port, b, *b_port),
+            Command::Pull { name, port } => self.pull(alloc, name, *port),
+            Command::Reset { name } => self.reset(alloc, name),
+            Command::Config { name, root_id, gap } => self.config(alloc, name, *root_id, *gap),
+            _ => unreachable!(),
+        }
+    }
+
+    /// An act, which a listener hears.
+    fn act_heard<L: Listener>(
+        &mut self,
+        alloc: Global,
+        d: u8,
+        command: &Command,
+        listener: &mut L,
+    ) -> Result<Vec<u8>, LineStop>
+        requires sound { IsSound W.world W.is_spent self.old }
+        requires range { IsInRange d command.now }
+        requires act { IsActCommand command.now }
+        ensures done { IfOk result (λ text. Does (bus_now W.world self.old) command.now
+            (Ok (bus_now W.world self.new, text.items))) }
+        ensures heard { OnOk result (Hears L.writes (bus_now W.world self.old) command.now
+            (bus_now W.world self.new) (L.written listener.old) (L.written listener.new)) }
+        ensures stop { IfErr result (Stops (Does (bus_now W.world self.old) command.now)) }
+        ensures sound { OnOk result (IsSound W.world W.is_spent self.new) }
+    {
+        let nodes = self.notes.names.list().as_slice().len();
+        let seen = listener.before_act(alloc, &self.world, nodes)?;
+        listener.command(self.world.turns(), command)?;
+        let text = self.act_said(alloc, d, command)?;
+        listener.after_act(self.notes.names.list().as_slice(), &seen, &self.world)?;
+        Ok(text)
+    }
+
+    /// A hold, which a listener hears.
+    fn hold_heard<L: Listener>(
+        &mut self,
+        alloc: Global,
+        command: &Command,
+        listener: &mut L,
+    ) -> Result<Vec<u8>, LineStop>
+        requires sound { IsSound W.world W.is_spent self.old }
+        requires hold { IsHoldCommand command.now }
+        ensures done { IfOk result (λ text. Does (bus_now W.world self.old) command.now
+            (Ok (bus_now W.world self.new, text.items))) }
+        ensures heard { OnOk result (Hears L.writes (bus_now W.world self.old) command.now
+            (bus_now W.world self.new) (L.written listener.old) (L.written listener.new)) }
+        ensures stop { IfErr result (Stops (Does (bus_now W.world self.old) command.now)) }
+        ensures sound { OnOk result (IsSound W.world W.is_spent self.new) }
+    {
+        listener.command(self.world.turns(), command)?;
+        match command {
+            Command::Hold { name, port, turns } => self.hold_wire(alloc, name, *port, *turns),
+            _ => unreachable!(),
+        }
+    }
+
+    /// Does a command, whose numbers are in range where a cable delays by at most `d` turns, and
+    /// answers what it prints. The listener hears what happens in it. A command that is at fault
+    /// leaves no bus to go on with; `node` and `delay` are `Late`.
+    pub fn command<L: Listener>(
+        &mut self,
+        alloc: Global,
+        d: u8,
+        command: &Command,
+        listener: &mut L,
+    ) -> Result<Vec<u8>, LineStop>
+        requires sound { IsSound W.world W.is_spent self.old }
+        requires range { IsInRange d command.now }
+        ensures done { IfOk result (λ text. Does (bus_now W.world self.old) command.now
+            (Ok (bus_now W.world self.new, text.items))) }
+        ensures heard { OnOk result (Hears L.writes (bus_now W.world self.old) command.now
+            (bus_now W.world self.new) (L.written listener.old) (L.written listener.new)) }
+        ensures stop { IfErr result (Stops (Does (bus_now W.world self.old) command.now)) }
+        ensures sound { OnOk result (IsSound W.world W.is_spent self.new) }
+    {
+        match command {
+            Command::Plug { .. }
+            | Command::Pull { .. }
+            | Command::Reset { .. }
+            | Command::Config { .. } => self.act_heard(alloc, d, command, listener),
+            Command::Hold { .. } => self.hold_heard(alloc, command, listener),
+            Command::Turn { count } => self.turn(alloc, *count, listener),
+            Command::Settle => self.settle(alloc, listener),
+            Command::Plan { name } => self.plan(alloc, name, listener),
+            Command::Node { .. }
+            | Command::Delay { .. }
+            | Command::Maps { .. }
+            | Command::CsrRead { .. }
+            | Command::CsrWrite { .. }
+            | Command::CsrLock { .. }
+            | Command::Look { .. }
+            | Command::Allocate { .. }
+            | Command::Release { .. }
+            | Command::Manager { .. } => self.ask(alloc, d, command),
         }
     }
 }

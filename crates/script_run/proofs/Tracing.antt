@@ -1,9 +1,9 @@
 -- The lines that were traced, and those that are left.
-use Rattle.std.proofs.Common.{◌≡◌, inl, inr, Bool, Option, ℕ, ◌+◌, List, [], ◌∷◌, ◌++◌, append_assoc, refl, sym, ap, subst, ◌∙◌}
-use Rattle.std.specs.Prelude.{None, Some, Ok, Err, OnOk, IfErr, Result}
+use Rattle.std.proofs.Common.{◌≡◌, inl, inr, Bool, true, Option, ℕ, ◌+◌, List, [], ◌∷◌, ◌++◌, append_assoc, refl, sym, ap, subst, ◌∙◌}
+use Rattle.std.specs.Prelude.{None, Some, Ok, Err}
 use Rattle.std.proofs.lemmas.List.{append-nil}
 use Rattle.script_lines.specs.declared.command.Command.{Command}
-use Rattle.script_lines.specs.declared.command.Command.TheVariants.{Node, Delay, Settle}
+use Rattle.script_lines.specs.declared.command.Command.TheVariants as command
 use Rattle.script_lines.specs.declared.kind.Kind.{Kind}
 use Rattle.script_lines.specs.declared.kind.LineStop.{LineStop}
 use Rattle.script_lines.specs.declared.kind.LineStop.TheVariants.{Fault, Memory}
@@ -11,16 +11,16 @@ use Rattle.script_lines.specs.declared.kind.ScriptStop.{ScriptStop}
 use Rattle.script_lines.specs.declared.kind.ScriptStop.TheVariants as script
 use Rattle.script_told.specs.Bus.{Bus}
 use Rattle.script_told.specs.Step.{Settles}
-use Rattle.script_told.specs.Script.{Stage, StageAnswer, fresh, running, Runs, Follows, bus_of, script_lines}
+use Rattle.script_told.specs.Script.{Stage, fresh, running, declaring, bus_of, script_lines}
 use Rattle.script_told.specs.Run.{Entry, done, stopped, behind, last_run, RunsFrom}
 use Rattle.script_trace.specs.Trace.{TracesAt, AllTrace, IsTrace}
 use Rattle.script_trace.specs.OneTrace.{TraceFaultsAreTold}
 use Rattle.script_bus.specs.Running.{Stops}
-use Rattle.script_bus.specs.Tracing.{SettlesTraced}
+use Rattle.script_bus.specs.Heard.{Hears}
+use Rattle.script_bus.proofs.Hearing.{none-heard}
 use Rattle.script_run.specs.Answered.{StopsWith, IsRefused}
 use Rattle.script_run.specs.codings.Going.{LineFails, IfFault, Went, stop_at}
-use Rattle.script_run.specs.codings.Declaring.{StopsAt}
-use Rattle.script_run.specs.codings.Tracing.{RunsTraced, FollowsTraced, LineTraces, HaveTraced}
+use Rattle.script_run.specs.codings.Tracing.{HearsAt, LineTraces, HaveTraced}
 use Rattle.script_run.proofs.Going.{went-first, went-on, line-fails, run-ends}
 
 all-traced :
@@ -94,17 +94,17 @@ trace-refused bytes entries number line lines all stage (Memory e) r cut is wron
 -- ---- the end
 
 pub trace-ends :
-    (bytes out new : List ℕ) (number : ℕ) (stage : Stage) (after : Bus) →
-    HaveTraced bytes out number [] stage → SettlesTraced (bus_of stage) after out new →
-    IsTrace bytes (Ok new)
-trace-ends bytes out new number stage after have s =
-    let entry : Entry = done number stage Settle (running after) s.text in (
-      behind have.entries (last_run number stage (Ok (after, s.text))),
-      run-ends bytes have.entries number stage after s.text have.went s.settles,
+    (bytes out new : List ℕ) (number : ℕ) (stage : Stage) (after : Bus) (text : List ℕ) →
+    HaveTraced bytes out number [] stage → Settles (bus_of stage) (Ok (after, text)) →
+    Hears true (bus_of stage) command.Settle after out new → IsTrace bytes (Ok new)
+trace-ends bytes out new number stage after text have settles h =
+    let entry : Entry = done number stage command.Settle (running after) text in (
+      behind have.entries (last_run number stage (Ok (after, text))),
+      run-ends bytes have.entries number stage after text have.went settles,
       (
         after,
         refl,
-        subst (AllTrace (have.entries ++ entry ∷ [])) (sym s.appended) (one-traced have.entries entry out _ have.traced refl),
+        subst (AllTrace (have.entries ++ entry ∷ [])) (sym h.written) (one-traced have.entries entry out h.lines have.traced h.traces),
       ),
     )
 
@@ -125,54 +125,35 @@ pub refused-too :
 refused-too told bytes (script.Fault fault) h = told bytes fault h
 refused-too told bytes (script.Memory e) h = tt
 
--- ---- commands that declare nothing
+-- ---- commands that declare
 
-abbrev IsOther : Command → Type 0
-IsOther
-    (Node name ports speed link contender force power gap hold short long word len seed packed) = ⊥
-IsOther (Delay delay) = ⊥
-IsOther command = Unit {0}
+abbrev IsDeclaration : Command → Type 0
+IsDeclaration (command.Node name ports speed link contender force power gap hold short long word len seed packed) = Unit {0}
+IsDeclaration (command.Delay delay) = Unit {0}
+IsDeclaration c = ⊥
 
-pub other :
-    (command : Command) →
-    ((name : List ℕ) (ports speed : ℕ) (link contender force : Bool) (power gap : ℕ)
-    (hold short long : Option ℕ) (word len : ℕ) (seed : Option ℕ) (packed : Bool) →
-    command
-    ≡ Node name ports speed link contender force power gap hold short long word len seed packed →
-    ⊥) →
-    ((delay : ℕ) → command ≡ Delay delay → ⊥) → IsOther command
-other
-    (Node name ports speed link contender force power gap hold short long word len seed packed)
-    node delay = node name ports speed link contender force power gap hold short long word len seed packed refl
-other (Delay d) node delay = delay d refl
-other command node delay = tt
+quiet :
+    (stage next : Stage) (c : Command) → IsDeclaration c → TracesAt stage c next []
+quiet stage next (command.Node name ports speed link contender force power gap hold short long word len seed packed) is = node next
+  where
+    node : (next : Stage) → TracesAt stage (command.Node name ports speed link contender force power gap hold short long word len seed packed) next []
+    node (running after) = refl
+    node fresh = refl
+    node (declaring draft) = refl
+quiet stage next (command.Delay delay) is = said next
+  where
+    said : (next : Stage) → TracesAt stage (command.Delay delay) next []
+    said (running after) = refl
+    said fresh = refl
+    said (declaring draft) = refl
+quiet stage next c is = absurd is
 
-follows :
-    (stage : Stage) (command : Command) (r : StageAnswer) → IsOther command → Runs stage command r →
-    Follows stage command r
-follows stage
-    (Node name ports speed link contender force power gap hold short long word len seed packed)
-    r h runs = absurd h
-follows stage (Delay delay) r h runs = absurd h
-follows stage command r h runs = runs
-
-pub follows-traced :
-    {A E : Type 0} → (answer : Result A E) (stage next : Stage) (command : Command)
-    (out new : List ℕ) → IsOther command → OnOk answer (RunsTraced stage command next out new) →
-    OnOk answer (FollowsTraced stage command next out new)
-follows-traced (Ok x) stage next command out new h r = record {
-  text = r.text;
-  lines = r.lines;
-  follows = follows stage command (Ok (next, r.text)) h r.runs;
-  traces = r.traces;
-  appended = r.appended;
+-- nothing is heard where a node is declared or the delay is said
+pub declares-quietly :
+    (writes : Bool) (stage next : Stage) (command : Command) (out : List ℕ) →
+    IsDeclaration command → HearsAt writes stage command next out out
+declares-quietly writes stage next command out is = record {
+  lines = [];
+  traces = quiet stage next command is;
+  written = none-heard writes out;
 }
-follows-traced (Err e) stage next command out new h r = tt
-
-pub follows-stops :
-    {A : Type 0} → (answer : Result A LineStop) (stage : Stage) (command : Command) →
-    IsOther command → IfErr answer (StopsAt (Runs stage command)) →
-    IfErr answer (StopsAt (Follows stage command))
-follows-stops (Ok x) stage command h r = tt
-follows-stops (Err (Fault kind)) stage command h r = follows stage command (Err kind) h r
-follows-stops (Err (Memory e)) stage command h r = tt

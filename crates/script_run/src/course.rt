@@ -1,11 +1,12 @@
 //! A script that is gone through, a line at a time.
-ghost use Rattle.std.specs.Prelude.{◌≡◌, ◌⊎◌, ◌++◌, ℕ, List, Ok, IfOk, IfErr, OnOk, IsSomeAnd};
+ghost use Rattle.std.specs.Prelude.{◌≡◌, ◌⊎◌, ◌++◌, ℕ, List, true, Ok, IfOk, IfErr, OnOk, IsSomeAnd};
 ghost use Rattle.settle.specs.Report.{IsReport};
 ghost use Rattle.script_told.specs.Step.{Settles};
 ghost use Rattle.script_told.specs.Bus as shown;
 ghost use Rattle.script_told.specs.Script.{fresh, bus_of};
 ghost use Rattle.script_bus.specs.Running.{bus_now, IsSound, Stops};
-ghost use Rattle.script_bus.specs.Tracing.{SettlesTraced};
+ghost use Rattle.script_bus.specs.Heard.{Hears};
+ghost use Rattle.script_lines.specs.declared.command.Command.TheVariants as command;
 ghost use Rattle.script_run.specs.codings.Going.{LineLeads, LineFails, IfFault};
 ghost use Rattle.script_run.specs.codings.Tracing.{LineTraces};
 ghost use Rattle.script_advice.specs.Advising.{IsAdvised};
@@ -13,7 +14,7 @@ ghost use Rattle.script_advice.specs.Advising.{IsAdvised};
 use crate::run::Stage;
 use cable_world::WorldRun;
 use phy_machine::AnyMachine;
-use script_bus::Bus;
+use script_bus::{Bus, Silent};
 use script_lines::{LineStop, parse_line, says_nothing};
 use std::alloc::Global;
 use std::marker::Model;
@@ -70,7 +71,7 @@ impl Course {
         let Some(command) = parse_line(alloc, line, d)? else {
             return Ok(());
         };
-        let text = self.stage.follow(alloc, d, command)?;
+        let text = self.stage.follow(alloc, d, command, &mut Silent)?;
         out.extend_from_slice(text.as_slice())?;
         Ok(())
     }
@@ -81,7 +82,7 @@ impl Course {
             × Settles (bus_of self) (Ok (bus, text.items))) }
         ensures stop { IfErr result (Stops (Settles (bus_of self))) }
     {
-        self.stage.bus(alloc)?.last_report(alloc)
+        self.stage.bus(alloc)?.last_report(alloc, &mut Silent)
     }
 
     /// The bus after the `settle` behind the last line.
@@ -95,7 +96,7 @@ impl Course {
             (IsReport (⟦<AgendaWorld<AnyMachine> as WorldRun>⟧.world bus.world))) }
     {
         let mut bus = self.stage.bus(alloc)?;
-        bus.settle(alloc)?;
+        bus.settle(alloc, &mut Silent)?;
         Ok(bus)
     }
 
@@ -118,16 +119,18 @@ impl Course {
         let Some(command) = parse_line(alloc, line, d)? else {
             return Ok(());
         };
-        self.stage.trace(alloc, d, command, out)?;
+        self.stage.follow(alloc, d, command, out)?;
         Ok(())
     }
 
     /// What happens in the `settle` behind the last line is appended.
     pub fn last_trace(self, alloc: Global, out: &mut Vec<u8>) -> Result<(), LineStop>
-        ensures done { OnOk result ((after : shown.Bus)
-            × SettlesTraced (bus_of self) after out.old.items out.new.items) }
+        ensures done { OnOk result ((after : shown.Bus) × (text : List ℕ)
+            × Settles (bus_of self) (Ok (after, text))
+            × Hears true (bus_of self) command.Settle after out.old.items out.new.items) }
         ensures stop { IfErr result (Stops (Settles (bus_of self))) }
     {
-        self.stage.bus(alloc)?.last_trace(alloc, out)
+        self.stage.bus(alloc)?.last_report(alloc, out)?;
+        Ok(())
     }
 }

@@ -7,8 +7,8 @@ ghost use Rattle.phy_machine.specs.PowerOn.{IsSpec, node_of_spec};
 ghost use Rattle.cable_world.specs.World.{IsNodeAtPowerOn};
 ghost use Rattle.script_told.specs.Bus.{bus_of_nodes, first_bank, is_declared};
 ghost use Rattle.script_told.specs.Script.{Declares, first_draft, with_node, times_of, coins_of};
-ghost use Rattle.script_bus.specs.Running.{bus_now, IsSound};
-ghost use Rattle.script_run.specs.codings.Declaring.{IsDraft, IsLine, IsDeclared, DeclaresNode, StopsAt, draft_now, node_said};
+ghost use Rattle.script_bus.specs.Running.{bus_now, IsSound, Stops};
+ghost use Rattle.script_run.specs.codings.Declaring.{IsDraft, IsLine, IsDeclared, DeclaresNode, draft_now, node_said};
 
 use cable_world::WorldRun;
 use phy_machine::{AnyMachine, FieldMachine, NodeSpec, PackedMachine};
@@ -35,23 +35,35 @@ pub(crate) struct Draft {
     pub machines: Vec<AnyMachine>,
 }
 
+/// The times that a `node` line gives, in turns.
+#[derive(Clone, Copy)]
+pub(crate) struct GivenTimes {
+    pub hold: Option<u16>,
+    pub short: Option<u16>,
+    pub long: Option<u16>,
+}
+
+/// The coins that a `node` line gives: so many of a word, the first as its lowest bit, or those of a
+/// seed.
+#[derive(Clone, Copy)]
+pub(crate) struct GivenCoins {
+    pub word: u64,
+    pub len: u8,
+    pub seed: Option<u32>,
+}
+
 /// What a `node` line says, with the usual values where it doesn't say one.
 #[derive(Drop)]
 pub(crate) struct NodeLine {
     pub name: Name,
     pub ports: u8,
-    pub speed: u8,
-    pub link: bool,
-    pub contender: bool,
+    /// What the node shows of itself in its self-ID packets.
+    pub attrs: Attrs,
+    /// Whether its force_root is set.
     pub force: bool,
-    pub power: u8,
-    pub gap: u8,
-    pub hold: Option<u16>,
-    pub short: Option<u16>,
-    pub long: Option<u16>,
-    pub coin_word: u64,
-    pub coin_len: u8,
-    pub seed: Option<u32>,
+    pub times: GivenTimes,
+    pub coins: GivenCoins,
+    /// Whether its state is kept packed.
     pub packed: bool,
 }
 
@@ -60,29 +72,30 @@ fn times(node: &NodeLine, d: u8) -> Timing
     requires some { 1 ≤ d }
     requires few { d ≤ 16 }
     requires line { IsLine d node.now }
-    ensures value { result ≡ times_of d node.now.hold node.now.short node.now.long }
+    ensures value { result
+        ≡ times_of d node.now.times.hold node.now.times.short node.now.times.long }
     ensures ranged { InRange d result }
 {
     let usual = Timing::usual(d);
+    let given = node.times;
     Timing {
-        hold: node.hold.unwrap_or(usual.hold),
-        short: node.short.unwrap_or(usual.short),
-        long: node.long.unwrap_or(usual.long),
+        hold: given.hold.unwrap_or(usual.hold),
+        short: given.short.unwrap_or(usual.short),
+        long: given.long.unwrap_or(usual.long),
         ..usual
     }
 }
 
 /// The coins of a node: those that are given, or of the seed, which is the node's number where none
 /// is given.
-fn coins(node: &NodeLine, number: u32) -> Coins
-    requires { node.now.coin_len ≤ 64 }
-    ensures { result
-        ≡ coins_of number node.now.coin_word node.now.coin_len node.now.seed }
+fn coins(given: GivenCoins, number: u32) -> Coins
+    requires { given.len ≤ 64 }
+    ensures { result ≡ coins_of number given.word given.len given.seed }
 {
-    if node.coin_len == 0 {
-        Coins::seeded(node.seed.unwrap_or(number))
+    if given.len == 0 {
+        Coins::seeded(given.seed.unwrap_or(number))
     } else {
-        Coins::bits(node.coin_word, node.coin_len)
+        Coins::bits(given.word, given.len)
     }
 }
 
@@ -97,18 +110,10 @@ fn spec(node: &NodeLine, d: u8, number: u32) -> NodeSpec
 {
     NodeSpec {
         ports: node.ports,
-        attrs: Attrs {
-            link: node.link,
-            gap: node.gap,
-            speed: node.speed,
-            delay: 0,
-            contender: node.contender,
-            power: node.power,
-            initiated: false,
-        },
+        attrs: node.attrs,
         timing: times(node, d),
         force: node.force,
-        coins: coins(node, number),
+        coins: coins(node.coins, number),
     }
 }
 
@@ -178,7 +183,7 @@ impl Draft {
         ensures few { OnOk result (nat_lt 62 (length self.now.names) ≡ false) }
         ensures new { OnOk result (is_declared self.now.names name.now ≡ false) }
         ensures stop { (node : ℕ → ℕ → PortNode)
-            → IfErr result (StopsAt (Declares (Some (draft_now self.now)) name.now node)) }
+            → IfErr result (Stops (Declares (Some (draft_now self.now)) name.now node)) }
     {
         if self.machines.len() >= MAX_NODES {
             return Err(LineStop::Fault(Kind::TooManyNodes));
@@ -218,7 +223,7 @@ impl Draft {
         requires sound { IsDraft self }
         requires line { IsLine self.delay node }
         ensures done { IfOk result (IsDeclared self node) }
-        ensures stop { IfErr result (StopsAt (DeclaresNode self node)) }
+        ensures stop { IfErr result (Stops (DeclaresNode self node)) }
         ensures sound { IfOk result IsDraft }
     {
         self.check(&node.name)?;

@@ -14,6 +14,8 @@ mod trace;
 
 pub use advise::advise_script;
 pub use script::run_script;
-pub use script_lines::{Kind, ScriptFault, ScriptStop};
+pub use script_lines::{Command, Kind, LineStop, ScriptFault, ScriptStop, parse_line};
+pub use script_made::make_script;
+pub use script_text::{maps_text, report_text, summary};
 pub use topology_stack::OutOfMemory;
 pub use trace::trace_script;

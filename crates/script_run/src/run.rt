@@ -2,16 +2,17 @@
 ghost use Rattle.std.specs.Prelude.{◌≡◌, ◌≤◌, ◌<◌, ◌∷◌, ◌++◌, [], ℕ, List, Some, None, Ok, Err, IfOk, IfErr, OnOk, length};
 ghost use Rattle.script_lines.specs.Range.{IsInRange};
 ghost use Rattle.script_told.specs.Script.{Declares, Delays, Follows, Runs, bus_of, delay_of, draft_of};
-ghost use Rattle.script_bus.specs.Running.{bus_now, IsSound};
-ghost use Rattle.script_run.specs.codings.Declaring.{IsDraft, IsLine, StopsAt, draft_now, node_said};
+ghost use Rattle.script_bus.specs.Running.{bus_now, IsSound, Stops};
+ghost use Rattle.script_run.specs.codings.Declaring.{IsDraft, IsLine, draft_now, node_said};
 ghost use Rattle.script_run.specs.codings.Going.{stage_now, IsSoundStage};
-ghost use Rattle.script_run.specs.codings.Tracing.{RunsTraced, FollowsTraced};
+ghost use Rattle.script_run.specs.codings.Tracing.{HearsAt};
 
-use crate::draft::{Draft, NodeLine};
+use crate::draft::{Draft, GivenCoins, GivenTimes, NodeLine};
 use cable_world::WorldRun;
 use phy_machine::AnyMachine;
-use script_bus::Bus;
+use script_bus::{Bus, Listener};
 use script_lines::{Command, Kind, LineStop};
+use self_id::Attrs;
 use std::alloc::Global;
 use std::mem;
 use topology_stack::OutOfMemory;
@@ -96,7 +97,7 @@ impl Stage<AgendaWorld<AnyMachine>> {
             Declares (draft_of (stage_now ⟦<AgendaWorld<AnyMachine> as WorldRun>⟧.world self.old))
             line.name (node_said line)
             (Ok (stage_now ⟦<AgendaWorld<AnyMachine> as WorldRun>⟧.world self.new, text.items))) }
-        ensures stop { IfErr result (StopsAt
+        ensures stop { IfErr result (Stops
             (Declares (draft_of (stage_now ⟦<AgendaWorld<AnyMachine> as WorldRun>⟧.world self.old))
             line.name (node_said line))) }
         ensures sound { IsSoundStage ⟦<AgendaWorld<AnyMachine> as WorldRun>⟧.world
@@ -109,43 +110,63 @@ impl Stage<AgendaWorld<AnyMachine>> {
     }
 
     /// The first command that runs the bus.
-    fn begin(&mut self, alloc: Global, d: u8, command: &Command) -> Result<Vec<u8>, LineStop>
+    fn begin<L: Listener>(
+        &mut self,
+        alloc: Global,
+        d: u8,
+        command: &Command,
+        listener: &mut L,
+    ) -> Result<Vec<u8>, LineStop>
         requires sound { IsSoundStage ⟦<AgendaWorld<AnyMachine> as WorldRun>⟧.world
             ⟦<AgendaWorld<AnyMachine> as WorldRun>⟧.is_spent self.old }
         requires range { IsInRange d command.now }
         ensures done { IfOk result (λ text.
             Runs (stage_now ⟦<AgendaWorld<AnyMachine> as WorldRun>⟧.world self.old) command.now
             (Ok (stage_now ⟦<AgendaWorld<AnyMachine> as WorldRun>⟧.world self.new, text.items))) }
-        ensures stop { IfErr result (StopsAt
+        ensures heard { OnOk result (HearsAt L.writes
+            (stage_now ⟦<AgendaWorld<AnyMachine> as WorldRun>⟧.world self.old) command.now
+            (stage_now ⟦<AgendaWorld<AnyMachine> as WorldRun>⟧.world self.new)
+            (L.written listener.old) (L.written listener.new)) }
+        ensures stop { IfErr result (Stops
             (Runs (stage_now ⟦<AgendaWorld<AnyMachine> as WorldRun>⟧.world self.old)
             command.now)) }
         ensures sound { IsSoundStage ⟦<AgendaWorld<AnyMachine> as WorldRun>⟧.world
             ⟦<AgendaWorld<AnyMachine> as WorldRun>⟧.is_spent self.new }
     {
         let mut bus = mem::replace(self, Stage::Fresh).bus(alloc)?;
-        let text = bus.command(alloc, d, command)?;
+        let text = bus.command(alloc, d, command, listener)?;
         *self = Stage::Running(bus);
         Ok(text)
     }
 
     /// A command that runs the bus.
-    fn run(&mut self, alloc: Global, d: u8, command: &Command) -> Result<Vec<u8>, LineStop>
+    fn run<L: Listener>(
+        &mut self,
+        alloc: Global,
+        d: u8,
+        command: &Command,
+        listener: &mut L,
+    ) -> Result<Vec<u8>, LineStop>
         requires sound { IsSoundStage ⟦<AgendaWorld<AnyMachine> as WorldRun>⟧.world
             ⟦<AgendaWorld<AnyMachine> as WorldRun>⟧.is_spent self.old }
         requires range { IsInRange d command.now }
         ensures done { IfOk result (λ text.
             Runs (stage_now ⟦<AgendaWorld<AnyMachine> as WorldRun>⟧.world self.old) command.now
             (Ok (stage_now ⟦<AgendaWorld<AnyMachine> as WorldRun>⟧.world self.new, text.items))) }
-        ensures stop { IfErr result (StopsAt
+        ensures heard { OnOk result (HearsAt L.writes
+            (stage_now ⟦<AgendaWorld<AnyMachine> as WorldRun>⟧.world self.old) command.now
+            (stage_now ⟦<AgendaWorld<AnyMachine> as WorldRun>⟧.world self.new)
+            (L.written listener.old) (L.written listener.new)) }
+        ensures stop { IfErr result (Stops
             (Runs (stage_now ⟦<AgendaWorld<AnyMachine> as WorldRun>⟧.world self.old)
             command.now)) }
         ensures sound { IsSoundStage ⟦<AgendaWorld<AnyMachine> as WorldRun>⟧.world
             ⟦<AgendaWorld<AnyMachine> as WorldRun>⟧.is_spent self.new }
     {
         let Stage::Running(bus) = self else {
-            return self.begin(alloc, d, command);
+            return self.begin(alloc, d, command, listener);
         };
-        match bus.command(alloc, d, command) {
+        match bus.command(alloc, d, command, listener) {
             Ok(text) => Ok(text),
             Err(stop) => {
                 *self = Stage::Fresh;
@@ -163,7 +184,7 @@ impl Stage<AgendaWorld<AnyMachine>> {
         ensures done { IfOk result (λ text.
             Delays (stage_now ⟦<AgendaWorld<AnyMachine> as WorldRun>⟧.world self.old) delay
             (Ok (stage_now ⟦<AgendaWorld<AnyMachine> as WorldRun>⟧.world self.new, text.items))) }
-        ensures stop { IfErr result (StopsAt
+        ensures stop { IfErr result (Stops
             (Delays (stage_now ⟦<AgendaWorld<AnyMachine> as WorldRun>⟧.world self.old) delay)) }
         ensures sound { IsSoundStage ⟦<AgendaWorld<AnyMachine> as WorldRun>⟧.world
             ⟦<AgendaWorld<AnyMachine> as WorldRun>⟧.is_spent self.new }
@@ -175,8 +196,15 @@ impl Stage<AgendaWorld<AnyMachine>> {
         Ok(Vec::new(alloc))
     }
 
-    /// A command is done. Where it isn't, nothing is left of the stage.
-    pub fn follow(&mut self, alloc: Global, d: u8, command: Command) -> Result<Vec<u8>, LineStop>
+    /// A command is done, and the listener hears what happens in it. Where it isn't, nothing is left
+    /// of the stage.
+    pub fn follow<L: Listener>(
+        &mut self,
+        alloc: Global,
+        d: u8,
+        command: Command,
+        listener: &mut L,
+    ) -> Result<Vec<u8>, LineStop>
         requires sound { IsSoundStage ⟦<AgendaWorld<AnyMachine> as WorldRun>⟧.world
             ⟦<AgendaWorld<AnyMachine> as WorldRun>⟧.is_spent self.old }
         requires delay { d ≡ delay_of
@@ -185,7 +213,11 @@ impl Stage<AgendaWorld<AnyMachine>> {
         ensures done { IfOk result (λ text.
             Follows (stage_now ⟦<AgendaWorld<AnyMachine> as WorldRun>⟧.world self.old) command
             (Ok (stage_now ⟦<AgendaWorld<AnyMachine> as WorldRun>⟧.world self.new, text.items))) }
-        ensures stop { IfErr result (StopsAt
+        ensures heard { OnOk result (HearsAt L.writes
+            (stage_now ⟦<AgendaWorld<AnyMachine> as WorldRun>⟧.world self.old) command
+            (stage_now ⟦<AgendaWorld<AnyMachine> as WorldRun>⟧.world self.new)
+            (L.written listener.old) (L.written listener.new)) }
+        ensures stop { IfErr result (Stops
             (Follows (stage_now ⟦<AgendaWorld<AnyMachine> as WorldRun>⟧.world self.old) command)) }
         ensures sound { IsSoundStage ⟦<AgendaWorld<AnyMachine> as WorldRun>⟧.world
             ⟦<AgendaWorld<AnyMachine> as WorldRun>⟧.is_spent self.new }
@@ -208,86 +240,32 @@ impl Stage<AgendaWorld<AnyMachine>> {
                 seed,
                 packed,
             } => {
+                let attrs = Attrs {
+                    link,
+                    gap,
+                    speed,
+                    delay: 0,
+                    contender,
+                    power,
+                    initiated: false,
+                };
                 let line = NodeLine {
                     name,
                     ports,
-                    speed,
-                    link,
-                    contender,
+                    attrs,
                     force,
-                    power,
-                    gap,
-                    hold,
-                    short,
-                    long,
-                    coin_word,
-                    coin_len,
-                    seed,
+                    times: GivenTimes { hold, short, long },
+                    coins: GivenCoins {
+                        word: coin_word,
+                        len: coin_len,
+                        seed,
+                    },
                     packed,
                 };
                 self.declare(alloc, line)
             }
             Command::Delay { delay } => self.say_delay(alloc, delay),
-            _ => self.run(alloc, d, &command),
-        }
-    }
-
-    /// A command that runs the bus, traced.
-    fn run_traced(
-        &mut self,
-        alloc: Global,
-        d: u8,
-        command: &Command,
-        out: &mut Vec<u8>,
-    ) -> Result<(), LineStop>
-        requires sound { IsSoundStage ⟦<AgendaWorld<AnyMachine> as WorldRun>⟧.world
-            ⟦<AgendaWorld<AnyMachine> as WorldRun>⟧.is_spent self.old }
-        requires range { IsInRange d command.now }
-        ensures done { OnOk result (RunsTraced
-            (stage_now ⟦<AgendaWorld<AnyMachine> as WorldRun>⟧.world self.old) command.now
-            (stage_now ⟦<AgendaWorld<AnyMachine> as WorldRun>⟧.world self.new)
-            out.old.items out.new.items) }
-        ensures stop { IfErr result (StopsAt
-            (Runs (stage_now ⟦<AgendaWorld<AnyMachine> as WorldRun>⟧.world self.old)
-            command.now)) }
-        ensures sound { IsSoundStage ⟦<AgendaWorld<AnyMachine> as WorldRun>⟧.world
-            ⟦<AgendaWorld<AnyMachine> as WorldRun>⟧.is_spent self.new }
-    {
-        let mut bus = mem::replace(self, Stage::Fresh).bus(alloc)?;
-        bus.trace(alloc, d, command, out)?;
-        *self = Stage::Running(bus);
-        Ok(())
-    }
-
-    /// A command is done as `follow` does it, and what happens in it is appended in place of what it
-    /// prints.
-    pub fn trace(
-        &mut self,
-        alloc: Global,
-        d: u8,
-        command: Command,
-        out: &mut Vec<u8>,
-    ) -> Result<(), LineStop>
-        requires sound { IsSoundStage ⟦<AgendaWorld<AnyMachine> as WorldRun>⟧.world
-            ⟦<AgendaWorld<AnyMachine> as WorldRun>⟧.is_spent self.old }
-        requires delay { d ≡ delay_of
-            (stage_now ⟦<AgendaWorld<AnyMachine> as WorldRun>⟧.world self.old) }
-        requires range { IsInRange d command }
-        ensures done { OnOk result (FollowsTraced
-            (stage_now ⟦<AgendaWorld<AnyMachine> as WorldRun>⟧.world self.old) command
-            (stage_now ⟦<AgendaWorld<AnyMachine> as WorldRun>⟧.world self.new)
-            out.old.items out.new.items) }
-        ensures stop { IfErr result (StopsAt
-            (Follows (stage_now ⟦<AgendaWorld<AnyMachine> as WorldRun>⟧.world self.old) command)) }
-        ensures sound { IsSoundStage ⟦<AgendaWorld<AnyMachine> as WorldRun>⟧.world
-            ⟦<AgendaWorld<AnyMachine> as WorldRun>⟧.is_spent self.new }
-    {
-        match command {
-            Command::Node { .. } | Command::Delay { .. } => {
-                self.follow(alloc, d, command)?;
-                Ok(())
-            }
-            _ => self.run_traced(alloc, d, &command, out),
+            _ => self.run(alloc, d, &command, listener),
         }
     }
 }

@@ -1,6 +1,6 @@
--- Trees that stand since they were reported, plans for them, and commands that are traced. No public
+-- Trees that stand since they were reported, plans for them, and what is heard of commands. No public
 -- contract cites this file.
-use Rattle.std.specs.Prelude.{◌≡◌, ◌<◌, ◌^◌, ◌++◌, ℕ, List, [], Ok, Some, Any, IfSome}
+use Rattle.std.specs.Prelude.{◌≡◌, ◌<◌, ◌^◌, ◌++◌, ℕ, Bool, List, [], Ok, Some, Any, IfSome}
 use Rattle.topology_stack.specs.Tree.{Tree}
 use Rattle.cabling.specs.Walk.{IsWalk}
 use Rattle.cabling.specs.Component.{IsComponent}
@@ -14,11 +14,12 @@ use Rattle.settle.specs.Reported.{ReportsTree}
 use Rattle.settle_plan.specs.Planned.{HasId, HaveGap}
 use Rattle.script_lines.specs.declared.command.Command.{Command}
 use Rattle.script_lines.specs.declared.command.Command.TheVariants.{Plug, Pull, Reset, Config, Hold, Turn, Settle, Plan}
-use Rattle.script_text.specs.ReportText.{IsNamedReport, IsReportText}
+use Rattle.script_text.specs.ReportText.{Names, IsNamedReport, IsReportText}
 use Rattle.script_told.specs.Bus.{Bus, Reported}
 use Rattle.script_text.specs.Plan.{IsPlan, plan_line}
 use Rattle.script_told.specs.Step.{IsTreeOf, Acts, Reports, config_of, node_with, notes_after_report}
 use Rattle.script_trace.specs.Trace.{act_trace, quiet_trace}
+use Rattle.script_bus.specs.Heard.{heard}
 
 -- no act came since a report was made: holds and turns alone led from its world to this one
 pub record StandsSince (report : Report) (w : CableWorld) : Type 0 where
@@ -58,7 +59,7 @@ pub record IsSent (bus : Bus) (node : NodeNumber) (plan : RootPlan) (after : Bus
       IfSome after.notes.report (λ r. Any (IsTreeFrom bus.world.cabling node root) r.parts)
   pub gaps : HaveGap after.world node plan.gap
 
--- ---- commands that are traced
+-- ---- what is heard of a command
 
 abbrev pub IsActCommand : Command → Type 0
 IsActCommand (Plug a a_port b b_port) = Unit {0}
@@ -91,24 +92,30 @@ pub record IsReportedNow (bus after : Bus) (text : List ℕ) : Type 0 where
   pub named : IsNamedReport bus.notes.names report
   pub text_is : IsReportText bus.notes.names after.notes.reports report text
 
--- the packet of a plan was sent, and what it does was appended
+-- a listener heard the quiet turns
+abbrev pub IsPassed : Bool → Names → CableWorld → List ℕ → List ℕ → Type 0
+IsPassed writes names w out new = new ≡ out ++ heard writes (quiet_trace names w)
+
+-- the packet of a plan was sent, and a listener heard what it does
 pub record IsPacketSent
-    (bus : Bus) (name : List ℕ) (node : NodeNumber) (plan : RootPlan) (sent : Bus) (out new : List ℕ)
-    : Type 0 where
+    (writes : Bool) (bus : Bus) (name : List ℕ) (node : NodeNumber) (plan : RootPlan) (sent : Bus)
+    (out new : List ℕ) : Type 0 where
   pub sends : Acts bus (config_of node (Some plan.root_id) (Some plan.gap)) (Ok (sent, []))
-  pub appended :
+  pub written :
       new
       ≡ out
-      ++ act_trace sent.notes.names (Config name (Some plan.root_id) (Some plan.gap)) bus.world
-      sent.world
+      ++ heard writes
+      (act_trace sent.notes.names (Config name (Some plan.root_id) (Some plan.gap)) bus.world
+      sent.world)
 
 -- and then the bus settled, as `IsSent` has it
-pub record IsSentTraced
-    (bus : Bus) (name : List ℕ) (node : NodeNumber) (plan : RootPlan) (after : Bus)
+pub record IsSentHeard
+    (writes : Bool) (bus : Bus) (name : List ℕ) (node : NodeNumber) (plan : RootPlan) (after : Bus)
     (text out new : List ℕ) : Type 0 where
   pub sent : IsSent bus node plan after text
-  pub appended :
+  pub written :
       new
       ≡ out
-      ++ (act_trace after.notes.names (Config name (Some plan.root_id) (Some plan.gap)) bus.world
+      ++ heard writes
+      (act_trace after.notes.names (Config name (Some plan.root_id) (Some plan.gap)) bus.world
       sent.sent.world ++ quiet_trace after.notes.names sent.sent.world)

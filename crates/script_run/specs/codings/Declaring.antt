@@ -3,8 +3,6 @@ use Rattle.std.specs.Prelude.{◌≡◌, ℕ, ◌≤◌, All, false, length, map
 use Rattle.phy_machine.specs.Any.{any_node}
 use Rattle.port_state.specs.Machine.{PortNode}
 use Rattle.cable_world.specs.World.{IsNodeAtPowerOn}
-use Rattle.script_lines.specs.declared.kind.LineStop.{LineStop}
-use Rattle.script_lines.specs.declared.kind.LineStop.TheVariants.{Fault, Memory}
 use Rattle.script_run.specs.declared.draft.Draft as kept
 use Rattle.script_run.specs.declared.draft.NodeLine.{NodeLine}
 use Rattle.script_lines.specs.Range.{IsNodeInRange}
@@ -26,31 +24,18 @@ pub record IsDraft (draft : kept.Draft) : Type 0 where
   pub nodes : All (λ m. IsNodeAtPowerOn draft.delay (any_node m).state) draft.machines.items
 
 -- what a line says of a node, where a cable delays a signal by at most d ticks
-abbrev pub IsLine : ℕ → NodeLine → Type 0
-IsLine d node =
-    IsNodeInRange d node.ports node.speed node.power node.gap node.hold node.short node.long
-    node.coin_len
+pub record IsLine (d : ℕ) (node : NodeLine) : Type 0 where
+  pub ranged :
+      IsNodeInRange d node.ports node.attrs.speed node.attrs.power node.attrs.gap node.times.hold
+      node.times.short node.times.long node.coins.len
+  pub no_delay : node.attrs.delay ≡ 0
 
 -- the node that a line declares, where d is the delay and the node gets this number
 abbrev pub node_said : NodeLine → ℕ → ℕ → PortNode
 node_said node d number =
-    new_node
-    (record {
-      link = node.link;
-      gap = node.gap;
-      speed = node.speed;
-      delay = 0;
-      contender = node.contender;
-      power = node.power;
-      initiated = false;
-    })
-    node.ports node.force (times_of d node.hold node.short node.long)
-    (coins_of number node.coin_word node.coin_len node.seed)
-
--- a fault is what the line comes to at a stage
-abbrev pub StopsAt : (StageAnswer → Type 0) → LineStop → Type 0
-StopsAt comes (Fault kind) = comes (Err kind)
-StopsAt comes (Memory none) = Unit {0}
+    new_node node.attrs node.ports node.force
+    (times_of d node.times.hold node.times.short node.times.long)
+    (coins_of number node.coins.word node.coins.len node.coins.seed)
 
 -- what comes of a line that declares a node
 abbrev pub DeclaresNode : kept.Draft → NodeLine → StageAnswer → Type 0

@@ -1,4 +1,4 @@
-use Rattle.std.proofs.Common.{◌++◌, ℕ, List, ap, ◌∙◌}
+use Rattle.std.proofs.Common.{◌++◌, ℕ, List, ap, refl, ◌∙◌}
 use Rattle.script_told.specs.Step.{PlansAs}
 use Rattle.script_bus.specs.Running.{bus_now, reported}
 use Rattle.script_bus.proofs.PlansAsked.{asked-comes, carried-out, carries-out}
@@ -12,4 +12,28 @@ returns-clause-done g c =
     let text = c.in_ok-extend_from_slice.ensures.items ∙ ap (λ (r : List ℕ). planned.line.items ++ r) c.as_slice.ensures.value in
     asked-comes before c.args.name.now asked.node asked.id asked.manager c.in_ok-asked.ensures.is (PlansAs before c.args.name.now) _
     (carried-out before c.args.name.now asked.node asked.id asked.manager (reported c.in_ok-tree.tree) _ c.in_ok-check_bus_manager.ensures.is c.in_ok-check_quiet_turns.ensures.within c.in_ok-tree.ensures.found
-    (carries-out before _ c.args.name.now asked.node (reported c.in_ok-tree.tree) planned.plan planned.line.items c.in_ok-report.report.items _ c.in_ok-planned.ensures.is c.in_ok-report.ensures.sent c.in_ok-planned.ensures.root text))
+    (carries-out before _ c.args.name.now asked.node (reported c.in_ok-tree.tree) planned.plan planned.line.items c.in_ok-report.report.items _ c.in_ok-planned.ensures.is c.in_ok-report.ensures.sent.sent c.in_ok-planned.ensures.root text))
+
+pub returns-clause-heard : goal.returns-clause-heard
+returns-clause-heard g c =
+    let before = bus_now g.W.WorldRun.world c.args.self.now in
+    let after = bus_now g.W.WorldRun.world c.carry_out.new.self in
+    let asked = c.in_ok-asked.asked in
+    let tree = reported c.in_ok-tree.tree in
+    let planned = c.in_ok-planned.planned in
+    let report = c.in_ok-report.report.items in
+    let text = planned.line.items ++ report in
+    let sent = c.in_ok-report.ensures.sent in
+    record {
+      lines = _;
+      traces = record {
+        node = asked.node;
+        named = c.in_ok-asked.ensures.is.named;
+        tree = tree;
+        settled = c.in_ok-tree.ensures.found;
+        text = text;
+        carried = carries-out before after c.args.name.now asked.node tree planned.plan planned.line.items report text c.in_ok-planned.ensures.is sent.sent c.in_ok-planned.ensures.root refl;
+        lines_are = refl;
+      };
+      written = sent.written;
+    }

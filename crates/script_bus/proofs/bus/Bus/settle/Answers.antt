@@ -1,47 +1,42 @@
-use Rattle.std.proofs.Common.{◌≡◌, ◌≤◌, ◌+◌, length, ap, sym, ◌∙◌, arith}
+use Rattle.std.proofs.Common.{◌≤◌, ◌+◌, ap, ◌∙◌}
+use Rattle.std.proofs.Math.Logic.{∥∥₁_map}
 use Rattle.std.proofs.lemmas.Bool.{ltb-false}
 use Rattle.cable_world.proofs.running.Whole.{lawful-now}
 use Rattle.settle.specs.Report.{quiet_turns_of}
-use Rattle.settle.proofs.TurnsGiven.{quiet-is}
-use Rattle.script_bus.proofs.Standing.{new-stands}
 use Rattle.script_told.proofs.Turns.{some-quiet}
+use Rattle.script_bus.specs.Running.{bus_now, notes_now}
+use Rattle.script_bus.proofs.Hearing.{notes-are, reported-bus, settle-does, settle-hears}
 use Rattle.script_bus.proofs.bus.Bus.settle.Goals as goal
 
-pub quiet_turns-quiet-requires-clause-some_delay :
-    goal.quiet_turns-quiet-requires-clause-some_delay
-quiet_turns-quiet-requires-clause-some_delay g c =
+pub report-requires-clause-settled : goal.report-requires-clause-settled
+report-requires-clause-settled g c =
     let w = g.W.WorldRun.world c.args.self.now.world in
-    let lawful = lawful-now w (g.met.W.WorldRun.reached c.args.self.now.world c.requires.sound.fine) in
-    omega (arith, c.delay.ensures, lawful.well_formed.some_delay)
-
-pub quiet_turns-quiet-requires-clause-short_delay :
-    goal.quiet_turns-quiet-requires-clause-short_delay
-quiet_turns-quiet-requires-clause-short_delay g c =
-    let w = g.W.WorldRun.world c.args.self.now.world in
-    let lawful = lawful-now w (g.met.W.WorldRun.reached c.args.self.now.world c.requires.sound.fine) in
-    omega (arith, c.delay.ensures, lawful.well_formed.short_delay)
+    ∥∥₁_map (g.met.W.WorldRun.reached c.args.self.now.world c.requires.sound.fine)
+    (λ r. record { before = w; reached = r; is = c.in_ok-pass.ensures.quiet })
 
 pub returns-clause-sound : goal.returns-clause-sound
 returns-clause-sound g c =
     let w = g.W.WorldRun.world c.args.self.now.world in
     let old = c.requires.sound.bus in
     let lawful = lawful-now w (g.met.W.WorldRun.reached c.args.self.now.world c.requires.sound.fine) in
-    let q : c.quiet_turns-quiet.result ≡ quiet_turns_of w =
-    quiet-is w c.nodes.result c.delay.result c.quiet_turns-quiet.result c.quiet_turns-quiet.ensures (c.nodes.ensures.value ∙ ap length c.cabling.ensures) c.delay.ensures in
-    let few : w.turns + c.quiet_turns-quiet.result ≤ 2000000 = ltb-false 2000000 (w.turns + c.quiet_turns-quiet.result) c.in_ok-check_turns.ensures.within in
-    let some = some-quiet w lawful.well_formed.some_delay in
-    let passed = c.in_ok-report.ensures.passed in
+    let passed = c.in_ok-pass.ensures in
+    let few : w.turns + quiet_turns_of w ≤ 2000000 = ltb-false 2000000 (w.turns + quiet_turns_of w) c.in_ok-check_quiet_turns.ensures.within in
     record {
-      bus = record {
-        names = old.names ∙ sym passed.nodes;
-        banks = old.banks ∙ sym passed.nodes;
-        looks = old.looks ∙ sym passed.nodes;
-        few = omega (arith, old.few, passed.nodes);
-        turns = omega (arith, passed.turns, q, few);
-        reports = omega (arith, passed.turns, some, old.reports);
-        maps = old.maps;
-        report = c.reports_can_be_shown.ensures c.in_ok-report.report c.args.self.now.notes.names c.in_ok-report.ensures.report (old.names ∙ sym passed.nodes);
-        stands = new-stands (g.W.WorldRun.world c.settle.new.world) c.in_ok-report.report (g.met.W.WorldRun.reached c.settle.new.world c.in_ok-report.ensures.fine) c.in_ok-report.ensures.report;
-      };
-      fine = c.in_ok-report.ensures.fine;
+      bus = reported-bus (notes_now c.args.self.now.notes) _ w.turns (quiet_turns_of w) (bus_now g.W.WorldRun.world c.pass.new.self) _ _
+          (notes-are (bus_now g.W.WorldRun.world c.args.self.now) old) (ap notes_now passed.same) old.few passed.passed.nodes passed.passed.turns
+          (some-quiet w lawful.well_formed.some_delay) few
+          (g.met.W.WorldRun.reached c.pass.new.self.world passed.fine) c.in_ok-text.ensures.done;
+      fine = ap g.W.WorldRun.is_spent c.in_ok-text.ensures.same ∙ passed.fine;
     }
+
+pub returns-clause-done : goal.returns-clause-done
+returns-clause-done g c =
+    let passed = c.in_ok-pass.ensures in
+    settle-does (bus_now g.W.WorldRun.world c.args.self.now) (bus_now g.W.WorldRun.world c.pass.new.self) _ _
+    c.in_ok-check_quiet_turns.ensures.within passed.quiet (ap notes_now passed.same) c.in_ok-text.ensures.done
+
+pub returns-clause-heard : goal.returns-clause-heard
+returns-clause-heard g c =
+    let passed = c.in_ok-pass.ensures in
+    settle-hears g.L.Listener.writes (bus_now g.W.WorldRun.world c.args.self.now) (bus_now g.W.WorldRun.world c.pass.new.self) _ _ _ _
+    (ap notes_now passed.same) c.in_ok-text.ensures.done passed.heard

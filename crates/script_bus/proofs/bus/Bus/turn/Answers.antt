@@ -1,5 +1,5 @@
 use Rattle.std.proofs.Common.{◌≤◌, ◌+◌, sym, ◌∙◌, arith}
-use Rattle.std.proofs.lemmas.Bool.{ltb-false, false_from_ne_true}
+use Rattle.std.proofs.lemmas.Bool.{ltb-false}
 use Rattle.script_bus.proofs.Standing.{turns-stand}
 use Rattle.script_bus.proofs.bus.Bus.turn.Goals as goal
 
@@ -8,7 +8,7 @@ returns-clause-sound g c =
     let w = g.W.WorldRun.world c.args.self.now.world in
     let old = c.requires.sound.bus in
     let few : w.turns + c.args.count ≤ 2000000 = ltb-false 2000000 (w.turns + c.args.count) c.in_ok-check_turns.ensures.within in
-    let passed = c.in_ok-run_turns.ensures.passed in
+    let passed = c.in_ok-turns.ensures.passed in
     record {
       bus = record {
         names = old.names ∙ sym passed.nodes;
@@ -19,7 +19,7 @@ returns-clause-sound g c =
         reports = omega (arith, passed.turns, old.reports);
         maps = old.maps;
         report = old.report;
-        stands = turns-stand c.args.count w (g.W.WorldRun.world c.run_turns.new.self) c.args.self.now.notes.report c.in_ok-run_turns.ensures.done old.stands;
+        stands = turns-stand c.args.count w (g.W.WorldRun.world c.turns.new.world) c.args.self.now.notes.report c.in_ok-turns.ensures.done old.stands;
       };
-      fine = false_from_ne_true (g.W.WorldRun.is_spent c.run_turns.new.self) (λ h. let k = c.in_ok-run_turns.ensures.spent.1 h in cc);
+      fine = c.in_ok-turns.ensures.fine;
     }

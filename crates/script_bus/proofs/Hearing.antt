@@ -1,6 +1,6 @@
--- Commands that are traced.
-use Rattle.std.proofs.Common.{◌≡◌, ◌++◌, ◌+◌, ◌≤◌, ℕ, List, [], length, Bool, false, Option, Some, None, refl, sym, ◌∙◌, ap, subst, arith}
-use Rattle.std.specs.Prelude.{Ok, Err, Any, IfSome, MatchBool, nat_lt}
+-- What is heard of commands.
+use Rattle.std.proofs.Common.{◌≡◌, ◌++◌, ◌+◌, ◌≤◌, ℕ, List, [], length, Bool, true, false, Option, Some, None, refl, sym, ◌∙◌, ap, subst, arith}
+use Rattle.std.specs.Prelude.{Result, Ok, Err, OnOk, Any, IfSome, IsTrue, MatchBool, nat_lt}
 use Rattle.std.proofs.lemmas.List.{append-nil, append_assoc, length-replicate}
 use Rattle.cable_world.specs.World.{CableWorld}
 use Rattle.cable_world.specs.Turn.{turns_after}
@@ -15,13 +15,13 @@ use Rattle.script_lines.specs.declared.command.Command.{Command}
 use Rattle.script_lines.specs.declared.command.Command.TheVariants.{Plug, Pull, Reset, Config, Hold}
 use Rattle.script_text.specs.ReportText.{Names, IsNamedReport, IsReportText}
 use Rattle.script_told.specs.Bus.{Notes, Bus}
-use Rattle.script_told.specs.Step.{LineAnswer, Does, Reports, notes_after_act, notes_after_report}
+use Rattle.script_told.specs.Step.{LineAnswer, Reports, Settles, notes_after_act, notes_after_report}
 use Rattle.script_trace.specs.Event.{Seen}
 use Rattle.script_trace.specs.Step.{seen_before_act, lines_since, act_lines}
 use Rattle.script_trace.specs.Trace.{command_line, act_trace, quiet_trace, Traces}
 use Rattle.script_bus.specs.Running.{IsBus}
-use Rattle.script_bus.specs.Tracing.{DoesTraced, SettlesTraced}
-use Rattle.script_bus.specs.codings.Standing.{IsActCommand, IsHoldCommand, IsQuestion, IsReportedNow, IsPacketSent, IsSentTraced}
+use Rattle.script_bus.specs.Heard.{heard, Hears}
+use Rattle.script_bus.specs.codings.Standing.{IsActCommand, IsHoldCommand, IsQuestion, IsReportedNow, IsPassed, IsPacketSent, IsSentHeard}
 use Rattle.script_bus.proofs.Standing.{new-stands}
 
 -- ---- lines
@@ -53,56 +53,74 @@ no-lines bus after Command.Settle asks = absurd asks
 no-lines bus after (Command.Plan name) asks = absurd asks
 no-lines bus after command asks = refl
 
+-- nothing is added
+pub none-heard : (writes : Bool) (out : List ℕ) → out ≡ out ++ heard writes []
+none-heard true out = sym (append-nil out)
+none-heard false out = sym (append-nil out)
+
+-- what is heard twice
+pub both-heard :
+    (writes : Bool) (xs ys out mid new : List ℕ) → mid ≡ out ++ heard writes xs →
+    new ≡ mid ++ heard writes ys → new ≡ out ++ heard writes (xs ++ ys)
+both-heard true xs ys out mid new first next =
+    next ∙ ap (λ (l : List ℕ). l ++ ys) first ∙ append_assoc out xs ys
+both-heard false xs ys out mid new first next = next ∙ append-nil mid ∙ first
+
 -- what an act's line and what it does come to
 pub acted :
-    (names : Names) (w v : CableWorld) (turn : ℕ) (command : Command) (out mid new : List ℕ)
-    (seen : List Seen) (ns : Names) → turn ≡ w.turns → mid ≡ out ++ command_line turn command →
-    seen ≡ seen_before_act w 0 w.nodes → ns ≡ names → new ≡ mid ++ lines_since ns seen v →
-    new ≡ out ++ act_trace names command w v
+    (writes : Bool) (names : Names) (w v : CableWorld) (turn : ℕ) (command : Command)
+    (out mid new : List ℕ) (seen : List Seen) (ns : Names) → turn ≡ w.turns →
+    mid ≡ out ++ heard writes (command_line turn command) →
+    (IsTrue writes → seen ≡ seen_before_act w 0 w.nodes) → ns ≡ names →
+    new ≡ mid ++ heard writes (lines_since ns seen v) →
+    new ≡ out ++ heard writes (act_trace names command w v)
 unfolding act_lines
-acted names w v turn command out mid new seen ns at said before named is =
+acted true names w v turn command out mid new seen ns at said before named is =
     is
     ∙ ap (λ (l : List ℕ). l ++ lines_since ns seen v) said
     ∙ append_assoc out (command_line turn command) (lines_since ns seen v)
-    ∙ ap (λ (s : List Seen). out ++ (command_line turn command ++ lines_since ns s v)) before
+    ∙ ap (λ (s : List Seen). out ++ (command_line turn command ++ lines_since ns s v)) (before refl)
     ∙ ap (λ (ms : Names). out ++ (command_line turn command ++ lines_since ms (seen_before_act w 0 w.nodes) v)) named
     ∙ ap (λ (t : ℕ). out ++ (command_line t command ++ lines_since names (seen_before_act w 0 w.nodes) v)) at
+acted false names w v turn command out mid new seen ns at said before named is =
+    is ∙ append-nil mid ∙ said
 
-pub act-does :
-    (bus after : Bus) (command : Command) (text out new : List ℕ) → IsActCommand command →
-    Does bus command (Ok (after, text)) →
-    new ≡ out ++ act_trace after.notes.names command bus.world after.world →
-    DoesTraced bus command after out new
-act-does bus after command text out new act does is = record {
-  text = text;
+pub act-hears :
+    (writes : Bool) (bus after : Bus) (command : Command) (out new : List ℕ) →
+    IsActCommand command →
+    new ≡ out ++ heard writes (act_trace after.notes.names command bus.world after.world) →
+    Hears writes bus command after out new
+act-hears writes bus after command out new act is = record {
   lines = act_trace after.notes.names command bus.world after.world;
-  does = does;
   traces = by-act bus after command (act_trace after.notes.names command bus.world after.world) act refl;
-  appended = is;
+  written = is;
 }
 
-pub hold-does :
-    (bus after : Bus) (command : Command) (text out new : List ℕ) (turn : ℕ) → IsHoldCommand command →
-    Does bus command (Ok (after, text)) → turn ≡ bus.world.turns → new ≡ out ++ command_line turn command →
-    DoesTraced bus command after out new
-hold-does bus after command text out new turn hold does at is = record {
-  text = text;
+pub hold-hears :
+    (writes : Bool) (bus after : Bus) (command : Command) (out new : List ℕ) (turn : ℕ) →
+    IsHoldCommand command → turn ≡ bus.world.turns →
+    new ≡ out ++ heard writes (command_line turn command) →
+    Hears writes bus command after out new
+hold-hears writes bus after command out new turn hold at is = record {
   lines = command_line bus.world.turns command;
-  does = does;
   traces = by-hold bus after command (command_line bus.world.turns command) hold refl;
-  appended = is ∙ ap (λ (t : ℕ). out ++ command_line t command) at;
+  written = is ∙ ap (λ (t : ℕ). out ++ heard writes (command_line t command)) at;
 }
 
-pub question-does :
-    (bus after : Bus) (command : Command) (text out : List ℕ) → IsQuestion command →
-    Does bus command (Ok (after, text)) → DoesTraced bus command after out out
-question-does bus after command text out asks does = record {
-  text = text;
+question-hears :
+    (writes : Bool) (bus after : Bus) (command : Command) (out : List ℕ) → IsQuestion command →
+    Hears writes bus command after out out
+question-hears writes bus after command out asks = record {
   lines = [];
-  does = does;
   traces = no-lines bus after command asks;
-  appended = sym (append-nil out);
+  written = none-heard writes out;
 }
+
+pub asked-hears :
+    {A E : Type 0} → (answer : Result A E) (writes : Bool) (bus after : Bus) (command : Command)
+    (out : List ℕ) → IsQuestion command → OnOk answer (Hears writes bus command after out out)
+asked-hears (Ok x) writes bus after command out asks = question-hears writes bus after command out asks
+asked-hears (Err e) writes bus after command out asks = tt
 
 -- ---- reports
 
@@ -174,17 +192,29 @@ reported-bus notes n t q passed after text fit same few nodes turns some within 
     })
 
 pub settle-does :
-    (bus passed after : Bus) (text out new : List ℕ) →
+    (bus passed after : Bus) (text : List ℕ) →
     nat_lt 2000000 (bus.world.turns + quiet_turns_of bus.world) ≡ false →
     passed.world ≡ turns_after (quiet_turns_of bus.world) bus.world → passed.notes ≡ bus.notes →
-    IsReportedNow passed after text → new ≡ out ++ quiet_trace bus.notes.names bus.world →
-    SettlesTraced bus after out new
-settle-does bus passed after text out new within quiet notes r is = record {
-  text = text;
-  settles = subst
-      (λ (past : Bool). MatchBool past (◌≡◌ {A = LineAnswer} (Ok (after, text)) (Err Kind.TooManyTurns)) (Reports bus (Ok (after, text))))
-      (sym within) (reports-now bus passed after text quiet notes r);
-  appended = is ∙ ap (λ (ns : Names). out ++ quiet_trace ns bus.world) (sym (ap (λ (n : Notes). n.names) (r.notes ∙ ap (λ (n : Notes). notes_after_report n r.report) notes)));
+    IsReportedNow passed after text → Settles bus (Ok (after, text))
+settle-does bus passed after text within quiet notes r =
+    subst
+    (λ (past : Bool). MatchBool past (◌≡◌ {A = LineAnswer} (Ok (after, text)) (Err Kind.TooManyTurns)) (Reports bus (Ok (after, text))))
+    (sym within) (reports-now bus passed after text quiet notes r)
+
+-- the report's names are those before it
+pub names-stay : (passed after : Bus) (text : List ℕ) (names : Names) → passed.notes.names ≡ names →
+    IsReportedNow passed after text → after.notes.names ≡ names
+names-stay passed after text names is r = ap (λ (n : Notes). n.names) r.notes ∙ is
+
+pub settle-hears :
+    (writes : Bool) (bus passed after : Bus) (text out new : List ℕ) → passed.notes ≡ bus.notes →
+    IsReportedNow passed after text → IsPassed writes bus.notes.names bus.world out new →
+    Hears writes bus Command.Settle after out new
+settle-hears writes bus passed after text out new notes r is = record {
+  lines = quiet_trace after.notes.names bus.world;
+  traces = refl;
+  written = is ∙ ap (λ (ns : Names). out ++ heard writes (quiet_trace ns bus.world))
+      (sym (names-stay passed after text bus.notes.names (ap (λ (n : Notes). n.names) notes) r));
 }
 
 -- ---- plans
@@ -195,33 +225,24 @@ pub same-quiet :
 same-quiet w v nodes delay = quiet-is w (length v.cabling) v.delay (quiet_turns_of v) refl nodes delay
 
 -- the packet's lines, and those of the quiet turns
-pub both-told :
-    (name : List ℕ) (root gap : ℕ) (w s : CableWorld) (names after : Names) (out mid new : List ℕ) →
-    after ≡ names →
-    mid ≡ out ++ act_trace names (Config name (Some root) (Some gap)) w s →
-    new ≡ mid ++ quiet_trace names s →
-    new
-    ≡ out
-    ++ (act_trace after (Config name (Some root) (Some gap)) w s ++ quiet_trace after s)
-both-told name root gap w s names after out mid new named said is =
-    is
-    ∙ ap (λ (l : List ℕ). l ++ quiet_trace names s) said
-    ∙ append_assoc out (act_trace names (Config name (Some root) (Some gap)) w s) (quiet_trace names s)
-    ∙ ap (λ (ns : Names). out ++ (act_trace ns (Config name (Some root) (Some gap)) w s ++ quiet_trace ns s)) (sym named)
+both-told :
+    (writes : Bool) (command : Command) (w s : CableWorld) (names after : Names)
+    (out mid new : List ℕ) → after ≡ names →
+    mid ≡ out ++ heard writes (act_trace names command w s) →
+    new ≡ mid ++ heard writes (quiet_trace names s) →
+    new ≡ out ++ heard writes (act_trace after command w s ++ quiet_trace after s)
+both-told writes command w s names after out mid new named said is =
+    both-heard writes (act_trace names command w s) (quiet_trace names s) out mid new said is
+    ∙ ap (λ (ns : Names). out ++ heard writes (act_trace ns command w s ++ quiet_trace ns s)) (sym named)
 
--- the report's names are those before it
-pub names-stay : (passed after : Bus) (text : List ℕ) (names : Names) → passed.notes.names ≡ names →
-    IsReportedNow passed after text → after.notes.names ≡ names
-names-stay passed after text names is r = ap (λ (n : Notes). n.names) r.notes ∙ is
-
-pub sent-traced :
-    (bus sent passed after : Bus) (name : List ℕ) (node : ℕ) (plan : RootPlan)
+pub sent-heard :
+    (writes : Bool) (bus sent passed after : Bus) (name : List ℕ) (node : ℕ) (plan : RootPlan)
     (text out mid new : List ℕ) → PlansComeOut bus.world node → SuitsTree bus.world node plan →
-    IsPacketSent bus name node plan sent out mid →
+    IsPacketSent writes bus name node plan sent out mid →
     passed.world ≡ turns_after (quiet_turns_of sent.world) sent.world → passed.notes ≡ sent.notes →
-    new ≡ mid ++ quiet_trace sent.notes.names sent.world → IsReportedNow passed after text →
-    IsSentTraced bus name node plan after text out new
-sent-traced bus sent passed after name node plan text out mid new come suits s quiet notes is r =
+    IsPassed writes sent.notes.names sent.world mid new → IsReportedNow passed after text →
+    IsSentHeard writes bus name node plan after text out new
+sent-heard writes bus sent passed after name node plan text out mid new come suits s quiet notes is r =
     let out-of = come plan passed.world r.report suits (record { sent = sent.world; act = s.sends.1; quiet = quiet }) r.is in
     record {
       sent = record {
@@ -232,6 +253,6 @@ sent-traced bus sent passed after name node plan text out mid new come suits s q
             (sym (ap (λ (n : Notes). n.report) r.notes)) (out-of.0 root h);
         gaps = subst (λ (w : CableWorld). HaveGap w node plan.gap) (sym r.same) out-of.1;
       };
-      appended = both-told name plan.root_id plan.gap bus.world sent.world sent.notes.names after.notes.names out mid new
-          (names-stay passed after text sent.notes.names (ap (λ (n : Notes). n.names) notes) r) s.appended is;
+      written = both-told writes (Config name (Some plan.root_id) (Some plan.gap)) bus.world sent.world sent.notes.names after.notes.names out mid new
+          (names-stay passed after text sent.notes.names (ap (λ (n : Notes). n.names) notes) r) s.written is;
     }

@@ -10,8 +10,9 @@ use Rattle.cable_world.proofs.running.Whole.{lawful-now}
 use Rattle.settle_plan.proofs.Suited.{from-there, not-refused, packet-fits}
 use Rattle.script_lines.specs.declared.command.Command.TheVariants as command
 use Rattle.script_trace.specs.Trace.{command_line}
-use Rattle.script_bus.proofs.Tracing.{acted}
-use Rattle.script_bus.proofs.bus.Bus.send_traced.Goals as goal
+use Rattle.script_bus.specs.Heard.{heard}
+use Rattle.script_bus.proofs.Hearing.{acted}
+use Rattle.script_bus.proofs.bus.Bus.send.Goals as goal
 
 pub component-component-requires : goal.component-component-requires
 component-component-requires g c =
@@ -39,9 +40,9 @@ returns-clause-sent g c =
     let v = g.W.WorldRun.world c.act.new.self in
     let l = lawful-now w (g.met.W.WorldRun.reached c.args.self.now.world c.requires.sound.fine) in
     let plan = c.args.plan.now in
-    let said = c.in_ok-put_command.ensures ∙ ap (λ (n : List ℕ). c.args.out.now.items ++ command_line c.turns.result (command.Config n (Some plan.root_id) (Some plan.gap))) c.in_ok-clone.ensures.cases in
+    let said = c.in_ok-command.ensures ∙ ap (λ (n : List ℕ). g.L.Listener.written c.args.listener.now ++ heard g.L.Listener.writes (command_line c.turns.result (command.Config n (Some plan.root_id) (Some plan.gap)))) c.in_ok-clone.ensures.cases in
     record {
       sends = (not-refused w l c.args.node plan c.requires.suits, c.in-Ok.ensures.done, c.drop_after_act.ensures, refl);
-      appended = acted c.drop_after_act.new.self.names w v c.turns.result (command.Config c.args.name.now (Some plan.root_id) (Some plan.gap)) c.args.out.now.items c.put_command.new.out.items _ c.deref.result.now c.as_slice.result.now
-          c.turns.ensures said (c.deref.ensures.value ∙ c.in_ok-seen.ensures) (c.as_slice.ensures ∙ c.list-2.ensures) c.in_ok-put_since.ensures;
+      written = acted g.L.Listener.writes c.drop_after_act.new.self.names w v c.turns.result (command.Config c.args.name.now (Some plan.root_id) (Some plan.gap)) _ _ _ c.deref.result.now c.as_slice.result.now
+          c.turns.ensures said (λ writes. c.deref.ensures.value ∙ c.in_ok-seen.ensures writes) (c.as_slice.ensures ∙ c.list-2.ensures) c.in_ok-after_act.ensures;
     }

@@ -1,0 +1,152 @@
+//! Who hears what happens on a bus.
+ghost use Rattle.std.specs.Prelude.{◌≡◌, ◌+◌, ◌≤◌, ◌++◌, ℕ, Bool, true, false, List, [], IfOk, OnOk, IsTrue, IsFalse, length};
+ghost use Rattle.cable_world.specs.Turn.{turns_after};
+ghost use Rattle.cable_world.specs.Unchanged.{TurnsPass};
+ghost use Rattle.script_trace.specs.Step.{lines_since, seen_before_act, turns_lines};
+ghost use Rattle.script_trace.specs.Trace.{command_line};
+ghost use Rattle.script_bus.specs.Heard.{heard};
+
+use cable_world::WorldRun;
+use script_lines::Command;
+use script_trace::{Seen, put_command, put_since, seen_before_act, trace_turns};
+use std::alloc::Global;
+use topology_stack::{Name, OutOfMemory};
+
+/// Hears the acts, the holds and the turns of a bus, and may write them down, a line for each thing
+/// that happens, as `script_trace` has it. `names` has the name of each node by its number, 63 at
+/// most. Each call fails for want of memory alone.
+pub trait Listener {
+    // what it has written
+    ghost written: { Self → List ℕ };
+
+    // whether it writes
+    ghost writes: { Bool };
+
+    /// An act or a hold comes, once `turn` turns are done.
+    fn command(&mut self, turn: u32, command: &Command) -> Result<(), OutOfMemory>
+        ensures { OnOk result (written self.new
+            ≡ written self.old ++ heard writes (command_line turn command.now)) };
+
+    /// What so many nodes, all of them, show before an act, if it writes.
+    fn before_act<W: WorldRun>(
+        &self,
+        alloc: Global,
+        world: &W,
+        nodes: usize,
+    ) -> Result<Vec<Seen>, OutOfMemory>
+        requires few { nodes ≤ 63 }
+        requires nodes { nodes ≡ length (W.world world.now).nodes }
+        ensures { IfOk result (λ seen. IsTrue writes → seen.items
+            ≡ seen_before_act (W.world world.now) 0 (W.world world.now).nodes) };
+
+    /// An act was done, before which the nodes showed `seen`.
+    fn after_act<W: WorldRun>(
+        &mut self,
+        names: &[Name],
+        seen: &[Seen],
+        world: &W,
+    ) -> Result<(), OutOfMemory>
+        requires few { length names.now ≤ 63 }
+        requires nodes { length names.now ≡ length (W.world world.now).nodes }
+        ensures { OnOk result (written self.new ≡ written self.old
+            ++ heard writes (lines_since names.now seen.now (W.world world.now))) };
+
+    /// Does `count` turns. With those done before they are at most 4,000,000,000.
+    fn turns<W: WorldRun>(
+        &mut self,
+        alloc: Global,
+        world: &mut W,
+        count: u32,
+        names: &[Name],
+    ) -> Result<(), OutOfMemory>
+        requires turns { (W.world world.old).turns + count ≤ 4000000000 }
+        requires few { length names.now ≤ 63 }
+        requires nodes { length names.now ≡ length (W.world world.old).nodes }
+        requires fine { IsFalse (W.is_spent world.old) }
+        ensures done { OnOk result (W.world world.new ≡ turns_after count (W.world world.old)) }
+        ensures heard { OnOk result (written self.new ≡ written self.old
+            ++ heard writes (turns_lines names.now count (W.world world.old))) }
+        ensures passed { OnOk result (TurnsPass count (W.world world.old) (W.world world.new)) }
+        ensures fine { OnOk result (IsFalse (W.is_spent world.new)) };
+}
+
+/// Writes nothing, and passes over turns in which nothing happens where the world does.
+#[derive(Clone, Copy, Drop)]
+pub struct Silent;
+
+impl Listener for Silent {
+    ghost written = { λ s. [] };
+
+    ghost writes = { false };
+
+    fn command(&mut self, _turn: u32, _command: &Command) -> Result<(), OutOfMemory> {
+        Ok(())
+    }
+
+    fn before_act<W: WorldRun>(
+        &self,
+        alloc: Global,
+        _world: &W,
+        _nodes: usize,
+    ) -> Result<Vec<Seen>, OutOfMemory> {
+        Ok(Vec::new(alloc))
+    }
+
+    fn after_act<W: WorldRun>(
+        &mut self,
+        _names: &[Name],
+        _seen: &[Seen],
+        _world: &W,
+    ) -> Result<(), OutOfMemory> {
+        Ok(())
+    }
+
+    fn turns<W: WorldRun>(
+        &mut self,
+        _alloc: Global,
+        world: &mut W,
+        count: u32,
+        _names: &[Name],
+    ) -> Result<(), OutOfMemory> {
+        world.run_turns(count)
+    }
+}
+
+/// A text to which the trace is appended.
+impl Listener for Vec<u8> {
+    ghost written = { λ text. text.items };
+
+    ghost writes = { true };
+
+    fn command(&mut self, turn: u32, command: &Command) -> Result<(), OutOfMemory> {
+        put_command(self, turn, command)
+    }
+
+    fn before_act<W: WorldRun>(
+        &self,
+        alloc: Global,
+        world: &W,
+        nodes: usize,
+    ) -> Result<Vec<Seen>, OutOfMemory> {
+        seen_before_act(alloc, world, nodes)
+    }
+
+    fn after_act<W: WorldRun>(
+        &mut self,
+        names: &[Name],
+        seen: &[Seen],
+        world: &W,
+    ) -> Result<(), OutOfMemory> {
+        put_since(self, names, seen, world)
+    }
+
+    fn turns<W: WorldRun>(
+        &mut self,
+        alloc: Global,
+        world: &mut W,
+        count: u32,
+        names: &[Name],
+    ) -> Result<(), OutOfMemory> {
+        trace_turns(alloc, world, count, names, self)
+    }
+}
