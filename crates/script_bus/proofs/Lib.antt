@@ -5,4 +5,5 @@ pub mod PlansAsked
 pub mod Hearing
 pub mod SomePlan
 pub mod SomeRun
+pub mod SomeAdvice
 pub mod EachPlan

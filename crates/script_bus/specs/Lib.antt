@@ -1,4 +1,5 @@
 pub mod Running
 pub mod SomeRun
+pub mod SomeAdvice
 pub mod Heard
 pub mod codings

@@ -2,9 +2,11 @@
 ghost use Rattle.script_told.specs.SomeAnswer.{PlansHaveAnswers};
 ghost use Rattle.script_told.specs.EachPlan.{EachPlanComesOut};
 ghost use Rattle.script_bus.specs.SomeRun.{EachScriptHasARun};
+ghost use Rattle.script_bus.specs.SomeAdvice.{EachScriptHasAnAdvice};
 
 use cable_world::acts_keep;
 use cabling::components_exist;
+use loop_advice::advices_exist;
 use outcomes::{forced_roots_settle, trees_stay};
 use script_lines::commands_are_in_range;
 use script_text::{plans_exist, settled_worlds_have_texts};
@@ -49,4 +51,16 @@ pub fn each_script_has_a_run()
     commands_have_answers();
     plans_have_answers();
     commands_are_in_range();
+}
+
+/// A law: each script has an advice, the text of it or a fault, whatever memory there is to make it.
+pub fn each_script_has_an_advice()
+    ensures { EachScriptHasAnAdvice }
+{
+    one_tree();
+    acts_keep();
+    components_exist();
+    advices_exist();
+    commands_have_answers();
+    each_script_has_a_run();
 }
