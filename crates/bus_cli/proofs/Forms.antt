@@ -1,13 +1,14 @@
 -- Words are those of one form at most.
-use Rattle.std.proofs.Common.{cond, Option, Some, None, ◌⊎◌, inl, inr, Bool, true, false, eqb, ◌≡◌, ℕ, List, [], ◌∷◌, refl, sym, ap, subst, ◌∙◌}
-use Rattle.std.specs.Prelude.{String, map, string_bytes, codes}
-use Rattle.std.proofs.lemmas.Bool.{eqb-true}
+use Rattle.std.proofs.Common.{cond, Option, Some, None, ◌⊎◌, inl, inr, Bool, true, false, eqb, ◌≡◌, ◌≤◌, ℕ, List, [], ◌∷◌, refl, sym, ap, subst, ◌∙◌, arith}
+use Rattle.std.specs.Prelude.{String, map, string_bytes, codes, nat_lt, ◌<◌}
+use Rattle.std.proofs.lemmas.Bool.{eqb-true, eq-eqb}
+use Rattle.std.proofs.lemmas.Bool.Decides.{nat_tests}
 use Rattle.std.specs.Global.{Global}
 use Rattle.script_lines.specs.Number.{number_of}
 use Rattle.bus_cli.specs.declared.form.Form.{Form}
 use Rattle.bus_cli.specs.declared.form.Form.TheVariants.{Capture, Rom, Run, Advice, Make}
 use Rattle.bus_cli.specs.declared.form.CaptureForm.TheVariants.{Read, Read95, Maps}
-use Rattle.bus_cli.specs.Form.{AreWordsOf, AreMakeWords, Asks, IsForm, AsksMake, AsksScript}
+use Rattle.bus_cli.specs.Form.{AreWordsOf, AreMakeWords, Asks, IsForm, AsksMake}
 use Rattle.bus_cli.specs.codings.Reading.{IsRead, AsksFewNodes}
 
 -- ---- the form of words, found by trying them all
@@ -81,6 +82,14 @@ one_make words n m s r x y =
     let e : Make n s ≡ Make m r = one_form words (Make n s) (Make m r) x y in
     (cc, cc)
 
+same-is : (xs ys : List ℕ) → xs ≡ ys → same xs ys ≡ true
+same-is xs ys e = subst (λ (zs : List ℕ). same xs zs ≡ true) e (itself xs)
+  where
+    itself : (zs : List ℕ) → same zs zs ≡ true
+    unfolding same
+    itself [] = refl
+    itself (z ∷ zs) = rw (eq-eqb z z refl, itself zs) refl
+
 -- ---- the word of each form
 
 abbrev IsWordOf : List ℕ → Form → Type 0
@@ -128,16 +137,77 @@ only_make a b c words Run none e = cc
 only_make a b c words Advice none e = cc
 only_make a b c words (Make nodes seed) none m = none (nodes, seed, m)
 
-are_form : (words : List (List ℕ)) → (AreMake words → ⊥) → AreForm words ⊎ (AreForm words → ⊥)
-unfolding form_of
-are_form [] none = inr (not_found [] refl)
-are_form (a ∷ []) none = by_form a (of_word a) refl
-are_form (a ∷ b ∷ []) none = inr (not_found (a ∷ b ∷ []) refl)
-are_form (a ∷ b ∷ c ∷ words) none = inr (λ is. only_make a b c words is.0 none is.1)
+-- ---- the words of `make`, or none of it
 
--- words that don't ask for a script are those of a form, or of none
-pub form_or_none : (words : List (String Global)) → (AsksScript words → ⊥) → IsForm words ⊎ (IsForm words → ⊥)
-form_or_none words none = are_form (map string_bytes words) (λ make. none (inr (inr make)))
+-- the first number is one of 1 to 63
+nodes_word : (b : List ℕ) (o : Option ℕ) → number_of b ≡ o → ((n : ℕ) × (number_of b ≡ Some n) × (1 ≤ n) × (n ≤ 63)) ⊎ ((n : ℕ) → number_of b ≡ Some n → 1 ≤ n → n ≤ 63 → ⊥)
+nodes_word b None e = inr (λ n is least most. no n is)
+  where
+    no : (n : ℕ) → number_of b ≡ Some n → ⊥
+    no n is = cc
+nodes_word b (Some n) e = by (nat_lt 0 n) (nat_lt n 64) refl refl
+  where
+    same : (m : ℕ) → number_of b ≡ Some m → m ≡ n
+    same m is = cc
+
+    by : (low high : Bool) → nat_lt 0 n ≡ low → nat_lt n 64 ≡ high → ((k : ℕ) × (number_of b ≡ Some k) × (1 ≤ k) × (k ≤ 63)) ⊎ ((k : ℕ) → number_of b ≡ Some k → 1 ≤ k → k ≤ 63 → ⊥)
+    by true true l h = inl (n, e, grind (arith, nat_tests), grind (arith, nat_tests))
+    by false high l h = inr (λ m is least most. let s = same m is in grind (arith, nat_tests))
+    by true false l h = inr (λ m is least most. let s = same m is in grind (arith, nat_tests))
+
+seed_word : (c : List ℕ) (o : Option ℕ) → number_of c ≡ o → ((n : ℕ) × (number_of c ≡ Some n)) ⊎ ((n : ℕ) → number_of c ≡ Some n → ⊥)
+seed_word c None e = inr (λ n is. no n is)
+  where
+    no : (n : ℕ) → number_of c ≡ Some n → ⊥
+    no n is = cc
+seed_word c (Some n) e = inl (n, e)
+
+-- the parts of the words of `make`
+parts_of : (a b c : List ℕ) (words : List (List ℕ)) (m : AreMake (a ∷ b ∷ c ∷ words)) → (a ≡ codes "make") × (m.2.nodes_word ≡ b) × (m.2.seed_word ≡ c) × (words ≡ [])
+parts_of a b c words m = split a b c words m.2.nodes_word m.2.seed_word m.2.words_are
+  where
+    split : (a b c : List ℕ) (words : List (List ℕ)) (n s : List ℕ) → a ∷ b ∷ c ∷ words ≡ codes "make" ∷ n ∷ s ∷ [] → (a ≡ codes "make") × (n ≡ b) × (s ≡ c) × (words ≡ [])
+    split a b c words n s e = (cc, cc, cc, cc)
+
+three_words : (a b c : List ℕ) → AreMake (a ∷ b ∷ c ∷ []) ⊎ (AreMake (a ∷ b ∷ c ∷ []) → ⊥)
+three_words a b c = by (same a (codes "make")) refl (nodes_word b (number_of b) refl) (seed_word c (number_of c) refl)
+  where
+    by : (t : Bool) → same a (codes "make") ≡ t → ((n : ℕ) × (number_of b ≡ Some n) × (1 ≤ n) × (n ≤ 63)) ⊎ ((n : ℕ) → number_of b ≡ Some n → 1 ≤ n → n ≤ 63 → ⊥) →
+        ((n : ℕ) × (number_of c ≡ Some n)) ⊎ ((n : ℕ) → number_of c ≡ Some n → ⊥) → AreMake (a ∷ b ∷ c ∷ []) ⊎ (AreMake (a ∷ b ∷ c ∷ []) → ⊥)
+    by true e (inl n) (inl s) = inl (n.0, s.0, record {
+      nodes_word = b;
+      seed_word = c;
+      words_are = ap (λ (w : List ℕ). w ∷ b ∷ c ∷ []) (same-true a (codes "make") e);
+      nodes_are = n.1;
+      some_nodes = n.2;
+      few_nodes = n.3;
+      seed_is = s.1;
+    })
+    by true e (inl n) (inr none) = inr (λ m. none m.1 (subst (λ (w : List ℕ). number_of w ≡ Some m.1) (parts_of a b c [] m).2 m.2.seed_is))
+    by true e (inr none) s = inr (λ m. none m.0 (subst (λ (w : List ℕ). number_of w ≡ Some m.0) (parts_of a b c [] m).1 m.2.nodes_are) m.2.some_nodes m.2.few_nodes)
+    by false e n s = inr (λ m. let h = same-is a (codes "make") (parts_of a b c [] m).0 in apart h)
+      where
+        apart : same a (codes "make") ≡ true → ⊥
+        apart h = cc
+
+make_or_none : (words : List (List ℕ)) → AreMake words ⊎ (AreMake words → ⊥)
+make_or_none [] = inr (λ m. let e = m.2.words_are in cc)
+make_or_none (a ∷ []) = inr (λ m. let e = m.2.words_are in cc)
+make_or_none (a ∷ b ∷ []) = inr (λ m. let e = m.2.words_are in cc)
+make_or_none (a ∷ b ∷ c ∷ []) = three_words a b c
+make_or_none (a ∷ b ∷ c ∷ d ∷ words) = inr (λ m. let e = m.2.words_are in cc)
+
+are_form : (words : List (List ℕ)) → AreMake words ⊎ (AreMake words → ⊥) → AreForm words ⊎ (AreForm words → ⊥)
+unfolding form_of
+are_form words (inl make) = inl (Make make.0 make.1, make.2)
+are_form [] (inr none) = inr (not_found [] refl)
+are_form (a ∷ []) (inr none) = by_form a (of_word a) refl
+are_form (a ∷ b ∷ []) (inr none) = inr (not_found (a ∷ b ∷ []) refl)
+are_form (a ∷ b ∷ c ∷ words) (inr none) = inr (λ is. only_make a b c words is.0 none is.1)
+
+-- words are those of a form, or of none
+pub form_or_none : (words : List (String Global)) → IsForm words ⊎ (IsForm words → ⊥)
+form_or_none words = are_form (map string_bytes words) (make_or_none (map string_bytes words))
 
 -- ---- what is read
 

@@ -43,14 +43,7 @@ Asks words form = AreWordsOf form (map string_bytes words)
 abbrev pub IsForm : List (String Global) → Type 0
 IsForm words = (form : Form) × Asks words form
 
--- the words are those of a form that reads a capture
-abbrev pub AsksCapture : List (String Global) → Type 0
-AsksCapture words = (form : CaptureForm) × Asks words (Capture form)
 
 -- the words ask for the script of some nodes and seed to be made
 abbrev pub AsksMake : List (String Global) → Type 0
 AsksMake words = (nodes : ℕ) × (seed : ℕ) × Asks words (Make nodes seed)
-
--- the words ask for the run of a script, or for its advice
-abbrev pub AsksScript : List (String Global) → Type 0
-AsksScript words = Asks words Run ⊎ Asks words Advice ⊎ AsksMake words

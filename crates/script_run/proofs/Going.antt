@@ -111,7 +111,7 @@ script-ends bytes out text number stage bus have settles = (
   behind have.entries (last_run number stage (Ok (bus, text))),
   run-ends bytes have.entries number stage bus text have.went settles,
   ap Ok (ap (λ (l : List ℕ). l ++ text) have.out_is
-  ∙ sym (printed-more have.entries (done number stage Settle (running bus) text))),
+      ∙ sym (printed-more have.entries (done number stage Settle (running bus) text))),
 )
 
 -- ---- what is answered

@@ -1,10 +1,11 @@
-use Rattle.std.proofs.Common.{◌≡◌, ◌∙◌, refl, sym, ap, Err}
+use Rattle.std.proofs.Common.{◌≡◌, ◌⊎◌, ◌≤◌, ◌∙◌, ℕ, List, length, inl, refl, sym, ap, Err}
+use Rattle.std.specs.Io.KnownBytes.{Appends}
 use Rattle.bus_cli.specs.declared.form.Form.TheVariants.{Capture}
 use Rattle.bus_cli.specs.declared.form.CaptureForm.TheVariants.{Read}
 use Rattle.bus_cli.proofs.Forms.{few_nodes, is_unread}
 use Rattle.bus_cli.specs.Answer.{Answers}
 use Rattle.bus_cli.proofs.Answering.{part_written, whole_written, exact_status, no_form_exact, no_form_complete}
-use Rattle.bus_cli.proofs.Ends.{all_settled, or_else, taken_surely, advice_written, no_form_answers}
+use Rattle.bus_cli.proofs.Ends.{or_else, taken_surely, no_form_answers, form_written, of_answer, of_few, made_status}
 use Rattle.bus_cli.proofs.top.bus_main.Goals as goal
 
 pub returns-in-Err-Memory-clause-memory : goal.returns-in-Err-Memory-clause-memory
@@ -46,57 +47,12 @@ returns-in-Err-TooLong-clause-unfailing g c = λ make.
     absurd cc
 
 pub returns-in_default-clause-exact : goal.returns-in_default-clause-exact
-returns-in_default-clause-exact g c = no_form_exact (Answers c.args.words.now) (g.S.Source.left c.args.source.now) (no_form_answers c.args.words.now (λ is. absurd (let e = (c.in_default.ensures is.0).1 is.1 in cc)))
+returns-in_default-clause-exact g c =
+    of_answer c.one_answer.ensures.some c.args.words.now (g.S.Source.left c.args.source.now) (λ bytes status text. (2 ≡ status) ⊎ (3 ≤ 2))
+    (no_form_exact (Answers c.args.words.now) (g.S.Source.left c.args.source.now) (no_form_answers c.args.words.now (λ is. absurd (let e = (c.in_default.ensures is.0).1 is.1 in cc))))
 
 pub returns-in_default-clause-complete : goal.returns-in_default-clause-complete
 returns-in_default-clause-complete g c = λ reads writes.
-    no_form_complete (Answers c.args.words.now) (g.S.Source.left c.args.source.now) (g.K.Sink.written c.args.sink.now) (no_form_answers c.args.words.now (λ is. absurd (let e = (c.in_default.ensures is.0).1 is.1 in cc)))
+    of_few c.one_answer.ensures.some c.args.words.now (g.S.Source.left c.args.source.now) _
+    (no_form_complete (Answers c.args.words.now) (g.S.Source.left c.args.source.now) (g.K.Sink.written c.args.sink.now) (no_form_answers c.args.words.now (λ is. absurd (let e = (c.in_default.ensures is.0).1 is.1 in cc))))
 
-pub returns-in-Ok-write_whole-clause-exact : goal.returns-in-Ok-write_whole-clause-exact
-returns-in-Ok-write_whole-clause-exact g c =
-    let told = c.in-Ok.ensures.answer in
-    let asks = (c.in-Some.ensures c.in-Some.form).0 refl in
-    let answers = told.1.1 c.args.words.now asks in
-    rw c.status.ensures (exact_status (Answers c.args.words.now) (c.one_outcome.ensures.answer c.args.words.now) _ _ _ _ told.1.0 answers)
-
-pub returns-in-Ok-write_whole-clause-complete : goal.returns-in-Ok-write_whole-clause-complete
-returns-in-Ok-write_whole-clause-complete g c = λ reads writes.
-    let told = c.in-Ok.ensures.answer in
-    let asks = (c.in-Some.ensures c.in-Some.form).0 refl in
-    let answers = told.1.1 c.args.words.now asks in
-    let written = rw c.text.ensures at c.in-Ok-write_whole.ensures.ok in
-    rw c.status.ensures (whole_written (Answers c.args.words.now) (c.one_outcome.ensures.answer c.args.words.now) _ _ _ _ _ _ told.1.0 answers written)
-
-pub returns-in-Ok-write_whole-clause-sure : goal.returns-in-Ok-write_whole-clause-sure
-returns-in-Ok-write_whole-clause-sure g c =
-    let told = c.in-Ok.ensures.answer in
-    let asks = (c.in-Some.ensures c.in-Some.form).0 refl in
-    let answers = told.1.1 c.args.words.now asks in
-    let sure = rw c.text.ensures at c.in-Ok-write_whole.ensures.sure in
-    taken_surely c.one_outcome.ensures.answer _ _ _ _ _ (g.K.Sink.surely_takes c.args.sink.now) _ told.1.0 answers (λ k. (sure k).1)
-
-pub returns-clause-part : goal.returns-clause-part
-returns-clause-part g c = λ four.
-    let told = c.in-Ok.ensures.answer in
-    let asks = (c.in-Some.ensures c.in-Some.form).0 refl in
-    let answers = told.1.1 c.args.words.now asks in
-    part_written (Answers c.args.words.now) _ _ _ _ _ _ told.1.0 answers (rw c.text.ensures at c.in-Err.ensures.start)
-
-pub returns-clause-sure : goal.returns-clause-sure
-returns-clause-sure g c =
-    let told = c.in-Ok.ensures.answer in
-    let asks = (c.in-Some.ensures c.in-Some.form).0 refl in
-    let answers = told.1.1 c.args.words.now asks in
-    let sure = rw c.text.ensures at c.in-Err.ensures.sure in
-    taken_surely c.one_outcome.ensures.answer _ _ _ _ _ (g.K.Sink.surely_takes c.args.sink.now) _ told.1.0 answers (λ k. (sure k).1)
-
-pub returns-in-Ok-write_whole-clause-no_loop : goal.returns-in-Ok-write_whole-clause-no_loop
-returns-in-Ok-write_whole-clause-no_loop g c = λ zero asks.
-    let told = c.in-Ok.ensures.answer in
-    let form = (c.in-Some.ensures c.in-Some.form).0 refl in
-    let answers = told.1.1 c.args.words.now form in
-    let written = rw c.text.ensures at c.in-Ok-write_whole.ensures.ok in
-    advice_written c.advices_leave_no_loop.ensures.text _ _ _ _ _ _ _ told.1.0 answers (sym c.status.ensures ∙ zero) asks written
-
-pub returns-in-Ok-write_whole-clause-settled : goal.returns-in-Ok-write_whole-clause-settled
-returns-in-Ok-write_whole-clause-settled g c = λ done asks. all_settled c.reports_are_settled.ensures (g.S.Source.left c.args.source.now)
