@@ -1,0 +1,9 @@
+//! Laws of worlds that the crates below have no need of: what reaches whom, what an act changes and
+//! what it leaves alone, and which components are fresh.
+//!
+//! The crate has laws alone, of worlds as `cable_world` defines them. `specs/` says what is so.
+#![tactic(auto)]
+
+mod laws;
+
+pub use laws::{acts_by_number, seen_trees_are_bus_trees, signals_arrive};
