@@ -1,15 +1,14 @@
 -- What an act does to the cables, and to a cable that it doesn't pull.
-use Rattle.std.proofs.Common.{◌≡◌, ◌≢◌, inl, inr, Option, Some, None, refl, sym, ◌∙◌, ap, subst}
+use Rattle.std.proofs.Common.{◌≡◌, ◌≢◌, Some, None, sym, ◌∙◌, ap}
 use Rattle.cabling.specs.declared.cable.End.{End}
-use Rattle.cabling.specs.Wiring.{Wiring, far, IsCabling}
-use Rattle.cabling.specs.Change.{plug_fault, pull_fault}
+use Rattle.cabling.specs.Wiring.{Wiring, far}
 use Rattle.cabling.proofs.Ends.{none_some, one_other}
 use Rattle.cabling.proofs.Plugging.{Pluggable, pluggable}
 use Rattle.port_state.specs.Config.{config_packet}
 use Rattle.port_state.specs.Machine.{node_disturb, node_plugged, node_pulled, node_set_config}
 use Rattle.cable_world.specs.declared.act.Act.{Act}
 use Rattle.cable_world.specs.declared.act.Act.TheVariants.{Plug, Pull, Reset, Config}
-use Rattle.cable_world.specs.World.{CableWorld, wire_of}
+use Rattle.cable_world.specs.World.{CableWorld}
 use Rattle.cable_world.specs.Act.{with_step, add_cable, remove_cable, plug, pull_from, reset, change_in_set, note_changes, ActLeads, act_fault}
 use Rattle.cable_world.specs.Lawful.{IsWellFormed}
 use Rattle.cable_world.proofs.acts.Cabled.{with_cable, without_cable, plug-cabled, pull-cabled}

@@ -1,17 +1,16 @@
 -- What each act makes of each node, of each wire and of the cables, by number.
-use Rattle.std.proofs.Common.{◌≡◌, ◌≢◌, inl, inr, ℕ, ◌<◌, true, false, List, [], ◌∷◌, Option, Some, None, length, length-set, slice_get, slice_index_or, refl, sym, ◌∙◌, ap, subst, arith}
+use Rattle.std.proofs.Common.{◌≡◌, ◌≢◌, inl, inr, ℕ, List, [], ◌∷◌, Option, Some, None, length, length-set, slice_get, refl, sym, ◌∙◌, ap, subst, arith}
 use Rattle.std.proofs.lemmas.List.{ext_get_or}
 use Rattle.cabling.specs.declared.cable.End.{End}
 use Rattle.cabling.specs.Wiring.{Wiring, far, ports_of}
 use Rattle.cabling.specs.NodeSet.{Holds}
 use Rattle.cabling.specs.Component.{IsComponent}
 use Rattle.cabling.specs.Change.{SameBut, Added, TakenOut, plug_fault}
-use Rattle.cabling.proofs.Ends.{cases_end, same_ports, added_by_writes, taken_by_writes, none_some, plugged as has-end}
-use Rattle.cabling.proofs.Plugging.{Pluggable, pluggable, other_there}
+use Rattle.cabling.proofs.Ends.{cases_end, same_ports, added_by_writes, taken_by_writes, none_some}
+use Rattle.cabling.proofs.Plugging.{Pluggable, pluggable}
 use Rattle.port_state.specs.declared.signal.Signal.TheVariants as signal
 use Rattle.port_state.specs.Config.{ConfigPacket, config_packet}
 use Rattle.port_state.specs.Machine.{PortNode, NodeStep, node_disturb, node_plugged, node_pulled, node_set_config}
-use Rattle.cable_world.specs.declared.act.Act.{Act}
 use Rattle.cable_world.specs.declared.act.Act.TheVariants.{Plug, Pull, Reset, Config}
 use Rattle.cable_world.specs.Wire.{Wire, empty_wire, add_signals}
 use Rattle.cable_world.specs.World.{CableWorld, wire_of, put}
@@ -22,7 +21,7 @@ use Rattle.cable_world.proofs.acts.ResettingSteps.{Resets as Resetting, resets-d
 use Rattle.cable_world.proofs.tables.CableEnds.{CableEnd, cable-end}
 use Rattle.cable_world.proofs.tables.TablesInActs.{recabled, others-alone, has-wire, has-cable, plug-formed, pull-formed, reset-formed, told-formed}
 use Rattle.cable_world.proofs.tables.TablesInSteps.{HasEntry, put-same, put-other, put-lengths, step-cables}
-use Rattle.world_laws.specs.ByNumber.{BeginsReset, WiresStand, Stands, Plugs, Pulls, Resets, Configures, ActsByNumber}
+use Rattle.world_laws.specs.ByNumber.{BeginsReset, Stands, Plugs, Pulls, Resets, Configures, ActsByNumber}
 use Rattle.world_laws.proofs.ActCables.{plug-cables, pull-cables, pulled-from}
 use Rattle.world_laws.proofs.NodeByNumber.{stepped-node, stepped-wire, changed-member, unchanged-other, same-change}
 
@@ -251,7 +250,7 @@ acts-by-number (Pull a) w v is none e l =
     let now = pulled-from a b w v cable.1 e in (
       b,
       subst (λ (z : CableWorld). Pulls w z a b) (sym now)
-      (pull-numbers a b w cable.1 l.well_formed (subst (λ (o : Option End). IsWellFormed (pull_from a o w)) cable.1 (pull-formed a (far w.cabling a) w refl l.well_formed))),
+          (pull-numbers a b w cable.1 l.well_formed (subst (λ (o : Option End). IsWellFormed (pull_from a o w)) cable.1 (pull-formed a (far w.cabling a) w refl l.well_formed))),
     )
 acts-by-number (Reset node) w v is none e l = subst (λ (z : CableWorld). Resets w z node) (sym e) (reset-numbers node w l.well_formed)
 acts-by-number (Config from root_id force gap) w v is none e l =
@@ -259,5 +258,5 @@ acts-by-number (Config from root_id force gap) w v is none e l =
     let formed : IsWellFormed (record w { nodes = change_in_set e.0 (node_set_config packet) 0 w.nodes }) = told-formed e.0 packet w is.bits l.well_formed in (
       e.0,
       subst (λ (z : CableWorld). Configures w z from (node_set_config packet) e.0) (sym e.2)
-      (configure-numbers e.0 from packet w e.1 (reset-formed from (record w { nodes = change_in_set e.0 (node_set_config packet) 0 w.nodes }) formed)),
+          (configure-numbers e.0 from packet w e.1 (reset-formed from (record w { nodes = change_in_set e.0 (node_set_config packet) 0 w.nodes }) formed)),
     )

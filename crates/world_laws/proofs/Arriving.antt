@@ -1,24 +1,23 @@
 -- What is heard over a cable: each signal that is under way, within d turns, in order and once.
-use Rattle.std.proofs.Common.{◌≡◌, ◌≢◌, inl, inr, ℕ, suc, ◌+◌, ◌-◌, ◌≤◌, Bool, true, false, List, [], ◌∷◌, ◌++◌, map, Option, Some, None, length, slice_get, if◌then◌else◌, refl, sym, ◌∙◌, ap, subst, arith, append-nil, append_assoc}
+use Rattle.std.proofs.Common.{◌≡◌, ◌≢◌, inl, inr, ℕ, suc, ◌+◌, ◌-◌, ◌≤◌, Bool, true, false, List, [], ◌∷◌, ◌++◌, map, Some, None, if◌then◌else◌, refl, sym, ◌∙◌, ap, subst, arith, append-nil, append_assoc}
 use Rattle.std.specs.Prelude.{All}
-use Rattle.std.proofs.lemmas.List.{map-append}
 use Rattle.cabling.specs.declared.cable.End.{End}
-use Rattle.cabling.specs.Wiring.{Wiring, far, ports_of}
+use Rattle.cabling.specs.Wiring.{Wiring, far}
 use Rattle.port_state.specs.declared.signal.Signal.{Signal}
 use Rattle.port_state.specs.declared.signal.Signal.TheVariants as signal
 use Rattle.port_state.specs.Sends.{sent_on}
 use Rattle.cable_world.specs.declared.act.Act.{Act}
 use Rattle.cable_world.specs.declared.act.Act.TheVariants.{Pull}
 use Rattle.cable_world.specs.declared.wire.Travelling.{Travelling}
-use Rattle.cable_world.specs.Wire.{Wire, new_signal, age_signal, age_wire, gives, add_signals, stays}
+use Rattle.cable_world.specs.Wire.{Wire, new_signal, age_signal, age_wire, gives}
 use Rattle.cable_world.specs.World.{CableWorld, wire_of}
-use Rattle.cable_world.specs.Turn.{inbox, turn, turn_at}
-use Rattle.cable_world.specs.Act.{ActLeads, IsAct, act_fault, hold, hold_fault, note_changes}
+use Rattle.cable_world.specs.Turn.{turn, turn_at}
+use Rattle.cable_world.specs.Act.{ActLeads, IsAct, act_fault, hold, hold_fault}
 use Rattle.cable_world.specs.Run.{Event, acts, holds, turns, Happens, Runs}
 use Rattle.cable_world.specs.Signals.{signals_of}
 use Rattle.cable_world.specs.Lawful.{AgesFall, IsWellFormed}
 use Rattle.cable_world.proofs.StaysLawful.{reached-lawful}
-use Rattle.cable_world.proofs.acts.Happenings.{Entered, Stayed, Acting, acting, hold-signals}
+use Rattle.cable_world.proofs.acts.Happenings.{Acting, acting, hold-signals}
 use Rattle.cable_world.proofs.coupling.Streams.{signals-append, signals-sent, signals-older}
 use Rattle.cable_world.proofs.tables.CableEnds.{CableEnd, cable-end}
 use Rattle.cable_world.proofs.tables.CountsInActs.{act-keeps}
@@ -28,7 +27,7 @@ use Rattle.cable_world.proofs.turns.ByNumber.{wire-after, cabling-after, delay-a
 use Rattle.cable_world.proofs.turns.TurnParts.{comes}
 use Rattle.outcomes.specs.Settled.{turn_count}
 use Rattle.world_laws.proofs.ActCables.{act-cable}
-use Rattle.world_laws.specs.Arrival.{heard_at, heard_in, IsJoined, CablesStay, SignalsArrive, SignalsKeepTheirOrder}
+use Rattle.world_laws.specs.Arrival.{heard_at, heard_in, CablesStay, SignalsArrive, SignalsKeepTheirOrder}
 
 -- ---- one event
 
@@ -231,8 +230,8 @@ heard-now b e events w v run before t after h =
     let rest : List Signal = heard_in b events run.0 v run.2 in (
       signals_of after ++ rest,
       heard-first b e events w v run
-      ∙ ap (λ l. l ++ rest) (h ∙ signals-split before t after)
-      ∙ append_assoc (signals_of before) (t.signal ∷ signals_of after) rest,
+          ∙ ap (λ l. l ++ rest) (h ∙ signals-split before t after)
+          ∙ append_assoc (signals_of before) (t.signal ∷ signals_of after) rest,
     )
 
 heard-later :
@@ -315,8 +314,8 @@ module _
   order-all sent h now = (
     sent ++ next.0,
     ap (λ l. l ++ last) (heard-first b e events w v run ∙ ap (λ l. l ++ rest) h)
-    ∙ append_assoc (signals_of (under_way w a)) rest last
-    ∙ ap (λ l. signals_of (under_way w a) ++ l) (next.1 ∙ ap (λ l. l ++ next.0) now),
+        ∙ append_assoc (signals_of (under_way w a)) rest last
+        ∙ ap (λ l. signals_of (under_way w a) ++ l) (next.1 ∙ ap (λ l. l ++ next.0) now),
   )
 
   order-none :
@@ -326,9 +325,9 @@ module _
   order-none sent h now = (
     sent ++ next.0,
     ap (λ l. l ++ last) (heard-first b e events w v run ∙ ap (λ l. l ++ rest) h)
-    ∙ next.1
-    ∙ ap (λ l. l ++ next.0) now
-    ∙ append_assoc (signals_of (under_way w a)) sent next.0,
+        ∙ next.1
+        ∙ ap (λ l. l ++ next.0) now
+        ∙ append_assoc (signals_of (under_way w a)) sent next.0,
   )
 
 pub in-order :

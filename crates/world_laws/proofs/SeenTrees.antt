@@ -1,6 +1,6 @@
 -- A seen tree is a bus tree: it is no larger than a bus, since the nodes of a component are few.
-use Rattle.std.proofs.Common.{ℕ, ◌≤◌, length, sym}
-use Rattle.topology_stack.specs.Tree.{Label, Tree, emits}
+use Rattle.std.proofs.Common.{ℕ, ◌≤◌, length}
+use Rattle.topology_stack.specs.Tree.{Label}
 use Rattle.topology_stack.proofs.Laws.{one_tree}
 use Rattle.self_id.specs.declared.standard.Standard.TheVariants.{Ieee2000}
 use Rattle.cabling.specs.Existence.{HasComponent}
@@ -10,7 +10,7 @@ use Rattle.cabling.proofs.Existing.{component_exists}
 use Rattle.cabling.proofs.Shown.{bus_seen, labels_fit}
 use Rattle.cabling.proofs.Small.{tree_few}
 use Rattle.cabling.proofs.Whole.{seen_loopless}
-use Rattle.world_laws.specs.SeenTrees.{IsShown, SeenTreesAreBusTrees, SeenListsHaveOneTree}
+use Rattle.world_laws.specs.SeenTrees.{SeenTreesAreBusTrees, SeenListsHaveOneTree}
 
 pub seen-bus : SeenTreesAreBusTrees
 seen-bus c attrs root t h =

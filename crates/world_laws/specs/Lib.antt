@@ -1,3 +1,5 @@
 pub mod Arrival
 pub mod ByNumber
+pub mod Touched
+pub mod Freshness
 pub mod SeenTrees

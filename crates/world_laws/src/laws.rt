@@ -1,6 +1,8 @@
 //! Laws of worlds. Each function is a fact for whoever reads or calls it.
 ghost use Rattle.world_laws.specs.Arrival.{CablesStay, SignalsArrive, SignalsKeepTheirOrder};
 ghost use Rattle.world_laws.specs.ByNumber.{ActsByNumber};
+ghost use Rattle.world_laws.specs.Freshness.{PowerOnIsFresh, ActsMakeFresh, FreshRootsSettle, FirstRootsSettle};
+ghost use Rattle.world_laws.specs.Touched.{TouchedNodesReset, ActsTouchTheirComponent, UntouchedComponentsStay, UntouchedTreesStay};
 ghost use Rattle.world_laws.specs.SeenTrees.{SeenTreesAreBusTrees, SeenListsHaveOneTree};
 
 /// The wires deliver. In every run from a reached world in which the cable isn't pulled, each signal
@@ -20,6 +22,32 @@ pub fn signals_arrive()
 /// nodes, with their cables and their wires, are as they were.
 pub fn acts_by_number()
     ensures { ActsByNumber }
+{}
+
+/// An act resets the node that it names, or both nodes of the cable that it plugs or pulls: each of
+/// them has then just begun a reset. A component of whose nodes it resets none was one before, each
+/// of its nodes is as it was, with its cables and wires, and a tree that it had come to stays.
+pub fn acts_touch_their_component()
+    ensures resets { TouchedNodesReset }
+    ensures others { ActsTouchTheirComponent }
+    ensures component { UntouchedComponentsStay }
+    ensures trees { UntouchedTreesStay }
+{}
+
+/// Before the first turn every component is fresh, whatever acts came. Later, before the next turn,
+/// acts make a component fresh that they touch, where none of its nodes was in R0 or R1; of a reset
+/// that begins while another is going on nothing is claimed.
+pub fn acts_make_fresh()
+    ensures first { PowerOnIsFresh }
+    ensures later { ActsMakeFresh }
+{}
+
+/// Where of a fresh component without loop one node alone waits to become root, it comes to a tree
+/// with that root in as many quiet turns as a world is given to settle. So does each such component
+/// that was cabled before the first turn.
+pub fn waiting_roots_settle()
+    ensures fresh { FreshRootsSettle }
+    ensures first { FirstRootsSettle }
 {}
 
 /// Whatever tree a cabling shows is a bus tree, so that its list is accepted, and it is the one tree

@@ -6,4 +6,7 @@
 
 mod laws;
 
-pub use laws::{acts_by_number, seen_trees_are_bus_trees, signals_arrive};
+pub use laws::{
+    acts_by_number, acts_make_fresh, acts_touch_their_component, seen_trees_are_bus_trees,
+    signals_arrive, waiting_roots_settle,
+};
