@@ -17,3 +17,4 @@ pub mod SmallSets
 pub mod Touched
 pub mod Freshness
 pub mod SeenTrees
+pub mod Worked

@@ -18,7 +18,8 @@ abbrev pub heard_at : End → CableWorld → List Signal
 heard_at b w = sent_on b.port (inbox w 0 (ports_of w.cabling b.node))
 
 -- what a port hears in the turns of a run, the oldest first
-abbrev pub heard_in : End → (events : List Event) → (w v : CableWorld) → Runs events w v → List Signal
+abbrev pub heard_in :
+    End → (events : List Event) → (w v : CableWorld) → Runs events w v → List Signal
 heard_in b [] w v run = []
 heard_in b (acts a ∷ events) w v run = heard_in b events run.0 v run.2
 heard_in b (holds end k ∷ events) w v run = heard_in b events run.0 v run.2

@@ -20,7 +20,8 @@ pub record RunsAtOnce (w v : CableWorld) (events : List Event) : Type 0 where
   pub no_turn : turn_count events ≡ 0
 
 -- an act of a run resets this node
-abbrev pub IsTouchedIn : NodeNumber → (events : List Event) → (w v : CableWorld) → Runs events w v → Type 0
+abbrev pub IsTouchedIn :
+    NodeNumber → (events : List Event) → (w v : CableWorld) → Runs events w v → Type 0
 IsTouchedIn k [] w v run = ⊥
 IsTouchedIn k (acts a ∷ events) w v run = Touches a w k ⊎ IsTouchedIn k events run.0 v run.2
 IsTouchedIn k (holds end n ∷ events) w v run = IsTouchedIn k events run.0 v run.2
@@ -50,7 +51,9 @@ ActsMakeFresh =
     IsTouchedIn k events w v run.run → IsFresh v set
 
 -- a component without loop of whose nodes one alone waits to become root
-pub record HasOneWaiting (w : CableWorld) (node : NodeNumber) (set : NodeSet) (root : NodeNumber) : Type 0 where
+pub record HasOneWaiting
+    (w : CableWorld) (node : NodeNumber) (set : NodeSet) (root : NodeNumber)
+    : Type 0 where
   pub component : IsComponent w.cabling node set
   pub no_loop : HasNoLoop w set
   pub alone : WaitsAlone w set root
@@ -61,7 +64,8 @@ abbrev pub FreshRootsSettle : Type 0
 FreshRootsSettle =
     (holds : HoldSchedule) (w : CableWorld) (k : ℕ) (node : NodeNumber) (set : NodeSet)
     (root : NodeNumber) → IsReached w → IsFresh w set → HasOneWaiting w node set root →
-    quiet_turns (length w.nodes) w.delay ≤ k → (t : Tree) × IsTree (quiet_after holds k w) set root t
+    quiet_turns (length w.nodes) w.delay ≤ k →
+    (t : Tree) × IsTree (quiet_after holds k w) set root t
 
 -- so does one that was cabled before the first turn
 abbrev pub FirstRootsSettle : Type 0
@@ -69,4 +73,5 @@ FirstRootsSettle =
     (holds : HoldSchedule) (s w : CableWorld) (events : List Event) (k : ℕ) (node : NodeNumber)
     (set : NodeSet) (root : NodeNumber) →
     IsPowerOnWorld s → RunsAtOnce s w events → HasOneWaiting w node set root →
-    quiet_turns (length w.nodes) w.delay ≤ k → (t : Tree) × IsTree (quiet_after holds k w) set root t
+    quiet_turns (length w.nodes) w.delay ≤ k →
+    (t : Tree) × IsTree (quiet_after holds k w) set root t

@@ -21,7 +21,9 @@ Touches (Reset node) w k = k ≡ node
 Touches (Config from root_id force gap) w k = k ≡ from
 
 -- once an act is done this is a component, and it resets none of its nodes
-pub record IsUntouched (a : Act) (w v : CableWorld) (node : NodeNumber) (set : NodeSet) : Type 0 where
+pub record IsUntouched
+    (a : Act) (w v : CableWorld) (node : NodeNumber) (set : NodeSet)
+    : Type 0 where
   pub component : IsComponent v.cabling node set
   pub none : (k : NodeNumber) → Holds set k → Touches a w k → ⊥
 

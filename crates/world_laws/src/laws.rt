@@ -5,10 +5,10 @@ ghost use Rattle.world_laws.specs.Freshness.{PowerOnIsFresh, ActsMakeFresh, Fres
 ghost use Rattle.world_laws.specs.Touched.{TouchedNodesReset, ActsTouchTheirComponent, UntouchedComponentsStay, UntouchedTreesStay};
 ghost use Rattle.world_laws.specs.SeenTrees.{SeenTreesAreBusTrees, SeenListsHaveOneTree};
 
-/// The wires deliver. In every run from a reached world in which the cable isn't pulled, each signal
-/// that is under way over it is heard at the far end once it has been under way for d turns, or
-/// before, right behind those that were sent before it. What is heard there, and then what is under
-/// way, is what was under way, and then what was sent since: nothing is lost, or heard twice.
+/// The wires deliver. In every run from a reached world in which the cable isn't pulled, each
+/// signal that is under way over it is heard at the far end by the time that it has been under way
+/// for d turns, right behind those that were sent before it. What is heard there, and then what is
+/// under way, is what was under way, and then what was sent since: nothing is lost, or heard twice.
 pub fn signals_arrive()
     ensures arrive { SignalsArrive }
     ensures order { SignalsKeepTheirOrder }
@@ -50,8 +50,8 @@ pub fn waiting_roots_settle()
     ensures first { FirstRootsSettle }
 {}
 
-/// Whatever tree a cabling shows is a bus tree, so that its list is accepted, and it is the one tree
-/// whose list that is.
+/// Whatever tree a cabling shows is a bus tree, so that its list is accepted, and it is the one
+/// tree whose list that is.
 pub fn seen_trees_are_bus_trees()
     ensures bus { SeenTreesAreBusTrees }
     ensures list { SeenListsHaveOneTree }
