@@ -7,8 +7,13 @@
 --   SmallSets     the nodes of a component exist
 --   Touched       which nodes an act resets, and what it leaves alone
 --                 (`acts_touch_their_component`)
---   Freshness     which components are fresh (`acts_make_fresh`, `first_roots_settle`)
+--   Freshness     which components are fresh (`acts_make_fresh`, `waiting_roots_settle`)
+--   LoopMilestone each component with a loop comes to the outcome Loop (`loops_are_out`)
+--   RestMilestone each tree comes to rest (`trees_are_at_rest`)
+--   OnePair       one pair of rivals at most (`rivals_are_alone`)
+--   ReadyPrefix   nodes get ready in the order of the walk (`ready_nodes_are_first`)
 --   SeenTrees     whatever tree a cabling shows is a bus tree (`seen_trees_are_bus_trees`)
+--   Worked        runs that the check computes
 pub mod ActCables
 pub mod Arriving
 pub mod NodeByNumber
@@ -16,5 +21,9 @@ pub mod ActsByNumber
 pub mod SmallSets
 pub mod Touched
 pub mod Freshness
+pub mod LoopMilestone
+pub mod RestMilestone
+pub mod OnePair
+pub mod ReadyPrefix
 pub mod SeenTrees
 pub mod Worked

@@ -2,4 +2,8 @@ pub mod Arrival
 pub mod ByNumber
 pub mod Touched
 pub mod Freshness
+pub mod LoopMilestone
+pub mod RestMilestone
+pub mod OnePair
+pub mod ReadyPrefix
 pub mod SeenTrees

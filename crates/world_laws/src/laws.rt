@@ -3,6 +3,10 @@ ghost use Rattle.world_laws.specs.Arrival.{CablesStay, SignalsArrive, SignalsKee
 ghost use Rattle.world_laws.specs.ByNumber.{ActsByNumber};
 ghost use Rattle.world_laws.specs.Freshness.{PowerOnIsFresh, ActsMakeFresh, FreshRootsSettle, FirstRootsSettle};
 ghost use Rattle.world_laws.specs.Touched.{TouchedNodesReset, ActsTouchTheirComponent, UntouchedComponentsStay, UntouchedTreesStay};
+ghost use Rattle.world_laws.specs.LoopMilestone.{LoopsComeOutOnceDone, LoopsComeOutByThen};
+ghost use Rattle.world_laws.specs.RestMilestone.{TreesRestOnceDecided, TreesRestByThen};
+ghost use Rattle.world_laws.specs.OnePair.{RivalsStayAlone, RivalsAreAloneByThen};
+ghost use Rattle.world_laws.specs.ReadyPrefix.{ReadyNodesAreFirst};
 ghost use Rattle.world_laws.specs.SeenTrees.{SeenTreesAreBusTrees, SeenListsHaveOneTree};
 
 /// The wires deliver. In every run from a reached world in which the cable isn't pulled, each
@@ -48,6 +52,32 @@ pub fn acts_make_fresh()
 pub fn waiting_roots_settle()
     ensures fresh { FreshRootsSettle }
     ensures first { FirstRootsSettle }
+{}
+
+/// Once resets are over a component has one pair of nodes at most that are each other's candidate
+/// parents, and where it has one it has no root. So it is after n d quiet turns.
+pub fn rivals_are_alone()
+    ensures once_over { RivalsStayAlone }
+    ensures after_turns { RivalsAreAloneByThen }
+{}
+
+/// From 600 d turns after resets are done on, each node of a loop reports that the configuration
+/// timed out, and no node of its component has an ID.
+pub fn loops_are_out()
+    ensures once_done { LoopsComeOutOnceDone }
+    ensures reached { LoopsComeOutByThen }
+{}
+
+/// The nodes of a tree that have identified themselves are the first of its walk.
+pub fn ready_nodes_are_first()
+    ensures { ReadyNodesAreFirst }
+{}
+
+/// From 315 d turns after trees are decided on, each component without loop is at rest, with all
+/// its nodes in A0 and nothing under way, or two of its nodes contend, with 32 equal draws.
+pub fn trees_are_at_rest()
+    ensures once_decided { TreesRestOnceDecided }
+    ensures reached { TreesRestByThen }
 {}
 
 /// Whatever tree a cabling shows is a bus tree, so that its list is accepted, and it is the one
