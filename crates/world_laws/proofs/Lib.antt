@@ -8,6 +8,7 @@
 --   Touched       which nodes an act resets, and what it leaves alone
 --                 (`acts_touch_their_component`)
 --   Freshness     which components are fresh (`acts_make_fresh`, `waiting_roots_settle`)
+--   DoneMilestone nobody enters a reset, and then resets are done (`entries_end`)
 --   LoopMilestone each component with a loop comes to the outcome Loop (`loops_are_out`)
 --   RestMilestone each tree comes to rest (`trees_are_at_rest`)
 --   OnePair       one pair of rivals at most (`rivals_are_alone`)
@@ -21,6 +22,7 @@ pub mod ActsByNumber
 pub mod SmallSets
 pub mod Touched
 pub mod Freshness
+pub mod DoneMilestone
 pub mod LoopMilestone
 pub mod RestMilestone
 pub mod OnePair

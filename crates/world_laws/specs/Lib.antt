@@ -2,6 +2,7 @@ pub mod Arrival
 pub mod ByNumber
 pub mod Touched
 pub mod Freshness
+pub mod DoneMilestone
 pub mod LoopMilestone
 pub mod RestMilestone
 pub mod OnePair

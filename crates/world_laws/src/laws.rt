@@ -3,6 +3,7 @@ ghost use Rattle.world_laws.specs.Arrival.{CablesStay, SignalsArrive, SignalsKee
 ghost use Rattle.world_laws.specs.ByNumber.{ActsByNumber};
 ghost use Rattle.world_laws.specs.Freshness.{PowerOnIsFresh, ActsMakeFresh, FreshRootsSettle, FirstRootsSettle};
 ghost use Rattle.world_laws.specs.Touched.{TouchedNodesReset, ActsTouchTheirComponent, UntouchedComponentsStay, UntouchedTreesStay};
+ghost use Rattle.world_laws.specs.DoneMilestone.{EntriesEnd, NoEntryStays, DoneOnceNoneEnters};
 ghost use Rattle.world_laws.specs.LoopMilestone.{LoopsComeOutOnceDone, LoopsComeOutByThen};
 ghost use Rattle.world_laws.specs.RestMilestone.{TreesRestOnceDecided, TreesRestByThen};
 ghost use Rattle.world_laws.specs.OnePair.{RivalsStayAlone, RivalsAreAloneByThen};
@@ -59,6 +60,14 @@ pub fn waiting_roots_settle()
 pub fn rivals_are_alone()
     ensures once_over { RivalsStayAlone }
     ensures after_turns { RivalsAreAloneByThen }
+{}
+
+/// After n d quiet turns no later one makes a node enter R0, and so it stays. From such a world on
+/// no node is in R0 or R1 after 100 d turns.
+pub fn entries_end()
+    ensures after { EntriesEnd }
+    ensures stays { NoEntryStays }
+    ensures done { DoneOnceNoneEnters }
 {}
 
 /// From 600 d turns after resets are done on, each node of a loop reports that the configuration
