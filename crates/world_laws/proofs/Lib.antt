@@ -14,6 +14,8 @@
 --   OnePair       one pair of rivals at most (`rivals_are_alone`)
 --   ReadyPrefix   nodes get ready in the order of the walk (`ready_nodes_are_first`)
 --   SeenTrees     whatever tree a cabling shows is a bus tree (`seen_trees_are_bus_trees`)
+--   SlotCabling   each bus tree is what some cabling shows
+--   SlotTrees     and what a cabling shows is a bus tree (`bus_trees_are_cabled`)
 --   Worked        runs that the check computes
 pub mod ActCables
 pub mod Arriving
@@ -28,4 +30,6 @@ pub mod RestMilestone
 pub mod OnePair
 pub mod ReadyPrefix
 pub mod SeenTrees
+pub mod SlotCabling
+pub mod SlotTrees
 pub mod Worked

@@ -8,3 +8,4 @@ pub mod RestMilestone
 pub mod OnePair
 pub mod ReadyPrefix
 pub mod SeenTrees
+pub mod SlotCabling

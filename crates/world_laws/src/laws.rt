@@ -8,6 +8,7 @@ ghost use Rattle.world_laws.specs.LoopMilestone.{LoopsComeOutOnceDone, LoopsCome
 ghost use Rattle.world_laws.specs.RestMilestone.{TreesRestOnceDecided, TreesRestByThen};
 ghost use Rattle.world_laws.specs.OnePair.{RivalsStayAlone, RivalsAreAloneByThen};
 ghost use Rattle.world_laws.specs.ReadyPrefix.{ReadyNodesAreFirst};
+ghost use Rattle.world_laws.specs.SlotCabling.{EachBusTreeIsCabled, CabledTreesAreBusTrees};
 ghost use Rattle.world_laws.specs.SeenTrees.{SeenTreesAreBusTrees, SeenListsHaveOneTree};
 
 /// The wires deliver. In every run from a reached world in which the cable isn't pulled, each
@@ -94,4 +95,12 @@ pub fn trees_are_at_rest()
 pub fn seen_trees_are_bus_trees()
     ensures bus { SeenTreesAreBusTrees }
     ensures list { SeenListsHaveOneTree }
+{}
+
+/// The bus trees are what cablings show, where each slot of a node has a port or none: each bus
+/// tree is shown by a cabling of its nodes alone, and each tree that a cabling shows is a bus tree.
+/// So the lists that reading accepts are those that some cabling emits.
+pub fn bus_trees_are_cabled()
+    ensures each { EachBusTreeIsCabled }
+    ensures only { CabledTreesAreBusTrees }
 {}
