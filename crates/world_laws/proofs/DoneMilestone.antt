@@ -1,0 +1,276 @@
+-- Where no quiet turn makes a node enter R0, holds end, and then waits: resets are done 100 d turns
+-- later.
+use Rattle.std.proofs.Common.{◌≡◌, inl, inr, ℕ, zero, suc, ◌+◌, ◌-◌, ◌*◌, ◌<◌, ◌≤◌, Bool, true, false, not, ◌&&◌, ◌||◌, Option, Some, None, is_some, slice_get, refl, sym, ◌∙◌, ap, subst, arith, true≢false}
+use Rattle.port_state.specs.declared.signal.Phase.{Phase}
+use Rattle.port_state.specs.declared.signal.Phase.TheVariants as phase
+use Rattle.port_state.specs.declared.ports.PortView.{PortView}
+use Rattle.port_state.specs.declared.states.NodeState.{NodeState}
+use Rattle.port_state.specs.declared.timing.Timing.{Timing}
+use Rattle.port_state.specs.Coins.{coin}
+use Rattle.port_state.specs.Ports.{passes, port_is, is_connected, is_port}
+use Rattle.port_state.specs.Heard.{is_resetting}
+use Rattle.port_state.specs.Resetting.{is_calm}
+use Rattle.port_state.specs.Machine.{PortNode}
+use Rattle.port_state.specs.Valid.{IsValid}
+use Rattle.cabling.specs.declared.cable.End.{End}
+use Rattle.cabling.specs.Wiring.{Wiring, far}
+use Rattle.cabling.proofs.Near.{end_at}
+use Rattle.cable_world.specs.World.{CableWorld, wire_of}
+use Rattle.cable_world.specs.Turn.{turn_at, turn, hear_all}
+use Rattle.cable_world.specs.Agreement.{level_sent, level_shown, shown_or_idle, leads_down, level_sent_at}
+use Rattle.cable_world.specs.Phases.{is_before_tree, is_after_hold, is_in_bus_reset, is_shaking}
+use Rattle.cable_world.specs.Coupling.{is_asking, Coupling}
+use Rattle.cable_world.specs.Lawful.{IsLawful}
+use Rattle.cable_world.proofs.turns.ByNumber.{node-after}
+use Rattle.cable_world.proofs.Options.{some-same}
+use Rattle.cable_world.proofs.coupling.CouplingInTurns.{before, hears}
+use Rattle.cable_world.proofs.resets.Entries.{in-turn, hold-left, steady, after-delay}
+use Rattle.world_laws.specs.DoneMilestone.{NeverEnters, EntriesEnd, NoEntryStays, DoneOnceNoneEnters}
+use Rattle.cable_world.proofs.levels.LastSent.{child-if}
+use Rattle.cable_world.proofs.tables.CableEnds.{cable-connected}
+use Rattle.cable_world.proofs.coupling.Sides.{late-roles, between-known}
+use Rattle.cable_world.proofs.turns.NodeFacts.{NoEntry, HearsWell}
+use Rattle.cable_world.proofs.turns.TurnParts.{turn-state}
+use Rattle.cable_world.specs.Quiet.{HoldSchedule, holds_after, with_holds, quiet_after}
+use Rattle.cable_world.proofs.QuietTurns.{one-quiet, quiet-then, quiet-lawful, after-cabling}
+use Rattle.convergence.specs.Milestones.{NoneIn}
+use Rattle.convergence.proofs.turns.CalmTurns.{Calmly, calmly, signals, heard_by, waiting-before}
+use Rattle.convergence.proofs.turns.BeforeTree.{waits-for, every-from}
+use Rattle.convergence.proofs.turns.Flush.{Tells, Shown, flush}
+
+-- ---- holds end
+
+-- a node that a turn leaves in R0 has some of its hold left
+hold-runs :
+    (w : CableWorld) → IsLawful w → (k : ℕ) (x y : PortNode) → slice_get w.nodes k ≡ Some x →
+    slice_get (turn w).nodes k ≡ Some y → is_resetting x.state.view.phase ≡ true →
+    is_resetting y.state.view.phase ≡ true → y.state.view.timer < 80 * w.delay
+hold-runs w l k x y at_x at_y was there =
+    omega (arith, (in-turn w l k x y at_x at_y).rises was there, left, heard.timer, ap (λ (z : Timing). z.hold) h.timing, (l.well_formed.nodes k x at_x).timing.hold_most)
+  where
+    h : HearsWell (signals w k) x.state
+    h = hears w k x l.well_formed at_x
+
+    heard : NoEntry x.state (hear_all (signals w k) x.state)
+    heard = elim (hears w k x l.well_formed at_x).cases [ inl s ↦ s | inr c ↦ absurd (true≢false (sym was ∙ c.before)) ]
+
+    same : (turn_at w k x).node ≡ y
+    same = some-same (turn_at w k x).node y (sym (node-after w k x l.well_formed.count at_x) ∙ at_y)
+
+    hold-most : (heard_by w k x).timing.hold ≤ 65535
+    hold-most = omega (arith, ap (λ (z : Timing). z.hold) (hears w k x l.well_formed at_x).timing, (l.well_formed.nodes k x at_x).timing.hold_most, l.well_formed.short_delay)
+
+    left : (heard_by w k x).view.timer + 1 < (heard_by w k x).timing.hold
+    left =
+        hold-left (coin x.coins) (heard_by w k x) (ap is_resetting heard.phase ∙ was) hold-most
+        (sym (ap (λ (s : NodeState). is_resetting s.view.phase) (turn-state (signals w k) x)) ∙ ap (λ (u : PortNode). is_resetting u.state.view.phase) same ∙ there)
+
+module _
+    (hs : HoldSchedule) (w : CableWorld) (l : IsLawful w) (none : NeverEnters hs w) where
+  lawful-then : (i : ℕ) → IsLawful (quiet_after hs i w)
+  lawful-then i = quiet-lawful hs i w l
+
+  next : (i : ℕ) → with_holds (hs (i + 1)) (turn (quiet_after hs i w)) ≡ quiet_after hs (suc i) w
+  next i = let z : i + 1 ≡ suc i = omega arith in sym (one-quiet hs i w) ∙ ap (λ n. quiet_after hs n w) z
+
+  -- each node in R0 has been there for so many turns
+  abbrev Risen : ℕ → CableWorld → Type 0
+  Risen n v = (k : ℕ) (x : PortNode) → slice_get v.nodes k ≡ Some x → is_resetting x.state.view.phase ≡ true → n ≤ x.state.view.timer
+
+  -- it was there before
+  stayed :
+      (i k : ℕ) (y : PortNode) → slice_get (turn (quiet_after hs i w)).nodes k ≡ Some y →
+      is_resetting y.state.view.phase ≡ true → (x : PortNode)
+      × (slice_get (quiet_after hs i w).nodes k ≡ Some x) × (is_resetting x.state.view.phase ≡ true)
+  stayed i k y at there =
+      let x = before (quiet_after hs i w) k y (lawful-then i).well_formed at in
+      (x.0, x.1, was x.0 x.1 (is_resetting x.0.state.view.phase) refl)
+    where
+      was :
+          (x : PortNode) → slice_get (quiet_after hs i w).nodes k ≡ Some x → (b : Bool) →
+          is_resetting x.state.view.phase ≡ b → b ≡ true
+      was x at_x true e = refl
+      was x at_x false e =
+          absurd (true≢false (sym there ∙ none i k x y at_x (ap (λ (u : CableWorld). slice_get u.nodes k) (one-quiet hs i w) ∙ at) e))
+
+  rises : (i : ℕ) → Risen i (quiet_after hs i w) → Risen (suc i) (turn (quiet_after hs i w))
+  rises i h k y at there =
+      let x = stayed i k y at there in
+      omega (arith, (in-turn (quiet_after hs i w) (lawful-then i) k x.0 y x.1 at).rises x.2 there, h k x.0 x.1 x.2)
+
+  all-risen : (i : ℕ) → Risen i (quiet_after hs i w)
+  all-risen zero = λ k x at r. omega arith
+  all-risen (suc i) = subst (Risen (suc i)) (next i) (rises i (all-risen i))
+
+  -- 80 d turns later none is there
+  holds-over : (i : ℕ) → 80 * w.delay ≤ i → NoneIn is_resetting (quiet_after hs i w)
+  holds-over zero h = absurd (omega (arith, h, l.well_formed.some_delay))
+  holds-over (suc i) h = subst (NoneIn is_resetting) (next i) nobody
+    where
+      nobody : NoneIn is_resetting (turn (quiet_after hs i w))
+      nobody k y at = go (is_resetting y.state.view.phase) refl
+        where
+          go : (b : Bool) → is_resetting y.state.view.phase ≡ b → b ≡ false
+          go false e = refl
+          go true e =
+              let x = stayed i k y at e in
+              absurd (omega (arith, h, (in-turn (quiet_after hs i w) (lawful-then i) k x.0 y x.1 at).rises x.2 e, all-risen i k x.0 x.1 x.2, hold-runs (quiet_after hs i w) (lawful-then i) k x.0 y x.1 at x.2 e, after-delay hs w l i))
+
+-- ---- R1
+
+-- towards a node in R1 another node out of R0 tells Idle or Parent
+calm-told :
+    (y : NodeState) (q : ℕ) → IsValid y → is_connected y.view.ports q ≡ true →
+    is_resetting y.view.phase ≡ false → (is_before_tree y.view.phase || is_asking y q) ≡ true →
+    is_calm (level_sent_at y q) ≡ true
+calm-told y q v on past early = go (is_before_tree y.view.phase) refl
+  where
+    first :
+        (f : Phase) (c : Bool) → is_resetting f ≡ false → is_before_tree f ≡ true →
+        is_calm (level_sent f c) ≡ true
+    first f c a b = grind arith
+
+    second :
+        (f : Phase) (c i : Bool) → is_before_tree f ≡ false → c ≡ not i →
+        (is_before_tree f || (is_shaking f && i)) ≡ true → is_calm (level_sent f c) ≡ true
+    second f c i a b e = grind arith
+
+    go : (b : Bool) → is_before_tree y.view.phase ≡ b → is_calm (level_sent_at y q) ≡ true
+    go true e = first y.view.phase (leads_down y.view.ports q) past e
+    go false e = second y.view.phase (leads_down y.view.ports q) (is_port y.view.parent q) e (child-if y.view.parent y.view.ports q (late-roles y v e) on) early
+
+only-wait : (p : Phase) → is_in_bus_reset p ≡ true → is_resetting p ≡ false → p ≡ phase.ResetWait
+only-wait p h g = grind arith
+
+wait-between :
+    (p : Phase) → is_in_bus_reset p ≡ true → is_resetting p ≡ false → is_after_hold p ≡ true
+wait-between p h g = grind arith
+
+-- in a world with nobody in R0, and in the turns from there
+module _
+    (hs : HoldSchedule) (v : CableWorld) (l : IsLawful v) (calm : (i : ℕ) → NoneIn is_resetting (quiet_after hs i v))
+    (k : ℕ) where
+  -- the node is in R1
+  abbrev Waits : ℕ → Type 0
+  Waits i = (x : PortNode) × (slice_get (quiet_after hs i v).nodes k ≡ Some x) × (is_in_bus_reset x.state.view.phase ≡ true)
+
+  waited : (i : ℕ) → Waits (i + 1) → Waits i
+  waited i h =
+      let c : Calmly (quiet_after hs i v) k h.0.state = calmly (quiet_after hs i v) (quiet-lawful hs i v l) (calm i) k h.0 (ap (λ (u : CableWorld). slice_get u.nodes k) (sym (one-quiet hs i v)) ∙ h.1) in
+      (c.node, c.at, waiting-before (quiet_after hs i v) k h.0.state c h.2)
+
+  module _ (a : End) (p : ℕ) (e : far v.cabling (end_at k p) ≡ Some a) where
+    back : far v.cabling a ≡ Some (end_at k p)
+    back = l.well_formed.cabling.both_ways (end_at k p) a e
+
+    tells-calm : (i : ℕ) → Waits i → Tells (quiet_after hs i v) a is_calm
+    tells-calm i h y at =
+        let u : CableWorld = quiet_after hs i v in
+        let m : IsLawful u = quiet-lawful hs i v l in
+        let there : far u.cabling (end_at k p) ≡ Some a = ap (λ (c : Wiring). far c (end_at k p)) (after-cabling hs i v) ∙ e in
+        let here : far u.cabling a ≡ Some (end_at k p) = ap (λ (c : Wiring). far c a) (after-cabling hs i v) ∙ back in
+        let c : Coupling u.delay h.0.state p (wire_of u (end_at k p)).signals y.state a.port (wire_of u a).signals = m.coupled.cables (end_at k p) a h.0 y there h.1 at in
+        calm-told y.state a.port (m.well_formed.nodes a.node y at).valid (cable-connected u a (end_at k p) y m.well_formed here at) (calm i a.node y at)
+        (c.early (between-known u.delay h.0.state (wait-between h.0.state.view.phase h.2 (calm i k h.0 h.1))))
+
+    shows-calm : (i : ℕ) → v.delay ≤ i → Waits i → Shown (quiet_after hs i v) (end_at k p) is_calm
+    shows-calm = flush hs v l a (end_at k p) back is_calm Waits waited tells-calm
+
+  -- d turns later every port is calm, so that R1 ends
+  wait-ends : (i : ℕ) → v.delay ≤ i + 1 → Waits (i + 1) → ⊥
+  wait-ends i late h =
+      true≢false (sym (every-from (λ q. is_calm q.shown) now.view.ports each)
+      ∙ waits-for (coin c.node.coins) now (only-wait now.view.phase (ap is_in_bus_reset c.heard.phase ∙ waiting-before u k h.0.state c h.2) (ap is_resetting c.heard.phase ∙ calm i k c.node c.at))
+      (sym (ap (λ (s : NodeState). is_in_bus_reset s.view.phase) c.is) ∙ h.2))
+    where
+      u : CableWorld
+      u = quiet_after hs i v
+
+      c : Calmly (quiet_after hs i v) k h.0.state
+      c = calmly (quiet_after hs i v) (quiet-lawful hs i v l) (calm i) k h.0 (ap (λ (u : CableWorld). slice_get u.nodes k) (sym (one-quiet hs i v)) ∙ h.1)
+
+      now : NodeState
+      now = heard_by (quiet_after hs i v) k c.node
+
+      -- what a port shows is shown after the turn too
+      same : (q : ℕ) → level_shown h.0.state q ≡ level_shown now q
+      same q = ap (λ (s : NodeState). level_shown s q) c.is ∙ c.ticks.shown q
+
+      test-at :
+          (x : NodeState) (q : ℕ) → is_connected x.view.ports q ≡ true → is_calm (level_shown x q)
+          ≡ true → port_is (λ r. is_calm r.shown) x.view.ports q ≡ true
+      test-at x q on s = go (slice_get x.view.ports q) on s
+        where
+          go :
+              (o : Option PortView) → passes (λ r. r.connected) o ≡ true → is_calm (shown_or_idle o)
+              ≡ true → passes (λ r. is_calm r.shown) o ≡ true
+          go None on s = on
+          go (Some r) on s = s
+
+      each :
+          (q : ℕ) → is_connected now.view.ports q ≡ true → port_is (λ r. is_calm r.shown)
+          now.view.ports q ≡ true
+      each q on = test-at now q on (go (far (quiet_after hs i v).cabling (end_at k q)) refl)
+        where
+          on-first : is_connected c.node.state.view.ports q ≡ true
+          on-first = sym (c.hears.cables q) ∙ on
+
+          go :
+              (o : Option End) → far (quiet_after hs i v).cabling (end_at k q) ≡ o →
+              is_calm (level_shown now q) ≡ true
+          go None e = absurd (true≢false (sym on-first ∙ ((quiet-lawful hs i v l).well_formed.nodes k c.node c.at).connected q ∙ ap is_some e))
+          go (Some a) e = ap is_calm (sym (same q)) ∙ shows-calm a q (sym (ap (λ (d : Wiring). far d (end_at k q)) (after-cabling hs i v)) ∙ e) (i + 1) late h h.0 h.1
+
+-- ---- 100 d turns
+
+pub done-once-none : DoneOnceNoneEnters
+done-once-none hs w i l none late k x at = go (is_in_bus_reset x.state.view.phase) refl
+  where
+    rest : HoldSchedule
+    rest = holds_after (80 * w.delay) hs
+
+    start : CableWorld
+    start = quiet_after hs (80 * w.delay) w
+
+    m : IsLawful (quiet_after hs (80 * w.delay) w)
+    m = quiet-lawful hs (80 * w.delay) w l
+
+    calm : (j : ℕ) → NoneIn is_resetting (quiet_after (holds_after (80 * w.delay) hs) j (quiet_after hs (80 * w.delay) w))
+    calm j =
+        let low : 80 * w.delay ≤ 80 * w.delay + j = omega arith in
+        subst (NoneIn is_resetting) (quiet-then hs (80 * w.delay) j w) (holds-over hs w l none (80 * w.delay + j) low)
+
+    go : (b : Bool) → is_in_bus_reset x.state.view.phase ≡ b → b ≡ false
+    go false e = refl
+    go true e =
+        let j : ℕ = i - 80 * w.delay - 1 in
+        let some : 1 ≤ w.delay = l.well_formed.some_delay in
+        let z : i ≡ 80 * w.delay + (j + 1) = omega (arith, late, some) in
+        let is : quiet_after hs i w ≡ quiet_after rest (j + 1) start = ap (λ n. quiet_after hs n w) z ∙ quiet-then hs (80 * w.delay) (j + 1) w in
+        absurd (wait-ends rest start m calm k j (omega (arith, late, some, after-delay hs w l (80 * w.delay)))
+        (x, ap (λ (u : CableWorld). slice_get u.nodes k) (sym is) ∙ at, e))
+
+-- ---- nobody enters
+
+-- a later turn of one schedule is a turn of the rest of it
+later-turn :
+    (hs : HoldSchedule) (w : CableWorld) (k i node : ℕ) (x : PortNode) →
+    slice_get (quiet_after (holds_after k hs) i (quiet_after hs k w)).nodes node ≡ Some x →
+    slice_get (quiet_after hs (k + i) w).nodes node ≡ Some x
+later-turn hs w k i node x at = ap (λ (u : CableWorld). slice_get u.nodes node) (quiet-then hs k i w) ∙ at
+
+one-later :
+    (hs : HoldSchedule) (w : CableWorld) (k i node : ℕ) (y : PortNode) →
+    slice_get (quiet_after (holds_after k hs) (i + 1) (quiet_after hs k w)).nodes node ≡ Some y →
+    slice_get (quiet_after hs (k + i + 1) w).nodes node ≡ Some y
+one-later hs w k i node y at =
+    let z : k + i + 1 ≡ k + (i + 1) = omega arith in
+    ap (λ n. slice_get (quiet_after hs n w).nodes node) z ∙ later-turn hs w k (i + 1) node y at
+
+pub entries-end : EntriesEnd
+entries-end hs w k l late i node x y at_x at_y out =
+    steady hs w l (k + i) (omega (arith, late)) node x y (later-turn hs w k i node x at_x) (one-later hs w k i node y at_y) out
+
+pub no-entry-stays : NoEntryStays
+no-entry-stays hs w k none i node x y at_x at_y out =
+    none (k + i) node x y (later-turn hs w k i node x at_x) (one-later hs w k i node y at_y) out

@@ -1,0 +1,106 @@
+-- Trees come to rest 315 d turns after tree identify is over.
+use Rattle.std.proofs.Common.{◌≡◌, ◌⊎◌, inl, inr, ℕ, ◌+◌, ◌-◌, ◌*◌, ◌^◌, ◌<◌, ◌≤◌, length, sym, ◌∙◌, ap, subst, arith}
+use Rattle.std.proofs.lemmas.Option.{slice_get_within}
+use Rattle.cabling.specs.Wiring.{Wiring}
+use Rattle.cabling.specs.NodeSet.{Holds, IsEmpty}
+use Rattle.cabling.specs.Component.{IsComponent}
+use Rattle.cabling.specs.Looped.{IsCore}
+use Rattle.cabling.specs.Sees.{numbers}
+use Rattle.cabling.proofs.Ends.{plugged}
+use Rattle.cabling.proofs.Whole.{shared}
+use Rattle.cable_world.specs.World.{CableWorld}
+use Rattle.cable_world.specs.Quiet.{HoldSchedule, holds_after, quiet_after}
+use Rattle.cable_world.specs.Lawful.{IsLawful}
+use Rattle.cable_world.specs.Outcome.{IsTree}
+use Rattle.cable_world.proofs.QuietTurns.{quiet-then, quiet-lawful, quiet-reached, after-cabling}
+use Rattle.cable_world.proofs.StaysLawful.{reached-lawful}
+use Rattle.convergence.specs.Kept.{IsGrown}
+use Rattle.convergence.specs.Milestones.{AreIdentifying, HasContention}
+use Rattle.convergence.proofs.AfterTurns.{taken-reached, decided-reached, start-grown}
+use Rattle.convergence.proofs.rounds.IdentifyOrContend.{grown-of}
+use Rattle.convergence.proofs.rounds.ThirtyThreeRounds.{contention-after}
+use Rattle.outcomes.specs.Numbered.{Settles, IsAtRest}
+use Rattle.outcomes.proofs.numbers.Spreads.{tree-soon}
+use Rattle.outcomes.proofs.settled.Numbering.{reached-numbering, quiet-numbering}
+use Rattle.outcomes.proofs.settled.TreesStay.{tree-rests}
+use Rattle.world_laws.specs.RestMilestone.{IsDecided, TreesRestOnceDecided, TreesRestByThen}
+use Rattle.world_laws.proofs.SmallSets.{small-component}
+
+-- five times as many as there are nodes, times d
+room-to-rest : (len d : ℕ) → len ≤ 63 → 5 * len * d ≤ 315 * d
+room-to-rest len d few =
+    let r : ℕ = 63 - len in
+    let z : 63 ≡ len + r = omega (arith, few) in
+    let p : 5 * (len + r) * d ≡ 5 * len * d + 5 * r * d = grind arith in
+    let q : 5 * 63 * d ≡ 315 * d = grind arith in
+    omega (arith, p, q, ap (λ (m : ℕ). 5 * m * d) z)
+
+module _
+    (hs : HoldSchedule) (w : CableWorld) (j k : ℕ) (is : IsDecided hs w k)
+    (late : 315 * w.delay ≤ j) (node set core : ℕ)
+    (comp : IsComponent (quiet_after hs (k + j) w).cabling node set)
+    (is_core : IsCore (quiet_after hs (k + j) w).cabling set core) where
+  lawful : IsLawful w
+  lawful = reached-lawful w is.reached
+
+  v-lawful : IsLawful (quiet_after hs (k + j) w)
+  v-lawful = quiet-lawful hs (k + j) w lawful
+
+  u-lawful : IsLawful (quiet_after hs k w)
+  u-lawful = quiet-lawful hs k w lawful
+
+  cables : (quiet_after hs (k + j) w).cabling ≡ (quiet_after hs k w).cabling
+  cables = after-cabling hs (k + j) w ∙ sym (after-cabling hs k w)
+
+  comp-then : (n : ℕ) → IsComponent (quiet_after hs (k + j) w).cabling n set → IsComponent (quiet_after hs k w).cabling n set
+  comp-then n c = subst (λ (d : Wiring). IsComponent d n set) cables c
+
+  core-then : IsCore (quiet_after hs k w).cabling set core
+  core-then = subst (λ (d : Wiring). IsCore d set core) cables is_core
+
+  -- a component of which node number n is there, all of whose nodes identified themselves
+  rest-from :
+      AreIdentifying (quiet_after hs k w) set → (n : ℕ) → Holds set n →
+      n < length (quiet_after hs (k + j) w).cabling → IsAtRest (quiet_after hs (k + j) w) set
+  rest-from all n inside less =
+      let whole : IsComponent (quiet_after hs (k + j) w).cabling n set = shared (quiet_after hs (k + j) w).cabling node n set v-lawful.well_formed.cabling comp inside in
+      let small : set < 2 ^ 63 = small-component (quiet_after hs (k + j) w).cabling n set v-lawful.well_formed.cabling less whole in
+      let here : n < length (quiet_after hs k w).nodes = omega (arith, less, ap length cables, u-lawful.well_formed.count) in
+      let s : Settles (quiet_after hs k w) set core = (quiet-numbering hs k w lawful (reached-numbering w is.reached)).walks n set core here (comp-then n whole) core-then small all in
+      let few : 5 * length (numbers (quiet_after hs k w).cabling s.root s.tree) * w.delay ≤ j = omega (arith, late, room-to-rest (length (numbers (quiet_after hs k w).cabling s.root s.tree)) w.delay s.is.walk.few) in
+      let tree : IsTree (quiet_after hs (k + j) w) set s.root s.tree = tree-soon hs w is.reached k is.over set core s.root s.tree s.is j few in
+      tree-rests (quiet_after hs (k + j) w) (quiet-reached hs (k + j) w is.reached) n set whole small s.root s.tree tree
+
+  rests : AreIdentifying (quiet_after hs k w) set → IsAtRest (quiet_after hs (k + j) w) set
+  rests all = record {
+    ready = λ n x inside at.
+        (rest-from all n inside (omega (arith, slice_get_within (quiet_after hs (k + j) w).nodes n x at, v-lawful.well_formed.count))).ready n x inside at;
+    silent = λ a b inside joined.
+        (rest-from all a.node inside (plugged (quiet_after hs (k + j) w).cabling a b joined).node).silent a b inside joined;
+  }
+
+  contends : IsEmpty core → HasContention (quiet_after hs k w) set → HasContention (quiet_after hs (k + j) w) set
+  contends empty h =
+      subst (λ (u : CableWorld). HasContention u set) (sym (quiet-then hs k j w))
+      (contention-after (holds_after k hs) (quiet_after hs k w) set (grown-of (quiet_after hs k w) node set core is.grown (comp-then node comp) core-then empty) j h)
+
+  pub rest-or-contend :
+      IsEmpty core → IsAtRest (quiet_after hs (k + j) w) set ⊎ HasContention (quiet_after hs (k + j) w) set
+  rest-or-contend empty = elim (is.decided node set core (comp-then node comp) core-then empty) [
+    | inl all ↦ inl (rests all)
+    | inr h ↦ inr (contends empty h)
+  ]
+
+pub rest-once-decided : TreesRestOnceDecided
+rest-once-decided placed w j k is late node set core comp is_core empty = rest-or-contend placed w j k is late node set core comp is_core empty
+
+pub rest-by-then : TreesRestByThen
+rest-by-then placed w m r late node set core comp is_core empty =
+    let j : ℕ = 315 * w.delay in
+    let k : ℕ = m - j in
+    let sum : k + j ≡ m = omega (arith, late) in
+    let grown : IsGrown (quiet_after placed k w) = start-grown placed w r k (omega (arith, late)) (taken-reached placed w k r (omega (arith, late))) in
+    let is : IsDecided placed w k = record { reached = r; over = omega (arith, late); grown = grown; decided = decided-reached placed w k r (omega (arith, late)) } in
+    subst (λ (i : ℕ). IsAtRest (quiet_after placed i w) set ⊎ HasContention (quiet_after placed i w) set) sum
+    (rest-or-contend placed w j k is (omega arith) node set core
+    (subst (λ (i : ℕ). IsComponent (quiet_after placed i w).cabling node set) (sym sum) comp) (subst (λ (i : ℕ). IsCore (quiet_after placed i w).cabling set core) (sym sum) is_core) empty)

@@ -1,0 +1,11 @@
+pub mod Arrival
+pub mod ByNumber
+pub mod Touched
+pub mod Freshness
+pub mod DoneMilestone
+pub mod LoopMilestone
+pub mod RestMilestone
+pub mod OnePair
+pub mod ReadyPrefix
+pub mod SeenTrees
+pub mod SlotCabling

@@ -1,0 +1,13 @@
+//! Laws of worlds that the crates below have no need of: what reaches whom, what an act changes and
+//! what it leaves alone, and which components are fresh.
+//!
+//! The crate has laws alone, of worlds as `cable_world` defines them. `specs/` says what is so.
+#![tactic(auto)]
+
+mod laws;
+
+pub use laws::{
+    acts_by_number, acts_make_fresh, acts_touch_their_component, bus_trees_are_cabled, entries_end,
+    loops_are_out, ready_nodes_are_first, rivals_are_alone, seen_trees_are_bus_trees,
+    signals_arrive, trees_are_at_rest, waiting_roots_settle,
+};
