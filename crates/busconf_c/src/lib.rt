@@ -1,0 +1,12 @@
+//! The static library `libbusconf`: the calls of `include/busconf.h`, for programs that aren't
+//! Rattle. Each export calls the crate that it is named for and states its clauses again, over the
+//! records of `records`.
+#![tactic(auto)]
+
+mod answer;
+mod crc;
+mod fault;
+mod read;
+mod records;
+mod shown;
+mod status;

@@ -1,0 +1,16 @@
+//! What a call answers.
+
+/// The call did what it is for.
+pub const VALID: u32 = 0;
+
+/// What was read has a fault, which is told.
+pub const REFUSED: u32 = 1;
+
+/// There was no memory.
+pub const NO_MEMORY: u32 = 2;
+
+/// A place that was given for what is told is too short. What it needs is told.
+pub const TOO_SHORT: u32 = 3;
+
+/// The standard is neither 1995 nor 2000.
+pub const NO_STANDARD: u32 = 4;
