@@ -6,7 +6,11 @@
 mod answer;
 mod crc;
 mod fault;
+mod packet;
+mod place;
 mod read;
+mod reader;
 mod records;
 mod shown;
 mod status;
+mod tree;

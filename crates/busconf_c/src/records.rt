@@ -3,6 +3,10 @@
 /// How many slots a node has at most.
 pub const MAX_SLOTS: usize = 27;
 
+/// How many quadlets a reader keeps: one more than any bus tree of IEEE 1394a-2000 emits, 63 groups of
+/// three packets.
+pub const READER_QUADS: usize = 190;
+
 /// A slot of a node.
 #[repr(C)]
 #[derive(Clone, Copy, Debug, PartialEq, Eq)]
@@ -61,4 +65,77 @@ pub struct FaultRecord {
     pub found: u8,
     /// What was wanted, or 0.
     pub wanted: u8,
+}
+
+/// A PHY packet. A field that its kind doesn't have is 0.
+#[repr(C)]
+#[derive(Clone, Copy, Debug, PartialEq, Eq)]
+pub struct PacketRecord {
+    /// The bits behind the fields of a configuration or link-on packet; the whole quadlet of an
+    /// extended or an undefined one.
+    pub rest: u32,
+    /// The eight port fields of a further self-ID packet, the first at the top.
+    pub fields: u16,
+    /// The number of the kind.
+    pub kind: u8,
+    /// phy_ID, or root_ID of a configuration packet.
+    pub phy_id: u8,
+    /// R of a configuration packet.
+    pub force: u8,
+    /// T of a configuration packet.
+    pub set_gap: u8,
+    /// gap_cnt.
+    pub gap: u8,
+    /// L of packet zero.
+    pub link: u8,
+    /// sp of packet zero.
+    pub speed: u8,
+    /// The two bits of packet zero behind sp.
+    pub delay: u8,
+    /// c of packet zero.
+    pub contender: u8,
+    /// pwr of packet zero.
+    pub power: u8,
+    /// The port field p0 of packet zero.
+    pub p0: u8,
+    /// The port field p1 of packet zero.
+    pub p1: u8,
+    /// The port field p2 of packet zero.
+    pub p2: u8,
+    /// i of packet zero.
+    pub initiated: u8,
+    /// m of a self-ID packet.
+    pub more: u8,
+    /// n of a further self-ID packet.
+    pub n: u8,
+    /// The two reserved bits of a further self-ID packet.
+    pub kept: u8,
+    /// r of a further self-ID packet.
+    pub r: u8,
+}
+
+/// A root and the packet that makes it root.
+#[repr(C)]
+#[derive(Clone, Copy, Debug, PartialEq, Eq)]
+pub struct PlanRecord {
+    /// The first quadlet of the PHY configuration packet.
+    pub packet: u32,
+    /// The ID of the root.
+    pub root: u8,
+    /// The hops of the bus.
+    pub hops: u8,
+    /// The gap count for them.
+    pub gap: u8,
+    /// The reach of the root.
+    pub far: u8,
+}
+
+/// A reader.
+#[repr(C)]
+#[derive(Clone, Copy, Debug, PartialEq, Eq)]
+pub struct ReaderRecord {
+    /// How many quadlets it keeps.
+    pub count: u32,
+    /// The quadlets, the first ones of the list.
+    pub quads: [u32; READER_QUADS],
 }

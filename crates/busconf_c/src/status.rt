@@ -14,3 +14,9 @@ pub const TOO_SHORT: u32 = 3;
 
 /// The standard is neither 1995 nor 2000.
 pub const NO_STANDARD: u32 = 4;
+
+/// No node is eligible as root: none has an active link and contends.
+pub const NO_CANDIDATE: u32 = 5;
+
+/// The list has to go on before it can be a bus tree's.
+pub const INCOMPLETE: u32 = 6;
