@@ -6,3 +6,4 @@ pub mod Packets
 pub mod Places
 pub mod Plans
 pub mod Reader
+pub mod Registers

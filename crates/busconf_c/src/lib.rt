@@ -11,6 +11,7 @@ mod place;
 mod read;
 mod reader;
 mod records;
+mod registers;
 mod shown;
 mod status;
 mod tree;

@@ -139,3 +139,52 @@ pub struct ReaderRecord {
     /// The quadlets, the first ones of the list.
     pub quads: [u32; READER_QUADS],
 }
+
+/// The four registers of an isochronous resource manager. Of a value past its register's width the low
+/// bits count.
+#[repr(C)]
+#[derive(Clone, Copy, Debug, PartialEq, Eq)]
+pub struct RegistersRecord {
+    /// BUS_MANAGER_ID, 6 bits.
+    pub bus_manager_id: u32,
+    /// BANDWIDTH_AVAILABLE, 13 bits.
+    pub bandwidth_available: u32,
+    /// CHANNELS_AVAILABLE_HI, 32 bits.
+    pub channels_available_hi: u32,
+    /// CHANNELS_AVAILABLE_LO, 32 bits.
+    pub channels_available_lo: u32,
+}
+
+/// The response to an access.
+#[repr(C)]
+#[derive(Clone, Copy, Debug, PartialEq, Eq)]
+pub struct ReplyRecord {
+    /// The value that a read or a lock found; 0 where it was refused.
+    pub value: u32,
+    /// The response code: complete 0, type error 6, address error 7.
+    pub rcode: u8,
+}
+
+/// What was seen of the bandwidth and the channels.
+#[repr(C)]
+#[derive(Clone, Copy, Debug, PartialEq, Eq)]
+pub struct SeenRecord {
+    /// The value of BANDWIDTH_AVAILABLE.
+    pub bandwidth: u32,
+    /// The value of CHANNELS_AVAILABLE_HI.
+    pub hi: u32,
+    /// The value of CHANNELS_AVAILABLE_LO.
+    pub lo: u32,
+}
+
+/// Why an allocation or a release was refused.
+#[repr(C)]
+#[derive(Clone, Copy, Debug, PartialEq, Eq)]
+pub struct GrantRecord {
+    /// The bandwidth seen, or the offset of the register that changed, or 0.
+    pub detail: u32,
+    /// The value that this register holds now, or 0.
+    pub now: u32,
+    /// The number of the kind.
+    pub kind: u8,
+}

@@ -20,3 +20,6 @@ pub const NO_CANDIDATE: u32 = 5;
 
 /// The list has to go on before it can be a bus tree's.
 pub const INCOMPLETE: u32 = 6;
+
+/// A number is past what it may be: a channel is 0 to 63, units are 0 to 4915, an ID is 0 to 62.
+pub const OUT_OF_RANGE: u32 = 7;
