@@ -7,3 +7,4 @@ pub mod Places
 pub mod Plans
 pub mod Reader
 pub mod Registers
+pub mod Roms

@@ -8,7 +8,7 @@ use Rattle.busconf_c.specs.declared.status.TheConstants.{VALID, TOO_SHORT, NO_ME
 
 -- a list stands at the front of a place, and what is behind it stays; where the place is too short
 -- for the list, it stays whole
-pub record IsTold (list before after : List ℕ) (needed status : ℕ) : Type 0 where
+pub record IsTold {A : Type 0} (list before after : List A) (needed status : ℕ) : Type 0 where
   pub needed_is : needed ≡ length list
   pub whole : length list ≤ length before →
       (after ≡ list ++ drop (length list) before) × (status ≡ VALID)

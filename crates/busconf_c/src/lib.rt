@@ -12,6 +12,7 @@ mod read;
 mod reader;
 mod records;
 mod registers;
+mod rom;
 mod shown;
 mod status;
 mod tree;

@@ -188,3 +188,33 @@ pub struct GrantRecord {
     /// The number of the kind.
     pub kind: u8,
 }
+
+/// A block of a configuration ROM.
+#[repr(C)]
+#[derive(Clone, Copy, Debug, PartialEq, Eq)]
+pub struct BlockRecord {
+    /// The place of its header, in quadlets from 0.
+    pub at: u16,
+    /// How many quadlets stand behind its header.
+    pub length: u16,
+    /// The CRC that its header keeps, where another one is computed, or 0.
+    pub kept: u16,
+    /// The CRC that is computed, where another one is kept, or 0.
+    pub computed: u16,
+    /// The number of its kind: 1 a directory, 2 a leaf.
+    pub kind: u8,
+    /// What is known of its CRC: 1 good, 2 bad, 3 over more quadlets than there are.
+    pub crc: u8,
+}
+
+/// Why bytes are no configuration ROM, or a ROM's blocks can't be told.
+#[repr(C)]
+#[derive(Clone, Copy, Debug, PartialEq, Eq)]
+pub struct RomFaultRecord {
+    /// The place, in quadlets from 0.
+    pub at: usize,
+    /// What was found in place of the bus's name, or 0.
+    pub found: u32,
+    /// The number of the kind.
+    pub kind: u8,
+}
