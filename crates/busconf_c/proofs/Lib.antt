@@ -1,0 +1,5 @@
+mod Lasting
+mod Places
+mod Slots
+mod Taking
+mod Telling

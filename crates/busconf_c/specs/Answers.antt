@@ -1,0 +1,49 @@
+-- What a call answers that reads the list of a bus.
+use Rattle.std.specs.Prelude.{◌≡◌, ℕ, ◌<◌, ◌==◌, if◌then◌else◌, Option, Some, None, List, length}
+use Rattle.self_id.specs.declared.standard.Standard.{Standard}
+use Rattle.self_id.specs.declared.standard.Standard.TheVariants.{Ieee1995, Ieee2000}
+use Rattle.topology_stack.specs.declared.fault.TreeFault.{TreeFault}
+use Rattle.topology_stack.specs.Tree.{Tree, walk, IsBusTreeOf, emits}
+use Rattle.topology_stack.specs.Refused.{Refused}
+use Rattle.busconf_c.specs.declared.status.TheConstants.{VALID, REFUSED, NO_MEMORY, TOO_SHORT, NO_STANDARD}
+use Rattle.busconf_c.specs.declared.records.FaultRecord.{FaultRecord}
+use Rattle.busconf_c.specs.declared.records.BusRecord.{BusRecord}
+use Rattle.busconf_c.specs.declared.records.NodeRecord.{NodeRecord}
+use Rattle.busconf_c.specs.Faults.{tree_record}
+use Rattle.busconf_c.specs.Shown.{AreShown, IsBusRecord}
+
+-- a standard goes by the year of its number
+abbrev pub standard_of : ℕ → Option Standard
+standard_of year =
+    if year == 1995 then Some Ieee1995 else (if year == 2000 then Some Ieee2000 else None)
+
+-- the bus tree of the year's standard emits the list
+pub record IsTreeOf (year : ℕ) (quads : List ℕ) (t : Tree) : Type 0 where
+  pub standard : Standard
+  pub named : standard_of year ≡ Some standard
+  pub bus : IsBusTreeOf standard t
+  pub emitted : emits t ≡ quads
+
+-- why no tree is read: the list's fault, which is told, want of memory, or no standard
+pub data IsStop (year : ℕ) (quads : List ℕ) (before after : FaultRecord) (status : ℕ) : Type 0 where
+  refused : (standard : Standard) (f : TreeFault) → standard_of year ≡ Some standard →
+      Refused standard quads f → after ≡ tree_record f → status ≡ REFUSED →
+      IsStop year quads before after status
+  no_memory : after ≡ before → status ≡ NO_MEMORY → IsStop year quads before after status
+  no_standard : standard_of year ≡ None → after ≡ before → status ≡ NO_STANDARD →
+      IsStop year quads before after status
+
+-- a tree is read and this holds of it, or else why not
+pub data Answers (year : ℕ) (quads : List ℕ) (before after : FaultRecord) (status : ℕ)
+    (Tells : Tree → Type 0) : Type 0 where
+  told : (t : Tree) → IsTreeOf year quads t → after ≡ before → Tells t →
+      Answers year quads before after status Tells
+  stopped : IsStop year quads before after status → Answers year quads before after status Tells
+
+-- the nodes of a tree and its bus are shown, or the bus alone where there is no room for the nodes
+pub data TellsNodes (t : Tree) (before after : List NodeRecord) (bus : BusRecord) (status : ℕ)
+    : Type 0 where
+  shown : IsBusRecord t bus → AreShown t before after → status ≡ VALID →
+      TellsNodes t before after bus status
+  too_short : IsBusRecord t bus → length before < length (walk t) → after ≡ before →
+      status ≡ TOO_SHORT → TellsNodes t before after bus status

@@ -1,0 +1,229 @@
+/* Calls libbusconf over captures, with places of exactly the size that is needed, one less, and none. Each place is a
+ * block of its own, so that valgrind sees what is written past it. `check STANDARD FILE..`; it says what fails, and
+ * else how much it did. */
+#include "busconf.h"
+
+#include <stdio.h>
+#include <stdlib.h>
+#include <string.h>
+
+static unsigned long failed = 0;
+static const char *file = "";
+
+static void expect(int holds, const char *what) {
+  if (!holds) {
+    printf("FAILED %s: %s\n", file, what);
+    failed++;
+  }
+}
+
+/* A block of exactly so many bytes, filled with a byte. It isn't null. */
+static void *block(size_t bytes, int with) {
+  void *at = malloc(bytes ? bytes : 1);
+  if (!at) exit(2);
+  memset(at, with, bytes ? bytes : 1);
+  return at;
+}
+
+static int filled(const void *at, size_t from, size_t to, int with) {
+  const unsigned char *b = (const unsigned char *)at;
+  for (; from < to; from++)
+    if (b[from] != with) return 0;
+  return 1;
+}
+
+static int same_fault(const struct busconf_fault *a, const struct busconf_fault *b) {
+  return a->at == b->at && a->kind == b->kind && a->found == b->found && a->wanted == b->wanted;
+}
+
+/* The first quadlets of a capture, in a block of exactly their size. The count is (size_t)-1 where the bytes are no
+ * whole pairs. */
+static uint32_t *load(const char *path, size_t *count) {
+  FILE *in = fopen(path, "rb");
+  unsigned char b[8];
+  uint32_t *quads = (uint32_t *)block(0, 0), *exact;
+  size_t got, n = 0;
+  if (!in) exit(2);
+  while ((got = fread(b, 1, 8, in)) == 8) {
+    quads = (uint32_t *)realloc(quads, (n + 1) * sizeof *quads);
+    quads[n++] = (uint32_t)b[0] << 24 | (uint32_t)b[1] << 16 | (uint32_t)b[2] << 8 | b[3];
+  }
+  fclose(in);
+  exact = (uint32_t *)block(n * sizeof *exact, 0);
+  memcpy(exact, quads, n * sizeof *exact);
+  free(quads);
+  *count = got ? (size_t)-1 : n;
+  return exact;
+}
+
+/* Reads with room for so many nodes. */
+static uint32_t read_into(const uint32_t *quads, size_t count, uint32_t standard, size_t room, struct busconf_bus *bus,
+                          struct busconf_fault *fault) {
+  size_t bytes = room * sizeof(struct busconf_node), id, slot;
+  struct busconf_node *nodes = (struct busconf_node *)block(bytes, 0xa5);
+  uint32_t status = busconf_read(quads, count, standard, nodes, room, bus, fault);
+  if (status != BUSCONF_VALID) expect(filled(nodes, 0, bytes, 0xa5), "nodes stay where nothing is shown");
+  else {
+    expect(filled(nodes, bus->nodes * sizeof *nodes, bytes, 0xa5), "what stands behind the nodes stays");
+    for (id = 0; id < bus->nodes; id++) {
+      expect(nodes[id].id == id, "nodes stand by ID");
+      for (slot = 0; slot < BUSCONF_MAX_SLOTS; slot++) {
+        struct busconf_slot at = nodes[id].slots[slot], back;
+        int leads = at.status == BUSCONF_UP || at.status == BUSCONF_DOWN;
+        expect(leads == (at.far != BUSCONF_NO_NODE), "a slot leads to a node where it is up or down");
+        if (leads) {
+          size_t k, found = 0;
+          for (k = 0; k < nodes[at.far].slot_count; k++) {
+            back = nodes[at.far].slots[k];
+            found += back.far == id && back.status == (at.status == BUSCONF_UP ? BUSCONF_DOWN : BUSCONF_UP);
+          }
+          expect(found == 1, "a slot leads back");
+        }
+      }
+    }
+  }
+  free(nodes);
+  return status;
+}
+
+typedef uint32_t (*image_call)(const uint32_t *, size_t, uint32_t, uint32_t, uint32_t *, size_t, size_t *,
+                               struct busconf_fault *);
+
+static void check_image(image_call call, const uint32_t *quads, size_t count, uint32_t standard, uint32_t status) {
+  struct busconf_fault fault;
+  size_t needed = 77, again = 77;
+  uint32_t *none = (uint32_t *)block(0, 0), *place;
+  expect(call(quads, count, standard, 7, none, 0, &needed, &fault) == (status ? status : BUSCONF_TOO_SHORT),
+         "an image has no room in none");
+  free(none);
+  if (status) {
+    expect(needed == 77, "no length is told of no image");
+    return;
+  }
+  place = (uint32_t *)block((needed - 1) * 4, 0xa5);
+  expect(call(quads, count, standard, 7, place, needed - 1, &again, &fault) == BUSCONF_TOO_SHORT, "one less");
+  expect(again == needed && filled(place, 0, (needed - 1) * 4, 0xa5), "the length is told and nothing is written");
+  free(place);
+  place = (uint32_t *)block(needed * 4, 0xa5);
+  expect(call(quads, count, standard, 7, place, needed, &again, &fault) == BUSCONF_VALID, "exactly as much");
+  expect(again == needed && place[0] >> 16 == needed - 1 && place[1] == 7, "the image has its length and generation");
+  expect((place[0] & 0xffffu) == busconf_crc16(place + 1, needed - 1), "the image keeps its CRC");
+  free(place);
+}
+
+static void check_rows(const uint32_t *quads, size_t count, uint32_t standard, const struct busconf_bus *bus) {
+  struct busconf_fault fault;
+  size_t needed = 0, all = 64 * (size_t)bus->nodes, a, b;
+  uint8_t *less = (uint8_t *)block(all - 1, 0xa5), *rows = (uint8_t *)block(all, 0xa5);
+  expect(busconf_speed_rows(quads, count, standard, less, all - 1, &needed, &fault) == BUSCONF_TOO_SHORT, "rows");
+  expect(needed == all && filled(less, 0, all - 1, 0xa5), "rows have 64 bytes a node");
+  expect(busconf_speed_rows(quads, count, standard, rows, all, &needed, &fault) == BUSCONF_VALID, "all rows");
+  for (a = 0; a < bus->nodes; a++)
+    for (b = 0; b < 64; b++)
+      expect(b < bus->nodes ? rows[64 * a + b] == rows[64 * b + a] : rows[64 * a + b] == 0, "speeds go both ways");
+  free(less);
+  free(rows);
+}
+
+/* A reader that is given the list one by one agrees with busconf_read of what it was given. */
+static void check_reader(const uint32_t *quads, size_t count) {
+  struct busconf_reader *reader = (struct busconf_reader *)block(sizeof *reader, 0xa5);
+  size_t n;
+  int over = 0;
+  busconf_reader_init(reader);
+  for (n = 0; n <= count; n++) {
+    struct busconf_bus bus;
+    struct busconf_fault told, read;
+    uint32_t state = busconf_reader_state(reader, &told);
+    uint32_t status = read_into(quads, n, BUSCONF_IEEE2000, BUSCONF_MAX_NODES, &bus, &read);
+    expect((state == BUSCONF_VALID) == (status == BUSCONF_VALID), "the reader says when a list is whole");
+    if (status == BUSCONF_REFUSED) {
+      int ends = read.kind == BUSCONF_EMPTY || read.kind == BUSCONF_NO_ROOT || read.kind == BUSCONF_CUT;
+      expect(same_fault(&told, &read), "the reader tells the list's fault");
+      expect(state == (ends ? BUSCONF_INCOMPLETE : BUSCONF_REFUSED), "the reader says whether the fault lasts");
+    }
+    expect(!over || state == BUSCONF_REFUSED, "a fault lasts");
+    over = state == BUSCONF_REFUSED;
+    if (n < count) busconf_reader_push(reader, quads[n]);
+  }
+  free(reader);
+}
+
+static void check_capture(const char *path, uint32_t standard) {
+  size_t count, n;
+  uint32_t *quads = load(path, &count), status, again;
+  struct busconf_bus bus, one;
+  struct busconf_fault fault;
+  struct busconf_plan plan;
+  uint8_t hops = 200;
+  file = path;
+  if (count == (size_t)-1) {
+    free(quads);
+    return;
+  }
+  status = read_into(quads, count, standard, 0, &bus, &fault);
+  expect(status == BUSCONF_TOO_SHORT || status == BUSCONF_REFUSED, "no bus has room in none");
+  if (status == BUSCONF_TOO_SHORT) {
+    expect(read_into(quads, count, standard, bus.nodes, &one, &fault) == BUSCONF_VALID, "exactly the nodes");
+    expect(one.nodes == bus.nodes && one.root == bus.root && one.manager == bus.manager, "one bus");
+    again = read_into(quads, count, standard, bus.nodes - 1u, &one, &fault);
+    expect(again == BUSCONF_TOO_SHORT && one.nodes == bus.nodes, "one node less");
+    check_rows(quads, count, standard, &bus);
+    status = BUSCONF_VALID;
+  }
+  check_image(busconf_topology_map, quads, count, standard, status);
+  check_image(busconf_speed_map, quads, count, standard, status);
+  expect(busconf_hops(quads, count, standard, &hops, &fault) == status, "hops");
+  expect(status ? hops == 200 : hops < bus.nodes, "hops are those of the bus, or stay");
+  again = busconf_plan(quads, count, standard, &plan, &fault);
+  if (!status) {
+    expect(again == (bus.manager == BUSCONF_NO_NODE ? BUSCONF_NO_CANDIDATE : BUSCONF_VALID), "a plan where one is elected");
+    if (!again) {
+      struct busconf_packet packet;
+      busconf_decode(plan.packet, &packet);
+      expect(packet.kind == BUSCONF_CONFIG && packet.phy_id == plan.root && packet.gap == plan.gap && packet.force
+                 && packet.set_gap, "the plan's packet says what the plan says");
+      expect(plan.hops == hops && plan.gap == busconf_gap_for(hops), "the plan's gap is that of the hops");
+    }
+  }
+  for (n = 0; n < count; n++) {
+    struct busconf_packet packet;
+    uint32_t quad = ~quads[n];
+    busconf_decode(quads[n], &packet);
+    expect(busconf_encode(&packet, &quad) == BUSCONF_VALID && quad == quads[n], "a packet is written as it was read");
+  }
+  expect(read_into(quads, count, 1996, 0, &bus, &fault) == BUSCONF_NO_STANDARD, "no standard");
+  if (standard == BUSCONF_IEEE2000) check_reader(quads, count);
+  free(quads);
+}
+
+/* Quadlets of each kind, and packets that are none. */
+static void check_packets(void) {
+  static const uint32_t quads[] = {0x817f88d4u, 0x8483555cu, 0x01c50000u, 0x42000000u, 0x03040000u, 0xc0000001u};
+  static const uint8_t kinds[] = {BUSCONF_SELF_ZERO, BUSCONF_SELF_MORE, BUSCONF_CONFIG, BUSCONF_LINK_ON, BUSCONF_EXTENDED,
+                                  BUSCONF_OTHER};
+  struct busconf_packet packet;
+  uint32_t quad = 5;
+  size_t n;
+  file = "packets";
+  for (n = 0; n < sizeof quads / sizeof *quads; n++) {
+    busconf_decode(quads[n], &packet);
+    expect(packet.kind == kinds[n], "the kind of a quadlet");
+    expect(busconf_encode(&packet, &quad) == BUSCONF_VALID && quad == quads[n], "both ways");
+  }
+  quad = 5;
+  packet.kind = 0;
+  expect(busconf_encode(&packet, &quad) == BUSCONF_REFUSED && quad == 5, "no kind");
+  busconf_decode(quads[0], &packet);
+  packet.gap = 64;
+  expect(busconf_encode(&packet, &quad) == BUSCONF_REFUSED && quad == 5, "a field that doesn't fit");
+}
+
+int main(int argc, char **argv) {
+  uint32_t standard = argc > 1 ? (uint32_t)strtoul(argv[1], NULL, 10) : 0;
+  int n;
+  check_packets();
+  for (n = 2; n < argc; n++) check_capture(argv[n], standard);
+  if (!failed) printf("check: %d captures by %u\n", argc - 2, (unsigned)standard);
+  return failed ? 1 : 0;
+}

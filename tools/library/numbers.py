@@ -1,0 +1,53 @@
+"""Compares the numbers and records of include/busconf.h with those of the crate, whose contracts cite them."""
+import re
+import sys
+
+top = sys.argv[1]
+
+
+def text(path):
+    with open(f"{top}/{path}", encoding="utf-8") as it:
+        return it.read()
+
+
+def snake(name):
+    return re.sub(r"(?<!^)(?=[A-Z])", "_", name).upper()
+
+
+header = text("include/busconf.h")
+has = {name: int(number) for name, number in re.findall(r"#define BUSCONF_(\w+) (\d+)u", header)}
+wants = {}
+crate = "crates/busconf_c"
+for name, number in re.findall(r"_record \(?(\w+).*?\)? =\s+fault_with (\d+)", text(f"{crate}/specs/Faults.antt")):
+    wants[snake(name)] = int(number)
+for name, number in re.findall(r"packet_record \((\w+)[^)]*\) =\s+record \(blank (\d+)\)", text(f"{crate}/specs/Packets.antt")):
+    wants[snake(name)] = int(number)
+for name, number in re.findall(r"pub const (\w+): \w+ = (\d+);", text(f"{crate}/src/status.rt") + text(f"{crate}/src/records.rt")):
+    wants[name] = int(number)
+for name, number in re.findall(r"^status_bits (\w+) = (\d)$", text("crates/self_id/specs/Node.antt"), re.M):
+    wants[snake(name)] = int(number)
+for year in re.findall(r"year == (\d+) then Some", text(f"{crate}/specs/Answers.antt")):
+    wants[f"IEEE{year}"] = int(year)
+wants["NO_NODE"] = int(re.search(r"^id_or_none None = (\d+)$", text(f"{crate}/specs/Shown.antt"), re.M)[1])
+wants["MAX_NODES"] = int(re.search(r"length \(walk t\) ≤ (\d+)", text("crates/topology_stack/specs/Tree.antt"))[1])
+bad = [f"{it}: header {has.get(it)}, contracts {wants.get(it)}" for it in sorted({*has, *wants}) if has.get(it) != wants.get(it)]
+
+widths = {"u8": "uint8_t", "u16": "uint16_t", "u32": "uint32_t", "usize": "size_t", "SlotRecord": "struct busconf_slot"}
+arrays = {"MAX_SLOTS": "BUSCONF_MAX_SLOTS", "READER_QUADS": "BUSCONF_READER_QUADS"}
+in_header = {
+    name: [(kind, field, size) for kind, field, size in re.findall(r"^  ([\w ]+) (\w+)(?:\[(\w+)\])?;", body, re.M)]
+    for name, body in re.findall(r"^struct busconf_(\w+) \{\n(.*?)^\};", header, re.M | re.S)
+}
+records = {}
+for name, body in re.findall(r"pub struct (\w+)Record \{\n(.*?)^\}", text(f"{crate}/src/records.rt"), re.M | re.S):
+    fields = re.findall(r"pub (\w+): \[?(\w+)(?:; (\w+)\])?,", body)
+    records[name.lower()] = [(widths[kind], field, arrays[size] if size else "") for field, kind, size in fields]
+bad += [f"struct {it}: {in_header.get(it)}, crate {records.get(it)}" for it in sorted({*in_header, *records}) if in_header.get(it) != records.get(it)]
+
+exports = set()
+for file in re.findall(r"^mod (\w+);", text(f"{crate}/src/lib.rt"), re.M):
+    exports |= set(re.findall(r'pub extern "C" fn (\w+)', text(f"{crate}/src/{file}.rt")))
+declared = set(re.findall(r"^\w+ (busconf_\w+)\(", header, re.M))
+bad += [f"{it}: only in one of the header and the crate" for it in sorted(exports ^ declared)]
+print("\n".join(bad) or f"numbers: {len(wants)} numbers, {len(records)} records and {len(exports)} calls of the header are the crate's")
+sys.exit(1 if bad else 0)
