@@ -1,20 +1,54 @@
+# Sourced by the wrappers at the top, which set top.
+# shellcheck shell=bash disable=SC2154
 . "$top/tools/sources.sh"
+
+# The status of a wrapper that has no answer of the program to give. No program of this repository ends with it.
+NO_ANSWER=125
+
+# Says on standard error why there is no answer of the program, and ends with that status.
+no_answer() {
+  echo "$name: no answer: $1" >&2
+  exit "$NO_ANSWER"
+}
 
 # Runs the program of this name with the words behind it: the proved one where ./build has built it from the
 # sources as they are now, else the same sources unproved.
 run_program() {
-  local name=$1 program="$top/crates/$1/out/$1" notes status
+  name=$1
+  local program="$top/crates/$1/out/$1" status reason
   shift
   if [ -x "$program" ] && [ "$(cat "$program.sources" 2>/dev/null)" = "$(sources_sum "$top")" ]; then
     exec "$program" "$@"
   fi
-  command -v rt >/dev/null || { echo "$name: neither a built program nor the Rattle kit's command rt is here" >&2; exit 127; }
+  command -v rt >/dev/null || no_answer "neither a built program nor the Rattle kit's command rt is here"
   echo "$name: not built from these sources, so this run is unproved and takes half a minute; ./build proves and builds it" >&2
-  notes=$(mktemp)
-  trap 'rm -f "$notes"' EXIT
-  (cd "$top/crates/$name" && rt try -- "$@") 2>"$notes"
+  work=$(mktemp -d) || no_answer "no room for the files of an unproved run"
+  trap 'rm -rf "$work"' EXIT
+
+  # rt gets files and not the streams themselves, so that what is wrong with a stream is told from what the program
+  # answers. No program takes more than 1,048,576 bytes, so one more is enough.
+  : >"$work/input"
+  if reads_input "$@"; then
+    head -c 1048577 >"$work/input" 2>/dev/null || no_answer "standard input can't be read"
+  fi
+  (cd "$top/crates/$name" && rt try -- "$@") <"$work/input" >"$work/output" 2>"$work/notes"
   status=$?
+  if ! grep -qE "^run=ended status=$status " "$work/notes"; then
+    reason=$(sed -n 's/^checked: //p' "$work/notes" | tail -n 1)
+    [ -n "$reason" ] || tail -n 5 "$work/notes" >&2
+    no_answer "rt gave none of this unproved run (${reason:-its last lines stand above}); ./build builds a program that has no limits of rt"
+  fi
   # What rt says of its own run is no line of the program.
-  grep -vE '^(checked: |run=|rt: )' "$notes" >&2
+  grep -vE '^(checked: |interpreter: |run=|rt: )' "$work/notes" >&2
+  cat "$work/output" 2>/dev/null || no_answer "standard output can't be written"
   exit "$status"
+}
+
+# Whether a program that is asked with these words reads its input.
+reads_input() {
+  case "$#:${1-}" in
+  1:run | 1:advice | 1:read | 1:read95 | 1:maps | 1:rom) true ;;
+  1:packets | 1:tree | 1:dot | 1:trace) true ;;
+  *) false ;;
+  esac
 }

@@ -1,3 +1,4 @@
+# shellcheck shell=bash
 # A checksum of all that the program is made of.
 sources_sum() {
   (cd "$1" && cat crates.txt && find crates -path '*/out' -prune -o \( -path '*/src/*' -o -path '*/specs/*' -o -path '*/proofs/*' \) -type f -print0 \

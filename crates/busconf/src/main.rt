@@ -1,7 +1,13 @@
 //! The program: the top call over standard input and standard output.
 #![tactic(auto)]
 
-use bus_cli::{MAX_INPUT, NO_FORM, NO_MEMORY, READ_FAULT, TOO_LONG, USAGE, WRITE_FAULT, bus_main};
+mod help;
+
+use about::{About, KIT, STANDARDS, VERSION};
+use bus_cli::{
+    MAX_INPUT, NO_FORM, NO_MEMORY, READ_FAULT, TOO_LONG, USAGE, VALID, WRITE_FAULT, bus_main,
+};
+use help::HELP;
 use io_edges::{ReadSource, WriteSink};
 use std::process::ExitCode;
 use std::rt::Env;
@@ -15,13 +21,28 @@ fn words_of<R: Env + AllocGlobal>(rt: &R) -> io::Result<Vec<String>> {
     Ok(words)
 }
 
-/// The status of the top call with the words of the program.
+/// Writes what the program says of itself, and answers the status.
+fn tell(rt: &impl Print, about: About) -> u8 {
+    let told = match about {
+        About::Help => print!(rt; "{HELP}"),
+        About::Version => println!(rt; "busconf {VERSION}\nkit {KIT}\n{STANDARDS}"),
+    };
+    match told {
+        Ok(()) => VALID,
+        Err(_) => WRITE_FAULT,
+    }
+}
+
+/// The status of the program with its words. What it is asked of itself is answered here, and all else by the top call.
 fn status_of(rt: &HostRuntime) -> u8 {
     let words = match words_of(rt) {
         Ok(words) => words,
         Err(error) if error.kind() == io::ErrorKind::OutOfMemory => return NO_MEMORY,
         Err(_) => return NO_FORM,
     };
+    if let Some(about) = About::of_words(&words) {
+        return tell(rt, about);
+    }
     let mut source = ReadSource::new(rt.stdin());
     let mut sink = WriteSink::new(rt.stdout());
     bus_main(rt.alloc(), &words, &mut source, &mut sink)
@@ -30,7 +51,7 @@ fn status_of(rt: &HostRuntime) -> u8 {
 /// Says on standard error why nothing was written, or not all.
 fn explain(rt: &impl Eprint, status: u8) -> io::Result<()> {
     match status {
-        NO_FORM => eprintln!(rt; "{USAGE}"),
+        NO_FORM => eprintln!(rt; "{USAGE}\nbusconf --help says what each form does"),
         READ_FAULT => eprintln!(rt; "busconf: reading standard input failed"),
         WRITE_FAULT => eprintln!(rt; "busconf: writing standard output failed"),
         NO_MEMORY => eprintln!(rt; "busconf: out of memory"),

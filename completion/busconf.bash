@@ -1,0 +1,14 @@
+# Completion of the words of busconf and busview for bash. Source it, or put it where bash-completion looks.
+_busconf() {
+  local forms
+  case ${1##*/} in
+  busview) forms="packets tree dot trace --help --version" ;;
+  *) forms="run advice read read95 maps rom make --help --version" ;;
+  esac
+  COMPREPLY=()
+  if [ "$COMP_CWORD" -eq 1 ]; then
+    mapfile -t COMPREPLY < <(compgen -W "$forms" -- "${COMP_WORDS[1]}")
+  fi
+}
+# Behind a redirection bash completes file names by itself.
+complete -F _busconf busconf busview
