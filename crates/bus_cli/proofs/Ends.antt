@@ -21,8 +21,8 @@ use Rattle.bus_cli.specs.Capture.{Spells, CaptureRefused}
 use Rattle.bus_cli.specs.Line.{fault_line}
 use Rattle.bus_cli.specs.codings.Reading.{Reads, Shows, status_with, text_with}
 use Rattle.bus_cli.specs.Answer.{PrintsRun, AnswersForm, AnswersMake, Answers}
-use Rattle.bus_cli.specs.OneAnswer.{EachInputHasAnAnswer, NoInputHasTwoAnswers}
-use Rattle.bus_cli.specs.Written.{IsWritten, OfTheAnswer}
+use Rattle.bus_cli.specs.OneAnswer.{NoInputHasTwoAnswers}
+use Rattle.bus_cli.specs.Streams.{IsWritten, OfTheAnswer}
 use Rattle.bus_cli.proofs.Forms.{one_form}
 
 -- ---- captures
@@ -105,6 +105,10 @@ pub made_status : (words : List (String Global)) (bytes : List ℕ) (status : �
 made_status words bytes status text make is =
     (of_form words (Make make.0 make.1) make.2 bytes status text is).0
 
+pub made_text : (words : List (String Global)) (nodes seed : ℕ) (bytes : List ℕ) (status : ℕ) (text : List ℕ) → Asks words (Make nodes seed) → Answers words bytes status text → AnswersMake nodes seed 0 text
+made_text words nodes seed bytes status text asks is =
+    let made = of_form words (Make nodes seed) asks bytes status text is in (refl, made.1)
+
 -- ---- what was written
 
 -- what is written whole is an answer of the form that the words ask for
@@ -118,21 +122,31 @@ form_written words form asks status (Some bytes) old new whole = λ which.
 
 -- ---- the answer
 
+-- the whole answer was written
+pub written :
+    (words : List (String Global)) (left old new : Option (List ℕ)) (read text : List ℕ) (status : ℕ) → IfSome left (λ bytes. read ≡ bytes) →
+    Answers words read status text → Appends old new text →
+    IfSome left (λ bytes. (x : List ℕ) × Answers words bytes status x × Appends old new x)
+written words None old new read text status all answers whole = tt
+written words (Some bytes) old new read text status all answers whole =
+    (text, subst (λ (b : List ℕ). Answers words b status text) all answers, whole)
+
 -- this holds of the answer, and there is one
 pub of_answer :
-    EachInputHasAnAnswer → (words : List (String Global)) (left : Option (List ℕ)) (P : List ℕ → ℕ → List ℕ → Type 0) →
-    IfSome left (λ bytes. (s : ℕ) (x : List ℕ) → Answers words bytes s x → P bytes s x) →
-    IfSome left (λ bytes. OfTheAnswer words bytes (P bytes))
-of_answer some words None P h = tt
-of_answer some words (Some bytes) P h = record { holds = h; some = some words bytes }
+    (Answers : List ℕ → ℕ → List ℕ → Type 0) → ((bytes : List ℕ) → All (λ b. b < 256) bytes → (s : ℕ) × (x : List ℕ) × Answers bytes s x) →
+    (left : Option (List ℕ)) (P : ℕ → List ℕ → Type 0) →
+    IfSome left (λ bytes. (s : ℕ) (x : List ℕ) → Answers bytes s x → P s x) → IfSome left (λ bytes. OfTheAnswer Answers bytes P)
+of_answer Answers some None P h = tt
+of_answer Answers some (Some bytes) P h = record { holds = h; some = some bytes }
 
 -- the same where the bytes are few
 pub of_few :
-    EachInputHasAnAnswer → (words : List (String Global)) (left : Option (List ℕ)) (P : ℕ → List ℕ → Type 0) →
-    IfSome left (λ bytes. length bytes ≤ 1048576 → (s : ℕ) (x : List ℕ) → Answers words bytes s x → P s x) →
-    IfSome left (λ bytes. length bytes ≤ 1048576 → OfTheAnswer words bytes P)
-of_few some words None P h = tt
-of_few some words (Some bytes) P h = λ few. record { holds = h few; some = some words bytes }
+    (Answers : List ℕ → ℕ → List ℕ → Type 0) → ((bytes : List ℕ) → All (λ b. b < 256) bytes → (s : ℕ) × (x : List ℕ) × Answers bytes s x) →
+    (left : Option (List ℕ)) (P : ℕ → List ℕ → Type 0) →
+    IfSome left (λ bytes. length bytes ≤ 1048576 → (s : ℕ) (x : List ℕ) → Answers bytes s x → P s x) →
+    IfSome left (λ bytes. length bytes ≤ 1048576 → OfTheAnswer Answers bytes P)
+of_few Answers some None P h = tt
+of_few Answers some (Some bytes) P h = λ few. record { holds = h few; some = some bytes }
 
 -- what holds where the text is taken holds where the answer is
 pub taken_surely : NoInputHasTwoAnswers → (words : List (String Global)) (left : Option (List ℕ)) (read text : List ℕ) (status : ℕ) (takes : ℕ → Type 0) (same : Type 0) → IfSome left (λ bytes. read ≡ bytes) → Answers words read status text →

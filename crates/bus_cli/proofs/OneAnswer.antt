@@ -37,7 +37,7 @@ use Rattle.bus_cli.specs.Capture.{Spells, CaptureRefused}
 use Rattle.bus_cli.specs.Line.{fault_line, rom_line, script_line}
 use Rattle.bus_cli.specs.OneReading.{EachCaptureHasATreeOrAFault, NoCaptureHasTwoTrees, NoCaptureHasATreeAndAFault, NoCaptureHasTwoFaults}
 use Rattle.bus_cli.specs.Answer.{ValidOrRefused, IsCaptureLine, AnswersRead, AnswersMaps, TellsRom, RomRefused, TextOfRom, AnswersRom, PrintsRun, AnswersRun, AnswersAdvice, AnswersMake, AnswersForm, Answers}
-use Rattle.bus_cli.specs.OneAnswer.{HasAnswer, EachInputHasAnAnswer, NoInputHasTwoAnswers}
+use Rattle.bus_cli.specs.OneAnswer.{EachInputHasAnAnswer, NoInputHasTwoAnswers}
 use Rattle.bus_cli.proofs.Forms.{one_form, form_or_none, few_nodes}
 
 -- a capture has one reading, and so has a ROM, and no script tells two things
@@ -263,8 +263,6 @@ module _ (have : HasSomeReading) where
   pub some_answer : EachInputHasAnAnswer
   some_answer words bytes fit = go (form_or_none words)
     where
-      go : IsForm words ⊎ (IsForm words → ⊥) → HasAnswer words bytes
-      go (inl f) =
-          let a = some_form words f.0 f.1 bytes fit in
-          record { status = a.0; text = a.1; is = inl (f.0, f.1, a.2) }
-      go (inr none) = record { status = 2; text = []; is = inr (none, refl, refl) }
+      go : IsForm words ⊎ (IsForm words → ⊥) → HasSome (Answers words bytes)
+      go (inl f) = let a = some_form words f.0 f.1 bytes fit in (a.0, a.1, inl (f.0, f.1, a.2))
+      go (inr none) = (2, [], inr (none, refl, refl))

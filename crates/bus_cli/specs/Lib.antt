@@ -5,5 +5,5 @@ pub mod Line
 pub mod OneAnswer
 pub mod OneReading
 pub mod Stop
-pub mod Written
+pub mod Streams
 pub mod codings

@@ -3,16 +3,10 @@ use Rattle.std.specs.Prelude.{◌≡◌, ℕ, ◌<◌, All, List, String}
 use Rattle.std.specs.Global.{Global}
 use Rattle.bus_cli.specs.Answer.{Answers}
 
--- a status and a text that answer
-pub record HasAnswer (words : List (String Global)) (bytes : List ℕ) : Type 0 where
-  pub status : ℕ
-  pub text : List ℕ
-  pub is : Answers words bytes status text
-
 abbrev pub EachInputHasAnAnswer : Type 0
 EachInputHasAnAnswer =
     (words : List (String Global)) (bytes : List ℕ) → All (λ b. b < 256) bytes →
-    HasAnswer words bytes
+    (status : ℕ) × (text : List ℕ) × Answers words bytes status text
 
 abbrev pub NoInputHasTwoAnswers : Type 0
 NoInputHasTwoAnswers =

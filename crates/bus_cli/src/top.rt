@@ -10,14 +10,74 @@ ghost use Rattle.topology_stack.specs.Tree.{Tree};
 ghost use Rattle.bus_cli.specs.Capture.{Spells};
 ghost use Rattle.bus_cli.specs.Answer.{AnswersRead, AnswersMaps, AnswersRom, AnswersRun, AnswersAdvice};
 ghost use Rattle.bus_cli.specs.Answer.{AnswersMake, Answers};
-ghost use Rattle.bus_cli.specs.Written.{IsWritten, OfTheAnswer};
+ghost use Rattle.bus_cli.specs.Streams.{IsWritten, KeepsStreams};
 
 use crate::answer::read_answer;
 use crate::form::Form;
 use crate::laws::one_answer;
 use crate::status::{NO_FORM, NO_MEMORY, READ_FAULT, TOO_LONG, WRITE_FAULT};
 use io_edges::{ReadStop, Sink, Source, write_whole};
+use script_bus::each_plan_comes_out;
+use script_told::script_worlds_are_reached;
 use std::alloc::Global;
+
+/// Answers the words, as `bus_main` has it.
+fn answer_words<S: Source, K: Sink>(
+    alloc: Global,
+    words: &[String],
+    source: &mut S,
+    sink: &mut K,
+) -> u8
+    ensures status { result ≤ 6 }
+    ensures answer { (result ≡ 0) ⊎ (result ≡ 1) → IfSome (S.left source.old) (λ bytes.
+        (text : List ℕ) × Answers words.now bytes result text
+        × Appends (K.written sink.old) (K.written sink.new) text) }
+    ensures end { (result ≡ 0) ⊎ (result ≡ 1) ⊎ (result ≡ 4) → (¬ AsksMake words.now) →
+        IsAtEnd (S.left source.new) }
+    ensures unfailing { AsksMake words.now → (result ≢ 1) × (result ≢ 3) × (result ≢ 6) }
+    ensures make { (nodes seed : ℕ) → Asks words.now (Form.Make nodes seed) → result ≡ 0 →
+        (text : List ℕ) × AnswersMake nodes seed 0 text
+        × Appends (K.written sink.old) (K.written sink.new) text }
+    ensures no_form { (result ≡ 2) ↔ (¬ IsForm words.now) }
+    ensures read_fault { result ≡ 3 → Rose (S.faults source.old) (S.faults source.new) }
+    ensures write_fault { result ≡ 4 → Rose (K.faults sink.old) (K.faults sink.new) }
+    ensures too_long { IfTold (S.left source.old) (S.left source.new) (λ old new.
+        (result ≡ 6) ↔ TookOver 1048576 old new) }
+    ensures memory { result ≡ 5 → Asks words.now (Form.Capture CaptureForm.Read) →
+        IsAtEnd (S.left source.new)
+        × IfSome (S.left source.old) (λ bytes. (t : Tree) × Spells Ieee2000 bytes t) }
+    ensures unread { (result ≡ 2) ⊎ AsksMake words.now → source.new ≡ source.old }
+    ensures unwritten { 2 ≤ result → result ≢ 4 → sink.new ≡ sink.old }
+    ensures part { result ≡ 4 → IfSome (S.left source.old) (λ bytes.
+        (status : ℕ) × (text : List ℕ) × Answers words.now bytes status text
+        × AppendsStart (K.written sink.old) (K.written sink.new) text) }
+    ensures exact { IfSome (S.left source.old) (λ bytes. (status : ℕ) (text : List ℕ) →
+        Answers words.now bytes status text → (result ≡ status) ⊎ (3 ≤ result)) }
+    ensures complete { ¬ Rose (S.faults source.old) (S.faults source.new) →
+        ¬ Rose (K.faults sink.old) (K.faults sink.new) →
+        IfSome (S.left source.old) (λ bytes. length bytes ≤ 1048576 →
+        (status : ℕ) (text : List ℕ) → Answers words.now bytes status text →
+        ((result ≡ status) × Appends (K.written sink.old) (K.written sink.new) text)
+        ⊎ (result ≡ 5)) }
+    ensures sure { IfSome (S.left source.old) (λ bytes. (status : ℕ) (text : List ℕ) →
+        Answers words.now bytes status text → K.surely_takes sink.old (length text) →
+        K.faults sink.new ≡ K.faults sink.old) }
+{
+    one_answer();
+    let Some(form) = Form::of_words(words) else {
+        return NO_FORM;
+    };
+    let answer = match read_answer(alloc, form, source) {
+        Ok(answer) => answer,
+        Err(ReadStop::ReadFault) => return READ_FAULT,
+        Err(ReadStop::TooLong) => return TOO_LONG,
+        Err(ReadStop::Memory(_)) => return NO_MEMORY,
+    };
+    match write_whole(sink, answer.text()) {
+        Ok(()) => answer.status(),
+        Err(_) => WRITE_FAULT,
+    }
+}
 
 /// Does what the words after the program's name ask for: reads the input from `source`, writes the
 /// text or the line of the input's fault to `sink`, and answers the exit status.
@@ -49,14 +109,11 @@ pub fn bus_main<S: Source, K: Sink>(
     source: &mut S,
     sink: &mut K,
 ) -> u8
-    ensures status { result ≤ 6 }
-
-    // What is written whole is the text that answers the words and the bytes.
-    ensures answer { (result ≡ 0) ⊎ (result ≡ 1) → IfSome (S.left source.old) (λ bytes.
-        (text : List ℕ) × Answers words.now bytes result text
-        × Appends (K.written sink.old) (K.written sink.new) text) }
-    ensures end { (result ≡ 0) ⊎ (result ≡ 1) ⊎ (result ≡ 4) → (¬ AsksMake words.now) →
-        IsAtEnd (S.left source.new) }
+    // The answer to the words and the bytes, which there is, is written, unless another status has
+    // its cause. With `make` nothing is read.
+    ensures streams { KeepsStreams S.left S.faults K.written K.faults K.surely_takes
+        (AsksMake words.now) (Answers words.now) result source.old source.new sink.old sink.new }
+    ensures no_form { (result ≡ 2) ↔ (¬ IsForm words.now) }
 
     // With `read` and `read95` it is the tree that the capture spells, or its fault.
     ensures read { Asks words.now (Form.Capture CaptureForm.Read) → IsWritten (AnswersRead Ieee2000)
@@ -79,60 +136,20 @@ pub fn bus_main<S: Source, K: Sink>(
     ensures advice { Asks words.now Form.Advice → IsWritten AnswersAdvice
         result (S.left source.old) (K.written sink.old) (K.written sink.new) }
 
-    // With `make` the script has no fault and nothing is read, and what is written at status 0 is
-    // the summary of what the script prints.
+    // With `make` the script has no fault, and what is written at status 0 is the summary of what
+    // the script prints.
     ensures unfailing { AsksMake words.now → (result ≢ 1) × (result ≢ 3) × (result ≢ 6) }
     ensures make { (nodes seed : ℕ) → Asks words.now (Form.Make nodes seed) → result ≡ 0 →
         (text : List ℕ) × AnswersMake nodes seed 0 text
         × Appends (K.written sink.old) (K.written sink.new) text }
 
-    // When each other status comes.
-    ensures no_form { (result ≡ 2) ↔ (¬ IsForm words.now) }
-    ensures read_fault { result ≡ 3 → Rose (S.faults source.old) (S.faults source.new) }
-    ensures write_fault { result ≡ 4 → Rose (K.faults sink.old) (K.faults sink.new) }
-    ensures too_long { IfTold (S.left source.old) (S.left source.new) (λ old new.
-        (result ≡ 6) ↔ TookOver 1048576 old new) }
-
     // With `read`, memory is taken only once the input was read to its end and is valid.
     ensures memory { result ≡ 5 → Asks words.now (Form.Capture CaptureForm.Read) →
         IsAtEnd (S.left source.new)
         × IfSome (S.left source.old) (λ bytes. (t : Tree) × Spells Ieee2000 bytes t) }
-
-    // What is left alone, or written in part.
-    ensures unread { (result ≡ 2) ⊎ AsksMake words.now → source.new ≡ source.old }
-    ensures unwritten { 2 ≤ result → result ≢ 4 → sink.new ≡ sink.old }
-    ensures part { result ≡ 4 → IfSome (S.left source.old) (λ bytes.
-        (status : ℕ) × (text : List ℕ) × Answers words.now bytes status text
-        × AppendsStart (K.written sink.old) (K.written sink.new) text) }
-
-    // The answer to the words and the bytes, which there is, is given, unless another status has
-    // its cause.
-    ensures exact { IfSome (S.left source.old) (λ bytes. OfTheAnswer words.now bytes
-        (λ status text. (result ≡ status) ⊎ (3 ≤ result))) }
-    ensures complete { ¬ Rose (S.faults source.old) (S.faults source.new) →
-        ¬ Rose (K.faults sink.old) (K.faults sink.new) →
-        IfSome (S.left source.old) (λ bytes. length bytes ≤ 1048576 →
-        OfTheAnswer words.now bytes (λ status text.
-        ((result ≡ status) × Appends (K.written sink.old) (K.written sink.new) text)
-        ⊎ (result ≡ 5))) }
-
-    // A sink that surely takes the text has no fault.
-    ensures sure { IfSome (S.left source.old) (λ bytes. OfTheAnswer words.now bytes
-        (λ status text. K.surely_takes sink.old (length text) →
-        K.faults sink.new ≡ K.faults sink.old)) }
 {
     one_answer();
-    let Some(form) = Form::of_words(words) else {
-        return NO_FORM;
-    };
-    let answer = match read_answer(alloc, form, source) {
-        Ok(answer) => answer,
-        Err(ReadStop::ReadFault) => return READ_FAULT,
-        Err(ReadStop::TooLong) => return TOO_LONG,
-        Err(ReadStop::Memory(_)) => return NO_MEMORY,
-    };
-    match write_whole(sink, answer.text()) {
-        Ok(()) => answer.status(),
-        Err(_) => WRITE_FAULT,
-    }
+    script_worlds_are_reached();
+    each_plan_comes_out();
+    answer_words(alloc, words, source, sink)
 }

@@ -9,7 +9,7 @@ use Rattle.bus_cli.specs.declared.fault.CaptureFault.{CaptureFault}
 use Rattle.bus_cli.specs.Capture.{Spells, CaptureRefused}
 use Rattle.bus_cli.specs.Line.{fault_line, script_line}
 use Rattle.script_lines.specs.declared.kind.ScriptFault.{ScriptFault}
-use Rattle.script_told.specs.Script.{IsTold}
+use Rattle.script_told.specs.Run.{IsTold}
 use Rattle.script_trace.specs.Trace.{IsTrace}
 use Rattle.view_text.specs.Pairs.{AreShown, pairs_text}
 use Rattle.view_text.specs.Drawing.{IsDrawing}

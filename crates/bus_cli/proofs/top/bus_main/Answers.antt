@@ -1,58 +1,53 @@
-use Rattle.std.proofs.Common.{◌≡◌, ◌⊎◌, ◌≤◌, ◌∙◌, ℕ, List, length, inl, refl, sym, ap, Err}
+use Rattle.std.proofs.Common.{◌≡◌, ◌⊎◌, ◌≤◌, ℕ, length}
 use Rattle.std.specs.Io.KnownBytes.{Appends}
-use Rattle.bus_cli.specs.declared.form.Form.TheVariants.{Capture}
-use Rattle.bus_cli.specs.declared.form.CaptureForm.TheVariants.{Read}
-use Rattle.bus_cli.proofs.Forms.{few_nodes, is_unread}
+use Rattle.bus_cli.specs.declared.form.Form.TheVariants.{Capture, Rom, Run, Advice}
+use Rattle.bus_cli.specs.declared.form.CaptureForm.TheVariants.{Read, Read95, Maps}
 use Rattle.bus_cli.specs.Answer.{Answers}
-use Rattle.bus_cli.proofs.Answering.{part_written, whole_written, exact_status, no_form_exact, no_form_complete}
-use Rattle.bus_cli.proofs.Ends.{or_else, taken_surely, no_form_answers, form_written, of_answer, of_few, made_status}
+use Rattle.bus_cli.proofs.Ends.{of_answer, of_few, form_written}
 use Rattle.bus_cli.proofs.top.bus_main.Goals as goal
 
-pub returns-in-Err-Memory-clause-memory : goal.returns-in-Err-Memory-clause-memory
-returns-in-Err-Memory-clause-memory g c = λ five asks.
-    let found = (c.in-Some.ensures (Capture Read)).1 asks in
-    let form : c.in-Some.form ≡ Capture Read = cc in
-    c.in-Err-Memory.ensures.memory (ap (λ e. Err e) c.in-Err-Memory.field-0-is) form
+pub returns-clause-streams : goal.returns-clause-streams
+returns-clause-streams g c =
+    let is = c.answer_words.ensures in
+    let status = c.answer_words.result in
+    let some = c.one_answer.ensures.some c.args.words.now in
+    let left = g.S.Source.left c.args.source.now in
+    let old = g.K.Sink.written c.args.sink.now in
+    let new = g.K.Sink.written c.answer_words.new.sink in
+    record {
+      few = is.status;
+      answer = is.answer;
+      end = is.end;
+      read_fault = is.read_fault;
+      write_fault = is.write_fault;
+      too_long = is.too_long;
+      unread = is.unread;
+      unwritten = is.unwritten;
+      part = is.part;
+      exact = of_answer (Answers c.args.words.now) some left (λ s text. (status ≡ s) ⊎ (3 ≤ status)) is.exact;
+      complete = λ reads writes.
+          of_few (Answers c.args.words.now) some left
+          (λ s text. ((status ≡ s) × Appends old new text) ⊎ (status ≡ 5)) (is.complete reads writes);
+      sure =
+          of_answer (Answers c.args.words.now) some left
+          (λ s text. g.K.Sink.surely_takes c.args.sink.now (length text) → g.K.Sink.faults c.answer_words.new.sink ≡ g.K.Sink.faults c.args.sink.now)
+          is.sure;
+    }
 
-pub read_answer-requires : goal.read_answer-requires
-read_answer-requires g c = few_nodes c.args.words.now c.in-Some.form ((c.in-Some.ensures c.in-Some.form).0 refl)
+pub returns-clause-read : goal.returns-clause-read
+returns-clause-read g c = λ asks. form_written c.args.words.now (Capture Read) asks _ _ _ _ c.answer_words.ensures.answer
 
-pub returns-in-Err-ReadFault-clause-unread : goal.returns-in-Err-ReadFault-clause-unread
-returns-in-Err-ReadFault-clause-unread g c = λ which.
-    let asks = (c.in-Some.ensures c.in-Some.form).0 refl in
-    c.read_answer.ensures.unread (is_unread c.args.words.now c.in-Some.form asks (or_else _ 3 2 (λ e. cc) which))
+pub returns-clause-read95 : goal.returns-clause-read95
+returns-clause-read95 g c = λ asks. form_written c.args.words.now (Capture Read95) asks _ _ _ _ c.answer_words.ensures.answer
 
-pub returns-in-Err-TooLong-clause-unread : goal.returns-in-Err-TooLong-clause-unread
-returns-in-Err-TooLong-clause-unread g c = λ which.
-    let asks = (c.in-Some.ensures c.in-Some.form).0 refl in
-    c.read_answer.ensures.unread (is_unread c.args.words.now c.in-Some.form asks (or_else _ 6 2 (λ e. cc) which))
+pub returns-clause-maps : goal.returns-clause-maps
+returns-clause-maps g c = λ asks. form_written c.args.words.now (Capture Maps) asks _ _ _ _ c.answer_words.ensures.answer
 
-pub returns-in-Err-Memory-clause-unread : goal.returns-in-Err-Memory-clause-unread
-returns-in-Err-Memory-clause-unread g c = λ which.
-    let asks = (c.in-Some.ensures c.in-Some.form).0 refl in
-    c.read_answer.ensures.unread (is_unread c.args.words.now c.in-Some.form asks (or_else _ 5 2 (λ e. cc) which))
+pub returns-clause-rom : goal.returns-clause-rom
+returns-clause-rom g c = λ asks. form_written c.args.words.now Rom asks _ _ _ _ c.answer_words.ensures.answer
 
-pub returns-in-Err-ReadFault-clause-unfailing : goal.returns-in-Err-ReadFault-clause-unfailing
-returns-in-Err-ReadFault-clause-unfailing g c = λ make.
-    let asks = (c.in-Some.ensures c.in-Some.form).0 refl in
-    let want = c.in-Err-ReadFault.ensures.unfailing (is_unread c.args.words.now c.in-Some.form asks make) in
-    let fault = c.in-Err-ReadFault.field-0-is in
-    absurd cc
+pub returns-clause-run : goal.returns-clause-run
+returns-clause-run g c = λ asks. form_written c.args.words.now Run asks _ _ _ _ c.answer_words.ensures.answer
 
-pub returns-in-Err-TooLong-clause-unfailing : goal.returns-in-Err-TooLong-clause-unfailing
-returns-in-Err-TooLong-clause-unfailing g c = λ make.
-    let asks = (c.in-Some.ensures c.in-Some.form).0 refl in
-    let want = c.in-Err-TooLong.ensures.unfailing (is_unread c.args.words.now c.in-Some.form asks make) in
-    let fault = c.in-Err-TooLong.field-0-is in
-    absurd cc
-
-pub returns-in_default-clause-exact : goal.returns-in_default-clause-exact
-returns-in_default-clause-exact g c =
-    of_answer c.one_answer.ensures.some c.args.words.now (g.S.Source.left c.args.source.now) (λ bytes status text. (2 ≡ status) ⊎ (3 ≤ 2))
-    (no_form_exact (Answers c.args.words.now) (g.S.Source.left c.args.source.now) (no_form_answers c.args.words.now (λ is. absurd (let e = (c.in_default.ensures is.0).1 is.1 in cc))))
-
-pub returns-in_default-clause-complete : goal.returns-in_default-clause-complete
-returns-in_default-clause-complete g c = λ reads writes.
-    of_few c.one_answer.ensures.some c.args.words.now (g.S.Source.left c.args.source.now) _
-    (no_form_complete (Answers c.args.words.now) (g.S.Source.left c.args.source.now) (g.K.Sink.written c.args.sink.now) (no_form_answers c.args.words.now (λ is. absurd (let e = (c.in_default.ensures is.0).1 is.1 in cc))))
-
+pub returns-clause-advice : goal.returns-clause-advice
+returns-clause-advice g c = λ asks. form_written c.args.words.now Advice asks _ _ _ _ c.answer_words.ensures.answer
