@@ -1,16 +1,15 @@
 -- A node that waits to become root, and the others that don't.
-use Rattle.std.specs.Prelude.{◌≡◌, ◌≢◌, ℕ, ◌≤◌, Bool, true, false, Some, IsSome, slice_get, if◌then◌else◌, ◌+◌, ◌-◌, ◌*◌, ◌^◌, ◌<◌, Option, length}
-use Rattle.cabling.specs.NodeSet.{Holds, IsEmpty}
+use Rattle.std.specs.Prelude.{◌≡◌, ◌≢◌, ℕ, ◌≤◌, Bool, true, false, Some, IsSome, slice_get, if◌then◌else◌, ◌+◌, ◌-◌, ◌*◌, ◌<◌, Option, length}
+use Rattle.cabling.specs.NodeSet.{Holds}
 use Rattle.port_state.specs.declared.view.View.{View}
 use Rattle.port_state.specs.Heard.{is_resetting}
 use Rattle.port_state.specs.Machine.{PortNode}
 use Rattle.cable_world.specs.World.{CableWorld, NodeNumber, NodeSet}
 use Rattle.cable_world.specs.Phases.{is_before_tree, is_in_bus_reset}
-use Rattle.cable_world.specs.Outcome.{Shows}
+use Rattle.cable_world.specs.Outcome.{HasNoLoop, Shows}
 use Rattle.convergence.specs.Roots.{IsRoot}
 use Rattle.topology_stack.specs.Tree.{Tree}
 use Rattle.cabling.specs.Component.{IsComponent}
-use Rattle.cabling.specs.Looped.{IsCore}
 use Rattle.port_state.specs.Config.{gap_or}
 use Rattle.cable_world.specs.Quiet.{HoldSchedule, quiet_after}
 use Rattle.cable_world.specs.Act.{ActLeads}
@@ -80,14 +79,11 @@ EntriesTakeOver =
     (y.state.view.force ≡ waits_due x.state.view) × (y.state.view.gap ≡ gap_due x.state.view)
 
 -- in a component without loop, which has just been reset, this node alone waits to become root
-pub record IsForced
-    (w : CableWorld) (node : NodeNumber) (set core : NodeSet) (root : NodeNumber)
+pub record IsForced (w : CableWorld) (node : NodeNumber) (set : NodeSet) (root : NodeNumber)
     : Type 0 where
   pub lawful : IsLawful w
   pub component : IsComponent w.cabling node set
-  pub is_core : IsCore w.cabling set core
-  pub empty : IsEmpty core
-  pub small : set < 2 ^ 63
+  pub no_loop : HasNoLoop w set
   pub fresh : IsFresh w set
   pub alone : WaitsAlone w set root
 
@@ -97,23 +93,23 @@ forced_turns w = 2 * (length w.nodes * w.delay) + 81 * w.delay
 
 abbrev pub ForcedNodesBecomeRoots : Type 0
 ForcedNodesBecomeRoots =
-    (holds : HoldSchedule) (w : CableWorld) (node : NodeNumber) (set core : NodeSet)
+    (holds : HoldSchedule) (w : CableWorld) (node : NodeNumber) (set : NodeSet)
     (root : NodeNumber) (k : ℕ) →
-    IsForced w node set core root → forced_turns w ≤ k → IsRooted (quiet_after holds k w) set root
+    IsForced w node set root → forced_turns w ≤ k → IsRooted (quiet_after holds k w) set root
 
 abbrev pub ForcedRootsHaveWalks : Type 0
 ForcedRootsHaveWalks =
-    (holds : HoldSchedule) (w : CableWorld) (node : NodeNumber) (set core : NodeSet)
+    (holds : HoldSchedule) (w : CableWorld) (node : NodeNumber) (set : NodeSet)
     (root : NodeNumber) (k : ℕ) →
-    IsForced w node set core root → IsAcyclic w → forced_turns w ≤ k →
+    IsForced w node set root → IsAcyclic w → forced_turns w ≤ k →
     (t : Tree) × RootWalk (quiet_after holds k w) set root t
 
 -- from n d turns on each node past T0 has its port towards that node for parent port
 abbrev pub AllLeadToForcedRoots : Type 0
 AllLeadToForcedRoots =
-    (holds : HoldSchedule) (w : CableWorld) (node : NodeNumber) (set core : NodeSet)
+    (holds : HoldSchedule) (w : CableWorld) (node : NodeNumber) (set : NodeSet)
     (root : NodeNumber) →
-    IsForced w node set core root →
+    IsForced w node set root →
     (up : ℕ → Option ℕ) × WaysUp w.cabling set root up
     × ((i : ℕ) (k : NodeNumber) (x : PortNode) → length w.nodes * w.delay ≤ i → Holds set k →
     slice_get (quiet_after holds i w).nodes k ≡ Some x → is_before_tree x.state.view.phase ≡ false →
@@ -122,8 +118,8 @@ AllLeadToForcedRoots =
 -- and nobody draws a coin
 abbrev pub NobodyDraws : Type 0
 NobodyDraws =
-    (holds : HoldSchedule) (w : CableWorld) (node : NodeNumber) (set core : NodeSet)
-    (root : NodeNumber) (i : ℕ) (k : NodeNumber) (x y : PortNode) → IsForced w node set core root →
+    (holds : HoldSchedule) (w : CableWorld) (node : NodeNumber) (set : NodeSet)
+    (root : NodeNumber) (i : ℕ) (k : NodeNumber) (x y : PortNode) → IsForced w node set root →
     length w.nodes * w.delay ≤ i → Holds set k →
     slice_get (quiet_after holds i w).nodes k ≡ Some x →
     slice_get (quiet_after holds (i + 1) w).nodes k ≡ Some y →

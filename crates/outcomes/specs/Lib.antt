@@ -1,3 +1,6 @@
+-- the theorem
+pub mod Headline
+-- what it is proved by
 pub mod Alike
 pub mod Emit
 pub mod Forced

@@ -114,7 +114,7 @@ abbrev pub SettlingBegins : Type 0
 SettlingBegins =
     (w : CableWorld) (set core : NodeSet) (root : NodeNumber) (t : Tree) → IsSound w →
     IsComponent w.cabling root set → IsCore w.cabling set core →
-    set < 2 ^ 63 → Holds set root → IsRoot (turn w) root → RootWalk (turn w) set root t →
+    Holds set root → IsRoot (turn w) root → RootWalk (turn w) set root t →
     AreIdentifying (turn w) set → (AreIdentifying w set → ⊥) → IsSettling (turn w) set core root t
 
 abbrev pub TurnsKeepSettling : Type 0

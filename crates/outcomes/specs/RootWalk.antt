@@ -1,5 +1,5 @@
 -- The walk of the tree that has formed below a root.
-use Rattle.std.specs.Prelude.{◌≡◌, ℕ, ◌+◌, ◌<◌, ◌≤◌, Bool, false, Option, Some, None, [], ◌++◌, length, slice_get, ◌^◌}
+use Rattle.std.specs.Prelude.{◌≡◌, ℕ, ◌+◌, ◌<◌, ◌≤◌, Bool, false, Option, Some, None, [], ◌++◌, length, slice_get}
 use Rattle.topology_stack.specs.Tree.{Tree, emits}
 use Rattle.cabling.specs.declared.cable.End.{End}
 use Rattle.cabling.specs.NodeSet.{Holds}
@@ -18,7 +18,6 @@ use Rattle.cable_world.specs.Agreement.{leads_down}
 use Rattle.cable_world.specs.Outcome.{attrs_now, IsTree}
 use Rattle.convergence.specs.Acyclic.{IsChildCable, IsAcyclic}
 use Rattle.cabling.specs.Component.{IsComponent}
-use Rattle.cabling.specs.Looped.{IsCore}
 use Rattle.cable_world.specs.Lawful.{IsLawful}
 use Rattle.convergence.specs.Milestones.{ResetsAreOverIn}
 use Rattle.convergence.specs.Roots.{IsRoot}
@@ -92,35 +91,32 @@ pub record SameWalk (w v : CableWorld) (set root : ℕ) (t u : Tree) : Type 0 wh
 -- ---- laws
 
 -- a root of a component in which resets are over
-pub record HasRoot
-    (w : CableWorld) (node : NodeNumber) (set core : NodeSet) (root : NodeNumber)
+pub record HasRoot (w : CableWorld) (node : NodeNumber) (set : NodeSet) (root : NodeNumber)
     : Type 0 where
   pub lawful : IsLawful w
   pub acyclic : IsAcyclic w
   pub over : ResetsAreOverIn w set
   pub component : IsComponent w.cabling node set
-  pub is_core : IsCore w.cabling set core
-  pub small : set < 2 ^ 63
   pub inside : Holds set root
   pub is_root : IsRoot w root
 
 abbrev pub RootsHaveWalks : Type 0
 RootsHaveWalks =
-    (w : CableWorld) (node : NodeNumber) (set core : NodeSet) (root : NodeNumber) →
-    HasRoot w node set core root → (t : Tree) × RootWalk w set root t
+    (w : CableWorld) (node : NodeNumber) (set : NodeSet) (root : NodeNumber) →
+    HasRoot w node set root → (t : Tree) × RootWalk w set root t
 
 -- where all nodes are named and have the list, the component has come to its tree
 abbrev pub NamedRootsAreOutcomes : Type 0
 NamedRootsAreOutcomes =
-    (w : CableWorld) (node : NodeNumber) (set core : NodeSet) (root : NodeNumber) (t : Tree) →
-    HasRoot w node set core root → RootWalk w set root t → IsNamed w set root t →
+    (w : CableWorld) (node : NodeNumber) (set : NodeSet) (root : NodeNumber) (t : Tree) →
+    HasRoot w node set root → RootWalk w set root t → IsNamed w set root t →
     IsTree w set root t
 
 -- a world in which the component has the same ports and attributes has the same walk there
 abbrev pub WalksStay : Type 0
 WalksStay =
-    (w v : CableWorld) (node : NodeNumber) (set core : NodeSet) (root : NodeNumber)
-    (t u : Tree) → HasRoot w node set core root →
+    (w v : CableWorld) (node : NodeNumber) (set : NodeSet) (root : NodeNumber)
+    (t u : Tree) → HasRoot w node set root →
     RootWalk w set root t → RootWalk v set root u →
     Alike w.cabling v.cabling (labels (attrs_now w)) (labels (attrs_now v)) set →
     SameWalk w v set root t u

@@ -1,7 +1,7 @@
 -- Components that come to an outcome: a loop, a tree or a contention.
-use Rattle.std.specs.Prelude.{◌≡◌, ℕ, suc, ◌^◌, ◌<◌, ◌≤◌, true, Option, Some, None, List, [], ◌∷◌, length, slice_get}
+use Rattle.std.specs.Prelude.{◌≡◌, ℕ, suc, ◌<◌, ◌≤◌, true, Option, Some, None, List, [], ◌∷◌, length, slice_get}
 use Rattle.topology_stack.specs.Tree.{Tree}
-use Rattle.cabling.specs.NodeSet.{Holds, IsEmpty}
+use Rattle.cabling.specs.NodeSet.{Holds}
 use Rattle.cabling.specs.Component.{IsComponent}
 use Rattle.cabling.specs.Looped.{IsCore}
 use Rattle.port_state.specs.Config.{gap_or}
@@ -12,7 +12,7 @@ use Rattle.cable_world.specs.Run.{Event, acts, holds, turns, Runs, IsReached, qu
 use Rattle.cable_world.specs.declared.act.Act.TheVariants.{Config}
 use Rattle.cable_world.specs.declared.act.Act.{Act}
 use Rattle.cable_world.specs.Act.{ActLeads, IsAct, act_fault}
-use Rattle.cable_world.specs.Outcome.{Shows, IsLoop, IsTree, IsSettled}
+use Rattle.cable_world.specs.Outcome.{HasNoLoop, Shows, IsLoop, IsTree, IsSettled}
 use Rattle.convergence.specs.Milestones.{ResetsAreDone, AreIdentifying}
 use Rattle.convergence.specs.Turns.{turns_to_over, turns_to_loops}
 use Rattle.outcomes.specs.Forced.{IsForced, IsNamedAlone, NamesRoot}
@@ -30,10 +30,9 @@ LoopsComeOut =
 -- outcome
 abbrev pub EveryComponentSettles : Type 0
 EveryComponentSettles =
-    (holds : HoldSchedule) (w : CableWorld) (k : ℕ) (node : NodeNumber) (set core : NodeSet) →
+    (holds : HoldSchedule) (w : CableWorld) (k : ℕ) (node : NodeNumber) (set : NodeSet) →
     IsReached w → node < length w.nodes → IsComponent w.cabling node set →
-    IsCore w.cabling set core → set < 2 ^ 63 → quiet_turns (length w.nodes) w.delay ≤ k →
-    IsSettled (quiet_after holds k w) set
+    quiet_turns (length w.nodes) w.delay ≤ k → IsSettled (quiet_after holds k w) set
 
 -- and no node is in R0 or R1 by then
 abbrev pub ResetsAreDoneByThen : Type 0
@@ -58,43 +57,42 @@ turn_count (turns ∷ events) = suc (turn_count events)
 -- So every component has an outcome after each run of holds and turns that has so many turns.
 abbrev pub EveryQuietRunSettles : Type 0
 EveryQuietRunSettles =
-    (w v : CableWorld) (events : List Event) (node : NodeNumber) (set core : NodeSet) →
+    (w v : CableWorld) (events : List Event) (node : NodeNumber) (set : NodeSet) →
     IsReached w → HasNoAct events → Runs events w v →
     quiet_turns (length w.nodes) w.delay ≤ turn_count events → node < length w.nodes →
-    IsComponent w.cabling node set → IsCore w.cabling set core → set < 2 ^ 63 → IsSettled v set
+    IsComponent w.cabling node set → IsSettled v set
 
 -- what has an outcome after so many quiet turns has one still, whatever holds and turns follow
 abbrev pub ComponentsStaySettled : Type 0
 ComponentsStaySettled =
     (holds : HoldSchedule) (w v : CableWorld) (k : ℕ) (events : List Event) (node : NodeNumber)
-    (set core : NodeSet) → IsReached w → quiet_turns (length w.nodes) w.delay ≤ k →
+    (set : NodeSet) → IsReached w → quiet_turns (length w.nodes) w.delay ≤ k →
     HasNoAct events → Runs events (quiet_after holds k w) v → node < length w.nodes →
-    IsComponent w.cabling node set → IsCore w.cabling set core → set < 2 ^ 63 → IsSettled v set
+    IsComponent w.cabling node set → IsSettled v set
 
 -- a tree stays in every hold and turn: the same root, IDs and lists
 abbrev pub TreesStay : Type 0
 TreesStay =
     (w v : CableWorld) (events : List Event) (node : NodeNumber) (set : NodeSet)
     (root : NodeNumber) (t : Tree) → IsReached w → HasNoAct events → Runs events w v →
-    IsComponent w.cabling node set → set < 2 ^ 63 → IsTree w set root t → IsTree v set root t
+    IsComponent w.cabling node set → IsTree w set root t → IsTree v set root t
 
 -- it stays in an act after which all its nodes are in self identify or A0: one that resets others
 abbrev pub TreesStayInActs : Type 0
 TreesStayInActs =
     (a : Act) (w v : CableWorld) (node : NodeNumber) (set : NodeSet) (root : NodeNumber)
     (t : Tree) → IsAct a → act_fault a w ≡ None → ActLeads a w v → IsReached w →
-    IsComponent v.cabling node set → node < length v.nodes → set < 2 ^ 63 →
-    AreIdentifying v set → IsTree w set root t → IsTree v set root t
+    IsComponent v.cabling node set → AreIdentifying v set → IsTree w set root t →
+    IsTree v set root t
 
 -- ---- forced roots
 
 -- where one node alone waits to become root, it is the root of the tree
 abbrev pub ForcedRootsSettle : Type 0
 ForcedRootsSettle =
-    (holds : HoldSchedule) (w : CableWorld) (k : ℕ) (node : NodeNumber) (set core : NodeSet)
+    (holds : HoldSchedule) (w : CableWorld) (k : ℕ) (node : NodeNumber) (set : NodeSet)
     (root : NodeNumber) →
-    IsReached w → IsForced w node set core root →
-    quiet_turns (length w.nodes) w.delay ≤ k →
+    IsReached w → IsForced w node set root → quiet_turns (length w.nodes) w.delay ≤ k →
     (t : Tree) × IsTree (quiet_after holds k w) set root t
 
 -- in a tree an ID names one node
@@ -108,10 +106,9 @@ IdsNameOneNode =
 abbrev pub ConfigsMoveRoots : Type 0
 ConfigsMoveRoots =
     (holds : HoldSchedule) (w v : CableWorld) (k : ℕ) (from : NodeNumber) (id : ℕ) (gap : Option ℕ)
-    (set core : NodeSet) (root : NodeNumber) → IsReached w →
+    (set : NodeSet) (root : NodeNumber) → IsReached w →
     IsAct (Config from id true gap) → act_fault (Config from id true gap) w ≡ None →
-    NamesRoot w v from id gap set root → IsCore w.cabling set core → IsEmpty core →
-    set < 2 ^ 63 → quiet_turns (length v.nodes) v.delay ≤ k →
+    NamesRoot w v from id gap set root → HasNoLoop w set → quiet_turns (length v.nodes) v.delay ≤ k →
     (t : Tree) × IsTree (quiet_after holds k v) set root t
 
 -- from n d turns on each node of the component has the gap count that the packet gave

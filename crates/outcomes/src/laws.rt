@@ -4,6 +4,7 @@ ghost use Rattle.convergence.specs.Kept.{KeptByTurn, KeptByHold, KeptByAct, Hold
 ghost use Rattle.outcomes.specs.Forced.{ResetsSpread, EntriesTakeOver, ForcedNodesBecomeRoots};
 ghost use Rattle.outcomes.specs.Forced.{ForcedRootsHaveWalks, AllLeadToForcedRoots, NobodyDraws};
 ghost use Rattle.outcomes.specs.Forced.{ConfigsBeginAnew, ConfigsNameRoots, ConfigsGiveGaps};
+ghost use Rattle.outcomes.specs.Headline.{EveryBusSettles, AnyBusCanBeLeftAlone};
 ghost use Rattle.outcomes.specs.Holders.{SelfIdentifyGoesOn};
 ghost use Rattle.outcomes.specs.Identify.{IsIdentifying};
 ghost use Rattle.outcomes.specs.Lists.{ListsFollow};
@@ -18,6 +19,18 @@ ghost use Rattle.outcomes.specs.Settled.{EveryQuietRunSettles};
 ghost use Rattle.outcomes.specs.Settled.{ComponentsStaySettled, TreesStay, TreesStayInActs};
 ghost use Rattle.outcomes.specs.Settled.{ForcedRootsSettle, IdsNameOneNode, ConfigsMoveRoots};
 ghost use Rattle.outcomes.specs.Settled.{ConfigsSetGaps};
+
+use cabling::{components_exist, cores_exist};
+
+/// The theorem: a bus that is left alone settles. Whatever came before, once `quiet_turns` turns are
+/// done and no act comes among them, each component is a loop, a tree or a contention, whatever holds
+/// are placed between the turns. Each bus can be left alone for so long.
+pub fn every_bus_settles()
+    ensures settles { EveryBusSettles }
+    ensures can_be_left_alone { AnyBusCanBeLeftAlone }
+{
+    components_settle();
+}
 
 /// What is so of self identify, at each node and at the two ends of each cable, is so at power-on,
 /// and turns, holds and acts of a lawful world keep it.
@@ -55,19 +68,28 @@ pub fn self_identify_goes_on()
 /// those of the nodes. Its list is the nodes' own groups, each with the node's place as ID.
 pub fn roots_have_walks()
     ensures { RootsHaveWalks }
-{}
+{
+    components_exist();
+    cores_exist();
+}
 
 /// Where all nodes below a root have their places as IDs, and the tree's list, the component has
 /// come to that tree.
 pub fn named_roots_are_outcomes()
     ensures { NamedRootsAreOutcomes }
-{}
+{
+    components_exist();
+    cores_exist();
+}
 
 /// A world in which a component has the same ports, and shows the same attributes, has the same
 /// walk there.
 pub fn walks_stay()
     ensures { WalksStay }
-{}
+{
+    components_exist();
+    cores_exist();
+}
 
 /// A reset that has just begun spreads: after (n - 1) d quiet turns all of the component are
 /// in R0, and nobody leaves it before 64 d turns are done. After n d turns each has what it takes
@@ -86,7 +108,9 @@ pub fn waiting_nodes_become_roots()
     ensures walk { ForcedRootsHaveWalks }
     ensures ways { AllLeadToForcedRoots }
     ensures undrawn { NobodyDraws }
-{}
+{
+    components_exist();
+}
 
 /// A configuration packet with R set begins a reset in a component that had none. The node with the
 /// ID that it names waits alone to become root, and each node takes over the gap count that it
@@ -106,7 +130,9 @@ pub fn walks_are_numbered()
     ensures hold { HoldsKeepSettling }
     ensures prefix { NextHasItsPrefix }
     ensures room { NextHasRoom }
-{}
+{
+    components_exist();
+}
 
 /// Such a component at rest, with all nodes in A0 and nothing under way, has come to its tree, and
 /// stays at rest in quiet turns.
@@ -148,13 +174,19 @@ pub fn components_settle()
     ensures settled { EveryComponentSettles }
     ensures runs { EveryQuietRunSettles }
     ensures done { ResetsAreDoneByThen }
-{}
+{
+    components_exist();
+    cores_exist();
+}
 
 /// Once as many quiet turns as `components_settle` counts were done, every component has an outcome
 /// at each later moment, whatever holds and turns follow.
 pub fn components_stay_settled()
     ensures { ComponentsStaySettled }
-{}
+{
+    components_exist();
+    cores_exist();
+}
 
 /// A component of a reached world that has come to a tree stays in it, with the same root, IDs and
 /// lists, in every hold and turn; and in every act after which all its nodes are still in self
@@ -162,7 +194,9 @@ pub fn components_stay_settled()
 pub fn trees_stay()
     ensures turns { TreesStay }
     ensures acts { TreesStayInActs }
-{}
+{
+    components_exist();
+}
 
 /// Where of a fresh component without loop one node alone waits to become root, it comes to a tree
 /// with that root in as many quiet turns. So it does after a configuration packet with R set that
@@ -173,4 +207,6 @@ pub fn forced_roots_settle()
     ensures names { IdsNameOneNode }
     ensures config { ConfigsMoveRoots }
     ensures gaps { ConfigsSetGaps }
-{}
+{
+    components_exist();
+}

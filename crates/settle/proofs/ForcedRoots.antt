@@ -3,6 +3,7 @@ use Rattle.std.proofs.Common.{◌≡◌, ℕ, ◌*◌, ◌<◌, ◌≤◌, Bool,
 use Rattle.std.specs.Prelude.{Any}
 use Rattle.std.proofs.lemmas.Option.{slice_get_within}
 use Rattle.topology_stack.specs.Tree.{Tree}
+use Rattle.cabling.specs.Existence.{ComponentsExist}
 use Rattle.cabling.specs.NodeSet.{Holds}
 use Rattle.cabling.proofs.Small.{Loopless, loopless}
 use Rattle.cabling.proofs.Whole.{shared}
@@ -17,6 +18,7 @@ use Rattle.cable_world.specs.Quiet.{no_holds, quiet_after}
 use Rattle.cable_world.proofs.QuietTurns.{plain-quiet, plainly, turns-cabling}
 use Rattle.outcomes.specs.Forced.{EntriesTakeOver, waits_due}
 use Rattle.outcomes.specs.Settled.{ForcedRootsSettle}
+use Rattle.outcomes.proofs.settled.Components.{small-fresh}
 use Rattle.outcomes.proofs.settled.QuietTurns.{quiet-enough}
 use Rattle.settle.specs.Report.{IsReport, IsTreeFrom, quiet_turns_of, IsAfterQuiet}
 use Rattle.settle.specs.declared.report.Report.{Report}
@@ -24,7 +26,7 @@ use Rattle.settle.specs.Forced.{BeginsAnew, IsForcedAlone, ForcedNodeIsRoot}
 use Rattle.settle.proofs.Found.{found}
 
 module _
-    (takes : EntriesTakeOver) (settles : ForcedRootsSettle) (w v : CableWorld) (l : IsLawful w)
+    (exist : ComponentsExist) (takes : EntriesTakeOver) (settles : ForcedRootsSettle) (w v : CableWorld) (l : IsLawful w)
     (reached : ∥ IsReached w ∥₁) (from set node : ℕ) (quiet : IsAfterQuiet w v)
     (b : BeginsAnew w from set) (f : IsForcedAlone v set node) where
   enough : quiet_turns (length w.nodes) w.delay ≤ quiet_turns_of w
@@ -42,12 +44,10 @@ module _
 
   moved : IsReached w → (t : Tree) × IsTree v set node t
   moved r =
-      let t = settles no_holds w (quiet_turns_of w) from set b.no_loop.core node r (record {
+      let t = settles no_holds w (quiet_turns_of w) from set node r (record {
         lawful = l;
         component = b.component;
-        is_core = b.no_loop.is_core;
-        empty = b.no_loop.empty;
-        small = b.small;
+        no_loop = b.no_loop;
         fresh = b.fresh;
         alone = record {
           holds = f.holds;
@@ -66,12 +66,12 @@ module _
   cables = ap (λ (u : CableWorld). u.cabling) quiet ∙ turns-cabling (quiet_turns_of w) w
 
   tree-shape : Loopless w.cabling node set
-  tree-shape = loopless w.cabling node set b.no_loop.core l.well_formed.cabling (there node f.holds) (shared w.cabling from node set l.well_formed.cabling b.component f.holds) b.small b.no_loop.is_core b.no_loop.empty
+  tree-shape = loopless w.cabling node set b.no_loop.core l.well_formed.cabling (there node f.holds) (shared w.cabling from node set l.well_formed.cabling b.component f.holds) (small-fresh exist w l from set b.component b.fresh) b.no_loop.is_core b.no_loop.empty
 
   forced-found : (report : Report) → IsReport v report → Any (IsTreeFrom w.cabling from node) report.parts
   forced-found report is = found w.cabling v cables from set node b.component tree-shape (there from b.component.holds) (IsReached w) reached moved report.parts is.parts
 
 pub forced-nodes :
-    EntriesTakeOver → ForcedRootsSettle → (w v : CableWorld) → ∥ IsReached w ∥₁ → IsAfterQuiet w v →
+    ComponentsExist → EntriesTakeOver → ForcedRootsSettle → (w v : CableWorld) → ∥ IsReached w ∥₁ → IsAfterQuiet w v →
     (report : Report) → IsReport v report → ForcedNodeIsRoot w v report
-forced-nodes takes settles w v reached quiet report is from set node b f = forced-found takes settles w v (lawful-now w reached) reached from set node quiet b f report is
+forced-nodes exist takes settles w v reached quiet report is from set node b f = forced-found exist takes settles w v (lawful-now w reached) reached from set node quiet b f report is

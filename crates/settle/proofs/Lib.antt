@@ -10,6 +10,7 @@ pub mod Greatest
 pub mod PartsSoFar
 pub mod ReadBack
 pub mod OneReport
+pub mod ReportedOutcome
 pub mod SomeReport
 pub mod SomeWalk
 -- a tree from a root, and a node that alone is forced

@@ -98,7 +98,7 @@ same-part p q a b c d =
 
 module _ (w : CableWorld) (cabled : IsCabling w.cabling) where
   -- a loop has a node
-  loop-is : (set core : NodeSet) → AreThere w set → ReportsLoop w set core → IsLoop w set core
+  pub loop-is : (set core : NodeSet) → AreThere w set → ReportsLoop w set core → IsLoop w set core
   loop-is set core there h = record {
     is_core = h.is;
     node = trailing_zeros w64 core;
@@ -116,7 +116,7 @@ module _ (w : CableWorld) (cabled : IsCabling w.cabling) where
         | inr ne ↦ omega (arith, ne)
       ]
 
-  one-reported : (set : NodeSet) (o p : Reported) → AreThere w set → IsReported w set o → IsReported w set p → o ≡ p
+  pub one-reported : (set : NodeSet) (o p : Reported) → AreThere w set → IsReported w set o → IsReported w set p → o ≡ p
   one-reported set (reported.Tree a list order) (reported.Tree b other-list other-order) there x y =
       let same : tree a x.tree ≡ tree b y.tree = one-outcome w set (tree a x.tree) (tree b y.tree) x.is y.is in
       let roots : a ≡ b = cc in
@@ -148,7 +148,7 @@ module _ (w : CableWorld) (cabled : IsCabling w.cabling) where
   within p q k x y a b = (shared w.cabling x.node k p.nodes cabled x.component a).least q.nodes b y.component.closed
 
   -- parts that share a node are one
-  one-part : (p q : Part) (k : NodeNumber) → IsPart w p → IsPart w q → Holds p.nodes k → Holds q.nodes k → p ≡ q
+  pub one-part : (p q : Part) (k : NodeNumber) → IsPart w p → IsPart w q → Holds p.nodes k → Holds q.nodes k → p ≡ q
   one-part p q k x y a b =
       let nodes : p.nodes ≡ q.nodes = same-set p.nodes q.nodes (λ i. (within p q k x y a b i, within q p k y x b a i)) in
       same-part p q nodes

@@ -1,5 +1,5 @@
 -- A component of a world that has settled has an outcome.
-use Rattle.std.proofs.Common.{◌≡◌, ℕ, zero, suc, ◌^◌, ◌<◌, ◌≤◌, true, false, Option, Some, None, length, slice_get, refl, sym, ◌∙◌, ap, subst, arith}
+use Rattle.std.proofs.Common.{◌≡◌, ℕ, zero, suc, ◌<◌, ◌≤◌, true, false, Option, Some, None, length, slice_get, refl, sym, ◌∙◌, ap, subst, arith}
 use Rattle.std.specs.Coded.{Coded-set, coded_ℕ, coded_bool, coded_option, code_by, ×_prop}
 use Rattle.std.specs.Prelude.{IsSomeAnd}
 use Rattle.std.proofs.Math.Logic.{∥∥₁_elim}
@@ -94,11 +94,11 @@ done-by-then done w v is r k x at = ∥∥₁_elim r (Coded-set coded_bool (is_i
 -- ---- a component of a world that has settled
 
 module _
-    (every : EveryComponentSettles) (w : CableWorld) (set core : ℕ) (part : IsPartOf w set)
-    (there : AreThere w set) (small : set < 2 ^ 63) (is : IsCore w.cabling set core) where
+    (every : EveryComponentSettles) (w : CableWorld) (set : ℕ) (part : IsPartOf w set)
+    (there : AreThere w set) where
   pub settled : HasSettled w → IsSettled w set
   settled h = subst (λ (v : CableWorld). IsSettled v set) (sym h.is) (plainly (λ (v : CableWorld). IsSettled v set) (quiet_turns_of h.before) h.before
-      (every no_holds h.before (quiet_turns_of h.before) part.0 set core h.reached inside (subst (λ (c : Wiring). IsComponent c part.0 set) same part.1) (subst (λ (c : Wiring). IsCore c set core) same is) small (quiet-same h.before h.reached)))
+      (every no_holds h.before (quiet_turns_of h.before) part.0 set h.reached inside (subst (λ (c : Wiring). IsComponent c part.0 set) same part.1) (quiet-same h.before h.reached)))
     where
       same : w.cabling ≡ h.before.cabling
       same = ap (λ (v : CableWorld). v.cabling) h.is ∙ turns-cabling (quiet_turns_of h.before) h.before
@@ -109,6 +109,9 @@ module _
       inside : part.0 < length h.before.nodes
       inside = omega (arith, there part.0 part.1.holds, l.well_formed.count, ap (λ (c : Wiring). length c) same)
 
+module _
+    (every : EveryComponentSettles) (w : CableWorld) (set core : ℕ) (part : IsPartOf w set)
+    (there : AreThere w set) (is : IsCore w.cabling set core) where
   -- with a loop it has come to that
   loop-of : (IsEmpty core → ⊥) → IsSettled w set → IsLoop w set core
   loop-of some s = go s.0 s.1
@@ -131,15 +134,15 @@ module _
   reports-loop some h = record {
     is = is;
     some = some;
-    timed_out = λ k i. ∥∥₁_elim h (timed_out_prop w k) (λ s. (loop-of some (settled s)).timed_out k i);
-    unnamed = λ k i. ∥∥₁_elim h (unnamed_prop w k) (λ s. (loop-of some (settled s)).unnamed k i);
+    timed_out = λ k i. ∥∥₁_elim h (timed_out_prop w k) (λ s. (loop-of some (settled every w set part there s)).timed_out k i);
+    unnamed = λ k i. ∥∥₁_elim h (unnamed_prop w k) (λ s. (loop-of some (settled every w set part there s)).unnamed k i);
   }
 
   -- and without one it has come to a tree, or to a contention
   pub not-neither :
       IsEmpty core → IsNoTree w set → ((a b : ℕ) → IsContention w set a b → ⊥) →
       ∥ HasSettled w ∥₁ → ⊥
-  not-neither empty no-tree no-contention h = ∥∥₁_elim h no_prop (λ s. let o = settled s in go o.0 o.1)
+  not-neither empty no-tree no-contention h = ∥∥₁_elim h no_prop (λ s. let o = settled every w set part there s in go o.0 o.1)
     where
       go : (o : Outcome) → IsOutcome w set o → ⊥
       go (loop c) h = empty h.node ((is h.node).1 ((h.is_core h.node).0 h.in_core))

@@ -4,7 +4,7 @@ use Rattle.std.proofs.lemmas.Option.{slice_get_within, slice_get-get_or, slice_g
 use Rattle.topology_stack.specs.Tree.{emits}
 use Rattle.cabling.specs.NodeSet.{Holds}
 use Rattle.cabling.specs.Component.{IsComponent}
-use Rattle.cabling.specs.Existence.{HasComponent, HasCore, ComponentsExist, CoresExist}
+use Rattle.cabling.specs.Existence.{HasComponent, ComponentsExist}
 use Rattle.cabling.specs.Sees.{numbers}
 use Rattle.cabling.proofs.Cascade.{holds_or_not}
 use Rattle.cabling.proofs.Whole.{shared}
@@ -88,7 +88,7 @@ changed-some w f k inside = (get_or w.changed k 0, slice_get-get_or w.changed k 
 -- ---- the report of a world
 
 module _
-    (every : EveryComponentSettles) (components : ComponentsExist) (cores : CoresExist)
+    (every : EveryComponentSettles) (components : ComponentsExist)
     (w : CableWorld) (h : HasSettled w) where
   reached : IsReached w
   reached = subst IsReached (sym h.is) (turns-reached (quiet_turns_of h.before) h.before h.reached)
@@ -105,8 +105,7 @@ module _
   part-at : (k : ℕ) → k < length w.cabling → PartAt k
   part-at k inside =
       let c : HasComponent w.cabling k = components w.cabling k formed.cabling inside in
-      let core : HasCore w.cabling c.set = cores w.cabling c.set c.small in
-      let s : IsSettled w c.set = settled every w c.set core.core (k, c.is) c.there c.small core.is h in
+      let s : IsSettled w c.set = settled every w c.set (k, c.is) c.there h in
       let outcome = reported-of w c.set s.0 s.1 in
       let rounds = greatest c.set (Drew w) (length w.cabling) (drew-one w) (drew-some w formed) k c.is.holds inside
       (λ j n is. omega (arith, formed.count, node-there w j (λ (x : PortNode). x.state.view.draws ≡ n) is)) in

@@ -2,15 +2,17 @@
 -- is seen, whatever the labels are.
 use Rattle.std.proofs.Common.{ℕ, [], None}
 use Rattle.topology_stack.specs.Tree.{Label}
+use Rattle.cabling.specs.Existence.{ComponentsExist}
 use Rattle.cabling.specs.Labels.{labels}
 use Rattle.cabling.specs.Sees.{SmallTree, numbers}
 use Rattle.cabling.proofs.Small.{Loopless, loopless, small_tree}
+use Rattle.outcomes.proofs.settled.Components.{component-small}
 use Rattle.settle.specs.SomeWalk.{WalksExist}
 use Rattle.settle.proofs.Relabelled.{one-order}
 
-pub some-walk : WalksExist
-some-walk c root set core is there small component core-is empty =
-    let l : Loopless c root set = loopless c root set core is there component small core-is empty in
+pub some-walk : ComponentsExist → WalksExist
+some-walk exist c root set core is there component core-is empty =
+    let l : Loopless c root set = loopless c root set core is there component (component-small exist c root set is there component) core-is empty in
     let plain : ℕ → Label = labels [] in
     let first : SmallTree c plain root = small_tree c plain root set l in
     record {

@@ -1,5 +1,5 @@
 -- A component that begins anew, and of whose nodes one alone is to become root.
-use Rattle.std.specs.Prelude.{◌≡◌, ◌≢◌, ◌^◌, ◌<◌, true, false, Any}
+use Rattle.std.specs.Prelude.{◌≡◌, ◌≢◌, true, false, Any}
 use Rattle.cabling.specs.NodeSet.{Holds}
 use Rattle.cabling.specs.Component.{IsComponent}
 use Rattle.cable_world.specs.World.{CableWorld, NodeNumber, NodeSet}
@@ -11,7 +11,6 @@ use Rattle.settle.specs.declared.report.Report.{Report}
 -- a reset has just begun in the component of a node, and no cables of it form a loop
 pub record BeginsAnew (w : CableWorld) (from : NodeNumber) (set : NodeSet) : Type 0 where
   pub component : IsComponent w.cabling from set
-  pub small : set < 2 ^ 63
   pub no_loop : HasNoLoop w set
   pub fresh : IsFresh w set
 

@@ -3,6 +3,7 @@ pub mod Reported
 pub mod Report
 pub mod ReadBack
 pub mod OneReport
+pub mod ReportedOutcome
 pub mod SomeReport
 pub mod SomeWalk
 -- who is reported as root where one node is forced

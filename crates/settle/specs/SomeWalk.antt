@@ -1,5 +1,5 @@
 -- A component without a loop has an order in which its nodes identify themselves.
-use Rattle.std.specs.Prelude.{◌^◌, ◌<◌, List, length}
+use Rattle.std.specs.Prelude.{◌<◌, List, length}
 use Rattle.cabling.specs.Wiring.{Wiring, NodeNumber, IsCabling}
 use Rattle.cabling.specs.NodeSet.{Nodes, IsEmpty}
 use Rattle.cabling.specs.Component.{IsComponent}
@@ -14,4 +14,4 @@ pub record HasWalk (c : Wiring) (root : NodeNumber) : Type 0 where
 abbrev pub WalksExist : Type 0
 WalksExist =
     (c : Wiring) (root : NodeNumber) (set core : Nodes) → IsCabling c → root < length c →
-    set < 2 ^ 63 → IsComponent c root set → IsCore c set core → IsEmpty core → HasWalk c root
+    IsComponent c root set → IsCore c set core → IsEmpty core → HasWalk c root

@@ -1,10 +1,11 @@
 //! Laws of reports. Each function is a fact for the crates above, which call it.
 ghost use Rattle.settle.specs.ReadBack.{ListsAreReadBack, ListsAreTheCables};
-ghost use Rattle.settle.specs.OneReport.{OneReportAtMost};
+ghost use Rattle.settle.specs.OneReport.{OneReportAtMost, OneReportedAtMost, OnePartAtMost};
+ghost use Rattle.settle.specs.ReportedOutcome.{ReportedIsOutcome};
 ghost use Rattle.settle.specs.SomeReport.{ReportsExist};
 ghost use Rattle.settle.specs.SomeWalk.{WalksExist};
 
-use cabling::{components_exist, cores_exist};
+use cabling::components_exist;
 use outcomes::components_settle;
 use topology_stack::one_tree;
 
@@ -19,8 +20,17 @@ pub fn reports_are_read_back()
 }
 
 /// A reached world has one report at most: of each component one part, and the parts in one order.
+/// Of one component, in whatever world, one outcome at most is reported; and parts that hold a common
+/// node are one.
 pub fn reports_are_one()
-    ensures { OneReportAtMost }
+    ensures world { OneReportAtMost }
+    ensures reported { OneReportedAtMost }
+    ensures part { OnePartAtMost }
+{}
+
+/// What is reported of a component is what it came to: the loop, tree or contention of its nodes.
+pub fn reports_are_outcomes()
+    ensures { ReportedIsOutcome }
 {}
 
 /// Each world that has settled has a report, whatever memory there is to make it.
@@ -28,7 +38,6 @@ pub fn reports_exist()
     ensures { ReportsExist }
 {
     components_exist();
-    cores_exist();
     components_settle();
 }
 
@@ -36,4 +45,6 @@ pub fn reports_exist()
 /// component identify themselves where that node is root.
 pub fn walks_exist()
     ensures { WalksExist }
-{}
+{
+    components_exist();
+}

@@ -12,7 +12,7 @@ use crate::part::{attrs_of, part_of};
 use crate::quiet::quiet_turns;
 use crate::report::{Part, PartList, Report};
 use cable_world::WorldRun;
-use cabling::{OutOfMemory, components_are_whole};
+use cabling::{OutOfMemory, components_are_whole, components_exist};
 use outcomes::{components_settle, forced_roots_settle, resets_spread};
 use std::alloc::{AllocError, Global};
 
@@ -88,6 +88,7 @@ pub fn settle<W: WorldRun>(alloc: Global, world: &mut W) -> Result<Report, OutOf
     if world.spent() {
         return Err(AllocError);
     }
+    components_exist();
     components_settle();
     resets_spread();
     forced_roots_settle();

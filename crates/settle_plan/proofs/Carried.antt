@@ -105,7 +105,7 @@ module _
     moved : IsReached w → (t : Tree) × IsTree v set root t
     moved r =
         let n = (tree-there w l from plan s set component small).no_loop in
-        let t = moves no_holds w sent (quiet_turns_of sent) from plan.root_id (Some plan.gap) set n.core root r fits accepted (named r) n.is_core n.empty small (enough r) in
+        let t = moves no_holds w sent (quiet_turns_of sent) from plan.root_id (Some plan.gap) set root r fits accepted (named r) n (enough r) in
         (t.0, subst (λ (u : CableWorld). IsTree u set root t.0) (sym quiet) (plainly (λ u. IsTree u set root t.0) (quiet_turns_of sent) sent t.1))
 
     pub tree-from : (parts : List Part) → AreParts v parts → Any (IsTreeFrom w.cabling from root) parts
@@ -130,7 +130,7 @@ module _
         bus = bus;
         emitted = f.4.emitted;
         hops = s.hops;
-        are_hops = hops (labels (attrs_now w)) (labels (attrs_now v)) s.root root set s.tree f.4.tree s.hops old.there new.there small old.component inside s.is.seen f.4.seen (bus-of w.cabling w l.well_formed refl s.root set old s.tree s.is.seen).bus bus.bus s.are_hops;
+        are_hops = hops (labels (attrs_now w)) (labels (attrs_now v)) s.root root set s.tree f.4.tree s.hops old.there new.there old.component inside s.is.seen f.4.seen (bus-of w.cabling w l.well_formed refl s.root set old s.tree s.is.seen).bus bus.bus s.are_hops;
         gap_is = s.gap;
       },
     )

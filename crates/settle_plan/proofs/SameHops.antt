@@ -1,5 +1,5 @@
 -- Trees that the same cables show from two of their nodes have paths of the same lengths.
-use Rattle.std.proofs.Common.{◌≡◌, ℕ, suc, ◌<◌, ◌≤◌, Option, Some, None, List, [], ◌∷◌, length, get_or, inl, inr, refl, sym, ◌∙◌, ap, subst, arith}
+use Rattle.std.proofs.Common.{◌≡◌, ℕ, suc, ◌^◌, ◌<◌, ◌≤◌, Option, Some, None, List, [], ◌∷◌, length, get_or, inl, inr, refl, sym, ◌∙◌, ap, subst, arith}
 use Rattle.std.specs.Prelude.{slice_get}
 use Rattle.std.proofs.lemmas.Option.{slice_get-get_or, slice_get_within}
 use Rattle.topology_stack.specs.Tree.{Label, Tree, walk}
@@ -9,6 +9,7 @@ use Rattle.speed_map.proofs.Nodes.{Ends, length-ends_from}
 use Rattle.speed_map.proofs.Facts.{same_some}
 use Rattle.cabling.specs.declared.cable.End.{End}
 use Rattle.cabling.specs.Wiring.{Wiring, far, IsCabling}
+use Rattle.cabling.specs.Existence.{ComponentsExist}
 use Rattle.cabling.specs.Sees.{Sees, numbers}
 use Rattle.cabling.proofs.Near.{end_at}
 use Rattle.cabling.proofs.Once.{In, Once}
@@ -16,6 +17,7 @@ use Rattle.cabling.proofs.Small.{tree_within, tree_once}
 use Rattle.cabling.proofs.Whole.{shared, tree_has, seen_loopless}
 use Rattle.bus_manager.specs.Hops.{IsHops, IsLongestPath, HopsAreOfNodePaths}
 use Rattle.bus_manager.proofs.Longest.{reach, is_hops}
+use Rattle.outcomes.proofs.settled.Components.{component-small}
 use Rattle.outcomes.proofs.walks.Marked.{in-read, one-place}
 use Rattle.settle_plan.specs.Hops.{HopsStay}
 use Rattle.settle_plan.proofs.Cables.{Agree, Leads, so-many, tree-leads}
@@ -108,8 +110,9 @@ module _
       let within : m.0 < length (walk u) = omega (arith, slice_get_within M m.0 x m.1, so-many c other next None u k) in
       omega (arith, q.longest m.0 path.0 path.1 within path.2, path.4, p.long)
 
-pub stay : HopsAreOfNodePaths → (c : Wiring) → IsCabling c → HopsStay c
-stay law c is label other root next set t u hops there there-next small component inside h k bus bus-u hops-t =
+pub stay : HopsAreOfNodePaths → ComponentsExist → (c : Wiring) → IsCabling c → HopsStay c
+stay law exist c is label other root next set t u hops there there-next component inside h k bus bus-u hops-t =
+    let small : set < 2 ^ 63 = component-small exist c root set is there component in
     let l = seen_loopless c label root set t is there small component h in
     let own = shared c root next set is component inside in
     let l-next = seen_loopless c other next set u is there-next small own k in

@@ -28,6 +28,7 @@ use Rattle.cable_world.proofs.Options.{some-of, some-at, some-same}
 use Rattle.outcomes.proofs.walks.Marked.{in-read, one-place}
 use Rattle.bus_manager.specs.Gap.{gaps, gap_of}
 use Rattle.root_plan.specs.declared.choice.RootPlan.{RootPlan}
+use Rattle.settle.proofs.ReadBack.{small-set}
 use Rattle.settle.proofs.SameNodes.{SameNodes, same-component, same-tree}
 use Rattle.settle_plan.specs.Planned.{SuitsTree, HasId}
 
@@ -73,6 +74,9 @@ module _
   not-refused =
       let there : from < length w.nodes = omega (arith, from-there, l.well_formed.count) in
       ap (λ (b : Bool). cond b None (Some (NoNode (record { node = from; port = 0 })))) (lt-ltb from (length w.nodes) there)
+
+  pub its-small : s.set < 2 ^ 63
+  its-small = small-set s.set 63 (λ k m. omega (arith, node-there k m, l.well_formed.cabling.few_nodes))
 
   module _ (set : ℕ) (component : IsComponent w.cabling from set) (small : set < 2 ^ 63) where
     pub same-nodes : SameNodes s.set set

@@ -55,8 +55,6 @@ pub fn settle_plan<W: WorldRun>(
         return Err(AllocError);
     }
     forced_roots_settle();
-    // the component, whose nodes are at most 63
-    let _component = world.cabling().component(from);
     hops_stay(world.cabling());
     let act = Act::Config {
         from,

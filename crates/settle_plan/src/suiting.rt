@@ -3,6 +3,7 @@ ghost use Rattle.std.specs.Prelude.{◌<◌, IsFalse, length};
 ghost use Rattle.settle_plan.specs.Planned.{PlansSuit, PlansComeOut};
 
 use cable_world::WorldRun;
+use cabling::components_exist;
 use outcomes::forced_roots_settle;
 use topology_stack::one_tree;
 
@@ -14,8 +15,7 @@ pub fn plans_suit<W: WorldRun>(world: &W, from: u8)
     ensures { PlansSuit (W.world world.now) from }
 {
     one_tree();
-    // the component, whose nodes are at most 63
-    let _component = world.cabling().component(from);
+    components_exist();
 }
 
 /// A law: where a plan suits the component of a node, which exists, and its packet is sent and the
@@ -27,6 +27,5 @@ pub fn plans_come_out<W: WorldRun>(world: &W, from: u8)
     ensures { PlansComeOut (W.world world.now) from }
 {
     forced_roots_settle();
-    // the component, whose nodes are at most 63
-    let _component = world.cabling().component(from);
+    components_exist();
 }

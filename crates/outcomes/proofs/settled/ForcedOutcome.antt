@@ -5,7 +5,7 @@ use Rattle.std.proofs.lemmas.Bool.{cases_eq}
 use Rattle.std.proofs.lemmas.Option.{slice_get_cases, slice_get_within}
 use Rattle.topology_stack.specs.Tree.{Tree}
 use Rattle.cabling.specs.Wiring.{Wiring}
-use Rattle.cabling.specs.NodeSet.{Holds, IsEmpty}
+use Rattle.cabling.specs.NodeSet.{Holds}
 use Rattle.cabling.specs.Component.{IsComponent}
 use Rattle.cabling.proofs.Whole.{shared}
 use Rattle.cabling.specs.Looped.{IsCore}
@@ -18,7 +18,7 @@ use Rattle.cable_world.specs.World.{CableWorld}
 use Rattle.cable_world.specs.Run.{IsReached, quiet_turns}
 use Rattle.cable_world.specs.Act.{IsAct, act_fault, change_in_set}
 use Rattle.cable_world.specs.Phases.{is_in_bus_reset}
-use Rattle.cable_world.specs.Outcome.{Shows, Outcome, IsOutcome, IsTree, IsSettled, loop, tree, contention}
+use Rattle.cable_world.specs.Outcome.{HasNoLoop, Shows, Outcome, IsOutcome, IsTree, IsSettled, loop, tree, contention}
 use Rattle.cable_world.proofs.Options.{some-of, some-at, some-same}
 use Rattle.cable_world.proofs.PhaseFacts.{start-before_tree}
 use Rattle.cable_world.proofs.StaysLawful.{reached-lawful}
@@ -44,10 +44,13 @@ use Rattle.outcomes.proofs.settled.QuietTurns.{quiet-enough, few-nodes, settles-
 -- ---- a component in which one node is forced
 
 module _
-    (hs : HoldSchedule) (w : CableWorld) (r : IsReached w) (node set core root : ℕ) (f : IsForced w node set core root)
-    (k : ℕ) (quiet : quiet_turns (length w.nodes) w.delay ≤ k) where
+    (hs : HoldSchedule) (w : CableWorld) (r : IsReached w) (node set root : ℕ) (f : IsForced w node set root)
+    (small : set < 2 ^ 63) (k : ℕ) (quiet : quiet_turns (length w.nodes) w.delay ≤ k) where
   abbrev v : CableWorld
   v = quiet_after hs k w
+
+  abbrev core : ℕ
+  core = f.no_loop.core
 
   abbrev first : ℕ
   first = turns_to_over w
@@ -57,9 +60,9 @@ module _
 
   rooted : IsRooted v set root
   rooted = record {
-    is_root = forced.root hs w f.lawful node set core f.component f.is_core f.empty f.small f.fresh root f.alone k (omega (arith, late));
-    late = forced.late hs w f.lawful node set core f.component f.is_core f.empty f.small f.fresh root f.alone k (omega (arith, late));
-    parents = forced.others hs w f.lawful node set core f.component f.is_core f.empty f.small f.fresh root f.alone k (omega (arith, late));
+    is_root = forced.root hs w f.lawful node set core f.component f.no_loop.is_core f.no_loop.empty small f.fresh root f.alone k (omega (arith, late));
+    late = forced.late hs w f.lawful node set core f.component f.no_loop.is_core f.no_loop.empty small f.fresh root f.alone k (omega (arith, late));
+    parents = forced.others hs w f.lawful node set core f.component f.no_loop.is_core f.no_loop.empty small f.fresh root f.alone k (omega (arith, late));
   }
 
   -- nobody draws a coin
@@ -75,7 +78,7 @@ module _
   undrawn (suc i) j y inside at = elim (slice_get_cases (quiet_after hs (first + i) w).nodes j).1 [
     | inl found ↦
         let z : first + suc i ≡ first + i + 1 = omega arith in
-        no-draws hs w f.lawful node set core f.component f.is_core f.empty f.small f.fresh root f.alone (first + i) j found.0 y (omega arith) inside found.2 (subst (λ n. slice_get (quiet_after hs n w).nodes j ≡ Some y) z at)
+        no-draws hs w f.lawful node set core f.component f.no_loop.is_core f.no_loop.empty small f.fresh root f.alone (first + i) j found.0 y (omega arith) inside found.2 (subst (λ n. slice_get (quiet_after hs n w).nodes j ≡ Some y) z at)
         ∙ undrawn i j found.0 inside found.2
     | inr lacks ↦ absurd (omega (arith, lacks.0, slice_get_within (quiet_after hs (first + suc i) w).nodes j y at, after-length hs w f.lawful (first + i), after-length hs w f.lawful (first + suc i)))
   ]
@@ -91,7 +94,7 @@ module _
       outcome : IsSettled v set
       outcome =
           let x = some-of (slice_get w.nodes f.fresh.node) _ f.fresh.resets in
-          settles-at-last hs w r f.fresh.node set core (slice_get_within w.nodes f.fresh.node x.0 x.1) (shared w.cabling node f.fresh.node set f.lawful.well_formed.cabling f.component f.fresh.holds) f.is_core f.small k quiet
+          settles-at-last hs w r f.fresh.node set core (slice_get_within w.nodes f.fresh.node x.0 x.1) (shared w.cabling node f.fresh.node set f.lawful.well_formed.cabling f.component f.fresh.holds) f.no_loop.is_core small k quiet
 
       no-some : (o : Option ℕ) → IsSome o → o ≡ None → ⊥
       no-some None h e = true≢false (sym h)
@@ -107,8 +110,8 @@ module _
 
       go : (o : Outcome) → IsOutcome v set o → (t : Tree) × IsTree v set root t
       go (loop c) h =
-          let is : IsCore v.cabling set core = subst (λ (d : Wiring). IsCore d set core) (sym (after-cabling hs k w)) f.is_core in
-          absurd (f.empty h.node ((is h.node).1 ((h.is_core h.node).0 h.in_core)))
+          let is : IsCore v.cabling set core = subst (λ (d : Wiring). IsCore d set core) (sym (after-cabling hs k w)) f.no_loop.is_core in
+          absurd (f.no_loop.empty h.node ((is h.node).1 ((h.is_core h.node).0 h.in_core)))
       go (tree other t) h = (t, subst (λ (q : ℕ). IsTree v set q t) (same other t h) h)
       go (contention a b) h =
           let x = some-of (slice_get v.nodes a) _ h.0.draws in
@@ -164,19 +167,21 @@ module _
 
   -- the node that the packet names is the root of the tree
   pub config-outcome :
-      (core : ℕ) → IsCore w.cabling set core → IsEmpty core → set < 2 ^ 63 → (k : ℕ) →
-      quiet_turns (length v.nodes) v.delay ≤ k → (t : Tree) × IsTree (quiet_after hs k v) set root t
-  config-outcome core is_core empty small k quiet =
+      HasNoLoop w set → set < 2 ^ 63 → (k : ℕ) → quiet_turns (length v.nodes) v.delay ≤ k →
+      (t : Tree) × IsTree (quiet_after hs k v) set root t
+  config-outcome no_loop small k quiet =
       let c = configured w v from id gap set root n.act n.component n.named in
-      forced-outcome hs v reached from set core root (record {
+      forced-outcome hs v reached from set root (record {
         lawful = reached-lawful v reached;
         component = component;
-        is_core = subst (λ (d : Wiring). IsCore d set core) (sym same-cables) is_core;
-        empty = empty;
-        small = small;
+        no_loop = record {
+          core = no_loop.core;
+          is_core = subst (λ (d : Wiring). IsCore d set no_loop.core) (sym same-cables) no_loop.is_core;
+          empty = no_loop.empty;
+        };
         fresh = c.0;
         alone = c.1;
-      }) k quiet
+      }) small k quiet
 
   -- and each node has the gap count that it gives
   pub config-gaps :

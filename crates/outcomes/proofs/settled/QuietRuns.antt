@@ -1,12 +1,14 @@
 -- A run of holds and turns is so many quiet turns, with its holds between them.
-use Rattle.std.proofs.Common.{◌≡◌, ℕ, zero, suc, List, [], ◌∷◌, sym, ◌∙◌, ap, subst}
+use Rattle.std.proofs.Common.{◌≡◌, ℕ, zero, suc, ◌^◌, ◌<◌, ◌≤◌, List, [], ◌∷◌, length, sym, ◌∙◌, ap, subst}
+use Rattle.cabling.specs.Component.{IsComponent}
+use Rattle.cabling.specs.Looped.{IsCore}
 use Rattle.cable_world.specs.World.{CableWorld}
 use Rattle.cable_world.specs.Outcome.{IsSettled}
 use Rattle.cable_world.specs.Turn.{turn}
-use Rattle.cable_world.specs.Run.{Event, acts, holds, turns, Runs}
+use Rattle.cable_world.specs.Run.{Event, acts, holds, turns, Runs, IsReached, quiet_turns}
 use Rattle.cable_world.specs.Quiet.{PlacedHold, HoldSchedule, no_holds, with_hold, with_holds, quiet_after}
 use Rattle.cable_world.proofs.QuietTurns.{holds-are-calls, no-quiet, quiet-first}
-use Rattle.outcomes.specs.Settled.{HasNoAct, turn_count, EveryQuietRunSettles}
+use Rattle.outcomes.specs.Settled.{HasNoAct, turn_count}
 use Rattle.outcomes.proofs.settled.QuietTurns.{settles-at-last}
 
 -- ---- schedules
@@ -31,9 +33,9 @@ quiet-held h hs (suc k) w = ap (λ (v : CableWorld). with_holds (hs (suc k)) (tu
 -- ---- runs
 
 -- a world comes of another one by so many quiet turns
-record ComesBy (w v : CableWorld) (k : ℕ) : Type 0 where
-  schedule : HoldSchedule
-  is : v ≡ quiet_after schedule k w
+pub record ComesBy (w v : CableWorld) (k : ℕ) : Type 0 where
+  pub schedule : HoldSchedule
+  pub is : v ≡ quiet_after schedule k w
 
 after-turn : (w v : CableWorld) (k : ℕ) → ComesBy (turn w) v k → ComesBy w v (suc k)
 after-turn w v k c = record { schedule = turned_first c.schedule; is = c.is ∙ sym (quiet-first (turned_first c.schedule) k w) }
@@ -41,7 +43,7 @@ after-turn w v k c = record { schedule = turned_first c.schedule; is = c.is ∙ 
 after-hold : (h : PlacedHold) (w v : CableWorld) (k : ℕ) → ComesBy (with_hold h w) v k → ComesBy w v k
 after-hold h w v k c = record { schedule = held_first h c.schedule; is = c.is ∙ sym (quiet-held h c.schedule k w) }
 
-comes-by :
+pub comes-by :
     (events : List Event) (w v : CableWorld) → HasNoAct events → Runs events w v →
     ComesBy w v (turn_count events)
 comes-by [] w v none run = record { schedule = no_holds; is = run ∙ sym (no-quiet no_holds w) }
@@ -54,7 +56,11 @@ comes-by (holds end n ∷ events) w v none run =
     after-hold h w v (turn_count events) (comes-by events (with_hold h w) v none (subst (λ (u : CableWorld). Runs events u v) same run.2))
 
 -- so every component settles in it
-pub run-settles : EveryQuietRunSettles
+pub run-settles :
+    (w v : CableWorld) (events : List Event) (node set core : ℕ) → IsReached w → HasNoAct events →
+    Runs events w v → quiet_turns (length w.nodes) w.delay ≤ turn_count events →
+    node < length w.nodes → IsComponent w.cabling node set → IsCore w.cabling set core →
+    set < 2 ^ 63 → IsSettled v set
 run-settles w v events node set core r none run enough there comp is_core small =
     let c : ComesBy w v (turn_count events) = comes-by events w v none run in
     subst (λ (u : CableWorld). IsSettled u set) (sym c.is) (settles-at-last c.schedule w r node set core there comp is_core small (turn_count events) enough)

@@ -1,6 +1,5 @@
 -- A component that has come to a tree is at rest, and so it stays in its tree.
-use Rattle.std.proofs.Common.{◌≡◌, ℕ, ◌^◌, ◌<◌, true, List, [], ◌∷◌, None, Some, length, slice_get, sym, ◌∙◌, ap, subst}
-use Rattle.std.proofs.lemmas.Option.{slice_get_within}
+use Rattle.std.proofs.Common.{◌≡◌, ℕ, ◌^◌, ◌<◌, true, List, [], ◌∷◌, None, Some, length, slice_get, sym, ◌∙◌, ap, subst, arith}
 use Rattle.topology_stack.specs.Tree.{Tree, emits}
 use Rattle.cabling.specs.Wiring.{Wiring}
 use Rattle.cabling.specs.NodeSet.{Holds}
@@ -11,6 +10,7 @@ use Rattle.cable_world.specs.Turn.{turn}
 use Rattle.cable_world.specs.declared.act.Act.{Act}
 use Rattle.cable_world.specs.Act.{ActLeads, IsAct, act_fault, hold, note_changes}
 use Rattle.cable_world.proofs.acts.Happenings.{acting}
+use Rattle.cable_world.proofs.tables.CountsInActs.{act-keeps}
 use Rattle.cable_world.specs.Run.{Event, acts, holds, turns, Runs, IsReached}
 use Rattle.cable_world.specs.Lawful.{IsLawful}
 use Rattle.cable_world.specs.Outcome.{IsTree}
@@ -27,6 +27,7 @@ use Rattle.outcomes.proofs.numbers.AtRest.{rests-where, rests-on, rest-tree}
 use Rattle.outcomes.proofs.numbers.HoldRests.{hold-settles, hold-rests}
 use Rattle.outcomes.proofs.numbers.Settling.{settles-on}
 use Rattle.outcomes.proofs.settled.Beginnings.{nodes-there}
+use Rattle.outcomes.proofs.settled.Components.{in-tree}
 use Rattle.outcomes.proofs.settled.Elsewhere.{LeavesAlone, leaves-alone, same-component, settles-there}
 use Rattle.outcomes.proofs.settled.Numbering.{reached-numbering}
 use Rattle.outcomes.proofs.settled.Outcomes.{tree-ready, same-root, same-tree}
@@ -49,7 +50,7 @@ module _
   all k x inside at = ready-hears x.state.view.phase (ready k x inside at)
 
   there : node < length w.nodes
-  there = let x = some-of (slice_get w.nodes node) _ (h.ids node comp.holds) in slice_get_within w.nodes node x.0 x.1
+  there = in-tree w set root t h node comp.holds
 
   s : Settles w set h.no_loop.core
   s = numbering.walks node set h.no_loop.core there comp h.no_loop.is_core small all
@@ -97,6 +98,13 @@ tree-stays (turns ∷ events) w v r none run node set comp small root t h =
     (subst (λ (c : Wiring). IsComponent c node set) (sym (cabling-after w)) comp) small root t (turn-tree w r node set comp small root t h)
 
 -- ---- acts on other components
+
+-- the nodes of a tree are there after an act
+pub here-after :
+    (a : Act) (w v : CableWorld) → ActLeads a w v → (set root : ℕ) (t : Tree) → IsTree w set root t →
+    (k : ℕ) → Holds set k → k < length v.nodes
+here-after a w v leads set root t h k inside =
+    omega (arith, in-tree w set root t h k inside, (act-keeps a w v leads).nodes)
 
 -- where the component is left alone, it keeps its tree
 alone-tree :

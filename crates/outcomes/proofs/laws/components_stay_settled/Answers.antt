@@ -1,5 +1,12 @@
+use Rattle.std.proofs.Common.{◌^◌, ◌<◌}
+use Rattle.cabling.specs.Existence.{HasCore}
+use Rattle.cable_world.proofs.StaysLawful.{reached-lawful}
+use Rattle.outcomes.proofs.settled.Components.{small-there}
 use Rattle.outcomes.proofs.settled.StaySettled.{stays-settled}
 use Rattle.outcomes.proofs.laws.components_stay_settled.Goals as goal
 
 pub returns : goal.returns
-returns c = λ holds w v k events node set core r quiet none run there comp is_core small. stays-settled holds w r node set core there comp is_core small k quiet v events none run
+returns c = λ holds w v k events node set r quiet none run there comp.
+    let small : set < 2 ^ 63 = small-there c.components_exist.ensures w (reached-lawful w r) node set there comp in
+    let core : HasCore w.cabling set = c.cores_exist.ensures w.cabling set small in
+    stays-settled holds w r node set core.core there comp core.is small k quiet v events none run

@@ -1,5 +1,11 @@
+use Rattle.std.proofs.Common.{◌^◌, ◌<◌}
+use Rattle.cabling.specs.Existence.{HasCore}
 use Rattle.outcomes.proofs.roots.Named.{named-tree}
+use Rattle.outcomes.proofs.settled.Components.{small-root}
 use Rattle.outcomes.proofs.laws.named_roots_are_outcomes.Goals as goal
 
 pub returns : goal.returns
-returns c = λ w node set core root t r walk. named-tree w r.lawful r.acyclic node set r.over core root r.component r.is_core r.small r.inside r.is_root t walk
+returns c = λ w node set root t r walk.
+    let small : set < 2 ^ 63 = small-root c.components_exist.ensures w node set root r in
+    let core : HasCore w.cabling set = c.cores_exist.ensures w.cabling set small in
+    named-tree w r.lawful r.acyclic node set r.over core.core root r.component core.is small r.inside r.is_root t walk

@@ -73,7 +73,7 @@ returns-clause-forced g c =
     let v = g.W.WorldRun.world c.run_turns.new.self in
     let q : c.quiet_turns-quiet.result ≡ quiet_turns_of w =
     quiet-is w c.nodes.result c.delay.result c.quiet_turns-quiet.result c.quiet_turns-quiet.ensures (c.nodes.ensures.value ∙ ap length c.cabling.ensures) c.delay.ensures in
-    forced-nodes c.resets_spread.ensures.taken c.forced_roots_settle.ensures.forced w v
+    forced-nodes c.components_exist.ensures c.resets_spread.ensures.taken c.forced_roots_settle.ensures.forced w v
     (g.met.W.WorldRun.reached c.args.world.now (sym c.spent.ensures ∙ c.if-spent.false))
     (c.in_ok-run_turns.ensures.done ∙ ap (λ (n : ℕ). turns_after n w) q)
     _ c.in_ok-report.ensures

@@ -1,6 +1,4 @@
-use Rattle.std.proofs.Common.{◌≡◌, ◌<◌, true, Some, Err, length, sym, ◌∙◌, subst}
-use Rattle.cabling.specs.Wiring.{Wiring}
-use Rattle.cabling.specs.Component.{IsComponent}
+use Rattle.std.proofs.Common.{◌≡◌, true, Some, Err, sym, ◌∙◌, subst}
 use Rattle.cable_world.specs.declared.act.Act.TheVariants.{Config}
 use Rattle.cable_world.specs.declared.act.ActStop.{ActStop}
 use Rattle.cable_world.specs.Act.{act_fault}
@@ -9,22 +7,15 @@ use Rattle.cable_world.proofs.Options.{none-some}
 use Rattle.settle.specs.Report.{IsReport, IsAfterQuiet}
 use Rattle.cable_world.proofs.running.Whole.{lawful-now}
 use Rattle.settle_plan.specs.Hops.{HopsStay}
-use Rattle.settle_plan.proofs.Suited.{from-there, not-refused, packet-fits, has-id}
+use Rattle.settle_plan.proofs.Suited.{not-refused, packet-fits, has-id, its-small}
 use Rattle.settle_plan.proofs.Carried.{on-ok, on-both, if-ok, gap-wanted, tree-from, gap-of}
 use Rattle.settle_plan.proofs.carrying.settle_plan.Goals as goal
-
-pub component-component-requires : goal.component-component-requires
-component-component-requires g c =
-    let w = g.W.WorldRun.world c.args.world.now in
-    let l = lawful-now w (g.met.W.WorldRun.reached c.args.world.now (sym c.spent.ensures ∙ c.if-spent.false)) in
-    subst (λ (d : Wiring). c.args.from < length d) (sym c.cabling.ensures) (from-there w l c.args.from c.args.plan.now c.requires.suits)
 
 pub act-requires : goal.act-requires
 act-requires g c =
     let w = g.W.WorldRun.world c.args.world.now in
     let l = lawful-now w (g.met.W.WorldRun.reached c.args.world.now (sym c.spent.ensures ∙ c.if-spent.false)) in
-    let component = subst (λ (d : Wiring). IsComponent d c.args.from c.component-component.result) c.cabling.ensures c.component-component.ensures.component in
-    packet-fits w l c.args.from c.args.plan.now c.requires.suits c.component-component.result component c.component-component.ensures.small
+    packet-fits w l c.args.from c.args.plan.now c.requires.suits c.requires.suits.set c.requires.suits.component (its-small w l c.args.from c.args.plan.now c.requires.suits)
 
 pub unreachable-requires : goal.unreachable-requires
 unreachable-requires g c =
@@ -39,18 +30,16 @@ returns-in-Ok-clause-root g c =
     let v = g.W.WorldRun.world c.settle.new.world in
     let reached = g.met.W.WorldRun.reached c.args.world.now (sym c.spent.ensures ∙ c.if-spent.false) in
     let l = lawful-now w reached in
-    let component = subst (λ (d : Wiring). IsComponent d c.args.from c.component-component.result) c.cabling.ensures c.component-component.ensures.component in
     let laws = c.forced_roots_settle.ensures in
     if-ok c.settle.result (IsReport v) _ _ c.settle.ensures.report c.settle.ensures.quiet (λ report is quiet root h.
-    tree-from laws.names laws.config laws.gaps w (g.W.WorldRun.world c.act.new.self) v reached l c.args.from c.args.plan.now c.requires.suits c.component-component.result component c.component-component.ensures.small
+    tree-from laws.names laws.config laws.gaps w (g.W.WorldRun.world c.act.new.self) v reached l c.args.from c.args.plan.now c.requires.suits c.requires.suits.set c.requires.suits.component (its-small w l c.args.from c.args.plan.now c.requires.suits)
     c.in-Ok.ensures.accepted c.in-Ok.ensures.done quiet root h report.parts is.parts)
 
 pub returns-in-Ok-clause-one : goal.returns-in-Ok-clause-one
 returns-in-Ok-clause-one g c =
     let w = g.W.WorldRun.world c.args.world.now in
     let l = lawful-now w (g.met.W.WorldRun.reached c.args.world.now (sym c.spent.ensures ∙ c.if-spent.false)) in
-    let component = subst (λ (d : Wiring). IsComponent d c.args.from c.component-component.result) c.cabling.ensures c.component-component.ensures.component in
-    on-ok c.settle.result _ (has-id w l c.args.from c.args.plan.now c.requires.suits c.component-component.result component c.component-component.ensures.small)
+    on-ok c.settle.result _ (has-id w l c.args.from c.args.plan.now c.requires.suits c.requires.suits.set c.requires.suits.component (its-small w l c.args.from c.args.plan.now c.requires.suits))
 
 pub returns-in-Ok-clause-gaps : goal.returns-in-Ok-clause-gaps
 returns-in-Ok-clause-gaps g c =
@@ -59,11 +48,10 @@ returns-in-Ok-clause-gaps g c =
     let v = g.W.WorldRun.world c.settle.new.world in
     let reached = g.met.W.WorldRun.reached c.args.world.now (sym c.spent.ensures ∙ c.if-spent.false) in
     let l = lawful-now w reached in
-    let component = subst (λ (d : Wiring). IsComponent d c.args.from c.component-component.result) c.cabling.ensures c.component-component.ensures.component in
     let laws = c.forced_roots_settle.ensures in
-    let one = has-id w l c.args.from c.args.plan.now c.requires.suits c.component-component.result component c.component-component.ensures.small in
+    let one = has-id w l c.args.from c.args.plan.now c.requires.suits c.requires.suits.set c.requires.suits.component (its-small w l c.args.from c.args.plan.now c.requires.suits) in
     if-ok c.settle.result (λ report. IsAfterQuiet sent v) _ _ c.settle.ensures.quiet c.settle.ensures.passed (λ report quiet passed.
-    gap-of laws.names laws.config laws.gaps w sent v reached l c.args.from c.args.plan.now c.requires.suits c.component-component.result component c.component-component.ensures.small
+    gap-of laws.names laws.config laws.gaps w sent v reached l c.args.from c.args.plan.now c.requires.suits c.requires.suits.set c.requires.suits.component (its-small w l c.args.from c.args.plan.now c.requires.suits)
     c.in-Ok.ensures.accepted c.in-Ok.ensures.done quiet one.0 one.1 (passed.nodes ∙ c.in-Ok.ensures.passed.nodes))
 
 pub returns-in-Ok-clause-hops : goal.returns-in-Ok-clause-hops
@@ -72,9 +60,8 @@ returns-in-Ok-clause-hops g c =
     let v = g.W.WorldRun.world c.settle.new.world in
     let reached = g.met.W.WorldRun.reached c.args.world.now (sym c.spent.ensures ∙ c.if-spent.false) in
     let l = lawful-now w reached in
-    let component = subst (λ (d : Wiring). IsComponent d c.args.from c.component-component.result) c.cabling.ensures c.component-component.ensures.component in
     let laws = c.forced_roots_settle.ensures in
-    let one = has-id w l c.args.from c.args.plan.now c.requires.suits c.component-component.result component c.component-component.ensures.small in
+    let one = has-id w l c.args.from c.args.plan.now c.requires.suits c.requires.suits.set c.requires.suits.component (its-small w l c.args.from c.args.plan.now c.requires.suits) in
     if-ok c.settle.result (IsReport v) _ _ c.settle.ensures.report (on-both c.settle.result _ _ c.settle.ensures.quiet c.settle.ensures.fine) (λ report is both.
-    gap-wanted laws.names laws.config laws.gaps w (g.W.WorldRun.world c.act.new.self) v reached l c.args.from c.args.plan.now c.requires.suits c.component-component.result component c.component-component.ensures.small
-    c.in-Ok.ensures.accepted c.in-Ok.ensures.done both.0 one.0 one.1 (subst HopsStay c.cabling-2.ensures c.hops_stay.ensures) (lawful-now v (g.met.W.WorldRun.reached c.settle.new.world both.1)).well_formed report.parts is.parts)
+    gap-wanted laws.names laws.config laws.gaps w (g.W.WorldRun.world c.act.new.self) v reached l c.args.from c.args.plan.now c.requires.suits c.requires.suits.set c.requires.suits.component (its-small w l c.args.from c.args.plan.now c.requires.suits)
+    c.in-Ok.ensures.accepted c.in-Ok.ensures.done both.0 one.0 one.1 (subst HopsStay c.cabling.ensures c.hops_stay.ensures) (lawful-now v (g.met.W.WorldRun.reached c.settle.new.world both.1)).well_formed report.parts is.parts)

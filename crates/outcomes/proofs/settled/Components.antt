@@ -1,0 +1,74 @@
+-- The set of a component has 63 nodes at most.
+use Rattle.std.proofs.Common.{◌≡◌, ℕ, ◌^◌, ◌<◌, length, slice_get, arith}
+use Rattle.std.proofs.lemmas.Option.{slice_get_within}
+use Rattle.topology_stack.specs.Tree.{Tree}
+use Rattle.cabling.specs.Wiring.{Wiring, IsCabling}
+use Rattle.cabling.specs.NodeSet.{Holds}
+use Rattle.cabling.specs.Component.{IsComponent}
+use Rattle.cabling.specs.Existence.{HasComponent, ComponentsExist}
+use Rattle.cabling.proofs.Whole.{shared}
+use Rattle.cable_world.specs.World.{CableWorld}
+use Rattle.cable_world.specs.Lawful.{IsLawful}
+use Rattle.cable_world.specs.Outcome.{IsTree}
+use Rattle.cable_world.specs.Fresh.{IsFresh}
+use Rattle.cable_world.proofs.OneOutcome.{same-set}
+use Rattle.cable_world.proofs.Options.{some-of}
+use Rattle.outcomes.specs.Forced.{IsNamedAlone, IsForced}
+use Rattle.outcomes.specs.RootWalk.{HasRoot}
+
+-- a node that exists has one component, and that is small
+pub component-small :
+    ComponentsExist → (c : Wiring) (node set : ℕ) → IsCabling c → node < length c →
+    IsComponent c node set → set < 2 ^ 63
+component-small exist c node set is there comp =
+    let h : HasComponent c node = exist c node is there in
+    let same : set ≡ h.set = same-set set h.set (λ k. (comp.least h.set h.is.holds h.is.closed k, h.is.least set comp.holds comp.closed k)) in
+    omega (arith, same, h.small)
+
+pub small-there :
+    ComponentsExist → (w : CableWorld) → IsLawful w → (node set : ℕ) → node < length w.nodes →
+    IsComponent w.cabling node set → set < 2 ^ 63
+small-there exist w l node set there comp =
+    component-small exist w.cabling node set l.well_formed.cabling (omega (arith, there, l.well_formed.count)) comp
+
+-- ---- nodes that exist
+
+-- those of a tree
+pub in-tree :
+    (w : CableWorld) (set root : ℕ) (t : Tree) → IsTree w set root t → (k : ℕ) → Holds set k →
+    k < length w.nodes
+in-tree w set root t h k inside = let x = some-of (slice_get w.nodes k) _ (h.ids k inside) in slice_get_within w.nodes k x.0 x.1
+
+-- those where a reset has just begun
+in-fresh : (w : CableWorld) (set : ℕ) → IsFresh w set → (k : ℕ) → Holds set k → k < length w.nodes
+in-fresh w set h k inside = let x = some-of (slice_get w.nodes k) _ (h.waits k inside) in slice_get_within w.nodes k x.0 x.1
+
+-- those of which one has an ID
+in-named :
+    (w : CableWorld) (set node id : ℕ) → IsNamedAlone w set node id → (k : ℕ) → Holds set k →
+    k < length w.nodes
+in-named w set node id h k inside = let x = some-of (slice_get w.nodes k) _ (h.calm k inside) in slice_get_within w.nodes k x.0 x.1
+
+-- ---- their components
+
+pub small-tree :
+    ComponentsExist → (w : CableWorld) → IsLawful w → (node set root : ℕ) (t : Tree) →
+    IsComponent w.cabling node set → IsTree w set root t → set < 2 ^ 63
+small-tree exist w l node set root t comp h = small-there exist w l node set (in-tree w set root t h node comp.holds) comp
+
+pub small-fresh :
+    ComponentsExist → (w : CableWorld) → IsLawful w → (node set : ℕ) → IsComponent w.cabling node set →
+    IsFresh w set → set < 2 ^ 63
+small-fresh exist w l node set comp h = small-there exist w l node set (in-fresh w set h node comp.holds) comp
+
+pub small-named :
+    ComponentsExist → (w : CableWorld) → IsLawful w → (node set root id : ℕ) →
+    IsComponent w.cabling node set → IsNamedAlone w set root id → set < 2 ^ 63
+small-named exist w l node set root id comp h = small-there exist w l node set (in-named w set root id h node comp.holds) comp
+
+pub small-forced : ComponentsExist → (w : CableWorld) (node set root : ℕ) → IsForced w node set root → set < 2 ^ 63
+small-forced exist w node set root f = small-fresh exist w f.lawful node set f.component f.fresh
+
+pub small-root : ComponentsExist → (w : CableWorld) (node set root : ℕ) → HasRoot w node set root → set < 2 ^ 63
+small-root exist w node set root r =
+    small-there exist w r.lawful root set (slice_get_within w.nodes root r.is_root.node r.is_root.at) (shared w.cabling node root set r.lawful.well_formed.cabling r.component r.inside)

@@ -1,0 +1,56 @@
+-- Two nodes, one cable between them: the bus comes of power-on, it is left alone for 8128 turns, and
+-- so it has settled.
+use Rattle.std.proofs.Common.{◌≡◌, ℕ, zero, suc, true, false, [], ◌∷◌, None, Some, length, slice_get, refl, subst, arith}
+use Rattle.port_state.specs.Entry.{enter}
+use Rattle.port_state.specs.Timing.{InRange, usual_timing}
+use Rattle.port_state.specs.Machine.{PortNode}
+use Rattle.port_state.proofs.Laws.{valid-power_on}
+use Rattle.cable_world.specs.declared.act.Act.TheVariants.{Plug}
+use Rattle.cable_world.specs.World.{IsNodeAtPowerOn, IsPowerOnWorld, world_of_nodes}
+use Rattle.cable_world.specs.Turn.{turns_after}
+use Rattle.cable_world.specs.Act.{act_fault}
+use Rattle.cable_world.specs.Run.{acts, IsReached, quiet_turns}
+use Rattle.cable_world.proofs.Options.{some-same}
+use Rattle.cable_world.proofs.worked.Summary.{plain_node, attrs, at}
+use Rattle.cable_world.proofs.worked.TwoNodes as pair
+use Rattle.outcomes.specs.Headline.{IsLeftAlone, AllSettled, EveryBusSettles}
+use Rattle.outcomes.proofs.settled.LeftAlone.{left-alone}
+
+usual : InRange 4 (usual_timing 4)
+usual = record { hold_least = omega arith; hold_most = omega arith; force = refl; timeout = refl; short_least = omega arith; short_most = omega arith; long_least = omega arith; long_most = omega arith }
+
+plain-on : (coin : ℕ) → IsNodeAtPowerOn 4 (plain_node coin).state
+plain-on coin = record {
+  is = refl;
+  valid = valid-power_on 3 (attrs true 2 false) false (usual_timing 4) (omega arith) (omega arith) (record { gap = omega arith; speed = omega arith; delay = omega arith; power = omega arith }) refl;
+  timing = usual;
+}
+
+powered : (k : ℕ) (x : PortNode) → slice_get pair.nodes k ≡ Some x → IsNodeAtPowerOn 4 x.state
+powered zero x e = subst (λ (z : PortNode). IsNodeAtPowerOn 4 z.state) (some-same (plain_node 0) x e) (plain-on 0)
+powered (suc zero) x e = subst (λ (z : PortNode). IsNodeAtPowerOn 4 z.state) (some-same (plain_node 1) x e) (plain-on 1)
+powered (suc (suc k)) x e = absurd cc
+
+at-first : IsPowerOnWorld (world_of_nodes 4 pair.nodes)
+at-first = record { some_delay = omega arith; short_delay = omega arith; few_nodes = omega arith; nodes = powered; is = refl }
+
+free : act_fault (Plug (at 0 0) (at 1 0)) (world_of_nodes 4 pair.nodes) ≡ None
+free = refl
+
+reached : IsReached pair.start
+reached = record {
+  start = world_of_nodes 4 pair.nodes;
+  events = acts (Plug (at 0 0) (at 1 0)) ∷ [];
+  power_on = at-first;
+  run = (pair.start, (tt, free, refl), refl);
+}
+
+enough : quiet_turns (length pair.start.nodes) pair.start.delay ≡ 8128
+unfolding enter
+enough = refl
+
+alone : IsLeftAlone pair.start (turns_after 8128 pair.start)
+alone = left-alone pair.start 8128 (omega (arith, enough))
+
+settled : EveryBusSettles → AllSettled (turns_after 8128 pair.start)
+settled every = every pair.start (turns_after 8128 pair.start) reached alone

@@ -1,0 +1,26 @@
+-- What is reported of a component is what it came to.
+use Rattle.std.specs.Prelude.{◌≡◌, ◌↔◌}
+use Rattle.topology_stack.specs.Tree.{emits}
+use Rattle.cabling.specs.Wiring.{IsCabling}
+use Rattle.cabling.specs.Sees.{numbers}
+use Rattle.cable_world.specs.World.{CableWorld, NodeSet}
+use Rattle.cable_world.specs.Outcome.{Outcome, loop, tree, contention, IsOutcome}
+use Rattle.settle.specs.declared.report.Outcome.{Outcome as Reported}
+use Rattle.settle.specs.declared.report.Outcome.TheVariants as reported
+use Rattle.settle.specs.Report.{AreThere}
+use Rattle.settle.specs.Reported.{IsReported}
+
+-- a report tells an outcome: the core; the root, with the tree's list and its nodes in the order of
+-- the walk; the two ends in contention
+abbrev pub Tells : CableWorld → Reported → Outcome → Type 0
+Tells w (reported.Loop nodes) (loop core) = nodes ≡ core
+Tells w (reported.Tree root list order) (tree top t) =
+    (root ≡ top) × (list ≡ emits t) × (order ≡ numbers w.cabling top t)
+Tells w (reported.Contention a b) (contention low high) = (a ≡ low) × (b ≡ high)
+Tells w r o = ⊥
+
+-- it is reported of a component exactly where the component has an outcome that it tells
+abbrev pub ReportedIsOutcome : Type 0
+ReportedIsOutcome =
+    (w : CableWorld) (set : NodeSet) (r : Reported) → IsCabling w.cabling → AreThere w set →
+    IsReported w set r ↔ ((o : Outcome) × IsOutcome w set o × Tells w r o)
