@@ -27,7 +27,10 @@ use Rattle.outcomes.specs.Forced.{IsForced, WaitsAlone}
 use Rattle.outcomes.specs.Settled.{turn_count}
 use Rattle.outcomes.proofs.settled.Beginnings.{nodes-there}
 use Rattle.outcomes.proofs.settled.ForcedOutcome.{forced-outcome}
-use Rattle.world_laws.specs.Freshness.{IsTouchedIn, PowerOnIsFresh, ActsMakeFresh, HasOneWaiting, FreshRootsSettle, FirstRootsSettle}
+use Rattle.outcomes.proofs.settled.QuietTurns.{done-at-last}
+use Rattle.cable_world.specs.Quiet.{quiet_after}
+use Rattle.cable_world.proofs.QuietTurns.{quiet-reached}
+use Rattle.world_laws.specs.Freshness.{IsTouchedIn, PowerOnIsFresh, ActsMakeFresh, ActsMakeFreshOnceSettled, HasOneWaiting, FreshRootsSettle, FirstRootsSettle}
 use Rattle.world_laws.proofs.SmallSets.{small-set}
 use Rattle.world_laws.proofs.Touched.{Begun, touched-begun}
 
@@ -233,6 +236,10 @@ acts-fresh w v events at_once node k set r comp calm inside touched =
       | inl b ↦ fresh-begun x.state b
       | inr f ↦ fresh-calm x.state (ap is_in_bus_reset f.phase ∙ calm j f.node h f.at)
     ])
+
+pub settled-fresh : ActsMakeFreshOnceSettled
+settled-fresh placed w v n events at_once node k set r quiet comp inside touched =
+    acts-fresh (quiet_after placed n w) v events at_once node k set (quiet-reached placed n w r) comp (λ j x h at. done-at-last placed w n r quiet j x at) inside touched
 
 -- ---- a node that waits alone
 

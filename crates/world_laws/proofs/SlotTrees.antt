@@ -1,13 +1,13 @@
 -- A tree that a cabling of slots shows is a bus tree. Where a slot has no port, another cabling has a
 -- port without cable: it shows as many nodes, and these are few.
-use Rattle.std.proofs.Common.{◌≡◌, ◌≢◌, inl, inr, ℕ, zero, suc, ◌+◌, ◌<◌, ◌≤◌, ◌==◌, ◌||◌, Bool, true, false, IsTrue, Option, Some, None, List, [], ◌∷◌, ◌++◌, map, length, slice_get, slice_index_or, refl, sym, ◌∙◌, ap, subst, arith, length-append}
+use Rattle.std.proofs.Common.{◌≡◌, ◌≢◌, inl, inr, ℕ, zero, suc, ◌+◌, ◌-◌, ◌<◌, ◌≤◌, ◌==◌, ◌||◌, Bool, true, false, IsTrue, Option, Some, None, List, [], ◌∷◌, ◌++◌, map, length, slice_get, slice_index_or, refl, sym, ◌∙◌, ap, subst, arith, length-append}
 use Rattle.std.proofs.lemmas.Bool.{eqb-true}
 use Rattle.std.proofs.lemmas.List.{length-map}
 use Rattle.std.proofs.lemmas.Option.{slice_get_within, slice_get_cases}
 use Rattle.self_id.specs.declared.standard.Standard.TheVariants.{Ieee2000}
 use Rattle.self_id.specs.Node.{Node, HasForm, IsNode, ups, is_width_of, node_with}
 use Rattle.self_id.specs.Slots.{slot_count}
-use Rattle.topology_stack.specs.Tree.{Label, Tree, branch, Slots, no_more, absent, unplugged, up, down, statuses, node_of, walk, walk_below, IsPart, AreParts, IsWhole, AreOf}
+use Rattle.topology_stack.specs.Tree.{Label, Tree, branch, Slots, no_more, absent, unplugged, up, down, statuses, node_of, walk, walk_below, IsPart, AreParts, IsWhole, AreOf, IsBusTreeOf, emits}
 use Rattle.cabling.specs.declared.cable.End.{End}
 use Rattle.cabling.specs.Wiring.{Wiring, ports_of, far, IsCabling}
 use Rattle.cabling.specs.Existence.{HasComponent}
@@ -20,8 +20,8 @@ use Rattle.cabling.proofs.Waiting.{length-visits}
 use Rattle.cabling.proofs.Small.{tree_few}
 use Rattle.cabling.proofs.Whole.{seen_loopless}
 use Rattle.cable_world.proofs.Options.{some-same}
-use Rattle.world_laws.specs.SlotCabling.{Place, no_port, no_cable, cable_to, SlotWiring, Leads, IsSlotCabling, AreLabels, SeesSlots, SeesRow, CabledTreesAreBusTrees}
-use Rattle.world_laws.proofs.SlotCabling.{Has, has-tail, has-head, has-itself}
+use Rattle.world_laws.specs.SlotCabling.{Place, no_port, no_cable, cable_to, SlotWiring, Leads, IsSlotCabling, AreLabels, SeesSlots, SeesRow, CablesTree, IsEmitted, CabledTreesAreBusTrees, AcceptedListsAreEmitted}
+use Rattle.world_laws.proofs.SlotCabling.{Has, has-tail, has-head, has-itself, cabled}
 
 abbrev end_at : ℕ → ℕ → End
 end_at node port = record { node = node; port = port }
@@ -303,3 +303,14 @@ slot-trees c label root t is labels h = record {
   };
   nodes = all-of c is label labels t root None h;
 }
+
+pub emitted : AcceptedListsAreEmitted
+emitted list = (accepted, shown)
+  where
+    accepted : (t : Tree) × IsBusTreeOf Ieee2000 t × (emits t ≡ list) → IsEmitted list
+    accepted h =
+        let k : CablesTree h.0 = cabled h.0 h.1 in
+        record { cabling = k.cabling; label = k.label; root = length (walk h.0) - 1; tree = h.0; is = k.is; labels = k.labels; seen = k.seen; emits_it = h.2 }
+
+    shown : IsEmitted list → (t : Tree) × IsBusTreeOf Ieee2000 t × (emits t ≡ list)
+    shown h = (h.tree, slot-trees h.cabling h.label h.root h.tree h.is h.labels h.seen, h.emits_it)

@@ -50,6 +50,14 @@ ActsMakeFresh =
     IsComponent v.cabling node set → AreCalm w set → Holds set k →
     IsTouchedIn k events w v run.run → IsFresh v set
 
+-- so they do in a world that was given the quiet turns to settle
+abbrev pub ActsMakeFreshOnceSettled : Type 0
+ActsMakeFreshOnceSettled =
+    (holds : HoldSchedule) (w v : CableWorld) (n : ℕ) (events : List Event)
+    (run : RunsAtOnce (quiet_after holds n w) v events) (node k : NodeNumber) (set : NodeSet) →
+    IsReached w → quiet_turns (length w.nodes) w.delay ≤ n → IsComponent v.cabling node set →
+    Holds set k → IsTouchedIn k events (quiet_after holds n w) v run.run → IsFresh v set
+
 -- a component without loop of whose nodes one alone waits to become root
 pub record HasOneWaiting
     (w : CableWorld) (node : NodeNumber) (set : NodeSet) (root : NodeNumber)

@@ -14,8 +14,9 @@ use Rattle.convergence.specs.Turns.{loop_turns, turns_to_loops, HoldsAfter}
 -- ID
 abbrev pub LoopsAreOut : CableWorld → Type 0
 LoopsAreOut w =
-    (node : NodeNumber) (set core : NodeSet) (member : NodeNumber) → IsComponent w.cabling node set →
-    IsCore w.cabling set core → Holds core member → IsLoop w set core
+    (node : NodeNumber) (set core : NodeSet) (member : NodeNumber) →
+    IsComponent w.cabling node set → IsCore w.cabling set core →
+    Holds core member → IsLoop w set core
 
 -- ---- laws
 

@@ -1,9 +1,9 @@
 -- Each bus tree is what some cabling shows, where each slot of a node has a port or none.
-use Rattle.std.specs.Prelude.{◌≡◌, ◌≢◌, ℕ, ◌+◌, ◌-◌, ◌≤◌, IsTrue, Option, Some, None, List, [], ◌∷◌, length, slice_get}
+use Rattle.std.specs.Prelude.{◌≡◌, ◌≢◌, ◌↔◌, ℕ, ◌+◌, ◌-◌, ◌≤◌, IsTrue, Option, Some, None, List, [], ◌∷◌, length, slice_get}
 use Rattle.self_id.specs.declared.node.PortStatus.{PortStatus}
 use Rattle.self_id.specs.declared.standard.Standard.TheVariants.{Ieee2000}
 use Rattle.self_id.specs.Node.{HasForm, is_width_of, node_with}
-use Rattle.topology_stack.specs.Tree.{Label, Tree, branch, Slots, no_more, absent, unplugged, up, down, walk, IsBusTreeOf}
+use Rattle.topology_stack.specs.Tree.{Label, Tree, branch, Slots, no_more, absent, unplugged, up, down, walk, IsBusTreeOf, emits}
 use Rattle.cabling.specs.declared.cable.End.{End}
 use Rattle.cabling.specs.Wiring.{NodeNumber}
 
@@ -33,8 +33,8 @@ pub record IsSlotCabling (c : SlotWiring) : Type 0 where
       (k : NodeNumber) (row : List Place) → slice_get c k ≡ Some row →
       IsTrue (is_width_of Ieee2000 (length row))
 
--- From node `x`, come to by its slot `from` or by none, the cabling shows the tree: its node has the
--- label of `x`, and its slots are those of `x`.
+-- From node `x`, come to by its slot `from` or by none, the cabling shows the tree: its node has
+-- the label of `x`, and its slots are those of `x`.
 abbrev mutual
   pub SeesSlots : SlotWiring → (NodeNumber → Label) → NodeNumber → Option ℕ → Tree → Type 0
   SeesSlots c label x from (branch a s) =
@@ -85,3 +85,20 @@ abbrev pub CabledTreesAreBusTrees : Type 0
 CabledTreesAreBusTrees =
     (c : SlotWiring) (label : NodeNumber → Label) (root : NodeNumber) (t : Tree) →
     IsSlotCabling c → AreLabels c label → SeesSlots c label root None t → IsBusTreeOf Ieee2000 t
+
+-- some cabling shows a tree whose nodes emit this list
+pub record IsEmitted (list : List ℕ) : Type 0 where
+  pub cabling : SlotWiring
+  pub label : NodeNumber → Label
+  pub root : NodeNumber
+  pub tree : Tree
+  pub is : IsSlotCabling cabling
+  pub labels : AreLabels cabling label
+  pub seen : SeesSlots cabling label root None tree
+  pub emits_it : emits tree ≡ list
+
+-- so the lists of bus trees, which reading accepts, are those that some cabling emits
+abbrev pub AcceptedListsAreEmitted : Type 0
+AcceptedListsAreEmitted =
+    (list : List ℕ) →
+    ((t : Tree) × IsBusTreeOf Ieee2000 t × (emits t ≡ list)) ↔ IsEmitted list

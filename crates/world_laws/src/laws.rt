@@ -1,7 +1,8 @@
 //! Laws of worlds. Each function is a fact for whoever reads or calls it.
 ghost use Rattle.world_laws.specs.Arrival.{CablesStay, SignalsArrive, SignalsKeepTheirOrder};
 ghost use Rattle.world_laws.specs.ByNumber.{ActsByNumber};
-ghost use Rattle.world_laws.specs.Freshness.{PowerOnIsFresh, ActsMakeFresh, FreshRootsSettle, FirstRootsSettle};
+ghost use Rattle.world_laws.specs.Freshness.{PowerOnIsFresh, ActsMakeFresh, ActsMakeFreshOnceSettled};
+ghost use Rattle.world_laws.specs.Freshness.{FreshRootsSettle, FirstRootsSettle};
 ghost use Rattle.world_laws.specs.Touched.{TouchedNodesReset, ActsTouchTheirComponent, UntouchedComponentsStay, UntouchedTreesStay};
 ghost use Rattle.world_laws.specs.DoneMilestone.{EntriesEnd, NoEntryStays, DoneOnceNoneEnters};
 ghost use Rattle.world_laws.specs.LoopMilestone.{LoopsComeOutOnceDone, LoopsComeOutByThen};
@@ -9,6 +10,7 @@ ghost use Rattle.world_laws.specs.RestMilestone.{TreesRestOnceDecided, TreesRest
 ghost use Rattle.world_laws.specs.OnePair.{RivalsStayAlone, RivalsAreAloneByThen};
 ghost use Rattle.world_laws.specs.ReadyPrefix.{ReadyNodesAreFirst};
 ghost use Rattle.world_laws.specs.SlotCabling.{EachBusTreeIsCabled, CabledTreesAreBusTrees};
+ghost use Rattle.world_laws.specs.SlotCabling.{AcceptedListsAreEmitted};
 ghost use Rattle.world_laws.specs.SeenTrees.{SeenTreesAreBusTrees, SeenListsHaveOneTree};
 
 /// The wires deliver. In every run from a reached world in which the cable isn't pulled, each
@@ -41,11 +43,13 @@ pub fn acts_touch_their_component()
 {}
 
 /// Before the first turn every component is fresh, whatever acts came. Later, before the next turn,
-/// acts make a component fresh that they touch, where none of its nodes was in R0 or R1; of a reset
-/// that begins while another is going on nothing is claimed.
+/// acts make a component fresh that they touch, where none of its nodes was in R0 or R1: so
+/// wherever a world was given the quiet turns to settle. Of a reset that begins while another is
+/// going on nothing is claimed.
 pub fn acts_make_fresh()
     ensures first { PowerOnIsFresh }
     ensures later { ActsMakeFresh }
+    ensures settled { ActsMakeFreshOnceSettled }
 {}
 
 /// Where of a fresh component without loop one node alone waits to become root, it comes to a tree
@@ -103,4 +107,5 @@ pub fn seen_trees_are_bus_trees()
 pub fn bus_trees_are_cabled()
     ensures each { EachBusTreeIsCabled }
     ensures only { CabledTreesAreBusTrees }
+    ensures lists { AcceptedListsAreEmitted }
 {}
