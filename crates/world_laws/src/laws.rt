@@ -96,7 +96,8 @@ pub fn ready_nodes_are_first()
 {}
 
 /// From 315 d turns after trees are decided on, each component without loop is at rest, with all
-/// its nodes in A0 and nothing under way, or two of its nodes contend, with 32 equal draws.
+/// its nodes in A0 and no Grant, packet or Done under way, or two of its nodes contend, with 32
+/// equal draws.
 pub fn trees_are_at_rest()
     ensures once_decided { TreesRestOnceDecided }
     ensures reached { TreesRestByThen }
