@@ -1,6 +1,7 @@
 pub mod Packet
 pub mod Pairs
 pub mod Cable
+pub mod CableEnds
 pub mod Node
 pub mod Drawing
 pub mod Graph

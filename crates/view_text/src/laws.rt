@@ -1,5 +1,6 @@
 //! Laws of the cables of a tree.
 ghost use Rattle.view_text.specs.Cable.{EachNodeHangsOnOneCable, CablesAreOneLessThanNodes};
+ghost use Rattle.view_text.specs.CableEnds.{CablesAreOfTheTree, EachDownSlotHasItsCable};
 
 /// A law: each node of a tree but the root hangs on exactly one of the tree's cables, and there are
 /// no others. So a drawing with a line a node, and a graph with an edge a cable, have each node and
@@ -7,4 +8,12 @@ ghost use Rattle.view_text.specs.Cable.{EachNodeHangsOnOneCable, CablesAreOneLes
 pub fn each_node_hangs_on_one_cable()
     ensures one { EachNodeHangsOnOneCable }
     ensures count { CablesAreOneLessThanNodes }
+{}
+
+/// A law: each of the cables of a bus tree leads from a port of the parent to the child that stands
+/// there, and from a port of the child back to the parent, with the speed of the path between them;
+/// and each slot that is down has its cable.
+pub fn cables_are_of_the_tree()
+    ensures ends { CablesAreOfTheTree }
+    ensures all { EachDownSlotHasItsCable }
 {}

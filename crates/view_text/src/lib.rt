@@ -14,7 +14,7 @@ mod words;
 pub use cable::{Cable, cables};
 pub use drawing::tree_drawing;
 pub use graph::tree_graph;
-pub use laws::each_node_hangs_on_one_cable;
+pub use laws::{cables_are_of_the_tree, each_node_hangs_on_one_cable};
 pub use packet::put_packet;
 pub use pairs::{Note, packets_of, pairs_text};
 pub use words::put_field;

@@ -1,5 +1,5 @@
 -- Acts make components fresh: whoever is reset has just begun, and all others are as they were.
-use Rattle.std.proofs.Common.{◌≡◌, ◌≢◌, ◌⊎◌, inl, inr, ℕ, ◌<◌, false, List, [], ◌∷◌, Some, None, length, slice_get, refl, sym, ◌∙◌, ap, subst, arith, true≢false}
+use Rattle.std.proofs.Common.{◌≡◌, ◌≢◌, ◌⊎◌, inl, inr, ℕ, ◌^◌, ◌<◌, false, List, [], ◌∷◌, Some, None, length, slice_get, refl, sym, ◌∙◌, ap, subst, arith, true≢false}
 use Rattle.std.proofs.lemmas.Bool.{cases_eq}
 use Rattle.std.proofs.lemmas.Option.{slice_get_cases, slice_get_within}
 use Rattle.cabling.specs.NodeSet.{Holds}
@@ -252,22 +252,20 @@ waiting-there w set root k a h = elim (cases_eq k root) [
 
 forced :
     (w : CableWorld) (node set root : ℕ) → IsReached w → IsFresh w set →
-    (h : HasOneWaiting w node set root) → IsForced w node set h.no_loop.core root
-forced w node set root r fresh h =
-    let l : IsLawful w = reached-lawful w r in
-    record {
-      lawful = l;
-      component = h.component;
-      is_core = h.no_loop.is_core;
-      empty = h.no_loop.empty;
-      small = small-set set 63 (λ i inside. omega (arith, waiting-there w set root i h.alone inside, l.well_formed.count, l.well_formed.cabling.few_nodes));
-      fresh = fresh;
-      alone = h.alone;
-    }
+    HasOneWaiting w node set root → IsForced w node set root
+forced w node set root r fresh h = record {
+  lawful = reached-lawful w r;
+  component = h.component;
+  no_loop = h.no_loop;
+  fresh = fresh;
+  alone = h.alone;
+}
 
 pub fresh-roots : FreshRootsSettle
 fresh-roots placed w k node set root r fresh h quiet =
-    forced-outcome placed w r node set h.no_loop.core root (forced w node set root r fresh h) k quiet
+    let l : IsLawful w = reached-lawful w r in
+    let small : set < 2 ^ 63 = small-set set 63 (λ i inside. omega (arith, waiting-there w set root i h.alone inside, l.well_formed.count, l.well_formed.cabling.few_nodes)) in
+    forced-outcome placed w r node set root (forced w node set root r fresh h) small k quiet
 
 pub first-roots : FirstRootsSettle
 first-roots placed s w events k node set root p at_once h quiet =

@@ -1,5 +1,6 @@
 pub mod Arrival
 pub mod ByNumber
+pub mod LastChanges
 pub mod Touched
 pub mod Freshness
 pub mod DoneMilestone

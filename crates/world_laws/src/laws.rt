@@ -1,6 +1,7 @@
 //! Laws of worlds. Each function is a fact for whoever reads or calls it.
 ghost use Rattle.world_laws.specs.Arrival.{CablesStay, SignalsArrive, SignalsKeepTheirOrder};
 ghost use Rattle.world_laws.specs.ByNumber.{ActsByNumber};
+ghost use Rattle.world_laws.specs.LastChanges.{TurnsNoteChanges, ActsNoteChanges};
 ghost use Rattle.world_laws.specs.Freshness.{PowerOnIsFresh, ActsMakeFresh, ActsMakeFreshOnceSettled};
 ghost use Rattle.world_laws.specs.Freshness.{FreshRootsSettle, FirstRootsSettle};
 ghost use Rattle.world_laws.specs.Touched.{TouchedNodesReset, ActsTouchTheirComponent, UntouchedComponentsStay, UntouchedTreesStay};
@@ -30,6 +31,13 @@ pub fn signals_arrive()
 /// nodes, with their cables and their wires, are as they were.
 pub fn acts_by_number()
     ensures { ActsByNumber }
+{}
+
+/// When a node's list last changed: after a turn it is the number of turns done, with this one, and
+/// after an act the number of turns done, where the list isn't what it was; else it is as it was.
+pub fn changes_are_noted()
+    ensures turns { TurnsNoteChanges }
+    ensures acts { ActsNoteChanges }
 {}
 
 /// An act resets the node that it names, or both nodes of the cable that it plugs or pulls: each of
@@ -88,7 +96,8 @@ pub fn ready_nodes_are_first()
 {}
 
 /// From 315 d turns after trees are decided on, each component without loop is at rest, with all
-/// its nodes in A0 and nothing under way, or two of its nodes contend, with 32 equal draws.
+/// its nodes in A0 and no Grant, packet or Done under way, or two of its nodes contend, with 32
+/// equal draws.
 pub fn trees_are_at_rest()
     ensures once_decided { TreesRestOnceDecided }
     ensures reached { TreesRestByThen }
