@@ -13,7 +13,7 @@ use Rattle.bus_cli.specs.codings.Reading.{IsRead, AsksFewNodes}
 
 -- ---- the form of words, found by trying them all
 
-same : List ℕ → List ℕ → Bool
+pub same : List ℕ → List ℕ → Bool
 same [] [] = true
 same [] (y ∷ ys) = false
 same (x ∷ xs) [] = false
@@ -42,7 +42,7 @@ both_true : (x y : Bool) → cond x y false ≡ true → (x ≡ true) × (y ≡ 
 both_true true y e = (refl, e)
 both_true false y e = absurd cc
 
-same-true : (xs ys : List ℕ) → same xs ys ≡ true → xs ≡ ys
+pub same-true : (xs ys : List ℕ) → same xs ys ≡ true → xs ≡ ys
 unfolding same
 same-true [] [] e = refl
 same-true [] (y ∷ ys) e = absurd cc
@@ -82,7 +82,7 @@ one_make words n m s r x y =
     let e : Make n s ≡ Make m r = one_form words (Make n s) (Make m r) x y in
     (cc, cc)
 
-same-is : (xs ys : List ℕ) → xs ≡ ys → same xs ys ≡ true
+pub same-is : (xs ys : List ℕ) → xs ≡ ys → same xs ys ≡ true
 same-is xs ys e = subst (λ (zs : List ℕ). same xs zs ≡ true) e (itself xs)
   where
     itself : (zs : List ℕ) → same zs zs ≡ true

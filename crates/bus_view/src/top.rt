@@ -7,6 +7,7 @@ ghost use Rattle.script_trace.specs.Trace.{IsTrace};
 ghost use Rattle.bus_view.specs.declared.form.ViewForm.{ViewForm};
 ghost use Rattle.bus_view.specs.Form.{Asks, IsForm};
 ghost use Rattle.bus_view.specs.Answer.{Answers};
+ghost use Rattle.bus_cli.specs.Streams.{KeepsStreams};
 
 use crate::answer::view_of;
 use crate::form::ViewForm;
@@ -14,6 +15,62 @@ use crate::laws::one_view;
 use bus_cli::{MAX_INPUT, NO_FORM, NO_MEMORY, READ_FAULT, TOO_LONG, WRITE_FAULT};
 use io_edges::{ReadStop, Sink, Source, read_all, write_whole};
 use std::alloc::Global;
+
+/// Answers the words, as `view_main` has it.
+fn view_words<S: Source, K: Sink>(
+    alloc: Global,
+    words: &[String],
+    source: &mut S,
+    sink: &mut K,
+) -> u8
+    ensures status { result ≤ 6 }
+    ensures answer { (result ≡ 0) ⊎ (result ≡ 1) → IfSome (S.left source.old) (λ bytes.
+        (text : List ℕ) × Answers words.now bytes result text
+        × Appends (K.written sink.old) (K.written sink.new) text) }
+    ensures end { (result ≡ 0) ⊎ (result ≡ 1) ⊎ (result ≡ 4) → IsAtEnd (S.left source.new) }
+    ensures no_form { (result ≡ 2) ↔ (¬ IsForm words.now) }
+    ensures read_fault { result ≡ 3 → Rose (S.faults source.old) (S.faults source.new) }
+    ensures write_fault { result ≡ 4 → Rose (K.faults sink.old) (K.faults sink.new) }
+    ensures too_long { IfTold (S.left source.old) (S.left source.new) (λ old new.
+        (result ≡ 6) ↔ TookOver 1048576 old new) }
+    ensures unread { result ≡ 2 → source.new ≡ source.old }
+    ensures unwritten { 2 ≤ result → result ≢ 4 → sink.new ≡ sink.old }
+    ensures part { result ≡ 4 → IfSome (S.left source.old) (λ bytes.
+        (status : ℕ) × (text : List ℕ) × Answers words.now bytes status text
+        × AppendsStart (K.written sink.old) (K.written sink.new) text) }
+    ensures exact { IfSome (S.left source.old) (λ bytes. (status : ℕ) (text : List ℕ) →
+        Answers words.now bytes status text → (result ≡ status) ⊎ (3 ≤ result)) }
+    ensures complete { ¬ Rose (S.faults source.old) (S.faults source.new) →
+        ¬ Rose (K.faults sink.old) (K.faults sink.new) →
+        IfSome (S.left source.old) (λ bytes. length bytes ≤ 1048576 →
+        (status : ℕ) (text : List ℕ) → Answers words.now bytes status text →
+        ((result ≡ status) × Appends (K.written sink.old) (K.written sink.new) text)
+        ⊎ (result ≡ 5)) }
+    ensures sure { IfSome (S.left source.old) (λ bytes. (status : ℕ) (text : List ℕ) →
+        Answers words.now bytes status text → K.surely_takes sink.old (length text) →
+        K.faults sink.new ≡ K.faults sink.old) }
+    ensures trace { result ≡ 0 → Asks words.now ViewForm.Trace → IfSome (S.left source.old)
+        (λ bytes. (lines : List ℕ) × IsTrace bytes (Ok lines)
+        × Appends (K.written sink.old) (K.written sink.new) lines) }
+{
+    one_view();
+    let Some(form) = ViewForm::of_words(words) else {
+        return NO_FORM;
+    };
+    let bytes = match read_all(alloc, source, MAX_INPUT) {
+        Ok(bytes) => bytes,
+        Err(ReadStop::ReadFault) => return READ_FAULT,
+        Err(ReadStop::TooLong) => return TOO_LONG,
+        Err(ReadStop::Memory(_)) => return NO_MEMORY,
+    };
+    let Ok(view) = view_of(alloc, form, &bytes) else {
+        return NO_MEMORY;
+    };
+    match write_whole(sink, &view.text) {
+        Ok(()) => view.status,
+        Err(_) => WRITE_FAULT,
+    }
+}
 
 /// Does what the words after the program's name ask for: reads a capture or a script from `source`,
 /// writes the view of it to `sink`, and answers the exit status, which is one of `bus_cli`.
@@ -37,42 +94,11 @@ pub fn view_main<S: Source, K: Sink>(
     source: &mut S,
     sink: &mut K,
 ) -> u8
-    ensures status { result ≤ 6 }
-
-    // What is written whole is the text that answers the words and the bytes.
-    ensures answer { (result ≡ 0) ⊎ (result ≡ 1) → IfSome (S.left source.old) (λ bytes.
-        (text : List ℕ) × Answers words.now bytes result text
-        × Appends (K.written sink.old) (K.written sink.new) text) }
-    ensures end { (result ≡ 0) ⊎ (result ≡ 1) ⊎ (result ≡ 4) → IsAtEnd (S.left source.new) }
-
-    // When each other status comes.
+    // The answer to the words and the bytes, which there is, is written, unless another status has
+    // its cause.
+    ensures streams { KeepsStreams S.left S.faults K.written K.faults K.surely_takes ⊥
+        (Answers words.now) result source.old source.new sink.old sink.new }
     ensures no_form { (result ≡ 2) ↔ (¬ IsForm words.now) }
-    ensures read_fault { result ≡ 3 → Rose (S.faults source.old) (S.faults source.new) }
-    ensures write_fault { result ≡ 4 → Rose (K.faults sink.old) (K.faults sink.new) }
-    ensures too_long { IfTold (S.left source.old) (S.left source.new) (λ old new.
-        (result ≡ 6) ↔ TookOver 1048576 old new) }
-
-    // What is left alone, or written in part.
-    ensures unread { result ≡ 2 → source.new ≡ source.old }
-    ensures unwritten { 2 ≤ result → result ≢ 4 → sink.new ≡ sink.old }
-    ensures part { result ≡ 4 → IfSome (S.left source.old) (λ bytes.
-        (status : ℕ) × (text : List ℕ) × Answers words.now bytes status text
-        × AppendsStart (K.written sink.old) (K.written sink.new) text) }
-
-    // The answer to the words and the bytes is given, unless another status has its cause.
-    ensures exact { IfSome (S.left source.old) (λ bytes. (status : ℕ) (text : List ℕ) →
-        Answers words.now bytes status text → (result ≡ status) ⊎ (3 ≤ result)) }
-    ensures complete { ¬ Rose (S.faults source.old) (S.faults source.new) →
-        ¬ Rose (K.faults sink.old) (K.faults sink.new) →
-        IfSome (S.left source.old) (λ bytes. length bytes ≤ 1048576 →
-        (status : ℕ) (text : List ℕ) → Answers words.now bytes status text →
-        ((result ≡ status) × Appends (K.written sink.old) (K.written sink.new) text)
-        ⊎ (result ≡ 5)) }
-
-    // A sink that surely takes the text has no fault.
-    ensures sure { IfSome (S.left source.old) (λ bytes. (status : ℕ) (text : List ℕ) →
-        Answers words.now bytes status text → K.surely_takes sink.old (length text) →
-        K.faults sink.new ≡ K.faults sink.old) }
 
     // With `trace`, what is written at status 0 is the trace of the script.
     ensures trace { result ≡ 0 → Asks words.now ViewForm.Trace → IfSome (S.left source.old)
@@ -80,20 +106,5 @@ pub fn view_main<S: Source, K: Sink>(
         × Appends (K.written sink.old) (K.written sink.new) lines) }
 {
     one_view();
-    let Some(form) = ViewForm::of_words(words) else {
-        return NO_FORM;
-    };
-    let bytes = match read_all(alloc, source, MAX_INPUT) {
-        Ok(bytes) => bytes,
-        Err(ReadStop::ReadFault) => return READ_FAULT,
-        Err(ReadStop::TooLong) => return TOO_LONG,
-        Err(ReadStop::Memory(_)) => return NO_MEMORY,
-    };
-    let Ok(view) = view_of(alloc, form, &bytes) else {
-        return NO_MEMORY;
-    };
-    match write_whole(sink, &view.text) {
-        Ok(()) => view.status,
-        Err(_) => WRITE_FAULT,
-    }
+    view_words(alloc, words, source, sink)
 }

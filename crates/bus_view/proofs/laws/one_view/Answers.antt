@@ -1,6 +1,22 @@
 use Rattle.bus_view.proofs.OneView.{one_answer}
+use Rattle.bus_view.proofs.SomeView.{some-answer}
 use Rattle.bus_view.proofs.laws.one_view.Goals as goal
 
-pub returns : goal.returns
-returns c =
-    one_answer record { trees = c.one_reading.ensures.tree; apart = c.one_reading.ensures.apart; faults = c.one_reading.ensures.fault; told = c.scripts_tell_one_thing.ensures.told; traces = c.scripts_have_one_trace.ensures.one; texts = c.scripts_have_one_trace.ensures.told }
+pub returns-clause-some : goal.returns-clause-some
+returns-clause-some c =
+    some-answer record {
+      some = c.one_reading.ensures.some;
+      run = c.each_script_has_a_run.ensures;
+      traces = c.scripts_have_one_trace.ensures.some;
+    }
+
+pub returns-clause-one : goal.returns-clause-one
+returns-clause-one c =
+    one_answer record {
+      trees = c.one_reading.ensures.tree;
+      apart = c.one_reading.ensures.apart;
+      faults = c.one_reading.ensures.fault;
+      told = c.scripts_tell_one_thing.ensures.told;
+      traces = c.scripts_have_one_trace.ensures.one;
+      texts = c.scripts_have_one_trace.ensures.told;
+    }

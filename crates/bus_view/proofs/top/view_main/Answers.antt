@@ -1,58 +1,33 @@
-use Rattle.std.proofs.Common.{◌≡◌, refl}
-use Rattle.bus_view.specs.declared.form.ViewForm.TheVariants.{Trace}
-use Rattle.bus_view.specs.Answer.{Answers, viewed}
-use Rattle.bus_cli.proofs.Answering.{part_written, whole_written, exact_status}
-use Rattle.bus_view.proofs.Ends.{written, few_status, not_six, taken_surely, trace_written}
+use Rattle.std.proofs.Common.{◌≡◌, ◌⊎◌, ◌≤◌, inl, inr, ℕ, length}
+use Rattle.std.specs.Io.KnownBytes.{Appends}
+use Rattle.bus_cli.proofs.Ends.{of_answer, of_few}
+use Rattle.bus_view.specs.Answer.{Answers}
 use Rattle.bus_view.proofs.top.view_main.Goals as goal
 
-pub returns-in-Ok-write_whole-clause-answer : goal.returns-in-Ok-write_whole-clause-answer
-returns-in-Ok-write_whole-clause-answer g c = λ which.
-    let asks = (c.in-Some.ensures c.in-Some.form).0 refl in
-    let view = rw c.deref.ensures.value at c.in-Ok-view_of.ensures in
-    let whole = rw c.deref-2.ensures.value at c.in-Ok-write_whole.ensures.ok in
-    written c.args.words.now _ _ _ c.in-Ok.bytes.items c.in-Ok-view_of.view.text.items c.in-Ok-view_of.view.status c.in-Ok.ensures.all (viewed c.in-Some.form asks view) whole
-
-pub returns-in-Ok-write_whole-clause-too_long : goal.returns-in-Ok-write_whole-clause-too_long
-returns-in-Ok-write_whole-clause-too_long g c =
-    not_six _ (g.S.Source.left c.args.source.now) (g.S.Source.left c.read_all.new.source) c.in-Ok-view_of.view.status (few_status _ _ _ _ c.in-Ok-view_of.ensures) c.in-Ok.ensures.long (λ e. cc)
-
-pub returns-in-Ok-write_whole-clause-exact : goal.returns-in-Ok-write_whole-clause-exact
-returns-in-Ok-write_whole-clause-exact g c =
-    let asks = (c.in-Some.ensures c.in-Some.form).0 refl in
-    let view = rw c.deref.ensures.value at c.in-Ok-view_of.ensures in
-    exact_status (Answers c.args.words.now) (c.one_view.ensures c.args.words.now) _ c.in-Ok.bytes.items c.in-Ok-view_of.view.text.items c.in-Ok-view_of.view.status c.in-Ok.ensures.all (viewed c.in-Some.form asks view)
-
-pub returns-in-Ok-write_whole-clause-complete : goal.returns-in-Ok-write_whole-clause-complete
-returns-in-Ok-write_whole-clause-complete g c = λ reads writes.
-    let asks = (c.in-Some.ensures c.in-Some.form).0 refl in
-    let view = rw c.deref.ensures.value at c.in-Ok-view_of.ensures in
-    let whole = rw c.deref-2.ensures.value at c.in-Ok-write_whole.ensures.ok in
-    whole_written (Answers c.args.words.now) (c.one_view.ensures c.args.words.now) _ _ _ c.in-Ok.bytes.items c.in-Ok-view_of.view.text.items c.in-Ok-view_of.view.status c.in-Ok.ensures.all (viewed c.in-Some.form asks view) whole
-
-pub returns-clause-part : goal.returns-clause-part
-returns-clause-part g c = λ four.
-    let asks = (c.in-Some.ensures c.in-Some.form).0 refl in
-    let view = rw c.deref.ensures.value at c.in-Ok-view_of.ensures in
-    let start = rw c.deref-2.ensures.value at c.in-Err.ensures.start in
-    part_written (Answers c.args.words.now) _ _ _ c.in-Ok.bytes.items c.in-Ok-view_of.view.text.items c.in-Ok-view_of.view.status c.in-Ok.ensures.all (viewed c.in-Some.form asks view) start
-
-pub returns-in-Ok-write_whole-clause-sure : goal.returns-in-Ok-write_whole-clause-sure
-returns-in-Ok-write_whole-clause-sure g c =
-    let asks = (c.in-Some.ensures c.in-Some.form).0 refl in
-    let view = rw c.deref.ensures.value at c.in-Ok-view_of.ensures in
-    let sure = rw c.deref-2.ensures.value at c.in-Ok-write_whole.ensures.sure in
-    taken_surely c.one_view.ensures c.args.words.now _ c.in-Ok.bytes.items c.in-Ok-view_of.view.text.items c.in-Ok-view_of.view.status (g.K.Sink.surely_takes c.args.sink.now) _ c.in-Ok.ensures.all (viewed c.in-Some.form asks view) (λ k. (sure k).1)
-
-pub returns-clause-sure : goal.returns-clause-sure
-returns-clause-sure g c =
-    let asks = (c.in-Some.ensures c.in-Some.form).0 refl in
-    let view = rw c.deref.ensures.value at c.in-Ok-view_of.ensures in
-    let sure = rw c.deref-2.ensures.value at c.in-Err.ensures.sure in
-    taken_surely c.one_view.ensures c.args.words.now _ c.in-Ok.bytes.items c.in-Ok-view_of.view.text.items c.in-Ok-view_of.view.status (g.K.Sink.surely_takes c.args.sink.now) _ c.in-Ok.ensures.all (viewed c.in-Some.form asks view) (λ k. (sure k).1)
-
-pub returns-in-Ok-write_whole-clause-trace : goal.returns-in-Ok-write_whole-clause-trace
-returns-in-Ok-write_whole-clause-trace g c = λ zero traces.
-    let form : c.in-Some.form ≡ Trace = let found = (c.in-Some.ensures Trace).1 traces in cc in
-    let view = rw c.deref.ensures.value at c.in-Ok-view_of.ensures in
-    let whole = rw c.deref-2.ensures.value at c.in-Ok-write_whole.ensures.ok in
-    trace_written c.args.words.now c.in-Some.form _ _ _ c.in-Ok.bytes.items c.in-Ok-view_of.view.text.items c.in-Ok-view_of.view.status form zero c.in-Ok.ensures.all view whole
+pub returns-clause-streams : goal.returns-clause-streams
+returns-clause-streams g c =
+    let is = c.view_words.ensures in
+    let status = c.view_words.result in
+    let some = c.one_view.ensures.some c.args.words.now in
+    let left = g.S.Source.left c.args.source.now in
+    let old = g.K.Sink.written c.args.sink.now in
+    let new = g.K.Sink.written c.view_words.new.sink in
+    record {
+      few = is.status;
+      answer = is.answer;
+      end = λ which read. is.end which;
+      read_fault = is.read_fault;
+      write_fault = is.write_fault;
+      too_long = is.too_long;
+      unread = λ which. is.unread (elim which [ inl two ↦ two | inr none ↦ absurd none ]);
+      unwritten = is.unwritten;
+      part = is.part;
+      exact = of_answer (Answers c.args.words.now) some left (λ s text. (status ≡ s) ⊎ (3 ≤ status)) is.exact;
+      complete = λ reads writes.
+          of_few (Answers c.args.words.now) some left
+          (λ s text. ((status ≡ s) × Appends old new text) ⊎ (status ≡ 5)) (is.complete reads writes);
+      sure =
+          of_answer (Answers c.args.words.now) some left
+          (λ s text. g.K.Sink.surely_takes c.args.sink.now (length text) → g.K.Sink.faults c.view_words.new.sink ≡ g.K.Sink.faults c.args.sink.now)
+          is.sure;
+    }

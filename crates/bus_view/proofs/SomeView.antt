@@ -1,0 +1,105 @@
+-- All words and bytes have an answer.
+use Rattle.std.proofs.Common.{◌≡◌, ◌<◌, ◌-◌, ◌⊎◌, inl, inr, ℕ, List, [], ◌∷◌, Option, Some, None, Ok, Err, length, slice_get, refl, sym, ap, ◌∙◌, arith}
+use Rattle.std.specs.Prelude.{Result, All, String}
+use Rattle.std.specs.Global.{Global}
+use Rattle.std.proofs.lemmas.Option.{slice_get_cases}
+use Rattle.quad_lanes.specs.Pairs.{quads_of}
+use Rattle.self_id.specs.declared.standard.Standard.TheVariants.{Ieee2000}
+use Rattle.self_id.specs.Node.{Node}
+use Rattle.topology_stack.specs.Tree.{Tree, walk}
+use Rattle.bus_manager.specs.codings.Reach.{reach}
+use Rattle.bus_manager.proofs.Longest.{is_hops, small}
+use Rattle.bus_cli.specs.OneReading.{EachCaptureHasATreeOrAFault}
+use Rattle.bus_cli.specs.Capture.{Spells}
+use Rattle.bus_cli.specs.Line.{fault_line, script_line}
+use Rattle.script_lines.specs.declared.kind.ScriptFault.{ScriptFault}
+use Rattle.script_told.specs.Script.{Told}
+use Rattle.script_told.specs.Run.{ScriptRun, IsRun, printed, unless_stopped, IsTold}
+use Rattle.script_bus.specs.SomeRun.{EachScriptHasARun}
+use Rattle.script_trace.specs.Trace.{IsTraceOf}
+use Rattle.script_trace.specs.OneTrace.{RunsHaveTraces}
+use Rattle.view_text.specs.Pairs.{pairs_text}
+use Rattle.view_text.specs.Drawing.{IsDrawing, IsRoot, drawing}
+use Rattle.view_text.specs.Graph.{graph}
+use Rattle.bus_view.specs.declared.form.ViewForm.{ViewForm}
+use Rattle.bus_view.specs.declared.form.ViewForm.TheVariants.{Packets, Tree as Drawn, Dot, Trace}
+use Rattle.bus_view.specs.Form.{Asks, IsForm}
+use Rattle.bus_view.specs.Sentence.{place, note}
+use Rattle.bus_view.specs.Answer.{Reading, spelt, refused, IsReading, status_of, HasText, IsCaptureView, IsTraceView, traced, at_fault, IsView, Answers, viewed, no_form}
+use Rattle.bus_view.specs.OneAnswer.{EachInputHasAView}
+use Rattle.bus_view.proofs.Forms.{form_or_none}
+use Rattle.bus_view.proofs.SomePacket.{packets-of-bytes}
+
+abbrev HasSome : (ℕ → List ℕ → Type 0) → Type 0
+HasSome Is = (s : ℕ) × (text : List ℕ) × Is s text
+
+-- ---- captures
+
+some-reading : EachCaptureHasATreeOrAFault → (bytes : List ℕ) → All (λ b. b < 256) bytes → (r : Reading) × IsReading bytes r
+some-reading some bytes fit = elim (some Ieee2000 bytes fit) [
+  | inl t ↦ (spelt t.0, t.1)
+  | inr f ↦ (refused f.0, f.1)
+]
+
+some-root : (t : Tree) → (root : Node) × IsRoot t root
+some-root t = elim (slice_get_cases (walk t) (length (walk t) - 1)).1 [
+  | inl n ↦ (n.0, n.2)
+  | inr none ↦ absurd (omega (arith, none.0, (small t).0))
+]
+
+some-drawing : (t : Tree) → (text : List ℕ) × IsDrawing t text
+some-drawing t =
+    let root = some-root t in
+    let hops : ℕ = (reach t).longest in (
+      drawing t hops root.0.attrs.gap,
+      record { hops = hops; root = root.0; are_hops = is_hops t; is_root = root.1; text_is = refl },
+    )
+
+some-text : (form : ViewForm) (bytes : List ℕ) (r : Reading) → All (λ b. b < 256) bytes → (form ≡ Trace → ⊥) → (text : List ℕ) × HasText form bytes r text
+some-text Packets bytes (spelt t) fit other =
+    let p = packets-of-bytes bytes fit in
+    (pairs_text bytes p.0 0 [], record { packets = p.0; shown = p.1; text_is = refl })
+some-text Packets bytes (refused f) fit other =
+    let p = packets-of-bytes bytes fit in
+    (pairs_text bytes p.0 (place f) (note (quads_of bytes) p.0 f), record { packets = p.0; shown = p.1; text_is = refl })
+some-text Drawn bytes (spelt t) fit other = some-drawing t
+some-text Drawn bytes (refused f) fit other = (fault_line f, refl)
+some-text Dot bytes (spelt t) fit other = (graph t, refl)
+some-text Dot bytes (refused f) fit other = (fault_line f, refl)
+some-text Trace bytes r fit other = absurd (other refl)
+
+-- what may be shown, what is said of scripts
+pub record HasSomeReading : Type 0 where
+  pub some : EachCaptureHasATreeOrAFault
+  pub run : EachScriptHasARun
+  pub traces : RunsHaveTraces
+
+module _ (have : HasSomeReading) where
+  some-capture : (form : ViewForm) (bytes : List ℕ) → All (λ b. b < 256) bytes → (form ≡ Trace → ⊥) → HasSome (IsCaptureView form bytes)
+  some-capture form bytes fit other =
+      let r = some-reading have.some bytes fit in
+      let t = some-text form bytes r.0 fit other in
+      (status_of r.0, t.0, record { reading = r.0; reads = r.1; status_is = refl; text_is = t.1 })
+
+  some-trace : (bytes : List ℕ) → HasSome (IsTraceView bytes)
+  some-trace bytes =
+      let r = have.run bytes in
+      let t = have.traces bytes r.run r.is in
+      go r.run r.is t.told t.is
+    where
+      go : (run : ScriptRun) → IsRun bytes run → (told : Told) → IsTraceOf run told → HasSome (IsTraceView bytes)
+      go run is (Ok text) traces = (0, text, traced refl (run, is, traces))
+      go run is (Err f) e = (1, script_line f, at_fault f refl (run, is, sym (ap (unless_stopped (printed run.entries)) e)) refl)
+
+  some-view : (form : ViewForm) (bytes : List ℕ) → All (λ b. b < 256) bytes → HasSome (IsView form bytes)
+  some-view Packets bytes fit = some-capture Packets bytes fit (λ e. cc)
+  some-view Drawn bytes fit = some-capture Drawn bytes fit (λ e. cc)
+  some-view Dot bytes fit = some-capture Dot bytes fit (λ e. cc)
+  some-view Trace bytes fit = some-trace bytes
+
+  pub some-answer : EachInputHasAView
+  some-answer words bytes fit = go (form_or_none words)
+    where
+      go : IsForm words ⊎ (IsForm words → ⊥) → HasSome (Answers words bytes)
+      go (inl f) = let a = some-view f.0 bytes fit in (a.0, a.1, viewed f.0 f.1 a.2)
+      go (inr none) = (2, [], no_form none refl refl)
