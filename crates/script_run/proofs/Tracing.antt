@@ -2,7 +2,6 @@
 use Rattle.std.proofs.Common.{◌≡◌, inl, inr, Bool, true, Option, ℕ, ◌+◌, List, [], ◌∷◌, ◌++◌, refl, sym, ap, subst, ◌∙◌}
 use Rattle.std.specs.Prelude.{None, Some, Ok, Err}
 use Rattle.script_lines.specs.declared.command.Command.{Command}
-use Rattle.script_lines.specs.declared.command.Command.TheVariants as command
 use Rattle.script_lines.specs.declared.kind.Kind.{Kind}
 use Rattle.script_lines.specs.declared.kind.LineStop.{LineStop}
 use Rattle.script_lines.specs.declared.kind.LineStop.TheVariants.{Fault, Memory}
@@ -10,15 +9,14 @@ use Rattle.script_lines.specs.declared.kind.ScriptStop.{ScriptStop}
 use Rattle.script_lines.specs.declared.kind.ScriptStop.TheVariants as script
 use Rattle.script_told.specs.Bus.{Bus}
 use Rattle.script_told.specs.Step.{Settles}
-use Rattle.script_told.specs.Script.{Stage, fresh, running, declaring, Told, bus_of, behind, fault_at, script_lines}
-use Rattle.script_trace.specs.Trace.{TracesAt, TracesFrom, IsTrace, quiet_trace}
+use Rattle.script_told.specs.Script.{Stage, fresh, running, Told, bus_of, behind, fault_at, script_lines}
+use Rattle.script_trace.specs.Trace.{TracesFrom, IsTrace, quiet_trace}
 use Rattle.script_trace.specs.OneTrace.{TraceFaultsAreTold}
 use Rattle.script_bus.specs.Running.{Stops}
 use Rattle.script_bus.specs.Heard.{Hears}
-use Rattle.script_bus.proofs.Hearing.{none-heard}
 use Rattle.script_run.specs.Answered.{StopsWith, IsRefused}
 use Rattle.script_run.specs.codings.Going.{LineFails, IfFault, stop_at}
-use Rattle.script_run.specs.codings.Tracing.{HearsAt, LineTraces, LeavesTrace}
+use Rattle.script_run.specs.codings.Tracing.{LineTraces, LeavesTrace}
 use Rattle.script_run.proofs.Going.{behind-behind, nothing-before}
 
 -- a line is taken, and the rest is traced
@@ -99,36 +97,3 @@ pub refused-too :
     IsRefused bytes r
 refused-too told bytes (script.Fault fault) h = told bytes fault h
 refused-too told bytes (script.Memory e) h = tt
-
--- ---- commands that declare
-
-abbrev IsDeclaration : Command → Type 0
-IsDeclaration (command.Node name ports speed link contender force power gap hold short long word len seed packed) = Unit {0}
-IsDeclaration (command.Delay delay) = Unit {0}
-IsDeclaration c = ⊥
-
-quiet :
-    (stage next : Stage) (c : Command) → IsDeclaration c → TracesAt stage c next []
-quiet stage next (command.Node name ports speed link contender force power gap hold short long word len seed packed) is = node next
-  where
-    node : (next : Stage) → TracesAt stage (command.Node name ports speed link contender force power gap hold short long word len seed packed) next []
-    node (running after) = refl
-    node fresh = refl
-    node (declaring draft) = refl
-quiet stage next (command.Delay delay) is = said next
-  where
-    said : (next : Stage) → TracesAt stage (command.Delay delay) next []
-    said (running after) = refl
-    said fresh = refl
-    said (declaring draft) = refl
-quiet stage next c is = absurd is
-
--- nothing is heard where a node is declared or the delay is said
-pub declares-quietly :
-    (writes : Bool) (stage next : Stage) (command : Command) (out : List ℕ) →
-    IsDeclaration command → HearsAt writes stage command next out out
-declares-quietly writes stage next command out is = record {
-  lines = [];
-  traces = quiet stage next command is;
-  written = none-heard writes out;
-}
