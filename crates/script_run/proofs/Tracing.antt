@@ -1,5 +1,5 @@
 -- The lines that were traced, and those that are left.
-use Rattle.std.proofs.Common.{◌≡◌, inl, inr, Bool, true, Option, ℕ, ◌+◌, List, [], ◌∷◌, ◌++◌, refl, sym, ap, subst, ◌∙◌}
+use Rattle.std.proofs.Common.{◌≡◌, inl, inr, true, ℕ, ◌+◌, List, [], ◌∷◌, ◌++◌, refl, sym, ap, subst, ◌∙◌}
 use Rattle.std.specs.Prelude.{None, Some, Ok, Err}
 use Rattle.script_lines.specs.declared.command.Command.{Command}
 use Rattle.script_lines.specs.declared.kind.Kind.{Kind}
@@ -9,7 +9,7 @@ use Rattle.script_lines.specs.declared.kind.ScriptStop.{ScriptStop}
 use Rattle.script_lines.specs.declared.kind.ScriptStop.TheVariants as script
 use Rattle.script_told.specs.Bus.{Bus}
 use Rattle.script_told.specs.Step.{Settles}
-use Rattle.script_told.specs.Script.{Stage, fresh, running, Told, bus_of, behind, fault_at, script_lines}
+use Rattle.script_told.specs.Script.{Stage, fresh, Told, bus_of, behind, fault_at, script_lines}
 use Rattle.script_trace.specs.Trace.{TracesFrom, IsTrace, quiet_trace}
 use Rattle.script_trace.specs.OneTrace.{TraceFaultsAreTold}
 use Rattle.script_bus.specs.Running.{Stops}
