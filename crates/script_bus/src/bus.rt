@@ -134,6 +134,16 @@ impl Notes {
 }
 
 impl<W: WorldRun> Bus<W> {
+    /// By how many turns a cable delays a signal at most.
+    pub fn delay(&self) -> u8
+        requires { IsSound W.world W.is_spent self.now }
+        ensures value { result ≡ (W.world self.now.world).delay }
+        ensures some { 1 ≤ result }
+        ensures few { result ≤ 16 }
+    {
+        self.world.delay()
+    }
+
     /// Does an act.
     pub(crate) fn act(&mut self, alloc: Global, act: &Act) -> Result<Vec<u8>, LineStop>
         requires act { IsAct act.now }

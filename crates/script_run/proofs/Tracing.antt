@@ -1,9 +1,8 @@
 -- The lines that were traced, and those that are left.
-use Rattle.std.proofs.Common.{◌≡◌, inl, inr, Bool, true, Option, ℕ, ◌+◌, List, [], ◌∷◌, ◌++◌, append_assoc, refl, sym, ap, subst, ◌∙◌}
+use Rattle.std.proofs.Common.{◌≡◌, inl, inr, true, ℕ, ◌+◌, List, [], ◌∷◌, ◌++◌, append_assoc, refl, sym, ap, subst, ◌∙◌}
 use Rattle.std.specs.Prelude.{None, Some, Ok, Err}
 use Rattle.std.proofs.lemmas.List.{append-nil}
 use Rattle.script_lines.specs.declared.command.Command.{Command}
-use Rattle.script_lines.specs.declared.command.Command.TheVariants as command
 use Rattle.script_lines.specs.declared.kind.Kind.{Kind}
 use Rattle.script_lines.specs.declared.kind.LineStop.{LineStop}
 use Rattle.script_lines.specs.declared.kind.LineStop.TheVariants.{Fault, Memory}
@@ -11,16 +10,15 @@ use Rattle.script_lines.specs.declared.kind.ScriptStop.{ScriptStop}
 use Rattle.script_lines.specs.declared.kind.ScriptStop.TheVariants as script
 use Rattle.script_told.specs.Bus.{Bus}
 use Rattle.script_told.specs.Step.{Settles}
-use Rattle.script_told.specs.Script.{Stage, fresh, running, declaring, bus_of, script_lines}
+use Rattle.script_told.specs.Script.{Stage, fresh, running, bus_of, script_lines}
 use Rattle.script_told.specs.Run.{Entry, done, stopped, behind, last_run, RunsFrom}
 use Rattle.script_trace.specs.Trace.{TracesAt, AllTrace, IsTrace}
 use Rattle.script_trace.specs.OneTrace.{TraceFaultsAreTold}
 use Rattle.script_bus.specs.Running.{Stops}
 use Rattle.script_bus.specs.Heard.{Hears}
-use Rattle.script_bus.proofs.Hearing.{none-heard}
 use Rattle.script_run.specs.Answered.{StopsWith, IsRefused}
 use Rattle.script_run.specs.codings.Going.{LineFails, IfFault, Went, stop_at}
-use Rattle.script_run.specs.codings.Tracing.{HearsAt, LineTraces, HaveTraced}
+use Rattle.script_run.specs.codings.Tracing.{LineTraces, HaveTraced}
 use Rattle.script_run.proofs.Going.{went-first, went-on, line-fails, run-ends}
 
 all-traced :
@@ -96,9 +94,9 @@ trace-refused bytes entries number line lines all stage (Memory e) r cut is wron
 pub trace-ends :
     (bytes out new : List ℕ) (number : ℕ) (stage : Stage) (after : Bus) (text : List ℕ) →
     HaveTraced bytes out number [] stage → Settles (bus_of stage) (Ok (after, text)) →
-    Hears true (bus_of stage) command.Settle after out new → IsTrace bytes (Ok new)
+    Hears true (bus_of stage) Command.Settle after out new → IsTrace bytes (Ok new)
 trace-ends bytes out new number stage after text have settles h =
-    let entry : Entry = done number stage command.Settle (running after) text in (
+    let entry : Entry = done number stage Command.Settle (running after) text in (
       behind have.entries (last_run number stage (Ok (after, text))),
       run-ends bytes have.entries number stage after text have.went settles,
       (
@@ -124,36 +122,3 @@ pub refused-too :
     IsRefused bytes r
 refused-too told bytes (script.Fault fault) h = told bytes fault h
 refused-too told bytes (script.Memory e) h = tt
-
--- ---- commands that declare
-
-abbrev IsDeclaration : Command → Type 0
-IsDeclaration (command.Node name ports speed link contender force power gap hold short long word len seed packed) = Unit {0}
-IsDeclaration (command.Delay delay) = Unit {0}
-IsDeclaration c = ⊥
-
-quiet :
-    (stage next : Stage) (c : Command) → IsDeclaration c → TracesAt stage c next []
-quiet stage next (command.Node name ports speed link contender force power gap hold short long word len seed packed) is = node next
-  where
-    node : (next : Stage) → TracesAt stage (command.Node name ports speed link contender force power gap hold short long word len seed packed) next []
-    node (running after) = refl
-    node fresh = refl
-    node (declaring draft) = refl
-quiet stage next (command.Delay delay) is = said next
-  where
-    said : (next : Stage) → TracesAt stage (command.Delay delay) next []
-    said (running after) = refl
-    said fresh = refl
-    said (declaring draft) = refl
-quiet stage next c is = absurd is
-
--- nothing is heard where a node is declared or the delay is said
-pub declares-quietly :
-    (writes : Bool) (stage next : Stage) (command : Command) (out : List ℕ) →
-    IsDeclaration command → HearsAt writes stage command next out out
-declares-quietly writes stage next command out is = record {
-  lines = [];
-  traces = quiet stage next command is;
-  written = none-heard writes out;
-}

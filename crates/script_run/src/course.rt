@@ -23,7 +23,7 @@ use world_agenda::AgendaWorld;
 /// A script that is gone through, between two of its lines. In a contract it is its stage.
 #[derive(Drop)]
 pub(crate) struct Course {
-    stage: Stage<AgendaWorld<AnyMachine>>,
+    pub(crate) stage: Stage<AgendaWorld<AnyMachine>>,
 }
 
 impl Model for Course {
@@ -67,11 +67,11 @@ impl Course {
             × (out.new.items ≡ out.old.items ++ text)) }
         ensures stop { IfErr result (IfFault (LineFails self.old line.now)) }
     {
-        let d = self.stage.delay();
+        let d = self.delay();
         let Some(command) = parse_line(alloc, line, d)? else {
             return Ok(());
         };
-        let text = self.stage.follow(alloc, d, command, &mut Silent)?;
+        let text = self.follow(alloc, d, command, &mut Silent)?;
         out.extend_from_slice(text.as_slice())?;
         Ok(())
     }
@@ -82,7 +82,7 @@ impl Course {
             × Settles (bus_of self) (Ok (bus, text.items))) }
         ensures stop { IfErr result (Stops (Settles (bus_of self))) }
     {
-        self.stage.bus(alloc)?.last_report(alloc, &mut Silent)
+        self.bus(alloc)?.last_report(alloc, &mut Silent)
     }
 
     /// The bus after the `settle` behind the last line.
@@ -95,7 +95,7 @@ impl Course {
         ensures reported { IfOk result (λ bus. IsSomeAnd bus.notes.report
             (IsReport (⟦<AgendaWorld<AnyMachine> as WorldRun>⟧.world bus.world))) }
     {
-        let mut bus = self.stage.bus(alloc)?;
+        let mut bus = self.bus(alloc)?;
         bus.settle(alloc, &mut Silent)?;
         Ok(bus)
     }
@@ -115,11 +115,11 @@ impl Course {
             × (out.new.items ≡ out.old.items ++ lines)) }
         ensures stop { IfErr result (IfFault (LineFails self.old line.now)) }
     {
-        let d = self.stage.delay();
+        let d = self.delay();
         let Some(command) = parse_line(alloc, line, d)? else {
             return Ok(());
         };
-        self.stage.follow(alloc, d, command, out)?;
+        self.follow(alloc, d, command, out)?;
         Ok(())
     }
 
@@ -130,7 +130,7 @@ impl Course {
             × Hears true (bus_of self) command.Settle after out.old.items out.new.items) }
         ensures stop { IfErr result (Stops (Settles (bus_of self))) }
     {
-        self.stage.bus(alloc)?.last_report(alloc, out)?;
+        self.bus(alloc)?.last_report(alloc, out)?;
         Ok(())
     }
 }

@@ -4,9 +4,9 @@ ghost use Rattle.script_lines.specs.Range.{IsInRange};
 ghost use Rattle.script_told.specs.Script.{Declares, Delays, Follows, Runs, bus_of, delay_of, draft_of};
 ghost use Rattle.script_bus.specs.Running.{bus_now, IsSound, Stops};
 ghost use Rattle.script_run.specs.codings.Declaring.{IsDraft, IsLine, draft_now, node_said};
-ghost use Rattle.script_run.specs.codings.Going.{stage_now, IsSoundStage};
 ghost use Rattle.script_run.specs.codings.Tracing.{HearsAt};
 
+use crate::course::Course;
 use crate::draft::{Draft, GivenCoins, GivenTimes, NodeLine};
 use cable_world::WorldRun;
 use phy_machine::AnyMachine;
@@ -32,34 +32,28 @@ pub(crate) enum Stage<W> {
     Running(Bus<W>),
 }
 
-impl<W: WorldRun> Stage<W> {
+impl Course {
     /// By how many turns a cable delays a signal at most.
     pub fn delay(&self) -> u8
-        requires { IsSoundStage W.world W.is_spent self.now }
-        ensures value { result ≡ delay_of (stage_now W.world self.now) }
+        ensures value { result ≡ delay_of self.now }
         ensures some { 1 ≤ result }
         ensures few { result ≤ 16 }
     {
-        match self {
+        match &self.stage {
             Stage::Fresh => USUAL_DELAY,
             Stage::Declaring(draft) => draft.delay,
-            Stage::Running(bus) => bus.world.delay(),
+            Stage::Running(bus) => bus.delay(),
         }
     }
-}
 
-impl Stage<AgendaWorld<AnyMachine>> {
     /// The bus that runs from here on.
     pub fn bus(self, alloc: Global) -> Result<Bus<AgendaWorld<AnyMachine>>, OutOfMemory>
-        requires { IsSoundStage ⟦<AgendaWorld<AnyMachine> as WorldRun>⟧.world
-            ⟦<AgendaWorld<AnyMachine> as WorldRun>⟧.is_spent self }
         ensures value { IfOk result (λ bus.
-            bus_now ⟦<AgendaWorld<AnyMachine> as WorldRun>⟧.world bus
-            ≡ bus_of (stage_now ⟦<AgendaWorld<AnyMachine> as WorldRun>⟧.world self)) }
+            bus_now ⟦<AgendaWorld<AnyMachine> as WorldRun>⟧.world bus ≡ bus_of self) }
         ensures sound { IfOk result (IsSound ⟦<AgendaWorld<AnyMachine> as WorldRun>⟧.world
             ⟦<AgendaWorld<AnyMachine> as WorldRun>⟧.is_spent) }
     {
-        match self {
+        match self.stage {
             Stage::Fresh => Draft::new(alloc, USUAL_DELAY).bus(alloc),
             Stage::Declaring(draft) => draft.bus(alloc),
             Stage::Running(bus) => Ok(bus),
@@ -68,19 +62,13 @@ impl Stage<AgendaWorld<AnyMachine>> {
 
     /// What is declared so far, where declarations are taken.
     fn draft(self, alloc: Global) -> Result<Draft, LineStop>
-        requires { IsSoundStage ⟦<AgendaWorld<AnyMachine> as WorldRun>⟧.world
-            ⟦<AgendaWorld<AnyMachine> as WorldRun>⟧.is_spent self }
-        ensures value { IfOk result (λ draft. draft_of
-            (stage_now ⟦<AgendaWorld<AnyMachine> as WorldRun>⟧.world self)
-            ≡ Some (draft_now draft)) }
+        ensures value { IfOk result (λ draft. draft_of self ≡ Some (draft_now draft)) }
         ensures sound { IfOk result IsDraft }
-        ensures delay { IfOk result (λ draft. draft.delay
-            ≡ delay_of (stage_now ⟦<AgendaWorld<AnyMachine> as WorldRun>⟧.world self)) }
+        ensures delay { IfOk result (λ draft. draft.delay ≡ delay_of self) }
         ensures late { IfErr result (λ stop. (stop ≡ LineStop.Fault Kind.Late)
-            × (draft_of (stage_now ⟦<AgendaWorld<AnyMachine> as WorldRun>⟧.world self)
-            ≡ None)) }
+            × (draft_of self ≡ None)) }
     {
-        match self {
+        match self.stage {
             Stage::Fresh => Ok(Draft::new(alloc, USUAL_DELAY)),
             Stage::Declaring(draft) => Ok(draft),
             Stage::Running(_) => Err(LineStop::Fault(Kind::Late)),
@@ -89,54 +77,16 @@ impl Stage<AgendaWorld<AnyMachine>> {
 
     /// A node is declared, where declarations are taken.
     fn declare(&mut self, alloc: Global, line: NodeLine) -> Result<Vec<u8>, LineStop>
-        requires sound { IsSoundStage ⟦<AgendaWorld<AnyMachine> as WorldRun>⟧.world
-            ⟦<AgendaWorld<AnyMachine> as WorldRun>⟧.is_spent self.old }
-        requires line { IsLine (delay_of
-            (stage_now ⟦<AgendaWorld<AnyMachine> as WorldRun>⟧.world self.old)) line }
-        ensures done { IfOk result (λ text.
-            Declares (draft_of (stage_now ⟦<AgendaWorld<AnyMachine> as WorldRun>⟧.world self.old))
-            line.name (node_said line)
-            (Ok (stage_now ⟦<AgendaWorld<AnyMachine> as WorldRun>⟧.world self.new, text.items))) }
-        ensures stop { IfErr result (Stops
-            (Declares (draft_of (stage_now ⟦<AgendaWorld<AnyMachine> as WorldRun>⟧.world self.old))
-            line.name (node_said line))) }
-        ensures sound { IsSoundStage ⟦<AgendaWorld<AnyMachine> as WorldRun>⟧.world
-            ⟦<AgendaWorld<AnyMachine> as WorldRun>⟧.is_spent self.new }
+        requires { IsLine (delay_of self.old) line }
+        ensures done { IfOk result (λ text. Declares (draft_of self.old) line.name (node_said line)
+            (Ok (self.new, text.items))) }
+        ensures stop { IfErr result
+            (Stops (Declares (draft_of self.old) line.name (node_said line))) }
     {
-        let stage = mem::replace(self, Stage::Fresh);
-        let draft = stage.draft(alloc)?.declare(line)?;
-        *self = Stage::Declaring(draft);
+        let course = mem::replace(self, Course::new());
+        let draft = course.draft(alloc)?.declare(line)?;
+        self.stage = Stage::Declaring(draft);
         Ok(Vec::new(alloc))
-    }
-
-    /// The first command that runs the bus.
-    fn begin<L: Listener>(
-        &mut self,
-        alloc: Global,
-        d: u8,
-        command: &Command,
-        listener: &mut L,
-    ) -> Result<Vec<u8>, LineStop>
-        requires sound { IsSoundStage ⟦<AgendaWorld<AnyMachine> as WorldRun>⟧.world
-            ⟦<AgendaWorld<AnyMachine> as WorldRun>⟧.is_spent self.old }
-        requires range { IsInRange d command.now }
-        ensures done { IfOk result (λ text.
-            Runs (stage_now ⟦<AgendaWorld<AnyMachine> as WorldRun>⟧.world self.old) command.now
-            (Ok (stage_now ⟦<AgendaWorld<AnyMachine> as WorldRun>⟧.world self.new, text.items))) }
-        ensures heard { OnOk result (HearsAt L.writes
-            (stage_now ⟦<AgendaWorld<AnyMachine> as WorldRun>⟧.world self.old) command.now
-            (stage_now ⟦<AgendaWorld<AnyMachine> as WorldRun>⟧.world self.new)
-            (L.written listener.old) (L.written listener.new)) }
-        ensures stop { IfErr result (Stops
-            (Runs (stage_now ⟦<AgendaWorld<AnyMachine> as WorldRun>⟧.world self.old)
-            command.now)) }
-        ensures sound { IsSoundStage ⟦<AgendaWorld<AnyMachine> as WorldRun>⟧.world
-            ⟦<AgendaWorld<AnyMachine> as WorldRun>⟧.is_spent self.new }
-    {
-        let mut bus = mem::replace(self, Stage::Fresh).bus(alloc)?;
-        let text = bus.command(alloc, d, command, listener)?;
-        *self = Stage::Running(bus);
-        Ok(text)
     }
 
     /// A command that runs the bus.
@@ -147,52 +97,31 @@ impl Stage<AgendaWorld<AnyMachine>> {
         command: &Command,
         listener: &mut L,
     ) -> Result<Vec<u8>, LineStop>
-        requires sound { IsSoundStage ⟦<AgendaWorld<AnyMachine> as WorldRun>⟧.world
-            ⟦<AgendaWorld<AnyMachine> as WorldRun>⟧.is_spent self.old }
         requires range { IsInRange d command.now }
         ensures done { IfOk result (λ text.
-            Runs (stage_now ⟦<AgendaWorld<AnyMachine> as WorldRun>⟧.world self.old) command.now
-            (Ok (stage_now ⟦<AgendaWorld<AnyMachine> as WorldRun>⟧.world self.new, text.items))) }
-        ensures heard { OnOk result (HearsAt L.writes
-            (stage_now ⟦<AgendaWorld<AnyMachine> as WorldRun>⟧.world self.old) command.now
-            (stage_now ⟦<AgendaWorld<AnyMachine> as WorldRun>⟧.world self.new)
+            Runs self.old command.now (Ok (self.new, text.items))) }
+        ensures heard { OnOk result (HearsAt L.writes self.old command.now self.new
             (L.written listener.old) (L.written listener.new)) }
-        ensures stop { IfErr result (Stops
-            (Runs (stage_now ⟦<AgendaWorld<AnyMachine> as WorldRun>⟧.world self.old)
-            command.now)) }
-        ensures sound { IsSoundStage ⟦<AgendaWorld<AnyMachine> as WorldRun>⟧.world
-            ⟦<AgendaWorld<AnyMachine> as WorldRun>⟧.is_spent self.new }
+        ensures stop { IfErr result (Stops (Runs self.old command.now)) }
     {
-        let Stage::Running(bus) = self else {
-            return self.begin(alloc, d, command, listener);
-        };
-        match bus.command(alloc, d, command, listener) {
-            Ok(text) => Ok(text),
-            Err(stop) => {
-                *self = Stage::Fresh;
-                Err(stop)
-            }
-        }
+        let mut bus = mem::replace(self, Course::new()).bus(alloc)?;
+        let text = bus.command(alloc, d, command, listener)?;
+        self.stage = Stage::Running(bus);
+        Ok(text)
     }
 
     /// The delay is said.
     fn say_delay(&mut self, alloc: Global, delay: u8) -> Result<Vec<u8>, LineStop>
-        requires sound { IsSoundStage ⟦<AgendaWorld<AnyMachine> as WorldRun>⟧.world
-            ⟦<AgendaWorld<AnyMachine> as WorldRun>⟧.is_spent self.old }
         requires some { 1 ≤ delay }
         requires few { delay ≤ 16 }
         ensures done { IfOk result (λ text.
-            Delays (stage_now ⟦<AgendaWorld<AnyMachine> as WorldRun>⟧.world self.old) delay
-            (Ok (stage_now ⟦<AgendaWorld<AnyMachine> as WorldRun>⟧.world self.new, text.items))) }
-        ensures stop { IfErr result (Stops
-            (Delays (stage_now ⟦<AgendaWorld<AnyMachine> as WorldRun>⟧.world self.old) delay)) }
-        ensures sound { IsSoundStage ⟦<AgendaWorld<AnyMachine> as WorldRun>⟧.world
-            ⟦<AgendaWorld<AnyMachine> as WorldRun>⟧.is_spent self.new }
+            Delays self.old delay (Ok (self.new, text.items))) }
+        ensures stop { IfErr result (Stops (Delays self.old delay)) }
     {
-        if !matches!(self, Stage::Fresh) {
+        if !matches!(self.stage, Stage::Fresh) {
             return Err(LineStop::Fault(Kind::Late));
         }
-        *self = Stage::Declaring(Draft::new(alloc, delay));
+        self.stage = Stage::Declaring(Draft::new(alloc, delay));
         Ok(Vec::new(alloc))
     }
 
@@ -205,22 +134,12 @@ impl Stage<AgendaWorld<AnyMachine>> {
         command: Command,
         listener: &mut L,
     ) -> Result<Vec<u8>, LineStop>
-        requires sound { IsSoundStage ⟦<AgendaWorld<AnyMachine> as WorldRun>⟧.world
-            ⟦<AgendaWorld<AnyMachine> as WorldRun>⟧.is_spent self.old }
-        requires delay { d ≡ delay_of
-            (stage_now ⟦<AgendaWorld<AnyMachine> as WorldRun>⟧.world self.old) }
+        requires delay { d ≡ delay_of self.old }
         requires range { IsInRange d command }
-        ensures done { IfOk result (λ text.
-            Follows (stage_now ⟦<AgendaWorld<AnyMachine> as WorldRun>⟧.world self.old) command
-            (Ok (stage_now ⟦<AgendaWorld<AnyMachine> as WorldRun>⟧.world self.new, text.items))) }
-        ensures heard { OnOk result (HearsAt L.writes
-            (stage_now ⟦<AgendaWorld<AnyMachine> as WorldRun>⟧.world self.old) command
-            (stage_now ⟦<AgendaWorld<AnyMachine> as WorldRun>⟧.world self.new)
+        ensures done { IfOk result (λ text. Follows self.old command (Ok (self.new, text.items))) }
+        ensures heard { OnOk result (HearsAt L.writes self.old command self.new
             (L.written listener.old) (L.written listener.new)) }
-        ensures stop { IfErr result (Stops
-            (Follows (stage_now ⟦<AgendaWorld<AnyMachine> as WorldRun>⟧.world self.old) command)) }
-        ensures sound { IsSoundStage ⟦<AgendaWorld<AnyMachine> as WorldRun>⟧.world
-            ⟦<AgendaWorld<AnyMachine> as WorldRun>⟧.is_spent self.new }
+        ensures stop { IfErr result (Stops (Follows self.old command)) }
     {
         match command {
             Command::Node {

@@ -1,5 +1,5 @@
 -- The nodes that a script declares, as the code keeps them.
-use Rattle.std.specs.Prelude.{◌≡◌, ℕ, ◌≤◌, All, false, length, map, Ok, Err, Some, []}
+use Rattle.std.specs.Prelude.{◌≡◌, ℕ, ◌≤◌, All, length, map, Ok, Some, []}
 use Rattle.phy_machine.specs.Any.{any_node}
 use Rattle.port_state.specs.Machine.{PortNode}
 use Rattle.cable_world.specs.World.{IsNodeAtPowerOn}

@@ -10,11 +10,11 @@ use Rattle.script_run.specs.codings.Going.{Went}
 
 -- a command led from a stage to the next, and a listener added what happened in it to its text
 pub record HearsAt
-    (writes : Bool) (stage : Stage) (command : Command) (next : Stage) (out new : List ℕ) : Type 0
-  where
-    pub lines : List ℕ
-    pub traces : TracesAt stage command next lines
-    pub written : new ≡ out ++ heard writes lines
+    (writes : Bool) (stage : Stage) (command : Command) (next : Stage) (out new : List ℕ) :
+    Type 0 where
+  pub lines : List ℕ
+  pub traces : TracesAt stage command next lines
+  pub written : new ≡ out ++ heard writes lines
 
 -- a line leads from a stage to the next, and this happens
 abbrev pub LineTraces : Stage → List ℕ → Stage → List ℕ → Type 0

@@ -10,4 +10,4 @@ pub returns-clause-traced : goal.returns-clause-traced
 returns-clause-traced c =
     let taken = c.in_ok-course.field-0 in
     let done = c.in-Ok.ensures.done in
-    trace-ends c.args.bytes.now taken.text.items _ taken.number taken.course done.0 done.1 c.in_ok-course.ensures.lines done.2.0 done.2.1
+    trace-ends c.args.bytes.now taken.text.items _ taken.number taken.course done.0 done.1 c.in_ok-course.ensures.lines done.2 done.3
