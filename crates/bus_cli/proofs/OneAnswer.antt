@@ -216,14 +216,21 @@ module _ (have : HasSomeReading) where
       r = have.run bytes
 
       go : (end : Result Bus ScriptFault) → r.run.end ≡ end → HasSome (AnswersRun bytes)
-      go (Ok bus) e = (0, printed r.run.entries, inl (refl, record {
-        run = r.run;
-        is = r.is;
-        bus = bus;
-        ends = e;
-        text_is = refl;
-        settled = have.settled bytes r.run r.is;
-      }))
+      go (Ok bus) e = (
+        0,
+        printed r.run.entries,
+        inl (
+          refl,
+          record {
+            run = r.run;
+            is = r.is;
+            bus = bus;
+            ends = e;
+            text_is = refl;
+            settled = have.settled bytes r.run r.is;
+          },
+        ),
+      )
       go (Err f) e = (1, script_line f, inr (refl, (f, (r.run, r.is, sym (ap (unless_stopped (printed r.run.entries)) e)), refl)))
 
   some_advice : (bytes : List ℕ) → HasSome (AnswersAdvice bytes)
@@ -241,15 +248,25 @@ module _ (have : HasSomeReading) where
       let script : List ℕ = made_script nodes seed in
       let r : HasRun script = have.run script in
       let end = have.made nodes seed r.run few r.is in
-      let whole : List ℕ = printed r.run.entries in
-      (0, summary whole, (refl, (whole, record {
-        run = r.run;
-        is = r.is;
-        bus = end.0;
-        ends = end.1;
-        text_is = refl;
-        settled = have.settled script r.run r.is;
-      }, refl)))
+      let whole : List ℕ = printed r.run.entries in (
+        0,
+        summary whole,
+        (
+          refl,
+          (
+            whole,
+            record {
+              run = r.run;
+              is = r.is;
+              bus = end.0;
+              ends = end.1;
+              text_is = refl;
+              settled = have.settled script r.run r.is;
+            },
+            refl,
+          ),
+        ),
+      )
 
   some_form : (words : List (String Global)) (form : Form) → Asks words form → (bytes : List ℕ) → All (λ b. b < 256) bytes → HasSome (AnswersForm form bytes)
   some_form words (Capture Read) asks bytes fit = some_read Ieee2000 bytes fit

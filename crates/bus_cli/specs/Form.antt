@@ -43,7 +43,6 @@ Asks words form = AreWordsOf form (map string_bytes words)
 abbrev pub IsForm : List (String Global) → Type 0
 IsForm words = (form : Form) × Asks words form
 
-
 -- the words ask for the script of some nodes and seed to be made
 abbrev pub AsksMake : List (String Global) → Type 0
 AsksMake words = (nodes : ℕ) × (seed : ℕ) × Asks words (Make nodes seed)

@@ -18,7 +18,7 @@ pub use capture::read_capture;
 pub use fault::{CaptureFault, CaptureStop};
 pub use form::{CaptureForm, Form, USAGE};
 pub use input::MAX_INPUT;
-pub use laws::{one_outcome, one_reading};
+pub use laws::{one_answer, one_reading};
 pub use line::{FaultLine, fault_line, script_line};
 pub use status::{NO_FORM, NO_MEMORY, READ_FAULT, REFUSED, TOO_LONG, VALID, WRITE_FAULT};
 pub use top::bus_main;
