@@ -4,20 +4,25 @@
 pub const HELP: &str = "\
 busview shows FireWire cable buses to people at a bench (IEEE Std 1394a-2000).
 
-usage: busview packets < CAPTURE   each self-ID packet field by field, and below the pair at fault what is wrong
-       busview tree < CAPTURE      the tree of the bus as a drawing, its hops, and whether the gap counts agree
-       busview dot < CAPTURE       the tree as a graph for Graphviz
-       busview trace < SCRIPT      what happens on the bus of a script: states, roles, coins, IDs, signals
-       busview --help, -h          this text
-       busview --version           the version, the kit that proved it, and the standards
+busview packets < CAPTURE  each packet field by field, and what is wrong where
+busview tree < CAPTURE     the tree of the bus as a drawing
+busview dot < CAPTURE      the tree of the bus as a graph for Graphviz
+busview trace < SCRIPT     what happens on the bus of a script, turn by turn
+busview --help, -h         this text
+busview --version          the version, its kit, and the standards
 
-A capture is the self-ID packets of one bus reset, each as a big-endian quadlet and its bitwise inverse.
-Input is at most 1,048,576 bytes. Answers, refusals too, go to standard output.
+A capture is the self-ID packets of one bus reset, each as a big-endian quadlet
+and its bitwise inverse. Input is at most 1,048,576 bytes. Answers, refusals
+too, go to standard output.
 
-status 0  the input is valid                 status 4  standard output couldn't be written
-       1  the input is refused                      5  there was no memory
-       2  the words are none of these forms         6  the input is too long
-       3  standard input couldn't be read
+Status: 0 the input is valid
+        1 the input is refused
+        2 the words are none of these forms
+        3 standard input can't be read
+        4 standard output can't be written
+        5 there is no memory
+        6 the input is too long
 
-Pages: man busview; in the sources README.md and docs: VIEW.md, CAPTURES.md, SCRIPTS.md.
+Pages: man busview. In the sources: README.md, docs/VIEW.md,
+docs/CAPTURES.md, docs/SCRIPTS.md.
 ";
