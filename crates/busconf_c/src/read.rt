@@ -35,6 +35,7 @@ fn read_list(
     ensures answer { Answers year quads.now fault.old fault.new result
         (λ t. TellsNodes t nodes.old nodes.new bus.new result) }
     ensures kept { result ≢ VALID → nodes.new ≡ nodes.old }
+    ensures bus_kept { result ≢ VALID → result ≢ TOO_SHORT → bus.new ≡ bus.old }
 {
     match tree_of(alloc, quads, year, fault) {
         Ok(tree) => show(&tree, nodes, bus),
@@ -55,6 +56,7 @@ pub extern "C" fn busconf_read(
     ensures answer { Answers year quads.now fault.old fault.new result
         (λ t. TellsNodes t nodes.old nodes.new bus.new result) }
     ensures kept { result ≢ VALID → nodes.new ≡ nodes.old }
+    ensures bus_kept { result ≢ VALID → result ≢ TOO_SHORT → bus.new ≡ bus.old }
 {
     read_list(alloc, quads, year, nodes, bus, fault)
 }
@@ -95,6 +97,7 @@ pub extern "C" fn busconf_read_capture(
     ensures answer { AnswersCapture year bytes.now fault.old fault.new result
         (λ t. TellsNodes t nodes.old nodes.new bus.new result) }
     ensures kept { result ≢ VALID → nodes.new ≡ nodes.old }
+    ensures bus_kept { result ≢ VALID → result ≢ TOO_SHORT → bus.new ≡ bus.old }
 {
     match list_of(alloc, bytes, fault) {
         Ok(list) => read_list(alloc, list.as_slice(), year, nodes, bus, fault),
