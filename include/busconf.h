@@ -37,6 +37,8 @@ extern "C" {
 #define BUSCONF_NO_CANDIDATE 5u
 /* The list has to go on before it can be a bus tree's. */
 #define BUSCONF_INCOMPLETE 6u
+/* A number is past what it may be: a channel is 0 to 63, units are 0 to 4915, an ID is 0 to 62. */
+#define BUSCONF_OUT_OF_RANGE 7u
 
 /* ---- By which standard nodes show themselves */
 
@@ -95,10 +97,13 @@ struct busconf_bus {
 #define BUSCONF_AFTER_ROOT 9u       /* the list goes on behind the root */
 #define BUSCONF_NO_ROOT 10u         /* the list ends before a root */
 #define BUSCONF_TOO_MANY 11u        /* the list goes on behind 63 nodes */
+/* Of a capture alone; `at` counts pairs from 0. */
+#define BUSCONF_BAD_LENGTH 12u  /* the bytes end within this pair */
+#define BUSCONF_BAD_INVERSE 13u /* the second quadlet of this pair isn't the inverse of the first, as in none before */
 
 struct busconf_fault {
   size_t at;      /* the place */
-  uint8_t kind;   /* BUSCONF_NOT_SELF_ID to BUSCONF_TOO_MANY */
+  uint8_t kind;   /* BUSCONF_NOT_SELF_ID to BUSCONF_BAD_INVERSE */
   uint8_t found;  /* where the kind has it, else 0 */
   uint8_t wanted; /* where the kind has it, else 0 */
 };
@@ -157,6 +162,17 @@ struct busconf_plan {
  * A bus has BUSCONF_MAX_NODES nodes at most. Takes memory. */
 uint32_t busconf_read(const uint32_t *quads, size_t count, uint32_t standard, struct busconf_node *nodes, size_t room,
                       struct busconf_bus *bus, struct busconf_fault *fault);
+
+/* Reads the bytes of a capture (docs/CAPTURES.md): of each packet its quadlet and then the bitwise inverse of it, each with
+ * its highest byte first. It is busconf_read of the first quadlets, and before that BUSCONF_REFUSED with the faults
+ * BUSCONF_BAD_LENGTH and BUSCONF_BAD_INVERSE. Takes memory. */
+uint32_t busconf_read_capture(const uint8_t *bytes, size_t count, uint32_t standard, struct busconf_node *nodes, size_t room,
+                              struct busconf_bus *bus, struct busconf_fault *fault);
+
+/* Tells the line of a fault as `busconf read` writes it, in ASCII with its line feed and with no byte 0 behind it.
+ * BUSCONF_VALID: the first `*needed` bytes at `place` are the line. BUSCONF_TOO_SHORT: `*needed` is how many they are; no
+ * line has more than 128. BUSCONF_REFUSED: there is no such kind. BUSCONF_NO_MEMORY. Takes memory. */
+uint32_t busconf_fault_text(const struct busconf_fault *fault, char *place, size_t room, size_t *needed);
 
 /* Tells the hops of a list's bus, 0 to 62: the cables on its longest path. Takes memory. */
 uint32_t busconf_hops(const uint32_t *quads, size_t count, uint32_t standard, uint8_t *hops, struct busconf_fault *fault);
@@ -220,6 +236,118 @@ void busconf_decode(uint32_t quad, struct busconf_packet *packet);
  * doesn't fit its bits. A flag that isn't 0 counts as 1; of a configuration packet's `rest` the low 16 bits
  * count; a field that the kind doesn't have isn't looked at. */
 uint32_t busconf_encode(const struct busconf_packet *packet, uint32_t *quad);
+
+/* ---- Configuration ROMs (IEEE Std 1212) */
+
+/* The kinds of blocks, */
+#define BUSCONF_DIRECTORY 1u
+#define BUSCONF_LEAF 2u
+/* and what is known of the CRC that a block keeps. */
+#define BUSCONF_CRC_GOOD 1u
+#define BUSCONF_CRC_BAD 2u
+#define BUSCONF_CRC_PAST 3u /* it is over more quadlets than there are; no block has this */
+
+struct busconf_block {
+  uint16_t at;       /* the place of its header, in quadlets from 0 */
+  uint16_t length;   /* how many quadlets stand behind its header */
+  uint16_t kept;     /* of a bad CRC the one that is kept, else 0 */
+  uint16_t computed; /* of a bad CRC the one that is computed, else 0 */
+  uint8_t kind;      /* BUSCONF_DIRECTORY or BUSCONF_LEAF */
+  uint8_t crc;       /* BUSCONF_CRC_GOOD to BUSCONF_CRC_PAST */
+};
+
+/* The kinds of faults of bytes that are no ROM, in the order in which they are looked for, and of a ROM's blocks. */
+#define BUSCONF_ROM_LENGTH 1u   /* the bytes end within a quadlet, behind `at` whole ones */
+#define BUSCONF_ROM_TOO_LONG 2u /* there are more than 256 quadlets; `at` is 256 */
+#define BUSCONF_ROM_EMPTY 3u    /* there is no quadlet */
+#define BUSCONF_NO_INFO 4u      /* the first byte is 0, so there is no bus information block */
+#define BUSCONF_MINIMAL 5u      /* the first byte is 1: a minimal ROM, of one quadlet */
+#define BUSCONF_ROM_CUT 6u      /* the bus information block or the root directory isn't whole; `at` is the length */
+#define BUSCONF_BUS_NAME 7u     /* quadlet 1 is `found` and not the bus's name, 0x31333934 */
+#define BUSCONF_OUTSIDE 8u      /* the block at `at`, or its header, isn't inside of the ROM */
+#define BUSCONF_SELF_TARGET 9u  /* the entry at `at` leads to itself */
+
+struct busconf_rom_fault {
+  size_t at;      /* the place, in quadlets from 0 */
+  uint32_t found; /* of BUSCONF_BUS_NAME, else 0 */
+  uint8_t kind;   /* BUSCONF_ROM_LENGTH to BUSCONF_SELF_TARGET */
+};
+
+/* Tells the blocks that the root directory of a ROM leads to, itself included, by rising place; at one place a
+ * directory comes first. `bytes` are the ROM's, each quadlet with its highest byte first.
+ * BUSCONF_VALID: the first `*needed` records at `place` are the blocks. BUSCONF_TOO_SHORT: `*needed` is how many they
+ * are. BUSCONF_REFUSED: `fault` is why there are none. BUSCONF_NO_MEMORY. Takes memory. */
+uint32_t busconf_rom_check(const uint8_t *bytes, size_t count, struct busconf_block *place, size_t room, size_t *needed,
+                           struct busconf_rom_fault *fault);
+
+/* ---- The registers of an isochronous resource manager (IEEE Std 1394-1995, 8.3.2.3.6 to 8.3.2.3.8)
+ *
+ * The record is the caller's. Of a value past its register's width the low bits count. None of these calls takes
+ * memory.
+ */
+
+struct busconf_registers {
+  uint32_t bus_manager_id;        /* 6 bits: the bus manager's ID, or 63 while there is none */
+  uint32_t bandwidth_available;   /* 13 bits: allocation units that are left, at first 4915 */
+  uint32_t channels_available_hi; /* a bit for each of the channels 0 to 31, from the top; 1 means free */
+  uint32_t channels_available_lo; /* the same for the channels 32 to 63 */
+};
+
+/* The response to an access: `rcode` is complete 0, type error 6 or address error 7, and `value` what a read or a lock
+ * found, or 0. */
+struct busconf_reply {
+  uint32_t value;
+  uint8_t rcode;
+};
+
+/* What was seen of the bandwidth and the channels. */
+struct busconf_seen {
+  uint32_t bandwidth;
+  uint32_t hi;
+  uint32_t lo;
+};
+
+/* Why an allocation or a release is refused, in this order. */
+#define BUSCONF_NO_CHANNEL 1u   /* the channel was seen held, at an allocation, or free, at a release */
+#define BUSCONF_NO_BANDWIDTH 2u /* `detail`, the bandwidth seen, is too little, or with the units passes 4915 */
+#define BUSCONF_CHANGED 3u      /* the register at the offset `detail` now holds `now` in place of what was seen */
+
+struct busconf_grant {
+  uint32_t detail;
+  uint32_t now;
+  uint8_t kind;
+};
+
+/* Gives the registers the values that a bus reset restores. */
+void busconf_registers_reset(struct busconf_registers *regs);
+
+/* Reads the register at an offset: 0x21C, 0x220, 0x224 or 0x228. */
+void busconf_registers_read(const struct busconf_registers *regs, uint32_t offset, struct busconf_reply *reply);
+
+/* Refuses to write: the registers are changed by locks alone. */
+void busconf_registers_write(const struct busconf_registers *regs, uint32_t offset, uint32_t value,
+                             struct busconf_reply *reply);
+
+/* Locks the register at an offset. Of the extended transaction codes `kind` compare_swap, 2, alone is permitted: the
+ * register becomes `value` where it holds `arg`. Where the access is refused nothing changes. */
+void busconf_registers_lock(struct busconf_registers *regs, uint32_t offset, uint8_t kind, uint32_t arg, uint32_t value,
+                            struct busconf_reply *reply);
+
+/* Looks at the bandwidth and the channels, as allocations and releases are asked for by what was seen. */
+void busconf_registers_look(const struct busconf_registers *regs, struct busconf_seen *seen);
+
+/* Takes a channel and units of bandwidth. BUSCONF_REFUSED: `fault` says why, and nothing changes.
+ * BUSCONF_OUT_OF_RANGE. */
+uint32_t busconf_registers_allocate(struct busconf_registers *regs, const struct busconf_seen *seen, uint8_t channel,
+                                    uint16_t units, struct busconf_grant *fault);
+
+/* Gives them back, as busconf_registers_allocate. */
+uint32_t busconf_registers_release(struct busconf_registers *regs, const struct busconf_seen *seen, uint8_t channel,
+                                   uint16_t units, struct busconf_grant *fault);
+
+/* The attempt of a node, 0 to 62, to become bus manager. BUSCONF_VALID: it is, and `*manager` is its ID.
+ * BUSCONF_REFUSED: `*manager` is the one that is, and nothing changes. BUSCONF_OUT_OF_RANGE. */
+uint32_t busconf_registers_attempt(struct busconf_registers *regs, uint8_t id, uint8_t *manager);
 
 /* ---- CRC */
 

@@ -1,7 +1,8 @@
 #!/usr/bin/env bash
 # `library.sh build FOLDER` makes libbusconf.a and libbusconf.so, each whole: the kit's allocation functions are in it,
-# and nothing is exported but the calls of include/busconf.h. `library.sh test` makes them in a folder of its own, and
-# compiles and runs what stands on them. It needs the kit's command rt and a C compiler.
+# and nothing is exported but the calls of include/busconf.h. `library.sh install PREFIX` makes them and copies them with
+# the header and busconf.pc below a folder. `library.sh test` makes them in a folder of its own, and compiles and runs
+# what stands on them; `library.sh speed N < CAPTURE` times N calls. It needs the kit's command rt and a C compiler.
 set -euo pipefail
 top=$(cd "$(dirname "${BASH_SOURCE[0]}")/.." && pwd)
 crate=$top/crates/busconf_c
@@ -103,10 +104,12 @@ run_tests() {
     program "$room/$file-c++" "$top/examples/c/$file.c" c++ -std=c++17 -x c++
   done
   program "$room/check" "$top/tools/library/check.c" cc -std=c99
+  program "$room/rom" "$top/tools/library/rom.c" cc -std=c99
+  program "$room/speed" "$top/tools/library/speed.c" cc -std=c99
 
   for file in recorder recorder-c++; do
-    cases "$top/cases/read" 2000 "$room/$file"
-    cases "$top/cases/read95" 1995 "$room/$file"
+    cases "$top/cases/busconf/read" 2000 "$room/$file"
+    cases "$top/cases/busconf/read95" 1995 "$room/$file"
   done
   for file in bench bench-c++; do
     "$room/$file" | diff "$top/examples/c/bench.stdout" -
@@ -117,17 +120,34 @@ run_tests() {
   else
     echo "library: no valgrind here, so no block's bounds are watched"
   fi
-  "${check[@]}" "$room/check" 2000 $(captures "$top/cases/read")
-  "${check[@]}" "$room/check" 1995 $(captures "$top/cases/read95")
+  "${check[@]}" "$room/check" 2000 $(captures "$top/cases/busconf/read")
+  "${check[@]}" "$room/check" 1995 $(captures "$top/cases/busconf/read95")
+  roms "${check[@]}" "$room/rom"
+
+  "$room/speed" 10 <"$top/examples/hub.capture" >/dev/null
 
   python=$(command -v python3 || true)
   if [ -n "$python" ]; then
     "$python" "$top/tools/library/numbers.py" "$top"
-    python_cases "$python" "$top/cases/read" 2000
-    python_cases "$python" "$top/cases/read95" 1995
+    python_cases "$python" "$top/cases/busconf/read" 2000
+    python_cases "$python" "$top/cases/busconf/read95" 1995
   else
     echo "library: no python3 here, so neither the header's numbers nor the example in Python is tried"
   fi
+}
+
+# Whether a program writes for each ROM the lines on its blocks, or its fault.
+roms() {
+  local input said count=0
+  for input in $(captures "$top/cases/rom"); do
+    said=$("$@" <"$input" || true)
+    if [ "$said" != "$(grep '^directory \|^leaf \|^refused ' "$input.stdout")" ]; then
+      echo "library: rom on $input: not what is wanted" >&2
+      return 1
+    fi
+    count=$((count + 1))
+  done
+  echo "library: rom: $count cases of rom"
 }
 
 captures() {
@@ -147,15 +167,43 @@ python_cases() {
   echo "library: read.py: $count cases of $(basename "$2")"
 }
 
+# Copies the libraries, the header and busconf.pc below a folder.
+install_below() {
+  local prefix
+  mkdir -p "$1/lib/pkgconfig" "$1/include"
+  prefix=$(cd "$1" && pwd)
+  build "$prefix/lib"
+  cp "$top/include/busconf.h" "$prefix/include/"
+  cat >"$prefix/lib/pkgconfig/busconf.pc" <<END
+prefix=$prefix
+includedir=\${prefix}/include
+libdir=\${prefix}/lib
+
+Name: busconf
+Description: FireWire cable buses, read and planned by proved functions
+Version: 0
+Cflags: -I\${includedir}
+Libs: -L\${libdir} -lbusconf
+END
+}
+
 case ${1-} in
   build) build "${2:?a folder}" ;;
+  install) install_below "${2:?a folder}" ;;
+  speed)
+    room=$(mktemp -d)
+    trap 'rm -rf "$room"' EXIT
+    build "$room"
+    program "$room/speed" "$top/tools/library/speed.c" cc -std=c99
+    "$room/speed" "${2:?a number}"
+    ;;
   test)
     room=$(mktemp -d)
     trap 'rm -rf "$room"' EXIT
     run_tests
     ;;
   *)
-    echo "usage: library.sh build FOLDER | test" >&2
+    echo "usage: library.sh build FOLDER | install PREFIX | test | speed N" >&2
     exit 2
     ;;
 esac

@@ -1,24 +1,17 @@
-/* A recorder's reading loop: takes a capture from standard input quadlet by quadlet, as a recorder gets them from its
- * PHY, and after each reset says what bus it is. `recorder 1995` reads by IEEE Std 1394-1995. The text is that of
- * `busconf read`. */
+/* What a recorder does with the capture of a bus reset: it takes the bytes from standard input and says what bus it is.
+ * `recorder 1995` reads by IEEE Std 1394-1995. The text is that of `busconf read`. */
 #include "busconf.h"
 
 #include <stdio.h>
 #include <stdlib.h>
 
-/* The most quadlets of a bus: 63 groups of four, and one more, so that a list that goes on is seen to. */
-#define MOST_QUADS 253
-/* No pair was bad. */
-#define NO_PAIR ((size_t)-1)
-
-static const char *const kinds[] = {"",        "NotSelfId",      "WrongId",   "BadOrder",  "Cut",    "TwoParents",
-                                    "Empty",   "TooFewChildren", "TreesLeft", "AfterRoot", "NoRoot", "TooMany"};
+/* The most bytes of a capture that the program busconf takes. */
+#define MOST_BYTES 1048576
 
 static void put_fault(const struct busconf_fault *fault) {
-  printf("refused pair %zu %s", fault->at, kinds[fault->kind]);
-  if (fault->kind == BUSCONF_WRONG_ID || fault->kind == BUSCONF_TOO_FEW_CHILDREN || fault->kind == BUSCONF_TREES_LEFT)
-    printf(" found %u wanted %u", (unsigned)fault->found, (unsigned)fault->wanted);
-  printf("\n");
+  char line[128];
+  size_t length = 0;
+  if (busconf_fault_text(fault, line, sizeof line, &length) == BUSCONF_VALID) fwrite(line, 1, length, stdout);
 }
 
 static void put_slot(struct busconf_slot slot) {
@@ -45,39 +38,14 @@ static void put_bus(const struct busconf_bus *bus, const struct busconf_node *no
   else printf("%u\n", (unsigned)bus->manager);
 }
 
-/* Takes the next pair of quadlets from standard input. How many of its eight bytes there were. */
-static size_t next_pair(uint32_t *quad, uint32_t *inverse) {
-  unsigned char b[8] = {0, 0, 0, 0, 0, 0, 0, 0};
-  size_t found = fread(b, 1, 8, stdin);
-  *quad = (uint32_t)b[0] << 24 | (uint32_t)b[1] << 16 | (uint32_t)b[2] << 8 | b[3];
-  *inverse = (uint32_t)b[4] << 24 | (uint32_t)b[5] << 16 | (uint32_t)b[6] << 8 | b[7];
-  return found;
-}
-
 int main(int argc, char **argv) {
-  static uint32_t quads[MOST_QUADS];
+  static uint8_t bytes[MOST_BYTES];
   static struct busconf_node nodes[BUSCONF_MAX_NODES];
   struct busconf_bus bus;
   struct busconf_fault fault;
   uint32_t standard = argc > 1 ? (uint32_t)strtoul(argv[1], NULL, 10) : BUSCONF_IEEE2000;
-  uint32_t quad, inverse;
-  size_t bytes, pair = 0, bad = NO_PAIR, count = 0;
-  uint32_t status;
-
-  while ((bytes = next_pair(&quad, &inverse)) == 8) {
-    if (inverse != (~quad & 0xffffffffu) && bad == NO_PAIR) bad = pair;
-    pair++;
-    if (count < MOST_QUADS) quads[count++] = quad;
-  }
-  if (bytes != 0) {
-    printf("refused pair %zu BadLength\n", pair);
-    return 1;
-  }
-  if (bad != NO_PAIR) {
-    printf("refused pair %zu BadInverse\n", bad);
-    return 1;
-  }
-  status = busconf_read(quads, count, standard, nodes, BUSCONF_MAX_NODES, &bus, &fault);
+  size_t count = fread(bytes, 1, sizeof bytes, stdin);
+  uint32_t status = busconf_read_capture(bytes, count, standard, nodes, BUSCONF_MAX_NODES, &bus, &fault);
   if (status == BUSCONF_REFUSED) {
     put_fault(&fault);
     return 1;

@@ -149,6 +149,56 @@ static void check_reader(const uint32_t *quads, size_t count) {
   free(reader);
 }
 
+/* The lines of faults, in a place of exactly their size and of one byte less. */
+static void check_texts(void) {
+  struct busconf_fault fault = {7, 0, 8, 9};
+  unsigned kind;
+  file = "texts";
+  for (kind = 0; kind < 256; kind++) {
+    size_t needed = 500, again = 500;
+    char *place = (char *)block(0, 0);
+    uint32_t status;
+    fault.kind = (uint8_t)kind;
+    status = busconf_fault_text(&fault, place, 0, &needed);
+    free(place);
+    if (kind < BUSCONF_NOT_SELF_ID || kind > BUSCONF_BAD_INVERSE) {
+      expect(status == BUSCONF_REFUSED && needed == 500, "no such kind");
+      continue;
+    }
+    expect(status == BUSCONF_TOO_SHORT && needed <= 128, "a line has no room in none");
+    place = (char *)block(needed - 1, 0xa5);
+    expect(busconf_fault_text(&fault, place, needed - 1, &again) == BUSCONF_TOO_SHORT && again == needed, "one less");
+    expect(filled(place, 0, needed - 1, 0xa5), "no line is cut");
+    free(place);
+    place = (char *)block(needed, 0xa5);
+    expect(busconf_fault_text(&fault, place, needed, &again) == BUSCONF_VALID && again == needed, "exactly as much");
+    expect(memcmp(place, "refused pair 7 ", 15) == 0 && place[needed - 1] == '\n', "a line is whole");
+    free(place);
+  }
+}
+
+/* The bytes of a capture, read as they are, are read as their list is. */
+static void check_bytes(const uint32_t *quads, size_t count, uint32_t standard) {
+  uint8_t *bytes = (uint8_t *)block(8 * count, 0);
+  struct busconf_bus a, b;
+  struct busconf_fault of_list, of_bytes;
+  struct busconf_node *nodes = (struct busconf_node *)block(BUSCONF_MAX_NODES * sizeof *nodes, 0);
+  size_t n;
+  uint32_t status = read_into(quads, count, standard, BUSCONF_MAX_NODES, &a, &of_list);
+  for (n = 0; n < 8 * count; n++) bytes[n] = (uint8_t)((n & 4 ? ~quads[n / 8] : quads[n / 8]) >> (24 - n % 4 * 8));
+  expect(busconf_read_capture(bytes, 8 * count, standard, nodes, BUSCONF_MAX_NODES, &b, &of_bytes) == status, "bytes");
+  if (status == BUSCONF_REFUSED) expect(same_fault(&of_list, &of_bytes), "bytes have the list's fault");
+  if (count) {
+    expect(busconf_read_capture(bytes, 8 * count - 1, standard, nodes, BUSCONF_MAX_NODES, &b, &of_bytes)
+               == BUSCONF_REFUSED && of_bytes.kind == BUSCONF_BAD_LENGTH && of_bytes.at == count - 1, "one byte less");
+    bytes[8 * count - 1] ^= 1;
+    expect(busconf_read_capture(bytes, 8 * count, standard, nodes, BUSCONF_MAX_NODES, &b, &of_bytes) == BUSCONF_REFUSED
+               && of_bytes.kind == BUSCONF_BAD_INVERSE && of_bytes.at == count - 1, "one bit turned");
+  }
+  free(nodes);
+  free(bytes);
+}
+
 static void check_capture(const char *path, uint32_t standard) {
   size_t count, n;
   uint32_t *quads = load(path, &count), status, again;
@@ -193,6 +243,7 @@ static void check_capture(const char *path, uint32_t standard) {
     expect(busconf_encode(&packet, &quad) == BUSCONF_VALID && quad == quads[n], "a packet is written as it was read");
   }
   expect(read_into(quads, count, 1996, 0, &bus, &fault) == BUSCONF_NO_STANDARD, "no standard");
+  check_bytes(quads, count, standard);
   if (standard == BUSCONF_IEEE2000) check_reader(quads, count);
   free(quads);
 }
@@ -219,10 +270,49 @@ static void check_packets(void) {
   expect(busconf_encode(&packet, &quad) == BUSCONF_REFUSED && quad == 5, "a field that doesn't fit");
 }
 
+/* A channel and bandwidth are taken and given back; the bus manager is elected once. */
+static void check_registers(void) {
+  struct busconf_registers regs, first;
+  struct busconf_reply reply;
+  struct busconf_seen seen;
+  struct busconf_grant fault;
+  uint8_t manager = 200;
+  file = "registers";
+  busconf_registers_reset(&first);
+  regs = first;
+  expect(regs.bus_manager_id == 63 && regs.bandwidth_available == 4915, "the values after a reset");
+  busconf_registers_look(&regs, &seen);
+  expect(busconf_registers_allocate(&regs, &seen, 31, 915, &fault) == BUSCONF_VALID, "a channel is taken");
+  expect(regs.bandwidth_available == 4000 && regs.channels_available_hi == 0xfffffffeu, "its bit and its units");
+  expect(busconf_registers_allocate(&regs, &seen, 32, 1, &fault) == BUSCONF_REFUSED, "what was seen changed");
+  expect(fault.kind == BUSCONF_CHANGED && fault.detail == 0x220 && fault.now == 4000, "by which register");
+  busconf_registers_look(&regs, &seen);
+  expect(busconf_registers_allocate(&regs, &seen, 31, 1, &fault) == BUSCONF_REFUSED, "the channel is held");
+  expect(fault.kind == BUSCONF_NO_CHANNEL, "no channel");
+  expect(busconf_registers_allocate(&regs, &seen, 32, 4001, &fault) == BUSCONF_REFUSED, "too much");
+  expect(fault.kind == BUSCONF_NO_BANDWIDTH && fault.detail == 4000, "no bandwidth");
+  expect(busconf_registers_allocate(&regs, &seen, 64, 1, &fault) == BUSCONF_OUT_OF_RANGE, "no such channel");
+  expect(busconf_registers_release(&regs, &seen, 31, 915, &fault) == BUSCONF_VALID, "it is given back");
+  expect(memcmp(&regs, &first, sizeof regs) == 0, "all is as at first");
+  busconf_registers_read(&regs, 0x220, &reply);
+  expect(reply.rcode == 0 && reply.value == 4915, "a read");
+  busconf_registers_read(&regs, 0x21d, &reply);
+  expect(reply.rcode == 7 && reply.value == 0, "no register");
+  busconf_registers_write(&regs, 0x220, 1, &reply);
+  expect(reply.rcode == 6, "no write");
+  busconf_registers_lock(&regs, 0x220, 2, 4915, 0xffff, &reply);
+  expect(reply.value == 4915 && regs.bandwidth_available == 0x1fff, "a lock, cut to the width");
+  expect(busconf_registers_attempt(&regs, 63, &manager) == BUSCONF_OUT_OF_RANGE && manager == 200, "no node");
+  expect(busconf_registers_attempt(&regs, 5, &manager) == BUSCONF_VALID && manager == 5, "the first is elected");
+  expect(busconf_registers_attempt(&regs, 6, &manager) == BUSCONF_REFUSED && manager == 5, "and no second");
+}
+
 int main(int argc, char **argv) {
   uint32_t standard = argc > 1 ? (uint32_t)strtoul(argv[1], NULL, 10) : 0;
   int n;
   check_packets();
+  check_texts();
+  check_registers();
   for (n = 2; n < argc; n++) check_capture(argv[n], standard);
   if (!failed) printf("check: %d captures by %u\n", argc - 2, (unsigned)standard);
   return failed ? 1 : 0;

@@ -20,7 +20,17 @@ wants = {}
 crate = "crates/busconf_c"
 for name, number in re.findall(r"_record \(?(\w+).*?\)? =\s+fault_with (\d+)", text(f"{crate}/specs/Faults.antt")):
     wants[snake(name)] = int(number)
+for name, number in re.findall(r"^(bad_\w+) pair = fault_with (\d+)", text(f"{crate}/specs/Faults.antt"), re.M):
+    wants[name.upper()] = int(number)
 for name, number in re.findall(r"packet_record \((\w+)[^)]*\) =\s+record \(blank (\d+)\)", text(f"{crate}/specs/Packets.antt")):
+    wants[snake(name)] = int(number)
+for name, number in re.findall(r"rom_record \((\w+).*?\) =\s+rom_fault_with (\d+)", text(f"{crate}/specs/Roms.antt")):
+    wants[snake(name)] = int(number)
+for name, number in re.findall(r"kind_number (\w+) = (\d+)", text(f"{crate}/specs/Roms.antt")):
+    wants[snake(name)] = int(number)
+for name, number in re.findall(r"block_of b \(?(\w+).*? = block_with b (\d+)", text(f"{crate}/specs/Roms.antt")):
+    wants["CRC_" + snake(name)] = int(number)
+for name, number in re.findall(r"grant_record \(?(\w+).* kind = (\d+) }", text(f"{crate}/specs/Registers.antt")):
     wants[snake(name)] = int(number)
 for name, number in re.findall(r"pub const (\w+): \w+ = (\d+);", text(f"{crate}/src/status.rt") + text(f"{crate}/src/records.rt")):
     wants[name] = int(number)
@@ -41,7 +51,7 @@ in_header = {
 records = {}
 for name, body in re.findall(r"pub struct (\w+)Record \{\n(.*?)^\}", text(f"{crate}/src/records.rt"), re.M | re.S):
     fields = re.findall(r"pub (\w+): \[?(\w+)(?:; (\w+)\])?,", body)
-    records[name.lower()] = [(widths[kind], field, arrays[size] if size else "") for field, kind, size in fields]
+    records[snake(name).lower()] = [(widths[kind], field, arrays[size] if size else "") for field, kind, size in fields]
 bad += [f"struct {it}: {in_header.get(it)}, crate {records.get(it)}" for it in sorted({*in_header, *records}) if in_header.get(it) != records.get(it)]
 
 exports = set()

@@ -1,5 +1,6 @@
 -- What a call answers that reads the list of a bus.
-use Rattle.std.specs.Prelude.{◌≡◌, ℕ, ◌<◌, ◌==◌, if◌then◌else◌, Option, Some, None, List, length}
+use Rattle.std.specs.Prelude.{◌≡◌, ℕ, ◌<◌, ◌==◌, if◌then◌else◌, Option, Some, None, List, length, ◌≢◌, ◌/◌, ◌%◌}
+use Rattle.quad_lanes.specs.Pairs.{quads_of, firsts, first_bad_pair}
 use Rattle.self_id.specs.declared.standard.Standard.{Standard}
 use Rattle.self_id.specs.declared.standard.Standard.TheVariants.{Ieee1995, Ieee2000}
 use Rattle.topology_stack.specs.declared.fault.TreeFault.{TreeFault}
@@ -9,7 +10,7 @@ use Rattle.busconf_c.specs.declared.status.TheConstants.{VALID, REFUSED, NO_MEMO
 use Rattle.busconf_c.specs.declared.records.FaultRecord.{FaultRecord}
 use Rattle.busconf_c.specs.declared.records.BusRecord.{BusRecord}
 use Rattle.busconf_c.specs.declared.records.NodeRecord.{NodeRecord}
-use Rattle.busconf_c.specs.Faults.{tree_record}
+use Rattle.busconf_c.specs.Faults.{tree_record, bad_length, bad_inverse}
 use Rattle.busconf_c.specs.Shown.{AreShown, IsBusRecord}
 
 -- a standard goes by the year of its number
@@ -47,3 +48,28 @@ pub data TellsNodes (t : Tree) (before after : List NodeRecord) (bus : BusRecord
       TellsNodes t before after bus status
   too_short : IsBusRecord t bus → length before < length (walk t) → after ≡ before →
       status ≡ TOO_SHORT → TellsNodes t before after bus status
+
+-- ---- captures: pairs of quadlets as bytes, each packet's quadlet before its bitwise inverse
+
+-- the bytes are whole pairs, none of them is bad, and the list has the first quadlet of each
+pub record IsListOf (bytes quads : List ℕ) : Type 0 where
+  pub whole : length bytes % 8 ≡ 0
+  pub good : first_bad_pair (quads_of bytes) ≡ None
+  pub quads_are : quads ≡ firsts (quads_of bytes)
+
+-- why bytes have no list: they end within a pair, a pair is bad, or memory ran out
+pub data IsBadCapture (bytes : List ℕ) (before after : FaultRecord) (status : ℕ) : Type 0 where
+  length_is_bad : length bytes % 8 ≢ 0 → after ≡ bad_length (length bytes / 8) →
+      status ≡ REFUSED → IsBadCapture bytes before after status
+  pair_is_bad : (pair : ℕ) → length bytes % 8 ≡ 0 → first_bad_pair (quads_of bytes) ≡ Some pair →
+      after ≡ bad_inverse pair → status ≡ REFUSED → IsBadCapture bytes before after status
+  no_room : after ≡ before → status ≡ NO_MEMORY → IsBadCapture bytes before after status
+
+-- the list of a capture is answered, or else why there is none
+pub data AnswersCapture (year : ℕ) (bytes : List ℕ) (before after : FaultRecord) (status : ℕ)
+    (Tells : Tree → Type 0) : Type 0 where
+  of_list : (quads : List ℕ) → IsListOf bytes quads →
+      Answers year quads before after status Tells →
+      AnswersCapture year bytes before after status Tells
+  bad : IsBadCapture bytes before after status →
+      AnswersCapture year bytes before after status Tells

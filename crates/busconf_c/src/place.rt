@@ -20,11 +20,11 @@ pub(crate) fn tell_bytes(bytes: &[u8], place: &mut [u8], needed: &mut usize) -> 
 pub(crate) fn tell_quads(quads: &[u32], place: &mut [u32], needed: &mut usize) -> u32
     ensures { IsTold quads.now place.old place.new needed.new result }
 {
-    let count = quads.len();
-    *needed = count;
-    if place.len() < count {
+    let length = quads.len();
+    *needed = length;
+    if place.len() < length {
         return TOO_SHORT;
     }
-    place[..count].copy_from_slice(quads);
+    place[..length].copy_from_slice(quads);
     VALID
 }

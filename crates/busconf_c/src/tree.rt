@@ -12,7 +12,7 @@ ghost use Rattle.busconf_c.specs.Plans.{TellsPlan};
 use crate::answer::tree_of;
 use crate::place::{tell_bytes, tell_quads};
 use crate::records::{FaultRecord, PlanRecord};
-use crate::status::{NO_CANDIDATE, NO_MEMORY, VALID};
+use crate::status::{NO_CANDIDATE, NO_MEMORY, TOO_SHORT, VALID};
 use quad_lanes::{OutOfMemory, QuadList};
 use std::alloc::Global;
 use topology_stack::BusTree;
@@ -109,6 +109,7 @@ pub extern "C" fn busconf_topology_map(
         (λ t. Tells (IsMap generation (length (walk t)) (emits t)) place.old place.new needed.old
         needed.new result) }
     ensures kept { result ≢ VALID → place.new ≡ place.old }
+    ensures needed_kept { result ≢ VALID → result ≢ TOO_SHORT → needed.new ≡ needed.old }
 {
     match tree_of(alloc, quads, year, fault) {
         Ok(tree) => tell_image(topology_map::image(alloc, &tree, generation), place, needed),
@@ -120,6 +121,7 @@ pub extern "C" fn busconf_topology_map(
 fn tell_rows(alloc: Global, tree: &BusTree, place: &mut [u8], needed: &mut usize) -> u32
     ensures answer { Tells (AreRows tree.now) place.old place.new needed.old needed.new result }
     ensures kept { result ≢ VALID → place.new ≡ place.old }
+    ensures needed_kept { result ≢ VALID → result ≢ TOO_SHORT → needed.new ≡ needed.old }
 {
     match speed_map::rows(alloc, tree) {
         Ok(rows) => tell_bytes(rows.as_slice(), place, needed),
@@ -140,6 +142,7 @@ pub extern "C" fn busconf_speed_rows(
     ensures answer { Answers year quads.now fault.old fault.new result
         (λ t. Tells (AreRows t) place.old place.new needed.old needed.new result) }
     ensures kept { result ≢ VALID → place.new ≡ place.old }
+    ensures needed_kept { result ≢ VALID → result ≢ TOO_SHORT → needed.new ≡ needed.old }
 {
     match tree_of(alloc, quads, year, fault) {
         Ok(tree) => tell_rows(alloc, &tree, place, needed),
@@ -170,6 +173,7 @@ pub extern "C" fn busconf_speed_map(
     ensures answer { Answers year quads.now fault.old fault.new result
         (λ t. Tells (IsSpeedMap generation t) place.old place.new needed.old needed.new result) }
     ensures kept { result ≢ VALID → place.new ≡ place.old }
+    ensures needed_kept { result ≢ VALID → result ≢ TOO_SHORT → needed.new ≡ needed.old }
 {
     match tree_of(alloc, quads, year, fault) {
         Ok(tree) => tell_image(speed_image(alloc, &tree, generation), place, needed),
