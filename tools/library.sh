@@ -139,7 +139,7 @@ run_tests() {
 # Whether a program writes for each ROM the lines on its blocks, or its fault.
 roms() {
   local input said count=0
-  for input in $(captures "$top/cases/rom"); do
+  for input in $(captures "$top/cases/busconf/rom"); do
     said=$("$@" <"$input" || true)
     if [ "$said" != "$(grep '^directory \|^leaf \|^refused ' "$input.stdout")" ]; then
       echo "library: rom on $input: not what is wanted" >&2
@@ -181,7 +181,7 @@ libdir=\${prefix}/lib
 
 Name: busconf
 Description: FireWire cable buses, read and planned by proved functions
-Version: 0
+Version: $("$top/tools/version")
 Cflags: -I\${includedir}
 Libs: -L\${libdir} -lbusconf
 END
