@@ -82,13 +82,13 @@ one_make words n m s r x y =
     let e : Make n s ≡ Make m r = one_form words (Make n s) (Make m r) x y in
     (cc, cc)
 
+same-itself : (zs : List ℕ) → same zs zs ≡ true
+unfolding same
+same-itself [] = refl
+same-itself (z ∷ zs) = rw (eq-eqb z z refl, same-itself zs) refl
+
 pub same-is : (xs ys : List ℕ) → xs ≡ ys → same xs ys ≡ true
-same-is xs ys e = subst (λ (zs : List ℕ). same xs zs ≡ true) e (itself xs)
-  where
-    itself : (zs : List ℕ) → same zs zs ≡ true
-    unfolding same
-    itself [] = refl
-    itself (z ∷ zs) = rw (eq-eqb z z refl, itself zs) refl
+same-is xs ys e = subst (λ (zs : List ℕ). same xs zs ≡ true) e (same-itself xs)
 
 -- ---- the word of each form
 
