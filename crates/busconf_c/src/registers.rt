@@ -175,7 +175,8 @@ pub extern "C" fn busconf_registers_allocate(
     units: u16,
     fault: &mut GrantRecord,
 ) -> u32
-    ensures { Grants channel units (allocate_fault (values_in regs.old) (seen_in seen.now) channel units)
+    ensures { Grants channel units
+        (allocate_fault (values_in regs.old) (seen_in seen.now) channel units)
         (after_allocation (values_in regs.old) channel units) regs.old regs.new fault.old fault.new
         result }
 {
@@ -204,7 +205,8 @@ pub extern "C" fn busconf_registers_release(
     units: u16,
     fault: &mut GrantRecord,
 ) -> u32
-    ensures { Grants channel units (release_fault (values_in regs.old) (seen_in seen.now) channel units)
+    ensures { Grants channel units
+        (release_fault (values_in regs.old) (seen_in seen.now) channel units)
         (after_release (values_in regs.old) channel units) regs.old regs.new fault.old fault.new
         result }
 {

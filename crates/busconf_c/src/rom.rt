@@ -84,7 +84,8 @@ fn tell_rom(
     needed: &mut usize,
     fault: &mut RomFaultRecord,
 ) -> u32
-    ensures { TellsBlocks rom.now place.old place.new needed.old needed.new fault.old fault.new result }
+    ensures { TellsBlocks rom.now place.old place.new needed.old needed.new fault.old fault.new
+        result }
 {
     match blocks(alloc, rom) {
         Ok(list) => tell_blocks(list.as_slice(), place, needed),
@@ -105,7 +106,8 @@ pub extern "C" fn busconf_rom_check(
     needed: &mut usize,
     fault: &mut RomFaultRecord,
 ) -> u32
-    ensures { TellsRom bytes.now place.old place.new needed.old needed.new fault.old fault.new result }
+    ensures { TellsRom bytes.now place.old place.new needed.old needed.new fault.old fault.new
+        result }
 {
     match decode_rom(alloc, bytes) {
         Ok(rom) => tell_rom(alloc, &rom, place, needed, fault),
