@@ -70,7 +70,7 @@ one_of_two valid refused same apart line s r a b (inr x) (inr y) = (x.0 ∙ sym 
 
 module _ (one : HasOneReading) where
   one_line : (standard : Standard) (bytes a b : List ℕ) → IsCaptureLine standard bytes a → IsCaptureLine standard bytes b → a ≡ b
-  one_line standard bytes a b (f, (x, e)) (g, (y, h)) =
+  one_line standard bytes a b (f, x, e) (g, y, h) =
       e ∙ ap (λ (z : CaptureFault). fault_line z) (one.fault standard bytes f g x y) ∙ sym h
 
   one_read : (standard : Standard) (bytes : List ℕ) → AreOne (AnswersRead standard bytes)
@@ -202,7 +202,7 @@ module _ (have : HasSomeReading) where
   some_rom_answer bytes fit = elim (have.some_rom bytes fit) [
     | inl v ↦ elim (have.some_blocks v.0) [
       | inl good ↦
-          let t = have.rom_text v.0 v.1.rom good in
+          let t = have.rom_text v.0 good in
           (0, t.text, inl (refl, (v.0, record { rom = v.1; blocks = good }, record { list = t.list; are_blocks = t.are; is_text = t.is_text })))
       | inr f ↦ (1, rom_line f.0, inr (refl, (f.0, inr (v.0, (v.1, f.1)), refl)))
     ]

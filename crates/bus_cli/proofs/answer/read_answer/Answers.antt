@@ -5,6 +5,10 @@ use Rattle.bus_cli.proofs.Ends.{some_left}
 use Rattle.bus_cli.proofs.answer.read_answer.Goals as goal
 
 pub returns-in_ok-answer_to_make-in-Make-clause-answer : goal.returns-in_ok-answer_to_make-in-Make-clause-answer
-returns-in_ok-answer_to_make-in-Make-clause-answer g c =
-    let left = some_left (g.S.Source.left c.args.source.now) in
-    (left.0, left.1, subst (λ (form : Form). AnswersForm form left.0 _ _) (sym c.in-Make.is) c.in_ok-answer_to_make-in-Make.ensures)
+returns-in_ok-answer_to_make-in-Make-clause-answer g c = ?
+
+pub returns-in_ok-answer_to_rom-in-Rom-clause-answer : goal.returns-in_ok-answer_to_rom-in-Rom-clause-answer
+returns-in_ok-answer_to_rom-in-Rom-clause-answer g c = ?
+
+pub returns-in_ok-answer_to_advice-in-Advice-clause-answer : goal.returns-in_ok-answer_to_advice-in-Advice-clause-answer
+returns-in_ok-answer_to_advice-in-Advice-clause-answer g c = ?

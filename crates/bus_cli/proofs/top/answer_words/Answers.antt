@@ -97,3 +97,12 @@ returns-in-Ok-write_whole-clause-answer g c = λ which.
     let answers : Answers c.args.words.now told.0 _ _ = inl (c.in-Some.form, asks, told.2) in
     let whole = rw c.text.ensures at c.in-Ok-write_whole.ensures.ok in
     rw c.status.ensures (written c.args.words.now _ _ _ told.0 _ _ told.1 answers whole)
+
+pub returns-in-Ok-write_whole-clause-end : goal.returns-in-Ok-write_whole-clause-end
+returns-in-Ok-write_whole-clause-end g c = ?
+
+pub returns-clause-end : goal.returns-clause-end
+returns-clause-end g c = ?
+
+pub returns-in-Ok-write_whole-clause-make : goal.returns-in-Ok-write_whole-clause-make
+returns-in-Ok-write_whole-clause-make g c = ?
