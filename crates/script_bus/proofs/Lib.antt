@@ -7,3 +7,5 @@ pub mod SomePlan
 pub mod SomeRun
 pub mod SomeAdvice
 pub mod EachPlan
+pub mod FollowOn
+pub mod EachConfig

@@ -1,5 +1,6 @@
 pub mod Running
 pub mod SomeRun
 pub mod SomeAdvice
+pub mod EachConfig
 pub mod Heard
 pub mod codings
