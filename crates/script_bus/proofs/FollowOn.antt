@@ -5,11 +5,11 @@ use Rattle.script_lines.specs.declared.kind.Kind.{Kind}
 use Rattle.script_lines.specs.declared.command.Command.{Command}
 use Rattle.script_told.specs.Step.{LineAnswer}
 use Rattle.script_told.specs.Script.{Stage, fresh, StageAnswer, script_lines}
-use Rattle.script_told.specs.Run.{Entry, ScriptRun, stopped, last_run, Goes, Takes, RunsFrom}
+use Rattle.script_told.specs.Run.{Entry, ScriptRun, stopped, last_run, Goes, Takes, RunsFrom, IsRun}
 use Rattle.script_bus.specs.EachConfig.{EntriesFollowOn}
 
 -- the commands lead on from a stage
-abbrev LeadsOn : Stage → List Entry → Type 0
+abbrev pub LeadsOn : Stage → List Entry → Type 0
 LeadsOn stage [] = Unit {0}
 LeadsOn stage (entry ∷ entries) = (entry.before ≡ stage) × LeadsOn entry.after entries
 
@@ -42,19 +42,27 @@ from-each number [] stage run x = same-run stage run (last_run number stage x.0)
 from-each number (line ∷ lines) stage run x =
     takes number (RunsFrom (number + 1) lines) stage x.0 run (from-each (number + 1) lines) x.2
 
-next-to :
-    (stage : Stage) (before rest : List Entry) (one two : Entry) → LeadsOn stage (before ++ one ∷ two ∷ rest) →
-    two.before ≡ one.after
-next-to stage [] rest one two h = h.1.0
-next-to stage (entry ∷ before) rest one two h = next-to entry.after before rest one two h.1
+pub leads-on : (bytes : List ℕ) (run : ScriptRun) → IsRun bytes run → LeadsOn fresh run.entries
+leads-on bytes run x = from-each 1 (script_lines bytes) fresh run x
+
+-- and those behind one from where it led
+pub leads-behind :
+    (stage : Stage) (before rest : List Entry) (one : Entry) → LeadsOn stage (before ++ one ∷ rest) → LeadsOn one.after rest
+leads-behind stage [] rest one h = h.1
+leads-behind stage (entry ∷ before) rest one h = leads-behind entry.after before rest one h.1
 
 pub follow-on : EntriesFollowOn
 follow-on bytes run before rest one two x same =
-    next-to fresh before rest one two
-    (subst (λ (es : List Entry). LeadsOn fresh es) same (from-each 1 (script_lines bytes) fresh run x))
+    (leads-behind fresh before (two ∷ rest) one (subst (LeadsOn fresh) same (leads-on bytes run x))).0
 
 -- what holds of all holds of the one behind these
 pub at-split : (P : Entry → Type 0) (before rest : List Entry) (one : Entry) → All P (before ++ one ∷ rest) → P one
 at-split P [] rest one all = all 0 one (omega arith)
 at-split P (entry ∷ before) rest one all =
     at-split P before rest one (λ i d inside. all (suc i) d (omega (arith, inside)))
+
+-- and of all behind that one
+pub behind-split : (P : Entry → Type 0) (before rest : List Entry) (one : Entry) → All P (before ++ one ∷ rest) → All P rest
+behind-split P [] rest one all = λ i d inside. all (suc i) d (omega (arith, inside))
+behind-split P (entry ∷ before) rest one all =
+    behind-split P before rest one (λ i d inside. all (suc i) d (omega (arith, inside)))

@@ -9,3 +9,4 @@ pub mod SomeAdvice
 pub mod EachPlan
 pub mod FollowOn
 pub mod EachConfig
+pub mod EachMaps

@@ -2,6 +2,7 @@
 ghost use Rattle.script_told.specs.SomeAnswer.{PlansHaveAnswers};
 ghost use Rattle.script_told.specs.EachPlan.{EachPlanComesOut};
 ghost use Rattle.script_bus.specs.EachConfig.{EachConfigComesOut, EntriesFollowOn};
+ghost use Rattle.script_bus.specs.EachMaps.{MapsShowOneTree};
 ghost use Rattle.script_bus.specs.SomeRun.{EachScriptHasARun};
 ghost use Rattle.script_bus.specs.SomeAdvice.{EachScriptHasAnAdvice};
 
@@ -59,6 +60,16 @@ pub fn each_config_comes_out()
     trees_stay();
     components_exist();
     forced_roots_settle();
+}
+
+/// A law: two `maps` of nodes of one tree show that tree, where no act and no `settle` comes between
+/// them. So both print the same text where the tree's root counts as many resets, which are the maps'
+/// generation.
+pub fn maps_show_one_tree()
+    ensures { MapsShowOneTree }
+{
+    one_tree();
+    acts_keep();
 }
 
 /// A law: each script has a run, whatever its bytes are and whatever memory there is to run it. So it
