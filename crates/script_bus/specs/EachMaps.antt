@@ -23,17 +23,18 @@ pub record StandsIn (bus : Bus) (name : List ℕ) (tree : Reported) : Type 0 whe
   pub named : node_named bus.notes.names name ≡ Some node
   pub settled : tree_with node bus.notes ≡ Some tree
 
--- The tree stands at the second `maps` as it stood at the first. Where its root counts as many resets,
--- both print the same.
+-- At the second `maps` the tree stands as at the first, its root counts as many resets, which are the
+-- generation of the maps, and the text is the same.
 pub record ShowOneTree (one two : Entry) (name : List ℕ) (tree : Reported) : Type 0 where
   pub stands : StandsIn (bus_of two.before) name tree
-  pub texts :
-      resets_of (bus_of one.before).world tree.root
-      ≡ resets_of (bus_of two.before).world tree.root → one.text ≡ two.text
+  pub generation :
+      resets_of (bus_of two.before).world tree.root
+      ≡ resets_of (bus_of one.before).world tree.root
+  pub text : two.text ≡ one.text
 
 -- ---- a law
 
--- the maps of two nodes of a tree, between which the report stands, are of one tree
+-- two `maps` of nodes of one tree, between which the report stands, print the same
 abbrev pub MapsShowOneTree : Type 0
 MapsShowOneTree =
     (bytes : List ℕ) (run : ScriptRun) (before between rest : List Entry) (one two : Entry)

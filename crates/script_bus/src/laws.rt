@@ -62,14 +62,16 @@ pub fn each_config_comes_out()
     forced_roots_settle();
 }
 
-/// A law: two `maps` of nodes of one tree show that tree, where no act and no `settle` comes between
-/// them. So both print the same text where the tree's root counts as many resets, which are the maps'
-/// generation.
+/// A law: two `maps` of nodes of one tree print the same where no act, no `plan` and no `settle` comes
+/// between them, whatever turns and holds do: the tree stands, and its root counts no reset.
 pub fn maps_show_one_tree()
     ensures { MapsShowOneTree }
 {
     one_tree();
     acts_keep();
+    trees_stay();
+    components_exist();
+    forced_roots_settle();
 }
 
 /// A law: each script has a run, whatever its bytes are and whatever memory there is to run it. So it
