@@ -1,6 +1,6 @@
 -- A plan that was carried out comes out.
-use Rattle.std.proofs.Common.{◌≡◌, ◌+◌, ◌<◌, ℕ, List, [], Option, Some, None, IfSome, length, refl, sym, subst, ◌∙◌, ap, arith}
-use Rattle.std.specs.Prelude.{Ok, Err, Any, All}
+use Rattle.std.proofs.Common.{◌≡◌, ◌<◌, ℕ, List, [], Option, IfSome, length, sym, subst, ◌∙◌, ap, arith}
+use Rattle.std.specs.Prelude.{Ok, Err, Any}
 use Rattle.std.specs.Str.{bytes_eq}
 use Rattle.std.proofs.lemmas.List.Elements.{All-weaker}
 use Rattle.std.proofs.lemmas.List.Quantifiers.{position-Some}

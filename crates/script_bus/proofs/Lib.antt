@@ -7,3 +7,6 @@ pub mod SomePlan
 pub mod SomeRun
 pub mod SomeAdvice
 pub mod EachPlan
+pub mod FollowOn
+pub mod EachConfig
+pub mod EachMaps

@@ -1,6 +1,6 @@
 -- Each script has an advice.
-use Rattle.std.proofs.Common.{◌≡◌, ◌++◌, inl, inr, ℕ, List, [], ◌∷◌, Option, Some, None, map, refl, sym, ap, subst, ◌∙◌, arith}
-use Rattle.std.specs.Prelude.{Result, Ok, Err, All, ◌<◌, length}
+use Rattle.std.proofs.Common.{◌≡◌, ◌++◌, inl, inr, List, [], ◌∷◌, None, map, refl, sym, ap, subst}
+use Rattle.std.specs.Prelude.{Result, Ok, Err, All}
 use Rattle.std.proofs.lemmas.List.Elements.{All-nil, All-cons, All-head, All-tail}
 use Rattle.topology_stack.specs.OneAnswer.{NoListHasTwoTrees}
 use Rattle.cabling.specs.declared.cable.Cable.{Cable}
@@ -20,7 +20,7 @@ use Rattle.settle.specs.Report.{IsPart}
 use Rattle.script_lines.specs.declared.kind.ScriptFault.{ScriptFault}
 use Rattle.script_told.specs.Bus.{Bus}
 use Rattle.script_told.specs.Step.{LineAnswer, Acts, Settles, notes_after_act}
-use Rattle.script_told.specs.Run.{ScriptRun, IsRun, printed, unless_stopped}
+use Rattle.script_told.specs.Run.{printed, unless_stopped}
 use Rattle.script_told.specs.SomeAnswer.{IsReachedBus, HasAnswer, BusesSettle}
 use Rattle.script_told.proofs.SomeAnswer.{act-leads}
 use Rattle.script_told.proofs.told.Reached.{do-act}

@@ -1,5 +1,5 @@
 -- Each script has a run.
-use Rattle.std.proofs.Common.{◌≡◌, ℕ, ◌+◌, Bool, true, false, List, [], ◌∷◌, Option, Some, None, length, refl, subst, arith}
+use Rattle.std.proofs.Common.{◌≡◌, ℕ, ◌+◌, Bool, true, false, List, [], ◌∷◌, Option, Some, None, length, refl, arith}
 use Rattle.std.specs.Prelude.{Result, Ok, Err, nat_lt, if◌then◌else◌}
 use Rattle.port_state.specs.Machine.{PortNode}
 use Rattle.cable_world.specs.World.{IsNodeAtPowerOn}
@@ -12,7 +12,7 @@ use Rattle.script_lines.specs.Line.{Reads}
 use Rattle.script_lines.specs.Ranged.{CommandsAreInRange}
 use Rattle.script_lines.proofs.LineRead.{some_reading}
 use Rattle.script_told.specs.Bus.{Bus, is_declared}
-use Rattle.script_told.specs.Step.{LineAnswer, Does}
+use Rattle.script_told.specs.Step.{Does}
 use Rattle.script_told.specs.Script.{Draft, Stage, fresh, declaring, running, StageAnswer, bus_of, delay_of, first_draft, new_node, times_of, coins_of, with_node, Declares, Delays, onwards, Runs, Follows, script_lines}
 use Rattle.script_told.specs.Run.{ScriptRun, done, stopped, behind, last_run, Goes, Takes, RunsFrom}
 use Rattle.script_told.specs.SomeAnswer.{IsReachedBus, HasAnswer, CommandsHaveAnswers, PlansHaveAnswers, BusesSettle}

@@ -1,5 +1,7 @@
 pub mod Running
 pub mod SomeRun
 pub mod SomeAdvice
+pub mod EachConfig
+pub mod EachMaps
 pub mod Heard
 pub mod codings

@@ -1,6 +1,8 @@
 //! Laws of plans, and of scripts.
 ghost use Rattle.script_told.specs.SomeAnswer.{PlansHaveAnswers};
 ghost use Rattle.script_told.specs.EachPlan.{EachPlanComesOut};
+ghost use Rattle.script_bus.specs.EachConfig.{EachConfigComesOut, EntriesFollowOn};
+ghost use Rattle.script_bus.specs.EachMaps.{MapsShowOneTree};
 ghost use Rattle.script_bus.specs.SomeRun.{EachScriptHasARun};
 ghost use Rattle.script_bus.specs.SomeAdvice.{EachScriptHasAnAdvice};
 
@@ -39,6 +41,36 @@ pub fn each_plan_comes_out()
     trees_stay();
     components_exist();
     reported_trees_are_managed();
+    forced_roots_settle();
+}
+
+/// A law: each command of a script's run is done where the one before it led.
+pub fn entries_follow_on()
+    ensures { EntriesFollowOn }
+{}
+
+/// A law: each `config` of a script that names an ID, and that a `settle` follows, comes out. The node
+/// that had the ID is the root of the tree that is reported, and every node of that has the gap count
+/// that was given.
+pub fn each_config_comes_out()
+    ensures { EachConfigComesOut }
+{
+    one_tree();
+    acts_keep();
+    trees_stay();
+    components_exist();
+    forced_roots_settle();
+}
+
+/// A law: two `maps` of nodes of one tree print the same where no act, no `plan` and no `settle` comes
+/// between them, whatever turns and holds do: the tree stands, and its root counts no reset.
+pub fn maps_show_one_tree()
+    ensures { MapsShowOneTree }
+{
+    one_tree();
+    acts_keep();
+    trees_stay();
+    components_exist();
     forced_roots_settle();
 }
 

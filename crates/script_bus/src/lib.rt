@@ -19,7 +19,8 @@ mod turns;
 pub use bank::Bank;
 pub use bus::{Bus, Notes};
 pub use laws::{
-    each_plan_comes_out, each_script_has_a_run, each_script_has_an_advice, plans_have_answers,
+    each_config_comes_out, each_plan_comes_out, each_script_has_a_run, each_script_has_an_advice,
+    entries_follow_on, maps_show_one_tree, plans_have_answers,
 };
 pub use listener::{Listener, Silent};
 pub use table::NameTable;
