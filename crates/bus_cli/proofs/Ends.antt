@@ -12,6 +12,7 @@ use Rattle.script_told.specs.EachReport.{ReportsAreSettled}
 use Rattle.bus_cli.specs.declared.fault.CaptureFault.{CaptureFault}
 use Rattle.bus_cli.specs.declared.fault.CaptureStop.{CaptureStop}
 use Rattle.bus_cli.specs.declared.answer.Answer.{Answer}
+use Rattle.bus_cli.specs.declared.answer.Answer.TheVariants.{Valid, Refused}
 use Rattle.bus_cli.specs.declared.form.Form.{Form}
 use Rattle.bus_cli.specs.declared.form.Form.TheVariants.{Capture, Make}
 use Rattle.bus_cli.specs.declared.form.CaptureForm.{CaptureForm}
@@ -100,6 +101,17 @@ pub of_form :
 of_form words form asks bytes s x (inl f) =
     subst (λ (g : Form). AnswersForm g bytes s x) (one_form words f.0 form f.1 asks) f.2
 of_form words form asks bytes s x (inr is) = absurd (is.0 (form, asks))
+
+-- an answer of a form that is known
+pub of_known :
+    (form known : Form) → form ≡ known → (bytes : List ℕ) (s : ℕ) (text : List ℕ) → AnswersForm known bytes s text →
+    AnswersForm form bytes s text
+of_known form known e bytes s text is = subst (λ (f : Form). AnswersForm f bytes s text) (sym e) is
+
+-- no answer has the status of words that are no form
+pub not_two : (a : Answer) → status_with a ≡ 2 → ⊥
+not_two (Valid text) e = cc
+not_two (Refused line) e = cc
 
 pub made_status : (words : List (String Global)) (bytes : List ℕ) (status : ℕ) (text : List ℕ) → AsksMake words → Answers words bytes status text → status ≡ 0
 made_status words bytes status text make is =

@@ -17,7 +17,7 @@ use crate::form::Form;
 use crate::laws::one_answer;
 use crate::status::{NO_FORM, NO_MEMORY, READ_FAULT, TOO_LONG, WRITE_FAULT};
 use io_edges::{ReadStop, Sink, Source, write_whole};
-use script_bus::each_plan_comes_out;
+use script_bus::{each_config_comes_out, each_plan_comes_out, maps_show_one_tree};
 use script_told::script_worlds_are_reached;
 use std::alloc::Global;
 
@@ -151,5 +151,7 @@ pub fn bus_main<S: Source, K: Sink>(
     one_answer();
     script_worlds_are_reached();
     each_plan_comes_out();
+    each_config_comes_out();
+    maps_show_one_tree();
     answer_words(alloc, words, source, sink)
 }

@@ -1,10 +1,11 @@
 use Rattle.std.proofs.Common.{◌≡◌, ◌∙◌, inl, refl, sym, ap, Err}
 use Rattle.bus_cli.specs.declared.form.Form.TheVariants.{Capture}
 use Rattle.bus_cli.specs.declared.form.CaptureForm.TheVariants.{Read}
-use Rattle.bus_cli.proofs.Forms.{few_nodes, is_unread}
+use Rattle.bus_cli.specs.codings.Reading.{status_with, text_with}
+use Rattle.bus_cli.proofs.Forms.{few_nodes, is_read, is_unread}
 use Rattle.bus_cli.specs.Answer.{Answers}
 use Rattle.bus_cli.proofs.Answering.{part_written, whole_written, exact_status, no_form_exact, no_form_complete}
-use Rattle.bus_cli.proofs.Ends.{written, or_else, taken_surely, no_form_answers, made_status, made_text}
+use Rattle.bus_cli.proofs.Ends.{written, or_else, taken_surely, no_form_answers, not_two, made_status, made_text}
 use Rattle.bus_cli.proofs.top.answer_words.Goals as goal
 
 pub returns-in-Err-Memory-clause-memory : goal.returns-in-Err-Memory-clause-memory
@@ -99,10 +100,42 @@ returns-in-Ok-write_whole-clause-answer g c = λ which.
     rw c.status.ensures (written c.args.words.now _ _ _ told.0 _ _ told.1 answers whole)
 
 pub returns-in-Ok-write_whole-clause-end : goal.returns-in-Ok-write_whole-clause-end
-returns-in-Ok-write_whole-clause-end g c = ?
+returns-in-Ok-write_whole-clause-end g c = λ which none.
+    let asks = (c.in-Some.ensures c.in-Some.form).0 refl in
+    c.in-Ok.ensures.end (is_read c.args.words.now c.in-Some.form asks none)
 
 pub returns-clause-end : goal.returns-clause-end
-returns-clause-end g c = ?
+returns-clause-end g c = λ which none.
+    let asks = (c.in-Some.ensures c.in-Some.form).0 refl in
+    c.in-Ok.ensures.end (is_read c.args.words.now c.in-Some.form asks none)
+
+pub returns-in-Ok-write_whole-clause-unread : goal.returns-in-Ok-write_whole-clause-unread
+returns-in-Ok-write_whole-clause-unread g c = λ which.
+    let asks = (c.in-Some.ensures c.in-Some.form).0 refl in
+    let make = or_else _ c.status.result 2 (λ e. not_two c.in-Ok.answer (sym c.status.ensures ∙ e)) which in
+    c.in-Ok.ensures.unread (is_unread c.args.words.now c.in-Some.form asks make)
+
+pub returns-clause-unread : goal.returns-clause-unread
+returns-clause-unread g c = λ which.
+    let asks = (c.in-Some.ensures c.in-Some.form).0 refl in
+    c.in-Ok.ensures.unread (is_unread c.args.words.now c.in-Some.form asks (or_else _ 4 2 (λ e. cc) which))
+
+pub returns-in-Ok-write_whole-clause-unfailing : goal.returns-in-Ok-write_whole-clause-unfailing
+returns-in-Ok-write_whole-clause-unfailing g c = λ make.
+    let told = c.in-Ok.ensures.answer in
+    let asks = (c.in-Some.ensures c.in-Some.form).0 refl in
+    let status = status_with c.in-Ok.answer in
+    let text = text_with c.in-Ok.answer in
+    let answers : Answers c.args.words.now told.0 status text = inl (c.in-Some.form, asks, told.2) in
+    let zero : c.status.result ≡ 0 = c.status.ensures ∙ made_status c.args.words.now told.0 status text make answers in
+    (λ e. cc, λ e. cc, λ e. cc)
 
 pub returns-in-Ok-write_whole-clause-make : goal.returns-in-Ok-write_whole-clause-make
-returns-in-Ok-write_whole-clause-make g c = ?
+returns-in-Ok-write_whole-clause-make g c = λ nodes seed make zero.
+    let told = c.in-Ok.ensures.answer in
+    let asks = (c.in-Some.ensures c.in-Some.form).0 refl in
+    let status = status_with c.in-Ok.answer in
+    let text = text_with c.in-Ok.answer in
+    let answers : Answers c.args.words.now told.0 status text = inl (c.in-Some.form, asks, told.2) in
+    let whole = rw c.text.ensures at c.in-Ok-write_whole.ensures.ok in
+    (text, made_text c.args.words.now nodes seed told.0 status text make answers, whole)
