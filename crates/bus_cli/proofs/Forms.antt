@@ -174,15 +174,19 @@ three_words a b c = by (same a (codes "make")) refl (nodes_word b (number_of b) 
   where
     by : (t : Bool) → same a (codes "make") ≡ t → ((n : ℕ) × (number_of b ≡ Some n) × (1 ≤ n) × (n ≤ 63)) ⊎ ((n : ℕ) → number_of b ≡ Some n → 1 ≤ n → n ≤ 63 → ⊥) →
         ((n : ℕ) × (number_of c ≡ Some n)) ⊎ ((n : ℕ) → number_of c ≡ Some n → ⊥) → AreMake (a ∷ b ∷ c ∷ []) ⊎ (AreMake (a ∷ b ∷ c ∷ []) → ⊥)
-    by true e (inl n) (inl s) = inl (n.0, s.0, record {
-      nodes_word = b;
-      seed_word = c;
-      words_are = ap (λ (w : List ℕ). w ∷ b ∷ c ∷ []) (same-true a (codes "make") e);
-      nodes_are = n.1;
-      some_nodes = n.2;
-      few_nodes = n.3;
-      seed_is = s.1;
-    })
+    by true e (inl n) (inl s) = inl (
+      n.0,
+      s.0,
+      record {
+        nodes_word = b;
+        seed_word = c;
+        words_are = ap (λ (w : List ℕ). w ∷ b ∷ c ∷ []) (same-true a (codes "make") e);
+        nodes_are = n.1;
+        some_nodes = n.2;
+        few_nodes = n.3;
+        seed_is = s.1;
+      },
+    )
     by true e (inl n) (inr none) = inr (λ m. none m.1 (subst (λ (w : List ℕ). number_of w ≡ Some m.1) (parts_of a b c [] m).2 m.2.seed_is))
     by true e (inr none) s = inr (λ m. none m.0 (subst (λ (w : List ℕ). number_of w ≡ Some m.0) (parts_of a b c [] m).1 m.2.nodes_are) m.2.some_nodes m.2.few_nodes)
     by false e n s = inr (λ m. let h = same-is a (codes "make") (parts_of a b c [] m).0 in apart h)

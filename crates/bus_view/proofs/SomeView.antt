@@ -7,7 +7,7 @@ use Rattle.quad_lanes.specs.Pairs.{quads_of}
 use Rattle.self_id.specs.declared.standard.Standard.TheVariants.{Ieee2000}
 use Rattle.self_id.specs.Node.{Node}
 use Rattle.topology_stack.specs.Tree.{Tree, walk}
-use Rattle.bus_manager.specs.codings.Reach.{reach}
+use Rattle.bus_manager.specs.Hops.{IsHops}
 use Rattle.bus_manager.proofs.Longest.{is_hops, small}
 use Rattle.bus_cli.specs.OneReading.{EachCaptureHasATreeOrAFault}
 use Rattle.bus_cli.specs.Capture.{Spells}
@@ -47,13 +47,15 @@ some-root t = elim (slice_get_cases (walk t) (length (walk t) - 1)).1 [
   | inr none ↦ absurd (omega (arith, none.0, (small t).0))
 ]
 
-some-drawing : (t : Tree) → (text : List ℕ) × IsDrawing t text
-some-drawing t =
-    let root = some-root t in
-    let hops : ℕ = (reach t).longest in (
+some-drawing-with : (t : Tree) (hops : ℕ) → IsHops t hops → (text : List ℕ) × IsDrawing t text
+some-drawing-with t hops are =
+    let root = some-root t in (
       drawing t hops root.0.attrs.gap,
-      record { hops = hops; root = root.0; are_hops = is_hops t; is_root = root.1; text_is = refl },
+      record { hops = hops; root = root.0; are_hops = are; is_root = root.1; text_is = refl },
     )
+
+some-drawing : (t : Tree) → (text : List ℕ) × IsDrawing t text
+some-drawing t = some-drawing-with t _ (is_hops t)
 
 some-text : (form : ViewForm) (bytes : List ℕ) (r : Reading) → All (λ b. b < 256) bytes → (form ≡ Trace → ⊥) → (text : List ℕ) × HasText form bytes r text
 some-text Packets bytes (spelt t) fit other =
