@@ -25,4 +25,4 @@ pub mod ResetsEnd
 -- answers of a world
 pub mod Answer
 -- how the code goes from item to item
-pub mod codings
+pub mod running

@@ -7,7 +7,7 @@ ghost use Rattle.cable_world.specs.Wire.{empty_wire};
 ghost use Rattle.cable_world.specs.World.{put};
 ghost use Rattle.cable_world.specs.Act.{ActLeads, IsAct, act_fault, change_in_set};
 ghost use Rattle.cable_world.specs.Answer.{IfFault, IsMemory};
-ghost use Rattle.cable_world.specs.codings.NodeActs.{AreLawful};
+ghost use Rattle.cable_world.specs.running.NodeActs.{AreLawful};
 ghost use Rattle.cable_world.specs.Parts.{world_record};
 
 use crate::act::{Act, ActStop};

@@ -5,10 +5,10 @@ ghost use Rattle.cable_world.specs.Wire.{arrives, stays};
 ghost use Rattle.cabling.specs.Wiring.{ports_of};
 ghost use Rattle.cable_world.specs.Turn.{node_turn, wires_after_sends, same_list};
 ghost use Rattle.cable_world.specs.Turn.{all_wires_after_sends, last_changes};
-ghost use Rattle.cable_world.specs.codings.Hearing.{inbox_of};
-ghost use Rattle.cable_world.specs.codings.Ages.{AreYoung};
-ghost use Rattle.cable_world.specs.codings.Spared.{AreMarked, StaysMarked, AreSpared};
-ghost use Rattle.cable_world.specs.codings.Steps.{turns_of, HasItsPorts};
+ghost use Rattle.cable_world.specs.running.Hearing.{inbox_of};
+ghost use Rattle.cable_world.specs.running.Ages.{AreYoung};
+ghost use Rattle.cable_world.specs.running.Spared.{AreMarked, StaysMarked, AreSpared};
+ghost use Rattle.cable_world.specs.running.Steps.{turns_of, HasItsPorts};
 ghost use Rattle.cable_world.specs.Parts.{world_record};
 ghost use Rattle.cable_world.specs.Turn.{turn};
 ghost use Rattle.cable_world.specs.Lawful.{IsLawful};
@@ -67,7 +67,7 @@ fn mark_hearers(cabling: &Cabling, node: u8, row: &ArrivalRow, hears: &mut [bool
 }
 
 /// Which nodes hear something.
-fn hearers(cabling: &Cabling, arrivals: &[ArrivalRow]) -> [bool; 63]
+pub fn hearers(cabling: &Cabling, arrivals: &[ArrivalRow]) -> [bool; 63]
     requires { length arrivals.now ≡ length cabling.now }
     ensures { AreSpared arrivals.now cabling.now result }
 {
@@ -92,7 +92,7 @@ pub fn last_change(before: usize, after: usize, turns: u32, last: u32) -> u32
 
 /// The turn of one node in turn number `turns`, from 1: answers when its list changed last, which
 /// was at the end of turn number `last` before.
-fn turn_one<M: PortMachine>(
+pub fn turn_one<M: PortMachine>(
     machine: &mut M,
     cabling: &Cabling,
     node: u8,

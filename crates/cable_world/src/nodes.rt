@@ -2,7 +2,7 @@
 ghost use Rattle.std.specs.Prelude.{◌≡◌, ◌<◌, [], length, OnOk, IsFalse};
 ghost use Rattle.cabling.specs.Wiring.{ports_of};
 ghost use Rattle.cable_world.specs.Turn.{node_turn, wires_after_sends};
-ghost use Rattle.cable_world.specs.codings.Hearing.{node_hears, on_one, arriving_from, inbox_of};
+ghost use Rattle.cable_world.specs.running.Hearing.{node_hears, on_one, arriving_from, inbox_of};
 
 use crate::rows::{ArrivalRow, WireRow};
 use cabling::{Cabling, End, OutOfMemory};

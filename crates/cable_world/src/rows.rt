@@ -5,8 +5,8 @@ ghost use Rattle.port_state.specs.Ports.{PortNumber};
 ghost use Rattle.cable_world.specs.Wire.{Wire, empty_wire, arrives, stays};
 ghost use Rattle.cable_world.specs.Turn.{wires_after_sends};
 ghost use Rattle.cable_world.specs.Still.{IsSilent, hold_less};
-ghost use Rattle.cable_world.specs.codings.Ages.{AreYoung};
-ghost use Rattle.cable_world.specs.codings.Rest.{AreAtRest, AreNone};
+ghost use Rattle.cable_world.specs.running.Ages.{AreYoung};
+ghost use Rattle.cable_world.specs.running.Rest.{AreAtRest, AreNone};
 
 use crate::wire::{Arrivals, Travelling, Wire};
 use cabling::OutOfMemory;

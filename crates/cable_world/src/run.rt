@@ -115,11 +115,6 @@ pub trait WorldRun {
         requires { node < length (world self.now).nodes }
         ensures { slice_get (world self.now).changed node ≡ Some result };
 
-    /// What is under way on the wire that leaves an end, the oldest first, each with the number of
-    /// turns for which it has been. Nothing is where there is no such end, or no cable at it.
-    fn under_way(&self, end: End) -> &[Travelling]
-        ensures { result.now ≡ (wire_of (world self.now) end).signals };
-
     /// Whether a call found no memory.
     fn spent(&self) -> bool
         ensures { result ≡ is_spent self.now };
@@ -127,6 +122,14 @@ pub trait WorldRun {
     // A world that isn't spent comes of a power-on world by acts, holds and turns, and so is lawful
     // (`worlds_stay_lawful`).
     ghost reached: { (w : Self) → IsFalse (is_spent w) → ∥ IsReached (world w) ∥₁ };
+}
+
+/// A world that shows what is under way on its wires.
+pub trait ShowsWires: WorldRun {
+    /// What is under way on the wire that leaves an end, the oldest first, each with the number of
+    /// turns for which it has been. Nothing is where there is no such end, or no cable at it.
+    fn under_way(&self, end: End) -> &[Travelling]
+        ensures { result.now ≡ (wire_of (Self.world self.now) end).signals };
 }
 
 /// A world that can tell for how long nothing happens, and pass over these turns at once.

@@ -3,7 +3,7 @@ ghost use Rattle.std.specs.Prelude.{◌≡◌, ◌≢◌, ◌<◌, ℕ, [], leng
 ghost use Rattle.port_state.specs.Ports.{is_connected};
 ghost use Rattle.port_state.specs.Machine.{node_disturb, node_plugged, node_pulled};
 ghost use Rattle.cable_world.specs.Turn.{wires_after_sends, same_list};
-ghost use Rattle.cable_world.specs.codings.NodeActs.{step_of, Suits, note_step, note_both, StepLeads};
+ghost use Rattle.cable_world.specs.running.NodeActs.{step_of, Suits, note_step, note_both, StepLeads};
 
 use crate::all_nodes::last_change;
 use crate::rows::WireRow;

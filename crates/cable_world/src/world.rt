@@ -10,7 +10,7 @@ use crate::act::{Act, ActStop};
 use crate::acting::act_world;
 use crate::all_nodes::turn_world;
 use crate::rows::{ArrivalRow, WireRow};
-use crate::run::{PassesTurns, WorldRun};
+use crate::run::{PassesTurns, ShowsWires, WorldRun};
 use crate::start::{arrival_rows, no_changes, port_counts, wire_rows};
 use crate::still::{all_idle_for, all_silent, pass_all, pass_wires};
 use crate::wire::Travelling;
@@ -178,18 +178,20 @@ impl<M: PortMachine> WorldRun for World<M> {
         self.changed[node as usize]
     }
 
+    fn spent(&self) -> bool {
+        self.spent
+    }
+
+    ghost reached = { λ w. w.reached };
+}
+
+impl<M: PortMachine> ShowsWires for World<M> {
     fn under_way(&self, end: End) -> &[Travelling] {
         match self.wires.get(end.node as usize) {
             None => &[],
             Some(row) => row.under_way(end.port),
         }
     }
-
-    fn spent(&self) -> bool {
-        self.spent
-    }
-
-    ghost reached = { λ w. w.reached };
 }
 
 impl<M: PortMachine> PassesTurns for World<M> {

@@ -10,14 +10,14 @@ ghost use Rattle.script_bus.specs.Running.{bus_now, IsSound, Stops};
 
 use crate::bus::Bus;
 use crate::listener::Silent;
-use cable_world::{Act, WorldRun};
+use cable_world::{Act, ShowsWires};
 use cabling::{Cable, End};
 use script_advice::{LoopAdvice, advice_text, advices};
 use script_lines::LineStop;
 use std::alloc::Global;
 use topology_stack::OutOfMemory;
 
-impl<W: WorldRun> Bus<W> {
+impl<W: ShowsWires> Bus<W> {
     /// Pulls a cable that is plugged in.
     fn pull_out(&mut self, alloc: Global, end: End) -> Result<(), OutOfMemory>
         requires sound { IsSound W.world W.is_spent self.old }
@@ -94,7 +94,7 @@ impl<W: WorldRun> Bus<W> {
     }
 }
 
-impl<W: WorldRun + Drop> Bus<W> {
+impl<W: ShowsWires + Drop> Bus<W> {
     /// The advice on a bus that has settled, and the report once the advised cables are pulled. The
     /// faults are those of `settle`.
     pub fn advised(mut self, alloc: Global) -> Result<Vec<u8>, LineStop>

@@ -10,7 +10,7 @@ ghost use Rattle.script_bus.specs.Running.{notes_now, bus_now, IsSound, Stops, r
 
 use crate::bank::Bank;
 use crate::table::NameTable;
-use cable_world::{Act, WorldRun};
+use cable_world::{Act, ShowsWires};
 use cabling::{End, Walk};
 use resource_manager::Seen;
 use script_lines::{Kind, LineStop};
@@ -133,7 +133,7 @@ impl Notes {
     }
 }
 
-impl<W: WorldRun> Bus<W> {
+impl<W: ShowsWires> Bus<W> {
     /// By how many turns a cable delays a signal at most.
     pub fn delay(&self) -> u8
         requires { IsSound W.world W.is_spent self.now }

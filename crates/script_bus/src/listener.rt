@@ -6,7 +6,7 @@ ghost use Rattle.script_trace.specs.Step.{lines_since, seen_before_act, turns_li
 ghost use Rattle.script_trace.specs.Trace.{command_line};
 ghost use Rattle.script_bus.specs.Heard.{heard};
 
-use cable_world::WorldRun;
+use cable_world::ShowsWires;
 use script_lines::Command;
 use script_trace::{Seen, put_command, put_since, seen_before_act, trace_turns};
 use std::alloc::Global;
@@ -28,7 +28,7 @@ pub trait Listener {
             ≡ written self.old ++ heard writes (command_line turn command.now)) };
 
     /// What so many nodes, all of them, show before an act, if it writes.
-    fn before_act<W: WorldRun>(
+    fn before_act<W: ShowsWires>(
         &self,
         alloc: Global,
         world: &W,
@@ -40,7 +40,7 @@ pub trait Listener {
             ≡ seen_before_act (W.world world.now) 0 (W.world world.now).nodes) };
 
     /// An act was done, before which the nodes showed `seen`.
-    fn after_act<W: WorldRun>(
+    fn after_act<W: ShowsWires>(
         &mut self,
         names: &[Name],
         seen: &[Seen],
@@ -52,7 +52,7 @@ pub trait Listener {
             ++ heard writes (lines_since names.now seen.now (W.world world.now))) };
 
     /// Does `count` turns. With those done before they are at most 4,000,000,000.
-    fn turns<W: WorldRun>(
+    fn turns<W: ShowsWires>(
         &mut self,
         alloc: Global,
         world: &mut W,
@@ -83,7 +83,7 @@ impl Listener for Silent {
         Ok(())
     }
 
-    fn before_act<W: WorldRun>(
+    fn before_act<W: ShowsWires>(
         &self,
         alloc: Global,
         _world: &W,
@@ -92,7 +92,7 @@ impl Listener for Silent {
         Ok(Vec::new(alloc))
     }
 
-    fn after_act<W: WorldRun>(
+    fn after_act<W: ShowsWires>(
         &mut self,
         _names: &[Name],
         _seen: &[Seen],
@@ -101,7 +101,7 @@ impl Listener for Silent {
         Ok(())
     }
 
-    fn turns<W: WorldRun>(
+    fn turns<W: ShowsWires>(
         &mut self,
         _alloc: Global,
         world: &mut W,
@@ -122,7 +122,7 @@ impl Listener for Vec<u8> {
         put_command(self, turn, command)
     }
 
-    fn before_act<W: WorldRun>(
+    fn before_act<W: ShowsWires>(
         &self,
         alloc: Global,
         world: &W,
@@ -131,7 +131,7 @@ impl Listener for Vec<u8> {
         seen_before_act(alloc, world, nodes)
     }
 
-    fn after_act<W: WorldRun>(
+    fn after_act<W: ShowsWires>(
         &mut self,
         names: &[Name],
         seen: &[Seen],
@@ -140,7 +140,7 @@ impl Listener for Vec<u8> {
         put_since(self, names, seen, world)
     }
 
-    fn turns<W: WorldRun>(
+    fn turns<W: ShowsWires>(
         &mut self,
         alloc: Global,
         world: &mut W,

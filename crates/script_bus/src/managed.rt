@@ -11,7 +11,7 @@ ghost use Rattle.resource_manager.specs.declared.access.Access.TheVariants as ac
 use crate::bank::Bank;
 use crate::bus::{Bus, Notes, Reported};
 use bus_manager::{Bid, attempt};
-use cable_world::WorldRun;
+use cable_world::ShowsWires;
 use resource_manager::{Access, Answer, Registers, Seen, look, serve};
 use script_lines::{Kind, LineStop};
 use script_text::{bid_text, csr_text, grant_text, tree_of};
@@ -67,7 +67,7 @@ impl Notes {
     }
 }
 
-impl<W: WorldRun> Bus<W> {
+impl<W: ShowsWires> Bus<W> {
     /// The node with a name asks the manager of its tree.
     pub(crate) fn asked(&self, alloc: Global, name: &Name) -> Result<Asked, LineStop>
         requires { IsSound W.world W.is_spent self.now }

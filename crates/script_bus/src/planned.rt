@@ -17,7 +17,7 @@ ghost use Rattle.script_lines.specs.declared.command.Command.TheVariants as comm
 use crate::bus::{Bus, Reported};
 use crate::listener::Listener;
 use crate::managed::Asked;
-use cable_world::{Act, ActStop, WorldRun, acts_keep};
+use cable_world::{Act, ActStop, ShowsWires, acts_keep};
 use cabling::Walk;
 use outcomes::trees_stay;
 use resource_manager::Register;
@@ -46,7 +46,7 @@ fn chosen(tree: &BusTree) -> RootPlan
     }
 }
 
-impl<W: WorldRun> Bus<W> {
+impl<W: ShowsWires> Bus<W> {
     /// Fails where the node that asks isn't the bus manager of its tree.
     pub(crate) fn check_bus_manager(&self, asked: Asked) -> Result<(), LineStop>
         requires sound { IsSound W.world W.is_spent self.now }

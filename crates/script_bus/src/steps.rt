@@ -10,7 +10,7 @@ ghost use Rattle.script_lines.specs.declared.command.Command.TheVariants as comm
 
 use crate::bus::{Bus, end_of};
 use crate::listener::Listener;
-use cable_world::{Act, WorldRun};
+use cable_world::{Act, ShowsWires};
 use resource_manager::Access;
 use script_lines::{Command, Kind, LineStop};
 use script_text::{maps_text, tree_of};
@@ -20,7 +20,7 @@ use topology_stack::Name;
 /// The number of maps of a script, at most.
 const MAX_MAPS: u32 = 100;
 
-impl<W: WorldRun> Bus<W> {
+impl<W: ShowsWires> Bus<W> {
     /// `plug NAME PORT NAME PORT`
     fn plug(
         &mut self,

@@ -11,14 +11,14 @@ ghost use Rattle.script_bus.specs.codings.Standing.{IsReportedNow, IsPassed};
 
 use crate::bus::Bus;
 use crate::listener::Listener;
-use cable_world::WorldRun;
+use cable_world::ShowsWires;
 use script_lines::{Kind, LineStop};
 use script_text::{report_text, reports_can_be_shown};
 use settle::{quiet_turns, report_of};
 use std::alloc::Global;
 use topology_stack::OutOfMemory;
 
-impl<W: WorldRun> Bus<W> {
+impl<W: ShowsWires> Bus<W> {
     /// `turn K`
     pub(crate) fn turn<L: Listener>(
         &mut self,
@@ -115,7 +115,7 @@ impl<W: WorldRun> Bus<W> {
     }
 }
 
-impl<W: WorldRun + Drop> Bus<W> {
+impl<W: ShowsWires + Drop> Bus<W> {
     /// Settles and reports, as `settle` does, for the last time.
     pub fn last_report<L: Listener>(
         mut self,

@@ -4,7 +4,7 @@ use topology_stack::Name;
 
 /// The command of a line. A `-` of `config` is `None`, and so is a key of a node that has no value of
 /// its own where it isn't given.
-#[derive(Debug, Drop)]
+#[derive(Clone, Debug, Drop, PartialEq, Eq)]
 pub enum Command {
     /// `node NAME PORTS` and pairs of key and value. Coin k is bit k of `coin_word`.
     Node {

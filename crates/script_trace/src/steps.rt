@@ -5,12 +5,12 @@ ghost use Rattle.cable_world.specs.Unchanged.{TurnsPass};
 ghost use Rattle.script_trace.specs.Step.{turn_lines, turns_lines};
 
 use crate::watch::{put_since, seen_before_turn};
-use cable_world::{WorldRun, turns_add_up};
+use cable_world::{ShowsWires, turns_add_up};
 use script_text::{Name, OutOfMemory};
 use std::alloc::Global;
 
 /// Does a turn, and appends what happens in it.
-fn trace_turn<W: WorldRun>(
+fn trace_turn<W: ShowsWires>(
     alloc: Global,
     world: &mut W,
     names: &[Name],
@@ -34,7 +34,7 @@ fn trace_turn<W: WorldRun>(
 /// Does `count` turns, and appends what happens in them, a line for each thing: turn by turn, and in
 /// a turn by rising number of the nodes. `names` has the name of each node. With the turns done
 /// before they are at most 4,000,000,000.
-pub fn trace_turns<W: WorldRun>(
+pub fn trace_turns<W: ShowsWires>(
     alloc: Global,
     world: &mut W,
     count: u32,

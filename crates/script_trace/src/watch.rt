@@ -4,7 +4,7 @@ ghost use Rattle.script_trace.specs.Event.{node_lines, all_sent_lines};
 ghost use Rattle.script_trace.specs.Step.{lines_since, seen_before_turn, seen_before_act, counts_from};
 
 use crate::node::{put_children, put_coin, put_id, put_parent, put_sent, put_state, put_timeout};
-use cable_world::{Travelling, WorldRun};
+use cable_world::{ShowsWires, Travelling};
 use cabling::End;
 use port_state::{PortView, View};
 use script_text::{Name, OutOfMemory};
@@ -27,7 +27,7 @@ impl Model for Seen {
 }
 
 /// The nodes before a turn. The world has 63 nodes at most, so many as are said.
-pub(crate) fn seen_before_turn<W: WorldRun>(
+pub(crate) fn seen_before_turn<W: ShowsWires>(
     alloc: Global,
     world: &W,
     nodes: usize,
@@ -47,7 +47,7 @@ pub(crate) fn seen_before_turn<W: WorldRun>(
 }
 
 /// How many signals are under way on each wire of a node with so many ports.
-fn counts<W: WorldRun>(
+fn counts<W: ShowsWires>(
     alloc: Global,
     world: &W,
     node: u8,
@@ -68,7 +68,7 @@ fn counts<W: WorldRun>(
 }
 
 /// The nodes before an act. The world has 63 nodes at most, so many as are said.
-pub fn seen_before_act<W: WorldRun>(
+pub fn seen_before_act<W: ShowsWires>(
     alloc: Global,
     world: &W,
     nodes: usize,
@@ -109,7 +109,7 @@ fn behind(signals: &[Travelling], count: usize) -> &[Travelling]
 }
 
 /// Appends a line for each signal that a node has sent since.
-fn put_all_sent<W: WorldRun>(
+fn put_all_sent<W: ShowsWires>(
     out: &mut Vec<u8>,
     names: &[Name],
     world: &W,
@@ -134,7 +134,7 @@ fn put_all_sent<W: WorldRun>(
 }
 
 /// Appends what happened at a node since it showed this.
-fn put_node<W: WorldRun>(
+fn put_node<W: ShowsWires>(
     out: &mut Vec<u8>,
     names: &[Name],
     world: &W,
@@ -158,7 +158,7 @@ fn put_node<W: WorldRun>(
 }
 
 /// Appends what happened since the nodes showed this. `names` has the name of each node, at most 63.
-pub fn put_since<W: WorldRun>(
+pub fn put_since<W: ShowsWires>(
     out: &mut Vec<u8>,
     names: &[Name],
     seen: &[Seen],

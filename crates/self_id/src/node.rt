@@ -1,7 +1,15 @@
 //! A node of the bus, as it shows itself.
 ghost use Rattle.std.specs.Prelude.{◌≡◌, ◌+◌, ◌<◌, ◌≤◌, List, [], ◌∷◌, ◌++◌, length};
+ghost use Rattle.std.specs.Prelude.{nat_eq};
+ghost use Rattle.std.specs.Cmp.Rules.{comparing};
+ghost use Rattle.std.proofs.Common.{rules};
+ghost use Rattle.std.specs.Cmp.{on_equiv, on_per, partial_equiv_from_equiv};
+ghost use Rattle.std.specs.Cmp.Lexicographic.{pointwise, lists_per, lists_equiv, nat_list_eq_equiv};
 
+use crate::quad_group::QuadGroup;
+use crate::writing::write_group;
 use arrayvec::ArrayVec;
+use std::alloc::AllocError;
 use std::marker::Model;
 
 /// What a slot of a node leads to.
@@ -52,6 +60,33 @@ impl Model for PortList {
     ghost view = { λ p. p.items.items };
 
     ghost invariant = { λ p. length p.items.items ≤ 27 };
+}
+
+/// A list of the same statuses. It takes no memory.
+impl Clone for PortList {
+    ghost is_clone = { λ list copy. copy ≡ list };
+
+    ghost is_infallible = { λ _. Unit {0} };
+
+    fn clone(&self) -> Result<PortList, AllocError> {
+        Ok(PortList {
+            items: self.items.clone()?,
+        })
+    }
+}
+
+impl PartialEq for PortList {
+    ghost eq = { λ p q. pointwise ⟦<PortStatus as PartialEq>⟧.eq p q };
+
+    ghost laws = { lists_per (Prim.search (comparing, rules)) };
+
+    fn eq(&self, other: &Self) -> bool {
+        self.items == other.items
+    }
+}
+
+impl Eq for PortList {
+    ghost laws = { lists_equiv (Prim.search (comparing, rules)) };
 }
 
 impl PortList {
@@ -114,6 +149,41 @@ impl Model for SelfId {
 }
 
 ghost use Rattle.self_id.specs.Node.{node_with, IsNode};
+ghost use Rattle.self_id.specs.Group.{group};
+
+/// A node that says the same. It takes no memory.
+impl Clone for SelfId {
+    ghost is_clone = { λ node copy. copy ≡ node };
+
+    ghost is_infallible = { λ _. Unit {0} };
+
+    fn clone(&self) -> Result<SelfId, AllocError> {
+        Ok(SelfId {
+            attrs: self.attrs,
+            ports: self.ports.clone()?,
+            kept_a: self.kept_a,
+            kept_b: self.kept_b,
+        })
+    }
+}
+
+/// Two nodes are equal where their groups are the same quadlets.
+impl PartialEq for SelfId {
+    ghost eq = { λ m n. pointwise nat_eq (group m 0) (group n 0) };
+
+    ghost laws = { on_per (λ n. group n 0) (partial_equiv_from_equiv nat_list_eq_equiv) };
+
+    fn eq(&self, other: &Self) -> bool {
+        let (mut one, mut other_one) = (QuadGroup::new(), QuadGroup::new());
+        write_group(self, 0, &mut one);
+        write_group(other, 0, &mut other_one);
+        one.as_slice() == other_one.as_slice()
+    }
+}
+
+impl Eq for SelfId {
+    ghost laws = { on_equiv (λ n. group n 0) nat_list_eq_equiv };
+}
 
 impl SelfId {
     /// A node with these attributes and slots that carries no other bits.

@@ -12,3 +12,4 @@ pub mod Ends
 pub mod Joining
 pub mod Highest
 mod Streaming
+mod Digits

@@ -4,6 +4,7 @@ ghost use Rattle.topology_stack.specs.codings.Links.{set_all, total};
 
 use crate::reading::MAX_NODES;
 use arrayvec::ArrayVec;
+use std::alloc::AllocError;
 use std::marker::Model;
 
 /// The IDs of each node's children, one node's behind the other's.
@@ -24,6 +25,20 @@ impl Model for ChildLists {
 
     ghost invariant = { λ c. (length c.ids.items ≤ 63)
         × Rises (length c.ids.items) 0 c.ends.items };
+}
+
+/// The same lists. It takes no memory.
+impl Clone for ChildLists {
+    ghost is_clone = { λ lists copy. copy ≡ lists };
+
+    ghost is_infallible = { λ _. Unit {0} };
+
+    fn clone(&self) -> Result<ChildLists, AllocError> {
+        Ok(ChildLists {
+            ids: self.ids.clone()?,
+            ends: self.ends.clone()?,
+        })
+    }
 }
 
 impl ChildLists {

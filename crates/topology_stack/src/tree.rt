@@ -1,5 +1,9 @@
 //! The bus tree.
 ghost use Rattle.std.specs.Prelude.{◌≡◌, ◌↔◌, ◌+◌, ◌<◌, ◌≤◌, ℕ, List, length, slice_get, Some, Ok, Err, IfOk, IfSome, IsNone};
+ghost use Rattle.std.specs.Cmp.{on_equiv, on_per};
+ghost use Rattle.std.specs.Cmp.Lexicographic.{pointwise, lists_per, lists_equiv};
+ghost use Rattle.std.specs.Cmp.Rules.{comparing};
+ghost use Rattle.std.proofs.Common.{rules};
 ghost use Rattle.self_id.specs.declared.standard.Standard.TheVariants.{Ieee1995, Ieee2000};
 ghost use Rattle.topology_stack.specs.Tree.{Tree, IsBusTree, IsBusTreeOf, emits, walk};
 ghost use Rattle.topology_stack.specs.Refused.{Refused};
@@ -14,7 +18,7 @@ use crate::reading::{MAX_NODES, nodes_of};
 use crate::slots::far_end;
 use arrayvec::ArrayVec;
 use self_id::{SelfId, Standard};
-use std::alloc::Global;
+use std::alloc::{AllocError, Global};
 use std::marker::Model;
 
 /// The tree of a bus: 1 to 63 nodes by ID, each child before its parent. The ID of a node is its
@@ -40,6 +44,36 @@ impl Model for BusTree {
 
     ghost invariant = { λ b. Stored (tree_of b.nodes.items) b.nodes.items b.parents.items
         b.children };
+}
+
+/// The same bus tree. It takes memory for its nodes.
+impl Clone for BusTree {
+    ghost is_clone = { λ tree copy. copy ≡ tree };
+
+    ghost is_infallible = { λ _. ⊥ };
+
+    fn clone(&self) -> Result<BusTree, AllocError> {
+        Ok(BusTree {
+            nodes: self.nodes.clone()?,
+            parents: self.parents.clone()?,
+            children: self.children.clone()?,
+        })
+    }
+}
+
+/// Two bus trees are equal where their nodes are, in the order of self identify.
+impl PartialEq for BusTree {
+    ghost eq = { λ t u. pointwise ⟦<SelfId as PartialEq>⟧.eq (walk t) (walk u) };
+
+    ghost laws = { on_per walk (lists_per (Prim.search (comparing, rules))) };
+
+    fn eq(&self, other: &BusTree) -> bool {
+        self.nodes == other.nodes
+    }
+}
+
+impl Eq for BusTree {
+    ghost laws = { on_equiv walk (lists_equiv (Prim.search (comparing, rules))) };
 }
 
 /// The bus tree of a standard whose nodes emit `quads`, as `read_tree` and `read_tree95` answer it.
@@ -131,7 +165,7 @@ impl BusTree {
     }
 
     /// The nodes by ID.
-    pub(crate) fn nodes(&self) -> &[SelfId]
+    pub fn nodes(&self) -> &[SelfId]
         ensures value { result.now ≡ walk self.now }
         ensures some { 0 < length result.now }
         ensures few { length result.now ≤ 63 }

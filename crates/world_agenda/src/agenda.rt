@@ -3,7 +3,7 @@ ghost use Rattle.std.specs.Prelude.{◌≡◌, ◌≤◌, length, map, IfOk, IsF
 ghost use Rattle.cable_world.specs.World.{world_of_nodes, IsNodeAtPowerOn};
 
 use crate::passing::run_over;
-use cable_world::{Act, ActStop, Travelling, World, WorldRun};
+use cable_world::{Act, ActStop, ShowsWires, Travelling, World, WorldRun};
 use cabling::{Cabling, End, OutOfMemory};
 use port_state::{PortMachine, View};
 use self_id::Attrs;
@@ -82,13 +82,15 @@ impl<M: PortMachine> WorldRun for AgendaWorld<M> {
         self.nodes.changed(node)
     }
 
-    fn under_way(&self, end: End) -> &[Travelling] {
-        self.nodes.under_way(end)
-    }
-
     fn spent(&self) -> bool {
         self.nodes.spent()
     }
 
     ghost reached = { λ a. a.nodes.reached };
+}
+
+impl<M: PortMachine> ShowsWires for AgendaWorld<M> {
+    fn under_way(&self, end: End) -> &[Travelling] {
+        self.nodes.under_way(end)
+    }
 }

@@ -13,7 +13,7 @@ use Rattle.cable_world.specs.Wire.{Wire}
 use Rattle.cable_world.specs.World.{CableWorld, NodeSet}
 use Rattle.cable_world.specs.Turn.{wires_after_sends, same_list, last_changes}
 use Rattle.cable_world.specs.Act.{put_step, step_at, with_step, note_changes, change_in_set}
-use Rattle.cable_world.specs.codings.NodeActs.{note_step, note_both}
+use Rattle.cable_world.specs.running.NodeActs.{note_step, note_both}
 use Rattle.cable_world.specs.Parts.{world_record}
 use Rattle.cable_world.proofs.Options.{some-same}
 use Rattle.cable_world.proofs.tables.TablesInSteps.{not-replaced}

@@ -15,7 +15,7 @@ use Rattle.cable_world.specs.World.{CableWorld, NodeSet, put}
 use Rattle.cable_world.specs.Turn.{wires_after_sends}
 use Rattle.cable_world.specs.Act.{step_at, with_step, plug, pull_from, pull, change_in_set, configure, note_changes}
 use Rattle.cable_world.specs.Lawful.{IsWellFormed}
-use Rattle.cable_world.specs.codings.NodeActs.{note_both, note_step}
+use Rattle.cable_world.specs.running.NodeActs.{note_both, note_step}
 use Rattle.cable_world.specs.Parts.{world_record}
 use Rattle.cable_world.proofs.Options.{some-at}
 use Rattle.cable_world.proofs.tables.TablesInSteps.{put-lengths, sent-length}

@@ -8,8 +8,8 @@ use Rattle.port_state.specs.Machine.{PortNode, NodeStep}
 use Rattle.cable_world.specs.Wire.{Wire, empty_wire, arrives}
 use Rattle.cable_world.specs.World.{CableWorld}
 use Rattle.cable_world.specs.Turn.{signals_from, inbox, node_turn, node_turns, wires_after_sends, all_wires_after_sends, same_list, last_changes}
-use Rattle.cable_world.specs.codings.Hearing.{Arriving, on_one, arriving_from, inbox_of}
-use Rattle.cable_world.specs.codings.Steps.{turns_of}
+use Rattle.cable_world.specs.running.Hearing.{Arriving, on_one, arriving_from, inbox_of}
+use Rattle.cable_world.specs.running.Steps.{turns_of}
 
 -- rows of two tables are as long
 pub same-row :

@@ -14,7 +14,7 @@ use Rattle.port_state.specs.Heard.{on_signal}
 use Rattle.port_state.specs.Machine.{PortNode, node_on_signal}
 use Rattle.cable_world.specs.Wire.{Wire}
 use Rattle.cable_world.specs.Turn.{hear_all, wires_after_sends}
-use Rattle.cable_world.specs.codings.Hearing.{Arriving, node_hears, on_one, arriving_from, inbox_of}
+use Rattle.cable_world.specs.running.Hearing.{Arriving, node_hears, on_one, arriving_from, inbox_of}
 use Rattle.cable_world.proofs.running.Sending.{sends-then}
 
 -- ---- what is sent goes to wires that are there

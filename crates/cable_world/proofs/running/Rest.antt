@@ -4,7 +4,7 @@ use Rattle.std.proofs.lemmas.List.Elements.{All-tail, All-map}
 use Rattle.port_state.specs.declared.signal.Signal.{Signal}
 use Rattle.cable_world.specs.Wire.{Wire, empty_wire, arrives, stays}
 use Rattle.cable_world.specs.Still.{hold_less}
-use Rattle.cable_world.specs.codings.Rest.{AreAtRest, AreNone}
+use Rattle.cable_world.specs.running.Rest.{AreAtRest, AreNone}
 
 abbrev pub AtRest : Wire → Type 0
 AtRest w = w ≡ empty_wire

@@ -3,8 +3,8 @@ use Rattle.std.proofs.Common.{◌≡◌, ℕ, zero, suc, ◌+◌, ◌<◌, ◌�
 use Rattle.cabling.specs.declared.cable.End.{End}
 use Rattle.cabling.specs.Wiring.{Wiring, ports_of, far, IsCabling}
 use Rattle.cabling.proofs.Ends.{plugged}
-use Rattle.cable_world.specs.codings.Hearing.{Arriving, on_one, arriving_from, inbox_of}
-use Rattle.cable_world.specs.codings.Spared.{IsMarked, StaysMarked, AreSpared}
+use Rattle.cable_world.specs.running.Hearing.{Arriving, on_one, arriving_from, inbox_of}
+use Rattle.cable_world.specs.running.Spared.{IsMarked, StaysMarked, AreSpared}
 
 -- a mark that is set is there, and takes none away
 pub set_marks : (hears : List Bool) (i : ℕ) → IsMarked (slice_set hears i true) i

@@ -21,9 +21,9 @@ use Rattle.cable_world.specs.World.{CableWorld, put, wire_of}
 use Rattle.cable_world.specs.Turn.{node_turns, all_wires_after_sends, last_changes, turn}
 use Rattle.cable_world.specs.Lawful.{AgesFall, IsWellFormed, IsLawful}
 use Rattle.cable_world.specs.Run.{IsReached}
-use Rattle.cable_world.specs.codings.Ages.{AreYoung}
-use Rattle.cable_world.specs.codings.Hearing.{Arriving}
-use Rattle.cable_world.specs.codings.Steps.{turns_of, HasItsPorts}
+use Rattle.cable_world.specs.running.Ages.{AreYoung}
+use Rattle.cable_world.specs.running.Hearing.{Arriving}
+use Rattle.cable_world.specs.running.Steps.{turns_of, HasItsPorts}
 use Rattle.cable_world.specs.Parts.{world_record}
 use Rattle.cable_world.proofs.OneProof.{lawful_prop}
 use Rattle.cable_world.proofs.StaysLawful.{reached-lawful}

@@ -1,7 +1,7 @@
 use Rattle.std.proofs.Common.{◌≡◌, ◌<◌, ℕ, true, false, [], Some, None, get_or}
 use Rattle.cabling.specs.declared.cable.End.{End}
 use Rattle.cabling.specs.Wiring.{ports_of}
-use Rattle.cable_world.specs.codings.Spared.{StaysMarked}
+use Rattle.cable_world.specs.running.Spared.{StaysMarked}
 use Rattle.cable_world.proofs.all_nodes.mark_hearers.Given as goal
 
 abbrev pub invariant-loop-port : goal.invariant-loop-port

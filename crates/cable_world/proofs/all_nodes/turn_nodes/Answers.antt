@@ -4,8 +4,8 @@ use Rattle.std.proofs.Math.ListN.{get_or-map}
 use Rattle.cabling.specs.Wiring.{ports_of}
 use Rattle.port_state.specs.Machine.{NodeStep}
 use Rattle.cable_world.specs.Turn.{node_turn, wires_after_sends, all_wires_after_sends, last_changes, same_list}
-use Rattle.cable_world.specs.codings.Hearing.{inbox_of}
-use Rattle.cable_world.specs.codings.Steps.{turns_of}
+use Rattle.cable_world.specs.running.Hearing.{inbox_of}
+use Rattle.cable_world.specs.running.Steps.{turns_of}
 use Rattle.cable_world.proofs.running.Mixed.{next-is, mixed-set, mixed-all}
 use Rattle.cable_world.proofs.running.AllNodes.{steps-length, step-at, rows-length, row-at, changes-length, change-at, get-some, record-at}
 use Rattle.cable_world.proofs.all_nodes.turn_nodes.Goals as goal

@@ -1,7 +1,7 @@
 use Rattle.std.proofs.Common.{◌≡◌, map}
 use Rattle.port_state.specs.Machine.{NodeStep}
 use Rattle.cable_world.specs.Turn.{all_wires_after_sends, last_changes}
-use Rattle.cable_world.specs.codings.Steps.{turns_of}
+use Rattle.cable_world.specs.running.Steps.{turns_of}
 use Rattle.cable_world.proofs.running.Mixed.{mixed}
 use Rattle.cable_world.proofs.all_nodes.turn_nodes.Given as goal
 

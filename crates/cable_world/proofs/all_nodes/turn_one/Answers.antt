@@ -2,7 +2,7 @@ use Rattle.std.proofs.Common.{◌∙◌, ◌==◌, length, ap, sym, if◌then◌
 use Rattle.cabling.specs.Wiring.{ports_of}
 use Rattle.port_state.specs.Machine.{PortNode}
 use Rattle.cable_world.specs.Turn.{same_list}
-use Rattle.cable_world.specs.codings.Hearing.{inbox_of}
+use Rattle.cable_world.specs.running.Hearing.{inbox_of}
 use Rattle.cable_world.proofs.running.Lists.{turn-seen}
 use Rattle.cable_world.proofs.all_nodes.turn_one.Goals as goal
 

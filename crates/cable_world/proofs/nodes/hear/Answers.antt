@@ -1,6 +1,6 @@
 use Rattle.std.proofs.Common.{◌∙◌, ap, sym}
 use Rattle.cable_world.specs.Turn.{wires_after_sends}
-use Rattle.cable_world.specs.codings.Hearing.{node_hears}
+use Rattle.cable_world.specs.running.Hearing.{node_hears}
 use Rattle.cable_world.proofs.running.Sending.{no-sends}
 use Rattle.cable_world.proofs.nodes.hear.Goals as goal
 

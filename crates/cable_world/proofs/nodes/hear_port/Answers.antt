@@ -4,7 +4,7 @@ use Rattle.port_state.specs.declared.signal.Signal.TheVariants as signal
 use Rattle.port_state.specs.Heard.{on_signal}
 use Rattle.port_state.proofs.Laws.{sound-on_signal}
 use Rattle.cable_world.specs.Turn.{wires_after_sends}
-use Rattle.cable_world.specs.codings.Hearing.{node_hears, on_one}
+use Rattle.cable_world.specs.running.Hearing.{node_hears, on_one}
 use Rattle.cable_world.proofs.running.Sending.{no-sends}
 use Rattle.cable_world.proofs.running.Hearing.{sends-fit, hear-more, hear-more-sent}
 use Rattle.cable_world.proofs.nodes.hear_port.Goals as goal

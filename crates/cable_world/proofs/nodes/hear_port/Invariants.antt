@@ -1,6 +1,6 @@
 use Rattle.std.proofs.Common.{◌≡◌, length, drop}
 use Rattle.cable_world.specs.Turn.{wires_after_sends}
-use Rattle.cable_world.specs.codings.Hearing.{node_hears, on_one}
+use Rattle.cable_world.specs.running.Hearing.{node_hears, on_one}
 use Rattle.cable_world.proofs.nodes.hear_port.Given as goal
 
 abbrev pub invariant-loop-signal : goal.invariant-loop-signal

@@ -2,7 +2,7 @@ use Rattle.std.proofs.Common.{◌≡◌, ◌∙◌, ◌<◌, None, length, get_o
 use Rattle.std.proofs.lemmas.List.{drop_all}
 use Rattle.cabling.specs.Wiring.{ports_of}
 use Rattle.cable_world.specs.Turn.{wires_after_sends}
-use Rattle.cable_world.specs.codings.Hearing.{node_hears, on_one, arriving_from, inbox_of}
+use Rattle.cable_world.specs.running.Hearing.{node_hears, on_one, arriving_from, inbox_of}
 use Rattle.cable_world.proofs.running.Sending.{no-sends}
 use Rattle.cable_world.proofs.running.Hearing.{port-more, port-more-sent}
 use Rattle.cable_world.proofs.nodes.hear_ports.Goals as goal

@@ -1,7 +1,7 @@
 use Rattle.std.proofs.Common.{◌≡◌, length, drop}
 use Rattle.cabling.specs.Wiring.{ports_of}
 use Rattle.cable_world.specs.Turn.{wires_after_sends}
-use Rattle.cable_world.specs.codings.Hearing.{node_hears, inbox_of}
+use Rattle.cable_world.specs.running.Hearing.{node_hears, inbox_of}
 use Rattle.cable_world.proofs.nodes.hear_ports.Given as goal
 
 abbrev pub invariant-loop-port : goal.invariant-loop-port

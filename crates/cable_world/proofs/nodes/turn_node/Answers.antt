@@ -5,7 +5,7 @@ use Rattle.port_state.specs.Tick.{tick}
 use Rattle.port_state.specs.Machine.{node_tick}
 use Rattle.port_state.proofs.Laws.{sound-tick}
 use Rattle.cable_world.specs.Turn.{wires_after_sends}
-use Rattle.cable_world.specs.codings.Hearing.{node_hears, inbox_of}
+use Rattle.cable_world.specs.running.Hearing.{node_hears, inbox_of}
 use Rattle.cable_world.proofs.running.Sending.{sends-then}
 use Rattle.cable_world.proofs.running.Hearing.{sends-fit}
 use Rattle.cable_world.proofs.nodes.turn_node.Goals as goal

@@ -1,5 +1,5 @@
 use Rattle.std.proofs.Common.{take}
-use Rattle.cable_world.specs.codings.Rest.{AreAtRest}
+use Rattle.cable_world.specs.running.Rest.{AreAtRest}
 use Rattle.cable_world.proofs.rows.are_at_rest.Given as goal
 
 abbrev pub invariant-loop-wire : goal.invariant-loop-wire

@@ -1,7 +1,7 @@
 use Rattle.std.proofs.Common.{◌≡◌, ◌∙◌, [], map, length, slice_get, slice_index_or, ap}
 use Rattle.port_state.specs.Machine.{PortNode}
 use Rattle.cable_world.specs.World.{CableWorld}
-use Rattle.cable_world.specs.codings.NodeActs.{step_of, Suits, note_step}
+use Rattle.cable_world.specs.running.NodeActs.{step_of, Suits, note_step}
 use Rattle.cable_world.specs.Parts.{world_record}
 use Rattle.cable_world.proofs.Options.{some-of, some-at}
 use Rattle.cable_world.proofs.running.Acting.{node-then, wires-then, both}

@@ -1,6 +1,6 @@
 use Rattle.std.proofs.Common.{◌≡◌, ◌∙◌, ◌<◌, [], length, ap, arith, slice_index_or}
 use Rattle.std.proofs.lemmas.List.{get_or_default}
-use Rattle.cable_world.specs.codings.NodeActs.{step_of, Suits}
+use Rattle.cable_world.specs.running.NodeActs.{step_of, Suits}
 use Rattle.cable_world.proofs.running.Acting.{from-some, step-is}
 use Rattle.cable_world.proofs.steps.step_node.Goals as goal
 

@@ -1,6 +1,6 @@
 use Rattle.std.proofs.Common.{◌<◌, ◌≤◌, ◌∙◌, length, map, refl, sym, subst, rules}
 use Rattle.std.proofs.lemmas.List.{length-map}
-use Rattle.cable_world.specs.codings.Rest.{AreNone}
+use Rattle.cable_world.specs.running.Rest.{AreNone}
 use Rattle.cable_world.proofs.running.Mixed.{next-is, mixed-map, mixed-all}
 use Rattle.cable_world.proofs.running.Rest.{gone, none-same, none-gone}
 use Rattle.cable_world.proofs.rows.ArrivalRow.clear.Goals as goal

@@ -1,7 +1,7 @@
 use Rattle.std.proofs.Common.{◌<◌, length, map, refl, sym, subst, rules}
 use Rattle.std.proofs.lemmas.List.{length-map}
 use Rattle.cable_world.specs.Still.{hold_less}
-use Rattle.cable_world.specs.codings.Rest.{AreAtRest}
+use Rattle.cable_world.specs.running.Rest.{AreAtRest}
 use Rattle.cable_world.proofs.running.Mixed.{next-is, mixed-map}
 use Rattle.cable_world.proofs.running.Rest.{rest-passes}
 use Rattle.cable_world.proofs.rows.WireRow.pass.Goals as goal

@@ -1,7 +1,7 @@
 use Rattle.std.proofs.Common.{◌<◌, ◌≡◌, ◌∙◌, length, map, refl, sym, subst, rules}
 use Rattle.std.proofs.lemmas.List.{length-map}
 use Rattle.cable_world.specs.Wire.{arrives, stays}
-use Rattle.cable_world.specs.codings.Rest.{AreAtRest}
+use Rattle.cable_world.specs.running.Rest.{AreAtRest}
 use Rattle.cable_world.proofs.running.Mixed.{next-is, mixed-map}
 use Rattle.cable_world.proofs.running.Rest.{rest-stays, rest-arrives}
 use Rattle.cable_world.proofs.rows.WireRow.turn.Goals as goal

@@ -1,5 +1,4 @@
--- Wires on which nothing is under way and which aren't held, and ends where nothing arrives. No public contract of a
--- world cites this file.
+-- Wires on which nothing is under way and which aren't held, and ends where nothing arrives.
 use Rattle.std.specs.Prelude.{◌≡◌, List, [], All}
 use Rattle.port_state.specs.declared.signal.Signal.{Signal}
 use Rattle.cable_world.specs.Wire.{Wire, empty_wire}

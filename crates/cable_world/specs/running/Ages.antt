@@ -1,4 +1,4 @@
--- Ages that have room to grow. No public contract of a world cites this file.
+-- Ages that have room to grow.
 use Rattle.std.specs.Prelude.{◌<◌, All}
 use Rattle.cable_world.specs.Wire.{Travelling, Wire}
 

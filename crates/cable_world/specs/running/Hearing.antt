@@ -1,5 +1,4 @@
--- What a node hears in a turn, taken from a table of what arrives from each wire. No public contract of a world
--- cites this file.
+-- What a node hears in a turn, taken from a table of what arrives from each wire.
 use Rattle.std.specs.Prelude.{◌+◌, List, [], ◌∷◌, ◌++◌, map, Option, None, Some, slice_index_or}
 use Rattle.cabling.specs.declared.cable.End.{End}
 use Rattle.port_state.specs.declared.signal.Signal.{Signal}

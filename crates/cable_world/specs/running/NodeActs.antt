@@ -1,4 +1,4 @@
--- A step of one node between two turns, by a name. No public contract of a world cites this file.
+-- A step of one node between two turns, by a name.
 use Rattle.std.specs.Prelude.{◌≡◌, ℕ, ◌<◌, List, IsTrue, IsFalse}
 use Rattle.cabling.specs.Wiring.{Wiring}
 use Rattle.port_state.specs.Ports.{is_connected}

@@ -1,9 +1,9 @@
--- Which nodes are marked as those that may hear something. No public contract of a world cites this file.
+-- Which nodes are marked as those that may hear something.
 use Rattle.std.specs.Prelude.{◌≡◌, ℕ, Bool, true, false, [], List, Some, slice_index_or}
 use Rattle.cabling.specs.declared.cable.End.{End}
 use Rattle.cabling.specs.Wiring.{Wiring, NodeNumber, ports_of, far}
 use Rattle.port_state.specs.declared.signal.Signal.{Signal}
-use Rattle.cable_world.specs.codings.Hearing.{Arriving, inbox_of}
+use Rattle.cable_world.specs.running.Hearing.{Arriving, inbox_of}
 
 -- a node is marked, where there is a mark for it
 abbrev pub IsMarked : List Bool → NodeNumber → Type 0

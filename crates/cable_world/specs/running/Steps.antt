@@ -1,12 +1,11 @@
--- The steps of all nodes in a turn, taken from a table of what arrives from each wire. No public contract of a world
--- cites this file.
+-- The steps of all nodes in a turn, taken from a table of what arrives from each wire.
 use Rattle.std.specs.Prelude.{◌≡◌, List, [], ◌∷◌, length, Some, slice_get, slice_index_or}
 use Rattle.cabling.specs.Wiring.{Wiring, ports_of}
 use Rattle.port_state.specs.Machine.{PortNode, NodeStep}
 use Rattle.cable_world.specs.Wire.{Wire}
 use Rattle.cable_world.specs.World.{NodeNumber}
 use Rattle.cable_world.specs.Turn.{node_turn}
-use Rattle.cable_world.specs.codings.Hearing.{Arriving, inbox_of}
+use Rattle.cable_world.specs.running.Hearing.{Arriving, inbox_of}
 
 -- every node, with its ports' far ends
 abbrev pub turns_of : Arriving → Wiring → List PortNode → List NodeStep
