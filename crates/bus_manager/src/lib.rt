@@ -6,8 +6,6 @@ mod election;
 mod gap;
 mod paths;
 mod plan;
-#[cfg(test)]
-mod tests;
 
 pub use election::{Bid, attempt};
 pub use gap::gap_for;

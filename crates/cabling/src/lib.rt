@@ -24,5 +24,3 @@ pub use tree::TreeFromFault;
 pub use walk::{Cyclic, Walk};
 pub use wiring::{Cabling, cables_are_two_ended};
 
-#[cfg(test)]
-mod tests;

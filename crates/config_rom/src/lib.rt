@@ -21,5 +21,3 @@ pub use rom::{Rom, decode_rom, encode_rom};
 pub use sealing::seal;
 pub use text::rom_text;
 
-#[cfg(test)]
-mod tests;

@@ -21,5 +21,3 @@ pub use stop::{OutOfMemory, ReadStop};
 pub use traits::{Failed, Sink, Source, Taker};
 pub use whole::{read_all, write_whole};
 
-#[cfg(test)]
-mod tests;

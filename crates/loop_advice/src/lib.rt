@@ -19,5 +19,3 @@ pub use cabling::OutOfMemory;
 pub use certificate::check;
 pub use laws::{advices_exist, no_fewer_pulls_do, pulls_leave_a_tree};
 
-#[cfg(test)]
-mod tests;

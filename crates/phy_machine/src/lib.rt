@@ -13,8 +13,6 @@ mod node;
 mod packed;
 mod port_words;
 mod spec;
-#[cfg(test)]
-mod tests;
 
 pub use any::AnyMachine;
 pub use field::FieldMachine;

@@ -5,8 +5,6 @@
 
 mod packet;
 mod quadlet;
-#[cfg(test)]
-mod tests;
 
 pub use packet::PhyPacket;
 pub use quadlet::{decode, encode, is_packet_zero, is_valid};

@@ -16,8 +16,6 @@ mod sends;
 mod signal;
 pub mod states;
 mod step_laws;
-#[cfg(test)]
-mod tests;
 mod timing;
 mod view;
 

@@ -6,8 +6,6 @@ mod capture;
 mod kernels;
 mod list;
 mod pairs;
-#[cfg(test)]
-mod tests;
 
 pub use capture::{capture_is_read_back, good_pairs_are_a_capture};
 pub use kernels::{first_bad_pair, min_row, same_list};

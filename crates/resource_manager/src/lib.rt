@@ -16,5 +16,3 @@ pub use grant::{GrantFault, Seen, allocate, look, release};
 pub use register::Register;
 pub use registers::{COMPARE_SWAP, Registers, Reply};
 
-#[cfg(test)]
-mod tests;

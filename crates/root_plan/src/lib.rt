@@ -5,8 +5,6 @@ mod choice;
 mod expected;
 mod laws;
 mod reach;
-#[cfg(test)]
-mod tests;
 
 pub use choice::{RootPlan, choose};
 pub use expected::expect;

@@ -26,5 +26,3 @@ pub use line::{parse_line, says_nothing};
 pub use number::number_of;
 pub use topology_stack::{Name, OutOfMemory};
 
-#[cfg(test)]
-mod tests;

@@ -9,8 +9,6 @@ mod packets;
 mod quad_group;
 mod slots;
 mod standard;
-#[cfg(test)]
-mod tests;
 mod writing;
 
 pub use fault::GroupFault;

@@ -16,5 +16,3 @@ pub use same_bus::equal_lists_make_one_bus;
 pub use sealed::image;
 pub use sweeps::{parent_of, rows};
 
-#[cfg(test)]
-mod tests;

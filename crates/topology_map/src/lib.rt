@@ -14,5 +14,3 @@ pub use laws::images_exist;
 pub use map::{MapParts, image, read_image};
 pub use sealed::seal;
 
-#[cfg(test)]
-mod tests;

@@ -30,5 +30,3 @@ pub use text::tree_text;
 pub use tree::{BusTree, read_tree, read_tree95};
 pub use writing::write_tree;
 
-#[cfg(test)]
-mod tests;

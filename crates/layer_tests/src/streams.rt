@@ -1,4 +1,6 @@
-use crate::{
+//! Bytes in and out, with faults.
+
+use io_edges::{
     Failed, MemSink, MemSource, ReadSource, ReadStop, Sink, Source, SureSource, WriteSink,
     read_all, write_whole,
 };

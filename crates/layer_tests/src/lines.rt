@@ -1,4 +1,6 @@
-use crate::{Command, Kind, LineStop, parse_line};
+//! Lines of scripts and their faults.
+
+use script_lines::{Command, Kind, LineStop, parse_line};
 use std::alloc::Global;
 use std::test::Fail;
 

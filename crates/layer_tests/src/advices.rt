@@ -1,5 +1,7 @@
-use crate::{Advice, CableList, OutOfMemory, advise, cables_of, check};
+//! Which cables are pulled.
+
 use cabling::{Cable, Cabling, End};
+use loop_advice::{Advice, CableList, OutOfMemory, advise, cables_of, check};
 use std::alloc::Global;
 use std::test::Fail;
 

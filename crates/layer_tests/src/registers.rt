@@ -1,5 +1,8 @@
 //! Worked accesses, in their order.
-use crate::{Access, Answer, GrantFault, Registers, Reply, Seen, are_permitted, serve, serve_all};
+
+use resource_manager::{
+    Access, Answer, GrantFault, Registers, Reply, Seen, are_permitted, serve, serve_all,
+};
 
 const BUS_MANAGER_ID: u32 = 0x21C;
 

@@ -1,4 +1,6 @@
-use crate::{
+//! Groups of self-ID packets, both ways.
+
+use self_id::{
     Attrs, GroupFault, PortStatus, QuadGroup, SelfId, read_group, read_group95, write_group,
 };
 use std::test::Fail;

@@ -1,4 +1,6 @@
-use crate::{image, rows};
+//! Speeds between nodes.
+
+use speed_map::{image, rows};
 use std::test::Fail;
 use topology_stack::read_tree;
 

@@ -1,5 +1,7 @@
-use crate::{RootPlan, choose, expect};
+//! The root that suits a bus best.
+
 use cabling::{Cabling, End, Walk};
+use root_plan::{RootPlan, choose, expect};
 use std::test::Fail;
 use topology_stack::read_tree;
 

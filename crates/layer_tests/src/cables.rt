@@ -1,4 +1,6 @@
-use crate::{Cable, CableFault, Cabling, Cyclic, End, OutOfMemory, TreeFromFault};
+//! Cables, cores, walks and the trees that cables describe.
+
+use cabling::{Cable, CableFault, Cabling, Cyclic, End, OutOfMemory, TreeFromFault};
 use self_id::Attrs;
 use std::alloc::Global;
 use std::test::Fail;

@@ -1,7 +1,7 @@
 use Rattle.std.proofs.Common.{◌≡◌, ℕ, ◌<◌, ◌≤◌, get_or, arith}
 use Rattle.std.proofs.Math.ListN.{replicate}
 use Rattle.std.proofs.lemmas.List.{get_or-replicate}
-use Rattle.cabling.proofs.tests.longest_line.Goals as goal
+use Rattle.layer_tests.proofs.cables.longest_line.Goals as goal
 
 two : ℕ
 two = 2

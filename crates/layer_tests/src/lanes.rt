@@ -1,4 +1,8 @@
-use crate::{PairFault, QuadList, first_bad_pair, firsts, min_row, pairs_of, quads_of, same_list};
+//! Pairs and the kernels over lanes.
+
+use quad_lanes::{
+    PairFault, QuadList, first_bad_pair, firsts, min_row, pairs_of, quads_of, same_list,
+};
 use std::test::Fail;
 
 #[test]

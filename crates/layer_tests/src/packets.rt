@@ -1,4 +1,6 @@
-use crate::{PhyPacket, decode, encode, is_valid};
+//! PHY packets, both ways.
+
+use phy_packet::{PhyPacket, decode, encode, is_valid};
 use std::test::Fail;
 
 // Quadlets and the packets that the standard's figures make of them.

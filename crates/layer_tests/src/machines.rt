@@ -1,6 +1,7 @@
+//! Two nodes become a tree, and contend.
 ghost use Rattle.phy_machine.specs.PowerOn.{IsSpec};
 
-use super::*;
+use phy_machine::*;
 use port_state::{Coins, Phase, PortMachine, Sends, Signal, Timing};
 use self_id::Attrs;
 use std::process::Abort;

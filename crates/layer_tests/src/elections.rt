@@ -1,4 +1,6 @@
-use crate::{Bid, attempt, gap_for, hops, plan_config};
+//! Elections of managers, hops and gap counts.
+
+use bus_manager::{Bid, attempt, gap_for, hops, plan_config};
 use resource_manager::Registers;
 use std::test::Fail;
 use topology_stack::read_tree;

@@ -1,7 +1,9 @@
-use crate::{ImageFault, MapParts, crc16, image, read_image};
+//! Images of topology maps.
+
 use quad_lanes::QuadList;
 use std::alloc::Global;
 use std::test::Fail;
+use topology_map::{ImageFault, MapParts, crc16, image, read_image};
 use topology_stack::read_tree;
 
 /// The image, of generation 1, of the bus of one node that emits 807f0054.

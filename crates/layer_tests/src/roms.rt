@@ -1,4 +1,6 @@
-use crate::{
+//! Configuration ROMs, both ways.
+
+use config_rom::{
     BlockKind, CrcState, RomFault, RomStop, blocks, decode_rom, encode_rom, rom_text, seal,
 };
 use std::alloc::Global;
