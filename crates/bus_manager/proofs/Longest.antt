@@ -58,12 +58,14 @@ none = record { way = tt; deepest = none_deep; path = inl tt; longest = none_lon
     none_long (suc k) (inr (inl h)) = absurd h
     none_long (suc k) (inr (inr h)) = absurd h
 
-step_deep : (t : Tree) (s : Slots) (r q : Reach) → OfTree t r → Below s q → (k : ℕ) → Way k (down t s) → k ≤ (with_child r q).depth
+step_deep : (t : Tree) (s : Slots) (r q : Reach) → OfTree t r → Below s q → (k : ℕ) →
+    Way k (down t s) → k ≤ (with_child r q).depth
 step_deep t s r q h b zero w = omega arith
 step_deep t s r q h b (suc k) (inl w) = omega (arith, h.deepest k w)
 step_deep t s r q h b (suc k) (inr w) = omega (arith, b.deepest (suc k) w)
 
-step_long : (t : Tree) (s : Slots) (r q : Reach) → OfTree t r → Below s q → (k : ℕ) → PathOf k (down t s) → k ≤ (with_child r q).longest
+step_long : (t : Tree) (s : Slots) (r q : Reach) → OfTree t r → Below s q → (k : ℕ) →
+    PathOf k (down t s) → k ≤ (with_child r q).longest
 step_long t s r q h b k (inl w) = omega (arith, step_deep t s r q h b k w, b.longest q.depth (inl b.way))
 step_long t s r q h b k (inr (inl (inl (i, j, di, dj, is)))) = omega (arith, h.deepest i di, b.deepest (suc j) dj)
 step_long t s r q h b k (inr (inl (inr w))) = omega (arith, b.longest k (inr (inl w)))
@@ -91,7 +93,8 @@ through : (t : Tree) (s : Slots) (i k : ℕ) → GoesDown i t → Way k s → Pa
 through t s i zero di w = let e : i + 1 + 0 ≡ suc i = omega arith in subst (λ (n : ℕ). PathOf n (down t s)) (sym e) (inl (inl di))
 through t s i (suc j) di w = inr (inl (inl (i, j, di, w, omega arith)))
 
-step : (t : Tree) (s : Slots) (r q : Reach) → OfTree t r → Below s q → Below (down t s) (with_child r q)
+step : (t : Tree) (s : Slots) (r q : Reach) → OfTree t r → Below s q →
+    Below (down t s) (with_child r q)
 step t s r q h b = record {
   way = elim (max_is (r.depth + 1) q.depth) [
     | inl e ↦ let d : (with_child r q).depth ≡ suc r.depth = omega (arith, e) in subst (λ (k : ℕ). Way k (down t s)) (sym d) (inl h.way)
@@ -125,18 +128,22 @@ of_path k a s (inl w) = inl (of_way k a s w)
 of_path k a s (inr w) = inr w
 
 -- slots that lead nowhere change nothing
-same_way : (k : ℕ) (s s' : Slots) → ((P : Tree → Type 0) → SomeChild P s → SomeChild P s') → Way k s → Way k s'
+same_way : (k : ℕ) (s s' : Slots) → ((P : Tree → Type 0) → SomeChild P s → SomeChild P s') →
+    Way k s → Way k s'
 same_way zero s s' f w = tt
 same_way (suc k) s s' f w = f (GoesDown k) w
 
 abbrev Rest : ℕ → Slots → Type 0
 Rest k s = Turns k s ⊎ IsPathBelow k s
 
-same_path : (k : ℕ) (s s' : Slots) → ((P : Tree → Type 0) → SomeChild P s → SomeChild P s') → (Rest k s → Rest k s') → PathOf k s → PathOf k s'
+same_path : (k : ℕ) (s s' : Slots) → ((P : Tree → Type 0) → SomeChild P s → SomeChild P s') →
+    (Rest k s → Rest k s') → PathOf k s → PathOf k s'
 same_path k s s' f u (inl w) = inl (same_way k s s' f w)
 same_path k s s' f u (inr w) = inr (u w)
 
-skip : (s s' : Slots) (r : Reach) → ((P : Tree → Type 0) → SomeChild P s → SomeChild P s') → ((P : Tree → Type 0) → SomeChild P s' → SomeChild P s) → ((k : ℕ) → Rest k s → Rest k s') → ((k : ℕ) → Rest k s' → Rest k s) → Below s r → Below s' r
+skip : (s s' : Slots) (r : Reach) → ((P : Tree → Type 0) → SomeChild P s → SomeChild P s') →
+    ((P : Tree → Type 0) → SomeChild P s' → SomeChild P s) → ((k : ℕ) → Rest k s → Rest k s') →
+    ((k : ℕ) → Rest k s' → Rest k s) → Below s r → Below s' r
 skip s s' r f g u v b = record {
   way = same_way r.depth s s' f b.way;
   deepest = λ k w. b.deepest k (same_way k s' s g w);
@@ -167,10 +174,12 @@ is_hops t = let h = reach_is t in record { path = h.path; longest = h.longest }
 
 -- no path is as long as the tree has nodes
 mutual
-  pub small : (t : Tree) → ((reach t).depth + 1 ≤ length (walk t)) × ((reach t).longest + 1 ≤ length (walk t))
+  pub small : (t : Tree) →
+      ((reach t).depth + 1 ≤ length (walk t)) × ((reach t).longest + 1 ≤ length (walk t))
   small (branch a s) = let b = small_below s in (omega (arith, b.0, length-append (walk_below s) (node_of a s ∷ [])), omega (arith, b.1, length-append (walk_below s) (node_of a s ∷ [])))
 
-  pub small_below : (s : Slots) → ((above (reaches s)).depth ≤ length (walk_below s)) × ((above (reaches s)).longest ≤ length (walk_below s))
+  pub small_below : (s : Slots) →
+      ((above (reaches s)).depth ≤ length (walk_below s)) × ((above (reaches s)).longest ≤ length (walk_below s))
   small_below no_more = (omega arith, omega arith)
   small_below (absent s) = small_below s
   small_below (unplugged s) = small_below s
@@ -183,7 +192,8 @@ mutual
 
 -- ---- node by node
 
-after_nodes-append : (ws : List Reach) (ms ns : List Node) → after_nodes ws (ms ++ ns) ≡ after_nodes (after_nodes ws ms) ns
+after_nodes-append : (ws : List Reach) (ms ns : List Node) →
+    after_nodes ws (ms ++ ns) ≡ after_nodes (after_nodes ws ms) ns
 after_nodes-append ws [] ns = refl
 after_nodes-append ws (m ∷ ms) ns = after_nodes-append (after_node ws m) ms ns
 
@@ -195,7 +205,8 @@ length-reaches (up s) = length-reaches s
 length-reaches (down t s) = omega (arith, length-reaches s)
 
 -- a node takes the reaches of its children
-takes : (ws : List Reach) (a : Label) (s : Slots) → after_node (ws ++ reaches s) (node_of a s) ≡ ws ++ reach (branch a s) ∷ []
+takes : (ws : List Reach) (a : Label) (s : Slots) →
+    after_node (ws ++ reaches s) (node_of a s) ≡ ws ++ reach (branch a s) ∷ []
 takes ws a s =
     let start : length (ws ++ reaches s) - downs (statuses s) ≡ length ws = omega (arith, length-append ws (reaches s), length-reaches s) in
     ap (λ (k : ℕ). take k (ws ++ reaches s) ++ above (drop k (ws ++ reaches s)) ∷ []) start
@@ -207,7 +218,8 @@ mutual
   after_nodes-walk (branch a s) ws =
       after_nodes-append ws (walk_below s) (node_of a s ∷ []) ∙ ap (λ (x : List Reach). after_node x (node_of a s)) (after_nodes-walk_below s ws) ∙ takes ws a s
 
-  pub after_nodes-walk_below : (s : Slots) (ws : List Reach) → after_nodes ws (walk_below s) ≡ ws ++ reaches s
+  pub after_nodes-walk_below : (s : Slots) (ws : List Reach) →
+      after_nodes ws (walk_below s) ≡ ws ++ reaches s
   after_nodes-walk_below no_more ws = sym (append-nil ws)
   after_nodes-walk_below (absent s) ws = after_nodes-walk_below s ws
   after_nodes-walk_below (unplugged s) ws = after_nodes-walk_below s ws

@@ -37,7 +37,9 @@ differs : (P : ℕ → Type 0) (x : ℕ) (q : List ℕ) → ((v : ℕ) → P v �
 differs P x [] d h = tt
 differs P x (v ∷ q) d h = (d v h.0, differs P x q d h.1)
 
-path_append : (T : Tree) (P Q : ℕ → Type 0) → ((u v : ℕ) → P u → Q v → u ≢ v) → (a b c : ℕ) (p q : List ℕ) → P a → AllOf P p → AllOf Q q → IsNodePath T a b p → IsNodePath T b c q → IsNodePath T a c (p ++ q)
+path_append : (T : Tree) (P Q : ℕ → Type 0) → ((u v : ℕ) → P u → Q v → u ≢ v) →
+    (a b c : ℕ) (p q : List ℕ) → P a → AllOf P p → AllOf Q q → IsNodePath T a b p →
+    IsNodePath T b c q → IsNodePath T a c (p ++ q)
 path_append T P Q d a b c [] q pa hp hq h k = subst (λ x. IsNodePath T x c q) (sym h) k
 path_append T P Q d a b c (x ∷ p) q pa hp hq h k =
     (h.0, new_append a (x ∷ p) q h.1 (differs Q a q (λ v. d a v pa) hq), path_append T P Q d x b c p q hp.0 hp.1 hq h.2 k)
@@ -84,7 +86,8 @@ wider low c high me u le lt (inl e) = inr (omega (arith, le, e), omega (arith, l
 wider low c high me u le lt (inr h) = inr (h.0, omega (arith, lt, h.1))
 
 -- one cable more
-lift : (T : Tree) (low c high me x k : ℕ) → low ≤ c → c < high → high ≤ me → Joined T me c → Joined T c me → Way T low c c x k → Way T low high me x (k + 1)
+lift : (T : Tree) (low c high me x k : ℕ) → low ≤ c → c < high → high ≤ me → Joined T me c →
+    Joined T c me → Way T low c c x k → Way T low high me x (k + 1)
 lift T low c high me x k le lt le' j back w =
     let less : c < me = omega (arith, lt, le') in
     let new : IsNew me (c ∷ w.downs) = differs (λ u. u < me) me (c ∷ w.downs) (λ v h e. omega (arith, h, e)) (less, all_weaker (Inside low c) (λ u. u < me) (λ u h. omega (arith, h.1, less)) w.downs w.down_in) in
@@ -102,11 +105,13 @@ lift T low c high me x k le lt le' j back w =
       here = wider low c high me x le lt w.here;
     }
 
-stretched : (low high low' high' top u : ℕ) → low' ≤ low → high ≤ high' → Within low high top u → Within low' high' top u
+stretched : (low high low' high' top u : ℕ) → low' ≤ low → high ≤ high' → Within low high top u →
+    Within low' high' top u
 stretched low high low' high' top u a b (inl e) = inl e
 stretched low high low' high' top u a b (inr h) = inr (omega (arith, a, h.0), omega (arith, b, h.1))
 
-stretch : (T : Tree) (low high low' high' top x k : ℕ) → low' ≤ low → high ≤ high' → Way T low high top x k → Way T low' high' top x k
+stretch : (T : Tree) (low high low' high' top x k : ℕ) → low' ≤ low → high ≤ high' →
+    Way T low high top x k → Way T low' high' top x k
 stretch T low high low' high' top x k a b w = record {
   downs = w.downs;
   down_path = w.down_path;
@@ -130,13 +135,15 @@ down_route T low high top x k w = record { ids = w.downs; path = w.down_path; lo
 up_route : (T : Tree) (low high top x k : ℕ) → Way T low high top x k → Route T x top k
 up_route T low high top x k w = record { ids = w.ups_list; path = w.up_path; long = w.up_long }
 
-apart : (low high low' high' me u v : ℕ) → (high ≤ low') ⊎ (high' ≤ low) → high' ≤ me → Within low high me u → Inside low' high' v → u ≢ v
+apart : (low high low' high' me u v : ℕ) → (high ≤ low') ⊎ (high' ≤ low) → high' ≤ me →
+    Within low high me u → Inside low' high' v → u ≢ v
 apart low high low' high' me u v d le (inl e) h same = omega (arith, le, e, h.1, same)
 apart low high low' high' me u v (inl d) le (inr k) h same = omega (arith, d, k.1, h.0, same)
 apart low high low' high' me u v (inr d) le (inr k) h same = omega (arith, d, k.0, h.1, same)
 
 -- up to a node and down again elsewhere
-turn : (T : Tree) (low high low' high' me x y k l : ℕ) → (high ≤ low') ⊎ (high' ≤ low) → high' ≤ me → Way T low high me x k → Way T low' high' me y l → Route T x y (k + l)
+turn : (T : Tree) (low high low' high' me x y k l : ℕ) → (high ≤ low') ⊎ (high' ≤ low) →
+    high' ≤ me → Way T low high me x k → Way T low' high' me y l → Route T x y (k + l)
 turn T low high low' high' me x y k l d le w v = record {
   ids = w.ups_list ++ v.downs;
   path = path_append T (Within low high me) (Inside low' high') (λ a b h i. apart low high low' high' me a b d le h i) x me y w.ups_list v.downs w.here w.up_in v.down_in w.up_path v.down_path;
@@ -156,25 +163,31 @@ EmbS T from me s = (i : ℕ) (e : Ends) → slice_get (ends_below from me s) i �
 abbrev LeadS : Tree → ℕ → ℕ → ℕ → Slots → Type 0
 LeadS T from me parent s = (slot k : ℕ) → slice_get (slot_ends from parent s) slot ≡ Some (Some k) → Joined T me k
 
-emb_below : (T : Tree) (from parent : ℕ) (a : Label) (s : Slots) → Emb T from parent (branch a s) → EmbS T from (from + length (walk_below s)) s
+emb_below : (T : Tree) (from parent : ℕ) (a : Label) (s : Slots) → Emb T from parent (branch a s) →
+    EmbS T from (from + length (walk_below s)) s
 emb_below T from parent a s h i e k = h i e (slice_get-left (ends_below from (from + length (walk_below s)) s) (slot_ends from parent s ∷ []) i e k)
 
-top_ends : (T : Tree) (from parent : ℕ) (a : Label) (s : Slots) → Emb T from parent (branch a s) → slice_get (ends T) (from + length (walk_below s)) ≡ Some (slot_ends from parent s)
+top_ends : (T : Tree) (from parent : ℕ) (a : Label) (s : Slots) → Emb T from parent (branch a s) →
+    slice_get (ends T) (from + length (walk_below s)) ≡ Some (slot_ends from parent s)
 top_ends T from parent a s h = h (length (walk_below s)) (slot_ends from parent s) (last (ends_below from (from + length (walk_below s)) s) (slot_ends from parent s) (length (walk_below s)) (sym (length-ends_below from (from + length (walk_below s)) s)))
 
-lead_top : (T : Tree) (from parent : ℕ) (a : Label) (s : Slots) → Emb T from parent (branch a s) → LeadS T from (from + length (walk_below s)) parent s
+lead_top : (T : Tree) (from parent : ℕ) (a : Label) (s : Slots) → Emb T from parent (branch a s) →
+    LeadS T from (from + length (walk_below s)) parent s
 lead_top T from parent a s h slot k e = record { slot = slot; far = record { of_node = slot_ends from parent s; node = top_ends T from parent a s h; slot_end = e } }
 
-emb_first : (T : Tree) (from me : ℕ) (t : Tree) (s : Slots) → EmbS T from me (down t s) → Emb T from me t
+emb_first : (T : Tree) (from me : ℕ) (t : Tree) (s : Slots) → EmbS T from me (down t s) →
+    Emb T from me t
 emb_first T from me t s h i e k = h i e (slice_get-left (ends_from from me t) (ends_below (from + length (walk t)) me s) i e k)
 
-emb_rest : (T : Tree) (from me : ℕ) (t : Tree) (s : Slots) → EmbS T from me (down t s) → EmbS T (from + length (walk t)) me s
+emb_rest : (T : Tree) (from me : ℕ) (t : Tree) (s : Slots) → EmbS T from me (down t s) →
+    EmbS T (from + length (walk t)) me s
 emb_rest T from me t s h i e k =
     let at : from + (length (walk t) + i) ≡ from + length (walk t) + i = omega arith in
     ap (λ n. slice_get (ends T) n) (sym at) ∙ h (length (walk t) + i) e (slice_get-right (ends_from from me t) (ends_below (from + length (walk t)) me s) (length (walk t)) i (length-ends_from from me t) ∙ k)
 
 -- a part has a slot that leads up
-up_slot : (from parent : ℕ) (s : Slots) → 1 ≤ ups (statuses s) → (slot : ℕ) × (slice_get (slot_ends from parent s) slot ≡ Some (Some parent))
+up_slot : (from parent : ℕ) (s : Slots) → 1 ≤ ups (statuses s) →
+    (slot : ℕ) × (slice_get (slot_ends from parent s) slot ≡ Some (Some parent))
 up_slot from parent no_more le = absurd (omega (arith, le))
 up_slot from parent (absent s) le = let r = up_slot from parent s le in (suc r.0, r.1)
 up_slot from parent (unplugged s) le = let r = up_slot from parent s le in (suc r.0, r.1)
@@ -182,13 +195,15 @@ up_slot from parent (up s) le = (0, refl)
 up_slot from parent (down t s) le = let r = up_slot (from + length (walk t)) parent s le in (suc r.0, r.1)
 
 -- the outermost node of a part, and its parent
-back_up : (T : Tree) (from me : ℕ) (t : Tree) → Emb T from me t → IsPart t → Joined T (from + length (walk t) - 1) me
+back_up : (T : Tree) (from me : ℕ) (t : Tree) → Emb T from me t → IsPart t →
+    Joined T (from + length (walk t) - 1) me
 back_up T from me (branch a s) h p =
     let r = up_slot from me s (omega (arith, p.1)) in
     let at : from + length (walk_below s) ≡ from + length (walk (branch a s)) - 1 = omega (arith, length-walk a s) in
     subst (λ c. Joined T c me) at (lead_top T from me a s h r.0 me r.1)
 
-top_of : (a : Label) (s : Slots) (from : ℕ) → from + length (walk (branch a s)) - 1 ≡ from + length (walk_below s)
+top_of : (a : Label) (s : Slots) (from : ℕ) →
+    from + length (walk (branch a s)) - 1 ≡ from + length (walk_below s)
 top_of a s from = omega (arith, length-walk a s)
 
 -- ---- each node is below the outermost one by some cables
@@ -199,23 +214,30 @@ Parts (branch a s) = AreParts s
 part_parts : (t : Tree) → IsPart t → Parts t
 part_parts (branch a s) p = p.2
 
-move : (T : Tree) (low high top x k high' top' x' k' : ℕ) → high ≡ high' → top ≡ top' → x ≡ x' → k ≡ k' → Way T low high top x k → Way T low high' top' x' k'
+move : (T : Tree) (low high top x k high' top' x' k' : ℕ) → high ≡ high' → top ≡ top' → x ≡ x' →
+    k ≡ k' → Way T low high top x k → Way T low high' top' x' k'
 move T low high top x k high' top' x' k' a b c d w =
     subst (λ n. Way T low high' top' x' n) d (subst (λ n. Way T low high' top' n k) c (subst (λ n. Way T low high' n x k) b (subst (λ n. Way T low n top x k) a w)))
 
-same_route : (T : Tree) (x y k x' y' k' : ℕ) → x ≡ x' → y ≡ y' → k ≡ k' → Route T x y k → Route T x' y' k'
+same_route : (T : Tree) (x y k x' y' k' : ℕ) → x ≡ x' → y ≡ y' → k ≡ k' → Route T x y k →
+    Route T x' y' k'
 same_route T x y k x' y' k' a b c r = subst (λ n. Route T x' y' n) c (subst (λ n. Route T x' n k) b (subst (λ n. Route T n y k) a r))
 
 -- a way in a child is one in its parent's slots
 abbrev top : ℕ → Tree → ℕ
 top from t = from + length (walk t) - 1
 
-lift_child : (T : Tree) (from me parent : ℕ) (t : Tree) (s : Slots) (x k high : ℕ) → EmbS T from me (down t s) → LeadS T from me parent (down t s) → IsPart t → from + length (walk t) ≤ high → high ≤ me → Way T from (top from t) (top from t) x k → Way T from high me x (k + 1)
+lift_child : (T : Tree) (from me parent : ℕ) (t : Tree) (s : Slots) (x k high : ℕ) →
+    EmbS T from me (down t s) → LeadS T from me parent (down t s) → IsPart t →
+    from + length (walk t) ≤ high → high ≤ me → Way T from (top from t) (top from t) x k →
+    Way T from high me x (k + 1)
 lift_child T from me parent t s x k high h lead p le le' w =
     lift T from (top from t) high me x k (omega (arith, some_node t)) (omega (arith, le, some_node t)) le' (lead 0 (top from t) refl) (back_up T from me t (emb_first T from me t s h) p) w
 
 mutual
-  downT : (T : Tree) (from parent : ℕ) (t : Tree) (i : ℕ) → Emb T from parent t → Parts t → i < length (walk t) → (k : ℕ) × (GoesDown k t × Way T from (top from t) (top from t) (from + i) k)
+  downT : (T : Tree) (from parent : ℕ) (t : Tree) (i : ℕ) → Emb T from parent t → Parts t →
+      i < length (walk t) →
+      (k : ℕ) × (GoesDown k t × Way T from (top from t) (top from t) (from + i) k)
   downT T from parent (branch a s) i h p lt = elim (cases_lt i (length (walk_below s))) [
     | inl less ↦
         let me = from + length (walk_below s) in
@@ -224,7 +246,10 @@ mutual
     | inr more ↦ (0, (tt, move T from (top from (branch a s)) (top from (branch a s)) (top from (branch a s)) 0 (top from (branch a s)) (top from (branch a s)) (from + i) 0 refl refl (omega (arith, more, lt, length-walk a s)) refl (at_top T from (top from (branch a s)) (top from (branch a s)))))
   ]
 
-  downS : (T : Tree) (from me parent : ℕ) (s : Slots) (i : ℕ) → EmbS T from me s → LeadS T from me parent s → AreParts s → from + length (walk_below s) ≤ me → i < length (walk_below s) → (k : ℕ) × (SomeChild (GoesDown k) s × Way T from (from + length (walk_below s)) me (from + i) (k + 1))
+  downS : (T : Tree) (from me parent : ℕ) (s : Slots) (i : ℕ) → EmbS T from me s →
+      LeadS T from me parent s → AreParts s → from + length (walk_below s) ≤ me →
+      i < length (walk_below s) →
+      (k : ℕ) × (SomeChild (GoesDown k) s × Way T from (from + length (walk_below s)) me (from + i) (k + 1))
   downS T from me parent no_more i h lead p le lt = absurd (omega (arith, lt))
   downS T from me parent (absent s) i h lead p le lt = downS T from me parent s i h (λ slot. lead (suc slot)) p le lt
   downS T from me parent (unplugged s) i h lead p le lt = downS T from me parent s i h (λ slot. lead (suc slot)) p le lt
@@ -248,7 +273,9 @@ mutual
 -- ---- over so many cables there is a node below
 
 mutual
-  wayT : (T : Tree) (from parent : ℕ) (t : Tree) (k : ℕ) → Emb T from parent t → Parts t → GoesDown k t → (i : ℕ) × ((i < length (walk t)) × Way T from (top from t) (top from t) (from + i) k)
+  wayT : (T : Tree) (from parent : ℕ) (t : Tree) (k : ℕ) → Emb T from parent t → Parts t →
+      GoesDown k t →
+      (i : ℕ) × ((i < length (walk t)) × Way T from (top from t) (top from t) (from + i) k)
   wayT T from parent (branch a s) zero h p g =
       (length (walk_below s), (omega (arith, length-walk a s), move T from (top from (branch a s)) (top from (branch a s)) (top from (branch a s)) 0 (top from (branch a s)) (top from (branch a s)) (from + length (walk_below s)) 0 refl refl (top_of a s from) refl (at_top T from (top from (branch a s)) (top from (branch a s)))))
   wayT T from parent (branch a s) (suc k) h p g =
@@ -256,7 +283,10 @@ mutual
       let d = wayS T from me parent s k (emb_below T from parent a s h) (lead_top T from parent a s h) p (omega arith) g in
       (d.0, (omega (arith, d.1.0, length-walk a s), move T from me me (from + d.0) (k + 1) (top from (branch a s)) (top from (branch a s)) (from + d.0) (suc k) (sym (top_of a s from)) (sym (top_of a s from)) refl (omega arith) d.1.1))
 
-  wayS : (T : Tree) (from me parent : ℕ) (s : Slots) (k : ℕ) → EmbS T from me s → LeadS T from me parent s → AreParts s → from + length (walk_below s) ≤ me → SomeChild (GoesDown k) s → (i : ℕ) × ((i < length (walk_below s)) × Way T from (from + length (walk_below s)) me (from + i) (k + 1))
+  wayS : (T : Tree) (from me parent : ℕ) (s : Slots) (k : ℕ) → EmbS T from me s →
+      LeadS T from me parent s → AreParts s → from + length (walk_below s) ≤ me →
+      SomeChild (GoesDown k) s →
+      (i : ℕ) × ((i < length (walk_below s)) × Way T from (from + length (walk_below s)) me (from + i) (k + 1))
   wayS T from me parent no_more k h lead p le g = absurd g
   wayS T from me parent (absent s) k h lead p le g = wayS T from me parent s k h (λ slot. lead (suc slot)) p le g
   wayS T from me parent (unplugged s) k h lead p le g = wayS T from me parent s k h (λ slot. lead (suc slot)) p le g
@@ -278,12 +308,15 @@ mutual
 
 -- ---- between two nodes goes a path of the tree's form
 
-later : (k : ℕ) (t : Tree) (s : Slots) → Turns k s ⊎ IsPathBelow k s → Turns k (down t s) ⊎ IsPathBelow k (down t s)
+later : (k : ℕ) (t : Tree) (s : Slots) → Turns k s ⊎ IsPathBelow k s →
+    Turns k (down t s) ⊎ IsPathBelow k (down t s)
 later k t s (inl h) = inl (inr h)
 later k t s (inr h) = inr (inr h)
 
 mutual
-  routesT : (T : Tree) (from parent : ℕ) (t : Tree) (i j : ℕ) → Emb T from parent t → Parts t → i < length (walk t) → j < length (walk t) → (k : ℕ) × (IsPath k t × Route T (from + i) (from + j) k)
+  routesT : (T : Tree) (from parent : ℕ) (t : Tree) (i j : ℕ) → Emb T from parent t → Parts t →
+      i < length (walk t) → j < length (walk t) →
+      (k : ℕ) × (IsPath k t × Route T (from + i) (from + j) k)
   routesT T from parent (branch a s) i j h p lt lt' = elim (cases_lt i (length (walk_below s))) [
     | inr at_i ↦
         let d = downT T from parent (branch a s) j h p lt' in
@@ -300,7 +333,10 @@ mutual
     ]
   ]
 
-  routesS : (T : Tree) (from me parent : ℕ) (s : Slots) (i j : ℕ) → EmbS T from me s → LeadS T from me parent s → AreParts s → from + length (walk_below s) ≤ me → i < length (walk_below s) → j < length (walk_below s) → (k : ℕ) × ((Turns k s ⊎ IsPathBelow k s) × Route T (from + i) (from + j) k)
+  routesS : (T : Tree) (from me parent : ℕ) (s : Slots) (i j : ℕ) → EmbS T from me s →
+      LeadS T from me parent s → AreParts s → from + length (walk_below s) ≤ me →
+      i < length (walk_below s) → j < length (walk_below s) →
+      (k : ℕ) × ((Turns k s ⊎ IsPathBelow k s) × Route T (from + i) (from + j) k)
   routesS T from me parent no_more i j h lead p le lt lt' = absurd (omega (arith, lt))
   routesS T from me parent (absent s) i j h lead p le lt lt' = routesS T from me parent s i j h (λ slot. lead (suc slot)) p le lt lt'
   routesS T from me parent (unplugged s) i j h lead p le lt lt' = routesS T from me parent s i j h (λ slot. lead (suc slot)) p le lt lt'
@@ -362,7 +398,9 @@ shift T from m n k f = record {
 longer : (T : Tree) (from m n k : ℕ) → m ≤ n → Found T from m k → Found T from n k
 longer T from m n k le f = record { i = f.i; j = f.j; there = omega (arith, le, f.there); route = f.route }
 
-turnS : (T : Tree) (from me parent : ℕ) (s : Slots) (k : ℕ) → EmbS T from me s → LeadS T from me parent s → AreParts s → from + length (walk_below s) ≤ me → Turns k s → Found T from (length (walk_below s)) k
+turnS : (T : Tree) (from me parent : ℕ) (s : Slots) (k : ℕ) → EmbS T from me s →
+    LeadS T from me parent s → AreParts s → from + length (walk_below s) ≤ me → Turns k s →
+    Found T from (length (walk_below s)) k
 turnS T from me parent no_more k h lead p le g = absurd g
 turnS T from me parent (absent s) k h lead p le g = turnS T from me parent s k h (λ slot. lead (suc slot)) p le g
 turnS T from me parent (unplugged s) k h lead p le g = turnS T from me parent s k h (λ slot. lead (suc slot)) p le g
@@ -387,7 +425,8 @@ turnS T from me parent (down t s) k h lead p le (inr g) =
     (turnS T (from + length (walk t)) me parent s k (emb_rest T from me t s h) (λ slot. lead (suc slot)) p.1 (omega (arith, le, far)) g))
 
 mutual
-  routeT : (T : Tree) (from parent : ℕ) (t : Tree) (k : ℕ) → Emb T from parent t → Parts t → IsPath k t → Found T from (length (walk t)) k
+  routeT : (T : Tree) (from parent : ℕ) (t : Tree) (k : ℕ) → Emb T from parent t → Parts t →
+      IsPath k t → Found T from (length (walk t)) k
   routeT T from parent (branch a s) k h p (inl g) =
       let d = wayT T from parent (branch a s) k h p g in
       record {
@@ -403,7 +442,8 @@ mutual
       longer T from (length (walk_below s)) (length (walk (branch a s))) k (omega (arith, length-walk a s))
       (routeB T from (from + length (walk_below s)) s k (emb_below T from parent a s h) p g)
 
-  routeB : (T : Tree) (from me : ℕ) (s : Slots) (k : ℕ) → EmbS T from me s → AreParts s → IsPathBelow k s → Found T from (length (walk_below s)) k
+  routeB : (T : Tree) (from me : ℕ) (s : Slots) (k : ℕ) → EmbS T from me s → AreParts s →
+      IsPathBelow k s → Found T from (length (walk_below s)) k
   routeB T from me no_more k h p g = absurd g
   routeB T from me (absent s) k h p g = routeB T from me s k h p g
   routeB T from me (unplugged s) k h p g = routeB T from me s k h p g
@@ -423,7 +463,8 @@ whole_parts (branch a s) w = w.2
 all_of : (t : Tree) → Emb t 0 63 t
 all_of t i e h = let at : i ≡ 0 + i = omega arith in ap (λ n. slice_get (ends t) n) (sym at) ∙ h
 
-end_within : (t : Tree) (a b : ℕ) (ids : List ℕ) → IsBusTree t → a < length (walk t) → IsNodePath t a b ids → b < length (walk t)
+end_within : (t : Tree) (a b : ℕ) (ids : List ℕ) → IsBusTree t → a < length (walk t) →
+    IsNodePath t a b ids → b < length (walk t)
 end_within t a b [] bus lt h = omega (arith, lt, h)
 end_within t a b (x ∷ ids) bus lt h = end_within t x b ids bus (joined_within t a h.0.slot x bus lt h.0.far).0 h.2
 

@@ -35,12 +35,15 @@ one : (id : ℕ) (r : Reach) → Shallow id r → All (Shallow id) (r ∷ [])
 one id r h zero d lt = h
 one id r h (suc k) d lt = absurd (omega (arith, lt))
 
-from_here : (ns : List Node) (id : ℕ) (n : Node) → slice_get ns id ≡ Some n → drop id ns ≡ n ∷ drop (id + 1) ns
+from_here : (ns : List Node) (id : ℕ) (n : Node) → slice_get ns id ≡ Some n →
+    drop id ns ≡ n ∷ drop (id + 1) ns
 from_here [] id n e = absurd cc
 from_here (m ∷ ns) zero n e = let same : m ≡ n = cc in ap (λ (x : Node). x ∷ ns) same
 from_here (m ∷ ns) (suc id) n e = let more : suc id + 1 ≡ suc (id + 1) = omega arith in rw more (from_here ns id n e)
 
-pub next : (t : Tree) (id from : ℕ) (ws after : List Reach) (n : Node) (r : Reach) → Waiting t id ws → slice_get (walk t) id ≡ Some n → from ≡ length ws - downs n.ports → r ≡ above (drop from ws) →
+pub next : (t : Tree) (id from : ℕ) (ws after : List Reach) (n : Node) (r : Reach) →
+    Waiting t id ws → slice_get (walk t) id ≡ Some n → from ≡ length ws - downs n.ports →
+    r ≡ above (drop from ws) →
     after ≡ take from ws ++ r ∷ [] → Waiting t (id + 1) after
 next t id from ws after n r h at start_is r_is is =
     let new : r ∷ [] ≡ above (drop from ws) ∷ [] = ap (λ (x : Reach). x ∷ []) r_is in

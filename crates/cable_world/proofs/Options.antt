@@ -32,9 +32,11 @@ unmapped None f P h = absurd h
 unmapped (Some x) f P h = h
 
 -- what is there, and that it is there
-pub some-of : {A : Type 0} → (o : Option A) (P : A → Type 0) → IsSomeAnd o P → (x : A) × (o ≡ Some x) × P x
+pub some-of : {A : Type 0} → (o : Option A) (P : A → Type 0) → IsSomeAnd o P →
+    (x : A) × (o ≡ Some x) × P x
 some-of None P h = absurd h
 some-of (Some x) P h = (x, refl, h)
 
-pub some-at : {A : Type 0} → (o : Option A) (x : A) (P : A → Type 0) → o ≡ Some x → P x → IsSomeAnd o P
+pub some-at : {A : Type 0} → (o : Option A) (x : A) (P : A → Type 0) → o ≡ Some x → P x →
+    IsSomeAnd o P
 some-at o x P e h = subst (λ q. IsSomeAnd q P) (sym e) h

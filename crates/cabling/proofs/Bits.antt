@@ -46,7 +46,8 @@ inserted n k h free =
 pub inserted-holds : (n k : ℕ) → k < 64 → Holds (bit_or n (1 * 2 ^ k % 2 ^ 64)) k
 inserted-holds n k h = bit_at_set_same w64 n k h
 
-pub inserted-others : (n k : ℕ) → k < 64 → (other : ℕ) → other ≢ k → (Holds (bit_or n (1 * 2 ^ k % 2 ^ 64)) other) ↔ Holds n other
+pub inserted-others : (n k : ℕ) → k < 64 → (other : ℕ) → other ≢ k →
+    (Holds (bit_or n (1 * 2 ^ k % 2 ^ 64)) other) ↔ Holds n other
 inserted-others n k h other ne =
     let e : bit_at (bit_or n (1 * 2 ^ k % 2 ^ 64)) other ≡ bit_at n other = bit_at_set_other w64 n k h other ne in
     (λ a. sym e ∙ a, λ a. e ∙ a)
@@ -63,7 +64,8 @@ inserted-small n k small h =
 pub removed-gone : (n k : ℕ) → k < 64 → Holds (bit_and n (bit_not w64 (1 * 2 ^ k % 2 ^ 64))) k → ⊥
 removed-gone n k h a = let z = bit_at_clear_same w64 n k h in omega arith
 
-pub removed-others : (n k : ℕ) → n < 2 ^ 64 → k < 64 → (other : ℕ) → other ≢ k → (Holds (bit_and n (bit_not w64 (1 * 2 ^ k % 2 ^ 64))) other) ↔ Holds n other
+pub removed-others : (n k : ℕ) → n < 2 ^ 64 → k < 64 → (other : ℕ) → other ≢ k →
+    (Holds (bit_and n (bit_not w64 (1 * 2 ^ k % 2 ^ 64))) other) ↔ Holds n other
 removed-others n k small h other ne = elim (cases_lt other 64) [
   | inl less ↦
       let e : bit_at (bit_and n (bit_not w64 (1 * 2 ^ k % 2 ^ 64))) other ≡ bit_at n other = bit_at_clear_other w64 n k h other less ne in
@@ -77,7 +79,8 @@ removed-others n k small h other ne = elim (cases_lt other 64) [
 pub removed-small : (n m : ℕ) → n < 2 ^ 63 → bit_and n m < 2 ^ 63
 removed-small n m small = omega (arith, and_le_l n m)
 
-pub removed : (n k : ℕ) → n < 2 ^ 64 → k < 64 → Holds n k → bit_and n (bit_not w64 (1 * 2 ^ k % 2 ^ 64)) + 2 ^ k ≡ n
+pub removed : (n k : ℕ) → n < 2 ^ 64 → k < 64 → Holds n k →
+    bit_and n (bit_not w64 (1 * 2 ^ k % 2 ^ 64)) + 2 ^ k ≡ n
 removed n k small h has =
     let power : 2 ^ k < 2 ^ 64 = pow-lt {i = k} {j = 64} h in
     let parted : bit_and (2 ^ 64 - 1 - 2 ^ k) n + bit_and (2 ^ k) n ≡ n = and-not 64 (2 ^ k) n power small in
@@ -111,7 +114,8 @@ in_both a b k = (
   λ (x, y). one_bit (bit_and a b) k (omega (arith, bit_at_and a b k)),
 )
 
-pub in_first : (a b k : ℕ) → a < 2 ^ 63 → b < 2 ^ 63 → Holds (bit_and a (bit_not w64 b)) k ↔ (Holds a k × (Holds b k → ⊥))
+pub in_first : (a b k : ℕ) → a < 2 ^ 63 → b < 2 ^ 63 →
+    Holds (bit_and a (bit_not w64 b)) k ↔ (Holds a k × (Holds b k → ⊥))
 in_first a b k p q = (
   λ h.
       let x : Holds a k = one_bit a k (omega (arith, bit_at_and a (bit_not w64 b) k)) in

@@ -17,7 +17,8 @@ use Rattle.cabling.proofs.Stripping.{Counted, counted_no, counted_first, counted
 pub holds_or_not : (set x : ℕ) → Holds set x ⊎ (Holds set x → ⊥)
 holds_or_not set x = elim (cases_eq (bit_at set x) 1) [ inl h ↦ inl h | inr n ↦ inr n ]
 
-leads_by : (c : Wiring) (set : ℕ) (end : End) (x : Option End) → far c end ≡ x → LeadsInto c set end ⊎ (LeadsInto c set end → ⊥)
+leads_by : (c : Wiring) (set : ℕ) (end : End) (x : Option End) → far c end ≡ x →
+    LeadsInto c set end ⊎ (LeadsInto c set end → ⊥)
 leads_by c set end None e = inr (λ l. none_some (far c end) l.0 e l.1)
 leads_by c set end (Some other) e = elim (holds_or_not set other.node) [
   | inl h ↦ inl (other, e, h)
@@ -30,7 +31,8 @@ leads_or_not c set end = leads_by c set end (far c end) refl
 abbrev CountedSome : Wiring → ℕ → ℕ → ℕ → Type 0
 CountedSome c set node ports = HasTwo c set node ⊎ ((one : Bool) × Counted c set node ports one)
 
-counted_next : (c : Wiring) (set node port : ℕ) (one : Bool) → Counted c set node port one → CountedSome c set node (port + 1)
+counted_next : (c : Wiring) (set node port : ℕ) (one : Bool) → Counted c set node port one →
+    CountedSome c set node (port + 1)
 counted_next c set node port true before = elim (leads_or_not c set (end_at node port)) [
   | inl l ↦ inl (counted_second c set node port before l)
   | inr n ↦ inr (true, counted_no c set node port true n before)
@@ -54,7 +56,8 @@ two_or_not c set node = elim (counted_to c set node (length (ports_of c node))) 
 ]
 
 -- two different ports that lead into a set
-pub two_of : (c : Wiring) (set node p q : ℕ) → p ≢ q → LeadsInto c set (end_at node p) → LeadsInto c set (end_at node q) → HasTwo c set node
+pub two_of : (c : Wiring) (set node p q : ℕ) → p ≢ q → LeadsInto c set (end_at node p) →
+    LeadsInto c set (end_at node q) → HasTwo c set node
 two_of c set node p q ne lp lq = elim (cases_order p q) [
   | inl same ↦ absurd (ne same)
   | inr differ ↦ elim differ [
@@ -69,7 +72,8 @@ pub record Weak (c : Wiring) (set but x : ℕ) : Type 0 where
   pub other : x ≢ but
   pub weak : HasTwo c set x → ⊥
 
-weak_below : (c : Wiring) (set but n : ℕ) → ((x : ℕ) × Weak c set but x) ⊎ ((x : ℕ) → x < n → Holds set x → x ≢ but → HasTwo c set x)
+weak_below : (c : Wiring) (set but n : ℕ) →
+    ((x : ℕ) × Weak c set but x) ⊎ ((x : ℕ) → x < n → Holds set x → x ≢ but → HasTwo c set x)
 weak_below c set but zero = inr (λ x less h ne. absurd (omega (arith, less)))
 weak_below c set but (suc n) = elim (weak_below c set but n) [
   | inl found ↦ inl found
@@ -85,7 +89,8 @@ weak_below c set but (suc n) = elim (weak_below c set but n) [
   ]
 ]
 
-pub weak_or_all : (c : Wiring) (set but : ℕ) → set < 2 ^ 63 → ((x : ℕ) × Weak c set but x) ⊎ ((x : ℕ) → Holds set x → x ≢ but → HasTwo c set x)
+pub weak_or_all : (c : Wiring) (set but : ℕ) → set < 2 ^ 63 →
+    ((x : ℕ) × Weak c set but x) ⊎ ((x : ℕ) → Holds set x → x ≢ but → HasTwo c set x)
 weak_or_all c set but small = elim (weak_below c set but 63) [
   | inl found ↦ inl found
   | inr all ↦ inr (λ x h ne. all x (below set x small h) h ne)
@@ -122,14 +127,17 @@ pub not_gone : (set node less x : ℕ) → Less set node less → Holds less x �
 not_gone set node less x l h same = l.gone (subst (λ (y : ℕ). Holds less y) same h)
 
 -- a port that leads into the set leads to the node that is gone, or into the rest
-leads_less : (c : Wiring) (set node less : ℕ) (end : End) → Less set node less → LeadsInto c set end → ((other : End) × (far c end ≡ Some other) × (other.node ≡ node)) ⊎ LeadsInto c less end
+leads_less : (c : Wiring) (set node less : ℕ) (end : End) → Less set node less →
+    LeadsInto c set end →
+    ((other : End) × (far c end ≡ Some other) × (other.node ≡ node)) ⊎ LeadsInto c less end
 leads_less c set node less end l leads = elim (cases_eq leads.0.node node) [
   | inl same ↦ inl (leads.0, leads.1, same)
   | inr ne ↦ inr (leads.0, leads.1, (l.others leads.0.node ne).1 leads.2)
 ]
 
 -- whoever had two has two into the rest, or has a port to the node that is gone
-two_less : (c : Wiring) (set node less x : ℕ) → Less set node less → HasTwo c set x → ((port : ℕ) × (other : End) × (far c (end_at x port) ≡ Some other) × (other.node ≡ node)) ⊎ HasTwo c less x
+two_less : (c : Wiring) (set node less x : ℕ) → Less set node less → HasTwo c set x →
+    ((port : ℕ) × (other : End) × (far c (end_at x port) ≡ Some other) × (other.node ≡ node)) ⊎ HasTwo c less x
 two_less c set node less x l two = elim (leads_less c set node less (end_at x two.low) l two.low_leads) [
   | inl g ↦ inl (two.low, g.0, g.1, g.2)
   | inr low ↦ elim (leads_less c set node less (end_at x two.high) l two.high_leads) [
@@ -143,11 +151,15 @@ two_less c set node less x l two = elim (leads_less c set node less (end_at x tw
 abbrev pub NoLoop : Wiring → ℕ → Type 0
 NoLoop c set = (part x : ℕ) → IsWithin part set → IsLooped c part → Holds part x → ⊥
 
-back_port : (c : Wiring) (node x port : ℕ) (other : End) → IsCabling c → far c (end_at x port) ≡ Some other → other.node ≡ node → far c (end_at node other.port) ≡ Some (end_at x port)
+back_port : (c : Wiring) (node x port : ℕ) (other : End) → IsCabling c →
+    far c (end_at x port) ≡ Some other → other.node ≡ node →
+    far c (end_at node other.port) ≡ Some (end_at x port)
 back_port c node x port other is e same = subst (λ (n : ℕ). far c (end_at n other.port) ≡ Some (end_at x port)) same (is.both_ways (end_at x port) other e)
 
 -- two ports of other nodes that lead to a node, or two ports of one: the node has two cables into the set
-two_back : (c : Wiring) (set node x y p q : ℕ) (ox oy : End) → IsCabling c → Holds set x → Holds set y → far c (end_at x p) ≡ Some ox → ox.node ≡ node → far c (end_at y q) ≡ Some oy → oy.node ≡ node → end_at x p ≢ end_at y q → HasTwo c set node
+two_back : (c : Wiring) (set node x y p q : ℕ) (ox oy : End) → IsCabling c → Holds set x →
+    Holds set y → far c (end_at x p) ≡ Some ox → ox.node ≡ node → far c (end_at y q) ≡ Some oy →
+    oy.node ≡ node → end_at x p ≢ end_at y q → HasTwo c set node
 two_back c set node x y p q ox oy is hx hy ex nx ey ny apart =
     let bx : far c (end_at node ox.port) ≡ Some (end_at x p) = back_port c node x p ox is ex nx in
     let by : far c (end_at node oy.port) ≡ Some (end_at y q) = back_port c node y q oy is ey ny in
@@ -162,7 +174,9 @@ apart_ports : (x p q : ℕ) → p < q → end_at x p ≢ end_at x q
 apart_ports x p q less same = let e : p ≡ q = ap (λ (e : End). e.port) same in omega arith
 
 -- All nodes but one have two cables into the set, and there is another one: some part is looped.
-pub cascade : (fuel : ℕ) (c : Wiring) (all set node other : ℕ) → IsCabling c → NoLoop c all → set < fuel → set < 2 ^ 63 → IsWithin set all → Holds set node → (HasTwo c set node → ⊥) → ((x : ℕ) → Holds set x → x ≢ node → HasTwo c set x) → Holds set other → other ≢ node → ⊥
+pub cascade : (fuel : ℕ) (c : Wiring) (all set node other : ℕ) → IsCabling c → NoLoop c all →
+    set < fuel → set < 2 ^ 63 → IsWithin set all → Holds set node → (HasTwo c set node → ⊥) →
+    ((x : ℕ) → Holds set x → x ≢ node → HasTwo c set x) → Holds set other → other ≢ node → ⊥
 cascade zero c all set node other is none less small within has weak strong there ne = omega (arith, less)
 cascade (suc fuel) c all set node other is none less small within has weak strong there ne =
     let rest = less_by set node small has in

@@ -6,7 +6,8 @@ use Rattle.cabling.specs.Component.{IsComponent}
 use Rattle.cabling.specs.Looped.{IsCoreOf}
 
 -- each of two components of a node is within the other
-pub component_within : (c : Wiring) (node a b : ℕ) → IsComponent c node a → IsComponent c node b → IsWithin a b
+pub component_within : (c : Wiring) (node a b : ℕ) → IsComponent c node a → IsComponent c node b →
+    IsWithin a b
 component_within c node a b x y = x.least b y.holds y.closed
 
 pub core_within : (c : Wiring) (node a b : ℕ) → IsCoreOf c node a → IsCoreOf c node b → IsWithin a b

@@ -19,10 +19,12 @@ far-same c a v h =
     ap (λ (row : List (Option End)). get_or row a.port None) (get_or-set_same c a.node (slice_set (ports_of c a.node) a.port v) [] node)
     ∙ get_or-set_same (ports_of c a.node) a.port v None port
 
-by_node : (c : Wiring) (a e : End) (v : Option End) → e.node ≢ a.node → far (with_far c a v) e ≡ far c e
+by_node : (c : Wiring) (a e : End) (v : Option End) → e.node ≢ a.node →
+    far (with_far c a v) e ≡ far c e
 by_node c a e v ne = ap (λ (row : List (Option End)). get_or row e.port None) (get_or-set_other c a.node e.node (slice_set (ports_of c a.node) a.port v) [] ne)
 
-by_port : (c : Wiring) (a e : End) (v : Option End) → a.node < length c → e.node ≡ a.node → e.port ≢ a.port → far (with_far c a v) e ≡ far c e
+by_port : (c : Wiring) (a e : End) (v : Option End) → a.node < length c → e.node ≡ a.node →
+    e.port ≢ a.port → far (with_far c a v) e ≡ far c e
 by_port c a e v h same ne = rw same (
     ap (λ (row : List (Option End)). get_or row e.port None) (get_or-set_same c a.node (slice_set (ports_of c a.node) a.port v) [] h)
     ∙ get_or-set_other (ports_of c a.node) a.port e.port v None ne)
@@ -42,13 +44,15 @@ cases_end a b = elim (cases_eq a.node b.node) [
 ]
 
 -- every other end: it has what it had
-pub far-other : (c : Wiring) (a e : End) (v : Option End) → a.node < length c → e ≢ a → far (with_far c a v) e ≡ far c e
+pub far-other : (c : Wiring) (a e : End) (v : Option End) → a.node < length c → e ≢ a →
+    far (with_far c a v) e ≡ far c e
 far-other c a e v h ne = elim (cases_eq e.node a.node) [
   | inr n ↦ by_node c a e v n
   | inl n ↦ by_port c a e v h n (λ p. ne (same_end e a n p))
 ]
 
-pub ports-with : (c : Wiring) (a : End) (v : Option End) → map length (with_far c a v) ≡ map length c
+pub ports-with : (c : Wiring) (a : End) (v : Option End) →
+    map length (with_far c a v) ≡ map length c
 ports-with c a v = map-set_same length c a.node (slice_set (ports_of c a.node) a.port v) [] (length-set (ports_of c a.node) a.port v)
 
 -- ---- nodes and ports stay
@@ -59,7 +63,8 @@ same_length old new e = sym (length-map new length) ∙ ap length e ∙ length-m
 ports_at : (c : Wiring) (x : ℕ) → get_or (map length c) x 0 ≡ length (ports_of c x)
 ports_at c x = get_or-map length c x []
 
-pub same_ports : (old new : Wiring) (x : ℕ) → map length new ≡ map length old → length (ports_of new x) ≡ length (ports_of old x)
+pub same_ports : (old new : Wiring) (x : ℕ) → map length new ≡ map length old →
+    length (ports_of new x) ≡ length (ports_of old x)
 same_ports old new x e = sym (ports_at new x) ∙ ap (λ (l : List ℕ). get_or l x 0) e ∙ ports_at old x
 
 pub none_some : (x : Option End) (a : End) → x ≡ None → x ≡ Some a → ⊥
@@ -81,7 +86,9 @@ plugged c a b e =
     }
 
 -- ---- a write as the code does it
-pub wrote : (c : Wiring) (a : End) (v : Option End) (row new : List (Option End)) → a.node < length c → row ≡ get_or c a.node row → new ≡ slice_set row a.port v → slice_set c a.node new ≡ with_far c a v
+pub wrote : (c : Wiring) (a : End) (v : Option End) (row new : List (Option End)) →
+    a.node < length c → row ≡ get_or c a.node row → new ≡ slice_set row a.port v →
+    slice_set c a.node new ≡ with_far c a v
 wrote c a v row new h at is =
     let same : row ≡ ports_of c a.node = at ∙ get_or_default c a.node row [] h in
     ap (λ (r : List (Option End)). slice_set c a.node r) (is ∙ ap (λ (r : List (Option End)). slice_set r a.port v) same)
@@ -91,7 +98,9 @@ wrote c a v row new h at is =
 pub one_other : (x : Option End) (a b : End) → x ≡ Some a → x ≡ Some b → a ≡ b
 one_other x a b e f = cc
 
-counted : (old new : Wiring) → IsCabling old → map length new ≡ map length old → (both : (a b : End) → far new a ≡ Some b → far new b ≡ Some a) → (two : (a b : End) → far new a ≡ Some b → a.node ≢ b.node) → IsCabling new
+counted : (old new : Wiring) → IsCabling old → map length new ≡ map length old →
+    (both : (a b : End) → far new a ≡ Some b → far new b ≡ Some a) →
+    (two : (a b : End) → far new a ≡ Some b → a.node ≢ b.node) → IsCabling new
 counted old new is ports both two = record {
   both_ways = both;
   two_nodes = two;
@@ -106,7 +115,8 @@ data Known (old : Wiring) (a b x y : End) : Type 0 where
   second : x ≡ b → y ≡ a → Known old a b x y
   before : x ≢ a → x ≢ b → far old x ≡ Some y → Known old a b x y
 
-known : (old new : Wiring) (a b x y : End) → Added old new a b → far new x ≡ Some y → Known old a b x y
+known : (old new : Wiring) (a b x y : End) → Added old new a b → far new x ≡ Some y →
+    Known old a b x y
 known old new a b x y added e = elim (cases_end x a) [
   | inl is ↦ first is (one_other (far new a) y b (subst (λ (z : End). far new z ≡ Some y) is e) added.joined)
   | inr na ↦ elim (cases_end x b) [
@@ -115,7 +125,8 @@ known old new a b x y added e = elim (cases_end x a) [
   ]
 ]
 
-pub cabling_added : (old new : Wiring) (a b : End) → IsCabling old → a.node ≢ b.node → Added old new a b → IsCabling new
+pub cabling_added : (old new : Wiring) (a b : End) → IsCabling old → a.node ≢ b.node →
+    Added old new a b → IsCabling new
 cabling_added old new a b is apart added =
     counted old new is added.others.ports
     (λ x y e. elim (known old new a b x y added e) [
@@ -132,13 +143,15 @@ cabling_added old new a b is apart added =
     ])
 
 -- a far end after a cable was taken out was there before, at another end
-earlier : (old new : Wiring) (a b x y : End) → TakenOut old new a b → far new x ≡ Some y → (x ≢ a) × (x ≢ b) × (far old x ≡ Some y)
+earlier : (old new : Wiring) (a b x y : End) → TakenOut old new a b → far new x ≡ Some y →
+    (x ≢ a) × (x ≢ b) × (far old x ≡ Some y)
 earlier old new a b x y taken e =
     let na : x ≢ a = λ is. none_some (far new a) y taken.free_a (subst (λ (z : End). far new z ≡ Some y) is e) in
     let nb : x ≢ b = λ is. none_some (far new b) y taken.free_b (subst (λ (z : End). far new z ≡ Some y) is e) in
     (na, nb, sym (taken.others.others x na nb) ∙ e)
 
-pub cabling_taken : (old new : Wiring) (a b : End) → IsCabling old → TakenOut old new a b → IsCabling new
+pub cabling_taken : (old new : Wiring) (a b : End) → IsCabling old → TakenOut old new a b →
+    IsCabling new
 cabling_taken old new a b is taken =
     counted old new is taken.others.ports
     (λ x y e.
@@ -159,13 +172,15 @@ still_end c a e v h =
     let ports : length (ports_of (with_far c a v) e.node) ≡ length (ports_of c e.node) = same_ports c (with_far c a v) e.node (ports-with c a v) in
     record { node = omega (arith, h.node, same); port = omega (arith, h.port, ports) }
 
-pub same_but : (c : Wiring) (a b : End) (v w : Option End) → HasEnd c a → HasEnd c b → SameBut c (with_far (with_far c a v) b w) a b
+pub same_but : (c : Wiring) (a b : End) (v w : Option End) → HasEnd c a → HasEnd c b →
+    SameBut c (with_far (with_far c a v) b w) a b
 same_but c a b v w ha hb = record {
   ports = ports-with (with_far c a v) b w ∙ ports-with c a v;
   others = λ e na nb. far-other (with_far c a v) b e w (still_end c a b v hb).node nb ∙ far-other c a e v ha.node na;
 }
 
-pub added_by_writes : (c : Wiring) (a b : End) → HasEnd c a → HasEnd c b → far c a ≡ None → far c b ≡ None → a.node ≢ b.node → Added c (with_far (with_far c a (Some b)) b (Some a)) a b
+pub added_by_writes : (c : Wiring) (a b : End) → HasEnd c a → HasEnd c b → far c a ≡ None →
+    far c b ≡ None → a.node ≢ b.node → Added c (with_far (with_far c a (Some b)) b (Some a)) a b
 added_by_writes c a b ha hb fa fb apart = record {
   free_a = fa;
   free_b = fb;
@@ -174,7 +189,8 @@ added_by_writes c a b ha hb fa fb apart = record {
   others = same_but c a b (Some b) (Some a) ha hb;
 }
 
-pub taken_by_writes : (c : Wiring) (a b : End) → IsCabling c → far c a ≡ Some b → TakenOut c (with_far (with_far c a None) b None) a b
+pub taken_by_writes : (c : Wiring) (a b : End) → IsCabling c → far c a ≡ Some b →
+    TakenOut c (with_far (with_far c a None) b None) a b
 taken_by_writes c a b is e =
     let ha : HasEnd c a = plugged c a b e in
     let hb : HasEnd c b = plugged c b a (is.both_ways a b e) in
@@ -186,7 +202,10 @@ taken_by_writes c a b is e =
     }
 
 -- both writes, as the code does them
-pub wrote_both : (c : Wiring) (a b : End) (v w : Option End) (row_a new_a row_b new_b : List (Option End)) → HasEnd c a → HasEnd c b → row_a ≡ get_or c a.node row_a → new_a ≡ slice_set row_a a.port v → row_b ≡ get_or (slice_set c a.node new_a) b.node row_b → new_b ≡ slice_set row_b b.port w → slice_set (slice_set c a.node new_a) b.node new_b ≡ with_far (with_far c a v) b w
+pub wrote_both : (c : Wiring) (a b : End) (v w : Option End) (row_a new_a row_b new_b : List (Option End)) →
+    HasEnd c a → HasEnd c b → row_a ≡ get_or c a.node row_a → new_a ≡ slice_set row_a a.port v →
+    row_b ≡ get_or (slice_set c a.node new_a) b.node row_b → new_b ≡ slice_set row_b b.port w →
+    slice_set (slice_set c a.node new_a) b.node new_b ≡ with_far (with_far c a v) b w
 wrote_both c a b v w row_a new_a row_b new_b ha hb at_a is_a at_b is_b =
     let first : slice_set c a.node new_a ≡ with_far c a v = wrote c a v row_a new_a ha.node at_a is_a in
     let at : row_b ≡ get_or (with_far c a v) b.node row_b = subst (λ (x : Wiring). row_b ≡ get_or x b.node row_b) first at_b in
@@ -210,10 +229,13 @@ no_cable counts e = go counts e.node e.port
     go (n ∷ ns) zero port = loose n port
     go (n ∷ ns) (suc node) port = go ns node port
 
-bare_ports : (counts : List ℕ) (node : ℕ) → node < length counts → length (ports_of (without_cables counts) node) ≡ get_or counts node 0
+bare_ports : (counts : List ℕ) (node : ℕ) → node < length counts →
+    length (ports_of (without_cables counts) node) ≡ get_or counts node 0
 bare_ports counts node h = ap length (get_or-map-in (λ (count : ℕ). replicate count none_end) counts node 0 [] h) ∙ length-replicate (get_or counts node 0) none_end
 
-pub bare : (counts : List ℕ) → length counts ≤ 63 → ((i : ℕ) → i < length counts → (1 ≤ get_or counts i 0) × (get_or counts i 0 ≤ 16)) → IsCabling (without_cables counts)
+pub bare : (counts : List ℕ) → length counts ≤ 63 →
+    ((i : ℕ) → i < length counts → (1 ≤ get_or counts i 0) × (get_or counts i 0 ≤ 16)) →
+    IsCabling (without_cables counts)
 bare counts few each =
     let same : length (without_cables counts) ≡ length counts = length-map counts (λ count. replicate count none_end) in
     record {

@@ -19,7 +19,8 @@ record NearSet (c : Wiring) (node ports : ℕ) : Type 0 where
   near : Near c node ports found
   small : found < 2 ^ 63
 
-near_next : (c : Wiring) (node port : ℕ) (x : Option End) → IsCabling c → far c (end_at node port) ≡ x → NearSet c node port → NearSet c node (port + 1)
+near_next : (c : Wiring) (node port : ℕ) (x : Option End) → IsCabling c →
+    far c (end_at node port) ≡ x → NearSet c node port → NearSet c node (port + 1)
 near_next c node port None is e n = record {
   found = n.found;
   near = near_loose c node port n.found e n.near;
@@ -49,7 +50,8 @@ record Grown (c : Wiring) (node done : ℕ) : Type 0 where
   small_waiting : waiting_after < 2 ^ 63
   smaller : 2 ^ 63 - done_after < 2 ^ 63 - done
 
-grown : (c : Wiring) (node next done waiting : ℕ) → IsCabling c → Growing c node done waiting → Holds waiting next → done < 2 ^ 63 → waiting < 2 ^ 63 → Grown c node done
+grown : (c : Wiring) (node next done waiting : ℕ) → IsCabling c → Growing c node done waiting →
+    Holds waiting next → done < 2 ^ 63 → waiting < 2 ^ 63 → Grown c node done
 grown c node next done waiting is g h small small_waiting =
     let inside : next < 63 = below waiting next small_waiting h in
     let inside_64 : next < 64 = omega (arith, inside) in
@@ -75,7 +77,8 @@ grown c node next done waiting is g h small small_waiting =
       smaller = more_than done after next small_after (inserted done next inside_64 (g.apart next h));
     }
 
-grow : (fuel : ℕ) (c : Wiring) (node done waiting : ℕ) → IsCabling c → Growing c node done waiting → done < 2 ^ 63 → waiting < 2 ^ 63 → 2 ^ 63 - done < fuel → HasComponent c node
+grow : (fuel : ℕ) (c : Wiring) (node done waiting : ℕ) → IsCabling c → Growing c node done waiting →
+    done < 2 ^ 63 → waiting < 2 ^ 63 → 2 ^ 63 - done < fuel → HasComponent c node
 grow zero c node done waiting is g small small_waiting less = absurd (omega (arith, less))
 grow (suc fuel) c node done waiting is g small small_waiting less = elim (cases_lt 0 waiting) [
   | inr none ↦
@@ -104,7 +107,8 @@ component_exists c node is there =
 -- ---- a core is what is left where nodes with fewer than two cables into the rest were taken away
 
 -- more nodes, more cables
-more_two : (c : Wiring) (small large node : ℕ) → IsWithin small large → HasTwo c small node → HasTwo c large node
+more_two : (c : Wiring) (small large node : ℕ) → IsWithin small large → HasTwo c small node →
+    HasTwo c large node
 more_two c small large node within two = record {
   low = two.low;
   high = two.high;
@@ -113,7 +117,8 @@ more_two c small large node within two = record {
   high_leads = (two.high_leads.0, two.high_leads.1, within two.high_leads.0.node two.high_leads.2);
 }
 
-strip : (fuel : ℕ) (c : Wiring) (set core : ℕ) → core < fuel → core < 2 ^ 63 → IsWithin core set → ((part : ℕ) → IsWithin part set → IsLooped c part → IsWithin part core) → HasCore c set
+strip : (fuel : ℕ) (c : Wiring) (set core : ℕ) → core < fuel → core < 2 ^ 63 → IsWithin core set →
+    ((part : ℕ) → IsWithin part set → IsLooped c part → IsWithin part core) → HasCore c set
 strip zero c set core less small within kept = absurd (omega (arith, less))
 strip (suc fuel) c set core less small within kept = elim (weak_or_all c core 63 small) [
   | inr all ↦

@@ -13,7 +13,8 @@ Found done waiting x = Holds done x ⊎ Holds waiting x
 
 pub record Growing (c : Wiring) (node done waiting : ℕ) : Type 0 where
   pub holds : Found done waiting node
-  pub least : (other : ℕ) → Holds other node → IsClosed c other → (x : ℕ) → Found done waiting x → Holds other x
+  pub least : (other : ℕ) → Holds other node → IsClosed c other → (x : ℕ) → Found done waiting x →
+      Holds other x
   pub closed : (x y : ℕ) → Holds done x → IsNeighbour c x y → Found done waiting y
   pub apart : (x : ℕ) → Holds waiting x → Holds done x → ⊥
   pub exist : (x : ℕ) → Found done waiting x → x < length c
@@ -22,11 +23,14 @@ pub record Growing (c : Wiring) (node done waiting : ℕ) : Type 0 where
 pub neighbour_exists : (c : Wiring) (x y : ℕ) → IsCabling c → IsNeighbour c x y → y < length c
 neighbour_exists c x y is n = subst (λ (z : ℕ). z < length c) n.is (plugged c n.end (record { node = x; port = n.port }) (is.both_ways (record { node = x; port = n.port }) n.end n.joined)).node
 
-closed_along : (c : Wiring) (other x y : ℕ) → IsClosed c other → Holds other x → IsNeighbour c x y → Holds other y
+closed_along : (c : Wiring) (other x y : ℕ) → IsClosed c other → Holds other x → IsNeighbour c x y →
+    Holds other y
 closed_along c other x y closed h n = subst (λ (z : ℕ). Holds other z) n.is (closed (record { node = x; port = n.port }) n.end n.joined h)
 
 -- at first only the node waits
-pub growing_first : (c : Wiring) (node none waiting : ℕ) → node < length c → none ≡ 0 → Holds waiting node → ((x : ℕ) → x ≢ node → (Holds waiting x ↔ Holds 0 x)) → Growing c node none waiting
+pub growing_first : (c : Wiring) (node none waiting : ℕ) → node < length c → none ≡ 0 →
+    Holds waiting node → ((x : ℕ) → x ≢ node → (Holds waiting x ↔ Holds 0 x)) →
+    Growing c node none waiting
 growing_first c node none waiting there zero is others =
     let only : (x : ℕ) → Found none waiting x → x ≡ node = λ x f. elim f [
       | inl d ↦ absurd (none_of_zero x (subst (λ (n : ℕ). Holds n x) zero d))
@@ -51,7 +55,10 @@ pub record Grows (c : Wiring) (next done waiting near both done_after waiting_af
   pub both_is : (x : ℕ) → (Holds both x ↔ (Holds waiting x ⊎ Holds near x))
   pub after : (x : ℕ) → (Holds waiting_after x ↔ (Holds both x × (Holds done_after x → ⊥)))
 
-pub growing_next : (c : Wiring) (node next done waiting near both done_after waiting_after : ℕ) → IsCabling c → Growing c node done waiting → Holds waiting next → Grows c next done waiting near both done_after waiting_after → Growing c node done_after waiting_after
+pub growing_next : (c : Wiring) (node next done waiting near both done_after waiting_after : ℕ) →
+    IsCabling c → Growing c node done waiting → Holds waiting next →
+    Grows c next done waiting near both done_after waiting_after →
+    Growing c node done_after waiting_after
 growing_next c node next done waiting near both done_after waiting_after is g h s =
     let dec : (x : ℕ) → (Holds done_after x) ⊎ (Holds done_after x → ⊥) = λ x. elim (cases_eq (bit_at done_after x) 1) [ inl a ↦ inl a | inr a ↦ inr a ] in
     let keeps : (x : ℕ) → Holds done x → Holds done_after x = λ x d. elim (cases_eq x next) [
@@ -94,7 +101,8 @@ growing_next c node next done waiting near both done_after waiting_after is g h 
     }
 
 -- where none waits the component is found
-pub growing_last : (c : Wiring) (node done waiting : ℕ) → Growing c node done waiting → ((x : ℕ) → Holds waiting x → ⊥) → IsComponent c node done
+pub growing_last : (c : Wiring) (node done waiting : ℕ) → Growing c node done waiting →
+    ((x : ℕ) → Holds waiting x → ⊥) → IsComponent c node done
 growing_last c node done waiting g none =
     let done_all : (x : ℕ) → Found done waiting x → Holds done x = λ x f. elim f [ inl d ↦ d | inr w ↦ absurd (none x w) ] in
     record {

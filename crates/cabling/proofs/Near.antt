@@ -12,7 +12,8 @@ abbrev pub end_at : ℕ → ℕ → End
 end_at node port = record { node = node; port = port }
 
 -- what stands in a node's row
-pub at_row : (c : Wiring) (row : List (Option End)) (node port : ℕ) (x : Option End) → row ≡ ports_of c node → get_or row port None ≡ x → far c (end_at node port) ≡ x
+pub at_row : (c : Wiring) (row : List (Option End)) (node port : ℕ) (x : Option End) →
+    row ≡ ports_of c node → get_or row port None ≡ x → far c (end_at node port) ≡ x
 at_row c row node port x e at = ap (λ (r : List (Option End)). get_or r port None) (sym e) ∙ at
 
 -- the far end is a node below 63
@@ -22,7 +23,8 @@ small_far c a b is e = omega (arith, (plugged c b a (is.both_ways a b e)).node, 
 -- the nodes to which the ports below a number lead
 pub record Near (c : Wiring) (node ports found : ℕ) : Type 0 where
   pub sound : (other : ℕ) → Holds found other → IsNeighbour c node other
-  pub all : (port : ℕ) (other : End) → port < ports → far c (end_at node port) ≡ Some other → Holds found other.node
+  pub all : (port : ℕ) (other : End) → port < ports → far c (end_at node port) ≡ Some other →
+      Holds found other.node
 
 pub near_none : (c : Wiring) (node found : ℕ) → found ≡ 0 → Near c node 0 found
 near_none c node found e = record {
@@ -30,7 +32,10 @@ near_none c node found e = record {
   all = λ port other h f. absurd (omega (arith, h));
 }
 
-pub near_one : (c : Wiring) (node port found after : ℕ) (end : End) → far c (end_at node port) ≡ Some end → Near c node port found → Holds after end.node → ((other : ℕ) → other ≢ end.node → (Holds after other ↔ Holds found other)) → Near c node (port + 1) after
+pub near_one : (c : Wiring) (node port found after : ℕ) (end : End) →
+    far c (end_at node port) ≡ Some end → Near c node port found → Holds after end.node →
+    ((other : ℕ) → other ≢ end.node → (Holds after other ↔ Holds found other)) →
+    Near c node (port + 1) after
 near_one c node port found after end e near is others = record {
   sound = λ other h. elim (cases_eq other end.node) [
     | inl same ↦ record { port = port; end = end; joined = e; is = sym same }
@@ -48,7 +53,8 @@ near_one c node port found after end e near is others = record {
   ];
 }
 
-pub near_loose : (c : Wiring) (node port found : ℕ) → far c (end_at node port) ≡ None → Near c node port found → Near c node (port + 1) found
+pub near_loose : (c : Wiring) (node port found : ℕ) → far c (end_at node port) ≡ None →
+    Near c node port found → Near c node (port + 1) found
 near_loose c node port found e near = record {
   sound = near.sound;
   all = λ p other less f. elim (cases_lt p port) [
@@ -59,7 +65,8 @@ near_loose c node port found e near = record {
   ];
 }
 
-pub near_all : (c : Wiring) (node ports found : ℕ) → Near c node ports found → length (ports_of c node) ≤ ports → (other : ℕ) → Holds found other ↔ IsNeighbour c node other
+pub near_all : (c : Wiring) (node ports found : ℕ) → Near c node ports found →
+    length (ports_of c node) ≤ ports → (other : ℕ) → Holds found other ↔ IsNeighbour c node other
 near_all c node ports found near all other = (
   near.sound other,
   λ n. subst (λ (x : ℕ). Holds found x) n.is (near.all n.port n.end (omega (arith, all, (plugged c (end_at node n.port) n.end n.joined).port)) n.joined),

@@ -36,7 +36,8 @@ abbrev pub Once : List ℕ → Type 0
 Once [] = Unit {0}
 Once (x ∷ xs) = (In x xs → ⊥) × Once xs
 
-pub once_append : (xs ys : List ℕ) → Once xs → Once ys → ((x : ℕ) → In x xs → In x ys → ⊥) → Once (xs ++ ys)
+pub once_append : (xs ys : List ℕ) → Once xs → Once ys → ((x : ℕ) → In x xs → In x ys → ⊥) →
+    Once (xs ++ ys)
 once_append [] ys a b apart = b
 once_append (x ∷ xs) ys a b apart = (
   (λ i. elim (in_append x xs ys i) [ inl l ↦ a.0 l | inr r ↦ apart x (inl refl) r ]),
@@ -65,14 +66,19 @@ pub record ClimbingTo (c : Wiring) (rank : ℕ → ℕ) (set x : ℕ) (from : Op
   pub onward : from ≢ Some port
   pub climbing : Climbing c rank set end.node node
 
-pub later : (c : Wiring) (rank : ℕ → ℕ) (set x : ℕ) (from : Option ℕ) (p node : ℕ) → ClimbingTo c rank set x from (p + 1) node → ClimbingTo c rank set x from p node
+pub later : (c : Wiring) (rank : ℕ → ℕ) (set x : ℕ) (from : Option ℕ) (p node : ℕ) →
+    ClimbingTo c rank set x from (p + 1) node → ClimbingTo c rank set x from p node
 later c rank set x from p node t = record { port = t.port; end = t.end; not_before = omega (arith, t.not_before); joined = t.joined; onward = t.onward; climbing = t.climbing }
 
-pub step_back : (c : Wiring) (rank : ℕ → ℕ) (set root x p : ℕ) (from : Option ℕ) (e : End) → Context c rank set root → Down c rank set x from → far c (end_at x p) ≡ Some e → from ≢ Some p → Step c rank e.node e.port (end_at x p)
+pub step_back : (c : Wiring) (rank : ℕ → ℕ) (set root x p : ℕ) (from : Option ℕ) (e : End) →
+    Context c rank set root → Down c rank set x from → far c (end_at x p) ≡ Some e → from ≢ Some p →
+    Step c rank e.node e.port (end_at x p)
 step_back c rank set root x p from e k d j ne = record { joined = k.cabling.both_ways (end_at x p) e j; rises = d.falls p e j ne }
 
 mutual
-  pub in_tree : (c : Wiring) (label : ℕ → Label) (rank : ℕ → ℕ) (set root x : ℕ) (from : Option ℕ) (t : Tree) → Context c rank set root → Down c rank set x from → Sees c label x from t → (z : ℕ) → In z (numbers c x t) → Climbing c rank set x z
+  pub in_tree : (c : Wiring) (label : ℕ → Label) (rank : ℕ → ℕ) (set root x : ℕ) (from : Option ℕ) (t : Tree) →
+      Context c rank set root → Down c rank set x from → Sees c label x from t → (z : ℕ) →
+      In z (numbers c x t) → Climbing c rank set x z
   in_tree c label rank set root x from (branch a s) k d h z i = elim (in_append z (numbers_below c (ports_of c x) s) (x ∷ []) i) [
     | inl below ↦
         let w = in_slots c label rank set root x from 0 (ports_of c x) s k d (row_all c x) h.2 z below in
@@ -83,7 +89,10 @@ mutual
     ]
   ]
 
-  pub in_slots : (c : Wiring) (label : ℕ → Label) (rank : ℕ → ℕ) (set root x : ℕ) (from : Option ℕ) (p : ℕ) (row : List (Option End)) (s : Slots) → Context c rank set root → Down c rank set x from → RowAt c x p row → SeesFrom c label from p row s → (z : ℕ) → In z (numbers_below c row s) → ClimbingTo c rank set x from p z
+  pub in_slots : (c : Wiring) (label : ℕ → Label) (rank : ℕ → ℕ) (set root x : ℕ) (from : Option ℕ) (p : ℕ) (row : List (Option End)) (s : Slots) →
+      Context c rank set root → Down c rank set x from → RowAt c x p row →
+      SeesFrom c label from p row s → (z : ℕ) → In z (numbers_below c row s) →
+      ClimbingTo c rank set x from p z
   in_slots c label rank set root x from p (None ∷ row) (unplugged s) k d at h z i = later c rank set x from p z (in_slots c label rank set root x from (p + 1) row s k d (row_tail c x p None row at) h z i)
   in_slots c label rank set root x from p (Some e ∷ row) (up s) k d at h z i = later c rank set x from p z (in_slots c label rank set root x from (p + 1) row s k d (row_tail c x p (Some e) row at) h.1 z i)
   in_slots c label rank set root x from p (Some e ∷ row) (down t s) k d at h z i =
@@ -99,7 +108,9 @@ mutual
 -- ---- no node twice
 
 mutual
-  pub once_tree : (c : Wiring) (label : ℕ → Label) (rank : ℕ → ℕ) (set root x : ℕ) (from : Option ℕ) (t : Tree) → Context c rank set root → Down c rank set x from → Sees c label x from t → Once (numbers c x t)
+  pub once_tree : (c : Wiring) (label : ℕ → Label) (rank : ℕ → ℕ) (set root x : ℕ) (from : Option ℕ) (t : Tree) →
+      Context c rank set root → Down c rank set x from → Sees c label x from t →
+      Once (numbers c x t)
   once_tree c label rank set root x from (branch a s) k d h =
       once_append (numbers_below c (ports_of c x) s) (x ∷ []) (once_slots c label rank set root x from 0 (ports_of c x) s k d (row_all c x) h.2) ((λ i. i), tt)
       (λ z below itself. elim itself [
@@ -109,7 +120,9 @@ mutual
         | inr none ↦ none
       ])
 
-  pub once_slots : (c : Wiring) (label : ℕ → Label) (rank : ℕ → ℕ) (set root x : ℕ) (from : Option ℕ) (p : ℕ) (row : List (Option End)) (s : Slots) → Context c rank set root → Down c rank set x from → RowAt c x p row → SeesFrom c label from p row s → Once (numbers_below c row s)
+  pub once_slots : (c : Wiring) (label : ℕ → Label) (rank : ℕ → ℕ) (set root x : ℕ) (from : Option ℕ) (p : ℕ) (row : List (Option End)) (s : Slots) →
+      Context c rank set root → Down c rank set x from → RowAt c x p row →
+      SeesFrom c label from p row s → Once (numbers_below c row s)
   once_slots c label rank set root x from p (None ∷ row) (unplugged s) k d at h = once_slots c label rank set root x from (p + 1) row s k d (row_tail c x p None row at) h
   once_slots c label rank set root x from p (Some e ∷ row) (up s) k d at h = once_slots c label rank set root x from (p + 1) row s k d (row_tail c x p (Some e) row at) h.1
   once_slots c label rank set root x from p (Some e ∷ row) (down t s) k d at h =
@@ -135,7 +148,9 @@ pub in_itself : (c : Wiring) (x : ℕ) (t : Tree) → In x (numbers c x t)
 in_itself c x (branch a s) = in_right x (numbers_below c (ports_of c x) s) (x ∷ []) (inl refl)
 
 -- the trees below a node hold the far ends of its ports
-in_below : (c : Wiring) (label : ℕ → Label) (x : ℕ) (from : Option ℕ) (p : ℕ) (row : List (Option End)) (s : Slots) → SeesFrom c label from p row s → (i q : ℕ) (b : End) → q ≡ p + i → get_or row i None ≡ Some b → from ≢ Some q → In b.node (numbers_below c row s)
+in_below : (c : Wiring) (label : ℕ → Label) (x : ℕ) (from : Option ℕ) (p : ℕ) (row : List (Option End)) (s : Slots) →
+    SeesFrom c label from p row s → (i q : ℕ) (b : End) → q ≡ p + i → get_or row i None ≡ Some b →
+    from ≢ Some q → In b.node (numbers_below c row s)
 in_below c label x from p [] s h i q b e j ne = absurd cc
 in_below c label x from p (None ∷ row) (unplugged s) h zero q b e j ne = absurd cc
 in_below c label x from p (None ∷ row) (unplugged s) h (suc i) q b e j ne = in_below c label x from (p + 1) row s h i q b (omega arith) j ne
@@ -146,7 +161,9 @@ in_below c label x from p (Some far ∷ row) (down t s) h (suc i) q b e j ne = i
 in_below c label x from p row s h i q b e j ne = absurd h
 
 mutual
-  pub closed_tree : (c : Wiring) (label : ℕ → Label) (x : ℕ) (from : Option ℕ) (t : Tree) → IsCabling c → Sees c label x from t → (z q : ℕ) (b : End) → In z (numbers c x t) → far c (end_at z q) ≡ Some b → In b.node (numbers c x t) ⊎ ((z ≡ x) × (from ≡ Some q))
+  pub closed_tree : (c : Wiring) (label : ℕ → Label) (x : ℕ) (from : Option ℕ) (t : Tree) →
+      IsCabling c → Sees c label x from t → (z q : ℕ) (b : End) → In z (numbers c x t) →
+      far c (end_at z q) ≡ Some b → In b.node (numbers c x t) ⊎ ((z ≡ x) × (from ≡ Some q))
   closed_tree c label x from (branch a s) is h z q b i j = elim (in_append z (numbers_below c (ports_of c x) s) (x ∷ []) i) [
     | inl below ↦ elim (closed_slots c label x from 0 (ports_of c x) s is (row_all c x) h.2 z q b below j) [
       | inl found ↦ inl (in_left b.node (numbers_below c (ports_of c x) s) (x ∷ []) found)
@@ -163,7 +180,10 @@ mutual
     ]
   ]
 
-  pub closed_slots : (c : Wiring) (label : ℕ → Label) (x : ℕ) (from : Option ℕ) (p : ℕ) (row : List (Option End)) (s : Slots) → IsCabling c → RowAt c x p row → SeesFrom c label from p row s → (z q : ℕ) (b : End) → In z (numbers_below c row s) → far c (end_at z q) ≡ Some b → In b.node (numbers_below c row s) ⊎ (b.node ≡ x)
+  pub closed_slots : (c : Wiring) (label : ℕ → Label) (x : ℕ) (from : Option ℕ) (p : ℕ) (row : List (Option End)) (s : Slots) →
+      IsCabling c → RowAt c x p row → SeesFrom c label from p row s → (z q : ℕ) (b : End) →
+      In z (numbers_below c row s) → far c (end_at z q) ≡ Some b →
+      In b.node (numbers_below c row s) ⊎ (b.node ≡ x)
   closed_slots c label x from p (None ∷ row) (unplugged s) is at h z q b i j = closed_slots c label x from (p + 1) row s is (row_tail c x p None row at) h z q b i j
   closed_slots c label x from p (Some e ∷ row) (up s) is at h z q b i j = closed_slots c label x from (p + 1) row s is (row_tail c x p (Some e) row at) h.1 z q b i j
   closed_slots c label x from p (Some e ∷ row) (down t s) is at h z q b i j = elim (in_append z (numbers c e.node t) (numbers_below c row s) i) [

@@ -6,12 +6,15 @@ use Rattle.cabling.specs.Wiring.{Wiring, ports_of}
 use Rattle.cabling.specs.Sees.{Sees, SeesFrom}
 
 mutual
-  pub one-tree : (c : Wiring) (label : ℕ → Label) (x : ℕ) (from : Option ℕ) (t u : Tree) → Sees c label x from t → Sees c label x from u → t ≡ u
+  pub one-tree : (c : Wiring) (label : ℕ → Label) (x : ℕ) (from : Option ℕ) (t u : Tree) →
+      Sees c label x from t → Sees c label x from u → t ≡ u
   one-tree c label x from (branch a s) (branch b r) h k =
       let same : a ≡ b = h.0 ∙ sym k.0 in
       rw (same, one-slots c label from 0 (ports_of c x) s r h.2 k.2 (h.1 ∙ sym k.1)) refl
 
-  one-slots : (c : Wiring) (label : ℕ → Label) (from : Option ℕ) (p : ℕ) (ports : List (Option End)) (s r : Slots) → SeesFrom c label from p ports s → SeesFrom c label from p ports r → length (statuses s) ≡ length (statuses r) → s ≡ r
+  one-slots : (c : Wiring) (label : ℕ → Label) (from : Option ℕ) (p : ℕ) (ports : List (Option End)) (s r : Slots) →
+      SeesFrom c label from p ports s → SeesFrom c label from p ports r →
+      length (statuses s) ≡ length (statuses r) → s ≡ r
   one-slots c label from p [] no_more no_more h k l = refl
   one-slots c label from p [] no_more (absent r) h k l = absurd (omega (arith, l))
   one-slots c label from p [] (absent s) no_more h k l = absurd (omega (arith, l))

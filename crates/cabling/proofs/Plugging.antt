@@ -16,11 +16,13 @@ pub record Pluggable (c : Wiring) (a b : End) : Type 0 where
   pub apart : a.node ≢ b.node
 
 -- a test that was passed, and what comes after it
-passed : (b : Bool) (f : CableFault) (rest : Option CableFault) → (if not b then Some f else rest) ≡ None → (b ≡ true) × (rest ≡ None)
+passed : (b : Bool) (f : CableFault) (rest : Option CableFault) →
+    (if not b then Some f else rest) ≡ None → (b ≡ true) × (rest ≡ None)
 passed true f rest e = (refl, e)
 passed false f rest e = absurd cc
 
-free : (b : Bool) (f : CableFault) (rest : Option CableFault) → (if b then Some f else rest) ≡ None → (b ≡ false) × (rest ≡ None)
+free : (b : Bool) (f : CableFault) (rest : Option CableFault) →
+    (if b then Some f else rest) ≡ None → (b ≡ false) × (rest ≡ None)
 free true f rest e = absurd cc
 free false f rest e = (refl, e)
 
@@ -55,7 +57,12 @@ pub record Plugs (old new : Wiring) (a b : End) : Type 0 where
   pub added : Added old new a b
   pub cabling : IsCabling new
 
-pub plugs : (c : Wiring) (a b : End) (row_a new_a row_b new_b : List (Option End)) → IsCabling c → plug_fault c a b ≡ None → row_a ≡ get_or c a.node row_a → new_a ≡ slice_set row_a a.port (Some b) → row_b ≡ get_or (slice_set c a.node new_a) b.node row_b → new_b ≡ slice_set row_b b.port (Some a) → Plugs c (slice_set (slice_set c a.node new_a) b.node new_b) a b
+pub plugs : (c : Wiring) (a b : End) (row_a new_a row_b new_b : List (Option End)) → IsCabling c →
+    plug_fault c a b ≡ None → row_a ≡ get_or c a.node row_a →
+    new_a ≡ slice_set row_a a.port (Some b) →
+    row_b ≡ get_or (slice_set c a.node new_a) b.node row_b →
+    new_b ≡ slice_set row_b b.port (Some a) →
+    Plugs c (slice_set (slice_set c a.node new_a) b.node new_b) a b
 plugs c a b row_a new_a row_b new_b is none at_a is_a at_b is_b =
     let may : Pluggable c a b = pluggable c a b none in
     let added : Added c (with_far (with_far c a (Some b)) b (Some a)) a b = added_by_writes c a b may.has_a may.has_b may.free_a may.free_b may.apart in
@@ -66,7 +73,10 @@ pub record Pulls (old new : Wiring) (a b : End) : Type 0 where
   pub taken : TakenOut old new a b
   pub cabling : IsCabling new
 
-pub pulls : (c : Wiring) (a b : End) (row_a new_a row_b new_b : List (Option End)) → IsCabling c → far c a ≡ Some b → row_a ≡ get_or c a.node row_a → new_a ≡ slice_set row_a a.port None → row_b ≡ get_or (slice_set c a.node new_a) b.node row_b → new_b ≡ slice_set row_b b.port None → Pulls c (slice_set (slice_set c a.node new_a) b.node new_b) a b
+pub pulls : (c : Wiring) (a b : End) (row_a new_a row_b new_b : List (Option End)) → IsCabling c →
+    far c a ≡ Some b → row_a ≡ get_or c a.node row_a → new_a ≡ slice_set row_a a.port None →
+    row_b ≡ get_or (slice_set c a.node new_a) b.node row_b → new_b ≡ slice_set row_b b.port None →
+    Pulls c (slice_set (slice_set c a.node new_a) b.node new_b) a b
 pulls c a b row_a new_a row_b new_b is e at_a is_a at_b is_b =
     let taken : TakenOut c (with_far (with_far c a None) b None) a b = taken_by_writes c a b is e in
     let all : Pulls c (with_far (with_far c a None) b None) a b = record { taken = taken; cabling = cabling_taken c (with_far (with_far c a None) b None) a b is taken } in
@@ -77,7 +87,8 @@ pub other_there : (c : Wiring) (a b : End) → IsCabling c → far c a ≡ Some 
 other_there c a b is e = plugged c b a (is.both_ways a b e)
 
 -- also after a write to the node of the first end
-pub other_port : (c : Wiring) (a b : End) (row new : List (Option End)) → IsCabling c → far c a ≡ Some b → row ≡ get_or (slice_set c a.node new) b.node row → b.port < length row
+pub other_port : (c : Wiring) (a b : End) (row new : List (Option End)) → IsCabling c →
+    far c a ≡ Some b → row ≡ get_or (slice_set c a.node new) b.node row → b.port < length row
 other_port c a b row new is e at =
     let there : HasEnd c b = other_there c a b is e in
     let same : row ≡ ports_of c b.node = at ∙ get_or-set_other c a.node b.node new row (λ same. is.two_nodes a b e (sym same)) ∙ get_or_default c b.node row [] there.node in

@@ -13,7 +13,8 @@ use Rattle.cabling.proofs.Whole.{shared}
 
 -- ---- the cables that are left
 
-pub was-there : (old new : Wiring) (a b : End) → TakenOut old new a b → (e o : End) → far new e ≡ Some o → far old e ≡ Some o
+pub was-there : (old new : Wiring) (a b : End) → TakenOut old new a b → (e o : End) →
+    far new e ≡ Some o → far old e ≡ Some o
 was-there old new a b t e o h = elim (cases_end e a) [
   | inl is ↦ absurd (none_some (far new e) o (ap (far new) is ∙ t.free_a) h)
   | inr not_a ↦ elim (cases_end e b) [
@@ -23,7 +24,9 @@ was-there old new a b t e o h = elim (cases_end e a) [
 ]
 
 -- a cable between two nodes of a set stays, if not both ends of the pulled one are in the set
-still-there : (old new : Wiring) (a b : End) (set : ℕ) → IsCabling old → TakenOut old new a b → (Holds set a.node → Holds set b.node → ⊥) → (e o : End) → far old e ≡ Some o → Holds set e.node → Holds set o.node → far new e ≡ Some o
+still-there : (old new : Wiring) (a b : End) (set : ℕ) → IsCabling old → TakenOut old new a b →
+    (Holds set a.node → Holds set b.node → ⊥) → (e o : End) → far old e ≡ Some o →
+    Holds set e.node → Holds set o.node → far new e ≡ Some o
 still-there old new a b set is t apart e o h near other = elim (cases_end e a) [
   | inl at_a ↦
       let end : o ≡ b = one_other (far old a) o b (ap (far old) (sym at_a) ∙ h) t.joined in
@@ -39,7 +42,9 @@ still-there old new a b set is t apart e o h near other = elim (cases_end e a) [
 -- ---- looped sets
 
 -- two cables into a set are two cables into another, where those cables are there too and lead into it
-two-again : (c d : Wiring) (set other node : ℕ) → ((port : ℕ) (o : End) → far c (end_at node port) ≡ Some o → Holds set o.node → (far d (end_at node port) ≡ Some o) × Holds other o.node) → HasTwo c set node → HasTwo d other node
+two-again : (c d : Wiring) (set other node : ℕ) →
+    ((port : ℕ) (o : End) → far c (end_at node port) ≡ Some o → Holds set o.node → (far d (end_at node port) ≡ Some o) × Holds other o.node) →
+    HasTwo c set node → HasTwo d other node
 two-again c d set other node f h = record {
   low = h.low;
   high = h.high;
@@ -57,7 +62,9 @@ core-looped c set core is node h =
 -- ---- the pull
 
 -- what was in the core, and is still in the component, is in the core
-stays-in : (old new : Wiring) (a b : End) (node before after : ℕ) → IsCabling old → TakenOut old new a b → (LiesOnCore old a b → ⊥) → IsCoreOf old node before → IsCoreOf new node after → Holds before node → Holds after node
+stays-in : (old new : Wiring) (a b : End) (node before after : ℕ) → IsCabling old →
+    TakenOut old new a b → (LiesOnCore old a b → ⊥) → IsCoreOf old node before →
+    IsCoreOf new node after → Holds before node → Holds after node
 stays-in old new a b node before after is t off x y h =
     let apart : Holds before a.node → Holds before b.node → ⊥ = λ near other.
     let p = (x.is a.node).0 near in
@@ -78,7 +85,8 @@ stays-in old new a b node before after is t off x y h =
     )
 
 -- and what is in the core was in it
-was-in : (old new : Wiring) (a b : End) (node before after : ℕ) → TakenOut old new a b → IsCoreOf old node before → IsCoreOf new node after → Holds after node → Holds before node
+was-in : (old new : Wiring) (a b : End) (node before after : ℕ) → TakenOut old new a b →
+    IsCoreOf old node before → IsCoreOf new node after → Holds after node → Holds before node
 was-in old new a b node before after t x y h =
     let p = (y.is node).0 h in
     let smaller : IsWithin y.component x.component = y.of_node.least x.component x.of_node.holds (λ e o there. x.of_node.closed e o (was-there old new a b t e o there)) in
@@ -89,5 +97,7 @@ was-in old new a b node before after t x y h =
       p.3,
     )
 
-pub same-core : (old new : Wiring) (a b : End) (node before after : ℕ) → IsCabling old → TakenOut old new a b → (LiesOnCore old a b → ⊥) → IsCoreOf old node before → IsCoreOf new node after → Holds before node ↔ Holds after node
+pub same-core : (old new : Wiring) (a b : End) (node before after : ℕ) → IsCabling old →
+    TakenOut old new a b → (LiesOnCore old a b → ⊥) → IsCoreOf old node before →
+    IsCoreOf new node after → Holds before node ↔ Holds after node
 same-core old new a b node before after is t off x y = (stays-in old new a b node before after is t off x y, was-in old new a b node before after t x y)

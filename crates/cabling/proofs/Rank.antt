@@ -13,8 +13,11 @@ use Rattle.cabling.proofs.Cascade.{weak_or_all, two_or_not, two_of, holds_or_not
 
 pub record Ranked (c : Wiring) (set root : ℕ) (rank : ℕ → ℕ) : Type 0 where
   pub top : (x : ℕ) → Holds set x → x ≢ root → rank x < rank root
-  pub one_up : (x p q : ℕ) (a b : End) → Holds set x → Holds set a.node → Holds set b.node → far c (end_at x p) ≡ Some a → far c (end_at x q) ≡ Some b → rank x < rank a.node → rank x < rank b.node → p ≡ q
-  pub differ : (x p : ℕ) (a : End) → Holds set x → Holds set a.node → far c (end_at x p) ≡ Some a → rank x ≢ rank a.node
+  pub one_up : (x p q : ℕ) (a b : End) → Holds set x → Holds set a.node → Holds set b.node →
+      far c (end_at x p) ≡ Some a → far c (end_at x q) ≡ Some b → rank x < rank a.node →
+      rank x < rank b.node → p ≡ q
+  pub differ : (x p : ℕ) (a : End) → Holds set x → Holds set a.node → far c (end_at x p) ≡ Some a →
+      rank x ≢ rank a.node
 
 -- a node is put below all others
 abbrev under : ℕ → (ℕ → ℕ) → ℕ → ℕ
@@ -35,7 +38,8 @@ under-other node x rank ne = go (eqb x node) (ne_eqb x node ne)
     go false e = refl
 
 -- one node alone
-ranked_alone : (c : Wiring) (set root : ℕ) → IsCabling c → ((x : ℕ) → Holds set x → x ≡ root) → Ranked c set root (λ x. 0)
+ranked_alone : (c : Wiring) (set root : ℕ) → IsCabling c → ((x : ℕ) → Holds set x → x ≡ root) →
+    Ranked c set root (λ x. 0)
 ranked_alone c set root is only = record {
   top = λ x h ne. absurd (ne (only x h));
   one_up = λ x p q a b h ha hb ea eb less other. absurd (omega (arith, less));
@@ -43,7 +47,9 @@ ranked_alone c set root is only = record {
 }
 
 -- a weak node under the rest
-ranked_more : (c : Wiring) (set root node less : ℕ) (rank : ℕ → ℕ) → IsCabling c → node ≢ root → (HasTwo c set node → ⊥) → Less set node less → Ranked c less root rank → Ranked c set root (under node rank)
+ranked_more : (c : Wiring) (set root node less : ℕ) (rank : ℕ → ℕ) → IsCabling c → node ≢ root →
+    (HasTwo c set node → ⊥) → Less set node less → Ranked c less root rank →
+    Ranked c set root (under node rank)
 ranked_more c set root node less rank is not_root weak l r =
     let in_less : (x : ℕ) → Holds set x → x ≢ node → Holds less x = λ x h ne. (l.others x ne).1 h in
     let high : (x y : ℕ) → under node rank x < under node rank y → y ≢ node = λ x y less same. omega (arith, less, under-same node y rank same) in
@@ -77,7 +83,8 @@ ranked_more c set root node less rank is not_root weak l r =
     }
 
 -- one other node of the set, or none
-other_below : (set root n : ℕ) → ((x : ℕ) × Holds set x × (x ≢ root)) ⊎ ((x : ℕ) → x < n → Holds set x → x ≡ root)
+other_below : (set root n : ℕ) →
+    ((x : ℕ) × Holds set x × (x ≢ root)) ⊎ ((x : ℕ) → x < n → Holds set x → x ≡ root)
 other_below set root zero = inr (λ x less h. absurd (omega (arith, less)))
 other_below set root (suc n) = elim (other_below set root n) [
   | inl found ↦ inl found
@@ -90,7 +97,8 @@ other_below set root (suc n) = elim (other_below set root n) [
   ]
 ]
 
-pub ranked : (fuel : ℕ) (c : Wiring) (all set root : ℕ) → IsCabling c → NoLoop c all → set < fuel → set < 2 ^ 63 → IsWithin set all → Holds set root → (rank : ℕ → ℕ) × Ranked c set root rank
+pub ranked : (fuel : ℕ) (c : Wiring) (all set root : ℕ) → IsCabling c → NoLoop c all → set < fuel →
+    set < 2 ^ 63 → IsWithin set all → Holds set root → (rank : ℕ → ℕ) × Ranked c set root rank
 ranked zero c all set root is none less small within has = absurd (omega (arith, less))
 ranked (suc fuel) c all set root is none less small within has = elim (weak_or_all c set root small) [
   | inl found ↦

@@ -21,13 +21,16 @@ pub record Down (c : Wiring) (rank : ℕ → ℕ) (set x : ℕ) (from : Option �
 some_apart : (p q : ℕ) → p ≢ q → Some p ≢ Some q
 some_apart p q ne same = ne (cc)
 
-pub down_root : (c : Wiring) (rank : ℕ → ℕ) (set root : ℕ) → IsCabling c → IsClosed c set → Ranked c set root rank → Holds set root → Down c rank set root None
+pub down_root : (c : Wiring) (rank : ℕ → ℕ) (set root : ℕ) → IsCabling c → IsClosed c set →
+    Ranked c set root rank → Holds set root → Down c rank set root None
 down_root c rank set root is closed r has = record {
   here = has;
   falls = λ p e j ne. r.top e.node (closed (end_at root p) e j has) (λ same. is.two_nodes (end_at root p) e j (sym same));
 }
 
-pub down_next : (c : Wiring) (rank : ℕ → ℕ) (set root x p : ℕ) (from : Option ℕ) (e : End) → IsCabling c → IsClosed c set → Ranked c set root rank → Down c rank set x from → far c (end_at x p) ≡ Some e → from ≢ Some p → Down c rank set e.node (Some e.port)
+pub down_next : (c : Wiring) (rank : ℕ → ℕ) (set root x p : ℕ) (from : Option ℕ) (e : End) →
+    IsCabling c → IsClosed c set → Ranked c set root rank → Down c rank set x from →
+    far c (end_at x p) ≡ Some e → from ≢ Some p → Down c rank set e.node (Some e.port)
 down_next c rank set root x p from e is closed r d j ne =
     let here : Holds set e.node = closed (end_at x p) e j d.here in
     let back : far c (end_at e.node e.port) ≡ Some (end_at x p) = is.both_ways (end_at x p) e j in
@@ -52,10 +55,12 @@ RowAt c x p row = (i q : ℕ) → q ≡ p + i → far c (end_at x q) ≡ get_or 
 pub row_all : (c : Wiring) (x : ℕ) → RowAt c x 0 (ports_of c x)
 row_all c x i q e = let same : q ≡ i = omega arith in ap (λ (n : ℕ). far c (end_at x n)) same
 
-pub row_tail : (c : Wiring) (x p : ℕ) (r : Option End) (row : List (Option End)) → RowAt c x p (r ∷ row) → RowAt c x (p + 1) row
+pub row_tail : (c : Wiring) (x p : ℕ) (r : Option End) (row : List (Option End)) →
+    RowAt c x p (r ∷ row) → RowAt c x (p + 1) row
 row_tail c x p r row at i q e = at (suc i) q (omega arith)
 
-pub row_head : (c : Wiring) (x p : ℕ) (r : Option End) (row : List (Option End)) → RowAt c x p (r ∷ row) → far c (end_at x p) ≡ r
+pub row_head : (c : Wiring) (x p : ℕ) (r : Option End) (row : List (Option End)) →
+    RowAt c x p (r ∷ row) → far c (end_at x p) ≡ r
 row_head c x p r row at = at 0 p (omega arith)
 
 -- slots that no port has
@@ -67,7 +72,8 @@ pad-length : (n : ℕ) → length (statuses (pad n)) ≡ n
 pad-length zero = refl
 pad-length (suc n) = ap (λ (k : ℕ). suc k) (pad-length n)
 
-pad-seen : (c : Wiring) (label : ℕ → Label) (from : Option ℕ) (p n : ℕ) → SeesFrom c label from p [] (pad n)
+pad-seen : (c : Wiring) (label : ℕ → Label) (from : Option ℕ) (p n : ℕ) →
+    SeesFrom c label from p [] (pad n)
 pad-seen c label from p zero = tt
 pad-seen c label from p (suc n) = pad-seen c label from (p + 1) n
 
@@ -81,7 +87,10 @@ from_or_not None p = inr (λ e. cc)
 from_or_not (Some q) p = elim (cases_eq q p) [ inl same ↦ inl (ap (λ (n : ℕ). Some n) same) | inr ne ↦ inr (some_apart q p ne) ]
 
 -- a slot for each port, where the trees below can be seen
-slots_seen : (c : Wiring) (label : ℕ → Label) (x : ℕ) (from : Option ℕ) (p : ℕ) (row : List (Option End)) (count : ℕ) → RowAt c x p row → length row ≤ count → ((q : ℕ) (e : End) → far c (end_at x q) ≡ Some e → from ≢ Some q → (t : Tree) × Sees c label e.node (Some e.port) t) → SlotsSeen c label from p row count
+slots_seen : (c : Wiring) (label : ℕ → Label) (x : ℕ) (from : Option ℕ) (p : ℕ) (row : List (Option End)) (count : ℕ) →
+    RowAt c x p row → length row ≤ count →
+    ((q : ℕ) (e : End) → far c (end_at x q) ≡ Some e → from ≢ Some q → (t : Tree) × Sees c label e.node (Some e.port) t) →
+    SlotsSeen c label from p row count
 slots_seen c label x from p [] count at few below = record { slots = pad count; seen = pad-seen c label from p count; count_is = pad-length count }
 slots_seen c label x from p (r ∷ row) zero at few below = absurd (omega (arith, few))
 slots_seen c label x from p (None ∷ row) (suc count) at few below =
@@ -103,7 +112,9 @@ node_exists : (c : Wiring) (x p : ℕ) (e : End) → far c (end_at x p) ≡ Some
 node_exists c x p e j = (plugged c (end_at x p) e j).node
 
 -- the tree from a node whose ways on all fall
-pub seen_from : (fuel : ℕ) (c : Wiring) (label : ℕ → Label) (rank : ℕ → ℕ) (set root x : ℕ) (from : Option ℕ) → IsCabling c → IsClosed c set → Ranked c set root rank → x < length c → rank x < fuel → Down c rank set x from → (t : Tree) × Sees c label x from t
+pub seen_from : (fuel : ℕ) (c : Wiring) (label : ℕ → Label) (rank : ℕ → ℕ) (set root x : ℕ) (from : Option ℕ) →
+    IsCabling c → IsClosed c set → Ranked c set root rank → x < length c → rank x < fuel →
+    Down c rank set x from → (t : Tree) × Sees c label x from t
 seen_from zero c label rank set root x from is closed r there less d = absurd (omega (arith, less))
 seen_from (suc fuel) c label rank set root x from is closed r there less d =
     let s = slots_seen c label x from 0 (ports_of c x) (slot_count (length (ports_of c x))) (row_all c x) (wide (length (ports_of c x)) (is.few_ports x there))

@@ -45,7 +45,9 @@ up_or_down b = cond b Up Down
 -- ---- slots
 
 -- the slots of a seen tree are those that its node shows
-slots_shown : (c : Wiring) (label : ℕ → Label) (from : Option ℕ) (p : ℕ) (row : List (Option End)) (s : Slots) (k : ℕ) → SeesFrom c label from p row s → length (statuses s) ≡ length row + k → statuses s ≡ statuses_from from p row ++ replicate k Absent
+slots_shown : (c : Wiring) (label : ℕ → Label) (from : Option ℕ) (p : ℕ) (row : List (Option End)) (s : Slots) (k : ℕ) →
+    SeesFrom c label from p row s → length (statuses s) ≡ length row + k →
+    statuses s ≡ statuses_from from p row ++ replicate k Absent
 slots_shown c label from p [] no_more zero h e = refl
 slots_shown c label from p [] no_more (suc k) h e = absurd (omega (arith, e))
 slots_shown c label from p [] (absent s) zero h e = absurd (omega (arith, e))
@@ -59,12 +61,15 @@ slots_shown c label from p (Some far ∷ row) (down t s) k h e =
     ∙ ap (λ (b : Bool). up_or_down b ∷ (statuses_from from (p + 1) row ++ replicate k Absent)) (sym (is_from-other from p h.0))
 slots_shown c label from p row s k h e = absurd h
 
-pub are_slots : (c : Wiring) (label : ℕ → Label) (v : Visit) (s : Slots) → IsCabling c → v.node < length c → SeesFrom c label v.from 0 (ports_of c v.node) s → length (statuses s) ≡ slot_count (length (ports_of c v.node)) → statuses s ≡ slots_of c v
+pub are_slots : (c : Wiring) (label : ℕ → Label) (v : Visit) (s : Slots) → IsCabling c →
+    v.node < length c → SeesFrom c label v.from 0 (ports_of c v.node) s →
+    length (statuses s) ≡ slot_count (length (ports_of c v.node)) → statuses s ≡ slots_of c v
 are_slots c label v s is there h e =
     let n = length (ports_of c v.node) in
     slots_shown c label v.from 0 (ports_of c v.node) s (slot_count n - n) h (omega (arith, e, wide n (is.few_ports v.node there)))
 
-shown-length : (from : Option ℕ) (p : ℕ) (row : List (Option End)) → length (statuses_from from p row) ≡ length row
+shown-length : (from : Option ℕ) (p : ℕ) (row : List (Option End)) →
+    length (statuses_from from p row) ≡ length row
 shown-length from p [] = refl
 shown-length from p (r ∷ row) = ap (λ (n : ℕ). suc n) (shown-length from (p + 1) row)
 
@@ -99,7 +104,9 @@ ups_past q p [] less = refl
 ups_past q p (None ∷ row) less = ups_past q (p + 1) row (omega arith)
 ups_past q p (Some e ∷ row) less = ups_down (eqb q p) (statuses_from (Some q) (p + 1) row) (ne_eqb q p (λ same. omega arith)) ∙ ups_past q (p + 1) row (omega arith)
 
-ups_at : (c : Wiring) (x q p : ℕ) (e : End) (row : List (Option End)) → RowAt c x p row → far c (end_at x q) ≡ Some e → p ≤ q → q < p + length row → ups (statuses_from (Some q) p row) ≡ 1
+ups_at : (c : Wiring) (x q p : ℕ) (e : End) (row : List (Option End)) → RowAt c x p row →
+    far c (end_at x q) ≡ Some e → p ≤ q → q < p + length row →
+    ups (statuses_from (Some q) p row) ≡ 1
 ups_at c x q p e [] at j low high = absurd (omega (arith, low, high))
 ups_at c x q p e (None ∷ row) at j low high = elim (cases_eq q p) [
   | inl same ↦
@@ -115,7 +122,8 @@ ups_at c x q p e (Some f ∷ row) at j low high = elim (cases_eq q p) [
 pub ups_root : (c : Wiring) (root : ℕ) → ups (slots_of c (at_root root)) ≡ 0
 ups_root c root = ups_padded (statuses_from None 0 (ports_of c root)) (slot_count (length (ports_of c root)) - length (ports_of c root)) ∙ ups_none 0 (ports_of c root)
 
-pub ups_below : (c : Wiring) (x q : ℕ) (e : End) → far c (end_at x q) ≡ Some e → ups (slots_of c (record { node = x; from = Some q })) ≡ 1
+pub ups_below : (c : Wiring) (x q : ℕ) (e : End) → far c (end_at x q) ≡ Some e →
+    ups (slots_of c (record { node = x; from = Some q })) ≡ 1
 ups_below c x q e j = ups_padded (statuses_from (Some q) 0 (ports_of c x)) (slot_count (length (ports_of c x)) - length (ports_of c x))
     ∙ ups_at c x q 0 e (ports_of c x) (row_all c x) j (omega arith) (omega (arith, (plugged c (end_at x q) e j).port))
 
@@ -127,7 +135,8 @@ pub record Fit (c : Wiring) (label : ℕ → Label) : Type 0 where
   pub kept_a : (x : ℕ) → (label x).kept_a ≡ 0
   pub kept_b : (x : ℕ) → (label x).kept_b ≡ 0
 
-is_width-slot_count : (n : ℕ) → (is_width (slot_count n) ≡ true) × (is_width_of Ieee2000 (slot_count n) ≡ true)
+is_width-slot_count : (n : ℕ) →
+    (is_width (slot_count n) ≡ true) × (is_width_of Ieee2000 (slot_count n) ≡ true)
 is_width-slot_count n = go (nat_le n 3) (nat_le n 11)
   where
     go : (a b : Bool) → (is_width (cond a 3 (cond b 11 16)) ≡ true) × (is_width_of Ieee2000 (cond a 3 (cond b 11 16)) ≡ true)
@@ -135,13 +144,15 @@ is_width-slot_count n = go (nat_le n 3) (nat_le n 11)
     go false true = (refl, refl)
     go false false = (refl, refl)
 
-slots-length : (c : Wiring) (v : Visit) → IsCabling c → v.node < length c → length (slots_of c v) ≡ slot_count (length (ports_of c v.node))
+slots-length : (c : Wiring) (v : Visit) → IsCabling c → v.node < length c →
+    length (slots_of c v) ≡ slot_count (length (ports_of c v.node))
 slots-length c v is there =
     let n = length (ports_of c v.node) in
     omega (arith, length-append (statuses_from v.from 0 (ports_of c v.node)) (replicate (slot_count n - n) Absent), shown-length v.from 0 (ports_of c v.node), length-replicate (slot_count n - n) Absent, wide n (is.few_ports v.node there))
 
 -- what a node shows is a node
-pub shown_is_node : (c : Wiring) (label : ℕ → Label) (v : Visit) → IsCabling c → Fit c label → v.node < length c → ups (slots_of c v) ≤ 1 → IsNode (shown_node c label v)
+pub shown_is_node : (c : Wiring) (label : ℕ → Label) (v : Visit) → IsCabling c → Fit c label →
+    v.node < length c → ups (slots_of c v) ≤ 1 → IsNode (shown_node c label v)
 shown_is_node c label v is fit there few = record {
   form = record {
     attrs = fit.attrs v.node there;
@@ -154,24 +165,28 @@ shown_is_node c label v is fit there few = record {
 }
 
 -- by IEEE 1394a-2000
-shown_is_of : (c : Wiring) (label : ℕ → Label) (v : Visit) → IsCabling c → v.node < length c → IsOf Ieee2000 (shown_node c label v)
+shown_is_of : (c : Wiring) (label : ℕ → Label) (v : Visit) → IsCabling c → v.node < length c →
+    IsOf Ieee2000 (shown_node c label v)
 shown_is_of c label v is there = rw (slots-length c v is there) (is_width-slot_count (length (ports_of c v.node))).1
 
 -- the node of a seen tree is the one that is statuses_from
-node_shown : (c : Wiring) (label : ℕ → Label) (v : Visit) (a : Label) (s : Slots) → a ≡ label v.node → statuses s ≡ slots_of c v → node_of a s ≡ shown_node c label v
+node_shown : (c : Wiring) (label : ℕ → Label) (v : Visit) (a : Label) (s : Slots) →
+    a ≡ label v.node → statuses s ≡ slots_of c v → node_of a s ≡ shown_node c label v
 node_shown c label v a s e f =
     let at : Label → List PortStatus → Node = λ l xs. record { attrs = l.attrs; ports = xs; kept_a = l.kept_a; kept_b = l.kept_b } in
     ap (λ (l : Label). at l (statuses s)) e ∙ ap (λ (xs : List PortStatus). at (label v.node) xs) f
 
 -- slots past the ports are absent
-absent_walk : (c : Wiring) (label : ℕ → Label) (from : Option ℕ) (p : ℕ) (s : Slots) → SeesFrom c label from p [] s → walk_below s ≡ []
+absent_walk : (c : Wiring) (label : ℕ → Label) (from : Option ℕ) (p : ℕ) (s : Slots) →
+    SeesFrom c label from p [] s → walk_below s ≡ []
 absent_walk c label from p no_more h = refl
 absent_walk c label from p (absent s) h = absent_walk c label from (p + 1) s h
 absent_walk c label from p (unplugged s) h = absurd h
 absent_walk c label from p (up s) h = absurd h
 absent_walk c label from p (down t s) h = absurd h
 
-absent_parts : (c : Wiring) (label : ℕ → Label) (from : Option ℕ) (p : ℕ) (s : Slots) → SeesFrom c label from p [] s → AreParts s
+absent_parts : (c : Wiring) (label : ℕ → Label) (from : Option ℕ) (p : ℕ) (s : Slots) →
+    SeesFrom c label from p [] s → AreParts s
 absent_parts c label from p no_more h = tt
 absent_parts c label from p (absent s) h = absent_parts c label from (p + 1) s h
 absent_parts c label from p (unplugged s) h = absurd h
@@ -179,7 +194,9 @@ absent_parts c label from p (up s) h = absurd h
 absent_parts c label from p (down t s) h = absurd h
 
 mutual
-  part_seen : (c : Wiring) (label : ℕ → Label) (x q : ℕ) (e : End) (t : Tree) → IsCabling c → Fit c label → x < length c → far c (end_at x q) ≡ Some e → Sees c label x (Some q) t → IsPart t
+  part_seen : (c : Wiring) (label : ℕ → Label) (x q : ℕ) (e : End) (t : Tree) → IsCabling c →
+      Fit c label → x < length c → far c (end_at x q) ≡ Some e → Sees c label x (Some q) t →
+      IsPart t
   part_seen c label x q e (branch a s) is fit there j h =
       let v : Visit = record { node = x; from = Some q } in
       let slots : statuses s ≡ slots_of c v = are_slots c label v s is there h.2 h.1 in
@@ -189,7 +206,8 @@ mutual
         parts_seen c label x (Some q) 0 (ports_of c x) s is fit (row_all c x) h.2,
       )
 
-  parts_seen : (c : Wiring) (label : ℕ → Label) (x : ℕ) (from : Option ℕ) (p : ℕ) (row : List (Option End)) (s : Slots) → IsCabling c → Fit c label → RowAt c x p row → SeesFrom c label from p row s → AreParts s
+  parts_seen : (c : Wiring) (label : ℕ → Label) (x : ℕ) (from : Option ℕ) (p : ℕ) (row : List (Option End)) (s : Slots) →
+      IsCabling c → Fit c label → RowAt c x p row → SeesFrom c label from p row s → AreParts s
   parts_seen c label x from p [] no_more is fit at h = tt
   parts_seen c label x from p [] (absent s) is fit at h = absent_parts c label from (p + 1) s h
   parts_seen c label x from p (None ∷ row) (unplugged s) is fit at h = parts_seen c label x from (p + 1) row s is fit (row_tail c x p None row at) h
@@ -204,14 +222,18 @@ mutual
 -- ---- the walk of a seen tree is what its nodes show
 
 mutual
-  pub walk_seen : (c : Wiring) (label : ℕ → Label) (v : Visit) (t : Tree) → IsCabling c → v.node < length c → Sees c label v.node v.from t → walk t ≡ map (shown_node c label) (visits c v t)
+  pub walk_seen : (c : Wiring) (label : ℕ → Label) (v : Visit) (t : Tree) → IsCabling c →
+      v.node < length c → Sees c label v.node v.from t →
+      walk t ≡ map (shown_node c label) (visits c v t)
   walk_seen c label v (branch a s) is there h =
       let slots : statuses s ≡ slots_of c v = are_slots c label v s is there h.2 h.1 in
       ap (λ (n : Node). walk_below s ++ n ∷ []) (node_shown c label v a s h.0 slots)
       ∙ ap (λ (ns : List Node). ns ++ shown_node c label v ∷ []) (walk_below_seen c label v.node v.from 0 (ports_of c v.node) s is (row_all c v.node) h.2)
       ∙ sym (map-append (shown_node c label) (visits_below c (ports_of c v.node) s) (v ∷ []))
 
-  walk_below_seen : (c : Wiring) (label : ℕ → Label) (x : ℕ) (from : Option ℕ) (p : ℕ) (row : List (Option End)) (s : Slots) → IsCabling c → RowAt c x p row → SeesFrom c label from p row s → walk_below s ≡ map (shown_node c label) (visits_below c row s)
+  walk_below_seen : (c : Wiring) (label : ℕ → Label) (x : ℕ) (from : Option ℕ) (p : ℕ) (row : List (Option End)) (s : Slots) →
+      IsCabling c → RowAt c x p row → SeesFrom c label from p row s →
+      walk_below s ≡ map (shown_node c label) (visits_below c row s)
   walk_below_seen c label x from p [] no_more is at h = refl
   walk_below_seen c label x from p [] (absent s) is at h = absent_walk c label from (p + 1) s h
   walk_below_seen c label x from p (None ∷ row) (unplugged s) is at h = walk_below_seen c label x from (p + 1) row s is (row_tail c x p None row at) h
@@ -238,16 +260,20 @@ good_append : (c : Wiring) (xs ys : List Visit) → AllGood c xs → AllGood c y
 good_append c [] ys a b = b
 good_append c (x ∷ xs) ys a b = (a.0, good_append c xs ys a.1 b)
 
-pub good_at : (c : Wiring) (vs : List Visit) (i : ℕ) (d : Visit) → AllGood c vs → i < length vs → Good c (get_or vs i d)
+pub good_at : (c : Wiring) (vs : List Visit) (i : ℕ) (d : Visit) → AllGood c vs → i < length vs →
+    Good c (get_or vs i d)
 good_at c [] i d a less = absurd (omega (arith, less))
 good_at c (v ∷ vs) zero d a less = a.0
 good_at c (v ∷ vs) (suc i) d a less = good_at c vs i d a.1 (omega (arith, less))
 
 mutual
-  pub good_visits : (c : Wiring) (label : ℕ → Label) (v : Visit) (t : Tree) → IsCabling c → Good c v → Sees c label v.node v.from t → AllGood c (visits c v t)
+  pub good_visits : (c : Wiring) (label : ℕ → Label) (v : Visit) (t : Tree) → IsCabling c →
+      Good c v → Sees c label v.node v.from t → AllGood c (visits c v t)
   good_visits c label v (branch a s) is g h = good_append c (visits_below c (ports_of c v.node) s) (v ∷ []) (good_below c label v.node v.from 0 (ports_of c v.node) s is (row_all c v.node) h.2) (g, tt)
 
-  good_below : (c : Wiring) (label : ℕ → Label) (x : ℕ) (from : Option ℕ) (p : ℕ) (row : List (Option End)) (s : Slots) → IsCabling c → RowAt c x p row → SeesFrom c label from p row s → AllGood c (visits_below c row s)
+  good_below : (c : Wiring) (label : ℕ → Label) (x : ℕ) (from : Option ℕ) (p : ℕ) (row : List (Option End)) (s : Slots) →
+      IsCabling c → RowAt c x p row → SeesFrom c label from p row s →
+      AllGood c (visits_below c row s)
   good_below c label x from p [] s is at h = tt
   good_below c label x from p (None ∷ row) (unplugged s) is at h = good_below c label x from (p + 1) row s is (row_tail c x p None row at) h
   good_below c label x from p (Some f ∷ row) (up s) is at h = good_below c label x from (p + 1) row s is (row_tail c x p (Some f) row at) h.1
@@ -265,11 +291,14 @@ good_root c root there = let none : ups (slots_of c (at_root root)) ≡ 0 = ups_
 
 -- ---- a seen tree is a bus tree
 
-shown_are_of : (c : Wiring) (label : ℕ → Label) (vs : List Visit) → IsCabling c → AllGood c vs → AreOf Ieee2000 (map (shown_node c label) vs)
+shown_are_of : (c : Wiring) (label : ℕ → Label) (vs : List Visit) → IsCabling c → AllGood c vs →
+    AreOf Ieee2000 (map (shown_node c label) vs)
 shown_are_of c label [] is all = tt
 shown_are_of c label (v ∷ vs) is all = (shown_is_of c label v is all.0.there, shown_are_of c label vs is all.1)
 
-pub bus_seen : (c : Wiring) (label : ℕ → Label) (root : ℕ) (t : Tree) → IsCabling c → Fit c label → root < length c → Sees c label root None t → length (numbers c root t) ≤ 63 → IsBusTreeOf Ieee2000 t
+pub bus_seen : (c : Wiring) (label : ℕ → Label) (root : ℕ) (t : Tree) → IsCabling c → Fit c label →
+    root < length c → Sees c label root None t → length (numbers c root t) ≤ 63 →
+    IsBusTreeOf Ieee2000 t
 bus_seen c label root t is fit there h few = record {
   bus = record {
     whole = whole t h;
@@ -293,10 +322,14 @@ bus_seen c label root t is fit there h few = record {
 
 -- ---- the list, group by group
 
-pub groups_next : (f : Visit → Node) (vs : List Visit) (i : ℕ) (d : Visit) → i < length vs → groups i (map f (drop i vs)) ≡ group (f (get_or vs i d)) i ++ groups (i + 1) (map f (drop (i + 1) vs))
+pub groups_next : (f : Visit → Node) (vs : List Visit) (i : ℕ) (d : Visit) → i < length vs →
+    groups i (map f (drop i vs)) ≡ group (f (get_or vs i d)) i ++ groups (i + 1) (map f (drop (i + 1) vs))
 groups_next f vs i d less = rw (drop-cons vs i d) (rw (add-one i) refl)
 
-pub listed : (f : Visit → Node) (vs : List Visit) (i : ℕ) (d : Visit) (v : Visit) (n : Node) (quads after list whole : List ℕ) → i < length vs → v ≡ get_or vs i d → n ≡ f v → list ≡ group n i → after ≡ quads ++ list → quads ++ groups i (map f (drop i vs)) ≡ whole → after ++ groups (i + 1) (map f (drop (i + 1) vs)) ≡ whole
+pub listed : (f : Visit → Node) (vs : List Visit) (i : ℕ) (d : Visit) (v : Visit) (n : Node) (quads after list whole : List ℕ) →
+    i < length vs → v ≡ get_or vs i d → n ≡ f v → list ≡ group n i → after ≡ quads ++ list →
+    quads ++ groups i (map f (drop i vs)) ≡ whole →
+    after ++ groups (i + 1) (map f (drop (i + 1) vs)) ≡ whole
 listed f vs i d v n quads after list whole less at is group_is e all =
     let rest : List ℕ = groups (i + 1) (map f (drop (i + 1) vs)) in
     ap (λ (xs : List ℕ). xs ++ rest) e
@@ -305,17 +338,21 @@ listed f vs i d v n quads after list whole less at is group_is e all =
     ∙ ap (λ (xs : List ℕ). quads ++ xs) (sym (groups_next f vs i d less))
     ∙ all
 
-pub listed_all : (f : Visit → Node) (vs : List Visit) (i : ℕ) (quads whole : List ℕ) → length vs ≤ i → quads ++ groups i (map f (drop i vs)) ≡ whole → quads ≡ whole
+pub listed_all : (f : Visit → Node) (vs : List Visit) (i : ℕ) (quads whole : List ℕ) →
+    length vs ≤ i → quads ++ groups i (map f (drop i vs)) ≡ whole → quads ≡ whole
 listed_all f vs i quads whole le all = sym (append-nil quads) ∙ ap (λ (xs : List Visit). quads ++ groups i (map f xs)) (sym (dropped vs i le)) ∙ all
   where
     dropped : (vs : List Visit) (i : ℕ) → length vs ≤ i → drop i vs ≡ []
     dropped vs i le = grind (arith, common_steps)
 
-pub list_seen : (c : Wiring) (label : ℕ → Label) (root : ℕ) (t : Tree) → IsCabling c → root < length c → Sees c label root None t → emits t ≡ groups 0 (map (shown_node c label) (visits c (at_root root) t))
+pub list_seen : (c : Wiring) (label : ℕ → Label) (root : ℕ) (t : Tree) → IsCabling c →
+    root < length c → Sees c label root None t →
+    emits t ≡ groups 0 (map (shown_node c label) (visits c (at_root root) t))
 list_seen c label root t is there h = ap (λ (ns : List Node). groups 0 ns) (walk_seen c label (at_root root) t is there h)
 
 -- labels by attributes
-pub labels_fit : (c : Wiring) (attrs : List Attrs) → length attrs ≡ length c → All FitBits attrs → Fit c (labels attrs)
+pub labels_fit : (c : Wiring) (attrs : List Attrs) → length attrs ≡ length c → All FitBits attrs →
+    Fit c (labels attrs)
 labels_fit c attrs e all = record {
   attrs = λ x there. All-get_or FitBits attrs x no_attrs (omega (arith, e, there)) all;
   kept_a = λ x. refl;

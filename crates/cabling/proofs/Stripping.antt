@@ -22,7 +22,9 @@ abbrev pub Counted : Wiring → ℕ → ℕ → ℕ → Bool → Type 0
 Counted c set node ports true = OneLeads c set node ports
 Counted c set node ports false = (q : ℕ) → q < ports → LeadsInto c set (end_at node q) → ⊥
 
-pub counted_no : (c : Wiring) (set node port : ℕ) (one : Bool) → (LeadsInto c set (end_at node port) → ⊥) → Counted c set node port one → Counted c set node (port + 1) one
+pub counted_no : (c : Wiring) (set node port : ℕ) (one : Bool) →
+    (LeadsInto c set (end_at node port) → ⊥) → Counted c set node port one →
+    Counted c set node (port + 1) one
 counted_no c set node port false not_here before = λ q less leads. elim (cases_lt q port) [
   | inl below ↦ before q below leads
   | inr above ↦ let same : q ≡ port = omega arith in not_here (subst (λ (p : ℕ). LeadsInto c set (end_at node p)) same leads)
@@ -37,7 +39,8 @@ counted_no c set node port true not_here before = record {
   ];
 }
 
-pub counted_first : (c : Wiring) (set node port : ℕ) → Counted c set node port false → LeadsInto c set (end_at node port) → Counted c set node (port + 1) true
+pub counted_first : (c : Wiring) (set node port : ℕ) → Counted c set node port false →
+    LeadsInto c set (end_at node port) → Counted c set node (port + 1) true
 counted_first c set node port before leads = record {
   port = port;
   there = omega arith;
@@ -48,7 +51,8 @@ counted_first c set node port before leads = record {
   ];
 }
 
-pub counted_second : (c : Wiring) (set node port : ℕ) → Counted c set node port true → LeadsInto c set (end_at node port) → HasTwo c set node
+pub counted_second : (c : Wiring) (set node port : ℕ) → Counted c set node port true →
+    LeadsInto c set (end_at node port) → HasTwo c set node
 counted_second c set node port before leads = record {
   low = before.port;
   high = port;
@@ -57,10 +61,12 @@ counted_second c set node port before leads = record {
   high_leads = leads;
 }
 
-port_there : (c : Wiring) (set node port : ℕ) → LeadsInto c set (end_at node port) → port < length (ports_of c node)
+port_there : (c : Wiring) (set node port : ℕ) → LeadsInto c set (end_at node port) →
+    port < length (ports_of c node)
 port_there c set node port l = (plugged c (end_at node port) l.0 l.1).port
 
-pub counted_all : (c : Wiring) (set node ports : ℕ) (one : Bool) → Counted c set node ports one → length (ports_of c node) ≤ ports → HasTwo c set node → ⊥
+pub counted_all : (c : Wiring) (set node ports : ℕ) (one : Bool) → Counted c set node ports one →
+    length (ports_of c node) ≤ ports → HasTwo c set node → ⊥
 counted_all c set node ports false none all two = none two.low (omega (arith, all, port_there c set node two.low two.low_leads)) two.low_leads
 counted_all c set node ports true one all two =
     omega (
@@ -74,11 +80,15 @@ counted_all c set node ports true one all two =
 abbrev pub Tested : ℕ → Option End → Bool → Type 0
 Tested set x r = MatchBool r ((other : End) × (x ≡ Some other) × Holds set other.node) ((other : End) → x ≡ Some other → Holds set other.node → ⊥)
 
-pub leads_if : (c : Wiring) (set node port : ℕ) (row : List (Option End)) (r : Bool) → row ≡ ports_of c node → r ≡ true → Tested set (get_or row port None) r → LeadsInto c set (end_at node port)
+pub leads_if : (c : Wiring) (set node port : ℕ) (row : List (Option End)) (r : Bool) →
+    row ≡ ports_of c node → r ≡ true → Tested set (get_or row port None) r →
+    LeadsInto c set (end_at node port)
 leads_if c set node port row true e is t = (t.0, at_row c row node port (Some t.0) e t.1, t.2)
 leads_if c set node port row false e is t = absurd cc
 
-pub leads_not : (c : Wiring) (set node port : ℕ) (row : List (Option End)) (r : Bool) → row ≡ ports_of c node → r ≡ false → Tested set (get_or row port None) r → LeadsInto c set (end_at node port) → ⊥
+pub leads_not : (c : Wiring) (set node port : ℕ) (row : List (Option End)) (r : Bool) →
+    row ≡ ports_of c node → r ≡ false → Tested set (get_or row port None) r →
+    LeadsInto c set (end_at node port) → ⊥
 leads_not c set node port row true e is t l = absurd cc
 leads_not c set node port row false e is t l = t l.0 (ap (λ (x : List (Option End)). get_or x port None) e ∙ l.1) l.2
 
@@ -99,7 +109,10 @@ stripped_first c set = record {
 }
 
 -- a node that has two stays
-pub stripped_stays : (c : Wiring) (set core doubtful node doubtful_after : ℕ) → Stripped c set core doubtful → HasTwo c core node → (Holds doubtful_after node → ⊥) → ((x : ℕ) → x ≢ node → (Holds doubtful_after x ↔ Holds doubtful x)) → Stripped c set core doubtful_after
+pub stripped_stays : (c : Wiring) (set core doubtful node doubtful_after : ℕ) →
+    Stripped c set core doubtful → HasTwo c core node → (Holds doubtful_after node → ⊥) →
+    ((x : ℕ) → x ≢ node → (Holds doubtful_after x ↔ Holds doubtful x)) →
+    Stripped c set core doubtful_after
 stripped_stays c set core doubtful node after s two gone others = record {
   within = s.within;
   kept = s.kept;
@@ -117,7 +130,8 @@ stripped_stays c set core doubtful node after s two gone others = record {
 }
 
 -- more nodes, more cables
-more_two : (c : Wiring) (small large node : ℕ) → IsWithin small large → HasTwo c small node → HasTwo c large node
+more_two : (c : Wiring) (small large node : ℕ) → IsWithin small large → HasTwo c small node →
+    HasTwo c large node
 more_two c small large node within two = record {
   low = two.low;
   high = two.high;
@@ -137,14 +151,18 @@ pub record Strips (c : Wiring) (core doubtful node doubtful_less core_after clos
   pub after : (x : ℕ) → (Holds doubtful_after x ↔ (Holds both x × Holds core_after x))
 
 -- a port that leads into the core leads into the rest of it, or to the node that goes
-rest_or_gone : (c : Wiring) (core doubtful node less core_after close both after : ℕ) → Strips c core doubtful node less core_after close both after → (end : End) → LeadsInto c core end → (LeadsInto c core_after end) ⊎ ((other : End) × (far c end ≡ Some other) × (other.node ≡ node))
+rest_or_gone : (c : Wiring) (core doubtful node less core_after close both after : ℕ) →
+    Strips c core doubtful node less core_after close both after → (end : End) →
+    LeadsInto c core end →
+    (LeadsInto c core_after end) ⊎ ((other : End) × (far c end ≡ Some other) × (other.node ≡ node))
 rest_or_gone c core doubtful node less core_after close both after s end l = elim (cases_eq l.0.node node) [
   | inl same ↦ inr (l.0, l.1, same)
   | inr ne ↦ inl (l.0, l.1, (s.others l.0.node ne).1 l.2)
 ]
 
 -- whoever has a cable to the node is its neighbour
-neighbour_back : (c : Wiring) (node x port : ℕ) (other : End) → IsCabling c → far c (end_at x port) ≡ Some other → other.node ≡ node → IsNeighbour c node x
+neighbour_back : (c : Wiring) (node x port : ℕ) (other : End) → IsCabling c →
+    far c (end_at x port) ≡ Some other → other.node ≡ node → IsNeighbour c node x
 neighbour_back c node x port other is e same =
     let back : far c other ≡ Some (end_at x port) = is.both_ways (end_at x port) other e in
     record {
@@ -154,7 +172,9 @@ neighbour_back c node x port other is e same =
       is = refl;
     }
 
-pub stripped_goes : (c : Wiring) (set core doubtful node less core_after close both after : ℕ) → IsCabling c → Stripped c set core doubtful → (HasTwo c core node → ⊥) → Strips c core doubtful node less core_after close both after → Stripped c set core_after after
+pub stripped_goes : (c : Wiring) (set core doubtful node less core_after close both after : ℕ) →
+    IsCabling c → Stripped c set core doubtful → (HasTwo c core node → ⊥) →
+    Strips c core doubtful node less core_after close both after → Stripped c set core_after after
 stripped_goes c set core doubtful node less core_after close both after is s not_two step =
     let ne_node : (x : ℕ) → Holds core_after x → x ≢ node = λ x h same. step.gone (subst (λ (n : ℕ). Holds core_after n) same h) in
     let was : (x : ℕ) → Holds core_after x → Holds core x = λ x h. (step.others x (ne_node x h)).0 h in
@@ -176,7 +196,8 @@ stripped_goes c set core doubtful node less core_after close both after is s not
       inside = λ x h. ((step.after x).0 h).1;
     }
 
-pub stripped_last : (c : Wiring) (set core doubtful : ℕ) → Stripped c set core doubtful → ((x : ℕ) → Holds doubtful x → ⊥) → IsCore c set core
+pub stripped_last : (c : Wiring) (set core doubtful : ℕ) → Stripped c set core doubtful →
+    ((x : ℕ) → Holds doubtful x → ⊥) → IsCore c set core
 stripped_last c set core doubtful s none node = (
   λ h. (core, s.within, (λ x k. elim (s.firm x k) [ inl d ↦ absurd (none x d) | inr two ↦ two ]), h),
   λ p. s.kept p.0 p.1 p.2 node p.3,

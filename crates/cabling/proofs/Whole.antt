@@ -48,12 +48,14 @@ without-parts set other x h = elim (holds_or_not set x) [
 ]
 
 -- a set that a closed set leaves over is closed too
-without-closed : (c : Wiring) (set other : ℕ) → IsCabling c → IsClosed c set → IsClosed c other → IsClosed c (without set other)
+without-closed : (c : Wiring) (set other : ℕ) → IsCabling c → IsClosed c set → IsClosed c other →
+    IsClosed c (without set other)
 without-closed c set other is a b x y e h =
     let p = without-parts set other x.node h in
     without-has set other y.node (a x y e p.0) (λ o. p.1 (b y x (is.both_ways x y e) o))
 
-pub shared : (c : Wiring) (a b set : ℕ) → IsCabling c → IsComponent c a set → Holds set b → IsComponent c b set
+pub shared : (c : Wiring) (a b set : ℕ) → IsCabling c → IsComponent c a set → Holds set b →
+    IsComponent c b set
 shared c a b set is k h = record {
   holds = h;
   closed = k.closed;
@@ -69,7 +71,8 @@ some_same : (a b : ℕ) → Some a ≡ Some b → a ≡ b
 some_same a b e = cc
 
 mutual
-  no_part : (c : Wiring) (label : ℕ → Label) (part x : ℕ) (from : Option ℕ) (t : Tree) → IsLooped c part → Sees c label x from t → Holds part x → ⊥
+  no_part : (c : Wiring) (label : ℕ → Label) (part x : ℕ) (from : Option ℕ) (t : Tree) →
+      IsLooped c part → Sees c label x from t → Holds part x → ⊥
   no_part c label part x from (branch a s) looped h has =
       let two : HasTwo c part x = looped x has in
       elim (from_or_not from two.low) [
@@ -77,7 +80,9 @@ mutual
         | inl is ↦ no_port c label part from 0 (ports_of c x) s looped h.2 two.high two.high two.high_leads.0 (omega arith) two.high_leads.1 (λ also. let same : two.low ≡ two.high = some_same two.low two.high (sym is ∙ also) in omega (arith, same, two.apart)) two.high_leads.2
       ]
 
-  no_port : (c : Wiring) (label : ℕ → Label) (part : ℕ) (from : Option ℕ) (p : ℕ) (row : List (Option End)) (s : Slots) → IsLooped c part → SeesFrom c label from p row s → (i q : ℕ) (e : End) → q ≡ p + i → get_or row i None ≡ Some e → from ≢ Some q → Holds part e.node → ⊥
+  no_port : (c : Wiring) (label : ℕ → Label) (part : ℕ) (from : Option ℕ) (p : ℕ) (row : List (Option End)) (s : Slots) →
+      IsLooped c part → SeesFrom c label from p row s → (i q : ℕ) (e : End) → q ≡ p + i →
+      get_or row i None ≡ Some e → from ≢ Some q → Holds part e.node → ⊥
   no_port c label part from p [] s looped h i q e at j ne has = absurd cc
   no_port c label part from p (None ∷ row) (unplugged s) looped h zero q e at j ne has = absurd cc
   no_port c label part from p (None ∷ row) (unplugged s) looped h (suc i) q e at j ne has = no_port c label part from (p + 1) row s looped h i q e (omega arith) j ne has
@@ -89,7 +94,8 @@ mutual
 
 -- nor is any node of the tree in a looped part
 mutual
-  none_looped : (c : Wiring) (label : ℕ → Label) (part x : ℕ) (from : Option ℕ) (t : Tree) → IsLooped c part → Sees c label x from t → (z : ℕ) → In z (numbers c x t) → Holds part z → ⊥
+  none_looped : (c : Wiring) (label : ℕ → Label) (part x : ℕ) (from : Option ℕ) (t : Tree) →
+      IsLooped c part → Sees c label x from t → (z : ℕ) → In z (numbers c x t) → Holds part z → ⊥
   none_looped c label part x from (branch a s) looped h z i has = elim (in_append z (numbers_below c (ports_of c x) s) (x ∷ []) i) [
     | inl below ↦ none_below c label part from 0 (ports_of c x) s looped h.2 z below has
     | inr itself ↦ elim itself [
@@ -98,7 +104,9 @@ mutual
     ]
   ]
 
-  none_below : (c : Wiring) (label : ℕ → Label) (part : ℕ) (from : Option ℕ) (p : ℕ) (row : List (Option End)) (s : Slots) → IsLooped c part → SeesFrom c label from p row s → (z : ℕ) → In z (numbers_below c row s) → Holds part z → ⊥
+  none_below : (c : Wiring) (label : ℕ → Label) (part : ℕ) (from : Option ℕ) (p : ℕ) (row : List (Option End)) (s : Slots) →
+      IsLooped c part → SeesFrom c label from p row s → (z : ℕ) → In z (numbers_below c row s) →
+      Holds part z → ⊥
   none_below c label part from p [] s looped h z i has = i
   none_below c label part from p (None ∷ row) (unplugged s) looped h z i has = none_below c label part from (p + 1) row s looped h z i has
   none_below c label part from p (Some f ∷ row) (up s) looped h z i has = none_below c label part from (p + 1) row s looped h.1 z i has
@@ -109,7 +117,8 @@ mutual
   none_below c label part from p row s looped h z i has = absurd h
 
 -- so the core of a set of such nodes is empty
-pub seen_core : (c : Wiring) (label : ℕ → Label) (root set : ℕ) (t : Tree) → Sees c label root None t → ((x : ℕ) → Holds set x → In x (numbers c root t)) → IsCore c set 0
+pub seen_core : (c : Wiring) (label : ℕ → Label) (root set : ℕ) (t : Tree) →
+    Sees c label root None t → ((x : ℕ) → Holds set x → In x (numbers c root t)) → IsCore c set 0
 seen_core c label root set t h all x = (λ none. absurd (none_of_zero x none), λ p. absurd (none_looped c label p.0 root None t p.2 h x (all x (p.1 x p.3)) p.3))
 
 -- ---- a seen tree has each node of the component
@@ -131,7 +140,9 @@ from_set (y ∷ ys) x h = elim (cases_eq x y) [
   | inr ne ↦ inr (from_set ys x (omega (arith, bit_at_or (set_of ys) (2 ^ y) x, bit_at-pow_other y x ne, h)))
 ]
 
-pub tree_has : (c : Wiring) (label : ℕ → Label) (root set : ℕ) (t : Tree) → IsCabling c → IsComponent c root set → Sees c label root None t → (x : ℕ) → Holds set x → In x (numbers c root t)
+pub tree_has : (c : Wiring) (label : ℕ → Label) (root set : ℕ) (t : Tree) → IsCabling c →
+    IsComponent c root set → Sees c label root None t → (x : ℕ) → Holds set x →
+    In x (numbers c root t)
 tree_has c label root set t is k h x has =
     from_set (numbers c root t) x (k.least (set_of (numbers c root t)) (in_set (numbers c root t) root (in_itself c root t))
     (λ a b e in_a. elim (closed_tree c label root None t is h a.node a.port b (from_set (numbers c root t) a.node in_a) e) [
@@ -140,12 +151,15 @@ tree_has c label root set t is k h x has =
     ])
     x has)
 
-pub seen_no_loop : (c : Wiring) (label : ℕ → Label) (root set core : ℕ) (t : Tree) → IsCabling c → IsComponent c root set → IsCore c set core → Sees c label root None t → IsEmpty core
+pub seen_no_loop : (c : Wiring) (label : ℕ → Label) (root set core : ℕ) (t : Tree) → IsCabling c →
+    IsComponent c root set → IsCore c set core → Sees c label root None t → IsEmpty core
 seen_no_loop c label root set core t is k core_is h x in_core =
     let p = (core_is x).0 in_core in
     none_looped c label p.0 root None t p.2 h x (tree_has c label root set t is k h x (p.1 x p.3)) p.3
 
-pub seen_loopless : (c : Wiring) (label : ℕ → Label) (root set : ℕ) (t : Tree) → IsCabling c → root < length c → set < 2 ^ 63 → IsComponent c root set → Sees c label root None t → Loopless c root set
+pub seen_loopless : (c : Wiring) (label : ℕ → Label) (root set : ℕ) (t : Tree) → IsCabling c →
+    root < length c → set < 2 ^ 63 → IsComponent c root set → Sees c label root None t →
+    Loopless c root set
 seen_loopless c label root set t is there small k h = record {
   cabling = is;
   there = there;
@@ -155,7 +169,9 @@ seen_loopless c label root set t is there small k h = record {
 }
 
 -- each node of the component stands once in the walk, and no other
-pub walk_times : (c : Wiring) (root set : ℕ) (walk : List ℕ) → IsCabling c → root < length c → set < 2 ^ 63 → IsComponent c root set → IsWalk c root walk → (x : ℕ) → times x walk ≡ bit_at set x
+pub walk_times : (c : Wiring) (root set : ℕ) (walk : List ℕ) → IsCabling c → root < length c →
+    set < 2 ^ 63 → IsComponent c root set → IsWalk c root walk → (x : ℕ) →
+    times x walk ≡ bit_at set x
 walk_times c root set walk is there small k w x =
     let o = w plain in
     let l : Loopless c root set = seen_loopless c plain root set o.tree is there small k o.seen in

@@ -23,4 +23,3 @@ pub use quad_lanes::OutOfMemory;
 pub use tree::TreeFromFault;
 pub use walk::{Cyclic, Walk};
 pub use wiring::{Cabling, cables_are_two_ended};
-

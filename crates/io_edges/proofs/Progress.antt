@@ -43,7 +43,8 @@ Appends-then (Some x) (Some y) None xs ys told p q = absurd q
 Appends-then (Some x) (Some y) (Some z) xs ys told p q = q ∙ ap (λ (w : List ℕ). w ++ ys) p ∙ append_assoc x xs ys
 
 -- one piece more is given
-pub gives_on : (first now next : Option (List ℕ)) (limit room before after later : ℕ) (Old Mid New : List ℕ → Type 0) (piece : List ℕ) → Gives first now limit room before after Old Mid →
+pub gives_on : (first now next : Option (List ℕ)) (limit room before after later : ℕ) (Old Mid New : List ℕ → Type 0) (piece : List ℕ) →
+    Gives first now limit room before after Old Mid →
     Consumes now next piece → StayTold now next → length piece ≤ room → after ≤ later → ((b : List ℕ) → Mid b → New (b ++ piece)) → Gives first next limit (room - length piece) before later Old New
 gives_on first now next limit room before after later Old Mid New piece h came told fits more taken = record {
   bytes = h.bytes ++ piece;

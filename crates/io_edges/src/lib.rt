@@ -20,4 +20,3 @@ pub use pieces::read_pieces;
 pub use stop::{OutOfMemory, ReadStop};
 pub use traits::{Failed, Sink, Source, Taker};
 pub use whole::{read_all, write_whole};
-

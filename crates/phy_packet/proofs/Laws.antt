@@ -53,7 +53,8 @@ record Zero_in (q id l g s d c w p0 p1 p2 i m : ℕ) : Type 0 where
   initiated : q / 2 % 2 ≡ i
   more : q % 2 ≡ m
 
-zero_in : (q id l g s d c w p0 p1 p2 i m : ℕ) → id < 64 → l < 2 → g < 64 → s < 4 → d < 4 → c < 2 → w < 8 → p0 < 4 → p1 < 4 → p2 < 4 → i < 2 → m < 2 →
+zero_in : (q id l g s d c w p0 p1 p2 i m : ℕ) → id < 64 → l < 2 → g < 64 → s < 4 → d < 4 → c < 2 →
+    w < 8 → p0 < 4 → p1 < 4 → p2 < 4 → i < 2 → m < 2 →
     q ≡ 2 * 2 ^ 30 + id * 2 ^ 24 + l * 2 ^ 22 + g * 2 ^ 16 + s * 2 ^ 14 + d * 2 ^ 12 + c * 2 ^ 11 + w * 2 ^ 8 + p0 * 2 ^ 6 + p1 * 2 ^ 4 + p2 * 2 ^ 2 + i * 2 + m →
     Zero_in q id l g s d c w p0 p1 p2 i m
 zero_in q id l g s d c w p0 p1 p2 i m b0 b1 b2 b3 b4 b5 b6 b7 b8 b9 b10 b11 e = record {
@@ -168,7 +169,8 @@ not_self_id : (b : Bool) (q : ℕ) → is_self_id (if b then config_of q else Ex
 not_self_id true q = refl
 not_self_id false q = refl
 
-shows_kind : (b : Bool) (q : ℕ) → (b ≡ true → Shows q (self_zero_of q)) → (b ≡ false → Shows q (self_more_of q)) → Shows q (if b then self_zero_of q else self_more_of q)
+shows_kind : (b : Bool) (q : ℕ) → (b ≡ true → Shows q (self_zero_of q)) →
+    (b ≡ false → Shows q (self_more_of q)) → Shows q (if b then self_zero_of q else self_more_of q)
 shows_kind true q f g = f refl
 shows_kind false q f g = g refl
 

@@ -8,11 +8,13 @@ use Rattle.quad_lanes.specs.Capture.{capture}
 use Rattle.quad_lanes.specs.Pairs.{big_endian, first_bad_pair, firsts, inverse, is_bad, pairs, quads_of}
 
 -- a quadlet is the one of its four bytes
-pub big_endian-bytes : (q : ℕ) → q < 2 ^ 32 → big_endian (byte_at 3 q) (byte_at 2 q) (byte_at 1 q) (byte_at 0 q) ≡ q
+pub big_endian-bytes : (q : ℕ) → q < 2 ^ 32 →
+    big_endian (byte_at 3 q) (byte_at 2 q) (byte_at 1 q) (byte_at 0 q) ≡ q
 big_endian-bytes q fits = omega (arith, fits)
 
 -- four bytes are those of their quadlet
-pub bytes-big_endian : (a b c d : ℕ) → a < 256 → b < 256 → c < 256 → d < 256 → to_be_bytes w32 (big_endian a b c d) ≡ a ∷ b ∷ c ∷ d ∷ []
+pub bytes-big_endian : (a b c d : ℕ) → a < 256 → b < 256 → c < 256 → d < 256 →
+    to_be_bytes w32 (big_endian a b c d) ≡ a ∷ b ∷ c ∷ d ∷ []
 bytes-big_endian a b c d la lb lc ld =
     let ea : byte_at 3 (big_endian a b c d) ≡ a = omega (arith, la, lb, lc, ld) in
     let eb : byte_at 2 (big_endian a b c d) ≡ b = omega (arith, la, lb, lc, ld) in
@@ -25,7 +27,8 @@ abbrev pub pairs_with_inverse : List ℕ → List (ℕ × ℕ)
 pairs_with_inverse [] = []
 pairs_with_inverse (q ∷ quads) = (q, inverse q) ∷ pairs_with_inverse quads
 
-pub pairs-capture : (quads : List ℕ) → AllByRecursion (λ q. q < 2 ^ 32) quads → pairs (quads_of (capture quads)) ≡ pairs_with_inverse quads
+pub pairs-capture : (quads : List ℕ) → AllByRecursion (λ q. q < 2 ^ 32) quads →
+    pairs (quads_of (capture quads)) ≡ pairs_with_inverse quads
 pairs-capture [] fit = refl
 pairs-capture (q ∷ quads) fit =
     let first = big_endian-bytes q fit.0 in
@@ -46,16 +49,19 @@ first_of_each : (quads : List ℕ) → map (λ p. p.0) (pairs_with_inverse quads
 first_of_each [] = refl
 first_of_each (q ∷ quads) = ap (λ qs. q ∷ qs) (first_of_each quads)
 
-pub first_bad_pair-capture : (quads : List ℕ) → All (λ q. q < 2 ^ 32) quads → first_bad_pair (quads_of (capture quads)) ≡ None
+pub first_bad_pair-capture : (quads : List ℕ) → All (λ q. q < 2 ^ 32) quads →
+    first_bad_pair (quads_of (capture quads)) ≡ None
 first_bad_pair-capture quads fit =
     position_from-zero is_bad (pairs (quads_of (capture quads)))
     ∙ rw (pairs-capture quads (recursion_from_All _ _ fit)) (none_bad 0 quads)
 
-pub firsts-capture : (quads : List ℕ) → All (λ q. q < 2 ^ 32) quads → firsts (quads_of (capture quads)) ≡ quads
+pub firsts-capture : (quads : List ℕ) → All (λ q. q < 2 ^ 32) quads →
+    firsts (quads_of (capture quads)) ≡ quads
 firsts-capture quads fit = rw (pairs-capture quads (recursion_from_All _ _ fit)) (first_of_each quads)
 
 -- where none is bad, the first isn't, and none of the others
-none_after : {X : Type 0} (p : X → Bool) (k : ℕ) (x : X) (xs : List X) → position_from p k (x ∷ xs) ≡ None → (p x ≡ false) × (position_from p (k + 1) xs ≡ None)
+none_after : {X : Type 0} (p : X → Bool) (k : ℕ) (x : X) (xs : List X) →
+    position_from p k (x ∷ xs) ≡ None → (p x ≡ false) × (position_from p (k + 1) xs ≡ None)
 none_after p k x xs none =
     elim (p x) as (λ b. cond b (Some k) (position_from p (k + 1) xs) ≡ None → (b ≡ false) × (position_from p (k + 1) xs ≡ None)) [
       | true ↦ λ some. absurd cc
@@ -67,7 +73,9 @@ second_is_inverse : (a b : ℕ) → is_bad (a, b) ≡ false → b ≡ inverse a
 second_is_inverse a b good = grind (arith, good)
 
 -- good pairs are a capture, where k pairs stand before them
-capture_of_next : (k : ℕ) (bytes : List ℕ) → AllByRecursion (λ b. b < 256) bytes → length bytes % 8 ≡ 0 → position_from is_bad k (pairs (quads_of bytes)) ≡ None → bytes ≡ capture (firsts (quads_of bytes))
+capture_of_next : (k : ℕ) (bytes : List ℕ) → AllByRecursion (λ b. b < 256) bytes →
+    length bytes % 8 ≡ 0 → position_from is_bad k (pairs (quads_of bytes)) ≡ None →
+    bytes ≡ capture (firsts (quads_of bytes))
 capture_of_next k [] fit whole good = refl
 capture_of_next k (a ∷ b ∷ c ∷ d ∷ e ∷ f ∷ g ∷ h ∷ bytes) fit whole good =
     let parts = none_after is_bad k (big_endian a b c d, big_endian e f g h) (pairs (quads_of bytes)) good in
@@ -83,6 +91,7 @@ capture_of_next k (a ∷ b ∷ c ∷ d ∷ e ∷ f ∷ g ∷ h ∷ bytes) fit wh
     )
 capture_of_next k _ fit whole good = absurd (omega (arith, whole))
 
-pub capture_of_pairs : (bytes : List ℕ) → All (λ b. b < 256) bytes → length bytes % 8 ≡ 0 → first_bad_pair (quads_of bytes) ≡ None → bytes ≡ capture (firsts (quads_of bytes))
+pub capture_of_pairs : (bytes : List ℕ) → All (λ b. b < 256) bytes → length bytes % 8 ≡ 0 →
+    first_bad_pair (quads_of bytes) ≡ None → bytes ≡ capture (firsts (quads_of bytes))
 capture_of_pairs bytes fit whole good =
     capture_of_next 0 bytes (recursion_from_All _ _ fit) whole (sym (position_from-zero is_bad (pairs (quads_of bytes))) ∙ good)

@@ -19,7 +19,8 @@ abbrev pub differ : ℕ → ℕ → Bool
 differ a b = not (nat_eq a b)
 
 -- an odd lane differs from the inverse of the even lane before it where that pair is bad
-pub lanes_are_pairs : (xs : List ℕ) → 16 ≤ length xs → zip2 differ (odds xs) (map inverse (evens xs)) ≡ map is_bad (pairs (take 16 xs))
+pub lanes_are_pairs : (xs : List ℕ) → 16 ≤ length xs →
+    zip2 differ (odds xs) (map inverse (evens xs)) ≡ map is_bad (pairs (take 16 xs))
 lanes_are_pairs (a ∷ b ∷ c ∷ d ∷ e ∷ f ∷ g ∷ h ∷ i ∷ j ∷ k ∷ l ∷ m ∷ n ∷ o ∷ p ∷ xs) room = refl
 lanes_are_pairs _ room = absurd (omega (arith, room))
 
@@ -29,13 +30,15 @@ length-pairs_16 (a ∷ b ∷ c ∷ d ∷ e ∷ f ∷ g ∷ h ∷ i ∷ j ∷ k �
 length-pairs_16 _ room = absurd (omega (arith, room))
 
 -- so the mask of those comparisons shows the bad pairs
-pub mask_of_pairs : (xs : List ℕ) → 16 ≤ length xs → mask_l (map (top 31) (zip2 (λ a b. cond (differ a b) (2 ^ 32 - 1) 0) (odds xs) (map inverse (evens xs)))) % 2 ^ 64 ≡ mask_l (map is_bad (pairs (take 16 xs)))
+pub mask_of_pairs : (xs : List ℕ) → 16 ≤ length xs →
+    mask_l (map (top 31) (zip2 (λ a b. cond (differ a b) (2 ^ 32 - 1) 0) (odds xs) (map inverse (evens xs)))) % 2 ^ 64 ≡ mask_l (map is_bad (pairs (take 16 xs)))
 mask_of_pairs xs room =
     ap (λ ms. mask_l ms % 2 ^ 64) (tops_compared w32 differ (odds xs) (map inverse (evens xs)) ∙ lanes_are_pairs xs room)
     ∙ mask_l-mod _ 64 (rw (length-map, length-pairs_16) (lit≤ tt))
 
 -- choosing each lane that is below the limit, and else the limit
-chosen_below : (limit n : ℕ) (xs : List ℕ) → length xs ≡ n → sel_l (map (λ x. nat_lt x limit) xs) xs (replicate n limit) ≡ capped xs limit
+chosen_below : (limit n : ℕ) (xs : List ℕ) → length xs ≡ n →
+    sel_l (map (λ x. nat_lt x limit) xs) xs (replicate n limit) ≡ capped xs limit
 chosen_below limit zero [] long = refl
 chosen_below limit zero (x ∷ xs) long = absurd (omega (arith, long))
 chosen_below limit (suc n) [] long = absurd (omega (arith, long))
@@ -44,7 +47,8 @@ chosen_below limit (suc n) (x ∷ xs) long =
     grind (arith, chosen_below limit n xs rest)
 
 -- the lesser of each of 64 lanes and the limit, stored at the front
-pub min_stored : (to from : List ℕ) (limit : ℕ) → 64 ≤ length to → 64 ≤ length from → put_chunk 0 to (sel_l (map (top 7) (zip2 (λ a b. cond (nat_lt a b) (2 ^ 8 - 1) 0) (take 64 from) (replicate 64 limit))) (take 64 from) (replicate 64 limit)) ≡ capped (take 64 from) limit ++ drop 64 to
+pub min_stored : (to from : List ℕ) (limit : ℕ) → 64 ≤ length to → 64 ≤ length from →
+    put_chunk 0 to (sel_l (map (top 7) (zip2 (λ a b. cond (nat_lt a b) (2 ^ 8 - 1) 0) (take 64 from) (replicate 64 limit))) (take 64 from) (replicate 64 limit)) ≡ capped (take 64 from) limit ++ drop 64 to
 min_stored to from limit room_to room_from =
     let lanes : length (take 64 from) ≡ 64 = length-take-le 64 from room_from in
     let chosen : sel_l (map (top 7) (zip2 (λ a b. cond (nat_lt a b) (2 ^ 8 - 1) 0) (take 64 from) (replicate 64 limit))) (take 64 from) (replicate 64 limit) ≡ capped (take 64 from) limit
@@ -67,7 +71,8 @@ no_lanes [] = refl
 no_lanes (x ∷ xs) = grind (arith, no_lanes xs)
 
 -- the mask of the lanes that differ is empty exactly where the vectors are the same
-pub same_mask : (a b : List ℕ) → 16 ≤ length a → 16 ≤ length b → IsTrue ((mask_l (map (top 31) (zip2 (λ a b. cond (differ a b) (2 ^ 32 - 1) 0) (take 16 a) (take 16 b))) % 2 ^ 64) == 0) ↔ (take 16 a ≡ take 16 b)
+pub same_mask : (a b : List ℕ) → 16 ≤ length a → 16 ≤ length b →
+    IsTrue ((mask_l (map (top 31) (zip2 (λ a b. cond (differ a b) (2 ^ 32 - 1) 0) (take 16 a) (take 16 b))) % 2 ^ 64) == 0) ↔ (take 16 a ≡ take 16 b)
 same_mask a b room_a room_b =
     let wide_a : length (take 16 a) ≡ 16 = length-take-le 16 a room_a in
     let wide_b : length (take 16 b) ≡ 16 = length-take-le 16 b room_b in

@@ -13,7 +13,8 @@ pub one_reach : (t : Tree) (id a b : ℕ) → IsReach t id a → IsReach t id b 
 one_reach t id a b h k = omega (arith, k.greatest h.farthest a h.reached, h.greatest k.farthest b k.reached)
 
 -- the candidate with the highest ID
-pub best_start : (t : Tree) (root reach : ℕ) → IsHighest (walk t) (Some root) → IsReach t root reach → BestFrom t root root reach
+pub best_start : (t : Tree) (root reach : ℕ) → IsHighest (walk t) (Some root) →
+    IsReach t root reach → BestFrom t root root reach
 best_start t root reach highest h = record {
   candidate = highest.0;
   above = omega arith;
@@ -27,7 +28,8 @@ best_start t root reach highest h = record {
 }
 
 -- a node that is no candidate
-pub best_skip : (t : Tree) (id root reach : ℕ) → (IsCandidate (walk t) id → ⊥) → BestFrom t (id + 1) root reach → BestFrom t id root reach
+pub best_skip : (t : Tree) (id root reach : ℕ) → (IsCandidate (walk t) id → ⊥) →
+    BestFrom t (id + 1) root reach → BestFrom t id root reach
 best_skip t id root reach not h = record {
   candidate = h.candidate;
   above = let above = h.above in omega (arith, above);
@@ -43,7 +45,8 @@ best_skip t id root reach not h = record {
 }
 
 -- a node whose reach is no less
-pub best_stays : (t : Tree) (id root reach own : ℕ) → IsReach t id own → reach ≤ own → BestFrom t (id + 1) root reach → BestFrom t id root reach
+pub best_stays : (t : Tree) (id root reach own : ℕ) → IsReach t id own → reach ≤ own →
+    BestFrom t (id + 1) root reach → BestFrom t id root reach
 best_stays t id root reach own is most h = record {
   candidate = h.candidate;
   above = let above = h.above in omega (arith, above);
@@ -62,7 +65,8 @@ best_stays t id root reach own is most h = record {
 }
 
 -- a candidate of lesser reach
-pub best_is : (t : Tree) (id root reach own : ℕ) → IsCandidate (walk t) id → IsReach t id own → own < reach → BestFrom t (id + 1) root reach → BestFrom t id id own
+pub best_is : (t : Tree) (id root reach own : ℕ) → IsCandidate (walk t) id → IsReach t id own →
+    own < reach → BestFrom t (id + 1) root reach → BestFrom t id id own
 best_is t id root reach own candidate is less h = record {
   candidate = candidate;
   above = omega arith;
@@ -88,10 +92,12 @@ candidate_within t id c = go (slice_get (walk t) id) refl c
     go (Some n) e h = slice_get_within (walk t) id n e
     go None e h = absurd h
 
-pub candidate : (t : Tree) (id : ℕ) (n : Node) → slice_get (walk t) id ≡ Some n → is_candidate n ≡ true → IsCandidate (walk t) id
+pub candidate : (t : Tree) (id : ℕ) (n : Node) → slice_get (walk t) id ≡ Some n →
+    is_candidate n ≡ true → IsCandidate (walk t) id
 candidate t id n here is = subst (λ (o : Option Node). IsSomeAnd o (λ m. IsTrue (is_candidate m))) (sym here) is
 
-pub no_candidate : (t : Tree) (id : ℕ) (n : Node) → slice_get (walk t) id ≡ Some n → is_candidate n ≡ false → IsCandidate (walk t) id → ⊥
+pub no_candidate : (t : Tree) (id : ℕ) (n : Node) → slice_get (walk t) id ≡ Some n →
+    is_candidate n ≡ false → IsCandidate (walk t) id → ⊥
 no_candidate t id n here lacks c =
     let is : IsTrue (is_candidate n) = subst (λ (o : Option Node). IsSomeAnd o (λ m. IsTrue (is_candidate m))) here c in
     absurd cc

@@ -59,7 +59,8 @@ record HasSettled (bus after : Bus) (text : List ℕ) : Type 0 where
   is : IsReport after.world report
   last : after.notes.report ≡ Some report
 
-has-settled : (bus after : Bus) (text : List ℕ) → Settles bus (Ok (after, text)) → HasSettled bus after text
+has-settled : (bus after : Bus) (text : List ℕ) → Settles bus (Ok (after, text)) →
+    HasSettled bus after text
 has-settled bus after text = go (nat_lt 2000000 (bus.world.turns + quiet_turns_of bus.world))
   where
     go : (past : Bool) → MatchBool past (◌≡◌ {A = LineAnswer} (Ok (after, text)) (Err Kind.TooManyTurns)) (Reports bus (Ok (after, text))) → HasSettled bus after text
@@ -79,13 +80,16 @@ record Pulled (old new : Wiring) (cables : List Cable) : Type 0 where
   size : length new ≡ length old
 
 -- the cable that was taken out is gone
-is-gone : (old new : Wiring) (x : Cable) (a b : End) → TakenOut old new x.a x.b → far new a ≡ Some b → IsSame (cable a b) x → ⊥
+is-gone : (old new : Wiring) (x : Cable) (a b : End) → TakenOut old new x.a x.b →
+    far new a ≡ Some b → IsSame (cable a b) x → ⊥
 is-gone old new x a b t h (inl e) =
     none_some (far new a) b (ap (far new) (ap (λ (c : Cable). c.a) e) ∙ t.free_a) h
 is-gone old new x a b t h (inr e) =
     none_some (far new a) b (ap (far new) (ap (λ (c : Cable). c.a) e) ∙ t.free_b) h
 
-pulled : (bus after : Bus) (cables : List Cable) → IsCabled bus.world → ArePullable bus.world.cabling cables → PullsLead bus cables after → Pulled bus.world.cabling after.world.cabling cables
+pulled : (bus after : Bus) (cables : List Cable) → IsCabled bus.world →
+    ArePullable bus.world.cabling cables → PullsLead bus cables after →
+    Pulled bus.world.cabling after.world.cabling cables
 pulled bus after [] h p leads =
     subst (λ (u : Bus). Pulled bus.world.cabling u.world.cabling []) (sym leads)
     (record { without = record { within = λ a b e. e; gone = λ a b e l. l }; size = refl })
@@ -106,11 +110,13 @@ pulled bus after (x ∷ cables) h p leads =
     }
 
 -- of fewer cables, too
-fewer : (old new : Wiring) (some all : List Cable) → Without old new all → ((z : Cable) → Lists some z → Lists all z) → Without old new some
+fewer : (old new : Wiring) (some all : List Cable) → Without old new all →
+    ((z : Cable) → Lists some z → Lists all z) → Without old new some
 fewer old new some all w up = record { within = w.within; gone = λ a b e l. w.gone a b e (up (cable a b) l) }
 
 -- two cables that are left were there
-two-before : (old new : Wiring) (set x : ℕ) → ((a b : End) → far new a ≡ Some b → far old a ≡ Some b) → HasTwo new set x → HasTwo old set x
+two-before : (old new : Wiring) (set x : ℕ) →
+    ((a b : End) → far new a ≡ Some b → far old a ≡ Some b) → HasTwo new set x → HasTwo old set x
 two-before old new set x was two = record {
   low = two.low;
   high = two.high;
@@ -141,7 +147,8 @@ in-right set [] two i = i
 in-right set (s ∷ one) two i = inr (in-right set one two i)
 
 -- a part that is a loop is among the loops
-part-in : (parts : List Part) (i : ℕ) (d : Part) (core : Nodes) → i < length parts → (get_or parts i d).outcome ≡ reported.Loop core → In (get_or parts i d).nodes (loops_of parts)
+part-in : (parts : List Part) (i : ℕ) (d : Part) (core : Nodes) → i < length parts →
+    (get_or parts i d).outcome ≡ reported.Loop core → In (get_or parts i d).nodes (loops_of parts)
 unfolding In
 part-in [] i d core within is = absurd (omega (arith, within))
 part-in (p ∷ parts) zero d core within is =
@@ -150,7 +157,8 @@ part-in (p ∷ parts) (suc i) d core within is =
     in-right (get_or parts i d).nodes (if_loop p.outcome p.nodes) (loops_of parts)
     (part-in parts i d core (omega (arith, within)) is)
 
-find-advice : (c : Wiring) (set : Nodes) (advices : List LoopAdvice) → All (IsAdviceFor c) advices → In set (nodes-of advices) → AdviceOf c set (all_pulls advices)
+find-advice : (c : Wiring) (set : Nodes) (advices : List LoopAdvice) → All (IsAdviceFor c) advices →
+    In set (nodes-of advices) → AdviceOf c set (all_pulls advices)
 unfolding In
 find-advice c set [] for i = absurd i
 find-advice c set (a ∷ advices) for (inl e) = record {
@@ -174,18 +182,23 @@ find-advice c set (a ∷ advices) for (inr i) =
 abbrev NoneLooped : Wiring → Nodes → Type 0
 NoneLooped c set = (part x : ℕ) → IsWithin part set → IsLooped c part → Holds part x → ⊥
 
-advised-fine : (old new : Wiring) (set : Nodes) (pulls : List Cable) → set < 2 ^ 63 → Without old new pulls → AdviceOf old set pulls → NoneLooped new set
+advised-fine : (old new : Wiring) (set : Nodes) (pulls : List Cable) → set < 2 ^ 63 →
+    Without old new pulls → AdviceOf old set pulls → NoneLooped new set
 advised-fine old new set pulls small w f part x inside looped h =
     let node = f.for.node in
     let is : IsComponent old node set = subst (IsComponent old node) f.nodes f.for.component in
     no_loop_left old new node f.a.advice.pulls f.a.advice.kept set part x small f.for.valid
     (fewer old new f.a.advice.pulls pulls w f.among) is inside looped h
 
-loopless-fine : (w : CableWorld) (new : Wiring) (set : Nodes) → ((a b : End) → far new a ≡ Some b → far w.cabling a ≡ Some b) → HasNoLoopIn w set → NoneLooped new set
+loopless-fine : (w : CableWorld) (new : Wiring) (set : Nodes) →
+    ((a b : End) → far new a ≡ Some b → far w.cabling a ≡ Some b) → HasNoLoopIn w set →
+    NoneLooped new set
 loopless-fine w new set was none part x inside looped h =
     none.empty x ((none.is_core x).1 (part, inside, (λ y hy. two-before w.cabling new part y was (looped y hy)), h))
 
-part-fine : (w : CableWorld) (new : Wiring) (set : Nodes) (pulls : List Cable) (o : Outcome) → set < 2 ^ 63 → Without w.cabling new pulls → IsReported w set o → ((core : Nodes) → o ≡ reported.Loop core → AdviceOf w.cabling set pulls) → NoneLooped new set
+part-fine : (w : CableWorld) (new : Wiring) (set : Nodes) (pulls : List Cable) (o : Outcome) →
+    set < 2 ^ 63 → Without w.cabling new pulls → IsReported w set o →
+    ((core : Nodes) → o ≡ reported.Loop core → AdviceOf w.cabling set pulls) → NoneLooped new set
 part-fine w new set pulls (reported.Loop core) small out is found = advised-fine w.cabling new set pulls small out (found core refl)
 part-fine w new set pulls (reported.Tree root list order) small out is found = loopless-fine w new set out.within is.is.no_loop
 part-fine w new set pulls (reported.Contention a b) small out is found = loopless-fine w new set out.within is.is.no_loop
@@ -214,7 +227,8 @@ around w new report advices k set cables is are out component there =
           (subst (In part.nodes) (sym are.are) (part-in report.parts found.0 found.1 core found.2 loop)));
     }
 
-no-loop-part : (v : CableWorld) (part : Part) (o : Outcome) → IsReported v part.nodes o → NoneLooped v.cabling part.nodes → IsLoop o → ⊥
+no-loop-part : (v : CableWorld) (part : Part) (o : Outcome) → IsReported v part.nodes o →
+    NoneLooped v.cabling part.nodes → IsLoop o → ⊥
 no-loop-part v part (reported.Loop core) is fine loop =
     is.some (λ x h. let p = (is.is x).0 h in fine p.0 x p.1 p.2 p.3)
 no-loop-part v part (reported.Tree root list order) is fine loop = loop
@@ -302,7 +316,8 @@ without-loop trees keeps read came bytes text e =
       no_loop = no-loop trees keeps bytes text bus after s.report e.2 a s.kept;
     }
 
-ends-so : (bytes text : List ℕ) (bus : Bus) (answer : LineAnswer) → RunsTo bytes bus → Advises bus answer → Ok text ≡ told_at_end bytes answer → EndsWith bytes text
+ends-so : (bytes text : List ℕ) (bus : Bus) (answer : LineAnswer) → RunsTo bytes bus →
+    Advises bus answer → Ok text ≡ told_at_end bytes answer → EndsWith bytes text
 ends-so bytes text bus (Ok (after, t)) ran a e =
     let same : t ≡ text = cc in
     (bus, after, ran, subst (λ (u : List ℕ). Advises bus (Ok (after, u))) same a)
@@ -312,5 +327,6 @@ ends-of : (bytes text : List ℕ) → IsAdvice bytes (Ok text) → EndsWith byte
 ends-of bytes text (inl x) = no-fault x.fault text _ x.is
 ends-of bytes text (inr x) = ends-so bytes text x.bus x.answer x.ran x.advises x.is
 
-pub all-without-loop : NoListHasTwoTrees → ActKeepsNodes → ListsAreReadBack → ReportedIsOutcome → AdvicesEndWithoutLoop
+pub all-without-loop : NoListHasTwoTrees → ActKeepsNodes → ListsAreReadBack → ReportedIsOutcome →
+    AdvicesEndWithoutLoop
 all-without-loop trees keeps read came bytes text is = without-loop trees keeps read came bytes text (ends-of bytes text is)

@@ -132,7 +132,8 @@ kept-in c set p k q l x y z low in_k =
 advice-of : Nodes → List Cable → List Cable → LoopAdvice
 advice-of nodes pulls kept = record { nodes = nodes; advice = record { pulls = pulls; kept = kept } }
 
-same-advice : (c : Wiring) (a b : LoopAdvice) → a.nodes ≡ b.nodes → IsAdviceFor c a → IsAdviceFor c b → a ≡ b
+same-advice : (c : Wiring) (a b : LoopAdvice) → a.nodes ≡ b.nodes → IsAdviceFor c a →
+    IsAdviceFor c b → a ≡ b
 unfolding advice-of
 same-advice c a b nodes x y =
     let other : AreAdvised c a.nodes b.advice.pulls b.advice.kept =
@@ -169,7 +170,8 @@ same-advices c (x ∷ xs) (y ∷ ys) p q e =
 pub same-report : (o : Option Report) (a b : Report) → o ≡ Some a → o ≡ Some b → a ≡ b
 same-report o a b x y = cc
 
-one-advices : (bus : Bus) (r s : LineAnswer) → (x : Advises bus r) → (y : Advises bus s) → x.advices ≡ y.advices
+one-advices : (bus : Bus) (r s : LineAnswer) → (x : Advises bus r) → (y : Advises bus s) →
+    x.advices ≡ y.advices
 one-advices bus r s x y =
     let report : x.report ≡ y.report = same-report bus.notes.report x.report y.report x.last y.last in
     same-advices bus.world.cabling x.advices y.advices x.are.each y.are.each

@@ -121,7 +121,8 @@ node_says d seed k h =
       says = rw (three_is, one_is, seeded) refl;
     })
 
-plug_text : (p q k : ℕ) → numbered (codes "plug n") p ++ (numbered (codes " ") q ++ (numbered (codes " n") k ++ codes " 0"))
+plug_text : (p q k : ℕ) →
+    numbered (codes "plug n") p ++ (numbered (codes " ") q ++ (numbered (codes " n") k ++ codes " 0"))
     ≡ codes "plug" ++ spaced (made_name p ∷ decimal q ∷ made_name k ∷ codes "0" ∷ [])
 unfolding numbered
 plug_text p q k = refl

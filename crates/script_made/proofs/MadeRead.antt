@@ -95,7 +95,8 @@ kept (w ∷ ws) h = go (is_some_text w) h.0.some (kept ws h.1)
     go true e others = ap (λ others. w ∷ others) others
     go false e others = absurd (cc)
 
-words_are : (w : List ℕ) (ws : List (List ℕ)) → IsWord w → AreWords ws → words_of (w ++ spaced ws) ≡ w ∷ ws
+words_are : (w : List ℕ) (ws : List (List ℕ)) → IsWord w → AreWords ws →
+    words_of (w ++ spaced ws) ≡ w ∷ ws
 unfolding words_of
 words_are w ws h hs = ap (filter is_some_text) (split_words w ws h hs) ∙ kept (w ∷ ws) (h, hs)
 
@@ -158,7 +159,8 @@ below_ten (c ∷ cs) h =
     let first : is_ten c ≡ true = grind (arith, nat_tests, h.0) in
     within (is_ten c) (list_all is_ten cs) first (below_ten cs h.1)
 
-same_value : (ds : List ℕ) (n : ℕ) → fold (λ n c. n * 10 + digit_value c) n ds ≡ digits_value_after 10 n ds
+same_value : (ds : List ℕ) (n : ℕ) →
+    fold (λ n c. n * 10 + digit_value c) n ds ≡ digits_value_after 10 n ds
 same_value [] n = refl
 same_value (c ∷ cs) n = same_value cs (n * 10 + digit_value c)
 

@@ -30,7 +30,8 @@ module _ (w : CableWorld) (names : Names) (enough : length names ≡ length w.ca
   named-outcome set (reported.Contention a b) there h read = (named a (there a h.is.holds_a), named b (there b h.is.holds_b))
   named-outcome set (reported.Loop core) there h read = λ k inside. let p = (h.is k).0 inside in named k (there k (p.1 k p.3))
 
-  named-part : (part : Part) → IsPart w part → IfTree (IsReadBack w) part.outcome → IsNamedPart names part
+  named-part : (part : Part) → IsPart w part → IfTree (IsReadBack w) part.outcome →
+      IsNamedPart names part
   named-part part is read = record {
     nodes = λ k inside. named k (is.there k inside);
     outcome = named-outcome part.nodes part.outcome is.there is.outcome read;

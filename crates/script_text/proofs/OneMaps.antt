@@ -6,7 +6,8 @@ use Rattle.topology_map.specs.Sealed.{IsSealed}
 use Rattle.speed_map.proofs.SameBus.{one-rows, sealed-once}
 use Rattle.script_text.specs.Maps.{images_text, IsMapsText}
 
-pub same_maps : (generation : ℕ) (t : Tree) (a b : List ℕ) → IsBusTree t → IsMapsText generation t a → IsMapsText generation t b → a ≡ b
+pub same_maps : (generation : ℕ) (t : Tree) (a b : List ℕ) → IsBusTree t →
+    IsMapsText generation t a → IsMapsText generation t b → a ≡ b
 same_maps generation t a b bus x y =
     let topology : x.topology ≡ y.topology = sealed-once _ x.topology y.topology x.topology_is.image y.topology_is.image in
     let rows : x.rows ≡ y.rows = one-rows t x.rows y.rows bus x.rows_are y.rows_are in

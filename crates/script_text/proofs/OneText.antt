@@ -29,14 +29,16 @@ one-more names (p ∷ parts) part before text h is = (
   ap (λ (x : List ℕ). x ++ text) h.4 ∙ append_assoc h.0 h.1 text,
 )
 
-in-order : (names : Names) (parts : List Part) (text : List ℕ) → ArePartTexts names parts text → InOrder names parts text
+in-order : (names : Names) (parts : List Part) (text : List ℕ) → ArePartTexts names parts text →
+    InOrder names parts text
 in-order names parts text none = refl
 in-order names parts text (more before so-far part its told is) =
     one-more names before part so-far its (in-order names before so-far told) is
 
 -- ---- one of each
 
-one-outcome : NoListHasTwoTrees → (names : Names) (o : Outcome) (a b : List ℕ) → IsOutcomeText names o a → IsOutcomeText names o b → a ≡ b
+one-outcome : NoListHasTwoTrees → (names : Names) (o : Outcome) (a b : List ℕ) →
+    IsOutcomeText names o a → IsOutcomeText names o b → a ≡ b
 one-outcome one names (reported.Tree root list order) a b x y =
     x.is
     ∙ ap (λ (t : Tree). root_line names root ++ tree_text t (names_in names order)) (one Ieee2000 x.tree y.tree x.valid y.valid (x.emitted ∙ sym y.emitted))
@@ -44,13 +46,15 @@ one-outcome one names (reported.Tree root list order) a b x y =
 one-outcome one names (reported.Contention c d) a b x y = x ∙ sym y
 one-outcome one names (reported.Loop core) a b x y = x ∙ sym y
 
-one-part : NoListHasTwoTrees → (names : Names) (part : Part) (a b : List ℕ) → IsPartText names part a → IsPartText names part b → a ≡ b
+one-part : NoListHasTwoTrees → (names : Names) (part : Part) (a b : List ℕ) →
+    IsPartText names part a → IsPartText names part b → a ≡ b
 one-part one names part a b x y =
     x.is
     ∙ ap (λ (text : List ℕ). component_line names part ++ text) (one-outcome one names part.outcome x.outcome y.outcome x.told y.told)
     ∙ sym y.is
 
-one-list : NoListHasTwoTrees → (names : Names) (parts : List Part) (a b : List ℕ) → InOrder names parts a → InOrder names parts b → a ≡ b
+one-list : NoListHasTwoTrees → (names : Names) (parts : List Part) (a b : List ℕ) →
+    InOrder names parts a → InOrder names parts b → a ≡ b
 one-list one names [] a b x y = x ∙ sym y
 one-list one names (part ∷ parts) a b x y =
     x.4

@@ -15,7 +15,8 @@ use Rattle.script_text.specs.ReportText.{Names, names_in, report_line, component
 use Rattle.script_text.specs.SomeText.{HasText, NamedReportsHaveTexts, SettledWorldsHaveTexts}
 use Rattle.script_text.proofs.NamedReports.{can-be-shown}
 
-outcome-text : (names : Names) (o : Outcome) → IsNamedOutcome names o → (text : List ℕ) × IsOutcomeText names o text
+outcome-text : (names : Names) (o : Outcome) → IsNamedOutcome names o →
+    (text : List ℕ) × IsOutcomeText names o text
 outcome-text names (reported.Tree root list order) h = (
   root_line names root ++ tree_text h.tree (names_in names order),
   record { tree = h.tree; valid = h.valid; emitted = h.emitted; is = refl },
@@ -23,7 +24,8 @@ outcome-text names (reported.Tree root list order) h = (
 outcome-text names (reported.Contention a b) h = (contention_line names a b, refl)
 outcome-text names (reported.Loop core) h = (loop_line names core, refl)
 
-part-text : (names : Names) (part : Part) → IsNamedPart names part → (text : List ℕ) × IsPartText names part text
+part-text : (names : Names) (part : Part) → IsNamedPart names part →
+    (text : List ℕ) × IsPartText names part text
 part-text names part h =
     let outcome = outcome-text names part.outcome h.outcome in
     (component_line names part ++ outcome.0, record { outcome = outcome.0; told = outcome.1; is = refl })

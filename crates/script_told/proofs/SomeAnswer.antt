@@ -42,11 +42,13 @@ use Rattle.script_told.proofs.Turns.{after-turns}
 pub known : (r : LineAnswer) → HasAnswer (λ answer. answer ≡ r)
 known r = record { answer = r; is = refl }
 
-at-node : (o : Option NodeNumber) (Comes : NodeNumber → LineAnswer → Type 0) → ((k : NodeNumber) → HasAnswer (Comes k)) → HasAnswer (AtNode o Comes)
+at-node : (o : Option NodeNumber) (Comes : NodeNumber → LineAnswer → Type 0) →
+    ((k : NodeNumber) → HasAnswer (Comes k)) → HasAnswer (AtNode o Comes)
 at-node None Comes some = known (Err Kind.NoNode)
 at-node (Some k) Comes some = let a = some k in record { answer = a.answer; is = a.is }
 
-named : (bus : Bus) (name : List ℕ) (Comes : NodeNumber → LineAnswer → Type 0) → ((k : NodeNumber) → HasAnswer (Comes k)) → HasAnswer (Named bus name Comes)
+named : (bus : Bus) (name : List ℕ) (Comes : NodeNumber → LineAnswer → Type 0) →
+    ((k : NodeNumber) → HasAnswer (Comes k)) → HasAnswer (Named bus name Comes)
 named bus name Comes some = at-node (node_named bus.notes.names name) Comes some
 
 at-tree :
@@ -55,15 +57,18 @@ at-tree :
 at-tree None Comes some = known (Err Kind.NotSettled)
 at-tree (Some t) Comes some = let a = some t refl in record { answer = a.answer; is = a.is }
 
-at-manager : (o : Option NodeNumber) (Comes : NodeNumber → LineAnswer → Type 0) → ((k : NodeNumber) → HasAnswer (Comes k)) → HasAnswer (AtManager o Comes)
+at-manager : (o : Option NodeNumber) (Comes : NodeNumber → LineAnswer → Type 0) →
+    ((k : NodeNumber) → HasAnswer (Comes k)) → HasAnswer (AtManager o Comes)
 at-manager None Comes some = known (Err Kind.NoManager)
 at-manager (Some k) Comes some = let a = some k in record { answer = a.answer; is = a.is }
 
-pub if-test : (b : Bool) (One Other : LineAnswer → Type 0) → HasAnswer One → HasAnswer Other → HasAnswer (λ r. MatchBool b (One r) (Other r))
+pub if-test : (b : Bool) (One Other : LineAnswer → Type 0) → HasAnswer One → HasAnswer Other →
+    HasAnswer (λ r. MatchBool b (One r) (Other r))
 if-test true One Other one other = record { answer = one.answer; is = one.is }
 if-test false One Other one other = record { answer = other.answer; is = other.is }
 
-pub within : (bus : Bus) (turns : ℕ) (Comes : LineAnswer → Type 0) → HasAnswer Comes → HasAnswer (Within bus turns Comes)
+pub within : (bus : Bus) (turns : ℕ) (Comes : LineAnswer → Type 0) → HasAnswer Comes →
+    HasAnswer (Within bus turns Comes)
 within bus turns Comes some = if-test (nat_lt 2000000 (bus.world.turns + turns)) (λ r. r ≡ Err Kind.TooManyTurns) Comes (known (Err Kind.TooManyTurns)) some
 
 -- ---- acts
@@ -76,7 +81,8 @@ there node count true e h = grind (arith, nat_tests)
 there node count false e h = absurd cc
 
 -- an act that isn't refused leads to a world
-pub act-leads : ComponentsExist → (a : Act) (w : CableWorld) → IsReached w → act_fault a w ≡ None → (v : CableWorld) × ActLeads a w v
+pub act-leads : ComponentsExist → (a : Act) (w : CableWorld) → IsReached w → act_fault a w ≡ None →
+    (v : CableWorld) × ActLeads a w v
 act-leads components (act.Plug a b) w r none = (note_changes w (plug a b w), refl)
 act-leads components (act.Pull end) w r none = (note_changes w (pull end w), refl)
 act-leads components (act.Reset node) w r none = (note_changes w (reset node w), refl)
@@ -107,7 +113,8 @@ holds bus end turns = by (hold_fault end bus.world) refl
 
 -- ---- reports and maps
 
-pub reports : SettledWorldsHaveTexts → (bus : Bus) → IsReached bus.world → length bus.notes.names ≡ length bus.world.nodes → HasAnswer (Reports bus)
+pub reports : SettledWorldsHaveTexts → (bus : Bus) → IsReached bus.world →
+    length bus.notes.names ≡ length bus.world.nodes → HasAnswer (Reports bus)
 reports texts bus r enough =
     let quiet : ℕ = quiet_turns_of bus.world in
     let v : CableWorld = turns_after quiet bus.world in
@@ -128,7 +135,8 @@ settles texts bus h = within bus (quiet_turns_of bus.world) (Reports bus) (repor
 -- ---- trees of the last report
 
 module _ (trees : ReportedTreesAreManaged) (bus : Bus) (h : IsReachedBus bus) where
-  pub tree-managed : (node : NodeNumber) (tree : Reported) → tree_with node bus.notes ≡ Some tree → IsManaged tree
+  pub tree-managed : (node : NodeNumber) (tree : Reported) → tree_with node bus.notes ≡ Some tree →
+      IsManaged tree
   tree-managed node tree is = by bus.notes.report refl is h.reported
     where
       by :
@@ -137,7 +145,8 @@ module _ (trees : ReportedTreesAreManaged) (bus : Bus) (h : IsReachedBus bus) wh
       by None e found r = absurd cc
       by (Some report) e found r = trees r.world report bus.notes node tree ∣ r.reached ∣₁ r.is e is
 
-  settled : (node : NodeNumber) (Comes : Reported → LineAnswer → Type 0) → ((t : Reported) → IsManaged t → HasAnswer (Comes t)) → HasAnswer (Settled bus node Comes)
+  settled : (node : NodeNumber) (Comes : Reported → LineAnswer → Type 0) →
+      ((t : Reported) → IsManaged t → HasAnswer (Comes t)) → HasAnswer (Settled bus node Comes)
   settled node Comes some = at-tree (tree_with node bus.notes) Comes (λ t is. some t (tree-managed node t is))
 
   managed :
@@ -155,10 +164,12 @@ module _ (trees : ReportedTreesAreManaged) (bus : Bus) (h : IsReachedBus bus) wh
 
 -- ---- questions
 
-accesses : (bus : Bus) (manager : NodeNumber) (a : Access) (text : Answer → List ℕ) → HasAnswer (Accesses bus manager a text)
+accesses : (bus : Bus) (manager : NodeNumber) (a : Access) (text : Answer → List ℕ) →
+    HasAnswer (Accesses bus manager a text)
 accesses bus manager a text = known (Ok (after_access manager a bus, text (answer_of (values_at manager bus) a)))
 
-grants : (bus : Bus) (node manager : NodeNumber) (a : Seen → Access) (text : Answer → List ℕ) → HasAnswer (Grants bus node manager a text)
+grants : (bus : Bus) (node manager : NodeNumber) (a : Seen → Access) (text : Answer → List ℕ) →
+    HasAnswer (Grants bus node manager a text)
 grants bus node manager a text = accesses (put_look node None bus) manager (a (seen_by node manager bus)) text
 
 looks : (bus : Bus) (node manager : NodeNumber) → HasAnswer (Looks bus node manager)
@@ -166,7 +177,8 @@ looks bus node manager = known (Ok (put_look node (Some (seen_of (values_at mana
 
 -- ---- the commands
 
-pub some-answer : ComponentsExist → SettledWorldsHaveTexts → ReportedTreesAreManaged → MapsHaveTexts → CommandsHaveAnswers
+pub some-answer : ComponentsExist → SettledWorldsHaveTexts → ReportedTreesAreManaged →
+    MapsHaveTexts → CommandsHaveAnswers
 some-answer components texts trees all-maps bus (Node name ports speed link contender force power gap hold short long word len seed packed) h p = known (Err Kind.Late)
 some-answer components texts trees all-maps bus (Delay delay) h p = known (Err Kind.Late)
 some-answer components texts trees all-maps bus (Plug a a_port b b_port) h p =

@@ -21,7 +21,8 @@ and-then :
 and-then f None y e = absurd cc
 and-then f (Some x) y e = (x, refl, e)
 
-found-part : (P : Part → Type 0) (p : Part → Bool) (xs : List Part) (y : Part) → All P xs → find p xs ≡ Some y → P y
+found-part : (P : Part → Type 0) (p : Part → Bool) (xs : List Part) (y : Part) → All P xs →
+    find p xs ≡ Some y → P y
 found-part P p [] y all e = absurd cc
 found-part P p (x ∷ xs) y all e = either (p x) (found-part P p xs y (All-tail P x xs all)) e
   where
@@ -29,7 +30,8 @@ found-part P p (x ∷ xs) y all e = either (p x) (found-part P p xs y (All-tail 
     either true rest e = subst P (some-same x y e) (All-head P x xs all)
     either false rest e = rest e
 
-managed-part : (w : CableWorld) (part : Part) (tree : Reported) → tree_of part ≡ Some tree → IfTree (IsReadBack w) part.outcome → IsManaged tree
+managed-part : (w : CableWorld) (part : Part) (tree : Reported) → tree_of part ≡ Some tree →
+    IfTree (IsReadBack w) part.outcome → IsManaged tree
 managed-part w part tree e read = by part.outcome e read
   where
     by : (o : Outcome) → tree_of (record part { outcome = o }) ≡ Some tree → IfTree (IsReadBack w) o → IsManaged tree

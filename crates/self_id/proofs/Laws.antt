@@ -23,15 +23,19 @@ read_err f = Err f
 same_fault : (f g : GroupFault) → read_err f ≡ read_err g → f ≡ g
 same_fault f g e = cc
 
-single_ok : (at : ℕ) (b : Bool) (m n : Node) → cond b (Ok m) (Err (TwoParents at)) ≡ ok_node n → (b ≡ true) × (m ≡ n)
+single_ok : (at : ℕ) (b : Bool) (m n : Node) → cond b (Ok m) (Err (TwoParents at)) ≡ ok_node n →
+    (b ≡ true) × (m ≡ n)
 single_ok at true m n e = (refl, cc)
 single_ok at false m n e = absurd cc
 
-single_err : (at : ℕ) (b : Bool) (m : Node) (f : GroupFault) → cond b (ok_node m) (Err (TwoParents at)) ≡ Err f → (b ≡ false) × (TwoParents at ≡ f)
+single_err : (at : ℕ) (b : Bool) (m : Node) (f : GroupFault) →
+    cond b (ok_node m) (Err (TwoParents at)) ≡ Err f → (b ≡ false) × (TwoParents at ≡ f)
 single_err at true m f e = absurd cc
 single_err at false m f e = (refl, cc)
 
-pub group-read_at : (standard : Standard) (at id : ℕ) (l : List ℕ) (n : Node) → read_at standard at id l ≡ Ok n → IsNode n × IsOf standard n × (l ≡ group n id ++ drop (length (group n id)) l)
+pub group-read_at : (standard : Standard) (at id : ℕ) (l : List ℕ) (n : Node) →
+    read_at standard at id l ≡ Ok n →
+    IsNode n × IsOf standard n × (l ≡ group n id ++ drop (length (group n id)) l)
 group-read_at standard at id l n e = elim (reading standard at id l) [
   | stopped f is why ↦ absurd (let x : ok_node n ≡ Err f = sym e ∙ is in cc)
   | grouped m form is_of parts is ↦
@@ -40,7 +44,8 @@ group-read_at standard at id l n e = elim (reading standard at id l) [
       subst P p.1 (record { form = form; one_parent = leb-true _ _ p.0 }, is_of, parts)
 ]
 
-pub refused-read_at : (standard : Standard) (at id : ℕ) (l : List ℕ) (f : GroupFault) → 0 < length l → read_at standard at id l ≡ Err f → GroupRefused standard at id l f
+pub refused-read_at : (standard : Standard) (at id : ℕ) (l : List ℕ) (f : GroupFault) →
+    0 < length l → read_at standard at id l ≡ Err f → GroupRefused standard at id l f
 refused-read_at standard at id l f some e = elim (reading standard at id l) [
   | stopped g is why ↦ subst (λ (h : GroupFault). GroupRefused standard at id l h) (let x : Err g ≡ read_err f = sym is ∙ e in same_fault g f x) (why some)
   | grouped m form is_of parts is ↦
@@ -48,10 +53,12 @@ refused-read_at standard at id l f some e = elim (reading standard at id l) [
       subst (λ (h : GroupFault). GroupRefused standard at id l h) p.1 (m, drop (length (group m id)) l, form, is_of, parts, let lt = leb-false _ _ p.0 in omega arith, refl)
 ]
 
-pub read_at-group : (standard : Standard) (n : Node) (at id : ℕ) (rest : List ℕ) → IsNode n → IsOf standard n → id ≤ 62 → read_at standard at id (group n id ++ rest) ≡ Ok n
+pub read_at-group : (standard : Standard) (n : Node) (at id : ℕ) (rest : List ℕ) → IsNode n →
+    IsOf standard n → id ≤ 62 → read_at standard at id (group n id ++ rest) ≡ Ok n
 read_at-group standard n at id rest h is_of lt = again standard n at id rest h.form is_of lt ∙ ap (λ (b : Bool). cond b (Ok n) (Err (TwoParents at))) (le-leb _ _ h.one_parent)
 
-pub read_at-refused : (standard : Standard) (at id : ℕ) (l : List ℕ) (f : GroupFault) → id ≤ 62 → GroupRefused standard at id l f → read_at standard at id l ≡ Err f
+pub read_at-refused : (standard : Standard) (at id : ℕ) (l : List ℕ) (f : GroupFault) → id ≤ 62 →
+    GroupRefused standard at id l f → read_at standard at id l ≡ Err f
 read_at-refused standard at id l (Cut place) lt (front, h, some) = stops_at standard at id l front [] place (Cut place) h (refuses_end place id (length front))
 read_at-refused standard at id l (NotSelfId place) lt (front, rest, q, h, other) = stops_at standard at id l front (q ∷ rest) place (NotSelfId place) h (refuses_other place id (length front) q rest other)
 read_at-refused standard at id l (WrongId place fnd wanted) lt (front, rest, q, p, h, shows, self, is, same, ne) =
@@ -63,10 +70,12 @@ read_at-refused standard at id l (TwoParents place) lt (n, rest, form, is_of, pa
     ap (read_at standard at id) parts ∙ again standard n at id rest form is_of lt ∙ ap (λ (b : Bool). cond b (Ok n) (Err (TwoParents at))) (lt-leb _ _ two) ∙ ap (λ (k : ℕ). Err (TwoParents k)) (sym is)
 
 -- how many packets a node has
-length_by : (n : Node) (id k : ℕ) (l : List ℕ) → group n id ≡ l → length l ≡ k → 0 < k → k ≤ 4 → (0 < length (group n id)) × (length (group n id) ≤ 4)
+length_by : (n : Node) (id k : ℕ) (l : List ℕ) → group n id ≡ l → length l ≡ k → 0 < k → k ≤ 4 →
+    (0 < length (group n id)) × (length (group n id) ≤ 4)
 length_by n id k l e count some few = (omega (arith, ap length e), omega (arith, ap length e))
 
-pub length-group : (n : Node) (id : ℕ) → IsNode n → (0 < length (group n id)) × (length (group n id) ≤ 4)
+pub length-group : (n : Node) (id : ℕ) → IsNode n →
+    (0 < length (group n id)) × (length (group n id) ≤ 4)
 length-group n id h = elim (width_of n h.form) [
   | three count ↦ length_by n id 1 _ (group3 n id count) refl (omega arith) (omega arith)
   | eleven count ↦ length_by n id 2 _ (group11 n id count) refl (omega arith) (omega arith)

@@ -28,7 +28,8 @@ same_fault f g e = cc
 apart : (n : Node) (f : GroupFault) → ok_node n ≡ bad f → ⊥
 apart n f e = cc
 
-pub found : (standard : Standard) (at id : ℕ) (q : List ℕ) (r : Result (Node × ℕ) GroupFault) → at < length q → Taken standard at id q r →
+pub found : (standard : Standard) (at id : ℕ) (q : List ℕ) (r : Result (Node × ℕ) GroupFault) →
+    at < length q → Taken standard at id q r →
     IfOk r (λ x. StandsAt standard q at id x.0 x.1)
 found standard at id q (Ok (n, after)) lt t =
     let p = group-read_at standard at id (drop at q) n t.read in
@@ -38,14 +39,20 @@ found standard at id q (Ok (n, after)) lt t =
     record { is_node = p.0; is_of = p.1; parts = parts; place = t.place; inside = omega (arith, t.place) }
 found standard at id q (Err f) lt t = tt
 
-pub only : (standard : Standard) (at id : ℕ) (q : List ℕ) (r : Result (Node × ℕ) GroupFault) → id ≤ 62 → Taken standard at id q r → (n : Node) → BeginsWith standard (drop at q) id n → IsOkAnd r (λ x. x.0 ≡ n)
+pub only : (standard : Standard) (at id : ℕ) (q : List ℕ) (r : Result (Node × ℕ) GroupFault) →
+    id ≤ 62 → Taken standard at id q r → (n : Node) → BeginsWith standard (drop at q) id n →
+    IsOkAnd r (λ x. x.0 ≡ n)
 only standard at id q (Ok (m, after)) lt t n h = same_node m n (sym t.read ∙ ap (read_at standard at id) h.parts ∙ read_at-group standard n at id h.rest h.is_node h.is_of lt)
 only standard at id q (Err f) lt t n h = absurd (apart n f (sym (read_at-group standard n at id h.rest h.is_node h.is_of lt) ∙ ap (read_at standard at id) (sym h.parts) ∙ t))
 
-pub refused : (standard : Standard) (at id : ℕ) (q : List ℕ) (r : Result (Node × ℕ) GroupFault) → at < length q → Taken standard at id q r → IfErr r (λ f. GroupRefused standard at id (drop at q) f)
+pub refused : (standard : Standard) (at id : ℕ) (q : List ℕ) (r : Result (Node × ℕ) GroupFault) →
+    at < length q → Taken standard at id q r →
+    IfErr r (λ f. GroupRefused standard at id (drop at q) f)
 refused standard at id q (Ok x) lt t = tt
 refused standard at id q (Err f) lt t = refused-read_at standard at id (drop at q) f (omega (arith, length-drop at q)) t
 
-pub exact : (standard : Standard) (at id : ℕ) (q : List ℕ) (r : Result (Node × ℕ) GroupFault) → id ≤ 62 → Taken standard at id q r → (f : GroupFault) → GroupRefused standard at id (drop at q) f → IsErrOf r f
+pub exact : (standard : Standard) (at id : ℕ) (q : List ℕ) (r : Result (Node × ℕ) GroupFault) →
+    id ≤ 62 → Taken standard at id q r → (f : GroupFault) →
+    GroupRefused standard at id (drop at q) f → IsErrOf r f
 exact standard at id q (Ok (m, after)) lt t f is = absurd (apart m f (sym t.read ∙ read_at-refused standard at id (drop at q) f lt is))
 exact standard at id q (Err g) lt t f is = ap (λ (h : GroupFault). Err h) (same_fault g f (sym t ∙ read_at-refused standard at id (drop at q) f lt is))

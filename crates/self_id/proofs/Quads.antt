@@ -10,7 +10,8 @@ use Rattle.self_id.specs.codings.Reading.{owned_at}
 abbrev ok_packet : PhyPacket → Result PhyPacket GroupFault
 ok_packet p = Ok p
 
-same_packet : (a b : Bool) (x p : PhyPacket) (f g : GroupFault) → ok_packet p ≡ cond a (cond b (Ok x) (Err f)) (Err g) → x ≡ p
+same_packet : (a b : Bool) (x p : PhyPacket) (f g : GroupFault) →
+    ok_packet p ≡ cond a (cond b (Ok x) (Err f)) (Err g) → x ≡ p
 same_packet true true x p f g e = cc
 same_packet true false x p f g e = absurd cc
 same_packet false b x p f g e = absurd cc
@@ -20,7 +21,8 @@ pub record Here (k : ℕ) (q : List ℕ) (p : PhyPacket) : Type 0 where
   pub inside : k < length q
   pub packet : packet_of (get_or q k 0) ≡ p
 
-pub here : (at id k : ℕ) (q : List ℕ) (p : PhyPacket) → Ok p ≡ owned_at at id (drop k q) → Here k q p
+pub here : (at id k : ℕ) (q : List ℕ) (p : PhyPacket) → Ok p ≡ owned_at at id (drop k q) →
+    Here k q p
 unfolding owned_at
 here at id zero [] p e = absurd cc
 here at id (suc k) [] p e = absurd cc

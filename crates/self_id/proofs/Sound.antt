@@ -27,7 +27,9 @@ pub data Width (slots : ℕ) : Type 0 where
   nineteen : slots ≡ 19 → Width slots
   full : slots ≡ 27 → Width slots
 
-width_by : (a b c d e : Bool) (slots : ℕ) → (a ≡ true → slots ≡ 3) → (b ≡ true → slots ≡ 11) → (c ≡ true → slots ≡ 16) → (d ≡ true → slots ≡ 19) → (e ≡ true → slots ≡ 27) → IsTrue (a || (b || (c || (d || e)))) → Width slots
+width_by : (a b c d e : Bool) (slots : ℕ) → (a ≡ true → slots ≡ 3) → (b ≡ true → slots ≡ 11) →
+    (c ≡ true → slots ≡ 16) → (d ≡ true → slots ≡ 19) → (e ≡ true → slots ≡ 27) →
+    IsTrue (a || (b || (c || (d || e)))) → Width slots
 width_by true b c d e slots f g h i j w = three (f refl)
 width_by false true c d e slots f g h i j w = eleven (g refl)
 width_by false false true d e slots f g h i j w = sixteen (h refl)
@@ -44,7 +46,9 @@ low_bit : (k : ℕ) (b : Bool) → eqb ((k * 2 + bit b) % 2) 1 ≡ b
 low_bit k true = let e : (k * 2 + 1) % 2 ≡ 1 = omega arith in rw e refl
 low_bit k false = let e : (k * 2 + 0) % 2 ≡ 0 = omega arith in rw e refl
 
-eight_is : (n : Node) (a : FurtherPart) (id number kept : ℕ) (m : Bool) → kept ≡ spelled (carried_a a) → fields (take 8 (drop (3 + 8 * number) n.ports)) ≡ a.fields → a.more ≡ m → eight_packet n id number kept m ≡ further_of id number a
+eight_is : (n : Node) (a : FurtherPart) (id number kept : ℕ) (m : Bool) →
+    kept ≡ spelled (carried_a a) → fields (take 8 (drop (3 + 8 * number) n.ports)) ≡ a.fields →
+    a.more ≡ m → eight_packet n id number kept m ≡ further_of id number a
 eight_is n a id number kept m is same more =
     let b = bit_below a.r in
     let high : kept / 2 ≡ a.kept = omega arith in
@@ -52,7 +56,8 @@ eight_is n a id number kept m is same more =
     let low : eqb (kept % 2) 1 ≡ a.r = ap (λ (k : ℕ). eqb (k % 2) 1) whole ∙ low_bit a.kept a.r in
     rw (high, same, low, more) refl
 
-five_is : (n : Node) (b : FurtherPart) (id : ℕ) → n.kept_b ≡ spelled (carried_b b) → fields (drop 11 n.ports) ≡ b.fields / 2 ^ 6 →
+five_is : (n : Node) (b : FurtherPart) (id : ℕ) → n.kept_b ≡ spelled (carried_b b) →
+    fields (drop 11 n.ports) ≡ b.fields / 2 ^ 6 →
     five_packet n id ≡ further_of id 1 b
 five_is n b id kept same =
     let r = bit_below b.r in
@@ -69,7 +74,9 @@ five_is n b id kept same =
     in
     rw (high, both, r_bit, m_bit) refl
 
-third_is : (n : Node) (c : FurtherPart) (id before : ℕ) → c.kept < 4 → n.kept_b ≡ before * 2 ^ 4 + spelled (carried_c c) → fields (take 8 (drop 19 n.ports)) ≡ c.fields → third_packet n id ≡ further_of id 2 c
+third_is : (n : Node) (c : FurtherPart) (id before : ℕ) → c.kept < 4 →
+    n.kept_b ≡ before * 2 ^ 4 + spelled (carried_c c) →
+    fields (take 8 (drop 19 n.ports)) ≡ c.fields → third_packet n id ≡ further_of id 2 c
 third_is n c id before small is same =
     let r = bit_below c.r in
     let m = bit_below c.more in
@@ -86,14 +93,17 @@ group3 : (z : ZeroPart) (id : ℕ) → z.more ≡ false → group (node3 z) id �
 unfolding group
 group3 z id more = rw more refl
 
-group11 : (z : ZeroPart) (a : FurtherPart) (id : ℕ) → z.more ≡ true → a.more ≡ false → a.fields < 2 ^ 16 → group (node11 z a) id ≡ quad_of (zero_of id z) ∷ quad_of (further_of id 0 a) ∷ []
+group11 : (z : ZeroPart) (a : FurtherPart) (id : ℕ) → z.more ≡ true → a.more ≡ false →
+    a.fields < 2 ^ 16 →
+    group (node11 z a) id ≡ quad_of (zero_of id z) ∷ quad_of (further_of id 0 a) ∷ []
 unfolding group
 group11 z a id zm am small =
     let first : first_packet (node11 z a) id false ≡ further_of id 0 a = eight_is (node11 z a) a id 0 (spelled (carried_a a)) false refl (eight_fields a.fields small) am in
     ap (λ (p : _). quad_of (zero_packet (node11 z a) id true) ∷ quad_of p ∷ []) first ∙ rw zm refl
 
 -- three packets, by the standard
-group_three : (standard : Standard) (z : ZeroPart) (a b : FurtherPart) (id : ℕ) → z.more ≡ true → a.more ≡ true → goes_past standard b.more ≡ false → a.fields < 2 ^ 16 → b.fields < 2 ^ 16 →
+group_three : (standard : Standard) (z : ZeroPart) (a b : FurtherPart) (id : ℕ) → z.more ≡ true →
+    a.more ≡ true → goes_past standard b.more ≡ false → a.fields < 2 ^ 16 → b.fields < 2 ^ 16 →
     group (node_of_three standard z a b) id ≡ quad_of (zero_of id z) ∷ quad_of (further_of id 0 a) ∷ quad_of (further_of id 1 b) ∷ []
 unfolding group
 group_three Ieee2000 z a b id zm am bm a_small b_small =
@@ -114,7 +124,8 @@ group_three Ieee1995 z a b id zm am bm a_small b_small =
     ∙ ap (λ (p : _). quad_of (zero_packet n id true) ∷ quad_of (further_of id 0 a) ∷ quad_of p ∷ []) second
     ∙ rw zm refl
 
-group27 : (z : ZeroPart) (a b c : FurtherPart) (id : ℕ) → z.more ≡ true → a.more ≡ true → b.more ≡ true → a.fields < 2 ^ 16 → b.fields < 2 ^ 16 → c.fields < 2 ^ 16 → c.kept < 4 →
+group27 : (z : ZeroPart) (a b c : FurtherPart) (id : ℕ) → z.more ≡ true → a.more ≡ true →
+    b.more ≡ true → a.fields < 2 ^ 16 → b.fields < 2 ^ 16 → c.fields < 2 ^ 16 → c.kept < 4 →
     group (node27 z a b c) id ≡ quad_of (zero_of id z) ∷ quad_of (further_of id 0 a) ∷ quad_of (further_of id 1 b) ∷ quad_of (further_of id 2 c) ∷ []
 unfolding group
 group27 z a b c id zm am bm a_small b_small c_small c_kept =
@@ -145,7 +156,8 @@ form11 z a fits h =
     let r = bit_below a.r in
     record { attrs = fits; width = refl; kept_a = omega (arith, h.kept); kept_b = omega arith; blank_b = refl }
 
-pub form_three : (standard : Standard) (z : ZeroPart) (a b : FurtherPart) → FitBits z.attrs → Fits a → Fits b → HasForm (node_of_three standard z a b)
+pub form_three : (standard : Standard) (z : ZeroPart) (a b : FurtherPart) → FitBits z.attrs →
+    Fits a → Fits b → HasForm (node_of_three standard z a b)
 form_three Ieee2000 z a b fits h k =
     let r = bit_below a.r in
     let s = bit_below b.r in
@@ -156,7 +168,8 @@ form_three Ieee1995 z a b fits h k =
     let s = bit_below b.r in
     record { attrs = fits; width = refl; kept_a = omega (arith, h.kept); kept_b = omega (arith, k.kept); blank_b = omega arith }
 
-pub form27 : (z : ZeroPart) (a b c : FurtherPart) → FitBits z.attrs → Fits a → Fits b → Fits c → HasForm (node27 z a b c)
+pub form27 : (z : ZeroPart) (a b c : FurtherPart) → FitBits z.attrs → Fits a → Fits b → Fits c →
+    HasForm (node27 z a b c)
 form27 z a b c fits h k g =
     let r = bit_below a.r in
     let s = bit_below b.r in
@@ -168,7 +181,8 @@ of_either : (standard : Standard) (n : Node) → IsOf Ieee1995 n → IsOf Ieee20
 of_either Ieee1995 n a b = a
 of_either Ieee2000 n a b = b
 
-of_three : (standard : Standard) (z : ZeroPart) (a b : FurtherPart) → IsOf standard (node_of_three standard z a b)
+of_three : (standard : Standard) (z : ZeroPart) (a b : FurtherPart) →
+    IsOf standard (node_of_three standard z a b)
 of_three Ieee1995 z a b = refl
 of_three Ieee2000 z a b = refl
 
@@ -177,25 +191,34 @@ of_three Ieee2000 z a b = refl
 -- Reading a list ends with the fault that it has, or with the node of the group at its front, which
 -- may have two parents.
 pub data Reading (standard : Standard) (at id : ℕ) (l : List ℕ) (r : Result Node GroupFault) : Type 0 where
-  stopped : (f : GroupFault) → r ≡ Err f → (0 < length l → GroupRefused standard at id l f) → Reading standard at id l r
-  grouped : (m : Node) → HasForm m → IsOf standard m → l ≡ group m id ++ drop (length (group m id)) l → r ≡ single at m → Reading standard at id l r
+  stopped : (f : GroupFault) → r ≡ Err f → (0 < length l → GroupRefused standard at id l f) →
+      Reading standard at id l r
+  grouped : (m : Node) → HasForm m → IsOf standard m →
+      l ≡ group m id ++ drop (length (group m id)) l → r ≡ single at m → Reading standard at id l r
 
-by_more : (standard : Standard) (at id : ℕ) (l : List ℕ) (b : Bool) (x y : Result Node GroupFault) → (b ≡ true → Reading standard at id l x) → (b ≡ false → Reading standard at id l y) → Reading standard at id l (cond b x y)
+by_more : (standard : Standard) (at id : ℕ) (l : List ℕ) (b : Bool) (x y : Result Node GroupFault) →
+    (b ≡ true → Reading standard at id l x) → (b ≡ false → Reading standard at id l y) →
+    Reading standard at id l (cond b x y)
 by_more standard at id l true x y f g = f refl
 by_more standard at id l false x y f g = g refl
 
-leads : (id j : ℕ) (l : List ℕ) (p : PhyPacket) (h : Found id j l p) → has_more p ≡ true → LeadsOn id j h.quad p
+leads : (id j : ℕ) (l : List ℕ) (p : PhyPacket) (h : Found id j l p) → has_more p ≡ true →
+    LeadsOn id j h.quad p
 leads id j l p h more = record { shows = h.shows; self = h.self; own = h.own; order = h.order; more = more }
 
-two_fronts : (l : List ℕ) (z a : ℕ) → l ≡ z ∷ drop 1 l → drop 1 l ≡ a ∷ drop 1 (drop 1 l) → l ≡ z ∷ a ∷ drop 2 l
+two_fronts : (l : List ℕ) (z a : ℕ) → l ≡ z ∷ drop 1 l → drop 1 l ≡ a ∷ drop 1 (drop 1 l) →
+    l ≡ z ∷ a ∷ drop 2 l
 two_fronts [] z a e f = absurd cc
 two_fronts (x ∷ []) z a e f = absurd cc
 two_fronts (x ∷ y ∷ l) z a e f = e ∙ ap (λ (k : List ℕ). z ∷ k) f
 
-three_fronts : (l : List ℕ) (z a b : ℕ) → l ≡ z ∷ drop 1 l → drop 1 l ≡ a ∷ drop 1 (drop 1 l) → drop 2 l ≡ b ∷ drop 1 (drop 2 l) → l ≡ z ∷ a ∷ b ∷ drop 3 l
+three_fronts : (l : List ℕ) (z a b : ℕ) → l ≡ z ∷ drop 1 l → drop 1 l ≡ a ∷ drop 1 (drop 1 l) →
+    drop 2 l ≡ b ∷ drop 1 (drop 2 l) → l ≡ z ∷ a ∷ b ∷ drop 3 l
 three_fronts l z a b e f g = two_fronts l z a e f ∙ ap (λ (k : List ℕ). z ∷ a ∷ k) (g ∙ ap (λ (k : List ℕ). b ∷ k) (drop-drop 1 2 l))
 
-four_fronts : (l : List ℕ) (z a b c : ℕ) → l ≡ z ∷ drop 1 l → drop 1 l ≡ a ∷ drop 1 (drop 1 l) → drop 2 l ≡ b ∷ drop 1 (drop 2 l) → drop 3 l ≡ c ∷ drop 1 (drop 3 l) → l ≡ z ∷ a ∷ b ∷ c ∷ drop 4 l
+four_fronts : (l : List ℕ) (z a b c : ℕ) → l ≡ z ∷ drop 1 l → drop 1 l ≡ a ∷ drop 1 (drop 1 l) →
+    drop 2 l ≡ b ∷ drop 1 (drop 2 l) → drop 3 l ≡ c ∷ drop 1 (drop 3 l) →
+    l ≡ z ∷ a ∷ b ∷ c ∷ drop 4 l
 four_fronts l z a b c e f g h = three_fronts l z a b e f g ∙ ap (λ (k : List ℕ). z ∷ a ∷ b ∷ k) (h ∙ ap (λ (k : List ℕ). c ∷ k) (drop-drop 1 3 l))
 
 -- packet zero at the front, and what it says
@@ -222,13 +245,16 @@ front id n l p h =
     let s = further_said p id n h.shows.valid h.own h.order in
     record { has = h; fits = record { kept = s.kept; fields = s.fields }; quad_is = ap quad_of (sym s.packet) ∙ h.shows.quad_is; more_is = s.more }
 
-reading3 : (standard : Standard) (at id : ℕ) (l : List ℕ) (z : PhyPacket) → ZeroFront id l z → has_more z ≡ false → Reading standard at id l (single at (node3 (zero_in z)))
+reading3 : (standard : Standard) (at id : ℕ) (l : List ℕ) (z : PhyPacket) → ZeroFront id l z →
+    has_more z ≡ false → Reading standard at id l (single at (node3 (zero_in z)))
 reading3 standard at id l z h last =
     let n = node3 (zero_in z) in
     let g : group n id ≡ h.has.quad ∷ [] = group3 (zero_in z) id (sym h.more_is ∙ last) ∙ ap (λ (q : ℕ). q ∷ []) h.quad_is in
     grouped n (form3 (zero_in z) h.fit) (of_either standard n refl refl) (rw g h.has.front) refl
 
-reading11 : (standard : Standard) (at id : ℕ) (l : List ℕ) (z a : PhyPacket) → ZeroFront id l z → has_more z ≡ true → Front id 0 (drop 1 l) a → has_more a ≡ false → Reading standard at id l (single at (node11 (zero_in z) (further_in a)))
+reading11 : (standard : Standard) (at id : ℕ) (l : List ℕ) (z a : PhyPacket) → ZeroFront id l z →
+    has_more z ≡ true → Front id 0 (drop 1 l) a → has_more a ≡ false →
+    Reading standard at id l (single at (node11 (zero_in z) (further_in a)))
 reading11 standard at id l z a h more i last =
     let n = node11 (zero_in z) (further_in a) in
     let g : group n id ≡ h.has.quad ∷ i.has.quad ∷ [] =
@@ -238,7 +264,9 @@ reading11 standard at id l z a h more i last =
     in
     grouped n (form11 (zero_in z) (further_in a) h.fit i.fits) (of_either standard n refl refl) (rw g (two_fronts l h.has.quad i.has.quad h.has.front i.has.front)) refl
 
-reading_three : (standard : Standard) (at id : ℕ) (l : List ℕ) (z a b : PhyPacket) → ZeroFront id l z → has_more z ≡ true → Front id 0 (drop 1 l) a → has_more a ≡ true → Front id 1 (drop 2 l) b → goes_past standard (has_more b) ≡ false →
+reading_three : (standard : Standard) (at id : ℕ) (l : List ℕ) (z a b : PhyPacket) →
+    ZeroFront id l z → has_more z ≡ true → Front id 0 (drop 1 l) a → has_more a ≡ true →
+    Front id 1 (drop 2 l) b → goes_past standard (has_more b) ≡ false →
     Reading standard at id l (single at (node_of_three standard (zero_in z) (further_in a) (further_in b)))
 reading_three standard at id l z a b h more i more_i j last =
     let n = node_of_three standard (zero_in z) (further_in a) (further_in b) in
@@ -251,7 +279,9 @@ reading_three standard at id l z a b h more i more_i j last =
     grouped n (form_three standard (zero_in z) (further_in a) (further_in b) h.fit i.fits j.fits) (of_three standard (zero_in z) (further_in a) (further_in b))
     (rw g (three_fronts l h.has.quad i.has.quad j.has.quad h.has.front i.has.front j.has.front)) refl
 
-reading27 : (at id : ℕ) (l : List ℕ) (z a b c : PhyPacket) → ZeroFront id l z → has_more z ≡ true → Front id 0 (drop 1 l) a → has_more a ≡ true → Front id 1 (drop 2 l) b → has_more b ≡ true → Front id 2 (drop 3 l) c →
+reading27 : (at id : ℕ) (l : List ℕ) (z a b c : PhyPacket) → ZeroFront id l z → has_more z ≡ true →
+    Front id 0 (drop 1 l) a → has_more a ≡ true → Front id 1 (drop 2 l) b → has_more b ≡ true →
+    Front id 2 (drop 3 l) c →
     Reading Ieee1995 at id l (single at (node27 (zero_in z) (further_in a) (further_in b) (further_in c)))
 reading27 at id l z a b c h more i more_i j more_j k =
     let n = node27 (zero_in z) (further_in a) (further_in b) (further_in c) in
@@ -266,7 +296,8 @@ reading27 at id l z a b c h more i more_i j more_j k =
     (rw g (four_fronts l h.has.quad i.has.quad j.has.quad k.has.quad h.has.front i.has.front j.has.front k.has.front)) refl
 
 -- packet n = 2 follows by one standard alone
-pub past_1995 : (P : Standard → Type 0) (standard : Standard) (more : Bool) → goes_past standard more ≡ true → (more ≡ true → P Ieee1995) → P standard
+pub past_1995 : (P : Standard → Type 0) (standard : Standard) (more : Bool) →
+    goes_past standard more ≡ true → (more ≡ true → P Ieee1995) → P standard
 past_1995 P Ieee1995 more e go = go e
 past_1995 P Ieee2000 more e go = absurd cc
 
@@ -288,13 +319,17 @@ behind_zero standard at id l z =
     and_then (packet_at (at + 1) id 1 (drop 1 l)) (λ a. cond (has_more a) (behind_one standard at id l z a) (single at (node11 (zero_in z) (further_in a))))
 
 -- A fault of the packet behind packets that lead on to it.
-stops_behind : (standard : Standard) (at id j place : ℕ) (l ahead : List ℕ) (f : GroupFault) → l ≡ ahead ++ drop j l → AllLeadOn id 0 ahead → length ahead ≡ j → j ≤ most_further standard → place ≡ at + j → packet_at place id j (drop j l) ≡ Err f →
+stops_behind : (standard : Standard) (at id j place : ℕ) (l ahead : List ℕ) (f : GroupFault) →
+    l ≡ ahead ++ drop j l → AllLeadOn id 0 ahead → length ahead ≡ j → j ≤ most_further standard →
+    place ≡ at + j → packet_at place id j (drop j l) ≡ Err f →
     0 < length l → GroupRefused standard at id l f
 stops_behind standard at id j place l ahead f parts lead count few is e some =
     refused standard place id j at l ahead (drop j l) f (record { parts = parts; front_leads = lead; few = omega (arith, few, count); place_is = is ∙ ap (λ (k : ℕ). at + k) (sym count) }) count
     (omega (arith, some, ap length parts, length-append ahead (drop j l))) e
 
-fourth : (at id : ℕ) (l : List ℕ) (z a b : PhyPacket) (h : ZeroFront id l z) → has_more z ≡ true → (i : Front id 0 (drop 1 l) a) → has_more a ≡ true → (j : Front id 1 (drop 2 l) b) → has_more b ≡ true →
+fourth : (at id : ℕ) (l : List ℕ) (z a b : PhyPacket) (h : ZeroFront id l z) → has_more z ≡ true →
+    (i : Front id 0 (drop 1 l) a) → has_more a ≡ true → (j : Front id 1 (drop 2 l) b) →
+    has_more b ≡ true →
     (r : Result PhyPacket GroupFault) → packet_at (at + 3) id 3 (drop 3 l) ≡ r →
     Reading Ieee1995 at id l (and_then r (λ c. single at (node27 (zero_in z) (further_in a) (further_in b) (further_in c))))
 fourth at id l z a b h more i more_i j more_j (Ok c) e = reading27 at id l z a b c h more i more_i j more_j (front id 2 (drop 3 l) c (found (at + 3) id 3 (drop 3 l) c e))
@@ -303,7 +338,9 @@ fourth at id l z a b h more i more_i j more_j (Err f) e = stopped f refl
     (three_fronts l h.has.quad i.has.quad j.has.quad h.has.front i.has.front j.has.front)
     ((z, leads id 0 l z h.has more), ((a, leads id 1 (drop 1 l) a i.has more_i), ((b, leads id 2 (drop 2 l) b j.has more_j), tt))) refl (omega arith) refl e)
 
-third : (standard : Standard) (at id : ℕ) (l : List ℕ) (z a : PhyPacket) (h : ZeroFront id l z) → has_more z ≡ true → (i : Front id 0 (drop 1 l) a) → has_more a ≡ true → (r : Result PhyPacket GroupFault) → packet_at (at + 2) id 2 (drop 2 l) ≡ r →
+third : (standard : Standard) (at id : ℕ) (l : List ℕ) (z a : PhyPacket) (h : ZeroFront id l z) →
+    has_more z ≡ true → (i : Front id 0 (drop 1 l) a) → has_more a ≡ true →
+    (r : Result PhyPacket GroupFault) → packet_at (at + 2) id 2 (drop 2 l) ≡ r →
     Reading standard at id l (and_then r (λ b. cond (goes_past standard (has_more b)) (behind_two at id l z a b)
     (single at (node_of_three standard (zero_in z) (further_in a) (further_in b)))))
 third standard at id l z a h more i more_i (Ok b) e =
@@ -317,7 +354,8 @@ third standard at id l z a h more i more_i (Err f) e = stopped f refl
     (two_fronts l h.has.quad i.has.quad h.has.front i.has.front)
     ((z, leads id 0 l z h.has more), ((a, leads id 1 (drop 1 l) a i.has more_i), tt)) refl (most_two standard) refl e)
 
-second : (standard : Standard) (at id : ℕ) (l : List ℕ) (z : PhyPacket) (h : ZeroFront id l z) → has_more z ≡ true → (r : Result PhyPacket GroupFault) → packet_at (at + 1) id 1 (drop 1 l) ≡ r →
+second : (standard : Standard) (at id : ℕ) (l : List ℕ) (z : PhyPacket) (h : ZeroFront id l z) →
+    has_more z ≡ true → (r : Result PhyPacket GroupFault) → packet_at (at + 1) id 1 (drop 1 l) ≡ r →
     Reading standard at id l (and_then r (λ a. cond (has_more a) (behind_one standard at id l z a) (single at (node11 (zero_in z) (further_in a)))))
 second standard at id l z h more (Ok a) e =
     let i = front id 0 (drop 1 l) a (found (at + 1) id 1 (drop 1 l) a e) in
@@ -327,7 +365,8 @@ second standard at id l z h more (Ok a) e =
 second standard at id l z h more (Err f) e = stopped f refl
     (stops_behind standard at id 1 (at + 1) l (h.has.quad ∷ []) f h.has.front ((z, leads id 0 l z h.has more), tt) refl (omega (arith, most_two standard)) refl e)
 
-first : (standard : Standard) (at id : ℕ) (l : List ℕ) (r : Result PhyPacket GroupFault) → packet_at at id 0 l ≡ r →
+first : (standard : Standard) (at id : ℕ) (l : List ℕ) (r : Result PhyPacket GroupFault) →
+    packet_at at id 0 l ≡ r →
     Reading standard at id l (and_then r (λ z. cond (has_more z) (behind_zero standard at id l z) (single at (node3 (zero_in z)))))
 first standard at id l (Ok z) e =
     let h = zero_front id l z (found at id 0 l z e) in
@@ -337,6 +376,7 @@ first standard at id l (Ok z) e =
 first standard at id l (Err f) e = stopped f refl
     (stops_behind standard at id 0 at l [] f refl tt refl (omega (arith, most_two standard)) (omega arith) e)
 
-pub reading : (standard : Standard) (at id : ℕ) (l : List ℕ) → Reading standard at id l (read_at standard at id l)
+pub reading : (standard : Standard) (at id : ℕ) (l : List ℕ) →
+    Reading standard at id l (read_at standard at id l)
 unfolding read_at
 reading standard at id l = first standard at id l (packet_at at id 0 l) refl

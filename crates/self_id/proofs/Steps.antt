@@ -12,7 +12,8 @@ pub data TakenAs {A : Type 0} (r : Result PhyPacket GroupFault) (part : PhyPacke
   whole : (p : PhyPacket) → r ≡ Ok p → a ≡ Ok (part p) → TakenAs r part a
   fault : (f : GroupFault) → r ≡ Err f → a ≡ Err f → TakenAs r part a
 
-last_test : {A : Type 0} (v : Bool) (d : PhyPacket → Bool) (p : PhyPacket) (f : GroupFault) (part : PhyPacket → A) → d p ≡ v → TakenAs (cond (d p) (Ok p) (Err f)) part (cond (d p) (Ok (part p)) (Err f))
+last_test : {A : Type 0} (v : Bool) (d : PhyPacket → Bool) (p : PhyPacket) (f : GroupFault) (part : PhyPacket → A) →
+    d p ≡ v → TakenAs (cond (d p) (Ok p) (Err f)) part (cond (d p) (Ok (part p)) (Err f))
 last_test true d p f part e = whole p (rw e refl) (rw e refl)
 last_test false d p f part e = fault f (rw e refl) (rw e refl)
 
@@ -23,7 +24,8 @@ tests true false d p f g h part = fault g refl refl
 tests false c d p f g h part = fault h refl refl
 
 -- a packet at a place of a list
-pub owned_here : (l : List ℕ) (at id q : ℕ) → at < length l → get_or l at 0 ≡ q → owned_at at id (drop at l) ≡ owned at id (packet_of q)
+pub owned_here : (l : List ℕ) (at id q : ℕ) → at < length l → get_or l at 0 ≡ q →
+    owned_at at id (drop at l) ≡ owned at id (packet_of q)
 unfolding owned_at
 owned_here l at id q lt is = rw (drop-cons l at 0, is) refl
 

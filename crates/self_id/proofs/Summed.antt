@@ -15,14 +15,18 @@ pub record Summed (ports : List PortStatus) (i value : ℕ) : Type 0 where
 pub start : (ports : List PortStatus) → Summed ports 0 0
 start ports = record { whole = omega arith; small = omega arith }
 
-next_whole : (rest ports : List PortStatus) (i value : ℕ) (p : PortStatus) (s : ℕ) → drop i ports ≡ p ∷ rest → status_bits p ≡ s → value * 2 ^ (2 * length (p ∷ rest)) + fields (p ∷ rest) ≡ fields ports →
+next_whole : (rest ports : List PortStatus) (i value : ℕ) (p : PortStatus) (s : ℕ) →
+    drop i ports ≡ p ∷ rest → status_bits p ≡ s →
+    value * 2 ^ (2 * length (p ∷ rest)) + fields (p ∷ rest) ≡ fields ports →
     (value * 4 + s) * 2 ^ (2 * length rest) + fields rest ≡ fields ports
 next_whole rest ports i value p s is bits e =
     let w : 2 ^ (2 * length (p ∷ rest)) ≡ 4 * 2 ^ (2 * length rest) = wider (length rest) in
     let e' : value * (4 * 2 ^ (2 * length rest)) + (s * 2 ^ (2 * length rest) + fields rest) ≡ fields ports = rw (w, bits) at e in
     grind (arith, e')
 
-pub next : (ports : List PortStatus) (i value : ℕ) (p : PortStatus) (s : ℕ) → i < length ports → drop i ports ≡ p ∷ drop (i + 1) ports → status_bits p ≡ s → s < 4 → Summed ports i value → Summed ports (i + 1) (value * 4 + s)
+pub next : (ports : List PortStatus) (i value : ℕ) (p : PortStatus) (s : ℕ) → i < length ports →
+    drop i ports ≡ p ∷ drop (i + 1) ports → status_bits p ≡ s → s < 4 → Summed ports i value →
+    Summed ports (i + 1) (value * 4 + s)
 next ports i value p s lt is bits s_small h =
     let len : length ports - i ≡ length (p ∷ drop (i + 1) ports) = sym (length-drop i ports) ∙ ap length is in
     let len' : length ports - (i + 1) ≡ length (drop (i + 1) ports) = sym (length-drop (i + 1) ports) in
@@ -34,12 +38,14 @@ next ports i value p s lt is bits s_small h =
       small = let w : 2 ^ (2 * (i + 1)) ≡ 4 * 2 ^ (2 * i) = ap (λ (k : ℕ). 2 ^ (2 * k)) (add-one i) ∙ wider i in rw w (omega (arith, h.small));
     }
 
-pub room : (ports : List PortStatus) (i value s : ℕ) → i < length ports → length ports ≤ 8 → Summed ports i value → s < 4 → value * 4 + s < 65536
+pub room : (ports : List PortStatus) (i value s : ℕ) → i < length ports → length ports ≤ 8 →
+    Summed ports i value → s < 4 → value * 4 + s < 65536
 room ports i value s lt few h small =
     let bound : 2 ^ (2 * i) ≤ 2 ^ 14 = pow_mono {i = 2 * i} {j = 14} (omega arith) in
     omega (arith, h.small, bound)
 
-pub end : (ports : List PortStatus) (value : ℕ) → Summed ports (length ports) value → value ≡ fields ports
+pub end : (ports : List PortStatus) (value : ℕ) → Summed ports (length ports) value →
+    value ≡ fields ports
 end ports value h =
     let none : length ports - length ports ≡ 0 = omega arith in
     let e : value * 2 ^ (2 * 0) + fields [] ≡ fields ports = ap (λ (k : ℕ). value * 2 ^ (2 * k) + fields []) (sym none) ∙ ap (λ (l : List PortStatus). value * 2 ^ (2 * (length ports - length ports)) + fields l) (sym (drop-length ports)) ∙ h.whole in

@@ -25,11 +25,13 @@ pub record Found (id j : ℕ) (l : List ℕ) (p : PhyPacket) : Type 0 where
   pub own : owner p ≡ id
   pub order : is_in_order j p ≡ true
 
-if_ok : {C : Type 0} (b : Bool) (x : Result PhyPacket GroupFault) (f : GroupFault) (p : PhyPacket) → cond b x (Err f) ≡ Ok p → (b ≡ true → x ≡ Ok p → C) → C
+if_ok : {C : Type 0} (b : Bool) (x : Result PhyPacket GroupFault) (f : GroupFault) (p : PhyPacket) →
+    cond b x (Err f) ≡ Ok p → (b ≡ true → x ≡ Ok p → C) → C
 if_ok true x f p e go = go refl e
 if_ok false x f p e go = absurd cc
 
-if_err : {C : Type 0} (b : Bool) (x : Result PhyPacket GroupFault) (f g : GroupFault) → cond b x (Err f) ≡ Err g → (b ≡ true → x ≡ Err g → C) → (b ≡ false → f ≡ g → C) → C
+if_err : {C : Type 0} (b : Bool) (x : Result PhyPacket GroupFault) (f g : GroupFault) →
+    cond b x (Err f) ≡ Err g → (b ≡ true → x ≡ Err g → C) → (b ≡ false → f ≡ g → C) → C
 if_err true x f g e t u = t refl e
 if_err false x f g e t u = u refl cc
 
@@ -49,13 +51,15 @@ found at id j (q ∷ qs) p e =
     (record { quad = q; front = refl; shows = shows-self_id q self; self = self; own = eqb-true _ _ own; order = order }))))
 
 -- a packet that is in its place is taken
-pub takes : (at id j q : ℕ) (qs : List ℕ) (p : PhyPacket) → Shows q p → is_self_id p ≡ true → owner p ≡ id → is_in_order j p ≡ true → packet_at at id j (q ∷ qs) ≡ Ok p
+pub takes : (at id j q : ℕ) (qs : List ℕ) (p : PhyPacket) → Shows q p → is_self_id p ≡ true →
+    owner p ≡ id → is_in_order j p ≡ true → packet_at at id j (q ∷ qs) ≡ Ok p
 unfolding packet_at
 takes at id j q qs p shows self own order = rw (packet-shown q p shows, self, eq-eqb _ _ own, order) refl
 
 -- ---- refusals
 
-refused_packet : (standard : Standard) (at id j : ℕ) (start : ℕ) (l front : List ℕ) (q : ℕ) (qs : List ℕ) (f : GroupFault) → LeadsTo standard id start l front (q ∷ qs) at → length front ≡ j →
+refused_packet : (standard : Standard) (at id j : ℕ) (start : ℕ) (l front : List ℕ) (q : ℕ) (qs : List ℕ) (f : GroupFault) →
+    LeadsTo standard id start l front (q ∷ qs) at → length front ≡ j →
     taken at id j (packet_of q) ≡ Err f → GroupRefused standard start id l f
 refused_packet standard at id j start l front q qs f leads count e =
     let x = packet_of q in
@@ -69,7 +73,9 @@ refused_packet standard at id j start l front q qs f leads count e =
     (λ self same. subst P same (front, qs, q, leads, λ p shows. ap is_self_id (sym (packet-shown q p shows)) ∙ self))
 
 -- what a list that leads to here is refused for
-pub refused : (standard : Standard) (at id j : ℕ) (start : ℕ) (l front rest : List ℕ) (f : GroupFault) → LeadsTo standard id start l front rest at → length front ≡ j → (0 < length front + length rest) →
+pub refused : (standard : Standard) (at id j : ℕ) (start : ℕ) (l front rest : List ℕ) (f : GroupFault) →
+    LeadsTo standard id start l front rest at → length front ≡ j →
+    (0 < length front + length rest) →
     packet_at at id j rest ≡ Err f → GroupRefused standard start id l f
 unfolding packet_at
 refused standard at id j start l front [] f leads count some e =
@@ -82,10 +88,13 @@ pub refuses_end : (at id j : ℕ) → packet_at at id j [] ≡ Err (Cut at)
 unfolding packet_at
 refuses_end at id j = refl
 
-refuses_other' : (at id j : ℕ) (x : PhyPacket) → is_self_id x ≡ false → taken at id j x ≡ Err (NotSelfId at)
+refuses_other' : (at id j : ℕ) (x : PhyPacket) → is_self_id x ≡ false →
+    taken at id j x ≡ Err (NotSelfId at)
 refuses_other' at id j x e = rw e refl
 
-pub refuses_other : (at id j q : ℕ) (qs : List ℕ) → ((p : PhyPacket) → Shows q p → is_self_id p ≡ false) → packet_at at id j (q ∷ qs) ≡ Err (NotSelfId at)
+pub refuses_other : (at id j q : ℕ) (qs : List ℕ) →
+    ((p : PhyPacket) → Shows q p → is_self_id p ≡ false) →
+    packet_at at id j (q ∷ qs) ≡ Err (NotSelfId at)
 unfolding packet_at
 refuses_other at id j q qs not_self =
     let go : (b : Bool) → is_self_id (packet_of q) ≡ b → is_self_id (packet_of q) ≡ false =
@@ -98,11 +107,14 @@ refuses_other at id j q qs not_self =
 not_eqb : (a b : ℕ) → a ≢ b → eqb a b ≡ false
 not_eqb a b ne = elim (eqb a b) as (λ (v : Bool). eqb a b ≡ v → v ≡ false) [ true ↦ λ e. absurd (ne (eqb-true a b e)) | false ↦ λ e. refl ] refl
 
-pub refuses_owner : (at id j q : ℕ) (qs : List ℕ) (p : PhyPacket) → Shows q p → is_self_id p ≡ true → owner p ≢ id → packet_at at id j (q ∷ qs) ≡ Err (WrongId at (owner p) id)
+pub refuses_owner : (at id j q : ℕ) (qs : List ℕ) (p : PhyPacket) → Shows q p →
+    is_self_id p ≡ true → owner p ≢ id → packet_at at id j (q ∷ qs) ≡ Err (WrongId at (owner p) id)
 unfolding packet_at
 refuses_owner at id j q qs p shows self ne = rw (packet-shown q p shows, self, not_eqb (owner p) id ne) refl
 
-pub refuses_order : (at id j q : ℕ) (qs : List ℕ) (p : PhyPacket) → Shows q p → is_self_id p ≡ true → owner p ≡ id → is_in_order j p ≡ false → packet_at at id j (q ∷ qs) ≡ Err (BadOrder at)
+pub refuses_order : (at id j q : ℕ) (qs : List ℕ) (p : PhyPacket) → Shows q p →
+    is_self_id p ≡ true → owner p ≡ id → is_in_order j p ≡ false →
+    packet_at at id j (q ∷ qs) ≡ Err (BadOrder at)
 unfolding packet_at
 refuses_order at id j q qs p shows self own order = rw (packet-shown q p shows, self, eq-eqb _ _ own, order) refl
 
@@ -122,7 +134,8 @@ pub record ZeroSaid (id : ℕ) (p : PhyPacket) (z : ZeroPart) : Type 0 where
   pub packet : p ≡ zero_of id z
   pub more : has_more p ≡ z.more
 
-pub zero_said : (p : PhyPacket) (id : ℕ) → IsValid p → owner p ≡ id → is_in_order 0 p ≡ true → ZeroSaid id p (zero_in p)
+pub zero_said : (p : PhyPacket) (id : ℕ) → IsValid p → owner p ≡ id → is_in_order 0 p ≡ true →
+    ZeroSaid id p (zero_in p)
 zero_said (SelfZero i l g s d c w p0 p1 p2 n m) id v own order = record {
   fit = record { gap = v.fit.1.1.1.1.0; speed = v.fit.1.1.1.1.1.0; delay = v.fit.1.1.1.1.1.1.0; power = v.fit.1.1.1.1.1.1.1.1.0 };
   packet = rw (status_bits-status_of p0 v.fit.1.1.1.1.1.1.1.1.1.0, status_bits-status_of p1 v.fit.1.1.1.1.1.1.1.1.1.1.0, status_bits-status_of p2 v.fit.1.1.1.1.1.1.1.1.1.1.1.0)
@@ -141,7 +154,8 @@ pub record FurtherSaid (id n : ℕ) (p : PhyPacket) (a : FurtherPart) : Type 0 w
   pub packet : p ≡ further_of id n a
   pub more : has_more p ≡ a.more
 
-pub further_said : (p : PhyPacket) (id n : ℕ) → IsValid p → owner p ≡ id → is_in_order (suc n) p ≡ true → FurtherSaid id n p (further_in p)
+pub further_said : (p : PhyPacket) (id n : ℕ) → IsValid p → owner p ≡ id →
+    is_in_order (suc n) p ≡ true → FurtherSaid id n p (further_in p)
 further_said (SelfMore i k kept fields r m) id n v own order = record {
   kept = v.fit.1.1.1.1.0;
   fields = v.fit.1.1.1.1.1.0;

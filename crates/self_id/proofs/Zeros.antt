@@ -11,7 +11,8 @@ use Rattle.self_id.proofs.Again.{group3, group11, group16, group19, group27, eig
 use Rattle.self_id.proofs.Sound.{three, eleven, sixteen, nineteen, full, width_of, bit_below}
 
 -- the marks of a quadlet that shows packet zero, and of one that shows a further packet
-zero_marks : (q id l g s d c w p0 p1 p2 i m : ℕ) → id < 64 → l < 2 → g < 64 → s < 4 → d < 4 → c < 2 → w < 8 → p0 < 4 → p1 < 4 → p2 < 4 → i < 2 → m < 2 →
+zero_marks : (q id l g s d c w p0 p1 p2 i m : ℕ) → id < 64 → l < 2 → g < 64 → s < 4 → d < 4 →
+    c < 2 → w < 8 → p0 < 4 → p1 < 4 → p2 < 4 → i < 2 → m < 2 →
     q ≡ 2 * 2 ^ 30 + id * 2 ^ 24 + l * 2 ^ 22 + g * 2 ^ 16 + s * 2 ^ 14 + d * 2 ^ 12 + c * 2 ^ 11 + w * 2 ^ 8 + p0 * 2 ^ 6 + p1 * 2 ^ 4 + p2 * 2 ^ 2 + i * 2 + m →
     (q / 2 ^ 30 ≡ 2) × (q / 2 ^ 23 % 2 ≡ 0)
 zero_marks q id l g s d c w p0 p1 p2 i m b0 b1 b2 b3 b4 b5 b6 b7 b8 b9 b10 b11 e = (omega arith, omega arith)
@@ -30,20 +31,24 @@ and_false false = refl
 is_further : (q : ℕ) → q / 2 ^ 23 % 2 ≡ 1 → is_packet_zero q ≡ false
 is_further q mark = rw mark (and_false (eqb (q / 2 ^ 30) 2))
 
-pub zero_shows : (n : Node) (id : ℕ) (m : Bool) → FitBits n.attrs → id < 64 → is_packet_zero (quad_of (zero_packet n id m)) ≡ true
+pub zero_shows : (n : Node) (id : ℕ) (m : Bool) → FitBits n.attrs → id < 64 →
+    is_packet_zero (quad_of (zero_packet n id m)) ≡ true
 zero_shows n id m fits lt =
     let q = quad_of (zero_packet n id m) in
     let h = zero_marks q id (bit n.attrs.link) n.attrs.gap n.attrs.speed n.attrs.delay (bit n.attrs.contender) n.attrs.power (field n.ports 0) (field n.ports 1) (field n.ports 2) (bit n.attrs.initiated) (bit m)
     lt (bit_below n.attrs.link) fits.gap fits.speed fits.delay (bit_below n.attrs.contender) fits.power (field_below n.ports 0) (field_below n.ports 1) (field_below n.ports 2) (bit_below n.attrs.initiated) (bit_below m) (omega arith) in
     is_zero q h.0 h.1
 
-pub eight_shows : (n : Node) (id number kept : ℕ) (m : Bool) → id < 64 → number < 8 → kept < 8 → 11 + 8 * number ≤ length n.ports → is_packet_zero (quad_of (eight_packet n id number kept m)) ≡ false
+pub eight_shows : (n : Node) (id number kept : ℕ) (m : Bool) → id < 64 → number < 8 → kept < 8 →
+    11 + 8 * number ≤ length n.ports →
+    is_packet_zero (quad_of (eight_packet n id number kept m)) ≡ false
 eight_shows n id number kept m lt few small some =
     let q = quad_of (eight_packet n id number kept m) in
     let f = fields (take 8 (drop (3 + 8 * number) n.ports)) in
     is_further q (more_mark q id number (kept / 2) f (bit (eqb (kept % 2) 1)) (bit m) lt few (omega arith) (eight_small n (3 + 8 * number) (omega arith)) (bit_below (eqb (kept % 2) 1)) (bit_below m) (omega arith))
 
-pub five_shows : (n : Node) (id : ℕ) → id < 64 → n.kept_b < 1024 → fields (drop 11 n.ports) < 2 ^ 10 → is_packet_zero (quad_of (five_packet n id)) ≡ false
+pub five_shows : (n : Node) (id : ℕ) → id < 64 → n.kept_b < 1024 →
+    fields (drop 11 n.ports) < 2 ^ 10 → is_packet_zero (quad_of (five_packet n id)) ≡ false
 five_shows n id lt kept small =
     let q = quad_of (five_packet n id) in
     let f = fields (drop 11 n.ports) * 2 ^ 6 + n.kept_b / 2 ^ 2 % 2 ^ 6 in
@@ -81,7 +86,8 @@ unfolding zeros_in NoneOf
 none_of [] h = refl
 none_of (q ∷ qs) h = rw h.0 (none_of qs h.1)
 
-one_of : (l : List ℕ) (q : ℕ) (qs : List ℕ) → l ≡ q ∷ qs → is_packet_zero q ≡ true → NoneOf qs → node_count l ≡ 1
+one_of : (l : List ℕ) (q : ℕ) (qs : List ℕ) → l ≡ q ∷ qs → is_packet_zero q ≡ true → NoneOf qs →
+    node_count l ≡ 1
 unfolding zeros_in
 one_of l q qs e z h = ap node_count e ∙ sym (counted (q ∷ qs)) ∙ rw (z, none_of qs h) refl
 

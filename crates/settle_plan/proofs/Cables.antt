@@ -22,10 +22,12 @@ Agree N None None = Unit {0}
 -- ---- lengths
 
 mutual
-  pub so-many : (c : Wiring) (label : ℕ → Label) (x : ℕ) (fr : Option ℕ) (t : Tree) → Sees c label x fr t → length (numbers c x t) ≡ length (walk t)
+  pub so-many : (c : Wiring) (label : ℕ → Label) (x : ℕ) (fr : Option ℕ) (t : Tree) →
+      Sees c label x fr t → length (numbers c x t) ≡ length (walk t)
   so-many c label x fr (branch a s) h = length-append (numbers_below c (ports_of c x) s) (x ∷ []) ∙ omega (arith, so-many-below c label fr 0 (ports_of c x) s h.2, length-walk a s)
 
-  so-many-below : (c : Wiring) (label : ℕ → Label) (fr : Option ℕ) (q : ℕ) (row : List (Option End)) (s : Slots) → SeesFrom c label fr q row s → length (numbers_below c row s) ≡ length (walk_below s)
+  so-many-below : (c : Wiring) (label : ℕ → Label) (fr : Option ℕ) (q : ℕ) (row : List (Option End)) (s : Slots) →
+      SeesFrom c label fr q row s → length (numbers_below c row s) ≡ length (walk_below s)
   so-many-below c label fr q [] no_more h = refl
   so-many-below c label fr q [] (absent s) h = so-many-below c label fr (q + 1) [] s h
   so-many-below c label fr q (None ∷ row) (unplugged s) h = so-many-below c label fr (q + 1) row s h
@@ -35,7 +37,8 @@ mutual
   so-many-below c label fr q row s h = absurd h
 
 -- the last of a tree's nodes is its root
-root-last : (c : Wiring) (label : ℕ → Label) (x : ℕ) (fr : Option ℕ) (t : Tree) → Sees c label x fr t → (k : ℕ) → k + 1 ≡ length (walk t) → slice_get (numbers c x t) k ≡ Some x
+root-last : (c : Wiring) (label : ℕ → Label) (x : ℕ) (fr : Option ℕ) (t : Tree) →
+    Sees c label x fr t → (k : ℕ) → k + 1 ≡ length (walk t) → slice_get (numbers c x t) k ≡ Some x
 root-last c label x fr (branch a s) h k e = last (numbers_below c (ports_of c x) s) x k (omega (arith, e, length-walk a s, so-many-below c label fr 0 (ports_of c x) s h.2))
 
 -- ---- slots
@@ -47,10 +50,14 @@ Up c N x parent fr = (p : ℕ) → fr ≡ Some p → (end : End) × (far c (end_
 abbrev Stands : List ℕ → ℕ → List ℕ → Type 0
 Stands N o ns = (k m y : ℕ) → m ≡ o + k → slice_get ns k ≡ Some y → slice_get N m ≡ Some y
 
-agree-same : (N : List ℕ) (r : Option (Option ℕ)) (a b : Option End) → a ≡ b → Agree N r b → Agree N r a
+agree-same : (N : List ℕ) (r : Option (Option ℕ)) (a b : Option End) → a ≡ b → Agree N r b →
+    Agree N r a
 agree-same N r a b e h = subst (Agree N r) (sym e) h
 
-slots-agree : (c : Wiring) (label : ℕ → Label) (N : List ℕ) (x : ℕ) (fr : Option ℕ) (parent o q : ℕ) (row : List (Option End)) (s : Slots) → SeesFrom c label fr q row s → RowAt c x q row → Up c N x parent fr → Stands N o (numbers_below c row s) → (p m : ℕ) → m ≡ q + p → Agree N (slice_get (slot_ends o parent s) p) (far c (end_at x m))
+slots-agree : (c : Wiring) (label : ℕ → Label) (N : List ℕ) (x : ℕ) (fr : Option ℕ) (parent o q : ℕ) (row : List (Option End)) (s : Slots) →
+    SeesFrom c label fr q row s → RowAt c x q row → Up c N x parent fr →
+    Stands N o (numbers_below c row s) → (p m : ℕ) → m ≡ q + p →
+    Agree N (slice_get (slot_ends o parent s) p) (far c (end_at x m))
 slots-agree c label N x fr parent o q [] no_more h row above stands p m e = agree-same N None (far c (end_at x m)) None (row p m e) tt
 slots-agree c label N x fr parent o q [] (absent s) h row above stands zero m e = agree-same N (Some None) (far c (end_at x m)) None (row 0 m e) tt
 slots-agree c label N x fr parent o q [] (absent s) h row above stands (suc p) m e = slots-agree c label N x fr parent o (q + 1) [] s h (λ i n f. row (suc i) n (omega (arith, f))) above stands p m (omega (arith, e))
@@ -81,7 +88,8 @@ slots-agree c label N x fr parent o q row s h at above stands p m e = absurd h
 abbrev pub Leads : Wiring → List ℕ → ℕ → Ends → Type 0
 Leads c N m e = (y : ℕ) × (slice_get N m ≡ Some y) × ((p : ℕ) → Agree N (slice_get e p) (far c (end_at y p)))
 
-split : {X : Type 0} → (xs ys : List X) (i : ℕ) (x : X) → slice_get (xs ++ ys) i ≡ Some x → (slice_get xs i ≡ Some x) ⊎ ((j : ℕ) × (i ≡ length xs + j) × (slice_get ys j ≡ Some x))
+split : {X : Type 0} → (xs ys : List X) (i : ℕ) (x : X) → slice_get (xs ++ ys) i ≡ Some x →
+    (slice_get xs i ≡ Some x) ⊎ ((j : ℕ) × (i ≡ length xs + j) × (slice_get ys j ≡ Some x))
 split [] ys i x e = inr (i, omega arith, e)
 split (z ∷ xs) ys zero x e = inl e
 split (z ∷ xs) ys (suc i) x e = elim (split xs ys i x e) [
@@ -94,7 +102,9 @@ only y zero x e = (refl, cc)
 only y (suc j) x e = absurd cc
 
 mutual
-  pub tree-leads : (c : Wiring) (label : ℕ → Label) (N : List ℕ) (x : ℕ) (fr : Option ℕ) (parent o : ℕ) (t : Tree) → IsCabling c → Sees c label x fr t → Up c N x parent fr → Stands N o (numbers c x t) → (i m : ℕ) (e : Ends) → m ≡ o + i → slice_get (ends_from o parent t) i ≡ Some e → Leads c N m e
+  pub tree-leads : (c : Wiring) (label : ℕ → Label) (N : List ℕ) (x : ℕ) (fr : Option ℕ) (parent o : ℕ) (t : Tree) →
+      IsCabling c → Sees c label x fr t → Up c N x parent fr → Stands N o (numbers c x t) →
+      (i m : ℕ) (e : Ends) → m ≡ o + i → slice_get (ends_from o parent t) i ≡ Some e → Leads c N m e
   tree-leads c label N x fr parent o (branch a s) is h above stands i m e eq at =
       let below : Stands N o (numbers_below c (ports_of c x) s) = λ k n y f g. stands k n y f (slice_get-left (numbers_below c (ports_of c x) s) (x ∷ []) k y g) in
       let own : (n : ℕ) → n ≡ o + length (walk_below s) → slice_get N n ≡ Some x = λ n f. stands (length (walk_below s)) n x f (last (numbers_below c (ports_of c x) s) x (length (walk_below s)) (sym (so-many-below c label fr 0 (ports_of c x) s h.2))) in
@@ -105,7 +115,10 @@ mutual
             (x, own m (omega (arith, eq, right.1, one.0, length-ends_below o (o + length (walk_below s)) s)), λ p. subst (λ (f : Ends). Agree N (slice_get f p) (far c (end_at x p))) one.1 (slots-agree c label N x fr parent o 0 (ports_of c x) s h.2 (row_all c x) above below p p (omega arith)))
       ]
 
-  below-leads : (c : Wiring) (label : ℕ → Label) (N : List ℕ) (x : ℕ) (fr : Option ℕ) (me o q : ℕ) (row : List (Option End)) (s : Slots) → IsCabling c → SeesFrom c label fr q row s → RowAt c x q row → slice_get N me ≡ Some x → Stands N o (numbers_below c row s) → (i m : ℕ) (e : Ends) → m ≡ o + i → slice_get (ends_below o me s) i ≡ Some e → Leads c N m e
+  below-leads : (c : Wiring) (label : ℕ → Label) (N : List ℕ) (x : ℕ) (fr : Option ℕ) (me o q : ℕ) (row : List (Option End)) (s : Slots) →
+      IsCabling c → SeesFrom c label fr q row s → RowAt c x q row → slice_get N me ≡ Some x →
+      Stands N o (numbers_below c row s) → (i m : ℕ) (e : Ends) → m ≡ o + i →
+      slice_get (ends_below o me s) i ≡ Some e → Leads c N m e
   below-leads c label N x fr me o q [] no_more is h row own stands i m e eq at = absurd cc
   below-leads c label N x fr me o q [] (absent s) is h row own stands i m e eq at = below-leads c label N x fr me o (q + 1) [] s is h (λ k n f. row (suc k) n (omega (arith, f))) own stands i m e eq at
   below-leads c label N x fr me o q (None ∷ rest) (unplugged s) is h row own stands i m e eq at = below-leads c label N x fr me o (q + 1) rest s is h (row_tail c x q None rest row) own stands i m e eq at

@@ -39,7 +39,8 @@ AllSame N M [] (y ∷ ys) = ⊥
 AllSame N M (x ∷ xs) [] = ⊥
 AllSame N M (x ∷ xs) (y ∷ ys) = Same N M x y × AllSame N M xs ys
 
-new-too : (N M : List ℕ) (a b : ℕ) (xs ys : List ℕ) → Once N → Same N M a b → AllSame N M xs ys → IsNew a xs → IsNew b ys
+new-too : (N M : List ℕ) (a b : ℕ) (xs ys : List ℕ) → Once N → Same N M a b → AllSame N M xs ys →
+    IsNew a xs → IsNew b ys
 new-too N M a b [] [] o s all new = tt
 new-too N M a b [] (y ∷ ys) o s all new = absurd all
 new-too N M a b (x ∷ xs) [] o s all new = absurd all
@@ -68,12 +69,14 @@ module _
   leads-u i e at = tree-leads c other M next None 63 0 u is k (λ p f. absurd cc) (λ j m y f g. ap (slice_get M) (omega (arith, f)) ∙ g) i i e (omega arith) at
 
   -- a slot that leads to a node has a cable
-  cable-of : (r : Option End) (j : ℕ) → Agree N (Some (Some j)) r → (end : End) × (r ≡ Some end) × (slice_get N j ≡ Some end.node)
+  cable-of : (r : Option End) (j : ℕ) → Agree N (Some (Some j)) r →
+      (end : End) × (r ≡ Some end) × (slice_get N j ≡ Some end.node)
   cable-of (Some end) j a = (end, refl, a)
   cable-of None j a = absurd a
 
   -- and a cable has a slot
-  slot-of : (r : Option (Option ℕ)) (end : End) → Agree M r (Some end) → (j : ℕ) × (r ≡ Some (Some j)) × (slice_get M j ≡ Some end.node)
+  slot-of : (r : Option (Option ℕ)) (end : End) → Agree M r (Some end) →
+      (j : ℕ) × (r ≡ Some (Some j)) × (slice_get M j ≡ Some end.node)
   slot-of (Some (Some j)) end a = (j, refl, a)
   slot-of (Some None) end a = absurd a
   slot-of None end a = absurd a
@@ -92,7 +95,8 @@ module _
       let slot = slot-of (slice_get e joined.slot) cable.0 (subst (λ (r : Option End). Agree M (slice_get e joined.slot) r) here (m.2 joined.slot)) in
       (slot.0, record { slot = joined.slot; far = record { of_node = e; node = at; slot_end = slot.1 } }, (cable.0.node, cable.2, slot.2))
 
-  path-too : (a to b : ℕ) (ids : List ℕ) → Same N M a b → IsPath t a to ids → (end : ℕ) × (others : List ℕ) × IsPath u b end others × AllSame N M ids others × (length others ≡ length ids)
+  path-too : (a to b : ℕ) (ids : List ℕ) → Same N M a b → IsPath t a to ids →
+      (end : ℕ) × (others : List ℕ) × IsPath u b end others × AllSame N M ids others × (length others ≡ length ids)
   path-too a to b [] s path = (b, [], refl, tt, refl)
   path-too a to b (j ∷ ids) s (joined, new, path) =
       let i = joined-too a b j s joined in

@@ -24,7 +24,10 @@ record BehindS (from me : ℕ) (s : Slots) (x y : ℕ) : Type 0 where
   behind : x < g
 
 -- of the node whose slots these are
-apart_top : (from me parent : ℕ) (s : Slots) (a b x y : ℕ) → slice_get (slot_ends from parent s) a ≡ Some (Some x) → slice_get (slot_ends from parent s) b ≡ Some (Some y) → x < y → y < parent → BehindS from me s x y
+apart_top : (from me parent : ℕ) (s : Slots) (a b x y : ℕ) →
+    slice_get (slot_ends from parent s) a ≡ Some (Some x) →
+    slice_get (slot_ends from parent s) b ≡ Some (Some y) → x < y → y < parent →
+    BehindS from me s x y
 apart_top from me parent no_more a b x y ha hb lt room = absurd cc
 apart_top from me parent (absent s) zero b x y ha hb lt room = absurd cc
 apart_top from me parent (absent s) (suc a) zero x y ha hb lt room = absurd cc
@@ -61,7 +64,9 @@ apart_top from me parent (down t s) (suc a) (suc b) x y ha hb lt room =
     record { j = length (walk t) + r.j; e = r.e; g = r.g; node = inr (r.j, refl, r.node); at = omega (arith, r.at); behind = r.behind }
 
 mutual
-  pub apartT : (from parent : ℕ) (t : Tree) (i : ℕ) (e : Ends) (f a b x y : ℕ) → from + length (walk t) ≤ parent → NodeT from parent t i e f → slice_get e a ≡ Some (Some x) → slice_get e b ≡ Some (Some y) →
+  pub apartT : (from parent : ℕ) (t : Tree) (i : ℕ) (e : Ends) (f a b x y : ℕ) →
+      from + length (walk t) ≤ parent → NodeT from parent t i e f → slice_get e a ≡ Some (Some x) →
+      slice_get e b ≡ Some (Some y) →
       x < y → y < from + i → BehindT from parent t x y
   apartT from parent (branch l s) i e f a b x y room h ha hb lt before =
       let me = from + length (walk_below s) in
@@ -76,7 +81,9 @@ mutual
       record { j = r.j; e = r.e; g = r.g; node = inr r.node; at = r.at; behind = r.behind })
       h
 
-  apartS : (from me : ℕ) (s : Slots) (i : ℕ) (e : Ends) (f a b x y : ℕ) → from + length (walk_below s) ≤ me → NodeS from me s i e f → slice_get e a ≡ Some (Some x) → slice_get e b ≡ Some (Some y) →
+  apartS : (from me : ℕ) (s : Slots) (i : ℕ) (e : Ends) (f a b x y : ℕ) →
+      from + length (walk_below s) ≤ me → NodeS from me s i e f → slice_get e a ≡ Some (Some x) →
+      slice_get e b ≡ Some (Some y) →
       x < y → y < from + i → BehindS from me s x y
   apartS from me no_more i e f a b x y room h ha hb lt before = absurd h
   apartS from me (absent s) i e f a b x y room h ha hb lt before =

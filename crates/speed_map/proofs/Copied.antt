@@ -8,19 +8,22 @@ use Rattle.speed_map.specs.codings.Sweep.{Written}
 
 -- ---- a list with a part replaced
 
-mid_below : (a k : ℕ) (xs ys : List ℕ) (i : ℕ) → i < a → a ≤ length xs → get_or (put_mid a k xs ys) i 0 ≡ get_or xs i 0
+mid_below : (a k : ℕ) (xs ys : List ℕ) (i : ℕ) → i < a → a ≤ length xs →
+    get_or (put_mid a k xs ys) i 0 ≡ get_or xs i 0
 mid_below a k xs ys i lt le =
     let long : length (take a xs) ≡ a = length-take-le a xs le in
     get_or_append_left (take a xs) (ys ++ drop k (drop a xs)) 0 i (omega (arith, long, lt)) ∙ get_or-take a xs i 0 lt
 
-mid_in : (a k : ℕ) (xs ys : List ℕ) (i j : ℕ) → i ≡ a + j → j < length ys → a ≤ length xs → get_or (put_mid a k xs ys) i 0 ≡ get_or ys j 0
+mid_in : (a k : ℕ) (xs ys : List ℕ) (i j : ℕ) → i ≡ a + j → j < length ys → a ≤ length xs →
+    get_or (put_mid a k xs ys) i 0 ≡ get_or ys j 0
 mid_in a k xs ys i j at lt le =
     let long : length (take a xs) ≡ a = length-take-le a xs le in
     let back : i - a ≡ j = omega (arith, at) in
     get_or-append_right (take a xs) (ys ++ drop k (drop a xs)) a i 0 long (omega (arith, at))
     ∙ ap (λ (n : ℕ). get_or (ys ++ drop k (drop a xs)) n 0) back ∙ get_or_append_left ys (drop k (drop a xs)) 0 j lt
 
-mid_above : (a k : ℕ) (xs ys : List ℕ) (i : ℕ) → a + k ≤ i → a ≤ length xs → length ys ≡ k → get_or (put_mid a k xs ys) i 0 ≡ get_or xs i 0
+mid_above : (a k : ℕ) (xs ys : List ℕ) (i : ℕ) → a + k ≤ i → a ≤ length xs → length ys ≡ k →
+    get_or (put_mid a k xs ys) i 0 ≡ get_or xs i 0
 mid_above a k xs ys i ge le long =
     let front : length (take a xs) ≡ a = length-take-le a xs le in
     let at : a + (k + (i - a - k)) ≡ i = omega (arith, ge) in
@@ -30,7 +33,8 @@ mid_above a k xs ys i ge le long =
 
 -- ---- a part of a row, written from another row
 
-pub written : (rows row part : List ℕ) (of to low high limit : ℕ) → 64 * of + 64 ≤ length rows → 64 * to + 64 ≤ length rows → low ≤ high → high ≤ 64 →
+pub written : (rows row part : List ℕ) (of to low high limit : ℕ) → 64 * of + 64 ≤ length rows →
+    64 * to + 64 ≤ length rows → low ≤ high → high ≤ 64 →
     row ≡ capped (take (64 * of + 64 - 64 * of) (drop (64 * of) rows)) limit → part ≡ take (high - low) (drop low row) →
     Written rows (put_mid (64 * to + low) (64 * to + high - (64 * to + low)) rows part) of to low high limit
 written rows row part of to low high limit room_of room_to order small row_is part_is =

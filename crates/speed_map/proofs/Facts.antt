@@ -36,12 +36,14 @@ pub same_some : {X : Type 0} (x y : X) → Some x ≡ Some y → x ≡ y
 same_some x y e = cc
 
 -- the end that a slot of a node has
-far_end : (t : Tree) (id slot : ℕ) (r : Option ℕ) (h : NodeAt t id) → Far t id slot r → slice_get h.e slot ≡ Some r
+far_end : (t : Tree) (id slot : ℕ) (r : Option ℕ) (h : NodeAt t id) → Far t id slot r →
+    slice_get h.e slot ≡ Some r
 far_end t id slot r h far =
     let same : far.of_node ≡ h.e = same_some far.of_node h.e (sym far.node ∙ h.ends_are) in
     ap (λ (x : Ends). slice_get x slot) (sym same) ∙ far.slot_end
 
-kin : (t : Tree) (id slot k : ℕ) → id < length (walk t) → Far t id slot (Some k) → Kin 0 63 t id (first_of t id) k
+kin : (t : Tree) (id slot k : ℕ) → id < length (walk t) → Far t id slot (Some k) →
+    Kin 0 63 t id (first_of t id) k
 kin t id slot k lt far = let h = node_at t id lt in kinT 0 63 t id h.e (first_of t id) slot k h.node (far_end t id slot (Some k) h far)
 
 -- one slot has one end
@@ -53,7 +55,8 @@ one_end t id slot q r f g =
 pub one_far : (t : Tree) (id slot j k : ℕ) → Far t id slot (Some j) → Far t id slot (Some k) → j ≡ k
 one_far t id slot j k f g = same_some j k (one_end t id slot (Some j) (Some k) f g)
 
-pub slot_within : (t : Tree) (id slot : ℕ) (r : Option ℕ) (n : Node) → id < length (walk t) → Far t id slot r → slice_get (walk t) id ≡ Some n → slot < length n.ports
+pub slot_within : (t : Tree) (id slot : ℕ) (r : Option ℕ) (n : Node) → id < length (walk t) →
+    Far t id slot r → slice_get (walk t) id ≡ Some n → slot < length n.ports
 slot_within t id slot r n lt far e =
     let h = node_at t id lt in
     let same : h.info ≡ n = same_some h.info n (sym h.info_is ∙ e) in
@@ -61,7 +64,8 @@ slot_within t id slot r n lt far e =
     let count : length h.e ≡ length n.ports = h.slots ∙ ap (λ (m : Node). length m.ports) same in
     omega (arith, within, count)
 
-pub speed_is : (t : Tree) (id : ℕ) (n : Node) → slice_get (walk t) id ≡ Some n → speed_at t id ≡ node_speed n
+pub speed_is : (t : Tree) (id : ℕ) (n : Node) → slice_get (walk t) id ≡ Some n →
+    speed_at t id ≡ node_speed n
 speed_is t id n e = get_or_from_slice_get (map node_speed (walk t)) id (node_speed n) 0 (slice_get-map node_speed (walk t) id ∙ ap (option_map node_speed) e)
 
 -- ---- subtrees
@@ -70,7 +74,8 @@ pub first_le : (t : Tree) (id : ℕ) → id < length (walk t) → first_of t id 
 first_le t id lt = let h = node_at t id lt in let w = withinT 0 63 t id h.e (first_of t id) h.node in omega (arith, w.high)
 
 -- a child's subtree lies in the node's
-pub child_in : (t : Tree) (id slot k : ℕ) → IsBusTree t → id < length (walk t) → Far t id slot (Some k) → k < id → first_of t id ≤ first_of t k
+pub child_in : (t : Tree) (id slot k : ℕ) → IsBusTree t → id < length (walk t) →
+    Far t id slot (Some k) → k < id → first_of t id ≤ first_of t k
 child_in t id slot k bus lt far before = elim (kin t id slot k lt far) [
   | child j e g n is less le ↦
       let same : k ≡ j = omega (arith, is) in
@@ -81,7 +86,8 @@ child_in t id slot k bus lt far before = elim (kin t id slot k lt far) [
 ]
 
 -- a node's subtree lies in the parent's
-pub parent_in : (t : Tree) (id slot k : ℕ) → id + 1 < length (walk t) → Far t id slot (Some k) → id < k → (k < length (walk t)) × (first_of t k ≤ first_of t id)
+pub parent_in : (t : Tree) (id slot k : ℕ) → id + 1 < length (walk t) → Far t id slot (Some k) →
+    id < k → (k < length (walk t)) × (first_of t k ≤ first_of t id)
 parent_in t id slot k lt far after = elim (kin t id slot k (omega (arith, lt)) far) [
   | child j e g n is less le ↦ absurd (omega (arith, is, less, after))
   | outer at is ↦ absurd (omega (arith, at, lt))
@@ -100,7 +106,8 @@ pub record InChild (t : Tree) (id m : ℕ) : Type 0 where
   pub before : k < id
   pub under : IsUnder t m k
 
-pub in_child : (t : Tree) (id m : ℕ) → id < length (walk t) → IsUnder t m id → m < id → InChild t id m
+pub in_child : (t : Tree) (id m : ℕ) → id < length (walk t) → IsUnder t m id → m < id →
+    InChild t id m
 in_child t id m lt under less =
     let h = node_at t id lt in
     let c = coverT 0 63 t id h.e (first_of t id) m h.node (omega (arith, under.low)) less in
@@ -114,7 +121,8 @@ in_child t id m lt under less =
       under = record { low = omega (arith, first, c.low); high = c.high };
     }
 
-pub nested : (t : Tree) (top id : ℕ) → top < length (walk t) → IsUnder t id top → first_of t top ≤ first_of t id
+pub nested : (t : Tree) (top id : ℕ) → top < length (walk t) → IsUnder t id top →
+    first_of t top ≤ first_of t id
 nested t top id lt under =
     let h = node_at t top lt in
     let k = node_at t id (omega (arith, under.high, lt)) in
@@ -142,7 +150,9 @@ has_parent (branch a s) id bus lt =
     h.node
 
 -- no slot so far leads to the parent, and this one doesn't
-pub not_past : (t : Tree) (id slot : ℕ) (r : Option ℕ) → ((s k : ℕ) → s < slot → Far t id s (Some k) → k ≤ id) → Far t id slot r → ((k : ℕ) → r ≡ Some k → k ≤ id) →
+pub not_past : (t : Tree) (id slot : ℕ) (r : Option ℕ) →
+    ((s k : ℕ) → s < slot → Far t id s (Some k) → k ≤ id) → Far t id slot r →
+    ((k : ℕ) → r ≡ Some k → k ≤ id) →
     (s k : ℕ) → s < slot + 1 → Far t id s (Some k) → k ≤ id
 not_past t id slot r before far low s k lt g = ⊎_elim
     (λ (less : s < slot). before s k less g)
@@ -155,7 +165,8 @@ not_past t id slot r before far low s k lt g = ⊎_elim
 -- ---- both ways
 
 -- the root's slots lead down, and each other node's to nodes of the bus
-pub joined_within : (t : Tree) (id slot k : ℕ) → IsBusTree t → id < length (walk t) → Far t id slot (Some k) → (k < length (walk t)) × (k ≢ id)
+pub joined_within : (t : Tree) (id slot k : ℕ) → IsBusTree t → id < length (walk t) →
+    Far t id slot (Some k) → (k < length (walk t)) × (k ≢ id)
 joined_within (branch a s) id slot k bus lt far =
     let t = branch a s in
     let h = node_at t id lt in
@@ -173,7 +184,8 @@ joined_within (branch a s) id slot k bus lt far =
     ]
 
 -- a slot that leads up has one that leads back down
-pub down_again : (t : Tree) (id slot k : ℕ) → IsBusTree t → id < length (walk t) → k < length (walk t) → Far t id slot (Some k) → id < k → (back : ℕ) × Far t k back (Some id)
+pub down_again : (t : Tree) (id slot k : ℕ) → IsBusTree t → id < length (walk t) →
+    k < length (walk t) → Far t id slot (Some k) → id < k → (back : ℕ) × Far t k back (Some id)
 down_again t id slot k bus lt lk far after =
     let few = bus.small in
     elim (kin t id slot k lt far) [
@@ -187,7 +199,8 @@ down_again t id slot k bus lt lk far after =
     ]
 
 -- of two children the subtree of the second begins behind the first
-pub apart : (t : Tree) (id a b x y : ℕ) → IsBusTree t → id < length (walk t) → Far t id a (Some x) → Far t id b (Some y) → x < y → y < id → x < first_of t y
+pub apart : (t : Tree) (id a b x y : ℕ) → IsBusTree t → id < length (walk t) → Far t id a (Some x) →
+    Far t id b (Some y) → x < y → y < id → x < first_of t y
 apart t id a b x y bus lt fa fb less before =
     let h = node_at t id lt in
     let few = bus.small in

@@ -9,7 +9,8 @@ use Rattle.topology_stack.specs.Far.{slot_ends}
 use Rattle.speed_map.proofs.Nodes.{Ends, NodeT, NodeS, length-walk, some_node, withinT, withinS}
 
 -- the outermost node of a tree
-pub lastT : (from parent : ℕ) (t : Tree) → (e : Ends) × NodeT from parent t (length (walk t) - 1) e from
+pub lastT : (from parent : ℕ) (t : Tree) →
+    (e : Ends) × NodeT from parent t (length (walk t) - 1) e from
 lastT from parent (branch a s) = (slot_ends from parent s, inl (omega (arith, length-walk a s), refl, refl))
 
 -- ---- the other end of a slot
@@ -22,7 +23,8 @@ pub record Child (from me : ℕ) (s : Slots) (k : ℕ) : Type 0 where
   pub node : NodeS from me s j e f
   pub is : k ≡ from + j
 
-pub end_of : (from me parent : ℕ) (s : Slots) (slot k : ℕ) → slice_get (slot_ends from parent s) slot ≡ Some (Some k) → (k ≡ parent) ⊎ Child from me s k
+pub end_of : (from me parent : ℕ) (s : Slots) (slot k : ℕ) →
+    slice_get (slot_ends from parent s) slot ≡ Some (Some k) → (k ≡ parent) ⊎ Child from me s k
 end_of from me parent no_more slot k h = absurd cc
 end_of from me parent (absent s) zero k h = absurd cc
 end_of from me parent (absent s) (suc slot) k h = ⊎_elim (λ (p : k ≡ parent). inl p) (λ (c : Child from me s k). inr (record { j = c.j; e = c.e; f = c.f; node = c.node; is = c.is })) (end_of from me parent s slot k h)
@@ -40,17 +42,24 @@ end_of from me parent (down t s) (suc slot) k h = ⊎_elim
     (end_of (from + length (walk t)) me parent s slot k h)
 
 pub data Kin (from parent : ℕ) (t : Tree) (i f k : ℕ) : Type 0 where
-  child : (j : ℕ) (e : Ends) (g : ℕ) → NodeT from parent t j e g → k ≡ from + j → j < i → f ≤ g → Kin from parent t i f k
+  child : (j : ℕ) (e : Ends) (g : ℕ) → NodeT from parent t j e g → k ≡ from + j → j < i → f ≤ g →
+      Kin from parent t i f k
   outer : i + 1 ≡ length (walk t) → k ≡ parent → Kin from parent t i f k
-  above : (j : ℕ) (e : Ends) (g : ℕ) → NodeT from parent t j e g → k ≡ from + j → i < j → g ≤ f → (back : ℕ) × (slice_get e back ≡ Some (Some (from + i))) → Kin from parent t i f k
+  above : (j : ℕ) (e : Ends) (g : ℕ) → NodeT from parent t j e g → k ≡ from + j → i < j → g ≤ f →
+      (back : ℕ) × (slice_get e back ≡ Some (Some (from + i))) → Kin from parent t i f k
 
 data KinS (from me : ℕ) (s : Slots) (i f k : ℕ) : Type 0 where
-  child_s : (j : ℕ) (e : Ends) (g : ℕ) → NodeS from me s j e g → k ≡ from + j → j < i → f ≤ g → KinS from me s i f k
-  outer_s : k ≡ me → ((p : ℕ) → (back : ℕ) × (slice_get (slot_ends from p s) back ≡ Some (Some (from + i)))) → KinS from me s i f k
-  above_s : (j : ℕ) (e : Ends) (g : ℕ) → NodeS from me s j e g → k ≡ from + j → i < j → g ≤ f → (back : ℕ) × (slice_get e back ≡ Some (Some (from + i))) → KinS from me s i f k
+  child_s : (j : ℕ) (e : Ends) (g : ℕ) → NodeS from me s j e g → k ≡ from + j → j < i → f ≤ g →
+      KinS from me s i f k
+  outer_s : k ≡ me →
+      ((p : ℕ) → (back : ℕ) × (slice_get (slot_ends from p s) back ≡ Some (Some (from + i)))) →
+      KinS from me s i f k
+  above_s : (j : ℕ) (e : Ends) (g : ℕ) → NodeS from me s j e g → k ≡ from + j → i < j → g ≤ f →
+      (back : ℕ) × (slice_get e back ≡ Some (Some (from + i))) → KinS from me s i f k
 
 mutual
-  pub kinT : (from parent : ℕ) (t : Tree) (i : ℕ) (e : Ends) (f slot k : ℕ) → NodeT from parent t i e f → slice_get e slot ≡ Some (Some k) → Kin from parent t i f k
+  pub kinT : (from parent : ℕ) (t : Tree) (i : ℕ) (e : Ends) (f slot k : ℕ) →
+      NodeT from parent t i e f → slice_get e slot ≡ Some (Some k) → Kin from parent t i f k
   kinT from parent (branch a s) i e f slot k h far =
       let me = from + length (walk_below s) in
       ⊎_elim
@@ -69,7 +78,8 @@ mutual
       ])
       h
 
-  kinS : (from me : ℕ) (s : Slots) (i : ℕ) (e : Ends) (f slot k : ℕ) → NodeS from me s i e f → slice_get e slot ≡ Some (Some k) → KinS from me s i f k
+  kinS : (from me : ℕ) (s : Slots) (i : ℕ) (e : Ends) (f slot k : ℕ) → NodeS from me s i e f →
+      slice_get e slot ≡ Some (Some k) → KinS from me s i f k
   kinS from me no_more i e f slot k h far = absurd h
   kinS from me (absent s) i e f slot k h far = elim (kinS from me s i e f slot k h far) [
     | child_s j e' g n is lt le ↦ child_s j e' g n is lt le
@@ -126,7 +136,8 @@ pub record CoverT (from parent : ℕ) (t : Tree) (i : ℕ) (e : Ends) (m : ℕ) 
   pub before : j < i
 
 -- of the node whose slots these are
-cover_top : (from me parent : ℕ) (s : Slots) (m : ℕ) → m < length (walk_below s) → CoverS from me s (slot_ends from parent s) m
+cover_top : (from me parent : ℕ) (s : Slots) (m : ℕ) → m < length (walk_below s) →
+    CoverS from me s (slot_ends from parent s) m
 cover_top from me parent no_more m lt = absurd (omega (arith, lt))
 cover_top from me parent (absent s) m lt =
     let c = cover_top from me parent s m lt in
@@ -149,7 +160,8 @@ cover_top from me parent (down t s) m lt = ⊎_elim
     (cases_lt m (length (walk t)))
 
 mutual
-  pub coverT : (from parent : ℕ) (t : Tree) (i : ℕ) (e : Ends) (f m : ℕ) → NodeT from parent t i e f → f ≤ from + m → m < i → CoverT from parent t i e m
+  pub coverT : (from parent : ℕ) (t : Tree) (i : ℕ) (e : Ends) (f m : ℕ) →
+      NodeT from parent t i e f → f ≤ from + m → m < i → CoverT from parent t i e m
   coverT from parent (branch a s) i e f m h le lt =
       let me = from + length (walk_below s) in
       ⊎_elim
@@ -162,7 +174,8 @@ mutual
       record { slot = c.0.slot; j = c.0.j; of_child = c.0.of_child; first = c.0.first; far = c.0.far; node = inr c.0.node; low = c.0.low; high = c.0.high; before = c.1 })
       h
 
-  coverS : (from me : ℕ) (s : Slots) (i : ℕ) (e : Ends) (f m : ℕ) → NodeS from me s i e f → f ≤ from + m → m < i → (c : CoverS from me s e m) × (c.j < i)
+  coverS : (from me : ℕ) (s : Slots) (i : ℕ) (e : Ends) (f m : ℕ) → NodeS from me s i e f →
+      f ≤ from + m → m < i → (c : CoverS from me s e m) × (c.j < i)
   coverS from me no_more i e f m h le lt = absurd h
   coverS from me (absent s) i e f m h le lt =
       let c = coverS from me s i e f m h le lt in
@@ -190,7 +203,8 @@ mutual
 -- ---- subtrees are nested
 
 mutual
-  pub nestedT : (from parent : ℕ) (t : Tree) (i : ℕ) (e : Ends) (f j : ℕ) (e' : Ends) (g : ℕ) → NodeT from parent t i e f → NodeT from parent t j e' g → f ≤ from + j → j ≤ i → f ≤ g
+  pub nestedT : (from parent : ℕ) (t : Tree) (i : ℕ) (e : Ends) (f j : ℕ) (e' : Ends) (g : ℕ) →
+      NodeT from parent t i e f → NodeT from parent t j e' g → f ≤ from + j → j ≤ i → f ≤ g
   nestedT from parent (branch a s) i e f j e' g h k le before =
       let me = from + length (walk_below s) in
       let w = withinT from parent (branch a s) j e' g k in
@@ -204,7 +218,8 @@ mutual
       k)
       h
 
-  nestedS : (from me : ℕ) (s : Slots) (i : ℕ) (e : Ends) (f j : ℕ) (e' : Ends) (g : ℕ) → NodeS from me s i e f → NodeS from me s j e' g → f ≤ from + j → j ≤ i → f ≤ g
+  nestedS : (from me : ℕ) (s : Slots) (i : ℕ) (e : Ends) (f j : ℕ) (e' : Ends) (g : ℕ) →
+      NodeS from me s i e f → NodeS from me s j e' g → f ≤ from + j → j ≤ i → f ≤ g
   nestedS from me no_more i e f j e' g h k le before = absurd h
   nestedS from me (absent s) i e f j e' g h k le before = nestedS from me s i e f j e' g h k le before
   nestedS from me (unplugged s) i e f j e' g h k le before = nestedS from me s i e f j e' g h k le before
@@ -227,7 +242,8 @@ mutual
 
 -- ---- a node below has a parent
 
-up_slot : (from parent : ℕ) (s : Slots) → 0 < ups (statuses s) → (slot : ℕ) × (slice_get (slot_ends from parent s) slot ≡ Some (Some parent))
+up_slot : (from parent : ℕ) (s : Slots) → 0 < ups (statuses s) →
+    (slot : ℕ) × (slice_get (slot_ends from parent s) slot ≡ Some (Some parent))
 up_slot from parent no_more some = absurd (omega (arith, some))
 up_slot from parent (absent s) some = let r = up_slot from parent s some in (suc r.0, r.1)
 up_slot from parent (unplugged s) some = let r = up_slot from parent s some in (suc r.0, r.1)
@@ -241,7 +257,8 @@ pub record Raised (from i : ℕ) (e : Ends) : Type 0 where
   pub later : from + i < k
 
 mutual
-  raisedT : (from parent : ℕ) (t : Tree) (i : ℕ) (e : Ends) (f : ℕ) → IsPart t → from + length (walk t) ≤ parent → NodeT from parent t i e f → Raised from i e
+  raisedT : (from parent : ℕ) (t : Tree) (i : ℕ) (e : Ends) (f : ℕ) → IsPart t →
+      from + length (walk t) ≤ parent → NodeT from parent t i e f → Raised from i e
   raisedT from parent (branch a s) i e f part room h =
       let me = from + length (walk_below s) in
       ⊎_elim
@@ -251,7 +268,8 @@ mutual
       (λ (below : NodeS from me s i e f). raisedS from me s i e f part.2 (omega arith) below)
       h
 
-  pub raisedS : (from me : ℕ) (s : Slots) (i : ℕ) (e : Ends) (f : ℕ) → AreParts s → from + length (walk_below s) ≤ me → NodeS from me s i e f → Raised from i e
+  pub raisedS : (from me : ℕ) (s : Slots) (i : ℕ) (e : Ends) (f : ℕ) → AreParts s →
+      from + length (walk_below s) ≤ me → NodeS from me s i e f → Raised from i e
   raisedS from me no_more i e f parts room h = absurd h
   raisedS from me (absent s) i e f parts room h = raisedS from me s i e f parts room h
   raisedS from me (unplugged s) i e f parts room h = raisedS from me s i e f parts room h
@@ -264,7 +282,8 @@ mutual
       h
 
 -- the slots of a root lead down
-pub no_up : (from parent : ℕ) (s : Slots) (slot k : ℕ) → ups (statuses s) ≡ 0 → slice_get (slot_ends from parent s) slot ≡ Some (Some k) → k < from + length (walk_below s)
+pub no_up : (from parent : ℕ) (s : Slots) (slot k : ℕ) → ups (statuses s) ≡ 0 →
+    slice_get (slot_ends from parent s) slot ≡ Some (Some k) → k < from + length (walk_below s)
 no_up from parent no_more slot k none h = absurd cc
 no_up from parent (absent s) zero k none h = absurd cc
 no_up from parent (absent s) (suc slot) k none h = no_up from parent s slot k none h

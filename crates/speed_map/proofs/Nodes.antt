@@ -31,12 +31,14 @@ some_node (branch a s) = omega (arith, length-walk a s)
 
 -- ---- lists in two parts
 
-pub slice_get-left : {X : Type 0} (xs ys : List X) (i : ℕ) (x : X) → slice_get xs i ≡ Some x → slice_get (xs ++ ys) i ≡ Some x
+pub slice_get-left : {X : Type 0} (xs ys : List X) (i : ℕ) (x : X) → slice_get xs i ≡ Some x →
+    slice_get (xs ++ ys) i ≡ Some x
 slice_get-left [] ys i x e = absurd cc
 slice_get-left (y ∷ xs) ys zero x e = e
 slice_get-left (y ∷ xs) ys (suc i) x e = slice_get-left xs ys i x e
 
-pub slice_get-right : {X : Type 0} (xs ys : List X) (n j : ℕ) → length xs ≡ n → slice_get (xs ++ ys) (n + j) ≡ slice_get ys j
+pub slice_get-right : {X : Type 0} (xs ys : List X) (n j : ℕ) → length xs ≡ n →
+    slice_get (xs ++ ys) (n + j) ≡ slice_get ys j
 slice_get-right [] ys n j e = ap (slice_get ys) (omega (arith, e))
 slice_get-right (x ∷ xs) ys zero j e = absurd (omega (arith, e))
 slice_get-right (x ∷ xs) ys (suc n) j e =
@@ -44,7 +46,8 @@ slice_get-right (x ∷ xs) ys (suc n) j e =
     let next : suc n + j ≡ suc (n + j) = omega arith in
     rw next (slice_get-right xs ys n j rest)
 
-pub last : {X : Type 0} (xs : List X) (x : X) (i : ℕ) → i ≡ length xs → slice_get (xs ++ x ∷ []) i ≡ Some x
+pub last : {X : Type 0} (xs : List X) (x : X) (i : ℕ) → i ≡ length xs →
+    slice_get (xs ++ x ∷ []) i ≡ Some x
 last xs x i e = let at : i ≡ length xs + 0 = omega (arith, e) in ap (slice_get (xs ++ x ∷ [])) at ∙ slice_get-right xs (x ∷ []) (length xs) 0 refl
 
 -- ---- where a node stands
@@ -55,13 +58,15 @@ pub record Within (from n i f : ℕ) : Type 0 where
   pub high : f ≤ from + i
 
 mutual
-  pub withinT : (from parent : ℕ) (t : Tree) (i : ℕ) (e : Ends) (f : ℕ) → NodeT from parent t i e f → Within from (length (walk t)) i f
+  pub withinT : (from parent : ℕ) (t : Tree) (i : ℕ) (e : Ends) (f : ℕ) →
+      NodeT from parent t i e f → Within from (length (walk t)) i f
   withinT from parent (branch a s) i e f h = ⊎_elim
       (λ (top : (i ≡ length (walk_below s)) × (e ≡ slot_ends from parent s) × (f ≡ from)). record { place = omega (arith, length-walk a s, top.0); low = omega (arith, top.2); high = omega (arith, top.2) })
       (λ (below : NodeS from (from + length (walk_below s)) s i e f). let w = withinS from (from + length (walk_below s)) s i e f below in record { place = omega (arith, length-walk a s, w.place); low = w.low; high = w.high })
       h
 
-  pub withinS : (from me : ℕ) (s : Slots) (i : ℕ) (e : Ends) (f : ℕ) → NodeS from me s i e f → Within from (length (walk_below s)) i f
+  pub withinS : (from me : ℕ) (s : Slots) (i : ℕ) (e : Ends) (f : ℕ) → NodeS from me s i e f →
+      Within from (length (walk_below s)) i f
   withinS from me no_more i e f h = absurd h
   withinS from me (absent s) i e f h = withinS from me s i e f h
   withinS from me (unplugged s) i e f h = withinS from me s i e f h
@@ -76,11 +81,13 @@ mutual
 -- ---- the lists tell each node
 
 mutual
-  pub length-ends_from : (from parent : ℕ) (t : Tree) → length (ends_from from parent t) ≡ length (walk t)
+  pub length-ends_from : (from parent : ℕ) (t : Tree) →
+      length (ends_from from parent t) ≡ length (walk t)
   length-ends_from from parent (branch a s) =
       length-append (ends_below from (from + length (walk_below s)) s) (slot_ends from parent s ∷ []) ∙ (omega (arith, length-ends_below from (from + length (walk_below s)) s, length-walk a s))
 
-  pub length-ends_below : (from me : ℕ) (s : Slots) → length (ends_below from me s) ≡ length (walk_below s)
+  pub length-ends_below : (from me : ℕ) (s : Slots) →
+      length (ends_below from me s) ≡ length (walk_below s)
   length-ends_below from me no_more = refl
   length-ends_below from me (absent s) = length-ends_below from me s
   length-ends_below from me (unplugged s) = length-ends_below from me s
@@ -93,7 +100,8 @@ mutual
   pub length-firsts_from : (from : ℕ) (t : Tree) → length (firsts_from from t) ≡ length (walk t)
   length-firsts_from from (branch a s) = length-append (firsts_below from s) (from ∷ []) ∙ (omega (arith, length-firsts_below from s, length-walk a s))
 
-  pub length-firsts_below : (from : ℕ) (s : Slots) → length (firsts_below from s) ≡ length (walk_below s)
+  pub length-firsts_below : (from : ℕ) (s : Slots) →
+      length (firsts_below from s) ≡ length (walk_below s)
   length-firsts_below from no_more = refl
   length-firsts_below from (absent s) = length-firsts_below from s
   length-firsts_below from (unplugged s) = length-firsts_below from s
@@ -102,7 +110,8 @@ mutual
       length-append (firsts_from from t) (firsts_below (from + length (walk t)) s)
       ∙ (omega (arith, length-firsts_from from t, length-firsts_below (from + length (walk t)) s, length-append (walk t) (walk_below s)))
 
-length-slot_ends : (from parent : ℕ) (s : Slots) → length (slot_ends from parent s) ≡ length (statuses s)
+length-slot_ends : (from parent : ℕ) (s : Slots) →
+    length (slot_ends from parent s) ≡ length (statuses s)
 length-slot_ends from parent no_more = refl
 length-slot_ends from parent (absent s) = omega (arith, length-slot_ends from parent s)
 length-slot_ends from parent (unplugged s) = omega (arith, length-slot_ends from parent s)
@@ -117,7 +126,8 @@ pub record Told (ns : List Node) (es : List Ends) (fs : List ℕ) (i : ℕ) (e :
   pub first_is : slice_get fs i ≡ Some f
 
 mutual
-  pub toldT : (from parent : ℕ) (t : Tree) (i : ℕ) (e : Ends) (f : ℕ) → NodeT from parent t i e f → Told (walk t) (ends_from from parent t) (firsts_from from t) i e f
+  pub toldT : (from parent : ℕ) (t : Tree) (i : ℕ) (e : Ends) (f : ℕ) → NodeT from parent t i e f →
+      Told (walk t) (ends_from from parent t) (firsts_from from t) i e f
   toldT from parent (branch a s) i e f h = ⊎_elim
       (λ (top : (i ≡ length (walk_below s)) × (e ≡ slot_ends from parent s) × (f ≡ from)). record {
         node = node_of a s;
@@ -137,7 +147,8 @@ mutual
       })
       h
 
-  pub toldS : (from me : ℕ) (s : Slots) (i : ℕ) (e : Ends) (f : ℕ) → NodeS from me s i e f → Told (walk_below s) (ends_below from me s) (firsts_below from s) i e f
+  pub toldS : (from me : ℕ) (s : Slots) (i : ℕ) (e : Ends) (f : ℕ) → NodeS from me s i e f →
+      Told (walk_below s) (ends_below from me s) (firsts_below from s) i e f
   toldS from me no_more i e f h = absurd h
   toldS from me (absent s) i e f h = toldS from me s i e f h
   toldS from me (unplugged s) i e f h = toldS from me s i e f h
@@ -167,13 +178,15 @@ mutual
 
 -- each place has a node
 mutual
-  pub nodeT : (from parent : ℕ) (t : Tree) (i : ℕ) → i < length (walk t) → (e : Ends) × (f : ℕ) × NodeT from parent t i e f
+  pub nodeT : (from parent : ℕ) (t : Tree) (i : ℕ) → i < length (walk t) →
+      (e : Ends) × (f : ℕ) × NodeT from parent t i e f
   nodeT from parent (branch a s) i lt = ⊎_elim
       (λ (below : i < length (walk_below s)). let h = nodeS from (from + length (walk_below s)) s i below in (h.0, h.1, inr h.2))
       (λ (above : length (walk_below s) ≤ i). (slot_ends from parent s, from, inl (omega (arith, above, lt, length-walk a s), refl, refl)))
       (cases_lt i (length (walk_below s)))
 
-  pub nodeS : (from me : ℕ) (s : Slots) (i : ℕ) → i < length (walk_below s) → (e : Ends) × (f : ℕ) × NodeS from me s i e f
+  pub nodeS : (from me : ℕ) (s : Slots) (i : ℕ) → i < length (walk_below s) →
+      (e : Ends) × (f : ℕ) × NodeS from me s i e f
   nodeS from me no_more i lt = absurd (omega (arith, lt))
   nodeS from me (absent s) i lt = nodeS from me s i lt
   nodeS from me (unplugged s) i lt = nodeS from me s i lt

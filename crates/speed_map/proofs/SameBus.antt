@@ -16,17 +16,20 @@ one-manager one standard t u p q e = ap elected (one standard t u p q e)
 
 -- ---- rows
 
-one-speed : (t : Tree) (from to a b : ℕ) → IsBusTree t → from < length (walk t) → IsSpeed t from to a → IsSpeed t from to b → a ≡ b
+one-speed : (t : Tree) (from to a b : ℕ) → IsBusTree t → from < length (walk t) →
+    IsSpeed t from to a → IsSpeed t from to b → a ≡ b
 one-speed t from to a b bus there x y =
     x.speed_is ∙ ap (path_speed t from) (one_path t from to x.ids y.ids bus there x.path y.path) ∙ sym y.speed_is
 
-same-cell : (t : Tree) (rows other : List ℕ) (from to : ℕ) → IsBusTree t → AreRows t rows → AreRows t other → from < length (walk t) → to < 64 → cell rows from to ≡ cell other from to
+same-cell : (t : Tree) (rows other : List ℕ) (from to : ℕ) → IsBusTree t → AreRows t rows →
+    AreRows t other → from < length (walk t) → to < 64 → cell rows from to ≡ cell other from to
 same-cell t rows other from to bus x y there below = elim (cases_lt to (length (walk t))) [
   | inl inside ↦ one-speed t from to (cell rows from to) (cell other from to) bus there (x.speeds from to there inside) (y.speeds from to there inside)
   | inr past ↦ x.zeros from to there past below ∙ sym (y.zeros from to there past below)
 ]
 
-pub one-rows : (t : Tree) (rows other : List ℕ) → IsBusTree t → AreRows t rows → AreRows t other → rows ≡ other
+pub one-rows : (t : Tree) (rows other : List ℕ) → IsBusTree t → AreRows t rows → AreRows t other →
+    rows ≡ other
 one-rows t rows other bus x y = same_number_lists rows other (x.size ∙ sym y.size) (λ k inside.
     let at : 64 * (k / 64) + k % 64 ≡ k = omega arith in
     subst (λ (i : ℕ). get_or rows i 0 ≡ get_or other i 0) at

@@ -15,7 +15,8 @@ use Rattle.speed_map.proofs.Steps.{down_one, leads_down, leads_one}
 -- ---- paths
 
 -- down to a node of the subtree
-down : (fuel : ℕ) (t : Tree) (id to : ℕ) → id < fuel → id < length (walk t) → IsUnder t to id → (speed : ℕ) × IsDown t id to speed
+down : (fuel : ℕ) (t : Tree) (id to : ℕ) → id < fuel → id < length (walk t) → IsUnder t to id →
+    (speed : ℕ) × IsDown t id to speed
 down zero t id to less within u = absurd (omega (arith, less))
 down (suc fuel) t id to less within u = elim (cases_lt to id) [
   | inl below ↦
@@ -45,7 +46,8 @@ over t id to bus within there out above = elim (cases_lt (id + 1) (length (walk 
 ]
 
 -- to any node
-leads : (fuel : ℕ) (t : Tree) (id to : ℕ) → IsBusTree t → length (walk t) < fuel + id → id < length (walk t) → to < length (walk t) → (speed : ℕ) × Leads t id to speed
+leads : (fuel : ℕ) (t : Tree) (id to : ℕ) → IsBusTree t → length (walk t) < fuel + id →
+    id < length (walk t) → to < length (walk t) → (speed : ℕ) × Leads t id to speed
 leads zero t id to bus less within there = absurd (omega (arith, less, within))
 leads (suc fuel) t id to bus less within there =
     let above : (k : ℕ) → id < k → k < length (walk t) → (speed : ℕ) × Leads t k to speed

@@ -15,13 +15,16 @@ use Rattle.speed_map.proofs.Facts.{one_far, slot_within, first_le, child_in, par
 -- ---- paths
 
 -- a path down from a child, seen from its parent
-lowered : (t : Tree) (id k to : ℕ) (ids : List ℕ) → k < id → AllDown t k to ids → AllDown t id to ids × IsNew id ids
+lowered : (t : Tree) (id k to : ℕ) (ids : List ℕ) → k < id → AllDown t k to ids →
+    AllDown t id to ids × IsNew id ids
 lowered t id k to [] lt all = (tt, tt)
 lowered t id k to (j ∷ ids) lt all =
     let rest = lowered t id k to ids lt all.2 in
     ((omega (arith, all.0, lt), all.1, rest.0), (omega (arith, all.0, lt), rest.1))
 
-pub down_one : (t : Tree) (id slot k to speed cap new : ℕ) → Far t id slot (Some k) → k < id → IsUnder t to k → IsDown t k to speed → cap ≡ speed_at t id → new ≡ min speed cap → IsDown t id to new
+pub down_one : (t : Tree) (id slot k to speed cap new : ℕ) → Far t id slot (Some k) → k < id →
+    IsUnder t to k → IsDown t k to speed → cap ≡ speed_at t id → new ≡ min speed cap →
+    IsDown t id to new
 down_one t id slot k to speed cap new far lt under d limit is =
     let r = lowered t id k to d.ids lt d.down_all in
     record {
@@ -32,15 +35,19 @@ down_one t id slot k to speed cap new far lt under d limit is =
     }
 
 -- a path down leads to a node
-down_leads : (t : Tree) (id to : ℕ) (ids : List ℕ) → id < length (walk t) → AllDown t id to ids → AllBetween t id to ids
+down_leads : (t : Tree) (id to : ℕ) (ids : List ℕ) → id < length (walk t) → AllDown t id to ids →
+    AllBetween t id to ids
 down_leads t id to [] lt all = tt
 down_leads t id to (k ∷ ids) lt all = (omega (arith, all.0, lt), inr all.1, down_leads t id to ids lt all.2)
 
-pub leads_down : (t : Tree) (id to speed : ℕ) → id < length (walk t) → IsDown t id to speed → Leads t id to speed
+pub leads_down : (t : Tree) (id to speed : ℕ) → id < length (walk t) → IsDown t id to speed →
+    Leads t id to speed
 leads_down t id to speed lt d = record { ids = d.ids; path = d.path; between = down_leads t id to d.ids lt d.down_all; speed_is = d.speed_is }
 
 -- a path from the parent to a node outside of the subtree, seen from the node
-raised : (t : Tree) (id p to : ℕ) (ids : List ℕ) → id < p → first_of t p ≤ first_of t id → first_of t id ≤ id → (IsUnder t to id → ⊥) → AllBetween t p to ids → AllBetween t id to ids × IsNew id ids
+raised : (t : Tree) (id p to : ℕ) (ids : List ℕ) → id < p → first_of t p ≤ first_of t id →
+    first_of t id ≤ id → (IsUnder t to id → ⊥) → AllBetween t p to ids →
+    AllBetween t id to ids × IsNew id ids
 raised t id p to [] lt low own out all = (tt, tt)
 raised t id p to (k ∷ ids) lt low own out all =
     let rest = raised t id p to ids lt low own out all.2 in
@@ -52,7 +59,9 @@ raised t id p to (k ∷ ids) lt low own out all =
     (λ (u : IsUnder t to k). ((all.0, inr u, rest.0), ((λ (same : id ≡ k). out (subst (IsUnder t to) (sym same) u)), rest.1)))
     all.1
 
-pub leads_one : (t : Tree) (id slot p to speed cap new : ℕ) → Far t id slot (Some p) → id < p → p < length (walk t) → first_of t p ≤ first_of t id → first_of t id ≤ id → (IsUnder t to id → ⊥) →
+pub leads_one : (t : Tree) (id slot p to speed cap new : ℕ) → Far t id slot (Some p) → id < p →
+    p < length (walk t) → first_of t p ≤ first_of t id → first_of t id ≤ id →
+    (IsUnder t to id → ⊥) →
     Leads t p to speed → cap ≡ speed_at t id → new ≡ min speed cap → Leads t id to new
 leads_one t id slot p to speed cap new far lt within low own out l limit is =
     let r = raised t id p to l.ids lt low own out l.between in
@@ -65,7 +74,8 @@ leads_one t id slot p to speed cap new far lt within low own out l limit is =
 
 -- ---- the first sweep
 
-pub rising_start : (t : Tree) (rows : List ℕ) → rows ≡ replicate (64 * length (walk t)) 0 → Rising t rows 0
+pub rising_start : (t : Tree) (rows : List ℕ) → rows ≡ replicate (64 * length (walk t)) 0 →
+    Rising t rows 0
 rising_start t rows e = record {
   size = ap length e ∙ length-replicate (64 * length (walk t)) 0;
   clear = λ (n m : ℕ) (ln : n < length (walk t)) (lm : length (walk t) ≤ m) (le : m < 64).
@@ -74,10 +84,12 @@ rising_start t rows e = record {
 }
 
 -- a byte that isn't the one written
-other_cell : (rows : List ℕ) (id v n m : ℕ) → id < 64 → m < 64 → (n ≡ id → m ≡ id → ⊥) → cell (set rows (64 * id + id) v) n m ≡ cell rows n m
+other_cell : (rows : List ℕ) (id v n m : ℕ) → id < 64 → m < 64 → (n ≡ id → m ≡ id → ⊥) →
+    cell (set rows (64 * id + id) v) n m ≡ cell rows n m
 other_cell rows id v n m small le ne = get_or-set_other rows (64 * id + id) (64 * n + m) v 0 (λ (e : 64 * n + m ≡ 64 * id + id). ne (omega (arith, e, small, le)) (omega (arith, e, small, le)))
 
-pub taking_start : (t : Tree) (rows : List ℕ) (id v : ℕ) → IsBusTree t → id < length (walk t) → Rising t rows id → v ≡ speed_at t id → Taking t (set rows (64 * id + id) v) id 0 id
+pub taking_start : (t : Tree) (rows : List ℕ) (id v : ℕ) → IsBusTree t → id < length (walk t) →
+    Rising t rows id → v ≡ speed_at t id → Taking t (set rows (64 * id + id) v) id 0 id
 taking_start t rows id v bus lt h is =
     let few = bus.small in
     let size = h.size in
@@ -97,7 +109,8 @@ taking_start t rows id v bus lt h is =
     }
 
 -- a slot that leads to no child
-pub taking_skip : (t : Tree) (rows : List ℕ) (id slot first : ℕ) → Taking t rows id slot first → ((k : ℕ) → Far t id slot (Some k) → id ≤ k) → Taking t rows id (slot + 1) first
+pub taking_skip : (t : Tree) (rows : List ℕ) (id slot first : ℕ) → Taking t rows id slot first →
+    ((k : ℕ) → Far t id slot (Some k) → id ≤ k) → Taking t rows id (slot + 1) first
 taking_skip t rows id slot first h none = record {
   rising = h.rising;
   own = h.own;
@@ -110,7 +123,9 @@ taking_skip t rows id slot first h none = record {
 }
 
 -- a slot that leads to a child
-pub taking_more : (t : Tree) (rows new : List ℕ) (id slot first k cap : ℕ) → IsBusTree t → id < length (walk t) → Taking t rows id slot first → Far t id slot (Some k) → k < id → cap ≡ speed_at t id →
+pub taking_more : (t : Tree) (rows new : List ℕ) (id slot first k cap : ℕ) → IsBusTree t →
+    id < length (walk t) → Taking t rows id slot first → Far t id slot (Some k) → k < id →
+    cap ≡ speed_at t id →
     length new ≡ length rows → Written rows new k id (first_of t k) (k + 1) cap → Taking t new id (slot + 1) (min first (first_of t k))
 taking_more t rows new id slot first k cap bus lt h far lk limit long w =
     let few = bus.small in
@@ -158,7 +173,9 @@ pub record Done (t : Tree) (rows : List ℕ) (id first : ℕ) : Type 0 where
   pub rising : Rising t rows (id + 1)
 
 -- all slots
-pub taking_all : (t : Tree) (rows : List ℕ) (id slot first : ℕ) (n : Node) → id < length (walk t) → slice_get (walk t) id ≡ Some n → length n.ports ≤ slot → Taking t rows id slot first → Done t rows id first
+pub taking_all : (t : Tree) (rows : List ℕ) (id slot first : ℕ) (n : Node) → id < length (walk t) →
+    slice_get (walk t) id ≡ Some n → length n.ports ≤ slot → Taking t rows id slot first →
+    Done t rows id first
 taking_all t rows id slot first n lt e all h =
     let low = h.first_low in
     let high = h.first_high in
@@ -197,7 +214,8 @@ taking_all t rows id slot first n lt e all h =
 
 -- ---- the second sweep
 
-pub falling_start : (t : Tree) (rows : List ℕ) (root : ℕ) → root + 1 ≡ length (walk t) → Rising t rows (length (walk t)) → Falling t rows root
+pub falling_start : (t : Tree) (rows : List ℕ) (root : ℕ) → root + 1 ≡ length (walk t) →
+    Rising t rows (length (walk t)) → Falling t rows root
 falling_start t rows root e h =
     let at : length (walk t) - 1 ≡ root = omega (arith, e) in
     let first : first_of t root ≡ 0 = ap (first_of t) (sym at) ∙ first_of_root t in
@@ -211,7 +229,9 @@ falling_start t rows root e h =
           leads_down t k m (cell rows k m) lt (subst (λ (x : ℕ). IsDown t x m (cell rows x m)) same d);
     }
 
-pub falling_more : (t : Tree) (rows half new : List ℕ) (id slot p cap : ℕ) → IsBusTree t → id + 1 < length (walk t) → Falling t rows (id + 1) → Far t id slot (Some p) → id < p → cap ≡ speed_at t id →
+pub falling_more : (t : Tree) (rows half new : List ℕ) (id slot p cap : ℕ) → IsBusTree t →
+    id + 1 < length (walk t) → Falling t rows (id + 1) → Far t id slot (Some p) → id < p →
+    cap ≡ speed_at t id →
     length half ≡ length rows → length new ≡ length half → Written rows half p id 0 (first_of t id) cap → Written half new p id (id + 1) (length (walk t)) cap → Falling t new id
 falling_more t rows half new id slot p cap bus lt h far after limit long long' w v =
     let few = bus.small in
@@ -261,7 +281,9 @@ rows_done t rows h = record {
 }
 
 -- the same, where the first ID was read from a table
-pub taking_read : (t : Tree) (rows new : List ℕ) (id slot first k low cap : ℕ) → IsBusTree t → id < length (walk t) → Taking t rows id slot first → Far t id slot (Some k) → k < id → cap ≡ speed_at t id →
+pub taking_read : (t : Tree) (rows new : List ℕ) (id slot first k low cap : ℕ) → IsBusTree t →
+    id < length (walk t) → Taking t rows id slot first → Far t id slot (Some k) → k < id →
+    cap ≡ speed_at t id →
     length new ≡ length rows → low ≡ first_of t k → Written rows new k id low (k + 1) cap → Taking t new id (slot + 1) (min first low)
 taking_read t rows new id slot first k low cap bus lt h far lk limit long is w =
     subst (λ (x : ℕ). Taking t new id (slot + 1) (min first x)) (sym is) (taking_more t rows new id slot first k cap bus lt h far lk limit long (subst (λ (x : ℕ). Written rows new k id x (k + 1) cap) is w))

@@ -8,7 +8,8 @@ use Rattle.speed_map.specs.codings.Sweep.{IsUnder}
 use Rattle.speed_map.proofs.Facts.{first_le, child_in, parent_in, in_child, nested, has_parent, apart, down_again, joined_within}
 
 -- a node whose child lies strictly in a subtree lies there too
-owner_under : (t : Tree) (id slot k top : ℕ) → IsBusTree t → id < length (walk t) → Far t id slot (Some k) → k < id → IsUnder t k top → k < top → id ≤ top
+owner_under : (t : Tree) (id slot k top : ℕ) → IsBusTree t → id < length (walk t) →
+    Far t id slot (Some k) → k < id → IsUnder t k top → k < top → id ≤ top
 owner_under t id slot k top bus lt far below under less = ⊎_elim
     (λ (beyond : top < id).
     let high = under.high in
@@ -26,7 +27,9 @@ owner_under t id slot k top bus lt far below under less = ⊎_elim
     (cases_lt top id)
 
 -- a node has one parent
-one_parent : (t : Tree) (id a b x y : ℕ) → IsBusTree t → id < length (walk t) → x < length (walk t) → y < length (walk t) → Far t id a (Some x) → Far t id b (Some y) → id < x → id < y → x ≤ y
+one_parent : (t : Tree) (id a b x y : ℕ) → IsBusTree t → id < length (walk t) →
+    x < length (walk t) → y < length (walk t) → Far t id a (Some x) → Far t id b (Some y) → id < x →
+    id < y → x ≤ y
 one_parent t id a b x y bus lt lx ly fa fb ax ay =
     let p = parent_in t id b y (omega (arith, ly, ay)) fb ay in
     let low = p.1 in
@@ -35,7 +38,8 @@ one_parent t id a b x y bus lt lx ly fa fb ax ay =
     owner_under t x back.0 id y bus lx back.1 ax (record { low = omega (arith, low, own); high = omega (arith, ay) }) ay
 
 -- a slot that leads down has one that leads back up
-up_again : (t : Tree) (id slot k : ℕ) → IsBusTree t → id < length (walk t) → Far t id slot (Some k) → k < id → (back : ℕ) × Far t k back (Some id)
+up_again : (t : Tree) (id slot k : ℕ) → IsBusTree t → id < length (walk t) →
+    Far t id slot (Some k) → k < id → (back : ℕ) × Far t k back (Some id)
 up_again t id slot k bus lt far below =
     let h = has_parent t k bus (omega (arith, below, lt)) in
     let w = joined_within t k h.slot h.k bus (omega (arith, below, lt)) h.far in
@@ -50,7 +54,9 @@ up_again t id slot k bus lt far below =
 
 -- ---- a path that doesn't come back to a node stays on its side
 
-stays_under : (t : Tree) (top a p : ℕ) (id to : ℕ) (ids : List ℕ) → IsBusTree t → top < length (walk t) → p < length (walk t) → Far t top a (Some p) → top < p → id < length (walk t) → IsUnder t id top → IsNew p ids →
+stays_under : (t : Tree) (top a p : ℕ) (id to : ℕ) (ids : List ℕ) → IsBusTree t →
+    top < length (walk t) → p < length (walk t) → Far t top a (Some p) → top < p →
+    id < length (walk t) → IsUnder t id top → IsNew p ids →
     IsPath t id to ids → IsUnder t to top
 stays_under t top a p id to [] bus lt lp far up_to li under new path = subst (λ (x : ℕ). IsUnder t x top) path under
 stays_under t top a p id to (next ∷ ids) bus lt lp far up_to li under new path =
@@ -80,7 +86,9 @@ stays_under t top a p id to (next ∷ ids) bus lt lp far up_to li under new path
     (cases_lt next id) in
     stays_under t top a p next to ids bus lt lp far up_to w.0 on new.1 path.2
 
-stays_outside : (t : Tree) (top : ℕ) (id to : ℕ) (ids : List ℕ) → IsBusTree t → top < length (walk t) → id < length (walk t) → (IsUnder t id top → ⊥) → IsNew top ids → IsPath t id to ids → IsUnder t to top → ⊥
+stays_outside : (t : Tree) (top : ℕ) (id to : ℕ) (ids : List ℕ) → IsBusTree t →
+    top < length (walk t) → id < length (walk t) → (IsUnder t id top → ⊥) → IsNew top ids →
+    IsPath t id to ids → IsUnder t to top → ⊥
 stays_outside t top id to [] bus lt li out new path = λ (u : IsUnder t to top). out (subst (λ (x : ℕ). IsUnder t x top) (sym path) u)
 stays_outside t top id to (next ∷ ids) bus lt li out new path =
     let j = path.0 in
@@ -105,12 +113,15 @@ stays_outside t top id to (next ∷ ids) bus lt li out new path =
 -- ---- one path
 
 -- a path doesn't end at a node that it doesn't come to
-ends_elsewhere : (t : Tree) (id to : ℕ) (ids : List ℕ) → to ≢ id → IsNew to ids → IsPath t id to ids → ⊥
+ends_elsewhere : (t : Tree) (id to : ℕ) (ids : List ℕ) → to ≢ id → IsNew to ids →
+    IsPath t id to ids → ⊥
 ends_elsewhere t id to [] ne new path = ne (sym path)
 ends_elsewhere t id to (next ∷ ids) ne new path = ends_elsewhere t next to ids new.0 new.1 path.2
 
 -- two paths don't part, seen from the path whose next node has the lower ID
-no_fork : (t : Tree) (id to a b x y : ℕ) (p q : List ℕ) → IsBusTree t → id < length (walk t) → Far t id a (Some x) → Far t id b (Some y) → IsNew id (x ∷ p) → IsNew id (y ∷ q) → IsPath t x to p → IsPath t y to q → x < y → ⊥
+no_fork : (t : Tree) (id to a b x y : ℕ) (p q : List ℕ) → IsBusTree t → id < length (walk t) →
+    Far t id a (Some x) → Far t id b (Some y) → IsNew id (x ∷ p) → IsNew id (y ∷ q) →
+    IsPath t x to p → IsPath t y to q → x < y → ⊥
 no_fork t id to a b x y p q bus lt fa fb new_p new_q path_p path_q less =
     let wx = joined_within t id a x bus lt fa in
     let wy = joined_within t id b y bus lt fb in
@@ -136,7 +147,8 @@ no_fork t id to a b x y p q bus lt fa fb new_p new_q path_p path_q less =
     omega (arith, one, less))
     (cases_lt x id)
 
-pub one_path : (t : Tree) (id to : ℕ) (p q : List ℕ) → IsBusTree t → id < length (walk t) → IsPath t id to p → IsPath t id to q → p ≡ q
+pub one_path : (t : Tree) (id to : ℕ) (p q : List ℕ) → IsBusTree t → id < length (walk t) →
+    IsPath t id to p → IsPath t id to q → p ≡ q
 one_path t id to [] [] bus lt hp hq = refl
 one_path t id to [] (y ∷ q) bus lt hp hq = absurd (ends_elsewhere t y to q (λ (e : to ≡ y). hq.1.0 (hp ∙ e)) (subst (λ (x : ℕ). IsNew x q) hp hq.1.1) hq.2)
 one_path t id to (x ∷ p) [] bus lt hp hq = absurd (ends_elsewhere t x to p (λ (e : to ≡ x). hp.1.0 (hq ∙ e)) (subst (λ (y : ℕ). IsNew y p) hq hp.1.1) hp.2)

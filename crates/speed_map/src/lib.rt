@@ -15,4 +15,3 @@ pub use quad_lanes::OutOfMemory;
 pub use same_bus::equal_lists_make_one_bus;
 pub use sealed::image;
 pub use sweeps::{parent_of, rows};
-

@@ -54,7 +54,8 @@ same_bit (suc (suc a)) b la lb e = absurd (omega (arith, la))
 same_bit zero (suc (suc b)) la lb e = absurd (omega (arith, lb))
 same_bit (suc zero) (suc (suc b)) la lb e = absurd (omega (arith, lb))
 
-same_bits : (k x y : ℕ) → bits_of k x ≡ bits_of k y → (i : ℕ) → i < k → eqb (bit_at x i) 1 ≡ eqb (bit_at y i) 1
+same_bits : (k x y : ℕ) → bits_of k x ≡ bits_of k y → (i : ℕ) → i < k →
+    eqb (bit_at x i) 1 ≡ eqb (bit_at y i) 1
 unfolding bits_of
 same_bits zero x y e i lt = absurd (omega (arith, lt))
 same_bits (suc k) x y e i lt =

@@ -21,7 +21,8 @@ swap_middle a b c d =
     ∙ ap (plus a) (sym (plus_assoc b c d) ∙ ap (λ (x : List Bool). plus x d) (plus_comm b c) ∙ plus_assoc c b d)
     ∙ sym (plus_assoc a c (plus b d))
 
-sum_of_bits : (a b : Bool) → times_bit (xor a b) below_x16 ≡ plus (times_bit a below_x16) (times_bit b below_x16)
+sum_of_bits : (a b : Bool) →
+    times_bit (xor a b) below_x16 ≡ plus (times_bit a below_x16) (times_bit b below_x16)
 sum_of_bits true true = refl
 sum_of_bits true false = refl
 sum_of_bits false true = refl
@@ -45,7 +46,8 @@ swap_bits false false true false = refl
 swap_bits false false false true = refl
 swap_bits false false false false = refl
 
-after_bit-plus : (r s : List Bool) (a b : Bool) → length r ≡ 16 → length s ≡ 16 → after_bit (plus r s) (xor a b) ≡ plus (after_bit r a) (after_bit s b)
+after_bit-plus : (r s : List Bool) (a b : Bool) → length r ≡ 16 → length s ≡ 16 →
+    after_bit (plus r s) (xor a b) ≡ plus (after_bit r a) (after_bit s b)
 after_bit-plus [] s a b lr ls = absurd (omega (arith, lr))
 after_bit-plus (t ∷ l) [] a b lr ls = absurd (omega (arith, ls))
 after_bit-plus (t ∷ l) (u ∷ m) a b lr ls =
@@ -57,7 +59,8 @@ after_bit-plus (t ∷ l) (u ∷ m) a b lr ls =
     ∙ ap (plus (plus (l ++ false ∷ []) (m ++ false ∷ []))) added
     ∙ swap_middle (l ++ false ∷ []) (m ++ false ∷ []) (times_bit (xor t a) below_x16) (times_bit (xor u b) below_x16)
 
-after_bits-plus : (ps bs r s : List Bool) → length ps ≡ length bs → length r ≡ 16 → length s ≡ 16 → after_bits (plus r s) (plus ps bs) ≡ plus (after_bits r ps) (after_bits s bs)
+after_bits-plus : (ps bs r s : List Bool) → length ps ≡ length bs → length r ≡ 16 → length s ≡ 16 →
+    after_bits (plus r s) (plus ps bs) ≡ plus (after_bits r ps) (after_bits s bs)
 after_bits-plus [] [] r s e lr ls = refl
 after_bits-plus [] (b ∷ bs) r s e lr ls = absurd (omega (arith, e))
 after_bits-plus (a ∷ ps) [] r s e lr ls = absurd (omega (arith, e))
@@ -73,7 +76,8 @@ one_out h low e =
     ap (λ (b : Bool). plus (low ++ false ∷ []) (times_bit b below_x16)) (xor_same h)
     ∙ plus_comm (low ++ false ∷ []) (replicate 16 false) ∙ plus_zeros 16 (low ++ false ∷ []) long
 
-shifted_out : (high low : List Bool) → length high + length low ≡ 16 → after_bits (high ++ low) high ≡ low ++ replicate (length high) false
+shifted_out : (high low : List Bool) → length high + length low ≡ 16 →
+    after_bits (high ++ low) high ≡ low ++ replicate (length high) false
 shifted_out [] low e = rw append-nil refl
 shifted_out (h ∷ high) low e =
     let long : length (high ++ low) ≡ 15 = omega (arith, e, length-append high low) in
@@ -164,7 +168,8 @@ byte_left x lt = equal _ _ (agree_below_at leaves_the_remainder (λ x. true) 256
 
 -- ---- the register after a byte
 
-pub next_byte : (crc byte left : ℕ) → crc < 65536 → byte < 256 → bits_of 16 left ≡ after_bits (bits_of 16 0) (bits_of 8 (bit_xor (crc / 256) byte)) →
+pub next_byte : (crc byte left : ℕ) → crc < 65536 → byte < 256 →
+    bits_of 16 left ≡ after_bits (bits_of 16 0) (bits_of 8 (bit_xor (crc / 256) byte)) →
     bits_of 16 (bit_xor (crc * 256 % 65536) left) ≡ after_bits (bits_of 16 crc) (bits_of 8 byte)
 next_byte crc byte left fits small e =
     bits_of-xor 16 (crc * 256 % 65536) left
@@ -178,7 +183,8 @@ next_byte crc byte left fits small e =
 cut : (n : ℕ) → bits_of 8 n ≡ bits_of 8 (n % 2 ^ 8)
 cut n = sym (bits_of-mod 8 8 n (omega arith))
 
-four_bytes : (quad : ℕ) → bits_of 32 quad ≡ bits_of 8 (quad / 2 ^ 24) ++ (bits_of 8 (quad / 2 ^ 16 % 2 ^ 8) ++ (bits_of 8 (quad / 2 ^ 8 % 2 ^ 8) ++ bits_of 8 (quad % 2 ^ 8)))
+four_bytes : (quad : ℕ) →
+    bits_of 32 quad ≡ bits_of 8 (quad / 2 ^ 24) ++ (bits_of 8 (quad / 2 ^ 16 % 2 ^ 8) ++ (bits_of 8 (quad / 2 ^ 8 % 2 ^ 8) ++ bits_of 8 (quad % 2 ^ 8)))
 four_bytes quad =
     bits_of-split 8 24 quad
     ∙ ap (λ (l : List Bool). bits_of 8 (quad / 2 ^ 24) ++ l) (bits_of-split 8 16 quad

@@ -31,7 +31,8 @@ length-after_bits r [] e = e
 length-after_bits r (b ∷ bs) e = length-after_bits (after_bit r b) bs (length-after_bit r b e)
 
 -- the leading bit of a multiple, and the rest of it
-multiple_more : (b : Bool) (m : List Bool) → multiple (b ∷ m) ≡ b ∷ plus (times_bit b below_x16 ++ replicate (length m) false) (multiple m)
+multiple_more : (b : Bool) (m : List Bool) →
+    multiple (b ∷ m) ≡ b ∷ plus (times_bit b below_x16 ++ replicate (length m) false) (multiple m)
 unfolding multiple
 multiple_more true m = refl
 multiple_more false m = refl
@@ -50,7 +51,8 @@ one_more low t z x e =
     ∙ ap (λ (p : List Bool). plus p x) (plus-append s z (plus r s) z same ∙ ap (λ (p : List Bool). p ++ plus z z) back)
 
 -- with what is left in place of the zeros, the bits are a multiple of the divisor
-pub divides : (r bs : List Bool) → length r ≡ 16 → plus (r ++ replicate (length bs) false) (bs ++ after_bits r bs) ≡ multiple (quotient r bs)
+pub divides : (r bs : List Bool) → length r ≡ 16 →
+    plus (r ++ replicate (length bs) false) (bs ++ after_bits r bs) ≡ multiple (quotient r bs)
 unfolding multiple
 divides r [] e = rw append-nil (plus_same r ∙ rw e refl)
 divides [] (b ∷ bs) e = absurd (omega (arith, e))
@@ -82,7 +84,8 @@ after_bits-append r [] q = refl
 after_bits-append r (b ∷ p) q = after_bits-append (after_bit r b) p q
 
 -- what the register holds in the end is the remainder
-pub remainder : (quads : List ℕ) (crc : ℕ) → crc < 2 ^ 16 → bits_of 16 crc ≡ after_bits (bits_of 16 0) (quad_bits quads) → IsCrc quads crc
+pub remainder : (quads : List ℕ) (crc : ℕ) → crc < 2 ^ 16 →
+    bits_of 16 crc ≡ after_bits (bits_of 16 0) (quad_bits quads) → IsCrc quads crc
 remainder quads crc fits e =
     let zero_long : length (bits_of 16 0) ≡ 16 = length-bits_of 16 0 in
     let p = quad_bits quads in
@@ -106,18 +109,21 @@ length-added : (b : Bool) (m : List Bool) → length (added b m) ≡ length m + 
 length-added b m = length-append (times_bit b below_x16) (replicate (length m) false) ∙ (rw (length-times_bit b below_x16, length-replicate (length m) false) (omega arith))
 
 -- a multiple that begins with given bits, without its leading bit
-less : (b x : Bool) (m bits low : List Bool) → (x ∷ bits) ++ low ≡ multiple (b ∷ m) → (x ≡ b) × (bits ++ low ≡ plus (added b m) (multiple m))
+less : (b x : Bool) (m bits low : List Bool) → (x ∷ bits) ++ low ≡ multiple (b ∷ m) →
+    (x ≡ b) × (bits ++ low ≡ plus (added b m) (multiple m))
 less b x m bits low e =
     let whole : x ∷ (bits ++ low) ≡ b ∷ plus (added b m) (multiple m) = e ∙ multiple_more b m in
     (cc, cc)
 
 -- the sum of what follows with a list that begins with given bits
-begins : (t bits low : List Bool) → length bits ≤ length t → plus t (bits ++ low) ≡ plus (take (length bits) t) bits ++ plus (drop (length bits) t) low
+begins : (t bits low : List Bool) → length bits ≤ length t →
+    plus t (bits ++ low) ≡ plus (take (length bits) t) bits ++ plus (drop (length bits) t) low
 begins t bits low le =
     let long : length (take (length bits) t) ≡ length bits = length-take-le (length bits) t le in
     ap (λ (l : List Bool). plus l (bits ++ low)) (sym (take-append-drop (length bits) t)) ∙ plus-append _ _ bits low long
 
-one_quotient : (p q bits low low' : List Bool) → length p ≡ length bits → length q ≡ length bits → bits ++ low ≡ multiple p → bits ++ low' ≡ multiple q → p ≡ q
+one_quotient : (p q bits low low' : List Bool) → length p ≡ length bits → length q ≡ length bits →
+    bits ++ low ≡ multiple p → bits ++ low' ≡ multiple q → p ≡ q
 one_quotient [] [] bits low low' lp lq ep eq = refl
 one_quotient (a ∷ p) (b ∷ q) (x ∷ bits) low low' lp lq ep eq =
     let hp = less a x p bits low ep in
@@ -142,7 +148,8 @@ one_quotient [] (b ∷ q) bits low low' lp lq ep eq = absurd (omega (arith, lp, 
 one_quotient (a ∷ p) [] bits low low' lp lq ep eq = absurd (omega (arith, lp, lq))
 one_quotient (a ∷ p) (b ∷ q) [] low low' lp lq ep eq = absurd (omega (arith, lp))
 
-quotient_long : (quads : List ℕ) (crc : ℕ) (h : IsCrc quads crc) → length h.quotient ≡ length (quad_bits quads)
+quotient_long : (quads : List ℕ) (crc : ℕ) (h : IsCrc quads crc) →
+    length h.quotient ≡ length (quad_bits quads)
 quotient_long quads crc h =
     let e : length (quad_bits quads ++ bits_of 16 crc) ≡ length (multiple h.quotient) = ap length h.division in
     omega (arith, e, length-append (quad_bits quads) (bits_of 16 crc), length-bits_of 16 crc, length-multiple h.quotient)
@@ -157,7 +164,8 @@ one_crc quads x y hx hy =
 
 -- ---- quadlet by quadlet
 
-pub next_quad : (quads : List ℕ) (i crc next : ℕ) → i < length quads → bits_of 16 next ≡ after_bits (bits_of 16 crc) (bits_of 32 (get_or quads i 0)) →
+pub next_quad : (quads : List ℕ) (i crc next : ℕ) → i < length quads →
+    bits_of 16 next ≡ after_bits (bits_of 16 crc) (bits_of 32 (get_or quads i 0)) →
     after_bits (bits_of 16 next) (quad_bits (drop (i + 1) quads)) ≡ after_bits (bits_of 16 crc) (quad_bits (drop i quads))
 next_quad quads i crc next lt e =
     let parts : drop i quads ≡ get_or quads i 0 ∷ drop (i + 1) quads = rw (add-one, drop-cons quads i 0 lt) refl in
@@ -165,6 +173,8 @@ next_quad quads i crc next lt e =
     ∙ sym (after_bits-append (bits_of 16 crc) (bits_of 32 (get_or quads i 0)) (quad_bits (drop (i + 1) quads)))
     ∙ ap (λ (l : List ℕ). after_bits (bits_of 16 crc) (quad_bits l)) (sym parts)
 
-pub all_quads : (quads : List ℕ) (i crc : ℕ) → length quads ≤ i → crc < 2 ^ 16 → after_bits (bits_of 16 crc) (quad_bits (drop i quads)) ≡ after_bits (bits_of 16 0) (quad_bits quads) → IsCrc quads crc
+pub all_quads : (quads : List ℕ) (i crc : ℕ) → length quads ≤ i → crc < 2 ^ 16 →
+    after_bits (bits_of 16 crc) (quad_bits (drop i quads)) ≡ after_bits (bits_of 16 0) (quad_bits quads) →
+    IsCrc quads crc
 all_quads quads i crc le fits e =
     remainder quads crc fits (ap (λ (l : List ℕ). after_bits (bits_of 16 crc) (quad_bits l)) (sym (drop_of_length-le quads le)) ∙ e)

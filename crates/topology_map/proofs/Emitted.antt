@@ -12,7 +12,8 @@ use Rattle.topology_stack.proofs.Laws.{are_nodes}
 AreNodes : List Node → Type 0
 AreNodes ns = (i : ℕ) (n : Node) → slice_get ns i ≡ Some n → IsNode n
 
-node_count-groups : (id : ℕ) (ns : List Node) → AreNodes ns → id + length ns ≤ 63 → node_count (groups id ns) ≡ length ns
+node_count-groups : (id : ℕ) (ns : List Node) → AreNodes ns → id + length ns ≤ 63 →
+    node_count (groups id ns) ≡ length ns
 unfolding AreNodes
 node_count-groups id [] each few = refl
 node_count-groups id (n ∷ ns) each few =

@@ -14,11 +14,13 @@ use Rattle.topology_map.proofs.Division.{one_crc}
 split : (first n : ℕ) → first / 2 ^ 16 + 1 ≡ suc n → first ≡ 2 ^ 16 * n + first % 2 ^ 16
 split first n e = omega arith
 
-pub joined : (n crc : ℕ) → crc < 2 ^ 16 → ((2 ^ 16 * n + crc) / 2 ^ 16 ≡ n) × ((2 ^ 16 * n + crc) % 2 ^ 16 ≡ crc)
+pub joined : (n crc : ℕ) → crc < 2 ^ 16 →
+    ((2 ^ 16 * n + crc) / 2 ^ 16 ≡ n) × ((2 ^ 16 * n + crc) % 2 ^ 16 ≡ crc)
 joined n crc fits = (omega arith, omega arith)
 
 -- quadlets that break no rule are the image of these parts
-pub is_map : (quads : List ℕ) (nodes : ℕ) → TellsNodes quads nodes → IsMap (slice_index quads 1) nodes (drop 3 quads) quads
+pub is_map : (quads : List ℕ) (nodes : ℕ) → TellsNodes quads nodes →
+    IsMap (slice_index quads 1) nodes (drop 3 quads) quads
 is_map [] nodes w = absurd (let h = w.length_told.three in omega arith)
 is_map (a ∷ []) nodes w = absurd (let h = w.length_told.three in omega arith)
 is_map (a ∷ b ∷ []) nodes w = absurd (let h = w.length_told.three in omega arith)
@@ -39,7 +41,8 @@ pub record PartsAre (quads : List ℕ) (generation nodes : ℕ) (list : List ℕ
   pub generation_is : slice_index quads 1 ≡ generation
   pub list_is : drop 3 quads ≡ list
 
-pub parts_are : (generation nodes : ℕ) (list quads : List ℕ) → IsMap generation nodes list quads → PartsAre quads generation nodes list
+pub parts_are : (generation nodes : ℕ) (list quads : List ℕ) → IsMap generation nodes list quads →
+    PartsAre quads generation nodes list
 parts_are generation nodes list quads h =
     let body = generation ∷ counts_of list ∷ list in
     let i = h.image in
@@ -59,7 +62,8 @@ parts_are generation nodes list quads h =
     } in
     subst (λ (q : List ℕ). PartsAre q generation nodes list) (sym i.quads_are) parts
 
-pub no_fault : (quads : List ℕ) (nodes : ℕ) (f : ImageFault) → TellsNodes quads nodes → Refused quads f → ⊥
+pub no_fault : (quads : List ℕ) (nodes : ℕ) (f : ImageFault) → TellsNodes quads nodes →
+    Refused quads f → ⊥
 no_fault quads nodes (Length fnd) w r = r.0 w.length_told
 no_fault quads nodes (Crc kept computed) w r = r.3 (r.1 ∙ one_crc (drop 1 quads) _ computed w.crc_told r.2)
 no_fault quads nodes (Counts kept fnd) w r = r.4 (r.2 ∙ w.counts_told ∙ sym r.3)
@@ -81,7 +85,8 @@ one_fault quads (Memory e) g r s = absurd r
 one_fault quads f (Memory e) r s = absurd s
 
 -- an answer of which something holds
-pub unless_memory : {A : Type 0} (r : Result A ImageFault) (P : Result A ImageFault → Type 0) → P r → UnlessMemory r P
+pub unless_memory : {A : Type 0} (r : Result A ImageFault) (P : Result A ImageFault → Type 0) →
+    P r → UnlessMemory r P
 unless_memory (Ok x) P h = h
 unless_memory (Err (Length fnd)) P h = h
 unless_memory (Err (Crc kept computed)) P h = h
@@ -89,7 +94,8 @@ unless_memory (Err (Counts kept fnd)) P h = h
 unless_memory (Err (Memory e)) P h = tt
 
 -- a sealed body that tells a generation, the counts and a list is the image of these parts
-pub sealed_map : {E : Type 0} (r : Result (List ℕ) E) (body : List ℕ) (generation nodes : ℕ) (list : List ℕ) → body ≡ generation ∷ counts_of list ∷ list → nodes ≡ node_count list →
+pub sealed_map : {E : Type 0} (r : Result (List ℕ) E) (body : List ℕ) (generation nodes : ℕ) (list : List ℕ) →
+    body ≡ generation ∷ counts_of list ∷ list → nodes ≡ node_count list →
     IfOk r (λ quads. IsSealed body quads) → IfOk r (λ quads. IsMap generation nodes list quads)
 sealed_map (Ok quads) body generation nodes list e n h = record { nodes_are = n; image = subst (λ (b : List ℕ). IsSealed b quads) e h }
 sealed_map (Err x) body generation nodes list e n h = tt

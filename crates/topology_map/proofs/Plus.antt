@@ -58,7 +58,8 @@ length-plus [] b e = refl
 length-plus (x ∷ a) [] e = absurd (omega (arith, e))
 length-plus (x ∷ a) (y ∷ b) e = let rest : length a ≡ length b = omega (arith, e) in omega (arith, length-plus a b rest)
 
-pub plus-append : (a b c d : List Bool) → length a ≡ length c → plus (a ++ b) (c ++ d) ≡ plus a c ++ plus b d
+pub plus-append : (a b c d : List Bool) → length a ≡ length c →
+    plus (a ++ b) (c ++ d) ≡ plus a c ++ plus b d
 plus-append [] b [] d e = refl
 plus-append [] b (y ∷ c) d e = absurd (omega (arith, e))
 plus-append (x ∷ a) b [] d e = absurd (omega (arith, e))

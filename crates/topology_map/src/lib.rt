@@ -13,4 +13,3 @@ pub use fault::{ImageFault, OutOfMemory};
 pub use laws::images_exist;
 pub use map::{MapParts, image, read_image};
 pub use sealed::seal;
-

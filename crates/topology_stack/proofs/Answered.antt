@@ -33,17 +33,22 @@ Walked standard l ns = (t : Tree) × IsBusTreeOf standard t × (ns ≡ walk t) �
 same_tree : (ns : List Node) (t : Tree) → ns ≡ walk t → t ≡ tree_of ns
 same_tree ns t is = sym (tree_of-walk t) ∙ ap tree_of (sym is)
 
-pub few_nodes : (standard : Standard) (l : List ℕ) (ns : List Node) → Walked standard l ns → length ns ≤ 63
+pub few_nodes : (standard : Standard) (l : List ℕ) (ns : List Node) → Walked standard l ns →
+    length ns ≤ 63
 few_nodes standard l ns (t, bus, is, e) = omega (arith, bus.bus.small, ap length is)
 
-pub is_found : (standard : Standard) (l : List ℕ) (ns : List Node) → Walked standard l ns → IsBusTreeOf standard (tree_of ns) × (emits (tree_of ns) ≡ l)
+pub is_found : (standard : Standard) (l : List ℕ) (ns : List Node) → Walked standard l ns →
+    IsBusTreeOf standard (tree_of ns) × (emits (tree_of ns) ≡ l)
 is_found standard l ns (t, bus, is, e) = subst (λ (u : Tree). IsBusTreeOf standard u × (emits u ≡ l)) (same_tree ns t is) (bus, e)
 
-pub is_walk : (standard : Standard) (l : List ℕ) (ns : List Node) → Walked standard l ns → ns ≡ walk (tree_of ns)
+pub is_walk : (standard : Standard) (l : List ℕ) (ns : List Node) → Walked standard l ns →
+    ns ≡ walk (tree_of ns)
 is_walk standard l ns (t, bus, is, e) = is ∙ ap walk (same_tree ns t is)
 
-pub is_only : (standard : Standard) (l : List ℕ) (ns : List Node) → Walked standard l ns → (t : Tree) → IsBusTreeOf standard t → emits t ≡ l → tree_of ns ≡ t
+pub is_only : (standard : Standard) (l : List ℕ) (ns : List Node) → Walked standard l ns →
+    (t : Tree) → IsBusTreeOf standard t → emits t ≡ l → tree_of ns ≡ t
 is_only standard l ns w t bus e = let f = is_found standard l ns w in one_tree standard (tree_of ns) t f.0 bus (f.1 ∙ sym e)
 
-pub no_exact : (standard : Standard) (l : List ℕ) (ns : List Node) → Walked standard l ns → (f : TreeFault) → Refused standard l f → ⊥
+pub no_exact : (standard : Standard) (l : List ℕ) (ns : List Node) → Walked standard l ns →
+    (f : TreeFault) → Refused standard l f → ⊥
 no_exact standard l ns w f is = let x = is_found standard l ns w in no_fault standard (tree_of ns) f x.0 (subst (λ (k : List ℕ). Refused standard k f) (sym x.1) is)

@@ -4,17 +4,20 @@ use Rattle.std.specs.Prelude.{slice_get}
 use Rattle.std.proofs.lemmas.List.{take_all, take-append-le, drop_at, drop-append-le, length-take}
 use Rattle.topology_stack.specs.codings.Links.{cut, Rises, total}
 
-pub length-cut : (ids : List ℕ) (start : ℕ) (ends : List ℕ) → length (cut ids start ends) ≡ length ends
+pub length-cut : (ids : List ℕ) (start : ℕ) (ends : List ℕ) →
+    length (cut ids start ends) ≡ length ends
 length-cut ids start [] = refl
 length-cut ids start (end ∷ ends) = ap suc (length-cut ids end ends)
 
 -- in all they have the elements behind the start
-pub total-cut : (ids : List ℕ) (start : ℕ) (ends : List ℕ) → Rises (length ids) start ends → total (cut ids start ends) + start ≡ length ids
+pub total-cut : (ids : List ℕ) (start : ℕ) (ends : List ℕ) → Rises (length ids) start ends →
+    total (cut ids start ends) + start ≡ length ids
 total-cut ids start [] r = omega arith
 total-cut ids start (end ∷ ends) r = omega (arith, r.0, r.1, total-cut ids end ends r.2, length-take (end - start) (drop start ids), length-drop start ids)
 
 -- one list more
-pub cut-more : (ids more : List ℕ) (start : ℕ) (ends : List ℕ) → Rises (length ids) start ends → cut (ids ++ more) start (ends ++ (length ids + length more) ∷ []) ≡ cut ids start ends ++ more ∷ []
+pub cut-more : (ids more : List ℕ) (start : ℕ) (ends : List ℕ) → Rises (length ids) start ends →
+    cut (ids ++ more) start (ends ++ (length ids + length more) ∷ []) ≡ cut ids start ends ++ more ∷ []
 cut-more ids more start [] r =
     let rest : drop start (ids ++ more) ≡ more = drop_at ids more start (sym r) in
     let count : length ids + length more - start ≡ length more = omega (arith, r) in
@@ -24,7 +27,8 @@ cut-more ids more start (end ∷ ends) r =
     let part : take (end - start) (drop start ids ++ more) ≡ take (end - start) (drop start ids) = take-append-le (end - start) (drop start ids) more (omega (arith, r.0, r.1, length-drop start ids)) in
     rw (rest, part, cut-more ids more end ends r.2) refl
 
-pub rises-more : (count more start : ℕ) (ends : List ℕ) → Rises count start ends → Rises (count + more) start (ends ++ (count + more) ∷ [])
+pub rises-more : (count more start : ℕ) (ends : List ℕ) → Rises count start ends →
+    Rises (count + more) start (ends ++ (count + more) ∷ [])
 rises-more count more start [] r = (omega (arith, r), omega arith, refl)
 rises-more count more start (end ∷ ends) r = (r.0, omega (arith, r.1), rises-more count more end ends r.2)
 
@@ -39,7 +43,8 @@ pub record Part (ids : List ℕ) (start : ℕ) (ends : List ℕ) (k : ℕ) : Typ
   pub high : get_or ends k 0 ≤ length ids
   pub is : slice_get (cut ids start ends) k ≡ Some (take (get_or ends k 0 - start_of start ends k) (drop (start_of start ends k) ids))
 
-pub part : (ids : List ℕ) (start : ℕ) (ends : List ℕ) (k : ℕ) → k < length ends → Rises (length ids) start ends → Part ids start ends k
+pub part : (ids : List ℕ) (start : ℕ) (ends : List ℕ) (k : ℕ) → k < length ends →
+    Rises (length ids) start ends → Part ids start ends k
 part ids start [] k lt r = absurd (omega arith)
 part ids start (end ∷ ends) zero lt r = record { low = r.0; high = r.1; is = refl }
 part ids start (end ∷ ends) (suc zero) lt r = let p = part ids end ends 0 (omega arith) r.2 in record { low = p.low; high = p.high; is = p.is }
@@ -52,7 +57,8 @@ pub record Later (ids ends : List ℕ) (id : ℕ) (lists : List (List ℕ)) : Ty
   pub high : get_or ends id 0 ≤ length ids
   pub is : slice_get lists id ≡ Some (take (get_or ends id 0 - get_or ends (id - 1) 0) (drop (get_or ends (id - 1) 0) ids))
 
-pub later : (ids ends : List ℕ) (id : ℕ) (lists : List (List ℕ)) → cut ids 0 ends ≡ lists → Rises (length ids) 0 ends → (id ≡ 0 → ⊥) → id < length lists → Later ids ends id lists
+pub later : (ids ends : List ℕ) (id : ℕ) (lists : List (List ℕ)) → cut ids 0 ends ≡ lists →
+    Rises (length ids) 0 ends → (id ≡ 0 → ⊥) → id < length lists → Later ids ends id lists
 later ids ends zero lists e r some lt = absurd (some refl)
 later ids ends (suc k) lists e r some lt =
     let count : suc k < length ends = omega (arith, length-cut ids 0 ends, ap length e) in
@@ -61,10 +67,13 @@ later ids ends (suc k) lists e r some lt =
     record { inside = count; low = rw before p.low; high = p.high; is = rw (← e, before) p.is }
 
 -- room for one ID more, and for one list more
-pub has_room : (ids ends more now : List ℕ) (lists : List (List ℕ)) (k : ℕ) → cut ids 0 ends ≡ lists → Rises (length ids) 0 ends → total lists + length more ≤ 63 → now ≡ ids ++ take k more → k < length more → length now < 63
+pub has_room : (ids ends more now : List ℕ) (lists : List (List ℕ)) (k : ℕ) →
+    cut ids 0 ends ≡ lists → Rises (length ids) 0 ends → total lists + length more ≤ 63 →
+    now ≡ ids ++ take k more → k < length more → length now < 63
 has_room ids ends more now lists k e r room is lt = omega (arith, total-cut ids 0 ends r, ap total e, ap length is, length-append ids (take k more), length-take k more)
 
-pub has_end : (ids ends now : List ℕ) (lists : List (List ℕ)) → cut ids 0 ends ≡ lists → length lists < 63 → now ≡ ends → length now < 63
+pub has_end : (ids ends now : List ℕ) (lists : List (List ℕ)) → cut ids 0 ends ≡ lists →
+    length lists < 63 → now ≡ ends → length now < 63
 has_end ids ends now lists e room is = omega (arith, length-cut ids 0 ends, ap length e, ap length is)
 
 -- one list more stands behind the others
@@ -73,7 +82,10 @@ pub record Pushed (ids ends more : List ℕ) (lists : List (List ℕ)) : Type 0 
   pub rises : Rises (length ids) 0 ends
   pub is : cut ids 0 ends ≡ lists ++ more ∷ []
 
-pub pushed : (ids ends more ids' ends' : List ℕ) (lists : List (List ℕ)) (k : ℕ) → cut ids 0 ends ≡ lists → Rises (length ids) 0 ends → total lists + length more ≤ 63 → length more ≤ k → ids' ≡ ids ++ take k more → ends' ≡ ends ++ length ids' ∷ [] → Pushed ids' ends' more lists
+pub pushed : (ids ends more ids' ends' : List ℕ) (lists : List (List ℕ)) (k : ℕ) →
+    cut ids 0 ends ≡ lists → Rises (length ids) 0 ends → total lists + length more ≤ 63 →
+    length more ≤ k → ids' ≡ ids ++ take k more → ends' ≡ ends ++ length ids' ∷ [] →
+    Pushed ids' ends' more lists
 pushed ids ends more ids' ends' lists k e r room over is at =
     let ids_is : ids' ≡ ids ++ more = is ∙ ap (λ (l : List ℕ). ids ++ l) (take_all k more over) in
     let count : length ids' ≡ length ids + length more = omega (arith, ap length ids_is, length-append ids more) in

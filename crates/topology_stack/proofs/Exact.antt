@@ -20,7 +20,8 @@ use Rattle.topology_stack.proofs.Run.{step, run_parts, run_trees}
 
 -- ---- bus trees
 
-root_step : (standard : Standard) (room at found : ℕ) (n : Node) (ns : List Node) (rest : List ℕ) → IsNode n → IsOf standard n → length ns ≤ 62 → found ≡ downs n.ports → ups n.ports ≡ 0 →
+root_step : (standard : Standard) (room at found : ℕ) (n : Node) (ns : List Node) (rest : List ℕ) →
+    IsNode n → IsOf standard n → length ns ≤ 62 → found ≡ downs n.ports → ups n.ports ≡ 0 →
     read_from standard (1 + room) at found false ns (groups (length ns) (n ∷ []) ++ rest) ≡ read_from standard room (at + length (group n (length ns))) 1 true (ns ++ n ∷ []) rest
 root_step standard room at found n ns rest h is_of lt all no_up =
     let room' : 1 + room ≡ suc room = omega arith in
@@ -33,7 +34,8 @@ root_step standard room at found n ns rest h is_of lt all no_up =
     ∙ ap (λ (x : List ℕ). read_from standard (suc room) at found false ns (x ++ rest)) alone
     ∙ step standard room at found n ns rest h is_of lt (omega (arith, all)) test ∙ rw (one, root) refl
 
-bus_read : (standard : Standard) (t : Tree) (rest : List ℕ) → IsBusTreeOf standard t → read standard (emits t ++ rest) ≡ read_from standard (63 - length (walk t)) (length (emits t)) 1 true (walk t) rest
+bus_read : (standard : Standard) (t : Tree) (rest : List ℕ) → IsBusTreeOf standard t →
+    read standard (emits t ++ rest) ≡ read_from standard (63 - length (walk t)) (length (emits t)) 1 true (walk t) rest
 bus_read standard (branch a s) rest h =
     let bus = h.bus in
     let both = AreOf-parts standard (walk_below s) (node_of a s ∷ []) h.nodes in
@@ -53,12 +55,15 @@ bus_read standard (branch a s) rest h =
     ∙ root_step standard room (0 + length (groups 0 (walk_below s))) (0 + downs (statuses s)) n (walk_below s) rest bus.whole.0 both.1.0 (omega (arith, bus.small, len)) (omega arith) bus.whole.1
     ∙ ap (λ (k : ℕ). read_from standard room k 1 true (walk_below s ++ n ∷ []) rest) place
 
-pub emits_again : (standard : Standard) (t : Tree) → IsBusTreeOf standard t → read standard (emits t) ≡ Ok (walk t)
+pub emits_again : (standard : Standard) (t : Tree) → IsBusTreeOf standard t →
+    read standard (emits t) ≡ Ok (walk t)
 emits_again standard t bus = ap (read standard) (sym (append-nil (emits t))) ∙ bus_read standard t [] bus ∙ end_read standard (63 - length (walk t)) (length (emits t)) 1 true (walk t)
 
 -- ---- faults
 
-forest_read : (standard : Standard) (ts : List Tree) (room : ℕ) (l front rest : List ℕ) → Forest standard ts front → l ≡ front ++ rest → room + length (walks ts) ≡ 63 → read standard l ≡ read_from standard room (length front) (length ts) false (walks ts) rest
+forest_read : (standard : Standard) (ts : List Tree) (room : ℕ) (l front rest : List ℕ) →
+    Forest standard ts front → l ≡ front ++ rest → room + length (walks ts) ≡ 63 →
+    read standard l ≡ read_from standard room (length front) (length ts) false (walks ts) rest
 forest_read standard ts room l front rest forest parts full =
     let whole : 63 ≡ length (walks ts) + room = omega (arith, full) in
     let place : 0 + length (groups 0 (walks ts)) ≡ length front = omega (arith, ap length forest.emitted) in
@@ -67,21 +72,28 @@ forest_read standard ts room l front rest forest parts full =
     ∙ run_trees standard ts room rest forest.waiting forest.are_of (omega (arith, full))
     ∙ ap (λ (k : ℕ). read_from standard room k (length ts) false (walks ts) rest) place
 
-group_fault : (standard : Standard) (room at found : ℕ) (ns : List Node) (rest : List ℕ) (f : GroupFault) → 0 < length rest → read_at standard at (length ns) rest ≡ Err f → read_from standard (1 + room) at found false ns rest ≡ Err (Group f)
+group_fault : (standard : Standard) (room at found : ℕ) (ns : List Node) (rest : List ℕ) (f : GroupFault) →
+    0 < length rest → read_at standard at (length ns) rest ≡ Err f →
+    read_from standard (1 + room) at found false ns rest ≡ Err (Group f)
 group_fault standard room at found ns rest f lt e = let k : 1 + room ≡ suc room = omega arith in rw k (one_more standard room at found ns rest lt ∙ rw e refl)
 
 -- a whole group comes next
-group_next : (standard : Standard) (room at found : ℕ) (n : Node) (ns : List Node) (rest : List ℕ) → IsNode n → IsOf standard n → length ns ≤ 62 →
+group_next : (standard : Standard) (room at found : ℕ) (n : Node) (ns : List Node) (rest : List ℕ) →
+    IsNode n → IsOf standard n → length ns ≤ 62 →
     read_from standard (1 + room) at found false ns (group n (length ns) ++ rest) ≡ next standard room at found ns (group n (length ns) ++ rest) n
 group_next standard room at found n ns rest h is_of lt =
     let k : 1 + room ≡ suc room = omega arith in
     let some : 0 < length (group n (length ns) ++ rest) = omega (arith, length-append (group n (length ns)) rest, (length-group n (length ns) h).0) in
     rw k (one_more standard room at found ns (group n (length ns) ++ rest) some ∙ rw (read_at-group standard n at (length ns) rest h is_of lt) refl)
 
-too_few : (standard : Standard) (room at found : ℕ) (n : Node) (ns : List Node) (rest : List ℕ) → IsNode n → IsOf standard n → length ns ≤ 62 → found < downs n.ports → read_from standard (1 + room) at found false ns (group n (length ns) ++ rest) ≡ Err (TooFewChildren at found (downs n.ports))
+too_few : (standard : Standard) (room at found : ℕ) (n : Node) (ns : List Node) (rest : List ℕ) →
+    IsNode n → IsOf standard n → length ns ≤ 62 → found < downs n.ports →
+    read_from standard (1 + room) at found false ns (group n (length ns) ++ rest) ≡ Err (TooFewChildren at found (downs n.ports))
 too_few standard room at found n ns rest h is_of lt few = group_next standard room at found n ns rest h is_of lt ∙ rw (lt-ltb _ _ few) refl
 
-trees_left : (standard : Standard) (room at found : ℕ) (n : Node) (ns : List Node) (rest : List ℕ) → IsNode n → IsOf standard n → length ns ≤ 62 → downs n.ports < found → ups n.ports ≡ 0 → read_from standard (1 + room) at found false ns (group n (length ns) ++ rest) ≡ Err (TreesLeft at found (downs n.ports))
+trees_left : (standard : Standard) (room at found : ℕ) (n : Node) (ns : List Node) (rest : List ℕ) →
+    IsNode n → IsOf standard n → length ns ≤ 62 → downs n.ports < found → ups n.ports ≡ 0 →
+    read_from standard (1 + room) at found false ns (group n (length ns) ++ rest) ≡ Err (TreesLeft at found (downs n.ports))
 trees_left standard room at found n ns rest h is_of lt left no_up =
     let enough : ltb found (downs n.ports) ≡ false = le-ltb _ _ (omega arith) in
     let test : (eqb (ups n.ports) 0 && ltb (downs n.ports) found) ≡ true = rw (no_up, lt-ltb _ _ left) refl in
@@ -91,7 +103,8 @@ empty_read : (standard : Standard) → read standard [] ≡ Err Empty
 unfolding read_from
 empty_read standard = refl
 
-pub refused_again : (standard : Standard) (l : List ℕ) (f : TreeFault) → Refused standard l f → read standard l ≡ Err f
+pub refused_again : (standard : Standard) (l : List ℕ) (f : TreeFault) → Refused standard l f →
+    read standard l ≡ Err f
 refused_again standard l (Group f) (ts, front, rest, at, g, fault) =
     let room : 1 + (62 - length (walks ts)) + length (walks ts) ≡ 63 = omega (arith, g.few) in
     forest_read standard ts (1 + (62 - length (walks ts))) l front rest g.forest g.parts room

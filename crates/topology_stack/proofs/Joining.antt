@@ -24,13 +24,15 @@ pub record Linked (ns : List Node) (roots parents : List ℕ) (children : List (
   pub all : total children + length roots ≡ length ns
   pub are : AreLinks ns roots parents children
 
-pub nothing_linked : (parents : List ℕ) (children : List (List ℕ)) → parents ≡ [] → children ≡ [] → Linked [] [] parents children
+pub nothing_linked : (parents : List ℕ) (children : List (List ℕ)) → parents ≡ [] → children ≡ [] →
+    Linked [] [] parents children
 nothing_linked parents children p q = rw (p, q) (record { above = refl; below = refl; all = refl; are = refl })
 
 abbrev make : List ℕ → List ℕ → List (List ℕ) → Linking
 make w a b = record { waiting = w; above = a; below = b }
 
-pub links_one_more : (ns : List Node) (n : Node) (roots parents roots' parents' : List ℕ) (children children' : List (List ℕ)) (kept : ℕ) → Linked ns roots parents children → kept ≡ length roots - downs n.ports →
+pub links_one_more : (ns : List Node) (n : Node) (roots parents roots' parents' : List ℕ) (children children' : List (List ℕ)) (kept : ℕ) →
+    Linked ns roots parents children → kept ≡ length roots - downs n.ports →
     roots' ≡ take kept roots ++ length ns ∷ [] → parents' ≡ set_all (drop kept roots) (length parents) parents ++ 63 ∷ [] → children' ≡ children ++ drop kept roots ∷ [] →
     Linked (ns ++ n ∷ []) roots' parents' children'
 links_one_more ns n roots parents roots' parents' children children' kept h k r p q =
@@ -56,10 +58,13 @@ pub record Kept (roots parents : List ℕ) (children : List (List ℕ)) (kept : 
   pub below : length children < 63
   pub room : total children + length (drop kept roots) ≤ 63
 
-pub kept_is : (at found : ℕ) (n : Node) (w : Waiting) (roots : List ℕ) → found ≡ length roots → after_node at found n ≡ Ok w → w.trees - 1 ≡ length roots - downs n.ports
+pub kept_is : (at found : ℕ) (n : Node) (w : Waiting) (roots : List ℕ) → found ≡ length roots →
+    after_node at found n ≡ Ok w → w.trees - 1 ≡ length roots - downs n.ports
 kept_is at found n w roots e go = omega (arith, trees_are at found n w go)
 
-pub keeps : (ns : List Node) (n : Node) (roots parents : List ℕ) (children : List (List ℕ)) (kept : ℕ) → Linked ns roots parents children → kept ≡ length roots - downs n.ports → length ns < 63 → Kept roots parents children kept
+pub keeps : (ns : List Node) (n : Node) (roots parents : List ℕ) (children : List (List ℕ)) (kept : ℕ) →
+    Linked ns roots parents children → kept ≡ length roots - downs n.ports → length ns < 63 →
+    Kept roots parents children kept
 keeps ns n roots parents children kept h k room = record {
   some = omega arith;
   small = omega (arith, h.all);
@@ -68,5 +73,7 @@ keeps ns n roots parents children kept h k room = record {
   room = omega (arith, h.all, length-drop kept roots);
 }
 
-pub count_is : (at found : ℕ) (n : Node) (w : Waiting) (roots roots' : List ℕ) (id kept : ℕ) → after_node at found n ≡ Ok w → kept ≡ w.trees - 1 → kept ≤ length roots → roots' ≡ take kept roots ++ id ∷ [] → w.trees ≡ length roots'
+pub count_is : (at found : ℕ) (n : Node) (w : Waiting) (roots roots' : List ℕ) (id kept : ℕ) →
+    after_node at found n ≡ Ok w → kept ≡ w.trees - 1 → kept ≤ length roots →
+    roots' ≡ take kept roots ++ id ∷ [] → w.trees ≡ length roots'
 count_is at found n w roots roots' id kept go k some r = omega (arith, trees_are at found n w go, ap length r, length-append (take kept roots) (id ∷ []), length-take-le kept roots some)

@@ -12,13 +12,16 @@ use Rattle.topology_stack.proofs.ReadFrom.{read}
 use Rattle.topology_stack.proofs.Sound.{Explained, read_sound}
 use Rattle.topology_stack.proofs.Exact.{emits_again, refused_again}
 
-explained : (standard : Standard) (l : List ℕ) (r : Result (List Node) TreeFault) → read standard l ≡ r → Explained standard l r
+explained : (standard : Standard) (l : List ℕ) (r : Result (List Node) TreeFault) →
+    read standard l ≡ r → Explained standard l r
 explained standard l r e = subst (Explained standard l) e (read_sound standard l)
 
-pub is_refused : (standard : Standard) (l : List ℕ) (f : TreeFault) → read standard l ≡ Err f → Refused standard l f
+pub is_refused : (standard : Standard) (l : List ℕ) (f : TreeFault) → read standard l ≡ Err f →
+    Refused standard l f
 is_refused standard l f e = explained standard l (Err f) e
 
-pub is_emitted : (standard : Standard) (l : List ℕ) (ns : List Node) → read standard l ≡ Ok ns → (t : Tree) × IsBusTreeOf standard t × (ns ≡ walk t) × (emits t ≡ l)
+pub is_emitted : (standard : Standard) (l : List ℕ) (ns : List Node) → read standard l ≡ Ok ns →
+    (t : Tree) × IsBusTreeOf standard t × (ns ≡ walk t) × (emits t ≡ l)
 is_emitted standard l ns e = let x = explained standard l (Ok ns) e in (x.0, x.1.bus, x.1.nodes, sym x.1.list)
 
 abbrev ok_nodes : List Node → Result (List Node) TreeFault
@@ -37,15 +40,18 @@ same_nodes : (ms ns : List Node) → ok_nodes ms ≡ ok_nodes ns → ms ≡ ns
 same_nodes ms ns e = cc
 
 -- no list has two trees
-pub one_tree : (standard : Standard) (t u : Tree) → IsBusTreeOf standard t → IsBusTreeOf standard u → emits t ≡ emits u → t ≡ u
+pub one_tree : (standard : Standard) (t u : Tree) → IsBusTreeOf standard t →
+    IsBusTreeOf standard u → emits t ≡ emits u → t ≡ u
 one_tree standard t u bt bu e = sym (tree_of-walk t) ∙ ap tree_of (same_nodes (walk t) (walk u) (sym (emits_again standard t bt) ∙ ap (read standard) e ∙ emits_again standard u bu)) ∙ tree_of-walk u
 
 -- a list that a tree emits has no fault
-pub no_fault : (standard : Standard) (t : Tree) (f : TreeFault) → IsBusTreeOf standard t → Refused standard (emits t) f → ⊥
+pub no_fault : (standard : Standard) (t : Tree) (f : TreeFault) → IsBusTreeOf standard t →
+    Refused standard (emits t) f → ⊥
 no_fault standard t f bus is = apart (walk t) f (sym (emits_again standard t bus) ∙ refused_again standard (emits t) f is)
 
 -- no list has two faults
-pub one_fault : (standard : Standard) (l : List ℕ) (f g : TreeFault) → Refused standard l f → Refused standard l g → f ≡ g
+pub one_fault : (standard : Standard) (l : List ℕ) (f g : TreeFault) → Refused standard l f →
+    Refused standard l g → f ≡ g
 one_fault standard l f g a b = same_fault f g (sym (refused_again standard l f a) ∙ refused_again standard l g b)
 
 -- each list has a tree or a fault
@@ -53,11 +59,13 @@ data Answer (standard : Standard) (l : List ℕ) : Type 0 where
   accepted : (t : Tree) → IsBusTreeOf standard t → emits t ≡ l → Answer standard l
   refused : (f : TreeFault) → Refused standard l f → Answer standard l
 
-answer_by : (standard : Standard) (l : List ℕ) (r : Result (List Node) TreeFault) → Explained standard l r → Answer standard l
+answer_by : (standard : Standard) (l : List ℕ) (r : Result (List Node) TreeFault) →
+    Explained standard l r → Answer standard l
 answer_by standard l (Ok ns) (t, e) = accepted t e.bus (sym e.list)
 answer_by standard l (Err f) is = refused f is
 
-pub one_of : (standard : Standard) (l : List ℕ) → ((t : Tree) × IsBusTreeOf standard t × (emits t ≡ l)) ⊎ ((f : TreeFault) × Refused standard l f)
+pub one_of : (standard : Standard) (l : List ℕ) →
+    ((t : Tree) × IsBusTreeOf standard t × (emits t ≡ l)) ⊎ ((f : TreeFault) × Refused standard l f)
 one_of standard l = elim (answer_by standard l (read standard l) (read_sound standard l)) [
   | accepted t bus is ↦ inl (t, bus, is)
   | refused f is ↦ inr (f, is)
@@ -96,5 +104,6 @@ mutual
 bus_nodes : (t : Tree) → IsBusTree t → AllNodes (walk t)
 bus_nodes (branch a s) bus = both (walk_below s) (node_of a s ∷ []) (parts_nodes s bus.whole.2) (alone (node_of a s) bus.whole.0)
 
-pub are_nodes : (t : Tree) (i : ℕ) (n : Node) → IsBusTree t → slice_get (walk t) i ≡ Some n → IsNode n
+pub are_nodes : (t : Tree) (i : ℕ) (n : Node) → IsBusTree t → slice_get (walk t) i ≡ Some n →
+    IsNode n
 are_nodes t i n bus e = bus_nodes t bus i n e

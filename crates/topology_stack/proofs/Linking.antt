@@ -9,7 +9,8 @@ use Rattle.topology_stack.specs.codings.Links.{set_all, Linking, linked, all_lin
 abbrev pub link : Linking → Node → Linking
 link l n = linked (length l.waiting - downs n.ports) l
 
-pub all_linked-append : (l : Linking) (ms ns : List Node) → all_linked l (ms ++ ns) ≡ all_linked (all_linked l ms) ns
+pub all_linked-append : (l : Linking) (ms ns : List Node) →
+    all_linked l (ms ++ ns) ≡ all_linked (all_linked l ms) ns
 all_linked-append l [] ns = refl
 all_linked-append l (m ∷ ms) ns = all_linked-append (link l m) ms ns
 
@@ -21,25 +22,30 @@ length-child_ids from (up s) = length-child_ids from s
 length-child_ids from (down t s) = omega (arith, length-child_ids (from + length (walk t)) s)
 
 mutual
-  pub length-parents_from : (from parent : ℕ) (t : Tree) → length (parents_from from parent t) ≡ length (walk t)
+  pub length-parents_from : (from parent : ℕ) (t : Tree) →
+      length (parents_from from parent t) ≡ length (walk t)
   length-parents_from from parent (branch a s) = omega (arith, length-append (parents_below from (from + length (walk_below s)) s) (parent ∷ []), length-append (walk_below s) (node_of a s ∷ []), length-parents_below from (from + length (walk_below s)) s)
 
-  pub length-parents_below : (from id : ℕ) (s : Slots) → length (parents_below from id s) ≡ length (walk_below s)
+  pub length-parents_below : (from id : ℕ) (s : Slots) →
+      length (parents_below from id s) ≡ length (walk_below s)
   length-parents_below from id no_more = refl
   length-parents_below from id (absent s) = length-parents_below from id s
   length-parents_below from id (unplugged s) = length-parents_below from id s
   length-parents_below from id (up s) = length-parents_below from id s
   length-parents_below from id (down t s) = omega (arith, length-append (parents_from from id t) (parents_below (from + length (walk t)) id s), length-append (walk t) (walk_below s), length-parents_from from id t, length-parents_below (from + length (walk t)) id s)
 
-set_at_seam : (xs : List ℕ) (y : ℕ) (ys : List ℕ) (id : ℕ) → set (xs ++ y ∷ ys) (length xs) id ≡ xs ++ id ∷ ys
+set_at_seam : (xs : List ℕ) (y : ℕ) (ys : List ℕ) (id : ℕ) →
+    set (xs ++ y ∷ ys) (length xs) id ≡ xs ++ id ∷ ys
 set_at_seam [] y ys id = refl
 set_at_seam (x ∷ xs) y ys id = ap (λ (l : List ℕ). x ∷ l) (set_at_seam xs y ys id)
 
-set_seam : (xs : List ℕ) (y : ℕ) (ys : List ℕ) (k id : ℕ) → k ≡ length xs → set (xs ++ y ∷ ys) k id ≡ (xs ++ id ∷ []) ++ ys
+set_seam : (xs : List ℕ) (y : ℕ) (ys : List ℕ) (k id : ℕ) → k ≡ length xs →
+    set (xs ++ y ∷ ys) k id ≡ (xs ++ id ∷ []) ++ ys
 set_seam xs y ys k id e = ap (λ (i : ℕ). set (xs ++ y ∷ ys) i id) e ∙ set_at_seam xs y ys id ∙ sym (append_assoc xs (id ∷ []) ys)
 
 -- children that had no parent have it
-adopted : (s : Slots) (ps : List ℕ) (from id : ℕ) → from ≡ length ps → set_all (child_ids from s) id (ps ++ parents_below from 63 s) ≡ ps ++ parents_below from id s
+adopted : (s : Slots) (ps : List ℕ) (from id : ℕ) → from ≡ length ps →
+    set_all (child_ids from s) id (ps ++ parents_below from 63 s) ≡ ps ++ parents_below from id s
 adopted no_more ps from id e = refl
 adopted (absent s) ps from id e = adopted s ps from id e
 adopted (unplugged s) ps from id e = adopted s ps from id e
@@ -75,11 +81,13 @@ with_slots l s = record {
 abbrev make : List ℕ → List ℕ → List (List ℕ) → Linking
 make w a b = record { waiting = w; above = a; below = b }
 
-same_linking : (a b : Linking) → a.waiting ≡ b.waiting → a.above ≡ b.above → a.below ≡ b.below → a ≡ b
+same_linking : (a b : Linking) → a.waiting ≡ b.waiting → a.above ≡ b.above → a.below ≡ b.below →
+    a ≡ b
 same_linking a b p q r = ap (λ (w : List ℕ). make w a.above a.below) p ∙ ap (λ (x : List ℕ). make b.waiting x a.below) q ∙ ap (λ (x : List (List ℕ)). make b.waiting b.above x) r
 
 -- the node behind its children
-closed : (l : Linking) (a : Label) (s : Slots) → link (with_slots l s) (node_of a s) ≡ with_tree l (branch a s)
+closed : (l : Linking) (a : Label) (s : Slots) →
+    link (with_slots l s) (node_of a s) ≡ with_tree l (branch a s)
 closed l a s =
     let from = length l.above in
     let children = child_ids from s in
@@ -96,7 +104,8 @@ closed l a s =
     ∙ append_assoc l.above (parents_below from (from + length (walk_below s)) s) (63 ∷ []))
     (ap (λ (x : List ℕ). (l.below ++ children_below from s) ++ x ∷ []) last ∙ append_assoc l.below (children_below from s) (children ∷ []))
 
-one_after : (l : Linking) (t : Tree) (s : Slots) → with_slots (with_tree l t) s ≡ with_slots l (down t s)
+one_after : (l : Linking) (t : Tree) (s : Slots) →
+    with_slots (with_tree l t) s ≡ with_slots l (down t s)
 one_after l t s =
     let from = length l.above in
     let next : length (l.above ++ parents_from from 63 t) ≡ from + length (walk t) = omega (arith, length-append l.above (parents_from from 63 t), length-parents_from from 63 t) in
@@ -124,7 +133,8 @@ mutual
   pub length-children_from : (from : ℕ) (t : Tree) → length (children_from from t) ≡ length (walk t)
   length-children_from from (branch a s) = omega (arith, length-append (children_below from s) (child_ids from s ∷ []), length-append (walk_below s) (node_of a s ∷ []), length-children_below from s)
 
-  pub length-children_below : (from : ℕ) (s : Slots) → length (children_below from s) ≡ length (walk_below s)
+  pub length-children_below : (from : ℕ) (s : Slots) →
+      length (children_below from s) ≡ length (walk_below s)
   length-children_below from no_more = refl
   length-children_below from (absent s) = length-children_below from s
   length-children_below from (unplugged s) = length-children_below from s
@@ -132,7 +142,8 @@ mutual
   length-children_below from (down t s) = omega (arith, length-append (children_from from t) (children_below (from + length (walk t)) s), length-append (walk t) (walk_below s), length-children_from from t, length-children_below (from + length (walk t)) s)
 
 -- what is linked is what a tree keeps
-pub stored : (t : Tree) (ns : List Node) (l : Linking) → IsBusTree t → ns ≡ walk t → l ≡ all_linked unlinked ns → Stored t ns l.above l.below
+pub stored : (t : Tree) (ns : List Node) (l : Linking) → IsBusTree t → ns ≡ walk t →
+    l ≡ all_linked unlinked ns → Stored t ns l.above l.below
 stored t ns l bus nodes is =
     let linked : l ≡ with_tree unlinked t = is ∙ ap (all_linked unlinked) nodes ∙ links_of-walk t in
     record { bus = bus; walk_is = nodes; above = ap (λ (k : Linking). k.above) linked; below = ap (λ (k : Linking). k.below) linked }

@@ -14,7 +14,9 @@ use Rattle.topology_stack.proofs.Loop.{one_more}
 use Rattle.topology_stack.proofs.Stack.{groups-append, AreOf-parts}
 
 -- one more node, not behind a root
-pub step : (standard : Standard) (room at found : ℕ) (n : Node) (ns : List Node) (rest : List ℕ) → IsNode n → IsOf standard n → length ns ≤ 62 → downs n.ports ≤ found → (eqb (ups n.ports) 0 && ltb (downs n.ports) found) ≡ false →
+pub step : (standard : Standard) (room at found : ℕ) (n : Node) (ns : List Node) (rest : List ℕ) →
+    IsNode n → IsOf standard n → length ns ≤ 62 → downs n.ports ≤ found →
+    (eqb (ups n.ports) 0 && ltb (downs n.ports) found) ≡ false →
     read_from standard (suc room) at found false ns (group n (length ns) ++ rest) ≡ read_from standard room (at + length (group n (length ns))) (found - downs n.ports + 1) (eqb (ups n.ports) 0) (ns ++ n ∷ []) rest
 step standard room at found n ns rest h is_of lt enough test =
     let g = group n (length ns) in
@@ -48,14 +50,17 @@ joins standard room at a b c ns xs ys rest first second =
     ap (λ (k : ℕ). read_from standard room k c false ((ns ++ xs) ++ ys) rest) e4 ∙ ap (λ (l : List Node). read_from standard room (at + length (groups (length ns) (xs ++ ys))) c false l rest) (append_assoc ns xs ys) in
     start ∙ first ∙ middle ∙ second ∙ end
 
-nothing_read : (standard : Standard) (room at found : ℕ) (ns : List Node) (rest : List ℕ) → from standard room at found ns [] rest ≡ after standard room at found ns [] rest
+nothing_read : (standard : Standard) (room at found : ℕ) (ns : List Node) (rest : List ℕ) →
+    from standard room at found ns [] rest ≡ after standard room at found ns [] rest
 nothing_read standard room at found ns rest =
     let e : at + 0 ≡ at = omega arith in
     let r : 0 + room ≡ room = omega arith in
     rw (append-nil ns, e, r) refl
 
 -- the last node of a part
-last_node : (standard : Standard) (room at found : ℕ) (n : Node) (ns : List Node) (rest : List ℕ) → IsNode n → IsOf standard n → ups n.ports ≡ 1 → length ns ≤ 62 → from standard room at (found + downs n.ports) ns (n ∷ []) rest ≡ after standard room at (found + 1) ns (n ∷ []) rest
+last_node : (standard : Standard) (room at found : ℕ) (n : Node) (ns : List Node) (rest : List ℕ) →
+    IsNode n → IsOf standard n → ups n.ports ≡ 1 → length ns ≤ 62 →
+    from standard room at (found + downs n.ports) ns (n ∷ []) rest ≡ after standard room at (found + 1) ns (n ∷ []) rest
 last_node standard room at found n ns rest h is_of one lt =
     let test : (eqb (ups n.ports) 0 && ltb (downs n.ports) (found + downs n.ports)) ≡ false = rw one refl in
     let no_root : eqb (ups n.ports) 0 ≡ false = rw one refl in
@@ -69,14 +74,18 @@ last_node standard room at found n ns rest h is_of one lt =
     ∙ ap (λ (x : List ℕ). read_from standard room (at + length x) (found + 1) false (ns ++ n ∷ []) rest) (sym alone)
 
 mutual
-  pub run_part : (standard : Standard) (t : Tree) (room at found : ℕ) (ns : List Node) (rest : List ℕ) → IsPart t → AreOf standard (walk t) → length ns + length (walk t) ≤ 63 → from standard room at found ns (walk t) rest ≡ after standard room at (found + 1) ns (walk t) rest
+  pub run_part : (standard : Standard) (t : Tree) (room at found : ℕ) (ns : List Node) (rest : List ℕ) →
+      IsPart t → AreOf standard (walk t) → length ns + length (walk t) ≤ 63 →
+      from standard room at found ns (walk t) rest ≡ after standard room at (found + 1) ns (walk t) rest
   run_part standard (branch a s) room at found ns rest h are small =
       let both = AreOf-parts standard (walk_below s) (node_of a s ∷ []) are in
       joins standard room at found (found + downs (statuses s)) (found + 1) ns (walk_below s) (node_of a s ∷ []) rest
       (run_parts standard s (1 + room) at found ns (groups (length ns + length (walk_below s)) (node_of a s ∷ []) ++ rest) h.2 both.0 (omega (arith, small, length-append (walk_below s) (node_of a s ∷ []))))
       (last_node standard room (at + length (groups (length ns) (walk_below s))) found (node_of a s) (ns ++ walk_below s) rest h.0 both.1.0 h.1 (omega (arith, small, length-append (walk_below s) (node_of a s ∷ []), length-append ns (walk_below s))))
 
-  pub run_parts : (standard : Standard) (s : Slots) (room at found : ℕ) (ns : List Node) (rest : List ℕ) → AreParts s → AreOf standard (walk_below s) → length ns + length (walk_below s) ≤ 63 → from standard room at found ns (walk_below s) rest ≡ after standard room at (found + downs (statuses s)) ns (walk_below s) rest
+  pub run_parts : (standard : Standard) (s : Slots) (room at found : ℕ) (ns : List Node) (rest : List ℕ) →
+      AreParts s → AreOf standard (walk_below s) → length ns + length (walk_below s) ≤ 63 →
+      from standard room at found ns (walk_below s) rest ≡ after standard room at (found + downs (statuses s)) ns (walk_below s) rest
   run_parts standard no_more room at found ns rest h are small = nothing_read standard room at found ns rest ∙ ap (λ (k : ℕ). after standard room at k ns [] rest) (omega arith)
   run_parts standard (absent s) room at found ns rest h are small = run_parts standard s room at found ns rest h are small
   run_parts standard (unplugged s) room at found ns rest h are small = run_parts standard s room at found ns rest h are small
@@ -89,7 +98,9 @@ mutual
       ∙ ap (λ (k : ℕ). after standard room (at + length (groups (length ns) (walk t))) k (ns ++ walk t) (walk_below s) rest) (omega arith))
 
 -- trees that wait, from the start of the list
-pub run_trees : (standard : Standard) (ts : List Tree) (room : ℕ) (rest : List ℕ) → AreWaiting ts → AreOf standard (walks ts) → length (walks ts) ≤ 63 → from standard room 0 0 [] (walks ts) rest ≡ after standard room 0 (length ts) [] (walks ts) rest
+pub run_trees : (standard : Standard) (ts : List Tree) (room : ℕ) (rest : List ℕ) → AreWaiting ts →
+    AreOf standard (walks ts) → length (walks ts) ≤ 63 →
+    from standard room 0 0 [] (walks ts) rest ≡ after standard room 0 (length ts) [] (walks ts) rest
 run_trees standard [] room rest h are small = nothing_read standard room 0 0 [] rest
 run_trees standard (t ∷ ts) room rest h are small =
     let both = AreOf-parts standard (walks ts) (walk t) are in

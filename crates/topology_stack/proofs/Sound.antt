@@ -37,7 +37,9 @@ pub record Stands (standard : Standard) (l : List ℕ) (at found : ℕ) (ns : Li
   pub parts : l ≡ groups 0 ns ++ rest
   pub place : at ≡ length (groups 0 ns)
 
-explained_if : (standard : Standard) (l : List ℕ) (b : Bool) (x y : Result (List Node) TreeFault) → (b ≡ true → Explained standard l x) → (b ≡ false → Explained standard l y) → Explained standard l (cond b x y)
+explained_if : (standard : Standard) (l : List ℕ) (b : Bool) (x y : Result (List Node) TreeFault) →
+    (b ≡ true → Explained standard l x) → (b ≡ false → Explained standard l y) →
+    Explained standard l (cond b x y)
 explained_if standard l true x y f g = f refl
 explained_if standard l false x y f g = g refl
 
@@ -57,7 +59,8 @@ pub record Grows (n : Node) (ts : List Tree) (s : Slots) (us : List Tree) : Type
   pub waiting : AreWaiting us
   pub count : length us + downs n.ports ≡ length ts
 
-pub grows : (n : Node) (ts : List Tree) (s : Slots) (us : List Tree) → Builds n.ports ts (s, us) → AreWaiting ts → Grows n ts s us
+pub grows : (n : Node) (ts : List Tree) (s : Slots) (us : List Tree) → Builds n.ports ts (s, us) →
+    AreWaiting ts → Grows n ts s us
 grows n ts s us b waiting =
     let node : node_of (label_of n) s ≡ n = ap (λ (ps : List PortStatus). make (label_of n) ps) b.same in
     let before : walks us ++ walk_below s ≡ walks ts = sym (walks-with_parts s us) ∙ ap walks b.parts in
@@ -72,7 +75,9 @@ grows n ts s us b waiting =
 
 -- ---- after a root
 
-root_explained : (standard : Standard) (room at found : ℕ) (ns : List Node) (rest l : List ℕ) (t : Tree) → IsBusTreeOf standard t → ns ≡ walk t → l ≡ groups 0 ns ++ rest → at ≡ length (groups 0 ns) → Explained standard l (read_from standard room at found true ns rest)
+root_explained : (standard : Standard) (room at found : ℕ) (ns : List Node) (rest l : List ℕ) (t : Tree) →
+    IsBusTreeOf standard t → ns ≡ walk t → l ≡ groups 0 ns ++ rest → at ≡ length (groups 0 ns) →
+    Explained standard l (read_from standard room at found true ns rest)
 unfolding read_from
 root_explained standard zero at found ns [] l t bus nodes parts place = (t, record { bus = bus; nodes = nodes; list = parts ∙ append-nil (groups 0 ns) ∙ ap (groups 0) nodes })
 root_explained standard (suc room) at found ns [] l t bus nodes parts place = (t, record { bus = bus; nodes = nodes; list = parts ∙ append-nil (groups 0 ns) ∙ ap (groups 0) nodes })
@@ -81,7 +86,8 @@ root_explained standard (suc room) at found ns (q ∷ qs) l t bus nodes parts pl
 
 -- ---- before a root
 
-end_explained : (standard : Standard) (at found : ℕ) (ns : List Node) (l : List ℕ) (ts : List Tree) → Stands standard l at found ns [] ts → length ns ≤ 63 → Explained standard l (ended at false ns)
+end_explained : (standard : Standard) (at found : ℕ) (ns : List Node) (l : List ℕ) (ts : List Tree) →
+    Stands standard l at found ns [] ts → length ns ≤ 63 → Explained standard l (ended at false ns)
 end_explained standard at found [] l ts h small = h.parts
 end_explained standard at found (n ∷ ns) l ts h small = (
   ts,
@@ -91,7 +97,9 @@ end_explained standard at found (n ∷ ns) l ts h small = (
   h.place ∙ ap length (sym (h.parts ∙ append-nil (groups 0 (n ∷ ns)))),
 )
 
-goes_on : (standard : Standard) (at found : ℕ) (ns : List Node) (rest l : List ℕ) (ts : List Tree) (most : ℕ) → Stands standard l at found ns rest ts → 0 < length rest → length ns ≤ most → GoesOn standard l ts (groups 0 ns) rest at most
+goes_on : (standard : Standard) (at found : ℕ) (ns : List Node) (rest l : List ℕ) (ts : List Tree) (most : ℕ) →
+    Stands standard l at found ns rest ts → 0 < length rest → length ns ≤ most →
+    GoesOn standard l ts (groups 0 ns) rest at most
 goes_on standard at found ns rest l ts most h more small = record {
   forest = record { waiting = h.waiting; are_of = subst (AreOf standard) h.nodes h.are_of; emitted = ap (groups 0) h.nodes };
   parts = h.parts;
@@ -100,7 +108,9 @@ goes_on standard at found ns rest l ts most h more small = record {
   few = omega (arith, small, ap length h.nodes);
 }
 
-group_explained : (standard : Standard) (at found : ℕ) (ns : List Node) (rest l : List ℕ) (ts : List Tree) (e : GroupFault) → Stands standard l at found ns rest ts → 0 < length rest → length ns ≤ 62 → read_at standard at (length ns) rest ≡ Err e → Refused standard l (Group e)
+group_explained : (standard : Standard) (at found : ℕ) (ns : List Node) (rest l : List ℕ) (ts : List Tree) (e : GroupFault) →
+    Stands standard l at found ns rest ts → 0 < length rest → length ns ≤ 62 →
+    read_at standard at (length ns) rest ≡ Err e → Refused standard l (Group e)
 group_explained standard at found ns rest l ts e h more small fault =
     let same : length ns ≡ length (walks ts) = ap length h.nodes in (
       ts,
@@ -118,12 +128,15 @@ record After (standard : Standard) (l : List ℕ) (ns : List Node) (n : Node) (q
   parts : l ≡ groups 0 (ns ++ n ∷ []) ++ qs
   front : l ≡ groups 0 ns ++ (group n (length ns) ++ qs)
 
-after_node : (standard : Standard) (at found : ℕ) (ns : List Node) (rest qs l : List ℕ) (ts : List Tree) (n : Node) → Stands standard l at found ns rest ts → IsNode n → IsOf standard n → rest ≡ group n (length ns) ++ qs → After standard l ns n qs
+after_node : (standard : Standard) (at found : ℕ) (ns : List Node) (rest qs l : List ℕ) (ts : List Tree) (n : Node) →
+    Stands standard l at found ns rest ts → IsNode n → IsOf standard n →
+    rest ≡ group n (length ns) ++ qs → After standard l ns n qs
 after_node standard at found ns rest qs l ts n h is is_of whole =
     let front : l ≡ groups 0 ns ++ (group n (length ns) ++ qs) = h.parts ∙ ap (λ (x : List ℕ). groups 0 ns ++ x) whole in
     record { is_node = is; is_of = is_of; front = front; parts = front ∙ sym (append_assoc (groups 0 ns) (group n (length ns)) qs) ∙ ap (λ (x : List ℕ). x ++ qs) (sym (groups-snoc ns n)) }
 
-place_after : (at : ℕ) (ns : List Node) (n : Node) → at ≡ length (groups 0 ns) → at + length (group n (length ns)) ≡ length (groups 0 (ns ++ n ∷ []))
+place_after : (at : ℕ) (ns : List Node) (n : Node) → at ≡ length (groups 0 ns) →
+    at + length (group n (length ns)) ≡ length (groups 0 (ns ++ n ∷ []))
 place_after at ns n place = omega (arith, place, ap length (groups-snoc ns n), length-append (groups 0 ns) (group n (length ns)))
 
 -- a root: all trees that waited are below it
@@ -164,7 +177,9 @@ ups_one zero le e = absurd cc
 ups_one (suc zero) le e = refl
 ups_one (suc (suc k)) le e = absurd (omega arith)
 
-node_next : (standard : Standard) (at found : ℕ) (ns : List Node) (rest qs l : List ℕ) (ts : List Tree) (n : Node) → Stands standard l at found ns rest ts → length ns ≤ 62 → After standard l ns n qs → GroupNext standard l ts n at found (downs n.ports)
+node_next : (standard : Standard) (at found : ℕ) (ns : List Node) (rest qs l : List ℕ) (ts : List Tree) (n : Node) →
+    Stands standard l at found ns rest ts → length ns ≤ 62 → After standard l ns n qs →
+    GroupNext standard l ts n at found (downs n.ports)
 node_next standard at found ns rest qs l ts n h small a = record {
   front = groups 0 ns;
   rest = qs;
@@ -182,7 +197,8 @@ node_next standard at found ns rest qs l ts n h small a = record {
 }
 
 -- a whole group is read
-node_explained : (standard : Standard) (room at found : ℕ) (ns : List Node) (rest qs l : List ℕ) (ts : List Tree) (n : Node) → Stands standard l at found ns rest ts → room + length ns ≡ 62 → After standard l ns n qs →
+node_explained : (standard : Standard) (room at found : ℕ) (ns : List Node) (rest qs l : List ℕ) (ts : List Tree) (n : Node) →
+    Stands standard l at found ns rest ts → room + length ns ≡ 62 → After standard l ns n qs →
     ((next count : ℕ) (ms : List Node) (us : List Tree) → Stands standard l next count ms qs us → room + length ms ≡ 63 → Explained standard l (read_from standard room next count false ms qs)) →
     Explained standard l (cond (ltb found (downs n.ports)) (Err (TooFewChildren at found (downs n.ports)))
     (cond (eqb (ups n.ports) 0 && ltb (downs n.ports) found) (Err (TreesLeft at found (downs n.ports)))
@@ -201,7 +217,9 @@ node_explained standard room at found ns rest qs l ts n h full a goes =
     (λ no_root. rw no_root (goes (at + length (group n (length ns))) (found - downs n.ports + 1) (ns ++ n ∷ []) (branch (label_of n) (build n.ports ts).0 ∷ (build n.ports ts).1)
     (part_found standard at (at + length (group n (length ns))) found ns rest qs l ts n (build n.ports ts).0 (build n.ports ts).1 h place g a (ups_one _ a.is_node.one_parent no_root)) (omega (arith, length-append ns (n ∷ [])))))))
 
-pub sound : (standard : Standard) (room at found : ℕ) (ns : List Node) (rest l : List ℕ) (ts : List Tree) → Stands standard l at found ns rest ts → room + length ns ≡ 63 → Explained standard l (read_from standard room at found false ns rest)
+pub sound : (standard : Standard) (room at found : ℕ) (ns : List Node) (rest l : List ℕ) (ts : List Tree) →
+    Stands standard l at found ns rest ts → room + length ns ≡ 63 →
+    Explained standard l (read_from standard room at found false ns rest)
 unfolding read_from
 sound standard zero at found ns [] l ts h full = end_explained standard at found ns l ts h (omega arith)
 sound standard (suc room) at found ns [] l ts h full = end_explained standard at found ns l ts h (omega arith)

@@ -31,7 +31,9 @@ use Rattle.topology_stack.proofs.Sound.{Grows, grows, root_test, ups_one}
 
 -- ---- faults that last
 
-more_goes_on : (l more : List ℕ) (ts : List Tree) (front rest : List ℕ) (at most : ℕ) → GoesOn Ieee2000 l ts front rest at most → GoesOn Ieee2000 (l ++ more) ts front (rest ++ more) at most
+more_goes_on : (l more : List ℕ) (ts : List Tree) (front rest : List ℕ) (at most : ℕ) →
+    GoesOn Ieee2000 l ts front rest at most →
+    GoesOn Ieee2000 (l ++ more) ts front (rest ++ more) at most
 more_goes_on l more ts front rest at most g = record {
   forest = g.forest;
   parts = ap (λ (x : List ℕ). x ++ more) g.parts ∙ append_assoc front rest more;
@@ -40,7 +42,9 @@ more_goes_on l more ts front rest at most g = record {
   few = g.few;
 }
 
-more_leads : (id at : ℕ) (l more front rest : List ℕ) (q place : ℕ) → LeadsTo Ieee2000 id at l front (q ∷ rest) place → LeadsTo Ieee2000 id at (l ++ more) front (q ∷ (rest ++ more)) place
+more_leads : (id at : ℕ) (l more front rest : List ℕ) (q place : ℕ) →
+    LeadsTo Ieee2000 id at l front (q ∷ rest) place →
+    LeadsTo Ieee2000 id at (l ++ more) front (q ∷ (rest ++ more)) place
 more_leads id at l more front rest q place h = record {
   parts = ap (λ (x : List ℕ). x ++ more) h.parts ∙ append_assoc front (q ∷ rest) more;
   front_leads = h.front_leads;
@@ -48,14 +52,16 @@ more_leads id at l more front rest q place h = record {
   place_is = h.place_is;
 }
 
-group_lasts : (at id : ℕ) (l more : List ℕ) (f : GroupFault) → GroupRefused Ieee2000 at id l f → IsLasting (Group f) → GroupRefused Ieee2000 at id (l ++ more) f
+group_lasts : (at id : ℕ) (l more : List ℕ) (f : GroupFault) → GroupRefused Ieee2000 at id l f →
+    IsLasting (Group f) → GroupRefused Ieee2000 at id (l ++ more) f
 group_lasts at id l more (Cut place) h i = absurd i
 group_lasts at id l more (NotSelfId place) (front, rest, q, h, other) i = (front, rest ++ more, q, more_leads id at l more front rest q place h, other)
 group_lasts at id l more (WrongId place found wanted) (front, rest, q, p, h, shows, self, is, same, ne) i = (front, rest ++ more, q, p, more_leads id at l more front rest q place h, shows, self, is, same, ne)
 group_lasts at id l more (BadOrder place) (front, rest, q, p, h, shows, self, own, order) i = (front, rest ++ more, q, p, more_leads id at l more front rest q place h, shows, self, own, order)
 group_lasts at id l more (TwoParents place) (n, rest, form, is_of, parts, two, is) i = (n, rest ++ more, form, is_of, ap (λ (x : List ℕ). x ++ more) parts ∙ append_assoc (group n id) rest more, two, is)
 
-next_lasts : (l more : List ℕ) (ts : List Tree) (n : Node) (at found wanted : ℕ) → GroupNext Ieee2000 l ts n at found wanted → GroupNext Ieee2000 (l ++ more) ts n at found wanted
+next_lasts : (l more : List ℕ) (ts : List Tree) (n : Node) (at found wanted : ℕ) →
+    GroupNext Ieee2000 l ts n at found wanted → GroupNext Ieee2000 (l ++ more) ts n at found wanted
 next_lasts l more ts n at found wanted k = record {
   front = k.front;
   rest = k.rest ++ more;
@@ -67,7 +73,8 @@ next_lasts l more ts n at found wanted k = record {
 }
 
 -- a list keeps a lasting fault however it goes on
-pub lasts : (l more : List ℕ) (f : TreeFault) → Refused Ieee2000 l f → IsLasting f → Refused Ieee2000 (l ++ more) f
+pub lasts : (l more : List ℕ) (f : TreeFault) → Refused Ieee2000 l f → IsLasting f →
+    Refused Ieee2000 (l ++ more) f
 lasts l more Empty h i = absurd i
 lasts l more (NoRoot at) h i = absurd i
 lasts l more (Group f) (ts, front, rest, at, g, fault) i = (ts, front, rest ++ more, at, more_goes_on l more ts front rest at 62 g, group_lasts at (length (walks ts)) rest more f fault i)
@@ -87,7 +94,8 @@ lasting_group (TwoParents at) other = tt
 -- ---- one more quadlet
 
 -- a list and one quadlet more that begin with a list and more: so does the first list
-split_last : (xs g : List ℕ) (q r : ℕ) (rs : List ℕ) → xs ++ q ∷ [] ≡ g ++ r ∷ rs → (ys : List ℕ) × (xs ≡ g ++ ys)
+split_last : (xs g : List ℕ) (q r : ℕ) (rs : List ℕ) → xs ++ q ∷ [] ≡ g ++ r ∷ rs →
+    (ys : List ℕ) × (xs ≡ g ++ ys)
 split_last xs [] q r rs e = (xs, refl)
 split_last [] (y ∷ g) q r rs e = absurd (omega (arith, ap length e, length-append g (r ∷ rs)))
 split_last (x ∷ xs) (y ∷ g) q r rs e =
@@ -100,25 +108,31 @@ apart : (n : Node) (f : GroupFault) (r : Result Node GroupFault) → r ≡ Ok n 
 apart n f r a b = cc
 
 -- no whole group stands behind the place
-none_stands : (quads : List ℕ) (p : Place) (n : Node) (ys : List ℕ) (more : Bool) → ltb p.at (length quads) ≡ more → StandsAtEnd quads p → p.nodes ≤ 62 → IsNode n → IsOf Ieee2000 n → drop p.at quads ≡ group n p.nodes ++ ys → ⊥
+none_stands : (quads : List ℕ) (p : Place) (n : Node) (ys : List ℕ) (more : Bool) →
+    ltb p.at (length quads) ≡ more → StandsAtEnd quads p → p.nodes ≤ 62 → IsNode n →
+    IsOf Ieee2000 n → drop p.at quads ≡ group n p.nodes ++ ys → ⊥
 none_stands quads p n ys true test h few is is_of e =
     let cut = h.cut (ltb-true _ _ test) in
     apart n (Cut (length quads)) (read_at Ieee2000 p.at p.nodes (drop p.at quads)) (ap (read_at Ieee2000 p.at p.nodes) e ∙ read_at-group Ieee2000 n p.at p.nodes ys is is_of few) (read_at-refused Ieee2000 p.at p.nodes (drop p.at quads) (Cut (length quads)) few cut)
 none_stands quads p n ys false test h few is is_of e =
     absurd (omega (arith, ltb-false _ _ test, length-drop p.at quads, ap length e, length-append (group n p.nodes) ys, (length-group n p.nodes is).0))
 
-drop_snoc : (n : ℕ) (xs : List ℕ) (q : ℕ) → n ≤ length xs → drop n (xs ++ q ∷ []) ≡ drop n xs ++ q ∷ []
+drop_snoc : (n : ℕ) (xs : List ℕ) (q : ℕ) → n ≤ length xs →
+    drop n (xs ++ q ∷ []) ≡ drop n xs ++ q ∷ []
 drop_snoc zero xs q le = refl
 drop_snoc (suc n) [] q le = absurd (omega arith)
 drop_snoc (suc n) (x ∷ xs) q le = drop_snoc n xs q (omega arith)
 
-last_of : (quads : List ℕ) (q : ℕ) (p : Place) → StandsAtEnd quads p → p.nodes ≤ 62 → (n : Node) (rest : List ℕ) → IsNode n → IsOf Ieee2000 n → drop p.at (quads ++ q ∷ []) ≡ group n p.nodes ++ rest → rest ≡ []
+last_of : (quads : List ℕ) (q : ℕ) (p : Place) → StandsAtEnd quads p → p.nodes ≤ 62 →
+    (n : Node) (rest : List ℕ) → IsNode n → IsOf Ieee2000 n →
+    drop p.at (quads ++ q ∷ []) ≡ group n p.nodes ++ rest → rest ≡ []
 last_of quads q p h few n [] is is_of e = refl
 last_of quads q p h few n (r ∷ rs) is is_of e =
     let s = split_last (drop p.at quads) (group n p.nodes) q r rs (sym (drop_snoc p.at quads q h.inside) ∙ e) in
     absurd (none_stands quads p n s.0 (ltb p.at (length quads)) refl h few is is_of s.1)
 
-pub may_end : (quads : List ℕ) (q : ℕ) (p : Place) → StandsAtEnd quads p → p.nodes ≤ 62 → p.waiting.rooted ≡ false → GroupMayEnd (quads ++ q ∷ []) p
+pub may_end : (quads : List ℕ) (q : ℕ) (p : Place) → StandsAtEnd quads p → p.nodes ≤ 62 →
+    p.waiting.rooted ≡ false → GroupMayEnd (quads ++ q ∷ []) p
 may_end quads q p h few unrooted = record {
   place = record {
     room = h.place.room;
@@ -133,38 +147,48 @@ may_end quads q p h few unrooted = record {
   last = last_of quads q p h few;
 }
 
-not_rooted : (quads : List ℕ) (p : Place) (rooted : Bool) → p.waiting.rooted ≡ rooted → StandsAtEnd quads p → p.at < length quads → p.waiting.rooted ≡ false
+not_rooted : (quads : List ℕ) (p : Place) (rooted : Bool) → p.waiting.rooted ≡ rooted →
+    StandsAtEnd quads p → p.at < length quads → p.waiting.rooted ≡ false
 not_rooted quads p true e h lt = absurd (omega (arith, h.over e))
 not_rooted quads p false e h lt = e
 
-few_nodes : (quads : List ℕ) (p : Place) (full : Bool) → eqb p.nodes 63 ≡ full → StandsAtEnd quads p → p.at < length quads → p.nodes ≤ 62
+few_nodes : (quads : List ℕ) (p : Place) (full : Bool) → eqb p.nodes 63 ≡ full →
+    StandsAtEnd quads p → p.at < length quads → p.nodes ≤ 62
 few_nodes quads p true e h lt = absurd (omega (arith, h.full (eqb-true _ _ e)))
 few_nodes quads p false e h lt = let ne = eqb-false _ _ e in omega (arith, h.place.few)
 
-pub may_end_within : (quads : List ℕ) (q : ℕ) (p : Place) → StandsAtEnd quads p → p.at < length quads → GroupMayEnd (quads ++ q ∷ []) p
+pub may_end_within : (quads : List ℕ) (q : ℕ) (p : Place) → StandsAtEnd quads p →
+    p.at < length quads → GroupMayEnd (quads ++ q ∷ []) p
 may_end_within quads q p h lt = may_end quads q p h (few_nodes quads p (eqb p.nodes 63) refl h lt) (not_rooted quads p p.waiting.rooted refl h lt)
 
 -- ---- a whole group
 
-is_waiting : (front : List ℕ) (nodes : ℕ) (w : Waiting) → w.rooted ≡ false → IsRead front nodes w → IsWaiting front w.trees nodes
+is_waiting : (front : List ℕ) (nodes : ℕ) (w : Waiting) → w.rooted ≡ false → IsRead front nodes w →
+    IsWaiting front w.trees nodes
 is_waiting front nodes w e r = subst (λ (b : Bool). MatchBool b (IsWholeTree front nodes) (IsWaiting front w.trees nodes)) e r
 
-pass_tests : (a b : Bool) (x y : TreeFault) (w v : Waiting) → cond a (Err x) (cond b (Err y) (ok_waiting w)) ≡ Ok v → (a ≡ false) × (b ≡ false) × (w ≡ v)
+pass_tests : (a b : Bool) (x y : TreeFault) (w v : Waiting) →
+    cond a (Err x) (cond b (Err y) (ok_waiting w)) ≡ Ok v → (a ≡ false) × (b ≡ false) × (w ≡ v)
 pass_tests true b x y w v e = absurd cc
 pass_tests false true x y w v e = absurd cc
 pass_tests false false x y w v e = (refl, refl, cc)
 
-fail_tests : (a b : Bool) (x y f : TreeFault) (w : Waiting) → cond a (Err x) (cond b (Err y) (ok_waiting w)) ≡ Err f → ((a ≡ true) × (x ≡ f)) ⊎ ((b ≡ true) × (y ≡ f))
+fail_tests : (a b : Bool) (x y f : TreeFault) (w : Waiting) →
+    cond a (Err x) (cond b (Err y) (ok_waiting w)) ≡ Err f →
+    ((a ≡ true) × (x ≡ f)) ⊎ ((b ≡ true) × (y ≡ f))
 fail_tests true b x y f w e = inl (refl, cc)
 fail_tests false true x y f w e = inr (refl, cc)
 fail_tests false false x y f w e = absurd cc
 
 -- the list with one more group is that of the nodes with one more
-one_more : (front : List ℕ) (trees nodes : ℕ) (n : Node) (h : IsWaiting front trees nodes) → front ++ group n nodes ≡ groups 0 (walks h.wait ++ n ∷ [])
+one_more : (front : List ℕ) (trees nodes : ℕ) (n : Node) (h : IsWaiting front trees nodes) →
+    front ++ group n nodes ≡ groups 0 (walks h.wait ++ n ∷ [])
 one_more front trees nodes n h =
     ap (λ (x : List ℕ). x ++ group n nodes) h.forest.emitted ∙ ap (λ (k : ℕ). groups 0 (walks h.wait) ++ group n k) h.nodes_are ∙ sym (groups-snoc (walks h.wait) n)
 
-root_more : (front : List ℕ) (trees nodes : ℕ) (n : Node) (h : IsWaiting front trees nodes) (s : Slots) (us : List Tree) → Grows n h.wait s us → length us ≡ 0 → nodes ≤ 62 → IsNode n → IsOf Ieee2000 n → ups n.ports ≡ 0 →
+root_more : (front : List ℕ) (trees nodes : ℕ) (n : Node) (h : IsWaiting front trees nodes) (s : Slots) (us : List Tree) →
+    Grows n h.wait s us → length us ≡ 0 → nodes ≤ 62 → IsNode n → IsOf Ieee2000 n →
+    ups n.ports ≡ 0 →
     IsWholeTree (front ++ group n nodes) (nodes + 1)
 root_more front trees nodes n h s (u ∷ us) g none few is is_of no_up = absurd (omega arith)
 root_more front trees nodes n h s [] g none few is is_of no_up =
@@ -179,7 +203,8 @@ root_more front trees nodes n h s [] g none few is is_of no_up =
       count = count;
     }
 
-part_more : (front : List ℕ) (trees nodes : ℕ) (n : Node) (h : IsWaiting front trees nodes) (s : Slots) (us : List Tree) → Grows n h.wait s us → IsNode n → IsOf Ieee2000 n → ups n.ports ≡ 1 →
+part_more : (front : List ℕ) (trees nodes : ℕ) (n : Node) (h : IsWaiting front trees nodes) (s : Slots) (us : List Tree) →
+    Grows n h.wait s us → IsNode n → IsOf Ieee2000 n → ups n.ports ≡ 1 →
     IsWaiting (front ++ group n nodes) (trees - downs n.ports + 1) (nodes + 1)
 part_more front trees nodes n h s us g is is_of one = record {
   wait = branch (label_of n) s ∷ us;
@@ -192,7 +217,9 @@ part_more front trees nodes n h s us g is is_of one = record {
   nodes_are = omega (arith, h.nodes_are, ap length g.nodes, length-append (walks h.wait) (n ∷ []));
 }
 
-by_root : (front : List ℕ) (trees nodes : ℕ) (n : Node) (h : IsWaiting front trees nodes) (s : Slots) (us : List Tree) (rooted : Bool) → eqb (ups n.ports) 0 ≡ rooted → Grows n h.wait s us → nodes ≤ 62 → IsNode n → IsOf Ieee2000 n → left trees n ≡ false →
+by_root : (front : List ℕ) (trees nodes : ℕ) (n : Node) (h : IsWaiting front trees nodes) (s : Slots) (us : List Tree) (rooted : Bool) →
+    eqb (ups n.ports) 0 ≡ rooted → Grows n h.wait s us → nodes ≤ 62 → IsNode n → IsOf Ieee2000 n →
+    left trees n ≡ false →
     MatchBool rooted (IsWholeTree (front ++ group n nodes) (nodes + 1)) (IsWaiting (front ++ group n nodes) (trees - downs n.ports + 1) (nodes + 1))
 by_root front trees nodes n h s us true e g few is is_of all =
     let none : length us ≡ 0 = omega (arith, g.count, h.count, ltb-false _ _ (root_test _ _ all e)) in
@@ -200,7 +227,9 @@ by_root front trees nodes n h s us true e g few is is_of all =
 by_root front trees nodes n h s us false e g few is is_of all = part_more front trees nodes n h s us g is is_of (ups_one _ is.one_parent e)
 
 -- reading goes on behind the group of a node that passes its tests
-pub read_more : (front : List ℕ) (at nodes : ℕ) (n : Node) (w v : Waiting) → IsWaiting front w.trees nodes → nodes ≤ 62 → IsNode n → IsOf Ieee2000 n → after_node at w.trees n ≡ Ok v → IsRead (front ++ group n nodes) (nodes + 1) v
+pub read_more : (front : List ℕ) (at nodes : ℕ) (n : Node) (w v : Waiting) →
+    IsWaiting front w.trees nodes → nodes ≤ 62 → IsNode n → IsOf Ieee2000 n →
+    after_node at w.trees n ≡ Ok v → IsRead (front ++ group n nodes) (nodes + 1) v
 read_more front at nodes n w v h few is is_of go =
     let tests = pass_tests (too_few w.trees n) (left w.trees n) (TooFewChildren at w.trees (downs n.ports)) (TreesLeft at w.trees (downs n.ports)) (joined w.trees n) v go in
     let b = built n.ports h.wait (omega (arith, h.count, ltb-false _ _ tests.0)) in
@@ -208,7 +237,9 @@ read_more front at nodes n w v h few is is_of go =
     subst (λ (x : Waiting). IsRead (front ++ group n nodes) (nodes + 1) x) tests.2 (by_root front w.trees nodes n h (build n.ports h.wait).0 (build n.ports h.wait).1 (eqb (ups n.ports) 0) refl g few is is_of tests.1)
 
 -- the place behind it is at the end
-pub behind : (quads : List ℕ) (p : Place) (n : Node) (after : ℕ) (v : Waiting) → GroupMayEnd quads p → StandsAt Ieee2000 quads p.at p.nodes n after → after_node p.at p.waiting.trees n ≡ Ok v →
+pub behind : (quads : List ℕ) (p : Place) (n : Node) (after : ℕ) (v : Waiting) →
+    GroupMayEnd quads p → StandsAt Ieee2000 quads p.at p.nodes n after →
+    after_node p.at p.waiting.trees n ≡ Ok v →
     StandsAtEnd quads (record { at = after; nodes = p.nodes + 1; waiting = v })
 behind quads p n after v h s go =
     let none : drop after quads ≡ [] = h.last n (drop after quads) s.is_node s.is_of s.parts in
@@ -233,7 +264,9 @@ behind quads p n after v h s go =
 
 -- ---- faults
 
-goes_on : (quads : List ℕ) (p : Place) (h : IsWaiting (take p.at quads) p.waiting.trees p.nodes) (rest : List ℕ) → drop p.at quads ≡ rest → p.at < length quads → p.nodes ≤ 62 → GoesOn Ieee2000 quads h.wait (take p.at quads) rest p.at 62
+goes_on : (quads : List ℕ) (p : Place) (h : IsWaiting (take p.at quads) p.waiting.trees p.nodes) (rest : List ℕ) →
+    drop p.at quads ≡ rest → p.at < length quads → p.nodes ≤ 62 →
+    GoesOn Ieee2000 quads h.wait (take p.at quads) rest p.at 62
 goes_on quads p h rest is lt few = record {
   forest = h.forest;
   parts = sym (take-append-drop p.at quads) ∙ ap (λ (x : List ℕ). take p.at quads ++ x) is;
@@ -242,12 +275,16 @@ goes_on quads p h rest is lt few = record {
   few = omega (arith, h.nodes_are);
 }
 
-pub group_refused : (quads : List ℕ) (p : Place) (f : GroupFault) → IsPlace quads p → p.waiting.rooted ≡ false → p.at < length quads → p.nodes ≤ 62 → GroupRefused Ieee2000 p.at p.nodes (drop p.at quads) f → Refused Ieee2000 quads (Group f)
+pub group_refused : (quads : List ℕ) (p : Place) (f : GroupFault) → IsPlace quads p →
+    p.waiting.rooted ≡ false → p.at < length quads → p.nodes ≤ 62 →
+    GroupRefused Ieee2000 p.at p.nodes (drop p.at quads) f → Refused Ieee2000 quads (Group f)
 group_refused quads p f place unrooted lt few fault =
     let h = is_waiting (take p.at quads) p.nodes p.waiting unrooted place.read in
     (h.wait, take p.at quads, drop p.at quads, p.at, goes_on quads p h (drop p.at quads) refl lt few, subst (λ (k : ℕ). GroupRefused Ieee2000 p.at k (drop p.at quads) f) h.nodes_are fault)
 
-pub node_refused : (quads : List ℕ) (p : Place) (n : Node) (after : ℕ) (f : TreeFault) → GroupMayEnd quads p → StandsAt Ieee2000 quads p.at p.nodes n after → after_node p.at p.waiting.trees n ≡ Err f → Refused Ieee2000 quads f × IsLasting f
+pub node_refused : (quads : List ℕ) (p : Place) (n : Node) (after : ℕ) (f : TreeFault) →
+    GroupMayEnd quads p → StandsAt Ieee2000 quads p.at p.nodes n after →
+    after_node p.at p.waiting.trees n ≡ Err f → Refused Ieee2000 quads f × IsLasting f
 node_refused quads p n after f m s go =
     let h = is_waiting (take p.at quads) p.nodes p.waiting m.open_ m.place.read in
     let parts : drop p.at quads ≡ group n (length (walks h.wait)) ++ drop after quads = s.parts ∙ ap (λ (k : ℕ). group n k ++ drop after quads) h.nodes_are in
@@ -266,7 +303,8 @@ node_refused quads p n after f m s go =
     ]
 
 -- a list that ends within a group stands where it stood
-pub within : (quads : List ℕ) (p : Place) (at : ℕ) → GroupMayEnd quads p → GroupRefused Ieee2000 p.at p.nodes (drop p.at quads) (Cut at) → StandsAtEnd quads p
+pub within : (quads : List ℕ) (p : Place) (at : ℕ) → GroupMayEnd quads p →
+    GroupRefused Ieee2000 p.at p.nodes (drop p.at quads) (Cut at) → StandsAtEnd quads p
 within quads p at m (front, h, some) =
     let size : length quads - p.at ≡ length front = sym (length-drop p.at quads) ∙ ap length h.parts ∙ length-append front [] ∙ omega arith in
     let end : at ≡ length quads = omega (arith, h.place_is, m.some, size) in
@@ -281,7 +319,8 @@ within quads p at m (front, h, some) =
 
 -- ---- the end of a list
 
-pub ends_within : (quads : List ℕ) (p : Place) → StandsAtEnd quads p → p.at < length quads → Refused Ieee2000 quads (Group (Cut (length quads)))
+pub ends_within : (quads : List ℕ) (p : Place) → StandsAtEnd quads p → p.at < length quads →
+    Refused Ieee2000 quads (Group (Cut (length quads)))
 ends_within quads p h lt = group_refused quads p (Cut (length quads)) h.place (not_rooted quads p p.waiting.rooted refl h lt) lt (few_nodes quads p (eqb p.nodes 63) refl h lt) (h.cut lt)
 
 pub no_quads : (quads : List ℕ) → length quads ≡ 0 → Refused Ieee2000 quads Empty
@@ -291,42 +330,51 @@ no_quads (q ∷ qs) e = absurd (omega arith)
 whole : (quads : List ℕ) (p : Place) → length quads ≤ p.at → take p.at quads ≡ quads
 whole quads p le = take_all p.at quads le
 
-pub ends_unrooted : (quads : List ℕ) (p : Place) → StandsAtEnd quads p → length quads ≤ p.at → p.waiting.rooted ≡ false → 0 < length quads → Refused Ieee2000 quads (NoRoot (length quads))
+pub ends_unrooted : (quads : List ℕ) (p : Place) → StandsAtEnd quads p → length quads ≤ p.at →
+    p.waiting.rooted ≡ false → 0 < length quads → Refused Ieee2000 quads (NoRoot (length quads))
 ends_unrooted quads p h le unrooted some =
     let w = is_waiting (take p.at quads) p.nodes p.waiting unrooted h.place.read in
     (w.wait, subst (Forest Ieee2000 w.wait) (whole quads p le) w.forest, omega (arith, w.nodes_are, h.place.room, h.inside), omega (arith, w.nodes_are, h.place.few), refl)
 
-pub ends_rooted : (quads : List ℕ) (p : Place) → StandsAtEnd quads p → length quads ≤ p.at → p.waiting.rooted ≡ true → (t : Tree) × IsBusTreeOf Ieee2000 t × (emits t ≡ quads)
+pub ends_rooted : (quads : List ℕ) (p : Place) → StandsAtEnd quads p → length quads ≤ p.at →
+    p.waiting.rooted ≡ true → (t : Tree) × IsBusTreeOf Ieee2000 t × (emits t ≡ quads)
 ends_rooted quads p h le rooted =
     let w : IsWholeTree (take p.at quads) p.nodes = subst (λ (b : Bool). MatchBool b (IsWholeTree (take p.at quads) p.nodes) (IsWaiting (take p.at quads) p.waiting.trees p.nodes)) rooted h.place.read in
     (w.tree, w.bus, sym w.emitted ∙ whole quads p le)
 
 -- ---- what a reader keeps
 
-pub none_of : (fault : Option TreeFault) → ((f : TreeFault) → fault ≡ Some f → ⊥) → is_some fault ≡ false
+pub none_of : (fault : Option TreeFault) → ((f : TreeFault) → fault ≡ Some f → ⊥) →
+    is_some fault ≡ false
 none_of None other = refl
 none_of (Some f) other = absurd (other f refl)
 
 abbrev kept : List ℕ → Option TreeFault → Kept
 kept quads fault = record { quads = quads; fault = fault }
 
-pub placed : (quads : List ℕ) (p : Place) (fault : Option TreeFault) → is_some fault ≡ false → IsPlaced quads p fault → StandsAtEnd quads p
+pub placed : (quads : List ℕ) (p : Place) (fault : Option TreeFault) → is_some fault ≡ false →
+    IsPlaced quads p fault → StandsAtEnd quads p
 placed quads p None none h = h
 placed quads p (Some f) none h = absurd cc
 
 -- without a fault it keeps the list that it stands for
-pub kept_list : (k : Kept) (quads : List ℕ) (fault : Option TreeFault) (l : List ℕ) → kept quads fault ≡ k → is_some fault ≡ false → StandsFor k l → quads ≡ l
+pub kept_list : (k : Kept) (quads : List ℕ) (fault : Option TreeFault) (l : List ℕ) →
+    kept quads fault ≡ k → is_some fault ≡ false → StandsFor k l → quads ≡ l
 kept_list k quads None l is none s = subst (λ (x : Kept). StandsFor x l) (sym is) s
 kept_list k quads (Some f) l is none s = absurd cc
 
 -- with a fault it keeps that of the list
-pub kept_fault : (k : Kept) (quads : List ℕ) (fault : Option TreeFault) (f : TreeFault) (l : List ℕ) → kept quads fault ≡ k → fault ≡ Some f → StandsFor k l → Refused Ieee2000 l f × IsLasting f
+pub kept_fault : (k : Kept) (quads : List ℕ) (fault : Option TreeFault) (f : TreeFault) (l : List ℕ) →
+    kept quads fault ≡ k → fault ≡ Some f → StandsFor k l → Refused Ieee2000 l f × IsLasting f
 kept_fault k quads fault f l is some s = subst (λ (x : Kept). StandsFor x l) (sym is ∙ ap (kept quads) some) s
 
-pub room_left : (quads : List ℕ) (q : ℕ) (p : Place) → GroupMayEnd (quads ++ q ∷ []) p → length quads < 189
+pub room_left : (quads : List ℕ) (q : ℕ) (p : Place) → GroupMayEnd (quads ++ q ∷ []) p →
+    length quads < 189
 room_left quads q p m = omega (arith, m.short, m.place.room, m.room, length-append quads (q ∷ []))
 
-pub stops_with : (quads l : List ℕ) (q : ℕ) (f : TreeFault) → quads ≡ l → Refused Ieee2000 (quads ++ q ∷ []) f × IsLasting f → Refused Ieee2000 (l ++ q ∷ []) f × IsLasting f
+pub stops_with : (quads l : List ℕ) (q : ℕ) (f : TreeFault) → quads ≡ l →
+    Refused Ieee2000 (quads ++ q ∷ []) f × IsLasting f →
+    Refused Ieee2000 (l ++ q ∷ []) f × IsLasting f
 stops_with quads l q f same h = subst (λ (x : List ℕ). Refused Ieee2000 (x ++ q ∷ []) f × IsLasting f) same h
 
 -- a fault of the list is the only answer
@@ -336,5 +384,6 @@ no_tree quads l f t x same fault bus e = absurd (no_fault Ieee2000 t f bus (subs
 pub that_fault : {A : Type 0} (quads l : List ℕ) (f g : TreeFault) → quads ≡ l → Refused Ieee2000 quads f → Refused Ieee2000 l g → ◌≡◌ {A = Result A TreeStop} (Err (Fault f)) (Err (Fault g))
 that_fault quads l f g same fault is = ap (λ (h : TreeFault). Err (Fault h)) (one_fault Ieee2000 l f g (subst (λ (k : List ℕ). Refused Ieee2000 k f) same fault) is)
 
-pub accepted : (quads l : List ℕ) (f : TreeFault) → quads ≡ l → (t : Tree) × IsBusTreeOf Ieee2000 t × (emits t ≡ quads) → Refused Ieee2000 l f → ⊥
+pub accepted : (quads l : List ℕ) (f : TreeFault) → quads ≡ l →
+    (t : Tree) × IsBusTreeOf Ieee2000 t × (emits t ≡ quads) → Refused Ieee2000 l f → ⊥
 accepted quads l f same (t, bus, e) is = no_fault Ieee2000 t f bus (subst (λ (k : List ℕ). Refused Ieee2000 k f) (sym (e ∙ same)) is)

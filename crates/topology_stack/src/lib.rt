@@ -29,4 +29,3 @@ pub use reader::TreeReader;
 pub use text::tree_text;
 pub use tree::{BusTree, read_tree, read_tree95};
 pub use writing::write_tree;
-

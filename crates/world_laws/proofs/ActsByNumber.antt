@@ -203,7 +203,8 @@ module _
         changed = same-change w.turns w.nodes after.nodes w.changed k still;
       }
 
-reset-numbers : (node : ℕ) (w : CableWorld) → IsWellFormed w → Resets w (note_changes w (reset node w)) node
+reset-numbers : (node : ℕ) (w : CableWorld) → IsWellFormed w →
+    Resets w (note_changes w (reset node w)) node
 reset-numbers node w f =
     let new : IsWellFormed (reset node w) = reset-formed node w f in
     record {

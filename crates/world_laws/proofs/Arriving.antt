@@ -184,7 +184,8 @@ heard-first b (acts act) events w v run = refl
 heard-first b (holds end n) events w v run = refl
 heard-first b turns events w v run = refl
 
-turns-first : (e : Event) (events : List Event) → turn_count (e ∷ events) ≡ turned_by e + turn_count events
+turns-first : (e : Event) (events : List Event) →
+    turn_count (e ∷ events) ≡ turned_by e + turn_count events
 turns-first (acts act) events = omega arith
 turns-first (holds end n) events = omega arith
 turns-first turns events = omega arith

@@ -66,7 +66,8 @@ module _
       let c : IsChildCable w (end_at k p) b = cable k p b h leads in
       (sound.identifies.cables (end_at k p) b c.above c.below c.joined c.above_at c.below_at).line c.child c.parent (s.all k c.above h c.above_at)
 
-  marked : (k p : ℕ) (b : End) (h : Holds set k) (leads : Leads k p b) → IsMarked (cable k p b h leads).above.state
+  marked : (k p : ℕ) (b : End) (h : Holds set k) (leads : Leads k p b) →
+      IsMarked (cable k p b h leads).above.state
   marked k p b h leads = let c : IsChildCable w (end_at k p) b = cable k p b h leads in sound.identifies.nodes k c.above c.above_at
 
   same-above :

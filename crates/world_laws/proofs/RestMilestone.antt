@@ -52,7 +52,8 @@ module _
   cables : (quiet_after hs (k + j) w).cabling ≡ (quiet_after hs k w).cabling
   cables = after-cabling hs (k + j) w ∙ sym (after-cabling hs k w)
 
-  comp-then : (n : ℕ) → IsComponent (quiet_after hs (k + j) w).cabling n set → IsComponent (quiet_after hs k w).cabling n set
+  comp-then : (n : ℕ) → IsComponent (quiet_after hs (k + j) w).cabling n set →
+      IsComponent (quiet_after hs k w).cabling n set
   comp-then n c = subst (λ (d : Wiring). IsComponent d n set) cables c
 
   core-then : IsCore (quiet_after hs k w).cabling set core
@@ -79,7 +80,8 @@ module _
         (rest-from all a.node inside (plugged (quiet_after hs (k + j) w).cabling a b joined).node).silent a b inside joined;
   }
 
-  contends : IsEmpty core → HasContention (quiet_after hs k w) set → HasContention (quiet_after hs (k + j) w) set
+  contends : IsEmpty core → HasContention (quiet_after hs k w) set →
+      HasContention (quiet_after hs (k + j) w) set
   contends empty h =
       subst (λ (u : CableWorld). HasContention u set) (sym (quiet-then hs k j w))
       (contention-after (holds_after k hs) (quiet_after hs k w) set (grown-of (quiet_after hs k w) node set core is.grown (comp-then node comp) core-then empty) j h)

@@ -67,7 +67,8 @@ abbrev mutual
 abbrev width : Node → ℕ
 width n = length n.ports
 
-row-width : (first : ℕ) (parent : Option End) (s : Slots) → length (row_of first parent s) ≡ length (statuses s)
+row-width : (first : ℕ) (parent : Option End) (s : Slots) →
+    length (row_of first parent s) ≡ length (statuses s)
 row-width first parent no_more = refl
 row-width first parent (absent s) = ap suc (row-width first parent s)
 row-width first parent (unplugged s) = ap suc (row-width first parent s)
@@ -75,14 +76,16 @@ row-width first parent (up s) = ap suc (row-width first parent s)
 row-width first parent (down t s) = ap suc (row-width (first + length (walk t)) parent s)
 
 mutual
-  rows-widths : (first : ℕ) (parent : Option End) (t : Tree) → map length (rows_of first parent t) ≡ map width (walk t)
+  rows-widths : (first : ℕ) (parent : Option End) (t : Tree) →
+      map length (rows_of first parent t) ≡ map width (walk t)
   rows-widths first parent (branch a s) =
       map-append length (rows_below first (first + length (walk_below s)) 0 s) (row_of first parent s ∷ [])
       ∙ ap (λ (l : List ℕ). l ++ length (row_of first parent s) ∷ []) (below-widths first (first + length (walk_below s)) 0 s)
       ∙ ap (λ (n : ℕ). map width (walk_below s) ++ n ∷ []) (row-width first parent s)
       ∙ sym (map-append width (walk_below s) (node_of a s ∷ []))
 
-  below-widths : (first node p : ℕ) (s : Slots) → map length (rows_below first node p s) ≡ map width (walk_below s)
+  below-widths : (first node p : ℕ) (s : Slots) →
+      map length (rows_below first node p s) ≡ map width (walk_below s)
   below-widths first node p no_more = refl
   below-widths first node p (absent s) = below-widths first node (p + 1) s
   below-widths first node p (unplugged s) = below-widths first node (p + 1) s
@@ -93,11 +96,13 @@ mutual
       ∙ ap (λ (l : List ℕ). map width (walk t) ++ l) (below-widths (first + length (walk t)) node (p + 1) s)
       ∙ sym (map-append width (walk t) (walk_below s))
 
-rows-length : (first : ℕ) (parent : Option End) (t : Tree) → length (rows_of first parent t) ≡ length (walk t)
+rows-length : (first : ℕ) (parent : Option End) (t : Tree) →
+    length (rows_of first parent t) ≡ length (walk t)
 rows-length first parent t =
     sym (length-map (rows_of first parent t) length) ∙ ap length (rows-widths first parent t) ∙ length-map (walk t) width
 
-below-length : (first node p : ℕ) (s : Slots) → length (rows_below first node p s) ≡ length (walk_below s)
+below-length : (first node p : ℕ) (s : Slots) →
+    length (rows_below first node p s) ≡ length (walk_below s)
 below-length first node p s =
     sym (length-map (rows_below first node p s) length) ∙ ap length (below-widths first node p s) ∙ length-map (walk_below s) width
 
@@ -113,16 +118,19 @@ some-walk (branch a s) = omega (arith, walk-length a s)
 abbrev pub Has : {A : Type 0} → List A → ℕ → List A → Type 0
 Has {A} whole first part = (i : ℕ) (x : A) → slice_get part i ≡ Some x → slice_get whole (first + i) ≡ Some x
 
-get-left : {A : Type 0} → (xs ys : List A) (i : ℕ) (x : A) → slice_get xs i ≡ Some x → slice_get (xs ++ ys) i ≡ Some x
+get-left : {A : Type 0} → (xs ys : List A) (i : ℕ) (x : A) → slice_get xs i ≡ Some x →
+    slice_get (xs ++ ys) i ≡ Some x
 get-left [] ys i x e = absurd cc
 get-left (y ∷ xs) ys zero x e = e
 get-left (y ∷ xs) ys (suc i) x e = get-left xs ys i x e
 
-get-right : {A : Type 0} → (xs ys : List A) (i : ℕ) → slice_get (xs ++ ys) (length xs + i) ≡ slice_get ys i
+get-right : {A : Type 0} → (xs ys : List A) (i : ℕ) →
+    slice_get (xs ++ ys) (length xs + i) ≡ slice_get ys i
 get-right [] ys i = let z : 0 + i ≡ i = omega arith in ap (slice_get ys) z
 get-right (x ∷ xs) ys i = let z : suc (length xs) + i ≡ suc (length xs + i) = omega arith in ap (slice_get (x ∷ xs ++ ys)) z ∙ get-right xs ys i
 
-has-left : {A : Type 0} → (whole : List A) (first : ℕ) (xs ys : List A) → Has whole first (xs ++ ys) → Has whole first xs
+has-left : {A : Type 0} → (whole : List A) (first : ℕ) (xs ys : List A) →
+    Has whole first (xs ++ ys) → Has whole first xs
 has-left whole first xs ys h i x e = h i x (get-left xs ys i x e)
 
 has-right :
@@ -132,10 +140,12 @@ has-right whole first n xs ys long h i x e =
     let z : first + n + i ≡ first + (length xs + i) = omega (arith, long) in
     ap (slice_get whole) z ∙ h (length xs + i) x (get-right xs ys i ∙ e)
 
-pub has-tail : {A : Type 0} → (whole : List A) (first : ℕ) (y : A) (ys : List A) → Has whole first (y ∷ ys) → Has whole (first + 1) ys
+pub has-tail : {A : Type 0} → (whole : List A) (first : ℕ) (y : A) (ys : List A) →
+    Has whole first (y ∷ ys) → Has whole (first + 1) ys
 has-tail whole first y ys h i x e = let z : first + 1 + i ≡ first + suc i = omega arith in ap (slice_get whole) z ∙ h (suc i) x e
 
-pub has-head : {A : Type 0} → (whole : List A) (first : ℕ) (y : A) (ys : List A) → Has whole first (y ∷ ys) → slice_get whole first ≡ Some y
+pub has-head : {A : Type 0} → (whole : List A) (first : ℕ) (y : A) (ys : List A) →
+    Has whole first (y ∷ ys) → slice_get whole first ≡ Some y
 has-head whole first y ys h = let z : first ≡ first + 0 = omega arith in ap (slice_get whole) z ∙ h 0 y refl
 
 pub has-itself : {A : Type 0} → (whole : List A) → Has whole 0 whole
@@ -189,7 +199,8 @@ module _ (c : SlotWiring) where
       has-head c (first + length (walk_below s)) (row_of first parent s) []
       (has-right c first (length (walk_below s)) (rows_below first (first + length (walk_below s)) 0 s) (row_of first parent s ∷ []) (below-length first (first + length (walk_below s)) 0 s) h)
 
-  last-is : (first : ℕ) (a : Label) (s : Slots) → first + length (walk (branch a s)) - 1 ≡ first + length (walk_below s)
+  last-is : (first : ℕ) (a : Label) (s : Slots) →
+      first + length (walk (branch a s)) - 1 ≡ first + length (walk_below s)
   last-is first a s = omega (arith, walk-length a s)
 
   -- the child of a node leads back to it
@@ -210,7 +221,8 @@ module _ (c : SlotWiring) where
   cable-same : (e f : End) → Some (cable_to e) ≡ Some (cable_to f) → e ≡ f
   cable-same e f h = cc
 
-  parent-is : (parent : Option End) (f : End) → Some (place_of parent) ≡ Some (cable_to f) → parent ≡ Some f
+  parent-is : (parent : Option End) (f : End) → Some (place_of parent) ≡ Some (cable_to f) →
+      parent ≡ Some f
   parent-is None f h = absurd cc
   parent-is (Some e) f h = cc
 
@@ -259,7 +271,8 @@ module _ (c : SlotWiring) where
       ]
 
   -- what a node of these rows has is its row
-  same-row : (k : ℕ) (row other : List Place) → slice_get c k ≡ Some row → slice_get c k ≡ Some other → row ≡ other
+  same-row : (k : ℕ) (row other : List Place) → slice_get c k ≡ Some row →
+      slice_get c k ≡ Some other → row ≡ other
   same-row k row other at too = some-same row other (sym at ∙ too)
 
   mutual
@@ -445,7 +458,8 @@ whole-parts (branch a s) h = h.2
 nothing-some : (q : ℕ) → ◌≡◌ {A = Option ℕ} None (Some q) → ⊥
 nothing-some q h = cc
 
-whole-entered : (c : SlotWiring) (label : ℕ → Label) (t : Tree) → IsWhole t → Entered c label None None t
+whole-entered : (c : SlotWiring) (label : ℕ → Label) (t : Tree) → IsWhole t →
+    Entered c label None None t
 whole-entered c label (branch a s) h = inr (h.1, λ q le is. nothing-some q is)
 
 both-back :

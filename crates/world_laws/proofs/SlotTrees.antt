@@ -69,7 +69,8 @@ filled-statuses (down t s) = ap suc (filled-statuses s)
 
 -- ---- the same cables
 
-ports-are : (c : SlotWiring) (x : ℕ) (row : List Place) → slice_get c x ≡ Some row → ports_of (wiring c) x ≡ map far_of row
+ports-are : (c : SlotWiring) (x : ℕ) (row : List Place) → slice_get c x ≡ Some row →
+    ports_of (wiring c) x ≡ map far_of row
 ports-are [] x row e = absurd cc
 ports-are (r ∷ c) zero row e = ap (map far_of) (some-same r row e)
 ports-are (r ∷ c) (suc x) row e = ports-are c x row e
@@ -79,14 +80,16 @@ no-ports [] x h = refl
 no-ports (r ∷ c) zero h = absurd (omega (arith, h))
 no-ports (r ∷ c) (suc x) h = no-ports c x (omega (arith, h))
 
-cable-there : (row : List Place) (p : ℕ) (e : End) → slice_index_or (map far_of row) p None ≡ Some e → slice_get row p ≡ Some (cable_to e)
+cable-there : (row : List Place) (p : ℕ) (e : End) →
+    slice_index_or (map far_of row) p None ≡ Some e → slice_get row p ≡ Some (cable_to e)
 cable-there [] p e h = absurd cc
 cable-there (no_port ∷ row) zero e h = absurd cc
 cable-there (no_cable ∷ row) zero e h = absurd cc
 cable-there (cable_to f ∷ row) zero e h = ap (λ (g : End). Some (cable_to g)) (some-same f e h)
 cable-there (x ∷ row) (suc p) e h = cable-there row p e h
 
-cable-here : (row : List Place) (p : ℕ) (e : End) → slice_get row p ≡ Some (cable_to e) → slice_index_or (map far_of row) p None ≡ Some e
+cable-here : (row : List Place) (p : ℕ) (e : End) → slice_get row p ≡ Some (cable_to e) →
+    slice_index_or (map far_of row) p None ≡ Some e
 cable-here [] p e h = absurd cc
 cable-here (no_port ∷ row) zero e h = absurd cc
 cable-here (no_cable ∷ row) zero e h = absurd cc
@@ -142,7 +145,8 @@ module _ (c : SlotWiring) (is : IsSlotCabling c) where
     | inr lacks ↦ absurd (omega (arith, lacks.0, less, length-map c (map far_of)))
   ]
 
-  port-count : (x : ℕ) (row : List Place) → slice_get c x ≡ Some row → length (ports_of (wiring c) x) ≡ length row
+  port-count : (x : ℕ) (row : List Place) → slice_get c x ≡ Some row →
+      length (ports_of (wiring c) x) ≡ length row
   port-count x row at = ap length (ports-are c x row at) ∙ length-map row far_of
 
   is-cabling : IsCabling (wiring c)

@@ -36,7 +36,8 @@ use Rattle.world_laws.proofs.SmallSets.{small-component}
 
 -- ---- the node that an act resets is there
 
-node-there : (w : CableWorld) (k : ℕ) → IsWellFormed w → k < length w.cabling → (x : PortNode) × (slice_get w.nodes k ≡ Some x)
+node-there : (w : CableWorld) (k : ℕ) → IsWellFormed w → k < length w.cabling →
+    (x : PortNode) × (slice_get w.nodes k ≡ Some x)
 node-there w k f less = elim (slice_get_cases w.nodes k).1 [
   | inl found ↦ (found.0, found.2)
   | inr lacks ↦ absurd (omega (arith, lacks.0, less, f.count))

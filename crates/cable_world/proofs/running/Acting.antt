@@ -27,7 +27,8 @@ same-text (x ∷ xs) = rw (eq-eqb x x refl) (same-text xs)
 pub same-itself : (x : PortNode) → same_list x x ≡ true
 same-itself x = same-text x.state.list.items
 
-pub changes-none : (t : ℕ) (nodes : List PortNode) (changed : List ℕ) → last_changes t nodes nodes changed ≡ changed
+pub changes-none : (t : ℕ) (nodes : List PortNode) (changed : List ℕ) →
+    last_changes t nodes nodes changed ≡ changed
 changes-none t [] changed = refl
 changes-none t (x ∷ nodes) [] = refl
 changes-none t (x ∷ nodes) (c ∷ changed) =
@@ -134,7 +135,8 @@ module _ (r s : PortNode → NodeStep) (m n : ℕ) (w : CableWorld) (x : PortNod
       ap (λ (v : CableWorld). slice_index_or v.wires n []) noted
       ∙ get_or-set_other w.wires m n (wires_after_sends 0 (r x).sends (slice_index_or w.wires m [])) [] (λ e. apart (sym e))
 
-  pub both : (y : PortNode) → slice_get w.nodes n ≡ Some y → note_step n s (note_step m r w) ≡ note_both m r n s w
+  pub both : (y : PortNode) → slice_get w.nodes n ≡ Some y →
+      note_step n s (note_step m r w) ≡ note_both m r n s w
   both y at_n =
       let v : CableWorld = note_changes w (put_step m (r x) w) in
       let then_n : slice_get (slice_set w.nodes m (r x).node) n ≡ Some y = not-replaced w.nodes m n (r x).node (λ e. apart (sym e)) ∙ at_n in
@@ -147,7 +149,8 @@ module _ (r s : PortNode → NodeStep) (m n : ℕ) (w : CableWorld) (x : PortNod
 
 -- ---- a packet for the nodes of a set
 
-pub told-length : (set : NodeSet) (f : PortNode → PortNode) (j : ℕ) (nodes : List PortNode) → length (change_in_set set f j nodes) ≡ length nodes
+pub told-length : (set : NodeSet) (f : PortNode → PortNode) (j : ℕ) (nodes : List PortNode) →
+    length (change_in_set set f j nodes) ≡ length nodes
 told-length set f j [] = refl
 told-length set f j (x ∷ nodes) = ap suc (told-length set f (j + 1) nodes)
 
@@ -163,7 +166,9 @@ told-at set f j (suc k) (y ∷ nodes) hears x d h at is =
     let z : j + 1 + k ≡ j + suc k = omega arith in
     told-at set f (j + 1) k nodes hears x d (omega arith) at (ap (λ n. bit_at set n == 1) z ∙ is)
 
-pub is-told : (set k : ℕ) (hears : Bool) → (hears ≡ true → bit_at set k ≡ 1) × (bit_at set k ≡ 1 → hears ≡ true) → (bit_at set (0 + k) == 1) ≡ hears
+pub is-told : (set k : ℕ) (hears : Bool) →
+    (hears ≡ true → bit_at set k ≡ 1) × (bit_at set k ≡ 1 → hears ≡ true) →
+    (bit_at set (0 + k) == 1) ≡ hears
 is-told set k true h =
     let z : 0 + k ≡ k = omega arith in
     eq-eqb (bit_at set (0 + k)) 1 (ap (bit_at set) z ∙ h.0 refl)

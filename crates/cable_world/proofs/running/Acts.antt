@@ -25,7 +25,8 @@ use Rattle.cable_world.proofs.running.Whole.{put-long}
 
 -- ---- a cabling after two writes
 
-same-items : {X : Type 0} → (d : X) (xs ys : List X) → length xs ≡ length ys → ((i : ℕ) → get_or xs i d ≡ get_or ys i d) → xs ≡ ys
+same-items : {X : Type 0} → (d : X) (xs ys : List X) → length xs ≡ length ys →
+    ((i : ℕ) → get_or xs i d ≡ get_or ys i d) → xs ≡ ys
 same-items d [] [] n e = refl
 same-items d [] (y ∷ ys) n e = absurd (omega (arith, n))
 same-items d (x ∷ xs) [] n e = absurd (omega (arith, n))
@@ -64,7 +65,8 @@ added-is c d a b h =
     written c d a b (Some b) (Some a) (was-there c d a b a h.others (plugged d a b h.joined)) (was-there c d a b b h.others (plugged d b a h.back))
     h.others h.joined h.back
 
-pub taken-is : (c d : Wiring) (a b : End) → IsCabling c → TakenOut c d a b → d ≡ put b None (put a None c)
+pub taken-is : (c d : Wiring) (a b : End) → IsCabling c → TakenOut c d a b →
+    d ≡ put b None (put a None c)
 taken-is c d a b is h =
     written c d a b None None (plugged c a b h.joined) (plugged c b a (is.both_ways a b h.joined)) h.others h.free_a h.free_b
 
@@ -98,7 +100,8 @@ cleared-length rows a b k = put-lengths (put a empty_wire rows) b empty_wire k �
 
 -- ---- rows stay as long
 
-step-long : (k : ℕ) (step : PortNode → NodeStep) (w : CableWorld) → map length (with_step k step w).wires ≡ map length w.wires
+step-long : (k : ℕ) (step : PortNode → NodeStep) (w : CableWorld) →
+    map length (with_step k step w).wires ≡ map length w.wires
 step-long k step w = go (slice_get w.nodes k)
   where
     go : (o : Option PortNode) → map length (step_at o k step w).wires ≡ map length w.wires
@@ -107,14 +110,16 @@ step-long k step w = go (slice_get w.nodes k)
         let row = slice_index_or w.wires k [] in
         map-set_same length w.wires k (wires_after_sends 0 (step x).sends row) [] (sent-length 0 (step x).sends row)
 
-pub note-long : (k : ℕ) (step : PortNode → NodeStep) (w : CableWorld) → map length (note_step k step w).wires ≡ map length w.wires
+pub note-long : (k : ℕ) (step : PortNode → NodeStep) (w : CableWorld) →
+    map length (note_step k step w).wires ≡ map length w.wires
 note-long k step w = step-long k step w
 
 pub both-long :
     (j k : ℕ) (r s : PortNode → NodeStep) (w : CableWorld) → map length (note_both j r k s w).wires ≡ map length w.wires
 both-long j k r s w = step-long k s (with_step j r w) ∙ step-long j r w
 
-pub cleared-long : (rows : List (List Wire)) (a b : End) → map length (put b empty_wire (put a empty_wire rows)) ≡ map length rows
+pub cleared-long : (rows : List (List Wire)) (a b : End) →
+    map length (put b empty_wire (put a empty_wire rows)) ≡ map length rows
 cleared-long rows a b = put-long (put a empty_wire rows) b empty_wire ∙ put-long rows a empty_wire
 
 -- ---- what comes of an act
@@ -162,7 +167,8 @@ told-ready w set p k told f bits inside is =
     (row-ready (record w { nodes = nodes }) k (told-formed set p w bits f)
     (omega (arith, inside, told-length set (node_set_config p) 0 w.nodes)))
 
-pub is-there : (o : Option PortNode) (P : PortNode → Type 0) → IsSomeAnd o P → IsSomeAnd o (λ x. Unit {0})
+pub is-there : (o : Option PortNode) (P : PortNode → Type 0) → IsSomeAnd o P →
+    IsSomeAnd o (λ x. Unit {0})
 is-there None P h = absurd h
 is-there (Some x) P h = tt
 

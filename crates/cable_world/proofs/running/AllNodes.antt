@@ -23,7 +23,8 @@ same-row xss yss k xs ys e h at there =
 
 -- ---- each node's step
 
-pub steps-length : (table : Arriving) (rows : Wiring) (nodes : List PortNode) → length nodes ≡ length rows → length (turns_of table rows nodes) ≡ length nodes
+pub steps-length : (table : Arriving) (rows : Wiring) (nodes : List PortNode) →
+    length nodes ≡ length rows → length (turns_of table rows nodes) ≡ length nodes
 steps-length table [] [] e = refl
 steps-length table [] (x ∷ nodes) e = absurd (omega (arith, e))
 steps-length table (r ∷ rows) [] e = absurd (omega (arith, e))
@@ -40,7 +41,8 @@ step-at table (r ∷ rows) (y ∷ nodes) (suc k) x d e h at = step-at table rows
 
 -- ---- each row of wires
 
-pub rows-length : (steps : List NodeStep) (rows : List (List Wire)) → length (all_wires_after_sends steps rows) ≡ length rows
+pub rows-length : (steps : List NodeStep) (rows : List (List Wire)) →
+    length (all_wires_after_sends steps rows) ≡ length rows
 rows-length (s ∷ steps) (r ∷ rows) = ap suc (rows-length steps rows)
 rows-length steps rows = refl
 
@@ -55,7 +57,8 @@ row-at (s ∷ steps) (r ∷ rows) (suc k) d row e h g at = row-at steps rows k d
 
 -- ---- each last change
 
-pub changes-length : (turns : ℕ) (before after : List PortNode) (changed : List ℕ) → length (last_changes turns before after changed) ≡ length changed
+pub changes-length : (turns : ℕ) (before after : List PortNode) (changed : List ℕ) →
+    length (last_changes turns before after changed) ≡ length changed
 changes-length turns (x ∷ before) (y ∷ after) (c ∷ changed) = ap suc (changes-length turns before after changed)
 changes-length turns before after changed = refl
 
@@ -75,7 +78,8 @@ change-at turns (p ∷ before) (q ∷ after) (b ∷ changed) (suc k) x y c h e f
 
 -- ---- from a table of what arrives to the world
 
-pub row-of : {A B : Type 0} → (f : A → B) (rows : List (List A)) (k : ℕ) → slice_index_or (map (map f) rows) k [] ≡ map f (slice_index_or rows k [])
+pub row-of : {A B : Type 0} → (f : A → B) (rows : List (List A)) (k : ℕ) →
+    slice_index_or (map (map f) rows) k [] ≡ map f (slice_index_or rows k [])
 row-of f [] k = refl
 row-of f (r ∷ rows) zero = refl
 row-of f (r ∷ rows) (suc k) = row-of f rows k
@@ -94,7 +98,8 @@ module _ (w : CableWorld) (table : Arriving) (is : table ≡ map (map (arrives w
       ap (λ ss. on_one p ss ++ inbox_of table (p + 1) ports) (from-end end)
       ∙ ap (λ l. on_one p (signals_from w end) ++ l) (inbox-is (p + 1) ports)
 
-  pub turns-are : (rows : Wiring) (nodes : List PortNode) → turns_of table rows nodes ≡ node_turns w rows nodes
+  pub turns-are : (rows : Wiring) (nodes : List PortNode) →
+      turns_of table rows nodes ≡ node_turns w rows nodes
   turns-are [] nodes = refl
   turns-are (r ∷ rows) [] = refl
   turns-are (r ∷ rows) (x ∷ nodes) =
@@ -102,7 +107,8 @@ module _ (w : CableWorld) (table : Arriving) (is : table ≡ map (map (arrives w
       ∙ ap (λ l. node_turn (inbox w 0 r) x ∷ l) (turns-are rows nodes)
 
 -- an entry that is there
-pub get-some : {X : Type 0} → (xs : List X) (k : ℕ) (x : X) → k < length xs → x ≡ get_or xs k x → slice_get xs k ≡ Some x
+pub get-some : {X : Type 0} → (xs : List X) (k : ℕ) (x : X) → k < length xs → x ≡ get_or xs k x →
+    slice_get xs k ≡ Some x
 get-some [] k x h at = absurd (omega arith)
 get-some (y ∷ xs) zero x h at = ap Some (sym at)
 get-some (y ∷ xs) (suc k) x h at = get-some xs k x (omega arith) at

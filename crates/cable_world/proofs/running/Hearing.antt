@@ -19,7 +19,8 @@ use Rattle.cable_world.proofs.running.Sending.{sends-then}
 
 -- ---- what is sent goes to wires that are there
 
-pub connected-there : (ports : List PortView) (k : ℕ) → is_connected ports k ≡ true → k < length ports
+pub connected-there : (ports : List PortView) (k : ℕ) → is_connected ports k ≡ true →
+    k < length ports
 connected-there [] k h = absurd cc
 connected-there (p ∷ ports) zero h = omega arith
 connected-there (p ∷ ports) (suc k) h = let e : k < length ports = connected-there ports k h in omega (arith, e)

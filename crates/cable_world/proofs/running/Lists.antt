@@ -38,7 +38,8 @@ same-length xs ys (inl g) e =
     sym (g.1 ∙ ap (λ more. xs ++ more) none ∙ append-nil xs)
 same-length xs ys (inr g) e = nil_from_length xs (e ∙ ap length g) ∙ sym g
 
-pub seen-by-length : (xs ys : List ℕ) → Grew xs ys → pointwise nat_eq xs ys ≡ (length xs == length ys)
+pub seen-by-length : (xs ys : List ℕ) → Grew xs ys →
+    pointwise nat_eq xs ys ≡ (length xs == length ys)
 seen-by-length xs ys g = go (pointwise nat_eq xs ys) refl (length xs == length ys) refl
   where
     go : (a : Bool) → pointwise nat_eq xs ys ≡ a → (b : Bool) → (length xs == length ys) ≡ b → pointwise nat_eq xs ys ≡ (length xs == length ys)
@@ -50,7 +51,8 @@ seen-by-length xs ys g = go (pointwise nat_eq xs ys) refl (length xs == length y
 -- ---- hearing
 
 -- in R0 the list stays
-reset-list : (b : Bool) (n : ℕ) (x : NodeState) → is_resetting x.view.phase ≡ b → b ≡ true → (if b then silent_step (with_level n level.Reset x) else enter false (with_level n level.Reset x)).state.list.items ≡ x.list.items
+reset-list : (b : Bool) (n : ℕ) (x : NodeState) → is_resetting x.view.phase ≡ b → b ≡ true →
+    (if b then silent_step (with_level n level.Reset x) else enter false (with_level n level.Reset x)).state.list.items ≡ x.list.items
 reset-list true n x e h = refl
 reset-list false n x e h = absurd cc
 
@@ -58,12 +60,14 @@ pub no-packets : (h : Phase) → is_resetting h ≡ true → hears_packets h ≡
 no-packets phase.ResetStart r p = absurd cc
 no-packets h r p = absurd cc
 
-hears-in_reset : (n : ℕ) (s : Signal) (x : NodeState) → is_heard n s x ≡ true → is_resetting x.view.phase ≡ true → (hears n s x).state.list.items ≡ x.list.items
+hears-in_reset : (n : ℕ) (s : Signal) (x : NodeState) → is_heard n s x ≡ true →
+    is_resetting x.view.phase ≡ true → (hears n s x).state.list.items ≡ x.list.items
 hears-in_reset n signal.Reset x e r = reset-list (is_resetting x.view.phase) n x refl r
 hears-in_reset n (signal.Packet quad) x e r = absurd (no-packets x.view.phase r (and_parts _ (hears_packets x.view.phase) e).1)
 hears-in_reset n s x e r = refl
 
-signal-in_reset : (n : ℕ) (s : Signal) (x : NodeState) → is_resetting x.view.phase ≡ true → (on_signal n s x).state.list.items ≡ x.list.items
+signal-in_reset : (n : ℕ) (s : Signal) (x : NodeState) → is_resetting x.view.phase ≡ true →
+    (on_signal n s x).state.list.items ≡ x.list.items
 unfolding on_signal
 signal-in_reset n s x r = go (is_heard n s x) refl
   where
@@ -71,7 +75,8 @@ signal-in_reset n s x r = go (is_heard n s x) refl
     go true e = hears-in_reset n s x e r
     go false e = refl
 
-hear-in_reset : (signals : List PortSignal) (x : NodeState) → is_resetting x.view.phase ≡ true → (hear_all signals x).state.list.items ≡ x.list.items
+hear-in_reset : (signals : List PortSignal) (x : NodeState) → is_resetting x.view.phase ≡ true →
+    (hear_all signals x).state.list.items ≡ x.list.items
 hear-in_reset [] x r = refl
 hear-in_reset (s ∷ rest) x r =
     hear-in_reset rest (on_signal s.0 s.1 x).state (hear-stays (s ∷ []) x r) ∙ signal-in_reset s.0 s.1 x r
@@ -83,12 +88,14 @@ Hears x y = ((more : List ℕ) × (y.list.items ≡ x.list.items ++ more)) ⊎ (
 as-before : (x y : NodeState) → y.list.items ≡ x.list.items → Hears x y
 as-before x y e = inl ([], e ∙ sym (append-nil x.list.items))
 
-reset-hears : (b : Bool) (n : ℕ) (x : NodeState) → Hears x (if b then silent_step (with_level n level.Reset x) else enter false (with_level n level.Reset x)).state
+reset-hears : (b : Bool) (n : ℕ) (x : NodeState) →
+    Hears x (if b then silent_step (with_level n level.Reset x) else enter false (with_level n level.Reset x)).state
 unfolding enter
 reset-hears true n x = inl ([], sym (append-nil x.list.items))
 reset-hears false n x = inr (refl, refl)
 
-if-room : (b : Bool) (quad : ℕ) (list : List ℕ) → (if b then list ++ quad ∷ [] else list) ≡ list ++ (if b then quad ∷ [] else [])
+if-room : (b : Bool) (quad : ℕ) (list : List ℕ) →
+    (if b then list ++ quad ∷ [] else list) ≡ list ++ (if b then quad ∷ [] else [])
 if-room true quad list = refl
 if-room false quad list = sym (append-nil list)
 
@@ -121,18 +128,21 @@ hear-hears (s ∷ rest) x = go (signal-hears s.0 s.1 x) (hear-hears rest y)
 
 -- ---- ticking
 
-row-grows : (coin : Bool) (r : Row) (x : NodeState) → (more : List ℕ) × ((does coin r x).state.list.items ≡ x.list.items ++ more)
+row-grows : (coin : Bool) (r : Row) (x : NodeState) →
+    (more : List ℕ) × ((does coin r x).state.list.items ≡ x.list.items ++ more)
 row-grows coin row.names_itself x = (own_group x (node_count x.list.items), refl)
 row-grows coin row.takes_roles x = ([], sym (append-nil x.list.items))
 row-grows coin (row.takes_rival n) x = ([], sym (append-nil x.list.items))
 row-grows coin (row.asks_child n) x = ([], sym (append-nil x.list.items))
 row-grows coin r x = ([], sym (append-nil x.list.items))
 
-start-list : (coin : Bool) (b : Bool) (x : NodeState) → (does coin (if b then row.ends_reset else row.none) x).state.list.items ≡ x.list.items
+start-list : (coin : Bool) (b : Bool) (x : NodeState) →
+    (does coin (if b then row.ends_reset else row.none) x).state.list.items ≡ x.list.items
 start-list coin true x = refl
 start-list coin false x = refl
 
-tick-in_reset : (coin : Bool) (x : NodeState) → is_resetting x.view.phase ≡ true → (tick coin x).state.list.items ≡ x.list.items
+tick-in_reset : (coin : Bool) (x : NodeState) → is_resetting x.view.phase ≡ true →
+    (tick coin x).state.list.items ≡ x.list.items
 unfolding tick
 tick-in_reset coin x r = go x.view.phase r
   where
@@ -140,11 +150,13 @@ tick-in_reset coin x r = go x.view.phase r
     go phase.ResetStart e = start-list coin (nat_le x.timing.hold (raise_timer x).view.timer) (raise_timer x)
     go h e = absurd cc
 
-tick-grows : (coin : Bool) (x : NodeState) → (more : List ℕ) × ((tick coin x).state.list.items ≡ x.list.items ++ more)
+tick-grows : (coin : Bool) (x : NodeState) →
+    (more : List ℕ) × ((tick coin x).state.list.items ≡ x.list.items ++ more)
 unfolding tick
 tick-grows coin x = row-grows coin (next_row x) (raise_timer x)
 
-pub turn-grows : (signals : List PortSignal) (n : PortNode) → Grew n.state.list.items (node_turn signals n).node.state.list.items
+pub turn-grows : (signals : List PortSignal) (n : PortNode) →
+    Grew n.state.list.items (node_turn signals n).node.state.list.items
 turn-grows signals n = go (hear-hears signals n.state)
   where
     m : NodeState

@@ -15,7 +15,8 @@ take-all (suc k) [] h = refl
 take-all zero (x ∷ xs) h = absurd (omega arith)
 take-all (suc k) (x ∷ xs) h = ap (λ ys. x ∷ ys) (take-all k xs (omega arith))
 
-pub mixed-all : {X : Type 0} → (k : ℕ) (new old : List X) → length new ≡ length old → length old ≤ k → mixed k new old ≡ new
+pub mixed-all : {X : Type 0} → (k : ℕ) (new old : List X) → length new ≡ length old →
+    length old ≤ k → mixed k new old ≡ new
 mixed-all k new old e h = ap (λ ys. take k new ++ ys) (drop_all k old h) ∙ take-all k new (omega (arith, e, h))
 
 -- the entry to be written next is the old one
@@ -42,7 +43,8 @@ pub mixed-set :
 mixed-set k new old now x d e h is at =
     ap (λ ys. slice_set ys k x) is ∙ ap (slice_set (mixed k new old) k) at ∙ set-next k new old d e h ∙ ap (λ n. mixed n new old) (sym (add-one k))
 
-pub mixed-length : {X : Type 0} → (k : ℕ) (new old : List X) → length new ≡ length old → length (mixed k new old) ≡ length old
+pub mixed-length : {X : Type 0} → (k : ℕ) (new old : List X) → length new ≡ length old →
+    length (mixed k new old) ≡ length old
 mixed-length zero new old e = refl
 mixed-length (suc k) [] [] e = refl
 mixed-length (suc k) [] (y ∷ old) e = absurd (omega (arith, e))

@@ -13,7 +13,8 @@ abbrev NoneHere : List Signal → Type 0
 NoneHere ss = ss ≡ []
 
 -- what leaves an empty wire as it is, leaves a row of them
-same-row : (f : Wire → Wire) (row : List Wire) → f empty_wire ≡ empty_wire → AreAtRest row → map f row ≡ row
+same-row : (f : Wire → Wire) (row : List Wire) → f empty_wire ≡ empty_wire → AreAtRest row →
+    map f row ≡ row
 same-row f [] e h = refl
 same-row f (w ∷ row) e h =
     let here : w ≡ empty_wire = h 0 w (omega arith) in
@@ -50,7 +51,8 @@ rest-arrives d (w ∷ row) (a ∷ arrivals) h e =
 
 -- ---- nothing is heard where nothing arrives
 
-pub none_at : (arrivals : List (List Signal)) (p : ℕ) → AreNone arrivals → slice_index_or arrivals p [] ≡ []
+pub none_at : (arrivals : List (List Signal)) (p : ℕ) → AreNone arrivals →
+    slice_index_or arrivals p [] ≡ []
 none_at [] p h = refl
 none_at (a ∷ arrivals) zero h = h 0 a (omega arith)
 none_at (a ∷ arrivals) (suc p) h = none_at arrivals p (All-tail NoneHere a arrivals h)

@@ -13,7 +13,8 @@ pub no-sends : (p : ℕ) (wires : List Wire) → wires_after_sends p [] wires �
 no-sends p [] = refl
 no-sends p (w ∷ wires) = ap (λ v. v ∷ wires_after_sends (p + 1) [] wires) (none-sent w) ∙ ap (λ vs. w ∷ vs) (no-sends (p + 1) wires)
 
-signals-then : (first second : List Signal) (w : Wire) → add_signals (first ++ second) w ≡ add_signals second (add_signals first w)
+signals-then : (first second : List Signal) (w : Wire) →
+    add_signals (first ++ second) w ≡ add_signals second (add_signals first w)
 signals-then first second w =
     ap (λ ts. record w { signals = ts })
     (ap (λ ts. w.signals ++ ts) (map-append new_signal first second) ∙ sym (append_assoc w.signals (map new_signal first) (map new_signal second)))
@@ -29,7 +30,8 @@ sends-then p first second (w ∷ wires) =
     ∙ ap (λ vs. add_signals (sent_on p second) (add_signals (sent_on p first) w) ∷ vs) (sends-then (p + 1) first second wires)
 
 -- what goes out on an earlier port changes none of these wires
-skip : (p q : ℕ) (s : Signal) (wires : List Wire) → q < p → wires_after_sends p ((q, s) ∷ []) wires ≡ wires
+skip : (p q : ℕ) (s : Signal) (wires : List Wire) → q < p →
+    wires_after_sends p ((q, s) ∷ []) wires ≡ wires
 skip p q s [] h = refl
 skip p q s (w ∷ wires) h =
     ap (λ v. v ∷ wires_after_sends (p + 1) ((q, s) ∷ []) wires)

@@ -12,7 +12,8 @@ set_marks [] i = refl
 set_marks (h ∷ hears) zero = refl
 set_marks (h ∷ hears) (suc i) = set_marks hears i
 
-pub set_keeps : (hears : List Bool) (i k : ℕ) → IsMarked hears k → IsMarked (slice_set hears i true) k
+pub set_keeps : (hears : List Bool) (i k : ℕ) → IsMarked hears k →
+    IsMarked (slice_set hears i true) k
 set_keeps [] i k m = refl
 set_keeps (h ∷ hears) zero zero m = refl
 set_keeps (h ∷ hears) zero (suc k) m = m
@@ -20,7 +21,8 @@ set_keeps (h ∷ hears) (suc i) zero m = m
 set_keeps (h ∷ hears) (suc i) (suc k) m = set_keeps hears i k m
 
 -- a node that isn't marked wasn't
-pub was-spared : (old new : List Bool) (k : ℕ) → StaysMarked old new → slice_index_or new k true ≡ false → slice_index_or old k true ≡ false
+pub was-spared : (old new : List Bool) (k : ℕ) → StaysMarked old new →
+    slice_index_or new k true ≡ false → slice_index_or old k true ≡ false
 was-spared old new k kept quiet = go (slice_index_or old k true) refl
   where
     go : (b : Bool) → slice_index_or old k true ≡ b → b ≡ false
@@ -48,7 +50,8 @@ inbox-spared table p (None ∷ ports) h = inbox-spared table (p + 1) ports (λ i
 inbox-spared table p (Some end ∷ ports) h =
     ap (λ ss. on_one p ss ++ inbox_of table (p + 1) ports) (h 0 end refl) ∙ inbox-spared table (p + 1) ports (λ i end e. h (suc i) end e)
 
-pub all-spared : (table : Arriving) (c : Wiring) (hears : List Bool) → IsCabling c → MarkedBelow (length c) table c hears → AreSpared table c hears
+pub all-spared : (table : Arriving) (c : Wiring) (hears : List Bool) → IsCabling c →
+    MarkedBelow (length c) table c hears → AreSpared table c hears
 all-spared table c hears is m k quiet =
     inbox-spared table 0 (ports_of c k) (λ port end e.
     let back = is.both_ways (record { node = k; port = port }) end e in

@@ -31,7 +31,8 @@ are-counts d [] h i lt = absurd (omega arith)
 are-counts d (x ∷ nodes) h zero lt = let v = (h 0 x refl).valid in (v.bounded.some_port, v.bounded.few_ports)
 are-counts d (x ∷ nodes) h (suc i) lt = are-counts d nodes (λ k y e. h (suc k) y e) i (omega arith)
 
-rows-are : (nodes : List PortNode) → map (λ count. replicate count empty_wire) (map ports nodes) ≡ map no_wires nodes
+rows-are : (nodes : List PortNode) →
+    map (λ count. replicate count empty_wire) (map ports nodes) ≡ map no_wires nodes
 rows-are [] = refl
 rows-are (x ∷ nodes) = ap (λ rows. no_wires x ∷ rows) (rows-are nodes)
 
@@ -54,5 +55,6 @@ start-is d n nodes counts c wires changed p cc_is w k long =
     let none : changed ≡ replicate (length nodes) 0 = k ∙ ap (λ m. replicate m 0) long in
     rw (cables, rows, none) refl
 
-pub power-on : (d : ℕ) (nodes : List PortNode) → 1 ≤ d → d ≤ 16 → length nodes ≤ 63 → Powered d nodes → IsPowerOnWorld (world_of_nodes d nodes)
+pub power-on : (d : ℕ) (nodes : List PortNode) → 1 ≤ d → d ≤ 16 → length nodes ≤ 63 →
+    Powered d nodes → IsPowerOnWorld (world_of_nodes d nodes)
 power-on d nodes one sixteen few h = record { some_delay = one; short_delay = sixteen; few_nodes = few; nodes = h; is = refl }

@@ -20,12 +20,14 @@ use Rattle.cable_world.proofs.running.Acting.{same-itself}
 
 -- ---- nothing arrives
 
-silent-row : (row : List Wire) (p : ℕ) → All IsSilent row → IsSilent (slice_index_or row p empty_wire)
+silent-row : (row : List Wire) (p : ℕ) → All IsSilent row →
+    IsSilent (slice_index_or row p empty_wire)
 silent-row [] p h = refl
 silent-row (v ∷ row) zero h = h 0 v (omega arith)
 silent-row (v ∷ row) (suc p) h = silent-row row p (All-tail IsSilent v row h)
 
-silent-at : (rows : List (List Wire)) (k p : ℕ) → AreSilent rows → IsSilent (slice_index_or (slice_index_or rows k []) p empty_wire)
+silent-at : (rows : List (List Wire)) (k p : ℕ) → AreSilent rows →
+    IsSilent (slice_index_or (slice_index_or rows k []) p empty_wire)
 silent-at [] k p h = refl
 silent-at (r ∷ rows) zero p h = silent-row r p (h 0 r (omega arith))
 silent-at (r ∷ rows) (suc k) p h = silent-at rows k p (All-tail (λ row. All IsSilent row) r rows h)
@@ -41,7 +43,8 @@ none-from : (w : CableWorld) (end : Option End) → AreSilent w.wires → signal
 none-from w None h = refl
 none-from w (Some far) h = nothing-arrives w.delay (wire_of w far) (silent-at w.wires far.node far.port h)
 
-nothing-heard : (w : CableWorld) (p : ℕ) (ports : List (Option End)) → AreSilent w.wires → inbox w p ports ≡ []
+nothing-heard : (w : CableWorld) (p : ℕ) (ports : List (Option End)) → AreSilent w.wires →
+    inbox w p ports ≡ []
 nothing-heard w p [] h = refl
 nothing-heard w p (end ∷ ports) h =
     ap (λ ss. map (λ s. (p, s)) ss ++ inbox w (p + 1) ports) (none-from w end h) ∙ nothing-heard w (p + 1) ports h
@@ -61,7 +64,8 @@ steps-are w (r ∷ rows) (x ∷ nodes) h e =
 abbrev next : PortNode → PortNode
 next x = (node_tick x).node
 
-nodes-are : (nodes : List PortNode) → map (λ (s : NodeStep). s.node) (map node_tick nodes) ≡ map next nodes
+nodes-are : (nodes : List PortNode) →
+    map (λ (s : NodeStep). s.node) (map node_tick nodes) ≡ map next nodes
 nodes-are [] = refl
 nodes-are (x ∷ nodes) = ap (λ l. next x ∷ l) (nodes-are nodes)
 
@@ -80,13 +84,15 @@ row-stays d (v ∷ row) h =
     ap (λ u. u ∷ map (stays d) row) (stays-silent d v (h 0 v (omega arith)))
     ∙ ap (λ r. hold_less 1 v ∷ r) (row-stays d row (All-tail IsSilent v row h))
 
-rows-stay : (d : ℕ) (rows : List (List Wire)) → AreSilent rows → map (map (stays d)) rows ≡ map (map (hold_less 1)) rows
+rows-stay : (d : ℕ) (rows : List (List Wire)) → AreSilent rows →
+    map (map (stays d)) rows ≡ map (map (hold_less 1)) rows
 rows-stay d [] h = refl
 rows-stay d (r ∷ rows) h =
     ap (λ row. row ∷ map (map (stays d)) rows) (row-stays d r (h 0 r (omega arith)))
     ∙ ap (λ l. map (hold_less 1) r ∷ l) (rows-stay d rows (All-tail (λ row. All IsSilent row) r rows h))
 
-nothing-sent : (nodes : List PortNode) (rows : List (List Wire)) → All IsIdleTick nodes → all_wires_after_sends (map node_tick nodes) rows ≡ rows
+nothing-sent : (nodes : List PortNode) (rows : List (List Wire)) → All IsIdleTick nodes →
+    all_wires_after_sends (map node_tick nodes) rows ≡ rows
 nothing-sent [] rows h = refl
 nothing-sent (x ∷ nodes) [] h = refl
 nothing-sent (x ∷ nodes) (r ∷ rows) h =
@@ -99,7 +105,8 @@ nothing-sent (x ∷ nodes) (r ∷ rows) h =
 list-stays : (x : PortNode) → IsIdleTick x → same_list x (next x) ≡ true
 list-stays x h = ap (λ l. pointwise nat_eq x.state.list.items l) (ap (λ s. s.list.items) h.state) ∙ same-itself x
 
-nothing-changed : (t : ℕ) (nodes : List PortNode) (changed : List ℕ) → All IsIdleTick nodes → last_changes t nodes (map next nodes) changed ≡ changed
+nothing-changed : (t : ℕ) (nodes : List PortNode) (changed : List ℕ) → All IsIdleTick nodes →
+    last_changes t nodes (map next nodes) changed ≡ changed
 nothing-changed t [] changed h = refl
 nothing-changed t (x ∷ nodes) [] h = refl
 nothing-changed t (x ∷ nodes) (c ∷ changed) h =
@@ -115,7 +122,8 @@ ticked w = record w {
   turns = w.turns + 1;
 }
 
-still-turn : (w : CableWorld) → length w.nodes ≡ length w.cabling → AreSilent w.wires → All IsIdleTick w.nodes → turn w ≡ ticked w
+still-turn : (w : CableWorld) → length w.nodes ≡ length w.cabling → AreSilent w.wires →
+    All IsIdleTick w.nodes → turn w ≡ ticked w
 unfolding turn
 still-turn w e s h =
     let steps = steps-are w w.cabling w.nodes s e in
@@ -153,19 +161,22 @@ none-passes w =
     ∙ ap (λ n. record w { turns = n }) t
 
 -- after one more
-more-nodes : (k : ℕ) (nodes : List PortNode) → map next (map (after_ticks k) nodes) ≡ map (after_ticks (suc k)) nodes
+more-nodes : (k : ℕ) (nodes : List PortNode) →
+    map next (map (after_ticks k) nodes) ≡ map (after_ticks (suc k)) nodes
 more-nodes k [] = refl
 more-nodes k (x ∷ nodes) = ap (λ l. after_ticks (suc k) x ∷ l) (more-nodes k nodes)
 
 more-hold : (k : ℕ) (v : Wire) → hold_less 1 (hold_less k v) ≡ hold_less (suc k) v
 more-hold k v = let e : v.held - k - 1 ≡ v.held - suc k = omega arith in ap (λ n. record v { held = n }) e
 
-more-wires : (k : ℕ) (row : List Wire) → map (hold_less 1) (map (hold_less k) row) ≡ map (hold_less (suc k)) row
+more-wires : (k : ℕ) (row : List Wire) →
+    map (hold_less 1) (map (hold_less k) row) ≡ map (hold_less (suc k)) row
 more-wires k [] = refl
 more-wires k (v ∷ row) =
     ap (λ u. u ∷ map (hold_less 1) (map (hold_less k) row)) (more-hold k v) ∙ ap (λ r. hold_less (suc k) v ∷ r) (more-wires k row)
 
-more-rows : (k : ℕ) (rows : List (List Wire)) → map (map (hold_less 1)) (map (map (hold_less k)) rows) ≡ map (map (hold_less (suc k))) rows
+more-rows : (k : ℕ) (rows : List (List Wire)) →
+    map (map (hold_less 1)) (map (map (hold_less k)) rows) ≡ map (map (hold_less (suc k))) rows
 more-rows k [] = refl
 more-rows k (r ∷ rows) =
     ap (λ row. row ∷ map (map (hold_less 1)) (map (map (hold_less k)) rows)) (more-wires k r)
@@ -178,12 +189,14 @@ one-passes k w =
     ∙ ap (λ l. record w { nodes = map (after_ticks (suc k)) w.nodes; wires = l; turns = w.turns + k + 1 }) (more-rows k w.wires)
     ∙ ap (λ n. record w { nodes = map (after_ticks (suc k)) w.nodes; wires = map (map (hold_less (suc k))) w.wires; turns = n }) t
 
-still-silent : (k : ℕ) (rows : List (List Wire)) → AreSilent rows → AreSilent (map (map (hold_less k)) rows)
+still-silent : (k : ℕ) (rows : List (List Wire)) → AreSilent rows →
+    AreSilent (map (map (hold_less k)) rows)
 still-silent k rows h =
     All-map (λ row. All IsSilent row) (map (hold_less k)) rows
     (All-weaker (λ row. All IsSilent row) (λ row. All IsSilent (map (hold_less k) row)) (λ row r. All-map IsSilent (hold_less k) row r) rows h)
 
-idle-then : (k : ℕ) (nodes : List PortNode) → All (λ x. IsIdleFor (suc k) x) nodes → All IsIdleTick (map (after_ticks k) nodes)
+idle-then : (k : ℕ) (nodes : List PortNode) → All (λ x. IsIdleFor (suc k) x) nodes →
+    All IsIdleTick (map (after_ticks k) nodes)
 idle-then k nodes h =
     All-map IsIdleTick (after_ticks k) nodes
     (All-weaker (λ x. IsIdleFor (suc k) x) (λ x. IsIdleTick (after_ticks k x)) (λ x i. i k (omega arith)) nodes h)
@@ -222,7 +235,8 @@ pub idle-fewer :
     All (λ n. IsIdleFor j (f n)) ms
 idle-fewer f ms j k few h = All-weaker (λ n. IsIdleFor k (f n)) (λ n. IsIdleFor j (f n)) (λ n i. idle-less j k (f n) few i) ms h
 
-pub all-taken : {X : Type 0} → (P : X → Type 0) (k : ℕ) (xs : List X) → length xs ≤ k → All P (take k xs) → All P xs
+pub all-taken : {X : Type 0} → (P : X → Type 0) (k : ℕ) (xs : List X) → length xs ≤ k →
+    All P (take k xs) → All P xs
 all-taken P zero [] few h = h
 all-taken P (suc k) [] few h = h
 all-taken P zero (x ∷ xs) few h = absurd (omega arith)

@@ -39,7 +39,8 @@ not-spent false h = refl
 
 -- ---- what the code asks of it
 
-young-from : (most : ℕ) (ts : List Travelling) → most ≤ 15 → AgesFall most ts → AllByRecursion (λ (t : Travelling). t.age < 255) ts
+young-from : (most : ℕ) (ts : List Travelling) → most ≤ 15 → AgesFall most ts →
+    AllByRecursion (λ (t : Travelling). t.age < 255) ts
 young-from most [] few h = tt
 young-from most (t ∷ ts) few h = (omega (arith, h.0, few), young-from t.age ts (omega (arith, h.0, few)) h.1)
 
@@ -81,11 +82,13 @@ turn-is w table nodes old wires changed t o n c v =
     rw (is_wires, c, is_nodes) refl
 
 -- rows of a table stay as long
-pub rows-long : {A B : Type 0} → (f : A → B) (rows : List (List A)) → map length (map (map f) rows) ≡ map length rows
+pub rows-long : {A B : Type 0} → (f : A → B) (rows : List (List A)) →
+    map length (map (map f) rows) ≡ map length rows
 rows-long f [] = refl
 rows-long f (r ∷ rows) = ap (λ n. n ∷ map length (map (map f) rows)) (length-map r f) ∙ ap (λ ns. length r ∷ ns) (rows-long f rows)
 
-pub sent-long : (steps : List NodeStep) (rows : List (List Wire)) → map length (all_wires_after_sends steps rows) ≡ map length rows
+pub sent-long : (steps : List NodeStep) (rows : List (List Wire)) →
+    map length (all_wires_after_sends steps rows) ≡ map length rows
 sent-long (s ∷ steps) (r ∷ rows) =
     ap (λ n. n ∷ map length (all_wires_after_sends steps rows)) (sent-length 0 s.sends r) ∙ ap (λ ns. length r ∷ ns) (sent-long steps rows)
 sent-long steps rows = refl
@@ -134,7 +137,8 @@ held-is rows end turns row new h at made =
     ap (slice_set rows end.node)
     (made ∙ ap (λ r. slice_set r end.port (record (slice_index_or r end.port empty_wire) { held = turns })) (at ∙ get_or_default rows end.node row [] h))
 
-pub put-long : (rows : List (List Wire)) (end : End) (v : Wire) → map length (put end v rows) ≡ map length rows
+pub put-long : (rows : List (List Wire)) (end : End) (v : Wire) →
+    map length (put end v rows) ≡ map length rows
 put-long rows end v = map-set_same length rows end.node (slice_set (slice_index_or rows end.node []) end.port v) [] (length-set (slice_index_or rows end.node []) end.port v)
 
 -- what holds of the slices before and after a call, holds of the vectors

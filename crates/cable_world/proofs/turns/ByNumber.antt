@@ -133,7 +133,8 @@ turn-last (suc k) w = turn-last k (turn w)
 pub one-more : (k : ℕ) (w : CableWorld) → turns_after (k + 1) w ≡ turn (turns_after k w)
 one-more k w = rw add-one (turn-last k w)
 
-pub turns-then : (j k : ℕ) (w : CableWorld) → turns_after (j + k) w ≡ turns_after k (turns_after j w)
+pub turns-then : (j k : ℕ) (w : CableWorld) →
+    turns_after (j + k) w ≡ turns_after k (turns_after j w)
 unfolding turns_after
 turns-then zero k w = let z : 0 + k ≡ k = omega arith in ap (λ n. turns_after n w) z
 turns-then (suc j) k w = let z : suc j + k ≡ suc (j + k) = omega arith in ap (λ n. turns_after n w) z ∙ turns-then j k (turn w)

@@ -212,7 +212,8 @@ module _ (hs : HoldSchedule) (v : CableWorld) (set : ℕ) (g : Grown v set) wher
   grown-after zero = subst (λ (u : CableWorld). Grown u set) (sym (no-quiet hs v)) (grown-held (hs 0) v set g)
   grown-after (suc i) = subst (λ n. Grown (quiet_after hs n v) set) (add-one i) (subst (λ (u : CableWorld). Grown u set) (sym (one-quiet hs i v)) (grown-held (hs (i + 1)) (turn (quiet_after hs i v)) set (grown-turn (quiet_after hs i v) set (grown-after i))))
 
-  pub cable-after : (a b : End) → IsChildCable v a b → (i : ℕ) → IsChildCable (quiet_after hs i v) a b
+  pub cable-after : (a b : End) → IsChildCable v a b → (i : ℕ) →
+      IsChildCable (quiet_after hs i v) a b
   cable-after a b e zero = subst (λ (u : CableWorld). IsChildCable u a b) (sym (no-quiet hs v)) (cable-held (hs 0) v a b e)
   cable-after a b e (suc i) =
       subst (λ n. IsChildCable (quiet_after hs n v) a b) (add-one i)

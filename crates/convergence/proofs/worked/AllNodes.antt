@@ -26,13 +26,16 @@ each-passes test (y ∷ ys) h zero x at =
     subst (λ (z : PortNode). test z.state.view.phase ≡ true) (some-same y x at) (and_parts (test y.state.view.phase) _ h).0
 each-passes test (y ∷ ys) h (suc k) x at = each-passes test ys (and_parts (test y.state.view.phase) _ h).1 k x at
 
-pub none-in : (test : Phase → Bool) (w : CableWorld) → all_pass (λ p. not (test p)) w ≡ true → NoneIn test w
+pub none-in : (test : Phase → Bool) (w : CableWorld) → all_pass (λ p. not (test p)) w ≡ true →
+    NoneIn test w
 none-in test w h k x at = not-true (test x.state.view.phase) (each-passes (λ p. not (test p)) w.nodes h k x at)
 
-pub are-identifying : (w : CableWorld) (set : ℕ) → all_pass hears_packets w ≡ true → AreIdentifying w set
+pub are-identifying : (w : CableWorld) (set : ℕ) → all_pass hears_packets w ≡ true →
+    AreIdentifying w set
 are-identifying w set h k x holds at = each-passes hears_packets w.nodes h k x at
 
-pub trees-taken : (w : CableWorld) → all_pass (λ p. not (is_before_tree p)) w ≡ true → TreesAreTaken w
+pub trees-taken : (w : CableWorld) → all_pass (λ p. not (is_before_tree p)) w ≡ true →
+    TreesAreTaken w
 trees-taken w h node set core component is empty = λ k x holds at. none-in is_before_tree w h k x at
 
 pub trees-decided : (w : CableWorld) → all_pass hears_packets w ≡ true → TreesAreDecided w

@@ -75,7 +75,8 @@ module _ (hs : HoldSchedule) (v : CableWorld) (l : IsLawful v) (done : ResetsAre
       two = undecided-free (raise_timer (now i k n)) s.kept.undecided force
 
   -- any has one
-  stays-by-one : (i k : ℕ) (n : IsEarly (quiet_after hs (i + 1) v) k) → (p : ℕ) × Silent n.node.state p
+  stays-by-one : (i k : ℕ) (n : IsEarly (quiet_after hs (i + 1) v) k) →
+      (p : ℕ) × Silent n.node.state p
   stays-by-one i k n =
       let s : Started hs v l done i k n.node.state = started hs v l done i k n.node n.at n.early in
       let one = undecided-one (raise_timer (now i k n)) s.kept.undecided in

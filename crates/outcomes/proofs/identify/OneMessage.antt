@@ -98,7 +98,8 @@ parent-says-none r g = grind arith
 
 -- ---- a search
 
-pub found : (test : ℕ → Bool) (n : ℕ) → ((k : ℕ) → k < n → test k ≡ false) ⊎ ((k : ℕ) × (test k ≡ true))
+pub found : (test : ℕ → Bool) (n : ℕ) →
+    ((k : ℕ) → k < n → test k ≡ false) ⊎ ((k : ℕ) × (test k ≡ true))
 found test zero = inl (λ k h. absurd (omega (arith, h)))
 found test (suc n) = go (test n) refl (found test n)
   where

@@ -78,7 +78,8 @@ pub rest-fits :
 rest-fits m s ss h = and_parts (allows m s) (fits (next m s) ss) h
 
 -- behind a Grant, and behind Done, no message comes
-pub after-grant : (m : Mode) (ss : List Signal) → fits m (signal.Grant ∷ ss) ≡ true → silent ss ≡ true
+pub after-grant : (m : Mode) (ss : List Signal) → fits m (signal.Grant ∷ ss) ≡ true →
+    silent ss ≡ true
 after-grant m ss h = let b = rest-fits m signal.Grant ss h in shut-silent ss (subst (λ n. fits n ss ≡ true) (last m b.0) b.1)
   where
     last : (m : Mode) → allows m signal.Grant ≡ true → next m signal.Grant ≡ mode.shut

@@ -282,7 +282,8 @@ module _
   next j = next-turn hs w r k late set core root t j
 
   -- what is under way doesn't change in holds
-  pub wire-next : (j : ℕ) (a : End) → (wire_of (W (suc j)) a).signals ≡ (wire_of (turn (W j)) a).signals
+  pub wire-next : (j : ℕ) (a : End) →
+      (wire_of (W (suc j)) a).signals ≡ (wire_of (turn (W j)) a).signals
   wire-next j a = ap (λ (v : CableWorld). (wire_of v a).signals) (sym (next j)) ∙ holds-signals (hs (k + j + 1)) (turn (W j)) a (turn-lawful (W j) (L j))
 
   pub node-of : (j q : ℕ) → Holds set q → (x : PortNode) × (slice_get (W j).nodes q ≡ Some x)
@@ -494,7 +495,8 @@ module _
   abbrev order : List ℕ
   order = numbers (quiet_after hs k w).cabling root t
 
-  member : (i q : ℕ) → slice_get (numbers (quiet_after hs k w).cabling root t) i ≡ Some q → Holds set q
+  member : (i q : ℕ) → slice_get (numbers (quiet_after hs k w).cabling root t) i ≡ Some q →
+      Holds set q
   member i q e =
       let c = s0.walk.marked.covers i (slice_get_within (numbers (quiet_after hs k w).cabling root t) i q e) in
       let at : slice_get (numbers (quiet_after hs k w).cabling root t) i ≡ Some c.0 = subst (λ (n : ℕ). slice_get (numbers (quiet_after hs k w).cabling root t) n ≡ Some c.0) c.2 (s0.walk.marked.at c.0 c.1) in

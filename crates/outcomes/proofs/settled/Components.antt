@@ -66,9 +66,11 @@ pub small-named :
     IsComponent w.cabling node set → IsNamedAlone w set root id → set < 2 ^ 63
 small-named exist w l node set root id comp h = small-there exist w l node set (in-named w set root id h node comp.holds) comp
 
-pub small-forced : ComponentsExist → (w : CableWorld) (node set root : ℕ) → IsForced w node set root → set < 2 ^ 63
+pub small-forced : ComponentsExist → (w : CableWorld) (node set root : ℕ) →
+    IsForced w node set root → set < 2 ^ 63
 small-forced exist w node set root f = small-fresh exist w f.lawful node set f.component f.fresh
 
-pub small-root : ComponentsExist → (w : CableWorld) (node set root : ℕ) → HasRoot w node set root → set < 2 ^ 63
+pub small-root : ComponentsExist → (w : CableWorld) (node set root : ℕ) → HasRoot w node set root →
+    set < 2 ^ 63
 small-root exist w node set root r =
     small-there exist w r.lawful root set (slice_get_within w.nodes root r.is_root.node r.is_root.at) (shared w.cabling node root set r.lawful.well_formed.cabling r.component r.inside)

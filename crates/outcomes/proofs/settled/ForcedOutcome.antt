@@ -83,7 +83,8 @@ module _
     | inr lacks ↦ absurd (omega (arith, lacks.0, slice_get_within (quiet_after hs (first + suc i) w).nodes j y at, after-length hs w f.lawful (first + i), after-length hs w f.lawful (first + suc i)))
   ]
 
-  none-drew : (j : ℕ) (x : PortNode) → Holds set j → slice_get v.nodes j ≡ Some x → x.state.view.draws ≡ 0
+  none-drew : (j : ℕ) (x : PortNode) → Holds set j → slice_get v.nodes j ≡ Some x →
+      x.state.view.draws ≡ 0
   none-drew j x inside at =
       let z : k ≡ first + (k - first) = omega (arith, quiet, quiet-enough (length w.nodes) w.delay) in
       undrawn (k - first) j x inside (subst (λ n. slice_get (quiet_after hs n w).nodes j ≡ Some x) z at)

@@ -40,7 +40,8 @@ pub record ComesBy (w v : CableWorld) (k : ℕ) : Type 0 where
 after-turn : (w v : CableWorld) (k : ℕ) → ComesBy (turn w) v k → ComesBy w v (suc k)
 after-turn w v k c = record { schedule = turned_first c.schedule; is = c.is ∙ sym (quiet-first (turned_first c.schedule) k w) }
 
-after-hold : (h : PlacedHold) (w v : CableWorld) (k : ℕ) → ComesBy (with_hold h w) v k → ComesBy w v k
+after-hold : (h : PlacedHold) (w v : CableWorld) (k : ℕ) → ComesBy (with_hold h w) v k →
+    ComesBy w v k
 after-hold h w v k c = record { schedule = held_first h c.schedule; is = c.is ∙ sym (quiet-held h c.schedule k w) }
 
 pub comes-by :

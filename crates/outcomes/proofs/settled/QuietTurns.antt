@@ -103,7 +103,8 @@ module _
   core-at i = subst (λ (c : Wiring). IsCore c set core) (sym (after-cabling hs i w)) is_core
 
   -- where all are in self identify or A0, lists follow the walk
-  settles-at : (i : ℕ) → AreIdentifying (quiet_after hs i w) set → Settles (quiet_after hs i w) set core
+  settles-at : (i : ℕ) → AreIdentifying (quiet_after hs i w) set →
+      Settles (quiet_after hs i w) set core
   settles-at i all = (quiet-numbering hs i w lawful (reached-numbering w r)).walks node set core (omega (arith, there, after-length hs w lawful i)) (comp-at i) (core-at i) small all
 
   abbrev middle : ℕ

@@ -163,7 +163,8 @@ module _ (w : CableWorld) (r : IsReached w) (done : ResetsAreDone w) (node set :
       now : HasContention v set
       now = contention-turn w set grown (record { low = a; high = b; is = h })
 
-turn-stays : (w : CableWorld) (node set : ℕ) → set < 2 ^ 63 → Staying w node set → Staying (turn w) node set
+turn-stays : (w : CableWorld) (node set : ℕ) → set < 2 ^ 63 → Staying w node set →
+    Staying (turn w) node set
 turn-stays w node set small s = record {
   reached = turn-reached w s.reached;
   done = turn-done w (reached-lawful w s.reached) s.done;
@@ -314,5 +315,6 @@ module _
     come = come-of (settles-at-last hs w r node set core there comp is_core small k quiet);
   }
 
-  pub stays-settled : (v : CableWorld) (events : List Event) → HasNoAct events → Runs events u v → IsSettled v set
+  pub stays-settled : (v : CableWorld) (events : List Event) → HasNoAct events → Runs events u v →
+      IsSettled v set
   stays-settled v events none run = settled-of v node set small (stays-on events u v node set none run small staying)

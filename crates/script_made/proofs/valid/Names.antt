@@ -57,7 +57,8 @@ is-new n few =
     ∙ fails n k few (omega (arith, less, few)) (λ same. absurd (omega (arith, less, same))))
 
 -- a name leads to its node
-pub is-found : (n k : ℕ) → n ≤ 63 → k < n → position (bytes_eq (made_name k)) (names_below n) ≡ Some k
+pub is-found : (n k : ℕ) → n ≤ 63 → k < n →
+    position (bytes_eq (made_name k)) (names_below n) ≡ Some k
 is-found n k few less =
     let test : List ℕ → Bool = bytes_eq (made_name k) in
     let count : length (names_below n) ≡ n = length-names n in

@@ -78,7 +78,8 @@ module _ (trees : NoListHasTwoTrees) (keeps : ActKeepsNodes) where
   takes number Rest stage line (Err kind) run rest h reads x = subst AllDone (sym x) (none-done number kind)
 
   -- the `settle` behind the last line is a command too
-  ends : (number : ℕ) (stage : Stage) (r : LineAnswer) → IsSound stage → Settles (bus_of stage) r → AllDone (last_run number stage r)
+  ends : (number : ℕ) (stage : Stage) (r : LineAnswer) → IsSound stage → Settles (bus_of stage) r →
+      AllDone (last_run number stage r)
   ends number stage (Ok (bus, text)) h s =
       let left = leaves keeps (delay_of stage) (bus_of stage) Settle (sound-bus stage h) tt (Ok (bus, text)) s in
       record {

@@ -28,7 +28,8 @@ use Rattle.script_told.proofs.told.EachDone.{IsDone, each-done}
 
 -- ---- a report
 
-pub settled-so : ListsAreReadBack → ReportedIsOutcome → (w : CableWorld) (report : Report) → IsReached w → IsReport w report → EachComponentCameTo w report
+pub settled-so : ListsAreReadBack → ReportedIsOutcome → (w : CableWorld) (report : Report) →
+    IsReached w → IsReport w report → EachComponentCameTo w report
 settled-so read came w report r is node there =
     let cables = (reached-lawful w r).well_formed.cabling in
     let a = is.parts.whole node there in
@@ -125,7 +126,8 @@ reports bus (Err kind) h = absurd h
 pub settles-say : (bus : Bus) → AllSay is-none (Settles bus)
 settles-say bus = within is-none bus (quiet_turns_of bus.world) (Reports bus) (reports bus)
 
-plans : (bus : Bus) (name : List ℕ) (node : NodeNumber) (tree : Reported) → AllSay is-any (Plans bus name node tree)
+plans : (bus : Bus) (name : List ℕ) (node : NodeNumber) (tree : Reported) →
+    AllSay is-any (Plans bus name node tree)
 plans bus name node tree (Ok (after, text)) h =
     let s = reports h.sent (Ok (after, h.report)) h.reports in
     record {
@@ -164,7 +166,8 @@ abbrev StageAnswerSays : (List ℕ → Type 0) → StageAnswer → Type 0
 StageAnswerSays Before (Ok (next, text)) = StageSays Before next text
 StageAnswerSays Before (Err kind) = Unit {0}
 
-onwards-says : (Before : List ℕ → Type 0) (r : LineAnswer) → AnswerSays Before r → StageAnswerSays Before (onwards r)
+onwards-says : (Before : List ℕ → Type 0) (r : LineAnswer) → AnswerSays Before r →
+    StageAnswerSays Before (onwards r)
 onwards-says Before (Ok (bus, text)) h = (bus, refl, h)
 onwards-says Before (Err kind) h = tt
 
@@ -199,11 +202,13 @@ says stage (Plan name) next text does f =
     subst (StageAnswerSays is-any) (sym f.2) (onwards-says is-any f.0 (plan-says (bus_of stage) name f.0 f.1))
 says stage command next text does f = absurd does
 
-reports-so : ListsAreReadBack → ReportedIsOutcome → (entry : Entry) → IsDone entry → DoesReport entry.command → IsReportedAt entry
+reports-so : ListsAreReadBack → ReportedIsOutcome → (entry : Entry) → IsDone entry →
+    DoesReport entry.command → IsReportedAt entry
 reports-so read came entry is does =
     reported-at read came entry is.left (says entry.before entry.command entry.after entry.text does is.follows)
 
-pub each-report : NoListHasTwoTrees → ActKeepsNodes → ListsAreReadBack → ReportedIsOutcome → ReportsAreSettled
+pub each-report : NoListHasTwoTrees → ActKeepsNodes → ListsAreReadBack → ReportedIsOutcome →
+    ReportsAreSettled
 each-report trees keeps read came bytes run x =
     All-weaker IsDone (λ entry. DoesReport entry.command → IsReportedAt entry) (λ entry is. reports-so read came entry is)
     run.entries (each-done trees keeps bytes run x).each

@@ -65,7 +65,8 @@ node_of ports speed link contender force power gap hold short long word len seed
     new_node (attrs_said speed link contender power gap) ports force (times_of d hold short long) (coins_of number word len seed)
 
 module _ (trees : NoListHasTwoTrees) (keeps : ActKeepsNodes) where
-  runs : (stage : Stage) (command : Command) → IsSound stage → IsInRange (delay_of stage) command → IsOneStage (Runs stage command)
+  runs : (stage : Stage) (command : Command) → IsSound stage → IsInRange (delay_of stage) command →
+      IsOneStage (Runs stage command)
   runs stage command h i a b x y =
       let same = does trees (bus_of stage) command (cabled stage h) x.0 y.0 x.1 y.1 in
       let left = leaves keeps (delay_of stage) (bus_of stage) command (sound-bus stage h) i x.0 x.1 in (
@@ -73,7 +74,8 @@ module _ (trees : NoListHasTwoTrees) (keeps : ActKeepsNodes) where
         subst LeavesSound (sym x.2) (onwards-sound x.0 left),
       )
 
-  pub follows : (stage : Stage) (command : Command) → IsSound stage → IsInRange (delay_of stage) command → IsOneStage (Follows stage command)
+  pub follows : (stage : Stage) (command : Command) → IsSound stage →
+      IsInRange (delay_of stage) command → IsOneStage (Follows stage command)
   follows fresh (Node name ports speed link contender force power gap held short long word len seed packed) h i =
       declares first_draft name (node_of ports speed link contender force power gap held short long word len seed) (no-nodes 4 (omega arith) (omega arith)) (node-at-power-on first_draft ports speed link contender force power gap held short long word len seed i)
   follows (declaring draft) (Node name ports speed link contender force power gap held short long word len seed packed) h i =

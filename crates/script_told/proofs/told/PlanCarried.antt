@@ -22,7 +22,8 @@ module _ (bus : Bus) (name : List ℕ) (after : Bus) (text : List ℕ) where
   abbrev is-named : NodeNumber → Type 0
   is-named node = node_named bus.notes.names name ≡ Some node
 
-  in-tree : (node : NodeNumber) → is-named node → (o : Option Reported) → tree_with node bus.notes ≡ o → AtTree o (Plans bus name node) done → IsSo
+  in-tree : (node : NodeNumber) → is-named node → (o : Option Reported) →
+      tree_with node bus.notes ≡ o → AtTree o (Plans bus name node) done → IsSo
   in-tree node named None e x = no-fault Kind.NotSettled x
   in-tree node named (Some tree) e x = record { node = node; named = named; tree = tree; settled = e; carried = x }
 
@@ -47,11 +48,13 @@ module _ (bus : Bus) (name : List ℕ) (after : Bus) (text : List ℕ) where
   Asks node tree r =
       (manager : Option NodeNumber) × HasManager tree manager × AtManager manager (PlansAs bus name node (id_of tree node)) r
 
-  with-tree : (node : NodeNumber) → is-named node → (o : Option Reported) → AtTree o (Asks node) done → IsSo
+  with-tree : (node : NodeNumber) → is-named node → (o : Option Reported) →
+      AtTree o (Asks node) done → IsSo
   with-tree node named None x = no-fault Kind.NotSettled x
   with-tree node named (Some tree) x = with-manager node named (id_of tree node) x.0 x.2
 
-  with-node : (o : Option NodeNumber) → node_named bus.notes.names name ≡ o → AtNode o (λ node. Settled bus node (Asks node)) done → IsSo
+  with-node : (o : Option NodeNumber) → node_named bus.notes.names name ≡ o →
+      AtNode o (λ node. Settled bus node (Asks node)) done → IsSo
   with-node None e x = no-fault Kind.NoNode x
   with-node (Some node) e x = with-tree node e (tree_with node bus.notes) x
 

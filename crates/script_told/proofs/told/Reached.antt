@@ -57,13 +57,15 @@ runs-then :
 runs-then [] e w u v same h = (v, subst (λ (z : CableWorld). Happens e z v) same h, refl)
 runs-then (f ∷ events) e w u v r h = (r.0, r.1, runs-then events e r.0 u v r.2 h)
 
-none-then : (events : List Event) (e : Event) → HasNoAct events → HasNoAct (e ∷ []) → HasNoAct (events ++ e ∷ [])
+none-then : (events : List Event) (e : Event) → HasNoAct events → HasNoAct (e ∷ []) →
+    HasNoAct (events ++ e ∷ [])
 none-then [] e h k = k
 none-then (acts a ∷ events) e h k = absurd h
 none-then (holds end n ∷ events) e h k = none-then events e h k
 none-then (turns ∷ events) e h k = none-then events e h k
 
-of-event : (e : Event) (w v : CableWorld) (o : Option Report) → HasNoAct (e ∷ []) → Happens e w v → IfSome o (IsOfReached w) → IfSome o (IsOfReached v)
+of-event : (e : Event) (w v : CableWorld) (o : Option Report) → HasNoAct (e ∷ []) → Happens e w v →
+    IfSome o (IsOfReached w) → IfSome o (IsOfReached v)
 of-event e w v None none is h = tt
 of-event e w v (Some report) none is h = record {
   world = h.world;
@@ -74,7 +76,8 @@ of-event e w v (Some report) none is h = record {
   run = runs-then h.events e h.world w v h.run is;
 }
 
-of-turns : (k : ℕ) (w : CableWorld) (o : Option Report) → IfSome o (IsOfReached w) → IfSome o (IsOfReached (turns_after k w))
+of-turns : (k : ℕ) (w : CableWorld) (o : Option Report) → IfSome o (IsOfReached w) →
+    IfSome o (IsOfReached (turns_after k w))
 unfolding turns_after
 of-turns zero w o h = h
 of-turns (suc k) w o h = of-turns k (turn w) o (of-event turns w (turn w) o tt refl h)
@@ -91,21 +94,26 @@ Leaves Comes = (r : LineAnswer) → Comes r → LeavesReached r
 known : (x : LineAnswer) → LeavesReached x → Leaves (λ r. r ≡ x)
 known x h r e = subst LeavesReached (sym e) h
 
-at-node : (o : Option NodeNumber) (Comes : NodeNumber → LineAnswer → Type 0) → ((k : NodeNumber) → Leaves (Comes k)) → Leaves (AtNode o Comes)
+at-node : (o : Option NodeNumber) (Comes : NodeNumber → LineAnswer → Type 0) →
+    ((k : NodeNumber) → Leaves (Comes k)) → Leaves (AtNode o Comes)
 at-node None Comes some r e = known (Err Kind.NoNode) tt r e
 at-node (Some k) Comes some r e = some k r e
 
-named : (bus : Bus) (name : List ℕ) (Comes : NodeNumber → LineAnswer → Type 0) → ((k : NodeNumber) → Leaves (Comes k)) → Leaves (Named bus name Comes)
+named : (bus : Bus) (name : List ℕ) (Comes : NodeNumber → LineAnswer → Type 0) →
+    ((k : NodeNumber) → Leaves (Comes k)) → Leaves (Named bus name Comes)
 named bus name Comes some = at-node (node_named bus.notes.names name) Comes some
 
-at-tree : (o : Option Reported) (Comes : Reported → LineAnswer → Type 0) → ((t : Reported) → Leaves (Comes t)) → Leaves (AtTree o Comes)
+at-tree : (o : Option Reported) (Comes : Reported → LineAnswer → Type 0) →
+    ((t : Reported) → Leaves (Comes t)) → Leaves (AtTree o Comes)
 at-tree None Comes some r e = known (Err Kind.NotSettled) tt r e
 at-tree (Some t) Comes some r e = some t r e
 
-settled : (bus : Bus) (node : NodeNumber) (Comes : Reported → LineAnswer → Type 0) → ((t : Reported) → Leaves (Comes t)) → Leaves (Settled bus node Comes)
+settled : (bus : Bus) (node : NodeNumber) (Comes : Reported → LineAnswer → Type 0) →
+    ((t : Reported) → Leaves (Comes t)) → Leaves (Settled bus node Comes)
 settled bus node Comes some = at-tree (tree_with node bus.notes) Comes some
 
-at-manager : (o : Option NodeNumber) (Comes : NodeNumber → LineAnswer → Type 0) → ((k : NodeNumber) → Leaves (Comes k)) → Leaves (AtManager o Comes)
+at-manager : (o : Option NodeNumber) (Comes : NodeNumber → LineAnswer → Type 0) →
+    ((k : NodeNumber) → Leaves (Comes k)) → Leaves (AtManager o Comes)
 at-manager None Comes some r e = known (Err Kind.NoManager) tt r e
 at-manager (Some k) Comes some r e = some k r e
 
@@ -115,16 +123,19 @@ managed :
 managed bus name Comes some = named bus name _ (λ node. settled bus node _ (λ tree r x.
     at-manager x.0 (Comes node (id_of tree node)) (λ manager. some node (id_of tree node) manager) r x.2))
 
-if-test : (b : Bool) (One Other : LineAnswer → Type 0) → Leaves One → Leaves Other → Leaves (λ r. MatchBool b (One r) (Other r))
+if-test : (b : Bool) (One Other : LineAnswer → Type 0) → Leaves One → Leaves Other →
+    Leaves (λ r. MatchBool b (One r) (Other r))
 if-test true One Other one other r x = one r x
 if-test false One Other one other r x = other r x
 
-within : (bus : Bus) (n : ℕ) (Comes : LineAnswer → Type 0) → Leaves Comes → Leaves (Within bus n Comes)
+within : (bus : Bus) (n : ℕ) (Comes : LineAnswer → Type 0) → Leaves Comes →
+    Leaves (Within bus n Comes)
 within bus n Comes some = if-test (nat_lt 2000000 (bus.world.turns + n)) (λ r. r ≡ Err Kind.TooManyTurns) Comes (known (Err Kind.TooManyTurns) tt) some
 
 -- ---- acts, holds, turns
 
-pub do-act : ActKeepsNodes → (bus : Bus) (a : Act) → IsReachedBus bus → IsAct a → Leaves (Acts bus a)
+pub do-act : ActKeepsNodes → (bus : Bus) (a : Act) → IsReachedBus bus → IsAct a →
+    Leaves (Acts bus a)
 do-act keeps bus a h is (Ok (after, text)) x = record {
   reached = act-reached a bus.world after.world is x.0 x.1 h.reached;
   named = ap (λ (n : Notes). length n.names) x.2 ∙ h.named ∙ sym (keeps a bus.world after.world x.1);
@@ -144,7 +155,8 @@ do-hold bus end n h r x = by (hold_fault end bus.world) refl
     by (Some fault) e = known (Err (kind_of fault)) tt r (rw e at x)
 
 -- as many nodes after turns
-same-nodes : (k : ℕ) (w : CableWorld) → IsReached w → length (turns_after k w).nodes ≡ length w.nodes
+same-nodes : (k : ℕ) (w : CableWorld) → IsReached w →
+    length (turns_after k w).nodes ≡ length w.nodes
 same-nodes k w r =
     let f = (reached-lawful w r).well_formed in
     let g = (reached-lawful (turns_after k w) (turns-reached k w r)).well_formed in
@@ -176,13 +188,16 @@ do-settle bus h = within bus (quiet_turns_of bus.world) (Reports bus) (do-report
 
 -- ---- questions
 
-do-access : (bus : Bus) (manager : NodeNumber) (a : Access) (text : Answer → List ℕ) → IsReachedBus bus → Leaves (Accesses bus manager a text)
+do-access : (bus : Bus) (manager : NodeNumber) (a : Access) (text : Answer → List ℕ) →
+    IsReachedBus bus → Leaves (Accesses bus manager a text)
 do-access bus manager a text h = known (Ok (after_access manager a bus, text (answer_of (values_at manager bus) a))) (record { reached = h.reached; named = h.named; reported = h.reported })
 
-do-grant : (bus : Bus) (node manager : NodeNumber) (a : Seen → Access) (text : Answer → List ℕ) → IsReachedBus bus → Leaves (Grants bus node manager a text)
+do-grant : (bus : Bus) (node manager : NodeNumber) (a : Seen → Access) (text : Answer → List ℕ) →
+    IsReachedBus bus → Leaves (Grants bus node manager a text)
 do-grant bus node manager a text h = do-access (put_look node None bus) manager (a (seen_by node manager bus)) text (record { reached = h.reached; named = h.named; reported = h.reported })
 
-do-look : (bus : Bus) (node manager : NodeNumber) → IsReachedBus bus → Leaves (Looks bus node manager)
+do-look : (bus : Bus) (node manager : NodeNumber) → IsReachedBus bus →
+    Leaves (Looks bus node manager)
 do-look bus node manager h = known (Ok (put_look node (Some (seen_of (values_at manager bus))) bus, [])) (record { reached = h.reached; named = h.named; reported = h.reported })
 
 -- ---- maps and plans
@@ -191,7 +206,8 @@ do-maps : (bus : Bus) (tree : Reported) → IsReachedBus bus → Leaves (GivesMa
 do-maps bus tree h (Ok (after, text)) x = subst IsReachedBus (sym x.after_is) (record { reached = h.reached; named = h.named; reported = h.reported })
 do-maps bus tree h (Err kind) x = absurd x
 
-do-plan : ActKeepsNodes → (bus : Bus) (name : List ℕ) (node : NodeNumber) (tree : Reported) → IsReachedBus bus → Leaves (Plans bus name node tree)
+do-plan : ActKeepsNodes → (bus : Bus) (name : List ℕ) (node : NodeNumber) (tree : Reported) →
+    IsReachedBus bus → Leaves (Plans bus name node tree)
 do-plan keeps bus name node tree h (Ok (after, text)) x =
     let few = x.is.bus.bus.small in
     let a : Act = config_of node (Some x.plan.root_id) (Some x.plan.gap) in
@@ -214,7 +230,8 @@ six (Some n) most h = h
 six-gap : (o : Option ℕ) (g : ℕ) → o ≡ Some g → IfSome o (λ n. n ≤ 63) → g ≤ 63
 six-gap o g e h = subst (λ (p : Option ℕ). IfSome p (λ n. n ≤ 63)) e h
 
-config-act : (node : NodeNumber) (root_id gap : Option ℕ) → IsConfigInRange root_id gap → IsAct (config_of node root_id gap)
+config-act : (node : NodeNumber) (root_id gap : Option ℕ) → IsConfigInRange root_id gap →
+    IsAct (config_of node root_id gap)
 config-act node root_id gap h = record {
   bits = record {
     root_bits = omega (arith, six root_id 62 h.root_most);
@@ -223,7 +240,8 @@ config-act node root_id gap h = record {
   says = h.some_given;
 }
 
-pub leaves : ActKeepsNodes → (d : ℕ) (bus : Bus) (command : Command) → IsReachedBus bus → IsInRange d command → Leaves (Does bus command)
+pub leaves : ActKeepsNodes → (d : ℕ) (bus : Bus) (command : Command) → IsReachedBus bus →
+    IsInRange d command → Leaves (Does bus command)
 leaves keeps d bus (Node name ports speed link contender force power gap held short long word len seed packed) h i = known (Err Kind.Late) tt
 leaves keeps d bus (Delay delay) h i = known (Err Kind.Late) tt
 leaves keeps d bus (Plug a a_port b b_port) h i = named bus a _ (λ n. named bus b _ (λ m. do-act keeps bus (act.Plug (end_of n a_port) (end_of m b_port)) h tt))
@@ -261,9 +279,11 @@ pub record IsSoundDraft (draft : Draft) : Type 0 where
   pub short_delay : draft.delay ≤ 16
   pub few : length draft.nodes ≤ 63
   pub same : length draft.names ≡ length draft.nodes
-  pub powered : (k : ℕ) (x : PortNode) → slice_get draft.nodes k ≡ Some x → IsNodeAtPowerOn draft.delay x.state
+  pub powered : (k : ℕ) (x : PortNode) → slice_get draft.nodes k ≡ Some x →
+      IsNodeAtPowerOn draft.delay x.state
 
-pub draft-bus : (draft : Draft) → IsSoundDraft draft → IsReachedBus (bus_of_nodes draft.delay draft.names draft.nodes)
+pub draft-bus : (draft : Draft) → IsSoundDraft draft →
+    IsReachedBus (bus_of_nodes draft.delay draft.names draft.nodes)
 draft-bus draft h = record {
   reached = power-on-reached (world_of_nodes draft.delay draft.nodes) (power-on draft.delay draft.nodes h.some_delay h.short_delay h.few h.powered);
   named = h.same;
@@ -291,7 +311,8 @@ more-at [] x P h p (suc k) y e = absurd cc
 more-at (z ∷ nodes) x P h p zero y e = h zero y e
 more-at (z ∷ nodes) x P h p (suc k) y e = more-at nodes x P (λ j w f. h (suc j) w f) p k y e
 
-between : (o : Option ℕ) (least most usual : ℕ) → IfSome o (IsWithin least most) → least ≤ usual → usual ≤ most → IsWithin least most (unwrap_or o usual)
+between : (o : Option ℕ) (least most usual : ℕ) → IfSome o (IsWithin least most) → least ≤ usual →
+    usual ≤ most → IsWithin least most (unwrap_or o usual)
 between None least most usual h l m = (l, m)
 between (Some n) least most usual h l m = h
 

@@ -31,7 +31,8 @@ loop-id-preserved c =
 abbrev first_of : List Reach → ℕ
 first_of ws = (slice_index_or ws 0 (record { depth = 0; longest = 0 })).longest
 
-first : (t : Tree) (id : ℕ) (ws items : List Reach) → Waiting t id items → ws ≡ items → id ≡ length (walk t) → first_of ws ≡ (reach t).longest
+first : (t : Tree) (id : ℕ) (ws items : List Reach) → Waiting t id items → ws ≡ items →
+    id ≡ length (walk t) → first_of ws ≡ (reach t).longest
 first t id ws items h same done = ap first_of (same ∙ end t items (subst (λ (k : ℕ). Waiting t k items) done h))
 
 pub returns-clause-longest : goal.returns-clause-longest

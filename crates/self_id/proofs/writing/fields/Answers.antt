@@ -11,7 +11,8 @@ pub overflow_add-value : goal.overflow_add-value
 overflow_add-value c = rw c.from.ensures (search (arith, room c.args.ports.now c.loop-port.port-index c.loop-port.value c.field.result c.loop-port-test.true c.requires c.loop-port.invariant c.field.ensures.small))
 
 -- the slots from one on
-from_here : (ports : List PortStatus) (i : ℕ) → i < length ports → drop i ports ≡ get_or ports i Absent ∷ drop (i + 1) ports
+from_here : (ports : List PortStatus) (i : ℕ) → i < length ports →
+    drop i ports ≡ get_or ports i Absent ∷ drop (i + 1) ports
 from_here ports i lt = rw (add-one i) (drop-cons ports i Absent lt)
 
 pub loop-port-preserved : goal.loop-port-preserved

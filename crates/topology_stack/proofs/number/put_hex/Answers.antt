@@ -6,7 +6,9 @@ hex_step : (p n : ℕ) → 0 < p → hex p n ≡ hex_digit (n / 2 ^ (4 * (p - 1)
 hex_step zero n lt = absurd (omega (arith, lt))
 hex_step (suc q) n lt = let e : suc q - 1 ≡ q = omega arith in rw e refl
 
-push_step : (out new : List ℕ) (p n digit : ℕ) (whole : List ℕ) → 0 < p → digit ≡ hex_digit (n / 2 ^ (4 * (p - 1)) % 16) → new ≡ out ++ digit ∷ [] → out ++ hex p n ≡ whole → new ++ hex (p - 1) n ≡ whole
+push_step : (out new : List ℕ) (p n digit : ℕ) (whole : List ℕ) → 0 < p →
+    digit ≡ hex_digit (n / 2 ^ (4 * (p - 1)) % 16) → new ≡ out ++ digit ∷ [] →
+    out ++ hex p n ≡ whole → new ++ hex (p - 1) n ≡ whole
 push_step out new p n digit whole lt d e h =
     ap (λ xs. xs ++ hex (p - 1) n) e ∙ append_assoc out (digit ∷ []) (hex (p - 1) n)
     ∙ ap (λ x. out ++ (x ∷ hex (p - 1) n)) d ∙ ap (λ xs. out ++ xs) (sym (hex_step p n lt)) ∙ h
