@@ -39,6 +39,8 @@ extern "C" {
 #define BUSCONF_INCOMPLETE 6u
 /* A number is past what it may be: a channel is 0 to 63, units are 0 to 4915, an ID is 0 to 62. */
 #define BUSCONF_OUT_OF_RANGE 7u
+/* The script has more than 1,048,576 bytes. */
+#define BUSCONF_TOO_LONG 8u
 
 /* ---- By which standard nodes show themselves */
 
@@ -174,6 +176,19 @@ uint32_t busconf_read_capture(const uint8_t *bytes, size_t count, uint32_t stand
  * line has more than 128. BUSCONF_REFUSED: there is no such kind. BUSCONF_NO_MEMORY. Takes memory. */
 uint32_t busconf_fault_text(const struct busconf_fault *fault, char *place, size_t room, size_t *needed);
 
+/* Tells the sentence of a list's fault: what was found and what was wanted, in ASCII with its line feed and with no byte
+ * 0 behind it. `quads` is the list that has the fault; of it the sentence has the quadlet at the fault's place and the
+ * one before. BUSCONF_VALID: the first `*needed` bytes at `place` are the sentence. BUSCONF_TOO_SHORT: `*needed` is how
+ * many they are; no sentence has more than 160. BUSCONF_REFUSED: the kind isn't BUSCONF_NOT_SELF_ID to BUSCONF_TOO_MANY.
+ * BUSCONF_NO_MEMORY. Takes memory. */
+uint32_t busconf_sentence(const uint32_t *quads, size_t count, const struct busconf_fault *fault, char *place, size_t room,
+                          size_t *needed);
+
+/* Tells the sentence of a capture's fault, as `busview packets` writes it. `bytes` are those of the capture that has the
+ * fault. As busconf_sentence, and with BUSCONF_BAD_LENGTH and BUSCONF_BAD_INVERSE besides. Takes memory. */
+uint32_t busconf_sentence_capture(const uint8_t *bytes, size_t count, const struct busconf_fault *fault, char *place,
+                                  size_t room, size_t *needed);
+
 /* Tells the hops of a list's bus, 0 to 62: the cables on its longest path. Takes memory. */
 uint32_t busconf_hops(const uint32_t *quads, size_t count, uint32_t standard, uint8_t *hops, struct busconf_fault *fault);
 
@@ -236,6 +251,54 @@ void busconf_decode(uint32_t quad, struct busconf_packet *packet);
  * doesn't fit its bits. A flag that isn't 0 counts as 1; of a configuration packet's `rest` the low 16 bits
  * count; a field that the kind doesn't have isn't looked at. */
 uint32_t busconf_encode(const struct busconf_packet *packet, uint32_t *quad);
+
+/* ---- Scripts (docs/SCRIPTS.md)
+ *
+ * A script is a text of at most 1,048,576 bytes that names nodes, plugs cables and asks for reports. Each of these calls
+ * runs it from its first line to the `settle` behind its last, with the machines of its nodes, and answers
+ * - BUSCONF_VALID: the first `*needed` bytes at `place` are what is told, with no byte 0 behind them;
+ * - BUSCONF_TOO_SHORT: `*needed` is how many they are, and nothing is written;
+ * - BUSCONF_REFUSED: `fault` is the fault of the script's first bad line, and nothing is written;
+ * - BUSCONF_TOO_LONG, for a script of more bytes, or BUSCONF_NO_MEMORY.
+ * Where the place is too short the run is done all the same, so a place that is long enough at once saves a run.
+ */
+
+/* The kinds of faults of a script. */
+#define BUSCONF_SCRIPT_WORD 1u            /* a byte that isn't permitted, or words that are no command */
+#define BUSCONF_SCRIPT_NUMBER 2u          /* a word stands for a number, or for coins, and hasn't its form */
+#define BUSCONF_SCRIPT_NAME 3u            /* a word stands for a name and isn't one */
+#define BUSCONF_SCRIPT_TWICE 4u           /* a key stands twice, or coins beside a seed, or the name is declared */
+#define BUSCONF_SCRIPT_LATE 5u            /* the command comes too late in the script */
+#define BUSCONF_SCRIPT_TOO_MANY_NODES 6u  /* it is the 64th node */
+#define BUSCONF_SCRIPT_NO_NODE 7u         /* no node has this name */
+#define BUSCONF_SCRIPT_NO_PORT 8u         /* the node has no such port */
+#define BUSCONF_SCRIPT_IN_USE 9u          /* a cable is in the port */
+#define BUSCONF_SCRIPT_SAME_NODE 10u      /* both ends are at one node */
+#define BUSCONF_SCRIPT_NOT_PLUGGED 11u    /* no cable is in the port */
+#define BUSCONF_SCRIPT_RANGE 12u          /* a number isn't in its range */
+#define BUSCONF_SCRIPT_NOT_SETTLED 13u    /* the node's part of the bus isn't a settled tree, or wasn't reported as one */
+#define BUSCONF_SCRIPT_NO_MANAGER 14u     /* the tree has no isochronous resource manager */
+#define BUSCONF_SCRIPT_NOT_MANAGER 15u    /* the node isn't the bus manager of its tree */
+#define BUSCONF_SCRIPT_TOO_MANY_TURNS 16u /* the turns pass the script's limit */
+#define BUSCONF_SCRIPT_TOO_MANY_MAPS 17u  /* it is the 101st `maps` */
+
+struct busconf_script_fault {
+  uint32_t line; /* from 1; a fault behind the last line has the number of lines and 1 */
+  uint8_t kind;  /* BUSCONF_SCRIPT_WORD to BUSCONF_SCRIPT_TOO_MANY_MAPS */
+};
+
+/* Tells what a script prints, as `busconf run` writes it. Takes memory. */
+uint32_t busconf_run(const char *script, size_t count, char *place, size_t room, size_t *needed,
+                     struct busconf_script_fault *fault);
+
+/* Tells which cables of a script's bus to pull, so that no loop is left, and what the bus then comes to, as
+ * `busconf advice` writes it. Takes memory. */
+uint32_t busconf_advice(const char *script, size_t count, char *place, size_t room, size_t *needed,
+                        struct busconf_script_fault *fault);
+
+/* Tells what happens on a script's bus, turn by turn, as `busview trace` writes it. Takes memory. */
+uint32_t busconf_trace(const char *script, size_t count, char *place, size_t room, size_t *needed,
+                       struct busconf_script_fault *fault);
 
 /* ---- Configuration ROMs (IEEE Std 1212) */
 

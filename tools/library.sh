@@ -1,36 +1,38 @@
 #!/usr/bin/env bash
 # `library.sh build FOLDER` makes libbusconf.a and libbusconf.so, each whole: the kit's allocation functions are in it,
-# and nothing is exported but the calls of include/busconf.h. `library.sh install PREFIX` makes them and copies them with
-# the header and busconf.pc below a folder. `library.sh test` makes them in a folder of its own, and compiles and runs
-# what stands on them; `library.sh speed N < CAPTURE` times N calls. It needs the kit's command rt and a C compiler.
+# and nothing is exported but the calls of include/busconf.h. The archive has an object for each crate, so that a program
+# that runs no scripts is linked without them. `library.sh install PREFIX` makes both and copies them with the header and
+# busconf.pc below a folder. `library.sh test` makes them in a folder of its own, and compiles and runs what stands on
+# them. `library.sh speed N < CAPTURE` times N calls, and `library.sh race N SCRIPT COMMAND..` N runs of a script, and then
+# the command, which is given the script on its standard input. It needs the kit's command rt and a C compiler.
 set -euo pipefail
 top=$(cd "$(dirname "${BASH_SOURCE[0]}")/.." && pwd)
-crate=$top/crates/busconf_c
+crates=(busconf_c script_c)
 command -v rt >/dev/null || { echo "library: the Rattle kit's command rt isn't on the PATH" >&2; exit 127; }
 kit=$(cd "$(dirname "$(readlink -f "$(command -v rt)")")/.." && pwd)
 
 # The libraries that a crate stands on, from crates.txt.
 below() { sed -n "s/^$1\( staticlib\)\?: *//p" "$top/crates.txt"; }
 
-# Whether the libraries that the crate stands on are built, by rt ci or by rt check.
+# Whether the libraries that a crate stands on are built, by rt ci or by rt check.
 are_built() {
   local name
-  for name in $(below busconf_c); do
+  for name in $(below "$1"); do
     [ ! -d "$top/crates/$name" ] || [ -d "$top/crates/$name/out/rlib/$name.rlib" ] || return 1
   done
 }
 
-# Makes the crate's archive: proved over what rt check keeps, or over the libraries that a run of rt ci has left.
+# Makes a crate's archive: proved over what rt check keeps, or over the libraries that a run of rt ci has left.
 archive() {
   local name words=() log
-  cd "$crate"
+  cd "$top/crates/$1"
   log=$(mktemp)
-  if ! are_built || [ -f "$top/crates/topology_stack/out/rlib/stamp" ]; then
+  if ! are_built "$1" || [ -f "$top/crates/topology_stack/out/rlib/stamp" ]; then
     rt lib ${JOBS:+--jobs "$JOBS"} >"$log" 2>&1 || { cat "$log" >&2; exit 1; }
     rm -f "$log"
     return
   fi
-  for name in std $(below busconf_c); do
+  for name in std $(below "$1"); do
     if [ -d "$top/crates/$name" ]; then
       words+=(--extern "$name=$top/crates/$name/out/rlib/$name.rlib")
     else
@@ -39,29 +41,37 @@ archive() {
   done
   for name in "$top"/crates/*/out/rlib; do words+=(-L "dependency=$name"); done
   mkdir -p out
-  "$kit/bin/rattle" build --crate-name busconf_c src/lib.rt "${words[@]}" -L "dependency=$kit/rlibs" \
+  "$kit/bin/rattle" build --crate-name "$1" src/lib.rt "${words[@]}" -L "dependency=$kit/rlibs" \
     --antt-project "$kit/rattle/logic/antt-project.json" --logic-built "$kit/logic_built" --toolchain "$kit/toolchain" \
-    --crate-type staticlib -o out/libbusconf_c.a >"$log" 2>&1 || { cat "$log" >&2; exit 1; }
+    --crate-type staticlib -o "out/lib$1.a" >"$log" 2>&1 || { cat "$log" >&2; exit 1; }
   rm -f "$log"
+}
+
+# Makes a crate's one object, with the kit's allocation functions, that has no name but its calls'.
+object() {
+  local made
+  (archive "$1")
+  made=$(mktemp -d)
+  (
+    cd "$made"
+    ar x "$top/crates/$1/out/lib$1.a"
+    ar x "$kit/c/liblibc_c.a" heap.pic.o
+    ld -r -o whole.o ./*.o
+    objcopy --wildcard --keep-global-symbol='busconf_*' whole.o "$2"
+  )
+  rm -rf "$made"
 }
 
 # Makes both libraries in a folder.
 build() {
-  local into made
+  local into made crate
   mkdir -p "$1"
   into=$(cd "$1" && pwd)
   made=$(mktemp -d)
-  archive
-  (
-    cd "$made"
-    ar x "$crate/out/libbusconf_c.a"
-    ar x "$kit/c/liblibc_c.a" heap.pic.o
-    ld -r -o whole.o ./*.o
-    objcopy --wildcard --keep-global-symbol='busconf_*' whole.o busconf.o
-    rm -f "$into/libbusconf.a" "$into/libbusconf.so"
-    ar rcs "$into/libbusconf.a" busconf.o
-    ${CC:-cc} -shared -Wl,-soname,libbusconf.so -Wl,-z,relro,-z,now -o "$into/libbusconf.so" busconf.o
-  )
+  for crate in "${crates[@]}"; do object "$crate" "$made/$crate.o"; done
+  rm -f "$into/libbusconf.a" "$into/libbusconf.so"
+  ar rcs "$into/libbusconf.a" "$made"/*.o
+  ${CC:-cc} -shared -Wl,-soname,libbusconf.so -Wl,-z,relro,-z,now -o "$into/libbusconf.so" "$made"/*.o
   rm -rf "$made"
 }
 
@@ -72,15 +82,15 @@ program() {
   "$@" -Wall -Wextra -Werror -pedantic -O2 -g -I "$top/include" "$file" -x none -o "$to" "$room/libbusconf.a"
 }
 
-# Whether a program writes for each case of a folder what the case wants. `$2` is the standard, and the rest the command.
+# Whether a command writes for each case of a folder what the case wants, as a filter leaves it of the case's answer. The
+# words are the folder, the filter and the command.
 cases() {
-  local folder=$1 standard=$2 input said count=0
+  local folder=$1 filter=$2 input said count=0
   shift 2
-  for input in "$folder"/*.stdout; do
-    input=${input%.stdout}
-    said=$("$@" "$standard" <"$input" || true)
-    if [ "$said" != "$(cat "$input.stdout")" ]; then
-      echo "library: $(basename "$1") on $input: not what is wanted" >&2
+  for input in $(captures "$folder"); do
+    said=$("$@" <"$input" || true)
+    if [ "$said" != "$($filter "$input.stdout")" ]; then
+      echo "library: ${*##*/} on $input: not what is wanted" >&2
       return 1
     fi
     count=$((count + 1))
@@ -88,8 +98,20 @@ cases() {
   echo "library: ${*##*/}: $count cases of $(basename "$folder")"
 }
 
+# What is left of the answer of a case: the lines on a ROM's blocks or its fault; the line and the sentence on a fault.
+blocks() { grep '^directory \|^leaf \|^refused ' "$1" || true; }
+refusal() { grep -A 1 '^refused pair ' "$1" || true; }
+
+# Whether a command ends with a status that isn't 0.
+differs() {
+  if "$@" >/dev/null; then
+    echo "library: ${*##*/} finds no difference" >&2
+    return 1
+  fi
+}
+
 run_tests() {
-  local check=() python exported
+  local check=() python exported file form
   build "$room"
   exported=$(nm -D --defined-only "$room/libbusconf.so" | awk '{ print $3 }' | grep -v '^busconf_' || true)
   exported+=$(nm -g --defined-only "$room/libbusconf.a" | awk 'NF == 3 { print $3 }' | grep -v '^busconf_' || true)
@@ -103,16 +125,17 @@ run_tests() {
     program "$room/$file" "$top/examples/c/$file.c" cc -std=c99
     program "$room/$file-c++" "$top/examples/c/$file.c" c++ -std=c++17 -x c++
   done
-  program "$room/check" "$top/tools/library/check.c" cc -std=c99
-  program "$room/rom" "$top/tools/library/rom.c" cc -std=c99
-  program "$room/speed" "$top/tools/library/speed.c" cc -std=c99
+  for file in check rom refusal script speed; do program "$room/$file" "$top/tools/library/$file.c" cc -std=c99; done
 
   for file in recorder recorder-c++; do
-    cases "$top/cases/busconf/read" 2000 "$room/$file"
-    cases "$top/cases/busconf/read95" 1995 "$room/$file"
+    cases "$top/cases/busconf/read" cat "$room/$file" 2000
+    cases "$top/cases/busconf/read95" cat "$room/$file" 1995
   done
   for file in bench bench-c++; do
-    "$room/$file" | diff "$top/examples/c/bench.stdout" -
+    "$room/$file" "$top/examples/hub.script" <"$top/examples/hub.capture" | diff "$top/examples/c/bench.stdout" -
+    "$room/$file" "$top/examples/two-nodes.script" <"$top/examples/two-nodes.capture" >/dev/null
+    differs "$room/$file" "$top/examples/hub.script" <"$top/examples/two-nodes.capture"
+    differs "$room/$file" "$top/examples/hub.script" <"$top/examples/missing-child.capture"
   done
 
   if command -v valgrind >/dev/null; then
@@ -122,9 +145,18 @@ run_tests() {
   fi
   "${check[@]}" "$room/check" 2000 $(captures "$top/cases/busconf/read")
   "${check[@]}" "$room/check" 1995 $(captures "$top/cases/busconf/read95")
-  roms "${check[@]}" "$room/rom"
+  cases "$top/cases/busconf/rom" blocks "${check[@]}" "$room/rom"
+  cases "$top/cases/busview/packets" refusal "${check[@]}" "$room/refusal"
+  for form in run advice; do cases "$top/cases/busconf/$form" cat "$room/script" $form; done
+  cases "$top/cases/busview/trace" cat "$room/script" trace
+  for file in two-nodes hub plan loop; do
+    for form in run advice trace; do
+      "${check[@]}" "$room/script" $form <"$top/examples/$file.script" >/dev/null
+    done
+  done
 
   "$room/speed" 10 <"$top/examples/hub.capture" >/dev/null
+  "$room/speed" 2 script <"$top/examples/hub.script" >/dev/null
 
   python=$(command -v python3 || true)
   if [ -n "$python" ]; then
@@ -134,20 +166,6 @@ run_tests() {
   else
     echo "library: no python3 here, so neither the header's numbers nor the example in Python is tried"
   fi
-}
-
-# Whether a program writes for each ROM the lines on its blocks, or its fault.
-roms() {
-  local input said count=0
-  for input in $(captures "$top/cases/busconf/rom"); do
-    said=$("$@" <"$input" || true)
-    if [ "$said" != "$(grep '^directory \|^leaf \|^refused ' "$input.stdout")" ]; then
-      echo "library: rom on $input: not what is wanted" >&2
-      return 1
-    fi
-    count=$((count + 1))
-  done
-  echo "library: rom: $count cases of rom"
 }
 
 captures() {
@@ -190,12 +208,17 @@ END
 case ${1-} in
   build) build "${2:?a folder}" ;;
   install) install_below "${2:?a folder}" ;;
-  speed)
+  speed | race)
     room=$(mktemp -d)
     trap 'rm -rf "$room"' EXIT
     build "$room"
     program "$room/speed" "$top/tools/library/speed.c" cc -std=c99
-    "$room/speed" "${2:?a number}"
+    if [ "$1" = speed ]; then
+      "$room/speed" "${2:?a number}"
+    else
+      "$room/speed" "${2:?a number}" script <"${3:?a script}"
+      [ $# -lt 4 ] || "${@:4}" <"$3"
+    fi
     ;;
   test)
     room=$(mktemp -d)
@@ -203,7 +226,7 @@ case ${1-} in
     run_tests
     ;;
   *)
-    echo "usage: library.sh build FOLDER | install PREFIX | test | speed N" >&2
+    echo "usage: library.sh build FOLDER | install PREFIX | test | speed N | race N SCRIPT [COMMAND..]" >&2
     exit 2
     ;;
 esac

@@ -1,4 +1,5 @@
-"""Compares the numbers and records of include/busconf.h with those of the crate, whose contracts cite them."""
+"""Compares the numbers, records and calls of include/busconf.h with those of the crates, whose contracts cite them."""
+import os
 import re
 import sys
 
@@ -17,7 +18,7 @@ def snake(name):
 header = text("include/busconf.h")
 has = {name: int(number) for name, number in re.findall(r"#define BUSCONF_(\w+) (\d+)u", header)}
 wants = {}
-crate = "crates/busconf_c"
+crate, border, scripts = "crates/busconf_c", "crates/c_border", "crates/script_c"
 for name, number in re.findall(r"_record \(?(\w+).*?\)? =\s+fault_with (\d+)", text(f"{crate}/specs/Faults.antt")):
     wants[snake(name)] = int(number)
 for name, number in re.findall(r"^(bad_\w+) pair = fault_with (\d+)", text(f"{crate}/specs/Faults.antt"), re.M):
@@ -32,7 +33,9 @@ for name, number in re.findall(r"block_of b \(?(\w+).*? = block_with b (\d+)", t
     wants["CRC_" + snake(name)] = int(number)
 for name, number in re.findall(r"grant_record \(?(\w+).* kind = (\d+) }", text(f"{crate}/specs/Registers.antt")):
     wants[snake(name)] = int(number)
-for name, number in re.findall(r"pub const (\w+): \w+ = (\d+);", text(f"{crate}/src/status.rt") + text(f"{crate}/src/records.rt")):
+for name, number in re.findall(r"^kind_number (\w+) = (\d+)$", text(f"{scripts}/specs/Faults.antt"), re.M):
+    wants["SCRIPT_" + snake(name)] = int(number)
+for name, number in re.findall(r"pub const (\w+): \w+ = (\d+);", text(f"{border}/src/status.rt") + text(f"{crate}/src/records.rt")):
     wants[name] = int(number)
 for name, number in re.findall(r"^status_bits (\w+) = (\d)$", text("crates/self_id/specs/Node.antt"), re.M):
     wants[snake(name)] = int(number)
@@ -42,6 +45,15 @@ wants["NO_NODE"] = int(re.search(r"^id_or_none None = (\d+)$", text(f"{crate}/sp
 wants["MAX_NODES"] = int(re.search(r"length \(walk t\) ≤ (\d+)", text("crates/topology_stack/specs/Tree.antt"))[1])
 bad = [f"{it}: header {has.get(it)}, contracts {wants.get(it)}" for it in sorted({*has, *wants}) if has.get(it) != wants.get(it)]
 
+# What the heads of definitions say of the statuses, as `0 valid`, and that each digit behind a status is said there.
+for file in [border, crate, scripts]:
+    for path in sorted(os.listdir(f"{top}/{file}/specs")):
+        said = text(f"{file}/specs/{path}")
+        head = {int(number): name for line in re.findall(r"^-- Status\w*: (.*)\.$", said, re.M) for number, name in re.findall(r"(\d) ([a-z ]+)", line)}
+        used = {int(number) for number in re.findall(r"status ≡ (\d)", said)}
+        bad += [f"{path}: status {it}" for it in sorted(head) if wants.get(head[it].replace(" ", "_").upper()) != it]
+        bad += [f"{path}: the head doesn't say what status {it} is" for it in sorted(used - set(head))]
+
 widths = {"u8": "uint8_t", "u16": "uint16_t", "u32": "uint32_t", "usize": "size_t", "SlotRecord": "struct busconf_slot"}
 arrays = {"MAX_SLOTS": "BUSCONF_MAX_SLOTS", "READER_QUADS": "BUSCONF_READER_QUADS"}
 in_header = {
@@ -49,15 +61,22 @@ in_header = {
     for name, body in re.findall(r"^struct busconf_(\w+) \{\n(.*?)^\};", header, re.M | re.S)
 }
 records = {}
-for name, body in re.findall(r"pub struct (\w+)Record \{\n(.*?)^\}", text(f"{crate}/src/records.rt"), re.M | re.S):
+for name, body in re.findall(r"pub struct (\w+)Record \{\n(.*?)^\}", text(f"{crate}/src/records.rt") + text(f"{scripts}/src/record.rt"), re.M | re.S):
     fields = re.findall(r"pub (\w+): \[?(\w+)(?:; (\w+)\])?,", body)
     records[snake(name).lower()] = [(widths[kind], field, arrays[size] if size else "") for field, kind, size in fields]
 bad += [f"struct {it}: {in_header.get(it)}, crate {records.get(it)}" for it in sorted({*in_header, *records}) if in_header.get(it) != records.get(it)]
 
-exports = set()
-for file in re.findall(r"^mod (\w+);", text(f"{crate}/src/lib.rt"), re.M):
-    exports |= set(re.findall(r'pub extern "C" fn (\w+)', text(f"{crate}/src/{file}.rt")))
-declared = set(re.findall(r"^\w+ (busconf_\w+)\(", header, re.M))
-bad += [f"{it}: only in one of the header and the crate" for it in sorted(exports ^ declared)]
-print("\n".join(bad) or f"numbers: {len(wants)} numbers, {len(records)} records and {len(exports)} calls of the header are the crate's")
+# A call that is handed an allocator says in the header that it takes memory, and no other does. The state of a reader is
+# asked with one, and takes none.
+exports = {}
+for it in [crate, scripts]:
+    for file in re.findall(r"^mod (\w+);", text(f"{it}/src/lib.rt"), re.M):
+        for name, words in re.findall(r'pub extern "C" fn (\w+)\((.*?)\)\s*(?:->|\n|ensures)', text(f"{it}/src/{file}.rt"), re.S):
+            exports[name] = "alloc: Global" in words and name != "busconf_reader_state"
+declared = {}
+for said, name in re.findall(r"/\*((?:(?!\*/).)*)\*/\n\w+ (busconf_\w+)\(", header, re.S):
+    declared[name] = "Takes memory." in said
+bad += [f"{it}: only in one of the header and the crates" for it in sorted(set(exports) ^ set(declared))]
+bad += [f"{it}: whether it takes memory" for it in sorted(set(exports) & set(declared)) if exports[it] != declared[it]]
+print("\n".join(bad) or f"numbers: {len(wants)} numbers, {len(records)} records and {len(exports)} calls of the header are the crates'")
 sys.exit(1 if bad else 0)

@@ -1,6 +1,5 @@
 pub mod Forms
 pub mod OneView
 pub mod Ends
-pub mod Joined
 pub mod SomePacket
 pub mod SomeView

@@ -1,109 +1,19 @@
--- What was found and what was wanted where a capture is refused, in a sentence.
-use Rattle.std.specs.Prelude.{ℕ, zero, suc, ◌+◌, ◌*◌, ◌/◌, ◌^◌, nat_lt, true, false, if◌then◌else◌, Some, None, List, ◌++◌, length, slice_get, slice_index, codes}
-use Rattle.quad_lanes.specs.Pairs.{inverse}
+-- What was found and what was wanted where a capture is refused: the line of the fault and a sentence.
+use Rattle.std.specs.Prelude.{ℕ, zero, suc, Option, None, List, ◌++◌, slice_get}
 use Rattle.phy_packet.specs.declared.packet.PhyPacket.{PhyPacket}
-use Rattle.phy_packet.specs.declared.packet.PhyPacket.TheVariants.{Config, LinkOn, SelfZero, SelfMore, Extended, Other}
 use Rattle.self_id.specs.declared.fault.GroupFault.{GroupFault}
 use Rattle.self_id.specs.declared.fault.GroupFault.TheVariants.{NotSelfId, WrongId, BadOrder, Cut, TwoParents}
-use Rattle.topology_stack.specs.Hex.{hex}
 use Rattle.topology_stack.specs.declared.fault.TreeFault.{TreeFault}
 use Rattle.topology_stack.specs.declared.fault.TreeFault.TheVariants.{Group, Empty, TooFewChildren, TreesLeft, AfterRoot, NoRoot, TooMany}
 use Rattle.bus_cli.specs.declared.fault.CaptureFault.{CaptureFault}
 use Rattle.bus_cli.specs.declared.fault.CaptureFault.TheVariants.{BadLength, BadInverse, Tree}
 use Rattle.bus_cli.specs.Line.{fault_line}
-use Rattle.view_text.specs.Packet.{field}
+use Rattle.view_text.specs.Sentence.{first_at, second_at, length_sentence, inverse_sentence, tree_sentence}
 
--- the quadlets of a pair, where it is whole
-abbrev pub first_at : List ℕ → ℕ → ℕ
-first_at quads pair = if nat_lt pair (length quads / 2) then slice_index quads (2 * pair) else 0
-
-abbrev pub second_at : List ℕ → ℕ → ℕ
-second_at quads pair =
-    if nat_lt pair (length quads / 2) then slice_index quads (2 * pair + 1) else 0
-
--- the top two bits of a quadlet
-abbrev pub top_bits : ℕ → List ℕ
-top_bits zero = codes "00"
-top_bits (suc zero) = codes "01"
-top_bits (suc (suc zero)) = codes "10"
-top_bits (suc (suc (suc n))) = codes "11"
-
--- which packet of a node has to follow this one: where m is set its next one, up to n 1
-abbrev pub next_after : PhyPacket → List ℕ
-next_after (Config root_id force set_gap gap rest) = codes "packet zero"
-next_after (LinkOn phy_id rest) = codes "packet zero"
-next_after (SelfZero phy_id link gap speed delay contender power p0 p1 p2 initiated false) =
-    codes "packet zero"
-next_after (SelfZero phy_id link gap speed delay contender power p0 p1 p2 initiated true) =
-    codes "packet n 0"
-next_after (SelfMore phy_id n kept bits r false) = codes "packet zero"
-next_after (SelfMore phy_id zero kept bits r true) = codes "packet n 1"
-next_after (SelfMore phy_id (suc n) kept bits r true) = codes "packet zero"
-next_after (Extended word) = codes "packet zero"
-next_after (Other word) = codes "packet zero"
-
--- which packet of a node has to stand at this place
-abbrev pub next_words : List PhyPacket → ℕ → List ℕ
-next_words packets zero = codes "packet zero"
-next_words packets (suc k) =
-    elim (slice_get packets k) [ None ↦ codes "packet zero" | Some p ↦ next_after p ]
-
-unfoldable pub inverse_sentence : ℕ → ℕ → List ℕ
-inverse_sentence first second =
-    codes "Found the second quadlet " ++ (hex 8 second ++ (codes ", wanted "
-    ++ (hex 8 (inverse first) ++ codes ", the bitwise inverse of the first.\n")))
-
-unfoldable pub top_sentence : ℕ → List ℕ
-top_sentence first =
-    codes "Found the top two bits "
-    ++ (top_bits (first / 2 ^ 30) ++ codes ", wanted 10, those of a self-ID packet.\n")
-
-unfoldable pub id_sentence : ℕ → ℕ → List ℕ
-id_sentence found wanted =
-    field (codes "Found a self-ID packet of node ") found
-    ++ (field (codes ", wanted one of node ") wanted
-    ++ codes ": IDs count up from 0, and a node's packets stand together.\n")
-
-unfoldable pub order_sentence : List ℕ → List ℕ
-order_sentence wanted =
-    codes "Found another packet of the node, wanted its " ++ (wanted ++ codes ".\n")
-
-unfoldable pub children_sentence : ℕ → ℕ → List ℕ → List ℕ
-children_sentence found wanted why =
-    field (codes "Found trees of nodes that wait for a parent: ") found
-    ++ (field (codes ", wanted ") wanted ++ why)
-
-abbrev pub group_sentence : List ℕ → List PhyPacket → GroupFault → List ℕ
-group_sentence quads packets (NotSelfId at) = top_sentence (first_at quads at)
-group_sentence quads packets (WrongId at found wanted) = id_sentence found wanted
-group_sentence quads packets (BadOrder at) = order_sentence (next_words packets at)
-group_sentence quads packets (Cut at) =
-    codes "Found the end of the list, wanted a further packet: m is 1 in the one before.\n"
-group_sentence quads packets (TwoParents at) =
-    codes "Found more than one port to a parent in this node's packets, wanted one at most.\n"
-
-abbrev pub tree_sentence : List ℕ → List PhyPacket → TreeFault → List ℕ
-tree_sentence quads packets (Group f) = group_sentence quads packets f
-tree_sentence quads packets Empty = codes "Found no packet, wanted those of one node at least.\n"
-tree_sentence quads packets (TooFewChildren at found wanted) =
-    children_sentence found wanted (codes ", as many as this node has ports to children.\n")
-tree_sentence quads packets (TreesLeft at found wanted) =
-    children_sentence found wanted
-    (codes ": this node has no port to a parent, so it is the root, and those are its children.\n")
-tree_sentence quads packets (AfterRoot at) =
-    codes "Found a packet behind the root's, wanted none: the node without a parent comes last.\n"
-tree_sentence quads packets (NoRoot at) =
-    codes "Found the end of the list, wanted the root: each node has a port to a parent.\n"
-tree_sentence quads packets (TooMany at) =
-    codes "Found a packet of a 64th node, wanted 63 nodes at most.\n"
-
--- for quadlets, two a pair, and the packets of the pairs' first ones
-abbrev pub sentence : List ℕ → List PhyPacket → CaptureFault → List ℕ
-sentence quads packets (BadLength pair) =
-    codes "Found the end of the input inside this pair, wanted 8 bytes: a quadlet and its inverse.\n"
-sentence quads packets (BadInverse pair) =
-    inverse_sentence (first_at quads pair) (second_at quads pair)
-sentence quads packets (Tree f) = tree_sentence quads packets f
+-- the packet before this place, if there is one
+abbrev pub before_at : List PhyPacket → ℕ → Option PhyPacket
+before_at packets zero = None
+before_at packets (suc k) = slice_get packets k
 
 -- below which pair the line of a fault stands
 abbrev pub group_place : GroupFault → ℕ
@@ -126,6 +36,14 @@ abbrev pub place : CaptureFault → ℕ
 place (BadLength pair) = pair
 place (BadInverse pair) = pair
 place (Tree f) = tree_place f
+
+-- for quadlets, two a pair, and the packets of the pairs' first ones
+abbrev pub sentence : List ℕ → List PhyPacket → CaptureFault → List ℕ
+sentence quads packets (BadLength pair) = length_sentence
+sentence quads packets (BadInverse pair) =
+    inverse_sentence (first_at quads pair) (second_at quads pair)
+sentence quads packets (Tree f) =
+    tree_sentence (first_at quads (tree_place f)) (before_at packets (tree_place f)) f
 
 -- the line of a fault and the sentence
 abbrev pub note : List ℕ → List PhyPacket → CaptureFault → List ℕ

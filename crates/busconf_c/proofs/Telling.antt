@@ -1,6 +1,6 @@
 -- What holds of a list that is told.
 use Rattle.std.proofs.Common.{ℕ, List, Result, Ok, Err, IfOk, sym, subst}
-use Rattle.busconf_c.specs.Places.{Tells, some, no_memory, TellsOk}
+use Rattle.c_border.specs.Places.{Tells, some, no_memory, TellsOk}
 
 pub tells_ok : {E : Type 0} (P : List ℕ → Type 0) (r : Result (List ℕ) E) (before after : List ℕ) (needed_before needed status : ℕ) → TellsOk r before after needed_before needed status → IfOk r P → Tells P before after needed_before needed status
 tells_ok P (Ok list) before after needed_before needed status (some told is tells) holds = some told (subst P (sym is) holds) tells

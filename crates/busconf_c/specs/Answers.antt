@@ -1,4 +1,5 @@
 -- What a call answers that reads the list of a bus.
+-- Statuses: 0 valid, 1 refused, 2 no memory, 3 too short, 4 no standard.
 use Rattle.std.specs.Prelude.{◌≡◌, ℕ, ◌<◌, ◌==◌, if◌then◌else◌, Option, Some, None, List, length, ◌≢◌, ◌/◌, ◌%◌}
 use Rattle.quad_lanes.specs.Pairs.{quads_of, firsts, first_bad_pair}
 use Rattle.self_id.specs.declared.standard.Standard.{Standard}
@@ -6,7 +7,6 @@ use Rattle.self_id.specs.declared.standard.Standard.TheVariants.{Ieee1995, Ieee2
 use Rattle.topology_stack.specs.declared.fault.TreeFault.{TreeFault}
 use Rattle.topology_stack.specs.Tree.{Tree, walk, IsBusTreeOf, emits}
 use Rattle.topology_stack.specs.Refused.{Refused}
-use Rattle.busconf_c.specs.declared.status.TheConstants.{VALID, REFUSED, NO_MEMORY, TOO_SHORT, NO_STANDARD}
 use Rattle.busconf_c.specs.declared.records.FaultRecord.{FaultRecord}
 use Rattle.busconf_c.specs.declared.records.BusRecord.{BusRecord}
 use Rattle.busconf_c.specs.declared.records.NodeRecord.{NodeRecord}
@@ -28,10 +28,10 @@ pub record IsTreeOf (year : ℕ) (quads : List ℕ) (t : Tree) : Type 0 where
 -- why no tree is read: the list's fault, which is told, want of memory, or no standard
 pub data IsStop (year : ℕ) (quads : List ℕ) (before after : FaultRecord) (status : ℕ) : Type 0 where
   refused : (standard : Standard) (f : TreeFault) → standard_of year ≡ Some standard →
-      Refused standard quads f → after ≡ tree_record f → status ≡ REFUSED →
+      Refused standard quads f → after ≡ tree_record f → status ≡ 1 →
       IsStop year quads before after status
-  no_memory : after ≡ before → status ≡ NO_MEMORY → IsStop year quads before after status
-  no_standard : standard_of year ≡ None → after ≡ before → status ≡ NO_STANDARD →
+  no_memory : after ≡ before → status ≡ 2 → IsStop year quads before after status
+  no_standard : standard_of year ≡ None → after ≡ before → status ≡ 4 →
       IsStop year quads before after status
 
 -- a tree is read and this holds of it, or else why not
@@ -44,10 +44,10 @@ pub data Answers (year : ℕ) (quads : List ℕ) (before after : FaultRecord) (s
 -- the nodes of a tree and its bus are shown, or the bus alone where there is no room for the nodes
 pub data TellsNodes (t : Tree) (before after : List NodeRecord) (bus : BusRecord) (status : ℕ)
     : Type 0 where
-  shown : IsBusRecord t bus → AreShown t before after → status ≡ VALID →
+  shown : IsBusRecord t bus → AreShown t before after → status ≡ 0 →
       TellsNodes t before after bus status
   too_short : IsBusRecord t bus → length before < length (walk t) → after ≡ before →
-      status ≡ TOO_SHORT → TellsNodes t before after bus status
+      status ≡ 3 → TellsNodes t before after bus status
 
 -- ---- captures: pairs of quadlets as bytes, each packet's quadlet before its bitwise inverse
 
@@ -60,10 +60,10 @@ pub record IsListOf (bytes quads : List ℕ) : Type 0 where
 -- why bytes have no list: they end within a pair, a pair is bad, or memory ran out
 pub data IsBadCapture (bytes : List ℕ) (before after : FaultRecord) (status : ℕ) : Type 0 where
   length_is_bad : length bytes % 8 ≢ 0 → after ≡ bad_length (length bytes / 8) →
-      status ≡ REFUSED → IsBadCapture bytes before after status
+      status ≡ 1 → IsBadCapture bytes before after status
   pair_is_bad : (pair : ℕ) → length bytes % 8 ≡ 0 → first_bad_pair (quads_of bytes) ≡ Some pair →
-      after ≡ bad_inverse pair → status ≡ REFUSED → IsBadCapture bytes before after status
-  no_room : after ≡ before → status ≡ NO_MEMORY → IsBadCapture bytes before after status
+      after ≡ bad_inverse pair → status ≡ 1 → IsBadCapture bytes before after status
+  no_room : after ≡ before → status ≡ 2 → IsBadCapture bytes before after status
 
 -- the list of a capture is answered, or else why there is none
 pub data AnswersCapture (year : ℕ) (bytes : List ℕ) (before after : FaultRecord) (status : ℕ)

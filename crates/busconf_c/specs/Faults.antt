@@ -1,11 +1,11 @@
 -- The records of faults: the number of the kind, the place, and what was found and wanted.
+-- Statuses: 1 refused.
 use Rattle.std.specs.Prelude.{◌≡◌, ℕ, ◌==◌, ◌||◌, if◌then◌else◌, List, [], ◌++◌, codes, decimal}
 use Rattle.self_id.specs.declared.fault.GroupFault.{GroupFault}
 use Rattle.self_id.specs.declared.fault.GroupFault.TheVariants.{NotSelfId, WrongId, BadOrder, Cut, TwoParents}
 use Rattle.topology_stack.specs.declared.fault.TreeFault.{TreeFault}
 use Rattle.topology_stack.specs.declared.fault.TreeFault.TheVariants.{Group, Empty, TooFewChildren, TreesLeft, AfterRoot, NoRoot, TooMany}
 use Rattle.busconf_c.specs.declared.records.FaultRecord.{FaultRecord}
-use Rattle.busconf_c.specs.declared.status.TheConstants.{REFUSED}
 
 abbrev pub fault_with : ℕ → ℕ → ℕ → ℕ → FaultRecord
 fault_with kind at found wanted =
@@ -66,4 +66,4 @@ line_of r word =
 -- nothing is told of a kind that there isn't
 abbrev pub IsUntold : List ℕ → List ℕ → ℕ → ℕ → ℕ → Type 0
 IsUntold before after needed_before needed status =
-    (after ≡ before) × (needed ≡ needed_before) × (status ≡ REFUSED)
+    (after ≡ before) × (needed ≡ needed_before) × (status ≡ 1)

@@ -3,8 +3,9 @@ pub mod Shown
 pub mod Faults
 pub mod Answers
 pub mod Packets
-pub mod Places
+pub mod Maps
 pub mod Plans
 pub mod Reader
 pub mod Registers
 pub mod Roms
+pub mod Sentences

@@ -1,11 +1,11 @@
 -- The records of PHY packets.
+-- Statuses: 0 valid, 1 refused.
 use Rattle.std.specs.Prelude.{◌≡◌, ℕ, ◌%◌, ◌^◌, Bool, not, ◌==◌, if◌then◌else◌, Option, Some, None}
 use Rattle.topology_stack.specs.Text.{truth}
 use Rattle.phy_packet.specs.Packet.{quad_of, IsValid}
 use Rattle.phy_packet.specs.declared.packet.PhyPacket.{PhyPacket}
 use Rattle.phy_packet.specs.declared.packet.PhyPacket.TheVariants.{Config, LinkOn, SelfZero, SelfMore, Extended, Other}
 use Rattle.busconf_c.specs.declared.records.PacketRecord.{PacketRecord}
-use Rattle.busconf_c.specs.declared.status.TheConstants.{VALID, REFUSED}
 
 -- a record of this kind that has 0 in all other fields
 abbrev pub blank : ℕ → PacketRecord
@@ -87,9 +87,9 @@ packet_in r =
 -- the quadlet of a record's packet is written, unless the record is no packet's
 pub data Encodes (r : PacketRecord) (before after status : ℕ) : Type 0 where
   encoded : (p : PhyPacket) → packet_in r ≡ Some p → IsValid p → after ≡ quad_of p →
-      status ≡ VALID → Encodes r before after status
+      status ≡ 0 → Encodes r before after status
   no_packet : ((p : PhyPacket) → packet_in r ≡ Some p → IsValid p → ⊥) → after ≡ before →
-      status ≡ REFUSED → Encodes r before after status
+      status ≡ 1 → Encodes r before after status
 
 -- the packet of a valid packet's record is that packet
 abbrev pub RecordsAreReadBack : Type 0

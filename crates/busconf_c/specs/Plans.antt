@@ -1,4 +1,5 @@
 -- The record of the root that suits a bus best.
+-- Statuses: 0 valid, 5 no candidate.
 use Rattle.std.specs.Prelude.{◌≡◌, ℕ, true, None}
 use Rattle.phy_packet.specs.Packet.{quad_of}
 use Rattle.phy_packet.specs.declared.packet.PhyPacket.TheVariants.{Config}
@@ -9,7 +10,6 @@ use Rattle.bus_manager.specs.Hops.{IsHops}
 use Rattle.root_plan.specs.Reach.{IsReach}
 use Rattle.root_plan.specs.Choice.{NoneReachesLess, NoneIsHigher}
 use Rattle.busconf_c.specs.declared.records.PlanRecord.{PlanRecord}
-use Rattle.busconf_c.specs.declared.status.TheConstants.{VALID, NO_CANDIDATE}
 
 -- the best root of a tree's bus, and the packet that makes it root
 pub record IsPlanRecord (t : Tree) (r : PlanRecord) : Type 0 where
@@ -23,5 +23,5 @@ pub record IsPlanRecord (t : Tree) (r : PlanRecord) : Type 0 where
 
 -- it is told, unless no node is eligible
 pub data TellsPlan (t : Tree) (before after : PlanRecord) (status : ℕ) : Type 0 where
-  planned : IsPlanRecord t after → status ≡ VALID → TellsPlan t before after status
-  nobody : elected t ≡ None → after ≡ before → status ≡ NO_CANDIDATE → TellsPlan t before after status
+  planned : IsPlanRecord t after → status ≡ 0 → TellsPlan t before after status
+  nobody : elected t ≡ None → after ≡ before → status ≡ 5 → TellsPlan t before after status

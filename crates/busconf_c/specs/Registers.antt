@@ -1,4 +1,5 @@
 -- The records of an isochronous resource manager.
+-- Statuses: 0 valid, 1 refused, 7 out of range.
 use Rattle.std.specs.Prelude.{◌≡◌, ◌≢◌, ℕ, ◌≤◌, ◌<◌, Option, None, Some}
 use Rattle.resource_manager.specs.declared.register.Register.TheVariants.{BusManagerId, BandwidthAvailable, ChannelsAvailableHi, ChannelsAvailableLo}
 use Rattle.resource_manager.specs.declared.registers.Reply.{Reply}
@@ -10,7 +11,6 @@ use Rattle.busconf_c.specs.declared.records.RegistersRecord.{RegistersRecord}
 use Rattle.busconf_c.specs.declared.records.ReplyRecord.{ReplyRecord}
 use Rattle.busconf_c.specs.declared.records.SeenRecord.{SeenRecord}
 use Rattle.busconf_c.specs.declared.records.GrantRecord.{GrantRecord}
-use Rattle.busconf_c.specs.declared.status.TheConstants.{VALID, REFUSED, OUT_OF_RANGE}
 
 abbrev pub registers_record : Values → RegistersRecord
 registers_record v = record {
@@ -47,21 +47,21 @@ grant_record (Changed offset old) = record { detail = offset; now = old; kind = 
 pub data Grants (channel units : ℕ) (fault : Option GrantFault) (done : Values)
     (before after : RegistersRecord) (told_before told : GrantRecord) (status : ℕ) : Type 0 where
   granted : channel ≤ 63 → units ≤ 4915 → fault ≡ None → after ≡ registers_record done →
-      told ≡ told_before → status ≡ VALID →
+      told ≡ told_before → status ≡ 0 →
       Grants channel units fault done before after told_before told status
   refused : (f : GrantFault) → channel ≤ 63 → units ≤ 4915 → fault ≡ Some f → after ≡ before →
-      told ≡ grant_record f → status ≡ REFUSED →
+      told ≡ grant_record f → status ≡ 1 →
       Grants channel units fault done before after told_before told status
   out_of_range : ((channel ≤ 63) × (units ≤ 4915) → ⊥) → after ≡ before → told ≡ told_before →
-      status ≡ OUT_OF_RANGE → Grants channel units fault done before after told_before told status
+      status ≡ 7 → Grants channel units fault done before after told_before told status
 
 -- what comes of an attempt of a node to become bus manager
 pub data Attempts (id : ℕ) (held : Values) (before after : RegistersRecord) (told_before told : ℕ)
     (status : ℕ) : Type 0 where
   won : id ≤ 62 → held.bus_manager_id ≡ 63 →
-      after ≡ registers_record (record held { bus_manager_id = id }) → told ≡ id → status ≡ VALID →
+      after ≡ registers_record (record held { bus_manager_id = id }) → told ≡ id → status ≡ 0 →
       Attempts id held before after told_before told status
   lost : id ≤ 62 → held.bus_manager_id ≢ 63 → after ≡ before → told ≡ held.bus_manager_id →
-      status ≡ REFUSED → Attempts id held before after told_before told status
-  no_node : 62 < id → after ≡ before → told ≡ told_before → status ≡ OUT_OF_RANGE →
+      status ≡ 1 → Attempts id held before after told_before told status
+  no_node : 62 < id → after ≡ before → told ≡ told_before → status ≡ 7 →
       Attempts id held before after told_before told status

@@ -1,4 +1,5 @@
 -- The records of a configuration ROM.
+-- Statuses: 1 refused, 2 no memory.
 use Rattle.std.specs.Prelude.{◌≡◌, ℕ, Some, List, map}
 use Rattle.config_rom.specs.declared.block.Block.{Block}
 use Rattle.config_rom.specs.declared.block.BlockKind.{BlockKind}
@@ -12,8 +13,7 @@ use Rattle.config_rom.specs.Block.{AreBlocks, BlocksRefused}
 use Rattle.config_rom.specs.Fault.{rom_fault}
 use Rattle.busconf_c.specs.declared.records.BlockRecord.{BlockRecord}
 use Rattle.busconf_c.specs.declared.records.RomFaultRecord.{RomFaultRecord}
-use Rattle.busconf_c.specs.declared.status.TheConstants.{REFUSED, NO_MEMORY}
-use Rattle.busconf_c.specs.Places.{IsTold}
+use Rattle.c_border.specs.Places.{IsTold}
 
 abbrev pub rom_fault_with : ℕ → ℕ → ℕ → RomFaultRecord
 rom_fault_with kind at found = record { at = at; found = found; kind = kind }
@@ -58,9 +58,9 @@ pub data TellsBlocks (rom : Parts) (before after : List BlockRecord) (needed_bef
       IsTold (map block_record blocks) before after needed status → fault ≡ fault_before →
       TellsBlocks rom before after needed_before needed fault_before fault status
   no_blocks : (f : RomFault) → BlocksRefused rom f → fault ≡ rom_record f → after ≡ before →
-      needed ≡ needed_before → status ≡ REFUSED →
+      needed ≡ needed_before → status ≡ 1 →
       TellsBlocks rom before after needed_before needed fault_before fault status
-  no_room : after ≡ before → needed ≡ needed_before → fault ≡ fault_before → status ≡ NO_MEMORY →
+  no_room : after ≡ before → needed ≡ needed_before → fault ≡ fault_before → status ≡ 2 →
       TellsBlocks rom before after needed_before needed fault_before fault status
 
 -- what is told of bytes: what is told of their ROM, their first fault, or want of memory
@@ -70,8 +70,8 @@ pub data TellsRom (bytes : List ℕ) (before after : List BlockRecord) (needed_b
       TellsBlocks rom before after needed_before needed fault_before fault status →
       TellsRom bytes before after needed_before needed fault_before fault status
   no_rom : (f : RomFault) → rom_fault bytes ≡ Some f → fault ≡ rom_record f → after ≡ before →
-      needed ≡ needed_before → status ≡ REFUSED →
+      needed ≡ needed_before → status ≡ 1 →
       TellsRom bytes before after needed_before needed fault_before fault status
   no_memory : after ≡ before → needed ≡ needed_before → fault ≡ fault_before →
-      status ≡ NO_MEMORY →
+      status ≡ 2 →
       TellsRom bytes before after needed_before needed fault_before fault status

@@ -7,7 +7,7 @@ ghost use Rattle.busconf_c.specs.Answers.{standard_of, IsTreeOf, IsStop};
 
 use crate::fault::tree_record;
 use crate::records::FaultRecord;
-use crate::status::{NO_MEMORY, NO_STANDARD, REFUSED};
+use c_border::{NO_MEMORY, NO_STANDARD, REFUSED};
 use self_id::Standard;
 use std::alloc::Global;
 use topology_stack::{BusTree, TreeStop, read_tree, read_tree95};

@@ -1,11 +1,10 @@
 //! A fault as a record.
 ghost use Rattle.std.specs.Prelude.{◌≡◌, ◌<◌, ◌≤◌, ◌++◌, IfOk, OnOk};
 ghost use Rattle.busconf_c.specs.Faults.{group_record, tree_record, fault_with, kind_word, counts, line_of, IsUntold};
-ghost use Rattle.busconf_c.specs.Places.{Tells};
+ghost use Rattle.c_border.specs.Places.{Tells};
 
-use crate::place::tell_bytes;
 use crate::records::FaultRecord;
-use crate::status::{NO_MEMORY, REFUSED};
+use c_border::{NO_MEMORY, REFUSED, tell_bytes};
 use self_id::GroupFault;
 use std::alloc::Global;
 use topology_stack::{OutOfMemory, TreeFault, put_number};

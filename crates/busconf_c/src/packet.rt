@@ -5,7 +5,7 @@ ghost use Rattle.phy_packet.specs.declared.packet.PhyPacket.{PhyPacket};
 ghost use Rattle.busconf_c.specs.Packets.{blank, packet_record, packet_in, Encodes, RecordsAreReadBack};
 
 use crate::records::PacketRecord;
-use crate::status::{REFUSED, VALID};
+use c_border::{REFUSED, VALID};
 use phy_packet::{PhyPacket, decode, encode, is_valid};
 
 /// A record of this kind that has 0 in all other fields.

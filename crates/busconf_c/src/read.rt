@@ -6,7 +6,7 @@ use crate::answer::tree_of;
 use crate::fault::fault_with;
 use crate::records::{BusRecord, FaultRecord, NodeRecord};
 use crate::shown::{bus_record, show_nodes};
-use crate::status::{NO_MEMORY, REFUSED, TOO_SHORT, VALID};
+use c_border::{NO_MEMORY, REFUSED, TOO_SHORT, VALID};
 use quad_lanes::{PairFault, QuadList, first_bad_pair, firsts, pairs_of};
 use std::alloc::Global;
 use topology_stack::BusTree;
@@ -34,8 +34,8 @@ fn read_list(
 ) -> u32
     ensures answer { Answers year quads.now fault.old fault.new result
         (λ t. TellsNodes t nodes.old nodes.new bus.new result) }
-    ensures kept { result ≢ VALID → nodes.new ≡ nodes.old }
-    ensures bus_kept { result ≢ VALID → result ≢ TOO_SHORT → bus.new ≡ bus.old }
+    ensures kept { result ≢ 0 → nodes.new ≡ nodes.old }
+    ensures bus_kept { result ≢ 0 → result ≢ 3 → bus.new ≡ bus.old }
 {
     match tree_of(alloc, quads, year, fault) {
         Ok(tree) => show(&tree, nodes, bus),
@@ -55,8 +55,8 @@ pub extern "C" fn busconf_read(
 ) -> u32
     ensures answer { Answers year quads.now fault.old fault.new result
         (λ t. TellsNodes t nodes.old nodes.new bus.new result) }
-    ensures kept { result ≢ VALID → nodes.new ≡ nodes.old }
-    ensures bus_kept { result ≢ VALID → result ≢ TOO_SHORT → bus.new ≡ bus.old }
+    ensures kept { result ≢ 0 → nodes.new ≡ nodes.old }
+    ensures bus_kept { result ≢ 0 → result ≢ 3 → bus.new ≡ bus.old }
 {
     read_list(alloc, quads, year, nodes, bus, fault)
 }
@@ -96,8 +96,8 @@ pub extern "C" fn busconf_read_capture(
 ) -> u32
     ensures answer { AnswersCapture year bytes.now fault.old fault.new result
         (λ t. TellsNodes t nodes.old nodes.new bus.new result) }
-    ensures kept { result ≢ VALID → nodes.new ≡ nodes.old }
-    ensures bus_kept { result ≢ VALID → result ≢ TOO_SHORT → bus.new ≡ bus.old }
+    ensures kept { result ≢ 0 → nodes.new ≡ nodes.old }
+    ensures bus_kept { result ≢ 0 → result ≢ 3 → bus.new ≡ bus.old }
 {
     match list_of(alloc, bytes, fault) {
         Ok(list) => read_list(alloc, list.as_slice(), year, nodes, bus, fault),

@@ -9,7 +9,7 @@ ghost use Rattle.busconf_c.specs.Reader.{HasTaken, TellsState};
 
 use crate::fault::tree_record;
 use crate::records::{FaultRecord, READER_QUADS, ReaderRecord};
-use crate::status::{INCOMPLETE, REFUSED, VALID};
+use c_border::{INCOMPLETE, REFUSED, VALID};
 use self_id::GroupFault;
 use std::alloc::Global;
 use topology_stack::{BusTree, TreeFault, TreeReader, TreeStop, one_answer};

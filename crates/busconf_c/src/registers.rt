@@ -7,8 +7,8 @@ ghost use Rattle.resource_manager.specs.Grant.{allocate_fault, release_fault, af
 ghost use Rattle.busconf_c.specs.Registers.{registers_record, values_in, reply_record, seen_record, seen_in, grant_record, Grants, Attempts};
 
 use crate::records::{GrantRecord, RegistersRecord, ReplyRecord, SeenRecord};
-use crate::status::{OUT_OF_RANGE, REFUSED, VALID};
 use bus_manager::attempt;
+use c_border::{OUT_OF_RANGE, REFUSED, VALID};
 use resource_manager::{
     COMPARE_SWAP, GrantFault, Register, Registers, Reply, Seen, allocate, look, release,
 };

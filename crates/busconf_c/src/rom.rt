@@ -1,10 +1,10 @@
 //! Configuration ROMs.
 ghost use Rattle.std.specs.Prelude.{◌≡◌, map};
-ghost use Rattle.busconf_c.specs.Places.{IsTold};
+ghost use Rattle.c_border.specs.Places.{IsTold};
 ghost use Rattle.busconf_c.specs.Roms.{rom_fault_with, rom_record, block_with, block_record, TellsBlocks, TellsRom};
 
 use crate::records::{BlockRecord, RomFaultRecord};
-use crate::status::{NO_MEMORY, REFUSED, TOO_SHORT, VALID};
+use c_border::{NO_MEMORY, REFUSED, TOO_SHORT, VALID};
 use config_rom::{Block, BlockKind, CrcState, Rom, RomFault, RomStop, blocks, decode_rom};
 use std::alloc::Global;
 

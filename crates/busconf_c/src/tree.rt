@@ -6,13 +6,13 @@ ghost use Rattle.speed_map.specs.Rows.{AreRows};
 ghost use Rattle.bus_manager.specs.Gap.{gap_of};
 ghost use Rattle.bus_manager.specs.Hops.{IsHops};
 ghost use Rattle.busconf_c.specs.Answers.{Answers};
-ghost use Rattle.busconf_c.specs.Places.{Tells, TellsOk, IsSpeedMap};
+ghost use Rattle.c_border.specs.Places.{Tells, TellsOk};
+ghost use Rattle.busconf_c.specs.Maps.{IsSpeedMap};
 ghost use Rattle.busconf_c.specs.Plans.{TellsPlan};
 
 use crate::answer::tree_of;
-use crate::place::{tell_bytes, tell_quads};
 use crate::records::{FaultRecord, PlanRecord};
-use crate::status::{NO_CANDIDATE, NO_MEMORY, TOO_SHORT, VALID};
+use c_border::{NO_CANDIDATE, NO_MEMORY, VALID, tell_bytes, tell_quads};
 use quad_lanes::{OutOfMemory, QuadList};
 use std::alloc::Global;
 use topology_stack::BusTree;
@@ -27,8 +27,8 @@ pub extern "C" fn busconf_hops(
     fault: &mut FaultRecord,
 ) -> u32
     ensures answer { Answers year quads.now fault.old fault.new result
-        (λ t. IsHops t hops.new × (result ≡ VALID)) }
-    ensures kept { result ≢ VALID → hops.new ≡ hops.old }
+        (λ t. IsHops t hops.new × (result ≡ 0)) }
+    ensures kept { result ≢ 0 → hops.new ≡ hops.old }
 {
     match tree_of(alloc, quads, year, fault) {
         Ok(tree) => {
@@ -76,7 +76,7 @@ pub extern "C" fn busconf_plan(
 ) -> u32
     ensures answer { Answers year quads.now fault.old fault.new result
         (λ t. TellsPlan t plan.old plan.new result) }
-    ensures kept { result ≢ VALID → plan.new ≡ plan.old }
+    ensures kept { result ≢ 0 → plan.new ≡ plan.old }
 {
     match tree_of(alloc, quads, year, fault) {
         Ok(tree) => plan_of(&tree, plan),
@@ -108,8 +108,8 @@ pub extern "C" fn busconf_topology_map(
     ensures answer { Answers year quads.now fault.old fault.new result
         (λ t. Tells (IsMap generation (length (walk t)) (emits t)) place.old place.new needed.old
         needed.new result) }
-    ensures kept { result ≢ VALID → place.new ≡ place.old }
-    ensures needed_kept { result ≢ VALID → result ≢ TOO_SHORT → needed.new ≡ needed.old }
+    ensures kept { result ≢ 0 → place.new ≡ place.old }
+    ensures needed_kept { result ≢ 0 → result ≢ 3 → needed.new ≡ needed.old }
 {
     match tree_of(alloc, quads, year, fault) {
         Ok(tree) => tell_image(topology_map::image(alloc, &tree, generation), place, needed),
@@ -120,8 +120,8 @@ pub extern "C" fn busconf_topology_map(
 /// Tells the rows of a tree's speed map, unless memory ran out for them.
 fn tell_rows(alloc: Global, tree: &BusTree, place: &mut [u8], needed: &mut usize) -> u32
     ensures answer { Tells (AreRows tree.now) place.old place.new needed.old needed.new result }
-    ensures kept { result ≢ VALID → place.new ≡ place.old }
-    ensures needed_kept { result ≢ VALID → result ≢ TOO_SHORT → needed.new ≡ needed.old }
+    ensures kept { result ≢ 0 → place.new ≡ place.old }
+    ensures needed_kept { result ≢ 0 → result ≢ 3 → needed.new ≡ needed.old }
 {
     match speed_map::rows(alloc, tree) {
         Ok(rows) => tell_bytes(rows.as_slice(), place, needed),
@@ -141,8 +141,8 @@ pub extern "C" fn busconf_speed_rows(
 ) -> u32
     ensures answer { Answers year quads.now fault.old fault.new result
         (λ t. Tells (AreRows t) place.old place.new needed.old needed.new result) }
-    ensures kept { result ≢ VALID → place.new ≡ place.old }
-    ensures needed_kept { result ≢ VALID → result ≢ TOO_SHORT → needed.new ≡ needed.old }
+    ensures kept { result ≢ 0 → place.new ≡ place.old }
+    ensures needed_kept { result ≢ 0 → result ≢ 3 → needed.new ≡ needed.old }
 {
     match tree_of(alloc, quads, year, fault) {
         Ok(tree) => tell_rows(alloc, &tree, place, needed),
@@ -172,8 +172,8 @@ pub extern "C" fn busconf_speed_map(
 ) -> u32
     ensures answer { Answers year quads.now fault.old fault.new result
         (λ t. Tells (IsSpeedMap generation t) place.old place.new needed.old needed.new result) }
-    ensures kept { result ≢ VALID → place.new ≡ place.old }
-    ensures needed_kept { result ≢ VALID → result ≢ TOO_SHORT → needed.new ≡ needed.old }
+    ensures kept { result ≢ 0 → place.new ≡ place.old }
+    ensures needed_kept { result ≢ 0 → result ≢ 3 → needed.new ≡ needed.old }
 {
     match tree_of(alloc, quads, year, fault) {
         Ok(tree) => tell_image(speed_image(alloc, &tree, generation), place, needed),

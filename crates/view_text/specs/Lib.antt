@@ -1,5 +1,6 @@
 pub mod Packet
 pub mod Pairs
+pub mod Sentence
 pub mod Cable
 pub mod CableEnds
 pub mod Node

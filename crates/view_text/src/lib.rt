@@ -1,4 +1,5 @@
-//! Texts that show a bus: its PHY packets field by field, the drawing of its tree, and its graph.
+//! Texts that show a bus: its PHY packets field by field, the drawing of its tree, its graph, and the
+//! sentences on what is refused.
 #![tactic(auto)]
 
 mod cable;
@@ -9,6 +10,7 @@ mod laws;
 mod node;
 mod packet;
 mod pairs;
+mod sentence;
 mod words;
 
 pub use cable::{Cable, cables};
@@ -17,4 +19,7 @@ pub use graph::tree_graph;
 pub use laws::{cables_are_of_the_tree, each_node_hangs_on_one_cable};
 pub use packet::put_packet;
 pub use pairs::{Note, packets_of, pairs_text};
+pub use sentence::{
+    first_at, put_inverse_sentence, put_length_sentence, put_tree_sentence, second_at,
+};
 pub use words::put_field;

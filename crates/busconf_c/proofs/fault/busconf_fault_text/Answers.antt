@@ -1,6 +1,6 @@
 use Rattle.std.proofs.Common.{◌≡◌, ℕ, List, subst}
 use Rattle.busconf_c.specs.Faults.{line_of}
-use Rattle.busconf_c.specs.Places.{Tells}
+use Rattle.c_border.specs.Places.{Tells}
 use Rattle.busconf_c.proofs.fault.busconf_fault_text.Goals as goal
 
 pub returns-clause-line : goal.returns-clause-line

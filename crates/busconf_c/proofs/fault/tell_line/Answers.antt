@@ -1,5 +1,5 @@
 use Rattle.std.proofs.Common.{◌∙◌}
-use Rattle.busconf_c.specs.Places.{some}
+use Rattle.c_border.specs.Places.{some}
 use Rattle.busconf_c.proofs.fault.tell_line.Goals as goal
 
 pub returns-in-Ok : goal.returns-in-Ok

@@ -1,7 +1,7 @@
 use Rattle.std.proofs.Common.{refl, subst, map}
 use Rattle.std.specs.Prelude.{List}
 use Rattle.config_rom.specs.declared.block.Block.{Block}
-use Rattle.busconf_c.specs.Places.{IsTold}
+use Rattle.c_border.specs.Places.{IsTold}
 use Rattle.busconf_c.specs.Roms.{block_record, told, no_blocks}
 use Rattle.busconf_c.proofs.rom.tell_rom.Goals as goal
 

@@ -1,4 +1,4 @@
-use Rattle.busconf_c.specs.Places.{IsSpeedMap}
+use Rattle.busconf_c.specs.Maps.{IsSpeedMap}
 use Rattle.busconf_c.specs.Answers.{told, stopped}
 use Rattle.busconf_c.proofs.Telling.{tells_ok}
 use Rattle.busconf_c.proofs.tree.busconf_speed_map.Goals as goal

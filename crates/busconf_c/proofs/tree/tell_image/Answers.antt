@@ -1,4 +1,4 @@
-use Rattle.busconf_c.specs.Places.{some}
+use Rattle.c_border.specs.Places.{some}
 use Rattle.busconf_c.proofs.tree.tell_image.Goals as goal
 
 pub returns-in-Ok : goal.returns-in-Ok

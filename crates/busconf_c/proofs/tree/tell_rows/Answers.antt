@@ -1,6 +1,6 @@
 use Rattle.std.proofs.Common.{sym, subst}
 use Rattle.speed_map.specs.Rows.{AreRows}
-use Rattle.busconf_c.specs.Places.{some}
+use Rattle.c_border.specs.Places.{some}
 use Rattle.busconf_c.proofs.tree.tell_rows.Goals as goal
 
 pub returns-in-Ok-clause-answer : goal.returns-in-Ok-clause-answer

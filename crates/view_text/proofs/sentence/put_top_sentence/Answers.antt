@@ -1,6 +1,6 @@
-use Rattle.bus_view.specs.Sentence.{top_sentence}
-use Rattle.bus_view.proofs.Joined.{three}
-use Rattle.bus_view.proofs.sentence.put_top_sentence.Goals as goal
+use Rattle.view_text.specs.Sentence.{top_sentence}
+use Rattle.view_text.proofs.Joined.{three}
+use Rattle.view_text.proofs.sentence.put_top_sentence.Goals as goal
 
 pub returns : goal.returns
 unfolding top_sentence

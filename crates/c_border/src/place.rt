@@ -1,10 +1,10 @@
 //! Lists at places of the caller's.
-ghost use Rattle.busconf_c.specs.Places.{IsTold};
+ghost use Rattle.c_border.specs.Places.{IsTold};
 
 use crate::status::{TOO_SHORT, VALID};
 
 /// Writes bytes to the front of a place, where it has room, and tells how many they are.
-pub(crate) fn tell_bytes(bytes: &[u8], place: &mut [u8], needed: &mut usize) -> u32
+pub fn tell_bytes(bytes: &[u8], place: &mut [u8], needed: &mut usize) -> u32
     ensures { IsTold bytes.now place.old place.new needed.new result }
 {
     let count = bytes.len();
@@ -17,7 +17,7 @@ pub(crate) fn tell_bytes(bytes: &[u8], place: &mut [u8], needed: &mut usize) -> 
 }
 
 /// Writes quadlets to the front of a place, where it has room, and tells how many they are.
-pub(crate) fn tell_quads(quads: &[u32], place: &mut [u32], needed: &mut usize) -> u32
+pub fn tell_quads(quads: &[u32], place: &mut [u32], needed: &mut usize) -> u32
     ensures { IsTold quads.now place.old place.new needed.new result }
 {
     let length = quads.len();

@@ -1,6 +1,6 @@
-use Rattle.bus_view.specs.Sentence.{inverse_sentence}
-use Rattle.bus_view.proofs.Joined.{five}
-use Rattle.bus_view.proofs.sentence.put_inverse_sentence.Goals as goal
+use Rattle.view_text.specs.Sentence.{inverse_sentence}
+use Rattle.view_text.proofs.Joined.{five}
+use Rattle.view_text.proofs.sentence.put_inverse_sentence.Goals as goal
 
 pub returns : goal.returns
 unfolding inverse_sentence

@@ -1,8 +1,8 @@
-use Rattle.bus_view.specs.Sentence.{id_sentence}
-use Rattle.bus_view.proofs.Joined.{three}
-use Rattle.bus_view.proofs.sentence.put_id_sentence.Goals as goal
+use Rattle.view_text.specs.Sentence.{children_sentence}
+use Rattle.view_text.proofs.Joined.{three}
+use Rattle.view_text.proofs.sentence.put_children_sentence.Goals as goal
 
 pub returns : goal.returns
-unfolding id_sentence
+unfolding children_sentence
 returns c =
     three _ _ _ _ _ _ _ (rw c.from.ensures at c.in_ok-put_field.ensures) (rw c.from-2.ensures at c.in_ok-put_field-2.ensures) c.in_ok-extend_from_slice.ensures.items

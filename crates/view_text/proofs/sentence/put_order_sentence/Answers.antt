@@ -1,6 +1,6 @@
-use Rattle.bus_view.specs.Sentence.{order_sentence}
-use Rattle.bus_view.proofs.Joined.{three}
-use Rattle.bus_view.proofs.sentence.put_order_sentence.Goals as goal
+use Rattle.view_text.specs.Sentence.{order_sentence}
+use Rattle.view_text.proofs.Joined.{three}
+use Rattle.view_text.proofs.sentence.put_order_sentence.Goals as goal
 
 pub returns : goal.returns
 unfolding order_sentence

@@ -1,4 +1,4 @@
-//! What a call answers.
+//! What a call answers. Contracts have these numbers as digits.
 
 /// The call did what it is for.
 pub const VALID: u32 = 0;
@@ -23,3 +23,6 @@ pub const INCOMPLETE: u32 = 6;
 
 /// A number is past what it may be: a channel is 0 to 63, units are 0 to 4915, an ID is 0 to 62.
 pub const OUT_OF_RANGE: u32 = 7;
+
+/// The script has more than 1,048,576 bytes.
+pub const TOO_LONG: u32 = 8;

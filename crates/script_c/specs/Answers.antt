@@ -1,0 +1,32 @@
+-- What a call answers that runs a script.
+-- Statuses: 0 valid, 1 refused, 2 no memory, 3 too short, 8 too long.
+use Rattle.std.specs.Prelude.{◌≡◌, ℕ, List}
+use Rattle.script_lines.specs.declared.kind.ScriptFault.{ScriptFault}
+use Rattle.script_told.specs.Script.{Told}
+use Rattle.c_border.specs.Places.{IsTold}
+use Rattle.script_c.specs.declared.record.ScriptFaultRecord.{ScriptFaultRecord}
+use Rattle.script_c.specs.Faults.{fault_record}
+
+-- a text that the script has is told at the place, or only its length where the place is too short;
+-- or a fault that it has is told; or memory ran out
+pub data TellsScript (HasText : List ℕ → Type 0) (HasFault : ScriptFault → Type 0)
+    (before after : List ℕ) (needed_before needed : ℕ) (fault_before fault : ScriptFaultRecord)
+    (status : ℕ) : Type 0 where
+  told : (text : List ℕ) → HasText text → IsTold text before after needed status →
+      fault ≡ fault_before →
+      TellsScript HasText HasFault before after needed_before needed fault_before fault status
+  refused : (f : ScriptFault) → HasFault f → fault ≡ fault_record f → after ≡ before →
+      needed ≡ needed_before → status ≡ 1 →
+      TellsScript HasText HasFault before after needed_before needed fault_before fault status
+  no_memory : after ≡ before → needed ≡ needed_before → fault ≡ fault_before → status ≡ 2 →
+      TellsScript HasText HasFault before after needed_before needed fault_before fault status
+
+-- a script of more than 1,048,576 bytes isn't looked at
+abbrev pub IsTooLong :
+    List ℕ → List ℕ → ℕ → ℕ → ScriptFaultRecord → ScriptFaultRecord → ℕ → Type 0
+IsTooLong before after needed_before needed fault_before fault status =
+    (after ≡ before) × (needed ≡ needed_before) × (fault ≡ fault_before) × (status ≡ 8)
+
+-- there is one thing at most that a script tells so
+abbrev pub IsOneThing : (Told → Type 0) → Type 0
+IsOneThing Tells = (one other : Told) → Tells one → Tells other → one ≡ other
