@@ -3,6 +3,8 @@ use Rattle.std.specs.Prelude.{ℕ, zero, suc, ◌+◌, ◌*◌, ◌/◌, ◌^◌
 use Rattle.quad_lanes.specs.Pairs.{inverse}
 use Rattle.phy_packet.specs.declared.packet.PhyPacket.{PhyPacket}
 use Rattle.phy_packet.specs.declared.packet.PhyPacket.TheVariants.{Config, LinkOn, SelfZero, SelfMore, Extended, Other}
+use Rattle.self_id.specs.declared.standard.Standard.{Standard}
+use Rattle.self_id.specs.declared.standard.Standard.TheVariants.{Ieee1995, Ieee2000}
 use Rattle.self_id.specs.declared.fault.GroupFault.{GroupFault}
 use Rattle.self_id.specs.declared.fault.GroupFault.TheVariants.{NotSelfId, WrongId, BadOrder, Cut, TwoParents}
 use Rattle.topology_stack.specs.Hex.{hex}
@@ -28,25 +30,28 @@ top_bits (suc zero) = codes "01"
 top_bits (suc (suc zero)) = codes "10"
 top_bits (suc (suc (suc n))) = codes "11"
 
--- which packet of a node has to follow this one: where m is set its next one, up to n 1
-abbrev pub next_after : PhyPacket → List ℕ
-next_after (Config root_id force set_gap gap rest) = codes "packet zero"
-next_after (LinkOn phy_id rest) = codes "packet zero"
-next_after (SelfZero phy_id link gap speed delay contender power p0 p1 p2 initiated false) =
+-- Which packet of a node has to follow this one: where m is set its next one, up to n 1, or by
+-- 1394-1995 up to n 2.
+abbrev pub next_after : Standard → PhyPacket → List ℕ
+next_after s (Config root_id force set_gap gap rest) = codes "packet zero"
+next_after s (LinkOn phy_id rest) = codes "packet zero"
+next_after s (SelfZero phy_id link gap speed delay contender power p0 p1 p2 initiated false) =
     codes "packet zero"
-next_after (SelfZero phy_id link gap speed delay contender power p0 p1 p2 initiated true) =
+next_after s (SelfZero phy_id link gap speed delay contender power p0 p1 p2 initiated true) =
     codes "packet n 0"
-next_after (SelfMore phy_id n kept bits r false) = codes "packet zero"
-next_after (SelfMore phy_id zero kept bits r true) = codes "packet n 1"
-next_after (SelfMore phy_id (suc n) kept bits r true) = codes "packet zero"
-next_after (Extended word) = codes "packet zero"
-next_after (Other word) = codes "packet zero"
+next_after s (SelfMore phy_id n kept bits r false) = codes "packet zero"
+next_after s (SelfMore phy_id zero kept bits r true) = codes "packet n 1"
+next_after Ieee1995 (SelfMore phy_id (suc zero) kept bits r true) = codes "packet n 2"
+next_after Ieee1995 (SelfMore phy_id (suc (suc n)) kept bits r true) = codes "packet zero"
+next_after Ieee2000 (SelfMore phy_id (suc n) kept bits r true) = codes "packet zero"
+next_after s (Extended word) = codes "packet zero"
+next_after s (Other word) = codes "packet zero"
 
 -- which packet of a node has to stand at this place
-abbrev pub next_words : List PhyPacket → ℕ → List ℕ
-next_words packets zero = codes "packet zero"
-next_words packets (suc k) =
-    elim (slice_get packets k) [ None ↦ codes "packet zero" | Some p ↦ next_after p ]
+abbrev pub next_words : Standard → List PhyPacket → ℕ → List ℕ
+next_words s packets zero = codes "packet zero"
+next_words s packets (suc k) =
+    elim (slice_get packets k) [ None ↦ codes "packet zero" | Some p ↦ next_after s p ]
 
 unfoldable pub inverse_sentence : ℕ → ℕ → List ℕ
 inverse_sentence first second =
@@ -73,37 +78,37 @@ children_sentence found wanted why =
     field (codes "Found trees of nodes that wait for a parent: ") found
     ++ (field (codes ", wanted ") wanted ++ why)
 
-abbrev pub group_sentence : List ℕ → List PhyPacket → GroupFault → List ℕ
-group_sentence quads packets (NotSelfId at) = top_sentence (first_at quads at)
-group_sentence quads packets (WrongId at found wanted) = id_sentence found wanted
-group_sentence quads packets (BadOrder at) = order_sentence (next_words packets at)
-group_sentence quads packets (Cut at) =
+abbrev pub group_sentence : Standard → List ℕ → List PhyPacket → GroupFault → List ℕ
+group_sentence s quads packets (NotSelfId at) = top_sentence (first_at quads at)
+group_sentence s quads packets (WrongId at found wanted) = id_sentence found wanted
+group_sentence s quads packets (BadOrder at) = order_sentence (next_words s packets at)
+group_sentence s quads packets (Cut at) =
     codes "Found the end of the list, wanted a further packet: m is 1 in the one before.\n"
-group_sentence quads packets (TwoParents at) =
+group_sentence s quads packets (TwoParents at) =
     codes "Found more than one port to a parent in this node's packets, wanted one at most.\n"
 
-abbrev pub tree_sentence : List ℕ → List PhyPacket → TreeFault → List ℕ
-tree_sentence quads packets (Group f) = group_sentence quads packets f
-tree_sentence quads packets Empty = codes "Found no packet, wanted those of one node at least.\n"
-tree_sentence quads packets (TooFewChildren at found wanted) =
+abbrev pub tree_sentence : Standard → List ℕ → List PhyPacket → TreeFault → List ℕ
+tree_sentence s quads packets (Group f) = group_sentence s quads packets f
+tree_sentence s quads packets Empty = codes "Found no packet, wanted those of one node at least.\n"
+tree_sentence s quads packets (TooFewChildren at found wanted) =
     children_sentence found wanted (codes ", as many as this node has ports to children.\n")
-tree_sentence quads packets (TreesLeft at found wanted) =
+tree_sentence s quads packets (TreesLeft at found wanted) =
     children_sentence found wanted
     (codes ": this node has no port to a parent, so it is the root, and those are its children.\n")
-tree_sentence quads packets (AfterRoot at) =
+tree_sentence s quads packets (AfterRoot at) =
     codes "Found a packet behind the root's, wanted none: the node without a parent comes last.\n"
-tree_sentence quads packets (NoRoot at) =
+tree_sentence s quads packets (NoRoot at) =
     codes "Found the end of the list, wanted the root: each node has a port to a parent.\n"
-tree_sentence quads packets (TooMany at) =
+tree_sentence s quads packets (TooMany at) =
     codes "Found a packet of a 64th node, wanted 63 nodes at most.\n"
 
--- for quadlets, two a pair, and the packets of the pairs' first ones
-abbrev pub sentence : List ℕ → List PhyPacket → CaptureFault → List ℕ
-sentence quads packets (BadLength pair) =
+-- by a standard, for quadlets, two a pair, and the packets of the pairs' first ones
+abbrev pub sentence : Standard → List ℕ → List PhyPacket → CaptureFault → List ℕ
+sentence s quads packets (BadLength pair) =
     codes "Found the end of the input inside this pair, wanted 8 bytes: a quadlet and its inverse.\n"
-sentence quads packets (BadInverse pair) =
+sentence s quads packets (BadInverse pair) =
     inverse_sentence (first_at quads pair) (second_at quads pair)
-sentence quads packets (Tree f) = tree_sentence quads packets f
+sentence s quads packets (Tree f) = tree_sentence s quads packets f
 
 -- below which pair the line of a fault stands
 abbrev pub group_place : GroupFault → ℕ
@@ -128,5 +133,5 @@ place (BadInverse pair) = pair
 place (Tree f) = tree_place f
 
 -- the line of a fault and the sentence
-abbrev pub note : List ℕ → List PhyPacket → CaptureFault → List ℕ
-note quads packets f = fault_line f ++ sentence quads packets f
+abbrev pub note : Standard → List ℕ → List PhyPacket → CaptureFault → List ℕ
+note s quads packets f = fault_line f ++ sentence s quads packets f

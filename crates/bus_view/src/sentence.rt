@@ -4,7 +4,7 @@ ghost use Rattle.bus_view.specs.Sentence.{first_at, second_at, top_bits, next_af
 
 use bus_cli::{CaptureFault, fault_line};
 use phy_packet::PhyPacket;
-use self_id::GroupFault;
+use self_id::{GroupFault, Standard};
 use std::alloc::Global;
 use topology_stack::{OutOfMemory, TreeFault, put_hex};
 use view_text::{Note, put_field};
@@ -43,29 +43,40 @@ fn top_bits(top: u32) -> &'static [u8]
     }
 }
 
-/// Which packet of a node has to follow this one.
-fn next_after(packet: &PhyPacket) -> &'static [u8]
-    ensures { result.now ≡ next_after packet.now }
+/// Which packet of a node has to follow this one, by a standard.
+fn next_after(standard: Standard, packet: &PhyPacket) -> &'static [u8]
+    ensures { result.now ≡ next_after standard packet.now }
 {
-    match *packet {
-        PhyPacket::SelfZero { more: true, .. } => b"packet n 0",
-        PhyPacket::SelfMore {
-            n: 0,
-            more: true,
-            ..
-        } => b"packet n 1",
+    match (standard, *packet) {
+        (_, PhyPacket::SelfZero { more: true, .. }) => b"packet n 0",
+        (
+            _,
+            PhyPacket::SelfMore {
+                n: 0,
+                more: true,
+                ..
+            },
+        ) => b"packet n 1",
+        (
+            Standard::Ieee1995,
+            PhyPacket::SelfMore {
+                n: 1,
+                more: true,
+                ..
+            },
+        ) => b"packet n 2",
         _ => b"packet zero",
     }
 }
 
-/// Which packet of a node has to stand at this place.
-fn next_words(packets: &[PhyPacket], at: usize) -> &'static [u8]
-    ensures { result.now ≡ next_words packets.now at }
+/// Which packet of a node has to stand at this place, by a standard.
+fn next_words(standard: Standard, packets: &[PhyPacket], at: usize) -> &'static [u8]
+    ensures { result.now ≡ next_words standard packets.now at }
 {
     if at == 0 || at > packets.len() {
         b"packet zero"
     } else {
-        next_after(&packets[at - 1])
+        next_after(standard, &packets[at - 1])
     }
 }
 
@@ -129,17 +140,18 @@ fn put_children_sentence(
 /// Appends the sentence of a group's fault.
 fn put_group_sentence(
     out: &mut Vec<u8>,
+    standard: Standard,
     quads: &[u32],
     packets: &[PhyPacket],
     fault: GroupFault,
 ) -> Result<(), OutOfMemory>
     ensures { OnOk result (out.new.items
-        ≡ out.old.items ++ group_sentence quads.now packets.now fault) }
+        ≡ out.old.items ++ group_sentence standard quads.now packets.now fault) }
 {
     match fault {
         GroupFault::NotSelfId { at } => put_top_sentence(out, first_at(quads, at)),
         GroupFault::WrongId { found, wanted, .. } => put_id_sentence(out, found, wanted),
-        GroupFault::BadOrder { at } => put_order_sentence(out, next_words(packets, at)),
+        GroupFault::BadOrder { at } => put_order_sentence(out, next_words(standard, packets, at)),
         GroupFault::Cut { .. } => out.extend_from_slice(
             b"Found the end of the list, wanted a further packet: m is 1 in the one before.\n",
         ),
@@ -152,15 +164,16 @@ fn put_group_sentence(
 /// Appends the sentence of a list's fault.
 fn put_tree_sentence(
     out: &mut Vec<u8>,
+    standard: Standard,
     quads: &[u32],
     packets: &[PhyPacket],
     fault: TreeFault,
 ) -> Result<(), OutOfMemory>
     ensures { OnOk result (out.new.items
-        ≡ out.old.items ++ tree_sentence quads.now packets.now fault) }
+        ≡ out.old.items ++ tree_sentence standard quads.now packets.now fault) }
 {
     match fault {
-        TreeFault::Group(fault) => put_group_sentence(out, quads, packets, fault),
+        TreeFault::Group(fault) => put_group_sentence(out, standard, quads, packets, fault),
         TreeFault::Empty => {
             out.extend_from_slice(b"Found no packet, wanted those of one node at least.\n")
         }
@@ -191,12 +204,13 @@ fn put_tree_sentence(
 /// Appends the sentence of a capture's fault.
 fn put_sentence(
     out: &mut Vec<u8>,
+    standard: Standard,
     quads: &[u32],
     packets: &[PhyPacket],
     fault: CaptureFault,
 ) -> Result<(), OutOfMemory>
     ensures { OnOk result (out.new.items
-        ≡ out.old.items ++ sentence quads.now packets.now fault) }
+        ≡ out.old.items ++ sentence standard quads.now packets.now fault) }
 {
     match fault {
         CaptureFault::BadLength { .. } => out.extend_from_slice(
@@ -205,7 +219,7 @@ fn put_sentence(
         CaptureFault::BadInverse { pair } => {
             put_inverse_sentence(out, first_at(quads, pair), second_at(quads, pair))
         }
-        CaptureFault::Tree(fault) => put_tree_sentence(out, quads, packets, fault),
+        CaptureFault::Tree(fault) => put_tree_sentence(out, standard, quads, packets, fault),
     }
 }
 
@@ -245,21 +259,22 @@ fn place(fault: CaptureFault) -> usize
     }
 }
 
-/// The line of a fault and its sentence, to stand below the pair at fault. `quads` are the quadlets
+/// The line of a fault by a standard and its sentence, to stand below the pair at fault. `quads` are the quadlets
 /// of the capture, two a pair, and `packets` those of the pairs' first ones.
 pub(crate) fn note_of(
     alloc: Global,
+    standard: Standard,
     quads: &[u32],
     packets: &[PhyPacket],
     fault: CaptureFault,
 ) -> Result<Note, OutOfMemory>
     ensures { IfOk result (λ n. (n.pair ≡ place fault)
-        × (n.text.items ≡ note quads.now packets.now fault)) }
+        × (n.text.items ≡ note standard quads.now packets.now fault)) }
 {
     let mut text = Vec::new(alloc);
     let line = fault_line(fault);
     text.extend_from_slice(line.as_bytes())?;
-    put_sentence(&mut text, quads, packets, fault)?;
+    put_sentence(&mut text, standard, quads, packets, fault)?;
     Ok(Note {
         pair: place(fault),
         text,
