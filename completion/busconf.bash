@@ -8,6 +8,12 @@ _busconf() {
   COMPREPLY=()
   if [ "$COMP_CWORD" -eq 1 ]; then
     mapfile -t COMPREPLY < <(compgen -W "$forms" -- "${COMP_WORDS[1]}")
+  elif [ "$COMP_CWORD" -eq 2 ]; then
+    case ${1##*/}:${COMP_WORDS[1]} in
+    busview:packets | busview:tree | busview:dot)
+      mapfile -t COMPREPLY < <(compgen -W "--1995" -- "${COMP_WORDS[2]}")
+      ;;
+    esac
   fi
 }
 # Behind a redirection bash completes file names by itself.

@@ -49,6 +49,7 @@ reads_input() {
   case "$#:${1-}" in
   1:run | 1:advice | 1:read | 1:read95 | 1:maps | 1:rom) true ;;
   1:packets | 1:tree | 1:dot | 1:trace) true ;;
+  2:packets | 2:tree | 2:dot) [ "$2" = --1995 ] ;;
   *) false ;;
   esac
 }

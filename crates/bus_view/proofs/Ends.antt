@@ -6,8 +6,8 @@ use Rattle.std.specs.Io.KnownBytes.{Appends}
 use Rattle.io_edges.specs.Told.{IfTold, TookOver}
 use Rattle.bus_view.specs.Form.{IsForm}
 use Rattle.bus_view.specs.declared.form.ViewForm.{ViewForm}
-use Rattle.bus_view.specs.declared.form.ViewForm.TheVariants.{Packets, Tree, Dot, Trace}
-use Rattle.bus_view.specs.Answer.{Reading, spelt, refused, status_of, IsCaptureView, IsTraceView, traced, at_fault, IsView, Answers, viewed, no_form}
+use Rattle.bus_view.specs.declared.form.ViewForm.TheVariants.{Capture, Trace}
+use Rattle.bus_view.specs.Answer.{Reading, spelt, refused, status_of, IsTraceView, traced, at_fault, IsView, Answers, viewed, no_form}
 use Rattle.script_trace.specs.Trace.{IsTrace}
 use Rattle.bus_view.specs.OneAnswer.{NoInputHasTwoViews}
 
@@ -32,15 +32,11 @@ of_reading : (reading : Reading) (status : ℕ) → status ≡ status_of reading
 of_reading (spelt t) status e = omega (arith, e)
 of_reading (refused f) status e = omega (arith, e)
 
-of_capture : (form : ViewForm) (bytes : List ℕ) (status : ℕ) (text : List ℕ) → IsCaptureView form bytes status text → status ≤ 1
-of_capture form bytes status text view = of_reading view.reading status view.status_is
-
 pub few_status : (form : ViewForm) (bytes : List ℕ) (status : ℕ) (text : List ℕ) → IsView form bytes status text → status ≤ 1
+few_status (Capture view standard) bytes status text shows =
+    of_reading shows.reading status shows.status_is
 few_status Trace bytes status text (traced e x) = omega (arith, e)
 few_status Trace bytes status text (at_fault fault e x t) = omega (arith, e)
-few_status Packets bytes status text view = of_capture Packets bytes status text view
-few_status Tree bytes status text view = of_capture Tree bytes status text view
-few_status Dot bytes status text view = of_capture Dot bytes status text view
 
 -- it isn't 6, where not too many bytes were taken
 pub not_six : (X : Type 0) (old new : Option (List ℕ)) (status : ℕ) → status ≤ 1 → IfTold old new (λ xs ys. X ↔ TookOver 1048576 xs ys) → (X → ⊥) → IfTold old new (λ xs ys. (status ≡ 6) ↔ TookOver 1048576 xs ys)

@@ -5,7 +5,7 @@ use Rattle.phy_packet.specs.Packet.{Shows}
 use Rattle.phy_packet.specs.declared.packet.PhyPacket.{PhyPacket}
 use Rattle.phy_packet.specs.codings.Decoding.{packet_of}
 use Rattle.phy_packet.proofs.Laws.{packet_of-quad_of}
-use Rattle.self_id.specs.declared.standard.Standard.TheVariants.{Ieee2000}
+use Rattle.self_id.specs.declared.standard.Standard.{Standard}
 use Rattle.self_id.specs.Node.{Node}
 use Rattle.topology_stack.specs.Tree.{Tree}
 use Rattle.bus_manager.proofs.OneHops.{one_hops}
@@ -20,8 +20,10 @@ use Rattle.script_trace.specs.Trace.{IsTrace}
 use Rattle.script_trace.specs.OneTrace.{ScriptsHaveOneTrace, TracedScriptsAreTold}
 use Rattle.view_text.specs.Pairs.{AreShown, pairs_text}
 use Rattle.view_text.specs.Drawing.{IsDrawing, IsRoot, drawing}
+use Rattle.bus_view.specs.declared.form.CaptureView.{CaptureView}
+use Rattle.bus_view.specs.declared.form.CaptureView.TheVariants.{Packets, Tree as Drawn, Dot}
 use Rattle.bus_view.specs.declared.form.ViewForm.{ViewForm}
-use Rattle.bus_view.specs.declared.form.ViewForm.TheVariants.{Packets, Tree as Drawn, Dot, Trace}
+use Rattle.bus_view.specs.declared.form.ViewForm.TheVariants.{Capture, Trace}
 use Rattle.bus_view.specs.Answer.{Reading, spelt, refused, IsReading, status_of, ShowsPackets, HasText, IsCaptureView, IsTraceView, traced, at_fault, IsView, viewed, no_form}
 use Rattle.bus_view.specs.OneAnswer.{NoInputHasTwoViews}
 use Rattle.bus_view.proofs.Forms.{one_form}
@@ -36,11 +38,11 @@ pub record HasOneReading : Type 0 where
   pub traces : ScriptsHaveOneTrace
   pub texts : TracedScriptsAreTold
 
-same_reading : HasOneReading → (bytes : List ℕ) (a b : Reading) → IsReading bytes a → IsReading bytes b → a ≡ b
-same_reading one bytes (spelt t) (spelt u) x y = ap (λ (v : Tree). spelt v) (one.trees Ieee2000 bytes t u x y)
-same_reading one bytes (spelt t) (refused g) x y = absurd (one.apart Ieee2000 bytes t g x y)
-same_reading one bytes (refused f) (spelt u) x y = absurd (one.apart Ieee2000 bytes u f y x)
-same_reading one bytes (refused f) (refused g) x y = ap (λ (h : CaptureFault). refused h) (one.faults Ieee2000 bytes f g x y)
+same_reading : HasOneReading → (standard : Standard) (bytes : List ℕ) (a b : Reading) → IsReading standard bytes a → IsReading standard bytes b → a ≡ b
+same_reading one standard bytes (spelt t) (spelt u) x y = ap (λ (v : Tree). spelt v) (one.trees standard bytes t u x y)
+same_reading one standard bytes (spelt t) (refused g) x y = absurd (one.apart standard bytes t g x y)
+same_reading one standard bytes (refused f) (spelt u) x y = absurd (one.apart standard bytes u f y x)
+same_reading one standard bytes (refused f) (refused g) x y = ap (λ (h : CaptureFault). refused h) (one.faults standard bytes f g x y)
 
 -- ---- a reading has one text
 
@@ -71,20 +73,18 @@ same_drawing t a b x y =
     x.text_is ∙ ap (λ (h : ℕ). drawing t h x.root.attrs.gap) (one_hops t x.hops y.hops x.are_hops y.are_hops)
     ∙ ap (λ (n : Node). drawing t y.hops n.attrs.gap) (one_root t x.root y.root x.is_root y.is_root) ∙ sym y.text_is
 
-same_text : (form : ViewForm) (bytes : List ℕ) (r : Reading) (a b : List ℕ) → HasText form bytes r a → HasText form bytes r b → a ≡ b
-same_text Packets bytes (spelt t) a b x y = same_shown bytes _ _ a b x y
-same_text Packets bytes (refused f) a b x y = same_shown bytes _ _ a b x y
-same_text Drawn bytes (spelt t) a b x y = same_drawing t a b x y
-same_text Drawn bytes (refused f) a b x y = x ∙ sym y
-same_text Dot bytes (spelt t) a b x y = x ∙ sym y
-same_text Dot bytes (refused f) a b x y = x ∙ sym y
-same_text Trace bytes (spelt t) a b x y = absurd x
-same_text Trace bytes (refused f) a b x y = absurd x
+same_text : (view : CaptureView) (standard : Standard) (bytes : List ℕ) (r : Reading) (a b : List ℕ) → HasText view standard bytes r a → HasText view standard bytes r b → a ≡ b
+same_text Packets standard bytes (spelt t) a b x y = same_shown bytes _ _ a b x y
+same_text Packets standard bytes (refused f) a b x y = same_shown bytes _ _ a b x y
+same_text Drawn standard bytes (spelt t) a b x y = same_drawing t a b x y
+same_text Drawn standard bytes (refused f) a b x y = x ∙ sym y
+same_text Dot standard bytes (spelt t) a b x y = x ∙ sym y
+same_text Dot standard bytes (refused f) a b x y = x ∙ sym y
 
-same_capture : HasOneReading → (form : ViewForm) (bytes : List ℕ) (s r : ℕ) (a b : List ℕ) → IsCaptureView form bytes s a → IsCaptureView form bytes r b → (s ≡ r) × (a ≡ b)
-same_capture one form bytes s r a b x y =
-    let same : x.reading ≡ y.reading = same_reading one bytes x.reading y.reading x.reads y.reads in
-    (x.status_is ∙ ap status_of same ∙ sym y.status_is, same_text form bytes y.reading a b (subst (λ (v : Reading). HasText form bytes v a) same x.text_is) y.text_is)
+same_capture : HasOneReading → (view : CaptureView) (standard : Standard) (bytes : List ℕ) (s r : ℕ) (a b : List ℕ) → IsCaptureView view standard bytes s a → IsCaptureView view standard bytes r b → (s ≡ r) × (a ≡ b)
+same_capture one view standard bytes s r a b x y =
+    let same : x.reading ≡ y.reading = same_reading one standard bytes x.reading y.reading x.reads y.reads in
+    (x.status_is ∙ ap status_of same ∙ sym y.status_is, same_text view standard bytes y.reading a b (subst (λ (v : Reading). HasText view standard bytes v a) same x.text_is) y.text_is)
 
 -- ---- a script has one trace
 
@@ -117,9 +117,8 @@ same_trace one bytes s r a b (at_fault g e x t) (at_fault h f y u) =
 
 same_view : HasOneReading → (form : ViewForm) (bytes : List ℕ) (s r : ℕ) (a b : List ℕ) → IsView form bytes s a → IsView form bytes r b → (s ≡ r) × (a ≡ b)
 same_view one Trace bytes s r a b x y = same_trace one bytes s r a b x y
-same_view one Packets bytes s r a b x y = same_capture one Packets bytes s r a b x y
-same_view one Drawn bytes s r a b x y = same_capture one Drawn bytes s r a b x y
-same_view one Dot bytes s r a b x y = same_capture one Dot bytes s r a b x y
+same_view one (Capture view standard) bytes s r a b x y =
+    same_capture one view standard bytes s r a b x y
 
 -- ---- words and bytes have one answer
 

@@ -4,7 +4,7 @@ use Rattle.std.specs.Prelude.{Result, All, String}
 use Rattle.std.specs.Global.{Global}
 use Rattle.std.proofs.lemmas.Option.{slice_get_cases}
 use Rattle.quad_lanes.specs.Pairs.{quads_of}
-use Rattle.self_id.specs.declared.standard.Standard.TheVariants.{Ieee2000}
+use Rattle.self_id.specs.declared.standard.Standard.{Standard}
 use Rattle.self_id.specs.Node.{Node}
 use Rattle.topology_stack.specs.Tree.{Tree, walk}
 use Rattle.bus_manager.specs.Hops.{IsHops}
@@ -21,8 +21,10 @@ use Rattle.script_trace.specs.OneTrace.{RunsHaveTraces}
 use Rattle.view_text.specs.Pairs.{pairs_text}
 use Rattle.view_text.specs.Drawing.{IsDrawing, IsRoot, drawing}
 use Rattle.view_text.specs.Graph.{graph}
+use Rattle.bus_view.specs.declared.form.CaptureView.{CaptureView}
+use Rattle.bus_view.specs.declared.form.CaptureView.TheVariants.{Packets, Tree as Drawn, Dot}
 use Rattle.bus_view.specs.declared.form.ViewForm.{ViewForm}
-use Rattle.bus_view.specs.declared.form.ViewForm.TheVariants.{Packets, Tree as Drawn, Dot, Trace}
+use Rattle.bus_view.specs.declared.form.ViewForm.TheVariants.{Capture, Trace}
 use Rattle.bus_view.specs.Form.{Asks, IsForm}
 use Rattle.bus_view.specs.Sentence.{place, note}
 use Rattle.bus_view.specs.Answer.{Reading, spelt, refused, IsReading, status_of, HasText, IsCaptureView, IsTraceView, traced, at_fault, IsView, Answers, viewed, no_form}
@@ -35,8 +37,8 @@ HasSome Is = (s : ℕ) × (text : List ℕ) × Is s text
 
 -- ---- captures
 
-some-reading : EachCaptureHasATreeOrAFault → (bytes : List ℕ) → All (λ b. b < 256) bytes → (r : Reading) × IsReading bytes r
-some-reading some bytes fit = elim (some Ieee2000 bytes fit) [
+some-reading : EachCaptureHasATreeOrAFault → (standard : Standard) (bytes : List ℕ) → All (λ b. b < 256) bytes → (r : Reading) × IsReading standard bytes r
+some-reading some standard bytes fit = elim (some standard bytes fit) [
   | inl t ↦ (spelt t.0, t.1)
   | inr f ↦ (refused f.0, f.1)
 ]
@@ -57,18 +59,17 @@ some-drawing-with t hops are =
 some-drawing : (t : Tree) → (text : List ℕ) × IsDrawing t text
 some-drawing t = some-drawing-with t _ (is_hops t)
 
-some-text : (form : ViewForm) (bytes : List ℕ) (r : Reading) → All (λ b. b < 256) bytes → (form ≡ Trace → ⊥) → (text : List ℕ) × HasText form bytes r text
-some-text Packets bytes (spelt t) fit other =
+some-text : (view : CaptureView) (standard : Standard) (bytes : List ℕ) (r : Reading) → All (λ b. b < 256) bytes → (text : List ℕ) × HasText view standard bytes r text
+some-text Packets standard bytes (spelt t) fit =
     let p = packets-of-bytes bytes fit in
     (pairs_text bytes p.0 0 [], record { packets = p.0; shown = p.1; text_is = refl })
-some-text Packets bytes (refused f) fit other =
+some-text Packets standard bytes (refused f) fit =
     let p = packets-of-bytes bytes fit in
-    (pairs_text bytes p.0 (place f) (note (quads_of bytes) p.0 f), record { packets = p.0; shown = p.1; text_is = refl })
-some-text Drawn bytes (spelt t) fit other = some-drawing t
-some-text Drawn bytes (refused f) fit other = (fault_line f, refl)
-some-text Dot bytes (spelt t) fit other = (graph t, refl)
-some-text Dot bytes (refused f) fit other = (fault_line f, refl)
-some-text Trace bytes r fit other = absurd (other refl)
+    (pairs_text bytes p.0 (place f) (note standard (quads_of bytes) p.0 f), record { packets = p.0; shown = p.1; text_is = refl })
+some-text Drawn standard bytes (spelt t) fit = some-drawing t
+some-text Drawn standard bytes (refused f) fit = (fault_line f, refl)
+some-text Dot standard bytes (spelt t) fit = (graph t, refl)
+some-text Dot standard bytes (refused f) fit = (fault_line f, refl)
 
 -- what may be shown, what is said of scripts
 pub record HasSomeReading : Type 0 where
@@ -77,10 +78,10 @@ pub record HasSomeReading : Type 0 where
   pub traces : RunsHaveTraces
 
 module _ (have : HasSomeReading) where
-  some-capture : (form : ViewForm) (bytes : List ℕ) → All (λ b. b < 256) bytes → (form ≡ Trace → ⊥) → HasSome (IsCaptureView form bytes)
-  some-capture form bytes fit other =
-      let r = some-reading have.some bytes fit in
-      let t = some-text form bytes r.0 fit other in
+  some-capture : (view : CaptureView) (standard : Standard) (bytes : List ℕ) → All (λ b. b < 256) bytes → HasSome (IsCaptureView view standard bytes)
+  some-capture view standard bytes fit =
+      let r = some-reading have.some standard bytes fit in
+      let t = some-text view standard bytes r.0 fit in
       (status_of r.0, t.0, record { reading = r.0; reads = r.1; status_is = refl; text_is = t.1 })
 
   some-trace : (bytes : List ℕ) → HasSome (IsTraceView bytes)
@@ -94,9 +95,7 @@ module _ (have : HasSomeReading) where
       go run is (Err f) e = (1, script_line f, at_fault f refl (run, is, sym (ap (unless_stopped (printed run.entries)) e)) refl)
 
   some-view : (form : ViewForm) (bytes : List ℕ) → All (λ b. b < 256) bytes → HasSome (IsView form bytes)
-  some-view Packets bytes fit = some-capture Packets bytes fit (λ e. cc)
-  some-view Drawn bytes fit = some-capture Drawn bytes fit (λ e. cc)
-  some-view Dot bytes fit = some-capture Dot bytes fit (λ e. cc)
+  some-view (Capture view standard) bytes fit = some-capture view standard bytes fit
   some-view Trace bytes fit = some-trace bytes
 
   pub some-answer : EachInputHasAView

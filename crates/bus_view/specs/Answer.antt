@@ -3,7 +3,7 @@ use Rattle.std.specs.Prelude.{◌≡◌, ℕ, List, [], Option, Some, None, Ok, 
 use Rattle.std.specs.Global.{Global}
 use Rattle.quad_lanes.specs.Pairs.{firsts, quads_of}
 use Rattle.phy_packet.specs.declared.packet.PhyPacket.{PhyPacket}
-use Rattle.self_id.specs.declared.standard.Standard.TheVariants.{Ieee2000}
+use Rattle.self_id.specs.declared.standard.Standard.{Standard}
 use Rattle.topology_stack.specs.Tree.{Tree}
 use Rattle.bus_cli.specs.declared.fault.CaptureFault.{CaptureFault}
 use Rattle.bus_cli.specs.Capture.{Spells, CaptureRefused}
@@ -14,24 +14,27 @@ use Rattle.script_trace.specs.Trace.{IsTrace}
 use Rattle.view_text.specs.Pairs.{AreShown, pairs_text}
 use Rattle.view_text.specs.Drawing.{IsDrawing}
 use Rattle.view_text.specs.Graph.{graph}
+use Rattle.bus_view.specs.declared.form.CaptureView.{CaptureView}
+use Rattle.bus_view.specs.declared.form.CaptureView.TheVariants.{Packets, Tree as Drawn, Dot}
 use Rattle.bus_view.specs.declared.form.ViewForm.{ViewForm}
-use Rattle.bus_view.specs.declared.form.ViewForm.TheVariants.{Packets, Tree as Drawn, Dot, Trace}
+use Rattle.bus_view.specs.declared.form.ViewForm.TheVariants.{Capture, Trace}
 use Rattle.bus_view.specs.Form.{Asks, IsForm}
 use Rattle.bus_view.specs.Sentence.{place, note}
 
--- what a capture is read as: the tree that it spells, or its fault, as `busconf read` has both
+-- what a capture is read as by a standard: the tree that it spells, or its fault, as `busconf read`
+-- and `read95` have both
 pub data Reading : Type 0 where
   spelt : Tree → Reading
   refused : CaptureFault → Reading
 
-abbrev pub IsReading : List ℕ → Reading → Type 0
-IsReading bytes (spelt t) = Spells Ieee2000 bytes t
-IsReading bytes (refused f) = CaptureRefused Ieee2000 bytes f
+abbrev pub IsReading : Standard → List ℕ → Reading → Type 0
+IsReading standard bytes (spelt t) = Spells standard bytes t
+IsReading standard bytes (refused f) = CaptureRefused standard bytes f
 
 -- a fault that the bytes have, or none where they spell a tree
-abbrev pub IsFault : List ℕ → Option CaptureFault → Type 0
-IsFault bytes None = (t : Tree) × Spells Ieee2000 bytes t
-IsFault bytes (Some f) = CaptureRefused Ieee2000 bytes f
+abbrev pub IsFault : Standard → List ℕ → Option CaptureFault → Type 0
+IsFault standard bytes None = (t : Tree) × Spells standard bytes t
+IsFault standard bytes (Some f) = CaptureRefused standard bytes f
 
 abbrev pub status_of : Reading → ℕ
 status_of (spelt t) = 0
@@ -44,24 +47,23 @@ pub record ShowsPackets (bytes : List ℕ) (at : ℕ) (below : List PhyPacket �
   pub shown : AreShown (firsts (quads_of bytes)) packets
   pub text_is : text ≡ pairs_text bytes packets at (below packets)
 
--- the text of a reading in a form; a trace isn't one of a capture
-abbrev pub HasText : ViewForm → List ℕ → Reading → List ℕ → Type 0
-HasText Packets bytes (spelt t) text = ShowsPackets bytes 0 (λ packets. []) text
-HasText Packets bytes (refused f) text =
-    ShowsPackets bytes (place f) (λ packets. note (quads_of bytes) packets f) text
-HasText Drawn bytes (spelt t) text = IsDrawing t text
-HasText Drawn bytes (refused f) text = text ≡ fault_line f
-HasText Dot bytes (spelt t) text = text ≡ graph t
-HasText Dot bytes (refused f) text = text ≡ fault_line f
-HasText Trace bytes reading text = ⊥
+-- the text of what is read by a standard
+abbrev pub HasText : CaptureView → Standard → List ℕ → Reading → List ℕ → Type 0
+HasText Packets standard bytes (spelt t) text = ShowsPackets bytes 0 (λ packets. []) text
+HasText Packets standard bytes (refused f) text =
+    ShowsPackets bytes (place f) (λ packets. note standard (quads_of bytes) packets f) text
+HasText Drawn standard bytes (spelt t) text = IsDrawing t text
+HasText Drawn standard bytes (refused f) text = text ≡ fault_line f
+HasText Dot standard bytes (spelt t) text = text ≡ graph t
+HasText Dot standard bytes (refused f) text = text ≡ fault_line f
 
--- the status and the text of a capture in a form
-pub record IsCaptureView (form : ViewForm) (bytes : List ℕ) (status : ℕ) (text : List ℕ) :
-    Type 0 where
+-- the status and the text of a capture
+pub record IsCaptureView (view : CaptureView) (standard : Standard) (bytes : List ℕ) (status : ℕ)
+    (text : List ℕ) : Type 0 where
   pub reading : Reading
-  pub reads : IsReading bytes reading
+  pub reads : IsReading standard bytes reading
   pub status_is : status ≡ status_of reading
-  pub text_is : HasText form bytes reading text
+  pub text_is : HasText view standard bytes reading text
 
 -- a script that has a text is traced; one at fault is refused as `busconf run` refuses it
 pub data IsTraceView (bytes : List ℕ) (status : ℕ) (text : List ℕ) : Type 0 where
@@ -71,8 +73,8 @@ pub data IsTraceView (bytes : List ℕ) (status : ℕ) (text : List ℕ) : Type 
 
 -- the status and the text of bytes in a form
 abbrev pub IsView : ViewForm → List ℕ → ℕ → List ℕ → Type 0
+IsView (Capture view standard) bytes status text = IsCaptureView view standard bytes status text
 IsView Trace bytes status text = IsTraceView bytes status text
-IsView form bytes status text = IsCaptureView form bytes status text
 
 -- the status and the text of words and bytes
 pub data Answers (words : List (String Global)) (bytes : List ℕ) (status : ℕ)

@@ -1,14 +1,23 @@
 -- The words that the program is asked with.
 use Rattle.std.specs.Prelude.{◌≡◌, ℕ, List, [], ◌∷◌, map, codes, string_bytes, String}
 use Rattle.std.specs.Global.{Global}
+use Rattle.self_id.specs.declared.standard.Standard.{Standard}
+use Rattle.self_id.specs.declared.standard.Standard.TheVariants.{Ieee1995, Ieee2000}
+use Rattle.bus_view.specs.declared.form.CaptureView.{CaptureView}
+use Rattle.bus_view.specs.declared.form.CaptureView.TheVariants.{Packets, Tree, Dot}
 use Rattle.bus_view.specs.declared.form.ViewForm.{ViewForm}
-use Rattle.bus_view.specs.declared.form.ViewForm.TheVariants.{Packets, Tree, Dot, Trace}
+use Rattle.bus_view.specs.declared.form.ViewForm.TheVariants.{Capture, Trace}
+
+-- what stands behind the word of a capture's form
+abbrev pub standard_words : Standard → List (List ℕ)
+standard_words Ieee2000 = []
+standard_words Ieee1995 = codes "--1995" ∷ []
 
 -- the words of each form
 abbrev pub AreWordsOf : ViewForm → List (List ℕ) → Type 0
-AreWordsOf Packets words = words ≡ codes "packets" ∷ []
-AreWordsOf Tree words = words ≡ codes "tree" ∷ []
-AreWordsOf Dot words = words ≡ codes "dot" ∷ []
+AreWordsOf (Capture Packets standard) words = words ≡ codes "packets" ∷ standard_words standard
+AreWordsOf (Capture Tree standard) words = words ≡ codes "tree" ∷ standard_words standard
+AreWordsOf (Capture Dot standard) words = words ≡ codes "dot" ∷ standard_words standard
 AreWordsOf Trace words = words ≡ codes "trace" ∷ []
 
 -- the words are those of the form

@@ -1,10 +1,10 @@
 //! The answer to the bytes of a capture or of a script.
 ghost use Rattle.std.specs.Prelude.{◌≡◌, ◌≤◌, ◌<◌, ◌^◌, length, IfOk};
-ghost use Rattle.bus_view.specs.declared.form.ViewForm.{ViewForm};
+ghost use Rattle.bus_view.specs.declared.form.CaptureView.{CaptureView};
 ghost use Rattle.bus_view.specs.Answer.{IsFault, IsCaptureView, IsTraceView, IsView};
 ghost use Rattle.bus_cli.specs.Line.{fault_line};
 
-use crate::form::ViewForm;
+use crate::form::{CaptureView, ViewForm};
 use crate::sentence::note_of;
 use bus_cli::{CaptureFault, CaptureStop, REFUSED, VALID, fault_line, read_capture, script_line};
 use quad_lanes::quads_of;
@@ -21,23 +21,28 @@ pub(crate) struct View {
     pub(crate) text: Vec<u8>,
 }
 
-/// The fault of a capture, if it has one.
-fn fault_of(alloc: Global, bytes: &[u8]) -> Result<Option<CaptureFault>, OutOfMemory>
-    ensures { IfOk result (λ fault. IsFault bytes.now fault) }
+/// The fault that a capture has by a standard, if it has one.
+fn fault_of(
+    alloc: Global,
+    standard: Standard,
+    bytes: &[u8],
+) -> Result<Option<CaptureFault>, OutOfMemory>
+    ensures { IfOk result (λ fault. IsFault standard bytes.now fault) }
 {
-    match read_capture(alloc, Standard::Ieee2000, bytes) {
+    match read_capture(alloc, standard, bytes) {
         Ok(_) => Ok(None),
         Err(CaptureStop::Fault(fault)) => Ok(Some(fault)),
         Err(CaptureStop::Memory(error)) => Err(error),
     }
 }
 
-/// The view of a capture's packets.
-fn view_packets(alloc: Global, bytes: &[u8]) -> Result<View, OutOfMemory>
+/// The view of a capture's packets, which are judged by a standard.
+fn view_packets(alloc: Global, standard: Standard, bytes: &[u8]) -> Result<View, OutOfMemory>
     requires { length bytes.now < 2 ^ 60 }
-    ensures { IfOk result (λ view. IsCaptureView ViewForm.Packets bytes.now view.status view.text.items) }
+    ensures { IfOk result (λ view.
+        IsCaptureView CaptureView.Packets standard bytes.now view.status view.text.items) }
 {
-    let fault = fault_of(alloc, bytes)?;
+    let fault = fault_of(alloc, standard, bytes)?;
     let quads = quads_of(alloc, bytes)?;
     let packets = packets_of(alloc, quads.as_slice())?;
     match fault {
@@ -53,7 +58,7 @@ fn view_packets(alloc: Global, bytes: &[u8]) -> Result<View, OutOfMemory>
             })
         }
         Some(fault) => {
-            let note = note_of(alloc, quads.as_slice(), &packets, fault)?;
+            let note = note_of(alloc, standard, quads.as_slice(), &packets, fault)?;
             let text = pairs_text(alloc, bytes, &packets, &note)?;
             Ok(View {
                 status: REFUSED,
@@ -72,10 +77,11 @@ fn line_text(alloc: Global, fault: CaptureFault) -> Result<Vec<u8>, OutOfMemory>
 }
 
 /// The view of the tree that a capture spells, as a drawing.
-fn view_tree(alloc: Global, bytes: &[u8]) -> Result<View, OutOfMemory>
-    ensures { IfOk result (λ view. IsCaptureView ViewForm.Tree bytes.now view.status view.text.items) }
+fn view_tree(alloc: Global, standard: Standard, bytes: &[u8]) -> Result<View, OutOfMemory>
+    ensures { IfOk result (λ view.
+        IsCaptureView CaptureView.Tree standard bytes.now view.status view.text.items) }
 {
-    match read_capture(alloc, Standard::Ieee2000, bytes) {
+    match read_capture(alloc, standard, bytes) {
         Ok(tree) => Ok(View {
             status: VALID,
             text: tree_drawing(alloc, &tree)?,
@@ -89,10 +95,11 @@ fn view_tree(alloc: Global, bytes: &[u8]) -> Result<View, OutOfMemory>
 }
 
 /// The same as a graph.
-fn view_dot(alloc: Global, bytes: &[u8]) -> Result<View, OutOfMemory>
-    ensures { IfOk result (λ view. IsCaptureView ViewForm.Dot bytes.now view.status view.text.items) }
+fn view_dot(alloc: Global, standard: Standard, bytes: &[u8]) -> Result<View, OutOfMemory>
+    ensures { IfOk result (λ view.
+        IsCaptureView CaptureView.Dot standard bytes.now view.status view.text.items) }
 {
-    match read_capture(alloc, Standard::Ieee2000, bytes) {
+    match read_capture(alloc, standard, bytes) {
         Ok(tree) => Ok(View {
             status: VALID,
             text: tree_graph(alloc, &tree)?,
@@ -129,9 +136,9 @@ pub(crate) fn view_of(alloc: Global, form: ViewForm, bytes: &[u8]) -> Result<Vie
     ensures { IfOk result (λ view. IsView form bytes.now view.status view.text.items) }
 {
     match form {
-        ViewForm::Packets => view_packets(alloc, bytes),
-        ViewForm::Tree => view_tree(alloc, bytes),
-        ViewForm::Dot => view_dot(alloc, bytes),
+        ViewForm::Capture(CaptureView::Packets, standard) => view_packets(alloc, standard, bytes),
+        ViewForm::Capture(CaptureView::Tree, standard) => view_tree(alloc, standard, bytes),
+        ViewForm::Capture(CaptureView::Dot, standard) => view_dot(alloc, standard, bytes),
         ViewForm::Trace => view_trace(alloc, bytes),
     }
 }

@@ -3,15 +3,25 @@ ghost use Rattle.std.specs.Prelude.{◌≡◌, ◌∷◌, [], ◌↔◌};
 ghost use Rattle.bus_view.specs.Form.{AreWordsOf, Asks};
 ghost use Rattle.bus_view.specs.declared.form.ViewForm.{ViewForm};
 
-/// What the program can be asked for: of a capture, or of a script.
+use self_id::Standard;
+
+/// What can be shown of a capture.
 #[derive(Clone, Copy, Debug, PartialEq, Eq)]
-pub enum ViewForm {
+pub enum CaptureView {
     /// `packets`: a line for each pair, its packet field by field.
     Packets,
     /// `tree`: the tree of the bus, drawn with the root at the top.
     Tree,
     /// `dot`: the tree as a Graphviz graph.
     Dot,
+}
+
+/// What the program can be asked for.
+#[derive(Clone, Copy, Debug, PartialEq, Eq)]
+pub enum ViewForm {
+    /// Something of a capture, which is read by IEEE 1394a-2000, or with `--1995` behind the word by
+    /// IEEE Std 1394-1995.
+    Capture(CaptureView, Standard),
     /// `trace`: what happens on the bus of a script.
     Trace,
 }
@@ -22,10 +32,25 @@ impl ViewForm {
         ensures { (form : ViewForm) → (result ≡ Some form) ↔ AreWordsOf form (word.now ∷ []) }
     {
         match word {
-            "packets" => Some(ViewForm::Packets),
-            "tree" => Some(ViewForm::Tree),
-            "dot" => Some(ViewForm::Dot),
+            "packets" => Some(ViewForm::Capture(CaptureView::Packets, Standard::Ieee2000)),
+            "tree" => Some(ViewForm::Capture(CaptureView::Tree, Standard::Ieee2000)),
+            "dot" => Some(ViewForm::Capture(CaptureView::Dot, Standard::Ieee2000)),
             "trace" => Some(ViewForm::Trace),
+            _ => None,
+        }
+    }
+
+    /// The form of these two words.
+    fn of_two(word: &str, standard: &str) -> Option<ViewForm>
+        ensures { (form : ViewForm) → (result ≡ Some form)
+            ↔ AreWordsOf form (word.now ∷ standard.now ∷ []) }
+    {
+        match (word, standard) {
+            ("packets", "--1995") => {
+                Some(ViewForm::Capture(CaptureView::Packets, Standard::Ieee1995))
+            }
+            ("tree", "--1995") => Some(ViewForm::Capture(CaptureView::Tree, Standard::Ieee1995)),
+            ("dot", "--1995") => Some(ViewForm::Capture(CaptureView::Dot, Standard::Ieee1995)),
             _ => None,
         }
     }
@@ -37,11 +62,13 @@ impl ViewForm {
     {
         match words {
             [word] => ViewForm::of_word(word.as_str()),
+            [word, standard] => ViewForm::of_two(word.as_str(), standard.as_str()),
             _ => None,
         }
     }
 }
 
 /// How the program is called, in one line for a form.
-pub const VIEW_USAGE: &str = "usage: busview packets < CAPTURE\n       \
-    busview tree < CAPTURE\n       busview dot < CAPTURE\n       busview trace < SCRIPT";
+pub const VIEW_USAGE: &str = "usage: busview packets [--1995] < CAPTURE\n       \
+    busview tree [--1995] < CAPTURE\n       busview dot [--1995] < CAPTURE\n       \
+    busview trace < SCRIPT";

@@ -7,6 +7,6 @@ mod laws;
 mod sentence;
 mod top;
 
-pub use form::{VIEW_USAGE, ViewForm};
+pub use form::{CaptureView, VIEW_USAGE, ViewForm};
 pub use laws::one_view;
 pub use top::view_main;

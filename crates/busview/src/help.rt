@@ -2,7 +2,8 @@
 
 /// What each form does, in a line; the statuses; and where the pages are.
 pub const HELP: &str = "\
-busview shows FireWire cable buses to people at a bench (IEEE Std 1394a-2000).
+busview shows FireWire cable buses to people at a bench
+(IEEE Std 1394-1995 and 1394a-2000).
 
 busview packets < CAPTURE  each packet field by field, and what is wrong where
 busview tree < CAPTURE     the tree of the bus as a drawing
@@ -10,6 +11,9 @@ busview dot < CAPTURE      the tree of the bus as a graph for Graphviz
 busview trace < SCRIPT     what happens on the bus of a script, turn by turn
 busview --help, -h         this text
 busview --version          the version, its kit, and the standards
+
+With --1995 behind packets, tree or dot the capture is read by IEEE Std
+1394-1995: up to 27 ports a node.
 
 A capture is the self-ID packets of one bus reset, each as a big-endian quadlet
 and its bitwise inverse. Input is at most 1,048,576 bytes. Answers, refusals
