@@ -27,3 +27,4 @@ pub mod StaysReached
 pub mod StaysLawful
 pub mod QuietTurns
 pub mod OneOutcome
+pub mod Lemmas

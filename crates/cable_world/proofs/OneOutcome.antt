@@ -10,9 +10,7 @@ use Rattle.cabling.specs.NodeSet.{Holds}
 use Rattle.cabling.specs.Labels.{labels}
 use Rattle.cabling.specs.Looped.{IsCore}
 use Rattle.cabling.specs.Sees.{Sees}
-use Rattle.cabling.proofs.Bits.{clear_bit}
-use Rattle.cabling.proofs.Cascade.{holds_or_not}
-use Rattle.cabling.proofs.OneTree.{one-tree}
+use Rattle.cabling.proofs.Lemmas.{clear_bit, holds_or_not, one-tree}
 use Rattle.cable_world.specs.World.{CableWorld}
 use Rattle.cable_world.specs.Outcome.{HasNoLoop, IsLoop, IsTree, IsContention, IsFirstPair, Outcome, IsOutcome, attrs_now, loop, tree, contention}
 

@@ -7,7 +7,7 @@ use Rattle.port_state.specs.declared.signal.Level.{Level}
 use Rattle.port_state.specs.declared.signal.Level.TheVariants as level
 use Rattle.port_state.specs.declared.signal.Signal.{Signal}
 use Rattle.port_state.specs.declared.signal.Signal.TheVariants as signal
-use Rattle.port_state.specs.codings.OneProof.{valid_prop}
+use Rattle.port_state.proofs.Lemmas.{valid_prop}
 use Rattle.cable_world.specs.Wire.{Travelling, Wire}
 use Rattle.cable_world.specs.World.{CableWorld}
 use Rattle.cable_world.specs.Signals.{AllAsOldAs}

@@ -5,12 +5,13 @@ use Rattle.std.proofs.lemmas.Bool.{cases_lt}
 use Rattle.cabling.specs.declared.cable.End.{End}
 use Rattle.cabling.specs.Wiring.{Wiring, ports_of, far, IsCabling}
 use Rattle.cabling.specs.NodeSet.{Holds, IsWithin}
-use Rattle.cabling.specs.Looped.{HasTwo, IsLooped}
+use Rattle.cabling.specs.Looped.{IsLooped}
 use Rattle.cabling.specs.Existence.{HasComponent, HasCore}
 use Rattle.cabling.proofs.Bits.{below, none_of_zero, some_node, inserted, inserted-holds, inserted-others, inserted-small, removed-small, in_union, union-small, in_first, more_than}
 use Rattle.cabling.proofs.Near.{end_at, small_far, Near, near_none, near_one, near_loose, near_all}
 use Rattle.cabling.proofs.Growing.{Growing, growing_first, growing_next, growing_last}
 use Rattle.cabling.proofs.Cascade.{weak_or_all, Less, less_by, less_within}
+use Rattle.cabling.proofs.Stripping.{more_two}
 
 -- ---- the neighbours of a node are a set
 
@@ -105,17 +106,6 @@ component_exists c node is there =
     zero_small (inserted-small 0 node zero_small inside) (omega arith)
 
 -- ---- a core is what is left where nodes with fewer than two cables into the rest were taken away
-
--- more nodes, more cables
-more_two : (c : Wiring) (small large node : ℕ) → IsWithin small large → HasTwo c small node →
-    HasTwo c large node
-more_two c small large node within two = record {
-  low = two.low;
-  high = two.high;
-  apart = two.apart;
-  low_leads = (two.low_leads.0, two.low_leads.1, within two.low_leads.0.node two.low_leads.2);
-  high_leads = (two.high_leads.0, two.high_leads.1, within two.high_leads.0.node two.high_leads.2);
-}
 
 strip : (fuel : ℕ) (c : Wiring) (set core : ℕ) → core < fuel → core < 2 ^ 63 → IsWithin core set →
     ((part : ℕ) → IsWithin part set → IsLooped c part → IsWithin part core) → HasCore c set

@@ -20,3 +20,4 @@ pub mod Whole
 pub mod Pulling
 pub mod OneTree
 pub mod Existing
+pub mod Lemmas

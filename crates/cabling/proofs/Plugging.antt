@@ -30,7 +30,7 @@ none_of : (x : Option End) → is_some x ≡ false → x ≡ None
 none_of None e = refl
 none_of (Some a) e = absurd cc
 
-less : (a b : ℕ) → nat_lt a b ≡ true → a < b
+pub less : (a b : ℕ) → nat_lt a b ≡ true → a < b
 less a b e = grind (arith, nat_tests)
 
 other : (a b : ℕ) → (a == b) ≡ false → a ≢ b

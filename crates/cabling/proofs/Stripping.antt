@@ -130,7 +130,7 @@ stripped_stays c set core doubtful node after s two gone others = record {
 }
 
 -- more nodes, more cables
-more_two : (c : Wiring) (small large node : ℕ) → IsWithin small large → HasTwo c small node →
+pub more_two : (c : Wiring) (small large node : ℕ) → IsWithin small large → HasTwo c small node →
     HasTwo c large node
 more_two c small large node within two = record {
   low = two.low;

@@ -12,12 +12,8 @@ use Rattle.cable_world.specs.Run.{IsReached}
 use Rattle.cable_world.specs.Phases.{is_before_tree}
 use Rattle.cable_world.specs.Agreement.{level_sent_at, level_shown}
 use Rattle.cable_world.specs.Lawful.{IsLawful}
-use Rattle.cable_world.proofs.turns.ByNumber.{cabling-after}
-use Rattle.cable_world.proofs.resets.Entries.{after-delay, after-length}
-use Rattle.cable_world.proofs.Options.{some-of, some-at, some-same}
-use Rattle.cable_world.proofs.StaysLawful.{reached-lawful}
+use Rattle.cable_world.proofs.Lemmas.{cabling-after, after-delay, after-length, some-of, some-at, some-same, reached-lawful, quiet-then, quiet-lawful, after-cabling}
 use Rattle.cable_world.specs.Quiet.{HoldSchedule, quiet_after, holds_after}
-use Rattle.cable_world.proofs.QuietTurns.{quiet-then, quiet-lawful, after-cabling}
 use Rattle.convergence.specs.Acyclic.{IsAcyclic}
 use Rattle.convergence.specs.Cables.{TellsAt, ShowsAt}
 use Rattle.convergence.specs.Milestones.{ResetsAreDone, TreesAreTaken, LoopsAreReported, TreesAreDecided}

@@ -22,3 +22,4 @@ pub mod coins
 pub mod rounds
 pub mod AfterTurns
 pub mod worked
+pub mod Lemmas

@@ -19,3 +19,4 @@ pub mod numbers
 pub mod forced
 pub mod settled
 pub mod worked
+pub mod Lemmas

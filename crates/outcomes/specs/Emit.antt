@@ -4,7 +4,7 @@ use Rattle.self_id.specs.Group.{group}
 use Rattle.topology_stack.specs.Tree.{Label, Tree, walk, groups, emits}
 use Rattle.cabling.specs.Wiring.{Wiring}
 use Rattle.cabling.specs.NodeSet.{Holds}
-use Rattle.cabling.specs.codings.Shown.{shown_node}
+use Rattle.cabling.proofs.Lemmas.{shown_node}
 use Rattle.outcomes.specs.WalkMarks.{place}
 
 abbrev pub emit : Tree → ℕ → List ℕ

@@ -17,7 +17,7 @@ use Rattle.port_state.specs.Row.{Row}
 use Rattle.port_state.specs.Tick.{raise_timer, row_of}
 use Rattle.port_state.specs.Machine.{PortNode}
 use Rattle.port_state.specs.Idle.{changes_nothing, rests, with_later_timer, after_ticks, IsIdleTick, IsIdleFor}
-use Rattle.port_state.proofs.IdleTicks.{idle_ticks-rest, after-idle_ticks}
+use Rattle.port_state.proofs.Lemmas.{idle_ticks-rest, after-idle_ticks}
 use Rattle.port_state.specs.Coins.{Coins}
 use Rattle.phy_machine.specs.Node.{node_of}
 use Rattle.phy_machine.specs.Node.{with_ports}

@@ -4,12 +4,12 @@ use Rattle.std.specs.Prelude.{nat_le}
 use Rattle.std.proofs.lemmas.Bool.{leb-true}
 use Rattle.std.proofs.lemmas.List.{length-replicate}
 use Rattle.self_id.specs.declared.node.PortStatus.TheVariants.{Absent}
-use Rattle.self_id.proofs.Again.{group3, group11, group16}
+use Rattle.self_id.proofs.Lemmas.{group3, group11, group16}
 use Rattle.port_state.specs.declared.states.NodeState.{NodeState}
 use Rattle.self_id.specs.Slots.{slot_count}
 use Rattle.port_state.specs.Group.{statuses_from, shown_node, own_group}
 use Rattle.port_state.specs.Valid.{IsBounded}
-use Rattle.port_state.proofs.Shown.{length-statuses_from}
+use Rattle.port_state.proofs.Lemmas.{length-statuses_from}
 use Rattle.phy_machine.specs.codings.IdleTime.{packet_count}
 
 slots :

@@ -2,7 +2,7 @@
 ghost use Rattle.std.specs.Prelude.{◌≡◌};
 ghost use Rattle.port_state.specs.Idle.{IsIdleFor};
 ghost use Rattle.port_state.specs.Valid.{IsValid};
-ghost use Rattle.port_state.specs.codings.OneProof.{valid_prop};
+ghost use Rattle.port_state.proofs.Lemmas.{valid_prop};
 ghost use Rattle.phy_machine.specs.Node.{node_of};
 ghost use Rattle.phy_machine.specs.PowerOn.{IsSpec, node_of_spec};
 

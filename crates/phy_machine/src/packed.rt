@@ -5,7 +5,7 @@ ghost use Rattle.port_state.specs.Machine.{node_tick};
 ghost use Rattle.phy_machine.specs.codings.Levels.{plain_level, ports_showing};
 ghost use Rattle.port_state.specs.Valid.{IsValid};
 ghost use Rattle.phy_machine.specs.Node.{node_of, with_ports};
-ghost use Rattle.port_state.specs.codings.OneProof.{valid_prop};
+ghost use Rattle.port_state.proofs.Lemmas.{valid_prop};
 ghost use Rattle.phy_machine.specs.PowerOn.{IsSpec, node_of_spec};
 
 use crate::port_words::PortWords;

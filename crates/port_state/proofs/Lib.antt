@@ -2,7 +2,7 @@ pub mod Cables
 pub mod CoinPlaces
 pub mod EachPort
 pub mod IdleTicks
-pub mod Laws
+pub mod Lemmas
 pub mod Pointwise
 pub mod Roles
 pub mod Sent

@@ -12,7 +12,7 @@ use Rattle.std.proofs.Math.Nat.{zero-mod}
 use Rattle.port_state.specs.declared.ports.PortView.{PortView}
 use Rattle.port_state.specs.declared.states.NodeState.{NodeState}
 use Rattle.self_id.specs.Slots.{slot_count}
-use Rattle.self_id.proofs.Zeros.{node_count-group}
+use Rattle.self_id.proofs.Lemmas.{node_count-group}
 use Rattle.port_state.specs.Valid.{IsBounded}
 use Rattle.port_state.specs.Group.{status, statuses_from, shown_node, NodesAreShown, GroupsHaveOneZero}
 

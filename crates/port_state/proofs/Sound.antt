@@ -24,7 +24,7 @@ use Rattle.port_state.specs.Resetting as reset
 use Rattle.port_state.specs.TreeIdentify as tree
 use Rattle.self_id.specs.Group.{node_count}
 use Rattle.port_state.specs.Group.{own_group, shown_node}
-use Rattle.self_id.proofs.Laws.{three_packets}
+use Rattle.self_id.proofs.Lemmas.{three_packets}
 use Rattle.port_state.proofs.Shown.{shown-is_node, shown-is_of}
 use Rattle.port_state.specs.SelfIdentify as ident
 use Rattle.port_state.specs.Row as row

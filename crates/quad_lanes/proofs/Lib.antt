@@ -3,3 +3,4 @@ mod FirstBad
 mod Lanes
 pub mod Quadlets
 mod Steps
+pub mod Lemmas

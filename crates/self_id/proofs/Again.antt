@@ -2,7 +2,7 @@
 use Rattle.std.proofs.Common.{◌≡◌, ℕ, zero, suc, ◌+◌, ◌*◌, ◌/◌, ◌%◌, ◌^◌, ◌<◌, ◌≤◌, Bool, true, false, eqb, eq-eqb, IsTrue, List, [], ◌∷◌, ◌++◌, length, take, drop, Ok, Err, refl, sym, ap, subst, ◌∙◌, arith, length-drop}
 use Rattle.std.proofs.lemmas.List.{take-append-drop, length-take-le, nil_from_length}
 use Rattle.std.proofs.Math.Seq.{take-length, take-add}
-use Rattle.phy_packet.proofs.Laws.{bit_fits, bit-eqb}
+use Rattle.phy_packet.proofs.Lemmas.{bit_fits, bit-eqb}
 use Rattle.phy_packet.specs.Layout.{bit}
 use Rattle.phy_packet.specs.Packet.{Shows, IsValid, quad_of, has_more}
 use Rattle.phy_packet.specs.declared.packet.PhyPacket.{PhyPacket}

@@ -1,6 +1,6 @@
 pub mod Again
 pub mod Fields
-pub mod Laws
+pub mod Lemmas
 pub mod Public
 pub mod Quads
 pub mod Sound

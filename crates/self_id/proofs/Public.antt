@@ -7,7 +7,7 @@ use Rattle.self_id.specs.Node.{Node}
 use Rattle.self_id.specs.Group.{group, BeginsWith, StandsAt}
 use Rattle.self_id.specs.Refused.{GroupRefused}
 use Rattle.self_id.specs.codings.Reading.{read_at, Gives}
-use Rattle.self_id.proofs.Laws.{group-read_at, refused-read_at, read_at-group, read_at-refused}
+use Rattle.self_id.proofs.Lemmas.{group-read_at, refused-read_at, read_at-group, read_at-refused}
 
 -- what was read of the list q at a place
 abbrev pub Taken : Standard → ℕ → ℕ → List ℕ → Result (Node × ℕ) GroupFault → Type 0

@@ -2,7 +2,7 @@
 use Rattle.std.proofs.Common.{◌≡◌, ℕ, suc, ◌+◌, ◌*◌, ◌/◌, ◌%◌, ◌^◌, ◌<◌, ◌≤◌, Bool, true, false, cond, eqb, ◌||◌, IsTrue, List, [], ◌∷◌, ◌++◌, length, take, drop, drop-drop, length-append, Result, Ok, Err, refl, sym, ap, ◌∙◌, arith}
 use Rattle.std.proofs.lemmas.Bool.{eqb-true}
 use Rattle.std.proofs.Math.Nat.{mod-eq_of_lt}
-pub use Rattle.phy_packet.proofs.Laws.{bit_below}
+pub use Rattle.phy_packet.proofs.Lemmas.{bit_below}
 use Rattle.phy_packet.specs.Layout.{bit, spelled}
 use Rattle.phy_packet.specs.Packet.{quad_of, has_more}
 use Rattle.phy_packet.specs.declared.packet.PhyPacket.{PhyPacket}

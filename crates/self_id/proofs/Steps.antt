@@ -1,7 +1,7 @@
 -- A packet that is taken in two steps is taken.
 use Rattle.std.proofs.Common.{◌≡◌, ℕ, Bool, true, false, cond, List, drop, Result, Ok, Err, refl, ◌<◌, ◌≤◌, length, get_or, drop-cons}
 use Rattle.std.proofs.Math.ListN.{drop_of_length-le}
-use Rattle.phy_packet.specs.codings.Decoding.{packet_of}
+use Rattle.phy_packet.proofs.Lemmas.{packet_of}
 use Rattle.phy_packet.specs.declared.packet.PhyPacket.{PhyPacket}
 use Rattle.self_id.specs.declared.fault.GroupFault.{GroupFault}
 use Rattle.self_id.specs.declared.fault.GroupFault.TheVariants.{Cut}

@@ -2,8 +2,7 @@
 use Rattle.std.proofs.Common.{◌≡◌, ◌≢◌, ℕ, suc, ◌+◌, ◌^◌, ◌<◌, Bool, true, false, cond, eqb, List, [], ◌∷◌, length, drop, Result, Ok, Err, refl, sym, ap, subst, ◌∙◌, arith, eq-eqb}
 use Rattle.std.proofs.lemmas.Bool.{eqb-true, eqb-false}
 use Rattle.phy_packet.specs.Packet.{Shows, IsValid, is_self_id, owner, has_more}
-use Rattle.phy_packet.specs.codings.Decoding.{packet_of}
-use Rattle.phy_packet.proofs.Laws.{packet-shown, shows-self_id}
+use Rattle.phy_packet.proofs.Lemmas.{packet_of, packet-shown, shows-self_id}
 use Rattle.phy_packet.specs.declared.packet.PhyPacket.{PhyPacket}
 use Rattle.phy_packet.specs.declared.packet.PhyPacket.TheVariants.{Config, LinkOn, SelfZero, SelfMore, Extended, Other}
 use Rattle.self_id.specs.declared.fault.GroupFault.{GroupFault}

@@ -1,7 +1,7 @@
 -- A whole group taken packet by packet.
 use Rattle.std.proofs.Common.{◌≡◌, ℕ, suc, ◌+◌, ◌<◌, Bool, true, false, cond, leb, List, [], ◌∷◌, length, drop, Result, Ok, Err, refl, sym, ap, subst, ◌∙◌, arith, drop-drop, length-drop}
 use Rattle.std.specs.Prelude.{MatchResult}
-use Rattle.phy_packet.specs.codings.Decoding.{packet_of}
+use Rattle.phy_packet.proofs.Lemmas.{packet_of}
 use Rattle.phy_packet.specs.declared.packet.PhyPacket.{PhyPacket}
 use Rattle.self_id.specs.declared.fault.GroupFault.{GroupFault}
 use Rattle.self_id.specs.declared.fault.GroupFault.TheVariants.{TwoParents}

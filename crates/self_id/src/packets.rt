@@ -1,7 +1,7 @@
 //! The packets of a group, one at a time.
 ghost use Rattle.std.specs.Prelude.{◌≡◌, ◌≤◌, ◌<◌, ℕ, suc, true, length, drop, Ok, Err, IfOk, IfErr};
 ghost use Rattle.self_id.specs.Node.{status_of};
-ghost use Rattle.phy_packet.specs.codings.Decoding.{packet_of};
+ghost use Rattle.phy_packet.proofs.Lemmas.{packet_of};
 ghost use Rattle.self_id.specs.Refused.{is_in_order};
 ghost use Rattle.self_id.specs.codings.Reading.{and_then, owned, owned_at, zero_in, further_in, zero_from, further_from};
 

@@ -47,7 +47,7 @@ kin : (t : Tree) (id slot k : ℕ) → id < length (walk t) → Far t id slot (S
 kin t id slot k lt far = let h = node_at t id lt in kinT 0 63 t id h.e (first_of t id) slot k h.node (far_end t id slot (Some k) h far)
 
 -- one slot has one end
-one_end : (t : Tree) (id slot : ℕ) (q r : Option ℕ) → Far t id slot q → Far t id slot r → q ≡ r
+pub one_end : (t : Tree) (id slot : ℕ) (q r : Option ℕ) → Far t id slot q → Far t id slot r → q ≡ r
 one_end t id slot q r f g =
     let same : f.of_node ≡ g.of_node = same_some f.of_node g.of_node (sym f.node ∙ g.node) in
     same_some q r (sym f.slot_end ∙ ap (λ (x : Ends). slice_get x slot) same ∙ g.slot_end)

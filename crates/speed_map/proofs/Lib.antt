@@ -7,3 +7,4 @@ mod Copied
 pub mod Unique
 pub mod SameBus
 pub mod SomeRows
+pub mod Lemmas

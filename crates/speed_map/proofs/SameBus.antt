@@ -5,7 +5,7 @@ use Rattle.std.proofs.lemmas.Grind.{same_number_lists}
 use Rattle.topology_stack.specs.Tree.{Tree, walk, IsBusTree}
 use Rattle.topology_stack.specs.Elect.{elected}
 use Rattle.topology_stack.specs.OneAnswer.{NoListHasTwoTrees}
-use Rattle.topology_map.proofs.Division.{one_crc}
+use Rattle.topology_map.proofs.Lemmas.{one_crc}
 use Rattle.speed_map.specs.Path.{path_speed}
 use Rattle.speed_map.specs.Rows.{cell, IsSpeed, AreRows}
 use Rattle.speed_map.specs.SameBus.{ElectOneManager, HaveOneSpeedMap, HaveOneTopologyMap, BodiesAreSealedOnce}

@@ -3,10 +3,9 @@ use Rattle.std.proofs.Common.{◌≡◌, ℕ, suc, ◌+◌, ◌*◌, ◌≤◌, 
 use Rattle.std.specs.Prelude.{slice_get}
 use Rattle.self_id.specs.Node.{Node, IsNode}
 use Rattle.self_id.specs.Group.{group, node_count}
-use Rattle.self_id.proofs.Laws.{length-group}
-use Rattle.self_id.proofs.Zeros.{node_count-group, node_count-append}
+use Rattle.self_id.proofs.Lemmas.{length-group, node_count-group, node_count-append}
 use Rattle.topology_stack.specs.Tree.{Tree, walk, groups, emits, IsBusTree}
-use Rattle.topology_stack.proofs.Laws.{are_nodes}
+use Rattle.topology_stack.proofs.Lemmas.{are_nodes}
 
 -- what is said of each of these nodes
 AreNodes : List Node → Type 0

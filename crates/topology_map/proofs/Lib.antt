@@ -5,3 +5,4 @@ mod Bytes
 mod Emitted
 pub mod Parts
 pub mod SomeMap
+pub mod Lemmas

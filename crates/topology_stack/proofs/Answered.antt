@@ -9,7 +9,7 @@ use Rattle.topology_stack.specs.Tree.{Tree, walk, IsBusTreeOf, emits}
 use Rattle.topology_stack.specs.codings.Code.{tree_of, tree_of-walk}
 use Rattle.topology_stack.specs.Refused.{Refused}
 use Rattle.topology_stack.specs.Answer.{IfFault, UnlessMemory}
-use Rattle.topology_stack.proofs.Laws.{one_tree, no_fault, one_fault}
+use Rattle.topology_stack.proofs.Lemmas.{one_tree, no_fault, one_fault}
 
 abbrev err : {A : Type 0} → TreeFault → Result A TreeStop
 err f = Err (Fault f)

@@ -8,8 +8,7 @@ use Rattle.topology_stack.specs.declared.fault.TreeFault.TheVariants.{Group, Emp
 use Rattle.self_id.specs.declared.standard.Standard.{Standard}
 use Rattle.self_id.specs.Node.{Node, IsNode, IsOf, ups, downs}
 use Rattle.self_id.specs.Group.{group}
-use Rattle.self_id.specs.codings.Reading.{read_at}
-use Rattle.self_id.proofs.Laws.{read_at-group, read_at-refused, length-group}
+use Rattle.self_id.proofs.Lemmas.{read_at, read_at-group, read_at-refused, length-group}
 use Rattle.topology_stack.specs.Tree.{Tree, branch, statuses, node_of, walk, walk_below, IsBusTreeOf, groups, emits}
 use Rattle.topology_stack.specs.Forest.{walks, Forest}
 use Rattle.topology_stack.specs.Refused.{Refused}

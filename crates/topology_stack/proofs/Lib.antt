@@ -4,12 +4,13 @@ pub mod Sound
 pub mod Loop
 pub mod Run
 pub mod Exact
-pub mod Laws
+pub mod Lemmas
 pub mod Linking
 pub mod Answered
 pub mod Cutting
 pub mod Ends
 pub mod Joining
 pub mod Highest
+mod Lasting
 mod Streaming
 mod Digits

@@ -8,8 +8,7 @@ use Rattle.self_id.specs.declared.standard.Standard.{Standard}
 use Rattle.self_id.specs.Node.{Node, ups, downs}
 use Rattle.self_id.specs.Group.{group, StandsAt}
 use Rattle.self_id.specs.Refused.{GroupRefused}
-use Rattle.self_id.specs.codings.Reading.{read_at}
-use Rattle.self_id.proofs.Laws.{read_at-group, read_at-refused, length-group}
+use Rattle.self_id.proofs.Lemmas.{read_at, read_at-group, read_at-refused, length-group}
 use Rattle.topology_stack.specs.declared.waiting.Waiting.{Waiting}
 use Rattle.topology_stack.specs.codings.Waiting.{after_node}
 use Rattle.topology_stack.proofs.ReadFrom.{in_group, ended, unless_ended, read_from, read}

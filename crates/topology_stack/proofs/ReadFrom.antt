@@ -4,7 +4,7 @@ use Rattle.self_id.specs.declared.fault.GroupFault.{GroupFault}
 use Rattle.self_id.specs.declared.standard.Standard.{Standard}
 use Rattle.self_id.specs.Node.{Node, ups, downs}
 use Rattle.self_id.specs.Group.{group}
-use Rattle.self_id.specs.codings.Reading.{read_at}
+use Rattle.self_id.proofs.Lemmas.{read_at}
 use Rattle.topology_stack.specs.declared.fault.TreeFault.{TreeFault}
 use Rattle.topology_stack.specs.declared.fault.TreeFault.TheVariants.{Group, Empty, TooFewChildren, TreesLeft, AfterRoot, NoRoot, TooMany}
 

@@ -6,7 +6,7 @@ use Rattle.topology_stack.specs.declared.fault.TreeFault.{TreeFault}
 use Rattle.self_id.specs.declared.standard.Standard.{Standard}
 use Rattle.self_id.specs.Node.{Node, IsNode, IsOf, ups, downs}
 use Rattle.self_id.specs.Group.{group}
-use Rattle.self_id.proofs.Laws.{read_at-group, length-group}
+use Rattle.self_id.proofs.Lemmas.{read_at-group, length-group}
 use Rattle.topology_stack.specs.Tree.{Tree, branch, Slots, no_more, absent, unplugged, up, down, statuses, node_of, walk, walk_below, IsPart, AreParts, AreOf, groups}
 use Rattle.topology_stack.proofs.ReadFrom.{read_from}
 use Rattle.topology_stack.specs.Forest.{AreWaiting, walks}

@@ -7,8 +7,7 @@ use Rattle.self_id.specs.declared.fault.GroupFault.{GroupFault}
 use Rattle.self_id.specs.declared.standard.Standard.{Standard}
 use Rattle.self_id.specs.Node.{Node, IsNode, IsOf, ups, downs}
 use Rattle.self_id.specs.Group.{group}
-use Rattle.self_id.specs.codings.Reading.{read_at}
-use Rattle.self_id.proofs.Laws.{group-read_at, refused-read_at, length-group}
+use Rattle.self_id.proofs.Lemmas.{read_at, group-read_at, refused-read_at, length-group}
 use Rattle.topology_stack.specs.declared.fault.TreeFault.{TreeFault}
 use Rattle.topology_stack.specs.declared.fault.TreeFault.TheVariants.{Group, TooFewChildren, TreesLeft}
 use Rattle.topology_stack.specs.Tree.{Label, Tree, branch, Slots, node_of, walk, walk_below, AreParts, IsWhole, AreOf, IsBusTreeOf, groups, emits}

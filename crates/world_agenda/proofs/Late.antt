@@ -11,6 +11,7 @@ use Rattle.port_state.specs.Idle.{IsIdleTick, IsIdleFor, IdleTicksRaiseTimers, a
 use Rattle.cable_world.specs.Wire.{Wire, add_signals}
 use Rattle.cable_world.specs.Turn.{node_turn, wires_after_sends, same_list}
 use Rattle.world_agenda.specs.Clock.{caught_up}
+use Rattle.cable_world.proofs.Lemmas.{idle-less, no-sends}
 
 -- ---- ticks, one after the other
 
@@ -19,9 +20,6 @@ after-more zero j n = let e : 0 + j ≡ j = omega arith in ap (λ k. after_ticks
 after-more (suc i) j n =
     let e : suc i + j ≡ suc (i + j) = omega arith in
     ap (λ k. after_ticks k n) e ∙ ap (λ (m : PortNode). (node_tick m).node) (after-more i j n)
-
-pub idle-less : (j k : ℕ) (n : PortNode) → j ≤ k → IsIdleFor k n → IsIdleFor j n
-idle-less j k n few h = λ i below. h i (omega (arith, few, below))
 
 -- after some of the idle ticks
 pub idle-then : (j k i : ℕ) (n : PortNode) → i + j ≤ k → IsIdleFor k n → IsIdleFor i (after_ticks j n)
@@ -98,10 +96,6 @@ same-text (x ∷ xs) = rw (eq-eqb x x refl) (same-text xs)
 
 none-sent : (w : Wire) → add_signals [] w ≡ w
 none-sent w = rw (append-nil w.signals) refl
-
-no-sends : (p : ℕ) (wires : List Wire) → wires_after_sends p [] wires ≡ wires
-no-sends p [] = refl
-no-sends p (w ∷ wires) = ap (λ v. v ∷ wires_after_sends (p + 1) [] wires) (none-sent w) ∙ ap (λ vs. w ∷ vs) (no-sends (p + 1) wires)
 
 module _ (turns clock idle : ℕ) (n : PortNode) (behind : clock ≤ turns) (few : turns + 1 ≤ clock + idle) (rests : IsIdleFor idle n) where
   abbrev pub was : PortNode

@@ -1,22 +1,8 @@
 -- A table that a loop writes anew from its head on: the new entries come first, and then the old ones.
-use Rattle.std.proofs.Common.{◌≡◌, ℕ, zero, suc, ◌+◌, ◌<◌, ◌≤◌, List, [], ◌∷◌, ◌++◌, length, map, take, drop, get_or, slice_set, refl, sym, ◌∙◌, ap, arith, add-one}
-use Rattle.std.proofs.lemmas.List.{drop_all, length-map}
+use Rattle.std.proofs.Common.{◌≡◌, ℕ, zero, suc, ◌+◌, ◌<◌, List, [], ◌∷◌, length, map, get_or, slice_set, refl, sym, ◌∙◌, ap, arith, add-one}
+use Rattle.std.proofs.lemmas.List.{length-map}
 use Rattle.std.proofs.Math.ListN.{get_or-map}
-
-abbrev pub mixed : {X : Type 0} → ℕ → List X → List X → List X
-mixed k new old = take k new ++ drop k old
-
-pub mixed-none : {X : Type 0} → (new old : List X) → mixed 0 new old ≡ old
-mixed-none new old = refl
-
-take-all : {X : Type 0} → (k : ℕ) (xs : List X) → length xs ≤ k → take k xs ++ [] ≡ xs
-take-all zero [] h = refl
-take-all (suc k) [] h = refl
-take-all zero (x ∷ xs) h = absurd (omega arith)
-take-all (suc k) (x ∷ xs) h = ap (λ ys. x ∷ ys) (take-all k xs (omega arith))
-
-pub mixed-all : {X : Type 0} → (k : ℕ) (new old : List X) → length new ≡ length old → length old ≤ k → mixed k new old ≡ new
-mixed-all k new old e h = ap (λ ys. take k new ++ ys) (drop_all k old h) ∙ take-all k new (omega (arith, e, h))
+use Rattle.cable_world.proofs.Lemmas.{mixed}
 
 -- the entry to be written next is the old one
 pub mixed-get :
@@ -41,13 +27,6 @@ pub mixed-set :
     now ≡ mixed k new old → x ≡ get_or new k d → slice_set now k x ≡ mixed (k + 1) new old
 mixed-set k new old now x d e h is at =
     ap (λ ys. slice_set ys k x) is ∙ ap (slice_set (mixed k new old) k) at ∙ set-next k new old d e h ∙ ap (λ n. mixed n new old) (sym (add-one k))
-
-pub mixed-length : {X : Type 0} → (k : ℕ) (new old : List X) → length new ≡ length old → length (mixed k new old) ≡ length old
-mixed-length zero new old e = refl
-mixed-length (suc k) [] [] e = refl
-mixed-length (suc k) [] (y ∷ old) e = absurd (omega (arith, e))
-mixed-length (suc k) (x ∷ new) [] e = absurd (omega (arith, e))
-mixed-length (suc k) (x ∷ new) (y ∷ old) e = ap suc (mixed-length k new old (omega (arith, e)))
 
 -- the next entry is made of the old one
 pub mixed-map :

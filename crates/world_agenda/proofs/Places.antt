@@ -1,5 +1,5 @@
 -- The places of a list that a loop hasn't come to, and those that it has.
-use Rattle.std.proofs.Common.{◌≡◌, ℕ, zero, suc, ◌+◌, ◌<◌, ◌≤◌, List, [], ◌∷◌, All, length, take, drop, get_or, slice_set, refl, sym, ◌∙◌, ap, arith, add-one, subst}
+use Rattle.std.proofs.Common.{◌≡◌, ℕ, zero, suc, ◌+◌, ◌<◌, List, [], ◌∷◌, All, length, take, drop, get_or, slice_set, refl, sym, ◌∙◌, ap, arith, add-one, subst}
 use Rattle.std.proofs.lemmas.List.Elements.{All-head, All-tail, All-cons}
 
 -- the next place has what it had at first
@@ -44,10 +44,3 @@ pub all-at : {X : Type 0} → (P : X → Type 0) (k : ℕ) (xs : List X) (x : X)
 all-at P k [] x inside at h = absurd (omega (arith, inside))
 all-at P zero (y ∷ xs) x inside at h = subst P (sym at) (All-head P y xs h)
 all-at P (suc k) (y ∷ xs) x inside at h = all-at P k xs x (omega (arith, inside)) at (All-tail P y xs h)
-
-pub all-taken : {X : Type 0} → (P : X → Type 0) (k : ℕ) (xs : List X) → length xs ≤ k → All P (take k xs) → All P xs
-all-taken P zero [] few h = h
-all-taken P (suc k) [] few h = h
-all-taken P zero (x ∷ xs) few h = absurd (omega arith)
-all-taken P (suc k) (x ∷ xs) few h =
-    All-cons P x xs (All-head P x (take k xs) h) (all-taken P k xs (omega arith) (All-tail P x (take k xs) h))

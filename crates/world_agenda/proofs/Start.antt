@@ -1,20 +1,13 @@
 -- The tables of a world at power-on.
-use Rattle.std.proofs.Common.{◌≡◌, ℕ, zero, suc, ◌≤◌, List, [], ◌∷◌, All, map, length, replicate, Option, None, Some, slice_get, refl, sym, subst, ◌∙◌, ap, arith}
+use Rattle.std.proofs.Common.{◌≡◌, ℕ, zero, suc, List, [], ◌∷◌, All, map, length, replicate, Some, slice_get, refl, sym, subst, ◌∙◌, ap, arith}
 use Rattle.std.proofs.lemmas.List.{length-replicate}
 use Rattle.std.proofs.lemmas.List.Elements.{All-map}
-use Rattle.cabling.specs.Wiring.{Wiring, ArePortCounts, without_cables}
+use Rattle.cabling.specs.Wiring.{Wiring, without_cables}
 use Rattle.port_state.specs.Machine.{PortNode}
 use Rattle.cable_world.specs.Wire.{Wire, empty_wire}
-use Rattle.cable_world.specs.World.{IsNodeAtPowerOn, IsPowerOnWorld, no_wires, world_of_nodes}
+use Rattle.cable_world.specs.World.{IsNodeAtPowerOn, no_wires, world_of_nodes}
 use Rattle.cable_world.specs.Parts.{world_record}
-
-or-else : {A : Type 0} → A → Option A → A
-or-else d None = d
-or-else d (Some x) = x
-
-some-same : {A : Type 0} → (a b : A) → Some a ≡ Some b → a ≡ b
-unfolding or-else
-some-same a b h = ap (or-else a) h
+use Rattle.cable_world.proofs.Lemmas.{some-same, rows-are}
 
 abbrev ports : PortNode → ℕ
 ports x = x.state.ports
@@ -32,15 +25,6 @@ pub powered :
     {M : Type 0} → (f : M → PortNode) (d : ℕ) (machines : List M) → All (λ m. IsNodeAtPowerOn d (f m).state) machines →
     Powered d (map f machines)
 powered f d machines h = powered-at d (map f machines) (All-map (λ (x : PortNode). IsNodeAtPowerOn d x.state) f machines h)
-
-pub are-counts : (d : ℕ) (nodes : List PortNode) → Powered d nodes → ArePortCounts (map ports nodes)
-are-counts d [] h i lt = absurd (omega arith)
-are-counts d (x ∷ nodes) h zero lt = let v = (h 0 x refl).valid in (v.bounded.some_port, v.bounded.few_ports)
-are-counts d (x ∷ nodes) h (suc i) lt = are-counts d nodes (λ k y e. h (suc k) y e) i (omega arith)
-
-rows-are : (nodes : List PortNode) → map (λ count. replicate count empty_wire) (map ports nodes) ≡ map no_wires nodes
-rows-are [] = refl
-rows-are (x ∷ nodes) = ap (λ rows. no_wires x ∷ rows) (rows-are nodes)
 
 -- rows that were made for the same counts are as long
 pub as-long :
@@ -60,6 +44,3 @@ start-is d n nodes counts c wires changed p cc_is w k long =
     let rows : wires ≡ map no_wires nodes = w ∙ ap (map (λ count. replicate count empty_wire)) p ∙ rows-are nodes in
     let none : changed ≡ replicate (length nodes) 0 = k ∙ ap (λ m. replicate m 0) long in
     rw (cables, rows, none) refl
-
-pub power-on : (d : ℕ) (nodes : List PortNode) → 1 ≤ d → d ≤ 16 → length nodes ≤ 63 → Powered d nodes → IsPowerOnWorld (world_of_nodes d nodes)
-power-on d nodes one sixteen few h = record { some_delay = one; short_delay = sixteen; few_nodes = few; nodes = h; is = refl }

@@ -1,14 +1,11 @@
 -- A world by its parts: what a lawful one gives to the code, its turn, and its vectors.
-use Rattle.std.proofs.Common.{◌≡◌, true, ℕ, suc, ◌+◌, ◌-◌, ◌<◌, ◌≤◌, List, [], ◌∷◌, All, map, length, slice_index_or, slice_set, is_some, None, get_or, inl, inr, refl, sym, ◌∙◌, ap, arith, subst}
-use Rattle.std.specs.List.{AllByRecursion}
+use Rattle.std.proofs.Common.{◌≡◌, true, ℕ, suc, ◌+◌, ◌<◌, List, [], ◌∷◌, map, length, slice_index_or, slice_set, is_some, None, get_or, inl, inr, refl, sym, ◌∙◌, ap, arith, subst}
 use Rattle.std.specs.Prelude.{Vec, Result, Ok, Err}
 use Rattle.std.specs.declared.alloc.AllocError.{AllocError}
 use Rattle.std.specs.Vec.{with_items}
-use Rattle.std.proofs.lemmas.List.{get_or_default, length-map, length-set, with_items_is}
-use Rattle.std.proofs.Math.Seq.{map-set_same}
+use Rattle.std.proofs.lemmas.List.{get_or_default, length-map, with_items_is}
 use Rattle.std.proofs.lemmas.Option.{slice_get_cases}
 use Rattle.std.proofs.lemmas.Bool.{lt-ltb}
-use Rattle.std.proofs.lemmas.List.Elements.{All-from_recursion}
 use Rattle.std.proofs.Math.Logic.{∥∥₁_elim}
 use Rattle.cabling.specs.declared.cable.End.{End}
 use Rattle.cabling.specs.Wiring.{Wiring, ports_of, far}
@@ -19,37 +16,22 @@ use Rattle.port_state.specs.Machine.{PortNode, NodeStep}
 use Rattle.cable_world.specs.declared.act.ActStop.{ActStop}
 use Rattle.cable_world.specs.declared.act.ActStop.TheVariants.{Fault, Memory}
 use Rattle.cable_world.specs.Answer.{IfFault, IsMemory}
-use Rattle.cable_world.specs.declared.wire.Travelling.{Travelling}
 use Rattle.cable_world.specs.Wire.{Wire, empty_wire, arrives, stays}
-use Rattle.cable_world.specs.World.{CableWorld, put, wire_of}
+use Rattle.cable_world.specs.World.{CableWorld, put}
 use Rattle.cable_world.specs.Turn.{node_turns, wires_after_sends, all_wires_after_sends, last_changes, turn}
-use Rattle.cable_world.specs.Lawful.{AgesFall, IsWellFormed, IsLawful}
+use Rattle.cable_world.specs.Lawful.{IsWellFormed, IsLawful}
 use Rattle.cable_world.specs.StaysLawful.{ReachedIsLawful}
 use Rattle.cable_world.specs.Run.{IsReached}
-use Rattle.cable_world.specs.running.Ages.{AreYoung}
 use Rattle.cable_world.specs.running.Hearing.{Arriving}
 use Rattle.cable_world.specs.running.Steps.{turns_of, HasItsPorts}
 use Rattle.cable_world.specs.Parts.{world_record}
-use Rattle.world_agenda.proofs.OneProof.{lawful_prop}
-use Rattle.world_agenda.proofs.Steps.{turns-are, row-of}
+use Rattle.world_agenda.proofs.Steps.{turns-are}
+use Rattle.cable_world.proofs.Lemmas.{row-of, lawful_prop}
 
 pub lawful-now : (w : CableWorld) → ReachedIsLawful → ∥ IsReached w ∥₁ → IsLawful w
 lawful-now w law r = ∥∥₁_elim r (lawful_prop w) (law w)
 
 -- ---- what the code asks of it
-
-young-from : (most : ℕ) (ts : List Travelling) → most ≤ 15 → AgesFall most ts → AllByRecursion (λ (t : Travelling). t.age < 255) ts
-young-from most [] few h = tt
-young-from most (t ∷ ts) few h = (omega (arith, h.0, few), young-from t.age ts (omega (arith, h.0, few)) h.1)
-
-pub all-young : (w : CableWorld) → IsWellFormed w → All (λ row. All AreYoung row) w.wires
-all-young w f = λ k e inside p u within.
-    let row : get_or w.wires k e ≡ slice_index_or w.wires k [] = get_or_default w.wires k e [] inside in
-    let there : get_or (get_or w.wires k e) p u ≡ wire_of w (record { node = k; port = p }) =
-    get_or_default (get_or w.wires k e) p u empty_wire within ∙ ap (λ r. slice_index_or r p empty_wire) row in
-    let ages = f.ages (record { node = k; port = p }) in
-    let few : w.delay - 1 ≤ 15 = omega (arith, f.short_delay) in
-    subst AreYoung (sym there) (All-from_recursion (λ (t : Travelling). t.age < 255) _ (young-from (w.delay - 1) _ few ages))
 
 -- after the turn of the wires
 pub has-its-ports :
@@ -79,19 +61,9 @@ turn-is w table nodes old wires changed t o n c v =
     v ∙ ap (λ ss. all_wires_after_sends ss old) steps ∙ ap (λ r. all_wires_after_sends now r) o in
     rw (is_wires, c, is_nodes) refl
 
--- rows of a table stay as long
-pub rows-long : {A B : Type 0} → (f : A → B) (rows : List (List A)) → map length (map (map f) rows) ≡ map length rows
-rows-long f [] = refl
-rows-long f (r ∷ rows) = ap (λ n. n ∷ map length (map (map f) rows)) (length-map r f) ∙ ap (λ ns. length r ∷ ns) (rows-long f rows)
-
 sent-length : (q : ℕ) (sends : List PortSignal) (wires : List Wire) → length (wires_after_sends q sends wires) ≡ length wires
 sent-length q sends [] = refl
 sent-length q sends (w ∷ wires) = ap suc (sent-length (q + 1) sends wires)
-
-pub sent-long : (steps : List NodeStep) (rows : List (List Wire)) → map length (all_wires_after_sends steps rows) ≡ map length rows
-sent-long (s ∷ steps) (r ∷ rows) =
-    ap (λ n. n ∷ map length (all_wires_after_sends steps rows)) (sent-length 0 s.sends r) ∙ ap (λ ns. length r ∷ ns) (sent-long steps rows)
-sent-long steps rows = refl
 
 -- ---- its lists, as vectors keep them
 
@@ -168,6 +140,3 @@ pub held-is :
 held-is rows end turns row new h at made =
     ap (slice_set rows end.node)
     (made ∙ ap (λ r. slice_set r end.port (record (slice_index_or r end.port empty_wire) { held = turns })) (at ∙ get_or_default rows end.node row [] h))
-
-pub put-long : (rows : List (List Wire)) (end : End) (v : Wire) → map length (put end v rows) ≡ map length rows
-put-long rows end v = map-set_same length rows end.node (slice_set (slice_index_or rows end.node []) end.port v) [] (length-set (slice_index_or rows end.node []) end.port v)

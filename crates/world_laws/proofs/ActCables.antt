@@ -2,8 +2,7 @@
 use Rattle.std.proofs.Common.{◌≡◌, ◌≢◌, Some, None, sym, ◌∙◌, ap}
 use Rattle.cabling.specs.declared.cable.End.{End}
 use Rattle.cabling.specs.Wiring.{Wiring, far}
-use Rattle.cabling.proofs.Ends.{none_some, one_other}
-use Rattle.cabling.proofs.Plugging.{Pluggable, pluggable}
+use Rattle.cabling.proofs.Lemmas.{none_some, one_other, Pluggable, pluggable}
 use Rattle.port_state.specs.Config.{config_packet}
 use Rattle.port_state.specs.Machine.{node_disturb, node_plugged, node_pulled, node_set_config}
 use Rattle.cable_world.specs.declared.act.Act.{Act}
@@ -11,9 +10,7 @@ use Rattle.cable_world.specs.declared.act.Act.TheVariants.{Plug, Pull, Reset, Co
 use Rattle.cable_world.specs.World.{CableWorld}
 use Rattle.cable_world.specs.Act.{with_step, add_cable, remove_cable, plug, pull_from, reset, change_in_set, note_changes, ActLeads, act_fault}
 use Rattle.cable_world.specs.Lawful.{IsWellFormed}
-use Rattle.cable_world.proofs.acts.Cabled.{with_cable, without_cable, plug-cabled, pull-cabled}
-use Rattle.cable_world.proofs.tables.TablesInActs.{has-cable}
-use Rattle.cable_world.proofs.tables.TablesInSteps.{step-cables}
+use Rattle.cable_world.proofs.Lemmas.{with_cable, without_cable, plug-cabled, pull-cabled, has-cable, step-cables}
 
 -- ---- the cables after each act
 

@@ -6,8 +6,7 @@ use Rattle.cabling.specs.Wiring.{Wiring, far, ports_of}
 use Rattle.cabling.specs.NodeSet.{Holds}
 use Rattle.cabling.specs.Component.{IsComponent}
 use Rattle.cabling.specs.Change.{SameBut, Added, TakenOut, plug_fault}
-use Rattle.cabling.proofs.Ends.{cases_end, same_ports, added_by_writes, taken_by_writes, none_some}
-use Rattle.cabling.proofs.Plugging.{Pluggable, pluggable}
+use Rattle.cabling.proofs.Lemmas.{cases_end, same_ports, added_by_writes, taken_by_writes, none_some, Pluggable, pluggable}
 use Rattle.port_state.specs.declared.signal.Signal.TheVariants as signal
 use Rattle.port_state.specs.Config.{ConfigPacket, config_packet}
 use Rattle.port_state.specs.Machine.{PortNode, NodeStep, node_disturb, node_plugged, node_pulled, node_set_config}
@@ -16,11 +15,7 @@ use Rattle.cable_world.specs.Wire.{Wire, empty_wire, add_signals}
 use Rattle.cable_world.specs.World.{CableWorld, wire_of, put}
 use Rattle.cable_world.specs.Act.{with_step, plug, pull_from, reset, change_in_set, configure, note_changes}
 use Rattle.cable_world.specs.Lawful.{IsWellFormed}
-use Rattle.cable_world.proofs.acts.Cabled.{Cabled, with_cable, without_cable, plug-cabled, pull-cabled}
-use Rattle.cable_world.proofs.acts.ResettingSteps.{Resets as Resetting, resets-disturb, resets-plugged, resets-pulled, other_than, Untouched, untouched, same-wire, still-there}
-use Rattle.cable_world.proofs.tables.CableEnds.{CableEnd, cable-end}
-use Rattle.cable_world.proofs.tables.TablesInActs.{recabled, others-alone, has-wire, has-cable, plug-formed, pull-formed, reset-formed, told-formed}
-use Rattle.cable_world.proofs.tables.TablesInSteps.{HasEntry, put-same, put-other, put-lengths, step-cables}
+use Rattle.cable_world.proofs.Lemmas.{Cabled, with_cable, without_cable, plug-cabled, pull-cabled, Resets as Resetting, resets-disturb, resets-plugged, resets-pulled, other_than, Untouched, untouched, same-wire, still-there, CableEnd, cable-end, recabled, others-alone, has-wire, has-cable, plug-formed, pull-formed, reset-formed, told-formed, HasEntry, put-same, put-other, put-lengths, step-cables}
 use Rattle.world_laws.specs.ByNumber.{BeginsReset, Stands, Plugs, Pulls, Resets, Configures, ActsByNumber}
 use Rattle.world_laws.proofs.ActCables.{plug-cables, pull-cables, pulled-from}
 use Rattle.world_laws.proofs.NodeByNumber.{stepped-node, stepped-wire, changed-member, unchanged-other, same-change}

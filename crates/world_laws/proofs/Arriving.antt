@@ -16,15 +16,7 @@ use Rattle.cable_world.specs.Act.{ActLeads, IsAct, act_fault, hold, hold_fault}
 use Rattle.cable_world.specs.Run.{Event, acts, holds, turns, Happens, Runs}
 use Rattle.cable_world.specs.Signals.{signals_of}
 use Rattle.cable_world.specs.Lawful.{AgesFall, IsWellFormed}
-use Rattle.cable_world.proofs.StaysLawful.{reached-lawful}
-use Rattle.cable_world.proofs.acts.Happenings.{Acting, acting, hold-signals}
-use Rattle.cable_world.proofs.coupling.Streams.{signals-append, signals-sent, signals-older}
-use Rattle.cable_world.proofs.tables.CableEnds.{CableEnd, cable-end}
-use Rattle.cable_world.proofs.tables.CountsInActs.{act-keeps}
-use Rattle.cable_world.proofs.tables.TablesInActs.{act-formed, hold-formed}
-use Rattle.cable_world.proofs.tables.TablesInTurns.{turn-formed}
-use Rattle.cable_world.proofs.turns.ByNumber.{wire-after, cabling-after, delay-after}
-use Rattle.cable_world.proofs.turns.TurnParts.{comes}
+use Rattle.cable_world.proofs.Lemmas.{reached-lawful, Acting, acting, hold-signals, signals-append, signals-sent, signals-older, CableEnd, cable-end, act-keeps, act-formed, hold-formed, turn-formed, wire-after, cabling-after, delay-after, comes}
 use Rattle.outcomes.specs.Settled.{turn_count}
 use Rattle.world_laws.proofs.ActCables.{act-cable}
 use Rattle.world_laws.specs.Arrival.{heard_at, heard_in, CablesStay, SignalsArrive, SignalsKeepTheirOrder}

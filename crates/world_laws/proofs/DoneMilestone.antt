@@ -2,7 +2,6 @@
 -- later.
 use Rattle.std.proofs.Common.{◌≡◌, inl, inr, ℕ, zero, suc, ◌+◌, ◌-◌, ◌*◌, ◌<◌, ◌≤◌, Bool, true, false, not, ◌&&◌, ◌||◌, Option, Some, None, is_some, slice_get, refl, sym, ◌∙◌, ap, subst, arith, true≢false}
 use Rattle.port_state.specs.declared.signal.Phase.{Phase}
-use Rattle.port_state.specs.declared.signal.Phase.TheVariants as phase
 use Rattle.port_state.specs.declared.ports.PortView.{PortView}
 use Rattle.port_state.specs.declared.states.NodeState.{NodeState}
 use Rattle.port_state.specs.declared.timing.Timing.{Timing}
@@ -14,29 +13,18 @@ use Rattle.port_state.specs.Machine.{PortNode}
 use Rattle.port_state.specs.Valid.{IsValid}
 use Rattle.cabling.specs.declared.cable.End.{End}
 use Rattle.cabling.specs.Wiring.{Wiring, far}
-use Rattle.cabling.proofs.Near.{end_at}
+use Rattle.cabling.proofs.Lemmas.{end_at}
 use Rattle.cable_world.specs.World.{CableWorld, wire_of}
 use Rattle.cable_world.specs.Turn.{turn_at, turn, hear_all}
 use Rattle.cable_world.specs.Agreement.{level_sent, level_shown, shown_or_idle, leads_down, level_sent_at}
 use Rattle.cable_world.specs.Phases.{is_before_tree, is_after_hold, is_in_bus_reset, is_shaking}
 use Rattle.cable_world.specs.Coupling.{is_asking, Coupling}
 use Rattle.cable_world.specs.Lawful.{IsLawful}
-use Rattle.cable_world.proofs.turns.ByNumber.{node-after}
-use Rattle.cable_world.proofs.Options.{some-same}
-use Rattle.cable_world.proofs.coupling.CouplingInTurns.{before, hears}
-use Rattle.cable_world.proofs.resets.Entries.{in-turn, hold-left, steady, after-delay}
+use Rattle.cable_world.proofs.Lemmas.{node-after, some-same, before, hears, in-turn, hold-left, steady, after-delay, child-if, cable-connected, late-roles, between-known, NoEntry, HearsWell, turn-state, one-quiet, quiet-then, quiet-lawful, after-cabling}
 use Rattle.world_laws.specs.DoneMilestone.{NeverEnters, EntriesEnd, NoEntryStays, DoneOnceNoneEnters}
-use Rattle.cable_world.proofs.levels.LastSent.{child-if}
-use Rattle.cable_world.proofs.tables.CableEnds.{cable-connected}
-use Rattle.cable_world.proofs.coupling.Sides.{late-roles, between-known}
-use Rattle.cable_world.proofs.turns.NodeFacts.{NoEntry, HearsWell}
-use Rattle.cable_world.proofs.turns.TurnParts.{turn-state}
 use Rattle.cable_world.specs.Quiet.{HoldSchedule, holds_after, with_holds, quiet_after}
-use Rattle.cable_world.proofs.QuietTurns.{one-quiet, quiet-then, quiet-lawful, after-cabling}
 use Rattle.convergence.specs.Milestones.{NoneIn}
-use Rattle.convergence.proofs.turns.CalmTurns.{Calmly, calmly, signals, heard_by, waiting-before}
-use Rattle.convergence.proofs.turns.BeforeTree.{waits-for, every-from}
-use Rattle.convergence.proofs.turns.Flush.{Tells, Shown, flush}
+use Rattle.convergence.proofs.Lemmas.{Calmly, calmly, signals, heard_by, waiting-before, waits-for, every-from, Tells, Shown, flush, only-wait}
 
 -- ---- holds end
 
@@ -138,9 +126,6 @@ calm-told y q v on past early = go (is_before_tree y.view.phase) refl
     go : (b : Bool) → is_before_tree y.view.phase ≡ b → is_calm (level_sent_at y q) ≡ true
     go true e = first y.view.phase (leads_down y.view.ports q) past e
     go false e = second y.view.phase (leads_down y.view.ports q) (is_port y.view.parent q) e (child-if y.view.parent y.view.ports q (late-roles y v e) on) early
-
-only-wait : (p : Phase) → is_in_bus_reset p ≡ true → is_resetting p ≡ false → p ≡ phase.ResetWait
-only-wait p h g = grind arith
 
 wait-between :
     (p : Phase) → is_in_bus_reset p ≡ true → is_resetting p ≡ false → is_after_hold p ≡ true

@@ -4,7 +4,7 @@ use Rattle.std.proofs.lemmas.Bool.{cases_eq}
 use Rattle.std.proofs.lemmas.Option.{slice_get_cases, slice_get_within}
 use Rattle.cabling.specs.NodeSet.{Holds}
 use Rattle.cabling.specs.Component.{IsComponent}
-use Rattle.cabling.proofs.Whole.{shared}
+use Rattle.cabling.proofs.Lemmas.{shared}
 use Rattle.port_state.specs.declared.signal.Phase.TheVariants.{ResetStart, ResetWait}
 use Rattle.port_state.specs.declared.states.NodeState.{NodeState}
 use Rattle.port_state.specs.Config.{ConfigPacket}
@@ -16,20 +16,11 @@ use Rattle.cable_world.specs.Run.{Event, acts, holds, turns, Happens, Runs, IsRe
 use Rattle.cable_world.specs.Lawful.{IsLawful, IsWellFormed}
 use Rattle.cable_world.specs.Phases.{is_in_bus_reset}
 use Rattle.cable_world.specs.Fresh.{IsFresh}
-use Rattle.cable_world.proofs.Options.{some-of, some-at, some-same}
-use Rattle.cable_world.proofs.StaysLawful.{reached-lawful}
-use Rattle.cable_world.proofs.StaysReached.{power-on-reached, turn-reached, hold-reached, act-reached}
-use Rattle.cable_world.proofs.acts.Happenings.{Acting, acting}
-use Rattle.cable_world.proofs.acts.ResettingSteps.{HasBegun}
-use Rattle.cable_world.proofs.tables.CountsInActs.{act-keeps}
-use Rattle.cable_world.proofs.tables.TablesInActs.{as_before, altered, was}
+use Rattle.cable_world.proofs.Lemmas.{some-of, some-at, some-same, reached-lawful, power-on-reached, turn-reached, hold-reached, act-reached, Acting, acting, HasBegun, act-keeps, as_before, altered, was, quiet-reached}
 use Rattle.outcomes.specs.Forced.{IsForced, WaitsAlone}
 use Rattle.outcomes.specs.Settled.{turn_count}
-use Rattle.outcomes.proofs.settled.Beginnings.{nodes-there}
-use Rattle.outcomes.proofs.settled.ForcedOutcome.{forced-outcome}
-use Rattle.outcomes.proofs.settled.QuietTurns.{done-at-last}
+use Rattle.outcomes.proofs.Lemmas.{nodes-there, forced-outcome, done-at-last}
 use Rattle.cable_world.specs.Quiet.{quiet_after}
-use Rattle.cable_world.proofs.QuietTurns.{quiet-reached}
 use Rattle.world_laws.specs.Freshness.{IsTouchedIn, PowerOnIsFresh, ActsMakeFresh, ActsMakeFreshOnceSettled, HasOneWaiting, FreshRootsSettle, FirstRootsSettle}
 use Rattle.world_laws.proofs.SmallSets.{small-set}
 use Rattle.world_laws.proofs.Touched.{Begun, touched-begun}

@@ -9,7 +9,7 @@ use Rattle.cable_world.specs.declared.act.Act.TheVariants.{Plug, Pull, Reset, Co
 use Rattle.cable_world.specs.World.{CableWorld}
 use Rattle.cable_world.specs.Turn.{same_list, last_changes, turn}
 use Rattle.cable_world.specs.Act.{plug, pull, reset, configure, note_changes}
-use Rattle.cable_world.proofs.Options.{some-same}
+use Rattle.cable_world.proofs.Lemmas.{some-same}
 use Rattle.world_laws.specs.LastChanges.{NoteChanges, TurnsNoteChanges, ActsNoteChanges}
 
 -- ---- lists that compare equal

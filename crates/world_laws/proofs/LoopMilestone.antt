@@ -3,18 +3,13 @@ use Rattle.std.proofs.Common.{ℕ, zero, suc}
 use Rattle.cable_world.specs.World.{CableWorld}
 use Rattle.cable_world.specs.Quiet.{HoldSchedule, quiet_after}
 use Rattle.cable_world.specs.Lawful.{IsLawful}
-use Rattle.cable_world.proofs.StaysLawful.{reached-lawful}
-use Rattle.cable_world.proofs.QuietTurns.{quiet-lawful}
+use Rattle.cable_world.proofs.Lemmas.{reached-lawful, quiet-lawful}
 use Rattle.convergence.specs.Acyclic.{IsAcyclic}
 use Rattle.convergence.specs.Milestones.{ResetsAreDone, ResetsAreOver}
-use Rattle.convergence.proofs.AfterTurns.{reported-after}
-use Rattle.convergence.proofs.ranks.StaysAcyclic.{reached-acyclic, quiet-acyclic}
-use Rattle.convergence.proofs.resets.ResetsDone.{done-over}
+use Rattle.convergence.proofs.Lemmas.{reported-after, reached-acyclic, quiet-acyclic, done-over, turn-done}
 use Rattle.outcomes.specs.Identify.{IsIdentifying}
-use Rattle.outcomes.proofs.identify.StaysIdentifying.{reached-identifying, quiet-identifying}
-use Rattle.outcomes.proofs.settled.Unnamed.{shows-unnamed, loop-outcome}
+use Rattle.outcomes.proofs.Lemmas.{reached-identifying, quiet-identifying, shows-unnamed, loop-outcome}
 use Rattle.world_laws.specs.LoopMilestone.{LoopsComeOutOnceDone, LoopsComeOutByThen}
-use Rattle.convergence.proofs.turns.CalmTurns.{turn-done}
 
 -- quiet turns keep resets done
 pub quiet-done :

@@ -15,12 +15,7 @@ use Rattle.cable_world.specs.Wire.{Wire, empty_wire, add_signals}
 use Rattle.cable_world.specs.World.{CableWorld, wire_of}
 use Rattle.cable_world.specs.Turn.{wires_after_sends, same_list, last_changes}
 use Rattle.cable_world.specs.Act.{put_step, step_at, with_step, change_in_set}
-use Rattle.cable_world.proofs.Options.{some-same, none-some}
-use Rattle.cable_world.proofs.acts.ResettingSteps.{Resets as Resetting}
-use Rattle.cable_world.proofs.running.Acting.{same-itself}
-use Rattle.cable_world.proofs.tables.CableEnds.{CableEnd}
-use Rattle.cable_world.proofs.tables.TablesInSteps.{replaced, sent-length}
-use Rattle.cable_world.proofs.turns.ByNumber.{sent-at}
+use Rattle.cable_world.proofs.Lemmas.{some-same, none-some, Resets as Resetting, same-itself, CableEnd, replaced, sent-length, sent-at}
 
 -- ---- the node that steps
 

@@ -3,21 +3,16 @@ use Rattle.std.proofs.Common.{◌≡◌, inl, inr, true, Some, slice_get, sym, �
 use Rattle.std.proofs.lemmas.Bool.{cases_eq}
 use Rattle.cabling.specs.declared.cable.End.{End}
 use Rattle.cabling.specs.Wiring.{far}
-use Rattle.cabling.proofs.Ends.{same_end, one_other}
+use Rattle.cabling.proofs.Lemmas.{same_end, one_other}
 use Rattle.port_state.specs.Ports.{is_port}
 use Rattle.port_state.specs.Machine.{PortNode}
 use Rattle.cable_world.specs.World.{CableWorld}
 use Rattle.cable_world.specs.Quiet.{quiet_after}
 use Rattle.cable_world.specs.Lawful.{IsLawful}
-use Rattle.cable_world.proofs.Options.{some-same}
-use Rattle.cable_world.proofs.QuietTurns.{quiet-lawful}
-use Rattle.cable_world.proofs.StaysLawful.{reached-lawful}
+use Rattle.cable_world.proofs.Lemmas.{some-same, quiet-lawful, reached-lawful}
 use Rattle.convergence.specs.Milestones.{ResetsAreOver}
 use Rattle.convergence.specs.Rivals.{IsContested}
-use Rattle.convergence.proofs.coins.Drawers.{pair-only, pair-no-root}
-use Rattle.convergence.proofs.coins.StaysContested.{reached-contested, quiet-contested}
-use Rattle.convergence.proofs.resets.ResetsOver.{resets-over}
-use Rattle.convergence.proofs.turns.PortFacts.{same-port}
+use Rattle.convergence.proofs.Lemmas.{pair-only, pair-no-root, reached-contested, quiet-contested, resets-over, same-port}
 use Rattle.world_laws.specs.OnePair.{RivalsAreOne, RivalsAreAlone, RivalsStayAlone, RivalsAreAloneByThen}
 
 -- a node has one parent port

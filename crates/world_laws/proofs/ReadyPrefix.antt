@@ -3,11 +3,11 @@ use Rattle.std.proofs.Common.{◌≡◌, ℕ, Bool, true, false, Option, Some, N
 use Rattle.cabling.specs.declared.cable.End.{End}
 use Rattle.cabling.specs.NodeSet.{Holds}
 use Rattle.topology_stack.specs.Tree.{Tree}
-use Rattle.cabling.proofs.Near.{end_at}
+use Rattle.cabling.proofs.Lemmas.{end_at}
 use Rattle.port_state.specs.Machine.{PortNode}
 use Rattle.cable_world.specs.World.{CableWorld, wire_of}
 use Rattle.cable_world.specs.Signals.{signals_of}
-use Rattle.cable_world.proofs.Options.{some-same}
+use Rattle.cable_world.proofs.Lemmas.{some-same}
 use Rattle.convergence.specs.Acyclic.{IsChildCable}
 use Rattle.outcomes.specs.Identify.{Lined}
 use Rattle.outcomes.specs.InTurn.{InTurn, ReadyFirst}

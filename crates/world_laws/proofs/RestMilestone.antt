@@ -6,34 +6,19 @@ use Rattle.cabling.specs.NodeSet.{Holds, IsEmpty}
 use Rattle.cabling.specs.Component.{IsComponent}
 use Rattle.cabling.specs.Looped.{IsCore}
 use Rattle.cabling.specs.Sees.{numbers}
-use Rattle.cabling.proofs.Ends.{plugged}
-use Rattle.cabling.proofs.Whole.{shared}
+use Rattle.cabling.proofs.Lemmas.{plugged, shared}
 use Rattle.cable_world.specs.World.{CableWorld}
 use Rattle.cable_world.specs.Quiet.{HoldSchedule, holds_after, quiet_after}
 use Rattle.cable_world.specs.Lawful.{IsLawful}
 use Rattle.cable_world.specs.Outcome.{IsTree}
-use Rattle.cable_world.proofs.QuietTurns.{quiet-then, quiet-lawful, quiet-reached, after-cabling}
-use Rattle.cable_world.proofs.StaysLawful.{reached-lawful}
+use Rattle.cable_world.proofs.Lemmas.{quiet-then, quiet-lawful, quiet-reached, after-cabling, reached-lawful}
 use Rattle.convergence.specs.Kept.{IsGrown}
 use Rattle.convergence.specs.Milestones.{AreIdentifying, HasContention}
-use Rattle.convergence.proofs.AfterTurns.{taken-reached, decided-reached, start-grown}
-use Rattle.convergence.proofs.rounds.IdentifyOrContend.{grown-of}
-use Rattle.convergence.proofs.rounds.ThirtyThreeRounds.{contention-after}
+use Rattle.convergence.proofs.Lemmas.{taken-reached, decided-reached, start-grown, grown-of, contention-after}
 use Rattle.outcomes.specs.Numbered.{Settles, IsAtRest}
-use Rattle.outcomes.proofs.numbers.Spreads.{tree-soon}
-use Rattle.outcomes.proofs.settled.Numbering.{reached-numbering, quiet-numbering}
-use Rattle.outcomes.proofs.settled.TreesStay.{tree-rests}
+use Rattle.outcomes.proofs.Lemmas.{tree-soon, reached-numbering, quiet-numbering, tree-rests, room-to-rest}
 use Rattle.world_laws.specs.RestMilestone.{IsDecided, TreesRestOnceDecided, TreesRestByThen}
 use Rattle.world_laws.proofs.SmallSets.{small-component}
-
--- five times as many as there are nodes, times d
-room-to-rest : (len d : ℕ) → len ≤ 63 → 5 * len * d ≤ 315 * d
-room-to-rest len d few =
-    let r : ℕ = 63 - len in
-    let z : 63 ≡ len + r = omega (arith, few) in
-    let p : 5 * (len + r) * d ≡ 5 * len * d + 5 * r * d = grind arith in
-    let q : 5 * 63 * d ≡ 315 * d = grind arith in
-    omega (arith, p, q, ap (λ (m : ℕ). 5 * m * d) z)
 
 module _
     (hs : HoldSchedule) (w : CableWorld) (j k : ℕ) (is : IsDecided hs w k)

@@ -1,15 +1,12 @@
 -- A seen tree is a bus tree: it is no larger than a bus, since the nodes of a component are few.
 use Rattle.std.proofs.Common.{ℕ, ◌≤◌, length}
 use Rattle.topology_stack.specs.Tree.{Label}
-use Rattle.topology_stack.proofs.Laws.{one_tree}
+use Rattle.topology_stack.proofs.Lemmas.{one_tree}
 use Rattle.self_id.specs.declared.standard.Standard.TheVariants.{Ieee2000}
 use Rattle.cabling.specs.Existence.{HasComponent}
 use Rattle.cabling.specs.Labels.{labels}
 use Rattle.cabling.specs.Sees.{numbers}
-use Rattle.cabling.proofs.Existing.{component_exists}
-use Rattle.cabling.proofs.Shown.{bus_seen, labels_fit}
-use Rattle.cabling.proofs.Small.{tree_few}
-use Rattle.cabling.proofs.Whole.{seen_loopless}
+use Rattle.cabling.proofs.Lemmas.{component_exists, bus_seen, labels_fit, tree_few, seen_loopless}
 use Rattle.world_laws.specs.SeenTrees.{SeenTreesAreBusTrees, SeenListsHaveOneTree}
 
 pub seen-bus : SeenTreesAreBusTrees

@@ -8,12 +8,12 @@ use Rattle.std.proofs.lemmas.Option.{slice_get_within, slice_get_cases, slice_ge
 use Rattle.self_id.specs.declared.node.PortStatus.{PortStatus}
 use Rattle.self_id.specs.declared.standard.Standard.TheVariants.{Ieee2000}
 use Rattle.self_id.specs.Node.{Node, HasForm, ups, is_width, is_width_of, node_with, kept_a_bits, kept_b_bits, blank_b_bits}
-use Rattle.topology_stack.proofs.Laws.{are_nodes}
+use Rattle.topology_stack.proofs.Lemmas.{are_nodes}
 use Rattle.topology_stack.specs.Tree.{Label, Tree, branch, Slots, no_more, absent, unplugged, up, down, statuses, node_of, walk, walk_below, IsPart, AreParts, IsWhole, AreOf, IsBusTreeOf}
 use Rattle.cabling.specs.declared.cable.End.{End}
 use Rattle.cabling.specs.Labels.{no_attrs}
-use Rattle.cabling.proofs.Ends.{same_end}
-use Rattle.cable_world.proofs.Options.{some-same}
+use Rattle.cabling.proofs.Lemmas.{same_end}
+use Rattle.cable_world.proofs.Lemmas.{some-same}
 use Rattle.world_laws.specs.SlotCabling.{Place, no_port, no_cable, cable_to, SlotWiring, Leads, HasRoomFor, SeesSlots, SeesRow, EachBusTreeIsCabled}
 
 -- ---- the cabling of a tree

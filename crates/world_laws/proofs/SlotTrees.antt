@@ -12,14 +12,8 @@ use Rattle.cabling.specs.declared.cable.End.{End}
 use Rattle.cabling.specs.Wiring.{Wiring, ports_of, far, IsCabling}
 use Rattle.cabling.specs.Existence.{HasComponent}
 use Rattle.cabling.specs.Sees.{Sees, SeesFrom, numbers}
-use Rattle.cabling.specs.codings.Shown.{shown_node}
-use Rattle.cabling.specs.codings.Visits.{visits, at_root}
-use Rattle.cabling.proofs.Existing.{component_exists}
-use Rattle.cabling.proofs.Shown.{walk_seen}
-use Rattle.cabling.proofs.Waiting.{length-visits}
-use Rattle.cabling.proofs.Small.{tree_few}
-use Rattle.cabling.proofs.Whole.{seen_loopless}
-use Rattle.cable_world.proofs.Options.{some-same}
+use Rattle.cabling.proofs.Lemmas.{shown_node, visits, at_root, component_exists, walk_seen, length-visits, tree_few, seen_loopless}
+use Rattle.cable_world.proofs.Lemmas.{some-same}
 use Rattle.world_laws.specs.SlotCabling.{Place, no_port, no_cable, cable_to, SlotWiring, Leads, IsSlotCabling, AreLabels, SeesSlots, SeesRow, CablesTree, IsEmitted, CabledTreesAreBusTrees, AcceptedListsAreEmitted}
 use Rattle.world_laws.proofs.SlotCabling.{Has, has-tail, has-head, has-itself, cabled}
 

@@ -8,8 +8,7 @@ use Rattle.cabling.specs.NodeSet.{Holds}
 use Rattle.cabling.specs.Wiring.{Wiring, IsCabling}
 use Rattle.cabling.specs.Component.{IsComponent}
 use Rattle.cabling.specs.Existence.{HasComponent}
-use Rattle.cabling.proofs.Bits.{clear_bit}
-use Rattle.cabling.proofs.Existing.{component_exists}
+use Rattle.cabling.proofs.Lemmas.{clear_bit, component_exists}
 
 -- a number all of whose bits are below k is below 2 ^ k
 pub small-set : (set k : ℕ) → ((i : ℕ) → Holds set i → i < k) → set < 2 ^ k

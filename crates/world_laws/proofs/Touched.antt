@@ -1,15 +1,12 @@
 -- The nodes that an act resets, and the components that it leaves alone.
 use Rattle.std.proofs.Common.{◌≡◌, inl, inr, ℕ, ◌^◌, ◌<◌, Bool, true, false, Some, None, length, nat_lt, slice_get, if◌then◌else◌, refl, sym, ◌∙◌, ap, subst, arith}
-use Rattle.std.proofs.lemmas.Bool.Decides.{nat_tests}
 use Rattle.std.proofs.lemmas.Option.{slice_get_cases, slice_get_within}
 use Rattle.cabling.specs.declared.cable.End.{End}
 use Rattle.cabling.specs.declared.cable.CableFault.{CableFault}
 use Rattle.cabling.specs.Wiring.{Wiring, far}
 use Rattle.cabling.specs.NodeSet.{Holds}
 use Rattle.cabling.specs.Component.{IsComponent}
-use Rattle.cabling.proofs.Ends.{one_other, plugged as has-end}
-use Rattle.cabling.proofs.Plugging.{Pluggable, pluggable, other_there}
-use Rattle.cabling.proofs.Whole.{shared}
+use Rattle.cabling.proofs.Lemmas.{one_other, plugged as has-end, Pluggable, pluggable, other_there, shared, less as less-of}
 use Rattle.port_state.specs.declared.signal.Phase.TheVariants.{ResetStart}
 use Rattle.port_state.specs.Config.{config_packet}
 use Rattle.port_state.specs.Machine.{PortNode, NodeStep, node_disturb, node_plugged, node_pulled, node_set_config}
@@ -18,17 +15,9 @@ use Rattle.cable_world.specs.declared.act.Act.TheVariants.{Plug, Pull, Reset, Co
 use Rattle.cable_world.specs.World.{CableWorld}
 use Rattle.cable_world.specs.Act.{ActLeads, IsAct, act_fault, node_fault}
 use Rattle.cable_world.specs.Lawful.{IsLawful, IsWellFormed}
-use Rattle.cable_world.proofs.Options.{some-of, some-at}
-use Rattle.cable_world.proofs.StaysLawful.{reached-lawful, act-lawful}
-use Rattle.cable_world.proofs.acts.ResettingSteps.{HasBegun, resets-disturb, resets-plugged, resets-pulled}
-use Rattle.cable_world.proofs.tables.CountsInActs.{act-keeps}
-use Rattle.cable_world.proofs.tables.TablesInActs.{has-cable}
+use Rattle.cable_world.proofs.Lemmas.{some-of, some-at, reached-lawful, act-lawful, HasBegun, resets-disturb, resets-plugged, resets-pulled, act-keeps, has-cable}
 use Rattle.convergence.specs.Milestones.{AreIdentifying}
-use Rattle.outcomes.proofs.identify.MarksKept.{ready-hears}
-use Rattle.outcomes.proofs.settled.Elsewhere.{same-component}
-use Rattle.outcomes.proofs.settled.Numbering.{reached-numbering}
-use Rattle.outcomes.proofs.settled.Outcomes.{tree-ready}
-use Rattle.outcomes.proofs.settled.TreesStay.{act-tree}
+use Rattle.outcomes.proofs.Lemmas.{ready-hears, same-component, reached-numbering, tree-ready, act-tree}
 use Rattle.world_laws.specs.ByNumber.{BeginsReset, Stands, Changes}
 use Rattle.world_laws.specs.Touched.{Touches, IsUntouched, TouchedNodesReset, ActsTouchTheirComponent, UntouchedComponentsStay, UntouchedTreesStay}
 use Rattle.world_laws.proofs.ActsByNumber.{acts-by-number}
@@ -42,9 +31,6 @@ node-there w k f less = elim (slice_get_cases w.nodes k).1 [
   | inl found ↦ (found.0, found.2)
   | inr lacks ↦ absurd (omega (arith, lacks.0, less, f.count))
 ]
-
-less-of : (a b : ℕ) → nat_lt a b ≡ true → a < b
-less-of a b e = grind (arith, nat_tests)
 
 no-fault :
     (b : Bool) (f : CableFault) → (if b then None else Some f) ≡ None → b ≡ true

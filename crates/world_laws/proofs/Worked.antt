@@ -12,7 +12,7 @@ use Rattle.port_state.specs.Coins.{coins_of_bits}
 use Rattle.port_state.specs.Timing.{InRange, usual_timing}
 use Rattle.port_state.specs.Tick.{tick}
 use Rattle.port_state.specs.Machine.{PortNode}
-use Rattle.port_state.proofs.Laws.{valid-power_on}
+use Rattle.port_state.proofs.Lemmas.{valid-power_on}
 use Rattle.cabling.specs.declared.cable.End.{End}
 use Rattle.cabling.specs.Wiring.{Wiring, far}
 use Rattle.cabling.specs.NodeSet.{Holds}
@@ -25,9 +25,7 @@ use Rattle.cable_world.specs.Act.{hold}
 use Rattle.cable_world.specs.Quiet.{no_holds, quiet_after}
 use Rattle.cable_world.specs.Run.{Event, acts, turns, Runs, quiet_turns}
 use Rattle.cable_world.specs.Outcome.{Shows, IsTree}
-use Rattle.cable_world.proofs.Options.{some-same}
-use Rattle.cable_world.proofs.worked.Settled.{each-held, no-core, no-loop}
-use Rattle.cable_world.proofs.worked.Summary.{attrs, at, after_plug, after_pull}
+use Rattle.cable_world.proofs.Lemmas.{some-same, each-held, no-core, no-loop, attrs, at, after_plug, after_pull}
 use Rattle.outcomes.specs.Forced.{waits_due}
 use Rattle.world_laws.specs.Arrival.{heard_in}
 use Rattle.world_laws.specs.Freshness.{RunsAtOnce, HasOneWaiting}

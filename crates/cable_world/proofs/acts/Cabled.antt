@@ -3,8 +3,7 @@ use Rattle.std.proofs.Common.{◌≡◌, ◌≢◌, Some, None}
 use Rattle.cabling.specs.declared.cable.End.{End}
 use Rattle.cabling.specs.Wiring.{Wiring, IsCabling, HasEnd, far}
 use Rattle.cabling.specs.Change.{SameBut, Added, TakenOut, plug_fault}
-use Rattle.cabling.proofs.Ends.{one_other, none_some, added_by_writes, taken_by_writes, plugged as has-end}
-use Rattle.cabling.proofs.Plugging.{Pluggable, pluggable, other_there}
+use Rattle.cabling.proofs.Lemmas.{one_other, none_some, added_by_writes, taken_by_writes, plugged as has-end, Pluggable, pluggable, other_there}
 use Rattle.cable_world.specs.World.{put}
 
 -- A cable is put at two ends, or taken there, and both nodes reset the bus. No other cable has one

@@ -5,7 +5,7 @@ use Rattle.std.proofs.lemmas.Option.{slice_get_within}
 use Rattle.cabling.specs.declared.cable.End.{End}
 use Rattle.cabling.specs.Wiring.{Wiring, far}
 use Rattle.cabling.specs.Change.{plug_fault}
-use Rattle.cabling.proofs.Ends.{same_end}
+use Rattle.cabling.proofs.Lemmas.{same_end, cases_end, plugged as has-end}
 use Rattle.port_state.specs.declared.signal.Signal.TheVariants as signal
 use Rattle.port_state.specs.Config.{ConfigPacket, config_packet}
 use Rattle.port_state.specs.Machine.{PortNode, NodeStep, node_disturb, node_plugged, node_pulled, node_set_config}
@@ -19,7 +19,6 @@ use Rattle.cable_world.proofs.levels.LastHeard.{shown_if_there}
 use Rattle.cable_world.proofs.Options.{some-same, none-some}
 use Rattle.cable_world.proofs.tables.TablesInSteps.{replaced, step-cables}
 use Rattle.cable_world.proofs.tables.TablesInActs.{recabled, others-alone, plug-formed, pull-formed, reset-formed, as_before, altered, was, told-formed, hold-formed}
-use Rattle.cabling.proofs.Ends.{cases_end, plugged as has-end}
 use Rattle.cable_world.specs.Wire.{empty_wire}
 use Rattle.cable_world.proofs.acts.Cabled.{Cabled, with_cable, without_cable, plug-cabled, pull-cabled}
 use Rattle.cable_world.proofs.acts.ResettingSteps.{shown_of_node, shown_at_end, HasBegun, Resets, resets-disturb, resets-plugged, resets-pulled, other_than, Untouched, untouched, same-wire, still-there, step-reset, step-shown}

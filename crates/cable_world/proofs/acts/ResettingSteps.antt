@@ -15,7 +15,7 @@ use Rattle.port_state.specs.Ports.{is_connected}
 use Rattle.port_state.specs.Sends.{sent_on}
 use Rattle.port_state.specs.Entry.{enter, with_port}
 use Rattle.port_state.specs.Machine.{PortNode, NodeStep, with_coins, node_disturb, node_plugged, node_pulled}
-use Rattle.port_state.proofs.Laws.{on_every-port, changed-port, enter-cables}
+use Rattle.port_state.proofs.Lemmas.{on_every-port, changed-port, enter-cables}
 use Rattle.cable_world.specs.Wire.{Wire, empty_wire, new_signal, add_signals}
 use Rattle.cable_world.specs.World.{CableWorld, wire_of}
 use Rattle.cable_world.specs.Turn.{wires_after_sends}

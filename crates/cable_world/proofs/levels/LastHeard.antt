@@ -16,7 +16,7 @@ use Rattle.port_state.specs.TreeIdentify.{adopt}
 use Rattle.port_state.specs.Row as row
 use Rattle.port_state.specs.Row.{Row}
 use Rattle.port_state.specs.Tick.{raise_timer, next_row, does, tick}
-use Rattle.port_state.proofs.Laws.{map-port, changed-port}
+use Rattle.port_state.proofs.Lemmas.{map-port, changed-port}
 use Rattle.cable_world.specs.Agreement.{level_after_one, shown_or_idle, level_shown, level_after}
 use Rattle.cable_world.proofs.levels.LastSent.{only, turned, as_child}
 

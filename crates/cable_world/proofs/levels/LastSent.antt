@@ -26,8 +26,7 @@ use Rattle.port_state.specs.Row as row
 use Rattle.port_state.specs.Row.{Row}
 use Rattle.port_state.specs.Tick.{raise_timer, row_of, does, tick}
 use Rattle.port_state.specs.Valid.{HasNoRoles, HasRoles, FitsPhase, IsValid}
-use Rattle.port_state.proofs.Laws.{valid-raise_timer, on_every-port, on_others-port, notices-port, packets-port, map-port, changed-port, sent_on-append}
-use Rattle.port_state.proofs.EachPort.{port_is-changed}
+use Rattle.port_state.proofs.Lemmas.{valid-raise_timer, on_every-port, on_others-port, notices-port, packets-port, map-port, changed-port, sent_on-append, port_is-changed}
 use Rattle.cable_world.specs.Agreement.{level_sent, level_sent_at, level_after_one, level_after, leads_down}
 
 pub level_after-append :

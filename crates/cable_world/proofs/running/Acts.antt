@@ -6,7 +6,7 @@ use Rattle.std.proofs.Math.Seq.{map-set_same}
 use Rattle.cabling.specs.declared.cable.End.{End}
 use Rattle.cabling.specs.Wiring.{Wiring, HasEnd, IsCabling, far, ports_of}
 use Rattle.cabling.specs.Change.{SameBut, Added, TakenOut}
-use Rattle.cabling.proofs.Ends.{cases_end, with_far, far-same, far-other, still_end, same_but, same_length, same_ports, plugged}
+use Rattle.cabling.proofs.Lemmas.{cases_end, with_far, far-same, far-other, still_end, same_but, same_length, same_ports, plugged}
 use Rattle.port_state.specs.Ports.{is_connected}
 use Rattle.port_state.specs.Config.{ConfigPacket, HasSixBits}
 use Rattle.port_state.specs.Machine.{PortNode, NodeStep, node_disturb, node_plugged, node_pulled, node_set_config}

@@ -9,7 +9,7 @@ mixed k new old = take k new ++ drop k old
 pub mixed-none : {X : Type 0} → (new old : List X) → mixed 0 new old ≡ old
 mixed-none new old = refl
 
-take-all : {X : Type 0} → (k : ℕ) (xs : List X) → length xs ≤ k → take k xs ++ [] ≡ xs
+pub take-all : {X : Type 0} → (k : ℕ) (xs : List X) → length xs ≤ k → take k xs ++ [] ≡ xs
 take-all zero [] h = refl
 take-all (suc k) [] h = refl
 take-all zero (x ∷ xs) h = absurd (omega arith)

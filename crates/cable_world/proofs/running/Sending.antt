@@ -4,7 +4,7 @@ use Rattle.std.proofs.lemmas.Bool.{ne_eqb, eq-eqb}
 use Rattle.std.proofs.lemmas.List.{map-append}
 use Rattle.port_state.specs.declared.signal.Signal.{Signal}
 use Rattle.port_state.specs.Sends.{PortSignal, sent_on}
-use Rattle.port_state.proofs.Laws.{sent_on-append}
+use Rattle.port_state.proofs.Lemmas.{sent_on-append}
 use Rattle.cable_world.specs.Wire.{Wire, empty_wire, new_signal, add_signals}
 use Rattle.cable_world.specs.Turn.{wires_after_sends}
 use Rattle.cable_world.proofs.tables.Shape.{none-sent}

@@ -2,7 +2,7 @@
 use Rattle.std.proofs.Common.{◌≡◌, ℕ, zero, suc, ◌+◌, ◌<◌, ◌≤◌, ◌++◌, Bool, true, false, List, [], ◌∷◌, length, Option, Some, None, slice_set, slice_index_or, refl, sym, ◌∙◌, ap, arith}
 use Rattle.cabling.specs.declared.cable.End.{End}
 use Rattle.cabling.specs.Wiring.{Wiring, ports_of, far, IsCabling}
-use Rattle.cabling.proofs.Ends.{plugged}
+use Rattle.cabling.proofs.Lemmas.{plugged}
 use Rattle.cable_world.specs.running.Hearing.{Arriving, on_one, arriving_from, inbox_of}
 use Rattle.cable_world.specs.running.Spared.{IsMarked, StaysMarked, AreSpared}
 

@@ -31,7 +31,7 @@ are-counts d [] h i lt = absurd (omega arith)
 are-counts d (x ∷ nodes) h zero lt = let v = (h 0 x refl).valid in (v.bounded.some_port, v.bounded.few_ports)
 are-counts d (x ∷ nodes) h (suc i) lt = are-counts d nodes (λ k y e. h (suc k) y e) i (omega arith)
 
-rows-are : (nodes : List PortNode) →
+pub rows-are : (nodes : List PortNode) →
     map (λ count. replicate count empty_wire) (map ports nodes) ≡ map no_wires nodes
 rows-are [] = refl
 rows-are (x ∷ nodes) = ap (λ rows. no_wires x ∷ rows) (rows-are nodes)

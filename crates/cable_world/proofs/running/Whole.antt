@@ -39,7 +39,7 @@ not-spent false h = refl
 
 -- ---- what the code asks of it
 
-young-from : (most : ℕ) (ts : List Travelling) → most ≤ 15 → AgesFall most ts →
+pub young-from : (most : ℕ) (ts : List Travelling) → most ≤ 15 → AgesFall most ts →
     AllByRecursion (λ (t : Travelling). t.age < 255) ts
 young-from most [] few h = tt
 young-from most (t ∷ ts) few h = (omega (arith, h.0, few), young-from t.age ts (omega (arith, h.0, few)) h.1)

@@ -3,7 +3,7 @@ use Rattle.std.proofs.Common.{◌≡◌, inl, inr, true, false, Option, Some, No
 use Rattle.std.proofs.lemmas.Option.{slice_get_cases}
 use Rattle.cabling.specs.declared.cable.End.{End}
 use Rattle.cabling.specs.Wiring.{HasEnd, far}
-use Rattle.cabling.proofs.Ends.{plugged as has-end}
+use Rattle.cabling.proofs.Lemmas.{plugged as has-end}
 use Rattle.port_state.specs.declared.ports.PortView.{PortView}
 use Rattle.port_state.specs.declared.states.NodeState.{NodeState}
 use Rattle.port_state.specs.Ports.{PortNumber, passes, is_connected}

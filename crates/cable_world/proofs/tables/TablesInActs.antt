@@ -6,11 +6,10 @@ use Rattle.cabling.specs.declared.cable.End.{End}
 use Rattle.cabling.specs.declared.cable.CableFault.{CableFault}
 use Rattle.cabling.specs.Wiring.{Wiring, IsCabling, HasEnd, far}
 use Rattle.cabling.specs.Change.{SameBut, Added, TakenOut, has_node, has_port, plug_fault, pull_fault}
-use Rattle.cabling.proofs.Ends.{cases_end, far-other, same_length, still_end, added_by_writes, taken_by_writes, cabling_added, cabling_taken, plugged as has-end}
-use Rattle.cabling.proofs.Plugging.{Pluggable, pluggable, other_there}
+use Rattle.cabling.proofs.Lemmas.{cases_end, far-other, same_length, still_end, added_by_writes, taken_by_writes, cabling_added, cabling_taken, plugged as has-end, Pluggable, pluggable, other_there}
 use Rattle.port_state.specs.Config.{ConfigPacket, HasSixBits, config_packet}
 use Rattle.port_state.specs.Machine.{PortNode, NodeStep, node_disturb, node_plugged, node_pulled, node_set_config}
-use Rattle.port_state.proofs.Laws.{sound-disturb, sound-plugged, sound-pulled, valid-set_config, enter-cables, plugged-cables, pulled-cables}
+use Rattle.port_state.proofs.Lemmas.{sound-disturb, sound-plugged, sound-pulled, valid-set_config, enter-cables, plugged-cables, pulled-cables}
 use Rattle.cable_world.proofs.tables.CountsInActs.{in-set, act-keeps}
 use Rattle.cable_world.proofs.Options.{some-same, none-some}
 use Rattle.cable_world.proofs.tables.TablesInSteps.{HasEntry, FormedFor, Sets, cabled, formed-for, well-formed, fits-alike, put-lengths, put-same, put-other, step-cables, step-formed, setting-formed}

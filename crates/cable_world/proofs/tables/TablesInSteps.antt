@@ -8,7 +8,7 @@ use Rattle.std.proofs.Math.Seq.{map-set_same}
 use Rattle.std.proofs.Math.ListN.{get_or-map, get_or-eq_default}
 use Rattle.cabling.specs.declared.cable.End.{End}
 use Rattle.cabling.specs.Wiring.{Wiring, IsCabling, HasEnd, far, ports_of}
-use Rattle.cabling.proofs.Ends.{same_end, far-same, far-other}
+use Rattle.cabling.proofs.Lemmas.{same_end, far-same, far-other}
 use Rattle.port_state.specs.declared.signal.Signal.{Signal}
 use Rattle.port_state.specs.declared.states.NodeState.{NodeState}
 use Rattle.port_state.specs.Sound.{IsSound}

@@ -15,8 +15,7 @@ use Rattle.port_state.specs.Tick.{tick}
 use Rattle.port_state.specs.Heard.{on_signal}
 use Rattle.port_state.specs.Machine.{PortNode, NodeStep}
 use Rattle.port_state.specs.Coins.{coin}
-use Rattle.port_state.proofs.Laws.{sound-tick, sound-on_signal, tick-cables, signal-cables}
-use Rattle.port_state.proofs.Sent.{on-append}
+use Rattle.port_state.proofs.Lemmas.{sound-tick, sound-on_signal, tick-cables, signal-cables, on-append}
 use Rattle.cabling.specs.declared.cable.End.{End}
 use Rattle.cabling.specs.Wiring.{Wiring, far, ports_of}
 use Rattle.cable_world.specs.Wire.{Travelling, Wire, empty_wire, age_signal, front_is_due, stays, add_signals}

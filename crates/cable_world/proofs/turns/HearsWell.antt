@@ -15,8 +15,7 @@ use Rattle.port_state.specs.Entry.{enter, with_port}
 use Rattle.port_state.specs.Heard.{is_resetting, hears_packets, with_level, hears, has_effect, is_heard, on_signal}
 use Rattle.port_state.specs.Sound.{IsSound}
 use Rattle.port_state.specs.Valid.{IsValid}
-use Rattle.port_state.proofs.Laws.{sound-on_signal, signal-cables, on_every-port, on_others-port, sent_on-append}
-use Rattle.port_state.proofs.EachPort.{port_is-changed}
+use Rattle.port_state.proofs.Lemmas.{sound-on_signal, signal-cables, on_every-port, on_others-port, sent_on-append, port_is-changed}
 use Rattle.cable_world.specs.Signals.{is_reset, has_reset, has_no_takeback, has_no_parent_signal}
 use Rattle.cable_world.specs.Phases.{is_in_bus_reset}
 use Rattle.cable_world.specs.Agreement.{shown_or_idle, level_shown, leads_down, level_after, level_sent_at}

@@ -23,9 +23,7 @@ use Rattle.port_state.specs.Row as row
 use Rattle.port_state.specs.Row.{Row}
 use Rattle.port_state.specs.Tick.{raise_timer, row_of, does, next_row, tick}
 use Rattle.port_state.specs.Valid.{HasNoRoles, HasRoles, FitsPhase, IsValid}
-use Rattle.port_state.proofs.Laws.{valid-raise_timer, sound-tick, tick-cables, on_every-port, notices-port, packets-port, map-port, changed-port, sent_on-append}
-use Rattle.port_state.proofs.EachPort.{port_is-changed}
-use Rattle.port_state.proofs.Roles.{decided_few, left_is}
+use Rattle.port_state.proofs.Lemmas.{valid-raise_timer, sound-tick, tick-cables, on_every-port, notices-port, packets-port, map-port, changed-port, sent_on-append, port_is-changed, decided_few, left_is}
 use Rattle.cable_world.specs.Signals.{is_reset, has_reset, shows_no_notice, has_no_notice, is_no_notice, is_parent_signal, has_no_parent_signal, has_no_takeback}
 use Rattle.cable_world.specs.Phases.{is_before_tree, is_after_hold, is_in_bus_reset, is_shaking, is_contending, is_timed}
 use Rattle.cable_world.specs.Agreement.{shown_or_idle, level_shown, leads_down}

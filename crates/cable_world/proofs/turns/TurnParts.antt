@@ -8,7 +8,7 @@ use Rattle.port_state.specs.Sends.{sent_on}
 use Rattle.port_state.specs.Coins.{coin}
 use Rattle.port_state.specs.Tick as row
 use Rattle.port_state.specs.Machine.{PortNode}
-use Rattle.port_state.proofs.Laws.{sent_on-append}
+use Rattle.port_state.proofs.Lemmas.{sent_on-append}
 use Rattle.cabling.specs.declared.cable.End.{End}
 use Rattle.cabling.specs.Wiring.{far, ports_of}
 use Rattle.cable_world.specs.Wire.{Travelling, Wire, age_signal, age_wire, gives, arrives}

@@ -14,7 +14,7 @@ use Rattle.port_state.specs.Machine.{PortNode}
 use Rattle.cabling.specs.Wiring.{Wiring}
 use Rattle.cabling.specs.NodeSet.{Holds}
 use Rattle.cabling.specs.Looped.{HasTwo, IsCore}
-use Rattle.cabling.proofs.Bits.{none_of_zero}
+use Rattle.cabling.proofs.Lemmas.{none_of_zero}
 use Rattle.cable_world.specs.World.{CableWorld}
 use Rattle.cable_world.specs.Turn.{turn, turns_after}
 use Rattle.cable_world.specs.Outcome.{AtNode, attrs_now, IsTree, IsContention, Outcome, IsOutcome, IsSettled, loop, tree, contention}

@@ -8,7 +8,7 @@ use Rattle.port_state.specs.Entry.{enter}
 use Rattle.port_state.specs.Heard.{on_signal}
 use Rattle.port_state.specs.Tick.{tick}
 use Rattle.port_state.specs.Machine.{PortNode}
-use Rattle.port_state.proofs.Laws.{valid-power_on}
+use Rattle.port_state.proofs.Lemmas.{valid-power_on}
 use Rattle.cabling.specs.declared.cable.End.{End}
 use Rattle.cabling.specs.declared.cable.CableFault.TheVariants.{NoNode, InUse, NotPlugged}
 use Rattle.cable_world.specs.declared.act.Act.TheVariants.{Plug, Pull}

@@ -10,9 +10,7 @@ use Rattle.cabling.specs.NodeSet.{Holds}
 use Rattle.cabling.specs.Looped.{IsCore}
 use Rattle.cabling.specs.Labels.{labels}
 use Rattle.cabling.specs.Sees.{Sees, numbers}
-use Rattle.cabling.proofs.Bits.{none_of_zero}
-use Rattle.cabling.proofs.Once.{In}
-use Rattle.cabling.proofs.Whole.{set_of, from_set, seen_core}
+use Rattle.cabling.proofs.Lemmas.{none_of_zero, In, set_of, from_set, seen_core}
 use Rattle.cable_world.specs.World.{CableWorld}
 use Rattle.cable_world.proofs.Options.{some-and, unmapped}
 use Rattle.cable_world.proofs.worked.Summary.{Summary, summary_of}

@@ -10,7 +10,7 @@ use Rattle.port_state.specs.Timing.{InRange}
 use Rattle.port_state.specs.Tick.{raise_timer, tick}
 use Rattle.cable_world.specs.Phases.{is_before_tree}
 use Rattle.cable_world.specs.Turn.{hear_all}
-use Rattle.cable_world.proofs.turns.NodeFacts.{NoEntry, HearsWell, TicksWell}
+use Rattle.cable_world.proofs.Lemmas.{NoEntry, HearsWell, TicksWell}
 use Rattle.convergence.specs.Coins.{KnowsCoins}
 use Rattle.convergence.proofs.turns.Moves.{Drew, Fought, tick-draws, tick-contending, tick-fought, tick-late}
 

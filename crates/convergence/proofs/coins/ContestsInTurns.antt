@@ -11,11 +11,7 @@ use Rattle.cable_world.specs.Agreement.{level_sent, level_shown, leads_down, lev
 use Rattle.cable_world.specs.Phases.{is_before_tree, is_after_hold, is_shaking}
 use Rattle.cable_world.specs.Signals.{signals_of, has_reset, shows_no_notice, has_no_parent_signal}
 use Rattle.cable_world.specs.Coupling.{is_asking}
-use Rattle.cable_world.proofs.levels.LastSent.{child-if}
-use Rattle.cable_world.proofs.turns.NodeFacts.{NoEntry, risen}
-use Rattle.cable_world.proofs.coupling.Streams.{not-both, level_after-reset}
-use Rattle.cable_world.proofs.coupling.Sides.{Side, hearing, ticking, wire_after, late-roles, tree_start-known, between-known, heard_connected}
-use Rattle.cable_world.proofs.coupling.CableInTurn.{turned-round, heard_shown, after_shown, heard_low, heard_no_parent, other_heard, near_heard, no_reset_before}
+use Rattle.cable_world.proofs.Lemmas.{child-if, NoEntry, risen, not-both, level_after-reset, Side, hearing, ticking, wire_after, late-roles, tree_start-known, between-known, heard_connected, turned-round, heard_shown, after_shown, heard_low, heard_no_parent, other_heard, near_heard, no_reset_before}
 use Rattle.convergence.specs.Coins.{AddsDraw, DrewTogether}
 use Rattle.convergence.specs.Rivals.{IsAhead, AsksAgain, HasWon, IsBelow, Contests, AreAlike, AreRivals}
 use Rattle.convergence.proofs.coins.CoinsInTurns.{zero-or}

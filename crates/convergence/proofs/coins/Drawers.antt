@@ -7,9 +7,7 @@ use Rattle.cabling.specs.declared.cable.End.{End}
 use Rattle.cabling.specs.Wiring.{far}
 use Rattle.cabling.specs.NodeSet.{Holds}
 use Rattle.cabling.specs.Component.{IsComponent}
-use Rattle.cabling.proofs.Ends.{same_end, one_other}
-use Rattle.cabling.proofs.Near.{end_at}
-use Rattle.cabling.proofs.Whole.{shared}
+use Rattle.cabling.proofs.Lemmas.{same_end, one_other, end_at, shared}
 use Rattle.port_state.specs.declared.ports.PortView.{PortView}
 use Rattle.port_state.specs.declared.signal.Phase.TheVariants as phase
 use Rattle.port_state.specs.declared.states.NodeState.{NodeState}
@@ -21,13 +19,9 @@ use Rattle.cable_world.specs.Phases.{is_before_tree}
 use Rattle.cable_world.specs.Signals.{signals_of, has_reset}
 use Rattle.cable_world.specs.Agreement.{leads_down}
 use Rattle.cable_world.specs.Lawful.{FitsCables, IsLawful}
-use Rattle.cable_world.proofs.levels.LastSent.{child-if}
+use Rattle.cable_world.proofs.Lemmas.{child-if, cable-connected, some-same, late-roles, start-before_tree}
 use Rattle.convergence.specs.Cables.{AreJoined}
 use Rattle.convergence.proofs.turns.Cables.{joined-of}
-use Rattle.cable_world.proofs.tables.CableEnds.{cable-connected}
-use Rattle.cable_world.proofs.Options.{some-same}
-use Rattle.cable_world.proofs.coupling.Sides.{late-roles}
-use Rattle.cable_world.proofs.PhaseFacts.{start-before_tree}
 use Rattle.convergence.specs.Acyclic.{IsChildCable}
 use Rattle.convergence.specs.Milestones.{ResetsAreOver}
 use Rattle.convergence.specs.Roots.{IsLate, IsRoot}

@@ -16,12 +16,7 @@ use Rattle.cable_world.specs.Agreement.{level_sent, level_shown, leads_down, lev
 use Rattle.cable_world.specs.Lawful.{AgesFall}
 use Rattle.cable_world.specs.Signals.{AllAsOldAs, signals_of, has_reset}
 use Rattle.cable_world.specs.Phases.{is_before_tree, is_shaking}
-use Rattle.cable_world.proofs.levels.LastSent.{child-if}
-use Rattle.cable_world.proofs.turns.NodeFacts.{NoEntry}
-use Rattle.cable_world.proofs.coupling.Streams.{AllAsOldAs-less, nothing-left}
-use Rattle.cable_world.proofs.coupling.Sides.{Side, hearing, ticking, arrivals, late-roles, heard_timing, heard_parent}
-use Rattle.cable_world.proofs.PhaseFacts.{start-before_tree}
-use Rattle.cable_world.proofs.coupling.CableInTurn.{Pair, turned-round, heard_shown, came}
+use Rattle.cable_world.proofs.Lemmas.{child-if, NoEntry, AllAsOldAs-less, nothing-left, Side, hearing, ticking, arrivals, late-roles, heard_timing, heard_parent, start-before_tree, Pair, turned-round, heard_shown, came}
 use Rattle.convergence.specs.Coins.{last_coin, AddsDraw, DrewTogether, DrewTheSame, KnowsCoins}
 use Rattle.convergence.specs.Rivals.{Contests, AreRivals}
 use Rattle.convergence.proofs.coins.CoinsInTurns.{drawn-coin, knows-after}

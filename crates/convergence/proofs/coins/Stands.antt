@@ -13,10 +13,7 @@ use Rattle.cable_world.specs.Wire.{new_signal}
 use Rattle.cable_world.specs.Agreement.{level_sent, level_shown, leads_down, level_after, level_sent_at}
 use Rattle.cable_world.specs.Phases.{is_shaking, is_timed, slack}
 use Rattle.cable_world.specs.Signals.{signals_of, AllAsOldAs}
-use Rattle.cable_world.proofs.turns.NodeFacts.{NoEntry, risen}
-use Rattle.cable_world.proofs.coupling.Streams.{not-both, AllAsOldAs-zero, AllAsOldAs-less}
-use Rattle.cable_world.proofs.coupling.Sides.{Side, hearing, ticking, arrivals, leftovers, departures, wire_after, kept_since, same_wire}
-use Rattle.cable_world.proofs.coupling.CableInTurn.{kept_levels, heard_shown, heard_idle}
+use Rattle.cable_world.proofs.Lemmas.{NoEntry, risen, not-both, AllAsOldAs-zero, AllAsOldAs-less, Side, hearing, ticking, arrivals, leftovers, departures, wire_after, kept_since, same_wire, kept_levels, heard_shown, heard_idle}
 use Rattle.convergence.specs.Coins.{last_coin, AddsDraw, DrewTogether, DrewTheSame, KnowsCoins}
 use Rattle.convergence.specs.Rivals.{IsAhead, AsksAgain, AreAlike, HaveMet, AreApart, AreRivals}
 use Rattle.convergence.proofs.turns.Moves.{Drew, DrewNone, Shook, Waited, TookRival, AskedAgain, Fought, tick-shaken, tick-fought}

@@ -24,22 +24,10 @@ use Rattle.cable_world.specs.Lawful.{IsLawful, IsWellFormed}
 use Rattle.cable_world.specs.Phases.{is_before_tree, is_shaking}
 use Rattle.cable_world.specs.Signals.{signals_of, has_reset}
 use Rattle.cable_world.specs.Agreement.{shown_or_idle, level_shown, leads_down}
-use Rattle.cable_world.proofs.tables.AtPowerOn.{power-on-apart}
-use Rattle.cable_world.proofs.turns.ByNumber.{cabling-after, delay-after}
-use Rattle.cable_world.proofs.acts.Happenings as between
-use Rattle.cable_world.proofs.coupling.CouplingInActs.{not-leading, ends-in-reset}
-use Rattle.cable_world.proofs.acts.Happenings.{Entered, Stayed, Acting, acting, each-kept, hold-happens, shown-is}
-use Rattle.cable_world.proofs.coupling.CouplingInTurns.{before, hears, ticks, side, ready, side-node, side-wire}
-use Rattle.cable_world.proofs.levels.LastHeard.{shown-same, shown_if_there}
-use Rattle.cable_world.proofs.acts.ResettingSteps.{HasBegun}
-use Rattle.cable_world.proofs.tables.CableEnds.{CableEnd, cable-end}
-use Rattle.cable_world.proofs.Options.{none-some}
-use Rattle.cable_world.proofs.coupling.Sides.{ticking}
+use Rattle.cable_world.proofs.Lemmas.{power-on-apart, cabling-after, delay-after, not-leading, ends-in-reset, Entered, Stayed, Acting, acting, each-kept, hold-happens, shown-is, before, hears, ticks, side, ready, side-node, side-wire, shown-same, shown_if_there, HasBegun, CableEnd, cable-end, none-some, ticking, not-both, turn-state, comes, holds-kept}
+use Rattle.cable_world.proofs.Lemmas as between
 use Rattle.convergence.proofs.turns.AlongRuns.{IsKept, kept-reached, kept-quiet}
-use Rattle.cable_world.proofs.coupling.Streams.{not-both}
-use Rattle.cable_world.proofs.turns.TurnParts.{turn-state, comes}
 use Rattle.cable_world.specs.Quiet.{PlacedHold, HoldSchedule, with_holds, quiet_after}
-use Rattle.cable_world.proofs.QuietTurns.{holds-kept}
 use Rattle.convergence.specs.Coins.{AddsDraw, DrewTogether, KnowsCoins}
 use Rattle.convergence.specs.Rivals.{AreApart, AreRivals, Contests, HasOneRival, IsContested}
 use Rattle.convergence.proofs.coins.ContestsInTurns.{contests-turn, won-from}

@@ -19,19 +19,8 @@ use Rattle.cable_world.specs.Run.{IsReached}
 use Rattle.cable_world.specs.Phases.{is_before_tree, is_shaking}
 use Rattle.cable_world.specs.Agreement.{leads_down}
 use Rattle.cable_world.specs.Lawful.{IsLawful}
-use Rattle.cable_world.proofs.turns.ByNumber.{node-after, cabling-after, delay-after}
-use Rattle.cable_world.proofs.coupling.CableInTurn.{came}
-use Rattle.cable_world.proofs.coupling.CouplingInTurns.{side, side-node, side-wire}
-use Rattle.cable_world.proofs.resets.Entries.{steady, after-delay}
-use Rattle.cable_world.proofs.levels.LastSent.{child-if}
-use Rattle.cable_world.proofs.Options.{some-same}
-use Rattle.cable_world.proofs.coupling.Sides.{Side, hearing, ticking, wire_after, late-roles, heard_connected}
-use Rattle.cable_world.proofs.StaysLawful.{reached-lawful}
-use Rattle.cable_world.proofs.coupling.Streams.{not-both}
-use Rattle.cable_world.proofs.turns.NodeFacts.{NoEntry, risen}
+use Rattle.cable_world.proofs.Lemmas.{node-after, cabling-after, delay-after, came, side, side-node, side-wire, steady, after-delay, child-if, some-same, Side, hearing, ticking, wire_after, late-roles, heard_connected, reached-lawful, not-both, NoEntry, risen, holds-signals, one-quiet, quiet-lawful, turn-lawful}
 use Rattle.cable_world.specs.Quiet.{PlacedHold, HoldSchedule, with_holds, quiet_after}
-use Rattle.cable_world.proofs.QuietTurns.{holds-signals, one-quiet, quiet-lawful}
-use Rattle.cable_world.proofs.StaysLawful.{turn-lawful}
 use Rattle.convergence.specs.Coins.{last_coin, KnowsCoins}
 use Rattle.convergence.specs.Rivals.{AsksAgain, IsContested, HaveMet, AreRivals}
 use Rattle.convergence.specs.Cables.{AreJoined}

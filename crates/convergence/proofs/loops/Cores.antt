@@ -7,9 +7,7 @@ use Rattle.cabling.specs.Wiring.{far}
 use Rattle.cabling.specs.NodeSet.{Holds, IsWithin}
 use Rattle.cabling.specs.Component.{IsComponent}
 use Rattle.cabling.specs.Looped.{LeadsInto, HasTwo, IsLooped, IsCore}
-use Rattle.cabling.proofs.Ends.{same_end, one_other}
-use Rattle.cabling.proofs.Near.{end_at}
-use Rattle.cabling.proofs.Whole.{shared}
+use Rattle.cabling.proofs.Lemmas.{same_end, one_other, end_at, shared}
 use Rattle.port_state.specs.Ports.{is_port}
 use Rattle.port_state.specs.Machine.{PortNode}
 use Rattle.cable_world.specs.World.{CableWorld, wire_of}
@@ -18,13 +16,9 @@ use Rattle.cable_world.specs.Signals.{signals_of, has_reset}
 use Rattle.cable_world.specs.Agreement.{leads_down}
 use Rattle.cable_world.specs.Lawful.{IsLawful}
 use Rattle.cable_world.specs.Outcome.{Shows}
-use Rattle.cable_world.proofs.levels.LastSent.{child-if}
+use Rattle.cable_world.proofs.Lemmas.{child-if, some-at, some-same, cable-connected, late-roles, start-before_tree}
 use Rattle.convergence.specs.Cables.{AreJoined}
 use Rattle.convergence.proofs.turns.Cables.{joined-of}
-use Rattle.cable_world.proofs.Options.{some-at, some-same}
-use Rattle.cable_world.proofs.tables.CableEnds.{cable-connected}
-use Rattle.cable_world.proofs.coupling.Sides.{late-roles}
-use Rattle.cable_world.proofs.PhaseFacts.{start-before_tree}
 use Rattle.convergence.specs.Acyclic.{IsChildCable, IsAcyclic, LeadsDown}
 use Rattle.convergence.specs.Milestones.{ResetsAreOverIn}
 use Rattle.convergence.specs.Roots.{IsLate, IsRoot}

@@ -5,9 +5,8 @@ use Rattle.port_state.specs.declared.signal.Phase.TheVariants.{TreeStart}
 use Rattle.port_state.specs.Machine.{PortNode}
 use Rattle.cable_world.specs.World.{CableWorld}
 use Rattle.cable_world.specs.Lawful.{IsLawful}
-use Rattle.cable_world.proofs.Options.{some-of, some-at}
+use Rattle.cable_world.proofs.Lemmas.{some-of, some-at, quiet-lawful}
 use Rattle.cable_world.specs.Quiet.{HoldSchedule, quiet_after}
-use Rattle.cable_world.proofs.QuietTurns.{quiet-lawful}
 use Rattle.convergence.specs.Acyclic.{IsAcyclic}
 use Rattle.convergence.specs.Milestones.{ResetsAreOver, ResetsAreDone, LoopsAreReported}
 use Rattle.convergence.proofs.loops.Cores.{core-shows}

@@ -3,9 +3,8 @@ use Rattle.std.proofs.Common.{ℕ, ◌*◌, ◌≤◌, length}
 use Rattle.cable_world.specs.World.{CableWorld}
 use Rattle.cable_world.specs.Run.{IsReached}
 use Rattle.cable_world.specs.Lawful.{IsLawful}
-use Rattle.cable_world.proofs.StaysLawful.{reached-lawful}
+use Rattle.cable_world.proofs.Lemmas.{reached-lawful, quiet-lawful}
 use Rattle.cable_world.specs.Quiet.{HoldSchedule, quiet_after}
-use Rattle.cable_world.proofs.QuietTurns.{quiet-lawful}
 use Rattle.convergence.specs.Acyclic.{IsAcyclic}
 use Rattle.convergence.specs.Milestones.{ResetsAreOver}
 use Rattle.convergence.specs.Roots.{IsUndecidedInLoops}

@@ -11,11 +11,7 @@ use Rattle.cable_world.specs.Act.{change_in_set, note_changes, ActLeads, act_fau
 use Rattle.cable_world.specs.Phases.{is_before_tree}
 use Rattle.cable_world.specs.Agreement.{leads_down}
 use Rattle.cable_world.specs.Lawful.{IsLawful}
-use Rattle.cable_world.proofs.tables.AtPowerOn.{power-on-apart}
-use Rattle.cable_world.proofs.coupling.CouplingInActs.{not-leading}
-use Rattle.cable_world.proofs.acts.Happenings.{Happens, Acting, acting, each-kept}
-use Rattle.cable_world.proofs.Options.{none-some}
-use Rattle.cable_world.proofs.coupling.Streams.{not-both}
+use Rattle.cable_world.proofs.Lemmas.{power-on-apart, not-leading, Happens, Acting, acting, each-kept, none-some, not-both}
 use Rattle.convergence.specs.Acyclic.{IsChildCable, IsAcyclic}
 use Rattle.convergence.proofs.turns.Roles.{early-parentless}
 

@@ -20,12 +20,7 @@ use Rattle.cable_world.specs.Signals.{signals_of, has_reset, shows_no_notice, ha
 use Rattle.cable_world.specs.Agreement.{level_shown, leads_down, level_after}
 use Rattle.cable_world.specs.Coupling.{is_reset_known, Coupling}
 use Rattle.cable_world.specs.Lawful.{IsLawful}
-use Rattle.cable_world.proofs.turns.ByNumber.{cabling-after}
-use Rattle.cable_world.proofs.coupling.CouplingInTurns.{before, hears, ticks}
-use Rattle.cable_world.proofs.tables.CableEnds.{cable-connected}
-use Rattle.cable_world.proofs.coupling.Sides.{tree_start-known}
-use Rattle.cable_world.proofs.coupling.Streams.{level_after-low}
-use Rattle.cable_world.proofs.turns.TurnParts.{turn-state, comes}
+use Rattle.cable_world.proofs.Lemmas.{cabling-after, before, hears, ticks, cable-connected, tree_start-known, level_after-low, turn-state, comes}
 use Rattle.convergence.specs.Acyclic.{IsAcyclic}
 use Rattle.convergence.proofs.turns.Roles.{early-parentless, takes, takes-start, parent-before, child-before}
 

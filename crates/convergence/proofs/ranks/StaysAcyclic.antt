@@ -4,7 +4,7 @@ use Rattle.cable_world.specs.World.{CableWorld}
 use Rattle.cable_world.specs.Run.{IsReached}
 use Rattle.cable_world.specs.Lawful.{IsLawful}
 use Rattle.cable_world.specs.Quiet.{PlacedHold, HoldSchedule, with_holds, quiet_after}
-use Rattle.cable_world.proofs.QuietTurns.{holds-kept}
+use Rattle.cable_world.proofs.Lemmas.{holds-kept}
 use Rattle.convergence.specs.Acyclic.{IsAcyclic}
 use Rattle.convergence.proofs.turns.AlongRuns.{IsKept, kept-reached, kept-quiet}
 use Rattle.convergence.proofs.ranks.RanksInActs.{power-on-acyclic, hold-acyclic, act-acyclic}

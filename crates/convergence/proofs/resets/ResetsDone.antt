@@ -14,7 +14,7 @@ use Rattle.port_state.specs.Machine.{PortNode}
 use Rattle.port_state.specs.Valid.{IsValid}
 use Rattle.cabling.specs.declared.cable.End.{End}
 use Rattle.cabling.specs.Wiring.{Wiring, far}
-use Rattle.cabling.proofs.Near.{end_at}
+use Rattle.cabling.proofs.Lemmas.{end_at}
 use Rattle.cable_world.specs.World.{CableWorld, wire_of}
 use Rattle.cable_world.specs.Turn.{turn_at, turn, hear_all}
 use Rattle.cable_world.specs.Agreement.{level_sent, level_shown, shown_or_idle, leads_down, level_sent_at}
@@ -22,18 +22,9 @@ use Rattle.cable_world.specs.Signals.{signals_of, has_reset}
 use Rattle.cable_world.specs.Phases.{is_before_tree, is_after_hold, is_in_bus_reset, is_shaking}
 use Rattle.cable_world.specs.Coupling.{is_asking, Coupling}
 use Rattle.cable_world.specs.Lawful.{IsLawful}
-use Rattle.cable_world.proofs.turns.ByNumber.{node-after}
-use Rattle.cable_world.proofs.Options.{some-same}
-use Rattle.cable_world.proofs.coupling.CouplingInTurns.{before, hears}
-use Rattle.cable_world.proofs.resets.Entries.{in-turn, hold-left, steady, after-delay}
-use Rattle.cable_world.proofs.levels.LastSent.{child-if}
+use Rattle.cable_world.proofs.Lemmas.{node-after, some-same, before, hears, in-turn, hold-left, steady, after-delay, child-if, cable-connected, late-roles, between-known, NoEntry, HearsWell, turn-state, one-quiet, quiet-then, quiet-lawful, after-cabling}
 use Rattle.convergence.proofs.turns.Cables.{joined-of}
-use Rattle.cable_world.proofs.tables.CableEnds.{cable-connected}
-use Rattle.cable_world.proofs.coupling.Sides.{late-roles, between-known}
-use Rattle.cable_world.proofs.turns.NodeFacts.{NoEntry, HearsWell}
-use Rattle.cable_world.proofs.turns.TurnParts.{turn-state}
 use Rattle.cable_world.specs.Quiet.{HoldSchedule, holds_after, with_holds, quiet_after}
-use Rattle.cable_world.proofs.QuietTurns.{one-quiet, quiet-then, quiet-lawful, after-cabling}
 use Rattle.convergence.specs.Milestones.{ResetsAreOver, NoneIn, ResetsAreDone}
 use Rattle.convergence.proofs.turns.CalmTurns.{Calmly, calmly, signals, heard_by, waiting-before, done-calm}
 use Rattle.convergence.proofs.turns.BeforeTree.{waits-for, every-from}
@@ -148,7 +139,7 @@ calm-told y q v on past early = go (is_before_tree y.view.phase) refl
     go true e = first y.view.phase (leads_down y.view.ports q) past e
     go false e = second y.view.phase (leads_down y.view.ports q) (is_port y.view.parent q) e (child-if y.view.parent y.view.ports q (late-roles y v e) on) early
 
-only-wait : (p : Phase) → is_in_bus_reset p ≡ true → is_resetting p ≡ false → p ≡ phase.ResetWait
+pub only-wait : (p : Phase) → is_in_bus_reset p ≡ true → is_resetting p ≡ false → p ≡ phase.ResetWait
 only-wait p h g = grind arith
 
 wait-between :

@@ -15,18 +15,9 @@ use Rattle.cable_world.specs.World.{CableWorld, wire_of}
 use Rattle.cable_world.specs.Turn.{inbox, turn_at, turn, hear_all}
 use Rattle.cable_world.specs.Signals.{is_reset, signals_of, has_reset}
 use Rattle.cable_world.specs.Lawful.{AgesFall, IsLawful}
-use Rattle.cable_world.proofs.turns.ByNumber.{node-after, cabling-after}
-use Rattle.cable_world.proofs.coupling.CouplingInTurns.{hears, ticks, side, side-wire}
-use Rattle.cable_world.proofs.resets.Entries.{steady, after-delay}
+use Rattle.cable_world.proofs.Lemmas.{node-after, cabling-after, hears, ticks, side, side-wire, steady, after-delay, cable-connected, some-same, departures, HearsWell, TicksWell, turn-state, comes, holds-signals, one-quiet, quiet-lawful, turn-lawful}
 use Rattle.convergence.proofs.turns.Cables.{joined-of}
-use Rattle.cable_world.proofs.tables.CableEnds.{cable-connected}
-use Rattle.cable_world.proofs.Options.{some-same}
-use Rattle.cable_world.proofs.coupling.Sides.{departures}
-use Rattle.cable_world.proofs.turns.NodeFacts.{HearsWell, TicksWell}
-use Rattle.cable_world.proofs.turns.TurnParts.{turn-state, comes}
 use Rattle.cable_world.specs.Quiet.{HoldSchedule, with_holds, quiet_after}
-use Rattle.cable_world.proofs.QuietTurns.{holds-signals, one-quiet, quiet-lawful}
-use Rattle.cable_world.proofs.StaysLawful.{turn-lawful}
 use Rattle.convergence.specs.Milestones.{ResetsAreOver}
 
 -- ---- old Resets

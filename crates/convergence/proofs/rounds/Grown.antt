@@ -17,18 +17,9 @@ use Rattle.cable_world.specs.Turn.{turn_at, turn}
 use Rattle.cable_world.specs.Phases.{is_before_tree}
 use Rattle.cable_world.specs.Agreement.{leads_down}
 use Rattle.cable_world.specs.Lawful.{IsLawful}
-use Rattle.cable_world.proofs.turns.ByNumber.{cabling-after, node-after}
-use Rattle.cable_world.proofs.coupling.CableInTurn.{came}
-use Rattle.cable_world.proofs.coupling.CouplingInTurns.{side, side-node}
-use Rattle.cable_world.proofs.levels.LastSent.{child-if}
+use Rattle.cable_world.proofs.Lemmas.{cabling-after, node-after, came, side, side-node, child-if, cable-connected, hearing, ticking, late-roles, turn-lawful, not-both, NoEntry, holds-lawful, no-quiet, one-quiet}
 use Rattle.convergence.proofs.turns.Cables.{joined-of}
-use Rattle.cable_world.proofs.tables.CableEnds.{cable-connected}
-use Rattle.cable_world.proofs.coupling.Sides.{hearing, ticking, late-roles}
-use Rattle.cable_world.proofs.StaysLawful.{turn-lawful}
-use Rattle.cable_world.proofs.coupling.Streams.{not-both}
-use Rattle.cable_world.proofs.turns.NodeFacts.{NoEntry}
 use Rattle.cable_world.specs.Quiet.{PlacedHold, HoldSchedule, with_holds, quiet_after}
-use Rattle.cable_world.proofs.QuietTurns.{holds-lawful, no-quiet, one-quiet}
 use Rattle.convergence.specs.Acyclic.{IsChildCable, IsAcyclic}
 use Rattle.convergence.specs.Rivals.{IsContested, IsBelow}
 use Rattle.convergence.specs.Milestones.{ResetsAreDone}

@@ -12,10 +12,8 @@ use Rattle.cable_world.specs.World.{CableWorld, wire_of}
 use Rattle.cable_world.specs.Turn.{turn}
 use Rattle.cable_world.specs.Phases.{is_shaking}
 use Rattle.cable_world.specs.Outcome.{HasNoLoop}
-use Rattle.cable_world.proofs.turns.ByNumber.{cabling-after}
-use Rattle.cable_world.proofs.resets.Entries.{after-delay, after-length}
+use Rattle.cable_world.proofs.Lemmas.{cabling-after, after-delay, after-length, one-quiet, quiet-then, after-cabling}
 use Rattle.cable_world.specs.Quiet.{HoldSchedule, holds_after, quiet_after}
-use Rattle.cable_world.proofs.QuietTurns.{one-quiet, quiet-then, after-cabling}
 use Rattle.convergence.specs.Rivals.{AreRivals}
 use Rattle.convergence.specs.Drawers.{AreMutual}
 use Rattle.convergence.specs.Kept.{IsGrown}

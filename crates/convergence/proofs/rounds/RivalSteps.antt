@@ -8,8 +8,7 @@ use Rattle.port_state.specs.declared.states.NodeState.{NodeState}
 use Rattle.port_state.specs.Ports.{is_parent, is_port}
 use Rattle.cable_world.specs.Phases.{is_shaking}
 use Rattle.cable_world.specs.Agreement.{level_shown}
-use Rattle.cable_world.proofs.turns.NodeFacts.{NoEntry, risen}
-use Rattle.cable_world.proofs.coupling.Sides.{Side, hearing, ticking}
+use Rattle.cable_world.proofs.Lemmas.{NoEntry, risen, Side, hearing, ticking}
 use Rattle.convergence.specs.Rivals.{HaveMet, AreRivals}
 use Rattle.convergence.proofs.turns.Moves.{Drew}
 use Rattle.convergence.proofs.coins.Rivals.{Rivals, swapped, other-level, no-contend, up-mid, drew-sees, again-sees, draws-not, asks-on}

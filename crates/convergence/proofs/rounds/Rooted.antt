@@ -5,9 +5,8 @@ use Rattle.cabling.specs.Component.{IsComponent}
 use Rattle.port_state.specs.Machine.{PortNode}
 use Rattle.cable_world.specs.World.{CableWorld}
 use Rattle.cable_world.specs.Turn.{turn_at, turn}
-use Rattle.cable_world.proofs.turns.ByNumber.{node-after}
+use Rattle.cable_world.proofs.Lemmas.{node-after, one-quiet, no-quiet, after-cabling}
 use Rattle.cable_world.specs.Quiet.{PlacedHold, HoldSchedule, with_holds, quiet_after}
-use Rattle.cable_world.proofs.QuietTurns.{one-quiet, no-quiet, after-cabling}
 use Rattle.convergence.specs.Roots.{IsRoot}
 use Rattle.convergence.specs.Milestones.{AreIdentifying}
 use Rattle.convergence.proofs.coins.Drawers.{pair-no-root}

@@ -14,15 +14,8 @@ use Rattle.port_state.specs.Machine.{PortNode}
 use Rattle.cable_world.specs.World.{CableWorld, wire_of}
 use Rattle.cable_world.specs.Turn.{turn_at, turn}
 use Rattle.cable_world.specs.Agreement.{level_sent, level_shown, leads_down}
-use Rattle.cable_world.proofs.turns.ByNumber.{node-after, cabling-after, delay-after}
-use Rattle.cable_world.proofs.coupling.CouplingInTurns.{side, side-node}
-use Rattle.cable_world.proofs.resets.Entries.{after-delay}
-use Rattle.cable_world.proofs.tables.CableEnds.{cable-connected}
-use Rattle.cable_world.proofs.Options.{some-same}
-use Rattle.cable_world.proofs.coupling.Sides.{hearing, ticking}
-use Rattle.cable_world.proofs.turns.NodeFacts.{NoEntry}
+use Rattle.cable_world.proofs.Lemmas.{node-after, cabling-after, delay-after, side, side-node, after-delay, cable-connected, some-same, hearing, ticking, NoEntry, no-quiet, quiet-then, quiet-first}
 use Rattle.cable_world.specs.Quiet.{PlacedHold, HoldSchedule, holds_after, with_holds, quiet_after}
-use Rattle.cable_world.proofs.QuietTurns.{no-quiet, quiet-then, quiet-first}
 use Rattle.convergence.specs.Coins.{KnowsCoins}
 use Rattle.convergence.specs.Rivals.{IsAhead, AsksAgain, AreRivals}
 use Rattle.convergence.specs.Cables.{AreJoined}

@@ -14,11 +14,8 @@ use Rattle.port_state.specs.Machine.{PortNode}
 use Rattle.cable_world.specs.World.{CableWorld, wire_of}
 use Rattle.cable_world.specs.Turn.{turn_at, turn}
 use Rattle.cable_world.specs.Outcome.{Shows, HasNoLoop, DrewAlike}
-use Rattle.cable_world.proofs.turns.ByNumber.{node-after, cabling-after}
-use Rattle.cable_world.proofs.resets.Entries.{after-delay}
-use Rattle.cable_world.proofs.Options.{some-of, some-at, some-same}
+use Rattle.cable_world.proofs.Lemmas.{node-after, cabling-after, after-delay, some-of, some-at, some-same, one-quiet, no-quiet, quiet-then}
 use Rattle.cable_world.specs.Quiet.{PlacedHold, HoldSchedule, holds_after, with_holds, quiet_after}
-use Rattle.cable_world.proofs.QuietTurns.{one-quiet, no-quiet, quiet-then}
 use Rattle.convergence.specs.Coins.{AddsDraw, DrewTogether}
 use Rattle.convergence.specs.Rivals.{AreRivals}
 use Rattle.convergence.specs.Milestones.{HasContention}

@@ -7,8 +7,7 @@ use Rattle.cabling.specs.declared.cable.End.{End}
 use Rattle.cabling.specs.Wiring.{Wiring, far, IsCabling}
 use Rattle.cabling.specs.NodeSet.{Holds}
 use Rattle.cabling.specs.Component.{IsComponent}
-use Rattle.cabling.proofs.Bits.{none_of_zero, inserted-holds, inserted-others}
-use Rattle.cabling.proofs.Ends.{plugged}
+use Rattle.cabling.proofs.Lemmas.{none_of_zero, inserted-holds, inserted-others, plugged}
 
 -- a set has the members of P below a number
 abbrev pub IsPart : (ℕ → Type 0) → ℕ → ℕ → Type 0

@@ -1,7 +1,7 @@
 -- The numbers below n that pass a test: the set of them, and how many there are.
 use Rattle.std.proofs.Common.{◌≡◌, ◌⊎◌, inl, inr, ℕ, zero, suc, ◌+◌, ◌*◌, ◌%◌, ◌^◌, ◌<◌, ◌≤◌, Bool, true, false, cond, bit_or, refl, sym, ◌∙◌, ap, arith, true≢false}
 use Rattle.std.proofs.lemmas.Bool.{cases_eq}
-use Rattle.cabling.proofs.Bits.{inserted-small}
+use Rattle.cabling.proofs.Lemmas.{inserted-small}
 use Rattle.convergence.proofs.sets.Closure.{IsPart, is-empty, part-without, part-with}
 
 -- ---- a set

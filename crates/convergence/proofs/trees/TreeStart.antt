@@ -9,10 +9,8 @@ use Rattle.port_state.specs.Machine.{PortNode}
 use Rattle.cable_world.specs.World.{CableWorld}
 use Rattle.cable_world.specs.Phases.{is_before_tree, is_in_bus_reset}
 use Rattle.cable_world.specs.Lawful.{IsLawful}
-use Rattle.cable_world.proofs.resets.Entries.{after-delay}
-use Rattle.cable_world.proofs.turns.NodeFacts.{risen}
+use Rattle.cable_world.proofs.Lemmas.{after-delay, risen, one-quiet, no-quiet, quiet-lawful}
 use Rattle.cable_world.specs.Quiet.{HoldSchedule, quiet_after}
-use Rattle.cable_world.proofs.QuietTurns.{one-quiet, no-quiet, quiet-lawful}
 use Rattle.convergence.specs.Milestones.{ResetsAreDone}
 use Rattle.convergence.proofs.turns.CalmTurns.{Calmly, calmly, heard_by, early-before, done-calm, turn-done}
 use Rattle.convergence.proofs.turns.BeforeTree.{StaysInStart, stays-in-start}

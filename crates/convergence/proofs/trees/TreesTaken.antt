@@ -20,21 +20,14 @@ use Rattle.cabling.specs.Wiring.{Wiring, far}
 use Rattle.cabling.specs.NodeSet.{Holds, IsWithin, IsEmpty}
 use Rattle.cabling.specs.Component.{IsClosed}
 use Rattle.cabling.specs.Looped.{LeadsInto, HasTwo, IsCore}
-use Rattle.cabling.proofs.Bits.{below}
-use Rattle.cabling.proofs.Cascade.{weak_or_all}
-use Rattle.cabling.proofs.Ends.{plugged}
-use Rattle.cabling.proofs.Near.{end_at}
+use Rattle.cabling.proofs.Lemmas.{below, weak_or_all, plugged, end_at}
 use Rattle.cable_world.specs.World.{CableWorld, wire_of}
 use Rattle.cable_world.specs.Agreement.{level_sent, level_shown, shown_or_idle, leads_down, level_sent_at}
 use Rattle.cable_world.specs.Phases.{is_before_tree, is_shaking}
 use Rattle.cable_world.specs.Coupling.{is_asking, Coupling}
 use Rattle.cable_world.specs.Lawful.{IsLawful}
-use Rattle.cable_world.proofs.resets.Entries.{after-delay, after-length}
-use Rattle.cable_world.proofs.levels.LastSent.{child-if}
-use Rattle.cable_world.proofs.tables.CableEnds.{cable-connected}
-use Rattle.cable_world.proofs.coupling.Sides.{late-roles, tree_start-known}
+use Rattle.cable_world.proofs.Lemmas.{after-delay, after-length, child-if, cable-connected, late-roles, tree_start-known, quiet-then, quiet-lawful, after-cabling}
 use Rattle.cable_world.specs.Quiet.{HoldSchedule, holds_after, quiet_after}
-use Rattle.cable_world.proofs.QuietTurns.{quiet-then, quiet-lawful, after-cabling}
 use Rattle.convergence.specs.Milestones.{ResetsAreDone}
 use Rattle.convergence.proofs.turns.CalmTurns.{heard_by}
 use Rattle.convergence.proofs.turns.BeforeTree.{Left, TwoLeft, undecided-two}

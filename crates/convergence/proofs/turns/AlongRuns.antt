@@ -5,9 +5,8 @@ use Rattle.cable_world.specs.Run.{Event, acts, holds, turns, Happens, Runs, IsRe
 use Rattle.cable_world.specs.Turn.{turn}
 use Rattle.cable_world.specs.Lawful.{IsLawful}
 use Rattle.cable_world.specs.StaysLawful.{HoldsAtPowerOn}
-use Rattle.cable_world.proofs.StaysLawful.{power-on-lawful, turn-lawful, hold-lawful, act-lawful}
+use Rattle.cable_world.proofs.Lemmas.{power-on-lawful, turn-lawful, hold-lawful, act-lawful, holds-kept, quiet-lawful}
 use Rattle.cable_world.specs.Quiet.{HoldSchedule, quiet_after}
-use Rattle.cable_world.proofs.QuietTurns.{holds-kept, quiet-lawful}
 use Rattle.convergence.specs.Kept.{KeptByTurn, KeptByHold, KeptByAct}
 
 pub record IsKept (P : CableWorld → Type 0) : Type 0 where

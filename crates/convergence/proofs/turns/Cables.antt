@@ -5,7 +5,7 @@ use Rattle.cabling.specs.Wiring.{far}
 use Rattle.cable_world.specs.World.{CableWorld}
 use Rattle.cable_world.specs.Quiet.{PlacedHold, with_holds}
 use Rattle.cable_world.specs.Lawful.{IsWellFormed}
-use Rattle.cable_world.proofs.tables.CableEnds.{CableEnd, cable-end}
+use Rattle.cable_world.proofs.Lemmas.{CableEnd, cable-end}
 use Rattle.convergence.specs.Cables.{AreJoined}
 
 pub joined-of :

@@ -12,11 +12,7 @@ use Rattle.cable_world.specs.World.{CableWorld}
 use Rattle.cable_world.specs.Turn.{inbox, turn, hear_all}
 use Rattle.cable_world.specs.Phases.{is_before_tree, is_in_bus_reset}
 use Rattle.cable_world.specs.Lawful.{IsLawful}
-use Rattle.cable_world.proofs.coupling.CouplingInTurns.{before, hears, ticks}
-use Rattle.cable_world.proofs.resets.Entries.{Recent, comes-from}
-use Rattle.cable_world.proofs.turns.HearsWell.{hear-came}
-use Rattle.cable_world.proofs.turns.NodeFacts.{NoEntry, HearsWell, TicksWell}
-use Rattle.cable_world.proofs.turns.TurnParts.{turn-state}
+use Rattle.cable_world.proofs.Lemmas.{before, hears, ticks, Recent, comes-from, hear-came, NoEntry, HearsWell, TicksWell, turn-state}
 use Rattle.convergence.specs.Milestones.{NoneIn, ResetsAreDone}
 use Rattle.convergence.proofs.turns.BeforeTree.{was-waiting, was-early}
 

@@ -15,15 +15,9 @@ use Rattle.cable_world.specs.Turn.{inbox, turn_at, turn}
 use Rattle.cable_world.specs.Signals.{signals_of}
 use Rattle.cable_world.specs.Agreement.{level_shown, level_after, level_sent_at}
 use Rattle.cable_world.specs.Lawful.{AgesFall, IsLawful}
-use Rattle.cable_world.proofs.coupling.CouplingInTurns.{before, hears, ticks, side, side-wire}
-use Rattle.cable_world.proofs.resets.Entries.{after-delay}
+use Rattle.cable_world.proofs.Lemmas.{before, hears, ticks, side, side-wire, after-delay, cable-connected, departures, turn-state, comes, holds-signals, one-quiet, quiet-lawful, after-cabling, turn-lawful}
 use Rattle.convergence.proofs.turns.Cables.{joined-of}
-use Rattle.cable_world.proofs.tables.CableEnds.{cable-connected}
-use Rattle.cable_world.proofs.coupling.Sides.{departures}
-use Rattle.cable_world.proofs.turns.TurnParts.{turn-state, comes}
 use Rattle.cable_world.specs.Quiet.{PlacedHold, HoldSchedule, with_holds, quiet_after}
-use Rattle.cable_world.proofs.QuietTurns.{holds-signals, one-quiet, quiet-lawful, after-cabling}
-use Rattle.cable_world.proofs.StaysLawful.{turn-lawful}
 
 -- ---- the two ends of a cable
 

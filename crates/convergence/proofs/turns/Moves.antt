@@ -16,7 +16,7 @@ use Rattle.port_state.specs.Tick.{raise_timer, row_of, does, next_row, tick}
 use Rattle.port_state.specs.Valid.{FitsPhase, IsValid}
 use Rattle.cable_world.specs.Phases.{is_before_tree, is_shaking, is_contending}
 use Rattle.cable_world.specs.Agreement.{shown_or_idle, level_shown}
-use Rattle.cable_world.proofs.turns.TicksWell.{Chosen, chosen, is-parent, is-child, elsewhere}
+use Rattle.cable_world.proofs.Lemmas.{Chosen, chosen, is-parent, is-child, elsewhere}
 
 -- ---- what is drawn
 

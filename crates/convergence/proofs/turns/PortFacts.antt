@@ -2,7 +2,7 @@
 use Rattle.std.proofs.Common.{◌≡◌, ◌≢◌, ℕ, Bool, true, false, Option, Some, None, ap, refl, sym, ◌∙◌, eq-eqb, true≢false}
 use Rattle.std.proofs.lemmas.Bool.{eqb-true}
 use Rattle.port_state.specs.Ports.{is_port}
-use Rattle.cable_world.proofs.coupling.RolesFollow.{port-is}
+use Rattle.cable_world.proofs.Lemmas.{port-is}
 
 pub is-port : (o : Option ℕ) (k : ℕ) → o ≡ Some k → is_port o k ≡ true
 is-port o k e = ap (λ q. is_port q k) e ∙ eq-eqb k k refl

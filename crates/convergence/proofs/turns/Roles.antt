@@ -13,12 +13,8 @@ use Rattle.port_state.specs.Tick.{raise_timer, next_row, does, tick}
 use Rattle.port_state.specs.Valid.{FitsPhase, IsValid}
 use Rattle.cable_world.specs.Phases.{is_before_tree, is_contending}
 use Rattle.cable_world.specs.Agreement.{level_shown, leads_down}
-use Rattle.cable_world.proofs.levels.LastSent.{child-if}
-use Rattle.cable_world.proofs.coupling.Sides.{early-childless, late-roles}
-use Rattle.cable_world.proofs.coupling.Streams.{not-both}
+use Rattle.cable_world.proofs.Lemmas.{child-if, early-childless, late-roles, not-both, EntersReset, HearsWell, TicksWell, risen, Chosen, chosen}
 use Rattle.cable_world.specs.Turn.{hear_all}
-use Rattle.cable_world.proofs.turns.NodeFacts.{EntersReset, HearsWell, TicksWell, risen}
-use Rattle.cable_world.proofs.turns.TicksWell.{Chosen, chosen}
 
 -- ---- before the tree
 

@@ -15,9 +15,8 @@ use Rattle.port_state.specs.Row.{Row}
 use Rattle.port_state.specs.Tick.{raise_timer, row_of, does, next_row, tick}
 use Rattle.cable_world.specs.Phases.{is_before_tree}
 use Rattle.cable_world.specs.Agreement.{shown_or_idle, level_shown, leads_down}
-use Rattle.cable_world.proofs.turns.TicksWell.{Chosen, chosen, elsewhere}
+use Rattle.cable_world.proofs.Lemmas.{Chosen, chosen, elsewhere, port-is}
 use Rattle.convergence.proofs.turns.Moves.{all_idle}
-use Rattle.cable_world.proofs.coupling.RolesFollow.{port-is}
 
 -- ---- weights
 

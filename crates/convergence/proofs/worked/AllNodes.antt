@@ -10,7 +10,7 @@ use Rattle.cable_world.specs.Wire.{Wire, empty_wire}
 use Rattle.cable_world.specs.World.{CableWorld}
 use Rattle.cable_world.specs.Phases.{is_before_tree}
 use Rattle.cable_world.specs.Signals.{signals_of, has_reset}
-use Rattle.cable_world.proofs.Options.{some-same}
+use Rattle.cable_world.proofs.Lemmas.{some-same}
 use Rattle.convergence.specs.Milestones.{ResetsAreOver, NoneIn, NoResetIsUnderWay, TreesAreTaken, AreIdentifying, TreesAreDecided}
 
 -- ---- nodes

@@ -9,7 +9,7 @@ use Rattle.port_state.specs.Machine.{PortNode}
 use Rattle.cable_world.specs.World.{CableWorld, world_of_nodes}
 use Rattle.cable_world.specs.Turn.{turn, turns_after}
 use Rattle.cable_world.specs.Phases.{is_before_tree, is_in_bus_reset}
-use Rattle.cable_world.proofs.worked.Summary.{node_of, attrs, at, after_plug}
+use Rattle.cable_world.proofs.Lemmas.{node_of, attrs, at, after_plug}
 use Rattle.convergence.specs.Milestones.{ResetsAreOver, ResetsAreDone, TreesAreTaken, TreesAreDecided}
 use Rattle.convergence.specs.Turns.{turns_to_over, turns_to_done, turns_to_trees, turns_to_decision}
 use Rattle.convergence.specs.Roots.{IsRoot}

@@ -8,7 +8,7 @@ use Rattle.port_state.specs.Heard.{on_signal}
 use Rattle.port_state.specs.Tick.{tick}
 use Rattle.cable_world.specs.Turn.{turn, turns_after}
 use Rattle.cable_world.specs.Quiet.{PlacedHold, HoldSchedule, quiet_after}
-use Rattle.cable_world.proofs.worked.Summary.{at}
+use Rattle.cable_world.proofs.Lemmas.{at}
 use Rattle.convergence.specs.Drawers.{AreUnequal, WinsOver}
 use Rattle.convergence.proofs.worked.HeldContention.{start, met, again, over, again-unequal, won}
 

@@ -12,7 +12,7 @@ use Rattle.port_state.specs.Machine.{PortNode}
 use Rattle.cable_world.specs.World.{CableWorld, world_of_nodes}
 use Rattle.cable_world.specs.Act.{hold}
 use Rattle.cable_world.specs.Turn.{turn, turns_after}
-use Rattle.cable_world.proofs.worked.Summary.{plain_node, at, after_plug}
+use Rattle.cable_world.proofs.Lemmas.{plain_node, at, after_plug}
 use Rattle.convergence.specs.Coins.{last_coin, AddsDraw, DrewTogether, DrawsAgree}
 use Rattle.convergence.specs.Rivals.{IsAhead, HaveMet}
 use Rattle.convergence.specs.Drawers.{AreMutual, AreUnequal, CountsAreClose, WinsOver}

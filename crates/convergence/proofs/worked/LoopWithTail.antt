@@ -16,8 +16,7 @@ use Rattle.cable_world.specs.World.{CableWorld, world_of_nodes}
 use Rattle.cable_world.specs.Turn.{turn, turns_after}
 use Rattle.cable_world.specs.Outcome.{IsOutcome, loop}
 use Rattle.cable_world.specs.Phases.{is_in_bus_reset}
-use Rattle.cable_world.proofs.worked.Summary.{plain_node, at, after_plug, story}
-use Rattle.cable_world.proofs.worked.Settled.{each-held, said}
+use Rattle.cable_world.proofs.Lemmas.{plain_node, at, after_plug, story, each-held, said}
 use Rattle.convergence.specs.Milestones.{ResetsAreDone, LoopsAreReported}
 use Rattle.convergence.proofs.worked.AllNodes.{none-in}
 

@@ -7,8 +7,7 @@ use Rattle.port_state.specs.Tick.{tick}
 use Rattle.port_state.specs.Machine.{PortNode}
 use Rattle.cable_world.specs.World.{CableWorld}
 use Rattle.cable_world.specs.Turn.{turn, turns_after}
-use Rattle.cable_world.proofs.worked.Summary.{plain_node, at}
-use Rattle.cable_world.proofs.worked.TwoNodes.{start}
+use Rattle.cable_world.proofs.Lemmas.{plain_node, at, start}
 use Rattle.convergence.specs.Turns.{turns_to_over, turns_to_done, turns_to_trees, turns_to_loops, turns_to_decision}
 use Rattle.convergence.specs.Coins.{last_coin}
 use Rattle.convergence.specs.Drawers.{AreUnequal, WinsOver}

@@ -20,10 +20,9 @@ use Rattle.cable_world.specs.World.{CableWorld}
 use Rattle.cable_world.specs.Act.{step_at, change_in_set, configure, ActLeads}
 use Rattle.cable_world.specs.Phases.{is_in_bus_reset}
 use Rattle.cable_world.specs.Fresh.{IsFresh}
-use Rattle.cable_world.proofs.Options.{some-of, some-at, some-same}
-use Rattle.cable_world.proofs.tables.TablesInSteps.{replaced, not-replaced}
+use Rattle.cable_world.proofs.Lemmas.{some-of, some-at, some-same, replaced, not-replaced}
 use Rattle.outcomes.specs.Forced.{waits_due, gap_due, WaitsAlone, IsNamedAlone}
-use Rattle.convergence.proofs.turns.PortFacts.{is-port, port-is-not}
+use Rattle.convergence.proofs.Lemmas.{is-port, port-is-not}
 
 -- a member of a set after a change of the set
 in-set-at :

@@ -18,11 +18,10 @@ use Rattle.port_state.specs.Row as row
 use Rattle.port_state.specs.Row.{Row}
 use Rattle.port_state.specs.Tick.{raise_timer, does, next_row, tick}
 use Rattle.cable_world.specs.Phases.{is_before_tree}
-use Rattle.cable_world.proofs.turns.HearsWell.{hear-stays}
-use Rattle.cable_world.proofs.turns.TicksWell.{Chosen, chosen}
+use Rattle.cable_world.proofs.Lemmas.{hear-stays, Chosen, chosen}
 use Rattle.cable_world.specs.Turn.{hear_all}
 use Rattle.outcomes.specs.Forced.{waits_due, gap_due}
-use Rattle.convergence.proofs.turns.BeforeTree.{Left, TwoLeft, one-left, two-left, asks-few, count-cons}
+use Rattle.convergence.proofs.Lemmas.{Left, TwoLeft, one-left, two-left, asks-few, count-cons}
 
 -- ---- hearing
 

@@ -9,29 +9,22 @@ use Rattle.cabling.specs.NodeSet.{Holds, IsEmpty}
 use Rattle.cabling.specs.Component.{IsClosed, IsComponent}
 use Rattle.cabling.specs.Looped.{IsCore}
 use Rattle.outcomes.specs.WaysUp.{WaysUp}
-use Rattle.cabling.proofs.Small.{loopless}
+use Rattle.cabling.proofs.Lemmas.{loopless, shared}
 use Rattle.outcomes.proofs.walks.WaysUp.{ways}
-use Rattle.cabling.proofs.Whole.{shared}
 use Rattle.cable_world.specs.World.{CableWorld}
 use Rattle.cable_world.specs.Phases.{is_before_tree}
 use Rattle.cable_world.specs.Lawful.{IsLawful}
 use Rattle.cable_world.specs.Fresh.{IsFresh}
-use Rattle.cable_world.proofs.resets.Entries.{after-delay, after-length}
-use Rattle.cable_world.proofs.Options.{some-of}
+use Rattle.cable_world.proofs.Lemmas.{after-delay, after-length, some-of, quiet-then, quiet-lawful, after-cabling}
 use Rattle.cable_world.specs.Quiet.{HoldSchedule, holds_after, quiet_after}
-use Rattle.cable_world.proofs.QuietTurns.{quiet-then, quiet-lawful, after-cabling}
-use Rattle.convergence.proofs.ranks.StaysAcyclic.{quiet-acyclic}
+use Rattle.convergence.proofs.Lemmas.{quiet-acyclic, Calmly, one-root, resets-done, done-over, done-at}
 use Rattle.convergence.specs.Acyclic.{IsAcyclic}
 use Rattle.outcomes.specs.Forced.{WaitsAlone}
 use Rattle.convergence.specs.Milestones.{ResetsAreDone, ResetsAreOver}
 use Rattle.convergence.specs.Roots.{IsRoot}
 use Rattle.outcomes.specs.RootWalk.{RootWalk}
-use Rattle.convergence.proofs.turns.CalmTurns.{Calmly}
-use Rattle.convergence.proofs.loops.Cores.{one-root}
 use Rattle.outcomes.proofs.forced.FreeTrees.{all-late}
-use Rattle.convergence.proofs.resets.ResetsDone.{resets-done, done-over}
 use Rattle.outcomes.proofs.roots.RootWalk.{root-walk}
-use Rattle.convergence.proofs.trees.TreeStart.{done-at}
 use Rattle.outcomes.proofs.forced.Waits.{steadily, late-parentless, spread-most, forces, waiting}
 
 node-at :

@@ -16,22 +16,16 @@ use Rattle.cabling.specs.Wiring.{Wiring, far}
 use Rattle.cabling.specs.NodeSet.{Holds}
 use Rattle.cabling.specs.Component.{IsClosed}
 use Rattle.outcomes.specs.WaysUp.{Lowest, WaysUp}
-use Rattle.cabling.proofs.Near.{end_at}
+use Rattle.cabling.proofs.Lemmas.{end_at}
 use Rattle.cable_world.specs.World.{CableWorld}
 use Rattle.cable_world.specs.Phases.{is_before_tree}
 use Rattle.cable_world.specs.Agreement.{level_shown, shown_or_idle}
 use Rattle.cable_world.specs.Lawful.{IsLawful}
-use Rattle.cable_world.proofs.resets.Entries.{after-delay, after-length}
+use Rattle.cable_world.proofs.Lemmas.{after-delay, after-length, quiet-then, quiet-lawful, after-cabling}
 use Rattle.cable_world.specs.Quiet.{HoldSchedule, holds_after, quiet_after}
-use Rattle.cable_world.proofs.QuietTurns.{quiet-then, quiet-lawful, after-cabling}
 use Rattle.convergence.specs.Milestones.{ResetsAreDone}
-use Rattle.convergence.proofs.turns.CalmTurns.{signals, heard_by}
-use Rattle.convergence.proofs.turns.BeforeTree.{Left, TwoLeft}
+use Rattle.convergence.proofs.Lemmas.{signals, heard_by, Left, TwoLeft, count, count-most, count-le, count-less, count-some, count-found, IsEarly, Started, started, start-early, early-at-first, done-at, Silent, TwoSilent, early_there, shown-parent, same-port, is-port}
 use Rattle.outcomes.proofs.forced.Forced.{kept-heard, undecided-free, undecided-one}
-use Rattle.convergence.proofs.sets.Gathered.{count, count-most, count-le, count-less, count-some, count-found}
-use Rattle.convergence.proofs.trees.TreeStart.{IsEarly, Started, started, start-early, early-at-first, done-at}
-use Rattle.convergence.proofs.trees.TreesTaken.{Silent, TwoSilent, early_there, shown-parent}
-use Rattle.convergence.proofs.turns.PortFacts.{same-port, is-port}
 
 module _ (hs : HoldSchedule) (v : CableWorld) (l : IsLawful v) (done : ResetsAreDone v) where
   -- ---- a node that stays in T0

@@ -22,8 +22,7 @@ use Rattle.cabling.specs.declared.cable.End.{End}
 use Rattle.cabling.specs.Wiring.{Wiring, far}
 use Rattle.cabling.specs.NodeSet.{Holds}
 use Rattle.cabling.specs.Component.{IsComponent}
-use Rattle.cabling.proofs.Ends.{plugged}
-use Rattle.cabling.proofs.Whole.{shared}
+use Rattle.cabling.proofs.Lemmas.{plugged, shared}
 use Rattle.cable_world.specs.World.{CableWorld, wire_of}
 use Rattle.cable_world.specs.Turn.{turn_at, turn}
 use Rattle.cable_world.specs.Agreement.{level_sent, level_shown, leads_down, level_after}
@@ -31,22 +30,9 @@ use Rattle.cable_world.specs.Phases.{is_in_bus_reset}
 use Rattle.cable_world.specs.Signals.{signals_of, has_reset}
 use Rattle.cable_world.specs.Lawful.{IsLawful}
 use Rattle.cable_world.specs.Fresh.{IsFresh}
-use Rattle.cable_world.proofs.turns.ByNumber.{node-after}
-use Rattle.cable_world.proofs.coupling.CouplingInTurns.{before, hears, ticks}
-use Rattle.cable_world.proofs.resets.Entries.{in-turn, after-delay}
-use Rattle.convergence.proofs.turns.Cables.{joined-of}
-use Rattle.cable_world.proofs.tables.CableEnds.{cable-connected}
-use Rattle.cable_world.proofs.Options.{some-of, some-same}
-use Rattle.cable_world.proofs.turns.NodeFacts.{HearsWell, TicksWell}
-use Rattle.cable_world.proofs.turns.TurnParts.{turn-state}
+use Rattle.cable_world.proofs.Lemmas.{node-after, before, hears, ticks, in-turn, after-delay, cable-connected, some-of, some-same, HearsWell, TicksWell, turn-state, holds-signals, one-quiet, no-quiet, quiet-lawful, after-cabling, turn-lawful}
+use Rattle.convergence.proofs.Lemmas.{joined-of, signals, heard_by, in-component, was-waiting, count, count-most, count-less, count-some, OldReset, some-old, none-older, old-after}
 use Rattle.cable_world.specs.Quiet.{PlacedHold, HoldSchedule, with_holds, quiet_after}
-use Rattle.cable_world.proofs.QuietTurns.{holds-signals, one-quiet, no-quiet, quiet-lawful, after-cabling}
-use Rattle.cable_world.proofs.StaysLawful.{turn-lawful}
-use Rattle.convergence.proofs.turns.CalmTurns.{signals, heard_by}
-use Rattle.convergence.proofs.sets.Closure.{in-component}
-use Rattle.convergence.proofs.turns.BeforeTree.{was-waiting}
-use Rattle.convergence.proofs.sets.Gathered.{count, count-most, count-less, count-some}
-use Rattle.convergence.proofs.resets.ResetsOver.{OldReset, some-old, none-older, old-after}
 
 -- ---- one turn
 

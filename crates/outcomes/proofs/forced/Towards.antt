@@ -17,14 +17,14 @@ use Rattle.port_state.specs.Row as row
 use Rattle.port_state.specs.Row.{Row}
 use Rattle.port_state.specs.Tick.{raise_timer, does, next_row, tick}
 use Rattle.port_state.specs.Machine.{PortNode}
-use Rattle.port_state.proofs.Roles.{decided_few, left_is}
+use Rattle.port_state.proofs.Lemmas.{decided_few, left_is}
 use Rattle.cabling.specs.declared.cable.End.{End}
 use Rattle.cabling.specs.Wiring.{Wiring, far}
 use Rattle.cabling.specs.NodeSet.{Holds, IsEmpty}
 use Rattle.cabling.specs.Component.{IsComponent}
 use Rattle.cabling.specs.Looped.{IsCore}
 use Rattle.outcomes.specs.Parents.{LeadsUp}
-use Rattle.cabling.proofs.Near.{end_at}
+use Rattle.cabling.proofs.Lemmas.{end_at}
 use Rattle.cable_world.specs.Wire.{age_wire, gives}
 use Rattle.cable_world.specs.World.{CableWorld, wire_of}
 use Rattle.cable_world.specs.Turn.{turn}
@@ -34,27 +34,14 @@ use Rattle.cable_world.specs.Signals.{signals_of, has_reset, shows_no_notice}
 use Rattle.cable_world.specs.Coupling.{is_reset_known, Coupling}
 use Rattle.cable_world.specs.Lawful.{IsLawful}
 use Rattle.cable_world.specs.Fresh.{IsFresh}
-use Rattle.cable_world.proofs.coupling.CouplingInTurns.{hears}
-use Rattle.cable_world.proofs.resets.Entries.{in-turn, steady, after-delay}
-use Rattle.cable_world.proofs.levels.LastSent.{child-if}
-use Rattle.convergence.proofs.turns.Cables.{joined-of}
-use Rattle.cable_world.proofs.tables.CableEnds.{cable-connected}
-use Rattle.cable_world.proofs.Options.{some-same}
-use Rattle.cable_world.proofs.coupling.Sides.{late-roles, between-known}
-use Rattle.cable_world.proofs.turns.TicksWell.{Chosen, chosen}
-use Rattle.cable_world.proofs.turns.TurnParts.{comes}
+use Rattle.cable_world.proofs.Lemmas.{hears, in-turn, steady, after-delay, child-if, cable-connected, some-same, late-roles, between-known, Chosen, chosen, comes, port-is, start-before_tree, one-quiet, quiet-lawful, after-cabling}
+use Rattle.convergence.proofs.Lemmas.{joined-of, Calmly, signals, heard_by, port-is-not, late-start}
 use Rattle.outcomes.specs.Forced.{WaitsAlone}
-use Rattle.convergence.proofs.turns.CalmTurns.{Calmly, signals, heard_by}
 use Rattle.outcomes.proofs.forced.Forced.{kept-heard, Takes, tick-takes}
 use Rattle.outcomes.proofs.forced.ForcedRoot.{up, late, parentless, enough}
 use Rattle.outcomes.proofs.forced.Spread.{Turned, turned, all-reset, some-nodes}
 use Rattle.outcomes.proofs.forced.Waits.{outside, steadily, spread-most, waiting}
-use Rattle.convergence.proofs.turns.PortFacts.{port-is-not}
-use Rattle.cable_world.proofs.coupling.RolesFollow.{port-is}
-use Rattle.convergence.proofs.turns.PhaseFacts.{late-start}
-use Rattle.cable_world.proofs.PhaseFacts.{start-before_tree}
 use Rattle.cable_world.specs.Quiet.{HoldSchedule, with_holds, quiet_after}
-use Rattle.cable_world.proofs.QuietTurns.{one-quiet, quiet-lawful, after-cabling}
 
 -- ---- ticks
 

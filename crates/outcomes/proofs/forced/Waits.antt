@@ -23,17 +23,12 @@ use Rattle.cable_world.specs.Phases.{is_before_tree, is_after_hold, is_timed}
 use Rattle.cable_world.specs.Lawful.{IsLawful}
 use Rattle.cable_world.specs.Fresh.{IsFresh}
 use Rattle.cable_world.specs.Outcome.{Shows}
-use Rattle.cable_world.proofs.resets.Entries.{in-turn, steady, after-delay}
-use Rattle.cable_world.proofs.Options.{some-of, some-same}
-use Rattle.cable_world.proofs.turns.NodeFacts.{risen}
+use Rattle.cable_world.proofs.Lemmas.{in-turn, steady, after-delay, some-of, some-same, risen, one-quiet, no-quiet, quiet-lawful}
 use Rattle.cable_world.specs.Quiet.{HoldSchedule, quiet_after}
-use Rattle.cable_world.proofs.QuietTurns.{one-quiet, no-quiet, quiet-lawful}
 use Rattle.outcomes.specs.Forced.{waits_due, gap_due}
-use Rattle.convergence.proofs.turns.CalmTurns.{Calmly, signals, heard_by}
+use Rattle.convergence.proofs.Lemmas.{Calmly, signals, heard_by, parent-was, late-start}
 use Rattle.outcomes.proofs.forced.Forced.{SameDue, due-heard, kept-heard, tick-holds, Takes, tick-takes, waits-parentless}
-use Rattle.convergence.proofs.turns.Roles.{parent-was}
 use Rattle.outcomes.proofs.forced.Spread.{Turned, turned, spreads, all-reset}
-use Rattle.convergence.proofs.turns.PhaseFacts.{late-start}
 
 -- a phase is up to T0 or past it; up to T0 it is R0, or R1 or T0
 pub outside :

@@ -22,16 +22,12 @@ use Rattle.port_state.specs.Row as row
 use Rattle.port_state.specs.Row.{Row}
 use Rattle.port_state.specs.Tick.{raise_timer, does, next_row, row_of, tick}
 use Rattle.port_state.specs.Valid.{IsValid}
-use Rattle.port_state.proofs.Laws.{on_every-port, notices-port, packets-port, map-port, sent_on-append}
-use Rattle.port_state.proofs.EachPort.{port_is-changed}
+use Rattle.port_state.proofs.Lemmas.{on_every-port, notices-port, packets-port, map-port, sent_on-append, port_is-changed}
 use Rattle.cable_world.specs.Phases.{is_shaking}
 use Rattle.cable_world.specs.Signals.{has_no_takeback}
 use Rattle.cable_world.specs.Agreement.{shown_or_idle, level_shown, leads_down}
 use Rattle.cable_world.specs.Coupling.{is_asking}
-use Rattle.cable_world.proofs.levels.LastSent.{only, choose, child-if}
-use Rattle.cable_world.proofs.coupling.Sides.{late-roles}
-use Rattle.cable_world.proofs.turns.NodeFacts.{risen}
-use Rattle.cable_world.proofs.turns.TicksWell.{Chosen, chosen, elsewhere}
+use Rattle.cable_world.proofs.Lemmas.{only, choose, child-if, late-roles, risen, Chosen, chosen, elsewhere}
 use Rattle.outcomes.specs.Identify.{any_child}
 use Rattle.outcomes.proofs.identify.LinedTicks.{on-port}
 use Rattle.outcomes.proofs.identify.Ports.{changed-other, changed-here}

@@ -16,13 +16,9 @@ use Rattle.cable_world.specs.Agreement.{level_sent, level_after_one, shown_or_id
 use Rattle.cable_world.specs.Signals.{is_reset, signals_of, has_reset, shows_no_notice, takes_back, has_no_takeback}
 use Rattle.cable_world.specs.Phases.{is_before_tree, is_shaking}
 use Rattle.cable_world.specs.Coupling.{NoneTakesBack, is_asking}
-use Rattle.cable_world.proofs.turns.NodeFacts.{NoEntry, risen}
-use Rattle.cable_world.proofs.coupling.Streams.{not-both, signals-older, has_reset-append, has_no_takeback-append, parent-stays}
-use Rattle.cable_world.proofs.coupling.Sides.{Side, hearing, ticking, arrivals, leftovers, departures, wire_after, early-childless, parent-asks, tree_start-known, risen-most, heard_connected, after_signals, contend_empty}
-use Rattle.cable_world.proofs.PhaseFacts.{start-before_tree}
-use Rattle.cable_world.proofs.coupling.CableInTurn.{Pair, turned-round, heard_shown, heard_low, heard_no_parent, came, other_heard, near_heard, no_reset_before, taken, heard_idle}
+use Rattle.cable_world.proofs.Lemmas.{NoEntry, risen, not-both, signals-older, has_reset-append, has_no_takeback-append, parent-stays, Side, hearing, ticking, arrivals, leftovers, departures, wire_after, early-childless, parent-asks, tree_start-known, risen-most, heard_connected, after_signals, contend_empty, start-before_tree, Pair, turned-round, heard_shown, heard_low, heard_no_parent, came, other_heard, near_heard, no_reset_before, taken, heard_idle}
 use Rattle.outcomes.specs.Identify.{is_child_signal, any_child, Greets}
-use Rattle.convergence.proofs.turns.Roles.{parent-late, parent-was}
+use Rattle.convergence.proofs.Lemmas.{parent-late, parent-was}
 use Rattle.outcomes.proofs.identify.LinedTicks.{ticks-on, arrives}
 use Rattle.outcomes.proofs.identify.GreetTicks.{ticks-child, becomes-child, leaves-shake, says-child, Asked, asked-before, asking-sends, asks-on}
 

@@ -9,8 +9,8 @@ use Rattle.port_state.specs.Sends.{sent_on}
 use Rattle.port_state.specs.Step.{Step}
 use Rattle.port_state.specs.Heard.{is_resetting, hears_packets, on_signal}
 use Rattle.port_state.specs.Valid.{IsValid}
-use Rattle.port_state.proofs.Laws.{sound-on_signal, sent_on-append}
-use Rattle.cable_world.proofs.turns.HearsWell.{hear-stays}
+use Rattle.port_state.proofs.Lemmas.{sound-on_signal, sent_on-append}
+use Rattle.cable_world.proofs.Lemmas.{hear-stays, no-packets, not-both}
 use Rattle.cable_world.specs.Turn.{hear_all}
 use Rattle.outcomes.specs.NodeMarks.{IsMarked}
 use Rattle.outcomes.specs.Messages.{silent, quads_in, mode, allows, next, fits}
@@ -18,8 +18,6 @@ use Rattle.outcomes.proofs.identify.Messages.{silent-append}
 use Rattle.outcomes.proofs.identify.MarksKept.{signal-marked}
 use Rattle.outcomes.proofs.identify.Hearing.{signal-stays, signal-silent, entering-silent}
 use Rattle.outcomes.proofs.identify.LinedHears.{with, front-hears, room-hears}
-use Rattle.cable_world.proofs.running.Lists.{no-packets}
-use Rattle.cable_world.proofs.coupling.Streams.{not-both}
 
 -- all that is heard may come
 abbrev pub MayCome : NodeState → List (ℕ × Signal) → Type 0

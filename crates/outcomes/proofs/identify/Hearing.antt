@@ -15,18 +15,14 @@ use Rattle.port_state.specs.Step.{silent_step}
 use Rattle.port_state.specs.Entry.{enter, with_port}
 use Rattle.port_state.specs.Heard.{is_resetting, is_identifying, hears_packets, with_level, hears, has_effect, is_heard, on_signal}
 use Rattle.port_state.specs.Valid.{FitsRole, IsValid}
-use Rattle.port_state.proofs.Laws.{on_every-port}
-use Rattle.port_state.proofs.EachPort.{port_is-changed}
+use Rattle.port_state.proofs.Lemmas.{on_every-port, port_is-changed}
 use Rattle.cable_world.specs.Agreement.{leads_down}
-use Rattle.cable_world.proofs.levels.LastSent.{only}
-use Rattle.cable_world.proofs.coupling.Sides.{late-roles}
+use Rattle.cable_world.proofs.Lemmas.{only, late-roles, port-is, no-packets}
 use Rattle.outcomes.specs.NodeMarks.{is_ready, is_asked, is_named, IsMarked}
 use Rattle.outcomes.specs.Messages.{is_message, silent, Mode, parent_mode, child_mode, mode_of, mode, allows, next, fits}
 use Rattle.outcomes.specs.Messages as mode
 use Rattle.outcomes.proofs.identify.Ports.{child-role}
 use Rattle.outcomes.proofs.identify.MarksKept.{hears-late, awaited-one, done-asked}
-use Rattle.cable_world.proofs.coupling.RolesFollow.{port-is}
-use Rattle.cable_world.proofs.running.Lists.{no-packets}
 
 -- ---- ports
 

@@ -10,8 +10,7 @@ use Rattle.cabling.specs.declared.cable.End.{End}
 use Rattle.cabling.specs.Wiring.{far}
 use Rattle.cabling.specs.NodeSet.{Holds}
 use Rattle.cabling.specs.Component.{IsClosed, IsComponent}
-use Rattle.cabling.proofs.Ends.{same_end, one_other}
-use Rattle.cabling.proofs.Whole.{shared}
+use Rattle.cabling.proofs.Lemmas.{same_end, one_other, shared}
 use Rattle.port_state.specs.declared.signal.Phase.{Phase}
 use Rattle.port_state.specs.declared.signal.Phase.TheVariants.{SelfIdent}
 use Rattle.port_state.specs.declared.signal.Signal.{Signal}
@@ -24,20 +23,18 @@ use Rattle.cable_world.specs.World.{CableWorld, wire_of}
 use Rattle.cable_world.specs.Signals.{signals_of}
 use Rattle.cable_world.specs.Agreement.{leads_down}
 use Rattle.cable_world.specs.Lawful.{IsLawful}
-use Rattle.convergence.proofs.turns.Cables.{joined-of}
-use Rattle.cable_world.proofs.Options.{some-same}
+use Rattle.convergence.proofs.Lemmas.{joined-of, in-component, same-port}
+use Rattle.cable_world.proofs.Lemmas.{some-same}
 use Rattle.convergence.specs.Acyclic.{IsAcyclic}
 use Rattle.outcomes.specs.NodeMarks.{is_ready, is_asked, is_named, IsMarked}
 use Rattle.outcomes.specs.Messages.{is_grant, is_done, has_grant, has_done, parent_mode, child_mode, mode}
 use Rattle.outcomes.specs.Identify.{IsIdentifying}
 use Rattle.outcomes.specs.Holders.{Holder, grant, done, node, IsHolder, place, how_many, HasOneHolder}
-use Rattle.convergence.proofs.sets.Closure.{in-component}
 use Rattle.outcomes.proofs.identify.Ports.{child-role}
 use Rattle.outcomes.proofs.identify.MarksKept.{hears-late, one-awaited}
 use Rattle.outcomes.proofs.identify.Hearing.{parent-connected}
 use Rattle.outcomes.proofs.identify.ListsFollow as lists
 use Rattle.outcomes.proofs.identify.ListsFollow.{IsAbove}
-use Rattle.convergence.proofs.turns.PortFacts.{same-port}
 use Rattle.outcomes.proofs.identify.OneMessage.{IsKind, grants, dones, few-of, no-grant, no-done, child-grants-none, parent-says-none, found, end-of, both-false, two-parts}
 
 -- ---- a set of nodes that no cable leaves, all in self identify or A0

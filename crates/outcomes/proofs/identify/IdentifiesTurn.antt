@@ -13,18 +13,13 @@ use Rattle.cable_world.specs.Wire.{new_signal, age_signal}
 use Rattle.cable_world.specs.Phases.{is_before_tree, is_after_hold, is_shaking, slack}
 use Rattle.cable_world.specs.Signals.{signals_of, has_reset}
 use Rattle.cable_world.specs.Agreement.{leads_down}
-use Rattle.cable_world.proofs.levels.LastSent.{child-if}
-use Rattle.cable_world.proofs.turns.NodeFacts.{NoEntry}
-use Rattle.cable_world.proofs.coupling.Streams.{not-both, AllAsOldAs-less, nothing-left}
-use Rattle.cable_world.proofs.coupling.Sides.{Side, hearing, ticking, leftovers, departures, wire_after, Ready, early-childless, late-roles, heard_timing, after_signals, kept_or_gone, timer_rises, hold_fits}
-use Rattle.cable_world.proofs.PhaseFacts.{start-timed, start-slack, start-before_tree}
-use Rattle.cable_world.proofs.coupling.CableInTurn.{Pair, turned-round, came, near_heard}
+use Rattle.cable_world.proofs.Lemmas.{child-if, NoEntry, not-both, AllAsOldAs-less, nothing-left, Side, hearing, ticking, leftovers, departures, wire_after, Ready, early-childless, late-roles, heard_timing, after_signals, kept_or_gone, timer_rises, hold_fits, start-timed, start-slack, start-before_tree, Pair, turned-round, came, near_heard}
 use Rattle.outcomes.specs.NodeMarks.{is_ready, is_asked, is_named, IsMarked}
 use Rattle.outcomes.specs.Messages.{silent, MessagesSince, Mode, parent_mode, child_mode, mode_of, mode}
 use Rattle.outcomes.specs.Identify.{may_speak, Lined, Greets, Identifies}
 use Rattle.outcomes.proofs.identify.Messages.{silent-append, silent-quads, silent-fits, since-zero, since-less, since-older, since-append, since-silent, since-none}
 use Rattle.outcomes.proofs.identify.Lines.{begins}
-use Rattle.convergence.proofs.turns.Roles.{early-parentless, parent-late, parent-was}
+use Rattle.convergence.proofs.Lemmas.{early-parentless, parent-late, parent-was, start-mute}
 use Rattle.outcomes.proofs.identify.Ports.{child-role}
 use Rattle.outcomes.proofs.identify.MarksKept.{hears-late, none-asked, tick-marked}
 use Rattle.outcomes.proofs.identify.LinedHears.{Waiting}
@@ -32,7 +27,6 @@ use Rattle.outcomes.proofs.identify.LinedTicks.{ticks-on, ticks-parent, arrives,
 use Rattle.outcomes.proofs.identify.GreetTicks.{ticks-child, becomes-child}
 use Rattle.outcomes.proofs.identify.HearAll.{MayCome, HasRoom, hear-silent, hear-marked}
 use Rattle.outcomes.proofs.identify.LinedTurn.{Able, Taken, Comes, comes-adds, waits-turn, front-turn, split, lined-turn, above-front, below-front}
-use Rattle.convergence.proofs.turns.PhaseFacts.{start-mute}
 
 -- ---- phases
 

@@ -28,22 +28,13 @@ use Rattle.cable_world.specs.Signals.{is_reset, signals_of, has_reset}
 use Rattle.cable_world.specs.Phases.{is_before_tree, is_shaking}
 use Rattle.cable_world.specs.Coupling.{is_asking}
 use Rattle.cable_world.specs.Lawful.{IsLawful}
-use Rattle.cable_world.proofs.tables.AtPowerOn.{power-on-apart}
-use Rattle.cable_world.proofs.acts.Happenings.{shown-is, Entered, Stayed, Happens, Acting, acting, hold-happens, each-kept}
-use Rattle.cable_world.proofs.coupling.CouplingInActs.{not-leading, ends-in-reset}
-use Rattle.cable_world.proofs.levels.LastHeard.{shown-same}
-use Rattle.cable_world.proofs.tables.CableEnds.{CableEnd, cable-end}
-use Rattle.cable_world.proofs.acts.ResettingSteps.{HasBegun, untouched}
-use Rattle.cable_world.proofs.Options.{some-same, none-some}
-use Rattle.cable_world.proofs.tables.TablesInSteps.{replaced}
-use Rattle.cable_world.proofs.StaysLawful.{act-lawful, hold-lawful}
-use Rattle.cable_world.proofs.coupling.Streams.{signals-append}
+use Rattle.cable_world.proofs.Lemmas.{power-on-apart, shown-is, Entered, Stayed, Happens, Acting, acting, hold-happens, each-kept, not-leading, ends-in-reset, shown-same, CableEnd, cable-end, HasBegun, untouched, some-same, none-some, replaced, act-lawful, hold-lawful, signals-append}
 use Rattle.outcomes.specs.NodeMarks.{IsMarked}
 use Rattle.outcomes.specs.Messages.{silent, quads_in, mode, fits}
 use Rattle.outcomes.specs.Identify.{may_speak, is_child_signal, any_child, Greets, Identifies, IsIdentifying}
 use Rattle.outcomes.proofs.identify.Messages.{silent-append, quads-append, fits-silent, since-zero, since-less, since-append, since-silent}
 use Rattle.outcomes.proofs.identify.MarksKept.{enter-marked}
-use Rattle.convergence.proofs.turns.Roles.{early-parentless}
+use Rattle.convergence.proofs.Lemmas.{early-parentless}
 use Rattle.port_state.specs.Config.{ConfigPacket, config_packet}
 
 -- ---- nodes

@@ -12,10 +12,8 @@ use Rattle.cable_world.specs.World.{CableWorld, wire_of}
 use Rattle.cable_world.specs.Turn.{inbox, signals_from, turn_at, turn}
 use Rattle.cable_world.specs.Signals.{signals_of}
 use Rattle.cable_world.specs.Lawful.{IsLawful}
-use Rattle.cable_world.proofs.turns.ByNumber.{cabling-after, delay-after}
-use Rattle.cable_world.proofs.coupling.CouplingInTurns.{side, side-node, side-wire, hears, ready, before}
-use Rattle.convergence.proofs.turns.Cables.{joined-of}
-use Rattle.cable_world.proofs.turns.TurnParts.{inbox-at, turn-state, comes}
+use Rattle.cable_world.proofs.Lemmas.{cabling-after, delay-after, side, side-node, side-wire, hears, ready, before, inbox-at, turn-state, comes}
+use Rattle.convergence.proofs.Lemmas.{joined-of}
 use Rattle.outcomes.specs.Messages.{quads_in, Mode, mode, fits}
 use Rattle.outcomes.specs.Identify.{Greets, Identifies, IsIdentifying}
 use Rattle.outcomes.proofs.identify.MarksKept.{tick-marked}

@@ -12,10 +12,9 @@ use Rattle.port_state.specs.Sends.{sent_on}
 use Rattle.port_state.specs.Step.{silent_step}
 use Rattle.port_state.specs.Heard.{is_identifying, hears_packets, with_packet, with_level, hears, is_heard, on_signal}
 use Rattle.port_state.specs.Valid.{IsValid}
-use Rattle.port_state.proofs.Laws.{sound-on_signal, on_others-port}
-use Rattle.port_state.proofs.EachPort.{port_is-changed}
+use Rattle.port_state.proofs.Lemmas.{sound-on_signal, on_others-port, port_is-changed}
 use Rattle.cable_world.specs.Agreement.{leads_down}
-use Rattle.cable_world.proofs.levels.LastSent.{only, turned}
+use Rattle.cable_world.proofs.Lemmas.{only, turned}
 use Rattle.outcomes.specs.NodeMarks.{is_ready, is_asked, is_named, IsMarked}
 use Rattle.outcomes.specs.Messages.{is_message, silent, quads_in, Mode, parent_mode, child_mode, mode_of, mode, allows, fits}
 use Rattle.outcomes.specs.Identify.{Line, Lined}
@@ -24,7 +23,7 @@ use Rattle.outcomes.proofs.identify.Lines.{up-level, down-level, level-fits, pac
 use Rattle.outcomes.proofs.identify.Ports.{changed-other, changed-here, child-role}
 use Rattle.outcomes.proofs.identify.MarksKept.{hears-late, identifying-is, awaited-one}
 use Rattle.outcomes.proofs.identify.Hearing.{message-port, message-heard, parent-connected, none-awaited, speaking, level-asked, level-named, reset-heard}
-use Rattle.convergence.proofs.turns.PortFacts.{same-port}
+use Rattle.convergence.proofs.Lemmas.{same-port}
 
 -- what comes to one port, or elsewhere
 abbrev pub with : Bool → Signal → List Signal → List Signal

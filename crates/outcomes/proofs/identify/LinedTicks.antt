@@ -19,11 +19,9 @@ use Rattle.port_state.specs.Row as row
 use Rattle.port_state.specs.Row.{Row}
 use Rattle.port_state.specs.Tick.{raise_timer, does, next_row, tick}
 use Rattle.port_state.specs.Valid.{IsValid}
-use Rattle.port_state.proofs.Laws.{valid-raise_timer, sound-tick, on_every-port, notices-port, packets-port, sent_on-append}
-use Rattle.port_state.proofs.EachPort.{port_is-changed}
+use Rattle.port_state.proofs.Lemmas.{valid-raise_timer, sound-tick, on_every-port, notices-port, packets-port, sent_on-append, port_is-changed}
 use Rattle.cable_world.specs.Agreement.{leads_down}
-use Rattle.cable_world.proofs.levels.LastSent.{only, turned}
-use Rattle.cable_world.proofs.turns.TicksWell.{Chosen, chosen}
+use Rattle.cable_world.proofs.Lemmas.{only, turned, Chosen, chosen}
 use Rattle.outcomes.specs.NodeMarks.{is_ready, is_asked, is_named, IsMarked}
 use Rattle.outcomes.specs.Messages.{is_message, silent, quads_in, kept, Mode, parent_mode, child_mode, mode_of, mode, fits}
 use Rattle.outcomes.specs.Messages as mode

@@ -11,9 +11,7 @@ use Rattle.port_state.specs.Valid.{IsValid}
 use Rattle.cable_world.specs.Wire.{age_signal}
 use Rattle.cable_world.specs.Signals.{signals_of}
 use Rattle.cable_world.specs.Agreement.{leads_down}
-use Rattle.cable_world.proofs.coupling.Streams.{signals-older}
-use Rattle.cable_world.proofs.coupling.Sides.{Side, hearing, ticking, arrivals, leftovers, departures, wire_after, after_signals}
-use Rattle.cable_world.proofs.coupling.CableInTurn.{Pair}
+use Rattle.cable_world.proofs.Lemmas.{signals-older, Side, hearing, ticking, arrivals, leftovers, departures, wire_after, after_signals, Pair, no-packets}
 use Rattle.outcomes.specs.NodeMarks.{is_ready, is_asked, is_named, IsMarked}
 use Rattle.outcomes.specs.Messages.{silent, quads_in, Mode, parent_mode, child_mode, mode, fits}
 use Rattle.outcomes.specs.Identify.{Lined}
@@ -23,8 +21,7 @@ use Rattle.outcomes.proofs.identify.LinedHears.{above-hears, below-hears, waits-
 use Rattle.outcomes.proofs.identify.LinedTicks.{above-ticks, below-ticks, waits-ticks, front-ticks, room-ticks, ticks-on, tick-silent, ticks-parent}
 use Rattle.outcomes.proofs.identify.GreetTicks.{ticks-child}
 use Rattle.outcomes.proofs.identify.HearAll.{MayCome, HasRoom, Keeps, hear-keeps, hear-marked}
-use Rattle.convergence.proofs.turns.PhaseFacts.{start-mute}
-use Rattle.cable_world.proofs.running.Lists.{no-packets}
+use Rattle.convergence.proofs.Lemmas.{start-mute}
 
 -- what is known of a node before it takes its turn
 pub record Able (s : Side) : Type 0 where

@@ -10,15 +10,12 @@ use Rattle.cable_world.specs.World.{CableWorld, wire_of}
 use Rattle.cable_world.specs.Signals.{signals_of, has_reset}
 use Rattle.cable_world.specs.Agreement.{leads_down}
 use Rattle.cable_world.specs.Lawful.{IsLawful}
-use Rattle.cable_world.proofs.levels.LastSent.{child-if}
-use Rattle.cable_world.proofs.tables.CableEnds.{cable-connected}
-use Rattle.cable_world.proofs.coupling.Sides.{late-roles}
+use Rattle.cable_world.proofs.Lemmas.{child-if, cable-connected, late-roles, no-packets}
 use Rattle.outcomes.specs.Messages.{quads_in, kept}
 use Rattle.outcomes.specs.Identify.{speaks, Line, Lined, IsIdentifying}
 use Rattle.outcomes.specs.Lists.{Follows, ListsFollow}
 use Rattle.outcomes.proofs.identify.Messages.{kept-room}
 use Rattle.outcomes.proofs.identify.MarksKept.{hears-late}
-use Rattle.cable_world.proofs.running.Lists.{no-packets}
 
 -- ---- one line
 

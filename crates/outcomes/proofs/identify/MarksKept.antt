@@ -20,13 +20,10 @@ use Rattle.port_state.specs.Row as row
 use Rattle.port_state.specs.Row.{Row}
 use Rattle.port_state.specs.Tick.{raise_timer, row_of, does, next_row, tick}
 use Rattle.port_state.specs.Valid.{IsValid}
-use Rattle.port_state.proofs.Laws.{valid-raise_timer, map-port}
-use Rattle.port_state.proofs.EachPort.{port_is-changed, port_is-map}
+use Rattle.port_state.proofs.Lemmas.{valid-raise_timer, map-port, port_is-changed, port_is-map}
 use Rattle.cable_world.specs.Phases.{is_before_tree}
 use Rattle.cable_world.specs.Agreement.{leads_down}
-use Rattle.cable_world.proofs.levels.LastSent.{choose}
-use Rattle.cable_world.proofs.Options.{none-some}
-use Rattle.cable_world.proofs.turns.TicksWell.{Chosen, chosen}
+use Rattle.cable_world.proofs.Lemmas.{choose, none-some, Chosen, chosen}
 use Rattle.outcomes.specs.NodeMarks.{is_ready, is_asked, is_named, IsMarked}
 use Rattle.outcomes.specs.Messages.{parent_mode, child_mode, mode_of, mode, allows}
 use Rattle.outcomes.proofs.identify.Ports.{changed-other, changed-here, changed-was, none-lowest, lowest-first, lowest-is, child-role, not-unnamed, is-unnamed}

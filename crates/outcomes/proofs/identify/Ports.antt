@@ -7,11 +7,10 @@ use Rattle.port_state.specs.declared.ports.PortView.{PortView}
 use Rattle.port_state.specs.declared.states.NodeState.{NodeState}
 use Rattle.port_state.specs.Ports.{is_unnamed, passes, port_is, is_connected, is_port, lowest, change_port}
 use Rattle.port_state.specs.Valid.{FitsRole, HasRoles, IsValid}
-use Rattle.port_state.proofs.Laws.{changed-port}
-use Rattle.port_state.proofs.EachPort.{lowest-passes}
+use Rattle.port_state.proofs.Lemmas.{changed-port, lowest-passes}
 use Rattle.cable_world.specs.Phases.{is_before_tree}
 use Rattle.cable_world.specs.Agreement.{leads_down}
-use Rattle.cable_world.proofs.coupling.Sides.{late-roles}
+use Rattle.cable_world.proofs.Lemmas.{late-roles}
 
 -- ---- a changed port
 

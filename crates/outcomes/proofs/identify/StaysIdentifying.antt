@@ -4,8 +4,7 @@ use Rattle.cable_world.specs.World.{CableWorld}
 use Rattle.cable_world.specs.Run.{IsReached}
 use Rattle.cable_world.specs.Lawful.{IsLawful}
 use Rattle.cable_world.specs.Quiet.{HoldSchedule, quiet_after}
-use Rattle.convergence.proofs.turns.AlongRuns.{kept-quiet}
-use Rattle.convergence.proofs.turns.AlongRuns.{IsKept, kept-reached}
+use Rattle.convergence.proofs.Lemmas.{kept-quiet, IsKept, kept-reached}
 use Rattle.outcomes.specs.Identify.{IsIdentifying}
 use Rattle.outcomes.proofs.identify.IdentifyingTurn.{turn-identifying}
 use Rattle.outcomes.proofs.identify.IdentifyingActs.{act-identifying, hold-identifying, power-on-identifying}

@@ -6,7 +6,7 @@ use Rattle.std.proofs.lemmas.Bool.{le-leb, and_parts, and_from, eq-eqb}
 use Rattle.std.proofs.lemmas.Option.{slice_get_within}
 use Rattle.self_id.specs.Node.{Node}
 use Rattle.self_id.specs.Group.{group, node_count}
-use Rattle.self_id.proofs.Laws.{three_packets}
+use Rattle.self_id.proofs.Lemmas.{three_packets}
 use Rattle.topology_stack.specs.Tree.{Tree, emits}
 use Rattle.cabling.specs.declared.cable.End.{End}
 use Rattle.cabling.specs.Wiring.{far, ports_of}
@@ -28,7 +28,7 @@ use Rattle.port_state.specs.SelfIdentify.{may_name}
 use Rattle.port_state.specs.Group.{shown_node, own_group}
 use Rattle.port_state.specs.Machine.{PortNode}
 use Rattle.port_state.specs.Tick.{raise_timer, row_of, does, tick}
-use Rattle.port_state.proofs.Shown.{shown-is_node, shown-is_of}
+use Rattle.port_state.proofs.Lemmas.{shown-is_node, shown-is_of}
 use Rattle.cable_world.specs.Wire.{age_wire, gives}
 use Rattle.cable_world.specs.World.{CableWorld, wire_of}
 use Rattle.cable_world.specs.Turn.{inbox, turn, hear_all}
@@ -36,12 +36,8 @@ use Rattle.cable_world.specs.Run.{IsReached}
 use Rattle.cable_world.specs.Signals.{signals_of}
 use Rattle.cable_world.specs.Lawful.{IsLawful}
 use Rattle.cable_world.specs.Outcome.{IsTree}
-use Rattle.cable_world.proofs.coupling.CouplingInTurns.{before}
-use Rattle.cable_world.proofs.turns.HearsWell.{hear-stays}
-use Rattle.convergence.proofs.turns.Cables.{joined-of}
-use Rattle.cable_world.proofs.tables.CableEnds.{port-there}
-use Rattle.cable_world.proofs.StaysLawful.{turn-lawful, reached-lawful}
-use Rattle.cable_world.proofs.turns.TurnParts.{turn-state, comes}
+use Rattle.cable_world.proofs.Lemmas.{before, hear-stays, port-there, turn-lawful, reached-lawful, turn-state, comes, no-packets, one-quiet, quiet-lawful}
+use Rattle.convergence.proofs.Lemmas.{joined-of, reached-acyclic, quiet-acyclic}
 use Rattle.convergence.specs.Acyclic.{IsAcyclic}
 use Rattle.convergence.specs.Milestones.{ResetsAreOverIn, AreIdentifying}
 use Rattle.outcomes.specs.NodeMarks.{is_ready, is_asked, is_named}
@@ -62,11 +58,8 @@ use Rattle.outcomes.proofs.roots.Named.{named-tree}
 use Rattle.outcomes.proofs.numbers.NumberedTurn.{still-there, nothing-comes, heard-so, stayed}
 use Rattle.outcomes.proofs.roots.RootWalk.{node-at}
 use Rattle.outcomes.proofs.numbers.Settling.{Up, climbs, settles-on}
-use Rattle.convergence.proofs.ranks.StaysAcyclic.{reached-acyclic, quiet-acyclic}
 use Rattle.outcomes.proofs.identify.StaysIdentifying.{reached-identifying, quiet-identifying}
-use Rattle.cable_world.proofs.running.Lists.{no-packets}
 use Rattle.cable_world.specs.Quiet.{HoldSchedule, with_holds, quiet_after}
-use Rattle.cable_world.proofs.QuietTurns.{one-quiet, quiet-lawful}
 
 -- ---- the room for a group
 

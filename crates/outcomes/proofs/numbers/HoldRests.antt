@@ -9,8 +9,7 @@ use Rattle.cable_world.specs.Lawful.{IsLawful}
 use Rattle.cable_world.specs.declared.wire.Travelling.{Travelling}
 use Rattle.cable_world.specs.World.{CableWorld, wire_of}
 use Rattle.cable_world.specs.Quiet.{PlacedHold, with_holds}
-use Rattle.cable_world.proofs.QuietTurns.{holds-kept}
-use Rattle.cable_world.proofs.acts.Happenings.{hold-signals}
+use Rattle.cable_world.proofs.Lemmas.{holds-kept, hold-signals}
 use Rattle.convergence.specs.Acyclic.{IsChildCable}
 use Rattle.outcomes.specs.Messages.{silent, quads_in, has_grant, has_done}
 use Rattle.outcomes.specs.Messages as message

@@ -13,7 +13,7 @@ use Rattle.port_state.specs.Entry.{with_port}
 use Rattle.port_state.specs.Group.{shown_attrs, shown_node, status, statuses_from}
 use Rattle.self_id.specs.Slots.{slot_count}
 use Rattle.port_state.specs.Valid.{IsValid}
-use Rattle.port_state.proofs.EachPort.{port_is-changed}
+use Rattle.port_state.proofs.Lemmas.{port_is-changed}
 use Rattle.cable_world.specs.Agreement.{leads_down}
 use Rattle.outcomes.specs.NodeMarks.{is_ready, is_asked, is_named, IsMarked}
 use Rattle.outcomes.specs.Messages.{is_message, silent, quads_in, has_grant, has_done, kept, Mode, parent_mode, child_mode, mode_of, mode, allows, next, fits}

@@ -32,15 +32,8 @@ use Rattle.cable_world.specs.World.{CableWorld, wire_of}
 use Rattle.cable_world.specs.Turn.{signals_from, inbox, turn_at, turn, hear_all}
 use Rattle.cable_world.specs.Signals.{signals_of, has_reset}
 use Rattle.cable_world.specs.Lawful.{IsLawful}
-use Rattle.cable_world.proofs.turns.ByNumber.{cabling-after, node-after}
-use Rattle.cable_world.proofs.Options.{some-same}
-use Rattle.cable_world.proofs.turns.TicksWell.{Chosen, chosen}
-use Rattle.cable_world.proofs.coupling.CouplingInTurns.{side, side-wire, hears, before}
-use Rattle.cable_world.proofs.turns.HearsWell.{hear-came}
-use Rattle.convergence.proofs.turns.Cables.{joined-of}
-use Rattle.cable_world.proofs.turns.TurnParts.{inbox-at, turn-state, comes}
-use Rattle.cable_world.proofs.tables.CableEnds.{port-there}
-use Rattle.cable_world.proofs.coupling.Sides.{hearing, ticking, arrivals, leftovers, departures, after_signals}
+use Rattle.cable_world.proofs.Lemmas.{cabling-after, node-after, some-same, Chosen, chosen, side, side-wire, hears, before, hear-came, inbox-at, turn-state, comes, port-there, hearing, ticking, arrivals, leftovers, departures, after_signals, no-packets}
+use Rattle.convergence.proofs.Lemmas.{joined-of}
 use Rattle.convergence.specs.Acyclic.{IsChildCable}
 use Rattle.outcomes.specs.NodeMarks.{is_ready, is_asked, is_named}
 use Rattle.outcomes.specs.Messages.{is_message, silent, quads_in, is_grant, is_done, has_grant, has_done, Mode, parent_mode, child_mode, mode_of, mode, allows, next, fits}
@@ -59,7 +52,6 @@ use Rattle.outcomes.proofs.identify.ListsFollow.{IsAbove, one-above}
 use Rattle.outcomes.proofs.identify.MarksKept.{hears-late}
 use Rattle.outcomes.proofs.identify.Ports.{child-role}
 use Rattle.outcomes.proofs.numbers.Turning.{Marks, Goes-on, Heard-so, goes-along, hears-all, Ticks-so, ticks-so}
-use Rattle.cable_world.proofs.running.Lists.{no-packets}
 
 -- ---- signals
 

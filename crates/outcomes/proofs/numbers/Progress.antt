@@ -27,22 +27,15 @@ use Rattle.port_state.specs.Machine.{PortNode}
 use Rattle.port_state.specs.Row as row
 use Rattle.port_state.specs.Row.{Row}
 use Rattle.port_state.specs.Tick.{raise_timer, row_of, does, next_row, tick}
-use Rattle.port_state.proofs.EachPort.{port_is-changed}
+use Rattle.port_state.proofs.Lemmas.{port_is-changed}
 use Rattle.cable_world.specs.declared.wire.Travelling.{Travelling}
 use Rattle.cable_world.specs.Wire.{new_signal, age_signal, age_wire, gives}
 use Rattle.cable_world.specs.World.{CableWorld, wire_of}
 use Rattle.cable_world.specs.Turn.{inbox, turn_at, turn, hear_all}
 use Rattle.cable_world.specs.Signals.{signals_of}
 use Rattle.cable_world.specs.Lawful.{IsLawful, AgesFall}
-use Rattle.cable_world.proofs.turns.ByNumber.{node-after}
-use Rattle.cable_world.proofs.coupling.CouplingInTurns.{side, side-wire}
-use Rattle.cable_world.proofs.turns.HearsWell.{hear-stays}
-use Rattle.convergence.proofs.turns.Cables.{joined-of}
-use Rattle.cable_world.proofs.Options.{some-same}
-use Rattle.cable_world.proofs.coupling.Sides.{departures}
-use Rattle.cable_world.proofs.coupling.Streams.{signals-sent}
-use Rattle.cable_world.proofs.turns.TicksWell.{Chosen, chosen}
-use Rattle.cable_world.proofs.turns.TurnParts.{turn-state}
+use Rattle.cable_world.proofs.Lemmas.{node-after, side, side-wire, hear-stays, some-same, departures, signals-sent, Chosen, chosen, turn-state, no-packets}
+use Rattle.convergence.proofs.Lemmas.{joined-of}
 use Rattle.outcomes.specs.NodeMarks.{is_ready, is_asked, is_named}
 use Rattle.outcomes.specs.Messages.{silent, is_grant, is_done, has_grant, has_done}
 use Rattle.outcomes.specs.Identify.{IsIdentifying}
@@ -55,7 +48,6 @@ use Rattle.outcomes.proofs.identify.MarksKept.{hears-late, all-named}
 use Rattle.outcomes.proofs.numbers.AtRest.{room-for}
 use Rattle.outcomes.proofs.numbers.Turning.{Heard-so}
 use Rattle.convergence.specs.Acyclic.{IsAcyclic}
-use Rattle.cable_world.proofs.running.Lists.{no-packets}
 
 -- ---- what a node that hears and ticks keeps
 

@@ -19,9 +19,8 @@ use Rattle.cable_world.specs.Run.{IsReached}
 use Rattle.cable_world.specs.Turn.{turn_at, turn}
 use Rattle.cable_world.specs.Signals.{signals_of}
 use Rattle.cable_world.specs.Lawful.{IsLawful}
-use Rattle.cable_world.proofs.turns.ByNumber.{cabling-after, node-after}
-use Rattle.convergence.proofs.turns.Cables.{joined-of}
-use Rattle.cable_world.proofs.Options.{some-same}
+use Rattle.cable_world.proofs.Lemmas.{cabling-after, node-after, some-same, after-delay, reached-lawful, turn-lawful, port-is, holds-signals}
+use Rattle.convergence.proofs.Lemmas.{joined-of}
 use Rattle.convergence.specs.Acyclic.{IsAcyclic}
 use Rattle.outcomes.specs.NodeMarks.{is_ready, is_asked, is_named}
 use Rattle.outcomes.specs.Messages.{silent, is_grant, is_done, has_grant, has_done, parent_mode, child_mode}
@@ -39,14 +38,10 @@ use Rattle.outcomes.proofs.identify.Messages.{silent-grant, silent-done}
 use Rattle.outcomes.proofs.identify.Ports.{child-role}
 use Rattle.port_state.specs.Ports.{is_port}
 use Rattle.std.proofs.lemmas.Bool.{eq-eqb}
-use Rattle.cable_world.proofs.resets.Entries.{after-delay}
-use Rattle.cable_world.proofs.StaysLawful.{reached-lawful, turn-lawful}
 use Rattle.outcomes.proofs.numbers.NumberedTurn.{stayed}
 use Rattle.outcomes.proofs.numbers.Progress.{node-rises, Old, old-grant, old-done, grant-old, done-old, none-older, moves, turn-used}
 use Rattle.outcomes.proofs.numbers.Settling.{Up, up-or-root, climbs}
-use Rattle.cable_world.proofs.coupling.RolesFollow.{port-is}
 use Rattle.cable_world.specs.Quiet.{PlacedHold, HoldSchedule, with_holds, quiet_after}
-use Rattle.cable_world.proofs.QuietTurns.{holds-signals}
 
 -- ---- counts
 

@@ -28,12 +28,8 @@ use Rattle.cable_world.specs.Signals.{signals_of, has_reset}
 use Rattle.cable_world.specs.Agreement.{leads_down}
 use Rattle.cable_world.specs.Lawful.{IsLawful}
 use Rattle.cable_world.specs.Outcome.{attrs_now}
-use Rattle.cable_world.proofs.turns.ByNumber.{cabling-after, node-after}
-use Rattle.cable_world.proofs.coupling.CouplingInTurns.{hears, before}
-use Rattle.convergence.proofs.turns.Cables.{joined-of}
-use Rattle.cable_world.proofs.Options.{some-same}
-use Rattle.cable_world.proofs.StaysLawful.{turn-lawful}
-use Rattle.cable_world.proofs.turns.TurnParts.{turn-state}
+use Rattle.cable_world.proofs.Lemmas.{cabling-after, node-after, hears, before, some-same, turn-lawful, turn-state, no-packets}
+use Rattle.convergence.proofs.Lemmas.{joined-of, Down, all-under, one-root, turn-acyclic}
 use Rattle.convergence.specs.Acyclic.{IsAcyclic}
 use Rattle.convergence.specs.Milestones.{ResetsAreOverIn, AreIdentifying}
 use Rattle.convergence.specs.Roots.{IsRoot}
@@ -42,7 +38,6 @@ use Rattle.outcomes.specs.Messages.{has_grant, has_done, parent_mode, child_mode
 use Rattle.outcomes.specs.Identify.{IsIdentifying}
 use Rattle.outcomes.specs.RootWalk.{RootWalk}
 use Rattle.outcomes.specs.Numbered.{StandsAt, IsNumbered, IsSettling}
-use Rattle.convergence.proofs.loops.Cores.{Down, all-under, one-root}
 use Rattle.outcomes.proofs.identify.OneMessage.{no-grant, no-done, child-grants-none, parent-says-none, end-of, two-parts}
 use Rattle.outcomes.proofs.identify.Hearing.{parent-connected}
 use Rattle.outcomes.proofs.identify.HearAll.{hear-marked}
@@ -54,8 +49,6 @@ use Rattle.outcomes.proofs.roots.Calm.{calm-in, calm-before}
 use Rattle.outcomes.proofs.roots.Named.{same-walk}
 use Rattle.outcomes.proofs.numbers.NumberedTurn.{turn-numbered, Stayed, stayed}
 use Rattle.outcomes.proofs.roots.RootWalk.{root-walk, node-at}
-use Rattle.convergence.proofs.ranks.RanksInTurns.{turn-acyclic}
-use Rattle.cable_world.proofs.running.Lists.{no-packets}
 
 -- ---- up a component all of whose nodes are in self identify or A0
 

@@ -12,12 +12,7 @@ use Rattle.cable_world.specs.Run.{IsReached}
 use Rattle.cable_world.specs.Turn.{turn_at, turn}
 use Rattle.cable_world.specs.Signals.{signals_of}
 use Rattle.cable_world.specs.Lawful.{IsLawful}
-use Rattle.cable_world.proofs.turns.ByNumber.{node-after}
-use Rattle.cable_world.proofs.coupling.CouplingInTurns.{side, side-node, side-wire}
-use Rattle.cable_world.proofs.resets.Entries.{after-delay}
-use Rattle.cable_world.proofs.Options.{some-same}
-use Rattle.cable_world.proofs.coupling.Sides.{departures, ticking}
-use Rattle.cable_world.proofs.StaysLawful.{reached-lawful}
+use Rattle.cable_world.proofs.Lemmas.{node-after, side, side-node, side-wire, after-delay, some-same, departures, ticking, reached-lawful}
 use Rattle.outcomes.specs.NodeMarks.{is_ready, is_asked, is_named}
 use Rattle.outcomes.specs.Messages.{silent, quads_in, has_grant, has_done, MessagesSince, parent_mode, child_mode, allows}
 use Rattle.outcomes.specs.Messages as message
@@ -38,7 +33,7 @@ use Rattle.outcomes.proofs.walks.Rising.{child-before, places-differ}
 use Rattle.port_state.specs.Ports.{is_port}
 use Rattle.std.proofs.lemmas.Bool.{eq-eqb}
 use Rattle.std.proofs.lemmas.Option.{slice_get_within}
-use Rattle.convergence.proofs.turns.Cables.{joined-of}
+use Rattle.convergence.proofs.Lemmas.{joined-of}
 use Rattle.outcomes.proofs.identify.Messages.{kept-room, quads-append, has_grant-append, has_done-append, silent-quads, since-zero, since-older, since-append, since-silent, since-none}
 use Rattle.outcomes.proofs.numbers.NumberedTurn.{above-line}
 use Rattle.outcomes.proofs.numbers.Progress.{node-rises}

@@ -20,11 +20,9 @@ use Rattle.port_state.specs.Row as row
 use Rattle.port_state.specs.Row.{Row}
 use Rattle.port_state.specs.Tick.{raise_timer, does, next_row, tick}
 use Rattle.port_state.specs.Valid.{IsValid}
-use Rattle.port_state.proofs.Laws.{valid-raise_timer, sound-on_signal}
-use Rattle.port_state.proofs.EachPort.{port_is-changed}
+use Rattle.port_state.proofs.Lemmas.{valid-raise_timer, sound-on_signal, port_is-changed}
 use Rattle.cable_world.specs.Agreement.{leads_down}
-use Rattle.cable_world.proofs.turns.HearsWell.{hear-stays}
-use Rattle.cable_world.proofs.turns.TicksWell.{Chosen, chosen}
+use Rattle.cable_world.proofs.Lemmas.{hear-stays, Chosen, chosen, no-packets}
 use Rattle.cable_world.specs.Turn.{hear_all}
 use Rattle.outcomes.specs.NodeMarks.{is_ready, is_asked, is_named, IsMarked}
 use Rattle.outcomes.specs.Messages.{is_message, silent, quads_in, has_grant, has_done, kept, parent_mode, child_mode, mode_of, mode, allows, fits}
@@ -35,7 +33,6 @@ use Rattle.outcomes.proofs.identify.MarksKept.{hears-late, done-asked, signal-ma
 use Rattle.outcomes.proofs.identify.Hearing.{Stays, signal-stays, level-asked, level-named, reset-heard}
 use Rattle.outcomes.proofs.identify.LinedHears.{with, unheard-level, front-hears, others-silent}
 use Rattle.outcomes.proofs.identify.LinedTicks.{off}
-use Rattle.cable_world.proofs.running.Lists.{no-packets}
 use Rattle.outcomes.proofs.numbers.NodeMessages.{shown-port, level-owed, level-grant, level-done, rest-fits, after-grant, after-done, at-port, no-packet, root-packet, grant-comes}
 
 -- ---- a node of the walk

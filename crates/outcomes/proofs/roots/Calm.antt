@@ -13,11 +13,8 @@ use Rattle.port_state.specs.Machine.{PortNode}
 use Rattle.cable_world.specs.World.{CableWorld}
 use Rattle.cable_world.specs.Turn.{inbox, turn_at, turn, hear_all}
 use Rattle.cable_world.specs.Lawful.{IsLawful}
-use Rattle.cable_world.proofs.turns.ByNumber.{node-after}
-use Rattle.cable_world.proofs.coupling.CouplingInTurns.{hears}
-use Rattle.cable_world.proofs.turns.TurnParts.{turn-state}
-use Rattle.cable_world.proofs.running.Lists.{no-packets}
-use Rattle.convergence.proofs.turns.Cables.{joined-of}
+use Rattle.cable_world.proofs.Lemmas.{node-after, hears, turn-state, no-packets}
+use Rattle.convergence.proofs.Lemmas.{joined-of}
 use Rattle.convergence.specs.Milestones.{ResetsAreOverIn, AreIdentifying}
 use Rattle.outcomes.proofs.identify.LinedTicks.{arrives}
 

@@ -11,20 +11,19 @@ use Rattle.cabling.specs.Sees.{numbers}
 use Rattle.outcomes.specs.Parents.{LeadsUp}
 use Rattle.outcomes.specs.WalkMarks.{mark}
 use Rattle.outcomes.specs.Alike.{Alike, SeenAlike}
-use Rattle.cabling.proofs.Small.{Loopless}
+use Rattle.cabling.proofs.Lemmas.{Loopless, one-tree}
 use Rattle.outcomes.proofs.walks.WaysUp.{tree-ways}
 use Rattle.outcomes.proofs.walks.Alike.{seen-alike}
-use Rattle.cabling.proofs.OneTree.{one-tree}
 use Rattle.port_state.specs.Machine.{PortNode}
 use Rattle.cable_world.specs.World.{CableWorld}
 use Rattle.cable_world.specs.Lawful.{IsLawful}
 use Rattle.cable_world.specs.Outcome.{attrs_now, IsTree}
-use Rattle.cable_world.proofs.Options.{some-at}
+use Rattle.cable_world.proofs.Lemmas.{some-at}
 use Rattle.convergence.specs.Acyclic.{IsAcyclic}
 use Rattle.convergence.specs.Milestones.{ResetsAreOverIn}
 use Rattle.convergence.specs.Roots.{IsRoot}
 use Rattle.outcomes.specs.RootWalk.{parent_of, parent_now, place_now, RootWalk, IsNamed, SameWalk}
-use Rattle.convergence.proofs.loops.Cores.{no-root-with-loop}
+use Rattle.convergence.proofs.Lemmas.{no-root-with-loop}
 use Rattle.outcomes.proofs.roots.RootWalk.{node-at, ground-less}
 
 module _

@@ -8,9 +8,9 @@ use Rattle.self_id.specs.Node.{Node}
 use Rattle.cabling.specs.declared.cable.End.{End}
 use Rattle.cabling.specs.Wiring.{far, ports_of}
 use Rattle.self_id.specs.Slots.{slot_count}
-use Rattle.cabling.specs.codings.Visits.{is_from}
+use Rattle.cabling.proofs.Lemmas.{is_from}
 use Rattle.cabling.specs.Labels as label
-use Rattle.cabling.specs.codings.Shown as seen
+use Rattle.cabling.proofs.Lemmas as seen
 use Rattle.port_state.specs.declared.ports.PortView.{PortView}
 use Rattle.port_state.specs.declared.states.NodeState.{NodeState}
 use Rattle.port_state.specs.Ports.{is_port, is_connected}

@@ -11,18 +11,14 @@ use Rattle.cabling.specs.NodeSet.{Holds}
 use Rattle.cabling.specs.Component.{IsComponent}
 use Rattle.cabling.specs.Looped.{IsCore}
 use Rattle.cabling.specs.Labels.{labels}
-use Rattle.cabling.specs.codings.Shown.{shown_node}
+use Rattle.cabling.proofs.Lemmas.{shown_node, end_at, shared, Loopless, loopless, small_tree, plugged}
 use Rattle.cabling.specs.Sees.{numbers, SmallTree}
 use Rattle.outcomes.specs.Parents.{LeadDown, ParentsAre}
 use Rattle.outcomes.specs.WalkMarks.{mark, Marked}
 use Rattle.outcomes.specs.Emit.{emit, EmitsByNode}
-use Rattle.cabling.proofs.Near.{end_at}
-use Rattle.cabling.proofs.Whole.{shared}
-use Rattle.cabling.proofs.Small.{Loopless, loopless, small_tree}
 use Rattle.outcomes.proofs.walks.Parents.{parents-from-above}
 use Rattle.outcomes.proofs.walks.Marked.{tree-marked}
 use Rattle.outcomes.proofs.walks.Emit.{emits-by-node}
-use Rattle.cabling.proofs.Ends.{plugged}
 use Rattle.outcomes.proofs.walks.Rising.{level}
 use Rattle.outcomes.proofs.walks.WaysUp.{tree-ways}
 use Rattle.outcomes.proofs.walks.InTurn.{ready-first}
@@ -30,27 +26,21 @@ use Rattle.outcomes.proofs.walks.Intervals.{rest-of}
 use Rattle.port_state.specs.Ports.{is_port}
 use Rattle.port_state.specs.Group.{own_group}
 use Rattle.port_state.specs.Machine.{PortNode}
-use Rattle.port_state.proofs.Laws.{node_count-own_group}
+use Rattle.port_state.proofs.Lemmas.{node_count-own_group}
 use Rattle.cable_world.specs.World.{CableWorld}
 use Rattle.cable_world.specs.Phases.{is_before_tree}
 use Rattle.cable_world.specs.Agreement.{leads_down}
 use Rattle.cable_world.specs.Lawful.{IsLawful}
 use Rattle.cable_world.specs.Outcome.{attrs_now}
 use Rattle.convergence.specs.Cables.{AreJoined}
-use Rattle.convergence.proofs.turns.Cables.{joined-of}
-use Rattle.cable_world.proofs.tables.CableEnds.{cable-connected}
-use Rattle.cable_world.proofs.levels.LastSent.{child-if}
-use Rattle.cable_world.proofs.coupling.Sides.{late-roles}
+use Rattle.convergence.proofs.Lemmas.{joined-of, in-component, down-in, rooted-late, no-root-with-loop, is-port, port-is-not}
+use Rattle.cable_world.proofs.Lemmas.{cable-connected, child-if, late-roles, port-is}
 use Rattle.convergence.specs.Acyclic.{IsChildCable, IsAcyclic}
 use Rattle.convergence.specs.Milestones.{ResetsAreOverIn}
 use Rattle.convergence.specs.Roots.{IsRoot}
 use Rattle.outcomes.specs.RootWalk.{parent_of, parent_now, place_now, RootWalk}
-use Rattle.convergence.proofs.sets.Closure.{in-component}
-use Rattle.convergence.proofs.loops.Cores.{down-in, rooted-late, no-root-with-loop}
 use Rattle.outcomes.proofs.roots.OwnGroups.{shown-by-label}
-use Rattle.convergence.proofs.turns.PortFacts.{is-port, port-is-not}
-use Rattle.cable_world.proofs.coupling.RolesFollow.{port-is}
-use Rattle.self_id.proofs.Zeros.{node_count-append}
+use Rattle.self_id.proofs.Lemmas.{node_count-append}
 
 pub not-false : (b : Bool) → not b ≡ false → b ≡ true
 not-false true e = refl

@@ -9,27 +9,21 @@ use Rattle.cabling.specs.Wiring.{Wiring, IsCabling}
 use Rattle.cabling.specs.NodeSet.{Holds}
 use Rattle.cabling.specs.Component.{IsComponent}
 use Rattle.cabling.specs.Looped.{IsCore}
-use Rattle.cabling.proofs.Ends.{plugged}
-use Rattle.cabling.proofs.Near.{end_at}
-use Rattle.cabling.proofs.Whole.{shared}
+use Rattle.cabling.proofs.Lemmas.{plugged, end_at, shared}
 use Rattle.port_state.specs.Heard.{hears_packets}
 use Rattle.port_state.specs.Machine.{PortNode}
 use Rattle.cable_world.specs.World.{CableWorld}
 use Rattle.cable_world.specs.Turn.{turn}
 use Rattle.cable_world.specs.Lawful.{IsLawful}
-use Rattle.cable_world.proofs.StaysLawful.{turn-lawful}
+use Rattle.cable_world.proofs.Lemmas.{turn-lawful, cabling-after}
 use Rattle.convergence.specs.Acyclic.{IsAcyclic, IsTop}
 use Rattle.convergence.specs.Milestones.{AreIdentifying}
 use Rattle.convergence.specs.Roots.{IsRoot}
-use Rattle.convergence.proofs.ranks.Ranks.{has-top}
-use Rattle.convergence.proofs.rounds.Shaken.{search-set}
-use Rattle.convergence.proofs.sets.Closure.{in-component}
+use Rattle.convergence.proofs.Lemmas.{has-top, search-set, in-component, turn-acyclic}
 use Rattle.outcomes.specs.Identify.{IsIdentifying}
 use Rattle.outcomes.specs.Numbered.{Settles}
 use Rattle.outcomes.proofs.roots.Calm.{calm-in}
 use Rattle.outcomes.proofs.identify.IdentifyingTurn.{turn-identifying}
-use Rattle.convergence.proofs.ranks.RanksInTurns.{turn-acyclic}
-use Rattle.cable_world.proofs.turns.ByNumber.{cabling-after}
 use Rattle.outcomes.specs.RootWalk.{RootWalk}
 use Rattle.outcomes.proofs.identify.MarksKept.{hears-late}
 use Rattle.outcomes.proofs.numbers.Settling.{settles-first}

@@ -8,8 +8,7 @@ use Rattle.cabling.specs.NodeSet.{Holds, IsWithin}
 use Rattle.cabling.specs.Component.{IsComponent}
 use Rattle.cabling.specs.Looped.{IsCore, IsLooped, HasTwo, LeadsInto}
 use Rattle.cabling.specs.Labels.{labels}
-use Rattle.cabling.proofs.Bits.{in_both}
-use Rattle.cabling.proofs.Near.{end_at}
+use Rattle.cabling.proofs.Lemmas.{in_both, end_at}
 use Rattle.port_state.specs.declared.states.NodeState.{NodeState}
 use Rattle.port_state.specs.declared.ports.PortView.{PortView}
 use Rattle.port_state.specs.Config.{ConfigPacket}
@@ -26,10 +25,7 @@ use Rattle.cable_world.specs.Lawful.{IsLawful}
 use Rattle.cable_world.specs.Outcome.{attrs_now}
 use Rattle.cable_world.specs.Phases.{is_before_tree}
 use Rattle.cable_world.specs.Signals.{signals_of}
-use Rattle.cable_world.proofs.acts.Happenings.{Stayed, Acting, acting}
-use Rattle.cable_world.proofs.acts.ResettingSteps.{HasBegun}
-use Rattle.cable_world.proofs.tables.TablesInActs.{as_before, altered, was}
-use Rattle.cable_world.proofs.Options.{some-same}
+use Rattle.cable_world.proofs.Lemmas.{Stayed, Acting, acting, HasBegun, as_before, altered, was, some-same}
 use Rattle.convergence.specs.Acyclic.{IsAcyclic}
 use Rattle.convergence.specs.Milestones.{AreIdentifying}
 use Rattle.convergence.specs.Roots.{IsRoot}

@@ -7,7 +7,7 @@ use Rattle.topology_stack.specs.Tree.{Tree}
 use Rattle.cabling.specs.Wiring.{Wiring}
 use Rattle.cabling.specs.NodeSet.{Holds}
 use Rattle.cabling.specs.Component.{IsComponent}
-use Rattle.cabling.proofs.Whole.{shared}
+use Rattle.cabling.proofs.Lemmas.{shared}
 use Rattle.cabling.specs.Looped.{IsCore}
 use Rattle.cabling.specs.Sees.{numbers}
 use Rattle.port_state.specs.declared.signal.Phase.{Phase}
@@ -19,17 +19,10 @@ use Rattle.cable_world.specs.Run.{IsReached, quiet_turns}
 use Rattle.cable_world.specs.Act.{IsAct, act_fault, change_in_set}
 use Rattle.cable_world.specs.Phases.{is_in_bus_reset}
 use Rattle.cable_world.specs.Outcome.{HasNoLoop, Shows, Outcome, IsOutcome, IsTree, IsSettled, loop, tree, contention}
-use Rattle.cable_world.proofs.Options.{some-of, some-at, some-same}
-use Rattle.cable_world.proofs.PhaseFacts.{start-before_tree}
-use Rattle.cable_world.proofs.StaysLawful.{reached-lawful}
-use Rattle.cable_world.proofs.StaysReached.{act-reached}
-use Rattle.cable_world.proofs.resets.Entries.{after-length}
-use Rattle.cable_world.proofs.tables.TablesInSteps.{step-cables}
+use Rattle.cable_world.proofs.Lemmas.{some-of, some-at, some-same, start-before_tree, reached-lawful, act-reached, after-length, step-cables, after-cabling}
 use Rattle.cable_world.specs.Quiet.{HoldSchedule, quiet_after}
-use Rattle.cable_world.proofs.QuietTurns.{after-cabling}
-use Rattle.convergence.proofs.coins.StaysContested.{quiet-contested}
+use Rattle.convergence.proofs.Lemmas.{quiet-contested, reached-contested}
 use Rattle.convergence.specs.Turns.{turns_to_over}
-use Rattle.convergence.proofs.coins.StaysContested.{reached-contested}
 use Rattle.outcomes.specs.Forced.{IsForced, IsNamedAlone, IsRooted, NamesRoot}
 use Rattle.outcomes.specs.Identify.{IsIdentifying}
 use Rattle.outcomes.specs.NodeMarks.{is_ready}

@@ -5,9 +5,7 @@ use Rattle.cabling.specs.Component.{IsComponent}
 use Rattle.cable_world.specs.World.{CableWorld}
 use Rattle.cable_world.specs.Turn.{turn, turns_after}
 use Rattle.cable_world.specs.Run.{Event, turns, Runs, IsReached, quiet_turns}
-use Rattle.cable_world.proofs.QuietTurns.{after-cabling, quiet-reached}
-use Rattle.cable_world.proofs.StaysLawful.{reached-lawful}
-use Rattle.cable_world.proofs.resets.Entries.{after-length}
+use Rattle.cable_world.proofs.Lemmas.{after-cabling, quiet-reached, reached-lawful, after-length}
 use Rattle.outcomes.specs.Settled.{HasNoAct, turn_count, EveryQuietRunSettles}
 use Rattle.outcomes.specs.Headline.{IsLeftAlone, EveryBusSettles, AnyBusCanBeLeftAlone}
 use Rattle.outcomes.proofs.settled.QuietRuns.{ComesBy, comes-by}

@@ -15,17 +15,11 @@ use Rattle.cable_world.specs.Turn.{turn}
 use Rattle.cable_world.specs.Act.{ActLeads, IsAct, act_fault, hold, hold_fault, note_changes}
 use Rattle.cable_world.specs.Run.{IsReached}
 use Rattle.cable_world.specs.Lawful.{IsLawful}
-use Rattle.cable_world.proofs.acts.Happenings.{acting}
-use Rattle.cable_world.proofs.StaysLawful.{turn-lawful, act-lawful}
-use Rattle.cable_world.proofs.turns.ByNumber.{cabling-after}
+use Rattle.cable_world.proofs.Lemmas.{acting, turn-lawful, act-lawful, cabling-after, some-same}
 use Rattle.convergence.specs.Acyclic.{IsAcyclic}
 use Rattle.convergence.specs.Milestones.{AreIdentifying}
-use Rattle.convergence.proofs.ranks.RanksInActs.{power-on-acyclic, hold-acyclic, act-acyclic}
-use Rattle.convergence.proofs.ranks.RanksInTurns.{turn-acyclic}
-use Rattle.convergence.proofs.turns.AlongRuns.{IsKept, kept-reached}
-use Rattle.cable_world.proofs.Options.{some-same}
+use Rattle.convergence.proofs.Lemmas.{power-on-acyclic, hold-acyclic, act-acyclic, turn-acyclic, IsKept, kept-reached, kept-quiet}
 use Rattle.cable_world.specs.Quiet.{HoldSchedule, quiet_after}
-use Rattle.convergence.proofs.turns.AlongRuns.{kept-quiet}
 use Rattle.port_state.specs.declared.states.NodeState.{NodeState}
 use Rattle.outcomes.specs.Identify.{IsIdentifying}
 use Rattle.outcomes.specs.Numbered.{Settles, IsNumbering}

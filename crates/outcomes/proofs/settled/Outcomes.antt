@@ -5,18 +5,17 @@ use Rattle.topology_stack.specs.Tree.{Tree, emits}
 use Rattle.cabling.specs.NodeSet.{Holds}
 use Rattle.cabling.specs.Component.{IsComponent}
 use Rattle.cabling.specs.Labels.{labels}
-use Rattle.cabling.proofs.OneTree.{one-tree}
+use Rattle.cabling.proofs.Lemmas.{one-tree}
 use Rattle.port_state.specs.Machine.{PortNode}
 use Rattle.cable_world.specs.World.{CableWorld}
 use Rattle.cable_world.specs.Lawful.{IsLawful}
 use Rattle.cable_world.specs.Outcome.{IsContention, IsTree, IsFirstPair, IsSettled, attrs_now, tree, contention}
-use Rattle.cable_world.proofs.Options.{some-of, some-same}
+use Rattle.cable_world.proofs.Lemmas.{some-of, some-same}
 use Rattle.convergence.specs.Acyclic.{IsAcyclic}
 use Rattle.convergence.specs.Drawers.{HasDrawn}
 use Rattle.convergence.specs.Milestones.{ResetsAreOver, HasContention}
 use Rattle.convergence.specs.Rivals.{IsContested}
-use Rattle.convergence.proofs.coins.Drawers.{no-third}
-use Rattle.convergence.proofs.rounds.Shaken.{search-set}
+use Rattle.convergence.proofs.Lemmas.{no-third, search-set}
 use Rattle.outcomes.specs.Identify.{IsIdentifying}
 use Rattle.outcomes.specs.NodeMarks.{is_ready}
 use Rattle.outcomes.specs.Numbered.{IsSettling}

@@ -7,7 +7,7 @@ use Rattle.cable_world.specs.Outcome.{IsSettled}
 use Rattle.cable_world.specs.Turn.{turn}
 use Rattle.cable_world.specs.Run.{Event, acts, holds, turns, Runs, IsReached, quiet_turns}
 use Rattle.cable_world.specs.Quiet.{PlacedHold, HoldSchedule, no_holds, with_hold, with_holds, quiet_after}
-use Rattle.cable_world.proofs.QuietTurns.{holds-are-calls, no-quiet, quiet-first}
+use Rattle.cable_world.proofs.Lemmas.{holds-are-calls, no-quiet, quiet-first}
 use Rattle.outcomes.specs.Settled.{HasNoAct, turn_count}
 use Rattle.outcomes.proofs.settled.QuietTurns.{settles-at-last}
 

@@ -6,28 +6,19 @@ use Rattle.cabling.specs.NodeSet.{Holds, IsEmpty}
 use Rattle.cabling.specs.Component.{IsComponent}
 use Rattle.cabling.specs.Looped.{IsCore, HasTwo}
 use Rattle.cabling.specs.Sees.{numbers}
-use Rattle.cabling.proofs.Ends.{plugged}
-use Rattle.cabling.proofs.Near.{end_at}
+use Rattle.cabling.proofs.Lemmas.{plugged, end_at}
 use Rattle.cable_world.specs.World.{CableWorld}
 use Rattle.cable_world.specs.Run.{IsReached, quiet_turns}
 use Rattle.cable_world.specs.Lawful.{IsLawful}
 use Rattle.cable_world.specs.Outcome.{IsTree, IsSettled, loop}
-use Rattle.cable_world.proofs.resets.Entries.{after-length}
-use Rattle.cable_world.proofs.StaysLawful.{reached-lawful}
+use Rattle.cable_world.proofs.Lemmas.{after-length, reached-lawful, quiet-then, quiet-lawful, after-cabling}
 use Rattle.cable_world.specs.Quiet.{HoldSchedule, holds_after, quiet_after}
-use Rattle.cable_world.proofs.QuietTurns.{quiet-then, quiet-lawful, after-cabling}
-use Rattle.convergence.proofs.coins.StaysContested.{quiet-contested}
+use Rattle.convergence.proofs.Lemmas.{quiet-contested, done-after, taken-reached, decided-reached, start-grown, reached-contested, resets-over, grown-of, search-set, contention-after}
 use Rattle.outcomes.proofs.settled.Numbering.{quiet-numbering}
 use Rattle.convergence.specs.Kept.{IsGrown}
 use Rattle.convergence.specs.Milestones.{ResetsAreOver, ResetsAreDone, AreIdentifying, HasContention}
 use Rattle.convergence.specs.Rivals.{IsContested}
 use Rattle.convergence.specs.Turns.{turns_to_loops, turns_to_decision}
-use Rattle.convergence.proofs.AfterTurns.{done-after, taken-reached, decided-reached, start-grown}
-use Rattle.convergence.proofs.coins.StaysContested.{reached-contested}
-use Rattle.convergence.proofs.resets.ResetsOver.{resets-over}
-use Rattle.convergence.proofs.rounds.IdentifyOrContend.{grown-of}
-use Rattle.convergence.proofs.rounds.Shaken.{search-set}
-use Rattle.convergence.proofs.rounds.ThirtyThreeRounds.{contention-after}
 use Rattle.outcomes.specs.Numbered.{Settles, IsNumbering}
 use Rattle.outcomes.proofs.numbers.Spreads.{tree-soon}
 use Rattle.outcomes.proofs.settled.Beginnings.{all-or-not, not-both-ways}
@@ -38,7 +29,7 @@ use Rattle.outcomes.proofs.settled.Unnamed.{loop-outcome}
 -- ---- turns
 
 -- enough for a tree to come to rest: five times as many as there are nodes, times d
-room-to-rest : (len d : ℕ) → len ≤ 63 → 5 * len * d ≤ 315 * d
+pub room-to-rest : (len d : ℕ) → len ≤ 63 → 5 * len * d ≤ 315 * d
 room-to-rest len d few =
     let r : ℕ = 63 - len in
     let z : 63 ≡ len + r = omega (arith, few) in

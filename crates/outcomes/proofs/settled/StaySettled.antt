@@ -19,28 +19,12 @@ use Rattle.cable_world.specs.Run.{Event, acts, holds, turns, Runs, IsReached, qu
 use Rattle.cable_world.specs.Lawful.{IsLawful}
 use Rattle.cable_world.specs.Outcome.{Outcome, loop, tree, contention, IsLoop, IsTree, IsContention, IsOutcome, IsSettled}
 use Rattle.cable_world.specs.Phases.{is_before_tree}
-use Rattle.cable_world.proofs.Options.{some-of, some-at, some-same}
-use Rattle.cable_world.proofs.StaysLawful.{reached-lawful}
-use Rattle.cable_world.proofs.StaysReached.{turn-reached, hold-reached}
-use Rattle.cable_world.proofs.resets.Entries.{after-delay, after-length}
-use Rattle.cable_world.proofs.turns.ByNumber.{cabling-after, delay-after, nodes-after}
-use Rattle.cable_world.proofs.turns.NodeFacts.{risen}
+use Rattle.cable_world.proofs.Lemmas.{some-of, some-at, some-same, reached-lawful, turn-reached, hold-reached, after-delay, after-length, cabling-after, delay-after, nodes-after, risen, quiet-then, quiet-lawful, quiet-reached, after-cabling}
 use Rattle.cable_world.specs.Quiet.{HoldSchedule, holds_after, quiet_after}
-use Rattle.cable_world.proofs.QuietTurns.{quiet-then, quiet-lawful, quiet-reached, after-cabling}
 use Rattle.convergence.specs.Kept.{IsGrown}
 use Rattle.convergence.specs.Milestones.{ResetsAreDone, TreesAreTaken, ResetsAreOver, HasContention}
 use Rattle.convergence.specs.Turns.{turns_to_done}
-use Rattle.convergence.proofs.AfterTurns.{done-after, taken-reached, taken-turn}
-use Rattle.convergence.proofs.coins.StaysContested.{reached-contested}
-use Rattle.convergence.proofs.loops.Cores.{core-shows}
-use Rattle.convergence.proofs.ranks.StaysAcyclic.{reached-acyclic}
-use Rattle.convergence.proofs.resets.ResetsDone.{done-over}
-use Rattle.convergence.proofs.rounds.Grown.{Grown}
-use Rattle.convergence.proofs.rounds.IdentifyOrContend.{grown-of}
-use Rattle.convergence.proofs.rounds.ThirtyThreeRounds.{contention-turn}
-use Rattle.convergence.proofs.trees.TreeStart.{IsEarly, only-start, start-early, start-timer}
-use Rattle.convergence.proofs.turns.BeforeTree.{StaysInStart, stays-in-start}
-use Rattle.convergence.proofs.turns.CalmTurns.{Calmly, calmly, heard_by, early-before, done-calm, turn-done}
+use Rattle.convergence.proofs.Lemmas.{done-after, taken-reached, taken-turn, reached-contested, core-shows, reached-acyclic, done-over, Grown, grown-of, contention-turn, IsEarly, only-start, start-early, start-timer, StaysInStart, stays-in-start, Calmly, calmly, heard_by, early-before, done-calm, turn-done}
 use Rattle.outcomes.specs.Numbered.{IsNumbering}
 use Rattle.outcomes.specs.Settled.{HasNoAct}
 use Rattle.outcomes.proofs.settled.Beginnings.{all-or-not}

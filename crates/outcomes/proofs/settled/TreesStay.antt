@@ -9,15 +9,10 @@ use Rattle.cable_world.specs.World.{CableWorld}
 use Rattle.cable_world.specs.Turn.{turn}
 use Rattle.cable_world.specs.declared.act.Act.{Act}
 use Rattle.cable_world.specs.Act.{ActLeads, IsAct, act_fault, hold, note_changes}
-use Rattle.cable_world.proofs.acts.Happenings.{acting}
-use Rattle.cable_world.proofs.tables.CountsInActs.{act-keeps}
+use Rattle.cable_world.proofs.Lemmas.{acting, act-keeps, some-of, some-same, reached-lawful, turn-reached, hold-reached, act-reached, cabling-after}
 use Rattle.cable_world.specs.Run.{Event, acts, holds, turns, Runs, IsReached}
 use Rattle.cable_world.specs.Lawful.{IsLawful}
 use Rattle.cable_world.specs.Outcome.{IsTree}
-use Rattle.cable_world.proofs.Options.{some-of, some-same}
-use Rattle.cable_world.proofs.StaysLawful.{reached-lawful}
-use Rattle.cable_world.proofs.StaysReached.{turn-reached, hold-reached, act-reached}
-use Rattle.cable_world.proofs.turns.ByNumber.{cabling-after}
 use Rattle.convergence.specs.Milestones.{AreIdentifying}
 use Rattle.outcomes.specs.NodeMarks.{is_ready}
 use Rattle.outcomes.specs.Numbered.{Settles, IsNumbering, IsSettling, IsAtRest}

@@ -8,9 +8,7 @@ use Rattle.cabling.specs.Wiring.{far}
 use Rattle.cabling.specs.NodeSet.{Holds}
 use Rattle.cabling.specs.Component.{IsComponent}
 use Rattle.cabling.specs.Looped.{IsCore, HasTwo}
-use Rattle.cabling.proofs.Ends.{plugged}
-use Rattle.cabling.proofs.Near.{end_at}
-use Rattle.cabling.proofs.Whole.{shared}
+use Rattle.cabling.proofs.Lemmas.{plugged, end_at, shared}
 use Rattle.port_state.specs.Heard.{hears_packets}
 use Rattle.port_state.specs.Ports.{is_port, is_connected}
 use Rattle.port_state.specs.Machine.{PortNode}
@@ -19,29 +17,19 @@ use Rattle.cable_world.specs.Run.{IsReached}
 use Rattle.cable_world.specs.Signals.{signals_of, has_reset}
 use Rattle.cable_world.specs.Lawful.{IsLawful}
 use Rattle.cable_world.specs.Outcome.{Shows, IsLoop}
-use Rattle.cable_world.proofs.Options.{some-at}
-use Rattle.cable_world.proofs.StaysLawful.{reached-lawful}
+use Rattle.cable_world.proofs.Lemmas.{some-at, reached-lawful, no-packets, quiet-lawful}
 use Rattle.convergence.specs.Acyclic.{IsAcyclic, IsChildCable, ComesDown}
 use Rattle.convergence.specs.Cables.{AreJoined}
 use Rattle.convergence.specs.Milestones.{ResetsAreOver, ResetsAreOverIn}
 use Rattle.convergence.specs.Turns.{turns_to_loops}
-use Rattle.convergence.proofs.AfterTurns.{done-after, reported-reached}
-use Rattle.convergence.proofs.loops.Cores.{no-root-with-loop}
-use Rattle.convergence.proofs.ranks.Ranks.{none-rises-on}
-use Rattle.convergence.proofs.ranks.StaysAcyclic.{reached-acyclic}
-use Rattle.convergence.proofs.resets.ResetsDone.{done-over}
-use Rattle.convergence.proofs.sets.Closure.{in-component}
-use Rattle.convergence.proofs.turns.Cables.{joined-of}
+use Rattle.convergence.proofs.Lemmas.{done-after, reported-reached, no-root-with-loop, none-rises-on, reached-acyclic, done-over, in-component, joined-of, quiet-acyclic}
 use Rattle.outcomes.specs.NodeMarks.{is_ready}
 use Rattle.outcomes.specs.Identify.{Identifies, IsIdentifying}
 use Rattle.outcomes.proofs.identify.Hearing.{parent-connected}
 use Rattle.outcomes.proofs.identify.MarksKept.{hears-late}
 use Rattle.outcomes.proofs.identify.StaysIdentifying.{reached-identifying}
 use Rattle.outcomes.proofs.identify.OneMessage.{end-of}
-use Rattle.cable_world.proofs.running.Lists.{no-packets}
 use Rattle.cable_world.specs.Quiet.{HoldSchedule, quiet_after}
-use Rattle.cable_world.proofs.QuietTurns.{quiet-lawful}
-use Rattle.convergence.proofs.ranks.StaysAcyclic.{quiet-acyclic}
 use Rattle.outcomes.proofs.identify.StaysIdentifying.{quiet-identifying}
 
 -- a granted node of a set

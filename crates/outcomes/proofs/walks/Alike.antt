@@ -8,8 +8,7 @@ use Rattle.self_id.specs.Slots.{slot_count}
 use Rattle.cabling.specs.Sees.{Sees, SeesFrom, numbers, numbers_below}
 use Rattle.outcomes.specs.WalkMarks.{is_in, before, mark, mark_below}
 use Rattle.outcomes.specs.Alike.{Alike, SeenAlike}
-use Rattle.cabling.proofs.Once.{In, in_left, in_right}
-use Rattle.cabling.proofs.Small.{Loopless, tree_within}
+use Rattle.cabling.proofs.Lemmas.{In, in_left, in_right, Loopless, tree_within}
 
 mutual
   same-sees :

@@ -11,13 +11,10 @@ use Rattle.topology_stack.specs.Tree.{Label, Tree, branch, Slots, unplugged, up,
 use Rattle.cabling.specs.declared.cable.End.{End}
 use Rattle.cabling.specs.Wiring.{Wiring, ports_of}
 use Rattle.cabling.specs.Sees.{Sees, SeesFrom, numbers, numbers_below}
-use Rattle.cabling.specs.codings.Visits.{visits, visits_below, at_root}
-use Rattle.cabling.specs.codings.Shown.{shown_node}
+use Rattle.cabling.proofs.Lemmas.{visits, visits_below, at_root, shown_node, walk_seen, Loopless}
 use Rattle.outcomes.specs.Parents.{ParentsAre, ParentsBelow}
 use Rattle.outcomes.specs.WalkMarks.{mark, place, Marked}
 use Rattle.outcomes.specs.Emit.{EmitsByNode}
-use Rattle.cabling.proofs.Shown.{walk_seen}
-use Rattle.cabling.proofs.Small.{Loopless}
 use Rattle.outcomes.proofs.walks.Marked.{tree-marked}
 
 -- what a node shows, by its parent port

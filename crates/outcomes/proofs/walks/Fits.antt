@@ -7,7 +7,7 @@ use Rattle.cabling.specs.declared.cable.End.{End}
 use Rattle.cabling.specs.Wiring.{Wiring, ports_of}
 use Rattle.cabling.specs.Sees.{Sees, SeesFrom, numbers, numbers_below}
 use Rattle.outcomes.specs.WalkMarks.{is_in, before, mark, mark_below}
-use Rattle.cabling.proofs.Once.{In, Once, in_left, in_right}
+use Rattle.cabling.proofs.Lemmas.{In, Once, in_left, in_right}
 
 abbrev mutual
   pub Fits : Wiring → (ℕ → ℕ → ℕ) → ℕ → Tree → ℕ → Type 0

@@ -10,9 +10,7 @@ use Rattle.outcomes.specs.Parents.{LeadsUp, HasParents}
 use Rattle.outcomes.specs.WalkMarks.{place, Marked}
 use Rattle.outcomes.specs.Intervals.{LeadsToChild}
 use Rattle.outcomes.specs.InTurn.{InTurn, ReadyFirst}
-use Rattle.cabling.proofs.Ends.{plugged}
-use Rattle.cabling.proofs.Near.{end_at}
-use Rattle.cabling.proofs.Seen.{from_or_not}
+use Rattle.cabling.proofs.Lemmas.{plugged, end_at, from_or_not}
 use Rattle.outcomes.proofs.walks.Rising.{places-differ, child-before}
 
 -- the child below which a place lies, among the ports below a number

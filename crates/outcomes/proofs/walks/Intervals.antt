@@ -5,9 +5,7 @@ use Rattle.cabling.specs.Wiring.{Wiring, ports_of, far}
 use Rattle.cabling.specs.NodeSet.{Holds}
 use Rattle.outcomes.specs.WalkMarks.{place, Marked}
 use Rattle.outcomes.specs.Intervals.{LeadsToChild, HasNoChild, Intervals}
-use Rattle.cabling.proofs.Ends.{plugged}
-use Rattle.cabling.proofs.Near.{end_at}
-use Rattle.cabling.proofs.Seen.{from_or_not}
+use Rattle.cabling.proofs.Lemmas.{plugged, end_at, from_or_not}
 use Rattle.outcomes.proofs.walks.Rising.{level, places-differ}
 
 no-child :

@@ -10,10 +10,8 @@ use Rattle.cabling.specs.NodeSet.{Holds}
 use Rattle.cabling.specs.Sees.{Sees, SeesFrom, numbers, numbers_below}
 use Rattle.outcomes.specs.Parents.{ParentsAre, ParentsBelow}
 use Rattle.outcomes.specs.WalkMarks.{mark, place, Marked}
-use Rattle.cabling.proofs.Once.{In, Once, in_append}
+use Rattle.cabling.proofs.Lemmas.{In, Once, in_append, Loopless, tree_within, tree_once, tree_has}
 use Rattle.outcomes.proofs.walks.Fits.{Fits, FitsBelow, mark-fits}
-use Rattle.cabling.proofs.Small.{Loopless, tree_within, tree_once}
-use Rattle.cabling.proofs.Whole.{tree_has}
 
 -- ---- how far marks go
 

@@ -7,10 +7,7 @@ use Rattle.cabling.specs.declared.cable.End.{End}
 use Rattle.cabling.specs.Wiring.{Wiring, ports_of, far}
 use Rattle.cabling.specs.Sees.{Sees, SeesFrom, numbers, numbers_below}
 use Rattle.outcomes.specs.Parents.{LeadsUp, HasParents, LeadDown, ParentsAre, ParentsBelow}
-use Rattle.cabling.proofs.Near.{end_at}
-use Rattle.cabling.proofs.Seen.{from_or_not, RowAt, row_all, row_head, row_tail}
-use Rattle.cabling.proofs.Once.{In, Once, in_left, in_right}
-use Rattle.cabling.proofs.Small.{Loopless, tree_within, tree_once}
+use Rattle.cabling.proofs.Lemmas.{end_at, from_or_not, RowAt, row_all, row_head, row_tail, In, Once, in_left, in_right, Loopless, tree_within, tree_once}
 
 -- the root of a tree has the port
 tree-parent :

@@ -8,8 +8,7 @@ use Rattle.cabling.specs.NodeSet.{Holds}
 use Rattle.cabling.specs.Component.{IsClosed}
 use Rattle.outcomes.specs.WalkMarks.{place, Marked}
 use Rattle.outcomes.specs.WaysUp.{Lowest}
-use Rattle.cabling.proofs.Ends.{plugged}
-use Rattle.cabling.proofs.Near.{end_at}
+use Rattle.cabling.proofs.Lemmas.{plugged, end_at}
 
 -- marks rise with the ports
 pub rises-to :

@@ -9,12 +9,7 @@ use Rattle.cabling.specs.Sees.{Sees, SeesFrom, numbers, numbers_below}
 use Rattle.outcomes.specs.Parents.{LeadsUp, ParentsAre, ParentsBelow}
 use Rattle.outcomes.specs.WalkMarks.{mark}
 use Rattle.outcomes.specs.WaysUp.{WaysUp}
-use Rattle.cabling.proofs.Near.{end_at}
-use Rattle.cabling.proofs.Seen.{RowAt, row_all, row_head, row_tail}
-use Rattle.cabling.proofs.Once.{In, Once, in_append}
-use Rattle.cabling.proofs.Waiting.{plain}
-use Rattle.cabling.proofs.Small.{Loopless, tree_once, small_tree}
-use Rattle.cabling.proofs.Whole.{tree_has}
+use Rattle.cabling.proofs.Lemmas.{end_at, RowAt, row_all, row_head, row_tail, In, Once, in_append, plain, Loopless, tree_once, small_tree, tree_has}
 use Rattle.outcomes.proofs.walks.Parents.{child-parent}
 use Rattle.outcomes.proofs.walks.Marked.{tree-marked, root-spot}
 use Rattle.outcomes.proofs.walks.Rising.{lowest}

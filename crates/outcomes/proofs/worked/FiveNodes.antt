@@ -10,9 +10,8 @@ use Rattle.port_state.specs.Tick.{tick}
 use Rattle.cabling.specs.Wiring.{Wiring}
 use Rattle.cable_world.specs.Turn.{turn, turns_after}
 use Rattle.cable_world.specs.Outcome.{attrs_now, IsTree}
-use Rattle.cable_world.proofs.worked.Summary.{Summary, summary_of, attrs, at}
-use Rattle.cable_world.proofs.worked.Settled.{tree-settled}
-use Rattle.convergence.proofs.worked.FiveNodes.{line, star}
+use Rattle.cable_world.proofs.Lemmas.{Summary, summary_of, attrs, at, tree-settled}
+use Rattle.convergence.proofs.Lemmas.{line, star}
 
 -- a link, S400 and no contender, where every node began the last reset
 abbrev plain : Label

@@ -10,7 +10,7 @@ use Rattle.port_state.specs.Tick.{tick}
 use Rattle.port_state.specs.Machine.{PortNode}
 use Rattle.cable_world.specs.World.{CableWorld, world_of_nodes}
 use Rattle.cable_world.specs.Turn.{turn, turns_after}
-use Rattle.cable_world.proofs.worked.Summary.{node_of, attrs, at, after_plug}
+use Rattle.cable_world.proofs.Lemmas.{node_of, attrs, at, after_plug}
 use Rattle.outcomes.specs.Forced.{waits_due}
 
 waiting : PortNode → PortNode

@@ -4,15 +4,14 @@ use Rattle.std.proofs.Common.{◌≡◌, ℕ, zero, suc, true, false, [], ◌∷
 use Rattle.port_state.specs.Entry.{enter}
 use Rattle.port_state.specs.Timing.{InRange, usual_timing}
 use Rattle.port_state.specs.Machine.{PortNode}
-use Rattle.port_state.proofs.Laws.{valid-power_on}
+use Rattle.port_state.proofs.Lemmas.{valid-power_on}
 use Rattle.cable_world.specs.declared.act.Act.TheVariants.{Plug}
 use Rattle.cable_world.specs.World.{IsNodeAtPowerOn, IsPowerOnWorld, world_of_nodes}
 use Rattle.cable_world.specs.Turn.{turns_after}
 use Rattle.cable_world.specs.Act.{act_fault}
 use Rattle.cable_world.specs.Run.{acts, IsReached, quiet_turns}
-use Rattle.cable_world.proofs.Options.{some-same}
-use Rattle.cable_world.proofs.worked.Summary.{plain_node, attrs, at}
-use Rattle.cable_world.proofs.worked.TwoNodes as pair
+use Rattle.cable_world.proofs.Lemmas.{some-same, plain_node, attrs, at}
+use Rattle.cable_world.proofs.Lemmas as pair
 use Rattle.outcomes.specs.Headline.{IsLeftAlone, AllSettled, EveryBusSettles}
 use Rattle.outcomes.proofs.settled.LeftAlone.{left-alone}
 

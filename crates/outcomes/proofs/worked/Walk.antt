@@ -7,8 +7,7 @@ use Rattle.cabling.specs.Wiring.{Wiring}
 use Rattle.cabling.specs.Sees.{Sees, numbers}
 use Rattle.outcomes.specs.Parents.{ParentsAre}
 use Rattle.outcomes.specs.WalkMarks.{mark}
-use Rattle.cabling.proofs.Near.{end_at}
-use Rattle.cabling.proofs.Waiting.{plain}
+use Rattle.cabling.proofs.Lemmas.{end_at, plain}
 
 abbrev four : Wiring
 four =

@@ -5,7 +5,7 @@ use Rattle.self_id.specs.declared.node.Attrs.{Attrs}
 use Rattle.self_id.specs.declared.node.PortStatus.{PortStatus}
 use Rattle.self_id.specs.declared.node.PortStatus.TheVariants.{Absent, Unplugged, Up, Down}
 use Rattle.self_id.specs.Node.{Node}
-use Rattle.self_id.specs.codings.Node.{node_code}
+use Rattle.self_id.proofs.Lemmas.{node_code}
 use Rattle.topology_stack.specs.Tree.{Label, Tree, branch, Slots, no_more, absent, unplugged, up, down, statuses, node_of, walk, walk_below}
 
 abbrev pub label_of : Node → Label

@@ -1,6 +1,6 @@
 use Rattle.std.proofs.Common.{◌≡◌, ◌∙◌, List, [], Some, length, map, slice_get, slice_index_or, ap, sym, subst, arith}
 use Rattle.std.proofs.lemmas.List.{length-map}
-use Rattle.cabling.proofs.Ends.{plugged}
+use Rattle.cabling.proofs.Lemmas.{plugged}
 use Rattle.port_state.specs.Config.{config_packet}
 use Rattle.cable_world.specs.declared.act.Act.{Act}
 use Rattle.cable_world.specs.Wire.{Wire}

@@ -2,7 +2,7 @@ use Rattle.std.proofs.Common.{◌∙◌, ◌<◌, length, get_or, arith, ap, sym
 use Rattle.std.proofs.lemmas.List.{drop_all}
 use Rattle.port_state.specs.declared.signal.Signal.TheVariants as signal
 use Rattle.port_state.specs.Heard.{on_signal}
-use Rattle.port_state.proofs.Laws.{sound-on_signal}
+use Rattle.port_state.proofs.Lemmas.{sound-on_signal}
 use Rattle.cable_world.specs.Turn.{wires_after_sends}
 use Rattle.cable_world.specs.running.Hearing.{node_hears, on_one}
 use Rattle.cable_world.proofs.running.Sending.{no-sends}

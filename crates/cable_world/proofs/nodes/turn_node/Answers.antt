@@ -3,7 +3,7 @@ use Rattle.cabling.specs.Wiring.{ports_of}
 use Rattle.port_state.specs.Coins.{coin}
 use Rattle.port_state.specs.Tick.{tick}
 use Rattle.port_state.specs.Machine.{node_tick}
-use Rattle.port_state.proofs.Laws.{sound-tick}
+use Rattle.port_state.proofs.Lemmas.{sound-tick}
 use Rattle.cable_world.specs.Turn.{wires_after_sends}
 use Rattle.cable_world.specs.running.Hearing.{node_hears, inbox_of}
 use Rattle.cable_world.proofs.running.Sending.{sends-then}

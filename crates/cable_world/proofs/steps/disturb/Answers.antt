@@ -1,6 +1,6 @@
 use Rattle.std.proofs.Common.{◌∙◌}
 use Rattle.port_state.specs.Entry as entry
-use Rattle.port_state.proofs.Laws.{sound-disturb}
+use Rattle.port_state.proofs.Lemmas.{sound-disturb}
 use Rattle.cable_world.proofs.running.Hearing.{sends-fit}
 use Rattle.cable_world.proofs.running.Stepping.{reset-seen}
 use Rattle.cable_world.proofs.steps.disturb.Goals as goal

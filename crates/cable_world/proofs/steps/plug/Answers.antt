@@ -2,7 +2,7 @@ use Rattle.std.proofs.Common.{◌∙◌, true}
 use Rattle.port_state.specs.declared.signal.Level.TheVariants as level
 use Rattle.port_state.specs.Entry.{with_port}
 use Rattle.port_state.specs.Entry as entry
-use Rattle.port_state.proofs.Laws.{sound-plugged}
+use Rattle.port_state.proofs.Lemmas.{sound-plugged}
 use Rattle.cable_world.proofs.running.Hearing.{sends-fit}
 use Rattle.cable_world.proofs.running.Stepping.{reset-seen}
 use Rattle.cable_world.proofs.steps.plug.Goals as goal

@@ -1,8 +1,7 @@
 use Rattle.cable_world.specs.World.{CableWorld}
 use Rattle.cable_world.specs.Quiet.{quiet_after}
 use Rattle.cable_world.specs.Lawful.{IsLawful}
-use Rattle.cable_world.proofs.StaysLawful.{reached-lawful}
-use Rattle.cable_world.proofs.QuietTurns.{quiet-lawful}
+use Rattle.cable_world.proofs.Lemmas.{reached-lawful, quiet-lawful}
 use Rattle.convergence.specs.Milestones.{ResetsAreOver}
 use Rattle.convergence.specs.Rivals.{IsContested}
 use Rattle.convergence.proofs.coins.StaysContested.{reached-contested, quiet-contested}

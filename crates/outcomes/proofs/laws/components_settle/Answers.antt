@@ -1,6 +1,6 @@
 use Rattle.std.proofs.Common.{◌^◌, ◌<◌}
 use Rattle.cabling.specs.Existence.{HasCore}
-use Rattle.cable_world.proofs.StaysLawful.{reached-lawful}
+use Rattle.cable_world.proofs.Lemmas.{reached-lawful}
 use Rattle.outcomes.proofs.settled.Components.{small-there}
 use Rattle.outcomes.proofs.settled.QuietTurns.{settles-at-last, done-at-last}
 use Rattle.outcomes.proofs.settled.QuietRuns.{run-settles}

@@ -1,7 +1,7 @@
 use Rattle.std.proofs.Common.{◌<◌, length, arith}
 use Rattle.std.proofs.lemmas.Option.{slice_get_within}
 use Rattle.cable_world.specs.Turn.{turn}
-use Rattle.cable_world.proofs.turns.ByNumber.{nodes-after}
+use Rattle.cable_world.proofs.Lemmas.{nodes-after}
 use Rattle.outcomes.proofs.settled.Components.{small-there}
 use Rattle.outcomes.proofs.numbers.HoldRests.{hold-settles}
 use Rattle.outcomes.proofs.numbers.AtRest.{has-prefix, has-room}

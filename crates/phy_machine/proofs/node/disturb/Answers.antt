@@ -1,4 +1,4 @@
-use Rattle.port_state.proofs.Laws.{sound-disturb}
+use Rattle.port_state.proofs.Lemmas.{sound-disturb}
 use Rattle.phy_machine.proofs.node.disturb.Goals as goal
 
 pub returns-clause-valid : goal.returns-clause-valid

@@ -1,6 +1,6 @@
 use Rattle.std.proofs.Common.{rules, ◌≡◌}
 use Rattle.port_state.specs.Heard.{on_signal}
-use Rattle.port_state.proofs.Laws.{sound-on_signal}
+use Rattle.port_state.proofs.Lemmas.{sound-on_signal}
 use Rattle.phy_machine.proofs.node.on_signal.Goals as goal
 
 pub returns-in-Some-clause-valid : goal.returns-in-Some-clause-valid

@@ -1,6 +1,6 @@
 use Rattle.std.proofs.Common.{rules, ◌≡◌}
 use Rattle.port_state.specs.Entry.{plugged}
-use Rattle.port_state.proofs.Laws.{sound-plugged}
+use Rattle.port_state.proofs.Lemmas.{sound-plugged}
 use Rattle.phy_machine.proofs.node.plugged.Goals as goal
 
 pub returns-clause-valid : goal.returns-clause-valid

@@ -1,6 +1,6 @@
 use Rattle.std.proofs.Common.{rules, ◌≡◌}
 use Rattle.port_state.specs.Entry.{pulled}
-use Rattle.port_state.proofs.Laws.{sound-pulled}
+use Rattle.port_state.proofs.Lemmas.{sound-pulled}
 use Rattle.phy_machine.proofs.node.pulled.Goals as goal
 
 pub returns-clause-valid : goal.returns-clause-valid

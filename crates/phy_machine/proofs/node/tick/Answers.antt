@@ -1,6 +1,6 @@
 use Rattle.std.proofs.Common.{◌≡◌, ap}
 use Rattle.port_state.specs.Coins.{coin}
-use Rattle.port_state.proofs.Laws.{sound-tick}
+use Rattle.port_state.proofs.Lemmas.{sound-tick}
 use Rattle.phy_machine.proofs.TickRows.{tick-row_step}
 use Rattle.phy_machine.proofs.node.tick.Goals as goal
 

@@ -1,5 +1,5 @@
 use Rattle.std.proofs.Common.{refl}
-use Rattle.phy_packet.proofs.Laws.{packet-shown}
+use Rattle.phy_packet.proofs.Lemmas.{packet-shown}
 use Rattle.self_id.proofs.Quads.{further_or_not}
 use Rattle.self_id.proofs.packets.further_part.Goals as goal
 

@@ -1,6 +1,6 @@
 use Rattle.std.proofs.Common.{arith, ap, sym, refl, ◌∙◌, ◌<◌, length, get_or}
 use Rattle.phy_packet.specs.declared.packet.PhyPacket.{PhyPacket}
-use Rattle.phy_packet.proofs.Laws.{packet-shown}
+use Rattle.phy_packet.proofs.Lemmas.{packet-shown}
 use Rattle.self_id.specs.codings.Reading.{owned}
 use Rattle.self_id.proofs.Steps.{owned_here, owned_end}
 use Rattle.self_id.proofs.packets.owned_packet.Goals as goal

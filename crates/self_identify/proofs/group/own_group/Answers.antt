@@ -1,6 +1,6 @@
 use Rattle.std.proofs.Common.{◌≡◌, refl, ◌∙◌}
 use Rattle.port_state.specs.Group.{shown_node}
-use Rattle.port_state.proofs.Laws.{shown-is_node}
+use Rattle.port_state.proofs.Lemmas.{shown-is_node}
 use Rattle.self_identify.proofs.group.own_group.Goals as goal
 
 pub new-requires : goal.new-requires

@@ -1,4 +1,4 @@
-use Rattle.topology_stack.proofs.Laws.{one_of, no_fault, one_fault}
+use Rattle.topology_stack.proofs.Lemmas.{one_of, no_fault, one_fault}
 use Rattle.topology_stack.proofs.answers.one_answer.Goals as goal
 
 pub returns-clause-some : goal.returns-clause-some

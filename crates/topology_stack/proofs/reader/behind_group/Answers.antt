@@ -1,5 +1,6 @@
 use Rattle.std.proofs.Common.{sym}
-use Rattle.topology_stack.proofs.Streaming.{behind, group_refused, lasting_group}
+use Rattle.topology_stack.proofs.Streaming.{behind, group_refused}
+use Rattle.topology_stack.proofs.Lasting.{lasting_group}
 use Rattle.topology_stack.proofs.reader.behind_group.Goals as goal
 
 pub returns-in_ok-after_node-in-Ok-clause-place : goal.returns-in_ok-after_node-in-Ok-clause-place

@@ -2,7 +2,7 @@ use Rattle.std.proofs.Common.{◌≡◌, ◌∙◌, ◌<◌, length, sym, refl, 
 use Rattle.std.proofs.lemmas.Bool.{eqb-true, eqb-false}
 use Rattle.std.proofs.lemmas.Result.{err_from_is_err_and}
 use Rattle.topology_stack.proofs.Loop.{is_after_root, is_full, is_group_fault, is_node_fault, is_end, ended_empty, ended_unrooted, ended_rooted, goes_round, takes, refuses, place_is, moves}
-use Rattle.topology_stack.proofs.Laws.{is_refused, is_emitted}
+use Rattle.topology_stack.proofs.Lemmas.{is_refused, is_emitted}
 use Rattle.topology_stack.proofs.Joining.{kept_is, keeps, count_is, links_one_more}
 use Rattle.topology_stack.proofs.reading.nodes_of.Goals as goal
 

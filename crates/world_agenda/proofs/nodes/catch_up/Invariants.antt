@@ -1,7 +1,7 @@
 use Rattle.std.proofs.Common.{◌≡◌, map, drop}
 use Rattle.world_agenda.specs.Clock.{caught_up}
-use Rattle.world_agenda.proofs.Mixed.{mixed}
 use Rattle.world_agenda.proofs.nodes.catch_up.Given as goal
+use Rattle.cable_world.proofs.Lemmas.{mixed}
 
 abbrev pub invariant-loop-at : goal.invariant-loop-at
 invariant-loop-at g l =

@@ -2,8 +2,9 @@ use Rattle.std.proofs.Common.{◌≡◌, ◌∙◌, refl, arith}
 use Rattle.std.proofs.Math.Seq.{map-set_same}
 use Rattle.port_state.specs.Machine.{PortNode}
 use Rattle.world_agenda.specs.declared.node.AgendaNode.{AgendaNode}
-use Rattle.world_agenda.proofs.Places.{all-more, all-taken}
+use Rattle.world_agenda.proofs.Places.{all-more}
 use Rattle.world_agenda.proofs.nodes.set_clocks.Goals as goal
+use Rattle.cable_world.proofs.Lemmas.{all-taken}
 
 pub loop-at-preserved : goal.loop-at-preserved
 loop-at-preserved g c =

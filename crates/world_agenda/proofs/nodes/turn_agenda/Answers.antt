@@ -5,8 +5,9 @@ use Rattle.cable_world.specs.Wire.{Wire, arrives, stays}
 use Rattle.cable_world.specs.Parts.{world_record}
 use Rattle.world_agenda.specs.declared.node.AgendaNode.{AgendaNode}
 use Rattle.world_agenda.specs.Clock.{caught_up}
-use Rattle.world_agenda.proofs.Whole.{all-young, has-its-ports, turn-is, rows-long, sent-long}
+use Rattle.world_agenda.proofs.Whole.{has-its-ports, turn-is}
 use Rattle.world_agenda.proofs.nodes.turn_agenda.Goals as goal
+use Rattle.cable_world.proofs.Lemmas.{all-young, rows-long, sent-long}
 
 pub turn_wires-requires-clause-young : goal.turn_wires-requires-clause-young
 turn_wires-requires-clause-young g c = all-young _ c.requires.lawful.well_formed

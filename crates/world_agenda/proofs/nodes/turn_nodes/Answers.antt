@@ -9,10 +9,11 @@ use Rattle.cable_world.specs.running.Hearing.{inbox_of}
 use Rattle.cable_world.specs.running.Steps.{turns_of}
 use Rattle.world_agenda.specs.declared.node.AgendaNode.{AgendaNode}
 use Rattle.world_agenda.specs.Clock.{caught_up}
-use Rattle.world_agenda.proofs.Mixed.{next-is, mixed-set, mixed-all}
-use Rattle.world_agenda.proofs.Places.{same-here, same-past, all-more, all-at, all-taken}
-use Rattle.world_agenda.proofs.Steps.{steps-length, step-at, rows-length, row-at, changes-length, change-at, get-some}
+use Rattle.world_agenda.proofs.Mixed.{next-is, mixed-set}
+use Rattle.world_agenda.proofs.Places.{same-here, same-past, all-more, all-at}
+use Rattle.world_agenda.proofs.Steps.{step-at, row-at, change-at}
 use Rattle.world_agenda.proofs.nodes.turn_nodes.Goals as goal
+use Rattle.cable_world.proofs.Lemmas.{steps-length, rows-length, changes-length, get-some, all-taken, mixed-all}
 
 pub turn_node-requires-clause-behind : goal.turn_node-requires-clause-behind
 turn_node-requires-clause-behind g c =

@@ -3,8 +3,8 @@ use Rattle.port_state.specs.Machine.{NodeStep}
 use Rattle.cable_world.specs.Turn.{all_wires_after_sends, last_changes}
 use Rattle.cable_world.specs.running.Steps.{turns_of}
 use Rattle.world_agenda.specs.Clock.{caught_up}
-use Rattle.world_agenda.proofs.Mixed.{mixed}
 use Rattle.world_agenda.proofs.nodes.turn_nodes.Given as goal
+use Rattle.cable_world.proofs.Lemmas.{mixed}
 
 abbrev pub invariant-loop-at : goal.invariant-loop-at
 invariant-loop-at g l =

@@ -1,6 +1,6 @@
 use Rattle.std.proofs.Common.{sym, ap, subst, ◌∙◌}
 use Rattle.port_state.specs.Valid.{IsValid}
-use Rattle.port_state.proofs.Laws.{sound-on_signal}
+use Rattle.port_state.proofs.Lemmas.{sound-on_signal}
 use Rattle.phy_machine.specs.Node.{node_of}
 use Rattle.phy_machine.specs.Node.{with_ports}
 use Rattle.phy_machine.proofs.PlainLevels.{plain-heard}

@@ -1,5 +1,5 @@
 use Rattle.std.proofs.Common.{sym, ap, ◌∙◌, arith}
-use Rattle.port_state.proofs.IdleTicks.{after-idle_ticks}
+use Rattle.port_state.proofs.Lemmas.{after-idle_ticks}
 use Rattle.phy_machine.specs.Node.{node_of}
 use Rattle.phy_machine.specs.Node.{with_ports}
 use Rattle.phy_machine.specs.Packed.{packed_node}

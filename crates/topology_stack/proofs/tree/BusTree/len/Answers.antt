@@ -1,7 +1,7 @@
 use Rattle.std.proofs.Common.{ap, subst, length, arith}
 use Rattle.topology_stack.specs.codings.Code.{tree_of}
 use Rattle.topology_stack.specs.Tree.{IsBusTree}
-use Rattle.topology_stack.proofs.Laws.{some_node}
+use Rattle.topology_stack.proofs.Lemmas.{some_node}
 use Rattle.topology_stack.proofs.tree.BusTree.len.Goals as goal
 
 pub returns-clause-value : goal.returns-clause-value

@@ -1,6 +1,6 @@
 use Rattle.std.proofs.Common.{ap, length, arith}
 use Rattle.topology_stack.specs.codings.Code.{tree_of}
-use Rattle.topology_stack.proofs.Laws.{some_node}
+use Rattle.topology_stack.proofs.Lemmas.{some_node}
 use Rattle.topology_stack.proofs.tree.BusTree.root.Goals as goal
 
 pub returns : goal.returns

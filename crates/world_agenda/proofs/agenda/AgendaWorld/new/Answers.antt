@@ -10,8 +10,9 @@ use Rattle.cable_world.specs.Run.{IsReached}
 use Rattle.world_agenda.specs.declared.node.AgendaNode.{AgendaNode}
 use Rattle.world_agenda.specs.Clock.{caught_up}
 use Rattle.world_agenda.proofs.Late.{all-now}
-use Rattle.world_agenda.proofs.Start.{powered, are-counts, as-long, start-is, power-on}
+use Rattle.world_agenda.proofs.Start.{powered, as-long, start-is}
 use Rattle.world_agenda.proofs.agenda.AgendaWorld.new.Goals as goal
+use Rattle.cable_world.proofs.Lemmas.{are-counts, power-on}
 
 pub new-requires-clause-counts : goal.new-requires-clause-counts
 new-requires-clause-counts g c =

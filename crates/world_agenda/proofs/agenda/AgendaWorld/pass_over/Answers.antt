@@ -14,8 +14,9 @@ use Rattle.cable_world.specs.Still.{AreSilent, IsStillFor, hold_less}
 use Rattle.cable_world.specs.Run.{IsReached}
 use Rattle.world_agenda.proofs.Late.{all-later, still-idle}
 use Rattle.world_agenda.proofs.Turns.{no-turns}
-use Rattle.world_agenda.proofs.Whole.{lawful-now, rows-long}
+use Rattle.world_agenda.proofs.Whole.{lawful-now}
 use Rattle.world_agenda.proofs.agenda.AgendaWorld.pass_over.Goals as goal
+use Rattle.cable_world.proofs.Lemmas.{rows-long}
 
 pub returns-then-not-all_silent-clause-done : goal.returns-then-not-all_silent-clause-done
 returns-then-not-all_silent-clause-done g c = sym (no-turns _)

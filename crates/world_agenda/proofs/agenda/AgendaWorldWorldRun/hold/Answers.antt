@@ -8,8 +8,9 @@ use Rattle.cable_world.specs.Parts.{world_record}
 use Rattle.world_agenda.specs.declared.node.AgendaNode.{AgendaNode}
 use Rattle.world_agenda.specs.Clock.{caught_up}
 use Rattle.cable_world.specs.Run.{IsReached}
-use Rattle.world_agenda.proofs.Whole.{lawful-now, has-wire, may-hold, held-is, put-long}
+use Rattle.world_agenda.proofs.Whole.{lawful-now, has-wire, may-hold, held-is}
 use Rattle.world_agenda.proofs.agenda.AgendaWorldWorldRun.hold.Goals as goal
+use Rattle.cable_world.proofs.Lemmas.{put-long}
 
 pub index_mut-requires : goal.index_mut-requires
 index_mut-requires g c =

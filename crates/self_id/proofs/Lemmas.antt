@@ -9,10 +9,16 @@ use Rattle.self_id.specs.declared.standard.Standard.TheVariants.{Ieee2000}
 use Rattle.self_id.specs.Node.{Node, IsNode, IsOf, is_width_of, ups}
 use Rattle.self_id.specs.Group.{group}
 use Rattle.self_id.specs.Refused.{GroupRefused}
-use Rattle.self_id.specs.codings.Reading.{read_at}
+pub use Rattle.self_id.specs.codings.Reading.{read_at}
 use Rattle.self_id.proofs.Taken.{refuses_end, refuses_other, refuses_owner, refuses_order}
 use Rattle.self_id.proofs.Sound.{stopped, grouped, reading, three, eleven, sixteen, nineteen, full, width_of}
-use Rattle.self_id.proofs.Again.{again, stops_at, group3, group11, group16, group19, group27}
+pub use Rattle.self_id.proofs.Again.{group3, group11, group16}
+use Rattle.self_id.proofs.Again.{again, stops_at, group19, group27}
+-- Of the packets of a group the first alone is a packet zero, so a list of groups has as many packet
+-- zeros as nodes.
+pub use Rattle.self_id.proofs.Zeros.{node_count-append, node_count-group}
+-- A node stored as plain numbers. No public contract cites this file.
+pub use Rattle.self_id.specs.codings.Node.{node_code}
 
 abbrev ok_node : Node → Result Node GroupFault
 ok_node n = Ok n

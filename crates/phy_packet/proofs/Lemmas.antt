@@ -4,7 +4,7 @@ use Rattle.std.proofs.Common.{arith, eqb, ap, sym, ◌∙◌}
 use Rattle.std.proofs.lemmas.Bool.{eqb-true, eqb-false}
 use Rattle.phy_packet.specs.Layout.{bit}
 use Rattle.phy_packet.specs.Packet.{quad_of, IsValid, Shows, is_self_id}
-use Rattle.phy_packet.specs.codings.Decoding.{config_of, link_on_of, self_zero_of, self_more_of, packet_of}
+pub use Rattle.phy_packet.specs.codings.Decoding.{config_of, link_on_of, self_zero_of, self_more_of, packet_of}
 use Rattle.phy_packet.specs.declared.packet.PhyPacket.{PhyPacket}
 use Rattle.phy_packet.specs.declared.packet.PhyPacket.TheVariants.{Config, LinkOn, SelfZero, SelfMore, Extended, Other}
 

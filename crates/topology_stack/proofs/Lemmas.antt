@@ -11,6 +11,10 @@ use Rattle.topology_stack.specs.Refused.{Refused}
 use Rattle.topology_stack.proofs.ReadFrom.{read}
 use Rattle.topology_stack.proofs.Sound.{Explained, read_sound}
 use Rattle.topology_stack.proofs.Exact.{emits_again, refused_again}
+-- The highest ID of a candidate, found from the first node on.
+pub use Rattle.topology_stack.proofs.Highest.{is_highest}
+-- Faults that a list keeps, however it goes on.
+pub use Rattle.topology_stack.proofs.Lasting.{lasts}
 
 explained : (standard : Standard) (l : List ℕ) (r : Result (List Node) TreeFault) →
     read standard l ≡ r → Explained standard l r

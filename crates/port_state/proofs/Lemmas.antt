@@ -1,0 +1,20 @@
+-- What crates above use: each step of a valid record is sound, what steps leave as it was, and each
+-- step told port by port.
+pub use Rattle.port_state.proofs.Sound.{valid-raise_timer, sound-tick, sound-on_signal, sound-enter, sound-disturb, sound-plugged, sound-pulled, valid-set_config, valid-power_on}
+pub use Rattle.port_state.proofs.Stays.{tick-keeps, signal-keeps, enter-keeps, plugged-keeps, pulled-keeps, config-keeps}
+pub use Rattle.port_state.proofs.Cables.{tick-cables, signal-cables, enter-cables, plugged-cables, pulled-cables}
+pub use Rattle.port_state.proofs.Pointwise.{on_every-port, on_others-port, notices-port, packets-port, map-port, changed-port, sent_on-append}
+pub use Rattle.port_state.proofs.CoinPlaces.{coin_at-given}
+pub use Rattle.port_state.proofs.Shown.{length-statuses_from, shown-is_node, shown-is_of}
+pub use Rattle.port_state.proofs.Shown.{node_count-own_group}
+-- Facts of each port, where ports are changed.
+pub use Rattle.port_state.proofs.EachPort.{lowest-passes, port_is-changed, port_is-map}
+-- A tick is idle exactly where its row changes nothing, and then it raises the timer alone.
+pub use Rattle.port_state.proofs.IdleTicks.{after-idle_ticks, idle_ticks-rest}
+-- The roles of ports, as the rows of tree identify give and change them.
+pub use Rattle.port_state.proofs.Roles.{decided_few, left_is}
+-- What goes out on ports: on which, and how much.
+pub use Rattle.port_state.proofs.Sent.{on-append}
+-- That a record is valid has one proof at most, so a machine can keep it as a fact of its own. No
+-- public contract cites this file.
+pub use Rattle.port_state.specs.codings.OneProof.{valid_prop}
