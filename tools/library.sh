@@ -198,7 +198,7 @@ includedir=\${prefix}/include
 libdir=\${prefix}/lib
 
 Name: busconf
-Description: FireWire cable buses, read and planned by proved functions
+Description: FireWire cable buses, read, planned and run by proved functions
 Version: $("$top/tools/version")
 Cflags: -I\${includedir}
 Libs: -L\${libdir} -lbusconf
