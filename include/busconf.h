@@ -1,4 +1,4 @@
-/* busconf: FireWire cable buses, read and planned by functions that are proved to meet their contracts.
+/* busconf: FireWire cable buses, read, planned and run by functions that are proved to meet their contracts.
  *
  * C99 and C++17. Link with -lbusconf; docs/LIBRARY.md says what the proof covers at this border.
  *

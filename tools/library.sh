@@ -111,7 +111,7 @@ differs() {
 }
 
 run_tests() {
-  local check=() python exported file form
+  local check=() python exported file form input
   build "$room"
   exported=$(nm -D --defined-only "$room/libbusconf.so" | awk '{ print $3 }' | grep -v '^busconf_' || true)
   exported+=$(nm -g --defined-only "$room/libbusconf.a" | awk 'NF == 3 { print $3 }' | grep -v '^busconf_' || true)
@@ -133,9 +133,9 @@ run_tests() {
   done
   for file in bench bench-c++; do
     "$room/$file" "$top/examples/hub.script" <"$top/examples/hub.capture" | diff "$top/examples/c/bench.stdout" -
-    "$room/$file" "$top/examples/two-nodes.script" <"$top/examples/two-nodes.capture" >/dev/null
-    differs "$room/$file" "$top/examples/hub.script" <"$top/examples/two-nodes.capture"
-    differs "$room/$file" "$top/examples/hub.script" <"$top/examples/missing-child.capture"
+    for input in two-nodes missing-child flipped-bit; do
+      differs "$room/$file" "$top/examples/two-nodes.script" <"$top/examples/$input.capture"
+    done
   done
 
   if command -v valgrind >/dev/null; then
@@ -198,7 +198,7 @@ includedir=\${prefix}/include
 libdir=\${prefix}/lib
 
 Name: busconf
-Description: FireWire cable buses, read and planned by proved functions
+Description: FireWire cable buses, read, planned and run by proved functions
 Version: $("$top/tools/version")
 Cflags: -I\${includedir}
 Libs: -L\${libdir} -lbusconf

@@ -35,12 +35,24 @@ static char *run(const char *script, size_t count) {
   return text;
 }
 
-/* Gives a reader what a device recorded, one quadlet after the other, as the device does. */
+static uint32_t quadlet(const unsigned char *b) {
+  return (uint32_t)b[0] << 24 | (uint32_t)b[1] << 16 | (uint32_t)b[2] << 8 | b[3];
+}
+
+/* Gives a reader what a device recorded, one packet after the other, as the device does. */
 static uint32_t record(struct busconf_reader *device, struct busconf_fault *fault) {
   unsigned char b[8];
+  size_t pair;
   busconf_reader_init(device);
-  while (fread(b, 1, sizeof b, stdin) == sizeof b)
-    busconf_reader_push(device, (uint32_t)b[0] << 24 | (uint32_t)b[1] << 16 | (uint32_t)b[2] << 8 | b[3]);
+  for (pair = 0; fread(b, 1, sizeof b, stdin) == sizeof b; pair++) {
+    if (quadlet(b + 4) != (uint32_t)~quadlet(b)) {
+      fault->at = pair;
+      fault->kind = BUSCONF_BAD_INVERSE;
+      fault->found = fault->wanted = 0;
+      return BUSCONF_REFUSED;
+    }
+    busconf_reader_push(device, quadlet(b));
+  }
   return busconf_reader_state(device, fault);
 }
 

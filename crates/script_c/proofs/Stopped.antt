@@ -1,0 +1,17 @@
+-- What is told of a script that has no text.
+use Rattle.std.proofs.Common.{ℕ, List, refl}
+use Rattle.std.specs.Prelude.{Err}
+use Rattle.script_lines.specs.declared.kind.ScriptStop.{ScriptStop}
+use Rattle.script_lines.specs.declared.kind.ScriptStop.TheVariants.{Fault, Memory}
+use Rattle.script_told.specs.Script.{Told}
+use Rattle.script_run.specs.Answered.{StopsWith}
+use Rattle.script_c.specs.declared.record.ScriptFaultRecord.{ScriptFaultRecord}
+use Rattle.script_c.specs.Faults.{IsStopped}
+use Rattle.script_c.specs.Answers.{TellsScript, refused, no_memory}
+
+pub stopped :
+    (HasText : List ℕ → Type 0) (Tells : Told → Type 0) (stop : ScriptStop) (place : List ℕ) (needed : ℕ) (before after : ScriptFaultRecord) (status : ℕ) →
+    StopsWith Tells stop → IsStopped stop before after status →
+    TellsScript HasText (λ f. Tells (Err f)) place place needed needed before after status
+stopped HasText Tells (Fault f) place needed before after status has (is, one) = refused f has is refl refl one
+stopped HasText Tells (Memory none) place needed before after status has (is, two) = no_memory refl refl is two
