@@ -1,12 +1,12 @@
 -- Each quadlet shows a packet.
-use Rattle.std.proofs.Common.{◌≡◌, ◌<◌, ◌^◌, ◌/◌, ◌%◌, ◌==◌, ◌||◌, ◌*◌, ◌+◌, ℕ, Bool, true, false, List, [], ◌∷◌, refl, eqb, eqb-true, sym, arith}
-use Rattle.std.specs.Prelude.{All, IsTrue, map, if◌then◌else◌}
+use Rattle.std.proofs.Common.{◌≡◌, ◌<◌, ◌^◌, ◌/◌, ◌%◌, ◌==◌, ◌||◌, ℕ, Bool, true, false, List, [], ◌∷◌, refl, eqb-true, arith}
+use Rattle.std.specs.Prelude.{All, IsTrue, if◌then◌else◌}
 use Rattle.std.proofs.lemmas.Bool.{eqb-false}
 use Rattle.std.proofs.lemmas.List.Elements.{All-nil, All-cons, All-head, All-tail}
-use Rattle.quad_lanes.specs.Pairs.{big_endian, quads_of, pairs, firsts}
+use Rattle.quad_lanes.specs.Pairs.{big_endian, quads_of, firsts}
 use Rattle.phy_packet.specs.Packet.{Shows}
 use Rattle.phy_packet.specs.declared.packet.PhyPacket.{PhyPacket}
-use Rattle.phy_packet.specs.declared.packet.PhyPacket.TheVariants.{Config, LinkOn, Extended, Other}
+use Rattle.phy_packet.specs.declared.packet.PhyPacket.TheVariants.{Extended, Other}
 use Rattle.phy_packet.specs.codings.Decoding.{config_of, link_on_of, self_zero_of, self_more_of, packet_of}
 use Rattle.phy_packet.proofs.Laws.{bit-eqb, bit_fits, shows-self_zero, shows-self_more}
 use Rattle.view_text.specs.Pairs.{AreShown}

@@ -1,7 +1,6 @@
 -- All words and bytes have an answer.
-use Rattle.std.proofs.Common.{◌≡◌, ◌<◌, ◌-◌, ◌⊎◌, inl, inr, ℕ, List, [], ◌∷◌, Option, Some, None, Ok, Err, length, slice_get, refl, sym, ap, ◌∙◌, arith}
-use Rattle.std.specs.Prelude.{Result, All, String}
-use Rattle.std.specs.Global.{Global}
+use Rattle.std.proofs.Common.{◌<◌, ◌-◌, ◌⊎◌, inl, inr, ℕ, List, [], Ok, Err, length, refl, sym, ap, arith}
+use Rattle.std.specs.Prelude.{All}
 use Rattle.std.proofs.lemmas.Option.{slice_get_cases}
 use Rattle.quad_lanes.specs.Pairs.{quads_of}
 use Rattle.self_id.specs.declared.standard.Standard.{Standard}
@@ -10,11 +9,9 @@ use Rattle.topology_stack.specs.Tree.{Tree, walk}
 use Rattle.bus_manager.specs.Hops.{IsHops}
 use Rattle.bus_manager.proofs.Longest.{is_hops, small}
 use Rattle.bus_cli.specs.OneReading.{EachCaptureHasATreeOrAFault}
-use Rattle.bus_cli.specs.Capture.{Spells}
 use Rattle.bus_cli.specs.Line.{fault_line, script_line}
-use Rattle.script_lines.specs.declared.kind.ScriptFault.{ScriptFault}
 use Rattle.script_told.specs.Script.{Told}
-use Rattle.script_told.specs.Run.{ScriptRun, IsRun, printed, unless_stopped, IsTold}
+use Rattle.script_told.specs.Run.{ScriptRun, IsRun, printed, unless_stopped}
 use Rattle.script_bus.specs.SomeRun.{EachScriptHasARun}
 use Rattle.script_trace.specs.Trace.{IsTraceOf}
 use Rattle.script_trace.specs.OneTrace.{RunsHaveTraces}
@@ -25,7 +22,7 @@ use Rattle.bus_view.specs.declared.form.CaptureView.{CaptureView}
 use Rattle.bus_view.specs.declared.form.CaptureView.TheVariants.{Packets, Tree as Drawn, Dot}
 use Rattle.bus_view.specs.declared.form.ViewForm.{ViewForm}
 use Rattle.bus_view.specs.declared.form.ViewForm.TheVariants.{Capture, Trace}
-use Rattle.bus_view.specs.Form.{Asks, IsForm}
+use Rattle.bus_view.specs.Form.{IsForm}
 use Rattle.bus_view.specs.Sentence.{place, note}
 use Rattle.bus_view.specs.Answer.{Reading, spelt, refused, IsReading, status_of, HasText, IsCaptureView, IsTraceView, traced, at_fault, IsView, Answers, viewed, no_form}
 use Rattle.bus_view.specs.OneAnswer.{EachInputHasAView}

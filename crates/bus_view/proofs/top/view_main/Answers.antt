@@ -1,4 +1,4 @@
-use Rattle.std.proofs.Common.{◌≡◌, ◌⊎◌, ◌≤◌, inl, inr, ℕ, length}
+use Rattle.std.proofs.Common.{◌≡◌, ◌⊎◌, ◌≤◌, inl, inr, length}
 use Rattle.std.specs.Io.KnownBytes.{Appends}
 use Rattle.bus_cli.proofs.Ends.{of_answer, of_few}
 use Rattle.bus_view.specs.Answer.{Answers}
