@@ -1,13 +1,13 @@
 -- The parts of a ROM are its quadlets, and the other way round.
-use Rattle.std.proofs.Common.{◌≡◌, ℕ, zero, suc, ◌+◌, ◌-◌, ◌*◌, ◌/◌, ◌%◌, ◌^◌, ◌<◌, ◌≤◌, List, [], ◌∷◌, ◌++◌, length, take, drop, refl, ap, sym, ◌∙◌, subst, arith, length-append}
-use Rattle.std.specs.Prelude.{slice_index}
+use Rattle.std.proofs.Common.{◌≡◌, ◌≢◌, ℕ, zero, suc, ◌+◌, ◌-◌, ◌*◌, ◌/◌, ◌%◌, ◌^◌, ◌<◌, ◌≤◌, List, [], ◌∷◌, ◌++◌, length, take, drop, refl, ap, sym, ◌∙◌, subst, arith, length-append}
+use Rattle.std.specs.Prelude.{slice_index, slice_set}
 use Rattle.std.specs.List.{All}
 use Rattle.std.proofs.Math.Seq.{drop-cons, take-append_seam, drop-append_seam}
-use Rattle.std.proofs.lemmas.List.{take-append-drop, length-take-le, drop_all, get_or-take, get_or-drop}
-use Rattle.std.proofs.lemmas.List.Elements.{All-get_or}
+use Rattle.std.proofs.lemmas.List.{take-append-drop, length-take-le, drop_all, get_or-take, get_or-drop, get_or-set_other, length-set}
+use Rattle.std.proofs.lemmas.List.Elements.{All-get_or, All-from_get_or, All-set, All-append, All-cons}
 use Rattle.topology_map.proofs.Parts.{joined}
 use Rattle.config_rom.specs.Layout.{info_len_of, root_of, length_at, crc_at, end_of}
-use Rattle.config_rom.specs.Rom.{Parts, first_quad, root_header, rom_quads, IsRom}
+use Rattle.config_rom.specs.Rom.{Parts, first_quad, root_header, rom_quads, IsRom, unsealed}
 use Rattle.config_rom.specs.codings.Parts.{parts_of, HasLayout}
 
 pub drop-more : (n m : ℕ) (xs : List ℕ) → drop (n + m) xs ≡ drop m (drop n xs)
@@ -169,3 +169,60 @@ entries_part v quads root end is e f g =
     ∙ ap (λ k. take (length v.entries) (drop (k + 1) (rom_quads v))) place
     ∙ ap (λ l. take (length v.entries) l) p.behind
     ∙ take-append_seam v.entries v.rest
+
+-- ---- a quadlet set
+
+-- one that is neither of the first two nor the header of the root directory
+pub set-layout :
+    (quads : List ℕ) (place quad : ℕ) → HasLayout quads → 2 ≤ place → place ≢ root_of quads →
+    quad < 2 ^ 32 → HasLayout (slice_set quads place quad)
+set-layout quads place quad h behind other fits =
+    let first : slice_index (slice_set quads place quad) 0 ≡ slice_index quads 0 = get_or-set_other quads place 0 quad 0 (omega (arith, behind)) in
+    let root : root_of (slice_set quads place quad) ≡ root_of quads = ap (λ q. 1 + q / 2 ^ 24) first in
+    let header : slice_index (slice_set quads place quad) (root_of quads) ≡ slice_index quads (root_of quads) = get_or-set_other quads place (root_of quads) quad 0 (λ e. other (sym e)) in
+    let len : length (slice_set quads place quad) ≡ length quads = length-set quads place quad in
+    record {
+      few = omega (arith, len, h.few);
+      info_two = omega (arith, ap (λ q. q / 2 ^ 24) first, h.info_two);
+      info_whole = omega (arith, root, len, h.info_whole);
+      name = get_or-set_other quads place 1 quad 0 (omega (arith, behind)) ∙ h.name;
+      root_whole = omega (arith, len, root, ap (λ k. length_at (slice_set quads place quad) k) root, ap (λ q. q / 2 ^ 16) header, h.root_whole);
+      fit = All-set (λ q. q < 2 ^ 32) quads place quad fits h.fit;
+    }
+
+pub set-quads :
+    (v : Parts) (quads : List ℕ) (place quad : ℕ) → HasLayout quads → parts_of quads ≡ v →
+    2 ≤ place → place ≢ 1 + v.info_len → quad < 2 ^ 32 →
+    rom_quads (parts_of (slice_set quads place quad)) ≡ slice_set (rom_quads v) place quad
+set-quads v quads place quad h is behind other fits =
+    let n : info_len_of quads ≡ v.info_len = ap (λ (p : Parts). p.info_len) is in
+    let no : place ≢ root_of quads = λ e. other (omega (arith, e, n)) in
+    rom_quads-parts_of (slice_set quads place quad) (set-layout quads place quad h behind no fits)
+    ∙ ap (λ qs. slice_set qs place quad) (sym (rom_quads-parts_of quads h) ∙ ap rom_quads is)
+
+-- ---- parts that are given
+
+pub all-fit : (quads : List ℕ) → ((i : ℕ) → slice_index quads i < 2 ^ 32) → All (λ q. q < 2 ^ 32) quads
+all-fit quads fit = All-from_get_or (λ q. q < 2 ^ 32) quads 0 (λ i _. fit i)
+
+pub unsealed-rom :
+    (info entries rest : List ℕ) (n : ℕ) → 2 ≤ length info → slice_index info 0 ≡ 0x31333934 →
+    2 + length info + length entries + length rest ≤ 256 → n < 2 ^ 8 →
+    All (λ q. q < 2 ^ 32) info → All (λ q. q < 2 ^ 32) entries → All (λ q. q < 2 ^ 32) rest →
+    IsRom (unsealed info n entries rest)
+unsealed-rom info entries rest n two name few small a b c =
+    let P : ℕ → Type 0 = λ q. q < 2 ^ 32 in
+    let tail = All-append P entries rest b c in
+    let v : Parts = unsealed info n entries rest in
+    record {
+      info_is = refl;
+      info_two = two;
+      name = name;
+      few = omega (arith, length-append info (root_header v ∷ (entries ++ rest)), length-append entries rest, few);
+      info_len_fits = omega (arith, few);
+      crc_length_fits = small;
+      crc_fits = omega arith;
+      root_crc_fits = omega arith;
+      quads_fit = All-cons P (first_quad v) (info ++ (root_header v ∷ (entries ++ rest))) (omega (arith, few, small))
+          (All-append P info (root_header v ∷ (entries ++ rest)) a (All-cons P (root_header v) (entries ++ rest) (omega (arith, few)) tail));
+    }

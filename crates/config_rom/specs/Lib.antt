@@ -1,8 +1,10 @@
 pub mod Layout
 pub mod Rom
 pub mod Fault
+pub mod Refused
 pub mod Crc
 pub mod Block
+pub mod Entry
 pub mod Seal
 pub mod Text
 pub mod OneReading

@@ -28,6 +28,18 @@ root_header v = 2 ^ 16 * length v.entries + v.root_crc
 abbrev pub rom_quads : Parts → List ℕ
 rom_quads v = first_quad v ∷ (v.info ++ (root_header v ∷ (v.entries ++ v.rest)))
 
+-- a ROM of these parts, whose CRCs are still 0
+abbrev pub unsealed : List ℕ → ℕ → List ℕ → List ℕ → Parts
+unsealed info crc_length entries rest = record {
+  info_len = length info;
+  crc_length = crc_length;
+  crc = 0;
+  info = info;
+  root_crc = 0;
+  entries = entries;
+  rest = rest;
+}
+
 -- the bytes of quadlets, the highest of each first
 abbrev pub bytes_of : List ℕ → List ℕ
 bytes_of [] = []

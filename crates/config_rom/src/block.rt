@@ -148,10 +148,10 @@ pub fn blocks(alloc: Global, rom: &Rom) -> Result<BlockList, RomStop>
     // The blocks are answered, unless memory ran out.
     ensures found { IfOk result (AreBlocks rom.now) }
     ensures only { (list : List Block) → AreBlocks rom.now list → UnlessMemory result (Ok list) }
-    // A fault that is answered is the first, and the first is answered, unless memory ran out.
+    // A fault that is answered is the first, and the first is answered.
     ensures refused { IfFault result (BlocksRefused rom.now) }
     ensures exact { (fault : RomFault) → BlocksRefused rom.now fault →
-        UnlessMemory result (Err (Fault fault)) }
+        result ≡ Err (Fault fault) }
 {
     let quads = rom.quads();
     let root = 1 + usize::from(rom.info_len());

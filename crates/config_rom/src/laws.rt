@@ -1,5 +1,6 @@
 //! Laws of ROMs.
 ghost use Rattle.config_rom.specs.OneReading.{EachInputIsARomOrRefused, NoInputIsTwoRoms, NoRomIsRefused, EachRomHasGoodBlocksOrAFault, NoGoodBlocksAreRefused, NoBlocksHaveTwoFaults, NoRomHasTwoLists, NoRomHasTwoTexts};
+ghost use Rattle.config_rom.specs.Refused.{RomsAreRefusedSo};
 ghost use Rattle.config_rom.specs.SomeText.{RomsHaveTexts};
 
 /// A law: each input is the bytes of a ROM or is refused, none is those of two ROMs, and none of a
@@ -8,6 +9,12 @@ pub fn one_rom()
     ensures some { EachInputIsARomOrRefused }
     ensures rom { NoInputIsTwoRoms }
     ensures apart { NoRomIsRefused }
+{}
+
+/// A law: what bytes are refused for, as one line for each fault says it, is what
+/// [`decode_rom`](crate::decode_rom) answers.
+pub fn roms_are_refused_so()
+    ensures { RomsAreRefusedSo }
 {}
 
 /// A law: the blocks of each ROM have no fault or a first one, not both, and no two first ones. A

@@ -4,6 +4,7 @@
 
 mod block;
 mod crc;
+mod entry;
 mod fault;
 mod laws;
 mod marks;
@@ -14,10 +15,11 @@ mod text;
 
 pub use block::{Block, BlockKind, BlockList, blocks};
 pub use crc::CrcState;
+pub use entry::{Entry, EntryType};
 pub use fault::{RomFault, RomStop};
-pub use laws::{one_list, one_rom, roms_have_texts};
+pub use laws::{one_list, one_rom, roms_are_refused_so, roms_have_texts};
 pub use quad_lanes::OutOfMemory;
-pub use rom::{Rom, decode_rom, encode_rom};
+pub use rom::{BUS_NAME, Rom, decode_rom, encode_rom};
 pub use sealing::seal;
 pub use text::rom_text;
 

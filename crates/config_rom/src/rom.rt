@@ -1,14 +1,15 @@
 //! A configuration ROM, from bytes and to bytes.
-ghost use Rattle.std.specs.Prelude.{◌≡◌, ◌↔◌, ◌+◌, ◌*◌, ◌/◌, ◌<◌, ◌≤◌, ◌^◌, ℕ, length, slice_index, Err, Ok, Some, IfOk, IsTrue};
+ghost use Rattle.std.specs.Prelude.{◌≡◌, ◌≢◌, ◌↔◌, ◌+◌, ◌*◌, ◌/◌, ◌<◌, ◌≤◌, ◌^◌, ℕ, length, slice_index, slice_set, Err, Ok, Some, IfOk, IsTrue};
 ghost use Rattle.quad_lanes.specs.Pairs.{quads_of};
 ghost use Rattle.config_rom.specs.declared.fault.RomFault.{RomFault};
 ghost use Rattle.config_rom.specs.declared.fault.RomStop.TheVariants.{Fault};
 ghost use Rattle.config_rom.specs.Layout.{info_len_of, end_of};
-ghost use Rattle.config_rom.specs.Rom.{Parts, IsRom, rom_quads, rom_bytes};
+ghost use Rattle.config_rom.specs.Rom.{Parts, IsRom, rom_quads, rom_bytes, unsealed};
 ghost use Rattle.config_rom.specs.Fault.{rom_fault};
 ghost use Rattle.config_rom.specs.Answer.{IfFault, UnlessMemory};
 
 use crate::fault::{RomFault, RomStop};
+use crate::reach::end_of;
 use byteorder::{BigEndian, ByteOrder};
 use quad_lanes::{OutOfMemory, quads_of};
 use std::alloc::Global;
@@ -18,7 +19,7 @@ use std::marker::Model;
 const MAX_QUADS: usize = 256;
 
 /// The name of the bus, which the bus information block begins with: "1394".
-const BUS_NAME: u32 = 0x3133_3934;
+pub const BUS_NAME: u32 = 0x3133_3934;
 
 /// A configuration ROM: at most 256 quadlets, with a bus information block and a root directory
 /// that are whole. In a contract it is the value of its parts.
@@ -39,6 +40,32 @@ impl Model for Rom {
 }
 
 impl Rom {
+    /// The ROM of these parts: the quadlets of the bus information block, of which the first is
+    /// [`BUS_NAME`]; over how many quadlets behind quadlet 0 the CRC there is to be; the entries of
+    /// the root directory; and every later quadlet. It has at most 256 quadlets, two of which are
+    /// headers. Its CRCs are 0 until [`seal`](crate::seal) or
+    /// [`seal_blocks`](crate::seal_blocks) sets them.
+    pub fn new(
+        alloc: Global,
+        info: &[u32],
+        crc_length: u8,
+        entries: &[u32],
+        rest: &[u32],
+    ) -> Result<Rom, OutOfMemory>
+        requires two { 2 ≤ length info.now }
+        requires name { slice_index info.now 0 ≡ 0x31333934 }
+        requires few { 2 + length info.now + length entries.now + length rest.now ≤ 256 }
+        ensures { IfOk result (λ rom. rom ≡ unsealed info.now crc_length entries.now rest.now) }
+    {
+        let mut quads = Vec::new(alloc);
+        quads.push(info.len() as u32 * 0x100_0000 + u32::from(crc_length) * 0x1_0000)?;
+        quads.extend_from_slice(info)?;
+        quads.push(entries.len() as u32 * 0x1_0000)?;
+        quads.extend_from_slice(entries)?;
+        quads.extend_from_slice(rest)?;
+        Ok(Rom { quads })
+    }
+
     /// The quadlets, at least 4 and at most 256.
     pub fn quads(&self) -> &[u32]
         ensures value { result.now ≡ rom_quads self.now }
@@ -59,6 +86,44 @@ impl Rom {
         ensures { result ≡ self.now.crc_length }
     {
         ((self.quads[0] >> 16) % 256) as u8
+    }
+
+    /// The quadlets of the bus information block, of which the first is the name of the bus.
+    pub fn info(&self) -> &[u32]
+        ensures { result.now ≡ self.now.info }
+    {
+        let info_len = usize::from(self.info_len());
+        &self.quads()[1..1 + info_len]
+    }
+
+    /// The entries of the root directory. [`Rom::entry`] has the fields of one.
+    pub fn entries(&self) -> &[u32]
+        ensures { result.now ≡ self.now.entries }
+    {
+        let root = 1 + usize::from(self.info_len());
+        let quads = self.quads();
+        &quads[root + 1..end_of(quads, root)]
+    }
+
+    /// Every quadlet behind the root directory.
+    pub fn rest(&self) -> &[u32]
+        ensures { result.now ≡ self.now.rest }
+    {
+        let root = 1 + usize::from(self.info_len());
+        let quads = self.quads();
+        &quads[end_of(quads, root)..]
+    }
+
+    /// Sets the quadlet at a place, in quadlets from 0. It is none of the first two, which are
+    /// header and name, nor the header of the root directory. The CRCs stay as they are until they
+    /// are sealed.
+    pub fn set_quad(&mut self, place: usize, quad: u32)
+        requires behind_name { 2 ≤ place }
+        requires no_root { place ≢ 1 + self.old.info_len }
+        requires inside { place < length (rom_quads self.old) }
+        ensures { rom_quads self.new ≡ slice_set (rom_quads self.old) place quad }
+    {
+        self.quads[place] = quad;
     }
 
     /// Sets the CRC that quadlet 0 keeps.
@@ -153,7 +218,7 @@ pub fn decode_rom(alloc: Global, bytes: &[u8]) -> Result<Rom, RomStop>
     // A fault that is answered is the first, and the first is answered.
     ensures refused { IfFault result (λ fault. rom_fault bytes.now ≡ Some fault) }
     ensures exact { (fault : RomFault) → rom_fault bytes.now ≡ Some fault →
-        UnlessMemory result (Err (Fault fault)) }
+        result ≡ Err (Fault fault) }
 {
     if let Some(fault) = fault_of(bytes) {
         return Err(RomStop::Fault(fault));

@@ -1,7 +1,8 @@
 //! Configuration ROMs, both ways.
 
 use config_rom::{
-    BlockKind, CrcState, RomFault, RomStop, blocks, decode_rom, encode_rom, rom_text, seal,
+    BUS_NAME, BlockKind, CrcState, Entry, EntryType, Rom, RomFault, RomStop, blocks, decode_rom,
+    encode_rom, rom_text, seal,
 };
 use std::alloc::Global;
 use std::test::Fail;
@@ -197,5 +198,42 @@ fn blocks_are_shared(rt: HostRuntime) -> Result<(), Fail> {
         ]
         .as_slice()
     );
+    Ok(())
+}
+
+// The camera's ROM from its parts, sealed.
+#[test]
+fn made_of_parts(rt: HostRuntime) -> Result<(), Fail> {
+    let info = [BUS_NAME, 0xf0ff_8002, 0x00ff_ff12, 0x0000_0034];
+    let entries = [0x0300_ffff, 0x8100_0001];
+    let leaf = [0x0003_ca63, 0x0000_0001, 0x0001_0001, 0x807f_0054];
+    let mut rom = Rom::new(rt.alloc(), &info, 4, &entries, &leaf)?;
+    assert_eq!(rt; rom.quads()[0], 0x0404_0000);
+    let within = usize::from(rom.crc_length()) < rom.quads().len();
+    assert!(rt; within);
+    seal(&mut rom);
+    assert_eq!(rt; rom.quads(), CAMERA.as_slice());
+    assert_eq!(rt; rom.info(), info.as_slice());
+    assert_eq!(rt; rom.entries(), entries.as_slice());
+    assert_eq!(rt; rom.rest(), leaf.as_slice());
+    assert_eq!(rt;
+        rom.entry(7),
+        Entry {
+            entry_type: EntryType::Leaf,
+            key: 1,
+            value: 1,
+            target: Some(8),
+        }
+    );
+    let vendor = rom.entry(6);
+    assert_eq!(rt;
+        (vendor.entry_type, vendor.target),
+        (EntryType::Immediate, None)
+    );
+    let free = rom.info_len() == 4 && rom.quads().len() == 12;
+    assert!(rt; free);
+    rom.set_quad(6, 0x0300_fffe);
+    assert_eq!(rt; rom.quads()[6], 0x0300_fffe);
+    assert_eq!(rt; rom.quads()[5], CAMERA[5]);
     Ok(())
 }

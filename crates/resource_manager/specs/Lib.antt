@@ -4,3 +4,4 @@ pub mod Response
 pub mod Grant
 pub mod Access
 pub mod Calls
+pub mod Outcome

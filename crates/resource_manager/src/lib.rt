@@ -8,11 +8,13 @@
 
 mod access;
 mod grant;
+mod laws;
 mod register;
 mod registers;
 
 pub use access::{Access, Answer, are_permitted, serve, serve_all};
 pub use grant::{GrantFault, Seen, allocate, look, release};
+pub use laws::attempts_come_to_one;
 pub use register::Register;
 pub use registers::{COMPARE_SWAP, Registers, Reply};
 

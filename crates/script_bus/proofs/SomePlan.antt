@@ -24,7 +24,7 @@ use Rattle.cable_world.proofs.StaysReached.{act-reached}
 use Rattle.outcomes.specs.Settled.{TreesStay, IdsNameOneNode, ConfigsMoveRoots, ConfigsSetGaps}
 use Rattle.root_plan.proofs.Choosing.{candidate_within}
 use Rattle.settle.specs.declared.report.Report.{Report}
-use Rattle.settle.specs.Report.{HasSettled, quiet_turns_of}
+use Rattle.settle.specs.Report.{quiet_turns_of}
 use Rattle.settle.specs.SomeWalk.{HasWalk, WalksExist}
 use Rattle.settle_plan.specs.Planned.{SuitsTree}
 use Rattle.settle_plan.proofs.Suited.{not-refused, packet-fits}
@@ -33,7 +33,7 @@ use Rattle.settle_plan.proofs.Carried.{nodes-stay}
 use Rattle.script_lines.specs.declared.kind.Kind.{Kind}
 use Rattle.script_text.specs.Plan.{plan_line}
 use Rattle.script_text.specs.SomePlan.{HasPlan, PlansExist}
-use Rattle.script_text.specs.SomeText.{HasReportText, SettledWorldsHaveTexts}
+use Rattle.script_text.specs.SomeText.{HasReportText, QuietWorldsHaveTexts}
 use Rattle.script_told.specs.Bus.{Bus, Reported, node_named, tree_with, values_at}
 use Rattle.script_told.specs.Step.{LineAnswer, HasManager, AtNode, AtTree, AtManager, Plans, PlansAs, Settled, Within, id_of, node_with, notes_after_act, notes_after_report}
 use Rattle.script_told.specs.SomeManager.{IsManaged, ReportedTreesAreManaged}
@@ -68,7 +68,7 @@ Inner bus name node tree r = (manager : Option NodeNumber) × HasManager tree ma
 
 module _
     (trees : NoListHasTwoTrees) (stay : TreesStay) (components : ComponentsExist) (walks : WalksExist) (plans : PlansExist)
-    (texts : SettledWorldsHaveTexts) (managed : ReportedTreesAreManaged)
+    (texts : QuietWorldsHaveTexts) (managed : ReportedTreesAreManaged)
     (names-one : IdsNameOneNode) (moves : ConfigsMoveRoots) (sets : ConfigsSetGaps) where
   module _
       (bus : Bus) (h : IsReachedBus bus) (name : List ℕ) (node : NodeNumber) (there : node < length bus.world.cabling) (tree : Reported)
@@ -130,9 +130,7 @@ module _
     stay-nodes = nodes-stay names-one moves sets w sent.0 after ∣ h.reached ∣₁ l node p.plan suit c.set c.is c.small accepted sent.1 refl
 
     t : HasReportText after bus.notes.names (bus.notes.reports + 1)
-    t =
-        let has-settled : HasSettled after = record { before = sent.0; reached = sent-reached; is = refl } in
-        texts after bus.notes.names (bus.notes.reports + 1) has-settled (h.named ∙ sym stay-nodes)
+    t = texts sent.0 after bus.notes.names (bus.notes.reports + 1) sent-reached refl (h.named ∙ sym stay-nodes)
 
     carried : HasAnswer (Plans bus name node tree)
     carried =

@@ -24,6 +24,7 @@ use resource_manager::Register;
 use root_plan::{RootPlan, choose, expect};
 use script_lines::{Command, Kind, LineStop};
 use script_text::{plan_line, tree_of};
+use settle::quiet_turns_settle;
 use settle_plan::{plans_come_out, plans_suit};
 use std::alloc::Global;
 use topology_stack::{BusTree, Name, OutOfMemory, one_tree};
@@ -185,6 +186,7 @@ impl<W: ShowsWires> Bus<W> {
         ensures sound { OnOk result (IsSound W.world W.is_spent self.new) }
     {
         acts_keep();
+        quiet_turns_settle();
         plans_come_out(&self.world, node);
         self.send(alloc, name, node, plan, listener)?;
         self.pass(alloc, listener)?;

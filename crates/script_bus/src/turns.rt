@@ -14,7 +14,7 @@ use crate::listener::Listener;
 use cable_world::ShowsWires;
 use script_lines::{Kind, LineStop};
 use script_text::{report_text, reports_can_be_shown};
-use settle::{quiet_turns, report_of};
+use settle::{quiet_turns, quiet_turns_settle, report_of};
 use std::alloc::Global;
 use topology_stack::OutOfMemory;
 
@@ -108,6 +108,7 @@ impl<W: ShowsWires> Bus<W> {
         ensures stop { IfErr result (Stops (Settles (bus_now W.world self.old))) }
         ensures sound { OnOk result (IsSound W.world W.is_spent self.new) }
     {
+        quiet_turns_settle();
         self.check_quiet_turns()?;
         self.pass(alloc, listener)?;
         let text = self.report(alloc)?;

@@ -3,14 +3,12 @@ use Rattle.std.proofs.Common.{ℕ, List, [], ◌∷◌, ◌++◌, All, refl, sub
 use Rattle.std.proofs.lemmas.List.{append_assoc, append-nil}
 use Rattle.std.proofs.lemmas.List.Elements.{All-head, All-tail}
 use Rattle.topology_stack.specs.Text.{tree_text}
-use Rattle.cable_world.specs.Run.{IsReached}
-use Rattle.cable_world.proofs.StaysReached.{turns-reached}
 use Rattle.settle.specs.declared.report.Outcome.{Outcome}
 use Rattle.settle.specs.declared.report.Outcome.TheVariants as reported
 use Rattle.settle.specs.declared.report.Part.{Part}
-use Rattle.settle.specs.Report.{quiet_turns_of}
 use Rattle.settle.specs.ReadBack.{ListsAreReadBack}
 use Rattle.settle.specs.SomeReport.{ReportsExist}
+use Rattle.settle.specs.QuietTurns.{SettledWorldsAreReached}
 use Rattle.script_text.specs.ReportText.{Names, names_in, report_line, component_line, root_line, contention_line, loop_line, IsOutcomeText, IsPartText, ArePartTexts, none, more, IsNamedOutcome, IsNamedPart}
 use Rattle.script_text.specs.SomeText.{HasText, NamedReportsHaveTexts, SettledWorldsHaveTexts}
 use Rattle.script_text.proofs.NamedReports.{can-be-shown}
@@ -45,9 +43,9 @@ some-text names number report h =
     let parts = parts-text names [] report.parts [] none h in
     record { text = report_line number report.turn ++ parts.0; is = record { parts = parts.0; told = parts.1; is = refl } }
 
-pub some-report-text : ListsAreReadBack → ReportsExist → SettledWorldsHaveTexts
-some-report-text all-read exist w names number h enough =
-    let reached : IsReached w = subst IsReached (sym h.is) (turns-reached (quiet_turns_of h.before) h.before h.reached) in
+pub some-report-text :
+    ListsAreReadBack → ReportsExist → SettledWorldsAreReached → SettledWorldsHaveTexts
+some-report-text all-read exist reached w names number h enough =
     let r = exist w h in
-    let t : HasText names number r.0 = some-text names number r.0 (can-be-shown all-read w ∣ reached ∣₁ r.0 names r.1 enough) in
+    let t : HasText names number r.0 = some-text names number r.0 (can-be-shown all-read w ∣ reached w h ∣₁ r.0 names r.1 enough) in
     record { report = r.0; is = r.1; text = t.text; told = t.is }

@@ -1,8 +1,9 @@
 -- A report has a text.
 use Rattle.std.specs.Prelude.{◌≡◌, ℕ, List, length}
 use Rattle.cable_world.specs.World.{CableWorld}
+use Rattle.cable_world.specs.Run.{IsReached}
 use Rattle.settle.specs.declared.report.Report.{Report}
-use Rattle.settle.specs.Report.{IsReport, HasSettled}
+use Rattle.settle.specs.Report.{IsReport, IsAfterQuiet, HasSettled}
 use Rattle.script_text.specs.ReportText.{Names, IsNamedReport, IsReportText}
 
 -- the text of a report
@@ -28,3 +29,9 @@ abbrev pub SettledWorldsHaveTexts : Type 0
 SettledWorldsHaveTexts =
     (w : CableWorld) (names : Names) (number : ℕ) → HasSettled w → length names ≡ length w.nodes →
     HasReportText w names number
+
+-- so has each to which as many turns lead as a reached world is given
+abbrev pub QuietWorldsHaveTexts : Type 0
+QuietWorldsHaveTexts =
+    (w v : CableWorld) (names : Names) (number : ℕ) → IsReached w → IsAfterQuiet w v →
+    length names ≡ length v.nodes → HasReportText v names number

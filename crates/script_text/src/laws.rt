@@ -3,12 +3,13 @@ ghost use Rattle.std.specs.Prelude.{IsFalse};
 ghost use Rattle.script_text.specs.CanBeShown.{CanBeShown};
 ghost use Rattle.script_text.specs.OneText.{ReportsHaveOneText};
 ghost use Rattle.script_text.specs.SomeText.{NamedReportsHaveTexts, SettledWorldsHaveTexts};
+ghost use Rattle.script_text.specs.SomeText.{QuietWorldsHaveTexts};
 ghost use Rattle.script_text.specs.SomeMaps.{MapsHaveTexts};
 ghost use Rattle.script_text.specs.SomePlan.{PlansExist};
 
 use cable_world::WorldRun;
 use root_plan::best_roots_exist;
-use settle::{reports_are_read_back, reports_exist};
+use settle::{quiet_turns_settle, reports_are_read_back, reports_exist};
 use speed_map::rows_exist;
 use topology_map::images_exist;
 use topology_stack::one_tree;
@@ -35,12 +36,14 @@ pub fn reports_have_texts()
 {}
 
 /// A law: each world that has settled has a report and a text of it, where there are as many names as
-/// nodes.
+/// nodes. So has each to which as many turns lead as a reached world is given.
 pub fn settled_worlds_have_texts()
-    ensures { SettledWorldsHaveTexts }
+    ensures settled { SettledWorldsHaveTexts }
+    ensures quiet { QuietWorldsHaveTexts }
 {
     reports_are_read_back();
     reports_exist();
+    quiet_turns_settle();
 }
 
 /// A law: the maps of each bus tree have a text, in each generation.

@@ -24,12 +24,12 @@ use Rattle.resource_manager.specs.Access.{answer_of}
 use Rattle.resource_manager.specs.Channel.{seen_of}
 use Rattle.bus_manager.specs.Election.{lock_for}
 use Rattle.settle.specs.declared.report.Report.{Report}
-use Rattle.settle.specs.Report.{HasSettled, quiet_turns_of}
+use Rattle.settle.specs.Report.{quiet_turns_of}
 use Rattle.script_lines.specs.declared.kind.Kind.{Kind}
 use Rattle.script_lines.specs.declared.command.Command.TheVariants.{Node, Plug, Pull, Reset, Turn, Hold, Settle, Config, CsrRead, CsrWrite, CsrLock, Look, Allocate, Release, Manager, Plan, Maps, Delay}
 use Rattle.script_lines.specs.Refusal.{kind_of}
 use Rattle.script_text.specs.CommandText.{csr_text, grant_text, bid_text}
-use Rattle.script_text.specs.SomeText.{HasReportText, SettledWorldsHaveTexts}
+use Rattle.script_text.specs.SomeText.{HasReportText, QuietWorldsHaveTexts}
 use Rattle.script_text.specs.SomeMaps.{HasMapsText, MapsHaveTexts}
 use Rattle.script_told.specs.Bus.{Bus, Reported, node_named, resets_of, values_at, after_access, put_look, tree_of, part_with, tree_with}
 use Rattle.script_told.specs.Step.{LineAnswer, AtNode, Named, AtTree, Settled, AtManager, Managed, id_of, Acts, Holds, Within, Reports, Accesses, seen_by, Grants, Looks, MapsOf, GivesMaps, end_of, config_of, notes_after_act, notes_after_report, after_maps}
@@ -113,23 +113,22 @@ holds bus end turns = by (hold_fault end bus.world) refl
 
 -- ---- reports and maps
 
-pub reports : SettledWorldsHaveTexts → (bus : Bus) → IsReached bus.world →
+pub reports : QuietWorldsHaveTexts → (bus : Bus) → IsReached bus.world →
     length bus.notes.names ≡ length bus.world.nodes → HasAnswer (Reports bus)
 reports texts bus r enough =
     let quiet : ℕ = quiet_turns_of bus.world in
     let v : CableWorld = turns_after quiet bus.world in
-    let settled : HasSettled v = record { before = bus.world; reached = r; is = refl } in
     let f = (reached-lawful bus.world r).well_formed in
     let g = (reached-lawful v (turns-reached quiet bus.world r)).well_formed in
     let same = ap (λ c. length c) (after-turns quiet bus.world).cabling in
     let t : HasReportText v bus.notes.names (bus.notes.reports + 1) =
-    texts v bus.notes.names (bus.notes.reports + 1) settled (omega (arith, enough, f.count, g.count, same)) in
+    texts bus.world v bus.notes.names (bus.notes.reports + 1) r refl (omega (arith, enough, f.count, g.count, same)) in
     record {
       answer = Ok (record { world = v; notes = notes_after_report bus.notes t.report }, t.text);
       is = (t.report, refl, t.is, refl, t.told);
     }
 
-pub settles : SettledWorldsHaveTexts → BusesSettle
+pub settles : QuietWorldsHaveTexts → BusesSettle
 settles texts bus h = within bus (quiet_turns_of bus.world) (Reports bus) (reports texts bus h.reached h.named)
 
 -- ---- trees of the last report
@@ -177,8 +176,8 @@ looks bus node manager = known (Ok (put_look node (Some (seen_of (values_at mana
 
 -- ---- the commands
 
-pub some-answer : ComponentsExist → SettledWorldsHaveTexts → ReportedTreesAreManaged →
-    MapsHaveTexts → CommandsHaveAnswers
+pub some-answer : ComponentsExist → QuietWorldsHaveTexts → ReportedTreesAreManaged → MapsHaveTexts →
+    CommandsHaveAnswers
 some-answer components texts trees all-maps bus (Node name ports speed link contender force power gap hold short long word len seed packed) h p = known (Err Kind.Late)
 some-answer components texts trees all-maps bus (Delay delay) h p = known (Err Kind.Late)
 some-answer components texts trees all-maps bus (Plug a a_port b b_port) h p =

@@ -1,5 +1,8 @@
 -- what a node shows
 pub mod Shown
+-- the turns before it
+pub mod QuietCount
+pub mod LeftAlone
 -- the outcome of a component
 pub mod TreeShown
 pub mod Pairs

@@ -1,29 +1,29 @@
 -- A component of a world that has settled has an outcome.
-use Rattle.std.proofs.Common.{◌≡◌, ℕ, zero, suc, ◌<◌, ◌≤◌, true, false, Option, Some, None, length, slice_get, refl, sym, ◌∙◌, ap, subst, arith}
+use Rattle.std.proofs.Common.{◌≡◌, ℕ, zero, suc, ◌<◌, true, false, Option, Some, None, length, slice_get, refl, sym, ◌∙◌, ap, arith}
 use Rattle.std.specs.Coded.{Coded-set, coded_ℕ, coded_bool, coded_option, code_by, ×_prop}
 use Rattle.std.specs.Prelude.{IsSomeAnd}
 use Rattle.std.proofs.Math.Logic.{∥∥₁_elim}
-use Rattle.cabling.specs.Wiring.{Wiring}
 use Rattle.cabling.specs.NodeSet.{IsEmpty}
-use Rattle.cabling.specs.Component.{IsComponent}
 use Rattle.cabling.specs.Looped.{IsCore}
 use Rattle.port_state.specs.declared.signal.Phase.{Phase}
 use Rattle.port_state.specs.declared.signal.Phase.TheVariants as phase
 use Rattle.port_state.specs.declared.view.View.{View}
 use Rattle.port_state.specs.Machine.{PortNode}
 use Rattle.cable_world.specs.World.{CableWorld}
-use Rattle.cable_world.specs.Run.{IsReached, quiet_turns}
-use Rattle.cable_world.specs.Lawful.{IsLawful}
+use Rattle.cable_world.specs.Run.{IsReached}
 use Rattle.cable_world.specs.Outcome.{Outcome, loop, tree, contention, HasNoLoop, IsLoop, IsContention, IsOutcome, IsSettled, Shows}
 use Rattle.cable_world.proofs.StaysLawful.{reached-lawful}
 use Rattle.cable_world.specs.Quiet.{no_holds}
-use Rattle.cable_world.proofs.QuietTurns.{plainly, turns-cabling}
+use Rattle.cable_world.proofs.QuietTurns.{plainly}
 use Rattle.cable_world.specs.Phases.{is_in_bus_reset}
 use Rattle.convergence.specs.Milestones.{ResetsAreDone}
-use Rattle.outcomes.specs.Settled.{EveryComponentSettles, ResetsAreDoneByThen}
+use Rattle.outcomes.specs.Settled.{ResetsAreDoneByThen}
+use Rattle.outcomes.specs.Headline.{EveryBusSettles}
 use Rattle.settle.specs.Report.{AreThere, quiet_turns_of, IsAfterQuiet, HasSettled}
 use Rattle.settle.specs.Reported.{IsNoTree, ReportsLoop}
 use Rattle.settle.specs.codings.Reading.{IsPartOf}
+use Rattle.settle.proofs.QuietCount.{quiet-same}
+use Rattle.settle.proofs.LeftAlone.{left-reached}
 
 -- ---- facts with one proof at most
 
@@ -83,9 +83,6 @@ no_prop = λ a b. absurd a
 
 -- ---- no node is in R0 or R1
 
-quiet-same : (w : CableWorld) → IsReached w → quiet_turns (length w.nodes) w.delay ≤ quiet_turns_of w
-quiet-same w r = omega (arith, ap (λ (n : ℕ). quiet_turns n w.delay) (reached-lawful w r).well_formed.count)
-
 pub done-by-then :
     ResetsAreDoneByThen → (w v : CableWorld) → IsAfterQuiet w v → ∥ IsReached w ∥₁ → ResetsAreDone v
 done-by-then done w v is r k x at = ∥∥₁_elim r (Coded-set coded_bool (is_in_bus_reset x.state.view.phase) false)
@@ -94,23 +91,16 @@ done-by-then done w v is r k x at = ∥∥₁_elim r (Coded-set coded_bool (is_i
 -- ---- a component of a world that has settled
 
 module _
-    (every : EveryComponentSettles) (w : CableWorld) (set : ℕ) (part : IsPartOf w set)
+    (every : EveryBusSettles) (w : CableWorld) (set : ℕ) (part : IsPartOf w set)
     (there : AreThere w set) where
   pub settled : HasSettled w → IsSettled w set
-  settled h = subst (λ (v : CableWorld). IsSettled v set) (sym h.is) (plainly (λ (v : CableWorld). IsSettled v set) (quiet_turns_of h.before) h.before
-      (every no_holds h.before (quiet_turns_of h.before) part.0 set h.reached inside (subst (λ (c : Wiring). IsComponent c part.0 set) same part.1) (quiet-same h.before h.reached)))
+  settled h = every h.before w h.reached h.is part.0 set inside part.1
     where
-      same : w.cabling ≡ h.before.cabling
-      same = ap (λ (v : CableWorld). v.cabling) h.is ∙ turns-cabling (quiet_turns_of h.before) h.before
-
-      l : IsLawful h.before
-      l = reached-lawful h.before h.reached
-
-      inside : part.0 < length h.before.nodes
-      inside = omega (arith, there part.0 part.1.holds, l.well_formed.count, ap (λ (c : Wiring). length c) same)
+      inside : part.0 < length w.nodes
+      inside = omega (arith, there part.0 part.1.holds, (reached-lawful w (left-reached h.before w h.reached h.is)).well_formed.count)
 
 module _
-    (every : EveryComponentSettles) (w : CableWorld) (set core : ℕ) (part : IsPartOf w set)
+    (every : EveryBusSettles) (w : CableWorld) (set core : ℕ) (part : IsPartOf w set)
     (there : AreThere w set) (is : IsCore w.cabling set core) where
   -- with a loop it has come to that
   loop-of : (IsEmpty core → ⊥) → IsSettled w set → IsLoop w set core

@@ -1,5 +1,5 @@
 -- A world that has settled has a report: of each component what it came to.
-use Rattle.std.proofs.Common.{◌≡◌, ℕ, zero, suc, ◌+◌, ◌<◌, ◌≤◌, inl, inr, Bool, true, false, max, List, [], ◌∷◌, ◌++◌, length, slice_get, get_or, refl, sym, subst, arith}
+use Rattle.std.proofs.Common.{◌≡◌, ℕ, zero, suc, ◌+◌, ◌<◌, ◌≤◌, inl, inr, Bool, true, false, max, List, [], ◌∷◌, ◌++◌, length, slice_get, get_or, refl, subst, arith}
 use Rattle.std.proofs.lemmas.Option.{slice_get_within, slice_get-get_or, slice_get_cases}
 use Rattle.topology_stack.specs.Tree.{emits}
 use Rattle.cabling.specs.NodeSet.{Holds}
@@ -15,15 +15,15 @@ use Rattle.cable_world.specs.Lawful.{IsWellFormed}
 use Rattle.cable_world.specs.Outcome.{Outcome, loop, tree, contention, IsOutcome, IsSettled}
 use Rattle.cable_world.proofs.Options.{some-at}
 use Rattle.cable_world.proofs.StaysLawful.{reached-lawful}
-use Rattle.cable_world.proofs.StaysReached.{turns-reached}
-use Rattle.outcomes.specs.Settled.{EveryComponentSettles}
+use Rattle.outcomes.specs.Headline.{EveryBusSettles}
 use Rattle.settle.specs.declared.report.Part.{Part}
 use Rattle.settle.specs.declared.report.Outcome.{Outcome as Reported}
 use Rattle.settle.specs.declared.report.Outcome.TheVariants as reported
 use Rattle.settle.specs.declared.report.Report.{Report}
-use Rattle.settle.specs.Report.{IsGreatest, Drew, LastChanged, IsPart, IsReport, HasSettled, quiet_turns_of}
+use Rattle.settle.specs.Report.{IsGreatest, Drew, LastChanged, IsPart, IsReport, HasSettled}
 use Rattle.settle.specs.Reported.{IsReported}
 use Rattle.settle.specs.codings.Reading.{is_in}
+use Rattle.settle.proofs.LeftAlone.{left-reached}
 use Rattle.settle.proofs.Settled.{settled}
 use Rattle.settle.proofs.Greatest.{Highest, HasOne, highest-in, highest-out, highest-of-all, drew-one, changed-one}
 use Rattle.settle.proofs.Shown.{node-there}
@@ -88,10 +88,10 @@ changed-some w f k inside = (get_or w.changed k 0, slice_get-get_or w.changed k 
 -- ---- the report of a world
 
 module _
-    (every : EveryComponentSettles) (components : ComponentsExist)
+    (every : EveryBusSettles) (components : ComponentsExist)
     (w : CableWorld) (h : HasSettled w) where
   reached : IsReached w
-  reached = subst IsReached (sym h.is) (turns-reached (quiet_turns_of h.before) h.before h.reached)
+  reached = left-reached h.before w h.reached h.is
 
   formed : IsWellFormed w
   formed = (reached-lawful w reached).well_formed

@@ -4,6 +4,7 @@ pub mod Report
 pub mod ReadBack
 pub mod OneReport
 pub mod ReportedOutcome
+pub mod QuietTurns
 pub mod SomeReport
 pub mod SomeWalk
 -- who is reported as root where one node is forced

@@ -8,6 +8,7 @@ use Rattle.cable_world.specs.World.{CableWorld, NodeNumber, NodeSet}
 use Rattle.cable_world.specs.Turn.{turns_after}
 use Rattle.cable_world.specs.Run.{IsReached, quiet_turns}
 use Rattle.cable_world.specs.Outcome.{Shows}
+use Rattle.outcomes.specs.Headline.{IsLeftAlone}
 use Rattle.settle.specs.declared.report.Part.{Part}
 use Rattle.settle.specs.declared.report.Outcome.TheVariants as reported
 use Rattle.settle.specs.declared.report.Report.{Report}
@@ -81,8 +82,9 @@ quiet_turns_of w = quiet_turns (length w.cabling) w.delay
 abbrev pub IsAfterQuiet : CableWorld → CableWorld → Type 0
 IsAfterQuiet w v = v ≡ turns_after (quiet_turns_of w) w
 
--- the world comes of a reached one by as many turns without acts as that is given
+-- the world comes of a reached one that was left alone: no act came since, and turns enough, with
+-- holds between them
 pub record HasSettled (w : CableWorld) : Type 0 where
   pub before : CableWorld
   pub reached : IsReached before
-  pub is : IsAfterQuiet before w
+  pub is : IsLeftAlone before w

@@ -2,11 +2,12 @@
 ghost use Rattle.settle.specs.ReadBack.{ListsAreReadBack, ListsAreTheCables};
 ghost use Rattle.settle.specs.OneReport.{OneReportAtMost, OneReportedAtMost, OnePartAtMost};
 ghost use Rattle.settle.specs.ReportedOutcome.{ReportedIsOutcome};
+ghost use Rattle.settle.specs.QuietTurns.{QuietTurnsSettle, SettledWorldsAreReached};
 ghost use Rattle.settle.specs.SomeReport.{ReportsExist};
 ghost use Rattle.settle.specs.SomeWalk.{WalksExist};
 
 use cabling::components_exist;
-use outcomes::components_settle;
+use outcomes::every_bus_settles;
 use topology_stack::one_tree;
 
 /// Each list in a report of a reached world is accepted by `read_tree`, and the tree is the one
@@ -33,12 +34,19 @@ pub fn reports_are_outcomes()
     ensures { ReportedIsOutcome }
 {}
 
+/// A reached world has settled once as many turns as it is given are done; and each world that has
+/// settled is reached.
+pub fn quiet_turns_settle()
+    ensures plain { QuietTurnsSettle }
+    ensures reached { SettledWorldsAreReached }
+{}
+
 /// Each world that has settled has a report, whatever memory there is to make it.
 pub fn reports_exist()
     ensures { ReportsExist }
 {
     components_exist();
-    components_settle();
+    every_bus_settles();
 }
 
 /// From each node of a component without a core there is a walk, the order in which the nodes of the

@@ -14,7 +14,8 @@ mod tree;
 
 pub use cabling::OutOfMemory;
 pub use laws::{
-    reports_are_one, reports_are_outcomes, reports_are_read_back, reports_exist, walks_exist,
+    quiet_turns_settle, reports_are_one, reports_are_outcomes, reports_are_read_back,
+    reports_exist, walks_exist,
 };
 pub use quiet::quiet_turns;
 pub use report::{Outcome, Part, PartList, Report};

@@ -13,7 +13,7 @@ use crate::report::{Outcome, Part};
 use crate::tree::tree_of;
 use cable_world::WorldRun;
 use cabling::{NodeSet, OutOfMemory};
-use outcomes::components_settle;
+use outcomes::every_bus_settles;
 use self_id::Attrs;
 use std::alloc::Global;
 
@@ -44,7 +44,7 @@ fn outcome_of<W: WorldRun>(
     requires settled { ∥ HasSettled (W.world world.now) ∥₁ }
     ensures { IfOk result (λ outcome. IsReported (W.world world.now) set outcome) }
 {
-    components_settle();
+    every_bus_settles();
     let core = world.cabling().core(set);
     if !core.is_empty() {
         return Ok(Outcome::Loop { nodes: core });

@@ -49,8 +49,9 @@ fn parts_of<W: WorldRun>(alloc: Global, world: &W) -> Result<PartList, OutOfMemo
     Ok(parts)
 }
 
-/// Reports what each component of a world came to that has settled: it comes of a world by as many
-/// turns without acts as `quiet_turns` says, and isn't spent.
+/// Reports what each component of a world came to that has settled: it isn't spent, and at least as
+/// many turns as `quiet_turns` says were done since the last act, with or without holds between
+/// them.
 pub fn report_of<W: WorldRun>(alloc: Global, world: &W) -> Result<Report, OutOfMemory>
     requires fine { IsFalse (W.is_spent world.now) }
     requires settled { ∥ HasSettled (W.world world.now) ∥₁ }

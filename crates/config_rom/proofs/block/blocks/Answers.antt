@@ -42,3 +42,9 @@ returns-clause-exact c = λ fault refused.
     let root : 1 + c.from-root.result ≡ 1 + c.args.rom.now.info_len = omega (arith, c.from-root.ensures, c.info_len.ensures) in
     let first = of_rom (λ qs r. IsFirstFault qs r fault) (rom_quads c.args.rom.now) c.quads-quads.result.now (1 + c.args.rom.now.info_len) (1 + c.from-root.result) (sym c.quads-quads.ensures.value) (sym root) refused in
     absurd (no_first c.quads-quads.result.now (1 + c.from-root.result) fault c.in-Ok.ensures.faultless first)
+
+pub returns-in_err-list_of-clause-exact : goal.returns-in_err-list_of-clause-exact
+returns-in_err-list_of-clause-exact c = λ fault refused.
+    let root : 1 + c.from-root.result ≡ 1 + c.args.rom.now.info_len = omega (arith, c.from-root.ensures, c.info_len.ensures) in
+    let first = of_rom (λ qs r. IsFirstFault qs r fault) (rom_quads c.args.rom.now) c.quads-quads.result.now (1 + c.args.rom.now.info_len) (1 + c.from-root.result) (sym c.quads-quads.ensures.value) (sym root) refused in
+    absurd (no_first c.quads-quads.result.now (1 + c.from-root.result) fault c.in-Ok.ensures.faultless first)

@@ -15,7 +15,7 @@ pub returns-then-not-is_empty : goal.returns-then-not-is_empty
 returns-then-not-is_empty g c =
     let w = g.W.WorldRun.world c.args.world.now in
     let is : IsCore w.cabling c.args.set c.core-core.result = subst (λ (d : Wiring). IsCore d c.args.set c.core-core.result) c.cabling.ensures c.core-core.ensures in
-    reports-loop c.components_settle.ensures.settled w c.args.set c.core-core.result c.requires.component c.requires.there is
+    reports-loop c.every_bus_settles.ensures.settles w c.args.set c.core-core.result c.requires.component c.requires.there is
     (λ empty. let no : c.is_empty.result ≡ true = c.is_empty.ensures.1 empty in absurd cc) c.requires.settled
 
 pub tree_of-requires-clause-no_loop : goal.tree_of-requires-clause-no_loop
@@ -29,7 +29,7 @@ pub unreachable-requires : goal.unreachable-requires
 unreachable-requires g c =
     let w = g.W.WorldRun.world c.args.world.now in
     let is : IsCore w.cabling c.args.set c.core-core.result = subst (λ (d : Wiring). IsCore d c.args.set c.core-core.result) c.cabling.ensures c.core-core.ensures in
-    not-neither c.components_settle.ensures.settled w c.args.set c.core-core.result c.requires.component c.requires.there is
+    not-neither c.every_bus_settles.ensures.settles w c.args.set c.core-core.result c.requires.component c.requires.there is
     (c.is_empty.ensures.0 c.if-not-is_empty.false) (if-none c.in_ok-tree.field-0 _ c.in_default.not-Some c.in_ok-tree.ensures.none)
     (none-contends w c.args.set c.in-None.ensures.none) c.requires.settled
 

@@ -5,6 +5,7 @@ use Rattle.cable_world.specs.Unchanged.{TurnsPass}
 use Rattle.cable_world.proofs.running.Whole.{lawful-now}
 use Rattle.settle.specs.Report.{quiet_turns_of}
 use Rattle.settle.proofs.TurnsGiven.{quiet-is, on-err}
+use Rattle.settle.proofs.LeftAlone.{settled-after}
 use Rattle.settle.proofs.Settled.{done-by-then}
 use Rattle.settle.proofs.ForcedRoots.{forced-nodes}
 use Rattle.settle.proofs.settling.settle.Goals as goal
@@ -36,7 +37,7 @@ report_of-requires-clause-settled g c =
     let q : c.quiet_turns-quiet.result ≡ quiet_turns_of w =
     quiet-is w c.nodes.result c.delay.result c.quiet_turns-quiet.result c.quiet_turns-quiet.ensures (c.nodes.ensures.value ∙ ap length c.cabling.ensures) c.delay.ensures in
     ∥∥₁_map (g.met.W.WorldRun.reached c.args.world.now (sym c.spent.ensures ∙ c.if-spent.false))
-    (λ r. record { before = w; reached = r; is = c.in_ok-run_turns.ensures.done ∙ ap (λ (n : ℕ). turns_after n w) q })
+    (λ r. settled-after w (g.W.WorldRun.world c.run_turns.new.self) r (c.in_ok-run_turns.ensures.done ∙ ap (λ (n : ℕ). turns_after n w) q))
 
 pub returns-in_err-report-clause-memory : goal.returns-in_err-report-clause-memory
 returns-in_err-report-clause-memory g c =

@@ -27,7 +27,7 @@ pub report-requires-clause-settled : goal.report-requires-clause-settled
 report-requires-clause-settled g c =
     let s = g.W.WorldRun.world c.send.new.self.world in
     ∥∥₁_map (g.met.W.WorldRun.reached c.send.new.self.world c.in_ok-send.ensures.fine)
-    (λ r. record { before = s; reached = r; is = c.in_ok-pass.ensures.quiet })
+    (λ r. c.quiet_turns_settle.ensures.plain s (g.W.WorldRun.world c.pass.new.self.world) r c.in_ok-pass.ensures.quiet)
 
 pub report-requires-clause-named : goal.report-requires-clause-named
 report-requires-clause-named g c =

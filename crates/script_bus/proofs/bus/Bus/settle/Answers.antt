@@ -12,7 +12,7 @@ pub report-requires-clause-settled : goal.report-requires-clause-settled
 report-requires-clause-settled g c =
     let w = g.W.WorldRun.world c.args.self.now.world in
     ∥∥₁_map (g.met.W.WorldRun.reached c.args.self.now.world c.requires.sound.fine)
-    (λ r. record { before = w; reached = r; is = c.in_ok-pass.ensures.quiet })
+    (λ r. c.quiet_turns_settle.ensures.plain w (g.W.WorldRun.world c.pass.new.self.world) r c.in_ok-pass.ensures.quiet)
 
 pub returns-clause-sound : goal.returns-clause-sound
 returns-clause-sound g c =
