@@ -1,18 +1,62 @@
-//! The world that passes over turns.
-ghost use Rattle.std.specs.Prelude.{◌≡◌, ◌≤◌, length, map, IfOk, IsFalse, All};
+//! The world that visits the nodes that hear something or are due.
+ghost use Rattle.std.specs.Prelude.{◌≡◌, ◌↔◌, ◌+◌, ◌≤◌, ℕ, length, map, IfOk, IsFalse, All};
 ghost use Rattle.cable_world.specs.World.{world_of_nodes, IsNodeAtPowerOn};
+ghost use Rattle.cable_world.specs.Run.{IsReached};
+ghost use Rattle.cable_world.specs.Parts.{world_record};
+ghost use Rattle.cable_world.specs.Turn.{turns_after};
+ghost use Rattle.world_agenda.specs.Clock.{caught_up};
 
-use crate::passing::run_over;
-use cable_world::{Act, ActStop, ShowsWires, Travelling, World, WorldRun};
-use cabling::{Cabling, End, OutOfMemory};
-use port_state::{PortMachine, View};
+use crate::node::AgendaNode;
+use crate::nodes::{act_agenda, rest_of, turn_agenda};
+use cable_world::parts::{
+    ArrivalRow, WireRow, all_silent, arrival_rows, no_changes, pass_wires, port_counts, wire_rows,
+};
+use cable_world::{
+    Act, ActStop, ShowsWires, Travelling, WorldRun, still_turns_pass, worlds_stay_lawful,
+    worlds_stay_reached,
+};
+use cabling::{CableFault, Cabling, End, OutOfMemory};
+use port_state::{PortMachine, Sends, View};
 use self_id::Attrs;
-use std::alloc::Global;
+use std::alloc::{AllocError, Global};
 
-/// A world that passes over the turns in which nothing happens, and does the others.
+/// A world whose nodes stand at turns of their own. A turn visits those that hear something or are due;
+/// the turns in which no node is are passed over.
 #[derive(Drop)]
 pub struct AgendaWorld<M: PortMachine> {
-    nodes: World<M>,
+    delay: u8,
+    cabling: Cabling,
+    nodes: Vec<AgendaNode<M>>,
+    wires: Vec<WireRow>,
+    // What arrives at the far ends of the wires in a turn; between turns it is of no use.
+    arrivals: Vec<ArrivalRow>,
+    changed: Vec<u32>,
+    turns: u32,
+    out: Sends,
+    spent: bool,
+    ghost reached: { IsFalse spent → ∥ IsReached (world_record delay cabling
+        (map (λ n. caught_up turns n.clock (M.record_of n.machine)) nodes.items) wires.items
+        changed.items turns) ∥₁ },
+    ghost behind: { IsFalse spent → All (λ n. n.clock ≤ turns) nodes.items },
+    ghost idle: { All (λ n. turns ≤ n.clock + n.idle) nodes.items },
+    ghost marks: { length changed.items ≡ length nodes.items },
+    ghost same: { IsFalse spent → map length arrivals.items ≡ map length wires.items },
+}
+
+/// The machines as nodes at power-on.
+fn agenda_nodes<M: PortMachine + Drop>(
+    alloc: Global,
+    machines: Vec<M>,
+) -> Result<Vec<AgendaNode<M>>, OutOfMemory>
+    ensures nodes { IfOk result (λ nodes. map (λ n. M.record_of n.machine) nodes.items
+        ≡ map M.record_of machines.items) }
+    ensures clocks { IfOk result (λ nodes. All (λ n. n.clock ≡ 0) nodes.items) }
+{
+    let mut nodes = Vec::with_capacity(alloc, machines.len())?;
+    for machine in machines {
+        nodes.push(AgendaNode::new(machine))?;
+    }
+    Ok(nodes)
 }
 
 impl<M: PortMachine + Drop> AgendaWorld<M> {
@@ -27,70 +71,188 @@ impl<M: PortMachine + Drop> AgendaWorld<M> {
             ≡ world_of_nodes delay (map M.record_of machines.items)) }
         ensures spent { IfOk result (λ w. IsFalse (⟦<AgendaWorld<M> as WorldRun>⟧.is_spent w)) }
     {
+        worlds_stay_reached();
+        let counts = port_counts(&machines);
+        let ports = counts.as_slice();
         Ok(AgendaWorld {
-            nodes: World::new(alloc, machines, delay)?,
+            delay,
+            cabling: Cabling::new(alloc, ports)?,
+            wires: wire_rows(alloc, ports)?,
+            arrivals: arrival_rows(alloc, ports)?,
+            changed: no_changes(alloc, machines.len())?,
+            nodes: agenda_nodes(alloc, machines)?,
+            turns: 0,
+            out: Sends::new(),
+            spent: false,
         })
     }
 }
 
-impl<M: PortMachine> WorldRun for AgendaWorld<M> {
-    ghost world = { λ a. ⟦<World<M> as WorldRun>⟧.world a.nodes };
+impl<M: PortMachine> AgendaWorld<M> {
+    /// Passes over turns in which no signal is under way and no node is due, `most` at most. Answers how
+    /// many these were.
+    fn pass_over(&mut self, most: u32) -> u32
+        requires sound { IsFalse self.old.spent }
+        requires few { self.old.turns + most ≤ 4000000000 }
+        ensures most { result ≤ most }
+        ensures done { world_record self.new.delay self.new.cabling
+            (map (λ n. caught_up self.new.turns n.clock (M.record_of n.machine))
+            self.new.nodes.items) self.new.wires.items self.new.changed.items self.new.turns
+            ≡ turns_after result (world_record self.old.delay self.old.cabling
+            (map (λ n. caught_up self.old.turns n.clock (M.record_of n.machine))
+            self.old.nodes.items) self.old.wires.items self.old.changed.items self.old.turns) }
+        ensures nodes { length self.new.nodes.items ≡ length self.old.nodes.items }
+        ensures turns { self.new.turns ≡ self.old.turns + result }
+        ensures sound { IsFalse self.new.spent }
+    {
+        if !all_silent(&self.wires) {
+            return 0;
+        }
+        let rest = rest_of(&self.nodes, self.turns, most);
+        if rest == 0 {
+            return 0;
+        }
+        worlds_stay_lawful();
+        worlds_stay_reached();
+        still_turns_pass();
+        pass_wires(&mut self.wires, rest);
+        self.turns += rest;
+        rest
+    }
+}
 
-    ghost is_spent = { λ a. ⟦<World<M> as WorldRun>⟧.is_spent a.nodes };
+impl<M: PortMachine> WorldRun for AgendaWorld<M> {
+    ghost world = { λ w. world_record w.delay w.cabling
+        (map (λ n. caught_up w.turns n.clock (M.record_of n.machine)) w.nodes.items) w.wires.items
+        w.changed.items w.turns };
+
+    ghost is_spent = { λ w. w.spent };
 
     fn act(&mut self, act: &Act) -> Result<(), ActStop> {
-        self.nodes.act(act)
+        if self.spent {
+            return Err(ActStop::Memory(AllocError));
+        }
+        worlds_stay_lawful();
+        worlds_stay_reached();
+        self.spent = true;
+        let done = act_agenda(
+            act,
+            &mut self.cabling,
+            &mut self.nodes,
+            &mut self.wires,
+            &mut self.changed,
+            self.turns,
+            &mut self.out,
+        );
+        match done {
+            Ok(()) => {
+                self.spent = false;
+                Ok(())
+            }
+            Err(stop) => match stop {
+                ActStop::Fault(fault) => {
+                    self.spent = false;
+                    Err(ActStop::Fault(fault))
+                }
+                ActStop::Memory(stop) => Err(ActStop::Memory(stop)),
+            },
+        }
     }
 
     fn hold(&mut self, end: End, turns: u16) -> Result<(), ActStop> {
-        self.nodes.hold(end, turns)
+        if self.spent {
+            return Err(ActStop::Memory(AllocError));
+        }
+        if end.node >= self.cabling.nodes() {
+            return Err(ActStop::Fault(CableFault::NoNode { end }));
+        }
+        if end.port >= self.cabling.ports(end.node) {
+            return Err(ActStop::Fault(CableFault::NoPort { end }));
+        }
+        if self.cabling.far(end).is_none() {
+            return Err(ActStop::Fault(CableFault::NotPlugged { end }));
+        }
+        worlds_stay_lawful();
+        worlds_stay_reached();
+        self.wires[end.node as usize].hold(end.port, turns);
+        Ok(())
     }
 
     fn turn(&mut self) -> Result<(), OutOfMemory> {
-        self.nodes.turn()
+        if self.spent {
+            return Err(AllocError);
+        }
+        worlds_stay_lawful();
+        worlds_stay_reached();
+        self.spent = true;
+        turn_agenda(
+            self.delay,
+            &self.cabling,
+            &mut self.nodes,
+            &mut self.wires,
+            &mut self.changed,
+            self.turns,
+            &mut self.arrivals,
+            &mut self.out,
+        )?;
+        self.turns += 1;
+        self.spent = false;
+        Ok(())
     }
 
     fn run_turns(&mut self, count: u32) -> Result<(), OutOfMemory> {
-        run_over(&mut self.nodes, count)
+        if self.spent {
+            return Err(AllocError);
+        }
+        let mut left = count - self.pass_over(count);
+        while left > 0 {
+            self.turn()?;
+            left -= 1;
+            left -= self.pass_over(left);
+        }
+        Ok(())
     }
 
     fn delay(&self) -> u8 {
-        self.nodes.delay()
+        self.delay
     }
 
     fn turns(&self) -> u32 {
-        self.nodes.turns()
+        self.turns
     }
 
     fn cabling(&self) -> &Cabling {
-        self.nodes.cabling()
+        &self.cabling
     }
 
     fn view(&self, node: u8) -> View {
-        self.nodes.view(node)
+        self.nodes[node as usize].view_at(self.turns)
     }
 
     fn list(&self, node: u8) -> &[u32] {
-        self.nodes.list(node)
+        self.nodes[node as usize].list_at(self.turns)
     }
 
     fn attrs(&self, node: u8) -> Attrs {
-        self.nodes.attrs(node)
+        self.nodes[node as usize].attrs_at(self.turns)
     }
 
     fn changed(&self, node: u8) -> u32 {
-        self.nodes.changed(node)
+        self.changed[node as usize]
     }
 
     fn spent(&self) -> bool {
-        self.nodes.spent()
+        self.spent
     }
 
-    ghost reached = { λ a. a.nodes.reached };
+    ghost reached = { λ w. w.reached };
 }
 
 impl<M: PortMachine> ShowsWires for AgendaWorld<M> {
     fn under_way(&self, end: End) -> &[Travelling] {
-        self.nodes.under_way(end)
+        match self.wires.get(end.node as usize) {
+            None => &[],
+            Some(row) => row.under_way(end.port),
+        }
     }
 }

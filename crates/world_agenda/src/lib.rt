@@ -1,9 +1,10 @@
-//! A world of cables that goes from one turn in which something is due to the next, and passes over
-//! the turns between.
+//! A world of cables that visits a node only in the turns in which it hears something or is due, and
+//! passes over the turns in which no node is.
 #![tactic(auto)]
 
 mod agenda;
-mod passing;
+mod node;
+mod nodes;
 
 pub use agenda::AgendaWorld;
 pub use cabling::OutOfMemory;

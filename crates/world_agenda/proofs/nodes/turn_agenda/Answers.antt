@@ -1,0 +1,54 @@
+use Rattle.std.proofs.Common.{◌∙◌, ◌+◌, List, length, map, ap, sym, arith}
+use Rattle.std.proofs.lemmas.List.{length-map}
+use Rattle.port_state.specs.Machine.{PortNode}
+use Rattle.cable_world.specs.Wire.{Wire, arrives, stays}
+use Rattle.cable_world.specs.Parts.{world_record}
+use Rattle.world_agenda.specs.declared.node.AgendaNode.{AgendaNode}
+use Rattle.world_agenda.specs.Clock.{caught_up}
+use Rattle.world_agenda.proofs.Whole.{all-young, has-its-ports, turn-is, rows-long, sent-long}
+use Rattle.world_agenda.proofs.nodes.turn_agenda.Goals as goal
+
+pub turn_wires-requires-clause-young : goal.turn_wires-requires-clause-young
+turn_wires-requires-clause-young g c = all-young _ c.requires.lawful.well_formed
+
+pub turn_nodes-requires-clause-few : goal.turn_nodes-requires-clause-few
+turn_nodes-requires-clause-few g c =
+    let f : AgendaNode g.row.M.Denot g.M.PortMachine → PortNode = λ n. caught_up c.args.turns n.clock (g.M.PortMachine.record_of n.machine) in
+    let w = c.requires.lawful.well_formed in
+    omega (arith, length-map c.args.nodes.now f, w.count, w.cabling.few_nodes)
+
+pub turn_nodes-requires-clause-nodes : goal.turn_nodes-requires-clause-nodes
+turn_nodes-requires-clause-nodes g c =
+    let f : AgendaNode g.row.M.Denot g.M.PortMachine → PortNode = λ n. caught_up c.args.turns n.clock (g.M.PortMachine.record_of n.machine) in
+    sym (length-map c.args.nodes.now f) ∙ c.requires.lawful.well_formed.count
+
+pub turn_nodes-requires-clause-changes : goal.turn_nodes-requires-clause-changes
+turn_nodes-requires-clause-changes g c = c.requires.lawful.well_formed.changes
+
+pub turn_nodes-requires-clause-rows : goal.turn_nodes-requires-clause-rows
+turn_nodes-requires-clause-rows g c =
+    ap length c.in_ok-turn_wires.ensures.stays ∙ length-map c.args.wires.now (map (stays c.args.delay)) ∙ c.requires.lawful.well_formed.wire_rows
+
+pub turn_nodes-requires-clause-ports : goal.turn_nodes-requires-clause-ports
+turn_nodes-requires-clause-ports g c =
+    let f : AgendaNode g.row.M.Denot g.M.PortMachine → PortNode = λ n. caught_up c.args.turns n.clock (g.M.PortMachine.record_of n.machine) in
+    has-its-ports (world_record c.args.delay c.args.cabling.now (map f c.args.nodes.now) c.args.wires.now c.args.changed.now c.args.turns)
+    c.turn_wires.new.wires c.requires.lawful.well_formed c.in_ok-turn_wires.ensures.stays
+
+pub returns-clause-done : goal.returns-clause-done
+returns-clause-done g c =
+    let f : AgendaNode g.row.M.Denot g.M.PortMachine → PortNode = λ n. caught_up c.args.turns n.clock (g.M.PortMachine.record_of n.machine) in
+    let h : AgendaNode g.row.M.Denot g.M.PortMachine → PortNode = λ n. caught_up (c.args.turns + 1) n.clock (g.M.PortMachine.record_of n.machine) in
+    turn-is (world_record c.args.delay c.args.cabling.now (map f c.args.nodes.now) c.args.wires.now c.args.changed.now c.args.turns)
+    c.turn_wires.new.arrivals (map h c.turn_nodes.new.nodes) c.turn_wires.new.wires c.turn_nodes.new.wires
+    c.turn_nodes.new.changed c.in_ok-turn_wires.ensures.arrives c.in_ok-turn_wires.ensures.stays
+    c.in_ok-turn_nodes.ensures.node c.in_ok-turn_nodes.ensures.changes c.in_ok-turn_nodes.ensures.wires
+
+pub returns-clause-same : goal.returns-clause-same
+returns-clause-same g c =
+    let rows = c.args.wires.now in
+    let lengths = λ (ws : List (List Wire)). map length ws in
+    ap (λ (ws : List (List (List _))). map length ws) c.in_ok-turn_wires.ensures.arrives
+    ∙ rows-long (arrives c.args.delay) rows ∙ sym (rows-long (stays c.args.delay) rows)
+    ∙ ap lengths (sym c.in_ok-turn_wires.ensures.stays)
+    ∙ sym (sent-long _ c.turn_wires.new.wires) ∙ ap lengths (sym c.in_ok-turn_nodes.ensures.wires)

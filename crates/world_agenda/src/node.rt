@@ -1,0 +1,168 @@
+//! A node that stands at a turn of its own.
+ghost use Rattle.std.specs.Prelude.{◌≡◌, ◌+◌, ◌<◌, ◌≤◌, ◌↔◌, min, IsTrue};
+ghost use Rattle.port_state.specs.Group.{shown_attrs};
+ghost use Rattle.port_state.specs.Idle.{IsIdleFor};
+ghost use Rattle.world_agenda.specs.Clock.{caught_up};
+
+use port_state::{PortMachine, Sends, Signal, Timing, View, idle_ticks};
+use self_id::Attrs;
+
+/// A machine with its clock: the turn at whose end it stands, and for how many ticks from there nothing
+/// happens to it unless it hears a signal, if not for more.
+#[derive(Drop)]
+pub struct AgendaNode<M: PortMachine> {
+    pub machine: M,
+    pub clock: u32,
+    pub idle: u32,
+    ghost rests: { IsIdleFor idle (M.record_of machine) },
+}
+
+/// A timer so many ticks later.
+fn later(timer: u16, ticks: u32) -> u16
+    ensures { result ≡ min (timer + ticks) 65535 }
+{
+    let room = u16::MAX - timer;
+    if ticks < u32::from(room) {
+        timer + ticks as u16
+    } else {
+        u16::MAX
+    }
+}
+
+impl<M: PortMachine> AgendaNode<M> {
+    /// A machine at power-on.
+    pub fn new(machine: M) -> AgendaNode<M>
+        ensures machine { result.machine ≡ machine }
+        ensures clock { result.clock ≡ 0 }
+    {
+        AgendaNode {
+            machine,
+            clock: 0,
+            idle: 0,
+        }
+    }
+
+    /// For how many turns after the first `turns` nothing happens, unless a signal is heard.
+    pub fn rest(&self, turns: u32) -> u32
+        requires { turns ≤ self.now.clock + self.now.idle }
+        ensures { turns + result ≤ self.now.clock + self.now.idle }
+    {
+        self.idle - turns.saturating_sub(self.clock)
+    }
+
+    /// Whether nothing happens up to the end of the turn of this number, unless a signal is heard. It
+    /// may be so where the answer is no.
+    pub fn rests_until(&self, turn: u32) -> bool
+        ensures { IsTrue result ↔ turn ≤ self.now.clock + self.now.idle }
+    {
+        turn.saturating_sub(self.clock) <= self.idle
+    }
+
+    /// The machine comes to the end of turn number `turns`.
+    pub fn catch_up(&mut self, turns: u32)
+        requires { turns ≤ self.old.clock + self.old.idle }
+        ensures { M.record_of self.new.machine
+            ≡ caught_up turns self.old.clock (M.record_of self.old.machine) }
+    {
+        let ticks = turns.saturating_sub(self.clock);
+        if ticks > 0 {
+            self.machine.pass(ticks);
+            self.idle -= ticks;
+        }
+    }
+
+    /// What the node shows after `turns` turns.
+    pub fn view_at(&self, turns: u32) -> View
+        requires { turns ≤ self.now.clock + self.now.idle }
+        ensures { result
+            ≡ (caught_up turns self.now.clock (M.record_of self.now.machine)).state.view }
+    {
+        idle_ticks();
+        let mut view = self.machine.view();
+        view.timer = later(view.timer, turns.saturating_sub(self.clock));
+        view
+    }
+
+    /// Its list after `turns` turns.
+    pub fn list_at(&self, turns: u32) -> &[u32]
+        requires { turns ≤ self.now.clock + self.now.idle }
+        ensures { result.now
+            ≡ (caught_up turns self.now.clock (M.record_of self.now.machine)).state.list.items }
+    {
+        self.machine.list()
+    }
+
+    /// The attributes that it shows after `turns` turns.
+    pub fn attrs_at(&self, turns: u32) -> Attrs
+        requires { turns ≤ self.now.clock + self.now.idle }
+        ensures { result ≡ shown_attrs
+            (caught_up turns self.now.clock (M.record_of self.now.machine)).state }
+    {
+        self.machine.attrs()
+    }
+}
+
+impl<M: PortMachine> PortMachine for AgendaNode<M> {
+    ghost record_of = { λ n. M.record_of n.machine };
+
+    fn on_signal(&mut self, port: u8, signal: Signal, out: &mut Sends) {
+        self.idle = 0;
+        self.machine.on_signal(port, signal, out);
+    }
+
+    fn tick(&mut self, out: &mut Sends) {
+        self.machine.tick(out);
+        self.idle = self.machine.idle_for();
+    }
+
+    fn disturb(&mut self, out: &mut Sends) {
+        self.idle = 0;
+        self.machine.disturb(out);
+    }
+
+    fn plugged(&mut self, port: u8, out: &mut Sends) {
+        self.idle = 0;
+        self.machine.plugged(port, out);
+    }
+
+    fn pulled(&mut self, port: u8, out: &mut Sends) {
+        self.idle = 0;
+        self.machine.pulled(port, out);
+    }
+
+    fn set_config(&mut self, root_id: u8, force: bool, gap: Option<u8>) {
+        self.idle = 0;
+        self.machine.set_config(root_id, force, gap);
+    }
+
+    fn view(&self) -> View {
+        self.machine.view()
+    }
+
+    fn list(&self) -> &[u32] {
+        self.machine.list()
+    }
+
+    fn attrs(&self) -> Attrs {
+        self.machine.attrs()
+    }
+
+    fn timing(&self) -> Timing {
+        self.machine.timing()
+    }
+
+    fn ports(&self) -> u8 {
+        self.machine.ports()
+    }
+
+    fn idle_for(&self) -> u32 {
+        self.machine.idle_for()
+    }
+
+    fn pass(&mut self, ticks: u32) {
+        self.idle = 0;
+        self.machine.pass(ticks);
+    }
+
+    ghost valid = { λ n. M.valid n.machine };
+}
