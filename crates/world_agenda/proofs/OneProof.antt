@@ -7,7 +7,11 @@ use Rattle.port_state.specs.declared.signal.Level.{Level}
 use Rattle.port_state.specs.declared.signal.Level.TheVariants as level
 use Rattle.port_state.specs.declared.signal.Signal.{Signal}
 use Rattle.port_state.specs.declared.signal.Signal.TheVariants as signal
-use Rattle.port_state.specs.codings.OneProof.{valid_prop}
+use Rattle.port_state.specs.declared.signal.Phase.{Phase}
+use Rattle.port_state.specs.declared.signal.Phase.TheVariants.{ResetStart, ResetWait, TreeStart, ChildShake, ParentShake, Contend, SelfIdent, Ready}
+use Rattle.port_state.specs.declared.ports.PortView.{PortView}
+use Rattle.port_state.specs.declared.states.NodeState.{NodeState}
+use Rattle.port_state.specs.Valid.{FitsPhase, IsValid}
 use Rattle.cable_world.specs.declared.wire.Travelling.{Travelling}
 use Rattle.cable_world.specs.Wire.{Wire}
 use Rattle.cable_world.specs.World.{CableWorld}
@@ -24,6 +28,22 @@ same_flags = Coded-set coded_bool
 
 same_ports : (a b : Option ℕ) → IsProp (a ≡ b)
 same_ports = Coded-set (coded_option coded_ℕ)
+
+-- ---- records that are valid
+
+fits_prop :
+    (ph : Phase) (parent : Option ℕ) (ports : List PortView) → IsProp (FitsPhase ph parent ports)
+fits_prop ResetStart parent ports = hlevel (same_flags, same_ports)
+fits_prop ResetWait parent ports = hlevel (same_flags, same_ports)
+fits_prop TreeStart parent ports = hlevel (same_flags, same_ports)
+fits_prop ChildShake parent ports = hlevel (same_numbers, same_flags)
+fits_prop ParentShake parent ports = hlevel (same_numbers, same_flags)
+fits_prop Contend parent ports = hlevel (same_numbers, same_flags)
+fits_prop SelfIdent parent ports = hlevel (same_numbers, same_flags)
+fits_prop Ready parent ports = hlevel (same_numbers, same_flags)
+
+valid_prop : (x : NodeState) → IsProp (IsValid x)
+valid_prop x = hlevel (same_numbers, le_prop, fits_prop)
 
 -- ---- values that are coded
 
