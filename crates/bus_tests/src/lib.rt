@@ -2,6 +2,8 @@
 #![tactic(auto)]
 
 #[cfg(test)]
+mod abreast;
+#[cfg(test)]
 mod agenda;
 #[cfg(test)]
 mod answers;
