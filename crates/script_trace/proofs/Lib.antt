@@ -1,3 +1,4 @@
 pub mod OneTrace
 pub mod Walked
 pub mod Shown
+pub mod ActShown

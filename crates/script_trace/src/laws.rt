@@ -1,9 +1,11 @@
 //! Laws of traces.
 ghost use Rattle.script_trace.specs.OneTrace.{ScriptsHaveOneTrace, TracedScriptsAreTold, TraceFaultsAreTold, RunsHaveTraces};
 ghost use Rattle.script_trace.specs.Shown.{TurnsShowWhatIsSent};
+ghost use Rattle.script_trace.specs.ActShown.{ActsShowTheirResets};
 
-use cable_world::{acts_keep, turn_by_number};
+use cable_world::{acts_keep, turn_by_number, worlds_stay_lawful};
 use topology_stack::one_tree;
+use world_laws::acts_by_number;
 
 /// A law: a script has one trace. It has one where it has a text, and else its fault.
 pub fn scripts_have_one_trace()
@@ -22,4 +24,13 @@ pub fn turns_show_what_is_sent()
     ensures { TurnsShowWhatIsSent }
 {
     turn_by_number();
+}
+
+/// A law: of each act that isn't refused a trace shows one BUS_RESET on each cable of each node at which
+/// the act begins a reset, and no other signal. What was under way on a cable that is pulled is gone.
+pub fn acts_show_their_resets()
+    ensures { ActsShowTheirResets }
+{
+    acts_by_number();
+    worlds_stay_lawful();
 }
