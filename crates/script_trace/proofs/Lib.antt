@@ -2,3 +2,4 @@ pub mod OneTrace
 pub mod Walked
 pub mod Shown
 pub mod ActShown
+pub mod NodeShown

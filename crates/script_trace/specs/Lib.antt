@@ -4,3 +4,4 @@ pub mod Trace
 pub mod OneTrace
 pub mod Shown
 pub mod ActShown
+pub mod NodeShown

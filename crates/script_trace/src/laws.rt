@@ -2,6 +2,7 @@
 ghost use Rattle.script_trace.specs.OneTrace.{ScriptsHaveOneTrace, TracedScriptsAreTold, TraceFaultsAreTold, RunsHaveTraces};
 ghost use Rattle.script_trace.specs.Shown.{TurnsShowWhatIsSent};
 ghost use Rattle.script_trace.specs.ActShown.{ActsShowTheirResets};
+ghost use Rattle.script_trace.specs.NodeShown.{TurnsShowEachNode, ActsShowEachNode};
 
 use cable_world::{acts_keep, turn_by_number, worlds_stay_lawful};
 use topology_stack::one_tree;
@@ -33,4 +34,14 @@ pub fn acts_show_their_resets()
 {
     acts_by_number();
     worlds_stay_lawful();
+}
+
+/// A law: the lines of a turn, and those of an act, have for each node those of what is other then: the
+/// state that it entered, its roles, its coin and its ID, and then what it sent. In a turn that is what
+/// its step of the turn changed.
+pub fn each_node_is_shown()
+    ensures turns { TurnsShowEachNode }
+    ensures acts { ActsShowEachNode }
+{
+    turn_by_number();
 }
