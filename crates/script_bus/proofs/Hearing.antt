@@ -1,15 +1,14 @@
 -- What is heard of commands.
 use Rattle.std.proofs.Common.{◌≡◌, ◌++◌, ◌+◌, ◌≤◌, ℕ, List, [], length, Bool, true, false, Option, Some, None, refl, sym, ◌∙◌, ap, subst, arith}
-use Rattle.std.specs.Prelude.{Result, Ok, Err, OnOk, Any, IfSome, IsTrue, MatchBool, nat_lt}
+use Rattle.std.specs.Prelude.{Result, Ok, Err, OnOk, IfSome, IsTrue, MatchBool, nat_lt}
 use Rattle.std.proofs.lemmas.List.{append-nil, append_assoc, length-replicate}
 use Rattle.cable_world.specs.World.{CableWorld}
 use Rattle.cable_world.specs.Turn.{turns_after}
 use Rattle.cable_world.specs.Run.{IsReached}
 use Rattle.root_plan.specs.declared.choice.RootPlan.{RootPlan}
 use Rattle.settle.specs.declared.report.Report.{Report}
-use Rattle.settle.specs.Report.{IsReport, IsTreeFrom, quiet_turns_of}
+use Rattle.settle.specs.Report.{IsReport, quiet_turns_of}
 use Rattle.settle.proofs.TurnsGiven.{quiet-is}
-use Rattle.settle_plan.specs.Planned.{SuitsTree, HaveGap, PlansComeOut}
 use Rattle.script_lines.specs.declared.kind.Kind.{Kind}
 use Rattle.script_lines.specs.declared.command.Command.{Command}
 use Rattle.script_lines.specs.declared.command.Command.TheVariants.{Plug, Pull, Reset, Config, Hold}
@@ -237,22 +236,16 @@ both-told writes command w s names after out mid new named said is =
 
 pub sent-heard :
     (writes : Bool) (bus sent passed after : Bus) (name : List ℕ) (node : ℕ) (plan : RootPlan)
-    (text out mid new : List ℕ) → PlansComeOut bus.world node → SuitsTree bus.world node plan →
-    IsPacketSent writes bus name node plan sent out mid →
+    (text out mid new : List ℕ) → IsPacketSent writes bus name node plan sent out mid →
     passed.world ≡ turns_after (quiet_turns_of sent.world) sent.world → passed.notes ≡ sent.notes →
     IsPassed writes sent.notes.names sent.world mid new → IsReportedNow passed after text →
     IsSentHeard writes bus name node plan after text out new
-sent-heard writes bus sent passed after name node plan text out mid new come suits s quiet notes is r =
-    let out-of = come plan passed.world r.report suits (record { sent = sent.world; act = s.sends.1; quiet = quiet }) r.is in
-    record {
-      sent = record {
-        sent = sent;
-        sends = s.sends;
-        reports = reports-now sent passed after text quiet notes r;
-        root = λ root h. subst (λ (o : Option Report). IfSome o (λ q. Any (IsTreeFrom bus.world.cabling node root) q.parts))
-            (sym (ap (λ (n : Notes). n.report) r.notes)) (out-of.0 root h);
-        gaps = subst (λ (w : CableWorld). HaveGap w node plan.gap) (sym r.same) out-of.1;
-      };
-      written = both-told writes (Config name (Some plan.root_id) (Some plan.gap)) bus.world sent.world sent.notes.names after.notes.names out mid new
-          (names-stay passed after text sent.notes.names (ap (λ (n : Notes). n.names) notes) r) s.written is;
-    }
+sent-heard writes bus sent passed after name node plan text out mid new s quiet notes is r = record {
+  sent = record {
+    sent = sent;
+    sends = s.sends;
+    reports = reports-now sent passed after text quiet notes r;
+  };
+  written = both-told writes (Config name (Some plan.root_id) (Some plan.gap)) bus.world sent.world sent.notes.names after.notes.names out mid new
+      (names-stay passed after text sent.notes.names (ap (λ (n : Notes). n.names) notes) r) s.written is;
+}

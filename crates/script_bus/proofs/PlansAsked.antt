@@ -3,10 +3,9 @@ use Rattle.std.proofs.Common.{◌≡◌, ◌==◌, ◌+◌, ◌++◌, ℕ, Bool,
 use Rattle.std.specs.Prelude.{MatchBool, nat_lt}
 use Rattle.root_plan.specs.declared.choice.RootPlan.{RootPlan}
 use Rattle.settle.specs.Report.{quiet_turns_of}
-use Rattle.settle_plan.specs.Planned.{HasId}
 use Rattle.script_lines.specs.declared.kind.Kind.{Kind}
 use Rattle.script_told.specs.Bus.{Bus, Reported, tree_with, values_at}
-use Rattle.script_told.specs.Step.{LineAnswer, HasManager, AtNode, AtTree, AtManager, Managed, CarriesOut, Plans, PlansAs, Settled, Within, id_of, node_with}
+use Rattle.script_told.specs.Step.{LineAnswer, HasManager, AtNode, AtTree, AtManager, Managed, CarriesOut, Plans, PlansAs, Settled, Within, id_of}
 use Rattle.script_bus.specs.Running.{IsAsked}
 use Rattle.script_bus.specs.codings.Standing.{IsPlanned, IsSent}
 
@@ -30,9 +29,9 @@ asked-comes bus name node id manager is Comes r h =
 abbrev pub carries-out :
     (bus after : Bus) (name : List ℕ) (node : ℕ) (tree : Reported) (plan : RootPlan) (line report text : List ℕ) →
     IsPlanned bus name tree plan line → IsSent bus node plan after report →
-    HasId bus.world node plan.root_id (node_with tree plan.root_id) → text ≡ line ++ report →
+    text ≡ line ++ report →
     CarriesOut bus name node tree after text
-carries-out bus after name node tree plan line report text p s named is = record {
+carries-out bus after name node tree plan line report text p s is = record {
   shown = p.shown;
   is = p.is;
   plan = plan;

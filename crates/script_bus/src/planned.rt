@@ -4,7 +4,7 @@ ghost use Rattle.topology_stack.specs.Elect.{elected};
 ghost use Rattle.cabling.specs.Walk.{IsWalk};
 ghost use Rattle.cable_world.specs.Unchanged.{TurnsPass};
 ghost use Rattle.settle.specs.Report.{quiet_turns_of};
-ghost use Rattle.settle_plan.specs.Planned.{SuitsTree, HasId};
+ghost use Rattle.settle_plan.specs.Planned.{SuitsTree};
 ghost use Rattle.script_told.specs.Bus.{tree_with, values_at};
 ghost use Rattle.script_text.specs.Plan.{IsPlan, all_in, plan_numbers, plan_nodes, plan_line};
 ghost use Rattle.script_text.specs.ReportText.{IsNamedTree};
@@ -18,14 +18,14 @@ use crate::bus::{Bus, Reported};
 use crate::listener::Listener;
 use crate::managed::Asked;
 use cable_world::{Act, ActStop, ShowsWires, acts_keep};
-use cabling::Walk;
+use cabling::{Walk, components_exist};
 use outcomes::trees_stay;
 use resource_manager::Register;
 use root_plan::{RootPlan, choose, expect};
 use script_lines::{Command, Kind, LineStop};
 use script_text::{plan_line, tree_of};
 use settle::quiet_turns_settle;
-use settle_plan::{plans_come_out, plans_suit};
+use settle_plan::plans_suit;
 use std::alloc::Global;
 use topology_stack::{BusTree, Name, OutOfMemory, one_tree};
 
@@ -74,7 +74,7 @@ impl<W: ShowsWires> Bus<W> {
         ensures { StandsAs (W.world self.now.world) node (reported tree.entry) }
     {
         trees_stay();
-        let _component = self.world.cabling().component(node);
+        components_exist();
     }
 
     /// The nodes of a tree in the order in which they identify themselves once a plan's root is root.
@@ -109,8 +109,6 @@ impl<W: ShowsWires> Bus<W> {
             (reported tree.entry) planned.plan planned.line.items) }
         ensures suits { IfOk result (λ planned.
             SuitsTree (W.world self.now.world) node planned.plan) }
-        ensures root { IfOk result (λ planned. HasId (W.world self.now.world) node
-            planned.plan.root_id (node_with (reported tree.entry) planned.plan.root_id)) }
     {
         one_tree();
         self.stands(node, tree);
@@ -141,8 +139,7 @@ impl<W: ShowsWires> Bus<W> {
         ensures passed { OnOk result (TurnsPass 0 (W.world self.old.world) (W.world self.new.world)) }
         ensures fine { OnOk result (IsFalse (W.is_spent self.new.world)) }
     {
-        // the component, whose nodes are at most 63
-        let _component = self.world.cabling().component(node);
+        components_exist();
         let nodes = self.notes.names.list().as_slice().len();
         let seen = listener.before_act(alloc, &self.world, nodes)?;
         let packet = Command::Config {
@@ -187,7 +184,6 @@ impl<W: ShowsWires> Bus<W> {
     {
         acts_keep();
         quiet_turns_settle();
-        plans_come_out(&self.world, node);
         self.send(alloc, name, node, plan, listener)?;
         self.pass(alloc, listener)?;
         let text = self.report(alloc)?;

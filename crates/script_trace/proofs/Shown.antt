@@ -17,7 +17,7 @@ use Rattle.script_trace.specs.Shown.{signal_lines, TurnsShowWhatIsSent}
 older : (n : ℕ) → (n + 1 == 0) ≡ false
 older n = grind (arith, nat_tests)
 
-new-lines :
+pub new-lines :
     (names : Names) (turn node port : ℕ) (ss : List Signal) →
     sent_lines names turn node port (map new_signal ss) ≡ signal_lines names turn node port ss
 new-lines names turn node port [] = refl

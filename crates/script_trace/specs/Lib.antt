@@ -3,3 +3,5 @@ pub mod Step
 pub mod Trace
 pub mod OneTrace
 pub mod Shown
+pub mod ActShown
+pub mod NodeShown

@@ -1,9 +1,12 @@
 //! Laws of traces.
 ghost use Rattle.script_trace.specs.OneTrace.{ScriptsHaveOneTrace, TracedScriptsAreTold, TraceFaultsAreTold, RunsHaveTraces};
 ghost use Rattle.script_trace.specs.Shown.{TurnsShowWhatIsSent};
+ghost use Rattle.script_trace.specs.ActShown.{ActsShowTheirResets};
+ghost use Rattle.script_trace.specs.NodeShown.{TurnsShowEachNode, ActsShowEachNode};
 
-use cable_world::{acts_keep, turn_by_number};
+use cable_world::{acts_keep, turn_by_number, worlds_stay_lawful};
 use topology_stack::one_tree;
+use world_laws::acts_by_number;
 
 /// A law: a script has one trace. It has one where it has a text, and else its fault.
 pub fn scripts_have_one_trace()
@@ -20,6 +23,25 @@ pub fn scripts_have_one_trace()
 /// turn sends there, in order, and no other.
 pub fn turns_show_what_is_sent()
     ensures { TurnsShowWhatIsSent }
+{
+    turn_by_number();
+}
+
+/// A law: of each act that isn't refused a trace shows one BUS_RESET on each cable of each node at which
+/// the act begins a reset, and no other signal. What was under way on a cable that is pulled is gone.
+pub fn acts_show_their_resets()
+    ensures { ActsShowTheirResets }
+{
+    acts_by_number();
+    worlds_stay_lawful();
+}
+
+/// A law: the lines of a turn, and those of an act, have for each node those of what is other then: the
+/// state that it entered, its roles, its coin and its ID, and then what it sent. In a turn that is what
+/// its step of the turn changed.
+pub fn each_node_is_shown()
+    ensures turns { TurnsShowEachNode }
+    ensures acts { ActsShowEachNode }
 {
     turn_by_number();
 }

@@ -13,6 +13,8 @@ mod steps;
 mod watch;
 
 pub use command::put_command;
-pub use laws::{scripts_have_one_trace, turns_show_what_is_sent};
+pub use laws::{
+    acts_show_their_resets, each_node_is_shown, scripts_have_one_trace, turns_show_what_is_sent,
+};
 pub use steps::trace_turns;
 pub use watch::{Seen, put_since, seen_before_act};

@@ -1,6 +1,6 @@
 -- Trees that stand since they were reported, plans for them, and what is heard of commands. No public
 -- contract cites this file.
-use Rattle.std.specs.Prelude.{◌≡◌, ◌<◌, ◌^◌, ◌++◌, ℕ, Bool, List, [], Ok, Some, Any, IfSome}
+use Rattle.std.specs.Prelude.{◌≡◌, ◌<◌, ◌^◌, ◌++◌, ℕ, Bool, List, [], Ok, Some}
 use Rattle.topology_stack.specs.Tree.{Tree}
 use Rattle.cabling.specs.Walk.{IsWalk}
 use Rattle.cabling.specs.Component.{IsComponent}
@@ -9,9 +9,8 @@ use Rattle.cable_world.specs.Run.{Event, Runs, IsReached}
 use Rattle.outcomes.specs.Settled.{HasNoAct}
 use Rattle.root_plan.specs.declared.choice.RootPlan.{RootPlan}
 use Rattle.settle.specs.declared.report.Report.{Report}
-use Rattle.settle.specs.Report.{IsReport, IsTreeFrom}
+use Rattle.settle.specs.Report.{IsReport}
 use Rattle.settle.specs.Reported.{ReportsTree}
-use Rattle.settle_plan.specs.Planned.{HasId, HaveGap}
 use Rattle.script_lines.specs.declared.command.Command.{Command}
 use Rattle.script_lines.specs.declared.command.Command.TheVariants.{Plug, Pull, Reset, Config, Hold, Turn, Settle, Plan}
 use Rattle.script_text.specs.ReportText.{Names, IsNamedReport, IsReportText}
@@ -54,10 +53,6 @@ pub record IsSent (bus : Bus) (node : NodeNumber) (plan : RootPlan) (after : Bus
   pub sent : Bus
   pub sends : Acts bus (config_of node (Some plan.root_id) (Some plan.gap)) (Ok (sent, []))
   pub reports : Reports sent (Ok (after, text))
-  pub root :
-      (root : NodeNumber) → HasId bus.world node plan.root_id root →
-      IfSome after.notes.report (λ r. Any (IsTreeFrom bus.world.cabling node root) r.parts)
-  pub gaps : HaveGap after.world node plan.gap
 
 -- ---- what is heard of a command
 

@@ -4,19 +4,12 @@ use Rattle.std.proofs.lemmas.Bool.{ltb-false}
 use Rattle.cable_world.specs.declared.act.Act.TheVariants.{Config}
 use Rattle.cable_world.proofs.running.Whole.{lawful-now}
 use Rattle.settle.specs.Report.{quiet_turns_of}
-use Rattle.settle_plan.proofs.Suited.{from-there}
 use Rattle.script_told.specs.Bus.{Notes}
 use Rattle.script_told.specs.Step.{notes_after_act}
 use Rattle.script_told.proofs.Turns.{some-quiet}
 use Rattle.script_bus.specs.Running.{bus_now, notes_now}
 use Rattle.script_bus.proofs.Hearing.{notes-are, after-act, reported-bus, same-quiet, sent-heard}
 use Rattle.script_bus.proofs.bus.Bus.carry_out.Goals as goal
-
-pub plans_come_out-requires-clause-there : goal.plans_come_out-requires-clause-there
-plans_come_out-requires-clause-there g c =
-    let w = g.W.WorldRun.world c.args.self.now.world in
-    let l = lawful-now w (g.met.W.WorldRun.reached c.args.self.now.world c.requires.sound.fine) in
-    from-there w l c.args.node c.args.plan.now c.requires.suits
 
 pub pass-requires-clause-named : goal.pass-requires-clause-named
 pass-requires-clause-named g c =
@@ -40,7 +33,7 @@ returns-clause-sent g c =
     let passed = c.in_ok-pass.ensures in
     sent-heard g.L.Listener.writes (bus_now g.W.WorldRun.world c.args.self.now) (bus_now g.W.WorldRun.world c.send.new.self) (bus_now g.W.WorldRun.world c.pass.new.self) _
     c.args.name.now c.args.node c.args.plan.now _ _ _ _
-    c.plans_come_out.ensures c.requires.suits c.in_ok-send.ensures.sent passed.quiet (ap notes_now passed.same) passed.heard c.in_ok-text.ensures.done
+    c.in_ok-send.ensures.sent passed.quiet (ap notes_now passed.same) passed.heard c.in_ok-text.ensures.done
 
 pub returns-clause-sound : goal.returns-clause-sound
 returns-clause-sound g c =

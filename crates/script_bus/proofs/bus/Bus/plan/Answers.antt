@@ -12,7 +12,7 @@ returns-clause-done g c =
     let text = c.in_ok-extend_from_slice.ensures.items ∙ ap (λ (r : List ℕ). planned.line.items ++ r) c.as_slice.ensures.value in
     asked-comes before c.args.name.now asked.node asked.id asked.manager c.in_ok-asked.ensures.is (PlansAs before c.args.name.now) _
     (carried-out before c.args.name.now asked.node asked.id asked.manager (reported c.in_ok-tree.tree) _ c.in_ok-check_bus_manager.ensures.is c.in_ok-check_quiet_turns.ensures.within c.in_ok-tree.ensures.found
-    (carries-out before _ c.args.name.now asked.node (reported c.in_ok-tree.tree) planned.plan planned.line.items c.in_ok-report.report.items _ c.in_ok-planned.ensures.is c.in_ok-report.ensures.sent.sent c.in_ok-planned.ensures.root text))
+    (carries-out before _ c.args.name.now asked.node (reported c.in_ok-tree.tree) planned.plan planned.line.items c.in_ok-report.report.items _ c.in_ok-planned.ensures.is c.in_ok-report.ensures.sent.sent text))
 
 pub returns-clause-heard : goal.returns-clause-heard
 returns-clause-heard g c =
@@ -32,7 +32,7 @@ returns-clause-heard g c =
         tree = tree;
         settled = c.in_ok-tree.ensures.found;
         text = text;
-        carried = carries-out before after c.args.name.now asked.node tree planned.plan planned.line.items report text c.in_ok-planned.ensures.is sent.sent c.in_ok-planned.ensures.root refl;
+        carried = carries-out before after c.args.name.now asked.node tree planned.plan planned.line.items report text c.in_ok-planned.ensures.is sent.sent refl;
         lines_are = refl;
       };
       written = sent.written;

@@ -4,7 +4,7 @@ use Rattle.cable_world.proofs.running.Whole.{lawful-now}
 use Rattle.script_text.specs.Plan.{plan_line}
 use Rattle.script_told.specs.Step.{node_with}
 use Rattle.script_bus.specs.Running.{reported}
-use Rattle.script_bus.proofs.Planning.{its-there, its-id, plan-suits, plan-place, is-elected}
+use Rattle.script_bus.proofs.Planning.{its-there, plan-suits, plan-place, is-elected}
 use Rattle.script_bus.proofs.bus.Bus.planned.Goals as goal
 
 pub plans_suit-requires-clause-there : goal.plans_suit-requires-clause-there
@@ -71,11 +71,3 @@ returns-clause-suits g c =
     let lawful = lawful-now w (g.met.W.WorldRun.reached c.args.self.now.world c.requires.sound.fine) in
     plan-suits w lawful c.args.node (reported c.args.tree) c.stands.ensures c.plans_suit.ensures c.in_ok-shown.shown
     c.in_ok-shown.ensures.tree.0 c.in_ok-shown.ensures.tree.1 c.chosen-plan.result c.chosen-plan.ensures
-
-pub returns-clause-root : goal.returns-clause-root
-returns-clause-root g c =
-    let w = g.W.WorldRun.world c.args.self.now.world in
-    let lawful = lawful-now w (g.met.W.WorldRun.reached c.args.self.now.world c.requires.sound.fine) in
-    let place = plan-place c.one_tree.ensures c.args.self.now.notes.names (reported c.args.tree) c.requires.named c.in_ok-shown.shown
-    c.in_ok-shown.ensures.tree.0 c.in_ok-shown.ensures.tree.1 c.chosen-plan.result c.chosen-plan.ensures in
-    its-id w lawful c.args.node (reported c.args.tree) c.stands.ensures c.chosen-plan.result.root_id place

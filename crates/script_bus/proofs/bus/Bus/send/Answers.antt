@@ -1,6 +1,4 @@
-use Rattle.std.proofs.Common.{◌≡◌, ◌++◌, ◌<◌, ℕ, List, true, Some, Err, length, refl, sym, ◌∙◌, ap, subst}
-use Rattle.cabling.specs.Wiring.{Wiring}
-use Rattle.cabling.specs.Component.{IsComponent}
+use Rattle.std.proofs.Common.{◌≡◌, ◌++◌, ℕ, List, true, Some, Err, refl, ◌∙◌, ap, subst}
 use Rattle.cable_world.specs.declared.act.Act.TheVariants.{Config}
 use Rattle.cable_world.specs.declared.act.ActStop.{ActStop}
 use Rattle.cable_world.specs.Act.{act_fault}
@@ -14,18 +12,12 @@ use Rattle.script_bus.specs.Heard.{heard}
 use Rattle.script_bus.proofs.Hearing.{acted}
 use Rattle.script_bus.proofs.bus.Bus.send.Goals as goal
 
-pub component-component-requires : goal.component-component-requires
-component-component-requires g c =
-    let w = g.W.WorldRun.world c.args.self.now.world in
-    let l = lawful-now w (g.met.W.WorldRun.reached c.args.self.now.world c.requires.sound.fine) in
-    subst (λ (d : Wiring). c.args.node < length d) (sym c.cabling.ensures) (from-there w l c.args.node c.args.plan.now c.requires.suits)
-
 pub act-requires : goal.act-requires
 act-requires g c =
     let w = g.W.WorldRun.world c.args.self.now.world in
     let l = lawful-now w (g.met.W.WorldRun.reached c.args.self.now.world c.requires.sound.fine) in
-    let component = subst (λ (d : Wiring). IsComponent d c.args.node c.component-component.result) c.cabling.ensures c.component-component.ensures.component in
-    packet-fits w l c.args.node c.args.plan.now c.requires.suits c.component-component.result component c.component-component.ensures.small
+    let has = c.components_exist.ensures w.cabling c.args.node l.well_formed.cabling (from-there w l c.args.node c.args.plan.now c.requires.suits) in
+    packet-fits w l c.args.node c.args.plan.now c.requires.suits has.set has.is has.small
 
 pub unreachable-requires : goal.unreachable-requires
 unreachable-requires g c =
