@@ -15,7 +15,7 @@ no_answer() {
 # sources as they are now, else the same sources unproved.
 run_program() {
   name=$1
-  local program="$top/crates/$1/out/$1" status reason
+  local program="$top/crates/$1/out/$1" most=1048577 status reason
   shift
   if [ -x "$program" ] && [ "$(cat "$program.sources" 2>/dev/null)" = "$(sources_sum "$top")" ]; then
     exec "$program" "$@"
@@ -26,10 +26,11 @@ run_program() {
   trap 'rm -rf "$work"' EXIT
 
   # rt gets files and not the streams themselves, so that what is wrong with a stream is told from what the program
-  # answers. No program takes more than 1,048,576 bytes, so one more is enough.
+  # answers. No form takes more than 1,048,576 bytes, but a log 67,108,864, so one more is enough.
   : >"$work/input"
   if reads_input "$@"; then
-    head -c 1048577 >"$work/input" 2>/dev/null || no_answer "standard input can't be read"
+    [ "$1" = resets ] && most=67108865
+    head -c "$most" >"$work/input" 2>/dev/null || no_answer "standard input can't be read"
   fi
   (cd "$top/crates/$name" && rt try -- "$@") <"$work/input" >"$work/output" 2>"$work/notes"
   status=$?
@@ -49,7 +50,8 @@ reads_input() {
   case "$#:${1-}" in
   1:run | 1:advice | 1:read | 1:read95 | 1:maps | 1:rom) true ;;
   1:packets | 1:tree | 1:dot | 1:trace) true ;;
-  2:packets | 2:tree | 2:dot) [ "$2" = --1995 ] ;;
+  1:resets) true ;;
+  2:packets | 2:tree | 2:dot | 2:resets) [ "$2" = --1995 ] ;;
   *) false ;;
   esac
 }

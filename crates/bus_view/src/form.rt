@@ -71,4 +71,4 @@ impl ViewForm {
 /// How the program is called, in one line for a form.
 pub const VIEW_USAGE: &str = "usage: busview packets [--1995] < CAPTURE\n       \
     busview tree [--1995] < CAPTURE\n       busview dot [--1995] < CAPTURE\n       \
-    busview trace < SCRIPT";
+    busview trace < SCRIPT\n       busview resets [--1995] < LOG";

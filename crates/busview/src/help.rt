@@ -9,15 +9,16 @@ busview packets < CAPTURE  each packet field by field, and what is wrong where
 busview tree < CAPTURE     the tree of the bus as a drawing
 busview dot < CAPTURE      the tree of the bus as a graph for Graphviz
 busview trace < SCRIPT     what happens on the bus of a script, turn by turn
+busview resets < LOG       the bus at each reset in a Linux kernel's trace
 busview --help, -h         this text
 busview --version          the version, its kit, and the standards
 
-With --1995 behind packets, tree or dot the capture is read by IEEE Std
-1394-1995: up to 27 ports a node.
+With --1995 behind packets, tree, dot or resets self-ID packets are read by IEEE
+Std 1394-1995: up to 27 ports a node.
 
 A capture is the self-ID packets of one bus reset, each as a big-endian quadlet
-and its bitwise inverse. Input is at most 1,048,576 bytes. Answers, refusals
-too, go to standard output.
+and its bitwise inverse. Input is at most 1,048,576 bytes, and a log 67,108,864.
+Answers, refusals too, go to standard output.
 
 Status: 0 the input is valid
         1 the input is refused

@@ -4,10 +4,12 @@
 mod help;
 
 use about::{About, KIT, STANDARDS, VERSION};
-use bus_cli::{MAX_INPUT, NO_FORM, NO_MEMORY, READ_FAULT, TOO_LONG, VALID, WRITE_FAULT};
+use bus_cli::{MAX_INPUT, NO_FORM, NO_MEMORY, READ_FAULT, REFUSED, TOO_LONG, VALID, WRITE_FAULT};
 use bus_view::{VIEW_USAGE, view_main};
 use help::HELP;
 use io_edges::{ReadSource, WriteSink};
+use reset_log::{LogStop, MAX_LOG, resets_standard, show_log};
+use self_id::Standard;
 use std::process::ExitCode;
 use std::rt::Env;
 use std::{env, io};
@@ -32,7 +34,22 @@ fn tell(rt: &impl Print, about: About) -> u8 {
     }
 }
 
-/// The status of the program with its words. What it is asked of itself is answered here, and all else by the top call.
+/// Shows the resets of a log as it comes, and answers the status.
+fn resets(rt: &HostRuntime, standard: Standard) -> u8 {
+    let mut source = ReadSource::new(rt.stdin());
+    let mut sink = WriteSink::new(rt.stdout());
+    match show_log(rt.alloc(), standard, &mut source, &mut sink) {
+        Ok(false) => VALID,
+        Ok(true) => REFUSED,
+        Err(LogStop::ReadFault) => READ_FAULT,
+        Err(LogStop::WriteFault) => WRITE_FAULT,
+        Err(LogStop::TooLong) => TOO_LONG,
+        Err(LogStop::Memory(_)) => NO_MEMORY,
+    }
+}
+
+/// The status of the program with its words. What it is asked of itself is answered here, a log by its own call, and
+/// all else by the top call.
 fn status_of(rt: &HostRuntime) -> u8 {
     let words = match words_of(rt) {
         Ok(words) => words,
@@ -41,6 +58,9 @@ fn status_of(rt: &HostRuntime) -> u8 {
     };
     if let Some(about) = About::of_words(&words) {
         return tell(rt, about);
+    }
+    if let Some(standard) = resets_standard(&words) {
+        return resets(rt, standard);
     }
     let mut source = ReadSource::new(rt.stdin());
     let mut sink = WriteSink::new(rt.stdout());
@@ -54,7 +74,11 @@ fn explain(rt: &impl Eprint, status: u8) -> io::Result<()> {
         READ_FAULT => eprintln!(rt; "busview: reading standard input failed"),
         WRITE_FAULT => eprintln!(rt; "busview: writing standard output failed"),
         NO_MEMORY => eprintln!(rt; "busview: out of memory"),
-        TOO_LONG => eprintln!(rt; "busview: standard input has more than {MAX_INPUT} bytes"),
+        TOO_LONG => {
+            eprintln!(rt;
+                "busview: standard input has more than {MAX_INPUT} bytes, a log {MAX_LOG}"
+            )
+        }
         _ => Ok(()),
     }
 }

@@ -1,0 +1,165 @@
+-- A log as its reader goes over it, to the end.
+use Rattle.std.proofs.Common.{◌≡◌, ◌∙◌, ℕ, zero, suc, ◌+◌, ◌-◌, ◌<◌, ◌≤◌, ◌==◌, Bool, true, false, ◌||◌, Option, Some, None, List, [], ◌∷◌, ◌++◌, length, take, refl, sym, ap, subst, append_assoc, length-append, arith}
+use Rattle.std.specs.Prelude.{IfSome}
+use Rattle.std.proofs.lemmas.Bool.Decides.{nat_tests}
+use Rattle.std.specs.Io.KnownBytes.{Consumes, Appends, IsAtEnd}
+use Rattle.io_edges.specs.Told.{StayTold, IfTold, TookOver}
+use Rattle.self_id.specs.declared.standard.Standard.{Standard}
+use Rattle.reset_log.specs.declared.log.LogReader.{LogReader}
+use Rattle.reset_log.specs.Shown.{IsLineShown}
+use Rattle.reset_log.specs.Log.{parted, open_lines, lines_of, AreShown, AreWritten}
+use Rattle.reset_log.specs.codings.Going.{Stands, ShowsLine, Reads}
+use Rattle.reset_log.proofs.Going.{one_more}
+use Rattle.reset_log.proofs.Standing.{by_front, appends_then}
+
+-- ---- the last line
+
+no_more : {X : Type 0} (xs : List X) → xs ++ [] ≡ xs
+no_more [] = refl
+no_more {X = X} (x ∷ xs) = ap (λ (ys : List X). x ∷ ys) (no_more xs)
+
+no_open : (done : List ℕ) → (parted done).open_line ≡ [] → lines_of done ≡ (parted done).lines
+no_open done e = ap (λ (o : List ℕ). (parted done).lines ++ open_lines o) e ∙ no_more (parted done).lines
+
+some_open : (done : List ℕ) → ((parted done).open_line ≡ [] → ⊥) → lines_of done ≡ (parted done).lines ++ (parted done).open_line ∷ []
+some_open done ne = go (parted done).open_line ne
+  where
+    go : (o : List ℕ) → (o ≡ [] → ⊥) → (parted done).lines ++ open_lines o ≡ (parted done).lines ++ o ∷ []
+    go [] none = absurd (none refl)
+    go (b ∷ bytes) none = refl
+
+empty_front : (n : ℕ) (xs : List ℕ) → 0 < n → take n xs ≡ [] → xs ≡ []
+empty_front zero xs some e = absurd (omega (arith, some))
+empty_front (suc n) [] some e = refl
+empty_front (suc n) (x ∷ xs) some e = absurd cc
+
+front_of_none : (n : ℕ) (xs : List ℕ) → xs ≡ [] → take n xs ≡ []
+front_of_none zero xs e = refl
+front_of_none (suc n) [] e = refl
+front_of_none (suc n) (x ∷ xs) e = absurd cc
+
+pub ended : (old : LogReader) (done : List ℕ) (start was : Option (List ℕ)) → Stands old done start was → length old.line.items ≡ 0 → AreWritten old.standard start was (lines_of done) old.bad
+ended old done start was st e =
+    let none : old.line.items ≡ [] = no_items old.line.items e in
+    let unopened : (parted done).open_line ≡ [] = empty_front 65536 (parted done).open_line (omega arith) (sym st.line_is ∙ none) in
+    record {
+      text = st.text;
+      is_shown = record {
+        known = old.cards.items;
+        shown =
+            subst (λ (ls : List (List ℕ)). AreShown old.standard 1 [] ls st.text old.bad old.cards.items) (sym (no_open done unopened)) st.shown;
+      };
+      wrote = st.wrote;
+    }
+  where
+    no_items : (xs : List ℕ) → length xs ≡ 0 → xs ≡ []
+    no_items [] h = refl
+    no_items (x ∷ xs) h = absurd (omega (arith, h))
+
+pub ended_line : (old new : LogReader) (done : List ℕ) (start was is : Option (List ℕ)) → Stands old done start was → ShowsLine old new was is → (length old.line.items ≡ 0 → ⊥) → AreWritten old.standard start is (lines_of done) new.bad
+ended_line old new done start was is st sh some =
+    let opened : (parted done).open_line ≡ [] → ⊥ = λ e. some (ap (λ (l : List ℕ). length l) (st.line_is ∙ front_of_none 65536 (parted done).open_line e)) in
+    let shown : IsLineShown old.standard (1 + length (parted done).lines) old.cards.items (parted done).open_line sh.text sh.here new.cards.items =
+    by_front old.standard old.number _ old.cards.items old.cards.items new.cards.items old.line.items (parted done).open_line sh.text sh.here (omega (arith, st.number_is)) refl st.line_is sh.shown in
+    record {
+      text = st.text ++ sh.text;
+      is_shown = record {
+        known = new.cards.items;
+        shown =
+            subst (λ (b : Bool). AreShown old.standard 1 [] (lines_of done) (st.text ++ sh.text) b new.cards.items) (sym sh.bad)
+            (subst (λ (ls : List (List ℕ)). AreShown old.standard 1 [] ls (st.text ++ sh.text) (old.bad || sh.here) new.cards.items) (sym (some_open done opened))
+            (one_more old.standard 1 [] old.cards.items new.cards.items (parted done).lines (parted done).open_line st.text sh.text old.bad sh.here st.shown shown));
+      };
+      wrote = appends_then start was is st.text sh.text st.told st.wrote sh.wrote;
+    }
+
+-- whether a line is kept
+pub is_none : (size count : ℕ) (test : Bool) → test ≡ (size == 0) → test ≡ true → size ≡ count → count ≡ 0
+is_none size count test e is same = let none : (size == 0) ≡ true = sym e ∙ is in grind (arith, nat_tests)
+
+pub is_some : (size count : ℕ) (test : Bool) → test ≡ (size == 0) → test ≡ false → size ≡ count → count ≡ 0 → ⊥
+is_some size count test e is same none = let some : (size == 0) ≡ false = sym e ∙ is in grind (arith, nat_tests)
+
+-- ---- reads
+
+pub nothing_came : (a : Option (List ℕ)) → Consumes a a []
+nothing_came None = tt
+nothing_came (Some xs) = refl
+
+nothing_written : (a : Option (List ℕ)) → Appends a a []
+nothing_written None = tt
+nothing_written (Some xs) = sym (no_more xs)
+
+pub at_start : (r : LogReader) (told : Option (List ℕ)) → r.cards.items ≡ [] → r.line.items ≡ [] → r.number ≡ 1 → r.taken ≡ 0 → r.bad ≡ false → Stands r [] told told
+unfolding parted
+at_start r told cards line number taken bad = record {
+  text = [];
+  shown = (refl, bad, cards);
+  line_is = line;
+  number_is = number;
+  taken_is = taken;
+  wrote = nothing_written told;
+  told = refl;
+}
+
+pub at_first : (r : LogReader) (standard : Standard) (first was : Option (List ℕ)) (a b : ℕ) → Stands r [] was was → r.standard ≡ standard → Reads r standard first first was was a a b b
+at_first r standard first was a b st same = record {
+  done = [];
+  came = nothing_came first;
+  told = refl;
+  stands = st;
+  small = omega arith;
+  same = same;
+  later = omega arith;
+  wrote_later = omega arith;
+}
+
+consumes_then : (a b c : Option (List ℕ)) (xs ys : List ℕ) → StayTold a b → Consumes a b xs → Consumes b c ys → Consumes a c (xs ++ ys)
+consumes_then None b c xs ys told p q = tt
+consumes_then (Some x) None c xs ys told p q = absurd p
+consumes_then (Some x) (Some y) None xs ys told p q = absurd q
+consumes_then (Some x) (Some y) (Some z) xs ys told p q = p ∙ ap (λ (w : List ℕ). xs ++ w) q ∙ sym (append_assoc xs ys z)
+
+pub reads_on : (r s : LogReader) (standard : Standard) (first now next was is will : Option (List ℕ)) (a b c d e f : ℕ) (piece : List ℕ) → Reads r standard first now was is a b d e → Consumes now next piece → StayTold now next → length piece ≤ 67108864 - r.taken →
+    ((done : List ℕ) (start : Option (List ℕ)) → length done + length piece ≤ 67108864 → Stands r done start is → Stands s (done ++ piece) start will) → s.standard ≡ r.standard → b ≤ c → e ≤ f → Reads s standard first next was will a c d f
+reads_on r s standard first now next was is will a b c d e f piece h came told fits taken same later wrote =
+    let size = h.stands.taken_is in
+    let room : length h.done + length piece ≤ 67108864 = omega (arith, size, fits, h.small) in
+    record {
+      done = h.done ++ piece;
+      came = consumes_then first now next h.done piece h.told h.came came;
+      told = told ∙ h.told;
+      stands = taken h.done was room h.stands;
+      small = omega (arith, room, length-append h.done piece);
+      same = same ∙ h.same;
+      later = omega (arith, h.later, later);
+      wrote_later = omega (arith, h.wrote_later, wrote);
+    }
+
+-- each piece leaves less room
+pub less_room : (r s : LogReader) (standard : Standard) (first now was is will : Option (List ℕ)) (a b d e : ℕ) (piece : List ℕ) → Reads r standard first now was is a b d e → 0 < length piece → length piece ≤ 67108864 - r.taken →
+    ((done : List ℕ) (start : Option (List ℕ)) → length done + length piece ≤ 67108864 → Stands r done start is → Stands s (done ++ piece) start will) → 67108864 - s.taken < 67108864 - r.taken
+less_room r s standard first now was is will a b d e piece h some fits taken =
+    let room : length h.done + length piece ≤ 67108864 = omega (arith, h.stands.taken_is, fits, h.small) in
+    let on = taken h.done was room h.stands in
+    omega (arith, on.taken_is, h.stands.taken_is, length-append h.done piece, some, fits)
+
+-- ---- at the end
+
+-- what was read is all
+pub all_came : (first now next : Option (List ℕ)) (done : List ℕ) (P : List ℕ → Type 0) → Consumes first now done → StayTold first now → Consumes now next [] → IsAtEnd next → P done → IfSome first P
+all_came None now next done P came told none end p = tt
+all_came (Some xs) None next done P came told none end p = absurd came
+all_came (Some xs) (Some ys) None done P came told none end p = absurd none
+all_came (Some xs) (Some ys) (Some zs) done P came told none end p =
+    subst P (sym (came ∙ ap (λ (w : List ℕ). done ++ w) (none ∙ end) ∙ no_more done)) p
+
+-- more was taken than fits
+pub over : (first now next : Option (List ℕ)) (done piece : List ℕ) → Consumes first now done → StayTold first now → Consumes now next piece → 67108864 < length done + length piece → IfTold first next (λ xs ys. TookOver 67108864 xs ys)
+over None now next done piece came told more long = tt
+over (Some xs) None next done piece came told more long = absurd came
+over (Some xs) (Some ys) None done piece came told more long = tt
+over (Some xs) (Some ys) (Some zs) done piece came told more long =
+    let size : length xs ≡ length done + length ys = ap (λ (l : List ℕ). length l) came ∙ length-append done ys in
+    let rest : length ys ≡ length piece + length zs = ap (λ (l : List ℕ). length l) more ∙ length-append piece zs in
+    omega (arith, size, rest, long)

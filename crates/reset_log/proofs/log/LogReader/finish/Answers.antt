@@ -1,0 +1,12 @@
+use Rattle.reset_log.proofs.Reading.{ended, ended_line, is_none, is_some}
+use Rattle.reset_log.proofs.log.LogReader.finish.Goals as goal
+
+pub returns-then-is_empty-clause-ok : goal.returns-then-is_empty-clause-ok
+returns-then-is_empty-clause-ok g c = λ done start few st.
+    ended c.args.self.now done start (g.K.Sink.written c.args.sink.now) st
+    (is_none _ _ _ c.is_empty.ensures c.if-is_empty.true c.args.self.now.line.ok.0)
+
+pub returns-clause-ok : goal.returns-clause-ok
+returns-clause-ok g c = λ done start few st.
+    ended_line c.args.self.now c.show.new.self done start (g.K.Sink.written c.args.sink.now) (g.K.Sink.written c.show.new.sink) st c.in_ok-show.ensures.ok
+    (is_some _ _ _ c.is_empty.ensures c.if-is_empty.false c.args.self.now.line.ok.0)

@@ -1,0 +1,12 @@
+pub mod Form
+pub mod Number
+pub mod Words
+pub mod Lists
+pub mod Line
+pub mod Stop
+pub mod Hear
+pub mod Texts
+pub mod Shown
+pub mod Log
+pub mod Cause
+pub mod codings

@@ -1,0 +1,77 @@
+-- What a line of the log is, by itself.
+use Rattle.std.specs.Prelude.{ℕ, ◌||◌, Bool, true, false, List, [], ◌∷◌, take, Option, Some, None, if◌then◌else◌, codes}
+use Rattle.std.specs.Str.{bytes_eq}
+use Rattle.reset_log.specs.Number.{number_of}
+use Rattle.reset_log.specs.Words.{words_of, value_of}
+use Rattle.reset_log.specs.Lists.{list_of}
+use Rattle.reset_log.specs.declared.line.Origin.{Origin}
+use Rattle.reset_log.specs.declared.line.Origin.TheVariants.{Controller, Core}
+use Rattle.reset_log.specs.declared.line.LogLine.{LogLine}
+use Rattle.reset_log.specs.declared.line.LogLine.TheVariants.{Other, Garbled, OfReset}
+
+-- the event that a word names, alone or behind its system's name
+abbrev pub event_of : List ℕ → Option Origin
+event_of word =
+    if bytes_eq word (codes "self_id_complete:")
+    || bytes_eq word (codes "firewire_ohci:self_id_complete:") then Some Controller
+    else (if bytes_eq word (codes "bus_reset_handle:")
+    || bytes_eq word (codes "firewire:bus_reset_handle:") then Some Core else None)
+
+-- the first event that is named, and the words behind it
+abbrev pub named : List (List ℕ) → Option (Origin × List (List ℕ))
+named [] = None
+named (word ∷ words) =
+    elim (event_of word) [ None ↦ named words | Some event ↦ Some (event, words) ]
+
+-- ---- the fields of an event
+
+abbrev pub number_field : Option (List ℕ) → Option ℕ
+number_field None = None
+number_field (Some word) = number_of word
+
+abbrev pub list_field : Option (List ℕ) → Option (List ℕ)
+list_field None = None
+list_field (Some word) = list_of word
+
+abbrev pub truth_of : List ℕ → Option Bool
+truth_of word =
+    if bytes_eq word (codes "true") then Some true
+    else (if bytes_eq word (codes "false") then Some false else None)
+
+abbrev pub truth_field : Option (List ℕ) → Option Bool
+truth_field None = None
+truth_field (Some word) = truth_of word
+
+-- a reset of its fields, where each of them is there
+abbrev pub reset_of : Origin → Option ℕ → Option ℕ → Option Bool → Option (List ℕ) → LogLine
+reset_of origin (Some card) (Some generation) (Some is_error) (Some list) =
+    OfReset (record {
+      origin = origin;
+      card = card;
+      generation = generation;
+      is_error = is_error;
+      list = list;
+    })
+reset_of origin _ _ _ _ = Garbled
+
+-- `self_id_complete: card_index=N is_error=B generation_at_completion=N packet_data={..}`, and
+-- `bus_reset_handle: card_index=N generation=N self_ids={..}`, with other fields among them
+abbrev pub event : Origin → List (List ℕ) → LogLine
+event Controller words =
+    reset_of Controller (number_field (value_of (codes "card_index=") words))
+    (number_field (value_of (codes "generation_at_completion=") words))
+    (truth_field (value_of (codes "is_error=") words))
+    (list_field (value_of (codes "packet_data=") words))
+event Core words =
+    reset_of Core (number_field (value_of (codes "card_index=") words))
+    (number_field (value_of (codes "generation=") words)) (Some false)
+    (list_field (value_of (codes "self_ids=") words))
+
+-- a line of words
+abbrev pub of_words : Option (Origin × List (List ℕ)) → LogLine
+of_words None = Other
+of_words (Some e) = event e.0 e.1
+
+-- what a line is, by its first 65,536 bytes
+unfoldable pub line_of : List ℕ → LogLine
+line_of line = of_words (named (words_of (take 65536 line)))

@@ -1,0 +1,56 @@
+-- What is shown of a log: of its lines in order, with the trees that are known at each.
+use Rattle.std.specs.Prelude.{◌≡◌, ℕ, ◌+◌, ◌==◌, ◌||◌, Bool, false, if◌then◌else◌, Option, List, [], ◌∷◌, ◌++◌}
+use Rattle.std.specs.Io.KnownBytes.{Appends}
+use Rattle.self_id.specs.declared.standard.Standard.{Standard}
+use Rattle.reset_log.specs.declared.cards.Known.{Known}
+use Rattle.reset_log.specs.Shown.{IsLineShown}
+
+-- whole lines, each of which a line feed ends, and what stands behind the last one
+pub record Parted : Type 0 where
+  pub lines : List (List ℕ)
+  pub open_line : List ℕ
+
+abbrev pub onto_first : ℕ → List (List ℕ) → List ℕ → Parted
+onto_first b [] rest = record { lines = []; open_line = b ∷ rest }
+onto_first b (line ∷ lines) rest = record { lines = (b ∷ line) ∷ lines; open_line = rest }
+
+abbrev pub with_byte : ℕ → Parted → Parted
+with_byte b p =
+    if b == 10 then record { lines = [] ∷ p.lines; open_line = p.open_line }
+    else onto_first b p.lines p.open_line
+
+unfoldable pub parted : List ℕ → Parted
+parted [] = record { lines = []; open_line = [] }
+parted (b ∷ bytes) = with_byte b (parted bytes)
+
+-- a last line may lack its line feed
+abbrev pub open_lines : List ℕ → List (List ℕ)
+open_lines [] = []
+open_lines (b ∷ bytes) = (b ∷ bytes) ∷ []
+
+abbrev pub lines_of : List ℕ → List (List ℕ)
+lines_of bytes = (parted bytes).lines ++ open_lines (parted bytes).open_line
+
+-- What is shown of lines that are numbered from here on, where these trees are known before them;
+-- whether one of them is at fault, and the trees that are known behind them.
+abbrev pub AreShown :
+    Standard → ℕ → List Known → List (List ℕ) → List ℕ → Bool → List Known → Type 0
+AreShown standard number ks [] text bad next = (text ≡ []) × (bad ≡ false) × (next ≡ ks)
+AreShown standard number ks (line ∷ lines) text bad next =
+    (first rest : List ℕ) × (here later : Bool) × (mid : List Known)
+    × IsLineShown standard number ks line first here mid
+    × AreShown standard (number + 1) mid lines rest later next
+    × (text ≡ first ++ rest) × (bad ≡ here || later)
+
+-- what is shown of a log, and whether one of its lines is at fault
+pub record IsLogShown (standard : Standard) (lines : List (List ℕ)) (text : List ℕ) (bad : Bool) :
+    Type 0 where
+  pub known : List Known
+  pub shown : AreShown standard 1 [] lines text bad known
+
+-- what was written is what is shown of these lines
+pub record AreWritten (standard : Standard) (old new : Option (List ℕ))
+    (lines : List (List ℕ)) (bad : Bool) : Type 0 where
+  pub text : List ℕ
+  pub is_shown : IsLogShown standard lines text bad
+  pub wrote : Appends old new text

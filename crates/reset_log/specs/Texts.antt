@@ -1,0 +1,145 @@
+-- The texts that show the resets of a log.
+use Rattle.std.specs.Prelude.{ℕ, ◌+◌, ◌-◌, ◌==◌, Bool, true, false, not, ◌&&◌, if◌then◌else◌, Option, Some, None, List, [], ◌∷◌, ◌++◌, length, slice_get, codes}
+use Rattle.self_id.specs.declared.fault.GroupFault.TheVariants.{NotSelfId, WrongId, BadOrder, Cut as GroupCut, TwoParents}
+use Rattle.self_id.specs.Node.{Node}
+use Rattle.topology_stack.specs.declared.fault.TreeFault.TheVariants.{Group, Empty, TooFewChildren, TreesLeft, AfterRoot, NoRoot, TooMany}
+use Rattle.topology_stack.specs.Tree.{Tree, walk}
+use Rattle.topology_stack.specs.Elect.{elected}
+use Rattle.view_text.specs.Packet.{field}
+use Rattle.view_text.specs.Drawing.{all_have}
+use Rattle.reset_log.specs.declared.line.Reset.{Reset}
+use Rattle.reset_log.specs.declared.hear.ListFault.{ListFault}
+use Rattle.reset_log.specs.declared.hear.ListFault.TheVariants.{Cut, BadInverse, OfTree}
+
+-- `line N garbled`
+unfoldable pub garbled : ℕ → List ℕ
+garbled number = field (codes "line ") number ++ codes " garbled\n"
+
+-- `line N card C generation G`
+unfoldable pub head : ℕ → Reset → List ℕ
+head number r =
+    field (codes "line ") number
+    ++ (field (codes " card ") r.card ++ field (codes " generation ") r.generation)
+
+-- the controller says that it failed
+unfoldable pub unjudged : ℕ → Reset → List ℕ
+unjudged number r = head number r ++ codes " is_error, not judged\n"
+
+-- ---- a list that is refused
+
+-- where, by which rule, and what was found and wanted, as `busconf read` has all three
+abbrev pub place : ListFault → ℕ
+place (Cut pair) = pair
+place (BadInverse pair) = pair
+place (OfTree (Group (NotSelfId at))) = at
+place (OfTree (Group (WrongId at found wanted))) = at
+place (OfTree (Group (BadOrder at))) = at
+place (OfTree (Group (GroupCut at))) = at
+place (OfTree (Group (TwoParents at))) = at
+place (OfTree Empty) = 0
+place (OfTree (TooFewChildren at found wanted)) = at
+place (OfTree (TreesLeft at found wanted)) = at
+place (OfTree (AfterRoot at)) = at
+place (OfTree (NoRoot at)) = at
+place (OfTree (TooMany at)) = at
+
+abbrev pub kind : ListFault → List ℕ
+kind (Cut pair) = codes " BadLength"
+kind (BadInverse pair) = codes " BadInverse"
+kind (OfTree (Group (NotSelfId at))) = codes " NotSelfId"
+kind (OfTree (Group (WrongId at found wanted))) = codes " WrongId"
+kind (OfTree (Group (BadOrder at))) = codes " BadOrder"
+kind (OfTree (Group (GroupCut at))) = codes " Cut"
+kind (OfTree (Group (TwoParents at))) = codes " TwoParents"
+kind (OfTree Empty) = codes " Empty"
+kind (OfTree (TooFewChildren at found wanted)) = codes " TooFewChildren"
+kind (OfTree (TreesLeft at found wanted)) = codes " TreesLeft"
+kind (OfTree (AfterRoot at)) = codes " AfterRoot"
+kind (OfTree (NoRoot at)) = codes " NoRoot"
+kind (OfTree (TooMany at)) = codes " TooMany"
+
+unfoldable pub counts : ℕ → ℕ → List ℕ
+counts found wanted = field (codes " found ") found ++ field (codes " wanted ") wanted
+
+abbrev pub counts_of : ListFault → List ℕ
+counts_of (Cut pair) = []
+counts_of (BadInverse pair) = []
+counts_of (OfTree (Group (NotSelfId at))) = []
+counts_of (OfTree (Group (WrongId at found wanted))) = counts found wanted
+counts_of (OfTree (Group (BadOrder at))) = []
+counts_of (OfTree (Group (GroupCut at))) = []
+counts_of (OfTree (Group (TwoParents at))) = []
+counts_of (OfTree Empty) = []
+counts_of (OfTree (TooFewChildren at found wanted)) = counts found wanted
+counts_of (OfTree (TreesLeft at found wanted)) = counts found wanted
+counts_of (OfTree (AfterRoot at)) = []
+counts_of (OfTree (NoRoot at)) = []
+counts_of (OfTree (TooMany at)) = []
+
+-- `refused pair P KIND`, and behind some kinds ` found F wanted W`
+unfoldable pub fault_line : ListFault → List ℕ
+fault_line f =
+    field (codes "refused pair ") (place f) ++ (kind f ++ (counts_of f ++ codes "\n"))
+
+unfoldable pub refused : ℕ → Reset → ListFault → List ℕ
+refused number r f = head number r ++ (codes "\n" ++ fault_line f)
+
+-- ---- a list that is heard as a tree
+
+-- the ID of the resource manager, or `-`
+abbrev pub manager : List ℕ → Option ℕ → List ℕ
+manager word None = word ++ codes "-"
+manager word (Some id) = field word id
+
+-- ` nodes N root R irm I`
+unfoldable pub numbers : Tree → List ℕ
+numbers t =
+    field (codes " nodes ") (length (walk t)) ++ (field (codes " root ") (length (walk t) - 1)
+    ++ (manager (codes " irm ") (elected t) ++ codes "\n"))
+
+-- more or fewer nodes, and so another root
+unfoldable pub other_nodes : ℕ → ℕ → List ℕ
+other_nodes old new =
+    if new == old then []
+    else field (codes "nodes ") new ++ (field (codes ", were ") old ++ codes "\n")
+
+abbrev pub same_manager : Option ℕ → Option ℕ → Bool
+same_manager None None = true
+same_manager None (Some b) = false
+same_manager (Some a) None = false
+same_manager (Some a) (Some b) = a == b
+
+unfoldable pub other_manager : Option ℕ → Option ℕ → List ℕ
+other_manager old new =
+    if same_manager new old then []
+    else manager (codes "irm ") new ++ (manager (codes ", was ") old ++ codes "\n")
+
+-- whether all nodes have the root's gap count
+abbrev pub gap_of : Option Node → ℕ
+gap_of None = 0
+gap_of (Some n) = n.attrs.gap
+
+abbrev pub agree : Tree → Bool
+agree t = all_have (gap_of (slice_get (walk t) (length (walk t) - 1))) (walk t)
+
+unfoldable pub gaps_differ : Bool → Bool → List ℕ
+gaps_differ old new = if old && not new then codes "gap counts came to differ\n" else []
+
+-- what is another than at the card's reset before
+abbrev pub changed : Tree → Tree → List ℕ
+changed old new =
+    other_nodes (length (walk old)) (length (walk new))
+    ++ (other_manager (elected old) (elected new) ++ gaps_differ (agree old) (agree new))
+
+abbrev pub changes : Option Tree → Tree → List ℕ
+changes None new = []
+changes (Some old) new = changed old new
+
+-- each node that began the reset
+unfoldable pub initiator : ℕ → Bool → List ℕ
+initiator id initiated =
+    if initiated then field (codes "node ") id ++ codes " initiated\n" else []
+
+abbrev pub initiators : ℕ → List Node → List ℕ
+initiators id [] = []
+initiators id (n ∷ ns) = initiator id n.attrs.initiated ++ initiators (id + 1) ns

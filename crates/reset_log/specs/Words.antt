@@ -1,0 +1,26 @@
+-- The words of a line, and the fields among them.
+use Rattle.std.specs.Prelude.{ℕ, ◌==◌, ◌||◌, not, Bool, List, [], ◌∷◌, length, take, drop, filter, Option, Some, None, if◌then◌else◌}
+use Rattle.std.specs.List.{slice_split}
+use Rattle.std.specs.Str.{bytes_eq}
+
+-- a space, a tab or a carriage return
+abbrev pub is_blank : ℕ → Bool
+is_blank c = (c == 32) || (c == 9) || (c == 13)
+
+abbrev pub is_some_text : List ℕ → Bool
+is_some_text text = not (length text == 0)
+
+-- the words of a line are what stands between blanks
+unfoldable pub words_of : List ℕ → List (List ℕ)
+words_of line = filter is_some_text (slice_split is_blank line)
+
+-- what stands behind a key in a word that begins with it
+abbrev pub behind : List ℕ → List ℕ → Option (List ℕ)
+behind key word =
+    if bytes_eq (take (length key) word) key then Some (drop (length key) word) else None
+
+-- what stands behind a key in the first word that begins with it
+abbrev pub value_of : List ℕ → List (List ℕ) → Option (List ℕ)
+value_of key [] = None
+value_of key (word ∷ words) =
+    elim (behind key word) [ None ↦ value_of key words | Some value ↦ Some value ]

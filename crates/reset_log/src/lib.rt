@@ -1,0 +1,26 @@
+//! The log of a live bus: the resets in the text of a Linux kernel's trace.
+//!
+//! Each line of it is by itself a bus reset with its fields, a garbled event, or something else
+//! (`line_of`). What is shown of a log is told of its lines in order, with the last tree of each card
+//! (`show_log`).
+#![tactic(auto)]
+
+mod cards;
+mod form;
+mod hear;
+mod line;
+mod list;
+mod log;
+mod number;
+mod shown;
+mod stop;
+mod texts;
+mod word;
+mod words;
+
+pub use cards::Known;
+pub use form::resets_standard;
+pub use hear::ListFault;
+pub use line::{LogLine, Origin, Reset, line_of};
+pub use log::{MAX_LOG, show_log};
+pub use stop::LogStop;

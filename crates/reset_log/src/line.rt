@@ -1,0 +1,173 @@
+//! What a line of the log is, by itself.
+ghost use Rattle.std.specs.Prelude.{◌≡◌, Some, None, take, IfOk, MatchOption};
+ghost use Rattle.reset_log.specs.Words.{words_of, value_of};
+ghost use Rattle.reset_log.specs.Line.{event_of, named, number_field, list_field, truth_of, truth_field, reset_of, event, of_words, line_of};
+ghost use Rattle.reset_log.specs.declared.line.Origin.{Origin};
+
+use crate::list::list_of;
+use crate::number::number_of;
+use crate::word::Word;
+use crate::words::{value_of, words_of};
+use quad_lanes::QuadList;
+use std::alloc::{AllocError, Global};
+
+/// Which of the kernel's trace events a reset was read from.
+#[derive(Clone, Copy, Debug, PartialEq, Eq)]
+pub enum Origin {
+    /// `firewire_ohci:self_id_complete`: quadlets and their inverses, as the controller wrote them.
+    Controller,
+    /// `firewire:bus_reset_handle`: the packets' quadlets alone, which the kernel has judged.
+    Core,
+}
+
+/// A bus reset in a log.
+#[derive(Debug, Drop)]
+pub struct Reset {
+    pub origin: Origin,
+    /// The number of the controller on its machine.
+    pub card: u32,
+    /// The count of resets, which begins again after 255.
+    pub generation: u32,
+    /// Whether the controller says that it failed.
+    pub is_error: bool,
+    /// Of `Controller` quadlets and their inverses, of `Core` quadlets.
+    pub list: QuadList,
+}
+
+/// What a line of the log is.
+#[derive(Debug, Drop)]
+pub enum LogLine {
+    /// None of the two events.
+    Other,
+    /// One of them, with a field that is missing or isn't what it has to be.
+    Garbled,
+    OfReset(Reset),
+}
+
+/// The event that a word names, alone or behind its system's name.
+fn event_of(word: &Word) -> Option<Origin>
+    ensures { result ≡ event_of word.now }
+{
+    if word.is(b"self_id_complete:") || word.is(b"firewire_ohci:self_id_complete:") {
+        Some(Origin::Controller)
+    } else if word.is(b"bus_reset_handle:") || word.is(b"firewire:bus_reset_handle:") {
+        Some(Origin::Core)
+    } else {
+        None
+    }
+}
+
+/// The first event that is named, and the words behind it.
+fn named<'w, 'a>(words: &'w [Word<'a>]) -> Option<(Origin, &'w [Word<'a>])>
+    ensures { MatchOption result (named words.now ≡ None)
+        (λ e. named words.now ≡ Some (e.0, e.1.now)) }
+{
+    let mut rest = words;
+    while let [word, behind @ ..] = rest {
+        if let Some(event) = event_of(word) {
+            return Some((event, behind));
+        }
+        rest = behind;
+    }
+    None
+}
+
+/// The number behind a key.
+fn number_field(words: &[Word], key: &[u8]) -> Option<u32>
+    ensures { result ≡ number_field (value_of key.now words.now) }
+{
+    number_of(value_of(words, key)?.as_bytes())
+}
+
+/// The list behind a key.
+fn list_field(alloc: Global, words: &[Word], key: &[u8]) -> Result<Option<QuadList>, AllocError>
+    ensures { IfOk result (λ list. list ≡ list_field (value_of key.now words.now)) }
+{
+    match value_of(words, key) {
+        Some(word) => list_of(alloc, &word),
+        None => Ok(None),
+    }
+}
+
+fn truth_of(word: &Word) -> Option<bool>
+    ensures { result ≡ truth_of word.now }
+{
+    match word.as_bytes() {
+        b"true" => Some(true),
+        b"false" => Some(false),
+        _ => None,
+    }
+}
+
+/// `true` or `false` behind a key.
+fn truth_field(words: &[Word], key: &[u8]) -> Option<bool>
+    ensures { result ≡ truth_field (value_of key.now words.now) }
+{
+    truth_of(&value_of(words, key)?)
+}
+
+/// A reset of its fields, where each of them is there.
+fn reset_of(
+    origin: Origin,
+    card: Option<u32>,
+    generation: Option<u32>,
+    is_error: Option<bool>,
+    list: Option<QuadList>,
+) -> LogLine
+    ensures { result ≡ reset_of origin card generation is_error list }
+{
+    match (card, generation, is_error, list) {
+        (Some(card), Some(generation), Some(is_error), Some(list)) => LogLine::OfReset(Reset {
+            origin,
+            card,
+            generation,
+            is_error,
+            list,
+        }),
+        _ => LogLine::Garbled,
+    }
+}
+
+/// An event with these words.
+fn event(alloc: Global, origin: Origin, words: &[Word]) -> Result<LogLine, AllocError>
+    ensures { IfOk result (λ line. line ≡ event origin words.now) }
+{
+    let card = number_field(words, b"card_index=");
+    match origin {
+        Origin::Controller => {
+            let generation = number_field(words, b"generation_at_completion=");
+            let is_error = truth_field(words, b"is_error=");
+            let list = list_field(alloc, words, b"packet_data=")?;
+            Ok(reset_of(origin, card, generation, is_error, list))
+        }
+        Origin::Core => {
+            let generation = number_field(words, b"generation=");
+            let list = list_field(alloc, words, b"self_ids=")?;
+            Ok(reset_of(origin, card, generation, Some(false), list))
+        }
+    }
+}
+
+/// The first bytes of a line, `most` of them at most.
+fn front(line: &[u8], most: usize) -> &[u8]
+    ensures { result.now ≡ take most line.now }
+{
+    if line.len() > most {
+        &line[..most]
+    } else {
+        line
+    }
+}
+
+/// What a line of the log is, by its first 65,536 bytes. What stands before the event's name, and
+/// other fields of it, may be anything.
+#[tactic(auto, unfolding(crate::specs::Line::line_of))]
+pub fn line_of(alloc: Global, line: &[u8]) -> Result<LogLine, AllocError>
+    ensures { IfOk result (λ found. found ≡ line_of line.now) }
+{
+    let words = words_of(alloc, front(line, 65536))?;
+    match named(&words) {
+        Some((origin, behind)) => event(alloc, origin, behind),
+        None => Ok(LogLine::Other),
+    }
+}

@@ -1,0 +1,133 @@
+//! What is shown of a line of the log.
+ghost use Rattle.std.specs.Prelude.{◌≡◌, ◌++◌, IfOk, IsTrue, ◌↔◌, true, false, Some, Option};
+ghost use Rattle.std.specs.Option.{option_copied};
+ghost use Rattle.topology_stack.specs.Tree.{Tree, walk};
+ghost use Rattle.reset_log.specs.Shown.{last_tree, put, WasDrawn, WasOther, IsBody, IsTreeShown, IsResetShown, IsLineShown};
+
+use crate::cards::{Known, last_tree, put};
+use crate::hear::{ListStop, hear};
+use crate::line::{LogLine, Reset, line_of};
+use crate::texts::{
+    put_changes, put_garbled, put_head, put_initiators, put_numbers, put_refused, put_unjudged,
+};
+use self_id::Standard;
+use std::alloc::{AllocError, Global};
+use topology_stack::BusTree;
+use view_text::tree_drawing;
+
+/// What is shown of a line, and whether it is at fault.
+#[derive(Debug, Drop)]
+pub(crate) struct Shown {
+    pub(crate) text: Vec<u8>,
+    pub(crate) bad: bool,
+}
+
+fn same_text(a: &[u8], b: &[u8]) -> bool
+    ensures { IsTrue result ↔ (a.now ≡ b.now) }
+{
+    a == b
+}
+
+/// Whether the tree of a card's reset before has this drawing.
+fn was_drawn(alloc: Global, before: Option<&BusTree>, drawing: &[u8]) -> Result<bool, AllocError>
+    ensures same { IfOk result (λ same.
+        same ≡ true → WasDrawn (option_copied before.entry) drawing.now) }
+    ensures other { IfOk result (λ same.
+        same ≡ false → WasOther (option_copied before.entry) drawing.now) }
+{
+    match before {
+        Some(old) => {
+            let text = tree_drawing(alloc, old)?;
+            Ok(same_text(text.as_slice(), drawing))
+        }
+        None => Ok(false),
+    }
+}
+
+/// The drawing of a tree, or that it is as before.
+fn body(alloc: Global, before: Option<&BusTree>, tree: &BusTree) -> Result<Vec<u8>, AllocError>
+    ensures { IfOk result (λ text.
+        IsBody (option_copied before.entry) tree.now text.items) }
+{
+    let drawing = tree_drawing(alloc, tree)?;
+    if was_drawn(alloc, before, &drawing)? {
+        let text = Vec::from_slice(alloc, b"as before\n")?;
+        Ok(text)
+    } else {
+        Ok(drawing)
+    }
+}
+
+/// What is shown of a tree.
+fn tree_text(
+    alloc: Global,
+    number: u64,
+    reset: &Reset,
+    before: Option<&BusTree>,
+    tree: &BusTree,
+) -> Result<Vec<u8>, AllocError>
+    ensures { IfOk result (λ text.
+        IsTreeShown number reset.now (option_copied before.entry) tree.now text.items) }
+{
+    let body = body(alloc, before, tree)?;
+    let mut text = Vec::new(alloc);
+    put_head(&mut text, number, reset)?;
+    put_numbers(&mut text, tree)?;
+    text.extend_from_slice(&body)?;
+    put_changes(&mut text, before, tree)?;
+    put_initiators(&mut text, tree)?;
+    Ok(text)
+}
+
+/// Shows a reset, and keeps its tree.
+fn show_reset(
+    alloc: Global,
+    standard: Standard,
+    cards: &mut Vec<Known>,
+    number: u64,
+    reset: &Reset,
+) -> Result<Shown, AllocError>
+    ensures { IfOk result (λ shown. IsResetShown standard number cards.old.items reset.now
+        shown.text.items shown.bad cards.new.items) }
+{
+    let mut text = Vec::new(alloc);
+    if reset.is_error {
+        put_unjudged(&mut text, number, reset)?;
+        return Ok(Shown { text, bad: false });
+    }
+    match hear(alloc, standard, reset) {
+        Ok(tree) => {
+            let text = tree_text(alloc, number, reset, last_tree(cards, reset.card), &tree)?;
+            put(cards, reset.card, tree)?;
+            Ok(Shown { text, bad: false })
+        }
+        Err(ListStop::Fault(fault)) => {
+            put_refused(&mut text, number, reset, fault)?;
+            Ok(Shown { text, bad: true })
+        }
+        Err(ListStop::Memory(error)) => Err(error),
+    }
+}
+
+/// What is shown of the line with this number, which is counted from 1. The tree of a reset is kept
+/// as the last one of its card.
+pub(crate) fn show_line(
+    alloc: Global,
+    standard: Standard,
+    cards: &mut Vec<Known>,
+    number: u64,
+    line: &[u8],
+) -> Result<Shown, AllocError>
+    ensures { IfOk result (λ shown. IsLineShown standard number cards.old.items line.now
+        shown.text.items shown.bad cards.new.items) }
+{
+    let mut text = Vec::new(alloc);
+    match line_of(alloc, line)? {
+        LogLine::Other => Ok(Shown { text, bad: false }),
+        LogLine::Garbled => {
+            put_garbled(&mut text, number)?;
+            Ok(Shown { text, bad: true })
+        }
+        LogLine::OfReset(reset) => show_reset(alloc, standard, cards, number, &reset),
+    }
+}

@@ -1,0 +1,282 @@
+//! The texts that show the resets of a log.
+ghost use Rattle.std.specs.Prelude.{◌≡◌, ◌-◌, ◌<◌, ◌++◌, length, slice_get, Some, OnOk};
+ghost use Rattle.std.specs.Option.{option_copied};
+ghost use Rattle.self_id.specs.Node.{Node};
+ghost use Rattle.topology_stack.specs.Tree.{walk};
+ghost use Rattle.view_text.specs.Drawing.{all_have};
+ghost use Rattle.reset_log.specs.Texts.{garbled, head, unjudged, place, kind, counts, counts_of, fault_line, refused, manager, numbers, other_nodes, same_manager, other_manager, gap_of, agree, gaps_differ, changed, changes, initiator, initiators};
+
+use crate::hear::ListFault;
+use crate::line::Reset;
+use self_id::{GroupFault, SelfId};
+use std::alloc::AllocError;
+use topology_stack::{BusTree, TreeFault, elect};
+use view_text::put_field;
+
+/// Appends the line of a garbled event.
+#[tactic(auto, unfolding(crate::specs::Texts::garbled))]
+pub(crate) fn put_garbled(out: &mut Vec<u8>, number: u64) -> Result<(), AllocError>
+    ensures { OnOk result (out.new.items ≡ out.old.items ++ garbled number) }
+{
+    put_field(out, b"line ", number)?;
+    out.extend_from_slice(b" garbled\n")?;
+    Ok(())
+}
+
+/// Appends which reset a text is about.
+#[tactic(auto, unfolding(crate::specs::Texts::head))]
+pub(crate) fn put_head(out: &mut Vec<u8>, number: u64, reset: &Reset) -> Result<(), AllocError>
+    ensures { OnOk result (out.new.items ≡ out.old.items ++ head number reset.now) }
+{
+    put_field(out, b"line ", number)?;
+    put_field(out, b" card ", u64::from(reset.card))?;
+    put_field(out, b" generation ", u64::from(reset.generation))?;
+    Ok(())
+}
+
+/// Appends the line of a reset at which the controller failed.
+#[tactic(auto, unfolding(crate::specs::Texts::unjudged))]
+pub(crate) fn put_unjudged(out: &mut Vec<u8>, number: u64, reset: &Reset) -> Result<(), AllocError>
+    ensures { OnOk result (out.new.items ≡ out.old.items ++ unjudged number reset.now) }
+{
+    put_head(out, number, reset)?;
+    out.extend_from_slice(b" is_error, not judged\n")?;
+    Ok(())
+}
+
+/// The pair at which a list is refused.
+fn place(fault: ListFault) -> usize
+    ensures { result ≡ place fault }
+{
+    match fault {
+        ListFault::Cut { pair } | ListFault::BadInverse { pair } => pair,
+        ListFault::OfTree(TreeFault::Group(fault)) => match fault {
+            GroupFault::NotSelfId { at }
+            | GroupFault::WrongId { at, .. }
+            | GroupFault::BadOrder { at }
+            | GroupFault::Cut { at }
+            | GroupFault::TwoParents { at } => at,
+        },
+        ListFault::OfTree(TreeFault::Empty) => 0,
+        ListFault::OfTree(TreeFault::TooFewChildren { at, .. })
+        | ListFault::OfTree(TreeFault::TreesLeft { at, .. })
+        | ListFault::OfTree(TreeFault::AfterRoot { at })
+        | ListFault::OfTree(TreeFault::NoRoot { at })
+        | ListFault::OfTree(TreeFault::TooMany { at }) => at,
+    }
+}
+
+/// The rule by which a list is refused.
+fn kind(fault: ListFault) -> &'static [u8]
+    ensures { result.now ≡ kind fault }
+{
+    match fault {
+        ListFault::Cut { .. } => b" BadLength",
+        ListFault::BadInverse { .. } => b" BadInverse",
+        ListFault::OfTree(TreeFault::Group(fault)) => match fault {
+            GroupFault::NotSelfId { .. } => b" NotSelfId",
+            GroupFault::WrongId { .. } => b" WrongId",
+            GroupFault::BadOrder { .. } => b" BadOrder",
+            GroupFault::Cut { .. } => b" Cut",
+            GroupFault::TwoParents { .. } => b" TwoParents",
+        },
+        ListFault::OfTree(TreeFault::Empty) => b" Empty",
+        ListFault::OfTree(TreeFault::TooFewChildren { .. }) => b" TooFewChildren",
+        ListFault::OfTree(TreeFault::TreesLeft { .. }) => b" TreesLeft",
+        ListFault::OfTree(TreeFault::AfterRoot { .. }) => b" AfterRoot",
+        ListFault::OfTree(TreeFault::NoRoot { .. }) => b" NoRoot",
+        ListFault::OfTree(TreeFault::TooMany { .. }) => b" TooMany",
+    }
+}
+
+#[tactic(auto, unfolding(crate::specs::Texts::counts))]
+fn put_found(out: &mut Vec<u8>, found: u8, wanted: u8) -> Result<(), AllocError>
+    ensures { OnOk result (out.new.items ≡ out.old.items ++ counts found wanted) }
+{
+    put_field(out, b" found ", u64::from(found))?;
+    put_field(out, b" wanted ", u64::from(wanted))?;
+    Ok(())
+}
+
+/// Appends what was found and wanted, where a fault has both.
+fn put_counts(out: &mut Vec<u8>, fault: ListFault) -> Result<(), AllocError>
+    ensures { OnOk result (out.new.items ≡ out.old.items ++ counts_of fault) }
+{
+    match fault {
+        ListFault::OfTree(TreeFault::Group(GroupFault::WrongId { found, wanted, .. }))
+        | ListFault::OfTree(TreeFault::TooFewChildren { found, wanted, .. })
+        | ListFault::OfTree(TreeFault::TreesLeft { found, wanted, .. }) => {
+            put_found(out, found, wanted)
+        }
+        _ => Ok(()),
+    }
+}
+
+/// Appends the line of a fault.
+#[tactic(auto, unfolding(crate::specs::Texts::fault_line))]
+fn put_fault(out: &mut Vec<u8>, fault: ListFault) -> Result<(), AllocError>
+    ensures { OnOk result (out.new.items ≡ out.old.items ++ fault_line fault) }
+{
+    put_field(out, b"refused pair ", place(fault) as u64)?;
+    out.extend_from_slice(kind(fault))?;
+    put_counts(out, fault)?;
+    out.extend_from_slice(b"\n")?;
+    Ok(())
+}
+
+/// Appends the lines of a reset whose list is refused.
+#[tactic(auto, unfolding(crate::specs::Texts::refused))]
+pub(crate) fn put_refused(
+    out: &mut Vec<u8>,
+    number: u64,
+    reset: &Reset,
+    fault: ListFault,
+) -> Result<(), AllocError>
+    ensures { OnOk result (out.new.items ≡ out.old.items ++ refused number reset.now fault) }
+{
+    put_head(out, number, reset)?;
+    out.extend_from_slice(b"\n")?;
+    put_fault(out, fault)?;
+    Ok(())
+}
+
+/// Appends the ID of a resource manager, or `-`.
+fn put_manager(out: &mut Vec<u8>, word: &[u8], irm: Option<u8>) -> Result<(), AllocError>
+    ensures { OnOk result (out.new.items ≡ out.old.items ++ manager word.now irm) }
+{
+    match irm {
+        Some(id) => put_field(out, word, u64::from(id)),
+        None => {
+            out.extend_from_slice(word)?;
+            out.extend_from_slice(b"-")
+        }
+    }
+}
+
+/// Appends the numbers of a bus.
+#[tactic(auto, unfolding(crate::specs::Texts::numbers))]
+pub(crate) fn put_numbers(out: &mut Vec<u8>, tree: &BusTree) -> Result<(), AllocError>
+    ensures { OnOk result (out.new.items ≡ out.old.items ++ numbers tree.now) }
+{
+    put_field(out, b" nodes ", u64::from(tree.len()))?;
+    put_field(out, b" root ", u64::from(tree.root()))?;
+    put_manager(out, b" irm ", elect(tree))?;
+    out.extend_from_slice(b"\n")?;
+    Ok(())
+}
+
+/// Appends that there are more or fewer nodes.
+#[tactic(auto, unfolding(crate::specs::Texts::other_nodes))]
+fn put_other_nodes(out: &mut Vec<u8>, old: u8, new: u8) -> Result<(), AllocError>
+    ensures { OnOk result (out.new.items ≡ out.old.items ++ other_nodes old new) }
+{
+    if new == old {
+        return Ok(());
+    }
+    put_field(out, b"nodes ", u64::from(new))?;
+    put_field(out, b", were ", u64::from(old))?;
+    out.extend_from_slice(b"\n")?;
+    Ok(())
+}
+
+fn same_manager(a: Option<u8>, b: Option<u8>) -> bool
+    ensures { result ≡ same_manager a b }
+{
+    match (a, b) {
+        (None, None) => true,
+        (Some(a), Some(b)) => a == b,
+        _ => false,
+    }
+}
+
+/// Appends that there is another resource manager.
+#[tactic(auto, unfolding(crate::specs::Texts::other_manager))]
+fn put_other_manager(out: &mut Vec<u8>, old: Option<u8>, new: Option<u8>) -> Result<(), AllocError>
+    ensures { OnOk result (out.new.items ≡ out.old.items ++ other_manager old new) }
+{
+    if same_manager(new, old) {
+        return Ok(());
+    }
+    put_manager(out, b"irm ", new)?;
+    put_manager(out, b", was ", old)?;
+    out.extend_from_slice(b"\n")?;
+    Ok(())
+}
+
+/// Whether all nodes have this gap count.
+fn all_have(nodes: &[SelfId], gap: u8) -> bool
+    ensures { result ≡ all_have gap nodes.now }
+{
+    for node in nodes {
+        if node.attrs.gap != gap {
+            return false;
+        }
+    }
+    true
+}
+
+/// Whether all nodes have the root's gap count.
+fn agree(tree: &BusTree) -> bool
+    ensures { result ≡ agree tree.now }
+{
+    all_have(tree.nodes(), tree.node(tree.root()).attrs.gap)
+}
+
+/// Appends that gap counts came to differ.
+#[tactic(auto, unfolding(crate::specs::Texts::gaps_differ))]
+fn put_gaps_differ(out: &mut Vec<u8>, old: bool, new: bool) -> Result<(), AllocError>
+    ensures { OnOk result (out.new.items ≡ out.old.items ++ gaps_differ old new) }
+{
+    if old && !new {
+        out.extend_from_slice(b"gap counts came to differ\n")?;
+    }
+    Ok(())
+}
+
+/// Appends what is another than at the reset before, where there was one.
+pub(crate) fn put_changes(
+    out: &mut Vec<u8>,
+    old: Option<&BusTree>,
+    new: &BusTree,
+) -> Result<(), AllocError>
+    ensures { OnOk result (out.new.items
+        ≡ out.old.items ++ changes (option_copied old.entry) new.now) }
+{
+    let Some(old) = old else {
+        return Ok(());
+    };
+    put_other_nodes(out, old.len(), new.len())?;
+    put_other_manager(out, elect(old), elect(new))?;
+    put_gaps_differ(out, agree(old), agree(new))?;
+    Ok(())
+}
+
+/// Appends that a node began the reset, if it did.
+#[tactic(auto, unfolding(crate::specs::Texts::initiator))]
+fn put_initiator(out: &mut Vec<u8>, id: u8, initiated: bool) -> Result<(), AllocError>
+    ensures { OnOk result (out.new.items ≡ out.old.items ++ initiator id initiated) }
+{
+    if initiated {
+        put_field(out, b"node ", u64::from(id))?;
+        out.extend_from_slice(b" initiated\n")?;
+    }
+    Ok(())
+}
+
+/// Whether the node with this ID began the reset.
+fn initiated(tree: &BusTree, id: u8) -> bool
+    requires { id < length (walk tree.now) }
+    ensures { (n : Node) → slice_get (walk tree.now) id ≡ Some n → result ≡ n.attrs.initiated }
+{
+    tree.node(id).attrs.initiated
+}
+
+/// Appends each node that began the reset.
+pub(crate) fn put_initiators(out: &mut Vec<u8>, tree: &BusTree) -> Result<(), AllocError>
+    ensures { OnOk result (out.new.items ≡ out.old.items ++ initiators 0 (walk tree.now)) }
+{
+    for id in 0..tree.len() {
+        put_initiator(out, id, initiated(tree, id))?;
+    }
+    Ok(())
+}

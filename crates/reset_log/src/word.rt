@@ -1,0 +1,53 @@
+//! A word of a line.
+ghost use Rattle.std.specs.Prelude.{◌≡◌, IsTrue, ◌↔◌, IfSome};
+ghost use Rattle.std.specs.Option.{option_copied, option_map};
+ghost use Rattle.std.specs.Str.{bytes_eq};
+ghost use Rattle.reset_log.specs.Words.{behind};
+
+use std::marker::Model;
+
+/// A word of a line. In a contract it is the list of its bytes.
+#[derive(Debug, Drop)]
+pub(crate) struct Word<'a> {
+    bytes: &'a [u8],
+}
+
+impl<'a> Model for Word<'a> {
+    ghost use Rattle.std.specs.Prelude.{List, ℕ};
+
+    ghost Value = { List ℕ };
+
+    ghost view = { λ w. w.bytes.now };
+}
+
+impl<'a> Word<'a> {
+    pub(crate) fn new(bytes: &'a [u8]) -> Word<'a>
+        ensures { result ≡ bytes.now }
+    {
+        Word { bytes }
+    }
+
+    /// The characters of the word.
+    pub(crate) fn as_bytes(&self) -> &'a [u8]
+        ensures { result.now ≡ self.now }
+    {
+        self.bytes
+    }
+
+    /// Whether this is the word.
+    pub(crate) fn is(&self, text: &[u8]) -> bool
+        ensures { result ≡ bytes_eq self.now text.now }
+    {
+        self.bytes == text
+    }
+
+    /// What stands behind a key, where the word begins with it.
+    pub(crate) fn behind(&self, key: &[u8]) -> Option<Word<'a>>
+        ensures { result ≡ behind key.now self.now }
+    {
+        match self.bytes.strip_prefix(key) {
+            Some(bytes) => Some(Word { bytes }),
+            None => None,
+        }
+    }
+}
