@@ -55,7 +55,8 @@ stopped form reading stop (Err e) is h = tt
 -- ---- scripts
 
 -- a text that a script tells is what its run prints
-pub told_prints : ReportsAreSettled → (bytes text : List ℕ) → IsTold bytes (Ok text) → PrintsRun bytes text
+pub told_prints : ReportsAreSettled → (bytes text : List ℕ) → IsTold bytes (Ok text) →
+    PrintsRun bytes text
 told_prints settled bytes text x = go x.0.end refl
   where
     go : (end : Result Bus ScriptFault) → x.0.end ≡ end → PrintsRun bytes text
@@ -113,11 +114,13 @@ pub not_two : (a : Answer) → status_with a ≡ 2 → ⊥
 not_two (Valid text) e = cc
 not_two (Refused line) e = cc
 
-pub made_status : (words : List (String Global)) (bytes : List ℕ) (status : ℕ) (text : List ℕ) → AsksMake words → Answers words bytes status text → status ≡ 0
+pub made_status : (words : List (String Global)) (bytes : List ℕ) (status : ℕ) (text : List ℕ) →
+    AsksMake words → Answers words bytes status text → status ≡ 0
 made_status words bytes status text make is =
     (of_form words (Make make.0 make.1) make.2 bytes status text is).0
 
-pub made_text : (words : List (String Global)) (nodes seed : ℕ) (bytes : List ℕ) (status : ℕ) (text : List ℕ) → Asks words (Make nodes seed) → Answers words bytes status text → AnswersMake nodes seed 0 text
+pub made_text : (words : List (String Global)) (nodes seed : ℕ) (bytes : List ℕ) (status : ℕ) (text : List ℕ) →
+    Asks words (Make nodes seed) → Answers words bytes status text → AnswersMake nodes seed 0 text
 made_text words nodes seed bytes status text asks is =
     let made = of_form words (Make nodes seed) asks bytes status text is in (refl, made.1)
 
@@ -161,7 +164,9 @@ of_few Answers some None P h = tt
 of_few Answers some (Some bytes) P h = λ few. record { holds = h few; some = some bytes }
 
 -- what holds where the text is taken holds where the answer is
-pub taken_surely : NoInputHasTwoAnswers → (words : List (String Global)) (left : Option (List ℕ)) (read text : List ℕ) (status : ℕ) (takes : ℕ → Type 0) (same : Type 0) → IfSome left (λ bytes. read ≡ bytes) → Answers words read status text →
+pub taken_surely : NoInputHasTwoAnswers →
+    (words : List (String Global)) (left : Option (List ℕ)) (read text : List ℕ) (status : ℕ) (takes : ℕ → Type 0) (same : Type 0) →
+    IfSome left (λ bytes. read ≡ bytes) → Answers words read status text →
     (takes (length text) → same) → IfSome left (λ bytes. (s : ℕ) (x : List ℕ) → Answers words bytes s x → takes (length x) → same)
 taken_surely one words None read text status takes same all answers go = tt
 taken_surely one words (Some bytes) read text status takes same all answers go = λ s x is sure.

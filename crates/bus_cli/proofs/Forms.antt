@@ -52,7 +52,8 @@ same-true (x ∷ xs) (y ∷ ys) e =
     let head : x ≡ y = eqb-true x y p.0 in
     rw (head, same-true xs ys p.1) refl
 
-from_numbers : (a b : Option ℕ) (nodes seed : ℕ) → a ≡ Some nodes → b ≡ Some seed → of_make a b ≡ Some (Make nodes seed)
+from_numbers : (a b : Option ℕ) (nodes seed : ℕ) → a ≡ Some nodes → b ≡ Some seed →
+    of_make a b ≡ Some (Make nodes seed)
 unfolding of_make
 from_numbers a b nodes seed x y = rw (x, y) refl
 
@@ -77,7 +78,8 @@ one_form words a b x y =
     same_form a b (form_of (map string_bytes words)) (is_found a (map string_bytes words) x) (is_found b (map string_bytes words) y)
 
 -- the words of `make` are those of one number of nodes and one seed
-pub one_make : (words : List (String Global)) (n m s r : ℕ) → Asks words (Make n s) → Asks words (Make m r) → (n ≡ m) × (s ≡ r)
+pub one_make : (words : List (String Global)) (n m s r : ℕ) → Asks words (Make n s) →
+    Asks words (Make m r) → (n ≡ m) × (s ≡ r)
 one_make words n m s r x y =
     let e : Make n s ≡ Make m r = one_form words (Make n s) (Make m r) x y in
     (cc, cc)
@@ -96,7 +98,9 @@ abbrev IsWordOf : List ℕ → Form → Type 0
 IsWordOf word form = AreWordsOf form (word ∷ [])
 
 -- the first form whose word it is, or one of the rest
-tried : (test : Bool) (word : List ℕ) (first form : Form) (rest : Option Form) → (test ≡ true → IsWordOf word first) → (rest ≡ Some form → IsWordOf word form) → cond test (Some first) rest ≡ Some form → IsWordOf word form
+tried : (test : Bool) (word : List ℕ) (first form : Form) (rest : Option Form) →
+    (test ≡ true → IsWordOf word first) → (rest ≡ Some form → IsWordOf word form) →
+    cond test (Some first) rest ≡ Some form → IsWordOf word form
 tried true word first form rest is go e = let f : first ≡ form = cc in subst (λ (g : Form). IsWordOf word g) f (is refl)
 tried false word first form rest is go e = go e
 
@@ -123,12 +127,14 @@ AreMake words = (nodes : ℕ) × (seed : ℕ) × AreMakeWords nodes seed words
 not_found : (words : List (List ℕ)) → form_of words ≡ None → AreForm words → ⊥
 not_found words none is = let e : None ≡ Some is.0 = sym none ∙ is_found is.0 words is.1 in cc
 
-by_form : (word : List ℕ) (found : Option Form) → of_word word ≡ found → AreForm (word ∷ []) ⊎ (AreForm (word ∷ []) → ⊥)
+by_form : (word : List ℕ) (found : Option Form) → of_word word ≡ found →
+    AreForm (word ∷ []) ⊎ (AreForm (word ∷ []) → ⊥)
 unfolding form_of
 by_form word (Some form) e = inl (form, is_word_of word form e)
 by_form word None e = inr (not_found (word ∷ []) e)
 
-only_make : (a b c : List ℕ) (words : List (List ℕ)) (form : Form) → (AreMake (a ∷ b ∷ c ∷ words) → ⊥) → AreWordsOf form (a ∷ b ∷ c ∷ words) → ⊥
+only_make : (a b c : List ℕ) (words : List (List ℕ)) (form : Form) →
+    (AreMake (a ∷ b ∷ c ∷ words) → ⊥) → AreWordsOf form (a ∷ b ∷ c ∷ words) → ⊥
 only_make a b c words (Capture Read) none e = cc
 only_make a b c words (Capture Read95) none e = cc
 only_make a b c words (Capture Maps) none e = cc
@@ -140,7 +146,8 @@ only_make a b c words (Make nodes seed) none m = none (nodes, seed, m)
 -- ---- the words of `make`, or none of it
 
 -- the first number is one of 1 to 63
-nodes_word : (b : List ℕ) (o : Option ℕ) → number_of b ≡ o → ((n : ℕ) × (number_of b ≡ Some n) × (1 ≤ n) × (n ≤ 63)) ⊎ ((n : ℕ) → number_of b ≡ Some n → 1 ≤ n → n ≤ 63 → ⊥)
+nodes_word : (b : List ℕ) (o : Option ℕ) → number_of b ≡ o →
+    ((n : ℕ) × (number_of b ≡ Some n) × (1 ≤ n) × (n ≤ 63)) ⊎ ((n : ℕ) → number_of b ≡ Some n → 1 ≤ n → n ≤ 63 → ⊥)
 nodes_word b None e = inr (λ n is least most. no n is)
   where
     no : (n : ℕ) → number_of b ≡ Some n → ⊥
@@ -155,7 +162,8 @@ nodes_word b (Some n) e = by (nat_lt 0 n) (nat_lt n 64) refl refl
     by false high l h = inr (λ m is least most. let s = same m is in grind (arith, nat_tests))
     by true false l h = inr (λ m is least most. let s = same m is in grind (arith, nat_tests))
 
-seed_word : (c : List ℕ) (o : Option ℕ) → number_of c ≡ o → ((n : ℕ) × (number_of c ≡ Some n)) ⊎ ((n : ℕ) → number_of c ≡ Some n → ⊥)
+seed_word : (c : List ℕ) (o : Option ℕ) → number_of c ≡ o →
+    ((n : ℕ) × (number_of c ≡ Some n)) ⊎ ((n : ℕ) → number_of c ≡ Some n → ⊥)
 seed_word c None e = inr (λ n is. no n is)
   where
     no : (n : ℕ) → number_of c ≡ Some n → ⊥
@@ -163,7 +171,8 @@ seed_word c None e = inr (λ n is. no n is)
 seed_word c (Some n) e = inl (n, e)
 
 -- the parts of the words of `make`
-parts_of : (a b c : List ℕ) (words : List (List ℕ)) (m : AreMake (a ∷ b ∷ c ∷ words)) → (a ≡ codes "make") × (m.2.nodes_word ≡ b) × (m.2.seed_word ≡ c) × (words ≡ [])
+parts_of : (a b c : List ℕ) (words : List (List ℕ)) (m : AreMake (a ∷ b ∷ c ∷ words)) →
+    (a ≡ codes "make") × (m.2.nodes_word ≡ b) × (m.2.seed_word ≡ c) × (words ≡ [])
 parts_of a b c words m = split a b c words m.2.nodes_word m.2.seed_word m.2.words_are
   where
     split : (a b c : List ℕ) (words : List (List ℕ)) (n s : List ℕ) → a ∷ b ∷ c ∷ words ≡ codes "make" ∷ n ∷ s ∷ [] → (a ≡ codes "make") × (n ≡ b) × (s ≡ c) × (words ≡ [])
@@ -201,7 +210,8 @@ make_or_none (a ∷ b ∷ []) = inr (λ m. let e = m.2.words_are in cc)
 make_or_none (a ∷ b ∷ c ∷ []) = three_words a b c
 make_or_none (a ∷ b ∷ c ∷ d ∷ words) = inr (λ m. let e = m.2.words_are in cc)
 
-are_form : (words : List (List ℕ)) → AreMake words ⊎ (AreMake words → ⊥) → AreForm words ⊎ (AreForm words → ⊥)
+are_form : (words : List (List ℕ)) → AreMake words ⊎ (AreMake words → ⊥) →
+    AreForm words ⊎ (AreForm words → ⊥)
 unfolding form_of
 are_form words (inl make) = inl (Make make.0 make.1, make.2)
 are_form [] (inr none) = inr (not_found [] refl)
@@ -216,7 +226,8 @@ form_or_none words = are_form (map string_bytes words) (make_or_none (map string
 -- ---- what is read
 
 -- with words that aren't those of `make` the input is read
-pub is_read : (words : List (String Global)) (form : Form) → Asks words form → (AsksMake words → ⊥) → IsRead form
+pub is_read : (words : List (String Global)) (form : Form) → Asks words form →
+    (AsksMake words → ⊥) → IsRead form
 is_read words (Capture form) asks none = tt
 is_read words Rom asks none = tt
 is_read words Run asks none = tt
@@ -224,7 +235,8 @@ is_read words Advice asks none = tt
 is_read words (Make nodes seed) asks none = absurd (none (nodes, seed, asks))
 
 -- with those of `make` it isn't
-pub is_unread : (words : List (String Global)) (form : Form) → Asks words form → AsksMake words → IsRead form → ⊥
+pub is_unread : (words : List (String Global)) (form : Form) → Asks words form → AsksMake words →
+    IsRead form → ⊥
 is_unread words form asks make read =
     let e : Make make.0 make.1 ≡ form = one_form words (Make make.0 make.1) form make.2 asks in
     subst (λ (f : Form). IsRead f → ⊥) e (λ none. none) read

@@ -28,7 +28,8 @@ use Rattle.bus_cli.proofs.Reading.{is_capture}
 
 -- ---- lists of whole quadlets and whole pairs
 
-quads_of-append : (k : ℕ) (xs ys : List ℕ) → length xs ≡ 4 * k → quads_of (xs ++ ys) ≡ quads_of xs ++ quads_of ys
+quads_of-append : (k : ℕ) (xs ys : List ℕ) → length xs ≡ 4 * k →
+    quads_of (xs ++ ys) ≡ quads_of xs ++ quads_of ys
 quads_of-append zero [] ys e = refl
 quads_of-append (suc k) (a ∷ b ∷ c ∷ d ∷ xs) ys e = ap (λ (l : List ℕ). big_endian a b c d ∷ l) (quads_of-append k xs ys (omega (arith, e)))
 quads_of-append zero (x ∷ xs) ys e = absurd (omega (arith, e))
@@ -40,7 +41,8 @@ length-quads (suc k) (a ∷ b ∷ c ∷ d ∷ xs) e = ap suc (length-quads k xs 
 length-quads zero (x ∷ xs) e = absurd (omega (arith, e))
 length-quads (suc k) _ e = absurd (omega (arith, e))
 
-pairs-append : (k : ℕ) (xs ys : List ℕ) → length xs ≡ 2 * k → pairs (xs ++ ys) ≡ pairs xs ++ pairs ys
+pairs-append : (k : ℕ) (xs ys : List ℕ) → length xs ≡ 2 * k →
+    pairs (xs ++ ys) ≡ pairs xs ++ pairs ys
 pairs-append zero [] ys e = refl
 pairs-append (suc k) (a ∷ b ∷ xs) ys e = ap (λ (l : List (ℕ × ℕ)). (a, b) ∷ l) (pairs-append k xs ys (omega (arith, e)))
 pairs-append zero (x ∷ xs) ys e = absurd (omega (arith, e))
@@ -53,21 +55,25 @@ length-pairs zero (x ∷ xs) e = absurd (omega (arith, e))
 length-pairs (suc k) _ e = absurd (omega (arith, e))
 
 -- the first bad pair of a list with one pair more
-by_test : (bad : Bool) (k n : ℕ) (more rest : Option ℕ) (x : ℕ × ℕ) → more ≡ bad_after rest x n → cond bad (Some k) more ≡ bad_after (cond bad (Some k) rest) x n
+by_test : (bad : Bool) (k n : ℕ) (more rest : Option ℕ) (x : ℕ × ℕ) → more ≡ bad_after rest x n →
+    cond bad (Some k) more ≡ bad_after (cond bad (Some k) rest) x n
 by_test true k n more rest x e = refl
 by_test false k n more rest x e = e
 
-bad-snoc : (k n : ℕ) (xs : List (ℕ × ℕ)) (x : ℕ × ℕ) → n ≡ k + length xs → position_from is_bad k (xs ++ x ∷ []) ≡ bad_after (position_from is_bad k xs) x n
+bad-snoc : (k n : ℕ) (xs : List (ℕ × ℕ)) (x : ℕ × ℕ) → n ≡ k + length xs →
+    position_from is_bad k (xs ++ x ∷ []) ≡ bad_after (position_from is_bad k xs) x n
 bad-snoc k n [] x e = let same : n ≡ k = omega (arith, e) in rw same refl
 bad-snoc k n (y ∷ xs) x e = by_test (is_bad y) k n (position_from is_bad (k + 1) (xs ++ x ∷ [])) (position_from is_bad (k + 1) xs) x (bad-snoc (k + 1) n xs x (omega (arith, e)))
 
 -- ---- one byte more
 
-more_fit : (bytes : List ℕ) (byte : ℕ) → All (λ b. b < 256) bytes → byte < 256 → All (λ b. b < 256) (bytes ++ byte ∷ [])
+more_fit : (bytes : List ℕ) (byte : ℕ) → All (λ b. b < 256) bytes → byte < 256 →
+    All (λ b. b < 256) (bytes ++ byte ∷ [])
 more_fit bytes byte fit lt = All-append (λ b. b < 256) bytes (byte ∷ []) fit (All-cons (λ b. b < 256) byte [] lt (All-nil (λ b. b < 256)))
 
 -- which doesn't make a pair whole
-pub holds_byte : (r : Pieces) (byte : ℕ) (bytes rest : List ℕ) → HoldsExactly r bytes → byte < 256 → rest ≡ r.rest ++ byte ∷ [] →
+pub holds_byte : (r : Pieces) (byte : ℕ) (bytes rest : List ℕ) → HoldsExactly r bytes → byte < 256 →
+    rest ≡ r.rest ++ byte ∷ [] →
     HoldsExactly (record { rest = rest; pairs = r.pairs; first_bad = r.first_bad; packets = r.packets }) (bytes ++ byte ∷ [])
 holds_byte r byte bytes rest h lt is = record {
   whole = h.whole;
@@ -79,7 +85,8 @@ holds_byte r byte bytes rest h lt is = record {
 }
 
 -- which makes a pair whole
-pub holds_pair : (r s : Pieces) (byte first second : ℕ) (bytes eight : List ℕ) → HoldsExactly r bytes → byte < 256 → length (bytes ++ byte ∷ []) ≤ 2 ^ 60 →
+pub holds_pair : (r s : Pieces) (byte first second : ℕ) (bytes eight : List ℕ) →
+    HoldsExactly r bytes → byte < 256 → length (bytes ++ byte ∷ []) ≤ 2 ^ 60 →
     eight ≡ r.rest ++ byte ∷ [] → length eight ≡ 8 → quads_of eight ≡ first ∷ second ∷ [] → s.rest ≡ [] → (r.pairs < 2 ^ 60 → s.pairs ≡ r.pairs + 1) →
     s.first_bad ≡ bad_after r.first_bad (first, second) r.pairs → ((l : List ℕ) → StandsFor r.packets l → StandsFor s.packets (l ++ first ∷ [])) → HoldsExactly s (bytes ++ byte ∷ [])
 holds_pair r s byte first second bytes eight h lt small is eight_long two none more bad list =
@@ -106,14 +113,17 @@ holds_pair r s byte first second bytes eight h lt small is eight_long two none m
 -- ---- the end
 
 -- whole pairs, none of them bad, are the capture of a list for which the reader of packets stands
-pub captured : GoodPairsAreACapture → (r : Pieces) (bytes : List ℕ) → HoldsExactly r bytes → length r.rest ≡ 0 → r.first_bad ≡ None → IsCaptureOf (firsts (quads_of bytes)) bytes × StandsFor r.packets (firsts (quads_of bytes))
+pub captured : GoodPairsAreACapture → (r : Pieces) (bytes : List ℕ) → HoldsExactly r bytes →
+    length r.rest ≡ 0 → r.first_bad ≡ None →
+    IsCaptureOf (firsts (quads_of bytes)) bytes × StandsFor r.packets (firsts (quads_of bytes))
 captured good r bytes h none no_bad =
     let whole : bytes ≡ h.whole = h.split ∙ ap (λ (x : List ℕ). h.whole ++ x) (nil_from_length r.rest none) ∙ append-nil h.whole in
     let even : length bytes % 8 ≡ 0 = omega (arith, ap length whole, h.even) in
     let none_bad : first_bad_pair (quads_of bytes) ≡ None = ap (λ (x : List ℕ). first_bad_pair (quads_of x)) whole ∙ sym h.bad ∙ no_bad in
     (is_capture bytes (firsts (quads_of bytes)) h.fit refl (good bytes h.fit even none_bad), subst (λ (x : List ℕ). StandsFor r.packets (firsts (quads_of x))) (sym whole) h.list)
 
-pub spelled : (bytes quads : List ℕ) (t : Tree) → IsCaptureOf quads bytes → IsBusTreeOf Ieee2000 t × (emits t ≡ quads) → Spells Ieee2000 bytes t
+pub spelled : (bytes quads : List ℕ) (t : Tree) → IsCaptureOf quads bytes →
+    IsBusTreeOf Ieee2000 t × (emits t ≡ quads) → Spells Ieee2000 bytes t
 spelled bytes quads t c (bus, e) = record { bus = bus; captured = subst (λ (l : List ℕ). IsCaptureOf l bytes) (sym e) c }
 
 -- a fault of the list is the capture's
@@ -135,12 +145,19 @@ stop_memory A B k (NoMemory e) Held some exact known = λ bytes h.
 
 -- ---- what a reader of captures answers for all bytes that it was given
 
-pub reads_all : (bytes : List ℕ) (r : Pieces) (reading : Result Tree CaptureStop) → HoldsExactly r bytes → IfOk reading (λ t. (b : List ℕ) → HoldsExactly r b → Spells Ieee2000 b t) → IfFault reading (λ f. (b : List ℕ) → HoldsExactly r b → CaptureRefused Ieee2000 b f) → Reads Ieee2000 bytes reading
+pub reads_all : (bytes : List ℕ) (r : Pieces) (reading : Result Tree CaptureStop) →
+    HoldsExactly r bytes →
+    IfOk reading (λ t. (b : List ℕ) → HoldsExactly r b → Spells Ieee2000 b t) →
+    IfFault reading (λ f. (b : List ℕ) → HoldsExactly r b → CaptureRefused Ieee2000 b f) →
+    Reads Ieee2000 bytes reading
 reads_all bytes r (Ok t) h tree fault = tree bytes h
 reads_all bytes r (Err (Fault f)) h tree fault = fault bytes h
 reads_all bytes r (Err (Memory e)) h tree fault = tt
 
-pub spares : (bytes : List ℕ) (r : Pieces) (reading : Result Tree CaptureStop) → HoldsExactly r bytes → IfMemory reading ((b : List ℕ) → HoldsExactly r b → (t : Tree) × Spells Ieee2000 b t) → SparesMemory bytes reading
+pub spares : (bytes : List ℕ) (r : Pieces) (reading : Result Tree CaptureStop) →
+    HoldsExactly r bytes →
+    IfMemory reading ((b : List ℕ) → HoldsExactly r b → (t : Tree) × Spells Ieee2000 b t) →
+    SparesMemory bytes reading
 spares bytes r (Ok t) h memory = tt
 spares bytes r (Err (Fault f)) h memory = tt
 spares bytes r (Err (Memory e)) h memory = memory bytes h

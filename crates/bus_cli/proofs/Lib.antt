@@ -5,3 +5,4 @@ pub mod Forms
 pub mod OneAnswer
 pub mod Answering
 pub mod Ends
+pub mod Lemmas

@@ -15,7 +15,7 @@ use Rattle.config_rom.specs.SomeText.{RomsHaveTexts}
 use Rattle.script_lines.specs.declared.kind.ScriptFault.{ScriptFault}
 use Rattle.script_text.specs.Maps.{IsMapsText}
 use Rattle.script_text.specs.SomeMaps.{MapsHaveTexts}
-use Rattle.script_text.proofs.OneMaps.{same_maps}
+use Rattle.script_text.proofs.Lemmas.{same_maps}
 use Rattle.script_text.specs.Summary.{summary}
 use Rattle.script_made.specs.Made.{made_script}
 use Rattle.script_made.specs.MadeValid.{MadeScriptsRunThrough}
@@ -69,7 +69,8 @@ one_of_two valid refused same apart line s r a b (inr x) (inl y) = absurd (apart
 one_of_two valid refused same apart line s r a b (inr x) (inr y) = (x.0 ∙ sym y.0, line a b x.1 y.1)
 
 module _ (one : HasOneReading) where
-  one_line : (standard : Standard) (bytes a b : List ℕ) → IsCaptureLine standard bytes a → IsCaptureLine standard bytes b → a ≡ b
+  one_line : (standard : Standard) (bytes a b : List ℕ) → IsCaptureLine standard bytes a →
+      IsCaptureLine standard bytes b → a ≡ b
   one_line standard bytes a b (f, x, e) (g, y, h) =
       e ∙ ap (λ (z : CaptureFault). fault_line z) (one.fault standard bytes f g x y) ∙ sym h
 
@@ -87,7 +88,8 @@ module _ (one : HasOneReading) where
       (λ a b x y. one.apart Ieee2000 bytes x.0 y.0 x.1 y.1)
       (one_line Ieee2000 bytes)
 
-  rom_apart : (bytes : List ℕ) (v : Parts) (f : RomFault) → TellsRom bytes v → RomRefused bytes f → ⊥
+  rom_apart : (bytes : List ℕ) (v : Parts) (f : RomFault) → TellsRom bytes v → RomRefused bytes f →
+      ⊥
   rom_apart bytes v f a (inl e) = one.rom_apart bytes v f a.rom e
   rom_apart bytes v f a (inr (w, (of, first))) =
       one.blocks_apart v f a.blocks (subst (λ (x : Parts). BlocksRefused x f) (one.one_rom bytes w v of a.rom) first)
@@ -115,7 +117,8 @@ module _ (one : HasOneReading) where
   same_text a b e = cc
 
   -- one telling at most is one text or one fault
-  one_told : (Tells : Told → Type 0) → ((x y : Told) → Tells x → Tells y → x ≡ y) → (valid : List ℕ → Type 0) →
+  one_told : (Tells : Told → Type 0) → ((x y : Told) → Tells x → Tells y → x ≡ y) →
+      (valid : List ℕ → Type 0) →
       ((a : List ℕ) → valid a → Tells (Ok a)) →
       AreOne (ValidOrRefused valid (λ text. (f : ScriptFault) × Tells (Err f) × (text ≡ script_line f)))
   one_told Tells same valid tells = one_of_two _ _
@@ -186,7 +189,8 @@ abbrev HasSome : (ℕ → List ℕ → Type 0) → Type 0
 HasSome Is = (s : ℕ) × (text : List ℕ) × Is s text
 
 module _ (have : HasSomeReading) where
-  some_read : (standard : Standard) (bytes : List ℕ) → All (λ b. b < 256) bytes → HasSome (AnswersRead standard bytes)
+  some_read : (standard : Standard) (bytes : List ℕ) → All (λ b. b < 256) bytes →
+      HasSome (AnswersRead standard bytes)
   some_read standard bytes fit = elim (have.some standard bytes fit) [
     | inl t ↦ (0, tree_text t.0 [], inl (refl, (t.0, t.1, refl)))
     | inr f ↦ (1, fault_line f.0, inr (refl, (f.0, f.1, refl)))
@@ -268,7 +272,8 @@ module _ (have : HasSomeReading) where
         ),
       )
 
-  some_form : (words : List (String Global)) (form : Form) → Asks words form → (bytes : List ℕ) → All (λ b. b < 256) bytes → HasSome (AnswersForm form bytes)
+  some_form : (words : List (String Global)) (form : Form) → Asks words form → (bytes : List ℕ) →
+      All (λ b. b < 256) bytes → HasSome (AnswersForm form bytes)
   some_form words (Capture Read) asks bytes fit = some_read Ieee2000 bytes fit
   some_form words (Capture Read95) asks bytes fit = some_read Ieee1995 bytes fit
   some_form words (Capture Maps) asks bytes fit = some_maps bytes fit

@@ -30,7 +30,8 @@ pub record OneAnswer : Type 0 where
   pub fault : NoListHasTwoFaults
 
 -- a capture is that of one list
-same_list : ReadsBack → (quads others bytes : List ℕ) → IsCaptureOf quads bytes → IsCaptureOf others bytes → quads ≡ others
+same_list : ReadsBack → (quads others bytes : List ℕ) → IsCaptureOf quads bytes →
+    IsCaptureOf others bytes → quads ≡ others
 same_list back quads others bytes h k =
     sym (back.same quads h.fit) ∙ ap (λ (b : List ℕ). firsts (quads_of b)) (sym h.bytes_are ∙ k.bytes_are) ∙ back.same others k.fit
 
@@ -39,11 +40,13 @@ is_whole : ReadsBack → (quads bytes : List ℕ) → IsCaptureOf quads bytes �
 is_whole back quads bytes h = omega (arith, ap length h.bytes_are, back.whole quads)
 
 -- and none of them is bad
-is_good : ReadsBack → (quads bytes : List ℕ) → IsCaptureOf quads bytes → first_bad_pair (quads_of bytes) ≡ None
+is_good : ReadsBack → (quads bytes : List ℕ) → IsCaptureOf quads bytes →
+    first_bad_pair (quads_of bytes) ≡ None
 is_good back quads bytes h = ap (λ (b : List ℕ). first_bad_pair (quads_of b)) h.bytes_are ∙ back.good quads h.fit
 
 -- so it has no fault of the bytes
-not_bad : ReadsBack → (quads bytes : List ℕ) (pair : ℕ) → IsCaptureOf quads bytes → first_bad_pair (quads_of bytes) ≡ Some pair → ⊥
+not_bad : ReadsBack → (quads bytes : List ℕ) (pair : ℕ) → IsCaptureOf quads bytes →
+    first_bad_pair (quads_of bytes) ≡ Some pair → ⊥
 not_bad back quads bytes pair h bad = let good = is_good back quads bytes h in cc
 
 pub one_tree : ReadsBack → OneAnswer → NoCaptureHasTwoTrees
@@ -79,7 +82,8 @@ read_list standard bytes quads captured (inl (t, bus, is)) =
 read_list standard bytes quads captured (inr (f, is)) = inr (TreeRefused f, (quads, captured, is))
 
 -- that of whole pairs, by the first bad one of them
-read_pairs : (standard : Standard) → ReadsBack → OneAnswer → (bytes : List ℕ) (bad : Option ℕ) → All (λ b. b < 256) bytes →
+read_pairs : (standard : Standard) → ReadsBack → OneAnswer → (bytes : List ℕ) (bad : Option ℕ) →
+    All (λ b. b < 256) bytes →
     length bytes % 8 ≡ 0 → first_bad_pair (quads_of bytes) ≡ bad →
     ((t : Tree) × Spells standard bytes t) ⊎ ((f : CaptureFault) × CaptureRefused standard bytes f)
 read_pairs standard back lists bytes None fit whole good =

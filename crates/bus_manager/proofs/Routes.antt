@@ -7,9 +7,7 @@ use Rattle.self_id.specs.Node.{ups}
 use Rattle.topology_stack.specs.Tree.{Label, Tree, branch, Slots, no_more, absent, unplugged, up, down, statuses, walk, walk_below, IsPart, AreParts, IsWhole, IsBusTree}
 use Rattle.topology_stack.specs.Far.{slot_ends, ends_from, ends_below, ends}
 use Rattle.speed_map.specs.Path.{Joined, IsNew, IsPath as IsNodePath}
-use Rattle.speed_map.proofs.Nodes.{length-walk, some_node, slice_get-left, slice_get-right, last, length-ends_from, length-ends_below}
-use Rattle.speed_map.proofs.Facts.{joined_within}
-use Rattle.speed_map.proofs.Unique.{one_path}
+use Rattle.speed_map.proofs.Lemmas.{length-walk, some_node, slice_get-left, slice_get-right, last, length-ends_from, length-ends_below, joined_within, one_path}
 use Rattle.bus_manager.specs.Hops.{SomeChild, GoesDown, Turns, IsPath, IsPathBelow, HopsAreOfNodePaths}
 
 abbrev Ends : Type 0

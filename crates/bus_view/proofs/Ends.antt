@@ -12,17 +12,21 @@ use Rattle.script_trace.specs.Trace.{IsTrace}
 use Rattle.bus_view.specs.OneAnswer.{NoInputHasTwoViews}
 
 -- the words' answer to these bytes is that to the bytes that were told
-told : (words : List (String Global)) (read bytes text : List ℕ) (status : ℕ) → read ≡ bytes → Answers words read status text → Answers words bytes status text
+told : (words : List (String Global)) (read bytes text : List ℕ) (status : ℕ) → read ≡ bytes →
+    Answers words read status text → Answers words bytes status text
 told words read bytes text status same answers = subst (λ (b : List ℕ). Answers words b status text) same answers
 
 -- the whole answer was written
-pub written : (words : List (String Global)) (left old new : Option (List ℕ)) (read text : List ℕ) (status : ℕ) → IfSome left (λ bytes. read ≡ bytes) → Answers words read status text → Appends old new text →
+pub written : (words : List (String Global)) (left old new : Option (List ℕ)) (read text : List ℕ) (status : ℕ) →
+    IfSome left (λ bytes. read ≡ bytes) → Answers words read status text → Appends old new text →
     IfSome left (λ bytes. (x : List ℕ) × Answers words bytes status x × Appends old new x)
 written words None old new read text status all answers whole = tt
 written words (Some bytes) old new read text status all answers whole = (text, told words read bytes text status all answers, whole)
 
 -- words that are no form answer 2 and nothing
-pub no_form_answers : (words : List (String Global)) → (IsForm words → ⊥) → (bytes : List ℕ) (status : ℕ) (text : List ℕ) → Answers words bytes status text → (2 ≡ status) × (text ≡ [])
+pub no_form_answers : (words : List (String Global)) → (IsForm words → ⊥) →
+    (bytes : List ℕ) (status : ℕ) (text : List ℕ) → Answers words bytes status text →
+    (2 ≡ status) × (text ≡ [])
 no_form_answers words none bytes status text (viewed form asks x) = absurd (none (form, asks))
 no_form_answers words none bytes status text (no_form no_one is empty) = (sym is, empty)
 
@@ -32,21 +36,26 @@ of_reading : (reading : Reading) (status : ℕ) → status ≡ status_of reading
 of_reading (spelt t) status e = omega (arith, e)
 of_reading (refused f) status e = omega (arith, e)
 
-pub few_status : (form : ViewForm) (bytes : List ℕ) (status : ℕ) (text : List ℕ) → IsView form bytes status text → status ≤ 1
+pub few_status : (form : ViewForm) (bytes : List ℕ) (status : ℕ) (text : List ℕ) →
+    IsView form bytes status text → status ≤ 1
 few_status (Capture view standard) bytes status text shows =
     of_reading shows.reading status shows.status_is
 few_status Trace bytes status text (traced e x) = omega (arith, e)
 few_status Trace bytes status text (at_fault fault e x t) = omega (arith, e)
 
 -- it isn't 6, where not too many bytes were taken
-pub not_six : (X : Type 0) (old new : Option (List ℕ)) (status : ℕ) → status ≤ 1 → IfTold old new (λ xs ys. X ↔ TookOver 1048576 xs ys) → (X → ⊥) → IfTold old new (λ xs ys. (status ≡ 6) ↔ TookOver 1048576 xs ys)
+pub not_six : (X : Type 0) (old new : Option (List ℕ)) (status : ℕ) → status ≤ 1 →
+    IfTold old new (λ xs ys. X ↔ TookOver 1048576 xs ys) → (X → ⊥) →
+    IfTold old new (λ xs ys. (status ≡ 6) ↔ TookOver 1048576 xs ys)
 not_six X None new status few h none = tt
 not_six X (Some xs) None status few h none = tt
 not_six X (Some xs) (Some ys) status few h none = (λ six. absurd (omega (arith, six, few)), λ took. absurd (none (h.1 took)))
 
 -- ---- a sink that surely takes the text
 
-pub taken_surely : NoInputHasTwoViews → (words : List (String Global)) (left : Option (List ℕ)) (read text : List ℕ) (status : ℕ) (takes : ℕ → Type 0) (same : Type 0) → IfSome left (λ bytes. read ≡ bytes) → Answers words read status text →
+pub taken_surely : NoInputHasTwoViews →
+    (words : List (String Global)) (left : Option (List ℕ)) (read text : List ℕ) (status : ℕ) (takes : ℕ → Type 0) (same : Type 0) →
+    IfSome left (λ bytes. read ≡ bytes) → Answers words read status text →
     (takes (length text) → same) → IfSome left (λ bytes. (s : ℕ) (x : List ℕ) → Answers words bytes s x → takes (length x) → same)
 taken_surely one words None read text status takes same all answers go = tt
 taken_surely one words (Some bytes) read text status takes same all answers go = λ s x is sure.
@@ -56,7 +65,9 @@ taken_surely one words (Some bytes) read text status takes same all answers go =
 -- ---- a trace
 
 -- what answers the words of a trace at status 0
-pub trace_written : (words : List (String Global)) (form : ViewForm) (left old new : Option (List ℕ)) (read text : List ℕ) (status : ℕ) → form ≡ Trace → status ≡ 0 → IfSome left (λ bytes. read ≡ bytes) → IsView form read status text → Appends old new text →
+pub trace_written : (words : List (String Global)) (form : ViewForm) (left old new : Option (List ℕ)) (read text : List ℕ) (status : ℕ) →
+    form ≡ Trace → status ≡ 0 → IfSome left (λ bytes. read ≡ bytes) → IsView form read status text →
+    Appends old new text →
     IfSome left (λ bytes. (lines : List ℕ) × IsTrace bytes (Ok lines) × Appends old new lines)
 trace_written words form None old new read text status is zero all view whole = tt
 trace_written words form (Some bytes) old new read text status is zero all view whole =

@@ -56,7 +56,8 @@ form_of (word ∷ next ∷ []) =
     cond (same next (codes "--1995")) (capture_of (view_of word) Ieee1995) None
 form_of (word ∷ next ∷ more ∷ words) = None
 
-is_found : (form : ViewForm) (words : List (List ℕ)) → AreWordsOf form words → form_of words ≡ Some form
+is_found : (form : ViewForm) (words : List (List ℕ)) → AreWordsOf form words →
+    form_of words ≡ Some form
 unfolding same form_of capture_of
 is_found (Capture Packets Ieee1995) words e = ap (λ (ws : List (List ℕ)). form_of ws) e
 is_found (Capture Packets Ieee2000) words e = ap (λ (ws : List (List ℕ)). form_of ws) e
@@ -75,13 +76,16 @@ one_form words a b x y =
 
 -- ---- words with a form are those of the form
 
-of_view : (view : CaptureView) (standard : Standard) (words : List (List ℕ)) → words ≡ view_word view ∷ standard_words standard → AreWordsOf (Capture view standard) words
+of_view : (view : CaptureView) (standard : Standard) (words : List (List ℕ)) →
+    words ≡ view_word view ∷ standard_words standard → AreWordsOf (Capture view standard) words
 of_view Packets standard words e = e
 of_view Tree standard words e = e
 of_view Dot standard words e = e
 
 -- the first view whose word it is, or one of the rest
-tried : (test : Bool) (word : List ℕ) (first view : CaptureView) (rest : Option CaptureView) → (test ≡ true → word ≡ view_word first) → (rest ≡ Some view → word ≡ view_word view) → cond test (Some first) rest ≡ Some view → word ≡ view_word view
+tried : (test : Bool) (word : List ℕ) (first view : CaptureView) (rest : Option CaptureView) →
+    (test ≡ true → word ≡ view_word first) → (rest ≡ Some view → word ≡ view_word view) →
+    cond test (Some first) rest ≡ Some view → word ≡ view_word view
 tried true word first view rest is go e =
     let f : first ≡ view = cc in subst (λ (v : CaptureView). word ≡ view_word v) f (is refl)
 tried false word first view rest is go e = go e
@@ -92,7 +96,9 @@ view_is word view e =
     (tried (same word (codes "tree")) word Tree view _ (same-true word (codes "tree"))
     (tried (same word (codes "dot")) word Dot view None (same-true word (codes "dot")) (λ none. absurd cc))) e
 
-of_capture : (found : Option CaptureView) (standard : Standard) (word : List ℕ) (form : ViewForm) → ((view : CaptureView) → found ≡ Some view → word ≡ view_word view) → capture_of found standard ≡ Some form → AreWordsOf form (word ∷ standard_words standard)
+of_capture : (found : Option CaptureView) (standard : Standard) (word : List ℕ) (form : ViewForm) →
+    ((view : CaptureView) → found ≡ Some view → word ≡ view_word view) →
+    capture_of found standard ≡ Some form → AreWordsOf form (word ∷ standard_words standard)
 unfolding capture_of
 of_capture None standard word form is e = absurd cc
 of_capture (Some view) standard word form is e =
@@ -100,7 +106,9 @@ of_capture (Some view) standard word form is e =
     subst (λ (g : ViewForm). AreWordsOf g (word ∷ standard_words standard)) f
     (of_view view standard _ (ap (λ (w : List ℕ). w ∷ standard_words standard) (is view refl)))
 
-one_word : (test : Bool) (word : List ℕ) (form : ViewForm) → (test ≡ true → word ≡ codes "trace") → cond test (Some Trace) (capture_of (view_of word) Ieee2000) ≡ Some form → AreWordsOf form (word ∷ [])
+one_word : (test : Bool) (word : List ℕ) (form : ViewForm) → (test ≡ true → word ≡ codes "trace") →
+    cond test (Some Trace) (capture_of (view_of word) Ieee2000) ≡ Some form →
+    AreWordsOf form (word ∷ [])
 one_word true word form is e =
     let f : Trace ≡ form = cc in
     subst (λ (g : ViewForm). AreWordsOf g (word ∷ [])) f (ap (λ (w : List ℕ). w ∷ []) (is refl))
@@ -111,7 +119,8 @@ two_words true word next form is e =
     rw (is refl) (of_capture (view_of word) Ieee1995 word form (view_is word) e)
 two_words false word next form is e = absurd cc
 
-are_words : (words : List (List ℕ)) (form : ViewForm) → form_of words ≡ Some form → AreWordsOf form words
+are_words : (words : List (List ℕ)) (form : ViewForm) → form_of words ≡ Some form →
+    AreWordsOf form words
 unfolding form_of
 are_words [] form e = absurd cc
 are_words (word ∷ []) form e = one_word _ word form (same-true word (codes "trace")) e

@@ -3,12 +3,11 @@ use Rattle.std.proofs.Common.{◌≡◌, ◌∙◌, ℕ, Bool, true, false, List
 use Rattle.quad_lanes.specs.Pairs.{firsts, quads_of}
 use Rattle.phy_packet.specs.Packet.{Shows}
 use Rattle.phy_packet.specs.declared.packet.PhyPacket.{PhyPacket}
-use Rattle.phy_packet.specs.codings.Decoding.{packet_of}
-use Rattle.phy_packet.proofs.Laws.{packet_of-quad_of}
+use Rattle.phy_packet.proofs.Lemmas.{packet_of, packet_of-quad_of}
 use Rattle.self_id.specs.declared.standard.Standard.{Standard}
 use Rattle.self_id.specs.Node.{Node}
 use Rattle.topology_stack.specs.Tree.{Tree}
-use Rattle.bus_manager.proofs.OneHops.{one_hops}
+use Rattle.bus_manager.proofs.Lemmas.{one_hops}
 use Rattle.bus_cli.specs.declared.fault.CaptureFault.{CaptureFault}
 use Rattle.bus_cli.specs.OneReading.{NoCaptureHasTwoTrees, NoCaptureHasATreeAndAFault, NoCaptureHasTwoFaults}
 use Rattle.bus_cli.specs.Line.{script_line}
@@ -38,7 +37,8 @@ pub record HasOneReading : Type 0 where
   pub traces : ScriptsHaveOneTrace
   pub texts : TracedScriptsAreTold
 
-same_reading : HasOneReading → (standard : Standard) (bytes : List ℕ) (a b : Reading) → IsReading standard bytes a → IsReading standard bytes b → a ≡ b
+same_reading : HasOneReading → (standard : Standard) (bytes : List ℕ) (a b : Reading) →
+    IsReading standard bytes a → IsReading standard bytes b → a ≡ b
 same_reading one standard bytes (spelt t) (spelt u) x y = ap (λ (v : Tree). spelt v) (one.trees standard bytes t u x y)
 same_reading one standard bytes (spelt t) (refused g) x y = absurd (one.apart standard bytes t g x y)
 same_reading one standard bytes (refused f) (spelt u) x y = absurd (one.apart standard bytes u f y x)
@@ -51,7 +51,8 @@ one_packet : (quad : ℕ) (p q : PhyPacket) → Shows quad p → Shows quad q �
 one_packet quad p q x y =
     sym (packet_of-quad_of p x.valid) ∙ ap packet_of (x.quad_is ∙ sym y.quad_is) ∙ packet_of-quad_of q y.valid
 
-same_packets : (quads : List ℕ) (ps qs : List PhyPacket) → AreShown quads ps → AreShown quads qs → ps ≡ qs
+same_packets : (quads : List ℕ) (ps qs : List PhyPacket) → AreShown quads ps → AreShown quads qs →
+    ps ≡ qs
 same_packets [] [] [] x y = refl
 same_packets [] [] (q ∷ qs) x y = absurd y
 same_packets [] (p ∷ ps) qs x y = absurd x
@@ -61,7 +62,8 @@ same_packets (a ∷ quads) (p ∷ ps) (q ∷ qs) x y =
     let head : p ≡ q = one_packet a p q x.0 y.0 in
     rw (head, same_packets quads ps qs x.1 y.1) refl
 
-same_shown : (bytes : List ℕ) (at : ℕ) (below : List PhyPacket → List ℕ) (a b : List ℕ) → ShowsPackets bytes at below a → ShowsPackets bytes at below b → a ≡ b
+same_shown : (bytes : List ℕ) (at : ℕ) (below : List PhyPacket → List ℕ) (a b : List ℕ) →
+    ShowsPackets bytes at below a → ShowsPackets bytes at below b → a ≡ b
 same_shown bytes at below a b x y =
     x.text_is ∙ ap (λ (ps : List PhyPacket). pairs_text bytes ps at (below ps)) (same_packets (firsts (quads_of bytes)) x.packets y.packets x.shown y.shown) ∙ sym y.text_is
 
@@ -73,7 +75,8 @@ same_drawing t a b x y =
     x.text_is ∙ ap (λ (h : ℕ). drawing t h x.root.attrs.gap) (one_hops t x.hops y.hops x.are_hops y.are_hops)
     ∙ ap (λ (n : Node). drawing t y.hops n.attrs.gap) (one_root t x.root y.root x.is_root y.is_root) ∙ sym y.text_is
 
-same_text : (view : CaptureView) (standard : Standard) (bytes : List ℕ) (r : Reading) (a b : List ℕ) → HasText view standard bytes r a → HasText view standard bytes r b → a ≡ b
+same_text : (view : CaptureView) (standard : Standard) (bytes : List ℕ) (r : Reading) (a b : List ℕ) →
+    HasText view standard bytes r a → HasText view standard bytes r b → a ≡ b
 same_text Packets standard bytes (spelt t) a b x y = same_shown bytes _ _ a b x y
 same_text Packets standard bytes (refused f) a b x y = same_shown bytes _ _ a b x y
 same_text Drawn standard bytes (spelt t) a b x y = same_drawing t a b x y
@@ -81,7 +84,10 @@ same_text Drawn standard bytes (refused f) a b x y = x ∙ sym y
 same_text Dot standard bytes (spelt t) a b x y = x ∙ sym y
 same_text Dot standard bytes (refused f) a b x y = x ∙ sym y
 
-same_capture : HasOneReading → (view : CaptureView) (standard : Standard) (bytes : List ℕ) (s r : ℕ) (a b : List ℕ) → IsCaptureView view standard bytes s a → IsCaptureView view standard bytes r b → (s ≡ r) × (a ≡ b)
+same_capture : HasOneReading →
+    (view : CaptureView) (standard : Standard) (bytes : List ℕ) (s r : ℕ) (a b : List ℕ) →
+    IsCaptureView view standard bytes s a → IsCaptureView view standard bytes r b →
+    (s ≡ r) × (a ≡ b)
 same_capture one view standard bytes s r a b x y =
     let same : x.reading ≡ y.reading = same_reading one standard bytes x.reading y.reading x.reads y.reads in
     (x.status_is ∙ ap status_of same ∙ sym y.status_is, same_text view standard bytes y.reading a b (subst (λ (v : Reading). HasText view standard bytes v a) same x.text_is) y.text_is)
@@ -100,13 +106,15 @@ same_fault : (g h : ScriptFault) → ◌≡◌ {A = Told} (Err g) (Err h) → g 
 same_fault g h e = cc
 
 -- a script with a trace has no fault
-apart : HasOneReading → (bytes lines : List ℕ) (fault : ScriptFault) → IsTrace bytes (Ok lines) → IsTold bytes (Err fault) → ⊥
+apart : HasOneReading → (bytes lines : List ℕ) (fault : ScriptFault) → IsTrace bytes (Ok lines) →
+    IsTold bytes (Err fault) → ⊥
 unfolding is-ok
 apart one bytes lines fault x y =
     let text = one.texts bytes lines x in
     let e = ap is-ok (one.told bytes (Ok text.0) (Err fault) text.1 y) in cc
 
-same_trace : HasOneReading → (bytes : List ℕ) (s r : ℕ) (a b : List ℕ) → IsTraceView bytes s a → IsTraceView bytes r b → (s ≡ r) × (a ≡ b)
+same_trace : HasOneReading → (bytes : List ℕ) (s r : ℕ) (a b : List ℕ) → IsTraceView bytes s a →
+    IsTraceView bytes r b → (s ≡ r) × (a ≡ b)
 unfolding trace-text
 same_trace one bytes s r a b (traced e x) (traced f y) =
     (e ∙ sym f, ap trace-text (one.traces bytes (Ok a) (Ok b) x y))
@@ -115,7 +123,8 @@ same_trace one bytes s r a b (at_fault g e x t) (traced f y) = absurd (apart one
 same_trace one bytes s r a b (at_fault g e x t) (at_fault h f y u) =
     (e ∙ sym f, t ∙ ap script_line (same_fault g h (one.told bytes (Err g) (Err h) x y)) ∙ sym u)
 
-same_view : HasOneReading → (form : ViewForm) (bytes : List ℕ) (s r : ℕ) (a b : List ℕ) → IsView form bytes s a → IsView form bytes r b → (s ≡ r) × (a ≡ b)
+same_view : HasOneReading → (form : ViewForm) (bytes : List ℕ) (s r : ℕ) (a b : List ℕ) →
+    IsView form bytes s a → IsView form bytes r b → (s ≡ r) × (a ≡ b)
 same_view one Trace bytes s r a b x y = same_trace one bytes s r a b x y
 same_view one (Capture view standard) bytes s r a b x y =
     same_capture one view standard bytes s r a b x y

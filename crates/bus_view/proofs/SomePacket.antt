@@ -7,17 +7,18 @@ use Rattle.quad_lanes.specs.Pairs.{big_endian, quads_of, firsts}
 use Rattle.phy_packet.specs.Packet.{Shows}
 use Rattle.phy_packet.specs.declared.packet.PhyPacket.{PhyPacket}
 use Rattle.phy_packet.specs.declared.packet.PhyPacket.TheVariants.{Extended, Other}
-use Rattle.phy_packet.specs.codings.Decoding.{config_of, link_on_of, self_zero_of, self_more_of, packet_of}
-use Rattle.phy_packet.proofs.Laws.{bit-eqb, bit_fits, shows-self_zero, shows-self_more}
+use Rattle.phy_packet.proofs.Lemmas.{config_of, link_on_of, self_zero_of, self_more_of, packet_of, bit-eqb, bit_fits, shows-self_zero, shows-self_more}
 use Rattle.view_text.specs.Pairs.{AreShown}
 
-shows-config : (q : ℕ) → q / 2 ^ 30 ≡ 0 → IsTrue ((q / 2 ^ 23 % 2 == 1) || (q / 2 ^ 22 % 2 == 1)) → Shows q (config_of q)
+shows-config : (q : ℕ) → q / 2 ^ 30 ≡ 0 → IsTrue ((q / 2 ^ 23 % 2 == 1) || (q / 2 ^ 22 % 2 == 1)) →
+    Shows q (config_of q)
 shows-config q top some = record {
   valid = record { fit = (omega arith, (omega arith, (bit_fits _, (bit_fits _, (omega arith, (omega arith, tt)))))); apart = some };
   quad_is = rw (bit-eqb (q / 2 ^ 23 % 2) (omega arith), bit-eqb (q / 2 ^ 22 % 2) (omega arith)) (omega arith);
 }
 
-shows-extended : (q : ℕ) → q / 2 ^ 30 ≡ 0 → q / 2 ^ 23 % 2 ≡ 0 → q / 2 ^ 22 % 2 ≡ 0 → q < 2 ^ 32 → Shows q (Extended q)
+shows-extended : (q : ℕ) → q / 2 ^ 30 ≡ 0 → q / 2 ^ 23 % 2 ≡ 0 → q / 2 ^ 22 % 2 ≡ 0 → q < 2 ^ 32 →
+    Shows q (Extended q)
 shows-extended q top high low fits = record {
   valid = record { fit = (omega arith, tt); apart = (top, omega arith) };
   quad_is = omega arith;
@@ -34,7 +35,8 @@ shows-other q top fits = record { valid = record { fit = (omega arith, tt); apar
 
 -- ---- by the tests
 
-some-zero : (q : ℕ) → q / 2 ^ 30 ≡ 0 → q < 2 ^ 32 → (a b : Bool) → (q / 2 ^ 23 % 2 == 1) ≡ a → (q / 2 ^ 22 % 2 == 1) ≡ b →
+some-zero : (q : ℕ) → q / 2 ^ 30 ≡ 0 → q < 2 ^ 32 → (a b : Bool) → (q / 2 ^ 23 % 2 == 1) ≡ a →
+    (q / 2 ^ 22 % 2 == 1) ≡ b →
     Shows q (if a || b then config_of q else Extended q)
 some-zero q top fits true b h l = shows-config q top (rw h refl)
 some-zero q top fits false true h l = shows-config q top (rw (h, l) refl)
@@ -43,7 +45,8 @@ some-zero q top fits false false h l =
     let low : q / 2 ^ 22 % 2 ≡ 1 → ⊥ = eqb-false _ _ l in
     shows-extended q top (omega arith) (omega arith) fits
 
-some-self : (q : ℕ) → q / 2 ^ 30 ≡ 2 → (a : Bool) → (q / 2 ^ 23 % 2 == 0) ≡ a → Shows q (if a then self_zero_of q else self_more_of q)
+some-self : (q : ℕ) → q / 2 ^ 30 ≡ 2 → (a : Bool) → (q / 2 ^ 23 % 2 == 0) ≡ a →
+    Shows q (if a then self_zero_of q else self_more_of q)
 some-self q top true h = shows-self_zero q top (eqb-true _ _ h)
 some-self q top false h = let ne : q / 2 ^ 23 % 2 ≡ 0 → ⊥ = eqb-false _ _ h in shows-self_more q top (omega arith)
 
@@ -66,7 +69,8 @@ some-packet q fits = some-top q fits (q / 2 ^ 30 == 0) (q / 2 ^ 30 == 1) (q / 2 
 
 -- ---- the packets of bytes
 
-some-packets : (quads : List ℕ) → All (λ q. q < 2 ^ 32) quads → (packets : List PhyPacket) × AreShown quads packets
+some-packets : (quads : List ℕ) → All (λ q. q < 2 ^ 32) quads →
+    (packets : List PhyPacket) × AreShown quads packets
 some-packets [] h = ([], tt)
 some-packets (q ∷ quads) h =
     let rest = some-packets quads (All-tail (λ x. x < 2 ^ 32) q quads h) in
@@ -97,5 +101,6 @@ firsts-fit (a ∷ b ∷ quads) h =
 firsts-fit [] h = All-nil (λ x. x < 2 ^ 32)
 firsts-fit (a ∷ []) h = All-nil (λ x. x < 2 ^ 32)
 
-pub packets-of-bytes : (bytes : List ℕ) → All (λ b. b < 256) bytes → (packets : List PhyPacket) × AreShown (firsts (quads_of bytes)) packets
+pub packets-of-bytes : (bytes : List ℕ) → All (λ b. b < 256) bytes →
+    (packets : List PhyPacket) × AreShown (firsts (quads_of bytes)) packets
 packets-of-bytes bytes h = some-packets (firsts (quads_of bytes)) (firsts-fit (quads_of bytes) (quads-fit bytes h))

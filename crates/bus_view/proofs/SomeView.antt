@@ -7,7 +7,7 @@ use Rattle.self_id.specs.declared.standard.Standard.{Standard}
 use Rattle.self_id.specs.Node.{Node}
 use Rattle.topology_stack.specs.Tree.{Tree, walk}
 use Rattle.bus_manager.specs.Hops.{IsHops}
-use Rattle.bus_manager.proofs.Longest.{is_hops, small}
+use Rattle.bus_manager.proofs.Lemmas.{is_hops, small}
 use Rattle.bus_cli.specs.OneReading.{EachCaptureHasATreeOrAFault}
 use Rattle.bus_cli.specs.Line.{fault_line, script_line}
 use Rattle.script_told.specs.Script.{Told}
@@ -34,7 +34,8 @@ HasSome Is = (s : ℕ) × (text : List ℕ) × Is s text
 
 -- ---- captures
 
-some-reading : EachCaptureHasATreeOrAFault → (standard : Standard) (bytes : List ℕ) → All (λ b. b < 256) bytes → (r : Reading) × IsReading standard bytes r
+some-reading : EachCaptureHasATreeOrAFault → (standard : Standard) (bytes : List ℕ) →
+    All (λ b. b < 256) bytes → (r : Reading) × IsReading standard bytes r
 some-reading some standard bytes fit = elim (some standard bytes fit) [
   | inl t ↦ (spelt t.0, t.1)
   | inr f ↦ (refused f.0, f.1)
@@ -56,7 +57,8 @@ some-drawing-with t hops are =
 some-drawing : (t : Tree) → (text : List ℕ) × IsDrawing t text
 some-drawing t = some-drawing-with t _ (is_hops t)
 
-some-text : (view : CaptureView) (standard : Standard) (bytes : List ℕ) (r : Reading) → All (λ b. b < 256) bytes → (text : List ℕ) × HasText view standard bytes r text
+some-text : (view : CaptureView) (standard : Standard) (bytes : List ℕ) (r : Reading) →
+    All (λ b. b < 256) bytes → (text : List ℕ) × HasText view standard bytes r text
 some-text Packets standard bytes (spelt t) fit =
     let p = packets-of-bytes bytes fit in
     (pairs_text bytes p.0 0 [], record { packets = p.0; shown = p.1; text_is = refl })
@@ -75,7 +77,8 @@ pub record HasSomeReading : Type 0 where
   pub traces : RunsHaveTraces
 
 module _ (have : HasSomeReading) where
-  some-capture : (view : CaptureView) (standard : Standard) (bytes : List ℕ) → All (λ b. b < 256) bytes → HasSome (IsCaptureView view standard bytes)
+  some-capture : (view : CaptureView) (standard : Standard) (bytes : List ℕ) →
+      All (λ b. b < 256) bytes → HasSome (IsCaptureView view standard bytes)
   some-capture view standard bytes fit =
       let r = some-reading have.some standard bytes fit in
       let t = some-text view standard bytes r.0 fit in
@@ -91,7 +94,8 @@ module _ (have : HasSomeReading) where
       go run is (Ok text) traces = (0, text, traced refl (run, is, traces))
       go run is (Err f) e = (1, script_line f, at_fault f refl (run, is, sym (ap (unless_stopped (printed run.entries)) e)) refl)
 
-  some-view : (form : ViewForm) (bytes : List ℕ) → All (λ b. b < 256) bytes → HasSome (IsView form bytes)
+  some-view : (form : ViewForm) (bytes : List ℕ) → All (λ b. b < 256) bytes →
+      HasSome (IsView form bytes)
   some-view (Capture view standard) bytes fit = some-capture view standard bytes fit
   some-view Trace bytes fit = some-trace bytes
 

@@ -18,7 +18,9 @@ use Rattle.topology_stack.specs.Reader.{Kept, IsLasting, StandsFor}
 
 -- ---- faults that last
 
-more_goes_on : (l more : List ℕ) (ts : List Tree) (front rest : List ℕ) (at most : ℕ) → GoesOn Ieee2000 l ts front rest at most → GoesOn Ieee2000 (l ++ more) ts front (rest ++ more) at most
+more_goes_on : (l more : List ℕ) (ts : List Tree) (front rest : List ℕ) (at most : ℕ) →
+    GoesOn Ieee2000 l ts front rest at most →
+    GoesOn Ieee2000 (l ++ more) ts front (rest ++ more) at most
 more_goes_on l more ts front rest at most g = record {
   forest = g.forest;
   parts = ap (λ (x : List ℕ). x ++ more) g.parts ∙ append_assoc front rest more;
@@ -27,7 +29,9 @@ more_goes_on l more ts front rest at most g = record {
   few = g.few;
 }
 
-more_leads : (id at : ℕ) (l more front rest : List ℕ) (q place : ℕ) → LeadsTo Ieee2000 id at l front (q ∷ rest) place → LeadsTo Ieee2000 id at (l ++ more) front (q ∷ (rest ++ more)) place
+more_leads : (id at : ℕ) (l more front rest : List ℕ) (q place : ℕ) →
+    LeadsTo Ieee2000 id at l front (q ∷ rest) place →
+    LeadsTo Ieee2000 id at (l ++ more) front (q ∷ (rest ++ more)) place
 more_leads id at l more front rest q place h = record {
   parts = ap (λ (x : List ℕ). x ++ more) h.parts ∙ append_assoc front (q ∷ rest) more;
   front_leads = h.front_leads;
@@ -35,14 +39,16 @@ more_leads id at l more front rest q place h = record {
   place_is = h.place_is;
 }
 
-group_lasts : (at id : ℕ) (l more : List ℕ) (f : GroupFault) → GroupRefused Ieee2000 at id l f → IsLasting (Group f) → GroupRefused Ieee2000 at id (l ++ more) f
+group_lasts : (at id : ℕ) (l more : List ℕ) (f : GroupFault) → GroupRefused Ieee2000 at id l f →
+    IsLasting (Group f) → GroupRefused Ieee2000 at id (l ++ more) f
 group_lasts at id l more (Cut place) h i = absurd i
 group_lasts at id l more (NotSelfId place) (front, rest, q, h, other) i = (front, rest ++ more, q, more_leads id at l more front rest q place h, other)
 group_lasts at id l more (WrongId place found wanted) (front, rest, q, p, h, shows, self, is, same, ne) i = (front, rest ++ more, q, p, more_leads id at l more front rest q place h, shows, self, is, same, ne)
 group_lasts at id l more (BadOrder place) (front, rest, q, p, h, shows, self, own, order) i = (front, rest ++ more, q, p, more_leads id at l more front rest q place h, shows, self, own, order)
 group_lasts at id l more (TwoParents place) (n, rest, form, is_of, parts, two, is) i = (n, rest ++ more, form, is_of, ap (λ (x : List ℕ). x ++ more) parts ∙ append_assoc (group n id) rest more, two, is)
 
-next_lasts : (l more : List ℕ) (ts : List Tree) (n : Node) (at found wanted : ℕ) → GroupNext Ieee2000 l ts n at found wanted → GroupNext Ieee2000 (l ++ more) ts n at found wanted
+next_lasts : (l more : List ℕ) (ts : List Tree) (n : Node) (at found wanted : ℕ) →
+    GroupNext Ieee2000 l ts n at found wanted → GroupNext Ieee2000 (l ++ more) ts n at found wanted
 next_lasts l more ts n at found wanted k = record {
   front = k.front;
   rest = k.rest ++ more;
@@ -54,7 +60,8 @@ next_lasts l more ts n at found wanted k = record {
 }
 
 -- a list keeps a lasting fault however it goes on
-pub lasts : (l more : List ℕ) (f : TreeFault) → Refused Ieee2000 l f → IsLasting f → Refused Ieee2000 (l ++ more) f
+pub lasts : (l more : List ℕ) (f : TreeFault) → Refused Ieee2000 l f → IsLasting f →
+    Refused Ieee2000 (l ++ more) f
 lasts l more Empty h i = absurd i
 lasts l more (NoRoot at) h i = absurd i
 lasts l more (Group f) (ts, front, rest, at, g, fault) i = (ts, front, rest ++ more, at, more_goes_on l more ts front rest at 62 g, group_lasts at (length (walks ts)) rest more f fault i)
@@ -66,16 +73,21 @@ lasts l more (TooMany at) (ts, front, rest, g, count) i = (ts, front, rest ++ mo
 -- ---- whole lists
 
 -- a list that a tree emits goes on behind the root once it goes on
-pub goes_on_behind : (t : Tree) (list : List ℕ) (q : ℕ) → IsBusTreeOf Ieee2000 t → emits t ≡ list → Refused Ieee2000 (list ++ q ∷ []) (AfterRoot (length list))
+pub goes_on_behind : (t : Tree) (list : List ℕ) (q : ℕ) → IsBusTreeOf Ieee2000 t → emits t ≡ list →
+    Refused Ieee2000 (list ++ q ∷ []) (AfterRoot (length list))
 goes_on_behind t list q bus e = (t, q ∷ [], bus, ap (λ (l : List ℕ). l ++ q ∷ []) (sym e), omega arith, ap length (sym e))
 
 -- and one that goes on so, with one quadlet, is the tree's up to there
-pub whole_before : (list : List ℕ) (q : ℕ) → Refused Ieee2000 (list ++ q ∷ []) (AfterRoot (length list)) → (t : Tree) × IsBusTreeOf Ieee2000 t × (emits t ≡ list)
+pub whole_before : (list : List ℕ) (q : ℕ) →
+    Refused Ieee2000 (list ++ q ∷ []) (AfterRoot (length list)) →
+    (t : Tree) × IsBusTreeOf Ieee2000 t × (emits t ≡ list)
 whole_before list q (t, rest, bus, parts, some, place) =
     (t, bus, sym (take_at (emits t) rest (length list) (sym place)) ∙ ap (take (length list)) (sym parts) ∙ take_at list (q ∷ []) (length list) refl)
 
 -- a reader that was given more quadlets than it keeps has a fault that lasts
-pub overfull : (kept : Kept) (list : List ℕ) (o : Option TreeFault) → kept.fault ≡ o → StandsFor kept list → length kept.quads ≤ 189 → 189 < length list → (f : TreeFault) × (h : Refused Ieee2000 list f) × IsLasting f
+pub overfull : (kept : Kept) (list : List ℕ) (o : Option TreeFault) → kept.fault ≡ o →
+    StandsFor kept list → length kept.quads ≤ 189 → 189 < length list →
+    (f : TreeFault) × (h : Refused Ieee2000 list f) × IsLasting f
 overfull kept list None e stands few many =
     let is : kept.quads ≡ list = subst (λ (o : Option TreeFault). MatchOption o (kept.quads ≡ list) (λ f. Refused Ieee2000 list f × IsLasting f)) e stands in
     absurd (omega (arith, few, many, ap length is))
@@ -88,7 +100,8 @@ pub all_taken : (list kept : List ℕ) → kept ≡ take 190 list → length kep
 all_taken list kept e few = e ∙ take_all 190 list (omega (arith, few, ap length e, length-take 190 list))
 
 -- a fault of the first 190 that lasts is the whole list's
-pub lasts_on : (list kept : List ℕ) (f : TreeFault) → kept ≡ take 190 list → Refused Ieee2000 kept f → IsLasting f → Refused Ieee2000 list f
+pub lasts_on : (list kept : List ℕ) (f : TreeFault) → kept ≡ take 190 list →
+    Refused Ieee2000 kept f → IsLasting f → Refused Ieee2000 list f
 lasts_on list kept f e refused lasting =
     let on : Refused Ieee2000 (kept ++ drop 190 list) f = lasts kept (drop 190 list) f refused lasting in
     subst (λ (l : List ℕ). Refused Ieee2000 l f) (ap (λ (l : List ℕ). l ++ drop 190 list) e ∙ take-append-drop 190 list) on

@@ -29,7 +29,9 @@ far_one t id k a b x y =
     one_end a b (slice_get x.of_node k) x.slot_end (subst (λ (l : List (Option ℕ)). slice_get l k ≡ Some b) same y.slot_end)
 
 -- a slot of the node
-pub slot_of : (t : Tree) (id k : ℕ) (n : Node) (far : Option ℕ) (r : SlotRecord) → slice_get (walk t) id ≡ Some n → k < length n.ports → Far t id k far → r ≡ slot_record (get_or n.ports k Absent) far → IsSlotOf t id k r
+pub slot_of : (t : Tree) (id k : ℕ) (n : Node) (far : Option ℕ) (r : SlotRecord) →
+    slice_get (walk t) id ≡ Some n → k < length n.ports → Far t id k far →
+    r ≡ slot_record (get_or n.ports k Absent) far → IsSlotOf t id k r
 slot_of t id k n far r at inside end is = record {
   shown = λ m status other at_m shows far_m.
       let same : m ≡ n = one_node m n _ at_m at in
@@ -42,7 +44,8 @@ slot_of t id k n far r at inside end is = record {
 }
 
 -- a slot behind the last
-pub slot_past : (t : Tree) (id k : ℕ) (n : Node) (r : SlotRecord) → slice_get (walk t) id ≡ Some n → length n.ports ≤ k → r ≡ no_slot → IsSlotOf t id k r
+pub slot_past : (t : Tree) (id k : ℕ) (n : Node) (r : SlotRecord) → slice_get (walk t) id ≡ Some n →
+    length n.ports ≤ k → r ≡ no_slot → IsSlotOf t id k r
 slot_past t id k n r at past is = record {
   shown = λ m status other at_m shows far_m.
       let same : m ≡ n = one_node m n _ at_m at in

@@ -4,7 +4,8 @@ use Rattle.std.proofs.Common.{◌≡◌, ℕ, suc, min, Bool, true, false, leb, 
 use Rattle.std.proofs.lemmas.List.{length-take-le, take_all, take_at, set_split, take-append-le}
 
 -- the room for one more
-pub more : (qs list : List ℕ) (n q : ℕ) → length qs ≡ 190 → n < 190 → take n qs ≡ take 190 list → take (n + 1) (set qs n q) ≡ take 190 (list ++ q ∷ [])
+pub more : (qs list : List ℕ) (n q : ℕ) → length qs ≡ 190 → n < 190 → take n qs ≡ take 190 list →
+    take (n + 1) (set qs n q) ≡ take 190 (list ++ q ∷ [])
 more qs list n q whole lt kept =
     let few : n ≤ length qs = omega (arith, whole) in
     let count : length (take n qs) ≡ n = length-take-le n qs few in
@@ -16,7 +17,8 @@ more qs list n q whole lt kept =
     ap (take (n + 1)) split ∙ ends ∙ ap (λ (l : List ℕ). l ++ q ∷ []) (kept ∙ all) ∙ sym (take_all 190 (list ++ q ∷ []) long)
 
 -- no room is left
-pub full : (qs list : List ℕ) (n q : ℕ) → length qs ≡ 190 → 190 ≤ n → take n qs ≡ take 190 list → take n qs ≡ take 190 (list ++ q ∷ [])
+pub full : (qs list : List ℕ) (n q : ℕ) → length qs ≡ 190 → 190 ≤ n → take n qs ≡ take 190 list →
+    take n qs ≡ take 190 (list ++ q ∷ [])
 full qs list n q whole le kept =
     let all : take n qs ≡ qs = take_all n qs (omega (arith, whole)) in
     let long : 190 ≤ length list = omega (arith, whole, ap length (sym all ∙ kept), length-take 190 list) in

@@ -4,7 +4,7 @@ use Rattle.std.specs.List.{All, AllByRecursion}
 use Rattle.std.proofs.lemmas.List.Elements.{recursion_from_All}
 use Rattle.std.proofs.lemmas.Bool.{cases_lt, true≢false}
 use Rattle.std.proofs.lemmas.Bool.Decides.{nat_tests}
-use Rattle.topology_map.proofs.Division.{one_crc}
+use Rattle.topology_map.proofs.Lemmas.{one_crc}
 use Rattle.config_rom.specs.declared.fault.RomFault.{RomFault}
 use Rattle.config_rom.specs.declared.fault.RomFault.TheVariants.{RomLength, RomTooLong, RomEmpty, NoInfo, Minimal, RomCut, BusName, Outside, SelfTarget}
 use Rattle.config_rom.specs.declared.crc.CrcState.{CrcState}
@@ -20,7 +20,8 @@ use Rattle.config_rom.specs.codings.Marks.{has_mark}
 
 -- ---- lists of sets that agree
 
-same_in_order : (s t : Blocks) (n : ℕ) → ((k : BlockKind) (p : ℕ) → p < n → s k p ≡ t k p) → in_order s n ≡ in_order t n
+same_in_order : (s t : Blocks) (n : ℕ) → ((k : BlockKind) (p : ℕ) → p < n → s k p ≡ t k p) →
+    in_order s n ≡ in_order t n
 same_in_order s t zero e = refl
 same_in_order s t (suc n) e =
     let here : (k : BlockKind) → if_in s k n ≡ if_in t k n = λ k. ap (λ b. cond b ((k, n) ∷ []) []) (e k n (omega arith)) in
@@ -42,9 +43,11 @@ marked_high m k p le = let t : nat_lt p 256 ≡ false = grind (arith, nat_tests)
 
 data FaultIs (quads : List ℕ) (at : ℕ) (f : RomFault) : Type 0 where
   outside : f ≡ Outside at → length quads < end_of quads at → FaultIs quads at f
-  itself : (p : ℕ) → f ≡ SelfTarget p → end_of quads at ≤ length quads → IsSelfTarget quads at p → ((entry : ℕ) → entry < p → IsSelfTarget quads at entry → ⊥) → FaultIs quads at f
+  itself : (p : ℕ) → f ≡ SelfTarget p → end_of quads at ≤ length quads → IsSelfTarget quads at p →
+      ((entry : ℕ) → entry < p → IsSelfTarget quads at entry → ⊥) → FaultIs quads at f
 
-fault_is : (quads : List ℕ) (k : BlockKind) (at : ℕ) (f : RomFault) → HasFault quads k at f → FaultIs quads at f
+fault_is : (quads : List ℕ) (k : BlockKind) (at : ℕ) (f : RomFault) → HasFault quads k at f →
+    FaultIs quads at f
 fault_is quads k at (Outside p) h = outside (ap Outside h.0) h.1
 fault_is quads Directory at (SelfTarget p) h = itself p refl h.0 h.1 h.2
 fault_is quads Leaf at (SelfTarget p) h = absurd h
@@ -66,20 +69,23 @@ fault_is quads Leaf at (BusName p q) h = absurd h
 same_number : (p q : ℕ) → (p < q → ⊥) → (q < p → ⊥) → p ≡ q
 same_number p q a b = omega (arith, a, b)
 
-one_fault_at : (quads : List ℕ) (at : ℕ) (f g : RomFault) → FaultIs quads at f → FaultIs quads at g → f ≡ g
+one_fault_at : (quads : List ℕ) (at : ℕ) (f g : RomFault) → FaultIs quads at f →
+    FaultIs quads at g → f ≡ g
 one_fault_at quads at f g (outside e lt) (outside e' lt') = e ∙ sym e'
 one_fault_at quads at f g (outside e lt) (itself p e' whole s first) = absurd (omega (arith, lt, whole))
 one_fault_at quads at f g (itself p e whole s first) (outside e' lt) = absurd (omega (arith, lt, whole))
 one_fault_at quads at f g (itself p e whole s first) (itself q e' whole' s' first') =
     e ∙ ap SelfTarget (same_number p q (λ lt. first' p lt s) (λ lt. first q lt s')) ∙ sym e'
 
-pub one_first : (quads : List ℕ) (root : ℕ) (f g : RomFault) → IsFirstFault quads root f → IsFirstFault quads root g → f ≡ g
+pub one_first : (quads : List ℕ) (root : ℕ) (f g : RomFault) → IsFirstFault quads root f →
+    IsFirstFault quads root g → f ≡ g
 one_first quads root f g a b =
     let same : a.at ≡ b.at = same_number a.at b.at (λ lt. b.earlier a.kind a.at a.reached lt f a.has) (λ lt. a.earlier b.kind b.at b.reached lt g b.has) in
     one_fault_at quads b.at f g (subst (λ p. FaultIs quads p f) same (fault_is quads a.kind a.at f a.has)) (fault_is quads b.kind b.at g b.has)
 
 -- blocks without a fault are whole
-pub whole_of : (quads : List ℕ) (k : BlockKind) (p : ℕ) → ((f : RomFault) → HasFault quads k p f → ⊥) → end_of quads p ≤ length quads
+pub whole_of : (quads : List ℕ) (k : BlockKind) (p : ℕ) →
+    ((f : RomFault) → HasFault quads k p f → ⊥) → end_of quads p ≤ length quads
 whole_of quads k p none = elim (cases_lt (length quads) (end_of quads p)) [
   | inl less ↦ absurd (none (Outside p) (refl, less))
   | inr more ↦ more
@@ -87,7 +93,8 @@ whole_of quads k p none = elim (cases_lt (length quads) (end_of quads p)) [
 
 -- ---- one list
 
-pub one_state : (quads : List ℕ) (kept : ℕ) (a b : CrcState) → IsCrcState quads kept a → IsCrcState quads kept b → a ≡ b
+pub one_state : (quads : List ℕ) (kept : ℕ) (a b : CrcState) → IsCrcState quads kept a →
+    IsCrcState quads kept b → a ≡ b
 one_state quads kept Good Good h k = refl
 one_state quads kept Good (Bad x computed) h k = absurd (k.2 (one_crc quads kept computed h k.1))
 one_state quads kept (Bad x computed) Good h k = absurd (h.2 (one_crc quads kept computed k h.1))
@@ -96,7 +103,8 @@ one_state quads kept (Bad x computed) (Bad y other) h k =
 one_state quads kept Past b h k = absurd h
 one_state quads kept a Past h k = absurd k
 
-same_block : (quads : List ℕ) (a b : Block) → place_of a ≡ place_of b → IsTold quads a → IsTold quads b → a ≡ b
+same_block : (quads : List ℕ) (a b : Block) → place_of a ≡ place_of b → IsTold quads a →
+    IsTold quads b → a ≡ b
 same_block quads a b e h k =
     let kinds : a.kind ≡ b.kind = ap (λ (p : BlockKind × ℕ). p.0) e in
     let places : a.at ≡ b.at = ap (λ (p : BlockKind × ℕ). p.1) e in
@@ -111,7 +119,8 @@ same_block quads a b e h k =
 heads : {X : Type 0} (x y : X) (xs ys : List X) → x ∷ xs ≡ y ∷ ys → (x ≡ y) × (xs ≡ ys)
 heads x y xs ys e = (cc, cc)
 
-same_blocks : (quads : List ℕ) (xs ys : List Block) → map place_of xs ≡ map place_of ys → AllByRecursion (IsTold quads) xs → AllByRecursion (IsTold quads) ys → xs ≡ ys
+same_blocks : (quads : List ℕ) (xs ys : List Block) → map place_of xs ≡ map place_of ys →
+    AllByRecursion (IsTold quads) xs → AllByRecursion (IsTold quads) ys → xs ≡ ys
 same_blocks quads [] [] e h k = refl
 same_blocks quads [] (y ∷ ys) e h k = absurd (omega (arith, ap length e))
 same_blocks quads (x ∷ xs) [] e h k = absurd (omega (arith, ap length e))
@@ -125,7 +134,8 @@ same_test true false f g = sym (f refl)
 same_test false true f g = g refl
 same_test false false f g = refl
 
-pub one_list : (quads : List ℕ) (root : ℕ) (xs ys : List Block) → AreBlocksOf quads root xs → AreBlocksOf quads root ys → xs ≡ ys
+pub one_list : (quads : List ℕ) (root : ℕ) (xs ys : List Block) → AreBlocksOf quads root xs →
+    AreBlocksOf quads root ys → xs ≡ ys
 one_list quads root xs ys a b =
     let sets : (k : BlockKind) (p : ℕ) → a.set k p ≡ b.set k p = λ k p.
     same_test (a.set k p) (b.set k p) (λ e. (b.set_is k p).1 ((a.set_is k p).0 e)) (λ e. (a.set_is k p).1 ((b.set_is k p).0 e))
@@ -153,9 +163,12 @@ are_blocks quads root m list few reached only faultless places told = record {
 }
 
 -- blocks and a fault are not both
-pub no_first : (quads : List ℕ) (root : ℕ) (f : RomFault) → ((k : BlockKind) (p : ℕ) → IsReached quads root k p → (g : RomFault) → HasFault quads k p g → ⊥) → IsFirstFault quads root f → ⊥
+pub no_first : (quads : List ℕ) (root : ℕ) (f : RomFault) →
+    ((k : BlockKind) (p : ℕ) → IsReached quads root k p → (g : RomFault) → HasFault quads k p g → ⊥) →
+    IsFirstFault quads root f → ⊥
 no_first quads root f faultless h = faultless h.kind h.at h.reached f h.has
 
 -- what is said of quadlets and a place is said of a ROM
-pub of_rom : (P : List ℕ → ℕ → Type 0) (qs rs : List ℕ) (m n : ℕ) → qs ≡ rs → m ≡ n → P qs m → P rs n
+pub of_rom : (P : List ℕ → ℕ → Type 0) (qs rs : List ℕ) (m n : ℕ) → qs ≡ rs → m ≡ n → P qs m →
+    P rs n
 of_rom P qs rs m n e f h = subst (λ x. P rs x) f (subst (λ x. P x m) e h)

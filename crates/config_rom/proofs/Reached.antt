@@ -15,7 +15,8 @@ use Rattle.config_rom.specs.codings.Marks.{has_mark, is_past, covers, Adds, Adds
 -- ---- one directory
 
 -- an entry leads behind its directory
-behind : (quads : List ℕ) (at entry target : ℕ) (k : BlockKind) → LeadsTo quads at entry k target → at < target
+behind : (quads : List ℕ) (at entry target : ℕ) (k : BlockKind) → LeadsTo quads at entry k target →
+    at < target
 behind quads at entry target k l = omega (arith, l.is_entry.behind, l.target_is)
 
 pub no_entries : (quads : List ℕ) (at : ℕ) (m : Marks) → AddsTargets quads at (at + 1) m m
@@ -37,7 +38,9 @@ some_none : (k : BlockKind) (o : Option BlockKind) → o ≡ None → o ≡ Some
 some_none k o n s = cc
 
 -- an entry that leads to no block
-pub skip_entry : (quads : List ℕ) (at entry : ℕ) (old m : Marks) → kind_of (slice_index quads entry) ≡ None → AddsTargets quads at entry old m → AddsTargets quads at (entry + 1) old m
+pub skip_entry : (quads : List ℕ) (at entry : ℕ) (old m : Marks) →
+    kind_of (slice_index quads entry) ≡ None → AddsTargets quads at entry old m →
+    AddsTargets quads at (entry + 1) old m
 skip_entry quads at entry old m none h = record {
   covered = λ e target k lt l. elim (last_or_before e entry lt) [
     | inl is ↦ absurd (some_none k (kind_of (slice_index quads entry)) none (subst (λ x. kind_of (slice_index quads x) ≡ Some k) is l.kind_is))
@@ -56,7 +59,9 @@ same_kind : (a b : BlockKind) (o : Option BlockKind) → o ≡ Some a → o ≡ 
 same_kind a b o e f = cc
 
 -- an entry that leads to another block
-pub add_entry : (quads : List ℕ) (at entry : ℕ) (kind : BlockKind) (old m new : Marks) → IsEntryOf quads at entry → kind_of (slice_index quads entry) ≡ Some kind → value_of (slice_index quads entry) ≢ 0 →
+pub add_entry : (quads : List ℕ) (at entry : ℕ) (kind : BlockKind) (old m new : Marks) →
+    IsEntryOf quads at entry → kind_of (slice_index quads entry) ≡ Some kind →
+    value_of (slice_index quads entry) ≢ 0 →
     Adds m new kind (entry + value_of (slice_index quads entry)) → AddsTargets quads at entry old m → AddsTargets quads at (entry + 1) old new
 add_entry quads at entry kind old m new is kind_is some a h =
     let place = entry + value_of (slice_index quads entry) in
@@ -86,7 +91,10 @@ add_entry quads at entry kind old m new is kind_is some a h =
 
 -- ---- one place
 
-pub no_fault_at : (quads : List ℕ) (k : BlockKind) (at : ℕ) (f : RomFault) → end_of quads at ≤ length quads → (k ≡ Directory → (entry : ℕ) → entry < end_of quads at → IsSelfTarget quads at entry → ⊥) → HasFault quads k at f → ⊥
+pub no_fault_at : (quads : List ℕ) (k : BlockKind) (at : ℕ) (f : RomFault) →
+    end_of quads at ≤ length quads →
+    (k ≡ Directory → (entry : ℕ) → entry < end_of quads at → IsSelfTarget quads at entry → ⊥) →
+    HasFault quads k at f → ⊥
 no_fault_at quads k at (Outside p) whole none h = omega (arith, whole, h.1)
 no_fault_at quads Directory at (SelfTarget p) whole none h = none refl p h.1.leads.is_entry.inside h.1
 no_fault_at quads Leaf at (SelfTarget p) whole none h = h
@@ -105,7 +113,10 @@ no_fault_at quads Leaf at (Minimal p) whole none h = h
 no_fault_at quads Leaf at (RomCut p) whole none h = h
 no_fault_at quads Leaf at (BusName p q) whole none h = h
 
-with_targets : (quads : List ℕ) (root at : ℕ) (old new : Marks) → at < 256 → has_mark old Directory at ≡ true → end_of quads at ≤ length quads → AddsTargets quads at (end_of quads at) old new → Taken quads root at old → Taken quads root (at + 1) new
+with_targets : (quads : List ℕ) (root at : ℕ) (old new : Marks) → at < 256 →
+    has_mark old Directory at ≡ true → end_of quads at ≤ length quads →
+    AddsTargets quads at (end_of quads at) old new → Taken quads root at old →
+    Taken quads root (at + 1) new
 with_targets quads root at old new small here whole t h = record {
   root_in = t.kept Directory root h.root_in;
   closed = λ directory entry target k lt has l. elim (last_or_before directory at lt) [
@@ -132,7 +143,9 @@ with_targets quads root at old new small here whole t h = record {
   ];
 }
 
-without_targets : (quads : List ℕ) (root at : ℕ) (m : Marks) → has_mark m Directory at ≡ false → ((k : BlockKind) → has_mark m k at ≡ true → end_of quads at ≤ length quads) → Taken quads root at m → Taken quads root (at + 1) m
+without_targets : (quads : List ℕ) (root at : ℕ) (m : Marks) → has_mark m Directory at ≡ false →
+    ((k : BlockKind) → has_mark m k at ≡ true → end_of quads at ≤ length quads) →
+    Taken quads root at m → Taken quads root (at + 1) m
 without_targets quads root at m none whole h = record {
   root_in = h.root_in;
   closed = λ directory entry target k lt has l. elim (last_or_before directory at lt) [
@@ -149,7 +162,8 @@ without_targets quads root at m none whole h = record {
   ];
 }
 
-pub take_more : (quads : List ℕ) (root at : ℕ) (old new : Marks) → at < 256 → TakesPlace quads at old new → Taken quads root at old → Taken quads root (at + 1) new
+pub take_more : (quads : List ℕ) (root at : ℕ) (old new : Marks) → at < 256 →
+    TakesPlace quads at old new → Taken quads root at old → Taken quads root (at + 1) new
 take_more quads root at old new small t h = go (has_mark old Directory at) refl
   where
     go : (b : Bool) → has_mark old Directory at ≡ b → Taken quads root (at + 1) new
@@ -159,7 +173,9 @@ take_more quads root at old new small t h = go (has_mark old Directory at) refl
 none_is : (b : ℕ) (o : Option ℕ) → o ≡ None → o ≡ Some b → ⊥
 none_is b o n s = cc
 
-pub take_none : (quads : List ℕ) (root : ℕ) (empty m : Marks) → root < 256 → ((k : BlockKind) (p : ℕ) → has_mark empty k p ≡ false) → empty.beyond ≡ None → Adds empty m Directory root → Taken quads root 0 m
+pub take_none : (quads : List ℕ) (root : ℕ) (empty m : Marks) → root < 256 →
+    ((k : BlockKind) (p : ℕ) → has_mark empty k p ≡ false) → empty.beyond ≡ None →
+    Adds empty m Directory root → Taken quads root 0 m
 take_none quads root empty m small none no_beyond a = record {
   root_in = a.covered;
   closed = λ directory entry target k lt has l. absurd (omega (arith, lt));
@@ -192,7 +208,8 @@ covered_low m p k lt = let t : nat_lt p 256 ≡ true = grind (arith, nat_tests) 
 covered_high : (m : Marks) (p : ℕ) (k : BlockKind) → 256 ≤ p → covers m k p ≡ is_past m.beyond p
 covered_high m p k le = let t : nat_lt p 256 ≡ false = grind (arith, nat_tests) in ap (λ b. cond b (has_mark m k p) (is_past m.beyond p)) t
 
-below_closed : (quads : List ℕ) (root at : ℕ) (m : Marks) → root < 256 → at ≤ 256 → Taken quads root at m → IsClosed quads root (marked_below m at)
+below_closed : (quads : List ℕ) (root at : ℕ) (m : Marks) → root < 256 → at ≤ 256 →
+    Taken quads root at m → IsClosed quads root (marked_below m at)
 below_closed quads root at m small few h = record {
   root_in = elim (cases_lt root at) [
     | inl less ↦ low m at root Directory less ∙ sym (covered_low m root Directory small) ∙ h.root_in
@@ -207,11 +224,14 @@ below_closed quads root at m small few h = record {
   ];
 }
 
-below_marked : (quads : List ℕ) (root at : ℕ) (m : Marks) (k : BlockKind) (p : ℕ) → root < 256 → at ≤ 256 → Taken quads root at m → IsReached quads root k p → p < at → has_mark m k p ≡ true
+below_marked : (quads : List ℕ) (root at : ℕ) (m : Marks) (k : BlockKind) (p : ℕ) → root < 256 →
+    at ≤ 256 → Taken quads root at m → IsReached quads root k p → p < at → has_mark m k p ≡ true
 below_marked quads root at m k p small few h r lt = sym (low m at p k lt) ∙ r (marked_below m at) (below_closed quads root at m small few h)
 
 -- a marked block with a fault has the first one
-pub first_fault_at : (quads : List ℕ) (root at : ℕ) (m : Marks) (k : BlockKind) (f : RomFault) → root < 256 → at < 256 → Taken quads root at m → has_mark m k at ≡ true → HasFault quads k at f → IsFirstFault quads root f
+pub first_fault_at : (quads : List ℕ) (root at : ℕ) (m : Marks) (k : BlockKind) (f : RomFault) →
+    root < 256 → at < 256 → Taken quads root at m → has_mark m k at ≡ true → HasFault quads k at f →
+    IsFirstFault quads root f
 first_fault_at quads root at m k f root_small small h here has = record {
   kind = k;
   at = at;
@@ -225,7 +245,8 @@ past_more None p q le e = e
 past_more (Some b) p q le e = grind (arith, nat_tests, le, e)
 
 -- all marks together
-all_closed : (quads : List ℕ) (root : ℕ) (m : Marks) → Taken quads root 256 m → IsClosed quads root (covers m)
+all_closed : (quads : List ℕ) (root : ℕ) (m : Marks) → Taken quads root 256 m →
+    IsClosed quads root (covers m)
 all_closed quads root m h = record {
   root_in = h.root_in;
   targets_in = λ directory entry target k has l. elim (cases_lt directory 256) [
@@ -236,7 +257,8 @@ all_closed quads root m h = record {
   ];
 }
 
-pub past_end : (quads : List ℕ) (root b : ℕ) (m : Marks) → length quads ≤ 256 → Taken quads root 256 m → m.beyond ≡ Some b → IsFirstFault quads root (Outside b)
+pub past_end : (quads : List ℕ) (root b : ℕ) (m : Marks) → length quads ≤ 256 →
+    Taken quads root 256 m → m.beyond ≡ Some b → IsFirstFault quads root (Outside b)
 past_end quads root b m few h e =
     let r = h.beyond b e in
     record {
@@ -256,7 +278,9 @@ past_end quads root b m few h e =
     not_past b p lt t = grind (arith, nat_tests, lt, t)
 
 -- without places past the end the marks are the reached blocks
-pub reached_marked : (quads : List ℕ) (root : ℕ) (m : Marks) (k : BlockKind) (p : ℕ) → Taken quads root 256 m → m.beyond ≡ None → IsReached quads root k p → (p < 256) × (has_mark m k p ≡ true)
+pub reached_marked : (quads : List ℕ) (root : ℕ) (m : Marks) (k : BlockKind) (p : ℕ) →
+    Taken quads root 256 m → m.beyond ≡ None → IsReached quads root k p →
+    (p < 256) × (has_mark m k p ≡ true)
 reached_marked quads root m k p h none r =
     let c : covers m k p ≡ true = r (covers m) (all_closed quads root m h) in
     elim (cases_lt p 256) [

@@ -15,7 +15,8 @@ abbrev Decided : Type 0 → Type 0
 Decided P = P ⊎ (P → ⊥)
 
 -- the least number below a bound of which a test holds, or none
-least : (P : ℕ → Type 0) → ((p : ℕ) → Decided (P p)) → (bound : ℕ) → ((p : ℕ) × P p × ((q : ℕ) → q < p → P q → ⊥)) ⊎ ((p : ℕ) → p < bound → P p → ⊥)
+least : (P : ℕ → Type 0) → ((p : ℕ) → Decided (P p)) → (bound : ℕ) →
+    ((p : ℕ) × P p × ((q : ℕ) → q < p → P q → ⊥)) ⊎ ((p : ℕ) → p < bound → P p → ⊥)
 least P test zero = inr (λ p lt h. omega (arith, lt))
 least P test (suc bound) = elim (least P test bound) [
   | inl found ↦ inl found
@@ -88,7 +89,8 @@ leads quads d (suc count) k p =
     either (leads quads d count k p)
     (both (is_kind (kind_of (slice_index quads (d + 1 + count))) k) (eqb p (d + 1 + count + value_of (slice_index quads (d + 1 + count)))))
 
-leads-true : (quads : List ℕ) (d count : ℕ) (k : BlockKind) (p : ℕ) → count ≤ length_at quads d → leads quads d count k p ≡ true → (e : ℕ) × LeadsTo quads d e k p
+leads-true : (quads : List ℕ) (d count : ℕ) (k : BlockKind) (p : ℕ) → count ≤ length_at quads d →
+    leads quads d count k p ≡ true → (e : ℕ) × LeadsTo quads d e k p
 unfolding leads
 leads-true quads d zero k p le h = absurd cc
 leads-true quads d (suc count) k p le h = elim (either-true _ _ h) [
@@ -104,7 +106,8 @@ leads-true quads d (suc count) k p le h = elim (either-true _ _ h) [
       )
 ]
 
-true-leads : (quads : List ℕ) (d e count : ℕ) (k : BlockKind) (p : ℕ) → e < d + 1 + count → LeadsTo quads d e k p → leads quads d count k p ≡ true
+true-leads : (quads : List ℕ) (d e count : ℕ) (k : BlockKind) (p : ℕ) → e < d + 1 + count →
+    LeadsTo quads d e k p → leads quads d count k p ≡ true
 unfolding leads
 true-leads quads d e zero k p lt l = absurd (omega (arith, lt, l.is_entry.behind))
 true-leads quads d e (suc count) k p lt l = elim (cases_eq e (d + 1 + count)) [
@@ -130,7 +133,8 @@ upto : List ℕ → ℕ → ℕ → Blocks
 upto quads root zero k p = is_root root k p
 upto quads root (suc n) k p = either (upto quads root n k p) (both (upto quads root n Directory n) (leads quads n (length_at quads n) k p))
 
-grows : (quads : List ℕ) (root m n : ℕ) (k : BlockKind) (p : ℕ) → m ≤ n → upto quads root m k p ≡ true → upto quads root n k p ≡ true
+grows : (quads : List ℕ) (root m n : ℕ) (k : BlockKind) (p : ℕ) → m ≤ n →
+    upto quads root m k p ≡ true → upto quads root n k p ≡ true
 unfolding upto
 grows quads root m zero k p le h = let none : m ≡ 0 = omega (arith, le) in subst (λ x. upto quads root x k p ≡ true) none h
 grows quads root m (suc n) k p le h = elim (cases_eq m (suc n)) [
@@ -139,7 +143,8 @@ grows quads root m (suc n) k p le h = elim (cases_eq m (suc n)) [
 ]
 
 -- a place is settled by the directories below it
-settled : (quads : List ℕ) (root m n : ℕ) (k : BlockKind) (p : ℕ) → p ≤ m → upto quads root n k p ≡ true → upto quads root m k p ≡ true
+settled : (quads : List ℕ) (root m n : ℕ) (k : BlockKind) (p : ℕ) → p ≤ m →
+    upto quads root n k p ≡ true → upto quads root m k p ≡ true
 unfolding upto
 settled quads root m zero k p le h = grows quads root zero m k p (omega arith) h
 settled quads root m (suc n) k p le h = elim (either-true _ _ h) [
@@ -153,7 +158,8 @@ settled quads root m (suc n) k p le h = elim (either-true _ _ h) [
 ]
 
 -- an entry is among the quadlets
-some_kind : (quads : List ℕ) (e : ℕ) (k : BlockKind) → kind_of (slice_index quads e) ≡ Some k → e < length quads
+some_kind : (quads : List ℕ) (e : ℕ) (k : BlockKind) → kind_of (slice_index quads e) ≡ Some k →
+    e < length quads
 some_kind quads e k h = elim (cases_lt e (length quads)) [
   | inl less ↦ less
   | inr more ↦ absurd (none_some (kind_of (slice_index quads e)) k (ap (λ q. kind_of q) (get_or-eq_default quads 0 more)) h)
@@ -187,7 +193,8 @@ reached_closed quads root = record {
 same_kind : (a b : BlockKind) → Some a ≡ Some b → a ≡ b
 same_kind a b e = cc
 
-upto_reached : (quads : List ℕ) (root n : ℕ) (k : BlockKind) (p : ℕ) → upto quads root n k p ≡ true → IsReached quads root k p
+upto_reached : (quads : List ℕ) (root n : ℕ) (k : BlockKind) (p : ℕ) →
+    upto quads root n k p ≡ true → IsReached quads root k p
 unfolding upto is_root
 upto_reached quads root zero k p h set c =
     let t = both-true _ _ h in
@@ -214,7 +221,8 @@ reached_set quads root = record {
   set_is = λ k p. (upto_reached quads root (length quads) k p, λ r. r (reached quads root) (reached_closed quads root));
 }
 
-pub is_reached : (quads : List ℕ) (root : ℕ) (k : BlockKind) (p : ℕ) → Decided (IsReached quads root k p)
+pub is_reached : (quads : List ℕ) (root : ℕ) (k : BlockKind) (p : ℕ) →
+    Decided (IsReached quads root k p)
 unfolding reached
 is_reached quads root k p = go (reached quads root k p) refl
   where
@@ -269,7 +277,8 @@ fault_at quads k p = elim (cases_lt (length quads) (end_of quads p)) [
 FaultyAt : List ℕ → ℕ → ℕ → Type 0
 FaultyAt quads root p = (k : BlockKind) × (IsReached quads root k p × SomeFaultAt quads k p)
 
-kinds : (P : BlockKind → Type 0) → Decided (P Directory) → Decided (P Leaf) → Decided ((k : BlockKind) × P k)
+kinds : (P : BlockKind → Type 0) → Decided (P Directory) → Decided (P Leaf) →
+    Decided ((k : BlockKind) × P k)
 kinds P (inl h) b = inl (Directory, h)
 kinds P (inr a) (inl h) = inl (Leaf, h)
 kinds P (inr a) (inr b) = inr (λ x. neither x.0 x.1)
@@ -291,7 +300,8 @@ faulty_at quads root p =
     (together (IsReached quads root Leaf p) (SomeFaultAt quads Leaf p) (is_reached quads root Leaf p) (fault_at quads Leaf p))
 
 -- no place from a bound on is reached
-bounded : (quads : List ℕ) (root n : ℕ) (k : BlockKind) (p : ℕ) → upto quads root n k p ≡ true → p < root + 1 + length quads + 2 ^ 24
+bounded : (quads : List ℕ) (root n : ℕ) (k : BlockKind) (p : ℕ) → upto quads root n k p ≡ true →
+    p < root + 1 + length quads + 2 ^ 24
 unfolding upto is_root
 bounded quads root zero k p h = let place : p ≡ root = eqb-true _ _ (both-true _ _ h).1 in omega (arith, place)
 bounded quads root (suc n) k p h = elim (either-true _ _ h) [
@@ -301,7 +311,8 @@ bounded quads root (suc n) k p h = elim (either-true _ _ h) [
       omega (arith, l.1.target_is, some_kind quads l.0 k l.1.kind_is)
 ]
 
-reached_bounded : (quads : List ℕ) (root : ℕ) (k : BlockKind) (p : ℕ) → IsReached quads root k p → p < root + 1 + length quads + 2 ^ 24
+reached_bounded : (quads : List ℕ) (root : ℕ) (k : BlockKind) (p : ℕ) → IsReached quads root k p →
+    p < root + 1 + length quads + 2 ^ 24
 unfolding reached
 reached_bounded quads root k p r = bounded quads root (length quads) k p (r (reached quads root) (reached_closed quads root))
 

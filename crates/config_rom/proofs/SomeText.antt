@@ -4,7 +4,7 @@ use Rattle.std.specs.List.{AllByRecursion}
 use Rattle.std.proofs.lemmas.Bool.{cases_lt, cases_eq}
 use Rattle.std.proofs.lemmas.List.Elements.{All-from_recursion}
 use Rattle.topology_map.specs.Crc.{IsCrc}
-use Rattle.topology_map.proofs.SomeMap.{some_crc}
+use Rattle.topology_map.proofs.Lemmas.{some_crc}
 use Rattle.config_rom.specs.declared.crc.CrcState.{CrcState}
 use Rattle.config_rom.specs.declared.crc.CrcState.TheVariants.{Good, Bad, Past}
 use Rattle.config_rom.specs.declared.block.Block.{Block}

@@ -9,7 +9,8 @@ use Rattle.config_rom.specs.Layout.{end_of}
 use Rattle.config_rom.specs.Block.{Blocks, place_of, if_in, in_order, IsTold, AreBlocksOf}
 use Rattle.config_rom.proofs.Listed.{whole_of}
 
-all_append : {X : Type 0} (P : X → Type 0) (xs ys : List X) → AllByRecursion P xs → AllByRecursion P ys → AllByRecursion P (xs ++ ys)
+all_append : {X : Type 0} (P : X → Type 0) (xs ys : List X) → AllByRecursion P xs →
+    AllByRecursion P ys → AllByRecursion P (xs ++ ys)
 all_append P [] ys h k = k
 all_append P (x ∷ xs) ys h k = (h.0, all_append P xs ys h.1 k)
 
@@ -32,11 +33,15 @@ in_order_all s (suc n) =
 abbrev IsInside : List ℕ → Block → Type 0
 IsInside quads b = b.at + 1 + b.len ≤ length quads
 
-all_inside : (quads : List ℕ) (s : Blocks) (bs : List Block) → ((k : BlockKind) (p : ℕ) → s k p ≡ true → end_of quads p ≤ length quads) → AllByRecursion (IsIn s) (map place_of bs) → AllByRecursion (IsTold quads) bs → AllByRecursion (IsInside quads) bs
+all_inside : (quads : List ℕ) (s : Blocks) (bs : List Block) →
+    ((k : BlockKind) (p : ℕ) → s k p ≡ true → end_of quads p ≤ length quads) →
+    AllByRecursion (IsIn s) (map place_of bs) → AllByRecursion (IsTold quads) bs →
+    AllByRecursion (IsInside quads) bs
 all_inside quads s [] whole h told = tt
 all_inside quads s (b ∷ bs) whole h told = (omega (arith, whole b.kind b.at h.0, told.0.len_is), all_inside quads s bs whole h.1 told.1)
 
-pub blocks_inside : (quads : List ℕ) (root : ℕ) (bs : List Block) → AreBlocksOf quads root bs → All (λ b. b.at + 1 + b.len ≤ length quads) bs
+pub blocks_inside : (quads : List ℕ) (root : ℕ) (bs : List Block) → AreBlocksOf quads root bs →
+    All (λ b. b.at + 1 + b.len ≤ length quads) bs
 blocks_inside quads root bs are =
     All-from_recursion _ _ (all_inside quads are.set bs (λ k p e. whole_of quads k p (are.faultless k p ((are.set_is k p).0 e)))
     (subst (AllByRecursion (IsIn are.set)) (sym are.listed) (in_order_all are.set (length quads))) (recursion_from_All _ _ are.told))

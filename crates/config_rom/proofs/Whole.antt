@@ -5,7 +5,7 @@ use Rattle.std.specs.List.{All}
 use Rattle.std.proofs.Math.Seq.{drop-cons, take-append_seam, drop-append_seam}
 use Rattle.std.proofs.lemmas.List.{take-append-drop, length-take-le, drop_all, get_or-take, get_or-drop, get_or-set_other, length-set}
 use Rattle.std.proofs.lemmas.List.Elements.{All-get_or, All-from_get_or, All-set, All-append, All-cons}
-use Rattle.topology_map.proofs.Parts.{joined}
+use Rattle.topology_map.proofs.Lemmas.{joined}
 use Rattle.config_rom.specs.Layout.{info_len_of, root_of, length_at, crc_at, end_of}
 use Rattle.config_rom.specs.Rom.{Parts, first_quad, root_header, rom_quads, IsRom, unsealed}
 use Rattle.config_rom.specs.codings.Parts.{parts_of, HasLayout}
@@ -83,7 +83,8 @@ pub record PlacesOf (v : Parts) : Type 0 where
   pub root_crc : crc_at (rom_quads v) (root_of (rom_quads v)) ≡ v.root_crc
   pub total : length (rom_quads v) ≡ 2 + length v.info + length v.entries + length v.rest
 
-first_parts : (n l crc : ℕ) → l < 2 ^ 8 → crc < 2 ^ 16 → ((2 ^ 24 * n + 2 ^ 16 * l + crc) / 2 ^ 24 ≡ n) × ((2 ^ 24 * n + 2 ^ 16 * l + crc) / 2 ^ 16 % 2 ^ 8 ≡ l) × ((2 ^ 24 * n + 2 ^ 16 * l + crc) % 2 ^ 16 ≡ crc)
+first_parts : (n l crc : ℕ) → l < 2 ^ 8 → crc < 2 ^ 16 →
+    ((2 ^ 24 * n + 2 ^ 16 * l + crc) / 2 ^ 24 ≡ n) × ((2 ^ 24 * n + 2 ^ 16 * l + crc) / 2 ^ 16 % 2 ^ 8 ≡ l) × ((2 ^ 24 * n + 2 ^ 16 * l + crc) % 2 ^ 16 ≡ crc)
 first_parts n l crc small fits = (omega arith, omega arith, omega arith)
 
 pub places_of : (v : Parts) → IsRom v → PlacesOf v
@@ -111,7 +112,8 @@ places_of v is =
       total = total;
     }
 
-same_parts : (a b : Parts) → a.info_len ≡ b.info_len → a.crc_length ≡ b.crc_length → a.crc ≡ b.crc → a.info ≡ b.info → a.root_crc ≡ b.root_crc → a.entries ≡ b.entries → a.rest ≡ b.rest → a ≡ b
+same_parts : (a b : Parts) → a.info_len ≡ b.info_len → a.crc_length ≡ b.crc_length → a.crc ≡ b.crc →
+    a.info ≡ b.info → a.root_crc ≡ b.root_crc → a.entries ≡ b.entries → a.rest ≡ b.rest → a ≡ b
 same_parts a b e0 e1 e2 e3 e4 e5 e6 =
     let mk : ℕ → ℕ → ℕ → List ℕ → ℕ → List ℕ → List ℕ → Parts = λ n l c i r es rest. record { info_len = n; crc_length = l; crc = c; info = i; root_crc = r; entries = es; rest = rest } in
     ap (λ x. mk x a.crc_length a.crc a.info a.root_crc a.entries a.rest) e0
@@ -153,13 +155,16 @@ has_layout v is =
     index-append (x ∷ xs) ys lt = refl
 
 -- the bus information block among the quadlets
-pub info_part : (v : Parts) (quads : List ℕ) (n : ℕ) → IsRom v → quads ≡ rom_quads v → n ≡ v.info_len → take (1 + n - 1) (drop 1 quads) ≡ v.info
+pub info_part : (v : Parts) (quads : List ℕ) (n : ℕ) → IsRom v → quads ≡ rom_quads v →
+    n ≡ v.info_len → take (1 + n - 1) (drop 1 quads) ≡ v.info
 info_part v quads n is e f =
     let long : 1 + n - 1 ≡ length v.info = omega (arith, f, is.info_is) in
     ap (λ k. take k (drop 1 quads)) long ∙ ap (λ qs. take (length v.info) (drop 1 qs)) e ∙ take-append_seam v.info (root_header v ∷ (v.entries ++ v.rest))
 
 -- the entries of the root directory among the quadlets
-pub entries_part : (v : Parts) (quads : List ℕ) (root end : ℕ) → IsRom v → quads ≡ rom_quads v → root ≡ 1 + v.info_len → end ≡ end_of quads root → take (end - (root + 1)) (drop (root + 1) quads) ≡ v.entries
+pub entries_part : (v : Parts) (quads : List ℕ) (root end : ℕ) → IsRom v → quads ≡ rom_quads v →
+    root ≡ 1 + v.info_len → end ≡ end_of quads root →
+    take (end - (root + 1)) (drop (root + 1) quads) ≡ v.entries
 entries_part v quads root end is e f g =
     let p = places_of v is in
     let place : root ≡ root_of (rom_quads v) = omega (arith, f, p.info_len) in
@@ -202,7 +207,8 @@ set-quads v quads place quad h is behind other fits =
 
 -- ---- parts that are given
 
-pub all-fit : (quads : List ℕ) → ((i : ℕ) → slice_index quads i < 2 ^ 32) → All (λ q. q < 2 ^ 32) quads
+pub all-fit : (quads : List ℕ) → ((i : ℕ) → slice_index quads i < 2 ^ 32) →
+    All (λ q. q < 2 ^ 32) quads
 all-fit quads fit = All-from_get_or (λ q. q < 2 ^ 32) quads 0 (λ i _. fit i)
 
 pub unsealed-rom :

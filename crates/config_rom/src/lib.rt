@@ -22,4 +22,3 @@ pub use quad_lanes::OutOfMemory;
 pub use rom::{BUS_NAME, Rom, decode_rom, encode_rom};
 pub use sealing::seal;
 pub use text::rom_text;
-

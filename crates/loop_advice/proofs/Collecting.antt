@@ -6,8 +6,7 @@ use Rattle.cabling.specs.declared.cable.Cable.{Cable}
 use Rattle.cabling.specs.Wiring.{Wiring, ports_of, far, IsCabling}
 use Rattle.cabling.specs.NodeSet.{Holds}
 use Rattle.cabling.specs.Component.{IsClosed}
-use Rattle.cabling.proofs.Ends.{plugged, one_other, same_end}
-use Rattle.cabling.proofs.Near.{end_at}
+use Rattle.cabling.proofs.Lemmas.{plugged, one_other, same_end, end_at}
 use Rattle.loop_advice.specs.Cables.{turned, Lists, HasNoneTwice}
 use Rattle.loop_advice.specs.Order.{ComesBefore, ComesBeforeAll, AreRising, AreInOrder}
 use Rattle.loop_advice.specs.codings.Collected.{AllComeBefore, Collected}
@@ -24,24 +23,29 @@ pub not_before : (a : End) → ComesBefore a a → ⊥
 not_before a (inl p) = omega (arith, p)
 not_before a (inr p) = omega (arith, p.1)
 
-before_last : (a : End) (xs : List Cable) (x : Cable) → ComesBeforeAll a xs → ComesBefore a x.a → ComesBeforeAll a (xs ++ x ∷ [])
+before_last : (a : End) (xs : List Cable) (x : Cable) → ComesBeforeAll a xs → ComesBefore a x.a →
+    ComesBeforeAll a (xs ++ x ∷ [])
 before_last a [] x h p = (p, tt)
 before_last a (y ∷ ys) x h p = (h.0, before_last a ys x h.1 p)
 
-pub rising_last : (xs : List Cable) (x : Cable) → AreRising xs → AllComeBefore xs x.a → x.a.node < x.b.node → AreRising (xs ++ x ∷ [])
+pub rising_last : (xs : List Cable) (x : Cable) → AreRising xs → AllComeBefore xs x.a →
+    x.a.node < x.b.node → AreRising (xs ++ x ∷ [])
 rising_last [] x h b low = (low, tt, tt)
 rising_last (y ∷ ys) x h b low = (h.0, before_last y.a ys x h.1 b.0, rising_last ys x h.2 b.1 low)
 
-all_before : (xs : List Cable) (a b : End) → AllComeBefore xs a → ComesBefore a b → AllComeBefore xs b
+all_before : (xs : List Cable) (a b : End) → AllComeBefore xs a → ComesBefore a b →
+    AllComeBefore xs b
 all_before [] a b h p = tt
 all_before (x ∷ xs) a b h p = (before_along x.a a b h.0 p, all_before xs a b h.1 p)
 
-pub all_before_last : (xs : List Cable) (x : Cable) (b : End) → AllComeBefore xs b → ComesBefore x.a b → AllComeBefore (xs ++ x ∷ []) b
+pub all_before_last : (xs : List Cable) (x : Cable) (b : End) → AllComeBefore xs b →
+    ComesBefore x.a b → AllComeBefore (xs ++ x ∷ []) b
 all_before_last [] x b h p = (p, tt)
 all_before_last (y ∷ ys) x b h p = (h.0, all_before_last ys x b h.1 p)
 
 -- in a rising list no cable is twice
-none_again : (x : Cable) (xs : List Cable) → x.a.node < x.b.node → ComesBeforeAll x.a xs → AreRising xs → Lists xs x → ⊥
+none_again : (x : Cable) (xs : List Cable) → x.a.node < x.b.node → ComesBeforeAll x.a xs →
+    AreRising xs → Lists xs x → ⊥
 none_again x [] low h r l = l
 none_again x (y ∷ ys) low h r (inl (inl e)) = not_before x.a (subst (λ (z : Cable). ComesBefore x.a z.a) (sym e) h.0)
 none_again x (y ∷ ys) low h r (inl (inr e)) = let a : x.a.node ≡ y.b.node = ap (λ (z : Cable). z.a.node) e in let b : x.b.node ≡ y.a.node = ap (λ (z : Cable). z.b.node) e in omega (arith, low, r.0, a, b)
@@ -60,7 +64,8 @@ collected_first c set = record {
 }
 
 -- an end before the next port is at this port or before it
-this_or_before : (a : End) (node port : ℕ) → ComesBefore a (end_at node (port + 1)) → (a ≡ end_at node port) ⊎ ComesBefore a (end_at node port)
+this_or_before : (a : End) (node port : ℕ) → ComesBefore a (end_at node (port + 1)) →
+    (a ≡ end_at node port) ⊎ ComesBefore a (end_at node port)
 this_or_before a node port (inl p) = inr (inl p)
 this_or_before a node port (inr p) = elim (cases_lt a.port port) [
   | inl less ↦ inr (inr (p.0, less))
@@ -71,7 +76,9 @@ step : (node port : ℕ) → ComesBefore (end_at node port) (end_at node (port +
 step node port = inr (refl, omega arith)
 
 -- a port without a cable to a greater node
-pub collected_none : (c : Wiring) (set node port : ℕ) (cables : List Cable) → ((b : End) → far c (end_at node port) ≡ Some b → node < b.node → ⊥) → Collected c set node port cables → Collected c set node (port + 1) cables
+pub collected_none : (c : Wiring) (set node port : ℕ) (cables : List Cable) →
+    ((b : End) → far c (end_at node port) ≡ Some b → node < b.node → ⊥) →
+    Collected c set node port cables → Collected c set node (port + 1) cables
 collected_none c set node port cables none k = record {
   rising = k.rising;
   before = all_before cables (end_at node port) (end_at node (port + 1)) k.before (step node port);
@@ -83,7 +90,10 @@ collected_none c set node port cables none k = record {
 }
 
 -- a port with one
-pub collected_one : (c : Wiring) (set node port : ℕ) (other : End) (cables : List Cable) → IsCabling c → IsClosed c set → Holds set node → far c (end_at node port) ≡ Some other → node < other.node → Collected c set node port cables → Collected c set node (port + 1) (cables ++ cable (end_at node port) other ∷ [])
+pub collected_one : (c : Wiring) (set node port : ℕ) (other : End) (cables : List Cable) →
+    IsCabling c → IsClosed c set → Holds set node → far c (end_at node port) ≡ Some other →
+    node < other.node → Collected c set node port cables →
+    Collected c set node (port + 1) (cables ++ cable (end_at node port) other ∷ [])
 collected_one c set node port other cables is closed here joined low k =
     let x : Cable = cable (end_at node port) other in
     record {
@@ -102,7 +112,9 @@ collected_one c set node port other cables is closed here joined low k =
     }
 
 -- after a node's last port comes the next node
-pub collected_row : (c : Wiring) (set node ports : ℕ) (cables : List Cable) → length (ports_of c node) ≤ ports → Collected c set node ports cables → Collected c set (node + 1) 0 cables
+pub collected_row : (c : Wiring) (set node ports : ℕ) (cables : List Cable) →
+    length (ports_of c node) ≤ ports → Collected c set node ports cables →
+    Collected c set (node + 1) 0 cables
 collected_row c set node ports cables last k = record {
   rising = k.rising;
   before = all_before cables (end_at node ports) (end_at (node + 1) 0) k.before (inl (omega arith));
@@ -119,7 +131,8 @@ collected_row c set node ports cables last k = record {
 }
 
 -- a node outside the set has no cable of it
-pub collected_skip : (c : Wiring) (set node : ℕ) (cables : List Cable) → (Holds set node → ⊥) → Collected c set node 0 cables → Collected c set (node + 1) 0 cables
+pub collected_skip : (c : Wiring) (set node : ℕ) (cables : List Cable) → (Holds set node → ⊥) →
+    Collected c set node 0 cables → Collected c set (node + 1) 0 cables
 collected_skip c set node cables out k = record {
   rising = k.rising;
   before = all_before cables (end_at node 0) (end_at (node + 1) 0) k.before (inl (omega arith));
@@ -134,7 +147,8 @@ collected_skip c set node cables out k = record {
 }
 
 -- after the last node all are found
-pub collected_all : (c : Wiring) (set nodes : ℕ) (cables : List Cable) → IsCabling c → IsClosed c set → length c ≤ nodes → Collected c set nodes 0 cables → AreInOrder c set cables
+pub collected_all : (c : Wiring) (set nodes : ℕ) (cables : List Cable) → IsCabling c →
+    IsClosed c set → length c ≤ nodes → Collected c set nodes 0 cables → AreInOrder c set cables
 collected_all c set nodes cables is closed last k = record {
   each = record {
     once = rising_once cables k.rising;

@@ -77,7 +77,8 @@ grouped_next g after done x small_a small_b h smalls_a smalls_b is =
     }
 
 -- one cable more within a group
-pub grouped_same : (g : Groups) (done : List Cable) (x : Cable) → Grouped g done → group g x.a.node ≡ group g x.b.node → Grouped g (done ++ x ∷ [])
+pub grouped_same : (g : Groups) (done : List Cable) (x : Cable) → Grouped g done →
+    group g x.a.node ≡ group g x.b.node → Grouped g (done ++ x ∷ [])
 grouped_same g done x h same = record {
   closed = λ z l. elim (lists_last done x z l) [
     | inl before ↦ h.closed z before
@@ -90,7 +91,8 @@ grouped_same g done x h same = record {
 }
 
 -- a node outside the group isn't joined
-pub not_joined : (g : Groups) (done : List Cable) (a b : ℕ) → Grouped g done → group g a ≢ group g b → AreJoined done a b → ⊥
+pub not_joined : (g : Groups) (done : List Cable) (a b : ℕ) → Grouped g done →
+    group g a ≢ group g b → AreJoined done a b → ⊥
 not_joined g done a b h ne joined =
     let test : ℕ → Bool = λ node. eqb (group g node) (group g a) in
     let none : NoneLeadsOut done (λ node. eqb (group g node) (group g a)) = λ x l. ap (λ (k : ℕ). eqb k (group g a)) (h.closed x l) in

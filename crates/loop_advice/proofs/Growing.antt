@@ -4,9 +4,7 @@ use Rattle.std.proofs.Common.{◌≡◌, ◌≢◌, ℕ, zero, suc, ◌+◌, ◌
 use Rattle.cabling.specs.declared.cable.End.{End}
 use Rattle.cabling.specs.declared.cable.Cable.{Cable}
 use Rattle.cabling.specs.NodeSet.{Holds, size_below}
-use Rattle.cabling.proofs.Cascade.{holds_or_not}
-use Rattle.cabling.proofs.Once.{In}
-use Rattle.cabling.proofs.Counting.{in_or_not}
+use Rattle.cabling.proofs.Lemmas.{holds_or_not, In, in_or_not}
 use Rattle.loop_advice.specs.Cables.{turned, IsSame, Lists, NoneLeadsOut, JoinAll}
 use Rattle.loop_advice.proofs.Listed.{lists_turned, same_along}
 use Rattle.loop_advice.proofs.Marking.{cable}
@@ -36,18 +34,22 @@ record Grown (nodes : List ℕ) (used : List Cable) : Type 0 where
   free : FormNoLoop used
 
 -- the one cable at a new node
-at_new : (nodes : List ℕ) (used : List Cable) (y : Cable) (e f : End) → Grown nodes used → In y.a.node nodes → (In y.b.node nodes → ⊥) → e.node ≡ y.b.node → Lists (y ∷ used) (cable e f) → e ≡ y.b
+at_new : (nodes : List ℕ) (used : List Cable) (y : Cable) (e f : End) → Grown nodes used →
+    In y.a.node nodes → (In y.b.node nodes → ⊥) → e.node ≡ y.b.node → Lists (y ∷ used) (cable e f) →
+    e ≡ y.b
 at_new nodes used y e f g near out at (inl (inl same)) = absurd (out (subst (λ (n : ℕ). In n nodes) (sym (ap (λ (z : Cable). z.a.node) same) ∙ at) near))
 at_new nodes used y e f g near out at (inl (inr same)) = ap (λ (z : Cable). z.a) same
 at_new nodes used y e f g near out at (inr l) = absurd (out (subst (λ (n : ℕ). In n nodes) at (g.inside (cable e f) l)))
 
 -- a cable between nodes of a part without the new node is an old one
-old_one : (used : List Cable) (part : ℕ) (y : Cable) (e f : End) → (Holds part y.b.node → ⊥) → Holds part e.node → Holds part f.node → Lists (y ∷ used) (cable e f) → Lists used (cable e f)
+old_one : (used : List Cable) (part : ℕ) (y : Cable) (e f : End) → (Holds part y.b.node → ⊥) →
+    Holds part e.node → Holds part f.node → Lists (y ∷ used) (cable e f) → Lists used (cable e f)
 old_one used part y e f out he hf (inl (inl same)) = absurd (out (subst (λ (n : ℕ). Holds part n) (ap (λ (z : Cable). z.b.node) same) hf))
 old_one used part y e f out he hf (inl (inr same)) = absurd (out (subst (λ (n : ℕ). Holds part n) (ap (λ (z : Cable). z.a.node) same) he))
 old_one used part y e f out he hf (inr l) = l
 
-grown_next : (nodes : List ℕ) (used : List Cable) (y : Cable) → Grown nodes used → In y.a.node nodes → (In y.b.node nodes → ⊥) → Grown (y.b.node ∷ nodes) (y ∷ used)
+grown_next : (nodes : List ℕ) (used : List Cable) (y : Cable) → Grown nodes used →
+    In y.a.node nodes → (In y.b.node nodes → ⊥) → Grown (y.b.node ∷ nodes) (y ∷ used)
 grown_next nodes used y g near out = record {
   inside = λ x l. elim l [
     | inl s ↦ elim s [
@@ -102,10 +104,12 @@ record Crossing (nodes : List ℕ) (cables : List Cable) : Type 0 where
   from : (z : Cable) → Lists cables z → IsSame z found ⊎ Lists rest z
   one_less : length cables ≡ suc (length rest)
 
-crosses : (nodes : List ℕ) (x : Cable) (xs : List Cable) → In x.a.node nodes → (In x.b.node nodes → ⊥) → Crossing nodes (x ∷ xs)
+crosses : (nodes : List ℕ) (x : Cable) (xs : List Cable) → In x.a.node nodes →
+    (In x.b.node nodes → ⊥) → Crossing nodes (x ∷ xs)
 crosses nodes x xs i o = record { found = x; rest = xs; near = i; out = o; from = λ z l. l; one_less = refl }
 
-crosses_back : (nodes : List ℕ) (x : Cable) (xs : List Cable) → In x.b.node nodes → (In x.a.node nodes → ⊥) → Crossing nodes (x ∷ xs)
+crosses_back : (nodes : List ℕ) (x : Cable) (xs : List Cable) → In x.b.node nodes →
+    (In x.a.node nodes → ⊥) → Crossing nodes (x ∷ xs)
 crosses_back nodes x xs i o = record {
   found = turned x;
   rest = xs;
@@ -128,12 +132,14 @@ later nodes x xs k = record {
   one_less = ap (λ (n : ℕ). suc n) k.one_less;
 }
 
-stays : (nodes : List ℕ) (x : Cable) (xs : List Cable) → has nodes x.a.node ≡ has nodes x.b.node → NoneLeadsOut xs (has nodes) → NoneLeadsOut (x ∷ xs) (has nodes)
+stays : (nodes : List ℕ) (x : Cable) (xs : List Cable) → has nodes x.a.node ≡ has nodes x.b.node →
+    NoneLeadsOut xs (has nodes) → NoneLeadsOut (x ∷ xs) (has nodes)
 stays nodes x xs e none z (inl (inl s)) = ap (λ (y : Cable). has nodes y.a.node) s ∙ e ∙ sym (ap (λ (y : Cable). has nodes y.b.node) s)
 stays nodes x xs e none z (inl (inr s)) = ap (λ (y : Cable). has nodes y.a.node) s ∙ sym e ∙ sym (ap (λ (y : Cable). has nodes y.b.node) s)
 stays nodes x xs e none z (inr l) = none z l
 
-crossing : (nodes : List ℕ) (cables : List Cable) → Crossing nodes cables ⊎ NoneLeadsOut cables (has nodes)
+crossing : (nodes : List ℕ) (cables : List Cable) →
+    Crossing nodes cables ⊎ NoneLeadsOut cables (has nodes)
 crossing nodes [] = inr (λ x l. absurd l)
 crossing nodes (x ∷ xs) = elim (in_or_not x.a.node nodes) [
   | inl a ↦ elim (in_or_not x.b.node nodes) [
@@ -167,7 +173,8 @@ record On (kept : List Cable) (node : ℕ) (nodes : List ℕ) (used rest : List 
   lengths : length nodes ≡ length used + 1
   total : length used + length rest ≡ length kept
 
-fewer_loops : (kept used : List Cable) → ((z : Cable) → Lists kept z → Lists used z) → FormNoLoop used → FormNoLoop kept
+fewer_loops : (kept used : List Cable) → ((z : Cable) → Lists kept z → Lists used z) →
+    FormNoLoop used → FormNoLoop kept
 fewer_loops kept used all free part x h looped = free part x h (λ z hz.
     let two = looped z hz in
     record {
@@ -188,10 +195,13 @@ no_rest : (rest : List Cable) (z : Cable) → length rest ≡ 0 → Lists rest z
 no_rest [] z e l = l
 no_rest (x ∷ xs) z e l = omega (arith, e)
 
-all_used : (kept : List Cable) (node : ℕ) (nodes : List ℕ) (used rest : List Cable) → On kept node nodes used rest → length rest ≡ 0 → FormNoLoop kept
+all_used : (kept : List Cable) (node : ℕ) (nodes : List ℕ) (used rest : List Cable) →
+    On kept node nodes used rest → length rest ≡ 0 → FormNoLoop kept
 all_used kept node nodes used rest o e = fewer_loops kept used (λ z l. elim (o.each z l) [ inl u ↦ u | inr r ↦ absurd (no_rest rest z e r) ]) o.grown.free
 
-none_left : (kept : List Cable) (set node n : ℕ) (nodes : List ℕ) (used rest : List Cable) → Way kept set node n → On kept node nodes used rest → NoneLeadsOut rest (has nodes) → length rest ≡ 0
+none_left : (kept : List Cable) (set node n : ℕ) (nodes : List ℕ) (used rest : List Cable) →
+    Way kept set node n → On kept node nodes used rest → NoneLeadsOut rest (has nodes) →
+    length rest ≡ 0
 none_left kept set node n nodes used rest w o none =
     let stay : NoneLeadsOut kept (has nodes) = λ z l. elim (o.each z l) [
       | inl u ↦ has-in nodes z.a.node (o.grown.inside z u) ∙ sym (has-in nodes z.b.node (o.grown.inside (turned z) (lists_turned used z u)))
@@ -200,7 +210,9 @@ none_left kept set node n nodes used rest w o none =
     let all : (x : ℕ) → Holds set x → In x nodes = λ x h. in-has nodes x (sym (w.join x h (has nodes) stay) ∙ has-in nodes node o.has_node) in
     omega (arith, size_within nodes set n w.ends w.small all, w.count, o.lengths, o.total)
 
-on_next : (kept : List Cable) (node : ℕ) (nodes : List ℕ) (used rest : List Cable) → On kept node nodes used rest → (k : Crossing nodes rest) → On kept node (k.found.b.node ∷ nodes) (k.found ∷ used) k.rest
+on_next : (kept : List Cable) (node : ℕ) (nodes : List ℕ) (used rest : List Cable) →
+    On kept node nodes used rest → (k : Crossing nodes rest) →
+    On kept node (k.found.b.node ∷ nodes) (k.found ∷ used) k.rest
 on_next kept node nodes used rest o k = record {
   grown = grown_next nodes used k.found o.grown k.near k.out;
   has_node = inr o.has_node;
@@ -212,7 +224,8 @@ on_next kept node nodes used rest o k = record {
   total = omega (arith, o.total, k.one_less);
 }
 
-grow : (fuel : ℕ) (kept : List Cable) (set node n : ℕ) (nodes : List ℕ) (used rest : List Cable) → length rest ≤ fuel → Way kept set node n → On kept node nodes used rest → FormNoLoop kept
+grow : (fuel : ℕ) (kept : List Cable) (set node n : ℕ) (nodes : List ℕ) (used rest : List Cable) →
+    length rest ≤ fuel → Way kept set node n → On kept node nodes used rest → FormNoLoop kept
 grow zero kept set node n nodes used rest h w o = all_used kept node nodes used rest o (omega (arith, h))
 grow (suc fuel) kept set node n nodes used rest h w o = elim (crossing nodes rest) [
   | inl k ↦ grow fuel kept set node n (k.found.b.node ∷ nodes) (k.found ∷ used) k.rest (omega (arith, h, k.one_less)) w (on_next kept node nodes used rest o k)
@@ -220,7 +233,8 @@ grow (suc fuel) kept set node n nodes used rest h w o = elim (crossing nodes res
 ]
 
 -- as many cables as nodes, less one, that join all nodes form no loop
-pub no_loop : (kept : List Cable) (set node n : ℕ) → n ≡ 63 → set < 2 ^ 63 → JoinAll kept node set → length kept + 1 ≡ size_below set n → FormNoLoop kept
+pub no_loop : (kept : List Cable) (set node n : ℕ) → n ≡ 63 → set < 2 ^ 63 → JoinAll kept node set →
+    length kept + 1 ≡ size_below set n → FormNoLoop kept
 no_loop kept set node n e small join count = grow (length kept) kept set node n (node ∷ []) [] kept (omega arith) (record { ends = e; small = small; join = join; count = count })
     (record {
       grown = record { inside = λ x l. absurd l; free = λ part x h looped. (looped x h).lists_one };

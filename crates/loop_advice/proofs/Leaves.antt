@@ -6,8 +6,7 @@ use Rattle.cabling.specs.declared.cable.Cable.{Cable}
 use Rattle.cabling.specs.Wiring.{Wiring, far, IsCabling}
 use Rattle.cabling.specs.NodeSet.{Holds, IsWithin, IsEmpty, size_below}
 use Rattle.cabling.specs.Looped.{HasTwo, IsCore, HasLeaves}
-use Rattle.cabling.proofs.Cascade.{Less, less_by, less_within, two_of}
-use Rattle.cabling.proofs.Ends.{one_other, same_end}
+use Rattle.cabling.proofs.Lemmas.{Less, less_by, less_within, two_of, one_other, same_end}
 use Rattle.loop_advice.specs.Cables.{turned, IsSame, Lists, HasNoneTwice}
 use Rattle.loop_advice.proofs.Listed.{lists_same, lists_turned, same_back}
 use Rattle.loop_advice.proofs.Marking.{cable}
@@ -28,7 +27,8 @@ pub record OneHas (P : Cable → Type 0) (cables : List Cable) : Type 0 where
   pub alike : (x z : Cable) → IsSame z x → P z → P x
   pub one : (x z : Cable) → Lists cables x → Lists cables z → P x → P z → IsSame z x
 
-away_here : (P : Cable → Type 0) (x : Cable) (xs : List Cable) → OneHas P (x ∷ xs) → HasNoneTwice (x ∷ xs) → P x → Away P (x ∷ xs)
+away_here : (P : Cable → Type 0) (x : Cable) (xs : List Cable) → OneHas P (x ∷ xs) →
+    HasNoneTwice (x ∷ xs) → P x → Away P (x ∷ xs)
 away_here P x xs k once p = record {
   rest = xs;
   once = once.1;
@@ -37,7 +37,8 @@ away_here P x xs k once p = record {
   few = omega arith;
 }
 
-away_later : (P : Cable → Type 0) (x : Cable) (xs : List Cable) → OneHas P (x ∷ xs) → HasNoneTwice (x ∷ xs) → (P x → ⊥) → Away P xs → Away P (x ∷ xs)
+away_later : (P : Cable → Type 0) (x : Cable) (xs : List Cable) → OneHas P (x ∷ xs) →
+    HasNoneTwice (x ∷ xs) → (P x → ⊥) → Away P xs → Away P (x ∷ xs)
 away_later P x xs k once no_p a = record {
   rest = x ∷ a.rest;
   once = ((λ l. once.0 (a.from x l)), a.once);
@@ -78,7 +79,9 @@ at_alike node x z (inr e) (inl a) = inr (sym (ap (λ (y : Cable). y.a.node) e) �
 at_alike node x z (inr e) (inr b) = inl (sym (ap (λ (y : Cable). y.b.node) e) ∙ b)
 
 -- two cables with their first ends at a node that has one cable are one
-one_at : (c : Wiring) (part node : ℕ) (cables : List Cable) → Inside c part cables → (HasTwo c part node → ⊥) → (x z : Cable) → Lists cables x → Lists cables z → x.a.node ≡ node → z.a.node ≡ node → z ≡ x
+one_at : (c : Wiring) (part node : ℕ) (cables : List Cable) → Inside c part cables →
+    (HasTwo c part node → ⊥) → (x z : Cable) → Lists cables x → Lists cables z → x.a.node ≡ node →
+    z.a.node ≡ node → z ≡ x
 one_at c part node cables k leaf x z l m ax az = elim (cases_eq x.a.port z.a.port) [
   | inl port ↦
       let end : z.a ≡ x.a = same_end z.a x.a (az ∙ sym ax) (sym port) in
@@ -91,7 +94,8 @@ one_at c part node cables k leaf x z l m ax az = elim (cases_eq x.a.port z.a.por
     leads y n at = subst (λ (v : ℕ). far c (record { node = v; port = y.a.port }) ≡ Some y.b) at (k.joined y n)
 
 -- a leaf has one cable at most
-one_has : (c : Wiring) (part node : ℕ) (cables : List Cable) → Inside c part cables → (HasTwo c part node → ⊥) → OneHas (At node) cables
+one_has : (c : Wiring) (part node : ℕ) (cables : List Cable) → Inside c part cables →
+    (HasTwo c part node → ⊥) → OneHas (At node) cables
 one_has c part node cables k leaf = record {
   dec = at_dec node;
   alike = at_alike node;
@@ -113,7 +117,8 @@ pub record Bare (c : Wiring) (set core : ℕ) : Type 0 where
   pub is : IsCore c set core
   pub empty : IsEmpty core
 
-inside_rest : (c : Wiring) (part node less : ℕ) (cables : List Cable) → Inside c part cables → Less part node less → (a : Away (At node) cables) → Inside c less a.rest
+inside_rest : (c : Wiring) (part node less : ℕ) (cables : List Cable) → Inside c part cables →
+    Less part node less → (a : Away (At node) cables) → Inside c less a.rest
 inside_rest c part node less cables k l a = record {
   once = a.once;
   joined = λ z m. k.joined z (a.from z m);
@@ -121,7 +126,8 @@ inside_rest c part node less cables k l a = record {
 }
 
 -- a part with a cable in it has two nodes at least
-two_nodes : (c : Wiring) (part n : ℕ) (x : Cable) (cables : List Cable) → n ≡ 63 → part < 2 ^ 63 → IsCabling c → Inside c part (x ∷ cables) → 2 ≤ size_below part n
+two_nodes : (c : Wiring) (part n : ℕ) (x : Cable) (cables : List Cable) → n ≡ 63 → part < 2 ^ 63 →
+    IsCabling c → Inside c part (x ∷ cables) → 2 ≤ size_below part n
 two_nodes c part n x cables e small is k =
     let first : Lists (x ∷ cables) x = inl (inl refl) in
     let found = less_by part x.a.node small (k.here x first) in
@@ -133,7 +139,9 @@ two_nodes c part n x cables e small is k =
 abbrev pub AreFewer : List Cable → ℕ → Type 0
 AreFewer cables size = (length cables ≡ 0) ⊎ (length cables + 1 ≤ size)
 
-pub fewer_cables : (fuel : ℕ) (c : Wiring) (set core part n : ℕ) (cables : List Cable) → size_below part n ≤ fuel → n ≡ 63 → part < 2 ^ 63 → Bare c set core → IsWithin part set → Inside c part cables → AreFewer cables (size_below part n)
+pub fewer_cables : (fuel : ℕ) (c : Wiring) (set core part n : ℕ) (cables : List Cable) →
+    size_below part n ≤ fuel → n ≡ 63 → part < 2 ^ 63 → Bare c set core → IsWithin part set →
+    Inside c part cables → AreFewer cables (size_below part n)
 fewer_cables fuel c set core part n [] h e small b within k = inl refl
 fewer_cables zero c set core part n (x ∷ xs) h e small b within k = absurd (omega (arith, h, two_nodes c part n x xs e small b.cabling k))
 fewer_cables (suc fuel) c set core part n (x ∷ xs) h e small b within k =

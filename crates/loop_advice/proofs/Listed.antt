@@ -46,7 +46,8 @@ lists_last xs y x l = elim (lists_append xs (y ∷ []) x l) [
   | inr b ↦ elim b [ inl s ↦ inr s | inr n ↦ absurd n ]
 ]
 
-pub once_last : (xs : List Cable) (y : Cable) → HasNoneTwice xs → (Lists xs y → ⊥) → HasNoneTwice (xs ++ y ∷ [])
+pub once_last : (xs : List Cable) (y : Cable) → HasNoneTwice xs → (Lists xs y → ⊥) →
+    HasNoneTwice (xs ++ y ∷ [])
 once_last [] y h out = ((λ l. l), tt)
 once_last (x ∷ xs) y h out = (
   (λ l. elim (lists_last xs y x l) [
@@ -57,36 +58,42 @@ once_last (x ∷ xs) y h out = (
 )
 
 -- a cable in the first part is not in the second
-pub once_parts : (xs : List Cable) (y : Cable) (ys : List Cable) → HasNoneTwice (xs ++ y ∷ ys) → Lists xs y → ⊥
+pub once_parts : (xs : List Cable) (y : Cable) (ys : List Cable) → HasNoneTwice (xs ++ y ∷ ys) →
+    Lists xs y → ⊥
 once_parts [] y ys h l = l
 once_parts (x ∷ xs) y ys h (inl s) = h.0 (lists_same (xs ++ y ∷ ys) y x (same_back y x s) (lists_right xs (y ∷ ys) y (inl (inl refl))))
 once_parts (x ∷ xs) y ys h (inr l) = once_parts xs y ys h.1 l
 
 -- ---- cables of a set of nodes
 
-pub of_turned : (c : Wiring) (set : ℕ) (x : Cable) → IsCabling c → IsClosed c set → IsCableOf c set x → IsCableOf c set (turned x)
+pub of_turned : (c : Wiring) (set : ℕ) (x : Cable) → IsCabling c → IsClosed c set →
+    IsCableOf c set x → IsCableOf c set (turned x)
 of_turned c set x is closed h = record {
   joined = is.both_ways x.a x.b h.joined;
   here = closed x.a x.b h.joined h.here;
 }
 
-pub of_same : (c : Wiring) (set : ℕ) (x y : Cable) → IsCabling c → IsClosed c set → IsSame y x → IsCableOf c set x → IsCableOf c set y
+pub of_same : (c : Wiring) (set : ℕ) (x y : Cable) → IsCabling c → IsClosed c set → IsSame y x →
+    IsCableOf c set x → IsCableOf c set y
 of_same c set x y is closed (inl e) h = subst (λ (z : Cable). IsCableOf c set z) (sym e) h
 of_same c set x y is closed (inr e) h = subst (λ (z : Cable). IsCableOf c set z) (sym e) (of_turned c set x is closed h)
 
 -- ---- a place of a list
 
-next_at : (xs : List Cable) (i : ℕ) (x : Cable) → slice_get xs i ≡ Some x → take (suc i) xs ≡ take i xs ++ x ∷ []
+next_at : (xs : List Cable) (i : ℕ) (x : Cable) → slice_get xs i ≡ Some x →
+    take (suc i) xs ≡ take i xs ++ x ∷ []
 next_at [] i x h = absurd cc
 next_at (y ∷ ys) zero x h = let e : y ≡ x = cc in ap (λ (z : Cable). z ∷ []) e
 next_at (y ∷ ys) (suc i) x h = ap (λ (zs : List Cable). y ∷ zs) (next_at ys i x h)
 
 -- the part before a place, and what stands there
-pub take_next : (xs : List Cable) (i : ℕ) (x : Cable) → slice_get xs i ≡ Some x → take (i + 1) xs ≡ take i xs ++ x ∷ []
+pub take_next : (xs : List Cable) (i : ℕ) (x : Cable) → slice_get xs i ≡ Some x →
+    take (i + 1) xs ≡ take i xs ++ x ∷ []
 take_next xs i x h = rw (add-one i) (next_at xs i x h)
 
 -- and what comes behind it
-pub parted : (xs : List Cable) (i : ℕ) (x : Cable) → slice_get xs i ≡ Some x → xs ≡ take i xs ++ x ∷ drop (suc i) xs
+pub parted : (xs : List Cable) (i : ℕ) (x : Cable) → slice_get xs i ≡ Some x →
+    xs ≡ take i xs ++ x ∷ drop (suc i) xs
 parted [] i x h = absurd cc
 parted (y ∷ ys) zero x h = let e : y ≡ x = cc in ap (λ (z : Cable). z ∷ ys) e
 parted (y ∷ ys) (suc i) x h = ap (λ (zs : List Cable). y ∷ zs) (parted ys i x h)
@@ -101,7 +108,8 @@ lists_take (y ∷ ys) (suc i) x (inl s) = inl s
 lists_take (y ∷ ys) (suc i) x (inr l) = inr (lists_take ys i x l)
 
 -- what is read at an index stands there
-pub read_at : (xs : List Cable) (i : ℕ) (d : Cable) → i < length xs → slice_get xs i ≡ Some (get_or xs i d)
+pub read_at : (xs : List Cable) (i : ℕ) (d : Cable) → i < length xs →
+    slice_get xs i ≡ Some (get_or xs i d)
 read_at [] i d h = absurd (omega (arith, h))
 read_at (y ∷ ys) zero d h = refl
 read_at (y ∷ ys) (suc i) d h = read_at ys i d (omega (arith, h))
@@ -113,13 +121,15 @@ pub not_true : IsTrue false → ⊥
 not_true h = cc
 
 -- no cable stands in both parts of a list in which none stands twice
-pub once_apart : (xs ys : List Cable) (z : Cable) → HasNoneTwice (xs ++ ys) → Lists xs z → Lists ys z → ⊥
+pub once_apart : (xs ys : List Cable) (z : Cable) → HasNoneTwice (xs ++ ys) → Lists xs z →
+    Lists ys z → ⊥
 once_apart [] ys z h l m = l
 once_apart (x ∷ xs) ys z h (inl s) m = h.0 (lists_right xs ys x (lists_same ys z x (same_back z x s) m))
 once_apart (x ∷ xs) ys z h (inr l) m = once_apart xs ys z h.1 l m
 
 -- two lists with no cable in both
-pub once_both : (xs ys : List Cable) → HasNoneTwice xs → HasNoneTwice ys → ((z : Cable) → Lists xs z → Lists ys z → ⊥) → HasNoneTwice (xs ++ ys)
+pub once_both : (xs ys : List Cable) → HasNoneTwice xs → HasNoneTwice ys →
+    ((z : Cable) → Lists xs z → Lists ys z → ⊥) → HasNoneTwice (xs ++ ys)
 once_both [] ys h k out = k
 once_both (x ∷ xs) ys h k out = (
   (λ l. elim (lists_append xs ys x l) [ inl a ↦ h.0 a | inr b ↦ out x (inl (inl refl)) b ]),

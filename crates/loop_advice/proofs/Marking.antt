@@ -6,7 +6,7 @@ use Rattle.cabling.specs.declared.cable.Cable.{Cable}
 use Rattle.cabling.specs.Wiring.{Wiring, far, IsCabling}
 use Rattle.cabling.specs.NodeSet.{Holds}
 use Rattle.cabling.specs.Component.{IsClosed}
-use Rattle.cabling.proofs.Ends.{cases_end, one_other, plugged}
+use Rattle.cabling.proofs.Lemmas.{cases_end, one_other, plugged}
 use Rattle.loop_advice.specs.Cables.{Lists, HasNoneTwice, IsCableOf, HoldsEachOnce}
 use Rattle.loop_advice.specs.codings.Marks.{place, IsMarked, AreMarked}
 use Rattle.loop_advice.specs.declared.marks.Marks.{Marks}
@@ -26,7 +26,8 @@ pub record Marking (c : Wiring) (set : ℕ) (done : List Cable) (m : Marks) : Ty
   pub marked : (a : End) → a.port < 16 → IsMarked m a → (b : End) × Lists done (cable a b)
   pub ends : (x : Cable) → Lists done x → IsMarked m x.a
 
-pub marking_first : (c : Wiring) (set : ℕ) (m : Marks) → ((end : End) → IsMarked m end → ⊥) → Marking c set [] m
+pub marking_first : (c : Wiring) (set : ℕ) (m : Marks) → ((end : End) → IsMarked m end → ⊥) →
+    Marking c set [] m
 marking_first c set m none = record {
   valid = λ x l. absurd l;
   once = tt;
@@ -56,7 +57,8 @@ same_place a b p q ne e = elim (cases_eq a.node b.node) [
 ]
 
 -- the cable at an end is the one that was listed
-pub at_end : (c : Wiring) (set : ℕ) (done : List Cable) (m : Marks) (x : Cable) → Marking c set done m → IsCableOf c set x → x.a.port < 16 → IsMarked m x.a → Lists done x
+pub at_end : (c : Wiring) (set : ℕ) (done : List Cable) (m : Marks) (x : Cable) →
+    Marking c set done m → IsCableOf c set x → x.a.port < 16 → IsMarked m x.a → Lists done x
 at_end c set done m x k of p h =
     let found = k.marked x.a p h in
     let end : found.0 ≡ x.b = one_other (far c x.a) found.0 x.b (k.valid (cable x.a found.0) found.1).joined of.joined in
@@ -66,7 +68,8 @@ at_end c set done m x k of p h =
 pub record Marked (m after : Marks) (x : Cable) : Type 0 where
   pub near : IsMarked after x.a
   pub other : IsMarked after x.b
-  pub rest : (e : End) → place e ≢ place x.a → place e ≢ place x.b → (IsMarked after e ↔ IsMarked m e)
+  pub rest : (e : End) → place e ≢ place x.a → place e ≢ place x.b →
+      (IsMarked after e ↔ IsMarked m e)
   pub kept : (e : End) → IsMarked m e → IsMarked after e
 
 pub marked_both : (m between after : Marks) (x : Cable) →
@@ -120,14 +123,16 @@ marking_next c set done m after x is closed k of free h =
     }
 
 -- where all ends of the set are marked the list has each cable
-pub all_listed : (c : Wiring) (set : ℕ) (done : List Cable) (m : Marks) → IsCabling c → Marking c set done m → AreMarked c m set → HoldsEachOnce c set done
+pub all_listed : (c : Wiring) (set : ℕ) (done : List Cable) (m : Marks) → IsCabling c →
+    Marking c set done m → AreMarked c m set → HoldsEachOnce c set done
 all_listed c set done m is k all = record {
   once = k.once;
   all = λ x. (k.valid x, λ of. at_end c set done m x k of (few_ports c x.a x.b is of.joined) (all x.a.node of.here x.a x.b of.joined refl));
 }
 
 -- where it has each cable all ends are marked
-pub all_marked : (c : Wiring) (set : ℕ) (done : List Cable) (m : Marks) → Marking c set done m → HoldsEachOnce c set done → AreMarked c m set
+pub all_marked : (c : Wiring) (set : ℕ) (done : List Cable) (m : Marks) → Marking c set done m →
+    HoldsEachOnce c set done → AreMarked c m set
 all_marked c set done m k each node h a b e at =
     let here : Holds set a.node = subst (λ (n : ℕ). Holds set n) (sym at) h in
     k.ends (cable a b) ((each.all (cable a b)).1 (record { joined = e; here = here }))

@@ -6,8 +6,7 @@ use Rattle.cabling.specs.declared.cable.Cable.{Cable}
 use Rattle.cabling.specs.Wiring.{Wiring}
 use Rattle.cabling.specs.NodeSet.{Holds, size_below}
 use Rattle.cabling.specs.Component.{IsClosed, IsComponent}
-use Rattle.cabling.proofs.Bits.{below}
-use Rattle.cabling.proofs.Cascade.{holds_or_not, Less, less_by, not_gone}
+use Rattle.cabling.proofs.Lemmas.{below, holds_or_not, Less, less_by, not_gone}
 use Rattle.loop_advice.specs.Cables.{HoldsEachOnce}
 use Rattle.loop_advice.specs.codings.Groups.{group, merged}
 use Rattle.loop_advice.specs.declared.groups.Groups.{Groups}
@@ -25,7 +24,8 @@ pub record Rooted (set n : ℕ) (g : Groups) (kept : List Cable) : Type 0 where
   pub are : (x : ℕ) → Holds roots x ↔ (Holds set x × (group g x ≡ x))
   pub count : size_below roots n + length kept ≡ size_below set n
 
-pub rooted_first : (set n : ℕ) (g : Groups) → set < 2 ^ 63 → ((x : ℕ) → x < 63 → group g x ≡ x) → Rooted set n g []
+pub rooted_first : (set n : ℕ) (g : Groups) → set < 2 ^ 63 → ((x : ℕ) → x < 63 → group g x ≡ x) →
+    Rooted set n g []
 rooted_first set n g small is = record {
   own = λ x h. ap (λ (y : ℕ). group g y) (is x h);
   few = λ x h. subst (λ (y : ℕ). y < 63) (sym (is x h)) h;
@@ -44,20 +44,24 @@ record Joining (g after : Groups) (a b : ℕ) : Type 0 where
   is : (x : ℕ) → x < 63 → group after x ≡ merged (group g b) (group g a) (group g x)
 
 -- a node of the group that was taken in, and any other node
-taken : (g after : Groups) (a b x : ℕ) → Joining g after a b → x < 63 → group g x ≡ group g b → group after x ≡ group g a
+taken : (g after : Groups) (a b x : ℕ) → Joining g after a b → x < 63 → group g x ≡ group g b →
+    group after x ≡ group g a
 taken g after a b x j h e = j.is x h ∙ merged-same (group g b) (group g a) (group g x) e
 
-stays : (g after : Groups) (a b x : ℕ) → Joining g after a b → x < 63 → group g x ≢ group g b → group after x ≡ group g x
+stays : (g after : Groups) (a b x : ℕ) → Joining g after a b → x < 63 → group g x ≢ group g b →
+    group after x ≡ group g x
 stays g after a b x j h ne = j.is x h ∙ merged-other (group g b) (group g a) (group g x) ne
 
 -- what holds of the group of the first node and of the group that a node had holds of its group now
-of_either : (P : ℕ → Type 0) (g after : Groups) (a b x : ℕ) → Joining g after a b → x < 63 → P (group g a) → P (group g x) → P (group after x)
+of_either : (P : ℕ → Type 0) (g after : Groups) (a b x : ℕ) → Joining g after a b → x < 63 →
+    P (group g a) → P (group g x) → P (group after x)
 of_either P g after a b x j h first same = elim (cases_eq (group g x) (group g b)) [
   | inl e ↦ subst P (sym (taken g after a b x j h e)) first
   | inr ne ↦ subst P (sym (stays g after a b x j h ne)) same
 ]
 
-own_next : (set n : ℕ) (g after : Groups) (kept : List Cable) (a b x : ℕ) → Rooted set n g kept → Joining g after a b → x < 63 → group after (group after x) ≡ group after x
+own_next : (set n : ℕ) (g after : Groups) (kept : List Cable) (a b x : ℕ) → Rooted set n g kept →
+    Joining g after a b → x < 63 → group after (group after x) ≡ group after x
 own_next set n g after kept a b x r j h = elim (cases_eq (group g x) (group g b)) [
   | inl e ↦
       let now : group after x ≡ group g a = taken g after a b x j h e in
@@ -72,11 +76,13 @@ own_next set n g after kept a b x r j h = elim (cases_eq (group g x) (group g b)
 ]
 
 -- a root is still one, if it isn't the one that was taken in
-root_still : (set n : ℕ) (g after : Groups) (kept : List Cable) (a b x : ℕ) → Rooted set n g kept → Joining g after a b → x < 63 → group g x ≡ x → x ≢ group g b → group after x ≡ x
+root_still : (set n : ℕ) (g after : Groups) (kept : List Cable) (a b x : ℕ) → Rooted set n g kept →
+    Joining g after a b → x < 63 → group g x ≡ x → x ≢ group g b → group after x ≡ x
 root_still set n g after kept a b x r j h e ne = stays g after a b x j h (λ same. ne (sym e ∙ same)) ∙ e
 
 -- and no other node becomes one
-root_before : (set n : ℕ) (g after : Groups) (kept : List Cable) (a b x : ℕ) → Rooted set n g kept → Joining g after a b → x < 63 → group after x ≡ x → (group g x ≡ x) × (x ≢ group g b)
+root_before : (set n : ℕ) (g after : Groups) (kept : List Cable) (a b x : ℕ) → Rooted set n g kept →
+    Joining g after a b → x < 63 → group after x ≡ x → (group g x ≡ x) × (x ≢ group g b)
 root_before set n g after kept a b x r j h e = elim (cases_eq (group g x) (group g b)) [
   | inl same ↦
       let is : group g a ≡ x = sym (taken g after a b x j h same) ∙ e in
@@ -88,7 +94,8 @@ root_before set n g after kept a b x r j h e = elim (cases_eq (group g x) (group
 ]
 
 -- a kept cable takes one root away
-pub rooted_next : (set n : ℕ) (g after : Groups) (kept : List Cable) (x : Cable) → n ≡ 63 → set < 2 ^ 63 → Holds set x.a.node → Holds set x.b.node →
+pub rooted_next : (set n : ℕ) (g after : Groups) (kept : List Cable) (x : Cable) → n ≡ 63 →
+    set < 2 ^ 63 → Holds set x.a.node → Holds set x.b.node →
     group g x.a.node ≢ group g x.b.node →
     ((node : ℕ) → node < 63 → group after node ≡ merged (group g x.b.node) (group g x.a.node) (group g node)) →
     Rooted set n g kept → Rooted set n after (kept ++ x ∷ [])
@@ -122,7 +129,8 @@ rooted_next set n g after kept x e small here there apart is r =
 -- ---- after all cables
 
 -- the nodes of the set below a number that are in one group, and the rest of the set
-only : (set k : ℕ) (g : Groups) (n : ℕ) → set < 2 ^ 63 → (part : ℕ) × (part < 2 ^ 63) × ((x : ℕ) → Holds part x ↔ (Holds set x × (x < n → group g x ≡ k)))
+only : (set k : ℕ) (g : Groups) (n : ℕ) → set < 2 ^ 63 →
+    (part : ℕ) × (part < 2 ^ 63) × ((x : ℕ) → Holds part x ↔ (Holds set x × (x < n → group g x ≡ k)))
 only set k g zero small = (set, small, λ x. ((λ h. (h, λ less. absurd (omega (arith, less)))), (λ h. h.0)))
 only set k g (suc n) small =
     let before = only set k g n small in
@@ -173,7 +181,9 @@ only set k g (suc n) small =
     ]
 
 -- the nodes of a component are in one group
-pub one_group : (c : Wiring) (node set n : ℕ) (g : Groups) (cables : List Cable) → n ≡ 63 → set < 2 ^ 63 → IsComponent c node set → HoldsEachOnce c set cables → Grouped g cables → (x : ℕ) → Holds set x → group g node ≡ group g x
+pub one_group : (c : Wiring) (node set n : ℕ) (g : Groups) (cables : List Cable) → n ≡ 63 →
+    set < 2 ^ 63 → IsComponent c node set → HoldsEachOnce c set cables → Grouped g cables →
+    (x : ℕ) → Holds set x → group g node ≡ group g x
 one_group c node set n g cables ends small is each h x here =
     let part = only set (group g node) g n small in
     let closed : IsClosed c part.0 = λ a b e in_part.
@@ -185,7 +195,9 @@ one_group c node set n g cables ends small is each h x here =
     sym (((part.2 x).0 (is.least part.0 holds closed x here)).1 (omega (arith, ends, below set x small here)))
 
 -- so it has one root, and as many kept cables as nodes, less one
-pub one_root : (set n node : ℕ) (g : Groups) (kept : List Cable) → n ≡ 63 → set < 2 ^ 63 → Holds set node → Rooted set n g kept → ((x : ℕ) → Holds set x → group g node ≡ group g x) → length kept + 1 ≡ size_below set n
+pub one_root : (set n node : ℕ) (g : Groups) (kept : List Cable) → n ≡ 63 → set < 2 ^ 63 →
+    Holds set node → Rooted set n g kept → ((x : ℕ) → Holds set x → group g node ≡ group g x) →
+    length kept + 1 ≡ size_below set n
 one_root set n node g kept e small here r same =
     let root : Holds r.roots (group g node) = (r.are (group g node)).1 (r.inside node here, r.own node (below set node small here)) in
     let most : size_below r.roots n ≤ 1 = size_within (group g node ∷ []) r.roots n e r.small (λ x h. let is = (r.are x).0 h in inl (sym is.1 ∙ sym (same x is.0))) in

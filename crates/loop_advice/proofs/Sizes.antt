@@ -3,9 +3,7 @@ use Rattle.std.proofs.Common.{◌≡◌, ◌≢◌, ℕ, zero, suc, ◌^◌, ◌
 use Rattle.std.specs.Int.{bit_at}
 use Rattle.std.proofs.lemmas.Bool.{cases_eq}
 use Rattle.cabling.specs.NodeSet.{Holds, size_below}
-use Rattle.cabling.proofs.Bits.{clear_bit, below}
-use Rattle.cabling.proofs.Cascade.{holds_or_not, Less, less_by}
-use Rattle.cabling.proofs.Once.{In}
+use Rattle.cabling.proofs.Lemmas.{clear_bit, below, holds_or_not, Less, less_by, In}
 
 same_bit : (set node less x : ℕ) → Less set node less → x ≢ node → bit_at set x ≡ bit_at less x
 same_bit set node less x l ne = elim (holds_or_not set x) [
@@ -13,11 +11,13 @@ same_bit set node less x l ne = elim (holds_or_not set x) [
   | inr n ↦ clear_bit set x n ∙ sym (clear_bit less x (λ o. n ((l.others x ne).0 o)))
 ]
 
-size_up_to : (set node less n : ℕ) → Less set node less → n ≤ node → size_below set n ≡ size_below less n
+size_up_to : (set node less n : ℕ) → Less set node less → n ≤ node →
+    size_below set n ≡ size_below less n
 size_up_to set node less zero l h = refl
 size_up_to set node less (suc n) l h = omega (arith, size_up_to set node less n l (omega (arith, h)), same_bit set node less n l (λ e. omega (arith, e, h)))
 
-size_past : (set node less n : ℕ) → Less set node less → Holds set node → node < n → size_below set n ≡ suc (size_below less n)
+size_past : (set node less n : ℕ) → Less set node less → Holds set node → node < n →
+    size_below set n ≡ suc (size_below less n)
 size_past set node less zero l is h = absurd (omega (arith, h))
 size_past set node less (suc n) l is h = elim (cases_eq n node) [
   | inl same ↦
@@ -29,11 +29,13 @@ size_past set node less (suc n) l is h = elim (cases_eq n node) [
 ]
 
 -- one node less
-pub size_less : (set node less n : ℕ) → n ≡ 63 → set < 2 ^ 63 → Less set node less → Holds set node → size_below set n ≡ suc (size_below less n)
+pub size_less : (set node less n : ℕ) → n ≡ 63 → set < 2 ^ 63 → Less set node less →
+    Holds set node → size_below set n ≡ suc (size_below less n)
 size_less set node less n e small l is = size_past set node less n l is (omega (arith, e, below set node small is))
 
 -- a set has at most as many nodes as a list that has each of them
-pub size_within : (xs : List ℕ) (set n : ℕ) → n ≡ 63 → set < 2 ^ 63 → ((x : ℕ) → Holds set x → In x xs) → size_below set n ≤ length xs
+pub size_within : (xs : List ℕ) (set n : ℕ) → n ≡ 63 → set < 2 ^ 63 →
+    ((x : ℕ) → Holds set x → In x xs) → size_below set n ≤ length xs
 size_within [] set n e small h = none n
   where
     none : (m : ℕ) → size_below set m ≤ 0

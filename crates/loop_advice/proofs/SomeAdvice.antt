@@ -9,10 +9,7 @@ use Rattle.cabling.specs.declared.cable.Cable.{Cable}
 use Rattle.cabling.specs.Wiring.{Wiring, ports_of, far, IsCabling}
 use Rattle.cabling.specs.NodeSet.{Holds}
 use Rattle.cabling.specs.Component.{IsClosed}
-use Rattle.cabling.proofs.Ends.{none_some, one_other}
-use Rattle.cabling.proofs.Near.{end_at}
-use Rattle.cabling.proofs.Cascade.{holds_or_not}
-use Rattle.cabling.proofs.Existing.{component_exists}
+use Rattle.cabling.proofs.Lemmas.{none_some, one_other, end_at, holds_or_not, component_exists}
 use Rattle.loop_advice.specs.Order.{AreInOrder}
 use Rattle.loop_advice.specs.SomeAdvice.{AdvicesExist}
 use Rattle.loop_advice.specs.declared.groups.Groups.{Groups}
@@ -30,7 +27,9 @@ record Found (c : Wiring) (set node port : ℕ) : Type 0 where
   cables : List Cable
   are : Collected c set node port cables
 
-at_port : (c : Wiring) (set node port : ℕ) (x : Option End) → IsCabling c → IsClosed c set → Holds set node → far c (end_at node port) ≡ x → Found c set node port → Found c set node (port + 1)
+at_port : (c : Wiring) (set node port : ℕ) (x : Option End) → IsCabling c → IsClosed c set →
+    Holds set node → far c (end_at node port) ≡ x → Found c set node port →
+    Found c set node (port + 1)
 at_port c set node port None is closed h e f = record {
   cables = f.cables;
   are = collected_none c set node port f.cables (λ b g low. none_some (far c (end_at node port)) b e g) f.are;
@@ -47,13 +46,15 @@ at_port c set node port (Some other) is closed h e f = elim (cases_lt node other
   }
 ]
 
-to_port : (c : Wiring) (set node ports : ℕ) → IsCabling c → IsClosed c set → Holds set node → Found c set node 0 → Found c set node ports
+to_port : (c : Wiring) (set node ports : ℕ) → IsCabling c → IsClosed c set → Holds set node →
+    Found c set node 0 → Found c set node ports
 to_port c set node zero is closed h f = f
 to_port c set node (suc ports) is closed h f =
     subst (λ (n : ℕ). Found c set node n) (omega arith)
     (at_port c set node ports (far c (end_at node ports)) is closed h refl (to_port c set node ports is closed h f))
 
-at_node : (c : Wiring) (set node : ℕ) → IsCabling c → IsClosed c set → Found c set node 0 → Found c set (node + 1) 0
+at_node : (c : Wiring) (set node : ℕ) → IsCabling c → IsClosed c set → Found c set node 0 →
+    Found c set (node + 1) 0
 at_node c set node is closed f = elim (holds_or_not set node) [
   | inr out ↦ record { cables = f.cables; are = collected_skip c set node f.cables out f.are }
   | inl h ↦
@@ -80,7 +81,8 @@ in_order c set is closed =
 groups_of : ℕ → (ℕ → ℕ) → Groups
 groups_of n number = record { of = map number (range_with_len 0 n) }
 
-group-groups_of : (n : ℕ) (number : ℕ → ℕ) (node : ℕ) → node < n → group (groups_of n number) node ≡ number node
+group-groups_of : (n : ℕ) (number : ℕ → ℕ) (node : ℕ) → node < n →
+    group (groups_of n number) node ≡ number node
 unfolding groups_of
 group-groups_of n number node less = get_or-map-range_with_len number 0 n node node 0 less (omega arith)
 
@@ -121,7 +123,8 @@ placed_first c set n e small =
       split = split_first c set n groups small (λ node less. group-groups_of n (λ y. y) node (omega (arith, less, e)));
     }
 
-placed_next : (c : Wiring) (set n : ℕ) (done : List Cable) (x : Cable) (rest : List Cable) → n ≡ 63 → Place c set done x rest → Placed c set n done → Placed c set n (done ++ x ∷ [])
+placed_next : (c : Wiring) (set n : ℕ) (done : List Cable) (x : Cable) (rest : List Cable) →
+    n ≡ 63 → Place c set done x rest → Placed c set n done → Placed c set n (done ++ x ∷ [])
 placed_next c set n done x rest e place p =
     let s : Next p.stand x = next n p.stand x e in
     record {
@@ -129,7 +132,9 @@ placed_next c set n done x rest e place p =
       split = split_next c set n done x rest p.stand.groups s.new.groups p.stand.pulls s.new.pulls p.stand.kept s.new.kept e place s.placed p.split;
     }
 
-placed_all : (c : Wiring) (set n : ℕ) (done rest : List Cable) → n ≡ 63 → IsCabling c → IsClosed c set → set < 2 ^ 63 → AreInOrder c set (done ++ rest) → Placed c set n done → Placed c set n (done ++ rest)
+placed_all : (c : Wiring) (set n : ℕ) (done rest : List Cable) → n ≡ 63 → IsCabling c →
+    IsClosed c set → set < 2 ^ 63 → AreInOrder c set (done ++ rest) → Placed c set n done →
+    Placed c set n (done ++ rest)
 placed_all c set n done [] e is closed small order p = subst (λ (xs : List Cable). Placed c set n xs) (sym (append-nil done)) p
 placed_all c set n done (x ∷ rest) e is closed small order p =
     let same : (done ++ x ∷ []) ++ rest ≡ done ++ x ∷ rest = append_assoc done (x ∷ []) rest in

@@ -5,7 +5,7 @@ use Rattle.cabling.specs.declared.cable.Cable.{Cable}
 use Rattle.cabling.specs.Wiring.{Wiring, IsCabling}
 use Rattle.cabling.specs.NodeSet.{Holds, size_below}
 use Rattle.cabling.specs.Component.{IsClosed, IsComponent}
-use Rattle.cabling.proofs.Bits.{below}
+use Rattle.cabling.proofs.Lemmas.{below}
 use Rattle.loop_advice.specs.Cables.{IsSame, Lists, IsCableOf, HoldsEachOnce}
 use Rattle.loop_advice.specs.Order.{ComesBefore, AreRising, AreInOrder}
 use Rattle.loop_advice.specs.Advised.{IsLowFirst, IsAdvised, AreAdvised}
@@ -30,7 +30,8 @@ pub record Part (done part : List Cable) : Type 0 where
 part_first : Part [] []
 part_first = record { within = λ z l. l; rise = tt; before = λ e h. tt }
 
-before_first : (xs : List Cable) (x : Cable) (e : End) → AllComeBefore (xs ++ x ∷ []) e → AllComeBefore xs e × ComesBefore x.a e
+before_first : (xs : List Cable) (x : Cable) (e : End) → AllComeBefore (xs ++ x ∷ []) e →
+    AllComeBefore xs e × ComesBefore x.a e
 before_first [] x e h = (tt, h.0)
 before_first (y ∷ ys) x e h = let rest = before_first ys x e h.1 in ((h.0, rest.0), rest.1)
 
@@ -43,7 +44,8 @@ part_same done part x p = record {
 }
 
 -- it goes here
-part_next : (done part : List Cable) (x : Cable) → AllComeBefore done x.a → x.a.node < x.b.node → Part done part → Part (done ++ x ∷ []) (part ++ x ∷ [])
+part_next : (done part : List Cable) (x : Cable) → AllComeBefore done x.a → x.a.node < x.b.node →
+    Part done part → Part (done ++ x ∷ []) (part ++ x ∷ [])
 part_next done part x h low p = record {
   within = λ z l. elim (lists_last part x z l) [
     | inl old ↦ lists_left done (x ∷ []) z (p.within z old)
@@ -65,7 +67,8 @@ pub record Split (c : Wiring) (set n : ℕ) (done : List Cable) (g : Groups) (pu
   pub pulled : (z : Cable) → Lists pulls z → z.a.node < z.b.node → IsAdvised c set z
   pub left : (z : Cable) → Lists kept z → z.a.node < z.b.node → IsAdvised c set z → ⊥
 
-pub split_first : (c : Wiring) (set n : ℕ) (g : Groups) → set < 2 ^ 63 → ((node : ℕ) → node < 63 → group g node ≡ node) → Split c set n [] g [] []
+pub split_first : (c : Wiring) (set n : ℕ) (g : Groups) → set < 2 ^ 63 →
+    ((node : ℕ) → node < 63 → group g node ≡ node) → Split c set n [] g [] []
 split_first c set n g small own = record {
   grouped = grouped_first g own;
   joins = grouped_first g own;
@@ -85,26 +88,33 @@ pub record Place (c : Wiring) (set : ℕ) (done : List Cable) (x : Cable) (rest 
   pub small : set < 2 ^ 63
   pub order : AreInOrder c set (done ++ x ∷ rest)
 
-place_of : (c : Wiring) (set : ℕ) (done : List Cable) (x : Cable) (rest : List Cable) → Place c set done x rest → IsCableOf c set x
+place_of : (c : Wiring) (set : ℕ) (done : List Cable) (x : Cable) (rest : List Cable) →
+    Place c set done x rest → IsCableOf c set x
 place_of c set done x rest p = (p.order.each.all x).0 (lists_right done (x ∷ rest) x (inl (inl refl)))
 
-place_far : (c : Wiring) (set : ℕ) (done : List Cable) (x : Cable) (rest : List Cable) → Place c set done x rest → Holds set x.b.node
+place_far : (c : Wiring) (set : ℕ) (done : List Cable) (x : Cable) (rest : List Cable) →
+    Place c set done x rest → Holds set x.b.node
 place_far c set done x rest p = (of_turned c set x p.cabling p.closed (place_of c set done x rest p)).here
 
-place_low : (c : Wiring) (set : ℕ) (done : List Cable) (x : Cable) (rest : List Cable) → Place c set done x rest → x.a.node < x.b.node
+place_low : (c : Wiring) (set : ℕ) (done : List Cable) (x : Cable) (rest : List Cable) →
+    Place c set done x rest → x.a.node < x.b.node
 place_low c set done x rest p = (rising_from done (x ∷ rest) p.order.rising).0
 
-place_new : (c : Wiring) (set : ℕ) (done : List Cable) (x z : Cable) (rest : List Cable) → Place c set done x rest → IsSame z x → Lists done z → ⊥
+place_new : (c : Wiring) (set : ℕ) (done : List Cable) (x z : Cable) (rest : List Cable) →
+    Place c set done x rest → IsSame z x → Lists done z → ⊥
 place_new c set done x z rest p s l = once_parts done x rest p.order.each.once (lists_same done z x (same_back z x s) l)
 
-small_a : (c : Wiring) (set : ℕ) (done : List Cable) (x : Cable) (rest : List Cable) → Place c set done x rest → (z : Cable) → Lists done z → z.a.node < 63
+small_a : (c : Wiring) (set : ℕ) (done : List Cable) (x : Cable) (rest : List Cable) →
+    Place c set done x rest → (z : Cable) → Lists done z → z.a.node < 63
 small_a c set done x rest p z l = below set z.a.node p.small ((p.order.each.all z).0 (lists_left done (x ∷ rest) z l)).here
 
-small_b : (c : Wiring) (set : ℕ) (done : List Cable) (x : Cable) (rest : List Cable) → Place c set done x rest → (z : Cable) → Lists done z → z.b.node < 63
+small_b : (c : Wiring) (set : ℕ) (done : List Cable) (x : Cable) (rest : List Cable) →
+    Place c set done x rest → (z : Cable) → Lists done z → z.b.node < 63
 small_b c set done x rest p z l = below set z.b.node p.small (of_turned c set z p.cabling p.closed ((p.order.each.all z).0 (lists_left done (x ∷ rest) z l))).here
 
 -- a cable whose nodes are in one group
-split_pulled : (c : Wiring) (set n : ℕ) (done : List Cable) (x : Cable) (rest pulls kept : List Cable) (g : Groups) → Place c set done x rest → group g x.a.node ≡ group g x.b.node →
+split_pulled : (c : Wiring) (set n : ℕ) (done : List Cable) (x : Cable) (rest pulls kept : List Cable) (g : Groups) →
+    Place c set done x rest → group g x.a.node ≡ group g x.b.node →
     Split c set n done g pulls kept →
     Split c set n (done ++ x ∷ []) g (pulls ++ x ∷ []) kept
 split_pulled c set n done x rest pulls kept g p same s =
@@ -134,7 +144,8 @@ split_pulled c set n done x rest pulls kept g p same s =
     }
 
 -- a cable that joins two groups
-split_kept : (c : Wiring) (set n : ℕ) (done : List Cable) (x : Cable) (rest pulls kept : List Cable) (g after : Groups) → n ≡ 63 → Place c set done x rest → group g x.a.node ≢ group g x.b.node →
+split_kept : (c : Wiring) (set n : ℕ) (done : List Cable) (x : Cable) (rest pulls kept : List Cable) (g after : Groups) →
+    n ≡ 63 → Place c set done x rest → group g x.a.node ≢ group g x.b.node →
     ((node : ℕ) → node < 63 → group after node ≡ merged (group g x.b.node) (group g x.a.node) (group g node)) →
     Split c set n done g pulls kept →
     Split c set n (done ++ x ∷ []) after pulls (kept ++ x ∷ [])
@@ -167,7 +178,8 @@ split_kept c set n done x rest pulls kept g after e p ne is s =
     }
 
 -- the next cable was placed
-pub split_next : (c : Wiring) (set n : ℕ) (done : List Cable) (x : Cable) (rest : List Cable) (g after : Groups) (pulls pulls_after kept kept_after : List Cable) → n ≡ 63 → Place c set done x rest →
+pub split_next : (c : Wiring) (set n : ℕ) (done : List Cable) (x : Cable) (rest : List Cable) (g after : Groups) (pulls pulls_after kept kept_after : List Cable) →
+    n ≡ 63 → Place c set done x rest →
     WasPlaced (record { groups = g; pulls = pulls; kept = kept }) (record { groups = after; pulls = pulls_after; kept = kept_after }) x →
     Split c set n done g pulls kept → Split c set n (done ++ x ∷ []) after pulls_after kept_after
 split_next c set n done x rest g after pulls pulls_after kept kept_after e p (inl w) s =
@@ -182,7 +194,9 @@ split_next c set n done x rest g after pulls pulls_after kept kept_after e p (in
 
 -- ---- all cables were placed
 
-each_once : (c : Wiring) (set n : ℕ) (cables : List Cable) (g : Groups) (pulls kept : List Cable) → AreInOrder c set cables → Split c set n cables g pulls kept → HoldsEachOnce c set (pulls ++ kept)
+each_once : (c : Wiring) (set n : ℕ) (cables : List Cable) (g : Groups) (pulls kept : List Cable) →
+    AreInOrder c set cables → Split c set n cables g pulls kept →
+    HoldsEachOnce c set (pulls ++ kept)
 each_once c set n cables g pulls kept order s = record {
   once = once_both pulls kept (rising_once pulls s.first.rise) (rising_once kept s.second.rise) s.apart;
   all = λ z. (
@@ -191,7 +205,8 @@ each_once c set n cables g pulls kept order s = record {
   );
 }
 
-pub split_advised : (c : Wiring) (set n : ℕ) (cables : List Cable) (g : Groups) (pulls kept : List Cable) → AreInOrder c set cables → Split c set n cables g pulls kept → AreAdvised c set pulls kept
+pub split_advised : (c : Wiring) (set n : ℕ) (cables : List Cable) (g : Groups) (pulls kept : List Cable) →
+    AreInOrder c set cables → Split c set n cables g pulls kept → AreAdvised c set pulls kept
 split_advised c set n cables g pulls kept order s = record {
   each = each_once c set n cables g pulls kept order s;
   pulls_rise = s.first.rise;
@@ -206,7 +221,9 @@ split_advised c set n cables g pulls kept order s = record {
   );
 }
 
-pub split_valid : (c : Wiring) (node set n : ℕ) (cables : List Cable) (g : Groups) (pulls kept : List Cable) → n ≡ 63 → set < 2 ^ 63 → IsComponent c node set → AreInOrder c set cables → Split c set n cables g pulls kept → IsCertificate c node pulls kept
+pub split_valid : (c : Wiring) (node set n : ℕ) (cables : List Cable) (g : Groups) (pulls kept : List Cable) →
+    n ≡ 63 → set < 2 ^ 63 → IsComponent c node set → AreInOrder c set cables →
+    Split c set n cables g pulls kept → IsCertificate c node pulls kept
 split_valid c node set n cables g pulls kept e small is order s =
     let same : (x : ℕ) → Holds set x → group g node ≡ group g x = one_group c node set n g cables e small is order.each s.grouped in
     record {
@@ -219,16 +236,19 @@ split_valid c node set n cables g pulls kept e small is order s =
 
 -- ---- the same nodes in another set
 
-low_first_of : (c : Wiring) (set other : ℕ) (z : Cable) → HaveTheSame set other → IsLowFirst c set z → IsLowFirst c other z
+low_first_of : (c : Wiring) (set other : ℕ) (z : Cable) → HaveTheSame set other →
+    IsLowFirst c set z → IsLowFirst c other z
 low_first_of c set other z h is = record { of_set = of_other c set other z h is.of_set; low = is.low }
 
 back : (set other : ℕ) → HaveTheSame set other → HaveTheSame other set
 back set other h x = ((h x).1, (h x).0)
 
-advised_of : (c : Wiring) (set other : ℕ) (z : Cable) → HaveTheSame set other → IsAdvised c set z → IsAdvised c other z
+advised_of : (c : Wiring) (set other : ℕ) (z : Cable) → HaveTheSame set other → IsAdvised c set z →
+    IsAdvised c other z
 advised_of c set other z h advised test none = advised test (λ y is before. none y (low_first_of c set other y h is) before)
 
-pub same_advised : (c : Wiring) (set other : ℕ) (pulls kept : List Cable) → HaveTheSame set other → AreAdvised c set pulls kept → AreAdvised c other pulls kept
+pub same_advised : (c : Wiring) (set other : ℕ) (pulls kept : List Cable) → HaveTheSame set other →
+    AreAdvised c set pulls kept → AreAdvised c other pulls kept
 same_advised c set other pulls kept h a = record {
   each = same_each c set other (pulls ++ kept) h a.each;
   pulls_rise = a.pulls_rise;

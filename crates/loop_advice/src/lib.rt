@@ -18,4 +18,3 @@ pub use cables_in_order::cables_of;
 pub use cabling::OutOfMemory;
 pub use certificate::check;
 pub use laws::{advices_exist, no_fewer_pulls_do, pulls_leave_a_tree};
-

@@ -24,7 +24,8 @@ abbrev pub behind_all : List ℕ → Option (List ℕ) → Option (List ℕ)
 behind_all ns None = None
 behind_all ns (Some rest) = Some (ns ++ rest)
 
-pub push_number : (ns : List ℕ) (n : ℕ) (rest : Option (List ℕ)) → behind_all (ns ++ n ∷ []) rest ≡ behind_all ns (before (Some n) rest)
+pub push_number : (ns : List ℕ) (n : ℕ) (rest : Option (List ℕ)) →
+    behind_all (ns ++ n ∷ []) rest ≡ behind_all ns (before (Some n) rest)
 push_number ns n None = refl
 push_number ns n (Some rest) = ap (λ (r : List ℕ). Some r) (append_assoc ns (n ∷ []) rest)
 

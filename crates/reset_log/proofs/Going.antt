@@ -19,12 +19,14 @@ abbrev placed : Bool → ℕ → List (List ℕ) → List ℕ → Parted
 placed test c lines rest =
     if test then record { lines = [] ∷ lines; open_line = rest } else onto_first c lines rest
 
-closed-placed : (test : Bool) (c : ℕ) (lines : List (List ℕ)) (rest : List ℕ) → placed test c (lines ++ rest ∷ []) [] ≡ closed (placed test c lines rest)
+closed-placed : (test : Bool) (c : ℕ) (lines : List (List ℕ)) (rest : List ℕ) →
+    placed test c (lines ++ rest ∷ []) [] ≡ closed (placed test c lines rest)
 closed-placed true c lines rest = refl
 closed-placed false c [] rest = refl
 closed-placed false c (l ∷ lines) rest = refl
 
-longer-placed : (test : Bool) (b c : ℕ) (lines : List (List ℕ)) (rest : List ℕ) → placed test c lines (rest ++ b ∷ []) ≡ longer b (placed test c lines rest)
+longer-placed : (test : Bool) (b c : ℕ) (lines : List (List ℕ)) (rest : List ℕ) →
+    placed test c lines (rest ++ b ∷ []) ≡ longer b (placed test c lines rest)
 longer-placed true b c lines rest = refl
 longer-placed false b c [] rest = refl
 longer-placed false b c (l ∷ lines) rest = refl
@@ -36,11 +38,13 @@ ends_line (c ∷ cs) =
     ap (with_byte c) (ends_line cs)
     ∙ closed-placed (c == 10) c (parted cs).lines (parted cs).open_line
 
-first_byte : (test : Bool) (b : ℕ) → test ≡ false → placed test b [] [] ≡ longer b (record { lines = []; open_line = [] })
+first_byte : (test : Bool) (b : ℕ) → test ≡ false →
+    placed test b [] [] ≡ longer b (record { lines = []; open_line = [] })
 first_byte true b e = absurd cc
 first_byte false b e = refl
 
-pub goes_on : (done : List ℕ) (b : ℕ) → (b == 10) ≡ false → parted (done ++ b ∷ []) ≡ longer b (parted done)
+pub goes_on : (done : List ℕ) (b : ℕ) → (b == 10) ≡ false →
+    parted (done ++ b ∷ []) ≡ longer b (parted done)
 unfolding parted
 goes_on [] b ne = first_byte (b == 10) b ne
 goes_on (c ∷ cs) b ne =
@@ -49,7 +53,8 @@ goes_on (c ∷ cs) b ne =
 
 -- ---- no more lines than bytes
 
-few-placed : (test : Bool) (c n : ℕ) (lines : List (List ℕ)) (rest : List ℕ) → length lines ≤ n → length (placed test c lines rest).lines ≤ n + 1
+few-placed : (test : Bool) (c n : ℕ) (lines : List (List ℕ)) (rest : List ℕ) → length lines ≤ n →
+    length (placed test c lines rest).lines ≤ n + 1
 few-placed true c n lines rest h = omega (arith, h)
 few-placed false c n [] rest h = omega arith
 few-placed false c n (l ∷ lines) rest h = omega (arith, h)
@@ -63,7 +68,9 @@ few_lines (c ∷ cs) =
 
 -- ---- one line more is shown
 
-pub one_more : (standard : Standard) (n : ℕ) (ks mid next : List Known) (lines : List (List ℕ)) (line text more : List ℕ) (bad here : Bool) → AreShown standard n ks lines text bad mid → IsLineShown standard (n + length lines) mid line more here next →
+pub one_more : (standard : Standard) (n : ℕ) (ks mid next : List Known) (lines : List (List ℕ)) (line text more : List ℕ) (bad here : Bool) →
+    AreShown standard n ks lines text bad mid →
+    IsLineShown standard (n + length lines) mid line more here next →
     AreShown standard n ks (lines ++ line ∷ []) (text ++ more) (bad || here) next
 one_more standard n ks mid next [] line text more bad here shown is = (
   more,
@@ -125,19 +132,23 @@ none : (n : ℕ) → take {A = ℕ} n [] ≡ []
 none zero = refl
 none (suc n) = refl
 
-pub room : (n : ℕ) (xs : List ℕ) (b : ℕ) → length (take n xs) < n → take n (xs ++ b ∷ []) ≡ take n xs ++ b ∷ []
+pub room : (n : ℕ) (xs : List ℕ) (b : ℕ) → length (take n xs) < n →
+    take n (xs ++ b ∷ []) ≡ take n xs ++ b ∷ []
 room zero xs b h = absurd (omega (arith, h))
 room (suc n) [] b h = ap (λ (ys : List ℕ). b ∷ ys) (none n)
 room (suc n) (x ∷ xs) b h = ap (λ (ys : List ℕ). x ∷ ys) (room n xs b (omega (arith, h)))
 
-pub no_room : (n : ℕ) (xs : List ℕ) (b : ℕ) → n ≤ length (take n xs) → take n (xs ++ b ∷ []) ≡ take n xs
+pub no_room : (n : ℕ) (xs : List ℕ) (b : ℕ) → n ≤ length (take n xs) →
+    take n (xs ++ b ∷ []) ≡ take n xs
 no_room zero xs b h = refl
 no_room (suc n) [] b h = absurd (omega (arith, h))
 no_room (suc n) (x ∷ xs) b h = ap (λ (ys : List ℕ). x ∷ ys) (no_room n xs b (omega (arith, h)))
 
 -- what is kept of a line and a byte
-pub kept_on : (n : ℕ) (kept line : List ℕ) (b : ℕ) → length kept < n → kept ≡ take n line → kept ++ b ∷ [] ≡ take n (line ++ b ∷ [])
+pub kept_on : (n : ℕ) (kept line : List ℕ) (b : ℕ) → length kept < n → kept ≡ take n line →
+    kept ++ b ∷ [] ≡ take n (line ++ b ∷ [])
 kept_on n kept line b few e = ap (λ (k : List ℕ). k ++ b ∷ []) e ∙ sym (room n line b (subst (λ (k : List ℕ). length k < n) e few))
 
-pub kept_full : (n : ℕ) (kept line : List ℕ) (b : ℕ) → n ≤ length kept → kept ≡ take n line → kept ≡ take n (line ++ b ∷ [])
+pub kept_full : (n : ℕ) (kept line : List ℕ) (b : ℕ) → n ≤ length kept → kept ≡ take n line →
+    kept ≡ take n (line ++ b ∷ [])
 kept_full n kept line b full e = e ∙ sym (no_room n line b (subst (λ (k : List ℕ). n ≤ length k) e full))

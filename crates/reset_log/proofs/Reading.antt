@@ -21,7 +21,8 @@ no_more {X = X} (x ∷ xs) = ap (λ (ys : List X). x ∷ ys) (no_more xs)
 no_open : (done : List ℕ) → (parted done).open_line ≡ [] → lines_of done ≡ (parted done).lines
 no_open done e = ap (λ (o : List ℕ). (parted done).lines ++ open_lines o) e ∙ no_more (parted done).lines
 
-some_open : (done : List ℕ) → ((parted done).open_line ≡ [] → ⊥) → lines_of done ≡ (parted done).lines ++ (parted done).open_line ∷ []
+some_open : (done : List ℕ) → ((parted done).open_line ≡ [] → ⊥) →
+    lines_of done ≡ (parted done).lines ++ (parted done).open_line ∷ []
 some_open done ne = go (parted done).open_line ne
   where
     go : (o : List ℕ) → (o ≡ [] → ⊥) → (parted done).lines ++ open_lines o ≡ (parted done).lines ++ o ∷ []
@@ -38,7 +39,9 @@ front_of_none zero xs e = refl
 front_of_none (suc n) [] e = refl
 front_of_none (suc n) (x ∷ xs) e = absurd cc
 
-pub ended : (old : LogReader) (done : List ℕ) (start was : Option (List ℕ)) → Stands old done start was → length old.line.items ≡ 0 → AreWritten old.standard start was (lines_of done) old.bad
+pub ended : (old : LogReader) (done : List ℕ) (start was : Option (List ℕ)) →
+    Stands old done start was → length old.line.items ≡ 0 →
+    AreWritten old.standard start was (lines_of done) old.bad
 ended old done start was st e =
     let none : old.line.items ≡ [] = no_items old.line.items e in
     let unopened : (parted done).open_line ≡ [] = empty_front 65536 (parted done).open_line (omega arith) (sym st.line_is ∙ none) in
@@ -56,7 +59,9 @@ ended old done start was st e =
     no_items [] h = refl
     no_items (x ∷ xs) h = absurd (omega (arith, h))
 
-pub ended_line : (old new : LogReader) (done : List ℕ) (start was is : Option (List ℕ)) → Stands old done start was → ShowsLine old new was is → (length old.line.items ≡ 0 → ⊥) → AreWritten old.standard start is (lines_of done) new.bad
+pub ended_line : (old new : LogReader) (done : List ℕ) (start was is : Option (List ℕ)) →
+    Stands old done start was → ShowsLine old new was is → (length old.line.items ≡ 0 → ⊥) →
+    AreWritten old.standard start is (lines_of done) new.bad
 ended_line old new done start was is st sh some =
     let opened : (parted done).open_line ≡ [] → ⊥ = λ e. some (ap (λ (l : List ℕ). length l) (st.line_is ∙ front_of_none 65536 (parted done).open_line e)) in
     let shown : IsLineShown old.standard (1 + length (parted done).lines) old.cards.items (parted done).open_line sh.text sh.here new.cards.items =
@@ -74,10 +79,12 @@ ended_line old new done start was is st sh some =
     }
 
 -- whether a line is kept
-pub is_none : (size count : ℕ) (test : Bool) → test ≡ (size == 0) → test ≡ true → size ≡ count → count ≡ 0
+pub is_none : (size count : ℕ) (test : Bool) → test ≡ (size == 0) → test ≡ true → size ≡ count →
+    count ≡ 0
 is_none size count test e is same = let none : (size == 0) ≡ true = sym e ∙ is in grind (arith, nat_tests)
 
-pub is_some : (size count : ℕ) (test : Bool) → test ≡ (size == 0) → test ≡ false → size ≡ count → count ≡ 0 → ⊥
+pub is_some : (size count : ℕ) (test : Bool) → test ≡ (size == 0) → test ≡ false → size ≡ count →
+    count ≡ 0 → ⊥
 is_some size count test e is same none = let some : (size == 0) ≡ false = sym e ∙ is in grind (arith, nat_tests)
 
 -- ---- reads
@@ -90,7 +97,8 @@ nothing_written : (a : Option (List ℕ)) → Appends a a []
 nothing_written None = tt
 nothing_written (Some xs) = sym (no_more xs)
 
-pub at_start : (r : LogReader) (told : Option (List ℕ)) → r.cards.items ≡ [] → r.line.items ≡ [] → r.number ≡ 1 → r.taken ≡ 0 → r.bad ≡ false → Stands r [] told told
+pub at_start : (r : LogReader) (told : Option (List ℕ)) → r.cards.items ≡ [] → r.line.items ≡ [] →
+    r.number ≡ 1 → r.taken ≡ 0 → r.bad ≡ false → Stands r [] told told
 unfolding parted
 at_start r told cards line number taken bad = record {
   text = [];
@@ -102,7 +110,8 @@ at_start r told cards line number taken bad = record {
   told = refl;
 }
 
-pub at_first : (r : LogReader) (standard : Standard) (first was : Option (List ℕ)) (a b : ℕ) → Stands r [] was was → r.standard ≡ standard → Reads r standard first first was was a a b b
+pub at_first : (r : LogReader) (standard : Standard) (first was : Option (List ℕ)) (a b : ℕ) →
+    Stands r [] was was → r.standard ≡ standard → Reads r standard first first was was a a b b
 at_first r standard first was a b st same = record {
   done = [];
   came = nothing_came first;
@@ -114,13 +123,16 @@ at_first r standard first was a b st same = record {
   wrote_later = omega arith;
 }
 
-consumes_then : (a b c : Option (List ℕ)) (xs ys : List ℕ) → StayTold a b → Consumes a b xs → Consumes b c ys → Consumes a c (xs ++ ys)
+consumes_then : (a b c : Option (List ℕ)) (xs ys : List ℕ) → StayTold a b → Consumes a b xs →
+    Consumes b c ys → Consumes a c (xs ++ ys)
 consumes_then None b c xs ys told p q = tt
 consumes_then (Some x) None c xs ys told p q = absurd p
 consumes_then (Some x) (Some y) None xs ys told p q = absurd q
 consumes_then (Some x) (Some y) (Some z) xs ys told p q = p ∙ ap (λ (w : List ℕ). xs ++ w) q ∙ sym (append_assoc xs ys z)
 
-pub reads_on : (r s : LogReader) (standard : Standard) (first now next was is will : Option (List ℕ)) (a b c d e f : ℕ) (piece : List ℕ) → Reads r standard first now was is a b d e → Consumes now next piece → StayTold now next → length piece ≤ 67108864 - r.taken →
+pub reads_on : (r s : LogReader) (standard : Standard) (first now next was is will : Option (List ℕ)) (a b c d e f : ℕ) (piece : List ℕ) →
+    Reads r standard first now was is a b d e → Consumes now next piece → StayTold now next →
+    length piece ≤ 67108864 - r.taken →
     ((done : List ℕ) (start : Option (List ℕ)) → length done + length piece ≤ 67108864 → Stands r done start is → Stands s (done ++ piece) start will) → s.standard ≡ r.standard → b ≤ c → e ≤ f → Reads s standard first next was will a c d f
 reads_on r s standard first now next was is will a b c d e f piece h came told fits taken same later wrote =
     let size = h.stands.taken_is in
@@ -137,7 +149,9 @@ reads_on r s standard first now next was is will a b c d e f piece h came told f
     }
 
 -- each piece leaves less room
-pub less_room : (r s : LogReader) (standard : Standard) (first now was is will : Option (List ℕ)) (a b d e : ℕ) (piece : List ℕ) → Reads r standard first now was is a b d e → 0 < length piece → length piece ≤ 67108864 - r.taken →
+pub less_room : (r s : LogReader) (standard : Standard) (first now was is will : Option (List ℕ)) (a b d e : ℕ) (piece : List ℕ) →
+    Reads r standard first now was is a b d e → 0 < length piece →
+    length piece ≤ 67108864 - r.taken →
     ((done : List ℕ) (start : Option (List ℕ)) → length done + length piece ≤ 67108864 → Stands r done start is → Stands s (done ++ piece) start will) → 67108864 - s.taken < 67108864 - r.taken
 less_room r s standard first now was is will a b d e piece h some fits taken =
     let room : length h.done + length piece ≤ 67108864 = omega (arith, h.stands.taken_is, fits, h.small) in
@@ -147,7 +161,9 @@ less_room r s standard first now was is will a b d e piece h some fits taken =
 -- ---- at the end
 
 -- what was read is all
-pub all_came : (first now next : Option (List ℕ)) (done : List ℕ) (P : List ℕ → Type 0) → Consumes first now done → StayTold first now → Consumes now next [] → IsAtEnd next → P done → IfSome first P
+pub all_came : (first now next : Option (List ℕ)) (done : List ℕ) (P : List ℕ → Type 0) →
+    Consumes first now done → StayTold first now → Consumes now next [] → IsAtEnd next → P done →
+    IfSome first P
 all_came None now next done P came told none end p = tt
 all_came (Some xs) None next done P came told none end p = absurd came
 all_came (Some xs) (Some ys) None done P came told none end p = absurd none
@@ -155,7 +171,9 @@ all_came (Some xs) (Some ys) (Some zs) done P came told none end p =
     subst P (sym (came ∙ ap (λ (w : List ℕ). done ++ w) (none ∙ end) ∙ no_more done)) p
 
 -- more was taken than fits
-pub over : (first now next : Option (List ℕ)) (done piece : List ℕ) → Consumes first now done → StayTold first now → Consumes now next piece → 67108864 < length done + length piece → IfTold first next (λ xs ys. TookOver 67108864 xs ys)
+pub over : (first now next : Option (List ℕ)) (done piece : List ℕ) → Consumes first now done →
+    StayTold first now → Consumes now next piece → 67108864 < length done + length piece →
+    IfTold first next (λ xs ys. TookOver 67108864 xs ys)
 over None now next done piece came told more long = tt
 over (Some xs) None next done piece came told more long = absurd came
 over (Some xs) (Some ys) None done piece came told more long = tt

@@ -14,33 +14,41 @@ use Rattle.reset_log.specs.codings.Going.{Stands, ShowsLine, KeepsByte}
 use Rattle.reset_log.proofs.Going.{ends_line, goes_on, few_lines, one_more, same_line}
 
 -- two writes in a row
-pub appends_then : (a b c : Option (List ℕ)) (xs ys : List ℕ) → StayTold a b → Appends a b xs → Appends b c ys → Appends a c (xs ++ ys)
+pub appends_then : (a b c : Option (List ℕ)) (xs ys : List ℕ) → StayTold a b → Appends a b xs →
+    Appends b c ys → Appends a c (xs ++ ys)
 appends_then None b c xs ys told p q = tt
 appends_then (Some x) None c xs ys told p q = absurd p
 appends_then (Some x) (Some y) None xs ys told p q = absurd q
 appends_then (Some x) (Some y) (Some z) xs ys told p q = q ∙ ap (λ (w : List ℕ). w ++ ys) p ∙ append_assoc x xs ys
 
-line_ended : (standard : Standard) (done : List ℕ) (ks next : List Known) (text more : List ℕ) (bad here : Bool) → AreShown standard 1 [] (parted done).lines text bad ks → IsLineShown standard (1 + length (parted done).lines) ks (parted done).open_line more here next →
+line_ended : (standard : Standard) (done : List ℕ) (ks next : List Known) (text more : List ℕ) (bad here : Bool) →
+    AreShown standard 1 [] (parted done).lines text bad ks →
+    IsLineShown standard (1 + length (parted done).lines) ks (parted done).open_line more here next →
     AreShown standard 1 [] (parted (done ++ 10 ∷ [])).lines (text ++ more) (bad || here) next
 line_ended standard done ks next text more bad here shown is =
     subst (λ (p : Parted). AreShown standard 1 [] p.lines (text ++ more) (bad || here) next) (sym (ends_line done))
     (one_more standard 1 [] ks next (parted done).lines (parted done).open_line text more bad here shown is)
 
 -- a line is shown by its first bytes
-pub by_front : (standard : Standard) (n m : ℕ) (ks js next : List Known) (kept line text : List ℕ) (bad : Bool) → n ≡ m → js ≡ ks → kept ≡ take 65536 line → IsLineShown standard n js kept text bad next → IsLineShown standard m ks line text bad next
+pub by_front : (standard : Standard) (n m : ℕ) (ks js next : List Known) (kept line text : List ℕ) (bad : Bool) →
+    n ≡ m → js ≡ ks → kept ≡ take 65536 line → IsLineShown standard n js kept text bad next →
+    IsLineShown standard m ks line text bad next
 by_front standard n m ks js next kept line text bad e f is shown =
     let same : line_of kept ≡ line_of line = ap line_of is ∙ same_line line in
     subst (λ (l : LogLine). IsShown standard m ks l text bad next) same
     (subst (λ (j : List Known). IsShown standard m j (line_of kept) text bad next) f
     (subst (λ (k : ℕ). IsShown standard k js (line_of kept) text bad next) e shown))
 
-all_same : (s r : Standard) (ks js : List Known) (a b : Bool) (lines : List (List ℕ)) (text : List ℕ) → r ≡ s → js ≡ ks → b ≡ a → AreShown s 1 [] lines text a ks → AreShown r 1 [] lines text b js
+all_same : (s r : Standard) (ks js : List Known) (a b : Bool) (lines : List (List ℕ)) (text : List ℕ) →
+    r ≡ s → js ≡ ks → b ≡ a → AreShown s 1 [] lines text a ks → AreShown r 1 [] lines text b js
 all_same s r ks js a b lines text e f g shown =
     subst (λ (x : Standard). AreShown x 1 [] lines text b js) (sym e)
     (subst (λ (x : List Known). AreShown s 1 [] lines text b x) (sym f)
     (subst (λ (x : Bool). AreShown s 1 [] lines text x ks) (sym g) shown))
 
-pub after_line : (old mid new : LogReader) (done : List ℕ) (start was is : Option (List ℕ)) → length done < 67108864 → Stands old done start was → ShowsLine mid new was is → StayTold was is →
+pub after_line : (old mid new : LogReader) (done : List ℕ) (start was is : Option (List ℕ)) →
+    length done < 67108864 → Stands old done start was → ShowsLine mid new was is →
+    StayTold was is →
     mid.standard ≡ old.standard → mid.cards.items ≡ old.cards.items → mid.line.items ≡ old.line.items → mid.number ≡ old.number → mid.bad ≡ old.bad → mid.taken ≡ old.taken + 1 →
     Stands new (done ++ 10 ∷ []) start is
 after_line old mid new done start was is few st sh told es ec el en eb et =
@@ -73,7 +81,8 @@ not_ten b ne = go (b == 10) refl
     go true e = absurd (ne (grind (arith, nat_tests)))
     go false e = e
 
-pub after_byte : (old mid new : LogReader) (done : List ℕ) (b : ℕ) (start was : Option (List ℕ)) → b ≢ 10 → Stands old done start was → KeepsByte mid new b →
+pub after_byte : (old mid new : LogReader) (done : List ℕ) (b : ℕ) (start was : Option (List ℕ)) →
+    b ≢ 10 → Stands old done start was → KeepsByte mid new b →
     mid.standard ≡ old.standard → mid.cards.items ≡ old.cards.items → mid.line.items ≡ old.line.items → mid.number ≡ old.number → mid.bad ≡ old.bad → mid.taken ≡ old.taken + 1 →
     Stands new (done ++ b ∷ []) start was
 after_byte old mid new done b start was ne st k es ec el en eb et =

@@ -10,7 +10,8 @@ use Rattle.resource_manager.specs.Grant.{change_fault, allocate_fault, release_f
 use Rattle.resource_manager.proofs.Bits.{without_bit-same, without_bit-other, with_bit-same, with_bit-other}
 
 -- two channels of one register have two places
-place-other : (c o : ℕ) → c < 64 → o < 64 → nat_lt c 32 ≡ nat_lt o 32 → o ≢ c → place_of o ≢ place_of c
+place-other : (c o : ℕ) → c < 64 → o < 64 → nat_lt c 32 ≡ nat_lt o 32 → o ≢ c →
+    place_of o ≢ place_of c
 place-other c o hc ho same other e = go (nat_lt c 32) refl
   where
     go : (b : Bool) → nat_lt c 32 ≡ b → ⊥
@@ -27,7 +28,8 @@ place-below : (c : ℕ) → place_of c < 32
 place-below c = omega arith
 
 -- the channel's bit is that of the new word
-with_bandwidth_and_word-bit : (v : Values) (c x y : ℕ) → bit_of (seen_of (with_bandwidth_and_word v c x y)) c ≡ bit_at y (place_of c)
+with_bandwidth_and_word-bit : (v : Values) (c x y : ℕ) →
+    bit_of (seen_of (with_bandwidth_and_word v c x y)) c ≡ bit_at y (place_of c)
 with_bandwidth_and_word-bit v c x y = go (nat_lt c 32) refl
   where
     go : (b : Bool) → nat_lt c 32 ≡ b → bit_of (seen_of (with_bandwidth_and_word v c x y)) c ≡ bit_at y (place_of c)
@@ -50,14 +52,16 @@ with_bandwidth_and_word-others v c x y hc same o ho other = go (nat_lt c 32) (na
     go false true e f = rw (e, f) refl
     go false false e f = rw (e, f) (rw e at (kept (e ∙ sym f)))
 
-with_bandwidth_and_word-bandwidth : (v : Values) (c x y : ℕ) → (with_bandwidth_and_word v c x y).bandwidth_available ≡ x
+with_bandwidth_and_word-bandwidth : (v : Values) (c x y : ℕ) →
+    (with_bandwidth_and_word v c x y).bandwidth_available ≡ x
 with_bandwidth_and_word-bandwidth v c x y = go (nat_lt c 32) refl
   where
     go : (b : Bool) → nat_lt c 32 ≡ b → (with_bandwidth_and_word v c x y).bandwidth_available ≡ x
     go true e = rw e refl
     go false e = rw e refl
 
-with_bandwidth_and_word-manager : (v : Values) (c x y : ℕ) → (with_bandwidth_and_word v c x y).bus_manager_id ≡ v.bus_manager_id
+with_bandwidth_and_word-manager : (v : Values) (c x y : ℕ) →
+    (with_bandwidth_and_word v c x y).bus_manager_id ≡ v.bus_manager_id
 with_bandwidth_and_word-manager v c x y = go (nat_lt c 32) refl
   where
     go : (b : Bool) → nat_lt c 32 ≡ b → (with_bandwidth_and_word v c x y).bus_manager_id ≡ v.bus_manager_id

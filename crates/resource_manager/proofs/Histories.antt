@@ -19,7 +19,8 @@ calls_of v accesses = zip accesses (answers_of v accesses)
 abbrev pub FreedBelow : ℕ → ℕ → List (Access × Answer) → Type 0
 FreedBelow c j calls = (k : ℕ) × ((k < j) × At calls k (Frees c))
 
-pub freed_before : (calls : List Access) (v : Values) → All IsPermitted calls → FreedBeforeGrant v (calls_of v calls)
+pub freed_before : (calls : List Access) (v : Values) → All IsPermitted calls →
+    FreedBeforeGrant v (calls_of v calls)
 freed_before [] v p c j hc h g = absurd g
 freed_before (x ∷ xs) v p c zero hc h g =
     let t : IsTaken v (after v x) c = granted v x c (All-head IsPermitted x xs p) g in
@@ -38,7 +39,8 @@ freed_before (x ∷ xs) v p c (suc j) hc h g =
         let later : FreedBelow c j (calls_of (after v x) xs) = again held in
         (suc later.0, (omega (arith, later.1.0), later.1.1))
 
-pub freed_between : (calls : List Access) (v : Values) → All IsPermitted calls → FreedBetweenGrants (calls_of v calls)
+pub freed_between : (calls : List Access) (v : Values) → All IsPermitted calls →
+    FreedBetweenGrants (calls_of v calls)
 freed_between [] v p c i j below g h = absurd g
 freed_between (x ∷ xs) v p c i zero below g h = absurd (omega arith)
 freed_between (x ∷ xs) v p c zero (suc j) below g h =

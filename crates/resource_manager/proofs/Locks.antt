@@ -12,7 +12,8 @@ use Rattle.resource_manager.specs.Register.{Values, layout, register_at, value_o
 use Rattle.resource_manager.specs.Response.{complete, lock_reply, after_lock}
 
 -- a register is found at its own offset
-pub offset-register_at : (offset : ℕ) (r : Register) → register_at offset ≡ Some r → offset ≡ (layout r).offset
+pub offset-register_at : (offset : ℕ) (r : Register) → register_at offset ≡ Some r →
+    offset ≡ (layout r).offset
 offset-register_at offset r h = grind (arith, nat_tests)
 
 -- the low 32 bits are the bits of a number
@@ -65,7 +66,8 @@ pub record Swaps (v : Values) (offset kind arg value : ℕ) (r : Register) : Typ
   pub replies : lock_reply v offset kind ≡ complete arg
   pub leaves : after_lock v offset kind arg value ≡ with_value v r (cut r value)
 
-swaps : (v : Values) (offset kind arg value : ℕ) (r : Register) → register_at offset ≡ Some r → eqb kind 2 ≡ true →
+swaps : (v : Values) (offset kind arg value : ℕ) (r : Register) → register_at offset ≡ Some r →
+    eqb kind 2 ≡ true →
     value_of v r ≡ arg → Swaps v offset kind arg value r
 swaps v offset kind arg value r e f g = record {
   found = e;
@@ -114,7 +116,8 @@ lock_took v offset kind arg value h = go (register_at offset) refl
         absurd (omega (arith, ap (λ (p : Reply). p.rcode) same))
 
 -- the register that a lock swapped stands at the lock's offset
-pub after_swap-register : (offset : ℕ) (r q : Register) → register_at offset ≡ Some r → offset ≡ (layout q).offset → r ≡ q
+pub after_swap-register : (offset : ℕ) (r q : Register) → register_at offset ≡ Some r →
+    offset ≡ (layout q).offset → r ≡ q
 after_swap-register offset r q found place =
     let other : register_at (layout q).offset ≡ Some q = register_at-offset q in
     let this : register_at (layout q).offset ≡ Some r = rw (← place) found in

@@ -34,7 +34,8 @@ taken old new d c u t hc e = record {
   is_held = subst (λ (x : ℕ). bit_of (seen_of new) x ≡ 0) e t.is_held;
 }
 
-pub granted : (v : Values) (a : Access) (c : ℕ) → IsPermitted a → Grants c a (answer_of v a) → IsTaken v (after v a) c
+pub granted : (v : Values) (a : Access) (c : ℕ) → IsPermitted a → Grants c a (answer_of v a) →
+    IsTaken v (after v a) c
 granted v (Allocate s d u) c p g = go (allocate_fault v s d u) refl g
   where
     go : (o : Option GrantFault) → allocate_fault v s d u ≡ o → grants_of c (Allocate s d u) (done_unless o) ≡ 1 →
@@ -70,7 +71,8 @@ initially-free c = go (nat_lt c 32) refl
 abbrev pub SwapsIn : ℕ → ℕ → ℕ → Type 0
 SwapsIn c offset value = (offset ≡ (layout (register_of c)).offset) × (bit_at value (place_of c) ≡ 1)
 
-swapped_in : (v : Values) (offset value c : ℕ) (r : Register) → offset ≡ (layout r).offset → bit_of (seen_of v) c ≡ 0 →
+swapped_in : (v : Values) (offset value c : ℕ) (r : Register) → offset ≡ (layout r).offset →
+    bit_of (seen_of v) c ≡ 0 →
     SwapsIn c offset value ⊎ (bit_of (seen_of (with_value v r (cut r value))) c ≡ 0)
 swapped_in v offset value c r place h = go (bit-with_value v (cut r value) c r)
   where
@@ -100,7 +102,8 @@ locked v offset kind arg value c hc h = go (lock_cases v offset kind arg value)
         swap (inl i) = inl (i.0, s.replies, i.1)
         swap (inr k) = inr (subst (λ (w : Values). bit_of (seen_of w) c ≡ 0) (sym s.leaves) k)
 
-pub freed : (v : Values) (a : Access) (c : ℕ) → c < 64 → IsPermitted a → bit_of (seen_of v) c ≡ 0 → FreesOrHolds c a (answer_of v a) (after v a)
+pub freed : (v : Values) (a : Access) (c : ℕ) → c < 64 → IsPermitted a → bit_of (seen_of v) c ≡ 0 →
+    FreesOrHolds c a (answer_of v a) (after v a)
 freed v (Allocate s d u) c hc p h = go (allocate_fault v s d u) refl
   where
     go : (o : Option GrantFault) → allocate_fault v s d u ≡ o → FreesOrHolds c (Allocate s d u) (done_unless o) (unless o v (after_allocation v d u))
@@ -132,7 +135,8 @@ freed v (Write offset value) c hc p h = inr h
 freed v Look c hc p h = inr h
 
 -- a channel is free after a call that frees it
-pub free_again : (v : Values) (a : Access) (c : ℕ) → c < 64 → IsPermitted a → Frees c a (answer_of v a) → bit_of (seen_of (after v a)) c ≡ 1
+pub free_again : (v : Values) (a : Access) (c : ℕ) → c < 64 → IsPermitted a →
+    Frees c a (answer_of v a) → bit_of (seen_of (after v a)) c ≡ 1
 free_again v (Allocate s d u) c hc p f = go (allocate_fault v s d u) f
   where
     go : (o : Option GrantFault) → Frees c (Allocate s d u) (done_unless o) → bit_of (seen_of (unless o v (after_allocation v d u))) c ≡ 1
@@ -156,7 +160,8 @@ free_again v (Write offset value) c hc p f = absurd f
 free_again v Look c hc p f = absurd f
 
 -- what one call does to the channels
-pub moves_channels : (v : Values) (a : Access) → IsPermitted a → MovesChannels v (after v a) a (answer_of v a)
+pub moves_channels : (v : Values) (a : Access) → IsPermitted a →
+    MovesChannels v (after v a) a (answer_of v a)
 moves_channels v a p = record {
   granted = λ c g. let t : IsTaken v (after v a) c = granted v a c p g in (t.was_free, t.is_held);
   freed = λ c hc f. free_again v a c hc p f;
@@ -167,7 +172,8 @@ moves_channels v a p = record {
 pub record Keeps (old new : Values) (a : Access) (r : Answer) : Type 0 where
   pub bandwidth : new.bandwidth_available + units_granted a r ≡ old.bandwidth_available + units_released a r
   pub within : old.bandwidth_available ≤ 4915 → new.bandwidth_available ≤ 4915
-  pub channels : (c : ℕ) → c < 64 → bit_of (seen_of new) c + grants_of c a r ≡ bit_of (seen_of old) c + releases_of c a r
+  pub channels : (c : ℕ) → c < 64 →
+      bit_of (seen_of new) c + grants_of c a r ≡ bit_of (seen_of old) c + releases_of c a r
 
 -- a grant moves the channel's bit and no other
 bits-grant : (old new : Values) (d u c : ℕ) → Takes old new d u → c < 64 →
@@ -199,7 +205,8 @@ seen-lock v offset kind arg value hand = go (lock_cases v offset kind arg value)
     go (inr (r, s)) =
         ap seen_of s.leaves ∙ seen-swap v offset (cut r value) r (offset-register_at offset r s.found) (λ (n : offset ≢ (layout BusManagerId).offset). hand (n, s.replies))
 
-pub keeps : (v : Values) (a : Access) → IsPermitted a → ¬ IsByHand a (answer_of v a) → Keeps v (after v a) a (answer_of v a)
+pub keeps : (v : Values) (a : Access) → IsPermitted a → ¬ IsByHand a (answer_of v a) →
+    Keeps v (after v a) a (answer_of v a)
 keeps v (Allocate s d u) p hand = go (allocate_fault v s d u) refl
   where
     go : (o : Option GrantFault) → allocate_fault v s d u ≡ o →

@@ -17,4 +17,3 @@ pub use grant::{GrantFault, Seen, allocate, look, release};
 pub use laws::attempts_come_to_one;
 pub use register::Register;
 pub use registers::{COMPARE_SWAP, Registers, Reply};
-

@@ -5,8 +5,7 @@ use Rattle.std.proofs.Math.Nat.{max-eq_left, max-eq_right}
 use Rattle.std.proofs.lemmas.Bool.{cases_lt}
 use Rattle.topology_stack.specs.Tree.{Tree, walk, IsBusTree}
 use Rattle.speed_map.specs.Path.{Joined, IsNew, IsPath}
-use Rattle.speed_map.proofs.Facts.{down_again, joined_within, parent_in}
-use Rattle.speed_map.proofs.Unique.{one_path}
+use Rattle.speed_map.proofs.Lemmas.{down_again, joined_within, parent_in, one_path}
 use Rattle.root_plan.specs.Reach.{IsDistance, IsReach}
 use Rattle.root_plan.specs.codings.Climb.{StaysAbove, Closes, ReachSoFar}
 

@@ -4,3 +4,4 @@ pub mod Climbing
 pub mod Choosing
 -- reaches and best candidates exist
 pub mod SomeChoice
+pub mod Lemmas

@@ -6,7 +6,7 @@ use Rattle.std.proofs.lemmas.Option.{slice_get_cases}
 use Rattle.self_id.specs.Node.{Node}
 use Rattle.topology_stack.specs.Tree.{Tree, walk, IsBusTree}
 use Rattle.topology_stack.specs.Elect.{is_candidate, IsCandidate, IsHighest, elected}
-use Rattle.topology_stack.proofs.Highest.{is_highest}
+use Rattle.topology_stack.proofs.Lemmas.{is_highest}
 use Rattle.speed_map.specs.SomeRows.{HasPath, PathsExist}
 use Rattle.root_plan.specs.Reach.{IsDistance}
 use Rattle.root_plan.specs.SomeChoice.{HasReach, HasBestRoot, ReachesExist, BestRootsExist}

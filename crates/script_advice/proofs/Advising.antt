@@ -6,11 +6,9 @@ use Rattle.std.proofs.lemmas.List.Elements.{All-cons, All-nil, All-push, All-tai
 use Rattle.cabling.specs.declared.cable.Cable.{Cable}
 use Rattle.cabling.specs.Wiring.{Wiring, IsCabling, far}
 use Rattle.cabling.specs.NodeSet.{Nodes, Holds}
-use Rattle.cabling.proofs.Cores.{component_within}
-use Rattle.cabling.proofs.Whole.{shared}
+use Rattle.cabling.proofs.Lemmas.{component_within, shared}
 use Rattle.loop_advice.specs.Cables.{Lists, HasNoneTwice, IsCableOf}
-use Rattle.loop_advice.proofs.Collecting.{rising_once}
-use Rattle.loop_advice.proofs.Listed.{lists_append, lists_left}
+use Rattle.loop_advice.proofs.Lemmas.{rising_once, lists_append, lists_left}
 use Rattle.settle.specs.declared.report.Outcome.{Outcome}
 use Rattle.settle.specs.declared.report.Outcome.TheVariants as reported
 use Rattle.settle.specs.declared.report.Part.{Part}

@@ -3,3 +3,4 @@ pub mod Advising
 pub mod Settled
 pub mod OneAdvice
 pub mod NoLoop
+pub mod Lemmas

@@ -10,24 +10,20 @@ use Rattle.cabling.specs.NodeSet.{Nodes, Holds, IsWithin}
 use Rattle.cabling.specs.Component.{IsComponent}
 use Rattle.cabling.specs.Looped.{HasTwo, IsLooped}
 use Rattle.cabling.specs.Change.{TakenOut}
-use Rattle.cabling.proofs.Ends.{none_some, same_length}
-use Rattle.cabling.proofs.Whole.{shared}
-use Rattle.cabling.proofs.Pulling.{was-there}
+use Rattle.cabling.proofs.Lemmas.{none_some, same_length, shared, was-there}
 use Rattle.cable_world.specs.World.{CableWorld}
 use Rattle.cable_world.specs.Turn.{turns_after}
 use Rattle.cable_world.specs.Outcome.{HasNoLoop as HasNoLoopIn}
-use Rattle.cable_world.proofs.QuietTurns.{turns-cabling}
+use Rattle.cable_world.proofs.Lemmas.{turns-cabling}
 use Rattle.loop_advice.specs.Cables.{Lists, IsSame}
-use Rattle.loop_advice.proofs.Listed.{lists_left, lists_right}
-use Rattle.loop_advice.proofs.Marking.{cable}
-use Rattle.loop_advice.proofs.Without.{Without, no_loop_left}
+use Rattle.loop_advice.proofs.Lemmas.{lists_left, lists_right, cable, Without, no_loop_left}
 use Rattle.settle.specs.declared.report.Outcome.{Outcome}
 use Rattle.settle.specs.declared.report.Outcome.TheVariants as reported
 use Rattle.settle.specs.declared.report.Part.{Part}
 use Rattle.settle.specs.declared.report.Report.{Report}
 use Rattle.settle.specs.Report.{IsPart, IsReport, quiet_turns_of}
 use Rattle.settle.specs.Reported.{IsReported}
-use Rattle.settle.proofs.ReadBack.{small-set}
+use Rattle.settle.proofs.Lemmas.{small-set}
 use Rattle.script_advice.specs.declared.advice.LoopAdvice.{LoopAdvice}
 use Rattle.script_lines.specs.declared.kind.Kind.TheVariants as Kind
 use Rattle.script_told.specs.Bus.{Bus, Notes}
@@ -37,14 +33,10 @@ use Rattle.script_advice.specs.OneAdvice.{AdvicesLeaveNoLoop, AdvicesEndWithoutL
 use Rattle.script_advice.specs.Advising.{ArePullable, EndsWith}
 use Rattle.script_advice.proofs.Pulling.{pull-taken, next-pullable}
 use Rattle.script_advice.proofs.Settled.{reported-pullable}
-use Rattle.script_told.proofs.told.Parts.{text-in}
-use Rattle.script_told.proofs.told.Cables.{IsCabled}
-use Rattle.script_told.proofs.told.Commands.{bus-in}
+use Rattle.script_told.proofs.Lemmas.{text-in, IsCabled, bus-in, do-act, do-settle, Says, is-none, settles-say, settled-so}
 use Rattle.script_advice.proofs.OneAdvice.{end-of, end-cabled, no-fault, same-report}
 use Rattle.script_told.specs.EachReport.{IsReportOf}
 use Rattle.script_told.specs.SomeAnswer.{IsReachedBus}
-use Rattle.script_told.proofs.told.Reached.{do-act, do-settle}
-use Rattle.script_told.proofs.told.EachReport.{Says, is-none, settles-say, settled-so}
 use Rattle.settle.specs.ReadBack.{ListsAreReadBack}
 use Rattle.settle.specs.ReportedOutcome.{ReportedIsOutcome}
 use Rattle.cable_world.specs.declared.act.Act.TheVariants.{Pull}

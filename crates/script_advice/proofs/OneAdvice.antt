@@ -8,12 +8,11 @@ use Rattle.cabling.specs.Wiring.{Wiring}
 use Rattle.cabling.specs.NodeSet.{Nodes}
 use Rattle.cable_world.specs.declared.act.Act.TheVariants.{Pull}
 use Rattle.cable_world.specs.Unchanged.{ActKeepsNodes}
-use Rattle.cable_world.proofs.StaysLawful.{reached-lawful}
+use Rattle.cable_world.proofs.Lemmas.{reached-lawful}
 use Rattle.loop_advice.specs.Cables.{Lists}
 use Rattle.loop_advice.specs.Order.{ComesBefore, ComesBeforeAll, AreRising}
 use Rattle.loop_advice.specs.Advised.{AreAdvised, IsLowFirst}
-use Rattle.loop_advice.proofs.Before.{same_low}
-use Rattle.loop_advice.proofs.Listed.{lists_left, lists_right}
+use Rattle.loop_advice.proofs.Lemmas.{same_low, lists_left, lists_right}
 use Rattle.settle.specs.declared.report.Report.{Report}
 use Rattle.script_advice.specs.declared.advice.LoopAdvice.{LoopAdvice}
 use Rattle.script_lines.specs.declared.kind.ScriptFault.{ScriptFault}
@@ -23,10 +22,7 @@ use Rattle.script_told.specs.Script.{Told}
 use Rattle.script_told.specs.Run.{ScriptRun, IsTold, printed, unless_stopped, told_by}
 use Rattle.script_advice.specs.Advice.{RunsTo, loops_of, IsAdviceFor, all_pulls, PullsLead, advice_text, after_text, Advises, told_at_end, AdvisesAtEnd}
 use Rattle.script_advice.specs.OneAdvice.{ScriptsHaveOneAdvice}
-use Rattle.script_told.proofs.told.Cables.{IsCabled}
-use Rattle.script_told.proofs.told.Commands.{acts, settles, bus-in}
-use Rattle.script_told.proofs.told.Lines.{one-run, one-told}
-use Rattle.script_told.proofs.told.EachDone.{IsEnd, each-done}
+use Rattle.script_told.proofs.Lemmas.{IsCabled, acts, settles, bus-in, one-run, one-told, IsEnd, each-done}
 
 -- ---- the bus at the end
 

@@ -6,19 +6,18 @@ use Rattle.cabling.specs.declared.cable.End.{End}
 use Rattle.cabling.specs.declared.cable.Cable.{Cable}
 use Rattle.cabling.specs.Wiring.{Wiring, IsCabling, HasEnd, far}
 use Rattle.cabling.specs.Change.{TakenOut, has_node, has_port, is_plugged, pull_fault}
-use Rattle.cabling.proofs.Ends.{cabling_taken, one_other, plugged, taken_by_writes}
+use Rattle.cabling.proofs.Lemmas.{cabling_taken, one_other, plugged, taken_by_writes}
 use Rattle.port_state.specs.Machine.{node_pulled}
 use Rattle.cable_world.specs.declared.act.Act.TheVariants.{Pull}
 use Rattle.cable_world.specs.World.{CableWorld, put}
 use Rattle.cable_world.specs.Act.{ActLeads, pull, pull_from, remove_cable, with_step}
-use Rattle.cable_world.proofs.tables.TablesInSteps.{step-cables}
+use Rattle.cable_world.proofs.Lemmas.{step-cables}
 use Rattle.loop_advice.specs.Cables.{turned, Lists}
-use Rattle.loop_advice.proofs.Listed.{lists_left}
-use Rattle.loop_advice.proofs.Marking.{cable}
+use Rattle.loop_advice.proofs.Lemmas.{lists_left, cable}
 use Rattle.script_told.specs.Bus.{Bus}
 use Rattle.script_advice.specs.Advice.{PullsLead}
 use Rattle.script_advice.specs.Advising.{ArePullable}
-use Rattle.script_told.proofs.told.Cables.{IsCabled}
+use Rattle.script_told.proofs.Lemmas.{IsCabled}
 
 -- ---- a pull
 

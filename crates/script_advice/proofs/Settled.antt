@@ -12,7 +12,7 @@ use Rattle.script_told.specs.Step.{LineAnswer, Settles}
 use Rattle.script_advice.specs.Advice.{AreAdvices, loops_of, all_pulls, PullsLead, advice_text, after_text, Advises}
 use Rattle.script_advice.specs.Advising.{IsPartOf, IsNamedAdvice, ArePullable}
 use Rattle.script_advice.proofs.Advising.{named-advices, all-pullable}
-use Rattle.script_told.proofs.told.Cables.{IsCabled}
+use Rattle.script_told.proofs.Lemmas.{IsCabled}
 
 -- there is an advice for each loop of a report
 abbrev pub AreFor : CableWorld → List LoopAdvice → Report → Type 0

@@ -11,8 +11,7 @@ use Rattle.cabling.specs.Wiring.{Wiring}
 use Rattle.cabling.specs.NodeSet.{Holds}
 use Rattle.cabling.specs.Component.{IsComponent}
 use Rattle.cabling.specs.Existence.{HasComponent, ComponentsExist}
-use Rattle.cabling.proofs.Small.{Loopless, loopless}
-use Rattle.cabling.proofs.Whole.{shared}
+use Rattle.cabling.proofs.Lemmas.{Loopless, loopless, shared}
 use Rattle.port_state.specs.Config.{config_packet, gap_or}
 use Rattle.port_state.specs.Machine.{PortNode, node_disturb, node_set_config}
 use Rattle.cable_world.specs.declared.act.Act.TheVariants.{Config}
@@ -23,18 +22,13 @@ use Rattle.cable_world.specs.Lawful.{IsLawful}
 use Rattle.cable_world.specs.Outcome.{IsTree}
 use Rattle.cable_world.specs.Quiet.{no_holds}
 use Rattle.cable_world.specs.Run.{IsReached, quiet_turns}
-use Rattle.cable_world.proofs.Options.{some-of, some-at}
-use Rattle.cable_world.proofs.QuietTurns.{plain-quiet, plainly, turns-cabling}
-use Rattle.cable_world.proofs.StaysLawful.{reached-lawful}
-use Rattle.cable_world.proofs.StaysReached.{act-reached, turns-reached}
-use Rattle.cable_world.proofs.tables.TablesInSteps.{step-cables}
+use Rattle.cable_world.proofs.Lemmas.{some-of, some-at, plain-quiet, plainly, turns-cabling, reached-lawful, act-reached, turns-reached, step-cables}
 use Rattle.outcomes.specs.Forced.{NamesRoot}
 use Rattle.outcomes.specs.Settled.{TreesStay, IdsNameOneNode, ConfigsMoveRoots, ConfigsSetGaps}
-use Rattle.outcomes.proofs.settled.QuietTurns.{quiet-enough}
+use Rattle.outcomes.proofs.Lemmas.{quiet-enough}
 use Rattle.settle.specs.declared.report.Part.{Part}
 use Rattle.settle.specs.Report.{AreParts, IsTreeFrom, IsAfterQuiet, quiet_turns_of}
-use Rattle.settle.proofs.Found.{found}
-use Rattle.settle.proofs.SameNodes.{same-component}
+use Rattle.settle.proofs.Lemmas.{found, same-component}
 use Rattle.settle_plan.specs.Planned.{HaveGap}
 use Rattle.script_lines.specs.Range.{IsConfigInRange, IsInRange}
 use Rattle.script_lines.specs.declared.kind.Kind.{Kind}
@@ -45,9 +39,7 @@ use Rattle.script_told.specs.Step.{LineAnswer, AtNode, AtTree, Settled, Acts, Re
 use Rattle.script_told.specs.Script.{Stage, StageAnswer, running, bus_of, delay_of, onwards, Follows}
 use Rattle.script_told.specs.Run.{Entry}
 use Rattle.script_told.specs.SomeAnswer.{IsReachedBus}
-use Rattle.script_told.proofs.told.Parts.{stage-in}
-use Rattle.script_told.proofs.told.Reached.{sound-bus}
-use Rattle.script_told.proofs.told.EachDone.{IsDone, each-done}
+use Rattle.script_told.proofs.Lemmas.{stage-in, sound-bus, IsDone, each-done}
 use Rattle.script_bus.specs.codings.Standing.{StandsAs}
 use Rattle.script_bus.specs.EachConfig.{HasNewRoot, ConfigComesOut, EachConfigComesOut}
 use Rattle.script_bus.proofs.Standing.{reported-stands}
@@ -109,7 +101,8 @@ module _
       loopless w.cabling root s.set n.core l.well_formed.cabling (its-there w l from tree s id place)
       (shared w.cabling from root s.set l.well_formed.cabling s.component inside) s.small n.is_core n.empty
 
-  pub tree-from : (parts : List Part) → AreParts v parts → Any (IsTreeFrom w.cabling from root) parts
+  pub tree-from : (parts : List Part) → AreParts v parts →
+      Any (IsTreeFrom w.cabling from root) parts
   tree-from parts are =
       found w.cabling v cables from s.set root s.component no-loop there (IsReached w) ∣ reached ∣₁ (λ r. moved) parts are
 
@@ -173,7 +166,8 @@ module _ (bus : Bus) (name : List ℕ) (id : ℕ) (gap : Option ℕ) (sent : Bus
   packet-sent x = with-node (node_named bus.notes.names name) refl x
 
 -- a bus that has settled was reported
-reports-of : (bus after : Bus) (text : List ℕ) → Does bus command.Settle (Ok (after, text)) → Reports bus (Ok (after, text))
+reports-of : (bus after : Bus) (text : List ℕ) → Does bus command.Settle (Ok (after, text)) →
+    Reports bus (Ok (after, text))
 reports-of bus after text x = go (nat_lt 2000000 (bus.world.turns + quiet_turns_of bus.world)) x
   where
     go :
@@ -185,7 +179,8 @@ reports-of bus after text x = go (nat_lt 2000000 (bus.world.turns + quiet_turns_
 six-gap : (o : Option ℕ) (g : ℕ) → o ≡ Some g → IfSome o (λ n. n ≤ 63) → g ≤ 63
 six-gap o g e h = subst (λ (p : Option ℕ). IfSome p (λ n. n ≤ 63)) e h
 
-packet-fits : (node : NodeNumber) (id : ℕ) (gap : Option ℕ) → IsConfigInRange (Some id) gap → IsAct (Config node id true gap)
+packet-fits : (node : NodeNumber) (id : ℕ) (gap : Option ℕ) → IsConfigInRange (Some id) gap →
+    IsAct (Config node id true gap)
 packet-fits node id gap h = record {
   bits = record {
     root_bits = omega (arith, h.root_most);

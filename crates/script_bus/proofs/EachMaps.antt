@@ -21,14 +21,10 @@ use Rattle.cable_world.specs.Lawful.{IsLawful}
 use Rattle.cable_world.specs.Outcome.{IsTree}
 use Rattle.cable_world.specs.Phases.{is_in_bus_reset}
 use Rattle.cable_world.specs.Run.{IsReached, holds, turns}
-use Rattle.cable_world.proofs.StaysLawful.{reached-lawful}
-use Rattle.cable_world.proofs.StaysReached.{turn-reached, hold-reached}
-use Rattle.cable_world.proofs.coupling.CouplingInTurns.{hears, ticks}
-use Rattle.cable_world.proofs.resets.ResetCounts.{turn-counts}
-use Rattle.cable_world.proofs.turns.ByNumber.{node-after, cabling-after}
+use Rattle.cable_world.proofs.Lemmas.{reached-lawful, turn-reached, hold-reached, hears, ticks, turn-counts, node-after, cabling-after, some-of, some-at, some-same}
 use Rattle.outcomes.specs.Settled.{TreesStay, IdsNameOneNode}
 use Rattle.script_told.specs.SomeAnswer.{IsReachedBus}
-use Rattle.script_told.proofs.told.Reached.{sound-bus}
+use Rattle.script_told.proofs.Lemmas.{sound-bus, stage-in, printed-in, IsDone, each-done}
 use Rattle.script_bus.specs.codings.Standing.{StandsAs}
 use Rattle.script_bus.proofs.SomePlan.{stands-since}
 use Rattle.script_bus.proofs.Standing.{reported-stands}
@@ -38,7 +34,6 @@ use Rattle.cable_world.specs.World.{CableWorld, NodeNumber}
 use Rattle.cable_world.specs.Act.{hold, hold_fault}
 use Rattle.cable_world.specs.Turn.{inbox, turn, turns_after}
 use Rattle.cable_world.specs.Unchanged.{ActKeepsNodes}
-use Rattle.cable_world.proofs.Options.{some-of, some-at, some-same}
 use Rattle.settle.specs.declared.report.Report.{Report}
 use Rattle.resource_manager.specs.declared.access.Access.{Access}
 use Rattle.resource_manager.specs.declared.access.Access.TheVariants as access
@@ -53,13 +48,11 @@ use Rattle.script_lines.specs.declared.command.Command.{Command}
 use Rattle.script_lines.specs.declared.command.Command.TheVariants.{Node, Plug, Pull, Reset, Turn, Hold, Settle, Config, CsrRead, CsrWrite, CsrLock, Look, Allocate, Release, Manager, Plan, Maps, Delay}
 use Rattle.script_lines.specs.Refusal.{kind_of}
 use Rattle.script_text.specs.Maps.{IsMapsText}
-use Rattle.script_text.proofs.OneMaps.{same_maps}
+use Rattle.script_text.proofs.Lemmas.{same_maps}
 use Rattle.script_told.specs.Bus.{Bus, Reported, node_named, resets_shown, resets_of, tree_of, part_with, tree_with, values_at, after_access, put_look}
 use Rattle.script_told.specs.Step.{LineAnswer, AtNode, Named, AtTree, Settled, AtManager, Managed, Holds, Turns, MapsOf, GivesMaps, ShowsMaps, Accesses, Looks, Grants, seen_by, Does, id_of, end_of}
 use Rattle.script_told.specs.Script.{Stage, fresh, StageAnswer, running, bus_of, onwards, Follows}
 use Rattle.script_told.specs.Run.{Entry}
-use Rattle.script_told.proofs.told.Parts.{stage-in, printed-in}
-use Rattle.script_told.proofs.told.EachDone.{IsDone, each-done}
 use Rattle.script_bus.specs.EachMaps.{KeepsReport, StandsIn, MapsShowOneTree}
 use Rattle.script_bus.proofs.FollowOn.{LeadsOn, leads-on, at-split, behind-split, leads-behind}
 
@@ -90,7 +83,8 @@ no-reset p e = refl
 
 module _ (stay : TreesStay) (names-one : IdsNameOneNode) where
   -- the root of a tree isn't being reset
-  calm : (w : CableWorld) (set root : ℕ) (t : Tree) → IsReached w → IsTree w set root t → (x : PortNode) → slice_get w.nodes root ≡ Some x → is_resetting x.state.view.phase ≡ false
+  calm : (w : CableWorld) (set root : ℕ) (t : Tree) → IsReached w → IsTree w set root t →
+      (x : PortNode) → slice_get w.nodes root ≡ Some x → is_resetting x.state.view.phase ≡ false
   calm w set root t r is x at =
       let y = some-of (slice_get w.nodes root) _ (is.ids root is.holds_root) in
       let id = some-of y.0.state.view.id _ y.2 in
@@ -167,21 +161,26 @@ module _ (stay : TreesStay) (names-one : IdsNameOneNode) (bus : Bus) where
   known : (x : LineAnswer) → AnswerKeeps bus x → AllKeep (λ r. r ≡ x)
   known x h r e = subst (AnswerKeeps bus) (sym e) h
 
-  at-node : (o : Option NodeNumber) (Comes : NodeNumber → LineAnswer → Type 0) → ((k : NodeNumber) → AllKeep (Comes k)) → AllKeep (AtNode o Comes)
+  at-node : (o : Option NodeNumber) (Comes : NodeNumber → LineAnswer → Type 0) →
+      ((k : NodeNumber) → AllKeep (Comes k)) → AllKeep (AtNode o Comes)
   at-node None Comes some r e = known (Err Kind.NoNode) tt r e
   at-node (Some k) Comes some r e = some k r e
 
-  named : (name : List ℕ) (Comes : NodeNumber → LineAnswer → Type 0) → ((k : NodeNumber) → AllKeep (Comes k)) → AllKeep (Named bus name Comes)
+  named : (name : List ℕ) (Comes : NodeNumber → LineAnswer → Type 0) →
+      ((k : NodeNumber) → AllKeep (Comes k)) → AllKeep (Named bus name Comes)
   named name Comes some = at-node (node_named bus.notes.names name) Comes some
 
-  at-tree : (o : Option Reported) (Comes : Reported → LineAnswer → Type 0) → ((t : Reported) → AllKeep (Comes t)) → AllKeep (AtTree o Comes)
+  at-tree : (o : Option Reported) (Comes : Reported → LineAnswer → Type 0) →
+      ((t : Reported) → AllKeep (Comes t)) → AllKeep (AtTree o Comes)
   at-tree None Comes some r e = known (Err Kind.NotSettled) tt r e
   at-tree (Some t) Comes some r e = some t r e
 
-  settled : (node : NodeNumber) (Comes : Reported → LineAnswer → Type 0) → ((t : Reported) → AllKeep (Comes t)) → AllKeep (Settled bus node Comes)
+  settled : (node : NodeNumber) (Comes : Reported → LineAnswer → Type 0) →
+      ((t : Reported) → AllKeep (Comes t)) → AllKeep (Settled bus node Comes)
   settled node Comes some = at-tree (tree_with node bus.notes) Comes some
 
-  at-manager : (o : Option NodeNumber) (Comes : NodeNumber → LineAnswer → Type 0) → ((k : NodeNumber) → AllKeep (Comes k)) → AllKeep (AtManager o Comes)
+  at-manager : (o : Option NodeNumber) (Comes : NodeNumber → LineAnswer → Type 0) →
+      ((k : NodeNumber) → AllKeep (Comes k)) → AllKeep (AtManager o Comes)
   at-manager None Comes some r e = known (Err Kind.NoManager) tt r e
   at-manager (Some k) Comes some r e = some k r e
 
@@ -191,7 +190,8 @@ module _ (stay : TreesStay) (names-one : IdsNameOneNode) (bus : Bus) where
   managed name Comes some =
       named name _ (λ node. settled node _ (λ tree r x. at-manager x.0 (Comes node (id_of tree node)) (some node (id_of tree node)) r x.2))
 
-  by-test : (b : Bool) (Yes No : LineAnswer → Type 0) → AllKeep Yes → AllKeep No → AllKeep (λ r. MatchBool b (Yes r) (No r))
+  by-test : (b : Bool) (Yes No : LineAnswer → Type 0) → AllKeep Yes → AllKeep No →
+      AllKeep (λ r. MatchBool b (Yes r) (No r))
   by-test true Yes No one other r x = one r x
   by-test false Yes No one other r x = other r x
 
@@ -212,13 +212,15 @@ module _ (stay : TreesStay) (names-one : IdsNameOneNode) (bus : Bus) where
       (λ r. r ≡ Ok (record bus { world = turns_after count bus.world }, [])) (known (Err Kind.TooManyTurns) tt)
       (known (Ok (record bus { world = turns_after count bus.world }, [])) (record { report = refl; names = refl; rests = in-turns stay names-one count bus.world }))
 
-  accessed : (manager : NodeNumber) (a : Access) (text : Answer → List ℕ) → AllKeep (Accesses bus manager a text)
+  accessed : (manager : NodeNumber) (a : Access) (text : Answer → List ℕ) →
+      AllKeep (Accesses bus manager a text)
   accessed manager a text = known (Ok (after_access manager a bus, text (answer_of (values_at manager bus) a))) (record { report = refl; names = refl; rests = no-turn bus.world })
 
   looked : (node manager : NodeNumber) → AllKeep (Looks bus node manager)
   looked node manager = known (Ok (put_look node (Some (seen_of (values_at manager bus))) bus, [])) (record { report = refl; names = refl; rests = no-turn bus.world })
 
-  granted : (node manager : NodeNumber) (a : Seen → Access) (text : Answer → List ℕ) → AllKeep (Grants bus node manager a text)
+  granted : (node manager : NodeNumber) (a : Seen → Access) (text : Answer → List ℕ) →
+      AllKeep (Grants bus node manager a text)
   granted node manager a text =
       let blind : Bus = put_look node None bus in
       let asks : Access = a (seen_by node manager bus) in
@@ -264,7 +266,8 @@ by-answer bus c next t (Ok (after, text)) does same = record {
 }
 by-answer bus c next t (Err kind) does same = absurd cc
 
-led : (bus : Bus) (c : Command) (next : Stage) (t : List ℕ) → Follows (running bus) c (Ok (next, t)) → Led bus c next t
+led : (bus : Bus) (c : Command) (next : Stage) (t : List ℕ) →
+    Follows (running bus) c (Ok (next, t)) → Led bus c next t
 led bus (Node name ports speed link contender force power gap holding short long word len seed packed) next t f = absurd cc
 led bus (Delay delay) next t f = absurd cc
 led bus c next t f = by-answer bus c next t f.0 f.1 f.2
@@ -293,7 +296,8 @@ kept-along kept (e ∷ between) rest two bus stage at on all keep =
     (All-tail (λ (d : Entry). KeepsReport d.command) e between keep) in
     (more.0, more.1, both bus l.after more.0 k more.2)
 
-stand-again : (bus after : Bus) (name : List ℕ) (tree : Reported) → Keeps bus after → StandsIn bus name tree → StandsIn after name tree
+stand-again : (bus after : Bus) (name : List ℕ) (tree : Reported) → Keeps bus after →
+    StandsIn bus name tree → StandsIn after name tree
 stand-again bus after name tree k s = record {
   node = s.node;
   named = ap (λ (ns : List (List ℕ)). node_named ns name) k.names ∙ s.named;
@@ -320,7 +324,8 @@ module _ (bus : Bus) (name : List ℕ) (tree : Reported) (s : StandsIn bus name 
   in-tree None e x = no-fault Kind.NotSettled x
   in-tree (Some t) e x = few (nat_lt bus.notes.maps 100) (subst (λ (u : Reported). MapsOf bus u answer) (some-same t tree e) x)
 
-  of-node : (o : Option NodeNumber) → o ≡ Some s.node → AtNode o (λ node. Settled bus node (MapsOf bus)) answer → Shown
+  of-node : (o : Option NodeNumber) → o ≡ Some s.node →
+      AtNode o (λ node. Settled bus node (MapsOf bus)) answer → Shown
   of-node None e x = no-fault Kind.NoNode x
   of-node (Some k) e x =
       in-tree (tree_with s.node bus.notes) s.settled

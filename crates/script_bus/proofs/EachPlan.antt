@@ -11,14 +11,13 @@ use Rattle.cabling.specs.Existence.{HasComponent, ComponentsExist}
 use Rattle.cable_world.specs.World.{CableWorld, NodeNumber}
 use Rattle.cable_world.specs.Unchanged.{ActKeepsNodes}
 use Rattle.cable_world.specs.Lawful.{IsLawful}
-use Rattle.cable_world.proofs.StaysLawful.{reached-lawful}
+use Rattle.cable_world.proofs.Lemmas.{reached-lawful}
 use Rattle.outcomes.specs.Settled.{TreesStay, IdsNameOneNode, ConfigsMoveRoots, ConfigsSetGaps}
-use Rattle.root_plan.proofs.Choosing.{candidate_within}
+use Rattle.root_plan.proofs.Lemmas.{candidate_within}
 use Rattle.settle.specs.declared.report.Report.{Report}
 use Rattle.settle.specs.Report.{IsTreeFrom}
 use Rattle.settle_plan.specs.Planned.{SuitsTree, HasId, HaveGap}
-use Rattle.settle_plan.proofs.Chosen.{suits}
-use Rattle.settle_plan.proofs.Carried.{nodes-stay, tree-from, gap-of}
+use Rattle.settle_plan.proofs.Lemmas.{suits, nodes-stay, tree-from, gap-of}
 use Rattle.script_lines.specs.declared.kind.Kind.{Kind}
 use Rattle.script_lines.specs.declared.command.Command.{Command}
 use Rattle.script_lines.specs.declared.command.Command.TheVariants.{Plan}
@@ -29,11 +28,7 @@ use Rattle.script_told.specs.Run.{Entry}
 use Rattle.script_told.specs.EachPlan.{IsCarriedOut, ComesOut, EachPlanComesOut}
 use Rattle.script_told.specs.SomeAnswer.{IsReachedBus}
 use Rattle.script_told.specs.SomeManager.{IsManaged, ReportedTreesAreManaged}
-use Rattle.script_told.proofs.SomeAnswer.{tree-managed}
-use Rattle.script_told.proofs.told.Parts.{stage-in, printed-in}
-use Rattle.script_told.proofs.told.Reached.{sound-bus}
-use Rattle.script_told.proofs.told.PlanCarried.{plan-carried}
-use Rattle.script_told.proofs.told.EachDone.{IsDone, each-done}
+use Rattle.script_told.proofs.Lemmas.{tree-managed, stage-in, printed-in, sound-bus, plan-carried, IsDone, each-done}
 use Rattle.script_bus.specs.codings.Standing.{StandsAs}
 use Rattle.script_bus.proofs.Standing.{reported-stands}
 use Rattle.script_bus.proofs.Planning.{its-id}

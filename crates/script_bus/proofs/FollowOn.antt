@@ -16,7 +16,8 @@ LeadsOn stage (entry ∷ entries) = (entry.before ≡ stage) × LeadsOn entry.af
 abbrev LeadsOnFrom : (Stage → ScriptRun → Type 0) → Type 0
 LeadsOnFrom Rest = (stage : Stage) (run : ScriptRun) → Rest stage run → LeadsOn stage run.entries
 
-same-run : (stage : Stage) (one other : ScriptRun) → one ≡ other → LeadsOn stage other.entries → LeadsOn stage one.entries
+same-run : (stage : Stage) (one other : ScriptRun) → one ≡ other → LeadsOn stage other.entries →
+    LeadsOn stage one.entries
 same-run stage one other same h = subst (λ (r : ScriptRun). LeadsOn stage r.entries) (sym same) h
 
 goes :
@@ -33,7 +34,8 @@ takes number Rest stage (Ok None) run rest x = rest stage run x
 takes number Rest stage (Ok (Some command)) run rest x = goes number Rest stage command x.0 run rest x.2
 takes number Rest stage (Err kind) run rest x = same-run stage run (stopped number kind) x tt
 
-ends : (number : ℕ) (stage : Stage) (r : LineAnswer) → LeadsOn stage (last_run number stage r).entries
+ends : (number : ℕ) (stage : Stage) (r : LineAnswer) →
+    LeadsOn stage (last_run number stage r).entries
 ends number stage (Ok (bus, text)) = (refl, tt)
 ends number stage (Err kind) = tt
 
@@ -56,13 +58,15 @@ follow-on bytes run before rest one two x same =
     (leads-behind fresh before (two ∷ rest) one (subst (LeadsOn fresh) same (leads-on bytes run x))).0
 
 -- what holds of all holds of the one behind these
-pub at-split : (P : Entry → Type 0) (before rest : List Entry) (one : Entry) → All P (before ++ one ∷ rest) → P one
+pub at-split : (P : Entry → Type 0) (before rest : List Entry) (one : Entry) →
+    All P (before ++ one ∷ rest) → P one
 at-split P [] rest one all = all 0 one (omega arith)
 at-split P (entry ∷ before) rest one all =
     at-split P before rest one (λ i d inside. all (suc i) d (omega (arith, inside)))
 
 -- and of all behind that one
-pub behind-split : (P : Entry → Type 0) (before rest : List Entry) (one : Entry) → All P (before ++ one ∷ rest) → All P rest
+pub behind-split : (P : Entry → Type 0) (before rest : List Entry) (one : Entry) →
+    All P (before ++ one ∷ rest) → All P rest
 behind-split P [] rest one all = λ i d inside. all (suc i) d (omega (arith, inside))
 behind-split P (entry ∷ before) rest one all =
     behind-split P before rest one (λ i d inside. all (suc i) d (omega (arith, inside)))

@@ -8,7 +8,7 @@ use Rattle.cable_world.specs.Run.{IsReached}
 use Rattle.root_plan.specs.declared.choice.RootPlan.{RootPlan}
 use Rattle.settle.specs.declared.report.Report.{Report}
 use Rattle.settle.specs.Report.{IsReport, quiet_turns_of}
-use Rattle.settle.proofs.TurnsGiven.{quiet-is}
+use Rattle.settle.proofs.Lemmas.{quiet-is}
 use Rattle.script_lines.specs.declared.kind.Kind.{Kind}
 use Rattle.script_lines.specs.declared.command.Command.{Command}
 use Rattle.script_lines.specs.declared.command.Command.TheVariants.{Plug, Pull, Reset, Config, Hold}
@@ -150,7 +150,8 @@ pub record AreNotes (notes : Notes) (nodes turns : ℕ) : Type 0 where
   pub reports : notes.reports ≤ turns
   pub maps : notes.maps ≤ 100
 
-pub notes-are : (bus : Bus) → IsBus bus → AreNotes bus.notes (length bus.world.nodes) bus.world.turns
+pub notes-are : (bus : Bus) → IsBus bus →
+    AreNotes bus.notes (length bus.world.nodes) bus.world.turns
 notes-are bus b = record {
   names = b.names;
   banks = b.banks;
@@ -159,7 +160,8 @@ notes-are bus b = record {
   maps = b.maps;
 }
 
-pub after-act : (notes : Notes) (n t : ℕ) → AreNotes notes n t → AreNotes (notes_after_act notes) n t
+pub after-act : (notes : Notes) (n t : ℕ) → AreNotes notes n t →
+    AreNotes (notes_after_act notes) n t
 after-act notes n t h = record {
   names = h.names;
   banks = h.banks;

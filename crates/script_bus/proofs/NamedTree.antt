@@ -20,7 +20,8 @@ found P p (x ∷ xs) all = either (p x) (all 0 x (omega arith)) (found P p xs (�
 IsNamed : Names → Reported → Type 0
 IsNamed names t = IsNamedTree names t.root t.list t.order
 
-named-part : (names : Names) (part : Part) → IsNamedPart names part → IfSome (tree_of part) (IsNamed names)
+named-part : (names : Names) (part : Part) → IsNamedPart names part →
+    IfSome (tree_of part) (IsNamed names)
 unfolding IsNamed
 named-part names part is = by part.outcome refl is.outcome
   where
@@ -29,7 +30,8 @@ named-part names part is = by part.outcome refl is.outcome
     by (reported.Contention a b) e is = tt
     by (reported.Loop core) e is = tt
 
-of-part : (names : Names) (o : Option Part) → IfSome o (IsNamedPart names) → IfSome (option_and_then tree_of o) (IsNamed names)
+of-part : (names : Names) (o : Option Part) → IfSome o (IsNamedPart names) →
+    IfSome (option_and_then tree_of o) (IsNamed names)
 of-part names None is = tt
 of-part names (Some part) is = named-part names part is
 

@@ -13,17 +13,15 @@ use Rattle.cabling.specs.Looped.{IsCoreOf}
 use Rattle.cabling.specs.Labels.{labels}
 use Rattle.cabling.specs.Sees.{numbers}
 use Rattle.cabling.specs.Walk.{IsWalk}
-use Rattle.cabling.proofs.Once.{In}
-use Rattle.cabling.proofs.Small.{Loopless, tree_within, tree_once}
-use Rattle.cabling.proofs.Whole.{shared, seen_loopless}
+use Rattle.cabling.proofs.Lemmas.{In, Loopless, tree_within, tree_once, shared, seen_loopless}
 use Rattle.cable_world.specs.World.{CableWorld}
 use Rattle.cable_world.specs.Lawful.{IsLawful}
 use Rattle.cable_world.specs.Outcome.{attrs_now}
-use Rattle.cable_world.proofs.Options.{some-of, some-at}
-use Rattle.outcomes.proofs.walks.Marked.{in-read, one-place}
+use Rattle.cable_world.proofs.Lemmas.{some-of, some-at}
+use Rattle.outcomes.proofs.Lemmas.{in-read, one-place}
 use Rattle.port_state.specs.Machine.{PortNode}
 use Rattle.root_plan.specs.declared.choice.RootPlan.{RootPlan}
-use Rattle.root_plan.proofs.Choosing.{candidate_within}
+use Rattle.root_plan.proofs.Lemmas.{candidate_within}
 use Rattle.settle_plan.specs.Planned.{SuitsTree, HasId, PlansSuit}
 use Rattle.script_told.specs.Bus.{Reported}
 use Rattle.script_text.specs.Plan.{IsPlan}
@@ -97,7 +95,8 @@ module _ (w : CableWorld) (l : IsLawful w) (node : ℕ) (tree : Reported) (s : S
   all-there = λ i d inside. omega (arith, its-there i inside, get_or_default tree.order i d 0 inside)
 
   -- a plan for the tree suits it
-  pub plan-suits : PlansSuit w node → (shown : Tree) → IsBusTreeOf Ieee2000 shown → emits shown ≡ tree.list → (plan : RootPlan) → IsPlan shown plan → SuitsTree w node plan
+  pub plan-suits : PlansSuit w node → (shown : Tree) → IsBusTreeOf Ieee2000 shown →
+      emits shown ≡ tree.list → (plan : RootPlan) → IsPlan shown plan → SuitsTree w node plan
   plan-suits suit shown bus same plan p =
       suit s.set tree.root t shown plan s.component s.stands.is bus (same ∙ s.stands.emitted)
       (record { candidate = p.candidate; hops = p.hops; gap = p.gap })

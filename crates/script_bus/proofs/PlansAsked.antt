@@ -57,7 +57,8 @@ module _ (bus : Bus) (name : List ℕ) (node id manager : ℕ) where
       MatchBool b (Later r) (r ≡ Err Kind.NotManager) → PlansAs bus name node id manager r
   by-manager b e r h = subst (λ (x : Bool). MatchBool x (Later r) (r ≡ Err Kind.NotManager)) (sym e) h
 
-  by-turns : (b : Bool) → nat_lt 2000000 (bus.world.turns + quiet_turns_of bus.world) ≡ b → (r : LineAnswer) →
+  by-turns : (b : Bool) → nat_lt 2000000 (bus.world.turns + quiet_turns_of bus.world) ≡ b →
+      (r : LineAnswer) →
       MatchBool b (r ≡ Err Kind.TooManyTurns) (Inner r) → Later r
   by-turns b e r h = subst (λ (x : Bool). MatchBool x (r ≡ Err Kind.TooManyTurns) (Inner r)) (sym e) h
 

@@ -11,7 +11,7 @@ use Rattle.cable_world.specs.declared.act.Act.TheVariants.{Pull}
 use Rattle.cable_world.specs.World.{CableWorld}
 use Rattle.cable_world.specs.Act.{act_fault}
 use Rattle.cable_world.specs.Unchanged.{ActKeepsNodes}
-use Rattle.cable_world.proofs.StaysLawful.{reached-lawful}
+use Rattle.cable_world.proofs.Lemmas.{reached-lawful}
 use Rattle.loop_advice.specs.SomeAdvice.{HasAdvice, AdvicesExist}
 use Rattle.settle.specs.declared.report.Outcome.{Outcome}
 use Rattle.settle.specs.declared.report.Outcome.TheVariants as reported
@@ -22,15 +22,11 @@ use Rattle.script_told.specs.Bus.{Bus}
 use Rattle.script_told.specs.Step.{LineAnswer, Acts, Settles, notes_after_act}
 use Rattle.script_told.specs.Run.{printed, unless_stopped}
 use Rattle.script_told.specs.SomeAnswer.{IsReachedBus, HasAnswer, BusesSettle}
-use Rattle.script_told.proofs.SomeAnswer.{act-leads}
-use Rattle.script_told.proofs.told.Reached.{do-act}
-use Rattle.script_told.proofs.told.EachDone.{IsEnd}
+use Rattle.script_told.proofs.Lemmas.{act-leads, do-act, IsEnd}
 use Rattle.script_advice.specs.declared.advice.LoopAdvice.{LoopAdvice}
 use Rattle.script_advice.specs.Advice.{RunsTo, if_loop, loops_of, IsAdviceFor, AreAdvices, all_pulls, PullsLead, advice_text, after_text, Advises, told_at_end}
 use Rattle.script_advice.specs.Advising.{ArePullable}
-use Rattle.script_advice.proofs.Pulling.{can-pull, next-pullable}
-use Rattle.script_advice.proofs.Settled.{reported-pullable}
-use Rattle.script_advice.proofs.OneAdvice.{end-of}
+use Rattle.script_advice.proofs.Lemmas.{can-pull, next-pullable, reported-pullable, end-of}
 use Rattle.script_bus.specs.SomeRun.{HasRun, EachScriptHasARun}
 use Rattle.script_bus.specs.SomeAdvice.{HasSomeAdvice, EachScriptHasAnAdvice}
 
@@ -49,7 +45,8 @@ one-more :
 one-more c a components is (advices, each, are) =
     (a ∷ advices, All-cons (IsAdviceFor c) a advices is each, ap (λ (l : List Nodes). a.nodes ∷ l) are)
 
-advice-for : AdvicesExist → (w : CableWorld) (part : Part) → IsCabling w.cabling → IsPart w part → (a : LoopAdvice) × IsAdviceFor w.cabling a × (a.nodes ≡ part.nodes)
+advice-for : AdvicesExist → (w : CableWorld) (part : Part) → IsCabling w.cabling → IsPart w part →
+    (a : LoopAdvice) × IsAdviceFor w.cabling a × (a.nodes ≡ part.nodes)
 advice-for exist w part cables is =
     let found : HasAdvice w.cabling is.node part.nodes =
     exist w.cabling is.node part.nodes cables (is.there is.node is.component.holds) is.component in (
@@ -70,7 +67,8 @@ part-advices exist w part components cables is rest = by part.outcome
     by (reported.Tree root list order) = rest
     by (reported.Contention x y) = rest
 
-some-advices : AdvicesExist → (w : CableWorld) (parts : List Part) → IsCabling w.cabling → All (IsPart w) parts → HasAdvices w.cabling (loops_of parts)
+some-advices : AdvicesExist → (w : CableWorld) (parts : List Part) → IsCabling w.cabling →
+    All (IsPart w) parts → HasAdvices w.cabling (loops_of parts)
 some-advices exist w [] cables each = ([], All-nil (IsAdviceFor w.cabling), refl)
 some-advices exist w (part ∷ parts) cables each =
     part-advices exist w part (loops_of parts) cables (All-head (IsPart w) part parts each)

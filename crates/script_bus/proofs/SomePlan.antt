@@ -8,9 +8,9 @@ use Rattle.self_id.specs.declared.standard.Standard.TheVariants.{Ieee2000}
 use Rattle.topology_stack.specs.Tree.{Tree, walk}
 use Rattle.topology_stack.specs.Elect.{elected, IsCandidate, IsHighest}
 use Rattle.topology_stack.specs.OneAnswer.{NoListHasTwoTrees}
-use Rattle.topology_stack.proofs.Highest.{is_highest}
+use Rattle.topology_stack.proofs.Lemmas.{is_highest}
 use Rattle.cabling.specs.Existence.{HasComponent, ComponentsExist}
-use Rattle.cabling.proofs.Whole.{shared}
+use Rattle.cabling.proofs.Lemmas.{shared}
 use Rattle.cable_world.specs.declared.act.Act.{Act}
 use Rattle.cable_world.specs.declared.act.Act.TheVariants.{Config}
 use Rattle.cable_world.specs.World.{CableWorld, NodeNumber}
@@ -18,18 +18,14 @@ use Rattle.cable_world.specs.Lawful.{IsLawful}
 use Rattle.cable_world.specs.Run.{IsReached}
 use Rattle.cable_world.specs.Act.{ActLeads, act_fault}
 use Rattle.cable_world.specs.Turn.{turns_after}
-use Rattle.cable_world.proofs.Options.{some-same}
-use Rattle.cable_world.proofs.StaysLawful.{reached-lawful}
-use Rattle.cable_world.proofs.StaysReached.{act-reached}
+use Rattle.cable_world.proofs.Lemmas.{some-same, reached-lawful, act-reached}
 use Rattle.outcomes.specs.Settled.{TreesStay, IdsNameOneNode, ConfigsMoveRoots, ConfigsSetGaps}
-use Rattle.root_plan.proofs.Choosing.{candidate_within}
+use Rattle.root_plan.proofs.Lemmas.{candidate_within}
 use Rattle.settle.specs.declared.report.Report.{Report}
 use Rattle.settle.specs.Report.{quiet_turns_of}
 use Rattle.settle.specs.SomeWalk.{HasWalk, WalksExist}
 use Rattle.settle_plan.specs.Planned.{SuitsTree}
-use Rattle.settle_plan.proofs.Suited.{not-refused, packet-fits}
-use Rattle.settle_plan.proofs.Chosen.{suits}
-use Rattle.settle_plan.proofs.Carried.{nodes-stay}
+use Rattle.settle_plan.proofs.Lemmas.{not-refused, packet-fits, suits, nodes-stay}
 use Rattle.script_lines.specs.declared.kind.Kind.{Kind}
 use Rattle.script_text.specs.Plan.{plan_line}
 use Rattle.script_text.specs.SomePlan.{HasPlan, PlansExist}
@@ -38,12 +34,13 @@ use Rattle.script_told.specs.Bus.{Bus, Reported, node_named, tree_with, values_a
 use Rattle.script_told.specs.Step.{LineAnswer, HasManager, AtNode, AtTree, AtManager, Plans, PlansAs, Settled, Within, id_of, node_with, notes_after_act, notes_after_report}
 use Rattle.script_told.specs.SomeManager.{IsManaged, ReportedTreesAreManaged}
 use Rattle.script_told.specs.SomeAnswer.{IsOfReached, IsReachedBus, HasAnswer, PlansHaveAnswers}
-use Rattle.script_told.proofs.SomeAnswer.{known, within, if-test, act-leads, tree-managed}
+use Rattle.script_told.proofs.Lemmas.{known, within, if-test, act-leads, tree-managed}
 use Rattle.script_bus.specs.codings.Standing.{StandsSince, StandsAs}
 use Rattle.script_bus.proofs.Standing.{reported-stands}
 use Rattle.script_bus.proofs.Planning.{holds-its, its-there}
 
-pub stands-since : (w : CableWorld) (o : Option Report) → IfSome o (IsOfReached w) → IfSome o (λ r. StandsSince r w)
+pub stands-since : (w : CableWorld) (o : Option Report) → IfSome o (IsOfReached w) →
+    IfSome o (λ r. StandsSince r w)
 stands-since w None h = tt
 stands-since w (Some report) h = record {
   before = h.world;
@@ -55,7 +52,8 @@ stands-since w (Some report) h = record {
 }
 
 -- where there is a manager there is a candidate
-has-candidate : (tree : Reported) (manager : NodeNumber) (has : HasManager tree (Some manager)) → (id : ℕ) × IsCandidate (walk has.shown) id
+has-candidate : (tree : Reported) (manager : NodeNumber) (has : HasManager tree (Some manager)) →
+    (id : ℕ) × IsCandidate (walk has.shown) id
 has-candidate tree manager has = by (elected has.shown) (is_highest (walk has.shown)) has.elects
   where
     by : (o : Option ℕ) → IsHighest (walk has.shown) o → Some manager ≡ option_map (node_with tree) o → (id : ℕ) × IsCandidate (walk has.shown) id

@@ -10,13 +10,13 @@ use Rattle.script_lines.specs.declared.command.Command.TheVariants.{Node, Delay,
 use Rattle.script_lines.specs.Range.{IsWithin, IsInRange, IsNodeInRange}
 use Rattle.script_lines.specs.Line.{Reads}
 use Rattle.script_lines.specs.Ranged.{CommandsAreInRange}
-use Rattle.script_lines.proofs.LineRead.{some_reading}
+use Rattle.script_lines.proofs.Lemmas.{some_reading}
 use Rattle.script_told.specs.Bus.{Bus, is_declared}
 use Rattle.script_told.specs.Step.{Does}
 use Rattle.script_told.specs.Script.{Draft, Stage, fresh, declaring, running, StageAnswer, bus_of, delay_of, first_draft, new_node, times_of, coins_of, with_node, Declares, Delays, onwards, Runs, Follows, script_lines}
 use Rattle.script_told.specs.Run.{ScriptRun, done, stopped, behind, last_run, Goes, Takes, RunsFrom}
 use Rattle.script_told.specs.SomeAnswer.{IsReachedBus, HasAnswer, CommandsHaveAnswers, PlansHaveAnswers, BusesSettle}
-use Rattle.script_told.proofs.told.Reached.{IsSoundDraft, IsSound, LeavesSound, sound-bus, no-nodes, drafted, leaves, onwards-sound, attrs_said, node-at-power-on}
+use Rattle.script_told.proofs.Lemmas.{IsSoundDraft, IsSound, LeavesSound, sound-bus, no-nodes, drafted, leaves, onwards-sound, attrs_said, node-at-power-on}
 use Rattle.script_bus.specs.SomeRun.{EachScriptHasARun}
 
 record Step (Comes : StageAnswer → Type 0) : Type 0 where
@@ -58,7 +58,8 @@ module _ (keeps : ActKeepsNodes) (commands : CommandsHaveAnswers) (plans : Plans
   any-answer bus (Plan name) h = plans bus name h
   any-answer bus command h = commands bus command h tt
 
-  runs : (stage : Stage) (command : Command) → IsSound stage → IsInRange (delay_of stage) command → Step (Runs stage command)
+  runs : (stage : Stage) (command : Command) → IsSound stage → IsInRange (delay_of stage) command →
+      Step (Runs stage command)
   runs stage command h i =
       let a = any-answer (bus_of stage) command (sound-bus stage h) in
       record {
@@ -67,7 +68,8 @@ module _ (keeps : ActKeepsNodes) (commands : CommandsHaveAnswers) (plans : Plans
         sound = onwards-sound a.answer (leaves keeps (delay_of stage) (bus_of stage) command (sound-bus stage h) i a.answer a.is);
       }
 
-  follow : (stage : Stage) (command : Command) → IsSound stage → IsInRange (delay_of stage) command → Step (Follows stage command)
+  follow : (stage : Stage) (command : Command) → IsSound stage →
+      IsInRange (delay_of stage) command → Step (Follows stage command)
   follow fresh (Node name ports speed link contender force power gap held short long word len seed packed) h i =
       declare-node first_draft (no-nodes 4 (omega arith) (omega arith)) name ports speed link contender force power gap held short long word len seed i
   follow (declaring draft) (Node name ports speed link contender force power gap held short long word len seed packed) h i =
@@ -100,7 +102,8 @@ module _ (keeps : ActKeepsNodes) (commands : CommandsHaveAnswers) (plans : Plans
       (g.0, (s.answer, s.is, g.1))
   takes number Rest rest stage line (Err kind) h reads = (stopped number kind, refl)
 
-  from-each : (lines : List (List ℕ)) (number : ℕ) (stage : Stage) → IsSound stage → (run : ScriptRun) × RunsFrom number lines stage run
+  from-each : (lines : List (List ℕ)) (number : ℕ) (stage : Stage) → IsSound stage →
+      (run : ScriptRun) × RunsFrom number lines stage run
   from-each [] number stage h =
       let a = settle (bus_of stage) (sound-bus stage h) in
       (last_run number stage a.answer, (a.answer, a.is, refl))

@@ -15,18 +15,14 @@ use Rattle.cabling.specs.Component.{IsComponent}
 use Rattle.cabling.specs.Looped.{IsCore}
 use Rattle.cabling.specs.Labels.{labels}
 use Rattle.cabling.specs.Sees.{Sees, numbers, SmallTree}
-use Rattle.cabling.proofs.OneTree.{one-tree}
-use Rattle.cabling.proofs.Small.{Loopless, small_tree}
-use Rattle.cabling.proofs.Whole.{shared, seen_loopless}
+use Rattle.cabling.proofs.Lemmas.{one-tree, Loopless, small_tree, shared, seen_loopless}
 use Rattle.cable_world.specs.World.{CableWorld}
 use Rattle.cable_world.specs.Turn.{turn, turns_after}
 use Rattle.cable_world.specs.Act.{hold, hold_fault}
 use Rattle.cable_world.specs.Run.{Event, acts, holds, turns, Runs, IsReached}
 use Rattle.cable_world.specs.Lawful.{IsLawful}
 use Rattle.cable_world.specs.Outcome.{IsTree, HasNoLoop, attrs_now}
-use Rattle.cable_world.proofs.Options.{some-of, some-same, some-and}
-use Rattle.cable_world.proofs.running.Whole.{lawful-now}
-use Rattle.cable_world.proofs.turns.ByNumber.{cabling-after}
+use Rattle.cable_world.proofs.Lemmas.{some-of, some-same, some-and, lawful-now, cabling-after}
 use Rattle.outcomes.specs.Settled.{HasNoAct, TreesStay}
 use Rattle.settle.specs.declared.report.Outcome.{Outcome}
 use Rattle.settle.specs.declared.report.Outcome.TheVariants as reported
@@ -34,14 +30,14 @@ use Rattle.settle.specs.declared.report.Part.{Part}
 use Rattle.settle.specs.declared.report.Report.{Report}
 use Rattle.settle.specs.Report.{IsPart, IsReport}
 use Rattle.settle.specs.Reported.{IsReported, ReportsTree}
-use Rattle.settle.proofs.Relabelled.{one-order}
-use Rattle.settle.proofs.SameNodes.{same-component, same-tree}
+use Rattle.settle.proofs.Lemmas.{one-order, same-component, same-tree}
 use Rattle.script_told.specs.Bus.{Notes, Reported, tree_of, part_with, tree_with}
 use Rattle.script_bus.specs.codings.Standing.{StandsSince, StandsAs}
 
 -- ---- since a report
 
-none-both : (events later : List Event) → HasNoAct events → HasNoAct later → HasNoAct (events ++ later)
+none-both : (events later : List Event) → HasNoAct events → HasNoAct later →
+    HasNoAct (events ++ later)
 none-both [] later h k = k
 none-both (acts a ∷ events) later h k = absurd h
 none-both (holds end n ∷ events) later h k = none-both events later h k
@@ -65,7 +61,8 @@ since-more report later w v none run s = record {
   run = runs-both s.events later s.before w v s.run run;
 }
 
-since-turns : (k : ℕ) (w : CableWorld) (report : Report) → StandsSince report w → StandsSince report (turns_after k w)
+since-turns : (k : ℕ) (w : CableWorld) (report : Report) → StandsSince report w →
+    StandsSince report (turns_after k w)
 unfolding turns_after
 since-turns zero w report s = s
 since-turns (suc k) w report s = since-turns k (turn w) report (since-more report (turns ∷ []) w (turn w) tt (turn w, refl, refl) s)
@@ -82,10 +79,12 @@ pub hold-stands :
 hold-stands end n w v None none e h = h
 hold-stands end n w v (Some r) none e h = since-more r (holds end n ∷ []) w v tt (v, (none, e), refl) h
 
-pub new-stands : (w : CableWorld) (report : Report) → ∥ IsReached w ∥₁ → IsReport w report → StandsSince report w
+pub new-stands : (w : CableWorld) (report : Report) → ∥ IsReached w ∥₁ → IsReport w report →
+    StandsSince report w
 new-stands w report r is = record { before = w; reached = r; is = is; events = []; no_act = tt; run = refl }
 
-run-cables : (events : List Event) (w v : CableWorld) → HasNoAct events → Runs events w v → v.cabling ≡ w.cabling
+run-cables : (events : List Event) (w v : CableWorld) → HasNoAct events → Runs events w v →
+    v.cabling ≡ w.cabling
 run-cables [] w v none run = ap (λ (u : CableWorld). u.cabling) run
 run-cables (acts a ∷ events) w v none run = absurd none
 run-cables (holds end n ∷ events) w v none run =
@@ -135,7 +134,8 @@ if-some P o x e h = subst (λ q. IfSome q P) e h
 
 -- ---- a tree again
 
-at_prop : {A : Type 0} → (o : Option A) (P : A → Type 0) → ((x : A) → IsProp (P x)) → IsProp (IsSomeAnd o P)
+at_prop : {A : Type 0} → (o : Option A) (P : A → Type 0) → ((x : A) → IsProp (P x)) →
+    IsProp (IsSomeAnd o P)
 at_prop None P p = λ a b. absurd a
 at_prop (Some x) P p = p x
 

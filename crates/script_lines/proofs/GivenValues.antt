@@ -83,7 +83,8 @@ within least most n h = go (nat_le least n) (nat_le n most) refl refl h
     go true false f e h = absurd (cc)
     go false below f e h = absurd (cc)
 
-small_digits : (base most n : ℕ) (digits : List ℕ) → of_digits base most digits ≡ Some n → n < 2 ^ 32
+small_digits : (base most n : ℕ) (digits : List ℕ) → of_digits base most digits ≡ Some n →
+    n < 2 ^ 32
 unfolding of_digits
 small_digits base most n digits h = grind (arith, nat_tests)
 

@@ -6,3 +6,4 @@ pub mod CoinBits
 pub mod Uniform
 pub mod LineRead
 pub mod Ranged
+pub mod Lemmas

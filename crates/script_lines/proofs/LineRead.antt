@@ -21,7 +21,8 @@ abbrev NoneOf : List Form → List (List ℕ) → Type 0
 NoneOf [] words = Unit {0}
 NoneOf (form ∷ forms) words = (fit (shapes form) words ≡ false) × NoneOf forms words
 
-none_at : (words : List (List ℕ)) → NoneOf forms words → (form : Form) → fit (shapes form) words ≡ false
+none_at : (words : List (List ℕ)) → NoneOf forms words → (form : Form) →
+    fit (shapes form) words ≡ false
 none_at words h plug = h.0
 none_at words h pull = h.1.0
 none_at words h reset = h.1.1.0
@@ -127,7 +128,8 @@ visible_line d line h =
     ap (λ b. cond b (Ok None) (cond (is_permitted_line line) (in_line (read_words d (words_of line))) (Err Word)))
     (false_of_not (is_skipped line) h)
 
-words_line : (d : ℕ) (line : List ℕ) → IsTrue (not (is_skipped line)) → IsTrue (is_permitted_line line)
+words_line : (d : ℕ) (line : List ℕ) → IsTrue (not (is_skipped line)) →
+    IsTrue (is_permitted_line line)
     → read_line d line ≡ in_line (read_words d (words_of line))
 words_line d line h permitted =
     visible_line d line h

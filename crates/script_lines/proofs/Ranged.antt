@@ -30,7 +30,8 @@ within least most n h = go (nat_le least n) (nat_le n most) refl refl h
     go true false a b h = absurd cc
     go false below a b h = absurd cc
 
-number : (least most : ℕ) (n : Option ℕ) → out_of least most n ≡ None → IsWithin least most (unwrap_or n 0)
+number : (least most : ℕ) (n : Option ℕ) → out_of least most n ≡ None →
+    IsWithin least most (unwrap_or n 0)
 number least most None h = absurd cc
 number least most (Some n) h = within least most n h
 
@@ -41,7 +42,8 @@ Fits a_name n = Unit {0}
 Fits (a_number least most) n = IsWithin least most n
 Fits (a_given least most) n = IsWithin least most n
 
-one : (shape : Shape) (word : List ℕ) → wrong shape word ≡ None → Fits shape (unwrap_or (number_of word) 0)
+one : (shape : Shape) (word : List ℕ) → wrong shape word ≡ None →
+    Fits shape (unwrap_or (number_of word) 0)
 one (the text) word h = tt
 one a_name word h = tt
 one (a_number least most) word h = number least most (number_of word) h
@@ -107,11 +109,13 @@ given-number d key pairs right = go (given key pairs) refl
     go None e = tt
     go (Some value) e = right_number d key pairs value right e
 
-or-usual : (n : Option ℕ) (least most usual : ℕ) → IfSome n (IsWithin least most) → usual ≤ most → unwrap_or n usual ≤ most
+or-usual : (n : Option ℕ) (least most usual : ℕ) → IfSome n (IsWithin least most) → usual ≤ most →
+    unwrap_or n usual ≤ most
 or-usual None least most usual h u = u
 or-usual (Some n) least most usual h u = h.1
 
-few-coins : (d : ℕ) (pairs : List (List ℕ)) → first_wrong_pair d [] pairs ≡ None → length (coins_given pairs) ≤ 64
+few-coins : (d : ℕ) (pairs : List (List ℕ)) → first_wrong_pair d [] pairs ≡ None →
+    length (coins_given pairs) ≤ 64
 few-coins d pairs right = go (given Coins pairs) refl
   where
     go : (o : Option (List ℕ)) → given Coins pairs ≡ o → length (unwrap_or o []) ≤ 64
@@ -124,7 +128,8 @@ third (a ∷ []) = refl
 third (a ∷ b ∷ []) = refl
 third (a ∷ b ∷ c ∷ words) = refl
 
-node-range : (d : ℕ) (words : List (List ℕ)) → has_node_form words ≡ true → wrong_node d words ≡ None → IsInRange d (node_command words)
+node-range : (d : ℕ) (words : List (List ℕ)) → has_node_form words ≡ true →
+    wrong_node d words ≡ None → IsInRange d (node_command words)
 node-range d words has right =
     let pairs : List (List ℕ) = drop 3 words in
     let both = neither (first_wrong node_shapes (take 3 words)) (first_wrong_pair d [] pairs) right in
@@ -142,7 +147,8 @@ node-range d words has right =
       few_coins = few-coins d pairs both.1;
     }
 
-said : (d : ℕ) (words : List (List ℕ)) (f : LineForm) → has_form f words ≡ true → wrong_word d f words ≡ None → IsInRange d (meaning f words)
+said : (d : ℕ) (words : List (List ℕ)) (f : LineForm) → has_form f words ≡ true →
+    wrong_word d f words ≡ None → IsInRange d (meaning f words)
 said d words node h right = node-range d words h right
 said d words (other f) h right = fixed d f words h right
 

@@ -196,7 +196,8 @@ not_so : (b f g : Bool) → (not b && f) ≡ true → (b && g) ≡ false
 not_so true f g h = absurd (cc)
 not_so false f g h = refl
 
-gap_no_root : (args : List (List ℕ)) → fit (a_name ∷ the (codes "-") ∷ a_given 0 63 ∷ []) args ≡ true
+gap_no_root : (args : List (List ℕ)) →
+    fit (a_name ∷ the (codes "-") ∷ a_given 0 63 ∷ []) args ≡ true
     → fit (a_name ∷ a_given 0 62 ∷ the (codes "-") ∷ []) args ≡ false
 gap_no_root [] h = absurd (cc)
 gap_no_root (name ∷ []) h = absurd (cc)

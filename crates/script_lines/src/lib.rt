@@ -25,4 +25,3 @@ pub use laws::{commands_are_in_range, names_are_tested, one_reading};
 pub use line::{parse_line, says_nothing};
 pub use number::number_of;
 pub use topology_stack::{Name, OutOfMemory};
-

@@ -26,7 +26,8 @@ behind-more entries entry more =
     ap (λ (l : List Entry). record { entries = l; end = more.end })
     (sym (append_assoc entries (entry ∷ []) more.entries))
 
-printed-more : (entries : List Entry) (entry : Entry) → printed (entries ++ entry ∷ []) ≡ printed entries ++ entry.text
+printed-more : (entries : List Entry) (entry : Entry) →
+    printed (entries ++ entry ∷ []) ≡ printed entries ++ entry.text
 printed-more [] entry = append-nil entry.text
 printed-more (e ∷ entries) entry =
     ap (λ (l : List ℕ). e.text ++ l) (printed-more entries entry)

@@ -6,3 +6,4 @@ pub mod OneText
 pub mod SomeText
 pub mod SomeMaps
 pub mod SomePlan
+pub mod Lemmas

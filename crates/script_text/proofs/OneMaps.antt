@@ -3,7 +3,7 @@ use Rattle.std.proofs.Common.{◌≡◌, ℕ, List, ◌∷◌, sym, ap, subst, �
 use Rattle.quad_lanes.specs.Pairs.{quads_of}
 use Rattle.topology_stack.specs.Tree.{Tree, IsBusTree}
 use Rattle.topology_map.specs.Sealed.{IsSealed}
-use Rattle.speed_map.proofs.SameBus.{one-rows, sealed-once}
+use Rattle.speed_map.proofs.Lemmas.{one-rows, sealed-once}
 use Rattle.script_text.specs.Maps.{images_text, IsMapsText}
 
 pub same_maps : (generation : ℕ) (t : Tree) (a b : List ℕ) → IsBusTree t →

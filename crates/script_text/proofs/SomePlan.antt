@@ -3,7 +3,7 @@ use Rattle.std.proofs.Common.{ℕ, true, refl}
 use Rattle.phy_packet.specs.Packet.{quad_of}
 use Rattle.phy_packet.specs.declared.packet.PhyPacket.TheVariants.{Config}
 use Rattle.bus_manager.specs.Gap.{gap_of}
-use Rattle.bus_manager.proofs.Longest.{reach, is_hops}
+use Rattle.bus_manager.proofs.Lemmas.{reach, is_hops}
 use Rattle.root_plan.specs.SomeChoice.{HasBestRoot, BestRootsExist}
 use Rattle.script_text.specs.SomePlan.{PlansExist}
 

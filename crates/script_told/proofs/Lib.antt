@@ -3,3 +3,4 @@ pub mod told
 pub mod SomeManager
 pub mod SomeAnswer
 pub mod WorkedScripts
+pub mod Lemmas

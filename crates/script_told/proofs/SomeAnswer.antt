@@ -13,8 +13,7 @@ use Rattle.cable_world.specs.World.{CableWorld, NodeNumber}
 use Rattle.cable_world.specs.Run.{IsReached}
 use Rattle.cable_world.specs.Turn.{turns_after}
 use Rattle.cable_world.specs.Act.{ActLeads, act_fault, hold, hold_fault, plug, pull, reset, configure, note_changes}
-use Rattle.cable_world.proofs.StaysLawful.{reached-lawful}
-use Rattle.cable_world.proofs.StaysReached.{turns-reached}
+use Rattle.cable_world.proofs.Lemmas.{reached-lawful, turns-reached}
 use Rattle.port_state.specs.Config.{config_packet}
 use Rattle.resource_manager.specs.declared.access.Access.{Access}
 use Rattle.resource_manager.specs.declared.access.Access.TheVariants as access

@@ -6,7 +6,7 @@ use Rattle.std.specs.Prelude.{◌==◌}
 use Rattle.std.proofs.lemmas.List.Elements.{All-head, All-tail}
 use Rattle.topology_stack.specs.Elect.{elected}
 use Rattle.cable_world.specs.World.{CableWorld}
-use Rattle.cable_world.proofs.Options.{some-same}
+use Rattle.cable_world.proofs.Lemmas.{some-same}
 use Rattle.settle.specs.declared.report.Outcome.{Outcome}
 use Rattle.settle.specs.declared.report.Outcome.TheVariants as reported
 use Rattle.settle.specs.declared.report.Part.{Part}

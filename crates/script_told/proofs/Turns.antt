@@ -2,7 +2,7 @@
 use Rattle.std.proofs.Common.{◌≡◌, ◌∙◌, ℕ, zero, suc, ◌+◌, ◌*◌, ◌≤◌, refl, arith}
 use Rattle.cable_world.specs.World.{CableWorld}
 use Rattle.cable_world.specs.Turn.{turn, turns_after}
-use Rattle.cable_world.proofs.turns.ByNumber.{turns-counted, delay-after, cabling-after}
+use Rattle.cable_world.proofs.Lemmas.{turns-counted, delay-after, cabling-after}
 use Rattle.settle.specs.Report.{quiet_turns_of}
 
 some : (d x : ℕ) → 1 ≤ d → 1 ≤ x → 1 ≤ d * x

@@ -25,8 +25,7 @@ use Rattle.script_told.specs.Bus.{Bus, bus_of_nodes}
 use Rattle.script_told.specs.Step.{LineAnswer, end_of, notes_after_act, notes_after_report, Reports, Settles}
 use Rattle.script_told.specs.Script.{script_lines, Stage, fresh, declaring, running, bus_of, delay_of, new_node, times_of, coins_of, Follows, fault_at}
 use Rattle.script_told.specs.Run.{ScriptRun, done, stopped, behind, last_run, RunsFrom, IsTold}
-use Rattle.script_lines.specs.codings.Reading.{read_line}
-use Rattle.script_lines.proofs.LineRead.{reads}
+use Rattle.script_lines.proofs.Lemmas.{read_line, reads}
 use Rattle.script_told.proofs.Turns.{AfterTurns, after-turns}
 
 -- ---- lines

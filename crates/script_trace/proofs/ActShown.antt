@@ -59,7 +59,8 @@ module _ (names : Names) (w v : CableWorld) where
   drop-none : (n : ℕ) → ◌≡◌ {A = List Travelling} (drop n []) []
   drop-none n = drop_of_length-le {A = Travelling} [] {i = n} (omega arith)
 
-  none-unplugged : IsLawful v → (end : End) → far v.cabling end ≡ None → act_sent_lines names w v end ≡ []
+  none-unplugged : IsLawful v → (end : End) → far v.cabling end ≡ None →
+      act_sent_lines names w v end ≡ []
   none-unplugged l end free =
       ap (λ (x : Wire). sent_lines names v.turns end.node end.port (drop (length (wire_of w end).signals) x.signals)) (l.well_formed.unplugged end free)
       ∙ ap (sent_lines names v.turns end.node end.port) (drop-none (length (wire_of w end).signals))

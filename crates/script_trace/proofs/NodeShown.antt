@@ -1,7 +1,7 @@
 -- The lines of a node stand among those of all nodes.
 use Rattle.std.proofs.Common.{◌≡◌, ◌++◌, ◌+◌, ℕ, zero, suc, List, [], ◌∷◌, Option, Some, map, length, slice_get, refl, sym, ◌∙◌, ap, subst, arith}
 use Rattle.std.proofs.lemmas.List.{append_assoc}
-use Rattle.cable_world.proofs.Options.{some-same}
+use Rattle.cable_world.proofs.Lemmas.{some-same}
 use Rattle.cable_world.specs.World.{CableWorld, NodeNumber}
 use Rattle.cable_world.specs.Turn.{turn, turn_at}
 use Rattle.cable_world.specs.ByNumber.{NodesTakeTurns}
@@ -33,7 +33,8 @@ among names w first (suc i) k (t ∷ seen) (y ∷ nodes) s x at is has =
       ap (λ (l : List ℕ). one ++ l) rest.2 ∙ sym (append_assoc one rest.0 (node_lines names w k s x.state.view ++ rest.1)),
     )
 
-before-turn : (nodes : List PortNode) (i : ℕ) (x : PortNode) → slice_get nodes i ≡ Some x → slice_get (map seen_before_turn nodes) i ≡ Some (seen_before_turn x)
+before-turn : (nodes : List PortNode) (i : ℕ) (x : PortNode) → slice_get nodes i ≡ Some x →
+    slice_get (map seen_before_turn nodes) i ≡ Some (seen_before_turn x)
 before-turn [] i x is = absurd cc
 before-turn (y ∷ nodes) zero x is = ap (λ (z : PortNode). Some (seen_before_turn z)) (some-same y x is)
 before-turn (y ∷ nodes) (suc i) x is = before-turn nodes i x is

@@ -3,7 +3,7 @@ use Rattle.std.proofs.Common.{◌≡◌, ◌++◌, ℕ, List, [], ◌∷◌, Opt
 use Rattle.std.specs.Prelude.{Result, Ok, Err, All}
 use Rattle.std.proofs.lemmas.List.Elements.{All-head, All-tail}
 use Rattle.cable_world.specs.Unchanged.{ActKeepsNodes}
-use Rattle.cable_world.proofs.Options.{some-same}
+use Rattle.cable_world.proofs.Lemmas.{some-same}
 use Rattle.topology_stack.specs.OneAnswer.{NoListHasTwoTrees}
 use Rattle.root_plan.specs.declared.choice.RootPlan.{RootPlan}
 use Rattle.script_lines.specs.declared.kind.Kind.{Kind}
@@ -15,13 +15,7 @@ use Rattle.script_told.specs.Step.{LineAnswer, CarriesOut, Does}
 use Rattle.script_told.specs.Script.{Stage, fresh, declaring, running, Runs, Follows, onwards, Told, bus_of}
 use Rattle.script_told.specs.Run.{Entry, ScriptRun, IsRun, printed, unless_stopped}
 use Rattle.script_told.specs.EachPlan.{IsCarriedOut}
-use Rattle.script_told.proofs.told.Parts.{stage-in}
-use Rattle.script_told.proofs.told.Cables.{IsCabled}
-use Rattle.script_told.proofs.told.Commands.{same-plan, same-sent}
-use Rattle.script_told.proofs.told.Reached.{IsSound}
-use Rattle.script_told.proofs.told.Lines.{cabled, one-run}
-use Rattle.script_told.proofs.told.EachDone.{IsDone, each-done}
-use Rattle.script_told.proofs.told.PlanCarried.{plan-carried}
+use Rattle.script_told.proofs.Lemmas.{stage-in, IsCabled, same-plan, same-sent, IsSound, cabled, one-run, IsDone, each-done, plan-carried}
 use Rattle.script_trace.specs.Trace.{act_trace, quiet_trace, TracesPlan, Traces, TracesAt, AllTrace, IsTraceOf}
 use Rattle.script_trace.specs.OneTrace.{ScriptsHaveOneTrace, TracedScriptsAreTold, TraceFaultsAreTold, HasTrace, RunsHaveTraces}
 
@@ -139,7 +133,8 @@ plan-has-lines bus name after text c = (
   },
 )
 
-command-lines : (bus : Bus) (command : Command) (after : Bus) (text : List ℕ) → Does bus command (Ok (after, text)) → HasLines bus command after
+command-lines : (bus : Bus) (command : Command) (after : Bus) (text : List ℕ) →
+    Does bus command (Ok (after, text)) → HasLines bus command after
 command-lines bus (Plan name) after text x = plan-has-lines bus name after text (plan-carried bus name after text x)
 command-lines bus (Plug a a_port b b_port) after text x = (_, refl)
 command-lines bus (Pull name port) after text x = (_, refl)
@@ -180,7 +175,8 @@ stage-lines stage command (running after) text f = by-command command f
     by-command (Delay delay) g = ([], refl)
     by-command c g = of-runs c g
 
-each-has-lines : (entries : List Entry) → All IsDone entries → (lines : List ℕ) × AllTrace entries lines
+each-has-lines : (entries : List Entry) → All IsDone entries →
+    (lines : List ℕ) × AllTrace entries lines
 each-has-lines [] h = ([], refl)
 each-has-lines (e ∷ entries) h =
     let one = stage-lines e.before e.command e.after e.text (All-head IsDone e entries h).follows in

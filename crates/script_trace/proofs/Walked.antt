@@ -133,7 +133,8 @@ past-end [] (suc k) h = refl
 past-end (x ∷ xs) zero h = absurd (omega (arith, h))
 past-end (x ∷ xs) (suc k) h = past-end xs k (omega (arith, h))
 
-no-node : (names : Names) (w : CableWorld) (k : ℕ) (seen : List Seen) → all_lines names w k seen [] ≡ []
+no-node : (names : Names) (w : CableWorld) (k : ℕ) (seen : List Seen) →
+    all_lines names w k seen [] ≡ []
 no-node names w k [] = refl
 no-node names w k (s ∷ seen) = refl
 
@@ -193,7 +194,8 @@ next-turn names n k v u before after all h done new so =
     (turns-left names n k v h ∙ ap (λ (z : CableWorld). turn_lines names v ++ turns_lines names (n - (k + 1)) z) (sym done))
     so
 
-pub no-turn-left : (names : Names) (n k : ℕ) (v : CableWorld) → n ≤ k → turns_lines names (n - k) v ≡ []
+pub no-turn-left : (names : Names) (n k : ℕ) (v : CableWorld) → n ≤ k →
+    turns_lines names (n - k) v ≡ []
 unfolding turns_lines
 no-turn-left names n k v h =
     let e : n - k ≡ 0 = omega (arith, h) in

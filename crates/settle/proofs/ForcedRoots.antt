@@ -5,21 +5,17 @@ use Rattle.std.proofs.lemmas.Option.{slice_get_within}
 use Rattle.topology_stack.specs.Tree.{Tree}
 use Rattle.cabling.specs.Existence.{ComponentsExist}
 use Rattle.cabling.specs.NodeSet.{Holds}
-use Rattle.cabling.proofs.Small.{Loopless, loopless}
-use Rattle.cabling.proofs.Whole.{shared}
+use Rattle.cabling.proofs.Lemmas.{Loopless, loopless, shared}
 use Rattle.port_state.specs.Machine.{PortNode}
 use Rattle.cable_world.specs.World.{CableWorld}
 use Rattle.cable_world.specs.Run.{IsReached, quiet_turns}
 use Rattle.cable_world.specs.Lawful.{IsLawful}
 use Rattle.cable_world.specs.Outcome.{IsTree, Shows}
-use Rattle.cable_world.proofs.Options.{some-of, some-at}
-use Rattle.cable_world.proofs.running.Whole.{lawful-now}
+use Rattle.cable_world.proofs.Lemmas.{some-of, some-at, lawful-now, plain-quiet, plainly, turns-cabling}
 use Rattle.cable_world.specs.Quiet.{no_holds, quiet_after}
-use Rattle.cable_world.proofs.QuietTurns.{plain-quiet, plainly, turns-cabling}
 use Rattle.outcomes.specs.Forced.{EntriesTakeOver, waits_due}
 use Rattle.outcomes.specs.Settled.{ForcedRootsSettle}
-use Rattle.outcomes.proofs.settled.Components.{small-fresh}
-use Rattle.outcomes.proofs.settled.QuietTurns.{quiet-enough}
+use Rattle.outcomes.proofs.Lemmas.{small-fresh, quiet-enough}
 use Rattle.settle.specs.Report.{IsReport, IsTreeFrom, quiet_turns_of, IsAfterQuiet}
 use Rattle.settle.specs.declared.report.Report.{Report}
 use Rattle.settle.specs.Forced.{BeginsAnew, IsForcedAlone, ForcedNodeIsRoot}
@@ -33,7 +29,8 @@ module _
   enough = omega (arith, ap (λ (n : ℕ). quiet_turns n w.delay) l.well_formed.count)
 
   -- what is forced after the turns waited before them
-  waited : (k : ℕ) (b : Bool) → Holds set k → Shows v k (λ x. x.force ≡ b) → Shows w k (λ x. waits_due x ≡ b)
+  waited : (k : ℕ) (b : Bool) → Holds set k → Shows v k (λ x. x.force ≡ b) →
+      Shows w k (λ x. waits_due x ≡ b)
   waited k bit m shown =
       let x = some-of (slice_get w.nodes k) _ (b.fresh.waits k m) in
       let y = some-of (slice_get v.nodes k) _ shown in
@@ -68,7 +65,8 @@ module _
   tree-shape : Loopless w.cabling node set
   tree-shape = loopless w.cabling node set b.no_loop.core l.well_formed.cabling (there node f.holds) (shared w.cabling from node set l.well_formed.cabling b.component f.holds) (small-fresh exist w l from set b.component b.fresh) b.no_loop.is_core b.no_loop.empty
 
-  forced-found : (report : Report) → IsReport v report → Any (IsTreeFrom w.cabling from node) report.parts
+  forced-found : (report : Report) → IsReport v report →
+      Any (IsTreeFrom w.cabling from node) report.parts
   forced-found report is = found w.cabling v cables from set node b.component tree-shape (there from b.component.holds) (IsReached w) reached moved report.parts is.parts
 
 pub forced-nodes :

@@ -11,12 +11,11 @@ use Rattle.cabling.specs.Component.{IsComponent}
 use Rattle.cabling.specs.Labels.{labels}
 use Rattle.cabling.specs.NodeSet.{Holds}
 use Rattle.cabling.specs.Sees.{Sees, numbers}
-use Rattle.cabling.proofs.Small.{Loopless, small_tree}
-use Rattle.cabling.proofs.Whole.{shared}
+use Rattle.cabling.proofs.Lemmas.{Loopless, small_tree, shared}
 use Rattle.port_state.specs.Machine.{PortNode}
 use Rattle.cable_world.specs.World.{CableWorld}
 use Rattle.cable_world.specs.Outcome.{IsTree, attrs_now}
-use Rattle.cable_world.proofs.Options.{some-of, some-same}
+use Rattle.cable_world.proofs.Lemmas.{some-of, some-same}
 use Rattle.settle.specs.Report.{IsPart, AreParts, IsTreeFrom}
 use Rattle.settle.specs.Reported.{IsReported}
 use Rattle.settle.specs.declared.report.Part.{Part}

@@ -74,7 +74,8 @@ highest-of-all set IsOf below most there h = record {
 
 -- ---- the numbers of a node
 
-one-drawn : (o : Option PortNode) (m n : ℕ) → IsSomeAnd o (λ x. x.state.view.draws ≡ m) → IsSomeAnd o (λ x. x.state.view.draws ≡ n) → m ≡ n
+one-drawn : (o : Option PortNode) (m n : ℕ) → IsSomeAnd o (λ x. x.state.view.draws ≡ m) →
+    IsSomeAnd o (λ x. x.state.view.draws ≡ n) → m ≡ n
 one-drawn None m n a b = absurd a
 one-drawn (Some x) m n a b = sym a ∙ b
 

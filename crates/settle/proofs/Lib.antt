@@ -23,3 +23,4 @@ pub mod Found
 pub mod ForcedRoots
 -- the turns before
 pub mod TurnsGiven
+pub mod Lemmas

@@ -7,13 +7,11 @@ use Rattle.topology_stack.specs.Tree.{emits}
 use Rattle.cabling.specs.Wiring.{IsCabling}
 use Rattle.cabling.specs.NodeSet.{Holds}
 use Rattle.cabling.specs.Sees.{numbers}
-use Rattle.cabling.proofs.Bits.{none_of_zero, some_node}
-use Rattle.cabling.proofs.Whole.{shared}
+use Rattle.cabling.proofs.Lemmas.{none_of_zero, some_node, shared}
 use Rattle.cable_world.specs.World.{CableWorld, NodeNumber, NodeSet}
 use Rattle.cable_world.specs.Run.{IsReached}
 use Rattle.cable_world.specs.Outcome.{loop, tree, contention, IsLoop}
-use Rattle.cable_world.proofs.OneOutcome.{same-set, one-outcome}
-use Rattle.cable_world.proofs.running.Whole.{lawful-now}
+use Rattle.cable_world.proofs.Lemmas.{same-set, one-outcome, lawful-now}
 use Rattle.settle.specs.declared.report.Outcome.{Outcome as Reported}
 use Rattle.settle.specs.declared.report.Outcome.TheVariants as reported
 use Rattle.settle.specs.declared.report.Part.{Part}
@@ -39,7 +37,8 @@ in-at (x ∷ xs) zero d inside = inl refl
 in-at (x ∷ xs) (suc i) d inside = inr (in-at xs i d (omega (arith, inside)))
 
 -- the place of a part
-place : (xs : List Part) (y : Part) → In y xs → (i : ℕ) × (i < length xs) × ((d : Part) → get_or xs i d ≡ y)
+place : (xs : List Part) (y : Part) → In y xs →
+    (i : ℕ) × (i < length xs) × ((d : Part) → get_or xs i d ≡ y)
 unfolding In
 place [] y i = absurd i
 place (x ∷ xs) y (inl e) = (0, omega arith, λ d. sym e)
@@ -56,21 +55,24 @@ rising (x ∷ xs) h = (
 not-both : (x y : Part) → StartsBefore x y → StartsBefore y x → ⊥
 not-both x y a b = omega (arith, a.below b.least b.holds, b.below a.least a.holds)
 
-same-head : (x y : Part) (xs ys : List Part) → Rising (x ∷ xs) → Rising (y ∷ ys) → In x (y ∷ ys) → In y (x ∷ xs) → x ≡ y
+same-head : (x y : Part) (xs ys : List Part) → Rising (x ∷ xs) → Rising (y ∷ ys) → In x (y ∷ ys) →
+    In y (x ∷ xs) → x ≡ y
 unfolding In Rising
 same-head x y xs ys r s (inl e) j = e
 same-head x y xs ys r s (inr i) (inl e) = sym e
 same-head x y xs ys r s (inr i) (inr j) = absurd (not-both y x (s.0 x i) (r.0 y j))
 
 -- what stands behind the first in the one list stands there in the other
-behind : (x y : Part) (xs ys : List Part) → x ≡ y → Rising (x ∷ xs) → ((p : Part) → In p (x ∷ xs) → In p (y ∷ ys)) → (p : Part) → In p xs → In p ys
+behind : (x y : Part) (xs ys : List Part) → x ≡ y → Rising (x ∷ xs) →
+    ((p : Part) → In p (x ∷ xs) → In p (y ∷ ys)) → (p : Part) → In p xs → In p ys
 unfolding In Rising
 behind x y xs ys same r f p i = elim (f p (inr i)) [
   | inl e ↦ let again : StartsBefore x x = subst (StartsBefore x) (e ∙ sym same) (r.0 p i) in absurd (not-both x x again again)
   | inr j ↦ j
 ]
 
-same-lists : (xs ys : List Part) → Rising xs → Rising ys → ((p : Part) → In p xs → In p ys) → ((p : Part) → In p ys → In p xs) → xs ≡ ys
+same-lists : (xs ys : List Part) → Rising xs → Rising ys → ((p : Part) → In p xs → In p ys) →
+    ((p : Part) → In p ys → In p xs) → xs ≡ ys
 unfolding In Rising
 same-lists [] [] r s f g = refl
 same-lists [] (y ∷ ys) r s f g = absurd (g y (inl refl))
@@ -82,13 +84,15 @@ same-lists (x ∷ xs) (y ∷ ys) r s f g =
 
 -- ---- one part of a component
 
-one-greatest : (set : NodeSet) (IsOf : NodeNumber → ℕ → Type 0) (m n : ℕ) → IsGreatest set IsOf m → IsGreatest set IsOf n → m ≡ n
+one-greatest : (set : NodeSet) (IsOf : NodeNumber → ℕ → Type 0) (m n : ℕ) → IsGreatest set IsOf m →
+    IsGreatest set IsOf n → m ≡ n
 one-greatest set IsOf m n x y = omega (arith, y.bound x.node m x.holds x.reached, x.bound y.node n y.holds y.reached)
 
 part-of : NodeSet → ℕ → ℕ → Reported → Part
 part-of set rounds changed outcome = record { nodes = set; rounds = rounds; changed = changed; outcome = outcome }
 
-same-part : (p q : Part) → p.nodes ≡ q.nodes → p.rounds ≡ q.rounds → p.changed ≡ q.changed → p.outcome ≡ q.outcome → p ≡ q
+same-part : (p q : Part) → p.nodes ≡ q.nodes → p.rounds ≡ q.rounds → p.changed ≡ q.changed →
+    p.outcome ≡ q.outcome → p ≡ q
 unfolding part-of
 same-part p q a b c d =
     ap (λ (x : NodeSet). part-of x p.rounds p.changed p.outcome) a
@@ -116,7 +120,8 @@ module _ (w : CableWorld) (cabled : IsCabling w.cabling) where
         | inr ne ↦ omega (arith, ne)
       ]
 
-  pub one-reported : (set : NodeSet) (o p : Reported) → AreThere w set → IsReported w set o → IsReported w set p → o ≡ p
+  pub one-reported : (set : NodeSet) (o p : Reported) → AreThere w set → IsReported w set o →
+      IsReported w set p → o ≡ p
   one-reported set (reported.Tree a list order) (reported.Tree b other-list other-order) there x y =
       let same : tree a x.tree ≡ tree b y.tree = one-outcome w set (tree a x.tree) (tree b y.tree) x.is y.is in
       let roots : a ≡ b = cc in
@@ -144,11 +149,13 @@ module _ (w : CableWorld) (cabled : IsCabling w.cabling) where
       let cores : core ≡ other = cc in
       rw cores refl
 
-  within : (p q : Part) (k : NodeNumber) → IsPart w p → IsPart w q → Holds p.nodes k → Holds q.nodes k → (i : NodeNumber) → Holds p.nodes i → Holds q.nodes i
+  within : (p q : Part) (k : NodeNumber) → IsPart w p → IsPart w q → Holds p.nodes k →
+      Holds q.nodes k → (i : NodeNumber) → Holds p.nodes i → Holds q.nodes i
   within p q k x y a b = (shared w.cabling x.node k p.nodes cabled x.component a).least q.nodes b y.component.closed
 
   -- parts that share a node are one
-  pub one-part : (p q : Part) (k : NodeNumber) → IsPart w p → IsPart w q → Holds p.nodes k → Holds q.nodes k → p ≡ q
+  pub one-part : (p q : Part) (k : NodeNumber) → IsPart w p → IsPart w q → Holds p.nodes k →
+      Holds q.nodes k → p ≡ q
   one-part p q k x y a b =
       let nodes : p.nodes ≡ q.nodes = same-set p.nodes q.nodes (λ i. (within p q k x y a b i, within q p k y x b a i)) in
       same-part p q nodes
@@ -177,9 +184,11 @@ unfolding report-of
 same-report r s a b = ap (λ (n : ℕ). report-of n r.parts) a ∙ ap (report-of s.turn) b
 
 -- so it is over any cabling
-pub one-over-cabling : (w : CableWorld) (one other : Report) → IsCabling w.cabling → IsReport w one → IsReport w other → one ≡ other
+pub one-over-cabling : (w : CableWorld) (one other : Report) → IsCabling w.cabling →
+    IsReport w one → IsReport w other → one ≡ other
 one-over-cabling w one other cabled x y =
     same-report one other (x.turn ∙ sym y.turn) (one-list w cabled one.parts other.parts x.parts y.parts)
 
-pub one-report : (w : CableWorld) (one other : Report) → ∥ IsReached w ∥₁ → IsReport w one → IsReport w other → one ≡ other
+pub one-report : (w : CableWorld) (one other : Report) → ∥ IsReached w ∥₁ → IsReport w one →
+    IsReport w other → one ≡ other
 one-report w one other r x y = one-over-cabling w one other (lawful-now w r).well_formed.cabling x y

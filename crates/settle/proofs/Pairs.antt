@@ -46,5 +46,6 @@ pair-contends w set a b closed no_loop no_tree h = record {
   no_tree = no_tree;
 }
 
-pub none-contends : (w : CableWorld) (set : ℕ) → HasNoPair w set → (a b : ℕ) → IsContention w set a b → ⊥
+pub none-contends : (w : CableWorld) (set : ℕ) → HasNoPair w set → (a b : ℕ) →
+    IsContention w set a b → ⊥
 none-contends w set none a b h = none a b h.holds_a (ends-contend w set a b h)

@@ -13,19 +13,12 @@ use Rattle.cabling.specs.NodeSet.{Holds}
 use Rattle.cabling.specs.Component.{IsComponent}
 use Rattle.cabling.specs.Labels.{labels}
 use Rattle.cabling.specs.Sees.{numbers}
-use Rattle.cabling.specs.codings.Visits.{visits, at_root}
-use Rattle.cabling.specs.codings.Shown.{shown_node}
-use Rattle.cabling.proofs.Bits.{clear_bit}
-use Rattle.cabling.proofs.OneTree.{one-tree}
-use Rattle.cabling.proofs.Shown.{Fit, labels_fit, bus_seen, walk_seen, good_at, good_root, good_visits}
-use Rattle.cabling.proofs.Small.{Loopless, loopless, tree_few}
-use Rattle.cabling.proofs.Waiting.{node_of, nodes-visits, length-visits}
-use Rattle.cabling.proofs.Whole.{shared}
+use Rattle.cabling.proofs.Lemmas.{visits, at_root, shown_node, clear_bit, one-tree, Fit, labels_fit, bus_seen, walk_seen, good_at, good_root, good_visits, Loopless, loopless, tree_few, node_of, nodes-visits, length-visits, shared}
 use Rattle.cable_world.specs.World.{CableWorld}
 use Rattle.cable_world.specs.Lawful.{IsWellFormed}
 use Rattle.cable_world.specs.Run.{IsReached}
 use Rattle.cable_world.specs.Outcome.{IsTree, attrs_now}
-use Rattle.cable_world.proofs.running.Whole.{lawful-now}
+use Rattle.cable_world.proofs.Lemmas.{lawful-now}
 use Rattle.port_state.specs.Group.{shown_attrs}
 use Rattle.port_state.specs.Machine.{PortNode}
 use Rattle.settle.specs.declared.report.Outcome.{Outcome}
@@ -93,7 +86,8 @@ module _ (w : CableWorld) (formed : IsWellFormed w) where
       there = subst (All (λ (k : ℕ). k < length w.cabling)) (sym walked) nodes-there;
     }
 
-  pub outcome-read : (set node : ℕ) (o : Outcome) → IsComponent w.cabling node set → AreThere w set → IsReported w set o → IfTree (IsReadBack w) o
+  pub outcome-read : (set node : ℕ) (o : Outcome) → IsComponent w.cabling node set →
+      AreThere w set → IsReported w set o → IfTree (IsReadBack w) o
   outcome-read set node (reported.Tree root list order) is there h = read-back set node root h.tree is there h.is list order h.emitted h.walked
   outcome-read set node (reported.Contention a b) is there h = tt
   outcome-read set node (reported.Loop core) is there h = tt
@@ -101,19 +95,22 @@ module _ (w : CableWorld) (formed : IsWellFormed w) where
   pub part-read : (part : Part) → IsPart w part → IfTree (IsReadBack w) part.outcome
   part-read part p = outcome-read part.nodes p.node part.outcome p.component p.there p.outcome
 
-pub lists-read : (w : CableWorld) (report : Report) → ∥ IsReached w ∥₁ → IsReport w report → AtTrees (IsReadBack w) report
+pub lists-read : (w : CableWorld) (report : Report) → ∥ IsReached w ∥₁ → IsReport w report →
+    AtTrees (IsReadBack w) report
 lists-read w report r is =
     All-weaker (IsPart w) (λ (part : Part). IfTree (IsReadBack w) part.outcome) (part-read w (lawful-now w r).well_formed) report.parts is.parts.each
 
 -- ---- and the tree is that of the cables
 
-read-cables : NoListHasTwoTrees → (w : CableWorld) (o : Outcome) → IfTree (IsReadBack w) o → IfTree (λ root list order. IsTheCables w root list) o
+read-cables : NoListHasTwoTrees → (w : CableWorld) (o : Outcome) → IfTree (IsReadBack w) o →
+    IfTree (λ root list order. IsTheCables w root list) o
 read-cables one w (reported.Tree root list order) h = λ t u bus emitted seen.
     one Ieee2000 t h.tree bus h.bus (emitted ∙ sym h.emitted) ∙ one-tree w.cabling (labels (attrs_now w)) root None h.tree u h.seen seen
 read-cables one w (reported.Contention a b) h = tt
 read-cables one w (reported.Loop core) h = tt
 
-pub lists-cables : NoListHasTwoTrees → (w : CableWorld) (report : Report) → ∥ IsReached w ∥₁ → IsReport w report → AtTrees (λ root list order. IsTheCables w root list) report
+pub lists-cables : NoListHasTwoTrees → (w : CableWorld) (report : Report) → ∥ IsReached w ∥₁ →
+    IsReport w report → AtTrees (λ root list order. IsTheCables w root list) report
 lists-cables one w report r is =
     All-weaker (λ (part : Part). IfTree (IsReadBack w) part.outcome) (λ (part : Part). IfTree (λ root list order. IsTheCables w root list) part.outcome)
     (λ part h. read-cables one w part.outcome h) report.parts (lists-read w report r is)

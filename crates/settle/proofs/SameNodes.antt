@@ -21,7 +21,8 @@ same-core c a b core same h = λ node. (
   (λ p. (h node).1 (p.0, (λ k m. same.1 k (p.1 k m)), p.2, p.3)),
 )
 
-pub same-tree : (w : CableWorld) (a b root : ℕ) (t : Tree) → SameNodes a b → IsTree w a root t → IsTree w b root t
+pub same-tree : (w : CableWorld) (a b root : ℕ) (t : Tree) → SameNodes a b → IsTree w a root t →
+    IsTree w b root t
 same-tree w a b root t same h = record {
   no_loop = record { core = h.no_loop.core; is_core = same-core w.cabling a b h.no_loop.core same h.no_loop.is_core; empty = h.no_loop.empty };
   holds_root = same.0 root h.holds_root;

@@ -12,9 +12,8 @@ use Rattle.port_state.specs.Machine.{PortNode}
 use Rattle.cable_world.specs.World.{CableWorld}
 use Rattle.cable_world.specs.Run.{IsReached}
 use Rattle.cable_world.specs.Outcome.{Outcome, loop, tree, contention, HasNoLoop, IsLoop, IsContention, IsOutcome, IsSettled, Shows}
-use Rattle.cable_world.proofs.StaysLawful.{reached-lawful}
+use Rattle.cable_world.proofs.Lemmas.{reached-lawful, plainly}
 use Rattle.cable_world.specs.Quiet.{no_holds}
-use Rattle.cable_world.proofs.QuietTurns.{plainly}
 use Rattle.cable_world.specs.Phases.{is_in_bus_reset}
 use Rattle.convergence.specs.Milestones.{ResetsAreDone}
 use Rattle.outcomes.specs.Settled.{ResetsAreDoneByThen}

@@ -12,10 +12,11 @@ use Rattle.port_state.specs.Valid.{IsBounded}
 use Rattle.cable_world.specs.World.{CableWorld}
 use Rattle.cable_world.specs.Lawful.{IsWellFormed}
 use Rattle.cable_world.specs.Outcome.{AtNode, attrs_now}
-use Rattle.cable_world.proofs.Options.{some-of}
+use Rattle.cable_world.proofs.Lemmas.{some-of}
 
 -- a node of which something holds is there
-pub node-there : (w : CableWorld) (k : ℕ) (P : PortNode → Type 0) → AtNode w k P → k < length w.nodes
+pub node-there : (w : CableWorld) (k : ℕ) (P : PortNode → Type 0) → AtNode w k P →
+    k < length w.nodes
 node-there w k P h = let s = some-of (slice_get w.nodes k) P h in slice_get_within w.nodes k s.0 s.1
 
 -- the attributes of one node more

@@ -6,15 +6,13 @@ use Rattle.cabling.specs.NodeSet.{Holds}
 use Rattle.cabling.specs.Component.{IsComponent}
 use Rattle.cabling.specs.Existence.{HasComponent, ComponentsExist}
 use Rattle.cabling.specs.Sees.{numbers}
-use Rattle.cabling.proofs.Cascade.{holds_or_not}
-use Rattle.cabling.proofs.Whole.{shared}
+use Rattle.cabling.proofs.Lemmas.{holds_or_not, shared}
 use Rattle.port_state.specs.Machine.{PortNode}
 use Rattle.cable_world.specs.World.{CableWorld}
 use Rattle.cable_world.specs.Run.{IsReached}
 use Rattle.cable_world.specs.Lawful.{IsWellFormed}
 use Rattle.cable_world.specs.Outcome.{Outcome, loop, tree, contention, IsOutcome, IsSettled}
-use Rattle.cable_world.proofs.Options.{some-at}
-use Rattle.cable_world.proofs.StaysLawful.{reached-lawful}
+use Rattle.cable_world.proofs.Lemmas.{some-at, reached-lawful}
 use Rattle.outcomes.specs.Headline.{EveryBusSettles}
 use Rattle.settle.specs.declared.report.Part.{Part}
 use Rattle.settle.specs.declared.report.Outcome.{Outcome as Reported}
@@ -32,7 +30,8 @@ use Rattle.settle.proofs.PartsSoFar.{PartsBefore, no-parts, part-added, part-goe
 -- ---- what a component came to
 
 -- an outcome can be reported
-reported-of : (w : CableWorld) (set : ℕ) (o : Outcome) → IsOutcome w set o → (r : Reported) × IsReported w set r
+reported-of : (w : CableWorld) (set : ℕ) (o : Outcome) → IsOutcome w set o →
+    (r : Reported) × IsReported w set r
 reported-of w set (loop core) h = (
   reported.Loop core,
   record { is = h.is_core; some = λ empty. empty h.node h.in_core; timed_out = h.timed_out; unnamed = h.unnamed },
@@ -76,13 +75,15 @@ module _
 
 -- ---- the numbers of a node
 
-drew-some : (w : CableWorld) → IsWellFormed w → (k : ℕ) → k < length w.cabling → (n : ℕ) × Drew w k n
+drew-some : (w : CableWorld) → IsWellFormed w → (k : ℕ) → k < length w.cabling →
+    (n : ℕ) × Drew w k n
 drew-some w f k inside = elim (slice_get_cases w.nodes k).1 [
   | inl x ↦ (x.0.state.view.draws, some-at (slice_get w.nodes k) x.0 (λ (y : PortNode). y.state.view.draws ≡ x.0.state.view.draws) x.2 refl)
   | inr past ↦ absurd (omega (arith, past.0, f.count, inside))
 ]
 
-changed-some : (w : CableWorld) → IsWellFormed w → (k : ℕ) → k < length w.cabling → (n : ℕ) × LastChanged w k n
+changed-some : (w : CableWorld) → IsWellFormed w → (k : ℕ) → k < length w.cabling →
+    (n : ℕ) × LastChanged w k n
 changed-some w f k inside = (get_or w.changed k 0, slice_get-get_or w.changed k 0 (omega (arith, f.changes, inside)))
 
 -- ---- the report of a world

@@ -5,8 +5,8 @@ use Rattle.topology_stack.specs.Tree.{Label}
 use Rattle.cabling.specs.Existence.{ComponentsExist}
 use Rattle.cabling.specs.Labels.{labels}
 use Rattle.cabling.specs.Sees.{SmallTree, numbers}
-use Rattle.cabling.proofs.Small.{Loopless, loopless, small_tree}
-use Rattle.outcomes.proofs.settled.Components.{component-small}
+use Rattle.cabling.proofs.Lemmas.{Loopless, loopless, small_tree}
+use Rattle.outcomes.proofs.Lemmas.{component-small}
 use Rattle.settle.specs.SomeWalk.{WalksExist}
 use Rattle.settle.proofs.Relabelled.{one-order}
 

@@ -8,7 +8,7 @@ use Rattle.port_state.specs.Machine.{PortNode}
 use Rattle.cabling.specs.NodeSet.{Holds}
 use Rattle.cabling.specs.Labels.{labels}
 use Rattle.cabling.specs.Sees.{Sees, numbers}
-use Rattle.cabling.proofs.OneTree.{one-tree}
+use Rattle.cabling.proofs.Lemmas.{one-tree}
 use Rattle.cable_world.specs.World.{CableWorld}
 use Rattle.cable_world.specs.Outcome.{HasNoLoop, IsTree, Shows, AtNode, attrs_now}
 use Rattle.settle.specs.Reported.{ReportsTree}

@@ -3,12 +3,11 @@ use Rattle.std.proofs.Common.{◌≡◌, ℕ, zero, suc, ◌+◌, ◌-◌, ◌<�
 use Rattle.std.specs.Prelude.{slice_get}
 use Rattle.topology_stack.specs.Tree.{Label, Tree, branch, Slots, no_more, absent, unplugged, up, down, walk, walk_below}
 use Rattle.topology_stack.specs.Far.{slot_ends, ends_from, ends_below}
-use Rattle.speed_map.proofs.Nodes.{Ends, length-walk, slice_get-left, slice_get-right, last, length-ends_from, length-ends_below}
+use Rattle.speed_map.proofs.Lemmas.{Ends, length-walk, slice_get-left, slice_get-right, last, length-ends_from, length-ends_below}
 use Rattle.cabling.specs.declared.cable.End.{End}
 use Rattle.cabling.specs.Wiring.{Wiring, ports_of, far, IsCabling}
 use Rattle.cabling.specs.Sees.{Sees, SeesFrom, numbers, numbers_below}
-use Rattle.cabling.proofs.Near.{end_at}
-use Rattle.cabling.proofs.Seen.{RowAt, row_all, row_head, row_tail}
+use Rattle.cabling.proofs.Lemmas.{end_at, RowAt, row_all, row_head, row_tail}
 
 -- a slot leads to an ID exactly where a cable leads to the node of this ID
 abbrev pub Agree : List ℕ → Option (Option ℕ) → Option End → Type 0

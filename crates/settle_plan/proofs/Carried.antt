@@ -7,7 +7,7 @@ use Rattle.std.proofs.lemmas.Option.{slice_get_cases, slice_get_within}
 use Rattle.self_id.specs.declared.standard.Standard.TheVariants.{Ieee2000}
 use Rattle.topology_stack.specs.Tree.{Tree, IsBusTreeOf}
 use Rattle.cabling.specs.Labels.{labels}
-use Rattle.cabling.proofs.Small.{Loopless}
+use Rattle.cabling.proofs.Lemmas.{Loopless}
 use Rattle.settle_plan.specs.Hops.{HopsStay}
 use Rattle.cabling.specs.Wiring.{Wiring}
 use Rattle.cabling.specs.NodeSet.{Holds}
@@ -20,22 +20,17 @@ use Rattle.cable_world.specs.Run.{IsReached, quiet_turns}
 use Rattle.cable_world.specs.Act.{IsAct, ActLeads, act_fault, change_in_set}
 use Rattle.cable_world.specs.Lawful.{IsWellFormed, IsLawful}
 use Rattle.cable_world.specs.Outcome.{IsTree, attrs_now}
-use Rattle.cable_world.proofs.Options.{some-of, some-at}
-use Rattle.cable_world.proofs.StaysLawful.{reached-lawful}
-use Rattle.cable_world.proofs.StaysReached.{act-reached, turns-reached}
-use Rattle.cable_world.proofs.tables.TablesInSteps.{step-cables}
+use Rattle.cable_world.proofs.Lemmas.{some-of, some-at, reached-lawful, act-reached, turns-reached, step-cables, plain-quiet, plainly, turns-cabling}
 use Rattle.convergence.specs.Turns.{turns_to_over}
 use Rattle.cable_world.specs.Quiet.{no_holds}
-use Rattle.cable_world.proofs.QuietTurns.{plain-quiet, plainly, turns-cabling}
 use Rattle.outcomes.specs.Forced.{NamesRoot}
 use Rattle.outcomes.specs.Settled.{IdsNameOneNode, ConfigsMoveRoots, ConfigsSetGaps}
-use Rattle.outcomes.proofs.settled.QuietTurns.{quiet-enough}
+use Rattle.outcomes.proofs.Lemmas.{quiet-enough}
 use Rattle.root_plan.specs.declared.choice.RootPlan.{RootPlan}
 use Rattle.settle.specs.Report.{AreParts, IsTreeFrom, IsAfterQuiet, quiet_turns_of}
 use Rattle.settle.specs.declared.report.Part.{Part}
 use Rattle.settle_plan.specs.Planned.{WantsGap, SuitsTree, HasId, HaveGap}
-use Rattle.settle.proofs.Found.{FoundTree, found, found-tree}
-use Rattle.settle.proofs.SameNodes.{same-component}
+use Rattle.settle.proofs.Lemmas.{FoundTree, found, found-tree, same-component}
 use Rattle.settle_plan.proofs.Suited.{from-there, bus-of, tree-there, packet-fits, loopless-from}
 
 -- ---- answers

@@ -8,20 +8,15 @@ use Rattle.topology_stack.specs.OneAnswer.{NoListHasTwoTrees}
 use Rattle.cabling.specs.Component.{IsComponent}
 use Rattle.cabling.specs.Labels.{labels}
 use Rattle.cabling.specs.Sees.{numbers}
-use Rattle.cabling.specs.codings.Visits.{visits, at_root}
-use Rattle.cabling.specs.codings.Shown.{shown_node}
-use Rattle.cabling.proofs.Shown.{walk_seen}
-use Rattle.cabling.proofs.Small.{Loopless}
-use Rattle.cabling.proofs.Waiting.{length-visits}
-use Rattle.cabling.proofs.Whole.{shared, seen_loopless}
+use Rattle.cabling.proofs.Lemmas.{visits, at_root, shown_node, walk_seen, Loopless, length-visits, shared, seen_loopless}
 use Rattle.cable_world.specs.World.{CableWorld}
 use Rattle.cable_world.specs.Lawful.{IsLawful}
 use Rattle.cable_world.specs.Outcome.{IsTree, attrs_now}
-use Rattle.cable_world.proofs.Options.{some-of}
+use Rattle.cable_world.proofs.Lemmas.{some-of}
 use Rattle.bus_manager.specs.Hops.{IsHops}
-use Rattle.root_plan.proofs.Choosing.{candidate_within}
+use Rattle.root_plan.proofs.Lemmas.{candidate_within}
 use Rattle.settle_plan.specs.Planned.{PlansSuit}
-use Rattle.settle.proofs.SameNodes.{same-component, same-tree}
+use Rattle.settle.proofs.Lemmas.{same-component, same-tree}
 use Rattle.settle_plan.proofs.Suited.{bus-of}
 
 pub suits :

@@ -7,3 +7,4 @@ pub mod Suited
 pub mod Chosen
 -- what is there once it is carried out
 pub mod Carried
+pub mod Lemmas

@@ -5,20 +5,15 @@ use Rattle.std.proofs.lemmas.Option.{slice_get-get_or, slice_get_within}
 use Rattle.topology_stack.specs.Tree.{Label, Tree, walk}
 use Rattle.topology_stack.specs.Far.{ends}
 use Rattle.speed_map.specs.Path.{Joined, IsNew, IsPath}
-use Rattle.speed_map.proofs.Nodes.{Ends, length-ends_from}
-use Rattle.speed_map.proofs.Facts.{same_some}
+use Rattle.speed_map.proofs.Lemmas.{Ends, length-ends_from, same_some}
 use Rattle.cabling.specs.declared.cable.End.{End}
 use Rattle.cabling.specs.Wiring.{Wiring, far, IsCabling}
 use Rattle.cabling.specs.Existence.{ComponentsExist}
 use Rattle.cabling.specs.Sees.{Sees, numbers}
-use Rattle.cabling.proofs.Near.{end_at}
-use Rattle.cabling.proofs.Once.{In, Once}
-use Rattle.cabling.proofs.Small.{tree_within, tree_once}
-use Rattle.cabling.proofs.Whole.{shared, tree_has, seen_loopless}
+use Rattle.cabling.proofs.Lemmas.{end_at, In, Once, tree_within, tree_once, shared, tree_has, seen_loopless}
 use Rattle.bus_manager.specs.Hops.{IsHops, IsLongestPath, HopsAreOfNodePaths}
-use Rattle.bus_manager.proofs.Longest.{reach, is_hops}
-use Rattle.outcomes.proofs.settled.Components.{component-small}
-use Rattle.outcomes.proofs.walks.Marked.{in-read, one-place}
+use Rattle.bus_manager.proofs.Lemmas.{reach, is_hops}
+use Rattle.outcomes.proofs.Lemmas.{component-small, in-read, one-place}
 use Rattle.settle_plan.specs.Hops.{HopsStay}
 use Rattle.settle_plan.proofs.Cables.{Agree, Leads, so-many, tree-leads}
 

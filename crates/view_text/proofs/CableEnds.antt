@@ -10,8 +10,7 @@ use Rattle.self_id.specs.Node.{Node, ups}
 use Rattle.topology_stack.specs.Tree.{Label, Tree, branch, Slots, no_more, absent, unplugged, up, down, statuses, node_of, walk, walk_below, IsPart, AreParts, IsWhole, IsBusTree}
 use Rattle.topology_stack.specs.Far.{slot_ends, ends_from, ends_below, ends, Far}
 use Rattle.speed_map.specs.Path.{node_speed, path_speed}
-use Rattle.speed_map.proofs.Facts.{speed_is}
-use Rattle.speed_map.proofs.Nodes.{length-walk, some_node, length-ends_from, length-ends_below, slice_get-left, slice_get-right}
+use Rattle.speed_map.proofs.Lemmas.{speed_is, length-walk, some_node, length-ends_from, length-ends_below, slice_get-left, slice_get-right}
 use Rattle.view_text.specs.declared.cable.Cable.{Cable}
 use Rattle.view_text.specs.Cable.{first_up, up_of, speed_of, cable_to, cable_at, cables_of, cables_from, cables}
 use Rattle.view_text.specs.CableEnds.{IsOfTree, CablesAreOfTheTree, EachDownSlotHasItsCable}
@@ -31,7 +30,8 @@ some-same a b h = ap (or-else a) h
 abbrev Has : {A : Type 0} → List A → ℕ → List A → Type 0
 Has {A} whole first part = (i : ℕ) (x : A) → slice_get part i ≡ Some x → slice_get whole (first + i) ≡ Some x
 
-has-left : {A : Type 0} → (whole : List A) (first : ℕ) (xs ys : List A) → Has whole first (xs ++ ys) → Has whole first xs
+has-left : {A : Type 0} → (whole : List A) (first : ℕ) (xs ys : List A) →
+    Has whole first (xs ++ ys) → Has whole first xs
 has-left whole first xs ys h i x e = h i x (slice_get-left xs ys i x e)
 
 has-right :
@@ -41,7 +41,8 @@ has-right whole first n xs ys long h i x e =
     let z : first + n + i ≡ first + (n + i) = omega arith in
     ap (slice_get whole) z ∙ h (n + i) x (slice_get-right xs ys n i long ∙ e)
 
-has-head : {A : Type 0} → (whole : List A) (first : ℕ) (y : A) (ys : List A) → Has whole first (y ∷ ys) → slice_get whole first ≡ Some y
+has-head : {A : Type 0} → (whole : List A) (first : ℕ) (y : A) (ys : List A) →
+    Has whole first (y ∷ ys) → slice_get whole first ≡ Some y
 has-head whole first y ys h = let z : first ≡ first + 0 = omega arith in ap (slice_get whole) z ∙ h 0 y refl
 
 has-itself : {A : Type 0} → (whole : List A) → Has whole 0 whole
@@ -105,36 +106,42 @@ module _ (t : Tree) where
     nodes : Has (walk t) first (walk_below s)
     ends_too : Has (ends t) first (ends_below first id s)
 
-  below-of : (first parent : ℕ) (a : Label) (s : Slots) → Stands first parent (branch a s) → StandBelow first (first + length (walk_below s)) s
+  below-of : (first parent : ℕ) (a : Label) (s : Slots) → Stands first parent (branch a s) →
+      StandBelow first (first + length (walk_below s)) s
   below-of first parent a s h = record {
     nodes = has-left (walk t) first (walk_below s) (node_of a s ∷ []) h.nodes;
     ends_too = has-left (ends t) first (ends_below first (first + length (walk_below s)) s) (slot_ends first parent s ∷ []) h.ends_too;
   }
 
-  own-node : (first parent : ℕ) (a : Label) (s : Slots) → Stands first parent (branch a s) → slice_get (walk t) (first + length (walk_below s)) ≡ Some (node_of a s)
+  own-node : (first parent : ℕ) (a : Label) (s : Slots) → Stands first parent (branch a s) →
+      slice_get (walk t) (first + length (walk_below s)) ≡ Some (node_of a s)
   own-node first parent a s h =
       has-head (walk t) (first + length (walk_below s)) (node_of a s) []
       (has-right (walk t) first (length (walk_below s)) (walk_below s) (node_of a s ∷ []) refl h.nodes)
 
-  own-ends : (first parent : ℕ) (a : Label) (s : Slots) → Stands first parent (branch a s) → slice_get (ends t) (first + length (walk_below s)) ≡ Some (slot_ends first parent s)
+  own-ends : (first parent : ℕ) (a : Label) (s : Slots) → Stands first parent (branch a s) →
+      slice_get (ends t) (first + length (walk_below s)) ≡ Some (slot_ends first parent s)
   own-ends first parent a s h =
       has-head (ends t) (first + length (walk_below s)) (slot_ends first parent s) []
       (has-right (ends t) first (length (walk_below s)) (ends_below first (first + length (walk_below s)) s) (slot_ends first parent s ∷ []) (length-ends_below first (first + length (walk_below s)) s) h.ends_too)
 
-  first-of : (first id : ℕ) (u : Tree) (s : Slots) → StandBelow first id (down u s) → Stands first id u
+  first-of : (first id : ℕ) (u : Tree) (s : Slots) → StandBelow first id (down u s) →
+      Stands first id u
   first-of first id u s h = record {
     nodes = has-left (walk t) first (walk u) (walk_below s) h.nodes;
     ends_too = has-left (ends t) first (ends_from first id u) (ends_below (first + length (walk u)) id s) h.ends_too;
   }
 
-  rest-of : (first id : ℕ) (u : Tree) (s : Slots) → StandBelow first id (down u s) → StandBelow (first + length (walk u)) id s
+  rest-of : (first id : ℕ) (u : Tree) (s : Slots) → StandBelow first id (down u s) →
+      StandBelow (first + length (walk u)) id s
   rest-of first id u s h = record {
     nodes = has-right (walk t) first (length (walk u)) (walk u) (walk_below s) refl h.nodes;
     ends_too = has-right (ends t) first (length (walk u)) (ends_from first id u) (ends_below (first + length (walk u)) id s) (length-ends_from first id u) h.ends_too;
   }
 
   -- the outermost node of a part leads back to its parent
-  leads-back : (first id : ℕ) (u : Tree) → IsPart u → Stands first id u → Far t (first + length (walk u) - 1) (up_of (slice_get (walk t) (first + length (walk u) - 1))) (Some id)
+  leads-back : (first id : ℕ) (u : Tree) → IsPart u → Stands first id u →
+      Far t (first + length (walk u) - 1) (up_of (slice_get (walk t) (first + length (walk u) - 1))) (Some id)
   leads-back first id (branch a s) part h =
       let top : first + length (walk (branch a s)) - 1 ≡ first + length (walk_below s) = omega (arith, length-walk a s) in
       let u : UpAt first id 0 s = up-at s first id 0 (omega (arith, part.1)) in
@@ -241,7 +248,8 @@ module _ (t : Tree) where
       in-right (cables_of t first 0 m.ports r) (cables_from t (first + 1) ns rows) c
       (has-node ns rows (first + 1) i n es c a b (subst (λ (k : ℕ). In (cables_of t k 0 n.ports es) c) z h))
 
-  split-get : (xs ys : List Cable) (i : ℕ) (c : Cable) → slice_get (xs ++ ys) i ≡ Some c → (slice_get xs i ≡ Some c) ⊎ In ys c
+  split-get : (xs ys : List Cable) (i : ℕ) (c : Cable) → slice_get (xs ++ ys) i ≡ Some c →
+      (slice_get xs i ≡ Some c) ⊎ In ys c
   split-get [] ys i c h = inr (i, h)
   split-get (x ∷ xs) ys zero c h = inl h
   split-get (x ∷ xs) ys (suc i) c h = elim (split-get xs ys i c h) [
@@ -255,7 +263,8 @@ module _ (t : Tree) where
     end : x ≡ Some child
     is : c ≡ cable_to t id slot child
 
-  here-of : (id slot : ℕ) (p : PortStatus) (x : Option ℕ) (i : ℕ) (c : Cable) → slice_get (cable_at t id slot p x) i ≡ Some c → FromHere id slot p x c
+  here-of : (id slot : ℕ) (p : PortStatus) (x : Option ℕ) (i : ℕ) (c : Cable) →
+      slice_get (cable_at t id slot p x) i ≡ Some c → FromHere id slot p x c
   here-of id slot Absent x i c h = absurd cc
   here-of id slot Unplugged x i c h = absurd cc
   here-of id slot Up x i c h = absurd cc
@@ -270,7 +279,8 @@ module _ (t : Tree) where
     end : slice_get es at ≡ Some (Some child)
     is : c ≡ cable_to t id (slot + at) child
 
-  slot-of : (ps : List PortStatus) (es : Ends) (id slot i : ℕ) (c : Cable) → slice_get (cables_of t id slot ps es) i ≡ Some c → FromSlot id slot ps es c
+  slot-of : (ps : List PortStatus) (es : Ends) (id slot i : ℕ) (c : Cable) →
+      slice_get (cables_of t id slot ps es) i ≡ Some c → FromSlot id slot ps es c
   slot-of [] es id slot i c h = absurd cc
   slot-of (p ∷ ps) [] id slot i c h = absurd cc
   slot-of (p ∷ ps) (x ∷ es) id slot i c h = elim (split-get (cable_at t id slot p x) (cables_of t id (slot + 1) ps es) i c h) [
@@ -298,7 +308,8 @@ module _ (t : Tree) where
     row_at : slice_get rows place ≡ Some row
     slot : FromSlot (first + place) 0 node.ports row c
 
-  node-of : (ns : List Node) (rows : List Ends) (first i : ℕ) (c : Cable) → slice_get (cables_from t first ns rows) i ≡ Some c → FromNode first ns rows c
+  node-of : (ns : List Node) (rows : List Ends) (first i : ℕ) (c : Cable) →
+      slice_get (cables_from t first ns rows) i ≡ Some c → FromNode first ns rows c
   node-of [] rows first i c h = absurd cc
   node-of (n ∷ ns) [] first i c h = absurd cc
   node-of (n ∷ ns) (r ∷ rows) first i c h = elim (split-get (cables_of t first 0 n.ports r) (cables_from t (first + 1) ns rows) i c h) [
@@ -311,7 +322,8 @@ module _ (t : Tree) where
         record { place = suc f.place; node = f.node; row = f.row; node_at = f.node_at; row_at = f.row_at; slot = subst (λ (k : ℕ). FromSlot k 0 f.node.ports f.row c) z f.slot }
   ]
 
-  speeds : (id child : ℕ) (n m : Node) → slice_get (walk t) id ≡ Some n → slice_get (walk t) child ≡ Some m →
+  speeds : (id child : ℕ) (n m : Node) → slice_get (walk t) id ≡ Some n →
+      slice_get (walk t) child ≡ Some m →
       min (speed_of (slice_get (walk t) id)) (speed_of (slice_get (walk t) child)) ≡ path_speed t id (child ∷ [])
   speeds id child n m at_n at_m =
       ap (λ (o : Option Node). min (speed_of o) (speed_of (slice_get (walk t) child))) at_n
@@ -319,7 +331,8 @@ module _ (t : Tree) where
       ∙ ap (λ (k : ℕ). min k (node_speed m)) (sym (speed_is t id n at_n))
       ∙ ap (λ (k : ℕ). min (path_speed t id []) k) (sym (speed_is t child m at_m))
 
-  cable-is : IsBusTree t → (id slot child : ℕ) (n : Node) (es : Ends) → slice_get (walk t) id ≡ Some n → slice_get (ends t) id ≡ Some es →
+  cable-is : IsBusTree t → (id slot child : ℕ) (n : Node) (es : Ends) →
+      slice_get (walk t) id ≡ Some n → slice_get (ends t) id ≡ Some es →
       slice_get n.ports slot ≡ Some Down → slice_get es slot ≡ Some (Some child) → IsOfTree t (cable_to t id slot child)
   cable-is bus id slot child n es at_n at_e d e =
       let l : LeadsDown id es slot = all-down bus id n es slot at_n at_e d in

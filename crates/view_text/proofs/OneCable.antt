@@ -5,7 +5,7 @@ use Rattle.std.proofs.lemmas.Bool.Decides.{nat_tests}
 use Rattle.self_id.specs.Node.{Node}
 use Rattle.topology_stack.specs.Tree.{Tree, branch, Slots, no_more, absent, unplugged, up, down, statuses, node_of, walk, walk_below}
 use Rattle.topology_stack.specs.Far.{slot_ends, ends_from, ends_below}
-use Rattle.speed_map.proofs.Nodes.{length-walk, length-ends_from, length-ends_below, some_node}
+use Rattle.speed_map.proofs.Lemmas.{length-walk, length-ends_from, length-ends_below, some_node}
 use Rattle.view_text.specs.declared.cable.Cable.{Cable}
 use Rattle.view_text.specs.Cable.{cables_of, cables_from, times, EachNodeHangsOnOneCable, CablesAreOneLessThanNodes}
 
@@ -15,7 +15,9 @@ times-append : (id : ℕ) (xs ys : List Cable) → times id (xs ++ ys) ≡ times
 times-append id [] ys = omega arith
 times-append id (x ∷ xs) ys = omega (arith, times-append id xs ys)
 
-from-append : (t : Tree) (id : ℕ) (ms ns : List Node) (es fs : List (List (Option ℕ))) → length es ≡ length ms → cables_from t id (ms ++ ns) (es ++ fs) ≡ cables_from t id ms es ++ cables_from t (id + length ms) ns fs
+from-append : (t : Tree) (id : ℕ) (ms ns : List Node) (es fs : List (List (Option ℕ))) →
+    length es ≡ length ms →
+    cables_from t id (ms ++ ns) (es ++ fs) ≡ cables_from t id ms es ++ cables_from t (id + length ms) ns fs
 from-append t id [] ns [] fs e = ap (λ k. cables_from t k ns fs) (omega arith)
 from-append t id [] ns (f ∷ es) fs e = absurd (omega (arith, e))
 from-append t id (m ∷ ms) ns [] fs e = absurd (omega (arith, e))
@@ -71,13 +73,16 @@ same_hits a b c d k m n e f g h = record {
 }
 
 -- the cables of a node behind those of the nodes before it
-last_node : (t : Tree) (from : ℕ) (ms : List Node) (n : Node) (es : List (List (Option ℕ))) (f : List (Option ℕ)) → length es ≡ length ms → cables_from t from (ms ++ n ∷ []) (es ++ f ∷ []) ≡ cables_from t from ms es ++ cables_of t (from + length ms) 0 n.ports f
+last_node : (t : Tree) (from : ℕ) (ms : List Node) (n : Node) (es : List (List (Option ℕ))) (f : List (Option ℕ)) →
+    length es ≡ length ms →
+    cables_from t from (ms ++ n ∷ []) (es ++ f ∷ []) ≡ cables_from t from ms es ++ cables_of t (from + length ms) 0 n.ports f
 last_node t from ms n es f e =
     from-append t from ms (n ∷ []) es (f ∷ []) e
     ∙ ap (λ xs. cables_from t from ms es ++ xs) (append-nothing (cables_of t (from + length ms) 0 n.ports f))
 
 mutual
-  hits_tree : (t : Tree) (from parent k : ℕ) (u : Tree) → Hits from (from + length (walk u) - 1) k (times k (of_branch t from parent u))
+  hits_tree : (t : Tree) (from parent k : ℕ) (u : Tree) →
+      Hits from (from + length (walk u) - 1) k (times k (of_branch t from parent u))
   hits_tree t from parent k (branch a s) =
       let me : ℕ = from + length (walk_below s) in
       let e = last_node t from (walk_below s) (node_of a s) (ends_below from me s) (slot_ends from parent s) (length-ends_below from me s) in
@@ -117,7 +122,8 @@ one_cable t id lt = (hits_tree t 0 63 id t).inside (omega arith) (omega arith)
 -- ---- how many there are
 
 mutual
-  many_tree : (t : Tree) (from parent : ℕ) (u : Tree) → length (of_branch t from parent u) + 1 ≡ length (walk u)
+  many_tree : (t : Tree) (from parent : ℕ) (u : Tree) →
+      length (of_branch t from parent u) + 1 ≡ length (walk u)
   many_tree t from parent (branch a s) =
       let me : ℕ = from + length (walk_below s) in
       let e = last_node t from (walk_below s) (node_of a s) (ends_below from me s) (slot_ends from parent s) (length-ends_below from me s) in

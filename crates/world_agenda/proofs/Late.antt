@@ -22,11 +22,13 @@ after-more (suc i) j n =
     ap (λ k. after_ticks k n) e ∙ ap (λ (m : PortNode). (node_tick m).node) (after-more i j n)
 
 -- after some of the idle ticks
-pub idle-then : (j k i : ℕ) (n : PortNode) → i + j ≤ k → IsIdleFor k n → IsIdleFor i (after_ticks j n)
+pub idle-then : (j k i : ℕ) (n : PortNode) → i + j ≤ k → IsIdleFor k n →
+    IsIdleFor i (after_ticks j n)
 idle-then j k i n few h = λ m below. subst IsIdleTick (after-more m j n) (h (m + j) (omega (arith, few, below)))
 
 -- they change nothing but the timer
-pub idle-keeps : (k : ℕ) (n : PortNode) → IsIdleFor k n → without timer (after_ticks k n).state ≡ without timer n.state
+pub idle-keeps : (k : ℕ) (n : PortNode) → IsIdleFor k n →
+    without timer (after_ticks k n).state ≡ without timer n.state
 idle-keeps zero n h = refl
 idle-keeps (suc k) n h = (h k (omega arith)).state ∙ idle-keeps k n (idle-less k (suc k) n (omega arith) h)
 
@@ -104,15 +106,18 @@ module _ (turns clock idle : ℕ) (n : PortNode) (behind : clock ≤ turns) (few
   tick-idle : IsIdleTick was
   tick-idle = still-idle 1 turns clock idle n behind few rests 0 (omega arith)
 
-  pub quiet-node : (signals : List PortSignal) → signals ≡ [] → caught_up (turns + 1) clock n ≡ (node_turn signals was).node
+  pub quiet-node : (signals : List PortSignal) → signals ≡ [] →
+      caught_up (turns + 1) clock n ≡ (node_turn signals was).node
   quiet-node signals none = one-later turns clock n behind ∙ sym (ap (λ ss. (node_turn ss was).node) none)
 
-  pub quiet-wires : (signals : List PortSignal) (wires : List Wire) → signals ≡ [] → wires ≡ wires_after_sends 0 (node_turn signals was).sends wires
+  pub quiet-wires : (signals : List PortSignal) (wires : List Wire) → signals ≡ [] →
+      wires ≡ wires_after_sends 0 (node_turn signals was).sends wires
   quiet-wires signals wires none =
       sym (ap (λ ss. wires_after_sends 0 (node_turn ss was).sends wires) none
       ∙ ap (λ ss. wires_after_sends 0 ss wires) tick-idle.sends ∙ no-sends 0 wires)
 
-  pub quiet-list : (last now : ℕ) → last ≡ (if same_list was (caught_up (turns + 1) clock n) then last else now)
+  pub quiet-list : (last now : ℕ) →
+      last ≡ (if same_list was (caught_up (turns + 1) clock n) then last else now)
   quiet-list last now =
       sym (ap (λ b. if b then last else now)
       (ap (same_list was) (one-later turns clock n behind)

@@ -40,7 +40,8 @@ all-more {X = X} P k xs y p h = subst (λ n. All P (take n (slice_set xs k y))) 
     go (suc k) (x ∷ xs) h = All-cons P x (take (suc k) (slice_set xs k y)) (All-head P x (take k xs) h) (go k xs (All-tail P x (take k xs) h))
 
 -- the entry at a place
-pub all-at : {X : Type 0} → (P : X → Type 0) (k : ℕ) (xs : List X) (x : X) → k < length xs → x ≡ get_or xs k x → All P xs → P x
+pub all-at : {X : Type 0} → (P : X → Type 0) (k : ℕ) (xs : List X) (x : X) → k < length xs →
+    x ≡ get_or xs k x → All P xs → P x
 all-at P k [] x inside at h = absurd (omega (arith, inside))
 all-at P zero (y ∷ xs) x inside at h = subst P (sym at) (All-head P y xs h)
 all-at P (suc k) (y ∷ xs) x inside at h = all-at P k xs x (omega (arith, inside)) at (All-tail P y xs h)

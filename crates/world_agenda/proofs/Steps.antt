@@ -65,7 +65,8 @@ module _ (w : CableWorld) (table : Arriving) (is : table ≡ map (map (arrives w
       ap (λ ss. on_one p ss ++ inbox_of table (p + 1) ports) (from-end end)
       ∙ ap (λ l. on_one p (signals_from w end) ++ l) (inbox-is (p + 1) ports)
 
-  pub turns-are : (rows : Wiring) (nodes : List PortNode) → turns_of table rows nodes ≡ node_turns w rows nodes
+  pub turns-are : (rows : Wiring) (nodes : List PortNode) →
+      turns_of table rows nodes ≡ node_turns w rows nodes
   turns-are [] nodes = refl
   turns-are (r ∷ rows) [] = refl
   turns-are (r ∷ rows) (x ∷ nodes) =

@@ -32,7 +32,8 @@ one-done left w v some h =
     let e : suc (left - 1) ≡ left = omega (arith, some) in
     ap (turns_after (left - 1)) h ∙ sym (one-first (left - 1) w) ∙ ap (λ n. turns_after n w) e
 
-pub none-left : (left : ℕ) (now end : CableWorld) → left ≤ 0 → turns_after left now ≡ end → now ≡ end
+pub none-left : (left : ℕ) (now end : CableWorld) → left ≤ 0 → turns_after left now ≡ end →
+    now ≡ end
 none-left left now end none h =
     let e : 0 ≡ left = omega (arith, none) in
     sym (no-turns now) ∙ ap (λ n. turns_after n now) e ∙ h

@@ -61,7 +61,8 @@ turn-is w table nodes old wires changed t o n c v =
     v ∙ ap (λ ss. all_wires_after_sends ss old) steps ∙ ap (λ r. all_wires_after_sends now r) o in
     rw (is_wires, c, is_nodes) refl
 
-sent-length : (q : ℕ) (sends : List PortSignal) (wires : List Wire) → length (wires_after_sends q sends wires) ≡ length wires
+sent-length : (q : ℕ) (sends : List PortSignal) (wires : List Wire) →
+    length (wires_after_sends q sends wires) ≡ length wires
 sent-length q sends [] = refl
 sent-length q sends (w ∷ wires) = ap suc (sent-length (q + 1) sends wires)
 

@@ -139,7 +139,8 @@ calm-told y q v on past early = go (is_before_tree y.view.phase) refl
     go true e = first y.view.phase (leads_down y.view.ports q) past e
     go false e = second y.view.phase (leads_down y.view.ports q) (is_port y.view.parent q) e (child-if y.view.parent y.view.ports q (late-roles y v e) on) early
 
-pub only-wait : (p : Phase) → is_in_bus_reset p ≡ true → is_resetting p ≡ false → p ≡ phase.ResetWait
+pub only-wait : (p : Phase) → is_in_bus_reset p ≡ true → is_resetting p ≡ false →
+    p ≡ phase.ResetWait
 only-wait p h g = grind arith
 
 wait-between :

@@ -8,15 +8,14 @@ use Rattle.std.specs.Prelude.{Ok, Err, MatchBool, nat_lt, is_some}
 use Rattle.cabling.specs.declared.cable.End as cable
 use Rattle.cabling.specs.Wiring.{Wiring, ports_of, far, HasEnd, IsCabling}
 use Rattle.cabling.specs.Change.{Added, TakenOut, has_node, has_port, is_plugged, plug_fault, pull_fault}
-use Rattle.cabling.proofs.Ends.{plugged}
-use Rattle.cabling.proofs.Plugging.{Pluggable}
+use Rattle.cabling.proofs.Lemmas.{plugged, Pluggable}
 use Rattle.cable_world.specs.declared.act.Act.{Act}
 use Rattle.cable_world.specs.declared.act.Act.TheVariants as act
 use Rattle.cable_world.specs.World.{CableWorld, NodeNumber}
 use Rattle.cable_world.specs.Act.{ActLeads, act_fault}
 use Rattle.cable_world.specs.Turn.{turns_after}
 use Rattle.cable_world.specs.Run.{quiet_turns}
-use Rattle.cable_world.proofs.tables.CountsInActs.{Keeps, act-keeps}
+use Rattle.cable_world.proofs.Lemmas.{Keeps, act-keeps}
 use Rattle.settle.specs.Report.{quiet_turns_of}
 use Rattle.script_made.specs.declared.made.End.{End}
 use Rattle.script_lines.specs.declared.kind.Kind.TheVariants.{TooManyTurns}
@@ -25,9 +24,7 @@ use Rattle.script_told.specs.Bus.{Notes, Bus, node_named}
 use Rattle.script_told.specs.Step.{LineAnswer, AtNode, Named, Acts, Within, Reports, Settles, Does, end_of}
 use Rattle.script_made.specs.Made.{end}
 use Rattle.script_made.specs.MadeRead.{made_name, plugs, pulls}
-use Rattle.script_told.proofs.Turns.{AfterTurns, after-turns}
-use Rattle.script_told.proofs.told.Cables.{IsCabled, act-cabled, act-adds, act-takes}
-use Rattle.script_told.proofs.told.Commands.{not-refused}
+use Rattle.script_told.proofs.Lemmas.{AfterTurns, after-turns, IsCabled, act-cabled, act-adds, act-takes, not-refused}
 use Rattle.script_made.proofs.valid.Names.{names_below, is-found}
 use Rattle.script_made.proofs.valid.Cables.{at, first, IsFree}
 use Rattle.script_made.proofs.valid.Steps.{GoesOn}

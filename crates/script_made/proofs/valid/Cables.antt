@@ -7,7 +7,7 @@ use Rattle.std.specs.List.{All}
 use Rattle.cabling.specs.declared.cable.End as cable
 use Rattle.cabling.specs.Wiring.{Wiring, far, IsCabling}
 use Rattle.cabling.specs.Change.{Added, TakenOut}
-use Rattle.cabling.proofs.Ends.{cases_end, none_some}
+use Rattle.cabling.proofs.Lemmas.{cases_end, none_some}
 use Rattle.rand_pcg.specs.Lcg.{Lcg}
 use Rattle.script_made.specs.declared.made.End.{End}
 use Rattle.script_made.specs.Made.{end, added_ends, free_ends, end_of}

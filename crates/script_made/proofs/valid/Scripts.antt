@@ -8,7 +8,7 @@ use Rattle.std.specs.Prelude.{Ok, nat_lt}
 use Rattle.cabling.specs.declared.cable.End as cable
 use Rattle.cabling.specs.Wiring.{Wiring, far, IsCabling, without_cables}
 use Rattle.cabling.specs.Change.{TakenOut}
-use Rattle.cabling.proofs.Ends.{bare}
+use Rattle.cabling.proofs.Lemmas.{bare}
 use Rattle.port_state.specs.Machine.{PortNode}
 use Rattle.rand_pcg.specs.Lcg.{Lcg}
 use Rattle.script_lines.specs.declared.command.Command.{Command}

@@ -10,7 +10,7 @@ use Rattle.script_told.specs.Step.{LineAnswer, Does, Settles}
 use Rattle.script_told.specs.Script.{Stage, running, StageAnswer, bus_of, delay_of, onwards, Runs, Follows}
 use Rattle.script_told.specs.Run.{ScriptRun, done, behind, last_run, Goes, Takes, RunsFrom}
 use Rattle.script_made.specs.Made.{for_each}
-use Rattle.script_lines.proofs.LineRead.{one_reading}
+use Rattle.script_lines.proofs.Lemmas.{one_reading}
 
 -- ---- a command
 

@@ -3,9 +3,7 @@ use Rattle.std.proofs.Common.{◌≡◌, ℕ, zero, suc, Option, None, Some, ref
 use Rattle.cabling.specs.declared.cable.End.{End}
 use Rattle.cabling.specs.Wiring.{Wiring, IsCabling, far}
 use Rattle.cabling.specs.Change.{Added, TakenOut}
-use Rattle.cabling.proofs.Cores.{component_within}
-use Rattle.cabling.proofs.Ends.{added_by_writes, taken_by_writes, cabling_added, cabling_taken}
-use Rattle.cabling.proofs.Plugging.{Pluggable, pluggable}
+use Rattle.cabling.proofs.Lemmas.{component_within, added_by_writes, taken_by_writes, cabling_added, cabling_taken, Pluggable, pluggable}
 use Rattle.port_state.specs.Machine.{node_disturb, node_plugged, node_pulled, node_set_config}
 use Rattle.port_state.specs.Config.{config_packet}
 use Rattle.cable_world.specs.declared.act.Act.{Act}
@@ -13,9 +11,7 @@ use Rattle.cable_world.specs.declared.act.Act.TheVariants.{Plug, Pull, Reset, Co
 use Rattle.cable_world.specs.World.{CableWorld, NodeSet, put}
 use Rattle.cable_world.specs.Turn.{turn, turns_after}
 use Rattle.cable_world.specs.Act.{ActLeads, act_fault, plug, pull, pull_from, add_cable, remove_cable, with_step, note_changes, configure, change_in_set}
-use Rattle.cable_world.proofs.tables.TablesInSteps.{step-cables}
-use Rattle.cable_world.proofs.turns.ByNumber.{cabling-after}
-use Rattle.cable_world.proofs.OneOutcome.{same-set}
+use Rattle.cable_world.proofs.Lemmas.{step-cables, cabling-after, same-set}
 
 -- the cables of a world are a cabling
 abbrev pub IsCabled : CableWorld → Type 0

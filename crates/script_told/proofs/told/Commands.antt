@@ -19,10 +19,9 @@ use Rattle.resource_manager.specs.declared.access.Access.TheVariants as access
 use Rattle.bus_manager.specs.Gap.{gap_of}
 use Rattle.root_plan.specs.Reach.{IsReach}
 use Rattle.root_plan.specs.declared.choice.RootPlan.{RootPlan}
-use Rattle.settle.proofs.Relabelled.{one-order}
+use Rattle.settle.proofs.Lemmas.{one-order, one-over-cabling}
 use Rattle.settle.specs.declared.report.Report.{Report}
 use Rattle.settle.specs.Report.{IsReport, quiet_turns_of}
-use Rattle.settle.proofs.OneReport.{one-over-cabling}
 use Rattle.script_lines.specs.declared.kind.Kind.{Kind}
 use Rattle.script_lines.specs.declared.command.Command.{Command}
 use Rattle.script_lines.specs.declared.command.Command.TheVariants.{Node, Plug, Pull, Reset, Turn, Hold, Settle, Config, CsrRead, CsrWrite, CsrLock, Look, Allocate, Release, Manager, Plan, Maps, Delay}
@@ -34,8 +33,7 @@ use Rattle.script_text.specs.Plan.{IsPlan, plan_line}
 use Rattle.script_told.specs.Bus.{Notes, Bus, Reported, node_named, resets_of, tree_with, values_at}
 use Rattle.script_told.specs.Step.{LineAnswer, AtNode, Named, AtTree, Settled, AtManager, IsTreeOf, Managed, node_with, id_of, Acts, Holds, Within, Reports, Settles, Accesses, Looks, Grants, Bids, CarriesOut, Plans, PlansAs, MapsOf, GivesMaps, Does, end_of, config_of, notes_after_report}
 use Rattle.script_lines.specs.Refusal.{kind_of}
-use Rattle.script_text.proofs.OneText.{one-text}
-use Rattle.script_text.proofs.OneMaps.{same_maps}
+use Rattle.script_text.proofs.Lemmas.{one-text, same_maps}
 use Rattle.script_told.proofs.told.Cables.{IsCabled, turns-cabled, act-cabled, one-world}
 
 -- after an answer the bus has a cabling, unless the line was at fault

@@ -9,7 +9,7 @@ use Rattle.script_lines.specs.declared.command.Command.{Command}
 use Rattle.script_lines.specs.declared.command.Command.TheVariants.{Settle}
 use Rattle.script_lines.specs.Range.{IsInRange}
 use Rattle.script_lines.specs.Line.{Reads}
-use Rattle.script_lines.proofs.Ranged.{in-range}
+use Rattle.script_lines.proofs.Lemmas.{in-range}
 use Rattle.settle.specs.declared.report.Report.{Report}
 use Rattle.settle.specs.Report.{IsReport, quiet_turns_of}
 use Rattle.script_told.specs.Bus.{Bus, Notes}

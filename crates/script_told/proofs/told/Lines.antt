@@ -5,14 +5,13 @@ use Rattle.topology_stack.specs.OneAnswer.{NoListHasTwoTrees}
 use Rattle.port_state.specs.Machine.{PortNode}
 use Rattle.cable_world.specs.World.{IsNodeAtPowerOn}
 use Rattle.cable_world.specs.Unchanged.{ActKeepsNodes}
-use Rattle.cable_world.proofs.StaysLawful.{reached-lawful}
+use Rattle.cable_world.proofs.Lemmas.{reached-lawful}
 use Rattle.script_lines.specs.declared.kind.Kind.{Kind}
 use Rattle.script_lines.specs.declared.command.Command.{Command}
 use Rattle.script_lines.specs.declared.command.Command.TheVariants.{Node, Delay, Settle}
 use Rattle.script_lines.specs.Range.{IsWithin, IsInRange}
 use Rattle.script_lines.specs.Line.{Reads}
-use Rattle.script_lines.proofs.LineRead.{one_reading}
-use Rattle.script_lines.proofs.Ranged.{in-range}
+use Rattle.script_lines.proofs.Lemmas.{one_reading, in-range}
 use Rattle.script_told.specs.Bus.{is_declared}
 use Rattle.script_told.specs.Step.{LineAnswer, Settles}
 use Rattle.script_told.specs.Script.{Draft, Stage, fresh, declaring, running, StageAnswer, draft_of, bus_of, delay_of, first_draft, new_node, times_of, coins_of, with_node, Declares, Delays, onwards, Runs, Follows, Told, script_lines}

@@ -11,16 +11,13 @@ use Rattle.self_id.specs.declared.node.Attrs.{Attrs}
 use Rattle.port_state.specs.Coins.{Coins}
 use Rattle.port_state.specs.declared.timing.Timing.{Timing}
 use Rattle.port_state.specs.Machine.{PortNode}
-use Rattle.port_state.proofs.Sound.{valid-power_on}
+use Rattle.port_state.proofs.Lemmas.{valid-power_on}
 use Rattle.cable_world.specs.World.{CableWorld, NodeNumber, IsNodeAtPowerOn, world_of_nodes}
-use Rattle.cable_world.proofs.running.Start.{power-on}
+use Rattle.cable_world.proofs.Lemmas.{power-on, some-same, reached-lawful, power-on-reached, turns-reached, act-reached, hold-reached}
 use Rattle.cable_world.specs.Run.{Event, acts, holds, turns, Happens, Runs, IsReached}
 use Rattle.cable_world.specs.Act.{IsAct, hold, hold_fault}
 use Rattle.cable_world.specs.Turn.{turn, turns_after}
 use Rattle.cable_world.specs.Unchanged.{ActKeepsNodes}
-use Rattle.cable_world.proofs.Options.{some-same}
-use Rattle.cable_world.proofs.StaysLawful.{reached-lawful}
-use Rattle.cable_world.proofs.StaysReached.{power-on-reached, turns-reached, act-reached, hold-reached}
 use Rattle.outcomes.specs.Settled.{HasNoAct}
 use Rattle.resource_manager.specs.declared.access.Access.{Access}
 use Rattle.resource_manager.specs.declared.access.Access.TheVariants as access
@@ -29,17 +26,17 @@ use Rattle.resource_manager.specs.declared.grant.Seen.{Seen}
 use Rattle.resource_manager.specs.Access.{answer_of}
 use Rattle.resource_manager.specs.Channel.{seen_of}
 use Rattle.bus_manager.specs.Election.{lock_for}
-use Rattle.root_plan.proofs.Choosing.{candidate_within}
+use Rattle.root_plan.proofs.Lemmas.{candidate_within}
 use Rattle.settle.specs.declared.report.Report.{Report}
 use Rattle.settle.specs.Report.{quiet_turns_of}
-use Rattle.settle_plan.proofs.Suited.{gap-fits}
+use Rattle.settle_plan.proofs.Lemmas.{gap-fits}
 use Rattle.script_lines.specs.declared.kind.Kind.{Kind}
 use Rattle.script_lines.specs.declared.command.Command.{Command}
 use Rattle.script_lines.specs.declared.command.Command.TheVariants.{Node, Plug, Pull, Reset, Turn, Hold, Settle, Config, CsrRead, CsrWrite, CsrLock, Look, Allocate, Release, Manager, Plan, Maps, Delay}
 use Rattle.script_lines.specs.Range.{IsWithin, IsInRange, IsNodeInRange, IsConfigInRange}
 use Rattle.script_lines.specs.Line.{Reads}
 use Rattle.script_lines.specs.Ranged.{CommandsAreInRange}
-use Rattle.script_lines.proofs.LineRead.{some_reading}
+use Rattle.script_lines.proofs.Lemmas.{some_reading}
 use Rattle.script_lines.specs.Refusal.{kind_of}
 use Rattle.script_text.specs.CommandText.{csr_text, grant_text, bid_text}
 use Rattle.script_told.specs.Bus.{Bus, Notes, Reported, node_named, tree_with, values_at, after_access, put_look}

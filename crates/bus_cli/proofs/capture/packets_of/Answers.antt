@@ -1,7 +1,7 @@
 use Rattle.std.proofs.Common.{◌∙◌, ℕ, List, ap, sym, arith}
 use Rattle.std.proofs.lemmas.Result.{err_from_is_err_and}
 use Rattle.quad_lanes.specs.Pairs.{firsts, first_bad_pair}
-use Rattle.quad_lanes.proofs.Quadlets.{all_bytes}
+use Rattle.quad_lanes.proofs.Lemmas.{all_bytes}
 use Rattle.bus_cli.proofs.Reading.{is_capture, is_pair_fault}
 use Rattle.bus_cli.proofs.capture.packets_of.Goals as goal
 

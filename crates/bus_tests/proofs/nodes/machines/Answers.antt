@@ -8,11 +8,13 @@ use Rattle.bus_tests.proofs.nodes.machines.Goals as goal
 abbrev WasPoweredOn : ℕ → AnyMachine → Type 0
 WasPoweredOn d m = IsNodeAtPowerOn d (any_node m).state
 
-one_more : (d : ℕ) (old new : List AnyMachine) (m : AnyMachine) → new ≡ old ++ m ∷ [] → All (WasPoweredOn d) old → WasPoweredOn d m → All (WasPoweredOn d) new
+one_more : (d : ℕ) (old new : List AnyMachine) (m : AnyMachine) → new ≡ old ++ m ∷ [] →
+    All (WasPoweredOn d) old → WasPoweredOn d m → All (WasPoweredOn d) new
 one_more d old new m e h on =
     subst (All (WasPoweredOn d)) (sym e) (All-append (WasPoweredOn d) old (m ∷ []) h (All-cons (WasPoweredOn d) m [] on (All-nil (WasPoweredOn d))))
 
-longer : (old new : List AnyMachine) (m : AnyMachine) → new ≡ old ++ m ∷ [] → length new ≡ length old + 1
+longer : (old new : List AnyMachine) (m : AnyMachine) → new ≡ old ++ m ∷ [] →
+    length new ≡ length old + 1
 longer old new m e = ap length e ∙ length-append old (m ∷ [])
 
 pub loop-node-init : goal.loop-node-init

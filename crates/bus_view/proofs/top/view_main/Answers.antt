@@ -1,6 +1,6 @@
 use Rattle.std.proofs.Common.{◌≡◌, ◌⊎◌, ◌≤◌, inl, inr, length}
 use Rattle.std.specs.Io.KnownBytes.{Appends}
-use Rattle.bus_cli.proofs.Ends.{of_answer, of_few}
+use Rattle.bus_cli.proofs.Lemmas.{of_answer, of_few}
 use Rattle.bus_view.specs.Answer.{Answers}
 use Rattle.bus_view.proofs.top.view_main.Goals as goal
 

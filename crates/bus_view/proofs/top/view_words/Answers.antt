@@ -1,7 +1,7 @@
 use Rattle.std.proofs.Common.{◌≡◌, refl}
 use Rattle.bus_view.specs.declared.form.ViewForm.TheVariants.{Trace}
 use Rattle.bus_view.specs.Answer.{Answers, viewed}
-use Rattle.bus_cli.proofs.Answering.{part_written, whole_written, exact_status}
+use Rattle.bus_cli.proofs.Lemmas.{part_written, whole_written, exact_status}
 use Rattle.bus_view.proofs.Ends.{written, few_status, not_six, taken_surely, trace_written}
 use Rattle.bus_view.proofs.top.view_words.Goals as goal
 

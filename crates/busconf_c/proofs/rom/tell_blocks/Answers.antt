@@ -7,7 +7,10 @@ use Rattle.busconf_c.specs.Roms.{block_record}
 use Rattle.busconf_c.proofs.Places.{put_next}
 use Rattle.busconf_c.proofs.rom.tell_blocks.Goals as goal
 
-next : (l : List Block) (place old : List BlockRecord) (i : ℕ) (d : Block) (r : BlockRecord) → r ≡ block_record (get_or l i d) → place ≡ map block_record (take i l) ++ drop i old → i < length l → i < length old → set place i r ≡ map block_record (take (i + 1) l) ++ drop (i + 1) old
+next : (l : List Block) (place old : List BlockRecord) (i : ℕ) (d : Block) (r : BlockRecord) →
+    r ≡ block_record (get_or l i d) → place ≡ map block_record (take i l) ++ drop i old →
+    i < length l → i < length old →
+    set place i r ≡ map block_record (take (i + 1) l) ++ drop (i + 1) old
 next l place old i d r is so_far here room =
     ap (λ (x : BlockRecord). set place i x) is ∙ ap (λ (p : List BlockRecord). set p i (block_record (get_or l i d))) so_far ∙ put_next block_record l old i d here room
 

@@ -4,7 +4,7 @@ use Rattle.quad_lanes.specs.Pairs.{quads_of}
 use Rattle.config_rom.specs.Fault.{rom_fault}
 use Rattle.config_rom.specs.Rom.{rom_bytes}
 use Rattle.config_rom.specs.codings.Parts.{parts_of, HasLayout}
-use Rattle.quad_lanes.proofs.Quadlets.{all_bytes}
+use Rattle.quad_lanes.proofs.Lemmas.{all_bytes}
 use Rattle.config_rom.proofs.Whole.{is_rom}
 use Rattle.config_rom.proofs.Reading.{read_layout, read_bytes, read_only, rom_no_fault, some_none}
 use Rattle.config_rom.proofs.rom.decode_rom.Goals as goal

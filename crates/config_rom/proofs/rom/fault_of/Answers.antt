@@ -3,7 +3,7 @@ use Rattle.std.specs.Prelude.{slice_index}
 use Rattle.quad_lanes.specs.Pairs.{quads_of}
 use Rattle.config_rom.specs.declared.fault.RomFault.TheVariants.{RomTooLong, NoInfo, Minimal, RomCut, BusName}
 use Rattle.config_rom.specs.Layout.{end_of}
-use Rattle.quad_lanes.proofs.Quadlets.{length-quads_of}
+use Rattle.quad_lanes.proofs.Lemmas.{length-quads_of}
 use Rattle.config_rom.proofs.Faults.{by_tests, tested, too_long, no_info, minimal, cut_info, other_bus, cut_root, no_fault}
 use Rattle.config_rom.proofs.rom.fault_of.Goals as goal
 

@@ -2,7 +2,7 @@ use Rattle.std.proofs.Common.{◌≡◌, ◌/◌, ◌^◌, ap, arith}
 use Rattle.std.proofs.lemmas.Bool.Decides.{nat_tests}
 use Rattle.quad_lanes.specs.Pairs.{quads_of}
 use Rattle.config_rom.specs.Layout.{length_at}
-use Rattle.quad_lanes.proofs.Quadlets.{length-quads_of}
+use Rattle.quad_lanes.proofs.Lemmas.{length-quads_of}
 use Rattle.config_rom.proofs.rom.is_whole.Goals as goal
 
 pub quad_at-requires : goal.quad_at-requires

@@ -6,7 +6,8 @@ use Rattle.layer_tests.proofs.cables.longest_line.Goals as goal
 two : ℕ
 two = 2
 
-two_each : (n i : ℕ) → i < n → (1 ≤ get_or (replicate n two) i 0) × (get_or (replicate n two) i 0 ≤ 16)
+two_each : (n i : ℕ) → i < n →
+    (1 ≤ get_or (replicate n two) i 0) × (get_or (replicate n two) i 0 ≤ 16)
 unfolding two
 two_each n i h =
     let e : get_or (replicate n two) i 0 ≡ two = get_or-replicate n i two 0 h in

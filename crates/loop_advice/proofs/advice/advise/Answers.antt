@@ -16,7 +16,8 @@ use Rattle.loop_advice.proofs.Splitting.{Split, split_first, split_next, split_a
 use Rattle.loop_advice.proofs.advice.advise.Goals as goal
 
 -- no cable was placed yet
-first : (c : Wiring) (set : ℕ) (g : Groups) (pulls kept : List Cable) → set < 2 ^ 63 → pulls ≡ [] → kept ≡ [] → ((node : ℕ) → node < 63 → group g node ≡ node) → Split c set 63 [] g pulls kept
+first : (c : Wiring) (set : ℕ) (g : Groups) (pulls kept : List Cable) → set < 2 ^ 63 → pulls ≡ [] →
+    kept ≡ [] → ((node : ℕ) → node < 63 → group g node ≡ node) → Split c set 63 [] g pulls kept
 first c set g pulls kept small no_pulls no_kept own =
     subst (λ (ps : List Cable). Split c set 63 [] g ps kept) (sym no_pulls)
     (subst (λ (ks : List Cable). Split c set 63 [] g [] ks) (sym no_kept) (split_first c set 63 g small own))
@@ -25,10 +26,12 @@ pub loop-cable-init : goal.loop-cable-init
 loop-cable-init c set small closed order = first c.args.cabling.now set c.new-groups.result c.new.result c.new-2.result small c.new.ensures c.new-2.ensures c.new-groups.ensures
 
 -- the cable at a place of the list is one of the set
-cable_of : (c : Wiring) (set : ℕ) (xs : List Cable) (i : ℕ) (d : Cable) → AreInOrder c set xs → i < length xs → IsCableOf c set (get_or xs i d)
+cable_of : (c : Wiring) (set : ℕ) (xs : List Cable) (i : ℕ) (d : Cable) → AreInOrder c set xs →
+    i < length xs → IsCableOf c set (get_or xs i d)
 cable_of c set xs i d order h = (order.each.all (get_or xs i d)).0 (lists_at xs i (get_or xs i d) (read_at xs i d h))
 
-in_order : (c : Wiring) (set : ℕ) (xs ys : List Cable) → ys ≡ xs → AreInOrder c set xs → AreInOrder c set ys
+in_order : (c : Wiring) (set : ℕ) (xs ys : List Cable) → ys ≡ xs → AreInOrder c set xs →
+    AreInOrder c set ys
 in_order c set xs ys e order = subst (λ (zs : List Cable). AreInOrder c set zs) (sym e) order
 
 low : (c : Wiring) (set : ℕ) (x : Cable) → IsCabling c → IsCableOf c set x → x.a.node < 63
@@ -45,7 +48,8 @@ pub place-requires-clause-b : goal.place-requires-clause-b
 place-requires-clause-b c = high c.args.cabling.now c.component-component.result _ c.cables_are_two_ended.ensures
     (cable_of c.args.cabling.now c.component-component.result c.as_slice-cable-items.result.now c.loop-cable.cable-index _ (in_order c.args.cabling.now c.component-component.result c.in_ok-cables.cables c.as_slice-cable-items.result.now c.as_slice-cable-items.ensures c.in_ok-cables.ensures) c.loop-cable-test.true)
 
-next : (c : Wiring) (set : ℕ) (xs : List Cable) (i : ℕ) (d : Cable) (g after : Groups) (pulls pulls_after kept kept_after : List Cable) → IsCabling c → set < 2 ^ 63 → IsClosed c set → AreInOrder c set xs → i < length xs →
+next : (c : Wiring) (set : ℕ) (xs : List Cable) (i : ℕ) (d : Cable) (g after : Groups) (pulls pulls_after kept kept_after : List Cable) →
+    IsCabling c → set < 2 ^ 63 → IsClosed c set → AreInOrder c set xs → i < length xs →
     WasPlaced (record { groups = g; pulls = pulls; kept = kept }) (record { groups = after; pulls = pulls_after; kept = kept_after }) (get_or xs i d) →
     Split c set 63 (take i xs) g pulls kept → Split c set 63 (take (i + 1) xs) after pulls_after kept_after
 next c set xs i d g after pulls pulls_after kept kept_after is small closed order h w s =
@@ -59,7 +63,8 @@ loop-cable-preserved c set small closed order = next c.args.cabling.now set c.as
     c.cables_are_two_ended.ensures small closed order c.loop-cable-test.true c.in_ok-place.ensures (c.loop-cable.invariant set small closed order)
 
 -- all cables were placed
-whole : (c : Wiring) (set : ℕ) (xs : List Cable) (i : ℕ) (g : Groups) (pulls kept : List Cable) → length xs ≤ i → Split c set 63 (take i xs) g pulls kept → Split c set 63 xs g pulls kept
+whole : (c : Wiring) (set : ℕ) (xs : List Cable) (i : ℕ) (g : Groups) (pulls kept : List Cable) →
+    length xs ≤ i → Split c set 63 (take i xs) g pulls kept → Split c set 63 xs g pulls kept
 whole c set xs i g pulls kept h s = subst (λ (zs : List Cable). Split c set 63 zs g pulls kept) (take_all i xs h) s
 
 pub returns-clause-advised : goal.returns-clause-advised

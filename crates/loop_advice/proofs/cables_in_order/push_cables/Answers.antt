@@ -3,7 +3,7 @@ use Rattle.cabling.specs.declared.cable.Cable.{Cable}
 use Rattle.cabling.specs.Wiring.{Wiring, IsCabling}
 use Rattle.cabling.specs.NodeSet.{Holds}
 use Rattle.cabling.specs.Component.{IsClosed}
-use Rattle.cabling.proofs.Near.{end_at}
+use Rattle.cabling.proofs.Lemmas.{end_at}
 use Rattle.loop_advice.specs.codings.Collected.{Collected, StartsAt}
 use Rattle.loop_advice.proofs.Listed.{not_true}
 use Rattle.loop_advice.proofs.Marking.{cable}
@@ -15,7 +15,9 @@ pub returns-then-not-has : goal.returns-then-not-has
 returns-then-not-has c = collected_skip c.args.cabling.now c.args.set c.args.node c.args.list.now (λ h. not_true (c.if-not-has.ensures.1 h)) c.requires.before
 
 -- the cable at a port was appended
-pushed : (c : Wiring) (set node port : ℕ) (x : Cable) (old new : List Cable) → IsCabling c → IsClosed c set → Holds set node → StartsAt c (end_at node port) x → new ≡ old ++ x ∷ [] → Collected c set node port old → Collected c set node (port + 1) new
+pushed : (c : Wiring) (set node port : ℕ) (x : Cable) (old new : List Cable) → IsCabling c →
+    IsClosed c set → Holds set node → StartsAt c (end_at node port) x → new ≡ old ++ x ∷ [] →
+    Collected c set node port old → Collected c set node (port + 1) new
 pushed c set node port x old new is closed h starts e k =
     let same : cable (end_at node port) x.b ≡ x = ap (λ a. cable a x.b) (sym starts.first) in
     subst (λ (xs : List Cable). Collected c set node (port + 1) xs) (ap (λ (y : Cable). old ++ y ∷ []) same ∙ sym e)

@@ -11,7 +11,8 @@ use Rattle.loop_advice.proofs.certificate.holds_each_once.Goals as goal
 use Rattle.loop_advice.proofs.certificate.holds_each_once.Goals.{then-not-is_cable_of-via-then-not-is_cable_of, then-not-is_cable_of-via-else-not-is_cable_of+then-has}
 
 -- a cable at a place that is no cable of the set, or whose end is marked
-refused : (c : Wiring) (set : ℕ) (m : Marks) (l : List Cable) (i : ℕ) (x : Cable) → IsCabling c → slice_get l i ≡ Some x → Marking c set (take i l) m → IsMarked m x.a → HoldsEachOnce c set l → ⊥
+refused : (c : Wiring) (set : ℕ) (m : Marks) (l : List Cable) (i : ℕ) (x : Cable) → IsCabling c →
+    slice_get l i ≡ Some x → Marking c set (take i l) m → IsMarked m x.a → HoldsEachOnce c set l → ⊥
 refused c set m l i x is at k h each =
     let of : IsCableOf c set x = (each.all x).0 (lists_at l i x at) in
     let before : Lists (take i l) x = at_end c set (take i l) m x k of (few_ports c x.a x.b is of.joined) h in
@@ -37,7 +38,10 @@ loop-at-preserved c =
     c.cables_are_two_ended.ensures c.requires.closed c.loop-at.invariant c.if-not-is_cable_of.ensures (λ h. not_true (c.if-has.ensures.1 h))
     (marked_both c.loop-at.marks c.insert.new.self c.insert-in-loop-at.new.self c.cable_at-cable.result c.insert.ensures.held c.insert.ensures.others c.insert-in-loop-at.ensures.held c.insert-in-loop-at.ensures.others))
 
-last : (c : Wiring) (set : ℕ) (m : Marks) (l : List Cable) (i : ℕ) (b : Bool) → IsCabling c → length l ≤ i → Marking c set (take i l) m → MatchBool b (AreMarked c m set) (AreMarked c m set → ⊥) → MatchBool b (HoldsEachOnce c set l) (HoldsEachOnce c set l → ⊥)
+last : (c : Wiring) (set : ℕ) (m : Marks) (l : List Cable) (i : ℕ) (b : Bool) → IsCabling c →
+    length l ≤ i → Marking c set (take i l) m →
+    MatchBool b (AreMarked c m set) (AreMarked c m set → ⊥) →
+    MatchBool b (HoldsEachOnce c set l) (HoldsEachOnce c set l → ⊥)
 last c set m l i true is h k p = all_listed c set l m is (subst (λ (zs : List Cable). Marking c set zs m) (take_all i l h) k) p
 last c set m l i false is h k p = λ each. p (all_marked c set l m (subst (λ (zs : List Cable). Marking c set zs m) (take_all i l h) k) each)
 

@@ -3,7 +3,7 @@ use Rattle.std.proofs.lemmas.List.{take_more}
 use Rattle.std.proofs.Math.Seq.{take_all}
 use Rattle.cabling.specs.declared.cable.Cable.{Cable}
 use Rattle.cabling.specs.NodeSet.{Holds}
-use Rattle.cabling.proofs.Bits.{below}
+use Rattle.cabling.proofs.Lemmas.{below}
 use Rattle.loop_advice.specs.Cables.{turned, Lists, JoinAll}
 use Rattle.loop_advice.specs.codings.Groups.{group, merged}
 use Rattle.loop_advice.specs.declared.groups.Groups.{Groups}
@@ -20,7 +20,8 @@ join-requires-clause-a c = c.requires.small _ (listed c.args.cables.now c.loop-c
 pub join-requires-clause-b : goal.join-requires-clause-b
 join-requires-clause-b c = c.requires.small _ (lists_turned c.args.cables.now _ (listed c.args.cables.now c.loop-cable.cable-index _ c.loop-cable-test.true))
 
-next : (g after : Groups) (xs : List Cable) (i : ℕ) (d : Cable) → i < length xs → ((x : Cable) → Lists xs x → x.a.node < 63) → Grouped g (take i xs) →
+next : (g after : Groups) (xs : List Cable) (i : ℕ) (d : Cable) → i < length xs →
+    ((x : Cable) → Lists xs x → x.a.node < 63) → Grouped g (take i xs) →
     ((node : ℕ) → node < 63 → group after node ≡ merged (group g (get_or xs i d).b.node) (group g (get_or xs i d).a.node) (group g node)) →
     Grouped after (take (i + 1) xs)
 next g after xs i d h small k is =
@@ -41,7 +42,8 @@ returns-then-not-are_joined c joins =
     let done = all c.loop-cable.groups c.args.cables.now c.loop-cable.cable-index c.loop-cable-test.false c.loop-cable.invariant in
     not_joined c.loop-cable.groups c.args.cables.now c.args.node c.loop-other.other done (λ e. not_true (c.if-not-are_joined.ensures.1 e)) (joins c.loop-other.other (c.if-has.ensures.0 refl))
 
-every : (g : Groups) (xs : List Cable) (node set at : ℕ) → node < 63 → set < 2 ^ 63 → 63 ≤ at → Grouped g xs → ((k : ℕ) → k < at → Holds set k → group g node ≡ group g k) → JoinAll xs node set
+every : (g : Groups) (xs : List Cable) (node set at : ℕ) → node < 63 → set < 2 ^ 63 → 63 ≤ at →
+    Grouped g xs → ((k : ℕ) → k < at → Holds set k → group g node ≡ group g k) → JoinAll xs node set
 every g xs node set at h small ends k same other in_set = k.joined node other h (below set other small in_set) (same other (omega (arith, below set other small in_set, ends)) in_set)
 
 pub returns : goal.returns

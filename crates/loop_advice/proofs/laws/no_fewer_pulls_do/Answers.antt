@@ -2,7 +2,7 @@ use Rattle.std.proofs.Common.{◌≡◌, ℕ, ◌+◌, ◌^◌, ◌<◌, ◌≤�
 use Rattle.cabling.specs.declared.cable.Cable.{Cable}
 use Rattle.cabling.specs.Wiring.{Wiring}
 use Rattle.cabling.specs.NodeSet.{size_below}
-use Rattle.cabling.proofs.Ends.{cases_end}
+use Rattle.cabling.proofs.Lemmas.{cases_end}
 use Rattle.loop_advice.specs.Cables.{turned, IsSame, Lists, HasNoneTwice, HoldsEachOnce}
 use Rattle.loop_advice.specs.Pulled.{ArePulled}
 use Rattle.loop_advice.proofs.Listed.{same_back, same_along}
@@ -44,7 +44,8 @@ record Left (others cables : List Cable) : Type 0 where
   out : (z : Cable) → Lists rest z → Lists others z → ⊥
   few : length cables ≤ length rest + length others
 
-left_next : (o : Cable) (os cables : List Cable) → (l : Left os cables) → Away (λ z. IsSame z o) l.rest → Left (o ∷ os) cables
+left_next : (o : Cable) (os cables : List Cable) → (l : Left os cables) →
+    Away (λ z. IsSame z o) l.rest → Left (o ∷ os) cables
 left_next o os cables l a = record {
   rest = a.rest;
   once = a.once;
@@ -59,14 +60,18 @@ left_by (o ∷ os) cables once =
     let l = left_by os cables once in
     left_next o os cables l (away (λ z. IsSame z o) l.rest (is_one o l.rest) l.once)
 
-inside_left : (old new : Wiring) (set : ℕ) (others cables : List Cable) → HoldsEachOnce old set cables → ArePulled old new others → (l : Left others cables) → Inside new set l.rest
+inside_left : (old new : Wiring) (set : ℕ) (others cables : List Cable) →
+    HoldsEachOnce old set cables → ArePulled old new others → (l : Left others cables) →
+    Inside new set l.rest
 inside_left old new set others cables each p l = record {
   once = l.once;
   joined = λ z m. (p.left z.a z.b).1 (((each.all z).0 (l.from z m)).joined, l.out z m);
   here = λ z m. ((each.all z).0 (l.from z m)).here;
 }
 
-least : (old new : Wiring) (node : ℕ) (pulls kept others : List Cable) (set core n : ℕ) → n ≡ 63 → set < 2 ^ 63 → HoldsEachOnce old set (pulls ++ kept) → length kept + 1 ≡ size_below set n → ArePulled old new others → Bare new set core → length pulls ≤ length others
+least : (old new : Wiring) (node : ℕ) (pulls kept others : List Cable) (set core n : ℕ) → n ≡ 63 →
+    set < 2 ^ 63 → HoldsEachOnce old set (pulls ++ kept) → length kept + 1 ≡ size_below set n →
+    ArePulled old new others → Bare new set core → length pulls ≤ length others
 least old new node pulls kept others set core n e small each count p b =
     let l = left_by others (pulls ++ kept) each.once in
     elim (fewer_cables (size_below set n) new set core set n l.rest (omega arith) e small b (λ y h. h) (inside_left old new set others (pulls ++ kept) each p l)) [

@@ -6,7 +6,10 @@ use Rattle.reset_log.specs.Texts.{initiator, initiators}
 use Rattle.reset_log.proofs.At.{at_drop, item_at}
 use Rattle.reset_log.proofs.texts.put_initiators.Goals as goal
 
-step : (id : ℕ) (flag : Bool) (ns : List Node) (n : Node) (old new whole : List ℕ) → slice_get ns id ≡ Some n → flag ≡ n.attrs.initiated → new ≡ old ++ initiator id flag → old ++ initiators id (drop id ns) ≡ whole → new ++ initiators (id + 1) (drop (id + 1) ns) ≡ whole
+step : (id : ℕ) (flag : Bool) (ns : List Node) (n : Node) (old new whole : List ℕ) →
+    slice_get ns id ≡ Some n → flag ≡ n.attrs.initiated → new ≡ old ++ initiator id flag →
+    old ++ initiators id (drop id ns) ≡ whole →
+    new ++ initiators (id + 1) (drop (id + 1) ns) ≡ whole
 step id flag ns n old new whole at is e h =
     let k : old ++ (initiator id n.attrs.initiated ++ initiators (id + 1) (drop (id + 1) ns)) ≡ whole = rw (at_drop ns id n at) at h in
     rw (e, is, append_assoc old (initiator id n.attrs.initiated) (initiators (id + 1) (drop (id + 1) ns))) k

@@ -1,6 +1,6 @@
 use Rattle.std.proofs.Common.{◌≤◌, length, min, refl, arith}
 use Rattle.std.proofs.lemmas.Option.{slice_get_read}
-use Rattle.cable_world.proofs.Options.{some-of}
+use Rattle.cable_world.proofs.Lemmas.{some-of}
 use Rattle.script_trace.proofs.Walked.{next-node, none-left, all-told}
 use Rattle.script_trace.proofs.watch.put_since.Goals as goal
 

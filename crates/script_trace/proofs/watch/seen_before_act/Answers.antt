@@ -1,4 +1,4 @@
-use Rattle.cable_world.proofs.Options.{some-of}
+use Rattle.cable_world.proofs.Lemmas.{some-of}
 use Rattle.script_trace.proofs.Walked.{next-seen}
 use Rattle.script_trace.proofs.watch.seen_before_act.Goals as goal
 

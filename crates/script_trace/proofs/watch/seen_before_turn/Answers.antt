@@ -1,4 +1,4 @@
-use Rattle.cable_world.proofs.Options.{some-of}
+use Rattle.cable_world.proofs.Lemmas.{some-of}
 use Rattle.script_trace.proofs.Walked.{one-seen-more}
 use Rattle.script_trace.proofs.watch.seen_before_turn.Goals as goal
 

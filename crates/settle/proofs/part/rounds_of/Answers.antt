@@ -1,7 +1,7 @@
 use Rattle.std.proofs.Common.{◌≡◌, ◌∙◌, true, length, slice_get, sym, ap, arith}
 use Rattle.port_state.specs.declared.view.View.{View}
 use Rattle.port_state.specs.Machine.{PortNode}
-use Rattle.cable_world.proofs.Options.{some-and}
+use Rattle.cable_world.proofs.Lemmas.{some-and}
 use Rattle.settle.specs.Report.{Drew}
 use Rattle.settle.proofs.Greatest.{highest-in, highest-out, highest-of-all, drew-one}
 use Rattle.settle.proofs.Shown.{node-there}

@@ -1,4 +1,4 @@
-use Rattle.cable_world.proofs.running.Whole.{lawful-now}
+use Rattle.cable_world.proofs.Lemmas.{lawful-now}
 use Rattle.settle.proofs.settling.report_of.Goals as goal
 
 pub parts_of-requires-clause-formed : goal.parts_of-requires-clause-formed

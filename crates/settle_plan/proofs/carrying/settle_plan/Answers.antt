@@ -3,9 +3,8 @@ use Rattle.cable_world.specs.declared.act.Act.TheVariants.{Config}
 use Rattle.cable_world.specs.declared.act.ActStop.{ActStop}
 use Rattle.cable_world.specs.Act.{act_fault}
 use Rattle.cable_world.specs.Answer.{IfFault}
-use Rattle.cable_world.proofs.Options.{none-some}
+use Rattle.cable_world.proofs.Lemmas.{none-some, lawful-now}
 use Rattle.settle.specs.Report.{IsReport, IsAfterQuiet}
-use Rattle.cable_world.proofs.running.Whole.{lawful-now}
 use Rattle.settle_plan.specs.Hops.{HopsStay}
 use Rattle.settle_plan.proofs.Suited.{not-refused, packet-fits, has-id, its-small}
 use Rattle.settle_plan.proofs.Carried.{on-ok, on-both, if-ok, gap-wanted, tree-from, gap-of}

@@ -1,5 +1,5 @@
 use Rattle.cabling.specs.Existence.{HasComponent}
-use Rattle.cable_world.proofs.running.Whole.{lawful-now}
+use Rattle.cable_world.proofs.Lemmas.{lawful-now}
 use Rattle.settle_plan.proofs.Suited.{not-refused, has-id}
 use Rattle.settle_plan.proofs.Carried.{nodes-stay, tree-from, gap-of}
 use Rattle.settle_plan.proofs.suiting.plans_come_out.Goals as goal

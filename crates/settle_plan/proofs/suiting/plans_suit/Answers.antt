@@ -1,5 +1,5 @@
 use Rattle.cabling.specs.Existence.{HasComponent}
-use Rattle.cable_world.proofs.running.Whole.{lawful-now}
+use Rattle.cable_world.proofs.Lemmas.{lawful-now}
 use Rattle.settle_plan.proofs.Chosen.{suits}
 use Rattle.settle_plan.proofs.suiting.plans_suit.Goals as goal
 

@@ -8,7 +8,9 @@ use Rattle.view_text.specs.Cable.{cable_at, cables_of}
 use Rattle.view_text.proofs.At.{at_drop, get_at}
 use Rattle.view_text.proofs.cable.put_cables.Goals as goal
 
-step : (t : Tree) (id slot : ℕ) (ps : List PortStatus) (p : PortStatus) (es : List (Option ℕ)) (far : Option ℕ) (old new whole : List Cable) → slice_get ps slot ≡ Some p → slice_get es slot ≡ Some far → new ≡ old ++ cable_at t id slot p far →
+step : (t : Tree) (id slot : ℕ) (ps : List PortStatus) (p : PortStatus) (es : List (Option ℕ)) (far : Option ℕ) (old new whole : List Cable) →
+    slice_get ps slot ≡ Some p → slice_get es slot ≡ Some far →
+    new ≡ old ++ cable_at t id slot p far →
     old ++ cables_of t id slot (drop slot ps) (drop slot es) ≡ whole → new ++ cables_of t id (slot + 1) (drop (slot + 1) ps) (drop (slot + 1) es) ≡ whole
 step t id slot ps p es far old new whole a b e h =
     let k : old ++ (cable_at t id slot p far ++ cables_of t id (slot + 1) (drop (slot + 1) ps) (drop (slot + 1) es)) ≡ whole = rw (at_drop ps slot p a, at_drop es slot far b) at h in

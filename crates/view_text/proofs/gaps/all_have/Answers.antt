@@ -7,12 +7,14 @@ use Rattle.view_text.specs.Drawing.{all_have}
 use Rattle.view_text.proofs.At.{at_drop, item_at}
 use Rattle.view_text.proofs.gaps.all_have.Goals as goal
 
-other_gap : (gap id : ℕ) (ns : List Node) (n : Node) → slice_get ns id ≡ Some n → n.attrs.gap ≢ gap → all_have gap (drop id ns) ≡ all_have gap ns → false ≡ all_have gap ns
+other_gap : (gap id : ℕ) (ns : List Node) (n : Node) → slice_get ns id ≡ Some n →
+    n.attrs.gap ≢ gap → all_have gap (drop id ns) ≡ all_have gap ns → false ≡ all_have gap ns
 other_gap gap id ns n at ne h =
     let e : all_have gap (n ∷ drop (id + 1) ns) ≡ all_have gap ns = rw (at_drop ns id n at) at h in
     grind (arith, nat_tests)
 
-same_gap : (gap id : ℕ) (ns : List Node) (n : Node) → slice_get ns id ≡ Some n → n.attrs.gap ≡ gap → all_have gap (drop id ns) ≡ all_have gap ns → all_have gap (drop (id + 1) ns) ≡ all_have gap ns
+same_gap : (gap id : ℕ) (ns : List Node) (n : Node) → slice_get ns id ≡ Some n → n.attrs.gap ≡ gap →
+    all_have gap (drop id ns) ≡ all_have gap ns → all_have gap (drop (id + 1) ns) ≡ all_have gap ns
 same_gap gap id ns n at is h =
     let e : all_have gap (n ∷ drop (id + 1) ns) ≡ all_have gap ns = rw (at_drop ns id n at) at h in
     grind (arith, nat_tests)

@@ -6,7 +6,10 @@ use Rattle.view_text.specs.Drawing.{other, others}
 use Rattle.view_text.proofs.At.{at_drop, item_at}
 use Rattle.view_text.proofs.gaps.put_others.Goals as goal
 
-step : (gap id found : ℕ) (ns : List Node) (n : Node) (old new whole : List ℕ) → slice_get ns id ≡ Some n → found ≡ n.attrs.gap → new ≡ old ++ other gap id found → old ++ others gap id (drop id ns) ≡ whole → new ++ others gap (id + 1) (drop (id + 1) ns) ≡ whole
+step : (gap id found : ℕ) (ns : List Node) (n : Node) (old new whole : List ℕ) →
+    slice_get ns id ≡ Some n → found ≡ n.attrs.gap → new ≡ old ++ other gap id found →
+    old ++ others gap id (drop id ns) ≡ whole →
+    new ++ others gap (id + 1) (drop (id + 1) ns) ≡ whole
 step gap id found ns n old new whole at is e h =
     let k : old ++ (other gap id n.attrs.gap ++ others gap (id + 1) (drop (id + 1) ns)) ≡ whole = rw (at_drop ns id n at) at h in
     rw (e, is, append_assoc old (other gap id n.attrs.gap) (others gap (id + 1) (drop (id + 1) ns))) k

@@ -6,7 +6,10 @@ use Rattle.view_text.specs.Graph.{graph_node, graph_nodes}
 use Rattle.view_text.proofs.At.{at_drop}
 use Rattle.view_text.proofs.graph.put_nodes.Goals as goal
 
-step : (id root last : ℕ) (irm : Option ℕ) (ns : List Node) (n : Node) (old new whole : List ℕ) → slice_get ns id ≡ Some n → root ≡ last → new ≡ old ++ graph_node id n root irm → old ++ graph_nodes id (drop id ns) last irm ≡ whole → new ++ graph_nodes (id + 1) (drop (id + 1) ns) last irm ≡ whole
+step : (id root last : ℕ) (irm : Option ℕ) (ns : List Node) (n : Node) (old new whole : List ℕ) →
+    slice_get ns id ≡ Some n → root ≡ last → new ≡ old ++ graph_node id n root irm →
+    old ++ graph_nodes id (drop id ns) last irm ≡ whole →
+    new ++ graph_nodes (id + 1) (drop (id + 1) ns) last irm ≡ whole
 step id root last irm ns n old new whole at is e h =
     let k : old ++ (graph_node id n last irm ++ graph_nodes (id + 1) (drop (id + 1) ns) last irm) ≡ whole = rw (at_drop ns id n at) at h in
     rw (e, is, append_assoc old (graph_node id n last irm) (graph_nodes (id + 1) (drop (id + 1) ns) last irm)) k

@@ -1,10 +1,10 @@
 use Rattle.std.proofs.Common.{All, List, get_or, sym, subst, ◌∙◌}
-use Rattle.cable_world.proofs.running.Whole.{lawful-now}
+use Rattle.cable_world.proofs.Lemmas.{lawful-now}
 use Rattle.script_advice.specs.declared.advice.LoopAdvice.{LoopAdvice}
 use Rattle.script_text.specs.ReportText.{Names}
 use Rattle.script_advice.specs.Advice.{all_pulls}
 use Rattle.script_advice.specs.Advising.{IsNamedAdvice, ArePullable}
-use Rattle.script_advice.proofs.Settled.{named-now, pullable-now}
+use Rattle.script_advice.proofs.Lemmas.{named-now, pullable-now}
 use Rattle.script_bus.proofs.bus.Bus.advise.Goals as goal
 
 pub advice_text-requires : goal.advice_text-requires

@@ -2,11 +2,11 @@ use Rattle.std.proofs.Common.{◌≡◌, ◌≤◌, ◌+◌, true, Some, length,
 use Rattle.std.proofs.Math.Logic.{∥∥₁_map}
 use Rattle.std.proofs.lemmas.Bool.{ltb-false}
 use Rattle.cable_world.specs.declared.act.Act.TheVariants.{Config}
-use Rattle.cable_world.proofs.running.Whole.{lawful-now}
+use Rattle.cable_world.proofs.Lemmas.{lawful-now}
 use Rattle.settle.specs.Report.{quiet_turns_of}
 use Rattle.script_told.specs.Bus.{Notes}
 use Rattle.script_told.specs.Step.{notes_after_act}
-use Rattle.script_told.proofs.Turns.{some-quiet}
+use Rattle.script_told.proofs.Lemmas.{some-quiet}
 use Rattle.script_bus.specs.Running.{bus_now, notes_now}
 use Rattle.script_bus.proofs.Hearing.{notes-are, after-act, reported-bus, same-quiet, sent-heard}
 use Rattle.script_bus.proofs.bus.Bus.carry_out.Goals as goal

@@ -1,5 +1,5 @@
 use Rattle.std.proofs.Common.{arith}
-use Rattle.cable_world.proofs.running.Whole.{lawful-now}
+use Rattle.cable_world.proofs.Lemmas.{lawful-now}
 use Rattle.script_bus.proofs.bus.Bus.check_quiet_turns.Goals as goal
 
 pub quiet_turns-quiet-requires-clause-some_delay :

@@ -3,7 +3,7 @@ use Rattle.std.proofs.lemmas.Bool.{false≢true}
 use Rattle.cabling.specs.Wiring.{Wiring}
 use Rattle.cabling.specs.Looped.{IsCoreOf}
 use Rattle.cabling.specs.Walk.{IsWalk}
-use Rattle.cable_world.proofs.running.Whole.{lawful-now}
+use Rattle.cable_world.proofs.Lemmas.{lawful-now}
 use Rattle.script_told.specs.Step.{node_with}
 use Rattle.script_bus.specs.Running.{reported}
 use Rattle.script_bus.proofs.Planning.{all-there, its-core, walk-there}

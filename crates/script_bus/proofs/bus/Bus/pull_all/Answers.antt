@@ -1,12 +1,12 @@
 use Rattle.std.proofs.Common.{◌≡◌, ℕ, ◌<◌, ◌+◌, ◌++◌, List, length, drop, get_or, ap, sym, subst, ◌∙◌}
 use Rattle.std.proofs.lemmas.List.{drop_more}
 use Rattle.cabling.specs.declared.cable.Cable.{Cable}
-use Rattle.cable_world.proofs.running.Whole.{lawful-now}
+use Rattle.cable_world.proofs.Lemmas.{lawful-now}
 use Rattle.script_advice.specs.declared.advice.LoopAdvice.{LoopAdvice}
 use Rattle.script_advice.specs.Advice.{all_pulls, PullsLead}
 use Rattle.script_advice.specs.Advising.{ArePullable}
 use Rattle.script_bus.specs.Running.{bus_now}
-use Rattle.script_advice.proofs.Pulling.{first-pullable, rest-pullable, pulls-append}
+use Rattle.script_advice.proofs.Lemmas.{first-pullable, rest-pullable, pulls-append}
 use Rattle.script_bus.proofs.bus.Bus.pull_all.Goals as goal
 
 -- the pulls that are left are those of the next advice and of the rest

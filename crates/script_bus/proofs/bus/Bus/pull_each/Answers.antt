@@ -1,11 +1,11 @@
 use Rattle.std.proofs.Common.{◌+◌, List, drop, sym, subst}
 use Rattle.std.proofs.lemmas.List.{drop_more}
 use Rattle.cabling.specs.declared.cable.Cable.{Cable}
-use Rattle.cable_world.proofs.running.Whole.{lawful-now}
+use Rattle.cable_world.proofs.Lemmas.{lawful-now}
 use Rattle.script_advice.specs.Advice.{PullsLead}
 use Rattle.script_advice.specs.Advising.{ArePullable}
 use Rattle.script_bus.specs.Running.{bus_now}
-use Rattle.script_advice.proofs.Pulling.{can-pull, next-pullable}
+use Rattle.script_advice.proofs.Lemmas.{can-pull, next-pullable}
 use Rattle.script_bus.proofs.bus.Bus.pull_each.Goals as goal
 
 pub pull_out-requires-clause-plugged : goal.pull_out-requires-clause-plugged

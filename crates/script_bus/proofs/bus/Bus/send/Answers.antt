@@ -3,9 +3,8 @@ use Rattle.cable_world.specs.declared.act.Act.TheVariants.{Config}
 use Rattle.cable_world.specs.declared.act.ActStop.{ActStop}
 use Rattle.cable_world.specs.Act.{act_fault}
 use Rattle.cable_world.specs.Answer.{IfFault}
-use Rattle.cable_world.proofs.Options.{none-some}
-use Rattle.cable_world.proofs.running.Whole.{lawful-now}
-use Rattle.settle_plan.proofs.Suited.{from-there, not-refused, packet-fits}
+use Rattle.cable_world.proofs.Lemmas.{none-some, lawful-now}
+use Rattle.settle_plan.proofs.Lemmas.{from-there, not-refused, packet-fits}
 use Rattle.script_lines.specs.declared.command.Command.TheVariants as command
 use Rattle.script_trace.specs.Trace.{command_line}
 use Rattle.script_bus.specs.Heard.{heard}

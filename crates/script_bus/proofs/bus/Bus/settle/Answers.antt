@@ -1,9 +1,9 @@
 use Rattle.std.proofs.Common.{◌≤◌, ◌+◌, ap, ◌∙◌}
 use Rattle.std.proofs.Math.Logic.{∥∥₁_map}
 use Rattle.std.proofs.lemmas.Bool.{ltb-false}
-use Rattle.cable_world.proofs.running.Whole.{lawful-now}
+use Rattle.cable_world.proofs.Lemmas.{lawful-now}
 use Rattle.settle.specs.Report.{quiet_turns_of}
-use Rattle.script_told.proofs.Turns.{some-quiet}
+use Rattle.script_told.proofs.Lemmas.{some-quiet}
 use Rattle.script_bus.specs.Running.{bus_now, notes_now}
 use Rattle.script_bus.proofs.Hearing.{notes-are, reported-bus, settle-does, settle-hears}
 use Rattle.script_bus.proofs.bus.Bus.settle.Goals as goal

@@ -6,7 +6,8 @@ use Rattle.self_id.specs.declared.standard.Standard.TheVariants.{Ieee2000}
 use Rattle.topology_stack.specs.Tree.{Tree, walk}
 use Rattle.script_bus.proofs.bus.Notes.manager.Goals as goal
 
-there : (ns : List Node) (id : ℕ) (P : Node → Type 0) → IsSomeAnd (slice_get ns id) P → id < length ns
+there : (ns : List Node) (id : ℕ) (P : Node → Type 0) → IsSomeAnd (slice_get ns id) P →
+    id < length ns
 there ns id P h = by (slice_get ns id) refl h
   where
     by : (o : Option Node) → slice_get ns id ≡ o → IsSomeAnd o P → id < length ns

@@ -1,0 +1,12 @@
+-- What crates above use of the proofs of this one, by what it is about.
+
+-- What a line is: what its reader says, and nothing else.
+pub use Rattle.script_lines.proofs.LineRead.{one_reading, reads, some_reading}
+-- Cutting a line at its first blank, and a text at its first line feed.
+pub use Rattle.script_lines.proofs.Parts.{cut, uncut}
+-- The numbers of each command that a line says are in their ranges.
+pub use Rattle.script_lines.proofs.Ranged.{in-range}
+-- A line of words has one form at most.
+pub use Rattle.script_lines.proofs.Uniform.{and_parts}
+-- Reading by forms, one after the other.
+pub use Rattle.script_lines.specs.codings.Reading.{read_line}

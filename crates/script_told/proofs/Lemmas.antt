@@ -1,0 +1,22 @@
+-- What crates above use of the proofs of this one, by what it is about.
+
+-- A command comes to some answer.
+pub use Rattle.script_told.proofs.SomeAnswer.{act-leads, if-test, known, tree-managed, within}
+-- What turns leave as it is. A bus is given some to settle.
+pub use Rattle.script_told.proofs.Turns.{AfterTurns, after-turns, some-quiet}
+-- Acts and turns leave cables that are a cabling, and an act leads to one world.
+pub use Rattle.script_told.proofs.told.Cables.{IsCabled, act-adds, act-cabled, act-takes}
+-- A command comes to one answer, and leaves cables that are a cabling.
+pub use Rattle.script_told.proofs.told.Commands.{acts, bus-in, not-refused, same-plan, same-sent, settles}
+-- What holds of each command that was done in a run.
+pub use Rattle.script_told.proofs.told.EachDone.{IsDone, IsEnd, each-done}
+-- Each report of a script is one of a settled bus.
+pub use Rattle.script_told.proofs.told.EachReport.{Says, is-none, settled-so, settles-say}
+-- What follows at a stage, and that a script has one run.
+pub use Rattle.script_told.proofs.told.Lines.{cabled, one-run, one-told}
+-- The parts of answers.
+pub use Rattle.script_told.proofs.told.Parts.{printed-in, stage-in, text-in}
+-- A plan that has an answer was carried out.
+pub use Rattle.script_told.proofs.told.PlanCarried.{plan-carried}
+-- A command leaves a bus whose world comes of power-on, and so does each line of a script.
+pub use Rattle.script_told.proofs.told.Reached.{IsSound, IsSoundDraft, LeavesSound, attrs_said, do-act, do-settle, drafted, leaves, no-nodes, node-at-power-on, onwards-sound, sound-bus}

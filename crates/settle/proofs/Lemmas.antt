@@ -1,0 +1,16 @@
+-- What crates above use of the proofs of this one, by what it is about.
+
+-- What is reported of a component that came to a tree from a root.
+pub use Rattle.settle.proofs.Found.{FoundTree, found, found-tree}
+-- A world has one report at most.
+pub use Rattle.settle.proofs.OneReport.{one-over-cabling}
+-- The list of a reported tree is read back.
+pub use Rattle.settle.proofs.ReadBack.{small-set}
+-- Trees that are seen with different labels have their nodes in one order.
+pub use Rattle.settle.proofs.Relabelled.{one-order}
+-- A component came to a tree whichever number stands for its set of nodes.
+pub use Rattle.settle.proofs.SameNodes.{SameNodes, same-component, same-tree}
+-- What a node of a world shows.
+pub use Rattle.settle.proofs.Shown.{attrs-fit}
+-- How many quiet turns a world is given.
+pub use Rattle.settle.proofs.TurnsGiven.{quiet-is}
