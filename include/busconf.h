@@ -176,9 +176,9 @@ uint32_t busconf_read_capture(const uint8_t *bytes, size_t count, uint32_t stand
  * line has more than 128. BUSCONF_REFUSED: there is no such kind. BUSCONF_NO_MEMORY. Takes memory. */
 uint32_t busconf_fault_text(const struct busconf_fault *fault, char *place, size_t room, size_t *needed);
 
-/* Tells the sentence of a list's fault: what was found and what was wanted, in ASCII with its line feed and with no byte
- * 0 behind it. `quads` is the list that has the fault; of it the sentence has the quadlet at the fault's place and the
- * one before. BUSCONF_VALID: the first `*needed` bytes at `place` are the sentence. BUSCONF_TOO_SHORT: `*needed` is how
+/* Tells the sentence of a list's fault by IEEE 1394a-2000: what was found and what was wanted, in ASCII with its line
+ * feed and with no byte 0 behind it. `quads` is the list that has the fault; of it the sentence has the quadlet at the
+ * fault's place and the one before. BUSCONF_VALID: the first `*needed` bytes at `place` are the sentence. BUSCONF_TOO_SHORT: `*needed` is how
  * many they are; no sentence has more than 160. BUSCONF_REFUSED: the kind isn't BUSCONF_NOT_SELF_ID to BUSCONF_TOO_MANY.
  * BUSCONF_NO_MEMORY. Takes memory. */
 uint32_t busconf_sentence(const uint32_t *quads, size_t count, const struct busconf_fault *fault, char *place, size_t room,

@@ -3,6 +3,7 @@ use Rattle.std.specs.Prelude.{◌≡◌, ℕ, zero, suc, ◌≤◌, ◌*◌, ◌
 use Rattle.quad_lanes.specs.Pairs.{quads_of}
 use Rattle.phy_packet.specs.declared.packet.PhyPacket.{PhyPacket}
 use Rattle.phy_packet.specs.Packet.{Shows}
+use Rattle.self_id.specs.declared.standard.Standard.TheVariants.{Ieee2000}
 use Rattle.self_id.specs.declared.fault.GroupFault.TheVariants.{NotSelfId, WrongId, BadOrder, Cut, TwoParents}
 use Rattle.topology_stack.specs.declared.fault.TreeFault.{TreeFault}
 use Rattle.topology_stack.specs.declared.fault.TreeFault.TheVariants.{Group, Empty, TooFewChildren, TreesLeft, AfterRoot, NoRoot, TooMany}
@@ -43,11 +44,11 @@ abbrev pub IsShown : Option ℕ → Option PhyPacket → Type 0
 IsShown None packet = packet ≡ None
 IsShown (Some quad) packet = (p : PhyPacket) × Shows quad p × (packet ≡ Some p)
 
--- the sentence of a list's fault, by the quadlet at its place and the one before, if there is one
+-- the sentence of a list's fault by 1394a-2000, of the quadlet at its place and the one before, if there is one
 pub record IsSentence (quad : ℕ) (prior : Option ℕ) (r : FaultRecord) (text : List ℕ) : Type 0 where
   pub before : Option PhyPacket
   pub shown : IsShown prior before
-  pub text_is : text ≡ tree_sentence quad before (tree_fault_in r)
+  pub text_is : text ≡ tree_sentence Ieee2000 quad before (tree_fault_in r)
 
 abbrev pub IsListSentence : List ℕ → FaultRecord → List ℕ → Type 0
 IsListSentence quads r = IsSentence (slice_index_or quads r.at 0) (quad_before quads r.at) r

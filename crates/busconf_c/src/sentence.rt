@@ -10,7 +10,7 @@ use crate::records::FaultRecord;
 use c_border::{NO_MEMORY, REFUSED, tell_bytes};
 use phy_packet::{PhyPacket, decode};
 use quad_lanes::quads_of;
-use self_id::GroupFault;
+use self_id::{GroupFault, Standard};
 use std::alloc::Global;
 use topology_stack::{OutOfMemory, TreeFault};
 use view_text::{
@@ -96,7 +96,8 @@ fn sentence(
     ensures { IfOk result (λ text. IsSentence quad prior fault.now text.items) }
 {
     let mut out = Vec::new(alloc);
-    put_tree_sentence(&mut out, quad, shown(prior), tree_fault_in(fault))?;
+    let standard = Standard::Ieee2000;
+    put_tree_sentence(&mut out, standard, quad, shown(prior), tree_fault_in(fault))?;
     Ok(out)
 }
 

@@ -4,7 +4,7 @@ ghost use Rattle.view_text.specs.Sentence.{first_at, second_at, top_bits, next_a
 
 use crate::words::put_field;
 use phy_packet::PhyPacket;
-use self_id::GroupFault;
+use self_id::{GroupFault, Standard};
 use topology_stack::{OutOfMemory, TreeFault, put_hex};
 
 /// The first quadlet of a pair, where it is whole, and else 0.
@@ -41,27 +41,38 @@ fn top_bits(top: u32) -> &'static [u8]
     }
 }
 
-/// Which packet of a node has to follow this one.
-fn next_after(packet: &PhyPacket) -> &'static [u8]
-    ensures { result.now ≡ next_after packet.now }
+/// Which packet of a node has to follow this one, by a standard.
+fn next_after(standard: Standard, packet: &PhyPacket) -> &'static [u8]
+    ensures { result.now ≡ next_after standard packet.now }
 {
-    match *packet {
-        PhyPacket::SelfZero { more: true, .. } => b"packet n 0",
-        PhyPacket::SelfMore {
-            n: 0,
-            more: true,
-            ..
-        } => b"packet n 1",
+    match (standard, *packet) {
+        (_, PhyPacket::SelfZero { more: true, .. }) => b"packet n 0",
+        (
+            _,
+            PhyPacket::SelfMore {
+                n: 0,
+                more: true,
+                ..
+            },
+        ) => b"packet n 1",
+        (
+            Standard::Ieee1995,
+            PhyPacket::SelfMore {
+                n: 1,
+                more: true,
+                ..
+            },
+        ) => b"packet n 2",
         _ => b"packet zero",
     }
 }
 
-/// Which packet of a node has to stand behind the one before, if there is one.
-fn next_words(before: Option<PhyPacket>) -> &'static [u8]
-    ensures { result.now ≡ next_words before }
+/// Which packet of a node has to stand behind the one before, if there is one, by a standard.
+fn next_words(standard: Standard, before: Option<PhyPacket>) -> &'static [u8]
+    ensures { result.now ≡ next_words standard before }
 {
     match before {
-        Some(packet) => next_after(&packet),
+        Some(packet) => next_after(standard, &packet),
         None => b"packet zero",
     }
 }
@@ -137,17 +148,18 @@ fn put_children_sentence(
 /// Appends the sentence of a group's fault.
 fn put_group_sentence(
     out: &mut Vec<u8>,
+    standard: Standard,
     quad: u32,
     before: Option<PhyPacket>,
     fault: GroupFault,
 ) -> Result<(), OutOfMemory>
     ensures { OnOk result (out.new.items
-        ≡ out.old.items ++ group_sentence quad before fault) }
+        ≡ out.old.items ++ group_sentence standard quad before fault) }
 {
     match fault {
         GroupFault::NotSelfId { .. } => put_top_sentence(out, quad),
         GroupFault::WrongId { found, wanted, .. } => put_id_sentence(out, found, wanted),
-        GroupFault::BadOrder { .. } => put_order_sentence(out, next_words(before)),
+        GroupFault::BadOrder { .. } => put_order_sentence(out, next_words(standard, before)),
         GroupFault::Cut { .. } => out.extend_from_slice(
             b"Found the end of the list, wanted a further packet: m is 1 in the one before.\n",
         ),
@@ -158,19 +170,20 @@ fn put_group_sentence(
 }
 
 /// Appends the sentence on a list's fault, which says what was found and what was wanted, and then a
-/// line feed. `quad` is the first quadlet of the packet at the fault's place, and `before` the packet
+/// line feed. By the standard it says which packet has to follow. `quad` is the first quadlet of the packet at the fault's place, and `before` the packet
 /// that stands before it, if there is one.
 pub fn put_tree_sentence(
     out: &mut Vec<u8>,
+    standard: Standard,
     quad: u32,
     before: Option<PhyPacket>,
     fault: TreeFault,
 ) -> Result<(), OutOfMemory>
     ensures { OnOk result (out.new.items
-        ≡ out.old.items ++ tree_sentence quad before fault) }
+        ≡ out.old.items ++ tree_sentence standard quad before fault) }
 {
     match fault {
-        TreeFault::Group(fault) => put_group_sentence(out, quad, before, fault),
+        TreeFault::Group(fault) => put_group_sentence(out, standard, quad, before, fault),
         TreeFault::Empty => {
             out.extend_from_slice(b"Found no packet, wanted those of one node at least.\n")
         }
