@@ -11,3 +11,4 @@ pub mod Rooted
 pub mod Splitting
 pub mod Without
 pub mod SomeAdvice
+pub mod Pulled
