@@ -1,7 +1,7 @@
 //! Which cables are pulled.
 
 use cabling::{Cable, Cabling, End};
-use loop_advice::{Advice, CableList, OutOfMemory, advise, cables_of, check};
+use loop_advice::{Advice, CableList, OutOfMemory, advise, cables_of, check, pull_advised};
 use std::alloc::Global;
 use std::test::Fail;
 
@@ -78,6 +78,15 @@ fn a_ring_with_a_tail(rt: HostRuntime) -> Result<(), Fail> {
         kept: list(rt.alloc(), &[[0, 0, 1, 0], [0, 1, 2, 1], [1, 1, 2, 0]])?,
     };
     assert!(rt; !check(&cabling, 0, &looped));
+    let valid = check(&cabling, 3, &good);
+    assert!(rt; valid);
+    pull_advised(&mut cabling, 3, &good);
+    assert!(rt; cabling.nodes() == 4);
+    let left = cables_of(rt.alloc(), &cabling, 3)?;
+    assert_eq!(rt;
+        left.as_slice(),
+        list(rt.alloc(), &[[0, 0, 1, 0], [0, 1, 2, 1], [0, 2, 3, 0]])?.as_slice()
+    );
     Ok(())
 }
 

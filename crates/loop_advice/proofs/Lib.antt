@@ -11,4 +11,5 @@ pub mod Rooted
 pub mod Splitting
 pub mod Without
 pub mod SomeAdvice
+pub mod Pulled
 pub mod Lemmas

@@ -11,6 +11,7 @@ mod certificate;
 mod groups;
 mod laws;
 mod marks;
+mod pulling;
 
 pub use advice::{Advice, advise};
 pub use cable_list::CableList;
@@ -18,3 +19,4 @@ pub use cables_in_order::cables_of;
 pub use cabling::OutOfMemory;
 pub use certificate::check;
 pub use laws::{advices_exist, no_fewer_pulls_do, pulls_leave_a_tree};
+pub use pulling::pull_advised;
