@@ -6,6 +6,8 @@ mod agenda;
 #[cfg(test)]
 mod answers;
 #[cfg(test)]
+mod copies;
+#[cfg(test)]
 mod failing;
 #[cfg(test)]
 mod faults;

@@ -3,7 +3,7 @@ ghost use Rattle.std.specs.Prelude.{◌≡◌, IsFalse, OnOk, length};
 ghost use Rattle.cable_world.specs.Act.{IsAct};
 
 use crate::nodes::{ONES, USUAL, agenda, world};
-use cable_world::{Act, WorldRun};
+use cable_world::{Act, ShowsWires};
 use cabling::End;
 use script_lines::{Command, Name};
 use script_run::{Kind, ScriptFault, ScriptStop, trace_script};
@@ -150,7 +150,7 @@ fn two_names(alloc: Global) -> Result<Vec<Name>, AllocError> {
 }
 
 /// An act of a world of two nodes is done and traced, and then 300 turns are.
-fn traced<W: WorldRun>(
+fn traced<W: ShowsWires>(
     rt: &impl Abort,
     alloc: Global,
     world: &mut W,
@@ -173,7 +173,7 @@ fn traced<W: WorldRun>(
 }
 
 /// Two nodes are plugged together, traced, and settle.
-fn plugged<W: WorldRun>(rt: &impl Abort, alloc: Global, world: &mut W) -> Result<(), Fail>
+fn plugged<W: ShowsWires>(rt: &impl Abort, alloc: Global, world: &mut W) -> Result<(), Fail>
     requires { length (W.world world.old).nodes ≡ 2 }
 {
     let names = two_names(alloc)?;
