@@ -1,6 +1,5 @@
 //! The sentence of a fault.
 ghost use Rattle.std.specs.Prelude.{◌≡◌, ◌<◌, ◌≤◌, IfOk, slice_index_or};
-ghost use Rattle.quad_lanes.specs.Pairs.{quads_of};
 ghost use Rattle.view_text.specs.Sentence.{first_at, second_at, length_sentence, inverse_sentence};
 ghost use Rattle.c_border.specs.Places.{Tells};
 ghost use Rattle.busconf_c.specs.Faults.{IsUntold};
