@@ -19,6 +19,6 @@ pub use fault::{CaptureFault, CaptureStop};
 pub use form::{CaptureForm, Form, USAGE};
 pub use input::MAX_INPUT;
 pub use laws::{one_answer, one_reading};
-pub use line::{FaultLine, fault_line, script_line};
+pub use line::{FaultLine, fault_line, rom_line, script_line};
 pub use status::{NO_FORM, NO_MEMORY, READ_FAULT, REFUSED, TOO_LONG, VALID, WRITE_FAULT};
 pub use top::bus_main;

@@ -164,7 +164,7 @@ fn quadlet_line(at: usize, kind: &[u8]) -> FaultLine
 
 /// The line of a ROM's fault.
 #[tactic(auto, unfolding(crate::specs::Line::rom_line))]
-pub(crate) fn rom_line(fault: RomFault) -> FaultLine
+pub fn rom_line(fault: RomFault) -> FaultLine
     ensures { result ≡ rom_line fault }
 {
     match fault {
