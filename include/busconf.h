@@ -176,18 +176,20 @@ uint32_t busconf_read_capture(const uint8_t *bytes, size_t count, uint32_t stand
  * line has more than 128. BUSCONF_REFUSED: there is no such kind. BUSCONF_NO_MEMORY. Takes memory. */
 uint32_t busconf_fault_text(const struct busconf_fault *fault, char *place, size_t room, size_t *needed);
 
-/* Tells the sentence of a list's fault by IEEE 1394a-2000: what was found and what was wanted, in ASCII with its line
- * feed and with no byte 0 behind it. `quads` is the list that has the fault; of it the sentence has the quadlet at the
- * fault's place and the one before. BUSCONF_VALID: the first `*needed` bytes at `place` are the sentence. BUSCONF_TOO_SHORT: `*needed` is how
- * many they are; no sentence has more than 160. BUSCONF_REFUSED: the kind isn't BUSCONF_NOT_SELF_ID to BUSCONF_TOO_MANY.
- * BUSCONF_NO_MEMORY. Takes memory. */
-uint32_t busconf_sentence(const uint32_t *quads, size_t count, const struct busconf_fault *fault, char *place, size_t room,
-                          size_t *needed);
+/* Tells the sentence of a list's fault: what was found and what was wanted, in ASCII with its line feed and with no
+ * byte 0 behind it. `quads` is the list that has the fault; of it the sentence has the quadlet at the fault's place and
+ * the one before. `standard` is the one by which the list was read, BUSCONF_IEEE1995 or BUSCONF_IEEE2000. BUSCONF_VALID:
+ * the first `*needed` bytes at `place` are the sentence. BUSCONF_TOO_SHORT: `*needed` is how many they are; no sentence
+ * has more than 160. BUSCONF_REFUSED: the kind isn't BUSCONF_NOT_SELF_ID to BUSCONF_TOO_MANY, whatever the standard.
+ * BUSCONF_NO_STANDARD. BUSCONF_NO_MEMORY. Takes memory. */
+uint32_t busconf_sentence(const uint32_t *quads, size_t count, uint32_t standard, const struct busconf_fault *fault,
+                          char *place, size_t room, size_t *needed);
 
-/* Tells the sentence of a capture's fault, as `busview packets` writes it. `bytes` are those of the capture that has the
- * fault. As busconf_sentence, and with BUSCONF_BAD_LENGTH and BUSCONF_BAD_INVERSE besides. Takes memory. */
-uint32_t busconf_sentence_capture(const uint8_t *bytes, size_t count, const struct busconf_fault *fault, char *place,
-                                  size_t room, size_t *needed);
+/* Tells the sentence of a capture's fault, as `busview packets` writes it, and by BUSCONF_IEEE1995 as `busview packets
+ * --1995`. `bytes` are those of the capture that has the fault. As busconf_sentence, and with BUSCONF_BAD_LENGTH and
+ * BUSCONF_BAD_INVERSE besides. Takes memory. */
+uint32_t busconf_sentence_capture(const uint8_t *bytes, size_t count, uint32_t standard, const struct busconf_fault *fault,
+                                  char *place, size_t room, size_t *needed);
 
 /* Tells the hops of a list's bus, 0 to 62: the cables on its longest path. Takes memory. */
 uint32_t busconf_hops(const uint32_t *quads, size_t count, uint32_t standard, uint8_t *hops, struct busconf_fault *fault);

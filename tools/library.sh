@@ -102,6 +102,11 @@ cases() {
 blocks() { grep '^directory \|^leaf \|^refused ' "$1" || true; }
 refusal() { grep -A 1 '^refused pair ' "$1" || true; }
 
+# Runs a command of a case by the standard that the case's words name.
+by_its_standard() {
+  if grep -qx -e --1995 "$input.args"; then "$@" 1995; else "$@" 2000; fi
+}
+
 # Whether a command ends with a status that isn't 0.
 differs() {
   if "$@" >/dev/null; then
@@ -146,7 +151,7 @@ run_tests() {
   "${check[@]}" "$room/check" 2000 $(captures "$top/cases/busconf/read")
   "${check[@]}" "$room/check" 1995 $(captures "$top/cases/busconf/read95")
   cases "$top/cases/busconf/rom" blocks "${check[@]}" "$room/rom"
-  cases "$top/cases/busview/packets" refusal "${check[@]}" "$room/refusal"
+  cases "$top/cases/busview/packets" refusal by_its_standard "${check[@]}" "$room/refusal"
   for form in run advice; do cases "$top/cases/busconf/$form" cat "$room/script" $form; done
   cases "$top/cases/busview/trace" cat "$room/script" trace
   for file in two-nodes hub plan loop; do

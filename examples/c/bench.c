@@ -60,7 +60,8 @@ static void put_fault(const struct busconf_reader *device, const struct busconf_
   char text[160];
   size_t length = 0;
   if (busconf_fault_text(fault, text, sizeof text, &length) == BUSCONF_VALID) fwrite(text, 1, length, stdout);
-  if (busconf_sentence(device->quads, device->count, fault, text, sizeof text, &length) == BUSCONF_VALID)
+  if (busconf_sentence(device->quads, device->count, BUSCONF_IEEE2000, fault, text, sizeof text, &length)
+      == BUSCONF_VALID)
     fwrite(text, 1, length, stdout);
 }
 

@@ -1,14 +1,17 @@
 -- The sentence of a fault, by its record: what was found and what was wanted.
+-- Status: 4 no standard.
 use Rattle.std.specs.Prelude.{◌≡◌, ℕ, zero, suc, ◌≤◌, ◌*◌, ◌/◌, nat_lt, ◌==◌, if◌then◌else◌, Option, Some, None, List, length, slice_get, slice_index, slice_index_or}
 use Rattle.quad_lanes.specs.Pairs.{quads_of}
 use Rattle.phy_packet.specs.declared.packet.PhyPacket.{PhyPacket}
 use Rattle.phy_packet.specs.Packet.{Shows}
-use Rattle.self_id.specs.declared.standard.Standard.TheVariants.{Ieee2000}
+use Rattle.self_id.specs.declared.standard.Standard.{Standard}
 use Rattle.self_id.specs.declared.fault.GroupFault.TheVariants.{NotSelfId, WrongId, BadOrder, Cut, TwoParents}
 use Rattle.topology_stack.specs.declared.fault.TreeFault.{TreeFault}
 use Rattle.topology_stack.specs.declared.fault.TreeFault.TheVariants.{Group, Empty, TooFewChildren, TreesLeft, AfterRoot, NoRoot, TooMany}
 use Rattle.view_text.specs.Sentence.{first_at, second_at, length_sentence, inverse_sentence, tree_sentence}
+use Rattle.c_border.specs.Places.{Tells}
 use Rattle.busconf_c.specs.declared.records.FaultRecord.{FaultRecord}
+use Rattle.busconf_c.specs.Answers.{standard_of}
 use Rattle.busconf_c.specs.Faults.{tree_record}
 
 -- the fault of a list that a record tells whose kind is 1 to 11
@@ -44,23 +47,32 @@ abbrev pub IsShown : Option ℕ → Option PhyPacket → Type 0
 IsShown None packet = packet ≡ None
 IsShown (Some quad) packet = (p : PhyPacket) × Shows quad p × (packet ≡ Some p)
 
--- the sentence of a list's fault by 1394a-2000, of the quadlet at its place and the one before, if there is one
-pub record IsSentence (quad : ℕ) (prior : Option ℕ) (r : FaultRecord) (text : List ℕ) : Type 0 where
+-- the sentence of a list's fault by a standard, of the quadlet at its place and the one before, if there is one
+pub record IsSentence (s : Standard) (quad : ℕ) (prior : Option ℕ) (r : FaultRecord) (text : List ℕ) : Type 0 where
   pub before : Option PhyPacket
   pub shown : IsShown prior before
-  pub text_is : text ≡ tree_sentence Ieee2000 quad before (tree_fault_in r)
+  pub text_is : text ≡ tree_sentence s quad before (tree_fault_in r)
 
-abbrev pub IsListSentence : List ℕ → FaultRecord → List ℕ → Type 0
-IsListSentence quads r = IsSentence (slice_index_or quads r.at 0) (quad_before quads r.at) r
+abbrev pub IsListSentence : Standard → List ℕ → FaultRecord → List ℕ → Type 0
+IsListSentence s quads r = IsSentence s (slice_index_or quads r.at 0) (quad_before quads r.at) r
 
 -- the same of a fault of a capture's list, for the quadlets of its bytes, two a pair
-abbrev pub IsFirstsSentence : List ℕ → FaultRecord → List ℕ → Type 0
-IsFirstsSentence quads r = IsSentence (first_at quads r.at) (first_before quads r.at) r
+abbrev pub IsFirstsSentence : Standard → List ℕ → FaultRecord → List ℕ → Type 0
+IsFirstsSentence s quads r = IsSentence s (first_at quads r.at) (first_before quads r.at) r
 
--- the sentence of a fault of a capture's bytes: that of its list, or on the pair at fault
-pub data IsCaptureSentence (bytes : List ℕ) (r : FaultRecord) (text : List ℕ) : Type 0 where
-  of_list : r.kind ≤ 11 → IsFirstsSentence (quads_of bytes) r text → IsCaptureSentence bytes r text
-  of_length : r.kind ≡ 12 → text ≡ length_sentence → IsCaptureSentence bytes r text
+-- the sentence of a fault of a capture's bytes by a standard: that of its list, or on the pair at fault
+pub data IsCaptureSentence (s : Standard) (bytes : List ℕ) (r : FaultRecord) (text : List ℕ) : Type 0 where
+  of_list : r.kind ≤ 11 → IsFirstsSentence s (quads_of bytes) r text → IsCaptureSentence s bytes r text
+  of_length : r.kind ≡ 12 → text ≡ length_sentence → IsCaptureSentence s bytes r text
   of_pair : r.kind ≡ 13 →
       text ≡ inverse_sentence (first_at (quads_of bytes) r.at) (second_at (quads_of bytes) r.at) →
-      IsCaptureSentence bytes r text
+      IsCaptureSentence s bytes r text
+
+-- a sentence by the year's standard is told, or nothing where the year has none
+pub data TellsSentence (year : ℕ) (Holds : Standard → List ℕ → Type 0) (before after : List ℕ)
+    (needed_before needed status : ℕ) : Type 0 where
+  by_standard : (standard : Standard) → standard_of year ≡ Some standard →
+      Tells (Holds standard) before after needed_before needed status →
+      TellsSentence year Holds before after needed_before needed status
+  no_standard : standard_of year ≡ None → after ≡ before → needed ≡ needed_before → status ≡ 4 →
+      TellsSentence year Holds before after needed_before needed status

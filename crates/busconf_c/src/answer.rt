@@ -13,7 +13,7 @@ use std::alloc::Global;
 use topology_stack::{BusTree, TreeStop, read_tree, read_tree95};
 
 /// The standard of a year.
-fn standard_of(year: u32) -> Option<Standard>
+pub(crate) fn standard_of(year: u32) -> Option<Standard>
     ensures { result ≡ standard_of year }
 {
     match year {

@@ -1,12 +1,12 @@
 //! The sentence of a fault.
 ghost use Rattle.std.specs.Prelude.{◌≡◌, ◌<◌, ◌≤◌, IfOk, slice_index_or};
 ghost use Rattle.view_text.specs.Sentence.{first_at, second_at, length_sentence, inverse_sentence};
-ghost use Rattle.c_border.specs.Places.{Tells};
 ghost use Rattle.busconf_c.specs.Faults.{IsUntold};
-ghost use Rattle.busconf_c.specs.Sentences.{tree_fault_in, FaultsAreReadBack, quad_before, first_before, IsShown, IsSentence, IsListSentence, IsFirstsSentence, IsCaptureSentence};
+ghost use Rattle.busconf_c.specs.Sentences.{tree_fault_in, FaultsAreReadBack, quad_before, first_before, IsShown, IsSentence, IsListSentence, IsFirstsSentence, IsCaptureSentence, TellsSentence};
 
+use crate::answer::standard_of;
 use crate::records::FaultRecord;
-use c_border::{NO_MEMORY, REFUSED, tell_bytes};
+use c_border::{NO_MEMORY, NO_STANDARD, REFUSED, tell_bytes};
 use phy_packet::{PhyPacket, decode};
 use quad_lanes::quads_of;
 use self_id::{GroupFault, Standard};
@@ -85,43 +85,51 @@ fn shown(quad: Option<u32>) -> Option<PhyPacket>
     }
 }
 
-/// The sentence of a list's fault, by the quadlet at its place and the one before.
+/// The sentence of a list's fault by a standard, of the quadlet at its place and the one before.
 fn sentence(
     alloc: Global,
+    standard: Standard,
     quad: u32,
     prior: Option<u32>,
     fault: &FaultRecord,
 ) -> Result<Vec<u8>, OutOfMemory>
-    ensures { IfOk result (λ text. IsSentence quad prior fault.now text.items) }
+    ensures { IfOk result (λ text. IsSentence standard quad prior fault.now text.items) }
 {
     let mut out = Vec::new(alloc);
-    let standard = Standard::Ieee2000;
     put_tree_sentence(&mut out, standard, quad, shown(prior), tree_fault_in(fault))?;
     Ok(out)
 }
 
-/// The sentence of a list's fault.
-fn list_sentence(alloc: Global, quads: &[u32], fault: &FaultRecord) -> Result<Vec<u8>, OutOfMemory>
-    ensures { IfOk result (λ text. IsListSentence quads.now fault.now text.items) }
+/// The sentence of a list's fault by a standard.
+fn list_sentence(
+    alloc: Global,
+    standard: Standard,
+    quads: &[u32],
+    fault: &FaultRecord,
+) -> Result<Vec<u8>, OutOfMemory>
+    ensures { IfOk result (λ text. IsListSentence standard quads.now fault.now text.items) }
 {
     sentence(
         alloc,
+        standard,
         quad_at(quads, fault.at),
         quad_before(quads, fault.at),
         fault,
     )
 }
 
-/// The sentence of a fault of a capture's list, for the quadlets of its bytes.
+/// The sentence of a fault of a capture's list by a standard, for the quadlets of its bytes.
 fn firsts_sentence(
     alloc: Global,
+    standard: Standard,
     quads: &[u32],
     fault: &FaultRecord,
 ) -> Result<Vec<u8>, OutOfMemory>
-    ensures { IfOk result (λ text. IsFirstsSentence quads.now fault.now text.items) }
+    ensures { IfOk result (λ text. IsFirstsSentence standard quads.now fault.now text.items) }
 {
     sentence(
         alloc,
+        standard,
         first_at(quads, fault.at),
         first_before(quads, fault.at),
         fault,
@@ -147,34 +155,37 @@ fn pair_sentence(alloc: Global, quads: &[u32], pair: usize) -> Result<Vec<u8>, O
     Ok(out)
 }
 
-/// The sentence of a capture's fault, whose kind is 13 at most.
+/// The sentence of a capture's fault by a standard, whose kind is 13 at most.
 fn capture_sentence(
     alloc: Global,
+    standard: Standard,
     bytes: &[u8],
     fault: &FaultRecord,
 ) -> Result<Vec<u8>, OutOfMemory>
     requires { fault.now.kind ≤ 13 }
-    ensures { IfOk result (λ text. IsCaptureSentence bytes.now fault.now text.items) }
+    ensures { IfOk result (λ text. IsCaptureSentence standard bytes.now fault.now text.items) }
 {
     let quads = quads_of(alloc, bytes)?;
     match fault.kind {
         12 => length_text(alloc),
         13 => pair_sentence(alloc, quads.as_slice(), fault.at),
-        _ => firsts_sentence(alloc, quads.as_slice(), fault),
+        _ => firsts_sentence(alloc, standard, quads.as_slice(), fault),
     }
 }
 
-/// Tells the sentence of a list's fault.
+/// Tells the sentence of a list's fault by the standard of a year, 1995 or 2000.
 #[unsafe(no_mangle)]
 pub extern "C" fn busconf_sentence(
     alloc: Global,
     quads: &[u32],
+    year: u32,
     fault: &FaultRecord,
     place: &mut [u8],
     needed: &mut usize,
 ) -> u32
     ensures sentence { 0 < fault.now.kind → fault.now.kind ≤ 11 →
-        Tells (IsListSentence quads.now fault.now) place.old place.new needed.old needed.new result }
+        TellsSentence year (λ standard. IsListSentence standard quads.now fault.now) place.old
+        place.new needed.old needed.new result }
     ensures zero { fault.now.kind ≡ 0 →
         IsUntold place.old place.new needed.old needed.new result }
     ensures past { 11 < fault.now.kind →
@@ -183,24 +194,29 @@ pub extern "C" fn busconf_sentence(
     if fault.kind == 0 || fault.kind > 11 {
         return REFUSED;
     }
-    match list_sentence(alloc, quads, fault) {
+    let Some(standard) = standard_of(year) else {
+        return NO_STANDARD;
+    };
+    match list_sentence(alloc, standard, quads, fault) {
         Ok(text) => tell_bytes(text.as_slice(), place, needed),
         Err(_) => NO_MEMORY,
     }
 }
 
-/// Tells the sentence of a capture's fault, as the program `busview` writes it.
+/// Tells the sentence of a capture's fault by the standard of a year, 1995 or 2000, as the program
+/// `busview` writes it.
 #[unsafe(no_mangle)]
 pub extern "C" fn busconf_sentence_capture(
     alloc: Global,
     bytes: &[u8],
+    year: u32,
     fault: &FaultRecord,
     place: &mut [u8],
     needed: &mut usize,
 ) -> u32
     ensures sentence { 0 < fault.now.kind → fault.now.kind ≤ 13 →
-        Tells (IsCaptureSentence bytes.now fault.now) place.old place.new needed.old needed.new
-        result }
+        TellsSentence year (λ standard. IsCaptureSentence standard bytes.now fault.now) place.old
+        place.new needed.old needed.new result }
     ensures zero { fault.now.kind ≡ 0 →
         IsUntold place.old place.new needed.old needed.new result }
     ensures past { 13 < fault.now.kind →
@@ -209,7 +225,10 @@ pub extern "C" fn busconf_sentence_capture(
     if fault.kind == 0 || fault.kind > 13 {
         return REFUSED;
     }
-    match capture_sentence(alloc, bytes, fault) {
+    let Some(standard) = standard_of(year) else {
+        return NO_STANDARD;
+    };
+    match capture_sentence(alloc, standard, bytes, fault) {
         Ok(text) => tell_bytes(text.as_slice(), place, needed),
         Err(_) => NO_MEMORY,
     }
