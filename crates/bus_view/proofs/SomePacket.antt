@@ -7,7 +7,7 @@ use Rattle.quad_lanes.specs.Pairs.{big_endian, quads_of, firsts}
 use Rattle.phy_packet.specs.Packet.{Shows}
 use Rattle.phy_packet.specs.declared.packet.PhyPacket.{PhyPacket}
 use Rattle.phy_packet.specs.declared.packet.PhyPacket.TheVariants.{Extended, Other}
-use Rattle.phy_packet.proofs.Lemmas.{config_of, link_on_of, self_zero_of, self_more_of, packet_of, bit-eqb, bit_fits, shows-self_zero, shows-self_more}
+use Rattle.phy_packet.proofs.Lemmas.{config_of, link_on_of, self_zero_of, self_more_of, bit-eqb, bit_fits, shows-self_zero, shows-self_more}
 use Rattle.view_text.specs.Pairs.{AreShown}
 
 shows-config : (q : ℕ) → q / 2 ^ 30 ≡ 0 → IsTrue ((q / 2 ^ 23 % 2 == 1) || (q / 2 ^ 22 % 2 == 1)) →
@@ -63,8 +63,14 @@ some-top q fits false false false x y z =
     let c : q / 2 ^ 30 ≡ 2 → ⊥ = eqb-false _ _ z in
     shows-other q (omega arith) fits
 
-pub some-packet : (q : ℕ) → q < 2 ^ 32 → Shows q (packet_of q)
-unfolding packet_of
+-- the packet that a quadlet shows
+abbrev packet_by : ℕ → PhyPacket
+packet_by q =
+    if q / 2 ^ 30 == 0 then (if (q / 2 ^ 23 % 2 == 1) || (q / 2 ^ 22 % 2 == 1) then config_of q else Extended q)
+    else (if q / 2 ^ 30 == 1 then link_on_of q
+    else (if q / 2 ^ 30 == 2 then (if q / 2 ^ 23 % 2 == 0 then self_zero_of q else self_more_of q) else Other q))
+
+some-packet : (q : ℕ) → q < 2 ^ 32 → Shows q (packet_by q)
 some-packet q fits = some-top q fits (q / 2 ^ 30 == 0) (q / 2 ^ 30 == 1) (q / 2 ^ 30 == 2) refl refl refl
 
 -- ---- the packets of bytes
@@ -74,7 +80,7 @@ some-packets : (quads : List ℕ) → All (λ q. q < 2 ^ 32) quads →
 some-packets [] h = ([], tt)
 some-packets (q ∷ quads) h =
     let rest = some-packets quads (All-tail (λ x. x < 2 ^ 32) q quads h) in
-    (packet_of q ∷ rest.0, (some-packet q (All-head (λ x. x < 2 ^ 32) q quads h), rest.1))
+    (packet_by q ∷ rest.0, (some-packet q (All-head (λ x. x < 2 ^ 32) q quads h), rest.1))
 
 -- the quadlets of bytes fit
 quads-fit : (bytes : List ℕ) → All (λ b. b < 256) bytes → All (λ q. q < 2 ^ 32) (quads_of bytes)
