@@ -1,5 +1,5 @@
 -- Whether the tree before has a drawing.
-use Rattle.std.proofs.Common.{◌≡◌, ◌↔◌, ℕ, Bool, true, false, Option, Some, List, [], ◌++◌, subst}
+use Rattle.std.proofs.Common.{◌≡◌, ◌↔◌, ℕ, Bool, true, false, Option, Some, List, subst}
 use Rattle.std.specs.Prelude.{IsTrue}
 use Rattle.topology_stack.specs.Tree.{Tree}
 use Rattle.view_text.specs.Drawing.{IsDrawing}
@@ -20,6 +20,3 @@ was_other before old a b same is draws test e = λ tree it.
   where
     apart : IsTrue same → ⊥
     apart f = cc
-
-pub begun : (old new text : List ℕ) → old ≡ [] → new ≡ old ++ text → new ≡ text
-begun old new text e h = rw e at h

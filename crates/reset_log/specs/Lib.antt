@@ -6,6 +6,7 @@ pub mod Line
 pub mod Stop
 pub mod Hear
 pub mod Texts
+pub mod Sentence
 pub mod Shown
 pub mod Log
 pub mod Cause

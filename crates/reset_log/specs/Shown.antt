@@ -10,7 +10,8 @@ use Rattle.reset_log.specs.declared.hear.ListFault.{ListFault}
 use Rattle.reset_log.specs.declared.cards.Known.{Known}
 use Rattle.reset_log.specs.Line.{line_of}
 use Rattle.reset_log.specs.Hear.{IsHeard, IsUnheard}
-use Rattle.reset_log.specs.Texts.{garbled, head, unjudged, refused, numbers, changes, initiators}
+use Rattle.reset_log.specs.Texts.{garbled, head, unjudged, numbers, changes, initiators}
+use Rattle.reset_log.specs.Sentence.{IsRefusalShown}
 
 -- the tree of a card's last reset, of the cards that had one
 abbrev pub last_tree : ℕ → List Known → Option Tree
@@ -60,7 +61,7 @@ pub data IsResetShown (standard : Standard) (number : ℕ) (ks : List Known) (r 
   is_unjudged : r.is_error ≡ true → text ≡ unjudged number r → bad ≡ false → next ≡ ks →
       IsResetShown standard number ks r text bad next
   is_refused : (f : ListFault) → r.is_error ≡ false → IsUnheard standard r.origin r.list f →
-      text ≡ refused number r f → bad ≡ true → next ≡ ks →
+      IsRefusalShown standard number r f text → bad ≡ true → next ≡ ks →
       IsResetShown standard number ks r text bad next
   is_heard : (t : Tree) → r.is_error ≡ false → IsHeard standard r.origin r.list t →
       IsTreeShown number r (last_tree r.card ks) t text → bad ≡ false → next ≡ put r.card t ks →

@@ -12,6 +12,7 @@ mod line;
 mod list;
 mod log;
 mod number;
+mod sentence;
 mod shown;
 mod stop;
 mod texts;

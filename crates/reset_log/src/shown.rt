@@ -7,9 +7,8 @@ ghost use Rattle.reset_log.specs.Shown.{last_tree, put, WasDrawn, WasOther, IsBo
 use crate::cards::{Known, last_tree, put};
 use crate::hear::{ListStop, hear};
 use crate::line::{LogLine, Reset, line_of};
-use crate::texts::{
-    put_changes, put_garbled, put_head, put_initiators, put_numbers, put_refused, put_unjudged,
-};
+use crate::sentence::refusal_text;
+use crate::texts::{put_changes, put_garbled, put_head, put_initiators, put_numbers, put_unjudged};
 use self_id::Standard;
 use std::alloc::{AllocError, Global};
 use topology_stack::BusTree;
@@ -90,8 +89,8 @@ fn show_reset(
     ensures { IfOk result (λ shown. IsResetShown standard number cards.old.items reset.now
         shown.text.items shown.bad cards.new.items) }
 {
-    let mut text = Vec::new(alloc);
     if reset.is_error {
+        let mut text = Vec::new(alloc);
         put_unjudged(&mut text, number, reset)?;
         return Ok(Shown { text, bad: false });
     }
@@ -102,7 +101,7 @@ fn show_reset(
             Ok(Shown { text, bad: false })
         }
         Err(ListStop::Fault(fault)) => {
-            put_refused(&mut text, number, reset, fault)?;
+            let text = refusal_text(alloc, standard, number, reset, fault)?;
             Ok(Shown { text, bad: true })
         }
         Err(ListStop::Memory(error)) => Err(error),

@@ -45,7 +45,7 @@ pub(crate) fn put_unjudged(out: &mut Vec<u8>, number: u64, reset: &Reset) -> Res
 }
 
 /// The pair at which a list is refused.
-fn place(fault: ListFault) -> usize
+pub(crate) fn place(fault: ListFault) -> usize
     ensures { result ≡ place fault }
 {
     match fault {
