@@ -63,11 +63,19 @@ node_lines (suc id) ns cs root irm =
 
 -- ---- below the drawing
 
--- `hops H, gap count G by the table`
+-- what the table has for so many hops
+unfoldable pub table_gap : ℕ → List ℕ
+table_gap hops = field (codes ", gap count ") (gap_of hops) ++ codes " by the table\n"
+
+-- a node alone needs no gap count, and the table ends at 15 hops
+abbrev pub hops_words : ℕ → List ℕ
+hops_words hops =
+    if hops == 0 then codes ", any gap count will do\n"
+    else (if nat_lt 15 hops then codes ", more than the 15 of the table\n" else table_gap hops)
+
+-- `hops H`, and which gap count suits them
 unfoldable pub hops_line : ℕ → List ℕ
-hops_line hops =
-    field (codes "hops ") hops
-    ++ (field (codes ", gap count ") (gap_of hops) ++ codes " by the table\n")
+hops_line hops = field (codes "hops ") hops ++ hops_words hops
 
 abbrev pub all_have : ℕ → List Node → Bool
 all_have gap [] = true
@@ -82,23 +90,44 @@ abbrev pub others : ℕ → ℕ → List Node → List ℕ
 others gap id [] = []
 others gap id (n ∷ ns) = other gap id n.attrs.gap ++ others gap (id + 1) ns
 
--- what the table says of a gap count on which all nodes agree
-abbrev pub table_words : ℕ → ℕ → List ℕ
-table_words gap table =
+-- `, more than the table's G: safe, only slower`
+unfoldable pub more_words : ℕ → List ℕ
+more_words table = field (codes ", more than the table's ") table ++ codes ": safe, only slower\n"
+
+-- `, less than the table's G: too small`
+unfoldable pub less_words : ℕ → List ℕ
+less_words table = field (codes ", less than the table's ") table ++ codes ": too small\n"
+
+-- a larger gap count than the table's is safe, and a smaller one is not
+abbrev pub beside_table : ℕ → ℕ → List ℕ
+beside_table gap table =
     if gap == table then codes ", as by the table\n"
-    else field (codes ", not ") table ++ codes " as by the table\n"
+    else (if nat_lt table gap then more_words table else less_words table)
+
+-- past the table's end its last entry is the least that will do, and no gap count is known to be enough
+abbrev pub past_table : ℕ → List ℕ
+past_table gap =
+    if gap == 63 then codes ", the greatest there is\n"
+    else (if nat_lt gap 40 then codes ", less than the table's 40 for 15 hops: too small\n"
+    else codes ", less than 63, the greatest: may be too small\n")
+
+-- what is said of a gap count on which all nodes agree
+abbrev pub gap_verdict : ℕ → ℕ → List ℕ
+gap_verdict gap hops =
+    if hops == 0 then codes "\n"
+    else (if nat_lt 15 hops then past_table gap else beside_table gap (gap_of hops))
 
 unfoldable pub agree_line : ℕ → ℕ → List ℕ
-agree_line gap table = field (codes "gap counts agree: ") gap ++ table_words gap table
+agree_line gap hops = field (codes "gap counts agree: ") gap ++ gap_verdict gap hops
 
 unfoldable pub differ_line : ℕ → List Node → List ℕ
 differ_line gap ns =
     field (codes "gap counts differ: ") gap
     ++ (codes " at the root" ++ (others gap 0 ns ++ codes "\n"))
 
--- whether the nodes' gap counts agree with the root's, and then with the table
+-- whether the nodes' gap counts agree with the root's, and if so whether that one suits the hops
 abbrev pub gap_line : ℕ → ℕ → List Node → List ℕ
-gap_line gap table ns = if all_have gap ns then agree_line gap table else differ_line gap ns
+gap_line gap hops ns = if all_have gap ns then agree_line gap hops else differ_line gap ns
 
 -- the root of a tree is the last of its walk
 abbrev pub IsRoot : Tree → Node → Type 0
@@ -107,7 +136,7 @@ IsRoot t root = slice_get (walk t) (length (walk t) - 1) ≡ Some root
 abbrev pub drawing : Tree → ℕ → ℕ → List ℕ
 drawing t hops gap =
     node_lines (length (walk t)) (walk t) (cables t) (length (walk t) - 1) (elected t)
-    ++ (hops_line hops ++ gap_line gap (gap_of hops) (walk t))
+    ++ (hops_line hops ++ gap_line gap hops (walk t))
 
 -- the drawing of a tree, with its hops and the gap count of its root below
 pub record IsDrawing (t : Tree) (text : List ℕ) : Type 0 where

@@ -3,7 +3,7 @@ ghost use Rattle.std.specs.Prelude.{◌≡◌, ◌-◌, ◌<◌, ◌≤◌, ◌+
 ghost use Rattle.self_id.specs.Node.{Node};
 ghost use Rattle.topology_stack.specs.Tree.{walk};
 ghost use Rattle.view_text.specs.Cable.{cables};
-ghost use Rattle.view_text.specs.Drawing.{hung, goes_on, bar, corner, margin, cable_text, branch_text, node_words, node_line, node_lines, hops_line, drawing, IsDrawing};
+ghost use Rattle.view_text.specs.Drawing.{hung, goes_on, bar, corner, margin, cable_text, branch_text, node_words, node_line, node_lines, table_gap, hops_words, hops_line, drawing, IsDrawing};
 
 use crate::cable::{Cable, cables};
 use crate::gaps::{gap_at, put_gaps};
@@ -152,20 +152,42 @@ fn put_nodes(
     Ok(())
 }
 
-/// Appends the hops and the gap count for them.
-fn put_hops(out: &mut Vec<u8>, hops: u8) -> Result<(), OutOfMemory>
-    ensures { OnOk result (out.new.items ≡ out.old.items ++ hops_line hops) }
+/// Appends what the table has for hops.
+fn put_table_gap(out: &mut Vec<u8>, hops: u8) -> Result<(), OutOfMemory>
+    ensures { OnOk result (out.new.items ≡ out.old.items ++ table_gap hops) }
 {
-    put_field(out, b"hops ", u64::from(hops))?;
     put_field(out, b", gap count ", u64::from(gap_for(hops)))?;
     out.extend_from_slice(b" by the table\n")?;
     Ok(())
 }
 
+/// Appends which gap count suits hops.
+fn put_hops_words(out: &mut Vec<u8>, hops: u8) -> Result<(), OutOfMemory>
+    ensures { OnOk result (out.new.items ≡ out.old.items ++ hops_words hops) }
+{
+    if hops == 0 {
+        out.extend_from_slice(b", any gap count will do\n")
+    } else if hops > 15 {
+        out.extend_from_slice(b", more than the 15 of the table\n")
+    } else {
+        put_table_gap(out, hops)
+    }
+}
+
+/// Appends the hops and the gap count for them.
+#[tactic(auto, unfolding(crate::specs::Drawing::hops_line))]
+fn put_hops(out: &mut Vec<u8>, hops: u8) -> Result<(), OutOfMemory>
+    ensures { OnOk result (out.new.items ≡ out.old.items ++ hops_line hops) }
+{
+    put_field(out, b"hops ", u64::from(hops))?;
+    put_hops_words(out, hops)?;
+    Ok(())
+}
+
 /// The drawing of a bus tree: a line a node, the root at the top and the others by falling ID, each
 /// below its parent and behind the cable between them, `+--[PORT]--SPEED--[PORT] `; then the hops of
-/// the bus with the gap count that the table has for them, and whether the nodes' gap counts agree
-/// with the root's and with the table's.
+/// the bus with the gap count that the table has for them, up to 15, and whether the nodes' gap
+/// counts agree with the root's, and if so whether that one is safe or too small for the hops.
 pub fn tree_drawing(alloc: Global, tree: &BusTree) -> Result<Vec<u8>, OutOfMemory>
     ensures { IfOk result (λ text. IsDrawing tree.now text.items) }
 {
@@ -175,6 +197,6 @@ pub fn tree_drawing(alloc: Global, tree: &BusTree) -> Result<Vec<u8>, OutOfMemor
     let gap = gap_at(tree, tree.root());
     put_nodes(&mut out, tree, &list, elect(tree))?;
     put_hops(&mut out, hops)?;
-    put_gaps(&mut out, tree, gap, gap_for(hops))?;
+    put_gaps(&mut out, tree, gap, hops)?;
     Ok(out)
 }

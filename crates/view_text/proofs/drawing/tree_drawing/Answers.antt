@@ -16,5 +16,5 @@ returns c =
       are_hops = c.hops-hops.ensures.longest;
       is_root = n.1;
       text_is =
-          simp (c.in_ok-put_gaps.ensures, c.in_ok-put_hops.ensures, c.in_ok-put_nodes.ensures, c.gap_for.ensures.value, c.elect.ensures.value, c.deref.ensures.value, c.in_ok-list.ensures, c.new-out.ensures.items, append_assoc, gap);
+          simp (c.in_ok-put_gaps.ensures, c.in_ok-put_hops.ensures, c.in_ok-put_nodes.ensures, c.elect.ensures.value, c.deref.ensures.value, c.in_ok-list.ensures, c.new-out.ensures.items, append_assoc, gap);
     }
