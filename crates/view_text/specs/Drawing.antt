@@ -104,7 +104,7 @@ beside_table gap table =
     if gap == table then codes ", as by the table\n"
     else (if nat_lt table gap then more_words table else less_words table)
 
--- past the table's end its last entry is the least that will do, and no gap count is known to be enough
+-- past the table's end less than its last entry is too small; of no other is it known to be enough
 abbrev pub past_table : ℕ → List ℕ
 past_table gap =
     if gap == 63 then codes ", the greatest there is\n"
