@@ -9,11 +9,14 @@ fn of_trees(rt: HostRuntime) -> Result<(), Fail> {
     let two = read_tree(rt.alloc(), &[0x807f_8094, 0x817f_88d4])?;
     let copy = two.clone()?;
     assert!(rt; copy == two);
-    assert!(rt; copy.nodes()[1].clone()? == two.nodes()[1]);
     // the root's link layer isn't active
     let other = read_tree(rt.alloc(), &[0x807f_8094, 0x813f_88d4])?;
     assert!(rt; other != two);
-    assert!(rt; other.nodes()[0] == two.nodes()[0]);
+    let (nodes, others) = (two.nodes(), other.nodes());
+    assert!(rt; nodes.len() == 2);
+    assert!(rt; others.len() == 2);
+    assert!(rt; nodes[1].clone()? == nodes[1]);
+    assert!(rt; others[0] == nodes[0]);
     Ok(())
 }
 
