@@ -26,6 +26,6 @@ pub use laws::{
     acts_keep, outcomes_are_one, quiet_turns_add_up, resets_end, still_turns_pass, turn_by_number,
     turn_keeps, turns_add_up, worlds_stay_lawful, worlds_stay_reached,
 };
-pub use run::{PassesTurns, ShowsWires, WorldRun};
+pub use run::{ShowsWires, WorldRun};
 pub use wire::Travelling;
 pub use world::World;

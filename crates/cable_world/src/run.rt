@@ -5,7 +5,6 @@ ghost use Rattle.cable_world.specs.World.{CableWorld, wire_of};
 ghost use Rattle.cable_world.specs.Turn.{turn, turns_after};
 ghost use Rattle.cable_world.specs.Act.{ActLeads, IsAct, act_fault, hold, hold_fault};
 ghost use Rattle.cable_world.specs.Run.{IsReached};
-ghost use Rattle.cable_world.specs.Still.{IsStillFor};
 ghost use Rattle.cable_world.specs.Unchanged.{TurnsPass};
 ghost use Rattle.cable_world.specs.Answer.{IfFault, IsMemory};
 
@@ -130,24 +129,4 @@ pub trait ShowsWires: WorldRun {
     /// turns for which it has been. Nothing is where there is no such end, or no cable at it.
     fn under_way(&self, end: End) -> &[Travelling]
         ensures { result.now ≡ (wire_of (Self.world self.now) end).signals };
-}
-
-/// A world that can tell for how long nothing happens, and pass over these turns at once.
-pub trait PassesTurns: WorldRun {
-    /// For how many turns nothing happens: the greatest number of turns, up to 4,000,000, in which
-    /// no signal is under way and each node's tick sends nothing and changes the timer alone.
-    fn still_for(&self) -> u32
-        ensures most { result ≤ 4000000 }
-        ensures still { IsStillFor result (Self.world self.now) }
-        ensures greatest { result < 4000000 → ¬ IsStillFor (result + 1) (Self.world self.now) };
-
-    /// So many turns pass in which nothing happens: at most as many as `still_for` answers. With
-    /// those done before they are at most 4,000,000,000, and the world isn't spent.
-    fn pass(&mut self, turns: u32)
-        requires sound { IsFalse (Self.is_spent self.old) }
-        requires few { (Self.world self.old).turns + turns ≤ 4000000000 }
-        requires still { IsStillFor turns (Self.world self.old) }
-        ensures done { Self.world self.new ≡ turns_after turns (Self.world self.old) }
-        ensures passed { TurnsPass turns (Self.world self.old) (Self.world self.new) }
-        ensures sound { IsFalse (Self.is_spent self.new) };
 }

@@ -10,9 +10,8 @@ use crate::act::{Act, ActStop};
 use crate::acting::act_world;
 use crate::all_nodes::turn_world;
 use crate::rows::{ArrivalRow, WireRow};
-use crate::run::{PassesTurns, ShowsWires, WorldRun};
+use crate::run::{ShowsWires, WorldRun};
 use crate::start::{arrival_rows, no_changes, port_counts, wire_rows};
-use crate::still::{all_idle_for, all_silent, pass_all, pass_wires};
 use crate::wire::Travelling;
 use arrayvec::ArrayVec;
 use cabling::{CableFault, Cabling, End, OutOfMemory};
@@ -191,22 +190,5 @@ impl<M: PortMachine> ShowsWires for World<M> {
             None => &[],
             Some(row) => row.under_way(end.port),
         }
-    }
-}
-
-impl<M: PortMachine> PassesTurns for World<M> {
-    fn still_for(&self) -> u32 {
-        if !all_silent(&self.wires) {
-            return 0;
-        }
-        all_idle_for(&self.machines)
-    }
-
-    fn pass(&mut self, turns: u32) {
-        self.spent = true;
-        pass_all(&mut self.machines, turns);
-        pass_wires(&mut self.wires, turns);
-        self.turns += turns;
-        self.spent = false;
     }
 }
