@@ -1,6 +1,6 @@
 -- Words are those of one form at most.
 use Rattle.std.proofs.Common.{cond, Option, Some, None, ◌⊎◌, inl, inr, Bool, true, false, eqb, ◌≡◌, ◌≤◌, ℕ, List, [], ◌∷◌, refl, sym, ap, subst, ◌∙◌, arith}
-use Rattle.std.specs.Prelude.{String, map, string_bytes, codes, nat_lt, ◌<◌}
+use Rattle.std.specs.Prelude.{String, map, string_bytes, codes, nat_lt}
 use Rattle.std.proofs.lemmas.Bool.{eqb-true, eq-eqb}
 use Rattle.std.proofs.lemmas.Bool.Decides.{nat_tests}
 use Rattle.std.specs.Global.{Global}

@@ -1,7 +1,7 @@
 -- What a reader of captures knows after one byte more, and at the end.
 use Rattle.std.specs.Prelude.{IfOk, IsErrOf, ◌↔◌}
 use Rattle.io_edges.specs.Told.{IfTold}
-use Rattle.std.proofs.Common.{map, Result, Ok, Err, ◌≡◌, ℕ, zero, suc, ◌+◌, ◌*◌, ◌%◌, ◌^◌, ◌<◌, ◌≤◌, Bool, true, false, cond, List, [], ◌∷◌, ◌++◌, length, Option, Some, None, inl, inr, refl, sym, ap, subst, ◌∙◌, append_assoc, length-append, arith}
+use Rattle.std.proofs.Common.{map, take, drop, get_or, Fits, w8, Result, Ok, Err, ◌≡◌, ℕ, zero, suc, ◌+◌, ◌*◌, ◌%◌, ◌^◌, ◌<◌, ◌≤◌, Bool, true, false, cond, List, [], ◌∷◌, ◌++◌, length, Option, Some, None, inl, inr, refl, sym, ap, subst, ◌∙◌, append_assoc, length-append, arith}
 use Rattle.std.specs.List.{All, position_from}
 use Rattle.std.proofs.lemmas.List.{nil_from_length}
 use Rattle.std.proofs.lemmas.List.{append-nil, map-append}
@@ -17,12 +17,12 @@ use Rattle.topology_stack.specs.OneAnswer.{EachListHasATreeOrAFault}
 use Rattle.topology_stack.specs.Refused.{Refused}
 use Rattle.self_id.specs.declared.standard.Standard.TheVariants.{Ieee2000}
 use Rattle.topology_stack.specs.Tree.{Tree, IsBusTreeOf, emits}
-use Rattle.topology_stack.specs.Reader.{Kept, StandsFor}
 use Rattle.bus_cli.specs.Capture.{IsCaptureOf, Spells, CaptureRefused}
 use Rattle.bus_cli.specs.Stop.{of_tree, IfFault, IfMemory}
 use Rattle.bus_cli.specs.declared.fault.CaptureStop.{CaptureStop}
 use Rattle.bus_cli.specs.declared.fault.CaptureStop.TheVariants.{Fault, Memory}
 use Rattle.bus_cli.specs.codings.Reading.{Reads, SparesMemory}
+use Rattle.bus_cli.specs.codings.Late.{Late, IsListOf}
 use Rattle.bus_cli.specs.codings.Pieces.{Pieces, HoldsExactly, bad_after}
 use Rattle.bus_cli.proofs.Reading.{is_capture}
 
@@ -67,9 +67,12 @@ bad-snoc k n (y ∷ xs) x e = by_test (is_bad y) k n (position_from is_bad (k + 
 
 -- ---- one byte more
 
-more_fit : (bytes : List ℕ) (byte : ℕ) → All (λ b. b < 256) bytes → byte < 256 →
-    All (λ b. b < 256) (bytes ++ byte ∷ [])
-more_fit bytes byte fit lt = All-append (λ b. b < 256) bytes (byte ∷ []) fit (All-cons (λ b. b < 256) byte [] lt (All-nil (λ b. b < 256)))
+more_fit : (bytes more : List ℕ) → All (λ b. b < 256) bytes → All (λ b. b < 256) more →
+    All (λ b. b < 256) (bytes ++ more)
+more_fit bytes more fit lt = All-append (λ b. b < 256) bytes more fit lt
+
+pub byte_fits : (byte : ℕ) → byte < 256 → All (λ b. b < 256) (byte ∷ [])
+byte_fits byte lt = All-cons (λ b. b < 256) byte [] lt (All-nil (λ b. b < 256))
 
 -- which doesn't make a pair whole
 pub holds_byte : (r : Pieces) (byte : ℕ) (bytes rest : List ℕ) → HoldsExactly r bytes → byte < 256 →
@@ -81,17 +84,17 @@ holds_byte r byte bytes rest h lt is = record {
   even = h.even;
   bad = h.bad;
   list = h.list;
-  fit = more_fit bytes byte h.fit lt;
+  fit = more_fit bytes (byte ∷ []) h.fit (byte_fits byte lt);
 }
 
--- which makes a pair whole
-pub holds_pair : (r s : Pieces) (byte first second : ℕ) (bytes eight : List ℕ) →
-    HoldsExactly r bytes → byte < 256 → length (bytes ++ byte ∷ []) ≤ 2 ^ 60 →
-    eight ≡ r.rest ++ byte ∷ [] → length eight ≡ 8 → quads_of eight ≡ first ∷ second ∷ [] → s.rest ≡ [] → (r.pairs < 2 ^ 60 → s.pairs ≡ r.pairs + 1) →
-    s.first_bad ≡ bad_after r.first_bad (first, second) r.pairs → ((l : List ℕ) → StandsFor r.packets l → StandsFor s.packets (l ++ first ∷ [])) → HoldsExactly s (bytes ++ byte ∷ [])
-holds_pair r s byte first second bytes eight h lt small is eight_long two none more bad list =
+-- bytes more that make a pair whole
+pub holds_pair : (r s : Pieces) (first second : ℕ) (bytes more eight : List ℕ) →
+    HoldsExactly r bytes → All (λ b. b < 256) more → length (bytes ++ more) ≤ 2 ^ 60 →
+    eight ≡ r.rest ++ more → length eight ≡ 8 → quads_of eight ≡ first ∷ second ∷ [] → s.rest ≡ [] → (r.pairs < 2 ^ 60 → s.pairs ≡ r.pairs + 1) →
+    s.first_bad ≡ bad_after r.first_bad (first, second) r.pairs → ((l : List ℕ) → IsListOf r.packets l → IsListOf s.packets (l ++ first ∷ [])) → HoldsExactly s (bytes ++ more)
+holds_pair r s first second bytes more eight h lt small is eight_long two none counted bad list =
     let size : length bytes ≡ 8 * r.pairs + length r.rest = ap length h.split ∙ length-append h.whole r.rest ∙ omega (arith, h.even) in
-    let few : r.pairs < 2 ^ 60 = omega (arith, small, length-append bytes (byte ∷ [])) in
+    let few : r.pairs < 2 ^ 60 = omega (arith, small, length-append bytes more) in
     let quads : quads_of (h.whole ++ eight) ≡ quads_of h.whole ++ first ∷ second ∷ [] = quads_of-append (2 * r.pairs) h.whole eight (omega (arith, h.even)) ∙ ap (λ (x : List ℕ). quads_of h.whole ++ x) two in
     let half : length (quads_of h.whole) ≡ 2 * r.pairs = length-quads (2 * r.pairs) h.whole (omega (arith, h.even)) in
     let all : pairs (quads_of (h.whole ++ eight)) ≡ pairs (quads_of h.whole) ++ (first, second) ∷ [] = ap pairs quads ∙ pairs-append r.pairs (quads_of h.whole) (first ∷ second ∷ []) half in
@@ -103,11 +106,11 @@ holds_pair r s byte first second bytes eight h lt small is eight_long two none m
     let firsts_now : firsts (quads_of (h.whole ++ eight)) ≡ firsts (quads_of h.whole) ++ first ∷ [] = ap (map (λ (p : ℕ × ℕ). p.0)) all ∙ map-append (λ (p : ℕ × ℕ). p.0) (pairs (quads_of h.whole)) ((first, second) ∷ []) in
     record {
       whole = h.whole ++ eight;
-      split = ap (λ (x : List ℕ). x ++ byte ∷ []) h.split ∙ append_assoc h.whole r.rest (byte ∷ []) ∙ ap (λ (x : List ℕ). h.whole ++ x) (sym is) ∙ sym (append-nil (h.whole ++ eight)) ∙ ap (λ (x : List ℕ). (h.whole ++ eight) ++ x) (sym none);
-      even = omega (arith, length-append h.whole eight, h.even, more few);
+      split = ap (λ (x : List ℕ). x ++ more) h.split ∙ append_assoc h.whole r.rest more ∙ ap (λ (x : List ℕ). h.whole ++ x) (sym is) ∙ sym (append-nil (h.whole ++ eight)) ∙ ap (λ (x : List ℕ). (h.whole ++ eight) ++ x) (sym none);
+      even = omega (arith, length-append h.whole eight, h.even, counted few);
       bad = bad ∙ ap (λ (b : Option ℕ). bad_after b (first, second) r.pairs) h.bad ∙ sym bad_now;
-      list = subst (StandsFor s.packets) (sym firsts_now) (list (firsts (quads_of h.whole)) h.list);
-      fit = more_fit bytes byte h.fit lt;
+      list = subst (IsListOf s.packets) (sym firsts_now) (list (firsts (quads_of h.whole)) h.list);
+      fit = more_fit bytes more h.fit lt;
     }
 
 -- ---- the end
@@ -115,26 +118,26 @@ holds_pair r s byte first second bytes eight h lt small is eight_long two none m
 -- whole pairs, none of them bad, are the capture of a list for which the reader of packets stands
 pub captured : GoodPairsAreACapture → (r : Pieces) (bytes : List ℕ) → HoldsExactly r bytes →
     length r.rest ≡ 0 → r.first_bad ≡ None →
-    IsCaptureOf (firsts (quads_of bytes)) bytes × StandsFor r.packets (firsts (quads_of bytes))
+    IsCaptureOf (firsts (quads_of bytes)) bytes × IsListOf r.packets (firsts (quads_of bytes))
 captured good r bytes h none no_bad =
     let whole : bytes ≡ h.whole = h.split ∙ ap (λ (x : List ℕ). h.whole ++ x) (nil_from_length r.rest none) ∙ append-nil h.whole in
     let even : length bytes % 8 ≡ 0 = omega (arith, ap length whole, h.even) in
     let none_bad : first_bad_pair (quads_of bytes) ≡ None = ap (λ (x : List ℕ). first_bad_pair (quads_of x)) whole ∙ sym h.bad ∙ no_bad in
-    (is_capture bytes (firsts (quads_of bytes)) h.fit refl (good bytes h.fit even none_bad), subst (λ (x : List ℕ). StandsFor r.packets (firsts (quads_of x))) (sym whole) h.list)
+    (is_capture bytes (firsts (quads_of bytes)) h.fit refl (good bytes h.fit even none_bad), subst (λ (x : List ℕ). IsListOf r.packets (firsts (quads_of x))) (sym whole) h.list)
 
 pub spelled : (bytes quads : List ℕ) (t : Tree) → IsCaptureOf quads bytes →
     IsBusTreeOf Ieee2000 t × (emits t ≡ quads) → Spells Ieee2000 bytes t
 spelled bytes quads t c (bus, e) = record { bus = bus; captured = subst (λ (l : List ℕ). IsCaptureOf l bytes) (sym e) c }
 
 -- a fault of the list is the capture's
-pub stop_fault : (A B : Type 0) (k : Kept) (stop : TreeStop) (Held : List ℕ → Type 0) → IfTreeFault {A = A} (Err stop) (λ f. (l : List ℕ) → StandsFor k l → Refused Ieee2000 l f) →
-    ((bytes : List ℕ) → Held bytes → IsCaptureOf (firsts (quads_of bytes)) bytes × StandsFor k (firsts (quads_of bytes))) → IfFault {A = B} (Err (of_tree stop)) (λ f. (bytes : List ℕ) → Held bytes → CaptureRefused Ieee2000 bytes f)
+pub stop_fault : (A B : Type 0) (k : Late) (stop : TreeStop) (Held : List ℕ → Type 0) → IfTreeFault {A = A} (Err stop) (λ f. (l : List ℕ) → IsListOf k l → Refused Ieee2000 l f) →
+    ((bytes : List ℕ) → Held bytes → IsCaptureOf (firsts (quads_of bytes)) bytes × IsListOf k (firsts (quads_of bytes))) → IfFault {A = B} (Err (of_tree stop)) (λ f. (bytes : List ℕ) → Held bytes → CaptureRefused Ieee2000 bytes f)
 stop_fault A B k (TreeFaulty f) Held refused known = λ bytes h. let c = known bytes h in (firsts (quads_of bytes), c.0, refused (firsts (quads_of bytes)) c.1)
 stop_fault A B k (NoMemory e) Held refused known = tt
 
 -- want of memory comes only where there is no fault
-pub stop_memory : (A B : Type 0) (k : Kept) (stop : TreeStop) (Held : List ℕ → Type 0) → EachListHasATreeOrAFault → ((l : List ℕ) (f : TreeFault) → StandsFor k l → Refused Ieee2000 l f → ◌≡◌ {A = Result A TreeStop} (Err stop) (Err (TreeFaulty f))) →
-    ((bytes : List ℕ) → Held bytes → IsCaptureOf (firsts (quads_of bytes)) bytes × StandsFor k (firsts (quads_of bytes))) → IfMemory {A = B} (Err (of_tree stop)) ((bytes : List ℕ) → Held bytes → (t : Tree) × Spells Ieee2000 bytes t)
+pub stop_memory : (A B : Type 0) (k : Late) (stop : TreeStop) (Held : List ℕ → Type 0) → EachListHasATreeOrAFault → ((l : List ℕ) (f : TreeFault) → IsListOf k l → Refused Ieee2000 l f → ◌≡◌ {A = Result A TreeStop} (Err stop) (Err (TreeFaulty f))) →
+    ((bytes : List ℕ) → Held bytes → IsCaptureOf (firsts (quads_of bytes)) bytes × IsListOf k (firsts (quads_of bytes))) → IfMemory {A = B} (Err (of_tree stop)) ((bytes : List ℕ) → Held bytes → (t : Tree) × Spells Ieee2000 bytes t)
 stop_memory A B k (TreeFaulty f) Held some exact known = tt
 stop_memory A B k (NoMemory e) Held some exact known = λ bytes h.
     let c = known bytes h in
@@ -170,3 +173,24 @@ pub told_still : (A B E : Type 0) (a : A) (b : B) (e : E) (old new : Option (Lis
 told_still A B E a b e None new P h = tt
 told_still A B E a b e (Some x) None P h = tt
 told_still A B E a b e (Some x) (Some y) P h = (λ is. absurd (not_stop B E b e is), λ p. absurd (not_stop A E a e (h.1 p)))
+
+-- ---- a piece is taken from its front
+
+taken_none : (k : ℕ) → ◌≡◌ {A = List ℕ} (take k []) []
+taken_none zero = refl
+taken_none (suc k) = refl
+
+pub take_on : (i k : ℕ) (xs : List ℕ) → take (i + k) xs ≡ take i xs ++ take k (drop i xs)
+take_on zero k xs = let e : 0 + k ≡ k = omega arith in ap (λ (n : ℕ). take n xs) e
+take_on (suc i) k [] = let e : suc i + k ≡ suc (i + k) = omega arith in ap (λ (n : ℕ). take n []) e ∙ sym (taken_none k)
+take_on (suc i) k (x ∷ xs) =
+    let e : suc i + k ≡ suc (i + k) = omega arith in
+    ap (λ (n : ℕ). take n (x ∷ xs)) e ∙ ap (λ (l : List ℕ). x ∷ l) (take_on i k xs)
+
+-- the bytes of a piece's front
+pub small_front : (k : ℕ) (xs : List ℕ) → ((i : ℕ) → Fits w8 (get_or xs i 0)) →
+    All (λ b. b < 256) (take k xs)
+small_front zero xs h = All-nil (λ b. b < 256)
+small_front (suc k) [] h = All-nil (λ b. b < 256)
+small_front (suc k) (x ∷ xs) h =
+    All-cons (λ b. b < 256) x (take k xs) (omega (arith, (h 0).fits)) (small_front k xs (λ i. h (suc i)))

@@ -10,7 +10,7 @@ use Rattle.config_rom.specs.declared.fault.RomFault.{RomFault}
 use Rattle.config_rom.specs.Rom.{Parts}
 use Rattle.config_rom.specs.Fault.{rom_fault}
 use Rattle.config_rom.specs.Block.{BlocksRefused}
-use Rattle.config_rom.specs.OneReading.{IsRomOf, EachInputIsARomOrRefused, NoInputIsTwoRoms, NoRomIsRefused, EachRomHasGoodBlocksOrAFault, NoGoodBlocksAreRefused, NoBlocksHaveTwoFaults, NoRomHasTwoTexts}
+use Rattle.config_rom.specs.OneReading.{EachInputIsARomOrRefused, NoInputIsTwoRoms, NoRomIsRefused, EachRomHasGoodBlocksOrAFault, NoGoodBlocksAreRefused, NoBlocksHaveTwoFaults, NoRomHasTwoTexts}
 use Rattle.config_rom.specs.SomeText.{RomsHaveTexts}
 use Rattle.script_lines.specs.declared.kind.ScriptFault.{ScriptFault}
 use Rattle.script_text.specs.Maps.{IsMapsText}
@@ -21,7 +21,7 @@ use Rattle.script_made.specs.Made.{made_script}
 use Rattle.script_made.specs.MadeValid.{MadeScriptsRunThrough}
 use Rattle.script_told.specs.Bus.{Bus}
 use Rattle.script_told.specs.Script.{Told}
-use Rattle.script_told.specs.Run.{ScriptRun, IsRun, printed, unless_stopped, IsTold}
+use Rattle.script_told.specs.Run.{printed, unless_stopped, IsTold}
 use Rattle.script_told.specs.OneTold.{ScriptsTellOneThing}
 use Rattle.script_told.specs.EachReport.{ReportsAreSettled}
 use Rattle.script_bus.specs.SomeRun.{HasRun, EachScriptHasARun}
@@ -33,12 +33,11 @@ use Rattle.bus_cli.specs.declared.form.Form.TheVariants.{Capture, Rom, Run, Advi
 use Rattle.bus_cli.specs.declared.form.CaptureForm.TheVariants.{Read, Read95, Maps}
 use Rattle.bus_cli.specs.declared.fault.CaptureFault.{CaptureFault}
 use Rattle.bus_cli.specs.Form.{Asks, IsForm}
-use Rattle.bus_cli.specs.Capture.{Spells, CaptureRefused}
 use Rattle.bus_cli.specs.Line.{fault_line, rom_line, script_line}
 use Rattle.bus_cli.specs.OneReading.{EachCaptureHasATreeOrAFault, NoCaptureHasTwoTrees, NoCaptureHasATreeAndAFault, NoCaptureHasTwoFaults}
 use Rattle.bus_cli.specs.Answer.{ValidOrRefused, IsCaptureLine, AnswersRead, AnswersMaps, TellsRom, RomRefused, TextOfRom, AnswersRom, PrintsRun, AnswersRun, AnswersAdvice, AnswersMake, AnswersForm, Answers}
 use Rattle.bus_cli.specs.OneAnswer.{EachInputHasAnAnswer, NoInputHasTwoAnswers}
-use Rattle.bus_cli.proofs.Forms.{one_form, form_or_none, few_nodes}
+use Rattle.bus_cli.proofs.Forms.{one_form, form_or_none}
 
 -- a capture has one reading, and so has a ROM, and no script tells two things
 pub record HasOneReading : Type 0 where

@@ -1,3 +1,4 @@
 -- How a capture is taken piece by piece. No public contract cites a file of this folder.
+pub mod Late
 pub mod Pieces
 pub mod Reading

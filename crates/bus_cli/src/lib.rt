@@ -6,6 +6,7 @@ mod capture;
 mod fault;
 mod form;
 mod input;
+mod late;
 mod laws;
 mod line;
 mod reader;

@@ -1,20 +1,21 @@
 //! Reading a capture as it comes.
-ghost use Rattle.std.specs.Prelude.{◌≡◌, ◌↔◌, ◌+◌, ◌<◌, ◌≤◌, ◌^◌, ℕ, List, [], ◌∷◌, ◌++◌, length, IfOk, IfSome, IsSome};
+ghost use Rattle.std.specs.Prelude.{◌≡◌, ◌↔◌, ◌+◌, ◌<◌, ◌≤◌, ◌^◌, ℕ, List, [], ◌∷◌, ◌++◌, length, take, IfOk, IfSome, IsSome};
 ghost use Rattle.self_id.specs.declared.standard.Standard.TheVariants.{Ieee2000};
 ghost use Rattle.topology_stack.specs.Tree.{Tree};
-ghost use Rattle.topology_stack.specs.Reader.{StandsFor};
 ghost use Rattle.bus_cli.specs.Capture.{Spells, CaptureRefused};
 ghost use Rattle.bus_cli.specs.Stop.{IfFault, IfMemory};
 ghost use Rattle.quad_lanes.specs.Pairs.{quads_of};
+ghost use Rattle.bus_cli.specs.codings.Late.{IsListOf};
 ghost use Rattle.bus_cli.specs.codings.Pieces.{Holds, HoldsExactly, bad_after};
 
 use crate::fault::{CaptureFault, CaptureStop};
+use crate::late::LateReader;
 use arrayvec::ArrayVec;
 use io_edges::Taker;
 use quad_lanes::good_pairs_are_a_capture;
 use std::alloc::Global;
 use std::marker::Model;
-use topology_stack::{BusTree, TreeReader, one_answer};
+use topology_stack::{BusTree, one_answer};
 
 /// A reader of a capture. It keeps the bytes of a pair that isn't whole, and of the pairs before it
 /// the number of the first bad one and the list of their first quadlets.
@@ -23,7 +24,7 @@ pub(crate) struct CaptureReader {
     rest: ArrayVec<u8, 8>,
     pairs: usize,
     first_bad: Option<usize>,
-    packets: TreeReader,
+    packets: LateReader,
 }
 
 impl Model for CaptureReader {
@@ -67,7 +68,7 @@ impl CaptureReader {
             rest: ArrayVec::new(),
             pairs: 0,
             first_bad: None,
-            packets: TreeReader::new(),
+            packets: LateReader::new(),
         }
     }
 
@@ -77,8 +78,8 @@ impl CaptureReader {
         ensures pairs { self.old.pairs < 2 ^ 60 → self.new.pairs ≡ self.old.pairs + 1 }
         ensures bad { self.new.first_bad
             ≡ bad_after self.old.first_bad (first, second) self.old.pairs }
-        ensures list { (l : List ℕ) → StandsFor self.old.packets l
-            → StandsFor self.new.packets (l ++ first ∷ []) }
+        ensures list { (l : List ℕ) → IsListOf self.old.packets l
+            → IsListOf self.new.packets (l ++ first ∷ []) }
     {
         if self.first_bad.is_none() && second != !first {
             self.first_bad = Some(self.pairs);
@@ -96,6 +97,25 @@ impl CaptureReader {
             self.rest.clear();
             self.push_pair(first, second);
         }
+    }
+
+    /// Takes what stands first: a whole pair where no byte waits, or else a byte. Answers how many
+    /// bytes it took.
+    fn take_front(&mut self, piece: &[u8]) -> usize
+        requires { 0 < length piece.now }
+        ensures some { 0 < result }
+        ensures most { result ≤ length piece.now }
+        ensures held { (bytes : List ℕ) → Holds self.old bytes
+            → Holds self.new (bytes ++ take result piece.now) }
+    {
+        if self.rest.is_empty() && piece.len() >= 8 {
+            if let Some((first, second)) = pair_of(&piece[..8]) {
+                self.push_pair(first, second);
+                return 8;
+            }
+        }
+        self.push_byte(piece[0]);
+        1
     }
 
     /// The bus tree that the bytes spell, or their fault. Want of memory comes only where they
@@ -126,8 +146,9 @@ impl Taker for CaptureReader {
     ghost stands_for = { Holds };
 
     fn take(&mut self, piece: &[u8]) {
-        for byte in piece {
-            self.push_byte(*byte);
+        let mut at = 0;
+        while at < piece.len() {
+            at += self.take_front(&piece[at..]);
         }
     }
 }

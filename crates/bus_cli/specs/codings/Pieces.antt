@@ -1,7 +1,7 @@
 -- For which bytes a reader of captures stands. No public contract cites this file.
 use Rattle.std.specs.Prelude.{◌≡◌, ℕ, ◌*◌, ◌^◌, ◌<◌, ◌≤◌, All, List, ◌++◌, length, Option, Some, None, if◌then◌else◌}
 use Rattle.quad_lanes.specs.Pairs.{quads_of, firsts, first_bad_pair, is_bad}
-use Rattle.topology_stack.specs.Reader.{Kept, StandsFor}
+use Rattle.bus_cli.specs.codings.Late.{Late, IsListOf}
 
 -- what a reader of captures keeps: the bytes of a pair that isn't whole, how many pairs are whole,
 -- the number of the first bad one, and the list of their first quadlets
@@ -9,7 +9,7 @@ pub record Pieces : Type 0 where
   pub rest : List ℕ
   pub pairs : ℕ
   pub first_bad : Option ℕ
-  pub packets : Kept
+  pub packets : Late
 
 -- it has the bytes behind the last whole pair, and what is known of the pairs before
 pub record HoldsExactly (r : Pieces) (bytes : List ℕ) : Type 0 where
@@ -17,7 +17,7 @@ pub record HoldsExactly (r : Pieces) (bytes : List ℕ) : Type 0 where
   pub split : bytes ≡ whole ++ r.rest
   pub even : length whole ≡ 8 * r.pairs
   pub bad : r.first_bad ≡ first_bad_pair (quads_of whole)
-  pub list : StandsFor r.packets (firsts (quads_of whole))
+  pub list : IsListOf r.packets (firsts (quads_of whole))
   pub fit : All (λ b. b < 256) bytes
 
 -- so it is of all bytes that aren't absurdly many

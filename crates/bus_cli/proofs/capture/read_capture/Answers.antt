@@ -1,4 +1,4 @@
-use Rattle.std.proofs.Common.{List, ℕ, Result, Err}
+use Rattle.std.proofs.Common.{List, ℕ, Err}
 use Rattle.std.proofs.lemmas.Result.{err_from_is_err_and}
 use Rattle.topology_stack.specs.Tree.{Tree}
 use Rattle.bus_cli.specs.declared.fault.CaptureFault.{CaptureFault}
