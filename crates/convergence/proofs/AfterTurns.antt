@@ -1,23 +1,8 @@
 -- What is so after how many quiet turns.
 use Rattle.std.proofs.Common.{◌≡◌, ℕ, ◌+◌, ◌-◌, ◌*◌, ◌≤◌, Bool, true, false, Some, length, slice_get, refl, sym, ◌∙◌, ap, subst, arith, true≢false}
-use Rattle.cabling.specs.declared.cable.End.{End}
-use Rattle.cabling.specs.Wiring.{Wiring, far}
-use Rattle.cabling.specs.Component.{IsClosed, IsComponent}
-use Rattle.cabling.specs.Looped.{IsCore}
-use Rattle.port_state.specs.declared.signal.Level.{Level}
-use Rattle.port_state.specs.Machine.{PortNode}
-use Rattle.cable_world.specs.World.{CableWorld}
-use Rattle.cable_world.specs.Turn.{turn}
-use Rattle.cable_world.specs.Run.{IsReached}
-use Rattle.cable_world.specs.Phases.{is_before_tree}
-use Rattle.cable_world.specs.Agreement.{level_sent_at, level_shown}
-use Rattle.cable_world.specs.Lawful.{IsLawful}
-use Rattle.cable_world.proofs.Lemmas.{cabling-after, after-delay, after-length, some-of, some-at, some-same, reached-lawful, quiet-then, quiet-lawful, after-cabling}
-use Rattle.cable_world.specs.Quiet.{HoldSchedule, quiet_after, holds_after}
-use Rattle.convergence.specs.Acyclic.{IsAcyclic}
+use Rattle.convergence.proofs.Common.{End, Wiring, far, IsClosed, IsComponent, IsCore, Level, PortNode, CableWorld, turn, IsReached, is_before_tree, level_sent_at, level_shown, IsLawful, cabling-after, after-delay, after-length, some-of, some-at, some-same, reached-lawful, quiet-then, quiet-lawful, after-cabling, HoldSchedule, quiet_after, holds_after, IsAcyclic, ResetsAreDone, TreesAreTaken, LoopsAreReported, TreesAreDecided, turns_to_done, turns_to_trees, turns_to_decision}
 use Rattle.convergence.specs.Cables.{TellsAt, ShowsAt}
-use Rattle.convergence.specs.Milestones.{ResetsAreDone, TreesAreTaken, LoopsAreReported, TreesAreDecided}
-use Rattle.convergence.specs.Turns.{tree_turns, loop_turns, decision_turns, turns_to_done, turns_to_trees, turns_to_loops, turns_to_decision}
+use Rattle.convergence.specs.Turns.{tree_turns, loop_turns, decision_turns, turns_to_loops}
 use Rattle.convergence.specs.Kept.{IsGrown}
 use Rattle.convergence.proofs.turns.Cables.{joined-of}
 use Rattle.convergence.proofs.turns.CalmTurns.{Calmly, calmly, early-before, done-calm}

@@ -1,17 +1,9 @@
 -- A turn keeps what a node knows of its draws.
 use Rattle.std.proofs.Common.{◌≡◌, ◌⊎◌, inl, inr, ℕ, ◌+◌, ◌*◌, ◌<◌, ◌≤◌, Bool, true, false, List, refl, sym, ◌∙◌, ap, subst, arith, true≢false, if◌then◌else◌}
 use Rattle.std.specs.Prelude.{min, nat_le}
-use Rattle.port_state.specs.declared.signal.Phase.{Phase}
+use Rattle.convergence.proofs.Common.{Phase, Signal, Timing, NodeState, raise_timer, tick, is_before_tree, hear_all, NoEntry, HearsWell, TicksWell, KnowsCoins}
 use Rattle.port_state.specs.declared.signal.Phase.TheVariants as phase
-use Rattle.port_state.specs.declared.signal.Signal.{Signal}
-use Rattle.port_state.specs.declared.timing.Timing.{Timing}
-use Rattle.port_state.specs.declared.states.NodeState.{NodeState}
 use Rattle.port_state.specs.Timing.{InRange}
-use Rattle.port_state.specs.Tick.{raise_timer, tick}
-use Rattle.cable_world.specs.Phases.{is_before_tree}
-use Rattle.cable_world.specs.Turn.{hear_all}
-use Rattle.cable_world.proofs.Lemmas.{NoEntry, HearsWell, TicksWell}
-use Rattle.convergence.specs.Coins.{KnowsCoins}
 use Rattle.convergence.proofs.turns.Moves.{Drew, Fought, tick-draws, tick-contending, tick-fought, tick-late}
 
 pub zero-or : (n : ℕ) → (n ≡ 0) ⊎ (1 ≤ n)

@@ -1,19 +1,13 @@
 -- A turn keeps what two ends of a cable know of coins.
 use Rattle.std.proofs.Common.{◌≡◌, ◌⊎◌, inl, inr, ℕ, ◌+◌, ◌*◌, ◌≤◌, Bool, true, false, not, [], Option, Some, None, refl, sym, ◌∙◌, ap, subst, arith, true≢false, if◌then◌else◌}
 use Rattle.std.proofs.lemmas.Bool.{eq-eqb, and_parts, or_cases}
-use Rattle.port_state.specs.declared.signal.Level.{Level}
+use Rattle.convergence.proofs.Common.{Level, Phase, is_idle, is_parent, is_child, is_port, raise_timer, level_sent, level_shown, leads_down, level_after, is_before_tree, is_shaking, signals_of, has_reset, is_asking, child-if, NoEntry, risen, not-both, Side, hearing, ticking, wire_after, late-roles, tree_start-known, heard_shown, AddsDraw, DrewTogether, IsAhead, AsksAgain, Contests, AreRivals}
 use Rattle.port_state.specs.declared.signal.Level.TheVariants as level
-use Rattle.port_state.specs.declared.signal.Phase.{Phase}
 use Rattle.port_state.specs.declared.signal.Phase.TheVariants as phase
-use Rattle.port_state.specs.Ports.{is_idle, is_parent, is_child, is_port}
-use Rattle.port_state.specs.Tick.{raise_timer}
-use Rattle.cable_world.specs.Agreement.{level_sent, level_shown, leads_down, level_after}
-use Rattle.cable_world.specs.Phases.{is_before_tree, is_after_hold, is_shaking}
-use Rattle.cable_world.specs.Signals.{signals_of, has_reset, shows_no_notice, has_no_parent_signal}
-use Rattle.cable_world.specs.Coupling.{is_asking}
-use Rattle.cable_world.proofs.Lemmas.{child-if, NoEntry, risen, not-both, level_after-reset, Side, hearing, ticking, wire_after, late-roles, tree_start-known, between-known, heard_connected, turned-round, heard_shown, after_shown, heard_low, heard_no_parent, other_heard, near_heard, no_reset_before}
-use Rattle.convergence.specs.Coins.{AddsDraw, DrewTogether}
-use Rattle.convergence.specs.Rivals.{IsAhead, AsksAgain, HasWon, IsBelow, Contests, AreAlike, AreRivals}
+use Rattle.cable_world.specs.Phases.{is_after_hold}
+use Rattle.cable_world.specs.Signals.{shows_no_notice, has_no_parent_signal}
+use Rattle.cable_world.proofs.Lemmas.{level_after-reset, between-known, heard_connected, turned-round, after_shown, heard_low, heard_no_parent, other_heard, near_heard, no_reset_before}
+use Rattle.convergence.specs.Rivals.{HasWon, IsBelow, AreAlike}
 use Rattle.convergence.proofs.coins.CoinsInTurns.{zero-or}
 use Rattle.convergence.proofs.turns.Moves.{Drew, DrewNone, Fought, tick-draws, tick-shaken, tick-fought, tick-contending, tick-shaking-from, tick-child-shake, child-idle}
 use Rattle.convergence.proofs.coins.Rivals.{child-told, Rivals, swapped, stand-round, other-level, after-knows, late-heard, late-before, late-after, calm, start-calm, up-late, up-heard, up-before, up-mid, not-down, drew-sees, accepted-sees, again-sees, still, draws-not, adds-still, asks-on}

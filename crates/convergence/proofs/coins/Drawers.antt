@@ -3,31 +3,14 @@ use Rattle.std.proofs.Common.{◌≡◌, ◌≢◌, ◌⊎◌, is_some, inl, inr
 use Rattle.std.specs.Prelude.{IsSome}
 use Rattle.std.proofs.lemmas.Bool.{eq-eqb, cases_eq}
 use Rattle.std.proofs.lemmas.Option.{slice_get_within, slice_get_cases}
-use Rattle.cabling.specs.declared.cable.End.{End}
-use Rattle.cabling.specs.Wiring.{far}
-use Rattle.cabling.specs.NodeSet.{Holds}
-use Rattle.cabling.specs.Component.{IsComponent}
-use Rattle.cabling.proofs.Lemmas.{same_end, one_other, end_at, shared}
-use Rattle.port_state.specs.declared.ports.PortView.{PortView}
+use Rattle.convergence.proofs.Common.{End, far, Holds, IsComponent, end_at, PortView, NodeState, is_port, is_connected, passes, IsValid, FitsPhase, PortNode, CableWorld, wire_of, is_before_tree, signals_of, has_reset, leads_down, IsLawful, child-if, cable-connected, some-same, late-roles, start-before_tree, AreJoined, IsChildCable, ResetsAreOver, IsRoot, IsContested, AreRivals, DrawsAgree, AreMutual, AreUnequal}
+use Rattle.cabling.proofs.Lemmas.{same_end, one_other, shared}
 use Rattle.port_state.specs.declared.signal.Phase.TheVariants as phase
-use Rattle.port_state.specs.declared.states.NodeState.{NodeState}
-use Rattle.port_state.specs.Ports.{is_port, is_connected, passes}
-use Rattle.port_state.specs.Valid.{IsValid, HasRoles, FitsPhase}
-use Rattle.port_state.specs.Machine.{PortNode}
-use Rattle.cable_world.specs.World.{CableWorld, wire_of}
-use Rattle.cable_world.specs.Phases.{is_before_tree}
-use Rattle.cable_world.specs.Signals.{signals_of, has_reset}
-use Rattle.cable_world.specs.Agreement.{leads_down}
-use Rattle.cable_world.specs.Lawful.{FitsCables, IsLawful}
-use Rattle.cable_world.proofs.Lemmas.{child-if, cable-connected, some-same, late-roles, start-before_tree}
-use Rattle.convergence.specs.Cables.{AreJoined}
+use Rattle.port_state.specs.Valid.{HasRoles}
+use Rattle.cable_world.specs.Lawful.{FitsCables}
 use Rattle.convergence.proofs.turns.Cables.{joined-of}
-use Rattle.convergence.specs.Acyclic.{IsChildCable}
-use Rattle.convergence.specs.Milestones.{ResetsAreOver}
-use Rattle.convergence.specs.Roots.{IsLate, IsRoot}
-use Rattle.convergence.specs.Rivals.{IsContested, AreRivals}
-use Rattle.convergence.specs.Coins.{DrawsAgree}
-use Rattle.convergence.specs.Drawers.{HasDrawn, AreMutual, DrewOnCable, AreUnequal}
+use Rattle.convergence.specs.Roots.{IsLate}
+use Rattle.convergence.specs.Drawers.{HasDrawn, DrewOnCable}
 use Rattle.convergence.proofs.sets.Closure.{in-component}
 use Rattle.convergence.proofs.loops.Cores.{leads-down, below-late, one-root}
 use Rattle.convergence.proofs.coins.DrawsAgree.{won-agree, stand-agree, stand-close, agree-round}

@@ -1,21 +1,14 @@
 -- Where two rivals stand after a turn.
 use Rattle.std.proofs.Common.{◌≡◌, ◌⊎◌, inl, inr, ℕ, ◌+◌, ◌-◌, ◌*◌, ◌<◌, ◌≤◌, Bool, true, false, [], map, refl, sym, ◌∙◌, ap, subst, arith, true≢false}
 use Rattle.std.proofs.lemmas.Bool.{leb-true}
-use Rattle.port_state.specs.declared.signal.Level.{Level}
+use Rattle.convergence.proofs.Common.{Level, Phase, NodeState, draws_with, is_port, raise_timer, new_signal, level_sent, level_shown, leads_down, level_after, level_sent_at, is_shaking, signals_of, NoEntry, risen, not-both, Side, hearing, ticking, departures, wire_after, heard_shown, last_coin, AddsDraw, DrewTogether, KnowsCoins, IsAhead, AsksAgain, HaveMet, AreApart, AreRivals}
 use Rattle.port_state.specs.declared.signal.Level.TheVariants as level
-use Rattle.port_state.specs.declared.signal.Phase.{Phase}
 use Rattle.port_state.specs.declared.signal.Phase.TheVariants as phase
-use Rattle.port_state.specs.declared.states.NodeState.{NodeState}
-use Rattle.port_state.specs.TreeIdentify.{draws_with}
-use Rattle.port_state.specs.Ports.{is_port}
-use Rattle.port_state.specs.Tick.{raise_timer}
-use Rattle.cable_world.specs.Wire.{new_signal}
-use Rattle.cable_world.specs.Agreement.{level_sent, level_shown, leads_down, level_after, level_sent_at}
-use Rattle.cable_world.specs.Phases.{is_shaking, is_timed, slack}
-use Rattle.cable_world.specs.Signals.{signals_of, AllAsOldAs}
-use Rattle.cable_world.proofs.Lemmas.{NoEntry, risen, not-both, AllAsOldAs-zero, AllAsOldAs-less, Side, hearing, ticking, arrivals, leftovers, departures, wire_after, kept_since, same_wire, kept_levels, heard_shown, heard_idle}
-use Rattle.convergence.specs.Coins.{last_coin, AddsDraw, DrewTogether, DrewTheSame, KnowsCoins}
-use Rattle.convergence.specs.Rivals.{IsAhead, AsksAgain, AreAlike, HaveMet, AreApart, AreRivals}
+use Rattle.cable_world.specs.Phases.{is_timed, slack}
+use Rattle.cable_world.specs.Signals.{AllAsOldAs}
+use Rattle.cable_world.proofs.Lemmas.{AllAsOldAs-zero, AllAsOldAs-less, arrivals, leftovers, kept_since, same_wire, kept_levels, heard_idle}
+use Rattle.convergence.specs.Coins.{DrewTheSame}
+use Rattle.convergence.specs.Rivals.{AreAlike}
 use Rattle.convergence.proofs.turns.Moves.{Drew, DrewNone, Shook, Waited, TookRival, AskedAgain, Fought, tick-shaken, tick-fought}
 use Rattle.convergence.proofs.coins.Rivals.{none-so-old, ages-first, Rivals, swapped, together-round, same-round, stand-round, no-contend, shaking-silent, other-level, up-late, up-mid, not-down, drew-sees, accepted-sees, took-sees, again-sees, draws-not, adds-draw, adds-still, coin-still, asks-on, asks-here, sees-child}
 

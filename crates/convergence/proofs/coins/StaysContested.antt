@@ -1,35 +1,19 @@
 -- What nodes know of coins holds in every world that comes of a power-on world.
 use Rattle.std.proofs.Common.{◌≡◌, ◌⊎◌, inl, inr, ℕ, ◌≤◌, true, List, [], ◌∷◌, ◌++◌, Some, None, slice_get, refl, sym, ◌∙◌, ap, subst, arith, true≢false}
 use Rattle.std.specs.Prelude.{◌*◌, nat_le}
-use Rattle.cabling.specs.declared.cable.End.{End}
-use Rattle.cabling.specs.Wiring.{Wiring, far, ports_of}
-use Rattle.port_state.specs.declared.signal.Phase.{Phase}
+use Rattle.convergence.proofs.Common.{End, Wiring, far, ports_of, Phase, NodeState, coin, is_child, is_port, port_is, draws_with, IsValid, PortNode, Travelling, new_signal, CableWorld, wire_of, hold, IsReached, inbox, turn_at, turn, IsLawful, is_before_tree, is_shaking, signals_of, has_reset, shown_or_idle, level_shown, leads_down, cabling-after, delay-after, before, hears, ticks, side, side-node, side-wire, ticking, not-both, turn-state, comes, holds-kept, PlacedHold, HoldSchedule, with_holds, quiet_after, AddsDraw, DrewTogether, KnowsCoins, AreApart, AreRivals, Contests, IsContested}
 use Rattle.port_state.specs.declared.signal.Phase.TheVariants as phase
 use Rattle.port_state.specs.declared.signal.Signal.TheVariants as signal
-use Rattle.port_state.specs.declared.states.NodeState.{NodeState}
-use Rattle.port_state.specs.Coins.{coin}
-use Rattle.port_state.specs.Ports.{is_child, is_port, port_is}
 use Rattle.port_state.specs.Config.{ConfigPacket}
-use Rattle.port_state.specs.TreeIdentify.{draws_with}
-use Rattle.port_state.specs.Valid.{IsValid}
-use Rattle.port_state.specs.Machine.{PortNode, node_set_config}
+use Rattle.port_state.specs.Machine.{node_set_config}
 use Rattle.cable_world.specs.declared.act.Act.{Act}
-use Rattle.cable_world.specs.declared.wire.Travelling.{Travelling}
-use Rattle.cable_world.specs.Wire.{new_signal}
-use Rattle.cable_world.specs.World.{CableWorld, wire_of, IsPowerOnWorld}
-use Rattle.cable_world.specs.Act.{change_in_set, note_changes, ActLeads, act_fault, IsAct, hold, hold_fault}
-use Rattle.cable_world.specs.Run.{IsReached}
-use Rattle.cable_world.specs.Turn.{inbox, turn_at, turn}
-use Rattle.cable_world.specs.Lawful.{IsLawful, IsWellFormed}
-use Rattle.cable_world.specs.Phases.{is_before_tree, is_shaking}
-use Rattle.cable_world.specs.Signals.{signals_of, has_reset}
-use Rattle.cable_world.specs.Agreement.{shown_or_idle, level_shown, leads_down}
-use Rattle.cable_world.proofs.Lemmas.{power-on-apart, cabling-after, delay-after, not-leading, ends-in-reset, Entered, Stayed, Acting, acting, each-kept, hold-happens, shown-is, before, hears, ticks, side, ready, side-node, side-wire, shown-same, shown_if_there, HasBegun, CableEnd, cable-end, none-some, ticking, not-both, turn-state, comes, holds-kept}
+use Rattle.cable_world.specs.World.{IsPowerOnWorld}
+use Rattle.cable_world.specs.Act.{change_in_set, note_changes, ActLeads, act_fault, IsAct, hold_fault}
+use Rattle.cable_world.specs.Lawful.{IsWellFormed}
+use Rattle.cable_world.proofs.Lemmas.{power-on-apart, not-leading, ends-in-reset, Entered, Stayed, Acting, acting, each-kept, hold-happens, shown-is, ready, shown-same, shown_if_there, HasBegun, CableEnd, cable-end, none-some}
 use Rattle.cable_world.proofs.Lemmas as between
 use Rattle.convergence.proofs.turns.AlongRuns.{IsKept, kept-reached, kept-quiet}
-use Rattle.cable_world.specs.Quiet.{PlacedHold, HoldSchedule, with_holds, quiet_after}
-use Rattle.convergence.specs.Coins.{AddsDraw, DrewTogether, KnowsCoins}
-use Rattle.convergence.specs.Rivals.{AreApart, AreRivals, Contests, HasOneRival, IsContested}
+use Rattle.convergence.specs.Rivals.{HasOneRival}
 use Rattle.convergence.proofs.coins.ContestsInTurns.{contests-turn, won-from}
 use Rattle.convergence.proofs.coins.CoinsInTurns.{knows-after}
 use Rattle.convergence.proofs.coins.Rivals.{Rivals}

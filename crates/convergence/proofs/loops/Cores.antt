@@ -2,26 +2,15 @@
 use Rattle.std.proofs.Common.{◌≡◌, ◌≢◌, inl, inr, ℕ, zero, suc, Bool, true, false, not, Some, slice_get, refl, sym, ◌∙◌, ap, subst, arith, true≢false}
 use Rattle.std.proofs.lemmas.Bool.{cases_eq}
 use Rattle.std.proofs.lemmas.Option.{slice_get_within}
-use Rattle.cabling.specs.declared.cable.End.{End}
-use Rattle.cabling.specs.Wiring.{far}
-use Rattle.cabling.specs.NodeSet.{Holds, IsWithin}
-use Rattle.cabling.specs.Component.{IsComponent}
-use Rattle.cabling.specs.Looped.{LeadsInto, HasTwo, IsLooped, IsCore}
-use Rattle.cabling.proofs.Lemmas.{same_end, one_other, end_at, shared}
-use Rattle.port_state.specs.Ports.{is_port}
-use Rattle.port_state.specs.Machine.{PortNode}
-use Rattle.cable_world.specs.World.{CableWorld, wire_of}
-use Rattle.cable_world.specs.Phases.{is_before_tree}
-use Rattle.cable_world.specs.Signals.{signals_of, has_reset}
-use Rattle.cable_world.specs.Agreement.{leads_down}
-use Rattle.cable_world.specs.Lawful.{IsLawful}
+use Rattle.convergence.proofs.Common.{End, far, Holds, IsComponent, HasTwo, IsCore, end_at, is_port, PortNode, CableWorld, wire_of, is_before_tree, signals_of, has_reset, leads_down, IsLawful, child-if, some-at, some-same, cable-connected, late-roles, start-before_tree, AreJoined, IsChildCable, IsAcyclic, IsRoot}
+use Rattle.cabling.specs.NodeSet.{IsWithin}
+use Rattle.cabling.specs.Looped.{LeadsInto, IsLooped}
+use Rattle.cabling.proofs.Lemmas.{same_end, one_other, shared}
 use Rattle.cable_world.specs.Outcome.{Shows}
-use Rattle.cable_world.proofs.Lemmas.{child-if, some-at, some-same, cable-connected, late-roles, start-before_tree}
-use Rattle.convergence.specs.Cables.{AreJoined}
 use Rattle.convergence.proofs.turns.Cables.{joined-of}
-use Rattle.convergence.specs.Acyclic.{IsChildCable, IsAcyclic, LeadsDown}
+use Rattle.convergence.specs.Acyclic.{LeadsDown}
 use Rattle.convergence.specs.Milestones.{ResetsAreOverIn}
-use Rattle.convergence.specs.Roots.{IsLate, IsRoot}
+use Rattle.convergence.specs.Roots.{IsLate}
 use Rattle.convergence.proofs.sets.Closure.{in-component}
 use Rattle.convergence.proofs.ranks.Ranks.{none-falls-on}
 use Rattle.convergence.proofs.turns.Roles.{parent-late}

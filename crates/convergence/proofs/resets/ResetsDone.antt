@@ -1,31 +1,12 @@
 -- In quiet turns nobody is in R0 or R1 any more, 81 d turns after the last entry at the
 -- latest.
 use Rattle.std.proofs.Common.{◌≡◌, inl, inr, ℕ, zero, suc, ◌+◌, ◌-◌, ◌*◌, ◌<◌, ◌≤◌, Bool, true, false, not, ◌&&◌, ◌||◌, length, Option, Some, None, is_some, slice_get, refl, sym, ◌∙◌, ap, subst, arith, true≢false}
-use Rattle.port_state.specs.declared.signal.Phase.{Phase}
+use Rattle.convergence.proofs.Common.{Phase, PortView, NodeState, Timing, coin, passes, port_is, is_connected, is_port, is_resetting, PortNode, IsValid, End, Wiring, far, end_at, CableWorld, wire_of, turn_at, turn, hear_all, level_sent, level_shown, shown_or_idle, leads_down, level_sent_at, signals_of, has_reset, is_before_tree, is_in_bus_reset, is_shaking, is_asking, Coupling, IsLawful, node-after, some-same, before, hears, steady, after-delay, child-if, cable-connected, late-roles, NoEntry, HearsWell, turn-state, one-quiet, quiet-then, quiet-lawful, after-cabling, HoldSchedule, holds_after, with_holds, quiet_after, ResetsAreOver, NoneIn, ResetsAreDone}
 use Rattle.port_state.specs.declared.signal.Phase.TheVariants as phase
-use Rattle.port_state.specs.declared.ports.PortView.{PortView}
-use Rattle.port_state.specs.declared.states.NodeState.{NodeState}
-use Rattle.port_state.specs.declared.timing.Timing.{Timing}
-use Rattle.port_state.specs.Coins.{coin}
-use Rattle.port_state.specs.Ports.{passes, port_is, is_connected, is_port}
-use Rattle.port_state.specs.Heard.{is_resetting}
 use Rattle.port_state.specs.Resetting.{is_calm}
-use Rattle.port_state.specs.Machine.{PortNode}
-use Rattle.port_state.specs.Valid.{IsValid}
-use Rattle.cabling.specs.declared.cable.End.{End}
-use Rattle.cabling.specs.Wiring.{Wiring, far}
-use Rattle.cabling.proofs.Lemmas.{end_at}
-use Rattle.cable_world.specs.World.{CableWorld, wire_of}
-use Rattle.cable_world.specs.Turn.{turn_at, turn, hear_all}
-use Rattle.cable_world.specs.Agreement.{level_sent, level_shown, shown_or_idle, leads_down, level_sent_at}
-use Rattle.cable_world.specs.Signals.{signals_of, has_reset}
-use Rattle.cable_world.specs.Phases.{is_before_tree, is_after_hold, is_in_bus_reset, is_shaking}
-use Rattle.cable_world.specs.Coupling.{is_asking, Coupling}
-use Rattle.cable_world.specs.Lawful.{IsLawful}
-use Rattle.cable_world.proofs.Lemmas.{node-after, some-same, before, hears, in-turn, hold-left, steady, after-delay, child-if, cable-connected, late-roles, between-known, NoEntry, HearsWell, turn-state, one-quiet, quiet-then, quiet-lawful, after-cabling}
+use Rattle.cable_world.specs.Phases.{is_after_hold}
+use Rattle.cable_world.proofs.Lemmas.{in-turn, hold-left, between-known}
 use Rattle.convergence.proofs.turns.Cables.{joined-of}
-use Rattle.cable_world.specs.Quiet.{HoldSchedule, holds_after, with_holds, quiet_after}
-use Rattle.convergence.specs.Milestones.{ResetsAreOver, NoneIn, ResetsAreDone}
 use Rattle.convergence.proofs.turns.CalmTurns.{Calmly, calmly, signals, heard_by, waiting-before, done-calm}
 use Rattle.convergence.proofs.turns.BeforeTree.{waits-for, every-from}
 use Rattle.convergence.proofs.turns.Flush.{Tells, Shown, flush}

@@ -2,23 +2,8 @@
 -- and go on, and it sees
 -- their Idle d turns later.
 use Rattle.std.proofs.Common.{◌≡◌, ◌⊎◌, inl, inr, ℕ, zero, suc, ◌+◌, ◌-◌, ◌≤◌, Bool, true, false, Option, Some, None, is_some, slice_get, refl, sym, ◌∙◌, ap, subst, arith, add-one, true≢false}
-use Rattle.cabling.specs.declared.cable.End.{End}
-use Rattle.cabling.specs.Wiring.{Wiring, far}
-use Rattle.cabling.specs.NodeSet.{Holds}
-use Rattle.cabling.proofs.Lemmas.{end_at}
-use Rattle.port_state.specs.declared.signal.Phase.{Phase}
+use Rattle.convergence.proofs.Common.{End, Wiring, far, Holds, end_at, Phase, NodeState, coin, is_idle, is_child, is_port, is_connected, tick, PortNode, CableWorld, level_sent, level_shown, leads_down, is_before_tree, is_shaking, after-delay, cable-connected, some-same, no-quiet, quiet-then, after-cabling, HoldSchedule, holds_after, quiet_after, IsChildCable}
 use Rattle.port_state.specs.declared.signal.Phase.TheVariants as phase
-use Rattle.port_state.specs.declared.states.NodeState.{NodeState}
-use Rattle.port_state.specs.Coins.{coin}
-use Rattle.port_state.specs.Ports.{is_idle, is_child, is_port, is_connected}
-use Rattle.port_state.specs.Tick.{tick}
-use Rattle.port_state.specs.Machine.{PortNode}
-use Rattle.cable_world.specs.World.{CableWorld}
-use Rattle.cable_world.specs.Agreement.{level_sent, level_shown, leads_down}
-use Rattle.cable_world.specs.Phases.{is_before_tree, is_shaking}
-use Rattle.cable_world.proofs.Lemmas.{after-delay, cable-connected, some-same, no-quiet, quiet-then, after-cabling}
-use Rattle.cable_world.specs.Quiet.{HoldSchedule, holds_after, quiet_after}
-use Rattle.convergence.specs.Acyclic.{IsChildCable}
 use Rattle.convergence.proofs.turns.CalmTurns.{Calmly, heard_by}
 use Rattle.convergence.proofs.turns.Flush.{Tells, Shown, flush}
 use Rattle.convergence.proofs.rounds.Grown.{Grown, weight_in, child-cable, below-cable, parent-only, grown-after, cable-after, weight-step, weight-after, calm-at}

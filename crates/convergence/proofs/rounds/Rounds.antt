@@ -2,23 +2,9 @@
 -- taken the other as child.
 use Rattle.std.proofs.Common.{◌≡◌, ◌⊎◌, inl, inr, ℕ, zero, suc, ◌+◌, ◌-◌, ◌*◌, ◌<◌, ◌≤◌, Bool, true, false, List, None, Some, slice_get, sym, ◌∙◌, ap, subst, arith}
 use Rattle.std.specs.Prelude.{min}
-use Rattle.cabling.specs.declared.cable.End.{End}
-use Rattle.cabling.specs.Wiring.{Wiring, far}
-use Rattle.cabling.specs.NodeSet.{Holds}
-use Rattle.port_state.specs.declared.signal.Phase.{Phase}
+use Rattle.convergence.proofs.Common.{End, Wiring, far, Holds, Phase, NodeState, coin, is_parent, is_port, PortNode, CableWorld, wire_of, turn_at, turn, level_sent, level_shown, leads_down, node-after, cabling-after, delay-after, side, side-node, after-delay, cable-connected, some-same, hearing, ticking, NoEntry, no-quiet, quiet-then, PlacedHold, HoldSchedule, holds_after, with_holds, quiet_after, KnowsCoins, IsAhead, AsksAgain, AreRivals, AreJoined}
 use Rattle.port_state.specs.declared.signal.Phase.TheVariants as phase
-use Rattle.port_state.specs.declared.states.NodeState.{NodeState}
-use Rattle.port_state.specs.Coins.{coin}
-use Rattle.port_state.specs.Ports.{is_parent, is_port}
-use Rattle.port_state.specs.Machine.{PortNode}
-use Rattle.cable_world.specs.World.{CableWorld, wire_of}
-use Rattle.cable_world.specs.Turn.{turn_at, turn}
-use Rattle.cable_world.specs.Agreement.{level_sent, level_shown, leads_down}
-use Rattle.cable_world.proofs.Lemmas.{node-after, cabling-after, delay-after, side, side-node, after-delay, cable-connected, some-same, hearing, ticking, NoEntry, no-quiet, quiet-then, quiet-first}
-use Rattle.cable_world.specs.Quiet.{PlacedHold, HoldSchedule, holds_after, with_holds, quiet_after}
-use Rattle.convergence.specs.Coins.{KnowsCoins}
-use Rattle.convergence.specs.Rivals.{IsAhead, AsksAgain, AreRivals}
-use Rattle.convergence.specs.Cables.{AreJoined}
+use Rattle.cable_world.proofs.Lemmas.{quiet-first}
 use Rattle.convergence.proofs.turns.Cables.{joined-held}
 use Rattle.convergence.proofs.turns.CalmTurns.{Calmly, heard_by}
 use Rattle.convergence.proofs.coins.StaysContested.{rivals-of}

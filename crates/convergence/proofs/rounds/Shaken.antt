@@ -4,30 +4,9 @@ use Rattle.std.specs.Prelude.{IsSome}
 use Rattle.std.specs.Int.{bit_at}
 use Rattle.std.proofs.lemmas.Bool.{eqb-true, eq-eqb, and_from, and_parts}
 use Rattle.std.proofs.lemmas.Option.{slice_get_within}
-use Rattle.cabling.specs.declared.cable.End.{End}
-use Rattle.cabling.specs.Wiring.{far}
-use Rattle.cabling.specs.NodeSet.{Holds}
-use Rattle.cabling.proofs.Lemmas.{end_at}
-use Rattle.port_state.specs.declared.signal.Phase.{Phase}
+use Rattle.convergence.proofs.Common.{End, far, Holds, end_at, Phase, NodeState, coin, hears_packets, is_port, tick, FitsPhase, IsValid, PortNode, CableWorld, turn, is_before_tree, is_shaking, leads_down, after-delay, after-length, child-if, cable-connected, some-same, late-roles, no-quiet, quiet-then, HoldSchedule, holds_after, quiet_after, IsChildCable, AreMutual, IsRoot, AreIdentifying}
 use Rattle.port_state.specs.declared.signal.Phase.TheVariants as phase
-use Rattle.port_state.specs.declared.states.NodeState.{NodeState}
-use Rattle.port_state.specs.Coins.{coin}
-use Rattle.port_state.specs.Heard.{hears_packets}
-use Rattle.port_state.specs.Ports.{is_port}
-use Rattle.port_state.specs.Tick.{tick}
-use Rattle.port_state.specs.Valid.{FitsPhase, IsValid}
-use Rattle.port_state.specs.Machine.{PortNode}
-use Rattle.cable_world.specs.World.{CableWorld}
-use Rattle.cable_world.specs.Turn.{turn}
-use Rattle.cable_world.specs.Phases.{is_before_tree, is_shaking}
-use Rattle.cable_world.specs.Agreement.{leads_down}
-use Rattle.cable_world.proofs.Lemmas.{after-delay, after-length, child-if, cable-connected, some-same, late-roles, no-quiet, quiet-then}
 use Rattle.convergence.proofs.turns.Cables.{joined-of}
-use Rattle.cable_world.specs.Quiet.{HoldSchedule, holds_after, quiet_after}
-use Rattle.convergence.specs.Acyclic.{IsChildCable}
-use Rattle.convergence.specs.Drawers.{AreMutual}
-use Rattle.convergence.specs.Roots.{IsRoot}
-use Rattle.convergence.specs.Milestones.{AreIdentifying}
 use Rattle.convergence.proofs.turns.CalmTurns.{Calmly, heard_by}
 use Rattle.convergence.proofs.coins.Drawers.{parent-connected}
 use Rattle.convergence.proofs.sets.Gathered.{count, count-some, count-found}

@@ -6,29 +6,11 @@ use Rattle.std.proofs.Common.{◌≡◌, ◌⊎◌, inl, inr, ℕ, zero, suc, �
 use Rattle.std.specs.Int.{bit_at}
 use Rattle.std.proofs.lemmas.Bool.{eqb-true, eq-eqb, and_from, and_parts}
 use Rattle.std.proofs.lemmas.Option.{slice_get_within}
-use Rattle.port_state.specs.declared.signal.Phase.{Phase}
+use Rattle.convergence.proofs.Common.{Phase, PortView, NodeState, Timing, is_parent, passes, is_connected, is_port, raise_timer, IsValid, PortNode, End, Wiring, far, Holds, IsClosed, HasTwo, IsCore, end_at, CableWorld, wire_of, level_sent, level_shown, shown_or_idle, leads_down, level_sent_at, is_before_tree, is_shaking, is_asking, Coupling, IsLawful, after-delay, after-length, child-if, cable-connected, late-roles, tree_start-known, quiet-then, quiet-lawful, after-cabling, HoldSchedule, holds_after, quiet_after, ResetsAreDone}
 use Rattle.port_state.specs.declared.signal.Phase.TheVariants as phase
-use Rattle.port_state.specs.declared.ports.PortView.{PortView}
-use Rattle.port_state.specs.declared.states.NodeState.{NodeState}
-use Rattle.port_state.specs.declared.timing.Timing.{Timing}
-use Rattle.port_state.specs.Ports.{is_parent, passes, is_connected, is_port}
-use Rattle.port_state.specs.Tick.{raise_timer}
-use Rattle.port_state.specs.Valid.{IsValid}
-use Rattle.port_state.specs.Machine.{PortNode}
-use Rattle.cabling.specs.declared.cable.End.{End}
-use Rattle.cabling.specs.Wiring.{Wiring, far}
-use Rattle.cabling.specs.NodeSet.{Holds, IsWithin, IsEmpty}
-use Rattle.cabling.specs.Component.{IsClosed}
-use Rattle.cabling.specs.Looped.{LeadsInto, HasTwo, IsCore}
-use Rattle.cabling.proofs.Lemmas.{below, weak_or_all, plugged, end_at}
-use Rattle.cable_world.specs.World.{CableWorld, wire_of}
-use Rattle.cable_world.specs.Agreement.{level_sent, level_shown, shown_or_idle, leads_down, level_sent_at}
-use Rattle.cable_world.specs.Phases.{is_before_tree, is_shaking}
-use Rattle.cable_world.specs.Coupling.{is_asking, Coupling}
-use Rattle.cable_world.specs.Lawful.{IsLawful}
-use Rattle.cable_world.proofs.Lemmas.{after-delay, after-length, child-if, cable-connected, late-roles, tree_start-known, quiet-then, quiet-lawful, after-cabling}
-use Rattle.cable_world.specs.Quiet.{HoldSchedule, holds_after, quiet_after}
-use Rattle.convergence.specs.Milestones.{ResetsAreDone}
+use Rattle.cabling.specs.NodeSet.{IsWithin, IsEmpty}
+use Rattle.cabling.specs.Looped.{LeadsInto}
+use Rattle.cabling.proofs.Lemmas.{below, weak_or_all, plugged}
 use Rattle.convergence.proofs.turns.CalmTurns.{heard_by}
 use Rattle.convergence.proofs.turns.BeforeTree.{Left, TwoLeft, undecided-two}
 use Rattle.convergence.proofs.turns.Flush.{Tells, Shown, flush}

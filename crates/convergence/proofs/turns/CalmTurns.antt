@@ -1,19 +1,7 @@
 -- A turn of a world without a node in R0: no node enters a reset, and each comes from where it was.
 use Rattle.std.proofs.Common.{◌≡◌, inl, inr, ℕ, Bool, true, false, List, Some, slice_get, refl, sym, ◌∙◌, ap, arith, true≢false}
-use Rattle.port_state.specs.declared.signal.Signal.{Signal}
-use Rattle.port_state.specs.declared.signal.Phase.{Phase}
-use Rattle.port_state.specs.declared.states.NodeState.{NodeState}
-use Rattle.port_state.specs.Coins.{coin}
-use Rattle.port_state.specs.Heard.{is_resetting}
-use Rattle.port_state.specs.Tick.{tick}
-use Rattle.port_state.specs.Machine.{PortNode}
-use Rattle.cabling.specs.Wiring.{ports_of}
-use Rattle.cable_world.specs.World.{CableWorld}
-use Rattle.cable_world.specs.Turn.{inbox, turn, hear_all}
-use Rattle.cable_world.specs.Phases.{is_before_tree, is_in_bus_reset}
-use Rattle.cable_world.specs.Lawful.{IsLawful}
-use Rattle.cable_world.proofs.Lemmas.{before, hears, ticks, Recent, comes-from, hear-came, NoEntry, HearsWell, TicksWell, turn-state}
-use Rattle.convergence.specs.Milestones.{NoneIn, ResetsAreDone}
+use Rattle.convergence.proofs.Common.{Signal, Phase, NodeState, coin, is_resetting, tick, PortNode, ports_of, CableWorld, inbox, turn, hear_all, is_before_tree, is_in_bus_reset, IsLawful, before, hears, ticks, NoEntry, HearsWell, TicksWell, turn-state, NoneIn, ResetsAreDone}
+use Rattle.cable_world.proofs.Lemmas.{Recent, comes-from, hear-came}
 use Rattle.convergence.proofs.turns.BeforeTree.{was-waiting, was-early}
 
 abbrev pub signals : CableWorld → ℕ → List (ℕ × Signal)

@@ -1,9 +1,7 @@
 -- Facts of phases that several parts use.
 use Rattle.std.proofs.Common.{◌≡◌, true, false, arith}
-use Rattle.port_state.specs.declared.signal.Phase.{Phase}
+use Rattle.convergence.proofs.Common.{Phase, is_resetting, hears_packets, is_before_tree}
 use Rattle.port_state.specs.declared.signal.Phase.TheVariants as phase
-use Rattle.port_state.specs.Heard.{is_resetting, hears_packets}
-use Rattle.cable_world.specs.Phases.{is_before_tree}
 
 pub start-late : (f : Phase) → f ≡ phase.TreeStart → is_before_tree f ≡ false → ⊥
 start-late f a b = grind arith

@@ -1,7 +1,7 @@
 -- The port that a node has for its parent, as a number and as a test.
 use Rattle.std.proofs.Common.{◌≡◌, ◌≢◌, ℕ, Bool, true, false, Option, Some, None, ap, refl, sym, ◌∙◌, eq-eqb, true≢false}
 use Rattle.std.proofs.lemmas.Bool.{eqb-true}
-use Rattle.port_state.specs.Ports.{is_port}
+use Rattle.convergence.proofs.Common.{is_port}
 use Rattle.cable_world.proofs.Lemmas.{port-is}
 
 pub is-port : (o : Option ℕ) (k : ℕ) → o ≡ Some k → is_port o k ≡ true

@@ -2,19 +2,11 @@
 use Rattle.std.proofs.Common.{◌≡◌, ◌⊎◌, inl, inr, ℕ, ◌≤◌, Bool, true, false, not, ◌&&◌, ◌||◌, List, Option, Some, None, is_some, refl, sym, ◌∙◌, ap, subst, true≢false}
 use Rattle.std.proofs.lemmas.Bool.{eqb-true, eq-eqb, or_left, or_right, or_cases, and_from, and_parts}
 use Rattle.port_state.specs.declared.signal.Level.TheVariants as level
-use Rattle.port_state.specs.declared.signal.Phase.{Phase}
+use Rattle.convergence.proofs.Common.{Phase, Signal, NodeState, is_connected, is_port, Row, raise_timer, next_row, does, tick, FitsPhase, IsValid, is_before_tree, level_shown, leads_down, child-if, late-roles, not-both, HearsWell, TicksWell, risen, Chosen, chosen, hear_all}
 use Rattle.port_state.specs.declared.signal.Phase.TheVariants as phase
-use Rattle.port_state.specs.declared.signal.Signal.{Signal}
-use Rattle.port_state.specs.declared.states.NodeState.{NodeState}
-use Rattle.port_state.specs.Ports.{is_connected, is_port}
 use Rattle.port_state.specs.Row as row
-use Rattle.port_state.specs.Row.{Row}
-use Rattle.port_state.specs.Tick.{raise_timer, next_row, does, tick}
-use Rattle.port_state.specs.Valid.{FitsPhase, IsValid}
-use Rattle.cable_world.specs.Phases.{is_before_tree, is_contending}
-use Rattle.cable_world.specs.Agreement.{level_shown, leads_down}
-use Rattle.cable_world.proofs.Lemmas.{child-if, early-childless, late-roles, not-both, EntersReset, HearsWell, TicksWell, risen, Chosen, chosen}
-use Rattle.cable_world.specs.Turn.{hear_all}
+use Rattle.cable_world.specs.Phases.{is_contending}
+use Rattle.cable_world.proofs.Lemmas.{early-childless, EntersReset}
 
 -- ---- before the tree
 

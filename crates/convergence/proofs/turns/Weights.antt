@@ -2,20 +2,11 @@
 -- lighter where it leaves T1.
 use Rattle.std.proofs.Common.{◌≡◌, ◌⊎◌, inl, inr, ℕ, zero, suc, ◌+◌, ◌*◌, ◌<◌, ◌≤◌, Bool, true, false, ◌&&◌, cond, List, [], ◌∷◌, Option, Some, None, is_some, slice_get, refl, sym, ◌∙◌, ap, subst, arith, true≢false, if◌then◌else◌}
 use Rattle.std.proofs.lemmas.Bool.{cases_eq}
-use Rattle.port_state.specs.declared.signal.Level.{Level}
-use Rattle.port_state.specs.declared.signal.Phase.{Phase}
+use Rattle.convergence.proofs.Common.{Level, Phase, PortView, NodeState, hears_packets, is_idle, is_parent, is_child, passes, port_is, every, is_connected, is_port, Row, raise_timer, row_of, does, next_row, tick, is_before_tree, shown_or_idle, level_shown, leads_down, Chosen, chosen}
 use Rattle.port_state.specs.declared.signal.Phase.TheVariants as phase
-use Rattle.port_state.specs.declared.ports.PortView.{PortView}
-use Rattle.port_state.specs.declared.states.NodeState.{NodeState}
-use Rattle.port_state.specs.Heard.{hears_packets}
-use Rattle.port_state.specs.Ports.{is_idle, is_parent, is_child, passes, port_is, every, is_connected, is_port}
 use Rattle.port_state.specs.TreeIdentify.{parent_shake_at}
 use Rattle.port_state.specs.Row as row
-use Rattle.port_state.specs.Row.{Row}
-use Rattle.port_state.specs.Tick.{raise_timer, row_of, does, next_row, tick}
-use Rattle.cable_world.specs.Phases.{is_before_tree}
-use Rattle.cable_world.specs.Agreement.{shown_or_idle, level_shown, leads_down}
-use Rattle.cable_world.proofs.Lemmas.{Chosen, chosen, elsewhere, port-is}
+use Rattle.cable_world.proofs.Lemmas.{elsewhere, port-is}
 use Rattle.convergence.proofs.turns.Moves.{all_idle}
 
 -- ---- weights
