@@ -1,5 +1,6 @@
 -- Names that proofs of this crate take from its specs and from the crates below, passed on from one
 -- place.
+use Rattle.std.proofs.Common.{◌≡◌, Bool, true, false, sym, ◌∙◌, true≢false}
 pub use Rattle.cabling.proofs.Lemmas.{end_at}
 pub use Rattle.cabling.specs.Component.{IsClosed, IsComponent}
 pub use Rattle.cabling.specs.Looped.{HasTwo, IsCore}
@@ -46,3 +47,7 @@ pub use Rattle.convergence.specs.Milestones.{AreIdentifying, LoopsAreReported, N
 pub use Rattle.convergence.specs.Rivals.{AreApart, AreRivals, AsksAgain, Contests, HaveMet, IsAhead, IsContested}
 pub use Rattle.convergence.specs.Roots.{IsRoot}
 pub use Rattle.convergence.specs.Turns.{turns_to_decision, turns_to_done, turns_to_trees}
+
+-- a test that passes and fails gives anything
+pub contrary : {A : Type 0} {b : Bool} → b ≡ true → b ≡ false → A
+contrary e f = absurd (true≢false (sym e ∙ f))

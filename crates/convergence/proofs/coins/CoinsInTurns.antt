@@ -1,7 +1,8 @@
 -- A turn keeps what a node knows of its draws.
-use Rattle.std.proofs.Common.{◌≡◌, ◌⊎◌, inl, inr, ℕ, ◌+◌, ◌*◌, ◌<◌, ◌≤◌, Bool, true, false, List, refl, sym, ◌∙◌, ap, subst, arith, true≢false, if◌then◌else◌}
+use Rattle.std.proofs.Common.{◌≡◌, ◌⊎◌, inl, inr, ℕ, ◌+◌, ◌*◌, ◌<◌, ◌≤◌, Bool, true, false, List, sym, ◌∙◌, ap, subst, arith, if◌then◌else◌}
+use Rattle.std.proofs.lemmas.Bool.{true_from_ne_false}
 use Rattle.std.specs.Prelude.{min, nat_le}
-use Rattle.convergence.proofs.Common.{Phase, Signal, Timing, NodeState, raise_timer, tick, is_before_tree, hear_all, NoEntry, HearsWell, TicksWell, KnowsCoins}
+use Rattle.convergence.proofs.Common.{Phase, Signal, Timing, NodeState, raise_timer, tick, is_before_tree, hear_all, NoEntry, HearsWell, TicksWell, KnowsCoins, contrary}
 use Rattle.port_state.specs.declared.signal.Phase.TheVariants as phase
 use Rattle.port_state.specs.Timing.{InRange}
 use Rattle.convergence.proofs.turns.Moves.{Drew, Fought, tick-draws, tick-contending, tick-fought, tick-late}
@@ -46,14 +47,10 @@ module _
   heard-counts = elim h.cases [ inl s ↦ omega (arith, s.draws, k.counts) | inr c ↦ omega (arith, c.draws) ]
 
   drew-late : Drew coin m n → is_before_tree n.view.phase ≡ true → ⊥
-  drew-late e b = true≢false (sym b ∙ ap is_before_tree e.phase)
+  drew-late e b = contrary b (ap is_before_tree e.phase)
 
   early-before : is_before_tree n.view.phase ≡ true → is_before_tree m.view.phase ≡ true
-  early-before e = go (is_before_tree m.view.phase) refl
-    where
-      go : (b : Bool) → is_before_tree m.view.phase ≡ b → b ≡ true
-      go true a = refl
-      go false a = absurd (true≢false (sym e ∙ tick-late coin m a))
+  early-before e = true_from_ne_false _ (λ a. contrary e (tick-late coin m a))
 
   -- in T3 a node drew, and waits
   record InContend (z : NodeState) : Type 0 where

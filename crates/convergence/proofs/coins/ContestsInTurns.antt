@@ -1,7 +1,7 @@
 -- A turn keeps what two ends of a cable know of coins.
 use Rattle.std.proofs.Common.{◌≡◌, ◌⊎◌, inl, inr, ℕ, ◌+◌, ◌*◌, ◌≤◌, Bool, true, false, not, [], Option, Some, None, refl, sym, ◌∙◌, ap, subst, arith, true≢false, if◌then◌else◌}
-use Rattle.std.proofs.lemmas.Bool.{eq-eqb, and_parts, or_cases}
-use Rattle.convergence.proofs.Common.{Level, Phase, is_idle, is_parent, is_child, is_port, raise_timer, level_sent, level_shown, leads_down, level_after, is_before_tree, is_shaking, signals_of, has_reset, is_asking, child-if, NoEntry, risen, not-both, Side, hearing, ticking, wire_after, late-roles, tree_start-known, heard_shown, AddsDraw, DrewTogether, IsAhead, AsksAgain, Contests, AreRivals}
+use Rattle.std.proofs.lemmas.Bool.{eq-eqb, and_parts, or_cases, false_from_ne_true}
+use Rattle.convergence.proofs.Common.{Level, Phase, is_idle, is_parent, is_child, is_port, raise_timer, level_sent, level_shown, leads_down, level_after, is_before_tree, is_shaking, signals_of, has_reset, is_asking, child-if, NoEntry, risen, not-both, Side, hearing, ticking, wire_after, late-roles, tree_start-known, heard_shown, AddsDraw, DrewTogether, IsAhead, AsksAgain, Contests, AreRivals, contrary}
 use Rattle.port_state.specs.declared.signal.Level.TheVariants as level
 use Rattle.port_state.specs.declared.signal.Phase.TheVariants as phase
 use Rattle.cable_world.specs.Phases.{is_after_hold}
@@ -82,7 +82,7 @@ module _ (d : ℕ) (x y : Side) (r : Rivals d x y) (start : x.node.view.phase �
         | inr b ↦ elim b [
           | inl w ↦ absurd (other-draws-not hy w)
           | inr c ↦ elim c [
-            | inl none ↦ absurd (true≢false (sym (up-mid d y x sw hy (asks-up a)) ∙ ap (λ o. is_port o y.port) none))
+            | inl none ↦ contrary (up-mid d y x sw hy (asks-up a)) (ap (λ o. is_port o y.port) none)
             | inr w ↦ absurd (low-is-child (level_shown (hearing y).state y.port) other-low (accepted-sees d y x sw w (up-mid d y x sw hy (asks-up a))))
           ]
         ]
@@ -242,11 +242,7 @@ module _ (d : ℕ) (x y : Side) (r : Rivals d x y) where
       hx = near_heard d x y r.pair c
 
       late : is_before_tree (ticking y).state.view.phase ≡ false
-      late = go (is_before_tree (ticking y).state.view.phase) refl
-        where
-          go : (b : Bool) → is_before_tree (ticking y).state.view.phase ≡ b → b ≡ false
-          go false e = refl
-          go true e = absurd (omega (arith, some, (after-knows d y x sv).fresh e))
+      late = false_from_ne_true _ (λ e. omega (arith, some, (after-knows d y x sv).fresh e))
 
       hy : NoEntry y.node (hearing y)
       hy = late-heard d y x sv late
@@ -312,14 +308,14 @@ module _ (d : ℕ) (x y : Side) (r : Rivals d x y) where
           }
         where
           none-some : (p : ℕ) → None ≡ Some p → ⊥
-          none-some p e = true≢false (sym (eq-eqb p p refl) ∙ sym (ap (λ o. is_port o p) e))
+          none-some p e = contrary (eq-eqb p p refl) (sym (ap (λ o. is_port o p) e))
 
           root-after :
               x.node.view.parent ≡ None → (o : Option ℕ) → (ticking x).state.view.parent ≡ o →
               o ≡ None
           root-after e None f = refl
           root-after e (Some p) f = elim (parent-was x.coin (hearing x).state p (ap (λ o. is_port o p) f ∙ eq-eqb p p refl)) [
-            | inl u ↦ absurd (true≢false (sym u ∙ ap (λ o. is_port o p) (hx.parent ∙ e)))
+            | inl u ↦ contrary u (ap (λ o. is_port o p) (hx.parent ∙ e))
             | inr s ↦ absurd (start-late x.node.view.phase (sym hx.phase ∙ s) (child-late x.node r.pair.near.valid x.port was))
           ]
 

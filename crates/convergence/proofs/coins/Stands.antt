@@ -1,7 +1,7 @@
 -- Where two rivals stand after a turn.
-use Rattle.std.proofs.Common.{◌≡◌, ◌⊎◌, inl, inr, ℕ, ◌+◌, ◌-◌, ◌*◌, ◌<◌, ◌≤◌, Bool, true, false, [], map, refl, sym, ◌∙◌, ap, subst, arith, true≢false}
+use Rattle.std.proofs.Common.{◌≡◌, ◌⊎◌, inl, inr, ℕ, ◌+◌, ◌-◌, ◌*◌, ◌<◌, ◌≤◌, Bool, true, false, [], map, refl, sym, ◌∙◌, ap, subst, arith}
 use Rattle.std.proofs.lemmas.Bool.{leb-true}
-use Rattle.convergence.proofs.Common.{Level, Phase, NodeState, draws_with, is_port, raise_timer, new_signal, level_sent, level_shown, leads_down, level_after, level_sent_at, is_shaking, signals_of, NoEntry, risen, not-both, Side, hearing, ticking, departures, wire_after, heard_shown, last_coin, AddsDraw, DrewTogether, KnowsCoins, IsAhead, AsksAgain, HaveMet, AreApart, AreRivals}
+use Rattle.convergence.proofs.Common.{Level, Phase, NodeState, draws_with, is_port, raise_timer, new_signal, level_sent, level_shown, leads_down, level_after, level_sent_at, is_shaking, signals_of, NoEntry, risen, not-both, Side, hearing, ticking, departures, wire_after, heard_shown, last_coin, AddsDraw, DrewTogether, KnowsCoins, IsAhead, AsksAgain, HaveMet, AreApart, AreRivals, contrary}
 use Rattle.port_state.specs.declared.signal.Level.TheVariants as level
 use Rattle.port_state.specs.declared.signal.Phase.TheVariants as phase
 use Rattle.cable_world.specs.Phases.{is_timed, slack}
@@ -52,7 +52,7 @@ module _
     | inr a ↦ elim a [
       | inl b ↦ inr b
       | inr b ↦ elim b [
-        | inl none ↦ absurd (true≢false (sym (up-mid d x y r h ux) ∙ ap (λ o. is_port o x.port) none))
+        | inl none ↦ contrary (up-mid d x y r h ux) (ap (λ o. is_port o x.port) none)
         | inr c ↦ absurd (not-both (leads_down y.node.view.ports y.port)
             (sees-child d x y r (up-late d y x (swapped d x y r) uy) (accepted-sees d x y r c (up-mid d x y r h ux))) (not-down d y x (swapped d x y r) uy))
       ]
@@ -462,7 +462,7 @@ module _
         where
           low : (n : ℕ) → n + 1 < d → risen n ≤ d - 1
           low n h = grind (arith, h)
-      go (inr (inl b)) q = absurd (true≢false (sym stays ∙ ap (λ o. is_port o x.port) b.root))
+      go (inr (inl b)) q = contrary stays (ap (λ o. is_port o x.port) b.root)
       go (inr (inr b)) (inl v) =
           let ny : DrewNone y.node (ticking y).state = shook-none d y x s3 uy ux hy hx v in
           let same : DrewTheSame x.node y.node = again b a.how in

@@ -1,6 +1,6 @@
 -- What happens between turns only takes child cables away.
-use Rattle.std.proofs.Common.{◌≡◌, inl, inr, ℕ, true, Some, None, slice_get, sym, ◌∙◌, ap, subst, arith, true≢false}
-use Rattle.convergence.proofs.Common.{End, far, is_port, PortNode, CableWorld, hold, is_before_tree, leads_down, IsLawful, not-both, IsChildCable, IsAcyclic}
+use Rattle.std.proofs.Common.{◌≡◌, inl, inr, ℕ, true, Some, None, slice_get, sym, ap, subst, arith}
+use Rattle.convergence.proofs.Common.{End, far, is_port, PortNode, CableWorld, hold, is_before_tree, leads_down, IsLawful, not-both, IsChildCable, IsAcyclic, contrary}
 use Rattle.port_state.specs.Config.{ConfigPacket}
 use Rattle.port_state.specs.Machine.{node_set_config}
 use Rattle.cable_world.specs.declared.act.Act.{Act}
@@ -20,7 +20,7 @@ happens-no-more : (w v : CableWorld) → Happens w v → NoMore w v
 happens-no-more w v h a b e = elim (h.ends a b e.above e.joined e.above_at) [
   | inl s ↦ absurd (not-both (leads_down e.above.state.view.ports a.port) e.child (not-leading e.above.state a.port s.begun (h.after.nodes a.node e.above e.above_at).valid))
   | inr s ↦ elim (h.nodes b.node e.below e.below_at) [
-    | inl begun ↦ absurd (true≢false (sym e.parent ∙ ap (λ o. is_port o b.port) (early-parentless e.below.state (h.after.nodes b.node e.below e.below_at).valid (ap is_before_tree begun.phase))))
+    | inl begun ↦ contrary e.parent (ap (λ o. is_port o b.port) (early-parentless e.below.state (h.after.nodes b.node e.below e.below_at).valid (ap is_before_tree begun.phase)))
     | inr was ↦ record { joined = s.cable; above = e.above; above_at = s.node; child = e.child; below = e.below; below_at = was; parent = e.parent }
   ]
 ]

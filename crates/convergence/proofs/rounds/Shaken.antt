@@ -4,7 +4,7 @@ use Rattle.std.specs.Prelude.{IsSome}
 use Rattle.std.specs.Int.{bit_at}
 use Rattle.std.proofs.lemmas.Bool.{eqb-true, eq-eqb, and_from, and_parts}
 use Rattle.std.proofs.lemmas.Option.{slice_get_within}
-use Rattle.convergence.proofs.Common.{End, far, Holds, end_at, Phase, NodeState, coin, hears_packets, is_port, tick, FitsPhase, IsValid, PortNode, CableWorld, turn, is_before_tree, is_shaking, leads_down, after-delay, after-length, child-if, cable-connected, some-same, late-roles, no-quiet, quiet-then, HoldSchedule, holds_after, quiet_after, IsChildCable, AreMutual, IsRoot, AreIdentifying}
+use Rattle.convergence.proofs.Common.{End, far, Holds, end_at, Phase, NodeState, coin, hears_packets, is_port, tick, FitsPhase, IsValid, PortNode, CableWorld, turn, is_before_tree, is_shaking, leads_down, after-delay, after-length, child-if, cable-connected, some-same, late-roles, no-quiet, quiet-then, HoldSchedule, holds_after, quiet_after, IsChildCable, AreMutual, IsRoot, AreIdentifying, contrary}
 use Rattle.port_state.specs.declared.signal.Phase.TheVariants as phase
 use Rattle.convergence.proofs.turns.Cables.{joined-of}
 use Rattle.convergence.proofs.turns.CalmTurns.{Calmly, heard_by}
@@ -208,7 +208,7 @@ module _ (w : CableWorld) (set : ℕ) (g : Grown w set) (none : NoneShakes w set
                   let below = below-cable w set g b (end_at k q) e in
                   let same : e.below ≡ p.node = some-same e.below p.node (sym e.below_at ∙ p.at) in
                   elim two [
-                    | inl t ↦ true≢false (sym (ap is_child_shake (below.asks (ap (λ (n : PortNode). is_shaking n.state.view.phase) same ∙ ap is_shaking t)).0) ∙ none b.node e.above in_y e.above_at)
+                    | inl t ↦ contrary (ap is_child_shake (below.asks (ap (λ (n : PortNode). is_shaking n.state.view.phase) same ∙ ap is_shaking t)).0) (none b.node e.above in_y e.above_at)
                     | inr t ↦ below.calm (ap (λ (n : PortNode). n.state.view.phase) same ∙ t)
                   ]
 
@@ -240,7 +240,7 @@ module _ (w : CableWorld) (set : ℕ) (g : Grown w set) (none : NoneShakes w set
 
       contend-some : (o : Option ℕ) → IsSome o → o ≡ None → ⊥
       contend-some None some e = absurd cc
-      contend-some (Some q) some e = true≢false (sym (eq-eqb q q refl) ∙ ap (λ r. is_port r q) e)
+      contend-some (Some q) some e = contrary (eq-eqb q q refl) (ap (λ r. is_port r q) e)
 
       go :
           (c : Calmly w k y.state) → (b : Bool) → hears_packets c.node.state.view.phase ≡ b →
@@ -272,7 +272,7 @@ module _ (w : CableWorld) (set : ℕ) (g : Grown w set) where
       go : (o : Option ℕ) → y.state.view.parent ≡ o → o ≡ None
       go None e = refl
       go (Some p) e = absurd (elim (parent-was (coin c.node.coins) (heard_by w k c.node) p (sym (ap (λ (s : NodeState). is_port s.view.parent p) c.is) ∙ ap (λ o. is_port o p) e ∙ eq-eqb p p refl)) [
-        | inl u ↦ true≢false (sym u ∙ ap (λ o. is_port o p) (c.heard.parent ∙ ap (λ (n : PortNode). n.state.view.parent) (some-same c.node r.node (sym c.at ∙ r.at)) ∙ r.parentless))
+        | inl u ↦ contrary u (ap (λ o. is_port o p) (c.heard.parent ∙ ap (λ (n : PortNode). n.state.view.parent) (some-same c.node r.node (sym c.at ∙ r.at)) ∙ r.parentless))
         | inr s ↦ start-late (heard_by w k c.node).view.phase s (ap is_before_tree c.heard.phase ∙ g.late k c.node h c.at)
       ])
 

@@ -3,7 +3,7 @@
 -- way, so the other end then shows what was told last; and one that doesn't give for d turns has a
 -- signal that is due.
 use Rattle.std.proofs.Common.{◌≡◌, ℕ, zero, suc, ◌+◌, ◌-◌, ◌<◌, ◌≤◌, Bool, true, false, List, [], ◌∷◌, ◌++◌, map, Some, slice_get, if◌then◌else◌, refl, sym, ◌∙◌, ap, subst, arith, add-one, true≢false}
-use Rattle.convergence.proofs.Common.{Level, NodeState, PortNode, End, Wiring, far, ports_of, Travelling, age_wire, gives, new_signal, CableWorld, wire_of, inbox, turn_at, turn, signals_of, level_shown, level_after, level_sent_at, AgesFall, IsLawful, before, hears, ticks, side, side-wire, after-delay, cable-connected, departures, turn-state, comes, holds-signals, one-quiet, quiet-lawful, after-cabling, turn-lawful, PlacedHold, HoldSchedule, with_holds, quiet_after}
+use Rattle.convergence.proofs.Common.{Level, NodeState, PortNode, End, Wiring, far, ports_of, Travelling, age_wire, gives, new_signal, CableWorld, wire_of, inbox, turn_at, turn, signals_of, level_shown, level_after, level_sent_at, AgesFall, IsLawful, before, hears, ticks, side, side-wire, after-delay, cable-connected, departures, turn-state, comes, holds-signals, one-quiet, quiet-lawful, after-cabling, turn-lawful, PlacedHold, HoldSchedule, with_holds, quiet_after, contrary}
 use Rattle.cable_world.specs.Wire.{age_signal}
 use Rattle.convergence.proofs.turns.Cables.{joined-of}
 
@@ -89,7 +89,7 @@ module _
           level_after (level_shown y.state b.port)
           (if g then signals_of (wire_of w a).signals else []) ≡ level_shown z.state b.port →
           FrontSince (n + 1) ((if g then [] else map age_signal (wire_of w a).signals) ++ map new_signal (departures (side w a x)))
-      go y at true s = absurd (true≢false (sym (tell x at_x) ∙ ap test (sym (level y at) ∙ s) ∙ bad))
+      go y at true s = contrary (tell x at_x) (ap test (sym (level y at) ∙ s) ∙ bad)
       go y at false s = front-older n (wire_of w a).signals (map new_signal (departures (side w a x))) (due y at (ap test s ∙ bad))
 
 -- ---- d quiet turns

@@ -4,7 +4,7 @@
 use Rattle.std.proofs.Math.Nat.{mul-le-mul_left}
 use Rattle.std.proofs.Common.{◌≡◌, ◌⊎◌, inl, inr, ℕ, zero, suc, ◌+◌, ◌-◌, ◌*◌, ◌<◌, ◌≤◌, Bool, true, false, ◌&&◌, ◌==◌, List, [], ◌∷◌, Option, Some, None, length, slice_get, refl, sym, ◌∙◌, ap, subst, arith, add-one, true≢false}
 use Rattle.std.specs.Int.{bit_at}
-use Rattle.std.proofs.lemmas.Bool.{eqb-true, eq-eqb, and_from, and_parts, cases_lt}
+use Rattle.std.proofs.lemmas.Bool.{eqb-true, eq-eqb, and_from, and_parts, cases_lt, true_from_ne_false}
 use Rattle.std.proofs.lemmas.Option.{slice_get_within}
 use Rattle.port_state.specs.declared.signal.Level.{Level}
 use Rattle.port_state.specs.declared.signal.Level.TheVariants as level
@@ -371,14 +371,10 @@ module _
       all :
           (k : ℕ) → Holds set k → count (member (i + w.delay)) n ≤ count (member i) n →
           member i k ≡ true
-      all k h same = go (member i k) refl
+      all k h same = true_from_ne_false _ (λ e. in-component w.cabling fresh.node set (λ j. member i j ≡ true) l.well_formed.cabling (shared w.cabling node fresh.node set l.well_formed.cabling comp fresh.holds) start (first-at i (omega (arith, soon))) (closed same) k h (λ f. true≢false (sym f ∙ e)))
         where
           start : fresh.node < length w.cabling
           start = omega (arith, slice_get_within w.nodes fresh.node first.node first.at, l.well_formed.count)
-
-          go : (b : Bool) → member i k ≡ b → b ≡ true
-          go true e = refl
-          go false e = absurd (in-component w.cabling fresh.node set (λ j. member i j ≡ true) l.well_formed.cabling (shared w.cabling node fresh.node set l.well_formed.cabling comp fresh.holds) start (first-at i (omega (arith, soon))) (closed same) k h (λ f. true≢false (sym f ∙ e)))
 
   few : n ≤ 63
   few = omega (arith, l.well_formed.count, l.well_formed.cabling.few_nodes)

@@ -1,6 +1,6 @@
 -- A turn keeps how the two ends of a cable come to self identify.
 use Rattle.std.proofs.Common.{◌≡◌, ◌⊎◌, inl, inr, ℕ, ◌-◌, ◌*◌, ◌≤◌, Bool, true, false, not, ◌&&◌, ◌||◌, List, [], ◌∷◌, ◌++◌, map, refl, sym, ◌∙◌, ap, subst, arith, if◌then◌else◌, true≢false}
-use Rattle.std.proofs.lemmas.Bool.{eq-eqb, and_from, and_parts, or_cases, or_parts}
+use Rattle.std.proofs.lemmas.Bool.{eq-eqb, and_from, and_parts, or_cases, or_parts, false_from_ne_true}
 use Rattle.port_state.specs.declared.signal.Level.{Level}
 use Rattle.port_state.specs.declared.signal.Level.TheVariants as level
 use Rattle.port_state.specs.declared.signal.Phase.{Phase}
@@ -158,11 +158,7 @@ module _
     hears-on h s = ticks-on y.coin (hearing y).state (ap hears_packets s.phase ∙ h)
 
     late : leads_down x.node.view.ports x.port ≡ true → is_resetting x.node.view.phase ≡ false
-    late z = go (is_resetting x.node.view.phase) refl
-      where
-        go : (b : Bool) → is_resetting x.node.view.phase ≡ b → b ≡ false
-        go true e = absurd (not-both (leads_down x.node.view.ports x.port) z (early-childless x.node j.near.valid x.port (start-before_tree x.node.view.phase e)))
-        go false e = refl
+    late z = false_from_ne_true _ (λ e. not-both (leads_down x.node.view.ports x.port) z (early-childless x.node j.near.valid x.port (start-before_tree x.node.view.phase e)))
 
     no-reset :
         leads_down x.node.view.ports x.port ≡ true → NoEntry x.node (hearing x) → NoReset →

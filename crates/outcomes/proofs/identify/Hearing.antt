@@ -1,7 +1,7 @@
 -- A node in self identify or A0 hears a signal: what becomes of its ports and of its cables.
 use Rattle.std.proofs.Common.{◌≡◌, ◌⊎◌, inl, inr, ℕ, Bool, true, false, not, ◌&&◌, ◌==◌, Option, refl, sym, ◌∙◌, ap, arith, true≢false, if◌then◌else◌}
 use Rattle.std.proofs.lemmas.Option.{slice_get_cases}
-use Rattle.std.proofs.lemmas.Bool.{and_parts, and_from}
+use Rattle.std.proofs.lemmas.Bool.{and_parts, and_from, true_from_ne_false}
 use Rattle.port_state.specs.declared.signal.Level.{Level}
 use Rattle.port_state.specs.declared.signal.Level.TheVariants as level
 use Rattle.port_state.specs.declared.signal.Phase.{Phase}
@@ -29,11 +29,7 @@ use Rattle.outcomes.proofs.identify.MarksKept.{hears-late, awaited-one, done-ask
 role-of-parent :
     (parent : Option ℕ) (k : ℕ) (p : PortView) → FitsRole parent k p → is_port parent k ≡ true →
     p.connected ≡ true
-role-of-parent parent k p r u = go p.connected refl
-  where
-    go : (b : Bool) → p.connected ≡ b → b ≡ true
-    go true e = refl
-    go false e = absurd (true≢false (sym u ∙ (r.none e).1))
+role-of-parent parent k p r u = true_from_ne_false _ (λ e. true≢false (sym u ∙ (r.none e).1))
 
 pub identifies : (h : Phase) → hears_packets h ≡ true → is_ready h ≡ false → is_identifying h ≡ true
 identifies h e f = grind arith

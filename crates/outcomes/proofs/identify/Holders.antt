@@ -4,7 +4,7 @@
 -- way down from
 -- the root; at its lower end it is.
 use Rattle.std.proofs.Common.{◌≡◌, ◌≢◌, ◌⊎◌, inl, inr, ℕ, zero, suc, ◌-◌, ◌<◌, ◌≤◌, Bool, true, false, not, ◌&&◌, List, [], Option, Some, None, slice_get, length, refl, sym, ◌∙◌, ap, subst, arith, true≢false}
-use Rattle.std.proofs.lemmas.Bool.{eq-eqb, cases_eq, cases_lt}
+use Rattle.std.proofs.lemmas.Bool.{eq-eqb, cases_eq, cases_lt, false_from_ne_true}
 use Rattle.std.proofs.lemmas.Option.{slice_get_within}
 use Rattle.cabling.specs.declared.cable.End.{End}
 use Rattle.cabling.specs.Wiring.{far}
@@ -136,20 +136,12 @@ module _
     parent-unready :
         (k : ℕ) (x : PortNode) (a : Above k x) → is_ready x.state.view.phase ≡ false →
         is_named a.other.is.state a.other.end.port ≡ false
-    parent-unready k x a u = go (is_named a.other.is.state a.other.end.port) refl
-      where
-        go : (b : Bool) → is_named a.other.is.state a.other.end.port ≡ b → b ≡ false
-        go true e = absurd (true≢false (sym (a.above.line.names e) ∙ u))
-        go false e = refl
+    parent-unready k x a u = false_from_ne_true _ (λ e. true≢false (sym (a.above.line.names e) ∙ u))
 
     above-unready :
         (k : ℕ) (x : PortNode) (a : Above k x) → is_ready x.state.view.phase ≡ false →
         is_ready a.other.is.state.view.phase ≡ false
-    above-unready k x a u = go (is_ready a.other.is.state.view.phase) refl
-      where
-        go : (b : Bool) → is_ready a.other.is.state.view.phase ≡ b → b ≡ false
-        go true e = absurd (true≢false (sym ((i.nodes a.other.end.node a.other.is a.other.at).all_named e a.other.end.port a.above.child) ∙ parent-unready k x a u))
-        go false e = refl
+    above-unready k x a u = false_from_ne_true _ (λ e. true≢false (sym ((i.nodes a.other.end.node a.other.is a.other.at).all_named e a.other.end.port a.above.child) ∙ parent-unready k x a u))
 
     above-falls :
         (c : IsAcyclic w) (k : ℕ) (x : PortNode) → slice_get w.nodes k ≡ Some x → (a : Above k x) →
@@ -440,11 +432,7 @@ module _
     abbrev awaits-active :
         (k p : ℕ) (x : PortNode) → Holds set k → slice_get w.nodes k ≡ Some x →
         is_asked x.state p ≡ true → is_named x.state p ≡ false → Active k
-    awaits-active k p x h at asked unnamed = record { is = x; at = at; inside = h; granted = (i.nodes k x at).asks p asked; unready = go (is_ready x.state.view.phase) refl }
-      where
-        go : (b : Bool) → is_ready x.state.view.phase ≡ b → b ≡ false
-        go true e = absurd (true≢false (sym ((i.nodes k x at).all_named e p ((i.nodes k x at).asked p asked)) ∙ unnamed))
-        go false e = refl
+    awaits-active k p x h at asked unnamed = record { is = x; at = at; inside = h; granted = (i.nodes k x at).asks p asked; unready = false_from_ne_true _ (λ e. true≢false (sym ((i.nodes k x at).all_named e p ((i.nodes k x at).asked p asked)) ∙ unnamed)) }
 
     owner-of : (h : Holder) → Holds set (place h) → IsHolder w h → Owner h
     unfolding Owned
@@ -503,18 +491,18 @@ module _
         let end = same-end v p s.port port d.other s.child.other in
         some-same d.other.is s.to.is (sym d.other.at ∙ ap (λ (e : End). slice_get w.nodes e.node) end ∙ ap (slice_get w.nodes) s.is ∙ s.to.at)
 
+    waits-none : (a n : Bool) → a ≡ true → n ≡ false → (a && not n) ≡ false → ⊥
+    waits-none true false ea en e = true≢false e
+    waits-none true true ea en e = true≢false en
+    waits-none false n ea en e = true≢false (sym ea)
+
     low : (h : Holder) (v : ℕ) (a : Active v) → Owned v a.is h → (c : ℕ) → Step v c → ⊥
     unfolding Owned
     low (grant e) v a o c s = true≢false (sym s.to.granted ∙ ap (λ (z : PortNode). z.state.view.granted) (sym (child-is v c a o.0 o.2 o.3 o.4 s)) ∙ o.5)
     low (done e) v a o c s = true≢false (sym o.5 ∙ ap (λ (z : PortNode). is_ready z.state.view.phase) (child-is v c a o.0 o.1 o.2 o.3 s) ∙ s.to.unready)
     low (node k) v a o c s =
         let same : s.from.is ≡ a.is = some-same s.from.is a.is (sym s.from.at ∙ a.at) in
-        clash (is_asked a.is.state s.port) (is_named a.is.state s.port) (ap (λ (z : PortNode). is_asked z.state s.port) (sym same) ∙ s.asked) (ap (λ (z : PortNode). is_named z.state s.port) (sym same) ∙ s.unnamed) (o.1 s.port)
-      where
-        clash : (a n : Bool) → a ≡ true → n ≡ false → (a && not n) ≡ false → ⊥
-        clash true false ea en e = true≢false e
-        clash true true ea en e = true≢false en
-        clash false n ea en e = true≢false (sym ea)
+        waits-none (is_asked a.is.state s.port) (is_named a.is.state s.port) (ap (λ (z : PortNode). is_asked z.state s.port) (sym same) ∙ s.asked) (ap (λ (z : PortNode). is_named z.state s.port) (sym same) ∙ s.unnamed) (o.1 s.port)
 
     -- an active node has one at most
     child-same :
@@ -527,11 +515,6 @@ module _
         (v : ℕ) (x : PortNode) (p q : ℕ) (c : Child v x p) (d : Child v x q) →
         c.other.end ≡ d.other.end → c.other.is ≡ d.other.is
     node-same v x p q c d e = some-same c.other.is d.other.is (sym c.other.at ∙ ap (λ (z : End). slice_get w.nodes z.node) e ∙ d.other.at)
-
-    waits-none : (a n : Bool) → a ≡ true → n ≡ false → (a && not n) ≡ false → ⊥
-    waits-none true false ea en e = true≢false e
-    waits-none true true ea en e = true≢false en
-    waits-none false n ea en e = true≢false (sym ea)
 
     same-holder :
         (h k : Holder) (v : ℕ) (x : PortNode) → slice_get w.nodes v ≡ Some x → Owned v x h →

@@ -1,7 +1,7 @@
 -- A turn keeps what the two ends of a cable tell each other in self identify.
 use Rattle.std.proofs.Common.{◌≡◌, ◌⊎◌, inl, inr, ℕ, ◌+◌, ◌-◌, ◌*◌, ◌<◌, ◌≤◌, Bool, true, false, not, ◌&&◌, ◌||◌, List, [], ◌++◌, map, length, refl, sym, ◌∙◌, ap, subst, arith, if◌then◌else◌, true≢false}
 use Rattle.std.specs.Prelude.{nat_lt}
-use Rattle.std.proofs.lemmas.Bool.{or_cases, ltb-true, ltb-false}
+use Rattle.std.proofs.lemmas.Bool.{or_cases, ltb-true, ltb-false, false_from_ne_true}
 use Rattle.port_state.specs.declared.signal.Phase.{Phase}
 use Rattle.port_state.specs.declared.signal.Phase.TheVariants as phase
 use Rattle.port_state.specs.declared.signal.Signal.{Signal}
@@ -93,18 +93,10 @@ module _ (d : ℕ) (x y : Side) (t : Told d x y) where
 
   -- no Reset is under way from a node outside R0
   calm : is_resetting x.node.view.phase ≡ false → has_reset (signals_of x.wire) ≡ false
-  calm e = go (has_reset (signals_of x.wire)) refl
-    where
-      go : (b : Bool) → has_reset (signals_of x.wire) ≡ b → b ≡ false
-      go true r = absurd (true≢false (sym (j.coupled.reset r) ∙ e))
-      go false r = refl
+  calm e = false_from_ne_true _ (λ r. true≢false (sym (j.coupled.reset r) ∙ e))
 
   calm-back : is_resetting y.node.view.phase ≡ false → has_reset (signals_of y.wire) ≡ false
-  calm-back e = go (has_reset (signals_of y.wire)) refl
-    where
-      go : (b : Bool) → has_reset (signals_of y.wire) ≡ b → b ≡ false
-      go true r = absurd (true≢false (sym (j.coupled_back.reset r) ∙ e))
-      go false r = refl
+  calm-back e = false_from_ne_true _ (λ r. true≢false (sym (j.coupled_back.reset r) ∙ e))
 
   going : sent_on y.port y.inbox ++ signals_of (leftovers x) ≡ signals_of x.wire
   going = ap (λ ss. ss ++ signals_of (leftovers x)) j.goes ∙ sym (split x)
@@ -370,19 +362,15 @@ module _ (d : ℕ) (x y : Side) (t : Told d x y) where
   child-out :
       leads_down (ticking x).state.view.ports x.port ≡ true → NoEntry x.node (hearing x) →
       is_resetting x.node.view.phase ≡ false
-  child-out c h = go (is_resetting x.node.view.phase) refl
-    where
-      go : (b : Bool) → is_resetting x.node.view.phase ≡ b → b ≡ false
-      go false e = refl
-      go true e =
-          let r : is_resetting (hearing x).state.view.phase ≡ true = ap is_resetting h.phase ∙ e in
-          absurd (elim (j.near.ticks.child x.port (j.near.hears.cables x.port ∙ j.near.connected) c) [
-            | inl z ↦ not-both (leads_down (hearing x).state.view.ports x.port) z (early-childless (hearing x).state j.near.hears.valid x.port (start-before_tree (hearing x).state.view.phase r))
-            | inr o ↦ elim o [
-              | inl z ↦ true≢false (sym r ∙ ap is_resetting z.0)
-              | inr z ↦ true≢false (sym r ∙ ap is_resetting z.0)
-            ]
-          ])
+  child-out c h = false_from_ne_true _ (λ e.
+      let r : is_resetting (hearing x).state.view.phase ≡ true = ap is_resetting h.phase ∙ e in
+      elim (j.near.ticks.child x.port (j.near.hears.cables x.port ∙ j.near.connected) c) [
+        | inl z ↦ not-both (leads_down (hearing x).state.view.ports x.port) z (early-childless (hearing x).state j.near.hears.valid x.port (start-before_tree (hearing x).state.view.phase r))
+        | inr o ↦ elim o [
+          | inl z ↦ true≢false (sym r ∙ ap is_resetting z.0)
+          | inr z ↦ true≢false (sym r ∙ ap is_resetting z.0)
+        ]
+      ])
 
   -- a child that waited before the turn, or came to self identify in it, waits for its grant
   idle-after :

@@ -1,6 +1,6 @@
 -- Hearing keeps what is so of a child cable, at either end of it.
 use Rattle.std.proofs.Common.{◌≡◌, ℕ, ◌+◌, ◌≤◌, length, Bool, true, false, not, ◌&&◌, ◌==◌, List, [], ◌∷◌, ◌++◌, refl, sym, ◌∙◌, ap, subst, append-nil, arith, true≢false, if◌then◌else◌}
-use Rattle.std.proofs.lemmas.Bool.{eq-eqb, eqb-true, eqb-false, and_parts}
+use Rattle.std.proofs.lemmas.Bool.{eq-eqb, eqb-true, eqb-false, and_parts, false_from_ne_true}
 use Rattle.port_state.specs.declared.signal.Level.{Level}
 use Rattle.port_state.specs.declared.signal.Level.TheVariants as level
 use Rattle.port_state.specs.declared.signal.Signal.{Signal}
@@ -34,11 +34,7 @@ pub unheard-level :
     (k : ℕ) (s : Signal) (x : NodeState) → IsValid x → IsMarked x →
     hears_packets x.view.phase ≡ true → allows (mode x k) s ≡ true → is_heard k s x ≡ false →
     is_message s ≡ false
-unheard-level k s x v m h a e = go (is_message s) refl
-  where
-    go : (b : Bool) → is_message s ≡ b → b ≡ false
-    go true t = absurd (true≢false (sym (message-heard k s x v m h (message-port k s x v m h t a) t a) ∙ e))
-    go false t = refl
+unheard-level k s x v m h a e = false_from_ne_true _ (λ t. true≢false (sym (message-heard k s x v m h (message-port k s x v m h t a) t a) ∙ e))
 
 -- ---- above
 

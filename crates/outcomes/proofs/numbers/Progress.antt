@@ -2,7 +2,7 @@
 -- has the turn
 -- asks a child or identifies itself in the next.
 use Rattle.std.proofs.Common.{◌≡◌, ◌⊎◌, inl, inr, ℕ, ◌+◌, ◌<◌, ◌≤◌, Bool, true, false, not, ◌&&◌, ◌||◌, ◌==◌, List, [], ◌∷◌, ◌++◌, map, Option, Some, None, slice_get, refl, sym, ◌∙◌, ap, subst, arith, true≢false, if◌then◌else◌}
-use Rattle.std.proofs.lemmas.Bool.{or_cases, eq-eqb}
+use Rattle.std.proofs.lemmas.Bool.{or_cases, eq-eqb, false_from_ne_true}
 use Rattle.topology_stack.specs.Tree.{Tree}
 use Rattle.cabling.specs.declared.cable.End.{End}
 use Rattle.cabling.specs.Wiring.{far, ports_of}
@@ -327,14 +327,10 @@ module _
       granted = r.granted g
 
       free : (p : ℕ) → lowest is_unnamed y.view.ports ≡ Some p → is_asked y p ≡ false
-      free p low = go (is_asked y p) refl
+      free p low = false_from_ne_true _ (λ e. unnamed-not y.view.ports p (lowest-is is_unnamed y.view.ports p low) (r.named p (named-so (is_asked x.state p) (is_named x.state p) (sym (o.asked p) ∙ e) (waits p))))
         where
           named-so : (a n : Bool) → a ≡ true → (a && not n) ≡ false → n ≡ true
           named-so a n e f = grind arith
-
-          go : (b : Bool) → is_asked y p ≡ b → b ≡ false
-          go false e = refl
-          go true e = absurd (unnamed-not y.view.ports p (lowest-is is_unnamed y.view.ports p low) (r.named p (named-so (is_asked x.state p) (is_named x.state p) (sym (o.asked p) ∙ e) (waits p))))
 
       may : lowest is_unnamed y.view.ports ≡ None → may_name y ≡ true
       may low = room-for w l acyclic i set core root t s k x h at y o.marks.shown

@@ -37,7 +37,7 @@ use Rattle.outcomes.proofs.identify.MarksKept.{hears-late}
 use Rattle.outcomes.proofs.identify.Messages.{silent-grant, silent-done}
 use Rattle.outcomes.proofs.identify.Ports.{child-role}
 use Rattle.port_state.specs.Ports.{is_port}
-use Rattle.std.proofs.lemmas.Bool.{eq-eqb}
+use Rattle.std.proofs.lemmas.Bool.{eq-eqb, true_from_ne_false}
 use Rattle.outcomes.proofs.numbers.NumberedTurn.{stayed}
 use Rattle.outcomes.proofs.numbers.Progress.{node-rises, Old, old-grant, old-done, grant-old, done-old, none-older, moves, turn-used}
 use Rattle.outcomes.proofs.numbers.Settling.{Up, up-or-root, climbs}
@@ -213,7 +213,7 @@ module _
   pub all-ready :
       is_ready s.is_root.node.state.view.phase ≡ true → (k : ℕ) (x : PortNode) → Holds set k →
       slice_get w.nodes k ≡ Some x → is_ready x.state.view.phase ≡ true
-  all-ready r k x h at = go (is_ready x.state.view.phase) refl
+  all-ready r k x h at = true_from_ne_false _ (λ e. true≢false (sym r ∙ climbs w l acyclic i set root s.component s.inside s.is_root s.all (λ j y. is_ready y.state.view.phase ≡ false) above (acyclic.most - acyclic.rank k) k x (omega arith) h at e))
     where
       above :
           (j : ℕ) (y : PortNode) (u : Up-of j y) → Holds set j → slice_get w.nodes j ≡ Some y →
@@ -223,10 +223,6 @@ module _
           by : (b : Bool) → is_ready u.is.state.view.phase ≡ b → b ≡ false
           by false f = refl
           by true f = absurd (true≢false (sym (u.above.line.names ((i.nodes u.end.node u.is u.at).all_named f u.end.port u.above.child)) ∙ e))
-
-      go : (b : Bool) → is_ready x.state.view.phase ≡ b → b ≡ true
-      go true e = refl
-      go false e = absurd (true≢false (sym r ∙ climbs w l acyclic i set root s.component s.inside s.is_root s.all (λ j y. is_ready y.state.view.phase ≡ false) above (acyclic.most - acyclic.rank k) k x (omega arith) h at e))
 
 -- holds change nothing of it
 gains-held :

@@ -1,6 +1,6 @@
 -- A component that identifies itself begins with empty lists, and goes on by its walk.
 use Rattle.std.proofs.Common.{◌≡◌, ◌⊎◌, inl, inr, ℕ, zero, suc, ◌-◌, ◌^◌, ◌<◌, ◌≤◌, Bool, true, false, [], Option, Some, None, slice_get, get_or, option_map, refl, sym, ◌∙◌, ap, subst, arith, true≢false}
-use Rattle.std.proofs.lemmas.Bool.{eq-eqb}
+use Rattle.std.proofs.lemmas.Bool.{eq-eqb, false_from_ne_true, true_from_ne_false}
 use Rattle.std.proofs.lemmas.Option.{slice_get-map, get_or_from_slice_get}
 use Rattle.self_id.specs.declared.node.Attrs.{Attrs}
 use Rattle.topology_stack.specs.Tree.{Tree}
@@ -182,11 +182,7 @@ module _
         childless :
             (k : ℕ) (x : PortNode) → Holds set k → slice_get w.nodes k ≡ Some x → (p : ℕ) →
             StandsAt x.state p → (j : ℕ) → j < p → leads_down x.state.view.ports j ≡ false
-        childless k x h at p st j high = go (leads_down x.state.view.ports j) refl
-          where
-            go : (b : Bool) → leads_down x.state.view.ports j ≡ b → b ≡ false
-            go true e = absurd (none-asked-there k j x h at ((i.nodes k x at).named j (st.named j high e)))
-            go false e = refl
+        childless k x h at p st j high = false_from_ne_true _ (λ e. none-asked-there k j x h at ((i.nodes k x at).named j (st.named j high e)))
 
 -- ---- a turn after which all are there, and the root comes in it
 
@@ -353,11 +349,7 @@ module _
       calm false h e f = refl
 
   pub all-below : AreIdentifying w set
-  all-below k x h at = go (hears_packets x.state.view.phase) refl
-    where
-      go : (b : Bool) → hears_packets x.state.view.phase ≡ b → b ≡ true
-      go true e = refl
-      go false e = absurd (all-under w l set over root r comp k h (λ u. true≢false (sym (hears-down u.0 k u.1 h x at) ∙ e)))
+  all-below k x h at = true_from_ne_false _ (λ e. all-under w l set over root r comp k h (λ u. true≢false (sym (hears-down u.0 k u.1 h x at) ∙ e)))
 
 module _
     (w : CableWorld) (l : IsLawful w) (acyclic : IsAcyclic w) (i : IsIdentifying w)
@@ -373,7 +365,7 @@ module _
 
   -- were the root there before, all nodes were
   root-out : hears_packets was.0.state.view.phase ≡ false
-  root-out = go (hears_packets was.0.state.view.phase) refl
+  root-out = false_from_ne_true _ (λ e. not-yet (all-below w l i set root comp inside calm-first (record { node = was.0; at = was.1; late = hears-late was.0.state.view.phase e; parentless = parent e }) e))
     where
       x : PortNode
       x = was.0
@@ -401,10 +393,6 @@ module _
         where
           off-start : {h : Phase} → h ≡ ParentShake → h ≡ ResetStart → ⊥
           off-start a b = let c : ParentShake ≡ ResetStart = sym a ∙ b in absurd cc
-
-      go : (b : Bool) → hears_packets was.0.state.view.phase ≡ b → b ≡ false
-      go false e = refl
-      go true e = absurd (not-yet (all-below w l i set root comp inside calm-first (record { node = was.0; at = was.1; late = hears-late was.0.state.view.phase e; parentless = parent e }) e))
 
   pub settles-first : IsSettling (turn w) set core root t
   settles-first =

@@ -1,7 +1,7 @@
 -- A node in self identify or A0 takes its turn: its list, its ID and what is under way to it go by
 -- the walk.
 use Rattle.std.proofs.Common.{◌≡◌, inl, inr, ℕ, ◌+◌, ◌<◌, ◌≤◌, Bool, true, false, ◌&&◌, ◌==◌, List, [], ◌∷◌, ◌++◌, Some, None, refl, sym, ◌∙◌, ap, subst, arith, true≢false, if◌then◌else◌}
-use Rattle.std.proofs.lemmas.Bool.{eq-eqb, eqb-true, and_parts, cases_lt, cases_eq}
+use Rattle.std.proofs.lemmas.Bool.{eq-eqb, eqb-true, and_parts, cases_lt, cases_eq, false_from_ne_true}
 use Rattle.self_id.specs.Node.{Node}
 use Rattle.self_id.specs.Group.{group, node_count}
 use Rattle.port_state.specs.declared.signal.Level.{Level}
@@ -109,11 +109,7 @@ module _ (n : ℕ) (em : ℕ → List ℕ) (mk : ℕ → ℕ) (c : Node) where
         none :
             (i : ℕ) → (leads_down x.view.ports i ≡ true → is_named x i ≡ true) →
             leads_down x.view.ports i ≡ false
-        none i all = go (leads_down x.view.ports i) refl
-          where
-            go : (b : Bool) → leads_down x.view.ports i ≡ b → b ≡ false
-            go true e = absurd (true≢false (sym (m.asks i (m.named i (all e))) ∙ ungranted))
-            go false e = refl
+        none i all = false_from_ne_true _ (λ e. true≢false (sym (m.asks i (m.named i (all e))) ∙ ungranted))
 
         here :
             (b : Bool) → b ≡ true →
@@ -192,7 +188,9 @@ module _ (n : ℕ) (em : ℕ → List ℕ) (mk : ℕ → ℕ) (c : Node) where
 
         none :
             (p : ℕ) → StandsAt y p → (i : ℕ) → k + 1 ≤ i → i < p → leads_down x.view.ports i ≡ false
-        none p st i low high = go (leads_down x.view.ports i) refl
+        none p st i low high = false_from_ne_true _ (λ e.
+            let now : is_named x i ≡ true = sym (changed-other (λ q. q.named) k i (λ q. record q { named = true }) x.view.ports apart) ∙ st.named i high (child i ∙ e) in
+            true≢false (sym (m.order k i (omega (arith, low)) (m.named i now) d) ∙ was.1))
           where
             apart : (i == k) ≡ false
             apart = other (i == k) refl
@@ -200,12 +198,6 @@ module _ (n : ℕ) (em : ℕ → List ℕ) (mk : ℕ → ℕ) (c : Node) where
                 other : (b : Bool) → (i == k) ≡ b → b ≡ false
                 other true e = let same : i ≡ k = eqb-true i k e in absurd (omega (arith, low, same))
                 other false e = refl
-
-            go : (b : Bool) → leads_down x.view.ports i ≡ b → b ≡ false
-            go false e = refl
-            go true e =
-                let now : is_named x i ≡ true = sym (changed-other (λ q. q.named) k i (λ q. record q { named = true }) x.view.ports apart) ∙ st.named i high (child i ∙ e) in
-                absurd (true≢false (sym (m.order k i (omega (arith, low)) (m.named i now) d) ∙ was.1))
 
         here :
             (b : Bool) → b ≡ true →
@@ -457,11 +449,7 @@ module _ (n : ℕ) (em : ℕ → List ℕ) (mk : ℕ → ℕ) (c : Node) where
         asked i same = changed-here (λ q. q.asked) (λ q. q.child) k i (λ q. record q { asked = true }) x.view.ports (λ q. refl) same (subst (λ (j : ℕ). leads_down x.view.ports j ≡ true) (sym (eqb-true i k same)) here)
 
         apart : (i j : ℕ) → (i ≡ j → ⊥) → (i == j) ≡ false
-        apart i j ne = go (i == j) refl
-          where
-            go : (b : Bool) → (i == j) ≡ b → b ≡ false
-            go true e = absurd (ne (eqb-true i j e))
-            go false e = refl
+        apart i j ne = false_from_ne_true _ (λ e. ne (eqb-true i j e))
 
         late-unasked : (i : ℕ) → k ≤ i → is_asked x i ≡ false
         late-unasked i le = go (is_asked x i) refl
@@ -504,11 +492,7 @@ module _ (n : ℕ) (em : ℕ → List ℕ) (mk : ℕ → ℕ) (c : Node) where
         all = all-named x v (hears-late x.view.phase h) low
 
         unasked : (i : ℕ) → n ≤ i → is_asked x i ≡ false
-        unasked i le = go (is_asked x i) refl
-          where
-            go : (b : Bool) → is_asked x i ≡ b → b ≡ false
-            go false e = refl
-            go true e = absurd (omega (arith, le, r.below i (m.asked i e)))
+        unasked i le = false_from_ne_true _ (λ e. omega (arith, le, r.below i (m.asked i e)))
 
         now : x.list.items ≡ em (mk n)
         now = g.turn gr (ap is_ready e) n (omega arith) (record { named = λ i less d. all i d; unasked = unasked })

@@ -1,6 +1,7 @@
 -- In a component all of whose nodes are in self identify or A0 no Reset is under way, nor was one
 -- in the turn before.
 use Rattle.std.proofs.Common.{◌≡◌, inl, inr, ℕ, Bool, true, false, Some, slice_get, refl, sym, ◌∙◌, ap, true≢false}
+use Rattle.std.proofs.lemmas.Bool.{false_from_ne_true}
 use Rattle.cabling.specs.Wiring.{ports_of}
 use Rattle.cabling.specs.NodeSet.{Holds}
 use Rattle.cabling.specs.Component.{IsClosed}
@@ -40,11 +41,7 @@ module _
   ]
 
   mute : (h : Phase) → is_resetting h ≡ true → hears_packets h ≡ false
-  mute h e = go (hears_packets h) refl
-    where
-      go : (b : Bool) → hears_packets h ≡ b → b ≡ false
-      go false f = refl
-      go true f = absurd (no-packets h e f)
+  mute h e = false_from_ne_true _ (λ f. no-packets h e f)
 
   not-shaking : (h : Phase) → is_resetting h ≡ true → h ≡ ParentShake → ⊥
   not-shaking h e f = true≢false (sym e ∙ ap is_resetting f)

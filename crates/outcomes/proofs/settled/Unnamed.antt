@@ -1,7 +1,7 @@
 -- In a component with a loop no node is granted, so none gets an ID: who is granted was asked by a
 -- node above that is granted too, and so on up to a root, which there isn't.
 use Rattle.std.proofs.Common.{◌≡◌, inl, inr, ℕ, ◌<◌, ◌≤◌, Bool, true, false, is_some, Option, Some, None, length, slice_get, refl, sym, ◌∙◌, ap, arith, true≢false, eq-eqb}
-use Rattle.std.proofs.lemmas.Bool.{cases_lt}
+use Rattle.std.proofs.lemmas.Bool.{cases_lt, false_from_ne_true}
 use Rattle.std.proofs.lemmas.Option.{slice_get_cases}
 use Rattle.cabling.specs.declared.cable.End.{End}
 use Rattle.cabling.specs.Wiring.{far}
@@ -140,11 +140,7 @@ module _
     none-granted :
         (k : ℕ) (x : PortNode) → Holds set k → slice_get w.nodes k ≡ Some x →
         x.state.view.granted ≡ false
-    none-granted k x h at = go x.state.view.granted refl
-      where
-        go : (b : Bool) → x.state.view.granted ≡ b → b ≡ false
-        go false e = refl
-        go true e = absurd (none-rises-on w acyclic (GrantedIn w set) rises k (record { inside = h; node = x; at = at; granted = e }))
+    none-granted k x h at = false_from_ne_true _ (λ e. none-rises-on w acyclic (GrantedIn w set) rises k (record { inside = h; node = x; at = at; granted = e }))
 
     pub none-named :
         (k : ℕ) (x : PortNode) → Holds set k → slice_get w.nodes k ≡ Some x →
@@ -152,11 +148,7 @@ module _
     none-named k x h at = unnamed x.state.view.id ((i.nodes k x at).id ∙ unready)
       where
         unready : is_ready x.state.view.phase ≡ false
-        unready = go (is_ready x.state.view.phase) refl
-          where
-            go : (b : Bool) → is_ready x.state.view.phase ≡ b → b ≡ false
-            go false e = refl
-            go true e = absurd (true≢false (sym ((i.nodes k x at).ready e) ∙ none-granted k x h at))
+        unready = false_from_ne_true _ (λ e. true≢false (sym ((i.nodes k x at).ready e) ∙ none-granted k x h at))
 
         unnamed : (o : Option ℕ) → is_some o ≡ false → o ≡ None
         unnamed None e = refl
