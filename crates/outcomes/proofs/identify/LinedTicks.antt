@@ -3,29 +3,14 @@ use Rattle.std.proofs.Common.{◌≡◌, ◌⊎◌, inl, inr, ℕ, ◌+◌, ◌�
 use Rattle.std.specs.Prelude.{nat_le}
 use Rattle.std.proofs.lemmas.Bool.{eqb-true, and_parts, leb-true}
 use Rattle.std.proofs.lemmas.List.{append_assoc}
-use Rattle.port_state.specs.declared.signal.Phase.{Phase}
-use Rattle.port_state.specs.declared.signal.Phase.TheVariants.{ParentShake, SelfIdent}
-use Rattle.port_state.specs.declared.signal.Signal.{Signal}
+use Rattle.outcomes.proofs.Common.{contrary, Phase, ParentShake, SelfIdent, Signal, NodeState, is_unnamed, asks, is_remaining, port_is, is_connected, is_port, lowest, sent_on, packet, with_port, hears_packets, may_name, own_group, node_count, Row, raise_timer, does, next_row, tick, IsValid, valid-raise_timer, on_every-port, sent_on-append, port_is-changed, leads_down, only, Chosen, chosen, is_ready, is_asked, is_named, IsMarked, is_message, silent, quads_in, kept, Mode, parent_mode, child_mode, mode_of, mode, fits, Line, Lined}
 use Rattle.port_state.specs.declared.signal.Signal.TheVariants as signal
-use Rattle.port_state.specs.declared.states.NodeState.{NodeState}
-use Rattle.port_state.specs.Ports.{is_unnamed, asks, is_remaining, is_child, port_is, is_connected, is_port, lowest}
-use Rattle.port_state.specs.Sends.{sent_on, packets_on_every, packet, on_port}
-use Rattle.port_state.specs.Entry.{with_port}
-use Rattle.port_state.specs.Heard.{hears_packets}
-use Rattle.port_state.specs.SelfIdentify.{may_name}
-use Rattle.port_state.specs.Group.{own_group}
-use Rattle.self_id.specs.Group.{node_count}
+use Rattle.port_state.specs.Ports.{is_child}
+use Rattle.port_state.specs.Sends.{packets_on_every, on_port}
 use Rattle.port_state.specs.Row as row
-use Rattle.port_state.specs.Row.{Row}
-use Rattle.port_state.specs.Tick.{raise_timer, does, next_row, tick}
-use Rattle.port_state.specs.Valid.{IsValid}
-use Rattle.port_state.proofs.Lemmas.{valid-raise_timer, sound-tick, on_every-port, notices-port, packets-port, sent_on-append, port_is-changed}
-use Rattle.cable_world.specs.Agreement.{leads_down}
-use Rattle.cable_world.proofs.Lemmas.{only, turned, Chosen, chosen}
-use Rattle.outcomes.specs.NodeMarks.{is_ready, is_asked, is_named, IsMarked}
-use Rattle.outcomes.specs.Messages.{is_message, silent, quads_in, kept, Mode, parent_mode, child_mode, mode_of, mode, fits}
+use Rattle.port_state.proofs.Lemmas.{sound-tick, notices-port, packets-port}
+use Rattle.cable_world.proofs.Lemmas.{turned}
 use Rattle.outcomes.specs.Messages as mode
-use Rattle.outcomes.specs.Identify.{Line, Lined}
 use Rattle.outcomes.proofs.identify.Messages.{silent-append, silent-quads, silent-fits, shut-silent, kept-room}
 use Rattle.outcomes.proofs.identify.Lines.{asks-down, sends-all-down, sends-all-up, done-up}
 use Rattle.outcomes.proofs.identify.Ports.{changed-other, changed-here, lowest-is, child-role, is-unnamed}
@@ -36,7 +21,7 @@ use Rattle.outcomes.proofs.identify.LinedHears.{Waiting}
 -- ---- rows of other phases
 
 pub off : {f g : Phase} → f ≡ g → hears_packets g ≡ false → hears_packets f ≡ true → ⊥
-off e out h = true≢false (sym h ∙ ap hears_packets e ∙ out)
+off e out h = contrary h (ap hears_packets e ∙ out)
 
 -- ---- what naming sends
 
@@ -154,7 +139,7 @@ module _
   below-asks port d = go (port == q) refl
     where
       go : (b : Bool) → (port == q) ≡ b → Lined x p there y (back ++ only b signal.Grant)
-      go true e = absurd (true≢false (sym i ∙ ap (is_port y.view.parent) (sym (eqb-true port q e)) ∙ (child-role y port v (hears-late y.view.phase h) d).0))
+      go true e = contrary i (ap (is_port y.view.parent) (sym (eqb-true port q e)) ∙ (child-role y port v (hears-late y.view.phase h) d).0)
       go false e = below-same
 
   below-names :
@@ -213,8 +198,8 @@ waits-does coin (row.finds_parent k) y q back there h c g w = absurd (off c.0 re
 waits-does coin (row.begins_contention k) y q back there h c g w = absurd (off c.0 refl h)
 waits-does coin (row.takes_rival k) y q back there h c g w = absurd (off c.0 refl h)
 waits-does coin (row.asks_again k) y q back there h c g w = absurd (off c.0 refl h)
-waits-does coin (row.asks_child k) y q back there h c g w = absurd (true≢false (sym g.0 ∙ w.ungranted))
-waits-does coin row.names_itself y q back there h c g w = absurd (true≢false (sym g.0 ∙ w.ungranted))
+waits-does coin (row.asks_child k) y q back there h c g w = contrary g.0 w.ungranted
+waits-does coin row.names_itself y q back there h c g w = contrary g.0 w.ungranted
 
 pub waits-ticks :
     (coin : Bool) (y : NodeState) (q : ℕ) (back there : List Signal) →
@@ -318,7 +303,7 @@ module _
       go true false true a n er eb ea en f = shut-silent ss f
       go false r b true true er eb ea en f = shut-silent ss f
       go false r b false n er eb ea en f = shut-silent ss f
-      go false r b true false er eb ea en f = absurd (true≢false (sym (all-named x v (hears-late x.view.phase h) low j (m.asked j ea)) ∙ en))
+      go false r b true false er eb ea en f = contrary (all-named x v (hears-late x.view.phase h) low j (m.asked j ea)) en
 
   room-does :
       (coin : Bool) (r : Row) → Chosen r x → Goes r x →
@@ -394,14 +379,14 @@ unfolding tick
 arrives coin x h n = go (next_row x) (chosen x.view.phase (raise_timer x) refl) n
   where
     on : {g : Phase} → x.view.phase ≡ g → hears_packets g ≡ true → ⊥
-    on e t = true≢false (sym t ∙ ap hears_packets (sym e) ∙ h)
+    on e t = contrary t (ap hears_packets (sym e) ∙ h)
 
     go :
         (r : Row) → Chosen r (raise_timer x) →
         hears_packets (does coin r (raise_timer x)).state.view.phase ≡ true →
         Arrives x (does coin r (raise_timer x)).state
-    go row.none c n = absurd (true≢false (sym n ∙ h))
-    go row.times_out c n = absurd (true≢false (sym n ∙ h))
+    go row.none c n = contrary n h
+    go row.times_out c n = contrary n h
     go row.ends_reset c n = absurd (true≢false (sym n))
     go row.begins_tree c n = absurd (true≢false (sym n))
     go row.takes_roles c n = absurd (true≢false (sym n))
@@ -430,7 +415,7 @@ unfolding tick
 tick-silent coin x k h = go (next_row x) (chosen x.view.phase (raise_timer x) refl)
   where
     on : {g : Phase} → x.view.phase ≡ g → hears_packets g ≡ true → ⊥
-    on e t = true≢false (sym t ∙ ap hears_packets (sym e) ∙ h)
+    on e t = contrary t (ap hears_packets (sym e) ∙ h)
 
     notice :
         (a l : Bool) →

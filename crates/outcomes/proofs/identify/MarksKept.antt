@@ -2,30 +2,15 @@
 use Rattle.std.proofs.Common.{◌≡◌, ◌⊎◌, inl, inr, ℕ, ◌<◌, Bool, true, false, not, ◌&&◌, ◌==◌, map, Option, Some, None, slice_get, is_some, refl, sym, ◌∙◌, ap, subst, arith, true≢false, if◌then◌else◌}
 use Rattle.std.specs.Option.{option_map}
 use Rattle.std.proofs.lemmas.Bool.{eqb-true, eqb-false, and_parts}
-use Rattle.port_state.specs.declared.signal.Level.{Level}
+use Rattle.outcomes.proofs.Common.{contrary, Level, Phase, ResetStart, ParentShake, SelfIdent, Ready, Signal, PortView, NodeState, is_unnamed, passes, port_is, is_connected, is_port, lowest, change_port, silent_step, enter, with_port, is_resetting, is_identifying, hears_packets, with_level, hears, is_heard, on_signal, may_name, granted_row, Row, raise_timer, row_of, does, next_row, tick, IsValid, valid-raise_timer, port_is-changed, is_before_tree, leads_down, Chosen, chosen, is_ready, is_asked, is_named, IsMarked, parent_mode, child_mode, mode_of, mode, allows}
 use Rattle.port_state.specs.declared.signal.Level.TheVariants as level
-use Rattle.port_state.specs.declared.signal.Phase.{Phase}
-use Rattle.port_state.specs.declared.signal.Phase.TheVariants.{ResetStart, ResetWait, TreeStart, ChildShake, ParentShake, Contend, SelfIdent, Ready}
-use Rattle.port_state.specs.declared.signal.Signal.{Signal}
+use Rattle.port_state.specs.declared.signal.Phase.TheVariants.{ResetWait, TreeStart, ChildShake, Contend}
 use Rattle.port_state.specs.declared.signal.Signal.TheVariants as signal
-use Rattle.port_state.specs.declared.ports.PortView.{PortView}
-use Rattle.port_state.specs.declared.states.NodeState.{NodeState}
-use Rattle.port_state.specs.Ports.{is_unnamed, passes, port_is, is_connected, is_port, lowest, change_port}
-use Rattle.port_state.specs.Step.{silent_step}
-use Rattle.port_state.specs.Entry.{enter, with_port, without_marks}
-use Rattle.port_state.specs.Heard.{is_resetting, is_identifying, hears_packets, with_level, hears, is_heard, on_signal}
-use Rattle.port_state.specs.SelfIdentify.{may_name, granted_row}
+use Rattle.port_state.specs.Entry.{without_marks}
 use Rattle.port_state.specs.TreeIdentify as tree
 use Rattle.port_state.specs.Row as row
-use Rattle.port_state.specs.Row.{Row}
-use Rattle.port_state.specs.Tick.{raise_timer, row_of, does, next_row, tick}
-use Rattle.port_state.specs.Valid.{IsValid}
-use Rattle.port_state.proofs.Lemmas.{valid-raise_timer, map-port, port_is-changed, port_is-map}
-use Rattle.cable_world.specs.Phases.{is_before_tree}
-use Rattle.cable_world.specs.Agreement.{leads_down}
-use Rattle.cable_world.proofs.Lemmas.{choose, none-some, Chosen, chosen}
-use Rattle.outcomes.specs.NodeMarks.{is_ready, is_asked, is_named, IsMarked}
-use Rattle.outcomes.specs.Messages.{parent_mode, child_mode, mode_of, mode, allows}
+use Rattle.port_state.proofs.Lemmas.{map-port, port_is-map}
+use Rattle.cable_world.proofs.Lemmas.{choose, none-some}
 use Rattle.outcomes.proofs.identify.Ports.{changed-other, changed-here, changed-was, none-lowest, lowest-first, lowest-is, child-role, not-unnamed, is-unnamed}
 
 -- ---- phases
@@ -57,8 +42,8 @@ awaited-one x m j k ne a n = go (is_asked x k) (is_named x k) refl refl
     go false c e f = refl
     go true true e f = refl
     go true false e f = elim (apart j k (eqb-false j k ne)) [
-      | inl l ↦ absurd (true≢false (sym (m.order j k l e (m.asked j a)) ∙ n))
-      | inr l ↦ absurd (true≢false (sym (m.order k j l a (m.asked k e)) ∙ f))
+      | inl l ↦ contrary (m.order j k l e (m.asked j a)) n
+      | inr l ↦ contrary (m.order k j l a (m.asked k e)) f
     ]
 
 pub one-awaited :
@@ -99,7 +84,7 @@ same-marked x y ph i g p l c a n m = record {
 pub none-asked :
     (x : NodeState) → IsMarked x → hears_packets x.view.phase ≡ false → (k : ℕ) →
     is_asked x k ≡ true → ⊥
-none-asked x m h k a = true≢false (sym (m.granted (m.asks k a)) ∙ h)
+none-asked x m h k a = contrary (m.granted (m.asks k a)) h
 
 -- a node before self identify goes on
 from-early :
@@ -112,8 +97,8 @@ from-early x y m h r i l a n g o =
     record {
       id = ap is_some i ∙ m.id ∙ unready x.view.phase h ∙ sym r;
       granted = g;
-      ready = λ e. absurd (true≢false (sym e ∙ r));
-      all_named = λ e. absurd (true≢false (sym e ∙ r));
+      ready = λ e. contrary e r;
+      all_named = λ e. contrary e r;
       root = o;
       unheard = λ e. l ∙ m.unheard h;
       named = λ k e. absurd (none-asked x m h k (m.named k (sym (n k) ∙ e)));
@@ -131,7 +116,7 @@ clear x t h k e = go (slice_get x.view.ports k) (sym (ap (passes t) (map-port k 
   where
     go : (o : Option PortView) → passes t (option_map without_marks o) ≡ true → ⊥
     go None e = true≢false (sym e)
-    go (Some p) e = true≢false (sym e ∙ h p)
+    go (Some p) e = contrary e (h p)
 
 pub enter-marked : (caused : Bool) (x : NodeState) → IsMarked (enter caused x).state
 unfolding enter
@@ -208,7 +193,7 @@ hears-marked n (signal.Packet quad) x v m e h =
       ready = m.ready;
       all_named = m.all_named;
       root = m.root;
-      unheard = λ o. absurd (true≢false (sym b.1 ∙ o));
+      unheard = λ o. contrary b.1 o;
       named = m.named;
       asked = m.asked;
       asks = m.asks;

@@ -4,44 +4,12 @@ use Rattle.std.proofs.Common.{◌≡◌, ◌⊎◌, inl, inr, ℕ, ◌+◌, ◌<
 use Rattle.std.proofs.lemmas.List.{append_assoc}
 use Rattle.std.proofs.lemmas.Bool.{or_cases, and_parts}
 use Rattle.std.proofs.lemmas.Option.{slice_get_within}
-use Rattle.self_id.specs.Node.{Node}
-use Rattle.self_id.specs.Group.{group, node_count}
-use Rattle.topology_stack.specs.Tree.{Tree}
-use Rattle.cabling.specs.declared.cable.End.{End}
-use Rattle.cabling.specs.Wiring.{Wiring, far, ports_of}
-use Rattle.cabling.specs.NodeSet.{Holds}
-use Rattle.cabling.specs.Component.{IsClosed}
-use Rattle.cabling.specs.Sees.{numbers}
-use Rattle.outcomes.specs.WalkMarks.{mark, place}
-use Rattle.outcomes.specs.Emit.{emit}
-use Rattle.port_state.specs.declared.signal.Phase.{Phase}
+use Rattle.outcomes.proofs.Common.{contrary, Node, group, node_count, Tree, End, Wiring, far, ports_of, Holds, IsClosed, numbers, mark, place, emit, Phase, Signal, NodeState, coin, is_connected, is_port, sent_on, is_resetting, hears_packets, shown_attrs, shown_node, PortNode, Row, raise_timer, row_of, does, next_row, tick, age_wire, gives, age_signal, CableWorld, wire_of, inbox, turn_at, turn, hear_all, signals_of, has_reset, IsLawful, cabling-after, node-after, some-same, Chosen, chosen, side, side-wire, before, turn-state, comes, hearing, ticking, arrivals, leftovers, departures, after_signals, no-packets, joined-of, IsChildCable, is_ready, is_asked, is_named, is_message, silent, quads_in, is_grant, is_done, has_grant, has_done, Mode, parent_mode, child_mode, mode_of, mode, allows, next, fits, Lined, IsIdentifying, place_now, RootWalk, IsNumbered, AreIdentifying}
 use Rattle.port_state.specs.declared.signal.Phase.TheVariants as phase
-use Rattle.port_state.specs.declared.signal.Signal.{Signal}
-use Rattle.port_state.specs.declared.states.NodeState.{NodeState}
-use Rattle.port_state.specs.Coins.{coin}
-use Rattle.port_state.specs.Ports.{is_connected, is_port}
-use Rattle.port_state.specs.Sends.{sent_on}
-use Rattle.port_state.specs.Heard.{is_resetting, hears_packets}
-use Rattle.port_state.specs.Group.{shown_attrs, shown_node}
-use Rattle.port_state.specs.Machine.{PortNode}
 use Rattle.port_state.specs.Row as row
-use Rattle.port_state.specs.Row.{Row}
-use Rattle.port_state.specs.Tick.{raise_timer, row_of, does, next_row, tick}
-use Rattle.cable_world.specs.Wire.{age_wire, gives, age_signal}
-use Rattle.cable_world.specs.World.{CableWorld, wire_of}
-use Rattle.cable_world.specs.Turn.{signals_from, inbox, turn_at, turn, hear_all}
-use Rattle.cable_world.specs.Signals.{signals_of, has_reset}
-use Rattle.cable_world.specs.Lawful.{IsLawful}
-use Rattle.cable_world.proofs.Lemmas.{cabling-after, node-after, some-same, Chosen, chosen, side, side-wire, hears, before, hear-came, inbox-at, turn-state, comes, port-there, hearing, ticking, arrivals, leftovers, departures, after_signals, no-packets}
-use Rattle.convergence.proofs.Lemmas.{joined-of}
-use Rattle.convergence.specs.Acyclic.{IsChildCable}
-use Rattle.outcomes.specs.NodeMarks.{is_ready, is_asked, is_named}
-use Rattle.outcomes.specs.Messages.{is_message, silent, quads_in, is_grant, is_done, has_grant, has_done, Mode, parent_mode, child_mode, mode_of, mode, allows, next, fits}
+use Rattle.cable_world.specs.Turn.{signals_from}
+use Rattle.cable_world.proofs.Lemmas.{hears, hear-came, inbox-at, port-there}
 use Rattle.outcomes.specs.Messages as message
-use Rattle.outcomes.specs.Identify.{Lined, IsIdentifying}
-use Rattle.outcomes.specs.RootWalk.{place_now, RootWalk}
-use Rattle.outcomes.specs.Numbered.{IsNumbered}
-use Rattle.convergence.specs.Milestones.{AreIdentifying}
 use Rattle.outcomes.proofs.identify.Messages.{quads-append, silent-quads, shut-silent}
 use Rattle.outcomes.proofs.identify.OneMessage.{no-grant, no-done, child-grants-none, parent-says-none, end-of, two-parts}
 use Rattle.outcomes.proofs.identify.IdentifiesTurn.{Told}
@@ -378,7 +346,7 @@ module _
           owed line = record {
             fitting = as-parent x.state a.port (there ++ now) r.parent line.fits_down;
             grant = λ f. granted line f (has_grant there) refl;
-            done = λ f. absurd (true≢false (sym f ∙ no-done (parent_mode (is_ready x.state.view.phase) x.state.view.granted) (there ++ now) (parent-says-none (is_ready x.state.view.phase) x.state.view.granted) line.fits_down));
+            done = λ f. contrary f (no-done (parent_mode (is_ready x.state.view.phase) x.state.view.granted) (there ++ now) (parent-says-none (is_ready x.state.view.phase) x.state.view.granted) line.fits_down);
           }
 
       -- or a child
@@ -410,7 +378,7 @@ module _
               (ticking (side w b y)).state (there ++ now) → Owed a.node a.port x (there ++ now)
           owed line = record {
             fitting = as-child x.state a.port (there ++ now) (child-role x.state a.port (l.well_formed.nodes a.node x at_x).valid (hears-late x.state.view.phase (all a.node x h at_x)) r.child).0 line.fits_up;
-            grant = λ f. absurd (true≢false (sym f ∙ no-grant (child_mode (is_asked x.state a.port) (is_named x.state a.port)) (there ++ now) (child-grants-none (is_asked x.state a.port) (is_named x.state a.port)) line.fits_up));
+            grant = λ f. contrary f (no-grant (child_mode (is_asked x.state a.port) (is_named x.state a.port)) (there ++ now) (child-grants-none (is_asked x.state a.port) (is_named x.state a.port)) line.fits_up);
             done = λ f. named line f (has_done there) refl;
           }
 

@@ -3,43 +3,13 @@
 -- asks a child or identifies itself in the next.
 use Rattle.std.proofs.Common.{◌≡◌, ◌⊎◌, inl, inr, ℕ, ◌+◌, ◌<◌, ◌≤◌, Bool, true, false, not, ◌&&◌, ◌||◌, ◌==◌, List, [], ◌∷◌, ◌++◌, map, Option, Some, None, slice_get, refl, sym, ◌∙◌, ap, subst, arith, true≢false, if◌then◌else◌}
 use Rattle.std.proofs.lemmas.Bool.{or_cases, eq-eqb, false_from_ne_true}
-use Rattle.topology_stack.specs.Tree.{Tree}
-use Rattle.cabling.specs.declared.cable.End.{End}
-use Rattle.cabling.specs.Wiring.{far, ports_of}
-use Rattle.cabling.specs.NodeSet.{Holds}
+use Rattle.outcomes.proofs.Common.{Tree, End, far, ports_of, Holds, Phase, Signal, PortView, NodeState, coin, is_unnamed, lowest, port_is, passes, change_port, may_name, granted_row, shown_node, mark, emit, with_port, silent_step, hears_packets, hears, is_heard, on_signal, PortNode, Row, raise_timer, row_of, does, next_row, tick, port_is-changed, Travelling, new_signal, age_signal, age_wire, gives, CableWorld, wire_of, inbox, turn_at, turn, hear_all, signals_of, IsLawful, node-after, side, side-wire, hear-stays, some-same, departures, Chosen, chosen, turn-state, no-packets, joined-of, is_ready, is_asked, is_named, silent, is_grant, is_done, has_grant, has_done, IsIdentifying, IsSettling, IsAcyclic}
 use Rattle.port_state.specs.declared.signal.Level.TheVariants as level
-use Rattle.port_state.specs.declared.signal.Phase.{Phase}
 use Rattle.port_state.specs.declared.signal.Phase.TheVariants as phase
-use Rattle.port_state.specs.declared.signal.Signal.{Signal}
 use Rattle.port_state.specs.declared.signal.Signal.TheVariants as signal
-use Rattle.port_state.specs.declared.ports.PortView.{PortView}
-use Rattle.port_state.specs.declared.states.NodeState.{NodeState}
-use Rattle.port_state.specs.Coins.{coin}
-use Rattle.port_state.specs.Ports.{is_unnamed, lowest, port_is, passes, change_port}
-use Rattle.port_state.specs.SelfIdentify.{may_name, granted_row}
-use Rattle.port_state.specs.Group.{shown_node}
-use Rattle.outcomes.specs.WalkMarks.{mark}
-use Rattle.outcomes.specs.Emit.{emit}
-use Rattle.port_state.specs.Entry.{with_port}
-use Rattle.port_state.specs.Step.{silent_step}
-use Rattle.port_state.specs.Heard.{hears_packets, hears, is_heard, on_signal}
-use Rattle.port_state.specs.Machine.{PortNode}
 use Rattle.port_state.specs.Row as row
-use Rattle.port_state.specs.Row.{Row}
-use Rattle.port_state.specs.Tick.{raise_timer, row_of, does, next_row, tick}
-use Rattle.port_state.proofs.Lemmas.{port_is-changed}
-use Rattle.cable_world.specs.declared.wire.Travelling.{Travelling}
-use Rattle.cable_world.specs.Wire.{new_signal, age_signal, age_wire, gives}
-use Rattle.cable_world.specs.World.{CableWorld, wire_of}
-use Rattle.cable_world.specs.Turn.{inbox, turn_at, turn, hear_all}
-use Rattle.cable_world.specs.Signals.{signals_of}
-use Rattle.cable_world.specs.Lawful.{IsLawful, AgesFall}
-use Rattle.cable_world.proofs.Lemmas.{node-after, side, side-wire, hear-stays, some-same, departures, signals-sent, Chosen, chosen, turn-state, no-packets}
-use Rattle.convergence.proofs.Lemmas.{joined-of}
-use Rattle.outcomes.specs.NodeMarks.{is_ready, is_asked, is_named}
-use Rattle.outcomes.specs.Messages.{silent, is_grant, is_done, has_grant, has_done}
-use Rattle.outcomes.specs.Identify.{IsIdentifying}
-use Rattle.outcomes.specs.Numbered.{IsSettling}
+use Rattle.cable_world.specs.Lawful.{AgesFall}
+use Rattle.cable_world.proofs.Lemmas.{signals-sent}
 use Rattle.outcomes.proofs.identify.Hearing.{signal-stays, reset-heard}
 use Rattle.outcomes.proofs.identify.LinedTicks.{off}
 use Rattle.outcomes.proofs.numbers.NumberedTurn.{still-there, now-silent, heard-so, heard-goes}
@@ -47,7 +17,6 @@ use Rattle.outcomes.proofs.identify.Ports.{changed-here, changed-other, lowest-i
 use Rattle.outcomes.proofs.identify.MarksKept.{hears-late, all-named}
 use Rattle.outcomes.proofs.numbers.AtRest.{room-for}
 use Rattle.outcomes.proofs.numbers.Turning.{Heard-so}
-use Rattle.convergence.specs.Acyclic.{IsAcyclic}
 
 -- ---- what a node that hears and ticks keeps
 

@@ -2,31 +2,11 @@
 -- the walk.
 use Rattle.std.proofs.Common.{◌≡◌, inl, inr, ℕ, ◌+◌, ◌<◌, ◌≤◌, Bool, true, false, ◌&&◌, ◌==◌, List, [], ◌∷◌, ◌++◌, Some, None, refl, sym, ◌∙◌, ap, subst, arith, true≢false, if◌then◌else◌}
 use Rattle.std.proofs.lemmas.Bool.{eq-eqb, eqb-true, and_parts, cases_lt, cases_eq, false_from_ne_true}
-use Rattle.self_id.specs.Node.{Node}
-use Rattle.self_id.specs.Group.{group, node_count}
-use Rattle.port_state.specs.declared.signal.Level.{Level}
+use Rattle.outcomes.proofs.Common.{contrary, Node, group, node_count, Level, SelfIdent, Signal, NodeState, is_port, is_unnamed, lowest, is_connected, with_port, sent_on, silent_step, is_identifying, hears_packets, with_packet, with_level, hears, is_heard, on_signal, shown_node, own_group, Row, raise_timer, does, next_row, tick, IsValid, valid-raise_timer, sound-on_signal, port_is-changed, leads_down, hear-stays, Chosen, chosen, no-packets, hear_all, is_ready, is_asked, is_named, IsMarked, is_message, silent, quads_in, has_grant, has_done, kept, parent_mode, child_mode, mode_of, mode, allows, fits, StandsAt}
 use Rattle.port_state.specs.declared.signal.Level.TheVariants as level
-use Rattle.port_state.specs.declared.signal.Phase.TheVariants.{SelfIdent}
-use Rattle.port_state.specs.declared.signal.Signal.{Signal}
 use Rattle.port_state.specs.declared.signal.Signal.TheVariants as signal
-use Rattle.port_state.specs.declared.states.NodeState.{NodeState}
-use Rattle.port_state.specs.Ports.{is_port, is_unnamed, lowest, is_connected}
-use Rattle.port_state.specs.Entry.{with_port}
-use Rattle.port_state.specs.Sends.{sent_on}
-use Rattle.port_state.specs.Step.{Step, silent_step}
-use Rattle.port_state.specs.Heard.{is_identifying, hears_packets, with_packet, with_level, hears, is_heard, on_signal}
-use Rattle.port_state.specs.Group.{shown_node, own_group}
+use Rattle.port_state.specs.Step.{Step}
 use Rattle.port_state.specs.Row as row
-use Rattle.port_state.specs.Row.{Row}
-use Rattle.port_state.specs.Tick.{raise_timer, does, next_row, tick}
-use Rattle.port_state.specs.Valid.{IsValid}
-use Rattle.port_state.proofs.Lemmas.{valid-raise_timer, sound-on_signal, port_is-changed}
-use Rattle.cable_world.specs.Agreement.{leads_down}
-use Rattle.cable_world.proofs.Lemmas.{hear-stays, Chosen, chosen, no-packets}
-use Rattle.cable_world.specs.Turn.{hear_all}
-use Rattle.outcomes.specs.NodeMarks.{is_ready, is_asked, is_named, IsMarked}
-use Rattle.outcomes.specs.Messages.{is_message, silent, quads_in, has_grant, has_done, kept, parent_mode, child_mode, mode_of, mode, allows, fits}
-use Rattle.outcomes.specs.Numbered.{StandsAt}
 use Rattle.outcomes.proofs.identify.Messages.{shut-silent, silent-quads, silent-grant, silent-done}
 use Rattle.outcomes.proofs.identify.Ports.{changed-other, changed-here, lowest-is, lowest-first, child-role, not-unnamed, is-unnamed}
 use Rattle.outcomes.proofs.identify.MarksKept.{hears-late, done-asked, signal-marked, raised-marked, Goes, goes, all-named}
@@ -109,7 +89,7 @@ module _ (n : ℕ) (em : ℕ → List ℕ) (mk : ℕ → ℕ) (c : Node) where
         none :
             (i : ℕ) → (leads_down x.view.ports i ≡ true → is_named x i ≡ true) →
             leads_down x.view.ports i ≡ false
-        none i all = false_from_ne_true _ (λ e. true≢false (sym (m.asks i (m.named i (all e))) ∙ ungranted))
+        none i all = false_from_ne_true _ (λ e. contrary (m.asks i (m.named i (all e))) ungranted)
 
         here :
             (b : Bool) → b ≡ true →
@@ -154,7 +134,7 @@ module _ (n : ℕ) (em : ℕ → List ℕ) (mk : ℕ → ℕ) (c : Node) where
             (k == j) ≡ b → fits (mode x j) (with b (signal.Packet quad) (pend j)) ≡ true →
             (test (with b (signal.Packet quad) (pend j)) ≡ true → kept x.list.items (quads_in (with b (signal.Packet quad) (pend j))) ≡ end) → (test (pend j) ≡ true → test (signal.Packet quad ∷ pend j) ≡ true) → test (pend j) ≡ true → kept (with_packet quad x.list.items) (quads_in (pend j)) ≡ end
         go test end none j true e f o same t = o (same t)
-        go test end none j false e f o same t = absurd (true≢false (sym t ∙ none (pend j) (others-silent x k j quad (pend j) m e a f)))
+        go test end none j false e f o same t = contrary t (none (pend j) (others-silent x k j quad (pend j) m e a f))
 
     hears-done :
         leads_down x.view.ports k ≡ true → fits (mode x k) (signal.Done ∷ pend k) ≡ true →
@@ -183,14 +163,14 @@ module _ (n : ℕ) (em : ℕ → List ℕ) (mk : ℕ → ℕ) (c : Node) where
         behind : (p : ℕ) → StandsAt y p → k + 1 ≤ p
         behind p st = elim (cases_lt k p) [
           | inl less ↦ omega (arith, less)
-          | inr more ↦ absurd (true≢false (sym was.0 ∙ sym (asked k) ∙ st.unasked k more))
+          | inr more ↦ contrary was.0 (sym (asked k) ∙ st.unasked k more)
         ]
 
         none :
             (p : ℕ) → StandsAt y p → (i : ℕ) → k + 1 ≤ i → i < p → leads_down x.view.ports i ≡ false
         none p st i low high = false_from_ne_true _ (λ e.
             let now : is_named x i ≡ true = sym (changed-other (λ q. q.named) k i (λ q. record q { named = true }) x.view.ports apart) ∙ st.named i high (child i ∙ e) in
-            true≢false (sym (m.order k i (omega (arith, low)) (m.named i now) d) ∙ was.1))
+            contrary (m.order k i (omega (arith, low)) (m.named i now) d) was.1)
           where
             apart : (i == k) ≡ false
             apart = other (i == k) refl
@@ -406,7 +386,7 @@ module _ (n : ℕ) (em : ℕ → List ℕ) (mk : ℕ → ℕ) (c : Node) where
       (add : em (mk n + 1) ≡ em (mk n) ++ group c (mk n)) (count : node_count (em (mk n)) ≡ mk n)
       (g : Goes-on x pend) where
     idle : Ticks-so x x
-    idle = record { asks = λ q a b. absurd (true≢false (sym b ∙ a)); names = λ a b. absurd (true≢false (sym b ∙ a)) }
+    idle = record { asks = λ q a b. contrary b a; names = λ a b. contrary b a }
 
     asks-child :
         (k : ℕ) → x.view.phase ≡ SelfIdent → x.view.granted ≡ true →
@@ -417,8 +397,8 @@ module _ (n : ℕ) (em : ℕ → List ℕ) (mk : ℕ → ℕ) (c : Node) where
       record {
         id = g.id;
         turn = λ gr u p le st. absurd (elim (cases_lt k p) [
-          | inl less ↦ true≢false (sym (m.named k (sym (named k) ∙ st.named k less (child k ∙ here))) ∙ none)
-          | inr more ↦ true≢false (sym (asked k (eq-eqb k k refl)) ∙ st.unasked k more)
+          | inl less ↦ contrary (m.named k (sym (named k) ∙ st.named k less (child k ∙ here))) none
+          | inr more ↦ contrary (asked k (eq-eqb k k refl)) (st.unasked k more)
         ]);
         grant = g.grant;
         done = g.done;
@@ -427,9 +407,9 @@ module _ (n : ℕ) (em : ℕ → List ℕ) (mk : ℕ → ℕ) (c : Node) where
       record {
         asks = λ q a b. elim (cases_eq q k) [
           | inl same ↦ subst (λ (i : ℕ). x.list.items ≡ em (mk i)) (sym same) now
-          | inr ne ↦ absurd (true≢false (sym b ∙ changed-other (λ q. q.asked) k q (λ q. record q { asked = true }) x.view.ports (apart q k ne) ∙ a))
+          | inr ne ↦ contrary b (changed-other (λ q. q.asked) k q (λ q. record q { asked = true }) x.view.ports (apart q k ne) ∙ a)
         ];
-        names = λ a b. absurd (true≢false (sym b ∙ a));
+        names = λ a b. contrary b a;
       },
     )
       where
@@ -457,8 +437,8 @@ module _ (n : ℕ) (em : ℕ → List ℕ) (mk : ℕ → ℕ) (c : Node) where
             go : (b : Bool) → is_asked x i ≡ b → b ≡ false
             go false e = refl
             go true e = absurd (elim (cases_eq i k) [
-              | inl same ↦ true≢false (sym e ∙ ap (is_asked x) same ∙ none)
-              | inr ne ↦ true≢false (sym (m.named k (m.order k i (omega (arith, le, ne)) e here)) ∙ none)
+              | inl same ↦ contrary e (ap (is_asked x) same ∙ none)
+              | inr ne ↦ contrary (m.named k (m.order k i (omega (arith, le, ne)) e here)) none
             ])
 
         stands : StandsAt x k
@@ -478,12 +458,12 @@ module _ (n : ℕ) (em : ℕ → List ℕ) (mk : ℕ → ℕ) (c : Node) where
       record {
         id = λ rd. ap (λ (i : ℕ). Some i) many;
         turn = λ gr u. absurd (true≢false u);
-        grant = λ j t. absurd (true≢false (sym t ∙ silent-grant (pend j) (quiet-port j)));
-        done = λ j t. absurd (true≢false (sym t ∙ silent-done (pend j) (quiet-port j)));
+        grant = λ j t. contrary t (silent-grant (pend j) (quiet-port j));
+        done = λ j t. contrary t (silent-done (pend j) (quiet-port j));
         last = λ rd o. whole;
       },
       record {
-        asks = λ q a b. absurd (true≢false (sym b ∙ a));
+        asks = λ q a b. contrary b a;
         names = λ a b. whole;
       },
     )
@@ -518,7 +498,7 @@ module _ (n : ℕ) (em : ℕ → List ℕ) (mk : ℕ → ℕ) (c : Node) where
             go true false true a n er eb ea en f = shut-silent (pend j) f
             go false r b true true er eb ea en f = shut-silent (pend j) f
             go false r b false n er eb ea en f = shut-silent (pend j) f
-            go false r b true false er eb ea en f = absurd (true≢false (sym (all j (m.asked j ea)) ∙ en))
+            go false r b true false er eb ea en f = contrary (all j (m.asked j ea)) en
 
     does-so :
         (coin : Bool) (w : Row) → Chosen w x → Goes w x →

@@ -1,12 +1,8 @@
 -- A bus that is left alone settles, and each can be left alone.
 use Rattle.std.proofs.Common.{◌≡◌, ℕ, zero, suc, ◌≤◌, List, [], ◌∷◌, length, refl, sym, ◌∙◌, ap, subst, arith}
-use Rattle.cabling.specs.Wiring.{Wiring}
-use Rattle.cabling.specs.Component.{IsComponent}
-use Rattle.cable_world.specs.World.{CableWorld}
-use Rattle.cable_world.specs.Turn.{turn, turns_after}
-use Rattle.cable_world.specs.Run.{Event, turns, Runs, IsReached, quiet_turns}
-use Rattle.cable_world.proofs.Lemmas.{after-cabling, quiet-reached, reached-lawful, after-length}
-use Rattle.outcomes.specs.Settled.{HasNoAct, turn_count, EveryQuietRunSettles}
+use Rattle.outcomes.proofs.Common.{Wiring, IsComponent, CableWorld, turn, turns_after, Event, turns, Runs, IsReached, quiet_turns, after-cabling, reached-lawful, after-length, HasNoAct}
+use Rattle.cable_world.proofs.Lemmas.{quiet-reached}
+use Rattle.outcomes.specs.Settled.{turn_count, EveryQuietRunSettles}
 use Rattle.outcomes.specs.Headline.{IsLeftAlone, EveryBusSettles, AnyBusCanBeLeftAlone}
 use Rattle.outcomes.proofs.settled.QuietRuns.{ComesBy, comes-by}
 

@@ -1,11 +1,7 @@
 -- Places by whole nodes, from marks.
 use Rattle.std.proofs.Common.{◌≡◌, ◌⊎◌, ℕ, zero, suc, ◌+◌, ◌<◌, ◌≤◌, inl, inr, Option, Some, None, List, length, refl, ◌∙◌, arith}
-use Rattle.cabling.specs.declared.cable.End.{End}
-use Rattle.cabling.specs.Wiring.{Wiring, ports_of, far}
-use Rattle.cabling.specs.NodeSet.{Holds}
-use Rattle.outcomes.specs.WalkMarks.{place, Marked}
+use Rattle.outcomes.proofs.Common.{End, Wiring, ports_of, far, Holds, place, Marked, plugged, end_at, from_or_not}
 use Rattle.outcomes.specs.Intervals.{LeadsToChild, HasNoChild, Intervals}
-use Rattle.cabling.proofs.Lemmas.{plugged, end_at, from_or_not}
 use Rattle.outcomes.proofs.walks.Rising.{level, places-differ}
 
 no-child :

@@ -2,12 +2,9 @@
 -- which the
 -- node is come to.
 use Rattle.std.proofs.Common.{◌≡◌, ◌≢◌, ℕ, zero, suc, ◌+◌, inl, inr, Option, Some, None, List, [], ◌∷◌, ◌++◌, get_or, refl, sym, subst, ap, ◌∙◌, arith}
-use Rattle.topology_stack.specs.Tree.{Label, Tree, branch, Slots, unplugged, up, down}
-use Rattle.cabling.specs.declared.cable.End.{End}
-use Rattle.cabling.specs.Wiring.{Wiring, ports_of, far}
-use Rattle.cabling.specs.Sees.{Sees, SeesFrom, numbers, numbers_below}
-use Rattle.outcomes.specs.Parents.{LeadsUp, HasParents, LeadDown, ParentsAre, ParentsBelow}
-use Rattle.cabling.proofs.Lemmas.{end_at, from_or_not, RowAt, row_all, row_head, row_tail, In, Once, in_left, in_right, Loopless, tree_within, tree_once}
+use Rattle.outcomes.proofs.Common.{Label, Tree, branch, Slots, unplugged, up, down, End, Wiring, ports_of, far, Sees, SeesFrom, numbers, numbers_below, LeadsUp, ParentsAre, ParentsBelow, end_at, from_or_not, In, Once, in_left, in_right, Loopless, tree_within, tree_once}
+use Rattle.outcomes.specs.Parents.{HasParents, LeadDown}
+use Rattle.cabling.proofs.Lemmas.{RowAt, row_all, row_head, row_tail}
 
 -- the root of a tree has the port
 tree-parent :
