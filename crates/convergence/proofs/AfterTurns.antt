@@ -1,7 +1,7 @@
 -- What is so after how many quiet turns.
 use Rattle.std.proofs.Common.{◌≡◌, ℕ, ◌+◌, ◌-◌, ◌*◌, ◌≤◌, Bool, true, Some, length, slice_get, refl, sym, ◌∙◌, ap, subst, arith}
 use Rattle.std.proofs.lemmas.Bool.{false_from_ne_true}
-use Rattle.convergence.proofs.Common.{End, Wiring, far, IsClosed, IsComponent, IsCore, Level, PortNode, CableWorld, turn, IsReached, is_before_tree, level_sent_at, level_shown, IsLawful, cabling-after, after-delay, after-length, some-of, some-at, some-same, reached-lawful, quiet-then, quiet-lawful, after-cabling, HoldSchedule, quiet_after, holds_after, IsAcyclic, ResetsAreDone, TreesAreTaken, LoopsAreReported, TreesAreDecided, turns_to_done, turns_to_trees, turns_to_decision, contrary}
+use Rattle.convergence.proofs.Common.{End, Wiring, far, IsClosed, IsComponent, IsCore, Level, PortNode, CableWorld, turn, IsReached, level_sent_at, level_shown, IsLawful, cabling-after, after-delay, after-length, some-of, some-at, some-same, reached-lawful, quiet-then, quiet-lawful, after-cabling, HoldSchedule, quiet_after, holds_after, IsAcyclic, ResetsAreDone, TreesAreTaken, LoopsAreReported, TreesAreDecided, turns_to_done, turns_to_trees, turns_to_decision, contrary}
 use Rattle.convergence.specs.Cables.{TellsAt, ShowsAt}
 use Rattle.convergence.specs.Turns.{tree_turns, loop_turns, decision_turns, turns_to_loops}
 use Rattle.convergence.specs.Kept.{IsGrown}

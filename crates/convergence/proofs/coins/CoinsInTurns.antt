@@ -3,6 +3,7 @@ use Rattle.std.proofs.Common.{◌≡◌, ◌⊎◌, inl, inr, ℕ, ◌+◌, ◌*
 use Rattle.std.proofs.lemmas.Bool.{true_from_ne_false}
 use Rattle.std.specs.Prelude.{min, nat_le}
 use Rattle.convergence.proofs.Common.{Phase, Signal, Timing, NodeState, raise_timer, tick, is_before_tree, hear_all, NoEntry, HearsWell, TicksWell, KnowsCoins, contrary}
+use Rattle.convergence.proofs.turns.PhaseFacts.{contend-shake}
 use Rattle.port_state.specs.declared.signal.Phase.TheVariants as phase
 use Rattle.port_state.specs.Timing.{InRange}
 use Rattle.convergence.proofs.turns.Moves.{Drew, Fought, tick-draws, tick-contending, tick-fought, tick-late}
@@ -69,9 +70,6 @@ module _
       clash : (f : Phase) → f ≡ phase.Contend → f ≡ phase.ChildShake → ⊥
       clash f a b = cc
 
-      clash2 : (f : Phase) → f ≡ phase.Contend → f ≡ phase.ParentShake → ⊥
-      clash2 f a b = cc
-
       start : (f : Phase) → f ≡ phase.Contend → f ≡ phase.ResetStart → ⊥
       start f a b = cc
 
@@ -88,7 +86,7 @@ module _
           NoEntry x (hear_all signals x) → x.view.phase ≡ phase.Contend → Fought (raise_timer m)
           n (tick coin m).sends → InContend n
       on s was (inl w) = elim (tick-draws coin m) [
-        | inl e ↦ absurd (clash2 m.view.phase (s.phase ∙ was) e.before)
+        | inl e ↦ absurd (contend-shake m.view.phase (s.phase ∙ was) e.before)
         | inr e ↦ record {
           drawn = omega (arith, e.draws, s.draws, k.drawn was);
           waits = omega (arith, w.timer, w.not_yet, e.wait);
@@ -96,7 +94,7 @@ module _
         }
       ]
       on s was (inr (inl w)) = absurd (clash n.view.phase c w.phase)
-      on s was (inr (inr w)) = absurd (clash2 n.view.phase c w.phase)
+      on s was (inr (inr w)) = absurd (contend-shake n.view.phase c w.phase)
 
   pub knows-after : KnowsCoins d n
   knows-after = record {

@@ -1,6 +1,6 @@
 -- A turn keeps what two ends of a cable know of coins.
-use Rattle.std.proofs.Common.{◌≡◌, ◌⊎◌, inl, inr, ℕ, ◌+◌, ◌*◌, ◌≤◌, Bool, true, false, not, [], Option, Some, None, refl, sym, ◌∙◌, ap, subst, arith, true≢false, if◌then◌else◌}
-use Rattle.std.proofs.lemmas.Bool.{eq-eqb, and_parts, or_cases, false_from_ne_true}
+use Rattle.std.proofs.Common.{◌≡◌, ◌⊎◌, inl, inr, ℕ, ◌+◌, ◌*◌, ◌≤◌, Bool, true, false, not, [], Option, Some, None, refl, sym, ◌∙◌, ap, subst, arith, if◌then◌else◌}
+use Rattle.std.proofs.lemmas.Bool.{eq-eqb, and_parts, or_cases, false_from_ne_true, not-false}
 use Rattle.convergence.proofs.Common.{Level, Phase, is_idle, is_parent, is_child, is_port, raise_timer, level_sent, level_shown, leads_down, level_after, is_before_tree, is_shaking, signals_of, has_reset, is_asking, child-if, NoEntry, risen, not-both, Side, hearing, ticking, wire_after, late-roles, tree_start-known, heard_shown, AddsDraw, DrewTogether, IsAhead, AsksAgain, Contests, AreRivals, contrary}
 use Rattle.port_state.specs.declared.signal.Level.TheVariants as level
 use Rattle.port_state.specs.declared.signal.Phase.TheVariants as phase
@@ -339,11 +339,7 @@ module _ (d : ℕ) (x y : Side) (r : Rivals d x y) where
           up true e =
               let k = r.pair.coupled_back.child e (calm d x y r (up-late d x y r ux)) in
               absurd (other-level (level_shown (hearing x).state x.port) shown (heard_no_parent d y x (turned-round d x y r.pair) k.1 k.2))
-          up false e = turn (is_port y.node.view.parent y.port) (sym (child-if y.node.view.parent y.node.view.ports y.port (late-roles y.node r.pair.other.valid l) r.pair.other.connected) ∙ e)
-            where
-              turn : (b : Bool) → not b ≡ false → b ≡ true
-              turn true e = refl
-              turn false e = absurd (true≢false e)
+          up false e = not-false (is_port y.node.view.parent y.port) (sym (child-if y.node.view.parent y.node.view.ports y.port (late-roles y.node r.pair.other.valid l) r.pair.other.connected) ∙ e)
 
           uy : is_port y.node.view.parent y.port ≡ true
           uy = up (leads_down y.node.view.ports y.port) refl
@@ -471,11 +467,7 @@ module _ (d : ℕ) (x y : Side) (r : Rivals d x y) where
       up true e =
           let k = r.pair.coupled_back.child e (calm d x y r (up-late d x y r ux)) in
           absurd (other-level (level_shown (hearing x).state x.port) shown (heard_no_parent d y x (turned-round d x y r.pair) k.1 k.2))
-      up false e = turn (is_port y.node.view.parent y.port) (sym (child-if y.node.view.parent y.node.view.ports y.port (late-roles y.node r.pair.other.valid l) r.pair.other.connected) ∙ e)
-        where
-          turn : (b : Bool) → not b ≡ false → b ≡ true
-          turn true e = refl
-          turn false e = absurd (true≢false e)
+      up false e = not-false (is_port y.node.view.parent y.port) (sym (child-if y.node.view.parent y.node.view.ports y.port (late-roles y.node r.pair.other.valid l) r.pair.other.connected) ∙ e)
 
       uy : is_port y.node.view.parent y.port ≡ true
       uy = up (leads_down y.node.view.ports y.port) refl

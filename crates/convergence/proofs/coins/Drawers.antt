@@ -58,13 +58,6 @@ record IsPaired (w : CableWorld) (k : ℕ) : Type 0 where
   mutual_ : AreMutual w from to
   is : from.node ≡ k
 
-round : (w : CableWorld) (a b : End) → IsLawful w → AreMutual w a b → AreMutual w b a
-round w a b l m = record {
-  ends = record { joined = l.well_formed.cabling.both_ways a b m.ends.joined; near = m.ends.other; near_at = m.ends.other_at; other = m.ends.near; other_at = m.ends.near_at };
-  here = m.there;
-  there = m.here;
-}
-
 -- ---- two rivals, as they stand
 
 module _

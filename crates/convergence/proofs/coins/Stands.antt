@@ -2,6 +2,7 @@
 use Rattle.std.proofs.Common.{◌≡◌, ◌⊎◌, inl, inr, ℕ, ◌+◌, ◌-◌, ◌*◌, ◌<◌, ◌≤◌, Bool, true, false, [], map, refl, sym, ◌∙◌, ap, subst, arith}
 use Rattle.std.proofs.lemmas.Bool.{leb-true}
 use Rattle.convergence.proofs.Common.{Level, Phase, NodeState, draws_with, is_port, raise_timer, new_signal, level_sent, level_shown, leads_down, level_after, level_sent_at, is_shaking, signals_of, NoEntry, risen, not-both, Side, hearing, ticking, departures, wire_after, heard_shown, last_coin, AddsDraw, DrewTogether, KnowsCoins, IsAhead, AsksAgain, HaveMet, AreApart, AreRivals, contrary}
+use Rattle.convergence.proofs.turns.PhaseFacts.{contend-shake}
 use Rattle.port_state.specs.declared.signal.Level.TheVariants as level
 use Rattle.port_state.specs.declared.signal.Phase.TheVariants as phase
 use Rattle.cable_world.specs.Phases.{is_timed, slack}
@@ -142,10 +143,7 @@ module _
   shook-none a = draws-not d x y r hx (λ w. no-contend (ticking x).state.view.phase a.phase w.phase)
 
   pub contend-none : x.node.view.phase ≡ phase.Contend → DrewNone x.node (ticking x).state
-  contend-none c = draws-not d x y r hx (λ w. clash x.node.view.phase c (sym hx.phase ∙ w.before))
-    where
-      clash : (f : Phase) → f ≡ phase.Contend → f ≡ phase.ParentShake → ⊥
-      clash f a b = cc
+  contend-none c = draws-not d x y r hx (λ w. contend-shake x.node.view.phase c (sym hx.phase ∙ w.before))
 
   -- both drew alike, and x draws once more
   first-draw :
@@ -180,10 +178,7 @@ module _
       nx = contend-none m.here
 
       ny : DrewNone y.node (ticking y).state
-      ny = draws-not d y x s2 hy (λ v. clash y.node.view.phase m.there (sym hy.phase ∙ v.before))
-        where
-          clash : (f : Phase) → f ≡ phase.Contend → f ≡ phase.ParentShake → ⊥
-          clash f a b = cc
+      ny = draws-not d y x s2 hy (λ v. contend-shake y.node.view.phase m.there (sym hy.phase ∙ v.before))
 
       tx : (ticking x).state.view.timer ≡ risen x.node.view.timer
       tx = (waited-timer d x y r ux uy hx w).0

@@ -1,5 +1,6 @@
 -- Of two rivals with unequal coins the one with the long wait wins.
 use Rattle.std.proofs.Common.{◌≡◌, ◌≢◌, ◌⊎◌, inl, inr, ℕ, zero, suc, ◌+◌, ◌*◌, ◌<◌, ◌≤◌, true, false, not, List, Option, Some, None, length, slice_get, refl, sym, ◌∙◌, ap, subst, arith, add-one}
+use Rattle.convergence.proofs.turns.PhaseFacts.{late-start}
 use Rattle.std.proofs.lemmas.Bool.{eq-eqb}
 use Rattle.convergence.proofs.Common.{End, Wiring, far, IsComponent, Holds, Phase, NodeState, is_port, is_resetting, raise_timer, PortNode, Travelling, CableWorld, wire_of, turn_at, turn, IsReached, is_before_tree, is_shaking, leads_down, IsLawful, node-after, cabling-after, delay-after, came, side, side-node, side-wire, steady, after-delay, child-if, some-same, Side, hearing, ticking, wire_after, late-roles, reached-lawful, not-both, NoEntry, risen, holds-signals, one-quiet, quiet-lawful, turn-lawful, PlacedHold, HoldSchedule, with_holds, quiet_after, last_coin, KnowsCoins, AsksAgain, IsContested, HaveMet, AreRivals, AreJoined, AreMutual, AreUnequal, contrary}
 use Rattle.port_state.specs.declared.signal.Phase.TheVariants as phase
@@ -186,9 +187,6 @@ module _
 
     back : far u.cabling b ≡ Some a
     back = m.well_formed.cabling.both_ways a b e.joined
-
-    late-start : (f : Phase) → is_before_tree f ≡ false → is_resetting f ≡ false
-    late-start f h = grind arith
 
     hears-on :
         (g h : End) (z t : PortNode) → Rivals u.delay (side u g z) (side u h t) →

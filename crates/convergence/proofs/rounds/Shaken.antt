@@ -1,8 +1,9 @@
 -- The nodes in T1 of a set die out: what all weigh falls within each 2d turns, while one is in T1.
 use Rattle.std.proofs.Common.{◌≡◌, ◌⊎◌, inl, inr, ℕ, zero, suc, ◌+◌, ◌*◌, ◌≤◌, Bool, true, false, not, ◌&&◌, ◌==◌, cond, length, Option, Some, None, is_some, slice_get, refl, sym, ◌∙◌, ap, subst, arith, true≢false}
+use Rattle.convergence.proofs.turns.PhaseFacts.{start-late}
 use Rattle.std.specs.Prelude.{IsSome}
 use Rattle.std.specs.Int.{bit_at}
-use Rattle.std.proofs.lemmas.Bool.{eqb-true, eq-eqb, and_from, and_parts}
+use Rattle.std.proofs.lemmas.Bool.{eqb-true, eq-eqb, and_from, and_parts, not-false}
 use Rattle.std.proofs.lemmas.Option.{slice_get_within}
 use Rattle.convergence.proofs.Common.{End, far, Holds, end_at, Phase, NodeState, coin, hears_packets, is_port, tick, FitsPhase, IsValid, PortNode, CableWorld, turn, is_before_tree, is_shaking, leads_down, after-delay, after-length, child-if, cable-connected, some-same, late-roles, no-quiet, quiet-then, HoldSchedule, holds_after, quiet_after, IsChildCable, AreMutual, IsRoot, AreIdentifying, contrary}
 use Rattle.port_state.specs.declared.signal.Phase.TheVariants as phase
@@ -212,15 +213,11 @@ module _ (w : CableWorld) (set : ℕ) (g : Grown w set) (none : NoneShakes w set
                     | inr t ↦ below.calm (ap (λ (n : PortNode). n.state.view.phase) same ∙ t)
                   ]
 
-              turn : (b : Bool) → not b ≡ false → b ≡ true
-              turn true e = refl
-              turn false e = absurd (true≢false e)
-
               up :
                   (c : Bool) → leads_down y.state.view.ports b.port ≡ c →
                   is_port y.state.view.parent b.port ≡ true
               up true c = absurd (child c)
-              up false c = turn (is_port y.state.view.parent b.port)
+              up false c = not-false (is_port y.state.view.parent b.port)
                   (sym (child-if y.state.view.parent y.state.view.ports b.port (late-roles y.state (valid-at w set g b.node y at_y) (g.late b.node y in_y at_y)) (cable-connected w b (end_at k q) y g.lawful.well_formed back at_y)) ∙ c)
 
   -- where there are no rivals, a turn takes all out of tree identify
@@ -265,9 +262,6 @@ module _ (w : CableWorld) (set : ℕ) (g : Grown w set) where
     where
       c : Calmly w k y.state
       c = calm-turn w set g k y at
-
-      start-late : (f : Phase) → f ≡ phase.TreeStart → is_before_tree f ≡ false → ⊥
-      start-late f a b = grind arith
 
       go : (o : Option ℕ) → y.state.view.parent ≡ o → o ≡ None
       go None e = refl

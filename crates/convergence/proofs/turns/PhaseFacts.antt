@@ -9,6 +9,9 @@ start-late f a b = grind arith
 pub not-shake : (f : Phase) → f ≡ phase.ParentShake → f ≡ phase.ChildShake → ⊥
 not-shake f a b = cc
 
+pub contend-shake : (f : Phase) → f ≡ phase.Contend → f ≡ phase.ParentShake → ⊥
+contend-shake f a b = cc
+
 pub late-start : (f : Phase) → is_before_tree f ≡ false → is_resetting f ≡ false
 late-start f e = grind arith
 

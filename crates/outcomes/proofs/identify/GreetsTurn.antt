@@ -1,5 +1,6 @@
 -- A turn keeps how the two ends of a cable come to self identify.
 use Rattle.std.proofs.Common.{◌≡◌, ◌⊎◌, inl, inr, ℕ, ◌-◌, ◌*◌, ◌≤◌, Bool, true, false, not, ◌&&◌, ◌||◌, List, [], ◌∷◌, ◌++◌, map, refl, sym, ◌∙◌, ap, subst, arith, if◌then◌else◌, true≢false}
+use Rattle.outcomes.proofs.identify.Messages.{or-or}
 use Rattle.std.proofs.lemmas.Bool.{eq-eqb, and_from, and_parts, or_cases, or_parts, false_from_ne_true}
 use Rattle.outcomes.proofs.Common.{Level, Phase, Signal, PortView, is_parent, passes, is_port, sent_on, is_resetting, hears_packets, contrary, age_signal, level_sent, shown_or_idle, level_shown, leads_down, level_after, signals_of, has_reset, is_before_tree, is_shaking, is_asking, risen, not-both, Side, hearing, ticking, arrivals, leftovers, departures, wire_after, after_signals, start-before_tree, Pair, any_child, Greets, parent-was}
 use Rattle.port_state.specs.declared.signal.Level.TheVariants as level
@@ -35,9 +36,6 @@ said-parent (s ∷ ss) h g =
 any_child-append : (xs ys : List Signal) → any_child (xs ++ ys) ≡ (any_child xs || any_child ys)
 any_child-append [] ys = refl
 any_child-append (x ∷ xs) ys = ap (λ b. is_child_signal x || b) (any_child-append xs ys) ∙ or-or (is_child_signal x) (any_child xs) (any_child ys)
-  where
-    or-or : (a b c : Bool) → (a || (b || c)) ≡ ((a || b) || c)
-    or-or a b c = grind arith
 
 no_fall-no_child : (ss : List Signal) → has_no_takeback ss ≡ true → any_child ss ≡ true → ⊥
 no_fall-no_child [] h g = true≢false (sym g)

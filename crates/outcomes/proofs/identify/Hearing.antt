@@ -2,7 +2,7 @@
 use Rattle.std.proofs.Common.{◌≡◌, ◌⊎◌, inl, inr, ℕ, Bool, true, false, not, ◌&&◌, ◌==◌, Option, refl, sym, ◌∙◌, ap, arith, true≢false, if◌then◌else◌}
 use Rattle.std.proofs.lemmas.Option.{slice_get_cases}
 use Rattle.std.proofs.lemmas.Bool.{and_parts, and_from, true_from_ne_false}
-use Rattle.outcomes.proofs.Common.{contrary, Level, Phase, Signal, PortView, NodeState, passes, is_connected, is_port, sent_on, silent_step, enter, with_port, is_resetting, is_identifying, hears_packets, with_level, hears, is_heard, on_signal, FitsRole, IsValid, on_every-port, port_is-changed, leads_down, only, late-roles, port-is, no-packets, is_ready, is_asked, is_named, IsMarked, is_message, silent, Mode, parent_mode, child_mode, mode_of, mode, allows, next, fits}
+use Rattle.outcomes.proofs.Common.{contrary, Level, Phase, Signal, PortView, NodeState, passes, is_connected, is_port, sent_on, silent_step, enter, with_port, is_resetting, is_identifying, hears_packets, with_level, hears, is_heard, on_signal, FitsRole, IsValid, on_every-port, port_is-changed, leads_down, only, late-roles, port-is, no-packets, is_ready, is_asked, is_named, IsMarked, is_message, silent, Mode, parent_mode, child_mode, mode_of, mode, allows}
 use Rattle.port_state.specs.declared.signal.Level.TheVariants as level
 use Rattle.port_state.specs.declared.signal.Signal.TheVariants as signal
 use Rattle.port_state.specs.Heard.{has_effect}

@@ -11,7 +11,7 @@ use Rattle.cabling.proofs.Lemmas.{same_end, one_other}
 use Rattle.cable_world.specs.Wire.{Wire}
 use Rattle.outcomes.specs.Holders.{Holder, grant, done, node, IsHolder, place, how_many, HasOneHolder}
 use Rattle.outcomes.proofs.identify.Ports.{child-role}
-use Rattle.outcomes.proofs.identify.MarksKept.{hears-late, one-awaited}
+use Rattle.outcomes.proofs.identify.MarksKept.{hears-late, one-awaited, waits-none}
 use Rattle.outcomes.proofs.identify.Hearing.{parent-connected}
 use Rattle.outcomes.proofs.identify.ListsFollow as lists
 use Rattle.outcomes.proofs.identify.ListsFollow.{IsAbove}
@@ -424,7 +424,7 @@ module _
         elim (lists.one-above w l i a b.0 n.near o.is b.1 n.near_at o.at (all a.node n.near inside n.near_at) o.hears) [
           | inl s ↦
               let both = and-true (is_asked n.near.state a.port) o.is.state.view.granted (sym s.line.granting ∙ is) in
-              let unnamed = not-named (is_named n.near.state a.port) (λ e. contrary (s.line.readies (s.line.names e)) both.1) in
+              let unnamed = false_from_ne_true _ (λ e. contrary (s.line.readies (s.line.names e)) both.1) in
               record {
                 owner = a.node;
                 active = awaits-active a.node a.port n.near inside n.near_at both.0 unnamed;
@@ -432,10 +432,6 @@ module _
               }
           | inr s ↦ contrary is (no-grant (child_mode (is_asked o.is.state b.0.port) (is_named o.is.state b.0.port)) (signals_of (wire_of w a).signals) (child-grants-none (is_asked o.is.state b.0.port) (is_named o.is.state b.0.port)) s.line.fits_up)
         ]
-      where
-        not-named : (b : Bool) → (b ≡ true → ⊥) → b ≡ false
-        not-named true h = absurd (h refl)
-        not-named false h = refl
     owner-of (done a) inside is =
         let b = wire-cable a has_done refl is in
         let o = other-of a b.0 inside b.1 in
@@ -470,11 +466,6 @@ module _
         let port = step-port v c a.is a.at s p asked unnamed in
         let end = same-end v p s.port port d.other s.child.other in
         some-same d.other.is s.to.is (sym d.other.at ∙ ap (λ (e : End). slice_get w.nodes e.node) end ∙ ap (slice_get w.nodes) s.is ∙ s.to.at)
-
-    waits-none : (a n : Bool) → a ≡ true → n ≡ false → (a && not n) ≡ false → ⊥
-    waits-none true false ea en e = true≢false e
-    waits-none true true ea en e = true≢false en
-    waits-none false n ea en e = true≢false (sym ea)
 
     low : (h : Holder) (v : ℕ) (a : Active v) → Owned v a.is h → (c : ℕ) → Step v c → ⊥
     unfolding Owned

@@ -1,7 +1,7 @@
 -- How many Grants and Dones fit a port, and a search.
 use Rattle.std.proofs.Common.{◌≡◌, ◌⊎◌, inl, inr, ℕ, zero, suc, ◌+◌, ◌<◌, ◌≤◌, Bool, true, false, not, ◌&&◌, List, [], ◌∷◌, Option, Some, None, is_some, refl, sym, ◌∙◌, ap, subst, arith, true≢false, if◌then◌else◌}
 use Rattle.std.proofs.lemmas.Bool.{cases_lt, and_parts, or_from}
-use Rattle.outcomes.proofs.Common.{contrary, End, Signal, is_message, silent, is_grant, is_done, has_grant, has_done, Mode, parent_mode, child_mode, mode, allows, next, fits}
+use Rattle.outcomes.proofs.Common.{contrary, End, Signal, is_message, silent, is_grant, is_done, has_grant, has_done, Mode, parent_mode, child_mode, allows, next, fits}
 use Rattle.port_state.specs.declared.signal.Signal.TheVariants as signal
 use Rattle.outcomes.specs.Messages as mode
 use Rattle.outcomes.specs.Holders.{how_many}

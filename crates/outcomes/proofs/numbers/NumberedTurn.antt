@@ -4,9 +4,8 @@ use Rattle.std.proofs.Common.{◌≡◌, ◌⊎◌, inl, inr, ℕ, ◌+◌, ◌<
 use Rattle.std.proofs.lemmas.List.{append_assoc}
 use Rattle.std.proofs.lemmas.Bool.{or_cases, and_parts}
 use Rattle.std.proofs.lemmas.Option.{slice_get_within}
-use Rattle.outcomes.proofs.Common.{contrary, Node, group, node_count, Tree, End, Wiring, far, ports_of, Holds, IsClosed, numbers, mark, place, emit, Phase, Signal, NodeState, coin, is_connected, is_port, sent_on, is_resetting, hears_packets, shown_attrs, shown_node, PortNode, Row, raise_timer, row_of, does, next_row, tick, age_wire, gives, age_signal, CableWorld, wire_of, inbox, turn_at, turn, hear_all, signals_of, has_reset, IsLawful, cabling-after, node-after, some-same, Chosen, chosen, side, side-wire, before, turn-state, comes, hearing, ticking, arrivals, leftovers, departures, after_signals, no-packets, joined-of, IsChildCable, is_ready, is_asked, is_named, is_message, silent, quads_in, is_grant, is_done, has_grant, has_done, Mode, parent_mode, child_mode, mode_of, mode, allows, next, fits, Lined, IsIdentifying, place_now, RootWalk, IsNumbered, AreIdentifying}
+use Rattle.outcomes.proofs.Common.{contrary, Node, group, node_count, Tree, End, Wiring, far, ports_of, Holds, IsClosed, numbers, mark, place, emit, Phase, Signal, NodeState, coin, is_connected, is_port, sent_on, is_resetting, hears_packets, shown_attrs, shown_node, PortNode, Row, raise_timer, row_of, does, next_row, tick, age_wire, gives, age_signal, CableWorld, wire_of, inbox, turn_at, turn, hear_all, signals_of, has_reset, IsLawful, cabling-after, node-after, some-same, side, side-wire, before, turn-state, comes, hearing, ticking, arrivals, leftovers, departures, after_signals, no-packets, joined-of, IsChildCable, is_ready, is_asked, is_named, is_message, silent, quads_in, is_grant, is_done, has_grant, has_done, Mode, parent_mode, child_mode, mode_of, mode, allows, next, fits, Lined, IsIdentifying, place_now, RootWalk, IsNumbered, AreIdentifying}
 use Rattle.port_state.specs.declared.signal.Phase.TheVariants as phase
-use Rattle.port_state.specs.Row as row
 use Rattle.cable_world.specs.Turn.{signals_from}
 use Rattle.cable_world.proofs.Lemmas.{hears, hear-came, inbox-at, port-there}
 use Rattle.outcomes.specs.Messages as message
@@ -14,7 +13,8 @@ use Rattle.outcomes.proofs.identify.Messages.{quads-append, silent-quads, shut-s
 use Rattle.outcomes.proofs.identify.OneMessage.{no-grant, no-done, child-grants-none, parent-says-none, end-of, two-parts}
 use Rattle.outcomes.proofs.identify.IdentifiesTurn.{Told}
 use Rattle.outcomes.proofs.identify.IdentifyingTurn.{told}
-use Rattle.outcomes.proofs.identify.LinedTicks.{off, ticks-on, ticks-parent}
+use Rattle.outcomes.proofs.identify.LinedTicks.{ticks-on, ticks-parent}
+use Rattle.outcomes.proofs.identify.LateRows.{LateRow, rests, asks_next, names_now, late-row}
 use Rattle.outcomes.proofs.identify.LinedTurn.{Able, split, above-turn, below-turn}
 use Rattle.outcomes.proofs.identify.ListsFollow.{IsAbove, one-above}
 use Rattle.outcomes.proofs.identify.MarksKept.{hears-late}
@@ -95,24 +95,14 @@ ticks-attrs :
     (coin : Bool) (x : NodeState) → hears_packets x.view.phase ≡ true →
     shown_attrs (tick coin x).state ≡ shown_attrs x
 unfolding tick
-ticks-attrs coin x h = go (next_row x) (chosen x.view.phase (raise_timer x) refl)
+ticks-attrs coin x h = go (next_row x) (late-row x h)
   where
     go :
-        (r : Row) → Chosen r (raise_timer x) →
+        (r : Row) → LateRow (raise_timer x) r →
         shown_attrs (does coin r (raise_timer x)).state ≡ shown_attrs x
-    go row.none c = refl
-    go row.times_out c = refl
-    go row.ends_reset c = absurd (off c.0 refl h)
-    go row.begins_tree c = absurd (off c.0 refl h)
-    go row.takes_roles c = absurd (off c.0 refl h)
-    go row.awaits_parent c = absurd (off c refl h)
-    go row.becomes_root c = absurd (off c.0 refl h)
-    go (row.finds_parent k) c = absurd (off c.0 refl h)
-    go (row.begins_contention k) c = absurd (off c.0 refl h)
-    go (row.takes_rival k) c = absurd (off c.0 refl h)
-    go (row.asks_again k) c = absurd (off c.0 refl h)
-    go (row.asks_child k) c = refl
-    go row.names_itself c = refl
+    go r rests = refl
+    go r (asks_next k a) = refl
+    go r (names_now n) = refl
 
 -- a node in A0 does nothing more
 pub ticks-ready :
@@ -314,9 +304,6 @@ module _
 
       abbrev now : List Signal
       now = departures (side w b y)
-
-      y-after : NodeState
-      y-after = (ticking (side w b y)).state
 
       -- the node there is the parent
       from-above : IsAbove w b a y x → Owed a.node a.port x (there ++ now)

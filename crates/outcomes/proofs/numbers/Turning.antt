@@ -2,17 +2,17 @@
 -- the walk.
 use Rattle.std.proofs.Common.{◌≡◌, inl, inr, ℕ, ◌+◌, ◌<◌, ◌≤◌, Bool, true, false, ◌&&◌, ◌==◌, List, [], ◌∷◌, ◌++◌, Some, None, refl, sym, ◌∙◌, ap, subst, arith, true≢false, if◌then◌else◌}
 use Rattle.std.proofs.lemmas.Bool.{eq-eqb, eqb-true, and_parts, cases_lt, cases_eq, false_from_ne_true}
-use Rattle.outcomes.proofs.Common.{contrary, Node, group, node_count, Level, SelfIdent, Signal, NodeState, is_port, is_unnamed, lowest, is_connected, with_port, sent_on, silent_step, is_identifying, hears_packets, with_packet, with_level, hears, is_heard, on_signal, shown_node, own_group, Row, raise_timer, does, next_row, tick, IsValid, valid-raise_timer, sound-on_signal, port_is-changed, leads_down, hear-stays, Chosen, chosen, no-packets, hear_all, is_ready, is_asked, is_named, IsMarked, is_message, silent, quads_in, has_grant, has_done, kept, parent_mode, child_mode, mode_of, mode, allows, fits, StandsAt}
+use Rattle.outcomes.proofs.Common.{contrary, Node, group, node_count, Level, SelfIdent, Signal, NodeState, is_port, is_unnamed, lowest, is_connected, with_port, sent_on, silent_step, is_identifying, hears_packets, with_packet, with_level, hears, is_heard, on_signal, shown_node, own_group, Row, raise_timer, does, next_row, tick, IsValid, valid-raise_timer, sound-on_signal, port_is-changed, leads_down, hear-stays, no-packets, hear_all, is_ready, is_asked, is_named, IsMarked, is_message, silent, quads_in, has_grant, has_done, kept, parent_mode, child_mode, mode_of, mode, allows, fits, StandsAt}
 use Rattle.port_state.specs.declared.signal.Level.TheVariants as level
 use Rattle.port_state.specs.declared.signal.Signal.TheVariants as signal
 use Rattle.port_state.specs.Step.{Step}
 use Rattle.port_state.specs.Row as row
 use Rattle.outcomes.proofs.identify.Messages.{shut-silent, silent-quads, silent-grant, silent-done}
 use Rattle.outcomes.proofs.identify.Ports.{changed-other, changed-here, lowest-is, lowest-first, child-role, not-unnamed, is-unnamed}
-use Rattle.outcomes.proofs.identify.MarksKept.{hears-late, done-asked, signal-marked, raised-marked, Goes, goes, all-named}
+use Rattle.outcomes.proofs.identify.MarksKept.{hears-late, done-asked, signal-marked, raised-marked, all-named}
 use Rattle.outcomes.proofs.identify.Hearing.{Stays, signal-stays, level-asked, level-named, reset-heard}
 use Rattle.outcomes.proofs.identify.LinedHears.{with, unheard-level, front-hears, others-silent}
-use Rattle.outcomes.proofs.identify.LinedTicks.{off}
+use Rattle.outcomes.proofs.identify.LateRows.{LateRow, rests, asks_next, names_now, late-row}
 use Rattle.outcomes.proofs.numbers.NodeMessages.{shown-port, level-owed, level-grant, level-done, rest-fits, after-grant, after-done, at-port, no-packet, root-packet, grant-comes}
 
 -- ---- a node of the walk
@@ -501,21 +501,11 @@ module _ (n : ℕ) (em : ℕ → List ℕ) (mk : ℕ → ℕ) (c : Node) where
             go false r b true false er eb ea en f = contrary (all j (m.asked j ea)) en
 
     does-so :
-        (coin : Bool) (w : Row) → Chosen w x → Goes w x →
+        (coin : Bool) (w : Row) → LateRow x w →
         Goes-on (does coin w x).state pend × Ticks-so x (does coin w x).state
-    does-so coin row.none k o = (g, idle)
-    does-so coin row.times_out k o = (record { id = g.id; turn = λ gr u p le st. g.turn gr u p le (record { named = st.named; unasked = st.unasked }); grant = g.grant; done = g.done; last = g.last }, record { asks = idle.asks; names = idle.names })
-    does-so coin row.ends_reset k o = absurd (off k.0 refl h)
-    does-so coin row.begins_tree k o = absurd (off k.0 refl h)
-    does-so coin row.takes_roles k o = absurd (off k.0 refl h)
-    does-so coin row.awaits_parent k o = absurd (off k refl h)
-    does-so coin row.becomes_root k o = absurd (off k.0 refl h)
-    does-so coin (row.finds_parent p) k o = absurd (off k.0 refl h)
-    does-so coin (row.begins_contention p) k o = absurd (off k.0 refl h)
-    does-so coin (row.takes_rival p) k o = absurd (off k.0 refl h)
-    does-so coin (row.asks_again p) k o = absurd (off k.0 refl h)
-    does-so coin (row.asks_child p) k o = asks-child p k o.0 o.1 o.2
-    does-so coin row.names_itself k o = names-itself k o.0 o.1
+    does-so coin w rests = (g, idle)
+    does-so coin w (asks_next p a) = asks-child p a.phase a.granted a.next a.unasked
+    does-so coin w (names_now e) = names-itself e.phase e.granted e.last
 
   pub ticks-so :
       (coin : Bool) (x : NodeState) (pend : ℕ → List Signal) → IsValid x → IsMarked x →
@@ -524,5 +514,5 @@ module _ (n : ℕ) (em : ℕ → List ℕ) (mk : ℕ → ℕ) (c : Node) where
       Goes-on (tick coin x).state pend × Ticks-so x (tick coin x).state
   unfolding tick
   ticks-so coin x pend v m h r f add count g =
-      let o = does-so (raise_timer x) pend (valid-raise_timer x v) (raised-marked x m) h (record { flat = r.flat; below = r.below; shown = r.shown }) f add count (record { id = g.id; turn = λ gr u p le st. g.turn gr u p le (record { named = st.named; unasked = st.unasked }); grant = g.grant; done = g.done; last = g.last }) coin (next_row x) (chosen x.view.phase (raise_timer x) refl) (goes x.view.phase (raise_timer x)) in
+      let o = does-so (raise_timer x) pend (valid-raise_timer x v) (raised-marked x m) h (record { flat = r.flat; below = r.below; shown = r.shown }) f add count (record { id = g.id; turn = λ gr u p le st. g.turn gr u p le (record { named = st.named; unasked = st.unasked }); grant = g.grant; done = g.done; last = g.last }) coin (next_row x) (late-row x h) in
       (o.0, record { asks = o.1.asks; names = o.1.names })

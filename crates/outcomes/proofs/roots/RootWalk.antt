@@ -1,6 +1,6 @@
 -- Below a root that knows its tree the walk is there.
-use Rattle.std.proofs.Common.{◌≡◌, ◌≢◌, ◌⊎◌, ℕ, zero, suc, ◌+◌, ◌^◌, ◌<◌, ◌≤◌, Bool, true, false, not, Option, Some, None, ◌++◌, length, get_or, slice_get, inl, inr, refl, sym, subst, ap, ◌∙◌, arith}
-use Rattle.std.proofs.lemmas.Bool.{cases_lt}
+use Rattle.std.proofs.Common.{◌≡◌, ◌≢◌, ◌⊎◌, ℕ, zero, suc, ◌+◌, ◌^◌, ◌<◌, ◌≤◌, false, not, Option, Some, None, ◌++◌, length, get_or, slice_get, inl, inr, refl, sym, subst, ap, ◌∙◌, arith}
+use Rattle.std.proofs.lemmas.Bool.{cases_lt, not-false}
 use Rattle.std.proofs.lemmas.Option.{slice_get_within, slice_get-get_or}
 use Rattle.outcomes.proofs.Common.{contrary, Node, group, node_count, Tree, End, ports_of, far, Holds, IsComponent, IsCore, labels, end_at, shared, Loopless, plugged, numbers, ParentsAre, mark, Marked, emit, is_port, own_group, PortNode, CableWorld, is_before_tree, leads_down, IsLawful, attrs_now, joined-of, in-component, no-root-with-loop, is-port, port-is-not, cable-connected, child-if, late-roles, port-is, IsChildCable, IsAcyclic, ResetsAreOverIn, IsRoot, parent_of, parent_now, place_now, RootWalk}
 use Rattle.cabling.proofs.Lemmas.{shown_node, loopless, small_tree}
@@ -13,16 +13,16 @@ use Rattle.outcomes.proofs.walks.Emit.{emits-by-node}
 use Rattle.outcomes.proofs.walks.Rising.{level}
 use Rattle.outcomes.proofs.walks.WaysUp.{tree-ways}
 use Rattle.outcomes.proofs.walks.InTurn.{ready-first}
-use Rattle.outcomes.proofs.walks.Intervals.{rest-of}
 use Rattle.port_state.proofs.Lemmas.{node_count-own_group}
 use Rattle.convergence.specs.Cables.{AreJoined}
 use Rattle.convergence.proofs.Lemmas.{down-in, rooted-late}
 use Rattle.outcomes.proofs.roots.OwnGroups.{shown-by-label}
 use Rattle.self_id.proofs.Lemmas.{node_count-append}
 
-pub not-false : (b : Bool) → not b ≡ false → b ≡ true
-not-false true e = refl
-not-false false e = absurd cc
+rest-of : (p q : ℕ) → p ≤ q → (d : ℕ) × (q ≡ p + d)
+rest-of zero q le = (q, omega arith)
+rest-of (suc p) zero le = absurd (omega (arith, le))
+rest-of (suc p) (suc q) le = let r = rest-of p q (omega (arith, le)) in (r.0, omega (arith, r.1))
 
 module _
     (w : CableWorld) (l : IsLawful w) (acyclic : IsAcyclic w) (node set : ℕ)

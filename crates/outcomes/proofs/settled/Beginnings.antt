@@ -2,7 +2,7 @@
 -- the walk, so that the component comes to its tree.
 use Rattle.std.proofs.Common.{◌≡◌, ◌⊎◌, inl, inr, ℕ, ◌^◌, ◌<◌, Bool, true, false, not, ◌==◌, Option, Some, None, length, slice_get, refl, sym, ap, subst, arith, eq-eqb}
 use Rattle.std.specs.Int.{bit_at}
-use Rattle.std.proofs.lemmas.Bool.{cases_lt, eqb-true}
+use Rattle.std.proofs.lemmas.Bool.{cases_lt, eqb-true, not-false}
 use Rattle.std.proofs.lemmas.Option.{slice_get_cases, slice_get_within}
 use Rattle.outcomes.proofs.Common.{Tree, Wiring, IsCabling, Holds, IsComponent, IsCore, plugged, end_at, shared, hears_packets, PortNode, CableWorld, turn, IsLawful, turn-lawful, cabling-after, IsAcyclic, AreIdentifying, IsRoot, search-set, in-component, turn-acyclic, IsIdentifying, Settles, RootWalk, contrary}
 use Rattle.convergence.specs.Acyclic.{IsTop}
@@ -11,7 +11,7 @@ use Rattle.outcomes.proofs.roots.Calm.{calm-in}
 use Rattle.outcomes.proofs.identify.IdentifyingTurn.{turn-identifying}
 use Rattle.outcomes.proofs.identify.MarksKept.{hears-late}
 use Rattle.outcomes.proofs.numbers.Settling.{settles-first}
-use Rattle.outcomes.proofs.roots.RootWalk.{not-false, root-walk}
+use Rattle.outcomes.proofs.roots.RootWalk.{root-walk}
 use Rattle.outcomes.proofs.settled.Unnamed.{Above, above-of}
 use Rattle.std.proofs.lemmas.Bool.{not-true}
 

@@ -1,6 +1,6 @@
 -- Whichever way a component without loop is decided, it has an outcome.
 use Rattle.std.proofs.Common.{◌≡◌, ◌⊎◌, inl, inr, ℕ, ◌<◌, ◌≤◌, Bool, true, false, not, ◌&&◌, ◌==◌, is_some, Option, Some, None, IsSome, List, [], ◌∷◌, slice_get, refl, sym, ◌∙◌, ap, subst, arith, true≢false, eq-eqb}
-use Rattle.std.proofs.lemmas.Bool.{cases_eq, eqb-true, and_parts, and_from}
+use Rattle.std.proofs.lemmas.Bool.{cases_eq, eqb-true, and_parts, and_from, not-false}
 use Rattle.outcomes.proofs.Common.{Tree, emits, Holds, IsComponent, labels, PortNode, CableWorld, IsLawful, IsTree, IsSettled, attrs_now, tree, contention, some-of, some-same, IsAcyclic, ResetsAreOver, HasContention, search-set, IsIdentifying, is_ready, IsSettling, contrary}
 use Rattle.cabling.proofs.Lemmas.{one-tree}
 use Rattle.cable_world.specs.Outcome.{IsContention, IsFirstPair}
@@ -11,7 +11,6 @@ use Rattle.outcomes.proofs.settled.Beginnings.{IsUnfinished}
 use Rattle.outcomes.proofs.identify.MarksKept.{ready-hears}
 use Rattle.outcomes.proofs.roots.Calm.{calm-in}
 use Rattle.outcomes.proofs.roots.Named.{named-tree}
-use Rattle.outcomes.proofs.roots.RootWalk.{not-false}
 use Rattle.std.proofs.lemmas.Bool.{not-true}
 
 -- ---- tests
