@@ -9,3 +9,4 @@ pub mod SomeText
 pub mod OneText
 pub mod Told
 pub mod Appended
+pub mod Sealed

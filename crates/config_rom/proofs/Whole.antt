@@ -1,13 +1,14 @@
 -- The parts of a ROM are its quadlets, and the other way round.
-use Rattle.std.proofs.Common.{◌≡◌, ◌≢◌, ℕ, zero, suc, ◌+◌, ◌-◌, ◌*◌, ◌/◌, ◌%◌, ◌^◌, ◌<◌, ◌≤◌, List, [], ◌∷◌, ◌++◌, length, take, drop, refl, ap, sym, ◌∙◌, subst, arith, length-append}
+use Rattle.std.proofs.Common.{◌≡◌, ◌≢◌, ℕ, zero, suc, ◌+◌, ◌-◌, ◌*◌, ◌/◌, ◌%◌, ◌^◌, ◌<◌, ◌≤◌, List, [], ◌∷◌, ◌++◌, length, take, drop, refl, ap, sym, ◌∙◌, subst, ⊎_elim, arith, length-append}
 use Rattle.std.specs.Prelude.{slice_index, slice_set}
 use Rattle.std.specs.List.{All}
 use Rattle.std.proofs.Math.Seq.{drop-cons, take-append_seam, drop-append_seam}
-use Rattle.std.proofs.lemmas.List.{take-append-drop, length-take-le, drop_all, get_or-take, get_or-drop, get_or-set_other, length-set}
+use Rattle.std.proofs.lemmas.List.{take-append-drop, length-take-le, drop_all, get_or-take, get_or-drop, get_or-set_other, get_or-set_same, length-set}
+use Rattle.std.proofs.lemmas.Bool.{cases_lt}
 use Rattle.std.proofs.lemmas.List.Elements.{All-get_or, All-from_get_or, All-set, All-append, All-cons}
 use Rattle.topology_map.proofs.Lemmas.{joined}
 use Rattle.config_rom.specs.Layout.{info_len_of, root_of, length_at, crc_at, end_of}
-use Rattle.config_rom.specs.Rom.{Parts, first_quad, root_header, rom_quads, IsRom, unsealed}
+use Rattle.config_rom.specs.Rom.{Parts, first_quad, root_header, rom_quads, IsRom, unsealed, with_crc}
 use Rattle.config_rom.specs.codings.Parts.{parts_of, HasLayout}
 
 pub drop-more : (n m : ℕ) (xs : List ℕ) → drop (n + m) xs ≡ drop m (drop n xs)
@@ -204,6 +205,58 @@ set-quads v quads place quad h is behind other fits =
     let no : place ≢ root_of quads = λ e. other (omega (arith, e, n)) in
     rom_quads-parts_of (slice_set quads place quad) (set-layout quads place quad h behind no fits)
     ∙ ap (λ qs. slice_set qs place quad) (sym (rom_quads-parts_of quads h) ∙ ap rom_quads is)
+
+-- ---- a CRC set
+
+with_crc-high : (quad crc : ℕ) → crc < 2 ^ 16 → with_crc quad crc / 2 ^ 16 ≡ quad / 2 ^ 16
+with_crc-high quad crc fits = omega (arith, fits)
+
+-- only low bits are changed, at one place
+pub crc-high : (quads : List ℕ) (place crc p : ℕ) → place < length quads → crc < 2 ^ 16 →
+    slice_index (slice_set quads place (with_crc (slice_index quads place) crc)) p / 2 ^ 16
+    ≡ slice_index quads p / 2 ^ 16
+crc-high quads place crc p there fits =
+    let quad = with_crc (slice_index quads place) crc in
+    let other : (p ≢ place) → slice_index (slice_set quads place quad) p / 2 ^ 16 ≡ slice_index quads p / 2 ^ 16 = λ apart. ap (λ q. q / 2 ^ 16) (get_or-set_other quads place p quad 0 apart) in
+    ⊎_elim
+    (λ (less : p < place). other (omega (arith, less)))
+    (λ (more : place ≤ p). ⊎_elim
+    (λ (behind : place < p). other (omega (arith, behind)))
+    (λ (at : p ≤ place).
+    let same : place ≡ p = omega (arith, more, at) in
+    subst (λ (k : ℕ). slice_index (slice_set quads place quad) k / 2 ^ 16 ≡ slice_index quads k / 2 ^ 16) same
+    (ap (λ q. q / 2 ^ 16) (get_or-set_same quads place quad 0 there) ∙ with_crc-high (slice_index quads place) crc fits))
+    (cases_lt place p))
+    (cases_lt p place)
+
+pub crc-layout : (quads : List ℕ) (place crc : ℕ) → HasLayout quads → root_of quads ≤ place →
+    place < length quads → crc < 2 ^ 16 →
+    HasLayout (slice_set quads place (with_crc (slice_index quads place) crc))
+crc-layout quads place crc h behind there fits =
+    let quad = with_crc (slice_index quads place) crc in
+    let first : slice_index (slice_set quads place quad) 0 ≡ slice_index quads 0 = get_or-set_other quads place 0 quad 0 (omega (arith, behind)) in
+    let root : root_of (slice_set quads place quad) ≡ root_of quads = ap (λ q. 1 + q / 2 ^ 24) first in
+    let header = crc-high quads place crc (root_of quads) there fits in
+    let len : length (slice_set quads place quad) ≡ length quads = length-set quads place quad in
+    let was : slice_index quads place < 2 ^ 32 = All-get_or (λ q. q < 2 ^ 32) quads place 0 there h.fit in
+    record {
+      few = omega (arith, len, h.few);
+      info_two = omega (arith, ap (λ q. q / 2 ^ 24) first, h.info_two);
+      info_whole = omega (arith, root, len, h.info_whole);
+      name = get_or-set_other quads place 1 quad 0 (omega (arith, behind, h.info_two)) ∙ h.name;
+      root_whole = omega (arith, len, root, ap (λ k. length_at (slice_set quads place quad) k) root, header, h.root_whole);
+      fit = All-set (λ q. q < 2 ^ 32) quads place quad (omega (arith, was, fits)) h.fit;
+    }
+
+pub crc-quads : (v : Parts) (quads : List ℕ) (place crc : ℕ) → HasLayout quads →
+    parts_of quads ≡ v → 1 + v.info_len ≤ place → place < length (rom_quads v) → crc < 2 ^ 16 →
+    rom_quads (parts_of (slice_set quads place (with_crc (slice_index quads place) crc)))
+    ≡ slice_set (rom_quads v) place (with_crc (slice_index (rom_quads v) place) crc)
+crc-quads v quads place crc h is behind there fits =
+    let same : quads ≡ rom_quads v = sym (rom_quads-parts_of quads h) ∙ ap rom_quads is in
+    let n : info_len_of quads ≡ v.info_len = ap (λ (p : Parts). p.info_len) is in
+    rom_quads-parts_of (slice_set quads place (with_crc (slice_index quads place) crc)) (crc-layout quads place crc h (omega (arith, behind, n)) (omega (arith, there, ap length same)) fits)
+    ∙ ap (λ qs. slice_set qs place (with_crc (slice_index qs place) crc)) same
 
 -- ---- parts that are given
 

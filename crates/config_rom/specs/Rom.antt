@@ -1,5 +1,5 @@
 -- A configuration ROM by its parts, and its quadlets and bytes.
-use Rattle.std.specs.Prelude.{◌≡◌, ℕ, ◌+◌, ◌*◌, ◌^◌, ◌<◌, ◌≤◌, List, [], ◌∷◌, ◌++◌, length, slice_index, All}
+use Rattle.std.specs.Prelude.{◌≡◌, ℕ, ◌+◌, ◌*◌, ◌/◌, ◌^◌, ◌<◌, ◌≤◌, List, [], ◌∷◌, ◌++◌, length, slice_index, All}
 use Rattle.std.specs.Int.{w32, to_be_bytes}
 
 pub record Parts : Type 0 where
@@ -27,6 +27,10 @@ root_header v = 2 ^ 16 * length v.entries + v.root_crc
 
 abbrev pub rom_quads : Parts → List ℕ
 rom_quads v = first_quad v ∷ (v.info ++ (root_header v ∷ (v.entries ++ v.rest)))
+
+-- a quadlet with another CRC in its low sixteen bits
+abbrev pub with_crc : ℕ → ℕ → ℕ
+with_crc quad crc = quad / 2 ^ 16 * 2 ^ 16 + crc
 
 -- a ROM of these parts, whose CRCs are still 0
 abbrev pub unsealed : List ℕ → ℕ → List ℕ → List ℕ → Parts

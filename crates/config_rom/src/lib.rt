@@ -20,5 +20,5 @@ pub use fault::{RomFault, RomStop};
 pub use laws::{one_list, one_rom, roms_are_refused_so, roms_have_texts};
 pub use quad_lanes::OutOfMemory;
 pub use rom::{BUS_NAME, Rom, decode_rom, encode_rom};
-pub use sealing::seal;
+pub use sealing::{seal, seal_blocks, sealed_blocks_are_good};
 pub use text::rom_text;

@@ -4,7 +4,7 @@ ghost use Rattle.quad_lanes.specs.Pairs.{quads_of};
 ghost use Rattle.config_rom.specs.declared.fault.RomFault.{RomFault};
 ghost use Rattle.config_rom.specs.declared.fault.RomStop.TheVariants.{Fault};
 ghost use Rattle.config_rom.specs.Layout.{info_len_of, end_of};
-ghost use Rattle.config_rom.specs.Rom.{Parts, IsRom, rom_quads, rom_bytes, unsealed};
+ghost use Rattle.config_rom.specs.Rom.{Parts, IsRom, rom_quads, rom_bytes, unsealed, with_crc};
 ghost use Rattle.config_rom.specs.Fault.{rom_fault};
 ghost use Rattle.config_rom.specs.Answer.{IfFault, UnlessMemory};
 
@@ -133,6 +133,19 @@ impl Rom {
         self.quads[0] = with_crc(self.quads[0], crc);
     }
 
+    /// Sets the CRC that the header at a place keeps, which stands where the root directory does or
+    /// behind it.
+    pub(crate) fn set_crc_at(&mut self, at: usize, crc: u16)
+        requires behind { 1 + self.old.info_len ≤ at }
+        requires inside { at < length (rom_quads self.old) }
+        ensures quads { rom_quads self.new ≡ slice_set (rom_quads self.old) at
+            (with_crc (slice_index (rom_quads self.old) at) crc) }
+        ensures info_len { self.new.info_len ≡ self.old.info_len }
+        ensures crc_length { self.new.crc_length ≡ self.old.crc_length }
+    {
+        self.quads[at] = with_crc(self.quads[at], crc);
+    }
+
     /// Sets the CRC that the root directory keeps.
     pub(crate) fn set_root_crc(&mut self, crc: u16)
         ensures { self.new ≡ record self.old { root_crc = crc } }
@@ -144,7 +157,7 @@ impl Rom {
 
 /// A quadlet with another CRC in its low sixteen bits.
 fn with_crc(quad: u32, crc: u16) -> u32
-    ensures { result ≡ quad / 2 ^ 16 * 2 ^ 16 + crc }
+    ensures { result ≡ with_crc quad crc }
 {
     (quad >> 16) * 0x1_0000 + u32::from(crc)
 }

@@ -1,23 +1,9 @@
 -- What is so after how many quiet turns.
-use Rattle.std.proofs.Common.{◌≡◌, ℕ, ◌+◌, ◌-◌, ◌*◌, ◌≤◌, Bool, true, false, Some, length, slice_get, refl, sym, ◌∙◌, ap, subst, arith, true≢false}
-use Rattle.cabling.specs.declared.cable.End.{End}
-use Rattle.cabling.specs.Wiring.{Wiring, far}
-use Rattle.cabling.specs.Component.{IsClosed, IsComponent}
-use Rattle.cabling.specs.Looped.{IsCore}
-use Rattle.port_state.specs.declared.signal.Level.{Level}
-use Rattle.port_state.specs.Machine.{PortNode}
-use Rattle.cable_world.specs.World.{CableWorld}
-use Rattle.cable_world.specs.Turn.{turn}
-use Rattle.cable_world.specs.Run.{IsReached}
-use Rattle.cable_world.specs.Phases.{is_before_tree}
-use Rattle.cable_world.specs.Agreement.{level_sent_at, level_shown}
-use Rattle.cable_world.specs.Lawful.{IsLawful}
-use Rattle.cable_world.proofs.Lemmas.{cabling-after, after-delay, after-length, some-of, some-at, some-same, reached-lawful, quiet-then, quiet-lawful, after-cabling}
-use Rattle.cable_world.specs.Quiet.{HoldSchedule, quiet_after, holds_after}
-use Rattle.convergence.specs.Acyclic.{IsAcyclic}
+use Rattle.std.proofs.Common.{◌≡◌, ℕ, ◌+◌, ◌-◌, ◌*◌, ◌≤◌, Bool, true, Some, length, slice_get, refl, sym, ◌∙◌, ap, subst, arith}
+use Rattle.std.proofs.lemmas.Bool.{false_from_ne_true}
+use Rattle.convergence.proofs.Common.{End, Wiring, far, IsClosed, IsComponent, IsCore, Level, PortNode, CableWorld, turn, IsReached, level_sent_at, level_shown, IsLawful, cabling-after, after-delay, after-length, some-of, some-at, some-same, reached-lawful, quiet-then, quiet-lawful, after-cabling, HoldSchedule, quiet_after, holds_after, IsAcyclic, ResetsAreDone, TreesAreTaken, LoopsAreReported, TreesAreDecided, turns_to_done, turns_to_trees, turns_to_decision, contrary}
 use Rattle.convergence.specs.Cables.{TellsAt, ShowsAt}
-use Rattle.convergence.specs.Milestones.{ResetsAreDone, TreesAreTaken, LoopsAreReported, TreesAreDecided}
-use Rattle.convergence.specs.Turns.{tree_turns, loop_turns, decision_turns, turns_to_done, turns_to_trees, turns_to_loops, turns_to_decision}
+use Rattle.convergence.specs.Turns.{tree_turns, loop_turns, decision_turns, turns_to_loops}
 use Rattle.convergence.specs.Kept.{IsGrown}
 use Rattle.convergence.proofs.turns.Cables.{joined-of}
 use Rattle.convergence.proofs.turns.CalmTurns.{Calmly, calmly, early-before, done-calm}
@@ -72,7 +58,7 @@ taken-after hs w k l done late node set core whole is empty j x h at =
 
 pub taken-turn :
     (w : CableWorld) → IsLawful w → ResetsAreDone w → TreesAreTaken w → TreesAreTaken (turn w)
-taken-turn w l done taken node set core whole is empty k y h at = go (is_before_tree y.state.view.phase) refl
+taken-turn w l done taken node set core whole is empty k y h at = false_from_ne_true _ (λ e. contrary (early-before w k y.state c e) (taken node set core comp is_core empty k c.node h c.at))
   where
     comp : IsComponent w.cabling node set
     comp = subst (λ c. IsComponent c node set) (cabling-after w) whole
@@ -82,10 +68,6 @@ taken-turn w l done taken node set core whole is empty k y h at = go (is_before_
 
     c : Calmly w k y.state
     c = calmly w l (done-calm w done) k y at
-
-    go : (b : Bool) → is_before_tree y.state.view.phase ≡ b → b ≡ false
-    go false e = refl
-    go true e = absurd (true≢false (sym (early-before w k y.state c e) ∙ taken node set core comp is_core empty k c.node h c.at))
 
 pub reported-after :
     (hs : HoldSchedule) (w : CableWorld) (k : ℕ) → IsLawful w → IsAcyclic w → ResetsAreDone w → loop_turns w ≤ k →

@@ -1,5 +1,7 @@
 -- What crates above use of the proofs of this one, by what it is about.
 
+-- A test that passes and fails gives anything.
+pub use Rattle.convergence.proofs.Common.{contrary}
 -- What is so after how many quiet turns.
 pub use Rattle.convergence.proofs.AfterTurns.{decided-reached, done-after, reported-after, reported-reached, start-grown, taken-reached, taken-turn}
 -- Late, two nodes of a component that drew coins are the ends of one cable, and no third one drew.

@@ -12,6 +12,7 @@
 --   rounds  tree identify ends, or two nodes draw 32 equal coins (`trees_are_decided`)
 --
 -- `AfterTurns` counts the turns from one milestone to the next, and from the last act.
+pub mod Common
 pub mod turns
 pub mod sets
 pub mod ranks

@@ -12,6 +12,7 @@
 --   settled   every component comes to an outcome, and a tree stays (`worlds_stay_numbering`,
 --             `loops_come_out`, `components_settle`, `trees_stay`, `forced_roots_settle`)
 --   worked    runs that the check computes
+pub mod Common
 pub mod walks
 pub mod identify
 pub mod roots

@@ -8,3 +8,4 @@ pub mod Unique
 pub mod SameBus
 pub mod SomeRows
 pub mod Lemmas
+pub mod ReadBack

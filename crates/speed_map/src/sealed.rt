@@ -9,6 +9,7 @@ use topology_map::seal;
 
 /// The image of a speed map: length and CRC; the generation; the rows as big-endian quadlets, 16 a
 /// node. The length of `rows` is a multiple of 64 and at most 4,032, the rows of 63 nodes.
+/// `read_image` gives the rows and the generation back.
 pub fn image(alloc: Global, rows: &[u8], generation: u32) -> Result<QuadList, OutOfMemory>
     requires whole { length rows.now % 64 ≡ 0 }
     requires few { length rows.now ≤ 4032 }

@@ -9,6 +9,7 @@ pub mod Linking
 pub mod Answered
 pub mod Cutting
 pub mod Ends
+pub mod Parent
 pub mod Joining
 pub mod Highest
 mod Lasting

@@ -1,7 +1,7 @@
 -- The IDs at the other ends of slots.
 use Rattle.std.specs.Prelude.{◌≡◌, ℕ, ◌+◌, ◌-◌, ◌⊎◌, IsSomeAnd, Option, Some, None, List, [], ◌∷◌, ◌++◌, length, slice_get}
 use Rattle.self_id.specs.declared.node.PortStatus.{PortStatus}
-use Rattle.self_id.specs.declared.node.PortStatus.TheVariants.{Absent, Unplugged}
+use Rattle.self_id.specs.declared.node.PortStatus.TheVariants.{Absent, Unplugged, Up}
 use Rattle.topology_stack.specs.Tree.{Tree, branch, Slots, no_more, absent, unplugged, up, down, walk, walk_below}
 
 -- The ends of a node's slots in rising order, where its parent has this ID and the IDs of the trees
@@ -45,3 +45,13 @@ IsLoose status = (status ≡ Absent) ⊎ (status ≡ Unplugged)
 abbrev pub IsLooseAt : Tree → ℕ → ℕ → Type 0
 IsLooseAt t id slot =
     IsSomeAnd (slice_get (walk t) id) (λ n. IsSomeAnd (slice_get n.ports slot) IsLoose)
+
+-- this slot of the node with this ID leads up
+abbrev pub IsUpAt : Tree → ℕ → ℕ → Type 0
+IsUpAt t id slot = IsSomeAnd (slice_get (walk t) id) (λ n. slice_get n.ports slot ≡ Some Up)
+
+-- the parent of the node with this ID stands at the other end of its slot that leads up
+pub record IsParent (t : Tree) (id parent : ℕ) : Type 0 where
+  pub slot : ℕ
+  pub is_up : IsUpAt t id slot
+  pub far : Far t id slot (Some parent)

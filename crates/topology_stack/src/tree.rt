@@ -7,7 +7,7 @@ ghost use Rattle.std.proofs.Common.{rules};
 ghost use Rattle.self_id.specs.declared.standard.Standard.TheVariants.{Ieee1995, Ieee2000};
 ghost use Rattle.topology_stack.specs.Tree.{Tree, IsBusTree, IsBusTreeOf, emits, walk};
 ghost use Rattle.topology_stack.specs.Refused.{Refused};
-ghost use Rattle.topology_stack.specs.Far.{Far, IsLooseAt};
+ghost use Rattle.topology_stack.specs.Far.{Far, IsLooseAt, IsParent};
 ghost use Rattle.topology_stack.specs.codings.Stored.{parents_from, children_from};
 ghost use Rattle.topology_stack.specs.Answer.{IfFault, UnlessMemory};
 ghost use Rattle.topology_stack.specs.declared.fault.TreeFault.{TreeFault};
@@ -162,6 +162,22 @@ impl BusTree {
         let id = id as usize;
         let ports = self.nodes[id].ports.as_slice();
         far_end(ports, slot as usize, self.parents[id], self.children.of(id))
+    }
+
+    /// The ID of the parent of the node with this ID, which is less than `len`. `None` where the node
+    /// is the root.
+    pub fn parent(&self, id: u8) -> Option<u8>
+        requires { id < length (walk self.now) }
+        ensures parent { IfSome result (IsParent self.now id) }
+        // A node has no other parent.
+        ensures only { (parent : ℕ) → IsParent self.now id parent → result ≡ Some parent }
+        ensures root { IsNone result ↔ (id + 1 ≡ length (walk self.now)) }
+    {
+        let len = self.len();
+        if id + 1 == len {
+            return None;
+        }
+        Some(self.parents[id as usize])
     }
 
     /// The nodes by ID.

@@ -1,17 +1,11 @@
 -- A turn keeps what a node knows of its draws.
-use Rattle.std.proofs.Common.{◌≡◌, ◌⊎◌, inl, inr, ℕ, ◌+◌, ◌*◌, ◌<◌, ◌≤◌, Bool, true, false, List, refl, sym, ◌∙◌, ap, subst, arith, true≢false, if◌then◌else◌}
+use Rattle.std.proofs.Common.{◌≡◌, ◌⊎◌, inl, inr, ℕ, ◌+◌, ◌*◌, ◌<◌, ◌≤◌, Bool, true, false, List, sym, ◌∙◌, ap, subst, arith, if◌then◌else◌}
+use Rattle.std.proofs.lemmas.Bool.{true_from_ne_false}
 use Rattle.std.specs.Prelude.{min, nat_le}
-use Rattle.port_state.specs.declared.signal.Phase.{Phase}
+use Rattle.convergence.proofs.Common.{Phase, Signal, Timing, NodeState, raise_timer, tick, is_before_tree, hear_all, NoEntry, HearsWell, TicksWell, KnowsCoins, contrary}
+use Rattle.convergence.proofs.turns.PhaseFacts.{contend-shake}
 use Rattle.port_state.specs.declared.signal.Phase.TheVariants as phase
-use Rattle.port_state.specs.declared.signal.Signal.{Signal}
-use Rattle.port_state.specs.declared.timing.Timing.{Timing}
-use Rattle.port_state.specs.declared.states.NodeState.{NodeState}
 use Rattle.port_state.specs.Timing.{InRange}
-use Rattle.port_state.specs.Tick.{raise_timer, tick}
-use Rattle.cable_world.specs.Phases.{is_before_tree}
-use Rattle.cable_world.specs.Turn.{hear_all}
-use Rattle.cable_world.proofs.Lemmas.{NoEntry, HearsWell, TicksWell}
-use Rattle.convergence.specs.Coins.{KnowsCoins}
 use Rattle.convergence.proofs.turns.Moves.{Drew, Fought, tick-draws, tick-contending, tick-fought, tick-late}
 
 pub zero-or : (n : ℕ) → (n ≡ 0) ⊎ (1 ≤ n)
@@ -54,14 +48,10 @@ module _
   heard-counts = elim h.cases [ inl s ↦ omega (arith, s.draws, k.counts) | inr c ↦ omega (arith, c.draws) ]
 
   drew-late : Drew coin m n → is_before_tree n.view.phase ≡ true → ⊥
-  drew-late e b = true≢false (sym b ∙ ap is_before_tree e.phase)
+  drew-late e b = contrary b (ap is_before_tree e.phase)
 
   early-before : is_before_tree n.view.phase ≡ true → is_before_tree m.view.phase ≡ true
-  early-before e = go (is_before_tree m.view.phase) refl
-    where
-      go : (b : Bool) → is_before_tree m.view.phase ≡ b → b ≡ true
-      go true a = refl
-      go false a = absurd (true≢false (sym e ∙ tick-late coin m a))
+  early-before e = true_from_ne_false _ (λ a. contrary e (tick-late coin m a))
 
   -- in T3 a node drew, and waits
   record InContend (z : NodeState) : Type 0 where
@@ -80,9 +70,6 @@ module _
       clash : (f : Phase) → f ≡ phase.Contend → f ≡ phase.ChildShake → ⊥
       clash f a b = cc
 
-      clash2 : (f : Phase) → f ≡ phase.Contend → f ≡ phase.ParentShake → ⊥
-      clash2 f a b = cc
-
       start : (f : Phase) → f ≡ phase.Contend → f ≡ phase.ResetStart → ⊥
       start f a b = cc
 
@@ -99,7 +86,7 @@ module _
           NoEntry x (hear_all signals x) → x.view.phase ≡ phase.Contend → Fought (raise_timer m)
           n (tick coin m).sends → InContend n
       on s was (inl w) = elim (tick-draws coin m) [
-        | inl e ↦ absurd (clash2 m.view.phase (s.phase ∙ was) e.before)
+        | inl e ↦ absurd (contend-shake m.view.phase (s.phase ∙ was) e.before)
         | inr e ↦ record {
           drawn = omega (arith, e.draws, s.draws, k.drawn was);
           waits = omega (arith, w.timer, w.not_yet, e.wait);
@@ -107,7 +94,7 @@ module _
         }
       ]
       on s was (inr (inl w)) = absurd (clash n.view.phase c w.phase)
-      on s was (inr (inr w)) = absurd (clash2 n.view.phase c w.phase)
+      on s was (inr (inr w)) = absurd (contend-shake n.view.phase c w.phase)
 
   pub knows-after : KnowsCoins d n
   knows-after = record {

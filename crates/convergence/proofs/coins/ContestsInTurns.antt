@@ -1,19 +1,13 @@
 -- A turn keeps what two ends of a cable know of coins.
-use Rattle.std.proofs.Common.{◌≡◌, ◌⊎◌, inl, inr, ℕ, ◌+◌, ◌*◌, ◌≤◌, Bool, true, false, not, [], Option, Some, None, refl, sym, ◌∙◌, ap, subst, arith, true≢false, if◌then◌else◌}
-use Rattle.std.proofs.lemmas.Bool.{eq-eqb, and_parts, or_cases}
-use Rattle.port_state.specs.declared.signal.Level.{Level}
+use Rattle.std.proofs.Common.{◌≡◌, ◌⊎◌, inl, inr, ℕ, ◌+◌, ◌*◌, ◌≤◌, Bool, true, false, not, [], Option, Some, None, refl, sym, ◌∙◌, ap, subst, arith, if◌then◌else◌}
+use Rattle.std.proofs.lemmas.Bool.{eq-eqb, and_parts, or_cases, false_from_ne_true, not-false}
+use Rattle.convergence.proofs.Common.{Level, Phase, is_idle, is_parent, is_child, is_port, raise_timer, level_sent, level_shown, leads_down, level_after, is_before_tree, is_shaking, signals_of, has_reset, is_asking, child-if, NoEntry, risen, not-both, Side, hearing, ticking, wire_after, late-roles, tree_start-known, heard_shown, AddsDraw, DrewTogether, IsAhead, AsksAgain, Contests, AreRivals, contrary}
 use Rattle.port_state.specs.declared.signal.Level.TheVariants as level
-use Rattle.port_state.specs.declared.signal.Phase.{Phase}
 use Rattle.port_state.specs.declared.signal.Phase.TheVariants as phase
-use Rattle.port_state.specs.Ports.{is_idle, is_parent, is_child, is_port}
-use Rattle.port_state.specs.Tick.{raise_timer}
-use Rattle.cable_world.specs.Agreement.{level_sent, level_shown, leads_down, level_after}
-use Rattle.cable_world.specs.Phases.{is_before_tree, is_after_hold, is_shaking}
-use Rattle.cable_world.specs.Signals.{signals_of, has_reset, shows_no_notice, has_no_parent_signal}
-use Rattle.cable_world.specs.Coupling.{is_asking}
-use Rattle.cable_world.proofs.Lemmas.{child-if, NoEntry, risen, not-both, level_after-reset, Side, hearing, ticking, wire_after, late-roles, tree_start-known, between-known, heard_connected, turned-round, heard_shown, after_shown, heard_low, heard_no_parent, other_heard, near_heard, no_reset_before}
-use Rattle.convergence.specs.Coins.{AddsDraw, DrewTogether}
-use Rattle.convergence.specs.Rivals.{IsAhead, AsksAgain, HasWon, IsBelow, Contests, AreAlike, AreRivals}
+use Rattle.cable_world.specs.Phases.{is_after_hold}
+use Rattle.cable_world.specs.Signals.{shows_no_notice, has_no_parent_signal}
+use Rattle.cable_world.proofs.Lemmas.{level_after-reset, between-known, heard_connected, turned-round, after_shown, heard_low, heard_no_parent, other_heard, near_heard, no_reset_before}
+use Rattle.convergence.specs.Rivals.{HasWon, IsBelow, AreAlike}
 use Rattle.convergence.proofs.coins.CoinsInTurns.{zero-or}
 use Rattle.convergence.proofs.turns.Moves.{Drew, DrewNone, Fought, tick-draws, tick-shaken, tick-fought, tick-contending, tick-shaking-from, tick-child-shake, child-idle}
 use Rattle.convergence.proofs.coins.Rivals.{child-told, Rivals, swapped, stand-round, other-level, after-knows, late-heard, late-before, late-after, calm, start-calm, up-late, up-heard, up-before, up-mid, not-down, drew-sees, accepted-sees, again-sees, still, draws-not, adds-still, asks-on}
@@ -88,7 +82,7 @@ module _ (d : ℕ) (x y : Side) (r : Rivals d x y) (start : x.node.view.phase �
         | inr b ↦ elim b [
           | inl w ↦ absurd (other-draws-not hy w)
           | inr c ↦ elim c [
-            | inl none ↦ absurd (true≢false (sym (up-mid d y x sw hy (asks-up a)) ∙ ap (λ o. is_port o y.port) none))
+            | inl none ↦ contrary (up-mid d y x sw hy (asks-up a)) (ap (λ o. is_port o y.port) none)
             | inr w ↦ absurd (low-is-child (level_shown (hearing y).state y.port) other-low (accepted-sees d y x sw w (up-mid d y x sw hy (asks-up a))))
           ]
         ]
@@ -248,11 +242,7 @@ module _ (d : ℕ) (x y : Side) (r : Rivals d x y) where
       hx = near_heard d x y r.pair c
 
       late : is_before_tree (ticking y).state.view.phase ≡ false
-      late = go (is_before_tree (ticking y).state.view.phase) refl
-        where
-          go : (b : Bool) → is_before_tree (ticking y).state.view.phase ≡ b → b ≡ false
-          go false e = refl
-          go true e = absurd (omega (arith, some, (after-knows d y x sv).fresh e))
+      late = false_from_ne_true _ (λ e. omega (arith, some, (after-knows d y x sv).fresh e))
 
       hy : NoEntry y.node (hearing y)
       hy = late-heard d y x sv late
@@ -318,14 +308,14 @@ module _ (d : ℕ) (x y : Side) (r : Rivals d x y) where
           }
         where
           none-some : (p : ℕ) → None ≡ Some p → ⊥
-          none-some p e = true≢false (sym (eq-eqb p p refl) ∙ sym (ap (λ o. is_port o p) e))
+          none-some p e = contrary (eq-eqb p p refl) (sym (ap (λ o. is_port o p) e))
 
           root-after :
               x.node.view.parent ≡ None → (o : Option ℕ) → (ticking x).state.view.parent ≡ o →
               o ≡ None
           root-after e None f = refl
           root-after e (Some p) f = elim (parent-was x.coin (hearing x).state p (ap (λ o. is_port o p) f ∙ eq-eqb p p refl)) [
-            | inl u ↦ absurd (true≢false (sym u ∙ ap (λ o. is_port o p) (hx.parent ∙ e)))
+            | inl u ↦ contrary u (ap (λ o. is_port o p) (hx.parent ∙ e))
             | inr s ↦ absurd (start-late x.node.view.phase (sym hx.phase ∙ s) (child-late x.node r.pair.near.valid x.port was))
           ]
 
@@ -349,11 +339,7 @@ module _ (d : ℕ) (x y : Side) (r : Rivals d x y) where
           up true e =
               let k = r.pair.coupled_back.child e (calm d x y r (up-late d x y r ux)) in
               absurd (other-level (level_shown (hearing x).state x.port) shown (heard_no_parent d y x (turned-round d x y r.pair) k.1 k.2))
-          up false e = turn (is_port y.node.view.parent y.port) (sym (child-if y.node.view.parent y.node.view.ports y.port (late-roles y.node r.pair.other.valid l) r.pair.other.connected) ∙ e)
-            where
-              turn : (b : Bool) → not b ≡ false → b ≡ true
-              turn true e = refl
-              turn false e = absurd (true≢false e)
+          up false e = not-false (is_port y.node.view.parent y.port) (sym (child-if y.node.view.parent y.node.view.ports y.port (late-roles y.node r.pair.other.valid l) r.pair.other.connected) ∙ e)
 
           uy : is_port y.node.view.parent y.port ≡ true
           uy = up (leads_down y.node.view.ports y.port) refl
@@ -481,11 +467,7 @@ module _ (d : ℕ) (x y : Side) (r : Rivals d x y) where
       up true e =
           let k = r.pair.coupled_back.child e (calm d x y r (up-late d x y r ux)) in
           absurd (other-level (level_shown (hearing x).state x.port) shown (heard_no_parent d y x (turned-round d x y r.pair) k.1 k.2))
-      up false e = turn (is_port y.node.view.parent y.port) (sym (child-if y.node.view.parent y.node.view.ports y.port (late-roles y.node r.pair.other.valid l) r.pair.other.connected) ∙ e)
-        where
-          turn : (b : Bool) → not b ≡ false → b ≡ true
-          turn true e = refl
-          turn false e = absurd (true≢false e)
+      up false e = not-false (is_port y.node.view.parent y.port) (sym (child-if y.node.view.parent y.node.view.ports y.port (late-roles y.node r.pair.other.valid l) r.pair.other.connected) ∙ e)
 
       uy : is_port y.node.view.parent y.port ≡ true
       uy = up (leads_down y.node.view.ports y.port) refl

@@ -1,33 +1,16 @@
 -- Late, two nodes of a component that drew coins are the ends of one cable, and no third one drew.
 use Rattle.std.proofs.Common.{◌≡◌, ◌≢◌, ◌⊎◌, is_some, inl, inr, ℕ, zero, suc, ◌+◌, ◌<◌, ◌≤◌, Bool, true, false, not, Option, Some, None, slice_get, refl, sym, ◌∙◌, ap, subst, arith, true≢false}
 use Rattle.std.specs.Prelude.{IsSome}
-use Rattle.std.proofs.lemmas.Bool.{eq-eqb, cases_eq}
+use Rattle.std.proofs.lemmas.Bool.{eq-eqb, cases_eq, false_from_ne_true}
 use Rattle.std.proofs.lemmas.Option.{slice_get_within, slice_get_cases}
-use Rattle.cabling.specs.declared.cable.End.{End}
-use Rattle.cabling.specs.Wiring.{far}
-use Rattle.cabling.specs.NodeSet.{Holds}
-use Rattle.cabling.specs.Component.{IsComponent}
-use Rattle.cabling.proofs.Lemmas.{same_end, one_other, end_at, shared}
-use Rattle.port_state.specs.declared.ports.PortView.{PortView}
+use Rattle.convergence.proofs.Common.{End, far, Holds, IsComponent, end_at, PortView, NodeState, is_port, is_connected, passes, IsValid, FitsPhase, PortNode, CableWorld, wire_of, is_before_tree, signals_of, has_reset, leads_down, IsLawful, child-if, cable-connected, some-same, late-roles, start-before_tree, AreJoined, IsChildCable, ResetsAreOver, IsRoot, IsContested, AreRivals, DrawsAgree, AreMutual, AreUnequal, contrary}
+use Rattle.cabling.proofs.Lemmas.{same_end, one_other, shared}
 use Rattle.port_state.specs.declared.signal.Phase.TheVariants as phase
-use Rattle.port_state.specs.declared.states.NodeState.{NodeState}
-use Rattle.port_state.specs.Ports.{is_port, is_connected, passes}
-use Rattle.port_state.specs.Valid.{IsValid, HasRoles, FitsPhase}
-use Rattle.port_state.specs.Machine.{PortNode}
-use Rattle.cable_world.specs.World.{CableWorld, wire_of}
-use Rattle.cable_world.specs.Phases.{is_before_tree}
-use Rattle.cable_world.specs.Signals.{signals_of, has_reset}
-use Rattle.cable_world.specs.Agreement.{leads_down}
-use Rattle.cable_world.specs.Lawful.{FitsCables, IsLawful}
-use Rattle.cable_world.proofs.Lemmas.{child-if, cable-connected, some-same, late-roles, start-before_tree}
-use Rattle.convergence.specs.Cables.{AreJoined}
+use Rattle.port_state.specs.Valid.{HasRoles}
+use Rattle.cable_world.specs.Lawful.{FitsCables}
 use Rattle.convergence.proofs.turns.Cables.{joined-of}
-use Rattle.convergence.specs.Acyclic.{IsChildCable}
-use Rattle.convergence.specs.Milestones.{ResetsAreOver}
-use Rattle.convergence.specs.Roots.{IsLate, IsRoot}
-use Rattle.convergence.specs.Rivals.{IsContested, AreRivals}
-use Rattle.convergence.specs.Coins.{DrawsAgree}
-use Rattle.convergence.specs.Drawers.{HasDrawn, AreMutual, DrewOnCable, AreUnequal}
+use Rattle.convergence.specs.Roots.{IsLate}
+use Rattle.convergence.specs.Drawers.{HasDrawn, DrewOnCable}
 use Rattle.convergence.proofs.sets.Closure.{in-component}
 use Rattle.convergence.proofs.loops.Cores.{leads-down, below-late, one-root}
 use Rattle.convergence.proofs.coins.DrawsAgree.{won-agree, stand-agree, stand-close, agree-round}
@@ -54,7 +37,7 @@ parent-connected x v p e = elim (slice_get_cases x.view.ports p).1 [
 
     on : (c : Bool) → (c ≡ false → is_port x.view.parent p ≡ false) → c ≡ true
     on true h = refl
-    on false h = absurd (true≢false (sym up ∙ h refl))
+    on false h = contrary up (h refl)
 
     go : (q : PortView) → slice_get x.view.ports p ≡ Some q → is_connected x.view.ports p ≡ true
     go q at = ap (passes (λ r. r.connected)) at ∙ on q.connected (λ f. ((roles p q at).none f).1)
@@ -74,13 +57,6 @@ record IsPaired (w : CableWorld) (k : ℕ) : Type 0 where
   to : End
   mutual_ : AreMutual w from to
   is : from.node ≡ k
-
-round : (w : CableWorld) (a b : End) → IsLawful w → AreMutual w a b → AreMutual w b a
-round w a b l m = record {
-  ends = record { joined = l.well_formed.cabling.both_ways a b m.ends.joined; near = m.ends.other; near_at = m.ends.other_at; other = m.ends.near; other_at = m.ends.near_at };
-  here = m.there;
-  there = m.here;
-}
 
 -- ---- two rivals, as they stand
 
@@ -116,14 +92,10 @@ module _ (w : CableWorld) (l : IsLawful w) (c : IsContested w) (over : ResetsAre
     where
       go : (r : Bool) → has_reset (signals_of (wire_of w b).signals) ≡ r → r ≡ false
       go false s = refl
-      go true s = absurd (true≢false (sym (start-before_tree x.state.view.phase (over b a x (back a b e) at s)) ∙ late))
+      go true s = contrary (start-before_tree x.state.view.phase (over b a x (back a b e) at s)) late
 
   drawn-late : (k : ℕ) → (h : HasDrawn w k) → is_before_tree h.node.state.view.phase ≡ false
-  drawn-late k h = go (is_before_tree h.node.state.view.phase) refl
-    where
-      go : (b : Bool) → is_before_tree h.node.state.view.phase ≡ b → b ≡ false
-      go false e = refl
-      go true e = absurd (omega (arith, h.some, (c.nodes k h.node h.at).fresh e))
+  drawn-late k h = false_from_ne_true _ (λ e. omega (arith, h.some, (c.nodes k h.node h.at).fresh e))
 
   -- what a node is that drew
   kind : (k : ℕ) → HasDrawn w k → IsRoot w k ⊎ (IsBeaten w k ⊎ IsPaired w k)
@@ -184,7 +156,7 @@ module _ (w : CableWorld) (l : IsLawful w) (c : IsContested w) (over : ResetsAre
           there :
               (o : Option End) → far w.cabling a ≡ o → is_some (far w.cabling a) ≡ true →
               IsRoot w k ⊎ (IsBeaten w k ⊎ IsPaired w k)
-          there None n s = absurd (true≢false (sym s ∙ ap is_some n))
+          there None n s = contrary s (ap is_some n)
           there (Some b) n s = either b n
 
   -- ---- what is below a pair
@@ -263,7 +235,7 @@ module _ (w : CableWorld) (l : IsLawful w) (c : IsContested w) (over : ResetsAre
             (k p : ℕ) (x : PortNode) → k ≡ r → slice_get w.nodes k ≡ Some x →
             is_port x.state.view.parent p ≡ true → ⊥
         no-parent k p x i at up =
-            true≢false (sym up ∙ ap (λ (z : PortNode). is_port z.state.view.parent p) (some-same x root.node (sym at ∙ ap (slice_get w.nodes) i ∙ root.at)) ∙ ap (λ o. is_port o p) root.parentless)
+            contrary up (ap (λ (z : PortNode). is_port z.state.view.parent p) (some-same x root.node (sym at ∙ ap (slice_get w.nodes) i ∙ root.at)) ∙ ap (λ o. is_port o p) root.parentless)
 
         go : (n : ℕ) → Below n r → ⊥
         go zero (inl i) = no-parent a.node a.port m.ends.near (sym i) m.ends.near_at m.here
@@ -428,7 +400,7 @@ module _ (w : CableWorld) (l : IsLawful w) (c : IsContested w) (over : ResetsAre
     where
       go : (o : Option ℕ) → IsSome o → o ≡ None → ⊥
       go None some e = absurd cc
-      go (Some p) some e = true≢false (sym (eq-eqb p p refl) ∙ ap (λ q. is_port q p) e)
+      go (Some p) some e = contrary (eq-eqb p p refl) (ap (λ q. is_port q p) e)
 
   contend-drawn :
       (k : ℕ) (x : PortNode) → slice_get w.nodes k ≡ Some x → x.state.view.phase ≡ phase.Contend →

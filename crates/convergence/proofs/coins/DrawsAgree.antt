@@ -4,11 +4,8 @@ use Rattle.std.specs.Prelude.{min, nat_lt}
 use Rattle.std.specs.Int.{bit_at, w64}
 use Rattle.std.proofs.lemmas.Nat.{one_shl}
 use Rattle.std.proofs.lemmas.Nat.Bits.{bit_at_set_other}
-use Rattle.port_state.specs.declared.states.NodeState.{NodeState}
-use Rattle.port_state.specs.TreeIdentify.{draws_with}
-use Rattle.cable_world.specs.declared.wire.Travelling.{Travelling}
-use Rattle.convergence.specs.Coins.{last_coin, AddsDraw, DrewTogether, KnowsCoins, DrawsAgree}
-use Rattle.convergence.specs.Rivals.{HasWon, AreApart, AreRivals}
+use Rattle.convergence.proofs.Common.{NodeState, draws_with, Travelling, last_coin, AddsDraw, DrewTogether, KnowsCoins, DrawsAgree, AreApart, AreRivals}
+use Rattle.convergence.specs.Rivals.{HasWon}
 
 -- one more coin leaves the draws before it alone
 draws-with-before : (c : Bool) (n f j : ℕ) → j < n → bit_at (draws_with c n f) j ≡ bit_at f j

@@ -1,24 +1,13 @@
 -- Two nodes that have each other for parent, in a turn.
-use Rattle.std.proofs.Common.{◌≡◌, ◌⊎◌, inl, inr, ℕ, ◌+◌, ◌-◌, ◌*◌, ◌≤◌, Bool, true, false, not, List, [], ◌∷◌, ◌++◌, Some, refl, sym, ◌∙◌, ap, subst, arith, true≢false, if◌then◌else◌}
+use Rattle.std.proofs.Common.{◌≡◌, ◌⊎◌, inl, inr, ℕ, ◌+◌, ◌-◌, ◌*◌, ◌≤◌, Bool, true, false, not, List, [], ◌∷◌, ◌++◌, Some, refl, sym, ◌∙◌, ap, subst, arith, if◌then◌else◌}
 use Rattle.std.specs.Prelude.{min, nat_le}
-use Rattle.std.proofs.lemmas.Bool.{eq-eqb}
-use Rattle.port_state.specs.declared.signal.Level.{Level}
+use Rattle.std.proofs.lemmas.Bool.{eq-eqb, false_from_ne_true}
+use Rattle.convergence.proofs.Common.{Level, Phase, NodeState, draws_with, is_parent, is_child, is_port, is_resetting, hears_packets, raise_timer, Travelling, level_sent, level_shown, leads_down, level_after, level_sent_at, AgesFall, signals_of, has_reset, is_before_tree, is_shaking, child-if, NoEntry, Side, hearing, ticking, late-roles, start-before_tree, heard_shown, came, last_coin, AddsDraw, DrewTogether, KnowsCoins, Contests, AreRivals, contrary}
 use Rattle.port_state.specs.declared.signal.Level.TheVariants as level
-use Rattle.port_state.specs.declared.signal.Phase.{Phase}
 use Rattle.port_state.specs.declared.signal.Phase.TheVariants as phase
-use Rattle.port_state.specs.declared.states.NodeState.{NodeState}
-use Rattle.port_state.specs.TreeIdentify.{draws_with}
-use Rattle.port_state.specs.Ports.{is_parent, is_child, is_port}
-use Rattle.port_state.specs.Heard.{is_resetting, hears_packets}
-use Rattle.port_state.specs.Tick.{raise_timer}
-use Rattle.cable_world.specs.declared.wire.Travelling.{Travelling}
-use Rattle.cable_world.specs.Agreement.{level_sent, level_shown, leads_down, level_after, level_sent_at}
-use Rattle.cable_world.specs.Lawful.{AgesFall}
-use Rattle.cable_world.specs.Signals.{AllAsOldAs, signals_of, has_reset}
-use Rattle.cable_world.specs.Phases.{is_before_tree, is_shaking}
-use Rattle.cable_world.proofs.Lemmas.{child-if, NoEntry, AllAsOldAs-less, nothing-left, Side, hearing, ticking, arrivals, late-roles, heard_timing, heard_parent, start-before_tree, Pair, turned-round, heard_shown, came}
-use Rattle.convergence.specs.Coins.{last_coin, AddsDraw, DrewTogether, DrewTheSame, KnowsCoins}
-use Rattle.convergence.specs.Rivals.{Contests, AreRivals}
+use Rattle.cable_world.specs.Signals.{AllAsOldAs}
+use Rattle.cable_world.proofs.Lemmas.{AllAsOldAs-less, nothing-left, arrivals, heard_timing, heard_parent, Pair, turned-round}
+use Rattle.convergence.specs.Coins.{DrewTheSame}
 use Rattle.convergence.proofs.coins.CoinsInTurns.{drawn-coin, knows-after}
 use Rattle.convergence.proofs.turns.Moves.{Drew, DrewNone, Accepted, TookRival, AskedAgain, tick-draws, tick-late, tick-late-was}
 use Rattle.convergence.proofs.turns.Roles.{parent-late, parent-was}
@@ -100,7 +89,7 @@ module _ (d : ℕ) (x y : Side) (r : Rivals d x y) where
   pub late-heard : is_before_tree now.view.phase ≡ false → NoEntry was (hearing x)
   late-heard l = elim j.near.hears.cases [
     | inl h ↦ h
-    | inr c ↦ absurd (true≢false (sym (start-before_tree now.view.phase (came d x y j c).0) ∙ l))
+    | inr c ↦ contrary (start-before_tree now.view.phase (came d x y j c).0) l
   ]
 
   pub late-before :
@@ -120,18 +109,10 @@ module _ (d : ℕ) (x y : Side) (r : Rivals d x y) where
 
   -- no Reset comes from a late node
   pub calm : is_before_tree was.view.phase ≡ false → has_reset (signals_of x.wire) ≡ false
-  calm l = go (has_reset (signals_of x.wire)) refl
-    where
-      go : (b : Bool) → has_reset (signals_of x.wire) ≡ b → b ≡ false
-      go false e = refl
-      go true e = absurd (true≢false (sym (start-before_tree was.view.phase (j.coupled.reset e)) ∙ l))
+  calm l = false_from_ne_true _ (λ e. contrary (start-before_tree was.view.phase (j.coupled.reset e)) l)
 
   pub start-calm : was.view.phase ≡ phase.TreeStart → has_reset (signals_of x.wire) ≡ false
-  start-calm s = go (has_reset (signals_of x.wire)) refl
-    where
-      go : (b : Bool) → has_reset (signals_of x.wire) ≡ b → b ≡ false
-      go false e = refl
-      go true e = absurd (true≢false (sym (j.coupled.reset e) ∙ ap is_resetting s))
+  start-calm s = false_from_ne_true _ (λ e. contrary (j.coupled.reset e) (ap is_resetting s))
 
   -- a parent port
   pub up-late : is_port was.view.parent x.port ≡ true → is_before_tree was.view.phase ≡ false

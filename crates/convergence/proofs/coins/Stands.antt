@@ -1,21 +1,15 @@
 -- Where two rivals stand after a turn.
-use Rattle.std.proofs.Common.{◌≡◌, ◌⊎◌, inl, inr, ℕ, ◌+◌, ◌-◌, ◌*◌, ◌<◌, ◌≤◌, Bool, true, false, [], map, refl, sym, ◌∙◌, ap, subst, arith, true≢false}
+use Rattle.std.proofs.Common.{◌≡◌, ◌⊎◌, inl, inr, ℕ, ◌+◌, ◌-◌, ◌*◌, ◌<◌, ◌≤◌, Bool, true, false, [], map, refl, sym, ◌∙◌, ap, subst, arith}
 use Rattle.std.proofs.lemmas.Bool.{leb-true}
-use Rattle.port_state.specs.declared.signal.Level.{Level}
+use Rattle.convergence.proofs.Common.{Level, Phase, NodeState, draws_with, is_port, raise_timer, new_signal, level_sent, level_shown, leads_down, level_after, level_sent_at, is_shaking, signals_of, NoEntry, risen, not-both, Side, hearing, ticking, departures, wire_after, heard_shown, last_coin, AddsDraw, DrewTogether, KnowsCoins, IsAhead, AsksAgain, HaveMet, AreApart, AreRivals, contrary}
+use Rattle.convergence.proofs.turns.PhaseFacts.{contend-shake}
 use Rattle.port_state.specs.declared.signal.Level.TheVariants as level
-use Rattle.port_state.specs.declared.signal.Phase.{Phase}
 use Rattle.port_state.specs.declared.signal.Phase.TheVariants as phase
-use Rattle.port_state.specs.declared.states.NodeState.{NodeState}
-use Rattle.port_state.specs.TreeIdentify.{draws_with}
-use Rattle.port_state.specs.Ports.{is_port}
-use Rattle.port_state.specs.Tick.{raise_timer}
-use Rattle.cable_world.specs.Wire.{new_signal}
-use Rattle.cable_world.specs.Agreement.{level_sent, level_shown, leads_down, level_after, level_sent_at}
-use Rattle.cable_world.specs.Phases.{is_shaking, is_timed, slack}
-use Rattle.cable_world.specs.Signals.{signals_of, AllAsOldAs}
-use Rattle.cable_world.proofs.Lemmas.{NoEntry, risen, not-both, AllAsOldAs-zero, AllAsOldAs-less, Side, hearing, ticking, arrivals, leftovers, departures, wire_after, kept_since, same_wire, kept_levels, heard_shown, heard_idle}
-use Rattle.convergence.specs.Coins.{last_coin, AddsDraw, DrewTogether, DrewTheSame, KnowsCoins}
-use Rattle.convergence.specs.Rivals.{IsAhead, AsksAgain, AreAlike, HaveMet, AreApart, AreRivals}
+use Rattle.cable_world.specs.Phases.{is_timed, slack}
+use Rattle.cable_world.specs.Signals.{AllAsOldAs}
+use Rattle.cable_world.proofs.Lemmas.{AllAsOldAs-zero, AllAsOldAs-less, arrivals, leftovers, kept_since, same_wire, kept_levels, heard_idle}
+use Rattle.convergence.specs.Coins.{DrewTheSame}
+use Rattle.convergence.specs.Rivals.{AreAlike}
 use Rattle.convergence.proofs.turns.Moves.{Drew, DrewNone, Shook, Waited, TookRival, AskedAgain, Fought, tick-shaken, tick-fought}
 use Rattle.convergence.proofs.coins.Rivals.{none-so-old, ages-first, Rivals, swapped, together-round, same-round, stand-round, no-contend, shaking-silent, other-level, up-late, up-mid, not-down, drew-sees, accepted-sees, took-sees, again-sees, draws-not, adds-draw, adds-still, coin-still, asks-on, asks-here, sees-child}
 
@@ -59,7 +53,7 @@ module _
     | inr a ↦ elim a [
       | inl b ↦ inr b
       | inr b ↦ elim b [
-        | inl none ↦ absurd (true≢false (sym (up-mid d x y r h ux) ∙ ap (λ o. is_port o x.port) none))
+        | inl none ↦ contrary (up-mid d x y r h ux) (ap (λ o. is_port o x.port) none)
         | inr c ↦ absurd (not-both (leads_down y.node.view.ports y.port)
             (sees-child d x y r (up-late d y x (swapped d x y r) uy) (accepted-sees d x y r c (up-mid d x y r h ux))) (not-down d y x (swapped d x y r) uy))
       ]
@@ -149,10 +143,7 @@ module _
   shook-none a = draws-not d x y r hx (λ w. no-contend (ticking x).state.view.phase a.phase w.phase)
 
   pub contend-none : x.node.view.phase ≡ phase.Contend → DrewNone x.node (ticking x).state
-  contend-none c = draws-not d x y r hx (λ w. clash x.node.view.phase c (sym hx.phase ∙ w.before))
-    where
-      clash : (f : Phase) → f ≡ phase.Contend → f ≡ phase.ParentShake → ⊥
-      clash f a b = cc
+  contend-none c = draws-not d x y r hx (λ w. contend-shake x.node.view.phase c (sym hx.phase ∙ w.before))
 
   -- both drew alike, and x draws once more
   first-draw :
@@ -187,10 +178,7 @@ module _
       nx = contend-none m.here
 
       ny : DrewNone y.node (ticking y).state
-      ny = draws-not d y x s2 hy (λ v. clash y.node.view.phase m.there (sym hy.phase ∙ v.before))
-        where
-          clash : (f : Phase) → f ≡ phase.Contend → f ≡ phase.ParentShake → ⊥
-          clash f a b = cc
+      ny = draws-not d y x s2 hy (λ v. contend-shake y.node.view.phase m.there (sym hy.phase ∙ v.before))
 
       tx : (ticking x).state.view.timer ≡ risen x.node.view.timer
       tx = (waited-timer d x y r ux uy hx w).0
@@ -469,7 +457,7 @@ module _
         where
           low : (n : ℕ) → n + 1 < d → risen n ≤ d - 1
           low n h = grind (arith, h)
-      go (inr (inl b)) q = absurd (true≢false (sym stays ∙ ap (λ o. is_port o x.port) b.root))
+      go (inr (inl b)) q = contrary stays (ap (λ o. is_port o x.port) b.root)
       go (inr (inr b)) (inl v) =
           let ny : DrewNone y.node (ticking y).state = shook-none d y x s3 uy ux hy hx v in
           let same : DrewTheSame x.node y.node = again b a.how in

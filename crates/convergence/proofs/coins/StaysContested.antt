@@ -1,35 +1,19 @@
 -- What nodes know of coins holds in every world that comes of a power-on world.
-use Rattle.std.proofs.Common.{◌≡◌, ◌⊎◌, inl, inr, ℕ, ◌≤◌, true, List, [], ◌∷◌, ◌++◌, Some, None, slice_get, refl, sym, ◌∙◌, ap, subst, arith, true≢false}
+use Rattle.std.proofs.Common.{◌≡◌, ◌⊎◌, inl, inr, ℕ, ◌≤◌, true, List, [], ◌∷◌, ◌++◌, Some, None, slice_get, refl, sym, ◌∙◌, ap, subst, arith}
 use Rattle.std.specs.Prelude.{◌*◌, nat_le}
-use Rattle.cabling.specs.declared.cable.End.{End}
-use Rattle.cabling.specs.Wiring.{Wiring, far, ports_of}
-use Rattle.port_state.specs.declared.signal.Phase.{Phase}
+use Rattle.convergence.proofs.Common.{End, Wiring, far, ports_of, Phase, NodeState, coin, is_child, is_port, port_is, draws_with, IsValid, PortNode, Travelling, new_signal, CableWorld, wire_of, hold, IsReached, inbox, turn_at, turn, IsLawful, is_before_tree, is_shaking, signals_of, has_reset, shown_or_idle, level_shown, leads_down, cabling-after, delay-after, before, hears, ticks, side, side-node, side-wire, ticking, not-both, turn-state, comes, holds-kept, PlacedHold, HoldSchedule, with_holds, quiet_after, AddsDraw, DrewTogether, KnowsCoins, AreApart, AreRivals, Contests, IsContested, contrary}
 use Rattle.port_state.specs.declared.signal.Phase.TheVariants as phase
 use Rattle.port_state.specs.declared.signal.Signal.TheVariants as signal
-use Rattle.port_state.specs.declared.states.NodeState.{NodeState}
-use Rattle.port_state.specs.Coins.{coin}
-use Rattle.port_state.specs.Ports.{is_child, is_port, port_is}
 use Rattle.port_state.specs.Config.{ConfigPacket}
-use Rattle.port_state.specs.TreeIdentify.{draws_with}
-use Rattle.port_state.specs.Valid.{IsValid}
-use Rattle.port_state.specs.Machine.{PortNode, node_set_config}
+use Rattle.port_state.specs.Machine.{node_set_config}
 use Rattle.cable_world.specs.declared.act.Act.{Act}
-use Rattle.cable_world.specs.declared.wire.Travelling.{Travelling}
-use Rattle.cable_world.specs.Wire.{new_signal}
-use Rattle.cable_world.specs.World.{CableWorld, wire_of, IsPowerOnWorld}
-use Rattle.cable_world.specs.Act.{change_in_set, note_changes, ActLeads, act_fault, IsAct, hold, hold_fault}
-use Rattle.cable_world.specs.Run.{IsReached}
-use Rattle.cable_world.specs.Turn.{inbox, turn_at, turn}
-use Rattle.cable_world.specs.Lawful.{IsLawful, IsWellFormed}
-use Rattle.cable_world.specs.Phases.{is_before_tree, is_shaking}
-use Rattle.cable_world.specs.Signals.{signals_of, has_reset}
-use Rattle.cable_world.specs.Agreement.{shown_or_idle, level_shown, leads_down}
-use Rattle.cable_world.proofs.Lemmas.{power-on-apart, cabling-after, delay-after, not-leading, ends-in-reset, Entered, Stayed, Acting, acting, each-kept, hold-happens, shown-is, before, hears, ticks, side, ready, side-node, side-wire, shown-same, shown_if_there, HasBegun, CableEnd, cable-end, none-some, ticking, not-both, turn-state, comes, holds-kept}
+use Rattle.cable_world.specs.World.{IsPowerOnWorld}
+use Rattle.cable_world.specs.Act.{change_in_set, note_changes, ActLeads, act_fault, IsAct, hold_fault}
+use Rattle.cable_world.specs.Lawful.{IsWellFormed}
+use Rattle.cable_world.proofs.Lemmas.{power-on-apart, not-leading, ends-in-reset, Entered, Stayed, Acting, acting, each-kept, hold-happens, shown-is, ready, shown-same, shown_if_there, HasBegun, CableEnd, cable-end, none-some}
 use Rattle.cable_world.proofs.Lemmas as between
 use Rattle.convergence.proofs.turns.AlongRuns.{IsKept, kept-reached, kept-quiet}
-use Rattle.cable_world.specs.Quiet.{PlacedHold, HoldSchedule, with_holds, quiet_after}
-use Rattle.convergence.specs.Coins.{AddsDraw, DrewTogether, KnowsCoins}
-use Rattle.convergence.specs.Rivals.{AreApart, AreRivals, Contests, HasOneRival, IsContested}
+use Rattle.convergence.specs.Rivals.{HasOneRival}
 use Rattle.convergence.proofs.coins.ContestsInTurns.{contests-turn, won-from}
 use Rattle.convergence.proofs.coins.CoinsInTurns.{knows-after}
 use Rattle.convergence.proofs.coins.Rivals.{Rivals}
@@ -89,7 +73,7 @@ turn-one-rival w l c a b e f x y z same ab ef at_x at_y at_z down_a down_e drew_
     let drew_second : 1 ≤ (ticking (side w f t.0)).state.view.draws = subst (λ (n : NodeState). 1 ≤ n.view.draws) (ap (λ (n : PortNode). n.state) t.2 ∙ side-node w f t.0) drew_z in
     let p = won-from w.delay (side w a u.0) (side w b v.0) first down_first drew_first in
     let q = won-from w.delay (side w e u.0) (side w f t.0) second down_second drew_second in
-    let parentless : (k : ℕ) → u.0.state.view.parent ≡ None → is_port u.0.state.view.parent k ≡ true → ⊥ = λ k none up. true≢false (sym up ∙ ap (λ o. is_port o k) none) in
+    let parentless : (k : ℕ) → u.0.state.view.parent ≡ None → is_port u.0.state.view.parent k ≡ true → ⊥ = λ k none up. contrary up (ap (λ o. is_port o k) none) in
     elim p.3 [
       | inl m ↦ elim q.3 [
         | inl n ↦ c.one_rival a b e f u.0 v.0 t.0 same (was a b ab) (was e f ef) u.1 v.1 t.1 m.0 n.0 (omega (arith, drew_first, m.1.draws)) (omega (arith, drew_second, n.1.draws))
@@ -133,14 +117,14 @@ begun-knows d x b = record {
 
 begun-apart :
     (x : NodeState) → HasBegun x → IsValid x → (k : ℕ) → is_port x.view.parent k ≡ true → ⊥
-begun-apart x b v k u = true≢false (sym u ∙ ap (λ o. is_port o k) (early-parentless x v (ap is_before_tree b.phase)))
+begun-apart x b v k u = contrary u (ap (λ o. is_port o k) (early-parentless x v (ap is_before_tree b.phase)))
 
 -- at this end of the cable
 begun-here :
     (d : ℕ) (x : NodeState) (p : ℕ) (there : List Travelling) (y : NodeState) (q : ℕ)
     (back : List Travelling) → HasBegun x → IsValid x → Contests d x p there y q back
 begun-here d x p there y q back b v = record {
-  told = λ l s. absurd (true≢false (sym (ap is_before_tree b.phase) ∙ l));
+  told = λ l s. contrary (ap is_before_tree b.phase) l;
   later = λ u n s. absurd (begun-apart x b v p u);
   rivals = λ u o. absurd (begun-apart x b v p u);
   won = λ c s. absurd (not-both (leads_down x.view.ports p) c (not-leading x p b v));

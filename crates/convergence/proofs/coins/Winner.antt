@@ -1,31 +1,12 @@
 -- Of two rivals with unequal coins the one with the long wait wins.
-use Rattle.std.proofs.Common.{◌≡◌, ◌≢◌, ◌⊎◌, inl, inr, ℕ, zero, suc, ◌+◌, ◌*◌, ◌<◌, ◌≤◌, true, false, not, List, Option, Some, None, length, slice_get, refl, sym, ◌∙◌, ap, subst, arith, add-one, true≢false}
+use Rattle.std.proofs.Common.{◌≡◌, ◌≢◌, ◌⊎◌, inl, inr, ℕ, zero, suc, ◌+◌, ◌*◌, ◌<◌, ◌≤◌, true, false, not, List, Option, Some, None, length, slice_get, refl, sym, ◌∙◌, ap, subst, arith, add-one}
+use Rattle.convergence.proofs.turns.PhaseFacts.{late-start}
 use Rattle.std.proofs.lemmas.Bool.{eq-eqb}
-use Rattle.cabling.specs.declared.cable.End.{End}
-use Rattle.cabling.specs.Wiring.{Wiring, far}
-use Rattle.cabling.specs.Component.{IsComponent}
-use Rattle.cabling.specs.NodeSet.{Holds}
-use Rattle.port_state.specs.declared.signal.Phase.{Phase}
+use Rattle.convergence.proofs.Common.{End, Wiring, far, IsComponent, Holds, Phase, NodeState, is_port, is_resetting, raise_timer, PortNode, Travelling, CableWorld, wire_of, turn_at, turn, IsReached, is_before_tree, is_shaking, leads_down, IsLawful, node-after, cabling-after, delay-after, came, side, side-node, side-wire, steady, after-delay, child-if, some-same, Side, hearing, ticking, wire_after, late-roles, reached-lawful, not-both, NoEntry, risen, holds-signals, one-quiet, quiet-lawful, turn-lawful, PlacedHold, HoldSchedule, with_holds, quiet_after, last_coin, KnowsCoins, AsksAgain, IsContested, HaveMet, AreRivals, AreJoined, AreMutual, AreUnequal, contrary}
 use Rattle.port_state.specs.declared.signal.Phase.TheVariants as phase
-use Rattle.port_state.specs.declared.states.NodeState.{NodeState}
-use Rattle.port_state.specs.Ports.{is_port}
-use Rattle.port_state.specs.Heard.{is_resetting}
-use Rattle.port_state.specs.Tick.{raise_timer}
-use Rattle.port_state.specs.Machine.{PortNode}
-use Rattle.cable_world.specs.declared.wire.Travelling.{Travelling}
-use Rattle.cable_world.specs.World.{CableWorld, wire_of}
-use Rattle.cable_world.specs.Turn.{turn_at, turn}
-use Rattle.cable_world.specs.Run.{IsReached}
-use Rattle.cable_world.specs.Phases.{is_before_tree, is_shaking}
-use Rattle.cable_world.specs.Agreement.{leads_down}
-use Rattle.cable_world.specs.Lawful.{IsLawful}
-use Rattle.cable_world.proofs.Lemmas.{node-after, cabling-after, delay-after, came, side, side-node, side-wire, steady, after-delay, child-if, some-same, Side, hearing, ticking, wire_after, late-roles, heard_connected, reached-lawful, not-both, NoEntry, risen, holds-signals, one-quiet, quiet-lawful, turn-lawful}
-use Rattle.cable_world.specs.Quiet.{PlacedHold, HoldSchedule, with_holds, quiet_after}
-use Rattle.convergence.specs.Coins.{last_coin, KnowsCoins}
-use Rattle.convergence.specs.Rivals.{AsksAgain, IsContested, HaveMet, AreRivals}
-use Rattle.convergence.specs.Cables.{AreJoined}
+use Rattle.cable_world.proofs.Lemmas.{heard_connected}
 use Rattle.convergence.proofs.turns.Cables.{joined-held}
-use Rattle.convergence.specs.Drawers.{AreMutual, AreUnequal, HasWonAt}
+use Rattle.convergence.specs.Drawers.{HasWonAt}
 use Rattle.convergence.proofs.coins.StaysContested.{rivals-of, reached-contested, quiet-contested}
 use Rattle.convergence.proofs.coins.ContestsInTurns.{down-after}
 use Rattle.convergence.proofs.coins.Drawers.{unequal-mutual}
@@ -160,7 +141,7 @@ module _
       go (inr (inl t)) h = won t
       go (inr (inr t)) (inl c) = absurd (not-over d x y r f.here f.there hx hy (met c) (over-timer d x y r f.here f.there hx f.contends t.over).0 f.long f.short)
       go (inr (inr t)) (inr a) = elim a.1.coins [
-        | inl e ↦ absurd (true≢false (sym f.long ∙ e ∙ f.short))
+        | inl e ↦ contrary f.long (e ∙ f.short)
         | inr e ↦ absurd (not-again d x y r f.here f.there hx hy f.contends a.0 t e.2)
       ]
 
@@ -178,7 +159,7 @@ module _ (d : ℕ) (x y : Side) (r : Rivals d x y) (hx : NoEntry x.node (hearing
       go : (o : Option ℕ) → (ticking x).state.view.parent ≡ o → o ≡ None
       go None e = refl
       go (Some p) e = elim (parent-was x.coin (hearing x).state p (ap (λ z. is_port z p) e ∙ eq-eqb p p refl)) [
-        | inl u ↦ absurd (true≢false (sym u ∙ ap (λ z. is_port z p) (hx.parent ∙ o.1)))
+        | inl u ↦ contrary u (ap (λ z. is_port z p) (hx.parent ∙ o.1))
         | inr t ↦ absurd (start x.node.view.phase late (sym hx.phase ∙ t))
       ]
 
@@ -206,9 +187,6 @@ module _
 
     back : far u.cabling b ≡ Some a
     back = m.well_formed.cabling.both_ways a b e.joined
-
-    late-start : (f : Phase) → is_before_tree f ≡ false → is_resetting f ≡ false
-    late-start f h = grind arith
 
     hears-on :
         (g h : End) (z t : PortNode) → Rivals u.delay (side u g z) (side u h t) →

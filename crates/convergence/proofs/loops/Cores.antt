@@ -1,27 +1,16 @@
 -- Where resets are over, no node of a loop takes its roles, and a component has one root at most.
-use Rattle.std.proofs.Common.{◌≡◌, ◌≢◌, inl, inr, ℕ, zero, suc, Bool, true, false, not, Some, slice_get, refl, sym, ◌∙◌, ap, subst, arith, true≢false}
-use Rattle.std.proofs.lemmas.Bool.{cases_eq}
+use Rattle.std.proofs.Common.{◌≡◌, ◌≢◌, inl, inr, ℕ, zero, suc, Bool, true, false, not, Some, slice_get, refl, sym, ◌∙◌, ap, subst, arith}
+use Rattle.std.proofs.lemmas.Bool.{cases_eq, true_from_ne_false}
 use Rattle.std.proofs.lemmas.Option.{slice_get_within}
-use Rattle.cabling.specs.declared.cable.End.{End}
-use Rattle.cabling.specs.Wiring.{far}
-use Rattle.cabling.specs.NodeSet.{Holds, IsWithin}
-use Rattle.cabling.specs.Component.{IsComponent}
-use Rattle.cabling.specs.Looped.{LeadsInto, HasTwo, IsLooped, IsCore}
-use Rattle.cabling.proofs.Lemmas.{same_end, one_other, end_at, shared}
-use Rattle.port_state.specs.Ports.{is_port}
-use Rattle.port_state.specs.Machine.{PortNode}
-use Rattle.cable_world.specs.World.{CableWorld, wire_of}
-use Rattle.cable_world.specs.Phases.{is_before_tree}
-use Rattle.cable_world.specs.Signals.{signals_of, has_reset}
-use Rattle.cable_world.specs.Agreement.{leads_down}
-use Rattle.cable_world.specs.Lawful.{IsLawful}
+use Rattle.convergence.proofs.Common.{End, far, Holds, IsComponent, HasTwo, IsCore, end_at, is_port, PortNode, CableWorld, wire_of, is_before_tree, signals_of, has_reset, leads_down, IsLawful, child-if, some-at, some-same, cable-connected, late-roles, start-before_tree, AreJoined, IsChildCable, IsAcyclic, IsRoot, contrary}
+use Rattle.cabling.specs.NodeSet.{IsWithin}
+use Rattle.cabling.specs.Looped.{LeadsInto, IsLooped}
+use Rattle.cabling.proofs.Lemmas.{same_end, one_other, shared}
 use Rattle.cable_world.specs.Outcome.{Shows}
-use Rattle.cable_world.proofs.Lemmas.{child-if, some-at, some-same, cable-connected, late-roles, start-before_tree}
-use Rattle.convergence.specs.Cables.{AreJoined}
 use Rattle.convergence.proofs.turns.Cables.{joined-of}
-use Rattle.convergence.specs.Acyclic.{IsChildCable, IsAcyclic, LeadsDown}
+use Rattle.convergence.specs.Acyclic.{LeadsDown}
 use Rattle.convergence.specs.Milestones.{ResetsAreOverIn}
-use Rattle.convergence.specs.Roots.{IsLate, IsRoot}
+use Rattle.convergence.specs.Roots.{IsLate}
 use Rattle.convergence.proofs.sets.Closure.{in-component}
 use Rattle.convergence.proofs.ranks.Ranks.{none-falls-on}
 use Rattle.convergence.proofs.turns.Roles.{parent-late}
@@ -75,7 +64,7 @@ module _ (w : CableWorld) (l : IsLawful w) (set : ℕ) (over : ResetsAreOverIn w
 
       go : (r : Bool) → has_reset (signals_of (wire_of w b).signals) ≡ r → r ≡ false
       go false s = refl
-      go true s = absurd (true≢false (sym (start-before_tree n.node.state.view.phase (over b a n.node h back n.at s)) ∙ n.late))
+      go true s = contrary (start-before_tree n.node.state.view.phase (over b a n.node h back n.at s)) n.late
 
   -- ---- loops
 
@@ -122,7 +111,7 @@ module _ (w : CableWorld) (l : IsLawful w) (set : ℕ) (over : ResetsAreOverIn w
   pub core-shows :
       IsAcyclic w → (core k : ℕ) → IsCore w.cabling set core → Holds core k →
       Shows w k (λ v. is_before_tree v.phase ≡ true)
-  core-shows c core k is h = some-at (slice_get w.nodes k) x (λ y. is_before_tree y.state.view.phase ≡ true) at (go (is_before_tree x.state.view.phase) refl)
+  core-shows c core k is h = some-at (slice_get w.nodes k) x (λ y. is_before_tree y.state.view.phase ≡ true) at (true_from_ne_false _ (λ e. core-early c core k is h (record { node = x; at = at; late = e })))
     where
       p : (part : ℕ) × IsWithin part set × IsLooped w.cabling part × Holds part k
       p = (is k).0 h
@@ -138,10 +127,6 @@ module _ (w : CableWorld) (l : IsLawful w) (set : ℕ) (over : ResetsAreOverIn w
 
       at : slice_get w.nodes k ≡ Some x
       at = j.near_at
-
-      go : (b : Bool) → is_before_tree x.state.view.phase ≡ b → b ≡ true
-      go true e = refl
-      go false e = absurd (core-early c core k is h (record { node = x; at = at; late = e }))
 
   -- ---- roots
 
@@ -164,7 +149,7 @@ module _ (w : CableWorld) (l : IsLawful w) (set : ℕ) (over : ResetsAreOverIn w
   not-under : (root n k : ℕ) → IsRoot w k → Down root (suc n) k → ⊥
   not-under root n k r d =
       let same : d.2.below ≡ r.node = some-same d.2.below r.node (sym d.2.below_at ∙ ap (slice_get w.nodes) d.3 ∙ r.at) in
-      true≢false (sym d.2.parent ∙ ap (λ (x : PortNode). is_port x.state.view.parent d.1.port) same ∙ ap (λ o. is_port o d.1.port) r.parentless)
+      contrary d.2.parent (ap (λ (x : PortNode). is_port x.state.view.parent d.1.port) same ∙ ap (λ o. is_port o d.1.port) r.parentless)
 
   -- no cable leads out of what is under a root
   under-closed :
@@ -181,7 +166,7 @@ module _ (w : CableWorld) (l : IsLawful w) (set : ℕ) (over : ResetsAreOverIn w
       up zero d p =
           let at_root : slice_get w.nodes root ≡ Some x.node = ap (slice_get w.nodes) (sym d) ∙ x.at in
           let same : r.node ≡ x.node = some-same r.node x.node (sym r.at ∙ at_root) in
-          absurd (true≢false (sym p ∙ ap (λ (y : PortNode). is_port y.state.view.parent a.port) (sym same) ∙ ap (λ o. is_port o a.port) r.parentless))
+          contrary p (ap (λ (y : PortNode). is_port y.state.view.parent a.port) (sym same) ∙ ap (λ o. is_port o a.port) r.parentless)
       up (suc n) d p =
           let same : d.2.below ≡ x.node = some-same d.2.below x.node (sym d.2.below_at ∙ ap (slice_get w.nodes) d.3 ∙ x.at) in
           let port : d.1.port ≡ a.port = same-port x.node.state.view.parent d.1.port a.port (sym (ap (λ (y : PortNode). is_port y.state.view.parent d.1.port) same) ∙ d.2.parent) p in
@@ -226,7 +211,7 @@ module _ (w : CableWorld) (l : IsLawful w) (set : ℕ) (over : ResetsAreOverIn w
       go false e = refl
       go true e = absurd (all-under root r (shared w.cabling node root set l.well_formed.cabling is in_root) k h (λ u.
           let n : IsLate w k = under-late root r u.0 k u.1 in
-          true≢false (sym e ∙ ap (λ (y : PortNode). is_before_tree y.state.view.phase) (some-same x n.node (sym at ∙ n.at)) ∙ n.late)))
+          contrary e (ap (λ (y : PortNode). is_before_tree y.state.view.phase) (some-same x n.node (sym at ∙ n.at)) ∙ n.late)))
 
   -- a component with a loop has none
   pub no-root-with-loop :

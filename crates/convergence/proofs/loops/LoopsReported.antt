@@ -2,13 +2,7 @@
 -- timed out.
 use Rattle.std.proofs.Common.{◌≡◌, ℕ, ◌*◌, ◌≤◌, true, slice_get}
 use Rattle.port_state.specs.declared.signal.Phase.TheVariants.{TreeStart}
-use Rattle.port_state.specs.Machine.{PortNode}
-use Rattle.cable_world.specs.World.{CableWorld}
-use Rattle.cable_world.specs.Lawful.{IsLawful}
-use Rattle.cable_world.proofs.Lemmas.{some-of, some-at, quiet-lawful}
-use Rattle.cable_world.specs.Quiet.{HoldSchedule, quiet_after}
-use Rattle.convergence.specs.Acyclic.{IsAcyclic}
-use Rattle.convergence.specs.Milestones.{ResetsAreOver, ResetsAreDone, LoopsAreReported}
+use Rattle.convergence.proofs.Common.{PortNode, CableWorld, IsLawful, some-of, some-at, quiet-lawful, HoldSchedule, quiet_after, IsAcyclic, ResetsAreOver, ResetsAreDone, LoopsAreReported}
 use Rattle.convergence.proofs.loops.Cores.{core-shows}
 use Rattle.convergence.proofs.resets.ResetsDone.{done-over}
 use Rattle.convergence.proofs.ranks.StaysAcyclic.{quiet-acyclic}

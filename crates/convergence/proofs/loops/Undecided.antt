@@ -1,12 +1,6 @@
 -- After n * d quiet turns.
 use Rattle.std.proofs.Common.{ℕ, ◌*◌, ◌≤◌, length}
-use Rattle.cable_world.specs.World.{CableWorld}
-use Rattle.cable_world.specs.Run.{IsReached}
-use Rattle.cable_world.specs.Lawful.{IsLawful}
-use Rattle.cable_world.proofs.Lemmas.{reached-lawful, quiet-lawful}
-use Rattle.cable_world.specs.Quiet.{HoldSchedule, quiet_after}
-use Rattle.convergence.specs.Acyclic.{IsAcyclic}
-use Rattle.convergence.specs.Milestones.{ResetsAreOver}
+use Rattle.convergence.proofs.Common.{CableWorld, IsReached, IsLawful, reached-lawful, quiet-lawful, HoldSchedule, quiet_after, IsAcyclic, ResetsAreOver}
 use Rattle.convergence.specs.Roots.{IsUndecidedInLoops}
 use Rattle.convergence.proofs.loops.Cores.{core-shows, one-root}
 use Rattle.convergence.proofs.resets.ResetsOver.{resets-over}

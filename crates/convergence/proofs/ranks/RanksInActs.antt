@@ -1,18 +1,12 @@
 -- What happens between turns only takes child cables away.
-use Rattle.std.proofs.Common.{◌≡◌, inl, inr, ℕ, true, Some, None, slice_get, sym, ◌∙◌, ap, subst, arith, true≢false}
-use Rattle.cabling.specs.declared.cable.End.{End}
-use Rattle.cabling.specs.Wiring.{far}
-use Rattle.port_state.specs.Ports.{is_port}
+use Rattle.std.proofs.Common.{◌≡◌, inl, inr, ℕ, true, Some, None, slice_get, sym, ap, subst, arith}
+use Rattle.convergence.proofs.Common.{End, far, is_port, PortNode, CableWorld, hold, is_before_tree, leads_down, IsLawful, not-both, IsChildCable, IsAcyclic, contrary}
 use Rattle.port_state.specs.Config.{ConfigPacket}
-use Rattle.port_state.specs.Machine.{PortNode, node_set_config}
+use Rattle.port_state.specs.Machine.{node_set_config}
 use Rattle.cable_world.specs.declared.act.Act.{Act}
-use Rattle.cable_world.specs.World.{CableWorld, IsPowerOnWorld}
-use Rattle.cable_world.specs.Act.{change_in_set, note_changes, ActLeads, act_fault, IsAct, hold}
-use Rattle.cable_world.specs.Phases.{is_before_tree}
-use Rattle.cable_world.specs.Agreement.{leads_down}
-use Rattle.cable_world.specs.Lawful.{IsLawful}
-use Rattle.cable_world.proofs.Lemmas.{power-on-apart, not-leading, Happens, Acting, acting, each-kept, none-some, not-both}
-use Rattle.convergence.specs.Acyclic.{IsChildCable, IsAcyclic}
+use Rattle.cable_world.specs.World.{IsPowerOnWorld}
+use Rattle.cable_world.specs.Act.{change_in_set, note_changes, ActLeads, act_fault, IsAct}
+use Rattle.cable_world.proofs.Lemmas.{power-on-apart, not-leading, Happens, Acting, acting, each-kept, none-some}
 use Rattle.convergence.proofs.turns.Roles.{early-parentless}
 
 -- the second world's child cables are child cables of the first
@@ -26,7 +20,7 @@ happens-no-more : (w v : CableWorld) → Happens w v → NoMore w v
 happens-no-more w v h a b e = elim (h.ends a b e.above e.joined e.above_at) [
   | inl s ↦ absurd (not-both (leads_down e.above.state.view.ports a.port) e.child (not-leading e.above.state a.port s.begun (h.after.nodes a.node e.above e.above_at).valid))
   | inr s ↦ elim (h.nodes b.node e.below e.below_at) [
-    | inl begun ↦ absurd (true≢false (sym e.parent ∙ ap (λ o. is_port o b.port) (early-parentless e.below.state (h.after.nodes b.node e.below e.below_at).valid (ap is_before_tree begun.phase))))
+    | inl begun ↦ contrary e.parent (ap (λ o. is_port o b.port) (early-parentless e.below.state (h.after.nodes b.node e.below e.below_at).valid (ap is_before_tree begun.phase)))
     | inr was ↦ record { joined = s.cable; above = e.above; above_at = s.node; child = e.child; below = e.below; below_at = was; parent = e.parent }
   ]
 ]

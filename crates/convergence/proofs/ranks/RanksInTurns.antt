@@ -1,27 +1,11 @@
 -- A turn keeps a world acyclic: all nodes that take their roles in it get ranks above the others.
 use Rattle.std.proofs.Common.{◌≡◌, ◌⊎◌, inl, inr, ℕ, ◌+◌, ◌<◌, ◌≤◌, Bool, true, false, ◌&&◌, ◌||◌, List, [], Option, Some, None, slice_get, refl, sym, ◌∙◌, ap, subst, arith, if◌then◌else◌, true≢false}
-use Rattle.port_state.specs.declared.signal.Level.{Level}
+use Rattle.convergence.proofs.Common.{Level, Phase, Signal, NodeState, coin, is_connected, is_port, is_resetting, PortNode, End, Wiring, far, ports_of, age_wire, gives, CableWorld, wire_of, inbox, turn_at, turn, hear_all, is_before_tree, is_shaking, signals_of, has_reset, level_shown, leads_down, level_after, Coupling, IsLawful, cabling-after, before, hears, ticks, cable-connected, tree_start-known, turn-state, comes, IsAcyclic, contrary}
 use Rattle.port_state.specs.declared.signal.Level.TheVariants as level
-use Rattle.port_state.specs.declared.signal.Phase.{Phase}
 use Rattle.port_state.specs.declared.signal.Phase.TheVariants as phase
-use Rattle.port_state.specs.declared.signal.Signal.{Signal}
-use Rattle.port_state.specs.declared.states.NodeState.{NodeState}
-use Rattle.port_state.specs.Coins.{coin}
-use Rattle.port_state.specs.Ports.{is_connected, is_port}
-use Rattle.port_state.specs.Heard.{is_resetting}
-use Rattle.port_state.specs.Machine.{PortNode}
-use Rattle.cabling.specs.declared.cable.End.{End}
-use Rattle.cabling.specs.Wiring.{Wiring, far, ports_of}
-use Rattle.cable_world.specs.Wire.{age_wire, gives}
-use Rattle.cable_world.specs.World.{CableWorld, wire_of}
-use Rattle.cable_world.specs.Turn.{inbox, turn_at, turn, hear_all}
-use Rattle.cable_world.specs.Phases.{is_before_tree, is_shaking}
-use Rattle.cable_world.specs.Signals.{signals_of, has_reset, shows_no_notice, has_no_notice}
-use Rattle.cable_world.specs.Agreement.{level_shown, leads_down, level_after}
-use Rattle.cable_world.specs.Coupling.{is_reset_known, Coupling}
-use Rattle.cable_world.specs.Lawful.{IsLawful}
-use Rattle.cable_world.proofs.Lemmas.{cabling-after, before, hears, ticks, cable-connected, tree_start-known, level_after-low, turn-state, comes}
-use Rattle.convergence.specs.Acyclic.{IsAcyclic}
+use Rattle.cable_world.specs.Signals.{shows_no_notice, has_no_notice}
+use Rattle.cable_world.specs.Coupling.{is_reset_known}
+use Rattle.cable_world.proofs.Lemmas.{level_after-low}
 use Rattle.convergence.proofs.turns.Roles.{early-parentless, takes, takes-start, parent-before, child-before}
 
 -- ---- one node
@@ -94,13 +78,13 @@ none-above w l a b x y e at_x at_y start child = elim (child-kept w l a.node x a
       where
         go : (r : Bool) → has_reset (signals_of (wire_of w b).signals) ≡ r → r ≡ false
         go false s = refl
-        go true s = absurd (true≢false (sym (here.reset s) ∙ ap is_resetting start))
+        go true s = contrary (here.reset s) (ap is_resetting start)
 
     is_asking_there : Bool
     is_asking_there = is_port x.state.view.parent a.port
 
     low-parent : (m : Level) → shows_no_notice m ≡ true → m ≡ level.Parent → ⊥
-    low-parent m h g = true≢false (sym h ∙ ap shows_no_notice g)
+    low-parent m h g = contrary h (ap shows_no_notice g)
 
     low-after :
         (g : Bool) (ss : List Signal) → has_no_notice ss ≡ true →
@@ -116,7 +100,7 @@ none-above w l a b x y e at_x at_y start child = elim (child-kept w l a.node x a
     late :
         (p : Phase) (c : Bool) → p ≡ phase.Contend → (is_before_tree p || (is_shaking p && c))
         ≡ true → ⊥
-    late p c h g = true≢false (sym g ∙ ap (λ q. is_before_tree q || (is_shaking q && c)) h)
+    late p c h g = contrary g (ap (λ q. is_before_tree q || (is_shaking q && c)) h)
 
 -- ---- new ranks
 
@@ -176,7 +160,7 @@ falls-after w l c a b x y e at_x at_y child parent = go (takes x.state (turned w
           parent = parent-kept w l b.node y at_y b.port parent g;
         }),
       )
-      | inr new ↦ absurd (true≢false (sym new.0 ∙ h))
+      | inr new ↦ contrary new.0 h
     ]
 
 pub turn-acyclic : (w : CableWorld) → IsLawful w → IsAcyclic w → IsAcyclic (turn w)

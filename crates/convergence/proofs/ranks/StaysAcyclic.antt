@@ -1,11 +1,6 @@
 -- Every world that comes of a power-on world is acyclic.
 use Rattle.std.proofs.Common.{ℕ, List}
-use Rattle.cable_world.specs.World.{CableWorld}
-use Rattle.cable_world.specs.Run.{IsReached}
-use Rattle.cable_world.specs.Lawful.{IsLawful}
-use Rattle.cable_world.specs.Quiet.{PlacedHold, HoldSchedule, with_holds, quiet_after}
-use Rattle.cable_world.proofs.Lemmas.{holds-kept}
-use Rattle.convergence.specs.Acyclic.{IsAcyclic}
+use Rattle.convergence.proofs.Common.{CableWorld, IsReached, IsLawful, PlacedHold, HoldSchedule, with_holds, quiet_after, holds-kept, IsAcyclic}
 use Rattle.convergence.proofs.turns.AlongRuns.{IsKept, kept-reached, kept-quiet}
 use Rattle.convergence.proofs.ranks.RanksInActs.{power-on-acyclic, hold-acyclic, act-acyclic}
 use Rattle.convergence.proofs.ranks.RanksInTurns.{turn-acyclic}

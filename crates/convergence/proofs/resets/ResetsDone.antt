@@ -1,31 +1,13 @@
 -- In quiet turns nobody is in R0 or R1 any more, 81 d turns after the last entry at the
 -- latest.
 use Rattle.std.proofs.Common.{◌≡◌, inl, inr, ℕ, zero, suc, ◌+◌, ◌-◌, ◌*◌, ◌<◌, ◌≤◌, Bool, true, false, not, ◌&&◌, ◌||◌, length, Option, Some, None, is_some, slice_get, refl, sym, ◌∙◌, ap, subst, arith, true≢false}
-use Rattle.port_state.specs.declared.signal.Phase.{Phase}
+use Rattle.std.proofs.lemmas.Bool.{false_from_ne_true}
+use Rattle.convergence.proofs.Common.{Phase, PortView, NodeState, Timing, coin, passes, port_is, is_connected, is_port, is_resetting, PortNode, IsValid, End, Wiring, far, end_at, CableWorld, wire_of, turn_at, turn, hear_all, level_sent, level_shown, shown_or_idle, leads_down, level_sent_at, signals_of, has_reset, is_before_tree, is_in_bus_reset, is_shaking, is_asking, Coupling, IsLawful, node-after, some-same, before, hears, steady, after-delay, child-if, cable-connected, late-roles, NoEntry, HearsWell, turn-state, one-quiet, quiet-then, quiet-lawful, after-cabling, HoldSchedule, holds_after, with_holds, quiet_after, ResetsAreOver, NoneIn, ResetsAreDone, contrary}
 use Rattle.port_state.specs.declared.signal.Phase.TheVariants as phase
-use Rattle.port_state.specs.declared.ports.PortView.{PortView}
-use Rattle.port_state.specs.declared.states.NodeState.{NodeState}
-use Rattle.port_state.specs.declared.timing.Timing.{Timing}
-use Rattle.port_state.specs.Coins.{coin}
-use Rattle.port_state.specs.Ports.{passes, port_is, is_connected, is_port}
-use Rattle.port_state.specs.Heard.{is_resetting}
 use Rattle.port_state.specs.Resetting.{is_calm}
-use Rattle.port_state.specs.Machine.{PortNode}
-use Rattle.port_state.specs.Valid.{IsValid}
-use Rattle.cabling.specs.declared.cable.End.{End}
-use Rattle.cabling.specs.Wiring.{Wiring, far}
-use Rattle.cabling.proofs.Lemmas.{end_at}
-use Rattle.cable_world.specs.World.{CableWorld, wire_of}
-use Rattle.cable_world.specs.Turn.{turn_at, turn, hear_all}
-use Rattle.cable_world.specs.Agreement.{level_sent, level_shown, shown_or_idle, leads_down, level_sent_at}
-use Rattle.cable_world.specs.Signals.{signals_of, has_reset}
-use Rattle.cable_world.specs.Phases.{is_before_tree, is_after_hold, is_in_bus_reset, is_shaking}
-use Rattle.cable_world.specs.Coupling.{is_asking, Coupling}
-use Rattle.cable_world.specs.Lawful.{IsLawful}
-use Rattle.cable_world.proofs.Lemmas.{node-after, some-same, before, hears, in-turn, hold-left, steady, after-delay, child-if, cable-connected, late-roles, between-known, NoEntry, HearsWell, turn-state, one-quiet, quiet-then, quiet-lawful, after-cabling}
+use Rattle.cable_world.specs.Phases.{is_after_hold}
+use Rattle.cable_world.proofs.Lemmas.{in-turn, hold-left, between-known}
 use Rattle.convergence.proofs.turns.Cables.{joined-of}
-use Rattle.cable_world.specs.Quiet.{HoldSchedule, holds_after, with_holds, quiet_after}
-use Rattle.convergence.specs.Milestones.{ResetsAreOver, NoneIn, ResetsAreDone}
 use Rattle.convergence.proofs.turns.CalmTurns.{Calmly, calmly, signals, heard_by, waiting-before, done-calm}
 use Rattle.convergence.proofs.turns.BeforeTree.{waits-for, every-from}
 use Rattle.convergence.proofs.turns.Flush.{Tells, Shown, flush}
@@ -44,7 +26,7 @@ hold-runs w l k x y at_x at_y was there =
     h = hears w k x l.well_formed at_x
 
     heard : NoEntry x.state (hear_all (signals w k) x.state)
-    heard = elim (hears w k x l.well_formed at_x).cases [ inl s ↦ s | inr c ↦ absurd (true≢false (sym was ∙ c.before)) ]
+    heard = elim (hears w k x l.well_formed at_x).cases [ inl s ↦ s | inr c ↦ contrary was c.before ]
 
     same : (turn_at w k x).node ≡ y
     same = some-same (turn_at w k x).node y (sym (node-after w k x l.well_formed.count at_x) ∙ at_y)
@@ -91,7 +73,7 @@ module _ (hs : HoldSchedule) (w : CableWorld) (l : IsLawful w) where
       was x at_x true e = refl
       was x at_x false e =
           let late : enough ≤ enough + i = omega arith in
-          absurd (true≢false (sym there ∙ steady hs w l (enough + i) late k x y at_x (ap (λ (u : CableWorld). slice_get u.nodes k) (one-quiet hs (enough + i) w) ∙ at) e))
+          contrary there (steady hs w l (enough + i) late k x y at_x (ap (λ (u : CableWorld). slice_get u.nodes k) (one-quiet hs (enough + i) w) ∙ at) e)
 
   rises : (i : ℕ) → Risen i (later i) → Risen (suc i) (turn (later i))
   rises i h k y at there =
@@ -108,13 +90,9 @@ module _ (hs : HoldSchedule) (w : CableWorld) (l : IsLawful w) where
   holds-over (suc i) h = subst (NoneIn is_resetting) (next i) none
     where
       none : NoneIn is_resetting (turn (later i))
-      none k y at = go (is_resetting y.state.view.phase) refl
-        where
-          go : (b : Bool) → is_resetting y.state.view.phase ≡ b → b ≡ false
-          go false e = refl
-          go true e =
-              let x = stayed i k y at e in
-              absurd (omega (arith, h, (in-turn (later i) (lawful-later i) k x.0 y x.1 at).rises x.2 e, all-risen i k x.0 x.1 x.2, hold-runs (later i) (lawful-later i) k x.0 y x.1 at x.2 e, after-delay hs w l (enough + i)))
+      none k y at = false_from_ne_true _ (λ e.
+          let x = stayed i k y at e in
+          omega (arith, h, (in-turn (later i) (lawful-later i) k x.0 y x.1 at).rises x.2 e, all-risen i k x.0 x.1 x.2, hold-runs (later i) (lawful-later i) k x.0 y x.1 at x.2 e, after-delay hs w l (enough + i)))
 
 -- ---- R1
 
@@ -219,7 +197,7 @@ module _
           go :
               (o : Option End) → far (quiet_after hs i v).cabling (end_at k q) ≡ o →
               is_calm (level_shown now q) ≡ true
-          go None e = absurd (true≢false (sym on-first ∙ ((quiet-lawful hs i v l).well_formed.nodes k c.node c.at).connected q ∙ ap is_some e))
+          go None e = contrary on-first (((quiet-lawful hs i v l).well_formed.nodes k c.node c.at).connected q ∙ ap is_some e)
           go (Some a) e = ap is_calm (sym (same q)) ∙ shows-calm a q (sym (ap (λ (d : Wiring). far d (end_at k q)) (after-cabling hs i v)) ∙ e) (i + 1) late h h.0 h.1
 
 -- ---- 81 d turns
@@ -227,7 +205,13 @@ module _
 pub resets-done :
     (hs : HoldSchedule) (w : CableWorld) → IsLawful w → (i : ℕ) → 81 * w.delay ≤ i →
     ResetsAreDone (quiet_after hs (length w.nodes * w.delay + i) w)
-resets-done hs w l i late k x at = go (is_in_bus_reset x.state.view.phase) refl
+resets-done hs w l i late k x at = false_from_ne_true _ (λ e.
+    let j : ℕ = i - 80 * w.delay - 1 in
+    let some : 1 ≤ w.delay = l.well_formed.some_delay in
+    let z : length w.nodes * w.delay + i ≡ length w.nodes * w.delay + 80 * w.delay + (j + 1) = omega (arith, late, some) in
+    let is : quiet_after hs (length w.nodes * w.delay + i) w ≡ quiet_after rest (j + 1) start = ap (λ n. quiet_after hs n w) z ∙ quiet-then hs (length w.nodes * w.delay + 80 * w.delay) (j + 1) w in
+    wait-ends rest start m calm k j (omega (arith, late, some, after-delay hs w l (length w.nodes * w.delay + 80 * w.delay)))
+    (x, ap (λ (u : CableWorld). slice_get u.nodes k) (sym is) ∙ at, e))
   where
     rest : HoldSchedule
     rest = holds_after (length w.nodes * w.delay + 80 * w.delay) hs
@@ -247,16 +231,6 @@ resets-done hs w l i late k x at = go (is_in_bus_reset x.state.view.phase) refl
         let low : 80 * w.delay ≤ 80 * w.delay + j = omega arith in
         subst (NoneIn is_resetting) (ap (λ n. quiet_after hs n w) z ∙ quiet-then hs (length w.nodes * w.delay + 80 * w.delay) j w) (holds-over hs w l (80 * w.delay + j) low)
 
-    go : (b : Bool) → is_in_bus_reset x.state.view.phase ≡ b → b ≡ false
-    go false e = refl
-    go true e =
-        let j : ℕ = i - 80 * w.delay - 1 in
-        let some : 1 ≤ w.delay = l.well_formed.some_delay in
-        let z : length w.nodes * w.delay + i ≡ length w.nodes * w.delay + 80 * w.delay + (j + 1) = omega (arith, late, some) in
-        let is : quiet_after hs (length w.nodes * w.delay + i) w ≡ quiet_after rest (j + 1) start = ap (λ n. quiet_after hs n w) z ∙ quiet-then hs (length w.nodes * w.delay + 80 * w.delay) (j + 1) w in
-        absurd (wait-ends rest start m calm k j (omega (arith, late, some, after-delay hs w l (length w.nodes * w.delay + 80 * w.delay)))
-        (x, ap (λ (u : CableWorld). slice_get u.nodes k) (sym is) ∙ at, e))
-
 -- then no Reset is under way
 pub no-resets :
     (w : CableWorld) (a b : End) → IsLawful w → ResetsAreDone w → far w.cabling a ≡ Some b →
@@ -268,7 +242,7 @@ no-resets w a b l done e = go (has_reset (signals_of (wire_of w a).signals)) ref
     go true h =
         let j = joined-of w a b l.well_formed e in
         let there : is_resetting j.near.state.view.phase ≡ true = (l.coupled.cables a b j.near j.other e j.near_at j.other_at).reset h in
-        absurd (true≢false (sym there ∙ done-calm w done a.node j.near j.near_at))
+        contrary there (done-calm w done a.node j.near j.near_at)
 
 pub done-over : (w : CableWorld) → IsLawful w → ResetsAreDone w → ResetsAreOver w
-done-over w l done a b y e at r = absurd (true≢false (sym r ∙ no-resets w a b l done e))
+done-over w l done a b y e at r = contrary r (no-resets w a b l done e)

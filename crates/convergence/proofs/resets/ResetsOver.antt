@@ -1,24 +1,10 @@
 -- After n * d quiet turns a Reset is under way to nodes in R0 alone: any other would enter
 -- R0 when it comes.
 use Rattle.std.proofs.Common.{◌≡◌, ◌⊎◌, inl, inr, ℕ, zero, suc, ◌+◌, ◌-◌, ◌*◌, ◌<◌, ◌≤◌, Bool, true, false, ◌||◌, List, [], ◌∷◌, ◌++◌, map, Some, length, slice_get, if◌then◌else◌, refl, sym, ◌∙◌, ap, subst, arith, add-one, true≢false}
-use Rattle.port_state.specs.declared.signal.Signal.{Signal}
-use Rattle.port_state.specs.declared.timing.Timing.{Timing}
-use Rattle.port_state.specs.declared.states.NodeState.{NodeState}
-use Rattle.port_state.specs.Coins.{coin}
-use Rattle.port_state.specs.Heard.{is_resetting}
-use Rattle.port_state.specs.Machine.{PortNode}
-use Rattle.cabling.specs.declared.cable.End.{End}
-use Rattle.cabling.specs.Wiring.{Wiring, far, ports_of}
-use Rattle.cable_world.specs.declared.wire.Travelling.{Travelling}
-use Rattle.cable_world.specs.Wire.{age_wire, gives, age_signal, new_signal}
-use Rattle.cable_world.specs.World.{CableWorld, wire_of}
-use Rattle.cable_world.specs.Turn.{inbox, turn_at, turn, hear_all}
-use Rattle.cable_world.specs.Signals.{is_reset, signals_of, has_reset}
-use Rattle.cable_world.specs.Lawful.{AgesFall, IsLawful}
-use Rattle.cable_world.proofs.Lemmas.{node-after, cabling-after, hears, ticks, side, side-wire, steady, after-delay, cable-connected, some-same, departures, HearsWell, TicksWell, turn-state, comes, holds-signals, one-quiet, quiet-lawful, turn-lawful}
+use Rattle.convergence.proofs.Common.{Signal, Timing, NodeState, coin, is_resetting, PortNode, End, Wiring, far, ports_of, Travelling, age_wire, gives, new_signal, CableWorld, wire_of, inbox, turn_at, turn, hear_all, signals_of, has_reset, AgesFall, IsLawful, node-after, cabling-after, hears, ticks, side, side-wire, steady, after-delay, cable-connected, some-same, departures, HearsWell, TicksWell, turn-state, comes, holds-signals, one-quiet, quiet-lawful, turn-lawful, HoldSchedule, with_holds, quiet_after, ResetsAreOver, contrary}
+use Rattle.cable_world.specs.Wire.{age_signal}
+use Rattle.cable_world.specs.Signals.{is_reset}
 use Rattle.convergence.proofs.turns.Cables.{joined-of}
-use Rattle.cable_world.specs.Quiet.{HoldSchedule, with_holds, quiet_after}
-use Rattle.convergence.specs.Milestones.{ResetsAreOver}
 
 -- ---- old Resets
 
@@ -71,7 +57,7 @@ comes-in :
     has_reset (signals_of (wire_of w a).signals) ≡ true →
     is_resetting y.state.view.phase ≡ false → is_resetting (turn_at w b.node y).node.state.view.phase ≡ true
 comes-in w l a b y e at g r out = ap (λ (s : NodeState). is_resetting s.view.phase) (turn-state signals y) ∙ elim h.cases [
-  | inl s ↦ absurd (true≢false (sym entered ∙ ap is_resetting s.phase ∙ out))
+  | inl s ↦ contrary entered (ap is_resetting s.phase ∙ out)
   | inr c ↦ (t.holds entered (omega (arith, c.timer, hold-least, l.well_formed.some_delay)) hold-most).0
 ]
   where

@@ -2,27 +2,10 @@
 -- done. It stays so; its
 -- child cables stay.
 use Rattle.std.proofs.Common.{◌≡◌, inl, inr, ℕ, zero, suc, ◌+◌, ◌≤◌, true, false, not, List, Option, Some, None, slice_get, refl, sym, ◌∙◌, ap, subst, arith, add-one}
-use Rattle.cabling.specs.declared.cable.End.{End}
-use Rattle.cabling.specs.Wiring.{Wiring, far}
-use Rattle.cabling.specs.NodeSet.{Holds}
-use Rattle.cabling.specs.Component.{IsClosed}
-use Rattle.port_state.specs.declared.states.NodeState.{NodeState}
-use Rattle.port_state.specs.Coins.{coin}
-use Rattle.port_state.specs.Heard.{is_resetting}
-use Rattle.port_state.specs.Ports.{is_port}
-use Rattle.port_state.specs.Valid.{IsValid}
-use Rattle.port_state.specs.Machine.{PortNode}
-use Rattle.cable_world.specs.World.{CableWorld}
-use Rattle.cable_world.specs.Turn.{turn_at, turn}
-use Rattle.cable_world.specs.Phases.{is_before_tree}
-use Rattle.cable_world.specs.Agreement.{leads_down}
-use Rattle.cable_world.specs.Lawful.{IsLawful}
-use Rattle.cable_world.proofs.Lemmas.{cabling-after, node-after, came, side, side-node, child-if, cable-connected, hearing, ticking, late-roles, turn-lawful, not-both, NoEntry, holds-lawful, no-quiet, one-quiet}
+use Rattle.convergence.proofs.Common.{End, Wiring, far, Holds, IsClosed, NodeState, coin, is_resetting, is_port, IsValid, PortNode, CableWorld, turn_at, turn, is_before_tree, leads_down, IsLawful, cabling-after, node-after, came, side, side-node, child-if, cable-connected, hearing, ticking, late-roles, turn-lawful, not-both, NoEntry, no-quiet, one-quiet, PlacedHold, HoldSchedule, with_holds, quiet_after, IsChildCable, IsAcyclic, IsContested, ResetsAreDone}
+use Rattle.cable_world.proofs.Lemmas.{holds-lawful}
 use Rattle.convergence.proofs.turns.Cables.{joined-of}
-use Rattle.cable_world.specs.Quiet.{PlacedHold, HoldSchedule, with_holds, quiet_after}
-use Rattle.convergence.specs.Acyclic.{IsChildCable, IsAcyclic}
-use Rattle.convergence.specs.Rivals.{IsContested, IsBelow}
-use Rattle.convergence.specs.Milestones.{ResetsAreDone}
+use Rattle.convergence.specs.Rivals.{IsBelow}
 use Rattle.convergence.proofs.turns.CalmTurns.{Calmly, calmly, heard_by, turn-done, done-calm}
 use Rattle.convergence.proofs.coins.StaysContested.{rivals-of, turn-contested, holds-contested}
 use Rattle.convergence.proofs.coins.ContestsInTurns.{down-after}

@@ -2,23 +2,8 @@
 -- and go on, and it sees
 -- their Idle d turns later.
 use Rattle.std.proofs.Common.{◌≡◌, ◌⊎◌, inl, inr, ℕ, zero, suc, ◌+◌, ◌-◌, ◌≤◌, Bool, true, false, Option, Some, None, is_some, slice_get, refl, sym, ◌∙◌, ap, subst, arith, add-one, true≢false}
-use Rattle.cabling.specs.declared.cable.End.{End}
-use Rattle.cabling.specs.Wiring.{Wiring, far}
-use Rattle.cabling.specs.NodeSet.{Holds}
-use Rattle.cabling.proofs.Lemmas.{end_at}
-use Rattle.port_state.specs.declared.signal.Phase.{Phase}
+use Rattle.convergence.proofs.Common.{End, Wiring, far, Holds, end_at, Phase, NodeState, coin, is_idle, is_child, is_port, is_connected, tick, PortNode, CableWorld, level_sent, level_shown, leads_down, is_before_tree, is_shaking, after-delay, cable-connected, some-same, no-quiet, quiet-then, after-cabling, HoldSchedule, holds_after, quiet_after, IsChildCable, contrary}
 use Rattle.port_state.specs.declared.signal.Phase.TheVariants as phase
-use Rattle.port_state.specs.declared.states.NodeState.{NodeState}
-use Rattle.port_state.specs.Coins.{coin}
-use Rattle.port_state.specs.Ports.{is_idle, is_child, is_port, is_connected}
-use Rattle.port_state.specs.Tick.{tick}
-use Rattle.port_state.specs.Machine.{PortNode}
-use Rattle.cable_world.specs.World.{CableWorld}
-use Rattle.cable_world.specs.Agreement.{level_sent, level_shown, leads_down}
-use Rattle.cable_world.specs.Phases.{is_before_tree, is_shaking}
-use Rattle.cable_world.proofs.Lemmas.{after-delay, cable-connected, some-same, no-quiet, quiet-then, after-cabling}
-use Rattle.cable_world.specs.Quiet.{HoldSchedule, holds_after, quiet_after}
-use Rattle.convergence.specs.Acyclic.{IsChildCable}
 use Rattle.convergence.proofs.turns.CalmTurns.{Calmly, heard_by}
 use Rattle.convergence.proofs.turns.Flush.{Tells, Shown, flush}
 use Rattle.convergence.proofs.rounds.Grown.{Grown, weight_in, child-cable, below-cable, parent-only, grown-after, cable-after, weight-step, weight-after, calm-at}
@@ -265,7 +250,7 @@ module _ (hs : HoldSchedule) (v : CableWorld) (set : ℕ) (g : Grown v set) (u :
           there-is (Some b) e =
               let down : leads_down s.node.state.view.ports k.port ≡ true = child-was k.port b e j cj h.node h.at (sym (h.heard.child k.port) ∙ k.child) in
               let shown = shown-idle k.port b (child-cable v set g (end_at u k.port) b s.node e s.at down) c t.node t.at in
-              true≢false (sym shown ∙ ap (λ (n : NodeState). is_idle (level_shown n k.port)) h.is ∙ ap is_idle (h.ticks.shown k.port) ∙ k.busy)
+              contrary shown (ap (λ (n : NodeState). is_idle (level_shown n k.port)) h.is ∙ ap is_idle (h.ticks.shown k.port) ∙ k.busy)
 
       go :
           ((all_idle mid ≡ true) × ((tick (coin h.node.coins) mid).state.view.phase ≡ phase.ParentShake))

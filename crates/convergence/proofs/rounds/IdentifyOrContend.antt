@@ -2,23 +2,13 @@
 -- stays there.
 use Rattle.std.proofs.Common.{◌≡◌, ◌⊎◌, inl, inr, ℕ, ◌+◌, ◌-◌, ◌*◌, ◌≤◌, true, false, length, refl, sym, ◌∙◌, ap, subst, arith}
 use Rattle.std.proofs.lemmas.Bool.{cases_lt}
-use Rattle.cabling.specs.declared.cable.End.{End}
-use Rattle.cabling.specs.NodeSet.{Holds, IsEmpty}
-use Rattle.cabling.specs.Component.{IsComponent}
-use Rattle.cabling.specs.Looped.{IsCore}
-use Rattle.port_state.specs.declared.signal.Phase.{Phase}
+use Rattle.convergence.proofs.Common.{End, Holds, IsComponent, IsCore, Phase, CableWorld, wire_of, turn, is_shaking, cabling-after, after-delay, after-length, one-quiet, quiet-then, after-cabling, HoldSchedule, holds_after, quiet_after, AreRivals, AreMutual, AreIdentifying, TreesAreDecided}
+use Rattle.cabling.specs.NodeSet.{IsEmpty}
 use Rattle.port_state.specs.declared.signal.Phase.TheVariants as phase
-use Rattle.cable_world.specs.World.{CableWorld, wire_of}
-use Rattle.cable_world.specs.Turn.{turn}
-use Rattle.cable_world.specs.Phases.{is_shaking}
 use Rattle.cable_world.specs.Outcome.{HasNoLoop}
-use Rattle.cable_world.proofs.Lemmas.{cabling-after, after-delay, after-length, one-quiet, quiet-then, after-cabling}
-use Rattle.cable_world.specs.Quiet.{HoldSchedule, holds_after, quiet_after}
-use Rattle.convergence.specs.Rivals.{AreRivals}
-use Rattle.convergence.specs.Drawers.{AreMutual}
 use Rattle.convergence.specs.Kept.{IsGrown}
 use Rattle.convergence.specs.Turns.{decision_turns}
-use Rattle.convergence.specs.Milestones.{AreIdentifying, HasContention, IdentifyOrContend, TreesAreDecided}
+use Rattle.convergence.specs.Milestones.{HasContention, IdentifyOrContend}
 use Rattle.convergence.proofs.rounds.ThirtyThreeRounds.{contend, contention-turn, contention-after, rounds}
 use Rattle.convergence.proofs.rounds.Grown.{Grown, grown-after}
 use Rattle.convergence.proofs.rounds.Rooted.{component-after, identify-after, rooted-ends}

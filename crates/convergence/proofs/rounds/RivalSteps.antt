@@ -2,14 +2,8 @@
 use Rattle.std.proofs.Common.{◌≡◌, ◌⊎◌, inl, inr, ℕ, ◌+◌, ◌*◌, ◌<◌, ◌≤◌, true, false, None, refl, sym, ◌∙◌, ap, arith, true≢false}
 use Rattle.std.specs.Prelude.{min}
 use Rattle.port_state.specs.declared.signal.Level.TheVariants as level
-use Rattle.port_state.specs.declared.signal.Phase.{Phase}
+use Rattle.convergence.proofs.Common.{Phase, NodeState, is_parent, is_port, is_shaking, level_shown, NoEntry, risen, Side, hearing, ticking, HaveMet, AreRivals}
 use Rattle.port_state.specs.declared.signal.Phase.TheVariants as phase
-use Rattle.port_state.specs.declared.states.NodeState.{NodeState}
-use Rattle.port_state.specs.Ports.{is_parent, is_port}
-use Rattle.cable_world.specs.Phases.{is_shaking}
-use Rattle.cable_world.specs.Agreement.{level_shown}
-use Rattle.cable_world.proofs.Lemmas.{NoEntry, risen, Side, hearing, ticking}
-use Rattle.convergence.specs.Rivals.{HaveMet, AreRivals}
 use Rattle.convergence.proofs.turns.Moves.{Drew}
 use Rattle.convergence.proofs.coins.Rivals.{Rivals, swapped, other-level, no-contend, up-mid, drew-sees, again-sees, draws-not, asks-on}
 use Rattle.convergence.proofs.coins.Stands.{shaken, fought, waited-timer, over-timer, contend-none, long-undrawn}

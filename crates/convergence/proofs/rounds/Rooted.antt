@@ -1,14 +1,6 @@
 -- A set with a root comes to self identify.
 use Rattle.std.proofs.Common.{◌≡◌, inl, inr, ℕ, zero, suc, ◌+◌, ◌*◌, ◌≤◌, false, length, List, Some, slice_get, sym, subst, arith, add-one}
-use Rattle.cabling.specs.NodeSet.{Holds}
-use Rattle.cabling.specs.Component.{IsComponent}
-use Rattle.port_state.specs.Machine.{PortNode}
-use Rattle.cable_world.specs.World.{CableWorld}
-use Rattle.cable_world.specs.Turn.{turn_at, turn}
-use Rattle.cable_world.proofs.Lemmas.{node-after, one-quiet, no-quiet, after-cabling}
-use Rattle.cable_world.specs.Quiet.{PlacedHold, HoldSchedule, with_holds, quiet_after}
-use Rattle.convergence.specs.Roots.{IsRoot}
-use Rattle.convergence.specs.Milestones.{AreIdentifying}
+use Rattle.convergence.proofs.Common.{Holds, IsComponent, PortNode, CableWorld, turn_at, turn, node-after, one-quiet, no-quiet, after-cabling, PlacedHold, HoldSchedule, with_holds, quiet_after, IsRoot, AreIdentifying}
 use Rattle.convergence.proofs.coins.Drawers.{pair-no-root}
 use Rattle.convergence.proofs.rounds.Grown.{Grown, grown-turn, grown-after}
 use Rattle.convergence.proofs.resets.ResetsDone.{done-over}

@@ -2,23 +2,10 @@
 -- taken the other as child.
 use Rattle.std.proofs.Common.{◌≡◌, ◌⊎◌, inl, inr, ℕ, zero, suc, ◌+◌, ◌-◌, ◌*◌, ◌<◌, ◌≤◌, Bool, true, false, List, None, Some, slice_get, sym, ◌∙◌, ap, subst, arith}
 use Rattle.std.specs.Prelude.{min}
-use Rattle.cabling.specs.declared.cable.End.{End}
-use Rattle.cabling.specs.Wiring.{Wiring, far}
-use Rattle.cabling.specs.NodeSet.{Holds}
-use Rattle.port_state.specs.declared.signal.Phase.{Phase}
+use Rattle.convergence.proofs.Common.{End, Wiring, far, Holds, Phase, NodeState, coin, is_parent, is_port, PortNode, CableWorld, wire_of, turn_at, turn, level_sent, level_shown, leads_down, node-after, cabling-after, delay-after, side, side-node, after-delay, cable-connected, some-same, hearing, ticking, NoEntry, no-quiet, quiet-then, PlacedHold, HoldSchedule, holds_after, with_holds, quiet_after, KnowsCoins, IsAhead, AsksAgain, AreRivals, AreJoined}
+use Rattle.convergence.proofs.turns.PhaseFacts.{contend-shake}
 use Rattle.port_state.specs.declared.signal.Phase.TheVariants as phase
-use Rattle.port_state.specs.declared.states.NodeState.{NodeState}
-use Rattle.port_state.specs.Coins.{coin}
-use Rattle.port_state.specs.Ports.{is_parent, is_port}
-use Rattle.port_state.specs.Machine.{PortNode}
-use Rattle.cable_world.specs.World.{CableWorld, wire_of}
-use Rattle.cable_world.specs.Turn.{turn_at, turn}
-use Rattle.cable_world.specs.Agreement.{level_sent, level_shown, leads_down}
-use Rattle.cable_world.proofs.Lemmas.{node-after, cabling-after, delay-after, side, side-node, after-delay, cable-connected, some-same, hearing, ticking, NoEntry, no-quiet, quiet-then, quiet-first}
-use Rattle.cable_world.specs.Quiet.{PlacedHold, HoldSchedule, holds_after, with_holds, quiet_after}
-use Rattle.convergence.specs.Coins.{KnowsCoins}
-use Rattle.convergence.specs.Rivals.{IsAhead, AsksAgain, AreRivals}
-use Rattle.convergence.specs.Cables.{AreJoined}
+use Rattle.cable_world.proofs.Lemmas.{quiet-first}
 use Rattle.convergence.proofs.turns.Cables.{joined-held}
 use Rattle.convergence.proofs.turns.CalmTurns.{Calmly, heard_by}
 use Rattle.convergence.proofs.coins.StaysContested.{rivals-of}
@@ -322,9 +309,6 @@ parent-out :
     (f : Phase) (b : Bool) → f ≡ phase.ParentShake → b ≡ false → is_parent (level_sent f b) ≡ true
 parent-out f b h c = grind arith
 
-shake-apart : (f : Phase) → f ≡ phase.Contend → f ≡ phase.ParentShake → ⊥
-shake-apart f a b = cc
-
 module _
     (hs : HoldSchedule) (set : ℕ) (a b : End) (m : ℕ) (w : CableWorld) (g : Grown w set)
     (asking : (j : ℕ) → j ≤ w.delay → At (quiet_after hs j w) set a b (BothAsk a.port b.port m)) where
@@ -339,7 +323,7 @@ module _
   -- not for d turns
   not-all-along : ⊥
   not-all-along =
-      shake-apart z.ends.near.state.view.phase
+      contend-shake z.ends.near.state.view.phase
       (ap (λ (n : NodeState). n.view.phase) h.is ∙ tick-begins (coin h.node.coins) mid a.port
       (h.heard.phase ∙ ap (λ (n : PortNode). n.state.view.phase) same ∙ s.is.asks)
       (ap (λ o. is_port o a.port) h.heard.parent ∙ ap (λ (n : PortNode). is_port n.state.view.parent a.port) same ∙ s.is.here.up)
@@ -528,9 +512,9 @@ module _ (set : ℕ) (m : ℕ) (small : m ≤ 64) where
           At w set a b (OneAhead 0 a.port b.port m)
           ⊎ At w set a b (OneWaits w.delay 0 a.port b.port m)
       go (inl h) = absurd (no-contend s.ends.near.state.view.phase h.here c)
-      go (inr (inl h)) = absurd (shake-apart s.ends.other.state.view.phase h.there t)
+      go (inr (inl h)) = absurd (contend-shake s.ends.other.state.view.phase h.there t)
       go (inr (inr (inl h))) = how h.how
-      go (inr (inr (inr h))) = absurd (shake-apart s.ends.other.state.view.phase h.here t)
+      go (inr (inr (inr h))) = absurd (contend-shake s.ends.other.state.view.phase h.here t)
 
   pub round :
       (hs : HoldSchedule) (a b : End) (w : CableWorld) → Grown w set → At w set a b (AreUp a.port b.port m) →

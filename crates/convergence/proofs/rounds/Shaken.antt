@@ -1,33 +1,13 @@
 -- The nodes in T1 of a set die out: what all weigh falls within each 2d turns, while one is in T1.
 use Rattle.std.proofs.Common.{◌≡◌, ◌⊎◌, inl, inr, ℕ, zero, suc, ◌+◌, ◌*◌, ◌≤◌, Bool, true, false, not, ◌&&◌, ◌==◌, cond, length, Option, Some, None, is_some, slice_get, refl, sym, ◌∙◌, ap, subst, arith, true≢false}
+use Rattle.convergence.proofs.turns.PhaseFacts.{start-late}
 use Rattle.std.specs.Prelude.{IsSome}
 use Rattle.std.specs.Int.{bit_at}
-use Rattle.std.proofs.lemmas.Bool.{eqb-true, eq-eqb, and_from, and_parts}
+use Rattle.std.proofs.lemmas.Bool.{eqb-true, eq-eqb, and_from, and_parts, not-false}
 use Rattle.std.proofs.lemmas.Option.{slice_get_within}
-use Rattle.cabling.specs.declared.cable.End.{End}
-use Rattle.cabling.specs.Wiring.{far}
-use Rattle.cabling.specs.NodeSet.{Holds}
-use Rattle.cabling.proofs.Lemmas.{end_at}
-use Rattle.port_state.specs.declared.signal.Phase.{Phase}
+use Rattle.convergence.proofs.Common.{End, far, Holds, end_at, Phase, NodeState, coin, hears_packets, is_port, tick, FitsPhase, IsValid, PortNode, CableWorld, turn, is_before_tree, is_shaking, leads_down, after-delay, after-length, child-if, cable-connected, some-same, late-roles, no-quiet, quiet-then, HoldSchedule, holds_after, quiet_after, IsChildCable, AreMutual, IsRoot, AreIdentifying, contrary}
 use Rattle.port_state.specs.declared.signal.Phase.TheVariants as phase
-use Rattle.port_state.specs.declared.states.NodeState.{NodeState}
-use Rattle.port_state.specs.Coins.{coin}
-use Rattle.port_state.specs.Heard.{hears_packets}
-use Rattle.port_state.specs.Ports.{is_port}
-use Rattle.port_state.specs.Tick.{tick}
-use Rattle.port_state.specs.Valid.{FitsPhase, IsValid}
-use Rattle.port_state.specs.Machine.{PortNode}
-use Rattle.cable_world.specs.World.{CableWorld}
-use Rattle.cable_world.specs.Turn.{turn}
-use Rattle.cable_world.specs.Phases.{is_before_tree, is_shaking}
-use Rattle.cable_world.specs.Agreement.{leads_down}
-use Rattle.cable_world.proofs.Lemmas.{after-delay, after-length, child-if, cable-connected, some-same, late-roles, no-quiet, quiet-then}
 use Rattle.convergence.proofs.turns.Cables.{joined-of}
-use Rattle.cable_world.specs.Quiet.{HoldSchedule, holds_after, quiet_after}
-use Rattle.convergence.specs.Acyclic.{IsChildCable}
-use Rattle.convergence.specs.Drawers.{AreMutual}
-use Rattle.convergence.specs.Roots.{IsRoot}
-use Rattle.convergence.specs.Milestones.{AreIdentifying}
 use Rattle.convergence.proofs.turns.CalmTurns.{Calmly, heard_by}
 use Rattle.convergence.proofs.coins.Drawers.{parent-connected}
 use Rattle.convergence.proofs.sets.Gathered.{count, count-some, count-found}
@@ -229,19 +209,15 @@ module _ (w : CableWorld) (set : ℕ) (g : Grown w set) (none : NoneShakes w set
                   let below = below-cable w set g b (end_at k q) e in
                   let same : e.below ≡ p.node = some-same e.below p.node (sym e.below_at ∙ p.at) in
                   elim two [
-                    | inl t ↦ true≢false (sym (ap is_child_shake (below.asks (ap (λ (n : PortNode). is_shaking n.state.view.phase) same ∙ ap is_shaking t)).0) ∙ none b.node e.above in_y e.above_at)
+                    | inl t ↦ contrary (ap is_child_shake (below.asks (ap (λ (n : PortNode). is_shaking n.state.view.phase) same ∙ ap is_shaking t)).0) (none b.node e.above in_y e.above_at)
                     | inr t ↦ below.calm (ap (λ (n : PortNode). n.state.view.phase) same ∙ t)
                   ]
-
-              turn : (b : Bool) → not b ≡ false → b ≡ true
-              turn true e = refl
-              turn false e = absurd (true≢false e)
 
               up :
                   (c : Bool) → leads_down y.state.view.ports b.port ≡ c →
                   is_port y.state.view.parent b.port ≡ true
               up true c = absurd (child c)
-              up false c = turn (is_port y.state.view.parent b.port)
+              up false c = not-false (is_port y.state.view.parent b.port)
                   (sym (child-if y.state.view.parent y.state.view.ports b.port (late-roles y.state (valid-at w set g b.node y at_y) (g.late b.node y in_y at_y)) (cable-connected w b (end_at k q) y g.lawful.well_formed back at_y)) ∙ c)
 
   -- where there are no rivals, a turn takes all out of tree identify
@@ -261,7 +237,7 @@ module _ (w : CableWorld) (set : ℕ) (g : Grown w set) (none : NoneShakes w set
 
       contend-some : (o : Option ℕ) → IsSome o → o ≡ None → ⊥
       contend-some None some e = absurd cc
-      contend-some (Some q) some e = true≢false (sym (eq-eqb q q refl) ∙ ap (λ r. is_port r q) e)
+      contend-some (Some q) some e = contrary (eq-eqb q q refl) (ap (λ r. is_port r q) e)
 
       go :
           (c : Calmly w k y.state) → (b : Bool) → hears_packets c.node.state.view.phase ≡ b →
@@ -287,13 +263,10 @@ module _ (w : CableWorld) (set : ℕ) (g : Grown w set) where
       c : Calmly w k y.state
       c = calm-turn w set g k y at
 
-      start-late : (f : Phase) → f ≡ phase.TreeStart → is_before_tree f ≡ false → ⊥
-      start-late f a b = grind arith
-
       go : (o : Option ℕ) → y.state.view.parent ≡ o → o ≡ None
       go None e = refl
       go (Some p) e = absurd (elim (parent-was (coin c.node.coins) (heard_by w k c.node) p (sym (ap (λ (s : NodeState). is_port s.view.parent p) c.is) ∙ ap (λ o. is_port o p) e ∙ eq-eqb p p refl)) [
-        | inl u ↦ true≢false (sym u ∙ ap (λ o. is_port o p) (c.heard.parent ∙ ap (λ (n : PortNode). n.state.view.parent) (some-same c.node r.node (sym c.at ∙ r.at)) ∙ r.parentless))
+        | inl u ↦ contrary u (ap (λ o. is_port o p) (c.heard.parent ∙ ap (λ (n : PortNode). n.state.view.parent) (some-same c.node r.node (sym c.at ∙ r.at)) ∙ r.parentless))
         | inr s ↦ start-late (heard_by w k c.node).view.phase s (ap is_before_tree c.heard.phase ∙ g.late k c.node h c.at)
       ])
 

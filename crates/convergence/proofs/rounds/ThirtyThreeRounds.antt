@@ -3,21 +3,8 @@
 use Rattle.std.proofs.Common.{◌≡◌, ◌⊎◌, inl, inr, ℕ, zero, suc, ◌+◌, ◌*◌, ◌<◌, ◌≤◌, Bool, true, false, if◌then◌else◌, List, Some, slice_get, refl, sym, ◌∙◌, ap, subst, arith, add-one}
 use Rattle.std.specs.Prelude.{min, nat_lt, bit_or, ◌^◌}
 use Rattle.std.proofs.lemmas.Bool.{cases_lt}
-use Rattle.cabling.specs.declared.cable.End.{End}
-use Rattle.cabling.specs.Wiring.{Wiring, far}
-use Rattle.cabling.specs.Looped.{IsCore}
-use Rattle.port_state.specs.declared.states.NodeState.{NodeState}
-use Rattle.port_state.specs.Coins.{coin}
-use Rattle.port_state.specs.TreeIdentify.{draws_with}
-use Rattle.port_state.specs.Tick.{tick}
-use Rattle.port_state.specs.Machine.{PortNode}
-use Rattle.cable_world.specs.World.{CableWorld, wire_of}
-use Rattle.cable_world.specs.Turn.{turn_at, turn}
+use Rattle.convergence.proofs.Common.{End, Wiring, far, IsCore, NodeState, coin, draws_with, tick, PortNode, CableWorld, wire_of, turn_at, turn, node-after, cabling-after, after-delay, some-of, some-at, some-same, one-quiet, no-quiet, quiet-then, PlacedHold, HoldSchedule, holds_after, with_holds, quiet_after, AddsDraw, DrewTogether, AreRivals}
 use Rattle.cable_world.specs.Outcome.{Shows, HasNoLoop, DrewAlike}
-use Rattle.cable_world.proofs.Lemmas.{node-after, cabling-after, after-delay, some-of, some-at, some-same, one-quiet, no-quiet, quiet-then}
-use Rattle.cable_world.specs.Quiet.{PlacedHold, HoldSchedule, holds_after, with_holds, quiet_after}
-use Rattle.convergence.specs.Coins.{AddsDraw, DrewTogether}
-use Rattle.convergence.specs.Rivals.{AreRivals}
 use Rattle.convergence.specs.Milestones.{HasContention}
 use Rattle.convergence.proofs.turns.CalmTurns.{Calmly, heard_by}
 use Rattle.convergence.proofs.rounds.Grown.{Grown, calm-turn, grown-after}

@@ -3,10 +3,8 @@
 -- member is found only where the goal can be refuted.
 use Rattle.std.proofs.Common.{◌≡◌, inl, inr, ◌↔◌, ℕ, zero, suc, ◌*◌, ◌%◌, ◌^◌, ◌<◌, ◌≤◌, bit_or, length, Some, sym, subst, arith}
 use Rattle.std.proofs.lemmas.Bool.{cases_eq, cases_lt}
-use Rattle.cabling.specs.declared.cable.End.{End}
-use Rattle.cabling.specs.Wiring.{Wiring, far, IsCabling}
-use Rattle.cabling.specs.NodeSet.{Holds}
-use Rattle.cabling.specs.Component.{IsComponent}
+use Rattle.convergence.proofs.Common.{End, Wiring, far, Holds, IsComponent}
+use Rattle.cabling.specs.Wiring.{IsCabling}
 use Rattle.cabling.proofs.Lemmas.{none_of_zero, inserted-holds, inserted-others, plugged}
 
 -- a set has the members of P below a number

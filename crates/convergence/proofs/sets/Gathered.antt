@@ -1,6 +1,7 @@
 -- The numbers below n that pass a test: the set of them, and how many there are.
 use Rattle.std.proofs.Common.{◌≡◌, ◌⊎◌, inl, inr, ℕ, zero, suc, ◌+◌, ◌*◌, ◌%◌, ◌^◌, ◌<◌, ◌≤◌, Bool, true, false, cond, bit_or, refl, sym, ◌∙◌, ap, arith, true≢false}
 use Rattle.std.proofs.lemmas.Bool.{cases_eq}
+use Rattle.convergence.proofs.Common.{contrary}
 use Rattle.cabling.proofs.Lemmas.{inserted-small}
 use Rattle.convergence.proofs.sets.Closure.{IsPart, is-empty, part-without, part-with}
 
@@ -25,7 +26,7 @@ gathered member (suc n) h = go (member n) refl (gathered member n (omega (arith,
     go false e g = record {
       set = g.set;
       small = g.small;
-      is = part-without (λ k. member k ≡ true) n g.set g.is (λ f. true≢false (sym f ∙ e));
+      is = part-without (λ k. member k ≡ true) n g.set g.is (λ f. contrary f e);
     }
 
 -- ---- how many

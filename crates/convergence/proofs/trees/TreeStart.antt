@@ -1,17 +1,7 @@
 -- Nodes in T0 once resets are done: their timers rise, until they know their tree.
 use Rattle.std.proofs.Common.{◌≡◌, ℕ, zero, suc, ◌+◌, ◌-◌, ◌*◌, ◌≤◌, true, false, Some, slice_get, refl, sym, ◌∙◌, ap, subst, arith, add-one}
-use Rattle.port_state.specs.declared.signal.Phase.{Phase}
+use Rattle.convergence.proofs.Common.{Phase, NodeState, Timing, coin, PortNode, CableWorld, is_before_tree, is_in_bus_reset, IsLawful, after-delay, risen, one-quiet, no-quiet, quiet-lawful, HoldSchedule, quiet_after, ResetsAreDone}
 use Rattle.port_state.specs.declared.signal.Phase.TheVariants as phase
-use Rattle.port_state.specs.declared.states.NodeState.{NodeState}
-use Rattle.port_state.specs.declared.timing.Timing.{Timing}
-use Rattle.port_state.specs.Coins.{coin}
-use Rattle.port_state.specs.Machine.{PortNode}
-use Rattle.cable_world.specs.World.{CableWorld}
-use Rattle.cable_world.specs.Phases.{is_before_tree, is_in_bus_reset}
-use Rattle.cable_world.specs.Lawful.{IsLawful}
-use Rattle.cable_world.proofs.Lemmas.{after-delay, risen, one-quiet, no-quiet, quiet-lawful}
-use Rattle.cable_world.specs.Quiet.{HoldSchedule, quiet_after}
-use Rattle.convergence.specs.Milestones.{ResetsAreDone}
 use Rattle.convergence.proofs.turns.CalmTurns.{Calmly, calmly, heard_by, early-before, done-calm, turn-done}
 use Rattle.convergence.proofs.turns.BeforeTree.{StaysInStart, stays-in-start}
 

@@ -4,31 +4,13 @@
 -- neighbours ask it.
 use Rattle.std.proofs.Common.{◌≡◌, ◌⊎◌, inl, inr, ℕ, zero, suc, ◌+◌, ◌-◌, ◌*◌, ◌^◌, ◌<◌, ◌≤◌, Bool, true, false, not, ◌&&◌, ◌||◌, ◌==◌, length, min, Option, Some, None, is_some, slice_get, refl, sym, ◌∙◌, ap, subst, arith, true≢false}
 use Rattle.std.specs.Int.{bit_at}
-use Rattle.std.proofs.lemmas.Bool.{eqb-true, eq-eqb, and_from, and_parts}
+use Rattle.std.proofs.lemmas.Bool.{eqb-true, eq-eqb, and_from, and_parts, false_from_ne_true}
 use Rattle.std.proofs.lemmas.Option.{slice_get_within}
-use Rattle.port_state.specs.declared.signal.Phase.{Phase}
+use Rattle.convergence.proofs.Common.{Phase, PortView, NodeState, Timing, is_parent, passes, is_connected, is_port, raise_timer, IsValid, PortNode, End, Wiring, far, Holds, IsClosed, HasTwo, IsCore, end_at, CableWorld, wire_of, level_sent, level_shown, shown_or_idle, leads_down, level_sent_at, is_before_tree, is_shaking, is_asking, Coupling, IsLawful, after-delay, after-length, child-if, cable-connected, late-roles, tree_start-known, quiet-then, quiet-lawful, after-cabling, HoldSchedule, holds_after, quiet_after, ResetsAreDone, contrary}
 use Rattle.port_state.specs.declared.signal.Phase.TheVariants as phase
-use Rattle.port_state.specs.declared.ports.PortView.{PortView}
-use Rattle.port_state.specs.declared.states.NodeState.{NodeState}
-use Rattle.port_state.specs.declared.timing.Timing.{Timing}
-use Rattle.port_state.specs.Ports.{is_parent, passes, is_connected, is_port}
-use Rattle.port_state.specs.Tick.{raise_timer}
-use Rattle.port_state.specs.Valid.{IsValid}
-use Rattle.port_state.specs.Machine.{PortNode}
-use Rattle.cabling.specs.declared.cable.End.{End}
-use Rattle.cabling.specs.Wiring.{Wiring, far}
-use Rattle.cabling.specs.NodeSet.{Holds, IsWithin, IsEmpty}
-use Rattle.cabling.specs.Component.{IsClosed}
-use Rattle.cabling.specs.Looped.{LeadsInto, HasTwo, IsCore}
-use Rattle.cabling.proofs.Lemmas.{below, weak_or_all, plugged, end_at}
-use Rattle.cable_world.specs.World.{CableWorld, wire_of}
-use Rattle.cable_world.specs.Agreement.{level_sent, level_shown, shown_or_idle, leads_down, level_sent_at}
-use Rattle.cable_world.specs.Phases.{is_before_tree, is_shaking}
-use Rattle.cable_world.specs.Coupling.{is_asking, Coupling}
-use Rattle.cable_world.specs.Lawful.{IsLawful}
-use Rattle.cable_world.proofs.Lemmas.{after-delay, after-length, child-if, cable-connected, late-roles, tree_start-known, quiet-then, quiet-lawful, after-cabling}
-use Rattle.cable_world.specs.Quiet.{HoldSchedule, holds_after, quiet_after}
-use Rattle.convergence.specs.Milestones.{ResetsAreDone}
+use Rattle.cabling.specs.NodeSet.{IsWithin, IsEmpty}
+use Rattle.cabling.specs.Looped.{LeadsInto}
+use Rattle.cabling.proofs.Lemmas.{below, weak_or_all, plugged}
 use Rattle.convergence.proofs.turns.CalmTurns.{heard_by}
 use Rattle.convergence.proofs.turns.BeforeTree.{Left, TwoLeft, undecided-two}
 use Rattle.convergence.proofs.turns.Flush.{Tells, Shown, flush}
@@ -201,17 +183,17 @@ module _
             (g.is a.node).1 (omega (arith, there, l.well_formed.count), m)
         to a e false m =
             let w : CableWorld = quiet_after hs t v in
-            let late : IsEarly w a.node → ⊥ = λ y. true≢false (sym (member-from t a.node (closed (end_at u q) a e in_set) y) ∙ m) in
+            let late : IsEarly w a.node → ⊥ = λ y. contrary (member-from t a.node (closed (end_at u q) a e in_set) y) m in
             let e_then : far w.cabling (end_at u q) ≡ Some a = ap (λ (c : Wiring). far c (end_at u q)) (after-cabling hs t v) ∙ e in
             let n_then : IsEarly (quiet_after (holds_after t hs) v.delay w) u = subst (λ z. IsEarly z u) (quiet-then hs t v.delay v) n in
             let at_then : slice_get (quiet_after (holds_after t hs) v.delay w).nodes u ≡ Some n.node = ap (λ (z : CableWorld). slice_get z.nodes u) (sym (quiet-then hs t v.delay v)) ∙ n.at in
             let same : w.delay ≤ v.delay = omega (arith, after-delay hs v l t) in
-            absurd (true≢false (sym (shown-parent (holds_after t hs) w (quiet-lawful hs t v l) (done-at hs v l done t) u q a e_then late v.delay same n_then n.node at_then) ∙ s.silent))
+            contrary (shown-parent (holds_after t hs) w (quiet-lawful hs t v l) (done-at hs v l done t) u q a e_then late v.delay same n_then n.node at_then) s.silent
 
         go :
             (o : Option End) → far v.cabling (end_at u q) ≡ o →
             LeadsInto v.cabling g.set (end_at u q)
-        go None e = absurd (true≢false (sym s.on ∙ ((quiet-lawful hs (t + v.delay) v l).well_formed.nodes u n.node n.at).connected q ∙ ap is_some (cable None e)))
+        go None e = contrary s.on (((quiet-lawful hs (t + v.delay) v l).well_formed.nodes u n.node n.at).connected q ∙ ap is_some (cable None e))
         go (Some a) e = (a, e, to a e (member t a.node) refl)
 
     -- one of them is gone d turns later
@@ -280,14 +262,10 @@ module _
       (i : ℕ) → 256 * v.delay + length v.nodes * v.delay ≤ i → (k : ℕ) (x : PortNode) →
       Holds set k → slice_get (quiet_after hs i v).nodes k ≡ Some x →
       is_before_tree x.state.view.phase ≡ false
-  all-taken i late k x h at = go (is_before_tree x.state.view.phase) refl
-    where
-      go : (b : Bool) → is_before_tree x.state.view.phase ≡ b → b ≡ false
-      go false e = refl
-      go true e =
-          let s : ℕ = time (length v.nodes) in
-          let z : i ≡ s + (i - s) = omega (arith, late, time-is (length v.nodes)) in
-          let m : member i k ≡ true = member-from i k h (record { node = x; at = at; early = e }) in
-          let was : member s k ≡ true = member-was s (i - s) k (ap (λ j. member j k) (sym z) ∙ m) in
-          let inside : k < length v.nodes = omega (arith, slice_get_within (quiet_after hs i v).nodes k x at, after-length hs v l i) in
-          absurd (omega (arith, none-left, count-some (member s) (length v.nodes) k inside was))
+  all-taken i late k x h at = false_from_ne_true _ (λ e.
+      let s : ℕ = time (length v.nodes) in
+      let z : i ≡ s + (i - s) = omega (arith, late, time-is (length v.nodes)) in
+      let m : member i k ≡ true = member-from i k h (record { node = x; at = at; early = e }) in
+      let was : member s k ≡ true = member-was s (i - s) k (ap (λ j. member j k) (sym z) ∙ m) in
+      let inside : k < length v.nodes = omega (arith, slice_get_within (quiet_after hs i v).nodes k x at, after-length hs v l i) in
+      omega (arith, none-left, count-some (member s) (length v.nodes) k inside was))

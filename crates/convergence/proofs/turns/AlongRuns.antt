@@ -1,12 +1,9 @@
 -- What turns, holds and acts of a lawful world keep holds along runs.
 use Rattle.std.proofs.Common.{zero, suc, ℕ, List, [], ◌∷◌, sym, subst}
-use Rattle.cable_world.specs.World.{CableWorld}
-use Rattle.cable_world.specs.Run.{Event, acts, holds, turns, Happens, Runs, IsReached}
-use Rattle.cable_world.specs.Turn.{turn}
-use Rattle.cable_world.specs.Lawful.{IsLawful}
+use Rattle.convergence.proofs.Common.{CableWorld, IsReached, turn, IsLawful, turn-lawful, holds-kept, quiet-lawful, HoldSchedule, quiet_after}
+use Rattle.cable_world.specs.Run.{Event, acts, holds, turns, Happens, Runs}
 use Rattle.cable_world.specs.StaysLawful.{HoldsAtPowerOn}
-use Rattle.cable_world.proofs.Lemmas.{power-on-lawful, turn-lawful, hold-lawful, act-lawful, holds-kept, quiet-lawful}
-use Rattle.cable_world.specs.Quiet.{HoldSchedule, quiet_after}
+use Rattle.cable_world.proofs.Lemmas.{power-on-lawful, hold-lawful, act-lawful}
 use Rattle.convergence.specs.Kept.{KeptByTurn, KeptByHold, KeptByAct}
 
 pub record IsKept (P : CableWorld → Type 0) : Type 0 where

@@ -4,18 +4,12 @@ use Rattle.std.proofs.Common.{◌≡◌, ◌⊎◌, inl, inr, ℕ, suc, ◌+◌,
 use Rattle.std.proofs.lemmas.Bool.{leb-false, and_from}
 use Rattle.std.proofs.lemmas.Bool.Decides.{nat_tests}
 use Rattle.std.proofs.lemmas.List.Sums.{sum_by-cons}
-use Rattle.port_state.specs.declared.signal.Phase.{Phase}
+use Rattle.convergence.proofs.Common.{Phase, PortView, NodeState, is_parent, every, port_is, is_connected, Row, raise_timer, row_of, does, next_row, tick, is_before_tree, is_in_bus_reset, risen, Chosen, chosen}
 use Rattle.port_state.specs.declared.signal.Phase.TheVariants as phase
-use Rattle.port_state.specs.declared.ports.PortView.{PortView}
-use Rattle.port_state.specs.declared.states.NodeState.{NodeState}
-use Rattle.port_state.specs.Ports.{is_parent, asks, every, port_is, is_connected, connected_count}
+use Rattle.port_state.specs.Ports.{asks, connected_count}
 use Rattle.port_state.specs.Resetting.{is_calm}
 use Rattle.port_state.specs.TreeIdentify.{is_decided}
 use Rattle.port_state.specs.Row as row
-use Rattle.port_state.specs.Row.{Row}
-use Rattle.port_state.specs.Tick.{raise_timer, row_of, does, next_row, tick}
-use Rattle.cable_world.specs.Phases.{is_before_tree, is_in_bus_reset}
-use Rattle.cable_world.proofs.Lemmas.{risen, Chosen, chosen}
 
 -- ---- how a node comes there
 

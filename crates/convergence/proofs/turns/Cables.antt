@@ -1,12 +1,8 @@
 -- The two ends of a cable are there.
 use Rattle.std.proofs.Common.{◌≡◌, List, Some}
-use Rattle.cabling.specs.declared.cable.End.{End}
-use Rattle.cabling.specs.Wiring.{far}
-use Rattle.cable_world.specs.World.{CableWorld}
-use Rattle.cable_world.specs.Quiet.{PlacedHold, with_holds}
+use Rattle.convergence.proofs.Common.{End, far, CableWorld, PlacedHold, with_holds, AreJoined}
 use Rattle.cable_world.specs.Lawful.{IsWellFormed}
 use Rattle.cable_world.proofs.Lemmas.{CableEnd, cable-end}
-use Rattle.convergence.specs.Cables.{AreJoined}
 
 pub joined-of :
     (w : CableWorld) (a b : End) → IsWellFormed w → far w.cabling a ≡ Some b → AreJoined w a b

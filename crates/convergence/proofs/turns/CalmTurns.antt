@@ -1,19 +1,8 @@
 -- A turn of a world without a node in R0: no node enters a reset, and each comes from where it was.
-use Rattle.std.proofs.Common.{◌≡◌, inl, inr, ℕ, Bool, true, false, List, Some, slice_get, refl, sym, ◌∙◌, ap, arith, true≢false}
-use Rattle.port_state.specs.declared.signal.Signal.{Signal}
-use Rattle.port_state.specs.declared.signal.Phase.{Phase}
-use Rattle.port_state.specs.declared.states.NodeState.{NodeState}
-use Rattle.port_state.specs.Coins.{coin}
-use Rattle.port_state.specs.Heard.{is_resetting}
-use Rattle.port_state.specs.Tick.{tick}
-use Rattle.port_state.specs.Machine.{PortNode}
-use Rattle.cabling.specs.Wiring.{ports_of}
-use Rattle.cable_world.specs.World.{CableWorld}
-use Rattle.cable_world.specs.Turn.{inbox, turn, hear_all}
-use Rattle.cable_world.specs.Phases.{is_before_tree, is_in_bus_reset}
-use Rattle.cable_world.specs.Lawful.{IsLawful}
-use Rattle.cable_world.proofs.Lemmas.{before, hears, ticks, Recent, comes-from, hear-came, NoEntry, HearsWell, TicksWell, turn-state}
-use Rattle.convergence.specs.Milestones.{NoneIn, ResetsAreDone}
+use Rattle.std.proofs.Common.{◌≡◌, inl, inr, ℕ, true, false, List, Some, slice_get, sym, ◌∙◌, ap, arith}
+use Rattle.std.proofs.lemmas.Bool.{false_from_ne_true}
+use Rattle.convergence.proofs.Common.{Signal, Phase, NodeState, coin, is_resetting, tick, PortNode, ports_of, CableWorld, inbox, turn, hear_all, is_before_tree, is_in_bus_reset, IsLawful, before, hears, ticks, NoEntry, HearsWell, TicksWell, turn-state, NoneIn, ResetsAreDone, contrary}
+use Rattle.cable_world.proofs.Lemmas.{Recent, comes-from, hear-came}
 use Rattle.convergence.proofs.turns.BeforeTree.{was-waiting, was-early}
 
 abbrev pub signals : CableWorld → ℕ → List (ℕ × Signal)
@@ -48,7 +37,7 @@ calmly w l calm k y at_y =
         | inr c ↦
             let port = hear-came (signals w k) x.0.state c.before (ap is_resetting c.phase) in
             let r : Recent w = comes-from w l k x.0 x.1 port.0 port.1 port.2 in
-            absurd (true≢false (sym r.resets ∙ calm r.number r.node r.at))
+            contrary r.resets (calm r.number r.node r.at)
       ];
       is = ap (λ (u : PortNode). u.state) x.2 ∙ turn-state (signals w k) x.0;
     }
@@ -71,13 +60,9 @@ done-calm w done k x at = not-waiting x.state.view.phase (done k x at)
 
 -- once resets are done they stay so
 pub turn-done : (w : CableWorld) → IsLawful w → ResetsAreDone w → ResetsAreDone (turn w)
-turn-done w l done k y at = go (is_in_bus_reset y.state.view.phase) refl
+turn-done w l done k y at = false_from_ne_true _ (λ e.
+    let d : Calmly w k y.state = calmly w l (done-calm w done) k y at in
+    contrary (waiting-before w k y.state d e) (done k d.node d.at))
   where
     c : Calmly w k y.state
     c = calmly w l (done-calm w done) k y at
-
-    go : (b : Bool) → is_in_bus_reset y.state.view.phase ≡ b → b ≡ false
-    go false e = refl
-    go true e =
-        let d : Calmly w k y.state = calmly w l (done-calm w done) k y at in
-        absurd (true≢false (sym (waiting-before w k y.state d e) ∙ done k d.node d.at))

@@ -3,21 +3,9 @@
 -- way, so the other end then shows what was told last; and one that doesn't give for d turns has a
 -- signal that is due.
 use Rattle.std.proofs.Common.{◌≡◌, ℕ, zero, suc, ◌+◌, ◌-◌, ◌<◌, ◌≤◌, Bool, true, false, List, [], ◌∷◌, ◌++◌, map, Some, slice_get, if◌then◌else◌, refl, sym, ◌∙◌, ap, subst, arith, add-one, true≢false}
-use Rattle.port_state.specs.declared.signal.Level.{Level}
-use Rattle.port_state.specs.declared.states.NodeState.{NodeState}
-use Rattle.port_state.specs.Machine.{PortNode}
-use Rattle.cabling.specs.declared.cable.End.{End}
-use Rattle.cabling.specs.Wiring.{Wiring, far, ports_of}
-use Rattle.cable_world.specs.declared.wire.Travelling.{Travelling}
-use Rattle.cable_world.specs.Wire.{age_wire, gives, age_signal, new_signal}
-use Rattle.cable_world.specs.World.{CableWorld, wire_of}
-use Rattle.cable_world.specs.Turn.{inbox, turn_at, turn}
-use Rattle.cable_world.specs.Signals.{signals_of}
-use Rattle.cable_world.specs.Agreement.{level_shown, level_after, level_sent_at}
-use Rattle.cable_world.specs.Lawful.{AgesFall, IsLawful}
-use Rattle.cable_world.proofs.Lemmas.{before, hears, ticks, side, side-wire, after-delay, cable-connected, departures, turn-state, comes, holds-signals, one-quiet, quiet-lawful, after-cabling, turn-lawful}
+use Rattle.convergence.proofs.Common.{Level, NodeState, PortNode, End, Wiring, far, ports_of, Travelling, age_wire, gives, new_signal, CableWorld, wire_of, inbox, turn_at, turn, signals_of, level_shown, level_after, level_sent_at, AgesFall, IsLawful, before, hears, ticks, side, side-wire, after-delay, cable-connected, departures, turn-state, comes, holds-signals, one-quiet, quiet-lawful, after-cabling, turn-lawful, PlacedHold, HoldSchedule, with_holds, quiet_after, contrary}
+use Rattle.cable_world.specs.Wire.{age_signal}
 use Rattle.convergence.proofs.turns.Cables.{joined-of}
-use Rattle.cable_world.specs.Quiet.{PlacedHold, HoldSchedule, with_holds, quiet_after}
 
 -- ---- the two ends of a cable
 
@@ -101,7 +89,7 @@ module _
           level_after (level_shown y.state b.port)
           (if g then signals_of (wire_of w a).signals else []) ≡ level_shown z.state b.port →
           FrontSince (n + 1) ((if g then [] else map age_signal (wire_of w a).signals) ++ map new_signal (departures (side w a x)))
-      go y at true s = absurd (true≢false (sym (tell x at_x) ∙ ap test (sym (level y at) ∙ s) ∙ bad))
+      go y at true s = contrary (tell x at_x) (ap test (sym (level y at) ∙ s) ∙ bad)
       go y at false s = front-older n (wire_of w a).signals (map new_signal (departures (side w a x))) (due y at (ap test s ∙ bad))
 
 -- ---- d quiet turns

@@ -1,22 +1,14 @@
 -- What a tick does in tree identify, case by case, and what it draws.
-use Rattle.std.proofs.Common.{◌≡◌, ◌⊎◌, inl, inr, ℕ, zero, suc, ◌+◌, ◌<◌, ◌≤◌, Bool, true, false, List, [], ◌∷◌, Option, Some, None, slice_get, refl, sym, ◌∙◌, ap, subst, arith, true≢false, if◌then◌else◌}
+use Rattle.std.proofs.Common.{◌≡◌, ◌⊎◌, inl, inr, ℕ, zero, suc, ◌+◌, ◌<◌, ◌≤◌, Bool, true, false, List, [], ◌∷◌, Option, Some, None, slice_get, refl, sym, ap, subst, arith, true≢false, if◌then◌else◌}
 use Rattle.std.specs.Prelude.{min, IsSome, nat_le}
 use Rattle.std.proofs.lemmas.Bool.{leb-true, and_parts}
-use Rattle.port_state.specs.declared.signal.Level.{Level}
+use Rattle.convergence.proofs.Common.{Level, Signal, PortView, NodeState, is_idle, is_parent, is_child, every, passes, port_is, is_connected, draws_with, Row, raise_timer, row_of, does, next_row, tick, FitsPhase, IsValid, is_before_tree, is_shaking, shown_or_idle, level_shown, Chosen, chosen, contrary}
 use Rattle.port_state.specs.declared.signal.Level.TheVariants as level
 use Rattle.port_state.specs.declared.signal.Phase.TheVariants as phase
-use Rattle.port_state.specs.declared.signal.Signal.{Signal}
-use Rattle.port_state.specs.declared.ports.PortView.{PortView}
-use Rattle.port_state.specs.declared.states.NodeState.{NodeState}
-use Rattle.port_state.specs.Ports.{is_idle, is_parent, is_child, every, passes, port_is, is_connected}
-use Rattle.port_state.specs.TreeIdentify.{draws_with, contend_at}
+use Rattle.port_state.specs.TreeIdentify.{contend_at}
 use Rattle.port_state.specs.Row as row
-use Rattle.port_state.specs.Row.{Row}
-use Rattle.port_state.specs.Tick.{raise_timer, row_of, does, next_row, tick}
-use Rattle.port_state.specs.Valid.{FitsPhase, IsValid}
-use Rattle.cable_world.specs.Phases.{is_before_tree, is_shaking, is_contending}
-use Rattle.cable_world.specs.Agreement.{shown_or_idle, level_shown}
-use Rattle.cable_world.proofs.Lemmas.{Chosen, chosen, is-parent, is-child, elsewhere}
+use Rattle.cable_world.specs.Phases.{is_contending}
+use Rattle.cable_world.proofs.Lemmas.{is-parent, is-child, elsewhere}
 
 -- ---- what is drawn
 
@@ -178,8 +170,8 @@ late-on :
     (coin : Bool) (r : Row) (x : NodeState) → Chosen r x → is_before_tree x.view.phase ≡ false →
     is_before_tree (does coin r x).state.view.phase ≡ false
 late-on coin row.none x c h = h
-late-on coin row.ends_reset x c h = absurd (true≢false (sym (ap is_before_tree c.0) ∙ h))
-late-on coin row.begins_tree x c h = absurd (true≢false (sym (ap is_before_tree c.0) ∙ h))
+late-on coin row.ends_reset x c h = contrary (ap is_before_tree c.0) h
+late-on coin row.begins_tree x c h = contrary (ap is_before_tree c.0) h
 late-on coin row.times_out x c h = h
 late-on coin (row.asks_child p) x c h = h
 late-on coin r x c h = refl

@@ -1,20 +1,12 @@
 -- How a node comes to its roles in a turn.
 use Rattle.std.proofs.Common.{◌≡◌, ◌⊎◌, inl, inr, ℕ, ◌≤◌, Bool, true, false, not, ◌&&◌, ◌||◌, List, Option, Some, None, is_some, refl, sym, ◌∙◌, ap, subst, true≢false}
-use Rattle.std.proofs.lemmas.Bool.{eqb-true, eq-eqb, or_left, or_right, or_cases, and_from, and_parts}
+use Rattle.std.proofs.lemmas.Bool.{eqb-true, eq-eqb, or_left, or_right, or_cases, and_from, and_parts, false_from_ne_true}
 use Rattle.port_state.specs.declared.signal.Level.TheVariants as level
-use Rattle.port_state.specs.declared.signal.Phase.{Phase}
+use Rattle.convergence.proofs.Common.{Phase, Signal, NodeState, is_connected, is_port, Row, raise_timer, next_row, does, tick, FitsPhase, IsValid, is_before_tree, level_shown, leads_down, child-if, late-roles, not-both, HearsWell, TicksWell, risen, Chosen, chosen, hear_all, contrary}
 use Rattle.port_state.specs.declared.signal.Phase.TheVariants as phase
-use Rattle.port_state.specs.declared.signal.Signal.{Signal}
-use Rattle.port_state.specs.declared.states.NodeState.{NodeState}
-use Rattle.port_state.specs.Ports.{is_connected, is_port}
 use Rattle.port_state.specs.Row as row
-use Rattle.port_state.specs.Row.{Row}
-use Rattle.port_state.specs.Tick.{raise_timer, next_row, does, tick}
-use Rattle.port_state.specs.Valid.{FitsPhase, IsValid}
-use Rattle.cable_world.specs.Phases.{is_before_tree, is_contending}
-use Rattle.cable_world.specs.Agreement.{level_shown, leads_down}
-use Rattle.cable_world.proofs.Lemmas.{child-if, early-childless, late-roles, not-both, EntersReset, HearsWell, TicksWell, risen, Chosen, chosen}
-use Rattle.cable_world.specs.Turn.{hear_all}
+use Rattle.cable_world.specs.Phases.{is_contending}
+use Rattle.cable_world.proofs.Lemmas.{early-childless, EntersReset}
 
 -- ---- before the tree
 
@@ -38,20 +30,12 @@ early-parentless x v h = fits x.view.phase h v.fits
 pub parent-late :
     (x : NodeState) → IsValid x → (k : ℕ) → is_port x.view.parent k ≡ true →
     is_before_tree x.view.phase ≡ false
-parent-late x v k p = go (is_before_tree x.view.phase) refl
-  where
-    go : (b : Bool) → is_before_tree x.view.phase ≡ b → b ≡ false
-    go false e = refl
-    go true e = absurd (true≢false (sym p ∙ ap (λ o. is_port o k) (early-parentless x v e)))
+parent-late x v k p = false_from_ne_true _ (λ e. contrary p (ap (λ o. is_port o k) (early-parentless x v e)))
 
 pub child-late :
     (x : NodeState) → IsValid x → (k : ℕ) → leads_down x.view.ports k ≡ true →
     is_before_tree x.view.phase ≡ false
-child-late x v k c = go (is_before_tree x.view.phase) refl
-  where
-    go : (b : Bool) → is_before_tree x.view.phase ≡ b → b ≡ false
-    go false e = refl
-    go true e = absurd (not-both (leads_down x.view.ports k) c (early-childless x v k e))
+child-late x v k c = false_from_ne_true _ (λ e. not-both (leads_down x.view.ports k) c (early-childless x v k e))
 
 -- ---- a tick
 
@@ -92,7 +76,7 @@ pub takes-start :
     x.view.phase ≡ phase.TreeStart
 takes-start x y k t p = elim (or_cases (in_start && not (is_before_tree y.view.phase)) (contends && not (is_some y.view.parent)) t) [
   | inl a ↦ is x.view.phase (and_parts in_start (not (is_before_tree y.view.phase)) a).0
-  | inr a ↦ absurd (true≢false (sym p ∙ none y.view.parent (and_parts contends (not (is_some y.view.parent)) a).1))
+  | inr a ↦ contrary p (none y.view.parent (and_parts contends (not (is_some y.view.parent)) a).1)
 ]
   where
     in_start : Bool
@@ -135,7 +119,7 @@ module _
           (sym (takes-tree x after (sym s.phase ∙ start) (parent-late after t.valid k p)) ∙ none))
     ]
     | inr c ↦ elim (parent-was coin heard k p) [
-      | inl was ↦ absurd (true≢false (sym was ∙ ap (λ o. is_port o k) (early-parentless heard h.valid (begun-early c))))
+      | inl was ↦ contrary was (ap (λ o. is_port o k) (early-parentless heard h.valid (begun-early c)))
       | inr start ↦ absurd (other-phase heard.view.phase c.phase start)
     ]
   ]
@@ -157,7 +141,7 @@ module _
       not-here p =
           let e : leads_down after.view.ports k ≡ not (is_port after.view.parent k) =
           child-if after.view.parent after.view.ports k (late-roles after t.valid (child-late after t.valid k c)) (t.cables k ∙ h.cables k ∙ on) in
-          true≢false (sym c ∙ e ∙ ap not p)
+          contrary c (e ∙ ap not p)
 
       phases : (p : Phase) → p ≡ phase.Contend → p ≡ phase.TreeStart → ⊥
       phases p a b = cc

@@ -2,20 +2,11 @@
 -- lighter where it leaves T1.
 use Rattle.std.proofs.Common.{◌≡◌, ◌⊎◌, inl, inr, ℕ, zero, suc, ◌+◌, ◌*◌, ◌<◌, ◌≤◌, Bool, true, false, ◌&&◌, cond, List, [], ◌∷◌, Option, Some, None, is_some, slice_get, refl, sym, ◌∙◌, ap, subst, arith, true≢false, if◌then◌else◌}
 use Rattle.std.proofs.lemmas.Bool.{cases_eq}
-use Rattle.port_state.specs.declared.signal.Level.{Level}
-use Rattle.port_state.specs.declared.signal.Phase.{Phase}
+use Rattle.convergence.proofs.Common.{Level, Phase, PortView, NodeState, hears_packets, is_idle, is_parent, is_child, passes, port_is, every, is_connected, is_port, Row, raise_timer, row_of, does, next_row, tick, is_before_tree, shown_or_idle, level_shown, leads_down, Chosen, chosen, contrary}
 use Rattle.port_state.specs.declared.signal.Phase.TheVariants as phase
-use Rattle.port_state.specs.declared.ports.PortView.{PortView}
-use Rattle.port_state.specs.declared.states.NodeState.{NodeState}
-use Rattle.port_state.specs.Heard.{hears_packets}
-use Rattle.port_state.specs.Ports.{is_idle, is_parent, is_child, passes, port_is, every, is_connected, is_port}
 use Rattle.port_state.specs.TreeIdentify.{parent_shake_at}
 use Rattle.port_state.specs.Row as row
-use Rattle.port_state.specs.Row.{Row}
-use Rattle.port_state.specs.Tick.{raise_timer, row_of, does, next_row, tick}
-use Rattle.cable_world.specs.Phases.{is_before_tree}
-use Rattle.cable_world.specs.Agreement.{shown_or_idle, level_shown, leads_down}
-use Rattle.cable_world.proofs.Lemmas.{Chosen, chosen, elsewhere, port-is}
+use Rattle.cable_world.proofs.Lemmas.{elsewhere, port-is}
 use Rattle.convergence.proofs.turns.Moves.{all_idle}
 
 -- ---- weights
@@ -53,7 +44,7 @@ still-shakes f o p h = is-child-shake f (go (is_child_shake f) (is_some o) (is_s
     go false false false h = absurd (omega (arith, h))
 
 early-late : (f g : Phase) → f ≡ g → is_before_tree g ≡ true → is_before_tree f ≡ false → ⊥
-early-late f g e h l = true≢false (sym (ap is_before_tree e ∙ h) ∙ l)
+early-late f g e h l = contrary (ap is_before_tree e ∙ h) l
 
 row-weight :
     (coin : Bool) (r : Row) (x : NodeState) → Chosen r x → is_before_tree x.view.phase ≡ false →

@@ -3,15 +3,9 @@ use Rattle.std.proofs.Common.{◌≡◌, ℕ, zero, suc, Bool, true, false, not,
 use Rattle.std.specs.Prelude.{slice_index_or}
 use Rattle.std.specs.List.{list_all}
 use Rattle.std.proofs.lemmas.Bool.{and_parts, not-true}
-use Rattle.port_state.specs.declared.signal.Phase.{Phase}
-use Rattle.port_state.specs.Heard.{hears_packets}
-use Rattle.port_state.specs.Machine.{PortNode}
+use Rattle.convergence.proofs.Common.{Phase, hears_packets, PortNode, CableWorld, is_before_tree, signals_of, has_reset, some-same, ResetsAreOver, NoneIn, TreesAreTaken, AreIdentifying, TreesAreDecided}
 use Rattle.cable_world.specs.Wire.{Wire, empty_wire}
-use Rattle.cable_world.specs.World.{CableWorld}
-use Rattle.cable_world.specs.Phases.{is_before_tree}
-use Rattle.cable_world.specs.Signals.{signals_of, has_reset}
-use Rattle.cable_world.proofs.Lemmas.{some-same}
-use Rattle.convergence.specs.Milestones.{ResetsAreOver, NoneIn, NoResetIsUnderWay, TreesAreTaken, AreIdentifying, TreesAreDecided}
+use Rattle.convergence.specs.Milestones.{NoResetIsUnderWay}
 
 -- ---- nodes
 

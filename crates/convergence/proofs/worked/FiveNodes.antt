@@ -2,17 +2,9 @@
 -- on the way is there by the share that it is allowed, and long before.
 use Rattle.std.proofs.Common.{◌≡◌, ℕ, Bool, true, false, not, List, [], ◌∷◌, Option, Some, None, map, refl}
 use Rattle.std.specs.Prelude.{slice_index_or}
-use Rattle.port_state.specs.Entry.{enter}
-use Rattle.port_state.specs.Heard.{on_signal}
-use Rattle.port_state.specs.Tick.{tick}
-use Rattle.port_state.specs.Machine.{PortNode}
-use Rattle.cable_world.specs.World.{CableWorld, world_of_nodes}
-use Rattle.cable_world.specs.Turn.{turn, turns_after}
-use Rattle.cable_world.specs.Phases.{is_before_tree, is_in_bus_reset}
-use Rattle.cable_world.proofs.Lemmas.{node_of, attrs, at, after_plug}
-use Rattle.convergence.specs.Milestones.{ResetsAreOver, ResetsAreDone, TreesAreTaken, TreesAreDecided}
-use Rattle.convergence.specs.Turns.{turns_to_over, turns_to_done, turns_to_trees, turns_to_decision}
-use Rattle.convergence.specs.Roots.{IsRoot}
+use Rattle.convergence.proofs.Common.{enter, on_signal, tick, PortNode, CableWorld, world_of_nodes, turn, turns_after, is_before_tree, is_in_bus_reset, at, after_plug, ResetsAreOver, ResetsAreDone, TreesAreTaken, TreesAreDecided, turns_to_done, turns_to_trees, turns_to_decision, IsRoot}
+use Rattle.cable_world.proofs.Lemmas.{node_of, attrs}
+use Rattle.convergence.specs.Turns.{turns_to_over}
 use Rattle.convergence.proofs.worked.AllNodes.{none-in, resets-over, trees-taken, trees-decided}
 
 -- with four ports each

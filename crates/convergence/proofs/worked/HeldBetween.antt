@@ -3,13 +3,7 @@
 -- nothing.
 use Rattle.std.proofs.Common.{◌≡◌, ℕ, List, [], ◌∷◌, refl, sym, subst}
 use Rattle.std.specs.Prelude.{◌==◌, if◌then◌else◌}
-use Rattle.port_state.specs.Entry.{enter}
-use Rattle.port_state.specs.Heard.{on_signal}
-use Rattle.port_state.specs.Tick.{tick}
-use Rattle.cable_world.specs.Turn.{turn, turns_after}
-use Rattle.cable_world.specs.Quiet.{PlacedHold, HoldSchedule, quiet_after}
-use Rattle.cable_world.proofs.Lemmas.{at}
-use Rattle.convergence.specs.Drawers.{AreUnequal, WinsOver}
+use Rattle.convergence.proofs.Common.{enter, on_signal, tick, turn, turns_after, PlacedHold, HoldSchedule, quiet_after, at, AreUnequal, WinsOver}
 use Rattle.convergence.proofs.worked.HeldContention.{start, met, again, over, again-unequal, won}
 
 abbrev held : ℕ → List PlacedHold

@@ -3,19 +3,9 @@
 -- and 1.
 use Rattle.std.proofs.Common.{◌≡◌, List, map, ℕ, false, [], ◌∷◌, refl, arith}
 use Rattle.port_state.specs.declared.signal.Phase.TheVariants.{Contend}
-use Rattle.port_state.specs.declared.states.NodeState.{NodeState}
+use Rattle.convergence.proofs.Common.{NodeState, enter, on_signal, tick, PortNode, CableWorld, world_of_nodes, hold, turn, turns_after, plain_node, at, after_plug, last_coin, AddsDraw, DrewTogether, DrawsAgree, IsAhead, HaveMet, AreMutual, AreUnequal, WinsOver}
 use Rattle.port_state.specs.Coins.{coins_of_bits}
-use Rattle.port_state.specs.Entry.{enter}
-use Rattle.port_state.specs.Heard.{on_signal}
-use Rattle.port_state.specs.Tick.{tick}
-use Rattle.port_state.specs.Machine.{PortNode}
-use Rattle.cable_world.specs.World.{CableWorld, world_of_nodes}
-use Rattle.cable_world.specs.Act.{hold}
-use Rattle.cable_world.specs.Turn.{turn, turns_after}
-use Rattle.cable_world.proofs.Lemmas.{plain_node, at, after_plug}
-use Rattle.convergence.specs.Coins.{last_coin, AddsDraw, DrewTogether, DrawsAgree}
-use Rattle.convergence.specs.Rivals.{IsAhead, HaveMet}
-use Rattle.convergence.specs.Drawers.{AreMutual, AreUnequal, CountsAreClose, WinsOver}
+use Rattle.convergence.specs.Drawers.{CountsAreClose}
 use Rattle.convergence.proofs.worked.TwoNodes.{node_in}
 
 abbrev pub start : CableWorld

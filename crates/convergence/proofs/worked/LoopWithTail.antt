@@ -2,22 +2,10 @@
 -- the tail asks in vain.
 use Rattle.std.proofs.Common.{◌≡◌, ℕ, zero, suc, Bool, true, false, List, [], ◌∷◌, map, Option, Some, None, slice_get, refl, subst, arith}
 use Rattle.std.specs.Prelude.{IsSomeAnd}
-use Rattle.cabling.specs.declared.cable.End.{End}
-use Rattle.cabling.specs.Wiring.{Wiring, far}
-use Rattle.cabling.specs.NodeSet.{Holds}
-use Rattle.cabling.specs.Looped.{HasTwo, IsCore}
-use Rattle.port_state.specs.declared.signal.Phase.{Phase}
+use Rattle.convergence.proofs.Common.{End, Wiring, far, Holds, HasTwo, IsCore, Phase, enter, on_signal, tick, PortNode, CableWorld, world_of_nodes, turn, turns_after, is_in_bus_reset, plain_node, at, after_plug, ResetsAreDone, LoopsAreReported}
 use Rattle.port_state.specs.declared.signal.Phase.TheVariants.{TreeStart, ParentShake}
-use Rattle.port_state.specs.Entry.{enter}
-use Rattle.port_state.specs.Heard.{on_signal}
-use Rattle.port_state.specs.Tick.{tick}
-use Rattle.port_state.specs.Machine.{PortNode}
-use Rattle.cable_world.specs.World.{CableWorld, world_of_nodes}
-use Rattle.cable_world.specs.Turn.{turn, turns_after}
 use Rattle.cable_world.specs.Outcome.{IsOutcome, loop}
-use Rattle.cable_world.specs.Phases.{is_in_bus_reset}
-use Rattle.cable_world.proofs.Lemmas.{plain_node, at, after_plug, story, each-held, said}
-use Rattle.convergence.specs.Milestones.{ResetsAreDone, LoopsAreReported}
+use Rattle.cable_world.proofs.Lemmas.{story, each-held, said}
 use Rattle.convergence.proofs.worked.AllNodes.{none-in}
 
 abbrev ring : CableWorld

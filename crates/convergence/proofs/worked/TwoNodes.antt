@@ -1,16 +1,9 @@
 -- Two nodes that contend: what the definitions say of them in turns 260 to 292.
 use Rattle.std.proofs.Common.{◌≡◌, ℕ, true, false, refl}
 use Rattle.std.specs.Prelude.{slice_index_or}
-use Rattle.port_state.specs.Entry.{enter}
-use Rattle.port_state.specs.Heard.{on_signal}
-use Rattle.port_state.specs.Tick.{tick}
-use Rattle.port_state.specs.Machine.{PortNode}
-use Rattle.cable_world.specs.World.{CableWorld}
-use Rattle.cable_world.specs.Turn.{turn, turns_after}
-use Rattle.cable_world.proofs.Lemmas.{plain_node, at, start}
-use Rattle.convergence.specs.Turns.{turns_to_over, turns_to_done, turns_to_trees, turns_to_loops, turns_to_decision}
-use Rattle.convergence.specs.Coins.{last_coin}
-use Rattle.convergence.specs.Drawers.{AreUnequal, WinsOver}
+use Rattle.convergence.proofs.Common.{enter, on_signal, tick, PortNode, CableWorld, turn, turns_after, plain_node, at, turns_to_done, turns_to_trees, turns_to_decision, last_coin, AreUnequal, WinsOver}
+use Rattle.cable_world.proofs.Lemmas.{start}
+use Rattle.convergence.specs.Turns.{turns_to_over, turns_to_loops}
 
 abbrev pub node_in : CableWorld → ℕ → PortNode
 node_in w k = slice_index_or w.nodes k (plain_node 0)

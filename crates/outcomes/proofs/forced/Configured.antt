@@ -1,28 +1,15 @@
 -- A configuration packet with R set makes a component fresh that has no node in a reset, and of its
 -- nodes the one with
 -- the ID that it names waits alone to become root.
-use Rattle.std.proofs.Common.{◌≡◌, ◌≢◌, inl, inr, ℕ, zero, suc, ◌+◌, Bool, true, false, ◌==◌, List, [], ◌∷◌, Option, Some, slice_get, slice_set, if◌then◌else◌, refl, sym, ◌∙◌, ap, subst, arith, true≢false, eq-eqb}
+use Rattle.std.proofs.Common.{◌≡◌, ◌≢◌, inl, inr, ℕ, zero, suc, ◌+◌, Bool, true, false, ◌==◌, List, [], ◌∷◌, Option, Some, slice_get, slice_set, if◌then◌else◌, refl, sym, ◌∙◌, ap, subst, arith, eq-eqb}
 use Rattle.std.specs.Int.{bit_at}
 use Rattle.std.proofs.lemmas.Bool.{cases_eq}
 use Rattle.std.proofs.lemmas.Option.{slice_get_within}
-use Rattle.port_state.specs.declared.signal.Phase.{Phase}
+use Rattle.outcomes.proofs.Common.{contrary, Phase, NodeState, config_packet, enter, is_resetting, is_port, PortNode, node_disturb, node_set_config, Holds, IsComponent, Config, CableWorld, change_in_set, ActLeads, is_in_bus_reset, IsFresh, some-of, some-at, some-same, waits_due, gap_due, WaitsAlone, IsNamedAlone, is-port, port-is-not}
 use Rattle.port_state.specs.declared.signal.Phase.TheVariants as phase
-use Rattle.port_state.specs.declared.states.NodeState.{NodeState}
-use Rattle.port_state.specs.Config.{gap_or, config_packet}
-use Rattle.port_state.specs.Entry.{enter}
-use Rattle.port_state.specs.Heard.{is_resetting}
-use Rattle.port_state.specs.Ports.{is_port}
-use Rattle.port_state.specs.Machine.{PortNode, node_disturb, node_set_config}
-use Rattle.cabling.specs.NodeSet.{Holds}
-use Rattle.cabling.specs.Component.{IsComponent}
-use Rattle.cable_world.specs.declared.act.Act.TheVariants.{Config}
-use Rattle.cable_world.specs.World.{CableWorld}
-use Rattle.cable_world.specs.Act.{step_at, change_in_set, configure, ActLeads}
-use Rattle.cable_world.specs.Phases.{is_in_bus_reset}
-use Rattle.cable_world.specs.Fresh.{IsFresh}
-use Rattle.cable_world.proofs.Lemmas.{some-of, some-at, some-same, replaced, not-replaced}
-use Rattle.outcomes.specs.Forced.{waits_due, gap_due, WaitsAlone, IsNamedAlone}
-use Rattle.convergence.proofs.Lemmas.{is-port, port-is-not}
+use Rattle.port_state.specs.Config.{gap_or}
+use Rattle.cable_world.specs.Act.{step_at, configure}
+use Rattle.cable_world.proofs.Lemmas.{replaced, not-replaced}
 
 -- a member of a set after a change of the set
 in-set-at :
@@ -63,8 +50,8 @@ told root_id gap x h = go x.state.view.phase refl h
     go p e h = record {
       waits = ap (λ b. if b then x.state.view.force else is_port x.state.view.id root_id) out;
       gap_too = ap (λ b. if b then x.state.view.gap else gap_or gap x.state.view.next_gap) out;
-      timer = λ s. absurd (true≢false (sym (ap is_resetting s) ∙ out));
-      calm = λ s. true≢false (sym (ap is_in_bus_reset s) ∙ ap is_in_bus_reset e ∙ h);
+      timer = λ s. contrary (ap is_resetting s) out;
+      calm = λ s. contrary (ap is_in_bus_reset s) (ap is_in_bus_reset e ∙ h);
     }
 
 begun :

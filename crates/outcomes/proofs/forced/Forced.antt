@@ -3,24 +3,12 @@
 use Rattle.std.proofs.Common.{◌≡◌, ℕ, zero, suc, ◌+◌, ◌<◌, ◌≤◌, Bool, true, false, not, ◌&&◌, ◌||◌, ◌==◌, cond, List, [], ◌∷◌, count_by, nat_le, Some, None, if◌then◌else◌, refl, sym, ◌∙◌, ap, arith, true≢false}
 use Rattle.std.specs.List.{position_from}
 use Rattle.std.proofs.lemmas.Bool.Decides.{nat_tests}
+use Rattle.outcomes.proofs.Common.{contrary, Signal, PortView, NodeState, is_parent, asks, is_remaining, lowest, silent_step, enter, is_resetting, with_level, is_heard, hears, on_signal, is_decided, Row, raise_timer, does, next_row, tick, is_before_tree, hear-stays, Chosen, chosen, hear_all, waits_due, gap_due}
 use Rattle.port_state.specs.declared.signal.Level.TheVariants as level
 use Rattle.port_state.specs.declared.signal.Phase.TheVariants as phase
-use Rattle.port_state.specs.declared.signal.Signal.{Signal}
 use Rattle.port_state.specs.declared.signal.Signal.TheVariants as signal
-use Rattle.port_state.specs.declared.ports.PortView.{PortView}
-use Rattle.port_state.specs.declared.states.NodeState.{NodeState}
-use Rattle.port_state.specs.Ports.{is_parent, asks, is_remaining, connected_count, lowest}
-use Rattle.port_state.specs.Step.{silent_step}
-use Rattle.port_state.specs.Entry.{enter}
-use Rattle.port_state.specs.Heard.{is_resetting, with_level, is_heard, hears, on_signal}
-use Rattle.port_state.specs.TreeIdentify.{is_decided}
+use Rattle.port_state.specs.Ports.{connected_count}
 use Rattle.port_state.specs.Row as row
-use Rattle.port_state.specs.Row.{Row}
-use Rattle.port_state.specs.Tick.{raise_timer, does, next_row, tick}
-use Rattle.cable_world.specs.Phases.{is_before_tree}
-use Rattle.cable_world.proofs.Lemmas.{hear-stays, Chosen, chosen}
-use Rattle.cable_world.specs.Turn.{hear_all}
-use Rattle.outcomes.specs.Forced.{waits_due, gap_due}
 use Rattle.convergence.proofs.Lemmas.{Left, TwoLeft, one-left, two-left, asks-few, count-cons}
 
 -- ---- hearing
@@ -116,8 +104,8 @@ kept-heard (s ∷ rest) x h = go (kept-heard rest (on_signal s.0 s.1 x).state) (
         × (last.view.draws ≡ x.view.draws) × (last.view.gap ≡ x.view.gap)
     go next true e true f = both next (h ∙ e ∙ sym f) (f ∙ sym e)
     go next false e false f = both next (h ∙ e ∙ sym f) (f ∙ sym e)
-    go next true e false f = absurd (true≢false (sym (hear-stays (s ∷ []) x e) ∙ f))
-    go next false e true f = absurd (true≢false (sym (hear-stays rest first f) ∙ h ∙ e))
+    go next true e false f = contrary (hear-stays (s ∷ []) x e) f
+    go next false e true f = contrary (hear-stays rest first f) (h ∙ e)
 
 -- ---- ticking
 
@@ -154,19 +142,19 @@ row-takes :
     (coin : Bool) (r : Row) (x : NodeState) → Chosen r x → is_before_tree x.view.phase ≡ true →
     is_before_tree (does coin r x).state.view.phase ≡ false →
     (x.view.phase ≡ phase.TreeStart) × (is_decided x ≡ true) × ((does coin r x).state.view.parent ≡ lowest is_remaining x.view.ports)
-row-takes coin row.none x c b h = absurd (true≢false (sym b ∙ h))
+row-takes coin row.none x c b h = contrary b h
 row-takes coin row.ends_reset x c b h = absurd (true≢false h)
 row-takes coin row.begins_tree x c b h = absurd (true≢false h)
 row-takes coin row.takes_roles x c b h = (c.0, c.1, refl)
-row-takes coin row.times_out x c b h = absurd (true≢false (sym b ∙ h))
-row-takes coin row.awaits_parent x c b h = absurd (true≢false (sym b ∙ ap is_before_tree c))
-row-takes coin row.becomes_root x c b h = absurd (true≢false (sym b ∙ ap is_before_tree c.0))
-row-takes coin (row.finds_parent p) x c b h = absurd (true≢false (sym b ∙ ap is_before_tree c.0))
-row-takes coin (row.begins_contention p) x c b h = absurd (true≢false (sym b ∙ ap is_before_tree c.0))
-row-takes coin (row.takes_rival p) x c b h = absurd (true≢false (sym b ∙ ap is_before_tree c.0))
-row-takes coin (row.asks_again p) x c b h = absurd (true≢false (sym b ∙ ap is_before_tree c.0))
-row-takes coin (row.asks_child p) x c b h = absurd (true≢false (sym b ∙ h))
-row-takes coin row.names_itself x c b h = absurd (true≢false (sym b ∙ ap is_before_tree c))
+row-takes coin row.times_out x c b h = contrary b h
+row-takes coin row.awaits_parent x c b h = contrary b (ap is_before_tree c)
+row-takes coin row.becomes_root x c b h = contrary b (ap is_before_tree c.0)
+row-takes coin (row.finds_parent p) x c b h = contrary b (ap is_before_tree c.0)
+row-takes coin (row.begins_contention p) x c b h = contrary b (ap is_before_tree c.0)
+row-takes coin (row.takes_rival p) x c b h = contrary b (ap is_before_tree c.0)
+row-takes coin (row.asks_again p) x c b h = contrary b (ap is_before_tree c.0)
+row-takes coin (row.asks_child p) x c b h = contrary b h
+row-takes coin row.names_itself x c b h = contrary b (ap is_before_tree c)
 
 pub tick-takes :
     (coin : Bool) (x : NodeState) → is_before_tree x.view.phase ≡ true →

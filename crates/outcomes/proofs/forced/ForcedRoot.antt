@@ -3,26 +3,10 @@
 use Rattle.std.proofs.Common.{◌≡◌, ◌≢◌, inl, inr, ℕ, zero, suc, ◌+◌, ◌-◌, ◌*◌, ◌^◌, ◌<◌, ◌≤◌, false, length, Option, Some, None, slice_get, refl, sym, ◌∙◌, ap, subst, arith}
 use Rattle.std.specs.Prelude.{IsSome}
 use Rattle.std.proofs.lemmas.Option.{slice_get_within, slice_get_cases}
-use Rattle.topology_stack.specs.Tree.{Tree}
-use Rattle.port_state.specs.Machine.{PortNode}
-use Rattle.cabling.specs.NodeSet.{Holds, IsEmpty}
-use Rattle.cabling.specs.Component.{IsClosed, IsComponent}
-use Rattle.cabling.specs.Looped.{IsCore}
-use Rattle.outcomes.specs.WaysUp.{WaysUp}
-use Rattle.cabling.proofs.Lemmas.{loopless, shared}
+use Rattle.outcomes.proofs.Common.{Tree, PortNode, Holds, IsEmpty, IsClosed, IsComponent, IsCore, WaysUp, shared, CableWorld, is_before_tree, IsLawful, IsFresh, after-delay, after-length, some-of, quiet-then, quiet-lawful, after-cabling, HoldSchedule, holds_after, quiet_after, quiet-acyclic, Calmly, done-over, IsAcyclic, WaitsAlone, ResetsAreDone, ResetsAreOver, IsRoot, RootWalk}
+use Rattle.cabling.proofs.Lemmas.{loopless}
 use Rattle.outcomes.proofs.walks.WaysUp.{ways}
-use Rattle.cable_world.specs.World.{CableWorld}
-use Rattle.cable_world.specs.Phases.{is_before_tree}
-use Rattle.cable_world.specs.Lawful.{IsLawful}
-use Rattle.cable_world.specs.Fresh.{IsFresh}
-use Rattle.cable_world.proofs.Lemmas.{after-delay, after-length, some-of, quiet-then, quiet-lawful, after-cabling}
-use Rattle.cable_world.specs.Quiet.{HoldSchedule, holds_after, quiet_after}
-use Rattle.convergence.proofs.Lemmas.{quiet-acyclic, Calmly, one-root, resets-done, done-over, done-at}
-use Rattle.convergence.specs.Acyclic.{IsAcyclic}
-use Rattle.outcomes.specs.Forced.{WaitsAlone}
-use Rattle.convergence.specs.Milestones.{ResetsAreDone, ResetsAreOver}
-use Rattle.convergence.specs.Roots.{IsRoot}
-use Rattle.outcomes.specs.RootWalk.{RootWalk}
+use Rattle.convergence.proofs.Lemmas.{one-root, resets-done, done-at}
 use Rattle.outcomes.proofs.forced.FreeTrees.{all-late}
 use Rattle.outcomes.proofs.roots.RootWalk.{root-walk}
 use Rattle.outcomes.proofs.forced.Waits.{steadily, late-parentless, spread-most, forces, waiting}

@@ -5,26 +5,9 @@ use Rattle.std.proofs.Common.{◌≡◌, ◌≢◌, ◌⊎◌, inl, inr, ℕ, ze
 use Rattle.std.specs.Int.{bit_at}
 use Rattle.std.proofs.lemmas.Bool.{eqb-true, eq-eqb, ne_eqb, and_from, and_parts, cases_eq}
 use Rattle.std.proofs.lemmas.Option.{slice_get_within}
-use Rattle.port_state.specs.declared.ports.PortView.{PortView}
-use Rattle.port_state.specs.declared.states.NodeState.{NodeState}
-use Rattle.port_state.specs.Ports.{is_parent, passes, is_connected, is_port}
-use Rattle.port_state.specs.Heard.{is_resetting}
-use Rattle.port_state.specs.Tick.{raise_timer}
-use Rattle.port_state.specs.Machine.{PortNode}
-use Rattle.cabling.specs.declared.cable.End.{End}
-use Rattle.cabling.specs.Wiring.{Wiring, far}
-use Rattle.cabling.specs.NodeSet.{Holds}
-use Rattle.cabling.specs.Component.{IsClosed}
-use Rattle.outcomes.specs.WaysUp.{Lowest, WaysUp}
-use Rattle.cabling.proofs.Lemmas.{end_at}
-use Rattle.cable_world.specs.World.{CableWorld}
-use Rattle.cable_world.specs.Phases.{is_before_tree}
-use Rattle.cable_world.specs.Agreement.{level_shown, shown_or_idle}
-use Rattle.cable_world.specs.Lawful.{IsLawful}
-use Rattle.cable_world.proofs.Lemmas.{after-delay, after-length, quiet-then, quiet-lawful, after-cabling}
-use Rattle.cable_world.specs.Quiet.{HoldSchedule, holds_after, quiet_after}
-use Rattle.convergence.specs.Milestones.{ResetsAreDone}
-use Rattle.convergence.proofs.Lemmas.{signals, heard_by, Left, TwoLeft, count, count-most, count-le, count-less, count-some, count-found, IsEarly, Started, started, start-early, early-at-first, done-at, Silent, TwoSilent, early_there, shown-parent, same-port, is-port}
+use Rattle.outcomes.proofs.Common.{contrary, PortView, NodeState, is_parent, passes, is_connected, is_port, is_resetting, raise_timer, PortNode, End, Wiring, far, Holds, IsClosed, WaysUp, end_at, CableWorld, is_before_tree, level_shown, shown_or_idle, IsLawful, after-delay, after-length, quiet-then, quiet-lawful, after-cabling, HoldSchedule, holds_after, quiet_after, ResetsAreDone, signals, heard_by, same-port, is-port}
+use Rattle.outcomes.specs.WaysUp.{Lowest}
+use Rattle.convergence.proofs.Lemmas.{Left, TwoLeft, count, count-most, count-le, count-less, count-some, count-found, IsEarly, Started, started, start-early, early-at-first, done-at, Silent, TwoSilent, early_there, shown-parent}
 use Rattle.outcomes.proofs.forced.Forced.{kept-heard, undecided-free, undecided-one}
 
 module _ (hs : HoldSchedule) (v : CableWorld) (l : IsLawful v) (done : ResetsAreDone v) where
@@ -85,7 +68,7 @@ module _ (hs : HoldSchedule) (v : CableWorld) (l : IsLawful v) (done : ResetsAre
       go :
           (o : Option End) → far v.cabling (end_at u q) ≡ o → (a : End)
           × (far v.cabling (end_at u q) ≡ Some a)
-      go None e = absurd (true≢false (sym s.on ∙ ((quiet-lawful hs i v l).well_formed.nodes u n.node n.at).connected q ∙ ap is_some (ap (λ (c : Wiring). far c (end_at u q)) (after-cabling hs i v) ∙ e)))
+      go None e = contrary s.on (((quiet-lawful hs i v l).well_formed.nodes u n.node n.at).connected q ∙ ap is_some (ap (λ (c : Wiring). far c (end_at u q)) (after-cabling hs i v) ∙ e))
       go (Some a) e = (a, e)
 
   asked-by :
@@ -98,7 +81,7 @@ module _ (hs : HoldSchedule) (v : CableWorld) (l : IsLawful v) (done : ResetsAre
       let n_then : IsEarly (quiet_after (holds_after t hs) v.delay w) u = subst (λ z. IsEarly z u) (quiet-then hs t v.delay v) n in
       let at_then : slice_get (quiet_after (holds_after t hs) v.delay w).nodes u ≡ Some n.node = ap (λ (z : CableWorld). slice_get z.nodes u) (sym (quiet-then hs t v.delay v)) ∙ n.at in
       let same : w.delay ≤ v.delay = omega (arith, after-delay hs v l t) in
-      true≢false (sym (shown-parent (holds_after t hs) w (quiet-lawful hs t v l) (done-at hs v l done t) u q a e_then late v.delay same n_then n.node at_then) ∙ s.silent)
+      contrary (shown-parent (holds_after t hs) w (quiet-lawful hs t v l) (done-at hs v l done t) u q a e_then late v.delay same n_then n.node at_then) s.silent
 
 -- ---- the nodes but one
 
@@ -121,7 +104,7 @@ module _ (hs : HoldSchedule) (v : CableWorld) (l : IsLawful v) (done : ResetsAre
       record { holds = eqb-true (bit_at set k) 1 r.0; other = apart r.1; early = go (slice_get (quiet_after hs i v).nodes k) refl p.1 }
     where
       apart : not (k == top) ≡ true → k ≢ top
-      apart h e = true≢false (sym h ∙ ap not (eq-eqb k top e))
+      apart h e = contrary h (ap not (eq-eqb k top e))
 
       go :
           (o : Option PortNode) → slice_get (quiet_after hs i v).nodes k ≡ o → early_there o ≡ true →
@@ -163,10 +146,10 @@ module _ (hs : HoldSchedule) (v : CableWorld) (l : IsLawful v) (done : ResetsAre
     only-up low n q s true e = refl
     only-up low n q s false e =
         let a = leads hs v l done (t + v.delay) low.node n q s in
-        let ne : up low.node ≢ Some q = λ f. true≢false (sym (is-port (up low.node) q f) ∙ e) in
+        let ne : up low.node ≢ Some q = λ f. contrary (is-port (up low.node) q f) e in
         let other : a.0.node ≢ top = not-top low.node q a.0 low.in_set a.1 ne in
         absurd (asked-by hs v l done t low.node n q a.0 a.1 s (λ y.
-        true≢false (sym (member-from t a.0.node (record { holds = closed (end_at low.node q) a.0 a.1 low.in_set; other = other; early = y })) ∙ low.others q a.0 a.1 ne)))
+        contrary (member-from t a.0.node (record { holds = closed (end_at low.node q) a.0 a.1 low.in_set; other = other; early = y })) (low.others q a.0 a.1 ne)))
 
     gone :
         (low : Lowest v.cabling up set (member t)) → (b : Bool) → member (t + v.delay)

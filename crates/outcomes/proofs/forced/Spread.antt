@@ -4,35 +4,14 @@
 use Rattle.std.proofs.Math.Nat.{mul-le-mul_left}
 use Rattle.std.proofs.Common.{◌≡◌, ◌⊎◌, inl, inr, ℕ, zero, suc, ◌+◌, ◌-◌, ◌*◌, ◌<◌, ◌≤◌, Bool, true, false, ◌&&◌, ◌==◌, List, [], ◌∷◌, Option, Some, None, length, slice_get, refl, sym, ◌∙◌, ap, subst, arith, add-one, true≢false}
 use Rattle.std.specs.Int.{bit_at}
-use Rattle.std.proofs.lemmas.Bool.{eqb-true, eq-eqb, and_from, and_parts, cases_lt}
+use Rattle.std.proofs.lemmas.Bool.{eqb-true, eq-eqb, and_from, and_parts, cases_lt, true_from_ne_false}
 use Rattle.std.proofs.lemmas.Option.{slice_get_within}
-use Rattle.port_state.specs.declared.signal.Level.{Level}
+use Rattle.outcomes.proofs.Common.{contrary, Level, Phase, Signal, NodeState, Timing, coin, is_resetting, tick, PortNode, End, Wiring, far, Holds, IsComponent, plugged, shared, CableWorld, wire_of, turn_at, turn, level_sent, level_shown, leads_down, level_after, is_in_bus_reset, signals_of, has_reset, IsLawful, IsFresh, node-after, before, in-turn, after-delay, cable-connected, some-of, some-same, turn-state, one-quiet, no-quiet, quiet-lawful, after-cabling, turn-lawful, joined-of, signals, heard_by, in-component, PlacedHold, HoldSchedule, with_holds, quiet_after}
 use Rattle.port_state.specs.declared.signal.Level.TheVariants as level
-use Rattle.port_state.specs.declared.signal.Phase.{Phase}
 use Rattle.port_state.specs.declared.signal.Phase.TheVariants as phase
-use Rattle.port_state.specs.declared.signal.Signal.{Signal}
 use Rattle.port_state.specs.declared.signal.Signal.TheVariants as signal
-use Rattle.port_state.specs.declared.states.NodeState.{NodeState}
-use Rattle.port_state.specs.declared.timing.Timing.{Timing}
-use Rattle.port_state.specs.Coins.{coin}
-use Rattle.port_state.specs.Heard.{is_resetting}
-use Rattle.port_state.specs.Tick.{tick}
-use Rattle.port_state.specs.Machine.{PortNode}
-use Rattle.cabling.specs.declared.cable.End.{End}
-use Rattle.cabling.specs.Wiring.{Wiring, far}
-use Rattle.cabling.specs.NodeSet.{Holds}
-use Rattle.cabling.specs.Component.{IsComponent}
-use Rattle.cabling.proofs.Lemmas.{plugged, shared}
-use Rattle.cable_world.specs.World.{CableWorld, wire_of}
-use Rattle.cable_world.specs.Turn.{turn_at, turn}
-use Rattle.cable_world.specs.Agreement.{level_sent, level_shown, leads_down, level_after}
-use Rattle.cable_world.specs.Phases.{is_in_bus_reset}
-use Rattle.cable_world.specs.Signals.{signals_of, has_reset}
-use Rattle.cable_world.specs.Lawful.{IsLawful}
-use Rattle.cable_world.specs.Fresh.{IsFresh}
-use Rattle.cable_world.proofs.Lemmas.{node-after, before, hears, ticks, in-turn, after-delay, cable-connected, some-of, some-same, HearsWell, TicksWell, turn-state, holds-signals, one-quiet, no-quiet, quiet-lawful, after-cabling, turn-lawful}
-use Rattle.convergence.proofs.Lemmas.{joined-of, signals, heard_by, in-component, was-waiting, count, count-most, count-less, count-some, OldReset, some-old, none-older, old-after}
-use Rattle.cable_world.specs.Quiet.{PlacedHold, HoldSchedule, with_holds, quiet_after}
+use Rattle.cable_world.proofs.Lemmas.{hears, ticks, HearsWell, TicksWell, holds-signals}
+use Rattle.convergence.proofs.Lemmas.{was-waiting, count, count-most, count-less, count-some, OldReset, some-old, none-older, old-after}
 
 -- ---- one turn
 
@@ -265,7 +244,7 @@ module _
           not-waiting y at false f = refl
           not-waiting y at true f =
               let none : 0 ≤ w.delay = omega arith in
-              absurd (true≢false (sym ((spreads (i + 0) (omega (arith, soon))).waits b.node y has-b at f) ∙ out-of 0 none y at))
+              contrary ((spreads (i + 0) (omega (arith, soon))).waits b.node y has-b at f) (out-of 0 none y at)
       under-way (suc t) h =
           let v : CableWorld = later t in
           let m : IsLawful v = quiet-lawful hs (i + t) w l in
@@ -305,7 +284,7 @@ module _
             let z : i + t + (w.delay - t) ≡ i + w.delay = omega (arith, h) in
             let then : Resets (later w.delay) b.node = subst (λ n. Resets (quiet_after hs n w) b.node) z (resets-stay (w.delay - t) (i + t) b.node (omega (arith, z, soon)) has-b s) in
             let same : then.node ≡ y = some-same then.node y (sym then.at ∙ at) in
-            true≢false (sym then.resets ∙ ap (λ (u : PortNode). is_resetting u.state.view.phase) same ∙ f)))
+            contrary then.resets (ap (λ (u : PortNode). is_resetting u.state.view.phase) same ∙ f)))
 
   -- ---- all of them
 
@@ -371,14 +350,10 @@ module _
       all :
           (k : ℕ) → Holds set k → count (member (i + w.delay)) n ≤ count (member i) n →
           member i k ≡ true
-      all k h same = go (member i k) refl
+      all k h same = true_from_ne_false _ (λ e. in-component w.cabling fresh.node set (λ j. member i j ≡ true) l.well_formed.cabling (shared w.cabling node fresh.node set l.well_formed.cabling comp fresh.holds) start (first-at i (omega (arith, soon))) (closed same) k h (λ f. contrary f e))
         where
           start : fresh.node < length w.cabling
           start = omega (arith, slice_get_within w.nodes fresh.node first.node first.at, l.well_formed.count)
-
-          go : (b : Bool) → member i k ≡ b → b ≡ true
-          go true e = refl
-          go false e = absurd (in-component w.cabling fresh.node set (λ j. member i j ≡ true) l.well_formed.cabling (shared w.cabling node fresh.node set l.well_formed.cabling comp fresh.holds) start (first-at i (omega (arith, soon))) (closed same) k h (λ f. true≢false (sym f ∙ e)))
 
   few : n ≤ 63
   few = omega (arith, l.well_formed.count, l.well_formed.cabling.few_nodes)

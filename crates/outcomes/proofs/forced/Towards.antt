@@ -5,43 +5,19 @@ use Rattle.std.proofs.Common.{◌≡◌, ◌≢◌, inl, inr, ℕ, zero, suc, �
 use Rattle.std.specs.Prelude.{nat_lt}
 use Rattle.std.proofs.lemmas.Bool.{cases_eq, cases_lt}
 use Rattle.std.proofs.lemmas.Bool.Decides.{nat_tests}
-use Rattle.port_state.specs.declared.signal.Level.{Level}
-use Rattle.port_state.specs.declared.signal.Phase.{Phase}
-use Rattle.port_state.specs.declared.ports.PortView.{PortView}
-use Rattle.port_state.specs.declared.states.NodeState.{NodeState}
-use Rattle.port_state.specs.Coins.{coin}
-use Rattle.port_state.specs.Ports.{is_parent, is_remaining, lowest, passes, port_is, is_connected, is_port}
-use Rattle.port_state.specs.Heard.{is_resetting}
-use Rattle.port_state.specs.TreeIdentify.{is_decided}
+use Rattle.outcomes.proofs.Common.{contrary, Level, Phase, PortView, NodeState, coin, is_parent, is_remaining, lowest, passes, port_is, is_connected, is_port, is_resetting, is_decided, Row, raise_timer, does, next_row, tick, PortNode, End, Wiring, far, Holds, IsEmpty, IsComponent, IsCore, LeadsUp, end_at, age_wire, gives, CableWorld, wire_of, turn, level_sent, shown_or_idle, level_shown, leads_down, level_after, is_before_tree, is_after_hold, signals_of, has_reset, IsLawful, IsFresh, in-turn, after-delay, child-if, cable-connected, some-same, late-roles, Chosen, chosen, comes, port-is, start-before_tree, one-quiet, quiet-lawful, after-cabling, joined-of, Calmly, signals, heard_by, port-is-not, WaitsAlone, HoldSchedule, with_holds, quiet_after}
 use Rattle.port_state.specs.Row as row
-use Rattle.port_state.specs.Row.{Row}
-use Rattle.port_state.specs.Tick.{raise_timer, does, next_row, tick}
-use Rattle.port_state.specs.Machine.{PortNode}
 use Rattle.port_state.proofs.Lemmas.{decided_few, left_is}
-use Rattle.cabling.specs.declared.cable.End.{End}
-use Rattle.cabling.specs.Wiring.{Wiring, far}
-use Rattle.cabling.specs.NodeSet.{Holds, IsEmpty}
-use Rattle.cabling.specs.Component.{IsComponent}
-use Rattle.cabling.specs.Looped.{IsCore}
-use Rattle.outcomes.specs.Parents.{LeadsUp}
-use Rattle.cabling.proofs.Lemmas.{end_at}
-use Rattle.cable_world.specs.Wire.{age_wire, gives}
-use Rattle.cable_world.specs.World.{CableWorld, wire_of}
-use Rattle.cable_world.specs.Turn.{turn}
-use Rattle.cable_world.specs.Agreement.{level_sent, shown_or_idle, level_shown, leads_down, level_after, level_sent_at}
-use Rattle.cable_world.specs.Phases.{is_before_tree, is_after_hold, is_contending}
-use Rattle.cable_world.specs.Signals.{signals_of, has_reset, shows_no_notice}
+use Rattle.cable_world.specs.Agreement.{level_sent_at}
+use Rattle.cable_world.specs.Phases.{is_contending}
+use Rattle.cable_world.specs.Signals.{shows_no_notice}
 use Rattle.cable_world.specs.Coupling.{is_reset_known, Coupling}
-use Rattle.cable_world.specs.Lawful.{IsLawful}
-use Rattle.cable_world.specs.Fresh.{IsFresh}
-use Rattle.cable_world.proofs.Lemmas.{hears, in-turn, steady, after-delay, child-if, cable-connected, some-same, late-roles, between-known, Chosen, chosen, comes, port-is, start-before_tree, one-quiet, quiet-lawful, after-cabling}
-use Rattle.convergence.proofs.Lemmas.{joined-of, Calmly, signals, heard_by, port-is-not, late-start}
-use Rattle.outcomes.specs.Forced.{WaitsAlone}
+use Rattle.cable_world.proofs.Lemmas.{hears, steady, between-known}
+use Rattle.convergence.proofs.Lemmas.{late-start}
 use Rattle.outcomes.proofs.forced.Forced.{kept-heard, Takes, tick-takes}
 use Rattle.outcomes.proofs.forced.ForcedRoot.{up, late, parentless, enough}
 use Rattle.outcomes.proofs.forced.Spread.{Turned, turned, all-reset, some-nodes}
 use Rattle.outcomes.proofs.forced.Waits.{outside, steadily, spread-most, waiting}
-use Rattle.cable_world.specs.Quiet.{HoldSchedule, with_holds, quiet_after}
 
 -- ---- ticks
 
@@ -61,16 +37,16 @@ row-calms :
 row-calms coin row.none x o c h u = record { calm = h; draws = refl; parent = λ g. refl }
 row-calms coin row.ends_reset x o c h u = record { calm = refl; draws = refl; parent = λ g. refl }
 row-calms coin row.begins_tree x o c h u = record { calm = refl; draws = refl; parent = λ g. refl }
-row-calms coin row.takes_roles x o c h u = record { calm = refl; draws = refl; parent = λ g. absurd (true≢false (sym (ap is_before_tree c.0) ∙ g)) }
+row-calms coin row.takes_roles x o c h u = record { calm = refl; draws = refl; parent = λ g. contrary (ap is_before_tree c.0) g }
 row-calms coin row.times_out x o c h u = record { calm = h; draws = refl; parent = λ g. refl }
 row-calms coin row.awaits_parent x o c h u = record { calm = refl; draws = refl; parent = λ g. refl }
 row-calms coin row.becomes_root x o c h u = record { calm = refl; draws = refl; parent = λ g. refl }
 row-calms coin (row.finds_parent p) x o c h u = record { calm = refl; draws = refl; parent = λ g. refl }
 row-calms coin (row.begins_contention p) x o c h u =
     let k = u (ap is_before_tree c.0) in
-    absurd (true≢false (sym c.2 ∙ k.1 p (sym k.0 ∙ c.1)))
-row-calms coin (row.takes_rival p) x o c h u = absurd (true≢false (sym (ap is_contending c.0) ∙ h))
-row-calms coin (row.asks_again p) x o c h u = absurd (true≢false (sym (ap is_contending c.0) ∙ h))
+    contrary c.2 (k.1 p (sym k.0 ∙ c.1))
+row-calms coin (row.takes_rival p) x o c h u = contrary (ap is_contending c.0) h
+row-calms coin (row.asks_again p) x o c h u = contrary (ap is_contending c.0) h
 row-calms coin (row.asks_child p) x o c h u = record { calm = h; draws = refl; parent = λ g. refl }
 row-calms coin row.names_itself x o c h u = record { calm = refl; draws = refl; parent = λ g. refl }
 
@@ -264,7 +240,7 @@ module _
             (r : Bool) → has_reset (signals_of (wire_of (quiet_after hs i w) (end_at k p)).signals)
             ≡ r → r ≡ false
         go false g = refl
-        go true g = absurd (true≢false (sym (from_x.reset g) ∙ out_x))
+        go true g = contrary (from_x.reset g) out_x
 
     -- the node up the way neither tells Parent nor is shown to
     both :
@@ -398,7 +374,7 @@ module _
   -- ---- many turns
 
   all-face : (j : ℕ) → AllFace (spread + j)
-  all-face zero k x h at = record { faces = λ g. absurd (true≢false (sym (start-before_tree x.state.view.phase there) ∙ g)); calm = start-calm x.state.view.phase there }
+  all-face zero k x h at = record { faces = λ g. contrary (start-before_tree x.state.view.phase there) g; calm = start-calm x.state.view.phase there }
     where
       z : spread + 0 ≡ spread
       z = omega arith

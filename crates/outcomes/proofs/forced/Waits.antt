@@ -4,29 +4,13 @@
 use Rattle.std.proofs.Math.Nat.{mul-le-mul_left}
 use Rattle.std.proofs.Common.{◌≡◌, inl, inr, ℕ, zero, suc, ◌+◌, ◌-◌, ◌*◌, ◌<◌, ◌≤◌, Bool, true, false, Option, Some, None, length, min, slice_get, if◌then◌else◌, refl, sym, ◌∙◌, ap, subst, arith, add-one, true≢false}
 use Rattle.std.proofs.lemmas.Bool.{eq-eqb}
-use Rattle.port_state.specs.declared.signal.Phase.{Phase}
+use Rattle.outcomes.proofs.Common.{contrary, Phase, NodeState, Timing, coin, is_port, is_resetting, raise_timer, tick, PortNode, Holds, IsComponent, CableWorld, turn, is_before_tree, is_after_hold, IsLawful, IsFresh, Shows, in-turn, after-delay, some-of, some-same, risen, one-quiet, no-quiet, quiet-lawful, HoldSchedule, quiet_after, waits_due, gap_due, Calmly, signals, heard_by, parent-was}
 use Rattle.port_state.specs.declared.signal.Phase.TheVariants as phase
-use Rattle.port_state.specs.declared.states.NodeState.{NodeState}
-use Rattle.port_state.specs.declared.timing.Timing.{Timing}
 use Rattle.port_state.specs.Timing.{InRange}
 use Rattle.port_state.specs.declared.view.View.{View}
-use Rattle.port_state.specs.Coins.{coin}
-use Rattle.port_state.specs.Ports.{is_port}
-use Rattle.port_state.specs.Heard.{is_resetting}
-use Rattle.port_state.specs.Tick.{raise_timer, tick}
-use Rattle.port_state.specs.Machine.{PortNode}
-use Rattle.cabling.specs.NodeSet.{Holds}
-use Rattle.cabling.specs.Component.{IsComponent}
-use Rattle.cable_world.specs.World.{CableWorld}
-use Rattle.cable_world.specs.Turn.{turn}
-use Rattle.cable_world.specs.Phases.{is_before_tree, is_after_hold, is_timed}
-use Rattle.cable_world.specs.Lawful.{IsLawful}
-use Rattle.cable_world.specs.Fresh.{IsFresh}
-use Rattle.cable_world.specs.Outcome.{Shows}
-use Rattle.cable_world.proofs.Lemmas.{in-turn, steady, after-delay, some-of, some-same, risen, one-quiet, no-quiet, quiet-lawful}
-use Rattle.cable_world.specs.Quiet.{HoldSchedule, quiet_after}
-use Rattle.outcomes.specs.Forced.{waits_due, gap_due}
-use Rattle.convergence.proofs.Lemmas.{Calmly, signals, heard_by, parent-was, late-start}
+use Rattle.cable_world.specs.Phases.{is_timed}
+use Rattle.cable_world.proofs.Lemmas.{steady}
+use Rattle.convergence.proofs.Lemmas.{late-start}
 use Rattle.outcomes.proofs.forced.Forced.{SameDue, due-heard, kept-heard, tick-holds, Takes, tick-takes, waits-parentless}
 use Rattle.outcomes.proofs.forced.Spread.{Turned, turned, spreads, all-reset}
 
@@ -130,8 +114,8 @@ module _
       is_before_tree c.node.state.view.phase ≡ false → c.node.state.view.parent ≡ None →
       y.state.view.parent ≡ None
   late-parentless past none = no-port y.state.view.parent (λ p h. elim (parent-was (coin c.node.coins) now p (sym (ap (λ (z : NodeState). is_port z.view.parent p) c.is) ∙ h)) [
-    | inl was ↦ true≢false (sym was ∙ ap (λ o. is_port o p) (c.heard.parent ∙ none))
-    | inr start ↦ true≢false (sym (ap is_before_tree (sym c.heard.phase ∙ start)) ∙ past)
+    | inl was ↦ contrary was (ap (λ o. is_port o p) (c.heard.parent ∙ none))
+    | inr start ↦ contrary (ap is_before_tree (sym c.heard.phase ∙ start)) past
   ])
 
   module _ (q : Waiting w.delay i c.node.state) (soon : i + 1 < 320 * w.delay) where
@@ -191,7 +175,7 @@ module _
             (b : Bool) → is_resetting c.node.state.view.phase ≡ b →
             is_resetting y.state.view.phase ≡ true → b ≡ true
         back true e h = refl
-        back false e h = absurd (true≢false (sym h ∙ out-stays hs w l i late k y at c.node c.at e))
+        back false e h = contrary h (out-stays hs w l i late k y at c.node c.at e)
 
 -- ---- from a fresh component
 
@@ -335,9 +319,9 @@ module _
   waiting zero k x soon h due at = record {
     waits = forces 0 k true x h due at;
     start = λ r. omega (arith, there.1);
-    between = λ b. absurd (true≢false (sym there.0 ∙ between-out x.state.view.phase b));
-    tree = λ b. absurd (true≢false (sym there.0 ∙ between-out x.state.view.phase (tree-between x.state.view.phase b)));
-    late = λ b. absurd (true≢false (sym there.0 ∙ late-start x.state.view.phase b));
+    between = λ b. contrary there.0 (between-out x.state.view.phase b);
+    tree = λ b. contrary there.0 (between-out x.state.view.phase (tree-between x.state.view.phase b));
+    late = λ b. contrary there.0 (late-start x.state.view.phase b);
   }
     where
       z : spread + 0 ≡ spread

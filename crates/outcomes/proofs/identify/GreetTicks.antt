@@ -3,32 +3,17 @@ use Rattle.std.proofs.Common.{◌≡◌, ◌⊎◌, inl, inr, ℕ, zero, suc, �
 use Rattle.std.specs.Prelude.{nat_le}
 use Rattle.std.specs.Option.{option_map}
 use Rattle.std.proofs.lemmas.Bool.{eq-eqb, eqb-true, and_parts, and_from, leb-true}
-use Rattle.port_state.specs.declared.signal.Level.{Level}
+use Rattle.outcomes.proofs.Common.{contrary, Level, Phase, ResetStart, ParentShake, SelfIdent, Ready, Signal, PortView, NodeState, is_unnamed, asks, is_remaining, is_parent, passes, port_is, is_connected, is_port, change_port, lowest, sent_on, packet, hears_packets, is_decided, may_name, granted_row, own_group, node_count, Row, raise_timer, does, next_row, row_of, tick, IsValid, on_every-port, sent_on-append, port_is-changed, is_shaking, shown_or_idle, level_shown, leads_down, is_asking, only, child-if, late-roles, risen, Chosen, chosen, any_child}
 use Rattle.port_state.specs.declared.signal.Level.TheVariants as level
-use Rattle.port_state.specs.declared.signal.Phase.{Phase}
-use Rattle.port_state.specs.declared.signal.Phase.TheVariants.{ResetStart, ResetWait, TreeStart, ChildShake, ParentShake, Contend, SelfIdent, Ready}
-use Rattle.port_state.specs.declared.signal.Signal.{Signal}
+use Rattle.port_state.specs.declared.signal.Phase.TheVariants.{ResetWait, TreeStart, ChildShake, Contend}
 use Rattle.port_state.specs.declared.signal.Signal.TheVariants as signal
-use Rattle.port_state.specs.declared.ports.PortView.{PortView}
-use Rattle.port_state.specs.declared.states.NodeState.{NodeState}
-use Rattle.port_state.specs.Ports.{is_unnamed, asks, is_remaining, is_idle, is_parent, every, passes, port_is, is_connected, is_port, change_port, lowest}
-use Rattle.port_state.specs.Sends.{sent_on, packets_on_every, packet, on_port}
-use Rattle.port_state.specs.Heard.{hears_packets}
-use Rattle.port_state.specs.TreeIdentify.{adopt, is_decided, parent_shake_at, contend_at}
-use Rattle.port_state.specs.SelfIdentify.{may_name, granted_row}
-use Rattle.port_state.specs.Group.{own_group}
-use Rattle.self_id.specs.Group.{node_count}
+use Rattle.port_state.specs.Ports.{is_idle, every}
+use Rattle.port_state.specs.Sends.{packets_on_every, on_port}
+use Rattle.port_state.specs.TreeIdentify.{adopt, parent_shake_at, contend_at}
 use Rattle.port_state.specs.Row as row
-use Rattle.port_state.specs.Row.{Row}
-use Rattle.port_state.specs.Tick.{raise_timer, does, next_row, row_of, tick}
-use Rattle.port_state.specs.Valid.{IsValid}
-use Rattle.port_state.proofs.Lemmas.{on_every-port, notices-port, packets-port, map-port, sent_on-append, port_is-changed}
-use Rattle.cable_world.specs.Phases.{is_shaking}
+use Rattle.port_state.proofs.Lemmas.{notices-port, packets-port, map-port}
 use Rattle.cable_world.specs.Signals.{has_no_takeback}
-use Rattle.cable_world.specs.Agreement.{shown_or_idle, level_shown, leads_down}
-use Rattle.cable_world.specs.Coupling.{is_asking}
-use Rattle.cable_world.proofs.Lemmas.{only, choose, child-if, late-roles, risen, Chosen, chosen, elsewhere}
-use Rattle.outcomes.specs.Identify.{any_child}
+use Rattle.cable_world.proofs.Lemmas.{choose, elsewhere}
 use Rattle.outcomes.proofs.identify.LinedTicks.{on-port}
 use Rattle.outcomes.proofs.identify.Ports.{changed-other, changed-here}
 
@@ -140,7 +125,7 @@ leaves-shake coin x k e c d =
 
 no-child-sent :
     (b : Bool) (s : Signal) → any_child (s ∷ []) ≡ false → any_child (only b s) ≡ true → ⊥
-no-child-sent true s e h = true≢false (sym h ∙ e)
+no-child-sent true s e h = contrary h e
 no-child-sent false s e h = true≢false (sym h)
 
 packets-no-child :
@@ -274,7 +259,7 @@ asking-sends coin x k v c h = go (next_row x) (chosen x.view.phase (raise_timer 
     go row.takes_roles c v on h =
         let role = child-if (lowest is_remaining x.view.ports) (map adopt x.view.ports) k (late-roles (does coin row.takes_roles (raise_timer x)).state v refl) on in
         ap has_no_takeback (notices-port k x.view.ports) ∙ notice (port_is asks x.view.ports k) (port_is is_remaining x.view.ports k)
-        (λ a. true≢false (sym (asks-adopted (slice_get x.view.ports k) a) ∙ sym (ap (passes (λ p. p.child)) (map-port k adopt x.view.ports)) ∙ role ∙ ap not h))
+        (λ a. contrary (asks-adopted (slice_get x.view.ports k) a) (sym (ap (passes (λ p. p.child)) (map-port k adopt x.view.ports)) ∙ role ∙ ap not h))
     go (row.asks_again p) c v on h = one-kind (p == k) signal.Parent refl
     go (row.asks_child p) c v on h = absurd (elsewhere is_shaking c refl (and_parts (is_shaking x.view.phase) (is_port x.view.parent k) h).0)
     go row.none c v on h = refl
@@ -311,7 +296,7 @@ asks-on coin x k h s = go (next_row x) (chosen x.view.phase (raise_timer x) refl
     go (row.finds_parent p) c = inr refl
     go (row.begins_contention p) c =
         let same : p ≡ k = eqb-true p k (sym (ap (λ o. is_port o k) c.1) ∙ both.1) in
-        absurd (true≢false (sym (shows-parent (slice_get x.view.ports k) (subst (λ i. port_is (λ q. is_parent q.shown) x.view.ports i ≡ true) same c.2)) ∙ s))
+        contrary (shows-parent (slice_get x.view.ports k) (subst (λ i. port_is (λ q. is_parent q.shown) x.view.ports i ≡ true) same c.2)) s
     go row.ends_reset c = absurd (elsewhere is_shaking c.0 refl both.0)
     go row.begins_tree c = absurd (elsewhere is_shaking c.0 refl both.0)
     go row.takes_roles c = absurd (elsewhere is_shaking c.0 refl both.0)

@@ -1,24 +1,18 @@
 -- A turn keeps how the two ends of a cable come to self identify.
 use Rattle.std.proofs.Common.{◌≡◌, ◌⊎◌, inl, inr, ℕ, ◌-◌, ◌*◌, ◌≤◌, Bool, true, false, not, ◌&&◌, ◌||◌, List, [], ◌∷◌, ◌++◌, map, refl, sym, ◌∙◌, ap, subst, arith, if◌then◌else◌, true≢false}
-use Rattle.std.proofs.lemmas.Bool.{eq-eqb, and_from, and_parts, or_cases, or_parts}
-use Rattle.port_state.specs.declared.signal.Level.{Level}
+use Rattle.outcomes.proofs.identify.Messages.{or-or}
+use Rattle.std.proofs.lemmas.Bool.{eq-eqb, and_from, and_parts, or_cases, or_parts, false_from_ne_true}
+use Rattle.outcomes.proofs.Common.{Level, Phase, Signal, PortView, is_parent, passes, is_port, sent_on, is_resetting, hears_packets, contrary, age_signal, level_sent, shown_or_idle, level_shown, leads_down, level_after, signals_of, has_reset, is_before_tree, is_shaking, is_asking, risen, not-both, Side, hearing, ticking, arrivals, leftovers, departures, wire_after, after_signals, start-before_tree, Pair, any_child, Greets, parent-was}
 use Rattle.port_state.specs.declared.signal.Level.TheVariants as level
-use Rattle.port_state.specs.declared.signal.Phase.{Phase}
 use Rattle.port_state.specs.declared.signal.Phase.TheVariants as phase
-use Rattle.port_state.specs.declared.signal.Signal.{Signal}
-use Rattle.port_state.specs.declared.ports.PortView.{PortView}
-use Rattle.port_state.specs.Ports.{is_parent, is_child, passes, is_port}
-use Rattle.port_state.specs.Sends.{sent_on}
-use Rattle.port_state.specs.Heard.{is_resetting, hears_packets}
+use Rattle.port_state.specs.Ports.{is_child}
 use Rattle.std.specs.Prelude.{Option, Some, None, slice_get}
-use Rattle.cable_world.specs.Wire.{age_signal}
-use Rattle.cable_world.specs.Agreement.{level_sent, level_after_one, shown_or_idle, level_shown, leads_down, level_after, level_sent_at}
-use Rattle.cable_world.specs.Signals.{is_reset, signals_of, has_reset, shows_no_notice, takes_back, has_no_takeback}
-use Rattle.cable_world.specs.Phases.{is_before_tree, is_shaking}
-use Rattle.cable_world.specs.Coupling.{NoneTakesBack, is_asking}
-use Rattle.cable_world.proofs.Lemmas.{NoEntry, risen, not-both, signals-older, has_reset-append, has_no_takeback-append, parent-stays, Side, hearing, ticking, arrivals, leftovers, departures, wire_after, early-childless, parent-asks, tree_start-known, risen-most, heard_connected, after_signals, contend_empty, start-before_tree, Pair, turned-round, heard_shown, heard_low, heard_no_parent, came, other_heard, near_heard, no_reset_before, taken, heard_idle}
-use Rattle.outcomes.specs.Identify.{is_child_signal, any_child, Greets}
-use Rattle.convergence.proofs.Lemmas.{parent-late, parent-was}
+use Rattle.cable_world.specs.Agreement.{level_after_one, level_sent_at}
+use Rattle.cable_world.specs.Signals.{is_reset, shows_no_notice, takes_back, has_no_takeback}
+use Rattle.cable_world.specs.Coupling.{NoneTakesBack}
+use Rattle.cable_world.proofs.Lemmas.{NoEntry, signals-older, has_reset-append, has_no_takeback-append, parent-stays, early-childless, parent-asks, tree_start-known, risen-most, heard_connected, contend_empty, turned-round, heard_shown, heard_low, heard_no_parent, came, other_heard, near_heard, no_reset_before, taken, heard_idle}
+use Rattle.outcomes.specs.Identify.{is_child_signal}
+use Rattle.convergence.proofs.Lemmas.{parent-late}
 use Rattle.outcomes.proofs.identify.LinedTicks.{ticks-on, arrives}
 use Rattle.outcomes.proofs.identify.GreetTicks.{ticks-child, becomes-child, leaves-shake, says-child, Asked, asked-before, asking-sends, asks-on}
 
@@ -42,9 +36,6 @@ said-parent (s ∷ ss) h g =
 any_child-append : (xs ys : List Signal) → any_child (xs ++ ys) ≡ (any_child xs || any_child ys)
 any_child-append [] ys = refl
 any_child-append (x ∷ xs) ys = ap (λ b. is_child_signal x || b) (any_child-append xs ys) ∙ or-or (is_child_signal x) (any_child xs) (any_child ys)
-  where
-    or-or : (a b c : Bool) → (a || (b || c)) ≡ ((a || b) || c)
-    or-or a b c = grind arith
 
 no_fall-no_child : (ss : List Signal) → has_no_takeback ss ≡ true → any_child ss ≡ true → ⊥
 no_fall-no_child [] h g = true≢false (sym g)
@@ -116,7 +107,7 @@ module _
     kept-parent a s r = go y.gives refl
       where
         low-parent : (m : Level) → shows_no_notice m ≡ true → m ≡ level.Parent → ⊥
-        low-parent m h g = true≢false (sym h ∙ ap shows_no_notice g)
+        low-parent m h g = contrary h (ap shows_no_notice g)
 
         go : (b : Bool) → y.gives ≡ b → has_no_takeback (signals_of (leftovers y)) ≡ true
         go true e = ap (λ ts. has_no_takeback (signals_of ts)) (kept-none e)
@@ -158,11 +149,7 @@ module _
     hears-on h s = ticks-on y.coin (hearing y).state (ap hears_packets s.phase ∙ h)
 
     late : leads_down x.node.view.ports x.port ≡ true → is_resetting x.node.view.phase ≡ false
-    late z = go (is_resetting x.node.view.phase) refl
-      where
-        go : (b : Bool) → is_resetting x.node.view.phase ≡ b → b ≡ false
-        go true e = absurd (not-both (leads_down x.node.view.ports x.port) z (early-childless x.node j.near.valid x.port (start-before_tree x.node.view.phase e)))
-        go false e = refl
+    late z = false_from_ne_true _ (λ e. not-both (leads_down x.node.view.ports x.port) z (early-childless x.node j.near.valid x.port (start-before_tree x.node.view.phase e)))
 
     no-reset :
         leads_down x.node.view.ports x.port ≡ true → NoEntry x.node (hearing x) → NoReset →
@@ -186,7 +173,7 @@ module _
         (is_before_tree y.node.view.phase || is_asking y.node y.port) ≡ true →
         is_asking y.node y.port ≡ true
     asking-of p e = elim (or_cases (is_before_tree y.node.view.phase) (is_asking y.node y.port) e) [
-      | inl b ↦ absurd (true≢false (sym b ∙ parent-late y.node j.other.valid y.port p))
+      | inl b ↦ contrary b (parent-late y.node j.other.valid y.port p)
       | inr b ↦ b
     ]
 
@@ -331,7 +318,7 @@ module _
         before :
             (b : Bool) → y.gives ≡ b → any_child (signals_of (leftovers y)) ≡ true →
             leads_down y.node.view.ports y.port ≡ true
-        before true e a = absurd (true≢false (sym a ∙ ap (λ ts. any_child (signals_of ts)) (kept-none e)))
+        before true e a = contrary a (ap (λ ts. any_child (signals_of ts)) (kept-none e))
         before false e a = g.says (sym (ap has_reset (held-wire e)) ∙ no-reset-kept r) (sym (ap any_child (held-wire e)) ∙ a)
 
     accepted-after :
@@ -350,7 +337,7 @@ module _
         out-of h a = grind arith
 
         start : (h : Phase) → h ≡ phase.TreeStart → hears_packets h ≡ true → ⊥
-        start h a b = true≢false (sym b ∙ ap hears_packets a)
+        start h a b = contrary b (ap hears_packets a)
 
         is-child :
             (o : Option PortView) → passes (λ q. is_child q.shown) o ≡ true →
@@ -372,7 +359,7 @@ module _
             let a = arrives x.coin (hearing x).state (ap hears_packets h.phase ∙ e) n in
             let was : is_port (hearing x).state.view.parent x.port ≡ true = sym (ap (λ o. is_port o x.port) a.parent) ∙ p in
             elim a.how [
-              | inl none ↦ absurd (true≢false (sym was ∙ ap (λ o. is_port o x.port) none))
+              | inl none ↦ contrary was (ap (λ o. is_port o x.port) none)
               | inr t ↦ child-on (heard-child (no-reset-kept r) (is-child (slice_get (hearing x).state.view.ports x.port) (t.1 x.port was))) (other_heard d x y j r)
             ]
 

@@ -2,18 +2,9 @@
 use Rattle.std.proofs.Common.{◌≡◌, ◌⊎◌, inl, inr, ℕ, ◌+◌, ◌≤◌, length, Bool, true, false, ◌==◌, List, [], ◌∷◌, ◌++◌, refl, sym, ◌∙◌, ap, subst, append-nil, arith, true≢false}
 use Rattle.std.proofs.lemmas.Bool.{eq-eqb, and_parts}
 use Rattle.std.proofs.lemmas.List.{append_assoc}
-use Rattle.port_state.specs.declared.signal.Signal.{Signal}
+use Rattle.outcomes.proofs.Common.{Signal, NodeState, sent_on, is_resetting, hears_packets, on_signal, IsValid, sound-on_signal, sent_on-append, hear-stays, no-packets, not-both, hear_all, IsMarked, silent, quads_in, mode, allows, next, fits}
 use Rattle.port_state.specs.declared.signal.Signal.TheVariants as signal
-use Rattle.port_state.specs.declared.states.NodeState.{NodeState}
-use Rattle.port_state.specs.Sends.{sent_on}
 use Rattle.port_state.specs.Step.{Step}
-use Rattle.port_state.specs.Heard.{is_resetting, hears_packets, on_signal}
-use Rattle.port_state.specs.Valid.{IsValid}
-use Rattle.port_state.proofs.Lemmas.{sound-on_signal, sent_on-append}
-use Rattle.cable_world.proofs.Lemmas.{hear-stays, no-packets, not-both}
-use Rattle.cable_world.specs.Turn.{hear_all}
-use Rattle.outcomes.specs.NodeMarks.{IsMarked}
-use Rattle.outcomes.specs.Messages.{silent, quads_in, mode, allows, next, fits}
 use Rattle.outcomes.proofs.identify.Messages.{silent-append}
 use Rattle.outcomes.proofs.identify.MarksKept.{signal-marked}
 use Rattle.outcomes.proofs.identify.Hearing.{signal-stays, signal-silent, entering-silent}

@@ -1,25 +1,11 @@
 -- A node in self identify or A0 hears a signal: what becomes of its ports and of its cables.
 use Rattle.std.proofs.Common.{◌≡◌, ◌⊎◌, inl, inr, ℕ, Bool, true, false, not, ◌&&◌, ◌==◌, Option, refl, sym, ◌∙◌, ap, arith, true≢false, if◌then◌else◌}
 use Rattle.std.proofs.lemmas.Option.{slice_get_cases}
-use Rattle.std.proofs.lemmas.Bool.{and_parts, and_from}
-use Rattle.port_state.specs.declared.signal.Level.{Level}
+use Rattle.std.proofs.lemmas.Bool.{and_parts, and_from, true_from_ne_false}
+use Rattle.outcomes.proofs.Common.{contrary, Level, Phase, Signal, PortView, NodeState, passes, is_connected, is_port, sent_on, silent_step, enter, with_port, is_resetting, is_identifying, hears_packets, with_level, hears, is_heard, on_signal, FitsRole, IsValid, on_every-port, port_is-changed, leads_down, only, late-roles, port-is, no-packets, is_ready, is_asked, is_named, IsMarked, is_message, silent, Mode, parent_mode, child_mode, mode_of, mode, allows}
 use Rattle.port_state.specs.declared.signal.Level.TheVariants as level
-use Rattle.port_state.specs.declared.signal.Phase.{Phase}
-use Rattle.port_state.specs.declared.signal.Signal.{Signal}
 use Rattle.port_state.specs.declared.signal.Signal.TheVariants as signal
-use Rattle.port_state.specs.declared.ports.PortView.{PortView}
-use Rattle.port_state.specs.declared.states.NodeState.{NodeState}
-use Rattle.port_state.specs.Ports.{passes, is_connected, is_port}
-use Rattle.port_state.specs.Sends.{sent_on}
-use Rattle.port_state.specs.Step.{silent_step}
-use Rattle.port_state.specs.Entry.{enter, with_port}
-use Rattle.port_state.specs.Heard.{is_resetting, is_identifying, hears_packets, with_level, hears, has_effect, is_heard, on_signal}
-use Rattle.port_state.specs.Valid.{FitsRole, IsValid}
-use Rattle.port_state.proofs.Lemmas.{on_every-port, port_is-changed}
-use Rattle.cable_world.specs.Agreement.{leads_down}
-use Rattle.cable_world.proofs.Lemmas.{only, late-roles, port-is, no-packets}
-use Rattle.outcomes.specs.NodeMarks.{is_ready, is_asked, is_named, IsMarked}
-use Rattle.outcomes.specs.Messages.{is_message, silent, Mode, parent_mode, child_mode, mode_of, mode, allows, next, fits}
+use Rattle.port_state.specs.Heard.{has_effect}
 use Rattle.outcomes.specs.Messages as mode
 use Rattle.outcomes.proofs.identify.Ports.{child-role}
 use Rattle.outcomes.proofs.identify.MarksKept.{hears-late, awaited-one, done-asked}
@@ -29,11 +15,7 @@ use Rattle.outcomes.proofs.identify.MarksKept.{hears-late, awaited-one, done-ask
 role-of-parent :
     (parent : Option ℕ) (k : ℕ) (p : PortView) → FitsRole parent k p → is_port parent k ≡ true →
     p.connected ≡ true
-role-of-parent parent k p r u = go p.connected refl
-  where
-    go : (b : Bool) → p.connected ≡ b → b ≡ true
-    go true e = refl
-    go false e = absurd (true≢false (sym u ∙ (r.none e).1))
+role-of-parent parent k p r u = true_from_ne_false _ (λ e. contrary u ((r.none e).1))
 
 pub identifies : (h : Phase) → hears_packets h ≡ true → is_ready h ≡ false → is_identifying h ≡ true
 identifies h e f = grind arith
@@ -77,7 +59,7 @@ message-heard k s x v m h c t a = and_from (is_connected x.view.ports k) (has_ef
         no-parent true true g n ep a = true≢false (sym a)
         no-parent true false true n ep a = true≢false (sym a)
         no-parent true false false n ep a = true≢false (sym a)
-    go signal.Done t a false ep true er = let b = done-asked x k ep a in absurd (true≢false (sym (m.all_named er k (m.asked k b.0)) ∙ b.1))
+    go signal.Done t a false ep true er = let b = done-asked x k ep a in contrary (m.all_named er k (m.asked k b.0)) b.1
     go signal.Done t a false ep false er = let b = done-asked x k ep a in and_from _ _ (identifies x.view.phase h er) (m.asked k b.0)
     go s t a p ep r er = absurd (true≢false (sym t))
 
@@ -122,7 +104,7 @@ none-awaited x k p quad m h ne d a = go (is_port x.view.parent k) (is_ready x.vi
 
     unasked :
         x.view.granted ≡ false → (b : Bool) → is_asked x p ≡ b → (b && not (is_named x p)) ≡ false
-    unasked g true e = absurd (true≢false (sym (m.asks p e) ∙ g))
+    unasked g true e = contrary (m.asks p e) g
     unasked g false e = refl
 
     go :
@@ -147,7 +129,7 @@ speaking x k quad m i a = go (is_port x.view.parent k) (is_asked x k) (is_named 
     busy :
         is_asked x k ≡ true → is_named x k ≡ false → (r : Bool) → is_ready x.view.phase ≡ r →
         r ≡ false
-    busy b c true e = absurd (true≢false (sym (m.all_named e k (m.asked k b)) ∙ c))
+    busy b c true e = contrary (m.all_named e k (m.asked k b)) c
     busy b c false e = refl
 
     go :

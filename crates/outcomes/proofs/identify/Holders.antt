@@ -4,34 +4,14 @@
 -- way down from
 -- the root; at its lower end it is.
 use Rattle.std.proofs.Common.{◌≡◌, ◌≢◌, ◌⊎◌, inl, inr, ℕ, zero, suc, ◌-◌, ◌<◌, ◌≤◌, Bool, true, false, not, ◌&&◌, List, [], Option, Some, None, slice_get, length, refl, sym, ◌∙◌, ap, subst, arith, true≢false}
-use Rattle.std.proofs.lemmas.Bool.{eq-eqb, cases_eq, cases_lt}
+use Rattle.std.proofs.lemmas.Bool.{eq-eqb, cases_eq, cases_lt, false_from_ne_true}
 use Rattle.std.proofs.lemmas.Option.{slice_get_within}
-use Rattle.cabling.specs.declared.cable.End.{End}
-use Rattle.cabling.specs.Wiring.{far}
-use Rattle.cabling.specs.NodeSet.{Holds}
-use Rattle.cabling.specs.Component.{IsClosed, IsComponent}
-use Rattle.cabling.proofs.Lemmas.{same_end, one_other, shared}
-use Rattle.port_state.specs.declared.signal.Phase.{Phase}
-use Rattle.port_state.specs.declared.signal.Phase.TheVariants.{SelfIdent}
-use Rattle.port_state.specs.declared.signal.Signal.{Signal}
-use Rattle.port_state.specs.declared.ports.PortView.{PortView}
-use Rattle.port_state.specs.Ports.{passes, is_connected, is_port}
-use Rattle.port_state.specs.Heard.{hears_packets}
-use Rattle.port_state.specs.Machine.{PortNode}
+use Rattle.outcomes.proofs.Common.{contrary, End, far, Holds, IsClosed, IsComponent, shared, Phase, SelfIdent, Signal, PortView, passes, is_connected, is_port, hears_packets, PortNode, CableWorld, wire_of, signals_of, leads_down, IsLawful, joined-of, in-component, same-port, some-same, IsAcyclic, is_ready, is_asked, is_named, IsMarked, is_grant, is_done, has_grant, has_done, parent_mode, child_mode, mode, IsIdentifying}
+use Rattle.cabling.proofs.Lemmas.{same_end, one_other}
 use Rattle.cable_world.specs.Wire.{Wire}
-use Rattle.cable_world.specs.World.{CableWorld, wire_of}
-use Rattle.cable_world.specs.Signals.{signals_of}
-use Rattle.cable_world.specs.Agreement.{leads_down}
-use Rattle.cable_world.specs.Lawful.{IsLawful}
-use Rattle.convergence.proofs.Lemmas.{joined-of, in-component, same-port}
-use Rattle.cable_world.proofs.Lemmas.{some-same}
-use Rattle.convergence.specs.Acyclic.{IsAcyclic}
-use Rattle.outcomes.specs.NodeMarks.{is_ready, is_asked, is_named, IsMarked}
-use Rattle.outcomes.specs.Messages.{is_grant, is_done, has_grant, has_done, parent_mode, child_mode, mode}
-use Rattle.outcomes.specs.Identify.{IsIdentifying}
 use Rattle.outcomes.specs.Holders.{Holder, grant, done, node, IsHolder, place, how_many, HasOneHolder}
 use Rattle.outcomes.proofs.identify.Ports.{child-role}
-use Rattle.outcomes.proofs.identify.MarksKept.{hears-late, one-awaited}
+use Rattle.outcomes.proofs.identify.MarksKept.{hears-late, one-awaited, waits-none}
 use Rattle.outcomes.proofs.identify.Hearing.{parent-connected}
 use Rattle.outcomes.proofs.identify.ListsFollow as lists
 use Rattle.outcomes.proofs.identify.ListsFollow.{IsAbove}
@@ -136,20 +116,12 @@ module _
     parent-unready :
         (k : ℕ) (x : PortNode) (a : Above k x) → is_ready x.state.view.phase ≡ false →
         is_named a.other.is.state a.other.end.port ≡ false
-    parent-unready k x a u = go (is_named a.other.is.state a.other.end.port) refl
-      where
-        go : (b : Bool) → is_named a.other.is.state a.other.end.port ≡ b → b ≡ false
-        go true e = absurd (true≢false (sym (a.above.line.names e) ∙ u))
-        go false e = refl
+    parent-unready k x a u = false_from_ne_true _ (λ e. contrary (a.above.line.names e) u)
 
     above-unready :
         (k : ℕ) (x : PortNode) (a : Above k x) → is_ready x.state.view.phase ≡ false →
         is_ready a.other.is.state.view.phase ≡ false
-    above-unready k x a u = go (is_ready a.other.is.state.view.phase) refl
-      where
-        go : (b : Bool) → is_ready a.other.is.state.view.phase ≡ b → b ≡ false
-        go true e = absurd (true≢false (sym ((i.nodes a.other.end.node a.other.is a.other.at).all_named e a.other.end.port a.above.child) ∙ parent-unready k x a u))
-        go false e = refl
+    above-unready k x a u = false_from_ne_true _ (λ e. contrary ((i.nodes a.other.end.node a.other.is a.other.at).all_named e a.other.end.port a.above.child) (parent-unready k x a u))
 
     above-falls :
         (c : IsAcyclic w) (k : ℕ) (x : PortNode) → slice_get w.nodes k ≡ Some x → (a : Above k x) →
@@ -165,7 +137,7 @@ module _
         go : (b : Bool) → x.state.view.granted ≡ b → Active k ⊎ Above k x
         go true e = inl (record { is = x; at = at; inside = h; granted = e; unready = u })
         go false e = elim (above-of k x h at) [
-          | inl none ↦ absurd (true≢false (sym ((i.nodes k x at).root (all k x h at) none) ∙ e))
+          | inl none ↦ contrary ((i.nodes k x at).root (all k x h at) none) e
           | inr a ↦ inr a
         ]
 
@@ -310,7 +282,7 @@ module _
             Hung root b.node
         up zero d p =
             let same : r.is ≡ x = some-same r.is x (sym r.at ∙ ap (slice_get w.nodes) (sym d) ∙ at) in
-            absurd (true≢false (sym p ∙ ap (λ (z : PortNode). is_port z.state.view.parent a.port) (sym same) ∙ ap (λ o. is_port o a.port) r.parentless))
+            contrary p (ap (λ (z : PortNode). is_port z.state.view.parent a.port) (sym same) ∙ ap (λ o. is_port o a.port) r.parentless)
         up (suc n) d p =
             let same : d.4 ≡ x = some-same d.4 x (sym d.5 ∙ ap (slice_get w.nodes) d.3 ∙ at) in
             let port : d.1.port ≡ a.port = same-port x.state.view.parent d.1.port a.port (ap (λ (z : PortNode). is_port z.state.view.parent d.1.port) (sym same) ∙ d.6) p in
@@ -335,7 +307,7 @@ module _
         not-under ne zero d = ne d
         not-under ne (suc n) d =
             let same : d.4 ≡ u.is = some-same d.4 u.is (sym d.5 ∙ ap (slice_get w.nodes) d.3 ∙ u.at) in
-            true≢false (sym d.6 ∙ ap (λ (z : PortNode). is_port z.state.view.parent d.1.port) same ∙ ap (λ o. is_port o d.1.port) u.parentless)
+            contrary d.6 (ap (λ (z : PortNode). is_port z.state.view.parent d.1.port) same ∙ ap (λ o. is_port o d.1.port) u.parentless)
 
     -- ---- holders
 
@@ -428,7 +400,7 @@ module _
     wire-cable a P none h = go (far w.cabling a) refl
       where
         go : (o : Option End) → far w.cabling a ≡ o → (b : End) × (far w.cabling a ≡ Some b)
-        go None e = absurd (true≢false (sym h ∙ ap (λ (u : Wire). P (signals_of u.signals)) (l.well_formed.unplugged a e) ∙ none))
+        go None e = contrary h (ap (λ (u : Wire). P (signals_of u.signals)) (l.well_formed.unplugged a e) ∙ none)
         go (Some b) e = (b, e)
 
     and-true : (a g : Bool) → (a && not g) ≡ true → (a ≡ true) × (g ≡ false)
@@ -440,11 +412,7 @@ module _
     abbrev awaits-active :
         (k p : ℕ) (x : PortNode) → Holds set k → slice_get w.nodes k ≡ Some x →
         is_asked x.state p ≡ true → is_named x.state p ≡ false → Active k
-    awaits-active k p x h at asked unnamed = record { is = x; at = at; inside = h; granted = (i.nodes k x at).asks p asked; unready = go (is_ready x.state.view.phase) refl }
-      where
-        go : (b : Bool) → is_ready x.state.view.phase ≡ b → b ≡ false
-        go true e = absurd (true≢false (sym ((i.nodes k x at).all_named e p ((i.nodes k x at).asked p asked)) ∙ unnamed))
-        go false e = refl
+    awaits-active k p x h at asked unnamed = record { is = x; at = at; inside = h; granted = (i.nodes k x at).asks p asked; unready = false_from_ne_true _ (λ e. contrary ((i.nodes k x at).all_named e p ((i.nodes k x at).asked p asked)) unnamed) }
 
     owner-of : (h : Holder) → Holds set (place h) → IsHolder w h → Owner h
     unfolding Owned
@@ -456,24 +424,20 @@ module _
         elim (lists.one-above w l i a b.0 n.near o.is b.1 n.near_at o.at (all a.node n.near inside n.near_at) o.hears) [
           | inl s ↦
               let both = and-true (is_asked n.near.state a.port) o.is.state.view.granted (sym s.line.granting ∙ is) in
-              let unnamed = not-named (is_named n.near.state a.port) (λ e. true≢false (sym (s.line.readies (s.line.names e)) ∙ both.1)) in
+              let unnamed = false_from_ne_true _ (λ e. contrary (s.line.readies (s.line.names e)) both.1) in
               record {
                 owner = a.node;
                 active = awaits-active a.node a.port n.near inside n.near_at both.0 unnamed;
                 owned = (a.port, refl, both.0, unnamed, record { other = o; above = s }, both.1);
               }
-          | inr s ↦ absurd (true≢false (sym is ∙ no-grant (child_mode (is_asked o.is.state b.0.port) (is_named o.is.state b.0.port)) (signals_of (wire_of w a).signals) (child-grants-none (is_asked o.is.state b.0.port) (is_named o.is.state b.0.port)) s.line.fits_up))
+          | inr s ↦ contrary is (no-grant (child_mode (is_asked o.is.state b.0.port) (is_named o.is.state b.0.port)) (signals_of (wire_of w a).signals) (child-grants-none (is_asked o.is.state b.0.port) (is_named o.is.state b.0.port)) s.line.fits_up)
         ]
-      where
-        not-named : (b : Bool) → (b ≡ true → ⊥) → b ≡ false
-        not-named true h = absurd (h refl)
-        not-named false h = refl
     owner-of (done a) inside is =
         let b = wire-cable a has_done refl is in
         let o = other-of a b.0 inside b.1 in
         let n = joined-of w a b.0 l.well_formed b.1 in
         elim (lists.one-above w l i a b.0 n.near o.is b.1 n.near_at o.at (all a.node n.near inside n.near_at) o.hears) [
-          | inl s ↦ absurd (true≢false (sym is ∙ no-done (parent_mode (is_ready o.is.state.view.phase) o.is.state.view.granted) (signals_of (wire_of w a).signals) (parent-says-none (is_ready o.is.state.view.phase) o.is.state.view.granted) s.line.fits_down))
+          | inl s ↦ contrary is (no-done (parent_mode (is_ready o.is.state.view.phase) o.is.state.view.granted) (signals_of (wire_of w a).signals) (parent-says-none (is_ready o.is.state.view.phase) o.is.state.view.granted) s.line.fits_down)
           | inr s ↦
               let both = and-true (is_ready n.near.state.view.phase) (is_named o.is.state b.0.port) (sym s.line.naming ∙ is) in
               let asked = s.line.grants (s.line.readies both.0) in
@@ -505,16 +469,11 @@ module _
 
     low : (h : Holder) (v : ℕ) (a : Active v) → Owned v a.is h → (c : ℕ) → Step v c → ⊥
     unfolding Owned
-    low (grant e) v a o c s = true≢false (sym s.to.granted ∙ ap (λ (z : PortNode). z.state.view.granted) (sym (child-is v c a o.0 o.2 o.3 o.4 s)) ∙ o.5)
-    low (done e) v a o c s = true≢false (sym o.5 ∙ ap (λ (z : PortNode). is_ready z.state.view.phase) (child-is v c a o.0 o.1 o.2 o.3 s) ∙ s.to.unready)
+    low (grant e) v a o c s = contrary s.to.granted (ap (λ (z : PortNode). z.state.view.granted) (sym (child-is v c a o.0 o.2 o.3 o.4 s)) ∙ o.5)
+    low (done e) v a o c s = contrary o.5 (ap (λ (z : PortNode). is_ready z.state.view.phase) (child-is v c a o.0 o.1 o.2 o.3 s) ∙ s.to.unready)
     low (node k) v a o c s =
         let same : s.from.is ≡ a.is = some-same s.from.is a.is (sym s.from.at ∙ a.at) in
-        clash (is_asked a.is.state s.port) (is_named a.is.state s.port) (ap (λ (z : PortNode). is_asked z.state s.port) (sym same) ∙ s.asked) (ap (λ (z : PortNode). is_named z.state s.port) (sym same) ∙ s.unnamed) (o.1 s.port)
-      where
-        clash : (a n : Bool) → a ≡ true → n ≡ false → (a && not n) ≡ false → ⊥
-        clash true false ea en e = true≢false e
-        clash true true ea en e = true≢false en
-        clash false n ea en e = true≢false (sym ea)
+        waits-none (is_asked a.is.state s.port) (is_named a.is.state s.port) (ap (λ (z : PortNode). is_asked z.state s.port) (sym same) ∙ s.asked) (ap (λ (z : PortNode). is_named z.state s.port) (sym same) ∙ s.unnamed) (o.1 s.port)
 
     -- an active node has one at most
     child-same :
@@ -528,11 +487,6 @@ module _
         c.other.end ≡ d.other.end → c.other.is ≡ d.other.is
     node-same v x p q c d e = some-same c.other.is d.other.is (sym c.other.at ∙ ap (λ (z : End). slice_get w.nodes z.node) e ∙ d.other.at)
 
-    waits-none : (a n : Bool) → a ≡ true → n ≡ false → (a && not n) ≡ false → ⊥
-    waits-none true false ea en e = true≢false e
-    waits-none true true ea en e = true≢false en
-    waits-none false n ea en e = true≢false (sym ea)
-
     same-holder :
         (h k : Holder) (v : ℕ) (x : PortNode) → slice_get w.nodes v ≡ Some x → Owned v x h →
         Owned v x k → h ≡ k
@@ -542,10 +496,10 @@ module _
     same-holder (node j) (node k) v x at o q = ap node (o.0 ∙ sym q.0)
     same-holder (grant e) (done f) v x at o q =
         let is = node-same v x o.0 q.0 o.4 q.3 (child-same v x at o.0 q.0 o.2 o.3 q.1 q.2 o.4 q.3) in
-        absurd (true≢false (sym (q.3.above.line.readies q.5) ∙ ap (λ (z : PortNode). z.state.view.granted) (sym is) ∙ o.5))
+        contrary (q.3.above.line.readies q.5) (ap (λ (z : PortNode). z.state.view.granted) (sym is) ∙ o.5)
     same-holder (done e) (grant f) v x at o q =
         let is = node-same v x q.0 o.0 q.4 o.3 (child-same v x at q.0 o.0 q.2 q.3 o.1 o.2 q.4 o.3) in
-        absurd (true≢false (sym (o.3.above.line.readies o.5) ∙ ap (λ (z : PortNode). z.state.view.granted) (sym is) ∙ q.5))
+        contrary (o.3.above.line.readies o.5) (ap (λ (z : PortNode). z.state.view.granted) (sym is) ∙ q.5)
     same-holder (grant e) (node k) v x at o q = absurd (waits-none (is_asked x.state o.0) (is_named x.state o.0) o.2 o.3 (q.1 o.0))
     same-holder (node k) (grant e) v x at o q = absurd (waits-none (is_asked x.state q.0) (is_named x.state q.0) q.2 q.3 (o.1 q.0))
     same-holder (done e) (node k) v x at o q = absurd (waits-none (is_asked x.state o.0) (is_named x.state o.0) o.1 o.2 (q.1 o.0))

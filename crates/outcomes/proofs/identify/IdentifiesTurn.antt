@@ -1,25 +1,15 @@
 -- A turn keeps what the two ends of a cable tell each other in self identify.
 use Rattle.std.proofs.Common.{◌≡◌, ◌⊎◌, inl, inr, ℕ, ◌+◌, ◌-◌, ◌*◌, ◌<◌, ◌≤◌, Bool, true, false, not, ◌&&◌, ◌||◌, List, [], ◌++◌, map, length, refl, sym, ◌∙◌, ap, subst, arith, if◌then◌else◌, true≢false}
 use Rattle.std.specs.Prelude.{nat_lt}
-use Rattle.std.proofs.lemmas.Bool.{or_cases, ltb-true, ltb-false}
-use Rattle.port_state.specs.declared.signal.Phase.{Phase}
+use Rattle.std.proofs.lemmas.Bool.{or_cases, ltb-true, ltb-false, false_from_ne_true}
+use Rattle.outcomes.proofs.Common.{contrary, Phase, Signal, NodeState, port_is, is_port, sent_on, is_resetting, hears_packets, new_signal, age_signal, is_before_tree, is_after_hold, is_shaking, signals_of, has_reset, leads_down, child-if, not-both, Side, hearing, ticking, leftovers, departures, wire_after, late-roles, after_signals, start-before_tree, Pair, is_ready, is_asked, is_named, IsMarked, silent, MessagesSince, Mode, parent_mode, child_mode, mode_of, mode, Lined, Greets, Identifies, parent-was}
 use Rattle.port_state.specs.declared.signal.Phase.TheVariants as phase
-use Rattle.port_state.specs.declared.signal.Signal.{Signal}
-use Rattle.port_state.specs.declared.states.NodeState.{NodeState}
-use Rattle.port_state.specs.Ports.{port_is, is_port}
-use Rattle.port_state.specs.Sends.{sent_on}
-use Rattle.port_state.specs.Heard.{is_resetting, hears_packets}
-use Rattle.cable_world.specs.Wire.{new_signal, age_signal}
-use Rattle.cable_world.specs.Phases.{is_before_tree, is_after_hold, is_shaking, slack}
-use Rattle.cable_world.specs.Signals.{signals_of, has_reset}
-use Rattle.cable_world.specs.Agreement.{leads_down}
-use Rattle.cable_world.proofs.Lemmas.{child-if, NoEntry, not-both, AllAsOldAs-less, nothing-left, Side, hearing, ticking, leftovers, departures, wire_after, Ready, early-childless, late-roles, heard_timing, after_signals, kept_or_gone, timer_rises, hold_fits, start-timed, start-slack, start-before_tree, Pair, turned-round, came, near_heard}
-use Rattle.outcomes.specs.NodeMarks.{is_ready, is_asked, is_named, IsMarked}
-use Rattle.outcomes.specs.Messages.{silent, MessagesSince, Mode, parent_mode, child_mode, mode_of, mode}
-use Rattle.outcomes.specs.Identify.{may_speak, Lined, Greets, Identifies}
+use Rattle.cable_world.specs.Phases.{slack}
+use Rattle.cable_world.proofs.Lemmas.{NoEntry, AllAsOldAs-less, nothing-left, Ready, early-childless, heard_timing, kept_or_gone, timer_rises, hold_fits, start-timed, start-slack, turned-round, came, near_heard}
+use Rattle.outcomes.specs.Identify.{may_speak}
 use Rattle.outcomes.proofs.identify.Messages.{silent-append, silent-quads, silent-fits, since-zero, since-less, since-older, since-append, since-silent, since-none}
 use Rattle.outcomes.proofs.identify.Lines.{begins}
-use Rattle.convergence.proofs.Lemmas.{early-parentless, parent-late, parent-was, start-mute}
+use Rattle.convergence.proofs.Lemmas.{early-parentless, parent-late, start-mute}
 use Rattle.outcomes.proofs.identify.Ports.{child-role}
 use Rattle.outcomes.proofs.identify.MarksKept.{hears-late, none-asked, tick-marked}
 use Rattle.outcomes.proofs.identify.LinedHears.{Waiting}
@@ -93,18 +83,10 @@ module _ (d : ℕ) (x y : Side) (t : Told d x y) where
 
   -- no Reset is under way from a node outside R0
   calm : is_resetting x.node.view.phase ≡ false → has_reset (signals_of x.wire) ≡ false
-  calm e = go (has_reset (signals_of x.wire)) refl
-    where
-      go : (b : Bool) → has_reset (signals_of x.wire) ≡ b → b ≡ false
-      go true r = absurd (true≢false (sym (j.coupled.reset r) ∙ e))
-      go false r = refl
+  calm e = false_from_ne_true _ (λ r. contrary (j.coupled.reset r) e)
 
   calm-back : is_resetting y.node.view.phase ≡ false → has_reset (signals_of y.wire) ≡ false
-  calm-back e = go (has_reset (signals_of y.wire)) refl
-    where
-      go : (b : Bool) → has_reset (signals_of y.wire) ≡ b → b ≡ false
-      go true r = absurd (true≢false (sym (j.coupled_back.reset r) ∙ e))
-      go false r = refl
+  calm-back e = false_from_ne_true _ (λ r. contrary (j.coupled_back.reset r) e)
 
   going : sent_on y.port y.inbox ++ signals_of (leftovers x) ≡ signals_of x.wire
   going = ap (λ ss. ss ++ signals_of (leftovers x)) j.goes ∙ sym (split x)
@@ -115,7 +97,7 @@ module _ (d : ℕ) (x y : Side) (t : Told d x y) where
   not-came : hears_packets (ticking x).state.view.phase ≡ true → NoEntry x.node (hearing x)
   not-came n = elim j.near.hears.cases [
     | inl h ↦ h
-    | inr c ↦ absurd (true≢false (sym n ∙ start-mute (ticking x).state.view.phase (came d x y j c).0))
+    | inr c ↦ contrary n (start-mute (ticking x).state.view.phase (came d x y j c).0)
   ]
 
   stays-out :
@@ -146,8 +128,8 @@ module _ (d : ℕ) (x y : Side) (t : Told d x y) where
       Waiting y.node y.port [] (sent_on y.port y.inbox ++ signals_of (leftovers x))
   waiting m h = elim (above out h) [
     | inl child ↦ absurd (elim (t.greets_back.both child (calm out)) [
-      | inl s ↦ true≢false (sym h ∙ ap hears_packets s)
-      | inr s ↦ true≢false (sym s ∙ mute x.node.view.phase m)
+      | inl s ↦ contrary h (ap hears_packets s)
+      | inr s ↦ contrary s (mute x.node.view.phase m)
     ])
     | inr p ↦ record {
       parent = p.0;
@@ -212,13 +194,13 @@ module _ (d : ℕ) (x y : Side) (t : Told d x y) where
       go false e = inl refl
       go true e = elim (or_cases (is_resetting x.node.view.phase) (hears_packets x.node.view.phase) e) [
         | inl r ↦ inr r
-        | inr s ↦ absurd (true≢false (sym (ticks-on x.coin (hearing x).state (ap hears_packets h.phase ∙ s)) ∙ mute (ticking x).state.view.phase m))
+        | inr s ↦ contrary (ticks-on x.coin (hearing x).state (ap hears_packets h.phase ∙ s)) (mute (ticking x).state.view.phase m)
       ]
 
   mute-heard : may_speak (ticking x).state.view.phase ≡ false → NoEntry x.node (hearing x)
   mute-heard m = elim j.near.hears.cases [
     | inl h ↦ h
-    | inr c ↦ absurd (true≢false (sym (speaks-start (ticking x).state.view.phase (came d x y j c).0) ∙ m))
+    | inr c ↦ contrary (speaks-start (ticking x).state.view.phase (came d x y j c).0) m
   ]
 
   quiet-after :
@@ -258,7 +240,7 @@ module _ (d : ℕ) (x y : Side) (t : Told d x y) where
       before :
           NoEntry x.node (hearing x) → (b : Bool) → is_resetting x.node.view.phase ≡ b → b ≡ true
       before h true e = refl
-      before h false e = absurd (true≢false (sym r ∙ j.near.ticks.out (stays-out h e)))
+      before h false e = contrary r (j.near.ticks.out (stays-out h e))
 
       rises : NoEntry x.node (hearing x) → (ticking x).state.view.timer ≤ x.node.view.timer + 1
       rises h = elim (j.near.ticks.timed (start-timed (ticking x).state.view.phase r)) [
@@ -348,7 +330,7 @@ module _ (d : ℕ) (x y : Side) (t : Told d x y) where
   parent-heard : is_port (ticking y).state.view.parent y.port ≡ true → NoEntry y.node (hearing y)
   parent-heard p = elim j.other.hears.cases [
     | inl h ↦ h
-    | inr c ↦ absurd (true≢false (sym p ∙ ap (λ o. is_port o y.port) (early-parentless (ticking y).state j.other.ticks.valid (start-before_tree (ticking y).state.view.phase (came d y x (turned-round d x y j) c).0))))
+    | inr c ↦ contrary p (ap (λ o. is_port o y.port) (early-parentless (ticking y).state j.other.ticks.valid (start-before_tree (ticking y).state.view.phase (came d y x (turned-round d x y j) c).0)))
   ]
 
   -- and was outside R0
@@ -363,26 +345,22 @@ module _ (d : ℕ) (x y : Side) (t : Told d x y) where
       late :
           (b : Bool) → is_resetting y.node.view.phase ≡ b →
           is_before_tree y.node.view.phase ≡ false → b ≡ false
-      late true e f = absurd (true≢false (sym (start-before_tree y.node.view.phase e) ∙ f))
+      late true e f = contrary (start-before_tree y.node.view.phase e) f
       late false e f = refl
 
   -- nor was a node with a child port in R0
   child-out :
       leads_down (ticking x).state.view.ports x.port ≡ true → NoEntry x.node (hearing x) →
       is_resetting x.node.view.phase ≡ false
-  child-out c h = go (is_resetting x.node.view.phase) refl
-    where
-      go : (b : Bool) → is_resetting x.node.view.phase ≡ b → b ≡ false
-      go false e = refl
-      go true e =
-          let r : is_resetting (hearing x).state.view.phase ≡ true = ap is_resetting h.phase ∙ e in
-          absurd (elim (j.near.ticks.child x.port (j.near.hears.cables x.port ∙ j.near.connected) c) [
-            | inl z ↦ not-both (leads_down (hearing x).state.view.ports x.port) z (early-childless (hearing x).state j.near.hears.valid x.port (start-before_tree (hearing x).state.view.phase r))
-            | inr o ↦ elim o [
-              | inl z ↦ true≢false (sym r ∙ ap is_resetting z.0)
-              | inr z ↦ true≢false (sym r ∙ ap is_resetting z.0)
-            ]
-          ])
+  child-out c h = false_from_ne_true _ (λ e.
+      let r : is_resetting (hearing x).state.view.phase ≡ true = ap is_resetting h.phase ∙ e in
+      elim (j.near.ticks.child x.port (j.near.hears.cables x.port ∙ j.near.connected) c) [
+        | inl z ↦ not-both (leads_down (hearing x).state.view.ports x.port) z (early-childless (hearing x).state j.near.hears.valid x.port (start-before_tree (hearing x).state.view.phase r))
+        | inr o ↦ elim o [
+          | inl z ↦ contrary r (ap is_resetting z.0)
+          | inr z ↦ contrary r (ap is_resetting z.0)
+        ]
+      ])
 
   -- a child that waited before the turn, or came to self identify in it, waits for its grant
   idle-after :
@@ -403,11 +381,11 @@ module _ (d : ℕ) (x y : Side) (t : Told d x y) where
       none z m e = by z.view.granted refl
         where
           by : (b : Bool) → z.view.granted ≡ b → b ≡ false
-          by true g = absurd (true≢false (sym (m.granted g) ∙ e))
+          by true g = contrary (m.granted g) e
           by false g = refl
 
       not-hearing : (b : Bool) → hears_packets x.node.view.phase ≡ b → b ≡ false
-      not-hearing true e = absurd (true≢false (sym (ticks-on x.coin (hearing x).state (ap hears_packets h.phase ∙ e)) ∙ n))
+      not-hearing true e = contrary (ticks-on x.coin (hearing x).state (ap hears_packets h.phase ∙ e)) n
       not-hearing false e = refl
 
       neither : (h : Phase) → is_resetting h ≡ false → hears_packets h ≡ false → may_speak h ≡ false
@@ -423,12 +401,12 @@ module _ (d : ℕ) (x y : Side) (t : Told d x y) where
           let early : hears_packets (hearing y).state.view.phase ≡ false = ap hears_packets k.phase ∙ f in
           let r = arrives y.coin (hearing y).state early e in
           elim r.how [
-            | inl o ↦ absurd (true≢false (sym p ∙ ap (λ q. is_port q y.port) (r.parent ∙ o)))
+            | inl o ↦ contrary p (ap (λ q. is_port q y.port) (r.parent ∙ o))
             | inr o ↦ (o.0 ∙ none (hearing y).state m early, r.list ∙ m.unheard early)
           ]
       go true e true f = elim (waited (neither x.node.view.phase (child-out c h) (not-hearing (hears_packets x.node.view.phase) refl)) f) [
         | inl w ↦ (w.1.ungranted, w.1.nothing)
-        | inr w ↦ absurd (true≢false (sym w.0 ∙ ap is_resetting k.phase ∙ hears-out y.node.view.phase f))
+        | inr w ↦ contrary w.0 (ap is_resetting k.phase ∙ hears-out y.node.view.phase f)
       ]
 
   line-after :
@@ -448,7 +426,7 @@ module _ (d : ℕ) (x y : Side) (t : Told d x y) where
       was : leads_down x.node.view.ports x.port ≡ true
       was = elim (becomes-child x.coin (hearing x).state x.port c) [
         | inl z ↦ sym (h.child x.port) ∙ z
-        | inr z ↦ absurd (true≢false (sym n ∙ ap hears_packets z))
+        | inr z ↦ contrary n (ap hears_packets z)
       ]
 
       no-reset : has_reset (signals_of y.wire) ≡ false
@@ -487,7 +465,7 @@ module _ (d : ℕ) (x y : Side) (t : Told d x y) where
       not-ready z m g = by (is_ready z.view.phase) refl
         where
           by : (b : Bool) → is_ready z.view.phase ≡ b → b ≡ false
-          by true e = absurd (true≢false (sym (m.ready e) ∙ g))
+          by true e = contrary (m.ready e) g
           by false e = refl
 
       go :
@@ -495,7 +473,7 @@ module _ (d : ℕ) (x y : Side) (t : Told d x y) where
           Lined (ticking x).state x.port (signals_of (wire_after x))
           (ticking y).state (signals_of (wire_after y))
       go true e =
-          let f : hears_packets y.node.view.phase ≡ true = hears-other (λ s. true≢false (sym e ∙ ap hears_packets s)) in
+          let f : hears_packets y.node.view.phase ≡ true = hears-other (λ s. contrary e (ap hears_packets s)) in
           lined-turn d x y j (able d x j.near t.near e) (able d y j.other t.other f) was parent (t.identifies.line was parent e) (stays-out h (hears-out x.node.view.phase e)) (ap is_resetting k.phase ∙ hears-out y.node.view.phase f)
       go false e =
           let early : hears_packets (hearing x).state.view.phase ≡ false = ap hears_packets h.phase ∙ e in
@@ -514,7 +492,7 @@ module _ (d : ℕ) (x y : Side) (t : Told d x y) where
                 (begins (signals_of (wire_after x)) (signals_of (wire_after y))
                 (ap silent (after_signals x) ∙ silent-append (signals_of (leftovers x)) (departures x) (kept_or_gone x (λ ss. silent ss ≡ true) refl (t.identifies.quiet s)) (early-silent d x j.near e))
                 (ap silent (after_signals y) ∙ silent-append (signals_of (leftovers y)) (departures y) (kept_or_gone y (λ ss. silent ss ≡ true) refl (t.identifies.hushed s)) (none-sent s)))
-            | inr w ↦ absurd (true≢false (sym w.0 ∙ ap is_resetting k.phase ∙ hears-out y.node.view.phase f))
+            | inr w ↦ contrary w.0 (ap is_resetting k.phase ∙ hears-out y.node.view.phase f)
           ]
 
   pub identifies-turn :

@@ -2,40 +2,21 @@
 use Rattle.std.proofs.Common.{◌≡◌, ◌⊎◌, inl, inr, ℕ, zero, suc, ◌+◌, ◌-◌, Bool, true, false, ◌&&◌, ◌||◌, List, [], ◌∷◌, ◌++◌, replicate, length, Option, Some, None, slice_get, slice_set, refl, sym, ◌∙◌, ap, subst, arith, append-nil, true≢false}
 use Rattle.std.proofs.lemmas.Bool.{cases_eq, or_parts}
 use Rattle.std.proofs.lemmas.Option.{slice_get_within}
-use Rattle.cabling.specs.declared.cable.End.{End}
-use Rattle.cabling.specs.Wiring.{far}
-use Rattle.port_state.specs.declared.signal.Level.{Level}
+use Rattle.outcomes.proofs.Common.{contrary, End, far, Level, Phase, ResetStart, Signal, PortView, NodeState, port_is, is_port, hears_packets, IsValid, PortNode, node_disturb, node_set_config, Act, Config, Travelling, new_signal, CableWorld, wire_of, IsPowerOnWorld, change_in_set, note_changes, ActLeads, act_fault, IsAct, hold, hold_fault, level_sent, level_shown, leads_down, level_after, signals_of, has_reset, is_before_tree, is_shaking, is_asking, IsLawful, acting, some-same, IsMarked, silent, quads_in, mode, fits, any_child, Greets, Identifies, IsIdentifying, config_packet}
 use Rattle.port_state.specs.declared.signal.Level.TheVariants as level
-use Rattle.port_state.specs.declared.signal.Phase.{Phase}
-use Rattle.port_state.specs.declared.signal.Phase.TheVariants.{ResetStart}
-use Rattle.port_state.specs.declared.signal.Signal.{Signal}
 use Rattle.port_state.specs.declared.signal.Signal.TheVariants as signal
-use Rattle.port_state.specs.declared.ports.PortView.{PortView}
-use Rattle.port_state.specs.declared.states.NodeState.{NodeState}
 use Rattle.port_state.specs.PowerOn.{power_on, free_port}
-use Rattle.port_state.specs.Ports.{port_is, is_port}
-use Rattle.port_state.specs.Heard.{hears_packets}
-use Rattle.port_state.specs.Valid.{IsValid}
-use Rattle.port_state.specs.Machine.{PortNode, NodeStep, node_disturb, node_plugged, node_pulled, node_set_config}
-use Rattle.cable_world.specs.declared.act.Act.{Act}
-use Rattle.cable_world.specs.declared.act.Act.TheVariants.{Plug, Pull, Reset, Config}
-use Rattle.cable_world.specs.declared.wire.Travelling.{Travelling}
-use Rattle.cable_world.specs.Wire.{new_signal}
-use Rattle.cable_world.specs.World.{CableWorld, wire_of, IsPowerOnWorld}
-use Rattle.cable_world.specs.Act.{step_at, with_step, pull_from, change_in_set, note_changes, ActLeads, act_fault, IsAct, hold, hold_fault}
-use Rattle.cable_world.specs.Agreement.{level_sent, level_after_one, LevelsAgree, level_shown, leads_down, level_after}
-use Rattle.cable_world.specs.Signals.{is_reset, signals_of, has_reset}
-use Rattle.cable_world.specs.Phases.{is_before_tree, is_shaking}
-use Rattle.cable_world.specs.Coupling.{is_asking}
-use Rattle.cable_world.specs.Lawful.{IsLawful}
-use Rattle.cable_world.proofs.Lemmas.{power-on-apart, shown-is, Entered, Stayed, Happens, Acting, acting, hold-happens, each-kept, not-leading, ends-in-reset, shown-same, CableEnd, cable-end, HasBegun, untouched, some-same, none-some, replaced, act-lawful, hold-lawful, signals-append}
-use Rattle.outcomes.specs.NodeMarks.{IsMarked}
-use Rattle.outcomes.specs.Messages.{silent, quads_in, mode, fits}
-use Rattle.outcomes.specs.Identify.{may_speak, is_child_signal, any_child, Greets, Identifies, IsIdentifying}
+use Rattle.port_state.specs.Machine.{NodeStep, node_plugged, node_pulled}
+use Rattle.cable_world.specs.declared.act.Act.TheVariants.{Plug, Pull, Reset}
+use Rattle.cable_world.specs.Act.{step_at, with_step, pull_from}
+use Rattle.cable_world.specs.Agreement.{level_after_one, LevelsAgree}
+use Rattle.cable_world.specs.Signals.{is_reset}
+use Rattle.cable_world.proofs.Lemmas.{power-on-apart, shown-is, Entered, Stayed, Happens, Acting, hold-happens, each-kept, not-leading, ends-in-reset, shown-same, CableEnd, cable-end, HasBegun, untouched, none-some, replaced, act-lawful, hold-lawful, signals-append}
+use Rattle.outcomes.specs.Identify.{may_speak, is_child_signal}
 use Rattle.outcomes.proofs.identify.Messages.{silent-append, quads-append, fits-silent, since-zero, since-less, since-append, since-silent}
 use Rattle.outcomes.proofs.identify.MarksKept.{enter-marked}
 use Rattle.convergence.proofs.Lemmas.{early-parentless}
-use Rattle.port_state.specs.Config.{ConfigPacket, config_packet}
+use Rattle.port_state.specs.Config.{ConfigPacket}
 
 -- ---- nodes
 
@@ -83,10 +64,10 @@ silent-reset :
 silent-reset ts h = ap silent (signals-append ts (new_signal signal.Reset ∷ [])) ∙ silent-append (signals_of ts) (signal.Reset ∷ []) h refl
 
 no-parent : (x : NodeState) (k : ℕ) → HasBegun x → IsValid x → is_port x.view.parent k ≡ true → ⊥
-no-parent x k b v p = true≢false (sym p ∙ ap (λ o. is_port o k) (early-parentless x v (ap is_before_tree b.phase)))
+no-parent x k b v p = contrary p (ap (λ o. is_port o k) (early-parentless x v (ap is_before_tree b.phase)))
 
 no-child : (x : NodeState) (k : ℕ) → HasBegun x → IsValid x → leads_down x.view.ports k ≡ true → ⊥
-no-child x k b v c = true≢false (sym c ∙ not-leading x k b v)
+no-child x k b v c = contrary c (not-leading x k b v)
 
 no-asking : (x : NodeState) (k : ℕ) → HasBegun x → is_asking x k ≡ true → ⊥
 no-asking x k b a = let start : x.view.phase ≡ ResetStart = b.phase in go x.view.phase (is_port x.view.parent k) start a
@@ -124,11 +105,11 @@ identifies-here :
 identifies-here d x p there y q back b v =
     let timer : x.view.timer ≡ 0 = b.timer in
     record {
-      quiet = λ m. absurd (true≢false (sym (ap may_speak b.phase) ∙ m));
-      hushed = λ m. absurd (true≢false (sym (ap may_speak b.phase) ∙ m));
+      quiet = λ m. contrary (ap may_speak b.phase) m;
+      hushed = λ m. contrary (ap may_speak b.phase) m;
       stale = λ r. since-less (x.view.timer - (d + 1)) 0 back (omega (arith, timer)) (since-zero back);
-      front = λ h. absurd (true≢false (sym h ∙ ap hears_packets b.phase));
-      room = λ h. absurd (true≢false (sym h ∙ ap hears_packets b.phase));
+      front = λ h. contrary h (ap hears_packets b.phase);
+      room = λ h. contrary h (ap hears_packets b.phase);
       before = λ c. absurd (no-child x p b v c);
       idle = λ c. absurd (no-child x p b v c);
       line = λ c. absurd (no-child x p b v c);
@@ -173,7 +154,7 @@ module _
     greeted = λ c r. absurd (neither c r);
     both = λ c r. absurd (neither c r);
     says_shown = λ r s. absurd (reset-child (level_shown x.state a.port) (told r).0 s);
-    says = λ r s. absurd (true≢false (sym s ∙ (told r).1));
+    says = λ r s. contrary s ((told r).1);
     accepted = λ n p r. absurd (quiet n r);
   }
     where
@@ -195,15 +176,15 @@ module _
           ≡ false → ⊥
       neither c r = elim either [
         | inl b_x ↦ no-child x.state a.port b_x (h.after.nodes a.node x at).valid c
-        | inr t ↦ true≢false (sym t ∙ r)
+        | inr t ↦ contrary t r
       ]
 
       quiet :
           hears_packets x.state.view.phase ≡ true → has_reset (signals_of (wire_of v b).signals)
           ≡ false → ⊥
       quiet n r = elim either [
-        | inl b_x ↦ true≢false (sym n ∙ ap hears_packets b_x.phase)
-        | inr t ↦ true≢false (sym t ∙ r)
+        | inl b_x ↦ contrary n (ap hears_packets b_x.phase)
+        | inr t ↦ contrary t r
       ]
 
   -- this node did alone
@@ -217,7 +198,7 @@ module _
     both = λ c r. absurd (no-child x p b val c);
     says_shown = λ r e. g.says_shown r (sym s ∙ e);
     says = g.says;
-    accepted = λ n p r. absurd (true≢false (sym n ∙ ap hears_packets b.phase));
+    accepted = λ n p r. contrary n (ap hears_packets b.phase);
   }
 
   greets-after :
@@ -323,7 +304,7 @@ free :
     (t : PortView → Bool) → t free_port ≡ false → (n k : ℕ) → port_is t (replicate n free_port)
     k ≡ true → ⊥
 free t h zero k e = true≢false (sym e)
-free t h (suc n) zero e = true≢false (sym e ∙ h)
+free t h (suc n) zero e = contrary e h
 free t h (suc n) (suc k) e = free t h n k e
 
 power-on-marked : (x : NodeState) → IsMarked (power_on x.ports x.attrs x.view.force x.timing)

@@ -1,21 +1,8 @@
 -- A turn of a lawful world keeps what is so of self identify.
 use Rattle.std.proofs.Common.{◌≡◌, ℕ, ◌+◌, ◌≤◌, length, Bool, true, false, List, [], Option, Some, None, slice_get, if◌then◌else◌, refl, sym, ◌∙◌, ap, subst, arith}
-use Rattle.port_state.specs.declared.signal.Signal.{Signal}
-use Rattle.port_state.specs.Coins.{coin}
-use Rattle.port_state.specs.Sends.{sent_on}
-use Rattle.port_state.specs.Heard.{hears_packets}
-use Rattle.port_state.specs.Machine.{PortNode}
-use Rattle.cabling.specs.declared.cable.End.{End}
-use Rattle.cabling.specs.Wiring.{Wiring, far, ports_of}
-use Rattle.cable_world.specs.Wire.{age_wire, gives}
-use Rattle.cable_world.specs.World.{CableWorld, wire_of}
-use Rattle.cable_world.specs.Turn.{inbox, signals_from, turn_at, turn}
-use Rattle.cable_world.specs.Signals.{signals_of}
-use Rattle.cable_world.specs.Lawful.{IsLawful}
-use Rattle.cable_world.proofs.Lemmas.{cabling-after, delay-after, side, side-node, side-wire, hears, ready, before, inbox-at, turn-state, comes}
-use Rattle.convergence.proofs.Lemmas.{joined-of}
-use Rattle.outcomes.specs.Messages.{quads_in, Mode, mode, fits}
-use Rattle.outcomes.specs.Identify.{Greets, Identifies, IsIdentifying}
+use Rattle.outcomes.proofs.Common.{Signal, coin, sent_on, hears_packets, PortNode, End, Wiring, far, ports_of, age_wire, gives, CableWorld, wire_of, inbox, turn_at, turn, signals_of, IsLawful, cabling-after, side, side-wire, before, turn-state, comes, joined-of, quads_in, Mode, mode, fits, Greets, Identifies, IsIdentifying}
+use Rattle.cable_world.specs.Turn.{signals_from}
+use Rattle.cable_world.proofs.Lemmas.{delay-after, side-node, hears, ready, inbox-at}
 use Rattle.outcomes.proofs.identify.MarksKept.{tick-marked}
 use Rattle.outcomes.proofs.identify.HearAll.{MayCome, HasRoom, hear-marked}
 use Rattle.outcomes.proofs.identify.GreetsTurn.{greets-turn}

@@ -1,29 +1,16 @@
 -- Hearing keeps what is so of a child cable, at either end of it.
 use Rattle.std.proofs.Common.{◌≡◌, ℕ, ◌+◌, ◌≤◌, length, Bool, true, false, not, ◌&&◌, ◌==◌, List, [], ◌∷◌, ◌++◌, refl, sym, ◌∙◌, ap, subst, append-nil, arith, true≢false, if◌then◌else◌}
-use Rattle.std.proofs.lemmas.Bool.{eq-eqb, eqb-true, eqb-false, and_parts}
-use Rattle.port_state.specs.declared.signal.Level.{Level}
+use Rattle.std.proofs.lemmas.Bool.{eq-eqb, eqb-true, eqb-false, and_parts, false_from_ne_true}
+use Rattle.outcomes.proofs.Common.{contrary, Level, Signal, PortView, NodeState, is_connected, is_port, sent_on, silent_step, is_identifying, hears_packets, with_packet, with_level, hears, is_heard, on_signal, IsValid, sound-on_signal, port_is-changed, leads_down, only, is_ready, is_asked, is_named, IsMarked, is_message, silent, quads_in, Mode, parent_mode, child_mode, mode_of, mode, allows, fits, Line, Lined, same-port}
 use Rattle.port_state.specs.declared.signal.Level.TheVariants as level
-use Rattle.port_state.specs.declared.signal.Signal.{Signal}
 use Rattle.port_state.specs.declared.signal.Signal.TheVariants as signal
-use Rattle.port_state.specs.declared.ports.PortView.{PortView}
-use Rattle.port_state.specs.declared.states.NodeState.{NodeState}
-use Rattle.port_state.specs.Ports.{is_connected, is_port}
-use Rattle.port_state.specs.Sends.{sent_on}
-use Rattle.port_state.specs.Step.{silent_step}
-use Rattle.port_state.specs.Heard.{is_identifying, hears_packets, with_packet, with_level, hears, is_heard, on_signal}
-use Rattle.port_state.specs.Valid.{IsValid}
-use Rattle.port_state.proofs.Lemmas.{sound-on_signal, on_others-port, port_is-changed}
-use Rattle.cable_world.specs.Agreement.{leads_down}
-use Rattle.cable_world.proofs.Lemmas.{only, turned}
-use Rattle.outcomes.specs.NodeMarks.{is_ready, is_asked, is_named, IsMarked}
-use Rattle.outcomes.specs.Messages.{is_message, silent, quads_in, Mode, parent_mode, child_mode, mode_of, mode, allows, fits}
-use Rattle.outcomes.specs.Identify.{Line, Lined}
+use Rattle.port_state.proofs.Lemmas.{on_others-port}
+use Rattle.cable_world.proofs.Lemmas.{turned}
 use Rattle.outcomes.proofs.identify.Messages.{silent-append, silent-quads, shut-silent}
 use Rattle.outcomes.proofs.identify.Lines.{up-level, down-level, level-fits, packet-fits, up-packet, down-packet, up-done, down-grant, packet-length, sends-down, sends-up}
 use Rattle.outcomes.proofs.identify.Ports.{changed-other, changed-here, child-role}
 use Rattle.outcomes.proofs.identify.MarksKept.{hears-late, identifying-is, awaited-one}
 use Rattle.outcomes.proofs.identify.Hearing.{message-port, message-heard, parent-connected, none-awaited, speaking, level-asked, level-named, reset-heard}
-use Rattle.convergence.proofs.Lemmas.{same-port}
 
 -- what comes to one port, or elsewhere
 abbrev pub with : Bool → Signal → List Signal → List Signal
@@ -34,11 +21,7 @@ pub unheard-level :
     (k : ℕ) (s : Signal) (x : NodeState) → IsValid x → IsMarked x →
     hears_packets x.view.phase ≡ true → allows (mode x k) s ≡ true → is_heard k s x ≡ false →
     is_message s ≡ false
-unheard-level k s x v m h a e = go (is_message s) refl
-  where
-    go : (b : Bool) → is_message s ≡ b → b ≡ false
-    go true t = absurd (true≢false (sym (message-heard k s x v m h (message-port k s x v m h t a) t a) ∙ e))
-    go false t = refl
+unheard-level k s x v m h a e = false_from_ne_true _ (λ t. contrary (message-heard k s x v m h (message-port k s x v m h t a) t a) e)
 
 -- ---- above
 
@@ -68,7 +51,7 @@ module _
       go :
           (b : Bool) → (k == p) ≡ b → Lined x p there y (with b signal.Grant back) →
           Lined x p there y back
-      go true e l = absurd (true≢false (sym i ∙ ap (is_port x.view.parent) (eqb-true k p e) ∙ (child-role x p v (hears-late x.view.phase h) d).0))
+      go true e l = contrary i (ap (is_port x.view.parent) (eqb-true k p e) ∙ (child-role x p v (hears-late x.view.phase h) d).0)
       go false e l = l
 
   above-packet :
@@ -197,7 +180,7 @@ module _
       go :
           (b : Bool) → (k == q) ≡ b → Lined x p (with b signal.Done there) y back →
           Lined x p there (hears k signal.Done y).state back
-      go true e l = absurd (true≢false (sym i ∙ ap (is_port y.view.parent) (sym (eqb-true k q e)) ∙ (child-role y k v (hears-late y.view.phase h) d).0))
+      go true e l = contrary i (ap (is_port y.view.parent) (sym (eqb-true k q e)) ∙ (child-role y k v (hears-late y.view.phase h) d).0)
       go false e l = l
 
   below-hearing :
@@ -338,7 +321,7 @@ module _
           (with b signal.Grant ss) ≡ true →
           fits (mode_of i (parent_mode (is_ready x.view.phase) true) (child_mode (is_asked x j) (is_named x j)))
           ss ≡ true
-      there true e n ei is f = absurd (true≢false (sym i ∙ ap (is_port x.view.parent) (eqb-true k j e) ∙ is ∙ ei))
+      there true e n ei is f = contrary i (ap (is_port x.view.parent) (eqb-true k j e) ∙ is ∙ ei)
       there false e false ei is f = f
       there false e true ei is f = absurd (true≢false ei)
 
@@ -442,10 +425,10 @@ others-silent x k j quad ss m ne a f = go (is_port x.view.parent k) (is_ready x.
         (b && not c) ≡ false
     by-name r false c eb ec = refl
     by-name r true true eb ec = refl
-    by-name r true false eb ec = absurd (true≢false (sym (m.all_named r j (m.asked j eb)) ∙ ec))
+    by-name r true false eb ec = contrary (m.all_named r j (m.asked j eb)) ec
 
     unasked : x.view.granted ≡ false → (b c : Bool) → is_asked x j ≡ b → (b && not c) ≡ false
-    unasked g true c e = absurd (true≢false (sym (m.asks j e) ∙ g))
+    unasked g true c e = contrary (m.asks j e) g
     unasked g false c e = refl
 
     either :

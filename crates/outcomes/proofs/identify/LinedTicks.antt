@@ -3,40 +3,21 @@ use Rattle.std.proofs.Common.{◌≡◌, ◌⊎◌, inl, inr, ℕ, ◌+◌, ◌�
 use Rattle.std.specs.Prelude.{nat_le}
 use Rattle.std.proofs.lemmas.Bool.{eqb-true, and_parts, leb-true}
 use Rattle.std.proofs.lemmas.List.{append_assoc}
-use Rattle.port_state.specs.declared.signal.Phase.{Phase}
-use Rattle.port_state.specs.declared.signal.Phase.TheVariants.{ParentShake, SelfIdent}
-use Rattle.port_state.specs.declared.signal.Signal.{Signal}
+use Rattle.outcomes.proofs.Common.{contrary, Phase, ParentShake, SelfIdent, Signal, NodeState, is_unnamed, asks, is_remaining, port_is, is_connected, is_port, lowest, sent_on, packet, with_port, hears_packets, may_name, own_group, node_count, Row, raise_timer, does, next_row, tick, IsValid, valid-raise_timer, on_every-port, sent_on-append, port_is-changed, leads_down, only, Chosen, chosen, is_ready, is_asked, is_named, IsMarked, silent, quads_in, kept, Mode, parent_mode, child_mode, mode_of, mode, fits, Line, Lined}
 use Rattle.port_state.specs.declared.signal.Signal.TheVariants as signal
-use Rattle.port_state.specs.declared.states.NodeState.{NodeState}
-use Rattle.port_state.specs.Ports.{is_unnamed, asks, is_remaining, is_child, port_is, is_connected, is_port, lowest}
-use Rattle.port_state.specs.Sends.{sent_on, packets_on_every, packet, on_port}
-use Rattle.port_state.specs.Entry.{with_port}
-use Rattle.port_state.specs.Heard.{hears_packets}
-use Rattle.port_state.specs.SelfIdentify.{may_name}
-use Rattle.port_state.specs.Group.{own_group}
-use Rattle.self_id.specs.Group.{node_count}
+use Rattle.port_state.specs.Ports.{is_child}
+use Rattle.port_state.specs.Sends.{packets_on_every, on_port}
 use Rattle.port_state.specs.Row as row
-use Rattle.port_state.specs.Row.{Row}
-use Rattle.port_state.specs.Tick.{raise_timer, does, next_row, tick}
-use Rattle.port_state.specs.Valid.{IsValid}
-use Rattle.port_state.proofs.Lemmas.{valid-raise_timer, sound-tick, on_every-port, notices-port, packets-port, sent_on-append, port_is-changed}
-use Rattle.cable_world.specs.Agreement.{leads_down}
-use Rattle.cable_world.proofs.Lemmas.{only, turned, Chosen, chosen}
-use Rattle.outcomes.specs.NodeMarks.{is_ready, is_asked, is_named, IsMarked}
-use Rattle.outcomes.specs.Messages.{is_message, silent, quads_in, kept, Mode, parent_mode, child_mode, mode_of, mode, fits}
+use Rattle.port_state.proofs.Lemmas.{sound-tick, notices-port, packets-port}
+use Rattle.cable_world.proofs.Lemmas.{turned}
 use Rattle.outcomes.specs.Messages as mode
-use Rattle.outcomes.specs.Identify.{Line, Lined}
 use Rattle.outcomes.proofs.identify.Messages.{silent-append, silent-quads, silent-fits, shut-silent, kept-room}
 use Rattle.outcomes.proofs.identify.Lines.{asks-down, sends-all-down, sends-all-up, done-up}
 use Rattle.outcomes.proofs.identify.Ports.{changed-other, changed-here, lowest-is, child-role, is-unnamed}
-use Rattle.outcomes.proofs.identify.MarksKept.{hears-late, all-named, raised-marked, Goes, goes}
+use Rattle.outcomes.proofs.identify.MarksKept.{hears-late, all-named, raised-marked}
+use Rattle.outcomes.proofs.identify.LateRows.{LateRow, rests, asks_next, names_now, late-row}
 use Rattle.outcomes.proofs.identify.Hearing.{parent-connected, only-silent}
 use Rattle.outcomes.proofs.identify.LinedHears.{Waiting}
-
--- ---- rows of other phases
-
-pub off : {f g : Phase} → f ≡ g → hears_packets g ≡ false → hears_packets f ≡ true → ⊥
-off e out h = true≢false (sym h ∙ ap hears_packets e ∙ out)
 
 -- ---- what naming sends
 
@@ -115,21 +96,11 @@ module _
       none a n e = grind arith
 
   above-does :
-      (coin : Bool) (r : Row) → Chosen r x → Goes r x →
+      (coin : Bool) (r : Row) → LateRow x r →
       Lined (does coin r x).state p (there ++ sent_on p (does coin r x).sends) y back
-  above-does coin row.none c g = above-same
-  above-does coin row.times_out c g = above-same
-  above-does coin row.ends_reset c g = absurd (off c.0 refl h)
-  above-does coin row.begins_tree c g = absurd (off c.0 refl h)
-  above-does coin row.takes_roles c g = absurd (off c.0 refl h)
-  above-does coin row.awaits_parent c g = absurd (off c refl h)
-  above-does coin row.becomes_root c g = absurd (off c.0 refl h)
-  above-does coin (row.finds_parent k) c g = absurd (off c.0 refl h)
-  above-does coin (row.begins_contention k) c g = absurd (off c.0 refl h)
-  above-does coin (row.takes_rival k) c g = absurd (off c.0 refl h)
-  above-does coin (row.asks_again k) c g = absurd (off c.0 refl h)
-  above-does coin (row.asks_child k) c g = above-asks k g.2
-  above-does coin row.names_itself c g = above-names g.1 g.2
+  above-does coin r rests = above-same
+  above-does coin r (asks_next k a) = above-asks k a.unasked
+  above-does coin r (names_now n) = above-names n.last n.room
 
 pub above-ticks :
     (coin : Bool) (x : NodeState) (p : ℕ) (there : List Signal) (y : NodeState) (back : List Signal)
@@ -137,7 +108,7 @@ pub above-ticks :
     Lined x p there y back → Lined (tick coin x).state p (there ++ sent_on p (tick coin x).sends) y back
 unfolding tick
 above-ticks coin x p there y back v h d l =
-    above-does (raise_timer x) p there y back (valid-raise_timer x v) h d l coin (next_row x) (chosen x.view.phase (raise_timer x) refl) (goes x.view.phase (raise_timer x))
+    above-does (raise_timer x) p there y back (valid-raise_timer x v) h d l coin (next_row x) (late-row x h)
 
 -- ---- below
 
@@ -154,7 +125,7 @@ module _
   below-asks port d = go (port == q) refl
     where
       go : (b : Bool) → (port == q) ≡ b → Lined x p there y (back ++ only b signal.Grant)
-      go true e = absurd (true≢false (sym i ∙ ap (is_port y.view.parent) (sym (eqb-true port q e)) ∙ (child-role y port v (hears-late y.view.phase h) d).0))
+      go true e = contrary i (ap (is_port y.view.parent) (sym (eqb-true port q e)) ∙ (child-role y port v (hears-late y.view.phase h) d).0)
       go false e = below-same
 
   below-names :
@@ -171,21 +142,11 @@ module _
       (done-up (sends-all-up quads (fits-in y may) (subst (λ b. Line (is_asked x p) (is_named x p) b false x.list.items y.list.items there back) g (subst (λ b. Line (is_asked x p) (is_named x p) y.view.granted b x.list.items y.list.items there back) r l))))
 
   below-does :
-      (coin : Bool) (r : Row) → Chosen r y → Goes r y →
+      (coin : Bool) (r : Row) → LateRow y r →
       Lined x p there (does coin r y).state (back ++ sent_on q (does coin r y).sends)
-  below-does coin row.none c g = below-same
-  below-does coin row.times_out c g = below-same
-  below-does coin row.ends_reset c g = absurd (off c.0 refl h)
-  below-does coin row.begins_tree c g = absurd (off c.0 refl h)
-  below-does coin row.takes_roles c g = absurd (off c.0 refl h)
-  below-does coin row.awaits_parent c g = absurd (off c refl h)
-  below-does coin row.becomes_root c g = absurd (off c.0 refl h)
-  below-does coin (row.finds_parent k) c g = absurd (off c.0 refl h)
-  below-does coin (row.begins_contention k) c g = absurd (off c.0 refl h)
-  below-does coin (row.takes_rival k) c g = absurd (off c.0 refl h)
-  below-does coin (row.asks_again k) c g = absurd (off c.0 refl h)
-  below-does coin (row.asks_child k) c g = below-asks k (is-unnamed y.view.ports k (lowest-is is_unnamed y.view.ports k g.1))
-  below-does coin row.names_itself c g = below-names c g.0 g.2
+  below-does coin r rests = below-same
+  below-does coin r (asks_next k a) = below-asks k (is-unnamed y.view.ports k (lowest-is is_unnamed y.view.ports k a.next))
+  below-does coin r (names_now n) = below-names n.phase n.granted n.room
 
 pub below-ticks :
     (coin : Bool) (y : NodeState) (q : ℕ) (back : List Signal) (x : NodeState) (p : ℕ)
@@ -194,27 +155,17 @@ pub below-ticks :
     Lined x p there y back → Lined x p there (tick coin y).state (back ++ sent_on q (tick coin y).sends)
 unfolding tick
 below-ticks coin y q back x p there v h i l =
-    below-does (raise_timer y) q back x p there (valid-raise_timer y v) h i l coin (next_row y) (chosen y.view.phase (raise_timer y) refl) (goes y.view.phase (raise_timer y))
+    below-does (raise_timer y) q back x p there (valid-raise_timer y v) h i l coin (next_row y) (late-row y h)
 
 -- ---- a child that waits for its grant
 
 waits-does :
     (coin : Bool) (r : Row) (y : NodeState) (q : ℕ) (back there : List Signal) →
-    hears_packets y.view.phase ≡ true → Chosen r y → Goes r y → Waiting y q back there →
+    LateRow y r → Waiting y q back there →
     Waiting (does coin r y).state q (back ++ sent_on q (does coin r y).sends) there
-waits-does coin row.none y q back there h c g w = record { parent = w.parent; ungranted = w.ungranted; nothing = w.nothing; said = silent-append back [] w.said refl; comes = w.comes }
-waits-does coin row.times_out y q back there h c g w = record { parent = w.parent; ungranted = w.ungranted; nothing = w.nothing; said = silent-append back [] w.said refl; comes = w.comes }
-waits-does coin row.ends_reset y q back there h c g w = absurd (off c.0 refl h)
-waits-does coin row.begins_tree y q back there h c g w = absurd (off c.0 refl h)
-waits-does coin row.takes_roles y q back there h c g w = absurd (off c.0 refl h)
-waits-does coin row.awaits_parent y q back there h c g w = absurd (off c refl h)
-waits-does coin row.becomes_root y q back there h c g w = absurd (off c.0 refl h)
-waits-does coin (row.finds_parent k) y q back there h c g w = absurd (off c.0 refl h)
-waits-does coin (row.begins_contention k) y q back there h c g w = absurd (off c.0 refl h)
-waits-does coin (row.takes_rival k) y q back there h c g w = absurd (off c.0 refl h)
-waits-does coin (row.asks_again k) y q back there h c g w = absurd (off c.0 refl h)
-waits-does coin (row.asks_child k) y q back there h c g w = absurd (true≢false (sym g.0 ∙ w.ungranted))
-waits-does coin row.names_itself y q back there h c g w = absurd (true≢false (sym g.0 ∙ w.ungranted))
+waits-does coin r y q back there rests w = record { parent = w.parent; ungranted = w.ungranted; nothing = w.nothing; said = silent-append back [] w.said refl; comes = w.comes }
+waits-does coin r y q back there (asks_next k a) w = contrary a.granted w.ungranted
+waits-does coin r y q back there (names_now n) w = contrary n.granted w.ungranted
 
 pub waits-ticks :
     (coin : Bool) (y : NodeState) (q : ℕ) (back there : List Signal) →
@@ -222,7 +173,7 @@ pub waits-ticks :
     Waiting (tick coin y).state q (back ++ sent_on q (tick coin y).sends) there
 unfolding tick
 waits-ticks coin y q back there h w =
-    waits-does coin (next_row y) (raise_timer y) q back there h (chosen y.view.phase (raise_timer y) refl) (goes y.view.phase (raise_timer y))
+    waits-does coin (next_row y) (raise_timer y) q back there (late-row y h)
     (record { parent = w.parent; ungranted = w.ungranted; nothing = w.nothing; said = w.said; comes = w.comes })
 
 -- ---- what may come to each port
@@ -274,21 +225,11 @@ module _
       go false r b er eb f = f
 
   front-does :
-      (coin : Bool) (r : Row) → Chosen r x → Goes r x → fits (mode (does coin r x).state j)
+      (coin : Bool) (r : Row) → LateRow x r → fits (mode (does coin r x).state j)
       ss ≡ true
-  front-does coin row.none c g = f
-  front-does coin row.times_out c g = f
-  front-does coin row.ends_reset c g = absurd (off c.0 refl h)
-  front-does coin row.begins_tree c g = absurd (off c.0 refl h)
-  front-does coin row.takes_roles c g = absurd (off c.0 refl h)
-  front-does coin row.awaits_parent c g = absurd (off c refl h)
-  front-does coin row.becomes_root c g = absurd (off c.0 refl h)
-  front-does coin (row.finds_parent k) c g = absurd (off c.0 refl h)
-  front-does coin (row.begins_contention k) c g = absurd (off c.0 refl h)
-  front-does coin (row.takes_rival k) c g = absurd (off c.0 refl h)
-  front-does coin (row.asks_again k) c g = absurd (off c.0 refl h)
-  front-does coin (row.asks_child k) c g = front-asks k (is-unnamed x.view.ports k (lowest-is is_unnamed x.view.ports k g.1)) g.2
-  front-does coin row.names_itself c g = front-names c g.0
+  front-does coin r rests = f
+  front-does coin r (asks_next k a) = front-asks k (is-unnamed x.view.ports k (lowest-is is_unnamed x.view.ports k a.next)) a.unasked
+  front-does coin r (names_now n) = front-names n.phase n.granted
 
 pub front-ticks :
     (coin : Bool) (x : NodeState) (j : ℕ) (ss : List Signal) → IsValid x → IsMarked x →
@@ -296,7 +237,7 @@ pub front-ticks :
     fits (mode (tick coin x).state j) ss ≡ true
 unfolding tick
 front-ticks coin x j ss v m h f =
-    front-does (raise_timer x) j ss (valid-raise_timer x v) (raised-marked x m) h f coin (next_row x) (chosen x.view.phase (raise_timer x) refl) (goes x.view.phase (raise_timer x))
+    front-does (raise_timer x) j ss (valid-raise_timer x v) (raised-marked x m) h f coin (next_row x) (late-row x h)
 
 -- ---- the room in the list
 
@@ -318,14 +259,15 @@ module _
       go true false true a n er eb ea en f = shut-silent ss f
       go false r b true true er eb ea en f = shut-silent ss f
       go false r b false n er eb ea en f = shut-silent ss f
-      go false r b true false er eb ea en f = absurd (true≢false (sym (all-named x v (hears-late x.view.phase h) low j (m.asked j ea)) ∙ en))
+      go false r b true false er eb ea en f = contrary (all-named x v (hears-late x.view.phase h) low j (m.asked j ea)) en
 
   room-does :
-      (coin : Bool) (r : Row) → Chosen r x → Goes r x →
+      (coin : Bool) (r : Row) → LateRow x r →
       length (does coin r x).state.list.items ≤ 252 →
       length (does coin r x).state.list.items + length (quads_in ss) ≤ 252
-  room-does coin row.names_itself c g l = omega (arith, l, ap length (silent-quads ss (names-silent c g.0 g.1)))
-  room-does coin r c g l = free
+  room-does coin r rests l = free
+  room-does coin r (asks_next k a) l = free
+  room-does coin r (names_now n) l = omega (arith, l, ap length (silent-quads ss (names-silent n.phase n.granted n.last)))
 
 pub room-ticks :
     (coin : Bool) (x : NodeState) (j : ℕ) (ss : List Signal) → IsValid x → IsMarked x →
@@ -334,7 +276,7 @@ pub room-ticks :
     length (tick coin x).state.list.items + length (quads_in ss) ≤ 252
 unfolding tick
 room-ticks coin x j ss v m h f free =
-    room-does (raise_timer x) j ss (valid-raise_timer x v) (raised-marked x m) h f free coin (next_row x) (chosen x.view.phase (raise_timer x) refl) (goes x.view.phase (raise_timer x)) (sound-tick coin x v).valid.bounded.list
+    room-does (raise_timer x) j ss (valid-raise_timer x v) (raised-marked x m) h f free coin (next_row x) (late-row x h) (sound-tick coin x v).valid.bounded.list
 
 -- ---- phases
 
@@ -343,38 +285,28 @@ pub ticks-on :
     (coin : Bool) (x : NodeState) → hears_packets x.view.phase ≡ true →
     hears_packets (tick coin x).state.view.phase ≡ true
 unfolding tick
-ticks-on coin x h = go (next_row x) (chosen x.view.phase (raise_timer x) refl)
+ticks-on coin x h = go (next_row x) (late-row x h)
   where
     go :
-        (r : Row) → Chosen r (raise_timer x) →
+        (r : Row) → LateRow (raise_timer x) r →
         hears_packets (does coin r (raise_timer x)).state.view.phase ≡ true
-    go row.none c = h
-    go row.times_out c = h
-    go row.ends_reset c = absurd (off c.0 refl h)
-    go row.begins_tree c = absurd (off c.0 refl h)
-    go row.takes_roles c = absurd (off c.0 refl h)
-    go row.awaits_parent c = absurd (off c refl h)
-    go row.becomes_root c = absurd (off c.0 refl h)
-    go (row.finds_parent k) c = absurd (off c.0 refl h)
-    go (row.begins_contention k) c = absurd (off c.0 refl h)
-    go (row.takes_rival k) c = absurd (off c.0 refl h)
-    go (row.asks_again k) c = absurd (off c.0 refl h)
-    go (row.asks_child k) c = h
-    go row.names_itself c = refl
+    go r rests = h
+    go r (asks_next k a) = h
+    go r (names_now n) = refl
 
 -- with its parent port
 pub ticks-parent :
     (coin : Bool) (x : NodeState) → hears_packets x.view.phase ≡ true →
     (tick coin x).state.view.parent ≡ x.view.parent
 unfolding tick
-ticks-parent coin x h = go (next_row x) (chosen x.view.phase (raise_timer x) refl)
+ticks-parent coin x h = go (next_row x) (late-row x h)
   where
     go :
-        (r : Row) → Chosen r (raise_timer x) →
+        (r : Row) → LateRow (raise_timer x) r →
         (does coin r (raise_timer x)).state.view.parent ≡ x.view.parent
-    go row.takes_roles c = absurd (off c.0 refl h)
-    go (row.takes_rival k) c = absurd (off c.0 refl h)
-    go r c = refl
+    go r rests = refl
+    go r (asks_next k a) = refl
+    go r (names_now n) = refl
 
 -- and comes to self identify at the end of T2: the root, or where its parent port shows Child
 pub record Arrives (x y : NodeState) : Type 0 where
@@ -394,14 +326,14 @@ unfolding tick
 arrives coin x h n = go (next_row x) (chosen x.view.phase (raise_timer x) refl) n
   where
     on : {g : Phase} → x.view.phase ≡ g → hears_packets g ≡ true → ⊥
-    on e t = true≢false (sym t ∙ ap hears_packets (sym e) ∙ h)
+    on e t = contrary t (ap hears_packets (sym e) ∙ h)
 
     go :
         (r : Row) → Chosen r (raise_timer x) →
         hears_packets (does coin r (raise_timer x)).state.view.phase ≡ true →
         Arrives x (does coin r (raise_timer x)).state
-    go row.none c n = absurd (true≢false (sym n ∙ h))
-    go row.times_out c n = absurd (true≢false (sym n ∙ h))
+    go row.none c n = contrary n h
+    go row.times_out c n = contrary n h
     go row.ends_reset c n = absurd (true≢false (sym n))
     go row.begins_tree c n = absurd (true≢false (sym n))
     go row.takes_roles c n = absurd (true≢false (sym n))
@@ -430,7 +362,7 @@ unfolding tick
 tick-silent coin x k h = go (next_row x) (chosen x.view.phase (raise_timer x) refl)
   where
     on : {g : Phase} → x.view.phase ≡ g → hears_packets g ≡ true → ⊥
-    on e t = true≢false (sym t ∙ ap hears_packets (sym e) ∙ h)
+    on e t = contrary t (ap hears_packets (sym e) ∙ h)
 
     notice :
         (a l : Bool) →

@@ -1,20 +1,9 @@
 -- A turn keeps what is so of a child cable: first the node at one end takes it, and then the node
 -- at the other.
-use Rattle.std.proofs.Common.{◌≡◌, ◌⊎◌, inl, inr, ℕ, ◌+◌, ◌≤◌, length, Bool, true, false, List, [], ◌++◌, map, sym, ◌∙◌, ap, subst, arith, append-nil, true≢false, if◌then◌else◌}
+use Rattle.std.proofs.Common.{◌≡◌, ◌⊎◌, inl, inr, ℕ, ◌+◌, ◌≤◌, length, Bool, true, false, List, [], ◌++◌, map, sym, ◌∙◌, ap, subst, arith, append-nil, if◌then◌else◌}
 use Rattle.std.proofs.lemmas.List.{append_assoc}
-use Rattle.port_state.specs.declared.signal.Signal.{Signal}
-use Rattle.port_state.specs.declared.states.NodeState.{NodeState}
-use Rattle.port_state.specs.Ports.{is_port}
-use Rattle.port_state.specs.Sends.{sent_on}
-use Rattle.port_state.specs.Heard.{is_resetting, hears_packets, on_signal}
-use Rattle.port_state.specs.Valid.{IsValid}
-use Rattle.cable_world.specs.Wire.{age_signal}
-use Rattle.cable_world.specs.Signals.{signals_of}
-use Rattle.cable_world.specs.Agreement.{leads_down}
-use Rattle.cable_world.proofs.Lemmas.{signals-older, Side, hearing, ticking, arrivals, leftovers, departures, wire_after, after_signals, Pair, no-packets}
-use Rattle.outcomes.specs.NodeMarks.{is_ready, is_asked, is_named, IsMarked}
-use Rattle.outcomes.specs.Messages.{silent, quads_in, Mode, parent_mode, child_mode, mode, fits}
-use Rattle.outcomes.specs.Identify.{Lined}
+use Rattle.outcomes.proofs.Common.{contrary, Signal, NodeState, is_port, sent_on, is_resetting, hears_packets, on_signal, IsValid, age_signal, signals_of, leads_down, Side, hearing, ticking, arrivals, leftovers, departures, wire_after, after_signals, Pair, no-packets, is_ready, is_asked, is_named, IsMarked, silent, quads_in, Mode, parent_mode, child_mode, mode, fits, Lined}
+use Rattle.cable_world.proofs.Lemmas.{signals-older}
 use Rattle.outcomes.proofs.identify.Messages.{fits-silent, silent-append, silent-quads, quads-append}
 use Rattle.outcomes.proofs.identify.Hearing.{Stays, signal-stays}
 use Rattle.outcomes.proofs.identify.LinedHears.{above-hears, below-hears, waits-hears, front-hears, room-hears, Waiting}
@@ -152,7 +141,7 @@ pub front-turn :
     (ticking s).state.list.items pend
 front-turn s a pend f n r = elim (takes s a (Fits-at s.port) (λ o. Unit {0}) (keeps-front s.port) (λ out pend m g. (front-ticks s.coin (hearing s).state s.port pend a.heard_valid (able-marked s a) m g.0, room-ticks s.coin (hearing s).state s.port pend a.heard_valid (able-marked s a) m g.0 g.1)) [] pend f) [
   | inl t ↦ t.1
-  | inr t ↦ absurd (true≢false (sym t.0 ∙ r))
+  | inr t ↦ contrary t.0 r
 ]
 
 -- ---- both ends
@@ -225,9 +214,9 @@ module _
   lined-turn rx ry = elim above-first [
     | inl t ↦ elim (then-below t.1) [
       | inl u ↦ subst (λ ss. Lined (ticking x).state x.port (signals_of (wire_after x)) (ticking y).state ss) (sym (after_signals y)) u.1.1
-      | inr u ↦ absurd (true≢false (sym u.0 ∙ ry))
+      | inr u ↦ contrary u.0 ry
     ]
-    | inr t ↦ absurd (true≢false (sym t.0 ∙ rx))
+    | inr t ↦ contrary t.0 rx
   ]
 
   -- what then comes to the node above, and to the node below
@@ -237,7 +226,7 @@ module _
       (ticking x).state.list.items (signals_of (wire_after y))
   above-front rx = subst (Comes (child_mode (is_asked (ticking x).state x.port) (is_named (ticking x).state x.port)) (ticking x).state.list.items) (sym (after_signals y)) (elim above-first [
     | inl t ↦ elim (then-below t.1) [ inl u ↦ (u.1.1.fits_up, u.1.1.room_up) | inr u ↦ u.1 ]
-    | inr t ↦ absurd (true≢false (sym t.0 ∙ rx))
+    | inr t ↦ contrary t.0 rx
   ])
 
   pub below-front :
@@ -246,5 +235,5 @@ module _
       (ticking y).state.list.items (signals_of (wire_after x))
   below-front ry = subst (Comes (parent_mode (is_ready (ticking y).state.view.phase) (ticking y).state.view.granted) (ticking y).state.list.items) (sym (after_signals x)) (elim below-first [
     | inl t ↦ elim (then-above t.1) [ inl u ↦ (u.1.1.fits_down, u.1.1.room_down) | inr u ↦ u.1 ]
-    | inr t ↦ absurd (true≢false (sym t.0 ∙ ry))
+    | inr t ↦ contrary t.0 ry
   ])

@@ -3,14 +3,11 @@ use Rattle.std.proofs.Common.{◌≡◌, ℕ, ◌+◌, ◌≤◌, Bool, true, fa
 use Rattle.std.specs.Prelude.{nat_lt}
 use Rattle.std.proofs.lemmas.Bool.{and_parts}
 use Rattle.std.proofs.lemmas.List.{append_assoc}
-use Rattle.port_state.specs.declared.signal.Signal.{Signal}
+use Rattle.outcomes.proofs.Common.{contrary, Signal, packet, with_packet, is_message, silent, quads_in, has_grant, has_done, kept, Mode, parent_mode, child_mode, allows, next, fits, Line}
 use Rattle.port_state.specs.declared.signal.Signal.TheVariants as signal
-use Rattle.port_state.specs.Sends.{packet}
-use Rattle.port_state.specs.Heard.{with_packet}
 use Rattle.outcomes.specs.Messages as mode
-use Rattle.outcomes.specs.Messages.{is_message, silent, quads_in, has_grant, has_done, kept, Mode, parent_mode, child_mode, allows, next, fits}
-use Rattle.outcomes.specs.Identify.{speaks, Line}
-use Rattle.outcomes.proofs.identify.Messages.{quads-append, has_grant-append, has_done-append, kept-append, kept-room, silent-quads, silent-grant, silent-done, silent-fits, shut-silent, nexts, fits-add, fits-silent, nexts-packets, nexts-grant, nexts-done}
+use Rattle.outcomes.specs.Identify.{speaks}
+use Rattle.outcomes.proofs.identify.Messages.{quads-append, has_grant-append, has_done-append, kept-append, kept-room, silent-quads, silent-grant, silent-done, silent-fits, shut-silent, nexts, fits-add, nexts-packets, nexts-grant, nexts-done}
 
 -- ---- signals that change nothing
 
@@ -94,22 +91,6 @@ down-level {a} {n} {g} {r} {above} {below} {down} {up} s h l = down-same (sym (l
 -- levels are sent
 or-false : (b : Bool) → (b || false) ≡ b
 or-false b = grind arith
-
-pub up-silent :
-    {a n g r : Bool} {above below : List ℕ} {down up : List Signal} (ss : List Signal) →
-    silent ss ≡ true → Line a n g r above below down up → Line a n g r above below down (up ++ ss)
-up-silent {a} {n} {g} {r} {above} {below} {down} {up} ss h l = up-same
-    (quads-append up ss ∙ ap (λ t. quads_in up ++ t) (silent-quads ss h) ∙ append-nil (quads_in up))
-    (has_done-append up ss ∙ ap (λ b. has_done up || b) (silent-done ss h) ∙ or-false (has_done up))
-    (λ f. fits-silent (child_mode a n) up ss f h) l
-
-pub down-silent :
-    {a n g r : Bool} {above below : List ℕ} {down up : List Signal} (ss : List Signal) →
-    silent ss ≡ true → Line a n g r above below down up → Line a n g r above below (down ++ ss) up
-down-silent {a} {n} {g} {r} {above} {below} {down} {up} ss h l = down-same
-    (quads-append down ss ∙ ap (λ t. quads_in down ++ t) (silent-quads ss h) ∙ append-nil (quads_in down))
-    (has_grant-append down ss ∙ ap (λ b. has_grant down || b) (silent-grant ss h) ∙ or-false (has_grant down))
-    (λ f. fits-silent (parent_mode r g) down ss f h) l
 
 -- ---- hearing
 
@@ -266,7 +247,7 @@ sends-down {a} {n} {g} {r} {above} {below} {down} {up} quad h free l = record {
   agree =
       one-more above below (quads_in down) quad (quads_in up) (l.no_up (quiet a n g h l.grants)) l.agree
       ∙ ap (kept below) (sym (quads-append down (signal.Packet quad ∷ [])));
-  no_down = λ s. absurd (true≢false (sym s ∙ quiet a n g h l.grants));
+  no_down = λ s. contrary s (quiet a n g h l.grants);
   no_up = l.no_up;
   fits_down = fits-add (parent_mode r g) down (signal.Packet quad ∷ []) l.fits_down (allowed a n g r h l);
   fits_up = l.fits_up;

@@ -1,18 +1,7 @@
 -- On a cable whose two ends are in self identify or A0, one list follows the other.
 use Rattle.std.proofs.Common.{◌≡◌, ◌⊎◌, inl, inr, ℕ, Bool, true, false, not, List, [], ◌++◌, Some, slice_get, refl, sym, ◌∙◌, ap}
-use Rattle.port_state.specs.declared.signal.Signal.{Signal}
-use Rattle.port_state.specs.Ports.{is_port}
-use Rattle.port_state.specs.Heard.{hears_packets}
-use Rattle.port_state.specs.Machine.{PortNode}
-use Rattle.cabling.specs.declared.cable.End.{End}
-use Rattle.cabling.specs.Wiring.{far}
-use Rattle.cable_world.specs.World.{CableWorld, wire_of}
-use Rattle.cable_world.specs.Signals.{signals_of, has_reset}
-use Rattle.cable_world.specs.Agreement.{leads_down}
-use Rattle.cable_world.specs.Lawful.{IsLawful}
-use Rattle.cable_world.proofs.Lemmas.{child-if, cable-connected, late-roles, no-packets}
-use Rattle.outcomes.specs.Messages.{quads_in, kept}
-use Rattle.outcomes.specs.Identify.{speaks, Line, Lined, IsIdentifying}
+use Rattle.outcomes.proofs.Common.{Signal, is_port, hears_packets, PortNode, End, far, CableWorld, wire_of, signals_of, has_reset, leads_down, IsLawful, child-if, cable-connected, late-roles, no-packets, quads_in, kept, Line, Lined, IsIdentifying}
+use Rattle.outcomes.specs.Identify.{speaks}
 use Rattle.outcomes.specs.Lists.{Follows, ListsFollow}
 use Rattle.outcomes.proofs.identify.Messages.{kept-room}
 use Rattle.outcomes.proofs.identify.MarksKept.{hears-late}

@@ -2,31 +2,16 @@
 use Rattle.std.proofs.Common.{◌≡◌, ◌⊎◌, inl, inr, ℕ, ◌<◌, Bool, true, false, not, ◌&&◌, ◌==◌, map, Option, Some, None, slice_get, is_some, refl, sym, ◌∙◌, ap, subst, arith, true≢false, if◌then◌else◌}
 use Rattle.std.specs.Option.{option_map}
 use Rattle.std.proofs.lemmas.Bool.{eqb-true, eqb-false, and_parts}
-use Rattle.port_state.specs.declared.signal.Level.{Level}
+use Rattle.outcomes.proofs.Common.{contrary, Level, Phase, SelfIdent, Signal, PortView, NodeState, is_unnamed, passes, port_is, is_connected, is_port, lowest, change_port, silent_step, enter, with_port, is_resetting, is_identifying, hears_packets, with_level, hears, is_heard, on_signal, Row, raise_timer, does, next_row, tick, IsValid, valid-raise_timer, port_is-changed, is_before_tree, leads_down, Chosen, chosen, is_ready, is_asked, is_named, IsMarked, parent_mode, child_mode, mode_of, mode, allows}
 use Rattle.port_state.specs.declared.signal.Level.TheVariants as level
-use Rattle.port_state.specs.declared.signal.Phase.{Phase}
-use Rattle.port_state.specs.declared.signal.Phase.TheVariants.{ResetStart, ResetWait, TreeStart, ChildShake, ParentShake, Contend, SelfIdent, Ready}
-use Rattle.port_state.specs.declared.signal.Signal.{Signal}
 use Rattle.port_state.specs.declared.signal.Signal.TheVariants as signal
-use Rattle.port_state.specs.declared.ports.PortView.{PortView}
-use Rattle.port_state.specs.declared.states.NodeState.{NodeState}
-use Rattle.port_state.specs.Ports.{is_unnamed, passes, port_is, is_connected, is_port, lowest, change_port}
-use Rattle.port_state.specs.Step.{silent_step}
-use Rattle.port_state.specs.Entry.{enter, with_port, without_marks}
-use Rattle.port_state.specs.Heard.{is_resetting, is_identifying, hears_packets, with_level, hears, is_heard, on_signal}
-use Rattle.port_state.specs.SelfIdentify.{may_name, granted_row}
+use Rattle.port_state.specs.Entry.{without_marks}
 use Rattle.port_state.specs.TreeIdentify as tree
 use Rattle.port_state.specs.Row as row
-use Rattle.port_state.specs.Row.{Row}
-use Rattle.port_state.specs.Tick.{raise_timer, row_of, does, next_row, tick}
-use Rattle.port_state.specs.Valid.{IsValid}
-use Rattle.port_state.proofs.Lemmas.{valid-raise_timer, map-port, port_is-changed, port_is-map}
-use Rattle.cable_world.specs.Phases.{is_before_tree}
-use Rattle.cable_world.specs.Agreement.{leads_down}
-use Rattle.cable_world.proofs.Lemmas.{choose, none-some, Chosen, chosen}
-use Rattle.outcomes.specs.NodeMarks.{is_ready, is_asked, is_named, IsMarked}
-use Rattle.outcomes.specs.Messages.{parent_mode, child_mode, mode_of, mode, allows}
+use Rattle.port_state.proofs.Lemmas.{map-port, port_is-map}
+use Rattle.cable_world.proofs.Lemmas.{none-some}
 use Rattle.outcomes.proofs.identify.Ports.{changed-other, changed-here, changed-was, none-lowest, lowest-first, lowest-is, child-role, not-unnamed, is-unnamed}
+use Rattle.outcomes.proofs.identify.LateRows.{LateRow, rests, asks_next, names_now, late-row}
 
 -- ---- phases
 
@@ -57,23 +42,23 @@ awaited-one x m j k ne a n = go (is_asked x k) (is_named x k) refl refl
     go false c e f = refl
     go true true e f = refl
     go true false e f = elim (apart j k (eqb-false j k ne)) [
-      | inl l ↦ absurd (true≢false (sym (m.order j k l e (m.asked j a)) ∙ n))
-      | inr l ↦ absurd (true≢false (sym (m.order k j l a (m.asked k e)) ∙ f))
+      | inl l ↦ contrary (m.order j k l e (m.asked j a)) n
+      | inr l ↦ contrary (m.order k j l a (m.asked k e)) f
     ]
+
+pub waits-none : (a n : Bool) → a ≡ true → n ≡ false → (a && not n) ≡ false → ⊥
+waits-none true false ea en e = true≢false e
+waits-none true true ea en e = true≢false en
+waits-none false n ea en e = true≢false (sym ea)
 
 pub one-awaited :
     (x : NodeState) → IsMarked x → (p q : ℕ) → is_asked x p ≡ true → is_named x p ≡ false →
     is_asked x q ≡ true → is_named x q ≡ false → p ≡ q
 one-awaited x m p q asked unnamed also yet = go (p == q) refl
   where
-    awaited : (a n : Bool) → a ≡ true → n ≡ false → (a && not n) ≡ false → ⊥
-    awaited true false ea en e = true≢false e
-    awaited true true ea en e = true≢false en
-    awaited false n ea en e = true≢false (sym ea)
-
     go : (b : Bool) → (p == q) ≡ b → p ≡ q
     go true e = eqb-true p q e
-    go false e = absurd (awaited (is_asked x q) (is_named x q) also yet (awaited-one x m p q e asked unnamed))
+    go false e = absurd (waits-none (is_asked x q) (is_named x q) also yet (awaited-one x m p q e asked unnamed))
 
 -- ---- records that differ little
 
@@ -99,7 +84,7 @@ same-marked x y ph i g p l c a n m = record {
 pub none-asked :
     (x : NodeState) → IsMarked x → hears_packets x.view.phase ≡ false → (k : ℕ) →
     is_asked x k ≡ true → ⊥
-none-asked x m h k a = true≢false (sym (m.granted (m.asks k a)) ∙ h)
+none-asked x m h k a = contrary (m.granted (m.asks k a)) h
 
 -- a node before self identify goes on
 from-early :
@@ -112,8 +97,8 @@ from-early x y m h r i l a n g o =
     record {
       id = ap is_some i ∙ m.id ∙ unready x.view.phase h ∙ sym r;
       granted = g;
-      ready = λ e. absurd (true≢false (sym e ∙ r));
-      all_named = λ e. absurd (true≢false (sym e ∙ r));
+      ready = λ e. contrary e r;
+      all_named = λ e. contrary e r;
       root = o;
       unheard = λ e. l ∙ m.unheard h;
       named = λ k e. absurd (none-asked x m h k (m.named k (sym (n k) ∙ e)));
@@ -131,7 +116,7 @@ clear x t h k e = go (slice_get x.view.ports k) (sym (ap (passes t) (map-port k 
   where
     go : (o : Option PortView) → passes t (option_map without_marks o) ≡ true → ⊥
     go None e = true≢false (sym e)
-    go (Some p) e = true≢false (sym e ∙ h p)
+    go (Some p) e = contrary e (h p)
 
 pub enter-marked : (caused : Bool) (x : NodeState) → IsMarked (enter caused x).state
 unfolding enter
@@ -208,7 +193,7 @@ hears-marked n (signal.Packet quad) x v m e h =
       ready = m.ready;
       all_named = m.all_named;
       root = m.root;
-      unheard = λ o. absurd (true≢false (sym b.1 ∙ o));
+      unheard = λ o. contrary b.1 o;
       named = m.named;
       asked = m.asked;
       asks = m.asks;
@@ -264,36 +249,6 @@ signal-marked n s x v m h = go (is_heard n s x) refl
 
 -- ---- a tick
 
--- what is known where a granted node goes on
-abbrev pub Goes : Row → NodeState → Type 0
-Goes (row.asks_child p) x = (x.view.granted ≡ true) × (lowest is_unnamed x.view.ports ≡ Some p) × (port_is (λ q. q.asked) x.view.ports p ≡ false)
-Goes row.names_itself x = (x.view.granted ≡ true) × (lowest is_unnamed x.view.ports ≡ None) × (may_name x ≡ true)
-Goes r x = Unit {0}
-
-goes-granted :
-    (o : Option ℕ) (x : NodeState) → lowest is_unnamed x.view.ports ≡ o → x.view.granted ≡ true →
-    Goes (granted_row o x) x
-goes-granted None x e g = choose (λ r. Goes r x) (may_name x) row.names_itself row.none (λ h. (g, e, h)) (λ _. tt)
-goes-granted (Some p) x e g = choose (λ r. Goes r x) (port_is (λ q. q.asked) x.view.ports p) row.none (row.asks_child p) (λ _. tt) (λ h. (g, e, h))
-
-goes-contends : (o : Option ℕ) (x : NodeState) → Goes (tree.contend_at o x) x
-goes-contends None x = tt
-goes-contends (Some p) x = choose (λ r. Goes r x) (port_is (λ q. _) x.view.ports p) (row.takes_rival p) (row.asks_again p) (λ _. tt) (λ _. tt)
-
-goes-shakes : (o : Option ℕ) (x : NodeState) → Goes (tree.parent_shake_at o x) x
-goes-shakes None x = tt
-goes-shakes (Some p) x = choose (λ r. Goes r x) (port_is (λ q. _) x.view.ports p) (row.finds_parent p) _ (λ _. tt) (λ _. choose (λ r. Goes r x) (port_is (λ q. _) x.view.ports p) (row.begins_contention p) row.none (λ _. tt) (λ _. tt))
-
-pub goes : (f : Phase) (x : NodeState) → Goes (row_of f x) x
-goes ResetStart x = choose (λ r. Goes r x) _ row.ends_reset row.none (λ _. tt) (λ _. tt)
-goes ResetWait x = choose (λ r. Goes r x) _ row.begins_tree row.none (λ _. tt) (λ _. tt)
-goes TreeStart x = choose (λ r. Goes r x) (tree.is_decided x) row.takes_roles _ (λ _. tt) (λ _. choose (λ r. Goes r x) _ row.times_out row.none (λ _. tt) (λ _. tt))
-goes ChildShake x = choose (λ r. Goes r x) _ row.awaits_parent row.none (λ _. tt) (λ _. tt)
-goes ParentShake x = goes-shakes x.view.parent x
-goes Contend x = choose (λ r. Goes r x) _ (tree.contend_at x.view.parent x) row.none (λ _. goes-contends x.view.parent x) (λ _. tt)
-goes SelfIdent x = choose (λ r. Goes r x) x.view.granted (granted_row (lowest is_unnamed x.view.ports) x) row.none (λ g. goes-granted (lowest is_unnamed x.view.ports) x refl g) (λ _. tt)
-goes Ready x = tt
-
 asks-marked :
     (x : NodeState) (p : ℕ) → IsValid x → IsMarked x → x.view.phase ≡ SelfIdent →
     x.view.granted ≡ true → lowest is_unnamed x.view.ports ≡ Some p →
@@ -345,16 +300,17 @@ pub all-named :
     is_named x k ≡ true
 all-named x v late low k d = not-unnamed x.view.ports k (none-lowest is_unnamed 0 x.view.ports low k) (child-role x k v late d).1 d
 
-row-marked :
-    (coin : Bool) (r : Row) (x : NodeState) → IsValid x → Chosen r x → Goes r x → IsMarked x →
-    IsMarked (does coin r x).state
-row-marked coin row.none x v c g m = m
-row-marked coin row.times_out x v c g m = same-marked x (tree.times_out x).state refl refl refl refl refl (λ k. refl) (λ k. refl) (λ k. refl) m
-row-marked coin row.ends_reset x v c g m = from-early x _ m (ap hears_packets c.0) refl refl refl (λ k. refl) (λ k. refl) (λ h. sym (ap hears_packets c.0) ∙ m.granted h) (λ h. absurd (true≢false (sym h)))
-row-marked coin row.begins_tree x v c g m = from-early x _ m (ap hears_packets c.0) refl refl refl (λ k. refl) (λ k. refl) (λ h. sym (ap hears_packets c.0) ∙ m.granted h) (λ h. absurd (true≢false (sym h)))
-row-marked coin row.takes_roles x v c g m =
-    from-early x _ m (ap hears_packets c.0) refl refl refl (port_is-map (λ p. p.asked) tree.adopt (λ p. asks-same p) x.view.ports) (port_is-map (λ p. p.named) tree.adopt (λ p. names-same p) x.view.ports)
-    (λ h. sym (ap hears_packets c.0) ∙ m.granted h) (λ h. absurd (true≢false (sym h)))
+-- at a tick before self identify
+early-marked :
+    (coin : Bool) (r : Row) (x : NodeState) → hears_packets x.view.phase ≡ false → Chosen r x →
+    IsMarked x → IsMarked (does coin r x).state
+early-marked coin row.none x h c m = m
+early-marked coin row.times_out x h c m = same-marked x (tree.times_out x).state refl refl refl refl refl (λ k. refl) (λ k. refl) (λ k. refl) m
+early-marked coin row.ends_reset x h c m = from-early x _ m h refl refl refl (λ k. refl) (λ k. refl) (λ g. sym h ∙ m.granted g) (λ h. absurd (true≢false (sym h)))
+early-marked coin row.begins_tree x h c m = from-early x _ m h refl refl refl (λ k. refl) (λ k. refl) (λ g. sym h ∙ m.granted g) (λ h. absurd (true≢false (sym h)))
+early-marked coin row.takes_roles x h c m =
+    from-early x _ m h refl refl refl (port_is-map (λ p. p.asked) tree.adopt (λ p. asks-same p) x.view.ports) (port_is-map (λ p. p.named) tree.adopt (λ p. names-same p) x.view.ports)
+    (λ g. sym h ∙ m.granted g) (λ h. absurd (true≢false (sym h)))
   where
     asks-same : (p : PortView) → (tree.adopt p).asked ≡ p.asked
     asks-same p = go _
@@ -369,26 +325,34 @@ row-marked coin row.takes_roles x v c g m =
         go : (b : Bool) → (if b then record p { child = true } else p).named ≡ p.named
         go true = refl
         go false = refl
-row-marked coin row.awaits_parent x v c g m = from-early x _ m (ap hears_packets c) refl refl refl (λ k. refl) (λ k. refl) (λ h. sym (ap hears_packets c) ∙ m.granted h) (λ h. absurd (true≢false (sym h)))
-row-marked coin row.becomes_root x v c g m = from-early x _ m (ap hears_packets c.0) refl refl refl (λ k. refl) (λ k. refl) (λ h. refl) (λ h o. refl)
-row-marked coin (row.finds_parent p) x v c g m = from-early x _ m (ap hears_packets c.0) refl refl refl (λ k. refl) (λ k. refl) (λ h. refl) (λ h o. absurd (none-some x.view.parent p o c.1))
-row-marked coin (row.begins_contention p) x v c g m = from-early x _ m (ap hears_packets c.0) refl refl refl (λ k. refl) (λ k. refl) (λ h. sym (ap hears_packets c.0) ∙ m.granted h) (λ h. absurd (true≢false (sym h)))
-row-marked coin (row.takes_rival p) x v c g m =
-    from-early x _ m (ap hears_packets c.0) refl refl refl
+early-marked coin row.awaits_parent x h c m = from-early x _ m h refl refl refl (λ k. refl) (λ k. refl) (λ g. sym h ∙ m.granted g) (λ h. absurd (true≢false (sym h)))
+early-marked coin row.becomes_root x h c m = from-early x _ m h refl refl refl (λ k. refl) (λ k. refl) (λ h. refl) (λ h o. refl)
+early-marked coin (row.finds_parent p) x h c m = from-early x _ m h refl refl refl (λ k. refl) (λ k. refl) (λ h. refl) (λ h o. absurd (none-some x.view.parent p o c.1))
+early-marked coin (row.begins_contention p) x h c m = from-early x _ m h refl refl refl (λ k. refl) (λ k. refl) (λ g. sym h ∙ m.granted g) (λ h. absurd (true≢false (sym h)))
+early-marked coin (row.takes_rival p) x h c m =
+    from-early x _ m h refl refl refl
     (port_is-changed (λ q. q.asked) p (λ q. record q { child = true }) (λ q. refl) x.view.ports) (port_is-changed (λ q. q.named) p (λ q. record q { child = true }) (λ q. refl) x.view.ports)
-    (λ h. sym (ap hears_packets c.0) ∙ m.granted h) (λ h. absurd (true≢false (sym h)))
-row-marked coin (row.asks_again p) x v c g m = from-early x _ m (ap hears_packets c.0) refl refl refl (λ k. refl) (λ k. refl) (λ h. sym (ap hears_packets c.0) ∙ m.granted h) (λ h. absurd (true≢false (sym h)))
-row-marked coin (row.asks_child p) x v c g m = asks-marked x p v m c g.0 g.1
-row-marked coin row.names_itself x v c g m = record {
+    (λ g. sym h ∙ m.granted g) (λ h. absurd (true≢false (sym h)))
+early-marked coin (row.asks_again p) x h c m = from-early x _ m h refl refl refl (λ k. refl) (λ k. refl) (λ g. sym h ∙ m.granted g) (λ h. absurd (true≢false (sym h)))
+early-marked coin (row.asks_child p) x h c m = contrary (ap hears_packets c) h
+early-marked coin row.names_itself x h c m = contrary (ap hears_packets c) h
+
+-- at a later one
+late-marked :
+    (coin : Bool) (r : Row) (x : NodeState) → IsValid x → LateRow x r → IsMarked x →
+    IsMarked (does coin r x).state
+late-marked coin r x v rests m = m
+late-marked coin r x v (asks_next p a) m = asks-marked x p v m a.phase a.granted a.next
+late-marked coin r x v (names_now n) m = record {
   id = refl;
   granted = λ h. refl;
-  ready = λ h. g.0;
-  all_named = λ h. all-named x v (ap is_before_tree c) g.1;
-  root = λ h o. g.0;
+  ready = λ h. n.granted;
+  all_named = λ h. all-named x v (ap is_before_tree n.phase) n.last;
+  root = λ h o. n.granted;
   unheard = λ h. absurd (true≢false h);
   named = m.named;
   asked = m.asked;
-  asks = λ k h. g.0;
+  asks = λ k h. n.granted;
   order = m.order;
 }
 
@@ -398,4 +362,8 @@ raised-marked x m = same-marked x (raise_timer x) refl refl refl refl refl (λ k
 pub tick-marked :
     (coin : Bool) (x : NodeState) → IsValid x → IsMarked x → IsMarked (tick coin x).state
 unfolding tick
-tick-marked coin x v m = row-marked coin (next_row x) (raise_timer x) (valid-raise_timer x v) (chosen x.view.phase (raise_timer x) refl) (goes x.view.phase (raise_timer x)) (raised-marked x m)
+tick-marked coin x v m = go (hears_packets x.view.phase) refl
+  where
+    go : (b : Bool) → hears_packets x.view.phase ≡ b → IsMarked (tick coin x).state
+    go true h = late-marked coin (next_row x) (raise_timer x) (valid-raise_timer x v) (late-row x h) (raised-marked x m)
+    go false h = early-marked coin (next_row x) (raise_timer x) h (chosen x.view.phase (raise_timer x) refl) (raised-marked x m)

@@ -3,16 +3,10 @@ use Rattle.std.proofs.Common.{◌≡◌, ℕ, suc, ◌+◌, ◌-◌, ◌<◌, �
 use Rattle.std.specs.Prelude.{nat_lt}
 use Rattle.std.proofs.lemmas.Bool.{and_from, and_parts, or_parts}
 use Rattle.std.proofs.lemmas.List.{append_assoc}
-use Rattle.port_state.specs.declared.signal.Signal.{Signal}
+use Rattle.outcomes.proofs.Common.{Signal, with_packet, Travelling, age_signal, new_signal, signals_of, is_message, silent, quads_in, is_grant, has_grant, is_done, has_done, kept, MessagesSince, Mode, allows, next, fits}
 use Rattle.port_state.specs.declared.signal.Signal.TheVariants as signal
-use Rattle.port_state.specs.Sends.{packet}
-use Rattle.port_state.specs.Heard.{with_packet}
-use Rattle.cable_world.specs.declared.wire.Travelling.{Travelling}
-use Rattle.cable_world.specs.Wire.{age_signal, new_signal}
-use Rattle.cable_world.specs.Signals.{signals_of}
 use Rattle.cable_world.specs.Lawful.{AgesFall}
 use Rattle.outcomes.specs.Messages as mode
-use Rattle.outcomes.specs.Messages.{is_message, silent, quads_in, is_grant, has_grant, is_done, has_done, kept, MessagesSince, Mode, allows, next, fits}
 
 -- ---- one after the other
 
@@ -31,7 +25,7 @@ quads-append (signal.Child ∷ xs) ys = quads-append xs ys
 quads-append (signal.Grant ∷ xs) ys = quads-append xs ys
 quads-append (signal.Done ∷ xs) ys = quads-append xs ys
 
-or-or : (a b c : Bool) → (a || (b || c)) ≡ ((a || b) || c)
+pub or-or : (a b c : Bool) → (a || (b || c)) ≡ ((a || b) || c)
 or-or a b c = grind arith
 
 pub has_grant-append : (xs ys : List Signal) → has_grant (xs ++ ys) ≡ (has_grant xs || has_grant ys)
@@ -137,10 +131,6 @@ nexts-done (s ∷ ss) h = let b = or_parts (is_done s) (has_done ss) h in rw (sa
     same s h = grind arith
 
 -- ---- packets
-
-pub quads-packets : (quads : List ℕ) → quads_in (map packet quads) ≡ quads
-quads-packets [] = refl
-quads-packets (q ∷ qs) = ap (λ r. q ∷ r) (quads-packets qs)
 
 -- where there is room all are kept
 pub kept-room :

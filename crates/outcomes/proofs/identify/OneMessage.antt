@@ -1,10 +1,8 @@
 -- How many Grants and Dones fit a port, and a search.
 use Rattle.std.proofs.Common.{◌≡◌, ◌⊎◌, inl, inr, ℕ, zero, suc, ◌+◌, ◌<◌, ◌≤◌, Bool, true, false, not, ◌&&◌, List, [], ◌∷◌, Option, Some, None, is_some, refl, sym, ◌∙◌, ap, subst, arith, true≢false, if◌then◌else◌}
 use Rattle.std.proofs.lemmas.Bool.{cases_lt, and_parts, or_from}
-use Rattle.cabling.specs.declared.cable.End.{End}
-use Rattle.port_state.specs.declared.signal.Signal.{Signal}
+use Rattle.outcomes.proofs.Common.{contrary, End, Signal, is_message, silent, is_grant, is_done, has_grant, has_done, Mode, parent_mode, child_mode, allows, next, fits}
 use Rattle.port_state.specs.declared.signal.Signal.TheVariants as signal
-use Rattle.outcomes.specs.Messages.{is_message, silent, is_grant, is_done, has_grant, has_done, Mode, parent_mode, child_mode, mode, allows, next, fits}
 use Rattle.outcomes.specs.Messages as mode
 use Rattle.outcomes.specs.Holders.{how_many}
 use Rattle.outcomes.proofs.identify.Messages.{shut-silent}
@@ -35,7 +33,7 @@ none-of test k (s ∷ ss) h = go (test s) refl (none-of test k ss b.1)
     go :
         (c : Bool) → test s ≡ c → how_many test ss ≡ 0 →
         (if c then how_many test ss + 1 else how_many test ss) ≡ 0
-    go true e rest = absurd (true≢false (sym b.0 ∙ ap not (k.message s e)))
+    go true e rest = contrary b.0 (ap not (k.message s e))
     go false e rest = rest
 
 pub few-of :

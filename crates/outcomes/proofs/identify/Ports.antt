@@ -3,14 +3,9 @@ use Rattle.std.proofs.Common.{◌≡◌, ◌⊎◌, inl, inr, ℕ, zero, suc, �
 use Rattle.std.specs.Prelude.{cond}
 use Rattle.std.specs.List.{position_from}
 use Rattle.std.specs.Option.{option_map}
-use Rattle.port_state.specs.declared.ports.PortView.{PortView}
-use Rattle.port_state.specs.declared.states.NodeState.{NodeState}
-use Rattle.port_state.specs.Ports.{is_unnamed, passes, port_is, is_connected, is_port, lowest, change_port}
-use Rattle.port_state.specs.Valid.{FitsRole, HasRoles, IsValid}
+use Rattle.outcomes.proofs.Common.{contrary, PortView, NodeState, is_unnamed, passes, port_is, is_connected, is_port, lowest, change_port, FitsRole, IsValid, is_before_tree, leads_down, late-roles}
+use Rattle.port_state.specs.Valid.{HasRoles}
 use Rattle.port_state.proofs.Lemmas.{changed-port, lowest-passes}
-use Rattle.cable_world.specs.Phases.{is_before_tree}
-use Rattle.cable_world.specs.Agreement.{leads_down}
-use Rattle.cable_world.proofs.Lemmas.{late-roles}
 
 -- ---- a changed port
 
@@ -81,7 +76,7 @@ role-of-child parent k p r c = go p.connected refl
   where
     go : (b : Bool) → p.connected ≡ b → (is_port parent k ≡ false) × (p.connected ≡ true)
     go true e = (r.one e ∙ ap not c, e)
-    go false e = absurd (true≢false (sym c ∙ (r.none e).0))
+    go false e = contrary c ((r.none e).0)
 
 -- a child port is connected, and isn't the parent port
 pub child-role :

@@ -1,11 +1,7 @@
 -- What is so of self identify holds in every world that comes of a power-on world.
 use Rattle.std.proofs.Common.{ℕ}
-use Rattle.cable_world.specs.World.{CableWorld}
-use Rattle.cable_world.specs.Run.{IsReached}
-use Rattle.cable_world.specs.Lawful.{IsLawful}
-use Rattle.cable_world.specs.Quiet.{HoldSchedule, quiet_after}
+use Rattle.outcomes.proofs.Common.{CableWorld, IsReached, IsLawful, HoldSchedule, quiet_after, IsIdentifying}
 use Rattle.convergence.proofs.Lemmas.{kept-quiet, IsKept, kept-reached}
-use Rattle.outcomes.specs.Identify.{IsIdentifying}
 use Rattle.outcomes.proofs.identify.IdentifyingTurn.{turn-identifying}
 use Rattle.outcomes.proofs.identify.IdentifyingActs.{act-identifying, hold-identifying, power-on-identifying}
 

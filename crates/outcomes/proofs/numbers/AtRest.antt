@@ -4,50 +4,16 @@ use Rattle.std.proofs.Common.{length-append, ◌≡◌, inl, inr, ℕ, zero, suc
 use Rattle.std.specs.Prelude.{nat_le}
 use Rattle.std.proofs.lemmas.Bool.{le-leb, and_parts, and_from, eq-eqb}
 use Rattle.std.proofs.lemmas.Option.{slice_get_within}
-use Rattle.self_id.specs.Node.{Node}
-use Rattle.self_id.specs.Group.{group, node_count}
+use Rattle.outcomes.proofs.Common.{Node, group, node_count, Tree, emits, End, far, ports_of, Holds, IsClosed, numbers, emit, Phase, Signal, NodeState, coin, is_unnamed, lowest, sent_on, silent_step, hears_packets, hears, is_heard, on_signal, may_name, shown_node, own_group, PortNode, raise_timer, row_of, does, tick, age_wire, gives, CableWorld, wire_of, inbox, turn, hear_all, IsReached, signals_of, IsLawful, IsTree, before, hear-stays, turn-lawful, reached-lawful, turn-state, comes, no-packets, one-quiet, quiet-lawful, joined-of, reached-acyclic, quiet-acyclic, IsAcyclic, ResetsAreOverIn, AreIdentifying, is_ready, is_asked, is_named, is_message, silent, quads_in, has_grant, has_done, kept, parent_mode, child_mode, IsIdentifying, place_now, IsSettling, IsAtRest, HoldSchedule, with_holds, quiet_after}
 use Rattle.self_id.proofs.Lemmas.{three_packets}
-use Rattle.topology_stack.specs.Tree.{Tree, emits}
-use Rattle.cabling.specs.declared.cable.End.{End}
-use Rattle.cabling.specs.Wiring.{far, ports_of}
-use Rattle.cabling.specs.NodeSet.{Holds}
-use Rattle.cabling.specs.Component.{IsClosed}
-use Rattle.cabling.specs.Sees.{numbers}
-use Rattle.outcomes.specs.Emit.{emit}
-use Rattle.port_state.specs.declared.signal.Phase.{Phase}
 use Rattle.port_state.specs.declared.signal.Phase.TheVariants as phase
-use Rattle.port_state.specs.declared.signal.Signal.{Signal}
 use Rattle.port_state.specs.declared.signal.Signal.TheVariants as signal
-use Rattle.port_state.specs.declared.states.NodeState.{NodeState}
-use Rattle.port_state.specs.Coins.{coin}
-use Rattle.port_state.specs.Ports.{is_unnamed, lowest}
-use Rattle.port_state.specs.Sends.{sent_on}
-use Rattle.port_state.specs.Step.{silent_step}
-use Rattle.port_state.specs.Heard.{hears_packets, hears, is_heard, on_signal}
-use Rattle.port_state.specs.SelfIdentify.{may_name}
-use Rattle.port_state.specs.Group.{shown_node, own_group}
-use Rattle.port_state.specs.Machine.{PortNode}
-use Rattle.port_state.specs.Tick.{raise_timer, row_of, does, tick}
 use Rattle.port_state.proofs.Lemmas.{shown-is_node, shown-is_of}
-use Rattle.cable_world.specs.Wire.{age_wire, gives}
-use Rattle.cable_world.specs.World.{CableWorld, wire_of}
-use Rattle.cable_world.specs.Turn.{inbox, turn, hear_all}
-use Rattle.cable_world.specs.Run.{IsReached}
-use Rattle.cable_world.specs.Signals.{signals_of}
-use Rattle.cable_world.specs.Lawful.{IsLawful}
-use Rattle.cable_world.specs.Outcome.{IsTree}
-use Rattle.cable_world.proofs.Lemmas.{before, hear-stays, port-there, turn-lawful, reached-lawful, turn-state, comes, no-packets, one-quiet, quiet-lawful}
-use Rattle.convergence.proofs.Lemmas.{joined-of, reached-acyclic, quiet-acyclic}
-use Rattle.convergence.specs.Acyclic.{IsAcyclic}
-use Rattle.convergence.specs.Milestones.{ResetsAreOverIn, AreIdentifying}
-use Rattle.outcomes.specs.NodeMarks.{is_ready, is_asked, is_named}
-use Rattle.outcomes.specs.Messages.{is_message, silent, quads_in, has_grant, has_done, kept, parent_mode, child_mode}
+use Rattle.cable_world.proofs.Lemmas.{port-there}
 use Rattle.outcomes.proofs.numbers.HoldRests.{holds-settle, holds-rest}
 use Rattle.outcomes.proofs.identify.OneMessage.{no-grant, no-done, child-grants-none, parent-says-none}
 use Rattle.outcomes.proofs.identify.Ports.{child-role}
-use Rattle.outcomes.specs.Identify.{IsIdentifying}
-use Rattle.outcomes.specs.RootWalk.{place_now, IsNamed}
-use Rattle.outcomes.specs.Numbered.{IsSettling, IsAtRest}
+use Rattle.outcomes.specs.RootWalk.{IsNamed}
 use Rattle.outcomes.proofs.identify.Hearing.{Stays, signal-stays, reset-heard}
 use Rattle.outcomes.proofs.identify.IdentifyingTurn.{turn-identifying}
 use Rattle.outcomes.proofs.identify.ListsFollow.{IsAbove, one-above}
@@ -59,7 +25,6 @@ use Rattle.outcomes.proofs.numbers.NumberedTurn.{still-there, nothing-comes, hea
 use Rattle.outcomes.proofs.roots.RootWalk.{node-at}
 use Rattle.outcomes.proofs.numbers.Settling.{Up, climbs, settles-on}
 use Rattle.outcomes.proofs.identify.StaysIdentifying.{reached-identifying, quiet-identifying}
-use Rattle.cable_world.specs.Quiet.{HoldSchedule, with_holds, quiet_after}
 
 -- ---- the room for a group
 

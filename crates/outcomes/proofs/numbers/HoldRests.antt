@@ -1,20 +1,9 @@
 -- A hold keeps a component that identifies itself, and one at rest: nodes, cables and signals are
 -- the same.
 use Rattle.std.proofs.Common.{◌≡◌, ℕ, List, None, sym, ◌∙◌, ap}
-use Rattle.topology_stack.specs.Tree.{Tree}
-use Rattle.cabling.specs.declared.cable.End.{End}
-use Rattle.cable_world.specs.Act.{hold, hold_fault}
-use Rattle.cable_world.specs.Signals.{signals_of}
-use Rattle.cable_world.specs.Lawful.{IsLawful}
-use Rattle.cable_world.specs.declared.wire.Travelling.{Travelling}
-use Rattle.cable_world.specs.World.{CableWorld, wire_of}
-use Rattle.cable_world.specs.Quiet.{PlacedHold, with_holds}
+use Rattle.outcomes.proofs.Common.{Tree, End, hold, hold_fault, signals_of, IsLawful, Travelling, CableWorld, wire_of, PlacedHold, with_holds, IsChildCable, silent, quads_in, has_grant, has_done, RootWalk, IsNumbered, IsSettling, IsAtRest}
 use Rattle.cable_world.proofs.Lemmas.{holds-kept, hold-signals}
-use Rattle.convergence.specs.Acyclic.{IsChildCable}
-use Rattle.outcomes.specs.Messages.{silent, quads_in, has_grant, has_done}
 use Rattle.outcomes.specs.Messages as message
-use Rattle.outcomes.specs.RootWalk.{RootWalk}
-use Rattle.outcomes.specs.Numbered.{IsNumbered, IsSettling, IsAtRest}
 
 module _
     (end : End) (turns : ℕ) (w : CableWorld) (none : hold_fault end w ≡ None) (l : IsLawful w) where

@@ -1,24 +1,12 @@
 -- What a node shows, and what messages make of its list.
 use Rattle.std.proofs.Common.{◌≡◌, inl, inr, ℕ, zero, suc, ◌+◌, Bool, true, false, List, [], ◌∷◌, ◌++◌, length, replicate, ◌-◌, Option, None, refl, sym, ◌∙◌, ap, subst, arith, true≢false, if◌then◌else◌}
 use Rattle.std.proofs.lemmas.Bool.{and_parts, cases_lt}
-use Rattle.self_id.specs.Node.{Node}
+use Rattle.outcomes.proofs.Common.{contrary, Node, Signal, PortView, NodeState, is_port, with_port, shown_attrs, shown_node, slot_count, IsValid, port_is-changed, leads_down, is_ready, is_asked, is_named, IsMarked, is_message, silent, quads_in, has_grant, has_done, kept, Mode, parent_mode, child_mode, mode_of, mode, allows, next, fits, StandsAt}
 use Rattle.self_id.specs.declared.node.PortStatus.TheVariants.{Absent, Unplugged, Up, Down}
 use Rattle.self_id.specs.declared.node.PortStatus.{PortStatus}
-use Rattle.port_state.specs.declared.signal.Signal.{Signal}
 use Rattle.port_state.specs.declared.signal.Signal.TheVariants as signal
-use Rattle.port_state.specs.declared.ports.PortView.{PortView}
-use Rattle.port_state.specs.declared.states.NodeState.{NodeState}
-use Rattle.port_state.specs.Ports.{is_port}
-use Rattle.port_state.specs.Entry.{with_port}
-use Rattle.port_state.specs.Group.{shown_attrs, shown_node, status, statuses_from}
-use Rattle.self_id.specs.Slots.{slot_count}
-use Rattle.port_state.specs.Valid.{IsValid}
-use Rattle.port_state.proofs.Lemmas.{port_is-changed}
-use Rattle.cable_world.specs.Agreement.{leads_down}
-use Rattle.outcomes.specs.NodeMarks.{is_ready, is_asked, is_named, IsMarked}
-use Rattle.outcomes.specs.Messages.{is_message, silent, quads_in, has_grant, has_done, kept, Mode, parent_mode, child_mode, mode_of, mode, allows, next, fits}
+use Rattle.port_state.specs.Group.{status, statuses_from}
 use Rattle.outcomes.specs.Messages as mode
-use Rattle.outcomes.specs.Numbered.{StandsAt}
 use Rattle.outcomes.proofs.identify.Messages.{shut-silent}
 use Rattle.outcomes.proofs.identify.LinedHears.{with}
 
@@ -105,8 +93,8 @@ no-packet x k p quad m g u s a = go (is_port x.view.parent k) (is_ready x.view.p
   where
     awaited : is_asked x k ≡ true → is_named x k ≡ false → ⊥
     awaited ea en = elim (cases_lt k p) [
-      | inl less ↦ true≢false (sym (s.named k less (m.asked k ea)) ∙ en)
-      | inr more ↦ true≢false (sym ea ∙ s.unasked k more)
+      | inl less ↦ contrary (s.named k less (m.asked k ea)) en
+      | inr more ↦ contrary ea (s.unasked k more)
     ]
 
     go :
@@ -130,7 +118,7 @@ root-packet x k quad m r o a = go (is_port x.view.parent k) (is_asked x k) (is_n
         allows (mode_of i (parent_mode (is_ready x.view.phase) x.view.granted) (child_mode c d))
         (signal.Packet quad) ≡ true → ⊥
     go true c d ei ec ed a = true≢false ei
-    go false true false ei ec ed a = true≢false (sym (m.all_named r k (m.asked k ec)) ∙ ed)
+    go false true false ei ec ed a = contrary (m.all_named r k (m.asked k ec)) ed
     go false true true ei ec ed a = true≢false (sym a)
     go false false d ei ec ed a = true≢false (sym a)
 

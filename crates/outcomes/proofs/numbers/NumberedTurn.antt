@@ -4,49 +4,17 @@ use Rattle.std.proofs.Common.{◌≡◌, ◌⊎◌, inl, inr, ℕ, ◌+◌, ◌<
 use Rattle.std.proofs.lemmas.List.{append_assoc}
 use Rattle.std.proofs.lemmas.Bool.{or_cases, and_parts}
 use Rattle.std.proofs.lemmas.Option.{slice_get_within}
-use Rattle.self_id.specs.Node.{Node}
-use Rattle.self_id.specs.Group.{group, node_count}
-use Rattle.topology_stack.specs.Tree.{Tree}
-use Rattle.cabling.specs.declared.cable.End.{End}
-use Rattle.cabling.specs.Wiring.{Wiring, far, ports_of}
-use Rattle.cabling.specs.NodeSet.{Holds}
-use Rattle.cabling.specs.Component.{IsClosed}
-use Rattle.cabling.specs.Sees.{numbers}
-use Rattle.outcomes.specs.WalkMarks.{mark, place}
-use Rattle.outcomes.specs.Emit.{emit}
-use Rattle.port_state.specs.declared.signal.Phase.{Phase}
+use Rattle.outcomes.proofs.Common.{contrary, Node, group, node_count, Tree, End, Wiring, far, ports_of, Holds, IsClosed, numbers, mark, place, emit, Phase, Signal, NodeState, coin, is_connected, is_port, sent_on, is_resetting, hears_packets, shown_attrs, shown_node, PortNode, Row, raise_timer, row_of, does, next_row, tick, age_wire, gives, age_signal, CableWorld, wire_of, inbox, turn_at, turn, hear_all, signals_of, has_reset, IsLawful, cabling-after, node-after, some-same, side, side-wire, before, turn-state, comes, hearing, ticking, arrivals, leftovers, departures, after_signals, no-packets, joined-of, IsChildCable, is_ready, is_asked, is_named, is_message, silent, quads_in, is_grant, is_done, has_grant, has_done, Mode, parent_mode, child_mode, mode_of, mode, allows, next, fits, Lined, IsIdentifying, place_now, RootWalk, IsNumbered, AreIdentifying}
 use Rattle.port_state.specs.declared.signal.Phase.TheVariants as phase
-use Rattle.port_state.specs.declared.signal.Signal.{Signal}
-use Rattle.port_state.specs.declared.states.NodeState.{NodeState}
-use Rattle.port_state.specs.Coins.{coin}
-use Rattle.port_state.specs.Ports.{is_connected, is_port}
-use Rattle.port_state.specs.Sends.{sent_on}
-use Rattle.port_state.specs.Heard.{is_resetting, hears_packets}
-use Rattle.port_state.specs.Group.{shown_attrs, shown_node}
-use Rattle.port_state.specs.Machine.{PortNode}
-use Rattle.port_state.specs.Row as row
-use Rattle.port_state.specs.Row.{Row}
-use Rattle.port_state.specs.Tick.{raise_timer, row_of, does, next_row, tick}
-use Rattle.cable_world.specs.Wire.{age_wire, gives, age_signal}
-use Rattle.cable_world.specs.World.{CableWorld, wire_of}
-use Rattle.cable_world.specs.Turn.{signals_from, inbox, turn_at, turn, hear_all}
-use Rattle.cable_world.specs.Signals.{signals_of, has_reset}
-use Rattle.cable_world.specs.Lawful.{IsLawful}
-use Rattle.cable_world.proofs.Lemmas.{cabling-after, node-after, some-same, Chosen, chosen, side, side-wire, hears, before, hear-came, inbox-at, turn-state, comes, port-there, hearing, ticking, arrivals, leftovers, departures, after_signals, no-packets}
-use Rattle.convergence.proofs.Lemmas.{joined-of}
-use Rattle.convergence.specs.Acyclic.{IsChildCable}
-use Rattle.outcomes.specs.NodeMarks.{is_ready, is_asked, is_named}
-use Rattle.outcomes.specs.Messages.{is_message, silent, quads_in, is_grant, is_done, has_grant, has_done, Mode, parent_mode, child_mode, mode_of, mode, allows, next, fits}
+use Rattle.cable_world.specs.Turn.{signals_from}
+use Rattle.cable_world.proofs.Lemmas.{hears, hear-came, inbox-at, port-there}
 use Rattle.outcomes.specs.Messages as message
-use Rattle.outcomes.specs.Identify.{Lined, IsIdentifying}
-use Rattle.outcomes.specs.RootWalk.{place_now, RootWalk}
-use Rattle.outcomes.specs.Numbered.{IsNumbered}
-use Rattle.convergence.specs.Milestones.{AreIdentifying}
 use Rattle.outcomes.proofs.identify.Messages.{quads-append, silent-quads, shut-silent}
 use Rattle.outcomes.proofs.identify.OneMessage.{no-grant, no-done, child-grants-none, parent-says-none, end-of, two-parts}
 use Rattle.outcomes.proofs.identify.IdentifiesTurn.{Told}
 use Rattle.outcomes.proofs.identify.IdentifyingTurn.{told}
-use Rattle.outcomes.proofs.identify.LinedTicks.{off, ticks-on, ticks-parent}
+use Rattle.outcomes.proofs.identify.LinedTicks.{ticks-on, ticks-parent}
+use Rattle.outcomes.proofs.identify.LateRows.{LateRow, rests, asks_next, names_now, late-row}
 use Rattle.outcomes.proofs.identify.LinedTurn.{Able, split, above-turn, below-turn}
 use Rattle.outcomes.proofs.identify.ListsFollow.{IsAbove, one-above}
 use Rattle.outcomes.proofs.identify.MarksKept.{hears-late}
@@ -127,24 +95,14 @@ ticks-attrs :
     (coin : Bool) (x : NodeState) → hears_packets x.view.phase ≡ true →
     shown_attrs (tick coin x).state ≡ shown_attrs x
 unfolding tick
-ticks-attrs coin x h = go (next_row x) (chosen x.view.phase (raise_timer x) refl)
+ticks-attrs coin x h = go (next_row x) (late-row x h)
   where
     go :
-        (r : Row) → Chosen r (raise_timer x) →
+        (r : Row) → LateRow (raise_timer x) r →
         shown_attrs (does coin r (raise_timer x)).state ≡ shown_attrs x
-    go row.none c = refl
-    go row.times_out c = refl
-    go row.ends_reset c = absurd (off c.0 refl h)
-    go row.begins_tree c = absurd (off c.0 refl h)
-    go row.takes_roles c = absurd (off c.0 refl h)
-    go row.awaits_parent c = absurd (off c refl h)
-    go row.becomes_root c = absurd (off c.0 refl h)
-    go (row.finds_parent k) c = absurd (off c.0 refl h)
-    go (row.begins_contention k) c = absurd (off c.0 refl h)
-    go (row.takes_rival k) c = absurd (off c.0 refl h)
-    go (row.asks_again k) c = absurd (off c.0 refl h)
-    go (row.asks_child k) c = refl
-    go row.names_itself c = refl
+    go r rests = refl
+    go r (asks_next k a) = refl
+    go r (names_now n) = refl
 
 -- a node in A0 does nothing more
 pub ticks-ready :
@@ -347,9 +305,6 @@ module _
       abbrev now : List Signal
       now = departures (side w b y)
 
-      y-after : NodeState
-      y-after = (ticking (side w b y)).state
-
       -- the node there is the parent
       from-above : IsAbove w b a y x → Owed a.node a.port x (there ++ now)
       from-above r = elim (above-turn (side w b y) able-y x.state there (signals_of (leftovers (side w a x))) (r.child, subst (λ ss. Lined y.state b.port there x.state ss) (sym going) r.line)) [
@@ -378,7 +333,7 @@ module _
           owed line = record {
             fitting = as-parent x.state a.port (there ++ now) r.parent line.fits_down;
             grant = λ f. granted line f (has_grant there) refl;
-            done = λ f. absurd (true≢false (sym f ∙ no-done (parent_mode (is_ready x.state.view.phase) x.state.view.granted) (there ++ now) (parent-says-none (is_ready x.state.view.phase) x.state.view.granted) line.fits_down));
+            done = λ f. contrary f (no-done (parent_mode (is_ready x.state.view.phase) x.state.view.granted) (there ++ now) (parent-says-none (is_ready x.state.view.phase) x.state.view.granted) line.fits_down);
           }
 
       -- or a child
@@ -410,7 +365,7 @@ module _
               (ticking (side w b y)).state (there ++ now) → Owed a.node a.port x (there ++ now)
           owed line = record {
             fitting = as-child x.state a.port (there ++ now) (child-role x.state a.port (l.well_formed.nodes a.node x at_x).valid (hears-late x.state.view.phase (all a.node x h at_x)) r.child).0 line.fits_up;
-            grant = λ f. absurd (true≢false (sym f ∙ no-grant (child_mode (is_asked x.state a.port) (is_named x.state a.port)) (there ++ now) (child-grants-none (is_asked x.state a.port) (is_named x.state a.port)) line.fits_up));
+            grant = λ f. contrary f (no-grant (child_mode (is_asked x.state a.port) (is_named x.state a.port)) (there ++ now) (child-grants-none (is_asked x.state a.port) (is_named x.state a.port)) line.fits_up);
             done = λ f. named line f (has_done there) refl;
           }
 

@@ -2,52 +2,21 @@
 -- has the turn
 -- asks a child or identifies itself in the next.
 use Rattle.std.proofs.Common.{◌≡◌, ◌⊎◌, inl, inr, ℕ, ◌+◌, ◌<◌, ◌≤◌, Bool, true, false, not, ◌&&◌, ◌||◌, ◌==◌, List, [], ◌∷◌, ◌++◌, map, Option, Some, None, slice_get, refl, sym, ◌∙◌, ap, subst, arith, true≢false, if◌then◌else◌}
-use Rattle.std.proofs.lemmas.Bool.{or_cases, eq-eqb}
-use Rattle.topology_stack.specs.Tree.{Tree}
-use Rattle.cabling.specs.declared.cable.End.{End}
-use Rattle.cabling.specs.Wiring.{far, ports_of}
-use Rattle.cabling.specs.NodeSet.{Holds}
+use Rattle.std.proofs.lemmas.Bool.{or_cases, eq-eqb, false_from_ne_true}
+use Rattle.outcomes.proofs.Common.{Tree, End, far, ports_of, Holds, Phase, Signal, PortView, NodeState, coin, is_unnamed, lowest, port_is, passes, change_port, may_name, granted_row, shown_node, mark, emit, with_port, silent_step, hears_packets, hears, is_heard, on_signal, PortNode, Row, raise_timer, row_of, does, next_row, tick, port_is-changed, Travelling, new_signal, age_signal, age_wire, gives, CableWorld, wire_of, inbox, turn_at, turn, hear_all, signals_of, IsLawful, node-after, side, side-wire, hear-stays, some-same, departures, turn-state, no-packets, joined-of, is_ready, is_asked, is_named, silent, is_grant, is_done, has_grant, has_done, IsIdentifying, IsSettling, IsAcyclic}
 use Rattle.port_state.specs.declared.signal.Level.TheVariants as level
-use Rattle.port_state.specs.declared.signal.Phase.{Phase}
 use Rattle.port_state.specs.declared.signal.Phase.TheVariants as phase
-use Rattle.port_state.specs.declared.signal.Signal.{Signal}
 use Rattle.port_state.specs.declared.signal.Signal.TheVariants as signal
-use Rattle.port_state.specs.declared.ports.PortView.{PortView}
-use Rattle.port_state.specs.declared.states.NodeState.{NodeState}
-use Rattle.port_state.specs.Coins.{coin}
-use Rattle.port_state.specs.Ports.{is_unnamed, lowest, port_is, passes, change_port}
-use Rattle.port_state.specs.SelfIdentify.{may_name, granted_row}
-use Rattle.port_state.specs.Group.{shown_node}
-use Rattle.outcomes.specs.WalkMarks.{mark}
-use Rattle.outcomes.specs.Emit.{emit}
-use Rattle.port_state.specs.Entry.{with_port}
-use Rattle.port_state.specs.Step.{silent_step}
-use Rattle.port_state.specs.Heard.{hears_packets, hears, is_heard, on_signal}
-use Rattle.port_state.specs.Machine.{PortNode}
 use Rattle.port_state.specs.Row as row
-use Rattle.port_state.specs.Row.{Row}
-use Rattle.port_state.specs.Tick.{raise_timer, row_of, does, next_row, tick}
-use Rattle.port_state.proofs.Lemmas.{port_is-changed}
-use Rattle.cable_world.specs.declared.wire.Travelling.{Travelling}
-use Rattle.cable_world.specs.Wire.{new_signal, age_signal, age_wire, gives}
-use Rattle.cable_world.specs.World.{CableWorld, wire_of}
-use Rattle.cable_world.specs.Turn.{inbox, turn_at, turn, hear_all}
-use Rattle.cable_world.specs.Signals.{signals_of}
-use Rattle.cable_world.specs.Lawful.{IsLawful, AgesFall}
-use Rattle.cable_world.proofs.Lemmas.{node-after, side, side-wire, hear-stays, some-same, departures, signals-sent, Chosen, chosen, turn-state, no-packets}
-use Rattle.convergence.proofs.Lemmas.{joined-of}
-use Rattle.outcomes.specs.NodeMarks.{is_ready, is_asked, is_named}
-use Rattle.outcomes.specs.Messages.{silent, is_grant, is_done, has_grant, has_done}
-use Rattle.outcomes.specs.Identify.{IsIdentifying}
-use Rattle.outcomes.specs.Numbered.{IsSettling}
+use Rattle.cable_world.specs.Lawful.{AgesFall}
+use Rattle.cable_world.proofs.Lemmas.{signals-sent}
 use Rattle.outcomes.proofs.identify.Hearing.{signal-stays, reset-heard}
-use Rattle.outcomes.proofs.identify.LinedTicks.{off}
+use Rattle.outcomes.proofs.identify.LateRows.{LateRow, rests, asks_next, names_now, late-row}
 use Rattle.outcomes.proofs.numbers.NumberedTurn.{still-there, now-silent, heard-so, heard-goes}
 use Rattle.outcomes.proofs.identify.Ports.{changed-here, changed-other, lowest-is, is-unnamed}
 use Rattle.outcomes.proofs.identify.MarksKept.{hears-late, all-named}
 use Rattle.outcomes.proofs.numbers.AtRest.{room-for}
 use Rattle.outcomes.proofs.numbers.Turning.{Heard-so}
-use Rattle.convergence.specs.Acyclic.{IsAcyclic}
 
 -- ---- what a node that hears and ticks keeps
 
@@ -122,26 +91,16 @@ hears-rises (s ∷ rest) x h on = elim (signal-stays s.0 s.1 x) [
 ticks-rise :
     (coin : Bool) (x : NodeState) → hears_packets x.view.phase ≡ true → Rises x (tick coin x).state
 unfolding tick
-ticks-rise coin x h = go (next_row x) (chosen x.view.phase (raise_timer x) refl)
+ticks-rise coin x h = go (next_row x) (late-row x h)
   where
-    go : (r : Row) → Chosen r (raise_timer x) → Rises x (does coin r (raise_timer x)).state
-    go row.none c = record { asked = λ q e. e; named = λ q e. e; granted = λ e. e }
-    go row.times_out c = record { asked = λ q e. e; named = λ q e. e; granted = λ e. e }
-    go row.ends_reset c = absurd (off c.0 refl h)
-    go row.begins_tree c = absurd (off c.0 refl h)
-    go row.takes_roles c = absurd (off c.0 refl h)
-    go row.awaits_parent c = absurd (off c refl h)
-    go row.becomes_root c = absurd (off c.0 refl h)
-    go (row.finds_parent k) c = absurd (off c.0 refl h)
-    go (row.begins_contention k) c = absurd (off c.0 refl h)
-    go (row.takes_rival k) c = absurd (off c.0 refl h)
-    go (row.asks_again k) c = absurd (off c.0 refl h)
-    go (row.asks_child k) c = record {
+    go : (r : Row) → LateRow (raise_timer x) r → Rises x (does coin r (raise_timer x)).state
+    go r rests = record { asked = λ q e. e; named = λ q e. e; granted = λ e. e }
+    go r (asks_next k a) = record {
       asked = λ q e. stays-marked (λ p. p.asked) (λ q. record q { asked = true }) (λ p. refl) k q x.view.ports e;
       named = λ q e. port_is-changed (λ p. p.named) k (λ q. record q { asked = true }) (λ p. refl) x.view.ports q ∙ e;
       granted = λ e. e;
     }
-    go row.names_itself c = record { asked = λ q e. e; named = λ q e. e; granted = λ e. e }
+    go r (names_now n) = record { asked = λ q e. e; named = λ q e. e; granted = λ e. e }
 
 -- ---- a message under way
 
@@ -285,18 +244,6 @@ module _
       go x true none = inr (ap silent (signals-sent (departures (side w a x))) ∙ none)
       go x false none = inl (old-first test (n + 1) (map age_signal (wire_of w a).signals) (map new_signal (departures (side w a x))) (old-older test n (wire_of w a).signals old))
 
-  pub grant-moves :
-      (a b : End) (n : ℕ) → Holds set b.node → far w.cabling a ≡ Some b →
-      Old is_grant n (wire_of w a).signals → Old is_grant (n + 1)
-      (wire_of (turn w) a).signals ⊎ (silent (signals_of (wire_of (turn w) a).signals) ≡ true)
-  grant-moves = moves is_grant (λ n ts o. inl (grant-old n ts o))
-
-  pub done-moves :
-      (a b : End) (n : ℕ) → Holds set b.node → far w.cabling a ≡ Some b →
-      Old is_done n (wire_of w a).signals → Old is_done (n + 1)
-      (wire_of (turn w) a).signals ⊎ (silent (signals_of (wire_of (turn w) a).signals) ≡ true)
-  done-moves = moves is_done (λ n ts o. inr (done-old n ts o))
-
   -- whoever has the turn asks a child or comes to A0
   pub turn-used :
       (acyclic : IsAcyclic w) (k : ℕ) (x z : PortNode) → Holds set k →
@@ -327,14 +274,10 @@ module _
       granted = r.granted g
 
       free : (p : ℕ) → lowest is_unnamed y.view.ports ≡ Some p → is_asked y p ≡ false
-      free p low = go (is_asked y p) refl
+      free p low = false_from_ne_true _ (λ e. unnamed-not y.view.ports p (lowest-is is_unnamed y.view.ports p low) (r.named p (named-so (is_asked x.state p) (is_named x.state p) (sym (o.asked p) ∙ e) (waits p))))
         where
           named-so : (a n : Bool) → a ≡ true → (a && not n) ≡ false → n ≡ true
           named-so a n e f = grind arith
-
-          go : (b : Bool) → is_asked y p ≡ b → b ≡ false
-          go false e = refl
-          go true e = absurd (unnamed-not y.view.ports p (lowest-is is_unnamed y.view.ports p low) (r.named p (named-so (is_asked x.state p) (is_named x.state p) (sym (o.asked p) ∙ e) (waits p))))
 
       may : lowest is_unnamed y.view.ports ≡ None → may_name y ≡ true
       may low = room-for w l acyclic i set core root t s k x h at y o.marks.shown

@@ -1,34 +1,14 @@
 -- A component that identifies itself comes to A0: of each node it is counted whether it was asked,
 -- granted, is in A0
 -- and was named, and the count rises within each d turns.
-use Rattle.std.proofs.Common.{◌≡◌, ◌⊎◌, inl, inr, ℕ, zero, suc, ◌+◌, ◌-◌, ◌*◌, ◌<◌, ◌≤◌, Bool, true, false, not, ◌&&◌, List, [], ◌∷◌, length, Option, Some, None, slice_get, refl, sym, ◌∙◌, ap, subst, arith, true≢false}
+use Rattle.std.proofs.Common.{◌≡◌, ◌⊎◌, inl, inr, ℕ, zero, suc, ◌+◌, ◌-◌, ◌*◌, ◌<◌, ◌≤◌, Bool, true, false, not, ◌&&◌, List, [], ◌∷◌, length, Option, Some, None, slice_get, refl, sym, ◌∙◌, ap, subst, arith}
 use Rattle.std.proofs.lemmas.Option.{slice_get_within}
 use Rattle.phy_packet.specs.Layout.{bit}
-use Rattle.topology_stack.specs.Tree.{Tree}
-use Rattle.cabling.specs.declared.cable.End.{End}
-use Rattle.cabling.specs.Wiring.{Wiring, far}
-use Rattle.cabling.specs.NodeSet.{Holds}
-use Rattle.cabling.specs.Sees.{numbers}
-use Rattle.port_state.specs.declared.signal.Signal.{Signal}
-use Rattle.port_state.specs.declared.states.NodeState.{NodeState}
-use Rattle.port_state.specs.Machine.{PortNode}
+use Rattle.outcomes.proofs.Common.{Tree, End, Wiring, far, Holds, numbers, Signal, NodeState, PortNode, Travelling, CableWorld, wire_of, IsReached, turn_at, turn, signals_of, IsLawful, cabling-after, node-after, some-same, after-delay, reached-lawful, turn-lawful, port-is, joined-of, IsAcyclic, is_ready, is_asked, is_named, silent, is_grant, is_done, has_grant, has_done, parent_mode, child_mode, IsIdentifying, parent_of, parent_now, place_now, IsSettling, is_port, contrary, PlacedHold, HoldSchedule, with_holds, quiet_after}
 use Rattle.cable_world.specs.Wire.{Wire}
-use Rattle.cable_world.specs.declared.wire.Travelling.{Travelling}
-use Rattle.cable_world.specs.World.{CableWorld, wire_of}
-use Rattle.cable_world.specs.Run.{IsReached}
-use Rattle.cable_world.specs.Turn.{turn_at, turn}
-use Rattle.cable_world.specs.Signals.{signals_of}
-use Rattle.cable_world.specs.Lawful.{IsLawful}
-use Rattle.cable_world.proofs.Lemmas.{cabling-after, node-after, some-same, after-delay, reached-lawful, turn-lawful, port-is, holds-signals}
-use Rattle.convergence.proofs.Lemmas.{joined-of}
-use Rattle.convergence.specs.Acyclic.{IsAcyclic}
-use Rattle.outcomes.specs.NodeMarks.{is_ready, is_asked, is_named}
-use Rattle.outcomes.specs.Messages.{silent, is_grant, is_done, has_grant, has_done, parent_mode, child_mode}
-use Rattle.outcomes.specs.Identify.{IsIdentifying}
+use Rattle.cable_world.proofs.Lemmas.{holds-signals}
 use Rattle.outcomes.specs.Holders.{Holder, grant, done, node, IsHolder, HasTurn, HasOneHolder}
 use Rattle.outcomes.specs.Holders as holder
-use Rattle.outcomes.specs.RootWalk.{parent_of, parent_now, place_now}
-use Rattle.outcomes.specs.Numbered.{IsSettling}
 use Rattle.outcomes.proofs.numbers.AtRest.{there, lawful-then, acyclic-then, identifying-then, next-turn, settles-always}
 use Rattle.outcomes.proofs.identify.Holders.{one-holder}
 use Rattle.outcomes.proofs.identify.OneMessage.{no-grant, no-done, child-grants-none, parent-says-none, end-of, two-parts}
@@ -36,12 +16,10 @@ use Rattle.outcomes.proofs.identify.ListsFollow.{IsAbove, one-above, parent-belo
 use Rattle.outcomes.proofs.identify.MarksKept.{hears-late}
 use Rattle.outcomes.proofs.identify.Messages.{silent-grant, silent-done}
 use Rattle.outcomes.proofs.identify.Ports.{child-role}
-use Rattle.port_state.specs.Ports.{is_port}
-use Rattle.std.proofs.lemmas.Bool.{eq-eqb}
+use Rattle.std.proofs.lemmas.Bool.{eq-eqb, true_from_ne_false}
 use Rattle.outcomes.proofs.numbers.NumberedTurn.{stayed}
 use Rattle.outcomes.proofs.numbers.Progress.{node-rises, Old, old-grant, old-done, grant-old, done-old, none-older, moves, turn-used}
 use Rattle.outcomes.proofs.numbers.Settling.{Up, up-or-root, climbs}
-use Rattle.cable_world.specs.Quiet.{PlacedHold, HoldSchedule, with_holds, quiet_after}
 
 -- ---- counts
 
@@ -168,7 +146,7 @@ module _
       →
       (k : ℕ) → Holds set k → of-end f w (up-end w k (parent_now w k)) ≡ true → of-end f (turn w) (up-end (turn w) k (parent_now (turn w) k)) ≡ true
   after-up f keeps k h e = elim (up-or-root w l acyclic i set root s.component s.inside s.is_root s.all k x h at) [
-    | inl same ↦ absurd (true≢false (sym e ∙ ap (λ o. of-end f w (up-end w k o)) (ap (parent_now w) same ∙ ap parent_of s.is_root.at ∙ s.is_root.parentless)))
+    | inl same ↦ contrary e (ap (λ o. of-end f w (up-end w k o)) (ap (parent_now w) same ∙ ap parent_of s.is_root.at ∙ s.is_root.parentless))
     | inr u ↦
         let y : PortNode = (turn_at w u.end.node u.is).node in
         let at_y : slice_get (turn w).nodes u.end.node ≡ Some y = node-after w u.end.node u.is l.well_formed.count u.at in
@@ -213,7 +191,7 @@ module _
   pub all-ready :
       is_ready s.is_root.node.state.view.phase ≡ true → (k : ℕ) (x : PortNode) → Holds set k →
       slice_get w.nodes k ≡ Some x → is_ready x.state.view.phase ≡ true
-  all-ready r k x h at = go (is_ready x.state.view.phase) refl
+  all-ready r k x h at = true_from_ne_false _ (λ e. contrary r (climbs w l acyclic i set root s.component s.inside s.is_root s.all (λ j y. is_ready y.state.view.phase ≡ false) above (acyclic.most - acyclic.rank k) k x (omega arith) h at e))
     where
       above :
           (j : ℕ) (y : PortNode) (u : Up-of j y) → Holds set j → slice_get w.nodes j ≡ Some y →
@@ -222,11 +200,7 @@ module _
         where
           by : (b : Bool) → is_ready u.is.state.view.phase ≡ b → b ≡ false
           by false f = refl
-          by true f = absurd (true≢false (sym (u.above.line.names ((i.nodes u.end.node u.is u.at).all_named f u.end.port u.above.child)) ∙ e))
-
-      go : (b : Bool) → is_ready x.state.view.phase ≡ b → b ≡ true
-      go true e = refl
-      go false e = absurd (true≢false (sym r ∙ climbs w l acyclic i set root s.component s.inside s.is_root s.all (λ j y. is_ready y.state.view.phase ≡ false) above (acyclic.most - acyclic.rank k) k x (omega arith) h at e))
+          by true f = contrary (u.above.line.names ((i.nodes u.end.node u.is u.at).all_named f u.end.port u.above.child)) e
 
 -- holds change nothing of it
 gains-held :
@@ -463,7 +437,7 @@ module _
           go :
               (o : Option End) → far (W j).cabling a ≡ o → (b : End)
               × (far (W j).cabling a ≡ Some b)
-          go None e = absurd (true≢false (sym g ∙ ap (λ (v : Wire). test (signals_of v.signals)) ((L j).well_formed.unplugged a e) ∙ none))
+          go None e = contrary g (ap (λ (v : Wire). test (signals_of v.signals)) ((L j).well_formed.unplugged a e) ∙ none)
           go (Some b) e = (b, e)
 
       by : (v : Holder) → Holds set (holder.place v) → IsHolder (W j) v → Rising j
@@ -473,7 +447,7 @@ module _
           let h_b : Holds set b.0.node = (S j).component.closed a b.0 b.1 h in
           elim (one-above (W j) (L j) (I j) a b.0 n.near n.other b.1 n.near_at n.other_at ((S j).all a.node n.near h n.near_at) ((S j).all b.0.node n.other h_b n.other_at)) [
             | inl u ↦ by-grant j a b.0 h (record { joined = b.1; above = n.near; above_at = n.near_at; below = n.other; below_at = n.other_at; is = u }) is
-            | inr u ↦ absurd (true≢false (sym is ∙ no-grant (child_mode (is_asked n.other.state b.0.port) (is_named n.other.state b.0.port)) (signals_of (wire_of (W j) a).signals) (child-grants-none (is_asked n.other.state b.0.port) (is_named n.other.state b.0.port)) u.line.fits_up))
+            | inr u ↦ contrary is (no-grant (child_mode (is_asked n.other.state b.0.port) (is_named n.other.state b.0.port)) (signals_of (wire_of (W j) a).signals) (child-grants-none (is_asked n.other.state b.0.port) (is_named n.other.state b.0.port)) u.line.fits_up)
           ]
       by (done a) h is =
           let b = wired a has_done refl is in
@@ -481,7 +455,7 @@ module _
           let h_b : Holds set b.0.node = (S j).component.closed a b.0 b.1 h in
           elim (one-above (W j) (L j) (I j) a b.0 n.near n.other b.1 n.near_at n.other_at ((S j).all a.node n.near h n.near_at) ((S j).all b.0.node n.other h_b n.other_at)) [
             | inr u ↦ by-done j b.0 a h_b (record { joined = (L j).well_formed.cabling.both_ways a b.0 b.1; above = n.other; above_at = n.other_at; below = n.near; below_at = n.near_at; is = u }) is
-            | inl u ↦ absurd (true≢false (sym is ∙ no-done (parent_mode (is_ready n.other.state.view.phase) n.other.state.view.granted) (signals_of (wire_of (W j) a).signals) (parent-says-none (is_ready n.other.state.view.phase) n.other.state.view.granted) u.line.fits_down))
+            | inl u ↦ contrary is (no-done (parent_mode (is_ready n.other.state.view.phase) n.other.state.view.granted) (signals_of (wire_of (W j) a).signals) (parent-says-none (is_ready n.other.state.view.phase) n.other.state.view.granted) u.line.fits_down)
           ]
       by (node q) h is = by-turn j q h is
 

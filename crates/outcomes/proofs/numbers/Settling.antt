@@ -1,43 +1,11 @@
 -- A component that identifies itself begins with empty lists, and goes on by its walk.
-use Rattle.std.proofs.Common.{◌≡◌, ◌⊎◌, inl, inr, ℕ, zero, suc, ◌-◌, ◌^◌, ◌<◌, ◌≤◌, Bool, true, false, [], Option, Some, None, slice_get, get_or, option_map, refl, sym, ◌∙◌, ap, subst, arith, true≢false}
-use Rattle.std.proofs.lemmas.Bool.{eq-eqb}
+use Rattle.std.proofs.Common.{◌≡◌, ◌⊎◌, inl, inr, ℕ, zero, suc, ◌-◌, ◌^◌, ◌<◌, ◌≤◌, Bool, true, false, [], Option, Some, None, slice_get, get_or, option_map, refl, sym, ◌∙◌, ap, subst, arith}
+use Rattle.std.proofs.lemmas.Bool.{eq-eqb, false_from_ne_true, true_from_ne_false}
 use Rattle.std.proofs.lemmas.Option.{slice_get-map, get_or_from_slice_get}
-use Rattle.self_id.specs.declared.node.Attrs.{Attrs}
-use Rattle.topology_stack.specs.Tree.{Tree}
-use Rattle.cabling.specs.declared.cable.End.{End}
-use Rattle.cabling.specs.Wiring.{Wiring, far, ports_of}
-use Rattle.cabling.specs.NodeSet.{Holds}
-use Rattle.cabling.specs.Component.{IsComponent}
-use Rattle.cabling.specs.Looped.{IsCore}
-use Rattle.cabling.specs.Labels.{labels, no_attrs}
-use Rattle.outcomes.specs.WalkMarks.{mark}
-use Rattle.outcomes.specs.Emit.{emit}
-use Rattle.outcomes.specs.Alike.{Alike}
-use Rattle.port_state.specs.declared.signal.Phase.{Phase}
-use Rattle.port_state.specs.declared.signal.Phase.TheVariants.{ResetStart, ParentShake}
-use Rattle.port_state.specs.declared.states.NodeState.{NodeState}
-use Rattle.port_state.specs.Coins.{coin}
-use Rattle.port_state.specs.Ports.{is_port}
-use Rattle.port_state.specs.Heard.{is_resetting, hears_packets}
-use Rattle.port_state.specs.Group.{shown_attrs}
-use Rattle.port_state.specs.Machine.{PortNode}
-use Rattle.port_state.specs.Tick.{tick}
-use Rattle.cable_world.specs.World.{CableWorld, wire_of}
-use Rattle.cable_world.specs.Turn.{inbox, turn_at, turn, hear_all}
-use Rattle.cable_world.specs.Signals.{signals_of, has_reset}
-use Rattle.cable_world.specs.Agreement.{leads_down}
-use Rattle.cable_world.specs.Lawful.{IsLawful}
-use Rattle.cable_world.specs.Outcome.{attrs_now}
-use Rattle.cable_world.proofs.Lemmas.{cabling-after, node-after, hears, before, some-same, turn-lawful, turn-state, no-packets}
-use Rattle.convergence.proofs.Lemmas.{joined-of, Down, all-under, one-root, turn-acyclic}
-use Rattle.convergence.specs.Acyclic.{IsAcyclic}
-use Rattle.convergence.specs.Milestones.{ResetsAreOverIn, AreIdentifying}
-use Rattle.convergence.specs.Roots.{IsRoot}
-use Rattle.outcomes.specs.NodeMarks.{is_ready, is_asked, is_named, IsMarked}
-use Rattle.outcomes.specs.Messages.{has_grant, has_done, parent_mode, child_mode}
-use Rattle.outcomes.specs.Identify.{IsIdentifying}
-use Rattle.outcomes.specs.RootWalk.{RootWalk}
-use Rattle.outcomes.specs.Numbered.{StandsAt, IsNumbered, IsSettling}
+use Rattle.outcomes.proofs.Common.{contrary, Attrs, Tree, End, Wiring, far, ports_of, Holds, IsComponent, IsCore, labels, mark, emit, Alike, Phase, ResetStart, ParentShake, NodeState, coin, is_port, is_resetting, hears_packets, shown_attrs, PortNode, tick, CableWorld, wire_of, inbox, turn_at, turn, hear_all, signals_of, has_reset, leads_down, IsLawful, attrs_now, cabling-after, node-after, before, some-same, turn-lawful, turn-state, no-packets, joined-of, turn-acyclic, IsAcyclic, ResetsAreOverIn, AreIdentifying, IsRoot, is_ready, is_asked, is_named, IsMarked, has_grant, has_done, parent_mode, child_mode, IsIdentifying, RootWalk, StandsAt, IsNumbered, IsSettling}
+use Rattle.cabling.specs.Labels.{no_attrs}
+use Rattle.cable_world.proofs.Lemmas.{hears}
+use Rattle.convergence.proofs.Lemmas.{Down, all-under, one-root}
 use Rattle.outcomes.proofs.identify.OneMessage.{no-grant, no-done, child-grants-none, parent-says-none, end-of, two-parts}
 use Rattle.outcomes.proofs.identify.Hearing.{parent-connected}
 use Rattle.outcomes.proofs.identify.HearAll.{hear-marked}
@@ -127,7 +95,7 @@ module _
       | inl same ↦ same
       | inr u ↦
           let found = climbs (λ j y. (q : ℕ) × (is_asked y.state q ≡ true)) (λ j y v h_j at_j p. (v.end.port, v.above.line.grants ((i.nodes j y at_j).asks p.0 p.1))) (acyclic.most - acyclic.rank u.end.node) u.end.node u.is (omega arith) u.inside_too u.at (u.end.port, u.above.line.grants g) in
-          absurd (true≢false (sym found.1 ∙ unasked found.0))
+          contrary found.1 (unasked found.0)
     ]
 
     none-ready :
@@ -135,14 +103,14 @@ module _
         is_ready x.state.view.phase ≡ true → ⊥
     none-ready k x h at e =
         let same = at-root k x at (granted-below k x h at ((i.nodes k x at).ready e)) in
-        true≢false (sym e ∙ ap (λ (y : PortNode). is_ready y.state.view.phase) same ∙ unready)
+        contrary e (ap (λ (y : PortNode). is_ready y.state.view.phase) same ∙ unready)
 
     none-asked-there :
         (k q : ℕ) (x : PortNode) → Holds set k → slice_get w.nodes k ≡ Some x →
         is_asked x.state q ≡ true → ⊥
     none-asked-there k q x h at e =
         let same = at-root k x at (granted-below k x h at ((i.nodes k x at).asks q e)) in
-        true≢false (sym e ∙ ap (λ (y : PortNode). is_asked y.state q) same ∙ unasked q)
+        contrary e (ap (λ (y : PortNode). is_asked y.state q) same ∙ unasked q)
 
     no-grants :
         (a b : End) (x : PortNode) → Holds set b.node → far w.cabling b ≡ Some a →
@@ -151,7 +119,7 @@ module _
         let n = joined-of w b a l.well_formed e in
         let h_a : Holds set a.node = comp.closed b a e h in
         elim (one-above w l i b a x n.other e at n.other_at (all b.node x h at) (all a.node n.other h_a n.other_at)) [
-          | inl u ↦ true≢false (sym g ∙ no-grant (child_mode (is_asked x.state b.port) (is_named x.state b.port)) (signals_of (wire_of w a).signals) (child-grants-none (is_asked x.state b.port) (is_named x.state b.port)) u.line.fits_up)
+          | inl u ↦ contrary g (no-grant (child_mode (is_asked x.state b.port) (is_named x.state b.port)) (signals_of (wire_of w a).signals) (child-grants-none (is_asked x.state b.port) (is_named x.state b.port)) u.line.fits_up)
           | inr u ↦ none-asked-there a.node a.port n.other h_a n.other_at (two-parts (is_asked n.other.state a.port) x.state.view.granted (sym u.line.granting ∙ g)).0
         ]
 
@@ -163,7 +131,7 @@ module _
         let h_a : Holds set a.node = comp.closed b a e h in
         elim (one-above w l i b a x n.other e at n.other_at (all b.node x h at) (all a.node n.other h_a n.other_at)) [
           | inl u ↦ none-ready a.node n.other h_a n.other_at (two-parts (is_ready n.other.state.view.phase) (is_named x.state b.port) (sym u.line.naming ∙ g)).0
-          | inr u ↦ true≢false (sym g ∙ no-done (parent_mode (is_ready x.state.view.phase) x.state.view.granted) (signals_of (wire_of w a).signals) (parent-says-none (is_ready x.state.view.phase) x.state.view.granted) u.line.fits_down)
+          | inr u ↦ contrary g (no-done (parent_mode (is_ready x.state.view.phase) x.state.view.granted) (signals_of (wire_of w a).signals) (parent-says-none (is_ready x.state.view.phase) x.state.view.granted) u.line.fits_down)
         ]
 
     pub begins-numbered : (t : Tree) → RootWalk w set root t → IsNumbered w set root t
@@ -182,11 +150,7 @@ module _
         childless :
             (k : ℕ) (x : PortNode) → Holds set k → slice_get w.nodes k ≡ Some x → (p : ℕ) →
             StandsAt x.state p → (j : ℕ) → j < p → leads_down x.state.view.ports j ≡ false
-        childless k x h at p st j high = go (leads_down x.state.view.ports j) refl
-          where
-            go : (b : Bool) → leads_down x.state.view.ports j ≡ b → b ≡ false
-            go true e = absurd (none-asked-there k j x h at ((i.nodes k x at).named j (st.named j high e)))
-            go false e = refl
+        childless k x h at p st j high = false_from_ne_true _ (λ e. none-asked-there k j x h at ((i.nodes k x at).named j (st.named j high e)))
 
 -- ---- a turn after which all are there, and the root comes in it
 
@@ -212,7 +176,7 @@ module _
   ]
 
   marked : IsMarked (hear_all (inbox w 0 (ports_of w.cabling root)) x.state).state
-  marked = hear-marked (inbox w 0 (ports_of w.cabling root)) x.state (l.well_formed.nodes root x at).valid (i.nodes root x at) (λ h. absurd (true≢false (sym h ∙ out)))
+  marked = hear-marked (inbox w 0 (ports_of w.cabling root)) x.state (l.well_formed.nodes root x at).valid (i.nodes root x at) (λ h. contrary h out)
 
   comes-in :
       Arrives (hear_all (inbox w 0 (ports_of w.cabling root)) x.state).state (tick (coin x.coins) (hear_all (inbox w 0 (ports_of w.cabling root)) x.state).state).state
@@ -342,7 +306,7 @@ module _
       let up : hears_packets c.above.state.view.phase ≡ true = hears-down n d.0.node d.4 in_a c.above c.above_at in
       let same : x ≡ c.below = some-same x c.below (sym at ∙ sym (ap (slice_get w.nodes) d.3) ∙ c.below_at) in
       elim ((i.greets d.0 d.1 c.above c.below c.joined c.above_at c.below_at).both c.child (calm (has_reset (signals_of (wire_of w d.1).signals)) c.above.state.view.phase up (over d.1 d.0 c.above in_a (l.well_formed.cabling.both_ways d.0 d.1 c.joined) c.above_at))) [
-        | inl s ↦ absurd (true≢false (sym up ∙ ap hears_packets s))
+        | inl s ↦ contrary up (ap hears_packets s)
         | inr s ↦ ap (λ (y : PortNode). hears_packets y.state.view.phase) same ∙ s
       ]
     where
@@ -353,11 +317,7 @@ module _
       calm false h e f = refl
 
   pub all-below : AreIdentifying w set
-  all-below k x h at = go (hears_packets x.state.view.phase) refl
-    where
-      go : (b : Bool) → hears_packets x.state.view.phase ≡ b → b ≡ true
-      go true e = refl
-      go false e = absurd (all-under w l set over root r comp k h (λ u. true≢false (sym (hears-down u.0 k u.1 h x at) ∙ e)))
+  all-below k x h at = true_from_ne_false _ (λ e. all-under w l set over root r comp k h (λ u. contrary (hears-down u.0 k u.1 h x at) e))
 
 module _
     (w : CableWorld) (l : IsLawful w) (acyclic : IsAcyclic w) (i : IsIdentifying w)
@@ -373,7 +333,7 @@ module _
 
   -- were the root there before, all nodes were
   root-out : hears_packets was.0.state.view.phase ≡ false
-  root-out = go (hears_packets was.0.state.view.phase) refl
+  root-out = false_from_ne_true _ (λ e. not-yet (all-below w l i set root comp inside calm-first (record { node = was.0; at = was.1; late = hears-late was.0.state.view.phase e; parentless = parent e }) e))
     where
       x : PortNode
       x = was.0
@@ -401,10 +361,6 @@ module _
         where
           off-start : {h : Phase} → h ≡ ParentShake → h ≡ ResetStart → ⊥
           off-start a b = let c : ParentShake ≡ ResetStart = sym a ∙ b in absurd cc
-
-      go : (b : Bool) → hears_packets was.0.state.view.phase ≡ b → b ≡ false
-      go false e = refl
-      go true e = absurd (not-yet (all-below w l i set root comp inside calm-first (record { node = was.0; at = was.1; late = hears-late was.0.state.view.phase e; parentless = parent e }) e))
 
   pub settles-first : IsSettling (turn w) set core root t
   settles-first =

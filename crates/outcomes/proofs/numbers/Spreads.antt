@@ -1,39 +1,18 @@
 -- Once all nodes are in A0 the root's list spreads: on each cable the packets come within d turns.
 use Rattle.std.proofs.Common.{length-append, ◌≡◌, inl, inr, ℕ, zero, suc, ◌+◌, ◌-◌, ◌*◌, ◌<◌, ◌≤◌, Bool, true, false, not, ◌&&◌, ◌||◌, List, [], ◌∷◌, ◌++◌, map, length, Option, Some, slice_get, refl, sym, ◌∙◌, ap, subst, arith, true≢false, if◌then◌else◌}
-use Rattle.topology_stack.specs.Tree.{Tree, emits}
-use Rattle.cabling.specs.declared.cable.End.{End}
-use Rattle.cabling.specs.Wiring.{Wiring}
-use Rattle.cabling.specs.NodeSet.{Holds}
+use Rattle.outcomes.proofs.Common.{Tree, emits, End, Wiring, Holds, PortNode, new_signal, age_signal, age_wire, gives, CableWorld, wire_of, IsReached, turn_at, turn, signals_of, IsLawful, node-after, side, side-wire, after-delay, some-same, departures, ticking, reached-lawful, is_ready, is_asked, is_named, silent, quads_in, has_grant, has_done, MessagesSince, parent_mode, child_mode, allows, IsSettling, IsAtRest, IsTree, HoldSchedule, quiet_after, parent_of, parent_now, place_now, numbers, mark, emit, is_port, contrary, joined-of}
 use Rattle.port_state.specs.declared.signal.Signal.TheVariants as signal
-use Rattle.port_state.specs.Machine.{PortNode}
-use Rattle.cable_world.specs.Wire.{new_signal, age_signal, age_wire, gives}
-use Rattle.cable_world.specs.World.{CableWorld, wire_of}
-use Rattle.cable_world.specs.Run.{IsReached}
-use Rattle.cable_world.specs.Turn.{turn_at, turn}
-use Rattle.cable_world.specs.Signals.{signals_of}
-use Rattle.cable_world.specs.Lawful.{IsLawful}
-use Rattle.cable_world.proofs.Lemmas.{node-after, side, side-node, side-wire, after-delay, some-same, departures, ticking, reached-lawful}
-use Rattle.outcomes.specs.NodeMarks.{is_ready, is_asked, is_named}
-use Rattle.outcomes.specs.Messages.{silent, quads_in, has_grant, has_done, MessagesSince, parent_mode, child_mode, allows}
+use Rattle.cable_world.proofs.Lemmas.{side-node}
 use Rattle.outcomes.specs.Messages as message
-use Rattle.outcomes.specs.Numbered.{IsSettling, IsAtRest}
 use Rattle.outcomes.proofs.numbers.AtRest.{silent-of, stays-tree}
-use Rattle.cable_world.specs.Outcome.{IsTree}
-use Rattle.cable_world.specs.Quiet.{HoldSchedule, quiet_after}
 use Rattle.outcomes.proofs.identify.OneMessage.{no-grant, no-done, parent-says-none, child-grants-none}
 use Rattle.outcomes.proofs.identify.ListsFollow.{IsAbove, one-above}
 use Rattle.outcomes.proofs.numbers.Settling.{up-or-root}
 use Rattle.outcomes.proofs.identify.MarksKept.{hears-late}
 use Rattle.outcomes.proofs.identify.Ports.{child-role}
-use Rattle.outcomes.specs.RootWalk.{parent_of, parent_now, place_now}
-use Rattle.cabling.specs.Sees.{numbers}
-use Rattle.outcomes.specs.WalkMarks.{mark}
-use Rattle.outcomes.specs.Emit.{emit}
 use Rattle.outcomes.proofs.walks.Rising.{child-before, places-differ}
-use Rattle.port_state.specs.Ports.{is_port}
 use Rattle.std.proofs.lemmas.Bool.{eq-eqb}
 use Rattle.std.proofs.lemmas.Option.{slice_get_within}
-use Rattle.convergence.proofs.Lemmas.{joined-of}
 use Rattle.outcomes.proofs.identify.Messages.{kept-room, quads-append, has_grant-append, has_done-append, silent-quads, since-zero, since-older, since-append, since-silent, since-none}
 use Rattle.outcomes.proofs.numbers.NumberedTurn.{above-line}
 use Rattle.outcomes.proofs.numbers.Progress.{node-rises}
@@ -169,7 +148,7 @@ module _
         child-before (V j).cabling (parent_now (V j)) set root (numbers (V j).cabling root t) (mark (V j).cabling root t 0) (s j).walk.marked a.node a.port b h n.joined
         (λ e.
         let off = (child-role n.above.state a.port ((l j).well_formed.nodes a.node n.above n.above_at).valid (hears-late n.above.state.view.phase ((s j).all a.node n.above h n.above_at)) n.is.child).0 in
-        true≢false (sym (ap (λ (o : Option ℕ). is_port o a.port) (sym (ap parent_of n.above_at) ∙ e) ∙ eq-eqb a.port a.port refl) ∙ off))
+        contrary (ap (λ (o : Option ℕ). is_port o a.port) (sym (ap parent_of n.above_at) ∙ e) ∙ eq-eqb a.port a.port refl) off)
 
     only-root :
         (q : ℕ) → Holds set q → length (numbers (V j).cabling root t) ≤ place_now (V j)

@@ -1,38 +1,18 @@
 -- A node in self identify or A0 takes its turn: its list, its ID and what is under way to it go by
 -- the walk.
 use Rattle.std.proofs.Common.{◌≡◌, inl, inr, ℕ, ◌+◌, ◌<◌, ◌≤◌, Bool, true, false, ◌&&◌, ◌==◌, List, [], ◌∷◌, ◌++◌, Some, None, refl, sym, ◌∙◌, ap, subst, arith, true≢false, if◌then◌else◌}
-use Rattle.std.proofs.lemmas.Bool.{eq-eqb, eqb-true, and_parts, cases_lt, cases_eq}
-use Rattle.self_id.specs.Node.{Node}
-use Rattle.self_id.specs.Group.{group, node_count}
-use Rattle.port_state.specs.declared.signal.Level.{Level}
+use Rattle.std.proofs.lemmas.Bool.{eq-eqb, eqb-true, and_parts, cases_lt, cases_eq, false_from_ne_true}
+use Rattle.outcomes.proofs.Common.{contrary, Node, group, node_count, Level, SelfIdent, Signal, NodeState, is_port, is_unnamed, lowest, is_connected, with_port, sent_on, silent_step, is_identifying, hears_packets, with_packet, with_level, hears, is_heard, on_signal, shown_node, own_group, Row, raise_timer, does, next_row, tick, IsValid, valid-raise_timer, sound-on_signal, port_is-changed, leads_down, hear-stays, no-packets, hear_all, is_ready, is_asked, is_named, IsMarked, is_message, silent, quads_in, has_grant, has_done, kept, parent_mode, child_mode, mode_of, mode, allows, fits, StandsAt}
 use Rattle.port_state.specs.declared.signal.Level.TheVariants as level
-use Rattle.port_state.specs.declared.signal.Phase.TheVariants.{SelfIdent}
-use Rattle.port_state.specs.declared.signal.Signal.{Signal}
 use Rattle.port_state.specs.declared.signal.Signal.TheVariants as signal
-use Rattle.port_state.specs.declared.states.NodeState.{NodeState}
-use Rattle.port_state.specs.Ports.{is_port, is_unnamed, lowest, is_connected}
-use Rattle.port_state.specs.Entry.{with_port}
-use Rattle.port_state.specs.Sends.{sent_on}
-use Rattle.port_state.specs.Step.{Step, silent_step}
-use Rattle.port_state.specs.Heard.{is_identifying, hears_packets, with_packet, with_level, hears, is_heard, on_signal}
-use Rattle.port_state.specs.Group.{shown_node, own_group}
+use Rattle.port_state.specs.Step.{Step}
 use Rattle.port_state.specs.Row as row
-use Rattle.port_state.specs.Row.{Row}
-use Rattle.port_state.specs.Tick.{raise_timer, does, next_row, tick}
-use Rattle.port_state.specs.Valid.{IsValid}
-use Rattle.port_state.proofs.Lemmas.{valid-raise_timer, sound-on_signal, port_is-changed}
-use Rattle.cable_world.specs.Agreement.{leads_down}
-use Rattle.cable_world.proofs.Lemmas.{hear-stays, Chosen, chosen, no-packets}
-use Rattle.cable_world.specs.Turn.{hear_all}
-use Rattle.outcomes.specs.NodeMarks.{is_ready, is_asked, is_named, IsMarked}
-use Rattle.outcomes.specs.Messages.{is_message, silent, quads_in, has_grant, has_done, kept, parent_mode, child_mode, mode_of, mode, allows, fits}
-use Rattle.outcomes.specs.Numbered.{StandsAt}
 use Rattle.outcomes.proofs.identify.Messages.{shut-silent, silent-quads, silent-grant, silent-done}
 use Rattle.outcomes.proofs.identify.Ports.{changed-other, changed-here, lowest-is, lowest-first, child-role, not-unnamed, is-unnamed}
-use Rattle.outcomes.proofs.identify.MarksKept.{hears-late, done-asked, signal-marked, raised-marked, Goes, goes, all-named}
+use Rattle.outcomes.proofs.identify.MarksKept.{hears-late, done-asked, signal-marked, raised-marked, all-named}
 use Rattle.outcomes.proofs.identify.Hearing.{Stays, signal-stays, level-asked, level-named, reset-heard}
 use Rattle.outcomes.proofs.identify.LinedHears.{with, unheard-level, front-hears, others-silent}
-use Rattle.outcomes.proofs.identify.LinedTicks.{off}
+use Rattle.outcomes.proofs.identify.LateRows.{LateRow, rests, asks_next, names_now, late-row}
 use Rattle.outcomes.proofs.numbers.NodeMessages.{shown-port, level-owed, level-grant, level-done, rest-fits, after-grant, after-done, at-port, no-packet, root-packet, grant-comes}
 
 -- ---- a node of the walk
@@ -109,11 +89,7 @@ module _ (n : ℕ) (em : ℕ → List ℕ) (mk : ℕ → ℕ) (c : Node) where
         none :
             (i : ℕ) → (leads_down x.view.ports i ≡ true → is_named x i ≡ true) →
             leads_down x.view.ports i ≡ false
-        none i all = go (leads_down x.view.ports i) refl
-          where
-            go : (b : Bool) → leads_down x.view.ports i ≡ b → b ≡ false
-            go true e = absurd (true≢false (sym (m.asks i (m.named i (all e))) ∙ ungranted))
-            go false e = refl
+        none i all = false_from_ne_true _ (λ e. contrary (m.asks i (m.named i (all e))) ungranted)
 
         here :
             (b : Bool) → b ≡ true →
@@ -158,7 +134,7 @@ module _ (n : ℕ) (em : ℕ → List ℕ) (mk : ℕ → ℕ) (c : Node) where
             (k == j) ≡ b → fits (mode x j) (with b (signal.Packet quad) (pend j)) ≡ true →
             (test (with b (signal.Packet quad) (pend j)) ≡ true → kept x.list.items (quads_in (with b (signal.Packet quad) (pend j))) ≡ end) → (test (pend j) ≡ true → test (signal.Packet quad ∷ pend j) ≡ true) → test (pend j) ≡ true → kept (with_packet quad x.list.items) (quads_in (pend j)) ≡ end
         go test end none j true e f o same t = o (same t)
-        go test end none j false e f o same t = absurd (true≢false (sym t ∙ none (pend j) (others-silent x k j quad (pend j) m e a f)))
+        go test end none j false e f o same t = contrary t (none (pend j) (others-silent x k j quad (pend j) m e a f))
 
     hears-done :
         leads_down x.view.ports k ≡ true → fits (mode x k) (signal.Done ∷ pend k) ≡ true →
@@ -187,12 +163,14 @@ module _ (n : ℕ) (em : ℕ → List ℕ) (mk : ℕ → ℕ) (c : Node) where
         behind : (p : ℕ) → StandsAt y p → k + 1 ≤ p
         behind p st = elim (cases_lt k p) [
           | inl less ↦ omega (arith, less)
-          | inr more ↦ absurd (true≢false (sym was.0 ∙ sym (asked k) ∙ st.unasked k more))
+          | inr more ↦ contrary was.0 (sym (asked k) ∙ st.unasked k more)
         ]
 
         none :
             (p : ℕ) → StandsAt y p → (i : ℕ) → k + 1 ≤ i → i < p → leads_down x.view.ports i ≡ false
-        none p st i low high = go (leads_down x.view.ports i) refl
+        none p st i low high = false_from_ne_true _ (λ e.
+            let now : is_named x i ≡ true = sym (changed-other (λ q. q.named) k i (λ q. record q { named = true }) x.view.ports apart) ∙ st.named i high (child i ∙ e) in
+            contrary (m.order k i (omega (arith, low)) (m.named i now) d) was.1)
           where
             apart : (i == k) ≡ false
             apart = other (i == k) refl
@@ -200,12 +178,6 @@ module _ (n : ℕ) (em : ℕ → List ℕ) (mk : ℕ → ℕ) (c : Node) where
                 other : (b : Bool) → (i == k) ≡ b → b ≡ false
                 other true e = let same : i ≡ k = eqb-true i k e in absurd (omega (arith, low, same))
                 other false e = refl
-
-            go : (b : Bool) → leads_down x.view.ports i ≡ b → b ≡ false
-            go false e = refl
-            go true e =
-                let now : is_named x i ≡ true = sym (changed-other (λ q. q.named) k i (λ q. record q { named = true }) x.view.ports apart) ∙ st.named i high (child i ∙ e) in
-                absurd (true≢false (sym (m.order k i (omega (arith, low)) (m.named i now) d) ∙ was.1))
 
         here :
             (b : Bool) → b ≡ true →
@@ -414,7 +386,7 @@ module _ (n : ℕ) (em : ℕ → List ℕ) (mk : ℕ → ℕ) (c : Node) where
       (add : em (mk n + 1) ≡ em (mk n) ++ group c (mk n)) (count : node_count (em (mk n)) ≡ mk n)
       (g : Goes-on x pend) where
     idle : Ticks-so x x
-    idle = record { asks = λ q a b. absurd (true≢false (sym b ∙ a)); names = λ a b. absurd (true≢false (sym b ∙ a)) }
+    idle = record { asks = λ q a b. contrary b a; names = λ a b. contrary b a }
 
     asks-child :
         (k : ℕ) → x.view.phase ≡ SelfIdent → x.view.granted ≡ true →
@@ -425,8 +397,8 @@ module _ (n : ℕ) (em : ℕ → List ℕ) (mk : ℕ → ℕ) (c : Node) where
       record {
         id = g.id;
         turn = λ gr u p le st. absurd (elim (cases_lt k p) [
-          | inl less ↦ true≢false (sym (m.named k (sym (named k) ∙ st.named k less (child k ∙ here))) ∙ none)
-          | inr more ↦ true≢false (sym (asked k (eq-eqb k k refl)) ∙ st.unasked k more)
+          | inl less ↦ contrary (m.named k (sym (named k) ∙ st.named k less (child k ∙ here))) none
+          | inr more ↦ contrary (asked k (eq-eqb k k refl)) (st.unasked k more)
         ]);
         grant = g.grant;
         done = g.done;
@@ -435,9 +407,9 @@ module _ (n : ℕ) (em : ℕ → List ℕ) (mk : ℕ → ℕ) (c : Node) where
       record {
         asks = λ q a b. elim (cases_eq q k) [
           | inl same ↦ subst (λ (i : ℕ). x.list.items ≡ em (mk i)) (sym same) now
-          | inr ne ↦ absurd (true≢false (sym b ∙ changed-other (λ q. q.asked) k q (λ q. record q { asked = true }) x.view.ports (apart q k ne) ∙ a))
+          | inr ne ↦ contrary b (changed-other (λ q. q.asked) k q (λ q. record q { asked = true }) x.view.ports (apart q k ne) ∙ a)
         ];
-        names = λ a b. absurd (true≢false (sym b ∙ a));
+        names = λ a b. contrary b a;
       },
     )
       where
@@ -457,11 +429,7 @@ module _ (n : ℕ) (em : ℕ → List ℕ) (mk : ℕ → ℕ) (c : Node) where
         asked i same = changed-here (λ q. q.asked) (λ q. q.child) k i (λ q. record q { asked = true }) x.view.ports (λ q. refl) same (subst (λ (j : ℕ). leads_down x.view.ports j ≡ true) (sym (eqb-true i k same)) here)
 
         apart : (i j : ℕ) → (i ≡ j → ⊥) → (i == j) ≡ false
-        apart i j ne = go (i == j) refl
-          where
-            go : (b : Bool) → (i == j) ≡ b → b ≡ false
-            go true e = absurd (ne (eqb-true i j e))
-            go false e = refl
+        apart i j ne = false_from_ne_true _ (λ e. ne (eqb-true i j e))
 
         late-unasked : (i : ℕ) → k ≤ i → is_asked x i ≡ false
         late-unasked i le = go (is_asked x i) refl
@@ -469,8 +437,8 @@ module _ (n : ℕ) (em : ℕ → List ℕ) (mk : ℕ → ℕ) (c : Node) where
             go : (b : Bool) → is_asked x i ≡ b → b ≡ false
             go false e = refl
             go true e = absurd (elim (cases_eq i k) [
-              | inl same ↦ true≢false (sym e ∙ ap (is_asked x) same ∙ none)
-              | inr ne ↦ true≢false (sym (m.named k (m.order k i (omega (arith, le, ne)) e here)) ∙ none)
+              | inl same ↦ contrary e (ap (is_asked x) same ∙ none)
+              | inr ne ↦ contrary (m.named k (m.order k i (omega (arith, le, ne)) e here)) none
             ])
 
         stands : StandsAt x k
@@ -490,12 +458,12 @@ module _ (n : ℕ) (em : ℕ → List ℕ) (mk : ℕ → ℕ) (c : Node) where
       record {
         id = λ rd. ap (λ (i : ℕ). Some i) many;
         turn = λ gr u. absurd (true≢false u);
-        grant = λ j t. absurd (true≢false (sym t ∙ silent-grant (pend j) (quiet-port j)));
-        done = λ j t. absurd (true≢false (sym t ∙ silent-done (pend j) (quiet-port j)));
+        grant = λ j t. contrary t (silent-grant (pend j) (quiet-port j));
+        done = λ j t. contrary t (silent-done (pend j) (quiet-port j));
         last = λ rd o. whole;
       },
       record {
-        asks = λ q a b. absurd (true≢false (sym b ∙ a));
+        asks = λ q a b. contrary b a;
         names = λ a b. whole;
       },
     )
@@ -504,11 +472,7 @@ module _ (n : ℕ) (em : ℕ → List ℕ) (mk : ℕ → ℕ) (c : Node) where
         all = all-named x v (hears-late x.view.phase h) low
 
         unasked : (i : ℕ) → n ≤ i → is_asked x i ≡ false
-        unasked i le = go (is_asked x i) refl
-          where
-            go : (b : Bool) → is_asked x i ≡ b → b ≡ false
-            go false e = refl
-            go true e = absurd (omega (arith, le, r.below i (m.asked i e)))
+        unasked i le = false_from_ne_true _ (λ e. omega (arith, le, r.below i (m.asked i e)))
 
         now : x.list.items ≡ em (mk n)
         now = g.turn gr (ap is_ready e) n (omega arith) (record { named = λ i less d. all i d; unasked = unasked })
@@ -534,24 +498,14 @@ module _ (n : ℕ) (em : ℕ → List ℕ) (mk : ℕ → ℕ) (c : Node) where
             go true false true a n er eb ea en f = shut-silent (pend j) f
             go false r b true true er eb ea en f = shut-silent (pend j) f
             go false r b false n er eb ea en f = shut-silent (pend j) f
-            go false r b true false er eb ea en f = absurd (true≢false (sym (all j (m.asked j ea)) ∙ en))
+            go false r b true false er eb ea en f = contrary (all j (m.asked j ea)) en
 
     does-so :
-        (coin : Bool) (w : Row) → Chosen w x → Goes w x →
+        (coin : Bool) (w : Row) → LateRow x w →
         Goes-on (does coin w x).state pend × Ticks-so x (does coin w x).state
-    does-so coin row.none k o = (g, idle)
-    does-so coin row.times_out k o = (record { id = g.id; turn = λ gr u p le st. g.turn gr u p le (record { named = st.named; unasked = st.unasked }); grant = g.grant; done = g.done; last = g.last }, record { asks = idle.asks; names = idle.names })
-    does-so coin row.ends_reset k o = absurd (off k.0 refl h)
-    does-so coin row.begins_tree k o = absurd (off k.0 refl h)
-    does-so coin row.takes_roles k o = absurd (off k.0 refl h)
-    does-so coin row.awaits_parent k o = absurd (off k refl h)
-    does-so coin row.becomes_root k o = absurd (off k.0 refl h)
-    does-so coin (row.finds_parent p) k o = absurd (off k.0 refl h)
-    does-so coin (row.begins_contention p) k o = absurd (off k.0 refl h)
-    does-so coin (row.takes_rival p) k o = absurd (off k.0 refl h)
-    does-so coin (row.asks_again p) k o = absurd (off k.0 refl h)
-    does-so coin (row.asks_child p) k o = asks-child p k o.0 o.1 o.2
-    does-so coin row.names_itself k o = names-itself k o.0 o.1
+    does-so coin w rests = (g, idle)
+    does-so coin w (asks_next p a) = asks-child p a.phase a.granted a.next a.unasked
+    does-so coin w (names_now e) = names-itself e.phase e.granted e.last
 
   pub ticks-so :
       (coin : Bool) (x : NodeState) (pend : ℕ → List Signal) → IsValid x → IsMarked x →
@@ -560,5 +514,5 @@ module _ (n : ℕ) (em : ℕ → List ℕ) (mk : ℕ → ℕ) (c : Node) where
       Goes-on (tick coin x).state pend × Ticks-so x (tick coin x).state
   unfolding tick
   ticks-so coin x pend v m h r f add count g =
-      let o = does-so (raise_timer x) pend (valid-raise_timer x v) (raised-marked x m) h (record { flat = r.flat; below = r.below; shown = r.shown }) f add count (record { id = g.id; turn = λ gr u p le st. g.turn gr u p le (record { named = st.named; unasked = st.unasked }); grant = g.grant; done = g.done; last = g.last }) coin (next_row x) (chosen x.view.phase (raise_timer x) refl) (goes x.view.phase (raise_timer x)) in
+      let o = does-so (raise_timer x) pend (valid-raise_timer x v) (raised-marked x m) h (record { flat = r.flat; below = r.below; shown = r.shown }) f add count (record { id = g.id; turn = λ gr u p le st. g.turn gr u p le (record { named = st.named; unasked = st.unasked }); grant = g.grant; done = g.done; last = g.last }) coin (next_row x) (late-row x h) in
       (o.0, record { asks = o.1.asks; names = o.1.names })

@@ -1,21 +1,9 @@
 -- In a component all of whose nodes are in self identify or A0 no Reset is under way, nor was one
 -- in the turn before.
-use Rattle.std.proofs.Common.{◌≡◌, inl, inr, ℕ, Bool, true, false, Some, slice_get, refl, sym, ◌∙◌, ap, true≢false}
-use Rattle.cabling.specs.Wiring.{ports_of}
-use Rattle.cabling.specs.NodeSet.{Holds}
-use Rattle.cabling.specs.Component.{IsClosed}
-use Rattle.port_state.specs.declared.signal.Phase.{Phase}
-use Rattle.port_state.specs.declared.signal.Phase.TheVariants.{ParentShake}
-use Rattle.port_state.specs.declared.states.NodeState.{NodeState}
-use Rattle.port_state.specs.Coins.{coin}
-use Rattle.port_state.specs.Heard.{is_resetting, hears_packets}
-use Rattle.port_state.specs.Machine.{PortNode}
-use Rattle.cable_world.specs.World.{CableWorld}
-use Rattle.cable_world.specs.Turn.{inbox, turn_at, turn, hear_all}
-use Rattle.cable_world.specs.Lawful.{IsLawful}
-use Rattle.cable_world.proofs.Lemmas.{node-after, hears, turn-state, no-packets}
-use Rattle.convergence.proofs.Lemmas.{joined-of}
-use Rattle.convergence.specs.Milestones.{ResetsAreOverIn, AreIdentifying}
+use Rattle.std.proofs.Common.{◌≡◌, inl, inr, ℕ, Bool, true, false, Some, slice_get, refl, sym, ◌∙◌, ap}
+use Rattle.std.proofs.lemmas.Bool.{false_from_ne_true}
+use Rattle.outcomes.proofs.Common.{contrary, ports_of, Holds, IsClosed, Phase, ParentShake, NodeState, coin, is_resetting, hears_packets, PortNode, CableWorld, inbox, turn_at, turn, hear_all, IsLawful, node-after, turn-state, no-packets, joined-of, ResetsAreOverIn, AreIdentifying}
+use Rattle.cable_world.proofs.Lemmas.{hears}
 use Rattle.outcomes.proofs.identify.LinedTicks.{arrives}
 
 pub calm-in :
@@ -40,14 +28,10 @@ module _
   ]
 
   mute : (h : Phase) → is_resetting h ≡ true → hears_packets h ≡ false
-  mute h e = go (hears_packets h) refl
-    where
-      go : (b : Bool) → hears_packets h ≡ b → b ≡ false
-      go false f = refl
-      go true f = absurd (no-packets h e f)
+  mute h e = false_from_ne_true _ (λ f. no-packets h e f)
 
   not-shaking : (h : Phase) → is_resetting h ≡ true → h ≡ ParentShake → ⊥
-  not-shaking h e f = true≢false (sym e ∙ ap is_resetting f)
+  not-shaking h e f = contrary e (ap is_resetting f)
 
   pub still-out : hears_packets (turn_at w k x).node.state.view.phase ≡ false
   still-out = go (hears_packets (turn_at w k x).node.state.view.phase) refl
@@ -64,4 +48,4 @@ calm-before w l set closed all a b y h e at r =
     let n = joined-of w a b l.well_formed e in
     let h_a : Holds set a.node = closed b a (l.well_formed.cabling.both_ways a b e) h in
     let out = still-out w l a.node n.near n.near_at ((l.coupled.cables a b n.near y e n.near_at at).reset r) in
-    absurd (true≢false (sym (all a.node (turn_at w a.node n.near).node h_a (node-after w a.node n.near l.well_formed.count n.near_at)) ∙ out))
+    contrary (all a.node (turn_at w a.node n.near).node h_a (node-after w a.node n.near l.well_formed.count n.near_at)) out

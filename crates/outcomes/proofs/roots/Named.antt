@@ -1,29 +1,11 @@
 -- Where all nodes below a root are named and have the list, the component has come to a tree.
 use Rattle.std.proofs.Common.{◌≡◌, ℕ, ◌^◌, ◌<◌, is_some, Option, Some, None, IsSome, IsSomeAnd, List, length, slice_get, sym, ap, ◌∙◌}
-use Rattle.topology_stack.specs.Tree.{Tree, emits}
-use Rattle.cabling.specs.declared.cable.End.{End}
-use Rattle.cabling.specs.Wiring.{ports_of}
-use Rattle.cabling.specs.NodeSet.{Holds}
-use Rattle.cabling.specs.Component.{IsComponent}
-use Rattle.cabling.specs.Looped.{IsCore}
-use Rattle.cabling.specs.Labels.{labels}
-use Rattle.cabling.specs.Sees.{numbers}
-use Rattle.outcomes.specs.Parents.{LeadsUp}
-use Rattle.outcomes.specs.WalkMarks.{mark}
-use Rattle.outcomes.specs.Alike.{Alike, SeenAlike}
-use Rattle.cabling.proofs.Lemmas.{Loopless, one-tree}
+use Rattle.outcomes.proofs.Common.{Tree, emits, End, ports_of, Holds, IsComponent, IsCore, labels, numbers, LeadsUp, mark, Alike, Loopless, PortNode, CableWorld, IsLawful, attrs_now, IsTree, some-at, IsAcyclic, ResetsAreOverIn, IsRoot, parent_of, parent_now, place_now, RootWalk, no-root-with-loop}
+use Rattle.outcomes.specs.Alike.{SeenAlike}
+use Rattle.cabling.proofs.Lemmas.{one-tree}
 use Rattle.outcomes.proofs.walks.WaysUp.{tree-ways}
 use Rattle.outcomes.proofs.walks.Alike.{seen-alike}
-use Rattle.port_state.specs.Machine.{PortNode}
-use Rattle.cable_world.specs.World.{CableWorld}
-use Rattle.cable_world.specs.Lawful.{IsLawful}
-use Rattle.cable_world.specs.Outcome.{attrs_now, IsTree}
-use Rattle.cable_world.proofs.Lemmas.{some-at}
-use Rattle.convergence.specs.Acyclic.{IsAcyclic}
-use Rattle.convergence.specs.Milestones.{ResetsAreOverIn}
-use Rattle.convergence.specs.Roots.{IsRoot}
-use Rattle.outcomes.specs.RootWalk.{parent_of, parent_now, place_now, RootWalk, IsNamed, SameWalk}
-use Rattle.convergence.proofs.Lemmas.{no-root-with-loop}
+use Rattle.outcomes.specs.RootWalk.{IsNamed, SameWalk}
 use Rattle.outcomes.proofs.roots.RootWalk.{node-at, ground-less}
 
 module _

@@ -1,25 +1,15 @@
 -- The group that a node sends is that of its label in the tree.
 use Rattle.std.proofs.Common.{◌≡◌, ℕ, suc, ◌+◌, ◌-◌, Bool, true, false, not, cond, is_some, Option, Some, None, List, [], ◌∷◌, ◌++◌, length, get_or, slice_get, replicate, option_map, refl, sym, subst, ap, ◌∙◌, arith}
 use Rattle.std.proofs.lemmas.Option.{slice_get-map, get_or_from_slice_get}
-use Rattle.self_id.specs.declared.node.Attrs.{Attrs}
+use Rattle.outcomes.proofs.Common.{Attrs, Node, End, far, ports_of, slot_count, PortView, NodeState, is_port, is_connected, FitsRole, PortNode, CableWorld, attrs_now}
 use Rattle.self_id.specs.declared.node.PortStatus.{PortStatus}
 use Rattle.self_id.specs.declared.node.PortStatus.TheVariants.{Absent, Unplugged, Up, Down}
-use Rattle.self_id.specs.Node.{Node}
-use Rattle.cabling.specs.declared.cable.End.{End}
-use Rattle.cabling.specs.Wiring.{far, ports_of}
-use Rattle.self_id.specs.Slots.{slot_count}
 use Rattle.cabling.proofs.Lemmas.{is_from}
 use Rattle.cabling.specs.Labels as label
 use Rattle.cabling.proofs.Lemmas as seen
-use Rattle.port_state.specs.declared.ports.PortView.{PortView}
-use Rattle.port_state.specs.declared.states.NodeState.{NodeState}
-use Rattle.port_state.specs.Ports.{is_port, is_connected}
-use Rattle.port_state.specs.Valid.{FitsRole, HasRoles}
+use Rattle.port_state.specs.Valid.{HasRoles}
 use Rattle.port_state.specs.Group as own
-use Rattle.port_state.specs.Machine.{PortNode}
-use Rattle.cable_world.specs.World.{CableWorld}
 use Rattle.cable_world.specs.Lawful.{FitsCables}
-use Rattle.cable_world.specs.Outcome.{attrs_now}
 
 -- ---- one port
 

@@ -1,50 +1,28 @@
 -- Below a root that knows its tree the walk is there.
-use Rattle.std.proofs.Common.{◌≡◌, ◌≢◌, ◌⊎◌, ℕ, zero, suc, ◌+◌, ◌^◌, ◌<◌, ◌≤◌, Bool, true, false, not, true≢false, Option, Some, None, ◌++◌, length, get_or, slice_get, inl, inr, refl, sym, subst, ap, ◌∙◌, arith}
-use Rattle.std.proofs.lemmas.Bool.{cases_lt}
+use Rattle.std.proofs.Common.{◌≡◌, ◌≢◌, ◌⊎◌, ℕ, zero, suc, ◌+◌, ◌^◌, ◌<◌, ◌≤◌, false, not, Option, Some, None, ◌++◌, length, get_or, slice_get, inl, inr, refl, sym, subst, ap, ◌∙◌, arith}
+use Rattle.std.proofs.lemmas.Bool.{cases_lt, not-false}
 use Rattle.std.proofs.lemmas.Option.{slice_get_within, slice_get-get_or}
-use Rattle.self_id.specs.Node.{Node}
-use Rattle.self_id.specs.Group.{group, node_count}
-use Rattle.topology_stack.specs.Tree.{Tree}
-use Rattle.cabling.specs.declared.cable.End.{End}
-use Rattle.cabling.specs.Wiring.{ports_of, far}
-use Rattle.cabling.specs.NodeSet.{Holds}
-use Rattle.cabling.specs.Component.{IsComponent}
-use Rattle.cabling.specs.Looped.{IsCore}
-use Rattle.cabling.specs.Labels.{labels}
-use Rattle.cabling.proofs.Lemmas.{shown_node, end_at, shared, Loopless, loopless, small_tree, plugged}
-use Rattle.cabling.specs.Sees.{numbers, SmallTree}
-use Rattle.outcomes.specs.Parents.{LeadDown, ParentsAre}
-use Rattle.outcomes.specs.WalkMarks.{mark, Marked}
-use Rattle.outcomes.specs.Emit.{emit, EmitsByNode}
+use Rattle.outcomes.proofs.Common.{contrary, Node, group, node_count, Tree, End, ports_of, far, Holds, IsComponent, IsCore, labels, end_at, shared, Loopless, plugged, numbers, ParentsAre, mark, Marked, emit, is_port, own_group, PortNode, CableWorld, is_before_tree, leads_down, IsLawful, attrs_now, joined-of, in-component, no-root-with-loop, is-port, port-is-not, cable-connected, child-if, late-roles, port-is, IsChildCable, IsAcyclic, ResetsAreOverIn, IsRoot, parent_of, parent_now, place_now, RootWalk}
+use Rattle.cabling.proofs.Lemmas.{shown_node, loopless, small_tree}
+use Rattle.cabling.specs.Sees.{SmallTree}
+use Rattle.outcomes.specs.Parents.{LeadDown}
+use Rattle.outcomes.specs.Emit.{EmitsByNode}
 use Rattle.outcomes.proofs.walks.Parents.{parents-from-above}
 use Rattle.outcomes.proofs.walks.Marked.{tree-marked}
 use Rattle.outcomes.proofs.walks.Emit.{emits-by-node}
 use Rattle.outcomes.proofs.walks.Rising.{level}
 use Rattle.outcomes.proofs.walks.WaysUp.{tree-ways}
 use Rattle.outcomes.proofs.walks.InTurn.{ready-first}
-use Rattle.outcomes.proofs.walks.Intervals.{rest-of}
-use Rattle.port_state.specs.Ports.{is_port}
-use Rattle.port_state.specs.Group.{own_group}
-use Rattle.port_state.specs.Machine.{PortNode}
 use Rattle.port_state.proofs.Lemmas.{node_count-own_group}
-use Rattle.cable_world.specs.World.{CableWorld}
-use Rattle.cable_world.specs.Phases.{is_before_tree}
-use Rattle.cable_world.specs.Agreement.{leads_down}
-use Rattle.cable_world.specs.Lawful.{IsLawful}
-use Rattle.cable_world.specs.Outcome.{attrs_now}
 use Rattle.convergence.specs.Cables.{AreJoined}
-use Rattle.convergence.proofs.Lemmas.{joined-of, in-component, down-in, rooted-late, no-root-with-loop, is-port, port-is-not}
-use Rattle.cable_world.proofs.Lemmas.{cable-connected, child-if, late-roles, port-is}
-use Rattle.convergence.specs.Acyclic.{IsChildCable, IsAcyclic}
-use Rattle.convergence.specs.Milestones.{ResetsAreOverIn}
-use Rattle.convergence.specs.Roots.{IsRoot}
-use Rattle.outcomes.specs.RootWalk.{parent_of, parent_now, place_now, RootWalk}
+use Rattle.convergence.proofs.Lemmas.{down-in, rooted-late}
 use Rattle.outcomes.proofs.roots.OwnGroups.{shown-by-label}
 use Rattle.self_id.proofs.Lemmas.{node_count-append}
 
-pub not-false : (b : Bool) → not b ≡ false → b ≡ true
-not-false true e = refl
-not-false false e = absurd cc
+rest-of : (p q : ℕ) → p ≤ q → (d : ℕ) × (q ≡ p + d)
+rest-of zero q le = (q, omega arith)
+rest-of (suc p) zero le = absurd (omega (arith, le))
+rest-of (suc p) (suc q) le = let r = rest-of p q (omega (arith, le)) in (r.0, omega (arith, r.1))
 
 module _
     (w : CableWorld) (l : IsLawful w) (acyclic : IsAcyclic w) (node set : ℕ)
@@ -98,7 +76,7 @@ module _
   onward a b h c same =
       let is : c.above.state.view.parent ≡ Some a.port = sym (ap parent_of c.above_at) ∙ same in
       let not-child = child-if c.above.state.view.parent c.above.state.view.ports a.port (late-roles c.above.state (l.well_formed.nodes a.node c.above c.above_at).valid (late a.node c.above h c.above_at)) (cable-connected w a b c.above l.well_formed c.joined c.above_at) in
-      true≢false (sym c.child ∙ not-child ∙ ap not (is-port c.above.state.view.parent a.port is))
+      contrary c.child (not-child ∙ ap not (is-port c.above.state.view.parent a.port is))
 
   along :
       (a b : End) → Holds set a.node → IsChildCable w a b →

@@ -1,33 +1,17 @@
 -- The turn in which the last node of a component comes to self identify: from there lists follow
 -- the walk, so that the component comes to its tree.
-use Rattle.std.proofs.Common.{◌≡◌, ◌⊎◌, inl, inr, ℕ, ◌^◌, ◌<◌, Bool, true, false, not, ◌==◌, Option, Some, None, length, slice_get, refl, sym, ◌∙◌, ap, subst, arith, true≢false, eq-eqb}
+use Rattle.std.proofs.Common.{◌≡◌, ◌⊎◌, inl, inr, ℕ, ◌^◌, ◌<◌, Bool, true, false, not, ◌==◌, Option, Some, None, length, slice_get, refl, sym, ap, subst, arith, eq-eqb}
 use Rattle.std.specs.Int.{bit_at}
-use Rattle.std.proofs.lemmas.Bool.{cases_lt, eqb-true}
+use Rattle.std.proofs.lemmas.Bool.{cases_lt, eqb-true, not-false}
 use Rattle.std.proofs.lemmas.Option.{slice_get_cases, slice_get_within}
-use Rattle.topology_stack.specs.Tree.{Tree}
-use Rattle.cabling.specs.Wiring.{Wiring, IsCabling}
-use Rattle.cabling.specs.NodeSet.{Holds}
-use Rattle.cabling.specs.Component.{IsComponent}
-use Rattle.cabling.specs.Looped.{IsCore}
-use Rattle.cabling.proofs.Lemmas.{plugged, end_at, shared}
-use Rattle.port_state.specs.Heard.{hears_packets}
-use Rattle.port_state.specs.Machine.{PortNode}
-use Rattle.cable_world.specs.World.{CableWorld}
-use Rattle.cable_world.specs.Turn.{turn}
-use Rattle.cable_world.specs.Lawful.{IsLawful}
-use Rattle.cable_world.proofs.Lemmas.{turn-lawful, cabling-after}
-use Rattle.convergence.specs.Acyclic.{IsAcyclic, IsTop}
-use Rattle.convergence.specs.Milestones.{AreIdentifying}
-use Rattle.convergence.specs.Roots.{IsRoot}
-use Rattle.convergence.proofs.Lemmas.{has-top, search-set, in-component, turn-acyclic}
-use Rattle.outcomes.specs.Identify.{IsIdentifying}
-use Rattle.outcomes.specs.Numbered.{Settles}
+use Rattle.outcomes.proofs.Common.{Tree, Wiring, IsCabling, Holds, IsComponent, IsCore, plugged, end_at, shared, hears_packets, PortNode, CableWorld, turn, IsLawful, turn-lawful, cabling-after, IsAcyclic, AreIdentifying, IsRoot, search-set, in-component, turn-acyclic, IsIdentifying, Settles, RootWalk, contrary}
+use Rattle.convergence.specs.Acyclic.{IsTop}
+use Rattle.convergence.proofs.Lemmas.{has-top}
 use Rattle.outcomes.proofs.roots.Calm.{calm-in}
 use Rattle.outcomes.proofs.identify.IdentifyingTurn.{turn-identifying}
-use Rattle.outcomes.specs.RootWalk.{RootWalk}
 use Rattle.outcomes.proofs.identify.MarksKept.{hears-late}
 use Rattle.outcomes.proofs.numbers.Settling.{settles-first}
-use Rattle.outcomes.proofs.roots.RootWalk.{not-false, root-walk}
+use Rattle.outcomes.proofs.roots.RootWalk.{root-walk}
 use Rattle.outcomes.proofs.settled.Unnamed.{Above, above-of}
 use Rattle.std.proofs.lemmas.Bool.{not-true}
 
@@ -48,7 +32,7 @@ all-or-not w set = elim (search-set set (λ x. not (hears_packets x.state.view.p
 ]
 
 pub not-both-ways : (w : CableWorld) (set : ℕ) → IsUnfinished w set → AreIdentifying w set → ⊥
-not-both-ways w set u all = true≢false (sym (all u.number u.node u.holds u.at) ∙ u.out)
+not-both-ways w set u all = contrary (all u.number u.node u.holds u.at) u.out
 
 -- ---- a root
 

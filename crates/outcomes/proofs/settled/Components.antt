@@ -1,18 +1,10 @@
 -- The set of a component has 63 nodes at most.
 use Rattle.std.proofs.Common.{◌≡◌, ℕ, ◌^◌, ◌<◌, length, slice_get, arith}
 use Rattle.std.proofs.lemmas.Option.{slice_get_within}
-use Rattle.topology_stack.specs.Tree.{Tree}
-use Rattle.cabling.specs.Wiring.{Wiring, IsCabling}
-use Rattle.cabling.specs.NodeSet.{Holds}
-use Rattle.cabling.specs.Component.{IsComponent}
+use Rattle.outcomes.proofs.Common.{Tree, Wiring, IsCabling, Holds, IsComponent, shared, CableWorld, IsLawful, IsTree, IsFresh, some-of, IsNamedAlone}
 use Rattle.cabling.specs.Existence.{HasComponent, ComponentsExist}
-use Rattle.cabling.proofs.Lemmas.{shared}
-use Rattle.cable_world.specs.World.{CableWorld}
-use Rattle.cable_world.specs.Lawful.{IsLawful}
-use Rattle.cable_world.specs.Outcome.{IsTree}
-use Rattle.cable_world.specs.Fresh.{IsFresh}
-use Rattle.cable_world.proofs.Lemmas.{same-set, some-of}
-use Rattle.outcomes.specs.Forced.{IsNamedAlone, IsForced}
+use Rattle.cable_world.proofs.Lemmas.{same-set}
+use Rattle.outcomes.specs.Forced.{IsForced}
 use Rattle.outcomes.specs.RootWalk.{HasRoot}
 
 -- a node that exists has one component, and that is small

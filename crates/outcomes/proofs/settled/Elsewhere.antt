@@ -1,41 +1,13 @@
 -- An act leaves a component alone in which no node enters R0, and what is so of its self identify.
 use Rattle.std.proofs.Common.{◌≡◌, inl, inr, ℕ, ◌+◌, false, is_some, Option, Some, None, List, slice_get, slice_index_or, refl, sym, ◌∙◌, ap, subst, arith, true≢false, bit_and}
 use Rattle.std.proofs.lemmas.List.{ext_get_or}
-use Rattle.topology_stack.specs.Tree.{Tree}
-use Rattle.cabling.specs.declared.cable.End.{End}
-use Rattle.cabling.specs.Wiring.{Wiring, far, ports_of}
-use Rattle.cabling.specs.NodeSet.{Holds, IsWithin}
-use Rattle.cabling.specs.Component.{IsComponent}
-use Rattle.cabling.specs.Looped.{IsCore, IsLooped, HasTwo, LeadsInto}
-use Rattle.cabling.specs.Labels.{labels}
-use Rattle.cabling.proofs.Lemmas.{in_both, end_at}
-use Rattle.port_state.specs.declared.states.NodeState.{NodeState}
-use Rattle.port_state.specs.declared.ports.PortView.{PortView}
+use Rattle.outcomes.proofs.Common.{contrary, Tree, End, Wiring, far, ports_of, Holds, IsComponent, IsCore, HasTwo, labels, end_at, NodeState, PortView, port_is, hears_packets, shown_attrs, PortNode, node_set_config, Act, Travelling, CableWorld, wire_of, ActLeads, IsAct, act_fault, change_in_set, note_changes, leads_down, IsLawful, attrs_now, is_before_tree, signals_of, acting, some-same, IsAcyclic, AreIdentifying, IsRoot, Alike, emit, kept, quads_in, has_grant, has_done, is_ready, StandsAt, IsNumbered, IsSettling, place_now, RootWalk, mark}
+use Rattle.cabling.specs.NodeSet.{IsWithin}
+use Rattle.cabling.specs.Looped.{IsLooped, LeadsInto}
+use Rattle.cabling.proofs.Lemmas.{in_both}
 use Rattle.port_state.specs.Config.{ConfigPacket}
-use Rattle.port_state.specs.Ports.{port_is}
-use Rattle.port_state.specs.Heard.{hears_packets}
-use Rattle.port_state.specs.Group.{shown_attrs}
-use Rattle.port_state.specs.Machine.{PortNode, node_set_config}
-use Rattle.cable_world.specs.declared.act.Act.{Act}
-use Rattle.cable_world.specs.declared.wire.Travelling.{Travelling}
-use Rattle.cable_world.specs.World.{CableWorld, wire_of}
-use Rattle.cable_world.specs.Act.{ActLeads, IsAct, act_fault, change_in_set, note_changes}
-use Rattle.cable_world.specs.Agreement.{leads_down}
-use Rattle.cable_world.specs.Lawful.{IsLawful}
-use Rattle.cable_world.specs.Outcome.{attrs_now}
-use Rattle.cable_world.specs.Phases.{is_before_tree}
-use Rattle.cable_world.specs.Signals.{signals_of}
-use Rattle.cable_world.proofs.Lemmas.{Stayed, Acting, acting, HasBegun, as_before, altered, was, some-same}
-use Rattle.convergence.specs.Acyclic.{IsAcyclic}
-use Rattle.convergence.specs.Milestones.{AreIdentifying}
-use Rattle.convergence.specs.Roots.{IsRoot}
-use Rattle.outcomes.specs.Alike.{Alike}
-use Rattle.outcomes.specs.Emit.{emit}
-use Rattle.outcomes.specs.Messages.{kept, quads_in, has_grant, has_done}
-use Rattle.outcomes.specs.NodeMarks.{is_ready}
-use Rattle.outcomes.specs.Numbered.{StandsAt, IsNumbered, IsSettling}
-use Rattle.outcomes.specs.RootWalk.{place_now, RootWalk, SameWalk}
-use Rattle.outcomes.specs.WalkMarks.{mark}
+use Rattle.cable_world.proofs.Lemmas.{Stayed, Acting, HasBegun, as_before, altered, was}
+use Rattle.outcomes.specs.RootWalk.{SameWalk}
 use Rattle.outcomes.proofs.numbers.Settling.{attrs-same}
 use Rattle.outcomes.proofs.roots.Calm.{calm-in}
 use Rattle.outcomes.proofs.roots.Named.{same-walk}
@@ -259,7 +231,7 @@ module _
     o = acting a w v is none leads l.well_formed
 
     not-begun : (k : ℕ) (z : PortNode) → Holds set k → slice_get o.done.nodes k ≡ Some z → HasBegun z.state → ⊥
-    not-begun k z h at b = true≢false (sym (all k z h at) ∙ ap hears_packets b.phase)
+    not-begun k z h at b = contrary (all k z h at) (ap hears_packets b.phase)
 
     told-at :
         (k : ℕ) (z : PortNode) → Holds set k → slice_get o.done.nodes k ≡ Some z →

@@ -3,29 +3,13 @@
 use Rattle.std.proofs.Common.{◌≡◌, ◌≢◌, inl, inr, ℕ, zero, suc, ◌+◌, ◌-◌, ◌*◌, ◌^◌, ◌<◌, ◌≤◌, true, false, Option, Some, None, IsSome, length, slice_get, sym, ◌∙◌, ap, subst, arith, true≢false}
 use Rattle.std.proofs.lemmas.Bool.{cases_eq}
 use Rattle.std.proofs.lemmas.Option.{slice_get_cases, slice_get_within}
-use Rattle.topology_stack.specs.Tree.{Tree}
-use Rattle.cabling.specs.Wiring.{Wiring}
-use Rattle.cabling.specs.NodeSet.{Holds}
-use Rattle.cabling.specs.Component.{IsComponent}
-use Rattle.cabling.proofs.Lemmas.{shared}
-use Rattle.cabling.specs.Looped.{IsCore}
-use Rattle.cabling.specs.Sees.{numbers}
-use Rattle.port_state.specs.declared.signal.Phase.{Phase}
-use Rattle.port_state.specs.Config.{config_packet, gap_or}
-use Rattle.port_state.specs.Machine.{PortNode, node_disturb, node_set_config}
-use Rattle.cable_world.specs.declared.act.Act.TheVariants.{Config}
-use Rattle.cable_world.specs.World.{CableWorld}
-use Rattle.cable_world.specs.Run.{IsReached, quiet_turns}
-use Rattle.cable_world.specs.Act.{IsAct, act_fault, change_in_set}
-use Rattle.cable_world.specs.Phases.{is_in_bus_reset}
-use Rattle.cable_world.specs.Outcome.{HasNoLoop, Shows, Outcome, IsOutcome, IsTree, IsSettled, loop, tree, contention}
-use Rattle.cable_world.proofs.Lemmas.{some-of, some-at, some-same, start-before_tree, reached-lawful, act-reached, after-length, step-cables, after-cabling}
-use Rattle.cable_world.specs.Quiet.{HoldSchedule, quiet_after}
-use Rattle.convergence.proofs.Lemmas.{quiet-contested, reached-contested}
+use Rattle.outcomes.proofs.Common.{Tree, Wiring, Holds, IsComponent, shared, IsCore, numbers, Phase, config_packet, PortNode, node_disturb, node_set_config, Config, CableWorld, IsReached, quiet_turns, IsAct, act_fault, change_in_set, is_in_bus_reset, Shows, IsTree, IsSettled, loop, tree, contention, some-of, some-at, some-same, start-before_tree, reached-lawful, act-reached, after-length, after-cabling, HoldSchedule, quiet_after, reached-contested, IsNamedAlone, IsIdentifying, is_ready}
+use Rattle.port_state.specs.Config.{gap_or}
+use Rattle.cable_world.specs.Outcome.{HasNoLoop, Outcome, IsOutcome}
+use Rattle.cable_world.proofs.Lemmas.{step-cables}
+use Rattle.convergence.proofs.Lemmas.{quiet-contested}
 use Rattle.convergence.specs.Turns.{turns_to_over}
-use Rattle.outcomes.specs.Forced.{IsForced, IsNamedAlone, IsRooted, NamesRoot}
-use Rattle.outcomes.specs.Identify.{IsIdentifying}
-use Rattle.outcomes.specs.NodeMarks.{is_ready}
+use Rattle.outcomes.specs.Forced.{IsForced, IsRooted, NamesRoot}
 use Rattle.outcomes.proofs.forced.Configured.{configured}
 use Rattle.outcomes.proofs.forced.ForcedRoot as forced
 use Rattle.outcomes.proofs.forced.Spread.{all-reset}

@@ -1,12 +1,7 @@
 -- A bus that is left alone settles, and each can be left alone.
-use Rattle.std.proofs.Common.{◌≡◌, ℕ, zero, suc, ◌≤◌, List, [], ◌∷◌, length, refl, sym, ◌∙◌, ap, subst, arith}
-use Rattle.cabling.specs.Wiring.{Wiring}
-use Rattle.cabling.specs.Component.{IsComponent}
-use Rattle.cable_world.specs.World.{CableWorld}
-use Rattle.cable_world.specs.Turn.{turn, turns_after}
-use Rattle.cable_world.specs.Run.{Event, turns, Runs, IsReached, quiet_turns}
-use Rattle.cable_world.proofs.Lemmas.{after-cabling, quiet-reached, reached-lawful, after-length}
-use Rattle.outcomes.specs.Settled.{HasNoAct, turn_count, EveryQuietRunSettles}
+use Rattle.std.proofs.Common.{◌≡◌, ℕ, zero, suc, ◌≤◌, List, [], ◌∷◌, length, refl, ◌∙◌, ap, subst, arith}
+use Rattle.outcomes.proofs.Common.{Wiring, IsComponent, CableWorld, turn, turns_after, Event, turns, Runs, quiet_turns, after-cabling, reached-lawful, after-length, HasNoAct}
+use Rattle.outcomes.specs.Settled.{turn_count, EveryQuietRunSettles}
 use Rattle.outcomes.specs.Headline.{IsLeftAlone, EveryBusSettles, AnyBusCanBeLeftAlone}
 use Rattle.outcomes.proofs.settled.QuietRuns.{ComesBy, comes-by}
 
@@ -50,9 +45,3 @@ pub can-be-left-alone : AnyBusCanBeLeftAlone
 can-be-left-alone w =
     let k : ℕ = quiet_turns (length w.nodes) w.delay in
     (turns_after k w, left-alone w k (omega arith))
-
--- what a reached world comes to is reached
-pub left-reached : (w v : CableWorld) → IsReached w → IsLeftAlone w v → IsReached v
-left-reached w v r h =
-    let c : ComesBy w v (turn_count h.events) = comes-by h.events w v h.quiet h.run in
-    subst IsReached (sym c.is) (quiet-reached c.schedule (turn_count h.events) w r)

@@ -1,28 +1,10 @@
 -- In every reached world the lists of a component follow its walk, once all its nodes are in self
 -- identify or A0.
-use Rattle.std.proofs.Common.{◌≡◌, inl, inr, ℕ, ◌^◌, ◌<◌, None, Some, length, slice_get, sym, ◌∙◌, ap, subst, arith, true≢false}
+use Rattle.std.proofs.Common.{◌≡◌, inl, inr, ℕ, ◌^◌, ◌<◌, None, Some, length, slice_get, sym, ◌∙◌, ap, subst, arith}
 use Rattle.std.proofs.lemmas.Option.{slice_get_cases, slice_get_within}
-use Rattle.cabling.specs.declared.cable.End.{End}
-use Rattle.cabling.specs.Wiring.{Wiring, ports_of}
-use Rattle.cabling.specs.NodeSet.{Holds}
-use Rattle.cabling.specs.Component.{IsComponent}
-use Rattle.cabling.specs.Looped.{IsCore}
-use Rattle.port_state.specs.Heard.{hears_packets}
-use Rattle.port_state.specs.Machine.{PortNode}
-use Rattle.cable_world.specs.declared.act.Act.{Act}
-use Rattle.cable_world.specs.World.{CableWorld, IsPowerOnWorld}
-use Rattle.cable_world.specs.Turn.{turn}
-use Rattle.cable_world.specs.Act.{ActLeads, IsAct, act_fault, hold, hold_fault, note_changes}
-use Rattle.cable_world.specs.Run.{IsReached}
-use Rattle.cable_world.specs.Lawful.{IsLawful}
-use Rattle.cable_world.proofs.Lemmas.{acting, turn-lawful, act-lawful, cabling-after, some-same}
-use Rattle.convergence.specs.Acyclic.{IsAcyclic}
-use Rattle.convergence.specs.Milestones.{AreIdentifying}
-use Rattle.convergence.proofs.Lemmas.{power-on-acyclic, hold-acyclic, act-acyclic, turn-acyclic, IsKept, kept-reached, kept-quiet}
-use Rattle.cable_world.specs.Quiet.{HoldSchedule, quiet_after}
-use Rattle.port_state.specs.declared.states.NodeState.{NodeState}
-use Rattle.outcomes.specs.Identify.{IsIdentifying}
-use Rattle.outcomes.specs.Numbered.{Settles, IsNumbering}
+use Rattle.outcomes.proofs.Common.{contrary, End, Wiring, ports_of, Holds, IsComponent, IsCore, hears_packets, PortNode, Act, CableWorld, IsPowerOnWorld, turn, ActLeads, IsAct, act_fault, hold, hold_fault, note_changes, IsReached, IsLawful, acting, turn-lawful, cabling-after, some-same, IsAcyclic, AreIdentifying, turn-acyclic, HoldSchedule, quiet_after, NodeState, IsIdentifying, Settles, IsNumbering}
+use Rattle.cable_world.proofs.Lemmas.{act-lawful}
+use Rattle.convergence.proofs.Lemmas.{power-on-acyclic, hold-acyclic, act-acyclic, IsKept, kept-reached, kept-quiet}
 use Rattle.outcomes.proofs.identify.IdentifyingTurn.{turn-identifying}
 use Rattle.outcomes.proofs.identify.IdentifyingActs.{act-identifying, hold-identifying, power-on-identifying}
 use Rattle.outcomes.proofs.numbers.HoldRests.{hold-settles}
@@ -120,7 +102,7 @@ power-on-numbering w h = record {
   acyclic = power-on-acyclic w h;
   identifies = power-on-identifying w h;
   walks = λ node set core there comp is_core small all. elim (slice_get_cases w.nodes node).1 [
-    | inl found ↦ absurd (true≢false (sym (all node found.0 comp.holds found.2) ∙ ap (λ (x : NodeState). hears_packets x.view.phase) (h.nodes node found.0 found.2).is))
+    | inl found ↦ contrary (all node found.0 comp.holds found.2) (ap (λ (x : NodeState). hears_packets x.view.phase) (h.nodes node found.0 found.2).is)
     | inr lacks ↦ absurd (omega (arith, lacks.0, there))
   ];
 }

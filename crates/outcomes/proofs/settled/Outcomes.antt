@@ -1,29 +1,16 @@
 -- Whichever way a component without loop is decided, it has an outcome.
 use Rattle.std.proofs.Common.{◌≡◌, ◌⊎◌, inl, inr, ℕ, ◌<◌, ◌≤◌, Bool, true, false, not, ◌&&◌, ◌==◌, is_some, Option, Some, None, IsSome, List, [], ◌∷◌, slice_get, refl, sym, ◌∙◌, ap, subst, arith, true≢false, eq-eqb}
-use Rattle.std.proofs.lemmas.Bool.{cases_eq, eqb-true, and_parts, and_from}
-use Rattle.topology_stack.specs.Tree.{Tree, emits}
-use Rattle.cabling.specs.NodeSet.{Holds}
-use Rattle.cabling.specs.Component.{IsComponent}
-use Rattle.cabling.specs.Labels.{labels}
+use Rattle.std.proofs.lemmas.Bool.{cases_eq, eqb-true, and_parts, and_from, not-false}
+use Rattle.outcomes.proofs.Common.{Tree, emits, Holds, IsComponent, labels, PortNode, CableWorld, IsLawful, IsTree, IsSettled, attrs_now, tree, contention, some-of, some-same, IsAcyclic, ResetsAreOver, HasContention, search-set, IsIdentifying, is_ready, IsSettling, contrary}
 use Rattle.cabling.proofs.Lemmas.{one-tree}
-use Rattle.port_state.specs.Machine.{PortNode}
-use Rattle.cable_world.specs.World.{CableWorld}
-use Rattle.cable_world.specs.Lawful.{IsLawful}
-use Rattle.cable_world.specs.Outcome.{IsContention, IsTree, IsFirstPair, IsSettled, attrs_now, tree, contention}
-use Rattle.cable_world.proofs.Lemmas.{some-of, some-same}
-use Rattle.convergence.specs.Acyclic.{IsAcyclic}
+use Rattle.cable_world.specs.Outcome.{IsContention, IsFirstPair}
 use Rattle.convergence.specs.Drawers.{HasDrawn}
-use Rattle.convergence.specs.Milestones.{ResetsAreOver, HasContention}
 use Rattle.convergence.specs.Rivals.{IsContested}
-use Rattle.convergence.proofs.Lemmas.{no-third, search-set}
-use Rattle.outcomes.specs.Identify.{IsIdentifying}
-use Rattle.outcomes.specs.NodeMarks.{is_ready}
-use Rattle.outcomes.specs.Numbered.{IsSettling}
+use Rattle.convergence.proofs.Lemmas.{no-third}
 use Rattle.outcomes.proofs.settled.Beginnings.{IsUnfinished}
 use Rattle.outcomes.proofs.identify.MarksKept.{ready-hears}
 use Rattle.outcomes.proofs.roots.Calm.{calm-in}
 use Rattle.outcomes.proofs.roots.Named.{named-tree}
-use Rattle.outcomes.proofs.roots.RootWalk.{not-false}
 use Rattle.std.proofs.lemmas.Bool.{not-true}
 
 -- ---- tests
@@ -70,7 +57,7 @@ pub no-tree-yet :
     (w : CableWorld) (set : ℕ) → IsIdentifying w → IsUnfinished w set → (root : ℕ) (t : Tree) →
     IsTree w set root t → ⊥
 no-tree-yet w set i u root t h =
-    true≢false (sym (ready-hears u.node.state.view.phase (tree-ready w set root t i h u.number u.node u.holds u.at)) ∙ u.out)
+    contrary (ready-hears u.node.state.view.phase (tree-ready w set root t i h u.number u.node u.holds u.at)) u.out
 
 module _
     (w : CableWorld) (l : IsLawful w) (acyclic : IsAcyclic w) (i : IsIdentifying w)
@@ -96,9 +83,9 @@ module _
   pub tree-or-none :
       IsTree w set root t ⊎ ((other : ℕ) (u : Tree) → IsTree w set other u → ⊥)
   tree-or-none = elim (search-set set (λ x. not (is_ready x.state.view.phase)) w) [
-    | inr f ↦ inr (λ other u h. true≢false (sym (tree-ready w set other u i h f.0 f.1.node f.1.holds f.1.at) ∙ not-true (is_ready f.1.node.state.view.phase) f.1.passes))
+    | inr f ↦ inr (λ other u h. contrary (tree-ready w set other u i h f.0 f.1.node f.1.holds f.1.at) (not-true (is_ready f.1.node.state.view.phase) f.1.passes))
     | inl ready ↦ elim (search-set set (λ x. not (same_numbers x.state.list.items (emits t))) w) [
-      | inr f ↦ inr (λ other u h. true≢false (sym (listed f.0 f.1.node f.1.holds f.1.at other u h) ∙ not-true (same_numbers f.1.node.state.list.items (emits t)) f.1.passes))
+      | inr f ↦ inr (λ other u h. contrary (listed f.0 f.1.node f.1.holds f.1.at other u h) (not-true (same_numbers f.1.node.state.list.items (emits t)) f.1.passes))
       | inl same ↦ inl (named-tree w l acyclic root set (calm-in w l set s.component.closed s.all) core root s.component s.is_core s.small s.inside s.is_root t s.walk (record {
         ids = λ k x h at. s.numbered.ids k x h at (not-false (is_ready x.state.view.phase) (ready k x h at));
         lists = λ k x h at. same-if x.state.list.items (emits t) (not-false (same_numbers x.state.list.items (emits t)) (same k x h at));

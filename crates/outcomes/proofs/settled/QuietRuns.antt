@@ -1,14 +1,9 @@
 -- A run of holds and turns is so many quiet turns, with its holds between them.
 use Rattle.std.proofs.Common.{◌≡◌, ℕ, zero, suc, ◌^◌, ◌<◌, ◌≤◌, List, [], ◌∷◌, length, sym, ◌∙◌, ap, subst}
-use Rattle.cabling.specs.Component.{IsComponent}
-use Rattle.cabling.specs.Looped.{IsCore}
-use Rattle.cable_world.specs.World.{CableWorld}
-use Rattle.cable_world.specs.Outcome.{IsSettled}
-use Rattle.cable_world.specs.Turn.{turn}
-use Rattle.cable_world.specs.Run.{Event, acts, holds, turns, Runs, IsReached, quiet_turns}
-use Rattle.cable_world.specs.Quiet.{PlacedHold, HoldSchedule, no_holds, with_hold, with_holds, quiet_after}
-use Rattle.cable_world.proofs.Lemmas.{holds-are-calls, no-quiet, quiet-first}
-use Rattle.outcomes.specs.Settled.{HasNoAct, turn_count}
+use Rattle.outcomes.proofs.Common.{IsComponent, IsCore, CableWorld, IsSettled, turn, Event, acts, holds, turns, Runs, IsReached, quiet_turns, PlacedHold, HoldSchedule, with_holds, quiet_after, no-quiet, HasNoAct}
+use Rattle.cable_world.specs.Quiet.{no_holds, with_hold}
+use Rattle.cable_world.proofs.Lemmas.{holds-are-calls, quiet-first}
+use Rattle.outcomes.specs.Settled.{turn_count}
 use Rattle.outcomes.proofs.settled.QuietTurns.{settles-at-last}
 
 -- ---- schedules

@@ -1,25 +1,12 @@
 -- After so many quiet turns every component has an outcome.
 use Rattle.std.proofs.Common.{◌≡◌, ◌⊎◌, inl, inr, ℕ, ◌+◌, ◌-◌, ◌*◌, ◌^◌, ◌<◌, ◌≤◌, true, length, sym, ◌∙◌, ap, subst, arith, true≢false}
 use Rattle.std.proofs.lemmas.Option.{slice_get_cases}
-use Rattle.cabling.specs.Wiring.{Wiring}
-use Rattle.cabling.specs.NodeSet.{Holds, IsEmpty}
-use Rattle.cabling.specs.Component.{IsComponent}
-use Rattle.cabling.specs.Looped.{IsCore, HasTwo}
-use Rattle.cabling.specs.Sees.{numbers}
-use Rattle.cabling.proofs.Lemmas.{plugged, end_at}
-use Rattle.cable_world.specs.World.{CableWorld}
-use Rattle.cable_world.specs.Run.{IsReached, quiet_turns}
-use Rattle.cable_world.specs.Lawful.{IsLawful}
-use Rattle.cable_world.specs.Outcome.{IsTree, IsSettled, loop}
-use Rattle.cable_world.proofs.Lemmas.{after-length, reached-lawful, quiet-then, quiet-lawful, after-cabling}
-use Rattle.cable_world.specs.Quiet.{HoldSchedule, holds_after, quiet_after}
-use Rattle.convergence.proofs.Lemmas.{quiet-contested, done-after, taken-reached, decided-reached, start-grown, reached-contested, resets-over, grown-of, search-set, contention-after}
+use Rattle.outcomes.proofs.Common.{Wiring, Holds, IsEmpty, IsComponent, IsCore, HasTwo, numbers, plugged, end_at, CableWorld, IsReached, quiet_turns, IsLawful, IsTree, IsSettled, loop, after-length, reached-lawful, quiet-then, quiet-lawful, after-cabling, HoldSchedule, holds_after, quiet_after, done-after, reached-contested, search-set, ResetsAreOver, ResetsAreDone, AreIdentifying, HasContention, Settles, IsNumbering}
+use Rattle.convergence.proofs.Lemmas.{quiet-contested, taken-reached, decided-reached, start-grown, resets-over, grown-of, contention-after}
 use Rattle.outcomes.proofs.settled.Numbering.{quiet-numbering}
 use Rattle.convergence.specs.Kept.{IsGrown}
-use Rattle.convergence.specs.Milestones.{ResetsAreOver, ResetsAreDone, AreIdentifying, HasContention}
 use Rattle.convergence.specs.Rivals.{IsContested}
 use Rattle.convergence.specs.Turns.{turns_to_loops, turns_to_decision}
-use Rattle.outcomes.specs.Numbered.{Settles, IsNumbering}
 use Rattle.outcomes.proofs.numbers.Spreads.{tree-soon}
 use Rattle.outcomes.proofs.settled.Beginnings.{all-or-not, not-both-ways}
 use Rattle.outcomes.proofs.settled.Numbering.{reached-numbering}

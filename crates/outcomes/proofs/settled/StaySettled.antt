@@ -1,32 +1,14 @@
 -- What has settled stays settled in turns and holds. A loop does, since its nodes don't leave T0 and their timers rise;
 -- a tree is at rest; of a contention it is told at the end whether a tree has come of it.
 use Rattle.std.proofs.Common.{◌≡◌, inl, inr, ℕ, ◌+◌, ◌-◌, ◌*◌, ◌^◌, ◌<◌, ◌≤◌, true, List, [], ◌∷◌, None, Some, length, slice_get, sym, ◌∙◌, ap, subst, arith}
-use Rattle.topology_stack.specs.Tree.{Tree}
-use Rattle.cabling.specs.Wiring.{Wiring}
-use Rattle.cabling.specs.NodeSet.{Holds}
-use Rattle.cabling.specs.Component.{IsComponent}
-use Rattle.cabling.specs.Looped.{IsCore}
-use Rattle.cabling.specs.declared.cable.End.{End}
+use Rattle.outcomes.proofs.Common.{Tree, Wiring, Holds, IsComponent, IsCore, End, NodeState, Timing, coin, PortNode, CableWorld, turn, hold, hold_fault, Event, acts, holds, turns, Runs, IsReached, quiet_turns, IsLawful, loop, tree, contention, IsTree, IsSettled, is_before_tree, some-of, some-at, some-same, reached-lawful, after-delay, after-length, cabling-after, risen, quiet-then, quiet-lawful, after-cabling, HoldSchedule, holds_after, quiet_after, ResetsAreDone, ResetsAreOver, HasContention, done-after, reached-contested, reached-acyclic, done-over, Calmly, heard_by, IsNumbering, HasNoAct}
 use Rattle.port_state.specs.declared.signal.Phase.TheVariants as phase
-use Rattle.port_state.specs.declared.states.NodeState.{NodeState}
-use Rattle.port_state.specs.declared.timing.Timing.{Timing}
-use Rattle.port_state.specs.Coins.{coin}
-use Rattle.port_state.specs.Machine.{PortNode}
-use Rattle.cable_world.specs.World.{CableWorld}
-use Rattle.cable_world.specs.Turn.{turn}
-use Rattle.cable_world.specs.Act.{hold, hold_fault}
-use Rattle.cable_world.specs.Run.{Event, acts, holds, turns, Runs, IsReached, quiet_turns}
-use Rattle.cable_world.specs.Lawful.{IsLawful}
-use Rattle.cable_world.specs.Outcome.{Outcome, loop, tree, contention, IsLoop, IsTree, IsContention, IsOutcome, IsSettled}
-use Rattle.cable_world.specs.Phases.{is_before_tree}
-use Rattle.cable_world.proofs.Lemmas.{some-of, some-at, some-same, reached-lawful, turn-reached, hold-reached, after-delay, after-length, cabling-after, delay-after, nodes-after, risen, quiet-then, quiet-lawful, quiet-reached, after-cabling}
-use Rattle.cable_world.specs.Quiet.{HoldSchedule, holds_after, quiet_after}
+use Rattle.cable_world.specs.Outcome.{Outcome, IsLoop, IsContention, IsOutcome}
+use Rattle.cable_world.proofs.Lemmas.{turn-reached, hold-reached, delay-after, nodes-after, quiet-reached}
 use Rattle.convergence.specs.Kept.{IsGrown}
-use Rattle.convergence.specs.Milestones.{ResetsAreDone, TreesAreTaken, ResetsAreOver, HasContention}
+use Rattle.convergence.specs.Milestones.{TreesAreTaken}
 use Rattle.convergence.specs.Turns.{turns_to_done}
-use Rattle.convergence.proofs.Lemmas.{done-after, taken-reached, taken-turn, reached-contested, core-shows, reached-acyclic, done-over, Grown, grown-of, contention-turn, IsEarly, only-start, start-early, start-timer, StaysInStart, stays-in-start, Calmly, calmly, heard_by, early-before, done-calm, turn-done}
-use Rattle.outcomes.specs.Numbered.{IsNumbering}
-use Rattle.outcomes.specs.Settled.{HasNoAct}
+use Rattle.convergence.proofs.Lemmas.{taken-reached, taken-turn, core-shows, Grown, grown-of, contention-turn, IsEarly, only-start, start-early, start-timer, StaysInStart, stays-in-start, calmly, early-before, done-calm, turn-done}
 use Rattle.outcomes.proofs.settled.Beginnings.{all-or-not}
 use Rattle.outcomes.proofs.settled.Numbering.{reached-numbering}
 use Rattle.outcomes.proofs.settled.Outcomes.{no-tree-yet, tree-or-none, contention-outcome, tree-outcome}

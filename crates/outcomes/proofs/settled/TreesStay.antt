@@ -1,22 +1,7 @@
 -- A component that has come to a tree is at rest, and so it stays in its tree.
 use Rattle.std.proofs.Common.{◌≡◌, ℕ, ◌^◌, ◌<◌, true, List, [], ◌∷◌, None, Some, length, slice_get, sym, ◌∙◌, ap, subst, arith}
-use Rattle.topology_stack.specs.Tree.{Tree, emits}
-use Rattle.cabling.specs.Wiring.{Wiring}
-use Rattle.cabling.specs.NodeSet.{Holds}
-use Rattle.cabling.specs.Component.{IsComponent}
-use Rattle.port_state.specs.Machine.{PortNode}
-use Rattle.cable_world.specs.World.{CableWorld}
-use Rattle.cable_world.specs.Turn.{turn}
-use Rattle.cable_world.specs.declared.act.Act.{Act}
-use Rattle.cable_world.specs.Act.{ActLeads, IsAct, act_fault, hold, note_changes}
-use Rattle.cable_world.proofs.Lemmas.{acting, act-keeps, some-of, some-same, reached-lawful, turn-reached, hold-reached, act-reached, cabling-after}
-use Rattle.cable_world.specs.Run.{Event, acts, holds, turns, Runs, IsReached}
-use Rattle.cable_world.specs.Lawful.{IsLawful}
-use Rattle.cable_world.specs.Outcome.{IsTree}
-use Rattle.convergence.specs.Milestones.{AreIdentifying}
-use Rattle.outcomes.specs.NodeMarks.{is_ready}
-use Rattle.outcomes.specs.Numbered.{Settles, IsNumbering, IsSettling, IsAtRest}
-use Rattle.outcomes.specs.Settled.{HasNoAct}
+use Rattle.outcomes.proofs.Common.{Tree, emits, Wiring, Holds, IsComponent, PortNode, CableWorld, turn, Act, ActLeads, IsAct, act_fault, hold, note_changes, acting, some-of, some-same, reached-lawful, act-reached, cabling-after, Event, acts, holds, turns, Runs, IsReached, IsLawful, IsTree, AreIdentifying, is_ready, Settles, IsNumbering, IsSettling, IsAtRest, HasNoAct}
+use Rattle.cable_world.proofs.Lemmas.{act-keeps, turn-reached, hold-reached}
 use Rattle.outcomes.proofs.identify.MarksKept.{ready-hears}
 use Rattle.outcomes.proofs.numbers.AtRest.{rests-where, rests-on, rest-tree}
 use Rattle.outcomes.proofs.numbers.HoldRests.{hold-settles, hold-rests}

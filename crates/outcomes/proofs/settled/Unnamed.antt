@@ -1,35 +1,18 @@
 -- In a component with a loop no node is granted, so none gets an ID: who is granted was asked by a
 -- node above that is granted too, and so on up to a root, which there isn't.
 use Rattle.std.proofs.Common.{◌≡◌, inl, inr, ℕ, ◌<◌, ◌≤◌, Bool, true, false, is_some, Option, Some, None, length, slice_get, refl, sym, ◌∙◌, ap, arith, true≢false, eq-eqb}
-use Rattle.std.proofs.lemmas.Bool.{cases_lt}
+use Rattle.std.proofs.lemmas.Bool.{cases_lt, false_from_ne_true}
 use Rattle.std.proofs.lemmas.Option.{slice_get_cases}
-use Rattle.cabling.specs.declared.cable.End.{End}
-use Rattle.cabling.specs.Wiring.{far}
-use Rattle.cabling.specs.NodeSet.{Holds}
-use Rattle.cabling.specs.Component.{IsComponent}
-use Rattle.cabling.specs.Looped.{IsCore, HasTwo}
-use Rattle.cabling.proofs.Lemmas.{plugged, end_at, shared}
-use Rattle.port_state.specs.Heard.{hears_packets}
-use Rattle.port_state.specs.Ports.{is_port, is_connected}
-use Rattle.port_state.specs.Machine.{PortNode}
-use Rattle.cable_world.specs.World.{CableWorld, wire_of}
-use Rattle.cable_world.specs.Run.{IsReached}
-use Rattle.cable_world.specs.Signals.{signals_of, has_reset}
-use Rattle.cable_world.specs.Lawful.{IsLawful}
-use Rattle.cable_world.specs.Outcome.{Shows, IsLoop}
-use Rattle.cable_world.proofs.Lemmas.{some-at, reached-lawful, no-packets, quiet-lawful}
-use Rattle.convergence.specs.Acyclic.{IsAcyclic, IsChildCable, ComesDown}
+use Rattle.outcomes.proofs.Common.{contrary, End, far, Holds, IsComponent, IsCore, HasTwo, plugged, end_at, shared, hears_packets, is_port, is_connected, PortNode, CableWorld, wire_of, IsReached, signals_of, has_reset, IsLawful, Shows, some-at, reached-lawful, no-packets, quiet-lawful, IsAcyclic, IsChildCable, ResetsAreOver, ResetsAreOverIn, done-after, no-root-with-loop, reached-acyclic, done-over, in-component, joined-of, quiet-acyclic, is_ready, Identifies, IsIdentifying, HoldSchedule, quiet_after}
+use Rattle.cable_world.specs.Outcome.{IsLoop}
+use Rattle.convergence.specs.Acyclic.{ComesDown}
 use Rattle.convergence.specs.Cables.{AreJoined}
-use Rattle.convergence.specs.Milestones.{ResetsAreOver, ResetsAreOverIn}
 use Rattle.convergence.specs.Turns.{turns_to_loops}
-use Rattle.convergence.proofs.Lemmas.{done-after, reported-reached, no-root-with-loop, none-rises-on, reached-acyclic, done-over, in-component, joined-of, quiet-acyclic}
-use Rattle.outcomes.specs.NodeMarks.{is_ready}
-use Rattle.outcomes.specs.Identify.{Identifies, IsIdentifying}
+use Rattle.convergence.proofs.Lemmas.{reported-reached, none-rises-on}
 use Rattle.outcomes.proofs.identify.Hearing.{parent-connected}
 use Rattle.outcomes.proofs.identify.MarksKept.{hears-late}
 use Rattle.outcomes.proofs.identify.StaysIdentifying.{reached-identifying}
 use Rattle.outcomes.proofs.identify.OneMessage.{end-of}
-use Rattle.cable_world.specs.Quiet.{HoldSchedule, quiet_after}
 use Rattle.outcomes.proofs.identify.StaysIdentifying.{quiet-identifying}
 
 -- a granted node of a set
@@ -109,7 +92,7 @@ module _
           (h : Bool) → hears_packets c.above.state.view.phase ≡ h →
           c.above.state.view.granted ≡ true
       go true h = (i.nodes a.node c.above c.above_at).asks a.port ((both.line c.child c.parent h).grants g)
-      go false h = absurd (true≢false (sym g ∙ both.before c.child c.parent h))
+      go false h = contrary g (both.before c.child c.parent h)
 
   module _
       (acyclic : IsAcyclic w) (node core j : ℕ) (comp : IsComponent w.cabling node set)
@@ -140,11 +123,7 @@ module _
     none-granted :
         (k : ℕ) (x : PortNode) → Holds set k → slice_get w.nodes k ≡ Some x →
         x.state.view.granted ≡ false
-    none-granted k x h at = go x.state.view.granted refl
-      where
-        go : (b : Bool) → x.state.view.granted ≡ b → b ≡ false
-        go false e = refl
-        go true e = absurd (none-rises-on w acyclic (GrantedIn w set) rises k (record { inside = h; node = x; at = at; granted = e }))
+    none-granted k x h at = false_from_ne_true _ (λ e. none-rises-on w acyclic (GrantedIn w set) rises k (record { inside = h; node = x; at = at; granted = e }))
 
     pub none-named :
         (k : ℕ) (x : PortNode) → Holds set k → slice_get w.nodes k ≡ Some x →
@@ -152,11 +131,7 @@ module _
     none-named k x h at = unnamed x.state.view.id ((i.nodes k x at).id ∙ unready)
       where
         unready : is_ready x.state.view.phase ≡ false
-        unready = go (is_ready x.state.view.phase) refl
-          where
-            go : (b : Bool) → is_ready x.state.view.phase ≡ b → b ≡ false
-            go false e = refl
-            go true e = absurd (true≢false (sym ((i.nodes k x at).ready e) ∙ none-granted k x h at))
+        unready = false_from_ne_true _ (λ e. contrary ((i.nodes k x at).ready e) (none-granted k x h at))
 
         unnamed : (o : Option ℕ) → is_some o ≡ false → o ≡ None
         unnamed None e = refl

@@ -1,14 +1,9 @@
 -- Where the ports and labels of a tree's nodes are the same, so is the tree with its walk and its
 -- marks.
 use Rattle.std.proofs.Common.{◌≡◌, ℕ, zero, suc, ◌+◌, inl, cond, eqb, Option, Some, None, List, [], ◌∷◌, ◌++◌, length, refl, subst, ap, ◌∙◌}
-use Rattle.topology_stack.specs.Tree.{Label, Tree, branch, Slots, no_more, absent, unplugged, up, down}
-use Rattle.cabling.specs.declared.cable.End.{End}
-use Rattle.cabling.specs.Wiring.{Wiring, ports_of}
-use Rattle.self_id.specs.Slots.{slot_count}
-use Rattle.cabling.specs.Sees.{Sees, SeesFrom, numbers, numbers_below}
-use Rattle.outcomes.specs.WalkMarks.{is_in, before, mark, mark_below}
-use Rattle.outcomes.specs.Alike.{Alike, SeenAlike}
-use Rattle.cabling.proofs.Lemmas.{In, in_left, in_right, Loopless, tree_within}
+use Rattle.outcomes.proofs.Common.{Label, Tree, branch, Slots, no_more, absent, unplugged, up, down, End, Wiring, ports_of, slot_count, Sees, SeesFrom, numbers, numbers_below, mark, Alike, In, in_left, in_right, Loopless, tree_within}
+use Rattle.outcomes.specs.WalkMarks.{is_in, before, mark_below}
+use Rattle.outcomes.specs.Alike.{SeenAlike}
 
 mutual
   same-sees :

@@ -5,15 +5,9 @@ use Rattle.std.specs.Prelude.{slice_get}
 use Rattle.std.specs.Option.{option_map}
 use Rattle.std.proofs.Math.Seq.{take-length}
 use Rattle.std.proofs.lemmas.Option.{slice_get-map}
-use Rattle.self_id.specs.Node.{Node}
-use Rattle.self_id.specs.Group.{group}
-use Rattle.topology_stack.specs.Tree.{Label, Tree, branch, Slots, unplugged, up, down, walk, groups}
-use Rattle.cabling.specs.declared.cable.End.{End}
-use Rattle.cabling.specs.Wiring.{Wiring, ports_of}
-use Rattle.cabling.specs.Sees.{Sees, SeesFrom, numbers, numbers_below}
-use Rattle.cabling.proofs.Lemmas.{visits, visits_below, at_root, shown_node, walk_seen, Loopless}
-use Rattle.outcomes.specs.Parents.{ParentsAre, ParentsBelow}
-use Rattle.outcomes.specs.WalkMarks.{mark, place, Marked}
+use Rattle.outcomes.proofs.Common.{Node, group, Label, Tree, branch, Slots, unplugged, up, down, End, Wiring, ports_of, Sees, SeesFrom, numbers, numbers_below, Loopless, ParentsAre, ParentsBelow, mark, place, Marked}
+use Rattle.topology_stack.specs.Tree.{walk, groups}
+use Rattle.cabling.proofs.Lemmas.{visits, visits_below, at_root, shown_node, walk_seen}
 use Rattle.outcomes.specs.Emit.{EmitsByNode}
 use Rattle.outcomes.proofs.walks.Marked.{tree-marked}
 

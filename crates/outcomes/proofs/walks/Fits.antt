@@ -2,12 +2,8 @@
 use Rattle.std.proofs.Common.{◌≡◌, ◌≢◌, ℕ, suc, ◌+◌, inl, inr, Bool, true, false, cond, eqb, Option, Some, None, List, [], ◌∷◌, ◌++◌, length, refl, sym, subst, ap, ◌∙◌, arith, eq-eqb}
 use Rattle.std.proofs.lemmas.Bool.{ne_eqb}
 use Rattle.std.specs.Prelude.{◌||◌}
-use Rattle.topology_stack.specs.Tree.{Label, Tree, branch, Slots, unplugged, up, down}
-use Rattle.cabling.specs.declared.cable.End.{End}
-use Rattle.cabling.specs.Wiring.{Wiring, ports_of}
-use Rattle.cabling.specs.Sees.{Sees, SeesFrom, numbers, numbers_below}
-use Rattle.outcomes.specs.WalkMarks.{is_in, before, mark, mark_below}
-use Rattle.cabling.proofs.Lemmas.{In, Once, in_left, in_right}
+use Rattle.outcomes.proofs.Common.{Label, Tree, branch, Slots, unplugged, up, down, End, Wiring, ports_of, Sees, SeesFrom, numbers, numbers_below, mark, In, Once, in_left, in_right}
+use Rattle.outcomes.specs.WalkMarks.{is_in, before, mark_below}
 
 abbrev mutual
   pub Fits : Wiring → (ℕ → ℕ → ℕ) → ℕ → Tree → ℕ → Type 0

@@ -2,15 +2,10 @@
 use Rattle.std.proofs.Common.{◌≡◌, ℕ, zero, suc, ◌+◌, ◌<◌, ◌≤◌, inl, inr, Bool, true, Option, Some, None, List, length, refl, sym, subst, ap, arith}
 use Rattle.std.proofs.lemmas.Bool.{cases_eq, cases_lt}
 use Rattle.std.proofs.lemmas.Option.{slice_get_within}
-use Rattle.cabling.specs.declared.cable.End.{End}
-use Rattle.cabling.specs.Wiring.{Wiring, ports_of, far, IsCabling}
-use Rattle.cabling.specs.NodeSet.{Holds}
-use Rattle.cabling.specs.Component.{IsClosed}
-use Rattle.outcomes.specs.Parents.{LeadsUp, HasParents}
-use Rattle.outcomes.specs.WalkMarks.{place, Marked}
+use Rattle.outcomes.proofs.Common.{End, Wiring, ports_of, far, IsCabling, Holds, IsClosed, LeadsUp, place, Marked, plugged, end_at, from_or_not}
+use Rattle.outcomes.specs.Parents.{HasParents}
 use Rattle.outcomes.specs.Intervals.{LeadsToChild}
 use Rattle.outcomes.specs.InTurn.{InTurn, ReadyFirst}
-use Rattle.cabling.proofs.Lemmas.{plugged, end_at, from_or_not}
 use Rattle.outcomes.proofs.walks.Rising.{places-differ, child-before}
 
 -- the child below which a place lies, among the ports below a number

@@ -3,14 +3,8 @@ use Rattle.std.proofs.Common.{◌≡◌, ◌≢◌, ◌⊎◌, ℕ, zero, suc, �
 use Rattle.std.specs.Prelude.{slice_get}
 use Rattle.std.proofs.Math.Seq.{get_or-append_seam}
 use Rattle.std.proofs.lemmas.Option.{slice_get-get_or}
-use Rattle.topology_stack.specs.Tree.{Label, Tree, branch, Slots, unplugged, up, down}
-use Rattle.cabling.specs.declared.cable.End.{End}
-use Rattle.cabling.specs.Wiring.{Wiring, ports_of}
-use Rattle.cabling.specs.NodeSet.{Holds}
-use Rattle.cabling.specs.Sees.{Sees, SeesFrom, numbers, numbers_below}
-use Rattle.outcomes.specs.Parents.{ParentsAre, ParentsBelow}
-use Rattle.outcomes.specs.WalkMarks.{mark, place, Marked}
-use Rattle.cabling.proofs.Lemmas.{In, Once, in_append, Loopless, tree_within, tree_once, tree_has}
+use Rattle.outcomes.proofs.Common.{Label, Tree, branch, Slots, unplugged, up, down, End, Wiring, ports_of, Holds, Sees, SeesFrom, numbers, numbers_below, ParentsAre, ParentsBelow, mark, place, Marked, In, Once, Loopless, tree_within, tree_once}
+use Rattle.cabling.proofs.Lemmas.{in_append, tree_has}
 use Rattle.outcomes.proofs.walks.Fits.{Fits, FitsBelow, mark-fits}
 
 -- ---- how far marks go

@@ -1,13 +1,10 @@
 -- Where each node of a seen tree but the root has a parent port that leads up, it is the port by
 -- which the
 -- node is come to.
-use Rattle.std.proofs.Common.{◌≡◌, ◌≢◌, ℕ, zero, suc, ◌+◌, inl, inr, Option, Some, None, List, [], ◌∷◌, ◌++◌, get_or, refl, sym, subst, ap, ◌∙◌, arith}
-use Rattle.topology_stack.specs.Tree.{Label, Tree, branch, Slots, unplugged, up, down}
-use Rattle.cabling.specs.declared.cable.End.{End}
-use Rattle.cabling.specs.Wiring.{Wiring, ports_of, far}
-use Rattle.cabling.specs.Sees.{Sees, SeesFrom, numbers, numbers_below}
-use Rattle.outcomes.specs.Parents.{LeadsUp, HasParents, LeadDown, ParentsAre, ParentsBelow}
-use Rattle.cabling.proofs.Lemmas.{end_at, from_or_not, RowAt, row_all, row_head, row_tail, In, Once, in_left, in_right, Loopless, tree_within, tree_once}
+use Rattle.std.proofs.Common.{◌≡◌, ◌≢◌, ℕ, zero, suc, ◌+◌, inl, Option, Some, None, List, [], ◌∷◌, get_or, refl, sym, subst, ap, ◌∙◌, arith}
+use Rattle.outcomes.proofs.Common.{Label, Tree, branch, Slots, unplugged, up, down, End, Wiring, ports_of, far, Sees, SeesFrom, numbers, numbers_below, ParentsAre, ParentsBelow, end_at, In, in_left, in_right, Loopless, tree_within}
+use Rattle.outcomes.specs.Parents.{LeadDown}
+use Rattle.cabling.proofs.Lemmas.{RowAt, row_all, row_head, row_tail}
 
 -- the root of a tree has the port
 tree-parent :
@@ -32,52 +29,7 @@ child-parent c label parent from p (Some f ∷ row) (down t s) h k zero q b e j 
 child-parent c label parent from p (Some f ∷ row) (down t s) h k (suc i) q b e j ne = child-parent c label parent from (p + 1) row s h.2 k.1 i q b (omega arith) j ne
 child-parent c label parent from p row s h k i q b e j ne = absurd h
 
-mutual
-  part-parents :
-      (c : Wiring) (label : ℕ → Label) (parent : ℕ → Option ℕ) (x q : ℕ) (t : Tree) →
-      Sees c label x (Some q) t → ((k : ℕ) → In k (numbers c x t) → LeadsUp c parent k) →
-      ParentsAre c parent x (Some q) t
-  part-parents c label parent x q (branch a s) h all =
-      let below : ParentsBelow c parent (ports_of c x) s = parts-parents c label parent (Some q) 0 (ports_of c x) s h.2 (λ k i. all k (in_left k (numbers_below c (ports_of c x) s) (x ∷ []) i)) in
-      let own : LeadsUp c parent x = all x (in_right x (numbers_below c (ports_of c x) s) (x ∷ []) (inl refl)) in
-      let is : parent x ≡ Some q = elim (from_or_not (Some q) own.port) [
-        | inl same ↦ own.is ∙ sym same
-        | inr ne ↦ absurd (own.child (child-parent c label parent (Some q) 0 (ports_of c x) s h.2 below own.port own.port own.end (omega arith) own.joined ne))
-      ] in
-      (is, below)
-
-  parts-parents :
-      (c : Wiring) (label : ℕ → Label) (parent : ℕ → Option ℕ) (from : Option ℕ) (p : ℕ)
-      (row : List (Option End)) (s : Slots) → SeesFrom c label from p row s →
-      ((k : ℕ) → In k (numbers_below c row s) → LeadsUp c parent k) → ParentsBelow c parent row s
-  parts-parents c label parent from p [] s h all = tt
-  parts-parents c label parent from p (None ∷ row) (unplugged s) h all = parts-parents c label parent from (p + 1) row s h all
-  parts-parents c label parent from p (Some f ∷ row) (up s) h all = parts-parents c label parent from (p + 1) row s h.1 all
-  parts-parents c label parent from p (Some f ∷ row) (down t s) h all = (
-    part-parents c label parent f.node f.port t h.1 (λ k i. all k (in_left k (numbers c f.node t) (numbers_below c row s) i)),
-    parts-parents c label parent from (p + 1) row s h.2 (λ k i. all k (in_right k (numbers c f.node t) (numbers_below c row s) i)),
-  )
-  parts-parents c label parent from p row s h all = absurd h
-
--- the root isn't below itself
-once-last : (xs : List ℕ) (x : ℕ) → Once (xs ++ x ∷ []) → In x xs → ⊥
-once-last [] x o i = i
-once-last (y ∷ ys) x o (inl e) = o.0 (in_right y ys (x ∷ []) (inl (sym e)))
-once-last (y ∷ ys) x o (inr i) = once-last ys x o.1 i
-
-pub whole-parents :
-    (c : Wiring) (label : ℕ → Label) (parent : ℕ → Option ℕ) (root set : ℕ) (t : Tree) →
-    Loopless c root set → Sees c label root None t → HasParents c set root parent →
-    ParentsAre c parent root None t
-whole-parents c label parent root set (branch a s) l h u = (
-  u.none,
-  parts-parents c label parent None 0 (ports_of c root) s h.2 (λ k i.
-      u.others k
-      (tree_within c label root set (branch a s) l h k (in_left k (numbers_below c (ports_of c root) s) (root ∷ []) i))
-      (λ same. once-last (numbers_below c (ports_of c root) s) root (tree_once c label root set (branch a s) l h) (subst (λ (n : ℕ). In n (numbers_below c (ports_of c root) s)) same i))),
-)
-
--- ---- the same from above: each port of a node that isn't its parent port leads to a parent port
+-- ---- from above: each port of a node that isn't its parent port leads to a parent port
 
 mutual
   down-tree :

@@ -2,13 +2,8 @@
 use Rattle.std.proofs.Common.{◌≡◌, ◌≢◌, ◌⊎◌, ℕ, zero, suc, ◌+◌, ◌<◌, ◌≤◌, Bool, true, false, Option, Some, None, List, [], ◌∷◌, length, refl, sym, subst, ap, ◌∙◌, arith}
 use Rattle.std.specs.Prelude.{slice_get}
 use Rattle.std.proofs.lemmas.Option.{slice_get_within}
-use Rattle.cabling.specs.declared.cable.End.{End}
-use Rattle.cabling.specs.Wiring.{Wiring, ports_of, far}
-use Rattle.cabling.specs.NodeSet.{Holds}
-use Rattle.cabling.specs.Component.{IsClosed}
-use Rattle.outcomes.specs.WalkMarks.{place, Marked}
+use Rattle.outcomes.proofs.Common.{End, Wiring, ports_of, far, Holds, IsClosed, place, Marked, plugged, end_at}
 use Rattle.outcomes.specs.WaysUp.{Lowest}
-use Rattle.cabling.proofs.Lemmas.{plugged, end_at}
 
 -- marks rise with the ports
 pub rises-to :

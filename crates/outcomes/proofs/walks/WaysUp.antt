@@ -2,14 +2,8 @@
 use Rattle.std.proofs.Common.{◌≡◌, ◌≢◌, ℕ, ◌+◌, inl, inr, cond, eqb, Option, Some, None, List, [], ◌∷◌, ◌++◌, map, refl, sym, subst, ap, ◌∙◌, arith, eq-eqb}
 use Rattle.std.proofs.lemmas.List.{map-append}
 use Rattle.std.proofs.lemmas.Bool.{ne_eqb}
-use Rattle.topology_stack.specs.Tree.{Label, Tree, branch, Slots, absent, unplugged, up, down}
-use Rattle.cabling.specs.declared.cable.End.{End}
-use Rattle.cabling.specs.Wiring.{Wiring, ports_of, IsCabling}
-use Rattle.cabling.specs.Sees.{Sees, SeesFrom, numbers, numbers_below}
-use Rattle.outcomes.specs.Parents.{LeadsUp, ParentsAre, ParentsBelow}
-use Rattle.outcomes.specs.WalkMarks.{mark}
-use Rattle.outcomes.specs.WaysUp.{WaysUp}
-use Rattle.cabling.proofs.Lemmas.{end_at, RowAt, row_all, row_head, row_tail, In, Once, in_append, plain, Loopless, tree_once, small_tree, tree_has}
+use Rattle.outcomes.proofs.Common.{Label, Tree, branch, Slots, absent, unplugged, up, down, End, Wiring, ports_of, IsCabling, Sees, SeesFrom, numbers, numbers_below, LeadsUp, ParentsAre, ParentsBelow, mark, WaysUp, end_at, In, Once, Loopless, tree_once}
+use Rattle.cabling.proofs.Lemmas.{RowAt, row_all, row_head, row_tail, in_append, plain, small_tree, tree_has}
 use Rattle.outcomes.proofs.walks.Parents.{child-parent}
 use Rattle.outcomes.proofs.walks.Marked.{tree-marked, root-spot}
 use Rattle.outcomes.proofs.walks.Rising.{lowest}

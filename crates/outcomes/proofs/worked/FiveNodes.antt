@@ -1,16 +1,7 @@
 -- The five nodes in a line and in a star settle to trees.
 use Rattle.std.proofs.Common.{◌≡◌, ℕ, Bool, true, false, List, [], ◌∷◌, map, Option, Some, None, refl}
-use Rattle.self_id.specs.declared.node.Attrs.{Attrs}
-use Rattle.self_id.specs.Group.{group}
-use Rattle.topology_stack.specs.Tree.{Label, Tree, Slots, branch, no_more, absent, unplugged, up, down}
-use Rattle.port_state.specs.declared.signal.Phase.TheVariants.{Ready}
-use Rattle.port_state.specs.Entry.{enter}
-use Rattle.port_state.specs.Heard.{on_signal}
-use Rattle.port_state.specs.Tick.{tick}
-use Rattle.cabling.specs.Wiring.{Wiring}
-use Rattle.cable_world.specs.Turn.{turn, turns_after}
-use Rattle.cable_world.specs.Outcome.{attrs_now, IsTree}
-use Rattle.cable_world.proofs.Lemmas.{Summary, summary_of, attrs, at, tree-settled}
+use Rattle.outcomes.proofs.Common.{Attrs, group, Label, Tree, Slots, branch, no_more, absent, unplugged, up, down, Ready, enter, on_signal, tick, Wiring, turn, turns_after, attrs_now, IsTree, attrs, at}
+use Rattle.cable_world.proofs.Lemmas.{Summary, summary_of, tree-settled}
 use Rattle.convergence.proofs.Lemmas.{line, star}
 
 -- a link, S400 and no contender, where every node began the last reset

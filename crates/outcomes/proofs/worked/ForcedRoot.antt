@@ -1,17 +1,9 @@
 -- Three nodes in a line, the last one plugged when the others have settled. It alone waits to
 -- become root, and does.
 use Rattle.std.proofs.Common.{◌≡◌, ℕ, true, false, List, [], ◌∷◌, Option, Some, None, refl, map}
-use Rattle.self_id.specs.Group.{group}
-use Rattle.port_state.specs.declared.signal.Phase.{Phase}
-use Rattle.port_state.specs.declared.signal.Phase.TheVariants.{ResetStart, Ready}
-use Rattle.port_state.specs.Entry.{enter}
-use Rattle.port_state.specs.Heard.{on_signal}
-use Rattle.port_state.specs.Tick.{tick}
-use Rattle.port_state.specs.Machine.{PortNode}
-use Rattle.cable_world.specs.World.{CableWorld, world_of_nodes}
-use Rattle.cable_world.specs.Turn.{turn, turns_after}
-use Rattle.cable_world.proofs.Lemmas.{node_of, attrs, at, after_plug}
-use Rattle.outcomes.specs.Forced.{waits_due}
+use Rattle.outcomes.proofs.Common.{group, Phase, ResetStart, Ready, enter, on_signal, tick, PortNode, CableWorld, turn, turns_after, attrs, at, waits_due}
+use Rattle.cable_world.specs.World.{world_of_nodes}
+use Rattle.cable_world.proofs.Lemmas.{node_of, after_plug}
 
 waiting : PortNode → PortNode
 waiting x = record x { state = record x.state { view = record x.state.view { force = true; next_force = true } } }

@@ -1,16 +1,12 @@
 -- Two nodes, one cable between them: the bus comes of power-on, it is left alone for 8128 turns, and
 -- so it has settled.
 use Rattle.std.proofs.Common.{◌≡◌, ℕ, zero, suc, true, false, [], ◌∷◌, None, Some, length, slice_get, refl, subst, arith}
-use Rattle.port_state.specs.Entry.{enter}
+use Rattle.outcomes.proofs.Common.{enter, PortNode, IsPowerOnWorld, turns_after, act_fault, acts, IsReached, quiet_turns, some-same, attrs, at}
 use Rattle.port_state.specs.Timing.{InRange, usual_timing}
-use Rattle.port_state.specs.Machine.{PortNode}
 use Rattle.port_state.proofs.Lemmas.{valid-power_on}
 use Rattle.cable_world.specs.declared.act.Act.TheVariants.{Plug}
-use Rattle.cable_world.specs.World.{IsNodeAtPowerOn, IsPowerOnWorld, world_of_nodes}
-use Rattle.cable_world.specs.Turn.{turns_after}
-use Rattle.cable_world.specs.Act.{act_fault}
-use Rattle.cable_world.specs.Run.{acts, IsReached, quiet_turns}
-use Rattle.cable_world.proofs.Lemmas.{some-same, plain_node, attrs, at}
+use Rattle.cable_world.specs.World.{IsNodeAtPowerOn, world_of_nodes}
+use Rattle.cable_world.proofs.Lemmas.{plain_node}
 use Rattle.cable_world.proofs.Lemmas as pair
 use Rattle.outcomes.specs.Headline.{IsLeftAlone, AllSettled, EveryBusSettles}
 use Rattle.outcomes.proofs.settled.LeftAlone.{left-alone}

@@ -2,12 +2,8 @@
 -- and node 3 at
 -- port 0 of node 2. The walk is 1, 3, 2, 0.
 use Rattle.std.proofs.Common.{◌≡◌, ℕ, zero, suc, Option, Some, None, [], ◌∷◌, refl}
-use Rattle.topology_stack.specs.Tree.{Tree, branch, no_more, absent, unplugged, up, down}
-use Rattle.cabling.specs.Wiring.{Wiring}
-use Rattle.cabling.specs.Sees.{Sees, numbers}
-use Rattle.outcomes.specs.Parents.{ParentsAre}
-use Rattle.outcomes.specs.WalkMarks.{mark}
-use Rattle.cabling.proofs.Lemmas.{end_at, plain}
+use Rattle.outcomes.proofs.Common.{Tree, branch, no_more, absent, unplugged, up, down, Wiring, Sees, numbers, ParentsAre, mark, end_at}
+use Rattle.cabling.proofs.Lemmas.{plain}
 
 abbrev four : Wiring
 four =

@@ -1,9 +1,4 @@
-use Rattle.cable_world.specs.World.{CableWorld}
-use Rattle.cable_world.specs.Quiet.{quiet_after}
-use Rattle.cable_world.specs.Lawful.{IsLawful}
-use Rattle.cable_world.proofs.Lemmas.{reached-lawful, quiet-lawful}
-use Rattle.convergence.specs.Milestones.{ResetsAreOver}
-use Rattle.convergence.specs.Rivals.{IsContested}
+use Rattle.convergence.proofs.Common.{CableWorld, quiet_after, IsLawful, reached-lawful, quiet-lawful, ResetsAreOver, IsContested}
 use Rattle.convergence.proofs.coins.StaysContested.{reached-contested, quiet-contested}
 use Rattle.convergence.proofs.resets.ResetsOver.{resets-over}
 use Rattle.convergence.proofs.coins.Drawers.{mutual-close, mutual-agree, two-rivals, no-third}

@@ -1,6 +1,5 @@
 use Rattle.std.proofs.Common.{◌^◌, ◌<◌}
-use Rattle.cabling.specs.Existence.{HasCore}
-use Rattle.cable_world.proofs.Lemmas.{reached-lawful}
+use Rattle.outcomes.proofs.Common.{HasCore, reached-lawful}
 use Rattle.outcomes.proofs.settled.Components.{small-there}
 use Rattle.outcomes.proofs.settled.QuietTurns.{settles-at-last, done-at-last}
 use Rattle.outcomes.proofs.settled.QuietRuns.{run-settles}

@@ -1,6 +1,5 @@
 use Rattle.std.proofs.Common.{◌^◌, ◌<◌}
-use Rattle.cabling.specs.Existence.{HasCore}
-use Rattle.cable_world.proofs.Lemmas.{reached-lawful}
+use Rattle.outcomes.proofs.Common.{HasCore, reached-lawful}
 use Rattle.outcomes.proofs.settled.Components.{small-there}
 use Rattle.outcomes.proofs.settled.StaySettled.{stays-settled}
 use Rattle.outcomes.proofs.laws.components_stay_settled.Goals as goal

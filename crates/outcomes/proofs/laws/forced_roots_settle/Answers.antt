@@ -1,4 +1,4 @@
-use Rattle.cable_world.proofs.Lemmas.{reached-lawful}
+use Rattle.outcomes.proofs.Common.{reached-lawful}
 use Rattle.outcomes.proofs.identify.StaysIdentifying.{reached-identifying}
 use Rattle.outcomes.proofs.settled.Components.{small-named, small-forced}
 use Rattle.outcomes.proofs.settled.ForcedOutcome.{forced-outcome, named-alone, config-outcome, config-gaps}

@@ -1,4 +1,4 @@
-use Rattle.cable_world.proofs.Lemmas.{reached-lawful}
+use Rattle.outcomes.proofs.Common.{reached-lawful}
 use Rattle.outcomes.proofs.identify.ListsFollow as lists
 use Rattle.outcomes.proofs.identify.StaysIdentifying.{reached-identifying}
 use Rattle.outcomes.proofs.laws.lists_follow.Goals as goal

@@ -1,5 +1,5 @@
 use Rattle.std.proofs.Common.{◌^◌, ◌<◌}
-use Rattle.cabling.specs.Existence.{HasCore}
+use Rattle.outcomes.proofs.Common.{HasCore}
 use Rattle.outcomes.proofs.roots.Named.{named-tree}
 use Rattle.outcomes.proofs.settled.Components.{small-root}
 use Rattle.outcomes.proofs.laws.named_roots_are_outcomes.Goals as goal

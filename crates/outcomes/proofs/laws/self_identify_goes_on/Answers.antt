@@ -1,6 +1,5 @@
-use Rattle.cable_world.proofs.Lemmas.{reached-lawful}
+use Rattle.outcomes.proofs.Common.{reached-lawful, reached-acyclic}
 use Rattle.outcomes.proofs.identify.Holders.{one-holder}
-use Rattle.convergence.proofs.Lemmas.{reached-acyclic}
 use Rattle.outcomes.proofs.identify.StaysIdentifying.{reached-identifying}
 use Rattle.outcomes.proofs.laws.self_identify_goes_on.Goals as goal
 

@@ -1,5 +1,5 @@
 use Rattle.std.proofs.Common.{◌^◌, ◌<◌, length}
-use Rattle.cable_world.proofs.Lemmas.{reached-lawful, act-reached}
+use Rattle.outcomes.proofs.Common.{reached-lawful, act-reached}
 use Rattle.outcomes.proofs.settled.Components.{small-there, small-tree}
 use Rattle.outcomes.proofs.settled.TreesStay.{tree-stays, act-tree, here-after}
 use Rattle.outcomes.proofs.laws.trees_stay.Goals as goal

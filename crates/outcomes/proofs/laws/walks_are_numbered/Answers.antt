@@ -1,6 +1,6 @@
 use Rattle.std.proofs.Common.{◌<◌, length, arith}
 use Rattle.std.proofs.lemmas.Option.{slice_get_within}
-use Rattle.cable_world.specs.Turn.{turn}
+use Rattle.outcomes.proofs.Common.{turn}
 use Rattle.cable_world.proofs.Lemmas.{nodes-after}
 use Rattle.outcomes.proofs.settled.Components.{small-there}
 use Rattle.outcomes.proofs.numbers.HoldRests.{hold-settles}

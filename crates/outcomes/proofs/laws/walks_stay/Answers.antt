@@ -1,5 +1,5 @@
 use Rattle.std.proofs.Common.{◌^◌, ◌<◌}
-use Rattle.cabling.specs.Existence.{HasCore}
+use Rattle.outcomes.proofs.Common.{HasCore}
 use Rattle.outcomes.proofs.roots.Named.{same-walk}
 use Rattle.outcomes.proofs.settled.Components.{small-root}
 use Rattle.outcomes.proofs.laws.walks_stay.Goals as goal
