@@ -1,5 +1,5 @@
 -- The lines that were taken, and those that are left.
-use Rattle.std.proofs.Common.{◌≡◌, inl, inr, ℕ, ◌+◌, List, [], ◌∷◌, ◌++◌, refl, sym, ap, subst, ◌∙◌, append_assoc, length, arith}
+use Rattle.std.proofs.Common.{◌≡◌, inl, inr, ℕ, Bool, true, false, ◌+◌, List, [], ◌∷◌, ◌++◌, refl, sym, ap, subst, ◌∙◌, append_assoc, length, arith}
 use Rattle.std.specs.Prelude.{None, Some, Ok, Err}
 use Rattle.std.proofs.lemmas.List.{append-nil}
 use Rattle.script_lines.specs.declared.kind.Kind.{Kind}
@@ -15,7 +15,9 @@ use Rattle.script_told.specs.Script.{Stage, fresh, running, Told, bus_of, fault_
 use Rattle.script_told.specs.Run.{Entry, ScriptRun, done, stopped, behind, last_run, RunsFrom, IsRun, printed, IsTold}
 use Rattle.script_run.specs.Answered.{StopsWith, IsRefused, IsOnlyFault}
 use Rattle.script_bus.specs.Running.{Stops}
-use Rattle.script_run.specs.codings.Going.{LineLeads, LineFails, IfFault, Went, HavePrinted, stop_at}
+use Rattle.script_trace.specs.Trace.{TracesAt, AllTrace}
+use Rattle.script_bus.specs.Heard.{heard}
+use Rattle.script_run.specs.codings.Going.{LineLeads, LineFails, IfFault, Went, HaveGone, stop_at}
 
 -- ---- commands that were done
 
@@ -48,19 +50,55 @@ went-on bytes entries number line lines stage next command text went one more re
     let entry : Entry = done number stage command next text in
     subst (IsRun bytes) (behind-more entries entry more) (went (behind (entry ∷ []) more) (one more rest))
 
+-- what commands trace, one after the other
+all-traced :
+    (entries more : List Entry) (lines rest : List ℕ) → AllTrace entries lines → AllTrace more rest →
+    AllTrace (entries ++ more) (lines ++ rest)
+all-traced [] more lines rest h k = subst (λ (l : List ℕ). AllTrace more (l ++ rest)) (sym h) k
+all-traced (e ∷ entries) more lines rest h k = (
+  h.0,
+  h.1 ++ rest,
+  h.2,
+  all-traced entries more h.1 rest h.3 k,
+  ap (λ (l : List ℕ). l ++ rest) h.4 ∙ append_assoc h.0 h.1 rest,
+)
+
+pub one-traced :
+    (entries : List Entry) (entry : Entry) (lines one : List ℕ) → AllTrace entries lines →
+    TracesAt entry.before entry.command entry.after one → AllTrace (entries ++ entry ∷ []) (lines ++ one)
+one-traced entries entry lines one h is =
+    all-traced entries (entry ∷ []) lines one h (one, [], is, refl, sym (append-nil one))
+
+-- what is heard twice
+pub both-heard :
+    (writes : Bool) (xs ys out mid new : List ℕ) → mid ≡ out ++ heard writes xs →
+    new ≡ mid ++ heard writes ys → new ≡ out ++ heard writes (xs ++ ys)
+both-heard true xs ys out mid new first next =
+    next ∙ ap (λ (l : List ℕ). l ++ ys) first ∙ append_assoc out xs ys
+both-heard false xs ys out mid new first next = next ∙ append-nil mid ∙ first
+
+none-heard : (writes : Bool) (out : List ℕ) → out ≡ out ++ heard writes []
+none-heard true out = sym (append-nil out)
+none-heard false out = sym (append-nil out)
+
 -- a line was taken
-pub printed-next :
-    (bytes out after text : List ℕ) (number : ℕ) (line : List ℕ) (lines all : List (List ℕ))
-    (stage next : Stage) → all ≡ line ∷ lines → after ≡ out ++ text → LineLeads stage line next text →
-    HavePrinted bytes out number all stage → HavePrinted bytes after (number + 1) lines next
-printed-next bytes out after text number line lines all stage next cut is leads have =
+pub gone-next :
+    (writes : Bool) (bytes said after text out mid new : List ℕ) (number : ℕ) (line : List ℕ)
+    (lines all : List (List ℕ)) (stage next : Stage) → all ≡ line ∷ lines → after ≡ said ++ text →
+    LineLeads writes stage line next text mid new → HaveGone writes bytes said out mid number all stage →
+    HaveGone writes bytes after out new (number + 1) lines next
+gone-next writes bytes said after text out mid new number line lines all stage next cut is leads have =
     go leads (subst (λ (l : List (List ℕ)). Went bytes have.entries number l stage) cut have.went)
   where
-    go : LineLeads stage line next text → Went bytes have.entries number (line ∷ lines) stage → HavePrinted bytes after (number + 1) lines next
+    go : LineLeads writes stage line next text mid new → Went bytes have.entries number (line ∷ lines) stage →
+        HaveGone writes bytes after out new (number + 1) lines next
     go (inl skipped) went = record {
       entries = have.entries;
       went = λ more rest. went more (Ok None, skipped.0, subst (λ (s : Stage). RunsFrom (number + 1) lines s more) skipped.1 rest);
-      out_is = is ∙ ap (λ (l : List ℕ). out ++ l) skipped.2 ∙ append-nil out ∙ have.out_is;
+      text_is = is ∙ ap (λ (l : List ℕ). said ++ l) skipped.2 ∙ append-nil said ∙ have.text_is;
+      trace = have.trace;
+      traced = have.traced;
+      written = skipped.3 ∙ have.written;
     }
     go (inr did) went =
         let entry : Entry = done number stage did.0 next text in
@@ -68,16 +106,22 @@ printed-next bytes out after text number line lines all stage next cut is leads 
           entries = have.entries ++ entry ∷ [];
           went = went-on bytes have.entries number line lines stage next did.0 text went
               (λ more rest. (Ok (Some did.0), did.1, (Ok (next, text), did.2, (more, rest, refl))));
-          out_is = is ∙ ap (λ (l : List ℕ). l ++ text) have.out_is ∙ sym (printed-more have.entries entry);
+          text_is = is ∙ ap (λ (l : List ℕ). l ++ text) have.text_is ∙ sym (printed-more have.entries entry);
+          trace = have.trace ++ did.3.lines;
+          traced = one-traced have.entries entry have.trace did.3.lines have.traced did.3.traces;
+          written = both-heard writes have.trace did.3.lines out mid new have.written did.3.written;
         }
 
-pub printed-first :
-    (bytes out : List ℕ) (stage : Stage) → out ≡ [] → stage ≡ fresh →
-    HavePrinted bytes out 1 (script_lines bytes) stage
-printed-first bytes out stage empty new = record {
+pub gone-first :
+    (writes : Bool) (bytes said out : List ℕ) (stage : Stage) → said ≡ [] → stage ≡ fresh →
+    HaveGone writes bytes said out out 1 (script_lines bytes) stage
+gone-first writes bytes said out stage empty new = record {
   entries = [];
   went = λ more rest. went-first bytes more (subst (λ (s : Stage). RunsFrom 1 (script_lines bytes) s more) new rest);
-  out_is = empty;
+  text_is = empty;
+  trace = [];
+  traced = refl;
+  written = none-heard writes out;
 }
 
 -- ---- faults and ends
@@ -106,12 +150,13 @@ run-ends bytes entries number stage bus text went settles =
 
 -- the bus settles at the end, and the script has told its text
 pub script-ends :
-    (bytes out text : List ℕ) (number : ℕ) (stage : Stage) (bus : Bus) → HavePrinted bytes out number [] stage →
-    Settles (bus_of stage) (Ok (bus, text)) → IsTold bytes (Ok (out ++ text))
-script-ends bytes out text number stage bus have settles = (
+    (writes : Bool) (bytes said text out mid : List ℕ) (number : ℕ) (stage : Stage) (bus : Bus) →
+    HaveGone writes bytes said out mid number [] stage → Settles (bus_of stage) (Ok (bus, text)) →
+    IsTold bytes (Ok (said ++ text))
+script-ends writes bytes said text out mid number stage bus have settles = (
   behind have.entries (last_run number stage (Ok (bus, text))),
   run-ends bytes have.entries number stage bus text have.went settles,
-  ap Ok (ap (λ (l : List ℕ). l ++ text) have.out_is
+  ap Ok (ap (λ (l : List ℕ). l ++ text) have.text_is
       ∙ sym (printed-more have.entries (done number stage Settle (running bus) text))),
 )
 

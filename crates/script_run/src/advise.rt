@@ -7,6 +7,7 @@ ghost use Rattle.script_advice.specs.Advising.{EndsWith};
 
 use crate::script::{Taken, at_line, take_lines};
 use script_advice::{advices_leave_no_loop, scripts_have_one_advice};
+use script_bus::Silent;
 use script_lines::ScriptStop;
 use std::alloc::Global;
 
@@ -16,8 +17,8 @@ fn text_of(alloc: Global, bytes: &[u8]) -> Result<Vec<u8>, ScriptStop>
     ensures told { IfOk result (λ text. EndsWith bytes.now text.items) }
     ensures refused { IfErr result (IsAdviceRefused bytes.now) }
 {
-    let Taken { course, number, .. } = take_lines(alloc, bytes)?;
-    let text = match course.advised(alloc) {
+    let Taken { stage, number, .. } = take_lines(alloc, bytes, &mut Silent)?;
+    let text = match stage.advised(alloc) {
         Ok(text) => text,
         Err(stop) => return Err(at_line(number, stop)),
     };

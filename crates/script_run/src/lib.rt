@@ -6,10 +6,10 @@
 #![tactic(auto)]
 
 mod advise;
-mod course;
 mod draft;
 mod run;
 mod script;
+mod stage;
 mod trace;
 
 pub use advise::advise_script;

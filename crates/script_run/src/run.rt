@@ -4,10 +4,10 @@ ghost use Rattle.script_lines.specs.Range.{IsInRange};
 ghost use Rattle.script_told.specs.Script.{Declares, Delays, Follows, Runs, bus_of, delay_of, draft_of};
 ghost use Rattle.script_bus.specs.Running.{bus_now, IsSound, Stops};
 ghost use Rattle.script_run.specs.codings.Declaring.{IsDraft, IsLine, draft_now, node_said};
-ghost use Rattle.script_run.specs.codings.Tracing.{HearsAt};
+ghost use Rattle.script_run.specs.codings.Going.{HearsAt};
 
-use crate::course::Course;
 use crate::draft::{Draft, GivenCoins, GivenTimes, NodeLine};
+use crate::stage::{Phase, Stage};
 use cable_world::WorldRun;
 use phy_machine::AnyMachine;
 use script_bus::{Bus, Listener};
@@ -21,28 +21,17 @@ use world_agenda::AgendaWorld;
 /// By how many turns a cable delays a signal at most, where no line says it.
 const USUAL_DELAY: u8 = 4;
 
-/// Between two lines of a script.
-#[derive(Drop)]
-pub(crate) enum Stage<W> {
-    /// No command came yet.
-    Fresh,
-    /// Nodes are declared.
-    Declaring(Draft),
-    /// The bus runs.
-    Running(Bus<W>),
-}
-
-impl Course {
+impl Stage {
     /// By how many turns a cable delays a signal at most.
     pub fn delay(&self) -> u8
         ensures value { result ≡ delay_of self.now }
         ensures some { 1 ≤ result }
         ensures few { result ≤ 16 }
     {
-        match &self.stage {
-            Stage::Fresh => USUAL_DELAY,
-            Stage::Declaring(draft) => draft.delay,
-            Stage::Running(bus) => bus.delay(),
+        match &self.phase {
+            Phase::Fresh => USUAL_DELAY,
+            Phase::Declaring(draft) => draft.delay,
+            Phase::Running(bus) => bus.delay(),
         }
     }
 
@@ -53,10 +42,10 @@ impl Course {
         ensures sound { IfOk result (IsSound ⟦<AgendaWorld<AnyMachine> as WorldRun>⟧.world
             ⟦<AgendaWorld<AnyMachine> as WorldRun>⟧.is_spent) }
     {
-        match self.stage {
-            Stage::Fresh => Draft::new(alloc, USUAL_DELAY).bus(alloc),
-            Stage::Declaring(draft) => draft.bus(alloc),
-            Stage::Running(bus) => Ok(bus),
+        match self.phase {
+            Phase::Fresh => Draft::new(alloc, USUAL_DELAY).bus(alloc),
+            Phase::Declaring(draft) => draft.bus(alloc),
+            Phase::Running(bus) => Ok(bus),
         }
     }
 
@@ -68,10 +57,10 @@ impl Course {
         ensures late { IfErr result (λ stop. (stop ≡ LineStop.Fault Kind.Late)
             × (draft_of self ≡ None)) }
     {
-        match self.stage {
-            Stage::Fresh => Ok(Draft::new(alloc, USUAL_DELAY)),
-            Stage::Declaring(draft) => Ok(draft),
-            Stage::Running(_) => Err(LineStop::Fault(Kind::Late)),
+        match self.phase {
+            Phase::Fresh => Ok(Draft::new(alloc, USUAL_DELAY)),
+            Phase::Declaring(draft) => Ok(draft),
+            Phase::Running(_) => Err(LineStop::Fault(Kind::Late)),
         }
     }
 
@@ -83,9 +72,9 @@ impl Course {
         ensures stop { IfErr result
             (Stops (Declares (draft_of self.old) line.name (node_said line))) }
     {
-        let course = mem::replace(self, Course::new());
-        let draft = course.draft(alloc)?.declare(line)?;
-        self.stage = Stage::Declaring(draft);
+        let stage = mem::replace(self, Stage::new());
+        let draft = stage.draft(alloc)?.declare(line)?;
+        self.phase = Phase::Declaring(draft);
         Ok(Vec::new(alloc))
     }
 
@@ -104,9 +93,9 @@ impl Course {
             (L.written listener.old) (L.written listener.new)) }
         ensures stop { IfErr result (Stops (Runs self.old command.now)) }
     {
-        let mut bus = mem::replace(self, Course::new()).bus(alloc)?;
+        let mut bus = mem::replace(self, Stage::new()).bus(alloc)?;
         let text = bus.command(alloc, d, command, listener)?;
-        self.stage = Stage::Running(bus);
+        self.phase = Phase::Running(bus);
         Ok(text)
     }
 
@@ -118,10 +107,10 @@ impl Course {
             Delays self.old delay (Ok (self.new, text.items))) }
         ensures stop { IfErr result (Stops (Delays self.old delay)) }
     {
-        if !matches!(self.stage, Stage::Fresh) {
+        if !matches!(self.phase, Phase::Fresh) {
             return Err(LineStop::Fault(Kind::Late));
         }
-        self.stage = Stage::Declaring(Draft::new(alloc, delay));
+        self.phase = Phase::Declaring(Draft::new(alloc, delay));
         Ok(Vec::new(alloc))
     }
 

@@ -3,9 +3,10 @@ ghost use Rattle.std.specs.Prelude.{◌≡◌, ◌≤◌, ◌<◌, ◌+◌, ◌�
 ghost use Rattle.script_told.specs.Script.{Told, script_lines};
 ghost use Rattle.script_told.specs.Run.{IsTold};
 ghost use Rattle.script_run.specs.Answered.{IsRefused, IsOnlyFault};
-ghost use Rattle.script_run.specs.codings.Going.{HavePrinted, stop_at};
+ghost use Rattle.script_run.specs.codings.Going.{HaveGone, stop_at};
 
-use crate::course::Course;
+use crate::stage::Stage;
+use script_bus::{Listener, Silent};
 use script_lines::{LineStop, ScriptFault, ScriptStop};
 use script_text::first_feed;
 use script_told::scripts_tell_one_thing;
@@ -37,29 +38,33 @@ pub(crate) fn at_line(line: u32, stop: LineStop) -> ScriptStop
 #[derive(Drop)]
 pub(crate) struct Taken {
     /// What comes of it.
-    pub course: Course,
+    pub stage: Stage,
     /// The number of lines and 1.
     pub number: u32,
     /// What the lines printed.
     pub text: Vec<u8>,
 }
 
-/// Takes the lines of a script, of 1,048,576 bytes at most.
-pub(crate) fn take_lines(alloc: Global, bytes: &[u8]) -> Result<Taken, ScriptStop>
+/// Takes the lines of a script, of 1,048,576 bytes at most. The listener hears what happens at them.
+pub(crate) fn take_lines<L: Listener>(
+    alloc: Global,
+    bytes: &[u8],
+    listener: &mut L,
+) -> Result<Taken, ScriptStop>
     requires { length bytes.now ≤ 1048576 }
-    ensures lines { IfOk result (λ taken.
-        HavePrinted bytes.now taken.text.items taken.number [] taken.course) }
+    ensures lines { IfOk result (λ taken. HaveGone L.writes bytes.now taken.text.items
+        (L.written listener.old) (L.written listener.new) taken.number [] taken.stage) }
     ensures number { IfOk result (λ taken. taken.number
         ≡ length (script_lines bytes.now) + 1) }
     ensures refused { IfErr result (IsRefused bytes.now) }
 {
     let mut text = Vec::new(alloc);
-    let mut course = Course::new();
+    let mut stage = Stage::new();
     let mut rest = bytes;
     let mut number = 1;
     while !rest.is_empty() {
         let (line, behind) = cut_line(rest);
-        match course.take(alloc, line, &mut text) {
+        match stage.take(alloc, line, listener, &mut text) {
             Ok(()) => {}
             Err(stop) => return Err(at_line(number, stop)),
         }
@@ -67,7 +72,7 @@ pub(crate) fn take_lines(alloc: Global, bytes: &[u8]) -> Result<Taken, ScriptSto
         number += 1;
     }
     Ok(Taken {
-        course,
+        stage,
         number,
         text,
     })
@@ -89,11 +94,11 @@ pub fn run_script(alloc: Global, bytes: &[u8]) -> Result<Vec<u8>, ScriptStop>
 {
     scripts_tell_one_thing();
     let Taken {
-        course,
+        stage,
         number,
         mut text,
-    } = take_lines(alloc, bytes)?;
-    match course.last_report(alloc) {
+    } = take_lines(alloc, bytes, &mut Silent)?;
+    match stage.last_report(alloc, &mut Silent) {
         Ok(report) => text.extend_from_slice(report.as_slice())?,
         Err(stop) => return Err(at_line(number, stop)),
     }

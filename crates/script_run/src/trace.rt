@@ -1,59 +1,27 @@
 //! The trace of a whole script.
-ghost use Rattle.std.specs.Prelude.{◌≡◌, ◌≤◌, [], Ok, IfOk, IfErr, length};
+ghost use Rattle.std.specs.Prelude.{◌≡◌, ◌≤◌, Ok, IfOk, IfErr, length};
 ghost use Rattle.script_told.specs.Script.{Told};
 ghost use Rattle.script_trace.specs.Trace.{IsTrace};
-ghost use Rattle.script_run.specs.Answered.{StopsWith, IsRefused, IsOnlyFault};
-ghost use Rattle.script_run.specs.codings.Tracing.{HaveTraced};
+ghost use Rattle.script_run.specs.Answered.{IsRefused, IsOnlyFault};
 
-use crate::course::Course;
-use crate::script::{Taken, at_line, cut_line};
+use crate::script::{Taken, at_line, take_lines};
 use script_lines::ScriptStop;
 use script_trace::{scripts_have_one_trace, turns_show_what_is_sent};
 use std::alloc::Global;
-
-/// Takes the lines of a script, of 1,048,576 bytes at most, and keeps what happens at them.
-fn trace_lines(alloc: Global, bytes: &[u8]) -> Result<Taken, ScriptStop>
-    requires { length bytes.now ≤ 1048576 }
-    ensures lines { IfOk result (λ taken.
-        HaveTraced bytes.now taken.text.items taken.number [] taken.course) }
-    ensures refused { IfErr result (StopsWith (IsTrace bytes.now)) }
-{
-    let mut text = Vec::new(alloc);
-    let mut course = Course::new();
-    let mut rest = bytes;
-    let mut number = 1;
-    while !rest.is_empty() {
-        let (line, behind) = cut_line(rest);
-        match course.trace(alloc, line, &mut text) {
-            Ok(()) => {}
-            Err(stop) => return Err(at_line(number, stop)),
-        }
-        rest = behind;
-        number += 1;
-    }
-    Ok(Taken {
-        course,
-        number,
-        text,
-    })
-}
 
 /// The trace of the lines of a script and of the `settle` behind the last.
 fn trace_of(alloc: Global, bytes: &[u8]) -> Result<Vec<u8>, ScriptStop>
     requires { length bytes.now ≤ 1048576 }
     ensures traced { IfOk result (λ lines. IsTrace bytes.now (Ok lines.items)) }
-    ensures refused { IfErr result (StopsWith (IsTrace bytes.now)) }
+    ensures refused { IfErr result (IsRefused bytes.now) }
 {
-    let Taken {
-        course,
-        number,
-        mut text,
-    } = trace_lines(alloc, bytes)?;
-    match course.last_trace(alloc, &mut text) {
-        Ok(()) => {}
+    let mut lines = Vec::new(alloc);
+    let Taken { stage, number, .. } = take_lines(alloc, bytes, &mut lines)?;
+    match stage.last_report(alloc, &mut lines) {
+        Ok(_) => {}
         Err(stop) => return Err(at_line(number, stop)),
     }
-    Ok(text)
+    Ok(lines)
 }
 
 /// The trace of a script, of 1,048,576 bytes at most: what happens on its bus, in the order in which

@@ -1,5 +1,5 @@
 -- How the lines of a script are gone through.
-use Rattle.std.specs.Prelude.{◌≡◌, ◌⊎◌, ℕ, Bool, List, [], None, Some, Ok, Err}
+use Rattle.std.specs.Prelude.{◌≡◌, ◌⊎◌, ℕ, Bool, List, [], ◌++◌, None, Some, Ok, Err}
 use Rattle.cable_world.specs.World.{CableWorld}
 use Rattle.script_lines.specs.declared.kind.Kind.{Kind}
 use Rattle.script_lines.specs.declared.kind.LineStop.{LineStop}
@@ -7,30 +7,41 @@ use Rattle.script_lines.specs.declared.kind.LineStop.TheVariants as line
 use Rattle.script_lines.specs.declared.kind.ScriptStop.{ScriptStop}
 use Rattle.script_lines.specs.declared.kind.ScriptStop.TheVariants as script
 use Rattle.script_lines.specs.declared.command.Command.{Command}
-use Rattle.script_run.specs.declared.run.Stage as kept
-use Rattle.script_run.specs.declared.run.Stage.TheVariants.{Fresh, Declaring, Running}
+use Rattle.script_run.specs.declared.stage.Phase.{Phase}
+use Rattle.script_run.specs.declared.stage.Phase.TheVariants.{Fresh, Declaring, Running}
 use Rattle.script_lines.specs.Line.{Reads}
 use Rattle.script_told.specs.Script.{Stage, fresh, declaring, running, delay_of, Follows, fault_at}
 use Rattle.script_told.specs.Run.{Entry, ScriptRun, behind, RunsFrom, IsRun, printed}
+use Rattle.script_trace.specs.Trace.{TracesAt, AllTrace}
+use Rattle.script_bus.specs.Heard.{heard}
 use Rattle.script_bus.specs.Running.{bus_now, IsSound}
 use Rattle.script_run.specs.codings.Declaring.{draft_now, IsDraft}
 
-abbrev pub stage_now : {W : Type 0} → (W → CableWorld) → kept.Stage W → Stage
+abbrev pub stage_now : {W : Type 0} → (W → CableWorld) → Phase W → Stage
 stage_now world Fresh = fresh
 stage_now world (Declaring draft) = declaring (draft_now draft)
 stage_now world (Running bus) = running (bus_now world bus)
 
-abbrev pub IsSoundStage : {W : Type 0} → (W → CableWorld) → (W → Bool) → kept.Stage W → Type 0
-IsSoundStage world spent Fresh = Unit {0}
-IsSoundStage world spent (Declaring draft) = IsDraft draft
-IsSoundStage world spent (Running bus) = IsSound world spent bus
+abbrev pub IsPhase :
+    {W : Type 0} → (W → CableWorld) → (W → Bool) → Phase W → Type 0
+IsPhase world spent Fresh = Unit {0}
+IsPhase world spent (Declaring draft) = IsDraft draft
+IsPhase world spent (Running bus) = IsSound world spent bus
 
--- a line leads from a stage to the next, and prints this
-abbrev pub LineLeads : Stage → List ℕ → Stage → List ℕ → Type 0
-LineLeads stage line next text =
-    (Reads (delay_of stage) line (Ok None) × (next ≡ stage) × (text ≡ []))
+-- a command led from a stage to the next, and a listener added what happened in it to its text
+pub record HearsAt
+    (writes : Bool) (stage : Stage) (command : Command) (next : Stage) (out new : List ℕ) :
+    Type 0 where
+  pub lines : List ℕ
+  pub traces : TracesAt stage command next lines
+  pub written : new ≡ out ++ heard writes lines
+
+-- a line leads from a stage to the next and prints this, and a listener hears what happens
+abbrev pub LineLeads : Bool → Stage → List ℕ → Stage → List ℕ → List ℕ → List ℕ → Type 0
+LineLeads writes stage line next text out new =
+    (Reads (delay_of stage) line (Ok None) × (next ≡ stage) × (text ≡ []) × (new ≡ out))
     ⊎ ((command : Command) × Reads (delay_of stage) line (Ok (Some command))
-    × Follows stage command (Ok (next, text)))
+    × Follows stage command (Ok (next, text)) × HearsAt writes stage command next out new)
 
 -- a line is at fault
 abbrev pub LineFails : Stage → List ℕ → Kind → Type 0
@@ -55,9 +66,13 @@ abbrev pub Went : List ℕ → List Entry → ℕ → List (List ℕ) → Stage 
 Went bytes entries number lines stage =
     (more : ScriptRun) → RunsFrom number lines stage more → IsRun bytes (behind entries more)
 
--- so they went, and this is what they printed
-pub record HavePrinted
-    (bytes out : List ℕ) (number : ℕ) (lines : List (List ℕ)) (stage : Stage) : Type 0 where
+-- so they went, this is what they printed, and a listener heard what happened at them
+pub record HaveGone
+    (writes : Bool) (bytes text out new : List ℕ) (number : ℕ) (lines : List (List ℕ))
+    (stage : Stage) : Type 0 where
   pub entries : List Entry
   pub went : Went bytes entries number lines stage
-  pub out_is : out ≡ printed entries
+  pub text_is : text ≡ printed entries
+  pub trace : List ℕ
+  pub traced : AllTrace entries trace
+  pub written : new ≡ out ++ heard writes trace

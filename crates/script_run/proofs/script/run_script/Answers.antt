@@ -6,8 +6,8 @@ use Rattle.script_run.proofs.script.run_script.Goals as goal
 
 pub returns-in-Err-clause-refused : goal.returns-in-Err-clause-refused
 returns-in-Err-clause-refused c =
-    let taken = c.in_ok-course.field-0 in
-    refused-end c.args.bytes.now c.in_ok-course.ensures.lines.entries taken.number taken.course c.in-Err.stop c.at_line.result c.at_line.ensures c.in-Err.ensures.stop c.in_ok-course.ensures.lines.went
+    let taken = c.in_ok-stage.field-0 in
+    refused-end c.args.bytes.now c.in_ok-stage.ensures.lines.entries taken.number taken.stage c.in-Err.stop c.at_line.result c.at_line.ensures c.in-Err.ensures.stop c.in_ok-stage.ensures.lines.went
 
 pub returns-in-Err-clause-exact : goal.returns-in-Err-clause-exact
 returns-in-Err-clause-exact c =
@@ -17,10 +17,10 @@ returns-in-Err-clause-exact c =
 
 pub returns-clause-told : goal.returns-clause-told
 returns-clause-told c =
-    let taken = c.in_ok-course.field-0 in
+    let taken = c.in_ok-stage.field-0 in
     let done = c.in-Ok.ensures.done in
     subst (λ (l : List ℕ). IsTold c.args.bytes.now (Ok l)) (sym (c.in_ok-extend_from_slice-in-Ok.ensures.items ∙ ap (λ (l : List ℕ). taken.text.items ++ l) c.as_slice.ensures.value))
-    (script-ends c.args.bytes.now taken.text.items c.in-Ok.report.items taken.number taken.course done.0 c.in_ok-course.ensures.lines done.1)
+    (script-ends _ c.args.bytes.now taken.text.items c.in-Ok.report.items _ _ taken.number taken.stage done.0 c.in_ok-stage.ensures.lines done.1)
 
 pub returns-clause-only : goal.returns-clause-only
 returns-clause-only c = λ told is.

@@ -1,26 +1,26 @@
-use Rattle.std.proofs.Common.{◌+◌, List, ℕ, length, ap, arith}
+use Rattle.std.proofs.Common.{List, ℕ, length, ap, arith}
 use Rattle.script_told.specs.Script.{script_lines}
-use Rattle.script_run.proofs.Going.{printed-first, printed-next, refused-line}
+use Rattle.script_run.proofs.Going.{gone-first, gone-next, refused-line}
 use Rattle.script_run.proofs.script.take_lines.Goals as goal
 
 pub loop-rest-init : goal.loop-rest-init
-loop-rest-init c = (
+loop-rest-init g c = (
   omega (arith, c.requires),
   omega arith,
-  printed-first c.args.bytes.now _ _ c.new-text.ensures.items c.new-course.ensures,
+  gone-first g.L.Listener.writes c.args.bytes.now _ _ _ c.new-text.ensures.items c.new-stage.ensures,
 )
 
 pub returns-in-Err-clause-refused : goal.returns-in-Err-clause-refused
-returns-in-Err-clause-refused c =
+returns-in-Err-clause-refused g c =
     let have = c.loop-rest.invariant.2 in
-    refused-line c.args.bytes.now have.entries c.loop-rest.number c.cut_line.result.0.now (script_lines c.cut_line.result.1.now) _ c.loop-rest.course c.in-Err.stop c.at_line.result
+    refused-line c.args.bytes.now have.entries c.loop-rest.number c.cut_line.result.0.now (script_lines c.cut_line.result.1.now) _ c.loop-rest.stage c.in-Err.stop c.at_line.result
     c.cut_line.ensures.lines c.at_line.ensures c.in-Err.ensures.stop have.went
 
 pub loop-rest-preserved : goal.loop-rest-preserved
-loop-rest-preserved c =
+loop-rest-preserved g c =
     let done = c.in-Ok.ensures.done in
     let lines = ap (λ (l : List (List ℕ)). length l) c.cut_line.ensures.lines in (
       omega (arith, c.cut_line.ensures.shorter, c.loop-rest.invariant.0),
       omega (arith, lines, c.loop-rest.invariant.1),
-      printed-next c.args.bytes.now c.loop-rest.text.items _ done.0 c.loop-rest.number c.cut_line.result.0.now (script_lines c.cut_line.result.1.now) _ c.loop-rest.course c.take.new.self c.cut_line.ensures.lines done.2 done.1 c.loop-rest.invariant.2,
+      gone-next g.L.Listener.writes c.args.bytes.now c.loop-rest.text.items _ done.0 _ _ _ c.loop-rest.number c.cut_line.result.0.now (script_lines c.cut_line.result.1.now) _ c.loop-rest.stage c.take.new.self c.cut_line.ensures.lines done.2 done.1 c.loop-rest.invariant.2,
     )

@@ -3,17 +3,11 @@ use Rattle.std.specs.Prelude.{Ok}
 use Rattle.script_lines.specs.declared.kind.ScriptStop.{ScriptStop}
 use Rattle.script_told.specs.Script.{Told}
 use Rattle.script_trace.specs.Trace.{IsTrace}
-use Rattle.script_run.specs.Answered.{StopsWith, IsRefused, IsOnlyFault}
+use Rattle.script_run.specs.Answered.{IsRefused, IsOnlyFault}
 use Rattle.script_run.proofs.Going.{only-fault}
 use Rattle.script_run.proofs.AdviceEnds.{ok-all, err-all}
 use Rattle.script_run.proofs.Tracing.{refused-too}
 use Rattle.script_run.proofs.trace.trace_script.Goals as goal
-
-pub returns-clause-refused : goal.returns-clause-refused
-returns-clause-refused c =
-    err-all (StopsWith (IsTrace c.args.bytes.now)) (IsRefused c.args.bytes.now)
-    (λ (stop : ScriptStop) h. refused-too c.scripts_have_one_trace.ensures.fault c.args.bytes.now stop h)
-    c.trace_of.result c.trace_of.ensures.refused
 
 pub returns-clause-only : goal.returns-clause-only
 returns-clause-only c =
@@ -24,7 +18,7 @@ returns-clause-only c =
 
 pub returns-clause-exact : goal.returns-clause-exact
 returns-clause-exact c =
-    err-all (StopsWith (IsTrace c.args.bytes.now))
+    err-all (IsRefused c.args.bytes.now)
     (λ (stop : ScriptStop). (told : Told) → IsTrace c.args.bytes.now told → IsOnlyFault told stop)
-    (λ stop h. only-fault (IsTrace c.args.bytes.now) stop (λ one other. c.scripts_have_one_trace.ensures.one c.args.bytes.now one other) h)
+    (λ stop h. only-fault (IsTrace c.args.bytes.now) stop (λ one other. c.scripts_have_one_trace.ensures.one c.args.bytes.now one other) (refused-too c.args.bytes.now stop h))
     c.trace_of.result c.trace_of.ensures.refused

@@ -1,6 +1,6 @@
 use Rattle.std.proofs.Common.{◌≡◌, subst}
 use Rattle.script_told.specs.Step.{Settles}
-use Rattle.script_run.proofs.course.Course.settled.Goals as goal
+use Rattle.script_run.proofs.stage.Stage.settled.Goals as goal
 
 -- what holds of the bus as it is kept, holds of it as it is told
 of-same : {A B : Type 0} → (P : A → B → Type 0) (a b : A) (r : B) → a ≡ b → P a r → P b r

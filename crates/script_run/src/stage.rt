@@ -1,0 +1,142 @@
+//! A script that is gone through, a line at a time.
+ghost use Rattle.std.specs.Prelude.{◌≡◌, ◌⊎◌, ◌++◌, ℕ, List, Ok, IfOk, IfErr, OnOk, IsSomeAnd};
+ghost use Rattle.settle.specs.Report.{IsReport};
+ghost use Rattle.script_told.specs.Step.{Settles};
+ghost use Rattle.script_told.specs.Bus as shown;
+ghost use Rattle.script_told.specs.Script.{fresh, bus_of};
+ghost use Rattle.script_bus.specs.Running.{bus_now, IsSound, Stops};
+ghost use Rattle.script_bus.specs.Heard.{Hears};
+ghost use Rattle.script_lines.specs.declared.command.Command.TheVariants as command;
+ghost use Rattle.script_run.specs.codings.Going.{IfFault, LineLeads, LineFails};
+ghost use Rattle.script_advice.specs.Advising.{IsAdvised};
+
+use crate::draft::Draft;
+use cable_world::WorldRun;
+use phy_machine::AnyMachine;
+use script_bus::{Bus, Listener, Silent};
+use script_lines::{LineStop, parse_line, says_nothing};
+use std::alloc::Global;
+use std::marker::Model;
+use world_agenda::AgendaWorld;
+
+/// What a script has come to between two of its lines.
+#[derive(Drop)]
+pub(crate) enum Phase<W> {
+    /// No command came yet.
+    Fresh,
+    /// Nodes are declared.
+    Declaring(Draft),
+    /// The bus runs.
+    Running(Bus<W>),
+}
+
+/// A script that is gone through, between two of its lines. In a contract it is the stage of the
+/// definition.
+#[derive(Drop)]
+pub(crate) struct Stage {
+    pub(crate) phase: Phase<AgendaWorld<AnyMachine>>,
+}
+
+impl Model for Stage {
+    ghost use Rattle.script_told.specs.Script.{Stage};
+    ghost use Rattle.script_run.specs.codings.Going.{stage_now, IsPhase};
+
+    ghost Value = { Stage };
+
+    ghost view = { λ s. stage_now ⟦<AgendaWorld<AnyMachine> as WorldRun>⟧.world s.phase };
+
+    ghost invariant = { λ s. IsPhase ⟦<AgendaWorld<AnyMachine> as WorldRun>⟧.world
+        ⟦<AgendaWorld<AnyMachine> as WorldRun>⟧.is_spent s.phase };
+}
+
+impl Stage {
+    /// Before the first line.
+    pub fn new() -> Stage
+        ensures { result ≡ fresh }
+    {
+        Stage {
+            phase: Phase::Fresh,
+        }
+    }
+
+    /// A line is taken, and what it prints is appended. The listener hears what happens.
+    pub fn take<L: Listener>(
+        &mut self,
+        alloc: Global,
+        line: &[u8],
+        listener: &mut L,
+        out: &mut Vec<u8>,
+    ) -> Result<(), LineStop>
+        ensures done { OnOk result ((text : List ℕ) × LineLeads L.writes self.old line.now self.new
+            text (L.written listener.old) (L.written listener.new)
+            × (out.new.items ≡ out.old.items ++ text)) }
+        ensures stop { IfErr result (IfFault (LineFails self.old line.now)) }
+    {
+        if says_nothing(line) {
+            return Ok(());
+        }
+        self.obey(alloc, line, listener, out)
+    }
+
+    /// A line is taken, as `take` has it.
+    #[inline(never)]
+    fn obey<L: Listener>(
+        &mut self,
+        alloc: Global,
+        line: &[u8],
+        listener: &mut L,
+        out: &mut Vec<u8>,
+    ) -> Result<(), LineStop>
+        ensures done { OnOk result ((text : List ℕ) × LineLeads L.writes self.old line.now self.new
+            text (L.written listener.old) (L.written listener.new)
+            × (out.new.items ≡ out.old.items ++ text)) }
+        ensures stop { IfErr result (IfFault (LineFails self.old line.now)) }
+    {
+        let d = self.delay();
+        let Some(command) = parse_line(alloc, line, d)? else {
+            return Ok(());
+        };
+        let text = self.follow(alloc, d, command, listener)?;
+        out.extend_from_slice(text.as_slice())?;
+        Ok(())
+    }
+
+    /// The report of the `settle` behind the last line, in which the listener hears what happens.
+    pub fn last_report<L: Listener>(
+        self,
+        alloc: Global,
+        listener: &mut L,
+    ) -> Result<Vec<u8>, LineStop>
+        ensures done { IfOk result (λ text. (after : shown.Bus)
+            × Settles (bus_of self) (Ok (after, text.items))
+            × Hears L.writes (bus_of self) command.Settle after
+            (L.written listener.old) (L.written listener.new)) }
+        ensures stop { IfErr result (Stops (Settles (bus_of self))) }
+    {
+        self.bus(alloc)?.last_report(alloc, listener)
+    }
+
+    /// The bus after the `settle` behind the last line.
+    fn settled(self, alloc: Global) -> Result<Bus<AgendaWorld<AnyMachine>>, LineStop>
+        ensures done { IfOk result (λ bus. (text : List ℕ) × Settles (bus_of self)
+            (Ok (bus_now ⟦<AgendaWorld<AnyMachine> as WorldRun>⟧.world bus, text))) }
+        ensures stop { IfErr result (Stops (Settles (bus_of self))) }
+        ensures sound { IfOk result (IsSound ⟦<AgendaWorld<AnyMachine> as WorldRun>⟧.world
+            ⟦<AgendaWorld<AnyMachine> as WorldRun>⟧.is_spent) }
+        ensures reported { IfOk result (λ bus. IsSomeAnd bus.notes.report
+            (IsReport (⟦<AgendaWorld<AnyMachine> as WorldRun>⟧.world bus.world))) }
+    {
+        let mut bus = self.bus(alloc)?;
+        bus.settle(alloc, &mut Silent)?;
+        Ok(bus)
+    }
+
+    /// What is advised after the `settle` behind the last line, and the report of the next one.
+    pub fn advised(self, alloc: Global) -> Result<Vec<u8>, LineStop>
+        ensures done { IfOk result (λ text. (after : shown.Bus)
+            × IsAdvised self (Ok (after, text.items))) }
+        ensures stop { IfErr result (Stops (λ r. Settles (bus_of self) r ⊎ IsAdvised self r)) }
+    {
+        self.settled(alloc)?.advised(alloc)
+    }
+}
