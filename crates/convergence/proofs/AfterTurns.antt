@@ -37,7 +37,8 @@ come-through hs w a b test k l e late tell =
 -- ---- from one milestone to the next
 
 pub done-after :
-    (hs : HoldSchedule) (w : CableWorld) (k : ℕ) → IsLawful w → turns_to_done w ≤ k → ResetsAreDone (quiet_after hs k w)
+    (hs : HoldSchedule) (w : CableWorld) (k : ℕ) → IsLawful w → turns_to_done w ≤ k →
+    ResetsAreDone (quiet_after hs k w)
 done-after hs w k l late =
     let i : ℕ = k - length w.nodes * w.delay in
     let z : length w.nodes * w.delay + i ≡ k = omega (arith, late) in
@@ -70,7 +71,8 @@ taken-turn w l done taken node set core whole is empty k y h at = false_from_ne_
     c = calmly w l (done-calm w done) k y at
 
 pub reported-after :
-    (hs : HoldSchedule) (w : CableWorld) (k : ℕ) → IsLawful w → IsAcyclic w → ResetsAreDone w → loop_turns w ≤ k →
+    (hs : HoldSchedule) (w : CableWorld) (k : ℕ) → IsLawful w → IsAcyclic w → ResetsAreDone w →
+    loop_turns w ≤ k →
     LoopsAreReported (quiet_after hs k w)
 reported-after hs w k l acyclic done late = loops-reported hs w l acyclic done k (omega (arith, late))
 
@@ -79,7 +81,8 @@ reported-after hs w k l acyclic done late = loops-reported hs w l acyclic done k
 -- what comes of a later world comes of this one
 later :
     (hs : HoldSchedule) (P : CableWorld → Type 0) (w : CableWorld) (first k : ℕ) → first ≤ k →
-    P (quiet_after (holds_after first hs) (k - first) (quiet_after hs first w)) → P (quiet_after hs k w)
+    P (quiet_after (holds_after first hs) (k - first) (quiet_after hs first w)) →
+    P (quiet_after hs k w)
 later hs P w first k late h =
     let z : k ≡ first + (k - first) = omega (arith, late) in
     subst P (sym (ap (λ m. quiet_after hs m w) z ∙ quiet-then hs first (k - first) w)) h
@@ -116,7 +119,8 @@ module _ (hs : HoldSchedule) (w : CableWorld) (r : IsReached w) (first : ℕ) wh
   }
 
 pub taken-reached :
-    (hs : HoldSchedule) (w : CableWorld) (k : ℕ) → IsReached w → turns_to_trees w ≤ k → TreesAreTaken (quiet_after hs k w)
+    (hs : HoldSchedule) (w : CableWorld) (k : ℕ) → IsReached w → turns_to_trees w ≤ k →
+    TreesAreTaken (quiet_after hs k w)
 taken-reached hs w k r late =
     let first : ℕ = turns_to_done w in
     let done : ResetsAreDone (quiet_after hs first w) = done-after hs w first (lawful hs w r first) (omega arith) in

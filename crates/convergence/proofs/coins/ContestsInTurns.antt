@@ -234,7 +234,9 @@ module _ (d : ℕ) (x y : Side) (r : Rivals d x y) where
   -- rival
   pub won-from :
       leads_down (ticking x).state.view.ports x.port ≡ true → 1 ≤ (ticking y).state.view.draws →
-      (is_before_tree y.node.view.phase ≡ false) × NoEntry x.node (hearing x) × NoEntry y.node (hearing y) × (((leads_down x.node.view.ports x.port ≡ true) × DrewNone y.node (ticking y).state)
+      (is_before_tree y.node.view.phase ≡ false) × NoEntry x.node (hearing x)
+      × NoEntry y.node (hearing y)
+      × (((leads_down x.node.view.ports x.port ≡ true) × DrewNone y.node (ticking y).state)
       ⊎ ((x.node.view.phase ≡ phase.Contend) × (is_port x.node.view.parent x.port ≡ true) × (level_shown (hearing x).state x.port ≡ level.Parent) × ((hearing x).state.view.wait ≤ risen (hearing x).state.view.timer)))
   won-from c some = (was-late, hx, hy, how)
     where

@@ -206,7 +206,8 @@ module _
       two :
           (b c : Bool) → last_coin d x.node ≡ b → last_coin d y.node ≡ c →
           (last_coin d (ticking x).state ≡ last_coin d (ticking y).state) ⊎
-          ((last_coin d (ticking x).state ≡ true) × (last_coin d (ticking y).state ≡ false) × AllAsOldAs ((ticking x).state.view.timer + 3 * d + 1 - (ticking x).state.view.wait) (wire_after y))
+          ((last_coin d (ticking x).state ≡ true) × (last_coin d (ticking y).state ≡ false)
+          × AllAsOldAs ((ticking x).state.view.timer + 3 * d + 1 - (ticking x).state.view.wait) (wire_after y))
       two true true e f = inl (coin-still d x y r nx ∙ e ∙ sym f ∙ sym (coin-still d y x s2 ny))
       two false false e f = inl (coin-still d x y r nx ∙ e ∙ sym f ∙ sym (coin-still d y x s2 ny))
       two true false e f = inr (
@@ -473,7 +474,9 @@ pub stand-after :
     (d : ℕ) (x y : Side) → Rivals d x y → is_port x.node.view.parent x.port ≡ true →
     is_port y.node.view.parent y.port ≡ true → NoEntry x.node (hearing x) →
     NoEntry y.node (hearing y) →
-    is_port (ticking x).state.view.parent x.port ≡ true → is_port (ticking y).state.view.parent y.port ≡ true → AreRivals d (ticking x).state x.port (wire_after x) (ticking y).state y.port (wire_after y)
+    is_port (ticking x).state.view.parent x.port ≡ true →
+    is_port (ticking y).state.view.parent y.port ≡ true →
+    AreRivals d (ticking x).state x.port (wire_after x) (ticking y).state y.port (wire_after y)
 stand-after d x y r ux uy hx hy vx vy = go (r.here.rivals ux uy)
   where
     go :

@@ -355,5 +355,6 @@ pub holds-contested :
 holds-contested = holds-kept IsContested contested-kept.hold
 
 pub quiet-contested :
-    (hs : HoldSchedule) (k : ℕ) (w : CableWorld) → IsLawful w → IsContested w → IsContested (quiet_after hs k w)
+    (hs : HoldSchedule) (k : ℕ) (w : CableWorld) → IsLawful w → IsContested w →
+    IsContested (quiet_after hs k w)
 quiet-contested = kept-quiet IsContested contested-kept

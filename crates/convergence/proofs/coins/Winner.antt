@@ -291,7 +291,8 @@ module _
   starts :
       (m : AreMutual (quiet_after hs k w) a b) → m.ends.near.state.view.phase ≡ phase.Contend →
       m.ends.other.state.view.phase ≡ phase.Contend →
-      last_coin (quiet_after hs k w).delay m.ends.near.state ≡ true → last_coin (quiet_after hs k w).delay m.ends.other.state ≡ false → State (later 0) a b 0
+      last_coin (quiet_after hs k w).delay m.ends.near.state ≡ true →
+      last_coin (quiet_after hs k w).delay m.ends.other.state ≡ false → State (later 0) a b 0
   starts m here there long short =
       let z : k + 0 ≡ k = omega arith in
       subst (λ (n : ℕ). State (quiet_after hs n w) a b 0) (sym z) (inr (record {
@@ -302,13 +303,16 @@ module _
   pub wins :
       (m : AreMutual (quiet_after hs k w) a b) → m.ends.near.state.view.phase ≡ phase.Contend →
       m.ends.other.state.view.phase ≡ phase.Contend →
-      last_coin (quiet_after hs k w).delay m.ends.near.state ≡ true → last_coin (quiet_after hs k w).delay m.ends.other.state ≡ false → (i : ℕ) → 10 * w.delay ≤ i → HasWonAt (quiet_after hs (k + i) w) a b
+      last_coin (quiet_after hs k w).delay m.ends.near.state ≡ true →
+      last_coin (quiet_after hs k w).delay m.ends.other.state ≡ false → (i : ℕ) → 10 * w.delay ≤ i →
+      HasWonAt (quiet_after hs (k + i) w) a b
   wins m here there long short i h =
       won-by i (omega (arith, h, after-delay hs w l (k + i))) (turn-by-turn (starts m here there long short) i)
 
 -- two nodes of a component
 pub unequal-won :
-    (hs : HoldSchedule) (w : CableWorld) → IsReached w → (k node set m n i : ℕ) → length w.nodes * w.delay ≤ k →
+    (hs : HoldSchedule) (w : CableWorld) → IsReached w → (k node set m n i : ℕ) →
+    length w.nodes * w.delay ≤ k →
     IsComponent (quiet_after hs k w).cabling node set → Holds set m → Holds set n → m ≢ n →
     AreUnequal (quiet_after hs k w) m n → 10 * w.delay ≤ i →
     (a : End) × (b : End) × (a.node ≡ m) × (b.node ≡ n) × HasWonAt (quiet_after hs (k + i) w) a b

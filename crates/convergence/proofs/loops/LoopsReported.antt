@@ -9,7 +9,8 @@ use Rattle.convergence.proofs.ranks.StaysAcyclic.{quiet-acyclic}
 use Rattle.convergence.proofs.trees.TreeStart.{done-at, start-reports}
 
 pub loops-reported :
-    (hs : HoldSchedule) (v : CableWorld) → IsLawful v → IsAcyclic v → ResetsAreDone v → (i : ℕ) → 512 * v.delay ≤ i →
+    (hs : HoldSchedule) (v : CableWorld) → IsLawful v → IsAcyclic v → ResetsAreDone v → (i : ℕ) →
+    512 * v.delay ≤ i →
     LoopsAreReported (quiet_after hs i v)
 loops-reported hs v l c done i late set core k is h =
     let u : CableWorld = quiet_after hs i v in

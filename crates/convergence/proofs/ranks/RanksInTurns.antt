@@ -44,7 +44,8 @@ child-kept w l k x at p on =
 none-above :
     (w : CableWorld) → IsLawful w → (a b : End) (x y : PortNode) → far w.cabling a ≡ Some b →
     slice_get w.nodes a.node ≡ Some x → slice_get w.nodes b.node ≡ Some y →
-    y.state.view.phase ≡ phase.TreeStart → leads_down (turned w a.node x).view.ports a.port ≡ true → ⊥
+    y.state.view.phase ≡ phase.TreeStart → leads_down (turned w a.node x).view.ports a.port ≡ true →
+    ⊥
 none-above w l a b x y e at_x at_y start child = elim (child-kept w l a.node x at_x a.port (cable-connected w a b x l.well_formed e at_x) child) [
   | inl was ↦ true≢false (sym (there.child was no-reset).0 ∙ ap (λ o. is_port o b.port) parentless)
   | inr new ↦ elim new.1 [
@@ -127,7 +128,8 @@ falls-after :
     (w : CableWorld) → IsLawful w → (c : IsAcyclic w) → (a b : End) (x y : PortNode) →
     far w.cabling a ≡ Some b → slice_get w.nodes a.node ≡ Some x →
     slice_get w.nodes b.node ≡ Some y →
-    leads_down (turned w a.node x).view.ports a.port ≡ true → is_port (turned w b.node y).view.parent b.port ≡ true → later w c b.node < later w c a.node
+    leads_down (turned w a.node x).view.ports a.port ≡ true →
+    is_port (turned w b.node y).view.parent b.port ≡ true → later w c b.node < later w c a.node
 falls-after w l c a b x y e at_x at_y child parent = go (takes x.state (turned w a.node x)) (takes y.state (turned w b.node y)) refl refl
   where
     is-x :

@@ -22,5 +22,6 @@ pub holds-acyclic :
 holds-acyclic = holds-kept IsAcyclic acyclic-kept.hold
 
 pub quiet-acyclic :
-    (hs : HoldSchedule) (k : ℕ) (w : CableWorld) → IsLawful w → IsAcyclic w → IsAcyclic (quiet_after hs k w)
+    (hs : HoldSchedule) (k : ℕ) (w : CableWorld) → IsLawful w → IsAcyclic w →
+    IsAcyclic (quiet_after hs k w)
 quiet-acyclic = kept-quiet IsAcyclic acyclic-kept

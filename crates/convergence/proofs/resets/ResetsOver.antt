@@ -55,7 +55,8 @@ comes-in :
     (w : CableWorld) → IsLawful w → (a b : End) (y : PortNode) → far w.cabling a ≡ Some b →
     slice_get w.nodes b.node ≡ Some y → gives w.delay (age_wire (wire_of w a)) ≡ true →
     has_reset (signals_of (wire_of w a).signals) ≡ true →
-    is_resetting y.state.view.phase ≡ false → is_resetting (turn_at w b.node y).node.state.view.phase ≡ true
+    is_resetting y.state.view.phase ≡ false →
+    is_resetting (turn_at w b.node y).node.state.view.phase ≡ true
 comes-in w l a b y e at g r out = ap (λ (s : NodeState). is_resetting s.view.phase) (turn-state signals y) ∙ elim h.cases [
   | inl s ↦ contrary entered (ap is_resetting s.phase ∙ out)
   | inr c ↦ (t.holds entered (omega (arith, c.timer, hold-least, l.well_formed.some_delay)) hold-most).0
@@ -91,7 +92,8 @@ pub old-after :
     (w : CableWorld) → IsLawful w → (a b : End) (y z : PortNode) (n : ℕ) →
     far w.cabling a ≡ Some b → slice_get w.nodes b.node ≡ Some y →
     slice_get (turn w).nodes b.node ≡ Some z →
-    is_resetting y.state.view.phase ≡ false → is_resetting z.state.view.phase ≡ false → OldReset n (wire_of w a).signals → OldReset (n + 1) (wire_of (turn w) a).signals
+    is_resetting y.state.view.phase ≡ false → is_resetting z.state.view.phase ≡ false →
+    OldReset n (wire_of w a).signals → OldReset (n + 1) (wire_of (turn w) a).signals
 old-after w l a b y z n e at at_z out out_z old =
     subst (OldReset (n + 1)) (sym (side-wire w a b x l.well_formed e at_x)) (go (gives w.delay (age_wire (wire_of w a))) refl)
   where

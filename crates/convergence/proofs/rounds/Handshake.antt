@@ -119,7 +119,8 @@ module _ (hs : HoldSchedule) (v : CableWorld) (set : ℕ) (g : Grown v set) (u :
         c = child-of i y (subst (λ n. slice_get (quiet_after hs n v).nodes b.node ≡ Some y) (sym (add-one i)) at)
 
         go :
-            ((z : PortNode) → slice_get (later i).nodes b.node ≡ Some z → z.state.view.phase ≡ phase.ChildShake → ⊥)
+            ((z : PortNode) → slice_get (later i).nodes b.node ≡ Some z →
+            z.state.view.phase ≡ phase.ChildShake → ⊥)
             → ⊥
         go none = elim (tick-child-shake-by (coin c.calm.node.coins) (heard_by (later i) b.node c.calm.node) (sym (ap (λ (z : NodeState). z.view.phase) c.calm.is) ∙ t)) [
           | inl f ↦ none c.calm.node c.calm.at (sym c.calm.heard.phase ∙ f)
@@ -207,7 +208,8 @@ module _ (hs : HoldSchedule) (v : CableWorld) (set : ℕ) (g : Grown v set) (u :
       on = h.hears.cables p ∙ cable-connected (later i) (end_at u p) b h.node (grown-after hs v set g i).lawful.well_formed (ap (λ (c : Wiring). far c (end_at u p)) (after-cabling hs i v) ∙ e) h.at
 
       go :
-          ((n : PortNode) → slice_get (later i).nodes u ≡ Some n → leads_down n.state.view.ports p ≡ true → leads_down s.node.state.view.ports p ≡ true)
+          ((n : PortNode) → slice_get (later i).nodes u ≡ Some n →
+          leads_down n.state.view.ports p ≡ true → leads_down s.node.state.view.ports p ≡ true)
           → leads_down s.node.state.view.ports p ≡ true
       go before = elim (h.ticks.child p on (sym (ap (λ (n : NodeState). leads_down n.view.ports p) h.is) ∙ d)) [
         | inl k ↦ before h.node h.at (sym (h.heard.child p) ∙ k)
@@ -253,7 +255,8 @@ module _ (hs : HoldSchedule) (v : CableWorld) (set : ℕ) (g : Grown v set) (u :
               contrary shown (ap (λ (n : NodeState). is_idle (level_shown n k.port)) h.is ∙ ap is_idle (h.ticks.shown k.port) ∙ k.busy)
 
       go :
-          ((all_idle mid ≡ true) × ((tick (coin h.node.coins) mid).state.view.phase ≡ phase.ParentShake))
+          ((all_idle mid ≡ true)
+          × ((tick (coin h.node.coins) mid).state.view.phase ≡ phase.ParentShake))
           ⊎ ((all_idle mid ≡ false) × ((tick (coin h.node.coins) mid).state.view.phase ≡ phase.ChildShake))
           → ⊥
       go (inl a) = not-shake t.node.state.view.phase (ap (λ (n : NodeState). n.view.phase) h.is ∙ a.1) t.shakes

@@ -47,7 +47,9 @@ rivals-up w set g none a b in_a m = record {
 
     go :
         AreRivals w.delay m.ends.near.state a.port (wire_of w a).signals m.ends.other.state b.port (wire_of w b).signals →
-        ((m.ends.near.state.view.phase ≡ phase.ParentShake) ⊎ (m.ends.near.state.view.phase ≡ phase.Contend)) × ((m.ends.other.state.view.phase ≡ phase.ParentShake) ⊎ (m.ends.other.state.view.phase ≡ phase.Contend))
+        ((m.ends.near.state.view.phase ≡ phase.ParentShake)
+        ⊎ (m.ends.near.state.view.phase ≡ phase.Contend))
+        × ((m.ends.other.state.view.phase ≡ phase.ParentShake) ⊎ (m.ends.other.state.view.phase ≡ phase.Contend))
     go (inl h) = (inl (shake-parent m.ends.near.state.view.phase h.here x-quiet), inl (shake-parent m.ends.other.state.view.phase h.there y-quiet))
     go (inr (inl h)) = (inr h.here, inr h.there)
     go (inr (inr (inl h))) = (inr h.here, inl (shake-parent m.ends.other.state.view.phase h.there y-quiet))
@@ -58,7 +60,8 @@ abbrev most : ℕ → ℕ → ℕ
 most n d = 3 * n * (d + d) + (33 * (12 * d) + 22 * d) + (3 * n * (d + d) + 1)
 
 settles :
-    (hs : HoldSchedule) (v : CableWorld) (set node : ℕ) → Grown v set → IsComponent v.cabling node set →
+    (hs : HoldSchedule) (v : CableWorld) (set node : ℕ) → Grown v set →
+    IsComponent v.cabling node set →
     HasNoLoop v set → (i : ℕ) × (i ≤ most (length v.nodes) v.delay)
     × IdentifyOrContend (quiet_after hs i v) set
 settles hs v set node g whole free =
@@ -105,7 +108,8 @@ settles hs v set node g whole free =
 
 -- and stays
 settled :
-    (hs : HoldSchedule) (v : CableWorld) (set node : ℕ) → Grown v set → IsComponent v.cabling node set →
+    (hs : HoldSchedule) (v : CableWorld) (set node : ℕ) → Grown v set →
+    IsComponent v.cabling node set →
     HasNoLoop v set → (i : ℕ) → most (length v.nodes) v.delay ≤ i →
     IdentifyOrContend (quiet_after hs i v) set
 settled hs v set node g whole free i late =
@@ -164,7 +168,8 @@ grown-of w node set core g whole is empty = record {
 }
 
 pub decided-after :
-    (hs : HoldSchedule) (w : CableWorld) (k : ℕ) → IsGrown w → decision_turns w ≤ k → TreesAreDecided (quiet_after hs k w)
+    (hs : HoldSchedule) (w : CableWorld) (k : ℕ) → IsGrown w → decision_turns w ≤ k →
+    TreesAreDecided (quiet_after hs k w)
 decided-after hs w k g late node set core whole is empty =
     let same = after-cabling hs k w in
     let comp : IsComponent w.cabling node set = subst (λ c. IsComponent c node set) same whole in

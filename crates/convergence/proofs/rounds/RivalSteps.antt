@@ -166,7 +166,9 @@ module _
   keep m n k h e = omega (arith, h, e)
 
   pub step-both-wait : (i m : ℕ) → BothWait i x.port y.port m x.node y.node →
-      (BothWait (i + 1) x.port y.port m X Y ⊎ (OneWaits d (i + 1) x.port y.port m X Y ⊎ OneWaits d (i + 1) y.port x.port m Y X)) ⊎ (BothAsk x.port y.port m X Y ⊎ Rooted)
+      (BothWait (i + 1) x.port y.port m X Y
+      ⊎ (OneWaits d (i + 1) x.port y.port m X Y ⊎ OneWaits d (i + 1) y.port x.port m Y X))
+      ⊎ (BothAsk x.port y.port m X Y ⊎ Rooted)
   step-both-wait i m s = go (waited d x y r ux uy hx hy s.contends) (waited d y x sw uy ux hy hx s.contends_too)
     where
       met : HaveMet d x.node y.node
@@ -181,7 +183,9 @@ module _
       go :
           OnWait d x y r ux uy hx hy ⊎ (OnAsk d x y r ux uy hx hy ⊎ (X.view.parent ≡ None)) →
           OnWait d y x sw uy ux hy hx ⊎ (OnAsk d y x sw uy ux hy hx ⊎ (Y.view.parent ≡ None)) →
-          (BothWait (i + 1) x.port y.port m X Y ⊎ (OneWaits d (i + 1) x.port y.port m X Y ⊎ OneWaits d (i + 1) y.port x.port m Y X)) ⊎ (BothAsk x.port y.port m X Y ⊎ Rooted)
+          (BothWait (i + 1) x.port y.port m X Y
+          ⊎ (OneWaits d (i + 1) x.port y.port m X Y ⊎ OneWaits d (i + 1) y.port x.port m Y X))
+          ⊎ (BothAsk x.port y.port m X Y ⊎ Rooted)
       go (inr (inr a)) b = inr (inr (inl a))
       go a (inr (inr b)) = inr (inr (inr b))
       go (inl a) (inl b) = inl (inl (record {
@@ -242,13 +246,15 @@ module _
       }))
 
   pub step-both-ask : (m : ℕ) → m ≤ 64 → BothAsk x.port y.port m x.node y.node →
-      BothAsk x.port y.port m X Y ⊎ (AreUp x.port y.port (m + 1) X Y ⊎ (OneAhead 0 x.port y.port m X Y ⊎ OneAhead 0 y.port x.port m Y X))
+      BothAsk x.port y.port m X Y
+      ⊎ (AreUp x.port y.port (m + 1) X Y ⊎ (OneAhead 0 x.port y.port m X Y ⊎ OneAhead 0 y.port x.port m Y X))
   step-both-ask m small s = go (asked d x y r ux uy hx hy s.asks) (asked d y x sw uy ux hy hx s.asks_too)
     where
       go :
           Held d x y r ux uy hx hy ⊎ Begun d x y r ux uy hx hy →
           Held d y x sw uy ux hy hx ⊎ Begun d y x sw uy ux hy hx →
-          BothAsk x.port y.port m X Y ⊎ (AreUp x.port y.port (m + 1) X Y ⊎ (OneAhead 0 x.port y.port m X Y ⊎ OneAhead 0 y.port x.port m Y X))
+          BothAsk x.port y.port m X Y
+          ⊎ (AreUp x.port y.port (m + 1) X Y ⊎ (OneAhead 0 x.port y.port m X Y ⊎ OneAhead 0 y.port x.port m Y X))
       go (inl a) (inl b) = inl (record {
         here = record { up = a.up; draws = keep m x.node.view.draws X.view.draws s.here.draws a.draws };
         there = record { up = b.up; draws = keep m y.node.view.draws Y.view.draws s.there.draws b.draws };

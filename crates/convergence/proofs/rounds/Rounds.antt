@@ -366,7 +366,8 @@ module _ (set : ℕ) (m : ℕ) (small : m ≤ 64) where
   Ends hs a b up root w = ((j : ℕ) × (j ≤ up) × At (quiet_after hs j w) set a b (AreUp a.port b.port (m + 1))) ⊎ ((j : ℕ) × (j ≤ root) × HasRoot (quiet_after hs j w) set)
 
   ends-later :
-      (hs : HoldSchedule) (a b : End) (w : CableWorld) (i up root most least : ℕ) → i + up ≤ most → i + root ≤ least →
+      (hs : HoldSchedule) (a b : End) (w : CableWorld) (i up root most least : ℕ) → i + up ≤ most →
+      i + root ≤ least →
       Ends (holds_after i hs) a b up root (quiet_after hs i w) → Ends hs a b most least w
   ends-later hs a b w i up root most least h l (inl t) =
       inl (i + t.0, omega (arith, h, t.1), subst (λ (u : CableWorld). At u set a b (AreUp a.port b.port (m + 1))) (sym (quiet-then hs i t.0 w)) t.2)
@@ -374,13 +375,15 @@ module _ (set : ℕ) (m : ℕ) (small : m ≤ 64) where
       inr (i + t.0, omega (arith, l, t.1), subst (λ (u : CableWorld). HasRoot u set) (sym (quiet-then hs i t.0 w)) t.2)
 
   ends-round-two :
-      (hs : HoldSchedule) (a b : End) (w : CableWorld) → Grown w set → (up root : ℕ) → Ends hs b a up root w →
+      (hs : HoldSchedule) (a b : End) (w : CableWorld) → Grown w set → (up root : ℕ) →
+      Ends hs b a up root w →
       Ends hs a b up root w
   ends-round-two hs a b w g up root (inl t) = inl (t.0, t.1, up-round (quiet_after hs t.0 w) set (grown-after hs w set g t.0) a b (m + 1) t.2)
   ends-round-two hs a b w g up root (inr t) = inr t
 
   from-ahead :
-      (hs : HoldSchedule) (a b : End) (w : CableWorld) → Grown w set → At w set a b (OneAhead 0 a.port b.port m) →
+      (hs : HoldSchedule) (a b : End) (w : CableWorld) → Grown w set →
+      At w set a b (OneAhead 0 a.port b.port m) →
       Ends hs a b w.delay (11 * w.delay) w
   from-ahead hs a b w g s = elim (run set (λ i v. At v set a b (OneAhead i a.port b.port m)) (λ v. At v set a b (AreUp a.port b.port (m + 1)) ⊎ HasRoot v set)
       (λ i. at-held set a b (OneAhead i a.port b.port m)) (up-or-root-held set a b m small) first hs w.delay 0 w g s) [
@@ -428,7 +431,8 @@ module _ (set : ℕ) (m : ℕ) (small : m ≤ 64) where
       ]
 
   from-asking :
-      (hs : HoldSchedule) (a b : End) (w : CableWorld) → Grown w set → At w set a b (BothAsk a.port b.port m) →
+      (hs : HoldSchedule) (a b : End) (w : CableWorld) → Grown w set →
+      At w set a b (BothAsk a.port b.port m) →
       Ends hs a b (2 * w.delay) (12 * w.delay) w
   from-asking hs a b w g s = elim (run-all set (Asking set a b m small) (λ v. Up set a b m small v ⊎ Ahead set a b m small v) (at-held set a b (BothAsk a.port b.port m)) (up-or-ahead-held set a b m small) (ask-step set a b m small) hs w.delay w g s) [
     | inl all ↦ absurd (not-all-along hs set a b m w g all)
@@ -517,7 +521,8 @@ module _ (set : ℕ) (m : ℕ) (small : m ≤ 64) where
       go (inr (inr (inr h))) = absurd (contend-shake s.ends.other.state.view.phase h.here t)
 
   pub round :
-      (hs : HoldSchedule) (a b : End) (w : CableWorld) → Grown w set → At w set a b (AreUp a.port b.port m) →
+      (hs : HoldSchedule) (a b : End) (w : CableWorld) → Grown w set →
+      At w set a b (AreUp a.port b.port m) →
       Ends hs a b (12 * w.delay) (22 * w.delay) w
   round hs a b w g s = go s.is.first s.is.second
     where
@@ -534,7 +539,8 @@ module _ (set : ℕ) (m : ℕ) (small : m ≤ 64) where
           (s.ends.near.state.view.phase ≡ phase.ParentShake)
           ⊎ (s.ends.near.state.view.phase ≡ phase.Contend) →
           (s.ends.other.state.view.phase ≡ phase.ParentShake)
-          ⊎ (s.ends.other.state.view.phase ≡ phase.Contend) → Ends hs a b (12 * w.delay) (22 * w.delay)
+          ⊎ (s.ends.other.state.view.phase ≡ phase.Contend) →
+          Ends hs a b (12 * w.delay) (22 * w.delay)
           w
       go (inl x) (inl y) = here (2 * w.delay) (12 * w.delay) (from-asking hs a b w g (record { ends = s.ends; holds = s.holds; is = record { here = s.is.here; there = s.is.there; asks = x; asks_too = y } })) (omega arith) (omega arith)
       go (inr x) (inr y) = from-waiting hs a b w g (inl (record {

@@ -88,7 +88,8 @@ load-most set w k = go (bit_at set k == 1) (slice_get w.nodes k)
 
 module _ (set : ℕ) where
   load-after :
-      (hs : HoldSchedule) (v : CableWorld) → Grown v set → (i k : ℕ) → load set (quiet_after hs i v) k ≤ load set v k
+      (hs : HoldSchedule) (v : CableWorld) → Grown v set → (i k : ℕ) →
+      load set (quiet_after hs i v) k ≤ load set v k
   load-after hs v g i k = go (bit_at set k == 1) refl
     where
       go :
@@ -116,7 +117,8 @@ module _ (set : ℕ) where
 
   -- so at some time there is none
   dies-out :
-      (hs : HoldSchedule) (m : ℕ) (v : CableWorld) → Grown v set → total (load set v) (length v.nodes) ≤ m → (i : ℕ)
+      (hs : HoldSchedule) (m : ℕ) (v : CableWorld) → Grown v set →
+      total (load set v) (length v.nodes) ≤ m → (i : ℕ)
       × (i ≤ m * (v.delay + v.delay)) × NoneShakes (quiet_after hs i v) set
   dies-out hs zero v g few = elim (search-set set in_shake v) [
     | inl none ↦ (0, omega arith, subst (λ (u : CableWorld). NoneShakes u set) (sym (no-quiet hs v)) none)
@@ -140,7 +142,8 @@ module _ (set : ℕ) where
           omega (arith, z, subst (λ c. i ≤ m * (c + c)) h l)
 
   pub shaken-out :
-      (hs : HoldSchedule) (v : CableWorld) → Grown v set → (i : ℕ) × (i ≤ 3 * length v.nodes * (v.delay + v.delay))
+      (hs : HoldSchedule) (v : CableWorld) → Grown v set →
+      (i : ℕ) × (i ≤ 3 * length v.nodes * (v.delay + v.delay))
       × NoneShakes (quiet_after hs i v) set
   shaken-out hs v g = dies-out hs (3 * length v.nodes) v g (total-most (load set v) 3 (length v.nodes) (load-most set v))
 

@@ -188,9 +188,12 @@ contention-after hs v set g (suc i) r =
 module _ (set : ℕ) (a b : End) where
   -- after n rounds both drew n times more, or one is root
   pub rounds :
-      (hs : HoldSchedule) (n m : ℕ) → m + n ≤ 64 → (w : CableWorld) → Grown w set → At w set a b (AreUp a.port b.port m)
+      (hs : HoldSchedule) (n m : ℕ) → m + n ≤ 64 → (w : CableWorld) → Grown w set →
+      At w set a b (AreUp a.port b.port m)
       →
-      ((j : ℕ) × (j ≤ n * (12 * w.delay)) × At (quiet_after hs j w) set a b (AreUp a.port b.port (m + n))) ⊎ ((j : ℕ) × (j ≤ n * (12 * w.delay) + 22 * w.delay) × HasRoot (quiet_after hs j w) set)
+      ((j : ℕ) × (j ≤ n * (12 * w.delay))
+      × At (quiet_after hs j w) set a b (AreUp a.port b.port (m + n)))
+      ⊎ ((j : ℕ) × (j ≤ n * (12 * w.delay) + 22 * w.delay) × HasRoot (quiet_after hs j w) set)
   rounds hs zero m small w g s =
       let z : m + 0 ≡ m = omega arith in
       inl (

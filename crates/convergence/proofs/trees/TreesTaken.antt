@@ -146,7 +146,8 @@ module _
       (eqb-true (bit_at set k) 1 p.0, go (slice_get (quiet_after hs i v).nodes k) refl p.1)
     where
       go :
-          (o : Option PortNode) → slice_get (quiet_after hs i v).nodes k ≡ o → early_there o ≡ true →
+          (o : Option PortNode) → slice_get (quiet_after hs i v).nodes k ≡ o →
+          early_there o ≡ true →
           IsEarly (quiet_after hs i v) k
       go None e f = absurd (true≢false (sym f))
       go (Some x) e f = record { node = x; at = e; early = f }
@@ -249,7 +250,8 @@ module _
           (count (member (time c)) (length v.nodes) + c ≤ length v.nodes)
           ⊎ (count (member (time c)) (length v.nodes) ≡ 0) →
           (count (member (time c)) (length v.nodes) ≡ 0) ⊎ ((k : ℕ) × (member (time c) k ≡ true)) →
-          (count (member (time c + v.delay)) (length v.nodes) + suc c ≤ length v.nodes) ⊎ (count (member (time c + v.delay)) (length v.nodes) ≡ 0)
+          (count (member (time c + v.delay)) (length v.nodes) + suc c ≤ length v.nodes)
+          ⊎ (count (member (time c + v.delay)) (length v.nodes) ≡ 0)
       go f (inl none) = inr (omega (arith, less, none))
       go (inr none) k = inr (omega (arith, less, none))
       go (inl f) (inr k) = inl (omega (arith, f, falls (time c) (omega (arith, time-is c)) k.0 k.1))

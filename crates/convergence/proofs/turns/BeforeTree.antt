@@ -102,7 +102,8 @@ stays-in-start coin x e h = kept x.view.phase e h
     kept phase.TreeStart e h = go (is_decided (raise_timer x)) refl h
       where
         go : (b : Bool) → is_decided (raise_timer x) ≡ b →
-            (does coin (if b then row.takes_roles else (if nat_le x.timing.timeout (raise_timer x).view.timer then row.times_out else row.none)) (raise_timer x)).state.view.phase ≡ phase.TreeStart →
+            (does coin (if b then row.takes_roles else (if nat_le x.timing.timeout (raise_timer x).view.timer then row.times_out else row.none)) (raise_timer x)).state.view.phase
+            ≡ phase.TreeStart →
             StaysInStart x (does coin (if b then row.takes_roles else (if nat_le x.timing.timeout (raise_timer x).view.timer then row.times_out else row.none)) (raise_timer x)).state
         go true d h = absurd cc
         go false d h = late d (nat_le x.timing.timeout (raise_timer x).view.timer) refl

@@ -289,7 +289,9 @@ abbrev pub all_idle : NodeState → Bool
 all_idle x = every (λ p. if p.child then is_idle p.shown else true) x.view.ports
 
 shake-by : (coin : Bool) (b : Bool) (x : NodeState) → x.view.phase ≡ phase.ChildShake →
-    ((b ≡ true) × ((does coin (if b then row.awaits_parent else row.none) x).state.view.phase ≡ phase.ParentShake)) ⊎ ((b ≡ false) × ((does coin (if b then row.awaits_parent else row.none) x).state.view.phase ≡ phase.ChildShake))
+    ((b ≡ true)
+    × ((does coin (if b then row.awaits_parent else row.none) x).state.view.phase ≡ phase.ParentShake))
+    ⊎ ((b ≡ false) × ((does coin (if b then row.awaits_parent else row.none) x).state.view.phase ≡ phase.ChildShake))
 shake-by coin true x c = inl (refl, refl)
 shake-by coin false x c = inr (refl, c)
 

@@ -177,7 +177,8 @@ module _
       begun :
           EntersReset x (hear_all signals x) → (leads_down heard.view.ports k ≡ true)
           ⊎ (((heard.view.phase ≡ phase.TreeStart) × (level_shown heard k ≡ level.Parent)) ⊎
-          ((heard.view.phase ≡ phase.Contend) × (heard.view.parent ≡ Some k) × (level_shown heard k ≡ level.Parent) × (heard.view.wait ≤ risen heard.view.timer))) → ⊥
+          ((heard.view.phase ≡ phase.Contend) × (heard.view.parent ≡ Some k)
+          × (level_shown heard k ≡ level.Parent) × (heard.view.wait ≤ risen heard.view.timer))) → ⊥
       begun b (inl was) = not-both (leads_down heard.view.ports k) was (early-childless heard h.valid k (begun-early b))
       begun b (inr (inl a)) = other-phase heard.view.phase b.phase a.0
       begun b (inr (inr a)) = phases heard.view.phase b.phase a.0

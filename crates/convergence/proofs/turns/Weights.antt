@@ -162,7 +162,8 @@ some-busy x h = let r = go x.view.ports h in record { port = r.0; on = r.1; chil
         two :
             (b : Bool) → (if p.connected then (if p.child then is_idle p.shown else true) else true)
             ≡ b → (b && every (λ p. if p.child then is_idle p.shown else true) ps) ≡ false →
-            (every (λ p. if p.child then is_idle p.shown else true) ps ≡ false → Found ps) → Found (p ∷ ps)
+            (every (λ p. if p.child then is_idle p.shown else true) ps ≡ false → Found ps) →
+            Found (p ∷ ps)
         two false e h rest = first p ps p.connected p.child refl refl e
         two true e h rest = let r = rest h in (suc r.0, r.1, r.2, r.3)
 

@@ -13,7 +13,8 @@ abbrev pub all_pass : (Phase → Bool) → CableWorld → Bool
 all_pass test w = list_all (λ (x : PortNode). test x.state.view.phase) w.nodes
 
 each-passes :
-    (test : Phase → Bool) (xs : List PortNode) → list_all (λ (x : PortNode). test x.state.view.phase) xs ≡ true →
+    (test : Phase → Bool) (xs : List PortNode) →
+    list_all (λ (x : PortNode). test x.state.view.phase) xs ≡ true →
     (k : ℕ) (x : PortNode) → slice_get xs k ≡ Some x → test x.state.view.phase ≡ true
 each-passes test [] h k x at = absurd cc
 each-passes test (y ∷ ys) h zero x at =
@@ -51,7 +52,8 @@ in-row (x ∷ row) h zero = not-true _ (and_parts (no_reset x) _ h).0
 in-row (x ∷ row) h (suc p) = in-row row (and_parts (no_reset x) _ h).1 p
 
 in-rows :
-    (rows : List (List Wire)) → list_all (λ (row : List Wire). list_all no_reset row) rows ≡ true → (k p : ℕ) →
+    (rows : List (List Wire)) → list_all (λ (row : List Wire). list_all no_reset row) rows ≡ true →
+    (k p : ℕ) →
     has_reset (signals_of (slice_index_or (slice_index_or rows k []) p empty_wire).signals) ≡ false
 in-rows [] h k p = cc
 in-rows (row ∷ rows) h zero p = in-row row (and_parts (list_all no_reset row) _ h).0 p

@@ -61,7 +61,8 @@ ahead-mutual = record {
 
 -- a node that drew its first coin, a 0
 drew-0 :
-    (x : NodeState) (draws first : ℕ) → draws ≡ 0 → first ≡ 0 → x.view.draws ≡ 1 → x.view.first_draws ≡ 0 →
+    (x : NodeState) (draws first : ℕ) → draws ≡ 0 → first ≡ 0 → x.view.draws ≡ 1 →
+    x.view.first_draws ≡ 0 →
     last_coin 4 x ≡ false → AddsDraw 4 draws first x
 drew-0 x draws first none no-coin one no-one last = record { count = rw (none, one) refl; coins = rw (none, no-coin, no-one, last) refl }
 
@@ -82,7 +83,8 @@ met-timers : ((node_in met 0).state.view.timer ≡ 1) × ((node_in met 1).state.
 unfolding turn turns_after enter tick on_signal
 met-timers = (refl, refl)
 
-met-phases : ((node_in met 0).state.view.phase ≡ Contend) × ((node_in met 1).state.view.phase ≡ Contend)
+met-phases : ((node_in met 0).state.view.phase ≡ Contend)
+    × ((node_in met 1).state.view.phase ≡ Contend)
 unfolding turn turns_after enter tick on_signal
 met-phases = (refl, refl)
 
@@ -108,7 +110,8 @@ met-is = record {
 
 again-draws :
     ((node_in again 0).state.view.draws ≡ 2)
-    × ((node_in again 0).state.view.first_draws ≡ 0) × ((node_in again 1).state.view.first_draws ≡ 2)
+    × ((node_in again 0).state.view.first_draws ≡ 0)
+    × ((node_in again 1).state.view.first_draws ≡ 2)
 unfolding turn turns_after enter tick on_signal
 again-draws = (refl, refl, refl)
 

@@ -121,7 +121,8 @@ pub configured :
     (w v : CableWorld) (from root_id : ℕ) (gap : Option ℕ) (set root : ℕ) →
     ActLeads (Config from root_id true gap) w v → IsComponent w.cabling from set →
     IsNamedAlone w set root root_id →
-    IsFresh v set × WaitsAlone v set root × ((k : ℕ) (x y : PortNode) → Holds set k → slice_get w.nodes k ≡ Some x → slice_get v.nodes k ≡ Some y → gap_due y.state.view ≡ gap_or gap x.state.view.next_gap)
+    IsFresh v set × WaitsAlone v set root
+    × ((k : ℕ) (x y : PortNode) → Holds set k → slice_get w.nodes k ≡ Some x → slice_get v.nodes k ≡ Some y → gap_due y.state.view ≡ gap_or gap x.state.view.next_gap)
 configured w v from root_id gap set root (own, comp, is) whole n = (fresh, alone, gaps)
   where
     in-own : (k : ℕ) → Holds set k → Holds own k

@@ -141,7 +141,8 @@ pub record Takes (x y : NodeState) : Type 0 where
 row-takes :
     (coin : Bool) (r : Row) (x : NodeState) → Chosen r x → is_before_tree x.view.phase ≡ true →
     is_before_tree (does coin r x).state.view.phase ≡ false →
-    (x.view.phase ≡ phase.TreeStart) × (is_decided x ≡ true) × ((does coin r x).state.view.parent ≡ lowest is_remaining x.view.ports)
+    (x.view.phase ≡ phase.TreeStart) × (is_decided x ≡ true)
+    × ((does coin r x).state.view.parent ≡ lowest is_remaining x.view.ports)
 row-takes coin row.none x c b h = contrary b h
 row-takes coin row.ends_reset x c b h = absurd (true≢false h)
 row-takes coin row.begins_tree x c b h = absurd (true≢false h)

@@ -58,7 +58,8 @@ module _
 
   start-late :
       (i : ℕ) → length start.nodes * start.delay ≤ i → (k : ℕ) (x : PortNode) → Holds set k →
-      slice_get (quiet_after rest i start).nodes k ≡ Some x → is_before_tree x.state.view.phase ≡ false
+      slice_get (quiet_after rest i start).nodes k ≡ Some x →
+      is_before_tree x.state.view.phase ≡ false
   start-late =
       let same : length start.nodes ≡ length w.nodes = after-length hs w l first in
       let closed : IsClosed start.cabling set = subst (λ c. IsClosed c set) (sym (after-cabling hs first w)) comp.closed in

@@ -37,7 +37,8 @@ module _ (hs : HoldSchedule) (v : CableWorld) (l : IsLawful v) (done : ResetsAre
   -- one that needn't wait has two
   stays-by-two :
       (i k : ℕ) (n : IsEarly (quiet_after hs (i + 1) v) k) →
-      ((x : IsEarly (quiet_after hs i v) k) → x.node.state.view.force ≡ false) → TwoSilent n.node.state
+      ((x : IsEarly (quiet_after hs i v) k) → x.node.state.view.force ≡ false) →
+      TwoSilent n.node.state
   stays-by-two i k n free = record { low = two.low; high = two.high; apart = two.apart; low_silent = silent i k n two.low two.low_left; high_silent = silent i k n two.high two.high_left }
     where
       s : Started hs v l done i k n.node.state
@@ -107,7 +108,8 @@ module _ (hs : HoldSchedule) (v : CableWorld) (l : IsLawful v) (done : ResetsAre
       apart h e = contrary h (ap not (eq-eqb k top e))
 
       go :
-          (o : Option PortNode) → slice_get (quiet_after hs i v).nodes k ≡ o → early_there o ≡ true →
+          (o : Option PortNode) → slice_get (quiet_after hs i v).nodes k ≡ o →
+          early_there o ≡ true →
           IsEarly (quiet_after hs i v) k
       go None e f = absurd (true≢false (sym f))
       go (Some x) e f = record { node = x; at = e; early = f }
@@ -211,7 +213,8 @@ module _ (hs : HoldSchedule) (v : CableWorld) (l : IsLawful v) (done : ResetsAre
           (count (member (time c)) (length v.nodes) + 1 + c ≤ length v.nodes)
           ⊎ (count (member (time c)) (length v.nodes) ≡ 0) →
           (count (member (time c)) (length v.nodes) ≡ 0) ⊎ ((k : ℕ) × (member (time c) k ≡ true)) →
-          (count (member (time c + v.delay)) (length v.nodes) + 1 + suc c ≤ length v.nodes) ⊎ (count (member (time c + v.delay)) (length v.nodes) ≡ 0)
+          (count (member (time c + v.delay)) (length v.nodes) + 1 + suc c ≤ length v.nodes)
+          ⊎ (count (member (time c + v.delay)) (length v.nodes) ≡ 0)
       go f (inl none) = inr (omega (arith, less, none))
       go (inr none) k = inr (omega (arith, less, none))
       go (inl f) (inr k) = inl (omega (arith, f, falls (time c) k.0 k.1))

@@ -298,7 +298,8 @@ module _
       (eqb-true (bit_at set k) 1 p.0, go (slice_get (quiet_after hs i w).nodes k) refl p.1)
     where
       go :
-          (o : Option PortNode) → slice_get (quiet_after hs i w).nodes k ≡ o → resets_there o ≡ true →
+          (o : Option PortNode) → slice_get (quiet_after hs i w).nodes k ≡ o →
+          resets_there o ≡ true →
           Resets (quiet_after hs i w) k
       go None e f = absurd (true≢false (sym f))
       go (Some x) e f = record { node = x; at = e; resets = f }

@@ -129,7 +129,8 @@ module _
       v : CableWorld
       v = quiet_after hs (reached + j) w
 
-      step : quiet_after hs (reached + suc j) w ≡ with_holds (hs (reached + j + 1)) (turn (quiet_after hs (reached + j) w))
+      step : quiet_after hs (reached + suc j) w
+          ≡ with_holds (hs (reached + j + 1)) (turn (quiet_after hs (reached + j) w))
       step = let z : reached + suc j ≡ reached + j + 1 = omega arith in ap (λ n. quiet_after hs n w) z ∙ one-quiet hs (reached + j) w
 
       at-turn : slice_get (turn (quiet_after hs (reached + j) w)).nodes k ≡ Some y
@@ -148,7 +149,9 @@ module _
       ]
 
       go :
-          ((x : PortNode) → Holds set k → slice_get (quiet_after hs (reached + j) w).nodes k ≡ Some x → is_resetting x.state.view.phase ≡ true → j ≤ x.state.view.timer)
+          ((x : PortNode) → Holds set k →
+          slice_get (quiet_after hs (reached + j) w).nodes k ≡ Some x →
+          is_resetting x.state.view.phase ≡ true → j ≤ x.state.view.timer)
           → suc j ≤ y.state.view.timer
       go before =
           let there : is_resetting t.node.state.view.phase ≡ true = was (is_resetting t.node.state.view.phase) refl in
@@ -405,7 +408,8 @@ module _
   pub no-draws :
       (i k : ℕ) (x y : PortNode) → length w.nodes * w.delay ≤ i → Holds set k →
       slice_get (quiet_after hs i w).nodes k ≡ Some x →
-      slice_get (quiet_after hs (i + 1) w).nodes k ≡ Some y → y.state.view.draws ≡ x.state.view.draws
+      slice_get (quiet_after hs (i + 1) w).nodes k ≡ Some y →
+      y.state.view.draws ≡ x.state.view.draws
   no-draws i k x y past h at_x at =
       let q : Calmly (quiet_after hs i w) k y.state = steadily hs w l i past k y at in
       undrawn-next i past (at-all i past) k y h at ∙ ap (λ (u : PortNode). u.state.view.draws) (some-same q.node x (sym q.at ∙ at_x))

@@ -315,7 +315,8 @@ module _
   pub waiting :
       (j k : ℕ) (x : PortNode) → spread + j < 320 * w.delay → Holds set k →
       Shows w k (λ v. waits_due v ≡ true) →
-      slice_get (quiet_after hs (spread + j) w).nodes k ≡ Some x → Waiting w.delay (spread + j) x.state
+      slice_get (quiet_after hs (spread + j) w).nodes k ≡ Some x →
+      Waiting w.delay (spread + j) x.state
   waiting zero k x soon h due at = record {
     waits = forces 0 k true x h due at;
     start = λ r. omega (arith, there.1);

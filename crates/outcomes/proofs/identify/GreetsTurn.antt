@@ -138,7 +138,9 @@ module _
         is_asking y.node y.port ≡ true → NoEntry y.node (hearing y) →
         level_shown (hearing x).state x.port ≡ level.Parent →
         is_parent (level_shown (hearing y).state y.port) ≡ false →
-        ((is_asking (ticking y).state y.port ≡ true) × (level_shown (ticking x).state x.port ≡ level.Parent)) ⊎ (hears_packets (ticking y).state.view.phase ≡ true)
+        ((is_asking (ticking y).state y.port ≡ true)
+        × (level_shown (ticking x).state x.port ≡ level.Parent))
+        ⊎ (hears_packets (ticking y).state.view.phase ≡ true)
     goes-on a h s n =
         let still : is_asking (hearing y).state y.port ≡ true = ap (λ (p : Phase). is_shaking p && is_port (hearing y).state.view.parent y.port) h.phase ∙ ap (λ o. is_shaking y.node.view.phase && is_port o y.port) h.parent ∙ a in
         elim (asks-on y.coin (hearing y).state y.port still n) [ inl b ↦ inl (b, shows ∙ s) | inr b ↦ inr b ]
@@ -163,7 +165,8 @@ module _
     still-parent a s r = heard_shown d y x rounded ∙ ap (λ l. level_after l (arrivals y)) s ∙ go y.gives
       where
         go :
-            (b : Bool) → level_after level.Parent (if b then signals_of y.wire else []) ≡ level.Parent
+            (b : Bool) →
+            level_after level.Parent (if b then signals_of y.wire else []) ≡ level.Parent
         go true = said-parent (signals_of y.wire) (g.asks a s r) r
         go false = refl
 
@@ -179,7 +182,8 @@ module _
 
     greeted-after :
         leads_down (ticking x).state.view.ports x.port ≡ true → NoReset →
-        ((is_asking (ticking y).state y.port ≡ true) × (level_shown (ticking x).state x.port ≡ level.Parent))
+        ((is_asking (ticking y).state y.port ≡ true)
+        × (level_shown (ticking x).state x.port ≡ level.Parent))
         ⊎ (hears_packets (ticking y).state.view.phase ≡ true)
     greeted-after c r = elim (j.near.ticks.child x.port (heard_connected d x j.near) c) [
       | inl z ↦ old (sym (h.child x.port) ∙ z)
@@ -204,7 +208,8 @@ module _
 
         old :
             leads_down x.node.view.ports x.port ≡ true →
-            ((is_asking (ticking y).state y.port ≡ true) × (level_shown (ticking x).state x.port ≡ level.Parent))
+            ((is_asking (ticking y).state y.port ≡ true)
+            × (level_shown (ticking x).state x.port ≡ level.Parent))
             ⊎ (hears_packets (ticking y).state.view.phase ≡ true)
         old z =
             let calm = no-reset z h r in
@@ -218,7 +223,8 @@ module _
             x.node.view.phase ≡ phase.Contend → is_port x.node.view.parent x.port ≡ true →
             level_shown (hearing x).state x.port ≡ level.Parent →
             x.node.view.wait ≤ risen (hearing x).state.view.timer →
-            ((is_asking (ticking y).state y.port ≡ true) × (level_shown (ticking x).state x.port ≡ level.Parent))
+            ((is_asking (ticking y).state y.port ≡ true)
+            × (level_shown (ticking x).state x.port ≡ level.Parent))
             ⊎ (hears_packets (ticking y).state.view.phase ≡ true)
         fought t b s f =
             let p = parent-asks y.node j.other.valid y.port j.other.connected (told y.gives (sym (heard_shown d y x rounded) ∙ s)) in

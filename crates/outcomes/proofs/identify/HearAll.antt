@@ -85,7 +85,9 @@ hear-marked (s ∷ rest) x v m f = go (hears_packets x.view.phase) refl (hear-ma
 
     go :
         (b : Bool) → hears_packets x.view.phase ≡ b →
-        (IsMarked first.state → (hears_packets first.state.view.phase ≡ true → MayCome first.state rest) → IsMarked (hear_all rest first.state).state)
+        (IsMarked first.state →
+        (hears_packets first.state.view.phase ≡ true → MayCome first.state rest) →
+        IsMarked (hear_all rest first.state).state)
         → IsMarked (hear_all rest first.state).state
     go true h later = later (now (λ _. first-allowed x s rest (f h))) (λ n j. front-hears s.0 s.1 x j (sent_on j rest) v m h n (first-allowed x s rest (f h)) (f h j))
     go false h later = later (now (λ e. absurd (not-both (hears_packets x.view.phase) e h))) (λ n. absurd (elim (signal-stays s.0 s.1 x) [
@@ -105,7 +107,8 @@ pub record Keeps
       (k : ℕ) (s : Signal) (x : NodeState) (out pend : List Signal) → IsValid x → IsMarked x →
       hears_packets x.view.phase ≡ true → hears_packets (on_signal k s x).state.view.phase ≡ true →
       allows (mode x k) s ≡ true → length x.list.items + length (quads_in (s ∷ [])) ≤ 252 →
-      Q x out (with (k == p) s pend) → Q (on_signal k s x).state (out ++ sent_on p (on_signal k s x).sends) pend
+      Q x out (with (k == p) s pend) →
+      Q (on_signal k s x).state (out ++ sent_on p (on_signal k s x).sends) pend
   pub less : (x : NodeState) (out pend : List Signal) → Q x out pend → S out
   pub adds : (out ss : List Signal) → S out → silent ss ≡ true → S (out ++ ss)
 

@@ -83,7 +83,8 @@ module _
       unnamed : is_named from.is.state port ≡ false
 
     rank-falls :
-        (c : IsAcyclic w) (u v : ℕ) → (a : End) (b : End) (x y : PortNode) → a.node ≡ u → b.node ≡ v →
+        (c : IsAcyclic w) (u v : ℕ) → (a : End) (b : End) (x y : PortNode) → a.node ≡ u →
+        b.node ≡ v →
         far w.cabling a ≡ Some b → slice_get w.nodes a.node ≡ Some x →
         slice_get w.nodes b.node ≡ Some y → IsAbove w a b x y → c.rank v < c.rank u
     rank-falls c u v a b x y ea eb e at_x at_y r =
@@ -356,13 +357,15 @@ module _
         past p more e = in_range (slice_get a.is.state.view.ports p) refl e
           where
             in_range :
-                (o : Option PortView) → slice_get a.is.state.view.ports p ≡ o → passes (λ q. q.asked)
+                (o : Option PortView) → slice_get a.is.state.view.ports p ≡ o →
+                passes (λ q. q.asked)
                 o ≡ true → ⊥
             in_range None f e = true≢false (sym e)
             in_range (Some q) f e = omega (arith, more, slice_get_within a.is.state.view.ports p q f)
 
         awaits :
-            (p : ℕ) → is_asked a.is.state p ≡ true → is_named a.is.state p ≡ false → Child k a.is p →
+            (p : ℕ) → is_asked a.is.state p ≡ true → is_named a.is.state p ≡ false →
+            Child k a.is p →
             Found ⊎ ((v : ℕ) × Step k v)
         awaits p asked unnamed c = go c.other.is.state.view.granted (is_ready c.other.is.state.view.phase) refl refl
           where
@@ -506,7 +509,8 @@ module _
     same-holder (node k) (done e) v x at o q = absurd (waits-none (is_asked x.state q.0) (is_named x.state q.0) q.1 q.2 (o.1 q.0))
 
     one-owner :
-        (c : IsAcyclic w) (member : ℕ) → IsComponent w.cabling member set → (h k : Holder) → Owner h →
+        (c : IsAcyclic w) (member : ℕ) → IsComponent w.cabling member set → (h k : Holder) →
+        Owner h →
         Owner k → h ≡ k
     one-owner c member is h k o q =
         let ho = hangs c (c.most - c.rank o.owner) o.owner (omega arith) o.active in

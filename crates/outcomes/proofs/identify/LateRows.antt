@@ -30,7 +30,8 @@ granted (Some p) x e f g =
     choose (λ r. LateRow x r) (port_is (λ q. q.asked) x.view.ports p) row.none (row.asks_child p) (λ _. rests)
     (λ h. asks_next p (record { phase = f; granted = g; next = e; unasked = h }))
 
-late : (f : Phase) (x : NodeState) → x.view.phase ≡ f → hears_packets f ≡ true → LateRow x (row_of f x)
+late : (f : Phase) (x : NodeState) → x.view.phase ≡ f → hears_packets f ≡ true →
+    LateRow x (row_of f x)
 late SelfIdent x e h =
     choose (λ r. LateRow x r) x.view.granted (granted_row (lowest is_unnamed x.view.ports) x) row.none
     (λ g. granted (lowest is_unnamed x.view.ports) x refl e g) (λ _. rests)

@@ -112,7 +112,8 @@ pub above-hears :
     (back : List Signal) → IsValid x → IsMarked x → hears_packets x.view.phase ≡ true →
     hears_packets (on_signal k s x).state.view.phase ≡ true → allows (mode x k) s ≡ true →
     length x.list.items + length (quads_in (s ∷ [])) ≤ 252 → leads_down x.view.ports p ≡ true →
-    Lined x p there y (with (k == p) s back) → Lined (on_signal k s x).state p (there ++ sent_on p (on_signal k s x).sends) y back
+    Lined x p there y (with (k == p) s back) →
+    Lined (on_signal k s x).state p (there ++ sent_on p (on_signal k s x).sends) y back
 unfolding on_signal
 above-hears k s x p there y back v m h n a free d l = go (is_heard k s x) refl n
   where
@@ -203,7 +204,8 @@ pub below-hears :
     (there : List Signal) → IsValid y → IsMarked y → hears_packets y.view.phase ≡ true →
     hears_packets (on_signal k s y).state.view.phase ≡ true → allows (mode y k) s ≡ true →
     length y.list.items + length (quads_in (s ∷ [])) ≤ 252 → is_port y.view.parent q ≡ true →
-    Lined x p (with (k == q) s there) y back → Lined x p there (on_signal k s y).state (back ++ sent_on q (on_signal k s y).sends)
+    Lined x p (with (k == q) s there) y back →
+    Lined x p there (on_signal k s y).state (back ++ sent_on q (on_signal k s y).sends)
 unfolding on_signal
 below-hears k s y q back x p there v m h n a free i l = go (is_heard k s y) refl n
   where
@@ -469,7 +471,8 @@ pub room-hears :
     (k : ℕ) (s : Signal) (x : NodeState) (j : ℕ) (ss : List Signal) → IsValid x → IsMarked x →
     hears_packets x.view.phase ≡ true → hears_packets (on_signal k s x).state.view.phase ≡ true →
     allows (mode x k) s ≡ true → fits (mode x j) (with (k == j) s ss) ≡ true →
-    length x.list.items + length (quads_in (with (k == j) s ss)) ≤ 252 → length (on_signal k s x).state.list.items + length (quads_in ss) ≤ 252
+    length x.list.items + length (quads_in (with (k == j) s ss)) ≤ 252 →
+    length (on_signal k s x).state.list.items + length (quads_in ss) ≤ 252
 unfolding on_signal
 room-hears k s x j ss v m h n a f r = go (is_heard k s x) refl n (sound-on_signal k s x v).valid.bounded.list
   where

@@ -105,7 +105,8 @@ module _
 pub above-ticks :
     (coin : Bool) (x : NodeState) (p : ℕ) (there : List Signal) (y : NodeState) (back : List Signal)
     → IsValid x → hears_packets x.view.phase ≡ true → leads_down x.view.ports p ≡ true →
-    Lined x p there y back → Lined (tick coin x).state p (there ++ sent_on p (tick coin x).sends) y back
+    Lined x p there y back →
+    Lined (tick coin x).state p (there ++ sent_on p (tick coin x).sends) y back
 unfolding tick
 above-ticks coin x p there y back v h d l =
     above-does (raise_timer x) p there y back (valid-raise_timer x v) h d l coin (next_row x) (late-row x h)
@@ -152,7 +153,8 @@ pub below-ticks :
     (coin : Bool) (y : NodeState) (q : ℕ) (back : List Signal) (x : NodeState) (p : ℕ)
     (there : List Signal) → IsValid y → hears_packets y.view.phase ≡ true →
     is_port y.view.parent q ≡ true →
-    Lined x p there y back → Lined x p there (tick coin y).state (back ++ sent_on q (tick coin y).sends)
+    Lined x p there y back →
+    Lined x p there (tick coin y).state (back ++ sent_on q (tick coin y).sends)
 unfolding tick
 below-ticks coin y q back x p there v h i l =
     below-does (raise_timer y) q back x p there (valid-raise_timer y v) h i l coin (next_row y) (late-row y h)

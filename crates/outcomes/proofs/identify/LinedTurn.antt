@@ -38,8 +38,11 @@ Taken s Q S out = ((hears_packets (ticking s).state.view.phase ≡ true) × Q (t
 takes :
     (s : Side) → Able s → (Q : NodeState → List Signal → List Signal → Type 0)
     (S : List Signal → Type 0) → Keeps s.port Q S →
-    (ticks : (out pend : List Signal) → hears_packets (hearing s).state.view.phase ≡ true → Q (hearing s).state out pend → Q (ticking s).state (out ++ sent_on s.port (ticking s).sends) pend) →
-    (out pend : List Signal) → Q s.node out (sent_on s.port s.inbox ++ pend) → Taken s (λ x o. Q x o pend) S out
+    (ticks : (out pend : List Signal) → hears_packets (hearing s).state.view.phase ≡ true →
+    Q (hearing s).state out pend →
+    Q (ticking s).state (out ++ sent_on s.port (ticking s).sends) pend) →
+    (out pend : List Signal) → Q s.node out (sent_on s.port s.inbox ++ pend) →
+    Taken s (λ x o. Q x o pend) S out
 takes s a Q S keeps ticks out pend q = elim (hear-keeps s.port Q S keeps s.inbox s.node out pend a.valid a.marked a.hears a.comes a.room q) [
   | inl h ↦ inl (ticks-on s.coin (hearing s).state h.0, subst (λ o. Q (ticking s).state o pend) (parts s out) (ticks (out ++ sent_on s.port (hearing s).sends) pend h.0 h.1))
   | inr h ↦ inr (h.0, subst S (parts s out) (keeps.adds (out ++ sent_on s.port (hearing s).sends) (sent_on s.port (ticking s).sends) h.1 (tick-silent s.coin (hearing s).state s.port (start-mute (hearing s).state.view.phase h.0))))

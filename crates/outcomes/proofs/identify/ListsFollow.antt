@@ -11,7 +11,8 @@ use Rattle.outcomes.proofs.identify.MarksKept.{hears-late}
 line-lists :
     {a n g r : Bool} {above below : List ℕ} {down up : List Signal} →
     Line a n g r above below down up →
-    ((below ++ quads_in down ≡ above) × (quads_in up ≡ [])) ⊎ ((above ++ quads_in up ≡ below) × (quads_in down ≡ []))
+    ((below ++ quads_in down ≡ above) × (quads_in up ≡ []))
+    ⊎ ((above ++ quads_in up ≡ below) × (quads_in down ≡ []))
 line-lists {a} {n} {g} {r} {above} {below} {down} {up} l = go (speaks g n) refl
   where
     go :

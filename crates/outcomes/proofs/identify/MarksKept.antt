@@ -66,7 +66,9 @@ one-awaited x m p q asked unnamed also yet = go (p == q) refl
 pub same-marked :
     (x y : NodeState) → y.view.phase ≡ x.view.phase → y.view.id ≡ x.view.id →
     y.view.granted ≡ x.view.granted → y.view.parent ≡ x.view.parent → y.list.items ≡ x.list.items →
-    ((k : ℕ) → leads_down y.view.ports k ≡ leads_down x.view.ports k) → ((k : ℕ) → is_asked y k ≡ is_asked x k) → ((k : ℕ) → is_named y k ≡ is_named x k) → IsMarked x → IsMarked y
+    ((k : ℕ) → leads_down y.view.ports k ≡ leads_down x.view.ports k) →
+    ((k : ℕ) → is_asked y k ≡ is_asked x k) → ((k : ℕ) → is_named y k ≡ is_named x k) → IsMarked x →
+    IsMarked y
 same-marked x y ph i g p l c a n m = record {
   id = ap is_some i ∙ m.id ∙ ap is_ready (sym ph);
   granted = λ h. ap hears_packets ph ∙ m.granted (sym g ∙ h);
@@ -91,7 +93,8 @@ from-early :
     (x y : NodeState) → IsMarked x → hears_packets x.view.phase ≡ false →
     is_ready y.view.phase ≡ false → y.view.id ≡ x.view.id → y.list.items ≡ x.list.items →
     ((k : ℕ) → is_asked y k ≡ is_asked x k) → ((k : ℕ) → is_named y k ≡ is_named x k) →
-    (y.view.granted ≡ true → hears_packets y.view.phase ≡ true) → (hears_packets y.view.phase ≡ true → y.view.parent ≡ None → y.view.granted ≡ true) → IsMarked y
+    (y.view.granted ≡ true → hears_packets y.view.phase ≡ true) →
+    (hears_packets y.view.phase ≡ true → y.view.parent ≡ None → y.view.granted ≡ true) → IsMarked y
 from-early x y m h r i l a n g o =
     let none : (k : ℕ) → is_asked y k ≡ true → ⊥ = λ k e. none-asked x m h k (sym (a k) ∙ e) in
     record {

@@ -143,7 +143,8 @@ kept-room list (q ∷ qs) h = go (nat_lt (length list) 252) refl (λ r. kept-roo
 
     go :
         (b : Bool) → nat_lt (length list) 252 ≡ b →
-        (length (list ++ q ∷ []) + length qs ≤ 252 → kept (list ++ q ∷ []) qs ≡ (list ++ q ∷ []) ++ qs)
+        (length (list ++ q ∷ []) + length qs ≤ 252 →
+        kept (list ++ q ∷ []) qs ≡ (list ++ q ∷ []) ++ qs)
         → kept (if b then list ++ q ∷ [] else list) qs ≡ list ++ q ∷ qs
     go true e rest = rest (omega (arith, length-append list (q ∷ []), h)) ∙ append_assoc list (q ∷ []) qs
     go false e rest = absurd (full (length list) (length qs) e h)

@@ -201,7 +201,11 @@ hears-no-list (s ∷ rest) x h on q = elim (signal-stays s.0 s.1 x) [
 
     then-so :
         Stays x (on_signal s.0 s.1 x).state →
-        (hears_packets (on_signal s.0 s.1 x).state.view.phase ≡ true → hears_packets (hear_all rest (on_signal s.0 s.1 x).state).state.view.phase ≡ true → ((j : ℕ) → silent (sent_on j rest) ≡ true) → (hear_all rest (on_signal s.0 s.1 x).state).state.list.items ≡ (on_signal s.0 s.1 x).state.list.items)
+        (hears_packets (on_signal s.0 s.1 x).state.view.phase ≡ true →
+        hears_packets (hear_all rest (on_signal s.0 s.1 x).state).state.view.phase ≡ true →
+        ((j : ℕ) → silent (sent_on j rest) ≡ true) →
+        (hear_all rest (on_signal s.0 s.1 x).state).state.list.items
+        ≡ (on_signal s.0 s.1 x).state.list.items)
         →
         (hear_all rest (on_signal s.0 s.1 x).state).state.list.items ≡ x.list.items
     then-so t rest-so =
@@ -351,7 +355,8 @@ module _
       (settles-on (at-turn j) (lawful-then j) (acyclic-then j) (identifying-then j) set core root t (settles-always s j)))
 
   pub rests-always :
-      (s : IsSettling (quiet_after hs k w) set core root t) → IsAtRest (quiet_after hs k w) set → (j : ℕ)
+      (s : IsSettling (quiet_after hs k w) set core root t) → IsAtRest (quiet_after hs k w) set →
+      (j : ℕ)
       → IsAtRest (at-turn j) set
   rests-always s q zero = subst (λ (n : ℕ). IsAtRest (quiet_after hs n w) set) (let e : k ≡ k + 0 = omega arith in e) q
   rests-always s q (suc j) = subst (λ (v : CableWorld). IsAtRest v set) (next-turn j)
@@ -359,6 +364,7 @@ module _
       (rests-on (at-turn j) (lawful-then j) (acyclic-then j) (identifying-then j) set core root t (settles-always s j) (rests-always s q j)))
 
   pub stays-tree :
-      IsSettling (quiet_after hs k w) set core root t → IsAtRest (quiet_after hs k w) set → (j : ℕ) →
+      IsSettling (quiet_after hs k w) set core root t → IsAtRest (quiet_after hs k w) set →
+      (j : ℕ) →
       IsTree (at-turn j) set root t
   stays-tree s q j = rest-tree (at-turn j) (lawful-then j) (acyclic-then j) (identifying-then j) set core root t (settles-always s j) (rests-always s q j)

@@ -175,7 +175,8 @@ ticks-on-turn :
     (coin : Bool) (y : NodeState) → y.view.phase ≡ phase.SelfIdent → y.view.granted ≡ true →
     ((p : ℕ) → lowest is_unnamed y.view.ports ≡ Some p → is_asked y p ≡ false) →
     (lowest is_unnamed y.view.ports ≡ None → may_name y ≡ true) →
-    (is_ready (tick coin y).state.view.phase ≡ true) ⊎ ((q : ℕ) × (is_asked y q ≡ false) × (is_asked (tick coin y).state q ≡ true))
+    (is_ready (tick coin y).state.view.phase ≡ true)
+    ⊎ ((q : ℕ) × (is_asked y q ≡ false) × (is_asked (tick coin y).state q ≡ true))
 unfolding tick
 ticks-on-turn coin y e g free may = go y.view.phase e
   where
@@ -227,7 +228,8 @@ module _
   -- it comes, and nothing is under way behind it, or it is a turn older
   pub moves :
       (test : Signal → Bool) →
-      ((n : ℕ) (ts : List Travelling) → Old test n ts → (has_grant (signals_of ts) ≡ true) ⊎ (has_done (signals_of ts) ≡ true))
+      ((n : ℕ) (ts : List Travelling) → Old test n ts →
+      (has_grant (signals_of ts) ≡ true) ⊎ (has_done (signals_of ts) ≡ true))
       → (a b : End) (n : ℕ) → Holds set b.node → far w.cabling a ≡ Some b →
       Old test n (wire_of w a).signals → Old test (n + 1)
       (wire_of (turn w) a).signals ⊎ (silent (signals_of (wire_of (turn w) a).signals) ≡ true)
@@ -250,7 +252,8 @@ module _
       slice_get w.nodes k ≡ Some x → slice_get (turn w).nodes k ≡ Some z →
       x.state.view.granted ≡ true → is_ready x.state.view.phase ≡ false →
       ((p : ℕ) → (is_asked x.state p && not (is_named x.state p)) ≡ false) →
-      (is_ready z.state.view.phase ≡ true) ⊎ ((q : ℕ) × (is_asked x.state q ≡ false) × (is_asked z.state q ≡ true))
+      (is_ready z.state.view.phase ≡ true)
+      ⊎ ((q : ℕ) × (is_asked x.state q ≡ false) × (is_asked z.state q ≡ true))
   turn-used acyclic k x z h at at_z g u waits =
       let same : z.state ≡ (tick (coin x.coins) y).state = ap (λ (v : PortNode). v.state) (some-same z (turn_at w k x).node (sym at_z ∙ node-after w k x l.well_formed.count at)) ∙ turn-state (inbox w 0 (ports_of w.cabling k)) x in
       elim (ticks-on-turn (coin x.coins) y (self-ident y.view.phase here (ap is_ready o.stays.phase ∙ u)) granted free may) [

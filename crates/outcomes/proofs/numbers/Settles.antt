@@ -142,9 +142,11 @@ module _
   -- a turn
   after-up :
       (f : NodeState → ℕ → Bool) →
-      ((k : ℕ) (x z : PortNode) → Holds set k → slice_get w.nodes k ≡ Some x → slice_get (turn w).nodes k ≡ Some z → (q : ℕ) → f x.state q ≡ true → f z.state q ≡ true)
+      ((k : ℕ) (x z : PortNode) → Holds set k → slice_get w.nodes k ≡ Some x →
+      slice_get (turn w).nodes k ≡ Some z → (q : ℕ) → f x.state q ≡ true → f z.state q ≡ true)
       →
-      (k : ℕ) → Holds set k → of-end f w (up-end w k (parent_now w k)) ≡ true → of-end f (turn w) (up-end (turn w) k (parent_now (turn w) k)) ≡ true
+      (k : ℕ) → Holds set k → of-end f w (up-end w k (parent_now w k)) ≡ true →
+      of-end f (turn w) (up-end (turn w) k (parent_now (turn w) k)) ≡ true
   after-up f keeps k h e = elim (up-or-root w l acyclic i set root s.component s.inside s.is_root s.all k x h at) [
     | inl same ↦ contrary e (ap (λ o. of-end f w (up-end w k o)) (ap (parent_now w) same ∙ ap parent_of s.is_root.at ∙ s.is_root.parentless))
     | inr u ↦
@@ -305,10 +307,13 @@ module _
 
   travels :
       (test : Signal → Bool) →
-      ((n : ℕ) (ts : List Travelling) → Old test n ts → (has_grant (signals_of ts) ≡ true) ⊎ (has_done (signals_of ts) ≡ true))
+      ((n : ℕ) (ts : List Travelling) → Old test n ts →
+      (has_grant (signals_of ts) ≡ true) ⊎ (has_done (signals_of ts) ≡ true))
       → (j : ℕ) (a b : End) → Holds set b.node → far (W j).cabling a ≡ Some b →
       Old test 0 (wire_of (W j) a).signals →
-      (n : ℕ) → Old test n (wire_of (W (j + n)) a).signals ⊎ ((m : ℕ) × (m ≤ n) × (silent (signals_of (wire_of (W (j + m)) a).signals) ≡ true))
+      (n : ℕ) →
+      Old test n (wire_of (W (j + n)) a).signals
+      ⊎ ((m : ℕ) × (m ≤ n) × (silent (signals_of (wire_of (W (j + m)) a).signals) ≡ true))
   travels test is j a b h e old zero = inl (let z : j ≡ j + 0 = omega arith in subst (λ (i : ℕ). Old test 0 (wire_of (W i) a).signals) z old)
   travels test is j a b h e old (suc n) = elim (travels test is j a b h e old n) [
     | inr m ↦ inr (m.0, omega (arith, m.1), m.2)
@@ -326,7 +331,8 @@ module _
 
   comes-by :
       (test : Signal → Bool) →
-      ((n : ℕ) (ts : List Travelling) → Old test n ts → (has_grant (signals_of ts) ≡ true) ⊎ (has_done (signals_of ts) ≡ true))
+      ((n : ℕ) (ts : List Travelling) → Old test n ts →
+      (has_grant (signals_of ts) ≡ true) ⊎ (has_done (signals_of ts) ≡ true))
       → (j : ℕ) (a b : End) → Holds set b.node → far (W j).cabling a ≡ Some b →
       Old test 0 (wire_of (W j) a).signals →
       (m : ℕ) × (m ≤ w.delay) × (silent (signals_of (wire_of (W (j + m)) a).signals) ≡ true)
@@ -486,7 +492,8 @@ module _
 
   pub readies :
       (n j : ℕ) → 4 * length (numbers (quiet_after hs k w).cabling root t) < sum-over (stage (W j))
-      (numbers (quiet_after hs k w).cabling root t) + n → (m : ℕ) × (m ≤ n * w.delay) × ReadyAt (j + m)
+      (numbers (quiet_after hs k w).cabling root t) + n →
+      (m : ℕ) × (m ≤ n * w.delay) × ReadyAt (j + m)
   readies zero j h = absurd (omega (arith, h, sum-most (stage (W j)) 4 (numbers (quiet_after hs k w).cabling root t) (λ q. stage-most (W j) q)))
   readies (suc n) j h = go (is_ready (S j).is_root.node.state.view.phase) refl (readies n)
     where
@@ -495,7 +502,9 @@ module _
 
       go :
           (b : Bool) → is_ready (S j).is_root.node.state.view.phase ≡ b →
-          ((i : ℕ) → 4 * length (numbers (quiet_after hs k w).cabling root t) < sum-over (stage (W i)) (numbers (quiet_after hs k w).cabling root t) + n → (m : ℕ) × (m ≤ n * w.delay) × ReadyAt (i + m))
+          ((i : ℕ) →
+          4 * length (numbers (quiet_after hs k w).cabling root t) < sum-over (stage (W i)) (numbers (quiet_after hs k w).cabling root t) + n →
+          (m : ℕ) × (m ≤ n * w.delay) × ReadyAt (i + m))
           → (m : ℕ) × (m ≤ suc n * w.delay) × ReadyAt (j + m)
       go true e rest = let z : j ≡ j + 0 = omega arith in (0, omega arith, subst ReadyAt z (all-ready (W j) (L j) (A j) (I j) set core root t (S j) e))
       go false e rest =

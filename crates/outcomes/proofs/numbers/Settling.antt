@@ -67,9 +67,11 @@ module _
   -- what goes up each child cable from a node comes to the root
   pub climbs :
       (P : ℕ → PortNode → Type 0) →
-      ((k : ℕ) (x : PortNode) (u : Up k x) → Holds set k → slice_get w.nodes k ≡ Some x → P k x → P u.end.node u.is)
+      ((k : ℕ) (x : PortNode) (u : Up k x) → Holds set k → slice_get w.nodes k ≡ Some x → P k x →
+      P u.end.node u.is)
       →
-      (n k : ℕ) (x : PortNode) → acyclic.most - acyclic.rank k ≤ n → Holds set k → slice_get w.nodes k ≡ Some x → P k x → P root r.node
+      (n k : ℕ) (x : PortNode) → acyclic.most - acyclic.rank k ≤ n → Holds set k →
+      slice_get w.nodes k ≡ Some x → P k x → P root r.node
   climbs P ups zero k x low h at p = elim (up-or-root k x h at) [
     | inl same ↦ subst (P root) (some-same x r.node (sym at ∙ ap (slice_get w.nodes) same ∙ r.at)) (subst (λ (j : ℕ). P j x) same p)
     | inr u ↦ absurd (omega (arith, low, u.falls, acyclic.bounded u.end.node))
@@ -296,7 +298,8 @@ module _
     (comp : IsComponent w.cabling root set) (inside : Holds set root) (over : ResetsAreOverIn w set)
     (r : IsRoot w root) (here : hears_packets r.node.state.view.phase ≡ true) where
   hears-down :
-      (n k : ℕ) → Down w l set over root n k → Holds set k → (x : PortNode) → slice_get w.nodes k ≡ Some x →
+      (n k : ℕ) → Down w l set over root n k → Holds set k → (x : PortNode) →
+      slice_get w.nodes k ≡ Some x →
       hears_packets x.state.view.phase ≡ true
   hears-down zero k d h x at = ap (λ (y : PortNode). hears_packets y.state.view.phase) (some-same x r.node (sym at ∙ ap (slice_get w.nodes) d ∙ r.at)) ∙ here
   hears-down (suc n) k d h x at =

@@ -243,7 +243,8 @@ module _
 
   -- from then on it is a tree
   pub tree-soon :
-      (j : ℕ) → 5 * length (numbers (quiet_after hs k w).cabling root t) * w.delay ≤ j → IsTree (V j)
+      (j : ℕ) → 5 * length (numbers (quiet_after hs k w).cabling root t) * w.delay ≤ j →
+      IsTree (V j)
       set root t
   tree-soon j le =
       let q = rest-soon in

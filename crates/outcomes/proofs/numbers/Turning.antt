@@ -93,7 +93,8 @@ module _ (n : ℕ) (em : ℕ → List ℕ) (mk : ℕ → ℕ) (c : Node) where
 
         here :
             (b : Bool) → b ≡ true →
-            (has_grant (with b signal.Grant (pend k)) ≡ true → kept x.list.items (quads_in (with b signal.Grant (pend k))) ≡ em (mk 0))
+            (has_grant (with b signal.Grant (pend k)) ≡ true →
+            kept x.list.items (quads_in (with b signal.Grant (pend k))) ≡ em (mk 0))
             → kept x.list.items (quads_in (pend k)) ≡ em (mk 0)
         here true e o = o refl
         here false e o = absurd (true≢false (sym e))
@@ -103,14 +104,16 @@ module _ (n : ℕ) (em : ℕ → List ℕ) (mk : ℕ → ℕ) (c : Node) where
 
         go-grant :
             (j : ℕ) (b : Bool) →
-            (has_grant (with b signal.Grant (pend j)) ≡ true → kept x.list.items (quads_in (with b signal.Grant (pend j))) ≡ em (mk 0))
+            (has_grant (with b signal.Grant (pend j)) ≡ true →
+            kept x.list.items (quads_in (with b signal.Grant (pend j))) ≡ em (mk 0))
             → has_grant (pend j) ≡ true → kept x.list.items (quads_in (pend j)) ≡ em (mk 0)
         go-grant j true o e = o refl
         go-grant j false o e = o e
 
         go-done :
             (j : ℕ) (b : Bool) →
-            (has_done (with b signal.Grant (pend j)) ≡ true → kept x.list.items (quads_in (with b signal.Grant (pend j))) ≡ em (mk (j + 1)))
+            (has_done (with b signal.Grant (pend j)) ≡ true →
+            kept x.list.items (quads_in (with b signal.Grant (pend j))) ≡ em (mk (j + 1)))
             → has_done (pend j) ≡ true → kept x.list.items (quads_in (pend j)) ≡ em (mk (j + 1))
         go-done j true o e = o e
         go-done j false o e = o e
@@ -132,7 +135,10 @@ module _ (n : ℕ) (em : ℕ → List ℕ) (mk : ℕ → ℕ) (c : Node) where
             (test : List Signal → Bool) (end : List ℕ) →
             ((ss : List Signal) → silent ss ≡ true → test ss ≡ false) → (j : ℕ) (b : Bool) →
             (k == j) ≡ b → fits (mode x j) (with b (signal.Packet quad) (pend j)) ≡ true →
-            (test (with b (signal.Packet quad) (pend j)) ≡ true → kept x.list.items (quads_in (with b (signal.Packet quad) (pend j))) ≡ end) → (test (pend j) ≡ true → test (signal.Packet quad ∷ pend j) ≡ true) → test (pend j) ≡ true → kept (with_packet quad x.list.items) (quads_in (pend j)) ≡ end
+            (test (with b (signal.Packet quad) (pend j)) ≡ true →
+            kept x.list.items (quads_in (with b (signal.Packet quad) (pend j))) ≡ end) →
+            (test (pend j) ≡ true → test (signal.Packet quad ∷ pend j) ≡ true) →
+            test (pend j) ≡ true → kept (with_packet quad x.list.items) (quads_in (pend j)) ≡ end
         go test end none j true e f o same t = o (same t)
         go test end none j false e f o same t = contrary t (none (pend j) (others-silent x k j quad (pend j) m e a f))
 
@@ -181,7 +187,8 @@ module _ (n : ℕ) (em : ℕ → List ℕ) (mk : ℕ → ℕ) (c : Node) where
 
         here :
             (b : Bool) → b ≡ true →
-            (has_done (with b signal.Done (pend k)) ≡ true → kept x.list.items (quads_in (with b signal.Done (pend k))) ≡ em (mk (k + 1)))
+            (has_done (with b signal.Done (pend k)) ≡ true →
+            kept x.list.items (quads_in (with b signal.Done (pend k))) ≡ em (mk (k + 1)))
             → kept x.list.items (quads_in (pend k)) ≡ em (mk (k + 1))
         here true e o = o refl
         here false e o = absurd (true≢false (sym e))
@@ -191,14 +198,16 @@ module _ (n : ℕ) (em : ℕ → List ℕ) (mk : ℕ → ℕ) (c : Node) where
 
         go-grant :
             (j : ℕ) (b : Bool) →
-            (has_grant (with b signal.Done (pend j)) ≡ true → kept x.list.items (quads_in (with b signal.Done (pend j))) ≡ em (mk 0))
+            (has_grant (with b signal.Done (pend j)) ≡ true →
+            kept x.list.items (quads_in (with b signal.Done (pend j))) ≡ em (mk 0))
             → has_grant (pend j) ≡ true → kept x.list.items (quads_in (pend j)) ≡ em (mk 0)
         go-grant j true o e = o e
         go-grant j false o e = o e
 
         go-done :
             (j : ℕ) (b : Bool) →
-            (has_done (with b signal.Done (pend j)) ≡ true → kept x.list.items (quads_in (with b signal.Done (pend j))) ≡ em (mk (j + 1)))
+            (has_done (with b signal.Done (pend j)) ≡ true →
+            kept x.list.items (quads_in (with b signal.Done (pend j))) ≡ em (mk (j + 1)))
             → has_done (pend j) ≡ true → kept x.list.items (quads_in (pend j)) ≡ em (mk (j + 1))
         go-done j true o e = o refl
         go-done j false o e = o e
@@ -330,7 +339,9 @@ module _ (n : ℕ) (em : ℕ → List ℕ) (mk : ℕ → ℕ) (c : Node) where
       IsMarked x → hears_packets x.view.phase ≡ true → Marks x →
       hears_packets (hear_all signals x).state.view.phase ≡ true →
       ((j : ℕ) → fits (mode x j) (sent_on j signals ++ pend j) ≡ true) →
-      Goes-on x (λ j. sent_on j signals ++ pend j) → Heard-so x (hear_all signals x).state × Goes-on (hear_all signals x).state pend × ((j : ℕ) → fits (mode (hear_all signals x).state j) (pend j) ≡ true)
+      Goes-on x (λ j. sent_on j signals ++ pend j) →
+      Heard-so x (hear_all signals x).state × Goes-on (hear_all signals x).state pend
+      × ((j : ℕ) → fits (mode (hear_all signals x).state j) (pend j) ≡ true)
   hears-all [] x pend v m h r on f g = (record { valid = v; marked = m; marks = r; asked = λ j. refl; stays = record { phase = refl; parent = refl; child = λ k. refl; cables = λ k. refl } }, g, f)
   hears-all (s ∷ rest) x pend v m h r on f g = elim (signal-stays s.0 s.1 x) [
     | inl t ↦ goes-first t (hears-all rest first.state pend)
@@ -354,9 +365,16 @@ module _ (n : ℕ) (em : ℕ → List ℕ) (mk : ℕ → ℕ) (c : Node) where
 
       goes-first :
           Stays x first.state →
-          (IsValid first.state → IsMarked first.state → hears_packets first.state.view.phase ≡ true → Marks first.state → hears_packets (hear_all rest first.state).state.view.phase ≡ true → ((j : ℕ) → fits (mode first.state j) (later j) ≡ true) → Goes-on first.state later →
-          Heard-so first.state (hear_all rest first.state).state × Goes-on (hear_all rest first.state).state pend × ((j : ℕ) → fits (mode (hear_all rest first.state).state j) (pend j) ≡ true)) →
-          Heard-so x (hear_all rest first.state).state × Goes-on (hear_all rest first.state).state pend × ((j : ℕ) → fits (mode (hear_all rest first.state).state j) (pend j) ≡ true)
+          (IsValid first.state → IsMarked first.state →
+          hears_packets first.state.view.phase ≡ true → Marks first.state →
+          hears_packets (hear_all rest first.state).state.view.phase ≡ true →
+          ((j : ℕ) → fits (mode first.state j) (later j) ≡ true) → Goes-on first.state later →
+          Heard-so first.state (hear_all rest first.state).state
+          × Goes-on (hear_all rest first.state).state pend
+          × ((j : ℕ) → fits (mode (hear_all rest first.state).state j) (pend j) ≡ true)) →
+          Heard-so x (hear_all rest first.state).state
+          × Goes-on (hear_all rest first.state).state pend
+          × ((j : ℕ) → fits (mode (hear_all rest first.state).state j) (pend j) ≡ true)
       goes-first t rest-so =
           let n1 : hears_packets first.state.view.phase ≡ true = ap hears_packets t.phase ∙ h in
           let o = rest-so (sound-on_signal s.0 s.1 x v).valid (signal-marked s.0 s.1 x v m (λ _. may)) n1 (marks-stay s.0 s.1 x v h n1 t r) on (λ j. front-hears s.0 s.1 x j (later j) v m h n1 may (fs j)) (hears-one s.0 s.1 x later v m h r n1 fs (goes-along x (λ j. sent_on j (s ∷ rest) ++ pend j) (λ j. with (s.0 == j) s.1 (later j)) same g)) in (

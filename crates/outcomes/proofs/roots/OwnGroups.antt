@@ -34,7 +34,8 @@ port-status from p v (Some far) r e = plugged (is_port from p) v.child (r.one e)
 port-statuses :
     (from : Option ℕ) (p : ℕ) (ps : List PortView) (row : List (Option End)) →
     length ps ≡ length row →
-    ((i q : ℕ) (v : PortView) → q ≡ p + i → slice_get ps i ≡ Some v → FitsRole from q v × (v.connected ≡ is_some (get_or row i None)))
+    ((i q : ℕ) (v : PortView) → q ≡ p + i → slice_get ps i ≡ Some v →
+    FitsRole from q v × (v.connected ≡ is_some (get_or row i None)))
     → own.statuses_from p from ps ≡ seen.statuses_from from p row
 port-statuses from p [] [] e h = refl
 port-statuses from p [] (o ∷ row) e h = absurd (omega (arith, e))

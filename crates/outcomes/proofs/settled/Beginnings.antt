@@ -57,7 +57,8 @@ nodes-there w l node set comp there k h = elim (slice_get_cases w.nodes k).1 [
 -- where all identify, the node above the others has no parent
 pub has-root :
     (w : CableWorld) → IsLawful w → IsAcyclic w → IsIdentifying w → (node set j : ℕ) →
-    IsComponent w.cabling node set → Holds set j → j < length w.cabling → AreIdentifying w set → (root : ℕ) × Holds set root × IsRoot w root
+    IsComponent w.cabling node set → Holds set j → j < length w.cabling → AreIdentifying w set →
+    (root : ℕ) × Holds set root × IsRoot w root
 has-root w l acyclic i node set j comp in_j there all = (top.0, inside, root x.0.state.view.parent refl)
   where
     member : ℕ → Bool

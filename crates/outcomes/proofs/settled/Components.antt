@@ -48,7 +48,8 @@ pub small-tree :
 small-tree exist w l node set root t comp h = small-there exist w l node set (in-tree w set root t h node comp.holds) comp
 
 pub small-fresh :
-    ComponentsExist → (w : CableWorld) → IsLawful w → (node set : ℕ) → IsComponent w.cabling node set →
+    ComponentsExist → (w : CableWorld) → IsLawful w → (node set : ℕ) →
+    IsComponent w.cabling node set →
     IsFresh w set → set < 2 ^ 63
 small-fresh exist w l node set comp h = small-there exist w l node set (in-fresh w set h node comp.holds) comp
 

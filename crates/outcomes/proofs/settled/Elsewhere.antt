@@ -212,7 +212,8 @@ module _
       as-it-is : (x : NodeState) → SameNode x x
       as-it-is x = record { phase = refl; parent = refl; granted = refl; id = refl; views = refl; ports = refl; list = refl; attrs = refl }
 
-      told-so : (packet : ConfigPacket) (x : PortNode) → SameNode x.state (node_set_config packet x).state
+      told-so : (packet : ConfigPacket) (x : PortNode) →
+          SameNode x.state (node_set_config packet x).state
       told-so packet x = record { phase = refl; parent = refl; granted = refl; id = refl; views = refl; ports = refl; list = refl; attrs = refl }
 
       heard :
@@ -230,7 +231,8 @@ module _
     abbrev o : Acting w v
     o = acting a w v is none leads l.well_formed
 
-    not-begun : (k : ℕ) (z : PortNode) → Holds set k → slice_get o.done.nodes k ≡ Some z → HasBegun z.state → ⊥
+    not-begun : (k : ℕ) (z : PortNode) → Holds set k → slice_get o.done.nodes k ≡ Some z →
+        HasBegun z.state → ⊥
     not-begun k z h at b = contrary (all k z h at) (ap hears_packets b.phase)
 
     told-at :
@@ -243,7 +245,8 @@ module _
         slice_get o.done.nodes e.node ≡ Some z → Stayed o.told o.done e f z
     stayed e f z h joined at = elim (o.happens.ends e f z joined at) [ inl b ↦ absurd (not-begun e.node z h at b.begun) | inr s ↦ s ]
 
-    far-same : (k p : ℕ) → Holds set k → far o.told.cabling (end_at k p) ≡ far o.done.cabling (end_at k p)
+    far-same : (k p : ℕ) → Holds set k →
+        far o.told.cabling (end_at k p) ≡ far o.done.cabling (end_at k p)
     far-same k p h = go (far o.done.cabling (end_at k p)) refl
       where
         unplugged : (f : Option End) → is_some f ≡ false → f ≡ None

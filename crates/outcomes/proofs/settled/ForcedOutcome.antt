@@ -44,7 +44,8 @@ module _
 
   -- nobody draws a coin
   undrawn :
-      (i j : ℕ) (x : PortNode) → Holds set j → slice_get (quiet_after hs (first + i) w).nodes j ≡ Some x →
+      (i j : ℕ) (x : PortNode) → Holds set j →
+      slice_get (quiet_after hs (first + i) w).nodes j ≡ Some x →
       x.state.view.draws ≡ 0
   undrawn zero j x inside at =
       let z : first + 0 ≡ first = omega arith in

@@ -33,7 +33,8 @@ turns-run zero w = refl
 turns-run (suc k) w = (turn w, refl, turns-run k (turn w))
 
 pub left-alone :
-    (w : CableWorld) (k : ℕ) → quiet_turns (length w.nodes) w.delay ≤ k → IsLeftAlone w (turns_after k w)
+    (w : CableWorld) (k : ℕ) → quiet_turns (length w.nodes) w.delay ≤ k →
+    IsLeftAlone w (turns_after k w)
 left-alone w k long = record {
   events = only_turns k;
   quiet = no-acts k;

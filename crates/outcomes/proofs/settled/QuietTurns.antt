@@ -151,7 +151,8 @@ module _
 
 -- by then no node is in R0 or R1
 pub done-at-last :
-    (hs : HoldSchedule) (w : CableWorld) (k : ℕ) → IsReached w → quiet_turns (length w.nodes) w.delay ≤ k →
+    (hs : HoldSchedule) (w : CableWorld) (k : ℕ) → IsReached w →
+    quiet_turns (length w.nodes) w.delay ≤ k →
     ResetsAreDone (quiet_after hs k w)
 done-at-last hs w k r quiet = done-after hs w k (reached-lawful w r) (omega (arith, quiet, quiet-enough (length w.nodes) w.delay))
 

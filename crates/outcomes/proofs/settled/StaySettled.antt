@@ -71,7 +71,8 @@ module _ (w : CableWorld) (r : IsReached w) (done : ResetsAreDone w) (node set :
     core-after : IsCore v.cabling set core
     core-after = subst (λ (c : Wiring). IsCore c set core) (sym (cabling-after w)) h.is_core
 
-    stays-late : (k : ℕ) (y : PortNode) → Holds core k → slice_get v.nodes k ≡ Some y → StaysLate y.state
+    stays-late : (k : ℕ) (y : PortNode) → Holds core k → slice_get v.nodes k ≡ Some y →
+        StaysLate y.state
     stays-late k y inside at = record { start = y-start; reports = kept.reports (omega (arith, risen-late, timeout)); late = omega (arith, risen-late, delay-after w) }
       where
         early : is_before_tree y.state.view.phase ≡ true
@@ -165,7 +166,8 @@ come-held end k w set (contended a b h) = contended a b (record {
 })
 
 hold-stays :
-    (end : End) (k : ℕ) (w : CableWorld) (node set : ℕ) → hold_fault end w ≡ None → Staying w node set →
+    (end : End) (k : ℕ) (w : CableWorld) (node set : ℕ) → hold_fault end w ≡ None →
+    Staying w node set →
     Staying (hold end k w) node set
 hold-stays end k w node set none s = record {
   reached = hold-reached end k w none s.reached;
@@ -177,7 +179,8 @@ hold-stays end k w node set none s = record {
 }
 
 stays-on :
-    (events : List Event) (w v : CableWorld) (node set : ℕ) → HasNoAct events → Runs events w v → set < 2 ^ 63 →
+    (events : List Event) (w v : CableWorld) (node set : ℕ) → HasNoAct events → Runs events w v →
+    set < 2 ^ 63 →
     Staying w node set → Staying v node set
 stays-on [] w v node set none run small s = subst (λ (u : CableWorld). Staying u node set) (sym run) s
 stays-on (acts a ∷ events) w v node set none run small s = absurd none

@@ -81,7 +81,8 @@ tree-stays (turns ∷ events) w v r none run node set comp small root t h =
 
 -- the nodes of a tree are there after an act
 pub here-after :
-    (a : Act) (w v : CableWorld) → ActLeads a w v → (set root : ℕ) (t : Tree) → IsTree w set root t →
+    (a : Act) (w v : CableWorld) → ActLeads a w v → (set root : ℕ) (t : Tree) →
+    IsTree w set root t →
     (k : ℕ) → Holds set k → k < length v.nodes
 here-after a w v leads set root t h k inside =
     omega (arith, in-tree w set root t h k inside, (act-keeps a w v leads).nodes)
@@ -90,7 +91,8 @@ here-after a w v leads set root t h k inside =
 alone-tree :
     (w v : CableWorld) (r : IsReached w) → IsReached v → (node set : ℕ) → LeavesAlone w v set →
     IsComponent w.cabling node set → set < 2 ^ 63 →
-    ((k : ℕ) → Holds set k → (z : PortNode) × (slice_get v.nodes k ≡ Some z)) → AreIdentifying v set →
+    ((k : ℕ) → Holds set k → (z : PortNode) × (slice_get v.nodes k ≡ Some z)) →
+    AreIdentifying v set →
     (root : ℕ) (t : Tree) → IsTree w set root t → IsTree v set root t
 alone-tree w v r reached node set alone comp small there all root t h =
     rest-tree v (reached-lawful v reached) n.acyclic n.identifies set h.no_loop.core root t still

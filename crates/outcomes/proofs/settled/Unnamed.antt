@@ -25,7 +25,8 @@ pub record GrantedIn (w : CableWorld) (set k : ℕ) : Type 0 where
 -- no Reset is under way to a node in self identify
 pub no-reset-to :
     (w : CableWorld) (set : ℕ) → ResetsAreOverIn w set → (a b : End) (x : PortNode) →
-    Holds set b.node → far w.cabling a ≡ Some b → slice_get w.nodes b.node ≡ Some x → hears_packets x.state.view.phase ≡ true →
+    Holds set b.node → far w.cabling a ≡ Some b → slice_get w.nodes b.node ≡ Some x →
+    hears_packets x.state.view.phase ≡ true →
     has_reset (signals_of (wire_of w a).signals) ≡ false
 no-reset-to w set over a b x in_b e at h = go (has_reset (signals_of (wire_of w a).signals)) refl
   where
@@ -163,8 +164,10 @@ module _
 -- ---- after turns
 
 pub loop-outcome :
-    (hs : HoldSchedule) (w : CableWorld) (k node set core j : ℕ) → IsReached w → turns_to_loops w ≤ k →
-    IsComponent (quiet_after hs k w).cabling node set → IsCore (quiet_after hs k w).cabling set core →
+    (hs : HoldSchedule) (w : CableWorld) (k node set core j : ℕ) → IsReached w →
+    turns_to_loops w ≤ k →
+    IsComponent (quiet_after hs k w).cabling node set →
+    IsCore (quiet_after hs k w).cabling set core →
     Holds core j → IsLoop (quiet_after hs k w) set core
 loop-outcome hs w k node set core j r late comp is_core in_core = record {
   is_core = is_core;

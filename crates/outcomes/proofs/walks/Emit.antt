@@ -17,7 +17,8 @@ shown_by c label parent k = shown_node c label (record { node = k; from = parent
 
 mutual
   shown-tree :
-      (c : Wiring) (label : ℕ → Label) (parent : ℕ → Option ℕ) (x : ℕ) (from : Option ℕ) (t : Tree) →
+      (c : Wiring) (label : ℕ → Label) (parent : ℕ →
+      Option ℕ) (x : ℕ) (from : Option ℕ) (t : Tree) →
       Sees c label x from t → ParentsAre c parent x from t →
       map (shown_node c label) (visits c (record { node = x; from = from }) t)
       ≡ map (shown_by c label parent) (numbers c x t)

@@ -35,7 +35,8 @@ mutual
   down-tree :
       (c : Wiring) (label : ℕ → Label) (parent : ℕ → Option ℕ) (x : ℕ) (from : Option ℕ) (t : Tree)
       → Sees c label x from t → parent x ≡ from →
-      ((k p : ℕ) (b : End) → In k (numbers c x t) → far c (end_at k p) ≡ Some b → parent k ≢ Some p → parent b.node ≡ Some b.port)
+      ((k p : ℕ) (b : End) → In k (numbers c x t) → far c (end_at k p) ≡ Some b →
+      parent k ≢ Some p → parent b.node ≡ Some b.port)
       → ParentsAre c parent x from t
   down-tree c label parent x from (branch a s) h mine all = (
     mine,
@@ -47,9 +48,11 @@ mutual
   down-slots :
       (c : Wiring) (label : ℕ → Label) (parent : ℕ → Option ℕ) (x : ℕ) (from : Option ℕ) (p : ℕ)
       (row : List (Option End)) (s : Slots) → RowAt c x p row → SeesFrom c label from p row s →
-      ((q : ℕ) (b : End) → far c (end_at x q) ≡ Some b → from ≢ Some q → parent b.node ≡ Some b.port)
+      ((q : ℕ) (b : End) → far c (end_at x q) ≡ Some b → from ≢ Some q →
+      parent b.node ≡ Some b.port)
       →
-      ((k q : ℕ) (b : End) → In k (numbers_below c row s) → far c (end_at k q) ≡ Some b → parent k ≢ Some q → parent b.node ≡ Some b.port)
+      ((k q : ℕ) (b : End) → In k (numbers_below c row s) → far c (end_at k q) ≡ Some b →
+      parent k ≢ Some q → parent b.node ≡ Some b.port)
       → ParentsBelow c parent row s
   down-slots c label parent x from p [] s at h own all = tt
   down-slots c label parent x from p (None ∷ row) (unplugged s) at h own all = down-slots c label parent x from (p + 1) row s (row_tail c x p None row at) h own all
