@@ -88,11 +88,7 @@ module _ (w : CableWorld) (l : IsLawful w) (c : IsContested w) (over : ResetsAre
       (a b : End) (x : PortNode) → far w.cabling a ≡ Some b → slice_get w.nodes a.node ≡ Some x →
       is_before_tree x.state.view.phase ≡ false → has_reset (signals_of (wire_of w b).signals)
       ≡ false
-  quiet-to a b x e at late = go (has_reset (signals_of (wire_of w b).signals)) refl
-    where
-      go : (r : Bool) → has_reset (signals_of (wire_of w b).signals) ≡ r → r ≡ false
-      go false s = refl
-      go true s = contrary (start-before_tree x.state.view.phase (over b a x (back a b e) at s)) late
+  quiet-to a b x e at late = false_from_ne_true _ (λ s. contrary (start-before_tree x.state.view.phase (over b a x (back a b e) at s)) late)
 
   drawn-late : (k : ℕ) → (h : HasDrawn w k) → is_before_tree h.node.state.view.phase ≡ false
   drawn-late k h = false_from_ne_true _ (λ e. omega (arith, h.some, (c.nodes k h.node h.at).fresh e))

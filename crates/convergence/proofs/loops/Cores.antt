@@ -1,6 +1,6 @@
 -- Where resets are over, no node of a loop takes its roles, and a component has one root at most.
 use Rattle.std.proofs.Common.{◌≡◌, ◌≢◌, inl, inr, ℕ, zero, suc, Bool, true, false, not, Some, slice_get, refl, sym, ◌∙◌, ap, subst, arith}
-use Rattle.std.proofs.lemmas.Bool.{cases_eq, true_from_ne_false}
+use Rattle.std.proofs.lemmas.Bool.{cases_eq, true_from_ne_false, false_from_ne_true}
 use Rattle.std.proofs.lemmas.Option.{slice_get_within}
 use Rattle.convergence.proofs.Common.{End, far, Holds, IsComponent, HasTwo, IsCore, end_at, is_port, PortNode, CableWorld, wire_of, is_before_tree, signals_of, has_reset, leads_down, IsLawful, child-if, some-at, some-same, cable-connected, late-roles, start-before_tree, AreJoined, IsChildCable, IsAcyclic, IsRoot, contrary}
 use Rattle.cabling.specs.NodeSet.{IsWithin}
@@ -57,14 +57,10 @@ module _ (w : CableWorld) (l : IsLawful w) (set : ℕ) (over : ResetsAreOverIn w
   pub down-in :
       (a b : End) → Holds set a.node → far w.cabling a ≡ Some b → (n : IsLate w a.node) →
       is_port n.node.state.view.parent a.port ≡ false → IsChildCable w a b
-  down-in a b h e n other = leads-down w l a b e n (go (has_reset (signals_of (wire_of w b).signals)) refl) other
+  down-in a b h e n other = leads-down w l a b e n (false_from_ne_true _ (λ s. contrary (start-before_tree n.node.state.view.phase (over b a n.node h back n.at s)) n.late)) other
     where
       back : far w.cabling b ≡ Some a
       back = l.well_formed.cabling.both_ways a b e
-
-      go : (r : Bool) → has_reset (signals_of (wire_of w b).signals) ≡ r → r ≡ false
-      go false s = refl
-      go true s = contrary (start-before_tree n.node.state.view.phase (over b a n.node h back n.at s)) n.late
 
   -- ---- loops
 

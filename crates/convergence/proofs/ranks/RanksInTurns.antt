@@ -1,5 +1,6 @@
 -- A turn keeps a world acyclic: all nodes that take their roles in it get ranks above the others.
 use Rattle.std.proofs.Common.{◌≡◌, ◌⊎◌, inl, inr, ℕ, ◌+◌, ◌<◌, ◌≤◌, Bool, true, false, ◌&&◌, ◌||◌, List, [], Option, Some, None, slice_get, refl, sym, ◌∙◌, ap, subst, arith, if◌then◌else◌, true≢false}
+use Rattle.std.proofs.lemmas.Bool.{false_from_ne_true}
 use Rattle.convergence.proofs.Common.{Level, Phase, Signal, NodeState, coin, is_connected, is_port, is_resetting, PortNode, End, Wiring, far, ports_of, age_wire, gives, CableWorld, wire_of, inbox, turn_at, turn, hear_all, is_before_tree, is_shaking, signals_of, has_reset, level_shown, leads_down, level_after, Coupling, IsLawful, cabling-after, before, hears, ticks, cable-connected, tree_start-known, turn-state, comes, IsAcyclic, contrary}
 use Rattle.port_state.specs.declared.signal.Level.TheVariants as level
 use Rattle.port_state.specs.declared.signal.Phase.TheVariants as phase
@@ -75,11 +76,7 @@ none-above w l a b x y e at_x at_y start child = elim (child-kept w l a.node x a
     parentless = early-parentless y.state (l.well_formed.nodes b.node y at_y).valid (ap is_before_tree start)
 
     no-reset : has_reset (signals_of (wire_of w b).signals) ≡ false
-    no-reset = go (has_reset (signals_of (wire_of w b).signals)) refl
-      where
-        go : (r : Bool) → has_reset (signals_of (wire_of w b).signals) ≡ r → r ≡ false
-        go false s = refl
-        go true s = contrary (here.reset s) (ap is_resetting start)
+    no-reset = false_from_ne_true _ (λ s. contrary (here.reset s) (ap is_resetting start))
 
     is_asking_there : Bool
     is_asking_there = is_port x.state.view.parent a.port

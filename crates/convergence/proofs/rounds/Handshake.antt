@@ -2,6 +2,7 @@
 -- and go on, and it sees
 -- their Idle d turns later.
 use Rattle.std.proofs.Common.{◌≡◌, ◌⊎◌, inl, inr, ℕ, zero, suc, ◌+◌, ◌-◌, ◌≤◌, Bool, true, false, Option, Some, None, is_some, slice_get, refl, sym, ◌∙◌, ap, subst, arith, add-one, true≢false}
+use Rattle.std.proofs.lemmas.Bool.{false_from_ne_true}
 use Rattle.convergence.proofs.Common.{End, Wiring, far, Holds, end_at, Phase, NodeState, coin, is_idle, is_child, is_port, is_connected, tick, PortNode, CableWorld, level_sent, level_shown, leads_down, is_before_tree, is_shaking, after-delay, cable-connected, some-same, no-quiet, quiet-then, after-cabling, HoldSchedule, holds_after, quiet_after, IsChildCable, contrary}
 use Rattle.port_state.specs.declared.signal.Phase.TheVariants as phase
 use Rattle.convergence.proofs.turns.CalmTurns.{Calmly, heard_by}
@@ -156,12 +157,8 @@ module _ (hs : HoldSchedule) (v : CableWorld) (set : ℕ) (g : Grown v set) (u :
         let k = cable i in
         let gi = grown-after hs v set g i in
         let back : far (later i).cabling b ≡ Some (end_at u p) = gi.lawful.well_formed.cabling.both_ways (end_at u p) b k.joined in
-        idle-out y.state.view.phase (leads_down y.state.view.ports b.port) (gi.late b.node y (gi.closed (end_at u p) b k.joined in_set) at) (go (is_shaking y.state.view.phase) refl)
+        idle-out y.state.view.phase (leads_down y.state.view.ports b.port) (gi.late b.node y (gi.closed (end_at u p) b k.joined in_set) at) (false_from_ne_true _ (λ h. elim (shake-two y.state.view.phase h) [ inl f ↦ never i y at f | inr f ↦ gone-on i d c y at f ]))
         (parent-only (later i) set gi b (end_at u p) y back at (ap (λ (n : PortNode). is_port n.state.view.parent b.port) (some-same y k.below (sym at ∙ k.below_at)) ∙ k.parent))
-      where
-        go : (q : Bool) → is_shaking y.state.view.phase ≡ q → q ≡ false
-        go false h = refl
-        go true h = absurd (elim (shake-two y.state.view.phase h) [ inl f ↦ never i y at f | inr f ↦ gone-on i d c y at f ])
 
     abbrev D : ℕ → Type 0
     D i = C (v.delay + i)

@@ -3,7 +3,7 @@
 use Rattle.std.proofs.Common.{◌≡◌, ◌⊎◌, inl, inr, ℕ, zero, suc, ◌+◌, ◌*◌, ◌<◌, ◌≤◌, Bool, true, false, if◌then◌else◌, List, Some, slice_get, refl, sym, ◌∙◌, ap, subst, arith, add-one}
 use Rattle.std.specs.Prelude.{min, nat_lt, bit_or, ◌^◌}
 use Rattle.std.proofs.lemmas.Bool.{cases_lt}
-use Rattle.convergence.proofs.Common.{End, Wiring, far, IsCore, NodeState, coin, draws_with, tick, PortNode, CableWorld, wire_of, turn_at, turn, node-after, cabling-after, after-delay, some-of, some-at, some-same, one-quiet, no-quiet, quiet-then, PlacedHold, HoldSchedule, holds_after, with_holds, quiet_after, AddsDraw, DrewTogether, AreRivals}
+use Rattle.convergence.proofs.Common.{End, Wiring, far, IsCore, NodeState, coin, draws_with, tick, PortNode, CableWorld, wire_of, turn_at, turn, node-after, cabling-after, after-delay, some-of, some-at, some-same, one-quiet, no-quiet, quiet-then, PlacedHold, HoldSchedule, holds_after, with_holds, quiet_after, AddsDraw, DrewTogether, AreRivals, end_at}
 use Rattle.cable_world.specs.Outcome.{Shows, HasNoLoop, DrewAlike}
 use Rattle.convergence.specs.Milestones.{HasContention}
 use Rattle.convergence.proofs.turns.CalmTurns.{Calmly, heard_by}
@@ -146,7 +146,7 @@ module _ (w : CableWorld) (set : ℕ) (g : Grown w set) where
           holds_b = h.is.holds_b;
           port_a = h.is.port_a;
           port_b = h.is.port_b;
-          cable = ap (λ (c : Wiring). far c (record { node = h.low; port = h.is.port_a })) (cabling-after w) ∙ h.is.cable;
+          cable = ap (λ (c : Wiring). far c (end_at h.low h.is.port_a)) (cabling-after w) ∙ h.is.cable;
           draws = some-at (slice_get (turn w).nodes h.low) (turn_at w h.low n.0).node (λ (z : PortNode). Shows (turn w) h.high (λ u. DrewAlike z.state.view u)) (node-after w h.low n.0 g.lawful.well_formed.count n.1)
               (some-at (slice_get (turn w).nodes h.high) (turn_at w h.high o.0).node (λ (z : PortNode). DrewAlike (turn_at w h.low n.0).node.state.view z.state.view) (node-after w h.high o.0 g.lawful.well_formed.count o.1)
               (record { many = p.many; many_too = q.many; alike = p.first ∙ o.2.alike ∙ sym q.first }));

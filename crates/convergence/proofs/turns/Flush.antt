@@ -3,6 +3,7 @@
 -- way, so the other end then shows what was told last; and one that doesn't give for d turns has a
 -- signal that is due.
 use Rattle.std.proofs.Common.{◌≡◌, ℕ, zero, suc, ◌+◌, ◌-◌, ◌<◌, ◌≤◌, Bool, true, false, List, [], ◌∷◌, ◌++◌, map, Some, slice_get, if◌then◌else◌, refl, sym, ◌∙◌, ap, subst, arith, add-one, true≢false}
+use Rattle.std.proofs.lemmas.Bool.{true_from_ne_false}
 use Rattle.convergence.proofs.Common.{Level, NodeState, PortNode, End, Wiring, far, ports_of, Travelling, age_wire, gives, new_signal, CableWorld, wire_of, inbox, turn_at, turn, signals_of, level_shown, level_after, level_sent_at, AgesFall, IsLawful, before, hears, ticks, side, side-wire, after-delay, cable-connected, departures, turn-state, comes, holds-signals, one-quiet, quiet-lawful, after-cabling, turn-lawful, PlacedHold, HoldSchedule, with_holds, quiet_after, contrary}
 use Rattle.cable_world.specs.Wire.{age_signal}
 use Rattle.convergence.proofs.turns.Cables.{joined-of}
@@ -114,11 +115,7 @@ module _
       (due-next (quiet_after hs i w) (quiet-lawful hs i w l) a b (cable i) test (tell i d) i (due i d))))
 
   pub flush : (i : ℕ) → w.delay ≤ i → C i → Shown (quiet_after hs i w) b test
-  flush i late c y at = go (test (level_shown y.state b.port)) refl
-    where
-      go : (r : Bool) → test (level_shown y.state b.port) ≡ r → r ≡ true
-      go true s = refl
-      go false s =
-          let m : IsLawful (quiet_after hs i w) = quiet-lawful hs i w l in
-          let some : 1 ≤ w.delay = l.well_formed.some_delay in
-          absurd (front-young i ((quiet_after hs i w).delay - 1) (wire_of (quiet_after hs i w) a).signals (omega (arith, some, late)) (omega (arith, some, late, after-delay hs w l i)) (m.well_formed.ages a) (due i c y at s))
+  flush i late c y at = true_from_ne_false _ (λ s.
+      let m : IsLawful (quiet_after hs i w) = quiet-lawful hs i w l in
+      let some : 1 ≤ w.delay = l.well_formed.some_delay in
+      front-young i ((quiet_after hs i w).delay - 1) (wire_of (quiet_after hs i w) a).signals (omega (arith, some, late)) (omega (arith, some, late, after-delay hs w l i)) (m.well_formed.ages a) (due i c y at s))

@@ -3,7 +3,7 @@
 -- turns: one whose neighbours but the one up its way, towards the node that waits, left before.
 use Rattle.std.proofs.Common.{◌≡◌, ◌≢◌, ◌⊎◌, inl, inr, ℕ, zero, suc, ◌+◌, ◌-◌, ◌*◌, ◌<◌, ◌≤◌, Bool, true, false, not, ◌&&◌, ◌==◌, length, Option, Some, None, is_some, slice_get, refl, sym, ◌∙◌, ap, subst, arith, true≢false}
 use Rattle.std.specs.Int.{bit_at}
-use Rattle.std.proofs.lemmas.Bool.{eqb-true, eq-eqb, ne_eqb, and_from, and_parts, cases_eq}
+use Rattle.std.proofs.lemmas.Bool.{eqb-true, eq-eqb, ne_eqb, and_from, and_parts, cases_eq, false_from_ne_true}
 use Rattle.std.proofs.lemmas.Option.{slice_get_within}
 use Rattle.outcomes.proofs.Common.{contrary, PortView, NodeState, is_parent, passes, is_connected, is_port, is_resetting, raise_timer, PortNode, End, Wiring, far, Holds, IsClosed, WaysUp, end_at, CableWorld, is_before_tree, level_shown, shown_or_idle, IsLawful, after-delay, after-length, quiet-then, quiet-lawful, after-cabling, HoldSchedule, holds_after, quiet_after, ResetsAreDone, signals, heard_by, same-port, is-port}
 use Rattle.outcomes.specs.WaysUp.{Lowest}
@@ -190,11 +190,7 @@ module _ (hs : HoldSchedule) (v : CableWorld) (l : IsLawful v) (done : ResetsAre
   time-is (suc c) = let z : suc c * v.delay ≡ c * v.delay + v.delay = grind arith in omega (arith, z, time-is c)
 
   not-all : count (member 0) (length v.nodes) + 1 ≤ length v.nodes
-  not-all = omega (arith, count-most (λ j. true) (length v.nodes), count-less (member 0) (λ j. true) (λ j f. refl) (length v.nodes) top there (out (member 0 top) refl) refl)
-    where
-      out : (b : Bool) → member 0 top ≡ b → b ≡ false
-      out false e = refl
-      out true e = absurd ((member-parts 0 top e).other refl)
+  not-all = omega (arith, count-most (λ j. true) (length v.nodes), count-less (member 0) (λ j. true) (λ j f. refl) (length v.nodes) top there (false_from_ne_true _ (λ e. (member-parts 0 top e).other refl)) refl)
 
   -- after so many times d turns so many are gone, or all
   fewer :

@@ -4,7 +4,7 @@
 use Rattle.std.proofs.Math.Nat.{mul-le-mul_left}
 use Rattle.std.proofs.Common.{◌≡◌, ◌⊎◌, inl, inr, ℕ, zero, suc, ◌+◌, ◌-◌, ◌*◌, ◌<◌, ◌≤◌, Bool, true, false, ◌&&◌, ◌==◌, List, [], ◌∷◌, Option, Some, None, length, slice_get, refl, sym, ◌∙◌, ap, subst, arith, add-one, true≢false}
 use Rattle.std.specs.Int.{bit_at}
-use Rattle.std.proofs.lemmas.Bool.{eqb-true, eq-eqb, and_from, and_parts, cases_lt, true_from_ne_false}
+use Rattle.std.proofs.lemmas.Bool.{eqb-true, eq-eqb, and_from, and_parts, cases_lt, true_from_ne_false, false_from_ne_true}
 use Rattle.std.proofs.lemmas.Option.{slice_get_within}
 use Rattle.outcomes.proofs.Common.{contrary, Level, Phase, Signal, NodeState, Timing, coin, is_resetting, tick, PortNode, End, Wiring, far, Holds, IsComponent, plugged, shared, CableWorld, wire_of, turn_at, turn, level_sent, level_shown, leads_down, level_after, is_in_bus_reset, signals_of, has_reset, IsLawful, IsFresh, node-after, before, in-turn, after-delay, cable-connected, some-of, some-same, turn-state, one-quiet, no-quiet, quiet-lawful, after-cabling, turn-lawful, joined-of, signals, heard_by, in-component, PlacedHold, HoldSchedule, with_holds, quiet_after}
 use Rattle.port_state.specs.declared.signal.Level.TheVariants as level
@@ -221,11 +221,7 @@ module _
       out-of :
           (t : ℕ) → t ≤ w.delay → (y : PortNode) → slice_get (later t).nodes b.node ≡ Some y →
           is_resetting y.state.view.phase ≡ false
-      out-of t h y at = go (is_resetting y.state.view.phase) refl
-        where
-          go : (c : Bool) → is_resetting y.state.view.phase ≡ c → c ≡ false
-          go false f = refl
-          go true f = absurd (never t h (record { node = y; at = at; resets = f }))
+      out-of t h y at = false_from_ne_true _ (λ f. never t h (record { node = y; at = at; resets = f }))
 
       under-way : (t : ℕ) → t ≤ w.delay → OldReset t (wire_of (later t) a).signals
       under-way zero h =

@@ -6,7 +6,7 @@
 use Rattle.std.proofs.Common.{◌≡◌, ◌≢◌, ◌⊎◌, inl, inr, ℕ, zero, suc, ◌-◌, ◌<◌, ◌≤◌, Bool, true, false, not, ◌&&◌, List, [], Option, Some, None, slice_get, length, refl, sym, ◌∙◌, ap, subst, arith, true≢false}
 use Rattle.std.proofs.lemmas.Bool.{eq-eqb, cases_eq, cases_lt, false_from_ne_true}
 use Rattle.std.proofs.lemmas.Option.{slice_get_within}
-use Rattle.outcomes.proofs.Common.{contrary, End, far, Holds, IsClosed, IsComponent, shared, Phase, SelfIdent, Signal, PortView, passes, is_connected, is_port, hears_packets, PortNode, CableWorld, wire_of, signals_of, leads_down, IsLawful, joined-of, in-component, same-port, some-same, IsAcyclic, is_ready, is_asked, is_named, IsMarked, is_grant, is_done, has_grant, has_done, parent_mode, child_mode, mode, IsIdentifying}
+use Rattle.outcomes.proofs.Common.{contrary, End, far, Holds, IsClosed, IsComponent, shared, Phase, SelfIdent, Signal, PortView, passes, is_connected, is_port, hears_packets, PortNode, CableWorld, wire_of, signals_of, leads_down, IsLawful, joined-of, in-component, same-port, some-same, IsAcyclic, is_ready, is_asked, is_named, IsMarked, is_grant, is_done, has_grant, has_done, parent_mode, child_mode, mode, IsIdentifying, end_at}
 use Rattle.cabling.proofs.Lemmas.{same_end, one_other}
 use Rattle.cable_world.specs.Wire.{Wire}
 use Rattle.outcomes.specs.Holders.{Holder, grant, done, node, IsHolder, place, how_many, HasOneHolder}
@@ -41,10 +41,10 @@ module _
 
     other-at :
         (k p : ℕ) (x : PortNode) → Holds set k → slice_get w.nodes k ≡ Some x →
-        is_connected x.state.view.ports p ≡ true → Other (record { node = k; port = p })
+        is_connected x.state.view.ports p ≡ true → Other (end_at k p)
     other-at k p x h at on =
-        let b = end-of (far w.cabling (record { node = k; port = p })) (sym ((l.well_formed.nodes k x at).connected p) ∙ on) in
-        other-of (record { node = k; port = p }) b.0 h b.1
+        let b = end-of (far w.cabling (end_at k p)) (sym ((l.well_formed.nodes k x at).connected p) ∙ on) in
+        other-of (end_at k p) b.0 h b.1
 
     -- a granted node that isn't in A0
     record Active (k : ℕ) : Type 0 where
@@ -62,15 +62,15 @@ module _
 
     -- a child that it awaits
     record Child (k : ℕ) (x : PortNode) (p : ℕ) : Type 0 where
-      other : Other (record { node = k; port = p })
-      above : IsAbove w (record { node = k; port = p }) other.end x other.is
+      other : Other (end_at k p)
+      above : IsAbove w (end_at k p) other.end x other.is
 
     child-of : (k : ℕ) (a : Active k) (p : ℕ) → is_asked a.is.state p ≡ true → Child k a.is p
     child-of k a p asked =
         let child : leads_down a.is.state.view.ports p ≡ true = (active-marked k a).asked p asked in
         let on = (child-role a.is.state p (l.well_formed.nodes k a.is a.at).valid (hears-late a.is.state.view.phase (active-hears k a)) child).1 in
         let o = other-at k p a.is a.inside a.at on in
-        record { other = o; above = lists.child-above w l i (record { node = k; port = p }) o.end a.is o.is o.joined a.at o.at (active-hears k a) o.hears child }
+        record { other = o; above = lists.child-above w l i (end_at k p) o.end a.is o.is o.joined a.at o.at (active-hears k a) o.hears child }
 
     -- one that is active too
     record Step (u c : ℕ) : Type 0 where
@@ -95,8 +95,8 @@ module _
     -- the parent of a node
     record Above (k : ℕ) (x : PortNode) : Type 0 where
       port : ℕ
-      other : Other (record { node = k; port = port })
-      above : IsAbove w other.end (record { node = k; port = port }) other.is x
+      other : Other (end_at k port)
+      above : IsAbove w other.end (end_at k port) other.is x
 
     above-of :
         (k : ℕ) (x : PortNode) → Holds set k → slice_get w.nodes k ≡ Some x →
@@ -111,7 +111,7 @@ module _
         go (Some q) e =
             let p : is_port x.state.view.parent q ≡ true = ap (λ o. is_port o q) e ∙ eq-eqb q q refl in
             let o = other-at k q x h at (parent-connected x.state q (l.well_formed.nodes k x at).valid hears p) in
-            inr (record { port = q; other = o; above = lists.parent-below w l i (record { node = k; port = q }) o.end x o.is o.joined at o.at hears o.hears p })
+            inr (record { port = q; other = o; above = lists.parent-below w l i (end_at k q) o.end x o.is o.joined at o.at hears o.hears p })
 
     -- a node in A0 has no child that isn't
     parent-unready :
@@ -128,7 +128,7 @@ module _
         (c : IsAcyclic w) (k : ℕ) (x : PortNode) → slice_get w.nodes k ≡ Some x → (a : Above k x) →
         c.rank k < c.rank a.other.end.node
     above-falls c k x at a =
-        rank-falls c a.other.end.node k a.other.end (record { node = k; port = a.port }) a.other.is x refl refl (l.well_formed.cabling.both_ways (record { node = k; port = a.port }) a.other.end a.other.joined) a.other.at at a.above
+        rank-falls c a.other.end.node k a.other.end (end_at k a.port) a.other.is x refl refl (l.well_formed.cabling.both_ways (end_at k a.port) a.other.end a.other.joined) a.other.at at a.above
 
     active-or-above :
         (k : ℕ) (x : PortNode) → Holds set k → slice_get w.nodes k ≡ Some x →
@@ -165,8 +165,8 @@ module _
           port = a.other.end.port;
           child = record {
             other = record {
-              end = record { node = k; port = a.port };
-              joined = l.well_formed.cabling.both_ways (record { node = k; port = a.port }) a.other.end a.other.joined;
+              end = end_at k a.port;
+              joined = l.well_formed.cabling.both_ways (end_at k a.port) a.other.end a.other.joined;
               is = v.is;
               at = v.at;
               inside = v.inside;
@@ -192,9 +192,9 @@ module _
     one-step (suc n) u v z d s = (d.0, d.1, one-step n d.0 v z d.2 s)
 
     same-end :
-        (u p q : ℕ) → p ≡ q → (o : Other (record { node = u; port = p }))
-        (r : Other (record { node = u; port = q })) → o.end ≡ r.end
-    same-end u p q e o r = one_other (far w.cabling (record { node = u; port = p })) o.end r.end o.joined (ap (λ j. far w.cabling (record { node = u; port = j })) e ∙ r.joined)
+        (u p q : ℕ) → p ≡ q → (o : Other (end_at u p))
+        (r : Other (end_at u q)) → o.end ≡ r.end
+    same-end u p q e o r = one_other (far w.cabling (end_at u p)) o.end r.end o.joined (ap (λ j. far w.cabling (end_at u j)) e ∙ r.joined)
 
     step-port :
         (u c : ℕ) (x : PortNode) → slice_get w.nodes u ≡ Some x → (s : Step u c) → (p : ℕ) →
@@ -314,7 +314,7 @@ module _
 
     -- how an active node has one
     Owned : (v : ℕ) → PortNode → Holder → Type 0
-    Owned v x (grant e) = (p : ℕ) × (e ≡ record { node = v; port = p }) × (is_asked x.state p ≡ true) × (is_named x.state p ≡ false) × (c : Child v x p) × (c.other.is.state.view.granted ≡ false)
+    Owned v x (grant e) = (p : ℕ) × (e ≡ end_at v p) × (is_asked x.state p ≡ true) × (is_named x.state p ≡ false) × (c : Child v x p) × (c.other.is.state.view.granted ≡ false)
     Owned v x (done e) = (p : ℕ) × (is_asked x.state p ≡ true) × (is_named x.state p ≡ false) × (c : Child v x p) × (e ≡ c.other.end) × (is_ready c.other.is.state.view.phase ≡ true)
     Owned v x (node k) = (k ≡ v) × ((p : ℕ) → (is_asked x.state p && not (is_named x.state p)) ≡ false)
 
@@ -372,7 +372,7 @@ module _
             go :
                 (g r : Bool) → c.other.is.state.view.granted ≡ g →
                 is_ready c.other.is.state.view.phase ≡ r → Found ⊎ ((v : ℕ) × Step k v)
-            go false r eg er = inl (record { holder = grant (record { node = k; port = p }); inside = a.inside; is = c.above.line.granting ∙ (rw (asked, eg) refl) })
+            go false r eg er = inl (record { holder = grant (end_at k p); inside = a.inside; is = c.above.line.granting ∙ (rw (asked, eg) refl) })
             go true true eg er = inl (record { holder = done c.other.end; inside = c.other.inside; is = c.above.line.naming ∙ (rw (er, unnamed) refl) })
             go true false eg er = inr (
               c.other.end.node,
@@ -388,7 +388,7 @@ module _
             )
 
     step-falls : (c : IsAcyclic w) (u v : ℕ) → Step u v → c.rank v < c.rank u
-    step-falls c u v s = rank-falls c u v (record { node = u; port = s.port }) s.child.other.end s.from.is s.child.other.is refl s.is s.child.other.joined s.from.at s.child.other.at s.child.above
+    step-falls c u v s = rank-falls c u v (end_at u s.port) s.child.other.end s.from.is s.child.other.is refl s.is s.child.other.joined s.from.at s.child.other.at s.child.above
 
     some-holder : (c : IsAcyclic w) (n k : ℕ) → c.rank k ≤ n → Active k → Found
     some-holder c zero k low a = elim (goes-on k a) [ inl f ↦ f | inr s ↦ absurd (omega (arith, low, step-falls c k s.0 s.1)) ]
@@ -494,7 +494,7 @@ module _
         (h k : Holder) (v : ℕ) (x : PortNode) → slice_get w.nodes v ≡ Some x → Owned v x h →
         Owned v x k → h ≡ k
     unfolding Owned
-    same-holder (grant e) (grant f) v x at o q = ap grant (o.1 ∙ ap (λ (p : ℕ). record { node = v; port = p }) (one-awaited x.state (i.nodes v x at) o.0 q.0 o.2 o.3 q.2 q.3) ∙ sym q.1)
+    same-holder (grant e) (grant f) v x at o q = ap grant (o.1 ∙ ap (λ (p : ℕ). end_at v p) (one-awaited x.state (i.nodes v x at) o.0 q.0 o.2 o.3 q.2 q.3) ∙ sym q.1)
     same-holder (done e) (done f) v x at o q = ap done (o.4 ∙ child-same v x at o.0 q.0 o.1 o.2 q.1 q.2 o.3 q.3 ∙ sym q.4)
     same-holder (node j) (node k) v x at o q = ap node (o.0 ∙ sym q.0)
     same-holder (grant e) (done f) v x at o q =

@@ -378,11 +378,7 @@ module _ (d : ℕ) (x y : Side) (t : Told d x y) where
 
       none :
           (z : NodeState) → IsMarked z → hears_packets z.view.phase ≡ false → z.view.granted ≡ false
-      none z m e = by z.view.granted refl
-        where
-          by : (b : Bool) → z.view.granted ≡ b → b ≡ false
-          by true g = contrary (m.granted g) e
-          by false g = refl
+      none z m e = false_from_ne_true _ (λ g. contrary (m.granted g) e)
 
       not-hearing : (b : Bool) → hears_packets x.node.view.phase ≡ b → b ≡ false
       not-hearing true e = contrary (ticks-on x.coin (hearing x).state (ap hears_packets h.phase ∙ e)) n
@@ -445,28 +441,16 @@ module _ (d : ℕ) (x y : Side) (t : Told d x y) where
       unasked :
           (z : NodeState) → IsMarked z → hears_packets z.view.phase ≡ false → (q : ℕ) →
           is_asked z q ≡ false
-      unasked z m e q = by (is_asked z q) refl
-        where
-          by : (b : Bool) → is_asked z q ≡ b → b ≡ false
-          by true g = absurd (none-asked z m e q g)
-          by false g = refl
+      unasked z m e q = false_from_ne_true _ (λ g. none-asked z m e q g)
 
       unnamed :
           (z : NodeState) → IsMarked z → hears_packets z.view.phase ≡ false → (q : ℕ) →
           is_named z q ≡ false
-      unnamed z m e q = by (is_named z q) refl
-        where
-          by : (b : Bool) → is_named z q ≡ b → b ≡ false
-          by true g = absurd (none-asked z m e q (m.named q g))
-          by false g = refl
+      unnamed z m e q = false_from_ne_true _ (λ g. none-asked z m e q (m.named q g))
 
       not-ready :
           (z : NodeState) → IsMarked z → z.view.granted ≡ false → is_ready z.view.phase ≡ false
-      not-ready z m g = by (is_ready z.view.phase) refl
-        where
-          by : (b : Bool) → is_ready z.view.phase ≡ b → b ≡ false
-          by true e = contrary (m.ready e) g
-          by false e = refl
+      not-ready z m g = false_from_ne_true _ (λ e. contrary (m.ready e) g)
 
       go :
           (b : Bool) → hears_packets x.node.view.phase ≡ b →

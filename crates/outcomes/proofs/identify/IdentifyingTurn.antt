@@ -1,6 +1,6 @@
 -- A turn of a lawful world keeps what is so of self identify.
 use Rattle.std.proofs.Common.{◌≡◌, ℕ, ◌+◌, ◌≤◌, length, Bool, true, false, List, [], Option, Some, None, slice_get, if◌then◌else◌, refl, sym, ◌∙◌, ap, subst, arith}
-use Rattle.outcomes.proofs.Common.{Signal, coin, sent_on, hears_packets, PortNode, End, Wiring, far, ports_of, age_wire, gives, CableWorld, wire_of, inbox, turn_at, turn, signals_of, IsLawful, cabling-after, side, side-wire, before, turn-state, comes, joined-of, quads_in, Mode, mode, fits, Greets, Identifies, IsIdentifying}
+use Rattle.outcomes.proofs.Common.{Signal, coin, sent_on, hears_packets, PortNode, End, Wiring, far, ports_of, age_wire, gives, CableWorld, wire_of, inbox, turn_at, turn, signals_of, IsLawful, cabling-after, side, side-wire, before, turn-state, comes, joined-of, quads_in, Mode, mode, fits, Greets, Identifies, IsIdentifying, end_at}
 use Rattle.cable_world.specs.Turn.{signals_from}
 use Rattle.cable_world.proofs.Lemmas.{delay-after, side-node, hears, ready, inbox-at}
 use Rattle.outcomes.proofs.identify.MarksKept.{tick-marked}
@@ -13,7 +13,7 @@ module _ (w : CableWorld) (l : IsLawful w) (i : IsIdentifying w) where
   may-come :
       (k : ℕ) (x : PortNode) → slice_get w.nodes k ≡ Some x →
       hears_packets x.state.view.phase ≡ true → MayCome x.state (inbox w 0 (ports_of w.cabling k))
-  may-come k x at h p = go (far w.cabling (record { node = k; port = p })) refl
+  may-come k x at h p = go (far w.cabling (end_at k p)) refl
     where
       given-fits :
           (m : Mode) (g : Bool) (ss : List Signal) → fits m ss ≡ true →
@@ -22,21 +22,21 @@ module _ (w : CableWorld) (l : IsLawful w) (i : IsIdentifying w) where
       given-fits m false ss f = refl
 
       go :
-          (o : Option End) → far w.cabling (record { node = k; port = p }) ≡ o →
+          (o : Option End) → far w.cabling (end_at k p) ≡ o →
           fits (mode x.state p) (sent_on p (inbox w 0 (ports_of w.cabling k))) ≡ true
       go None none =
           let z : 0 + p ≡ p = omega arith in
-          ap (fits (mode x.state p)) (subst (λ n. sent_on n (inbox w 0 (ports_of w.cabling k)) ≡ signals_from w (far w.cabling (record { node = k; port = p }))) z (inbox-at w 0 p (ports_of w.cabling k)) ∙ ap (signals_from w) none)
+          ap (fits (mode x.state p)) (subst (λ n. sent_on n (inbox w 0 (ports_of w.cabling k)) ≡ signals_from w (far w.cabling (end_at k p))) z (inbox-at w 0 p (ports_of w.cabling k)) ∙ ap (signals_from w) none)
       go (Some b) there =
-          let back : far w.cabling b ≡ Some (record { node = k; port = p }) = l.well_formed.cabling.both_ways (record { node = k; port = p }) b there in
-          let n = joined-of w (record { node = k; port = p }) b l.well_formed there in
-          ap (fits (mode x.state p)) (comes w b (record { node = k; port = p }) there)
-          ∙ given-fits (mode x.state p) (gives w.delay (age_wire (wire_of w b))) (signals_of (wire_of w b).signals) ((i.cables (record { node = k; port = p }) b x n.other there at n.other_at).front h)
+          let back : far w.cabling b ≡ Some (end_at k p) = l.well_formed.cabling.both_ways (end_at k p) b there in
+          let n = joined-of w (end_at k p) b l.well_formed there in
+          ap (fits (mode x.state p)) (comes w b (end_at k p) there)
+          ∙ given-fits (mode x.state p) (gives w.delay (age_wire (wire_of w b))) (signals_of (wire_of w b).signals) ((i.cables (end_at k p) b x n.other there at n.other_at).front h)
 
   has-room :
       (k : ℕ) (x : PortNode) → slice_get w.nodes k ≡ Some x →
       hears_packets x.state.view.phase ≡ true → HasRoom x.state (inbox w 0 (ports_of w.cabling k))
-  has-room k x at h p = go (far w.cabling (record { node = k; port = p })) refl
+  has-room k x at h p = go (far w.cabling (end_at k p)) refl
     where
       bounded : length x.state.list.items ≤ 252
       bounded = (l.well_formed.nodes k x at).valid.bounded.list
@@ -48,17 +48,17 @@ module _ (w : CableWorld) (l : IsLawful w) (i : IsIdentifying w) where
       given-room false ss f = omega (arith, bounded)
 
       go :
-          (o : Option End) → far w.cabling (record { node = k; port = p }) ≡ o →
+          (o : Option End) → far w.cabling (end_at k p) ≡ o →
           length x.state.list.items + length (quads_in (sent_on p (inbox w 0 (ports_of w.cabling k))))
           ≤ 252
       go None none =
           let z : 0 + p ≡ p = omega arith in
-          let nothing : sent_on p (inbox w 0 (ports_of w.cabling k)) ≡ [] = subst (λ n. sent_on n (inbox w 0 (ports_of w.cabling k)) ≡ signals_from w (far w.cabling (record { node = k; port = p }))) z (inbox-at w 0 p (ports_of w.cabling k)) ∙ ap (signals_from w) none in
+          let nothing : sent_on p (inbox w 0 (ports_of w.cabling k)) ≡ [] = subst (λ n. sent_on n (inbox w 0 (ports_of w.cabling k)) ≡ signals_from w (far w.cabling (end_at k p))) z (inbox-at w 0 p (ports_of w.cabling k)) ∙ ap (signals_from w) none in
           omega (arith, bounded, ap (λ ss. length (quads_in ss)) nothing)
       go (Some b) there =
-          let n = joined-of w (record { node = k; port = p }) b l.well_formed there in
-          subst (λ ss. length x.state.list.items + length (quads_in ss) ≤ 252) (sym (comes w b (record { node = k; port = p }) there))
-          (given-room (gives w.delay (age_wire (wire_of w b))) (signals_of (wire_of w b).signals) ((i.cables (record { node = k; port = p }) b x n.other there at n.other_at).room h))
+          let n = joined-of w (end_at k p) b l.well_formed there in
+          subst (λ ss. length x.state.list.items + length (quads_in ss) ≤ 252) (sym (comes w b (end_at k p) there))
+          (given-room (gives w.delay (age_wire (wire_of w b))) (signals_of (wire_of w b).signals) ((i.cables (end_at k p) b x n.other there at n.other_at).room h))
 
   pub told :
       (a b : End) (x y : PortNode) → far w.cabling a ≡ Some b → slice_get w.nodes a.node ≡ Some x →

@@ -158,11 +158,7 @@ module _
   below-packet quad a free l = subst (λ ss. Lined x p there (hears k (signal.Packet quad) y).state (back ++ ss)) (sym (on_others-port q k (signal.Packet quad) y.view.ports)) (go (k == q) refl l)
     where
       other : (k == q) ≡ false → is_port y.view.parent k ≡ false
-      other e = none (is_port y.view.parent k) refl
-        where
-          none : (b : Bool) → is_port y.view.parent k ≡ b → b ≡ false
-          none true j = absurd (eqb-false k q e (same-port y.view.parent k q j i))
-          none false j = refl
+      other e = false_from_ne_true _ (λ j. eqb-false k q e (same-port y.view.parent k q j i))
 
       go :
           (b : Bool) → (k == q) ≡ b → Lined x p (with b (signal.Packet quad) there) y back →

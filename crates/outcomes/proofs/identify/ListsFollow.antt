@@ -1,5 +1,6 @@
 -- On a cable whose two ends are in self identify or A0, one list follows the other.
 use Rattle.std.proofs.Common.{◌≡◌, ◌⊎◌, inl, inr, ℕ, Bool, true, false, not, List, [], ◌++◌, Some, slice_get, refl, sym, ◌∙◌, ap}
+use Rattle.std.proofs.lemmas.Bool.{false_from_ne_true}
 use Rattle.outcomes.proofs.Common.{Signal, is_port, hears_packets, PortNode, End, far, CableWorld, wire_of, signals_of, has_reset, leads_down, IsLawful, child-if, cable-connected, late-roles, no-packets, quads_in, kept, Line, Lined, IsIdentifying}
 use Rattle.outcomes.specs.Identify.{speaks}
 use Rattle.outcomes.specs.Lists.{Follows, ListsFollow}
@@ -40,11 +41,7 @@ module _ (w : CableWorld) (l : IsLawful w) (i : IsIdentifying w) where
       (a b : End) (x y : PortNode) → far w.cabling a ≡ Some b → slice_get w.nodes a.node ≡ Some x →
       slice_get w.nodes b.node ≡ Some y → hears_packets x.state.view.phase ≡ true →
       has_reset (signals_of (wire_of w a).signals) ≡ false
-  calm a b x y e at_x at_y h = go (has_reset (signals_of (wire_of w a).signals)) refl
-    where
-      go : (r : Bool) → has_reset (signals_of (wire_of w a).signals) ≡ r → r ≡ false
-      go true r = absurd (no-packets x.state.view.phase ((l.coupled.cables a b x y e at_x at_y).reset r) h)
-      go false r = refl
+  calm a b x y e at_x at_y h = false_from_ne_true _ (λ r. no-packets x.state.view.phase ((l.coupled.cables a b x y e at_x at_y).reset r) h)
 
   pub child-above :
       (a b : End) (x y : PortNode) → far w.cabling a ≡ Some b → slice_get w.nodes a.node ≡ Some x →

@@ -160,6 +160,48 @@ done-asked x n p h = go (is_port x.view.parent n) (parent_mode (is_ready x.view.
     go false m true true p h = absurd (true≢false (sym h))
     go false m false n p h = absurd (true≢false (sym h))
 
+-- a child is done
+done-marked :
+    (n : ℕ) (x : NodeState) → IsValid x → IsMarked x → is_heard n signal.Done x ≡ true →
+    (hears_packets x.view.phase ≡ true → allows (mode x n) signal.Done ≡ true) →
+    IsMarked (hears n signal.Done x).state
+done-marked n x v m e h =
+    let f : PortView → PortView = λ p. record p { named = true } in
+    let b = and_parts (is_connected x.view.ports n) (is_identifying x.view.phase && leads_down x.view.ports n) e in
+    let c = and_parts (is_identifying x.view.phase) (leads_down x.view.ports n) b.1 in
+    let hear : hears_packets x.view.phase ≡ true = ap hears_packets (identifying-is x.view.phase c.0) in
+    let role = child-role x n v (hears-late x.view.phase hear) c.1 in
+    let was = done-asked x n role.0 (h hear) in
+    let child : (k : ℕ) → leads_down (change_port n f x.view.ports) k ≡ leads_down x.view.ports k = port_is-changed (λ p. p.child) n f (λ p. refl) x.view.ports in
+    let asked : (k : ℕ) → port_is (λ p. p.asked) (change_port n f x.view.ports) k ≡ is_asked x k = port_is-changed (λ p. p.asked) n f (λ p. refl) x.view.ports in
+    record {
+      id = m.id;
+      granted = m.granted;
+      ready = m.ready;
+      all_named = λ r k d. stays f k (m.all_named r k (sym (child k) ∙ d));
+      root = m.root;
+      unheard = m.unheard;
+      named = λ k r. elim (changed-was (λ p. p.named) n k f x.view.ports r) [
+        | inl o ↦ asked k ∙ m.named k o
+        | inr o ↦ asked k ∙ ap (λ i. is_asked x i) (eqb-true k n o) ∙ was.0
+      ];
+      asked = λ k r. child k ∙ m.asked k (sym (asked k) ∙ r);
+      asks = λ k r. m.asks k (sym (asked k) ∙ r);
+      order = λ j k l r d. stays f j (m.order j k l (sym (asked k) ∙ r) (sym (child j) ∙ d));
+    }
+  where
+    -- a mark that was set stays
+    stays :
+        (f : PortView → PortView) (k : ℕ) → is_named x k ≡ true → port_is (λ p. p.named)
+        (change_port n (λ p. record p { named = true }) x.view.ports) k ≡ true
+    stays f k h = go (k == n) refl
+      where
+        go :
+            (b : Bool) → (k == n) ≡ b → port_is (λ p. p.named)
+            (change_port n (λ p. record p { named = true }) x.view.ports) k ≡ true
+        go true e = changed-here (λ p. p.named) (λ p. p.named) n k (λ p. record p { named = true }) x.view.ports (λ p. refl) e h
+        go false e = changed-other (λ p. p.named) n k (λ p. record p { named = true }) x.view.ports e ∙ h
+
 hears-marked :
     (n : ℕ) (s : Signal) (x : NodeState) → IsValid x → IsMarked x → is_heard n s x ≡ true →
     (hears_packets x.view.phase ≡ true → allows (mode x n) s ≡ true) → IsMarked (hears n s x).state
@@ -202,42 +244,7 @@ hears-marked n (signal.Packet quad) x v m e h =
       asks = m.asks;
       order = m.order;
     }
-hears-marked n signal.Done x v m e h =
-    let f : PortView → PortView = λ p. record p { named = true } in
-    let b = and_parts (is_connected x.view.ports n) (is_identifying x.view.phase && leads_down x.view.ports n) e in
-    let c = and_parts (is_identifying x.view.phase) (leads_down x.view.ports n) b.1 in
-    let hear : hears_packets x.view.phase ≡ true = ap hears_packets (identifying-is x.view.phase c.0) in
-    let role = child-role x n v (hears-late x.view.phase hear) c.1 in
-    let was = done-asked x n role.0 (h hear) in
-    let child : (k : ℕ) → leads_down (change_port n f x.view.ports) k ≡ leads_down x.view.ports k = port_is-changed (λ p. p.child) n f (λ p. refl) x.view.ports in
-    let asked : (k : ℕ) → port_is (λ p. p.asked) (change_port n f x.view.ports) k ≡ is_asked x k = port_is-changed (λ p. p.asked) n f (λ p. refl) x.view.ports in
-    record {
-      id = m.id;
-      granted = m.granted;
-      ready = m.ready;
-      all_named = λ r k d. stays f k (m.all_named r k (sym (child k) ∙ d));
-      root = m.root;
-      unheard = m.unheard;
-      named = λ k r. elim (changed-was (λ p. p.named) n k f x.view.ports r) [
-        | inl o ↦ asked k ∙ m.named k o
-        | inr o ↦ asked k ∙ ap (λ i. is_asked x i) (eqb-true k n o) ∙ was.0
-      ];
-      asked = λ k r. child k ∙ m.asked k (sym (asked k) ∙ r);
-      asks = λ k r. m.asks k (sym (asked k) ∙ r);
-      order = λ j k l r d. stays f j (m.order j k l (sym (asked k) ∙ r) (sym (child j) ∙ d));
-    }
-  where
-    -- a mark that was set stays
-    stays :
-        (f : PortView → PortView) (k : ℕ) → is_named x k ≡ true → port_is (λ p. p.named)
-        (change_port n (λ p. record p { named = true }) x.view.ports) k ≡ true
-    stays f k h = go (k == n) refl
-      where
-        go :
-            (b : Bool) → (k == n) ≡ b → port_is (λ p. p.named)
-            (change_port n (λ p. record p { named = true }) x.view.ports) k ≡ true
-        go true e = changed-here (λ p. p.named) (λ p. p.named) n k (λ p. record p { named = true }) x.view.ports (λ p. refl) e h
-        go false e = changed-other (λ p. p.named) n k (λ p. record p { named = true }) x.view.ports e ∙ h
+hears-marked n signal.Done x v m e h = done-marked n x v m e h
 
 pub signal-marked :
     (n : ℕ) (s : Signal) (x : NodeState) → IsValid x → IsMarked x →

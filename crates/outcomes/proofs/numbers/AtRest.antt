@@ -4,7 +4,7 @@ use Rattle.std.proofs.Common.{length-append, ◌≡◌, inl, inr, ℕ, zero, suc
 use Rattle.std.specs.Prelude.{nat_le}
 use Rattle.std.proofs.lemmas.Bool.{le-leb, and_parts, and_from, eq-eqb}
 use Rattle.std.proofs.lemmas.Option.{slice_get_within}
-use Rattle.outcomes.proofs.Common.{Node, group, node_count, Tree, emits, End, far, ports_of, Holds, IsClosed, numbers, emit, Phase, Signal, NodeState, coin, is_unnamed, lowest, sent_on, silent_step, hears_packets, hears, is_heard, on_signal, may_name, shown_node, own_group, PortNode, raise_timer, row_of, does, tick, age_wire, gives, CableWorld, wire_of, inbox, turn, hear_all, IsReached, signals_of, IsLawful, IsTree, before, hear-stays, turn-lawful, reached-lawful, turn-state, comes, no-packets, one-quiet, quiet-lawful, joined-of, reached-acyclic, quiet-acyclic, IsAcyclic, ResetsAreOverIn, AreIdentifying, is_ready, is_asked, is_named, is_message, silent, quads_in, has_grant, has_done, kept, parent_mode, child_mode, IsIdentifying, place_now, IsSettling, IsAtRest, HoldSchedule, with_holds, quiet_after}
+use Rattle.outcomes.proofs.Common.{Node, group, node_count, Tree, emits, End, far, ports_of, Holds, IsClosed, numbers, emit, Phase, Signal, NodeState, coin, is_unnamed, lowest, sent_on, silent_step, hears_packets, hears, is_heard, on_signal, may_name, shown_node, own_group, PortNode, raise_timer, row_of, does, tick, age_wire, gives, CableWorld, wire_of, inbox, turn, hear_all, IsReached, signals_of, IsLawful, IsTree, before, hear-stays, turn-lawful, reached-lawful, turn-state, comes, no-packets, one-quiet, quiet-lawful, joined-of, reached-acyclic, quiet-acyclic, IsAcyclic, ResetsAreOverIn, AreIdentifying, is_ready, is_asked, is_named, is_message, silent, quads_in, has_grant, has_done, kept, parent_mode, child_mode, IsIdentifying, place_now, IsSettling, IsAtRest, HoldSchedule, with_holds, quiet_after, end_at}
 use Rattle.self_id.proofs.Lemmas.{three_packets}
 use Rattle.port_state.specs.declared.signal.Phase.TheVariants as phase
 use Rattle.port_state.specs.declared.signal.Signal.TheVariants as signal
@@ -105,7 +105,7 @@ module _
         (u : Up w l acyclic i set root s.component s.inside s.is_root s.all k x) →
         Holds set k → slice_get w.nodes k ≡ Some x → u.is.state.list.items ≡ x.state.list.items
     up-same k x u h at =
-        let b : End = record { node = k; port = u.port } in
+        let b : End = end_at k u.port in
         let back = l.well_formed.cabling.both_ways u.end b u.joined in
         let no-up : quads_in (signals_of (wire_of w b).signals) ≡ [] = silent-quads (signals_of (wire_of w b).signals) (rest.silent b u.end h back) in
         let no-down : quads_in (signals_of (wire_of w u.end).signals) ≡ [] = silent-quads (signals_of (wire_of w u.end).signals) (rest.silent u.end b u.inside_too u.joined) in
@@ -288,7 +288,7 @@ module _
 
   box-silent :
       (k j : ℕ) → Holds set k → silent (sent_on j (inbox w 0 (ports_of w.cabling k))) ≡ true
-  box-silent k j h = go (far w.cabling (record { node = k; port = j })) refl
+  box-silent k j h = go (far w.cabling (end_at k j)) refl
     where
       given-silent :
           (g : Bool) (ss : List Signal) → silent ss ≡ true → silent (if g then ss else []) ≡ true
@@ -296,11 +296,11 @@ module _
       given-silent false ss e = refl
 
       go :
-          (o : Option End) → far w.cabling (record { node = k; port = j }) ≡ o →
+          (o : Option End) → far w.cabling (end_at k j) ≡ o →
           silent (sent_on j (inbox w 0 (ports_of w.cabling k))) ≡ true
       go None e = ap silent (nothing-comes w l i set root t s.component.closed s.walk s.all k j e)
       go (Some b) e =
-          let a : End = record { node = k; port = j } in
+          let a : End = end_at k j in
           ap silent (comes w b a e) ∙ given-silent (gives w.delay (age_wire (wire_of w b))) (signals_of (wire_of w b).signals) (rest.silent b a (s.component.closed a b e h) (l.well_formed.cabling.both_ways a b e))
 
   ready-after :

@@ -1,7 +1,7 @@
 -- A hold keeps a component that identifies itself, and one at rest: nodes, cables and signals are
 -- the same.
 use Rattle.std.proofs.Common.{◌≡◌, ℕ, List, None, sym, ◌∙◌, ap}
-use Rattle.outcomes.proofs.Common.{Tree, End, hold, hold_fault, signals_of, IsLawful, Travelling, CableWorld, wire_of, PlacedHold, with_holds, IsChildCable, silent, quads_in, has_grant, has_done, RootWalk, IsNumbered, IsSettling, IsAtRest}
+use Rattle.outcomes.proofs.Common.{Tree, End, hold, hold_fault, signals_of, IsLawful, Travelling, CableWorld, wire_of, PlacedHold, with_holds, IsChildCable, silent, quads_in, has_grant, has_done, RootWalk, IsNumbered, IsSettling, IsAtRest, end_at}
 use Rattle.cable_world.proofs.Lemmas.{holds-kept, hold-signals}
 use Rattle.outcomes.specs.Messages as message
 
@@ -26,7 +26,7 @@ module _
     along = λ a b h c. k.along a b h (cable a b c);
     flat = k.flat;
     last = k.last;
-    children = λ j p b h c. cable-then (record { node = j; port = p }) b (k.children j p b h c);
+    children = λ j p b h c. cable-then (end_at j p) b (k.children j p b h c);
     in_turn = k.in_turn;
     none = k.none;
     all = k.all;

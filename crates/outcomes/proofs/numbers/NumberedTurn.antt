@@ -4,7 +4,7 @@ use Rattle.std.proofs.Common.{◌≡◌, ◌⊎◌, inl, inr, ℕ, ◌+◌, ◌<
 use Rattle.std.proofs.lemmas.List.{append_assoc}
 use Rattle.std.proofs.lemmas.Bool.{or_cases, and_parts}
 use Rattle.std.proofs.lemmas.Option.{slice_get_within}
-use Rattle.outcomes.proofs.Common.{contrary, Node, group, node_count, Tree, End, Wiring, far, ports_of, Holds, IsClosed, numbers, mark, place, emit, Phase, Signal, NodeState, coin, is_connected, is_port, sent_on, is_resetting, hears_packets, shown_attrs, shown_node, PortNode, Row, raise_timer, row_of, does, next_row, tick, age_wire, gives, age_signal, CableWorld, wire_of, inbox, turn_at, turn, hear_all, signals_of, has_reset, IsLawful, cabling-after, node-after, some-same, side, side-wire, before, turn-state, comes, hearing, ticking, arrivals, leftovers, departures, after_signals, no-packets, joined-of, IsChildCable, is_ready, is_asked, is_named, is_message, silent, quads_in, is_grant, is_done, has_grant, has_done, Mode, parent_mode, child_mode, mode_of, mode, allows, next, fits, Lined, IsIdentifying, place_now, RootWalk, IsNumbered, AreIdentifying}
+use Rattle.outcomes.proofs.Common.{contrary, Node, group, node_count, Tree, End, Wiring, far, ports_of, Holds, IsClosed, numbers, mark, place, emit, Phase, Signal, NodeState, coin, is_connected, is_port, sent_on, is_resetting, hears_packets, shown_attrs, shown_node, PortNode, Row, raise_timer, row_of, does, next_row, tick, age_wire, gives, age_signal, CableWorld, wire_of, inbox, turn_at, turn, hear_all, signals_of, has_reset, IsLawful, cabling-after, node-after, some-same, side, side-wire, before, turn-state, comes, hearing, ticking, arrivals, leftovers, departures, after_signals, no-packets, joined-of, IsChildCable, is_ready, is_asked, is_named, is_message, silent, quads_in, is_grant, is_done, has_grant, has_done, Mode, parent_mode, child_mode, mode_of, mode, allows, next, fits, Lined, IsIdentifying, place_now, RootWalk, IsNumbered, AreIdentifying, end_at}
 use Rattle.port_state.specs.declared.signal.Phase.TheVariants as phase
 use Rattle.cable_world.specs.Turn.{signals_from}
 use Rattle.cable_world.proofs.Lemmas.{hears, hear-came, inbox-at, port-there}
@@ -119,9 +119,6 @@ ticks-ready coin x r = go x.view.phase refl r
 
 -- ---- the component
 
-abbrev at-end : ℕ → ℕ → End
-at-end k p = record { node = k; port = p }
-
 -- what is under way to a port, by its far end
 abbrev old : CableWorld → Option End → List Signal
 old w None = []
@@ -154,7 +151,7 @@ module _
           (p : ℕ) × (is_connected x.state.view.ports p ≡ true)
           × (has_reset (sent_on p (box k)) ≡ true) → ⊥
       came found =
-          let a : End = at-end k found.0 in
+          let a : End = end_at k found.0 in
           let b = end-of (far w.cabling a) (sym ((l.well_formed.nodes k x at).connected found.0) ∙ found.1) in
           let n = joined-of w a b.0 l.well_formed b.1 in
           let back : far w.cabling b.0 ≡ Some a = l.well_formed.cabling.both_ways a b.0 b.1 in
@@ -206,49 +203,49 @@ module _
       let r = ticks-so n (emit t) (marks k) (shown_node x.state) (coin x.coins) (hear_all (box k) x.state).state pend o.0.valid o.0.marked (still-there k x h at) o.0.marks o.2 (adds k x h at) (counted k x h at) o.1 in
       (r.0, record { asks = λ q a b. r.1.asks q (o.0.asked q ∙ a) b; names = λ a b. r.1.names (ap is_ready o.0.stays.phase ∙ a) b })
 
-  pub nothing-comes : (k j : ℕ) → far w.cabling (at-end k j) ≡ None → sent_on j (box k) ≡ []
+  pub nothing-comes : (k j : ℕ) → far w.cabling (end_at k j) ≡ None → sent_on j (box k) ≡ []
   nothing-comes k j none =
       let z : 0 + j ≡ j = omega arith in
-      subst (λ n. sent_on n (box k) ≡ signals_from w (far w.cabling (at-end k j))) z (inbox-at w 0 j (ports_of w.cabling k)) ∙ ap (signals_from w) none
+      subst (λ n. sent_on n (box k) ≡ signals_from w (far w.cabling (end_at k j))) z (inbox-at w 0 j (ports_of w.cabling k)) ∙ ap (signals_from w) none
 
   module _ (num : IsNumbered w set root t) where
     old-so :
         (k : ℕ) (x : PortNode) → Holds set k → slice_get w.nodes k ≡ Some x →
         Goes-on x.state.ports (emit t) (marks k) (shown_node x.state)
-        x.state (λ j. old w (far w.cabling (at-end k j)))
+        x.state (λ j. old w (far w.cabling (end_at k j)))
     old-so k x h at = record {
       id = λ r. num.ids k x h at r ∙ ap (λ (n : ℕ). Some n) (sym (walk.last k x at));
       turn = λ g u p le st. num.turns k p x h at g u le st;
-      grant = λ j. grants j (far w.cabling (at-end k j)) refl;
-      done = λ j. dones j (far w.cabling (at-end k j)) refl;
+      grant = λ j. grants j (far w.cabling (end_at k j)) refl;
+      done = λ j. dones j (far w.cabling (end_at k j)) refl;
       last = λ r o. num.last k x h at r o ∙ ap (λ (n : ℕ). emit t (n + 1)) (sym (walk.last k x at));
     }
       where
         grants :
-            (j : ℕ) (o : Option End) → far w.cabling (at-end k j) ≡ o → has_grant (old w o) ≡ true →
+            (j : ℕ) (o : Option End) → far w.cabling (end_at k j) ≡ o → has_grant (old w o) ≡ true →
             message.kept x.state.list.items (quads_in (old w o)) ≡ emit t (marks k 0)
         grants j None e g = absurd (true≢false (sym g))
-        grants j (Some b) e g = num.grants b (at-end k j) x h e at g
+        grants j (Some b) e g = num.grants b (end_at k j) x h e at g
 
         dones :
-            (j : ℕ) (o : Option End) → far w.cabling (at-end k j) ≡ o → has_done (old w o) ≡ true →
+            (j : ℕ) (o : Option End) → far w.cabling (end_at k j) ≡ o → has_done (old w o) ≡ true →
             message.kept x.state.list.items (quads_in (old w o)) ≡ emit t (marks k (j + 1))
         dones j None e g = absurd (true≢false (sym g))
-        dones j (Some b) e g = num.dones b (at-end k j) x h e at g
+        dones j (Some b) e g = num.dones b (end_at k j) x h e at g
 
     whole-old :
-        (k j : ℕ) (x : PortNode) (o : Option End) → far w.cabling (at-end k j) ≡ o →
+        (k j : ℕ) (x : PortNode) (o : Option End) → far w.cabling (end_at k j) ≡ o →
         old w o ≡ sent_on j (box k) ++ left w o
     whole-old k j x None e = sym (ap (λ ss. ss ++ []) (nothing-comes k j e))
-    whole-old k j x (Some b) e = split (side w b x) ∙ ap (λ ss. ss ++ left w (Some b)) (sym (comes w b (at-end k j) e))
+    whole-old k j x (Some b) e = split (side w b x) ∙ ap (λ ss. ss ++ left w (Some b)) (sym (comes w b (end_at k j) e))
 
     old-fits :
         (k j : ℕ) (x : PortNode) → Holds set k → slice_get w.nodes k ≡ Some x → (o : Option End) →
-        far w.cabling (at-end k j) ≡ o → fits (mode x.state j) (old w o) ≡ true
+        far w.cabling (end_at k j) ≡ o → fits (mode x.state j) (old w o) ≡ true
     old-fits k j x h at None e = refl
     old-fits k j x h at (Some b) e =
-        let n = joined-of w (at-end k j) b l.well_formed e in
-        (i.cables (at-end k j) b x n.other e at n.other_at).front (all k x h at)
+        let n = joined-of w (end_at k j) b l.well_formed e in
+        (i.cables (end_at k j) b x n.other e at n.other_at).front (all k x h at)
 
     -- whom a node asks, and what it has when it does; what it has when it identifies itself
     so-far :
@@ -257,10 +254,10 @@ module _
         x.state (tick (coin x.coins) (hear_all (box k) x.state).state).state
     so-far k x h at =
         let g = old-so k x h at in
-        let same : (j : ℕ) → old w (far w.cabling (at-end k j)) ≡ sent_on j (box k) ++ left w (far w.cabling (at-end k j)) = λ j. whole-old k j x (far w.cabling (at-end k j)) refl in
-        (node-so k x h at (λ j. left w (far w.cabling (at-end k j)))
-        (λ j. subst (λ ss. fits (mode x.state j) ss ≡ true) (same j) (old-fits k j x h at (far w.cabling (at-end k j)) refl))
-        (goes-along x.state.ports (emit t) (marks k) (shown_node x.state) x.state (λ j. old w (far w.cabling (at-end k j))) (λ j. sent_on j (box k) ++ left w (far w.cabling (at-end k j))) same g)).1
+        let same : (j : ℕ) → old w (far w.cabling (end_at k j)) ≡ sent_on j (box k) ++ left w (far w.cabling (end_at k j)) = λ j. whole-old k j x (far w.cabling (end_at k j)) refl in
+        (node-so k x h at (λ j. left w (far w.cabling (end_at k j)))
+        (λ j. subst (λ ss. fits (mode x.state j) ss ≡ true) (same j) (old-fits k j x h at (far w.cabling (end_at k j)) refl))
+        (goes-along x.state.ports (emit t) (marks k) (shown_node x.state) x.state (λ j. old w (far w.cabling (end_at k j))) (λ j. sent_on j (box k) ++ left w (far w.cabling (end_at k j))) same g)).1
 
     -- ---- a cable, once the node at its far end took its turn
 
@@ -400,26 +397,26 @@ module _
 
     each-port :
         (k j : ℕ) (x : PortNode) → Holds set k → slice_get w.nodes k ≡ Some x → (o : Option End) →
-        far w.cabling (at-end k j) ≡ o → Owed k j x (sent_on j (box k) ++ old (turn w) o)
+        far w.cabling (end_at k j) ≡ o → Owed k j x (sent_on j (box k) ++ old (turn w) o)
     each-port k j x h at None e = subst (λ ss. Owed k j x (ss ++ [])) (sym (nothing-comes k j e)) (record { fitting = refl; grant = λ f. absurd (true≢false (sym f)); done = λ f. absurd (true≢false (sym f)) })
     each-port k j x h at (Some b) e =
-        let n = joined-of w (at-end k j) b l.well_formed e in
-        one-end (at-end k j) b x n.other h e at n.other_at
+        let n = joined-of w (end_at k j) b l.well_formed e in
+        one-end (end_at k j) b x n.other h e at n.other_at
 
     -- a node after its turn
     after-so :
         (k : ℕ) (x : PortNode) → Holds set k → slice_get w.nodes k ≡ Some x →
         Goes-on x.state.ports (emit t) (marks k) (shown_node x.state)
-        (tick (coin x.coins) (hear_all (box k) x.state).state).state (λ j. old (turn w) (far w.cabling (at-end k j)))
+        (tick (coin x.coins) (hear_all (box k) x.state).state).state (λ j. old (turn w) (far w.cabling (end_at k j)))
     after-so k x h at =
         let g = old-so k x h at in
-        (node-so k x h at (λ j. old (turn w) (far w.cabling (at-end k j)))
-        (λ j. (each-port k j x h at (far w.cabling (at-end k j)) refl).fitting)
+        (node-so k x h at (λ j. old (turn w) (far w.cabling (end_at k j)))
+        (λ j. (each-port k j x h at (far w.cabling (end_at k j)) refl).fitting)
         (record {
           id = g.id;
           turn = g.turn;
-          grant = λ j. (each-port k j x h at (far w.cabling (at-end k j)) refl).grant;
-          done = λ j. (each-port k j x h at (far w.cabling (at-end k j)) refl).done;
+          grant = λ j. (each-port k j x h at (far w.cabling (end_at k j)) refl).grant;
+          done = λ j. (each-port k j x h at (far w.cabling (end_at k j)) refl).done;
           last = g.last;
         })).0
 
@@ -430,13 +427,13 @@ module _
       was_at : slice_get w.nodes k ≡ Some was
       goes :
           Goes-on was.state.ports (emit t) (marks k) (shown_node was.state)
-          z.state (λ j. old (turn w) (far w.cabling (at-end k j)))
+          z.state (λ j. old (turn w) (far w.cabling (end_at k j)))
 
     after : (k : ℕ) (z : PortNode) → Holds set k → slice_get (turn w).nodes k ≡ Some z → After k z
     after k z h at =
         let x = before w k z l.well_formed at in
         let same : z.state ≡ (tick (coin x.0.coins) (hear_all (box k) x.0.state).state).state = ap (λ (u : PortNode). u.state) x.2 ∙ turn-state (box k) x.0 in
-        record { was = x.0; was_at = x.1; goes = subst (λ (u : NodeState). Goes-on x.0.state.ports (emit t) (marks k) (shown_node x.0.state) u (λ j. old (turn w) (far w.cabling (at-end k j)))) (sym same) (after-so k x.0 h x.1) }
+        record { was = x.0; was_at = x.1; goes = subst (λ (u : NodeState). Goes-on x.0.state.ports (emit t) (marks k) (shown_node x.0.state) u (λ j. old (turn w) (far w.cabling (end_at k j)))) (sym same) (after-so k x.0 h x.1) }
 
     far-was : (a b : End) → far (turn w).cabling a ≡ Some b → far w.cabling a ≡ Some b
     far-was a b e = sym (ap (λ (d : Wiring). far d a) (cabling-after w)) ∙ e
@@ -472,22 +469,22 @@ module _
     pub heard-goes :
         (k : ℕ) (x : PortNode) → Holds set k → slice_get w.nodes k ≡ Some x →
         Goes-on x.state.ports (emit t) (marks k) (shown_node x.state)
-        (hear_all (box k) x.state).state (λ j. left w (far w.cabling (at-end k j)))
+        (hear_all (box k) x.state).state (λ j. left w (far w.cabling (end_at k j)))
     heard-goes k x h at =
-        let same : (j : ℕ) → old w (far w.cabling (at-end k j)) ≡ sent_on j (box k) ++ left w (far w.cabling (at-end k j)) = λ j. whole-old k j x (far w.cabling (at-end k j)) refl in
-        (hears-all x.state.ports (emit t) (marks k) (shown_node x.state) (box k) x.state (λ j. left w (far w.cabling (at-end k j))) (l.well_formed.nodes k x at).valid (i.nodes k x at) (all k x h at) (marks-of k x h at) (still-there k x h at)
-        (λ j. subst (λ ss. fits (mode x.state j) ss ≡ true) (same j) (old-fits k j x h at (far w.cabling (at-end k j)) refl))
-        (goes-along x.state.ports (emit t) (marks k) (shown_node x.state) x.state (λ j. old w (far w.cabling (at-end k j))) (λ j. sent_on j (box k) ++ left w (far w.cabling (at-end k j))) same (old-so k x h at))).1
+        let same : (j : ℕ) → old w (far w.cabling (end_at k j)) ≡ sent_on j (box k) ++ left w (far w.cabling (end_at k j)) = λ j. whole-old k j x (far w.cabling (end_at k j)) refl in
+        (hears-all x.state.ports (emit t) (marks k) (shown_node x.state) (box k) x.state (λ j. left w (far w.cabling (end_at k j))) (l.well_formed.nodes k x at).valid (i.nodes k x at) (all k x h at) (marks-of k x h at) (still-there k x h at)
+        (λ j. subst (λ ss. fits (mode x.state j) ss ≡ true) (same j) (old-fits k j x h at (far w.cabling (end_at k j)) refl))
+        (goes-along x.state.ports (emit t) (marks k) (shown_node x.state) x.state (λ j. old w (far w.cabling (end_at k j))) (λ j. sent_on j (box k) ++ left w (far w.cabling (end_at k j))) same (old-so k x h at))).1
 
     pub heard-so :
         (k : ℕ) (x : PortNode) → Holds set k → slice_get w.nodes k ≡ Some x →
         Heard-so x.state.ports (emit t) (marks k) (shown_node x.state)
         x.state (hear_all (box k) x.state).state
     heard-so k x h at =
-        let same : (j : ℕ) → old w (far w.cabling (at-end k j)) ≡ sent_on j (box k) ++ left w (far w.cabling (at-end k j)) = λ j. whole-old k j x (far w.cabling (at-end k j)) refl in
-        (hears-all x.state.ports (emit t) (marks k) (shown_node x.state) (box k) x.state (λ j. left w (far w.cabling (at-end k j))) (l.well_formed.nodes k x at).valid (i.nodes k x at) (all k x h at) (marks-of k x h at) (still-there k x h at)
-        (λ j. subst (λ ss. fits (mode x.state j) ss ≡ true) (same j) (old-fits k j x h at (far w.cabling (at-end k j)) refl))
-        (goes-along x.state.ports (emit t) (marks k) (shown_node x.state) x.state (λ j. old w (far w.cabling (at-end k j))) (λ j. sent_on j (box k) ++ left w (far w.cabling (at-end k j))) same (old-so k x h at))).0
+        let same : (j : ℕ) → old w (far w.cabling (end_at k j)) ≡ sent_on j (box k) ++ left w (far w.cabling (end_at k j)) = λ j. whole-old k j x (far w.cabling (end_at k j)) refl in
+        (hears-all x.state.ports (emit t) (marks k) (shown_node x.state) (box k) x.state (λ j. left w (far w.cabling (end_at k j))) (l.well_formed.nodes k x at).valid (i.nodes k x at) (all k x h at) (marks-of k x h at) (still-there k x h at)
+        (λ j. subst (λ ss. fits (mode x.state j) ss ≡ true) (same j) (old-fits k j x h at (far w.cabling (end_at k j)) refl))
+        (goes-along x.state.ports (emit t) (marks k) (shown_node x.state) x.state (λ j. old w (far w.cabling (end_at k j))) (λ j. sent_on j (box k) ++ left w (far w.cabling (end_at k j))) same (old-so k x h at))).0
 
     pub record Stayed (k : ℕ) (x z : PortNode) : Type 0 where
       pub hears : hears_packets z.state.view.phase ≡ true

@@ -4,7 +4,7 @@
 use Rattle.std.proofs.Common.{◌≡◌, ◌⊎◌, inl, inr, ℕ, zero, suc, ◌+◌, ◌-◌, ◌*◌, ◌<◌, ◌≤◌, Bool, true, false, not, ◌&&◌, List, [], ◌∷◌, length, Option, Some, None, slice_get, refl, sym, ◌∙◌, ap, subst, arith}
 use Rattle.std.proofs.lemmas.Option.{slice_get_within}
 use Rattle.phy_packet.specs.Layout.{bit}
-use Rattle.outcomes.proofs.Common.{Tree, End, Wiring, far, Holds, numbers, Signal, NodeState, PortNode, Travelling, CableWorld, wire_of, IsReached, turn_at, turn, signals_of, IsLawful, cabling-after, node-after, some-same, after-delay, reached-lawful, turn-lawful, port-is, joined-of, IsAcyclic, is_ready, is_asked, is_named, silent, is_grant, is_done, has_grant, has_done, parent_mode, child_mode, IsIdentifying, parent_of, parent_now, place_now, IsSettling, is_port, contrary, PlacedHold, HoldSchedule, with_holds, quiet_after}
+use Rattle.outcomes.proofs.Common.{Tree, End, Wiring, far, Holds, numbers, Signal, NodeState, PortNode, Travelling, CableWorld, wire_of, IsReached, turn_at, turn, signals_of, IsLawful, cabling-after, node-after, some-same, after-delay, reached-lawful, turn-lawful, port-is, joined-of, IsAcyclic, is_ready, is_asked, is_named, silent, is_grant, is_done, has_grant, has_done, parent_mode, child_mode, IsIdentifying, parent_of, parent_now, place_now, IsSettling, is_port, contrary, PlacedHold, HoldSchedule, with_holds, quiet_after, end_at}
 use Rattle.cable_world.specs.Wire.{Wire}
 use Rattle.cable_world.proofs.Lemmas.{holds-signals}
 use Rattle.outcomes.specs.Holders.{Holder, grant, done, node, IsHolder, HasTurn, HasOneHolder}
@@ -16,7 +16,7 @@ use Rattle.outcomes.proofs.identify.ListsFollow.{IsAbove, one-above, parent-belo
 use Rattle.outcomes.proofs.identify.MarksKept.{hears-late}
 use Rattle.outcomes.proofs.identify.Messages.{silent-grant, silent-done}
 use Rattle.outcomes.proofs.identify.Ports.{child-role}
-use Rattle.std.proofs.lemmas.Bool.{eq-eqb, true_from_ne_false}
+use Rattle.std.proofs.lemmas.Bool.{eq-eqb, true_from_ne_false, false_from_ne_true}
 use Rattle.outcomes.proofs.numbers.NumberedTurn.{stayed}
 use Rattle.outcomes.proofs.numbers.Progress.{node-rises, Old, old-grant, old-done, grant-old, done-old, none-older, moves, turn-used}
 use Rattle.outcomes.proofs.numbers.Settling.{Up, up-or-root, climbs}
@@ -68,7 +68,7 @@ of-node f (Some x) = f x.state
 -- the end to which a parent port leads
 abbrev pub up-end : CableWorld → ℕ → Option ℕ → Option End
 up-end w k None = None
-up-end w k (Some p) = far w.cabling (record { node = k; port = p })
+up-end w k (Some p) = far w.cabling (end_at k p)
 
 abbrev pub of-end : (NodeState → ℕ → Bool) → CableWorld → Option End → Bool
 of-end f w None = false
@@ -137,7 +137,7 @@ module _
       (k : ℕ) (x : PortNode) (u : Up-of k x) → slice_get w.nodes k ≡ Some x →
       up-end w k (parent_now w k) ≡ Some u.end
   end-of-up k x u at =
-      ap (up-end w k) (ap parent_of at ∙ port-is x.state.view.parent u.port u.above.parent) ∙ l.well_formed.cabling.both_ways u.end (record { node = k; port = u.port }) u.joined
+      ap (up-end w k) (ap parent_of at ∙ port-is x.state.view.parent u.port u.above.parent) ∙ l.well_formed.cabling.both_ways u.end (end_at k u.port) u.joined
 
   -- a turn
   after-up :
@@ -173,7 +173,7 @@ module _
 
       wires : (o : Option ℕ) → up-end (turn w) k o ≡ up-end w k o
       wires None = refl
-      wires (Some p) = ap (λ (d : Wiring). far d (record { node = k; port = p })) (cabling-after w)
+      wires (Some p) = ap (λ (d : Wiring). far d (end_at k p)) (cabling-after w)
 
   pub turn-gains : (k : ℕ) → Holds set k → Gains w (turn w) k
   turn-gains k h =
@@ -198,11 +198,7 @@ module _
       above :
           (j : ℕ) (y : PortNode) (u : Up-of j y) → Holds set j → slice_get w.nodes j ≡ Some y →
           is_ready y.state.view.phase ≡ false → is_ready u.is.state.view.phase ≡ false
-      above j y u h_j at_j e = by (is_ready u.is.state.view.phase) refl
-        where
-          by : (b : Bool) → is_ready u.is.state.view.phase ≡ b → b ≡ false
-          by false f = refl
-          by true f = contrary (u.above.line.names ((i.nodes u.end.node u.is u.at).all_named f u.end.port u.above.child)) e
+      above j y u h_j at_j e = false_from_ne_true _ (λ f. contrary (u.above.line.names ((i.nodes u.end.node u.is u.at).all_named f u.end.port u.above.child)) e)
 
 -- holds change nothing of it
 gains-held :
@@ -408,7 +404,7 @@ module _
           slice_get (W (j + 1)).nodes q ≡ Some z → 1 ≤ w.delay → is_asked x.state p ≡ false →
           is_asked z.state p ≡ true → Rising j
       asks-one x z p at at_1 d before-it now =
-          let a : End = record { node = q; port = p } in
+          let a : End = end_at q p in
           let child = ((I (j + 1)).nodes q z at_1).asked p now in
           let on = (child-role z.state p ((L (j + 1)).well_formed.nodes q z at_1).valid (hears-late z.state.view.phase ((S (j + 1)).all q z h at_1)) child).1 in
           let b = end-of (far (W (j + 1)).cabling a) (sym (((L (j + 1)).well_formed.nodes q z at_1).connected p) ∙ on) in

@@ -2,7 +2,7 @@
 use Rattle.std.proofs.Common.{◌≡◌, ◌⊎◌, inl, inr, ℕ, zero, suc, ◌-◌, ◌^◌, ◌<◌, ◌≤◌, Bool, true, false, [], Option, Some, None, slice_get, get_or, option_map, refl, sym, ◌∙◌, ap, subst, arith}
 use Rattle.std.proofs.lemmas.Bool.{eq-eqb, false_from_ne_true, true_from_ne_false}
 use Rattle.std.proofs.lemmas.Option.{slice_get-map, get_or_from_slice_get}
-use Rattle.outcomes.proofs.Common.{contrary, Attrs, Tree, End, Wiring, far, ports_of, Holds, IsComponent, IsCore, labels, mark, emit, Alike, Phase, ResetStart, ParentShake, NodeState, coin, is_port, is_resetting, hears_packets, shown_attrs, PortNode, tick, CableWorld, wire_of, inbox, turn_at, turn, hear_all, signals_of, has_reset, leads_down, IsLawful, attrs_now, cabling-after, node-after, before, some-same, turn-lawful, turn-state, no-packets, joined-of, turn-acyclic, IsAcyclic, ResetsAreOverIn, AreIdentifying, IsRoot, is_ready, is_asked, is_named, IsMarked, has_grant, has_done, parent_mode, child_mode, IsIdentifying, RootWalk, StandsAt, IsNumbered, IsSettling}
+use Rattle.outcomes.proofs.Common.{contrary, Attrs, Tree, End, Wiring, far, ports_of, Holds, IsComponent, IsCore, labels, mark, emit, Alike, Phase, ResetStart, ParentShake, NodeState, coin, is_port, is_resetting, hears_packets, shown_attrs, PortNode, tick, CableWorld, wire_of, inbox, turn_at, turn, hear_all, signals_of, has_reset, leads_down, IsLawful, attrs_now, cabling-after, node-after, before, some-same, turn-lawful, turn-state, no-packets, joined-of, turn-acyclic, IsAcyclic, ResetsAreOverIn, AreIdentifying, IsRoot, is_ready, is_asked, is_named, IsMarked, has_grant, has_done, parent_mode, child_mode, IsIdentifying, RootWalk, StandsAt, IsNumbered, IsSettling, end_at}
 use Rattle.cabling.specs.Labels.{no_attrs}
 use Rattle.cable_world.proofs.Lemmas.{hears}
 use Rattle.convergence.proofs.Lemmas.{Down, all-under, one-root}
@@ -31,11 +31,11 @@ module _
   pub record Up (k : ℕ) (x : PortNode) : Type 0 where
     pub port : ℕ
     pub end : End
-    pub joined : far w.cabling end ≡ Some (record { node = k; port = port })
+    pub joined : far w.cabling end ≡ Some (end_at k port)
     pub is : PortNode
     pub at : slice_get w.nodes end.node ≡ Some is
     pub inside_too : Holds set end.node
-    pub above : IsAbove w end (record { node = k; port = port }) is x
+    pub above : IsAbove w end (end_at k port) is x
     pub falls : acyclic.rank k < acyclic.rank end.node
 
   pub up-or-root :
@@ -45,7 +45,7 @@ module _
       go : (o : Option ℕ) → x.state.view.parent ≡ o → (k ≡ root) ⊎ Up k x
       go None e = inl (one-root w l set over root k root comp h inside (record { node = x; at = at; late = hears-late x.state.view.phase (all k x h at); parentless = e }) r)
       go (Some q) e =
-          let a : End = record { node = k; port = q } in
+          let a : End = end_at k q in
           let p : is_port x.state.view.parent q ≡ true = ap (λ o. is_port o q) e ∙ eq-eqb q q refl in
           let on = parent-connected x.state q (l.well_formed.nodes k x at).valid (all k x h at) p in
           let b = end-of (far w.cabling a) (sym ((l.well_formed.nodes k x at).connected q) ∙ on) in

@@ -1,6 +1,6 @@
 -- Once all nodes are in A0 the root's list spreads: on each cable the packets come within d turns.
 use Rattle.std.proofs.Common.{length-append, ◌≡◌, inl, inr, ℕ, zero, suc, ◌+◌, ◌-◌, ◌*◌, ◌<◌, ◌≤◌, Bool, true, false, not, ◌&&◌, ◌||◌, List, [], ◌∷◌, ◌++◌, map, length, Option, Some, slice_get, refl, sym, ◌∙◌, ap, subst, arith, true≢false, if◌then◌else◌}
-use Rattle.outcomes.proofs.Common.{Tree, emits, End, Wiring, Holds, PortNode, new_signal, age_signal, age_wire, gives, CableWorld, wire_of, IsReached, turn_at, turn, signals_of, IsLawful, node-after, side, side-wire, after-delay, some-same, departures, ticking, reached-lawful, is_ready, is_asked, is_named, silent, quads_in, has_grant, has_done, MessagesSince, parent_mode, child_mode, allows, IsSettling, IsAtRest, IsTree, HoldSchedule, quiet_after, parent_of, parent_now, place_now, numbers, mark, emit, is_port, contrary, joined-of}
+use Rattle.outcomes.proofs.Common.{Tree, emits, End, Wiring, Holds, PortNode, new_signal, age_signal, age_wire, gives, CableWorld, wire_of, IsReached, turn_at, turn, signals_of, IsLawful, node-after, side, side-wire, after-delay, some-same, departures, ticking, reached-lawful, is_ready, is_asked, is_named, silent, quads_in, has_grant, has_done, MessagesSince, parent_mode, child_mode, allows, IsSettling, IsAtRest, IsTree, HoldSchedule, quiet_after, parent_of, parent_now, place_now, numbers, mark, emit, is_port, contrary, joined-of, end_at}
 use Rattle.port_state.specs.declared.signal.Signal.TheVariants as signal
 use Rattle.cable_world.proofs.Lemmas.{side-node}
 use Rattle.outcomes.specs.Messages as message
@@ -169,7 +169,7 @@ module _
         elim (up-or-root (V j) (l j) (A hs w r k late set core root t s0 j) (I hs w r k late set core root t s0 j) set root (s j).component (s j).inside (s j).is_root (s j).all q n.0 h n.1) [
           | inl same ↦ subst (HasAll (j + (suc f * w.delay + m))) (sym same) (root-has (j + (suc f * w.delay + m)) (ready-later j (suc f * w.delay + m) rd))
           | inr u ↦
-              let b : End = record { node = q; port = u.port } in
+              let b : End = end_at q u.port in
               let link : Link (V j) u.end b = record { joined = u.joined; above = u.is; above_at = u.at; below = n.0; below_at = n.1; is = u.above } in
               let less = below-it u.end b u.inside_too link in
               let step : suc f * w.delay ≡ w.delay + f * w.delay = omega arith in

@@ -28,11 +28,7 @@ pub no-reset-to :
     Holds set b.node → far w.cabling a ≡ Some b → slice_get w.nodes b.node ≡ Some x →
     hears_packets x.state.view.phase ≡ true →
     has_reset (signals_of (wire_of w a).signals) ≡ false
-no-reset-to w set over a b x in_b e at h = go (has_reset (signals_of (wire_of w a).signals)) refl
-  where
-    go : (r : Bool) → has_reset (signals_of (wire_of w a).signals) ≡ r → r ≡ false
-    go false s = refl
-    go true s = absurd (no-packets x.state.view.phase (over a b x in_b e at s) h)
+no-reset-to w set over a b x in_b e at h = false_from_ne_true _ (λ s. no-packets x.state.view.phase (over a b x in_b e at s) h)
 
 -- the cable at the parent port of a node in self identify is a child cable
 pub record Above (w : CableWorld) (k : ℕ) (x : PortNode) : Type 0 where
