@@ -1,8 +1,15 @@
--- `Late`: a machine that stands at an earlier turn, and nodes of which nothing is heard. `Places`: the
--- nodes that a loop hasn't come to. `Steps`: the tables of a turn, entry by entry. `Whole`: a world by
--- its parts, and its vectors. `Start`: the tables at power-on. `Mixed`: a table that a loop writes anew.
+-- `Bits`: sets of nodes. `Blend`: a table of which the entries of a set are still to be written. `Late`: a
+-- machine that stands at an earlier turn, and nodes of which nothing is heard. `Hears`: which nodes hear
+-- something. `Quiet`: the nodes that a turn doesn't visit. `Known`: what an agenda says. `Places`: the
+-- nodes that a loop hasn't come to. `Steps`: the tables of a turn, entry by entry. `Whole`: a world by its
+-- parts, and its vectors. `Start`: the tables at power-on. `Mixed`: a table that a loop writes anew.
 -- `Turns`: turns, one after the other.
+pub mod Bits
+pub mod Blend
 pub mod Late
+pub mod Hears
+pub mod Quiet
+pub mod Known
 pub mod Places
 pub mod Mixed
 pub mod Steps

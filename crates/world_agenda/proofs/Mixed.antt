@@ -1,17 +1,6 @@
 -- A table that a loop writes anew from its head on: the new entries come first, and then the old ones.
-use Rattle.std.proofs.Common.{◌≡◌, ℕ, zero, suc, ◌+◌, ◌<◌, List, [], ◌∷◌, length, map, get_or, slice_set, refl, sym, ◌∙◌, ap, arith, add-one}
-use Rattle.std.proofs.lemmas.List.{length-map}
-use Rattle.std.proofs.Math.ListN.{get_or-map}
+use Rattle.std.proofs.Common.{◌≡◌, ℕ, zero, suc, ◌+◌, ◌<◌, List, [], ◌∷◌, length, get_or, slice_set, refl, sym, ◌∙◌, ap, arith, add-one}
 use Rattle.cable_world.proofs.Lemmas.{mixed}
-
--- the entry to be written next is the old one
-pub mixed-get :
-    {X : Type 0} → (k : ℕ) (new old : List X) (d : X) → length new ≡ length old → k < length old →
-    get_or (mixed k new old) k d ≡ get_or old k d
-mixed-get k new [] d e h = absurd (omega arith)
-mixed-get k [] (y ∷ old) d e h = absurd (omega (arith, e))
-mixed-get zero (x ∷ new) (y ∷ old) d e h = refl
-mixed-get (suc k) (x ∷ new) (y ∷ old) d e h = mixed-get k new old d (omega (arith, e)) (omega arith)
 
 set-next :
     {X : Type 0} → (k : ℕ) (new old : List X) (d : X) → length new ≡ length old → k < length old →
@@ -27,16 +16,3 @@ pub mixed-set :
     now ≡ mixed k new old → x ≡ get_or new k d → slice_set now k x ≡ mixed (k + 1) new old
 mixed-set k new old now x d e h is at =
     ap (λ ys. slice_set ys k x) is ∙ ap (slice_set (mixed k new old) k) at ∙ set-next k new old d e h ∙ ap (λ n. mixed n new old) (sym (add-one k))
-
--- the next entry is made of the old one
-pub mixed-map :
-    {X Y : Type 0} → (f : X → Y) (k : ℕ) (xs : List X) (old now : List Y) (x : X) (y : Y) → length xs ≡ length old →
-    k < length xs → now ≡ mixed k (map f xs) old → x ≡ get_or xs k x → y ≡ f x → slice_set now k y ≡ mixed (k + 1) (map f xs) old
-mixed-map f k xs old now x y e h is at made =
-    mixed-set k (map f xs) old now y (f x) (length-map xs f ∙ e) (omega (arith, e, h)) is (made ∙ ap f at ∙ sym (get_or-map f xs k x))
-
--- what stands at the next place
-pub next-is :
-    {X : Type 0} → (k : ℕ) (new old now : List X) (x : X) → length new ≡ length old → k < length old →
-    now ≡ mixed k new old → x ≡ get_or now k x → x ≡ get_or old k x
-next-is k new old now x e h is at = at ∙ ap (λ ys. get_or ys k x) is ∙ mixed-get k new old x e h

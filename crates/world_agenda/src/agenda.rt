@@ -5,9 +5,10 @@ ghost use Rattle.cable_world.specs.Run.{IsReached};
 ghost use Rattle.cable_world.specs.Parts.{world_record};
 ghost use Rattle.cable_world.specs.Turn.{turns_after};
 ghost use Rattle.world_agenda.specs.Clock.{caught_up};
+ghost use Rattle.world_agenda.specs.Agenda.{Knows};
 
 use crate::node::AgendaNode;
-use crate::nodes::{act_agenda, rest_of, turn_agenda};
+use crate::nodes::{Agenda, act_agenda, turn_agenda};
 use cable_world::parts::{
     ArrivalRow, WireRow, all_silent, arrival_rows, no_changes, pass_wires, port_counts, wire_rows,
 };
@@ -32,6 +33,8 @@ pub struct AgendaWorld<M: PortMachine> {
     arrivals: Vec<ArrivalRow>,
     changed: Vec<u32>,
     turns: u32,
+    // Which nodes are due.
+    agenda: Agenda,
     out: Sends,
     spent: bool,
     ghost reached: { IsFalse spent → ∥ IsReached (world_record delay cabling
@@ -41,6 +44,8 @@ pub struct AgendaWorld<M: PortMachine> {
     ghost idle: { All (λ n. turns ≤ n.clock + n.idle) nodes.items },
     ghost marks: { length changed.items ≡ length nodes.items },
     ghost same: { IsFalse spent → map length arrivals.items ≡ map length wires.items },
+    ghost knows: { IsFalse spent → Knows agenda.soon agenda.next
+        (map (λ n. n.clock + n.idle) nodes.items) },
 }
 
 /// The machines as nodes at power-on.
@@ -76,6 +81,7 @@ impl<M: PortMachine + Drop> AgendaWorld<M> {
         let ports = counts.as_slice();
         Ok(AgendaWorld {
             delay,
+            agenda: Agenda::unknown(),
             cabling: Cabling::new(alloc, ports)?,
             wires: wire_rows(alloc, ports)?,
             arrivals: arrival_rows(alloc, ports)?,
@@ -105,11 +111,12 @@ impl<M: PortMachine> AgendaWorld<M> {
         ensures turns { self.new.turns ≡ self.old.turns + result }
         ensures sound { IsFalse self.new.spent }
     {
-        if !all_silent(&self.wires) {
+        let agenda = self.agenda;
+        let rest = agenda.rest(self.turns, most);
+        if rest == 0 {
             return 0;
         }
-        let rest = rest_of(&self.nodes, self.turns, most);
-        if rest == 0 {
+        if !all_silent(&self.wires) {
             return 0;
         }
         worlds_stay_lawful();
@@ -135,6 +142,7 @@ impl<M: PortMachine> WorldRun for AgendaWorld<M> {
         worlds_stay_lawful();
         worlds_stay_reached();
         self.spent = true;
+        self.agenda = Agenda::unknown();
         let done = act_agenda(
             act,
             &mut self.cabling,
@@ -194,6 +202,7 @@ impl<M: PortMachine> WorldRun for AgendaWorld<M> {
             self.turns,
             &mut self.arrivals,
             &mut self.out,
+            &mut self.agenda,
         )?;
         self.turns += 1;
         self.spent = false;

@@ -3,6 +3,8 @@
 #![tactic(auto)]
 
 mod agenda;
+mod heard;
+mod mask;
 mod node;
 mod nodes;
 

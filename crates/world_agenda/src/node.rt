@@ -1,5 +1,5 @@
 //! A node that stands at a turn of its own.
-ghost use Rattle.std.specs.Prelude.{◌≡◌, ◌+◌, ◌<◌, ◌≤◌, ◌↔◌, min, IsTrue};
+ghost use Rattle.std.specs.Prelude.{◌≡◌, ◌+◌, ◌<◌, ◌≤◌, min};
 ghost use Rattle.port_state.specs.Group.{shown_attrs};
 ghost use Rattle.port_state.specs.Idle.{IsIdleFor};
 ghost use Rattle.world_agenda.specs.Clock.{caught_up};
@@ -42,20 +42,11 @@ impl<M: PortMachine> AgendaNode<M> {
         }
     }
 
-    /// For how many turns after the first `turns` nothing happens, unless a signal is heard.
-    pub fn rest(&self, turns: u32) -> u32
-        requires { turns ≤ self.now.clock + self.now.idle }
-        ensures { turns + result ≤ self.now.clock + self.now.idle }
+    /// The turn to whose end nothing happens, unless a signal is heard, or an earlier one.
+    pub fn end(&self) -> u32
+        ensures { result ≤ self.now.clock + self.now.idle }
     {
-        self.idle - turns.saturating_sub(self.clock)
-    }
-
-    /// Whether nothing happens up to the end of the turn of this number, unless a signal is heard. It
-    /// may be so where the answer is no.
-    pub fn rests_until(&self, turn: u32) -> bool
-        ensures { IsTrue result ↔ turn ≤ self.now.clock + self.now.idle }
-    {
-        turn.saturating_sub(self.clock) <= self.idle
+        self.clock.saturating_add(self.idle)
     }
 
     /// The machine comes to the end of turn number `turns`.

@@ -10,12 +10,15 @@ ghost use Rattle.cable_world.specs.Turn.{turn, node_turn, wires_after_sends, sam
 ghost use Rattle.cable_world.specs.Turn.{all_wires_after_sends, last_changes};
 ghost use Rattle.cable_world.specs.running.Hearing.{inbox_of};
 ghost use Rattle.cable_world.specs.running.NodeActs.{AreLawful};
-ghost use Rattle.cable_world.specs.running.Spared.{AreSpared};
 ghost use Rattle.cable_world.specs.running.Steps.{turns_of, HasItsPorts};
+ghost use Rattle.cabling.specs.NodeSet.{Holds, IsEmpty, AgreeBut, IsWithin};
 ghost use Rattle.world_agenda.specs.Clock.{caught_up};
+ghost use Rattle.world_agenda.specs.Agenda.{AreBelow, IsSparedBut, IdlesBut, Knows};
 
+use crate::heard::hearers;
+use crate::mask::NodeMask;
 use crate::node::AgendaNode;
-use cable_world::parts::{ArrivalRow, WireRow, act_world, hearers, turn_one, turn_wires};
+use cable_world::parts::{ArrivalRow, WireRow, act_world, turn_one, turn_wires};
 use cable_world::{Act, ActStop};
 use cabling::{Cabling, OutOfMemory};
 use port_state::{PortMachine, Sends};
@@ -42,19 +45,6 @@ fn set_clocks<M: PortMachine>(nodes: &mut [AgendaNode<M>], turns: u32)
     for at in 0..nodes.len() {
         nodes[at].clock = turns;
     }
-}
-
-/// For how many turns after the first `turns` no node is due; `most` at most.
-pub fn rest_of<M: PortMachine>(nodes: &[AgendaNode<M>], turns: u32, most: u32) -> u32
-    requires { All (λ n. turns ≤ n.clock + n.idle) nodes.now }
-    ensures most { result ≤ most }
-    ensures idle { All (λ n. turns + result ≤ n.clock + n.idle) nodes.now }
-{
-    let mut least = most;
-    for at in 0..nodes.len() {
-        least = least.min(nodes[at].rest(turns));
-    }
-    least
 }
 
 /// Does an act, when `turns` turns are done. First every node catches up.
@@ -106,9 +96,96 @@ pub fn act_agenda<M: PortMachine>(
 
 // ---- a turn
 
-/// A node's part of the turn that comes after `turns` turns, if it `hears` something or is due: its
-/// machine catches up and takes its turn. Else its clock stays behind. Answers when its list changed
-/// last, which was at the end of turn number `last` before.
+/// Which nodes are due, as far as the world knows: those of `soon` may be in the next turn, and the
+/// others are idle to the end of turn number `next`, unless they hear something.
+#[derive(Clone, Copy)]
+pub struct Agenda {
+    pub soon: NodeMask,
+    pub next: u32,
+}
+
+impl Agenda {
+    /// Nothing is known.
+    pub fn unknown() -> Agenda
+        ensures next { result.next ≡ 0 }
+        ensures soon { result.soon ≡ 0 }
+    {
+        Agenda {
+            soon: NodeMask::none(),
+            next: 0,
+        }
+    }
+
+    /// For how many turns after the first `turns` no node is due, `most` at most. They may be more.
+    pub fn rest(&self, turns: u32, most: u32) -> u32
+        ensures most { result ≤ most }
+        ensures none { 0 < result → IsEmpty self.now.soon }
+        ensures end { 0 < result → turns + result ≤ self.now.next }
+    {
+        if !self.soon.is_none() {
+            return 0;
+        }
+        most.min(self.next.saturating_sub(turns))
+    }
+
+    /// A node is idle to the end of this turn, after a turn that comes after `turns` turns.
+    fn note(&mut self, node: u8, turns: u32, end: u32)
+        requires few { node < 63 }
+        requires early { turns < 4000000000 }
+        ensures others { AgreeBut self.old.soon self.new.soon node }
+        ensures next { self.new.next ≤ self.old.next }
+        ensures end { (Holds self.new.soon node → ⊥) → self.new.next ≤ end }
+    {
+        if end <= turns + 1 {
+            self.soon.insert(node);
+        } else {
+            self.next = self.next.min(end);
+        }
+    }
+}
+
+/// Takes a node into the set of those that are due after `turns` turns, if it may be: it is idle to the
+/// end of this turn. Else `next` isn't past this turn.
+fn note_due(node: u8, end: u32, turns: u32, next: u32, due: &mut NodeMask) -> u32
+    requires { node < 63 }
+    ensures others { AgreeBut due.old due.new node }
+    ensures idle { (Holds due.new node → ⊥) → turns + 1 ≤ end }
+    ensures next { result ≤ next }
+    ensures end { (Holds due.new node → ⊥) → result ≤ end }
+{
+    if end <= turns {
+        due.insert(node);
+        return next;
+    }
+    next.min(end)
+}
+
+/// The nodes that are due in the turn after `turns` turns, if they hear nothing before. The others
+/// don't come to the end of their idle turns before the end of the turn that `agenda` then tells.
+fn due_nodes<M: PortMachine>(nodes: &[AgendaNode<M>], turns: u32, agenda: &mut Agenda) -> NodeMask
+    requires few { length nodes.now ≤ 63 }
+    requires early { turns < 4000000000 }
+    requires below { AreBelow agenda.old.soon (length nodes.now) }
+    requires idle { IdlesBut agenda.old.soon agenda.old.next
+        (map (λ n. n.clock + n.idle) nodes.now) }
+    ensures due { IdlesBut result (turns + 1) (map (λ n. n.clock + n.idle) nodes.now) }
+    ensures later { IdlesBut result agenda.new.next (map (λ n. n.clock + n.idle) nodes.now) }
+    ensures below { AreBelow result (length nodes.now) }
+{
+    if turns < agenda.next {
+        return agenda.soon;
+    }
+    let mut due = NodeMask::none();
+    let mut next = u32::MAX;
+    for at in 0..nodes.len() {
+        next = note_due(at as u8, nodes[at].end(), turns, next, &mut due);
+    }
+    agenda.next = next;
+    due
+}
+
+/// A node's part of the turn that comes after `turns` turns: its machine catches up and takes its turn,
+/// and the agenda notes for how long it is idle then. Answers when its list changed last, which was at the end of turn number `last` before.
 fn turn_node<M: PortMachine>(
     node: &mut AgendaNode<M>,
     cabling: &Cabling,
@@ -119,8 +196,10 @@ fn turn_node<M: PortMachine>(
     last: u32,
     out: &mut Sends,
     wires: &mut WireRow,
+    agenda: &mut Agenda,
 ) -> Result<u32, OutOfMemory>
     requires few { turns < 4000000000 }
+    requires near { number < 63 }
     requires exists { number < length cabling.now }
     requires spared { IsFalse hears → inbox_of arrivals.now 0 (ports_of cabling.now number) ≡ [] }
     requires behind { node.old.clock ≤ turns }
@@ -140,13 +219,13 @@ fn turn_node<M: PortMachine>(
         ≡ (if same_list (caught_up turns node.old.clock (M.record_of node.old.machine))
         (caught_up (turns + 1) node.new.clock (M.record_of node.new.machine)) then last
         else turns + 1)) }
-    ensures behind { node.new.clock ≤ turns + 1 }
+    ensures clock { node.new.clock ≡ turns + 1 }
     ensures idle { turns ≤ node.new.clock + node.new.idle }
-    ensures ahead { OnOk result (turns + 1 ≤ node.new.clock + node.new.idle) }
+    ensures others { AgreeBut agenda.old.soon agenda.new.soon number }
+    ensures next { agenda.new.next ≤ agenda.old.next }
+    ensures end { (Holds agenda.new.soon number → ⊥) →
+        agenda.new.next ≤ node.new.clock + node.new.idle }
 {
-    if !hears && node.rests_until(turns + 1) {
-        return Ok(last);
-    }
     node.catch_up(turns);
     let changed = turn_one(
         node,
@@ -160,24 +239,32 @@ fn turn_node<M: PortMachine>(
         wires,
     );
     node.clock = turns + 1;
+    agenda.note(number, turns, node.end());
     changed
 }
 
-/// The turn of every node, which comes after `turns` turns.
+/// The turn of every node, which comes after `turns` turns. Those that hear something or are due take
+/// it, and the clocks of the others stay behind.
 fn turn_nodes<M: PortMachine>(
     nodes: &mut [AgendaNode<M>],
     cabling: &Cabling,
     arrivals: &[ArrivalRow],
-    hears: &[bool; 63],
+    hears: NodeMask,
+    visited: NodeMask,
     turns: u32,
     changed: &mut [u32],
     out: &mut Sends,
     wires: &mut [WireRow],
+    agenda: &mut Agenda,
 ) -> Result<(), OutOfMemory>
     requires early { turns < 4000000000 }
     requires few { length nodes.old ≤ 63 }
     requires nodes { length nodes.old ≡ length cabling.now }
-    requires spared { AreSpared arrivals.now cabling.now hears.now }
+    requires below { AreBelow visited (length nodes.old) }
+    requires spared { IsSparedBut hears arrivals.now cabling.now }
+    requires within { IsWithin hears visited }
+    requires due { IdlesBut visited (turns + 1) (map (λ n. n.clock + n.idle) nodes.old) }
+    requires later { IdlesBut visited agenda.old.next (map (λ n. n.clock + n.idle) nodes.old) }
     requires changes { length changed.old ≡ length cabling.now }
     requires rows { length wires.old ≡ length cabling.now }
     requires behind { All (λ n. n.clock ≤ turns) nodes.old }
@@ -199,18 +286,25 @@ fn turn_nodes<M: PortMachine>(
     ensures behind { OnOk result (All (λ n. n.clock ≤ turns + 1) nodes.new) }
     ensures idle { All (λ n. turns ≤ n.clock + n.idle) nodes.new }
     ensures ahead { OnOk result (All (λ n. turns + 1 ≤ n.clock + n.idle) nodes.new) }
+    ensures soon { OnOk result (IdlesBut agenda.new.soon agenda.new.next
+        (map (λ n. n.clock + n.idle) nodes.new)) }
+    ensures near { OnOk result (AreBelow agenda.new.soon (length nodes.old)) }
 {
-    for at in 0..nodes.len() {
+    agenda.soon = NodeMask::none();
+    let mut left = visited;
+    while let Some(node) = left.take_least() {
+        let at = node as usize;
         changed[at] = turn_node(
             &mut nodes[at],
             cabling,
-            at as u8,
+            node,
             arrivals,
-            hears[at],
+            hears.has(node),
             turns,
             changed[at],
             out,
             &mut wires[at],
+            agenda,
         )?;
     }
     Ok(())
@@ -226,6 +320,7 @@ pub fn turn_agenda<M: PortMachine>(
     turns: u32,
     arrivals: &mut [ArrivalRow],
     out: &mut Sends,
+    agenda: &mut Agenda,
 ) -> Result<(), OutOfMemory>
     requires few { turns < 4000000000 }
     requires lawful { IsLawful (world_record delay cabling.now
@@ -234,6 +329,7 @@ pub fn turn_agenda<M: PortMachine>(
     requires same { map length arrivals.old ≡ map length wires.old }
     requires behind { All (λ n. n.clock ≤ turns) nodes.old }
     requires idle { All (λ n. turns ≤ n.clock + n.idle) nodes.old }
+    requires knows { Knows agenda.old.soon agenda.old.next (map (λ n. n.clock + n.idle) nodes.old) }
     ensures done { OnOk result (
         world_record delay cabling.now
         (map (λ n. caught_up (turns + 1) n.clock (M.record_of n.machine)) nodes.new) wires.new
@@ -245,9 +341,14 @@ pub fn turn_agenda<M: PortMachine>(
     ensures behind { OnOk result (All (λ n. n.clock ≤ turns + 1) nodes.new) }
     ensures idle { All (λ n. turns ≤ n.clock + n.idle) nodes.new }
     ensures ahead { OnOk result (All (λ n. turns + 1 ≤ n.clock + n.idle) nodes.new) }
+    ensures knows { OnOk result (Knows agenda.new.soon agenda.new.next
+        (map (λ n. n.clock + n.idle) nodes.new)) }
 {
     turn_wires(wires, delay, arrivals)?;
     let hears = hearers(cabling, arrivals);
-    turn_nodes(nodes, cabling, arrivals, &hears, turns, changed, out, wires)?;
+    let visited = due_nodes(nodes, turns, agenda).union(hears);
+    turn_nodes(
+        nodes, cabling, arrivals, hears, visited, turns, changed, out, wires, agenda,
+    )?;
     Ok(())
 }

@@ -1,4 +1,4 @@
-use Rattle.std.proofs.Common.{◌∙◌, ◌+◌, List, length, map, ap, sym, arith}
+use Rattle.std.proofs.Common.{◌∙◌, ◌+◌, ◌<◌, ℕ, List, length, map, ap, sym, arith, inl, inr}
 use Rattle.std.proofs.lemmas.List.{length-map}
 use Rattle.port_state.specs.Machine.{PortNode}
 use Rattle.cable_world.specs.Wire.{Wire, arrives, stays}
@@ -53,3 +53,58 @@ returns-clause-same g c =
     ∙ rows-long (arrives c.args.delay) rows ∙ sym (rows-long (stays c.args.delay) rows)
     ∙ ap lengths (sym c.in_ok-turn_wires.ensures.stays)
     ∙ sym (sent-long _ c.turn_wires.new.wires) ∙ ap lengths (sym c.in_ok-turn_nodes.ensures.wires)
+
+pub hearers-hears-requires : goal.hearers-hears-requires
+hearers-hears-requires g c =
+    let w = c.requires.lawful.well_formed in
+    ap length c.in_ok-turn_wires.ensures.arrives ∙ length-map c.args.wires.now (map (arrives c.args.delay)) ∙ w.wire_rows
+
+pub due_nodes-requires-clause-few : goal.due_nodes-requires-clause-few
+due_nodes-requires-clause-few g c =
+    let f : AgendaNode g.row.M.Denot g.M.PortMachine → PortNode = λ n. caught_up c.args.turns n.clock (g.M.PortMachine.record_of n.machine) in
+    let w = c.requires.lawful.well_formed in
+    omega (arith, length-map c.args.nodes.now f, w.count, w.cabling.few_nodes)
+
+pub due_nodes-requires-clause-below : goal.due_nodes-requires-clause-below
+due_nodes-requires-clause-below g c =
+    let ends : AgendaNode g.row.M.Denot g.M.PortMachine → ℕ = λ n. n.clock + n.idle in
+    λ k has. let less = c.requires.knows.near k has in omega (arith, less, length-map c.args.nodes.now ends)
+
+pub due_nodes-requires-clause-idle : goal.due_nodes-requires-clause-idle
+due_nodes-requires-clause-idle g c =
+    c.requires.knows.idles
+
+pub turn_nodes-requires-clause-below : goal.turn_nodes-requires-clause-below
+turn_nodes-requires-clause-below g c =
+    let f : AgendaNode g.row.M.Denot g.M.PortMachine → PortNode = λ n. caught_up c.args.turns n.clock (g.M.PortMachine.record_of n.machine) in
+    let w = c.requires.lawful.well_formed in
+    λ k has. elim ((c.union-visited.ensures k).0 has) [
+      | inl due ↦ c.due_nodes.ensures.below k due
+      | inr heard ↦ let less = c.hearers-hears.ensures.below k heard in omega (arith, less, length-map c.args.nodes.now f, w.count)
+    ]
+
+pub turn_nodes-requires-clause-spared : goal.turn_nodes-requires-clause-spared
+turn_nodes-requires-clause-spared g c =
+    c.hearers-hears.ensures.spared
+
+pub turn_nodes-requires-clause-within : goal.turn_nodes-requires-clause-within
+turn_nodes-requires-clause-within g c =
+    λ k has. (c.union-visited.ensures k).1 (inr has)
+
+pub turn_nodes-requires-clause-due : goal.turn_nodes-requires-clause-due
+turn_nodes-requires-clause-due g c =
+    λ k inside out. c.due_nodes.ensures.due k inside (λ has. out ((c.union-visited.ensures k).1 (inl has)))
+
+pub turn_nodes-requires-clause-later : goal.turn_nodes-requires-clause-later
+turn_nodes-requires-clause-later g c =
+    λ k inside out. c.due_nodes.ensures.later k inside (λ has. out ((c.union-visited.ensures k).1 (inl has)))
+
+pub returns-clause-knows : goal.returns-clause-knows
+returns-clause-knows g c =
+    let ends : AgendaNode g.row.M.Denot g.M.PortMachine → ℕ = λ n. n.clock + n.idle in
+    record {
+      near = λ k has.
+          let less = c.in_ok-turn_nodes.ensures.near k has in
+          omega (arith, less, c.turn_nodes.auto.nodes, length-map c.turn_nodes.new.nodes ends);
+      idles = c.in_ok-turn_nodes.ensures.soon;
+    }

@@ -9,6 +9,7 @@ use Rattle.cable_world.specs.Parts.{world_record}
 use Rattle.cable_world.specs.Run.{IsReached}
 use Rattle.world_agenda.specs.declared.node.AgendaNode.{AgendaNode}
 use Rattle.world_agenda.specs.Clock.{caught_up}
+use Rattle.world_agenda.proofs.Known.{known-nothing}
 use Rattle.world_agenda.proofs.Late.{all-now}
 use Rattle.world_agenda.proofs.Start.{powered, as-long, start-is}
 use Rattle.world_agenda.proofs.agenda.AgendaWorld.new.Goals as goal
@@ -44,6 +45,7 @@ invariant_of-result g c =
       behind = λ fine. All-weaker (λ n. n.clock ≡ 0) (λ n. n.clock ≤ 0) (λ n e. omega (arith, e)) agenda c.in_ok-agenda_nodes.ensures.clocks;
       idle = λ k e inside. omega arith;
       marks = ap length c.in_ok-no_changes.ensures ∙ length-replicate c.len.result 0 ∙ omega (arith, c.len.ensures, c.args.machines.ok.0) ∙ sym many;
+      knows = λ fine. known-nothing c.unknown.result.soon c.unknown.result.next _ c.unknown.ensures.soon c.unknown.ensures.next;
       same = λ fine. ap (λ rows. map length rows) c.in_ok-arrival_rows.ensures ∙ as-long [] empty_wire counts ∙ sym (ap (λ rows. map length rows) c.in_ok-wire_rows.ensures);
     }
 

@@ -1,4 +1,4 @@
-use Rattle.std.proofs.Common.{◌≡◌, ◌∙◌, ◌+◌, ◌≤◌, All, List, length, map, get_or, ap, sym, subst, arith}
+use Rattle.std.proofs.Common.{◌≡◌, ◌∙◌, ◌+◌, ◌<◌, ◌≤◌, All, List, length, map, get_or, ap, sym, subst, arith}
 use Rattle.std.specs.Vec.{with_items}
 use Rattle.std.proofs.lemmas.List.{with_items_is}
 use Rattle.std.proofs.lemmas.List.Elements.{All-map, All-weaker}
@@ -12,26 +12,30 @@ use Rattle.world_agenda.specs.declared.node.AgendaNode.{AgendaNode}
 use Rattle.world_agenda.specs.Clock.{caught_up}
 use Rattle.cable_world.specs.Still.{AreSilent, IsStillFor, hold_less}
 use Rattle.cable_world.specs.Run.{IsReached}
+use Rattle.world_agenda.proofs.Known.{all-idle}
 use Rattle.world_agenda.proofs.Late.{all-later, still-idle}
 use Rattle.world_agenda.proofs.Turns.{no-turns}
 use Rattle.world_agenda.proofs.Whole.{lawful-now}
 use Rattle.world_agenda.proofs.agenda.AgendaWorld.pass_over.Goals as goal
 use Rattle.cable_world.proofs.Lemmas.{rows-long}
 
-pub returns-then-not-all_silent-clause-done : goal.returns-then-not-all_silent-clause-done
-returns-then-not-all_silent-clause-done g c = sym (no-turns _)
-
 pub returns-then-rest-eq0-clause-done : goal.returns-then-rest-eq0-clause-done
 returns-then-rest-eq0-clause-done g c = sym (no-turns _)
+
+pub returns-then-not-all_silent-clause-done : goal.returns-then-not-all_silent-clause-done
+returns-then-not-all_silent-clause-done g c = sym (no-turns _)
 
 pub invariant_of-self : goal.invariant_of-self
 invariant_of-self g c =
     let self = c.args.self.now in
     let f : AgendaNode g.row.M.Denot g.M.PortMachine → PortNode = λ n. caught_up self.turns n.clock (g.M.PortMachine.record_of n.machine) in
     let w : CableWorld = world_record self.delay self.cabling (map f self.nodes.items) self.wires.items self.changed.items self.turns in
-    let k = c.rest_of-rest.result in
+    let k = c.rest-rest.result in
     let behind = self.behind c.requires.sound in
-    let idle = subst (λ xs. All (λ n. self.turns + k ≤ n.clock + n.idle) xs) c.deref-2.ensures.value c.rest_of-rest.ensures.idle in
+    let idle : All (λ n. self.turns + k ≤ n.clock + n.idle) self.nodes.items =
+    let some : 0 < k = omega (arith, c.if-rest-eq0.false) in
+    all-idle (λ n. n.clock + n.idle) self.agenda.soon self.agenda.next (self.turns + k) self.nodes.items (c.rest-rest.ensures.none some) (c.rest-rest.ensures.end some)
+    (self.knows c.requires.sound).idles in
     let ws = with_items_is self.wires c.pass_wires.new.wires (c.pass_wires.auto.wires ∙ c.deref_mut.ensures.len) in
     let h : AgendaNode g.row.M.Denot g.M.PortMachine → PortNode = λ n. caught_up (self.turns + k) n.clock (g.M.PortMachine.record_of n.machine) in
     let r : AgendaNode g.row.M.Denot g.M.PortMachine → PortNode = λ n. g.M.PortMachine.record_of n.machine in
@@ -52,6 +56,7 @@ invariant_of-self g c =
       behind = λ fine. All-weaker (λ n. n.clock ≤ self.turns) (λ n. n.clock ≤ self.turns + k) (λ n few. omega (arith, few)) self.nodes.items behind;
       idle = idle;
       marks = self.marks;
+      knows = self.knows;
       same = λ fine. self.same c.requires.sound
           ∙ sym (ap (λ (l : List (List Wire)). map length l) (ws ∙ c.pass_wires.ensures) ∙ rows-long (hold_less k) c.deref_mut.result.now
           ∙ ap (λ (l : List (List Wire)). map length l) c.deref_mut.ensures.value);
@@ -62,9 +67,12 @@ returns-clause-done g c =
     let self = c.args.self.now in
     let f : AgendaNode g.row.M.Denot g.M.PortMachine → PortNode = λ n. caught_up self.turns n.clock (g.M.PortMachine.record_of n.machine) in
     let w : CableWorld = world_record self.delay self.cabling (map f self.nodes.items) self.wires.items self.changed.items self.turns in
-    let k = c.rest_of-rest.result in
+    let k = c.rest-rest.result in
     let behind = self.behind c.requires.sound in
-    let idle = subst (λ xs. All (λ n. self.turns + k ≤ n.clock + n.idle) xs) c.deref-2.ensures.value c.rest_of-rest.ensures.idle in
+    let idle : All (λ n. self.turns + k ≤ n.clock + n.idle) self.nodes.items =
+    let some : 0 < k = omega (arith, c.if-rest-eq0.false) in
+    all-idle (λ n. n.clock + n.idle) self.agenda.soon self.agenda.next (self.turns + k) self.nodes.items (c.rest-rest.ensures.none some) (c.rest-rest.ensures.end some)
+    (self.knows c.requires.sound).idles in
     let ws = with_items_is self.wires c.pass_wires.new.wires (c.pass_wires.auto.wires ∙ c.deref_mut.ensures.len) in
     let h : AgendaNode g.row.M.Denot g.M.PortMachine → PortNode = λ n. caught_up (self.turns + k) n.clock (g.M.PortMachine.record_of n.machine) in
     let r : AgendaNode g.row.M.Denot g.M.PortMachine → PortNode = λ n. g.M.PortMachine.record_of n.machine in

@@ -10,6 +10,7 @@ use Rattle.world_agenda.specs.declared.node.AgendaNode.{AgendaNode}
 use Rattle.world_agenda.specs.Clock.{caught_up}
 use Rattle.cable_world.specs.Act.{ActLeads, act_fault}
 use Rattle.cable_world.specs.Run.{IsReached}
+use Rattle.world_agenda.proofs.Known.{known-nothing}
 use Rattle.world_agenda.proofs.Whole.{lawful-now, vectors-related, parts-same, fault-of, memory-of}
 use Rattle.world_agenda.proofs.agenda.AgendaWorldWorldRun.act.Goals as goal
 
@@ -53,6 +54,7 @@ invariant_of-self g c =
           (All-weaker (λ n. n.clock ≡ self.turns) (λ n. n.clock ≤ self.turns) (λ n e. omega (arith, e)) new.nodes c.act_agenda-done.ensures.clocks);
       idle = subst (λ xs. All (λ n. self.turns ≤ n.clock + n.idle) xs) (sym ns)
           (All-weaker (λ n. n.clock ≡ self.turns) (λ n. self.turns ≤ n.clock + n.idle) (λ n e. omega (arith, e)) new.nodes c.act_agenda-done.ensures.clocks);
+      knows = λ fine. known-nothing c.unknown-self.result.soon c.unknown-self.result.next _ c.unknown-self.ensures.soon c.unknown-self.ensures.next;
       marks = ap length cs ∙ auto.changed ∙ ap length c.deref_mut-3.ensures.value ∙ self.marks ∙ sym (ap length ns ∙ auto.nodes ∙ ap length c.deref_mut.ensures.value);
       same = λ fine. self.same c.if-self.false ∙ sym (ap (λ (l : List (List Wire)). map length l) ws ∙ c.in-Ok.ensures.rows ∙ ap (λ (l : List (List Wire)). map length l) c.deref_mut-2.ensures.value);
     }
@@ -80,6 +82,7 @@ invariant_of-self-in-Fault g c =
           (All-weaker (λ n. n.clock ≡ self.turns) (λ n. n.clock ≤ self.turns) (λ n e. omega (arith, e)) new.nodes c.act_agenda-done.ensures.clocks);
       idle = subst (λ xs. All (λ n. self.turns ≤ n.clock + n.idle) xs) (sym ns)
           (All-weaker (λ n. n.clock ≡ self.turns) (λ n. self.turns ≤ n.clock + n.idle) (λ n e. omega (arith, e)) new.nodes c.act_agenda-done.ensures.clocks);
+      knows = λ fine. known-nothing c.unknown-self.result.soon c.unknown-self.result.next _ c.unknown-self.ensures.soon c.unknown-self.ensures.next;
       marks = ap length cs ∙ auto.changed ∙ ap length c.deref_mut-3.ensures.value ∙ self.marks ∙ sym (ap length ns ∙ auto.nodes ∙ ap length c.deref_mut.ensures.value);
       same = λ fine. self.same c.if-self.false ∙ sym (ap (λ (l : List (List Wire)). map length l) (ws ∙ kept.2 ∙ c.deref_mut-2.ensures.value));
     }

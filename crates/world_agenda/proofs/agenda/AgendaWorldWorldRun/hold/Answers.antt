@@ -51,5 +51,6 @@ invariant_of-self g c =
       behind = self.behind;
       idle = self.idle;
       marks = self.marks;
+      knows = self.knows;
       same = λ fine. self.same fine ∙ sym (ap (λ rows. map length rows) made ∙ put-long self.wires.items end held);
     }

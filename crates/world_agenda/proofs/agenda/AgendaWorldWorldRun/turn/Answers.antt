@@ -29,6 +29,10 @@ turn_agenda-requires-clause-behind g c = rw c.deref_mut.ensures.value (c.args.se
 pub turn_agenda-requires-clause-idle : goal.turn_agenda-requires-clause-idle
 turn_agenda-requires-clause-idle g c = rw c.deref_mut.ensures.value c.args.self.now.idle
 
+pub turn_agenda-requires-clause-knows : goal.turn_agenda-requires-clause-knows
+turn_agenda-requires-clause-knows g c =
+    rw c.deref_mut.ensures.value (c.args.self.now.knows c.if-self.false)
+
 -- want of memory leaves no node past its idle ticks
 pub invariant_of-self : goal.invariant_of-self
 invariant_of-self g c =
@@ -44,6 +48,7 @@ invariant_of-self g c =
       reached = λ fine. absurd cc;
       behind = λ fine. absurd cc;
       idle = subst (λ xs. All (λ n. self.turns ≤ n.clock + n.idle) xs) (sym ns) c.turn_agenda.ensures.idle;
+      knows = λ fine. absurd cc;
       marks = ap length cs ∙ auto.changed ∙ ap length c.deref_mut-3.ensures.value ∙ self.marks ∙ sym (ap length ns ∙ auto.nodes ∙ ap length c.deref_mut.ensures.value);
       same = λ fine. absurd cc;
     }
@@ -69,6 +74,7 @@ invariant_of-self-2 g c =
       reached = λ fine. subst (λ v. ∥ IsReached v ∥₁) (sym (one-turn w _ done)) (∥∥₁_map (self.reached c.if-self.false) (c.worlds_stay_reached.ensures.turns 1 w));
       behind = λ fine. subst (λ xs. All (λ n. n.clock ≤ self.turns + 1) xs) (sym ns) c.in_ok-turn_agenda.ensures.behind;
       idle = subst (λ xs. All (λ n. self.turns + 1 ≤ n.clock + n.idle) xs) (sym ns) c.in_ok-turn_agenda.ensures.ahead;
+      knows = λ fine. rw ns c.in_ok-turn_agenda.ensures.knows;
       marks = ap length cs ∙ auto.changed ∙ ap length c.deref_mut-3.ensures.value ∙ self.marks ∙ sym (ap length ns ∙ auto.nodes ∙ ap length c.deref_mut.ensures.value);
       same = λ fine. ap (λ (l : List (List _)). map length l) arr ∙ c.in_ok-turn_agenda.ensures.same ∙ ap (λ (l : List (List Wire)). map length l) (sym ws);
     }

@@ -1,0 +1,8 @@
+use Rattle.world_agenda.proofs.Bits.{in_union, union-small}
+use Rattle.world_agenda.proofs.mask.NodeMask.union.Goals as goal
+
+pub invariant_of-result : goal.invariant_of-result
+invariant_of-result c = union-small c.self.inside.bits c.other.inside.bits c.self.invariant c.other.invariant
+
+pub returns : goal.returns
+returns c = rw (← c.self.view_is, ← c.other.view_is) (λ k. in_union c.self.inside.bits c.other.inside.bits k)
