@@ -1,14 +1,16 @@
 -- What is written, and when, of the answer to the bytes that were told.
-use Rattle.std.proofs.Common.{◌≡◌, ℕ, ◌≤◌, Option, Some, None, List, [], Ok, length, sym, subst, arith, ◌↔◌}
+use Rattle.std.proofs.Common.{◌≡◌, ◌⊎◌, inl, inr, ℕ, ◌≤◌, Option, Some, None, List, [], Ok, length, refl, sym, subst, arith, ◌↔◌}
 use Rattle.std.specs.Prelude.{IfSome, String}
 use Rattle.std.specs.Global.{Global}
 use Rattle.std.specs.Io.KnownBytes.{Appends}
 use Rattle.io_edges.specs.Told.{IfTold, TookOver}
-use Rattle.bus_view.specs.Form.{IsForm}
+use Rattle.bus_view.specs.Form.{Asks, AsksScript, IsForm}
 use Rattle.bus_view.specs.declared.form.ViewForm.{ViewForm}
-use Rattle.bus_view.specs.declared.form.ViewForm.TheVariants.{Capture, Trace}
+use Rattle.bus_view.specs.declared.form.ViewForm.TheVariants.{Capture, Trace, Script}
 use Rattle.bus_view.specs.Answer.{Reading, spelt, refused, status_of, IsTraceView, traced, at_fault, IsView, Answers, viewed, no_form}
+use Rattle.script_made.specs.Made.{made_script}
 use Rattle.script_trace.specs.Trace.{IsTrace}
+use Rattle.bus_view.proofs.Forms.{one_form}
 use Rattle.bus_view.specs.OneAnswer.{NoInputHasTwoViews}
 
 -- the words' answer to these bytes is that to the bytes that were told
@@ -42,6 +44,7 @@ few_status (Capture view standard) bytes status text shows =
     of_reading shows.reading status shows.status_is
 few_status Trace bytes status text (traced e x) = omega (arith, e)
 few_status Trace bytes status text (at_fault fault e x t) = omega (arith, e)
+few_status (Script nodes seed) bytes status text x = let e = x.0 in omega (arith, e)
 
 -- it isn't 6, where not too many bytes were taken
 pub not_six : (X : Type 0) (old new : Option (List ℕ)) (status : ℕ) → status ≤ 1 →
@@ -50,6 +53,41 @@ pub not_six : (X : Type 0) (old new : Option (List ℕ)) (status : ℕ) → stat
 not_six X None new status few h none = tt
 not_six X (Some xs) None status few h none = tt
 not_six X (Some xs) (Some ys) status few h none = (λ six. absurd (omega (arith, six, few)), λ took. absurd (none (h.1 took)))
+
+-- of two things the one that isn't another status
+pub or_else : (A : Type 0) (n m : ℕ) → (n ≡ m → ⊥) → (n ≡ m) ⊎ A → A
+or_else A n m apart (inl e) = absurd (apart e)
+or_else A n m apart (inr a) = a
+
+-- some bytes are those that are left, told or not
+pub some_left : (left : Option (List ℕ)) → (bytes : List ℕ) × IfSome left (λ told. bytes ≡ told)
+some_left None = ([], tt)
+some_left (Some bytes) = (bytes, refl)
+
+-- where the words ask for a form, the answer is one of it
+pub of_form : (words : List (String Global)) (form : ViewForm) → Asks words form →
+    (bytes : List ℕ) (status : ℕ) (text : List ℕ) → Answers words bytes status text →
+    IsView form bytes status text
+of_form words form asks bytes status text (viewed other again is) =
+    subst (λ (f : ViewForm). IsView f bytes status text) (one_form words other form again asks) is
+of_form words form asks bytes status text (no_form none two empty) = absurd (none (form, asks))
+
+-- a view of a form that is known
+pub of_known : (form known : ViewForm) → form ≡ known → (bytes : List ℕ) (status : ℕ) (text : List ℕ) →
+    IsView known bytes status text → IsView form bytes status text
+of_known form known e bytes status text is =
+    subst (λ (f : ViewForm). IsView f bytes status text) (sym e) is
+
+pub script_status : (words : List (String Global)) (bytes : List ℕ) (status : ℕ) (text : List ℕ) →
+    AsksScript words → Answers words bytes status text → status ≡ 0
+script_status words bytes status text script is =
+    (of_form words (Script script.0 script.1) script.2 bytes status text is).0
+
+pub script_text : (words : List (String Global)) (nodes seed : ℕ) (bytes : List ℕ) (status : ℕ)
+    (text : List ℕ) → Asks words (Script nodes seed) → Answers words bytes status text →
+    text ≡ made_script nodes seed
+script_text words nodes seed bytes status text asks is =
+    (of_form words (Script nodes seed) asks bytes status text is).1
 
 -- ---- a sink that surely takes the text
 
@@ -65,14 +103,15 @@ taken_surely one words (Some bytes) read text status takes same all answers go =
 -- ---- a trace
 
 -- what answers the words of a trace at status 0
-pub trace_written : (words : List (String Global)) (form : ViewForm) (left old new : Option (List ℕ)) (read text : List ℕ) (status : ℕ) →
-    form ≡ Trace → status ≡ 0 → IfSome left (λ bytes. read ≡ bytes) → IsView form read status text →
-    Appends old new text →
+pub trace_written : (words : List (String Global)) (left old new : Option (List ℕ)) (status : ℕ) →
+    Asks words Trace → status ≡ 0 →
+    ((status ≡ 0) ⊎ (status ≡ 1) → IfSome left (λ bytes. (x : List ℕ) × Answers words bytes status x × Appends old new x)) →
     IfSome left (λ bytes. (lines : List ℕ) × IsTrace bytes (Ok lines) × Appends old new lines)
-trace_written words form None old new read text status is zero all view whole = tt
-trace_written words form (Some bytes) old new read text status is zero all view whole =
-    (text, subst (λ (b : List ℕ). IsTrace b (Ok text)) all (lines (subst (λ (f : ViewForm). IsView f read status text) is view)), whole)
+trace_written words None old new status asks zero whole = tt
+trace_written words (Some bytes) old new status asks zero whole =
+    let w = whole (inl zero) in
+    (w.0, lines w.0 (of_form words Trace asks bytes status w.0 w.1), w.2)
   where
-    lines : IsTraceView read status text → IsTrace read (Ok text)
-    lines (traced e x) = x
-    lines (at_fault fault e x t) = absurd (omega (arith, e, zero))
+    lines : (text : List ℕ) → IsTraceView bytes status text → IsTrace bytes (Ok text)
+    lines text (traced e x) = x
+    lines text (at_fault fault e x t) = absurd (omega (arith, e, zero))

@@ -1,15 +1,18 @@
 -- Words are those of one form at most.
-use Rattle.std.proofs.Common.{◌≡◌, ◌⊎◌, inl, inr, ℕ, Bool, true, false, cond, eqb, Option, Some, None, List, [], ◌∷◌, refl, ap, subst}
-use Rattle.std.specs.Prelude.{String, map, string_bytes, codes}
+use Rattle.std.proofs.Common.{◌≡◌, ◌≤◌, ◌⊎◌, inl, inr, ℕ, Bool, true, false, cond, eqb, Option, Some, None, List, [], ◌∷◌, refl, ap, subst, ◌∙◌, arith}
+use Rattle.std.specs.Prelude.{String, map, string_bytes, codes, nat_lt, ◌<◌}
 use Rattle.std.specs.Global.{Global}
 use Rattle.self_id.specs.declared.standard.Standard.{Standard}
 use Rattle.self_id.specs.declared.standard.Standard.TheVariants.{Ieee1995, Ieee2000}
 use Rattle.bus_view.specs.declared.form.CaptureView.{CaptureView}
 use Rattle.bus_view.specs.declared.form.CaptureView.TheVariants.{Packets, Tree, Dot}
 use Rattle.bus_view.specs.declared.form.ViewForm.{ViewForm}
-use Rattle.bus_view.specs.declared.form.ViewForm.TheVariants.{Capture, Trace}
-use Rattle.bus_view.specs.Form.{standard_words, AreWordsOf, Asks, IsForm}
+use Rattle.bus_view.specs.declared.form.ViewForm.TheVariants.{Capture, Trace, Script}
+use Rattle.script_lines.specs.Number.{number_of}
+use Rattle.bus_view.specs.Form.{standard_words, AreScriptWords, AreWordsOf, Asks, AsksScript, IsForm}
+use Rattle.bus_view.specs.codings.Reading.{IsRead, AsksFewNodes}
 use Rattle.std.proofs.lemmas.Bool.{eqb-true}
+use Rattle.std.proofs.lemmas.Bool.Decides.{nat_tests}
 
 -- ---- the form of words, found by trying them all
 
@@ -33,6 +36,14 @@ same-true (x ∷ xs) (y ∷ ys) e =
     let head : x ≡ y = eqb-true x y p.0 in
     rw (head, same-true xs ys p.1) refl
 
+-- 1 to 63 nodes, and a seed
+abbrev ranged : Bool → Bool → ℕ → ℕ → Option ViewForm
+ranged low high nodes seed = cond low (cond high (Some (Script nodes seed)) None) None
+
+of_numbers : Option ℕ → Option ℕ → Option ViewForm
+of_numbers (Some nodes) (Some seed) = ranged (nat_lt 0 nodes) (nat_lt nodes 64) nodes seed
+of_numbers _ _ = None
+
 abbrev view_word : CaptureView → List ℕ
 view_word Packets = codes "packets"
 view_word Tree = codes "tree"
@@ -54,7 +65,20 @@ form_of (word ∷ []) =
     cond (same word (codes "trace")) (Some Trace) (capture_of (view_of word) Ieee2000)
 form_of (word ∷ next ∷ []) =
     cond (same next (codes "--1995")) (capture_of (view_of word) Ieee1995) None
-form_of (word ∷ next ∷ more ∷ words) = None
+form_of (word ∷ a ∷ b ∷ []) = cond (same word (codes "script")) (of_numbers (number_of a) (number_of b)) None
+form_of (word ∷ a ∷ b ∷ c ∷ words) = None
+
+in_range : (low high : Bool) (nodes seed : ℕ) → nat_lt 0 nodes ≡ low → nat_lt nodes 64 ≡ high →
+    1 ≤ nodes → nodes ≤ 63 → ranged low high nodes seed ≡ Some (Script nodes seed)
+in_range true true nodes seed l h some few = refl
+in_range false high nodes seed l h some few = absurd (grind (arith, nat_tests))
+in_range true false nodes seed l h some few = absurd (grind (arith, nat_tests))
+
+from_numbers : (a b : Option ℕ) (nodes seed : ℕ) → a ≡ Some nodes → b ≡ Some seed →
+    1 ≤ nodes → nodes ≤ 63 → of_numbers a b ≡ Some (Script nodes seed)
+unfolding of_numbers
+from_numbers a b nodes seed x y some few =
+    rw (x, y) (in_range (nat_lt 0 nodes) (nat_lt nodes 64) nodes seed refl refl some few)
 
 is_found : (form : ViewForm) (words : List (List ℕ)) → AreWordsOf form words →
     form_of words ≡ Some form
@@ -66,6 +90,9 @@ is_found (Capture Tree Ieee2000) words e = ap (λ (ws : List (List ℕ)). form_o
 is_found (Capture Dot Ieee1995) words e = ap (λ (ws : List (List ℕ)). form_of ws) e
 is_found (Capture Dot Ieee2000) words e = ap (λ (ws : List (List ℕ)). form_of ws) e
 is_found Trace words e = ap (λ (ws : List (List ℕ)). form_of ws) e
+is_found (Script nodes seed) words m =
+    ap (λ (ws : List (List ℕ)). form_of ws) m.words_are
+    ∙ from_numbers (number_of m.nodes_word) (number_of m.seed_word) nodes seed m.nodes_are m.seed_is m.some_nodes m.few_nodes
 
 same_form : (a b : ViewForm) (x : Option ViewForm) → x ≡ Some a → x ≡ Some b → a ≡ b
 same_form a b x e f = cc
@@ -119,13 +146,45 @@ two_words true word next form is e =
     rw (is refl) (of_capture (view_of word) Ieee1995 word form (view_is word) e)
 two_words false word next form is e = absurd cc
 
+-- 1 to 63 nodes and a seed that are found stand there
+by_range : (low high : Bool) (word a b : List ℕ) (nodes seed : ℕ) (form : ViewForm) →
+    nat_lt 0 nodes ≡ low → nat_lt nodes 64 ≡ high → word ≡ codes "script" → number_of a ≡ Some nodes → number_of b ≡ Some seed →
+    ranged low high nodes seed ≡ Some form → AreWordsOf form (word ∷ a ∷ b ∷ [])
+by_range true true word a b nodes seed form l h w x y e =
+    let f : Script nodes seed ≡ form = cc in
+    subst (λ (g : ViewForm). AreWordsOf g (word ∷ a ∷ b ∷ [])) f record {
+      nodes_word = a;
+      seed_word = b;
+      words_are = ap (λ (v : List ℕ). v ∷ a ∷ b ∷ []) w;
+      nodes_are = x;
+      some_nodes = grind (arith, nat_tests);
+      few_nodes = grind (arith, nat_tests);
+      seed_is = y;
+    }
+by_range false high word a b nodes seed form l h w x y e = absurd cc
+by_range true false word a b nodes seed form l h w x y e = absurd cc
+
+by_numbers : (n s : Option ℕ) (word a b : List ℕ) (form : ViewForm) → word ≡ codes "script" →
+    number_of a ≡ n → number_of b ≡ s → of_numbers n s ≡ Some form → AreWordsOf form (word ∷ a ∷ b ∷ [])
+unfolding of_numbers
+by_numbers None s word a b form w x y e = absurd cc
+by_numbers (Some nodes) None word a b form w x y e = absurd cc
+by_numbers (Some nodes) (Some seed) word a b form w x y e =
+    by_range (nat_lt 0 nodes) (nat_lt nodes 64) word a b nodes seed form refl refl w x y e
+
+three_words : (test : Bool) (word a b : List ℕ) (form : ViewForm) → (test ≡ true → word ≡ codes "script") →
+    cond test (of_numbers (number_of a) (number_of b)) None ≡ Some form → AreWordsOf form (word ∷ a ∷ b ∷ [])
+three_words true word a b form is e = by_numbers (number_of a) (number_of b) word a b form (is refl) refl refl e
+three_words false word a b form is e = absurd cc
+
 are_words : (words : List (List ℕ)) (form : ViewForm) → form_of words ≡ Some form →
     AreWordsOf form words
 unfolding form_of
 are_words [] form e = absurd cc
 are_words (word ∷ []) form e = one_word _ word form (same-true word (codes "trace")) e
 are_words (word ∷ next ∷ []) form e = two_words _ word next form (same-true next (codes "--1995")) e
-are_words (word ∷ next ∷ more ∷ words) form e = absurd cc
+are_words (word ∷ a ∷ b ∷ []) form e = three_words _ word a b form (same-true word (codes "script")) e
+are_words (word ∷ a ∷ b ∷ c ∷ words) form e = absurd cc
 
 pub form_or_none : (words : List (String Global)) → IsForm words ⊎ (IsForm words → ⊥)
 form_or_none words = go (form_of (map string_bytes words)) refl
@@ -133,3 +192,25 @@ form_or_none words = go (form_of (map string_bytes words)) refl
     go : (found : Option ViewForm) → form_of (map string_bytes words) ≡ found → IsForm words ⊎ (IsForm words → ⊥)
     go (Some form) e = inl (form, are_words (map string_bytes words) form e)
     go None e = inr (λ is. let f = is_found is.0 (map string_bytes words) is.1 in cc)
+
+-- ---- what is read
+
+-- with words that aren't those of `script` the input is read
+pub is_read : (words : List (String Global)) (form : ViewForm) → Asks words form →
+    (AsksScript words → ⊥) → IsRead form
+is_read words (Capture view standard) asks none = tt
+is_read words Trace asks none = tt
+is_read words (Script nodes seed) asks none = absurd (none (nodes, seed, asks))
+
+-- with those of `script` it isn't
+pub is_unread : (words : List (String Global)) (form : ViewForm) → Asks words form →
+    AsksScript words → IsRead form → ⊥
+is_unread words form asks script read =
+    let e : Script script.0 script.1 ≡ form = one_form words (Script script.0 script.1) form script.2 asks in
+    subst (λ (f : ViewForm). IsRead f → ⊥) e (λ none. none) read
+
+-- with those of `script` there are 1 to 63 nodes
+pub few_nodes : (words : List (String Global)) (form : ViewForm) → Asks words form → AsksFewNodes form
+few_nodes words (Capture view standard) asks = tt
+few_nodes words Trace asks = tt
+few_nodes words (Script nodes seed) asks = (asks.some_nodes, asks.few_nodes)

@@ -3,3 +3,4 @@ pub mod OneView
 pub mod Ends
 pub mod SomePacket
 pub mod SomeView
+pub mod Summed

@@ -22,7 +22,7 @@ use Rattle.view_text.specs.Drawing.{IsDrawing, IsRoot, drawing}
 use Rattle.bus_view.specs.declared.form.CaptureView.{CaptureView}
 use Rattle.bus_view.specs.declared.form.CaptureView.TheVariants.{Packets, Tree as Drawn, Dot}
 use Rattle.bus_view.specs.declared.form.ViewForm.{ViewForm}
-use Rattle.bus_view.specs.declared.form.ViewForm.TheVariants.{Capture, Trace}
+use Rattle.bus_view.specs.declared.form.ViewForm.TheVariants.{Capture, Trace, Script}
 use Rattle.bus_view.specs.Answer.{Reading, spelt, refused, IsReading, status_of, ShowsPackets, HasText, IsCaptureView, IsTraceView, traced, at_fault, IsView, viewed, no_form}
 use Rattle.bus_view.specs.OneAnswer.{NoInputHasTwoViews}
 use Rattle.bus_view.proofs.Forms.{one_form}
@@ -128,6 +128,7 @@ same_view : HasOneReading → (form : ViewForm) (bytes : List ℕ) (s r : ℕ) (
 same_view one Trace bytes s r a b x y = same_trace one bytes s r a b x y
 same_view one (Capture view standard) bytes s r a b x y =
     same_capture one view standard bytes s r a b x y
+same_view one (Script nodes seed) bytes s r a b x y = (x.0 ∙ sym y.0, x.1 ∙ sym y.1)
 
 -- ---- words and bytes have one answer
 

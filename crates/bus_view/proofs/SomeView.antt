@@ -10,6 +10,7 @@ use Rattle.bus_manager.specs.Hops.{IsHops}
 use Rattle.bus_manager.proofs.Lemmas.{is_hops, small}
 use Rattle.bus_cli.specs.OneReading.{EachCaptureHasATreeOrAFault}
 use Rattle.bus_cli.specs.Line.{fault_line, script_line}
+use Rattle.script_made.specs.Made.{made_script}
 use Rattle.script_told.specs.Script.{Told}
 use Rattle.script_told.specs.Run.{ScriptRun, IsRun, printed, unless_stopped}
 use Rattle.script_bus.specs.SomeRun.{EachScriptHasARun}
@@ -21,7 +22,7 @@ use Rattle.view_text.specs.Graph.{graph}
 use Rattle.bus_view.specs.declared.form.CaptureView.{CaptureView}
 use Rattle.bus_view.specs.declared.form.CaptureView.TheVariants.{Packets, Tree as Drawn, Dot}
 use Rattle.bus_view.specs.declared.form.ViewForm.{ViewForm}
-use Rattle.bus_view.specs.declared.form.ViewForm.TheVariants.{Capture, Trace}
+use Rattle.bus_view.specs.declared.form.ViewForm.TheVariants.{Capture, Trace, Script}
 use Rattle.bus_view.specs.Form.{IsForm}
 use Rattle.bus_view.specs.Sentence.{place, note}
 use Rattle.bus_view.specs.Answer.{Reading, spelt, refused, IsReading, status_of, HasText, IsCaptureView, IsTraceView, traced, at_fault, IsView, Answers, viewed, no_form}
@@ -98,6 +99,7 @@ module _ (have : HasSomeReading) where
       HasSome (IsView form bytes)
   some-view (Capture view standard) bytes fit = some-capture view standard bytes fit
   some-view Trace bytes fit = some-trace bytes
+  some-view (Script nodes seed) bytes fit = (0, made_script nodes seed, (refl, refl))
 
   pub some-answer : EachInputHasAView
   some-answer words bytes fit = go (form_or_none words)

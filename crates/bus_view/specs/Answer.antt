@@ -9,6 +9,7 @@ use Rattle.bus_cli.specs.declared.fault.CaptureFault.{CaptureFault}
 use Rattle.bus_cli.specs.Capture.{Spells, CaptureRefused}
 use Rattle.bus_cli.specs.Line.{fault_line, script_line}
 use Rattle.script_lines.specs.declared.kind.ScriptFault.{ScriptFault}
+use Rattle.script_made.specs.Made.{made_script}
 use Rattle.script_told.specs.Run.{IsTold}
 use Rattle.script_trace.specs.Trace.{IsTrace}
 use Rattle.view_text.specs.Pairs.{AreShown, pairs_text}
@@ -17,7 +18,7 @@ use Rattle.view_text.specs.Graph.{graph}
 use Rattle.bus_view.specs.declared.form.CaptureView.{CaptureView}
 use Rattle.bus_view.specs.declared.form.CaptureView.TheVariants.{Packets, Tree as Drawn, Dot}
 use Rattle.bus_view.specs.declared.form.ViewForm.{ViewForm}
-use Rattle.bus_view.specs.declared.form.ViewForm.TheVariants.{Capture, Trace}
+use Rattle.bus_view.specs.declared.form.ViewForm.TheVariants.{Capture, Trace, Script}
 use Rattle.bus_view.specs.Form.{Asks, IsForm}
 use Rattle.bus_view.specs.Sentence.{place, note}
 
@@ -71,10 +72,15 @@ pub data IsTraceView (bytes : List ℕ) (status : ℕ) (text : List ℕ) : Type 
   at_fault : (fault : ScriptFault) → status ≡ 1 → IsTold bytes (Err fault) →
       text ≡ script_line fault → IsTraceView bytes status text
 
+-- the script that is made, whatever the bytes
+abbrev pub IsScriptView : ℕ → ℕ → ℕ → List ℕ → Type 0
+IsScriptView nodes seed status text = (status ≡ 0) × (text ≡ made_script nodes seed)
+
 -- the status and the text of bytes in a form
 abbrev pub IsView : ViewForm → List ℕ → ℕ → List ℕ → Type 0
 IsView (Capture view standard) bytes status text = IsCaptureView view standard bytes status text
 IsView Trace bytes status text = IsTraceView bytes status text
+IsView (Script nodes seed) bytes status text = IsScriptView nodes seed status text
 
 -- the status and the text of words and bytes
 pub data Answers (words : List (String Global)) (bytes : List ℕ) (status : ℕ)

@@ -1,16 +1,27 @@
 -- The words that the program is asked with.
-use Rattle.std.specs.Prelude.{◌≡◌, ℕ, List, [], ◌∷◌, map, codes, string_bytes, String}
+use Rattle.std.specs.Prelude.{◌≡◌, ℕ, ◌≤◌, Some, List, [], ◌∷◌, map, codes, string_bytes, String}
 use Rattle.std.specs.Global.{Global}
 use Rattle.self_id.specs.declared.standard.Standard.{Standard}
 use Rattle.self_id.specs.declared.standard.Standard.TheVariants.{Ieee1995, Ieee2000}
+use Rattle.script_lines.specs.Number.{number_of}
 use Rattle.bus_view.specs.declared.form.CaptureView.TheVariants.{Packets, Tree, Dot}
 use Rattle.bus_view.specs.declared.form.ViewForm.{ViewForm}
-use Rattle.bus_view.specs.declared.form.ViewForm.TheVariants.{Capture, Trace}
+use Rattle.bus_view.specs.declared.form.ViewForm.TheVariants.{Capture, Trace, Script}
 
 -- what stands behind the word of a capture's form
 abbrev pub standard_words : Standard → List (List ℕ)
 standard_words Ieee2000 = []
 standard_words Ieee1995 = codes "--1995" ∷ []
+
+-- `script N SEED`: 1 to 63 nodes and a seed, each a number as scripts have them
+pub record AreScriptWords (nodes seed : ℕ) (words : List (List ℕ)) : Type 0 where
+  pub nodes_word : List ℕ
+  pub seed_word : List ℕ
+  pub words_are : words ≡ codes "script" ∷ nodes_word ∷ seed_word ∷ []
+  pub nodes_are : number_of nodes_word ≡ Some nodes
+  pub some_nodes : 1 ≤ nodes
+  pub few_nodes : nodes ≤ 63
+  pub seed_is : number_of seed_word ≡ Some seed
 
 -- the words of each form
 abbrev pub AreWordsOf : ViewForm → List (List ℕ) → Type 0
@@ -18,6 +29,7 @@ AreWordsOf (Capture Packets standard) words = words ≡ codes "packets" ∷ stan
 AreWordsOf (Capture Tree standard) words = words ≡ codes "tree" ∷ standard_words standard
 AreWordsOf (Capture Dot standard) words = words ≡ codes "dot" ∷ standard_words standard
 AreWordsOf Trace words = words ≡ codes "trace" ∷ []
+AreWordsOf (Script nodes seed) words = AreScriptWords nodes seed words
 
 -- the words are those of the form
 abbrev pub Asks : List (String Global) → ViewForm → Type 0
@@ -26,3 +38,7 @@ Asks words form = AreWordsOf form (map string_bytes words)
 -- the words are those of some form
 abbrev pub IsForm : List (String Global) → Type 0
 IsForm words = (form : ViewForm) × Asks words form
+
+-- the words ask for the script that is made for some nodes and seed
+abbrev pub AsksScript : List (String Global) → Type 0
+AsksScript words = (nodes : ℕ) × (seed : ℕ) × Asks words (Script nodes seed)

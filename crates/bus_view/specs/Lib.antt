@@ -2,3 +2,5 @@ pub mod Form
 pub mod Sentence
 pub mod Answer
 pub mod OneAnswer
+pub mod Summed
+pub mod codings

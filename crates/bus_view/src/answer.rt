@@ -1,13 +1,21 @@
 //! The answer to the bytes of a capture or of a script.
-ghost use Rattle.std.specs.Prelude.{◌≡◌, ◌≤◌, ◌<◌, ◌^◌, length, IfOk};
+ghost use Rattle.std.specs.Prelude.{◌≡◌, ◌≤◌, ◌<◌, ◌^◌, ◌↔◌, ℕ, List, length, alloc_error, IfOk, IfSome, OnOk, IsErrOf, IsOkUnless};
+ghost use Rattle.std.specs.Io.KnownBytes.{IsAtEnd};
+ghost use Rattle.io_edges.specs.Faults.{Rose};
+ghost use Rattle.io_edges.specs.Told.{AreLeft, IfTold, TookOver};
 ghost use Rattle.bus_view.specs.declared.form.CaptureView.{CaptureView};
-ghost use Rattle.bus_view.specs.Answer.{IsFault, IsCaptureView, IsTraceView, IsView};
+ghost use Rattle.bus_view.specs.Answer.{IsFault, IsCaptureView, IsTraceView, IsScriptView, IsView};
+ghost use Rattle.bus_view.specs.codings.Reading.{IsRead, AsksFewNodes};
 ghost use Rattle.bus_cli.specs.Line.{fault_line};
 
 use crate::form::{CaptureView, ViewForm};
 use crate::sentence::note_of;
-use bus_cli::{CaptureFault, CaptureStop, REFUSED, VALID, fault_line, read_capture, script_line};
+use bus_cli::{
+    CaptureFault, CaptureStop, MAX_INPUT, REFUSED, VALID, fault_line, read_capture, script_line,
+};
+use io_edges::{ReadStop, Source, read_all};
 use quad_lanes::quads_of;
+use script_made::make_script;
 use script_run::{ScriptStop, trace_script};
 use self_id::Standard;
 use std::alloc::Global;
@@ -130,9 +138,22 @@ fn view_trace(alloc: Global, bytes: &[u8]) -> Result<View, OutOfMemory>
     }
 }
 
-/// The view of the bytes in a form.
-pub(crate) fn view_of(alloc: Global, form: ViewForm, bytes: &[u8]) -> Result<View, OutOfMemory>
-    requires { length bytes.now ≤ 1048576 }
+/// The script that is made for so many nodes, 1 to 63, and a seed.
+fn view_script(alloc: Global, nodes: u8, seed: u32) -> Result<View, OutOfMemory>
+    requires least { 1 ≤ nodes }
+    requires most { nodes ≤ 63 }
+    ensures { IfOk result (λ view. IsScriptView nodes seed view.status view.text.items) }
+{
+    Ok(View {
+        status: VALID,
+        text: make_script(alloc, nodes, seed)?,
+    })
+}
+
+/// The view of the bytes in a form that reads them.
+fn view_of(alloc: Global, form: ViewForm, bytes: &[u8]) -> Result<View, OutOfMemory>
+    requires read { IsRead form }
+    requires few { length bytes.now ≤ 1048576 }
     ensures { IfOk result (λ view. IsView form bytes.now view.status view.text.items) }
 {
     match form {
@@ -140,5 +161,53 @@ pub(crate) fn view_of(alloc: Global, form: ViewForm, bytes: &[u8]) -> Result<Vie
         ViewForm::Capture(CaptureView::Tree, standard) => view_tree(alloc, standard, bytes),
         ViewForm::Capture(CaptureView::Dot, standard) => view_dot(alloc, standard, bytes),
         ViewForm::Trace => view_trace(alloc, bytes),
+        ViewForm::Script { .. } => unreachable!(),
+    }
+}
+
+/// The view of the whole input, in a form that reads it.
+fn view_all<S: Source>(alloc: Global, form: ViewForm, source: &mut S) -> Result<View, ReadStop>
+    requires { IsRead form }
+    ensures answer { IfOk result (λ view. (bytes : List ℕ) × AreLeft (S.left source.old) bytes
+        × IsView form bytes view.status view.text.items) }
+    ensures end { OnOk result (IsAtEnd (S.left source.new)) }
+    ensures fault { IsErrOf result ReadStop.ReadFault →
+        Rose (S.faults source.old) (S.faults source.new) }
+    ensures long { IfTold (S.left source.old) (S.left source.new) (λ old new.
+        IsErrOf result ReadStop.TooLong ↔ TookOver 1048576 old new) }
+    ensures complete { ¬ Rose (S.faults source.old) (S.faults source.new) →
+        IfSome (S.left source.old) (λ bytes. length bytes ≤ 1048576 →
+        IsOkUnless result (ReadStop.Memory alloc_error)) }
+{
+    let bytes = read_all(alloc, source, MAX_INPUT)?;
+    Ok(view_of(alloc, form, &bytes)?)
+}
+
+/// The view of what a source gives, in a form: it reads the source to its end, unless the form is
+/// `script`, with which it reads nothing.
+pub(crate) fn read_view<S: Source>(
+    alloc: Global,
+    form: ViewForm,
+    source: &mut S,
+) -> Result<View, ReadStop>
+    requires { AsksFewNodes form }
+    ensures answer { IfOk result (λ view. (bytes : List ℕ) × AreLeft (S.left source.old) bytes
+        × IsView form bytes view.status view.text.items) }
+    ensures end { OnOk result (IsRead form → IsAtEnd (S.left source.new)) }
+    ensures unread { (¬ IsRead form) → source.new ≡ source.old }
+    ensures unfailing { (¬ IsRead form) → IsOkUnless result (ReadStop.Memory alloc_error) }
+
+    // When each stop comes.
+    ensures fault { IsErrOf result ReadStop.ReadFault →
+        Rose (S.faults source.old) (S.faults source.new) }
+    ensures long { IfTold (S.left source.old) (S.left source.new) (λ old new.
+        IsErrOf result ReadStop.TooLong ↔ TookOver 1048576 old new) }
+    ensures complete { ¬ Rose (S.faults source.old) (S.faults source.new) →
+        IfSome (S.left source.old) (λ bytes. length bytes ≤ 1048576 →
+        IsOkUnless result (ReadStop.Memory alloc_error)) }
+{
+    match form {
+        ViewForm::Script { nodes, seed } => Ok(view_script(alloc, nodes, seed)?),
+        ViewForm::Capture(_, _) | ViewForm::Trace => view_all(alloc, form, source),
     }
 }

@@ -1,8 +1,9 @@
 //! The words of the program.
-ghost use Rattle.std.specs.Prelude.{◌≡◌, ◌∷◌, [], ◌↔◌};
+ghost use Rattle.std.specs.Prelude.{◌≡◌, ◌∷◌, [], ◌↔◌, codes};
 ghost use Rattle.bus_view.specs.Form.{AreWordsOf, Asks};
 ghost use Rattle.bus_view.specs.declared.form.ViewForm.{ViewForm};
 
+use script_lines::number_of;
 use self_id::Standard;
 
 /// What can be shown of a capture.
@@ -24,6 +25,9 @@ pub enum ViewForm {
     Capture(CaptureView, Standard),
     /// `trace`: what happens on the bus of a script.
     Trace,
+    /// `script N SEED`: the script that `busconf make N SEED` runs, for 1 to 63 nodes and a seed. The
+    /// numbers are written as in a script. Nothing is read.
+    Script { nodes: u8, seed: u32 },
 }
 
 impl ViewForm {
@@ -55,6 +59,29 @@ impl ViewForm {
         }
     }
 
+    /// The form of `script` with these two words behind it.
+    fn of_script(nodes: &[u8], seed: &[u8]) -> Option<ViewForm>
+        ensures { (form : ViewForm) → (result ≡ Some form)
+            ↔ AreWordsOf form (codes "script" ∷ nodes.now ∷ seed.now ∷ []) }
+    {
+        let nodes = u8::try_from(number_of(nodes)?).ok()?;
+        let seed = number_of(seed)?;
+        (1..=63)
+            .contains(&nodes)
+            .then_some(ViewForm::Script { nodes, seed })
+    }
+
+    /// The form of these three words.
+    fn of_three(word: &str, nodes: &str, seed: &str) -> Option<ViewForm>
+        ensures { (form : ViewForm) → (result ≡ Some form)
+            ↔ AreWordsOf form (word.now ∷ nodes.now ∷ seed.now ∷ []) }
+    {
+        match word {
+            "script" => ViewForm::of_script(nodes.as_bytes(), seed.as_bytes()),
+            _ => None,
+        }
+    }
+
     /// The form of the words after the program's name. `None` exactly where they are no form. It
     /// takes no memory.
     pub fn of_words(words: &[String]) -> Option<ViewForm>
@@ -63,6 +90,9 @@ impl ViewForm {
         match words {
             [word] => ViewForm::of_word(word.as_str()),
             [word, standard] => ViewForm::of_two(word.as_str(), standard.as_str()),
+            [word, nodes, seed] => {
+                ViewForm::of_three(word.as_str(), nodes.as_str(), seed.as_str())
+            }
             _ => None,
         }
     }
@@ -71,4 +101,5 @@ impl ViewForm {
 /// How the program is called, in one line for a form.
 pub const VIEW_USAGE: &str = "usage: busview packets [--1995] < CAPTURE\n       \
     busview tree [--1995] < CAPTURE\n       busview dot [--1995] < CAPTURE\n       \
-    busview trace < SCRIPT\n       busview resets [--1995] < LOG";
+    busview trace < SCRIPT\n       busview script N SEED\n       \
+    busview resets [--1995] < LOG";

@@ -1,8 +1,10 @@
 //! Laws of views.
+ghost use Rattle.bus_view.specs.Summed.{MakeSumsUpTheScript};
 ghost use Rattle.bus_view.specs.OneAnswer.{EachInputHasAView, NoInputHasTwoViews};
 
 use bus_cli::one_reading;
 use script_bus::each_script_has_a_run;
+use script_made::made_scripts_have_no_fault;
 use script_told::scripts_tell_one_thing;
 use script_trace::scripts_have_one_trace;
 
@@ -15,4 +17,12 @@ pub fn one_view()
     scripts_tell_one_thing();
     scripts_have_one_trace();
     each_script_has_a_run();
+}
+
+/// A law: what `busconf run` answers to the script of `script N SEED` is a text, and `busconf make N
+/// SEED` writes its summary.
+pub fn make_sums_up_the_script()
+    ensures { MakeSumsUpTheScript }
+{
+    made_scripts_have_no_fault();
 }

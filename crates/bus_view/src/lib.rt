@@ -8,5 +8,5 @@ mod sentence;
 mod top;
 
 pub use form::{CaptureView, VIEW_USAGE, ViewForm};
-pub use laws::one_view;
+pub use laws::{make_sums_up_the_script, one_view};
 pub use top::view_main;

@@ -1,7 +1,8 @@
-use Rattle.std.proofs.Common.{◌≡◌, ◌⊎◌, ◌≤◌, inl, inr, length}
+use Rattle.std.proofs.Common.{◌≡◌, ◌⊎◌, ◌≤◌, length}
 use Rattle.std.specs.Io.KnownBytes.{Appends}
 use Rattle.bus_cli.proofs.Lemmas.{of_answer, of_few}
 use Rattle.bus_view.specs.Answer.{Answers}
+use Rattle.bus_view.proofs.Ends.{trace_written}
 use Rattle.bus_view.proofs.top.view_main.Goals as goal
 
 pub returns-clause-streams : goal.returns-clause-streams
@@ -15,11 +16,11 @@ returns-clause-streams g c =
     record {
       few = is.status;
       answer = is.answer;
-      end = λ which read. is.end which;
+      end = is.end;
       read_fault = is.read_fault;
       write_fault = is.write_fault;
       too_long = is.too_long;
-      unread = λ which. is.unread (elim which [ inl two ↦ two | inr none ↦ absurd none ]);
+      unread = is.unread;
       unwritten = is.unwritten;
       part = is.part;
       exact = of_answer (Answers c.args.words.now) some left (λ s text. (status ≡ s) ⊎ (3 ≤ status)) is.exact;
@@ -31,3 +32,7 @@ returns-clause-streams g c =
           (λ s text. g.K.Sink.surely_takes c.args.sink.now (length text) → g.K.Sink.faults c.view_words.new.sink ≡ g.K.Sink.faults c.args.sink.now)
           is.sure;
     }
+
+pub returns-clause-trace : goal.returns-clause-trace
+returns-clause-trace g c = λ zero asks.
+    trace_written c.args.words.now (g.S.Source.left c.args.source.now) (g.K.Sink.written c.args.sink.now) (g.K.Sink.written c.view_words.new.sink) c.view_words.result asks zero c.view_words.ensures.answer

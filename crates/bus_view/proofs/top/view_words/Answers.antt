@@ -1,58 +1,123 @@
-use Rattle.std.proofs.Common.{◌≡◌, refl}
-use Rattle.bus_view.specs.declared.form.ViewForm.TheVariants.{Trace}
+use Rattle.std.proofs.Common.{◌≡◌, refl, subst, arith}
+use Rattle.std.specs.Io.KnownBytes.{Appends}
 use Rattle.bus_view.specs.Answer.{Answers, viewed}
 use Rattle.bus_cli.proofs.Lemmas.{part_written, whole_written, exact_status}
-use Rattle.bus_view.proofs.Ends.{written, few_status, not_six, taken_surely, trace_written}
+use Rattle.bus_view.proofs.Forms.{few_nodes, is_read, is_unread}
+use Rattle.bus_view.proofs.Ends.{written, few_status, not_six, or_else, taken_surely, script_status, script_text}
 use Rattle.bus_view.proofs.top.view_words.Goals as goal
+
+pub read_view-requires : goal.read_view-requires
+read_view-requires g c = few_nodes c.args.words.now c.in-Some.form ((c.in-Some.ensures c.in-Some.form).0 refl)
+
+pub returns-in-Err-ReadFault-clause-unread : goal.returns-in-Err-ReadFault-clause-unread
+returns-in-Err-ReadFault-clause-unread g c = λ which.
+    let asks = (c.in-Some.ensures c.in-Some.form).0 refl in
+    c.read_view.ensures.unread (is_unread c.args.words.now c.in-Some.form asks (or_else _ 3 2 (λ e. cc) which))
+
+pub returns-in-Err-TooLong-clause-unread : goal.returns-in-Err-TooLong-clause-unread
+returns-in-Err-TooLong-clause-unread g c = λ which.
+    let asks = (c.in-Some.ensures c.in-Some.form).0 refl in
+    c.read_view.ensures.unread (is_unread c.args.words.now c.in-Some.form asks (or_else _ 6 2 (λ e. cc) which))
+
+pub returns-in-Err-Memory-clause-unread : goal.returns-in-Err-Memory-clause-unread
+returns-in-Err-Memory-clause-unread g c = λ which.
+    let asks = (c.in-Some.ensures c.in-Some.form).0 refl in
+    c.read_view.ensures.unread (is_unread c.args.words.now c.in-Some.form asks (or_else _ 5 2 (λ e. cc) which))
+
+pub returns-in-Err-ReadFault-clause-unfailing : goal.returns-in-Err-ReadFault-clause-unfailing
+returns-in-Err-ReadFault-clause-unfailing g c = λ script.
+    let asks = (c.in-Some.ensures c.in-Some.form).0 refl in
+    let want = c.in-Err-ReadFault.ensures.unfailing (is_unread c.args.words.now c.in-Some.form asks script) in
+    let fault = c.in-Err-ReadFault.field-0-is in
+    absurd cc
+
+pub returns-in-Err-TooLong-clause-unfailing : goal.returns-in-Err-TooLong-clause-unfailing
+returns-in-Err-TooLong-clause-unfailing g c = λ script.
+    let asks = (c.in-Some.ensures c.in-Some.form).0 refl in
+    let want = c.in-Err-TooLong.ensures.unfailing (is_unread c.args.words.now c.in-Some.form asks script) in
+    let fault = c.in-Err-TooLong.field-0-is in
+    absurd cc
 
 pub returns-in-Ok-write_whole-clause-answer : goal.returns-in-Ok-write_whole-clause-answer
 returns-in-Ok-write_whole-clause-answer g c = λ which.
+    let told = c.in-Ok.ensures.answer in
     let asks = (c.in-Some.ensures c.in-Some.form).0 refl in
-    let view = rw c.deref.ensures.value at c.in-Ok-view_of.ensures in
-    let whole = rw c.deref-2.ensures.value at c.in-Ok-write_whole.ensures.ok in
-    written c.args.words.now _ _ _ c.in-Ok.bytes.items c.in-Ok-view_of.view.text.items c.in-Ok-view_of.view.status c.in-Ok.ensures.all (viewed c.in-Some.form asks view) whole
+    let whole = rw c.deref.ensures.value at c.in-Ok-write_whole.ensures.ok in
+    written c.args.words.now _ _ _ told.0 c.in-Ok.view.text.items c.in-Ok.view.status told.1 (viewed c.in-Some.form asks told.2) whole
 
-pub returns-in-Ok-write_whole-clause-too_long : goal.returns-in-Ok-write_whole-clause-too_long
-returns-in-Ok-write_whole-clause-too_long g c =
-    not_six _ (g.S.Source.left c.args.source.now) (g.S.Source.left c.read_all.new.source) c.in-Ok-view_of.view.status (few_status _ _ _ _ c.in-Ok-view_of.ensures) c.in-Ok.ensures.long (λ e. cc)
+pub returns-in-Ok-write_whole-clause-end : goal.returns-in-Ok-write_whole-clause-end
+returns-in-Ok-write_whole-clause-end g c = λ which none.
+    let asks = (c.in-Some.ensures c.in-Some.form).0 refl in
+    c.in-Ok.ensures.end (is_read c.args.words.now c.in-Some.form asks none)
+
+pub returns-clause-end : goal.returns-clause-end
+returns-clause-end g c = λ which none.
+    let asks = (c.in-Some.ensures c.in-Some.form).0 refl in
+    c.in-Ok.ensures.end (is_read c.args.words.now c.in-Some.form asks none)
+
+pub returns-in-Ok-write_whole-clause-unread : goal.returns-in-Ok-write_whole-clause-unread
+returns-in-Ok-write_whole-clause-unread g c = λ which.
+    let told = c.in-Ok.ensures.answer in
+    let asks = (c.in-Some.ensures c.in-Some.form).0 refl in
+    let few = few_status c.in-Some.form told.0 c.in-Ok.view.status c.in-Ok.view.text.items told.2 in
+    c.in-Ok.ensures.unread (is_unread c.args.words.now c.in-Some.form asks (or_else _ c.in-Ok.view.status 2 (λ e. omega (arith, e, few)) which))
+
+pub returns-clause-unread : goal.returns-clause-unread
+returns-clause-unread g c = λ which.
+    let asks = (c.in-Some.ensures c.in-Some.form).0 refl in
+    c.in-Ok.ensures.unread (is_unread c.args.words.now c.in-Some.form asks (or_else _ 4 2 (λ e. cc) which))
+
+pub returns-in-Ok-write_whole-clause-unfailing : goal.returns-in-Ok-write_whole-clause-unfailing
+returns-in-Ok-write_whole-clause-unfailing g c = λ script.
+    let told = c.in-Ok.ensures.answer in
+    let asks = (c.in-Some.ensures c.in-Some.form).0 refl in
+    let zero : c.in-Ok.view.status ≡ 0 = script_status c.args.words.now told.0 c.in-Ok.view.status c.in-Ok.view.text.items script (viewed c.in-Some.form asks told.2) in
+    (λ e. cc, λ e. cc, λ e. cc)
+
+pub returns-in-Ok-write_whole-clause-script : goal.returns-in-Ok-write_whole-clause-script
+returns-in-Ok-write_whole-clause-script g c = λ nodes seed script zero.
+    let told = c.in-Ok.ensures.answer in
+    let asks = (c.in-Some.ensures c.in-Some.form).0 refl in
+    let whole = rw c.deref.ensures.value at c.in-Ok-write_whole.ensures.ok in
+    subst (Appends (g.K.Sink.written c.args.sink.now) (g.K.Sink.written c.write_whole.new.sink))
+    (script_text c.args.words.now nodes seed told.0 c.in-Ok.view.status c.in-Ok.view.text.items script (viewed c.in-Some.form asks told.2)) whole
 
 pub returns-in-Ok-write_whole-clause-exact : goal.returns-in-Ok-write_whole-clause-exact
 returns-in-Ok-write_whole-clause-exact g c =
+    let told = c.in-Ok.ensures.answer in
     let asks = (c.in-Some.ensures c.in-Some.form).0 refl in
-    let view = rw c.deref.ensures.value at c.in-Ok-view_of.ensures in
-    exact_status (Answers c.args.words.now) (c.one_view.ensures.one c.args.words.now) _ c.in-Ok.bytes.items c.in-Ok-view_of.view.text.items c.in-Ok-view_of.view.status c.in-Ok.ensures.all (viewed c.in-Some.form asks view)
+    exact_status (Answers c.args.words.now) (c.one_view.ensures.one c.args.words.now) _ told.0 c.in-Ok.view.text.items c.in-Ok.view.status told.1 (viewed c.in-Some.form asks told.2)
 
 pub returns-in-Ok-write_whole-clause-complete : goal.returns-in-Ok-write_whole-clause-complete
 returns-in-Ok-write_whole-clause-complete g c = λ reads writes.
+    let told = c.in-Ok.ensures.answer in
     let asks = (c.in-Some.ensures c.in-Some.form).0 refl in
-    let view = rw c.deref.ensures.value at c.in-Ok-view_of.ensures in
-    let whole = rw c.deref-2.ensures.value at c.in-Ok-write_whole.ensures.ok in
-    whole_written (Answers c.args.words.now) (c.one_view.ensures.one c.args.words.now) _ _ _ c.in-Ok.bytes.items c.in-Ok-view_of.view.text.items c.in-Ok-view_of.view.status c.in-Ok.ensures.all (viewed c.in-Some.form asks view) whole
+    let whole = rw c.deref.ensures.value at c.in-Ok-write_whole.ensures.ok in
+    whole_written (Answers c.args.words.now) (c.one_view.ensures.one c.args.words.now) _ _ _ told.0 c.in-Ok.view.text.items c.in-Ok.view.status told.1 (viewed c.in-Some.form asks told.2) whole
 
 pub returns-clause-part : goal.returns-clause-part
 returns-clause-part g c = λ four.
+    let told = c.in-Ok.ensures.answer in
     let asks = (c.in-Some.ensures c.in-Some.form).0 refl in
-    let view = rw c.deref.ensures.value at c.in-Ok-view_of.ensures in
-    let start = rw c.deref-2.ensures.value at c.in-Err.ensures.start in
-    part_written (Answers c.args.words.now) _ _ _ c.in-Ok.bytes.items c.in-Ok-view_of.view.text.items c.in-Ok-view_of.view.status c.in-Ok.ensures.all (viewed c.in-Some.form asks view) start
+    let start = rw c.deref.ensures.value at c.in-Err.ensures.start in
+    part_written (Answers c.args.words.now) _ _ _ told.0 c.in-Ok.view.text.items c.in-Ok.view.status told.1 (viewed c.in-Some.form asks told.2) start
 
 pub returns-in-Ok-write_whole-clause-sure : goal.returns-in-Ok-write_whole-clause-sure
 returns-in-Ok-write_whole-clause-sure g c =
+    let told = c.in-Ok.ensures.answer in
     let asks = (c.in-Some.ensures c.in-Some.form).0 refl in
-    let view = rw c.deref.ensures.value at c.in-Ok-view_of.ensures in
-    let sure = rw c.deref-2.ensures.value at c.in-Ok-write_whole.ensures.sure in
-    taken_surely c.one_view.ensures.one c.args.words.now _ c.in-Ok.bytes.items c.in-Ok-view_of.view.text.items c.in-Ok-view_of.view.status (g.K.Sink.surely_takes c.args.sink.now) _ c.in-Ok.ensures.all (viewed c.in-Some.form asks view) (λ k. (sure k).1)
+    let sure = rw c.deref.ensures.value at c.in-Ok-write_whole.ensures.sure in
+    taken_surely c.one_view.ensures.one c.args.words.now _ told.0 c.in-Ok.view.text.items c.in-Ok.view.status (g.K.Sink.surely_takes c.args.sink.now) _ told.1 (viewed c.in-Some.form asks told.2) (λ k. (sure k).1)
 
 pub returns-clause-sure : goal.returns-clause-sure
 returns-clause-sure g c =
+    let told = c.in-Ok.ensures.answer in
     let asks = (c.in-Some.ensures c.in-Some.form).0 refl in
-    let view = rw c.deref.ensures.value at c.in-Ok-view_of.ensures in
-    let sure = rw c.deref-2.ensures.value at c.in-Err.ensures.sure in
-    taken_surely c.one_view.ensures.one c.args.words.now _ c.in-Ok.bytes.items c.in-Ok-view_of.view.text.items c.in-Ok-view_of.view.status (g.K.Sink.surely_takes c.args.sink.now) _ c.in-Ok.ensures.all (viewed c.in-Some.form asks view) (λ k. (sure k).1)
+    let sure = rw c.deref.ensures.value at c.in-Err.ensures.sure in
+    taken_surely c.one_view.ensures.one c.args.words.now _ told.0 c.in-Ok.view.text.items c.in-Ok.view.status (g.K.Sink.surely_takes c.args.sink.now) _ told.1 (viewed c.in-Some.form asks told.2) (λ k. (sure k).1)
 
-pub returns-in-Ok-write_whole-clause-trace : goal.returns-in-Ok-write_whole-clause-trace
-returns-in-Ok-write_whole-clause-trace g c = λ zero traces.
-    let form : c.in-Some.form ≡ Trace = let found = (c.in-Some.ensures Trace).1 traces in cc in
-    let view = rw c.deref.ensures.value at c.in-Ok-view_of.ensures in
-    let whole = rw c.deref-2.ensures.value at c.in-Ok-write_whole.ensures.ok in
-    trace_written c.args.words.now c.in-Some.form _ _ _ c.in-Ok.bytes.items c.in-Ok-view_of.view.text.items c.in-Ok-view_of.view.status form zero c.in-Ok.ensures.all view whole
+pub returns-in-Ok-write_whole-clause-too_long : goal.returns-in-Ok-write_whole-clause-too_long
+returns-in-Ok-write_whole-clause-too_long g c =
+    let told = c.in-Ok.ensures.answer in
+    let few = few_status c.in-Some.form told.0 c.in-Ok.view.status c.in-Ok.view.text.items told.2 in
+    not_six _ (g.S.Source.left c.args.source.now) (g.S.Source.left c.read_view.new.source) c.in-Ok.view.status few c.in-Ok.ensures.long (λ e. cc)

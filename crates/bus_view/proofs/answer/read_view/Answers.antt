@@ -1,0 +1,12 @@
+use Rattle.bus_view.specs.declared.form.ViewForm.TheVariants.{Script}
+use Rattle.bus_view.proofs.Ends.{some_left, of_known}
+use Rattle.bus_view.proofs.answer.read_view.Goals as goal
+
+pub returns-in_ok-view_script-in-Script-clause-answer :
+    goal.returns-in_ok-view_script-in-Script-clause-answer
+returns-in_ok-view_script-in-Script-clause-answer g c =
+    let left = some_left (g.S.Source.left c.args.source.now) in
+    let view = c.in_ok-view_script-in-Script.field-0 in
+    let script = Script c.in-Script.nodes c.in-Script.seed in
+    let is = of_known c.args.form script c.in-Script.is left.0 view.status view.text.items c.in_ok-view_script-in-Script.ensures in
+    (left.0, left.1, is)
