@@ -77,14 +77,6 @@ TreesStay =
     (root : NodeNumber) (t : Tree) → IsReached w → HasNoAct events → Runs events w v →
     IsComponent w.cabling node set → IsTree w set root t → IsTree v set root t
 
--- it stays in an act after which all its nodes are in self identify or A0: one that resets others
-abbrev pub TreesStayInActs : Type 0
-TreesStayInActs =
-    (a : Act) (w v : CableWorld) (node : NodeNumber) (set : NodeSet) (root : NodeNumber)
-    (t : Tree) → IsAct a → act_fault a w ≡ None → ActLeads a w v → IsReached w →
-    IsComponent v.cabling node set → AreIdentifying v set → IsTree w set root t →
-    IsTree v set root t
-
 -- ---- forced roots
 
 -- where one node alone waits to become root, it is the root of the tree

@@ -16,7 +16,7 @@ ghost use Rattle.outcomes.specs.Numbered.{NodesGetReady, TreesComeToRest, TreesA
 ghost use Rattle.outcomes.specs.RootWalk.{RootsHaveWalks, NamedRootsAreOutcomes, WalksStay};
 ghost use Rattle.outcomes.specs.Settled.{LoopsComeOut, EveryComponentSettles, ResetsAreDoneByThen};
 ghost use Rattle.outcomes.specs.Settled.{EveryQuietRunSettles};
-ghost use Rattle.outcomes.specs.Settled.{ComponentsStaySettled, TreesStay, TreesStayInActs};
+ghost use Rattle.outcomes.specs.Settled.{ComponentsStaySettled, TreesStay};
 ghost use Rattle.outcomes.specs.Settled.{ForcedRootsSettle, IdsNameOneNode, ConfigsMoveRoots};
 ghost use Rattle.outcomes.specs.Settled.{ConfigsSetGaps};
 
@@ -189,11 +189,10 @@ pub fn components_stay_settled()
 }
 
 /// A component of a reached world that has come to a tree stays in it, with the same root, IDs and
-/// lists, in every hold and turn; and in every act after which all its nodes are still in self
-/// identify or A0, since an act resets each component that it touches.
+/// lists, in every hold and turn. So it does in every act that resets none of its nodes
+/// (`acts_touch_their_component` of `world_laws`).
 pub fn trees_stay()
     ensures turns { TreesStay }
-    ensures acts { TreesStayInActs }
 {
     components_exist();
 }

@@ -7,3 +7,4 @@ pub mod Uniform
 pub mod LineRead
 pub mod Ranged
 pub mod Lemmas
+pub mod WordFaults

@@ -7,6 +7,7 @@ pub mod Coins
 pub mod Key
 pub mod Node
 pub mod Line
+pub mod WordFault
 pub mod Answer
 pub mod Range
 pub mod Ranged
