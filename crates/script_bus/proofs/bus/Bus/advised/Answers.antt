@@ -64,7 +64,7 @@ returns-in-Ok-clause-done c =
       c.in-Ok.field-0-0,
       advises c.args.self c.in_ok-bus.bus advices _ _ c.requires c.in_ok-advices.ensures pulls c.in-Ok.ensures.done
           (ap (λ (l : List ℕ). Ok (c.in-Ok.field-0-0, l))
-          (c.extend_from_slice.ensures.items ∙ ap (λ (l : List ℕ). l ++ c.as_slice.result.now) told ∙ ap (λ (l : List ℕ). advice_text names advices ++ l) c.as_slice.ensures.value)),
+          (c.in_ok-extend_from_slice-in-Ok.ensures.items ∙ ap (λ (l : List ℕ). l ++ c.as_slice.result.now) told ∙ ap (λ (l : List ℕ). advice_text names advices ++ l) c.as_slice.ensures.value)),
     )
 
 pub returns-clause-stop : goal.returns-clause-stop

@@ -1,4 +1,5 @@
 use Rattle.std.proofs.Common.{◌++◌, ℕ, List, ap, refl, ◌∙◌}
+use Rattle.std.proofs.lemmas.Result.{err_from_is_err_and}
 use Rattle.script_told.specs.Step.{PlansAs}
 use Rattle.script_bus.specs.Running.{reported}
 use Rattle.script_bus.proofs.PlansAsked.{asked-comes, carried-out, carries-out}
@@ -37,3 +38,8 @@ returns-clause-heard g c =
       };
       written = sent.written;
     }
+
+pub returns-in_err-text-clause-stop : goal.returns-in_err-text-clause-stop
+returns-in_err-text-clause-stop g c =
+    let p = err_from_is_err_and c.from_residual-in_err-text.result c.from_residual-in_err-text.ensures.1 in
+    rw (p.1, p.2) tt
