@@ -106,7 +106,7 @@ hold-hears writes bus after command out new turn hold at is = record {
   written = is ∙ ap (λ (t : ℕ). out ++ heard writes (command_line t command)) at;
 }
 
-question-hears :
+pub question-hears :
     (writes : Bool) (bus after : Bus) (command : Command) (out : List ℕ) → IsQuestion command →
     Hears writes bus command after out out
 question-hears writes bus after command out asks = record {
@@ -114,12 +114,6 @@ question-hears writes bus after command out asks = record {
   traces = no-lines bus after command asks;
   written = none-heard writes out;
 }
-
-pub asked-hears :
-    {A E : Type 0} → (answer : Result A E) (writes : Bool) (bus after : Bus) (command : Command)
-    (out : List ℕ) → IsQuestion command → OnOk answer (Hears writes bus command after out out)
-asked-hears (Ok x) writes bus after command out asks = question-hears writes bus after command out asks
-asked-hears (Err e) writes bus after command out asks = tt
 
 -- ---- reports
 
@@ -135,87 +129,28 @@ reports-now sent passed after text quiet notes r = (
   subst (λ (n : Notes). IsReportText n.names after.notes.reports r.report text) notes r.text_is,
 )
 
-bus-of : CableWorld → Notes → Bus
-bus-of w notes = record { world = w; notes = notes }
-
-same-bus : (a : Bus) (w : CableWorld) (n : Notes) → a.world ≡ w → a.notes ≡ n → a ≡ bus-of w n
-unfolding bus-of
-same-bus a w n is its = ap (λ (v : CableWorld). bus-of v a.notes) is ∙ ap (bus-of w) its
-
--- notes of so many nodes, of which each report took a turn
-pub record AreNotes (notes : Notes) (nodes turns : ℕ) : Type 0 where
-  pub names : length notes.names ≡ nodes
-  pub banks : length notes.banks ≡ nodes
-  pub looks : length notes.looks ≡ nodes
-  pub reports : notes.reports ≤ turns
-  pub maps : notes.maps ≤ 100
-
-pub notes-are : (bus : Bus) → IsBus bus →
-    AreNotes bus.notes (length bus.world.nodes) bus.world.turns
-notes-are bus b = record {
-  names = b.names;
-  banks = b.banks;
-  looks = b.looks;
-  reports = b.reports;
-  maps = b.maps;
-}
-
-pub after-act : (notes : Notes) (n t : ℕ) → AreNotes notes n t →
-    AreNotes (notes_after_act notes) n t
-after-act notes n t h = record {
-  names = h.names;
-  banks = h.banks;
-  looks = length-replicate (length notes.looks) None ∙ h.looks;
-  reports = h.reports;
-  maps = h.maps;
-}
-
-pub reported-bus :
-    (notes : Notes) (n t q : ℕ) (passed after : Bus) (text : List ℕ) → AreNotes notes n t →
-    passed.notes ≡ notes → n ≤ 63 → length passed.world.nodes ≡ n → passed.world.turns ≡ t + q →
-    1 ≤ q → t + q ≤ 2000000 → ∥ IsReached passed.world ∥₁ → IsReportedNow passed after text →
-    IsBus after
-unfolding bus-of
-reported-bus notes n t q passed after text fit same few nodes turns some within reached r =
-    subst IsBus
-    (sym (same-bus after passed.world (notes_after_report notes r.report) r.same
-    (r.notes ∙ ap (λ (m : Notes). notes_after_report m r.report) same)))
-    (record {
-      names = fit.names ∙ sym nodes;
-      banks = fit.banks ∙ sym nodes;
-      looks = fit.looks ∙ sym nodes;
-      few = omega (arith, few, nodes);
-      turns = omega (arith, turns, within);
-      reports = omega (arith, fit.reports, turns, some);
-      maps = fit.maps;
-      report = subst (λ (m : Notes). IsNamedReport m.names r.report) same r.named;
-      stands = new-stands passed.world r.report reached r.is;
-    })
-
-pub settle-does :
-    (bus passed after : Bus) (text : List ℕ) →
-    nat_lt 2000000 (bus.world.turns + quiet_turns_of bus.world) ≡ false →
-    passed.world ≡ turns_after (quiet_turns_of bus.world) bus.world → passed.notes ≡ bus.notes →
-    IsReportedNow passed after text → Settles bus (Ok (after, text))
-settle-does bus passed after text within quiet notes r =
-    subst
-    (λ (past : Bool). MatchBool past (◌≡◌ {A = LineAnswer} (Ok (after, text)) (Err Kind.TooManyTurns)) (Reports bus (Ok (after, text))))
-    (sym within) (reports-now bus passed after text quiet notes r)
+-- within the limit of turns
+pub settles-within :
+    (bus : Bus) (answer : LineAnswer) →
+    nat_lt 2000000 (bus.world.turns + quiet_turns_of bus.world) ≡ false → Reports bus answer →
+    Settles bus answer
+settles-within bus answer within r =
+    subst (λ (past : Bool). MatchBool past (answer ≡ Err Kind.TooManyTurns) (Reports bus answer))
+    (sym within) r
 
 -- the report's names are those before it
-pub names-stay : (passed after : Bus) (text : List ℕ) (names : Names) → passed.notes.names ≡ names →
-    IsReportedNow passed after text → after.notes.names ≡ names
-names-stay passed after text names is r = ap (λ (n : Notes). n.names) r.notes ∙ is
+pub names-stay : (bus after : Bus) (text : List ℕ) → Reports bus (Ok (after, text)) →
+    after.notes.names ≡ bus.notes.names
+names-stay bus after text r = ap (λ (n : Notes). n.names) r.3
 
 pub settle-hears :
-    (writes : Bool) (bus passed after : Bus) (text out new : List ℕ) → passed.notes ≡ bus.notes →
-    IsReportedNow passed after text → IsPassed writes bus.notes.names bus.world out new →
+    (writes : Bool) (bus after : Bus) (text out new : List ℕ) → Reports bus (Ok (after, text)) →
+    IsPassed writes bus.notes.names bus.world out new →
     Hears writes bus Command.Settle after out new
-settle-hears writes bus passed after text out new notes r is = record {
+settle-hears writes bus after text out new r is = record {
   lines = quiet_trace after.notes.names bus.world;
   traces = refl;
-  written = is ∙ ap (λ (ns : Names). out ++ heard writes (quiet_trace ns bus.world))
-      (sym (names-stay passed after text bus.notes.names (ap (λ (n : Notes). n.names) notes) r));
+  written = is ∙ ap (λ (ns : Names). out ++ heard writes (quiet_trace ns bus.world)) (sym (names-stay bus after text r));
 }
 
 -- ---- plans
@@ -237,17 +172,12 @@ both-told writes command w s names after out mid new named said is =
     ∙ ap (λ (ns : Names). out ++ heard writes (act_trace ns command w s ++ quiet_trace ns s)) (sym named)
 
 pub sent-heard :
-    (writes : Bool) (bus sent passed after : Bus) (name : List ℕ) (node : ℕ) (plan : RootPlan)
+    (writes : Bool) (bus sent after : Bus) (name : List ℕ) (node : ℕ) (plan : RootPlan)
     (text out mid new : List ℕ) → IsPacketSent writes bus name node plan sent out mid →
-    passed.world ≡ turns_after (quiet_turns_of sent.world) sent.world → passed.notes ≡ sent.notes →
-    IsPassed writes sent.notes.names sent.world mid new → IsReportedNow passed after text →
+    Reports sent (Ok (after, text)) → IsPassed writes sent.notes.names sent.world mid new →
     IsSentHeard writes bus name node plan after text out new
-sent-heard writes bus sent passed after name node plan text out mid new s quiet notes is r = record {
-  sent = record {
-    sent = sent;
-    sends = s.sends;
-    reports = reports-now sent passed after text quiet notes r;
-  };
+sent-heard writes bus sent after name node plan text out mid new s r is = record {
+  sent = record { sent = sent; sends = s.sends; reports = r };
   written = both-told writes (Config name (Some plan.root_id) (Some plan.gap)) bus.world sent.world sent.notes.names after.notes.names out mid new
-      (names-stay passed after text sent.notes.names (ap (λ (n : Notes). n.names) notes) r) s.written is;
+      (names-stay sent after text r) s.written is;
 }

@@ -1,11 +1,11 @@
 -- The bus of a script as the code keeps it.
 use Rattle.std.specs.Prelude.{◌≡◌, ℕ, ◌≤◌, List, length, Some, Result, Err, IfSome, IsFalse, Bool}
 use Rattle.cable_world.specs.World.{CableWorld}
+use Rattle.cable_world.specs.Run.{IsReached}
 use Rattle.script_lines.specs.declared.kind.Kind.{Kind}
 use Rattle.script_lines.specs.declared.kind.LineStop.{LineStop}
 use Rattle.script_lines.specs.declared.kind.LineStop.TheVariants.{Fault, Memory}
 use Rattle.script_bus.specs.declared.bus.Notes as kept
-use Rattle.script_bus.specs.declared.bus.Bus as running
 use Rattle.script_bus.specs.declared.bus.Reported as shown
 use Rattle.script_lines.specs.declared.command.Command.{Command}
 use Rattle.script_lines.specs.declared.command.Command.TheVariants.{CsrRead, CsrWrite, CsrLock, Look, Allocate, Release, Manager}
@@ -24,14 +24,15 @@ notes_now notes = record {
   maps = notes.maps;
 }
 
-abbrev pub bus_now : {W : Type 0} → (W → CableWorld) → running.Bus W → Bus
-bus_now world bus = record { world = world bus.world; notes = notes_now bus.notes }
+abbrev pub bus_now : CableWorld → kept.Notes → Bus
+bus_now world notes = record { world = world; notes = notes_now notes }
 
 abbrev pub reported : shown.Reported → Reported
 reported tree = record { root = tree.root; list = tree.list.now; order = tree.order.now }
 
 -- what holds of a bus between two lines
 pub record IsBus (bus : Bus) : Type 0 where
+  pub reached : ∥ IsReached bus.world ∥₁
   pub names : length bus.notes.names ≡ length bus.world.nodes
   pub banks : length bus.notes.banks ≡ length bus.world.nodes
   pub looks : length bus.notes.looks ≡ length bus.world.nodes
@@ -42,16 +43,19 @@ pub record IsBus (bus : Bus) : Type 0 where
   pub report : IfSome bus.notes.report (λ report. IsNamedReport bus.notes.names report)
   pub stands : IfSome bus.notes.report (λ report. StandsSince report bus.world)
 
--- the bus is sound, and its world isn't spent
-pub record IsSound {W : Type 0} (world : W → CableWorld) (spent : W → Bool) (b : running.Bus W) :
-    Type 0 where
-  pub bus : IsBus (bus_now world b)
-  pub fine : IsFalse (spent b.world)
+-- what holds of a bus that is kept, and that its world isn't spent
+pub record IsSound (b : Bus) (spent : Bool) : Type 0 where
+  pub bus : IsBus b
+  pub fine : IsFalse spent
+
+-- a stop for a fault tells the fault
+abbrev pub IfFault : (Kind → Type 0) → LineStop → Type 0
+IfFault P (Fault kind) = P kind
+IfFault P (Memory none) = Unit {0}
 
 -- a stop for a fault is what comes of a line
 abbrev pub Stops : {A : Type 0} → (Result A Kind → Type 0) → LineStop → Type 0
-Stops comes (Fault kind) = comes (Err kind)
-Stops comes (Memory none) = Unit {0}
+Stops comes stop = IfFault (λ kind. comes (Err kind)) stop
 
 -- the node with a name has this number and this ID in its tree, and this is the tree's manager
 pub record IsAsked (bus : Bus) (name : List ℕ) (node id manager : ℕ) : Type 0 where

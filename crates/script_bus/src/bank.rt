@@ -7,7 +7,7 @@ use std::marker::Model;
 
 /// The registers of a node, and its count of resets when they were last used.
 #[derive(Clone, Copy)]
-pub struct Bank {
+pub(crate) struct Bank {
     resets: u32,
     registers: Registers,
 }

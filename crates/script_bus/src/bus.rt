@@ -1,29 +1,37 @@
 //! The bus of a script: what is kept of it, acts and holds.
-ghost use Rattle.std.specs.Prelude.{◌≡◌, ◌<◌, ◌≤◌, ◌+◌, ◌==◌, nat_lt, true, false, [], Some, None, Ok, IfOk, IfErr, IfSome, OnOk, length};
+ghost use Rattle.std.specs.Prelude.{◌≡◌, ◌<◌, ◌≤◌, ◌+◌, ◌==◌, nat_lt, true, false, [], Some, None, Ok, IfOk, IfErr, IfSome, OnOk, IsFalse, IsSomeAnd, All, length, map, replicate};
 ghost use Rattle.std.specs.Int.{bit_at};
 ghost use Rattle.std.specs.Option.{option_copied, option_map, ok_or};
-ghost use Rattle.cable_world.specs.Act.{IsAct};
+ghost use Rattle.phy_machine.specs.Any.{any_node};
+ghost use Rattle.cable_world.specs.World.{IsNodeAtPowerOn};
+ghost use Rattle.cable_world.specs.Act.{IsAct, act_fault, hold, hold_fault};
+ghost use Rattle.cable_world.specs.Run.{IsReached};
+ghost use Rattle.cable_world.specs.Unchanged.{TurnsPass};
+ghost use Rattle.script_lines.specs.Refusal.{kind_of};
 ghost use Rattle.script_text.specs.ReportText.{IsNamedTree, IsNamedReport};
-ghost use Rattle.script_told.specs.Bus.{node_named, part_with, tree_with};
+ghost use Rattle.script_told.specs.Bus.{bus_of_nodes, first_bank, node_named, notes_of, part_with, resets_of, tree_with};
 ghost use Rattle.script_told.specs.Step.{Acts, Holds, end_of, notes_after_act};
-ghost use Rattle.script_bus.specs.Running.{notes_now, bus_now, IsSound, Stops, reported};
+ghost use Rattle.script_bus.specs.Running.{notes_now, IfFault, IsBus, Stops, reported};
 
 use crate::bank::Bank;
 use crate::table::NameTable;
-use cable_world::{Act, ShowsWires};
-use cabling::{End, Walk};
+use cable_world::{Act, WorldRun};
+use cabling::{Cabling, End, Walk};
+use phy_machine::AnyMachine;
 use resource_manager::Seen;
 use script_lines::{Kind, LineStop};
 use settle::{Outcome, Part, Report};
 use std::alloc::Global;
-use topology_stack::Name;
+use std::marker::Model;
+use topology_stack::{Name, OutOfMemory};
+use world_agenda::AgendaWorld;
 
 /// The number of turns of a script, at most.
 const MAX_TURNS: u32 = 2_000_000;
 
 /// What a script keeps beside the world.
 #[derive(Drop)]
-pub struct Notes {
+pub(crate) struct Notes {
     /// The names of the nodes.
     pub names: NameTable,
     /// The registers of each node.
@@ -38,13 +46,27 @@ pub struct Notes {
     pub maps: u32,
 }
 
-/// The bus of a script between two of its lines.
+/// The bus of a script between two of its lines. In a contract it is the bus of the definition.
 #[derive(Drop)]
-pub struct Bus<W> {
+pub struct Bus {
     /// The world: its nodes, its cables and what is on them.
-    pub world: W,
+    pub(crate) world: Box<AgendaWorld<AnyMachine>>,
     /// What is kept beside it.
-    pub notes: Notes,
+    pub(crate) notes: Notes,
+}
+
+impl Model for Bus {
+    ghost use Rattle.script_told.specs.Bus.{Bus};
+    ghost use Rattle.script_bus.specs.Running.{bus_now, IsSound};
+
+    ghost Value = { Bus };
+
+    ghost view = { λ b.
+        bus_now (⟦<AgendaWorld<AnyMachine> as WorldRun>⟧.world b.world.value) b.notes };
+
+    ghost invariant = { λ b. IsSound
+        (bus_now (⟦<AgendaWorld<AnyMachine> as WorldRun>⟧.world b.world.value) b.notes)
+        (⟦<AgendaWorld<AnyMachine> as WorldRun>⟧.is_spent b.world.value) };
 }
 
 /// A tree as it was reported.
@@ -79,9 +101,46 @@ fn part_with(report: &Report, node: u8) -> Option<&Part>
     report.parts.as_slice().iter().find(|part| has(part, node))
 }
 
+/// Registers that were never used, of so many nodes.
+fn first_banks(alloc: Global, nodes: usize) -> Result<Vec<Bank>, OutOfMemory>
+    ensures { IfOk result (λ banks. banks.items ≡ replicate nodes first_bank) }
+{
+    let mut banks = Vec::with_capacity(alloc, nodes)?;
+    for _ in 0..nodes {
+        banks.push(Bank::new())?;
+    }
+    Ok(banks)
+}
+
+/// No looks of so many nodes.
+fn no_looks(alloc: Global, nodes: usize) -> Result<Vec<Option<Seen>>, OutOfMemory>
+    ensures { IfOk result (λ looks. looks.items ≡ replicate nodes None) }
+{
+    let mut looks = Vec::with_capacity(alloc, nodes)?;
+    for _ in 0..nodes {
+        looks.push(None)?;
+    }
+    Ok(looks)
+}
+
 impl Notes {
+    /// The notes of so many nodes with these names.
+    fn new(alloc: Global, names: NameTable, nodes: usize) -> Result<Notes, OutOfMemory>
+        requires { length names ≡ nodes }
+        ensures { IfOk result (λ notes. notes_now notes ≡ notes_of names) }
+    {
+        Ok(Notes {
+            names,
+            banks: first_banks(alloc, nodes)?,
+            looks: no_looks(alloc, nodes)?,
+            report: None,
+            reports: 0,
+            maps: 0,
+        })
+    }
+
     /// The number of the node with a name.
-    pub(crate) fn node(&self, name: &Name) -> Result<u8, LineStop>
+    fn node(&self, name: &Name) -> Result<u8, LineStop>
         requires { length self.now.names ≤ 63 }
         ensures value { result ≡ ok_or (node_named self.now.names name.now)
             (LineStop.Fault Kind.NoNode) }
@@ -109,7 +168,7 @@ impl Notes {
     }
 
     /// The tree in which a node stands settled.
-    pub(crate) fn tree(&self, node: u8) -> Result<Reported<'_>, LineStop>
+    fn tree(&self, node: u8) -> Result<Reported<'_>, LineStop>
         requires { IfSome self.now.report (λ report. IsNamedReport self.now.names report) }
         ensures found { IfOk result (λ tree. tree_with node (notes_now self.now)
             ≡ Some (reported tree)) }
@@ -125,7 +184,7 @@ impl Notes {
     }
 
     /// An act drops all looks, and the last report no longer stands.
-    pub(crate) fn drop_after_act(&mut self)
+    fn drop_after_act(&mut self)
         ensures { notes_now self.new ≡ notes_after_act (notes_now self.old) }
     {
         self.looks.fill(None);
@@ -133,54 +192,178 @@ impl Notes {
     }
 }
 
-impl<W: ShowsWires> Bus<W> {
+/// A world that isn't spent is reached.
+pub(crate) fn is_reached<W: WorldRun>(world: &W)
+    requires { IsFalse (W.is_spent world.now) }
+    ensures { ∥ IsReached (W.world world.now) ∥₁ }
+{}
+
+/// A hold in a world in a box.
+fn hold_boxed<W: WorldRun>(world: &mut Box<W>, end: End, turns: u16) -> Result<(), LineStop>
+    requires { IsFalse (W.is_spent world.old.value) }
+    ensures done { OnOk result (W.world world.new.value ≡ hold end turns (W.world world.old.value)) }
+    ensures accepted { OnOk result (hold_fault end (W.world world.old.value) ≡ None) }
+    ensures passed { OnOk result (TurnsPass 0 (W.world world.old.value) (W.world world.new.value)) }
+    ensures stop { IfErr result (IfFault (λ kind.
+        IsSomeAnd (hold_fault end (W.world world.old.value)) (λ fault. kind ≡ kind_of fault))) }
+    ensures fine { OnOk result (IsFalse (W.is_spent world.new.value)) }
+    ensures reached { OnOk result (∥ IsReached (W.world world.new.value) ∥₁) }
+{
+    world.hold(end, turns)?;
+    is_reached(&**world);
+    Ok(())
+}
+
+impl Bus {
+    /// The bus of nodes with these names, each just powered on, without cables. A cable delays a signal
+    /// by at most `delay` turns, 1 to 16.
+    pub fn new(
+        alloc: Global,
+        names: NameTable,
+        machines: Vec<AnyMachine>,
+        delay: u8,
+    ) -> Result<Bus, OutOfMemory>
+        requires some_delay { 1 ≤ delay }
+        requires short_delay { delay ≤ 16 }
+        requires few { length machines.items ≤ 63 }
+        requires named { length names ≡ length machines.items }
+        requires power_on { All (λ m. IsNodeAtPowerOn delay (any_node m).state) machines.items }
+        ensures { IfOk result (λ bus.
+            bus ≡ bus_of_nodes delay names (map any_node machines.items)) }
+    {
+        let nodes = machines.len();
+        let world = AgendaWorld::new(alloc, machines, delay)?;
+        is_reached(&world);
+        let notes = Notes::new(alloc, names, nodes)?;
+        let world = Box::new(alloc, world)?;
+        Ok(Bus { world, notes })
+    }
+
+    /// What holds of each bus.
+    pub(crate) fn is_sound(&self)
+        ensures { IsBus self.now }
+    {
+        let _ = &self.notes;
+    }
+
+    /// The world, which isn't spent.
+    pub(crate) fn world(&self) -> &AgendaWorld<AnyMachine>
+        ensures is { ⟦<AgendaWorld<AnyMachine> as WorldRun>⟧.world result.now ≡ self.now.world }
+        ensures fine { IsFalse (⟦<AgendaWorld<AnyMachine> as WorldRun>⟧.is_spent result.now) }
+    {
+        &*self.world
+    }
+
     /// By how many turns a cable delays a signal at most.
     pub fn delay(&self) -> u8
-        requires { IsSound W.world W.is_spent self.now }
-        ensures value { result ≡ (W.world self.now.world).delay }
+        ensures value { result ≡ self.now.world.delay }
         ensures some { 1 ≤ result }
         ensures few { result ≤ 16 }
     {
-        self.world.delay()
+        self.is_sound();
+        self.world().delay()
     }
 
-    /// Does an act.
-    pub(crate) fn act(&mut self, alloc: Global, act: &Act) -> Result<Vec<u8>, LineStop>
-        requires act { IsAct act.now }
-        requires sound { IsSound W.world W.is_spent self.old }
-        ensures done { IfOk result (λ text. Acts (bus_now W.world self.old) act.now
-            (Ok (bus_now W.world self.new, text.items))) }
-        ensures stop { IfErr result (Stops (Acts (bus_now W.world self.old) act.now)) }
-        ensures sound { OnOk result (IsSound W.world W.is_spent self.new) }
+    /// The number of turns done.
+    pub(crate) fn turns(&self) -> u32
+        ensures { result ≡ self.now.world.turns }
     {
-        self.world.act(act)?;
-        self.notes.drop_after_act();
-        Ok(Vec::new(alloc))
+        self.world().turns()
     }
 
-    /// Holds the wire that leaves an end.
-    pub(crate) fn hold(&mut self, alloc: Global, end: End, turns: u16) -> Result<Vec<u8>, LineStop>
-        requires sound { IsSound W.world W.is_spent self.old }
-        ensures done { IfOk result (λ text. Holds (bus_now W.world self.old) end turns
-            (Ok (bus_now W.world self.new, text.items))) }
-        ensures stop { IfErr result (Stops (Holds (bus_now W.world self.old) end turns)) }
-        ensures sound { OnOk result (IsSound W.world W.is_spent self.new) }
+    /// The nodes with their ports, and the cables between them.
+    pub(crate) fn cabling(&self) -> &Cabling
+        ensures { result.now ≡ self.now.world.cabling }
     {
-        self.world.hold(end, turns)?;
-        Ok(Vec::new(alloc))
+        self.world().cabling()
+    }
+
+    /// How many resets a node counts.
+    pub(crate) fn resets(&self, node: u8) -> u32
+        requires { node < length self.now.world.nodes }
+        ensures { result ≡ resets_of self.now.world node }
+    {
+        self.world().view(node).resets
+    }
+
+    /// The name of each node.
+    pub(crate) fn names(&self) -> &[Name]
+        ensures { result.now ≡ self.now.notes.names }
+    {
+        self.notes.names.list().as_slice()
+    }
+
+    /// The number of the node with a name.
+    pub(crate) fn node(&self, name: &Name) -> Result<u8, LineStop>
+        ensures value { result ≡ ok_or (node_named self.now.notes.names name.now)
+            (LineStop.Fault Kind.NoNode) }
+        ensures within { IfOk result (λ node. node < length self.now.world.nodes) }
+    {
+        self.notes.node(name)
+    }
+
+    /// The tree in which a node stands settled.
+    pub(crate) fn tree(&self, node: u8) -> Result<Reported<'_>, LineStop>
+        ensures found { IfOk result (λ tree. tree_with node self.now.notes ≡ Some (reported tree)) }
+        ensures named { IfOk result (λ tree.
+            IsNamedTree self.now.notes.names tree.root tree.list.now tree.order.now) }
+        ensures none { IfErr result (λ stop. (stop ≡ LineStop.Fault Kind.NotSettled)
+            × (tree_with node self.now.notes ≡ None)) }
+    {
+        self.notes.tree(node)
     }
 
     /// Fails where the turns that were done and so many more pass the limit.
     pub(crate) fn check_turns(&self, turns: u32) -> Result<(), LineStop>
-        requires { (W.world self.now.world).turns ≤ 2000000 }
-        ensures within { OnOk result
-            (nat_lt 2000000 ((W.world self.now.world).turns + turns) ≡ false) }
+        ensures within { OnOk result (nat_lt 2000000 (self.now.world.turns + turns) ≡ false) }
         ensures past { IfErr result (λ stop. (stop ≡ LineStop.Fault Kind.TooManyTurns)
-            × (nat_lt 2000000 ((W.world self.now.world).turns + turns) ≡ true)) }
+            × (nat_lt 2000000 (self.now.world.turns + turns) ≡ true)) }
     {
-        if turns > MAX_TURNS - self.world.turns() {
+        self.is_sound();
+        if turns > MAX_TURNS - self.turns() {
             return Err(LineStop::Fault(Kind::TooManyTurns));
         }
         Ok(())
+    }
+
+    /// Does an act.
+    pub(crate) fn act(self, act: &Act) -> Result<Bus, LineStop>
+        requires { IsAct act.now }
+        ensures done { IfOk result (λ bus. Acts self act.now (Ok (bus, []))) }
+        ensures passed { IfOk result (λ bus. TurnsPass 0 self.world bus.world) }
+        ensures stop { IfErr result (Stops (Acts self act.now)) }
+    {
+        let Bus {
+            mut world,
+            mut notes,
+        } = self;
+        world.act(act)?;
+        is_reached(&*world);
+        notes.drop_after_act();
+        Ok(Bus { world, notes })
+    }
+
+    /// Does an act that isn't refused.
+    pub(crate) fn act_done(self, act: &Act) -> Result<Bus, OutOfMemory>
+        requires act { IsAct act.now }
+        requires fits { act_fault act.now self.world ≡ None }
+        ensures done { IfOk result (λ bus. Acts self act.now (Ok (bus, []))) }
+        ensures passed { IfOk result (λ bus. TurnsPass 0 self.world bus.world) }
+    {
+        match self.act(act) {
+            Ok(bus) => Ok(bus),
+            Err(LineStop::Memory(error)) => Err(error),
+            Err(LineStop::Fault(_)) => unreachable!(),
+        }
+    }
+
+    /// Holds the wire that leaves an end.
+    pub(crate) fn hold(self, end: End, turns: u16) -> Result<Bus, LineStop>
+        ensures done { IfOk result (λ bus. Holds self end turns (Ok (bus, []))) }
+        ensures stop { IfErr result (Stops (Holds self end turns)) }
+    {
+        let Bus { mut world, notes } = self;
+        hold_boxed(&mut world, end, turns)?;
+        Ok(Bus { world, notes })
     }
 }

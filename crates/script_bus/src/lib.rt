@@ -16,8 +16,7 @@ mod steps;
 mod table;
 mod turns;
 
-pub use bank::Bank;
-pub use bus::{Bus, Notes};
+pub use bus::Bus;
 pub use laws::{
     each_config_comes_out, each_plan_comes_out, each_script_has_a_run, each_script_has_an_advice,
     entries_follow_on, maps_show_one_tree, plans_have_answers,

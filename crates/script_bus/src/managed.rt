@@ -5,13 +5,12 @@ ghost use Rattle.script_told.specs.Bus.{values_at, put_values, after_access, put
 ghost use Rattle.script_told.specs.Step.{Accesses, Bids, Grants, Looks, Managed, HasManager, seen_by, id_of};
 ghost use Rattle.script_text.specs.ReportText.{IsNamedTree};
 ghost use Rattle.script_text.specs.CommandText.{csr_text, grant_text};
-ghost use Rattle.script_bus.specs.Running.{bus_now, IsSound, IsAsked, Stops, nothing, reported};
+ghost use Rattle.script_bus.specs.Running.{IsAsked, Stops, nothing, reported};
 ghost use Rattle.resource_manager.specs.declared.access.Access.TheVariants as access;
 
 use crate::bank::Bank;
-use crate::bus::{Bus, Notes, Reported};
+use crate::bus::{Bus, Reported};
 use bus_manager::{Bid, attempt};
-use cable_world::ShowsWires;
 use resource_manager::{Access, Answer, Registers, Seen, look, serve};
 use script_lines::{Kind, LineStop};
 use script_text::{bid_text, csr_text, grant_text, tree_of};
@@ -49,14 +48,15 @@ fn id_of(tree: Reported<'_>, node: u8) -> u8
     }
 }
 
-impl Notes {
+impl Bus {
     /// The isochronous resource manager of a tree of these nodes, or none.
     fn manager(&self, alloc: Global, tree: Reported<'_>) -> Result<Option<u8>, OutOfMemory>
-        requires { IsNamedTree self.now.names tree.root tree.list.now tree.order.now }
+        requires { IsNamedTree self.now.notes.names tree.root tree.list.now tree.order.now }
         ensures has { IfOk result (λ manager. HasManager (reported tree.entry) manager) }
         ensures within { IfOk result (λ manager.
-            IfSome manager (λ node. node < length self.now.names)) }
+            IfSome manager (λ node. node < length self.now.world.nodes)) }
     {
+        self.is_sound();
         let shown = tree_of(alloc, tree.list)?;
         one_tree();
         let order = tree.order.as_slice();
@@ -65,24 +65,21 @@ impl Notes {
             None => Ok(None),
         }
     }
-}
 
-impl<W: ShowsWires> Bus<W> {
     /// The node with a name asks the manager of its tree.
     pub(crate) fn asked(&self, alloc: Global, name: &Name) -> Result<Asked, LineStop>
-        requires { IsSound W.world W.is_spent self.now }
-        ensures is { IfOk result (λ asked. IsAsked (bus_now W.world self.now) name.now
+        ensures is { IfOk result (λ asked. IsAsked self.now name.now
             asked.node asked.id asked.manager) }
         ensures few { IfOk result (λ asked. asked.id ≤ 62) }
-        ensures node { IfOk result (λ asked. asked.node < length (W.world self.now.world).nodes) }
+        ensures node { IfOk result (λ asked. asked.node < length self.now.world.nodes) }
         ensures manager { IfOk result (λ asked.
-            asked.manager < length (W.world self.now.world).nodes) }
+            asked.manager < length self.now.world.nodes) }
         ensures stop { IfErr result
-            (Stops (Managed (bus_now W.world self.now) name.now nothing)) }
+            (Stops (Managed self.now name.now nothing)) }
     {
-        let node = self.notes.node(name)?;
-        let tree = self.notes.tree(node)?;
-        match self.notes.manager(alloc, tree)? {
+        let node = self.node(name)?;
+        let tree = self.tree(node)?;
+        match self.manager(alloc, tree)? {
             Some(manager) => Ok(Asked {
                 node,
                 id: id_of(tree, node),
@@ -94,34 +91,30 @@ impl<W: ShowsWires> Bus<W> {
 
     /// The registers of a node.
     pub(crate) fn registers(&self, node: u8) -> Registers
-        requires sound { IsSound W.world W.is_spent self.now }
-        requires there { node < length (W.world self.now.world).nodes }
-        ensures { result ≡ values_at node (bus_now W.world self.now) }
+        requires there { node < length self.now.world.nodes }
+        ensures { result ≡ values_at node self.now }
     {
-        self.notes.banks[node as usize].after(self.world.view(node).resets)
+        let resets = self.resets(node);
+        self.notes.banks[node as usize].after(resets)
     }
 
     /// Gives a node these registers.
     fn put_registers(&mut self, node: u8, registers: Registers)
-        requires sound { IsSound W.world W.is_spent self.old }
-        requires there { node < length (W.world self.old.world).nodes }
-        ensures now { bus_now W.world self.new
-            ≡ put_values node registers (bus_now W.world self.old) }
-        ensures sound { IsSound W.world W.is_spent self.new }
+        requires there { node < length self.old.world.nodes }
+        ensures now { self.new
+            ≡ put_values node registers self.old }
     {
-        let resets = self.world.view(node).resets;
+        let resets = self.resets(node);
         self.notes.banks[node as usize] = Bank::used(resets, registers);
     }
 
     /// A call to the registers of a node.
     fn access(&mut self, node: u8, access: Access) -> Answer
-        requires sound { IsSound W.world W.is_spent self.old }
-        requires there { node < length (W.world self.old.world).nodes }
+        requires there { node < length self.old.world.nodes }
         requires permitted { IsPermitted access }
-        ensures answer { result ≡ answer_of (values_at node (bus_now W.world self.old)) access }
-        ensures now { bus_now W.world self.new
-            ≡ after_access node access (bus_now W.world self.old) }
-        ensures sound { IsSound W.world W.is_spent self.new }
+        ensures answer { result ≡ answer_of (values_at node self.old) access }
+        ensures now { self.new
+            ≡ after_access node access self.old }
     {
         let mut registers = self.registers(node);
         let answer = serve(&mut registers, access);
@@ -131,13 +124,11 @@ impl<W: ShowsWires> Bus<W> {
 
     /// What a node sees: its last look, which it drops, and else what the registers show now.
     fn take_look(&mut self, node: u8, manager: u8) -> Seen
-        requires sound { IsSound W.world W.is_spent self.old }
-        requires node { node < length (W.world self.old.world).nodes }
-        requires manager { manager < length (W.world self.old.world).nodes }
-        ensures value { result ≡ seen_by node manager (bus_now W.world self.old) }
-        ensures now { bus_now W.world self.new
-            ≡ put_look node None (bus_now W.world self.old) }
-        ensures sound { IsSound W.world W.is_spent self.new }
+        requires node { node < length self.old.world.nodes }
+        requires manager { manager < length self.old.world.nodes }
+        ensures value { result ≡ seen_by node manager self.old }
+        ensures now { self.new
+            ≡ put_look node None self.old }
     {
         let seen = match self.notes.looks[node as usize] {
             Some(seen) => seen,
@@ -154,15 +145,13 @@ impl<W: ShowsWires> Bus<W> {
         name: &Name,
         access: Access,
     ) -> Result<Vec<u8>, LineStop>
-        requires sound { IsSound W.world W.is_spent self.old }
         requires permitted { IsPermitted access }
-        ensures done { IfOk result (λ text. Managed (bus_now W.world self.old) name.now
-            (λ node id manager. Accesses (bus_now W.world self.old) manager access
+        ensures done { IfOk result (λ text. Managed self.old name.now
+            (λ node id manager. Accesses self.old manager access
             (csr_text name.now))
-            (Ok (bus_now W.world self.new, text.items))) }
+            (Ok (self.new, text.items))) }
         ensures stop { IfErr result
-            (Stops (Managed (bus_now W.world self.old) name.now nothing)) }
-        ensures sound { OnOk result (IsSound W.world W.is_spent self.new) }
+            (Stops (Managed self.old name.now nothing)) }
     {
         let asked = self.asked(alloc, name)?;
         let answer = self.access(asked.manager, access);
@@ -171,13 +160,11 @@ impl<W: ShowsWires> Bus<W> {
 
     /// The node keeps what the manager's registers now show.
     pub(crate) fn look(&mut self, alloc: Global, name: &Name) -> Result<Vec<u8>, LineStop>
-        requires sound { IsSound W.world W.is_spent self.old }
-        ensures done { IfOk result (λ text. Managed (bus_now W.world self.old) name.now
-            (λ node id manager. Looks (bus_now W.world self.old) node manager)
-            (Ok (bus_now W.world self.new, text.items))) }
+        ensures done { IfOk result (λ text. Managed self.old name.now
+            (λ node id manager. Looks self.old node manager)
+            (Ok (self.new, text.items))) }
         ensures stop { IfErr result
-            (Stops (Managed (bus_now W.world self.old) name.now nothing)) }
-        ensures sound { OnOk result (IsSound W.world W.is_spent self.new) }
+            (Stops (Managed self.old name.now nothing)) }
     {
         let asked = self.asked(alloc, name)?;
         let seen = look(&self.registers(asked.manager));
@@ -193,16 +180,14 @@ impl<W: ShowsWires> Bus<W> {
         channel: u8,
         units: u16,
     ) -> Result<Vec<u8>, LineStop>
-        requires sound { IsSound W.world W.is_spent self.old }
         requires channel { channel ≤ 63 }
         requires units { units ≤ 4915 }
-        ensures done { IfOk result (λ text. Managed (bus_now W.world self.old) name.now
-            (λ node id manager. Grants (bus_now W.world self.old) node manager
+        ensures done { IfOk result (λ text. Managed self.old name.now
+            (λ node id manager. Grants self.old node manager
             (λ seen. access.Allocate seen channel units) (grant_text (codes "allocate ") name.now))
-            (Ok (bus_now W.world self.new, text.items))) }
+            (Ok (self.new, text.items))) }
         ensures stop { IfErr result
-            (Stops (Managed (bus_now W.world self.old) name.now nothing)) }
-        ensures sound { OnOk result (IsSound W.world W.is_spent self.new) }
+            (Stops (Managed self.old name.now nothing)) }
     {
         let asked = self.asked(alloc, name)?;
         let seen = self.take_look(asked.node, asked.manager);
@@ -225,16 +210,14 @@ impl<W: ShowsWires> Bus<W> {
         channel: u8,
         units: u16,
     ) -> Result<Vec<u8>, LineStop>
-        requires sound { IsSound W.world W.is_spent self.old }
         requires channel { channel ≤ 63 }
         requires units { units ≤ 4915 }
-        ensures done { IfOk result (λ text. Managed (bus_now W.world self.old) name.now
-            (λ node id manager. Grants (bus_now W.world self.old) node manager
+        ensures done { IfOk result (λ text. Managed self.old name.now
+            (λ node id manager. Grants self.old node manager
             (λ seen. access.Release seen channel units) (grant_text (codes "release ") name.now))
-            (Ok (bus_now W.world self.new, text.items))) }
+            (Ok (self.new, text.items))) }
         ensures stop { IfErr result
-            (Stops (Managed (bus_now W.world self.old) name.now nothing)) }
-        ensures sound { OnOk result (IsSound W.world W.is_spent self.new) }
+            (Stops (Managed self.old name.now nothing)) }
     {
         let asked = self.asked(alloc, name)?;
         let seen = self.take_look(asked.node, asked.manager);
@@ -251,13 +234,11 @@ impl<W: ShowsWires> Bus<W> {
 
     /// The node attempts to become bus manager.
     pub(crate) fn bid(&mut self, alloc: Global, name: &Name) -> Result<Vec<u8>, LineStop>
-        requires sound { IsSound W.world W.is_spent self.old }
-        ensures done { IfOk result (λ text. Managed (bus_now W.world self.old) name.now
-            (λ node id manager. Bids (bus_now W.world self.old) name.now id manager)
-            (Ok (bus_now W.world self.new, text.items))) }
+        ensures done { IfOk result (λ text. Managed self.old name.now
+            (λ node id manager. Bids self.old name.now id manager)
+            (Ok (self.new, text.items))) }
         ensures stop { IfErr result
-            (Stops (Managed (bus_now W.world self.old) name.now nothing)) }
-        ensures sound { OnOk result (IsSound W.world W.is_spent self.new) }
+            (Stops (Managed self.old name.now nothing)) }
     {
         let asked = self.asked(alloc, name)?;
         let mut registers = self.registers(asked.manager);

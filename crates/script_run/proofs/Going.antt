@@ -14,10 +14,10 @@ use Rattle.script_told.specs.Step.{Settles}
 use Rattle.script_told.specs.Script.{Stage, fresh, running, Told, bus_of, fault_at, script_lines}
 use Rattle.script_told.specs.Run.{Entry, ScriptRun, done, stopped, behind, last_run, RunsFrom, IsRun, printed, IsTold}
 use Rattle.script_run.specs.Answered.{StopsWith, IsRefused, IsOnlyFault}
-use Rattle.script_bus.specs.Running.{Stops}
+use Rattle.script_bus.specs.Running.{IfFault, Stops}
 use Rattle.script_trace.specs.Trace.{TracesAt, AllTrace}
 use Rattle.script_bus.specs.Heard.{heard}
-use Rattle.script_run.specs.codings.Going.{LineLeads, LineFails, IfFault, Went, HaveGone, stop_at}
+use Rattle.script_run.specs.codings.Going.{LineLeads, LineFails, Went, HaveGone, stop_at}
 
 -- ---- commands that were done
 

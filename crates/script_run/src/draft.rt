@@ -1,25 +1,22 @@
 //! The nodes that a script declares before its bus runs.
-ghost use Rattle.std.specs.Prelude.{◌≡◌, ◌≤◌, ℕ, None, Some, Err, false, IfOk, IfErr, OnOk, length, map, nat_lt, replicate};
+ghost use Rattle.std.specs.Prelude.{◌≡◌, ◌≤◌, ℕ, Some, Err, false, IfOk, IfErr, OnOk, length, map, nat_lt};
 ghost use Rattle.port_state.specs.Timing.{InRange};
 ghost use Rattle.port_state.specs.Machine.{PortNode};
 ghost use Rattle.phy_machine.specs.Any.{any_node};
 ghost use Rattle.phy_machine.specs.PowerOn.{IsSpec, node_of_spec};
 ghost use Rattle.cable_world.specs.World.{IsNodeAtPowerOn};
-ghost use Rattle.script_told.specs.Bus.{bus_of_nodes, first_bank, is_declared};
+ghost use Rattle.script_told.specs.Bus.{bus_of_nodes, is_declared};
 ghost use Rattle.script_told.specs.Script.{Declares, first_draft, with_node, times_of, coins_of};
-ghost use Rattle.script_bus.specs.Running.{bus_now, IsSound, Stops};
+ghost use Rattle.script_bus.specs.Running.{Stops};
 ghost use Rattle.script_run.specs.codings.Declaring.{IsDraft, IsLine, IsDeclared, DeclaresNode, draft_now, node_said};
 
-use cable_world::WorldRun;
 use phy_machine::{AnyMachine, FieldMachine, NodeSpec, PackedMachine};
 use port_state::{Coins, Timing};
-use resource_manager::Seen;
-use script_bus::{Bank, Bus, NameTable, Notes};
+use script_bus::{Bus, NameTable};
 use script_lines::{Kind, LineStop};
 use self_id::Attrs;
 use std::alloc::Global;
 use topology_stack::{Name, OutOfMemory};
-use world_agenda::AgendaWorld;
 
 /// The number of nodes of a script, at most.
 const MAX_NODES: usize = 63;
@@ -140,28 +137,6 @@ fn powered_on(node: &NodeLine, d: u8, number: u32) -> AnyMachine
     machine(spec(node, d, number), node.packed)
 }
 
-/// Registers that were never used, of so many nodes.
-fn first_banks(alloc: Global, nodes: usize) -> Result<Vec<Bank>, OutOfMemory>
-    ensures { IfOk result (λ banks. banks.items ≡ replicate nodes first_bank) }
-{
-    let mut banks = Vec::with_capacity(alloc, nodes)?;
-    for _ in 0..nodes {
-        banks.push(Bank::new())?;
-    }
-    Ok(banks)
-}
-
-/// No looks of so many nodes.
-fn no_looks(alloc: Global, nodes: usize) -> Result<Vec<Option<Seen>>, OutOfMemory>
-    ensures { IfOk result (λ looks. looks.items ≡ replicate nodes None) }
-{
-    let mut looks = Vec::with_capacity(alloc, nodes)?;
-    for _ in 0..nodes {
-        looks.push(None)?;
-    }
-    Ok(looks)
-}
-
 impl Draft {
     /// Nothing but a delay, 1 to 16.
     pub fn new(alloc: Global, delay: u8) -> Draft
@@ -231,30 +206,16 @@ impl Draft {
     }
 
     /// The bus of these nodes, without cables.
-    pub fn bus(self, alloc: Global) -> Result<Bus<AgendaWorld<AnyMachine>>, OutOfMemory>
+    pub fn bus(self, alloc: Global) -> Result<Bus, OutOfMemory>
         requires { IsDraft self }
-        ensures value { IfOk result (λ bus.
-            bus_now ⟦<AgendaWorld<AnyMachine> as WorldRun>⟧.world bus
-            ≡ bus_of_nodes self.delay self.names (map any_node self.machines.items)) }
-        ensures sound { IfOk result (IsSound ⟦<AgendaWorld<AnyMachine> as WorldRun>⟧.world
-            ⟦<AgendaWorld<AnyMachine> as WorldRun>⟧.is_spent) }
+        ensures { IfOk result (λ bus.
+            bus ≡ bus_of_nodes self.delay self.names (map any_node self.machines.items)) }
     {
         let Draft {
             delay,
             names,
             machines,
         } = self;
-        let nodes = machines.len();
-        Ok(Bus {
-            world: AgendaWorld::new(alloc, machines, delay)?,
-            notes: Notes {
-                names,
-                banks: first_banks(alloc, nodes)?,
-                looks: no_looks(alloc, nodes)?,
-                report: None,
-                reports: 0,
-                maps: 0,
-            },
-        })
+        Bus::new(alloc, names, machines, delay)
     }
 }

@@ -2,21 +2,18 @@
 ghost use Rattle.std.specs.Prelude.{◌≡◌, ◌≤◌, ◌<◌, ◌∷◌, ◌++◌, [], ℕ, List, Some, None, Ok, Err, IfOk, IfErr, OnOk, length};
 ghost use Rattle.script_lines.specs.Range.{IsInRange};
 ghost use Rattle.script_told.specs.Script.{Declares, Delays, Follows, Runs, bus_of, delay_of, draft_of};
-ghost use Rattle.script_bus.specs.Running.{bus_now, IsSound, Stops};
+ghost use Rattle.script_bus.specs.Running.{Stops};
 ghost use Rattle.script_run.specs.codings.Declaring.{IsDraft, IsLine, draft_now, node_said};
 ghost use Rattle.script_run.specs.codings.Going.{HearsAt};
 
 use crate::draft::{Draft, GivenCoins, GivenTimes, NodeLine};
 use crate::stage::{Phase, Stage};
-use cable_world::WorldRun;
-use phy_machine::AnyMachine;
 use script_bus::{Bus, Listener};
 use script_lines::{Command, Kind, LineStop};
 use self_id::Attrs;
 use std::alloc::Global;
 use std::mem;
 use topology_stack::OutOfMemory;
-use world_agenda::AgendaWorld;
 
 /// By how many turns a cable delays a signal at most, where no line says it.
 const USUAL_DELAY: u8 = 4;
@@ -36,11 +33,8 @@ impl Stage {
     }
 
     /// The bus that runs from here on.
-    pub fn bus(self, alloc: Global) -> Result<Bus<AgendaWorld<AnyMachine>>, OutOfMemory>
-        ensures value { IfOk result (λ bus.
-            bus_now ⟦<AgendaWorld<AnyMachine> as WorldRun>⟧.world bus ≡ bus_of self) }
-        ensures sound { IfOk result (IsSound ⟦<AgendaWorld<AnyMachine> as WorldRun>⟧.world
-            ⟦<AgendaWorld<AnyMachine> as WorldRun>⟧.is_spent) }
+    pub fn bus(self, alloc: Global) -> Result<Bus, OutOfMemory>
+        ensures { IfOk result (λ bus. bus ≡ bus_of self) }
     {
         match self.phase {
             Phase::Fresh => Draft::new(alloc, USUAL_DELAY).bus(alloc),
@@ -93,8 +87,8 @@ impl Stage {
             (L.written listener.old) (L.written listener.new)) }
         ensures stop { IfErr result (Stops (Runs self.old command.now)) }
     {
-        let mut bus = mem::replace(self, Stage::new()).bus(alloc)?;
-        let text = bus.command(alloc, d, command, listener)?;
+        let bus = mem::replace(self, Stage::new()).bus(alloc)?;
+        let (bus, text) = bus.command(alloc, d, command, listener)?;
         self.phase = Phase::Running(bus);
         Ok(text)
     }

@@ -4,37 +4,34 @@ ghost use Rattle.settle.specs.Report.{IsReport};
 ghost use Rattle.script_told.specs.Step.{Settles};
 ghost use Rattle.script_told.specs.Bus as shown;
 ghost use Rattle.script_told.specs.Script.{fresh, bus_of};
-ghost use Rattle.script_bus.specs.Running.{bus_now, IsSound, Stops};
+ghost use Rattle.script_bus.specs.Running.{IfFault, Stops};
 ghost use Rattle.script_bus.specs.Heard.{Hears};
 ghost use Rattle.script_lines.specs.declared.command.Command.TheVariants as command;
-ghost use Rattle.script_run.specs.codings.Going.{IfFault, LineLeads, LineFails};
+ghost use Rattle.script_run.specs.codings.Going.{LineLeads, LineFails};
 ghost use Rattle.script_advice.specs.Advising.{IsAdvised};
 
 use crate::draft::Draft;
-use cable_world::WorldRun;
-use phy_machine::AnyMachine;
 use script_bus::{Bus, Listener, Silent};
 use script_lines::{LineStop, parse_line, says_nothing};
 use std::alloc::Global;
 use std::marker::Model;
-use world_agenda::AgendaWorld;
 
 /// What a script has come to between two of its lines.
 #[derive(Drop)]
-pub(crate) enum Phase<W> {
+pub(crate) enum Phase {
     /// No command came yet.
     Fresh,
     /// Nodes are declared.
     Declaring(Draft),
     /// The bus runs.
-    Running(Bus<W>),
+    Running(Bus),
 }
 
 /// A script that is gone through, between two of its lines. In a contract it is the stage of the
 /// definition.
 #[derive(Drop)]
 pub(crate) struct Stage {
-    pub(crate) phase: Phase<AgendaWorld<AnyMachine>>,
+    pub(crate) phase: Phase,
 }
 
 impl Model for Stage {
@@ -43,10 +40,9 @@ impl Model for Stage {
 
     ghost Value = { Stage };
 
-    ghost view = { λ s. stage_now ⟦<AgendaWorld<AnyMachine> as WorldRun>⟧.world s.phase };
+    ghost view = { λ s. stage_now s.phase };
 
-    ghost invariant = { λ s. IsPhase ⟦<AgendaWorld<AnyMachine> as WorldRun>⟧.world
-        ⟦<AgendaWorld<AnyMachine> as WorldRun>⟧.is_spent s.phase };
+    ghost invariant = { λ s. IsPhase s.phase };
 }
 
 impl Stage {
@@ -113,21 +109,17 @@ impl Stage {
             (L.written listener.old) (L.written listener.new)) }
         ensures stop { IfErr result (Stops (Settles (bus_of self))) }
     {
-        self.bus(alloc)?.last_report(alloc, listener)
+        let (_, text) = self.bus(alloc)?.settle(alloc, listener)?;
+        Ok(text)
     }
 
     /// The bus after the `settle` behind the last line.
-    fn settled(self, alloc: Global) -> Result<Bus<AgendaWorld<AnyMachine>>, LineStop>
-        ensures done { IfOk result (λ bus. (text : List ℕ) × Settles (bus_of self)
-            (Ok (bus_now ⟦<AgendaWorld<AnyMachine> as WorldRun>⟧.world bus, text))) }
+    fn settled(self, alloc: Global) -> Result<Bus, LineStop>
+        ensures done { IfOk result (λ bus. (text : List ℕ) × Settles (bus_of self) (Ok (bus, text))) }
         ensures stop { IfErr result (Stops (Settles (bus_of self))) }
-        ensures sound { IfOk result (IsSound ⟦<AgendaWorld<AnyMachine> as WorldRun>⟧.world
-            ⟦<AgendaWorld<AnyMachine> as WorldRun>⟧.is_spent) }
-        ensures reported { IfOk result (λ bus. IsSomeAnd bus.notes.report
-            (IsReport (⟦<AgendaWorld<AnyMachine> as WorldRun>⟧.world bus.world))) }
+        ensures reported { IfOk result (λ bus. IsSomeAnd bus.notes.report (IsReport bus.world)) }
     {
-        let mut bus = self.bus(alloc)?;
-        bus.settle(alloc, &mut Silent)?;
+        let (bus, _) = self.bus(alloc)?.settle(alloc, &mut Silent)?;
         Ok(bus)
     }
 

@@ -1,6 +1,5 @@
 -- How the lines of a script are gone through.
 use Rattle.std.specs.Prelude.{◌≡◌, ◌⊎◌, ℕ, Bool, List, [], ◌++◌, None, Some, Ok, Err}
-use Rattle.cable_world.specs.World.{CableWorld}
 use Rattle.script_lines.specs.declared.kind.Kind.{Kind}
 use Rattle.script_lines.specs.declared.kind.LineStop.{LineStop}
 use Rattle.script_lines.specs.declared.kind.LineStop.TheVariants as line
@@ -14,19 +13,17 @@ use Rattle.script_told.specs.Script.{Stage, fresh, declaring, running, delay_of,
 use Rattle.script_told.specs.Run.{Entry, ScriptRun, behind, RunsFrom, IsRun, printed}
 use Rattle.script_trace.specs.Trace.{TracesAt, AllTrace}
 use Rattle.script_bus.specs.Heard.{heard}
-use Rattle.script_bus.specs.Running.{bus_now, IsSound}
 use Rattle.script_run.specs.codings.Declaring.{draft_now, IsDraft}
 
-abbrev pub stage_now : {W : Type 0} → (W → CableWorld) → Phase W → Stage
-stage_now world Fresh = fresh
-stage_now world (Declaring draft) = declaring (draft_now draft)
-stage_now world (Running bus) = running (bus_now world bus)
+abbrev pub stage_now : Phase → Stage
+stage_now Fresh = fresh
+stage_now (Declaring draft) = declaring (draft_now draft)
+stage_now (Running bus) = running bus
 
-abbrev pub IsPhase :
-    {W : Type 0} → (W → CableWorld) → (W → Bool) → Phase W → Type 0
-IsPhase world spent Fresh = Unit {0}
-IsPhase world spent (Declaring draft) = IsDraft draft
-IsPhase world spent (Running bus) = IsSound world spent bus
+abbrev pub IsPhase : Phase → Type 0
+IsPhase Fresh = Unit {0}
+IsPhase (Declaring draft) = IsDraft draft
+IsPhase (Running bus) = Unit {0}
 
 -- a command led from a stage to the next, and a listener added what happened in it to its text
 pub record HearsAt
@@ -49,11 +46,6 @@ LineFails stage line kind =
     Reads (delay_of stage) line (Err kind)
     ⊎ ((command : Command) × Reads (delay_of stage) line (Ok (Some command))
     × Follows stage command (Err kind))
-
--- a stop for a fault tells the fault
-abbrev pub IfFault : (Kind → Type 0) → LineStop → Type 0
-IfFault P (line.Fault kind) = P kind
-IfFault P (line.Memory none) = Unit {0}
 
 -- the stop of a script at a line
 abbrev pub stop_at : ℕ → LineStop → ScriptStop

@@ -1,20 +1,45 @@
-use Rattle.std.proofs.Common.{ap, length, arith}
+use Rattle.std.proofs.Common.{◌≡◌, ◌≤◌, ◌+◌, ◌++◌, ◌∙◌, ℕ, ap, arith}
+use Rattle.std.proofs.Math.Logic.{∥∥₁_map}
+use Rattle.std.proofs.lemmas.Bool.{ltb-false}
+use Rattle.cable_world.specs.Turn.{turns_after}
 use Rattle.cable_world.proofs.Lemmas.{lawful-now}
+use Rattle.settle.specs.Report.{quiet_turns_of}
+use Rattle.script_told.specs.Bus.{Bus}
+use Rattle.script_told.proofs.Lemmas.{some-quiet}
+use Rattle.script_trace.specs.Step.{turns_lines}
+use Rattle.script_bus.specs.Heard.{heard}
+use Rattle.script_bus.proofs.Hearing.{reports-now}
 use Rattle.script_bus.proofs.bus.Bus.pass.Goals as goal
 
-pub quiet_turns-quiet-requires-clause-some_delay :
-    goal.quiet_turns-quiet-requires-clause-some_delay
-quiet_turns-quiet-requires-clause-some_delay g c =
-    let lawful = lawful-now _ (g.met.W.WorldRun.reached c.args.self.now.world c.requires.fine) in
-    omega (arith, c.delay.ensures, lawful.well_formed.some_delay)
+pub go-requires : goal.go-requires
+go-requires g c =
+    let w = c.args.self.world in
+    let few : w.turns + quiet_turns_of w ≤ 2000000 = ltb-false 2000000 (w.turns + quiet_turns_of w) c.requires in
+    omega (arith, few, c.quiet_turns-quiet.ensures)
 
-pub quiet_turns-quiet-requires-clause-short_delay :
-    goal.quiet_turns-quiet-requires-clause-short_delay
-quiet_turns-quiet-requires-clause-short_delay g c =
-    let lawful = lawful-now _ (g.met.W.WorldRun.reached c.args.self.now.world c.requires.fine) in
-    omega (arith, c.delay.ensures, lawful.well_formed.short_delay)
+pub report-requires-clause-settled : goal.report-requires-clause-settled
+report-requires-clause-settled g c =
+    let w = c.args.self.world in
+    let quiet : c.in_ok-bus.bus.world ≡ turns_after (quiet_turns_of w) w =
+    ap (λ (b : Bus). b.world) c.in_ok-bus.ensures.done ∙ ap (λ (n : ℕ). turns_after n w) c.quiet_turns-quiet.ensures in
+    ∥∥₁_map c.is_sound.ensures.reached (λ r. c.quiet_turns_settle.ensures.plain w c.in_ok-bus.bus.world r quiet)
 
-pub turns-requires-clause-few : goal.turns-requires-clause-few
-turns-requires-clause-few g c =
-    let lawful = lawful-now _ (g.met.W.WorldRun.reached c.args.self.now.world c.requires.fine) in
-    omega (arith, c.nodes.ensures.few, c.nodes.ensures.value, ap length c.cabling.ensures, lawful.well_formed.count, c.requires.named, ap length c.as_slice-names.ensures, ap length c.list.ensures)
+pub report-requires-clause-few : goal.report-requires-clause-few
+report-requires-clause-few g c =
+    let w = c.args.self.world in
+    let lawful = lawful-now w c.is_sound.ensures.reached in
+    omega (arith, c.is_sound.ensures.reports, ap (λ (b : Bus). b.notes.reports) c.in_ok-bus.ensures.done, c.in_ok-bus.ensures.passed.turns, c.quiet_turns-quiet.ensures, some-quiet w lawful.well_formed.some_delay)
+
+pub returns-clause-reports : goal.returns-clause-reports
+returns-clause-reports g c =
+    let w = c.args.self.world in
+    let done = c.in_ok-bus.ensures.done in
+    let quiet : c.in_ok-bus.bus.world ≡ turns_after (quiet_turns_of w) w =
+    ap (λ (b : Bus). b.world) done ∙ ap (λ (n : ℕ). turns_after n w) c.quiet_turns-quiet.ensures in
+    reports-now c.args.self c.in_ok-bus.bus _ _ quiet (ap (λ (b : Bus). b.notes) done) c.in_ok-text.ensures
+
+pub returns-clause-heard : goal.returns-clause-heard
+returns-clause-heard g c =
+    let w = c.args.self.world in
+    c.in_ok-bus.ensures.heard
+    ∙ ap (λ (n : ℕ). g.L.Listener.written c.args.listener.now ++ heard g.L.Listener.writes (turns_lines c.args.self.notes.names n w)) c.quiet_turns-quiet.ensures

@@ -1,6 +1,8 @@
 use Rattle.std.proofs.Common.{◌<◌, ℕ, List, All, get_or, length, sym, subst, ◌∙◌, ap, arith}
 use Rattle.std.proofs.lemmas.List.{get_or_default}
+use Rattle.cable_world.specs.World.{CableWorld}
 use Rattle.cable_world.proofs.Lemmas.{lawful-now}
+use Rattle.settle_plan.specs.Planned.{PlansSuit}
 use Rattle.script_text.specs.Plan.{plan_line}
 use Rattle.script_told.specs.Step.{node_with}
 use Rattle.script_bus.specs.Running.{reported}
@@ -8,44 +10,44 @@ use Rattle.script_bus.proofs.Planning.{its-there, plan-suits, plan-place, is-ele
 use Rattle.script_bus.proofs.bus.Bus.planned.Goals as goal
 
 pub plans_suit-requires-clause-there : goal.plans_suit-requires-clause-there
-plans_suit-requires-clause-there g c =
-    let w = g.W.WorldRun.world c.args.self.now.world in
-    let lawful = lawful-now w (g.met.W.WorldRun.reached c.args.self.now.world c.requires.sound.fine) in
-    omega (arith, c.requires.there, lawful.well_formed.count)
+plans_suit-requires-clause-there c =
+    let w = c.args.self.now.world in
+    let lawful = lawful-now w c.is_sound.ensures.reached in
+    omega (arith, c.requires.there, lawful.well_formed.count, ap (λ (v : CableWorld). length v.cabling) c.world.ensures.is)
 
 pub chosen-plan-requires : goal.chosen-plan-requires
-chosen-plan-requires g c =
+chosen-plan-requires c =
     is-elected c.one_tree.ensures (reported c.args.tree) c.requires.managed.0 c.requires.managed.1 c.in_ok-shown.shown
     c.in_ok-shown.ensures.tree.0 c.in_ok-shown.ensures.tree.1
 
 pub expected-expected-requires-clause-place : goal.expected-expected-requires-clause-place
-expected-expected-requires-clause-place g c =
+expected-expected-requires-clause-place c =
     plan-place c.one_tree.ensures c.args.self.now.notes.names (reported c.args.tree) c.requires.named c.in_ok-shown.shown
     c.in_ok-shown.ensures.tree.0 c.in_ok-shown.ensures.tree.1 c.chosen-plan.result c.chosen-plan.ensures
 
 pub bounds-order-plan : goal.bounds-order-plan
-bounds-order-plan g c =
+bounds-order-plan c =
     subst (λ (ns : List ℕ). c.chosen-plan.result.root_id < length ns) (sym c.as_slice-order.ensures.value)
     (plan-place c.one_tree.ensures c.args.self.now.notes.names (reported c.args.tree) c.requires.named c.in_ok-shown.shown
     c.in_ok-shown.ensures.tree.0 c.in_ok-shown.ensures.tree.1 c.chosen-plan.result c.chosen-plan.ensures)
 
 pub plan_line-requires-clause-root : goal.plan_line-requires-clause-root
-plan_line-requires-clause-root g c =
-    let w = g.W.WorldRun.world c.args.self.now.world in
-    let lawful = lawful-now w (g.met.W.WorldRun.reached c.args.self.now.world c.requires.sound.fine) in
+plan_line-requires-clause-root c =
+    let w = c.args.self.now.world in
+    let lawful = lawful-now w c.is_sound.ensures.reached in
     let place = plan-place c.one_tree.ensures c.args.self.now.notes.names (reported c.args.tree) c.requires.named c.in_ok-shown.shown
     c.in_ok-shown.ensures.tree.0 c.in_ok-shown.ensures.tree.1 c.chosen-plan.result c.chosen-plan.ensures in
     let there = its-there w lawful c.args.node (reported c.args.tree) c.stands.ensures c.chosen-plan.result.root_id place in
     let order = ap (λ (ns : List ℕ). get_or ns c.chosen-plan.result.root_id 0) c.as_slice-order.ensures.value in
-    omega (arith, there, order, get_or_default c.args.tree.order.now c.chosen-plan.result.root_id 0 0 place, c.requires.sound.bus.names, lawful.well_formed.count, ap length c.as_slice-names.ensures, ap length c.list.ensures)
+    omega (arith, there, order, get_or_default c.args.tree.order.now c.chosen-plan.result.root_id 0 0 place, c.is_sound.ensures.names, lawful.well_formed.count, ap length c.names.ensures)
 
 pub plan_line-requires-clause-nodes : goal.plan_line-requires-clause-nodes
-plan_line-requires-clause-nodes g c =
-    subst (λ (ns : List ℕ). All (λ k. k < length c.as_slice-names.result.now) ns) (sym c.as_slice.ensures.value)
-    (λ i d inside. omega (arith, c.expected-expected.ensures.nodes i d inside, ap length c.as_slice-names.ensures, ap length c.list.ensures))
+plan_line-requires-clause-nodes c =
+    subst (λ (ns : List ℕ). All (λ k. k < length c.names.result.now) ns) (sym c.as_slice.ensures.value)
+    (λ i d inside. omega (arith, c.expected-expected.ensures.nodes i d inside, ap length c.names.ensures))
 
 pub returns-clause-is : goal.returns-clause-is
-returns-clause-is g c =
+returns-clause-is c =
     let tree = reported c.args.tree in
     let plan = c.chosen-plan.result in
     let names = c.args.self.now.notes.names in
@@ -59,15 +61,15 @@ returns-clause-is g c =
       walk = c.expected-expected.ensures.walk;
       line_is =
           c.in_ok-line.ensures
-          ∙ ap (λ (ns : List (List ℕ)). plan_line ns c.args.name.now (get_or c.as_slice-order.result.now plan.root_id 0) plan c.as_slice.result.now) (c.as_slice-names.ensures ∙ c.list.ensures)
+          ∙ ap (λ (ns : List (List ℕ)). plan_line ns c.args.name.now (get_or c.as_slice-order.result.now plan.root_id 0) plan c.as_slice.result.now) c.names.ensures
           ∙ ap (λ (ns : List ℕ). plan_line names c.args.name.now (get_or ns plan.root_id 0) plan c.as_slice.result.now) c.as_slice-order.ensures.value
           ∙ ap (λ (r : ℕ). plan_line names c.args.name.now r plan c.as_slice.result.now) (get_or_default c.args.tree.order.now plan.root_id 0 0 place)
           ∙ ap (λ (e : List ℕ). plan_line names c.args.name.now (node_with tree plan.root_id) plan e) c.as_slice.ensures.value;
     }
 
 pub returns-clause-suits : goal.returns-clause-suits
-returns-clause-suits g c =
-    let w = g.W.WorldRun.world c.args.self.now.world in
-    let lawful = lawful-now w (g.met.W.WorldRun.reached c.args.self.now.world c.requires.sound.fine) in
-    plan-suits w lawful c.args.node (reported c.args.tree) c.stands.ensures c.plans_suit.ensures c.in_ok-shown.shown
+returns-clause-suits c =
+    let w = c.args.self.now.world in
+    let lawful = lawful-now w c.is_sound.ensures.reached in
+    plan-suits w lawful c.args.node (reported c.args.tree) c.stands.ensures (subst (λ (v : CableWorld). PlansSuit v c.args.node) c.world.ensures.is c.plans_suit.ensures) c.in_ok-shown.shown
     c.in_ok-shown.ensures.tree.0 c.in_ok-shown.ensures.tree.1 c.chosen-plan.result c.chosen-plan.ensures

@@ -5,7 +5,6 @@ use Rattle.cable_world.proofs.Lemmas.{lawful-now}
 use Rattle.script_advice.specs.declared.advice.LoopAdvice.{LoopAdvice}
 use Rattle.script_advice.specs.Advice.{all_pulls, PullsLead}
 use Rattle.script_advice.specs.Advising.{ArePullable}
-use Rattle.script_bus.specs.Running.{bus_now}
 use Rattle.script_advice.proofs.Lemmas.{first-pullable, rest-pullable, pulls-append}
 use Rattle.script_bus.proofs.bus.Bus.pull_all.Goals as goal
 
@@ -19,27 +18,24 @@ parted advices at a xs within is xs_are =
     ∙ ap (λ (b : LoopAdvice). b.advice.pulls ++ all_pulls (drop (at + 1) advices)) (sym is)
     ∙ ap (λ (ys : List Cable). ys ++ all_pulls (drop (at + 1) advices)) (sym xs_are)
 
-pub pull_each-requires-clause-plugged : goal.pull_each-requires-clause-plugged
-pull_each-requires-clause-plugged g c =
-    let w = g.W.WorldRun.world c.loop-advice.self.world in
+pub pull_each-requires : goal.pull_each-requires
+pull_each-requires c =
+    let w = c.loop-advice.bus.world in
     let left = parted c.args.advices.now c.loop-advice.advice-index c.advice-item.result c.as_slice.result.now c.loop-advice-test.true c.advice-item.is c.as_slice.ensures in
     first-pullable w.cabling c.as_slice.result.now (all_pulls (drop (c.loop-advice.advice-index + 1) c.args.advices.now))
-    (subst (ArePullable w.cabling) left c.loop-advice.invariant.1)
+    (subst (ArePullable w.cabling) left c.loop-advice.invariant.0)
 
 pub loop-advice-preserved : goal.loop-advice-preserved
-loop-advice-preserved g c =
-    let w = g.W.WorldRun.world c.loop-advice.self.world in
-    let lawful = lawful-now w (g.met.W.WorldRun.reached c.loop-advice.self.world c.loop-advice.invariant.0.fine) in
-    let bus = bus_now g.W.WorldRun.world c.loop-advice.self in
-    let next = bus_now g.W.WorldRun.world c.pull_each.new.self in
-    let done = c.in_ok-pull_each.ensures.done in
+loop-advice-preserved c =
+    let bus = c.loop-advice.bus in
+    let lawful = lawful-now bus.world c.is_sound.ensures.reached in
+    let done = c.in_ok-bus.ensures in
     let rest = all_pulls (drop (c.loop-advice.advice-index + 1) c.args.advices.now) in
     let left = parted c.args.advices.now c.loop-advice.advice-index c.advice-item.result c.as_slice.result.now c.loop-advice-test.true c.advice-item.is c.as_slice.ensures in (
-      c.in_ok-pull_each.ensures.sound,
-      rest-pullable bus next c.as_slice.result.now rest lawful.well_formed.cabling
-          (subst (ArePullable w.cabling) left c.loop-advice.invariant.1) done,
+      rest-pullable bus _ c.as_slice.result.now rest lawful.well_formed.cabling
+          (subst (ArePullable bus.world.cabling) left c.loop-advice.invariant.0) done,
       (λ after more.
-          c.loop-advice.invariant.2 after
+          c.loop-advice.invariant.1 after
           (subst (λ (xs : List Cable). PullsLead bus xs after) (sym left)
-          (pulls-append bus next after c.as_slice.result.now rest done more))),
+          (pulls-append bus _ after c.as_slice.result.now rest done more))),
     )

@@ -4,7 +4,7 @@ use Rattle.std.specs.Prelude.{IsSomeAnd, Option, None, Some, slice_get}
 use Rattle.self_id.specs.Node.{Node}
 use Rattle.self_id.specs.declared.standard.Standard.TheVariants.{Ieee2000}
 use Rattle.topology_stack.specs.Tree.{Tree, walk}
-use Rattle.script_bus.proofs.bus.Notes.manager.Goals as goal
+use Rattle.script_bus.proofs.bus.Bus.manager.Goals as goal
 
 there : (ns : List Node) (id : ℕ) (P : Node → Type 0) → IsSomeAnd (slice_get ns id) P →
     id < length ns
