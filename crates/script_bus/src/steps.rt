@@ -239,11 +239,7 @@ impl Bus {
     }
 
     /// A hold, which a listener hears.
-    fn hold_heard<L: Listener>(
-        self,
-        command: &Command,
-        listener: &mut L,
-    ) -> Result<Bus, LineStop>
+    fn hold_heard<L: Listener>(self, command: &Command, listener: &mut L) -> Result<Bus, LineStop>
         requires { IsHoldCommand command.now }
         ensures done { IfOk result (λ bus. Does self command.now (Ok (bus, []))) }
         ensures heard { IfOk result (λ bus. Hears L.writes self command.now bus
@@ -278,7 +274,10 @@ impl Bus {
             | Command::Pull { .. }
             | Command::Reset { .. }
             | Command::Config { .. } => {
-                Ok((self.act_heard(alloc, d, command, listener)?, Vec::new(alloc)))
+                Ok((
+                    self.act_heard(alloc, d, command, listener)?,
+                    Vec::new(alloc),
+                ))
             }
             Command::Hold { .. } => Ok((self.hold_heard(command, listener)?, Vec::new(alloc))),
             Command::Turn { count } => Ok((self.turn(alloc, *count, listener)?, Vec::new(alloc))),

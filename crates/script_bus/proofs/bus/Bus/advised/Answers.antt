@@ -59,8 +59,7 @@ returns-in-Ok-clause-done c =
     let names = c.args.self.notes.names in
     let pulls = subst (λ (l : List LoopAdvice). PullsLead c.args.self (all_pulls l) c.in_ok-bus.bus) c.deref-2.ensures.value c.in_ok-bus.ensures in
     let told : c.in_ok-text.text.items ≡ advice_text names advices =
-    c.in_ok-text.ensures ∙ ap (λ (ns : Names). advice_text ns c.deref.result.now) c.names.ensures ∙ ap (advice_text names) c.deref.ensures.value in
-    (
+    c.in_ok-text.ensures ∙ ap (λ (ns : Names). advice_text ns c.deref.result.now) c.names.ensures ∙ ap (advice_text names) c.deref.ensures.value in (
       c.in-Ok.field-0-0,
       advises c.args.self c.in_ok-bus.bus advices _ _ c.requires c.in_ok-advices.ensures pulls c.in-Ok.ensures.done
           (ap (λ (l : List ℕ). Ok (c.in-Ok.field-0-0, l))
