@@ -4,4 +4,5 @@ pub mod SomeAdvice
 pub mod EachConfig
 pub mod EachMaps
 pub mod Heard
+pub mod Listed
 pub mod codings

@@ -9,6 +9,7 @@ mod advised;
 mod bank;
 mod bus;
 mod laws;
+mod listed;
 mod listener;
 mod managed;
 mod planned;

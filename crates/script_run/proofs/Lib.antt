@@ -1,4 +1,5 @@
 pub mod ScriptLines
 pub mod Going
+pub mod Listing
 pub mod AdviceEnds
 pub mod Tracing

@@ -7,12 +7,14 @@
 
 mod advise;
 mod draft;
+mod listed;
 mod run;
 mod script;
 mod stage;
 mod trace;
 
 pub use advise::advise_script;
+pub use listed::list_script;
 pub use script::run_script;
 pub use script_lines::{Command, Kind, LineStop, ScriptFault, ScriptStop, parse_line};
 pub use script_made::make_script;

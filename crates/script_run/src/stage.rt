@@ -8,6 +8,7 @@ ghost use Rattle.script_bus.specs.Running.{bus_now, IsSound, Stops};
 ghost use Rattle.script_bus.specs.Heard.{Hears};
 ghost use Rattle.script_lines.specs.declared.command.Command.TheVariants as command;
 ghost use Rattle.script_run.specs.codings.Going.{IfFault, LineLeads, LineFails};
+ghost use Rattle.script_run.specs.codings.Listing.{ListsAt, ListFails};
 ghost use Rattle.script_advice.specs.Advising.{IsAdvised};
 
 use crate::draft::Draft;
@@ -17,6 +18,7 @@ use script_bus::{Bus, Listener, Silent};
 use script_lines::{LineStop, parse_line, says_nothing};
 use std::alloc::Global;
 use std::marker::Model;
+use topology_stack::Name;
 use world_agenda::AgendaWorld;
 
 /// What a script has come to between two of its lines.
@@ -138,5 +140,14 @@ impl Stage {
         ensures stop { IfErr result (Stops (λ r. Settles (bus_of self) r ⊎ IsAdvised self r)) }
     {
         self.settled(alloc)?.advised(alloc)
+    }
+
+    /// The list of a node's tree after the `settle` behind the last line.
+    pub fn listed(self, alloc: Global, name: &Name) -> Result<Vec<u32>, LineStop>
+        ensures done { IfOk result (λ list. ListsAt self name.now list.items) }
+        ensures stop { IfErr result (IfFault (ListFails self name.now)) }
+    {
+        let bus = self.settled(alloc)?;
+        bus.list_of(alloc, name)
     }
 }
