@@ -2,7 +2,7 @@
 _busconf() {
   local forms
   case ${1##*/} in
-  busview) forms="packets tree dot trace script resets --help --version" ;;
+  busview) forms="packets tree dot trace capture script resets --help --version" ;;
   *) forms="run advice read read95 maps rom make --help --version" ;;
   esac
   COMPREPLY=()

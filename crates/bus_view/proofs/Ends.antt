@@ -6,8 +6,8 @@ use Rattle.std.specs.Io.KnownBytes.{Appends}
 use Rattle.io_edges.specs.Told.{IfTold, TookOver}
 use Rattle.bus_view.specs.Form.{Asks, AsksScript, IsForm}
 use Rattle.bus_view.specs.declared.form.ViewForm.{ViewForm}
-use Rattle.bus_view.specs.declared.form.ViewForm.TheVariants.{Capture, Trace, Script}
-use Rattle.bus_view.specs.Answer.{Reading, spelt, refused, status_of, IsTraceView, traced, at_fault, IsView, Answers, viewed, no_form}
+use Rattle.bus_view.specs.declared.form.ViewForm.TheVariants.{Capture, Trace, Script, ListOf}
+use Rattle.bus_view.specs.Answer.{Reading, spelt, refused, status_of, IsTraceView, traced, at_fault, has_list, has_none, IsView, Answers, viewed, no_form}
 use Rattle.script_made.specs.Made.{made_script}
 use Rattle.script_trace.specs.Trace.{IsTrace}
 use Rattle.bus_view.proofs.Forms.{one_form}
@@ -45,6 +45,8 @@ few_status (Capture view standard) bytes status text shows =
 few_status Trace bytes status text (traced e x) = omega (arith, e)
 few_status Trace bytes status text (at_fault fault e x t) = omega (arith, e)
 few_status (Script nodes seed) bytes status text x = let e = x.0 in omega (arith, e)
+few_status (ListOf name) bytes status text (has_list list e x t) = omega (arith, e)
+few_status (ListOf name) bytes status text (has_none fault e x t) = omega (arith, e)
 
 -- it isn't 6, where not too many bytes were taken
 pub not_six : (X : Type 0) (old new : Option (List ℕ)) (status : ℕ) → status ≤ 1 →

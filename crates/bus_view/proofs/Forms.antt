@@ -7,7 +7,8 @@ use Rattle.self_id.specs.declared.standard.Standard.TheVariants.{Ieee1995, Ieee2
 use Rattle.bus_view.specs.declared.form.CaptureView.{CaptureView}
 use Rattle.bus_view.specs.declared.form.CaptureView.TheVariants.{Packets, Tree, Dot}
 use Rattle.bus_view.specs.declared.form.ViewForm.{ViewForm}
-use Rattle.bus_view.specs.declared.form.ViewForm.TheVariants.{Capture, Trace, Script}
+use Rattle.bus_view.specs.declared.form.ViewForm.TheVariants.{Capture, Trace, Script, ListOf}
+use Rattle.script_lines.specs.Name.{is_name}
 use Rattle.script_lines.specs.Number.{number_of}
 use Rattle.bus_view.specs.Form.{standard_words, AreScriptWords, AreWordsOf, Asks, AsksScript, IsForm}
 use Rattle.bus_view.specs.codings.Reading.{IsRead, AsksFewNodes}
@@ -59,12 +60,17 @@ capture_of : Option CaptureView → Standard → Option ViewForm
 capture_of None standard = None
 capture_of (Some view) standard = Some (Capture view standard)
 
+-- the list of a name
+abbrev named : Bool → List ℕ → Option ViewForm
+named test name = cond test (Some (ListOf name)) None
+
 form_of : List (List ℕ) → Option ViewForm
 form_of [] = None
 form_of (word ∷ []) =
     cond (same word (codes "trace")) (Some Trace) (capture_of (view_of word) Ieee2000)
 form_of (word ∷ next ∷ []) =
-    cond (same next (codes "--1995")) (capture_of (view_of word) Ieee1995) None
+    cond (same word (codes "capture")) (named (is_name next) next)
+    (cond (same next (codes "--1995")) (capture_of (view_of word) Ieee1995) None)
 form_of (word ∷ a ∷ b ∷ []) = cond (same word (codes "script")) (of_numbers (number_of a) (number_of b)) None
 form_of (word ∷ a ∷ b ∷ c ∷ words) = None
 
@@ -80,6 +86,9 @@ unfolding of_numbers
 from_numbers a b nodes seed x y some few =
     rw (x, y) (in_range (nat_lt 0 nodes) (nat_lt nodes 64) nodes seed refl refl some few)
 
+found_name : (test : Bool) (name : List ℕ) → test ≡ true → named test name ≡ Some (ListOf name)
+found_name test name e = rw e refl
+
 is_found : (form : ViewForm) (words : List (List ℕ)) → AreWordsOf form words →
     form_of words ≡ Some form
 unfolding same form_of capture_of
@@ -93,6 +102,7 @@ is_found Trace words e = ap (λ (ws : List (List ℕ)). form_of ws) e
 is_found (Script nodes seed) words m =
     ap (λ (ws : List (List ℕ)). form_of ws) m.words_are
     ∙ from_numbers (number_of m.nodes_word) (number_of m.seed_word) nodes seed m.nodes_are m.seed_is m.some_nodes m.few_nodes
+is_found (ListOf name) words m = ap (λ (ws : List (List ℕ)). form_of ws) m.0 ∙ found_name (is_name name) name m.1
 
 same_form : (a b : ViewForm) (x : Option ViewForm) → x ≡ Some a → x ≡ Some b → a ≡ b
 same_form a b x e f = cc
@@ -141,10 +151,21 @@ one_word true word form is e =
     subst (λ (g : ViewForm). AreWordsOf g (word ∷ [])) f (ap (λ (w : List ℕ). w ∷ []) (is refl))
 one_word false word form is e = of_capture (view_of word) Ieee2000 word form (view_is word) e
 
-two_words : (test : Bool) (word next : List ℕ) (form : ViewForm) → (test ≡ true → next ≡ codes "--1995") → cond test (capture_of (view_of word) Ieee1995) None ≡ Some form → AreWordsOf form (word ∷ next ∷ [])
-two_words true word next form is e =
+by_name : (test : Bool) (word next : List ℕ) (form : ViewForm) → is_name next ≡ test →
+    word ≡ codes "capture" → named test next ≡ Some form → AreWordsOf form (word ∷ next ∷ [])
+by_name true word next form is w e =
+    let f : ListOf next ≡ form = cc in
+    subst (λ (g : ViewForm). AreWordsOf g (word ∷ next ∷ [])) f (ap (λ (v : List ℕ). v ∷ next ∷ []) w, is)
+by_name false word next form is w e = absurd cc
+
+two_words : (first test : Bool) (word next : List ℕ) (form : ViewForm) → (first ≡ true → word ≡ codes "capture") →
+    (test ≡ true → next ≡ codes "--1995") →
+    cond first (named (is_name next) next) (cond test (capture_of (view_of word) Ieee1995) None) ≡ Some form →
+    AreWordsOf form (word ∷ next ∷ [])
+two_words true test word next form w is e = by_name (is_name next) word next form refl (w refl) e
+two_words false true word next form w is e =
     rw (is refl) (of_capture (view_of word) Ieee1995 word form (view_is word) e)
-two_words false word next form is e = absurd cc
+two_words false false word next form w is e = absurd cc
 
 -- 1 to 63 nodes and a seed that are found stand there
 by_range : (low high : Bool) (word a b : List ℕ) (nodes seed : ℕ) (form : ViewForm) →
@@ -182,7 +203,8 @@ are_words : (words : List (List ℕ)) (form : ViewForm) → form_of words ≡ So
 unfolding form_of
 are_words [] form e = absurd cc
 are_words (word ∷ []) form e = one_word _ word form (same-true word (codes "trace")) e
-are_words (word ∷ next ∷ []) form e = two_words _ word next form (same-true next (codes "--1995")) e
+are_words (word ∷ next ∷ []) form e =
+    two_words _ _ word next form (same-true word (codes "capture")) (same-true next (codes "--1995")) e
 are_words (word ∷ a ∷ b ∷ []) form e = three_words _ word a b form (same-true word (codes "script")) e
 are_words (word ∷ a ∷ b ∷ c ∷ words) form e = absurd cc
 
@@ -201,6 +223,7 @@ pub is_read : (words : List (String Global)) (form : ViewForm) → Asks words fo
 is_read words (Capture view standard) asks none = tt
 is_read words Trace asks none = tt
 is_read words (Script nodes seed) asks none = absurd (none (nodes, seed, asks))
+is_read words (ListOf name) asks none = tt
 
 -- with those of `script` it isn't
 pub is_unread : (words : List (String Global)) (form : ViewForm) → Asks words form →
@@ -214,3 +237,4 @@ pub few_nodes : (words : List (String Global)) (form : ViewForm) → Asks words 
 few_nodes words (Capture view standard) asks = tt
 few_nodes words Trace asks = tt
 few_nodes words (Script nodes seed) asks = (asks.some_nodes, asks.few_nodes)
+few_nodes words (ListOf name) asks = tt

@@ -4,3 +4,5 @@ pub mod Ends
 pub mod SomePacket
 pub mod SomeView
 pub mod Summed
+pub mod Fitting
+pub mod Captured

@@ -1,5 +1,6 @@
 -- Words and bytes have one answer.
-use Rattle.std.proofs.Common.{◌≡◌, ◌∙◌, ℕ, Bool, true, false, List, [], ◌∷◌, Ok, Err, refl, sym, ap, subst}
+use Rattle.std.proofs.Common.{◌≡◌, ◌∙◌, ℕ, ◌+◌, Bool, true, false, List, [], ◌∷◌, Ok, Err, length, refl, sym, ap, subst}
+use Rattle.quad_lanes.specs.Capture.{capture}
 use Rattle.quad_lanes.specs.Pairs.{firsts, quads_of}
 use Rattle.phy_packet.specs.Packet.{Shows}
 use Rattle.phy_packet.specs.declared.packet.PhyPacket.{PhyPacket}
@@ -12,9 +13,10 @@ use Rattle.bus_cli.specs.declared.fault.CaptureFault.{CaptureFault}
 use Rattle.bus_cli.specs.OneReading.{NoCaptureHasTwoTrees, NoCaptureHasATreeAndAFault, NoCaptureHasTwoFaults}
 use Rattle.bus_cli.specs.Line.{script_line}
 use Rattle.script_lines.specs.declared.kind.ScriptFault.{ScriptFault}
-use Rattle.script_told.specs.Script.{Told}
-use Rattle.script_told.specs.Run.{IsTold}
-use Rattle.script_told.specs.OneTold.{ScriptsTellOneThing}
+use Rattle.script_told.specs.Script.{Told, script_lines}
+use Rattle.script_told.specs.Run.{ScriptRun, IsTold}
+use Rattle.script_run.specs.Listed.{listed_at, IsListed}
+use Rattle.script_told.specs.OneTold.{ScriptsHaveOneRun, ScriptsTellOneThing}
 use Rattle.script_trace.specs.Trace.{IsTrace}
 use Rattle.script_trace.specs.OneTrace.{ScriptsHaveOneTrace, TracedScriptsAreTold}
 use Rattle.view_text.specs.Pairs.{AreShown, pairs_text}
@@ -22,8 +24,8 @@ use Rattle.view_text.specs.Drawing.{IsDrawing, IsRoot, drawing}
 use Rattle.bus_view.specs.declared.form.CaptureView.{CaptureView}
 use Rattle.bus_view.specs.declared.form.CaptureView.TheVariants.{Packets, Tree as Drawn, Dot}
 use Rattle.bus_view.specs.declared.form.ViewForm.{ViewForm}
-use Rattle.bus_view.specs.declared.form.ViewForm.TheVariants.{Capture, Trace, Script}
-use Rattle.bus_view.specs.Answer.{Reading, spelt, refused, IsReading, status_of, ShowsPackets, HasText, IsCaptureView, IsTraceView, traced, at_fault, IsView, viewed, no_form}
+use Rattle.bus_view.specs.declared.form.ViewForm.TheVariants.{Capture, Trace, Script, ListOf}
+use Rattle.bus_view.specs.Answer.{Reading, spelt, refused, IsReading, status_of, ShowsPackets, HasText, IsCaptureView, IsTraceView, traced, at_fault, IsListView, has_list, has_none, IsView, viewed, no_form}
 use Rattle.bus_view.specs.OneAnswer.{NoInputHasTwoViews}
 use Rattle.bus_view.proofs.Forms.{one_form}
 
@@ -33,6 +35,7 @@ pub record HasOneReading : Type 0 where
   pub trees : NoCaptureHasTwoTrees
   pub apart : NoCaptureHasATreeAndAFault
   pub faults : NoCaptureHasTwoFaults
+  pub runs : ScriptsHaveOneRun
   pub told : ScriptsTellOneThing
   pub traces : ScriptsHaveOneTrace
   pub texts : TracedScriptsAreTold
@@ -123,12 +126,35 @@ same_trace one bytes s r a b (at_fault g e x t) (traced f y) = absurd (apart one
 same_trace one bytes s r a b (at_fault g e x t) (at_fault h f y u) =
     (e ∙ sym f, t ∙ ap script_line (same_fault g h (one.told bytes (Err g) (Err h) x y)) ∙ sym u)
 
+-- ---- a script lists one thing of a node
+
+one_listed : HasOneReading → (bytes name : List ℕ) (a b : Told) → IsListed bytes name a →
+    IsListed bytes name b → a ≡ b
+one_listed one bytes name a b (run, is, e) (other, too, f) =
+    e ∙ ap (λ (r : ScriptRun). listed_at (length (script_lines bytes) + 1) name r.end) (one.runs bytes run other is too) ∙ sym f
+
+listed-apart : (list : List ℕ) (fault : ScriptFault) → ◌≡◌ {A = Told} (Ok list) (Err fault) → ⊥
+listed-apart list fault e = cc
+
+same_list : HasOneReading → (name bytes : List ℕ) (s r : ℕ) (a b : List ℕ) → IsListView name bytes s a →
+    IsListView name bytes r b → (s ≡ r) × (a ≡ b)
+unfolding trace-text
+same_list one name bytes s r a b (has_list l e x t) (has_list m f y u) =
+    (e ∙ sym f, t ∙ ap (λ (told : Told). capture (trace-text told)) (one_listed one bytes name (Ok l) (Ok m) x y) ∙ sym u)
+same_list one name bytes s r a b (has_list l e x t) (has_none g f y u) =
+    absurd (listed-apart l g (one_listed one bytes name (Ok l) (Err g) x y))
+same_list one name bytes s r a b (has_none g e x t) (has_list l f y u) =
+    absurd (listed-apart l g (one_listed one bytes name (Ok l) (Err g) y x))
+same_list one name bytes s r a b (has_none g e x t) (has_none h f y u) =
+    (e ∙ sym f, t ∙ ap script_line (same_fault g h (one_listed one bytes name (Err g) (Err h) x y)) ∙ sym u)
+
 same_view : HasOneReading → (form : ViewForm) (bytes : List ℕ) (s r : ℕ) (a b : List ℕ) →
     IsView form bytes s a → IsView form bytes r b → (s ≡ r) × (a ≡ b)
 same_view one Trace bytes s r a b x y = same_trace one bytes s r a b x y
 same_view one (Capture view standard) bytes s r a b x y =
     same_capture one view standard bytes s r a b x y
 same_view one (Script nodes seed) bytes s r a b x y = (x.0 ∙ sym y.0, x.1 ∙ sym y.1)
+same_view one (ListOf name) bytes s r a b x y = same_list one name bytes s r a b x y
 
 -- ---- words and bytes have one answer
 

@@ -1,5 +1,5 @@
 -- All words and bytes have an answer.
-use Rattle.std.proofs.Common.{◌<◌, ◌-◌, ◌⊎◌, inl, inr, ℕ, List, [], Ok, Err, length, refl, sym, ap, arith}
+use Rattle.std.proofs.Common.{◌≡◌, ◌<◌, ◌-◌, ◌+◌, ◌⊎◌, inl, inr, ℕ, List, [], Ok, Err, length, refl, sym, ap, arith}
 use Rattle.std.specs.Prelude.{All}
 use Rattle.std.proofs.lemmas.Option.{slice_get_cases}
 use Rattle.quad_lanes.specs.Pairs.{quads_of}
@@ -11,8 +11,10 @@ use Rattle.bus_manager.proofs.Lemmas.{is_hops, small}
 use Rattle.bus_cli.specs.OneReading.{EachCaptureHasATreeOrAFault}
 use Rattle.bus_cli.specs.Line.{fault_line, script_line}
 use Rattle.script_made.specs.Made.{made_script}
-use Rattle.script_told.specs.Script.{Told}
+use Rattle.script_told.specs.Script.{Told, script_lines}
 use Rattle.script_told.specs.Run.{ScriptRun, IsRun, printed, unless_stopped}
+use Rattle.script_run.specs.Listed.{listed_at}
+use Rattle.quad_lanes.specs.Capture.{capture}
 use Rattle.script_bus.specs.SomeRun.{EachScriptHasARun}
 use Rattle.script_trace.specs.Trace.{IsTraceOf}
 use Rattle.script_trace.specs.OneTrace.{RunsHaveTraces}
@@ -22,10 +24,10 @@ use Rattle.view_text.specs.Graph.{graph}
 use Rattle.bus_view.specs.declared.form.CaptureView.{CaptureView}
 use Rattle.bus_view.specs.declared.form.CaptureView.TheVariants.{Packets, Tree as Drawn, Dot}
 use Rattle.bus_view.specs.declared.form.ViewForm.{ViewForm}
-use Rattle.bus_view.specs.declared.form.ViewForm.TheVariants.{Capture, Trace, Script}
+use Rattle.bus_view.specs.declared.form.ViewForm.TheVariants.{Capture, Trace, Script, ListOf}
 use Rattle.bus_view.specs.Form.{IsForm}
 use Rattle.bus_view.specs.Sentence.{place, note}
-use Rattle.bus_view.specs.Answer.{Reading, spelt, refused, IsReading, status_of, HasText, IsCaptureView, IsTraceView, traced, at_fault, IsView, Answers, viewed, no_form}
+use Rattle.bus_view.specs.Answer.{Reading, spelt, refused, IsReading, status_of, HasText, IsCaptureView, IsTraceView, traced, at_fault, IsListView, has_list, has_none, IsView, Answers, viewed, no_form}
 use Rattle.bus_view.specs.OneAnswer.{EachInputHasAView}
 use Rattle.bus_view.proofs.Forms.{form_or_none}
 use Rattle.bus_view.proofs.SomePacket.{packets-of-bytes}
@@ -95,11 +97,21 @@ module _ (have : HasSomeReading) where
       go run is (Ok text) traces = (0, text, traced refl (run, is, traces))
       go run is (Err f) e = (1, script_line f, at_fault f refl (run, is, sym (ap (unless_stopped (printed run.entries)) e)) refl)
 
+  some-list : (name bytes : List ℕ) → HasSome (IsListView name bytes)
+  some-list name bytes =
+      let r = have.run bytes in
+      go r.run r.is (listed_at (length (script_lines bytes) + 1) name r.run.end) refl
+    where
+      go : (run : ScriptRun) → IsRun bytes run → (told : Told) → listed_at (length (script_lines bytes) + 1) name run.end ≡ told → HasSome (IsListView name bytes)
+      go run is (Ok list) e = (0, capture list, has_list list refl (run, is, sym e) refl)
+      go run is (Err f) e = (1, script_line f, has_none f refl (run, is, sym e) refl)
+
   some-view : (form : ViewForm) (bytes : List ℕ) → All (λ b. b < 256) bytes →
       HasSome (IsView form bytes)
   some-view (Capture view standard) bytes fit = some-capture view standard bytes fit
   some-view Trace bytes fit = some-trace bytes
   some-view (Script nodes seed) bytes fit = (0, made_script nodes seed, (refl, refl))
+  some-view (ListOf name) bytes fit = some-list name bytes
 
   pub some-answer : EachInputHasAView
   some-answer words bytes fit = go (form_or_none words)

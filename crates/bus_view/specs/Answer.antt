@@ -1,6 +1,7 @@
 -- What is answered to words and bytes.
 use Rattle.std.specs.Prelude.{◌≡◌, ℕ, List, [], Option, Some, None, Ok, Err, String}
 use Rattle.std.specs.Global.{Global}
+use Rattle.quad_lanes.specs.Capture.{capture}
 use Rattle.quad_lanes.specs.Pairs.{firsts, quads_of}
 use Rattle.phy_packet.specs.declared.packet.PhyPacket.{PhyPacket}
 use Rattle.self_id.specs.declared.standard.Standard.{Standard}
@@ -11,6 +12,7 @@ use Rattle.bus_cli.specs.Line.{fault_line, script_line}
 use Rattle.script_lines.specs.declared.kind.ScriptFault.{ScriptFault}
 use Rattle.script_made.specs.Made.{made_script}
 use Rattle.script_told.specs.Run.{IsTold}
+use Rattle.script_run.specs.Listed.{IsListed}
 use Rattle.script_trace.specs.Trace.{IsTrace}
 use Rattle.view_text.specs.Pairs.{AreShown, pairs_text}
 use Rattle.view_text.specs.Drawing.{IsDrawing}
@@ -18,7 +20,7 @@ use Rattle.view_text.specs.Graph.{graph}
 use Rattle.bus_view.specs.declared.form.CaptureView.{CaptureView}
 use Rattle.bus_view.specs.declared.form.CaptureView.TheVariants.{Packets, Tree as Drawn, Dot}
 use Rattle.bus_view.specs.declared.form.ViewForm.{ViewForm}
-use Rattle.bus_view.specs.declared.form.ViewForm.TheVariants.{Capture, Trace, Script}
+use Rattle.bus_view.specs.declared.form.ViewForm.TheVariants.{Capture, Trace, Script, ListOf}
 use Rattle.bus_view.specs.Form.{Asks, IsForm}
 use Rattle.bus_view.specs.Sentence.{place, note}
 
@@ -76,11 +78,19 @@ pub data IsTraceView (bytes : List ℕ) (status : ℕ) (text : List ℕ) : Type 
 abbrev pub IsScriptView : ℕ → ℕ → ℕ → List ℕ → Type 0
 IsScriptView nodes seed status text = (status ≡ 0) × (text ≡ made_script nodes seed)
 
+-- the capture of the list of a script's node; a script at fault, or without such a list, is refused
+pub data IsListView (name bytes : List ℕ) (status : ℕ) (text : List ℕ) : Type 0 where
+  has_list : (list : List ℕ) → status ≡ 0 → IsListed bytes name (Ok list) → text ≡ capture list →
+      IsListView name bytes status text
+  has_none : (fault : ScriptFault) → status ≡ 1 → IsListed bytes name (Err fault) →
+      text ≡ script_line fault → IsListView name bytes status text
+
 -- the status and the text of bytes in a form
 abbrev pub IsView : ViewForm → List ℕ → ℕ → List ℕ → Type 0
 IsView (Capture view standard) bytes status text = IsCaptureView view standard bytes status text
 IsView Trace bytes status text = IsTraceView bytes status text
 IsView (Script nodes seed) bytes status text = IsScriptView nodes seed status text
+IsView (ListOf name) bytes status text = IsListView name bytes status text
 
 -- the status and the text of words and bytes
 pub data Answers (words : List (String Global)) (bytes : List ℕ) (status : ℕ)

@@ -1,12 +1,13 @@
 -- The words that the program is asked with.
-use Rattle.std.specs.Prelude.{◌≡◌, ℕ, ◌≤◌, Some, List, [], ◌∷◌, map, codes, string_bytes, String}
+use Rattle.std.specs.Prelude.{◌≡◌, ℕ, ◌≤◌, Some, IsTrue, List, [], ◌∷◌, map, codes, string_bytes, String}
 use Rattle.std.specs.Global.{Global}
 use Rattle.self_id.specs.declared.standard.Standard.{Standard}
 use Rattle.self_id.specs.declared.standard.Standard.TheVariants.{Ieee1995, Ieee2000}
+use Rattle.script_lines.specs.Name.{is_name}
 use Rattle.script_lines.specs.Number.{number_of}
 use Rattle.bus_view.specs.declared.form.CaptureView.TheVariants.{Packets, Tree, Dot}
 use Rattle.bus_view.specs.declared.form.ViewForm.{ViewForm}
-use Rattle.bus_view.specs.declared.form.ViewForm.TheVariants.{Capture, Trace, Script}
+use Rattle.bus_view.specs.declared.form.ViewForm.TheVariants.{Capture, Trace, Script, ListOf}
 
 -- what stands behind the word of a capture's form
 abbrev pub standard_words : Standard → List (List ℕ)
@@ -30,6 +31,7 @@ AreWordsOf (Capture Tree standard) words = words ≡ codes "tree" ∷ standard_w
 AreWordsOf (Capture Dot standard) words = words ≡ codes "dot" ∷ standard_words standard
 AreWordsOf Trace words = words ≡ codes "trace" ∷ []
 AreWordsOf (Script nodes seed) words = AreScriptWords nodes seed words
+AreWordsOf (ListOf name) words = (words ≡ codes "capture" ∷ name ∷ []) × IsTrue (is_name name)
 
 -- the words are those of the form
 abbrev pub Asks : List (String Global) → ViewForm → Type 0

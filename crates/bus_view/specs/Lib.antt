@@ -3,4 +3,5 @@ pub mod Sentence
 pub mod Answer
 pub mod OneAnswer
 pub mod Summed
+pub mod Captured
 pub mod codings

@@ -4,22 +4,22 @@ ghost use Rattle.std.specs.Io.KnownBytes.{IsAtEnd};
 ghost use Rattle.io_edges.specs.Faults.{Rose};
 ghost use Rattle.io_edges.specs.Told.{AreLeft, IfTold, TookOver};
 ghost use Rattle.bus_view.specs.declared.form.CaptureView.{CaptureView};
-ghost use Rattle.bus_view.specs.Answer.{IsFault, IsCaptureView, IsTraceView, IsScriptView, IsView};
+ghost use Rattle.bus_view.specs.Answer.{IsFault, IsCaptureView, IsTraceView, IsScriptView, IsListView, IsView};
 ghost use Rattle.bus_view.specs.codings.Reading.{IsRead, AsksFewNodes};
 ghost use Rattle.bus_cli.specs.Line.{fault_line};
 
 use crate::form::{CaptureView, ViewForm};
+use crate::pairs::capture_of;
 use crate::sentence::note_of;
-use bus_cli::{
-    CaptureFault, CaptureStop, MAX_INPUT, REFUSED, VALID, fault_line, read_capture, script_line,
-};
+use bus_cli::{CaptureFault, CaptureStop, MAX_INPUT, REFUSED, VALID, fault_line, read_capture};
+use bus_cli::script_line;
 use io_edges::{ReadStop, Source, read_all};
 use quad_lanes::quads_of;
 use script_made::make_script;
-use script_run::{ScriptStop, trace_script};
+use script_run::{ScriptStop, list_script, trace_script};
 use self_id::Standard;
 use std::alloc::Global;
-use topology_stack::{BusTree, OutOfMemory};
+use topology_stack::{BusTree, Name, OutOfMemory};
 use view_text::{Note, packets_of, pairs_text, tree_drawing, tree_graph};
 
 /// What is written, and the status.
@@ -138,6 +138,24 @@ fn view_trace(alloc: Global, bytes: &[u8]) -> Result<View, OutOfMemory>
     }
 }
 
+/// The capture of the list of a script's node.
+fn view_list(alloc: Global, name: &Name, bytes: &[u8]) -> Result<View, OutOfMemory>
+    requires { length bytes.now ≤ 1048576 }
+    ensures { IfOk result (λ view. IsListView name.now bytes.now view.status view.text.items) }
+{
+    match list_script(alloc, bytes, name) {
+        Ok(list) => Ok(View {
+            status: VALID,
+            text: capture_of(alloc, list.as_slice())?,
+        }),
+        Err(ScriptStop::Fault(fault)) => Ok(View {
+            status: REFUSED,
+            text: Vec::from_slice(alloc, script_line(fault).as_bytes())?,
+        }),
+        Err(ScriptStop::Memory(error)) => Err(error),
+    }
+}
+
 /// The script that is made for so many nodes, 1 to 63, and a seed.
 fn view_script(alloc: Global, nodes: u8, seed: u32) -> Result<View, OutOfMemory>
     requires least { 1 ≤ nodes }
@@ -161,12 +179,17 @@ fn view_of(alloc: Global, form: ViewForm, bytes: &[u8]) -> Result<View, OutOfMem
         ViewForm::Capture(CaptureView::Tree, standard) => view_tree(alloc, standard, bytes),
         ViewForm::Capture(CaptureView::Dot, standard) => view_dot(alloc, standard, bytes),
         ViewForm::Trace => view_trace(alloc, bytes),
+        ViewForm::ListOf(name) => view_list(alloc, &name, bytes),
         ViewForm::Script { .. } => unreachable!(),
     }
 }
 
 /// The view of the whole input, in a form that reads it.
-fn view_all<S: Source>(alloc: Global, form: ViewForm, source: &mut S) -> Result<View, ReadStop>
+fn view_all<S: Source>(
+    alloc: Global,
+    form: ViewForm,
+    source: &mut S,
+) -> Result<View, ReadStop>
     requires { IsRead form }
     ensures answer { IfOk result (λ view. (bytes : List ℕ) × AreLeft (S.left source.old) bytes
         × IsView form bytes view.status view.text.items) }
@@ -208,6 +231,6 @@ pub(crate) fn read_view<S: Source>(
 {
     match form {
         ViewForm::Script { nodes, seed } => Ok(view_script(alloc, nodes, seed)?),
-        ViewForm::Capture(_, _) | ViewForm::Trace => view_all(alloc, form, source),
+        form => view_all(alloc, form, source),
     }
 }

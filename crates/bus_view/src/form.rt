@@ -3,8 +3,9 @@ ghost use Rattle.std.specs.Prelude.{◌≡◌, ◌∷◌, [], ◌↔◌, codes};
 ghost use Rattle.bus_view.specs.Form.{AreWordsOf, Asks};
 ghost use Rattle.bus_view.specs.declared.form.ViewForm.{ViewForm};
 
-use script_lines::number_of;
+use script_lines::{names_are_tested, number_of};
 use self_id::Standard;
+use topology_stack::Name;
 
 /// What can be shown of a capture.
 #[derive(Clone, Copy, Debug, PartialEq, Eq)]
@@ -18,7 +19,7 @@ pub enum CaptureView {
 }
 
 /// What the program can be asked for.
-#[derive(Clone, Copy, Debug, PartialEq, Eq)]
+#[derive(Clone, Debug, Drop, PartialEq, Eq)]
 pub enum ViewForm {
     /// Something of a capture, which is read by IEEE 1394a-2000, or with `--1995` behind the word by
     /// IEEE Std 1394-1995.
@@ -28,6 +29,9 @@ pub enum ViewForm {
     /// `script N SEED`: the script that `busconf make N SEED` runs, for 1 to 63 nodes and a seed. The
     /// numbers are written as in a script. Nothing is read.
     Script { nodes: u8, seed: u32 },
+    /// `capture NAME`: the self-ID packets that a bus analyser would have recorded on the bus of a
+    /// script, in the part with the node of this name.
+    ListOf(Name),
 }
 
 impl ViewForm {
@@ -44,6 +48,15 @@ impl ViewForm {
         }
     }
 
+    /// The form of `capture` with this word behind it.
+    fn of_capture(name: &[u8]) -> Option<ViewForm>
+        ensures { (form : ViewForm) → (result ≡ Some form)
+            ↔ AreWordsOf form (codes "capture" ∷ name.now ∷ []) }
+    {
+        names_are_tested();
+        Some(ViewForm::ListOf(Name::new(name)?))
+    }
+
     /// The form of these two words.
     fn of_two(word: &str, standard: &str) -> Option<ViewForm>
         ensures { (form : ViewForm) → (result ≡ Some form)
@@ -55,6 +68,7 @@ impl ViewForm {
             }
             ("tree", "--1995") => Some(ViewForm::Capture(CaptureView::Tree, Standard::Ieee1995)),
             ("dot", "--1995") => Some(ViewForm::Capture(CaptureView::Dot, Standard::Ieee1995)),
+            ("capture", name) => ViewForm::of_capture(name.as_bytes()),
             _ => None,
         }
     }
@@ -101,5 +115,5 @@ impl ViewForm {
 /// How the program is called, in one line for a form.
 pub const VIEW_USAGE: &str = "usage: busview packets [--1995] < CAPTURE\n       \
     busview tree [--1995] < CAPTURE\n       busview dot [--1995] < CAPTURE\n       \
-    busview trace < SCRIPT\n       busview script N SEED\n       \
-    busview resets [--1995] < LOG";
+    busview trace < SCRIPT\n       busview capture NAME < SCRIPT\n       \
+    busview script N SEED\n       busview resets [--1995] < LOG";

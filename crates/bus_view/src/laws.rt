@@ -1,11 +1,14 @@
 //! Laws of views.
+ghost use Rattle.bus_view.specs.Captured.{CapturesAreOfReports, ListsFit};
 ghost use Rattle.bus_view.specs.Summed.{MakeSumsUpTheScript};
 ghost use Rattle.bus_view.specs.OneAnswer.{EachInputHasAView, NoInputHasTwoViews};
 
 use bus_cli::one_reading;
 use script_bus::each_script_has_a_run;
 use script_made::made_scripts_have_no_fault;
-use script_told::scripts_tell_one_thing;
+use cable_world::acts_keep;
+use script_told::{reported_trees_are_managed, scripts_tell_one_thing};
+use topology_stack::one_tree;
 use script_trace::scripts_have_one_trace;
 
 /// A law: all words and bytes have one answer, one status and one text.
@@ -25,4 +28,16 @@ pub fn make_sums_up_the_script()
     ensures { MakeSumsUpTheScript }
 {
     made_scripts_have_no_fault();
+}
+
+/// A law: what `capture NAME` writes at status 0 is read by `busconf read` as the tree that stands in the
+/// script's last report, names aside.
+pub fn captures_are_of_reports()
+    ensures fit { ListsFit }
+    ensures read { CapturesAreOfReports }
+{
+    one_reading();
+    one_tree();
+    acts_keep();
+    reported_trees_are_managed();
 }

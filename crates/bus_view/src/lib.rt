@@ -4,9 +4,10 @@
 mod answer;
 mod form;
 mod laws;
+mod pairs;
 mod sentence;
 mod top;
 
 pub use form::{CaptureView, VIEW_USAGE, ViewForm};
-pub use laws::{make_sums_up_the_script, one_view};
+pub use laws::{captures_are_of_reports, make_sums_up_the_script, one_view};
 pub use top::view_main;

@@ -8,12 +8,13 @@ ghost use Rattle.script_trace.specs.Trace.{IsTrace};
 ghost use Rattle.bus_view.specs.declared.form.ViewForm.{ViewForm};
 ghost use Rattle.bus_view.specs.Form.{Asks, AsksScript, IsForm};
 ghost use Rattle.bus_view.specs.Answer.{Answers};
+ghost use Rattle.bus_view.specs.Captured.{CapturesAreOfReports};
 ghost use Rattle.bus_view.specs.Summed.{MakeSumsUpTheScript};
 ghost use Rattle.bus_cli.specs.Streams.{KeepsStreams};
 
 use crate::answer::read_view;
 use crate::form::ViewForm;
-use crate::laws::{make_sums_up_the_script, one_view};
+use crate::laws::{captures_are_of_reports, make_sums_up_the_script, one_view};
 use bus_cli::{NO_FORM, NO_MEMORY, READ_FAULT, TOO_LONG, WRITE_FAULT};
 use io_edges::{ReadStop, Sink, Source, write_whole};
 use std::alloc::Global;
@@ -111,8 +112,13 @@ pub fn view_main<S: Source, K: Sink>(
     ensures script { (nodes seed : ℕ) → Asks words.now (ViewForm.Script nodes seed) → result ≡ 0 →
         Appends (K.written sink.old) (K.written sink.new) (made_script nodes seed) }
     ensures summed { MakeSumsUpTheScript }
+
+    // With `capture` it is the capture of the list of a script's node, which `busconf read` reads as
+    // the tree in the script's last report.
+    ensures captured { CapturesAreOfReports }
 {
     one_view();
     make_sums_up_the_script();
+    captures_are_of_reports();
     view_words(alloc, words, source, sink)
 }

@@ -9,6 +9,7 @@ busview packets < CAPTURE  each packet field by field, and what is wrong where
 busview tree < CAPTURE     the tree of the bus as a drawing
 busview dot < CAPTURE      the tree of the bus as a graph for Graphviz
 busview trace < SCRIPT     what happens on the bus of a script, turn by turn
+busview capture NAME < SCRIPT  the capture of the bus with that node at the end
 busview script N SEED      the script that busconf make N SEED runs
 busview resets < LOG       the bus at each reset in a Linux kernel's trace
 busview --help, -h         this text

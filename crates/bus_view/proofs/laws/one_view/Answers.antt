@@ -16,6 +16,7 @@ returns-clause-one c =
       trees = c.one_reading.ensures.tree;
       apart = c.one_reading.ensures.apart;
       faults = c.one_reading.ensures.fault;
+      runs = c.scripts_tell_one_thing.ensures.run;
       told = c.scripts_tell_one_thing.ensures.told;
       traces = c.scripts_have_one_trace.ensures.one;
       texts = c.scripts_have_one_trace.ensures.told;
