@@ -3,8 +3,9 @@
 use crate::inputs::{answer, words};
 use bus_cli::bus_main;
 use io_edges::{MemSink, MemSource, SureSource};
-use script_run::advise_script;
+use script_run::{advise_script, list_script};
 use std::test::Fail;
+use topology_stack::Name;
 
 #[test]
 fn scripts(rt: HostRuntime) -> Result<(), Fail> {
@@ -176,6 +177,17 @@ fn a_script_that_is_too_long(rt: HostRuntime) -> Result<(), Fail> {
         let mut sink = MemSink::new(alloc, 1000, Vec::new(alloc), 1000)?;
         assert_eq!(rt; bus_main(alloc, &words, &mut source, &mut sink), status);
         assert_eq!(rt; sink.written(), text);
+    }
+    Ok(())
+}
+
+#[test]
+fn a_nodes_list(rt: HostRuntime) -> Result<(), Fail> {
+    let script = b"node a 3 coins 0\nnode b 3 coins 1\nplug a 0 b 0\n";
+    let name = Name::new(b"b").ok_or("a name")?;
+    match list_script(rt.alloc(), script, &name) {
+        Ok(list) => assert!(rt; list.as_slice() == [0x807f_8096, 0x817f_80d6].as_slice()),
+        Err(_) => assert!(rt; false),
     }
     Ok(())
 }

@@ -11,8 +11,9 @@ ghost use Rattle.bus_cli.specs.Line.{fault_line};
 use crate::form::{CaptureView, ViewForm};
 use crate::pairs::capture_of;
 use crate::sentence::note_of;
-use bus_cli::{CaptureFault, CaptureStop, MAX_INPUT, REFUSED, VALID, fault_line, read_capture};
-use bus_cli::script_line;
+use bus_cli::{
+    CaptureFault, CaptureStop, MAX_INPUT, REFUSED, VALID, fault_line, read_capture, script_line,
+};
 use io_edges::{ReadStop, Source, read_all};
 use quad_lanes::quads_of;
 use script_made::make_script;
@@ -185,11 +186,7 @@ fn view_of(alloc: Global, form: ViewForm, bytes: &[u8]) -> Result<View, OutOfMem
 }
 
 /// The view of the whole input, in a form that reads it.
-fn view_all<S: Source>(
-    alloc: Global,
-    form: ViewForm,
-    source: &mut S,
-) -> Result<View, ReadStop>
+fn view_all<S: Source>(alloc: Global, form: ViewForm, source: &mut S) -> Result<View, ReadStop>
     requires { IsRead form }
     ensures answer { IfOk result (λ view. (bytes : List ℕ) × AreLeft (S.left source.old) bytes
         × IsView form bytes view.status view.text.items) }

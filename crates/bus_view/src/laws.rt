@@ -4,12 +4,12 @@ ghost use Rattle.bus_view.specs.Summed.{MakeSumsUpTheScript};
 ghost use Rattle.bus_view.specs.OneAnswer.{EachInputHasAView, NoInputHasTwoViews};
 
 use bus_cli::one_reading;
+use cable_world::acts_keep;
 use script_bus::each_script_has_a_run;
 use script_made::made_scripts_have_no_fault;
-use cable_world::acts_keep;
 use script_told::{reported_trees_are_managed, scripts_tell_one_thing};
-use topology_stack::one_tree;
 use script_trace::scripts_have_one_trace;
+use topology_stack::one_tree;
 
 /// A law: all words and bytes have one answer, one status and one text.
 pub fn one_view()

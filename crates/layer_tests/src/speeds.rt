@@ -1,6 +1,6 @@
 //! Speeds between nodes.
 
-use speed_map::{image, rows};
+use speed_map::{image, read_image, rows};
 use std::test::Fail;
 use topology_stack::read_tree;
 
@@ -26,5 +26,11 @@ fn image_of_one_node(rt: HostRuntime) -> Result<(), Fail> {
     wanted[0] = 0x0011_78b3;
     wanted[1] = 1;
     assert_eq!(rt; quads.as_slice(), wanted.as_slice());
+    match read_image(rt.alloc(), quads.as_slice()) {
+        Ok(parts) => {
+            assert!(rt; parts.generation == 1 && parts.rows.as_slice() == rows.as_slice());
+        }
+        Err(_) => assert!(rt; false),
+    }
     Ok(())
 }
