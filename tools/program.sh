@@ -26,10 +26,10 @@ run_program() {
   trap 'rm -rf "$work"' EXIT
 
   # rt gets files and not the streams themselves, so that what is wrong with a stream is told from what the program
-  # answers. No form takes more than 1,048,576 bytes, but a log 67,108,864, so one more is enough.
+  # answers. No form takes more than 1,048,576 bytes, but a log or a dump 67,108,864, so one more is enough.
   : >"$work/input"
   if reads_input "$@"; then
-    [ "$1" = resets ] && most=67108865
+    case "$1" in resets | nosy) most=67108865 ;; esac
     head -c "$most" >"$work/input" 2>/dev/null || no_answer "standard input can't be read"
   fi
   (cd "$top/crates/$name" && rt try -- "$@") <"$work/input" >"$work/output" 2>"$work/notes"
@@ -49,9 +49,10 @@ run_program() {
 reads_input() {
   case "$#:${1-}" in
   1:run | 1:advice | 1:read | 1:read95 | 1:maps | 1:rom) true ;;
-  1:packets | 1:tree | 1:dot | 1:trace) true ;;
-  1:resets) true ;;
-  2:packets | 2:tree | 2:dot | 2:resets) [ "$2" = --1995 ] ;;
+  1:packets | 1:tree | 1:dot | 1:trace | 1:waves | 1:explain) true ;;
+  1:resets | 1:nosy) true ;;
+  2:packets | 2:tree | 2:dot | 2:resets | 2:nosy) [ "$2" = --1995 ] ;;
+  2:capture) true ;;
   *) false ;;
   esac
 }

@@ -19,7 +19,7 @@ fn packet(id: u8, p0: u32, p1: u32, p2: u32) -> u32 {
 }
 
 /// Nodes in a line whose root is at one end.
-pub fn line(alloc: Global, nodes: u8) -> Result<QuadList, AllocError> {
+fn line(alloc: Global, nodes: u8) -> Result<QuadList, AllocError> {
     let mut list = QuadList::new(alloc);
     for id in 0..nodes {
         let below = if id == 0 { LOOSE } else { DOWN };

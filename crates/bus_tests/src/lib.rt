@@ -6,8 +6,6 @@ mod abreast;
 #[cfg(test)]
 mod agenda;
 #[cfg(test)]
-mod answers;
-#[cfg(test)]
 mod copies;
 #[cfg(test)]
 mod failing;
@@ -20,8 +18,6 @@ mod hostile;
 #[cfg(test)]
 mod inputs;
 #[cfg(test)]
-mod maps;
-#[cfg(test)]
 mod nodes;
 #[cfg(test)]
 mod plans;
@@ -33,8 +29,6 @@ mod scripts;
 mod settled;
 #[cfg(test)]
 mod spent;
-#[cfg(test)]
-mod standards;
 #[cfg(test)]
 mod texts;
 #[cfg(test)]

@@ -1,4 +1,4 @@
-//! The forms `run` and `make`: what scripts print, and the lines of their faults.
+//! The forms `advice` and `make`, the longest script, and the list of a node.
 
 use crate::inputs::{answer, words};
 use bus_cli::bus_main;
@@ -6,105 +6,6 @@ use io_edges::{MemSink, MemSource, SureSource};
 use script_run::{advise_script, list_script};
 use std::test::Fail;
 use topology_stack::Name;
-
-#[test]
-fn scripts(rt: HostRuntime) -> Result<(), Fail> {
-    let alloc = rt.alloc();
-    for (name, script, text) in [
-        (
-            "two nodes",
-            b"node a 3 coins 0\nnode b 3 coins 1\nplug a 0 b 0\n\n".as_slice(),
-            b"report 1 turn 8128\ncomponent rounds 1 changed 299 nodes a b\ntree root b\nnode 0 link 1 gap 63 speed 2 contender 0 power 0 initiated 1 ports ^1 . . name a\nnode 1 link 1 gap 63 speed 2 contender 0 power 0 initiated 1 ports v0 . . name b\nnodes 2 root 1 irm none\n".as_slice(),
-        ),
-        (
-            "coins that never differ",
-            b"node a 3 coins 0\nnode b 3 coins 0\nplug a 0 b 0\n",
-            b"report 1 turn 8128\ncomponent rounds 606 changed 0 nodes a b\ncontention a b\n",
-        ),
-        (
-            "a loop of two nodes",
-            b"node a 3\nnode b 3\nplug a 0 b 0\nplug a 1 b 1\n",
-            b"report 1 turn 8128\ncomponent rounds 0 changed 0 nodes a b\nloop a b\n",
-        ),
-        ("no line", b"", b"report 1 turn 8000\n"),
-        (
-            "registers",
-            b"node a 3 contender 1\nsettle\ncsr a lock 0x220 2 4915 4815\ncsr a lock 0x220 2 4915 4000\ncsr a read 0x220\ncsr a write 0x220 1\ncsr a read 0x230\nmanager a\nmanager a\nreset a\nsettle\ncsr a read 0x220\n",
-            b"report 1 turn 8048\ncomponent rounds 0 changed 261 nodes a\ntree root a\nnode 0 link 1 gap 63 speed 2 contender 1 power 0 initiated 1 ports . . . name a\nnodes 1 root 0 irm 0\ncsr a rcode 0 value 4915\ncsr a rcode 0 value 4815\ncsr a rcode 0 value 4815\ncsr a rcode 6 value 0\ncsr a rcode 7 value 0\nmanager a won\nmanager a lost 0\nreport 2 turn 16096\ncomponent rounds 0 changed 8309 nodes a\ntree root a\nnode 0 link 1 gap 63 speed 2 contender 1 power 0 initiated 1 ports . . . name a\nnodes 1 root 0 irm 0\ncsr a rcode 0 value 4915\nreport 3 turn 24144\ncomponent rounds 0 changed 8309 nodes a\ntree root a\nnode 0 link 1 gap 63 speed 2 contender 1 power 0 initiated 1 ports . . . name a\nnodes 1 root 0 irm 0\n",
-        ),
-        (
-            "a look",
-            b"node a 3 contender 1\nsettle\nlook a\ncsr a lock 0x220 2 4915 4900\nallocate a 5 100\nallocate a 5 100\nallocate a 5 100\nallocate a 6 4801\n",
-            b"report 1 turn 8048\ncomponent rounds 0 changed 261 nodes a\ntree root a\nnode 0 link 1 gap 63 speed 2 contender 1 power 0 initiated 1 ports . . . name a\nnodes 1 root 0 irm 0\ncsr a rcode 0 value 4915\nallocate a changed 0x220 4900\nallocate a done\nallocate a no_channel\nallocate a no_bandwidth 4800\nreport 2 turn 16096\ncomponent rounds 0 changed 261 nodes a\ntree root a\nnode 0 link 1 gap 63 speed 2 contender 1 power 0 initiated 1 ports . . . name a\nnodes 1 root 0 irm 0\n",
-        ),
-        (
-            "a delay of one turn",
-            b"delay 1\nnode a 3 coins 0\nnode b 3 coins 1\nplug a 0 b 0\n\n",
-            b"report 1 turn 2032\ncomponent rounds 1 changed 83 nodes a b\ntree root b\nnode 0 link 1 gap 63 speed 2 contender 0 power 0 initiated 1 ports ^1 . . name a\nnode 1 link 1 gap 63 speed 2 contender 0 power 0 initiated 1 ports v0 . . name b\nnodes 2 root 1 irm none\n",
-        ),
-    ] {
-        let (status, sink) = answer(alloc, "run", script.to_vec(alloc)?)?;
-        assert_eq!(rt; status, 0, "{name}");
-        assert_eq!(rt; sink.written(), text, "{name}");
-    }
-    Ok(())
-}
-
-#[test]
-fn refused_scripts(rt: HostRuntime) -> Result<(), Fail> {
-    let alloc = rt.alloc();
-    for (script, line) in [
-        (
-            b"node a 3\nnode b 3\nnode c 3\nplug a 0 b 0\nplug a 0 c 0\n".as_slice(),
-            b"refused line 5 InUse\n".as_slice(),
-        ),
-        (
-            b"node a 3\nnode b 3\nnode c 3\nplug a 0 b 0\nplug c 0 c 1\n",
-            b"refused line 5 SameNode\n",
-        ),
-        (
-            b"node a 3\nnode b 3\nnode c 3\nplug a 0 b 0\npull c 0\n",
-            b"refused line 5 NotPlugged\n",
-        ),
-        (
-            b"node a 3\nnode b 3\nnode c 3\nplug a 0 b 0\nnode e 3\n",
-            b"refused line 5 Late\n",
-        ),
-        (
-            b"node a 3\nnode b 3\nnode c 3\nplug a 0 b 0\ncsr a read 0x220\n",
-            b"refused line 5 NotSettled\n",
-        ),
-        (b"turn 2000000", b"refused line 2 TooManyTurns\n"),
-        (b"delay 17", b"refused line 1 Range\n"),
-        (b"node a 3\ndelay 2\n", b"refused line 2 Late\n"),
-        (b"delay 1\nnode a 3 hold 256\n", b"refused line 2 Range\n"),
-        (b"\xff", b"refused line 1 Word\n"),
-        (b"node abcdefghijklmnopq 3", b"refused line 1 Name\n"),
-        (b"node a 17", b"refused line 1 Range\n"),
-        (b"node 9a 3", b"refused line 1 Name\n"),
-        (b"node a 3 coins 0 seed 1", b"refused line 1 Twice\n"),
-        (b"config a - -", b"refused line 1 Word\n"),
-        (b"node a 3\nhold a 0 5\n", b"refused line 2 NotPlugged\n"),
-        (b"node a 3 hold 255", b"refused line 1 Range\n"),
-        (b"turn 1\nnode a 3\n", b"refused line 2 Late\n"),
-        (
-            b"node a 3\nnode b 3\nplug a 300 b 0\n",
-            b"refused line 3 NoPort\n",
-        ),
-        (b"plug a 0 b 0", b"refused line 1 NoNode\n"),
-        (b"plug a 0 b", b"refused line 1 Word\n"),
-        (b"turn 0", b"refused line 1 Range\n"),
-        (b"turn 0x", b"refused line 1 Number\n"),
-        (b"turn 4294967296", b"refused line 1 Number\n"),
-        (b"turn 1992001", b"refused line 2 TooManyTurns\n"),
-        (b"turn 2000000\nturn 1\n", b"refused line 2 TooManyTurns\n"),
-    ] {
-        let (status, sink) = answer(alloc, "run", script.to_vec(alloc)?)?;
-        assert_eq!(rt; sink.written(), line);
-        assert_eq!(rt; status, 1);
-    }
-    Ok(())
-}
 
 /// Two nodes with two cables, and what is advised.
 const DOUBLED: &[u8] = b"node a 3 coins 0\nnode b 3 coins 1\nplug a 0 b 0\nplug a 1 b 1\n";

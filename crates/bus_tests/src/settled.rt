@@ -1,18 +1,17 @@
-//! Worlds of a few nodes, and what they settle to.
+//! The report of a world that does one turn after the other.
 ghost use Rattle.std.specs.Prelude.{◌≡◌, ◌+◌, ◌≤◌, All, IfOk, length};
 ghost use Rattle.cable_world.specs.World.{IsNodeAtPowerOn};
 ghost use Rattle.phy_machine.specs.Field.{field_node};
 ghost use Rattle.settle.specs.Report.{quiet_turns_of};
 
 use cable_world::{Act, World, WorldRun};
-use cabling::{End, NodeSet};
+use cabling::End;
 use phy_machine::{FieldMachine, NodeSpec};
 use port_state::{Coins, Timing, power_on_is_valid, usual_in_range};
 use script_text::{Name, report_text, reports_can_be_shown};
 use self_id::Attrs;
-use settle::{Outcome, Part, Report, quiet_turns, settle};
+use settle::{quiet_turns, settle};
 use std::alloc::{AllocError, Global};
-use std::process::Abort;
 use std::test::Fail;
 use topology_stack::NameList;
 
@@ -50,108 +49,6 @@ fn world_of(alloc: Global, coins: &[u8]) -> Result<World<FieldMachine>, AllocErr
         machines.push(machine(*coin))?;
     }
     World::new(alloc, machines, 4)
-}
-
-/// What a world of nodes with these coins settles to, with cables that are given as node, port,
-/// node, port.
-fn settled(
-    rt: &impl Abort,
-    alloc: Global,
-    coins: &[u8],
-    cables: &[[u8; 4]],
-) -> Result<Report, Fail> {
-    assert!(rt; coins.len() <= 4);
-    let mut world = world_of(alloc, coins)?;
-    for [a, p, b, q] in cables {
-        world.act(&Act::Plug {
-            a: End { node: *a, port: *p },
-            b: End { node: *b, port: *q },
-        })?;
-    }
-    assert_eq!(rt; world.delay(), 4);
-    let turns = u64::from(world.turns()) + u64::from(quiet_turns(world.cabling().nodes(), 4));
-    assert!(rt; turns <= 4_000_000_000);
-    let report = settle(alloc, &mut world)?;
-    Ok(report)
-}
-
-/// Whether a set has these nodes and no other.
-fn has_just(set: NodeSet, nodes: &[u8]) -> bool {
-    usize::from(set.len()) == nodes.len() && nodes.iter().all(|node| set.has(*node))
-}
-
-/// Whether this is a part of these nodes, with as many rounds and as late a change.
-fn is_part(part: &Part, nodes: &[u8], rounds: u16, changed: u32) -> bool {
-    has_just(part.nodes, nodes) && part.rounds == rounds && part.changed == changed
-}
-
-fn is_tree(outcome: &Outcome, its_root: u8, its_list: &[u32], its_order: &[u8]) -> bool {
-    match outcome {
-        Outcome::Tree { root, list, order } => {
-            *root == its_root && list.as_slice() == its_list && order.as_slice() == its_order
-        }
-        _ => false,
-    }
-}
-
-fn is_loop(outcome: &Outcome, core: &[u8]) -> bool {
-    match outcome {
-        Outcome::Loop { nodes } => has_just(*nodes, core),
-        _ => false,
-    }
-}
-
-#[test]
-fn two_nodes_become_a_tree(rt: HostRuntime) -> Result<(), Fail> {
-    let report = settled(&rt, rt.alloc(), &[0, 1], &[[0, 0, 1, 0]])?;
-    assert_eq!(rt; report.turn, 8128);
-    let parts = report.parts.as_slice();
-    assert_eq!(rt; parts.len(), 1);
-    assert!(rt; is_part(&parts[0], &[0, 1], 1, 299));
-    assert!(rt; is_tree(&parts[0].outcome, 1, &[0x807f_8096, 0x817f_80d6], &[0, 1]));
-    Ok(())
-}
-
-#[test]
-fn equal_coins_contend_on(rt: HostRuntime) -> Result<(), Fail> {
-    let report = settled(&rt, rt.alloc(), &[0, 0], &[[0, 0, 1, 0]])?;
-    assert_eq!(rt; report.turn, 8128);
-    let parts = report.parts.as_slice();
-    assert_eq!(rt; parts.len(), 1);
-    assert!(rt; is_part(&parts[0], &[0, 1], 606, 0));
-    assert!(rt; matches!(parts[0].outcome, Outcome::Contention { a: 0, b: 1 }));
-    Ok(())
-}
-
-#[test]
-fn loops_and_their_cores(rt: HostRuntime) -> Result<(), Fail> {
-    let two = settled(&rt, rt.alloc(), &[0, 0], &[[0, 0, 1, 0], [0, 1, 1, 1]])?;
-    assert_eq!(rt; two.turn, 8128);
-    let parts = two.parts.as_slice();
-    assert_eq!(rt; parts.len(), 1);
-    assert!(rt; is_part(&parts[0], &[0, 1], 0, 0));
-    assert!(rt; is_loop(&parts[0].outcome, &[0, 1]));
-    let cables = [[0, 0, 1, 0], [1, 1, 2, 0], [2, 1, 0, 1], [0, 2, 3, 0]];
-    let four = settled(&rt, rt.alloc(), &[0; 4], &cables)?;
-    assert_eq!(rt; four.turn, 8384);
-    let parts = four.parts.as_slice();
-    assert_eq!(rt; parts.len(), 1);
-    assert!(rt; is_part(&parts[0], &[0, 1, 2, 3], 0, 0));
-    assert!(rt; is_loop(&parts[0].outcome, &[0, 1, 2]));
-    Ok(())
-}
-
-#[test]
-fn components_by_their_least_nodes(rt: HostRuntime) -> Result<(), Fail> {
-    let report = settled(&rt, rt.alloc(), &[0, 0, 0, 1], &[[3, 0, 1, 0]])?;
-    let parts = report.parts.as_slice();
-    assert_eq!(rt; parts.len(), 3);
-    assert!(rt; has_just(parts[0].nodes, &[0]));
-    assert!(rt; has_just(parts[1].nodes, &[1, 3]));
-    assert!(rt; has_just(parts[2].nodes, &[2]));
-    assert!(rt; is_tree(&parts[0].outcome, 0, &[0x807f_8056], &[0]));
-    assert!(rt; is_tree(&parts[1].outcome, 3, &[0x807f_8096, 0x817f_80d6], &[1, 3]));
-    Ok(())
 }
 
 /// The text of the report that a world comes to, where each of its nodes has a name.

@@ -3,7 +3,7 @@ ghost use Rattle.std.specs.Prelude.{◌≡◌, IsFalse, OnOk, length};
 ghost use Rattle.cable_world.specs.Act.{IsAct};
 
 use crate::nodes::{ONES, USUAL, agenda, world};
-use cable_world::{Act, ShowsWires};
+use cable_world::{Act, ShowsWires, WorldRun};
 use cabling::End;
 use script_lines::{Command, Name};
 use script_run::{Kind, ScriptFault, ScriptStop, trace_script};
@@ -12,6 +12,7 @@ use settle::{quiet_turns, settle};
 use std::alloc::{AllocError, Global};
 use std::process::Abort;
 use std::test::Fail;
+use world_agenda::TellsStillTurns;
 
 /// One node, which is alone.
 const ALONE: [&str; 7] = [
@@ -150,7 +151,7 @@ fn two_names(alloc: Global) -> Result<Vec<Name>, AllocError> {
 }
 
 /// An act of a world of two nodes is done and traced, and then 300 turns are.
-fn traced<W: ShowsWires>(
+fn traced<W: TellsStillTurns>(
     rt: &impl Abort,
     alloc: Global,
     world: &mut W,
@@ -173,7 +174,7 @@ fn traced<W: ShowsWires>(
 }
 
 /// Two nodes are plugged together, traced, and settle.
-fn plugged<W: ShowsWires>(rt: &impl Abort, alloc: Global, world: &mut W) -> Result<(), Fail>
+fn plugged<W: TellsStillTurns>(rt: &impl Abort, alloc: Global, world: &mut W) -> Result<(), Fail>
     requires { length (W.world world.old).nodes ≡ 2 }
 {
     let names = two_names(alloc)?;

@@ -6,10 +6,11 @@ use Rattle.std.specs.Io.KnownBytes.{Appends}
 use Rattle.io_edges.specs.Told.{IfTold, TookOver}
 use Rattle.bus_view.specs.Form.{Asks, AsksScript, IsForm}
 use Rattle.bus_view.specs.declared.form.ViewForm.{ViewForm}
-use Rattle.bus_view.specs.declared.form.ViewForm.TheVariants.{Capture, Trace, Script, ListOf}
-use Rattle.bus_view.specs.Answer.{Reading, spelt, refused, status_of, IsTraceView, traced, at_fault, has_list, has_none, IsView, Answers, viewed, no_form}
+use Rattle.bus_view.specs.declared.form.ViewForm.TheVariants.{Capture, Trace, Waves, Script, ListOf, Explain}
+use Rattle.bus_view.specs.Answer.{Reading, spelt, refused, status_of, IsTraceView, traced, at_fault, IsWavesView, dumped, not_dumped, has_list, has_none, IsView, Answers, viewed, no_form, has_text, has_fault}
 use Rattle.script_made.specs.Made.{made_script}
 use Rattle.script_trace.specs.Trace.{IsTrace}
+use Rattle.script_waves.specs.Waves.{IsWaves}
 use Rattle.bus_view.proofs.Forms.{one_form}
 use Rattle.bus_view.specs.OneAnswer.{NoInputHasTwoViews}
 
@@ -44,6 +45,10 @@ few_status (Capture view standard) bytes status text shows =
     of_reading shows.reading status shows.status_is
 few_status Trace bytes status text (traced e x) = omega (arith, e)
 few_status Trace bytes status text (at_fault fault e x t) = omega (arith, e)
+few_status Waves bytes status text (dumped e x) = omega (arith, e)
+few_status Waves bytes status text (not_dumped fault e x t) = omega (arith, e)
+few_status Explain bytes status text (has_text printed e x t) = omega (arith, e)
+few_status Explain bytes status text (has_fault fault e x t) = omega (arith, e)
 few_status (Script nodes seed) bytes status text x = let e = x.0 in omega (arith, e)
 few_status (ListOf name) bytes status text (has_list list e x t) = omega (arith, e)
 few_status (ListOf name) bytes status text (has_none fault e x t) = omega (arith, e)
@@ -117,3 +122,19 @@ trace_written words (Some bytes) old new status asks zero whole =
     lines : (text : List ℕ) → IsTraceView bytes status text → IsTrace bytes (Ok text)
     lines text (traced e x) = x
     lines text (at_fault fault e x t) = absurd (omega (arith, e, zero))
+
+-- ---- a dump
+
+-- what answers the words of a dump at status 0
+pub waves_written : (words : List (String Global)) (left old new : Option (List ℕ)) (status : ℕ) →
+    Asks words Waves → status ≡ 0 →
+    ((status ≡ 0) ⊎ (status ≡ 1) → IfSome left (λ bytes. (x : List ℕ) × Answers words bytes status x × Appends old new x)) →
+    IfSome left (λ bytes. (dump : List ℕ) × IsWaves bytes (Ok dump) × Appends old new dump)
+waves_written words None old new status asks zero whole = tt
+waves_written words (Some bytes) old new status asks zero whole =
+    let w = whole (inl zero) in
+    (w.0, dump w.0 (of_form words Waves asks bytes status w.0 w.1), w.2)
+  where
+    dump : (text : List ℕ) → IsWavesView bytes status text → IsWaves bytes (Ok text)
+    dump text (dumped e x) = x
+    dump text (not_dumped fault e x t) = absurd (omega (arith, e, zero))

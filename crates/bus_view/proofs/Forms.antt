@@ -7,7 +7,7 @@ use Rattle.self_id.specs.declared.standard.Standard.TheVariants.{Ieee1995, Ieee2
 use Rattle.bus_view.specs.declared.form.CaptureView.{CaptureView}
 use Rattle.bus_view.specs.declared.form.CaptureView.TheVariants.{Packets, Tree, Dot}
 use Rattle.bus_view.specs.declared.form.ViewForm.{ViewForm}
-use Rattle.bus_view.specs.declared.form.ViewForm.TheVariants.{Capture, Trace, Script, ListOf}
+use Rattle.bus_view.specs.declared.form.ViewForm.TheVariants.{Capture, Trace, Waves, Script, ListOf, Explain}
 use Rattle.script_lines.specs.Name.{is_name}
 use Rattle.script_lines.specs.Number.{number_of}
 use Rattle.bus_view.specs.Form.{standard_words, AreScriptWords, AreWordsOf, Asks, AsksScript, IsForm}
@@ -67,7 +67,9 @@ named test name = cond test (Some (ListOf name)) None
 form_of : List (List ℕ) → Option ViewForm
 form_of [] = None
 form_of (word ∷ []) =
-    cond (same word (codes "trace")) (Some Trace) (capture_of (view_of word) Ieee2000)
+    cond (same word (codes "trace")) (Some Trace)
+    (cond (same word (codes "waves")) (Some Waves)
+    (cond (same word (codes "explain")) (Some Explain) (capture_of (view_of word) Ieee2000)))
 form_of (word ∷ next ∷ []) =
     cond (same word (codes "capture")) (named (is_name next) next)
     (cond (same next (codes "--1995")) (capture_of (view_of word) Ieee1995) None)
@@ -99,6 +101,8 @@ is_found (Capture Tree Ieee2000) words e = ap (λ (ws : List (List ℕ)). form_o
 is_found (Capture Dot Ieee1995) words e = ap (λ (ws : List (List ℕ)). form_of ws) e
 is_found (Capture Dot Ieee2000) words e = ap (λ (ws : List (List ℕ)). form_of ws) e
 is_found Trace words e = ap (λ (ws : List (List ℕ)). form_of ws) e
+is_found Waves words e = ap (λ (ws : List (List ℕ)). form_of ws) e
+is_found Explain words e = ap (λ (ws : List (List ℕ)). form_of ws) e
 is_found (Script nodes seed) words m =
     ap (λ (ws : List (List ℕ)). form_of ws) m.words_are
     ∙ from_numbers (number_of m.nodes_word) (number_of m.seed_word) nodes seed m.nodes_are m.seed_is m.some_nodes m.few_nodes
@@ -143,13 +147,22 @@ of_capture (Some view) standard word form is e =
     subst (λ (g : ViewForm). AreWordsOf g (word ∷ standard_words standard)) f
     (of_view view standard _ (ap (λ (w : List ℕ). w ∷ standard_words standard) (is view refl)))
 
-one_word : (test : Bool) (word : List ℕ) (form : ViewForm) → (test ≡ true → word ≡ codes "trace") →
-    cond test (Some Trace) (capture_of (view_of word) Ieee2000) ≡ Some form →
+one_word : (trace waves explain : Bool) (word : List ℕ) (form : ViewForm) → (trace ≡ true → word ≡ codes "trace") →
+    (waves ≡ true → word ≡ codes "waves") → (explain ≡ true → word ≡ codes "explain") →
+    cond trace (Some Trace) (cond waves (Some Waves) (cond explain (Some Explain)
+    (capture_of (view_of word) Ieee2000))) ≡ Some form →
     AreWordsOf form (word ∷ [])
-one_word true word form is e =
+one_word true waves explain word form is dumps says e =
     let f : Trace ≡ form = cc in
     subst (λ (g : ViewForm). AreWordsOf g (word ∷ [])) f (ap (λ (w : List ℕ). w ∷ []) (is refl))
-one_word false word form is e = of_capture (view_of word) Ieee2000 word form (view_is word) e
+one_word false true explain word form is dumps says e =
+    let f : Waves ≡ form = cc in
+    subst (λ (g : ViewForm). AreWordsOf g (word ∷ [])) f (ap (λ (w : List ℕ). w ∷ []) (dumps refl))
+one_word false false true word form is dumps says e =
+    let f : Explain ≡ form = cc in
+    subst (λ (g : ViewForm). AreWordsOf g (word ∷ [])) f (ap (λ (w : List ℕ). w ∷ []) (says refl))
+one_word false false false word form is dumps says e =
+    of_capture (view_of word) Ieee2000 word form (view_is word) e
 
 by_name : (test : Bool) (word next : List ℕ) (form : ViewForm) → is_name next ≡ test →
     word ≡ codes "capture" → named test next ≡ Some form → AreWordsOf form (word ∷ next ∷ [])
@@ -202,7 +215,9 @@ are_words : (words : List (List ℕ)) (form : ViewForm) → form_of words ≡ So
     AreWordsOf form words
 unfolding form_of
 are_words [] form e = absurd cc
-are_words (word ∷ []) form e = one_word _ word form (same-true word (codes "trace")) e
+are_words (word ∷ []) form e =
+    one_word _ _ _ word form (same-true word (codes "trace")) (same-true word (codes "waves"))
+    (same-true word (codes "explain")) e
 are_words (word ∷ next ∷ []) form e =
     two_words _ _ word next form (same-true word (codes "capture")) (same-true next (codes "--1995")) e
 are_words (word ∷ a ∷ b ∷ []) form e = three_words _ word a b form (same-true word (codes "script")) e
@@ -222,6 +237,8 @@ pub is_read : (words : List (String Global)) (form : ViewForm) → Asks words fo
     (AsksScript words → ⊥) → IsRead form
 is_read words (Capture view standard) asks none = tt
 is_read words Trace asks none = tt
+is_read words Waves asks none = tt
+is_read words Explain asks none = tt
 is_read words (Script nodes seed) asks none = absurd (none (nodes, seed, asks))
 is_read words (ListOf name) asks none = tt
 
@@ -236,5 +253,7 @@ is_unread words form asks script read =
 pub few_nodes : (words : List (String Global)) (form : ViewForm) → Asks words form → AsksFewNodes form
 few_nodes words (Capture view standard) asks = tt
 few_nodes words Trace asks = tt
+few_nodes words Waves asks = tt
+few_nodes words Explain asks = tt
 few_nodes words (Script nodes seed) asks = (asks.some_nodes, asks.few_nodes)
 few_nodes words (ListOf name) asks = tt

@@ -19,13 +19,15 @@ use Rattle.script_run.specs.Listed.{listed_at, IsListed}
 use Rattle.script_told.specs.OneTold.{ScriptsHaveOneRun, ScriptsTellOneThing}
 use Rattle.script_trace.specs.Trace.{IsTrace}
 use Rattle.script_trace.specs.OneTrace.{ScriptsHaveOneTrace, TracedScriptsAreTold}
+use Rattle.script_waves.specs.Waves.{IsWaves}
+use Rattle.script_waves.specs.OneDump.{ScriptsHaveOneDump, DumpedScriptsAreTold}
 use Rattle.view_text.specs.Pairs.{AreShown, pairs_text}
 use Rattle.view_text.specs.Drawing.{IsDrawing, IsRoot, drawing}
 use Rattle.bus_view.specs.declared.form.CaptureView.{CaptureView}
 use Rattle.bus_view.specs.declared.form.CaptureView.TheVariants.{Packets, Tree as Drawn, Dot}
 use Rattle.bus_view.specs.declared.form.ViewForm.{ViewForm}
-use Rattle.bus_view.specs.declared.form.ViewForm.TheVariants.{Capture, Trace, Script, ListOf}
-use Rattle.bus_view.specs.Answer.{Reading, spelt, refused, IsReading, status_of, ShowsPackets, HasText, IsCaptureView, IsTraceView, traced, at_fault, IsListView, has_list, has_none, IsView, viewed, no_form}
+use Rattle.bus_view.specs.declared.form.ViewForm.TheVariants.{Capture, Trace, Waves, Script, ListOf, Explain}
+use Rattle.bus_view.specs.Answer.{Reading, spelt, refused, IsReading, status_of, ShowsPackets, HasText, IsCaptureView, IsTraceView, traced, at_fault, IsWavesView, dumped, not_dumped, IsListView, has_list, has_none, IsView, viewed, no_form, IsExplainView, has_text, has_fault, explanation}
 use Rattle.bus_view.specs.OneAnswer.{NoInputHasTwoViews}
 use Rattle.bus_view.proofs.Forms.{one_form}
 
@@ -39,6 +41,8 @@ pub record HasOneReading : Type 0 where
   pub told : ScriptsTellOneThing
   pub traces : ScriptsHaveOneTrace
   pub texts : TracedScriptsAreTold
+  pub dumps : ScriptsHaveOneDump
+  pub dumped_texts : DumpedScriptsAreTold
 
 same_reading : HasOneReading → (standard : Standard) (bytes : List ℕ) (a b : Reading) →
     IsReading standard bytes a → IsReading standard bytes b → a ≡ b
@@ -108,13 +112,17 @@ is-ok (Err fault) = false
 same_fault : (g h : ScriptFault) → ◌≡◌ {A = Told} (Err g) (Err h) → g ≡ h
 same_fault g h e = cc
 
--- a script with a trace has no fault
-apart : HasOneReading → (bytes lines : List ℕ) (fault : ScriptFault) → IsTrace bytes (Ok lines) →
+-- a script with a text has no fault
+no-fault : HasOneReading → (bytes text : List ℕ) (fault : ScriptFault) → IsTold bytes (Ok text) →
     IsTold bytes (Err fault) → ⊥
 unfolding is-ok
+no-fault one bytes text fault x y = let e = ap is-ok (one.told bytes (Ok text) (Err fault) x y) in cc
+
+-- nor has one with a trace
+apart : HasOneReading → (bytes lines : List ℕ) (fault : ScriptFault) → IsTrace bytes (Ok lines) →
+    IsTold bytes (Err fault) → ⊥
 apart one bytes lines fault x y =
-    let text = one.texts bytes lines x in
-    let e = ap is-ok (one.told bytes (Ok text.0) (Err fault) text.1 y) in cc
+    let text = one.texts bytes lines x in no-fault one bytes text.0 fault text.1 y
 
 same_trace : HasOneReading → (bytes : List ℕ) (s r : ℕ) (a b : List ℕ) → IsTraceView bytes s a →
     IsTraceView bytes r b → (s ≡ r) × (a ≡ b)
@@ -124,7 +132,39 @@ same_trace one bytes s r a b (traced e x) (traced f y) =
 same_trace one bytes s r a b (traced e x) (at_fault g f y t) = absurd (apart one bytes a g x y)
 same_trace one bytes s r a b (at_fault g e x t) (traced f y) = absurd (apart one bytes b g y x)
 same_trace one bytes s r a b (at_fault g e x t) (at_fault h f y u) =
-    (e ∙ sym f, t ∙ ap script_line (same_fault g h (one.told bytes (Err g) (Err h) x y)) ∙ sym u)
+    (e ∙ sym f, t ∙ ap (explanation bytes) (same_fault g h (one.told bytes (Err g) (Err h) x y)) ∙ sym u)
+
+-- ---- a script has one fault or none
+
+listed-apart : (list : List ℕ) (fault : ScriptFault) → ◌≡◌ {A = Told} (Ok list) (Err fault) → ⊥
+listed-apart list fault e = cc
+
+same_explanation : HasOneReading → (bytes : List ℕ) (s r : ℕ) (a b : List ℕ) → IsExplainView bytes s a →
+    IsExplainView bytes r b → (s ≡ r) × (a ≡ b)
+same_explanation one bytes s r a b (has_text p e x t) (has_text q f y u) = (e ∙ sym f, t ∙ sym u)
+same_explanation one bytes s r a b (has_text p e x t) (has_fault g f y u) =
+    absurd (listed-apart p g (one.told bytes (Ok p) (Err g) x y))
+same_explanation one bytes s r a b (has_fault g e x t) (has_text p f y u) =
+    absurd (listed-apart p g (one.told bytes (Ok p) (Err g) y x))
+same_explanation one bytes s r a b (has_fault g e x t) (has_fault h f y u) =
+    (e ∙ sym f, t ∙ ap (explanation bytes) (same_fault g h (one.told bytes (Err g) (Err h) x y)) ∙ sym u)
+
+-- ---- a script has one dump
+
+dump-apart : HasOneReading → (bytes dump : List ℕ) (fault : ScriptFault) → IsWaves bytes (Ok dump) →
+    IsTold bytes (Err fault) → ⊥
+dump-apart one bytes dump fault x y =
+    let text = one.dumped_texts bytes dump x in no-fault one bytes text.0 fault text.1 y
+
+same_waves : HasOneReading → (bytes : List ℕ) (s r : ℕ) (a b : List ℕ) → IsWavesView bytes s a →
+    IsWavesView bytes r b → (s ≡ r) × (a ≡ b)
+unfolding trace-text
+same_waves one bytes s r a b (dumped e x) (dumped f y) =
+    (e ∙ sym f, ap trace-text (one.dumps bytes (Ok a) (Ok b) x y))
+same_waves one bytes s r a b (dumped e x) (not_dumped g f y t) = absurd (dump-apart one bytes a g x y)
+same_waves one bytes s r a b (not_dumped g e x t) (dumped f y) = absurd (dump-apart one bytes b g y x)
+same_waves one bytes s r a b (not_dumped g e x t) (not_dumped h f y u) =
+    (e ∙ sym f, t ∙ ap (explanation bytes) (same_fault g h (one.told bytes (Err g) (Err h) x y)) ∙ sym u)
 
 -- ---- a script lists one thing of a node
 
@@ -132,9 +172,6 @@ one_listed : HasOneReading → (bytes name : List ℕ) (a b : Told) → IsListed
     IsListed bytes name b → a ≡ b
 one_listed one bytes name a b (run, is, e) (other, too, f) =
     e ∙ ap (λ (r : ScriptRun). listed_at (length (script_lines bytes) + 1) name r.end) (one.runs bytes run other is too) ∙ sym f
-
-listed-apart : (list : List ℕ) (fault : ScriptFault) → ◌≡◌ {A = Told} (Ok list) (Err fault) → ⊥
-listed-apart list fault e = cc
 
 same_list : HasOneReading → (name bytes : List ℕ) (s r : ℕ) (a b : List ℕ) → IsListView name bytes s a →
     IsListView name bytes r b → (s ≡ r) × (a ≡ b)
@@ -151,6 +188,8 @@ same_list one name bytes s r a b (has_none g e x t) (has_none h f y u) =
 same_view : HasOneReading → (form : ViewForm) (bytes : List ℕ) (s r : ℕ) (a b : List ℕ) →
     IsView form bytes s a → IsView form bytes r b → (s ≡ r) × (a ≡ b)
 same_view one Trace bytes s r a b x y = same_trace one bytes s r a b x y
+same_view one Waves bytes s r a b x y = same_waves one bytes s r a b x y
+same_view one Explain bytes s r a b x y = same_explanation one bytes s r a b x y
 same_view one (Capture view standard) bytes s r a b x y =
     same_capture one view standard bytes s r a b x y
 same_view one (Script nodes seed) bytes s r a b x y = (x.0 ∙ sym y.0, x.1 ∙ sym y.1)

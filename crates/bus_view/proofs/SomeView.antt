@@ -1,6 +1,6 @@
 -- All words and bytes have an answer.
 use Rattle.std.proofs.Common.{◌≡◌, ◌<◌, ◌-◌, ◌+◌, ◌⊎◌, inl, inr, ℕ, List, [], Ok, Err, length, refl, sym, ap, arith}
-use Rattle.std.specs.Prelude.{All}
+use Rattle.std.specs.Prelude.{All, codes}
 use Rattle.std.proofs.lemmas.Option.{slice_get_cases}
 use Rattle.quad_lanes.specs.Pairs.{quads_of}
 use Rattle.self_id.specs.declared.standard.Standard.{Standard}
@@ -12,22 +12,24 @@ use Rattle.bus_cli.specs.OneReading.{EachCaptureHasATreeOrAFault}
 use Rattle.bus_cli.specs.Line.{fault_line, script_line}
 use Rattle.script_made.specs.Made.{made_script}
 use Rattle.script_told.specs.Script.{Told, script_lines}
-use Rattle.script_told.specs.Run.{ScriptRun, IsRun, printed, unless_stopped}
+use Rattle.script_told.specs.Run.{ScriptRun, IsRun, printed, unless_stopped, told_by}
 use Rattle.script_run.specs.Listed.{listed_at}
 use Rattle.quad_lanes.specs.Capture.{capture}
 use Rattle.script_bus.specs.SomeRun.{EachScriptHasARun}
 use Rattle.script_trace.specs.Trace.{IsTraceOf}
 use Rattle.script_trace.specs.OneTrace.{RunsHaveTraces}
+use Rattle.script_waves.specs.Waves.{IsWavesOf}
+use Rattle.script_waves.specs.OneDump.{RunsHaveDumps}
 use Rattle.view_text.specs.Pairs.{pairs_text}
 use Rattle.view_text.specs.Drawing.{IsDrawing, IsRoot, drawing}
 use Rattle.view_text.specs.Graph.{graph}
 use Rattle.bus_view.specs.declared.form.CaptureView.{CaptureView}
 use Rattle.bus_view.specs.declared.form.CaptureView.TheVariants.{Packets, Tree as Drawn, Dot}
 use Rattle.bus_view.specs.declared.form.ViewForm.{ViewForm}
-use Rattle.bus_view.specs.declared.form.ViewForm.TheVariants.{Capture, Trace, Script, ListOf}
+use Rattle.bus_view.specs.declared.form.ViewForm.TheVariants.{Capture, Trace, Waves, Script, ListOf, Explain}
 use Rattle.bus_view.specs.Form.{IsForm}
 use Rattle.bus_view.specs.Sentence.{place, note}
-use Rattle.bus_view.specs.Answer.{Reading, spelt, refused, IsReading, status_of, HasText, IsCaptureView, IsTraceView, traced, at_fault, IsListView, has_list, has_none, IsView, Answers, viewed, no_form}
+use Rattle.bus_view.specs.Answer.{Reading, spelt, refused, IsReading, status_of, HasText, IsCaptureView, IsTraceView, traced, at_fault, IsWavesView, dumped, not_dumped, IsListView, has_list, has_none, IsView, Answers, viewed, no_form, IsExplainView, has_text, has_fault, explanation}
 use Rattle.bus_view.specs.OneAnswer.{EachInputHasAView}
 use Rattle.bus_view.proofs.Forms.{form_or_none}
 use Rattle.bus_view.proofs.SomePacket.{packets-of-bytes}
@@ -67,7 +69,7 @@ some-text Packets standard bytes (spelt t) fit =
     (pairs_text bytes p.0 0 [], record { packets = p.0; shown = p.1; text_is = refl })
 some-text Packets standard bytes (refused f) fit =
     let p = packets-of-bytes bytes fit in
-    (pairs_text bytes p.0 (place f) (note standard (quads_of bytes) p.0 f), record { packets = p.0; shown = p.1; text_is = refl })
+    (pairs_text bytes p.0 (place f) (note standard bytes (quads_of bytes) p.0 f), record { packets = p.0; shown = p.1; text_is = refl })
 some-text Drawn standard bytes (spelt t) fit = some-drawing t
 some-text Drawn standard bytes (refused f) fit = (fault_line f, refl)
 some-text Dot standard bytes (spelt t) fit = (graph t, refl)
@@ -78,6 +80,7 @@ pub record HasSomeReading : Type 0 where
   pub some : EachCaptureHasATreeOrAFault
   pub run : EachScriptHasARun
   pub traces : RunsHaveTraces
+  pub dumps : RunsHaveDumps
 
 module _ (have : HasSomeReading) where
   some-capture : (view : CaptureView) (standard : Standard) (bytes : List ℕ) →
@@ -95,7 +98,26 @@ module _ (have : HasSomeReading) where
     where
       go : (run : ScriptRun) → IsRun bytes run → (told : Told) → IsTraceOf run told → HasSome (IsTraceView bytes)
       go run is (Ok text) traces = (0, text, traced refl (run, is, traces))
-      go run is (Err f) e = (1, script_line f, at_fault f refl (run, is, sym (ap (unless_stopped (printed run.entries)) e)) refl)
+      go run is (Err f) e = (1, explanation bytes f, at_fault f refl (run, is, sym (ap (unless_stopped (printed run.entries)) e)) refl)
+
+  some-explanation : (bytes : List ℕ) → HasSome (IsExplainView bytes)
+  some-explanation bytes =
+      let r = have.run bytes in
+      go r.run r.is (told_by r.run) refl
+    where
+      go : (run : ScriptRun) → IsRun bytes run → (told : Told) → told ≡ told_by run → HasSome (IsExplainView bytes)
+      go run is (Ok text) e = (0, codes "no fault\n", has_text text refl (run, is, e) refl)
+      go run is (Err f) e = (1, explanation bytes f, has_fault f refl (run, is, e) refl)
+
+  some-waves : (bytes : List ℕ) → HasSome (IsWavesView bytes)
+  some-waves bytes =
+      let r = have.run bytes in
+      let t = have.dumps bytes r.run r.is in
+      go r.run r.is t.told t.is
+    where
+      go : (run : ScriptRun) → IsRun bytes run → (told : Told) → IsWavesOf run told → HasSome (IsWavesView bytes)
+      go run is (Ok text) dumps = (0, text, dumped refl (run, is, dumps))
+      go run is (Err f) e = (1, explanation bytes f, not_dumped f refl (run, is, sym (ap (unless_stopped (printed run.entries)) e)) refl)
 
   some-list : (name bytes : List ℕ) → HasSome (IsListView name bytes)
   some-list name bytes =
@@ -110,6 +132,8 @@ module _ (have : HasSomeReading) where
       HasSome (IsView form bytes)
   some-view (Capture view standard) bytes fit = some-capture view standard bytes fit
   some-view Trace bytes fit = some-trace bytes
+  some-view Waves bytes fit = some-waves bytes
+  some-view Explain bytes fit = some-explanation bytes
   some-view (Script nodes seed) bytes fit = (0, made_script nodes seed, (refl, refl))
   some-view (ListOf name) bytes fit = some-list name bytes
 

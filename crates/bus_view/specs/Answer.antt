@@ -1,5 +1,5 @@
 -- What is answered to words and bytes.
-use Rattle.std.specs.Prelude.{◌≡◌, ℕ, List, [], Option, Some, None, Ok, Err, String}
+use Rattle.std.specs.Prelude.{◌≡◌, ℕ, List, [], ◌++◌, codes, Option, Some, None, Ok, Err, String}
 use Rattle.std.specs.Global.{Global}
 use Rattle.quad_lanes.specs.Capture.{capture}
 use Rattle.quad_lanes.specs.Pairs.{firsts, quads_of}
@@ -10,17 +10,19 @@ use Rattle.bus_cli.specs.declared.fault.CaptureFault.{CaptureFault}
 use Rattle.bus_cli.specs.Capture.{Spells, CaptureRefused}
 use Rattle.bus_cli.specs.Line.{fault_line, script_line}
 use Rattle.script_lines.specs.declared.kind.ScriptFault.{ScriptFault}
+use Rattle.script_words.specs.Sentence.{sentence}
 use Rattle.script_made.specs.Made.{made_script}
 use Rattle.script_told.specs.Run.{IsTold}
 use Rattle.script_run.specs.Listed.{IsListed}
 use Rattle.script_trace.specs.Trace.{IsTrace}
+use Rattle.script_waves.specs.Waves.{IsWaves}
 use Rattle.view_text.specs.Pairs.{AreShown, pairs_text}
 use Rattle.view_text.specs.Drawing.{IsDrawing}
 use Rattle.view_text.specs.Graph.{graph}
 use Rattle.bus_view.specs.declared.form.CaptureView.{CaptureView}
 use Rattle.bus_view.specs.declared.form.CaptureView.TheVariants.{Packets, Tree as Drawn, Dot}
 use Rattle.bus_view.specs.declared.form.ViewForm.{ViewForm}
-use Rattle.bus_view.specs.declared.form.ViewForm.TheVariants.{Capture, Trace, Script, ListOf}
+use Rattle.bus_view.specs.declared.form.ViewForm.TheVariants.{Capture, Trace, Waves, Script, ListOf, Explain}
 use Rattle.bus_view.specs.Form.{Asks, IsForm}
 use Rattle.bus_view.specs.Sentence.{place, note}
 
@@ -54,7 +56,7 @@ pub record ShowsPackets (bytes : List ℕ) (at : ℕ) (below : List PhyPacket �
 abbrev pub HasText : CaptureView → Standard → List ℕ → Reading → List ℕ → Type 0
 HasText Packets standard bytes (spelt t) text = ShowsPackets bytes 0 (λ packets. []) text
 HasText Packets standard bytes (refused f) text =
-    ShowsPackets bytes (place f) (λ packets. note standard (quads_of bytes) packets f) text
+    ShowsPackets bytes (place f) (λ packets. note standard bytes (quads_of bytes) packets f) text
 HasText Drawn standard bytes (spelt t) text = IsDrawing t text
 HasText Drawn standard bytes (refused f) text = text ≡ fault_line f
 HasText Dot standard bytes (spelt t) text = text ≡ graph t
@@ -68,11 +70,28 @@ pub record IsCaptureView (view : CaptureView) (standard : Standard) (bytes : Lis
   pub status_is : status ≡ status_of reading
   pub text_is : HasText view standard bytes reading text
 
+-- the line of a script's fault, and below it what stands there and what was wanted
+abbrev pub explanation : List ℕ → ScriptFault → List ℕ
+explanation bytes fault = script_line fault ++ sentence bytes fault
+
 -- a script that has a text is traced; one at fault is refused as `busconf run` refuses it
 pub data IsTraceView (bytes : List ℕ) (status : ℕ) (text : List ℕ) : Type 0 where
   traced : status ≡ 0 → IsTrace bytes (Ok text) → IsTraceView bytes status text
   at_fault : (fault : ScriptFault) → status ≡ 1 → IsTold bytes (Err fault) →
-      text ≡ script_line fault → IsTraceView bytes status text
+      text ≡ explanation bytes fault → IsTraceView bytes status text
+
+-- and so is its dump
+pub data IsWavesView (bytes : List ℕ) (status : ℕ) (text : List ℕ) : Type 0 where
+  dumped : status ≡ 0 → IsWaves bytes (Ok text) → IsWavesView bytes status text
+  not_dumped : (fault : ScriptFault) → status ≡ 1 → IsTold bytes (Err fault) →
+      text ≡ explanation bytes fault → IsWavesView bytes status text
+
+-- a script has no fault, or the one for which `busconf run` refuses it
+pub data IsExplainView (bytes : List ℕ) (status : ℕ) (text : List ℕ) : Type 0 where
+  has_text : (printed : List ℕ) → status ≡ 0 → IsTold bytes (Ok printed) →
+      text ≡ codes "no fault\n" → IsExplainView bytes status text
+  has_fault : (fault : ScriptFault) → status ≡ 1 → IsTold bytes (Err fault) →
+      text ≡ explanation bytes fault → IsExplainView bytes status text
 
 -- the script that is made, whatever the bytes
 abbrev pub IsScriptView : ℕ → ℕ → ℕ → List ℕ → Type 0
@@ -89,6 +108,8 @@ pub data IsListView (name bytes : List ℕ) (status : ℕ) (text : List ℕ) : T
 abbrev pub IsView : ViewForm → List ℕ → ℕ → List ℕ → Type 0
 IsView (Capture view standard) bytes status text = IsCaptureView view standard bytes status text
 IsView Trace bytes status text = IsTraceView bytes status text
+IsView Waves bytes status text = IsWavesView bytes status text
+IsView Explain bytes status text = IsExplainView bytes status text
 IsView (Script nodes seed) bytes status text = IsScriptView nodes seed status text
 IsView (ListOf name) bytes status text = IsListView name bytes status text
 

@@ -7,7 +7,7 @@ use Rattle.script_lines.specs.Name.{is_name}
 use Rattle.script_lines.specs.Number.{number_of}
 use Rattle.bus_view.specs.declared.form.CaptureView.TheVariants.{Packets, Tree, Dot}
 use Rattle.bus_view.specs.declared.form.ViewForm.{ViewForm}
-use Rattle.bus_view.specs.declared.form.ViewForm.TheVariants.{Capture, Trace, Script, ListOf}
+use Rattle.bus_view.specs.declared.form.ViewForm.TheVariants.{Capture, Trace, Waves, Script, ListOf, Explain}
 
 -- what stands behind the word of a capture's form
 abbrev pub standard_words : Standard → List (List ℕ)
@@ -30,6 +30,8 @@ AreWordsOf (Capture Packets standard) words = words ≡ codes "packets" ∷ stan
 AreWordsOf (Capture Tree standard) words = words ≡ codes "tree" ∷ standard_words standard
 AreWordsOf (Capture Dot standard) words = words ≡ codes "dot" ∷ standard_words standard
 AreWordsOf Trace words = words ≡ codes "trace" ∷ []
+AreWordsOf Waves words = words ≡ codes "waves" ∷ []
+AreWordsOf Explain words = words ≡ codes "explain" ∷ []
 AreWordsOf (Script nodes seed) words = AreScriptWords nodes seed words
 AreWordsOf (ListOf name) words = (words ≡ codes "capture" ∷ name ∷ []) × IsTrue (is_name name)
 

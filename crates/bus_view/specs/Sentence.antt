@@ -9,6 +9,7 @@ use Rattle.topology_stack.specs.declared.fault.TreeFault.TheVariants.{Group, Emp
 use Rattle.bus_cli.specs.declared.fault.CaptureFault.{CaptureFault}
 use Rattle.bus_cli.specs.declared.fault.CaptureFault.TheVariants.{BadLength, BadInverse, Tree}
 use Rattle.bus_cli.specs.Line.{fault_line}
+use Rattle.capture_hint.specs.Hint.{hint}
 use Rattle.view_text.specs.Sentence.{first_at, second_at, length_sentence, inverse_sentence, tree_sentence}
 
 -- the packet before this place, if there is one
@@ -46,6 +47,6 @@ sentence s quads packets (BadInverse pair) =
 sentence s quads packets (Tree f) =
     tree_sentence s (first_at quads (tree_place f)) (before_at packets (tree_place f)) f
 
--- the line of a fault and the sentence
-abbrev pub note : Standard → List ℕ → List PhyPacket → CaptureFault → List ℕ
-note s quads packets f = fault_line f ++ sentence s quads packets f
+-- the line of a fault and the sentence, and a hint where the bytes look like something else
+abbrev pub note : Standard → List ℕ → List ℕ → List PhyPacket → CaptureFault → List ℕ
+note s bytes quads packets f = fault_line f ++ (sentence s quads packets f ++ hint bytes)

@@ -4,7 +4,7 @@ ghost use Rattle.std.specs.Io.KnownBytes.{IsAtEnd};
 ghost use Rattle.io_edges.specs.Faults.{Rose};
 ghost use Rattle.io_edges.specs.Told.{AreLeft, IfTold, TookOver};
 ghost use Rattle.bus_view.specs.declared.form.CaptureView.{CaptureView};
-ghost use Rattle.bus_view.specs.Answer.{IsFault, IsCaptureView, IsTraceView, IsScriptView, IsListView, IsView};
+ghost use Rattle.bus_view.specs.Answer.{IsFault, IsCaptureView, IsTraceView, IsWavesView, IsScriptView, IsListView, IsView, IsExplainView, explanation};
 ghost use Rattle.bus_view.specs.codings.Reading.{IsRead, AsksFewNodes};
 ghost use Rattle.bus_cli.specs.Line.{fault_line};
 
@@ -17,7 +17,8 @@ use bus_cli::{
 use io_edges::{ReadStop, Source, read_all};
 use quad_lanes::quads_of;
 use script_made::make_script;
-use script_run::{ScriptStop, list_script, trace_script};
+use script_run::{ScriptFault, ScriptStop, dump_script, list_script, run_script, trace_script};
+use script_words::put_sentence;
 use self_id::Standard;
 use std::alloc::Global;
 use topology_stack::{BusTree, Name, OutOfMemory};
@@ -67,7 +68,7 @@ fn view_packets(alloc: Global, standard: Standard, bytes: &[u8]) -> Result<View,
             })
         }
         Some(fault) => {
-            let note = note_of(alloc, standard, quads.as_slice(), &packets, fault)?;
+            let note = note_of(alloc, standard, bytes, quads.as_slice(), &packets, fault)?;
             let text = pairs_text(alloc, bytes, &packets, &note)?;
             Ok(View {
                 status: REFUSED,
@@ -121,6 +122,16 @@ fn view_dot(alloc: Global, standard: Standard, bytes: &[u8]) -> Result<View, Out
     }
 }
 
+/// The line of a script's fault, and what stands there and was wanted.
+fn explained(alloc: Global, bytes: &[u8], fault: ScriptFault) -> Result<Vec<u8>, OutOfMemory>
+    requires { length bytes.now ≤ 1048576 }
+    ensures { IfOk result (λ text. text.items ≡ explanation bytes.now fault) }
+{
+    let mut text = Vec::from_slice(alloc, script_line(fault).as_bytes())?;
+    put_sentence(alloc, &mut text, bytes, fault)?;
+    Ok(text)
+}
+
 /// The trace of a script.
 fn view_trace(alloc: Global, bytes: &[u8]) -> Result<View, OutOfMemory>
     requires { length bytes.now ≤ 1048576 }
@@ -133,7 +144,43 @@ fn view_trace(alloc: Global, bytes: &[u8]) -> Result<View, OutOfMemory>
         }),
         Err(ScriptStop::Fault(fault)) => Ok(View {
             status: REFUSED,
-            text: Vec::from_slice(alloc, script_line(fault).as_bytes())?,
+            text: explained(alloc, bytes, fault)?,
+        }),
+        Err(ScriptStop::Memory(error)) => Err(error),
+    }
+}
+
+/// What is said of a script's fault, or that it has none.
+fn view_explain(alloc: Global, bytes: &[u8]) -> Result<View, OutOfMemory>
+    requires { length bytes.now ≤ 1048576 }
+    ensures { IfOk result (λ view. IsExplainView bytes.now view.status view.text.items) }
+{
+    match run_script(alloc, bytes) {
+        Ok(_text) => Ok(View {
+            status: VALID,
+            text: Vec::from_slice(alloc, b"no fault\n")?,
+        }),
+        Err(ScriptStop::Fault(fault)) => Ok(View {
+            status: REFUSED,
+            text: explained(alloc, bytes, fault)?,
+        }),
+        Err(ScriptStop::Memory(error)) => Err(error),
+    }
+}
+
+/// The dump of a script.
+fn view_waves(alloc: Global, bytes: &[u8]) -> Result<View, OutOfMemory>
+    requires { length bytes.now ≤ 1048576 }
+    ensures { IfOk result (λ view. IsWavesView bytes.now view.status view.text.items) }
+{
+    match dump_script(alloc, bytes) {
+        Ok(text) => Ok(View {
+            status: VALID,
+            text,
+        }),
+        Err(ScriptStop::Fault(fault)) => Ok(View {
+            status: REFUSED,
+            text: explained(alloc, bytes, fault)?,
         }),
         Err(ScriptStop::Memory(error)) => Err(error),
     }
@@ -180,6 +227,8 @@ fn view_of(alloc: Global, form: ViewForm, bytes: &[u8]) -> Result<View, OutOfMem
         ViewForm::Capture(CaptureView::Tree, standard) => view_tree(alloc, standard, bytes),
         ViewForm::Capture(CaptureView::Dot, standard) => view_dot(alloc, standard, bytes),
         ViewForm::Trace => view_trace(alloc, bytes),
+        ViewForm::Waves => view_waves(alloc, bytes),
+        ViewForm::Explain => view_explain(alloc, bytes),
         ViewForm::ListOf(name) => view_list(alloc, &name, bytes),
         ViewForm::Script { .. } => unreachable!(),
     }

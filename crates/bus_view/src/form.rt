@@ -26,6 +26,10 @@ pub enum ViewForm {
     Capture(CaptureView, Standard),
     /// `trace`: what happens on the bus of a script.
     Trace,
+    /// `waves`: what changes on the bus of a script, as a Value Change Dump.
+    Waves,
+    /// `explain`: what stands at the fault of a script and what was wanted there.
+    Explain,
     /// `script N SEED`: the script that `busconf make N SEED` runs, for 1 to 63 nodes and a seed. The
     /// numbers are written as in a script. Nothing is read.
     Script { nodes: u8, seed: u32 },
@@ -44,6 +48,8 @@ impl ViewForm {
             "tree" => Some(ViewForm::Capture(CaptureView::Tree, Standard::Ieee2000)),
             "dot" => Some(ViewForm::Capture(CaptureView::Dot, Standard::Ieee2000)),
             "trace" => Some(ViewForm::Trace),
+            "waves" => Some(ViewForm::Waves),
+            "explain" => Some(ViewForm::Explain),
             _ => None,
         }
     }
@@ -115,5 +121,7 @@ impl ViewForm {
 /// How the program is called, in one line for a form.
 pub const VIEW_USAGE: &str = "usage: busview packets [--1995] < CAPTURE\n       \
     busview tree [--1995] < CAPTURE\n       busview dot [--1995] < CAPTURE\n       \
-    busview trace < SCRIPT\n       busview capture NAME < SCRIPT\n       \
-    busview script N SEED\n       busview resets [--1995] < LOG";
+    busview trace < SCRIPT\n       busview waves < SCRIPT\n       \
+    busview explain < SCRIPT\n       busview capture NAME < SCRIPT\n       \
+    busview script N SEED\n       busview resets [--1995] < LOG\n       \
+    busview nosy [--1995] < DUMP";

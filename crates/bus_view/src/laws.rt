@@ -9,6 +9,7 @@ use script_bus::each_script_has_a_run;
 use script_made::made_scripts_have_no_fault;
 use script_told::{reported_trees_are_managed, scripts_tell_one_thing};
 use script_trace::scripts_have_one_trace;
+use script_waves::scripts_have_one_dump;
 use topology_stack::one_tree;
 
 /// A law: all words and bytes have one answer, one status and one text.
@@ -19,6 +20,7 @@ pub fn one_view()
     one_reading();
     scripts_tell_one_thing();
     scripts_have_one_trace();
+    scripts_have_one_dump();
     each_script_has_a_run();
 }
 

@@ -3,6 +3,7 @@ ghost use Rattle.std.specs.Prelude.{◌≡◌, ◌++◌, IfOk, OnOk};
 ghost use Rattle.bus_view.specs.Sentence.{before_at, sentence, group_place, tree_place, place, note};
 
 use bus_cli::{CaptureFault, fault_line};
+use capture_hint::put_hint;
 use phy_packet::PhyPacket;
 use self_id::{GroupFault, Standard};
 use std::alloc::Global;
@@ -82,22 +83,25 @@ fn place(fault: CaptureFault) -> usize
     }
 }
 
-/// The line of a fault and its sentence by a standard, to stand below the pair at fault. `quads` are
-/// the quadlets of the capture, two a pair, and `packets` those of the pairs' first ones.
+/// The line of a fault and its sentence by a standard, to stand below the pair at fault, and a hint where
+/// the bytes look like something else. `quads` are the quadlets of the bytes, two a pair, and `packets`
+/// those of the pairs' first ones.
 pub(crate) fn note_of(
     alloc: Global,
     standard: Standard,
+    bytes: &[u8],
     quads: &[u32],
     packets: &[PhyPacket],
     fault: CaptureFault,
 ) -> Result<Note, OutOfMemory>
     ensures { IfOk result (λ n. (n.pair ≡ place fault)
-        × (n.text.items ≡ note standard quads.now packets.now fault)) }
+        × (n.text.items ≡ note standard bytes.now quads.now packets.now fault)) }
 {
     let mut text = Vec::new(alloc);
     let line = fault_line(fault);
     text.extend_from_slice(line.as_bytes())?;
     put_sentence(&mut text, standard, quads, packets, fault)?;
+    put_hint(&mut text, bytes)?;
     Ok(Note {
         pair: place(fault),
         text,

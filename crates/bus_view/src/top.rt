@@ -5,6 +5,7 @@ ghost use Rattle.io_edges.specs.Faults.{Rose};
 ghost use Rattle.io_edges.specs.Told.{AppendsStart, IfTold, TookOver};
 ghost use Rattle.script_made.specs.Made.{made_script};
 ghost use Rattle.script_trace.specs.Trace.{IsTrace};
+ghost use Rattle.script_waves.specs.Waves.{IsWaves};
 ghost use Rattle.bus_view.specs.declared.form.ViewForm.{ViewForm};
 ghost use Rattle.bus_view.specs.Form.{Asks, AsksScript, IsForm};
 ghost use Rattle.bus_view.specs.Answer.{Answers};
@@ -105,6 +106,11 @@ pub fn view_main<S: Source, K: Sink>(
     ensures trace { result ≡ 0 → Asks words.now ViewForm.Trace → IfSome (S.left source.old)
         (λ bytes. (lines : List ℕ) × IsTrace bytes (Ok lines)
         × Appends (K.written sink.old) (K.written sink.new) lines) }
+
+    // With `waves` it is the dump of the script.
+    ensures waves { result ≡ 0 → Asks words.now ViewForm.Waves → IfSome (S.left source.old)
+        (λ bytes. (dump : List ℕ) × IsWaves bytes (Ok dump)
+        × Appends (K.written sink.old) (K.written sink.new) dump) }
 
     // With `script` it is the script that is made for the nodes and the seed. What `busconf run`
     // answers to that has no fault, and `busconf make` writes its summary.

@@ -1,12 +1,16 @@
 //! The program: the top call over standard input and standard output.
 #![tactic(auto)]
 
+mod front;
 mod help;
 
 use about::{About, KIT, STANDARDS, VERSION};
 use bus_cli::{
-    MAX_INPUT, NO_FORM, NO_MEMORY, READ_FAULT, TOO_LONG, USAGE, VALID, WRITE_FAULT, bus_main,
+    MAX_INPUT, NO_FORM, NO_MEMORY, READ_FAULT, REFUSED, TOO_LONG, USAGE, VALID, WRITE_FAULT,
+    bus_main,
 };
+use capture_hint::{Likeness, likeness_of};
+use front::FrontSource;
 use help::HELP;
 use io_edges::{ReadSource, WriteSink};
 use std::process::ExitCode;
@@ -33,6 +37,29 @@ fn tell(rt: &impl Print, about: About) -> u8 {
     }
 }
 
+/// Whether the words ask for a ROM.
+fn is_rom(words: &[String]) -> bool {
+    match words {
+        [word] => word.as_str() == "rom",
+        _ => false,
+    }
+}
+
+/// Answers these words by the top call, and says on standard error where the quadlets of a refused ROM are turned
+/// round.
+fn rom(rt: &HostRuntime, words: &[String]) -> u8 {
+    let mut source = FrontSource::new(rt.alloc(), ReadSource::new(rt.stdin()));
+    let mut sink = WriteSink::new(rt.stdout());
+    let status = bus_main(rt.alloc(), words, &mut source, &mut sink);
+    if status == REFUSED && likeness_of(source.front()) == Some(Likeness::TurnedRom) {
+        // A standard error that can't be written changes no status.
+        let _ = eprintln!(rt;
+            "busconf: quadlet 1 is 1394 with its bytes turned round. A ROM of it: perl -0777 -ne 'print pack(\"N*\", unpack(\"V*\", $_))'"
+        );
+    }
+    status
+}
+
 /// The status of the program with its words. What it is asked of itself is answered here, and all else by the top call.
 fn status_of(rt: &HostRuntime) -> u8 {
     let words = match words_of(rt) {
@@ -42,6 +69,9 @@ fn status_of(rt: &HostRuntime) -> u8 {
     };
     if let Some(about) = About::of_words(&words) {
         return tell(rt, about);
+    }
+    if is_rom(&words) {
+        return rom(rt, &words);
     }
     let mut source = ReadSource::new(rt.stdin());
     let mut sink = WriteSink::new(rt.stdout());

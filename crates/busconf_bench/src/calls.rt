@@ -12,7 +12,7 @@ use config_rom::{Rom, RomStop, blocks, decode_rom, encode_rom, rom_text};
 use loop_advice::Advice;
 use phy_machine::FieldMachine;
 use quad_lanes::{QuadList, first_bad_pair, firsts, pairs_of};
-use script_run::run_script;
+use script_run::{run_script, trace_script};
 use speed_map::rows;
 use std::alloc::{AllocError, Global};
 use std::io;
@@ -39,6 +39,7 @@ pub enum Call {
     Read(Way),
     Rom,
     Run,
+    Trace,
     Cabling(Question, Shape),
     Tick(Pace, Kind),
     Course(Course, Shape),
@@ -93,6 +94,7 @@ impl Call {
             "read_stream" => Some(Call::Read(Way::Stream)),
             "rom" => Some(Call::Rom),
             "run" => Some(Call::Run),
+            "trace" => Some(Call::Trace),
             _ => {
                 let (asked, shape) = name.split_once('_')?;
                 let shape = shape_named(shape)?;
@@ -132,7 +134,7 @@ fn work_of(alloc: Global, call: Call, bytes: &[u8]) -> Result<Option<Work>, Allo
     if call == Call::Rom {
         return Ok(decode_rom(alloc, bytes).ok().map(Work::Rom));
     }
-    if call == Call::Run {
+    if call == Call::Run || call == Call::Trace {
         return Ok(Some(Work::Script(bytes.to_vec(alloc)?)));
     }
     Ok(bus_of(alloc, call, bytes)?.map(Work::Bus))
@@ -193,11 +195,23 @@ fn length_run(alloc: Global, script: &[u8]) -> u64 {
     }
 }
 
+/// Traces a script. The answer is the length of its trace, and 0 where it has none.
+fn length_traced(alloc: Global, script: &[u8]) -> u64 {
+    if script.len() > MAX_INPUT {
+        return 0;
+    }
+    match trace_script(alloc, script) {
+        Ok(text) => text.len() as u64,
+        Err(_) => 0,
+    }
+}
+
 /// One call. The answer keeps the compiler from leaving it out.
 fn once(alloc: Global, call: Call, work: &Work) -> u64 {
     match work {
         Work::Bus(bus) => of_bus(alloc, call, bus),
         Work::Rom(rom) => told(alloc, rom).unwrap_or(0),
+        Work::Script(script) if call == Call::Trace => length_traced(alloc, script),
         Work::Script(script) => length_run(alloc, script),
     }
 }
@@ -205,7 +219,7 @@ fn once(alloc: Global, call: Call, work: &Work) -> u64 {
 /// One call over a bus.
 fn of_bus(alloc: Global, call: Call, work: &Bus) -> u64 {
     match call {
-        Call::Rom | Call::Run => 0,
+        Call::Rom | Call::Run | Call::Trace => 0,
         Call::Read(way) => length_read(alloc, way, &work.words, &work.bytes),
         Call::ReadTree => match read_tree(alloc, work.quads.as_slice()) {
             Ok(tree) => u64::from(tree.len()),

@@ -25,8 +25,8 @@
 //!   which is 73,520 turns, in a world that passes over turns
 //! - `rom`: a configuration ROM, which stands on standard input in place of a capture, written,
 //!   decoded, and told with its blocks as text
-//! - `run`: a script, which stands on standard input in place of a capture, run from its bytes to its
-//!   text
+//! - `run`, `trace`: a script, which stands on standard input in place of a capture, run from its bytes
+//!   to its text, or traced to the text of its trace
 #![tactic(auto)]
 
 mod cablings;

@@ -1,13 +1,16 @@
 //! The program: the top call over standard input and standard output.
 #![tactic(auto)]
 
+mod front;
 mod help;
 
 use about::{About, KIT, STANDARDS, VERSION};
 use bus_cli::{MAX_INPUT, NO_FORM, NO_MEMORY, READ_FAULT, REFUSED, TOO_LONG, VALID, WRITE_FAULT};
 use bus_view::{VIEW_USAGE, view_main};
+use front::FrontSink;
 use help::HELP;
-use io_edges::{ReadSource, WriteSink};
+use io_edges::{ReadSource, WriteSink, write_whole};
+use nosy_dump::{dump_standard, show_dump};
 use reset_log::{LogStop, MAX_LOG, resets_standard, show_log};
 use self_id::Standard;
 use std::process::ExitCode;
@@ -38,7 +41,19 @@ fn tell(rt: &impl Print, about: About) -> u8 {
 fn resets(rt: &HostRuntime, standard: Standard) -> u8 {
     let mut source = ReadSource::new(rt.stdin());
     let mut sink = WriteSink::new(rt.stdout());
-    match show_log(rt.alloc(), standard, &mut source, &mut sink) {
+    status_shown(show_log(rt.alloc(), standard, &mut source, &mut sink))
+}
+
+/// Shows the resets of a dump as it comes, and answers the status.
+fn nosy(rt: &HostRuntime, standard: Standard) -> u8 {
+    let mut source = ReadSource::new(rt.stdin());
+    let mut sink = WriteSink::new(rt.stdout());
+    status_shown(show_dump(rt.alloc(), standard, &mut source, &mut sink))
+}
+
+/// The status of a log or a dump that was shown.
+fn status_shown(shown: Result<bool, LogStop>) -> u8 {
+    match shown {
         Ok(false) => VALID,
         Ok(true) => REFUSED,
         Err(LogStop::ReadFault) => READ_FAULT,
@@ -48,8 +63,29 @@ fn resets(rt: &HostRuntime, standard: Standard) -> u8 {
     }
 }
 
-/// The status of the program with its words. What it is asked of itself is answered here, a log by its own call, and
-/// all else by the top call.
+/// Whether the words are of a form that is made for another program to read.
+fn is_piped(words: &[String]) -> bool {
+    match words {
+        [word, ..] => word.as_str() == "dot" || word.as_str() == "waves",
+        [] => false,
+    }
+}
+
+/// Answers such words by the top call, and says a refusal on standard error too.
+fn piped(rt: &HostRuntime, words: &[String]) -> u8 {
+    let mut source = ReadSource::new(rt.stdin());
+    let mut sink = FrontSink::new(rt.alloc(), WriteSink::new(rt.stdout()));
+    let status = view_main(rt.alloc(), words, &mut source, &mut sink);
+    if status == REFUSED {
+        let mut errors = WriteSink::new(rt.stderr());
+        // A standard error that can't be written changes no status.
+        let _ = write_whole(&mut errors, sink.front());
+    }
+    status
+}
+
+/// The status of the program with its words. What it is asked of itself is answered here, a log and a dump by calls
+/// of their own, and all else by the top call.
 fn status_of(rt: &HostRuntime) -> u8 {
     let words = match words_of(rt) {
         Ok(words) => words,
@@ -61,6 +97,12 @@ fn status_of(rt: &HostRuntime) -> u8 {
     }
     if let Some(standard) = resets_standard(&words) {
         return resets(rt, standard);
+    }
+    if let Some(standard) = dump_standard(&words) {
+        return nosy(rt, standard);
+    }
+    if is_piped(&words) {
+        return piped(rt, &words);
     }
     let mut source = ReadSource::new(rt.stdin());
     let mut sink = WriteSink::new(rt.stdout());
@@ -76,7 +118,7 @@ fn explain(rt: &impl Eprint, status: u8) -> io::Result<()> {
         NO_MEMORY => eprintln!(rt; "busview: out of memory"),
         TOO_LONG => {
             eprintln!(rt;
-                "busview: standard input has more than {MAX_INPUT} bytes, a log {MAX_LOG}"
+                "busview: standard input has more than {MAX_INPUT} bytes, a log or a dump {MAX_LOG}"
             )
         }
         _ => Ok(()),

@@ -48,19 +48,33 @@ fn advice_is(
     Ok(same && check(cabling, node, &advice))
 }
 
+/// Four nodes, of which three form a ring and one is a tail.
+fn ring_with_a_tail(alloc: Global, cables: &[[u8; 4]]) -> Result<Cabling, Fail> {
+    let mut cabling = Cabling::new(alloc, &[3, 3, 3, 3])?;
+    if plug_all(&mut cabling, cables) {
+        Ok(cabling)
+    } else {
+        Err("a cable was refused")?
+    }
+}
+
+/// Whether cables to pull and to leave are an advice for a node.
+fn is_valid(
+    alloc: Global,
+    cabling: &Cabling,
+    node: u8,
+    pulls: &[[u8; 4]],
+    kept: &[[u8; 4]],
+) -> Result<bool, Fail> {
+    let pulls = list(alloc, pulls)?;
+    let kept = list(alloc, kept)?;
+    Ok(node < cabling.nodes() && check(cabling, node, &Advice { pulls, kept }))
+}
+
 #[test]
 fn a_ring_with_a_tail(rt: HostRuntime) -> Result<(), Fail> {
     let cables = [[0, 0, 1, 0], [0, 1, 2, 1], [0, 2, 3, 0], [1, 1, 2, 0]];
-    let mut cabling = Cabling::new(rt.alloc(), &[3, 3, 3, 3])?;
-    assert!(rt; plug_all(&mut cabling, &cables));
-    assert!(rt; cabling.nodes() == 4);
-    let all = cables_of(rt.alloc(), &cabling, 3)?;
-    assert_eq!(rt; all.as_slice(), list(rt.alloc(), &cables)?.as_slice());
-    let good = Advice {
-        pulls: list(rt.alloc(), &[[2, 0, 1, 1]])?,
-        kept: list(rt.alloc(), &[[0, 2, 3, 0], [0, 0, 1, 0], [2, 1, 0, 1]])?,
-    };
-    assert!(rt; check(&cabling, 3, &good));
+    let cabling = ring_with_a_tail(rt.alloc(), &cables)?;
     let pulls = [cable([1, 1, 2, 0])];
     let kept = [
         cable([0, 0, 1, 0]),
@@ -68,129 +82,60 @@ fn a_ring_with_a_tail(rt: HostRuntime) -> Result<(), Fail> {
         cable([0, 2, 3, 0]),
     ];
     assert!(rt; advice_is(rt.alloc(), &cabling, 3, &pulls, &kept)?);
-    let short = Advice {
-        pulls: list(rt.alloc(), &[[1, 1, 2, 0]])?,
-        kept: list(rt.alloc(), &[[0, 0, 1, 0], [0, 1, 2, 1]])?,
-    };
-    assert!(rt; !check(&cabling, 0, &short));
-    let looped = Advice {
-        pulls: list(rt.alloc(), &[[0, 2, 3, 0]])?,
-        kept: list(rt.alloc(), &[[0, 0, 1, 0], [0, 1, 2, 1], [1, 1, 2, 0]])?,
-    };
-    assert!(rt; !check(&cabling, 0, &looped));
+    for (node, pulls, kept, wanted) in [
+        // from either end
+        (
+            3,
+            [2, 0, 1, 1],
+            [[0, 2, 3, 0], [0, 0, 1, 0], [2, 1, 0, 1]].as_slice(),
+            true,
+        ),
+        // a cable too few
+        (0, [1, 1, 2, 0], &[[0, 0, 1, 0], [0, 1, 2, 1]], false),
+        // the loop stays
+        (
+            0,
+            [0, 2, 3, 0],
+            &[[0, 0, 1, 0], [0, 1, 2, 1], [1, 1, 2, 0]],
+            false,
+        ),
+    ] {
+        assert!(rt; is_valid(rt.alloc(), &cabling, node, &[pulls], kept)? == wanted);
+    }
     Ok(())
+}
+
+/// Whether the cables of a node's component, once the advised ones are pulled, are these.
+fn pulls_leave(
+    alloc: Global,
+    cabling: &mut Cabling,
+    node: u8,
+    advice: &Advice,
+    left: &[Cable],
+) -> Result<bool, OutOfMemory> {
+    if node >= cabling.nodes() || !check(cabling, node, advice) {
+        return Ok(false);
+    }
+    pull_advised(cabling, node, advice);
+    if node >= cabling.nodes() {
+        return Ok(false);
+    }
+    Ok(cables_of(alloc, cabling, node)?.as_slice() == left)
 }
 
 #[test]
 fn what_is_advised_is_pulled(rt: HostRuntime) -> Result<(), Fail> {
-    let mut cabling = Cabling::new(rt.alloc(), &[3, 3, 3, 3])?;
     let cables = [[0, 0, 1, 0], [0, 1, 2, 1], [1, 1, 2, 0], [0, 2, 3, 0]];
-    assert!(rt; plug_all(&mut cabling, &cables));
-    assert!(rt; cabling.nodes() == 4);
+    let mut cabling = ring_with_a_tail(rt.alloc(), &cables)?;
     let advice = Advice {
         pulls: list(rt.alloc(), &[[2, 0, 1, 1]])?,
         kept: list(rt.alloc(), &[[0, 2, 3, 0], [0, 0, 1, 0], [2, 1, 0, 1]])?,
     };
-    let valid = check(&cabling, 3, &advice);
-    assert!(rt; valid);
-    pull_advised(&mut cabling, 3, &advice);
-    assert!(rt; cabling.nodes() == 4);
-    let left = cables_of(rt.alloc(), &cabling, 3)?;
-    assert_eq!(rt; left.as_slice().len(), 3);
-    Ok(())
-}
-
-#[test]
-fn one_node(rt: HostRuntime) -> Result<(), Fail> {
-    let cabling = Cabling::new(rt.alloc(), &[3])?;
-    assert!(rt; advice_is(rt.alloc(), &cabling, 0, &[], &[])?);
-    Ok(())
-}
-
-#[test]
-fn two_looped_components(rt: HostRuntime) -> Result<(), Fail> {
-    // a doubled cable, and a ring of three with a node at one of them
-    let mut cabling = Cabling::new(rt.alloc(), &[3, 3, 3, 3, 3, 3])?;
-    let cables = [
-        [1, 0, 0, 0],
-        [1, 1, 0, 1],
-        [2, 0, 3, 0],
-        [3, 1, 4, 0],
-        [4, 1, 2, 1],
-        [2, 2, 5, 0],
-    ];
-    assert!(rt; plug_all(&mut cabling, &cables));
-    let doubled = [cable([0, 1, 1, 1])];
-    let kept = [cable([0, 0, 1, 0])];
-    assert!(rt; advice_is(rt.alloc(), &cabling, 0, &doubled, &kept)?);
-    assert!(rt; advice_is(rt.alloc(), &cabling, 1, &doubled, &kept)?);
-    let ring = [cable([3, 1, 4, 0])];
-    let kept = [
-        cable([2, 0, 3, 0]),
-        cable([2, 1, 4, 1]),
-        cable([2, 2, 5, 0]),
-    ];
-    assert!(rt; advice_is(rt.alloc(), &cabling, 2, &ring, &kept)?);
-    assert!(rt; advice_is(rt.alloc(), &cabling, 5, &ring, &kept)?);
-    Ok(())
-}
-
-#[test]
-fn two_loops_that_share_a_cable(rt: HostRuntime) -> Result<(), Fail> {
-    let mut cabling = Cabling::new(rt.alloc(), &[3, 3, 3, 3])?;
-    let cables = [
-        [0, 0, 1, 0],
-        [0, 1, 2, 0],
-        [1, 1, 2, 1],
-        [1, 2, 3, 0],
-        [2, 2, 3, 1],
-    ];
-    assert!(rt; plug_all(&mut cabling, &cables));
-    let pulls = [cable([1, 1, 2, 1]), cable([2, 2, 3, 1])];
-    let kept = [
+    let left = [
         cable([0, 0, 1, 0]),
-        cable([0, 1, 2, 0]),
-        cable([1, 2, 3, 0]),
+        cable([0, 1, 2, 1]),
+        cable([0, 2, 3, 0]),
     ];
-    assert!(rt; advice_is(rt.alloc(), &cabling, 3, &pulls, &kept)?);
-    Ok(())
-}
-
-#[test]
-fn a_ring_of_63(rt: HostRuntime) -> Result<(), Fail> {
-    let ports = vec![in rt.alloc(); 2; 63]?;
-    let mut cabling = Cabling::new(rt.alloc(), &ports)?;
-    for node in 0..63u8 {
-        let one = cable([node, 1, (node + 1) % 63, 0]);
-        assert!(rt; cabling.plug(one.a, one.b).is_ok());
-    }
-    // the last node's cable to the first one stands first in the order
-    let mut kept = list(rt.alloc(), &[[0, 0, 62, 1]])?;
-    for node in 0..61u8 {
-        kept.push(cable([node, 1, node + 1, 0]))?;
-    }
-    let pulls = [cable([61, 1, 62, 0])];
-    assert!(rt; advice_is(rt.alloc(), &cabling, 62, &pulls, kept.as_slice())?);
-    Ok(())
-}
-
-#[test]
-fn a_full_mesh_of_16(rt: HostRuntime) -> Result<(), Fail> {
-    let mut cabling = Cabling::new(rt.alloc(), &[15; 16])?;
-    let mut pulls = CableList::new(rt.alloc());
-    let mut kept = CableList::new(rt.alloc());
-    for low in 0..16u8 {
-        for high in low + 1..16u8 {
-            let one = cable([low, high - 1, high, low]);
-            assert!(rt; cabling.plug(one.a, one.b).is_ok());
-            if low == 0 {
-                kept.push(one)?;
-            } else {
-                pulls.push(one)?;
-            }
-        }
-    }
-    assert!(rt; pulls.as_slice().len() == 105);
-    assert!(rt; advice_is(rt.alloc(), &cabling, 7, pulls.as_slice(), kept.as_slice())?);
+    assert!(rt; pulls_leave(rt.alloc(), &mut cabling, 3, &advice, &left)?);
     Ok(())
 }

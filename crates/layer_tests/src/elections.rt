@@ -31,8 +31,7 @@ fn longest_paths(rt: HostRuntime) -> Result<(), Fail> {
     ];
     for (list, cables, gap) in cases {
         let tree = read_tree(rt.alloc(), list)?;
-        assert_eq!(rt; hops(&tree), cables);
-        assert_eq!(rt; gap_for(cables), gap);
+        assert!(rt; hops(&tree) == cables && gap_for(cables) == gap);
     }
     Ok(())
 }
@@ -41,9 +40,13 @@ fn longest_paths(rt: HostRuntime) -> Result<(), Fail> {
 fn plans(rt: HostRuntime) -> Result<(), Fail> {
     let tree = read_tree(rt.alloc(), &[0x807f_8094, 0x817f_88d4])?;
     assert!(rt; tree.len() == 2);
-    assert_eq!(rt; plan_config(&tree, 1), 0x01c5_0000);
-    let mut regs = Registers::new();
-    assert_eq!(rt; attempt(&mut regs, 5), Bid::Won);
-    assert_eq!(rt; attempt(&mut regs, 6), Bid::Lost { old: 5 });
+    assert!(rt; plan_config(&tree, 1) == 0x01c5_0000);
     Ok(())
+}
+
+#[test]
+fn attempts(rt: HostRuntime) {
+    let mut regs = Registers::new();
+    assert!(rt; attempt(&mut regs, 5) == Bid::Won);
+    assert!(rt; attempt(&mut regs, 6) == Bid::Lost { old: 5 });
 }

@@ -1,6 +1,6 @@
 //! Lines of scripts and their faults.
 
-use script_lines::{Command, Kind, LineStop, parse_line};
+use script_lines::{Command, Kind, LineStop, Name, parse_line};
 use std::alloc::Global;
 use std::test::Fail;
 
@@ -42,7 +42,7 @@ fn lines_with_no_fault(rt: HostRuntime) -> Result<(), Fail> {
         b"node kind 1 kind packed speed 0 link 0 contender 1 force 1 power 7 gap 0 hold 320 short 16 long 40 coins 1".as_slice(),
         b"node a 3 seed 0xffffffff hold 256 short 12 long 32 kind field".as_slice(),
     ] {
-        assert!(rt; matches!(parse_line(rt.alloc(), line, 4)?, Some(_)));
+        assert!(rt; parse_line(rt.alloc(), line, 4)?.is_some());
     }
     for line in [
         b"".as_slice(),
@@ -50,7 +50,7 @@ fn lines_with_no_fault(rt: HostRuntime) -> Result<(), Fail> {
         b"\r".as_slice(),
         b"\t# \xff\x00".as_slice(),
     ] {
-        assert!(rt; matches!(parse_line(rt.alloc(), line, 4)?, None));
+        assert!(rt; parse_line(rt.alloc(), line, 4)?.is_none());
     }
     Ok(())
 }
@@ -111,51 +111,48 @@ fn lines_with_a_fault(rt: HostRuntime) -> Result<(), Fail> {
         (b"node a 3 power 8".as_slice(), Kind::Range),
         (b"node a 3 link 2".as_slice(), Kind::Range),
     ] {
-        assert_eq!(rt; fault(rt.alloc(), line, 4), Some(kind));
+        assert!(rt; fault(rt.alloc(), line, 4) == Some(kind));
     }
     Ok(())
 }
 
+/// A name of so few characters.
+fn name(text: &[u8]) -> Result<Name, Fail> {
+    Ok(Name::new(text).ok_or("a name")?)
+}
+
 #[test]
-fn values(rt: HostRuntime) -> Result<(), Fail> {
-    match parse_line(rt.alloc(), b"config hub - 0x1F", 4)? {
-        Some(Command::Config { name, root_id, gap }) => {
-            assert_eq!(rt; name.as_bytes(), b"hub".as_slice());
-            assert_eq!(rt; root_id, None);
-            assert_eq!(rt; gap, Some(31));
-        }
-        _ => assert!(rt; false),
-    }
-    match parse_line(rt.alloc(), b"node a 3 coins 0110 contender 1", 4)? {
-        Some(
-            Command::Node {
-                name,
-                ports,
-                speed,
-                link,
-                contender,
-                force,
-                power,
-                gap,
-                hold,
-                short,
-                long,
-                coin_word,
-                coin_len,
-                seed,
-                packed,
-            },
-        ) => {
-            assert_eq!(rt; name.as_bytes(), b"a".as_slice());
-            assert_eq!(rt; (ports, speed, power, gap), (3, 2, 0, 63));
-            assert_eq!(rt;
-                (link, contender, force, packed),
-                (true, true, false, false)
-            );
-            assert_eq!(rt; (hold, short, long, seed), (None, None, None, None));
-            assert_eq!(rt; (coin_word, coin_len), (6, 4));
-        }
-        _ => assert!(rt; false),
-    }
+fn values_of_a_config(rt: HostRuntime) -> Result<(), Fail> {
+    let wanted = Command::Config {
+        name: name(b"hub")?,
+        root_id: None,
+        gap: Some(31),
+    };
+    let found = parse_line(rt.alloc(), b"config hub - 0x1F", 4)?;
+    assert!(rt; found == Some(wanted));
+    Ok(())
+}
+
+#[test]
+fn values_of_a_node(rt: HostRuntime) -> Result<(), Fail> {
+    let wanted = Command::Node {
+        name: name(b"a")?,
+        ports: 3,
+        speed: 2,
+        link: true,
+        contender: true,
+        force: false,
+        power: 0,
+        gap: 63,
+        hold: None,
+        short: None,
+        long: None,
+        coin_word: 6,
+        coin_len: 4,
+        seed: None,
+        packed: false,
+    };
+    let found = parse_line(rt.alloc(), b"node a 3 coins 0110 contender 1", 4)?;
+    assert!(rt; found == Some(wanted));
     Ok(())
 }

@@ -57,6 +57,17 @@ fn refusal(fault: GrantFault) -> Answer {
     Answer::Refused(fault)
 }
 
+/// Whether fresh registers give these answers, one after the other.
+fn answers_are(table: &[(Access, Answer)]) -> bool {
+    let mut regs = Registers::new();
+    for (access, answer) in table {
+        if !access.is_permitted() || serve(&mut regs, *access) != *answer {
+            return false;
+        }
+    }
+    true
+}
+
 #[test]
 fn answers_reads_writes_and_locks(rt: HostRuntime) {
     let table = [
@@ -80,11 +91,7 @@ fn answers_reads_writes_and_locks(rt: HostRuntime) {
         (read(BANDWIDTH), reply(0, 4915)),
         (read(BUS_MANAGER_ID), reply(0, 0x3F)),
     ];
-    let mut regs = Registers::new();
-    for (access, answer) in table {
-        assert!(rt; access.is_permitted());
-        assert_eq!(rt; serve(&mut regs, access), answer, "at {access:?}");
-    }
+    assert!(rt; answers_are(&table));
 }
 
 #[test]
@@ -129,11 +136,7 @@ fn grants_by_what_was_seen(rt: HostRuntime) {
             }),
         ),
     ];
-    let mut regs = Registers::new();
-    for (access, answer) in table {
-        assert!(rt; access.is_permitted());
-        assert_eq!(rt; serve(&mut regs, access), answer, "at {access:?}");
-    }
+    assert!(rt; answers_are(&table));
 }
 
 #[test]
@@ -142,5 +145,5 @@ fn serves_a_list(rt: HostRuntime) {
     let mut answers = [Answer::Done; 3];
     assert!(rt; are_permitted(&accesses));
     serve_all(&mut Registers::new(), &accesses, &mut answers);
-    assert_eq!(rt; answers, [reply(0, 4915), Answer::Done, reply(0, 4915)]);
+    assert!(rt; answers == [reply(0, 4915), Answer::Done, reply(0, 4915)]);
 }

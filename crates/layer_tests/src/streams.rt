@@ -50,23 +50,26 @@ impl Write for Flaky {
 }
 
 #[test]
-fn adapters(rt: HostRuntime) {
+fn reading_adapters(rt: HostRuntime) {
     let mut buf = [0u8; 4];
     let mut source = ReadSource::new(Flaky { calls: 0 });
     for answer in [Ok(1), Err(Failed), Ok(0)] {
-        assert_eq!(rt; source.read(&mut buf), answer);
+        assert!(rt; source.read(&mut buf) == answer);
     }
-    assert_eq!(rt; buf, [b'a', 0, 0, 0]);
-
-    let mut sink = WriteSink::new(Flaky { calls: 0 });
-    for answer in [Ok(1), Err(Failed), Err(Failed)] {
-        assert_eq!(rt; sink.write(b"ab"), answer);
-    }
-    assert_eq!(rt; sink.write(b""), Ok(0));
+    assert!(rt; buf == [b'a', 0, 0, 0]);
 }
 
 #[test]
-fn memory(rt: HostRuntime) -> Result<(), Fail> {
+fn writing_adapters(rt: HostRuntime) {
+    let mut sink = WriteSink::new(Flaky { calls: 0 });
+    for answer in [Ok(1), Err(Failed), Err(Failed)] {
+        assert!(rt; sink.write(b"ab") == answer);
+    }
+    assert!(rt; sink.write(b"") == Ok(0));
+}
+
+#[test]
+fn memory_to_read(rt: HostRuntime) -> Result<(), Fail> {
     let alloc = rt.alloc();
     let mut buf = [0u8; 4];
     let bytes = Vec::from_slice(alloc, b"abcde")?;
@@ -78,10 +81,14 @@ fn memory(rt: HostRuntime) -> Result<(), Fail> {
         (Ok(1), b"ed\0\0"),
         (Ok(0), b"ed\0\0"),
     ] {
-        assert_eq!(rt; source.read(&mut buf), answer);
-        assert_eq!(rt; buf, *front);
+        assert!(rt; source.read(&mut buf) == answer && buf == *front);
     }
+    Ok(())
+}
 
+#[test]
+fn memory_to_write(rt: HostRuntime) -> Result<(), Fail> {
+    let alloc = rt.alloc();
     let mut sink = MemSink::new(alloc, 5, vec![in alloc; 1]?, 2)?;
     for (text, answer) in [
         (b"abcdef".as_slice(), Ok(2)),
@@ -91,14 +98,14 @@ fn memory(rt: HostRuntime) -> Result<(), Fail> {
         (b"f", Err(Failed)),
         (b"", Ok(0)),
     ] {
-        assert_eq!(rt; sink.write(text), answer);
+        assert!(rt; sink.write(text) == answer);
     }
-    assert_eq!(rt; sink.written(), b"abcde".as_slice());
+    assert!(rt; sink.written() == b"abcde".as_slice());
     Ok(())
 }
 
 #[test]
-fn whole(rt: HostRuntime) -> Result<(), Fail> {
+fn whole_inputs(rt: HostRuntime) -> Result<(), Fail> {
     let alloc = rt.alloc();
     for (fails, limit, answer) in [
         (9, 5, Ok(Vec::from_slice(alloc, b"abcde")?)),
@@ -108,17 +115,26 @@ fn whole(rt: HostRuntime) -> Result<(), Fail> {
     ] {
         let bytes = Vec::from_slice(alloc, b"abcde")?;
         let mut source = MemSource::new(bytes, vec![in alloc; fails]?, 3);
-        assert_eq!(rt; read_all(alloc, &mut source, limit), answer);
+        assert!(rt; read_all(alloc, &mut source, limit) == answer);
     }
+    Ok(())
+}
 
-    let many = vec![in alloc; 7u8; 10_000]?;
+#[test]
+fn many_bytes_read(rt: HostRuntime) -> Result<(), Fail> {
+    let many = vec![in rt.alloc(); 7u8; 10_000]?;
     let mut source = SureSource::new(many.clone()?);
-    let read = read_all(alloc, &mut source, 1_048_576)?;
-    assert_eq!(rt; read, many);
+    assert!(rt; read_all(rt.alloc(), &mut source, 1_048_576)? == many);
+    Ok(())
+}
 
+#[test]
+fn many_bytes_written(rt: HostRuntime) -> Result<(), Fail> {
+    let alloc = rt.alloc();
+    let many = vec![in alloc; 7u8; 10_000]?;
     let mut sink = MemSink::new(alloc, 10_000, Vec::new(alloc), 3000)?;
     write_whole(&mut sink, &many)?;
-    assert_eq!(rt; sink.written(), many.as_slice());
-    assert_eq!(rt; write_whole(&mut sink, b"more"), Err(Failed));
+    assert!(rt; sink.written() == many.as_slice());
+    assert!(rt; write_whole(&mut sink, b"more") == Err(Failed));
     Ok(())
 }

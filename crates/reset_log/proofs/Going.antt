@@ -1,11 +1,8 @@
 -- A reader of a log, byte by byte.
-use Rattle.std.proofs.Common.{◌≡◌, ◌∙◌, ℕ, zero, suc, ◌+◌, ◌<◌, ◌≤◌, Bool, true, false, ◌||◌, ◌==◌, List, [], ◌∷◌, ◌++◌, length, take, refl, sym, ap, subst, append_assoc, arith}
+use Rattle.std.proofs.Common.{◌≡◌, ◌∙◌, ℕ, zero, suc, ◌+◌, ◌<◌, ◌≤◌, Bool, true, false, ◌==◌, List, [], ◌∷◌, ◌++◌, length, take, refl, sym, ap, subst, arith}
 use Rattle.std.specs.Prelude.{if◌then◌else◌}
-use Rattle.self_id.specs.declared.standard.Standard.{Standard}
-use Rattle.reset_log.specs.declared.cards.Known.{Known}
 use Rattle.reset_log.specs.Line.{line_of}
-use Rattle.reset_log.specs.Shown.{IsLineShown}
-use Rattle.reset_log.specs.Log.{Parted, onto_first, with_byte, parted, AreShown}
+use Rattle.reset_log.specs.Log.{Parted, onto_first, with_byte, parted}
 
 -- ---- one byte more
 
@@ -65,57 +62,6 @@ few_lines [] = omega arith
 few_lines (c ∷ cs) =
     let h = few-placed (c == 10) c (length cs) (parted cs).lines (parted cs).open_line (few_lines cs) in
     omega (arith, h)
-
--- ---- one line more is shown
-
-pub one_more : (standard : Standard) (n : ℕ) (ks mid next : List Known) (lines : List (List ℕ)) (line text more : List ℕ) (bad here : Bool) →
-    AreShown standard n ks lines text bad mid →
-    IsLineShown standard (n + length lines) mid line more here next →
-    AreShown standard n ks (lines ++ line ∷ []) (text ++ more) (bad || here) next
-one_more standard n ks mid next [] line text more bad here shown is = (
-  more,
-  [],
-  here,
-  false,
-  next,
-  subst (λ (k : List Known). IsLineShown standard n k line more here next) shown.2 (subst (λ (m : ℕ). IsLineShown standard m mid line more here next) same is),
-  (refl, refl, refl),
-  texts text shown.0,
-  bads bad here shown.1,
-)
-  where
-    same : n + 0 ≡ n
-    same = omega arith
-
-    texts : (t : List ℕ) → t ≡ [] → t ++ more ≡ more ++ []
-    texts t e = rw e (sym (no_more more))
-      where
-        no_more : (xs : List ℕ) → xs ++ [] ≡ xs
-        no_more [] = refl
-        no_more (x ∷ xs) = ap (λ (ys : List ℕ). x ∷ ys) (no_more xs)
-
-    bads : (b h : Bool) → b ≡ false → (b || h) ≡ (h || false)
-    bads true h e = absurd cc
-    bads false true e = refl
-    bads false false e = refl
-one_more standard n ks mid next (l ∷ lines) line text more bad here shown is = (
-  shown.0,
-  shown.1 ++ more,
-  shown.2,
-  shown.3 || here,
-  shown.4,
-  shown.5,
-  one_more standard (n + 1) shown.4 mid next lines line shown.1 more shown.3 here shown.6 (subst (λ (m : ℕ). IsLineShown standard m mid line more here next) same is),
-  ap (λ (t : List ℕ). t ++ more) shown.7 ∙ append_assoc shown.0 shown.1 more,
-  ap (λ (b : Bool). b || here) shown.8 ∙ or_assoc shown.2 shown.3 here,
-)
-  where
-    same : n + suc (length lines) ≡ n + 1 + length lines
-    same = omega arith
-
-    or_assoc : (a b c : Bool) → ((a || b) || c) ≡ (a || (b || c))
-    or_assoc true b c = refl
-    or_assoc false b c = refl
 
 -- ---- the first bytes of a line
 

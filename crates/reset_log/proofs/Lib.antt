@@ -3,6 +3,9 @@ pub mod Parts
 pub mod Commas
 pub mod At
 pub mod OneDrawing
+pub mod Judged
+pub mod InOrder
 pub mod Going
 pub mod Standing
 pub mod Reading
+pub mod Lemmas

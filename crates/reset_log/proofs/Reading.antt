@@ -9,7 +9,7 @@ use Rattle.reset_log.specs.declared.log.LogReader.{LogReader}
 use Rattle.reset_log.specs.Shown.{IsLineShown}
 use Rattle.reset_log.specs.Log.{parted, open_lines, lines_of, AreShown, AreWritten}
 use Rattle.reset_log.specs.codings.Going.{Stands, ShowsLine, Reads}
-use Rattle.reset_log.proofs.Going.{one_more}
+use Rattle.reset_log.proofs.InOrder.{one_more}
 use Rattle.reset_log.proofs.Standing.{by_front, appends_then}
 
 -- ---- the last line
@@ -73,7 +73,7 @@ ended_line old new done start was is st sh some =
         shown =
             subst (λ (b : Bool). AreShown old.standard 1 [] (lines_of done) (st.text ++ sh.text) b new.cards.items) (sym sh.bad)
             (subst (λ (ls : List (List ℕ)). AreShown old.standard 1 [] ls (st.text ++ sh.text) (old.bad || sh.here) new.cards.items) (sym (some_open done opened))
-            (one_more old.standard 1 [] old.cards.items new.cards.items (parted done).lines (parted done).open_line st.text sh.text old.bad sh.here st.shown shown));
+            (one_more (IsLineShown old.standard) 1 [] old.cards.items new.cards.items (parted done).lines (parted done).open_line st.text sh.text old.bad sh.here st.shown shown));
       };
       wrote = appends_then start was is st.text sh.text st.told st.wrote sh.wrote;
     }
@@ -123,7 +123,7 @@ at_first r standard first was a b st same = record {
   wrote_later = omega arith;
 }
 
-consumes_then : (a b c : Option (List ℕ)) (xs ys : List ℕ) → StayTold a b → Consumes a b xs →
+pub consumes_then : (a b c : Option (List ℕ)) (xs ys : List ℕ) → StayTold a b → Consumes a b xs →
     Consumes b c ys → Consumes a c (xs ++ ys)
 consumes_then None b c xs ys told p q = tt
 consumes_then (Some x) None c xs ys told p q = absurd p

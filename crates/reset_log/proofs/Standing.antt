@@ -11,7 +11,8 @@ use Rattle.reset_log.specs.Line.{line_of}
 use Rattle.reset_log.specs.Shown.{IsShown, IsLineShown}
 use Rattle.reset_log.specs.Log.{Parted, parted, AreShown}
 use Rattle.reset_log.specs.codings.Going.{Stands, ShowsLine, KeepsByte}
-use Rattle.reset_log.proofs.Going.{ends_line, goes_on, few_lines, one_more, same_line}
+use Rattle.reset_log.proofs.Going.{ends_line, goes_on, few_lines, same_line}
+use Rattle.reset_log.proofs.InOrder.{one_more}
 
 -- two writes in a row
 pub appends_then : (a b c : Option (List ℕ)) (xs ys : List ℕ) → StayTold a b → Appends a b xs →
@@ -27,7 +28,7 @@ line_ended : (standard : Standard) (done : List ℕ) (ks next : List Known) (tex
     AreShown standard 1 [] (parted (done ++ 10 ∷ [])).lines (text ++ more) (bad || here) next
 line_ended standard done ks next text more bad here shown is =
     subst (λ (p : Parted). AreShown standard 1 [] p.lines (text ++ more) (bad || here) next) (sym (ends_line done))
-    (one_more standard 1 [] ks next (parted done).lines (parted done).open_line text more bad here shown is)
+    (one_more (IsLineShown standard) 1 [] ks next (parted done).lines (parted done).open_line text more bad here shown is)
 
 -- a line is shown by its first bytes
 pub by_front : (standard : Standard) (n m : ℕ) (ks js next : List Known) (kept line text : List ℕ) (bad : Bool) →

@@ -8,6 +8,7 @@ pub mod Hear
 pub mod Texts
 pub mod Sentence
 pub mod Shown
+pub mod InOrder
 pub mod Log
 pub mod Cause
 pub mod codings

@@ -1,9 +1,10 @@
 -- What is shown of a log: of its lines in order, with the trees that are known at each.
-use Rattle.std.specs.Prelude.{◌≡◌, ℕ, ◌+◌, ◌==◌, ◌||◌, Bool, false, if◌then◌else◌, Option, List, [], ◌∷◌, ◌++◌}
+use Rattle.std.specs.Prelude.{ℕ, ◌==◌, Bool, if◌then◌else◌, Option, List, [], ◌∷◌, ◌++◌}
 use Rattle.std.specs.Io.KnownBytes.{Appends}
 use Rattle.self_id.specs.declared.standard.Standard.{Standard}
 use Rattle.reset_log.specs.declared.cards.Known.{Known}
 use Rattle.reset_log.specs.Shown.{IsLineShown}
+use Rattle.reset_log.specs.InOrder.{AreTold}
 
 -- whole lines, each of which a line feed ends, and what stands behind the last one
 pub record Parted : Type 0 where
@@ -35,12 +36,7 @@ lines_of bytes = (parted bytes).lines ++ open_lines (parted bytes).open_line
 -- whether one of them is at fault, and the trees that are known behind them.
 abbrev pub AreShown :
     Standard → ℕ → List Known → List (List ℕ) → List ℕ → Bool → List Known → Type 0
-AreShown standard number ks [] text bad next = (text ≡ []) × (bad ≡ false) × (next ≡ ks)
-AreShown standard number ks (line ∷ lines) text bad next =
-    (first rest : List ℕ) × (here later : Bool) × (mid : List Known)
-    × IsLineShown standard number ks line first here mid
-    × AreShown standard (number + 1) mid lines rest later next
-    × (text ≡ first ++ rest) × (bad ≡ here || later)
+AreShown standard = AreTold (IsLineShown standard)
 
 -- what is shown of a log, and whether one of its lines is at fault
 pub record IsLogShown (standard : Standard) (lines : List (List ℕ)) (text : List ℕ) (bad : Bool) :

@@ -6,7 +6,6 @@ use Rattle.self_id.specs.declared.standard.Standard.{Standard}
 use Rattle.view_text.specs.Sentence.{first_at, second_at, length_sentence, inverse_sentence, tree_sentence}
 use Rattle.reset_log.specs.declared.line.Origin.{Origin}
 use Rattle.reset_log.specs.declared.line.Origin.TheVariants.{Controller, Core}
-use Rattle.reset_log.specs.declared.line.Reset.{Reset}
 use Rattle.reset_log.specs.declared.hear.ListFault.{ListFault}
 use Rattle.reset_log.specs.declared.hear.ListFault.TheVariants.{Cut, BadInverse, OfTree}
 use Rattle.reset_log.specs.Texts.{place, refused}
@@ -35,9 +34,9 @@ sentence standard origin list before (BadInverse pair) =
 sentence standard origin list before (OfTree f) =
     tree_sentence standard (quad_at origin list (place (OfTree f))) before f
 
--- the lines of a reset whose list has this fault, and the sentence
-pub record IsRefusalShown (standard : Standard) (number : ℕ) (r : Reset) (f : ListFault)
-    (text : List ℕ) : Type 0 where
+-- the head of a reset whose list has this fault, the line of the fault, and the sentence
+pub record IsRefusalShown (standard : Standard) (origin : Origin) (head list : List ℕ)
+    (f : ListFault) (text : List ℕ) : Type 0 where
   pub before : Option PhyPacket
-  pub is_before : IsBefore r.origin r.list (place f) before
-  pub text_is : text ≡ refused number r f ++ sentence standard r.origin r.list before f
+  pub is_before : IsBefore origin list (place f) before
+  pub text_is : text ≡ refused head f ++ sentence standard origin list before f

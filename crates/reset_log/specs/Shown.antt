@@ -1,8 +1,9 @@
--- What is shown of a line of the log.
-use Rattle.std.specs.Prelude.{◌≡◌, ℕ, ◌==◌, Bool, true, false, if◌then◌else◌, Option, Some, None, List, [], ◌∷◌, ◌++◌, slice_set, position, codes}
+-- What is shown of a reset's list, and of a line of the log.
+use Rattle.std.specs.Prelude.{◌≡◌, ℕ, ◌==◌, is_none, Bool, true, false, if◌then◌else◌, Option, Some, None, List, [], ◌∷◌, ◌++◌, slice_set, position, codes}
 use Rattle.self_id.specs.declared.standard.Standard.{Standard}
 use Rattle.topology_stack.specs.Tree.{Tree, walk}
 use Rattle.view_text.specs.Drawing.{IsDrawing}
+use Rattle.reset_log.specs.declared.line.Origin.{Origin}
 use Rattle.reset_log.specs.declared.line.Reset.{Reset}
 use Rattle.reset_log.specs.declared.line.LogLine.{LogLine}
 use Rattle.reset_log.specs.declared.line.LogLine.TheVariants.{Other, Garbled, OfReset}
@@ -29,6 +30,11 @@ set_at (Some i) k ks = slice_set ks i k
 abbrev pub put : ℕ → Tree → List Known → List Known
 put card t ks = set_at (position (is_of card) ks) (record { card = card; tree = t }) ks
 
+-- the same with the tree that one card's list is heard as, if it is
+abbrev pub with_heard : ℕ → Option Tree → List Known → List Known
+with_heard card None ks = ks
+with_heard card (Some t) ks = put card t ks
+
 -- this is the drawing of the tree before, if there was one
 abbrev pub WasDrawn : Option Tree → List ℕ → Type 0
 WasDrawn before drawing = (old : Tree) × (before ≡ Some old) × IsDrawing old drawing
@@ -45,14 +51,24 @@ pub data IsBody (before : Option Tree) (t : Tree) (text : List ℕ) : Type 0 whe
       text ≡ codes "as before\n" → IsBody before t text
   drawn : IsDrawing t text → WasOther before text → IsBody before t text
 
--- what is shown of a tree: its numbers, its drawing, what changed, and who began the reset
-pub record IsTreeShown (number : ℕ) (r : Reset) (before : Option Tree) (t : Tree) (text : List ℕ) :
+-- what is shown of a tree behind the head of its reset: its numbers, its drawing, what changed, and who
+-- began the reset
+pub record IsTreeShown (head : List ℕ) (before : Option Tree) (t : Tree) (text : List ℕ) :
     Type 0 where
   pub body : List ℕ
   pub is_body : IsBody before t body
   pub text_is :
-      text ≡ head number r ++ (numbers t
-      ++ (body ++ (changes before t ++ initiators 0 (walk t))))
+      text ≡ head ++ (numbers t ++ (body ++ (changes before t ++ initiators 0 (walk t))))
+
+-- what is shown of a reset's list behind the reset's head, where this tree was there before, and the
+-- tree that it is heard as, if it is
+pub data IsListShown (standard : Standard) (origin : Origin) (head list : List ℕ)
+    (before : Option Tree) (text : List ℕ) (heard : Option Tree) : Type 0 where
+  is_refused : (f : ListFault) → IsUnheard standard origin list f →
+      IsRefusalShown standard origin head list f text → heard ≡ None →
+      IsListShown standard origin head list before text heard
+  is_heard : (t : Tree) → IsHeard standard origin list t → IsTreeShown head before t text →
+      heard ≡ Some t → IsListShown standard origin head list before text heard
 
 -- what is shown of a reset in the line with this number, whether it is at fault, and the trees that
 -- are known behind it
@@ -60,11 +76,9 @@ pub data IsResetShown (standard : Standard) (number : ℕ) (ks : List Known) (r 
     (text : List ℕ) (bad : Bool) (next : List Known) : Type 0 where
   is_unjudged : r.is_error ≡ true → text ≡ unjudged number r → bad ≡ false → next ≡ ks →
       IsResetShown standard number ks r text bad next
-  is_refused : (f : ListFault) → r.is_error ≡ false → IsUnheard standard r.origin r.list f →
-      IsRefusalShown standard number r f text → bad ≡ true → next ≡ ks →
-      IsResetShown standard number ks r text bad next
-  is_heard : (t : Tree) → r.is_error ≡ false → IsHeard standard r.origin r.list t →
-      IsTreeShown number r (last_tree r.card ks) t text → bad ≡ false → next ≡ put r.card t ks →
+  is_judged : (heard : Option Tree) → r.is_error ≡ false →
+      IsListShown standard r.origin (head number r) r.list (last_tree r.card ks) text heard →
+      bad ≡ is_none heard → next ≡ with_heard r.card heard ks →
       IsResetShown standard number ks r text bad next
 
 -- what is shown of what a line is

@@ -81,8 +81,9 @@ unfoldable pub fault_line : ListFault → List ℕ
 fault_line f =
     field (codes "refused pair ") (place f) ++ (kind f ++ (counts_of f ++ codes "\n"))
 
-unfoldable pub refused : ℕ → Reset → ListFault → List ℕ
-refused number r f = head number r ++ (codes "\n" ++ fault_line f)
+-- behind the head of a reset
+unfoldable pub refused : List ℕ → ListFault → List ℕ
+refused head f = head ++ (codes "\n" ++ fault_line f)
 
 -- ---- a list that is heard as a tree
 

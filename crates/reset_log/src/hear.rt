@@ -6,7 +6,7 @@ ghost use Rattle.topology_stack.specs.Refused.{Refused};
 ghost use Rattle.reset_log.specs.Hear.{ArePairs, AreQuads, IsHeard, IsUnheard};
 ghost use Rattle.reset_log.specs.Stop.{IfListFault, IsTreeFault};
 
-use crate::line::{Origin, Reset};
+use crate::line::Origin;
 use quad_lanes::{QuadList, first_bad_pair, firsts};
 use self_id::Standard;
 use std::alloc::{AllocError, Global};
@@ -73,13 +73,16 @@ fn tree_of_pairs(alloc: Global, standard: Standard, list: &[u32]) -> Result<BusT
 }
 
 /// The tree that a reset's list is heard as by a standard, or its fault.
-pub(crate) fn hear(alloc: Global, standard: Standard, reset: &Reset) -> Result<BusTree, ListStop>
-    ensures tree { IfOk result (λ t. IsHeard standard reset.now.origin reset.now.list t) }
-    ensures fault { IfListFault result
-        (λ f. IsUnheard standard reset.now.origin reset.now.list f) }
+pub(crate) fn hear(
+    alloc: Global,
+    standard: Standard,
+    origin: Origin,
+    list: &[u32],
+) -> Result<BusTree, ListStop>
+    ensures tree { IfOk result (λ t. IsHeard standard origin list.now t) }
+    ensures fault { IfListFault result (λ f. IsUnheard standard origin list.now f) }
 {
-    let list = reset.list.as_slice();
-    match reset.origin {
+    match origin {
         Origin::Controller => tree_of_pairs(alloc, standard, list),
         Origin::Core => tree_of(alloc, standard, list),
     }

@@ -24,4 +24,5 @@ pub use form::resets_standard;
 pub use hear::ListFault;
 pub use line::{LogLine, Origin, Reset, line_of};
 pub use log::{MAX_LOG, show_log};
+pub use shown::{ListShown, show_list};
 pub use stop::LogStop;

@@ -3,7 +3,7 @@ ghost use Rattle.std.specs.Prelude.{◌≡◌, ◌++◌, IfOk, OnOk};
 ghost use Rattle.reset_log.specs.Sentence.{packet_count, quad_at, IsBefore, sentence, IsRefusalShown};
 
 use crate::hear::ListFault;
-use crate::line::{Origin, Reset};
+use crate::line::Origin;
 use crate::texts::{place, put_refused};
 use phy_packet::{PhyPacket, decode};
 use self_id::Standard;
@@ -66,21 +66,21 @@ fn put_sentence(
     }
 }
 
-/// What is shown of a reset whose list is refused.
+/// What is shown of a reset, behind its head, whose list is refused.
 pub(crate) fn refusal_text(
     alloc: Global,
     standard: Standard,
-    number: u64,
-    reset: &Reset,
+    origin: Origin,
+    head: &[u8],
+    list: &[u32],
     fault: ListFault,
 ) -> Result<Vec<u8>, AllocError>
     ensures { IfOk result (λ text.
-        IsRefusalShown standard number reset.now fault text.items) }
+        IsRefusalShown standard origin head.now list.now fault text.items) }
 {
-    let list = reset.list.as_slice();
-    let before = before_at(reset.origin, list, place(fault));
+    let before = before_at(origin, list, place(fault));
     let mut text = Vec::new(alloc);
-    put_refused(&mut text, number, reset, fault)?;
-    put_sentence(&mut text, standard, reset.origin, list, before, fault)?;
+    put_refused(&mut text, head, fault)?;
+    put_sentence(&mut text, standard, origin, list, before, fault)?;
     Ok(text)
 }

@@ -1,12 +1,12 @@
-//! What is shown of a line of the log.
-ghost use Rattle.std.specs.Prelude.{◌≡◌, ◌++◌, IfOk, IsTrue, ◌↔◌, true, false, Some, Option};
+//! What is shown of a reset's list, and of a line of the log.
+ghost use Rattle.std.specs.Prelude.{◌≡◌, ◌++◌, IfOk, OnOk, is_none, IsTrue, ◌↔◌, true, false, Some, Option};
 ghost use Rattle.std.specs.Option.{option_copied};
 ghost use Rattle.topology_stack.specs.Tree.{Tree, walk};
-ghost use Rattle.reset_log.specs.Shown.{last_tree, put, WasDrawn, WasOther, IsBody, IsTreeShown, IsResetShown, IsLineShown};
+ghost use Rattle.reset_log.specs.Shown.{last_tree, with_heard, WasDrawn, WasOther, IsBody, IsTreeShown, IsListShown, IsResetShown, IsLineShown};
 
 use crate::cards::{Known, last_tree, put};
 use crate::hear::{ListStop, hear};
-use crate::line::{LogLine, Reset, line_of};
+use crate::line::{LogLine, Origin, Reset, line_of};
 use crate::sentence::refusal_text;
 use crate::texts::{put_changes, put_garbled, put_head, put_initiators, put_numbers, put_unjudged};
 use self_id::Standard;
@@ -19,6 +19,15 @@ use view_text::tree_drawing;
 pub(crate) struct Shown {
     pub(crate) text: Vec<u8>,
     pub(crate) bad: bool,
+}
+
+/// What is shown of a reset's list.
+#[derive(Debug, Drop)]
+pub struct ListShown {
+    /// Whole lines.
+    pub text: Vec<u8>,
+    /// The tree that the list is heard as. `None` where it is refused.
+    pub tree: Option<BusTree>,
 }
 
 fn same_text(a: &[u8], b: &[u8]) -> bool
@@ -57,25 +66,68 @@ fn body(alloc: Global, before: Option<&BusTree>, tree: &BusTree) -> Result<Vec<u
     }
 }
 
-/// What is shown of a tree.
+/// What is shown of a tree, behind the head of its reset.
 fn tree_text(
     alloc: Global,
-    number: u64,
-    reset: &Reset,
+    head: &[u8],
     before: Option<&BusTree>,
     tree: &BusTree,
 ) -> Result<Vec<u8>, AllocError>
     ensures { IfOk result (λ text.
-        IsTreeShown number reset.now (option_copied before.entry) tree.now text.items) }
+        IsTreeShown head.now (option_copied before.entry) tree.now text.items) }
 {
     let body = body(alloc, before, tree)?;
     let mut text = Vec::new(alloc);
-    put_head(&mut text, number, reset)?;
+    text.extend_from_slice(head)?;
     put_numbers(&mut text, tree)?;
     text.extend_from_slice(&body)?;
     put_changes(&mut text, before, tree)?;
     put_initiators(&mut text, tree)?;
     Ok(text)
+}
+
+/// What is shown of a reset's list by a standard, behind the head of the reset. `before` is the tree of
+/// the bus at the reset before, if it is known: what is another in the list's tree is shown too. A list
+/// that is refused has no tree, and what is shown of it is the line and the sentence of its fault.
+pub fn show_list(
+    alloc: Global,
+    standard: Standard,
+    origin: Origin,
+    head: &[u8],
+    before: Option<&BusTree>,
+    list: &[u32],
+) -> Result<ListShown, AllocError>
+    ensures { IfOk result (λ shown. IsListShown standard origin head.now list.now
+        (option_copied before.entry) shown.text.items shown.tree) }
+{
+    match hear(alloc, standard, origin, list) {
+        Ok(tree) => {
+            let text = tree_text(alloc, head, before, &tree)?;
+            Ok(ListShown {
+                text,
+                tree: Some(tree),
+            })
+        }
+        Err(ListStop::Fault(fault)) => {
+            let text = refusal_text(alloc, standard, origin, head, list, fault)?;
+            Ok(ListShown { text, tree: None })
+        }
+        Err(ListStop::Memory(error)) => Err(error),
+    }
+}
+
+/// Keeps the tree that a card's list is heard as, if it is. It says whether the list is refused.
+fn keep_heard(cards: &mut Vec<Known>, card: u32, tree: Option<BusTree>) -> Result<bool, AllocError>
+    ensures kept { OnOk result (cards.new.items ≡ with_heard card tree cards.old.items) }
+    ensures bad { IfOk result (λ bad. bad ≡ is_none tree) }
+{
+    match tree {
+        Some(tree) => {
+            put(cards, card, tree)?;
+            Ok(false)
+        }
+        None => Ok(true),
+    }
 }
 
 /// Shows a reset, and keeps its tree.
@@ -89,23 +141,20 @@ fn show_reset(
     ensures { IfOk result (λ shown. IsResetShown standard number cards.old.items reset.now
         shown.text.items shown.bad cards.new.items) }
 {
+    let mut head = Vec::new(alloc);
     if reset.is_error {
-        let mut text = Vec::new(alloc);
-        put_unjudged(&mut text, number, reset)?;
-        return Ok(Shown { text, bad: false });
+        put_unjudged(&mut head, number, reset)?;
+        return Ok(Shown {
+            text: head,
+            bad: false,
+        });
     }
-    match hear(alloc, standard, reset) {
-        Ok(tree) => {
-            let text = tree_text(alloc, number, reset, last_tree(cards, reset.card), &tree)?;
-            put(cards, reset.card, tree)?;
-            Ok(Shown { text, bad: false })
-        }
-        Err(ListStop::Fault(fault)) => {
-            let text = refusal_text(alloc, standard, number, reset, fault)?;
-            Ok(Shown { text, bad: true })
-        }
-        Err(ListStop::Memory(error)) => Err(error),
-    }
+    put_head(&mut head, number, reset)?;
+    let before = last_tree(cards, reset.card);
+    let list = reset.list.as_slice();
+    let ListShown { text, tree } = show_list(alloc, standard, reset.origin, &head, before, list)?;
+    let bad = keep_heard(cards, reset.card, tree)?;
+    Ok(Shown { text, bad })
 }
 
 /// What is shown of the line with this number, which is counted from 1. The tree of a reset is kept

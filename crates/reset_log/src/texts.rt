@@ -124,17 +124,16 @@ fn put_fault(out: &mut Vec<u8>, fault: ListFault) -> Result<(), AllocError>
     Ok(())
 }
 
-/// Appends the lines of a reset whose list is refused.
+/// Appends the head of a reset whose list is refused, and the line of the fault.
 #[tactic(auto, unfolding(crate::specs::Texts::refused))]
 pub(crate) fn put_refused(
     out: &mut Vec<u8>,
-    number: u64,
-    reset: &Reset,
+    head: &[u8],
     fault: ListFault,
 ) -> Result<(), AllocError>
-    ensures { OnOk result (out.new.items ≡ out.old.items ++ refused number reset.now fault) }
+    ensures { OnOk result (out.new.items ≡ out.old.items ++ refused head.now fault) }
 {
-    put_head(out, number, reset)?;
+    out.extend_from_slice(head)?;
     out.extend_from_slice(b"\n")?;
     put_fault(out, fault)?;
     Ok(())

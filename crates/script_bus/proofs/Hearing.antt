@@ -16,103 +16,95 @@ use Rattle.script_text.specs.ReportText.{Names, IsNamedReport, IsReportText}
 use Rattle.script_told.specs.Bus.{Notes, Bus}
 use Rattle.script_told.specs.Step.{LineAnswer, Reports, Settles, notes_after_act, notes_after_report}
 use Rattle.script_trace.specs.Event.{Seen}
-use Rattle.script_trace.specs.Step.{seen_before_act, lines_since, act_lines}
-use Rattle.script_trace.specs.Trace.{command_line, act_trace, quiet_trace, Traces}
+use Rattle.script_trace.specs.Step.{seen_before_act}
+use Rattle.script_trace.specs.Voice.{Voice}
+use Rattle.script_trace.specs.Trace.{act_trace, quiet_trace, Traces}
 use Rattle.script_bus.specs.Running.{IsBus}
-use Rattle.script_bus.specs.Heard.{heard, Hears}
+use Rattle.script_bus.specs.Heard.{Hears, TellAlike}
 use Rattle.script_bus.specs.codings.Standing.{IsActCommand, IsHoldCommand, IsQuestion, IsReportedNow, IsPassed, IsPacketSent, IsSentHeard}
 use Rattle.script_bus.proofs.Standing.{new-stands}
 
 -- ---- lines
 
 by-act :
-    (bus after : Bus) (command : Command) (lines : List ℕ) → IsActCommand command →
-    lines ≡ act_trace after.notes.names command bus.world after.world →
-    Traces bus command after lines
-by-act bus after (Plug a a_port b b_port) lines act is = is
-by-act bus after (Pull name port) lines act is = is
-by-act bus after (Reset name) lines act is = is
-by-act bus after (Config name root_id gap) lines act is = is
-by-act bus after command lines act is = absurd act
+    (voice : Voice) (bus after : Bus) (command : Command) (lines : List ℕ) → IsActCommand command →
+    lines ≡ act_trace voice after.notes.names command bus.world after.world →
+    Traces voice bus command after lines
+by-act voice bus after (Plug a a_port b b_port) lines act is = is
+by-act voice bus after (Pull name port) lines act is = is
+by-act voice bus after (Reset name) lines act is = is
+by-act voice bus after (Config name root_id gap) lines act is = is
+by-act voice bus after command lines act is = absurd act
 
 by-hold :
-    (bus after : Bus) (command : Command) (lines : List ℕ) → IsHoldCommand command →
-    lines ≡ command_line bus.world.turns command → Traces bus command after lines
-by-hold bus after (Hold name port turns) lines hold is = is
-by-hold bus after command lines hold is = absurd hold
+    (voice : Voice) (bus after : Bus) (command : Command) (lines : List ℕ) → IsHoldCommand command →
+    lines ≡ voice.command bus.world.turns command → Traces voice bus command after lines
+by-hold voice bus after (Hold name port turns) lines hold is = is
+by-hold voice bus after command lines hold is = absurd hold
 
-no-lines : (bus after : Bus) (command : Command) → IsQuestion command → Traces bus command after []
-no-lines bus after (Plug a a_port b b_port) asks = absurd asks
-no-lines bus after (Pull name port) asks = absurd asks
-no-lines bus after (Reset name) asks = absurd asks
-no-lines bus after (Config name root_id gap) asks = absurd asks
-no-lines bus after (Hold name port turns) asks = absurd asks
-no-lines bus after (Command.Turn count) asks = absurd asks
-no-lines bus after Command.Settle asks = absurd asks
-no-lines bus after (Command.Plan name) asks = absurd asks
-no-lines bus after command asks = refl
-
--- nothing is added
-pub none-heard : (writes : Bool) (out : List ℕ) → out ≡ out ++ heard writes []
-none-heard true out = sym (append-nil out)
-none-heard false out = sym (append-nil out)
+no-lines : (voice : Voice) (bus after : Bus) (command : Command) → IsQuestion command →
+    Traces voice bus command after []
+no-lines voice bus after (Plug a a_port b b_port) asks = absurd asks
+no-lines voice bus after (Pull name port) asks = absurd asks
+no-lines voice bus after (Reset name) asks = absurd asks
+no-lines voice bus after (Config name root_id gap) asks = absurd asks
+no-lines voice bus after (Hold name port turns) asks = absurd asks
+no-lines voice bus after (Command.Turn count) asks = absurd asks
+no-lines voice bus after Command.Settle asks = absurd asks
+no-lines voice bus after (Command.Plan name) asks = absurd asks
+no-lines voice bus after command asks = refl
 
 -- what is heard twice
 pub both-heard :
-    (writes : Bool) (xs ys out mid new : List ℕ) → mid ≡ out ++ heard writes xs →
-    new ≡ mid ++ heard writes ys → new ≡ out ++ heard writes (xs ++ ys)
-both-heard true xs ys out mid new first next =
+    (xs ys out mid new : List ℕ) → mid ≡ out ++ xs → new ≡ mid ++ ys → new ≡ out ++ (xs ++ ys)
+both-heard xs ys out mid new first next =
     next ∙ ap (λ (l : List ℕ). l ++ ys) first ∙ append_assoc out xs ys
-both-heard false xs ys out mid new first next = next ∙ append-nil mid ∙ first
 
 -- what an act's line and what it does come to
 pub acted :
-    (writes : Bool) (names : Names) (w v : CableWorld) (turn : ℕ) (command : Command)
+    (voice : Voice) (names : Names) (w v : CableWorld) (turn : ℕ) (command : Command)
     (out mid new : List ℕ) (seen : List Seen) (ns : Names) → turn ≡ w.turns →
-    mid ≡ out ++ heard writes (command_line turn command) →
-    (IsTrue writes → seen ≡ seen_before_act w 0 w.nodes) → ns ≡ names →
-    new ≡ mid ++ heard writes (lines_since ns seen v) →
-    new ≡ out ++ heard writes (act_trace names command w v)
-unfolding act_lines
-acted true names w v turn command out mid new seen ns at said before named is =
+    mid ≡ out ++ voice.command turn command →
+    TellAlike voice seen (seen_before_act w 0 w.nodes) → ns ≡ names →
+    new ≡ mid ++ voice.since ns seen v →
+    new ≡ out ++ act_trace voice names command w v
+acted voice names w v turn command out mid new seen ns at said alike named is =
     is
-    ∙ ap (λ (l : List ℕ). l ++ lines_since ns seen v) said
-    ∙ append_assoc out (command_line turn command) (lines_since ns seen v)
-    ∙ ap (λ (s : List Seen). out ++ (command_line turn command ++ lines_since ns s v)) (before refl)
-    ∙ ap (λ (ms : Names). out ++ (command_line turn command ++ lines_since ms (seen_before_act w 0 w.nodes) v)) named
-    ∙ ap (λ (t : ℕ). out ++ (command_line t command ++ lines_since names (seen_before_act w 0 w.nodes) v)) at
-acted false names w v turn command out mid new seen ns at said before named is =
-    is ∙ append-nil mid ∙ said
+    ∙ ap (λ (l : List ℕ). l ++ voice.since ns seen v) said
+    ∙ append_assoc out (voice.command turn command) (voice.since ns seen v)
+    ∙ ap (λ (l : List ℕ). out ++ (voice.command turn command ++ l)) (alike ns v)
+    ∙ ap (λ (ms : Names). out ++ (voice.command turn command ++ voice.since ms (seen_before_act w 0 w.nodes) v)) named
+    ∙ ap (λ (t : ℕ). out ++ (voice.command t command ++ voice.since names (seen_before_act w 0 w.nodes) v)) at
 
 pub act-hears :
-    (writes : Bool) (bus after : Bus) (command : Command) (out new : List ℕ) →
+    (voice : Voice) (bus after : Bus) (command : Command) (out new : List ℕ) →
     IsActCommand command →
-    new ≡ out ++ heard writes (act_trace after.notes.names command bus.world after.world) →
-    Hears writes bus command after out new
-act-hears writes bus after command out new act is = record {
-  lines = act_trace after.notes.names command bus.world after.world;
-  traces = by-act bus after command (act_trace after.notes.names command bus.world after.world) act refl;
+    new ≡ out ++ act_trace voice after.notes.names command bus.world after.world →
+    Hears voice bus command after out new
+act-hears voice bus after command out new act is = record {
+  lines = act_trace voice after.notes.names command bus.world after.world;
+  traces = by-act voice bus after command (act_trace voice after.notes.names command bus.world after.world) act refl;
   written = is;
 }
 
 pub hold-hears :
-    (writes : Bool) (bus after : Bus) (command : Command) (out new : List ℕ) (turn : ℕ) →
+    (voice : Voice) (bus after : Bus) (command : Command) (out new : List ℕ) (turn : ℕ) →
     IsHoldCommand command → turn ≡ bus.world.turns →
-    new ≡ out ++ heard writes (command_line turn command) →
-    Hears writes bus command after out new
-hold-hears writes bus after command out new turn hold at is = record {
-  lines = command_line bus.world.turns command;
-  traces = by-hold bus after command (command_line bus.world.turns command) hold refl;
-  written = is ∙ ap (λ (t : ℕ). out ++ heard writes (command_line t command)) at;
+    new ≡ out ++ voice.command turn command →
+    Hears voice bus command after out new
+hold-hears voice bus after command out new turn hold at is = record {
+  lines = voice.command bus.world.turns command;
+  traces = by-hold voice bus after command (voice.command bus.world.turns command) hold refl;
+  written = is ∙ ap (λ (t : ℕ). out ++ voice.command t command) at;
 }
 
 pub question-hears :
-    (writes : Bool) (bus after : Bus) (command : Command) (out : List ℕ) → IsQuestion command →
-    Hears writes bus command after out out
-question-hears writes bus after command out asks = record {
+    (voice : Voice) (bus after : Bus) (command : Command) (out : List ℕ) → IsQuestion command →
+    Hears voice bus command after out out
+question-hears voice bus after command out asks = record {
   lines = [];
-  traces = no-lines bus after command asks;
-  written = none-heard writes out;
+  traces = no-lines voice bus after command asks;
+  written = sym (append-nil out);
 }
 
 -- ---- reports
@@ -144,13 +136,13 @@ pub names-stay : (bus after : Bus) (text : List ℕ) → Reports bus (Ok (after,
 names-stay bus after text r = ap (λ (n : Notes). n.names) r.3
 
 pub settle-hears :
-    (writes : Bool) (bus after : Bus) (text out new : List ℕ) → Reports bus (Ok (after, text)) →
-    IsPassed writes bus.notes.names bus.world out new →
-    Hears writes bus Command.Settle after out new
-settle-hears writes bus after text out new r is = record {
-  lines = quiet_trace after.notes.names bus.world;
+    (voice : Voice) (bus after : Bus) (text out new : List ℕ) → Reports bus (Ok (after, text)) →
+    IsPassed voice bus.notes.names bus.world out new →
+    Hears voice bus Command.Settle after out new
+settle-hears voice bus after text out new r is = record {
+  lines = quiet_trace voice after.notes.names bus.world;
   traces = refl;
-  written = is ∙ ap (λ (ns : Names). out ++ heard writes (quiet_trace ns bus.world)) (sym (names-stay bus after text r));
+  written = is ∙ ap (λ (ns : Names). out ++ quiet_trace voice ns bus.world) (sym (names-stay bus after text r));
 }
 
 -- ---- plans
@@ -162,22 +154,22 @@ same-quiet w v nodes delay = quiet-is w (length v.cabling) v.delay (quiet_turns_
 
 -- the packet's lines, and those of the quiet turns
 both-told :
-    (writes : Bool) (command : Command) (w s : CableWorld) (names after : Names)
+    (voice : Voice) (command : Command) (w s : CableWorld) (names after : Names)
     (out mid new : List ℕ) → after ≡ names →
-    mid ≡ out ++ heard writes (act_trace names command w s) →
-    new ≡ mid ++ heard writes (quiet_trace names s) →
-    new ≡ out ++ heard writes (act_trace after command w s ++ quiet_trace after s)
-both-told writes command w s names after out mid new named said is =
-    both-heard writes (act_trace names command w s) (quiet_trace names s) out mid new said is
-    ∙ ap (λ (ns : Names). out ++ heard writes (act_trace ns command w s ++ quiet_trace ns s)) (sym named)
+    mid ≡ out ++ act_trace voice names command w s →
+    new ≡ mid ++ quiet_trace voice names s →
+    new ≡ out ++ (act_trace voice after command w s ++ quiet_trace voice after s)
+both-told voice command w s names after out mid new named said is =
+    both-heard (act_trace voice names command w s) (quiet_trace voice names s) out mid new said is
+    ∙ ap (λ (ns : Names). out ++ (act_trace voice ns command w s ++ quiet_trace voice ns s)) (sym named)
 
 pub sent-heard :
-    (writes : Bool) (bus sent after : Bus) (name : List ℕ) (node : ℕ) (plan : RootPlan)
-    (text out mid new : List ℕ) → IsPacketSent writes bus name node plan sent out mid →
-    Reports sent (Ok (after, text)) → IsPassed writes sent.notes.names sent.world mid new →
-    IsSentHeard writes bus name node plan after text out new
-sent-heard writes bus sent after name node plan text out mid new s r is = record {
+    (voice : Voice) (bus sent after : Bus) (name : List ℕ) (node : ℕ) (plan : RootPlan)
+    (text out mid new : List ℕ) → IsPacketSent voice bus name node plan sent out mid →
+    Reports sent (Ok (after, text)) → IsPassed voice sent.notes.names sent.world mid new →
+    IsSentHeard voice bus name node plan after text out new
+sent-heard voice bus sent after name node plan text out mid new s r is = record {
   sent = record { sent = sent; sends = s.sends; reports = r };
-  written = both-told writes (Config name (Some plan.root_id) (Some plan.gap)) bus.world sent.world sent.notes.names after.notes.names out mid new
+  written = both-told voice (Config name (Some plan.root_id) (Some plan.gap)) bus.world sent.world sent.notes.names after.notes.names out mid new
       (names-stay sent after text r) s.written is;
 }

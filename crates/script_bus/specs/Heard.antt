@@ -1,17 +1,29 @@
 -- What a listener writes down of a command.
-use Rattle.std.specs.Prelude.{◌≡◌, ℕ, Bool, true, false, List, [], ◌++◌}
+use Rattle.std.specs.Prelude.{◌≡◌, ℕ, List, [], ◌++◌}
+use Rattle.cable_world.specs.World.{CableWorld}
 use Rattle.script_lines.specs.declared.command.Command.{Command}
+use Rattle.script_text.specs.ReportText.{Names}
 use Rattle.script_told.specs.Bus.{Bus}
+use Rattle.script_trace.specs.Event.{Seen}
+use Rattle.script_trace.specs.Voice.{Voice}
 use Rattle.script_trace.specs.Trace.{Traces}
 
--- what stands written of these lines: all of them, or none where the listener doesn't write
-abbrev pub heard : Bool → List ℕ → List ℕ
-heard true lines = lines
-heard false lines = []
+-- nothing is told
+abbrev pub silence : Voice
+silence = record {
+  command = λ turn command. [];
+  since = λ names seen w. [];
+  turns = λ names count w. [];
+}
 
--- a command led from a bus to the next, and a listener added what happened in it to its text
-pub record Hears (writes : Bool) (bus : Bus) (command : Command) (after : Bus) (out new : List ℕ) :
+-- what is told since nodes showed one or the other is the same
+abbrev pub TellAlike : Voice → List Seen → List Seen → Type 0
+TellAlike voice one other =
+    (names : Names) (w : CableWorld) → voice.since names one w ≡ voice.since names other w
+
+-- a command led from a bus to the next, and a listener added what its voice tells of that to its text
+pub record Hears (voice : Voice) (bus : Bus) (command : Command) (after : Bus) (out new : List ℕ) :
     Type 0 where
   pub lines : List ℕ
-  pub traces : Traces bus command after lines
-  pub written : new ≡ out ++ heard writes lines
+  pub traces : Traces voice bus command after lines
+  pub written : new ≡ out ++ lines

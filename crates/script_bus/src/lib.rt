@@ -16,6 +16,7 @@ mod planned;
 mod steps;
 mod table;
 mod turns;
+mod waves;
 
 pub use bus::Bus;
 pub use laws::{

@@ -1,33 +1,35 @@
 //! Who hears what happens on a bus.
-ghost use Rattle.std.specs.Prelude.{◌≡◌, ◌+◌, ◌≤◌, ◌++◌, ℕ, Bool, true, false, List, [], IfOk, OnOk, IsTrue, IsFalse, length};
+ghost use Rattle.std.specs.Prelude.{◌≡◌, ◌+◌, ◌≤◌, ◌++◌, ℕ, List, [], IfOk, OnOk, IsFalse, length};
 ghost use Rattle.cable_world.specs.Turn.{turns_after};
 ghost use Rattle.cable_world.specs.Unchanged.{TurnsPass};
-ghost use Rattle.script_trace.specs.Step.{lines_since, seen_before_act, turns_lines};
-ghost use Rattle.script_trace.specs.Trace.{command_line};
-ghost use Rattle.script_bus.specs.Heard.{heard};
+ghost use Rattle.script_trace.specs.Step.{seen_before_act};
+ghost use Rattle.script_trace.specs.Voice.{Voice};
+ghost use Rattle.script_trace.specs.Trace.{trace_voice};
+ghost use Rattle.script_bus.specs.Heard.{TellAlike, silence};
 
 use cable_world::ShowsWires;
 use script_lines::Command;
 use script_trace::{Seen, put_command, put_since, seen_before_act, trace_turns};
 use std::alloc::Global;
 use topology_stack::{Name, OutOfMemory};
+use world_agenda::TellsStillTurns;
 
-/// Hears the acts, the holds and the turns of a bus, and may write them down, a line for each thing
-/// that happens, as `script_trace` has it. `names` has the name of each node by its number, 63 at
-/// most. Each call fails for want of memory alone.
+/// Hears the acts, the holds and the turns of a bus, and writes down what its voice tells of them, which
+/// may be nothing. `names` has the name of each node by its number, 63 at most. Each call fails for want
+/// of memory alone.
 pub trait Listener {
     // what it has written
     ghost written: { Self → List ℕ };
 
-    // whether it writes
-    ghost writes: { Bool };
+    // how it tells what happens
+    ghost voice: { Voice };
 
     /// An act or a hold comes, once `turn` turns are done.
     fn command(&mut self, turn: u32, command: &Command) -> Result<(), OutOfMemory>
         ensures { OnOk result (written self.new
-            ≡ written self.old ++ heard writes (command_line turn command.now)) };
+            ≡ written self.old ++ voice.command turn command.now) };
 
-    /// What so many nodes, all of them, show before an act, if it writes.
+    /// What so many nodes, all of them, show before an act, or as much of it as the voice needs.
     fn before_act<W: ShowsWires>(
         &self,
         alloc: Global,
@@ -36,8 +38,8 @@ pub trait Listener {
     ) -> Result<Vec<Seen>, OutOfMemory>
         requires few { nodes ≤ 63 }
         requires nodes { nodes ≡ length (W.world world.now).nodes }
-        ensures { IfOk result (λ seen. IsTrue writes → seen.items
-            ≡ seen_before_act (W.world world.now) 0 (W.world world.now).nodes) };
+        ensures { IfOk result (λ seen. TellAlike voice seen.items
+            (seen_before_act (W.world world.now) 0 (W.world world.now).nodes)) };
 
     /// An act was done, before which the nodes showed `seen`.
     fn after_act<W: ShowsWires>(
@@ -49,10 +51,10 @@ pub trait Listener {
         requires few { length names.now ≤ 63 }
         requires nodes { length names.now ≡ length (W.world world.now).nodes }
         ensures { OnOk result (written self.new ≡ written self.old
-            ++ heard writes (lines_since names.now seen.now (W.world world.now))) };
+            ++ voice.since names.now seen.now (W.world world.now)) };
 
     /// Does `count` turns. With those done before they are at most 4,000,000,000.
-    fn turns<W: ShowsWires>(
+    fn turns<W: TellsStillTurns>(
         &mut self,
         alloc: Global,
         world: &mut W,
@@ -65,7 +67,7 @@ pub trait Listener {
         requires fine { IsFalse (W.is_spent world.old) }
         ensures done { OnOk result (W.world world.new ≡ turns_after count (W.world world.old)) }
         ensures heard { OnOk result (written self.new ≡ written self.old
-            ++ heard writes (turns_lines names.now count (W.world world.old))) }
+            ++ voice.turns names.now count (W.world world.old)) }
         ensures passed { OnOk result (TurnsPass count (W.world world.old) (W.world world.new)) }
         ensures fine { OnOk result (IsFalse (W.is_spent world.new)) };
 }
@@ -77,7 +79,7 @@ pub struct Silent;
 impl Listener for Silent {
     ghost written = { λ s. [] };
 
-    ghost writes = { false };
+    ghost voice = { silence };
 
     fn command(&mut self, _turn: u32, _command: &Command) -> Result<(), OutOfMemory> {
         Ok(())
@@ -101,7 +103,7 @@ impl Listener for Silent {
         Ok(())
     }
 
-    fn turns<W: ShowsWires>(
+    fn turns<W: TellsStillTurns>(
         &mut self,
         _alloc: Global,
         world: &mut W,
@@ -116,7 +118,7 @@ impl Listener for Silent {
 impl Listener for Vec<u8> {
     ghost written = { λ text. text.items };
 
-    ghost writes = { true };
+    ghost voice = { trace_voice };
 
     fn command(&mut self, turn: u32, command: &Command) -> Result<(), OutOfMemory> {
         put_command(self, turn, command)
@@ -140,7 +142,7 @@ impl Listener for Vec<u8> {
         put_since(self, names, seen, world)
     }
 
-    fn turns<W: ShowsWires>(
+    fn turns<W: TellsStillTurns>(
         &mut self,
         alloc: Global,
         world: &mut W,

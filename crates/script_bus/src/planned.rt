@@ -139,7 +139,7 @@ impl Bus {
         listener: &mut L,
     ) -> Result<Bus, OutOfMemory>
         requires { SuitsTree self.world node plan.now }
-        ensures sent { IfOk result (λ bus. IsPacketSent L.writes self name.now node plan.now bus
+        ensures sent { IfOk result (λ bus. IsPacketSent L.voice self name.now node plan.now bus
             (L.written listener.old) (L.written listener.new)) }
         ensures passed { IfOk result (λ bus. TurnsPass 0 self.world bus.world) }
     {
@@ -176,7 +176,7 @@ impl Bus {
     ) -> Result<(Bus, Vec<u8>), OutOfMemory>
         requires suits { SuitsTree self.world node plan.now }
         requires within { nat_lt 2000000 (self.world.turns + quiet_turns_of self.world) ≡ false }
-        ensures { IfOk result (λ r. IsSentHeard L.writes self name.now node plan.now r.0
+        ensures { IfOk result (λ r. IsSentHeard L.voice self name.now node plan.now r.0
             r.1.items (L.written listener.old) (L.written listener.new)) }
     {
         acts_keep();
@@ -195,7 +195,7 @@ impl Bus {
         listener: &mut L,
     ) -> Result<(Bus, Vec<u8>), LineStop>
         ensures done { IfOk result (λ r. Does self (command.Plan name.now) (Ok (r.0, r.1.items))) }
-        ensures heard { IfOk result (λ r. Hears L.writes self (command.Plan name.now) r.0
+        ensures heard { IfOk result (λ r. Hears L.voice self (command.Plan name.now) r.0
             (L.written listener.old) (L.written listener.new)) }
         ensures stop { IfErr result (Stops (Does self (command.Plan name.now))) }
     {

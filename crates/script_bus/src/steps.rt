@@ -224,7 +224,7 @@ impl Bus {
         requires range { IsInRange d command.now }
         requires act { IsActCommand command.now }
         ensures done { IfOk result (λ bus. Does self command.now (Ok (bus, []))) }
-        ensures heard { IfOk result (λ bus. Hears L.writes self command.now bus
+        ensures heard { IfOk result (λ bus. Hears L.voice self command.now bus
             (L.written listener.old) (L.written listener.new)) }
         ensures stop { IfErr result (Stops (Does self command.now)) }
     {
@@ -242,7 +242,7 @@ impl Bus {
     fn hold_heard<L: Listener>(self, command: &Command, listener: &mut L) -> Result<Bus, LineStop>
         requires { IsHoldCommand command.now }
         ensures done { IfOk result (λ bus. Does self command.now (Ok (bus, []))) }
-        ensures heard { IfOk result (λ bus. Hears L.writes self command.now bus
+        ensures heard { IfOk result (λ bus. Hears L.voice self command.now bus
             (L.written listener.old) (L.written listener.new)) }
         ensures stop { IfErr result (Stops (Does self command.now)) }
     {
@@ -265,7 +265,7 @@ impl Bus {
     ) -> Result<(Bus, Vec<u8>), LineStop>
         requires { IsInRange d command.now }
         ensures done { IfOk result (λ r. Does self command.now (Ok (r.0, r.1.items))) }
-        ensures heard { IfOk result (λ r. Hears L.writes self command.now r.0
+        ensures heard { IfOk result (λ r. Hears L.voice self command.now r.0
             (L.written listener.old) (L.written listener.new)) }
         ensures stop { IfErr result (Stops (Does self command.now)) }
     {

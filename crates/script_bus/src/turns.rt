@@ -5,23 +5,22 @@ ghost use Rattle.cable_world.specs.Run.{IsReached};
 ghost use Rattle.cable_world.specs.Turn.{turns_after};
 ghost use Rattle.cable_world.specs.Unchanged.{TurnsPass};
 ghost use Rattle.script_told.specs.Step.{Reports, Turns, Settles};
-ghost use Rattle.script_trace.specs.Step.{turns_lines};
 ghost use Rattle.script_lines.specs.declared.command.Command.TheVariants as command;
 ghost use Rattle.script_bus.specs.Running.{Stops};
-ghost use Rattle.script_bus.specs.Heard.{Hears, heard};
+ghost use Rattle.script_bus.specs.Heard.{Hears};
 ghost use Rattle.script_bus.specs.codings.Standing.{IsReportedNow, IsPassed};
 
 use crate::bus::{Bus, is_reached};
 use crate::listener::Listener;
-use cable_world::ShowsWires;
 use script_lines::{Kind, LineStop};
 use script_text::{report_text, reports_can_be_shown};
 use settle::{quiet_turns, quiet_turns_settle, report_of};
 use std::alloc::Global;
 use topology_stack::{Name, OutOfMemory};
+use world_agenda::TellsStillTurns;
 
 /// Turns of a world in a box, which a listener hears.
-fn turns_heard<W: ShowsWires, L: Listener>(
+fn turns_heard<W: TellsStillTurns, L: Listener>(
     alloc: Global,
     world: &mut Box<W>,
     count: u32,
@@ -35,7 +34,7 @@ fn turns_heard<W: ShowsWires, L: Listener>(
     ensures done { OnOk result
         (W.world world.new.value ≡ turns_after count (W.world world.old.value)) }
     ensures heard { OnOk result (L.written listener.new ≡ L.written listener.old
-        ++ heard L.writes (turns_lines names.now count (W.world world.old.value))) }
+        ++ L.voice.turns names.now count (W.world world.old.value)) }
     ensures passed { OnOk result
         (TurnsPass count (W.world world.old.value) (W.world world.new.value)) }
     ensures fine { OnOk result (IsFalse (W.is_spent world.new.value)) }
@@ -59,7 +58,7 @@ impl Bus {
             ≡ record self { world = turns_after count self.world }) }
         ensures passed { IfOk result (λ bus. TurnsPass count self.world bus.world) }
         ensures heard { OnOk result (L.written listener.new ≡ L.written listener.old
-            ++ heard L.writes (turns_lines self.notes.names count self.world)) }
+            ++ L.voice.turns self.notes.names count self.world) }
     {
         let Bus { mut world, notes } = self;
         let names = notes.names.list().as_slice();
@@ -75,7 +74,7 @@ impl Bus {
         listener: &mut L,
     ) -> Result<Bus, LineStop>
         ensures done { IfOk result (λ bus. Turns self count (Ok (bus, []))) }
-        ensures heard { IfOk result (λ bus. Hears L.writes self (command.Turn count) bus
+        ensures heard { IfOk result (λ bus. Hears L.voice self (command.Turn count) bus
             (L.written listener.old) (L.written listener.new)) }
         ensures stop { IfErr result (Stops (Turns self count)) }
     {
@@ -125,7 +124,7 @@ impl Bus {
     ) -> Result<(Bus, Vec<u8>), OutOfMemory>
         requires { nat_lt 2000000 (self.world.turns + quiet_turns_of self.world) ≡ false }
         ensures reports { IfOk result (λ r. Reports self (Ok (r.0, r.1.items))) }
-        ensures heard { OnOk result (IsPassed L.writes self.notes.names self.world
+        ensures heard { OnOk result (IsPassed L.voice self.notes.names self.world
             (L.written listener.old) (L.written listener.new)) }
     {
         self.is_sound();
@@ -144,7 +143,7 @@ impl Bus {
         listener: &mut L,
     ) -> Result<(Bus, Vec<u8>), LineStop>
         ensures done { IfOk result (λ r. Settles self (Ok (r.0, r.1.items))) }
-        ensures heard { IfOk result (λ r. Hears L.writes self command.Settle r.0
+        ensures heard { IfOk result (λ r. Hears L.voice self command.Settle r.0
             (L.written listener.old) (L.written listener.new)) }
         ensures stop { IfErr result (Stops (Settles self)) }
     {

@@ -1,5 +1,5 @@
 -- The lines that were taken, and those that are left.
-use Rattle.std.proofs.Common.{◌≡◌, inl, inr, ℕ, Bool, true, false, ◌+◌, List, [], ◌∷◌, ◌++◌, refl, sym, ap, subst, ◌∙◌, append_assoc, length, arith}
+use Rattle.std.proofs.Common.{◌≡◌, inl, inr, ℕ, ◌+◌, List, [], ◌∷◌, ◌++◌, refl, sym, ap, subst, ◌∙◌, append_assoc, length, arith}
 use Rattle.std.specs.Prelude.{None, Some, Ok, Err}
 use Rattle.std.proofs.lemmas.List.{append-nil}
 use Rattle.script_lines.specs.declared.kind.Kind.{Kind}
@@ -15,8 +15,8 @@ use Rattle.script_told.specs.Script.{Stage, fresh, running, Told, bus_of, fault_
 use Rattle.script_told.specs.Run.{Entry, ScriptRun, done, stopped, behind, last_run, RunsFrom, IsRun, printed, IsTold}
 use Rattle.script_run.specs.Answered.{StopsWith, IsRefused, IsOnlyFault}
 use Rattle.script_bus.specs.Running.{IfFault, Stops}
+use Rattle.script_trace.specs.Voice.{Voice}
 use Rattle.script_trace.specs.Trace.{TracesAt, AllTrace}
-use Rattle.script_bus.specs.Heard.{heard}
 use Rattle.script_run.specs.codings.Going.{LineLeads, LineFails, Went, HaveGone, stop_at}
 
 -- ---- commands that were done
@@ -52,46 +52,40 @@ went-on bytes entries number line lines stage next command text went one more re
 
 -- what commands trace, one after the other
 all-traced :
-    (entries more : List Entry) (lines rest : List ℕ) → AllTrace entries lines → AllTrace more rest →
-    AllTrace (entries ++ more) (lines ++ rest)
-all-traced [] more lines rest h k = subst (λ (l : List ℕ). AllTrace more (l ++ rest)) (sym h) k
-all-traced (e ∷ entries) more lines rest h k = (
+    (voice : Voice) (entries more : List Entry) (lines rest : List ℕ) → AllTrace voice entries lines →
+    AllTrace voice more rest → AllTrace voice (entries ++ more) (lines ++ rest)
+all-traced voice [] more lines rest h k = subst (λ (l : List ℕ). AllTrace voice more (l ++ rest)) (sym h) k
+all-traced voice (e ∷ entries) more lines rest h k = (
   h.0,
   h.1 ++ rest,
   h.2,
-  all-traced entries more h.1 rest h.3 k,
+  all-traced voice entries more h.1 rest h.3 k,
   ap (λ (l : List ℕ). l ++ rest) h.4 ∙ append_assoc h.0 h.1 rest,
 )
 
 pub one-traced :
-    (entries : List Entry) (entry : Entry) (lines one : List ℕ) → AllTrace entries lines →
-    TracesAt entry.before entry.command entry.after one → AllTrace (entries ++ entry ∷ []) (lines ++ one)
-one-traced entries entry lines one h is =
-    all-traced entries (entry ∷ []) lines one h (one, [], is, refl, sym (append-nil one))
+    (voice : Voice) (entries : List Entry) (entry : Entry) (lines one : List ℕ) → AllTrace voice entries lines →
+    TracesAt voice entry.before entry.command entry.after one → AllTrace voice (entries ++ entry ∷ []) (lines ++ one)
+one-traced voice entries entry lines one h is =
+    all-traced voice entries (entry ∷ []) lines one h (one, [], is, refl, sym (append-nil one))
 
 -- what is heard twice
 pub both-heard :
-    (writes : Bool) (xs ys out mid new : List ℕ) → mid ≡ out ++ heard writes xs →
-    new ≡ mid ++ heard writes ys → new ≡ out ++ heard writes (xs ++ ys)
-both-heard true xs ys out mid new first next =
+    (xs ys out mid new : List ℕ) → mid ≡ out ++ xs → new ≡ mid ++ ys → new ≡ out ++ (xs ++ ys)
+both-heard xs ys out mid new first next =
     next ∙ ap (λ (l : List ℕ). l ++ ys) first ∙ append_assoc out xs ys
-both-heard false xs ys out mid new first next = next ∙ append-nil mid ∙ first
-
-none-heard : (writes : Bool) (out : List ℕ) → out ≡ out ++ heard writes []
-none-heard true out = sym (append-nil out)
-none-heard false out = sym (append-nil out)
 
 -- a line was taken
 pub gone-next :
-    (writes : Bool) (bytes said after text out mid new : List ℕ) (number : ℕ) (line : List ℕ)
+    (voice : Voice) (bytes said after text out mid new : List ℕ) (number : ℕ) (line : List ℕ)
     (lines all : List (List ℕ)) (stage next : Stage) → all ≡ line ∷ lines → after ≡ said ++ text →
-    LineLeads writes stage line next text mid new → HaveGone writes bytes said out mid number all stage →
-    HaveGone writes bytes after out new (number + 1) lines next
-gone-next writes bytes said after text out mid new number line lines all stage next cut is leads have =
+    LineLeads voice stage line next text mid new → HaveGone voice bytes said out mid number all stage →
+    HaveGone voice bytes after out new (number + 1) lines next
+gone-next voice bytes said after text out mid new number line lines all stage next cut is leads have =
     go leads (subst (λ (l : List (List ℕ)). Went bytes have.entries number l stage) cut have.went)
   where
-    go : LineLeads writes stage line next text mid new → Went bytes have.entries number (line ∷ lines) stage →
-        HaveGone writes bytes after out new (number + 1) lines next
+    go : LineLeads voice stage line next text mid new → Went bytes have.entries number (line ∷ lines) stage →
+        HaveGone voice bytes after out new (number + 1) lines next
     go (inl skipped) went = record {
       entries = have.entries;
       went = λ more rest. went more (Ok None, skipped.0, subst (λ (s : Stage). RunsFrom (number + 1) lines s more) skipped.1 rest);
@@ -108,20 +102,20 @@ gone-next writes bytes said after text out mid new number line lines all stage n
               (λ more rest. (Ok (Some did.0), did.1, (Ok (next, text), did.2, (more, rest, refl))));
           text_is = is ∙ ap (λ (l : List ℕ). l ++ text) have.text_is ∙ sym (printed-more have.entries entry);
           trace = have.trace ++ did.3.lines;
-          traced = one-traced have.entries entry have.trace did.3.lines have.traced did.3.traces;
-          written = both-heard writes have.trace did.3.lines out mid new have.written did.3.written;
+          traced = one-traced voice have.entries entry have.trace did.3.lines have.traced did.3.traces;
+          written = both-heard have.trace did.3.lines out mid new have.written did.3.written;
         }
 
 pub gone-first :
-    (writes : Bool) (bytes said out : List ℕ) (stage : Stage) → said ≡ [] → stage ≡ fresh →
-    HaveGone writes bytes said out out 1 (script_lines bytes) stage
-gone-first writes bytes said out stage empty new = record {
+    (voice : Voice) (bytes said out : List ℕ) (stage : Stage) → said ≡ [] → stage ≡ fresh →
+    HaveGone voice bytes said out out 1 (script_lines bytes) stage
+gone-first voice bytes said out stage empty new = record {
   entries = [];
   went = λ more rest. went-first bytes more (subst (λ (s : Stage). RunsFrom 1 (script_lines bytes) s more) new rest);
   text_is = empty;
   trace = [];
   traced = refl;
-  written = none-heard writes out;
+  written = sym (append-nil out);
 }
 
 -- ---- faults and ends
@@ -150,10 +144,10 @@ run-ends bytes entries number stage bus text went settles =
 
 -- the bus settles at the end, and the script has told its text
 pub script-ends :
-    (writes : Bool) (bytes said text out mid : List ℕ) (number : ℕ) (stage : Stage) (bus : Bus) →
-    HaveGone writes bytes said out mid number [] stage → Settles (bus_of stage) (Ok (bus, text)) →
+    (voice : Voice) (bytes said text out mid : List ℕ) (number : ℕ) (stage : Stage) (bus : Bus) →
+    HaveGone voice bytes said out mid number [] stage → Settles (bus_of stage) (Ok (bus, text)) →
     IsTold bytes (Ok (said ++ text))
-script-ends writes bytes said text out mid number stage bus have settles = (
+script-ends voice bytes said text out mid number stage bus have settles = (
   behind have.entries (last_run number stage (Ok (bus, text))),
   run-ends bytes have.entries number stage bus text have.went settles,
   ap Ok (ap (λ (l : List ℕ). l ++ text) have.text_is

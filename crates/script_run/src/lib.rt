@@ -12,6 +12,7 @@ mod run;
 mod script;
 mod stage;
 mod trace;
+mod waves;
 
 pub use advise::advise_script;
 pub use listed::list_script;
@@ -21,3 +22,4 @@ pub use script_made::make_script;
 pub use script_text::{maps_text, report_text, summary};
 pub use topology_stack::OutOfMemory;
 pub use trace::trace_script;
+pub use waves::dump_script;

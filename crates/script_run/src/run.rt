@@ -83,7 +83,7 @@ impl Stage {
         requires range { IsInRange d command.now }
         ensures done { IfOk result (λ text.
             Runs self.old command.now (Ok (self.new, text.items))) }
-        ensures heard { OnOk result (HearsAt L.writes self.old command.now self.new
+        ensures heard { OnOk result (HearsAt L.voice self.old command.now self.new
             (L.written listener.old) (L.written listener.new)) }
         ensures stop { IfErr result (Stops (Runs self.old command.now)) }
     {
@@ -120,7 +120,7 @@ impl Stage {
         requires delay { d ≡ delay_of self.old }
         requires range { IsInRange d command }
         ensures done { IfOk result (λ text. Follows self.old command (Ok (self.new, text.items))) }
-        ensures heard { OnOk result (HearsAt L.writes self.old command self.new
+        ensures heard { OnOk result (HearsAt L.voice self.old command self.new
             (L.written listener.old) (L.written listener.new)) }
         ensures stop { IfErr result (Stops (Follows self.old command)) }
     {

@@ -52,7 +52,7 @@ pub(crate) fn take_lines<L: Listener>(
     listener: &mut L,
 ) -> Result<Taken, ScriptStop>
     requires { length bytes.now ≤ 1048576 }
-    ensures lines { IfOk result (λ taken. HaveGone L.writes bytes.now taken.text.items
+    ensures lines { IfOk result (λ taken. HaveGone L.voice bytes.now taken.text.items
         (L.written listener.old) (L.written listener.new) taken.number [] taken.stage) }
     ensures number { IfOk result (λ taken. taken.number
         ≡ length (script_lines bytes.now) + 1) }

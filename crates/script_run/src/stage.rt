@@ -65,7 +65,7 @@ impl Stage {
         listener: &mut L,
         out: &mut Vec<u8>,
     ) -> Result<(), LineStop>
-        ensures done { OnOk result ((text : List ℕ) × LineLeads L.writes self.old line.now self.new
+        ensures done { OnOk result ((text : List ℕ) × LineLeads L.voice self.old line.now self.new
             text (L.written listener.old) (L.written listener.new)
             × (out.new.items ≡ out.old.items ++ text)) }
         ensures stop { IfErr result (IfFault (LineFails self.old line.now)) }
@@ -85,7 +85,7 @@ impl Stage {
         listener: &mut L,
         out: &mut Vec<u8>,
     ) -> Result<(), LineStop>
-        ensures done { OnOk result ((text : List ℕ) × LineLeads L.writes self.old line.now self.new
+        ensures done { OnOk result ((text : List ℕ) × LineLeads L.voice self.old line.now self.new
             text (L.written listener.old) (L.written listener.new)
             × (out.new.items ≡ out.old.items ++ text)) }
         ensures stop { IfErr result (IfFault (LineFails self.old line.now)) }
@@ -107,12 +107,24 @@ impl Stage {
     ) -> Result<Vec<u8>, LineStop>
         ensures done { IfOk result (λ text. (after : shown.Bus)
             × Settles (bus_of self) (Ok (after, text.items))
-            × Hears L.writes (bus_of self) command.Settle after
+            × Hears L.voice (bus_of self) command.Settle after
             (L.written listener.old) (L.written listener.new)) }
         ensures stop { IfErr result (Stops (Settles (bus_of self))) }
     {
         let (_, text) = self.bus(alloc)?.settle(alloc, listener)?;
         Ok(text)
+    }
+
+    /// The bus after the `settle` behind the last line, in which the listener hears what happens.
+    pub fn last_bus<L: Listener>(self, alloc: Global, listener: &mut L) -> Result<Bus, LineStop>
+        ensures done { IfOk result (λ bus. (text : List ℕ)
+            × Settles (bus_of self) (Ok (bus, text))
+            × Hears L.voice (bus_of self) command.Settle bus
+            (L.written listener.old) (L.written listener.new)) }
+        ensures stop { IfErr result (Stops (Settles (bus_of self))) }
+    {
+        let (bus, _) = self.bus(alloc)?.settle(alloc, listener)?;
+        Ok(bus)
     }
 
     /// The bus after the `settle` behind the last line.

@@ -1,5 +1,5 @@
 -- The signals that are shown of an act are those that it sent.
-use Rattle.std.proofs.Common.{◌≡◌, ◌≢◌, ◌⊎◌, inl, inr, ◌++◌, ◌==◌, ◌≤◌, slice_get, slice_index_or, arith, ℕ, Bool, true, false, List, [], ◌∷◌, Option, None, Some, drop, length, map, refl, sym, ◌∙◌, ap, subst}
+use Rattle.std.proofs.Common.{◌≡◌, ◌≢◌, ◌⊎◌, inl, inr, ◌==◌, ◌≤◌, slice_get, slice_index_or, arith, ℕ, Bool, true, false, List, [], ◌∷◌, Option, None, Some, drop, length, map, refl, sym, ◌∙◌, ap, subst}
 use Rattle.std.specs.Int.{bit_at}
 use Rattle.std.specs.Prelude.{IsSomeAnd}
 use Rattle.std.proofs.Math.Seq.{drop-append_seam, drop-length}
@@ -16,12 +16,12 @@ use Rattle.port_state.specs.Machine.{PortNode, NodeStep, node_disturb, node_plug
 use Rattle.cable_world.specs.declared.act.Act.{Act}
 use Rattle.cable_world.specs.declared.act.Act.TheVariants.{Plug, Pull, Reset, Config}
 use Rattle.cable_world.specs.declared.wire.Travelling.{Travelling}
-use Rattle.cable_world.specs.Wire.{Wire, new_signal, add_signals, empty_wire}
+use Rattle.cable_world.specs.Wire.{Wire, new_signal, add_signals}
 use Rattle.cable_world.specs.World.{CableWorld, NodeNumber, wire_of}
-use Rattle.cable_world.specs.Act.{ActLeads, IsAct, act_fault}
+use Rattle.cable_world.specs.Act.{act_fault}
 use Rattle.cable_world.specs.Lawful.{IsLawful}
 use Rattle.cable_world.specs.StaysLawful.{KeptByActs}
-use Rattle.world_laws.specs.ByNumber.{BeginsReset, Stands, WiresStand, Changes, Pulls, Configures, ActsByNumber}
+use Rattle.world_laws.specs.ByNumber.{BeginsReset, Stands, WiresStand, Changes, Configures, ActsByNumber}
 use Rattle.script_text.specs.ReportText.{Names}
 use Rattle.script_trace.specs.Event.{sent_lines}
 use Rattle.script_trace.specs.Shown.{signal_lines}

@@ -1,8 +1,8 @@
 -- The lines of a node stand among those of all nodes.
-use Rattle.std.proofs.Common.{◌≡◌, ◌++◌, ◌+◌, ℕ, zero, suc, List, [], ◌∷◌, Option, Some, map, length, slice_get, refl, sym, ◌∙◌, ap, subst, arith}
+use Rattle.std.proofs.Common.{◌≡◌, ◌++◌, ◌+◌, ℕ, zero, suc, List, [], ◌∷◌, Some, map, slice_get, sym, ◌∙◌, ap, arith}
 use Rattle.std.proofs.lemmas.List.{append_assoc}
 use Rattle.cable_world.proofs.Lemmas.{some-same}
-use Rattle.cable_world.specs.World.{CableWorld, NodeNumber}
+use Rattle.cable_world.specs.World.{CableWorld}
 use Rattle.cable_world.specs.Turn.{turn, turn_at}
 use Rattle.cable_world.specs.ByNumber.{NodesTakeTurns}
 use Rattle.port_state.specs.Machine.{PortNode}

@@ -34,7 +34,7 @@ left-from xs k x at =
     ∙ ap (λ (i : ℕ). x ∷ drop i xs) (sym (add-one k))
 
 -- one part more, and the rest
-one-more :
+pub one-more :
     {A : Type 0} → (before after part rest whole all : List A) → after ≡ before ++ part →
     whole ≡ part ++ rest → before ++ whole ≡ all → after ++ rest ≡ all
 one-more before after part rest whole all new is so =
@@ -127,7 +127,7 @@ next-node names w k x s v seen nodes before after all at here is new so =
     so
 
 -- nothing is left where either list is at its end
-past-end : {A : Type 0} → (xs : List A) (k : ℕ) → length xs ≤ k → drop k xs ≡ []
+pub past-end : {A : Type 0} → (xs : List A) (k : ℕ) → length xs ≤ k → drop k xs ≡ []
 past-end [] zero h = refl
 past-end [] (suc k) h = refl
 past-end (x ∷ xs) zero h = absurd (omega (arith, h))

@@ -1,7 +1,9 @@
 pub mod Event
 pub mod Step
+pub mod Voice
 pub mod Trace
 pub mod OneTrace
+pub mod OneTelling
 pub mod Shown
 pub mod ActShown
 pub mod NodeShown

@@ -1,4 +1,5 @@
--- The trace of a script: what happens in its one run, act by act and turn by turn.
+-- What happens in a script's one run, act by act and turn by turn, as a voice tells it; and its trace, which
+-- is one of them.
 use Rattle.std.specs.Prelude.{◌≡◌, ℕ, List, [], ◌∷◌, ◌++◌, codes, Option, None, Some, Ok, Err}
 use Rattle.cable_world.specs.World.{CableWorld, NodeNumber}
 use Rattle.settle.specs.Report.{quiet_turns_of}
@@ -9,7 +10,8 @@ use Rattle.script_told.specs.Bus.{Bus, Reported, node_named, tree_with}
 use Rattle.script_told.specs.Step.{CarriesOut}
 use Rattle.script_told.specs.Script.{Stage, running, bus_of, Told}
 use Rattle.script_told.specs.Run.{Entry, ScriptRun, IsRun}
-use Rattle.script_trace.specs.Step.{turns_lines, act_lines}
+use Rattle.script_trace.specs.Step.{turns_lines, lines_since, seen_before_act}
+use Rattle.script_trace.specs.Voice.{Voice}
 
 -- ---- the line of a command
 
@@ -38,16 +40,18 @@ command_line turn command = numbered (codes "turn ") turn ++ (command_words comm
 -- ---- what happens at a command
 
 -- the line of an act, and what it does
-abbrev pub act_trace : Names → Command → CableWorld → CableWorld → List ℕ
-act_trace names command before after =
-    command_line before.turns command ++ act_lines names before after
+abbrev pub act_trace : Voice → Names → Command → CableWorld → CableWorld → List ℕ
+act_trace voice names command before after =
+    voice.command before.turns command
+    ++ voice.since names (seen_before_act before 0 before.nodes) after
 
 -- what happens in the quiet turns
-abbrev pub quiet_trace : Names → CableWorld → List ℕ
-quiet_trace names w = turns_lines names (quiet_turns_of w) w
+abbrev pub quiet_trace : Voice → Names → CableWorld → List ℕ
+quiet_trace voice names w = voice.turns names (quiet_turns_of w) w
 
 -- A plan is carried out: its packet is sent, as a `config` does it, and the quiet turns are done.
-pub record TracesPlan (bus : Bus) (name : List ℕ) (after : Bus) (lines : List ℕ) : Type 0 where
+pub record TracesPlan (voice : Voice) (bus : Bus) (name : List ℕ) (after : Bus) (lines : List ℕ) :
+    Type 0 where
   pub node : NodeNumber
   pub named : node_named bus.notes.names name ≡ Some node
   pub tree : Reported
@@ -56,44 +60,50 @@ pub record TracesPlan (bus : Bus) (name : List ℕ) (after : Bus) (lines : List 
   pub carried : CarriesOut bus name node tree after text
   pub lines_are :
       lines
-      ≡ act_trace after.notes.names
+      ≡ act_trace voice after.notes.names
       (Config name (Some carried.plan.root_id) (Some carried.plan.gap)) bus.world carried.sent.world
-      ++ quiet_trace after.notes.names carried.sent.world
+      ++ quiet_trace voice after.notes.names carried.sent.world
 
 -- what happens where a command leads from a bus to the next
-abbrev pub Traces : Bus → Command → Bus → List ℕ → Type 0
-Traces bus (Plug a a_port b b_port) after lines =
-    lines ≡ act_trace after.notes.names (Plug a a_port b b_port) bus.world after.world
-Traces bus (Pull name port) after lines =
-    lines ≡ act_trace after.notes.names (Pull name port) bus.world after.world
-Traces bus (Reset name) after lines =
-    lines ≡ act_trace after.notes.names (Reset name) bus.world after.world
-Traces bus (Config name root_id gap) after lines =
-    lines ≡ act_trace after.notes.names (Config name root_id gap) bus.world after.world
-Traces bus (Hold name port turns) after lines =
-    lines ≡ command_line bus.world.turns (Hold name port turns)
-Traces bus (Turn count) after lines = lines ≡ turns_lines after.notes.names count bus.world
-Traces bus Settle after lines = lines ≡ quiet_trace after.notes.names bus.world
-Traces bus (Plan name) after lines = TracesPlan bus name after lines
-Traces bus command after lines = lines ≡ []
+abbrev pub Traces : Voice → Bus → Command → Bus → List ℕ → Type 0
+Traces voice bus (Plug a a_port b b_port) after lines =
+    lines ≡ act_trace voice after.notes.names (Plug a a_port b b_port) bus.world after.world
+Traces voice bus (Pull name port) after lines =
+    lines ≡ act_trace voice after.notes.names (Pull name port) bus.world after.world
+Traces voice bus (Reset name) after lines =
+    lines ≡ act_trace voice after.notes.names (Reset name) bus.world after.world
+Traces voice bus (Config name root_id gap) after lines =
+    lines ≡ act_trace voice after.notes.names (Config name root_id gap) bus.world after.world
+Traces voice bus (Hold name port turns) after lines =
+    lines ≡ voice.command bus.world.turns (Hold name port turns)
+Traces voice bus (Turn count) after lines = lines ≡ voice.turns after.notes.names count bus.world
+Traces voice bus Settle after lines = lines ≡ quiet_trace voice after.notes.names bus.world
+Traces voice bus (Plan name) after lines = TracesPlan voice bus name after lines
+Traces voice bus command after lines = lines ≡ []
 
 -- the same from stage to stage: nothing happens where a node is declared
-abbrev pub TracesAt : Stage → Command → Stage → List ℕ → Type 0
-TracesAt stage command (running after) lines = Traces (bus_of stage) command after lines
-TracesAt stage command next lines = lines ≡ []
+abbrev pub TracesAt : Voice → Stage → Command → Stage → List ℕ → Type 0
+TracesAt voice stage command (running after) lines = Traces voice (bus_of stage) command after lines
+TracesAt voice stage command next lines = lines ≡ []
 
 -- ---- the whole
 
 -- what happens at commands, one after the other
-abbrev pub AllTrace : List Entry → List ℕ → Type 0
-AllTrace [] lines = lines ≡ []
-AllTrace (entry ∷ entries) lines =
-    (one : List ℕ) × (more : List ℕ) × TracesAt entry.before entry.command entry.after one
-    × AllTrace entries more × (lines ≡ one ++ more)
+abbrev pub AllTrace : Voice → List Entry → List ℕ → Type 0
+AllTrace voice [] lines = lines ≡ []
+AllTrace voice (entry ∷ entries) lines =
+    (one : List ℕ) × (more : List ℕ) × TracesAt voice entry.before entry.command entry.after one
+    × AllTrace voice entries more × (lines ≡ one ++ more)
+
+-- ---- the trace
+
+-- a line for each act, each hold and each thing that happens
+abbrev pub trace_voice : Voice
+trace_voice = record { command = command_line; since = lines_since; turns = turns_lines }
 
 -- what happens in a run, or its fault
 abbrev pub IsTraceOf : ScriptRun → Told → Type 0
-IsTraceOf run (Ok lines) = (bus : Bus) × (run.end ≡ Ok bus) × AllTrace run.entries lines
+IsTraceOf run (Ok lines) = (bus : Bus) × (run.end ≡ Ok bus) × AllTrace trace_voice run.entries lines
 IsTraceOf run (Err fault) = run.end ≡ Err fault
 
 -- The trace of a script, or the fault of its first bad line.

@@ -1,5 +1,6 @@
 //! Laws of traces.
 ghost use Rattle.script_trace.specs.OneTrace.{ScriptsHaveOneTrace, TracedScriptsAreTold, TraceFaultsAreTold, RunsHaveTraces};
+ghost use Rattle.script_trace.specs.OneTelling.{RunsAreToldOnce, RunsAreTold};
 ghost use Rattle.script_trace.specs.Shown.{TurnsShowWhatIsSent};
 ghost use Rattle.script_trace.specs.ActShown.{ActsShowTheirResets};
 ghost use Rattle.script_trace.specs.NodeShown.{TurnsShowEachNode, ActsShowEachNode};
@@ -14,6 +15,15 @@ pub fn scripts_have_one_trace()
     ensures told { TracedScriptsAreTold }
     ensures fault { TraceFaultsAreTold }
     ensures some { RunsHaveTraces }
+{
+    one_tree();
+    acts_keep();
+}
+
+/// A law: in whatever way it is told what happens in a run, there is one thing to tell.
+pub fn runs_are_told_once()
+    ensures one { RunsAreToldOnce }
+    ensures some { RunsAreTold }
 {
     one_tree();
     acts_keep();

@@ -14,7 +14,9 @@ mod watch;
 
 pub use command::put_command;
 pub use laws::{
-    acts_show_their_resets, each_node_is_shown, scripts_have_one_trace, turns_show_what_is_sent,
+    acts_show_their_resets, each_node_is_shown, runs_are_told_once, scripts_have_one_trace,
+    turns_show_what_is_sent,
 };
+pub use node::state_number;
 pub use steps::trace_turns;
-pub use watch::{Seen, put_since, seen_before_act};
+pub use watch::{Seen, put_since, seen_before_act, seen_before_turn};

@@ -73,8 +73,8 @@ fn state_words(phase: Phase) -> &'static [u8]
     }
 }
 
-/// The number of a state in the standard's order.
-fn state_number(phase: Phase) -> u8
+/// The number of a state in the standard's order, from R0, 0, to A0, 7.
+pub fn state_number(phase: Phase) -> u8
     ensures { result ≡ state_number phase }
 {
     match phase {

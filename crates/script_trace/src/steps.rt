@@ -1,13 +1,15 @@
 //! Turns that are traced.
-ghost use Rattle.std.specs.Prelude.{◌≡◌, ◌+◌, ◌<◌, ◌≤◌, ◌++◌, length, OnOk, IsFalse};
+ghost use Rattle.std.specs.Prelude.{◌≡◌, ◌+◌, ◌<◌, ◌≤◌, ◌++◌, [], length, IfOk, OnOk, IsFalse};
 ghost use Rattle.cable_world.specs.Turn.{turn, turns_after};
 ghost use Rattle.cable_world.specs.Unchanged.{TurnsPass};
+ghost use Rattle.script_text.specs.ReportText.{Names};
 ghost use Rattle.script_trace.specs.Step.{turn_lines, turns_lines};
 
 use crate::watch::{put_since, seen_before_turn};
-use cable_world::{ShowsWires, turns_add_up};
+use cable_world::{ShowsWires, still_turns_pass, turns_add_up};
 use script_text::{Name, OutOfMemory};
 use std::alloc::Global;
+use world_agenda::TellsStillTurns;
 
 /// Does a turn, and appends what happens in it.
 fn trace_turn<W: ShowsWires>(
@@ -31,10 +33,28 @@ fn trace_turn<W: ShowsWires>(
     Ok(())
 }
 
+/// Passes over turns of which it is known that nothing happens in them, `most` at most. They have no
+/// lines. Answers how many these were.
+fn pass_over<W: TellsStillTurns>(world: &mut W, most: u32) -> Result<u32, OutOfMemory>
+    requires turns { (W.world world.old).turns + most ≤ 4000000000 }
+    requires fine { IsFalse (W.is_spent world.old) }
+    ensures most { IfOk result (λ k. k ≤ most) }
+    ensures done { IfOk result (λ k. W.world world.new ≡ turns_after k (W.world world.old)) }
+    ensures lines { IfOk result (λ k. (names : Names) →
+        turns_lines names k (W.world world.old) ≡ []) }
+    ensures passed { IfOk result (λ k. TurnsPass k (W.world world.old) (W.world world.new)) }
+    ensures fine { OnOk result (IsFalse (W.is_spent world.new)) }
+{
+    still_turns_pass();
+    let still = world.still_turns(most);
+    world.run_turns(still)?;
+    Ok(still)
+}
+
 /// Does `count` turns, and appends what happens in them, a line for each thing: turn by turn, and in
 /// a turn by rising number of the nodes. `names` has the name of each node. With the turns done
 /// before they are at most 4,000,000,000.
-pub fn trace_turns<W: ShowsWires>(
+pub fn trace_turns<W: TellsStillTurns>(
     alloc: Global,
     world: &mut W,
     count: u32,
@@ -52,8 +72,11 @@ pub fn trace_turns<W: ShowsWires>(
     ensures fine { OnOk result (IsFalse (W.is_spent world.new)) }
 {
     turns_add_up();
-    for _ in 0..count {
+    let mut done = pass_over(world, count)?;
+    while done < count {
         trace_turn(alloc, world, names, out)?;
+        done += 1;
+        done += pass_over(world, count - done)?;
     }
     Ok(())
 }

@@ -26,8 +26,24 @@ impl Model for Seen {
     ghost view = { λ s. record { view = s.view; there = s.there.items } };
 }
 
+impl Seen {
+    /// What the node shows.
+    pub fn view(&self) -> &View
+        ensures { result.now ≡ self.now.view }
+    {
+        &self.view
+    }
+
+    /// How many signals are under way on each of its wires.
+    pub fn there(&self) -> &[usize]
+        ensures { result.now ≡ self.now.there }
+    {
+        self.there.as_slice()
+    }
+}
+
 /// The nodes before a turn. The world has 63 nodes at most, so many as are said.
-pub(crate) fn seen_before_turn<W: ShowsWires>(
+pub fn seen_before_turn<W: ShowsWires>(
     alloc: Global,
     world: &W,
     nodes: usize,

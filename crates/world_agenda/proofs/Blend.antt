@@ -1,5 +1,5 @@
 -- A table of which the entries of a set are still to be written: those are old, and the others are new.
-use Rattle.std.proofs.Common.{◌≡◌, ◌≢◌, ℕ, zero, suc, ◌<◌, inl, inr, ◌↔◌, List, [], ◌∷◌, length, map, get_or, slice_set, refl, sym, ◌∙◌, ap, arith}
+use Rattle.std.proofs.Common.{◌≡◌, ℕ, zero, suc, ◌<◌, inl, inr, List, [], ◌∷◌, length, get_or, slice_set, refl, sym, ◌∙◌, ap, arith}
 use Rattle.std.proofs.lemmas.Bool.{cases_eq}
 use Rattle.std.proofs.lemmas.List.{get_or-set_same, get_or-set_other, same_lists, length-set}
 use Rattle.cabling.specs.NodeSet.{Holds, IsEmpty, AgreeBut, IsWithin}

@@ -1,7 +1,7 @@
 -- Nothing arrives at a node that isn't marked, where the neighbours of those that give something are.
 use Rattle.std.proofs.Common.{◌≡◌, ℕ, suc, ◌+◌, ◌<◌, ◌++◌, List, [], ◌∷◌, Option, Some, None, length, slice_index_or, refl, ◌∙◌, ap}
 use Rattle.cabling.specs.declared.cable.End.{End}
-use Rattle.cabling.specs.Wiring.{Wiring, ports_of, far, IsCabling}
+use Rattle.cabling.specs.Wiring.{Wiring, ports_of, IsCabling}
 use Rattle.cabling.proofs.Lemmas.{plugged}
 use Rattle.cable_world.specs.running.Hearing.{Arriving, on_one, arriving_from, inbox_of}
 use Rattle.world_agenda.specs.Agenda.{GivesBut, IsSparedBut}

@@ -1,5 +1,5 @@
 -- What an agenda says.
-use Rattle.std.proofs.Common.{◌≡◌, ℕ, ◌+◌, ◌<◌, ◌≤◌, List, All, length, map, get_or, subst, arith}
+use Rattle.std.proofs.Common.{◌≡◌, ℕ, ◌≤◌, List, All, map, subst, arith}
 use Rattle.std.proofs.lemmas.List.{get_or-map, length-map}
 use Rattle.cabling.specs.NodeSet.{Holds, IsEmpty}
 use Rattle.cabling.proofs.Lemmas.{none_of_zero}

@@ -3,7 +3,7 @@
 -- something. `Quiet`: the nodes that a turn doesn't visit. `Known`: what an agenda says. `Places`: the
 -- nodes that a loop hasn't come to. `Steps`: the tables of a turn, entry by entry. `Whole`: a world by its
 -- parts, and its vectors. `Start`: the tables at power-on. `Mixed`: a table that a loop writes anew.
--- `Turns`: turns, one after the other.
+-- `Turns`: turns, one after the other. `Ahead`: turns to come in which nothing happens.
 pub mod Bits
 pub mod Blend
 pub mod Late
@@ -16,3 +16,5 @@ pub mod Steps
 pub mod Turns
 pub mod Whole
 pub mod Start
+pub mod Ahead
+pub mod Lemmas

@@ -1,16 +1,15 @@
 -- The nodes that hear nothing and aren't due: a turn changes nothing but their timers.
-use Rattle.std.proofs.Common.{◌≡◌, ℕ, ◌+◌, ◌<◌, ◌≤◌, List, [], All, length, map, get_or, slice_index_or, refl, sym, ◌∙◌, ap, arith, if◌then◌else◌}
+use Rattle.std.proofs.Common.{◌≡◌, ℕ, ◌+◌, ◌<◌, ◌≤◌, List, [], All, length, map, get_or, sym, ◌∙◌, ap, arith}
 use Rattle.std.proofs.lemmas.List.{get_or-map, get_or_default, length-map}
 use Rattle.cabling.specs.NodeSet.{Holds, IsWithin}
 use Rattle.cabling.specs.Wiring.{Wiring, ports_of}
-use Rattle.port_state.specs.Sends.{PortSignal}
 use Rattle.port_state.specs.Machine.{PortNode, NodeStep}
 use Rattle.port_state.specs.Idle.{IsIdleFor}
 use Rattle.cable_world.specs.Wire.{Wire}
-use Rattle.cable_world.specs.Turn.{node_turn, wires_after_sends, all_wires_after_sends, last_changes, same_list}
+use Rattle.cable_world.specs.Turn.{node_turn, wires_after_sends, all_wires_after_sends, last_changes}
 use Rattle.cable_world.specs.running.Hearing.{Arriving, inbox_of}
 use Rattle.cable_world.specs.running.Steps.{turns_of}
-use Rattle.cable_world.proofs.Lemmas.{steps-length, rows-length, changes-length}
+use Rattle.cable_world.proofs.Lemmas.{steps-length, changes-length}
 use Rattle.world_agenda.specs.Clock.{caught_up}
 use Rattle.world_agenda.specs.Agenda.{IdlesBut, IsSparedBut}
 use Rattle.world_agenda.proofs.Late.{quiet-node, quiet-wires, quiet-list}

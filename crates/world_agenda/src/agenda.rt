@@ -1,14 +1,16 @@
 //! The world that visits the nodes that hear something or are due.
-ghost use Rattle.std.specs.Prelude.{◌≡◌, ◌↔◌, ◌+◌, ◌≤◌, ℕ, length, map, IfOk, IsFalse, All};
+ghost use Rattle.std.specs.Prelude.{◌≡◌, ◌↔◌, ◌+◌, ◌<◌, ◌≤◌, ℕ, length, map, IfOk, IsFalse, All};
 ghost use Rattle.cable_world.specs.World.{world_of_nodes, IsNodeAtPowerOn};
 ghost use Rattle.cable_world.specs.Run.{IsReached};
 ghost use Rattle.cable_world.specs.Parts.{world_record};
+ghost use Rattle.cable_world.specs.Still.{AreSilent};
 ghost use Rattle.cable_world.specs.Turn.{turns_after};
 ghost use Rattle.world_agenda.specs.Clock.{caught_up};
 ghost use Rattle.world_agenda.specs.Agenda.{Knows};
 
 use crate::node::AgendaNode;
 use crate::nodes::{Agenda, act_agenda, turn_agenda};
+use crate::still::TellsStillTurns;
 use cable_world::parts::{
     ArrivalRow, WireRow, all_silent, arrival_rows, no_changes, pass_wires, port_counts, wire_rows,
 };
@@ -95,6 +97,26 @@ impl<M: PortMachine + Drop> AgendaWorld<M> {
 }
 
 impl<M: PortMachine> AgendaWorld<M> {
+    /// For how many of the next turns no signal is under way and no node is due, `most` at most. They
+    /// may be more.
+    fn rest(&self, most: u32) -> u32
+        requires sound { IsFalse self.now.spent }
+        ensures most { result ≤ most }
+        ensures silent { 0 < result → AreSilent self.now.wires.items }
+        ensures idle { 0 < result →
+            All (λ n. self.now.turns + result ≤ n.clock + n.idle) self.now.nodes.items }
+    {
+        let agenda = self.agenda;
+        let rest = agenda.rest(self.turns, most);
+        if rest == 0 {
+            return 0;
+        }
+        if !all_silent(&self.wires) {
+            return 0;
+        }
+        rest
+    }
+
     /// Passes over turns in which no signal is under way and no node is due, `most` at most. Answers how
     /// many these were.
     fn pass_over(&mut self, most: u32) -> u32
@@ -111,12 +133,8 @@ impl<M: PortMachine> AgendaWorld<M> {
         ensures turns { self.new.turns ≡ self.old.turns + result }
         ensures sound { IsFalse self.new.spent }
     {
-        let agenda = self.agenda;
-        let rest = agenda.rest(self.turns, most);
+        let rest = self.rest(most);
         if rest == 0 {
-            return 0;
-        }
-        if !all_silent(&self.wires) {
             return 0;
         }
         worlds_stay_lawful();
@@ -263,5 +281,14 @@ impl<M: PortMachine> ShowsWires for AgendaWorld<M> {
             None => &[],
             Some(row) => row.under_way(end.port),
         }
+    }
+}
+
+impl<M: PortMachine> TellsStillTurns for AgendaWorld<M> {
+    fn still_turns(&self, most: u32) -> u32 {
+        if self.spent {
+            return 0;
+        }
+        self.rest(most)
     }
 }

@@ -7,6 +7,8 @@ mod heard;
 mod mask;
 mod node;
 mod nodes;
+mod still;
 
 pub use agenda::AgendaWorld;
 pub use cabling::OutOfMemory;
+pub use still::TellsStillTurns;

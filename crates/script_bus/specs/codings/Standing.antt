@@ -17,8 +17,8 @@ use Rattle.script_text.specs.ReportText.{Names, IsNamedReport, IsReportText}
 use Rattle.script_told.specs.Bus.{Bus, Reported}
 use Rattle.script_text.specs.Plan.{IsPlan, plan_line}
 use Rattle.script_told.specs.Step.{IsTreeOf, Acts, Reports, config_of, node_with, notes_after_report}
+use Rattle.script_trace.specs.Voice.{Voice}
 use Rattle.script_trace.specs.Trace.{act_trace, quiet_trace}
-use Rattle.script_bus.specs.Heard.{heard}
 
 -- no act came since a report was made: holds and turns alone led from its world to this one
 pub record StandsSince (report : Report) (w : CableWorld) : Type 0 where
@@ -88,29 +88,27 @@ pub record IsReportedNow (bus after : Bus) (text : List ℕ) : Type 0 where
   pub text_is : IsReportText bus.notes.names after.notes.reports report text
 
 -- a listener heard the quiet turns
-abbrev pub IsPassed : Bool → Names → CableWorld → List ℕ → List ℕ → Type 0
-IsPassed writes names w out new = new ≡ out ++ heard writes (quiet_trace names w)
+abbrev pub IsPassed : Voice → Names → CableWorld → List ℕ → List ℕ → Type 0
+IsPassed voice names w out new = new ≡ out ++ quiet_trace voice names w
 
 -- the packet of a plan was sent, and a listener heard what it does
 pub record IsPacketSent
-    (writes : Bool) (bus : Bus) (name : List ℕ) (node : NodeNumber) (plan : RootPlan) (sent : Bus)
+    (voice : Voice) (bus : Bus) (name : List ℕ) (node : NodeNumber) (plan : RootPlan) (sent : Bus)
     (out new : List ℕ) : Type 0 where
   pub sends : Acts bus (config_of node (Some plan.root_id) (Some plan.gap)) (Ok (sent, []))
   pub written :
       new
       ≡ out
-      ++ heard writes
-      (act_trace sent.notes.names (Config name (Some plan.root_id) (Some plan.gap)) bus.world
-      sent.world)
+      ++ act_trace voice sent.notes.names (Config name (Some plan.root_id) (Some plan.gap)) bus.world
+      sent.world
 
 -- and then the bus settled, as `IsSent` has it
 pub record IsSentHeard
-    (writes : Bool) (bus : Bus) (name : List ℕ) (node : NodeNumber) (plan : RootPlan) (after : Bus)
+    (voice : Voice) (bus : Bus) (name : List ℕ) (node : NodeNumber) (plan : RootPlan) (after : Bus)
     (text out new : List ℕ) : Type 0 where
   pub sent : IsSent bus node plan after text
   pub written :
       new
       ≡ out
-      ++ heard writes
-      (act_trace after.notes.names (Config name (Some plan.root_id) (Some plan.gap)) bus.world
-      sent.sent.world ++ quiet_trace after.notes.names sent.sent.world)
+      ++ (act_trace voice after.notes.names (Config name (Some plan.root_id) (Some plan.gap)) bus.world
+      sent.sent.world ++ quiet_trace voice after.notes.names sent.sent.world)

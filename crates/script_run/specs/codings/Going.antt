@@ -1,5 +1,5 @@
 -- How the lines of a script are gone through.
-use Rattle.std.specs.Prelude.{◌≡◌, ◌⊎◌, ℕ, Bool, List, [], ◌++◌, None, Some, Ok, Err}
+use Rattle.std.specs.Prelude.{◌≡◌, ◌⊎◌, ℕ, List, [], ◌++◌, None, Some, Ok, Err}
 use Rattle.script_lines.specs.declared.kind.Kind.{Kind}
 use Rattle.script_lines.specs.declared.kind.LineStop.{LineStop}
 use Rattle.script_lines.specs.declared.kind.LineStop.TheVariants as line
@@ -11,8 +11,8 @@ use Rattle.script_run.specs.declared.stage.Phase.TheVariants.{Fresh, Declaring, 
 use Rattle.script_lines.specs.Line.{Reads}
 use Rattle.script_told.specs.Script.{Stage, fresh, declaring, running, delay_of, Follows, fault_at}
 use Rattle.script_told.specs.Run.{Entry, ScriptRun, behind, RunsFrom, IsRun, printed}
+use Rattle.script_trace.specs.Voice.{Voice}
 use Rattle.script_trace.specs.Trace.{TracesAt, AllTrace}
-use Rattle.script_bus.specs.Heard.{heard}
 use Rattle.script_run.specs.codings.Declaring.{draft_now, IsDraft}
 
 abbrev pub stage_now : Phase → Stage
@@ -25,20 +25,20 @@ IsPhase Fresh = Unit {0}
 IsPhase (Declaring draft) = IsDraft draft
 IsPhase (Running bus) = Unit {0}
 
--- a command led from a stage to the next, and a listener added what happened in it to its text
+-- a command led from a stage to the next, and a listener added what its voice tells of that to its text
 pub record HearsAt
-    (writes : Bool) (stage : Stage) (command : Command) (next : Stage) (out new : List ℕ) :
+    (voice : Voice) (stage : Stage) (command : Command) (next : Stage) (out new : List ℕ) :
     Type 0 where
   pub lines : List ℕ
-  pub traces : TracesAt stage command next lines
-  pub written : new ≡ out ++ heard writes lines
+  pub traces : TracesAt voice stage command next lines
+  pub written : new ≡ out ++ lines
 
 -- a line leads from a stage to the next and prints this, and a listener hears what happens
-abbrev pub LineLeads : Bool → Stage → List ℕ → Stage → List ℕ → List ℕ → List ℕ → Type 0
-LineLeads writes stage line next text out new =
+abbrev pub LineLeads : Voice → Stage → List ℕ → Stage → List ℕ → List ℕ → List ℕ → Type 0
+LineLeads voice stage line next text out new =
     (Reads (delay_of stage) line (Ok None) × (next ≡ stage) × (text ≡ []) × (new ≡ out))
     ⊎ ((command : Command) × Reads (delay_of stage) line (Ok (Some command))
-    × Follows stage command (Ok (next, text)) × HearsAt writes stage command next out new)
+    × Follows stage command (Ok (next, text)) × HearsAt voice stage command next out new)
 
 -- a line is at fault
 abbrev pub LineFails : Stage → List ℕ → Kind → Type 0
@@ -60,11 +60,11 @@ Went bytes entries number lines stage =
 
 -- so they went, this is what they printed, and a listener heard what happened at them
 pub record HaveGone
-    (writes : Bool) (bytes text out new : List ℕ) (number : ℕ) (lines : List (List ℕ))
+    (voice : Voice) (bytes text out new : List ℕ) (number : ℕ) (lines : List (List ℕ))
     (stage : Stage) : Type 0 where
   pub entries : List Entry
   pub went : Went bytes entries number lines stage
   pub text_is : text ≡ printed entries
   pub trace : List ℕ
-  pub traced : AllTrace entries trace
-  pub written : new ≡ out ++ heard writes trace
+  pub traced : AllTrace voice entries trace
+  pub written : new ≡ out ++ trace

@@ -8,6 +8,7 @@ returns-clause-some c =
       some = c.one_reading.ensures.some;
       run = c.each_script_has_a_run.ensures;
       traces = c.scripts_have_one_trace.ensures.some;
+      dumps = c.scripts_have_one_dump.ensures.some;
     }
 
 pub returns-clause-one : goal.returns-clause-one
@@ -20,4 +21,6 @@ returns-clause-one c =
       told = c.scripts_tell_one_thing.ensures.told;
       traces = c.scripts_have_one_trace.ensures.one;
       texts = c.scripts_have_one_trace.ensures.told;
+      dumps = c.scripts_have_one_dump.ensures.one;
+      dumped_texts = c.scripts_have_one_dump.ensures.told;
     }

@@ -2,7 +2,7 @@ use Rattle.std.proofs.Common.{◌≡◌, ◌⊎◌, ◌≤◌, length}
 use Rattle.std.specs.Io.KnownBytes.{Appends}
 use Rattle.bus_cli.proofs.Lemmas.{of_answer, of_few}
 use Rattle.bus_view.specs.Answer.{Answers}
-use Rattle.bus_view.proofs.Ends.{trace_written}
+use Rattle.bus_view.proofs.Ends.{trace_written, waves_written}
 use Rattle.bus_view.proofs.top.view_main.Goals as goal
 
 pub returns-clause-streams : goal.returns-clause-streams
@@ -36,3 +36,7 @@ returns-clause-streams g c =
 pub returns-clause-trace : goal.returns-clause-trace
 returns-clause-trace g c = λ zero asks.
     trace_written c.args.words.now (g.S.Source.left c.args.source.now) (g.K.Sink.written c.args.sink.now) (g.K.Sink.written c.view_words.new.sink) c.view_words.result asks zero c.view_words.ensures.answer
+
+pub returns-clause-waves : goal.returns-clause-waves
+returns-clause-waves g c = λ zero asks.
+    waves_written c.args.words.now (g.S.Source.left c.args.source.now) (g.K.Sink.written c.args.sink.now) (g.K.Sink.written c.view_words.new.sink) c.view_words.result asks zero c.view_words.ensures.answer

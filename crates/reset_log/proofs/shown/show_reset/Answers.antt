@@ -1,13 +1,9 @@
 use Rattle.std.proofs.Common.{refl}
-use Rattle.reset_log.specs.Shown.{is_refused, is_heard}
+use Rattle.reset_log.proofs.Judged.{judged}
 use Rattle.reset_log.proofs.shown.show_reset.Goals as goal
 
-pub returns-in_ok-put-in-Ok : goal.returns-in_ok-put-in-Ok
-returns-in_ok-put-in-Ok c =
-    is_heard c.in-Ok.tree c.if-reset.false c.in-Ok.ensures.tree
-    (rw (c.last_tree.ensures, c.deref.ensures.value) at c.in_ok-text-in-Ok.ensures) refl c.in_ok-put-in-Ok.ensures
-
-pub returns-in_ok-text-in-Err-Fault : goal.returns-in_ok-text-in-Err-Fault
-returns-in_ok-text-in-Err-Fault c =
-    is_refused c.in-Err-Fault.fault c.if-reset.false (rw c.in-Err-Fault.field-0-is at c.in-Err-Fault.ensures.fault)
-    (rw (← c.in-Err-Fault.fault-is) c.in_ok-text-in-Err-Fault.ensures) refl refl
+pub returns : goal.returns
+returns c =
+    judged c.args.standard c.args.number c.args.cards.now.items c.keep_heard.new.cards.items c.args.reset.now c.deref-2.result.now c.as_slice-list.result.now _ _ c.in_ok-text.field-0.tree c.in_ok-bad.bad
+    c.if-reset.false (rw (c.deref-2.ensures.value, c.in_ok-put_head.ensures, c.new-head.ensures.items) refl) c.as_slice-list.ensures
+    (rw (c.deref.ensures.value) at c.last_tree-before.ensures) c.in_ok-text.ensures c.in_ok-bad.ensures.bad c.in_ok-bad.ensures.kept

@@ -7,7 +7,7 @@ pub loop-rest-init : goal.loop-rest-init
 loop-rest-init g c = (
   omega (arith, c.requires),
   omega arith,
-  gone-first g.L.Listener.writes c.args.bytes.now _ _ _ c.new-text.ensures.items c.new-stage.ensures,
+  gone-first g.L.Listener.voice c.args.bytes.now _ _ _ c.new-text.ensures.items c.new-stage.ensures,
 )
 
 pub returns-in-Err-clause-refused : goal.returns-in-Err-clause-refused
@@ -22,5 +22,5 @@ loop-rest-preserved g c =
     let lines = ap (λ (l : List (List ℕ)). length l) c.cut_line.ensures.lines in (
       omega (arith, c.cut_line.ensures.shorter, c.loop-rest.invariant.0),
       omega (arith, lines, c.loop-rest.invariant.1),
-      gone-next g.L.Listener.writes c.args.bytes.now c.loop-rest.text.items _ done.0 _ _ _ c.loop-rest.number c.cut_line.result.0.now (script_lines c.cut_line.result.1.now) _ c.loop-rest.stage c.take.new.self c.cut_line.ensures.lines done.2 done.1 c.loop-rest.invariant.2,
+      gone-next g.L.Listener.voice c.args.bytes.now c.loop-rest.text.items _ done.0 _ _ _ c.loop-rest.number c.cut_line.result.0.now (script_lines c.cut_line.result.1.now) _ c.loop-rest.stage c.take.new.self c.cut_line.ensures.lines done.2 done.1 c.loop-rest.invariant.2,
     )

@@ -1,4 +1,4 @@
-use Rattle.std.proofs.Common.{◌∙◌, ◌+◌, ◌<◌, ℕ, List, length, map, ap, sym, arith, inl, inr}
+use Rattle.std.proofs.Common.{◌∙◌, ◌+◌, ℕ, List, length, map, ap, sym, arith, inl, inr}
 use Rattle.std.proofs.lemmas.List.{length-map}
 use Rattle.port_state.specs.Machine.{PortNode}
 use Rattle.cable_world.specs.Wire.{Wire, arrives, stays}

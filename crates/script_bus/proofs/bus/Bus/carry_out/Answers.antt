@@ -20,5 +20,5 @@ pass-requires g c =
 
 pub returns : goal.returns
 returns g c =
-    sent-heard g.L.Listener.writes c.args.self c.in_ok-sent.sent c.in_ok-settled.settled.0 c.args.name.now c.args.node c.args.plan.now _ _ _ _
+    sent-heard g.L.Listener.voice c.args.self c.in_ok-sent.sent c.in_ok-settled.settled.0 c.args.name.now c.args.node c.args.plan.now _ _ _ _
     c.in_ok-sent.ensures.sent c.in_ok-settled.ensures.reports c.in_ok-settled.ensures.heard

@@ -6,4 +6,4 @@ use Rattle.script_bus.proofs.bus.Bus.command.Goals as goal
 pub returns-in_ok-text-in-Node-clause-heard : goal.returns-in_ok-text-in-Node-clause-heard
 returns-in_ok-text-in-Node-clause-heard g c =
     let asks : IsQuestion c.args.command.now = search rules in
-    question-hears g.L.Listener.writes _ _ c.args.command.now _ asks
+    question-hears g.L.Listener.voice _ _ c.args.command.now _ asks

@@ -3,9 +3,8 @@ use Rattle.cable_world.specs.World.{CableWorld}
 use Rattle.cable_world.proofs.Lemmas.{lawful-now}
 use Rattle.settle_plan.proofs.Lemmas.{from-there, not-refused, packet-fits}
 use Rattle.script_lines.specs.declared.command.Command.TheVariants as command
-use Rattle.script_trace.specs.Step.{seen_before_act, lines_since}
-use Rattle.script_trace.specs.Trace.{command_line}
-use Rattle.script_bus.specs.Heard.{heard}
+use Rattle.script_trace.specs.Event.{Seen}
+use Rattle.script_trace.specs.Step.{seen_before_act}
 use Rattle.script_bus.proofs.Hearing.{acted}
 use Rattle.script_bus.proofs.bus.Bus.send.Goals as goal
 
@@ -25,9 +24,12 @@ returns-clause-sent g c =
     let w = c.args.self.world in
     let bus = c.in_ok-bus.bus in
     let plan = c.args.plan.now in
-    let said = c.in_ok-command.ensures ∙ ap (λ (n : List ℕ). g.L.Listener.written c.args.listener.now ++ heard g.L.Listener.writes (command_line c.turns.result (command.Config n (Some plan.root_id) (Some plan.gap)))) c.in_ok-clone.ensures.cases in
+    let voice = g.L.Listener.voice in
+    let said = c.in_ok-command.ensures ∙ ap (λ (n : List ℕ). g.L.Listener.written c.args.listener.now ++ voice.command c.turns.result (command.Config n (Some plan.root_id) (Some plan.gap))) c.in_ok-clone.ensures.cases in
     record {
       sends = c.in_ok-bus.ensures.done;
-      written = acted g.L.Listener.writes bus.notes.names w bus.world c.turns.result (command.Config c.args.name.now (Some plan.root_id) (Some plan.gap)) _ _ _ c.deref.result.now c.names.result.now
-          c.turns.ensures said (λ writes. c.deref.ensures.value ∙ c.in_ok-seen.ensures writes ∙ ap (λ (v : CableWorld). seen_before_act v 0 v.nodes) c.world.ensures.is) c.names.ensures (c.in_ok-after_act.ensures ∙ ap (λ (v : CableWorld). g.L.Listener.written c.command.new.self ++ heard g.L.Listener.writes (lines_since c.names.result.now c.deref.result.now v)) c.world-2.ensures.is);
+      written = acted voice bus.notes.names w bus.world c.turns.result (command.Config c.args.name.now (Some plan.root_id) (Some plan.gap)) _ _ _ c.deref.result.now c.names.result.now
+          c.turns.ensures said
+          (λ ns u. ap (λ (s : List Seen). voice.since ns s u) c.deref.ensures.value ∙ c.in_ok-seen.ensures ns u ∙ ap (λ (z : CableWorld). voice.since ns (seen_before_act z 0 z.nodes) u) c.world.ensures.is)
+          c.names.ensures (c.in_ok-after_act.ensures ∙ ap (λ (v : CableWorld). g.L.Listener.written c.command.new.self ++ voice.since c.names.result.now c.deref.result.now v) c.world-2.ensures.is);
     }

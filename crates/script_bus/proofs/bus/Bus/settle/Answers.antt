@@ -7,4 +7,4 @@ returns-clause-done g c =
 
 pub returns-clause-heard : goal.returns-clause-heard
 returns-clause-heard g c =
-    settle-hears g.L.Listener.writes c.args.self _ _ _ _ c.in_ok-pass.ensures.reports c.in_ok-pass.ensures.heard
+    settle-hears g.L.Listener.voice c.args.self _ _ _ _ c.in_ok-pass.ensures.reports c.in_ok-pass.ensures.heard

@@ -1,19 +1,19 @@
-use Rattle.std.proofs.Common.{◌≡◌, ◌∙◌, ◌+◌, ◌<◌, ◌≤◌, All, List, length, map, get_or, ap, sym, subst, arith}
+use Rattle.std.proofs.Common.{◌≡◌, ◌∙◌, ◌+◌, ◌<◌, ◌≤◌, List, length, map, ap, sym, subst, arith}
 use Rattle.std.specs.Vec.{with_items}
 use Rattle.std.proofs.lemmas.List.{with_items_is}
-use Rattle.std.proofs.lemmas.List.Elements.{All-map, All-weaker}
+use Rattle.std.proofs.lemmas.List.Elements.{All-weaker}
 use Rattle.std.proofs.Math.Logic.{∥∥₁_map}
-use Rattle.port_state.specs.Idle.{IsIdleFor, after_ticks}
+use Rattle.port_state.specs.Idle.{after_ticks}
 use Rattle.port_state.specs.Machine.{PortNode}
 use Rattle.cable_world.specs.Wire.{Wire}
 use Rattle.cable_world.specs.World.{CableWorld}
 use Rattle.cable_world.specs.Parts.{world_record}
 use Rattle.world_agenda.specs.declared.node.AgendaNode.{AgendaNode}
 use Rattle.world_agenda.specs.Clock.{caught_up}
-use Rattle.cable_world.specs.Still.{AreSilent, IsStillFor, hold_less}
+use Rattle.cable_world.specs.Still.{hold_less}
 use Rattle.cable_world.specs.Run.{IsReached}
-use Rattle.world_agenda.proofs.Known.{all-idle}
-use Rattle.world_agenda.proofs.Late.{all-later, still-idle}
+use Rattle.world_agenda.proofs.Late.{all-later}
+use Rattle.world_agenda.proofs.Ahead.{still-for}
 use Rattle.world_agenda.proofs.Turns.{no-turns}
 use Rattle.world_agenda.proofs.Whole.{lawful-now}
 use Rattle.world_agenda.proofs.agenda.AgendaWorld.pass_over.Goals as goal
@@ -22,9 +22,6 @@ use Rattle.cable_world.proofs.Lemmas.{rows-long}
 pub returns-then-rest-eq0-clause-done : goal.returns-then-rest-eq0-clause-done
 returns-then-rest-eq0-clause-done g c = sym (no-turns _)
 
-pub returns-then-not-all_silent-clause-done : goal.returns-then-not-all_silent-clause-done
-returns-then-not-all_silent-clause-done g c = sym (no-turns _)
-
 pub invariant_of-self : goal.invariant_of-self
 invariant_of-self g c =
     let self = c.args.self.now in
@@ -32,19 +29,12 @@ invariant_of-self g c =
     let w : CableWorld = world_record self.delay self.cabling (map f self.nodes.items) self.wires.items self.changed.items self.turns in
     let k = c.rest-rest.result in
     let behind = self.behind c.requires.sound in
-    let idle : All (λ n. self.turns + k ≤ n.clock + n.idle) self.nodes.items =
     let some : 0 < k = omega (arith, c.if-rest-eq0.false) in
-    all-idle (λ n. n.clock + n.idle) self.agenda.soon self.agenda.next (self.turns + k) self.nodes.items (c.rest-rest.ensures.none some) (c.rest-rest.ensures.end some)
-    (self.knows c.requires.sound).idles in
     let ws = with_items_is self.wires c.pass_wires.new.wires (c.pass_wires.auto.wires ∙ c.deref_mut.ensures.len) in
     let h : AgendaNode g.row.M.Denot g.M.PortMachine → PortNode = λ n. caught_up (self.turns + k) n.clock (g.M.PortMachine.record_of n.machine) in
     let r : AgendaNode g.row.M.Denot g.M.PortMachine → PortNode = λ n. g.M.PortMachine.record_of n.machine in
-    let still : IsStillFor k w = record {
-      silent = λ some. subst AreSilent c.deref.ensures.value (c.all_silent.ensures.0 c.if-not-all_silent.false);
-      idle = All-map (λ x. IsIdleFor k x) f self.nodes.items (λ i d inside.
-          let n = get_or self.nodes.items i d in
-          still-idle k self.turns n.clock n.idle (r n) (behind i d inside) (idle i d inside) n.rests);
-    } in
+    let still = still-for r (λ n. n.clock) (λ n. n.idle) (λ n. n.rests) self.turns k self.nodes.items self.delay self.cabling self.wires.items self.changed.items
+    c.rest-rest.ensures.silent (λ s. behind) c.rest-rest.ensures.idle in
     let nodes : map h self.nodes.items ≡ map (after_ticks k) (map f self.nodes.items) = all-later r (λ n. n.clock) k self.turns self.nodes.items behind in
     let rows = ws ∙ c.pass_wires.ensures ∙ ap (map (map (hold_less k))) c.deref_mut.ensures.value in
     let done =
@@ -54,7 +44,7 @@ invariant_of-self g c =
     record {
       reached = λ fine. subst (λ v. ∥ IsReached v ∥₁) (sym done) (∥∥₁_map (self.reached c.requires.sound) (c.worlds_stay_reached.ensures.turns k w));
       behind = λ fine. All-weaker (λ n. n.clock ≤ self.turns) (λ n. n.clock ≤ self.turns + k) (λ n few. omega (arith, few)) self.nodes.items behind;
-      idle = idle;
+      idle = c.rest-rest.ensures.idle some;
       marks = self.marks;
       knows = self.knows;
       same = λ fine. self.same c.requires.sound
@@ -69,19 +59,11 @@ returns-clause-done g c =
     let w : CableWorld = world_record self.delay self.cabling (map f self.nodes.items) self.wires.items self.changed.items self.turns in
     let k = c.rest-rest.result in
     let behind = self.behind c.requires.sound in
-    let idle : All (λ n. self.turns + k ≤ n.clock + n.idle) self.nodes.items =
-    let some : 0 < k = omega (arith, c.if-rest-eq0.false) in
-    all-idle (λ n. n.clock + n.idle) self.agenda.soon self.agenda.next (self.turns + k) self.nodes.items (c.rest-rest.ensures.none some) (c.rest-rest.ensures.end some)
-    (self.knows c.requires.sound).idles in
     let ws = with_items_is self.wires c.pass_wires.new.wires (c.pass_wires.auto.wires ∙ c.deref_mut.ensures.len) in
     let h : AgendaNode g.row.M.Denot g.M.PortMachine → PortNode = λ n. caught_up (self.turns + k) n.clock (g.M.PortMachine.record_of n.machine) in
     let r : AgendaNode g.row.M.Denot g.M.PortMachine → PortNode = λ n. g.M.PortMachine.record_of n.machine in
-    let still : IsStillFor k w = record {
-      silent = λ some. subst AreSilent c.deref.ensures.value (c.all_silent.ensures.0 c.if-not-all_silent.false);
-      idle = All-map (λ x. IsIdleFor k x) f self.nodes.items (λ i d inside.
-          let n = get_or self.nodes.items i d in
-          still-idle k self.turns n.clock n.idle (r n) (behind i d inside) (idle i d inside) n.rests);
-    } in
+    let still = still-for r (λ n. n.clock) (λ n. n.idle) (λ n. n.rests) self.turns k self.nodes.items self.delay self.cabling self.wires.items self.changed.items
+    c.rest-rest.ensures.silent (λ s. behind) c.rest-rest.ensures.idle in
     let nodes : map h self.nodes.items ≡ map (after_ticks k) (map f self.nodes.items) = all-later r (λ n. n.clock) k self.turns self.nodes.items behind in
     let rows = ws ∙ c.pass_wires.ensures ∙ ap (map (map (hold_less k))) c.deref_mut.ensures.value in
     ap (λ xs. world_record self.delay self.cabling xs (with_items self.wires c.pass_wires.new.wires).items self.changed.items (self.turns + k)) nodes

@@ -1,0 +1,47 @@
+//! A sink that keeps the front of what it wrote.
+
+use io_edges::{Failed, Sink};
+use std::alloc::Global;
+
+/// How many bytes are kept. A refusal with more, which a word of some thousand characters makes, is cut here.
+const FRONT: usize = 8_192;
+
+/// A sink into another one. It keeps the first bytes that the other one took, up to a piece for which
+/// there was no memory.
+#[derive(Debug, Drop)]
+pub struct FrontSink<S> {
+    inner: S,
+    front: Vec<u8>,
+}
+
+impl<S: Sink> FrontSink<S> {
+    /// A sink into `inner`, with nothing kept.
+    pub fn new(alloc: Global, inner: S) -> FrontSink<S> {
+        FrontSink {
+            inner,
+            front: Vec::new(alloc),
+        }
+    }
+
+    /// What was kept.
+    pub fn front(&self) -> &[u8] {
+        self.front.as_slice()
+    }
+}
+
+impl<S: Sink> Sink for FrontSink<S> {
+    ghost written = { λ sink. S.written sink.inner };
+
+    ghost faults = { λ sink. S.faults sink.inner };
+
+    ghost surely_takes = { λ sink count. S.surely_takes sink.inner count };
+
+    fn write(&mut self, buf: &[u8]) -> Result<usize, Failed> {
+        let count = self.inner.write(buf)?;
+        if self.front.len() < FRONT {
+            let room = FRONT - self.front.len();
+            let _ = self.front.extend_from_slice(&buf[..count.min(room)]);
+        }
+        Ok(count)
+    }
+}

@@ -1,0 +1,9 @@
+//! What bytes look like that are refused as a capture, and the command that makes a capture of them.
+#![tactic(auto)]
+
+mod hint;
+mod likeness;
+
+pub use hint::put_hint;
+pub use likeness::{Likeness, likeness_of};
+pub use quad_lanes::OutOfMemory;

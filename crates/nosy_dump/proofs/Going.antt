@@ -1,0 +1,294 @@
+-- A reader of a dump, byte by byte.
+use Rattle.std.proofs.Common.{◌≡◌, ◌∙◌, ℕ, zero, suc, ◌+◌, ◌-◌, ◌<◌, ◌≤◌, ◌^◌, Bool, false, ◌||◌, Option, Some, None, List, [], ◌∷◌, ◌++◌, length, take, drop, refl, sym, ap, subst, append_assoc, length-append, arith}
+use Rattle.std.specs.Prelude.{is_some, slice_index}
+use Rattle.std.specs.Io.KnownBytes.{Appends}
+use Rattle.io_edges.specs.Told.{StayTold}
+use Rattle.topology_stack.specs.Tree.{Tree}
+use Rattle.reset_log.specs.InOrder.{AreTold}
+use Rattle.reset_log.proofs.Lemmas.{appends_then}
+use Rattle.nosy_dump.specs.declared.dump.DumpReader.{DumpReader}
+use Rattle.nosy_dump.specs.declared.record.Record.TheVariants.{Reset, SelfId, Other}
+use Rattle.nosy_dump.specs.declared.record.DumpReset.{DumpReset}
+use Rattle.nosy_dump.specs.declared.record.DumpFault.{DumpFault}
+use Rattle.nosy_dump.specs.declared.record.DumpFault.TheVariants.{BadLength}
+use Rattle.nosy_dump.specs.Record.{record_bytes, dump_of, record_of, IsOpen, EndsSo}
+use Rattle.nosy_dump.specs.Resets.{resets_from}
+use Rattle.nosy_dump.specs.Texts.{fault_text}
+use Rattle.nosy_dump.specs.Dump.{IsResetShown, IsWritten, IsBegunWritten, but_last}
+use Rattle.nosy_dump.specs.codings.Going.{AreResets, Stands, IsWhole, HasBadLength, ShowsBy, with_packet, Goes}
+use Rattle.nosy_dump.proofs.Records.{no_more, dump_more, sized_more, few_records, more_size, resets_other, resets_reset, resets_packet, last_more, last_none, last_with, few_resets, but_last-more}
+use Rattle.nosy_dump.proofs.Waiting.{AllShown, few_ended, all_shown}
+
+-- ---- the bytes behind the whole records
+
+-- a byte more, of which this is known now
+pub one_byte : (Holds Now : List ℕ → Type 0) (old new : DumpReader) (done : List ℕ) (b : ℕ) (start was : Option (List ℕ)) →
+    Stands Holds old done start was → Now new.part.items → new.part.items ≡ old.part.items ++ b ∷ [] →
+    new.standard ≡ old.standard → new.pending ≡ old.pending → new.tree ≡ old.tree → new.number ≡ old.number → new.bad ≡ old.bad → new.taken ≡ old.taken + 1 →
+    Stands Now new (done ++ b ∷ []) start was
+one_byte Holds Now old new done b start was st now part es ep et en eb ek = record {
+  records = st.records;
+  ended = st.ended;
+  done_is =
+      ap (λ (d : List ℕ). d ++ b ∷ []) st.done_is
+      ∙ append_assoc (dump_of st.records) old.part.items (b ∷ [])
+      ∙ ap (λ (o : List ℕ). dump_of st.records ++ o) (sym part);
+  sized = st.sized;
+  holds = now;
+  resets_are = subst (λ (p : Option DumpReset). AreResets st.records st.ended p) (sym ep) st.resets_are;
+  text = st.text;
+  told = rw (es, et, eb) st.told;
+  number_is = en ∙ st.number_is;
+  taken_is = omega (arith, ek, st.taken_is, length-append done (b ∷ []));
+  wrote = st.wrote;
+  stay = st.stay;
+}
+
+-- what bytes hold, and what is known of them
+pub holds_now : (Holds Now : List ℕ → Type 0) (r : DumpReader) (done : List ℕ) (start was : Option (List ℕ)) →
+    (Holds r.part.items → Now r.part.items) → Stands Holds r done start was →
+    Stands Now r done start was
+holds_now Holds Now r done start was then st = record {
+  records = st.records;
+  ended = st.ended;
+  done_is = st.done_is;
+  sized = st.sized;
+  holds = then st.holds;
+  resets_are = st.resets_are;
+  text = st.text;
+  told = st.told;
+  number_is = st.number_is;
+  taken_is = st.taken_is;
+  wrote = st.wrote;
+  stay = st.stay;
+}
+
+pub at_start : (r : DumpReader) (told : Option (List ℕ)) → r.part.items ≡ [] → r.pending ≡ None →
+    r.tree ≡ None → r.number ≡ 1 → r.taken ≡ 0 → r.bad ≡ false → Stands IsOpen r [] told told
+at_start r told part pending tree number taken bad = record {
+  records = [];
+  ended = [];
+  done_is = sym part;
+  sized = tt;
+  holds = subst IsOpen (sym part) tt;
+  resets_are = subst (λ (p : Option DumpReset). AreResets [] [] p) (sym pending) (refl, refl);
+  text = [];
+  told = (refl, bad, tree);
+  number_is = number;
+  taken_is = taken;
+  wrote = nothing told;
+  stay = refl;
+}
+  where
+    nothing : (a : Option (List ℕ)) → Appends a a []
+    nothing None = tt
+    nothing (Some xs) = sym (no_more xs)
+
+-- ---- a whole record
+
+whole_done : (records : List (List ℕ)) (part done : List ℕ) → done ≡ dump_of records ++ part →
+    part ≡ record_bytes (drop 4 part) → done ≡ dump_of (records ++ drop 4 part ∷ []) ++ []
+whole_done records part done e w =
+    e ∙ ap (λ (o : List ℕ). dump_of records ++ o) w ∙ sym (dump_more records (drop 4 part))
+    ∙ sym (no_more (dump_of (records ++ drop 4 part ∷ [])))
+
+pub after_other : (old new : DumpReader) (done : List ℕ) (start was : Option (List ℕ)) →
+    Stands IsWhole old done start was → record_of (drop 4 old.part.items) ≡ Other →
+    new.part.items ≡ [] → new.standard ≡ old.standard → new.pending ≡ old.pending → new.tree ≡ old.tree → new.number ≡ old.number → new.bad ≡ old.bad → new.taken ≡ old.taken →
+    Stands IsOpen new done start was
+after_other old new done start was st kind part es ep et en eb ek = record {
+  records = st.records ++ drop 4 old.part.items ∷ [];
+  ended = st.ended;
+  done_is = rw part (whole_done st.records old.part.items done st.done_is st.holds.bytes_are);
+  sized = sized_more st.records (drop 4 old.part.items) st.sized st.holds.sized;
+  holds = subst IsOpen (sym part) tt;
+  resets_are = rw ep (same old.pending st.resets_are);
+  text = st.text;
+  told = rw (es, et, eb) st.told;
+  number_is = en ∙ st.number_is;
+  taken_is = ek ∙ st.taken_is;
+  wrote = st.wrote;
+  stay = st.stay;
+}
+  where
+    same : (p : Option DumpReset) → AreResets st.records st.ended p →
+        AreResets (st.records ++ drop 4 old.part.items ∷ []) st.ended p
+    same None are = (resets_other 0 st.records (drop 4 old.part.items) kind ∙ are.0, are.1)
+    same (Some p) are = resets_other 0 st.records (drop 4 old.part.items) kind ∙ are
+
+pub after_packet : (old new : DumpReader) (done : List ℕ) (quad : ℕ) (start was : Option (List ℕ)) →
+    Stands IsWhole old done start was → record_of (drop 4 old.part.items) ≡ SelfId quad →
+    new.pending ≡ with_packet quad old.pending →
+    new.part.items ≡ [] → new.standard ≡ old.standard → new.tree ≡ old.tree → new.number ≡ old.number → new.bad ≡ old.bad → new.taken ≡ old.taken →
+    Stands IsOpen new done start was
+after_packet old new done quad start was st kind ep part es et en eb ek = record {
+  records = st.records ++ drop 4 old.part.items ∷ [];
+  ended = st.ended;
+  done_is = rw part (whole_done st.records old.part.items done st.done_is st.holds.bytes_are);
+  sized = sized_more st.records (drop 4 old.part.items) st.sized st.holds.sized;
+  holds = subst IsOpen (sym part) tt;
+  resets_are = rw ep (with old.pending st.resets_are);
+  text = st.text;
+  told = rw (es, et, eb) st.told;
+  number_is = en ∙ st.number_is;
+  taken_is = ek ∙ st.taken_is;
+  wrote = st.wrote;
+  stay = st.stay;
+}
+  where
+    more : resets_from 0 (st.records ++ drop 4 old.part.items ∷ []) ≡ last_with quad (resets_from 0 st.records)
+    more = resets_packet 0 st.records (drop 4 old.part.items) quad kind
+
+    with : (p : Option DumpReset) → AreResets st.records st.ended p →
+        AreResets (st.records ++ drop 4 old.part.items ∷ []) st.ended (with_packet quad p)
+    with None are = (more ∙ last_none (resets_from 0 st.records) quad are.0, are.1)
+    with (Some p) are = more ∙ ap (λ (l : List DumpReset). last_with quad l) are ∙ last_more st.ended p quad
+
+-- fewer than 2 ^ 63 resets
+few_numbers : (old : DumpReader) (Holds : List ℕ → Type 0) (done : List ℕ) (start was : Option (List ℕ)) →
+    (st : Stands Holds old done start was) → length done ≤ 67108864 → old.number < 2 ^ 63
+few_numbers old Holds done start was st few =
+    let a = few_ended st.records st.ended old.pending st.resets_are in
+    let b = few_resets 0 st.records in
+    let c = few_records st.records in
+    let d : length done ≡ length (dump_of st.records) + length old.part.items = ap (λ (l : List ℕ). length l) st.done_is ∙ length-append (dump_of st.records) old.part.items in
+    omega (arith, a, b, c, d, few, st.number_is)
+
+pub place_of : (old : DumpReader) (Holds : List ℕ → Type 0) (done : List ℕ) (start was : Option (List ℕ)) (byte : ℕ) →
+    (st : Stands Holds old done start was) → byte ≡ old.taken - length old.part.items →
+    byte ≡ length (dump_of st.records)
+place_of old Holds done start was byte st e =
+    let d : length done ≡ length (dump_of st.records) + length old.part.items = ap (λ (l : List ℕ). length l) st.done_is ∙ length-append (dump_of st.records) old.part.items in
+    omega (arith, d, e, st.taken_is)
+
+shown_now : (old : DumpReader) (Holds : List ℕ → Type 0) (done : List ℕ) (start was is : Option (List ℕ)) (m : ℕ) (u : Option Tree) (c : Bool) →
+    (st : Stands Holds old done start was) → length done ≤ 67108864 → StayTold was is →
+    ShowsBy old.standard old.pending old.number old.tree old.bad m u c was is →
+    AllShown old.standard st.records start is m u c
+shown_now old Holds done start was is m u c st few still shows =
+    all_shown old.standard st.records st.ended old.pending st.text old.number m old.tree u old.bad c start was is
+    st.resets_are st.told st.number_is (few_numbers old Holds done start was st few) st.wrote st.stay still shows
+
+pub after_reset : (old new : DumpReader) (done : List ℕ) (byte time : ℕ) (start was is : Option (List ℕ)) →
+    Stands IsWhole old done start was → length done ≤ 67108864 → StayTold was is →
+    record_of (drop 4 old.part.items) ≡ Reset time → byte ≡ old.taken - length old.part.items →
+    ShowsBy old.standard old.pending old.number old.tree old.bad new.number new.tree new.bad was is →
+    new.pending ≡ Some (record { byte = byte; time = time; list = [] }) →
+    new.part.items ≡ [] → new.standard ≡ old.standard → new.taken ≡ old.taken →
+    Stands IsOpen new done start is
+after_reset old new done byte time start was is st few still kind at shows ep part es ek =
+    let all = shown_now old IsWhole done start was is new.number new.tree new.bad st few still shows in
+    let there : byte ≡ length (dump_of st.records) = place_of old IsWhole done start was byte st at in
+    let place : byte ≡ 0 + length (dump_of st.records) = omega (arith, there) in
+    record {
+      records = st.records ++ drop 4 old.part.items ∷ [];
+      ended = resets_from 0 st.records;
+      done_is = rw part (whole_done st.records old.part.items done st.done_is st.holds.bytes_are);
+      sized = sized_more st.records (drop 4 old.part.items) st.sized st.holds.sized;
+      holds = subst IsOpen (sym part) tt;
+      resets_are = rw ep (resets_reset 0 st.records (drop 4 old.part.items) time byte kind place);
+      text = all.text;
+      told = rw es all.told;
+      number_is = all.number_is;
+      taken_is = ek ∙ st.taken_is;
+      wrote = all.wrote;
+      stay = all.stay;
+    }
+
+-- ---- the end
+
+pub written : (old : DumpReader) (done more : List ℕ) (start was is will : Option (List ℕ)) (fault : Option DumpFault) (byte m : ℕ) (u : Option Tree) (c : Bool) →
+    Stands (λ bytes. EndsSo (bytes ++ more) fault) old done start was → length done ≤ 67108864 →
+    StayTold was is → byte ≡ old.taken - length old.part.items →
+    ShowsBy old.standard old.pending old.number old.tree old.bad m u c was is →
+    Appends is will (fault_text byte fault) →
+    IsWritten old.standard start will (done ++ more) (c || is_some fault)
+written old done more start was is will fault byte m u c st few still at shows wrote =
+    let all = shown_now old (λ bytes. EndsSo (bytes ++ more) fault) done start was is m u c st few still shows in
+    let place : byte ≡ length (dump_of st.records) = place_of old (λ bytes. EndsSo (bytes ++ more) fault) done start was byte st at in
+    record {
+      text = all.text ++ fault_text byte fault;
+      is_shown = record {
+        records = st.records;
+        rest = old.part.items ++ more;
+        fault = fault;
+        dump_is = ap (λ (d : List ℕ). d ++ more) st.done_is ∙ append_assoc (dump_of st.records) old.part.items more;
+        sized = st.sized;
+        ends = st.holds;
+        resets_text = all.text;
+        is_refused = c;
+        last = u;
+        told = all.told;
+        text_is = ap (λ (b : ℕ). all.text ++ fault_text b fault) place;
+        bad_is = refl;
+      };
+      wrote = appends_then start is will all.text (fault_text byte fault) all.stay all.wrote wrote;
+    }
+
+-- a length that can't be stays where it is
+pub bad_length : (part more : List ℕ) (size : ℕ) → HasBadLength size part →
+    EndsSo (part ++ more) (Some (BadLength size))
+bad_length part more size h = (more_size part more size h.0, h.1)
+
+-- what is written while a dump goes on
+pub begun : (r : DumpReader) (done : List ℕ) (start was : Option (List ℕ)) →
+    Stands IsOpen r done start was → IsBegunWritten r.standard start was done
+begun r done start was st = record {
+  text = st.text;
+  is_shown = record {
+    records = st.records;
+    rest = r.part.items;
+    dump_is = st.done_is;
+    sized = st.sized;
+    is_open = st.holds;
+    bad = r.bad;
+    last = r.tree;
+    told =
+        subst (λ (l : List DumpReset). AreTold (IsResetShown r.standard) 1 None l st.text r.bad r.tree) (sym (all_but r.pending st.resets_are)) st.told;
+  };
+  wrote = st.wrote;
+}
+  where
+    none : (rs ended : List DumpReset) → rs ≡ [] → ended ≡ [] → but_last rs ≡ ended
+    none [] [] e f = refl
+    none [] (y ∷ ys) e f = absurd cc
+    none (x ∷ xs) ended e f = absurd cc
+
+    all_but : (p : Option DumpReset) → AreResets st.records st.ended p →
+        but_last (resets_from 0 st.records) ≡ st.ended
+    all_but None are = none (resets_from 0 st.records) st.ended are.0 are.1
+    all_but (Some p) are = ap but_last are ∙ but_last-more st.ended p
+
+-- a byte within bytes ended a length that can't be
+pub stopped : (s : DumpReader) (done bytes : List ℕ) (at size : ℕ) (start is : Option (List ℕ)) →
+    Goes (Some size) s ((done ++ take at bytes) ++ slice_index bytes at ∷ []) start is → at < length bytes →
+    Goes (Some size) s (done ++ bytes) start is
+stopped s done bytes at size start is goes few =
+    let all : bytes ≡ (take at bytes ++ slice_index bytes at ∷ []) ++ drop (at + 1) bytes = split bytes at few in (
+      goes.0,
+      goes.1 ++ drop (at + 1) bytes,
+      ap (λ (b : List ℕ). done ++ b) all
+          ∙ sym (append_assoc done (take at bytes ++ slice_index bytes at ∷ []) (drop (at + 1) bytes))
+          ∙ ap (λ (d : List ℕ). d ++ drop (at + 1) bytes) (sym (append_assoc done (take at bytes) (slice_index bytes at ∷ [])) ∙ goes.2)
+          ∙ append_assoc goes.0 goes.1 (drop (at + 1) bytes),
+      goes.3,
+    )
+  where
+    split : (bs : List ℕ) (i : ℕ) → i < length bs →
+        bs ≡ (take i bs ++ slice_index bs i ∷ []) ++ drop (i + 1) bs
+    split [] i h = absurd (omega (arith, h))
+    split (b ∷ bs) zero h = refl
+    split (b ∷ bs) (suc i) h =
+        let next : suc i + 1 ≡ suc (i + 1) = omega arith in
+        rw next (ap (λ (l : List ℕ). b ∷ l) (split bs i (omega (arith, h))))
+
+pub few_front : (done bytes : List ℕ) (at : ℕ) → length done + length bytes ≤ 67108864 →
+    at < length bytes → length (done ++ take at bytes) < 67108864
+few_front done bytes at few within =
+    let front : length (take at bytes) ≤ at = shorter at bytes in
+    omega (arith, few, within, front, length-append done (take at bytes))
+  where
+    shorter : (n : ℕ) (xs : List ℕ) → length (take n xs) ≤ n
+    shorter zero xs = omega arith
+    shorter (suc n) [] = omega arith
+    shorter (suc n) (x ∷ xs) = omega (arith, shorter n xs)

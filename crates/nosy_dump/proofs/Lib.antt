@@ -1,0 +1,6 @@
+pub mod Joined
+pub mod Records
+pub mod Waiting
+pub mod Shown
+pub mod Going
+pub mod Reading

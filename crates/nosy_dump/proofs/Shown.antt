@@ -1,0 +1,59 @@
+-- A reset was shown, and a byte was kept.
+use Rattle.std.proofs.Common.{◌≡◌, ℕ, ◌+◌, ◌<◌, ◌≤◌, ◌^◌, Bool, true, ◌||◌, is_none, Option, Some, None, List, [], ◌∷◌, ◌++◌, length, refl, sym, subst, length-append, arith}
+use Rattle.std.specs.Io.KnownBytes.{Appends}
+use Rattle.self_id.specs.declared.standard.Standard.{Standard}
+use Rattle.topology_stack.specs.Tree.{Tree}
+use Rattle.reset_log.specs.declared.line.Origin.TheVariants.{Core}
+use Rattle.reset_log.specs.Shown.{IsListShown}
+use Rattle.nosy_dump.specs.declared.record.DumpReset.{DumpReset}
+use Rattle.nosy_dump.specs.Record.{is_size, size_of, IsBelow, IsOpen}
+use Rattle.nosy_dump.specs.Texts.{head}
+use Rattle.nosy_dump.specs.Dump.{last_heard}
+use Rattle.nosy_dump.specs.codings.Going.{ShowsReset}
+
+pub shows_one : (standard : Standard) (p : DumpReset) (n m : ℕ) (t u : Option Tree) (b c : Bool) (was is : Option (List ℕ)) (front list text bytes : List ℕ) (before heard : Option Tree) →
+    front ≡ head n p → list ≡ p.list → before ≡ t →
+    IsListShown standard Core front list before text heard → bytes ≡ text → Appends was is bytes →
+    u ≡ last_heard t heard → c ≡ (b || is_none heard) → (n < 2 ^ 63 → m ≡ n + 1) →
+    ShowsReset standard p n t b m u c was is
+shows_one standard p n m t u b c was is front list text bytes before heard is_front is_list is_before shown same wrote tree bad number = record {
+  text = text;
+  here = is_none heard;
+  shown = record {
+    heard = heard;
+    shown =
+        subst (λ (f : List ℕ). IsListShown standard Core f p.list t text heard) is_front
+        (subst (λ (l : List ℕ). IsListShown standard Core front l t text heard) is_list
+        (subst (λ (x : Option Tree). IsListShown standard Core front list x text heard) is_before shown));
+    bad_is = refl;
+    after_is = tree;
+  };
+  bad = bad;
+  wrote = subst (λ (l : List ℕ). Appends was is l) same wrote;
+  number_is = number;
+}
+
+-- a record is no longer than its length says
+pub not_over : (xs : List ℕ) (b size : ℕ) → IsOpen xs → size_of (xs ++ b ∷ []) ≡ Some size →
+    length (xs ++ b ∷ []) ≤ size + 4
+not_over [] b size h e = absurd cc
+not_over (x ∷ []) b size h e = absurd cc
+not_over (x ∷ y ∷ []) b size h e = absurd cc
+not_over (x ∷ y ∷ z ∷ []) b size h e = omega arith
+not_over (x ∷ y ∷ z ∷ w ∷ xs) b size h e =
+    go (size_of (x ∷ y ∷ z ∷ w ∷ xs)) h e
+  where
+    go : (s : Option ℕ) → IsBelow s (length (x ∷ y ∷ z ∷ w ∷ xs)) → s ≡ Some size →
+        length ((x ∷ y ∷ z ∷ w ∷ xs) ++ b ∷ []) ≤ size + 4
+    go None i f = absurd cc
+    go (Some k) i f =
+        let same : k ≡ size = cc in
+        omega (arith, i.1, same, length-append (x ∷ y ∷ z ∷ w ∷ xs) (b ∷ []))
+
+-- a record may go on
+pub none_yet : (xs : List ℕ) → size_of xs ≡ None → IsOpen xs
+none_yet xs e = subst (λ (s : Option ℕ). IsBelow s (length xs)) (sym e) tt
+
+pub goes_on : (xs : List ℕ) (size : ℕ) → size_of xs ≡ Some size → is_size size ≡ true →
+    length xs < size + 4 → IsOpen xs
+goes_on xs size e fits few = subst (λ (s : Option ℕ). IsBelow s (length xs)) (sym e) (fits, few)

@@ -1,0 +1,10 @@
+use Rattle.std.proofs.Common.{◌-◌}
+use Rattle.nosy_dump.specs.codings.Going.{Reads}
+use Rattle.nosy_dump.proofs.dump.show_dump.Given as goal
+
+abbrev pub invariant-loop-count : goal.invariant-loop-count
+invariant-loop-count g l = Reads l.reader l.fn.standard (g.S.Source.left l.initial.source) (g.S.Source.left l.source) (g.K.Sink.written l.initial.sink) (g.K.Sink.written l.sink)
+    (g.S.Source.faults l.initial.source) (g.S.Source.faults l.source) (g.K.Sink.faults l.initial.sink) (g.K.Sink.faults l.sink)
+
+abbrev pub decreases-loop-count : goal.decreases-loop-count
+decreases-loop-count g l = 67108864 - l.reader.taken

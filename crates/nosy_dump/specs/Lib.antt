@@ -1,0 +1,6 @@
+pub mod Form
+pub mod Record
+pub mod Resets
+pub mod Texts
+pub mod Dump
+pub mod codings

@@ -1,0 +1,331 @@
+//! Showing a dump as it comes.
+ghost use Rattle.std.specs.Prelude.{◌≡◌, ◌<◌, ◌≤◌, ◌+◌, ◌++◌, ◌∷◌, ◌||◌, [], ℕ, false, is_none, is_some, List, Option, None, length, alloc_error, OnOk, IfOk, IfErr, IfSome, IsErrOf};
+ghost use Rattle.std.specs.Io.KnownBytes.{IsAtEnd, Appends, Consumes};
+ghost use Rattle.io_edges.specs.Faults.{Rose};
+ghost use Rattle.io_edges.specs.Told.{StayTold, IfTold, TookOver};
+ghost use Rattle.reset_log.specs.Cause.{StoppedWriting};
+ghost use Rattle.nosy_dump.specs.Record.{IsOpen, EndsSo};
+ghost use Rattle.nosy_dump.specs.Dump.{last_heard, IsWritten, IsBegunWritten};
+ghost use Rattle.nosy_dump.specs.codings.Going.{Stands, IsWhole, ShowsReset, Shows, Begins, Keeps, Goes};
+
+use crate::record::{DumpFault, DumpReset, Record, is_size, record_of, size_of};
+use crate::texts::{fault_text, head};
+use io_edges::{Sink, Source, write_whole};
+use quad_lanes::QuadList;
+use reset_log::{ListShown, LogStop, MAX_LOG, Origin, show_list};
+use self_id::Standard;
+use std::alloc::Global;
+use topology_stack::BusTree;
+
+/// The most bytes of one read.
+const PIECE: usize = 4096;
+
+/// A reader of a dump. It keeps the record that isn't whole yet, the reset whose packets are gathered,
+/// and the last tree.
+#[derive(Debug, Drop)]
+pub(crate) struct DumpReader {
+    standard: Standard,
+    part: Vec<u8>,
+    pending: Option<DumpReset>,
+    tree: Option<BusTree>,
+    number: u64,
+    taken: usize,
+    bad: bool,
+}
+
+/// Writes the whole of a text.
+fn put<K: Sink>(sink: &mut K, text: &[u8]) -> Result<(), LogStop>
+    ensures ok { OnOk result (Appends (K.written sink.old) (K.written sink.new) text.now) }
+    ensures stops { IfErr result (StoppedWriting (K.faults sink.old) (K.faults sink.new)) }
+    ensures told { StayTold (K.written sink.old) (K.written sink.new) }
+    ensures later { K.faults sink.old ≤ K.faults sink.new }
+{
+    match write_whole(sink, text) {
+        Ok(()) => Ok(()),
+        Err(_) => Err(LogStop::WriteFault),
+    }
+}
+
+/// Whether a list was refused, or the dump has a fault.
+fn is_bad(refused: bool, fault: Option<DumpFault>) -> bool
+    ensures either { result ≡ refused || is_some fault }
+    ensures none { result ≡ false → fault ≡ None }
+{
+    match fault {
+        None => refused,
+        Some(_) => true,
+    }
+}
+
+impl DumpReader {
+    /// A reader that was given nothing.
+    fn new(alloc: Global, standard: Standard) -> DumpReader
+        ensures start { (told : Option (List ℕ)) → Stands IsOpen result [] told told }
+        ensures same { result.standard ≡ standard }
+    {
+        DumpReader {
+            standard,
+            part: Vec::new(alloc),
+            pending: None,
+            tree: None,
+            number: 1,
+            taken: 0,
+            bad: false,
+        }
+    }
+
+    /// Keeps the tree that a list is heard as, or that it is refused.
+    fn keep_heard(&mut self, tree: Option<BusTree>)
+        ensures tree { self.new.tree ≡ last_heard self.old.tree tree }
+        ensures bad { self.new.bad ≡ self.old.bad || is_none tree }
+        ensures rest { self.new ≡ record self.old { tree = self.new.tree; bad = self.new.bad } }
+    {
+        match tree {
+            Some(tree) => self.tree = Some(tree),
+            None => self.bad = true,
+        }
+    }
+
+    /// Shows a reset.
+    fn show_one<K: Sink>(
+        &mut self,
+        alloc: Global,
+        reset: &DumpReset,
+        sink: &mut K,
+    ) -> Result<(), LogStop>
+        ensures ok { OnOk result (ShowsReset self.old.standard reset.now
+            self.old.number self.old.tree self.old.bad self.new.number self.new.tree self.new.bad
+            (K.written sink.old) (K.written sink.new)) }
+        ensures rest { OnOk result (self.new ≡ record self.old {
+          number = self.new.number;
+          tree = self.new.tree;
+          bad = self.new.bad;
+        }) }
+        ensures stops { IfErr result (StoppedWriting (K.faults sink.old) (K.faults sink.new)) }
+        ensures told { StayTold (K.written sink.old) (K.written sink.new) }
+        ensures later { K.faults sink.old ≤ K.faults sink.new }
+    {
+        let head = head(alloc, self.number, reset)?;
+        let list = reset.list.as_slice();
+        let before = self.tree.as_ref();
+        let ListShown { text, tree } = show_list(
+            alloc,
+            self.standard,
+            Origin::Core,
+            &head,
+            before,
+            list,
+        )?;
+        put(sink, &text)?;
+        self.number = self.number.saturating_add(1);
+        self.keep_heard(tree);
+        Ok(())
+    }
+
+    /// Shows the reset that waits, if one does.
+    fn show<K: Sink>(&mut self, alloc: Global, sink: &mut K) -> Result<(), LogStop>
+        ensures ok { OnOk result
+            (Shows self.old self.new (K.written sink.old) (K.written sink.new)) }
+        ensures stops { IfErr result (StoppedWriting (K.faults sink.old) (K.faults sink.new)) }
+        ensures told { StayTold (K.written sink.old) (K.written sink.new) }
+        ensures later { K.faults sink.old ≤ K.faults sink.new }
+    {
+        match self.pending.take() {
+            Some(reset) => self.show_one(alloc, &reset, sink),
+            None => Ok(()),
+        }
+    }
+
+    /// Shows the reset that waits, and lets the one of the record at this byte wait.
+    fn begin<K: Sink>(
+        &mut self,
+        alloc: Global,
+        byte: usize,
+        time: u32,
+        sink: &mut K,
+    ) -> Result<(), LogStop>
+        ensures ok { OnOk result (Begins byte time self.old self.new
+            (K.written sink.old) (K.written sink.new)) }
+        ensures stops { IfErr result (StoppedWriting (K.faults sink.old) (K.faults sink.new)) }
+        ensures told { StayTold (K.written sink.old) (K.written sink.new) }
+        ensures later { K.faults sink.old ≤ K.faults sink.new }
+    {
+        self.show(alloc, sink)?;
+        self.pending = Some(DumpReset {
+            byte: byte as u64,
+            time,
+            list: QuadList::new(alloc),
+        });
+        Ok(())
+    }
+
+    /// Keeps a self-ID packet of the reset that waits, if one does.
+    fn keep(&mut self, quad: u32) -> Result<(), LogStop>
+        ensures ok { OnOk result (Keeps quad self.old self.new) }
+        ensures stops { IfErr result (λ stop. stop ≡ LogStop.Memory alloc_error) }
+    {
+        if let Some(reset) = &mut self.pending {
+            reset.list.push(quad)?;
+        }
+        Ok(())
+    }
+
+    /// Takes the record that is whole, and begins the next one.
+    fn take_record<K: Sink>(&mut self, alloc: Global, sink: &mut K) -> Result<(), LogStop>
+        requires { 4 ≤ length self.old.part.items }
+        ensures ok { OnOk result ((done : List ℕ) (start : Option (List ℕ)) →
+            length done ≤ 67108864 → Stands IsWhole self.old done start (K.written sink.old) →
+            Stands IsOpen self.new done start (K.written sink.new)) }
+        ensures stops { IfErr result (StoppedWriting (K.faults sink.old) (K.faults sink.new)) }
+        ensures same { OnOk result (self.new.standard ≡ self.old.standard) }
+        ensures later { K.faults sink.old ≤ K.faults sink.new }
+    {
+        let byte = self.taken.saturating_sub(self.part.len());
+        let record = record_of(&self.part[4..]);
+        self.part.clear();
+        match record {
+            Record::Reset { time } => self.begin(alloc, byte, time, sink)?,
+            Record::SelfId { quad } => self.keep(quad)?,
+            Record::Other => {}
+        }
+        Ok(())
+    }
+
+    /// Takes a byte, and the record that it ends. It answers a length that a record can't have.
+    fn take_byte<K: Sink>(
+        &mut self,
+        alloc: Global,
+        byte: u8,
+        sink: &mut K,
+    ) -> Result<Option<u32>, LogStop>
+        ensures ok { IfOk result (λ size. (done : List ℕ) (start : Option (List ℕ)) →
+            length done < 67108864 → Stands IsOpen self.old done start (K.written sink.old) →
+            Goes size self.new (done ++ byte ∷ []) start (K.written sink.new)) }
+        ensures stops { IfErr result (StoppedWriting (K.faults sink.old) (K.faults sink.new)) }
+        ensures same { OnOk result (self.new.standard ≡ self.old.standard) }
+        ensures later { K.faults sink.old ≤ K.faults sink.new }
+    {
+        self.taken = self.taken.saturating_add(1);
+        self.part.push(byte)?;
+        let Some(size) = size_of(&self.part) else {
+            return Ok(None);
+        };
+        if !is_size(size) {
+            return Ok(Some(size));
+        }
+        if self.part.len() != size as usize + 4 {
+            return Ok(None);
+        }
+        self.take_record(alloc, sink)?;
+        Ok(None)
+    }
+
+    /// Takes bytes, up to a length that a record can't have, which it answers.
+    fn take<K: Sink>(
+        &mut self,
+        alloc: Global,
+        bytes: &[u8],
+        sink: &mut K,
+    ) -> Result<Option<u32>, LogStop>
+        ensures ok { IfOk result (λ size. (done : List ℕ) (start : Option (List ℕ)) →
+            length done + length bytes.now ≤ 67108864 →
+            Stands IsOpen self.old done start (K.written sink.old) →
+            Goes size self.new (done ++ bytes.now) start (K.written sink.new)) }
+        ensures stops { IfErr result (StoppedWriting (K.faults sink.old) (K.faults sink.new)) }
+        ensures same { OnOk result (self.new.standard ≡ self.old.standard) }
+        ensures later { K.faults sink.old ≤ K.faults sink.new }
+    {
+        for byte in bytes {
+            if let Some(size) = self.take_byte(alloc, *byte, sink)? {
+                return Ok(Some(size));
+            }
+        }
+        Ok(None)
+    }
+
+    /// Shows the reset that waits, and the dump's fault if it has one. It says whether anything was at
+    /// fault.
+    fn finish<K: Sink>(
+        &mut self,
+        alloc: Global,
+        fault: Option<DumpFault>,
+        sink: &mut K,
+    ) -> Result<bool, LogStop>
+        ensures ok { IfOk result (λ bad. (done more : List ℕ) (start : Option (List ℕ)) →
+            length done ≤ 67108864 →
+            Stands (λ bytes. EndsSo (bytes ++ more) fault) self.old done start (K.written sink.old) →
+            IsWritten self.old.standard start (K.written sink.new) (done ++ more) bad) }
+        ensures none { IfOk result (λ bad. bad ≡ false → fault ≡ None) }
+        ensures stops { IfErr result (StoppedWriting (K.faults sink.old) (K.faults sink.new)) }
+        ensures later { K.faults sink.old ≤ K.faults sink.new }
+    {
+        let byte = self.taken.saturating_sub(self.part.len());
+        self.show(alloc, sink)?;
+        let text = fault_text(alloc, byte as u64, fault)?;
+        put(sink, &text)?;
+        Ok(is_bad(self.bad, fault))
+    }
+
+    /// The fault of a dump that ends here.
+    fn end_fault(&self) -> Option<DumpFault>
+        ensures { IsOpen self.now.part.items → EndsSo (self.now.part.items ++ []) result }
+    {
+        if self.part.is_empty() {
+            None
+        } else {
+            Some(DumpFault::Cut)
+        }
+    }
+}
+
+/// Shows the bus at each reset in a dump, by a standard: what `nosy-dump --output` of the Linux kernel
+/// recorded, to its end. It says whether anything was at fault: a list that no bus can have sent, a
+/// record with a length that can't be, or a record that the dump ends within. Behind such a length
+/// nothing is read. A reset is shown once the next one comes, or at the end, and before the source is
+/// asked for more.
+///
+/// `ReadFault` and `WriteFault` come only where the count of faults of the source or of the sink
+/// rose, and `TooLong` only where the source gave more than 67,108,864 bytes. After `ReadFault` what
+/// is shown of each reset that another one followed is written. It keeps one record of at most 65,536
+/// bytes, the packets of one reset, and the last tree.
+pub fn show_dump<S: Source, K: Sink>(
+    alloc: Global,
+    standard: Standard,
+    source: &mut S,
+    sink: &mut K,
+) -> Result<bool, LogStop>
+    // What is shown of the dump is written.
+    ensures shown { IfOk result (λ bad. IfSome (S.left source.old) (λ dump.
+        IsWritten standard (K.written sink.old) (K.written sink.new) dump bad)) }
+    ensures end { IfOk result (λ bad. bad ≡ false → IsAtEnd (S.left source.new)) }
+
+    // When each stop comes, and what was written before a read that failed.
+    ensures read_fault { IsErrOf result LogStop.ReadFault →
+        Rose (S.faults source.old) (S.faults source.new) }
+    ensures write_fault { IsErrOf result LogStop.WriteFault →
+        Rose (K.faults sink.old) (K.faults sink.new) }
+    ensures long { IsErrOf result LogStop.TooLong → IfTold (S.left source.old)
+        (S.left source.new) (λ old new. TookOver 67108864 old new) }
+    ensures waits { IsErrOf result LogStop.ReadFault → (read : List ℕ)
+        × Consumes (S.left source.old) (S.left source.new) read
+        × IsBegunWritten standard (K.written sink.old) (K.written sink.new) read }
+{
+    let mut reader = DumpReader::new(alloc, standard);
+    let mut buf = [0u8; PIECE];
+    loop {
+        let Ok(count) = source.read(&mut buf) else {
+            return Err(LogStop::ReadFault);
+        };
+        if count == 0 {
+            let fault = reader.end_fault();
+            return reader.finish(alloc, fault, sink);
+        }
+        if count > MAX_LOG.saturating_sub(reader.taken) {
+            return Err(LogStop::TooLong);
+        }
+        if let Some(size) = reader.take(alloc, &buf[..count], sink)? {
+            let fault = Some(DumpFault::BadLength { size });
+            return reader.finish(alloc, fault, sink);
+        }
+    }
+}

@@ -1,0 +1,152 @@
+-- Nodes, ports and turns that are gone through by number, and texts of several parts.
+use Rattle.std.proofs.Common.{◌≡◌, ◌++◌, ◌+◌, ◌-◌, min, Bool, true, false, ◌<◌, ◌≤◌, ℕ, List, [], ◌∷◌, length, drop, map, Some, suc, refl, sym, ◌∙◌, ap, append_assoc, add-one, get_or, arith}
+use Rattle.std.specs.Prelude.{slice_get, nat_le}
+use Rattle.std.proofs.Math.Seq.{drop-cons}
+use Rattle.std.proofs.lemmas.Bool.Decides.{nat_tests}
+use Rattle.port_state.specs.declared.view.View.{View}
+use Rattle.port_state.specs.declared.ports.PortView.{PortView}
+use Rattle.port_state.specs.Machine.{PortNode}
+use Rattle.cable_world.specs.World.{CableWorld}
+use Rattle.cable_world.specs.Turn.{turn}
+use Rattle.script_text.specs.ReportText.{Names}
+use Rattle.script_trace.specs.Event.{Seen}
+use Rattle.script_trace.specs.Step.{seen_before_turn}
+use Rattle.script_trace.proofs.Lemmas.{left-from, one-more, past-end}
+use Rattle.script_waves.specs.Change.{node_changes}
+use Rattle.script_waves.specs.Moment.{all_changes, waves_since, turn_waves, turns_waves}
+use Rattle.script_waves.specs.Head.{port_variables, port_values, all_port_variables, all_port_values, node_scope, node_values, all_scopes, all_values}
+
+-- ---- nodes
+
+pub next-node :
+    (w : CableWorld) (k : ℕ) (x : PortNode) (s : Seen) (v : View) (seen : List Seen)
+    (nodes : List PortNode) (before after all : List ℕ) → slice_get nodes k ≡ Some x →
+    slice_get seen k ≡ Some s → v ≡ x.state.view → after ≡ before ++ node_changes w k s v →
+    before ++ all_changes w k (drop k seen) (drop k nodes) ≡ all →
+    after ++ all_changes w (k + 1) (drop (k + 1) seen) (drop (k + 1) nodes) ≡ all
+next-node w k x s v seen nodes before after all at here is new so =
+    let rest = all_changes w (k + 1) (drop (k + 1) seen) (drop (k + 1) nodes) in
+    one-more before after (node_changes w k s v) rest
+    (all_changes w k (drop k seen) (drop k nodes)) all new
+    (ap (λ (l : List Seen). all_changes w k l (drop k nodes)) (left-from seen k s here)
+    ∙ ap (all_changes w k (s ∷ drop (k + 1) seen)) (left-from nodes k x at)
+    ∙ ap (λ (u : View). node_changes w k s u ++ rest) (sym is))
+    so
+
+no-node : (w : CableWorld) (k : ℕ) (seen : List Seen) → all_changes w k seen [] ≡ []
+no-node w k [] = refl
+no-node w k (s ∷ seen) = refl
+
+pub none-left :
+    (w : CableWorld) (k : ℕ) (seen : List Seen) (nodes : List PortNode) (n : ℕ) →
+    n ≡ length nodes → min (length seen) n ≤ k → all_changes w k (drop k seen) (drop k nodes) ≡ []
+none-left w k seen nodes n count h = by (nat_le (length seen) k) refl
+  where
+    by : (b : Bool) → nat_le (length seen) k ≡ b → all_changes w k (drop k seen) (drop k nodes) ≡ []
+    by true e =
+        let past : length seen ≤ k = grind (arith, nat_tests) in
+        ap (λ (l : List Seen). all_changes w k l (drop k nodes)) (past-end seen k past)
+    by false e =
+        let above : k < length seen = grind (arith, nat_tests) in
+        ap (all_changes w k (drop k seen)) (past-end nodes k (omega (arith, count, h, above))) ∙ no-node w k (drop k seen)
+
+-- ---- the head
+
+-- a part, and then the rest
+pub then-more :
+    (out first rest mid new : List ℕ) → mid ≡ out ++ first → new ≡ mid ++ rest →
+    new ≡ out ++ (first ++ rest)
+then-more out first rest mid new one more =
+    more ∙ ap (λ (l : List ℕ). l ++ rest) one ∙ append_assoc out first rest
+
+some-port : (ports : List PortView) (k : ℕ) → k < length ports →
+    (p : PortView) × (drop k ports ≡ p ∷ drop (k + 1) ports)
+some-port [] k h = absurd (omega (arith, h))
+some-port (p ∷ ports) k h = (
+  get_or (p ∷ ports) k p,
+  drop-cons (p ∷ ports) k p h ∙ ap (λ (i : ℕ). get_or (p ∷ ports) k p ∷ drop i (p ∷ ports)) (sym (add-one k)),
+)
+
+pub next-variables :
+    (node k : ℕ) (ports : List PortView) (before after all : List ℕ) → k < length ports →
+    after ≡ before ++ port_variables node k → before ++ all_port_variables node k (drop k ports) ≡ all →
+    after ++ all_port_variables node (k + 1) (drop (k + 1) ports) ≡ all
+next-variables node k ports before after all h new so =
+    one-more before after (port_variables node k) (all_port_variables node (k + 1) (drop (k + 1) ports))
+    (all_port_variables node k (drop k ports)) all new (ap (all_port_variables node k) (some-port ports k h).1) so
+
+pub next-port-values :
+    (node k : ℕ) (ports : List PortView) (before after all : List ℕ) → k < length ports →
+    after ≡ before ++ port_values node k → before ++ all_port_values node k (drop k ports) ≡ all →
+    after ++ all_port_values node (k + 1) (drop (k + 1) ports) ≡ all
+next-port-values node k ports before after all h new so =
+    one-more before after (port_values node k) (all_port_values node (k + 1) (drop (k + 1) ports))
+    (all_port_values node k (drop k ports)) all new (ap (all_port_values node k) (some-port ports k h).1) so
+
+pub next-scope :
+    (names : Names) (k : ℕ) (x : PortNode) (ports : List PortView) (nodes : List PortNode)
+    (before after all : List ℕ) → slice_get nodes k ≡ Some x → ports ≡ x.state.view.ports →
+    after ≡ before ++ node_scope names k ports → before ++ all_scopes names k (drop k nodes) ≡ all →
+    after ++ all_scopes names (k + 1) (drop (k + 1) nodes) ≡ all
+next-scope names k x ports nodes before after all at is new so =
+    let rest = all_scopes names (k + 1) (drop (k + 1) nodes) in
+    one-more before after (node_scope names k ports) rest (all_scopes names k (drop k nodes)) all new
+    (ap (all_scopes names k) (left-from nodes k x at)
+    ∙ ap (λ (l : List PortView). node_scope names k l ++ rest) (sym is))
+    so
+
+pub next-values :
+    (k : ℕ) (x : PortNode) (ports : List PortView) (nodes : List PortNode)
+    (before after all : List ℕ) → slice_get nodes k ≡ Some x → ports ≡ x.state.view.ports →
+    after ≡ before ++ node_values k ports → before ++ all_values k (drop k nodes) ≡ all →
+    after ++ all_values (k + 1) (drop (k + 1) nodes) ≡ all
+next-values k x ports nodes before after all at is new so =
+    let rest = all_values (k + 1) (drop (k + 1) nodes) in
+    one-more before after (node_values k ports) rest (all_values k (drop k nodes)) all new
+    (ap (all_values k) (left-from nodes k x at)
+    ∙ ap (λ (l : List PortView). node_values k l ++ rest) (sym is))
+    so
+
+pub no-scope : (names : Names) (k : ℕ) (nodes : List PortNode) → length nodes ≤ k →
+    all_scopes names k (drop k nodes) ≡ []
+no-scope names k nodes h = ap (all_scopes names k) (past-end nodes k h)
+
+pub no-values : (k : ℕ) (nodes : List PortNode) → length nodes ≤ k →
+    all_values k (drop k nodes) ≡ []
+no-values k nodes h = ap (all_values k) (past-end nodes k h)
+
+-- ---- turns
+
+pub turn-dumped :
+    (w v : CableWorld) (seen : List Seen) (out new : List ℕ) → v ≡ turn w →
+    seen ≡ map seen_before_turn w.nodes → new ≡ out ++ waves_since seen v →
+    new ≡ out ++ turn_waves w
+unfolding turn_waves
+turn-dumped w v seen out new done before is =
+    is
+    ∙ ap (λ (s : List Seen). out ++ waves_since s v) before
+    ∙ ap (λ (u : CableWorld). out ++ waves_since (map seen_before_turn w.nodes) u) done
+
+turns-left :
+    (n k : ℕ) (v : CableWorld) → k < n →
+    turns_waves (n - k) v ≡ turn_waves v ++ turns_waves (n - (k + 1)) (turn v)
+unfolding turns_waves
+turns-left n k v h =
+    let e : n - k ≡ suc (n - (k + 1)) = omega (arith, h) in
+    ap (λ (m : ℕ). turns_waves m v) e
+
+pub next-turn :
+    (n k : ℕ) (v u : CableWorld) (before after all : List ℕ) → k < n → u ≡ turn v →
+    after ≡ before ++ turn_waves v → before ++ turns_waves (n - k) v ≡ all →
+    after ++ turns_waves (n - (k + 1)) u ≡ all
+next-turn n k v u before after all h done new so =
+    let rest = turns_waves (n - (k + 1)) u in
+    one-more before after (turn_waves v) rest (turns_waves (n - k) v) all new
+    (turns-left n k v h ∙ ap (λ (z : CableWorld). turn_waves v ++ turns_waves (n - (k + 1)) z) (sym done))
+    so
+
+pub no-turn-left : (n k : ℕ) (v : CableWorld) → n ≤ k → turns_waves (n - k) v ≡ []
+unfolding turns_waves
+no-turn-left n k v h =
+    let e : n - k ≡ 0 = omega (arith, h) in
+    ap (λ (m : ℕ). turns_waves m v) e

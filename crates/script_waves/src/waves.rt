@@ -1,0 +1,151 @@
+//! A dump that grows.
+ghost use Rattle.std.specs.Prelude.{◌≡◌, ◌≤◌, ◌<◌, ◌++◌, [], length, IfOk, OnOk};
+ghost use Rattle.script_waves.specs.Change.{all_port_changes, node_changes, port_changes};
+ghost use Rattle.script_waves.specs.Moment.{all_changes, at_time, waves_since};
+
+use crate::node::{put_id, put_root, put_state, put_timeout};
+use crate::port::{behind, put_gone, put_role, put_sent, put_shown, there_at};
+use cable_world::ShowsWires;
+use cabling::End;
+use port_state::{PortView, View};
+use script_text::{OutOfMemory, put_numbered};
+use script_trace::Seen;
+use std::alloc::Global;
+use std::marker::Model;
+
+/// The changes of a dump so far. In a contract it is their text.
+#[derive(Drop)]
+pub struct Waves {
+    pub(crate) text: Vec<u8>,
+    /// Room for the changes of a moment.
+    scratch: Vec<u8>,
+}
+
+impl Model for Waves {
+    ghost use Rattle.std.specs.Prelude.{List, ℕ};
+
+    ghost Value = { List ℕ };
+
+    ghost view = { λ w. w.text.items };
+}
+
+/// Appends what changed at a port since the node showed that.
+fn put_port<W: ShowsWires>(
+    out: &mut Vec<u8>,
+    world: &W,
+    node: u8,
+    seen: &Seen,
+    view: &View,
+    port: u8,
+    port_view: PortView,
+) -> Result<(), OutOfMemory>
+    requires node { node ≤ 62 }
+    requires port { port ≤ 15 }
+    ensures { OnOk result (out.new.items ≡ out.old.items
+        ++ port_changes (W.world world.now) node seen.now view.now port port_view) }
+{
+    let end = End { node, port };
+    put_role(out, node, seen.view(), view, port, port_view)?;
+    put_shown(out, node, seen.view(), port, port_view)?;
+    put_gone(out, node, seen.view(), port, port_view)?;
+    let new = behind(world.under_way(end), there_at(seen.there(), port));
+    put_sent(out, node, port, new)
+}
+
+/// Appends what changed at the ports of a node.
+fn put_ports<W: ShowsWires>(
+    out: &mut Vec<u8>,
+    world: &W,
+    node: u8,
+    seen: &Seen,
+    view: &View,
+) -> Result<(), OutOfMemory>
+    requires { node ≤ 62 }
+    ensures { OnOk result (out.new.items ≡ out.old.items
+        ++ all_port_changes (W.world world.now) node seen.now view.now 0 view.now.ports) }
+{
+    let ports = view.ports.as_slice();
+    for port in 0..ports.len() {
+        put_port(out, world, node, seen, view, port as u8, ports[port])?;
+    }
+    Ok(())
+}
+
+/// Appends what changed at a node since it showed that.
+fn put_node<W: ShowsWires>(
+    out: &mut Vec<u8>,
+    world: &W,
+    node: u8,
+    seen: &Seen,
+    view: &View,
+) -> Result<(), OutOfMemory>
+    requires { node ≤ 62 }
+    ensures { OnOk result (out.new.items
+        ≡ out.old.items ++ node_changes (W.world world.now) node seen.now view.now) }
+{
+    put_state(out, node, seen.view(), view)?;
+    put_id(out, node, seen.view(), view)?;
+    put_timeout(out, node, seen.view(), view)?;
+    put_root(out, node, seen.view(), view)?;
+    put_ports(out, world, node, seen, view)
+}
+
+/// Appends what changed at all nodes, of which there are so many.
+fn put_all<W: ShowsWires>(
+    out: &mut Vec<u8>,
+    nodes: usize,
+    seen: &[Seen],
+    world: &W,
+) -> Result<(), OutOfMemory>
+    requires few { nodes ≤ 63 }
+    requires nodes { nodes ≡ length (W.world world.now).nodes }
+    ensures { OnOk result (out.new.items
+        ≡ out.old.items ++ all_changes (W.world world.now) 0 seen.now (W.world world.now).nodes) }
+{
+    for node in 0..seen.len().min(nodes) {
+        let view = world.view(node as u8);
+        put_node(out, world, node as u8, &seen[node], &view)?;
+    }
+    Ok(())
+}
+
+/// Appends `#T` and changes, where there are any.
+fn put_time(out: &mut Vec<u8>, turn: u32, changes: &[u8]) -> Result<(), OutOfMemory>
+    ensures { OnOk result (out.new.items ≡ out.old.items ++ at_time turn changes.now) }
+{
+    if changes.is_empty() {
+        return Ok(());
+    }
+    put_numbered(out, b"#", u64::from(turn))?;
+    out.push(b'\n')?;
+    out.extend_from_slice(changes)?;
+    Ok(())
+}
+
+impl Waves {
+    /// No changes.
+    pub fn new(alloc: Global) -> Waves
+        ensures { result ≡ [] }
+    {
+        Waves {
+            text: Vec::new(alloc),
+            scratch: Vec::new(alloc),
+        }
+    }
+
+    /// Appends what changed in a world since its nodes showed that. There are so many nodes, at most 63.
+    pub fn put_since<W: ShowsWires>(
+        &mut self,
+        nodes: usize,
+        seen: &[Seen],
+        world: &W,
+    ) -> Result<(), OutOfMemory>
+        requires few { nodes ≤ 63 }
+        requires nodes { nodes ≡ length (W.world world.now).nodes }
+        ensures { OnOk result (self.new ≡ self.old ++ waves_since seen.now (W.world world.now)) }
+    {
+        self.scratch.clear();
+        put_all(&mut self.scratch, nodes, seen, world)?;
+        put_time(&mut self.text, world.turns(), self.scratch.as_slice())
+    }
+}

@@ -1,0 +1,5 @@
+pub mod Parts
+pub mod Joined
+pub mod Usages
+pub mod Columns
+pub mod Distinct

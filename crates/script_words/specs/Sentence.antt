@@ -1,0 +1,94 @@
+-- What was found and what was wanted where a script is refused, in a sentence.
+use Rattle.std.specs.Prelude.{ℕ, ◌-◌, is_some, unwrap_or, List, [], ◌++◌, take, slice_index_or, codes, Option, Some, None, if◌then◌else◌}
+use Rattle.std.specs.Str.{bytes_eq}
+use Rattle.std.specs.Str.Lines.{strip_carriage_return}
+use Rattle.script_lines.specs.Words.{words_of}
+use Rattle.script_lines.specs.Form.{word_at}
+use Rattle.script_lines.specs.declared.kind.Kind.{Kind}
+use Rattle.script_lines.specs.declared.kind.Kind.TheVariants.{Word, Number, Name, Twice, Late, TooManyNodes, NoNode, NoPort, InUse, SameNode, NotPlugged, Range, NotSettled, NoManager, NotManager, TooManyTurns, TooManyMaps}
+use Rattle.script_lines.specs.declared.kind.ScriptFault.{ScriptFault}
+use Rattle.script_words.specs.Column.{field, found}
+use Rattle.script_words.specs.Before.{feed_lines, delay_of, ports_of, names_in, is_port}
+use Rattle.script_words.specs.LineSentence.{word_sentence, value_sentence, usage_words, twice_sentence}
+
+-- ---- names and ports
+
+-- the second word, or where that name is declared the fourth
+abbrev pub name_place : List (List ℕ) → List (List ℕ) → ℕ
+name_place lines words = if is_some (ports_of lines (word_at words 1)) then 3 else 1
+
+abbrev pub no_node_sentence : List (List ℕ) → List ℕ → List (List ℕ) → List ℕ
+no_node_sentence lines line words =
+    found line words (name_place lines words)
+    ++ (codes "a name of a node:" ++ (names_in lines ++ codes ".\n"))
+
+-- the number behind the first name, or where that node has the port the one behind the second
+abbrev pub port_place : List (List ℕ) → List (List ℕ) → ℕ
+port_place lines words =
+    if is_port (word_at words 2) (ports_of lines (word_at words 1)) then 4 else 2
+
+unfoldable pub ports_wanted : List ℕ → ℕ → List ℕ
+ports_wanted name ports =
+    codes "a port of " ++ (name ++ (field (codes ", which has ") ports ++ codes ", counted from 0.\n"))
+
+abbrev pub no_port_at : List (List ℕ) → List ℕ → List (List ℕ) → ℕ → List ℕ
+no_port_at lines line words place =
+    let name : List ℕ = word_at words (place - 1) in
+    found line words place ++ ports_wanted name (unwrap_or (ports_of lines name) 0)
+
+-- ---- what stands at a place, and a text that says what was wanted
+
+abbrev pub late_wanted : List (List ℕ) → List ℕ
+late_wanted words =
+    if bytes_eq (word_at words 0) (codes "delay") then codes "it before all other commands.\n"
+    else codes "it before all commands but delay and node.\n"
+
+abbrev pub bus_wanted : Kind → List ℕ
+bus_wanted TooManyNodes = codes "63 nodes at most.\n"
+bus_wanted SameNode = codes "another node than the one at the other end.\n"
+bus_wanted NotPlugged = codes "a port with a cable in it.\n"
+bus_wanted NotSettled =
+    codes "a node in a tree of the last settle or plan, and no plug, pull, reset or config since.\n"
+bus_wanted NoManager = codes "a node whose tree has one with link 1 and contender 1.\n"
+bus_wanted NotManager =
+    codes "the bus manager of its tree, by a line manager behind the last reset.\n"
+bus_wanted kind = []
+
+-- what is said of a fault that is of no one word
+abbrev pub whole_sentence : Kind → List ℕ
+whole_sentence InUse =
+    codes "Found a cable in one of the two ports, wanted both free: another port, or a pull before.\n"
+whole_sentence TooManyTurns =
+    codes "Found more than 2000000 turns in all, wanted fewer: each settle and plan has its turns, and so has the end.\n"
+whole_sentence TooManyMaps = codes "Found a 101st line maps, wanted 100 at most.\n"
+whole_sentence kind = []
+
+abbrev pub at_place : List ℕ → List (List ℕ) → ℕ → Kind → List ℕ
+at_place line words place kind = found line words place ++ bus_wanted kind
+
+abbrev pub sentence_of : ℕ → List (List ℕ) → List ℕ → List (List ℕ) → Kind → List ℕ
+sentence_of d lines line words Word = word_sentence line
+sentence_of d lines line words Number = value_sentence d line (usage_words words) words
+sentence_of d lines line words Name = value_sentence d line (usage_words words) words
+sentence_of d lines line words Range = value_sentence d line (usage_words words) words
+sentence_of d lines line words Twice = twice_sentence line words
+sentence_of d lines line words Late = found line words 0 ++ late_wanted words
+sentence_of d lines line words NoNode = no_node_sentence lines line words
+sentence_of d lines line words NoPort = no_port_at lines line words (port_place lines words)
+sentence_of d lines line words TooManyNodes = at_place line words 0 TooManyNodes
+sentence_of d lines line words SameNode = at_place line words 3 SameNode
+sentence_of d lines line words NotPlugged = at_place line words 2 NotPlugged
+sentence_of d lines line words NotSettled = at_place line words 1 NotSettled
+sentence_of d lines line words NoManager = at_place line words 1 NoManager
+sentence_of d lines line words NotManager = at_place line words 1 NotManager
+sentence_of d lines line words InUse = whole_sentence InUse
+sentence_of d lines line words TooManyTurns = whole_sentence TooManyTurns
+sentence_of d lines line words TooManyMaps = whole_sentence TooManyMaps
+
+-- the sentence of a fault: the lines before it, and the line
+abbrev pub sentence : List ℕ → ScriptFault → List ℕ
+sentence script fault =
+    let lines : List (List ℕ) = take (fault.line - 1) (feed_lines script) in
+    let line : List ℕ =
+    strip_carriage_return (slice_index_or (feed_lines script) (fault.line - 1) []) in
+    sentence_of (delay_of (feed_lines script)) lines line (words_of line) fault.kind

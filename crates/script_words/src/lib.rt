@@ -1,0 +1,18 @@
+//! What stands at a fault of a script and what was wanted there: the word, its place in the line, and
+//! the words, the range or the names that may stand there.
+#![tactic(auto)]
+
+mod before;
+mod column;
+mod fit;
+mod laws;
+mod line_sentence;
+mod pairs;
+mod sentence;
+mod text;
+mod usage;
+
+pub use laws::usages_are_forms;
+pub use script_lines::{Kind, ScriptFault};
+pub use sentence::put_sentence;
+pub use topology_stack::OutOfMemory;

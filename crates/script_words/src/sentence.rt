@@ -1,0 +1,259 @@
+//! What was found and what was wanted where a script is refused, in a sentence.
+ghost use Rattle.std.specs.Prelude.{◌≡◌, ◌≤◌, ◌<◌, ◌-◌, ◌++◌, ◌^◌, take, length, slice_index_or, [], OnOk, IfOk, IfSome};
+ghost use Rattle.std.specs.Str.Lines.{strip_carriage_return};
+ghost use Rattle.script_lines.specs.Words.{words_of};
+ghost use Rattle.script_words.specs.Column.{found};
+ghost use Rattle.script_words.specs.Before.{feed_lines};
+ghost use Rattle.script_words.specs.Sentence.{name_place, no_node_sentence, port_place, ports_wanted, no_port_at, late_wanted, bus_wanted, whole_sentence, sentence_of, sentence};
+
+use crate::before::{delay_of, is_port, ports_of, put_names, without_return};
+use crate::column::{put_field, put_found};
+use crate::line_sentence::{put_twice_sentence, put_value_sentence, put_word_sentence};
+use crate::text::{Text, lines_of, same, word_at, words_of};
+use script_lines::{Kind, ScriptFault};
+use std::alloc::Global;
+use topology_stack::OutOfMemory;
+
+/// The place of the first name of a line that isn't declared.
+fn name_place(alloc: Global, lines: &[Text], words: &[Text]) -> Result<usize, OutOfMemory>
+    ensures value { IfOk result (λ place. place ≡ name_place lines.now words.now) }
+    ensures few { IfOk result (λ place. place ≤ 3) }
+{
+    match ports_of(alloc, lines, word_at(words, 1))? {
+        Some(_) => Ok(3),
+        None => Ok(1),
+    }
+}
+
+fn put_no_node(
+    alloc: Global,
+    out: &mut Vec<u8>,
+    lines: &[Text],
+    line: &[u8],
+    words: &[Text],
+) -> Result<(), OutOfMemory>
+    ensures { OnOk result (out.new.items
+        ≡ out.old.items ++ no_node_sentence lines.now line.now words.now) }
+{
+    let place = name_place(alloc, lines, words)?;
+    put_found(out, line, words, place)?;
+    out.extend_from_slice(b"a name of a node:")?;
+    put_names(alloc, out, lines)?;
+    out.extend_from_slice(b".\n")?;
+    Ok(())
+}
+
+/// The place of the first port of a line that its node doesn't have.
+fn port_place(alloc: Global, lines: &[Text], words: &[Text]) -> Result<usize, OutOfMemory>
+    ensures value { IfOk result (λ place. place ≡ port_place lines.now words.now) }
+    ensures some { IfOk result (λ place. 2 ≤ place) }
+    ensures few { IfOk result (λ place. place ≤ 4) }
+{
+    let ports = ports_of(alloc, lines, word_at(words, 1))?;
+    if is_port(word_at(words, 2), ports) {
+        Ok(4)
+    } else {
+        Ok(2)
+    }
+}
+
+fn put_ports_wanted(out: &mut Vec<u8>, name: &[u8], ports: u32) -> Result<(), OutOfMemory>
+    ensures { OnOk result (out.new.items ≡ out.old.items ++ ports_wanted name.now ports) }
+{
+    out.extend_from_slice(b"a port of ")?;
+    out.extend_from_slice(name)?;
+    put_field(out, b", which has ", u64::from(ports))?;
+    out.extend_from_slice(b", counted from 0.\n")?;
+    Ok(())
+}
+
+fn put_no_port_at(
+    alloc: Global,
+    out: &mut Vec<u8>,
+    lines: &[Text],
+    line: &[u8],
+    words: &[Text],
+    place: usize,
+) -> Result<(), OutOfMemory>
+    requires some { 1 ≤ place }
+    requires few { place ≤ 4 }
+    ensures { OnOk result (out.new.items
+        ≡ out.old.items ++ no_port_at lines.now line.now words.now place) }
+{
+    let name = word_at(words, place - 1);
+    let ports = ports_of(alloc, lines, name)?.unwrap_or(0);
+    put_found(out, line, words, place)?;
+    put_ports_wanted(out, name, ports)?;
+    Ok(())
+}
+
+fn put_no_port(
+    alloc: Global,
+    out: &mut Vec<u8>,
+    lines: &[Text],
+    line: &[u8],
+    words: &[Text],
+) -> Result<(), OutOfMemory>
+    ensures { OnOk result (out.new.items ≡ out.old.items
+        ++ no_port_at lines.now line.now words.now (port_place lines.now words.now)) }
+{
+    let place = port_place(alloc, lines, words)?;
+    put_no_port_at(alloc, out, lines, line, words, place)
+}
+
+/// Which place a line has that came too late.
+fn late_wanted(words: &[Text]) -> &'static [u8]
+    ensures { result.now ≡ late_wanted words.now }
+{
+    if same(word_at(words, 0), b"delay") {
+        b"it before all other commands.\n"
+    } else {
+        b"it before all commands but delay and node.\n"
+    }
+}
+
+/// Appends what stands at a place of a line, and what was wanted there.
+fn put_at(
+    out: &mut Vec<u8>,
+    line: &[u8],
+    words: &[Text],
+    place: usize,
+    wanted: &[u8],
+) -> Result<(), OutOfMemory>
+    ensures { OnOk result (out.new.items
+        ≡ out.old.items ++ (found line.now words.now place ++ wanted.now)) }
+{
+    put_found(out, line, words, place)?;
+    out.extend_from_slice(wanted)?;
+    Ok(())
+}
+
+/// What was wanted where a line has a fault of one of these kinds by the bus.
+fn bus_wanted(kind: Kind) -> &'static [u8]
+    ensures { result.now ≡ bus_wanted kind }
+{
+    match kind {
+        Kind::TooManyNodes => b"63 nodes at most.\n",
+        Kind::SameNode => b"another node than the one at the other end.\n",
+        Kind::NotPlugged => b"a port with a cable in it.\n",
+        Kind::NotSettled => {
+            b"a node in a tree of the last settle or plan, and no plug, pull, reset or config since.\n"
+        }
+        Kind::NoManager => b"a node whose tree has one with link 1 and contender 1.\n",
+        Kind::NotManager => {
+            b"the bus manager of its tree, by a line manager behind the last reset.\n"
+        }
+        _ => b"",
+    }
+}
+
+/// What is said of a fault that is of no one word.
+fn whole_sentence(kind: Kind) -> &'static [u8]
+    ensures { result.now ≡ whole_sentence kind }
+{
+    match kind {
+        Kind::InUse => {
+            b"Found a cable in one of the two ports, wanted both free: another port, or a pull before.\n"
+        }
+        Kind::TooManyTurns => {
+            b"Found more than 2000000 turns in all, wanted fewer: each settle and plan has its turns, and so has the end.\n"
+        }
+        Kind::TooManyMaps => b"Found a 101st line maps, wanted 100 at most.\n",
+        _ => b"",
+    }
+}
+
+/// Appends the sentence on a fault of a line with these words, behind these lines.
+fn put_words_sentence(
+    alloc: Global,
+    out: &mut Vec<u8>,
+    d: u8,
+    lines: &[Text],
+    line: &[u8],
+    words: &[Text],
+    kind: Kind,
+) -> Result<(), OutOfMemory>
+    requires delay { d ≤ 16 }
+    requires are { words.now ≡ words_of line.now }
+    ensures { OnOk result (out.new.items
+        ≡ out.old.items ++ sentence_of d lines.now line.now words.now kind) }
+{
+    match kind {
+        Kind::Word => put_word_sentence(alloc, out, line, words),
+        Kind::Number => put_value_sentence(alloc, out, d, line, words),
+        Kind::Name => put_value_sentence(alloc, out, d, line, words),
+        Kind::Range => put_value_sentence(alloc, out, d, line, words),
+        Kind::Twice => put_twice_sentence(out, line, words),
+        Kind::Late => put_at(out, line, words, 0, late_wanted(words)),
+        Kind::NoNode => put_no_node(alloc, out, lines, line, words),
+        Kind::NoPort => put_no_port(alloc, out, lines, line, words),
+        Kind::TooManyNodes => put_at(out, line, words, 0, bus_wanted(kind)),
+        Kind::SameNode => put_at(out, line, words, 3, bus_wanted(kind)),
+        Kind::NotPlugged => put_at(out, line, words, 2, bus_wanted(kind)),
+        Kind::NotSettled => put_at(out, line, words, 1, bus_wanted(kind)),
+        Kind::NoManager => put_at(out, line, words, 1, bus_wanted(kind)),
+        Kind::NotManager => put_at(out, line, words, 1, bus_wanted(kind)),
+        Kind::InUse => out.extend_from_slice(whole_sentence(kind)),
+        Kind::TooManyTurns => out.extend_from_slice(whole_sentence(kind)),
+        Kind::TooManyMaps => out.extend_from_slice(whole_sentence(kind)),
+    }
+}
+
+/// The same, of a line's own words.
+fn put_line_sentence(
+    alloc: Global,
+    out: &mut Vec<u8>,
+    d: u8,
+    lines: &[Text],
+    line: &[u8],
+    kind: Kind,
+) -> Result<(), OutOfMemory>
+    requires delay { d ≤ 16 }
+    ensures { OnOk result (out.new.items
+        ≡ out.old.items ++ sentence_of d lines.now line.now (words_of line.now) kind) }
+{
+    let words = words_of(alloc, line)?;
+    put_words_sentence(alloc, out, d, lines, line, words.as_slice(), kind)
+}
+
+/// The line of this number, from 0, without the carriage return at its end; no bytes behind the last.
+fn line_at<'a>(lines: &[Text<'a>], number: usize) -> &'a [u8]
+    ensures { result.now ≡ strip_carriage_return (slice_index_or lines.now number []) }
+{
+    match lines.get(number) {
+        Some(line) => without_return(line.as_bytes()),
+        None => &[],
+    }
+}
+
+/// The first lines, so many of them at most.
+fn first_lines<'p, 'a>(lines: &'p [Text<'a>], count: usize) -> &'p [Text<'a>]
+    ensures { result.now ≡ take count lines.now }
+{
+    if count < lines.len() {
+        &lines[..count]
+    } else {
+        lines
+    }
+}
+
+/// Appends a sentence on the fault of a script, as `script_run` finds it, and then a line feed: what
+/// stands there, and what was wanted. It names the word, its number in the line from 1 and the column of
+/// its first byte from 1; and the words, the range or the names that may stand there. The delay, which
+/// ranges go with, is that of the script's first line that isn't skipped.
+pub fn put_sentence(
+    alloc: Global,
+    out: &mut Vec<u8>,
+    script: &[u8],
+    fault: ScriptFault,
+) -> Result<(), OutOfMemory>
+    requires { length script.now ≤ 1048576 }
+    ensures { OnOk result (out.new.items ≡ out.old.items ++ sentence script.now fault) }
+{
+    let list = lines_of(alloc, script)?;
+    let lines = list.as_slice();
+    let d = delay_of(alloc, lines)?;
+    let number = fault.line.saturating_sub(1) as usize;
+    let line = line_at(lines, number);
+    put_line_sentence(alloc, out, d, first_lines(lines, number), line, fault.kind)
+}
