@@ -298,7 +298,8 @@ uint32_t busconf_run(const char *script, size_t count, char *place, size_t room,
 uint32_t busconf_advice(const char *script, size_t count, char *place, size_t room, size_t *needed,
                         struct busconf_script_fault *fault);
 
-/* Tells what happens on a script's bus, turn by turn, as `busview trace` writes it. Takes memory. */
+/* Tells what happens on a script's bus, turn by turn, as `busview trace` writes it; a refusal has no sentence below its
+ * line. Takes memory. */
 uint32_t busconf_trace(const char *script, size_t count, char *place, size_t room, size_t *needed,
                        struct busconf_script_fault *fault);
 
