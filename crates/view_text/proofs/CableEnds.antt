@@ -13,12 +13,13 @@ use Rattle.speed_map.specs.Path.{node_speed, path_speed}
 use Rattle.speed_map.proofs.Lemmas.{speed_is, length-walk, some_node, length-ends_from, length-ends_below, slice_get-left, slice_get-right}
 use Rattle.view_text.specs.declared.cable.Cable.{Cable}
 use Rattle.view_text.specs.Cable.{first_up, up_of, speed_of, cable_to, cable_at, cables_of, cables_from, cables}
+use Rattle.view_text.specs.codings.Parts.{Has, Stands}
 use Rattle.view_text.specs.CableEnds.{IsOfTree, CablesAreOfTheTree, EachDownSlotHasItsCable}
 
-abbrev Ends : Type 0
+abbrev pub Ends : Type 0
 Ends = List (Option ℕ)
 
-some-same : {A : Type 0} → (a b : A) → Some a ≡ Some b → a ≡ b
+pub some-same : {A : Type 0} → (a b : A) → Some a ≡ Some b → a ≡ b
 some-same a b h = ap (or-else a) h
   where
     or-else : {A : Type 0} → A → Option A → A
@@ -26,9 +27,6 @@ some-same a b h = ap (or-else a) h
     or-else d (Some x) = x
 
 -- ---- a part of a list
-
-abbrev Has : {A : Type 0} → List A → ℕ → List A → Type 0
-Has {A} whole first part = (i : ℕ) (x : A) → slice_get part i ≡ Some x → slice_get whole (first + i) ≡ Some x
 
 has-left : {A : Type 0} → (whole : List A) (first : ℕ) (xs ys : List A) →
     Has whole first (xs ++ ys) → Has whole first xs
@@ -45,7 +43,7 @@ has-head : {A : Type 0} → (whole : List A) (first : ℕ) (y : A) (ys : List A)
     Has whole first (y ∷ ys) → slice_get whole first ≡ Some y
 has-head whole first y ys h = let z : first ≡ first + 0 = omega arith in ap (slice_get whole) z ∙ h 0 y refl
 
-has-itself : {A : Type 0} → (whole : List A) → Has whole 0 whole
+pub has-itself : {A : Type 0} → (whole : List A) → Has whole 0 whole
 has-itself whole i x e = let z : 0 + i ≡ i = omega arith in ap (slice_get whole) z ∙ e
 
 -- ---- the slot that is up
@@ -88,51 +86,47 @@ whole-parts (branch a s) h = h.2
 
 module _ (t : Tree) where
   -- a slot that is down leads to a child, which leads back
-  record LeadsDown (id : ℕ) (es : Ends) (slot : ℕ) : Type 0 where
-    child : ℕ
-    end : slice_get es slot ≡ Some (Some child)
-    lower : child < id
-    back : Far t child (up_of (slice_get (walk t) child)) (Some id)
+  pub record LeadsDown (id : ℕ) (es : Ends) (slot : ℕ) : Type 0 where
+    pub child : ℕ
+    pub end : slice_get es slot ≡ Some (Some child)
+    pub lower : child < id
+    pub back : Far t child (up_of (slice_get (walk t) child)) (Some id)
 
-  abbrev AllDown : ℕ → Type 0
+  abbrev pub AllDown : ℕ → Type 0
   AllDown id = (n : Node) (es : Ends) (slot : ℕ) → slice_get (walk t) id ≡ Some n → slice_get (ends t) id ≡ Some es → slice_get n.ports slot ≡ Some Down → LeadsDown id es slot
 
-  -- the tree below this ID stands in the whole
-  record Stands (first parent : ℕ) (u : Tree) : Type 0 where
-    nodes : Has (walk t) first (walk u)
-    ends_too : Has (ends t) first (ends_from first parent u)
+  -- so do the trees below slots of the node with this ID
+  pub record StandBelow (first id : ℕ) (s : Slots) : Type 0 where
+    pub nodes : Has (walk t) first (walk_below s)
+    pub ends_too : Has (ends t) first (ends_below first id s)
 
-  record StandBelow (first id : ℕ) (s : Slots) : Type 0 where
-    nodes : Has (walk t) first (walk_below s)
-    ends_too : Has (ends t) first (ends_below first id s)
-
-  below-of : (first parent : ℕ) (a : Label) (s : Slots) → Stands first parent (branch a s) →
+  pub below-of : (first parent : ℕ) (a : Label) (s : Slots) → Stands t first parent (branch a s) →
       StandBelow first (first + length (walk_below s)) s
   below-of first parent a s h = record {
     nodes = has-left (walk t) first (walk_below s) (node_of a s ∷ []) h.nodes;
     ends_too = has-left (ends t) first (ends_below first (first + length (walk_below s)) s) (slot_ends first parent s ∷ []) h.ends_too;
   }
 
-  own-node : (first parent : ℕ) (a : Label) (s : Slots) → Stands first parent (branch a s) →
+  pub own-node : (first parent : ℕ) (a : Label) (s : Slots) → Stands t first parent (branch a s) →
       slice_get (walk t) (first + length (walk_below s)) ≡ Some (node_of a s)
   own-node first parent a s h =
       has-head (walk t) (first + length (walk_below s)) (node_of a s) []
       (has-right (walk t) first (length (walk_below s)) (walk_below s) (node_of a s ∷ []) refl h.nodes)
 
-  own-ends : (first parent : ℕ) (a : Label) (s : Slots) → Stands first parent (branch a s) →
+  pub own-ends : (first parent : ℕ) (a : Label) (s : Slots) → Stands t first parent (branch a s) →
       slice_get (ends t) (first + length (walk_below s)) ≡ Some (slot_ends first parent s)
   own-ends first parent a s h =
       has-head (ends t) (first + length (walk_below s)) (slot_ends first parent s) []
       (has-right (ends t) first (length (walk_below s)) (ends_below first (first + length (walk_below s)) s) (slot_ends first parent s ∷ []) (length-ends_below first (first + length (walk_below s)) s) h.ends_too)
 
-  first-of : (first id : ℕ) (u : Tree) (s : Slots) → StandBelow first id (down u s) →
-      Stands first id u
+  pub first-of : (first id : ℕ) (u : Tree) (s : Slots) → StandBelow first id (down u s) →
+      Stands t first id u
   first-of first id u s h = record {
     nodes = has-left (walk t) first (walk u) (walk_below s) h.nodes;
     ends_too = has-left (ends t) first (ends_from first id u) (ends_below (first + length (walk u)) id s) h.ends_too;
   }
 
-  rest-of : (first id : ℕ) (u : Tree) (s : Slots) → StandBelow first id (down u s) →
+  pub rest-of : (first id : ℕ) (u : Tree) (s : Slots) → StandBelow first id (down u s) →
       StandBelow (first + length (walk u)) id s
   rest-of first id u s h = record {
     nodes = has-right (walk t) first (length (walk u)) (walk u) (walk_below s) refl h.nodes;
@@ -140,7 +134,7 @@ module _ (t : Tree) where
   }
 
   -- the outermost node of a part leads back to its parent
-  leads-back : (first id : ℕ) (u : Tree) → IsPart u → Stands first id u →
+  leads-back : (first id : ℕ) (u : Tree) → IsPart u → Stands t first id u →
       Far t (first + length (walk u) - 1) (up_of (slice_get (walk t) (first + length (walk u) - 1))) (Some id)
   leads-back first id (branch a s) part h =
       let top : first + length (walk (branch a s)) - 1 ≡ first + length (walk_below s) = omega (arith, length-walk a s) in
@@ -180,7 +174,7 @@ module _ (t : Tree) where
       record { child = d.child; end = d.end; lower = d.lower; back = d.back }
 
   mutual
-    tree-down : (u : Tree) (first parent : ℕ) → ArePartsOf u → Stands first parent u → (id : ℕ) → first ≤ id → id < first + length (walk u) → AllDown id
+    tree-down : (u : Tree) (first parent : ℕ) → ArePartsOf u → Stands t first parent u → (id : ℕ) → first ≤ id → id < first + length (walk u) → AllDown id
     tree-down (branch a s) first parent parts h id low high n es slot at_n at_e e = elim (cases_lt id (first + length (walk_below s))) [
       | inl less ↦ slots-down s first (first + length (walk_below s)) (below-of first parent a s h) parts id low less n es slot at_n at_e e
       | inr more ↦
@@ -201,7 +195,7 @@ module _ (t : Tree) where
       | inr more ↦ slots-down s (first + length (walk u)) me (rest-of first me u s h) parts.1 id more (omega (arith, high, length-append (walk u) (walk_below s)))
     ]
 
-  all-down : IsBusTree t → (id : ℕ) → AllDown id
+  pub all-down : IsBusTree t → (id : ℕ) → AllDown id
   all-down bus id n es slot at_n at_e e =
       let inside : id < 0 + length (walk t) = omega (arith, slice_get_within (walk t) id n at_n) in
       tree-down t 0 63 (whole-parts t bus.whole) (record { nodes = has-itself (walk t); ends_too = has-itself (ends t) }) id (omega arith) inside n es slot at_n at_e e

@@ -1,65 +1,68 @@
--- The drawing of a bus tree: a line a node, the root at the top, and by falling ID below it. So each node
--- stands below its parent, and before its line is the cable between them.
-use Rattle.std.specs.Prelude.{◌≡◌, ℕ, zero, suc, ◌+◌, ◌-◌, ◌==◌, ◌&&◌, ◌||◌, nat_lt, Bool, true, false, if◌then◌else◌, Option, Some, None, List, [], ◌∷◌, ◌++◌, length, slice_get, codes}
-use Rattle.self_id.specs.Node.{Node}
-use Rattle.topology_stack.specs.Tree.{Tree, walk}
+-- The drawing of a bus tree: the line of its root, and then the trees below the root's slots, the lowest slot's
+-- first. Each tree hangs on its cable, and is drawn in the same way.
+use Rattle.std.specs.Prelude.{◌≡◌, ℕ, ◌+◌, ◌-◌, ◌==◌, ◌&&◌, nat_lt, min, Bool, true, if◌then◌else◌, Option, Some, List, [], ◌∷◌, ◌++◌, length, slice_get, codes}
+use Rattle.self_id.specs.Node.{Node, downs}
+use Rattle.topology_stack.specs.Tree.{Tree, branch, Slots, no_more, absent, unplugged, up, down, statuses, node_of, walk, walk_below}
 use Rattle.topology_stack.specs.Elect.{elected}
+use Rattle.speed_map.specs.Path.{node_speed}
 use Rattle.bus_manager.specs.Hops.{IsHops}
 use Rattle.bus_manager.specs.Gap.{gap_of}
-use Rattle.view_text.specs.declared.cable.Cable.{Cable}
 use Rattle.view_text.specs.Packet.{field}
-use Rattle.view_text.specs.Cable.{cables}
+use Rattle.view_text.specs.Cable.{first_up}
 use Rattle.view_text.specs.Node.{title, link_words, gap_words, speed_word}
 
--- the cable on which a node hangs: the first with this child
-abbrev pub hung : ℕ → List Cable → Option Cable
-hung id [] = None
-hung id (c ∷ cs) = if c.child == id then Some c else hung id cs
-
--- another cable of the parent comes further down, at a lower port
-abbrev pub goes_on : Cable → List Cable → Bool
-goes_on c [] = false
-goes_on c (d ∷ cs) = ((d.parent == c.parent) && nat_lt d.port c.port) || goes_on c cs
-
-abbrev pub bar : Cable → List Cable → List ℕ
-bar c cs = if goes_on c cs then codes "|  " else codes "   "
-
-abbrev pub corner : Cable → List Cable → List ℕ
-corner c cs = if goes_on c cs then codes "+--" else codes "`--"
-
--- what stands before the branches below a node: three characters for each node from the root's child on; so
--- many nodes are followed at most
-abbrev pub margin : ℕ → List Cable → ℕ → List ℕ
-margin zero cs id = []
-margin (suc k) cs id =
-    elim (hung id cs) [ None ↦ [] | Some c ↦ margin k cs c.parent ++ bar c cs ]
-
--- `[PORT]--SPEED--[PORT] `: a cable, its parent's end first
-unfoldable pub cable_text : Cable → List ℕ
-cable_text c =
-    field (codes "[") c.port ++ (codes "]--" ++ (speed_word c.speed
-    ++ (field (codes "--[") c.child_port ++ codes "] ")))
-
--- what stands before a node: nothing before the root
-abbrev pub branch_text : List Cable → Option Cable → List ℕ
-branch_text cs None = []
-branch_text cs (Some c) = margin 63 cs c.parent ++ (corner c cs ++ cable_text c)
-
--- a node behind its branch
+-- a node's words, behind its branch
 abbrev pub node_words : ℕ → Node → ℕ → Option ℕ → List ℕ
 node_words id n root irm =
     title id root irm
     ++ (codes " " ++ (link_words n.attrs ++ (codes " " ++ (gap_words n.attrs ++ codes "\n"))))
 
-abbrev pub node_line : List Cable → ℕ → Option Node → ℕ → Option ℕ → List ℕ
-node_line cs id None root irm = []
-node_line cs id (Some n) root irm = branch_text cs (hung id cs) ++ node_words id n root irm
+-- `[PORT]--SPEED--[PORT] `: a cable, its parent's end first
+unfoldable pub cable_text : ℕ → ℕ → ℕ → List ℕ
+cable_text port speed child_port =
+    field (codes "[") port ++ (codes "]--" ++ (speed_word speed
+    ++ (field (codes "--[") child_port ++ codes "] ")))
 
--- the lines of the nodes with so many lowest IDs, the highest first
-abbrev pub node_lines : ℕ → List Node → List Cable → ℕ → Option ℕ → List ℕ
-node_lines zero ns cs root irm = []
-node_lines (suc id) ns cs root irm =
-    node_line cs id (slice_get ns id) root irm ++ node_lines id ns cs root irm
+-- the cable from a port of a node to a child: its speed is the less of both nodes'
+abbrev pub cable_of : Node → ℕ → Node → List ℕ
+cable_of n port child =
+    cable_text port (min (node_speed n) (node_speed child)) (first_up 0 child.ports)
+
+-- another of these slots leads to a child, so that a branch goes on downwards
+abbrev pub goes_on : Slots → Bool
+goes_on s = nat_lt 0 (downs (statuses s))
+
+-- what stands before a cable, and before the lines below its child
+abbrev pub corner : Bool → List ℕ
+corner on = if on then codes "+--" else codes "`--"
+
+abbrev pub bar : Bool → List ℕ
+bar on = if on then codes "|  " else codes "   "
+
+abbrev pub outermost : Tree → Node
+outermost (branch a s) = node_of a s
+
+-- A tree whose IDs begin at `from`: the line of its outermost node, and the trees below its slots. `margin` is
+-- what stands before each line but the first.
+abbrev mutual
+  pub tree_lines : List ℕ → ℕ → Option ℕ → ℕ → Tree → List ℕ
+  tree_lines margin root irm from (branch a s) =
+      node_words (from + length (walk_below s)) (node_of a s) root irm
+      ++ slot_lines margin root irm (node_of a s) 0 from s
+
+  -- the trees below slots of a node, counted from `slot`
+  pub slot_lines : List ℕ → ℕ → Option ℕ → Node → ℕ → ℕ → Slots → List ℕ
+  slot_lines margin root irm n slot from no_more = []
+  slot_lines margin root irm n slot from (absent s) =
+      slot_lines margin root irm n (slot + 1) from s
+  slot_lines margin root irm n slot from (unplugged s) =
+      slot_lines margin root irm n (slot + 1) from s
+  slot_lines margin root irm n slot from (up s) =
+      slot_lines margin root irm n (slot + 1) from s
+  slot_lines margin root irm n slot from (down t s) =
+      margin ++ (corner (goes_on s) ++ (cable_of n slot (outermost t)
+      ++ (tree_lines (margin ++ bar (goes_on s)) root irm from t
+      ++ slot_lines margin root irm n (slot + 1) (from + length (walk t)) s)))
 
 -- ---- below the drawing
 
@@ -135,7 +138,7 @@ IsRoot t root = slice_get (walk t) (length (walk t) - 1) ≡ Some root
 
 abbrev pub drawing : Tree → ℕ → ℕ → List ℕ
 drawing t hops gap =
-    node_lines (length (walk t)) (walk t) (cables t) (length (walk t) - 1) (elected t)
+    tree_lines [] (length (walk t) - 1) (elected t) 0 t
     ++ (hops_line hops ++ gap_line gap hops (walk t))
 
 -- the drawing of a tree, with its hops and the gap count of its root below

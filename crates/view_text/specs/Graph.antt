@@ -1,5 +1,5 @@
 -- The graph of a bus tree in Graphviz's language: a node a node, an edge a cable.
-use Rattle.std.specs.Prelude.{ℕ, ◌+◌, ◌-◌, Option, List, [], ◌∷◌, ◌++◌, length, codes}
+use Rattle.std.specs.Prelude.{ℕ, ◌+◌, ◌-◌, ◌==◌, if◌then◌else◌, Option, Some, None, List, [], ◌∷◌, ◌++◌, length, codes}
 use Rattle.self_id.specs.Node.{Node}
 use Rattle.topology_stack.specs.Tree.{Tree, walk}
 use Rattle.topology_stack.specs.Elect.{elected}
@@ -12,7 +12,15 @@ use Rattle.view_text.specs.Node.{title, link_words, gap_words, speed_word}
 abbrev pub line_break : List ℕ
 line_break = 92 ∷ 110 ∷ []
 
--- `  nID [label="node ID\nlink ..\ninitiated .."];`
+-- the box of the root has two lines, and that of the isochronous resource manager a bold one
+abbrev pub root_box : ℕ → ℕ → List ℕ
+root_box id root = if id == root then codes ", peripheries=2" else []
+
+abbrev pub irm_box : ℕ → Option ℕ → List ℕ
+irm_box id None = []
+irm_box id (Some irm) = if id == irm then codes ", style=bold" else []
+
+-- `  nID [label="node ID\nlink ..\ninitiated .."];`, and before `];` what makes the box stand out
 unfoldable pub graph_label : ℕ → Node → ℕ → Option ℕ → List ℕ
 graph_label id n root irm =
     title id root irm ++ (line_break ++ (link_words n.attrs ++ (line_break ++ gap_words n.attrs)))
@@ -20,7 +28,8 @@ graph_label id n root irm =
 unfoldable pub graph_node : ℕ → Node → ℕ → Option ℕ → List ℕ
 graph_node id n root irm =
     field (codes "  n") id
-    ++ (codes " [label=\"" ++ (graph_label id n root irm ++ codes "\"];\n"))
+    ++ (codes " [label=\"" ++ (graph_label id n root irm ++ (codes "\""
+    ++ (root_box id root ++ (irm_box id irm ++ codes "];\n")))))
 
 abbrev pub graph_nodes : ℕ → List Node → ℕ → Option ℕ → List ℕ
 graph_nodes id [] root irm = []

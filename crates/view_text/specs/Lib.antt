@@ -6,3 +6,4 @@ pub mod CableEnds
 pub mod Node
 pub mod Drawing
 pub mod Graph
+pub mod codings

@@ -61,7 +61,7 @@ fn speed_at(tree: &BusTree, id: u8) -> u8
 }
 
 /// The cable from a port of a node to this child.
-fn cable_to(tree: &BusTree, id: u8, slot: u8, child: u8) -> Cable
+pub(crate) fn cable_to(tree: &BusTree, id: u8, slot: u8, child: u8) -> Cable
     ensures { result ≡ cable_to tree.now id slot child }
 {
     Cable {

@@ -1,102 +1,18 @@
 //! The drawing of a bus tree.
-ghost use Rattle.std.specs.Prelude.{◌≡◌, ◌-◌, ◌<◌, ◌≤◌, ◌++◌, length, slice_get, Some, IfOk, OnOk};
-ghost use Rattle.self_id.specs.Node.{Node};
+ghost use Rattle.std.specs.Prelude.{◌≡◌, ◌+◌, ◌<◌, ◌≤◌, ◌++◌, length, drop, nat_lt, slice_get, IfOk, OnOk, IfSome};
+ghost use Rattle.self_id.specs.Node.{downs};
 ghost use Rattle.topology_stack.specs.Tree.{walk};
-ghost use Rattle.view_text.specs.Cable.{cables};
-ghost use Rattle.view_text.specs.Drawing.{hung, goes_on, bar, corner, margin, cable_text, branch_text, node_words, node_line, node_lines, table_gap, hops_words, hops_line, drawing, IsDrawing};
+ghost use Rattle.view_text.specs.Drawing.{node_words, cable_text, corner, bar, table_gap, hops_words, hops_line, drawing, IsDrawing};
+ghost use Rattle.view_text.specs.codings.Parts.{IsChildAt, AppendsPart};
 
-use crate::cable::{Cable, cables};
+use crate::cable::{Cable, cable_to};
 use crate::gaps::{gap_at, put_gaps};
 use crate::node::{put_gap_words, put_link_words, put_title, speed_word};
 use crate::words::put_field;
 use bus_manager::{gap_for, hops};
-use self_id::SelfId;
+use self_id::{PortStatus, SelfId, count_down};
 use std::alloc::Global;
 use topology_stack::{BusTree, OutOfMemory, elect};
-
-/// The cable on which a node hangs.
-fn hung(cables: &[Cable], id: u8) -> Option<Cable>
-    ensures { result ≡ hung id cables.now }
-{
-    for cable in cables {
-        if cable.child == id {
-            return Some(*cable);
-        }
-    }
-    None
-}
-
-/// Whether another cable of the same parent comes further down.
-fn goes_on(cables: &[Cable], cable: Cable) -> bool
-    ensures { result ≡ goes_on cable cables.now }
-{
-    for other in cables {
-        if other.parent == cable.parent && other.port < cable.port {
-            return true;
-        }
-    }
-    false
-}
-
-fn put_bar(out: &mut Vec<u8>, cables: &[Cable], cable: Cable) -> Result<(), OutOfMemory>
-    ensures { OnOk result (out.new.items ≡ out.old.items ++ bar cable cables.now) }
-{
-    if goes_on(cables, cable) {
-        out.extend_from_slice(b"|  ")
-    } else {
-        out.extend_from_slice(b"   ")
-    }
-}
-
-fn put_corner(out: &mut Vec<u8>, cables: &[Cable], cable: Cable) -> Result<(), OutOfMemory>
-    ensures { OnOk result (out.new.items ≡ out.old.items ++ corner cable cables.now) }
-{
-    if goes_on(cables, cable) {
-        out.extend_from_slice(b"+--")
-    } else {
-        out.extend_from_slice(b"`--")
-    }
-}
-
-/// Appends what stands before the branches below a node. So many nodes are followed at most.
-fn put_margin(out: &mut Vec<u8>, most: u8, cables: &[Cable], id: u8) -> Result<(), OutOfMemory>
-    ensures { OnOk result (out.new.items ≡ out.old.items ++ margin most cables.now id) }
-{
-    if most == 0 {
-        return Ok(());
-    }
-    if let Some(cable) = hung(cables, id) {
-        put_margin(out, most - 1, cables, cable.parent)?;
-        put_bar(out, cables, cable)?;
-    }
-    Ok(())
-}
-
-/// Appends a cable with its ports and speed.
-#[tactic(auto, unfolding(crate::specs::Drawing::cable_text))]
-fn put_cable(out: &mut Vec<u8>, cable: Cable) -> Result<(), OutOfMemory>
-    ensures { OnOk result (out.new.items ≡ out.old.items ++ cable_text cable) }
-{
-    put_field(out, b"[", u64::from(cable.port))?;
-    out.extend_from_slice(b"]--")?;
-    out.extend_from_slice(speed_word(cable.speed))?;
-    put_field(out, b"--[", u64::from(cable.child_port))?;
-    out.extend_from_slice(b"] ")?;
-    Ok(())
-}
-
-/// Appends what stands before a node.
-fn put_branch(out: &mut Vec<u8>, cables: &[Cable], id: u8) -> Result<(), OutOfMemory>
-    ensures { OnOk result (out.new.items
-        ≡ out.old.items ++ branch_text cables.now (hung id cables.now)) }
-{
-    if let Some(cable) = hung(cables, id) {
-        put_margin(out, 63, cables, cable.parent)?;
-        put_corner(out, cables, cable)?;
-        put_cable(out, cable)?;
-    }
-    Ok(())
-}
 
 /// Appends the words of a node.
 fn put_node_words(
@@ -117,37 +33,101 @@ fn put_node_words(
     Ok(())
 }
 
-/// Appends the line of the node with this ID.
-fn put_node(
+/// Appends a cable with its ports and speed.
+#[tactic(auto, unfolding(crate::specs::Drawing::cable_text))]
+fn put_cable(out: &mut Vec<u8>, cable: Cable) -> Result<(), OutOfMemory>
+    ensures { OnOk result (out.new.items
+        ≡ out.old.items ++ cable_text cable.port cable.speed cable.child_port) }
+{
+    put_field(out, b"[", u64::from(cable.port))?;
+    out.extend_from_slice(b"]--")?;
+    out.extend_from_slice(speed_word(cable.speed))?;
+    put_field(out, b"--[", u64::from(cable.child_port))?;
+    out.extend_from_slice(b"] ")?;
+    Ok(())
+}
+
+/// What stands before a cable, where another one of the same parent comes further down, or none.
+fn corner(on: bool) -> &'static [u8]
+    ensures { result.now ≡ corner on }
+{
+    if on { b"+--" } else { b"`--" }
+}
+
+/// The same of the lines below its child.
+fn bar(on: bool) -> &'static [u8]
+    ensures { result.now ≡ bar on }
+{
+    if on { b"|  " } else { b"   " }
+}
+
+/// Appends what stands before a child.
+fn put_branch(out: &mut Vec<u8>, margin: &[u8], on: bool, cable: Cable) -> Result<(), OutOfMemory>
+    ensures { OnOk result (out.new.items ≡ out.old.items ++ (margin.now
+        ++ (corner on ++ cable_text cable.port cable.speed cable.child_port))) }
+{
+    out.extend_from_slice(margin)?;
+    out.extend_from_slice(corner(on))?;
+    put_cable(out, cable)?;
+    Ok(())
+}
+
+/// What stands before the lines below a child.
+fn margin_below(alloc: Global, margin: &[u8], on: bool) -> Result<Vec<u8>, OutOfMemory>
+    ensures { IfOk result (λ below. below.items ≡ margin.now ++ bar on) }
+{
+    let mut below = Vec::new(alloc);
+    below.extend_from_slice(margin)?;
+    below.extend_from_slice(bar(on))?;
+    Ok(below)
+}
+
+/// Whether a slot behind this one leads to a child.
+fn goes_on(ports: &[PortStatus], slot: usize) -> bool
+    requires { slot < length ports.now }
+    ensures { result ≡ nat_lt 0 (downs (drop (slot + 1) ports.now)) }
+{
+    count_down(&ports[slot + 1..]) > 0
+}
+
+/// The child below a slot.
+fn child_at(tree: &BusTree, id: u8, slot: u8) -> Option<u8>
+    requires { IfSome (slice_get (walk tree.now) id) (λ n. slot < length n.ports) }
+    ensures child { IsChildAt tree.now id slot result }
+    ensures lower { IfSome result (λ child. child < id) }
+{
+    if id >= tree.len() {
+        return None;
+    }
+    if let PortStatus::Down = tree.node(id).ports.as_slice()[slot as usize] {
+        tree.far(id, slot)
+    } else {
+        None
+    }
+}
+
+/// Appends the line of a node, and those of all nodes below it by rising port. `margin` is what
+/// stands before each line but the first.
+fn put_tree(
+    alloc: Global,
     out: &mut Vec<u8>,
+    margin: &[u8],
     tree: &BusTree,
-    cables: &[Cable],
     id: u8,
     irm: Option<u8>,
 ) -> Result<(), OutOfMemory>
     requires { id < length (walk tree.now) }
-    ensures { OnOk result (out.new.items ≡ out.old.items
-        ++ node_line cables.now id (slice_get (walk tree.now) id)
-        (length (walk tree.now) - 1) irm) }
+    ensures { OnOk result (AppendsPart tree.now margin.now irm id out.old.items out.new.items) }
 {
-    put_branch(out, cables, id)?;
     put_node_words(out, id, tree.node(id), tree.root(), irm)?;
-    Ok(())
-}
-
-/// Appends the lines of all nodes, the root's first.
-fn put_nodes(
-    out: &mut Vec<u8>,
-    tree: &BusTree,
-    cables: &[Cable],
-    irm: Option<u8>,
-) -> Result<(), OutOfMemory>
-    ensures { OnOk result (out.new.items ≡ out.old.items
-        ++ node_lines (length (walk tree.now)) (walk tree.now) cables.now
-        (length (walk tree.now) - 1) irm) }
-{
-    for id in (0..tree.len()).rev() {
-        put_node(out, tree, cables, id, irm)?;
+    let ports = tree.node(id).ports.as_slice();
+    for slot in 0..ports.len() {
+        if let Some(child) = child_at(tree, id, slot as u8) {
+            let on = goes_on(ports, slot);
+            put_branch(out, margin, on, cable_to(tree, id, slot as u8, child))?;
+            let below = margin_below(alloc, margin, on)?;
+            put_tree(alloc, out, &below, tree, child, irm)?;
+        }
     }
     Ok(())
 }
@@ -184,18 +164,17 @@ fn put_hops(out: &mut Vec<u8>, hops: u8) -> Result<(), OutOfMemory>
     Ok(())
 }
 
-/// The drawing of a bus tree: a line a node, the root at the top and the others by falling ID, each
-/// below its parent and behind the cable between them, `+--[PORT]--SPEED--[PORT] `; then the hops of
+/// The drawing of a bus tree: a line a node, the root at the top, and below each node its children
+/// by rising port, each behind the cable between them, `+--[PORT]--SPEED--[PORT] `; then the hops of
 /// the bus with the gap count that the table has for them, up to 15, and whether the nodes' gap
 /// counts agree with the root's, and if so whether that one is safe or too small for the hops.
 pub fn tree_drawing(alloc: Global, tree: &BusTree) -> Result<Vec<u8>, OutOfMemory>
     ensures { IfOk result (λ text. IsDrawing tree.now text.items) }
 {
     let mut out = Vec::new(alloc);
-    let list = cables(alloc, tree)?;
     let hops = hops(tree);
     let gap = gap_at(tree, tree.root());
-    put_nodes(&mut out, tree, &list, elect(tree))?;
+    put_tree(alloc, &mut out, &[], tree, tree.root(), elect(tree))?;
     put_hops(&mut out, hops)?;
     put_gaps(&mut out, tree, gap, hops)?;
     Ok(out)

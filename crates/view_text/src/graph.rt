@@ -1,7 +1,7 @@
 //! The graph of a bus tree in Graphviz's language.
 ghost use Rattle.std.specs.Prelude.{◌≡◌, ◌++◌, ◌-◌, length, IfOk, OnOk};
 ghost use Rattle.topology_stack.specs.Tree.{walk};
-ghost use Rattle.view_text.specs.Graph.{graph_label, graph_node, graph_nodes, edge_ends, edge_ports, graph_edge, graph_edges, graph};
+ghost use Rattle.view_text.specs.Graph.{root_box, irm_box, graph_label, graph_node, graph_nodes, edge_ends, edge_ports, graph_edge, graph_edges, graph};
 
 use crate::cable::{Cable, cables};
 use crate::node::{put_gap_words, put_link_words, put_title, speed_word};
@@ -29,6 +29,28 @@ fn put_label(
     Ok(())
 }
 
+/// Appends what makes the box of the root stand out.
+fn put_root_box(out: &mut Vec<u8>, id: u8, root: u8) -> Result<(), OutOfMemory>
+    ensures { OnOk result (out.new.items ≡ out.old.items ++ root_box id root) }
+{
+    if id == root {
+        out.extend_from_slice(b", peripheries=2")?;
+    }
+    Ok(())
+}
+
+/// Appends what makes the box of the isochronous resource manager stand out.
+fn put_irm_box(out: &mut Vec<u8>, id: u8, irm: Option<u8>) -> Result<(), OutOfMemory>
+    ensures { OnOk result (out.new.items ≡ out.old.items ++ irm_box id irm) }
+{
+    if let Some(irm) = irm {
+        if id == irm {
+            out.extend_from_slice(b", style=bold")?;
+        }
+    }
+    Ok(())
+}
+
 /// Appends a node of the graph.
 fn put_node(
     out: &mut Vec<u8>,
@@ -42,7 +64,10 @@ fn put_node(
     put_field(out, b"  n", u64::from(id))?;
     out.extend_from_slice(b" [label=\"")?;
     put_label(out, id, node, root, irm)?;
-    out.extend_from_slice(b"\"];\n")?;
+    out.extend_from_slice(b"\"")?;
+    put_root_box(out, id, root)?;
+    put_irm_box(out, id, irm)?;
+    out.extend_from_slice(b"];\n")?;
     Ok(())
 }
 
@@ -98,7 +123,8 @@ fn put_edges(out: &mut Vec<u8>, cables: &[Cable]) -> Result<(), OutOfMemory>
 }
 
 /// The graph of a bus tree, which Graphviz draws: a node for each node of the bus, and an edge for
-/// each cable with its speed and its ports, the parent's at its tail.
+/// each cable with its speed and its ports, the parent's at its tail. The root's box has two lines,
+/// and that of the isochronous resource manager a bold one.
 pub fn tree_graph(alloc: Global, tree: &BusTree) -> Result<Vec<u8>, OutOfMemory>
     ensures { IfOk result (λ text. text.items ≡ graph tree.now) }
 {

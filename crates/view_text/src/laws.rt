@@ -3,8 +3,7 @@ ghost use Rattle.view_text.specs.Cable.{EachNodeHangsOnOneCable, CablesAreOneLes
 ghost use Rattle.view_text.specs.CableEnds.{CablesAreOfTheTree, EachDownSlotHasItsCable};
 
 /// A law: each node of a tree but the root hangs on exactly one of the tree's cables, and there are
-/// no others. So a drawing with a line a node, and a graph with an edge a cable, have each node and
-/// each cable once.
+/// no others. So a graph with an edge a cable has each cable once, as a drawing of the tree has.
 pub fn each_node_hangs_on_one_cable()
     ensures one { EachNodeHangsOnOneCable }
     ensures count { CablesAreOneLessThanNodes }

@@ -1,7 +1,10 @@
 use Rattle.std.proofs.Common.{◌≡◌, ℕ, ◌-◌, Some, length, subst, arith, append_assoc}
 use Rattle.std.specs.Prelude.{slice_get}
 use Rattle.topology_stack.specs.Tree.{walk}
+use Rattle.topology_stack.specs.Far.{ends}
+use Rattle.view_text.specs.codings.Parts.{Stands}
 use Rattle.view_text.proofs.At.{item_at}
+use Rattle.view_text.proofs.CableEnds.{has-itself}
 use Rattle.view_text.proofs.drawing.tree_drawing.Goals as goal
 
 pub returns : goal.returns
@@ -9,6 +12,9 @@ returns c =
     let ns = walk c.args.tree.now in
     let n = item_at ns (length ns - 1) (omega (arith, c.root.ensures)) in
     let place : length ns - 1 ≡ c.root.result = omega (arith, c.root.ensures) in
+    let t = c.args.tree.now in
+    let whole : Stands t 0 63 t = record { nodes = has-itself (walk t); ends_too = has-itself (ends t) } in
+    let lines = c.in_ok-put_tree.ensures 0 63 t whole (omega (arith, c.root.ensures)) in
     let gap = c.gap_at-gap.ensures n.0 (subst (λ (k : ℕ). slice_get ns k ≡ Some n.0) place n.1) in
     record {
       hops = c.hops-hops.result;
@@ -16,5 +22,5 @@ returns c =
       are_hops = c.hops-hops.ensures.longest;
       is_root = n.1;
       text_is =
-          simp (c.in_ok-put_gaps.ensures, c.in_ok-put_hops.ensures, c.in_ok-put_nodes.ensures, c.elect.ensures.value, c.deref.ensures.value, c.in_ok-list.ensures, c.new-out.ensures.items, append_assoc, gap);
+          simp (c.in_ok-put_gaps.ensures, c.in_ok-put_hops.ensures, lines, c.elect.ensures.value, c.new-out.ensures.items, append_assoc, gap);
     }
