@@ -1,4 +1,4 @@
--- One item more is told.
+-- What is told of items is one thing, and one item more is told.
 use Rattle.std.proofs.Common.{◌≡◌, ◌∙◌, ℕ, suc, ◌+◌, Bool, true, false, ◌||◌, List, [], ◌∷◌, ◌++◌, length, refl, sym, ap, subst, append_assoc, arith}
 use Rattle.reset_log.specs.InOrder.{AreTold}
 
@@ -49,3 +49,37 @@ one_more IsTold n s mid next (y ∷ ys) x text more bad here told is = (
     or_assoc : (a b c : Bool) → ((a || b) || c) ≡ (a || (b || c))
     or_assoc true b c = refl
     or_assoc false b c = refl
+
+-- ---- one thing is told
+
+-- the same text, the same fault, and the same is known
+abbrev pub AreSame : {S : Type 0} → List ℕ → List ℕ → Bool → Bool → S → S → Type 0
+AreSame a b c d s t = (a ≡ b) × (c ≡ d) × (s ≡ t)
+
+pub told_once : {X S : Type 0} (IsTold : ℕ → S → X → List ℕ → Bool → S → Type 0) →
+    ((n : ℕ) (s : S) (x : X) (a b : List ℕ) (c d : Bool) (p q : S) → IsTold n s x a c p → IsTold n s x b d q → AreSame a b c d p q) →
+    (n : ℕ) (s : S) (xs : List X) (a b : List ℕ) (c d : Bool) (p q : S) →
+    AreTold IsTold n s xs a c p → AreTold IsTold n s xs b d q → AreSame a b c d p q
+told_once IsTold each n s [] a b c d p q x y = (x.0 ∙ sym y.0, x.1 ∙ sym y.1, x.2 ∙ sym y.2)
+told_once {S = S} IsTold each n s (z ∷ zs) a b c d p q x y =
+    let one = each n s z x.0 y.0 x.2 y.2 x.4 y.4 x.5 y.5 in
+    let rest = told_once IsTold each (n + 1) y.4 zs x.1 y.1 x.3 y.3 p q (subst (λ (m : S). AreTold IsTold (n + 1) m zs x.1 x.3 p) one.2 x.6) y.6 in (
+      x.7 ∙ ap (λ (l : List ℕ). l ++ x.1) one.0 ∙ ap (λ (l : List ℕ). y.0 ++ l) rest.0 ∙ sym y.7,
+      x.8 ∙ ap (λ (v : Bool). v || x.3) one.1 ∙ ap (λ (v : Bool). y.2 || v) rest.1 ∙ sym y.8,
+      rest.2,
+    )
+
+-- what is told of the first items stands in front
+pub told_first : {X S : Type 0} (IsTold : ℕ → S → X → List ℕ → Bool → S → Type 0) (n : ℕ) (s next : S) (xs ys : List X) (text : List ℕ) (bad : Bool) →
+    AreTold IsTold n s (xs ++ ys) text bad next →
+    (a b : List ℕ) × (c : Bool) × (mid : S) × AreTold IsTold n s xs a c mid × (text ≡ a ++ b)
+told_first IsTold n s next [] ys text bad told = ([], text, false, s, (refl, refl, refl), refl)
+told_first IsTold n s next (x ∷ xs) ys text bad told =
+    let h = told_first IsTold (n + 1) told.4 next xs ys told.1 told.3 told.6 in (
+      told.0 ++ h.0,
+      h.1,
+      told.2 || h.2,
+      h.3,
+      (told.0, h.0, told.2, h.2, told.4, told.5, h.4, refl, refl),
+      told.7 ∙ ap (λ (l : List ℕ). told.0 ++ l) h.5 ∙ sym (append_assoc told.0 h.0 h.1),
+    )

@@ -5,7 +5,10 @@ pub mod At
 pub mod OneDrawing
 pub mod Judged
 pub mod InOrder
+pub mod OneText
 pub mod Going
 pub mod Standing
 pub mod Reading
+pub mod Answered
+pub mod Fronts
 pub mod Lemmas

@@ -21,7 +21,7 @@ no_more {X = X} (x ∷ xs) = ap (λ (ys : List X). x ∷ ys) (no_more xs)
 no_open : (done : List ℕ) → (parted done).open_line ≡ [] → lines_of done ≡ (parted done).lines
 no_open done e = ap (λ (o : List ℕ). (parted done).lines ++ open_lines o) e ∙ no_more (parted done).lines
 
-some_open : (done : List ℕ) → ((parted done).open_line ≡ [] → ⊥) →
+pub some_open : (done : List ℕ) → ((parted done).open_line ≡ [] → ⊥) →
     lines_of done ≡ (parted done).lines ++ (parted done).open_line ∷ []
 some_open done ne = go (parted done).open_line ne
   where
@@ -34,7 +34,7 @@ empty_front zero xs some e = absurd (omega (arith, some))
 empty_front (suc n) [] some e = refl
 empty_front (suc n) (x ∷ xs) some e = absurd cc
 
-front_of_none : (n : ℕ) (xs : List ℕ) → xs ≡ [] → take n xs ≡ []
+pub front_of_none : (n : ℕ) (xs : List ℕ) → xs ≡ [] → take n xs ≡ []
 front_of_none zero xs e = refl
 front_of_none (suc n) [] e = refl
 front_of_none (suc n) (x ∷ xs) e = absurd cc

@@ -10,5 +10,7 @@ pub mod Sentence
 pub mod Shown
 pub mod InOrder
 pub mod Log
+pub mod OneText
+pub mod Answered
 pub mod Cause
 pub mod codings

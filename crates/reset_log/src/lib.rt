@@ -8,6 +8,7 @@
 mod cards;
 mod form;
 mod hear;
+mod laws;
 mod line;
 mod list;
 mod log;
@@ -22,6 +23,7 @@ mod words;
 pub use cards::Known;
 pub use form::resets_standard;
 pub use hear::ListFault;
+pub use laws::logs_have_one_text;
 pub use line::{LogLine, Origin, Reset, line_of};
 pub use log::{MAX_LOG, show_log};
 pub use shown::{ListShown, show_list};

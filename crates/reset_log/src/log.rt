@@ -1,11 +1,12 @@
 //! Showing a log as it comes.
-ghost use Rattle.std.specs.Prelude.{◌≡◌, ◌≢◌, ◌<◌, ◌≤◌, ◌+◌, ◌++◌, ◌∷◌, [], ℕ, Bool, List, Option, length, OnOk, IfOk, IfErr, IfSome, IsErrOf, alloc_error};
+ghost use Rattle.std.specs.Prelude.{◌≡◌, ◌≢◌, ◌↔◌, ◌<◌, ◌≤◌, ◌+◌, ◌++◌, ◌∷◌, [], ℕ, Bool, List, Option, length, OnOk, OnErr, IfOk, IfErr, IfSome, IsErr, IsErrOf, alloc_error};
 ghost use Rattle.std.specs.Io.KnownBytes.{IsAtEnd, Consumes};
 ghost use Rattle.io_edges.specs.Faults.{Rose};
 ghost use Rattle.io_edges.specs.Told.{StayTold, IfTold, TookOver};
-ghost use Rattle.reset_log.specs.codings.Going.{Stands, ShowsLine, KeepsByte};
+ghost use Rattle.reset_log.specs.codings.Going.{Stands, ShowsLine, KeepsByte, BreaksOff, Broke};
 ghost use Rattle.reset_log.specs.Cause.{StoppedWriting};
-ghost use Rattle.reset_log.specs.Log.{parted, lines_of, AreWritten};
+ghost use Rattle.reset_log.specs.Log.{parted, lines_of, IsLogShown, AreWritten};
+ghost use Rattle.reset_log.specs.Answered.{IsExact, IsComplete, IsFront};
 
 use crate::cards::Known;
 use crate::shown::show_line;
@@ -54,6 +55,8 @@ impl LogReader {
     fn show<K: Sink>(&mut self, alloc: Global, sink: &mut K) -> Result<(), LogStop>
         ensures ok { OnOk result
             (ShowsLine self.old self.new (K.written sink.old) (K.written sink.new)) }
+        ensures part { OnErr result
+            (BreaksOff self.old (K.written sink.old) (K.written sink.new)) }
         ensures stops { IfErr result (StoppedWriting (K.faults sink.old) (K.faults sink.new)) }
         ensures told { StayTold (K.written sink.old) (K.written sink.new) }
         ensures later { K.faults sink.old ≤ K.faults sink.new }
@@ -91,6 +94,9 @@ impl LogReader {
         ensures ok { OnOk result ((done : List ℕ) (start : Option (List ℕ)) →
             length done < 67108864 → Stands self.old done start (K.written sink.old) →
             Stands self.new (done ++ byte ∷ []) start (K.written sink.new)) }
+        ensures part { OnErr result ((done : List ℕ) (start : Option (List ℕ)) →
+            length done < 67108864 → Stands self.old done start (K.written sink.old) →
+            Broke self.old.standard (parted (done ++ byte ∷ [])).lines start (K.written sink.new)) }
         ensures stops { IfErr result (StoppedWriting (K.faults sink.old) (K.faults sink.new)) }
         ensures same { OnOk result (self.new.standard ≡ self.old.standard) }
         ensures later { K.faults sink.old ≤ K.faults sink.new }
@@ -110,6 +116,10 @@ impl LogReader {
             length done + length bytes.now ≤ 67108864 →
             Stands self.old done start (K.written sink.old) →
             Stands self.new (done ++ bytes.now) start (K.written sink.new)) }
+        ensures part { OnErr result ((done : List ℕ) (start : Option (List ℕ)) →
+            length done + length bytes.now ≤ 67108864 →
+            Stands self.old done start (K.written sink.old) →
+            Broke self.old.standard (parted (done ++ bytes.now)).lines start (K.written sink.new)) }
         ensures stops { IfErr result (StoppedWriting (K.faults sink.old) (K.faults sink.new)) }
         ensures same { OnOk result (self.new.standard ≡ self.old.standard) }
         ensures later { K.faults sink.old ≤ K.faults sink.new }
@@ -125,6 +135,9 @@ impl LogReader {
         ensures ok { IfOk result (λ bad. (done : List ℕ) (start : Option (List ℕ)) →
             length done ≤ 67108864 → Stands self.old done start (K.written sink.old) →
             AreWritten self.old.standard start (K.written sink.new) (lines_of done) bad) }
+        ensures part { OnErr result ((done : List ℕ) (start : Option (List ℕ)) →
+            length done ≤ 67108864 → Stands self.old done start (K.written sink.old) →
+            Broke self.old.standard (lines_of done) start (K.written sink.new)) }
         ensures stops { IfErr result (StoppedWriting (K.faults sink.old) (K.faults sink.new)) }
         ensures later { K.faults sink.old ≤ K.faults sink.new }
     {
@@ -160,11 +173,21 @@ pub fn show_log<S: Source, K: Sink>(
         Rose (S.faults source.old) (S.faults source.new) }
     ensures write_fault { IsErrOf result LogStop.WriteFault →
         Rose (K.faults sink.old) (K.faults sink.new) }
-    ensures long { IsErrOf result LogStop.TooLong → IfTold (S.left source.old)
-        (S.left source.new) (λ old new. TookOver 67108864 old new) }
+    ensures long { IfTold (S.left source.old) (S.left source.new) (λ old new.
+        IsErrOf result LogStop.TooLong ↔ TookOver 67108864 old new) }
     ensures waits { IsErrOf result LogStop.ReadFault → (read : List ℕ) × (bad : Bool)
         × Consumes (S.left source.old) (S.left source.new) read
         × AreWritten standard (K.written sink.old) (K.written sink.new) (parted read).lines bad }
+    ensures part { IsErr result → IfSome (S.left source.old) (λ log.
+        IsFront (IsLogShown standard (lines_of log)) (K.written sink.old) (K.written sink.new)) }
+
+    // The log's one text is answered, unless another stop has its cause.
+    ensures exact { IfSome (S.left source.old) (λ log.
+        IsExact (IsLogShown standard (lines_of log)) result) }
+    ensures complete { ¬ Rose (S.faults source.old) (S.faults source.new) →
+        ¬ Rose (K.faults sink.old) (K.faults sink.new) → IfSome (S.left source.old) (λ log.
+        length log ≤ 67108864 → IsComplete (IsLogShown standard (lines_of log)) result
+        (K.written sink.old) (K.written sink.new)) }
 {
     let mut reader = LogReader::new(alloc, standard);
     let mut buf = [0u8; PIECE];

@@ -1,8 +1,9 @@
 -- Where the reader of a log stands.
-use Rattle.std.specs.Prelude.{◌≡◌, ℕ, ◌+◌, ◌<◌, ◌≤◌, ◌^◌, ◌||◌, Bool, Option, List, [], ◌∷◌, ◌++◌, length, take}
+use Rattle.std.specs.Prelude.{◌≡◌, ◌⊎◌, ℕ, ◌+◌, ◌<◌, ◌≤◌, ◌^◌, ◌||◌, Bool, Option, List, [], ◌∷◌, ◌++◌, length, take}
 use Rattle.std.specs.Io.KnownBytes.{Appends, Consumes}
-use Rattle.io_edges.specs.Told.{StayTold}
+use Rattle.io_edges.specs.Told.{StayTold, AppendsStart}
 use Rattle.self_id.specs.declared.standard.Standard.{Standard}
+use Rattle.reset_log.specs.declared.cards.Known.{Known}
 use Rattle.reset_log.specs.declared.log.LogReader.{LogReader}
 use Rattle.reset_log.specs.Shown.{IsLineShown}
 use Rattle.reset_log.specs.Log.{parted, AreShown}
@@ -40,6 +41,33 @@ pub record KeepsByte (old new : LogReader) (byte : ℕ) : Type 0 where
   pub number_is : new.number ≡ old.number
   pub taken_is : new.taken ≡ old.taken
   pub bad : new.bad ≡ old.bad
+
+-- the front of what is shown of the line that was kept was written
+pub record ShowsPart (r : LogReader) (was is : Option (List ℕ)) : Type 0 where
+  pub text : List ℕ
+  pub here : Bool
+  pub known : List Known
+  pub shown : IsLineShown r.standard r.number r.cards.items r.line.items text here known
+  pub wrote : AppendsStart was is text
+
+-- the line that was kept wasn't shown whole
+abbrev pub BreaksOff : LogReader → Option (List ℕ) → Option (List ℕ) → Type 0
+BreaksOff r was is = (is ≡ was) ⊎ ShowsPart r was is
+
+-- the front of what is shown of the first of these lines was written
+pub record Broke (standard : Standard) (lines : List (List ℕ)) (old new : Option (List ℕ)) :
+    Type 0 where
+  pub first : List (List ℕ)
+  pub others : List (List ℕ)
+  pub lines_are : lines ≡ first ++ others
+  pub text : List ℕ
+  pub bad : Bool
+  pub known : List Known
+  pub shown : AreShown standard 1 [] first text bad known
+  pub front : List ℕ
+  pub rest : List ℕ
+  pub text_is : text ≡ front ++ rest
+  pub wrote : Appends old new front
 
 -- what was read so far, and what was written of it; and the counts of faults of the source and of the
 -- sink, before and now

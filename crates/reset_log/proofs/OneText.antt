@@ -1,0 +1,199 @@
+-- A log has one text.
+use Rattle.std.proofs.Common.{◌≡◌, ◌∙◌, ◌⊎◌, inl, inr, ℕ, ◌<◌, ◌≤◌, Bool, true, false, is_none, Option, Some, None, List, [], ◌++◌, refl, sym, ap, subst, arith}
+use Rattle.quad_lanes.specs.Pairs.{first_bad_pair}
+use Rattle.phy_packet.specs.declared.packet.PhyPacket.{PhyPacket}
+use Rattle.phy_packet.proofs.Lemmas.{packet-shown}
+use Rattle.self_id.specs.declared.standard.Standard.{Standard}
+use Rattle.self_id.specs.Node.{Node}
+use Rattle.topology_stack.specs.declared.fault.TreeFault.{TreeFault}
+use Rattle.topology_stack.specs.Refused.{Refused}
+use Rattle.topology_stack.specs.Tree.{Tree}
+use Rattle.topology_stack.proofs.Lemmas.{one_tree, no_fault, one_fault}
+use Rattle.bus_manager.proofs.Lemmas.{one_hops}
+use Rattle.view_text.specs.Drawing.{IsDrawing, IsRoot, drawing}
+use Rattle.reset_log.specs.declared.line.Origin.{Origin}
+use Rattle.reset_log.specs.declared.line.Origin.TheVariants.{Controller, Core}
+use Rattle.reset_log.specs.declared.line.Reset.{Reset}
+use Rattle.reset_log.specs.declared.line.LogLine.{LogLine}
+use Rattle.reset_log.specs.declared.line.LogLine.TheVariants.{Other, Garbled, OfReset}
+use Rattle.reset_log.specs.declared.hear.ListFault.{ListFault}
+use Rattle.reset_log.specs.declared.hear.ListFault.TheVariants.{Cut, BadInverse, OfTree}
+use Rattle.reset_log.specs.declared.cards.Known.{Known}
+use Rattle.reset_log.specs.Line.{line_of}
+use Rattle.reset_log.specs.Hear.{AreQuads, IsHeard, IsUnheard}
+use Rattle.reset_log.specs.Texts.{head, numbers, changes, initiators, refused}
+use Rattle.reset_log.specs.Sentence.{packet_count, IsBefore, sentence, IsRefusalShown}
+use Rattle.topology_stack.specs.Tree.{walk}
+use Rattle.reset_log.specs.Shown.{last_tree, with_heard, IsBody, the_same, drawn, IsTreeShown, IsListShown, is_refused, is_heard, IsResetShown, is_unjudged, is_judged, IsShown, IsLineShown}
+use Rattle.reset_log.specs.Log.{lines_of, IsLogShown}
+use Rattle.reset_log.specs.OneText.{NoLogHasTwoTexts}
+use Rattle.reset_log.proofs.InOrder.{AreSame, told_once}
+
+-- ---- a list is heard as one tree, or has one fault
+
+same_quads : (origin : Origin) (list a b : List ℕ) → AreQuads origin list a →
+    AreQuads origin list b → a ≡ b
+same_quads Controller list a b x y = x.quads_are ∙ sym y.quads_are
+same_quads Core list a b x y = x ∙ sym y
+
+same_heard : (standard : Standard) (origin : Origin) (list : List ℕ) (t u : Tree) →
+    IsHeard standard origin list t → IsHeard standard origin list u → t ≡ u
+same_heard standard origin list t u (a, are, bus, is) (b, too, other, again) =
+    one_tree standard t u bus other (is ∙ same_quads origin list a b are too ∙ sym again)
+
+abbrev OfNoTree : Standard → Origin → List ℕ → TreeFault → Type 0
+OfNoTree standard origin list f = (quads : List ℕ) × AreQuads origin list quads × Refused standard quads f
+
+heard_tree : (standard : Standard) (origin : Origin) (list : List ℕ) (t : Tree) (f : TreeFault) →
+    IsHeard standard origin list t → OfNoTree standard origin list f → ⊥
+heard_tree standard origin list t f (a, are, bus, is) (b, too, refused) =
+    no_fault standard t f bus (subst (λ (l : List ℕ). Refused standard l f) (same_quads origin list b a too are ∙ sym is) refused)
+
+apart : (standard : Standard) (origin : Origin) (list : List ℕ) (t : Tree) (f : ListFault) →
+    IsHeard standard origin list t → IsUnheard standard origin list f → ⊥
+apart standard Controller list t (Cut pair) h r = r.0 h.1.whole
+apart standard Core list t (Cut pair) h r = r
+apart standard Controller list t (BadInverse pair) h r =
+    let good : first_bad_pair list ≡ None = h.1.good in
+    let bad : first_bad_pair list ≡ Some pair = r.1 in
+    cc
+apart standard Core list t (BadInverse pair) h r = r
+apart standard Controller list t (OfTree f) h r = heard_tree standard Controller list t f h r
+apart standard Core list t (OfTree f) h r = heard_tree standard Core list t f h r
+
+same_tree_fault : (standard : Standard) (origin : Origin) (list : List ℕ) (f g : TreeFault) →
+    OfNoTree standard origin list f → OfNoTree standard origin list g → OfTree f ≡ OfTree g
+same_tree_fault standard origin list f g (a, are, x) (b, too, y) =
+    ap (λ (h : TreeFault). OfTree h) (one_fault standard b f g (subst (λ (l : List ℕ). Refused standard l f) (same_quads origin list a b are too) x) y)
+
+same_pair : (p q : ℕ) (found : Option ℕ) → found ≡ Some p → found ≡ Some q → p ≡ q
+same_pair p q found a b = cc
+
+no_pair : (p : ℕ) (found : Option ℕ) → found ≡ Some p → found ≡ None → ⊥
+no_pair p found a b = cc
+
+same_fault : (standard : Standard) (origin : Origin) (list : List ℕ) (f g : ListFault) →
+    IsUnheard standard origin list f → IsUnheard standard origin list g → f ≡ g
+same_fault standard Controller list (Cut p) (Cut q) x y = ap (λ (n : ℕ). Cut n) (x.1 ∙ sym y.1)
+same_fault standard Controller list (Cut p) (BadInverse q) x y = absurd (x.0 y.0)
+same_fault standard Controller list (Cut p) (OfTree g) x y = absurd (x.0 y.1.whole)
+same_fault standard Controller list (BadInverse p) (Cut q) x y = absurd (y.0 x.0)
+same_fault standard Controller list (BadInverse p) (BadInverse q) x y = ap (λ (n : ℕ). BadInverse n) (same_pair p q _ x.1 y.1)
+same_fault standard Controller list (BadInverse p) (OfTree g) x y = absurd (no_pair p _ x.1 y.1.good)
+same_fault standard Controller list (OfTree f) (Cut q) x y = absurd (y.0 x.1.whole)
+same_fault standard Controller list (OfTree f) (BadInverse q) x y = absurd (no_pair q _ y.1 x.1.good)
+same_fault standard Controller list (OfTree f) (OfTree g) x y = same_tree_fault standard Controller list f g x y
+same_fault standard Core list (Cut p) g x y = absurd x
+same_fault standard Core list (BadInverse p) g x y = absurd x
+same_fault standard Core list (OfTree f) (Cut q) x y = absurd y
+same_fault standard Core list (OfTree f) (BadInverse q) x y = absurd y
+same_fault standard Core list (OfTree f) (OfTree g) x y = same_tree_fault standard Core list f g x y
+
+-- ---- a fault has one text
+
+none_there : (count at : ℕ) → (at ≡ 0) ⊎ (count < at) → 0 < at → at ≤ count → ⊥
+none_there count at (inl e) some few = omega (arith, e, some)
+none_there count at (inr over) some few = omega (arith, over, few)
+
+same_before : (origin : Origin) (list : List ℕ) (at : ℕ) (p q : Option PhyPacket) →
+    IsBefore origin list at p → IsBefore origin list at q → p ≡ q
+same_before origin list at None None x y = refl
+same_before origin list at None (Some q) x y = absurd (none_there (packet_count origin list) at x y.0 y.1)
+same_before origin list at (Some p) None x y = absurd (none_there (packet_count origin list) at y x.0 x.1)
+same_before origin list at (Some p) (Some q) x y =
+    ap (λ (z : PhyPacket). Some z) (sym (packet-shown _ p x.2) ∙ packet-shown _ q y.2)
+
+same_refusal : (standard : Standard) (origin : Origin) (front list : List ℕ) (f : ListFault) (a b : List ℕ) →
+    IsRefusalShown standard origin front list f a → IsRefusalShown standard origin front list f b →
+    a ≡ b
+same_refusal standard origin front list f a b x y =
+    x.text_is
+    ∙ ap (λ (p : Option PhyPacket). refused front f ++ sentence standard origin list p f) (same_before origin list _ x.before y.before x.is_before y.is_before)
+    ∙ sym y.text_is
+
+-- ---- a tree has one text
+
+one_root : (t : Tree) (m n : Node) → IsRoot t m → IsRoot t n → m ≡ n
+one_root t m n x y = cc
+
+same_drawing : (t : Tree) (a b : List ℕ) → IsDrawing t a → IsDrawing t b → a ≡ b
+same_drawing t a b x y =
+    x.text_is ∙ ap (λ (h : ℕ). drawing t h x.root.attrs.gap) (one_hops t x.hops y.hops x.are_hops y.are_hops)
+    ∙ ap (λ (n : Node). drawing t y.hops n.attrs.gap) (one_root t x.root y.root x.is_root y.is_root) ∙ sym y.text_is
+
+same_body : (before : Option Tree) (t : Tree) (a b : List ℕ) → IsBody before t a →
+    IsBody before t b → a ≡ b
+same_body before t a b (the_same d draw was e) (the_same o again too f) = e ∙ sym f
+same_body before t a b (the_same d draw was e) (drawn again others) =
+    let other = others was.0 was.1 in
+    absurd (other.2 (same_drawing was.0 other.0 d other.1 was.2 ∙ same_drawing t d b draw again))
+same_body before t a b (drawn draw others) (the_same d again was e) =
+    let other = others was.0 was.1 in
+    absurd (other.2 (same_drawing was.0 other.0 d other.1 was.2 ∙ same_drawing t d a again draw))
+same_body before t a b (drawn draw others) (drawn again too) = same_drawing t a b draw again
+
+same_tree_text : (front : List ℕ) (before : Option Tree) (t : Tree) (a b : List ℕ) →
+    IsTreeShown front before t a → IsTreeShown front before t b → a ≡ b
+same_tree_text front before t a b x y =
+    x.text_is
+    ∙ ap (λ (body : List ℕ). front ++ (numbers t ++ (body ++ (changes before t ++ initiators 0 (walk t))))) (same_body before t x.body y.body x.is_body y.is_body)
+    ∙ sym y.text_is
+
+-- ---- a list, a reset, a line, and a log
+
+pub same_list : (standard : Standard) (origin : Origin) (front list : List ℕ) (before : Option Tree) (a b : List ℕ) (h g : Option Tree) →
+    IsListShown standard origin front list before a h →
+    IsListShown standard origin front list before b g → (a ≡ b) × (h ≡ g)
+same_list standard origin front list before a b h g (is_refused f un shown e) (is_refused k too again d) =
+    let same : f ≡ k = same_fault standard origin list f k un too in
+    (same_refusal standard origin front list k a b (subst (λ (x : ListFault). IsRefusalShown standard origin front list x a) same shown) again, e ∙ sym d)
+same_list standard origin front list before a b h g (is_refused f un shown e) (is_heard t heard again d) =
+    absurd (apart standard origin list t f heard un)
+same_list standard origin front list before a b h g (is_heard t heard shown e) (is_refused f un again d) =
+    absurd (apart standard origin list t f heard un)
+same_list standard origin front list before a b h g (is_heard t heard shown e) (is_heard u too again d) =
+    let same : t ≡ u = same_heard standard origin list t u heard too in (
+      same_tree_text front before u a b (subst (λ (x : Tree). IsTreeShown front before x a) same shown) again,
+      e ∙ ap (λ (x : Tree). Some x) same ∙ sym d,
+    )
+
+same_reset : (standard : Standard) (n : ℕ) (ks : List Known) (r : Reset) (a b : List ℕ) (c d : Bool) (p q : List Known) →
+    IsResetShown standard n ks r a c p → IsResetShown standard n ks r b d q → AreSame a b c d p q
+same_reset standard n ks r a b c d p q (is_unjudged err e f g) (is_unjudged too h i j) =
+    (e ∙ sym h, f ∙ sym i, g ∙ sym j)
+same_reset standard n ks r a b c d p q (is_unjudged err e f g) (is_judged heard well shown i j) = absurd (both r.is_error err well)
+  where
+    both : (x : Bool) → x ≡ true → x ≡ false → ⊥
+    both x e f = cc
+same_reset standard n ks r a b c d p q (is_judged heard well shown i j) (is_unjudged err e f g) = absurd (both r.is_error err well)
+  where
+    both : (x : Bool) → x ≡ true → x ≡ false → ⊥
+    both x e f = cc
+same_reset standard n ks r a b c d p q (is_judged h well shown e f) (is_judged g too again i j) =
+    let same = same_list standard r.origin (head n r) r.list (last_tree r.card ks) a b h g shown again in (
+      same.0,
+      e ∙ ap (λ (t : Option Tree). is_none t) same.1 ∙ sym i,
+      f ∙ ap (λ (t : Option Tree). with_heard r.card t ks) same.1 ∙ sym j,
+    )
+
+same_shown : (standard : Standard) (n : ℕ) (ks : List Known) (line : LogLine) (a b : List ℕ) (c d : Bool) (p q : List Known) →
+    IsShown standard n ks line a c p → IsShown standard n ks line b d q → AreSame a b c d p q
+same_shown standard n ks Other a b c d p q x y = (x.0 ∙ sym y.0, x.1 ∙ sym y.1, x.2 ∙ sym y.2)
+same_shown standard n ks Garbled a b c d p q x y = (x.0 ∙ sym y.0, x.1 ∙ sym y.1, x.2 ∙ sym y.2)
+same_shown standard n ks (OfReset r) a b c d p q x y = same_reset standard n ks r a b c d p q x y
+
+pub same_line : (standard : Standard) (n : ℕ) (ks : List Known) (line a b : List ℕ) (c d : Bool) (p q : List Known) →
+    IsLineShown standard n ks line a c p → IsLineShown standard n ks line b d q →
+    AreSame a b c d p q
+same_line standard n ks line a b c d p q x y =
+    same_shown standard n ks (line_of line) a b c d p q x y
+
+pub one_lines : (standard : Standard) (lines : List (List ℕ)) (a b : List ℕ) (c d : Bool) →
+    IsLogShown standard lines a c → IsLogShown standard lines b d → (a ≡ b) × (c ≡ d)
+one_lines standard lines a b c d x y =
+    let same =
+    told_once (IsLineShown standard) (λ n ks line e f g h p q. same_line standard n ks line e f g h p q) 1 [] lines a b c d x.known y.known x.shown y.shown
+    in (same.0, same.1)
+
+pub one_text : NoLogHasTwoTexts
+one_text standard log a b c d x y = one_lines standard (lines_of log) a b c d x y

@@ -1,0 +1,10 @@
+-- Each log has one text, and one answer to whether a line of it is at fault.
+use Rattle.std.specs.Prelude.{◌≡◌, ℕ, Bool, List}
+use Rattle.self_id.specs.declared.standard.Standard.{Standard}
+use Rattle.reset_log.specs.Log.{lines_of, IsLogShown}
+
+abbrev pub NoLogHasTwoTexts : Type 0
+NoLogHasTwoTexts =
+    (standard : Standard) (log a b : List ℕ) (c d : Bool) →
+    IsLogShown standard (lines_of log) a c → IsLogShown standard (lines_of log) b d →
+    (a ≡ b) × (c ≡ d)
