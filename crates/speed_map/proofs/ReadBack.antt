@@ -1,5 +1,5 @@
 -- The rows that an image tells, and its one fault where it has one.
-use Rattle.std.proofs.Common.{◌≡◌, ℕ, zero, suc, ◌+◌, ◌-◌, ◌*◌, ◌/◌, ◌%◌, ◌^◌, ◌<◌, ◌≤◌, List, [], ◌∷◌, ◌++◌, length, take, drop, Result, Ok, Err, refl, sym, ap, subst, ◌∙◌, arith}
+use Rattle.std.proofs.Common.{◌≡◌, ℕ, zero, suc, ◌+◌, ◌-◌, ◌*◌, ◌/◌, ◌%◌, ◌^◌, ◌<◌, ◌≤◌, List, [], ◌∷◌, ◌++◌, length, take, drop, refl, sym, ap, subst, ◌∙◌, arith}
 use Rattle.std.specs.Prelude.{slice_index}
 use Rattle.std.specs.List.{All, AllByRecursion}
 use Rattle.std.proofs.lemmas.List.Elements.{recursion_from_All, All-from_get_or}
@@ -11,7 +11,6 @@ use Rattle.topology_map.proofs.Lemmas.{one_crc, joined}
 use Rattle.speed_map.specs.declared.fault.ImageFault.{ImageFault}
 use Rattle.speed_map.specs.declared.fault.ImageFault.TheVariants.{Length, Crc, Rows, Memory}
 use Rattle.speed_map.specs.Image.{IsImage, Refused}
-use Rattle.speed_map.specs.Answer.{UnlessMemory}
 use Rattle.speed_map.specs.codings.Bytes.{bytes_of, Tells}
 
 -- ---- bytes and quadlets
@@ -138,12 +137,3 @@ one_fault quads (Rows fnd) (Crc kept computed) r s = absurd (s.3 (s.1 ∙ one_cr
 one_fault quads (Rows m) (Rows n) r s = ap Rows (r.3 ∙ sym s.3)
 one_fault quads (Memory e) g r s = absurd r
 one_fault quads f (Memory e) r s = absurd s
-
--- an answer of which something holds
-pub unless_memory : {A : Type 0} (r : Result A ImageFault) (P : Result A ImageFault → Type 0) →
-    P r → UnlessMemory r P
-unless_memory (Ok x) P h = h
-unless_memory (Err (Length fnd)) P h = h
-unless_memory (Err (Crc kept computed)) P h = h
-unless_memory (Err (Rows fnd)) P h = h
-unless_memory (Err (Memory e)) P h = tt

@@ -62,9 +62,9 @@ pub fn read_image(alloc: Global, quads: &[u32]) -> Result<MapParts, ImageFault>
         IsImage generation rows quads.now →
         UnlessMemory result (λ r. IsOkAnd r (λ parts.
         (parts.generation ≡ generation) × (parts.rows.items ≡ rows))) }
-    // A fault that is answered is the quadlets', and their fault is answered, unless memory ran out.
+    // A fault that is answered is the quadlets', and their fault is answered, which takes no memory.
     ensures refused { IfFault result (λ f. Refused quads.now f) }
-    ensures exact { (f : ImageFault) → Refused quads.now f → UnlessMemory result (λ r. r ≡ Err f) }
+    ensures exact { (f : ImageFault) → Refused quads.now f → result ≡ Err f }
 {
     check(quads)?;
     let rows = bytes_of(alloc, &quads[2..])?;

@@ -8,7 +8,6 @@ use Rattle.topology_map.specs.Sealed.{IsSealed}
 use Rattle.topology_map.specs.Map.{counts_of, IsMap, Refused}
 use Rattle.self_id.specs.Group.{node_count}
 use Rattle.topology_map.specs.codings.Told.{TellsNodes}
-use Rattle.topology_map.specs.Answer.{UnlessMemory}
 use Rattle.topology_map.proofs.Division.{one_crc}
 
 split : (first n : ℕ) → first / 2 ^ 16 + 1 ≡ suc n → first ≡ 2 ^ 16 * n + first % 2 ^ 16
@@ -83,15 +82,6 @@ one_fault quads (Counts kept fnd) (Counts kept' fnd') r s =
     ap (λ (k : ℕ). Counts k fnd) (r.2 ∙ sym s.2) ∙ ap (λ (k : ℕ). Counts kept' k) (r.3 ∙ sym s.3)
 one_fault quads (Memory e) g r s = absurd r
 one_fault quads f (Memory e) r s = absurd s
-
--- an answer of which something holds
-pub unless_memory : {A : Type 0} (r : Result A ImageFault) (P : Result A ImageFault → Type 0) →
-    P r → UnlessMemory r P
-unless_memory (Ok x) P h = h
-unless_memory (Err (Length fnd)) P h = h
-unless_memory (Err (Crc kept computed)) P h = h
-unless_memory (Err (Counts kept fnd)) P h = h
-unless_memory (Err (Memory e)) P h = tt
 
 -- a sealed body that tells a generation, the counts and a list is the image of these parts
 pub sealed_map : {E : Type 0} (r : Result (List ℕ) E) (body : List ℕ) (generation nodes : ℕ) (list : List ℕ) →

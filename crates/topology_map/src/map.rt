@@ -86,9 +86,9 @@ pub fn read_image(alloc: Global, quads: &[u32]) -> Result<MapParts, ImageFault>
         IsMap generation nodes list quads.now →
         UnlessMemory result (λ r. IsOkAnd r (λ parts.
         (parts.generation ≡ generation) × (parts.nodes ≡ nodes) × (parts.list ≡ list))) }
-    // A fault that is answered is the quadlets', and their fault is answered, unless memory ran out.
+    // A fault that is answered is the quadlets', and their fault is answered, which takes no memory.
     ensures refused { IfFault result (λ f. Refused quads.now f) }
-    ensures exact { (f : ImageFault) → Refused quads.now f → UnlessMemory result (λ r. r ≡ Err f) }
+    ensures exact { (f : ImageFault) → Refused quads.now f → result ≡ Err f }
 {
     let nodes = nodes_of(quads)?;
     let mut list = QuadList::new(alloc);

@@ -1,7 +1,7 @@
-use Rattle.std.proofs.Common.{◌≡◌, Err, ap, arith, ◌∙◌}
+use Rattle.std.proofs.Common.{Err, ap, arith, ◌∙◌}
 use Rattle.std.proofs.lemmas.Result.{err_from_is_err_and}
 use Rattle.speed_map.specs.codings.Bytes.{bytes_of}
-use Rattle.speed_map.proofs.ReadBack.{behind_two, is_image, parts_are, no_fault, one_fault, unless_memory}
+use Rattle.speed_map.proofs.ReadBack.{behind_two, is_image, parts_are, no_fault, one_fault}
 use Rattle.speed_map.proofs.reading.read_image.Goals as goal
 
 pub returns-in_err-check-clause-only : goal.returns-in_err-check-clause-only
@@ -10,10 +10,8 @@ returns-in_err-check-clause-only c = λ generation rows fit h.
 
 pub returns-in_err-check-clause-exact : goal.returns-in_err-check-clause-exact
 returns-in_err-check-clause-exact c = λ f h.
-    unless_memory c.from_residual.result (λ r. r ≡ Err f) (
     let p = err_from_is_err_and c.from_residual.result c.from_residual.ensures.1 in
     rw (p.1, p.2) (ap (λ g. Err g) (one_fault c.args.quads.now c.in_err-check.field-0.0 f c.in_err-check.ensures h))
-    )
 
 pub returns-clause-found : goal.returns-clause-found
 returns-clause-found c =
@@ -26,3 +24,6 @@ returns-clause-only c = λ generation rows fit h.
 
 pub returns-clause-exact : goal.returns-clause-exact
 returns-clause-exact c = λ f h. absurd (no_fault c.args.quads.now f c.in_ok-check.ensures h)
+
+pub returns-in_err-rows-clause-exact : goal.returns-in_err-rows-clause-exact
+returns-in_err-rows-clause-exact c = λ f h. absurd (no_fault c.args.quads.now f c.in_ok-check.ensures h)
