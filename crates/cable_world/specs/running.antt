@@ -6,3 +6,4 @@ pub mod Hearing
 pub mod Steps
 pub mod Spared
 pub mod NodeActs
+pub mod ActEnds

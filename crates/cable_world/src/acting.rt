@@ -1,14 +1,17 @@
 //! Acts, over the parts of a world.
 ghost use Rattle.std.specs.Prelude.{◌≡◌, ◌<◌, ◌≤◌, ℕ, None, Some, [], length, map, slice_index_or, OnOk, if◌then◌else◌};
 ghost use Rattle.std.specs.Option.{ForSome};
+ghost use Rattle.cabling.specs.Wiring.{Wiring};
 ghost use Rattle.port_state.specs.Config.{config_packet};
 ghost use Rattle.port_state.specs.Machine.{node_set_config};
 ghost use Rattle.cable_world.specs.Wire.{empty_wire};
 ghost use Rattle.cable_world.specs.World.{put};
-ghost use Rattle.cable_world.specs.Act.{ActLeads, IsAct, act_fault, change_in_set};
+ghost use Rattle.cable_world.specs.Act.{ActLeads, IsAct, IsConfigPacket, act_fault, change_in_set};
 ghost use Rattle.cable_world.specs.Answer.{IfFault, IsMemory};
 ghost use Rattle.cable_world.specs.running.NodeActs.{AreLawful};
+ghost use Rattle.cable_world.specs.running.ActEnds.{Ends};
 ghost use Rattle.cable_world.specs.Parts.{world_record};
+ghost use Rattle.cable_world.specs.declared.act.Act.TheVariants as act;
 
 use crate::act::{Act, ActStop};
 use crate::rows::WireRow;
@@ -68,6 +71,169 @@ fn set_configs<M: PortMachine>(
     }
 }
 
+/// Plugs a cable into two ends, when `turns` turns are done.
+fn plug_ends<M: PortMachine>(
+    a: End,
+    b: End,
+    cabling: &mut Cabling,
+    machines: &mut [M],
+    wires: &mut [WireRow],
+    changed: &mut [u32],
+    turns: u32,
+    out: &mut Sends,
+) -> Result<(), ActStop>
+    requires lawful { AreLawful cabling.old (map M.record_of machines.old) wires.old changed.old
+        turns }
+    ensures { Ends (act.Plug a b)
+        (λ d. world_record d cabling.old (map M.record_of machines.old) wires.old changed.old turns)
+        (λ d. world_record d cabling.new (map M.record_of machines.new) wires.new changed.new turns)
+        ((cabling.new ≡ cabling.old) × (machines.new ≡ machines.old)
+        × (wires.new ≡ wires.old) × (changed.new ≡ changed.old)) result }
+{
+    if let Err(fault) = cabling.plug(a, b) {
+        return Err(ActStop::Fault(fault));
+    }
+    clear_cable(wires, a, b);
+    let first = (a.node, NodeAct::Plug { port: a.port });
+    let second = (b.node, NodeAct::Plug { port: b.port });
+    if let Err(stop) = step_both(machines, wires, changed, first, second, turns, out) {
+        return Err(ActStop::Memory(stop));
+    }
+    Ok(())
+}
+
+/// Pulls the cable at an end, when `turns` turns are done.
+fn pull_end<M: PortMachine>(
+    end: End,
+    cabling: &mut Cabling,
+    machines: &mut [M],
+    wires: &mut [WireRow],
+    changed: &mut [u32],
+    turns: u32,
+    out: &mut Sends,
+) -> Result<(), ActStop>
+    requires lawful { AreLawful cabling.old (map M.record_of machines.old) wires.old changed.old
+        turns }
+    ensures { Ends (act.Pull end)
+        (λ d. world_record d cabling.old (map M.record_of machines.old) wires.old changed.old turns)
+        (λ d. world_record d cabling.new (map M.record_of machines.new) wires.new changed.new turns)
+        ((cabling.new ≡ cabling.old) × (machines.new ≡ machines.old)
+        × (wires.new ≡ wires.old) × (changed.new ≡ changed.old)) result }
+{
+    let cable = match cabling.pull(end) {
+        Err(fault) => return Err(ActStop::Fault(fault)),
+        Ok(cable) => cable,
+    };
+    clear_cable(wires, end, cable.b);
+    let first = (end.node, NodeAct::Pull { port: end.port });
+    let second = (cable.b.node, NodeAct::Pull { port: cable.b.port });
+    if let Err(stop) = step_both(machines, wires, changed, first, second, turns, out) {
+        return Err(ActStop::Memory(stop));
+    }
+    Ok(())
+}
+
+/// A node resets the bus, when `turns` turns are done. The cables are any.
+fn reset_node<M: PortMachine>(
+    node: u8,
+    machines: &mut [M],
+    wires: &mut [WireRow],
+    changed: &mut [u32],
+    turns: u32,
+    out: &mut Sends,
+) -> Result<(), ActStop>
+    requires lawful { (c : Wiring) × AreLawful c (map M.record_of machines.old) wires.old changed.old
+        turns }
+    ensures { (c : Wiring) → Ends (act.Reset node)
+        (λ d. world_record d c (map M.record_of machines.old) wires.old changed.old turns)
+        (λ d. world_record d c (map M.record_of machines.new) wires.new changed.new turns)
+        ((machines.new ≡ machines.old) × (wires.new ≡ wires.old)
+        × (changed.new ≡ changed.old)) result }
+{
+    if node as usize >= machines.len() {
+        return Err(ActStop::Fault(CableFault::NoNode {
+            end: End { node, port: 0 },
+        }));
+    }
+    let act = NodeAct::Disturb;
+    if let Err(stop) = step_node(machines, wires, changed, node, act, turns, out) {
+        return Err(ActStop::Memory(stop));
+    }
+    Ok(())
+}
+
+/// A node sends a configuration packet and resets the bus, when `turns` turns are done.
+fn send_config<M: PortMachine>(
+    from: u8,
+    root_id: u8,
+    force: bool,
+    gap: Option<u8>,
+    cabling: &Cabling,
+    machines: &mut [M],
+    wires: &mut [WireRow],
+    changed: &mut [u32],
+    turns: u32,
+    out: &mut Sends,
+) -> Result<(), ActStop>
+    requires is { IsConfigPacket (config_packet root_id force gap) }
+    requires lawful { AreLawful cabling.now (map M.record_of machines.old) wires.old changed.old
+        turns }
+    ensures { Ends (act.Config from root_id force gap)
+        (λ d. world_record d cabling.now (map M.record_of machines.old) wires.old changed.old turns)
+        (λ d. world_record d cabling.now (map M.record_of machines.new) wires.new changed.new turns)
+        ((machines.new ≡ machines.old) × (wires.new ≡ wires.old)
+        × (changed.new ≡ changed.old)) result }
+{
+    if from as usize >= machines.len() {
+        return Err(ActStop::Fault(CableFault::NoNode {
+            end: End {
+                node: from,
+                port: 0,
+            },
+        }));
+    }
+    set_configs(machines, cabling.component(from), root_id, force, gap);
+    let act = NodeAct::Disturb;
+    if let Err(stop) = step_node(machines, wires, changed, from, act, turns, out) {
+        return Err(ActStop::Memory(stop));
+    }
+    Ok(())
+}
+
+/// Does an act, as `act_world` has it.
+fn do_act<M: PortMachine>(
+    act: &Act,
+    cabling: &mut Cabling,
+    machines: &mut [M],
+    wires: &mut [WireRow],
+    changed: &mut [u32],
+    turns: u32,
+    out: &mut Sends,
+) -> Result<(), ActStop>
+    requires is { IsAct act.now }
+    requires lawful { AreLawful cabling.old (map M.record_of machines.old) wires.old changed.old
+        turns }
+    ensures { Ends act.now
+        (λ d. world_record d cabling.old (map M.record_of machines.old) wires.old changed.old turns)
+        (λ d. world_record d cabling.new (map M.record_of machines.new) wires.new changed.new turns)
+        ((cabling.new ≡ cabling.old) × (machines.new ≡ machines.old)
+        × (wires.new ≡ wires.old) × (changed.new ≡ changed.old)) result }
+{
+    match *act {
+        Act::Plug { a, b } => plug_ends(a, b, cabling, machines, wires, changed, turns, out),
+        Act::Pull { end } => pull_end(end, cabling, machines, wires, changed, turns, out),
+        Act::Reset { node } => reset_node(node, machines, wires, changed, turns, out),
+        Act::Config {
+            from,
+            root_id,
+            force,
+            gap,
+        } => send_config(
+            from, root_id, force, gap, cabling, machines, wires, changed, turns, out,
+        ),
+    }
+}
+
 /// Does an act, when `turns` turns are done.
 pub fn act_world<M: PortMachine>(
     act: &Act,
@@ -97,78 +263,5 @@ pub fn act_world<M: PortMachine>(
         (world_record d cabling.old (map M.record_of machines.old) wires.old changed.old turns)
         ≡ None }
 {
-    match *act {
-        Act::Plug { a, b } => {
-            if let Err(fault) = cabling.plug(a, b) {
-                return Err(ActStop::Fault(fault));
-            }
-            clear_cable(wires, a, b);
-            let first = (a.node, NodeAct::Plug { port: a.port });
-            let second = (b.node, NodeAct::Plug { port: b.port });
-            if let Err(stop) = step_both(machines, wires, changed, first, second, turns, out) {
-                return Err(ActStop::Memory(stop));
-            }
-            Ok(())
-        }
-        Act::Pull { end } => {
-            let cable = match cabling.pull(end) {
-                Err(fault) => return Err(ActStop::Fault(fault)),
-                Ok(cable) => cable,
-            };
-            clear_cable(wires, end, cable.b);
-            let first = (end.node, NodeAct::Pull { port: end.port });
-            let second = (cable.b.node, NodeAct::Pull { port: cable.b.port });
-            if let Err(stop) = step_both(machines, wires, changed, first, second, turns, out) {
-                return Err(ActStop::Memory(stop));
-            }
-            Ok(())
-        }
-        Act::Reset { node } => {
-            if node as usize >= machines.len() {
-                return Err(ActStop::Fault(CableFault::NoNode {
-                    end: End { node, port: 0 },
-                }));
-            }
-            if let Err(stop) = step_node(
-                machines,
-                wires,
-                changed,
-                node,
-                NodeAct::Disturb,
-                turns,
-                out,
-            ) {
-                return Err(ActStop::Memory(stop));
-            }
-            Ok(())
-        }
-        Act::Config {
-            from,
-            root_id,
-            force,
-            gap,
-        } => {
-            if from as usize >= machines.len() {
-                return Err(ActStop::Fault(CableFault::NoNode {
-                    end: End {
-                        node: from,
-                        port: 0,
-                    },
-                }));
-            }
-            set_configs(machines, cabling.component(from), root_id, force, gap);
-            if let Err(stop) = step_node(
-                machines,
-                wires,
-                changed,
-                from,
-                NodeAct::Disturb,
-                turns,
-                out,
-            ) {
-                return Err(ActStop::Memory(stop));
-            }
-            Ok(())
-        }
-    }
+    do_act(act, cabling, machines, wires, changed, turns, out)
 }

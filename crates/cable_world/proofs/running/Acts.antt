@@ -1,6 +1,8 @@
 -- An act over the parts of a world: what the nodes and cables of a lawful one give to the code, and what comes of it.
-use Rattle.std.proofs.Common.{◌≡◌, inl, inr, ℕ, suc, ◌<◌, true, List, [], ◌∷◌, map, length, Option, Some, None, is_some, slice_get, slice_index_or, get_or, refl, sym, subst, ◌∙◌, ap, arith}
+use Rattle.std.proofs.Common.{◌≡◌, inl, inr, ℕ, suc, ◌<◌, true, false, List, [], ◌∷◌, map, length, Option, Some, None, is_some, slice_get, slice_index_or, get_or, refl, sym, subst, ◌∙◌, ap, arith}
 use Rattle.std.specs.Option.{IsSomeAnd}
+use Rattle.std.specs.Prelude.{Result, Ok, Err, OnOk}
+use Rattle.std.proofs.lemmas.Bool.{lt-ltb}
 use Rattle.std.proofs.lemmas.Option.{slice_get_cases}
 use Rattle.std.proofs.Math.Seq.{map-set_same}
 use Rattle.cabling.specs.declared.cable.End.{End}
@@ -13,7 +15,12 @@ use Rattle.port_state.specs.Machine.{PortNode, NodeStep, node_disturb, node_plug
 use Rattle.cable_world.specs.Wire.{Wire, empty_wire}
 use Rattle.cable_world.specs.World.{CableWorld, NodeSet, put}
 use Rattle.cable_world.specs.Turn.{wires_after_sends}
-use Rattle.cable_world.specs.Act.{step_at, with_step, plug, pull_from, pull, change_in_set, configure, note_changes}
+use Rattle.cable_world.specs.declared.act.Act.{Act}
+use Rattle.cable_world.specs.declared.act.ActStop.{ActStop}
+use Rattle.cable_world.specs.declared.act.ActStop.TheVariants.{Fault, Memory}
+use Rattle.cable_world.specs.Answer.{IfFault, IsMemory}
+use Rattle.cable_world.specs.Act.{ActLeads, act_fault, node_fault, step_at, with_step, plug, pull_from, pull, change_in_set, configure, note_changes}
+use Rattle.cable_world.specs.running.ActEnds.{Ends}
 use Rattle.cable_world.specs.Lawful.{IsWellFormed}
 use Rattle.cable_world.specs.running.NodeActs.{note_both, note_step}
 use Rattle.cable_world.specs.Parts.{world_record}
@@ -177,3 +184,52 @@ pub is-connected-there :
     IsSomeAnd o (λ x. (n ≡ x.state.ports) × (is_connected x.state.view.ports p ≡ true))
 is-connected-there None n p h = absurd h
 is-connected-there (Some x) n p h = (h.0, h.2)
+
+pub is-free-there :
+    (o : Option PortNode) (n p : ℕ) → IsSomeAnd o (λ x. (n ≡ x.state.ports) × (p < x.state.ports) × (is_connected x.state.view.ports p ≡ false)) →
+    IsSomeAnd o (λ x. (n ≡ x.state.ports) × ((p < x.state.ports) × (is_connected x.state.view.ports p ≡ false)))
+is-free-there None n p h = absurd h
+is-free-there (Some x) n p h = (h.0, (h.1, h.2))
+
+-- ---- how an act ends
+
+pub is-inside : (k : ℕ) (w : CableWorld) → k < length w.nodes → node_fault k w ≡ None
+is-inside k w inside = rw (lt-ltb k (length w.nodes) inside) refl
+
+pub ends-of :
+    (act is : Act) (w v : ℕ → CableWorld) (same kept : Type 0) (r : Result (Unit {0}) ActStop) → act ≡ is → (same → kept) → Ends is w v same r →
+    Ends act w v kept r
+ends-of act is w v same kept r e f h = subst (λ (a : Act). Ends a w v kept r) (sym e) (go r h)
+  where
+    go : (o : Result (Unit {0}) ActStop) → Ends is w v same o → Ends is w v kept o
+    go (Ok x) h = h
+    go (Err (Fault fault)) h = (f h.0, h.1)
+    go (Err (Memory none)) h = h
+
+module _ (act : Act) (w v : ℕ → CableWorld) (same : Type 0) where
+  pub ends-done : (r : Result (Unit {0}) ActStop) → Ends act w v same r → OnOk r ((d : ℕ) → ActLeads act (w d) (v d))
+  ends-done (Ok x) h = λ d. (h d).leads
+  ends-done (Err stop) h = tt
+
+  pub ends-accepted : (r : Result (Unit {0}) ActStop) → Ends act w v same r → OnOk r ((d : ℕ) → act_fault act (w d) ≡ None)
+  ends-accepted (Ok x) h = λ d. (h d).accepted
+  ends-accepted (Err stop) h = tt
+
+  pub ends-rows : (r : Result (Unit {0}) ActStop) → Ends act w v same r → OnOk r (map length (v 0).wires ≡ map length (w 0).wires)
+  ends-rows (Ok x) h = (h 0).rows
+  ends-rows (Err stop) h = tt
+
+  pub ends-refused : (r : Result (Unit {0}) ActStop) → Ends act w v same r → IfFault r (λ f. (d : ℕ) → act_fault act (w d) ≡ Some f)
+  ends-refused (Ok x) h = tt
+  ends-refused (Err (Fault fault)) h = h.1
+  ends-refused (Err (Memory none)) h = tt
+
+  pub ends-same : (r : Result (Unit {0}) ActStop) → Ends act w v same r → IfFault r (λ f. same)
+  ends-same (Ok x) h = tt
+  ends-same (Err (Fault fault)) h = h.0
+  ends-same (Err (Memory none)) h = tt
+
+  pub ends-memory : (r : Result (Unit {0}) ActStop) → Ends act w v same r → IsMemory r → (d : ℕ) → act_fault act (w d) ≡ None
+  ends-memory (Ok x) h is = absurd is
+  ends-memory (Err (Fault fault)) h is = absurd is
+  ends-memory (Err (Memory none)) h is = h

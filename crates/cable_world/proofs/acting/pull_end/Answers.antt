@@ -1,0 +1,76 @@
+use Rattle.std.proofs.Common.{◌∙◌, List, [], Some, length, map, slice_get, slice_index_or, refl, ap, arith}
+use Rattle.std.proofs.lemmas.List.{length-map}
+use Rattle.cabling.proofs.Lemmas.{plugged}
+use Rattle.cable_world.specs.Wire.{Wire}
+use Rattle.cable_world.specs.World.{CableWorld}
+use Rattle.cable_world.specs.Parts.{world_record}
+use Rattle.cable_world.proofs.tables.TablesInActs.{has-wire}
+use Rattle.cable_world.proofs.running.Acts.{taken-is, node-ready, cleared-length, both-long, cleared-long, pull-done, is-connected-there}
+use Rattle.cable_world.proofs.acting.pull_end.Goals as goal
+
+pub clear_cable-requires-clause-a_port : goal.clear_cable-requires-clause-a_port
+clear_cable-requires-clause-a_port g c =
+    let w = world_record c.requires.lawful.0 c.args.cabling.now (map g.M.PortMachine.record_of c.args.machines.now) c.args.wires.now c.args.changed.now c.args.turns in
+    (has-wire w c.args.end c.requires.lawful.1.well_formed (plugged c.args.cabling.now c.args.end c.in-Ok.cable.b c.in-Ok.ensures.taken.joined)).port
+
+pub clear_cable-requires-clause-b_node : goal.clear_cable-requires-clause-b_node
+clear_cable-requires-clause-b_node g c =
+    let w = world_record c.requires.lawful.0 c.args.cabling.now (map g.M.PortMachine.record_of c.args.machines.now) c.args.wires.now c.args.changed.now c.args.turns in
+    let f = c.requires.lawful.1.well_formed in
+    (has-wire w c.in-Ok.cable.b f
+    (plugged c.args.cabling.now c.in-Ok.cable.b c.args.end (f.cabling.both_ways c.args.end c.in-Ok.cable.b c.in-Ok.ensures.taken.joined))).node
+
+pub clear_cable-requires-clause-b_port : goal.clear_cable-requires-clause-b_port
+clear_cable-requires-clause-b_port g c =
+    let w = world_record c.requires.lawful.0 c.args.cabling.now (map g.M.PortMachine.record_of c.args.machines.now) c.args.wires.now c.args.changed.now c.args.turns in
+    let f = c.requires.lawful.1.well_formed in
+    (has-wire w c.in-Ok.cable.b f
+    (plugged c.args.cabling.now c.in-Ok.cable.b c.args.end (f.cabling.both_ways c.args.end c.in-Ok.cable.b c.in-Ok.ensures.taken.joined))).port
+
+pub step_both-requires-clause-second : goal.step_both-requires-clause-second
+step_both-requires-clause-second g c =
+    let f = c.requires.lawful.1.well_formed in
+    let there = plugged c.args.cabling.now c.in-Ok.cable.b c.args.end (f.cabling.both_ways c.args.end c.in-Ok.cable.b c.in-Ok.ensures.taken.joined) in
+    omega (arith, there.node, f.count, length-map c.args.machines.now g.M.PortMachine.record_of)
+
+pub step_both-requires-clause-first_suits : goal.step_both-requires-clause-first_suits
+step_both-requires-clause-first_suits g c =
+    let w = world_record c.requires.lawful.0 c.args.cabling.now (map g.M.PortMachine.record_of c.args.machines.now) c.args.wires.now c.args.changed.now c.args.turns in
+    let f = c.requires.lawful.1.well_formed in
+    let joined = c.in-Ok.ensures.taken.joined in
+    let a = c.args.end in
+    let b = c.in-Ok.cable.b in
+    is-connected-there (slice_get w.nodes a.node) (length (slice_index_or c.clear_cable.new.wires a.node [])) a.port
+    (node-ready w a (Some b) c.clear_cable.new.wires f (plugged c.args.cabling.now a b joined) joined
+    (ap (λ rows. length (slice_index_or rows a.node [])) c.clear_cable.ensures ∙ cleared-length c.args.wires.now a b a.node))
+
+pub step_both-requires-clause-second_suits : goal.step_both-requires-clause-second_suits
+step_both-requires-clause-second_suits g c =
+    let w = world_record c.requires.lawful.0 c.args.cabling.now (map g.M.PortMachine.record_of c.args.machines.now) c.args.wires.now c.args.changed.now c.args.turns in
+    let f = c.requires.lawful.1.well_formed in
+    let a = c.args.end in
+    let b = c.in-Ok.cable.b in
+    let back = f.cabling.both_ways a b c.in-Ok.ensures.taken.joined in
+    is-connected-there (slice_get w.nodes b.node) (length (slice_index_or c.clear_cable.new.wires b.node [])) b.port
+    (node-ready w b (Some a) c.clear_cable.new.wires f (plugged c.args.cabling.now b a back) back
+    (ap (λ rows. length (slice_index_or rows b.node [])) c.clear_cable.ensures ∙ cleared-length c.args.wires.now a b b.node))
+
+pub returns : goal.returns
+returns g c d =
+    let f = g.M.PortMachine.record_of in
+    let w : CableWorld = world_record d c.args.cabling.now (map f c.args.machines.now) c.args.wires.now c.args.changed.now c.args.turns in
+    let a = c.args.end in
+    let b = c.in-Ok.cable.b in
+    let taken = c.in-Ok.ensures.taken in
+    let after = c.step_both.new in
+    let v : CableWorld = world_record d c.pull.new.self (map f after.machines) after.wires after.changed c.args.turns in
+    record {
+      accepted = c.in-Ok.ensures.ok.0 refl;
+      leads = pull-done w v a b c.pull.new.self c.clear_cable.new.wires taken.joined
+          (taken-is c.args.cabling.now c.pull.new.self a b c.requires.lawful.1.well_formed.cabling taken)
+          c.clear_cable.ensures (c.in_default.ensures d c.pull.new.self);
+      rows =
+          ap (λ (u : CableWorld). map length u.wires) (c.in_default.ensures d c.pull.new.self)
+          ∙ both-long a.node b.node _ _ (world_record d c.pull.new.self (map f c.args.machines.now) c.clear_cable.new.wires c.args.changed.now c.args.turns)
+          ∙ ap (λ (rows : List (List Wire)). map length rows) c.clear_cable.ensures ∙ cleared-long c.args.wires.now a b;
+    }

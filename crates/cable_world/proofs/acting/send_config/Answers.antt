@@ -1,0 +1,44 @@
+use Rattle.std.proofs.Common.{◌≡◌, ◌∙◌, [], length, map, slice_get, slice_index_or, ap, arith}
+use Rattle.std.proofs.lemmas.List.{length-map}
+use Rattle.port_state.specs.Config.{config_packet}
+use Rattle.cable_world.specs.World.{CableWorld}
+use Rattle.cable_world.specs.Parts.{world_record}
+use Rattle.cable_world.proofs.running.Acts.{note-long, config-done, told-ready, is-there, is-inside}
+use Rattle.cable_world.proofs.acting.send_config.Goals as goal
+
+pub step_node-requires-clause-wires : goal.step_node-requires-clause-wires
+step_node-requires-clause-wires g c =
+    let w = world_record c.requires.lawful.0 c.args.cabling.now (map g.M.PortMachine.record_of c.args.machines.now) c.args.wires.now c.args.changed.now c.args.turns in
+    let p = config_packet c.args.root_id c.args.force c.args.gap in
+    told-ready w c.component.result p c.args.from _ c.requires.lawful.1.well_formed c.requires.is.bits
+    (omega (arith, c.if-from-machines.false, length-map c.args.machines.now g.M.PortMachine.record_of)) c.set_configs.ensures
+
+pub step_node-requires-clause-suits : goal.step_node-requires-clause-suits
+step_node-requires-clause-suits g c =
+    let w = world_record c.requires.lawful.0 c.args.cabling.now (map g.M.PortMachine.record_of c.args.machines.now) c.args.wires.now c.args.changed.now c.args.turns in
+    let p = config_packet c.args.root_id c.args.force c.args.gap in
+    let told = map g.M.PortMachine.record_of c.set_configs.new.machines in
+    is-there (slice_get told c.args.from) (λ x. length (slice_index_or w.wires c.args.from []) ≡ x.state.ports)
+    (told-ready w c.component.result p c.args.from told c.requires.lawful.1.well_formed c.requires.is.bits
+    (omega (arith, c.if-from-machines.false, length-map c.args.machines.now g.M.PortMachine.record_of)) c.set_configs.ensures)
+
+pub returns : goal.returns
+returns g c d =
+    let f = g.M.PortMachine.record_of in
+    let w : CableWorld = world_record d c.args.cabling.now (map f c.args.machines.now) c.args.wires.now c.args.changed.now c.args.turns in
+    let after = c.step_node.new in
+    let v : CableWorld = world_record d c.args.cabling.now (map f after.machines) after.wires after.changed c.args.turns in
+    let p = config_packet c.args.root_id c.args.force c.args.gap in
+    let told = map f c.set_configs.new.machines in
+    let set = c.component.result in
+    record {
+      accepted = is-inside c.args.from w (omega (arith, c.if-from-machines.false, length-map c.args.machines.now f));
+      leads = (
+        set,
+        c.component.ensures.component,
+        config-done w v set c.args.from p told c.set_configs.ensures (c.in_default.ensures d c.args.cabling.now),
+      );
+      rows =
+          ap (λ (u : CableWorld). map length u.wires) (c.in_default.ensures d c.args.cabling.now)
+          ∙ note-long c.args.from _ (world_record d c.args.cabling.now told c.args.wires.now c.args.changed.now c.args.turns);
+    }
