@@ -1,28 +1,24 @@
 -- What is heard of commands.
-use Rattle.std.proofs.Common.{◌≡◌, ◌++◌, ◌+◌, ◌≤◌, ℕ, List, [], length, Bool, true, false, Option, Some, None, refl, sym, ◌∙◌, ap, subst, arith}
-use Rattle.std.specs.Prelude.{Result, Ok, Err, OnOk, IfSome, IsTrue, MatchBool, nat_lt}
-use Rattle.std.proofs.lemmas.List.{append-nil, append_assoc, length-replicate}
+use Rattle.std.proofs.Common.{◌≡◌, ◌++◌, ◌+◌, ℕ, List, [], length, Bool, false, Some, refl, sym, ◌∙◌, ap, subst}
+use Rattle.std.specs.Prelude.{Ok, Err, MatchBool, nat_lt}
+use Rattle.std.proofs.lemmas.List.{append-nil, append_assoc}
 use Rattle.cable_world.specs.World.{CableWorld}
 use Rattle.cable_world.specs.Turn.{turns_after}
-use Rattle.cable_world.specs.Run.{IsReached}
 use Rattle.root_plan.specs.declared.choice.RootPlan.{RootPlan}
-use Rattle.settle.specs.declared.report.Report.{Report}
 use Rattle.settle.specs.Report.{IsReport, quiet_turns_of}
 use Rattle.settle.proofs.Lemmas.{quiet-is}
 use Rattle.script_lines.specs.declared.kind.Kind.{Kind}
 use Rattle.script_lines.specs.declared.command.Command.{Command}
 use Rattle.script_lines.specs.declared.command.Command.TheVariants.{Plug, Pull, Reset, Config, Hold}
-use Rattle.script_text.specs.ReportText.{Names, IsNamedReport, IsReportText}
+use Rattle.script_text.specs.ReportText.{Names, IsReportText}
 use Rattle.script_told.specs.Bus.{Notes, Bus}
-use Rattle.script_told.specs.Step.{LineAnswer, Reports, Settles, notes_after_act, notes_after_report}
+use Rattle.script_told.specs.Step.{LineAnswer, Reports, Settles, notes_after_report}
 use Rattle.script_trace.specs.Event.{Seen}
 use Rattle.script_trace.specs.Step.{seen_before_act}
 use Rattle.script_trace.specs.Voice.{Voice}
 use Rattle.script_trace.specs.Trace.{act_trace, quiet_trace, Traces}
-use Rattle.script_bus.specs.Running.{IsBus}
 use Rattle.script_bus.specs.Heard.{Hears, TellAlike}
 use Rattle.script_bus.specs.codings.Standing.{IsActCommand, IsHoldCommand, IsQuestion, IsReportedNow, IsPassed, IsPacketSent, IsSentHeard}
-use Rattle.script_bus.proofs.Standing.{new-stands}
 
 -- ---- lines
 

@@ -3,6 +3,7 @@ pub mod Standing
 pub mod Planning
 pub mod PlansAsked
 pub mod Hearing
+pub mod Doing
 pub mod SomePlan
 pub mod SomeRun
 pub mod SomeAdvice

@@ -1,13 +1,15 @@
 //! A bus that is advised: cables are pulled, and it settles once more.
-ghost use Rattle.std.specs.Prelude.{◌≡◌, Ok, IfOk, IfErr, IfSome, IsSomeAnd};
+ghost use Rattle.std.specs.Prelude.{◌≡◌, ◌++◌, ℕ, List, Ok, IfOk, IfErr, IfSome, IsSomeAnd};
 ghost use Rattle.settle.specs.Report.{IsReport};
 ghost use Rattle.script_told.specs.Bus as shown;
-ghost use Rattle.script_advice.specs.Advice.{all_pulls, AreAdvices, loops_of, PullsLead, Advises};
+ghost use Rattle.script_told.specs.Step.{Settles};
+ghost use Rattle.script_advice.specs.Advice.{advice_text, all_pulls, AreAdvices, loops_of, PullsLead, Advises};
 ghost use Rattle.script_advice.specs.Advising.{ArePullable};
 ghost use Rattle.script_bus.specs.Running.{Stops};
 
 use crate::bus::Bus;
 use crate::listener::Silent;
+use crate::planned::joined;
 use cable_world::Act;
 use cabling::Cable;
 use script_advice::{LoopAdvice, advice_text, advices};
@@ -54,6 +56,34 @@ impl Bus {
         }
     }
 
+    /// What is advised on a bus that has settled, and its text.
+    fn told_advices(&self, alloc: Global) -> Result<(Vec<LoopAdvice>, Vec<u8>), OutOfMemory>
+        requires { IsSomeAnd self.now.notes.report (IsReport self.now.world) }
+        ensures are { IfOk result (λ r. IfSome self.now.notes.report (λ report.
+            AreAdvices self.now.world.cabling (loops_of report.parts) r.0.items)) }
+        ensures text { IfOk result (λ r.
+            r.1.items ≡ advice_text self.now.notes.names r.0.items) }
+        ensures pulls { IfOk result (λ r.
+            ArePullable self.now.world.cabling (all_pulls r.0.items)) }
+    {
+        self.is_sound();
+        let advices = self.advices(alloc)?;
+        let text = advice_text(alloc, self.names(), &advices)?;
+        Ok((advices, text))
+    }
+
+    /// The bus settles. Answers a text, and behind it the report.
+    fn settled_text(self, alloc: Global, text: Vec<u8>) -> Result<Vec<u8>, LineStop>
+        ensures done { IfOk result (λ whole. (after : shown.Bus) × (report : List ℕ)
+            × Settles self (Ok (after, report)) × (whole.items ≡ text.items ++ report)) }
+        ensures stop { IfErr result (Stops (Settles self)) }
+    {
+        match self.settle(alloc, &mut Silent) {
+            Ok((_, report)) => Ok(joined(text, report.as_slice())?),
+            Err(stop) => Err(stop),
+        }
+    }
+
     /// The advice on a bus that has settled, and the report once the advised cables are pulled. The
     /// faults are those of `settle`.
     pub fn advised(self, alloc: Global) -> Result<Vec<u8>, LineStop>
@@ -62,16 +92,8 @@ impl Bus {
             × Advises self (Ok (after, text.items))) }
         ensures stop { IfErr result (Stops (Advises self)) }
     {
-        self.is_sound();
-        let advices = self.advices(alloc)?;
-        let mut text = advice_text(alloc, self.names(), &advices)?;
+        let (advices, text) = self.told_advices(alloc)?;
         let bus = self.pull_all(&advices)?;
-        match bus.settle(alloc, &mut Silent) {
-            Ok((_, report)) => {
-                text.extend_from_slice(report.as_slice())?;
-                Ok(text)
-            }
-            Err(stop) => Err(stop),
-        }
+        bus.settled_text(alloc, text)
     }
 }

@@ -15,6 +15,7 @@ mod managed;
 mod planned;
 mod steps;
 mod table;
+mod telling;
 mod turns;
 mod waves;
 

@@ -1,5 +1,5 @@
 //! The plan of a bus manager, and how it is carried out.
-ghost use Rattle.std.specs.Prelude.{◌≡◌, ◌<◌, ◌+◌, ◌++◌, ◌==◌, ℕ, All, nat_lt, true, false, Some, None, Ok, IfOk, IfErr, OnOk, IsFalse, length};
+ghost use Rattle.std.specs.Prelude.{◌≡◌, ◌<◌, ◌+◌, ◌++◌, ◌==◌, ℕ, [], All, nat_lt, true, false, Some, None, Ok, IfOk, IfErr, OnOk, IsFalse, length};
 ghost use Rattle.topology_stack.specs.Elect.{elected};
 ghost use Rattle.cabling.specs.Walk.{IsWalk};
 ghost use Rattle.cable_world.specs.Unchanged.{TurnsPass};
@@ -8,10 +8,12 @@ ghost use Rattle.settle_plan.specs.Planned.{SuitsTree};
 ghost use Rattle.script_told.specs.Bus.{tree_with, values_at};
 ghost use Rattle.script_text.specs.Plan.{IsPlan, all_in, plan_numbers, plan_nodes, plan_line};
 ghost use Rattle.script_text.specs.ReportText.{IsNamedTree};
-ghost use Rattle.script_told.specs.Step.{Does, HasManager, node_with};
+ghost use Rattle.script_told.specs.Step.{Acts, Does, HasManager, config_of, node_with};
+ghost use Rattle.script_trace.specs.Step.{seen_before_act};
 ghost use Rattle.script_bus.specs.Running.{Stops, reported};
-ghost use Rattle.script_bus.specs.Heard.{Hears};
+ghost use Rattle.script_bus.specs.Heard.{Hears, TellAlike};
 ghost use Rattle.script_bus.specs.codings.Standing.{StandsAs, IsPlanned, IsPacketSent, IsSentHeard};
+ghost use Rattle.script_bus.specs.codings.Doing.{IsReady};
 ghost use Rattle.script_lines.specs.declared.command.Command.TheVariants as command;
 
 use crate::bus::{Bus, Reported};
@@ -24,6 +26,7 @@ use resource_manager::Register;
 use root_plan::{RootPlan, choose, expect};
 use script_lines::{Command, Kind, LineStop};
 use script_text::{plan_line, tree_of};
+use script_trace::Seen;
 use settle::quiet_turns_settle;
 use settle_plan::plans_suit;
 use std::alloc::Global;
@@ -48,11 +51,23 @@ fn chosen(tree: &BusTree) -> RootPlan
 }
 
 /// A line, and behind it a report.
-fn joined(mut line: Vec<u8>, report: &[u8]) -> Result<Vec<u8>, OutOfMemory>
+pub(crate) fn joined(mut line: Vec<u8>, report: &[u8]) -> Result<Vec<u8>, OutOfMemory>
     ensures { IfOk result (λ text. text.items ≡ line.items ++ report.now) }
 {
     line.extend_from_slice(report)?;
     Ok(line)
+}
+
+/// The command whose packet is that of a plan.
+fn packet_of(name: &Name, plan: &RootPlan) -> Result<Command, OutOfMemory>
+    ensures { IfOk result (λ packet. packet
+        ≡ command.Config name.now (Some plan.now.root_id) (Some plan.now.gap)) }
+{
+    Ok(Command::Config {
+        name: name.clone()?,
+        root_id: Some(plan.root_id),
+        gap: Some(plan.gap),
+    })
 }
 
 impl Bus {
@@ -129,6 +144,42 @@ impl Bus {
         Ok(Planned { plan, line })
     }
 
+    /// The packet of a plan comes, as `tell_before` has it.
+    fn tell_packet<L: Listener>(
+        &self,
+        alloc: Global,
+        name: &Name,
+        plan: &RootPlan,
+        listener: &mut L,
+    ) -> Result<Vec<Seen>, OutOfMemory>
+        ensures alike { IfOk result (λ seen. TellAlike L.voice seen.items
+            (seen_before_act self.now.world 0 self.now.world.nodes)) }
+        ensures written { OnOk result (L.written listener.new ≡ L.written listener.old
+            ++ L.voice.command self.now.world.turns
+            (command.Config name.now (Some plan.now.root_id) (Some plan.now.gap))) }
+    {
+        let packet = packet_of(name, plan)?;
+        let seen = self.tell_before(alloc, &packet, listener)?;
+        Ok(seen)
+    }
+
+    /// A node sends the packet of a plan.
+    fn send_packet(self, node: u8, plan: &RootPlan) -> Result<Bus, OutOfMemory>
+        requires { SuitsTree self.world node plan.now }
+        ensures done { IfOk result (λ bus. Acts self
+            (config_of node (Some plan.now.root_id) (Some plan.now.gap)) (Ok (bus, []))) }
+        ensures passed { IfOk result (λ bus. TurnsPass 0 self.world bus.world) }
+    {
+        self.is_sound();
+        components_exist();
+        self.act_done(&Act::Config {
+            from: node,
+            root_id: plan.root_id,
+            force: true,
+            gap: Some(plan.gap),
+        })
+    }
+
     /// A node sends the packet of a plan, which a listener hears as a `config`.
     fn send<L: Listener>(
         self,
@@ -143,25 +194,9 @@ impl Bus {
             (L.written listener.old) (L.written listener.new)) }
         ensures passed { IfOk result (λ bus. TurnsPass 0 self.world bus.world) }
     {
-        self.is_sound();
-        components_exist();
-        let nodes = self.names().len();
-        let seen = listener.before_act(alloc, self.world(), nodes)?;
-        let packet = Command::Config {
-            name: name.clone()?,
-            root_id: Some(plan.root_id),
-            gap: Some(plan.gap),
-        };
-        listener.command(self.turns(), &packet)?;
-        let act = Act::Config {
-            from: node,
-            root_id: plan.root_id,
-            force: true,
-            gap: Some(plan.gap),
-        };
-        let bus = self.act_done(&act)?;
-        bus.is_sound();
-        listener.after_act(bus.names(), &seen, bus.world())?;
+        let seen = self.tell_packet(alloc, name, plan, listener)?;
+        let bus = self.send_packet(node, plan)?;
+        bus.tell_after(&seen, listener)?;
         Ok(bus)
     }
 
@@ -187,6 +222,19 @@ impl Bus {
         Ok(settled)
     }
 
+    /// The plan of the bus manager with a name, where it can be carried out.
+    fn ready(&self, alloc: Global, name: &Name) -> Result<(u8, Planned), LineStop>
+        ensures is { IfOk result (λ r. IsReady self.now name.now r.0 r.1.plan r.1.line.items) }
+        ensures stop { IfErr result (Stops (Does self.now (command.Plan name.now))) }
+    {
+        let asked = self.asked(alloc, name)?;
+        self.check_bus_manager(asked)?;
+        self.check_quiet_turns()?;
+        let tree = self.tree(asked.node)?;
+        let planned = self.planned(alloc, name, asked.node, tree)?;
+        Ok((asked.node, planned))
+    }
+
     /// `plan NAME`
     pub(crate) fn plan<L: Listener>(
         self,
@@ -199,12 +247,8 @@ impl Bus {
             (L.written listener.old) (L.written listener.new)) }
         ensures stop { IfErr result (Stops (Does self (command.Plan name.now))) }
     {
-        let asked = self.asked(alloc, name)?;
-        self.check_bus_manager(asked)?;
-        self.check_quiet_turns()?;
-        let tree = self.tree(asked.node)?;
-        let planned = self.planned(alloc, name, asked.node, tree)?;
-        let (bus, report) = self.carry_out(alloc, name, asked.node, &planned.plan, listener)?;
+        let (node, planned) = self.ready(alloc, name)?;
+        let (bus, report) = self.carry_out(alloc, name, node, &planned.plan, listener)?;
         let text = joined(planned.line, report.as_slice())?;
         Ok((bus, text))
     }

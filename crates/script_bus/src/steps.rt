@@ -1,10 +1,11 @@
 //! What the commands of a script do to its bus.
 ghost use Rattle.std.specs.Prelude.{◌≡◌, ◌≤◌, ◌<◌, ◌⊎◌, [], Ok, IfOk, IfErr, IfSome, IsSome, OnOk};
-ghost use Rattle.script_told.specs.Step.{Does, after_maps};
+ghost use Rattle.script_told.specs.Step.{Does, after_maps, config_of};
 ghost use Rattle.script_lines.specs.Range.{IsInRange};
 ghost use Rattle.script_bus.specs.Running.{AsksManager, Stops};
 ghost use Rattle.script_bus.specs.Heard.{Hears};
 ghost use Rattle.script_bus.specs.codings.Standing.{IsActCommand, IsHoldCommand, IsQuestion};
+ghost use Rattle.script_bus.specs.codings.Doing.{IsActOf};
 ghost use Rattle.script_lines.specs.declared.command.Command.TheVariants as command;
 
 use crate::bus::{Bus, end_of};
@@ -19,41 +20,119 @@ use topology_stack::Name;
 /// The number of maps of a script, at most.
 const MAX_MAPS: u32 = 100;
 
+/// The configuration packet of a node, and the reset behind it.
+fn config_of(from: u8, root_id: Option<u8>, gap: Option<u8>) -> Act
+    ensures { result ≡ config_of from root_id gap }
+{
+    Act::Config {
+        from,
+        root_id: root_id.unwrap_or(0),
+        force: root_id.is_some(),
+        gap,
+    }
+}
+
 impl Bus {
     /// `plug NAME PORT NAME PORT`
-    fn plug(self, a: &Name, a_port: u32, b: &Name, b_port: u32) -> Result<Bus, LineStop>
-        ensures done { IfOk result (λ bus.
-            Does self (command.Plug a.now a_port b.now b_port) (Ok (bus, []))) }
-        ensures stop { IfErr result (Stops (Does self (command.Plug a.now a_port b.now b_port))) }
+    fn plug(&self, a: &Name, a_port: u32, b: &Name, b_port: u32) -> Result<Act, LineStop>
+        ensures is { IfOk result (λ act.
+            IsActOf self.now (command.Plug a.now a_port b.now b_port) act) }
+        ensures stop { IfErr result
+            (Stops (Does self.now (command.Plug a.now a_port b.now b_port))) }
     {
         let a = self.node(a)?;
         let b = self.node(b)?;
-        let act = Act::Plug {
+        Ok(Act::Plug {
             a: end_of(a, a_port),
             b: end_of(b, b_port),
-        };
-        self.act(&act)
+        })
     }
 
     /// `pull NAME PORT`
-    fn pull(self, name: &Name, port: u32) -> Result<Bus, LineStop>
-        ensures done { IfOk result (λ bus. Does self (command.Pull name.now port) (Ok (bus, []))) }
-        ensures stop { IfErr result (Stops (Does self (command.Pull name.now port))) }
+    fn pull(&self, name: &Name, port: u32) -> Result<Act, LineStop>
+        ensures is { IfOk result (λ act. IsActOf self.now (command.Pull name.now port) act) }
+        ensures stop { IfErr result (Stops (Does self.now (command.Pull name.now port))) }
     {
         let node = self.node(name)?;
-        let act = Act::Pull {
+        Ok(Act::Pull {
             end: end_of(node, port),
-        };
-        self.act(&act)
+        })
     }
 
     /// `reset NAME`
-    fn reset(self, name: &Name) -> Result<Bus, LineStop>
-        ensures done { IfOk result (λ bus. Does self (command.Reset name.now) (Ok (bus, []))) }
-        ensures stop { IfErr result (Stops (Does self (command.Reset name.now))) }
+    fn reset(&self, name: &Name) -> Result<Act, LineStop>
+        ensures is { IfOk result (λ act. IsActOf self.now (command.Reset name.now) act) }
+        ensures stop { IfErr result (Stops (Does self.now (command.Reset name.now))) }
     {
         let node = self.node(name)?;
-        self.act(&Act::Reset { node })
+        Ok(Act::Reset { node })
+    }
+
+    /// `config NAME ROOT GAP`
+    fn config(&self, name: &Name, root_id: Option<u8>, gap: Option<u8>) -> Result<Act, LineStop>
+        requires root { IfSome root_id (λ id. id ≤ 62) }
+        requires gap { IfSome gap (λ g. g ≤ 63) }
+        requires some { IsSome root_id ⊎ IsSome gap }
+        ensures is { IfOk result (λ act.
+            IsActOf self.now (command.Config name.now root_id gap) act) }
+        ensures stop { IfErr result (Stops (Does self.now (command.Config name.now root_id gap))) }
+    {
+        let from = self.node(name)?;
+        self.tree(from)?;
+        Ok(config_of(from, root_id, gap))
+    }
+
+    /// The act that a command says.
+    fn act_of(&self, d: u8, command: &Command) -> Result<Act, LineStop>
+        requires range { IsInRange d command.now }
+        requires act { IsActCommand command.now }
+        ensures is { IfOk result (λ act. IsActOf self.now command.now act) }
+        ensures stop { IfErr result (Stops (Does self.now command.now)) }
+    {
+        match command {
+            Command::Plug {
+                a,
+                a_port,
+                b,
+                b_port,
+            } => self.plug(a, *a_port, b, *b_port),
+            Command::Pull { name, port } => self.pull(name, *port),
+            Command::Reset { name } => self.reset(name),
+            Command::Config { name, root_id, gap } => self.config(name, *root_id, *gap),
+            _ => unreachable!(),
+        }
+    }
+
+    /// An act in a script's words.
+    fn act_said(self, d: u8, command: &Command) -> Result<Bus, LineStop>
+        requires range { IsInRange d command.now }
+        requires act { IsActCommand command.now }
+        ensures done { IfOk result (λ bus. Does self command.now (Ok (bus, []))) }
+        ensures stop { IfErr result (Stops (Does self command.now)) }
+    {
+        let act = self.act_of(d, command)?;
+        self.act(&act)
+    }
+
+    /// An act, which a listener hears.
+    fn act_heard<L: Listener>(
+        self,
+        alloc: Global,
+        d: u8,
+        command: &Command,
+        listener: &mut L,
+    ) -> Result<Bus, LineStop>
+        requires range { IsInRange d command.now }
+        requires act { IsActCommand command.now }
+        ensures done { IfOk result (λ bus. Does self command.now (Ok (bus, []))) }
+        ensures heard { IfOk result (λ bus. Hears L.voice self command.now bus
+            (L.written listener.old) (L.written listener.new)) }
+        ensures stop { IfErr result (Stops (Does self command.now)) }
+    {
+        let seen = self.tell_before(alloc, command, listener)?;
+        let bus = self.act_said(d, command)?;
+        bus.tell_after(&seen, listener)?;
+        Ok(bus)
     }
 
     /// `hold NAME PORT K`
@@ -64,26 +143,6 @@ impl Bus {
     {
         let node = self.node(name)?;
         self.hold(end_of(node, port), turns)
-    }
-
-    /// `config NAME ROOT GAP`
-    fn config(self, name: &Name, root_id: Option<u8>, gap: Option<u8>) -> Result<Bus, LineStop>
-        requires root { IfSome root_id (λ id. id ≤ 62) }
-        requires gap { IfSome gap (λ g. g ≤ 63) }
-        requires some { IsSome root_id ⊎ IsSome gap }
-        ensures done { IfOk result (λ bus.
-            Does self (command.Config name.now root_id gap) (Ok (bus, []))) }
-        ensures stop { IfErr result (Stops (Does self (command.Config name.now root_id gap))) }
-    {
-        let from = self.node(name)?;
-        self.tree(from)?;
-        let act = Act::Config {
-            from,
-            root_id: root_id.unwrap_or(0),
-            force: root_id.is_some(),
-            gap,
-        };
-        self.act(&act)
     }
 
     /// The maps of the tree in which a node stands settled.
@@ -190,52 +249,6 @@ impl Bus {
             | Command::Manager { .. } => self.question(alloc, d, command),
             _ => unreachable!(),
         }
-    }
-
-    /// An act in a script's words.
-    fn act_said(self, d: u8, command: &Command) -> Result<Bus, LineStop>
-        requires range { IsInRange d command.now }
-        requires act { IsActCommand command.now }
-        ensures done { IfOk result (λ bus. Does self command.now (Ok (bus, []))) }
-        ensures stop { IfErr result (Stops (Does self command.now)) }
-    {
-        match command {
-            Command::Plug {
-                a,
-                a_port,
-                b,
-                b_port,
-            } => self.plug(a, *a_port, b, *b_port),
-            Command::Pull { name, port } => self.pull(name, *port),
-            Command::Reset { name } => self.reset(name),
-            Command::Config { name, root_id, gap } => self.config(name, *root_id, *gap),
-            _ => unreachable!(),
-        }
-    }
-
-    /// An act, which a listener hears.
-    fn act_heard<L: Listener>(
-        self,
-        alloc: Global,
-        d: u8,
-        command: &Command,
-        listener: &mut L,
-    ) -> Result<Bus, LineStop>
-        requires range { IsInRange d command.now }
-        requires act { IsActCommand command.now }
-        ensures done { IfOk result (λ bus. Does self command.now (Ok (bus, []))) }
-        ensures heard { IfOk result (λ bus. Hears L.voice self command.now bus
-            (L.written listener.old) (L.written listener.new)) }
-        ensures stop { IfErr result (Stops (Does self command.now)) }
-    {
-        self.is_sound();
-        let nodes = self.names().len();
-        let seen = listener.before_act(alloc, self.world(), nodes)?;
-        listener.command(self.turns(), command)?;
-        let bus = self.act_said(d, command)?;
-        bus.is_sound();
-        listener.after_act(bus.names(), &seen, bus.world())?;
-        Ok(bus)
     }
 
     /// A hold, which a listener hears.

@@ -1,6 +1,6 @@
 -- Trees that stand since they were reported, plans for them, and what is heard of commands. No public
 -- contract cites this file.
-use Rattle.std.specs.Prelude.{◌≡◌, ◌<◌, ◌^◌, ◌++◌, ℕ, Bool, List, [], Ok, Some}
+use Rattle.std.specs.Prelude.{◌≡◌, ◌<◌, ◌^◌, ◌++◌, ℕ, List, [], Ok, Some}
 use Rattle.topology_stack.specs.Tree.{Tree}
 use Rattle.cabling.specs.Walk.{IsWalk}
 use Rattle.cabling.specs.Component.{IsComponent}

@@ -1,4 +1,5 @@
-use Rattle.std.proofs.Common.{◌≡◌, ◌++◌, ℕ, All, List, get_or, refl, sym, ap, subst, ◌∙◌}
+use Rattle.std.proofs.Common.{◌≡◌, ◌∙◌, ◌++◌, ℕ, List, sym, subst, refl, ap}
+use Rattle.std.proofs.lemmas.Result.{IfErr-weaker}
 use Rattle.std.specs.Prelude.{Option, None, Some, Ok, Err, IsSomeAnd, IfSome}
 use Rattle.settle.specs.declared.report.Report.{Report}
 use Rattle.settle.specs.Report.{IsReport}
@@ -7,27 +8,15 @@ use Rattle.script_lines.specs.declared.kind.LineStop.TheVariants.{Fault, Memory}
 use Rattle.script_told.specs.Bus.{Bus}
 use Rattle.script_told.specs.Step.{LineAnswer, Settles}
 use Rattle.script_bus.specs.Running.{Stops}
-use Rattle.cable_world.proofs.Lemmas.{lawful-now}
 use Rattle.script_advice.specs.declared.advice.LoopAdvice.{LoopAdvice}
-use Rattle.script_text.specs.ReportText.{Names}
 use Rattle.script_advice.specs.Advice.{all_pulls, AreAdvices, loops_of, PullsLead, Advises, after_text, advice_text}
-use Rattle.script_advice.specs.Advising.{IsNamedAdvice, ArePullable}
-use Rattle.script_advice.proofs.Lemmas.{named-now, pullable-now}
+use Rattle.script_advice.specs.Advising.{ArePullable}
+use Rattle.script_bus.proofs.Doing.{ok-then}
 use Rattle.script_bus.proofs.bus.Bus.advised.Goals as goal
-
-pub advice_text-requires : goal.advice_text-requires
-advice_text-requires c = λ i d within.
-    let w = c.args.self.world in
-    let named = named-now w c.args.self.notes.names c.args.self.notes.report c.in_ok-advices.advices.items c.is_sound.ensures.report c.requires c.in_ok-advices.ensures in
-    let all = subst (λ (advices : List LoopAdvice). All (IsNamedAdvice c.args.self.notes.names) advices) (sym c.deref.ensures.value) named in
-    subst (λ (ns : Names). IsNamedAdvice ns (get_or c.deref.result.now i d)) (sym c.names.ensures) (all i d within)
 
 pub pull_all-requires : goal.pull_all-requires
 pull_all-requires c =
-    let w = c.args.self.world in
-    let lawful = lawful-now w c.is_sound.ensures.reached in
-    subst (λ (advices : List LoopAdvice). ArePullable w.cabling (all_pulls advices)) (sym c.deref-2.ensures.value)
-    (pullable-now w c.args.self.notes.report c.in_ok-advices.advices.items lawful.well_formed.cabling c.requires c.in_ok-advices.ensures)
+    subst (λ (advices : List LoopAdvice). ArePullable c.args.self.world.cabling (all_pulls advices)) (sym c.deref.ensures.value) c.in_ok-advices.ensures.pulls
 
 -- the parts of an advice
 advises :
@@ -53,24 +42,22 @@ advises bus pulled advices settled answer has are pulls settles is = by bus.note
       answer_is = is;
     }
 
-pub returns-in-Ok-clause-done : goal.returns-in-Ok-clause-done
-returns-in-Ok-clause-done c =
+pub returns-clause-done : goal.returns-clause-done
+returns-clause-done c =
     let advices = c.in_ok-advices.advices.items in
-    let names = c.args.self.notes.names in
-    let pulls = subst (λ (l : List LoopAdvice). PullsLead c.args.self (all_pulls l) c.in_ok-bus.bus) c.deref-2.ensures.value c.in_ok-bus.ensures in
-    let told : c.in_ok-text.text.items ≡ advice_text names advices =
-    c.in_ok-text.ensures ∙ ap (λ (ns : Names). advice_text ns c.deref.result.now) c.names.ensures ∙ ap (advice_text names) c.deref.ensures.value in (
-      c.in-Ok.field-0-0,
-      advises c.args.self c.in_ok-bus.bus advices _ _ c.requires c.in_ok-advices.ensures pulls c.in-Ok.ensures.done
-          (ap (λ (l : List ℕ). Ok (c.in-Ok.field-0-0, l))
-          (c.in_ok-extend_from_slice-in-Ok.ensures.items ∙ ap (λ (l : List ℕ). l ++ c.as_slice.result.now) told ∙ ap (λ (l : List ℕ). advice_text names advices ++ l) c.as_slice.ensures.value)),
-    )
+    let told = c.in_ok-advices.ensures in
+    let pulls = subst (λ (l : List LoopAdvice). PullsLead c.args.self (all_pulls l) c.in_ok-bus.bus) c.deref.ensures.value c.in_ok-bus.ensures in
+    ok-then c.settled_text.result _ _ (λ whole h. (
+      h.0,
+      advises c.args.self c.in_ok-bus.bus advices (Ok (h.0, h.1)) (Ok (h.0, whole.items)) c.requires told.are pulls h.2
+          (ap (λ (l : List ℕ). Ok (h.0, l)) (h.3 ∙ ap (λ (l : List ℕ). l ++ h.1) told.text)),
+    )) c.settled_text.ensures.done
 
 pub returns-clause-stop : goal.returns-clause-stop
-returns-clause-stop c = by c.in-Err.stop c.in-Err.ensures.stop
+returns-clause-stop c = IfErr-weaker c.settled_text.result (Stops (Settles c.in_ok-bus.bus)) (Stops (Advises c.args.self)) by c.settled_text.ensures.stop
   where
     by : (stop : LineStop) → Stops (Settles c.in_ok-bus.bus) stop → Stops (Advises c.args.self) stop
-    by (Memory e) h = tt
+    by (Memory none) h = tt
     by (Fault kind) h =
-        advises c.args.self c.in_ok-bus.bus c.in_ok-advices.advices.items (Err kind) (Err kind) c.requires c.in_ok-advices.ensures
-        (subst (λ (l : List LoopAdvice). PullsLead c.args.self (all_pulls l) c.in_ok-bus.bus) c.deref-2.ensures.value c.in_ok-bus.ensures) h refl
+        advises c.args.self c.in_ok-bus.bus c.in_ok-advices.advices.items (Err kind) (Err kind) c.requires c.in_ok-advices.ensures.are
+        (subst (λ (l : List LoopAdvice). PullsLead c.args.self (all_pulls l) c.in_ok-bus.bus) c.deref.ensures.value c.in_ok-bus.ensures) h refl

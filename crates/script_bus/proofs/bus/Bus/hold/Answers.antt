@@ -1,5 +1,4 @@
-use Rattle.std.proofs.Common.{sym, ◌∙◌, ap, arith}
-use Rattle.script_told.specs.Bus.{Bus}
+use Rattle.std.proofs.Common.{sym, ◌∙◌, arith}
 use Rattle.script_bus.proofs.Standing.{hold-stands}
 use Rattle.script_bus.proofs.bus.Bus.hold.Goals as goal
 
