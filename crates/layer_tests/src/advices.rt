@@ -21,6 +21,19 @@ fn list(alloc: Global, cables: &[[u8; 4]]) -> Result<CableList, Fail> {
     Ok(list)
 }
 
+/// Whether a list has these cables.
+fn are(list: &CableList, cables: &[[u8; 4]]) -> bool {
+    if list.as_slice().len() != cables.len() {
+        return false;
+    }
+    for (one, ends) in list.as_slice().iter().zip(cables) {
+        if *one != cable(*ends) {
+            return false;
+        }
+    }
+    true
+}
+
 /// Plugs cables, each given as node, port, node, port; whether all were plugged.
 fn plug_all(cabling: &mut Cabling, cables: &[[u8; 4]]) -> bool {
     for ends in cables {
@@ -37,14 +50,14 @@ fn advice_is(
     alloc: Global,
     cabling: &Cabling,
     node: u8,
-    pulls: &[Cable],
-    kept: &[Cable],
-) -> Result<bool, OutOfMemory> {
+    pulls: &[[u8; 4]],
+    kept: &[[u8; 4]],
+) -> Result<bool, Fail> {
     if node >= cabling.nodes() {
         return Ok(false);
     }
     let advice = advise(alloc, cabling, node)?;
-    let same = advice.pulls.as_slice() == pulls && advice.kept.as_slice() == kept;
+    let same = are(&advice.pulls, pulls) && are(&advice.kept, kept);
     Ok(same && check(cabling, node, &advice))
 }
 
@@ -71,36 +84,41 @@ fn is_valid(
     Ok(node < cabling.nodes() && check(cabling, node, &Advice { pulls, kept }))
 }
 
+/// A cable, given as node, port, node, port.
+type Ends = [u8; 4];
+
+/// The cables of the ring and its tail.
+const RING: &[Ends] = &[[0, 0, 1, 0], [0, 1, 2, 1], [0, 2, 3, 0], [1, 1, 2, 0]];
+
+/// What is kept of them.
+const KEPT: &[Ends] = &[[0, 0, 1, 0], [0, 1, 2, 1], [0, 2, 3, 0]];
+
+/// Nodes, what is pulled and what is kept, and whether this is an advice for them.
+const CASES: &[(u8, Ends, &[Ends], bool)] = &[
+    // from either end
+    (
+        3,
+        [2, 0, 1, 1],
+        &[[0, 2, 3, 0], [0, 0, 1, 0], [2, 1, 0, 1]],
+        true,
+    ),
+    // a cable too few
+    (0, [1, 1, 2, 0], &[[0, 0, 1, 0], [0, 1, 2, 1]], false),
+    // the loop stays
+    (
+        0,
+        [0, 2, 3, 0],
+        &[[0, 0, 1, 0], [0, 1, 2, 1], [1, 1, 2, 0]],
+        false,
+    ),
+];
+
 #[test]
 fn a_ring_with_a_tail(rt: HostRuntime) -> Result<(), Fail> {
-    let cables = [[0, 0, 1, 0], [0, 1, 2, 1], [0, 2, 3, 0], [1, 1, 2, 0]];
-    let cabling = ring_with_a_tail(rt.alloc(), &cables)?;
-    let pulls = [cable([1, 1, 2, 0])];
-    let kept = [
-        cable([0, 0, 1, 0]),
-        cable([0, 1, 2, 1]),
-        cable([0, 2, 3, 0]),
-    ];
-    assert!(rt; advice_is(rt.alloc(), &cabling, 3, &pulls, &kept)?);
-    for (node, pulls, kept, wanted) in [
-        // from either end
-        (
-            3,
-            [2, 0, 1, 1],
-            [[0, 2, 3, 0], [0, 0, 1, 0], [2, 1, 0, 1]].as_slice(),
-            true,
-        ),
-        // a cable too few
-        (0, [1, 1, 2, 0], &[[0, 0, 1, 0], [0, 1, 2, 1]], false),
-        // the loop stays
-        (
-            0,
-            [0, 2, 3, 0],
-            &[[0, 0, 1, 0], [0, 1, 2, 1], [1, 1, 2, 0]],
-            false,
-        ),
-    ] {
-        assert!(rt; is_valid(rt.alloc(), &cabling, node, &[pulls], kept)? == wanted);
+    let cabling = ring_with_a_tail(rt.alloc(), RING)?;
+    assert!(rt; advice_is(rt.alloc(), &cabling, 3, &[[1, 1, 2, 0]], KEPT)?);
+    for (node, pull, kept, wanted) in CASES {
+        assert!(rt; is_valid(rt.alloc(), &cabling, *node, &[*pull], *kept)? == *wanted);
     }
     Ok(())
 }
@@ -111,7 +129,7 @@ fn pulls_leave(
     cabling: &mut Cabling,
     node: u8,
     advice: &Advice,
-    left: &[Cable],
+    left: &[Ends],
 ) -> Result<bool, OutOfMemory> {
     if node >= cabling.nodes() || !check(cabling, node, advice) {
         return Ok(false);
@@ -120,22 +138,19 @@ fn pulls_leave(
     if node >= cabling.nodes() {
         return Ok(false);
     }
-    Ok(cables_of(alloc, cabling, node)?.as_slice() == left)
+    Ok(are(&cables_of(alloc, cabling, node)?, left))
 }
+
+/// The ring and its tail, plugged in another order, and their cables from other ends.
+const IN_OTHER_ORDER: &[Ends] = &[[0, 0, 1, 0], [0, 1, 2, 1], [1, 1, 2, 0], [0, 2, 3, 0]];
+
+const FROM_OTHER_ENDS: &[Ends] = &[[0, 2, 3, 0], [0, 0, 1, 0], [2, 1, 0, 1]];
 
 #[test]
 fn what_is_advised_is_pulled(rt: HostRuntime) -> Result<(), Fail> {
-    let cables = [[0, 0, 1, 0], [0, 1, 2, 1], [1, 1, 2, 0], [0, 2, 3, 0]];
-    let mut cabling = ring_with_a_tail(rt.alloc(), &cables)?;
-    let advice = Advice {
-        pulls: list(rt.alloc(), &[[2, 0, 1, 1]])?,
-        kept: list(rt.alloc(), &[[0, 2, 3, 0], [0, 0, 1, 0], [2, 1, 0, 1]])?,
-    };
-    let left = [
-        cable([0, 0, 1, 0]),
-        cable([0, 1, 2, 1]),
-        cable([0, 2, 3, 0]),
-    ];
-    assert!(rt; pulls_leave(rt.alloc(), &mut cabling, 3, &advice, &left)?);
+    let mut cabling = ring_with_a_tail(rt.alloc(), IN_OTHER_ORDER)?;
+    let pulls = list(rt.alloc(), &[[2, 0, 1, 1]])?;
+    let kept = list(rt.alloc(), FROM_OTHER_ENDS)?;
+    assert!(rt; pulls_leave(rt.alloc(), &mut cabling, 3, &Advice { pulls, kept }, KEPT)?);
     Ok(())
 }

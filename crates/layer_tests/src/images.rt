@@ -3,32 +3,40 @@
 use quad_lanes::QuadList;
 use std::alloc::Global;
 use std::test::Fail;
-use topology_map::{ImageFault, MapParts, crc16, image, read_image};
+use topology_map::{ImageFault, crc16, image, read_image};
 use topology_stack::read_tree;
 
 /// The image, of generation 1, of the bus of one node that emits 807f0054.
 const ALONE: [u32; 4] = [0x0003_ca63, 1, 0x0001_0001, 0x807f_0054];
 
-/// The parts of an image.
-fn parts_of(alloc: Global, quads: &[u32]) -> Result<MapParts, Fail> {
-    Ok(read_image(alloc, quads).ok().ok_or("no image")?)
+/// Whether an image is of this generation, with so many nodes and this list.
+fn gives(alloc: Global, quads: &[u32], generation: u32, nodes: u32, list: &[u32]) -> bool {
+    match read_image(alloc, quads) {
+        Ok(parts) => {
+            parts.generation == generation
+                && u32::from(parts.nodes) == nodes
+                && parts.list.as_slice() == list
+        }
+        Err(_) => false,
+    }
+}
+
+/// Whether the image of a list's tree, of generation 1, is this one.
+fn image_is(alloc: Global, list: &[u32], quads: &[u32]) -> Result<bool, Fail> {
+    let tree = read_tree(alloc, list)?;
+    Ok(image(alloc, &tree, 1)?.as_slice() == quads)
 }
 
 #[test]
 fn one_node(rt: HostRuntime) -> Result<(), Fail> {
     assert!(rt; crc16(&ALONE[1..]) == 0xca63);
-    let tree = read_tree(rt.alloc(), &ALONE[3..])?;
-    let quads = image(rt.alloc(), &tree, 1)?;
-    assert!(rt; quads.as_slice() == ALONE.as_slice());
+    assert!(rt; image_is(rt.alloc(), &ALONE[3..], &ALONE)?);
     Ok(())
 }
 
 #[test]
-fn one_node_is_read(rt: HostRuntime) -> Result<(), Fail> {
-    let parts = parts_of(rt.alloc(), &ALONE)?;
-    assert!(rt; parts.generation == 1 && parts.nodes == 1);
-    assert!(rt; parts.list.as_slice() == &ALONE[3..]);
-    Ok(())
+fn one_node_is_read(rt: HostRuntime) {
+    assert!(rt; gives(rt.alloc(), &ALONE, 1, 1, &ALONE[3..]));
 }
 
 /// Whether an image is refused for its length.
@@ -39,19 +47,24 @@ fn length_is_wrong(alloc: Global, quads: &[u32], length: usize) -> bool {
     }
 }
 
+/// Whether an image is refused for its CRC.
+fn crc_is_wrong(alloc: Global, quads: &[u32], crc: u16, wanted: u16) -> bool {
+    match read_image(alloc, quads) {
+        Err(ImageFault::Crc { kept, computed }) => kept == crc && computed == wanted,
+        _ => false,
+    }
+}
+
+/// The image of one node with another CRC, and with another length besides.
+const OTHER_CRC: [u32; 4] = [0x0003_ca62, 1, 0x0001_0001, 0x807f_0054];
+
+const OTHER_LENGTH: [u32; 4] = [0x0004_ca62, 1, 0x0001_0001, 0x807f_0054];
+
 #[test]
 fn faults_in_their_order(rt: HostRuntime) {
-    let mut quads = ALONE;
-    quads[0] = 0x0003_ca62;
-    match read_image(rt.alloc(), &quads) {
-        Err(ImageFault::Crc { kept, computed }) => {
-            assert!(rt; kept == 0xca62 && computed == 0xca63);
-        }
-        _ => assert!(rt; false),
-    }
-    quads[0] = 0x0004_ca62;
-    assert!(rt; length_is_wrong(rt.alloc(), &quads, 4));
-    assert!(rt; length_is_wrong(rt.alloc(), &quads[..2], 2));
+    assert!(rt; crc_is_wrong(rt.alloc(), &OTHER_CRC, 0xca62, 0xca63));
+    assert!(rt; length_is_wrong(rt.alloc(), &OTHER_LENGTH, 4));
+    assert!(rt; length_is_wrong(rt.alloc(), &OTHER_LENGTH[..2], 2));
 }
 
 /// A line of this many nodes, of which the last is the root.
@@ -81,19 +94,29 @@ fn is_refused_with(alloc: Global, quads: &[u32], place: usize) -> Result<bool, F
     Ok(read_image(alloc, changed.as_slice()).is_err())
 }
 
+/// Whether an image is refused once a bit of any of its quadlets is changed.
+fn is_refused_changed(alloc: Global, quads: &[u32]) -> Result<bool, Fail> {
+    for at in 0..quads.len() {
+        if !is_refused_with(alloc, quads, at)? {
+            return Ok(false);
+        }
+    }
+    Ok(true)
+}
+
+/// Whether the image of a line is read back, and with a changed bit is refused.
+fn is_read_back(alloc: Global, nodes: u32) -> Result<bool, Fail> {
+    let list = line(alloc, nodes)?;
+    let tree = read_tree(alloc, list.as_slice())?;
+    let quads = image(alloc, &tree, 7)?;
+    let read = gives(alloc, quads.as_slice(), 7, nodes, list.as_slice());
+    Ok(read && is_refused_changed(alloc, quads.as_slice())?)
+}
+
 #[test]
 fn a_changed_bit_is_refused(rt: HostRuntime) -> Result<(), Fail> {
     for nodes in [1, 2, 16, 63] {
-        let list = line(rt.alloc(), nodes)?;
-        let tree = read_tree(rt.alloc(), list.as_slice())?;
-        let quads = image(rt.alloc(), &tree, 7)?;
-        let parts = parts_of(rt.alloc(), quads.as_slice())?;
-        assert!(rt; parts.generation == 7 && u32::from(parts.nodes) == nodes);
-        assert!(rt; parts.list.as_slice() == list.as_slice());
-        for at in 0..quads.as_slice().len() {
-            let refused = is_refused_with(rt.alloc(), quads.as_slice(), at)?;
-            assert!(rt; refused, "quadlet {at} of {nodes} nodes");
-        }
+        assert!(rt; is_read_back(rt.alloc(), nodes)?, "{nodes} nodes");
     }
     Ok(())
 }

@@ -4,8 +4,6 @@ ghost use Rattle.phy_machine.specs.PowerOn.{IsSpec};
 use phy_machine::*;
 use port_state::{Coins, Phase, PortMachine, Sends, Signal, Timing};
 use self_id::Attrs;
-use std::process::Abort;
-use std::test::Fail;
 
 // A node of three ports that draws zeros.
 fn spec() -> NodeSpec
@@ -28,22 +26,22 @@ fn spec() -> NodeSpec
     }
 }
 
-// A cable is plugged into a port.
-fn plug<M: PortMachine>(rt: &impl Abort, machine: &mut M, port: u8) -> Sends {
+// A cable is plugged into port 0; what is sent there.
+fn plug<M: PortMachine>(machine: &mut M) -> Option<Signal> {
     let view = machine.view();
-    assert!(rt; usize::from(port) < view.ports.as_slice().len());
-    assert!(rt; port < machine.ports());
-    assert!(rt; !view.ports.get(usize::from(port)).connected);
+    if view.ports.as_slice().is_empty() || machine.ports() == 0 || view.ports.get(0).connected {
+        return None;
+    }
     let mut out = Sends::new();
-    machine.plugged(port, &mut out);
-    out
+    machine.plugged(0, &mut out);
+    nth(&out, 0)
 }
 
-// A port hears a signal.
-fn hear<M: PortMachine>(rt: &impl Abort, machine: &mut M, port: u8, signal: Signal) {
-    assert!(rt; port < machine.ports());
-    let mut out = Sends::new();
-    machine.on_signal(port, signal, &mut out);
+// Port 0 hears a signal.
+fn hear<M: PortMachine>(machine: &mut M, signal: Signal) {
+    if machine.ports() > 0 {
+        machine.on_signal(0, signal, &mut Sends::new());
+    }
 }
 
 // So many ticks pass, 1 or more; what the last one sent.
@@ -58,86 +56,99 @@ fn tick<M: PortMachine>(machine: &mut M, ticks: u16) -> Sends {
 }
 
 // What port 0 hears, if anything, how many ticks pass then, and what the last of them sends there.
-#[derive(Clone, Copy)]
-struct Step {
-    heard: Option<Signal>,
-    ticks: u16,
-    sent: [Option<Signal>; 2],
-}
-
-fn after(heard: Option<Signal>, ticks: u16, first: Option<Signal>, second: Option<Signal>) -> Step {
-    Step {
-        heard,
-        ticks,
-        sent: [first, second],
-    }
-}
+type Step = (Option<Signal>, u16, [Option<Signal>; 2]);
 
 fn nth(out: &Sends, at: usize) -> Option<Signal> {
-    out.as_slice().get(at).map(|sent| sent.1)
+    match out.as_slice().get(at) {
+        Some(sent) => Some(sent.1),
+        None => None,
+    }
 }
 
-// A machine is plugged at port 0, passes over all of its reset but the last tick, and does these steps.
-fn play<M: PortMachine + Drop>(rt: &impl Abort, mut machine: M, steps: &[Step]) -> M {
-    assert!(rt; nth(&plug(rt, &mut machine, 0), 0) == Some(Signal::Reset));
-    assert!(rt; machine.idle_for() == 63);
+// Whether a machine sends in a step what the step says.
+fn takes<M: PortMachine>(machine: &mut M, step: Step) -> bool {
+    let (heard, ticks, sent) = step;
+    if let Some(signal) = heard {
+        hear(machine, signal);
+    }
+    let out = tick(machine, ticks);
+    nth(&out, 0) == sent[0] && nth(&out, 1) == sent[1]
+}
+
+// Whether a machine that is plugged at port 0, and passes over all of its reset but the last tick, takes
+// these steps.
+fn plays<M: PortMachine>(machine: &mut M, steps: &[Step]) -> bool {
+    if plug(machine) != Some(Signal::Reset) || machine.idle_for() != 63 {
+        return false;
+    }
     machine.pass(63);
     for step in steps {
-        if let Some(signal) = step.heard {
-            hear(rt, &mut machine, 0, signal);
+        if !takes(machine, *step) {
+            return false;
         }
-        let out = tick(&mut machine, step.ticks);
-        assert!(rt; nth(&out, 0) == step.sent[0] && nth(&out, 1) == step.sent[1]);
     }
-    machine
+    true
 }
 
 // The upper of two nodes: its neighbour asks it to be its parent, and names itself first.
-fn becomes_root<M: PortMachine + Drop>(rt: &impl Abort, machine: M) {
-    let packet = Signal::Packet(0x817f_80d6);
-    let steps = [
-        after(None, 1, Some(Signal::Idle), None),
-        after(Some(Signal::Idle), 1, None, None),
-        after(Some(Signal::Parent), 1, Some(Signal::Child), None),
-        after(Some(Signal::Idle), 1, None, None),
-        after(None, 1, None, None),
-        after(None, 1, Some(Signal::Grant), None),
-        after(Some(Signal::Packet(0x807f_8096)), 1, None, None),
-        after(Some(Signal::Done), 1, Some(packet), None),
-    ];
-    let machine = play(rt, machine, &steps);
+const TO_ROOT: [Step; 8] = [
+    (None, 1, [Some(Signal::Idle), None]),
+    (Some(Signal::Idle), 1, [None, None]),
+    (Some(Signal::Parent), 1, [Some(Signal::Child), None]),
+    (Some(Signal::Idle), 1, [None, None]),
+    (None, 1, [None, None]),
+    (None, 1, [Some(Signal::Grant), None]),
+    (Some(Signal::Packet(0x807f_8096)), 1, [None, None]),
+    (
+        Some(Signal::Done),
+        1,
+        [Some(Signal::Packet(0x817f_80d6)), None],
+    ),
+];
+
+fn becomes_root<M: PortMachine + Drop>(mut machine: M) -> bool {
+    let steps = TO_ROOT;
+    if !plays(&mut machine, &steps) {
+        return false;
+    }
     let view = machine.view();
-    assert!(rt; view.phase == Phase::Ready && view.id == Some(1));
-    assert!(rt; machine.list() == [0x807f_8096, 0x817f_80d6].as_slice());
-    assert!(rt; machine.idle_for() == 4_000_000);
+    view.phase == Phase::Ready
+        && view.id == Some(1)
+        && machine.list() == [0x807f_8096, 0x817f_80d6].as_slice()
+        && machine.idle_for() == 4_000_000
 }
 
 // The lower of two nodes that asked each other: it draws 0, waits 3 ticks and asks again.
-fn contends<M: PortMachine + Drop>(rt: &impl Abort, machine: M) {
-    let packet = Signal::Packet(0x807f_8096);
-    let steps = [
-        after(None, 1, Some(Signal::Idle), None),
-        after(Some(Signal::Idle), 1, None, None),
-        after(None, 1, Some(Signal::Parent), None),
-        after(None, 1, None, None),
-        after(Some(Signal::Parent), 1, Some(Signal::Idle), None),
-        after(Some(Signal::Idle), 3, Some(Signal::Parent), None),
-        after(Some(Signal::Child), 1, Some(Signal::Idle), None),
-        after(Some(Signal::Grant), 1, Some(packet), Some(Signal::Done)),
-    ];
-    let machine = play(rt, machine, &steps);
+const TO_CHILD: [Step; 8] = [
+    (None, 1, [Some(Signal::Idle), None]),
+    (Some(Signal::Idle), 1, [None, None]),
+    (None, 1, [Some(Signal::Parent), None]),
+    (None, 1, [None, None]),
+    (Some(Signal::Parent), 1, [Some(Signal::Idle), None]),
+    (Some(Signal::Idle), 3, [Some(Signal::Parent), None]),
+    (Some(Signal::Child), 1, [Some(Signal::Idle), None]),
+    (
+        Some(Signal::Grant),
+        1,
+        [Some(Signal::Packet(0x807f_8096)), Some(Signal::Done)],
+    ),
+];
+
+fn contends<M: PortMachine + Drop>(mut machine: M) -> bool {
+    let steps = TO_CHILD;
+    if !plays(&mut machine, &steps) {
+        return false;
+    }
     let view = machine.view();
-    assert!(rt; view.id == Some(0) && view.draws == 1);
-    assert!(rt; machine.list() == [0x807f_8096].as_slice());
+    view.id == Some(0) && view.draws == 1 && machine.list() == [0x807f_8096].as_slice()
 }
 
 #[test]
-fn two_nodes(rt: HostRuntime) -> Result<(), Fail> {
-    becomes_root(&rt, FieldMachine::new(spec()));
-    becomes_root(&rt, PackedMachine::new(spec()));
-    becomes_root(&rt, AnyMachine::Field(FieldMachine::new(spec())));
-    contends(&rt, FieldMachine::new(spec()));
-    contends(&rt, PackedMachine::new(spec()));
-    contends(&rt, AnyMachine::Packed(PackedMachine::new(spec())));
-    Ok(())
+fn two_nodes(rt: HostRuntime) {
+    assert!(rt; becomes_root(FieldMachine::new(spec())));
+    assert!(rt; becomes_root(PackedMachine::new(spec())));
+    assert!(rt; becomes_root(AnyMachine::Field(FieldMachine::new(spec()))));
+    assert!(rt; contends(FieldMachine::new(spec())));
+    assert!(rt; contends(PackedMachine::new(spec())));
+    assert!(rt; contends(AnyMachine::Packed(PackedMachine::new(spec()))));
 }

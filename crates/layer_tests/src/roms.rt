@@ -44,23 +44,29 @@ leaf 8 length 3 crc good
 blocks 2
 ";
 
-#[test]
-fn reads_and_writes(rt: HostRuntime) -> Result<(), Fail> {
-    let bytes = bytes_of(rt.alloc(), &CAMERA)?;
-    let rom = decode_rom(rt.alloc(), &bytes)?;
-    assert!(rt; rom.quads() == CAMERA.as_slice());
-    let written = encode_rom(rt.alloc(), &rom)?;
-    assert!(rt; written.as_slice() == bytes.as_slice());
-    Ok(())
+/// The ROM of these quadlets.
+fn rom_of(alloc: Global, quads: &[u32]) -> Result<Rom, Fail> {
+    let bytes = bytes_of(alloc, quads)?;
+    Ok(decode_rom(alloc, &bytes)?)
+}
+
+/// Whether these are the quadlets of a ROM, and their bytes what it is written as.
+fn is_written(alloc: Global, rom: &Rom, quads: &[u32]) -> Result<bool, Fail> {
+    let bytes = bytes_of(alloc, quads)?;
+    Ok(rom.quads() == quads && encode_rom(alloc, rom)?.as_slice() == bytes.as_slice())
+}
+
+/// Whether this is said of a ROM.
+fn text_is(alloc: Global, rom: &Rom, text: &[u8]) -> Result<bool, Fail> {
+    let list = blocks(alloc, rom)?;
+    Ok(rom_text(alloc, rom, &list)?.as_slice() == text)
 }
 
 #[test]
-fn is_told(rt: HostRuntime) -> Result<(), Fail> {
-    let bytes = bytes_of(rt.alloc(), &CAMERA)?;
-    let rom = decode_rom(rt.alloc(), &bytes)?;
-    let list = blocks(rt.alloc(), &rom)?;
-    let text = rom_text(rt.alloc(), &rom, &list)?;
-    assert!(rt; text.as_slice() == TEXT);
+fn reads_writes_and_tells(rt: HostRuntime) -> Result<(), Fail> {
+    let rom = rom_of(rt.alloc(), &CAMERA)?;
+    assert!(rt; is_written(rt.alloc(), &rom, &CAMERA)?);
+    assert!(rt; text_is(rt.alloc(), &rom, TEXT)?);
     Ok(())
 }
 
@@ -73,19 +79,39 @@ fn is_camera_sealed(rom: &mut Rom) -> bool {
     rom.quads() == CAMERA.as_slice()
 }
 
+/// The head of the camera's ROM with another CRC.
+const OTHER_CRC: u32 = 0x0404_7a4c;
+
+const BAD: CrcState = CrcState::Bad {
+    kept: 0x7a4c,
+    computed: 0x7a4b,
+};
+
 #[test]
 fn seals(rt: HostRuntime) -> Result<(), Fail> {
     let mut quads = CAMERA;
-    quads[0] = 0x0404_7a4c;
-    let bytes = bytes_of(rt.alloc(), &quads)?;
-    let mut rom = decode_rom(rt.alloc(), &bytes)?;
-    let bad = CrcState::Bad {
-        kept: 0x7a4c,
-        computed: 0x7a4b,
-    };
-    assert!(rt; rom.info_crc() == bad);
-    assert!(rt; is_camera_sealed(&mut rom));
+    quads[0] = OTHER_CRC;
+    let mut rom = rom_of(rt.alloc(), &quads)?;
+    assert!(rt; rom.info_crc() == BAD && is_camera_sealed(&mut rom));
     Ok(())
+}
+
+/// Whether a ROM is the camera's once each of its blocks is sealed.
+fn is_camera_with_sealed_blocks(rom: &mut Rom) -> bool {
+    if usize::from(rom.crc_length()) >= rom.quads().len() {
+        return false;
+    }
+    seal_blocks(rom).is_ok() && rom.quads() == CAMERA.as_slice()
+}
+
+/// Whether the places and the CRCs of a ROM's blocks are these.
+fn crcs_are(alloc: Global, rom: &Rom, wanted: &[(u16, CrcState)]) -> Result<bool, Fail> {
+    let mut states = Vec::new(alloc);
+    let list = blocks(alloc, rom)?;
+    for block in list.as_slice() {
+        states.push((block.at, block.crc))?;
+    }
+    Ok(states.as_slice() == wanted)
 }
 
 // The camera's ROM without a CRC in any header.
@@ -95,55 +121,51 @@ fn seals_each_block(rt: HostRuntime) -> Result<(), Fail> {
     quads[0] = 0x0404_0000;
     quads[5] = 0x0002_0000;
     quads[8] = 0x0003_0000;
-    let bytes = bytes_of(rt.alloc(), &quads)?;
-    let mut rom = decode_rom(rt.alloc(), &bytes)?;
-    let within = usize::from(rom.crc_length()) < rom.quads().len();
-    assert!(rt; within);
-    assert_eq!(rt; seal_blocks(&mut rom), Ok(()));
-    assert_eq!(rt; rom.quads(), CAMERA.as_slice());
-    let list = blocks(rt.alloc(), &rom)?;
-    let mut states = Vec::new(rt.alloc());
-    for block in list.as_slice() {
-        states.push((block.at, block.crc))?;
-    }
-    assert_eq!(rt;
-        states.as_slice(),
-        [(5, CrcState::Good), (8, CrcState::Good)].as_slice()
-    );
+    let mut rom = rom_of(rt.alloc(), &quads)?;
+    assert!(rt; is_camera_with_sealed_blocks(&mut rom));
+    let wanted = [(5, CrcState::Good), (8, CrcState::Good)];
+    assert!(rt; crcs_are(rt.alloc(), &rom, &wanted)?);
     Ok(())
 }
 
-// Two entries of the root directory lead to one place, as a directory and as a leaf, and two lead
-// to one leaf.
-#[test]
-fn blocks_are_shared(rt: HostRuntime) -> Result<(), Fail> {
-    let quads = [
-        0x0200_0000,
-        0x3133_3934,
-        0,
-        0x0004_0000,
-        0xc100_0004,
-        0x8100_0003,
-        0x8200_0004,
-        0x8300_0003,
-        0x0001_0000,
-        0x0000_0000,
-        0x0000_0000,
-    ];
-    let bytes = bytes_of(rt.alloc(), &quads)?;
-    let rom = decode_rom(rt.alloc(), &bytes)?;
-    let list = blocks(rt.alloc(), &rom)?;
-    let mut places = Vec::new(rt.alloc());
+/// Two entries of the root directory lead to one place, as a directory and as a leaf, and two lead
+/// to one leaf.
+const SHARED: &[u32] = &[
+    0x0200_0000,
+    0x3133_3934,
+    0,
+    0x0004_0000,
+    0xc100_0004,
+    0x8100_0003,
+    0x8200_0004,
+    0x8300_0003,
+    0x0001_0000,
+    0x0000_0000,
+    0x0000_0000,
+];
+
+/// What stands where in it.
+const PLACES: &[(BlockKind, u16)] = &[
+    (BlockKind::Directory, 3),
+    (BlockKind::Directory, 8),
+    (BlockKind::Leaf, 8),
+    (BlockKind::Leaf, 10),
+];
+
+/// Whether the kinds and the places of a ROM's blocks are these.
+fn places_are(alloc: Global, rom: &Rom, wanted: &[(BlockKind, u16)]) -> Result<bool, Fail> {
+    let mut places = Vec::new(alloc);
+    let list = blocks(alloc, rom)?;
     for block in list.as_slice() {
         places.push((block.kind, block.at))?;
     }
-    let wanted = [
-        (BlockKind::Directory, 3),
-        (BlockKind::Directory, 8),
-        (BlockKind::Leaf, 8),
-        (BlockKind::Leaf, 10),
-    ];
-    assert!(rt; places.as_slice() == wanted.as_slice());
+    Ok(places.as_slice() == wanted)
+}
+
+#[test]
+fn blocks_are_shared(rt: HostRuntime) -> Result<(), Fail> {
+    let rom = rom_of(rt.alloc(), SHARED)?;
+    assert!(rt; places_are(rt.alloc(), &rom, PLACES)?);
     Ok(())
 }
 
@@ -158,39 +180,38 @@ fn made(alloc: Global) -> Result<Rom, Fail> {
     Ok(Rom::new(alloc, &INFO, 4, &ENTRIES, &LEAF)?)
 }
 
+/// Whether a ROM has these parts.
+fn has_parts(rom: &Rom, info: &[u32], entries: &[u32], rest: &[u32]) -> bool {
+    rom.info() == info && rom.entries() == entries && rom.rest() == rest
+}
+
 #[test]
 fn made_of_parts(rt: HostRuntime) -> Result<(), Fail> {
     let mut rom = made(rt.alloc())?;
-    assert!(rt; rom.info() == INFO.as_slice());
-    assert!(rt; rom.entries() == ENTRIES.as_slice() && rom.rest() == LEAF.as_slice());
-    assert!(rt; is_camera_sealed(&mut rom));
+    assert!(rt; has_parts(&rom, &INFO, &ENTRIES, &LEAF) && is_camera_sealed(&mut rom));
     Ok(())
 }
 
-#[test]
-fn entries(rt: HostRuntime) -> Result<(), Fail> {
-    let rom = made(rt.alloc())?;
-    let leaf = Entry {
-        entry_type: EntryType::Leaf,
-        key: 1,
-        value: 1,
-        target: Some(8),
-    };
-    let vendor = Entry {
-        entry_type: EntryType::Immediate,
-        key: 3,
-        value: 0xffff,
-        target: None,
-    };
-    assert!(rt; rom.quads().len() == 12);
-    assert!(rt; rom.entry(7) == leaf && rom.entry(6) == vendor);
-    Ok(())
-}
+/// The last entry and the first.
+const TO_LEAF: Entry = Entry {
+    entry_type: EntryType::Leaf,
+    key: 1,
+    value: 1,
+    target: Some(8),
+};
+
+const VENDOR: Entry = Entry {
+    entry_type: EntryType::Immediate,
+    key: 3,
+    value: 0xffff,
+    target: None,
+};
 
 #[test]
-fn set(rt: HostRuntime) -> Result<(), Fail> {
+fn entries_and_quadlets(rt: HostRuntime) -> Result<(), Fail> {
     let mut rom = made(rt.alloc())?;
     assert!(rt; rom.info_len() == 4 && rom.quads().len() == 12);
+    assert!(rt; rom.entry(7) == TO_LEAF && rom.entry(6) == VENDOR);
     rom.set_quad(6, 0x0300_fffe);
     assert!(rt; rom.quads()[5] == 0x0002_0000 && rom.quads()[6] == 0x0300_fffe);
     Ok(())
