@@ -1,11 +1,11 @@
 -- A reader of a dump, byte by byte.
-use Rattle.std.proofs.Common.{◌≡◌, ◌∙◌, ℕ, zero, suc, ◌+◌, ◌-◌, ◌<◌, ◌≤◌, ◌^◌, Bool, false, ◌||◌, Option, Some, None, List, [], ◌∷◌, ◌++◌, length, take, drop, refl, sym, ap, subst, append_assoc, length-append, arith}
+use Rattle.std.proofs.Common.{◌≡◌, ◌∙◌, ℕ, ◌+◌, ◌-◌, ◌<◌, ◌≤◌, ◌^◌, Bool, false, ◌||◌, Option, Some, None, List, [], ◌∷◌, ◌++◌, length, take, drop, refl, sym, ap, subst, append_assoc, append-nil, length-append, arith}
 use Rattle.std.specs.Prelude.{is_some, slice_index}
 use Rattle.std.specs.Io.KnownBytes.{Appends}
 use Rattle.io_edges.specs.Told.{StayTold}
 use Rattle.topology_stack.specs.Tree.{Tree}
 use Rattle.reset_log.specs.InOrder.{AreTold}
-use Rattle.reset_log.proofs.Lemmas.{appends_then}
+use Rattle.reset_log.proofs.Lemmas.{appends_then, split_at}
 use Rattle.nosy_dump.specs.declared.dump.DumpReader.{DumpReader}
 use Rattle.nosy_dump.specs.declared.record.Record.TheVariants.{Reset, SelfId, Other}
 use Rattle.nosy_dump.specs.declared.record.DumpReset.{DumpReset}
@@ -16,7 +16,7 @@ use Rattle.nosy_dump.specs.Resets.{resets_from}
 use Rattle.nosy_dump.specs.Texts.{fault_text}
 use Rattle.nosy_dump.specs.Dump.{IsResetShown, IsWritten, IsBegunWritten, but_last}
 use Rattle.nosy_dump.specs.codings.Going.{AreResets, Stands, IsWhole, HasBadLength, ShowsBy, with_packet, Goes}
-use Rattle.nosy_dump.proofs.Records.{no_more, dump_more, sized_more, few_records, more_size, resets_other, resets_reset, resets_packet, last_more, last_none, last_with, few_resets, but_last-more}
+use Rattle.nosy_dump.proofs.Records.{dump_more, sized_more, few_records, more_size, resets_other, resets_reset, resets_packet, last_more, last_none, last_with, few_resets, but_last-more}
 use Rattle.nosy_dump.proofs.Waiting.{AllShown, few_ended, all_shown}
 
 -- ---- the bytes behind the whole records
@@ -82,15 +82,15 @@ at_start r told part pending tree number taken bad = record {
   where
     nothing : (a : Option (List ℕ)) → Appends a a []
     nothing None = tt
-    nothing (Some xs) = sym (no_more xs)
+    nothing (Some xs) = sym (append-nil xs)
 
 -- ---- a whole record
 
-whole_done : (records : List (List ℕ)) (part done : List ℕ) → done ≡ dump_of records ++ part →
+pub whole_done : (records : List (List ℕ)) (part done : List ℕ) → done ≡ dump_of records ++ part →
     part ≡ record_bytes (drop 4 part) → done ≡ dump_of (records ++ drop 4 part ∷ []) ++ []
 whole_done records part done e w =
     e ∙ ap (λ (o : List ℕ). dump_of records ++ o) w ∙ sym (dump_more records (drop 4 part))
-    ∙ sym (no_more (dump_of (records ++ drop 4 part ∷ [])))
+    ∙ sym (append-nil (dump_of (records ++ drop 4 part ∷ [])))
 
 pub after_other : (old new : DumpReader) (done : List ℕ) (start was : Option (List ℕ)) →
     Stands IsWhole old done start was → record_of (drop 4 old.part.items) ≡ Other →
@@ -161,7 +161,7 @@ place_of old Holds done start was byte st e =
     let d : length done ≡ length (dump_of st.records) + length old.part.items = ap (λ (l : List ℕ). length l) st.done_is ∙ length-append (dump_of st.records) old.part.items in
     omega (arith, d, e, st.taken_is)
 
-shown_now : (old : DumpReader) (Holds : List ℕ → Type 0) (done : List ℕ) (start was is : Option (List ℕ)) (m : ℕ) (u : Option Tree) (c : Bool) →
+pub shown_now : (old : DumpReader) (Holds : List ℕ → Type 0) (done : List ℕ) (start was is : Option (List ℕ)) (m : ℕ) (u : Option Tree) (c : Bool) →
     (st : Stands Holds old done start was) → length done ≤ 67108864 → StayTold was is →
     ShowsBy old.standard old.pending old.number old.tree old.bad m u c was is →
     AllShown old.standard st.records start is m u c
@@ -264,7 +264,7 @@ pub stopped : (s : DumpReader) (done bytes : List ℕ) (at size : ℕ) (start is
     Goes (Some size) s ((done ++ take at bytes) ++ slice_index bytes at ∷ []) start is → at < length bytes →
     Goes (Some size) s (done ++ bytes) start is
 stopped s done bytes at size start is goes few =
-    let all : bytes ≡ (take at bytes ++ slice_index bytes at ∷ []) ++ drop (at + 1) bytes = split bytes at few in (
+    let all : bytes ≡ (take at bytes ++ slice_index bytes at ∷ []) ++ drop (at + 1) bytes = split_at bytes at few in (
       goes.0,
       goes.1 ++ drop (at + 1) bytes,
       ap (λ (b : List ℕ). done ++ b) all
@@ -273,22 +273,3 @@ stopped s done bytes at size start is goes few =
           ∙ append_assoc goes.0 goes.1 (drop (at + 1) bytes),
       goes.3,
     )
-  where
-    split : (bs : List ℕ) (i : ℕ) → i < length bs →
-        bs ≡ (take i bs ++ slice_index bs i ∷ []) ++ drop (i + 1) bs
-    split [] i h = absurd (omega (arith, h))
-    split (b ∷ bs) zero h = refl
-    split (b ∷ bs) (suc i) h =
-        let next : suc i + 1 ≡ suc (i + 1) = omega arith in
-        rw next (ap (λ (l : List ℕ). b ∷ l) (split bs i (omega (arith, h))))
-
-pub few_front : (done bytes : List ℕ) (at : ℕ) → length done + length bytes ≤ 67108864 →
-    at < length bytes → length (done ++ take at bytes) < 67108864
-few_front done bytes at few within =
-    let front : length (take at bytes) ≤ at = shorter at bytes in
-    omega (arith, few, within, front, length-append done (take at bytes))
-  where
-    shorter : (n : ℕ) (xs : List ℕ) → length (take n xs) ≤ n
-    shorter zero xs = omega arith
-    shorter (suc n) [] = omega arith
-    shorter (suc n) (x ∷ xs) = omega (arith, shorter n xs)

@@ -4,3 +4,5 @@ pub mod Waiting
 pub mod Shown
 pub mod Going
 pub mod Reading
+pub mod OneText
+pub mod Fronts

@@ -1,17 +1,16 @@
 -- A dump as its reader goes over it, to the end.
-use Rattle.std.proofs.Common.{◌≡◌, ◌∙◌, ℕ, ◌+◌, ◌-◌, ◌<◌, ◌≤◌, Bool, false, Result, Ok, Err, Option, Some, None, List, [], ◌++◌, length, refl, sym, ap, subst, append_assoc, length-append, arith}
+use Rattle.std.proofs.Common.{◌≡◌, ◌∙◌, ℕ, ◌+◌, ◌-◌, ◌<◌, ◌≤◌, Bool, false, Result, Ok, Err, Option, Some, None, List, [], ◌++◌, length, refl, sym, ap, subst, append_assoc, append-nil, length-append, arith}
 use Rattle.std.specs.Prelude.{IfSome, IfOk}
 use Rattle.std.specs.Io.KnownBytes.{Consumes, Keeps, IsAtEnd}
 use Rattle.io_edges.specs.Told.{StayTold}
 use Rattle.self_id.specs.declared.standard.Standard.{Standard}
-use Rattle.reset_log.proofs.Lemmas.{consumes_then, nothing_came, all_came}
+use Rattle.reset_log.proofs.Lemmas.{consumes_then, nothing_came, all_came, still_came}
 use Rattle.nosy_dump.specs.declared.dump.DumpReader.{DumpReader}
 use Rattle.nosy_dump.specs.declared.record.DumpFault.{DumpFault}
 use Rattle.nosy_dump.specs.declared.record.DumpFault.TheVariants.{BadLength}
 use Rattle.nosy_dump.specs.Record.{IsOpen, EndsSo}
 use Rattle.nosy_dump.specs.Dump.{IsWritten, IsBegunWritten}
 use Rattle.nosy_dump.specs.codings.Going.{Stands, HasBadLength, Goes, Reads}
-use Rattle.nosy_dump.proofs.Records.{no_more}
 use Rattle.nosy_dump.proofs.Going.{holds_now, bad_length, begun}
 
 pub at_first : (r : DumpReader) (standard : Standard) (first was : Option (List ℕ)) (a b : ℕ) →
@@ -29,7 +28,7 @@ at_first r standard first was a b st same = record {
 }
 
 -- there is room for a piece
-room : (r : DumpReader) (standard : Standard) (first now was is : Option (List ℕ)) (a b d e : ℕ) (piece : List ℕ) →
+pub room : (r : DumpReader) (standard : Standard) (first now was is : Option (List ℕ)) (a b d e : ℕ) (piece : List ℕ) →
     (h : Reads r standard first now was is a b d e) → length piece ≤ 67108864 - r.taken →
     length h.done + length piece ≤ 67108864
 room r standard first now was is a b d e piece h fits = omega (arith, h.stands.taken_is, fits, h.small)
@@ -72,13 +71,6 @@ waited r standard first now next was is a b d e h still = (
   still_came first now next h.done h.told h.came still,
   subst (λ (s : Standard). IsBegunWritten s was is h.done) h.same (begun r h.done was is h.stands),
 )
-  where
-    still_came : (x y z : Option (List ℕ)) (done : List ℕ) → StayTold x y → Consumes x y done → Keeps y z →
-        Consumes x z done
-    still_came None y z done told came keeps = tt
-    still_came (Some xs) None z done told came keeps = absurd came
-    still_came (Some xs) (Some ys) None done told came keeps = absurd keeps
-    still_came (Some xs) (Some ys) (Some zs) done told came keeps = came ∙ ap (λ (l : List ℕ). done ++ l) (sym keeps)
 
 -- a fact on what is answered
 pub map_ok : {A E : Type 0} (r : Result A E) (P Q : A → Type 0) → ((x : A) → P x → Q x) → IfOk r P →
@@ -102,9 +94,9 @@ whole r standard first now next was is will a b d e fault bad h none end fit the
     let ended = then h.done [] was h.small (holds_now IsOpen (λ bytes. EndsSo (bytes ++ []) fault) r h.done was is fit h.stands) in
     all_came first now next h.done (λ dump. IsWritten standard was will dump bad) h.came h.told none end
     (subst (λ (s : Standard). IsWritten s was will h.done bad) h.same
-    (subst (λ (d : List ℕ). IsWritten r.standard was will d bad) (no_more h.done) ended))
+    (subst (λ (d : List ℕ). IsWritten r.standard was will d bad) (append-nil h.done) ended))
 
-dump_left : (first now next : Option (List ℕ)) (xs ys : List ℕ) (P : List ℕ → Type 0) →
+pub dump_left : (first now next : Option (List ℕ)) (xs ys : List ℕ) (P : List ℕ → Type 0) →
     Consumes first now xs → Consumes now next ys → StayTold first now → StayTold now next →
     ((left : List ℕ) → P ((xs ++ ys) ++ left)) → IfSome first P
 dump_left None now next xs ys P p q told still each = tt

@@ -1,5 +1,5 @@
 -- One record more, and what that does to the resets.
-use Rattle.std.proofs.Common.{◌≡◌, ◌∙◌, ℕ, zero, suc, ◌+◌, ◌-◌, ◌≤◌, true, Some, List, [], ◌∷◌, ◌++◌, length, take, drop, refl, sym, ap, append_assoc, length-append, arith}
+use Rattle.std.proofs.Common.{◌≡◌, ◌∙◌, ℕ, suc, ◌+◌, ◌-◌, ◌≤◌, true, Some, List, [], ◌∷◌, ◌++◌, length, take, refl, sym, ap, append_assoc, append-nil, length-append, take_at, arith}
 use Rattle.nosy_dump.specs.declared.record.Record.{Record}
 use Rattle.nosy_dump.specs.declared.record.Record.TheVariants.{Reset, SelfId, Other}
 use Rattle.nosy_dump.specs.declared.record.DumpReset.{DumpReset}
@@ -9,13 +9,9 @@ use Rattle.nosy_dump.specs.Dump.{but_last}
 
 -- ---- bytes
 
-pub no_more : {X : Type 0} (xs : List X) → xs ++ [] ≡ xs
-no_more [] = refl
-no_more {X = X} (x ∷ xs) = ap (λ (ys : List X). x ∷ ys) (no_more xs)
-
 pub dump_more : (rs : List (List ℕ)) (r : List ℕ) →
     dump_of (rs ++ r ∷ []) ≡ dump_of rs ++ record_bytes r
-dump_more [] r = no_more (record_bytes r)
+dump_more [] r = append-nil (record_bytes r)
 dump_more (s ∷ rs) r =
     ap (λ (bytes : List ℕ). record_bytes s ++ bytes) (dump_more rs r)
     ∙ sym (append_assoc (record_bytes s) (dump_of rs) (record_bytes r))
@@ -171,30 +167,7 @@ few_resets byte (r ∷ rs) = go (record_of r) (few_resets (byte + (4 + length r)
     go (SelfId x) h = omega (arith, h)
     go Other h = omega (arith, h)
 
-front : (xs : List DumpReset) (p : DumpReset) → take (length xs) (xs ++ p ∷ []) ≡ xs
-front [] p = refl
-front (x ∷ xs) p = ap (λ (l : List DumpReset). x ∷ l) (front xs p)
-
 pub but_last-more : (ended : List DumpReset) (p : DumpReset) → but_last (ended ++ p ∷ []) ≡ ended
 but_last-more ended p =
     let size : length (ended ++ p ∷ []) - 1 ≡ length ended = omega (arith, length-append ended (p ∷ [])) in
-    ap (λ (n : ℕ). take n (ended ++ p ∷ [])) size ∙ front ended p
-
--- ---- what stands behind a length
-
-take_all : (xs : List ℕ) → take (length xs) xs ≡ xs
-take_all [] = refl
-take_all (x ∷ xs) = ap (λ (l : List ℕ). x ∷ l) (take_all xs)
-
-take_none : (n : ℕ) → take {A = ℕ} n [] ≡ []
-take_none zero = refl
-take_none (suc n) = refl
-
-pub behind_four : (xs : List ℕ) → take (length xs - 4) (drop 4 xs) ≡ drop 4 xs
-behind_four [] = take_none (length {A = ℕ} [] - 4)
-behind_four (a ∷ []) = take_none (length {A = ℕ} (a ∷ []) - 4)
-behind_four (a ∷ b ∷ []) = take_none (length {A = ℕ} (a ∷ b ∷ []) - 4)
-behind_four (a ∷ b ∷ c ∷ []) = take_none (length {A = ℕ} (a ∷ b ∷ c ∷ []) - 4)
-behind_four (a ∷ b ∷ c ∷ d ∷ xs) =
-    let size : length (a ∷ b ∷ c ∷ d ∷ xs) - 4 ≡ length xs = omega arith in
-    ap (λ (n : ℕ). take n xs) size ∙ take_all xs
+    ap (λ (n : ℕ). take n (ended ++ p ∷ [])) size ∙ take_at ended (p ∷ []) (length ended) refl

@@ -1,6 +1,7 @@
 -- A reset was shown, and a byte was kept.
 use Rattle.std.proofs.Common.{◌≡◌, ℕ, ◌+◌, ◌<◌, ◌≤◌, ◌^◌, Bool, true, ◌||◌, is_none, Option, Some, None, List, [], ◌∷◌, ◌++◌, length, refl, sym, subst, length-append, arith}
 use Rattle.std.specs.Io.KnownBytes.{Appends}
+use Rattle.io_edges.specs.Told.{AppendsStart}
 use Rattle.self_id.specs.declared.standard.Standard.{Standard}
 use Rattle.topology_stack.specs.Tree.{Tree}
 use Rattle.reset_log.specs.declared.line.Origin.TheVariants.{Core}
@@ -9,7 +10,7 @@ use Rattle.nosy_dump.specs.declared.record.DumpReset.{DumpReset}
 use Rattle.nosy_dump.specs.Record.{is_size, size_of, IsBelow, IsOpen}
 use Rattle.nosy_dump.specs.Texts.{head}
 use Rattle.nosy_dump.specs.Dump.{last_heard}
-use Rattle.nosy_dump.specs.codings.Going.{ShowsReset}
+use Rattle.nosy_dump.specs.codings.Going.{ShowsReset, ShowsPart}
 
 pub shows_one : (standard : Standard) (p : DumpReset) (n m : ℕ) (t u : Option Tree) (b c : Bool) (was is : Option (List ℕ)) (front list text bytes : List ℕ) (before heard : Option Tree) →
     front ≡ head n p → list ≡ p.list → before ≡ t →
@@ -57,3 +58,24 @@ none_yet xs e = subst (λ (s : Option ℕ). IsBelow s (length xs)) (sym e) tt
 pub goes_on : (xs : List ℕ) (size : ℕ) → size_of xs ≡ Some size → is_size size ≡ true →
     length xs < size + 4 → IsOpen xs
 goes_on xs size e fits few = subst (λ (s : Option ℕ). IsBelow s (length xs)) (sym e) (fits, few)
+
+-- a reset wasn't shown whole
+pub shows_part : (standard : Standard) (p : DumpReset) (n : ℕ) (t : Option Tree) (was is : Option (List ℕ)) (front list text bytes : List ℕ) (before heard : Option Tree) →
+    front ≡ head n p → list ≡ p.list → before ≡ t →
+    IsListShown standard Core front list before text heard → bytes ≡ text →
+    AppendsStart was is bytes → ShowsPart standard p n t was is
+shows_part standard p n t was is front list text bytes before heard is_front is_list is_before shown same wrote = record {
+  text = text;
+  here = is_none heard;
+  known = last_heard t heard;
+  shown = record {
+    heard = heard;
+    shown =
+        subst (λ (f : List ℕ). IsListShown standard Core f p.list t text heard) is_front
+        (subst (λ (l : List ℕ). IsListShown standard Core front l t text heard) is_list
+        (subst (λ (x : Option Tree). IsListShown standard Core front list x text heard) is_before shown));
+    bad_is = refl;
+    after_is = refl;
+  };
+  wrote = subst (λ (l : List ℕ). AppendsStart was is l) same wrote;
+}

@@ -1,12 +1,13 @@
 //! Showing a dump as it comes.
-ghost use Rattle.std.specs.Prelude.{◌≡◌, ◌<◌, ◌≤◌, ◌+◌, ◌++◌, ◌∷◌, ◌||◌, [], ℕ, false, is_none, is_some, List, Option, None, length, alloc_error, OnOk, IfOk, IfErr, IfSome, IsErrOf};
+ghost use Rattle.std.specs.Prelude.{◌≡◌, ◌⊎◌, ◌↔◌, ◌<◌, ◌≤◌, ◌+◌, ◌++◌, ◌∷◌, ◌||◌, [], ℕ, false, is_none, is_some, List, Option, None, length, alloc_error, OnOk, OnErr, IfOk, IfErr, IfSome, IsErr, IsErrOf};
 ghost use Rattle.std.specs.Io.KnownBytes.{IsAtEnd, Appends, Consumes};
 ghost use Rattle.io_edges.specs.Faults.{Rose};
-ghost use Rattle.io_edges.specs.Told.{StayTold, IfTold, TookOver};
+ghost use Rattle.io_edges.specs.Told.{StayTold, AppendsStart, IfTold, TookOver};
 ghost use Rattle.reset_log.specs.Cause.{StoppedWriting};
+ghost use Rattle.reset_log.specs.Answered.{IsExact, IsComplete, IsFront};
 ghost use Rattle.nosy_dump.specs.Record.{IsOpen, EndsSo};
-ghost use Rattle.nosy_dump.specs.Dump.{last_heard, IsWritten, IsBegunWritten};
-ghost use Rattle.nosy_dump.specs.codings.Going.{Stands, IsWhole, ShowsReset, Shows, Begins, Keeps, Goes};
+ghost use Rattle.nosy_dump.specs.Dump.{last_heard, IsDumpShown, IsWritten, IsBegunWritten};
+ghost use Rattle.nosy_dump.specs.codings.Going.{Stands, IsWhole, ShowsReset, Shows, Begins, Keeps, Goes, ShowsPart, BreaksOff, Broke};
 
 use crate::record::{DumpFault, DumpReset, Record, is_size, record_of, size_of};
 use crate::texts::{fault_text, head};
@@ -36,6 +37,8 @@ pub(crate) struct DumpReader {
 /// Writes the whole of a text.
 fn put<K: Sink>(sink: &mut K, text: &[u8]) -> Result<(), LogStop>
     ensures ok { OnOk result (Appends (K.written sink.old) (K.written sink.new) text.now) }
+    ensures part { OnErr result
+        (AppendsStart (K.written sink.old) (K.written sink.new) text.now) }
     ensures stops { IfErr result (StoppedWriting (K.faults sink.old) (K.faults sink.new)) }
     ensures told { StayTold (K.written sink.old) (K.written sink.new) }
     ensures later { K.faults sink.old ≤ K.faults sink.new }
@@ -96,6 +99,9 @@ impl DumpReader {
         ensures ok { OnOk result (ShowsReset self.old.standard reset.now
             self.old.number self.old.tree self.old.bad self.new.number self.new.tree self.new.bad
             (K.written sink.old) (K.written sink.new)) }
+        ensures part { OnErr result ((K.written sink.new ≡ K.written sink.old)
+            ⊎ ShowsPart self.old.standard reset.now self.old.number self.old.tree
+            (K.written sink.old) (K.written sink.new)) }
         ensures rest { OnOk result (self.new ≡ record self.old {
           number = self.new.number;
           tree = self.new.tree;
@@ -126,6 +132,8 @@ impl DumpReader {
     fn show<K: Sink>(&mut self, alloc: Global, sink: &mut K) -> Result<(), LogStop>
         ensures ok { OnOk result
             (Shows self.old self.new (K.written sink.old) (K.written sink.new)) }
+        ensures part { OnErr result
+            (BreaksOff self.old (K.written sink.old) (K.written sink.new)) }
         ensures stops { IfErr result (StoppedWriting (K.faults sink.old) (K.faults sink.new)) }
         ensures told { StayTold (K.written sink.old) (K.written sink.new) }
         ensures later { K.faults sink.old ≤ K.faults sink.new }
@@ -146,6 +154,8 @@ impl DumpReader {
     ) -> Result<(), LogStop>
         ensures ok { OnOk result (Begins byte time self.old self.new
             (K.written sink.old) (K.written sink.new)) }
+        ensures part { OnErr result
+            (BreaksOff self.old (K.written sink.old) (K.written sink.new)) }
         ensures stops { IfErr result (StoppedWriting (K.faults sink.old) (K.faults sink.new)) }
         ensures told { StayTold (K.written sink.old) (K.written sink.new) }
         ensures later { K.faults sink.old ≤ K.faults sink.new }
@@ -176,6 +186,9 @@ impl DumpReader {
         ensures ok { OnOk result ((done : List ℕ) (start : Option (List ℕ)) →
             length done ≤ 67108864 → Stands IsWhole self.old done start (K.written sink.old) →
             Stands IsOpen self.new done start (K.written sink.new)) }
+        ensures part { OnErr result ((done : List ℕ) (start : Option (List ℕ)) →
+            length done ≤ 67108864 → Stands IsWhole self.old done start (K.written sink.old) →
+            Broke self.old.standard done start (K.written sink.new)) }
         ensures stops { IfErr result (StoppedWriting (K.faults sink.old) (K.faults sink.new)) }
         ensures same { OnOk result (self.new.standard ≡ self.old.standard) }
         ensures later { K.faults sink.old ≤ K.faults sink.new }
@@ -201,6 +214,9 @@ impl DumpReader {
         ensures ok { IfOk result (λ size. (done : List ℕ) (start : Option (List ℕ)) →
             length done < 67108864 → Stands IsOpen self.old done start (K.written sink.old) →
             Goes size self.new (done ++ byte ∷ []) start (K.written sink.new)) }
+        ensures part { OnErr result ((done : List ℕ) (start : Option (List ℕ)) →
+            length done < 67108864 → Stands IsOpen self.old done start (K.written sink.old) →
+            Broke self.old.standard (done ++ byte ∷ []) start (K.written sink.new)) }
         ensures stops { IfErr result (StoppedWriting (K.faults sink.old) (K.faults sink.new)) }
         ensures same { OnOk result (self.new.standard ≡ self.old.standard) }
         ensures later { K.faults sink.old ≤ K.faults sink.new }
@@ -231,6 +247,10 @@ impl DumpReader {
             length done + length bytes.now ≤ 67108864 →
             Stands IsOpen self.old done start (K.written sink.old) →
             Goes size self.new (done ++ bytes.now) start (K.written sink.new)) }
+        ensures part { OnErr result ((done : List ℕ) (start : Option (List ℕ)) →
+            length done + length bytes.now ≤ 67108864 →
+            Stands IsOpen self.old done start (K.written sink.old) →
+            Broke self.old.standard (done ++ bytes.now) start (K.written sink.new)) }
         ensures stops { IfErr result (StoppedWriting (K.faults sink.old) (K.faults sink.new)) }
         ensures same { OnOk result (self.new.standard ≡ self.old.standard) }
         ensures later { K.faults sink.old ≤ K.faults sink.new }
@@ -255,6 +275,10 @@ impl DumpReader {
             length done ≤ 67108864 →
             Stands (λ bytes. EndsSo (bytes ++ more) fault) self.old done start (K.written sink.old) →
             IsWritten self.old.standard start (K.written sink.new) (done ++ more) bad) }
+        ensures part { OnErr result ((done more : List ℕ) (start : Option (List ℕ)) →
+            length done ≤ 67108864 →
+            Stands (λ bytes. EndsSo (bytes ++ more) fault) self.old done start (K.written sink.old) →
+            IsFront (IsDumpShown self.old.standard (done ++ more)) start (K.written sink.new)) }
         ensures none { IfOk result (λ bad. bad ≡ false → fault ≡ None) }
         ensures stops { IfErr result (StoppedWriting (K.faults sink.old) (K.faults sink.new)) }
         ensures later { K.faults sink.old ≤ K.faults sink.new }
@@ -304,11 +328,21 @@ pub fn show_dump<S: Source, K: Sink>(
         Rose (S.faults source.old) (S.faults source.new) }
     ensures write_fault { IsErrOf result LogStop.WriteFault →
         Rose (K.faults sink.old) (K.faults sink.new) }
-    ensures long { IsErrOf result LogStop.TooLong → IfTold (S.left source.old)
-        (S.left source.new) (λ old new. TookOver 67108864 old new) }
+    ensures long { IfTold (S.left source.old) (S.left source.new) (λ old new.
+        IsErrOf result LogStop.TooLong ↔ TookOver 67108864 old new) }
     ensures waits { IsErrOf result LogStop.ReadFault → (read : List ℕ)
         × Consumes (S.left source.old) (S.left source.new) read
         × IsBegunWritten standard (K.written sink.old) (K.written sink.new) read }
+    ensures part { IsErr result → IfSome (S.left source.old) (λ dump.
+        IsFront (IsDumpShown standard dump) (K.written sink.old) (K.written sink.new)) }
+
+    // The dump's one text is answered, unless another stop has its cause.
+    ensures exact { IfSome (S.left source.old) (λ dump.
+        IsExact (IsDumpShown standard dump) result) }
+    ensures complete { ¬ Rose (S.faults source.old) (S.faults source.new) →
+        ¬ Rose (K.faults sink.old) (K.faults sink.new) → IfSome (S.left source.old) (λ dump.
+        length dump ≤ 67108864 → IsComplete (IsDumpShown standard dump) result
+        (K.written sink.old) (K.written sink.new)) }
 {
     let mut reader = DumpReader::new(alloc, standard);
     let mut buf = [0u8; PIECE];

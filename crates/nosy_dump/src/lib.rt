@@ -7,9 +7,13 @@
 
 mod dump;
 mod form;
+mod laws;
 mod record;
+#[cfg(test)]
+mod tests;
 mod texts;
 
 pub use dump::show_dump;
 pub use form::dump_standard;
+pub use laws::dumps_have_one_text;
 pub use record::{DumpFault, DumpReset, Record, record_of};

@@ -1,7 +1,7 @@
 -- What is answered at the end of a log, or at a stop.
-use Rattle.std.proofs.Common.{◌≡◌, ◌∙◌, ◌⊎◌, inl, inr, ◌↔◌, ℕ, ◌+◌, ◌-◌, ◌<◌, ◌≤◌, ◌^◌, Bool, Option, Some, None, Result, Ok, Err, List, [], ◌++◌, length, refl, sym, ap, subst, append-nil, length-append, arith}
+use Rattle.std.proofs.Common.{◌≡◌, ◌∙◌, inl, inr, ◌↔◌, ℕ, ◌+◌, ◌≤◌, Bool, Option, Some, None, Result, Ok, Err, List, ◌++◌, length, refl, sym, ap, subst, length-append, arith}
 use Rattle.std.specs.Prelude.{IfSome, IfOk, IfErr, IsErrOf, alloc_error}
-use Rattle.std.specs.Io.KnownBytes.{Appends, Consumes, Keeps, IsAtEnd}
+use Rattle.std.specs.Io.KnownBytes.{Appends, Consumes, Keeps}
 use Rattle.io_edges.specs.Faults.{Rose}
 use Rattle.io_edges.specs.Told.{StayTold, IfTold, TookOver}
 use Rattle.reset_log.specs.declared.stop.LogStop.{LogStop}

@@ -1,5 +1,5 @@
 -- What stands written where a log wasn't shown to its end: the front of its text.
-use Rattle.std.proofs.Common.{◌≡◌, ◌∙◌, inl, inr, ℕ, zero, suc, ◌+◌, ◌-◌, ◌<◌, ◌≤◌, ◌==◌, Bool, true, false, ◌||◌, Option, Some, None, Result, Ok, Err, List, [], ◌∷◌, ◌++◌, length, take, drop, refl, sym, ap, subst, append_assoc, append-nil, length-append, length-take-le, arith}
+use Rattle.std.proofs.Common.{◌≡◌, ◌∙◌, inl, inr, ℕ, zero, suc, ◌+◌, ◌-◌, ◌<◌, ◌≤◌, ◌==◌, Bool, true, false, ◌||◌, Option, Result, Ok, Err, List, [], ◌∷◌, ◌++◌, length, take, drop, refl, sym, ap, subst, append_assoc, append-nil, length-append, length-take-le, arith}
 use Rattle.std.specs.Prelude.{if◌then◌else◌, IfSome, IfOk, IfErr, OnErr, IsErr, slice_index}
 use Rattle.std.proofs.lemmas.List.{take-append-drop, take_at}
 use Rattle.std.specs.Io.KnownBytes.{Appends, Consumes, IsAtEnd}
@@ -10,7 +10,7 @@ use Rattle.reset_log.specs.declared.cards.Known.{Known}
 use Rattle.reset_log.specs.declared.log.LogReader.{LogReader}
 use Rattle.reset_log.specs.declared.stop.LogStop.{LogStop}
 use Rattle.reset_log.specs.Shown.{IsLineShown}
-use Rattle.reset_log.specs.Log.{Parted, onto_first, with_byte, parted, open_lines, lines_of, AreShown, IsLogShown, AreWritten}
+use Rattle.reset_log.specs.Log.{Parted, onto_first, parted, open_lines, lines_of, AreShown, IsLogShown, AreWritten}
 use Rattle.reset_log.specs.Cause.{StoppedWriting}
 use Rattle.reset_log.specs.Answered.{IsFront, IsExact, IsComplete}
 use Rattle.reset_log.specs.codings.Going.{Stands, BreaksOff, Broke, Reads}
@@ -156,6 +156,15 @@ broke_last old done start was is st off some =
     (sym (some_open done (λ e. some (ap (λ (l : List ℕ). length l) (st.line_is ∙ front_of_none 65536 (parted done).open_line e)))))
     (broke_off old old done start was is st off refl refl refl refl)
 
+-- bytes up to one of them, it, and what is behind it
+pub split_at : (bytes : List ℕ) (at : ℕ) → at < length bytes →
+    bytes ≡ (take at bytes ++ slice_index bytes at ∷ []) ++ drop (at + 1) bytes
+split_at [] at h = absurd (omega (arith, h))
+split_at (b ∷ bytes) zero h = refl
+split_at (b ∷ bytes) (suc at) h =
+    let next : suc at + 1 ≡ suc (at + 1) = omega arith in
+    rw next (ap (λ (l : List ℕ). b ∷ l) (split_at bytes at (omega (arith, h))))
+
 -- among bytes
 pub broke_within : (standard : Standard) (done bytes : List ℕ) (at : ℕ) (start is : Option (List ℕ)) →
     Broke standard (parted ((done ++ take at bytes) ++ slice_index bytes at ∷ [])).lines start is →
@@ -164,17 +173,9 @@ broke_within standard done bytes at start is b few =
     subst (λ (l : List ℕ). Broke standard (parted l).lines start is) (sym joined)
     (broke_more standard ((done ++ take at bytes) ++ slice_index bytes at ∷ []) (drop (at + 1) bytes) start is b)
   where
-    split : (bs : List ℕ) (i : ℕ) → i < length bs →
-        bs ≡ (take i bs ++ slice_index bs i ∷ []) ++ drop (i + 1) bs
-    split [] i h = absurd (omega (arith, h))
-    split (c ∷ bs) zero h = refl
-    split (c ∷ bs) (suc i) h =
-        let next : suc i + 1 ≡ suc (i + 1) = omega arith in
-        rw next (ap (λ (l : List ℕ). c ∷ l) (split bs i (omega (arith, h))))
-
     joined : done ++ bytes ≡ ((done ++ take at bytes) ++ slice_index bytes at ∷ []) ++ drop (at + 1) bytes
     joined =
-        ap (λ (l : List ℕ). done ++ l) (split bytes at few)
+        ap (λ (l : List ℕ). done ++ l) (split_at bytes at few)
         ∙ sym (append_assoc done (take at bytes ++ slice_index bytes at ∷ []) (drop (at + 1) bytes))
         ∙ ap (λ (l : List ℕ). l ++ drop (at + 1) bytes) (sym (append_assoc done (take at bytes) (slice_index bytes at ∷ [])))
 

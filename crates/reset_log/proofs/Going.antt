@@ -1,5 +1,5 @@
 -- A reader of a log, byte by byte.
-use Rattle.std.proofs.Common.{◌≡◌, ◌∙◌, ℕ, zero, suc, ◌+◌, ◌<◌, ◌≤◌, Bool, true, false, ◌==◌, List, [], ◌∷◌, ◌++◌, length, take, refl, sym, ap, subst, arith}
+use Rattle.std.proofs.Common.{◌≡◌, ◌∙◌, ℕ, zero, suc, ◌+◌, ◌<◌, ◌≤◌, Bool, true, false, ◌==◌, List, [], ◌∷◌, ◌++◌, length, take, refl, sym, ap, subst, take-take, arith}
 use Rattle.std.specs.Prelude.{if◌then◌else◌}
 use Rattle.reset_log.specs.Line.{line_of}
 use Rattle.reset_log.specs.Log.{Parted, onto_first, with_byte, parted}
@@ -65,14 +65,9 @@ few_lines (c ∷ cs) =
 
 -- ---- the first bytes of a line
 
-take_twice : (n : ℕ) (xs : List ℕ) → take n (take n xs) ≡ take n xs
-take_twice zero xs = refl
-take_twice (suc n) [] = refl
-take_twice (suc n) (x ∷ xs) = ap (λ (ys : List ℕ). x ∷ ys) (take_twice n xs)
-
 pub same_line : (xs : List ℕ) → line_of (take 65536 xs) ≡ line_of xs
 unfolding line_of
-same_line xs = rw (take_twice 65536 xs) refl
+same_line xs = rw (take-take 65536 65536 xs (omega arith)) refl
 
 none : (n : ℕ) → take {A = ℕ} n [] ≡ []
 none zero = refl

@@ -1,5 +1,5 @@
 -- What is told of items is one thing, and one item more is told.
-use Rattle.std.proofs.Common.{◌≡◌, ◌∙◌, ℕ, suc, ◌+◌, Bool, true, false, ◌||◌, List, [], ◌∷◌, ◌++◌, length, refl, sym, ap, subst, append_assoc, arith}
+use Rattle.std.proofs.Common.{◌≡◌, ◌∙◌, ℕ, suc, ◌+◌, Bool, true, false, ◌||◌, List, [], ◌∷◌, ◌++◌, length, refl, sym, ap, subst, append_assoc, append-nil, arith}
 use Rattle.reset_log.specs.InOrder.{AreTold}
 
 pub one_more : {X S : Type 0} (IsTold : ℕ → S → X → List ℕ → Bool → S → Type 0) (n : ℕ) (s mid next : S) (xs : List X) (x : X) (text more : List ℕ) (bad here : Bool) →
@@ -21,11 +21,7 @@ one_more {S = S} IsTold n s mid next [] x text more bad here told is = (
     same = omega arith
 
     texts : (t : List ℕ) → t ≡ [] → t ++ more ≡ more ++ []
-    texts t e = rw e (sym (no_more more))
-      where
-        no_more : (ys : List ℕ) → ys ++ [] ≡ ys
-        no_more [] = refl
-        no_more (y ∷ ys) = ap (λ (zs : List ℕ). y ∷ zs) (no_more ys)
+    texts t e = rw e (sym (append-nil more))
 
     bads : (b h : Bool) → b ≡ false → (b || h) ≡ (h || false)
     bads true h e = absurd cc

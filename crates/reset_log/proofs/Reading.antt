@@ -1,5 +1,5 @@
 -- A log as its reader goes over it, to the end.
-use Rattle.std.proofs.Common.{◌≡◌, ◌∙◌, ℕ, zero, suc, ◌+◌, ◌-◌, ◌<◌, ◌≤◌, ◌==◌, Bool, true, false, ◌||◌, Option, Some, None, List, [], ◌∷◌, ◌++◌, length, take, refl, sym, ap, subst, append_assoc, length-append, arith}
+use Rattle.std.proofs.Common.{◌≡◌, ◌∙◌, ℕ, zero, suc, ◌+◌, ◌-◌, ◌<◌, ◌≤◌, ◌==◌, Bool, true, false, ◌||◌, Option, Some, None, List, [], ◌∷◌, ◌++◌, length, take, refl, sym, ap, subst, append_assoc, append-nil, length-append, arith}
 use Rattle.std.specs.Prelude.{IfSome}
 use Rattle.std.proofs.lemmas.Bool.Decides.{nat_tests}
 use Rattle.std.specs.Io.KnownBytes.{Consumes, Appends, IsAtEnd}
@@ -14,12 +14,8 @@ use Rattle.reset_log.proofs.Standing.{by_front, appends_then}
 
 -- ---- the last line
 
-no_more : {X : Type 0} (xs : List X) → xs ++ [] ≡ xs
-no_more [] = refl
-no_more {X = X} (x ∷ xs) = ap (λ (ys : List X). x ∷ ys) (no_more xs)
-
 no_open : (done : List ℕ) → (parted done).open_line ≡ [] → lines_of done ≡ (parted done).lines
-no_open done e = ap (λ (o : List ℕ). (parted done).lines ++ open_lines o) e ∙ no_more (parted done).lines
+no_open done e = ap (λ (o : List ℕ). (parted done).lines ++ open_lines o) e ∙ append-nil (parted done).lines
 
 pub some_open : (done : List ℕ) → ((parted done).open_line ≡ [] → ⊥) →
     lines_of done ≡ (parted done).lines ++ (parted done).open_line ∷ []
@@ -95,7 +91,7 @@ nothing_came (Some xs) = refl
 
 nothing_written : (a : Option (List ℕ)) → Appends a a []
 nothing_written None = tt
-nothing_written (Some xs) = sym (no_more xs)
+nothing_written (Some xs) = sym (append-nil xs)
 
 pub at_start : (r : LogReader) (told : Option (List ℕ)) → r.cards.items ≡ [] → r.line.items ≡ [] →
     r.number ≡ 1 → r.taken ≡ 0 → r.bad ≡ false → Stands r [] told told
@@ -168,7 +164,7 @@ all_came None now next done P came told none end p = tt
 all_came (Some xs) None next done P came told none end p = absurd came
 all_came (Some xs) (Some ys) None done P came told none end p = absurd none
 all_came (Some xs) (Some ys) (Some zs) done P came told none end p =
-    subst P (sym (came ∙ ap (λ (w : List ℕ). done ++ w) (none ∙ end) ∙ no_more done)) p
+    subst P (sym (came ∙ ap (λ (w : List ℕ). done ++ w) (none ∙ end) ∙ append-nil done)) p
 
 -- more was taken than fits
 pub over : (first now next : Option (List ℕ)) (done piece : List ℕ) → Consumes first now done →

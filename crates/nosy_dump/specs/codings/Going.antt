@@ -1,7 +1,7 @@
 -- Where the reader of a dump stands.
-use Rattle.std.specs.Prelude.{◌≡◌, ℕ, ◌+◌, ◌<◌, ◌≤◌, ◌^◌, ◌||◌, Bool, true, false, drop, Option, Some, None, List, [], ◌∷◌, ◌++◌, length}
+use Rattle.std.specs.Prelude.{◌≡◌, ◌⊎◌, ℕ, ◌+◌, ◌<◌, ◌≤◌, ◌^◌, ◌||◌, Bool, true, false, drop, Option, Some, None, List, [], ◌∷◌, ◌++◌, length}
 use Rattle.std.specs.Io.KnownBytes.{Appends, Consumes}
-use Rattle.io_edges.specs.Told.{StayTold}
+use Rattle.io_edges.specs.Told.{StayTold, AppendsStart}
 use Rattle.self_id.specs.declared.standard.Standard.{Standard}
 use Rattle.topology_stack.specs.Tree.{Tree}
 use Rattle.reset_log.specs.InOrder.{AreTold}
@@ -93,6 +93,49 @@ abbrev pub Goes : Option ℕ → DumpReader → List ℕ → Option (List ℕ) �
 Goes None r done old new = Stands IsOpen r done old new
 Goes (Some size) r done old new =
     (front more : List ℕ) × (done ≡ front ++ more) × Stands (HasBadLength size) r front old new
+
+-- the front of what is shown of this reset was written
+pub record ShowsPart (standard : Standard) (p : DumpReset) (n : ℕ) (t : Option Tree)
+    (was is : Option (List ℕ)) : Type 0 where
+  pub text : List ℕ
+  pub here : Bool
+  pub known : Option Tree
+  pub shown : IsResetShown standard n t p text here known
+  pub wrote : AppendsStart was is text
+
+-- the reset that waited wasn't shown whole
+pub record BreaksReset (r : DumpReader) (was is : Option (List ℕ)) : Type 0 where
+  pub reset : DumpReset
+  pub pending_is : r.pending ≡ Some reset
+  pub part : ShowsPart r.standard reset r.number r.tree was is
+
+abbrev pub BreaksOff : DumpReader → Option (List ℕ) → Option (List ℕ) → Type 0
+BreaksOff r was is = (is ≡ was) ⊎ BreaksReset r was is
+
+-- the last of these resets is none of the first, so that further packets leave them as they are
+abbrev pub Solid : List DumpReset → List DumpReset → Type 0
+Solid [] others = Unit {0}
+Solid (r ∷ rs) [] = ⊥
+Solid (r ∷ rs) (p ∷ ps) = Unit {0}
+
+-- the front of what is shown of the first resets of these bytes was written
+pub record Broke (standard : Standard) (done : List ℕ) (old new : Option (List ℕ)) : Type 0 where
+  pub records : List (List ℕ)
+  pub behind : List ℕ
+  pub done_is : done ≡ dump_of records ++ behind
+  pub sized : AreSized records
+  pub first : List DumpReset
+  pub others : List DumpReset
+  pub resets_are : resets_from 0 records ≡ first ++ others
+  pub solid : Solid first others
+  pub text : List ℕ
+  pub bad : Bool
+  pub last : Option Tree
+  pub told : AreTold (IsResetShown standard) 1 None first text bad last
+  pub front : List ℕ
+  pub rest : List ℕ
+  pub text_is : text ≡ front ++ rest
+  pub wrote : Appends old new front
 
 -- what was read so far, and what was written of it; and the counts of faults of the source and of the
 -- sink, before and now

@@ -1,0 +1,71 @@
+//! Tests of lines and of logs in memory, with faults of the source and of the sink.
+
+use crate::line::{LogLine, Origin, line_of};
+use crate::log::show_log;
+use crate::stop::LogStop;
+use io_edges::{MemSink, MemSource};
+use self_id::Standard;
+use std::test::Fail;
+
+#[test]
+fn lines_by_themselves(rt: HostRuntime) -> Result<(), Fail> {
+    for (line, found) in [
+        (
+            b"irq/19 [002] 1.2: sched_switch: card_index=0".as_slice(),
+            'o',
+        ),
+        (b"", 'o'),
+        (b"x: bus_reset_handle: card_index=0 generation=1", 'g'),
+        (
+            b"bus_reset_handle: card_index=0 generation=1 self_ids={0x1,}",
+            'g',
+        ),
+        (
+            b"bus_reset_handle: card_index=0 generation=1 self_ids={}",
+            'k',
+        ),
+        (
+            b"firewire_ohci:self_id_complete: card_index=2 is_error=true generation_at_completion=7 packet_data={0x807f8094,0x7f807f6b}",
+            'c',
+        ),
+    ] {
+        let kind = match line_of(rt.alloc(), line)? {
+            LogLine::Other => 'o',
+            LogLine::Garbled => 'g',
+            LogLine::OfReset(reset) => match reset.origin {
+                Origin::Controller => 'c',
+                Origin::Core => 'k',
+            },
+        };
+        assert!(rt; kind == found);
+    }
+    Ok(())
+}
+
+/// Two lines, the second of which has no line feed.
+const LOG: &[u8] = b"bus_reset_handle: card_index=x\nself_id_complete:";
+
+#[test]
+fn logs_with_faults(rt: HostRuntime) -> Result<(), Fail> {
+    let alloc = rt.alloc();
+    for (read, room, answer, written) in [
+        (
+            9,
+            99,
+            Ok(true),
+            b"line 1 garbled\nline 2 garbled\n".as_slice(),
+        ),
+        (0, 99, Err(LogStop::ReadFault), b""),
+        (9, 0, Err(LogStop::WriteFault), b""),
+        (9, 6, Err(LogStop::WriteFault), b"line 1"),
+        (7, 99, Err(LogStop::ReadFault), b"line 1 garbled\n"),
+        (9, 20, Err(LogStop::WriteFault), b"line 1 garbled\nline "),
+    ] {
+        let log = Vec::from_slice(alloc, LOG)?;
+        let mut source = MemSource::new(log, vec![in alloc; read]?, 7);
+        let mut sink = MemSink::new(alloc, room, Vec::new(alloc), 5)?;
+        assert!(rt; show_log(alloc, Standard::Ieee2000, &mut source, &mut sink) == answer);
+        assert!(rt; sink.written() == written);
+    }
+    Ok(())
+}
