@@ -14,5 +14,5 @@ mod usage;
 
 pub use laws::usages_are_forms;
 pub use script_lines::{Kind, ScriptFault};
-pub use sentence::put_sentence;
+pub use sentence::{CutScript, put_sentence};
 pub use topology_stack::OutOfMemory;
