@@ -95,7 +95,8 @@ abbrev pub SaysSoFar : List (List ℕ) → ℕ → ℕ → List ℕ → Type 0
 SaysSoFar script first number text =
     (rest : List ℕ) → AreSaid script (number + 1) (drop number script) rest → AreSaid script (first + 1) (drop first script) (text ++ rest)
 
-pub says_line : (script : List (List ℕ)) (first number : ℕ) (fault : Option Kind) (old new : List ℕ) →
+pub says_line :
+    (script : List (List ℕ)) (first number : ℕ) (fault : Option Kind) (old new : List ℕ) →
     number < length script → IsFaultAt script number fault → new ≡ old ++ line_said script (number + 1) fault →
     SaysSoFar script first number old → SaysSoFar script first (number + 1) new
 says_line script first number fault old new inside is e inv = λ rest said.
@@ -110,7 +111,8 @@ append-nothing : (xs : List ℕ) → xs ++ [] ≡ xs
 append-nothing [] = refl
 append-nothing (x ∷ xs) = ap (λ ys. x ∷ ys) (append-nothing xs)
 
-pub says_all : (script : List (List ℕ)) (first number : ℕ) (text : List ℕ) → length script ≤ number →
+pub says_all :
+    (script : List (List ℕ)) (first number : ℕ) (text : List ℕ) → length script ≤ number →
     SaysSoFar script first number text → AreSaid script (first + 1) (drop first script) text
 says_all script first number text past inv =
     let none : AreSaid script (number + 1) (drop number script) [] =

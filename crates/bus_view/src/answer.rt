@@ -196,7 +196,8 @@ fn lines_said(alloc: Global, script: &CutScript, first: usize) -> Result<Vec<u8>
     Ok(text)
 }
 
-/// What is said behind the line of this number, from 1, which has this fault by its own words or none.
+/// What is said behind the line of this number, from 1, which has this fault by its own words, or
+/// none.
 fn said_behind(
     alloc: Global,
     script: &CutScript,
