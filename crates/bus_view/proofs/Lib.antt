@@ -4,5 +4,6 @@ pub mod Ends
 pub mod SomePacket
 pub mod SomeView
 pub mod Summed
+pub mod Said
 pub mod Fitting
 pub mod Captured

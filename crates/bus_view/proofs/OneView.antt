@@ -13,6 +13,7 @@ use Rattle.bus_cli.specs.declared.fault.CaptureFault.{CaptureFault}
 use Rattle.bus_cli.specs.OneReading.{NoCaptureHasTwoTrees, NoCaptureHasATreeAndAFault, NoCaptureHasTwoFaults}
 use Rattle.bus_cli.specs.Line.{script_line}
 use Rattle.script_lines.specs.declared.kind.ScriptFault.{ScriptFault}
+use Rattle.script_words.specs.Before.{feed_lines}
 use Rattle.script_told.specs.Script.{Told, script_lines}
 use Rattle.script_told.specs.Run.{ScriptRun, IsTold}
 use Rattle.script_run.specs.Listed.{listed_at, IsListed}
@@ -27,8 +28,10 @@ use Rattle.bus_view.specs.declared.form.CaptureView.{CaptureView}
 use Rattle.bus_view.specs.declared.form.CaptureView.TheVariants.{Packets, Tree as Drawn, Dot}
 use Rattle.bus_view.specs.declared.form.ViewForm.{ViewForm}
 use Rattle.bus_view.specs.declared.form.ViewForm.TheVariants.{Capture, Trace, Waves, Script, ListOf, Explain}
-use Rattle.bus_view.specs.Answer.{Reading, spelt, refused, IsReading, status_of, ShowsPackets, HasText, IsCaptureView, IsTraceView, traced, at_fault, IsWavesView, dumped, not_dumped, IsListView, has_list, has_none, IsView, viewed, no_form, IsExplainView, has_text, has_fault, explanation}
+use Rattle.bus_view.specs.Answer.{Reading, spelt, refused, IsReading, status_of, ShowsPackets, HasText, IsCaptureView, IsTraceView, traced, at_fault, IsWavesView, dumped, not_dumped, IsListView, has_list, has_none, IsView, viewed, no_form, IsExplainView, has_text, has_fault}
+use Rattle.bus_view.specs.Explained.{explanation, IsExplained}
 use Rattle.bus_view.specs.OneAnswer.{NoInputHasTwoViews}
+use Rattle.bus_view.proofs.Said.{one_explained}
 use Rattle.bus_view.proofs.Forms.{one_form}
 
 -- ---- a capture has one reading
@@ -147,7 +150,8 @@ same_explanation one bytes s r a b (has_text p e x t) (has_fault g f y u) =
 same_explanation one bytes s r a b (has_fault g e x t) (has_text p f y u) =
     absurd (listed-apart p g (one.told bytes (Ok p) (Err g) y x))
 same_explanation one bytes s r a b (has_fault g e x t) (has_fault h f y u) =
-    (e ∙ sym f, t ∙ ap (explanation bytes) (same_fault g h (one.told bytes (Err g) (Err h) x y)) ∙ sym u)
+    let same : g ≡ h = same_fault g h (one.told bytes (Err g) (Err h) x y) in
+    (e ∙ sym f, one_explained (feed_lines bytes) h a b (subst (λ (k : ScriptFault). IsExplained (feed_lines bytes) k a) same t) u)
 
 -- ---- a script has one dump
 

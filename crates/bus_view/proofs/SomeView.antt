@@ -29,8 +29,11 @@ use Rattle.bus_view.specs.declared.form.ViewForm.{ViewForm}
 use Rattle.bus_view.specs.declared.form.ViewForm.TheVariants.{Capture, Trace, Waves, Script, ListOf, Explain}
 use Rattle.bus_view.specs.Form.{IsForm}
 use Rattle.bus_view.specs.Sentence.{place, note}
-use Rattle.bus_view.specs.Answer.{Reading, spelt, refused, IsReading, status_of, HasText, IsCaptureView, IsTraceView, traced, at_fault, IsWavesView, dumped, not_dumped, IsListView, has_list, has_none, IsView, Answers, viewed, no_form, IsExplainView, has_text, has_fault, explanation}
+use Rattle.bus_view.specs.Answer.{Reading, spelt, refused, IsReading, status_of, HasText, IsCaptureView, IsTraceView, traced, at_fault, IsWavesView, dumped, not_dumped, IsListView, has_list, has_none, IsView, Answers, viewed, no_form, IsExplainView, has_text, has_fault}
+use Rattle.script_words.specs.Before.{feed_lines}
+use Rattle.bus_view.specs.Explained.{explanation}
 use Rattle.bus_view.specs.OneAnswer.{EachInputHasAView}
+use Rattle.bus_view.proofs.Said.{some_explained}
 use Rattle.bus_view.proofs.Forms.{form_or_none}
 use Rattle.bus_view.proofs.SomePacket.{packets-of-bytes}
 
@@ -107,7 +110,8 @@ module _ (have : HasSomeReading) where
     where
       go : (run : ScriptRun) → IsRun bytes run → (told : Told) → told ≡ told_by run → HasSome (IsExplainView bytes)
       go run is (Ok text) e = (0, codes "no fault\n", has_text text refl (run, is, e) refl)
-      go run is (Err f) e = (1, explanation bytes f, has_fault f refl (run, is, e) refl)
+      go run is (Err f) e =
+          let x = some_explained (feed_lines bytes) f in (1, x.0, has_fault f refl (run, is, e) x.1)
 
   some-waves : (bytes : List ℕ) → HasSome (IsWavesView bytes)
   some-waves bytes =

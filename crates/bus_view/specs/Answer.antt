@@ -1,5 +1,5 @@
 -- What is answered to words and bytes.
-use Rattle.std.specs.Prelude.{◌≡◌, ℕ, List, [], ◌++◌, codes, Option, Some, None, Ok, Err, String}
+use Rattle.std.specs.Prelude.{◌≡◌, ℕ, List, [], codes, Option, Some, None, Ok, Err, String}
 use Rattle.std.specs.Global.{Global}
 use Rattle.quad_lanes.specs.Capture.{capture}
 use Rattle.quad_lanes.specs.Pairs.{firsts, quads_of}
@@ -10,7 +10,7 @@ use Rattle.bus_cli.specs.declared.fault.CaptureFault.{CaptureFault}
 use Rattle.bus_cli.specs.Capture.{Spells, CaptureRefused}
 use Rattle.bus_cli.specs.Line.{fault_line, script_line}
 use Rattle.script_lines.specs.declared.kind.ScriptFault.{ScriptFault}
-use Rattle.script_words.specs.Sentence.{sentence}
+use Rattle.script_words.specs.Before.{feed_lines}
 use Rattle.script_made.specs.Made.{made_script}
 use Rattle.script_told.specs.Run.{IsTold}
 use Rattle.script_run.specs.Listed.{IsListed}
@@ -25,6 +25,7 @@ use Rattle.bus_view.specs.declared.form.ViewForm.{ViewForm}
 use Rattle.bus_view.specs.declared.form.ViewForm.TheVariants.{Capture, Trace, Waves, Script, ListOf, Explain}
 use Rattle.bus_view.specs.Form.{Asks, IsForm}
 use Rattle.bus_view.specs.Sentence.{place, note}
+use Rattle.bus_view.specs.Explained.{explanation, IsExplained}
 
 -- what a capture is read as by a standard: the tree that it spells, or its fault, as `busconf read`
 -- and `read95` have both
@@ -70,10 +71,6 @@ pub record IsCaptureView (view : CaptureView) (standard : Standard) (bytes : Lis
   pub status_is : status ≡ status_of reading
   pub text_is : HasText view standard bytes reading text
 
--- the line of a script's fault, and below it what stands there and what was wanted
-abbrev pub explanation : List ℕ → ScriptFault → List ℕ
-explanation bytes fault = script_line fault ++ sentence bytes fault
-
 -- a script that has a text is traced; one at fault is refused as `busconf run` refuses it
 pub data IsTraceView (bytes : List ℕ) (status : ℕ) (text : List ℕ) : Type 0 where
   traced : status ≡ 0 → IsTrace bytes (Ok text) → IsTraceView bytes status text
@@ -86,12 +83,12 @@ pub data IsWavesView (bytes : List ℕ) (status : ℕ) (text : List ℕ) : Type 
   not_dumped : (fault : ScriptFault) → status ≡ 1 → IsTold bytes (Err fault) →
       text ≡ explanation bytes fault → IsWavesView bytes status text
 
--- a script has no fault, or the one for which `busconf run` refuses it
+-- a script has no fault, or the one for which `busconf run` refuses it and those that are told behind it
 pub data IsExplainView (bytes : List ℕ) (status : ℕ) (text : List ℕ) : Type 0 where
   has_text : (printed : List ℕ) → status ≡ 0 → IsTold bytes (Ok printed) →
       text ≡ codes "no fault\n" → IsExplainView bytes status text
   has_fault : (fault : ScriptFault) → status ≡ 1 → IsTold bytes (Err fault) →
-      text ≡ explanation bytes fault → IsExplainView bytes status text
+      IsExplained (feed_lines bytes) fault text → IsExplainView bytes status text
 
 -- the script that is made, whatever the bytes
 abbrev pub IsScriptView : ℕ → ℕ → ℕ → List ℕ → Type 0

@@ -1,5 +1,6 @@
 pub mod Form
 pub mod Sentence
+pub mod Explained
 pub mod Answer
 pub mod OneAnswer
 pub mod Summed

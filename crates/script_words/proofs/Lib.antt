@@ -2,4 +2,5 @@ pub mod Parts
 pub mod Joined
 pub mod Usages
 pub mod Columns
+pub mod WordColumns
 pub mod Distinct

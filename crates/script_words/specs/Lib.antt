@@ -5,4 +5,5 @@ pub mod Pairs
 pub mod Before
 pub mod LineSentence
 pub mod Sentence
+pub mod LineFault
 pub mod codings

@@ -85,10 +85,12 @@ sentence_of d lines line words InUse = whole_sentence InUse
 sentence_of d lines line words TooManyTurns = whole_sentence TooManyTurns
 sentence_of d lines line words TooManyMaps = whole_sentence TooManyMaps
 
--- the sentence of a fault: the lines before it, and the line
+-- the sentence of a fault in a script of these lines: the lines before it, and the line
+abbrev pub sentence_in : List (List ℕ) → ScriptFault → List ℕ
+sentence_in script fault =
+    let lines : List (List ℕ) = take (fault.line - 1) script in
+    let line : List ℕ = strip_carriage_return (slice_index_or script (fault.line - 1) []) in
+    sentence_of (delay_of script) lines line (words_of line) fault.kind
+
 abbrev pub sentence : List ℕ → ScriptFault → List ℕ
-sentence script fault =
-    let lines : List (List ℕ) = take (fault.line - 1) (feed_lines script) in
-    let line : List ℕ =
-    strip_carriage_return (slice_index_or (feed_lines script) (fault.line - 1) []) in
-    sentence_of (delay_of (feed_lines script)) lines line (words_of line) fault.kind
+sentence script fault = sentence_in (feed_lines script) fault

@@ -28,6 +28,7 @@ fn words_in<'a>(alloc: Global, line: &Text<'a>) -> Result<Vec<Text<'a>>, OutOfMe
 /// The delay that a line says, or the usual one.
 fn delay_said(words: &[Text]) -> u8
     ensures value { result ≡ delay_said words.now }
+    ensures some { 1 ≤ result }
     ensures few { result ≤ 16 }
 {
     let n = number_of(word_at(words, 1)).unwrap_or(0);
@@ -41,6 +42,7 @@ fn delay_said(words: &[Text]) -> u8
 /// The delay of a script of these lines, 1 to 16.
 pub(crate) fn delay_of(alloc: Global, lines: &[Text]) -> Result<u8, OutOfMemory>
     ensures value { IfOk result (λ d. d ≡ delay_of lines.now) }
+    ensures some { IfOk result (λ d. 1 ≤ d) }
     ensures few { IfOk result (λ d. d ≤ 16) }
 {
     for line in lines {

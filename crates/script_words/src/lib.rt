@@ -12,7 +12,7 @@ mod sentence;
 mod text;
 mod usage;
 
-pub use laws::usages_are_forms;
+pub use laws::{columns_are_of_words, usages_are_forms};
 pub use script_lines::{Kind, ScriptFault};
-pub use sentence::put_sentence;
+pub use sentence::{CutScript, put_sentence};
 pub use topology_stack::OutOfMemory;

@@ -1,17 +1,19 @@
 //! What was found and what was wanted where a script is refused, in a sentence.
-ghost use Rattle.std.specs.Prelude.{◌≡◌, ◌≤◌, ◌<◌, ◌-◌, ◌++◌, ◌^◌, take, length, slice_index_or, [], OnOk, IfOk, IfSome};
+ghost use Rattle.std.specs.Prelude.{◌≡◌, ◌≤◌, ◌<◌, ◌+◌, ◌-◌, ◌++◌, ◌^◌, take, length, slice_index_or, [], OnOk, IfOk, IfSome};
 ghost use Rattle.std.specs.Str.Lines.{strip_carriage_return};
 ghost use Rattle.script_lines.specs.Words.{words_of};
 ghost use Rattle.script_words.specs.Column.{found};
 ghost use Rattle.script_words.specs.Before.{feed_lines};
-ghost use Rattle.script_words.specs.Sentence.{name_place, no_node_sentence, port_place, ports_wanted, no_port_at, late_wanted, bus_wanted, whole_sentence, sentence_of, sentence};
+ghost use Rattle.script_words.specs.LineFault.{IsLineFault, IsFaultAt};
+ghost use Rattle.script_words.specs.Sentence.{name_place, no_node_sentence, port_place, ports_wanted, no_port_at, late_wanted, bus_wanted, whole_sentence, sentence_of, sentence_in, sentence};
 
 use crate::before::{delay_of, is_port, ports_of, put_names, without_return};
 use crate::column::{put_field, put_found};
 use crate::line_sentence::{put_twice_sentence, put_value_sentence, put_word_sentence};
 use crate::text::{Text, lines_of, same, word_at, words_of};
-use script_lines::{Kind, ScriptFault};
+use script_lines::{Kind, LineStop, ScriptFault, parse_line};
 use std::alloc::Global;
+use std::marker::Model;
 use topology_stack::OutOfMemory;
 
 /// The place of the first name of a line that isn't declared.
@@ -216,13 +218,26 @@ fn put_line_sentence(
     put_words_sentence(alloc, out, d, lines, line, words.as_slice(), kind)
 }
 
-/// The line of this number, from 0, without the carriage return at its end; no bytes behind the last.
-fn line_at<'a>(lines: &[Text<'a>], number: usize) -> &'a [u8]
-    ensures { result.now ≡ strip_carriage_return (slice_index_or lines.now number []) }
+/// The line of this number, from 0; no bytes behind the last.
+fn whole_line<'a>(lines: &[Text<'a>], number: usize) -> &'a [u8]
+    ensures { result.now ≡ slice_index_or lines.now number [] }
 {
     match lines.get(number) {
-        Some(line) => without_return(line.as_bytes()),
+        Some(line) => line.as_bytes(),
         None => &[],
+    }
+}
+
+/// What a line is at fault for by its own words.
+fn fault_of(alloc: Global, line: &[u8], d: u8) -> Result<Option<Kind>, OutOfMemory>
+    requires some { 1 ≤ d }
+    requires few { d ≤ 16 }
+    ensures { IfOk result (λ fault. IsLineFault d line.now fault) }
+{
+    match parse_line(alloc, line, d) {
+        Ok(_command) => Ok(None),
+        Err(LineStop::Fault(kind)) => Ok(Some(kind)),
+        Err(LineStop::Memory(error)) => Err(error),
     }
 }
 
@@ -234,6 +249,75 @@ fn first_lines<'p, 'a>(lines: &'p [Text<'a>], count: usize) -> &'p [Text<'a>]
         &lines[..count]
     } else {
         lines
+    }
+}
+
+/// The lines of a script, so that what is said of several faults cuts it once. In a contract it is the
+/// list of what stands between its line feeds.
+#[derive(Debug, Drop)]
+pub struct CutScript<'a> {
+    lines: Vec<Text<'a>>,
+    delay: u8,
+}
+
+impl<'a> Model for CutScript<'a> {
+    ghost use Rattle.std.specs.Prelude.{◌≡◌, ◌≤◌, List, ℕ};
+    ghost use Rattle.script_words.specs.Before.{delay_of};
+
+    ghost Value = { List (List ℕ) };
+
+    ghost view = { λ s. s.lines.items };
+
+    ghost invariant = { λ s. (s.delay ≡ delay_of s.lines.items) × (1 ≤ s.delay)
+        × (s.delay ≤ 16) };
+}
+
+impl<'a> CutScript<'a> {
+    /// The lines of a script.
+    pub fn new(alloc: Global, script: &'a [u8]) -> Result<CutScript<'a>, OutOfMemory>
+        ensures value { IfOk result (λ cut. cut ≡ feed_lines script.now) }
+        ensures few { IfOk result (λ cut. length cut ≤ length script.now + 1) }
+    {
+        let lines = lines_of(alloc, script)?;
+        let delay = delay_of(alloc, lines.as_slice())?;
+        Ok(CutScript { lines, delay })
+    }
+
+    /// How many lines there are, with the one behind the last line feed.
+    pub fn len(&self) -> usize
+        ensures { result ≡ length self.now }
+    {
+        self.lines.len()
+    }
+
+    /// What the line of this number, from 0, is at fault for by its own words, which needs no bus. Behind
+    /// the last line there is no fault.
+    pub fn line_fault(&self, alloc: Global, number: usize) -> Result<Option<Kind>, OutOfMemory>
+        ensures { IfOk result (λ fault. IsFaultAt self.now number fault) }
+    {
+        fault_of(alloc, whole_line(self.lines.as_slice(), number), self.delay)
+    }
+
+    /// Appends the sentence on a fault, as [`put_sentence`](crate::put_sentence) does.
+    pub fn put_sentence(
+        &self,
+        alloc: Global,
+        out: &mut Vec<u8>,
+        fault: ScriptFault,
+    ) -> Result<(), OutOfMemory>
+        ensures { OnOk result (out.new.items ≡ out.old.items ++ sentence_in self.now fault) }
+    {
+        let lines = self.lines.as_slice();
+        let number = fault.line.saturating_sub(1) as usize;
+        let line = without_return(whole_line(lines, number));
+        put_line_sentence(
+            alloc,
+            out,
+            self.delay,
+            first_lines(lines, number),
+            line,
+            fault.kind,
+        )
     }
 }
 
@@ -250,10 +334,6 @@ pub fn put_sentence(
     requires { length script.now ≤ 1048576 }
     ensures { OnOk result (out.new.items ≡ out.old.items ++ sentence script.now fault) }
 {
-    let list = lines_of(alloc, script)?;
-    let lines = list.as_slice();
-    let d = delay_of(alloc, lines)?;
-    let number = fault.line.saturating_sub(1) as usize;
-    let line = line_at(lines, number);
-    put_line_sentence(alloc, out, d, first_lines(lines, number), line, fault.kind)
+    let script = CutScript::new(alloc, script)?;
+    script.put_sentence(alloc, out, fault)
 }

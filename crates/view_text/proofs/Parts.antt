@@ -104,7 +104,8 @@ child-none (unplugged s) from p e other = refl
 child-none (up s) from p e other = refl
 child-none (down t s) from p e other = absurd (other (sym (some-same Down p e)))
 
-own-status : (t : Tree) (id slot from parent : ℕ) (n : Node) (p : PortStatus) (a : Label) (s : Slots) →
+own-status :
+    (t : Tree) (id slot from parent : ℕ) (n : Node) (p : PortStatus) (a : Label) (s : Slots) →
     slice_get (walk t) id ≡ Some n → slice_get n.ports slot ≡ Some p → Stands t from parent (branch a s) →
     id ≡ from + length (walk_below s) → slice_get (statuses (rest slot s)) 0 ≡ Some p
 own-status t id slot from parent n p a s at_n d h place =
@@ -182,7 +183,8 @@ LinesFrom t margin irm id slot entry now =
     now ++ slot_lines margin (length (walk t) - 1) irm (node_of a s) slot (from + skipped slot s) (rest slot s)
     ≡ entry ++ tree_lines margin (length (walk t) - 1) irm from (branch a s)
 
-pub lines_begin : (t : Tree) (margin : List ℕ) (irm : Option ℕ) (id root : ℕ) (n : Node) (entry now : List ℕ) →
+pub lines_begin :
+    (t : Tree) (margin : List ℕ) (irm : Option ℕ) (id root : ℕ) (n : Node) (entry now : List ℕ) →
     slice_get (walk t) id ≡ Some n → root + 1 ≡ length (walk t) →
     now ≡ entry ++ node_words id n root irm → LinesFrom t margin irm id 0 entry now
 lines_begin t margin irm id root n entry now at_n last e = λ from parent a s h place.
@@ -216,7 +218,8 @@ joined m c k tl r before branched after whole e f h =
     rw (append_assoc (before ++ (m ++ (c ++ k))) tl r, append_assoc before (m ++ (c ++ k)) (tl ++ r), append_assoc m (c ++ k) (tl ++ r), append_assoc c k (tl ++ r)) refl in
     ap (λ (xs : List ℕ). xs ++ r) (f ∙ ap (λ (xs : List ℕ). xs ++ tl) e) ∙ flat ∙ h
 
-cable-is : (t : Tree) (id slot child : ℕ) (n m : Node) (c : Cable) → slice_get (walk t) id ≡ Some n →
+cable-is :
+    (t : Tree) (id slot child : ℕ) (n m : Node) (c : Cable) → slice_get (walk t) id ≡ Some n →
     slice_get (walk t) child ≡ Some m → c ≡ cable_to t id slot child →
     cable_text c.port c.speed c.child_port ≡ cable_of n slot m
 cable-is t id slot child n m c at_n at_m e =
@@ -272,7 +275,8 @@ append-nothing : (xs : List ℕ) → xs ++ [] ≡ xs
 append-nothing [] = refl
 append-nothing (x ∷ xs) = ap (λ ys. x ∷ ys) (append-nothing xs)
 
-pub lines_end : (t : Tree) (margin : List ℕ) (irm : Option ℕ) (id slot : ℕ) (n : Node) (entry now : List ℕ) →
+pub lines_end :
+    (t : Tree) (margin : List ℕ) (irm : Option ℕ) (id slot : ℕ) (n : Node) (entry now : List ℕ) →
     slice_get (walk t) id ≡ Some n → length n.ports ≤ slot →
     LinesFrom t margin irm id slot entry now → AppendsPart t margin irm id entry now
 lines_end t margin irm id slot n entry now at_n long inv = λ from parent part h place. of part from parent h place

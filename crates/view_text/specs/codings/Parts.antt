@@ -59,5 +59,5 @@ IsChildAt t id slot child =
 -- the lines of the part whose outermost node has this ID are appended
 abbrev pub AppendsPart : Tree → List ℕ → Option ℕ → ℕ → List ℕ → List ℕ → Type 0
 AppendsPart t margin irm id old new =
-    (from parent : ℕ) (part : Tree) → Stands t from parent part → id + 1 ≡ from + length (walk part) →
-    new ≡ old ++ tree_lines margin (length (walk t) - 1) irm from part
+    (from parent : ℕ) (part : Tree) → Stands t from parent part →
+    id + 1 ≡ from + length (walk part) → new ≡ old ++ tree_lines margin (length (walk t) - 1) irm from part
