@@ -142,8 +142,8 @@ fn reset_node<M: PortMachine>(
     turns: u32,
     out: &mut Sends,
 ) -> Result<(), ActStop>
-    requires lawful { (c : Wiring) × AreLawful c (map M.record_of machines.old) wires.old changed.old
-        turns }
+    requires lawful { (c : Wiring) × AreLawful c (map M.record_of machines.old) wires.old
+        changed.old turns }
     ensures { (c : Wiring) → Ends (act.Reset node)
         (λ d. world_record d c (map M.record_of machines.old) wires.old changed.old turns)
         (λ d. world_record d c (map M.record_of machines.new) wires.new changed.new turns)
