@@ -79,3 +79,19 @@ told_first IsTold n s next (x ∷ xs) ys text bad told =
       (told.0, h.0, told.2, h.2, told.4, told.5, h.4, refl, refl),
       told.7 ∙ ap (λ (l : List ℕ). told.0 ++ l) h.5 ∙ sym (append_assoc told.0 h.0 h.1),
     )
+
+-- ---- something is told
+
+pub told_some : {X S : Type 0} (IsTold : ℕ → S → X → List ℕ → Bool → S → Type 0) →
+    ((n : ℕ) (s : S) (x : X) → (text : List ℕ) × (bad : Bool) × (next : S) × IsTold n s x text bad next) →
+    (n : ℕ) (s : S) (xs : List X) →
+    (text : List ℕ) × (bad : Bool) × (next : S) × AreTold IsTold n s xs text bad next
+told_some IsTold each n s [] = ([], false, s, (refl, refl, refl))
+told_some IsTold each n s (x ∷ xs) =
+    let one = each n s x in
+    let rest = told_some IsTold each (n + 1) one.2 xs in (
+      one.0 ++ rest.0,
+      one.1 || rest.1,
+      rest.2,
+      (one.0, rest.0, one.1, rest.1, one.2, one.3, rest.3, refl, refl),
+    )

@@ -12,3 +12,5 @@ pub mod Reading
 pub mod Answered
 pub mod Fronts
 pub mod Lemmas
+pub mod SomePacket
+pub mod SomeText

@@ -116,7 +116,7 @@ same_refusal standard origin front list f a b x y =
 one_root : (t : Tree) (m n : Node) → IsRoot t m → IsRoot t n → m ≡ n
 one_root t m n x y = cc
 
-same_drawing : (t : Tree) (a b : List ℕ) → IsDrawing t a → IsDrawing t b → a ≡ b
+pub same_drawing : (t : Tree) (a b : List ℕ) → IsDrawing t a → IsDrawing t b → a ≡ b
 same_drawing t a b x y =
     x.text_is ∙ ap (λ (h : ℕ). drawing t h x.root.attrs.gap) (one_hops t x.hops y.hops x.are_hops y.are_hops)
     ∙ ap (λ (n : Node). drawing t y.hops n.attrs.gap) (one_root t x.root y.root x.is_root y.is_root) ∙ sym y.text_is

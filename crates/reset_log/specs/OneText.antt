@@ -8,3 +8,8 @@ NoLogHasTwoTexts =
     (standard : Standard) (log a b : List ℕ) (c d : Bool) →
     IsLogShown standard (lines_of log) a c → IsLogShown standard (lines_of log) b d →
     (a ≡ b) × (c ≡ d)
+
+abbrev pub EachLogHasAText : Type 0
+EachLogHasAText =
+    (standard : Standard) (log : List ℕ) →
+    (text : List ℕ) × (bad : Bool) × IsLogShown standard (lines_of log) text bad

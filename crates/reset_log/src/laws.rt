@@ -1,7 +1,8 @@
 //! Laws of logs.
-ghost use Rattle.reset_log.specs.OneText.{NoLogHasTwoTexts};
+ghost use Rattle.reset_log.specs.OneText.{NoLogHasTwoTexts, EachLogHasAText};
 
-/// A law: no log has two texts, and none is at fault and isn't.
+/// A law: each log has a text, no log has two, and none is at fault and isn't.
 pub fn logs_have_one_text()
-    ensures { NoLogHasTwoTexts }
+    ensures one { NoLogHasTwoTexts }
+    ensures some { EachLogHasAText }
 {}

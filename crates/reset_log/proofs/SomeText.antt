@@ -1,0 +1,249 @@
+-- Each log has a text.
+use Rattle.std.proofs.Common.{◌≡◌, ◌⊎◌, inl, inr, ℕ, zero, suc, ◌-◌, ◌*◌, ◌/◌, ◌%◌, ◌^◌, ◌<◌, ◌≤◌, ◌&&◌, Bool, true, false, eqb, eqb-true, is_none, Option, Some, None, List, [], ◌∷◌, ◌++◌, length, take, refl, ap, subst, arith}
+use Rattle.std.specs.Prelude.{if◌then◌else◌, nat_lt, nat_le, slice_index, codes}
+use Rattle.std.specs.List.{slice_split}
+use Rattle.std.proofs.lemmas.Bool.{eqb-false}
+use Rattle.std.proofs.lemmas.Bool.Decides.{nat_tests}
+use Rattle.std.proofs.lemmas.Option.{slice_get_cases}
+use Rattle.quad_lanes.specs.Pairs.{firsts, first_bad_pair}
+use Rattle.phy_packet.specs.declared.packet.PhyPacket.{PhyPacket}
+use Rattle.self_id.specs.declared.standard.Standard.{Standard}
+use Rattle.self_id.specs.Node.{Node}
+use Rattle.topology_stack.specs.Tree.{Tree, walk}
+use Rattle.topology_stack.proofs.Lemmas.{one_of, some_node}
+use Rattle.bus_manager.proofs.Lemmas.{is_hops}
+use Rattle.bus_manager.specs.Hops.{IsHops}
+use Rattle.view_text.specs.Drawing.{IsDrawing, IsRoot, drawing}
+use Rattle.reset_log.specs.declared.line.Origin.{Origin}
+use Rattle.reset_log.specs.declared.line.Origin.TheVariants.{Controller, Core}
+use Rattle.reset_log.specs.declared.line.Reset.{Reset}
+use Rattle.reset_log.specs.declared.line.LogLine.{LogLine}
+use Rattle.reset_log.specs.declared.line.LogLine.TheVariants.{Other, Garbled, OfReset}
+use Rattle.reset_log.specs.declared.hear.ListFault.{ListFault}
+use Rattle.reset_log.specs.declared.hear.ListFault.TheVariants.{Cut, BadInverse, OfTree}
+use Rattle.reset_log.specs.declared.cards.Known.{Known}
+use Rattle.reset_log.specs.Number.{are_digits, of_digits, value, number_of}
+use Rattle.reset_log.specs.Lists.{is_comma, before, numbers_of, between_commas, within, unclosed_of}
+use Rattle.reset_log.specs.Words.{behind, words_of, value_of}
+use Rattle.reset_log.specs.Line.{named, list_field, reset_of, event, of_words, line_of}
+use Rattle.reset_log.specs.Hear.{IsHeard, IsUnheard}
+use Rattle.reset_log.specs.Texts.{garbled, head, unjudged, place, numbers, changes, initiators, refused}
+use Rattle.reset_log.specs.Sentence.{packet_count, quad_at, IsBefore, sentence}
+use Rattle.reset_log.specs.Shown.{last_tree, with_heard, IsBody, the_same, drawn, IsListShown, is_refused, is_heard, IsResetShown, is_unjudged, is_judged, IsShown, IsLineShown}
+use Rattle.reset_log.specs.Log.{lines_of}
+use Rattle.reset_log.specs.OneText.{EachLogHasAText}
+use Rattle.reset_log.proofs.InOrder.{told_some}
+use Rattle.reset_log.proofs.SomePacket.{some-packet}
+
+-- ---- the quadlets of a list
+
+abbrev pub Fit : List ℕ → Type 0
+Fit [] = Unit {0}
+Fit (q ∷ quads) = (q < 2 ^ 32) × Fit quads
+
+fit_at : (quads : List ℕ) (i : ℕ) → Fit quads → i < length quads → slice_index quads i < 2 ^ 32
+fit_at [] i f lt = absurd (omega (arith, lt))
+fit_at (q ∷ quads) zero f lt = f.0
+fit_at (q ∷ quads) (suc i) f lt = fit_at quads i f.1 (omega (arith, lt))
+
+picked : (a b c d : Bool) (v n : ℕ) →
+    (if a && b && (c && d) then Some v else None) ≡ Some n → (d ≡ true) × (v ≡ n)
+picked false b c d v n e = absurd cc
+picked true false c d v n e = absurd cc
+picked true true false d v n e = absurd cc
+picked true true true false v n e = absurd cc
+picked true true true true v n e = (refl, cc)
+
+digits_fit : (base most : ℕ) (digits : List ℕ) (n : ℕ) → of_digits base most digits ≡ Some n →
+    n < 2 ^ 32
+unfolding of_digits
+digits_fit base most digits n e =
+    let p = picked (nat_lt 0 (length digits)) (nat_le (length digits) most) (are_digits base digits) (nat_lt (value base digits) (2 ^ 32)) (value base digits) n e in
+    let small : value base digits < 2 ^ 32 = grind (arith, nat_tests, p.0) in
+    omega (arith, small, p.1)
+
+either : (t : Bool) (x y : Option ℕ) (n : ℕ) → (x ≡ Some n → n < 2 ^ 32) →
+    (y ≡ Some n → n < 2 ^ 32) → (if t then x else y) ≡ Some n → n < 2 ^ 32
+either true x y n f g e = f e
+either false x y n f g e = g e
+
+number_fits : (word : List ℕ) (n : ℕ) → number_of word ≡ Some n → n < 2 ^ 32
+unfolding number_of
+number_fits word n e = either _ _ _ n (digits_fit 16 8 _ n) (digits_fit 10 10 word n) e
+
+numbers_fit : (words : List (List ℕ)) (ns : List ℕ) → numbers_of words ≡ Some ns → Fit ns
+numbers_fit [] ns e = let same : [] ≡ ns = cc in subst Fit same tt
+numbers_fit (w ∷ ws) ns e = go (number_of w) (numbers_of ws) refl refl (λ rest. numbers_fit ws rest) e
+  where
+    go : (a : Option ℕ) (b : Option (List ℕ)) → number_of w ≡ a → numbers_of ws ≡ b →
+        ((rest : List ℕ) → numbers_of ws ≡ Some rest → Fit rest) → before a b ≡ Some ns → Fit ns
+    go None b x y more f = absurd cc
+    go (Some n) None x y more f = absurd cc
+    go (Some n) (Some rest) x y more f =
+        let same : n ∷ rest ≡ ns = cc in subst Fit same (number_fits w n x, more rest y)
+
+within_fits : (text : Option (List ℕ)) (ns : List ℕ) → within text ≡ Some ns → Fit ns
+unfolding between_commas
+within_fits None ns e = absurd cc
+within_fits (Some []) ns e = let same : [] ≡ ns = cc in subst Fit same tt
+within_fits (Some (c ∷ text)) ns e = numbers_fit (slice_split is_comma (c ∷ text)) ns e
+
+field_fits : (word : Option (List ℕ)) (ns : List ℕ) → list_field word ≡ Some ns → Fit ns
+field_fits None ns e = absurd cc
+field_fits (Some word) ns e = within_fits (unclosed_of (behind (codes "{") word)) ns e
+
+list_is : (origin : Origin) (card generation : Option ℕ) (bad : Option Bool) (list : Option (List ℕ)) (r : Reset) →
+    reset_of origin card generation bad list ≡ OfReset r → list ≡ Some r.list
+list_is origin None generation bad list r e = absurd cc
+list_is origin (Some c) None bad list r e = absurd cc
+list_is origin (Some c) (Some g) None list r e = absurd cc
+list_is origin (Some c) (Some g) (Some b) None r e = absurd cc
+list_is origin (Some c) (Some g) (Some b) (Some l) r e =
+    let same : record { origin = origin; card = c; generation = g; is_error = b; list = l } ≡ r = cc in
+    ap (λ (x : Reset). Some x.list) same
+
+event_fits : (origin : Origin) (words : List (List ℕ)) (r : Reset) → event origin words ≡ OfReset r →
+    Fit r.list
+event_fits Controller words r e = field_fits (value_of (codes "packet_data=") words) r.list (list_is Controller _ _ _ _ r e)
+event_fits Core words r e = field_fits (value_of (codes "self_ids=") words) r.list (list_is Core _ _ _ _ r e)
+
+words_fit : (found : Option (Origin × List (List ℕ))) (r : Reset) → of_words found ≡ OfReset r →
+    Fit r.list
+words_fit None r e = absurd cc
+words_fit (Some x) r e = event_fits x.0 x.1 r e
+
+line_fits : (line : List ℕ) (r : Reset) → line_of line ≡ OfReset r → Fit r.list
+unfolding line_of
+line_fits line r e = words_fit (named (words_of (take 65536 line))) r e
+
+-- ---- a list is heard, or it isn't
+
+abbrev HeardOrNot : Standard → Origin → List ℕ → Type 0
+HeardOrNot standard origin list =
+    ((t : Tree) × IsHeard standard origin list t) ⊎ ((f : ListFault) × IsUnheard standard origin list f)
+
+pairs_heard : (standard : Standard) (list : List ℕ) (bad : Option ℕ) → length list % 2 ≡ 0 →
+    first_bad_pair list ≡ bad → HeardOrNot standard Controller list
+pairs_heard standard list (Some pair) whole is = inr (BadInverse pair, (whole, is))
+pairs_heard standard list None whole is = elim (one_of standard (firsts list)) [
+  | inl (t, bus, e) ↦ inl (t, (firsts list, record { whole = whole; good = is; quads_are = refl }, bus, e))
+  | inr (f, e) ↦ inr (OfTree f, (firsts list, record { whole = whole; good = is; quads_are = refl }, e))
+]
+
+heard_or_not : (standard : Standard) (origin : Origin) (list : List ℕ) → HeardOrNot standard origin list
+heard_or_not standard Core list = elim (one_of standard list) [
+  | inl (t, bus, e) ↦ inl (t, (list, refl, bus, e))
+  | inr (f, e) ↦ inr (OfTree f, (list, refl, e))
+]
+heard_or_not standard Controller list =
+    elim (eqb (length list % 2) 0) as (λ (v : Bool). eqb (length list % 2) 0 ≡ v → HeardOrNot standard Controller list) [
+      | true ↦ λ e. pairs_heard standard list (first_bad_pair list) (eqb-true _ _ e) refl
+      | false ↦ λ e. inr (Cut (length list / 2), (eqb-false _ _ e, refl))
+    ] refl
+
+-- ---- a fault has a text
+
+if_fits : (b : Bool) (x : ℕ) → (b ≡ true → x < 2 ^ 32) → (if b then x else 0) < 2 ^ 32
+if_fits true x f = f refl
+if_fits false x f = omega arith
+
+quad_fits : (origin : Origin) (list : List ℕ) (at : ℕ) → Fit list → quad_at origin list at < 2 ^ 32
+quad_fits Controller list at f = if_fits (nat_lt at (length list / 2)) _ (λ e.
+    let lt : at < length list / 2 = grind (arith, nat_tests, e) in
+    fit_at list (2 * at) f (omega (arith, lt)))
+quad_fits Core list at f = if_fits (nat_lt at (length list)) _ (λ e.
+    let lt : at < length list = grind (arith, nat_tests, e) in
+    fit_at list at f lt)
+
+some_before : (origin : Origin) (list : List ℕ) (at : ℕ) → Fit list →
+    (p : Option PhyPacket) × IsBefore origin list at p
+some_before origin list at f =
+    elim (nat_lt (packet_count origin list) at) as (λ (v : Bool). nat_lt (packet_count origin list) at ≡ v → (p : Option PhyPacket) × IsBefore origin list at p) [
+      | true ↦ λ e. let over : packet_count origin list < at = grind (arith, nat_tests, e) in (None, inr over)
+      | false ↦ λ e. let few : at ≤ packet_count origin list = grind (arith, nat_tests, e) in go at few refl
+    ] refl
+  where
+    go : (k : ℕ) → at ≤ packet_count origin list → at ≡ k → (p : Option PhyPacket) × IsBefore origin list at p
+    go zero few e = (None, inl e)
+    go (suc k) few e =
+        let p = some-packet (quad_at origin list (at - 1)) (quad_fits origin list (at - 1) f) in
+        (Some p.0, (omega (arith, e), few, p.1))
+
+-- ---- a tree has a text
+
+some_root : (t : Tree) → (root : Node) × IsRoot t root
+some_root t = elim (slice_get_cases (walk t) (length (walk t) - 1)).1 [
+  | inl n ↦ (n.0, n.2)
+  | inr none ↦ absurd (omega (arith, none.0, some_node t))
+]
+
+some_drawing_with : (t : Tree) (hops : ℕ) → IsHops t hops → (text : List ℕ) × IsDrawing t text
+some_drawing_with t hops are =
+    let root = some_root t in
+    (drawing t hops root.0.attrs.gap, record { hops = hops; root = root.0; are_hops = are; is_root = root.1; text_is = refl })
+
+some_drawing : (t : Tree) → (text : List ℕ) × IsDrawing t text
+some_drawing t = some_drawing_with t _ (is_hops t)
+
+same_or_not : (a b : List ℕ) → (a ≡ b) ⊎ (a ≡ b → ⊥)
+same_or_not [] [] = inl refl
+same_or_not [] (y ∷ ys) = inr (λ e. absurd cc)
+same_or_not (x ∷ xs) [] = inr (λ e. absurd cc)
+same_or_not (x ∷ xs) (y ∷ ys) = go (eqb x y) refl (same_or_not xs ys)
+  where
+    go : (v : Bool) → eqb x y ≡ v → (xs ≡ ys) ⊎ (xs ≡ ys → ⊥) →
+        (x ∷ xs ≡ y ∷ ys) ⊎ (x ∷ xs ≡ y ∷ ys → ⊥)
+    go true e (inl same) = let first : x ≡ y = eqb-true _ _ e in inl (rw (first, same) refl)
+    go true e (inr other) = inr (λ f. other (let rest : xs ≡ ys = cc in rest))
+    go false e rest = inr (λ f. eqb-false _ _ e (let first : x ≡ y = cc in first))
+
+some_body : (before : Option Tree) (t : Tree) → (text : List ℕ) × IsBody before t text
+some_body None t = let d = some_drawing t in (d.0, drawn d.1 (λ old is. absurd cc))
+some_body (Some old) t =
+    let d = some_drawing t in
+    let o = some_drawing old in
+    elim (same_or_not o.0 d.0) [
+      | inl same ↦ (codes "as before\n", the_same d.0 d.1 (old, refl, subst (λ (l : List ℕ). IsDrawing old l) same o.1) refl)
+      | inr other ↦ (d.0, drawn d.1 (λ tree is. (o.0, subst (λ (x : Tree). IsDrawing x o.0) (let same : old ≡ tree = cc in same) o.1, other)))
+    ]
+
+-- ---- a list, a reset, a line, and a log
+
+some_list : (standard : Standard) (origin : Origin) (front list : List ℕ) (before : Option Tree) → Fit list →
+    (text : List ℕ) × (heard : Option Tree) × IsListShown standard origin front list before text heard
+some_list standard origin front list before f = elim (heard_or_not standard origin list) [
+  | inl (t, h) ↦
+      let b = some_body before t in
+      (front ++ (numbers t ++ (b.0 ++ (changes before t ++ initiators 0 (walk t)))), Some t, is_heard t h (record { body = b.0; is_body = b.1; text_is = refl }) refl)
+  | inr (g, un) ↦
+      let p = some_before origin list (place g) f in
+      (refused front g ++ sentence standard origin list p.0 g, None, is_refused g un (record { before = p.0; is_before = p.1; text_is = refl }) refl)
+]
+
+abbrev SomeStep : (List ℕ → Bool → List Known → Type 0) → Type 0
+SomeStep Is = (text : List ℕ) × (bad : Bool) × (next : List Known) × Is text bad next
+
+some_reset : (standard : Standard) (n : ℕ) (ks : List Known) (r : Reset) → Fit r.list →
+    SomeStep (IsResetShown standard n ks r)
+some_reset standard n ks r f = go r.is_error refl
+  where
+    go : (v : Bool) → r.is_error ≡ v → SomeStep (IsResetShown standard n ks r)
+    go true e = (unjudged n r, false, ks, is_unjudged e refl refl refl)
+    go false e =
+        let l = some_list standard r.origin (head n r) r.list (last_tree r.card ks) f in
+        (l.0, is_none l.1, with_heard r.card l.1 ks, is_judged l.1 e l.2 refl refl)
+
+some_shown : (standard : Standard) (n : ℕ) (ks : List Known) (line : LogLine) →
+    ((r : Reset) → line ≡ OfReset r → Fit r.list) → SomeStep (IsShown standard n ks line)
+some_shown standard n ks Other f = ([], false, ks, (refl, refl, refl))
+some_shown standard n ks Garbled f = (garbled n, true, ks, (refl, refl, refl))
+some_shown standard n ks (OfReset r) f = some_reset standard n ks r (f r refl)
+
+some_line : (standard : Standard) (n : ℕ) (ks : List Known) (line : List ℕ) →
+    SomeStep (IsLineShown standard n ks line)
+some_line standard n ks line = some_shown standard n ks (line_of line) (line_fits line)
+
+pub some_text : EachLogHasAText
+some_text standard log =
+    let t = told_some (IsLineShown standard) (λ n ks line. some_line standard n ks line) 1 [] (lines_of log) in
+    (t.0, t.1, record { known = t.2; shown = t.3 })
