@@ -1,9 +1,7 @@
 //! Words and captures to run the top call on.
 
-ghost use Rattle.std.specs.Prelude.{◌<◌};
-
 use bus_cli::bus_main;
-use io_edges::{MemSink, MemSource, SureSource};
+use io_edges::{MemSink, Source, SureSource};
 use std::alloc::{AllocError, Global};
 
 /// The words of the program.
@@ -34,25 +32,42 @@ pub fn capture_of(alloc: Global, packets: &[u32]) -> Result<Vec<u8>, AllocError>
     Ok(bytes)
 }
 
-/// The status of a form on these bytes, and the sink with what was written.
-pub fn answer(alloc: Global, form: &str, bytes: Vec<u8>) -> Result<(u8, MemSink), AllocError> {
-    let words = words(alloc, &[form])?;
-    let mut source = SureSource::new(bytes);
-    let mut sink = MemSink::new(alloc, 10_000, Vec::new(alloc), 10_000)?;
-    let status = bus_main(alloc, &words, &mut source, &mut sink);
-    Ok((status, sink))
+/// A sink with room for so many bytes, which takes all that fits.
+pub fn sink_of(alloc: Global, room: usize) -> Result<MemSink, AllocError> {
+    MemSink::new(alloc, room, Vec::new(alloc), 10_000)
+}
+
+/// Whether the program ends with this status, and has written this text.
+pub fn ends<S: Source>(
+    alloc: Global,
+    texts: &[&str],
+    source: &mut S,
+    sink: &mut MemSink,
+    status: u8,
+    text: &[u8],
+) -> Result<bool, AllocError> {
+    let words = words(alloc, texts)?;
+    Ok(bus_main(alloc, &words, source, sink) == status && sink.written() == text)
+}
+
+/// Whether a form on these bytes ends with this status, and has written this text.
+pub fn answers(
+    alloc: Global,
+    texts: &[&str],
+    bytes: Vec<u8>,
+    status: u8,
+    text: &[u8],
+) -> Result<bool, AllocError> {
+    let mut sink = sink_of(alloc, 10_000)?;
+    ends(
+        alloc,
+        texts,
+        &mut SureSource::new(bytes),
+        &mut sink,
+        status,
+        text,
+    )
 }
 
 /// The most bytes that the source gives at a time, by which `read` is tried.
 pub const PIECES: [usize; 5] = [1, 3, 7, 8, 4096];
-
-/// The status of `read` on these bytes, given in pieces, and the sink with what was written.
-pub fn read(alloc: Global, bytes: &[u8], piece: usize) -> Result<(u8, MemSink), AllocError>
-    requires { 0 < piece }
-{
-    let words = words(alloc, &["read"])?;
-    let mut source = MemSource::new(bytes.to_vec(alloc)?, Vec::new(alloc), piece);
-    let mut sink = MemSink::new(alloc, 10_000, Vec::new(alloc), 10_000)?;
-    let status = bus_main(alloc, &words, &mut source, &mut sink);
-    Ok((status, sink))
-}

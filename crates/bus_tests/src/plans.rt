@@ -84,7 +84,7 @@ fn replanned<W: WorldRun>(
     ensures fine { IfOk result (λ o. IfSome o (λ p. IsFalse (W.is_spent world.new))) }
 {
     let parts = report.parts.as_slice();
-    assert_eq!(rt; parts.len(), 1);
+    assert!(rt; parts.len() == 1);
     assert!(rt; from < world.cabling().nodes());
     assert!(rt; parts[0].nodes.has(from));
     let Outcome::Tree { list, .. } = &parts[0].outcome else {
@@ -94,7 +94,7 @@ fn replanned<W: WorldRun>(
     let Some(plan) = choose(&tree) else {
         return Ok(None);
     };
-    assert_eq!(rt; world.delay(), 4);
+    assert!(rt; world.delay() == 4);
     let turns = u64::from(world.turns()) + u64::from(quiet_turns(world.cabling().nodes(), 4));
     assert!(rt; turns <= 4_000_000_000);
     plans_suit(world, from);
@@ -113,7 +113,7 @@ fn settled_and_replanned<W: WorldRun>(
     ensures report { IfOk result (λ o. IfSome o (λ p. IsReport (W.world world.new) p.1)) }
     ensures fine { IfOk result (λ o. IfSome o (λ p. IsFalse (W.is_spent world.new))) }
 {
-    assert_eq!(rt; world.delay(), 4);
+    assert!(rt; world.delay() == 4);
     let turns = u64::from(world.turns()) + u64::from(quiet_turns(world.cabling().nodes(), 4));
     assert!(rt; turns <= 4_000_000_000);
     let report = settle(alloc, world)?;
@@ -142,27 +142,60 @@ fn last_change(report: &Report) -> Option<u32> {
     }
 }
 
+/// The plan for the first of three nodes in a line.
+const OTHER_END: RootPlan = RootPlan {
+    root_id: 1,
+    hops: 2,
+    gap: 7,
+    far: 2,
+    packet: 0x01c7_0000,
+};
+
+const OTHER_LIST: [u32; 3] = [0x8047_8896, 0x8147_80e4, 0x8247_88d4];
+
+/// Whether the other end of three nodes becomes root.
+fn other_end_is_root(planned: &Option<(RootPlan, Report)>) -> bool {
+    match planned {
+        Some((plan, report)) => {
+            *plan == OTHER_END
+                && report.turn == 16_480
+                && is_tree(report, 2, &OTHER_LIST, &[0, 1, 2])
+                && last_change(report) == Some(8511)
+        }
+        None => false,
+    }
+}
+
 // the first of three nodes plans; both ends contend
 #[test]
 fn the_other_end_becomes_root(rt: HostRuntime) -> Result<(), Fail> {
     let mut world = line(&rt, rt.alloc(), &[true, false, true])?;
-    let Some((plan, report)) = settled_and_replanned(&rt, rt.alloc(), &mut world, 0)? else {
-        assert!(rt; false, "a plan");
-        return Ok(());
-    };
-    let wanted = RootPlan {
-        root_id: 1,
-        hops: 2,
-        gap: 7,
-        far: 2,
-        packet: 0x01c7_0000,
-    };
-    assert_eq!(rt; plan, wanted);
-    assert_eq!(rt; report.turn, 16_480);
-    let list = [0x8047_8896, 0x8147_80e4, 0x8247_88d4];
-    assert!(rt; is_tree(&report, 2, &list, &[0, 1, 2]));
-    assert_eq!(rt; last_change(&report), Some(8511));
+    let planned = settled_and_replanned(&rt, rt.alloc(), &mut world, 0)?;
+    assert!(rt; other_end_is_root(&planned));
     Ok(())
+}
+
+/// The list of five nodes whose middle is root.
+const FIVE: [u32; 5] = [
+    0x804a_8894,
+    0x814a_88e4,
+    0x824a_8896,
+    0x834a_88b4,
+    0x844a_88f4,
+];
+
+/// Whether this is the first plan for five nodes, and whether it is the second.
+fn is_first(plan: &RootPlan) -> bool {
+    plan.hops == 4 && plan.gap == 10 && plan.far == 2
+}
+
+fn is_second(plan: &RootPlan) -> bool {
+    plan.root_id == 4 && plan.far == 2
+}
+
+/// Whether the middle of five nodes is root.
+fn middle_is_root(report: &Report) -> bool {
+    is_tree(report, 2, &FIVE, &[0, 1, 4, 3, 2])
 }
 
 // all of five nodes contend; a second plan follows the first, and finds the root in the middle
@@ -173,20 +206,11 @@ fn the_middle_becomes_root_and_stays(rt: HostRuntime) -> Result<(), Fail> {
         assert!(rt; false, "a plan");
         return Ok(());
     };
-    assert_eq!(rt; (first.hops, first.gap, first.far), (4, 10, 2));
-    let list = [
-        0x804a_8894,
-        0x814a_88e4,
-        0x824a_8896,
-        0x834a_88b4,
-        0x844a_88f4,
-    ];
-    assert!(rt; is_tree(&report, 2, &list, &[0, 1, 4, 3, 2]));
+    assert!(rt; is_first(&first) && middle_is_root(&report));
     let Some((second, report)) = replanned(&rt, rt.alloc(), &mut world, &report, 4)? else {
         assert!(rt; false, "a plan");
         return Ok(());
     };
-    assert_eq!(rt; (second.root_id, second.far), (4, 2));
-    assert!(rt; is_tree(&report, 2, &list, &[0, 1, 4, 3, 2]));
+    assert!(rt; is_second(&second) && middle_is_root(&report));
     Ok(())
 }

@@ -1,6 +1,9 @@
 //! The form `rom`: ROMs that are cut.
 
-use crate::inputs::{answer, bytes_of};
+use crate::inputs::{answers, bytes_of, sink_of, words};
+use bus_cli::bus_main;
+use io_edges::SureSource;
+use std::alloc::{AllocError, Global};
 use std::test::Fail;
 
 /// The ROM of a camera: a directory of its unit, one below that, and a vendor's name that both the
@@ -73,38 +76,6 @@ const DISK: &[u32] = &[
     0x3830_0000,
 ];
 
-#[test]
-fn each_prefix_of_a_rom_is_refused(rt: HostRuntime) -> Result<(), Fail> {
-    let alloc = rt.alloc();
-    // From how many quadlets on which block is the first that isn't whole.
-    for (quads, root_whole, blocks) in [
-        (CAMERA, 11usize, [11usize, 15, 19, 24, 29].as_slice()),
-        (DISK, 10, &[10, 20, 23]),
-    ] {
-        for bytes in 0..4 * quads.len() {
-            let mut prefix = bytes_of(alloc, quads)?;
-            prefix.truncate(bytes);
-            let whole = bytes / 4;
-            let line = if bytes % 4 != 0 {
-                format!(in alloc; "refused quadlet {whole} RomLength\n")?
-            } else if whole == 0 {
-                format!(in alloc; "refused quadlet 0 RomEmpty\n")?
-            } else if whole < root_whole {
-                format!(in alloc; "refused quadlet {whole} RomCut\n")?
-            } else {
-                let block = last_up_to(blocks, whole);
-                format!(in alloc; "refused quadlet {block} Outside\n")?
-            };
-            let (status, sink) = answer(alloc, "rom", prefix)?;
-            assert_eq!(rt; sink.written(), line.as_bytes(), "{bytes} bytes");
-            assert_eq!(rt; status, 1, "{bytes} bytes");
-        }
-        let (status, _sink) = answer(alloc, "rom", bytes_of(alloc, quads)?)?;
-        assert_eq!(rt; status, 0);
-    }
-    Ok(())
-}
-
 /// The last place that isn't past a number; 0 if there is none.
 fn last_up_to(places: &[usize], number: usize) -> usize {
     let mut last = 0;
@@ -114,4 +85,63 @@ fn last_up_to(places: &[usize], number: usize) -> usize {
         }
     }
     last
+}
+
+/// The refusal of the first so many bytes of a ROM, fewer than all. The root directory is whole from so
+/// many quadlets on, and the first block that isn't whole is the last of these that isn't past the end.
+fn cut_line(
+    alloc: Global,
+    bytes: usize,
+    root_whole: usize,
+    blocks: &[usize],
+) -> Result<String, AllocError> {
+    let whole = bytes / 4;
+    if bytes % 4 != 0 {
+        format!(in alloc; "refused quadlet {whole} RomLength\n")
+    } else if whole == 0 {
+        format!(in alloc; "refused quadlet 0 RomEmpty\n")
+    } else if whole < root_whole {
+        format!(in alloc; "refused quadlet {whole} RomCut\n")
+    } else {
+        let block = last_up_to(blocks, whole);
+        format!(in alloc; "refused quadlet {block} Outside\n")
+    }
+}
+
+/// A ROM, from how many quadlets on its root directory is whole, and its blocks.
+type Cut = (&'static [u32], usize, &'static [usize]);
+
+const ROMS: &[Cut] = &[
+    (CAMERA, 11, &[11, 15, 19, 24, 29]),
+    (DISK, 10, &[10, 20, 23]),
+];
+
+/// Whether the first so many bytes of a ROM, fewer than all, are refused.
+fn prefix_is_refused(alloc: Global, rom: Cut, bytes: usize) -> Result<bool, AllocError> {
+    let (quads, root_whole, blocks) = rom;
+    let mut prefix = bytes_of(alloc, quads)?;
+    prefix.truncate(bytes);
+    let line = cut_line(alloc, bytes, root_whole, blocks)?;
+    answers(alloc, &["rom"], prefix, 1, line.as_bytes())
+}
+
+/// Whether a whole ROM is answered.
+fn is_answered(alloc: Global, quads: &[u32]) -> Result<bool, AllocError> {
+    let words = words(alloc, &["rom"])?;
+    let mut source = SureSource::new(bytes_of(alloc, quads)?);
+    Ok(bus_main(alloc, &words, &mut source, &mut sink_of(alloc, 10_000)?) == 0)
+}
+
+#[test]
+fn each_prefix_of_a_rom_is_refused(rt: HostRuntime) -> Result<(), Fail> {
+    for rom in ROMS {
+        for bytes in 0..4 * rom.0.len() {
+            assert!(rt;
+                prefix_is_refused(rt.alloc(), *rom, bytes)?,
+                "{bytes} bytes"
+            );
+        }
+        assert!(rt; is_answered(rt.alloc(), rom.0)?);
+    }
+    Ok(())
 }

@@ -30,25 +30,27 @@ fn configure<W: WorldRun>(rt: &impl Abort, world: &mut W) -> Result<(), ActStop>
     Ok(())
 }
 
-/// Each call of a spent world answers want of memory, and nothing goes on.
-fn check_spent<W: WorldRun>(rt: &impl Abort, alloc: Global, world: &mut W) {
+/// Whether an act, a hold and turns want memory, and nothing goes on.
+fn goes_nowhere<W: WorldRun>(world: &mut W) -> bool {
     let turns = world.turns();
-    assert!(rt; turns <= 1000);
-    let reset = world.act(&Act::Reset { node: 0 });
-    assert!(rt; matches!(reset, Err(ActStop::Memory(_))));
-    assert!(rt; matches!(world.hold(end(0), 1), Err(ActStop::Memory(_))));
-    assert!(rt; world.turns() <= 1000);
-    assert!(rt; world.turn().is_err());
-    assert!(rt; world.turns() <= 1000);
-    assert!(rt; world.run_turns(1).is_err());
-    assert!(rt; world.turns() == turns);
+    matches!(world.act(&Act::Reset { node: 0 }), Err(ActStop::Memory(_)))
+        && matches!(world.hold(end(0), 1), Err(ActStop::Memory(_)))
+        && world.turns() <= 1000
+        && world.turn().is_err()
+        && world.turns() <= 1000
+        && world.run_turns(1).is_err()
+        && world.turns() == turns
+}
+
+/// Whether it doesn't settle either.
+fn stays_unsettled<W: WorldRun>(alloc: Global, world: &mut W) -> bool {
     let d = world.delay();
-    assert!(rt; 1 <= d && d <= 16);
-    let all = u64::from(world.turns()) + u64::from(quiet_turns(world.cabling().nodes(), d));
-    assert!(rt; all <= 4_000_000_000);
-    assert!(rt; settle(alloc, world).is_err());
-    assert!(rt; world.spent());
-    assert_eq!(rt; world.turns(), turns);
+    if d < 1 || d > 16 {
+        return false;
+    }
+    let turns = world.turns();
+    let all = u64::from(turns) + u64::from(quiet_turns(world.cabling().nodes(), d));
+    all <= 4_000_000_000 && settle(alloc, world).is_err() && world.turns() == turns
 }
 
 /// A world is spent exactly where a call found no memory.
@@ -58,21 +60,28 @@ fn try_world<W: WorldRun>(rt: &impl Abort, alloc: Global, world: &mut W) -> Resu
         Ok(()) => assert!(rt; !world.spent()),
         Err(ActStop::Memory(_)) => {
             assert!(rt; world.spent());
-            check_spent(rt, alloc, world);
+            assert!(rt; goes_nowhere(world) && stays_unsettled(alloc, world));
+            assert!(rt; world.spent());
         }
         Err(stop) => return Err(stop.into()),
     }
     Ok(())
 }
 
+/// Two nodes, in either world.
+fn try_both(rt: &impl Abort, alloc: Global, packed: bool) -> Result<(), Fail> {
+    try_world(rt, alloc, &mut world(rt, alloc, &[USUAL, ONES], 4, packed)?)?;
+    try_world(
+        rt,
+        alloc,
+        &mut agenda(rt, alloc, &[USUAL, ONES], 4, packed)?,
+    )
+}
+
 #[test]
 fn worlds_without_memory(rt: HostRuntime) -> Result<(), Fail> {
-    let alloc = rt.alloc();
     for packed in [false, true] {
-        let mut world = world(&rt, alloc, &[USUAL, ONES], 4, packed)?;
-        try_world(&rt, alloc, &mut world)?;
-        let mut agenda = agenda(&rt, alloc, &[USUAL, ONES], 4, packed)?;
-        try_world(&rt, alloc, &mut agenda)?;
+        try_both(&rt, rt.alloc(), packed)?;
     }
     Ok(())
 }

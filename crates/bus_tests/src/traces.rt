@@ -8,7 +8,7 @@ use cabling::End;
 use script_lines::{Command, Name};
 use script_run::{Kind, ScriptFault, ScriptStop, trace_script};
 use script_trace::{put_command, put_since, seen_before_act, trace_turns};
-use settle::{quiet_turns, settle};
+use settle::{Report, quiet_turns, settle};
 use std::alloc::{AllocError, Global};
 use std::process::Abort;
 use std::test::Fail;
@@ -103,39 +103,53 @@ fn text_of(alloc: Global, lines: &[&str]) -> Result<Vec<u8>, AllocError> {
     Ok(text)
 }
 
+/// Names, scripts and the lines of their traces.
+const SCRIPTS: &[(&str, &[u8], &[&str])] = &[
+    ("one node", b"node a 1", &ALONE),
+    (
+        "resets",
+        b"node a 1\nsettle\nconfig a - 5\nreset a\n",
+        &ANEW,
+    ),
+    (
+        "two nodes",
+        b"node a 3 coins 0\nnode b 3 coins 1\nplug a 0 b 0\n",
+        &TWO,
+    ),
+    ("no line", b"", &[]),
+];
+
+/// Whether these are the lines of a script's trace.
+fn trace_is(alloc: Global, script: &[u8], lines: &[&str]) -> Result<bool, AllocError> {
+    if script.len() > 1_048_576 {
+        return Ok(false);
+    }
+    match trace_script(alloc, script) {
+        Ok(found) => Ok(found == text_of(alloc, lines)?),
+        Err(_) => Ok(false),
+    }
+}
+
+/// Whether a script is refused since its second line names a node that there isn't.
+fn has_no_node(alloc: Global, script: &[u8]) -> bool {
+    if script.len() > 1_048_576 {
+        return false;
+    }
+    matches!(
+        trace_script(alloc, script),
+        Err(ScriptStop::Fault(ScriptFault {
+            line: 2,
+            kind: Kind::NoNode,
+        }))
+    )
+}
+
 #[test]
 fn scripts(rt: HostRuntime) -> Result<(), Fail> {
-    let alloc = rt.alloc();
-    for (name, script, lines) in [
-        ("one node", b"node a 1".as_slice(), ALONE.as_slice()),
-        (
-            "resets",
-            b"node a 1\nsettle\nconfig a - 5\nreset a\n",
-            &ANEW,
-        ),
-        (
-            "two nodes",
-            b"node a 3 coins 0\nnode b 3 coins 1\nplug a 0 b 0\n",
-            &TWO,
-        ),
-        ("no line", b"", &[]),
-    ] {
-        let Ok(found) = trace_script(alloc, script) else {
-            assert!(rt; false, "{name}");
-            return Ok(());
-        };
-        assert_eq!(rt; found, text_of(alloc, lines)?, "{name}");
+    for (name, script, lines) in SCRIPTS {
+        assert!(rt; trace_is(rt.alloc(), *script, *lines)?, "{name}");
     }
-    let fault = trace_script(alloc, b"node a 1\nplug a 0 b 0\n");
-    assert!(rt;
-        matches!(
-            fault,
-            Err(ScriptStop::Fault(ScriptFault {
-                line: 2,
-                kind: Kind::NoNode,
-            }))
-        )
-    );
+    assert!(rt; has_no_node(rt.alloc(), b"node a 1\nplug a 0 b 0\n"));
     Ok(())
 }
 
@@ -173,32 +187,49 @@ fn traced<W: TellsStillTurns>(
     Ok(text)
 }
 
-/// Two nodes are plugged together, traced, and settle.
-fn plugged<W: TellsStillTurns>(rt: &impl Abort, alloc: Global, world: &mut W) -> Result<(), Fail>
-    requires { length (W.world world.old).nodes ≡ 2 }
-{
+/// The command that plugs two nodes together.
+fn plug(alloc: Global) -> Result<Command, Fail> {
     let names = two_names(alloc)?;
-    assert!(rt; names.len() == 2);
-    let command = Command::Plug {
+    if names.len() != 2 {
+        return Err("two names")?;
+    }
+    Ok(Command::Plug {
         a: names[0].clone()?,
         a_port: 0,
         b: names[1].clone()?,
         b_port: 0,
-    };
+    })
+}
+
+/// Whether a report has one part, that contended once and last changed in turn 299.
+fn is_reported(report: &Report) -> bool {
+    let parts = report.parts.as_slice();
+    report.turn == 8428 && parts.len() == 1 && parts[0].rounds == 1 && parts[0].changed == 299
+}
+
+/// Whether a world settles so.
+fn settles<W: WorldRun>(alloc: Global, world: &mut W) -> Result<bool, Fail> {
+    if world.delay() != 4 {
+        return Ok(false);
+    }
+    let turns = u64::from(world.turns()) + u64::from(quiet_turns(world.cabling().nodes(), 4));
+    if turns > 4_000_000_000 {
+        return Ok(false);
+    }
+    Ok(is_reported(&settle(alloc, world)?))
+}
+
+/// Two nodes are plugged together, traced, and settle.
+fn plugged<W: TellsStillTurns>(rt: &impl Abort, alloc: Global, world: &mut W) -> Result<(), Fail>
+    requires { length (W.world world.old).nodes ≡ 2 }
+{
     let act = Act::Plug {
         a: End { node: 0, port: 0 },
         b: End { node: 1, port: 0 },
     };
-    let text = traced(rt, alloc, world, &command, &act)?;
-    assert_eq!(rt; text, text_of(alloc, &TWO)?);
-    assert_eq!(rt; world.delay(), 4);
-    let turns = u64::from(world.turns()) + u64::from(quiet_turns(world.cabling().nodes(), 4));
-    assert!(rt; turns <= 4_000_000_000);
-    let report = settle(alloc, world)?;
-    assert_eq!(rt; report.turn, 8428);
-    let parts = report.parts.as_slice();
-    assert_eq!(rt; parts.len(), 1);
-    assert_eq!(rt; (parts[0].rounds, parts[0].changed), (1, 299));
+    let text = traced(rt, alloc, world, &plug(alloc)?, &act)?;
+    assert!(rt; text == text_of(alloc, &TWO)?);
+    assert!(rt; settles(alloc, world)?);
     Ok(())
 }
 
@@ -217,27 +248,34 @@ fn two_nodes_are_traced(rt: HostRuntime) -> Result<(), Fail> {
     )
 }
 
+/// Commands of a node.
+fn put_commands(text: &mut Vec<u8>, name: Name) -> Result<(), Fail> {
+    let hold = Command::Hold {
+        name: name.clone()?,
+        port: 12,
+        turns: 300,
+    };
+    put_command(text, 40, &hold)?;
+    put_command(text, 4_000_000_000, &Command::Pull { name, port: 0 })?;
+    Ok(())
+}
+
+/// The lines of commands of two nodes, and of one of none.
+const LINES: [&str; 5] = [
+    "turn 40 hold a 12 300",
+    "turn 4000000000 pull a 0",
+    "turn 40 hold b 12 300",
+    "turn 4000000000 pull b 0",
+    "turn 7",
+];
+
 #[test]
 fn the_lines_of_commands(rt: HostRuntime) -> Result<(), Fail> {
-    let alloc = rt.alloc();
-    let mut text = Vec::new(alloc);
-    for name in two_names(alloc)? {
-        let hold = Command::Hold {
-            name: name.clone()?,
-            port: 12,
-            turns: 300,
-        };
-        put_command(&mut text, 40, &hold)?;
-        put_command(&mut text, 4_000_000_000, &Command::Pull { name, port: 0 })?;
+    let mut text = Vec::new(rt.alloc());
+    for name in two_names(rt.alloc())? {
+        put_commands(&mut text, name)?;
     }
     put_command(&mut text, 7, &Command::Settle)?;
-    let lines = [
-        "turn 40 hold a 12 300",
-        "turn 4000000000 pull a 0",
-        "turn 40 hold b 12 300",
-        "turn 4000000000 pull b 0",
-        "turn 7",
-    ];
-    assert_eq!(rt; text, text_of(alloc, &lines)?);
+    assert!(rt; text == text_of(rt.alloc(), &LINES)?);
     Ok(())
 }

@@ -5,7 +5,7 @@ ghost use Rattle.cable_world.specs.Act.{IsAct};
 use crate::nodes::{Node, ONES, USUAL, agenda, world};
 use cable_world::{Act, ActStop, WorldRun};
 use cabling::{CableFault, End};
-use port_state::Phase;
+use port_state::{Phase, View};
 use std::alloc::Global;
 use std::process::Abort;
 use std::test::Fail;
@@ -29,6 +29,8 @@ enum Step {
     Look(u8, Look),
     /// How many turns were done.
     Done(u32),
+    /// Each node has the list of node 0, of so many quadlets.
+    Agree(usize),
 }
 
 /// One thing that a node shows.
@@ -49,60 +51,82 @@ enum Look {
 }
 
 use Look::{Changed, Child, Draws, FirstDraws, Granted, Id, List, Parent, Resets, TimedOut, Timer};
-use Step::{Done, Hold, InUse, Look as See, Plug, Pull, Reset, Turns};
+use Step::{Agree, Done, Hold, InUse, Look as See, Plug, Pull, Reset, Turns};
 
 fn end(node: u8, port: u8) -> End {
     End { node, port }
 }
 
-fn in_use<W: WorldRun>(rt: &impl Abort, world: &mut W, a: End, b: End)
-    ensures { length (W.world world.new).nodes ≡ length (W.world world.old).nodes }
-{
-    let done = world.act(&Act::Plug { a, b });
-    assert!(rt; matches!(done, Err(ActStop::Fault(CableFault::InUse { .. }))));
-}
-
-fn turns<W: WorldRun>(rt: &impl Abort, world: &mut W, count: u32) -> Result<(), Fail>
+/// Whether a cable is refused since one of its ends is in use.
+fn in_use<W: WorldRun>(world: &mut W, a: End, b: End) -> Result<bool, Fail>
     ensures { OnOk result (length (W.world world.new).nodes ≡ length (W.world world.old).nodes) }
 {
-    assert!(rt; world.turns() <= 1_000_000 && count <= 1_000_000);
-    Ok(world.run_turns(count)?)
-}
-
-fn see<W: WorldRun>(rt: &impl Abort, world: &W, node: u8, look: Look, name: &str)
-    requires { node < length (W.world world.now).nodes }
-{
-    let view = world.view(node);
-    match look {
-        Look::Phase(phase) => assert_eq!(rt; view.phase, phase, "{name}, node {node}"),
-        Timer(ticks) => assert_eq!(rt; view.timer, ticks, "{name}, node {node}"),
-        Parent(port) => assert_eq!(rt; view.parent, port, "{name}, node {node}"),
-        Child(port) => {
-            assert!(rt; usize::from(port) < view.ports.as_slice().len());
-            assert!(rt;
-                view.ports.get(usize::from(port)).child,
-                "{name}, node {node}"
-            );
-        }
-        Granted(granted) => assert_eq!(rt; view.granted, granted, "{name}, node {node}"),
-        Id(id) => assert_eq!(rt; view.id, id, "{name}, node {node}"),
-        Draws(draws) => assert_eq!(rt; view.draws, draws, "{name}, node {node}"),
-        FirstDraws(bits) => assert_eq!(rt; view.first_draws, bits, "{name}, node {node}"),
-        TimedOut(out) => assert_eq!(rt; view.timed_out, out, "{name}, node {node}"),
-        Resets(resets) => assert_eq!(rt; view.resets, resets, "{name}, node {node}"),
-        Changed(turn) => assert_eq!(rt; world.changed(node), turn, "{name}, node {node}"),
-        List(list) => assert_eq!(rt; world.list(node), list, "{name}, node {node}"),
+    match world.act(&Act::Plug { a, b }) {
+        Ok(()) => Ok(false),
+        Err(stop) => match stop {
+            ActStop::Fault(fault) => Ok(matches!(fault, CableFault::InUse { .. })),
+            ActStop::Memory(stop) => Err(Fail::from(stop)),
+        },
     }
 }
 
-/// Does a step to a world of so many nodes, or looks at it.
-fn take<W: WorldRun>(
-    rt: &impl Abort,
-    world: &mut W,
-    nodes: u8,
-    step: Step,
-    name: &str,
-) -> Result<(), Fail>
+fn turns<W: WorldRun>(world: &mut W, count: u32) -> Result<bool, Fail>
+    ensures { OnOk result (length (W.world world.new).nodes ≡ length (W.world world.old).nodes) }
+{
+    if world.turns() > 1_000_000 || count > 1_000_000 {
+        return Ok(false);
+    }
+    world.run_turns(count)?;
+    Ok(true)
+}
+
+/// Whether a port of a view leads to a child.
+fn has_child(view: &View, port: usize) -> bool {
+    port < view.ports.as_slice().len() && view.ports.get(port).child
+}
+
+/// Whether a view shows this, unless it is of the world.
+fn shows(view: &View, look: Look) -> bool {
+    match look {
+        Look::Phase(phase) => view.phase == phase,
+        Timer(ticks) => view.timer == ticks,
+        Parent(port) => view.parent == port,
+        Child(port) => has_child(view, usize::from(port)),
+        Granted(granted) => view.granted == granted,
+        Id(id) => view.id == id,
+        Draws(draws) => view.draws == draws,
+        FirstDraws(bits) => view.first_draws == bits,
+        TimedOut(out) => view.timed_out == out,
+        Resets(resets) => view.resets == resets,
+        Changed(_) | List(_) => false,
+    }
+}
+
+/// Whether a node shows this.
+fn see<W: WorldRun>(world: &W, node: u8, look: Look) -> bool
+    requires { node < length (W.world world.now).nodes }
+{
+    match look {
+        Changed(turn) => world.changed(node) == turn,
+        List(list) => world.list(node) == list,
+        look => shows(&world.view(node), look),
+    }
+}
+
+/// Whether each node has the list of node 0, of so many quadlets.
+fn agree<W: WorldRun>(world: &W, nodes: u8, quads: usize) -> bool
+    requires { length (W.world world.now).nodes ≡ nodes }
+{
+    for node in 0..nodes {
+        if world.list(node).len() != quads || world.list(node) != world.list(0) {
+            return false;
+        }
+    }
+    true
+}
+
+/// Does a step to a world of so many nodes, or looks at it. Whether all is as it should be.
+fn take<W: WorldRun>(world: &mut W, nodes: u8, step: Step) -> Result<bool, Fail>
     requires { length (W.world world.old).nodes ≡ nodes }
     ensures { OnOk result (length (W.world world.new).nodes ≡ nodes) }
 {
@@ -114,15 +138,13 @@ fn take<W: WorldRun>(
         Pull(a, p) => world.act(&Act::Pull { end: end(a, p) })?,
         Reset(node) => world.act(&Act::Reset { node })?,
         Hold(a, p, turns) => world.hold(end(a, p), turns)?,
-        Turns(count) => turns(rt, world, count)?,
-        InUse(a, p, b, q) => in_use(rt, world, end(a, p), end(b, q)),
-        See(node, look) => {
-            assert!(rt; node < nodes, "{name}");
-            see(rt, world, node, look, name);
-        }
-        Done(count) => assert_eq!(rt; world.turns(), count, "{name}"),
+        Turns(count) => return turns(world, count),
+        InUse(a, p, b, q) => return in_use(world, end(a, p), end(b, q)),
+        See(node, look) => return Ok(node < nodes && see(world, node, look)),
+        Done(count) => return Ok(world.turns() == count),
+        Agree(quads) => return Ok(agree(world, nodes, quads)),
     }
-    Ok(())
+    Ok(true)
 }
 
 /// Takes steps, one after the other.
@@ -136,10 +158,42 @@ fn take_all<W: WorldRun>(
     requires { length (W.world world.old).nodes ≡ nodes }
     ensures { OnOk result (length (W.world world.new).nodes ≡ nodes) }
 {
+    let mut at = 0u32;
     for step in steps {
-        take(rt, world, nodes, *step, name)?;
+        let is_right = take(world, nodes, *step)?;
+        assert!(rt; is_right, "{name}, step {at}");
+        at = at.wrapping_add(1);
     }
     Ok(())
+}
+
+/// Takes steps in a world that does one turn after the other, and in one that passes over turns.
+fn take_in_plain(
+    rt: &impl Abort,
+    alloc: Global,
+    nodes: &[Node],
+    d: u8,
+    packed: bool,
+    steps: &[Step],
+    name: &str,
+) -> Result<(), Fail> {
+    assert!(rt; nodes.len() <= 63);
+    let mut world = world(rt, alloc, nodes, d, packed)?;
+    take_all(rt, &mut world, nodes.len() as u8, steps, name)
+}
+
+fn take_in_agenda(
+    rt: &impl Abort,
+    alloc: Global,
+    nodes: &[Node],
+    d: u8,
+    packed: bool,
+    steps: &[Step],
+    name: &str,
+) -> Result<(), Fail> {
+    assert!(rt; nodes.len() <= 63);
+    let mut world = agenda(rt, alloc, nodes, d, packed)?;
+    take_all(rt, &mut world, nodes.len() as u8, steps, name)
 }
 
 /// Takes steps with these nodes in both worlds, over both machines.
@@ -151,13 +205,9 @@ fn take_in_all(
     steps: &[Step],
     name: &str,
 ) -> Result<(), Fail> {
-    assert!(rt; nodes.len() <= 63);
-    let count = nodes.len() as u8;
     for packed in [false, true] {
-        let mut world = world(rt, alloc, nodes, d, packed)?;
-        take_all(rt, &mut world, count, steps, name)?;
-        let mut agenda = agenda(rt, alloc, nodes, d, packed)?;
-        take_all(rt, &mut agenda, count, steps, name)?;
+        take_in_plain(rt, alloc, nodes, d, packed, steps, name)?;
+        take_in_agenda(rt, alloc, nodes, d, packed, steps, name)?;
     }
     Ok(())
 }
@@ -376,30 +426,32 @@ const DESK_NODES: &[Node] = &[
     },
 ];
 
+/// Three nodes, of which the first contends.
+const LINE_OF_THREE: &[Node] = &[
+    Node {
+        contender: true,
+        ..USUAL
+    },
+    USUAL,
+    USUAL,
+];
+
+/// Names, nodes, and the steps that are taken with them.
+const CASES: &[(&str, &[Node], &[Step])] = &[
+    ("two nodes", &[USUAL, ONES], TWO),
+    ("equal coins", &[USUAL, USUAL], EQUAL),
+    ("three in line", LINE_OF_THREE, THREE),
+    ("two cables", &[USUAL, USUAL], TWICE),
+    ("a ring closed late", &[USUAL, USUAL, ONES, USUAL], RING),
+    ("held wires", &[USUAL, ONES], HELD),
+    ("a cable pulled and plugged", &[USUAL, ONES], AGAIN),
+    ("a desk", DESK_NODES, DESK),
+];
+
 #[test]
 fn nodes_show_what_was_worked_out(rt: HostRuntime) -> Result<(), Fail> {
-    for (name, nodes, steps) in [
-        ("two nodes", [USUAL, ONES].as_slice(), TWO),
-        ("equal coins", &[USUAL, USUAL], EQUAL),
-        (
-            "three in line",
-            &[
-                Node {
-                    contender: true,
-                    ..USUAL
-                },
-                USUAL,
-                USUAL,
-            ],
-            THREE,
-        ),
-        ("two cables", &[USUAL, USUAL], TWICE),
-        ("a ring closed late", &[USUAL, USUAL, ONES, USUAL], RING),
-        ("held wires", &[USUAL, ONES], HELD),
-        ("a cable pulled and plugged", &[USUAL, ONES], AGAIN),
-        ("a desk", DESK_NODES, DESK),
-    ] {
-        take_in_all(&rt, rt.alloc(), nodes, 4, steps, name)?;
+    for (name, nodes, steps) in CASES {
+        take_in_all(&rt, rt.alloc(), *nodes, 4, *steps, *name)?;
     }
     Ok(())
 }
@@ -438,54 +490,28 @@ fn delays(rt: HostRuntime) -> Result<(), Fail> {
     Ok(())
 }
 
-/// Each node has the list of node 0, of so many quadlets.
-fn agree<W: WorldRun>(rt: &impl Abort, world: &W, nodes: u8, quads: usize)
-    requires { length (W.world world.now).nodes ≡ nodes }
-{
-    for node in 0..nodes {
-        assert_eq!(rt; world.list(node).len(), quads, "node {node}");
-        assert_eq!(rt; world.list(node), world.list(0), "node {node}");
-    }
-}
-
 #[test]
 fn a_line_of_the_most_nodes(rt: HostRuntime) -> Result<(), Fail> {
-    let mut cables = [Done(0); 62];
+    let mut steps = [Agree(63); 66];
     for node in 0..62u8 {
-        cables[usize::from(node)] = Plug(node, 1, node + 1, 0);
+        steps[usize::from(node)] = Plug(node, 1, node + 1, 0);
     }
-    for packed in [false, true] {
-        let mut world = world(&rt, rt.alloc(), &[USUAL; 63], 4, packed)?;
-        take_all(&rt, &mut world, 63, &cables, "line")?;
-        let middle = [Turns(2_000), See(31, Parent(None)), See(31, Id(Some(62)))];
-        take_all(&rt, &mut world, 63, &middle, "line")?;
-        agree(&rt, &world, 63, 63);
-        let mut agenda = agenda(&rt, rt.alloc(), &[USUAL; 63], 4, packed)?;
-        take_all(&rt, &mut agenda, 63, &cables, "line")?;
-        take_all(&rt, &mut agenda, 63, &middle, "line")?;
-        agree(&rt, &agenda, 63, 63);
-    }
-    Ok(())
+    steps[62] = Turns(2_000);
+    steps[63] = See(31, Parent(None));
+    steps[64] = See(31, Id(Some(62)));
+    take_in_all(&rt, rt.alloc(), &[USUAL; 63], 4, &steps, "line")
 }
 
 #[test]
 fn a_node_with_the_most_neighbours(rt: HostRuntime) -> Result<(), Fail> {
     let mut nodes = [USUAL; 17];
     nodes[0].ports = 16;
-    let mut cables = [Done(0); 16];
+    let mut steps = [Agree(19); 20];
     for port in 0..16u8 {
-        cables[usize::from(port)] = Plug(0, port, port + 1, 2);
+        steps[usize::from(port)] = Plug(0, port, port + 1, 2);
     }
-    for packed in [false, true] {
-        let mut world = world(&rt, rt.alloc(), &nodes, 4, packed)?;
-        take_all(&rt, &mut world, 17, &cables, "star")?;
-        let hub = [Turns(2_000), See(0, Parent(None)), See(0, Id(Some(16)))];
-        take_all(&rt, &mut world, 17, &hub, "star")?;
-        agree(&rt, &world, 17, 19);
-        let mut agenda = agenda(&rt, rt.alloc(), &nodes, 4, packed)?;
-        take_all(&rt, &mut agenda, 17, &cables, "star")?;
-        take_all(&rt, &mut agenda, 17, &hub, "star")?;
-        agree(&rt, &agenda, 17, 19);
-    }
-    Ok(())
+    steps[16] = Turns(2_000);
+    steps[17] = See(0, Parent(None));
+    steps[18] = See(0, Id(Some(16)));
+    take_in_all(&rt, rt.alloc(), &nodes, 4, &steps, "star")
 }
