@@ -10,7 +10,7 @@ const NODES: u8 = 63;
 const PORTS: u8 = 16;
 
 /// How the nodes are joined.
-#[derive(Clone, Copy, Debug, PartialEq, Eq)]
+#[derive(Clone, Copy)]
 pub enum Shape {
     /// One after the other.
     Line,
@@ -21,7 +21,7 @@ pub enum Shape {
 }
 
 /// A call over a cabling.
-#[derive(Clone, Copy, Debug, PartialEq, Eq)]
+#[derive(Clone, Copy)]
 pub enum Question {
     Component,
     Core,

@@ -28,7 +28,7 @@ const BATCHES: usize = 11;
 const PAIRS: usize = 65_536;
 
 /// A call that is measured.
-#[derive(Clone, Copy, Debug, PartialEq, Eq)]
+#[derive(Clone, Copy)]
 pub enum Call {
     ReadTree,
     Hops,
@@ -45,103 +45,104 @@ pub enum Call {
     Course(Course, Shape),
 }
 
-/// The shape of this name.
-fn shape_named(name: &str) -> Option<Shape> {
-    match name {
-        "line" => Some(Shape::Line),
-        "star" => Some(Shape::Star),
-        "looped" => Some(Shape::Looped),
-        _ => None,
-    }
-}
+/// The calls that ask for no shape, by their names.
+const PLAIN: [(&str, Call); 15] = [
+    ("read_tree", Call::ReadTree),
+    ("hops", Call::Hops),
+    ("rows", Call::Rows),
+    ("crc16", Call::Crc16),
+    ("first_bad_pair", Call::FirstBadPair),
+    ("plain_read", Call::PlainRead),
+    ("tick_idle_field", Call::Tick(Pace::Idle, Kind::Field)),
+    ("tick_idle_packed", Call::Tick(Pace::Idle, Kind::Packed)),
+    ("tick_busy_field", Call::Tick(Pace::Busy, Kind::Field)),
+    ("tick_busy_packed", Call::Tick(Pace::Busy, Kind::Packed)),
+    ("read_whole", Call::Read(Way::Whole)),
+    ("read_stream", Call::Read(Way::Stream)),
+    ("rom", Call::Rom),
+    ("run", Call::Run),
+    ("trace", Call::Trace),
+];
 
-/// The question of a cabling of this name.
-fn question_named(name: &str) -> Option<Question> {
-    match name {
-        "component" => Some(Question::Component),
-        "core" => Some(Question::Core),
-        "walk" => Some(Question::Walk),
-        "advice" => Some(Question::Advice),
-        "check" => Some(Question::Check),
-        _ => None,
-    }
-}
+/// The shapes, by their names.
+const SHAPES: [(&str, Shape); 3] = [
+    ("line", Shape::Line),
+    ("star", Shape::Star),
+    ("looped", Shape::Looped),
+];
 
-/// The course of a bus of this name.
-fn course_named(name: &str) -> Option<Course> {
-    match name {
-        "turn" => Some(Course::Turn),
-        "settle" => Some(Course::Settle),
-        _ => None,
+/// The questions of a cabling, by their names.
+const QUESTIONS: [(&str, Question); 5] = [
+    ("component", Question::Component),
+    ("core", Question::Core),
+    ("walk", Question::Walk),
+    ("advice", Question::Advice),
+    ("check", Question::Check),
+];
+
+/// The courses of a bus, by their names.
+const COURSES: [(&str, Course); 2] = [("turn", Course::Turn), ("settle", Course::Settle)];
+
+/// What a table has beside a name.
+fn named<T: Copy>(table: &[(&str, T)], name: &str) -> Option<T> {
+    for (known, it) in table {
+        if *known == name {
+            return Some(*it);
+        }
     }
+    None
 }
 
 impl Call {
     /// The call of this name.
     pub fn named(name: &str) -> Option<Call> {
-        match name {
-            "read_tree" => Some(Call::ReadTree),
-            "hops" => Some(Call::Hops),
-            "rows" => Some(Call::Rows),
-            "crc16" => Some(Call::Crc16),
-            "first_bad_pair" => Some(Call::FirstBadPair),
-            "plain_read" => Some(Call::PlainRead),
-            "tick_idle_field" => Some(Call::Tick(Pace::Idle, Kind::Field)),
-            "tick_idle_packed" => Some(Call::Tick(Pace::Idle, Kind::Packed)),
-            "tick_busy_field" => Some(Call::Tick(Pace::Busy, Kind::Field)),
-            "tick_busy_packed" => Some(Call::Tick(Pace::Busy, Kind::Packed)),
-            "read_whole" => Some(Call::Read(Way::Whole)),
-            "read_stream" => Some(Call::Read(Way::Stream)),
-            "rom" => Some(Call::Rom),
-            "run" => Some(Call::Run),
-            "trace" => Some(Call::Trace),
-            _ => {
-                let (asked, shape) = name.split_once('_')?;
-                let shape = shape_named(shape)?;
-                match course_named(asked) {
-                    Some(course) => Some(Call::Course(course, shape)),
-                    None => Some(Call::Cabling(question_named(asked)?, shape)),
-                }
-            }
+        if let Some(call) = named(&PLAIN, name) {
+            return Some(call);
+        }
+        let (asked, shape) = name.split_once('_')?;
+        let shape = named(&SHAPES, shape)?;
+        match named(&COURSES, asked) {
+            Some(course) => Some(Call::Course(course, shape)),
+            None => Some(Call::Cabling(named(&QUESTIONS, asked)?, shape)),
         }
     }
 }
 
 /// What a capture gives.
 #[derive(Drop)]
-struct Bus {
+struct Capture {
     bytes: Vec<u8>,
-    words: Vec<String>,
     quads: QuadList,
     tree: BusTree,
-    pairs: QuadList,
-    cabling: Cabling,
-    advice: Advice,
-    nodes: Nodes,
-    world: World<FieldMachine>,
 }
 
 /// What the calls work on.
 #[derive(Drop)]
 enum Work {
-    Bus(Bus),
+    Capture(Capture, Vec<String>),
+    Pairs(QuadList),
+    Cabling(Cabling, Advice),
+    Nodes(Nodes),
+    World(World<FieldMachine>),
+    Settle(Shape),
     Rom(Rom),
     Script(Vec<u8>),
 }
 
 /// The work that an input gives, if it is one that the call reads.
 fn work_of(alloc: Global, call: Call, bytes: &[u8]) -> Result<Option<Work>, AllocError> {
-    if call == Call::Rom {
-        return Ok(decode_rom(alloc, bytes).ok().map(Work::Rom));
+    match call {
+        Call::Rom => Ok(decode_rom(alloc, bytes).ok().map(Work::Rom)),
+        Call::Run | Call::Trace => Ok(Some(Work::Script(bytes.to_vec(alloc)?))),
+        _ => match capture_of(alloc, bytes)? {
+            Some(capture) => Ok(Some(work_over(alloc, call, capture)?)),
+            None => Ok(None),
+        },
     }
-    if call == Call::Run || call == Call::Trace {
-        return Ok(Some(Work::Script(bytes.to_vec(alloc)?)));
-    }
-    Ok(bus_of(alloc, call, bytes)?.map(Work::Bus))
 }
 
 /// What a capture gives, if it is one of a bus tree.
-fn bus_of(alloc: Global, call: Call, bytes: &[u8]) -> Result<Option<Bus>, AllocError> {
+fn capture_of(alloc: Global, bytes: &[u8]) -> Result<Option<Capture>, AllocError> {
     let Ok(all) = pairs_of(alloc, bytes) else {
         return Ok(None);
     };
@@ -149,31 +150,37 @@ fn bus_of(alloc: Global, call: Call, bytes: &[u8]) -> Result<Option<Bus>, AllocE
     let Ok(tree) = read_tree(alloc, quads.as_slice()) else {
         return Ok(None);
     };
-    let mut pairs = QuadList::new(alloc);
-    let first = quads.as_slice().first().copied().unwrap_or(0);
-    for _ in 0..PAIRS {
-        pairs.push(first)?;
-        pairs.push(!first)?;
+    let bytes = bytes.to_vec(alloc)?;
+    Ok(Some(Capture { bytes, quads, tree }))
+}
+
+/// The work of a call that reads a capture.
+fn work_over(alloc: Global, call: Call, capture: Capture) -> Result<Work, AllocError> {
+    match call {
+        Call::FirstBadPair | Call::PlainRead => Ok(Work::Pairs(pairs_with(alloc, &capture)?)),
+        Call::Cabling(_, shape) => {
+            let cabling = joined(alloc, shape)?;
+            let advice = advice_for(alloc, &cabling)?;
+            Ok(Work::Cabling(cabling, advice))
+        }
+        Call::Tick(_, _) => Ok(Work::Nodes(Nodes::new())),
+        Call::Course(Course::Turn, shape) => Ok(Work::World(running(alloc, shape)?)),
+        Call::Course(Course::Settle, shape) => Ok(Work::Settle(shape)),
+        _ => {
+            let words = vec![in alloc; String::from_str(alloc, "read")?]?;
+            Ok(Work::Capture(capture, words))
+        }
     }
-    let shape = match call {
-        Call::Cabling(_, shape) | Call::Course(_, shape) => shape,
-        _ => Shape::Line,
-    };
-    let cabling = joined(alloc, shape)?;
-    let advice = advice_for(alloc, &cabling)?;
-    let mut words = Vec::new(alloc);
-    words.push(String::from_str(alloc, "read")?)?;
-    Ok(Some(Bus {
-        bytes: bytes.to_vec(alloc)?,
-        words,
-        quads,
-        tree,
-        pairs,
-        cabling,
-        advice,
-        nodes: Nodes::new(),
-        world: running(alloc, shape)?,
-    }))
+}
+
+/// The first pair of a capture, over and over.
+fn pairs_with(alloc: Global, capture: &Capture) -> Result<QuadList, AllocError> {
+    let mut pairs = QuadList::new(alloc);
+    let first = capture.quads.as_slice().first().copied().unwrap_or(0);
+    for _ in 0..PAIRS {
+        pairs.extend_from_slice(&[first, !first])?;
+    }
+    Ok(pairs)
 }
 
 /// Decodes a ROM, and tells its blocks and its text. The answer is the length of the text.
@@ -208,61 +215,72 @@ fn length_traced(alloc: Global, script: &[u8]) -> u64 {
 
 /// One call. The answer keeps the compiler from leaving it out.
 fn once(alloc: Global, call: Call, work: &Work) -> u64 {
-    match work {
-        Work::Bus(bus) => of_bus(alloc, call, bus),
-        Work::Rom(rom) => told(alloc, rom).unwrap_or(0),
-        Work::Script(script) if call == Call::Trace => length_traced(alloc, script),
-        Work::Script(script) => length_run(alloc, script),
+    match (work, call) {
+        (Work::Capture(capture, words), _) => of_capture(alloc, call, capture, words),
+        (Work::Pairs(pairs), Call::PlainRead) => sum_of(pairs.as_slice()),
+        (Work::Pairs(pairs), _) => first_bad_of(pairs.as_slice()),
+        (Work::Cabling(cabling, advice), Call::Cabling(question, _)) => {
+            answer_to(alloc, cabling, advice, question)
+        }
+        (Work::Settle(shape), _) => settle(alloc, *shape).unwrap_or(0),
+        (Work::Rom(rom), _) => told(alloc, rom).unwrap_or(0),
+        (Work::Script(script), Call::Trace) => length_traced(alloc, script),
+        (Work::Script(script), _) => length_run(alloc, script),
+        _ => 0,
     }
 }
 
-/// One call over a bus.
-fn of_bus(alloc: Global, call: Call, work: &Bus) -> u64 {
+/// One call over a capture.
+fn of_capture(alloc: Global, call: Call, capture: &Capture, words: &[String]) -> u64 {
     match call {
-        Call::Rom | Call::Run | Call::Trace => 0,
-        Call::Read(way) => length_read(alloc, way, &work.words, &work.bytes),
-        Call::ReadTree => match read_tree(alloc, work.quads.as_slice()) {
+        Call::Read(way) => length_read(alloc, way, words, &capture.bytes),
+        Call::ReadTree => match read_tree(alloc, capture.quads.as_slice()) {
             Ok(tree) => u64::from(tree.len()),
             Err(_) => 0,
         },
-        Call::Hops => u64::from(hops(&work.tree)),
-        Call::Rows => match rows(alloc, &work.tree) {
-            Ok(rows) => rows
-                .iter()
-                .map(|speed| u64::from(*speed))
-                .max()
-                .unwrap_or(0),
-            Err(_) => 0,
-        },
-        Call::Crc16 => u64::from(crc16(work.quads.as_slice())),
-        Call::FirstBadPair => {
-            let quads = work.pairs.as_slice();
-            if quads.len() % 2 == 0 {
-                first_bad_pair(quads).unwrap_or(0) as u64
-            } else {
-                0
-            }
-        }
-        Call::Cabling(question, _) => answer_to(alloc, &work.cabling, &work.advice, question),
-        Call::Tick(_, _) | Call::Course(Course::Turn, _) => 0,
-        Call::Course(Course::Settle, shape) => settle(alloc, shape).unwrap_or(0),
-        Call::PlainRead => {
-            let mut sum = 0u32;
-            for quad in work.pairs.as_slice() {
-                sum = sum.wrapping_add(*quad);
-            }
-            u64::from(sum)
-        }
+        Call::Hops => u64::from(hops(&capture.tree)),
+        Call::Rows => fastest_of(alloc, &capture.tree),
+        Call::Crc16 => u64::from(crc16(capture.quads.as_slice())),
+        _ => 0,
     }
+}
+
+/// The greatest speed of a speed map's rows.
+fn fastest_of(alloc: Global, tree: &BusTree) -> u64 {
+    let Ok(rows) = rows(alloc, tree) else {
+        return 0;
+    };
+    rows.iter()
+        .map(|speed| u64::from(*speed))
+        .max()
+        .unwrap_or(0)
+}
+
+/// The first bad pair of a buffer; 0 where there is none.
+fn first_bad_of(quads: &[u32]) -> u64 {
+    if quads.len() % 2 == 0 {
+        first_bad_pair(quads).unwrap_or(0) as u64
+    } else {
+        0
+    }
+}
+
+/// The sum of a buffer's quadlets.
+fn sum_of(quads: &[u32]) -> u64 {
+    let mut sum = 0u32;
+    for quad in quads {
+        sum = sum.wrapping_add(*quad);
+    }
+    u64::from(sum)
 }
 
 /// So many calls.
 fn batch(alloc: Global, call: Call, times: u32, work: &mut Work) -> u64 {
-    if let (Call::Tick(pace, kind), Work::Bus(bus)) = (call, &mut *work) {
-        return bus.nodes.run(pace, kind, times);
+    if let (Call::Tick(pace, kind), Work::Nodes(nodes)) = (call, &mut *work) {
+        return nodes.run(pace, kind, times);
     }
-    if let (Call::Course(Course::Turn, _), Work::Bus(bus)) = (call, &mut *work) {
-        return turns(&mut bus.world, times);
+    if let Work::World(world) = &mut *work {
+        return turns(world, times);
     }
     let mut answers = 0u64;
     for _ in 0..times {

@@ -7,7 +7,7 @@ use std::alloc::{AllocError, Global};
 use topology_stack::{NameList, read_tree, tree_text};
 
 /// The way in which a capture is read.
-#[derive(Clone, Copy, Debug, PartialEq, Eq)]
+#[derive(Clone, Copy)]
 pub enum Way {
     Whole,
     Stream,

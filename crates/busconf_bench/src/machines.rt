@@ -6,14 +6,14 @@ use port_state::{Coins, PortMachine, Sends, Timing};
 use self_id::Attrs;
 
 /// Which machine ticks.
-#[derive(Clone, Copy, Debug, PartialEq, Eq)]
+#[derive(Clone, Copy)]
 pub enum Kind {
     Field,
     Packed,
 }
 
 /// What its ticks do.
-#[derive(Clone, Copy, Debug, PartialEq, Eq)]
+#[derive(Clone, Copy)]
 pub enum Pace {
     /// They raise the timer alone.
     Idle,

@@ -15,7 +15,7 @@ use std::alloc::{AllocError, Global};
 use world_agenda::AgendaWorld;
 
 /// What is measured of a bus.
-#[derive(Clone, Copy, Debug, PartialEq, Eq)]
+#[derive(Clone, Copy)]
 pub enum Course {
     /// A turn of a world that does one turn after the other.
     Turn,
