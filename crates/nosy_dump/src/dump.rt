@@ -309,7 +309,8 @@ impl DumpReader {
 /// asked for more.
 ///
 /// `ReadFault` and `WriteFault` come only where the count of faults of the source or of the sink
-/// rose, and `TooLong` only where the source gave more than 67,108,864 bytes. After `ReadFault` what
+/// rose, and `TooLong` exactly where the source gave more than 67,108,864 bytes. After each of them,
+/// and where there was no memory, the front of the text is written; after `ReadFault` at least what
 /// is shown of each reset that another one followed is written. It keeps one record of at most 65,536
 /// bytes, the packets of one reset, and the last tree.
 pub fn show_dump<S: Source, K: Sink>(

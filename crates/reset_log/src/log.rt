@@ -154,7 +154,8 @@ impl LogReader {
 /// can have sent. What is shown of a line is written before the source is asked for more.
 ///
 /// `ReadFault` and `WriteFault` come only where the count of faults of the source or of the sink
-/// rose, and `TooLong` only where the source gave more than 67,108,864 bytes. After `ReadFault` what
+/// rose, and `TooLong` exactly where the source gave more than 67,108,864 bytes. After each of them,
+/// and where there was no memory, the front of the text is written; after `ReadFault` at least what
 /// is shown of the whole lines that were read is written. It keeps no more than 65,536 bytes of a
 /// line, and the last tree of each card.
 pub fn show_log<S: Source, K: Sink>(
