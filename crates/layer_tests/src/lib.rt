@@ -6,6 +6,8 @@ mod advices;
 #[cfg(test)]
 mod cables;
 #[cfg(test)]
+mod dumps;
+#[cfg(test)]
 mod elections;
 #[cfg(test)]
 mod images;
@@ -13,6 +15,8 @@ mod images;
 mod lanes;
 #[cfg(test)]
 mod lines;
+#[cfg(test)]
+mod logs;
 #[cfg(test)]
 mod machines;
 #[cfg(test)]

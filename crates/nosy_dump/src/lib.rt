@@ -9,8 +9,6 @@ mod dump;
 mod form;
 mod laws;
 mod record;
-#[cfg(test)]
-mod tests;
 mod texts;
 
 pub use dump::show_dump;

@@ -16,8 +16,6 @@ mod number;
 mod sentence;
 mod shown;
 mod stop;
-#[cfg(test)]
-mod tests;
 mod texts;
 mod word;
 mod words;

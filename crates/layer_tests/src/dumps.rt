@@ -1,7 +1,7 @@
 //! Tests of dumps in memory, with faults of the source and of the sink.
 
-use crate::dump::show_dump;
 use io_edges::{MemSink, MemSource};
+use nosy_dump::show_dump;
 use reset_log::LogStop;
 use self_id::Standard;
 use std::test::Fail;

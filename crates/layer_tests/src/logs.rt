@@ -1,9 +1,7 @@
 //! Tests of lines and of logs in memory, with faults of the source and of the sink.
 
-use crate::line::{LogLine, Origin, line_of};
-use crate::log::show_log;
-use crate::stop::LogStop;
 use io_edges::{MemSink, MemSource};
+use reset_log::{LogLine, LogStop, Origin, line_of, show_log};
 use self_id::Standard;
 use std::test::Fail;
 
