@@ -31,7 +31,7 @@ pub fn enter(s: &mut NodeState, caused: bool, out: &mut Sends)
     ensures sends { out.new ≡ (enter caused s.old).sends }
 {
     let view = &mut s.view;
-    out.push_on_every(view.ports.as_slice(), Signal::Reset);
+    out.push_on_every(&view.ports, Signal::Reset);
     clear_marks(&mut view.ports);
     view.phase = Phase::ResetStart;
     view.timer = 0;

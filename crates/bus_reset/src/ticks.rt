@@ -20,7 +20,7 @@ pub fn reset_tick(s: &mut NodeState, out: &mut Sends)
             if s.view.timer >= s.timing.hold {
                 s.view.phase = Phase::ResetWait;
                 s.view.timer = 0;
-                out.push_on_every(s.view.ports.as_slice(), Signal::Idle);
+                out.push_on_every(&s.view.ports, Signal::Idle);
             }
         }
         Phase::ResetWait => {

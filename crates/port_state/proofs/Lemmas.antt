@@ -14,7 +14,10 @@ pub use Rattle.port_state.proofs.IdleTicks.{after-idle_ticks, idle_ticks-rest}
 -- The roles of ports, as the rows of tree identify give and change them.
 pub use Rattle.port_state.proofs.Roles.{decided_few, left_is}
 -- What goes out on ports: on which, and how much.
-pub use Rattle.port_state.proofs.Sent.{on-append}
+pub use Rattle.port_state.proofs.Outgoing.{on-append, few-sends_from}
 -- That a record is valid has one proof at most, so a machine can keep it as a fact of its own. No
 -- public contract cites this file.
 pub use Rattle.port_state.specs.codings.OneProof.{valid_prop}
+-- What goes out on the ports of a set: on each port, and as lists.
+pub use Rattle.port_state.proofs.PortBits.{has-above}
+pub use Rattle.port_state.proofs.OnPorts.{sent_on-ports, sent_on-all_sent, all_sent-append, none-sent, one-sent, every-sent, others-sent}

@@ -5,7 +5,9 @@ pub mod IdleTicks
 pub mod Lemmas
 pub mod Pointwise
 pub mod Roles
-pub mod Sent
+pub mod OnPorts
+pub mod PortBits
+pub mod Outgoing
 pub mod Shown
 pub mod Sound
 pub mod Stays

@@ -18,13 +18,13 @@ one go sent None = []
 one go sent (Some p) = if go && p.connected then sent p ∷ [] else []
 
 -- a signal on another port is passed over, and one on this port counts
-skipped :
+pub skipped :
     (b : Bool) (port k : ℕ) (s : Signal) (rest : List (ℕ × Signal)) → (k == port) ≡ false →
     sent_on port (if b then (k, s) ∷ rest else rest) ≡ sent_on port rest
 skipped true port k s rest e = rw e refl
 skipped false port k s rest e = refl
 
-counted :
+pub counted :
     (b : Bool) (port k : ℕ) (s : Signal) (rest : List (ℕ × Signal)) → (k == port) ≡ true →
     sent_on port rest ≡ [] →
     sent_on port (if b then (k, s) ∷ rest else rest) ≡ (if b then s ∷ [] else [])
@@ -124,7 +124,7 @@ packets-port port (q ∷ qs) ports =
 
 -- ---- ports
 
-same_suc : (k n : ℕ) → (k == n) ≡ (suc k == suc n)
+pub same_suc : (k n : ℕ) → (k == n) ≡ (suc k == suc n)
 same_suc k n = go (k == n) refl
   where
     go : (b : Bool) → (k == n) ≡ b → b ≡ (suc k == suc n)

@@ -33,7 +33,7 @@ use Rattle.port_state.specs.Tick.{raise_timer, row_of, does, tick}
 use Rattle.port_state.specs.Valid.{IsBounded, EachPort, HasNoRoles, FitsRole, HasRoles, FitsPhase, IsValid}
 use Rattle.port_state.specs.Sound.{IsSound, TicksAreSound, SignalsAreSound, EntriesAreSound, DisturbsAreSound, PlugsAreSound, PullsAreSound, ConfigsKeepValid, PowerOnIsValid}
 use Rattle.port_state.proofs.EachPort.{each-changed, length-changed, port_is-implies, port_is-map, port_is-changed, lowest-passes}
-use Rattle.port_state.proofs.Sent.{few-sends_from, all-connected, on-append, packets-connected, few-packets, on-port, few-on_port}
+use Rattle.port_state.proofs.Outgoing.{few-sends_from, all-connected, on-append, packets-connected, few-packets, on-port, few-on_port}
 use Rattle.port_state.proofs.Roles.{decided_few, all_take_roles, parent-connected, rival_taken}
 
 -- ---- bounds are seen from these parts alone

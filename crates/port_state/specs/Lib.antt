@@ -3,6 +3,7 @@ pub mod Limits
 pub mod Timing
 pub mod Ports
 pub mod Sends
+pub mod PortSet
 pub mod Step
 pub mod Coins
 pub mod PowerOn

@@ -10,6 +10,7 @@
 mod coins;
 mod idle_laws;
 mod machine;
+mod port_set;
 mod port_tests;
 mod ports;
 mod sends;
@@ -22,9 +23,10 @@ mod view;
 pub use coins::Coins;
 pub use idle_laws::idle_ticks;
 pub use machine::PortMachine;
+pub use port_set::PortSet;
 pub use port_tests::PortTests;
 pub use ports::{PortView, PortViews};
-pub use sends::Sends;
+pub use sends::{Sends, Sent};
 pub use signal::{Level, Phase, Signal};
 pub use step_laws::{
     cables_by_number, coins_repeat, config_is_valid, ports_by_number, power_on_is_valid,

@@ -1,6 +1,9 @@
 //! What a node knows of its ports.
-ghost use Rattle.std.specs.Prelude.{◌≡◌, ◌<◌, ◌≤◌, [], ◌∷◌, ◌++◌, length, slice_get, slice_set};
+ghost use Rattle.std.specs.Prelude.{◌≡◌, ◌<◌, ◌≤◌, [], ◌∷◌, ◌++◌, length, slice_get, slice_set, ℕ};
+ghost use Rattle.port_state.specs.PortSet.{has_port};
+ghost use Rattle.port_state.specs.Ports.{is_connected};
 
+use crate::port_set::PortSet;
 use crate::signal::Level;
 use arrayvec::ArrayVec;
 use std::marker::Model;
@@ -24,17 +27,21 @@ pub struct PortView {
 #[derive(Debug, Drop)]
 pub struct PortViews {
     items: ArrayVec<PortView, 16>,
+    connected: PortSet,
 }
 
 impl Model for PortViews {
-    ghost use Rattle.std.specs.Prelude.{List, length, ◌≤◌};
+    ghost use Rattle.std.specs.Prelude.{List, length, ◌≤◌, ◌≡◌, ℕ};
     ghost use Rattle.port_state.specs.declared.ports.PortView.{PortView};
+    ghost use Rattle.port_state.specs.PortSet.{has_port};
+    ghost use Rattle.port_state.specs.Ports.{is_connected};
 
     ghost Value = { List PortView };
 
     ghost view = { λ p. p.items.items };
 
-    ghost invariant = { λ p. length p.items.items ≤ 16 };
+    ghost invariant = { λ p. (length p.items.items ≤ 16)
+        × ((k : ℕ) → has_port p.connected k ≡ is_connected p.items.items k) };
 }
 
 impl PortViews {
@@ -44,6 +51,7 @@ impl PortViews {
     {
         PortViews {
             items: ArrayVec::new(),
+            connected: PortSet::none(),
         }
     }
 
@@ -52,6 +60,9 @@ impl PortViews {
         requires { length self.old < 16 }
         ensures { self.new ≡ self.old ++ port ∷ [] }
     {
+        if port.connected {
+            self.connected.insert(self.items.len() as u8);
+        }
         self.items.push(port);
     }
 
@@ -61,6 +72,14 @@ impl PortViews {
         ensures few { length result.now ≤ 16 }
     {
         self.items.as_slice()
+    }
+
+    /// The ports that are connected. There are 16 ports at most.
+    pub fn connected(&self) -> PortSet
+        ensures ports { (k : ℕ) → has_port result k ≡ is_connected self.now k }
+        ensures few { length self.now ≤ 16 }
+    {
+        self.connected
     }
 
     /// The view of port `at`, which is below the number of ports.
@@ -76,6 +95,11 @@ impl PortViews {
         requires { at < length self.old }
         ensures { self.new ≡ slice_set self.old at port }
     {
+        if port.connected {
+            self.connected.insert(at as u8);
+        } else {
+            self.connected.remove(at as u8);
+        }
         self.items[at] = port;
     }
 }

@@ -1,8 +1,10 @@
 //! What a node sends in one step.
 ghost use Rattle.std.specs.Prelude.{◌≡◌, ◌<◌, ◌≤◌, [], ◌∷◌, ◌++◌, length, ◌+◌};
+ghost use Rattle.port_state.specs.PortSet.{on_ports, all_sent};
 ghost use Rattle.port_state.specs.Sends.{on_every};
 
-use crate::ports::PortView;
+use crate::port_set::PortSet;
+use crate::ports::PortViews;
 use crate::signal::Signal;
 use arrayvec::ArrayVec;
 use std::marker::Model;
@@ -11,21 +13,33 @@ use std::marker::Model;
 /// since the most is three packets on every port, and Done.
 pub const SENDS_LIMIT: usize = 112;
 
-/// Signals with the ports on which they are sent, first to last, at most 112.
+/// A signal that is sent on some ports at once.
+#[derive(Clone, Copy, Debug, Default)]
+pub struct Sent {
+    /// The ports.
+    pub ports: PortSet,
+    /// The signal.
+    pub signal: Signal,
+}
+
+/// Signals with the ports on which they are sent, first to last, at most 112. What is sent on some
+/// ports at once is kept as one entry.
 #[derive(Debug, Drop)]
 pub struct Sends {
-    items: ArrayVec<(u8, Signal), SENDS_LIMIT>,
+    items: ArrayVec<Sent, SENDS_LIMIT>,
 }
 
 impl Model for Sends {
     ghost use Rattle.std.specs.Prelude.{List, length, ◌≤◌, ℕ};
     ghost use Rattle.port_state.specs.declared.signal.Signal.{Signal};
+    ghost use Rattle.port_state.specs.PortSet.{all_sent};
 
     ghost Value = { List (ℕ × Signal) };
 
-    ghost view = { λ s. s.items.items };
+    ghost view = { λ s. all_sent s.items.items };
 
-    ghost invariant = { λ s. length s.items.items ≤ 112 };
+    ghost invariant = { λ s. (length s.items.items ≤ length (all_sent s.items.items))
+        × (length (all_sent s.items.items) ≤ 112) };
 }
 
 impl Sends {
@@ -38,26 +52,35 @@ impl Sends {
         }
     }
 
-    /// Appends a port, numbered from 0, and the signal that is sent on it.
+    /// Appends a port, 0 to 15, and the signal that is sent on it.
     pub fn push(&mut self, port: u8, signal: Signal)
-        requires { length self.old < 112 }
+        requires port { port < 16 }
+        requires room { length self.old < 112 }
         ensures { self.new ≡ self.old ++ (port, signal) ∷ [] }
     {
-        self.items.push((port, signal));
+        self.items.push(Sent {
+            ports: PortSet::one(port),
+            signal,
+        });
     }
 
-    /// Appends a signal on each connected port of a node, at most 16, in rising port order.
-    pub fn push_on_every(&mut self, ports: &[PortView], signal: Signal)
-        requires few { length ports.now ≤ 16 }
-        requires room { length self.old + length ports.now ≤ 112 }
+    /// Appends a signal on each port of a set, in rising port order.
+    pub fn push_on(&mut self, ports: PortSet, signal: Signal)
+        requires { length self.old + length (on_ports ports signal) ≤ 112 }
+        ensures { self.new ≡ self.old ++ on_ports ports signal }
+    {
+        if !ports.is_none() {
+            self.items.push(Sent { ports, signal });
+        }
+    }
+
+    /// Appends a signal on each connected port of a node, in rising port order.
+    pub fn push_on_every(&mut self, ports: &PortViews, signal: Signal)
+        requires { length self.old + length ports.now ≤ 112 }
         ensures sends { self.new ≡ self.old ++ on_every signal ports.now }
         ensures fits { length self.new ≤ length self.old + length ports.now }
     {
-        for (at, port) in ports.iter().enumerate() {
-            if port.connected {
-                self.push(at as u8, signal);
-            }
-        }
+        self.push_on(ports.connected(), signal);
     }
 
     /// Takes away all of them.
@@ -67,9 +90,9 @@ impl Sends {
         self.items.clear();
     }
 
-    /// The ports and signals, the first that was sent first.
-    pub fn as_slice(&self) -> &[(u8, Signal)]
-        ensures value { result.now ≡ self.now }
+    /// The signals with their ports, what was sent first first.
+    pub fn as_slice(&self) -> &[Sent]
+        ensures value { all_sent result.now ≡ self.now }
         ensures few { length result.now ≤ 112 }
     {
         self.items.as_slice()

@@ -12,7 +12,7 @@ use crate::group;
 use arrayvec::ArrayVec;
 use phy_packet::is_packet_zero;
 use port_state::states::NodeState;
-use port_state::{Phase, PortTests, PortView, Sends, Signal};
+use port_state::{Phase, PortTests, PortViews, Sends, Signal};
 
 /// How many nodes a list of packets shows: so many of its quadlets are a packet zero.
 pub fn node_count(list: &[u32]) -> usize
@@ -33,7 +33,7 @@ fn append(list: &mut ArrayVec<u32, 252>, quads: &[u32])
 }
 
 /// Sends each packet in turn on every connected port.
-fn send_packets(quads: &[u32], ports: &[PortView], out: &mut Sends)
+fn send_packets(quads: &[u32], ports: &PortViews, out: &mut Sends)
     requires few { length ports.now ≤ 16 }
     requires packets { length quads.now ≤ 4 }
     requires room { length out.old + 16 * length quads.now ≤ 112 }
@@ -67,7 +67,7 @@ fn name_itself(s: &mut NodeState, out: &mut Sends)
     s.view.phase = Phase::Ready;
     s.view.id = Some(id);
     append(&mut s.list, packets);
-    send_packets(packets, s.view.ports.as_slice(), out);
+    send_packets(packets, &s.view.ports, out);
     if let Some(parent) = s.view.parent {
         out.push(parent, Signal::Done);
     }

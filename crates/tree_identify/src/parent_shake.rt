@@ -1,6 +1,6 @@
 //! T2 (Parent handshake): the parent is to take this node, or there is none and this node is the
 //! root.
-ghost use Rattle.std.specs.Prelude.{◌≡◌, ◌<◌, [], false, length, IsFalse};
+ghost use Rattle.std.specs.Prelude.{◌≡◌, ◌<◌, ◌≤◌, [], false, length, IsFalse};
 ghost use Rattle.std.specs.Option.{ForSome};
 ghost use Rattle.port_state.specs.Rival.{parent_asks};
 ghost use Rattle.port_state.specs.TreeIdentify.{parent_shake_row};
@@ -12,6 +12,7 @@ use port_state::{Level, Phase, Sends, Signal};
 /// T2 to S0: the root is granted at once; any other node where its parent port shows Child, to
 /// which it sends Idle.
 pub fn tick(s: &mut NodeState, out: &mut Sends)
+    requires few { length s.old.view.ports ≤ 16 }
     requires parent { ForSome s.old.view.parent (λ p. p < length s.old.view.ports) }
     requires alone { IsFalse (parent_asks s.old.view.parent s.old) }
     requires empty { out.old ≡ [] }
