@@ -1,16 +1,15 @@
 -- Worlds that run: how the code goes from item to item.
 --
--- `Mixed`: a table that a loop writes anew from its head on. `Rest`: wires on which nothing is under way stay as they
--- are. `Sending`: signals put onto a node's wires one after the other. `Hearing`: a node hears signals one after the
--- other. `Spared`: nothing arrives at a node that isn't marked. `Lists`: whether a list changed is seen from its length. `AllNodes`: the tables of a turn, entry by entry.
+-- `Mixed`: a table that a loop writes anew from its head on. `Rows`: what is under way on a node's wires, kept as
+-- entries. `Sending`: what is sent goes onto a node's wires. `Hearing`: a node hears signals one after the other.
+-- `Lists`: whether a list changed is seen from its length. `AllNodes`: the tables of a turn, entry by entry.
 -- `Stepping`: a step of one node between two turns. `Whole`: a world by its parts, and its vectors. `Start`: the
 -- tables at power-on. `Acting`: steps of one node and of two, and the packet for a set of nodes. `Acts`: the four
 -- acts. `Still`: turns in which nothing happens.
 pub mod Mixed
-pub mod Rest
+pub mod Rows
 pub mod Sending
 pub mod Hearing
-pub mod Spared
 pub mod Lists
 pub mod AllNodes
 pub mod Stepping

@@ -1,13 +1,13 @@
 //! The turn of a world, over its parts.
-ghost use Rattle.std.specs.Prelude.{◌≡◌, ◌==◌, ◌+◌, ◌<◌, ◌≤◌, [], true, false, slice_index_or, length, map, OnOk, IfOk, IfSome, IsFalse, All, if◌then◌else◌};
+ghost use Rattle.std.specs.Prelude.{◌≡◌, ◌==◌, ◌+◌, ◌<◌, ◌≤◌, ℕ, true, length, map, OnOk, IfOk, All, if◌then◌else◌};
+ghost use Rattle.port_state.specs.PortSet.{has_port};
 ghost use Rattle.port_state.specs.Machine.{PortNode, NodeStep};
 ghost use Rattle.cable_world.specs.Wire.{arrives, stays};
 ghost use Rattle.cabling.specs.Wiring.{ports_of};
 ghost use Rattle.cable_world.specs.Turn.{node_turn, wires_after_sends, same_list};
 ghost use Rattle.cable_world.specs.Turn.{all_wires_after_sends, last_changes};
-ghost use Rattle.cable_world.specs.running.Hearing.{inbox_of};
+ghost use Rattle.cable_world.specs.running.Hearing.{AreQuietBut, inbox_of};
 ghost use Rattle.cable_world.specs.running.Ages.{AreYoung};
-ghost use Rattle.cable_world.specs.running.Spared.{AreMarked, StaysMarked, AreSpared};
 ghost use Rattle.cable_world.specs.running.Steps.{turns_of, HasItsPorts};
 ghost use Rattle.cable_world.specs.Parts.{world_record};
 ghost use Rattle.cable_world.specs.Turn.{turn};
@@ -15,8 +15,8 @@ ghost use Rattle.cable_world.specs.Lawful.{IsLawful};
 
 use crate::nodes::turn_node;
 use crate::rows::{ArrivalRow, WireRow};
-use cabling::{Cabling, End, OutOfMemory, cables_are_two_ended};
-use port_state::{PortMachine, Sends, Signal};
+use cabling::{Cabling, OutOfMemory};
+use port_state::{PortMachine, PortSet, Sends};
 
 /// A turn of every wire. What arrives at their far ends takes the place of what is in `arrivals`.
 pub fn turn_wires(
@@ -35,51 +35,15 @@ pub fn turn_wires(
     Ok(())
 }
 
-/// Marks the node at a far end, where signals arrive there.
-#[tactic(auto, using(crate::proofs::running::Spared::set_marks, crate::proofs::running::Spared::set_keeps, crate::proofs::running::Spared::past_marks))]
-fn mark_far(far: Option<End>, signals: &[Signal], hears: &mut [bool])
-    ensures marked { IfSome far (λ end.
-        slice_index_or hears.new end.node true ≡ false → signals.now ≡ []) }
-    ensures kept { StaysMarked hears.old hears.new }
-    ensures count { length hears.new ≡ length hears.old }
+/// Every port, 0 to 15.
+fn all_ports() -> PortSet
+    ensures { (k : ℕ) → k < 16 → has_port result k ≡ true }
 {
-    if signals.is_empty() {
-        return;
+    let mut ports = PortSet::none();
+    for port in 0..16 {
+        ports.insert(port);
     }
-    if let Some(End { node, .. }) = far {
-        let node = usize::from(node);
-        if node < hears.len() {
-            hears[node] = true;
-        }
-    }
-}
-
-/// Marks the nodes at the far ends of a node's wires from which something arrives. The node exists.
-fn mark_hearers(cabling: &Cabling, node: u8, row: &ArrivalRow, hears: &mut [bool])
-    requires { node < length cabling.now }
-    ensures marked { AreMarked cabling.now node row.now hears.new }
-    ensures kept { StaysMarked hears.old hears.new }
-    ensures count { length hears.new ≡ length hears.old }
-{
-    for port in 0..cabling.ports(node) {
-        mark_far(cabling.far(End { node, port }), row.from_port(port), hears);
-    }
-}
-
-/// Which nodes hear something.
-pub fn hearers(cabling: &Cabling, arrivals: &[ArrivalRow]) -> [bool; 63]
-    requires { length arrivals.now ≡ length cabling.now }
-    ensures { AreSpared arrivals.now cabling.now result }
-{
-    cables_are_two_ended(cabling);
-    let mut hears = [false; 63];
-    for node in 0..cabling.nodes() {
-        let row = &arrivals[usize::from(node)];
-        if !row.is_none() {
-            mark_hearers(cabling, node, row, &mut hears);
-        }
-    }
-    hears
+    ports
 }
 
 /// When a list changed last, by its lengths before and after a turn. A list only grows at its end or is
@@ -91,22 +55,21 @@ pub fn last_change(before: usize, after: usize, turns: u32, last: u32) -> u32
 }
 
 /// The turn of one node in turn number `turns`, from 1: answers when its list changed last, which
-/// was at the end of turn number `last` before.
+/// was at the end of turn number `last` before. At the ports that aren't in `heard` nothing arrives.
 pub fn turn_one<M: PortMachine>(
     machine: &mut M,
     cabling: &Cabling,
     node: u8,
     arrivals: &[ArrivalRow],
-    hears: bool,
+    heard: PortSet,
     turns: u32,
     last: u32,
     out: &mut Sends,
     wires: &mut WireRow,
 ) -> Result<u32, OutOfMemory>
     requires exists { node < length cabling.now }
-    requires spared { IsFalse hears → inbox_of arrivals.now 0 (ports_of cabling.now node) ≡ [] }
+    requires quiet { AreQuietBut heard arrivals.now cabling.now node }
     requires ports { length (ports_of cabling.now node) ≡ (M.record_of machine.old).state.ports }
-    requires wires { length wires.old ≡ (M.record_of machine.old).state.ports }
     ensures node { OnOk result (M.record_of machine.new
         ≡ (node_turn (inbox_of arrivals.now 0 (ports_of cabling.now node))
         (M.record_of machine.old)).node) }
@@ -118,7 +81,7 @@ pub fn turn_one<M: PortMachine>(
         else turns)) }
 {
     let before = machine.list().len();
-    turn_node(machine, cabling, node, arrivals, hears, out, wires)?;
+    turn_node(machine, cabling, node, arrivals, heard, out, wires)?;
     Ok(last_change(before, machine.list().len(), turns, last))
 }
 
@@ -127,7 +90,6 @@ pub fn turn_nodes<M: PortMachine>(
     machines: &mut [M],
     cabling: &Cabling,
     arrivals: &[ArrivalRow],
-    hears: &[bool; 63],
     turns: u32,
     changed: &mut [u32],
     out: &mut Sends,
@@ -135,10 +97,9 @@ pub fn turn_nodes<M: PortMachine>(
 ) -> Result<(), OutOfMemory>
     requires few { length machines.old ≤ 63 }
     requires nodes { length machines.old ≡ length cabling.now }
-    requires spared { AreSpared arrivals.now cabling.now hears.now }
     requires changes { length changed.old ≡ length cabling.now }
     requires rows { length wires.old ≡ length cabling.now }
-    requires ports { HasItsPorts cabling.now (map M.record_of machines.old) wires.old }
+    requires ports { HasItsPorts cabling.now (map M.record_of machines.old) }
     ensures node { OnOk result (map M.record_of machines.new
         ≡ map (λ (s : NodeStep). s.node)
         (turns_of arrivals.now cabling.now (map M.record_of machines.old))) }
@@ -149,13 +110,14 @@ pub fn turn_nodes<M: PortMachine>(
         ≡ all_wires_after_sends
         (turns_of arrivals.now cabling.now (map M.record_of machines.old)) wires.old) }
 {
+    let heard = all_ports();
     for node in 0..machines.len() {
         changed[node] = turn_one(
             &mut machines[node],
             cabling,
             node as u8,
             arrivals,
-            hears[node],
+            heard,
             turns,
             changed[node],
             out,
@@ -188,16 +150,6 @@ pub fn turn_world<M: PortMachine>(
     ensures same { OnOk result (map length arrivals.new ≡ map length wires.new) }
 {
     turn_wires(wires, delay, arrivals)?;
-    let hears = hearers(cabling, arrivals);
-    turn_nodes(
-        machines,
-        cabling,
-        arrivals,
-        &hears,
-        turns + 1,
-        changed,
-        out,
-        wires,
-    )?;
+    turn_nodes(machines, cabling, arrivals, turns + 1, changed, out, wires)?;
     Ok(())
 }

@@ -2,7 +2,7 @@
 //! do in a turn and in an act. `specs/running` has what their contracts cite.
 
 pub use crate::acting::act_world;
-pub use crate::all_nodes::{hearers, last_change, turn_nodes, turn_one, turn_wires, turn_world};
+pub use crate::all_nodes::{last_change, turn_nodes, turn_one, turn_wires, turn_world};
 pub use crate::nodes::turn_node;
 pub use crate::rows::{ArrivalRow, WireRow};
 pub use crate::start::{arrival_rows, no_changes, port_counts, wire_rows};

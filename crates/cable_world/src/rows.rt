@@ -1,115 +1,132 @@
 //! The wires that leave a node, and what arrives at their far ends.
-ghost use Rattle.std.specs.Prelude.{◌≡◌, ◌<◌, [], ◌∷◌, length, map, replicate, slice_set, slice_index, slice_index_or, All, OnOk, IfOk, ◌↔◌, IsTrue, IsFalse};
-ghost use Rattle.std.specs.List.{AllByRecursion};
+ghost use Rattle.std.specs.Prelude.{◌≡◌, ◌<◌, ◌-◌, ℕ, false, [], ◌&&◌, nat_lt, length, map, replicate, slice_get, slice_set, slice_index, slice_index_or, All, OnOk, IfOk, ◌↔◌, IsTrue, IsFalse, if◌then◌else◌};
 ghost use Rattle.port_state.specs.Ports.{PortNumber};
-ghost use Rattle.cable_world.specs.Wire.{Wire, empty_wire, arrives, stays};
+ghost use Rattle.port_state.specs.PortSet.{has_port, all_sent};
+ghost use Rattle.cable_world.specs.Wire.{empty_wire, arrives, stays};
 ghost use Rattle.cable_world.specs.Turn.{wires_after_sends};
 ghost use Rattle.cable_world.specs.Still.{IsSilent, hold_less};
 ghost use Rattle.cable_world.specs.running.Ages.{AreYoung};
 ghost use Rattle.cable_world.specs.running.Rest.{AreAtRest, AreNone};
+ghost use Rattle.cable_world.specs.running.Rows.{signals_on, keeps};
 
-use crate::wire::{Arrivals, Travelling, Wire};
+use crate::wire::{
+    Travelling, UnderWay, add_all, clear_port, count_on, is_due, part, ports_of, signal_on,
+};
 use cabling::OutOfMemory;
-use port_state::Signal;
+use port_state::{PortSet, Sent};
 use std::alloc::Global;
 use std::marker::Model;
+use std::mem::swap;
 
 /// The wires that leave a node, that of port 0 first.
 #[derive(Debug, Drop)]
 pub struct WireRow {
-    wires: Vec<Wire>,
-    // Whether something may be under way on one of them, or one be held.
-    in_use: bool,
-    ghost at_rest: { IsFalse in_use → AreAtRest wires.items },
+    // What is under way, the oldest first.
+    sent: Vec<UnderWay>,
+    // For how many turns to come each wire is held.
+    held: Vec<u16>,
+    // The ports.
+    ports: PortSet,
+    // Whether some wire may be held.
+    holds: bool,
+    ghost free: { IsFalse holds → All (λ h. h ≡ 0) held.items },
+    ghost row: { (k : ℕ) → has_port ports k ≡ (nat_lt k 16 && nat_lt k (length held.items)) },
 }
 
 impl Model for WireRow {
     ghost use Rattle.std.specs.Prelude.{List};
     ghost use Rattle.cable_world.specs.Wire.{Wire};
+    ghost use Rattle.cable_world.specs.running.Rows.{wires_from};
 
     ghost Value = { List Wire };
 
-    ghost view = { λ r. r.wires.items };
+    ghost view = { λ r. wires_from 0 r.sent.items r.held.items };
 }
 
 /// What arrives from the wires that leave a node, that of port 0 first.
 #[derive(Debug, Drop)]
 pub struct ArrivalRow {
-    arrivals: Vec<Arrivals>,
-    // Whether something may arrive from one of them.
-    any: bool,
-    ghost none: { IsFalse any → AreNone arrivals.items },
+    // What arrives, the oldest first.
+    sent: Vec<UnderWay>,
+    // The number of wires.
+    ports: u8,
 }
 
 impl Model for ArrivalRow {
     ghost use Rattle.std.specs.Prelude.{List};
     ghost use Rattle.port_state.specs.declared.signal.Signal.{Signal};
+    ghost use Rattle.cable_world.specs.running.Rows.{arrivals_from};
 
     ghost Value = { List (List Signal) };
 
-    ghost view = { λ r. r.arrivals.items };
+    ghost view = { λ r. arrivals_from r.ports 0 r.sent.items };
 }
 
 impl ArrivalRow {
     /// Nothing arrives from so many wires.
-    pub fn new(alloc: Global, ports: u8) -> Result<ArrivalRow, OutOfMemory>
-        ensures { IfOk result (λ row. row ≡ replicate ports []) }
+    pub fn new(alloc: Global, ports: u8) -> ArrivalRow
+        ensures { result ≡ replicate ports [] }
     {
-        let mut arrivals = Vec::with_capacity(alloc, ports as usize)?;
-        for _ in 0..ports {
-            arrivals.push(Arrivals::new(alloc))?;
-        }
-        Ok(ArrivalRow {
-            arrivals,
-            any: false,
-        })
-    }
-
-    /// What arrives from the wire of a port.
-    pub fn from_port(&self, port: u8) -> &[Signal]
-        ensures { result.now ≡ slice_index_or self.now port [] }
-    {
-        if !self.any {
-            return &[];
-        }
-        match self.arrivals.get(port as usize) {
-            None => &[],
-            Some(arrivals) => arrivals.as_slice(),
+        ArrivalRow {
+            sent: Vec::new(alloc),
+            ports,
         }
     }
 
     /// Whether it is known that nothing arrives.
-    #[tactic(auto, using(crate::proofs::running::Rest::none_at))]
     pub fn is_none(&self) -> bool
-        ensures { IsTrue result → (port : PortNumber) → slice_index_or self.now port [] ≡ [] }
+        ensures { IsTrue result → AreNone self.now }
     {
-        !self.any
+        self.sent.is_empty()
     }
 
-    /// Nothing arrives any more.
-    fn clear(&mut self)
-        ensures { self.new ≡ map (λ old. []) self.old }
+    /// The ports from whose wires something arrives. From a port in the set nothing may arrive where
+    /// the row has no wire of it.
+    pub fn ports(&self) -> PortSet
+        ensures { (p : ℕ) → has_port result p ≡ false → slice_index_or self.now p [] ≡ [] }
     {
-        if !self.any {
-            return;
+        ports_of(&self.sent)
+    }
+
+    /// What arrives, with the ports from whose wires it does, where the row has a wire of this port.
+    pub(crate) fn at(&self, port: u8) -> &[UnderWay]
+        ensures { signals_on port result.now ≡ slice_index_or self.now port [] }
+    {
+        if port >= self.ports {
+            return &[];
         }
-        for at in 0..self.arrivals.len() {
-            self.arrivals[at].clear();
-        }
-        self.any = false;
+        self.sent.as_slice()
     }
 }
 
-/// Whether nothing is under way on the wires, and none is held.
-fn are_at_rest(wires: &[Wire]) -> bool
-    ensures { IsTrue result → AreAtRest wires.now }
+/// The ports whose wires keep what is under way in a turn, where a cable delays by at most `delay`
+/// turns.
+fn keeping(sent: &[UnderWay], held: &[u16], delay: u8) -> PortSet
+    ensures { (k : ℕ) → k < length held.now → has_port result k
+        ≡ (nat_lt k 16 && keeps delay k sent.now (slice_index held.now k)) }
 {
-    for wire in wires {
-        if !wire.is_at_rest() {
-            return false;
+    let mut kept = PortSet::none();
+    for port in 0..held.len().min(16) {
+        let at = port as u8;
+        if held[port] != 0 && !is_due(sent, at, delay) {
+            kept.insert(at);
         }
     }
-    true
+    kept
+}
+
+/// Each hold has so many turns less to go. Answers whether some is left.
+fn count_down(held: &mut [u16], turns: u32) -> bool
+    ensures less { held.new ≡ map (λ h. h - turns) held.old }
+    ensures left { IsFalse result → All (λ h. h ≡ 0) held.new }
+{
+    let mut left = false;
+    for at in 0..held.len() {
+        let turns_left = u32::from(held[at]).saturating_sub(turns);
+        held[at] = turns_left as u16;
+        left |= turns_left != 0;
+    }
+    left
 }
 
 impl WireRow {
@@ -117,39 +134,26 @@ impl WireRow {
     pub fn new(alloc: Global, ports: u8) -> Result<WireRow, OutOfMemory>
         ensures { IfOk result (λ row. row ≡ replicate ports empty_wire) }
     {
-        let mut wires = Vec::with_capacity(alloc, ports as usize)?;
-        for _ in 0..ports {
-            wires.push(Wire::new(alloc))?;
+        let mut held = Vec::with_capacity(alloc, ports as usize)?;
+        let mut row = PortSet::none();
+        for port in 0..ports {
+            held.push(0)?;
+            row.insert(port);
         }
         Ok(WireRow {
-            wires,
-            in_use: false,
+            sent: Vec::new(alloc),
+            held,
+            ports: row,
+            holds: false,
         })
     }
 
-    /// Sends signals on ports, the first first. The ports exist.
-    pub fn send_all(&mut self, sends: &[(u8, Signal)]) -> Result<(), OutOfMemory>
-        requires { All (λ s. s.0 < length self.old) sends.now }
-        ensures sent { OnOk result (self.new ≡ wires_after_sends 0 sends.now self.old) }
+    /// Sends signals on ports, the first first. What is sent on a port that doesn't exist is lost.
+    pub fn send_all(&mut self, sends: &[Sent]) -> Result<(), OutOfMemory>
+        ensures sent { OnOk result (self.new ≡ wires_after_sends 0 (all_sent sends.now) self.old) }
         ensures ports { length self.new ≡ length self.old }
     {
-        if sends.is_empty() {
-            return Ok(());
-        }
-        self.put(sends)
-    }
-
-    /// Puts signals on wires, as `send_all` has it.
-    #[inline(never)]
-    fn put(&mut self, sends: &[(u8, Signal)]) -> Result<(), OutOfMemory>
-        requires { All (λ s. s.0 < length self.old) sends.now }
-        ensures sent { OnOk result (self.new ≡ wires_after_sends 0 sends.now self.old) }
-        ensures ports { length self.new ≡ length self.old }
-    {
-        self.in_use = true;
-        for (port, signal) in sends {
-            self.wires[*port as usize].send(*signal)?;
-        }
+        add_all(&mut self.sent, sends)?;
         Ok(())
     }
 
@@ -158,7 +162,8 @@ impl WireRow {
         requires { port < length self.old }
         ensures { self.new ≡ slice_set self.old port empty_wire }
     {
-        self.wires[port as usize].clear();
+        clear_port(&mut self.sent, port);
+        self.held[port as usize] = 0;
     }
 
     /// Holds the wire of a port for so many turns. The port exists.
@@ -168,8 +173,8 @@ impl WireRow {
             ≡ slice_set self.old port
             (record (slice_index_or self.old port empty_wire) { held = turns }) }
     {
-        self.in_use = true;
-        self.wires[port as usize].hold(turns);
+        self.holds = true;
+        self.held[port as usize] = turns;
     }
 
     /// A turn of the wires, where a cable delays by at most `delay` turns. What arrives at their far
@@ -182,52 +187,61 @@ impl WireRow {
         ensures ports { length self.new ≡ length self.old }
         ensures rows { length arrivals.new ≡ length arrivals.old }
     {
-        if !self.in_use {
-            arrivals.clear();
+        arrivals.sent.clear();
+        swap(&mut self.sent, &mut arrivals.sent);
+        if !self.holds {
             return Ok(());
         }
-        arrivals.any = true;
-        for at in 0..self.wires.len() {
-            self.wires[at].turn(delay, &mut arrivals.arrivals[at])?;
-        }
-        self.in_use = !are_at_rest(&self.wires);
+        let kept = keeping(&arrivals.sent, &self.held, delay);
+        part(kept, &mut arrivals.sent, &mut self.sent)?;
+        self.holds = count_down(&mut self.held, 1);
         Ok(())
     }
 
-    /// What is under way on the wire of a port, the oldest first; nothing where the port doesn't exist.
-    pub fn under_way(&self, port: u8) -> &[Travelling]
-        ensures { result.now ≡ (slice_index_or self.now port empty_wire).signals }
+    /// How many signals are under way on the wire of a port: none where the port doesn't exist.
+    pub fn count(&self, port: u8) -> usize
+        ensures { result ≡ length (slice_index_or self.now port empty_wire).signals }
     {
-        match self.wires.get(port as usize) {
-            None => &[],
-            Some(wire) => wire.signals(),
+        if usize::from(port) >= self.held.len() {
+            return 0;
         }
+        count_on(&self.sent, port)
+    }
+
+    /// What is under way on the wire of a port: the oldest at place 0, and none past the last or where
+    /// the port doesn't exist.
+    pub fn under_way(&self, port: u8, at: usize) -> Option<Travelling>
+        ensures { result ≡ slice_get (slice_index_or self.now port empty_wire).signals at }
+    {
+        if usize::from(port) >= self.held.len() {
+            return None;
+        }
+        signal_on(&self.sent, port, at)
     }
 
     /// Whether nothing is under way on the wires.
     pub fn is_silent(&self) -> bool
         ensures { IsTrue result ↔ All IsSilent self.now }
     {
-        if !self.in_use {
+        if self.sent.is_empty() {
             return true;
         }
-        for wire in &self.wires {
-            if !wire.is_silent() {
-                return false;
-            }
-        }
-        true
+        ports_of(&self.sent).both(self.ports).is_none()
+    }
+
+    /// Whether it is known that nothing is under way on the wires, and that none is held.
+    pub fn is_at_rest(&self) -> bool
+        ensures { IsTrue result → AreAtRest self.now }
+    {
+        !self.holds && self.sent.is_empty()
     }
 
     /// So many turns pass, in which nothing is under way.
     pub fn pass(&mut self, turns: u32)
         ensures { self.new ≡ map (hold_less turns) self.old }
     {
-        if !self.in_use {
-            return;
-        }
-        for at in 0..self.wires.len() {
-            self.wires[at].pass(turns);
+        if self.holds {
+            self.holds = count_down(&mut self.held, turns);
         }
     }
 }

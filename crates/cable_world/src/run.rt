@@ -125,8 +125,13 @@ pub trait WorldRun {
 
 /// A world that shows what is under way on its wires.
 pub trait ShowsWires: WorldRun {
-    /// What is under way on the wire that leaves an end, the oldest first, each with the number of
-    /// turns for which it has been. Nothing is where there is no such end, or no cable at it.
-    fn under_way(&self, end: End) -> &[Travelling]
-        ensures { result.now ≡ (wire_of (Self.world self.now) end).signals };
+    /// How many signals are under way on the wire that leaves an end: none where there is no such end,
+    /// or no cable at it.
+    fn count_under_way(&self, end: End) -> usize
+        ensures { result ≡ length (wire_of (Self.world self.now) end).signals };
+
+    /// What is under way on the wire that leaves an end, with the number of turns for which it has
+    /// been: the oldest at place 0, and none from `count_under_way` on.
+    fn under_way(&self, end: End, at: usize) -> Option<Travelling>
+        ensures { result ≡ slice_get (wire_of (Self.world self.now) end).signals at };
 }

@@ -39,7 +39,7 @@ pub fn arrival_rows(alloc: Global, ports: &[u8]) -> Result<Vec<ArrivalRow>, OutO
 {
     let mut rows = Vec::with_capacity(alloc, ports.len())?;
     for count in ports {
-        rows.push(ArrivalRow::new(alloc, *count)?)?;
+        rows.push(ArrivalRow::new(alloc, *count))?;
     }
     Ok(rows)
 }

@@ -19,7 +19,6 @@ fn disturb<M: PortMachine>(
     out: &mut Sends,
     wires: &mut WireRow,
 ) -> Result<u32, OutOfMemory>
-    requires wires { length wires.old ≡ (M.record_of machine.old).state.ports }
     ensures node { M.record_of machine.new ≡ (node_disturb (M.record_of machine.old)).node }
     ensures sent { OnOk result (wires.new
         ≡ wires_after_sends 0 (node_disturb (M.record_of machine.old)).sends wires.old) }
@@ -43,7 +42,6 @@ fn plug<M: PortMachine>(
     out: &mut Sends,
     wires: &mut WireRow,
 ) -> Result<u32, OutOfMemory>
-    requires wires { length wires.old ≡ (M.record_of machine.old).state.ports }
     requires exists { port < (M.record_of machine.old).state.ports }
     requires free { IsFalse (is_connected (M.record_of machine.old).state.view.ports port) }
     ensures node { M.record_of machine.new ≡ (node_plugged port (M.record_of machine.old)).node }
@@ -69,8 +67,7 @@ fn pull<M: PortMachine>(
     out: &mut Sends,
     wires: &mut WireRow,
 ) -> Result<u32, OutOfMemory>
-    requires wires { length wires.old ≡ (M.record_of machine.old).state.ports }
-    requires connected { IsTrue (is_connected (M.record_of machine.old).state.view.ports port) }
+    requires { IsTrue (is_connected (M.record_of machine.old).state.view.ports port) }
     ensures node { M.record_of machine.new ≡ (node_pulled port (M.record_of machine.old)).node }
     ensures sent { OnOk result (wires.new
         ≡ wires_after_sends 0 (node_pulled port (M.record_of machine.old)).sends wires.old) }
@@ -105,8 +102,7 @@ fn step_one<M: PortMachine>(
     out: &mut Sends,
     wires: &mut WireRow,
 ) -> Result<u32, OutOfMemory>
-    requires wires { length wires.old ≡ (M.record_of machine.old).state.ports }
-    requires suits { Suits act (M.record_of machine.old) }
+    requires { Suits act (M.record_of machine.old) }
     ensures node { M.record_of machine.new ≡ (step_of act (M.record_of machine.old)).node }
     ensures sent { OnOk result (wires.new
         ≡ wires_after_sends 0 (step_of act (M.record_of machine.old)).sends wires.old) }
@@ -134,8 +130,6 @@ pub fn step_node<M: PortMachine>(
     requires exists { node < length machines.old }
     requires rows { length wires.old ≡ length machines.old }
     requires changes { length changed.old ≡ length machines.old }
-    requires wires { IsSomeAnd (slice_get (map M.record_of machines.old) node)
-        (λ x. length (slice_index_or wires.old node []) ≡ x.state.ports) }
     requires suits { IsSomeAnd (slice_get (map M.record_of machines.old) node) (λ x. Suits act x) }
     ensures { OnOk result (StepLeads (note_step node (step_of act)) turns
         (map M.record_of machines.old) wires.old changed.old
@@ -169,9 +163,9 @@ pub fn step_both<M: PortMachine>(
     requires rows { length wires.old ≡ length machines.old }
     requires changes { length changed.old ≡ length machines.old }
     requires first_suits { IsSomeAnd (slice_get (map M.record_of machines.old) first.0)
-        (λ x. (length (slice_index_or wires.old first.0 []) ≡ x.state.ports) × Suits first.1 x) }
+        (λ x. Suits first.1 x) }
     requires second_suits { IsSomeAnd (slice_get (map M.record_of machines.old) second.0)
-        (λ x. (length (slice_index_or wires.old second.0 []) ≡ x.state.ports) × Suits second.1 x) }
+        (λ x. Suits second.1 x) }
     ensures { OnOk result (StepLeads
         (note_both first.0 (step_of first.1) second.0 (step_of second.1)) turns
         (map M.record_of machines.old) wires.old changed.old

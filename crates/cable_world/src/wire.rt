@@ -1,12 +1,13 @@
-//! A wire: one direction of a cable, with the signals that are under way on it.
-ghost use Rattle.std.specs.Prelude.{◌≡◌, ◌<◌, [], ◌∷◌, map, length, All, OnOk, ◌↔◌, IsTrue};
-ghost use Rattle.cable_world.specs.Wire.{empty_wire, add_signals, age_signal, age_wire, gives, arrives, stays};
-ghost use Rattle.cable_world.specs.Still.{IsSilent, hold_less};
+//! What is under way on the wires of a node, as entries: a signal that was sent on some ports at once is
+//! one entry, and an older entry comes before a later one.
+ghost use Rattle.std.specs.Prelude.{◌≡◌, ◌==◌, ◌↔◌, ℕ, false, [], ◌++◌, map, length, slice_get, OnOk, if◌then◌else◌};
+ghost use Rattle.port_state.specs.PortSet.{has_port, all_sent};
+ghost use Rattle.port_state.specs.Sends.{sent_on};
+ghost use Rattle.cable_world.specs.Wire.{new_signal, age_signal, front_is_due};
+ghost use Rattle.cable_world.specs.running.Rows.{on_port, older};
 
 use cabling::OutOfMemory;
-use port_state::Signal;
-use std::alloc::Global;
-use std::marker::Model;
+use port_state::{PortSet, Sent, Signal};
 
 /// A signal under way, and for how many turns it has been.
 #[derive(Clone, Copy, Debug, PartialEq, Eq)]
@@ -17,184 +18,124 @@ pub struct Travelling {
     pub age: u8,
 }
 
-/// Signals that arrive at an end in a turn, the oldest first.
-#[derive(Debug, Drop)]
-pub struct Arrivals {
-    signals: Vec<Signal>,
+/// A signal under way on the wires of some of a node's ports, on which it was sent at once.
+#[derive(Clone, Copy, Debug)]
+pub struct UnderWay {
+    /// The ports.
+    pub ports: PortSet,
+    /// The signal.
+    pub signal: Signal,
+    /// For how many turns it has been under way.
+    pub age: u8,
 }
 
-impl Model for Arrivals {
-    ghost use Rattle.std.specs.Prelude.{List};
-    ghost use Rattle.port_state.specs.declared.signal.Signal.{Signal};
-
-    ghost Value = { List Signal };
-
-    ghost view = { λ a. a.signals.items };
-}
-
-impl Arrivals {
-    /// No signal.
-    pub fn new(alloc: Global) -> Arrivals
-        ensures { result ≡ [] }
-    {
-        Arrivals {
-            signals: Vec::new(alloc),
-        }
-    }
-
-    /// The signals, the oldest first.
-    pub fn as_slice(&self) -> &[Signal]
-        ensures { result.now ≡ self.now }
-    {
-        self.signals.as_slice()
-    }
-
-    /// Takes the place of what was there.
-    fn take_from(&mut self, signals: &[Travelling]) -> Result<(), OutOfMemory>
-        ensures { OnOk result (self.new ≡ map (λ t. t.signal) signals.now) }
-    {
-        self.signals.clear();
-        for travelling in signals {
-            self.signals.push(travelling.signal)?;
-        }
-        Ok(())
-    }
-
-    /// No signal any more.
-    pub fn clear(&mut self)
-        ensures { self.new ≡ [] }
-    {
-        self.signals.clear();
-    }
-}
-
-/// The signals under way, the oldest first, and for how many turns to come the wire is held.
-#[derive(Debug, Drop)]
-pub struct Wire {
-    signals: Vec<Travelling>,
-    held: u16,
-}
-
-impl Model for Wire {
-    ghost use Rattle.cable_world.specs.Wire.{Wire};
-
-    ghost Value = { Wire };
-
-    ghost view = { λ w. record { signals = w.signals.items; held = w.held } };
-}
-
-/// Each signal is one turn older.
-fn grow_older(signals: &mut [Travelling])
-    requires { All (λ t. t.age < 255) signals.old }
-    ensures { signals.new ≡ map age_signal signals.old }
+/// The ports on whose wires something is under way.
+pub fn ports_of(sent: &[UnderWay]) -> PortSet
+    ensures { (p : ℕ) → (has_port result p ≡ false) ↔ (on_port p sent.now ≡ []) }
 {
-    for at in 0..signals.len() {
-        let Travelling { signal, age } = signals[at];
-        signals[at] = Travelling {
-            signal,
-            age: age + 1,
-        };
+    let mut ports = PortSet::none();
+    for entry in sent {
+        ports = ports.union(entry.ports);
+    }
+    ports
+}
+
+/// How many signals are under way on the wire of a port.
+pub fn count_on(sent: &[UnderWay], port: u8) -> usize
+    ensures { result ≡ length (on_port port sent.now) }
+{
+    let mut count = 0;
+    for entry in sent {
+        if entry.ports.has(port) {
+            count += 1;
+        }
+    }
+    count
+}
+
+/// What is under way on the wire of a port: the oldest at place 0, and none past the last.
+pub fn signal_on(sent: &[UnderWay], port: u8, at: usize) -> Option<Travelling>
+    ensures { result ≡ slice_get (on_port port sent.now) at }
+{
+    let mut left = at;
+    for entry in sent {
+        if !entry.ports.has(port) {
+            continue;
+        }
+        if left == 0 {
+            return Some(Travelling {
+                signal: entry.signal,
+                age: entry.age,
+            });
+        }
+        left -= 1;
+    }
+    None
+}
+
+/// Whether the oldest signal on the wire of a port is due once it is a turn older, where a cable delays
+/// by at most `delay` turns.
+pub fn is_due(sent: &[UnderWay], port: u8, delay: u8) -> bool
+    ensures { result ≡ front_is_due delay (map age_signal (on_port port sent.now)) }
+{
+    for entry in sent {
+        if entry.ports.has(port) {
+            return u16::from(delay) <= u16::from(entry.age) + 1;
+        }
+    }
+    false
+}
+
+/// Puts what is sent behind what is under way.
+pub fn add_all(sent: &mut Vec<UnderWay>, sends: &[Sent]) -> Result<(), OutOfMemory>
+    ensures { OnOk result ((p : ℕ) → on_port p sent.new.items
+        ≡ on_port p sent.old.items ++ map new_signal (sent_on p (all_sent sends.now))) }
+{
+    for entry in sends {
+        sent.push(UnderWay {
+            ports: entry.ports,
+            signal: entry.signal,
+            age: 0,
+        })?;
+    }
+    Ok(())
+}
+
+/// Takes away what is under way on the wire of a port.
+pub fn clear_port(sent: &mut [UnderWay], port: u8)
+    ensures { (p : ℕ) → on_port p sent.new ≡ (if p == port then [] else on_port p sent.old) }
+{
+    for at in 0..sent.len() {
+        sent[at].ports.remove(port);
     }
 }
 
-impl Wire {
-    /// A wire with nothing under way, which isn't held.
-    pub fn new(alloc: Global) -> Wire
-        ensures { result ≡ empty_wire }
-    {
-        Wire {
-            signals: Vec::new(alloc),
-            held: 0,
+/// Parts what was under way into what stays on the wires of these ports, a turn older, and what
+/// arrives from the others.
+pub fn part(
+    ports: PortSet,
+    arriving: &mut [UnderWay],
+    staying: &mut Vec<UnderWay>,
+) -> Result<(), OutOfMemory>
+    requires { staying.old.items ≡ [] }
+    ensures stays { OnOk result ((p : ℕ) → on_port p staying.new.items
+        ≡ (if has_port ports p then map older (on_port p arriving.old) else [])) }
+    ensures arrives { OnOk result ((p : ℕ) → on_port p arriving.new
+        ≡ (if has_port ports p then [] else on_port p arriving.old)) }
+{
+    for at in 0..arriving.len() {
+        let entry = &arriving[at];
+        let kept = entry.ports.both(ports);
+        if kept.is_none() {
+            continue;
         }
+        let given = entry.ports.minus(ports);
+        staying.push(UnderWay {
+            ports: kept,
+            signal: entry.signal,
+            age: entry.age.saturating_add(1),
+        })?;
+        arriving[at].ports = given;
     }
-
-    /// Puts a signal behind those that are under way.
-    pub fn send(&mut self, signal: Signal) -> Result<(), OutOfMemory>
-        ensures { OnOk result (self.new ≡ add_signals (signal ∷ []) self.old) }
-    {
-        self.signals.push(Travelling { signal, age: 0 })?;
-        Ok(())
-    }
-
-    /// Takes away what is under way, and a hold.
-    pub fn clear(&mut self)
-        ensures { self.new ≡ empty_wire }
-    {
-        self.signals.clear();
-        self.held = 0;
-    }
-
-    /// Holds the wire for so many turns, in place of an earlier hold.
-    pub fn hold(&mut self, turns: u16)
-        ensures { self.new ≡ record self.old { held = turns } }
-    {
-        self.held = turns;
-    }
-
-    /// Whether the wire gives its signals, where a cable delays by at most `delay` turns.
-    fn gives(&self, delay: u8) -> bool
-        ensures { result ≡ gives delay self.now }
-    {
-        if self.held == 0 {
-            return true;
-        }
-        match self.signals.first() {
-            None => false,
-            Some(front) => delay <= front.age,
-        }
-    }
-
-    /// A turn of the wire: its signals grow older, and it gives them or keeps them. What arrives at its
-    /// far end takes the place of what is in `arrivals`.
-    pub fn turn(&mut self, delay: u8, arrivals: &mut Arrivals) -> Result<(), OutOfMemory>
-        requires { All (λ t. t.age < 255) self.old.signals }
-        ensures stays { OnOk result (self.new ≡ stays delay self.old) }
-        ensures arrives { OnOk result (arrivals.new ≡ arrives delay self.old) }
-    {
-        if self.is_at_rest() {
-            arrivals.clear();
-            return Ok(());
-        }
-        grow_older(&mut self.signals);
-        if self.gives(delay) {
-            arrivals.take_from(&self.signals)?;
-            self.signals.clear();
-        } else {
-            arrivals.clear();
-        }
-        self.held = self.held.saturating_sub(1);
-        Ok(())
-    }
-
-    /// What is under way, the oldest first.
-    pub fn signals(&self) -> &[Travelling]
-        ensures { result.now ≡ self.now.signals }
-    {
-        self.signals.as_slice()
-    }
-
-    /// Whether nothing is under way.
-    pub fn is_silent(&self) -> bool
-        ensures { IsTrue result ↔ IsSilent self.now }
-    {
-        self.signals.is_empty()
-    }
-
-    /// Whether nothing is under way, and the wire isn't held.
-    pub fn is_at_rest(&self) -> bool
-        ensures { IsTrue result ↔ self.now ≡ empty_wire }
-    {
-        self.held == 0 && self.signals.is_empty()
-    }
-
-    /// A hold has so many turns less to go.
-    pub fn pass(&mut self, turns: u32)
-        ensures { self.new ≡ hold_less turns self.old }
-    {
-        self.held = if turns < self.held as u32 {
-            self.held - turns as u16
-        } else {
-            0
-        };
-    }
+    Ok(())
 }

@@ -185,10 +185,17 @@ impl<M: PortMachine> WorldRun for World<M> {
 }
 
 impl<M: PortMachine> ShowsWires for World<M> {
-    fn under_way(&self, end: End) -> &[Travelling] {
+    fn count_under_way(&self, end: End) -> usize {
         match self.wires.get(end.node as usize) {
-            None => &[],
-            Some(row) => row.under_way(end.port),
+            None => 0,
+            Some(row) => row.count(end.port),
+        }
+    }
+
+    fn under_way(&self, end: End, at: usize) -> Option<Travelling> {
+        match self.wires.get(end.node as usize) {
+            None => None,
+            Some(row) => row.under_way(end.port, at),
         }
     }
 }

@@ -4,7 +4,7 @@ use Rattle.std.specs.Option.{IsSomeAnd}
 use Rattle.std.specs.Prelude.{nat_eq}
 use Rattle.std.specs.Cmp.Lexicographic.{pointwise}
 use Rattle.std.proofs.lemmas.Bool.{eq-eqb, ne_eqb}
-use Rattle.std.proofs.lemmas.List.{map-set, length-map, get_or_default, get_or-set_other}
+use Rattle.std.proofs.lemmas.List.{map-set, length-map, get_or_default}
 use Rattle.cabling.specs.Wiring.{Wiring}
 use Rattle.std.specs.Int.{bit_at}
 use Rattle.port_state.specs.Config.{ConfigPacket}
@@ -126,14 +126,9 @@ module _ (r s : PortNode → NodeStep) (m n : ℕ) (w : CableWorld) (x : PortNod
   noted : note_step m r w ≡ note_changes w (put_step m (r x) w)
   noted = ap (λ o. note_changes w (step_at o m r w)) at_m
 
-  -- the other node, and its wires, are as before
+  -- the other node is as before
   pub node-then : slice_get (note_step m r w).nodes n ≡ slice_get w.nodes n
   node-then = ap (λ (v : CableWorld). slice_get v.nodes n) noted ∙ not-replaced w.nodes m n (r x).node (λ e. apart (sym e))
-
-  pub wires-then : slice_index_or (note_step m r w).wires n [] ≡ slice_index_or w.wires n []
-  wires-then =
-      ap (λ (v : CableWorld). slice_index_or v.wires n []) noted
-      ∙ get_or-set_other w.wires m n (wires_after_sends 0 (r x).sends (slice_index_or w.wires m [])) [] (λ e. apart (sym e))
 
   pub both : (y : PortNode) → slice_get w.nodes n ≡ Some y →
       note_step n s (note_step m r w) ≡ note_both m r n s w

@@ -1,5 +1,5 @@
 -- An act over the parts of a world: what the nodes and cables of a lawful one give to the code, and what comes of it.
-use Rattle.std.proofs.Common.{◌≡◌, inl, inr, ℕ, suc, ◌<◌, true, false, List, [], ◌∷◌, map, length, Option, Some, None, is_some, slice_get, slice_index_or, get_or, refl, sym, subst, ◌∙◌, ap, arith}
+use Rattle.std.proofs.Common.{◌≡◌, inl, inr, ℕ, suc, ◌<◌, List, [], ◌∷◌, map, length, Option, Some, None, is_some, slice_get, slice_index_or, get_or, refl, sym, subst, ◌∙◌, ap, arith}
 use Rattle.std.specs.Option.{IsSomeAnd}
 use Rattle.std.specs.Prelude.{Result, Ok, Err, OnOk}
 use Rattle.std.proofs.lemmas.Bool.{lt-ltb}
@@ -10,7 +10,7 @@ use Rattle.cabling.specs.Wiring.{Wiring, HasEnd, IsCabling, far, ports_of}
 use Rattle.cabling.specs.Change.{SameBut, Added, TakenOut}
 use Rattle.cabling.proofs.Lemmas.{cases_end, with_far, far-same, far-other, still_end, same_but, same_length, same_ports, plugged}
 use Rattle.port_state.specs.Ports.{is_connected}
-use Rattle.port_state.specs.Config.{ConfigPacket, HasSixBits}
+use Rattle.port_state.specs.Config.{ConfigPacket}
 use Rattle.port_state.specs.Machine.{PortNode, NodeStep, node_disturb, node_plugged, node_pulled, node_set_config}
 use Rattle.cable_world.specs.Wire.{Wire, empty_wire}
 use Rattle.cable_world.specs.World.{CableWorld, NodeSet, put}
@@ -25,9 +25,8 @@ use Rattle.cable_world.specs.Lawful.{IsWellFormed}
 use Rattle.cable_world.specs.running.NodeActs.{note_both, note_step}
 use Rattle.cable_world.specs.Parts.{world_record}
 use Rattle.cable_world.proofs.Options.{some-at}
-use Rattle.cable_world.proofs.tables.TablesInSteps.{put-lengths, sent-length}
-use Rattle.cable_world.proofs.tables.TablesInActs.{told-formed}
-use Rattle.cable_world.proofs.running.Acting.{told-length, told-lists}
+use Rattle.cable_world.proofs.tables.TablesInSteps.{sent-length}
+use Rattle.cable_world.proofs.running.Acting.{told-lists}
 use Rattle.cable_world.proofs.running.Whole.{put-long}
 
 -- ---- a cabling after two writes
@@ -80,30 +79,21 @@ taken-is c d a b is h =
 -- ---- a node at an end
 
 pub node-ready :
-    (w : CableWorld) (end : End) (far_is : Option End) (rows : List (List Wire)) → IsWellFormed w → HasEnd w.cabling end →
-    far w.cabling end ≡ far_is →
-    length (slice_index_or rows end.node []) ≡ length (slice_index_or w.wires end.node []) →
-    IsSomeAnd (slice_get w.nodes end.node) (λ x. (length (slice_index_or rows end.node []) ≡ x.state.ports) × (end.port < x.state.ports)
-    × (is_connected x.state.view.ports end.port ≡ is_some far_is))
-node-ready w end far_is rows f has there long = elim (slice_get_cases w.nodes end.node).1 [
+    (w : CableWorld) (end : End) (far_is : Option End) → IsWellFormed w → HasEnd w.cabling end → far w.cabling end ≡ far_is →
+    (x : PortNode) × (slice_get w.nodes end.node ≡ Some x) × (end.port < x.state.ports)
+    × (is_connected x.state.view.ports end.port ≡ is_some far_is)
+node-ready w end far_is f has there = elim (slice_get_cases w.nodes end.node).1 [
   | inl at ↦
       let fits = f.nodes end.node at.0 at.2 in
-      some-at _ at.0 _ at.2 (long ∙ fits.wires, omega (arith, has.port, fits.ports), fits.connected end.port ∙ ap is_some there)
+      (at.0, at.2, omega (arith, has.port, fits.ports), fits.connected end.port ∙ ap is_some there)
   | inr past ↦ absurd (omega (arith, past.0, has.node, f.count))
 ]
 
-pub row-ready :
-    (w : CableWorld) (k : ℕ) → IsWellFormed w → k < length w.nodes →
-    IsSomeAnd (slice_get w.nodes k) (λ x. length (slice_index_or w.wires k []) ≡ x.state.ports)
-row-ready w k f inside = elim (slice_get_cases w.nodes k).1 [
-  | inl at ↦ some-at _ at.0 _ at.2 (f.nodes k at.0 at.2).wires
+pub is-there : (nodes : List PortNode) (k : ℕ) → k < length nodes → IsSomeAnd (slice_get nodes k) (λ x. Unit {0})
+is-there nodes k inside = elim (slice_get_cases nodes k).1 [
+  | inl at ↦ some-at _ at.0 _ at.2 tt
   | inr past ↦ absurd (omega (arith, past.0, inside))
 ]
-
-pub cleared-length :
-    (rows : List (List Wire)) (a b : End) (k : ℕ) →
-    length (slice_index_or (put b empty_wire (put a empty_wire rows)) k []) ≡ length (slice_index_or rows k [])
-cleared-length rows a b k = put-lengths (put a empty_wire rows) b empty_wire k ∙ put-lengths rows a empty_wire k
 
 -- ---- rows stay as long
 
@@ -162,34 +152,6 @@ config-done w v set from p told is e =
     let u : CableWorld = configure set from p w in
     e ∙ ap (λ nodes. note_step from node_disturb (record w { nodes = nodes })) is
     ∙ ap (λ q. record u { changed = q }) (told-lists set p w.turns 0 w.nodes u.nodes w.changed)
-
--- a node that heard the packet
-pub told-ready :
-    (w : CableWorld) (set : NodeSet) (p : ConfigPacket) (k : ℕ) (told : List PortNode) → IsWellFormed w → HasSixBits p → k < length w.nodes →
-    told ≡ change_in_set set (node_set_config p) 0 w.nodes →
-    IsSomeAnd (slice_get told k) (λ x. length (slice_index_or w.wires k []) ≡ x.state.ports)
-told-ready w set p k told f bits inside is =
-    let nodes : List PortNode = change_in_set set (node_set_config p) 0 w.nodes in
-    subst (λ (ns : List PortNode). IsSomeAnd (slice_get ns k) (λ x. length (slice_index_or w.wires k []) ≡ x.state.ports)) (sym is)
-    (row-ready (record w { nodes = nodes }) k (told-formed set p w bits f)
-    (omega (arith, inside, told-length set (node_set_config p) 0 w.nodes)))
-
-pub is-there : (o : Option PortNode) (P : PortNode → Type 0) → IsSomeAnd o P →
-    IsSomeAnd o (λ x. Unit {0})
-is-there None P h = absurd h
-is-there (Some x) P h = tt
-
-pub is-connected-there :
-    (o : Option PortNode) (n p : ℕ) → IsSomeAnd o (λ x. (n ≡ x.state.ports) × (p < x.state.ports) × (is_connected x.state.view.ports p ≡ true)) →
-    IsSomeAnd o (λ x. (n ≡ x.state.ports) × (is_connected x.state.view.ports p ≡ true))
-is-connected-there None n p h = absurd h
-is-connected-there (Some x) n p h = (h.0, h.2)
-
-pub is-free-there :
-    (o : Option PortNode) (n p : ℕ) → IsSomeAnd o (λ x. (n ≡ x.state.ports) × (p < x.state.ports) × (is_connected x.state.view.ports p ≡ false)) →
-    IsSomeAnd o (λ x. (n ≡ x.state.ports) × ((p < x.state.ports) × (is_connected x.state.view.ports p ≡ false)))
-is-free-there None n p h = absurd h
-is-free-there (Some x) n p h = (h.0, (h.1, h.2))
 
 -- ---- how an act ends
 

@@ -28,7 +28,7 @@ use Rattle.cable_world.specs.Parts.{world_record}
 use Rattle.cable_world.proofs.OneProof.{lawful_prop}
 use Rattle.cable_world.proofs.StaysLawful.{reached-lawful}
 use Rattle.cable_world.proofs.tables.TablesInSteps.{sent-length}
-use Rattle.cable_world.proofs.running.AllNodes.{turns-are, row-of}
+use Rattle.cable_world.proofs.running.AllNodes.{turns-are}
 
 pub lawful-now : (w : CableWorld) → ∥ IsReached w ∥₁ → IsLawful w
 lawful-now w r = ∥∥₁_elim r (lawful_prop w) (reached-lawful w)
@@ -53,15 +53,8 @@ all-young w f = λ k e inside p u within.
     let few : w.delay - 1 ≤ 15 = omega (arith, f.short_delay) in
     subst AreYoung (sym there) (All-from_recursion (λ (t : Travelling). t.age < 255) _ (young-from (w.delay - 1) _ few ages))
 
--- after the turn of the wires
-pub has-its-ports :
-    (w : CableWorld) (old : List (List Wire)) → IsWellFormed w → old ≡ map (map (stays w.delay)) w.wires → HasItsPorts w.cabling w.nodes old
-has-its-ports w old f o = record {
-  counts = λ k x at. (f.nodes k x at).ports;
-  rows = λ k x at.
-      ap (λ rows. length (slice_index_or rows k [])) o ∙ ap length (row-of (stays w.delay) w.wires k)
-      ∙ length-map (slice_index_or w.wires k []) (stays w.delay) ∙ (f.nodes k x at).wires;
-}
+pub has-its-ports : (w : CableWorld) → IsWellFormed w → HasItsPorts w.cabling w.nodes
+has-its-ports w f k x at = (f.nodes k x at).ports
 
 -- ---- its turn
 

@@ -1,8 +1,10 @@
 -- What a node hears in a turn, taken from a table of what arrives from each wire.
-use Rattle.std.specs.Prelude.{◌+◌, List, [], ◌∷◌, ◌++◌, map, Option, None, Some, slice_index_or}
+use Rattle.std.specs.Prelude.{◌≡◌, ◌+◌, ◌<◌, false, List, [], ◌∷◌, ◌++◌, map, Option, None, Some, slice_index_or}
 use Rattle.cabling.specs.declared.cable.End.{End}
+use Rattle.cabling.specs.Wiring.{Wiring, NodeNumber, ports_of}
 use Rattle.port_state.specs.declared.signal.Signal.{Signal}
 use Rattle.port_state.specs.Ports.{PortNumber}
+use Rattle.port_state.specs.PortSet.{PortSet, has_port}
 use Rattle.port_state.specs.Sends.{PortSignal}
 use Rattle.port_state.specs.Machine.{PortNode, NodeStep, with_coins}
 use Rattle.cable_world.specs.Turn.{hear_all}
@@ -28,3 +30,8 @@ arriving_from table (Some far) = slice_index_or (slice_index_or table far.node [
 abbrev pub inbox_of : Arriving → PortNumber → List (Option End) → List PortSignal
 inbox_of table p [] = []
 inbox_of table p (far ∷ ports) = on_one p (arriving_from table far) ++ inbox_of table (p + 1) ports
+
+-- nothing arrives at the ports of a node that aren't in this set
+abbrev pub AreQuietBut : PortSet → Arriving → Wiring → NodeNumber → Type 0
+AreQuietBut heard table c node =
+    (p : PortNumber) → p < 16 → has_port heard p ≡ false → arriving_from table (slice_index_or (ports_of c node) p None) ≡ []

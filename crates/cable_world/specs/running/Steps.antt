@@ -1,8 +1,7 @@
 -- The steps of all nodes in a turn, taken from a table of what arrives from each wire.
-use Rattle.std.specs.Prelude.{◌≡◌, List, [], ◌∷◌, length, Some, slice_get, slice_index_or}
+use Rattle.std.specs.Prelude.{◌≡◌, List, [], ◌∷◌, length, Some, slice_get}
 use Rattle.cabling.specs.Wiring.{Wiring, ports_of}
 use Rattle.port_state.specs.Machine.{PortNode, NodeStep}
-use Rattle.cable_world.specs.Wire.{Wire}
 use Rattle.cable_world.specs.World.{NodeNumber}
 use Rattle.cable_world.specs.Turn.{node_turn}
 use Rattle.cable_world.specs.running.Hearing.{Arriving, inbox_of}
@@ -12,8 +11,7 @@ abbrev pub turns_of : Arriving → Wiring → List PortNode → List NodeStep
 turns_of table (ports ∷ rows) (x ∷ nodes) = node_turn (inbox_of table 0 ports) x ∷ turns_of table rows nodes
 turns_of table rows nodes = []
 
--- each node has as many ports in the cabling, and as many wires, as in its record
-pub record HasItsPorts (c : Wiring) (nodes : List PortNode) (wires : List (List Wire)) : Type 0 where
-  pub counts : (k : NodeNumber) (x : PortNode) → slice_get nodes k ≡ Some x → length (ports_of c k) ≡ x.state.ports
-  pub rows : (k : NodeNumber) (x : PortNode) → slice_get nodes k ≡ Some x →
-      length (slice_index_or wires k []) ≡ x.state.ports
+-- each node has as many ports in the cabling as in its record
+abbrev pub HasItsPorts : Wiring → List PortNode → Type 0
+HasItsPorts c nodes =
+    (k : NodeNumber) (x : PortNode) → slice_get nodes k ≡ Some x → length (ports_of c k) ≡ x.state.ports

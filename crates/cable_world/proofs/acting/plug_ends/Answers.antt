@@ -1,10 +1,11 @@
-use Rattle.std.proofs.Common.{◌∙◌, List, [], None, length, map, slice_get, slice_index_or, refl, ap}
+use Rattle.std.proofs.Common.{◌∙◌, List, None, length, map, refl, ap}
 use Rattle.cabling.proofs.Lemmas.{plugged}
 use Rattle.cable_world.specs.Wire.{Wire}
 use Rattle.cable_world.specs.World.{CableWorld}
 use Rattle.cable_world.specs.Parts.{world_record}
+use Rattle.cable_world.proofs.Options.{some-at}
 use Rattle.cable_world.proofs.tables.TablesInActs.{has-wire}
-use Rattle.cable_world.proofs.running.Acts.{was-there, added-is, node-ready, is-free-there, cleared-length, both-long, cleared-long, plug-done}
+use Rattle.cable_world.proofs.running.Acts.{was-there, added-is, node-ready, both-long, cleared-long, plug-done}
 use Rattle.cable_world.proofs.acting.plug_ends.Goals as goal
 
 pub clear_cable-requires-clause-a_port : goal.clear_cable-requires-clause-a_port
@@ -26,18 +27,16 @@ step_both-requires-clause-first_suits g c =
     let w = world_record c.requires.lawful.0 c.args.cabling.now (map g.M.PortMachine.record_of c.args.machines.now) c.args.wires.now c.args.changed.now c.args.turns in
     let added = c.in_default.ensures.added in
     let there = was-there c.args.cabling.now c.plug.new.self c.args.a c.args.b c.args.a added.others (plugged c.plug.new.self c.args.a c.args.b added.joined) in
-    is-free-there (slice_get w.nodes c.args.a.node) (length (slice_index_or c.clear_cable.new.wires c.args.a.node [])) c.args.a.port
-    (node-ready w c.args.a None c.clear_cable.new.wires c.requires.lawful.1.well_formed there added.free_a
-    (ap (λ rows. length (slice_index_or rows c.args.a.node [])) c.clear_cable.ensures ∙ cleared-length c.args.wires.now c.args.a c.args.b c.args.a.node))
+    let x = node-ready w c.args.a None c.requires.lawful.1.well_formed there added.free_a in
+    some-at _ x.0 _ x.1 (x.2, x.3)
 
 pub step_both-requires-clause-second_suits : goal.step_both-requires-clause-second_suits
 step_both-requires-clause-second_suits g c =
     let w = world_record c.requires.lawful.0 c.args.cabling.now (map g.M.PortMachine.record_of c.args.machines.now) c.args.wires.now c.args.changed.now c.args.turns in
     let added = c.in_default.ensures.added in
     let there = was-there c.args.cabling.now c.plug.new.self c.args.a c.args.b c.args.b added.others (plugged c.plug.new.self c.args.b c.args.a added.back) in
-    is-free-there (slice_get w.nodes c.args.b.node) (length (slice_index_or c.clear_cable.new.wires c.args.b.node [])) c.args.b.port
-    (node-ready w c.args.b None c.clear_cable.new.wires c.requires.lawful.1.well_formed there added.free_b
-    (ap (λ rows. length (slice_index_or rows c.args.b.node [])) c.clear_cable.ensures ∙ cleared-length c.args.wires.now c.args.a c.args.b c.args.b.node))
+    let x = node-ready w c.args.b None c.requires.lawful.1.well_formed there added.free_b in
+    some-at _ x.0 _ x.1 (x.2, x.3)
 
 pub returns : goal.returns
 returns g c d =

@@ -1,11 +1,12 @@
-use Rattle.std.proofs.Common.{◌∙◌, List, [], Some, length, map, slice_get, slice_index_or, refl, ap, arith}
+use Rattle.std.proofs.Common.{◌∙◌, List, Some, length, map, refl, ap, arith}
 use Rattle.std.proofs.lemmas.List.{length-map}
 use Rattle.cabling.proofs.Lemmas.{plugged}
 use Rattle.cable_world.specs.Wire.{Wire}
 use Rattle.cable_world.specs.World.{CableWorld}
 use Rattle.cable_world.specs.Parts.{world_record}
+use Rattle.cable_world.proofs.Options.{some-at}
 use Rattle.cable_world.proofs.tables.TablesInActs.{has-wire}
-use Rattle.cable_world.proofs.running.Acts.{taken-is, node-ready, cleared-length, both-long, cleared-long, pull-done, is-connected-there}
+use Rattle.cable_world.proofs.running.Acts.{taken-is, node-ready, both-long, cleared-long, pull-done}
 use Rattle.cable_world.proofs.acting.pull_end.Goals as goal
 
 pub clear_cable-requires-clause-a_port : goal.clear_cable-requires-clause-a_port
@@ -40,9 +41,8 @@ step_both-requires-clause-first_suits g c =
     let joined = c.in-Ok.ensures.taken.joined in
     let a = c.args.end in
     let b = c.in-Ok.cable.b in
-    is-connected-there (slice_get w.nodes a.node) (length (slice_index_or c.clear_cable.new.wires a.node [])) a.port
-    (node-ready w a (Some b) c.clear_cable.new.wires f (plugged c.args.cabling.now a b joined) joined
-    (ap (λ rows. length (slice_index_or rows a.node [])) c.clear_cable.ensures ∙ cleared-length c.args.wires.now a b a.node))
+    let x = node-ready w a (Some b) f (plugged c.args.cabling.now a b joined) joined in
+    some-at _ x.0 _ x.1 x.3
 
 pub step_both-requires-clause-second_suits : goal.step_both-requires-clause-second_suits
 step_both-requires-clause-second_suits g c =
@@ -51,9 +51,8 @@ step_both-requires-clause-second_suits g c =
     let a = c.args.end in
     let b = c.in-Ok.cable.b in
     let back = f.cabling.both_ways a b c.in-Ok.ensures.taken.joined in
-    is-connected-there (slice_get w.nodes b.node) (length (slice_index_or c.clear_cable.new.wires b.node [])) b.port
-    (node-ready w b (Some a) c.clear_cable.new.wires f (plugged c.args.cabling.now b a back) back
-    (ap (λ rows. length (slice_index_or rows b.node [])) c.clear_cable.ensures ∙ cleared-length c.args.wires.now a b b.node))
+    let x = node-ready w b (Some a) f (plugged c.args.cabling.now b a back) back in
+    some-at _ x.0 _ x.1 x.3
 
 pub returns : goal.returns
 returns g c d =

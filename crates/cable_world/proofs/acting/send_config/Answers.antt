@@ -1,26 +1,26 @@
-use Rattle.std.proofs.Common.{◌≡◌, ◌∙◌, [], length, map, slice_get, slice_index_or, ap, arith}
+use Rattle.std.proofs.Common.{◌∙◌, length, map, ap, arith}
 use Rattle.std.proofs.lemmas.List.{length-map}
 use Rattle.port_state.specs.Config.{config_packet}
+use Rattle.port_state.specs.Machine.{node_set_config}
 use Rattle.cable_world.specs.World.{CableWorld}
 use Rattle.cable_world.specs.Parts.{world_record}
-use Rattle.cable_world.proofs.running.Acts.{note-long, config-done, told-ready, is-there, is-inside}
+use Rattle.cable_world.proofs.running.Acting.{told-length}
+use Rattle.cable_world.proofs.running.Acts.{note-long, config-done, is-there, is-inside}
 use Rattle.cable_world.proofs.acting.send_config.Goals as goal
-
-pub step_node-requires-clause-wires : goal.step_node-requires-clause-wires
-step_node-requires-clause-wires g c =
-    let w = world_record c.requires.lawful.0 c.args.cabling.now (map g.M.PortMachine.record_of c.args.machines.now) c.args.wires.now c.args.changed.now c.args.turns in
-    let p = config_packet c.args.root_id c.args.force c.args.gap in
-    told-ready w c.component.result p c.args.from _ c.requires.lawful.1.well_formed c.requires.is.bits
-    (omega (arith, c.if-from-machines.false, length-map c.args.machines.now g.M.PortMachine.record_of)) c.set_configs.ensures
 
 pub step_node-requires-clause-suits : goal.step_node-requires-clause-suits
 step_node-requires-clause-suits g c =
-    let w = world_record c.requires.lawful.0 c.args.cabling.now (map g.M.PortMachine.record_of c.args.machines.now) c.args.wires.now c.args.changed.now c.args.turns in
+    let f = g.M.PortMachine.record_of in
+    let told = map f c.set_configs.new.machines in
     let p = config_packet c.args.root_id c.args.force c.args.gap in
-    let told = map g.M.PortMachine.record_of c.set_configs.new.machines in
-    is-there (slice_get told c.args.from) (λ x. length (slice_index_or w.wires c.args.from []) ≡ x.state.ports)
-    (told-ready w c.component.result p c.args.from told c.requires.lawful.1.well_formed c.requires.is.bits
-    (omega (arith, c.if-from-machines.false, length-map c.args.machines.now g.M.PortMachine.record_of)) c.set_configs.ensures)
+    is-there told c.args.from
+    (omega (
+      arith,
+      c.if-from-machines.false,
+      length-map c.args.machines.now f,
+      ap length c.set_configs.ensures,
+      told-length c.component.result (node_set_config p) 0 (map f c.args.machines.now),
+    ))
 
 pub returns : goal.returns
 returns g c d =

@@ -1,4 +1,4 @@
-use Rattle.std.proofs.Common.{◌<◌, ◌≤◌, ◌∙◌, ◌≡◌, ℕ, [], length, map, get_or, arith, ap, sym, rules, if◌then◌else◌}
+use Rattle.std.proofs.Common.{◌<◌, ◌≤◌, ◌∙◌, ◌≡◌, ℕ, true, false, [], length, map, get_or, arith, ap, sym, rules, if◌then◌else◌}
 use Rattle.std.proofs.lemmas.List.{length-map, get_or_default, map-set}
 use Rattle.std.proofs.Math.ListN.{get_or-map}
 use Rattle.cabling.specs.Wiring.{ports_of}
@@ -9,6 +9,9 @@ use Rattle.cable_world.specs.running.Steps.{turns_of}
 use Rattle.cable_world.proofs.running.Mixed.{next-is, mixed-set, mixed-all}
 use Rattle.cable_world.proofs.running.AllNodes.{steps-length, step-at, rows-length, row-at, changes-length, change-at, get-some, record-at}
 use Rattle.cable_world.proofs.all_nodes.turn_nodes.Goals as goal
+
+pub turn_one-requires-clause-quiet : goal.turn_one-requires-clause-quiet
+turn_one-requires-clause-quiet g c = λ p below none. let e : true ≡ false = sym (c.all_ports-heard.ensures p below) ∙ none in absurd cc
 
 pub turn_one-requires-clause-ports : goal.turn_one-requires-clause-ports
 turn_one-requires-clause-ports g c =
@@ -21,25 +24,7 @@ turn_one-requires-clause-ports g c =
     let inside : k < length old = omega (arith, length-map c.args.machines.now f, c.loop-node-test.true) in
     let x = f (get_or c.loop-node.machines k c.index-machines-node.result) in
     let at = next-is k new old (map f c.loop-node.machines) x sizes inside c.loop-node.invariant.nodes (record-at f c.loop-node.machines k c.index-machines-node.result c.index-machines-node.is) in
-    c.requires.ports.counts k x (get-some old k x inside at)
-
-pub turn_one-requires-clause-wires : goal.turn_one-requires-clause-wires
-turn_one-requires-clause-wires g c =
-    let f = g.M.PortMachine.record_of in
-    let k = c.loop-node.node in
-    let old = map f c.args.machines.now in
-    let steps = turns_of c.args.arrivals.now c.args.cabling.now old in
-    let new = map (λ (s : NodeStep). s.node) steps in
-    let size : length old ≡ length c.args.cabling.now = length-map c.args.machines.now f ∙ c.requires.nodes in
-    let sizes : length new ≡ length old = length-map steps (λ (s : NodeStep). s.node) ∙ steps-length c.args.arrivals.now c.args.cabling.now old size in
-    let inside : k < length old = omega (arith, length-map c.args.machines.now f, c.loop-node-test.true) in
-    let rows : k < length c.args.wires.now = omega (arith, c.requires.rows, size, inside) in
-    let x = f (get_or c.loop-node.machines k c.index-machines-node.result) in
-    let at = next-is k new old (map f c.loop-node.machines) x sizes inside c.loop-node.invariant.nodes (record-at f c.loop-node.machines k c.index-machines-node.result c.index-machines-node.is) in
-    let row = c.index-wires-node.result in
-    let there = next-is k (all_wires_after_sends steps c.args.wires.now) c.args.wires.now c.loop-node.wires row (rows-length steps c.args.wires.now) rows c.loop-node.invariant.wires c.index-wires-node.is in
-    ap length (sym c.index-wires-node.is) ∙ ap length (there ∙ get_or_default c.args.wires.now k row [] rows)
-    ∙ c.requires.ports.rows k x (get-some old k x inside at)
+    c.requires.ports k x (get-some old k x inside at)
 
 pub loop-node-preserved : goal.loop-node-preserved
 loop-node-preserved g c =

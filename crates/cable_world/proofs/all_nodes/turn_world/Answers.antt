@@ -32,7 +32,7 @@ turn_nodes-requires-clause-rows g c =
 pub turn_nodes-requires-clause-ports : goal.turn_nodes-requires-clause-ports
 turn_nodes-requires-clause-ports g c =
     has-its-ports (world_record c.args.delay c.args.cabling.now (map g.M.PortMachine.record_of c.args.machines.now) c.args.wires.now c.args.changed.now c.args.turns)
-    c.turn_wires.new.wires c.requires.lawful.well_formed c.in_ok-turn_wires.ensures.stays
+    c.requires.lawful.well_formed
 
 pub returns-clause-done : goal.returns-clause-done
 returns-clause-done g c =

@@ -1,23 +1,10 @@
 use Rattle.std.proofs.Common.{◌∙◌, ap, sym}
 use Rattle.cabling.specs.Wiring.{ports_of}
-use Rattle.port_state.specs.Coins.{coin}
-use Rattle.port_state.specs.Tick.{tick}
 use Rattle.port_state.specs.Machine.{node_tick}
-use Rattle.port_state.proofs.Lemmas.{sound-tick}
 use Rattle.cable_world.specs.Turn.{wires_after_sends}
 use Rattle.cable_world.specs.running.Hearing.{node_hears, inbox_of}
 use Rattle.cable_world.proofs.running.Sending.{sends-then}
-use Rattle.cable_world.proofs.running.Hearing.{sends-fit}
 use Rattle.cable_world.proofs.nodes.turn_node.Goals as goal
-
-pub send_all-requires : goal.send_all-requires
-send_all-requires g c =
-    let m = c.hear.new.machine in
-    let n = g.M.PortMachine.record_of m in
-    sends-fit n.state (tick (coin n.coins) n.state) c.as_slice.result.now c.hear.new.wires
-    (sound-tick (coin n.coins) n.state (g.met.M.PortMachine.valid m))
-    (c.as_slice.ensures.value ∙ c.tick.ensures.sends)
-    (c.in_ok-hear.ensures.row ∙ c.requires.wires ∙ sym c.in_ok-hear.ensures.ports)
 
 pub returns-clause-sent : goal.returns-clause-sent
 returns-clause-sent g c =

@@ -1,25 +1,11 @@
-use Rattle.std.proofs.Common.{◌≡◌, ◌∙◌, [], map, length, slice_get, slice_index_or, ap}
+use Rattle.std.proofs.Common.{◌∙◌, [], map, slice_get, ap}
 use Rattle.port_state.specs.Machine.{PortNode}
 use Rattle.cable_world.specs.World.{CableWorld}
 use Rattle.cable_world.specs.running.NodeActs.{step_of, Suits, note_step}
 use Rattle.cable_world.specs.Parts.{world_record}
 use Rattle.cable_world.proofs.Options.{some-of, some-at}
-use Rattle.cable_world.proofs.running.Acting.{node-then, wires-then, both}
+use Rattle.cable_world.proofs.running.Acting.{node-then, both}
 use Rattle.cable_world.proofs.steps.step_both.Goals as goal
-
-pub step_node-requires-2-clause-wires : goal.step_node-requires-2-clause-wires
-step_node-requires-2-clause-wires g c =
-    let f = g.M.PortMachine.record_of in
-    let r = step_of c.args.first.1 in
-    let w : CableWorld = world_record 0 [] (map f c.args.machines.now) c.args.wires.now c.args.changed.now c.args.turns in
-    let x = some-of (slice_get (map f c.args.machines.now) c.args.first.0)
-    (λ (n : PortNode). (length (slice_index_or c.args.wires.now c.args.first.0 []) ≡ n.state.ports) × Suits c.args.first.1 n) c.requires.first_suits in
-    let y = some-of (slice_get (map f c.args.machines.now) c.args.second.0)
-    (λ (n : PortNode). (length (slice_index_or c.args.wires.now c.args.second.0 []) ≡ n.state.ports) × Suits c.args.second.1 n) c.requires.second_suits in
-    let e = c.in_ok-step_node.ensures 0 [] in
-    let node = ap (λ (v : CableWorld). slice_get v.nodes c.args.second.0) e ∙ node-then r r c.args.first.0 c.args.second.0 w x.0 x.1 c.requires.apart ∙ y.1 in
-    let row = ap (λ (v : CableWorld). slice_index_or v.wires c.args.second.0 []) e ∙ wires-then r r c.args.first.0 c.args.second.0 w x.0 x.1 c.requires.apart in
-    some-at _ y.0 _ node (ap length row ∙ y.2.0)
 
 pub step_node-requires-2-clause-suits : goal.step_node-requires-2-clause-suits
 step_node-requires-2-clause-suits g c =
@@ -27,12 +13,12 @@ step_node-requires-2-clause-suits g c =
     let r = step_of c.args.first.1 in
     let w : CableWorld = world_record 0 [] (map f c.args.machines.now) c.args.wires.now c.args.changed.now c.args.turns in
     let x = some-of (slice_get (map f c.args.machines.now) c.args.first.0)
-    (λ (n : PortNode). (length (slice_index_or c.args.wires.now c.args.first.0 []) ≡ n.state.ports) × Suits c.args.first.1 n) c.requires.first_suits in
+    (λ (n : PortNode). Suits c.args.first.1 n) c.requires.first_suits in
     let y = some-of (slice_get (map f c.args.machines.now) c.args.second.0)
-    (λ (n : PortNode). (length (slice_index_or c.args.wires.now c.args.second.0 []) ≡ n.state.ports) × Suits c.args.second.1 n) c.requires.second_suits in
+    (λ (n : PortNode). Suits c.args.second.1 n) c.requires.second_suits in
     let e = c.in_ok-step_node.ensures 0 [] in
     let node = ap (λ (v : CableWorld). slice_get v.nodes c.args.second.0) e ∙ node-then r r c.args.first.0 c.args.second.0 w x.0 x.1 c.requires.apart ∙ y.1 in
-    some-at _ y.0 _ node y.2.1
+    some-at _ y.0 _ node y.2
 
 pub returns : goal.returns
 returns g c d w =
@@ -41,8 +27,8 @@ returns g c d w =
     let s = step_of c.args.second.1 in
     let v : CableWorld = world_record d w (map f c.args.machines.now) c.args.wires.now c.args.changed.now c.args.turns in
     let x = some-of (slice_get (map f c.args.machines.now) c.args.first.0)
-    (λ (n : PortNode). (length (slice_index_or c.args.wires.now c.args.first.0 []) ≡ n.state.ports) × Suits c.args.first.1 n) c.requires.first_suits in
+    (λ (n : PortNode). Suits c.args.first.1 n) c.requires.first_suits in
     let y = some-of (slice_get (map f c.args.machines.now) c.args.second.0)
-    (λ (n : PortNode). (length (slice_index_or c.args.wires.now c.args.second.0 []) ≡ n.state.ports) × Suits c.args.second.1 n) c.requires.second_suits in
+    (λ (n : PortNode). Suits c.args.second.1 n) c.requires.second_suits in
     c.in_ok-step_node-2.ensures d w ∙ ap (note_step c.args.second.0 s) (c.in_ok-step_node.ensures d w)
     ∙ both r s c.args.first.0 c.args.second.0 v x.0 x.1 c.requires.apart y.0 y.1

@@ -1,20 +1,11 @@
-use Rattle.std.proofs.Common.{◌≡◌, ◌∙◌, ◌<◌, [], length, ap, arith, slice_index_or}
+use Rattle.std.proofs.Common.{◌<◌, length, arith, slice_index_or}
 use Rattle.std.proofs.lemmas.List.{get_or_default}
 use Rattle.cable_world.specs.running.NodeActs.{step_of, Suits}
 use Rattle.cable_world.proofs.running.Acting.{from-some, step-is}
 use Rattle.cable_world.proofs.steps.step_node.Goals as goal
 
-pub step_one-requires-clause-wires : goal.step_one-requires-clause-wires
-step_one-requires-clause-wires g c =
-    let at = c.args.node in
-    let ms = c.args.machines.now in
-    let row = get_or_default c.args.wires.now at c.index-wires-node.result [] (omega (arith, c.requires.rows, c.requires.exists)) in
-    ap length row
-    ∙ from-some g.M.PortMachine.record_of (λ x. length (slice_index_or c.args.wires.now at []) ≡ x.state.ports) ms at
-    (slice_index_or ms at c.index-machines-node.result) c.requires.wires (get_or_default ms at c.index-machines-node.result _ c.requires.exists)
-
-pub step_one-requires-clause-suits : goal.step_one-requires-clause-suits
-step_one-requires-clause-suits g c =
+pub step_one-requires : goal.step_one-requires
+step_one-requires g c =
     let at = c.args.node in
     let ms = c.args.machines.now in
     from-some g.M.PortMachine.record_of (λ x. Suits c.args.act x) ms at

@@ -1,10 +1,21 @@
-use Rattle.std.proofs.Common.{◌≤◌, ◌∙◌, length, ap, sym, rules}
-use Rattle.std.proofs.lemmas.List.{drop_all}
+use Rattle.std.proofs.Common.{◌∙◌, length, ap, sym}
+use Rattle.port_state.specs.PortSet.{all_sent}
 use Rattle.cable_world.specs.Turn.{wires_after_sends}
-use Rattle.cable_world.proofs.running.Sending.{no-sends}
+use Rattle.cable_world.proofs.running.Rows.{wires-length, sent-is}
 use Rattle.cable_world.proofs.rows.WireRow.send_all.Goals as goal
 
-pub returns-then-is_empty-clause-sent : goal.returns-then-is_empty-clause-sent
-returns-then-is_empty-clause-sent c =
-    let none : length c.args.sends.now ≤ 0 = search rules in
-    sym (ap (λ xs. wires_after_sends 0 xs c.args.self.now) (drop_all 0 c.args.sends.now none) ∙ no-sends 0 c.args.self.now)
+pub returns-clause-sent : goal.returns-clause-sent
+returns-clause-sent c =
+    let row = c.self.inside in
+    sent-is row.sent.items c.add_all.new.sent.items (all_sent c.args.sends.now) c.in_ok-add_all.ensures 0 row.held.items
+    ∙ ap (wires_after_sends 0 (all_sent c.args.sends.now)) c.self.view_is
+
+pub returns-clause-ports : goal.returns-clause-ports
+returns-clause-ports c =
+    let row = c.self.inside in
+    wires-length 0 c.add_all.new.sent.items row.held.items ∙ sym (wires-length 0 row.sent.items row.held.items) ∙ ap length c.self.view_is
+
+pub returns-in_err-add_all-clause-ports : goal.returns-in_err-add_all-clause-ports
+returns-in_err-add_all-clause-ports c =
+    let row = c.self.inside in
+    wires-length 0 c.add_all.new.sent.items row.held.items ∙ sym (wires-length 0 row.sent.items row.held.items) ∙ ap length c.self.view_is

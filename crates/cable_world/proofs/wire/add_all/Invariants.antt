@@ -1,0 +1,11 @@
+use Rattle.std.proofs.Common.{◌≡◌, ℕ, ◌++◌, map, drop}
+use Rattle.port_state.specs.PortSet.{all_sent}
+use Rattle.port_state.specs.Sends.{sent_on}
+use Rattle.cable_world.specs.Wire.{new_signal}
+use Rattle.cable_world.specs.running.Rows.{on_port}
+use Rattle.cable_world.proofs.wire.add_all.Given as goal
+
+abbrev pub invariant-loop-entry : goal.invariant-loop-entry
+invariant-loop-entry l =
+    (p : ℕ) → on_port p l.sent.items ++ map new_signal (sent_on p (all_sent (drop l.entry-index l.sends)))
+    ≡ on_port p l.initial.sent.items ++ map new_signal (sent_on p (all_sent l.sends))
