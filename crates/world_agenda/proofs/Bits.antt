@@ -1,9 +1,9 @@
 -- Sets of nodes, bit by bit.
-use Rattle.std.proofs.Common.{◌≡◌, ◌≢◌, ℕ, ◌*◌, ◌%◌, ◌^◌, ◌<◌, ◌⊎◌, inl, inr, ◌↔◌, arith, sym, ◌∙◌, bit_and, bit_or}
+use Rattle.std.proofs.Common.{◌≡◌, ◌≢◌, ℕ, ◌*◌, ◌%◌, ◌^◌, ◌-◌, ◌<◌, ◌⊎◌, inl, inr, ◌↔◌, arith, sym, ◌∙◌, bit_and, bit_or}
 use Rattle.std.specs.Int.{bit_at, bit_not, w64}
 use Rattle.std.proofs.lemmas.Bool.{cases_lt}
-use Rattle.std.proofs.lemmas.Nat.{or_lt, and_le_l}
-use Rattle.std.proofs.lemmas.Nat.Bits.{bit_at_clear_same, bit_at_clear_other, bit_at-lt, bit_at_above, bit_at_or}
+use Rattle.std.proofs.lemmas.Nat.{one_shl, or_lt, and_le_l}
+use Rattle.std.proofs.lemmas.Nat.Bits.{bit_at_clear_same, bit_at_clear_other, bit_at-lt, bit_at_above, bit_at_ones, bit_at_ones_above, bit_at_or}
 use Rattle.cabling.specs.NodeSet.{Holds}
 
 one_bit : (n k : ℕ) → 0 < bit_at n k → Holds n k
@@ -56,3 +56,14 @@ removed-less n k small h has =
           let y : bit_at n k ≡ 0 = rw (sym e) z in
           absurd (omega (arith, y, has))
     ]
+
+-- ---- the first nodes
+
+pub first-nodes : (n k : ℕ) → n < 64 → Holds (1 * 2 ^ n % 2 ^ 64 - 1) k ↔ k < n
+first-nodes n k small = rw (one_shl n 64 small) (
+  λ h. elim (cases_lt k n) [
+    | inl less ↦ less
+    | inr more ↦ let z = bit_at_ones_above n k more in absurd (omega (arith, z, h))
+  ],
+  λ less. bit_at_ones n k less,
+)

@@ -11,15 +11,18 @@ use Rattle.cable_world.specs.running.Hearing.{Arriving, inbox_of}
 use Rattle.cable_world.specs.running.Steps.{turns_of}
 use Rattle.cable_world.proofs.Lemmas.{steps-length, changes-length}
 use Rattle.world_agenda.specs.Clock.{caught_up}
-use Rattle.world_agenda.specs.Agenda.{IdlesBut, IsSparedBut}
+use Rattle.world_agenda.specs.declared.heard.Heard.{Heard}
+use Rattle.world_agenda.specs.Agenda.{IdlesBut}
+use Rattle.world_agenda.specs.Heard.{AreSparedBut}
+use Rattle.world_agenda.proofs.Hears.{none-heard}
 use Rattle.world_agenda.proofs.Late.{quiet-node, quiet-wires, quiet-list}
 use Rattle.world_agenda.proofs.Blend.{some-at}
 use Rattle.world_agenda.proofs.Steps.{step-at, row-at, change-at}
 
 module _ {N : Type 0} (r : N → PortNode) (clock idle : N → ℕ) (rests : (n : N) → IsIdleFor (idle n) (r n))
-    (turns hears visited : ℕ) (table : Arriving) (cabling : Wiring) (first : List N)
+    (turns : ℕ) (heard : Heard) (visited : ℕ) (table : Arriving) (cabling : Wiring) (first : List N)
     (behind : All (λ n. clock n ≤ turns) first) (due : IdlesBut visited (turns + 1) (map (λ n. clock n + idle n) first))
-    (spared : IsSparedBut hears table cabling) (within : IsWithin hears visited) (size : length first ≡ length cabling)
+    (spared : AreSparedBut heard table cabling) (within : IsWithin heard.nodes visited) (size : length first ≡ length cabling)
   where
     abbrev was : N → PortNode
     was n = caught_up turns (clock n) (r n)
@@ -63,7 +66,7 @@ module _ {N : Type 0} (r : N → PortNode) (clock idle : N → ℕ) (rests : (n 
         record {
           n = x;
           is = is;
-          none = spared k (omega (arith, size, inside)) (λ has. out (within k has));
+          none = none-heard heard table cabling k spared (λ has. out (within k has));
           low = let b = behind k x inside in omega (arith, b, ap clock found.1);
           few = omega (arith, there, ended);
           step = step-at table cabling olds k (was x) (node_turn (inbox_of table 0 (ports_of cabling k)) (was x)) sized

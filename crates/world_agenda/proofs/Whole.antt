@@ -3,7 +3,7 @@ use Rattle.std.proofs.Common.{◌≡◌, true, ℕ, suc, ◌+◌, ◌<◌, List,
 use Rattle.std.specs.Prelude.{Vec, Result, Ok, Err}
 use Rattle.std.specs.declared.alloc.AllocError.{AllocError}
 use Rattle.std.specs.Vec.{with_items}
-use Rattle.std.proofs.lemmas.List.{get_or_default, length-map, with_items_is}
+use Rattle.std.proofs.lemmas.List.{get_or_default, with_items_is}
 use Rattle.std.proofs.lemmas.Option.{slice_get_cases}
 use Rattle.std.proofs.lemmas.Bool.{lt-ltb}
 use Rattle.std.proofs.Math.Logic.{∥∥₁_elim}
@@ -23,25 +23,13 @@ use Rattle.cable_world.specs.Lawful.{IsWellFormed, IsLawful}
 use Rattle.cable_world.specs.StaysLawful.{ReachedIsLawful}
 use Rattle.cable_world.specs.Run.{IsReached}
 use Rattle.cable_world.specs.running.Hearing.{Arriving}
-use Rattle.cable_world.specs.running.Steps.{turns_of, HasItsPorts}
+use Rattle.cable_world.specs.running.Steps.{turns_of}
 use Rattle.cable_world.specs.Parts.{world_record}
 use Rattle.world_agenda.proofs.Steps.{turns-are}
-use Rattle.cable_world.proofs.Lemmas.{row-of, lawful_prop}
+use Rattle.cable_world.proofs.Lemmas.{lawful_prop}
 
 pub lawful-now : (w : CableWorld) → ReachedIsLawful → ∥ IsReached w ∥₁ → IsLawful w
 lawful-now w law r = ∥∥₁_elim r (lawful_prop w) (law w)
-
--- ---- what the code asks of it
-
--- after the turn of the wires
-pub has-its-ports :
-    (w : CableWorld) (old : List (List Wire)) → IsWellFormed w → old ≡ map (map (stays w.delay)) w.wires → HasItsPorts w.cabling w.nodes old
-has-its-ports w old f o = record {
-  counts = λ k x at. (f.nodes k x at).ports;
-  rows = λ k x at.
-      ap (λ rows. length (slice_index_or rows k [])) o ∙ ap length (row-of (stays w.delay) w.wires k)
-      ∙ length-map (slice_index_or w.wires k []) (stays w.delay) ∙ (f.nodes k x at).wires;
-}
 
 -- ---- its turn
 

@@ -1,2 +1,4 @@
 pub mod Clock
 pub mod Agenda
+pub mod Live
+pub mod Heard

@@ -7,13 +7,14 @@ ghost use Rattle.cable_world.specs.Still.{AreSilent};
 ghost use Rattle.cable_world.specs.Turn.{turns_after};
 ghost use Rattle.world_agenda.specs.Clock.{caught_up};
 ghost use Rattle.world_agenda.specs.Agenda.{Knows};
+ghost use Rattle.world_agenda.specs.Live.{HasLive};
 
+use crate::live::{live_silent, pass_live};
+use crate::mask::NodeMask;
 use crate::node::AgendaNode;
 use crate::nodes::{Agenda, act_agenda, turn_agenda};
 use crate::still::TellsStillTurns;
-use cable_world::parts::{
-    ArrivalRow, WireRow, all_silent, arrival_rows, no_changes, pass_wires, port_counts, wire_rows,
-};
+use cable_world::parts::{ArrivalRow, WireRow, arrival_rows, no_changes, port_counts, wire_rows};
 use cable_world::{
     Act, ActStop, ShowsWires, Travelling, WorldRun, still_turns_pass, worlds_stay_lawful,
     worlds_stay_reached,
@@ -37,6 +38,8 @@ pub struct AgendaWorld<M: PortMachine> {
     turns: u32,
     // Which nodes are due.
     agenda: Agenda,
+    // The nodes on whose wires something may be under way or arrive, or of which one may be held.
+    live: NodeMask,
     out: Sends,
     spent: bool,
     ghost reached: { IsFalse spent → ∥ IsReached (world_record delay cabling
@@ -48,6 +51,7 @@ pub struct AgendaWorld<M: PortMachine> {
     ghost same: { IsFalse spent → map length arrivals.items ≡ map length wires.items },
     ghost knows: { IsFalse spent → Knows agenda.soon agenda.next
         (map (λ n. n.clock + n.idle) nodes.items) },
+    ghost lives: { IsFalse spent → HasLive live wires.items arrivals.items },
 }
 
 /// The machines as nodes at power-on.
@@ -84,6 +88,7 @@ impl<M: PortMachine + Drop> AgendaWorld<M> {
         Ok(AgendaWorld {
             delay,
             agenda: Agenda::unknown(),
+            live: NodeMask::first(machines.len() as u8),
             cabling: Cabling::new(alloc, ports)?,
             wires: wire_rows(alloc, ports)?,
             arrivals: arrival_rows(alloc, ports)?,
@@ -111,7 +116,7 @@ impl<M: PortMachine> AgendaWorld<M> {
         if rest == 0 {
             return 0;
         }
-        if !all_silent(&self.wires) {
+        if !live_silent(&self.wires, self.live) {
             return 0;
         }
         rest
@@ -140,7 +145,7 @@ impl<M: PortMachine> AgendaWorld<M> {
         worlds_stay_lawful();
         worlds_stay_reached();
         still_turns_pass();
-        pass_wires(&mut self.wires, rest);
+        pass_live(&mut self.wires, rest, self.live);
         self.turns += rest;
         rest
     }
@@ -161,6 +166,7 @@ impl<M: PortMachine> WorldRun for AgendaWorld<M> {
         worlds_stay_reached();
         self.spent = true;
         self.agenda = Agenda::unknown();
+        self.live = NodeMask::first(self.cabling.nodes());
         let done = act_agenda(
             act,
             &mut self.cabling,
@@ -201,6 +207,7 @@ impl<M: PortMachine> WorldRun for AgendaWorld<M> {
         worlds_stay_lawful();
         worlds_stay_reached();
         self.wires[end.node as usize].hold(end.port, turns);
+        self.live.insert(end.node);
         Ok(())
     }
 
@@ -221,6 +228,7 @@ impl<M: PortMachine> WorldRun for AgendaWorld<M> {
             &mut self.arrivals,
             &mut self.out,
             &mut self.agenda,
+            &mut self.live,
         )?;
         self.turns += 1;
         self.spent = false;
@@ -276,10 +284,17 @@ impl<M: PortMachine> WorldRun for AgendaWorld<M> {
 }
 
 impl<M: PortMachine> ShowsWires for AgendaWorld<M> {
-    fn under_way(&self, end: End) -> &[Travelling] {
+    fn count_under_way(&self, end: End) -> usize {
         match self.wires.get(end.node as usize) {
-            None => &[],
-            Some(row) => row.under_way(end.port),
+            None => 0,
+            Some(row) => row.count(end.port),
+        }
+    }
+
+    fn under_way(&self, end: End, at: usize) -> Option<Travelling> {
+        match self.wires.get(end.node as usize) {
+            None => None,
+            Some(row) => row.under_way(end.port, at),
         }
     }
 }

@@ -1,63 +1,91 @@
-//! Which nodes hear something in a turn.
-ghost use Rattle.std.specs.Prelude.{◌≡◌, ◌<◌, ◌≤◌, [], length, IfSome};
-ghost use Rattle.cabling.specs.NodeSet.{Holds, IsWithin};
-ghost use Rattle.world_agenda.specs.Agenda.{AreBelow, IsSparedBut, GivesBut};
+//! Which nodes hear something in a turn, and at which of their ports.
+ghost use Rattle.std.specs.Prelude.{◌≡◌, ◌<◌, ℕ, length, slice_index_or, IfSome};
+ghost use Rattle.world_agenda.specs.Agenda.{AreBelow};
+ghost use Rattle.world_agenda.specs.Live.{GiveNoneBut};
+ghost use Rattle.world_agenda.specs.Heard.{IsHeard, StayHeard, GivesBut, AreSparedBut};
 
 use crate::mask::NodeMask;
 use cable_world::parts::ArrivalRow;
 use cabling::{Cabling, End, cables_are_two_ended};
-use port_state::Signal;
+use port_state::PortSet;
 
-/// Marks the node at a far end, where signals arrive there.
-fn mark_far(far: Option<End>, signals: &[Signal], nodes: u8, hears: &mut NodeMask)
-    requires few { nodes ≤ 63 }
-    requires below { AreBelow hears.old nodes }
-    ensures marked { IfSome far (λ end. end.node < nodes → (Holds hears.new end.node → ⊥) →
-        signals.now ≡ []) }
-    ensures kept { IsWithin hears.old hears.new }
-    ensures below { AreBelow hears.new nodes }
-{
-    if signals.is_empty() {
-        return;
+/// The nodes that hear something in a turn, and for each node the ports at which it does.
+#[derive(Drop)]
+pub struct Heard {
+    pub nodes: NodeMask,
+    ports: [PortSet; 63],
+}
+
+impl Heard {
+    /// Nothing is heard.
+    fn none() -> Heard
+        ensures { result.nodes ≡ 0 }
+    {
+        Heard {
+            nodes: NodeMask::none(),
+            ports: [PortSet::none(); 63],
+        }
     }
-    if let Some(End { node, .. }) = far {
-        if node < nodes {
-            hears.insert(node);
+
+    /// At which of its ports a node, 0 to 62, hears something.
+    pub fn at(&self, node: u8) -> PortSet
+        requires { node < 63 }
+        ensures { result ≡ slice_index_or self.now.ports node 0 }
+    {
+        self.ports[node as usize]
+    }
+
+    /// Marks a far end, if there is one: of node 0 to 62 the port 0 to 15.
+    fn mark(&mut self, far: Option<End>)
+        requires node { IfSome far (λ end. end.node < 63) }
+        requires port { IfSome far (λ end. end.port < 16) }
+        ensures heard { IfSome far (λ end. IsHeard self.new end) }
+        ensures kept { StayHeard self.old self.new }
+        ensures below { (count : ℕ) → IfSome far (λ end. end.node < count) →
+            AreBelow self.old.nodes count → AreBelow self.new.nodes count }
+    {
+        if let Some(End { node, port }) = far {
+            self.nodes.insert(node);
+            self.ports[node as usize].insert(port);
         }
     }
 }
 
-/// Marks the nodes at the far ends of a node's wires from which something arrives. The node exists.
-fn mark_hearers(cabling: &Cabling, node: u8, row: &ArrivalRow, hears: &mut NodeMask)
+/// Marks the ends at which something arrives from the wires of a node. The node exists.
+fn mark_from(cabling: &Cabling, node: u8, row: &ArrivalRow, heard: &mut Heard)
     requires exists { node < length cabling.now }
-    requires below { AreBelow hears.old (length cabling.now) }
-    ensures marked { GivesBut hears.new cabling.now node row.now }
-    ensures kept { IsWithin hears.old hears.new }
-    ensures below { AreBelow hears.new (length cabling.now) }
+    requires below { AreBelow heard.old.nodes (length cabling.now) }
+    ensures gives { GivesBut heard.new cabling.now node row.now }
+    ensures kept { StayHeard heard.old heard.new }
+    ensures below { AreBelow heard.new.nodes (length cabling.now) }
 {
-    if row.is_none() {
-        return;
-    }
-    for port in 0..cabling.ports(node) {
-        mark_far(
-            cabling.far(End { node, port }),
-            row.from_port(port),
-            cabling.nodes(),
-            hears,
-        );
+    cables_are_two_ended(cabling);
+    let gives = row.ports();
+    let ports = cabling.ports(node);
+    let mut port = 0;
+    while let Some(next) = gives.next_from(port) {
+        if next >= ports {
+            break;
+        }
+        heard.mark(cabling.far(End { node, port: next }));
+        port = next + 1;
     }
 }
 
-/// Which nodes hear something.
-pub fn hearers(cabling: &Cabling, arrivals: &[ArrivalRow]) -> NodeMask
-    requires { length arrivals.now ≡ length cabling.now }
-    ensures spared { IsSparedBut result arrivals.now cabling.now }
-    ensures below { AreBelow result (length cabling.now) }
+/// Which nodes hear something, and at which ports. From the wires of the nodes that aren't in `live`
+/// nothing arrives.
+pub fn hearers(cabling: &Cabling, arrivals: &[ArrivalRow], live: NodeMask) -> Heard
+    requires nodes { length arrivals.now ≡ length cabling.now }
+    requires near { AreBelow live (length arrivals.now) }
+    requires none { GiveNoneBut live arrivals.now }
+    ensures spared { AreSparedBut result arrivals.now cabling.now }
+    ensures below { AreBelow result.nodes (length cabling.now) }
 {
     cables_are_two_ended(cabling);
-    let mut hears = NodeMask::none();
-    for node in 0..cabling.nodes() {
-        mark_hearers(cabling, node, &arrivals[usize::from(node)], &mut hears);
+    let mut heard = Heard::none();
+    let mut left = live;
+    while let Some(node) = left.take_least() {
+        mark_from(cabling, node, &arrivals[node as usize], &mut heard);
     }
-    hears
+    heard
 }

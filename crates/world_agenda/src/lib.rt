@@ -4,6 +4,7 @@
 
 mod agenda;
 mod heard;
+mod live;
 mod mask;
 mod node;
 mod nodes;

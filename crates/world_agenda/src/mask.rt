@@ -30,6 +30,16 @@ impl NodeMask {
         NodeMask { bits: 0 }
     }
 
+    /// The set of the first nodes, so many of them, at most 63.
+    pub fn first(count: u8) -> NodeMask
+        requires { count ≤ 63 }
+        ensures { (k : ℕ) → Holds result k ↔ k < count }
+    {
+        NodeMask {
+            bits: (1 << count) - 1,
+        }
+    }
+
     /// Whether the node is in the set.
     pub fn has(self, node: u8) -> bool
         ensures { IsTrue result ↔ Holds self node }

@@ -8,20 +8,23 @@ ghost use Rattle.cable_world.specs.Lawful.{IsLawful};
 ghost use Rattle.cable_world.specs.Parts.{world_record};
 ghost use Rattle.cable_world.specs.Turn.{turn, node_turn, wires_after_sends, same_list};
 ghost use Rattle.cable_world.specs.Turn.{all_wires_after_sends, last_changes};
-ghost use Rattle.cable_world.specs.running.Hearing.{inbox_of};
+ghost use Rattle.cable_world.specs.running.Hearing.{AreQuietBut, inbox_of};
 ghost use Rattle.cable_world.specs.running.NodeActs.{AreLawful};
 ghost use Rattle.cable_world.specs.running.Steps.{turns_of, HasItsPorts};
 ghost use Rattle.cabling.specs.NodeSet.{Holds, IsEmpty, AgreeBut, IsWithin};
 ghost use Rattle.world_agenda.specs.Clock.{caught_up};
-ghost use Rattle.world_agenda.specs.Agenda.{AreBelow, IsSparedBut, IdlesBut, Knows};
+ghost use Rattle.world_agenda.specs.Agenda.{AreBelow, IdlesBut, Knows};
+ghost use Rattle.world_agenda.specs.Heard.{AreSparedBut};
+ghost use Rattle.world_agenda.specs.Live.{HasLive};
 
-use crate::heard::hearers;
+use crate::heard::{Heard, hearers};
+use crate::live::{note_live, turn_live};
 use crate::mask::NodeMask;
 use crate::node::AgendaNode;
-use cable_world::parts::{ArrivalRow, WireRow, act_world, turn_one, turn_wires};
+use cable_world::parts::{ArrivalRow, WireRow, act_world, turn_one};
 use cable_world::{Act, ActStop};
 use cabling::{Cabling, OutOfMemory};
-use port_state::{PortMachine, Sends};
+use port_state::{PortMachine, PortSet, Sends};
 
 // ---- between turns
 
@@ -185,13 +188,14 @@ fn due_nodes<M: PortMachine>(nodes: &[AgendaNode<M>], turns: u32, agenda: &mut A
 }
 
 /// A node's part of the turn that comes after `turns` turns: its machine catches up and takes its turn,
-/// and the agenda notes for how long it is idle then. Answers when its list changed last, which was at the end of turn number `last` before.
+/// and the agenda notes for how long it is idle then. Answers when its list changed last, which was at
+/// the end of turn number `last` before. At the ports that aren't in `heard` nothing arrives.
 fn turn_node<M: PortMachine>(
     node: &mut AgendaNode<M>,
     cabling: &Cabling,
     number: u8,
     arrivals: &[ArrivalRow],
-    hears: bool,
+    heard: PortSet,
     turns: u32,
     last: u32,
     out: &mut Sends,
@@ -201,12 +205,10 @@ fn turn_node<M: PortMachine>(
     requires few { turns < 4000000000 }
     requires near { number < 63 }
     requires exists { number < length cabling.now }
-    requires spared { IsFalse hears → inbox_of arrivals.now 0 (ports_of cabling.now number) ≡ [] }
+    requires quiet { AreQuietBut heard arrivals.now cabling.now number }
     requires behind { node.old.clock ≤ turns }
     requires idle { turns ≤ node.old.clock + node.old.idle }
     requires ports { length (ports_of cabling.now number)
-        ≡ (caught_up turns node.old.clock (M.record_of node.old.machine)).state.ports }
-    requires wires { length wires.old
         ≡ (caught_up turns node.old.clock (M.record_of node.old.machine)).state.ports }
     ensures node { OnOk result (
         caught_up (turns + 1) node.new.clock (M.record_of node.new.machine)
@@ -232,7 +234,7 @@ fn turn_node<M: PortMachine>(
         cabling,
         number,
         arrivals,
-        hears,
+        heard,
         turns + 1,
         last,
         out,
@@ -244,25 +246,27 @@ fn turn_node<M: PortMachine>(
 }
 
 /// The turn of every node, which comes after `turns` turns. Those that hear something or are due take
-/// it, and the clocks of the others stay behind.
+/// it, and the clocks of the others stay behind. `live` has each node whose wires are live, before and
+/// after it.
 fn turn_nodes<M: PortMachine>(
     nodes: &mut [AgendaNode<M>],
     cabling: &Cabling,
     arrivals: &[ArrivalRow],
-    hears: NodeMask,
+    heard: &Heard,
     visited: NodeMask,
     turns: u32,
     changed: &mut [u32],
     out: &mut Sends,
     wires: &mut [WireRow],
     agenda: &mut Agenda,
+    live: &mut NodeMask,
 ) -> Result<(), OutOfMemory>
     requires early { turns < 4000000000 }
     requires few { length nodes.old ≤ 63 }
     requires nodes { length nodes.old ≡ length cabling.now }
     requires below { AreBelow visited (length nodes.old) }
-    requires spared { IsSparedBut hears arrivals.now cabling.now }
-    requires within { IsWithin hears visited }
+    requires spared { AreSparedBut heard.now arrivals.now cabling.now }
+    requires within { IsWithin heard.now.nodes visited }
     requires due { IdlesBut visited (turns + 1) (map (λ n. n.clock + n.idle) nodes.old) }
     requires later { IdlesBut visited agenda.old.next (map (λ n. n.clock + n.idle) nodes.old) }
     requires changes { length changed.old ≡ length cabling.now }
@@ -270,7 +274,9 @@ fn turn_nodes<M: PortMachine>(
     requires behind { All (λ n. n.clock ≤ turns) nodes.old }
     requires idle { All (λ n. turns ≤ n.clock + n.idle) nodes.old }
     requires ports { HasItsPorts cabling.now
-        (map (λ n. caught_up turns n.clock (M.record_of n.machine)) nodes.old) wires.old }
+        (map (λ n. caught_up turns n.clock (M.record_of n.machine)) nodes.old) }
+    requires arrivals { length arrivals.now ≡ length cabling.now }
+    requires live { HasLive live.old wires.old arrivals.now }
     ensures node { OnOk result (
         map (λ n. caught_up (turns + 1) n.clock (M.record_of n.machine)) nodes.new
         ≡ map (λ (s : NodeStep). s.node) (turns_of arrivals.now cabling.now
@@ -289,6 +295,7 @@ fn turn_nodes<M: PortMachine>(
     ensures soon { OnOk result (IdlesBut agenda.new.soon agenda.new.next
         (map (λ n. n.clock + n.idle) nodes.new)) }
     ensures near { OnOk result (AreBelow agenda.new.soon (length nodes.old)) }
+    ensures live { OnOk result (HasLive live.new wires.new arrivals.now) }
 {
     agenda.soon = NodeMask::none();
     let mut left = visited;
@@ -299,18 +306,20 @@ fn turn_nodes<M: PortMachine>(
             cabling,
             node,
             arrivals,
-            hears.has(node),
+            heard.at(node),
             turns,
             changed[at],
             out,
             &mut wires[at],
             agenda,
         )?;
+        note_live(&wires[at], &arrivals[at], node, live);
     }
     Ok(())
 }
 
-/// The turn of a world after `turns` turns.
+/// The turn of a world after `turns` turns. `live` has each node whose wires are live, before and after
+/// it.
 pub fn turn_agenda<M: PortMachine>(
     delay: u8,
     cabling: &Cabling,
@@ -321,6 +330,7 @@ pub fn turn_agenda<M: PortMachine>(
     arrivals: &mut [ArrivalRow],
     out: &mut Sends,
     agenda: &mut Agenda,
+    live: &mut NodeMask,
 ) -> Result<(), OutOfMemory>
     requires few { turns < 4000000000 }
     requires lawful { IsLawful (world_record delay cabling.now
@@ -330,6 +340,7 @@ pub fn turn_agenda<M: PortMachine>(
     requires behind { All (λ n. n.clock ≤ turns) nodes.old }
     requires idle { All (λ n. turns ≤ n.clock + n.idle) nodes.old }
     requires knows { Knows agenda.old.soon agenda.old.next (map (λ n. n.clock + n.idle) nodes.old) }
+    requires live { HasLive live.old wires.old arrivals.old }
     ensures done { OnOk result (
         world_record delay cabling.now
         (map (λ n. caught_up (turns + 1) n.clock (M.record_of n.machine)) nodes.new) wires.new
@@ -343,12 +354,13 @@ pub fn turn_agenda<M: PortMachine>(
     ensures ahead { OnOk result (All (λ n. turns + 1 ≤ n.clock + n.idle) nodes.new) }
     ensures knows { OnOk result (Knows agenda.new.soon agenda.new.next
         (map (λ n. n.clock + n.idle) nodes.new)) }
+    ensures live { OnOk result (HasLive live.new wires.new arrivals.new) }
 {
-    turn_wires(wires, delay, arrivals)?;
-    let hears = hearers(cabling, arrivals);
-    let visited = due_nodes(nodes, turns, agenda).union(hears);
+    turn_live(wires, delay, arrivals, live)?;
+    let heard = hearers(cabling, arrivals, *live);
+    let visited = due_nodes(nodes, turns, agenda).union(heard.nodes);
     turn_nodes(
-        nodes, cabling, arrivals, hears, visited, turns, changed, out, wires, agenda,
+        nodes, cabling, arrivals, &heard, visited, turns, changed, out, wires, agenda, live,
     )?;
     Ok(())
 }

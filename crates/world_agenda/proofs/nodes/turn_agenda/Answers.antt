@@ -5,12 +5,12 @@ use Rattle.cable_world.specs.Wire.{Wire, arrives, stays}
 use Rattle.cable_world.specs.Parts.{world_record}
 use Rattle.world_agenda.specs.declared.node.AgendaNode.{AgendaNode}
 use Rattle.world_agenda.specs.Clock.{caught_up}
-use Rattle.world_agenda.proofs.Whole.{has-its-ports, turn-is}
+use Rattle.world_agenda.proofs.Whole.{turn-is}
 use Rattle.world_agenda.proofs.nodes.turn_agenda.Goals as goal
 use Rattle.cable_world.proofs.Lemmas.{all-young, rows-long, sent-long}
 
-pub turn_wires-requires-clause-young : goal.turn_wires-requires-clause-young
-turn_wires-requires-clause-young g c = all-young _ c.requires.lawful.well_formed
+pub turn_live-requires-clause-young : goal.turn_live-requires-clause-young
+turn_live-requires-clause-young g c = all-young _ c.requires.lawful.well_formed
 
 pub turn_nodes-requires-clause-few : goal.turn_nodes-requires-clause-few
 turn_nodes-requires-clause-few g c =
@@ -28,36 +28,41 @@ turn_nodes-requires-clause-changes g c = c.requires.lawful.well_formed.changes
 
 pub turn_nodes-requires-clause-rows : goal.turn_nodes-requires-clause-rows
 turn_nodes-requires-clause-rows g c =
-    ap length c.in_ok-turn_wires.ensures.stays ∙ length-map c.args.wires.now (map (stays c.args.delay)) ∙ c.requires.lawful.well_formed.wire_rows
+    ap length c.in_ok-turn_live.ensures.stays ∙ length-map c.args.wires.now (map (stays c.args.delay)) ∙ c.requires.lawful.well_formed.wire_rows
 
 pub turn_nodes-requires-clause-ports : goal.turn_nodes-requires-clause-ports
-turn_nodes-requires-clause-ports g c =
-    let f : AgendaNode g.row.M.Denot g.M.PortMachine → PortNode = λ n. caught_up c.args.turns n.clock (g.M.PortMachine.record_of n.machine) in
-    has-its-ports (world_record c.args.delay c.args.cabling.now (map f c.args.nodes.now) c.args.wires.now c.args.changed.now c.args.turns)
-    c.turn_wires.new.wires c.requires.lawful.well_formed c.in_ok-turn_wires.ensures.stays
+turn_nodes-requires-clause-ports g c = λ k x at. (c.requires.lawful.well_formed.nodes k x at).ports
 
 pub returns-clause-done : goal.returns-clause-done
 returns-clause-done g c =
     let f : AgendaNode g.row.M.Denot g.M.PortMachine → PortNode = λ n. caught_up c.args.turns n.clock (g.M.PortMachine.record_of n.machine) in
     let h : AgendaNode g.row.M.Denot g.M.PortMachine → PortNode = λ n. caught_up (c.args.turns + 1) n.clock (g.M.PortMachine.record_of n.machine) in
     turn-is (world_record c.args.delay c.args.cabling.now (map f c.args.nodes.now) c.args.wires.now c.args.changed.now c.args.turns)
-    c.turn_wires.new.arrivals (map h c.turn_nodes.new.nodes) c.turn_wires.new.wires c.turn_nodes.new.wires
-    c.turn_nodes.new.changed c.in_ok-turn_wires.ensures.arrives c.in_ok-turn_wires.ensures.stays
+    c.turn_live.new.arrivals (map h c.turn_nodes.new.nodes) c.turn_live.new.wires c.turn_nodes.new.wires
+    c.turn_nodes.new.changed c.in_ok-turn_live.ensures.arrives c.in_ok-turn_live.ensures.stays
     c.in_ok-turn_nodes.ensures.node c.in_ok-turn_nodes.ensures.changes c.in_ok-turn_nodes.ensures.wires
 
 pub returns-clause-same : goal.returns-clause-same
 returns-clause-same g c =
     let rows = c.args.wires.now in
     let lengths = λ (ws : List (List Wire)). map length ws in
-    ap (λ (ws : List (List (List _))). map length ws) c.in_ok-turn_wires.ensures.arrives
+    ap (λ (ws : List (List (List _))). map length ws) c.in_ok-turn_live.ensures.arrives
     ∙ rows-long (arrives c.args.delay) rows ∙ sym (rows-long (stays c.args.delay) rows)
-    ∙ ap lengths (sym c.in_ok-turn_wires.ensures.stays)
-    ∙ sym (sent-long _ c.turn_wires.new.wires) ∙ ap lengths (sym c.in_ok-turn_nodes.ensures.wires)
+    ∙ ap lengths (sym c.in_ok-turn_live.ensures.stays)
+    ∙ sym (sent-long _ c.turn_live.new.wires) ∙ ap lengths (sym c.in_ok-turn_nodes.ensures.wires)
 
-pub hearers-hears-requires : goal.hearers-hears-requires
-hearers-hears-requires g c =
+pub hearers-heard-requires-clause-nodes : goal.hearers-heard-requires-clause-nodes
+hearers-heard-requires-clause-nodes g c =
     let w = c.requires.lawful.well_formed in
-    ap length c.in_ok-turn_wires.ensures.arrives ∙ length-map c.args.wires.now (map (arrives c.args.delay)) ∙ w.wire_rows
+    ap length c.in_ok-turn_live.ensures.arrives ∙ length-map c.args.wires.now (map (arrives c.args.delay)) ∙ w.wire_rows
+
+pub hearers-heard-requires-clause-near : goal.hearers-heard-requires-clause-near
+hearers-heard-requires-clause-near g c =
+    let rows = c.args.wires.now in
+    let d = c.args.delay in
+    λ k has.
+    let less = c.in_ok-turn_live.ensures.live.near k has in
+    omega (arith, less, ap length c.in_ok-turn_live.ensures.arrives, length-map rows (map (arrives d)), ap length c.in_ok-turn_live.ensures.stays, length-map rows (map (stays d)))
 
 pub due_nodes-requires-clause-few : goal.due_nodes-requires-clause-few
 due_nodes-requires-clause-few g c =
@@ -80,12 +85,8 @@ turn_nodes-requires-clause-below g c =
     let w = c.requires.lawful.well_formed in
     λ k has. elim ((c.union-visited.ensures k).0 has) [
       | inl due ↦ c.due_nodes.ensures.below k due
-      | inr heard ↦ let less = c.hearers-hears.ensures.below k heard in omega (arith, less, length-map c.args.nodes.now f, w.count)
+      | inr heard ↦ let less = c.hearers-heard.ensures.below k heard in omega (arith, less, length-map c.args.nodes.now f, w.count)
     ]
-
-pub turn_nodes-requires-clause-spared : goal.turn_nodes-requires-clause-spared
-turn_nodes-requires-clause-spared g c =
-    c.hearers-hears.ensures.spared
 
 pub turn_nodes-requires-clause-within : goal.turn_nodes-requires-clause-within
 turn_nodes-requires-clause-within g c =

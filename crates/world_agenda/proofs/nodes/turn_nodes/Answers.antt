@@ -1,4 +1,4 @@
-use Rattle.std.proofs.Common.{◌<◌, ◌≤◌, ◌∙◌, ◌≡◌, ◌+◌, ℕ, [], length, map, get_or, slice_index_or, slice_set, arith, ap, sym, refl, subst, inl, inr, if◌then◌else◌}
+use Rattle.std.proofs.Common.{◌<◌, ◌≤◌, ◌∙◌, ◌≡◌, ◌+◌, ℕ, length, map, get_or, slice_index_or, slice_set, arith, ap, sym, refl, subst, inl, inr, if◌then◌else◌}
 use Rattle.std.proofs.lemmas.Bool.{cases_eq}
 use Rattle.std.proofs.lemmas.List.{length-map, get_or_default, get_or-map, map-set, get_or-set_same, get_or-set_other, length-set}
 use Rattle.std.proofs.lemmas.List.Elements.{All-set, All-weaker}
@@ -8,10 +8,12 @@ use Rattle.cabling.proofs.Lemmas.{none_of_zero}
 use Rattle.port_state.specs.Idle.{IsIdleFor}
 use Rattle.port_state.specs.Machine.{PortNode, NodeStep}
 use Rattle.cable_world.specs.Turn.{node_turn, wires_after_sends, all_wires_after_sends, last_changes, same_list}
-use Rattle.cable_world.specs.running.Hearing.{inbox_of}
+use Rattle.cable_world.specs.running.Hearing.{AreQuietBut, inbox_of}
 use Rattle.cable_world.specs.running.Steps.{turns_of}
 use Rattle.world_agenda.specs.declared.node.AgendaNode.{AgendaNode}
 use Rattle.world_agenda.specs.Clock.{caught_up}
+use Rattle.world_agenda.proofs.Hears.{quiet-but}
+use Rattle.world_agenda.proofs.LiveRows.{live-set}
 use Rattle.world_agenda.proofs.Places.{all-at}
 use Rattle.world_agenda.proofs.Blend.{Blended, blend-start, blend-set, blend-end}
 use Rattle.world_agenda.proofs.Quiet.{quiet-nodes, quiet-rows, quiet-changes}
@@ -59,26 +61,12 @@ turn_node-requires-clause-ports g c =
     let m = slice_index_or ms k c.index-nodes-at.result in
     let was : m ≡ get_or first k m = get_or_default ms k c.index-nodes-at.result m inside ∙ inv.waiting k m within held in
     let at : f m ≡ get_or (map f first) k (f m) = sym (get_or-map f first k m (f m) within ∙ ap f (sym was)) in
-    c.requires.ports.counts k (f m) (get-some (map f first) k (f m) (omega (arith, length-map first f, within)) at)
+    c.requires.ports k (f m) (get-some (map f first) k (f m) (omega (arith, length-map first f, within)) at)
 
-pub turn_node-requires-clause-wires : goal.turn_node-requires-clause-wires
-turn_node-requires-clause-wires g c =
-    let f : AgendaNode g.row.M.Denot g.M.PortMachine → PortNode = λ n. caught_up c.args.turns n.clock (g.M.PortMachine.record_of n.machine) in
-    let k = c.in-Some.node in
-    let ms = c.loop-node.nodes in
-    let first = c.args.nodes.now in
-    let inv = c.loop-node.invariant in
-    let held = c.in-Some.ensures.held in
-    let within : k < length first = c.requires.below k (inv.left k held) in
-    let inside : k < length ms = omega (arith, c.loop-node.auto.nodes, within) in
-    let m = slice_index_or ms k c.index-nodes-at.result in
-    let was : m ≡ get_or first k m = get_or_default ms k c.index-nodes-at.result m inside ∙ inv.waiting k m within held in
-    let at : f m ≡ get_or (map f first) k (f m) = sym (get_or-map f first k m (f m) within ∙ ap f (sym was)) in
-    let rows : k < length c.args.wires.now = omega (arith, c.requires.rows, c.requires.nodes, within) in
-    let row = c.index-wires-at.result in
-    let there : row ≡ get_or c.args.wires.now k row = c.index-wires-at.is ∙ inv.wires.waits k row rows held in
-    ap length (sym c.index-wires-at.is) ∙ ap length (there ∙ get_or_default c.args.wires.now k row [] rows)
-    ∙ c.requires.ports.rows k (f m) (get-some (map f first) k (f m) (omega (arith, length-map first f, within)) at)
+pub turn_node-requires-clause-quiet : goal.turn_node-requires-clause-quiet
+turn_node-requires-clause-quiet g c =
+    subst (λ (set : ℕ). AreQuietBut set c.args.arrivals.now c.args.cabling.now c.in-Some.node) (sym c.at.ensures)
+    (quiet-but c.args.heard.now c.args.arrivals.now c.args.cabling.now c.in-Some.node c.requires.spared)
 
 pub loop-node-init : goal.loop-node-init
 loop-node-init g c =
@@ -94,17 +82,18 @@ loop-node-init g c =
     let new = map (λ (s : NodeStep). s.node) steps in
     record {
       left = λ k has. has;
-      nodes = blend-start c.args.visited new (map h first) (quiet-nodes r clock idle rests c.args.turns c.args.hears c.args.visited c.args.arrivals.now c.args.cabling.now first c.requires.behind c.requires.due c.requires.spared c.requires.within c.requires.nodes);
+      nodes = blend-start c.args.visited new (map h first) (quiet-nodes r clock idle rests c.args.turns c.args.heard.now c.args.visited c.args.arrivals.now c.args.cabling.now first c.requires.behind c.requires.due c.requires.spared c.requires.within c.requires.nodes);
       waiting = λ k d inside has. refl;
       changes = blend-start c.args.visited (last_changes (c.args.turns + 1) old new c.args.changed.now) c.args.changed.now
-          (quiet-changes r clock idle rests c.args.turns c.args.hears c.args.visited c.args.arrivals.now c.args.cabling.now first c.requires.behind c.requires.due c.requires.spared c.requires.within c.requires.nodes c.args.changed.now c.requires.changes);
+          (quiet-changes r clock idle rests c.args.turns c.args.heard.now c.args.visited c.args.arrivals.now c.args.cabling.now first c.requires.behind c.requires.due c.requires.spared c.requires.within c.requires.nodes c.args.changed.now c.requires.changes);
       wires = blend-start c.args.visited (all_wires_after_sends steps c.args.wires.now) c.args.wires.now
-          (quiet-rows r clock idle rests c.args.turns c.args.hears c.args.visited c.args.arrivals.now c.args.cabling.now first c.requires.behind c.requires.due c.requires.spared c.requires.within c.requires.nodes c.args.wires.now c.requires.rows);
+          (quiet-rows r clock idle rests c.args.turns c.args.heard.now c.args.visited c.args.arrivals.now c.args.cabling.now first c.requires.behind c.requires.due c.requires.spared c.requires.within c.requires.nodes c.args.wires.now c.requires.rows);
       behind = All-weaker (λ n. n.clock ≤ c.args.turns) (λ n. n.clock ≤ c.args.turns + 1) (λ n few. omega (arith, few)) first c.requires.behind;
       idle = c.requires.idle;
       ahead = c.requires.due;
       soon = λ k inside out off. c.requires.later k (omega (arith, inside, length-map first (λ n. n.clock + n.idle))) out;
       near = λ k has. absurd (none_of_zero k (subst (λ (n : ℕ). Holds n k) c.none-agenda.ensures has));
+      live = c.requires.live;
     }
 
 pub loop-node-preserved : goal.loop-node-preserved
@@ -186,6 +175,8 @@ loop-node-preserved g c =
         | inl e ↦ omega (arith, e, within)
         | inr ne ↦ inv.near j ((c.turn_node.ensures.others j ne).0 has)
       ];
+      live = live-set c.loop-node.live c.note_live.new.live k c.loop-node.wires c.turn_node.new.wires c.index-wires-at-in-Some.result table (omega (arith, inv.wires.long, rows))
+          c.note_live.ensures.kept c.note_live.ensures.others c.note_live.ensures.rest inv.live;
     }
 
 pub loop-node-smaller : goal.loop-node-smaller
@@ -273,3 +264,15 @@ turn_node-requires-clause-exists g c =
 pub returns-in_err-changed-clause-idle : goal.returns-in_err-changed-clause-idle
 returns-in_err-changed-clause-idle g c =
     All-set (λ n. c.args.turns ≤ n.clock + n.idle) c.loop-node.nodes c.in-Some.node c.turn_node.new.node c.turn_node.ensures.idle c.loop-node.invariant.idle
+
+pub at-requires : goal.at-requires
+at-requires g c =
+    let k = c.in-Some.node in
+    let within : k < length c.args.nodes.now = c.requires.below k (c.loop-node.invariant.left k c.in-Some.ensures.held) in
+    omega (arith, within, c.requires.few)
+
+pub bounds-arrivals-at : goal.bounds-arrivals-at
+bounds-arrivals-at g c =
+    let k = c.in-Some.node in
+    let within : k < length c.args.nodes.now = c.requires.below k (c.loop-node.invariant.left k c.in-Some.ensures.held) in
+    omega (arith, within, c.requires.arrivals, c.requires.nodes)

@@ -5,6 +5,7 @@ use Rattle.cable_world.specs.Turn.{all_wires_after_sends, last_changes}
 use Rattle.cable_world.specs.running.Steps.{turns_of}
 use Rattle.world_agenda.specs.declared.node.AgendaNode.{AgendaNode}
 use Rattle.world_agenda.specs.Agenda.{AreBelow, IdlesBut}
+use Rattle.world_agenda.specs.Live.{HasLive}
 use Rattle.world_agenda.specs.Clock.{caught_up}
 use Rattle.world_agenda.proofs.Blend.{Blended}
 use Rattle.world_agenda.proofs.nodes.turn_nodes.Given as goal
@@ -30,6 +31,7 @@ invariant-loop-node g l =
       soon : (k : ℕ) → k < length first → (Holds l.left k → ⊥) → (Holds l.agenda.soon k → ⊥) →
           l.agenda.next ≤ get_or (map (λ n. n.clock + n.idle) l.nodes) k 0;
       near : AreBelow l.agenda.soon (length first);
+      live : HasLive l.live l.wires l.arrivals;
     }
 
 abbrev pub decreases-loop-node : goal.decreases-loop-node

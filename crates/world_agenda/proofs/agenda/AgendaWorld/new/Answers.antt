@@ -1,4 +1,4 @@
-use Rattle.std.proofs.Common.{◌≡◌, ◌∙◌, ◌≤◌, [], length, map, ap, sym, subst, arith}
+use Rattle.std.proofs.Common.{◌≡◌, ◌∙◌, ◌≤◌, [], length, map, replicate, ap, sym, subst, arith}
 use Rattle.std.proofs.lemmas.List.{length-map, length-replicate}
 use Rattle.std.proofs.lemmas.List.Elements.{All-weaker}
 use Rattle.cabling.specs.Wiring.{ArePortCounts}
@@ -11,6 +11,7 @@ use Rattle.world_agenda.specs.declared.node.AgendaNode.{AgendaNode}
 use Rattle.world_agenda.specs.Clock.{caught_up}
 use Rattle.world_agenda.proofs.Known.{known-nothing}
 use Rattle.world_agenda.proofs.Late.{all-now}
+use Rattle.world_agenda.proofs.LiveRows.{all-live}
 use Rattle.world_agenda.proofs.Start.{powered, as-long, start-is}
 use Rattle.world_agenda.proofs.agenda.AgendaWorld.new.Goals as goal
 use Rattle.cable_world.proofs.Lemmas.{are-counts, power-on}
@@ -34,8 +35,8 @@ invariant_of-result g c =
     let is = c.as_slice-ports.ensures.value ∙ c.port_counts-counts.ensures ∙ ap (λ ms. map (λ x. x.state.ports) (map f ms)) c.deref.ensures.value in
     let long = length-map c.args.machines.items f in
     let start = ap (λ xs. world_record d c.in_ok-new.field-0 xs c.in_ok-wire_rows.field-0.items c.in_ok-no_changes.field-0.items 0) same
-    ∙ start-is d c.len.result nodes counts c.in_ok-new.field-0 c.in_ok-wire_rows.field-0.items c.in_ok-no_changes.field-0.items
-    is c.in_ok-new.ensures c.in_ok-wire_rows.ensures c.in_ok-no_changes.ensures (omega (arith, c.len.ensures, long, c.args.machines.ok.0)) in
+    ∙ start-is d c.len-2.result nodes counts c.in_ok-new.field-0 c.in_ok-wire_rows.field-0.items c.in_ok-no_changes.field-0.items
+    is c.in_ok-new.ensures c.in_ok-wire_rows.ensures c.in_ok-no_changes.ensures (omega (arith, c.len-2.ensures, long, c.args.machines.ok.0)) in
     let h = powered f d c.args.machines.items c.requires.power_on in
     let few : length nodes ≤ 63 = omega (arith, long, c.requires.few) in
     let many : length agenda ≡ length c.args.machines.items = sym (length-map agenda r) ∙ ap length c.in_ok-agenda_nodes.ensures.nodes ∙ long in
@@ -44,8 +45,13 @@ invariant_of-result g c =
           ∣ c.worlds_stay_reached.ensures.power_on (world_of_nodes d nodes) (power-on d nodes c.requires.some_delay c.requires.short_delay few h) ∣₁;
       behind = λ fine. All-weaker (λ n. n.clock ≡ 0) (λ n. n.clock ≤ 0) (λ n e. omega (arith, e)) agenda c.in_ok-agenda_nodes.ensures.clocks;
       idle = λ k e inside. omega arith;
-      marks = ap length c.in_ok-no_changes.ensures ∙ length-replicate c.len.result 0 ∙ omega (arith, c.len.ensures, c.args.machines.ok.0) ∙ sym many;
+      marks = ap length c.in_ok-no_changes.ensures ∙ length-replicate c.len-2.result 0 ∙ omega (arith, c.len-2.ensures, c.args.machines.ok.0) ∙ sym many;
       knows = λ fine. known-nothing c.unknown.result.soon c.unknown.result.next _ c.unknown.ensures.soon c.unknown.ensures.next;
+      lives = λ fine.
+          let made : length counts ≡ c.len.result = ap length is ∙ length-map nodes (λ (x : PortNode). x.state.ports) ∙ long ∙ omega (arith, c.len.ensures, c.args.machines.ok.0) in
+          all-live c.first.result c.len.result c.in_ok-wire_rows.field-0.items c.in_ok-arrival_rows.field-0.items c.first.ensures
+          (ap length c.in_ok-wire_rows.ensures ∙ length-map counts (λ count. replicate count empty_wire) ∙ made)
+          (ap length c.in_ok-arrival_rows.ensures ∙ length-map counts (λ count. replicate count []) ∙ made);
       same = λ fine. ap (λ rows. map length rows) c.in_ok-arrival_rows.ensures ∙ as-long [] empty_wire counts ∙ sym (ap (λ rows. map length rows) c.in_ok-wire_rows.ensures);
     }
 
@@ -58,6 +64,6 @@ returns-clause-world g c =
     let same : map (λ n. caught_up 0 n.clock (r n)) agenda ≡ nodes = all-now r (λ n. n.clock) 0 agenda c.in_ok-agenda_nodes.ensures.clocks ∙ c.in_ok-agenda_nodes.ensures.nodes in
     let counts = c.as_slice-ports.ensures.value ∙ c.port_counts-counts.ensures ∙ ap (λ ms. map (λ x. x.state.ports) (map f ms)) c.deref.ensures.value in
     ap (λ xs. world_record c.args.delay c.in_ok-new.field-0 xs c.in_ok-wire_rows.field-0.items c.in_ok-no_changes.field-0.items 0) same
-    ∙ start-is c.args.delay c.len.result nodes c.as_slice-ports.result.now c.in_ok-new.field-0 c.in_ok-wire_rows.field-0.items c.in_ok-no_changes.field-0.items
+    ∙ start-is c.args.delay c.len-2.result nodes c.as_slice-ports.result.now c.in_ok-new.field-0 c.in_ok-wire_rows.field-0.items c.in_ok-no_changes.field-0.items
     counts c.in_ok-new.ensures c.in_ok-wire_rows.ensures c.in_ok-no_changes.ensures
-    (omega (arith, c.len.ensures, length-map c.args.machines.items f, c.args.machines.ok.0))
+    (omega (arith, c.len-2.ensures, length-map c.args.machines.items f, c.args.machines.ok.0))

@@ -14,6 +14,7 @@ use Rattle.cable_world.specs.Still.{hold_less}
 use Rattle.cable_world.specs.Run.{IsReached}
 use Rattle.world_agenda.proofs.Late.{all-later}
 use Rattle.world_agenda.proofs.Ahead.{still-for}
+use Rattle.world_agenda.proofs.LiveRows.{live-passes}
 use Rattle.world_agenda.proofs.Turns.{no-turns}
 use Rattle.world_agenda.proofs.Whole.{lawful-now}
 use Rattle.world_agenda.proofs.agenda.AgendaWorld.pass_over.Goals as goal
@@ -30,15 +31,15 @@ invariant_of-self g c =
     let k = c.rest-rest.result in
     let behind = self.behind c.requires.sound in
     let some : 0 < k = omega (arith, c.if-rest-eq0.false) in
-    let ws = with_items_is self.wires c.pass_wires.new.wires (c.pass_wires.auto.wires ∙ c.deref_mut.ensures.len) in
+    let ws = with_items_is self.wires c.pass_live.new.wires (c.pass_live.auto.wires ∙ c.deref_mut.ensures.len) in
     let h : AgendaNode g.row.M.Denot g.M.PortMachine → PortNode = λ n. caught_up (self.turns + k) n.clock (g.M.PortMachine.record_of n.machine) in
     let r : AgendaNode g.row.M.Denot g.M.PortMachine → PortNode = λ n. g.M.PortMachine.record_of n.machine in
     let still = still-for r (λ n. n.clock) (λ n. n.idle) (λ n. n.rests) self.turns k self.nodes.items self.delay self.cabling self.wires.items self.changed.items
     c.rest-rest.ensures.silent (λ s. behind) c.rest-rest.ensures.idle in
     let nodes : map h self.nodes.items ≡ map (after_ticks k) (map f self.nodes.items) = all-later r (λ n. n.clock) k self.turns self.nodes.items behind in
-    let rows = ws ∙ c.pass_wires.ensures ∙ ap (map (map (hold_less k))) c.deref_mut.ensures.value in
+    let rows = ws ∙ c.pass_live.ensures ∙ ap (map (map (hold_less k))) c.deref_mut.ensures.value in
     let done =
-    ap (λ xs. world_record self.delay self.cabling xs (with_items self.wires c.pass_wires.new.wires).items self.changed.items (self.turns + k)) nodes
+    ap (λ xs. world_record self.delay self.cabling xs (with_items self.wires c.pass_live.new.wires).items self.changed.items (self.turns + k)) nodes
     ∙ ap (λ ys. world_record self.delay self.cabling (map (after_ticks k) (map f self.nodes.items)) ys self.changed.items (self.turns + k)) rows
     ∙ sym (c.still_turns_pass.ensures k w (lawful-now w c.worlds_stay_lawful.ensures.reached (self.reached c.requires.sound)).well_formed.count still) in
     record {
@@ -47,8 +48,9 @@ invariant_of-self g c =
       idle = c.rest-rest.ensures.idle some;
       marks = self.marks;
       knows = self.knows;
+      lives = λ fine. live-passes k self.live self.wires.items (with_items self.wires c.pass_live.new.wires).items self.arrivals.items rows (self.lives c.requires.sound);
       same = λ fine. self.same c.requires.sound
-          ∙ sym (ap (λ (l : List (List Wire)). map length l) (ws ∙ c.pass_wires.ensures) ∙ rows-long (hold_less k) c.deref_mut.result.now
+          ∙ sym (ap (λ (l : List (List Wire)). map length l) (ws ∙ c.pass_live.ensures) ∙ rows-long (hold_less k) c.deref_mut.result.now
           ∙ ap (λ (l : List (List Wire)). map length l) c.deref_mut.ensures.value);
     }
 
@@ -59,13 +61,13 @@ returns-clause-done g c =
     let w : CableWorld = world_record self.delay self.cabling (map f self.nodes.items) self.wires.items self.changed.items self.turns in
     let k = c.rest-rest.result in
     let behind = self.behind c.requires.sound in
-    let ws = with_items_is self.wires c.pass_wires.new.wires (c.pass_wires.auto.wires ∙ c.deref_mut.ensures.len) in
+    let ws = with_items_is self.wires c.pass_live.new.wires (c.pass_live.auto.wires ∙ c.deref_mut.ensures.len) in
     let h : AgendaNode g.row.M.Denot g.M.PortMachine → PortNode = λ n. caught_up (self.turns + k) n.clock (g.M.PortMachine.record_of n.machine) in
     let r : AgendaNode g.row.M.Denot g.M.PortMachine → PortNode = λ n. g.M.PortMachine.record_of n.machine in
     let still = still-for r (λ n. n.clock) (λ n. n.idle) (λ n. n.rests) self.turns k self.nodes.items self.delay self.cabling self.wires.items self.changed.items
     c.rest-rest.ensures.silent (λ s. behind) c.rest-rest.ensures.idle in
     let nodes : map h self.nodes.items ≡ map (after_ticks k) (map f self.nodes.items) = all-later r (λ n. n.clock) k self.turns self.nodes.items behind in
-    let rows = ws ∙ c.pass_wires.ensures ∙ ap (map (map (hold_less k))) c.deref_mut.ensures.value in
-    ap (λ xs. world_record self.delay self.cabling xs (with_items self.wires c.pass_wires.new.wires).items self.changed.items (self.turns + k)) nodes
+    let rows = ws ∙ c.pass_live.ensures ∙ ap (map (map (hold_less k))) c.deref_mut.ensures.value in
+    ap (λ xs. world_record self.delay self.cabling xs (with_items self.wires c.pass_live.new.wires).items self.changed.items (self.turns + k)) nodes
     ∙ ap (λ ys. world_record self.delay self.cabling (map (after_ticks k) (map f self.nodes.items)) ys self.changed.items (self.turns + k)) rows
     ∙ sym (c.still_turns_pass.ensures k w (lawful-now w c.worlds_stay_lawful.ensures.reached (self.reached c.requires.sound)).well_formed.count still)

@@ -4,7 +4,7 @@ use Rattle.world_agenda.proofs.Known.{all-idle}
 use Rattle.world_agenda.proofs.agenda.AgendaWorld.rest.Goals as goal
 
 pub returns-clause-silent : goal.returns-clause-silent
-returns-clause-silent g c = λ some. subst AreSilent c.deref.ensures.value (c.all_silent.ensures.0 c.if-not-all_silent.false)
+returns-clause-silent g c = λ some. subst AreSilent c.deref.ensures.value (c.live_silent.ensures c.if-not-live_silent.false)
 
 pub returns-clause-idle : goal.returns-clause-idle
 returns-clause-idle g c = λ some.

@@ -1,4 +1,5 @@
 use Rattle.std.proofs.Common.{◌≡◌, ◌∙◌, ◌+◌, ◌≤◌, All, List, None, Some, length, map, ap, sym, subst, arith}
+use Rattle.std.specs.Vec.{with_items}
 use Rattle.std.proofs.lemmas.List.{with_items_is}
 use Rattle.std.proofs.lemmas.List.Elements.{All-weaker}
 use Rattle.std.proofs.Math.Logic.{∥∥₁_map}
@@ -11,6 +12,7 @@ use Rattle.world_agenda.specs.Clock.{caught_up}
 use Rattle.cable_world.specs.Act.{ActLeads, act_fault}
 use Rattle.cable_world.specs.Run.{IsReached}
 use Rattle.world_agenda.proofs.Known.{known-nothing}
+use Rattle.world_agenda.proofs.LiveRows.{all-live, as-many}
 use Rattle.world_agenda.proofs.Whole.{lawful-now, vectors-related, parts-same, fault-of, memory-of}
 use Rattle.world_agenda.proofs.agenda.AgendaWorldWorldRun.act.Goals as goal
 
@@ -31,6 +33,7 @@ invariant_of-self g c =
     let f : AgendaNode g.row.M.Denot g.M.PortMachine → PortNode = λ n. caught_up self.turns n.clock (g.M.PortMachine.record_of n.machine) in
     let w : CableWorld = world_record self.delay self.cabling (map f self.nodes.items) self.wires.items self.changed.items self.turns in
     let act = c.args.act.now in
+    let lawful = lawful-now w c.worlds_stay_lawful.ensures.reached (self.reached c.if-self.false) in
     let new = c.act_agenda-done.new in
     let auto = c.act_agenda-done.auto in
     let ns = with_items_is self.nodes new.nodes (auto.nodes ∙ c.deref_mut.ensures.len) in
@@ -54,6 +57,10 @@ invariant_of-self g c =
           (All-weaker (λ n. n.clock ≡ self.turns) (λ n. n.clock ≤ self.turns) (λ n e. omega (arith, e)) new.nodes c.act_agenda-done.ensures.clocks);
       idle = subst (λ xs. All (λ n. self.turns ≤ n.clock + n.idle) xs) (sym ns)
           (All-weaker (λ n. n.clock ≡ self.turns) (λ n. self.turns ≤ n.clock + n.idle) (λ n e. omega (arith, e)) new.nodes c.act_agenda-done.ensures.clocks);
+      lives = λ fine.
+          let many : length self.wires.items ≡ c.nodes.result = lawful.well_formed.wire_rows ∙ sym c.nodes.ensures.value in
+          all-live c.first-self.result c.nodes.result (with_items self.wires new.wires).items self.arrivals.items c.first-self.ensures
+          (ap length ws ∙ auto.wires ∙ ap length c.deref_mut-2.ensures.value ∙ many) (as-many self.arrivals.items self.wires.items (self.same c.if-self.false) ∙ many);
       knows = λ fine. known-nothing c.unknown-self.result.soon c.unknown-self.result.next _ c.unknown-self.ensures.soon c.unknown-self.ensures.next;
       marks = ap length cs ∙ auto.changed ∙ ap length c.deref_mut-3.ensures.value ∙ self.marks ∙ sym (ap length ns ∙ auto.nodes ∙ ap length c.deref_mut.ensures.value);
       same = λ fine. self.same c.if-self.false ∙ sym (ap (λ (l : List (List Wire)). map length l) ws ∙ c.in-Ok.ensures.rows ∙ ap (λ (l : List (List Wire)). map length l) c.deref_mut-2.ensures.value);
@@ -64,6 +71,7 @@ invariant_of-self-in-Fault g c =
     let self = c.args.self.now in
     let f : AgendaNode g.row.M.Denot g.M.PortMachine → PortNode = λ n. caught_up self.turns n.clock (g.M.PortMachine.record_of n.machine) in
     let w : CableWorld = world_record self.delay self.cabling (map f self.nodes.items) self.wires.items self.changed.items self.turns in
+    let lawful = lawful-now w c.worlds_stay_lawful.ensures.reached (self.reached c.if-self.false) in
     let new = c.act_agenda-done.new in
     let auto = c.act_agenda-done.auto in
     let ns = with_items_is self.nodes new.nodes (auto.nodes ∙ c.deref_mut.ensures.len) in
@@ -82,6 +90,10 @@ invariant_of-self-in-Fault g c =
           (All-weaker (λ n. n.clock ≡ self.turns) (λ n. n.clock ≤ self.turns) (λ n e. omega (arith, e)) new.nodes c.act_agenda-done.ensures.clocks);
       idle = subst (λ xs. All (λ n. self.turns ≤ n.clock + n.idle) xs) (sym ns)
           (All-weaker (λ n. n.clock ≡ self.turns) (λ n. self.turns ≤ n.clock + n.idle) (λ n e. omega (arith, e)) new.nodes c.act_agenda-done.ensures.clocks);
+      lives = λ fine.
+          let many : length self.wires.items ≡ c.nodes.result = lawful.well_formed.wire_rows ∙ sym c.nodes.ensures.value in
+          all-live c.first-self.result c.nodes.result (with_items self.wires new.wires).items self.arrivals.items c.first-self.ensures
+          (ap length ws ∙ auto.wires ∙ ap length c.deref_mut-2.ensures.value ∙ many) (as-many self.arrivals.items self.wires.items (self.same c.if-self.false) ∙ many);
       knows = λ fine. known-nothing c.unknown-self.result.soon c.unknown-self.result.next _ c.unknown-self.ensures.soon c.unknown-self.ensures.next;
       marks = ap length cs ∙ auto.changed ∙ ap length c.deref_mut-3.ensures.value ∙ self.marks ∙ sym (ap length ns ∙ auto.nodes ∙ ap length c.deref_mut.ensures.value);
       same = λ fine. self.same c.if-self.false ∙ sym (ap (λ (l : List (List Wire)). map length l) (ws ∙ kept.2 ∙ c.deref_mut-2.ensures.value));

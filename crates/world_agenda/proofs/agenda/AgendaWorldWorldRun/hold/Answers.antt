@@ -8,6 +8,7 @@ use Rattle.cable_world.specs.Parts.{world_record}
 use Rattle.world_agenda.specs.declared.node.AgendaNode.{AgendaNode}
 use Rattle.world_agenda.specs.Clock.{caught_up}
 use Rattle.cable_world.specs.Run.{IsReached}
+use Rattle.world_agenda.proofs.LiveRows.{live-set, taken-in}
 use Rattle.world_agenda.proofs.Whole.{lawful-now, has-wire, may-hold, held-is}
 use Rattle.world_agenda.proofs.agenda.AgendaWorldWorldRun.hold.Goals as goal
 use Rattle.cable_world.proofs.Lemmas.{put-long}
@@ -52,5 +53,16 @@ invariant_of-self g c =
       idle = self.idle;
       marks = self.marks;
       knows = self.knows;
+      lives = λ fine. live-set self.live c.insert.new.self end.node self.wires.items c.hold.new.self [] self.arrivals.items inside
+          (taken-in self.live c.insert.new.self end.node c.insert.ensures.others c.insert.ensures.holds) c.insert.ensures.others
+          (λ out. absurd (out c.insert.ensures.holds)) (self.lives fine);
       same = λ fine. self.same fine ∙ sym (ap (λ rows. map length rows) made ∙ put-long self.wires.items end held);
     }
+
+pub insert-requires : goal.insert-requires
+insert-requires g c =
+    let self = c.args.self.now in
+    let f : AgendaNode g.row.M.Denot g.M.PortMachine → PortNode = λ n. caught_up self.turns n.clock (g.M.PortMachine.record_of n.machine) in
+    let w : CableWorld = world_record self.delay self.cabling (map f self.nodes.items) self.wires.items self.changed.items self.turns in
+    let l = lawful-now w c.worlds_stay_lawful.ensures.reached (self.reached c.if-self.false) in
+    omega (arith, c.if-end-nodes.false, c.nodes.ensures.value, l.well_formed.cabling.few_nodes)

@@ -33,6 +33,10 @@ pub turn_agenda-requires-clause-knows : goal.turn_agenda-requires-clause-knows
 turn_agenda-requires-clause-knows g c =
     rw c.deref_mut.ensures.value (c.args.self.now.knows c.if-self.false)
 
+pub turn_agenda-requires-clause-live : goal.turn_agenda-requires-clause-live
+turn_agenda-requires-clause-live g c =
+    rw (c.deref_mut-4.ensures.value, c.deref_mut-2.ensures.value) (c.args.self.now.lives c.if-self.false)
+
 -- want of memory leaves no node past its idle ticks
 pub invariant_of-self : goal.invariant_of-self
 invariant_of-self g c =
@@ -49,6 +53,7 @@ invariant_of-self g c =
       behind = λ fine. absurd cc;
       idle = subst (λ xs. All (λ n. self.turns ≤ n.clock + n.idle) xs) (sym ns) c.turn_agenda.ensures.idle;
       knows = λ fine. absurd cc;
+      lives = λ fine. absurd cc;
       marks = ap length cs ∙ auto.changed ∙ ap length c.deref_mut-3.ensures.value ∙ self.marks ∙ sym (ap length ns ∙ auto.nodes ∙ ap length c.deref_mut.ensures.value);
       same = λ fine. absurd cc;
     }
@@ -75,6 +80,7 @@ invariant_of-self-2 g c =
       behind = λ fine. subst (λ xs. All (λ n. n.clock ≤ self.turns + 1) xs) (sym ns) c.in_ok-turn_agenda.ensures.behind;
       idle = subst (λ xs. All (λ n. self.turns + 1 ≤ n.clock + n.idle) xs) (sym ns) c.in_ok-turn_agenda.ensures.ahead;
       knows = λ fine. rw ns c.in_ok-turn_agenda.ensures.knows;
+      lives = λ fine. rw (ws, arr) c.in_ok-turn_agenda.ensures.live;
       marks = ap length cs ∙ auto.changed ∙ ap length c.deref_mut-3.ensures.value ∙ self.marks ∙ sym (ap length ns ∙ auto.nodes ∙ ap length c.deref_mut.ensures.value);
       same = λ fine. ap (λ (l : List (List _)). map length l) arr ∙ c.in_ok-turn_agenda.ensures.same ∙ ap (λ (l : List (List Wire)). map length l) (sym ws);
     }
