@@ -16,7 +16,7 @@ use crate::fixed::read_fixed;
 use crate::kind::{Kind, LineStop};
 use crate::node::node;
 use crate::word::Word;
-use crate::words::{are_permitted, is_blank, words_of};
+use crate::words::{are_permitted, few_words, is_blank, words_of};
 use std::alloc::Global;
 
 /// A line without the carriage return at its end.
@@ -85,8 +85,10 @@ fn read_line(alloc: Global, line: &[u8], d: u8) -> Result<Option<Command>, LineS
     if !are_permitted(line) {
         return Err(LineStop::Fault(Kind::Word));
     }
-    let words = words_of(alloc, line)?;
-    let command = read_words(words.as_slice(), d)?;
+    let command = match few_words(line) {
+        Some(words) => read_words(words.as_slice(), d)?,
+        None => read_words(words_of(alloc, line)?.as_slice(), d)?,
+    };
     Ok(Some(command))
 }
 

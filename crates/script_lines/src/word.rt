@@ -11,7 +11,7 @@ use std::marker::Model;
 use topology_stack::Name;
 
 /// A word of a line. In a contract it is the list of its bytes.
-#[derive(Debug, Drop)]
+#[derive(Debug, Default, Drop)]
 pub(crate) struct Word<'a> {
     bytes: &'a [u8],
 }

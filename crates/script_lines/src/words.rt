@@ -4,6 +4,7 @@ ghost use Rattle.script_lines.specs.Words.{is_blank, is_permitted, is_some_text,
 ghost use Rattle.std.specs.List.{list_all};
 
 use crate::word::Word;
+use arrayvec::ArrayVec;
 use std::alloc::Global;
 use topology_stack::OutOfMemory;
 
@@ -59,6 +60,31 @@ pub(crate) fn words_of(alloc: Global, line: &[u8]) -> Result<Vec<Word<'_>>, OutO
     }
     push_part(&mut words, rest)?;
     Ok(words)
+}
+
+/// Appends a part of a line, unless it is empty. `None` where there is no room for it.
+fn take_part<'a>(words: &mut ArrayVec<Word<'a>, 8>, part: &'a [u8]) -> Option<()>
+    ensures { IfSome result (λ _. words.new.items
+        ≡ words.old.items ++ filter is_some_text (part.now ∷ [])) }
+{
+    if part.is_empty() {
+        return Some(());
+    }
+    words.try_push(Word::new(part)).ok()
+}
+
+/// The words of a line, where they are at most eight. It takes no memory.
+pub(crate) fn few_words(line: &[u8]) -> Option<ArrayVec<Word<'_>, 8>>
+    ensures { IfSome result (λ words. words.items ≡ words_of line.now) }
+{
+    let mut words = ArrayVec::new();
+    let mut rest = line;
+    while let Some((part, behind)) = cut(rest) {
+        take_part(&mut words, part)?;
+        rest = behind;
+    }
+    take_part(&mut words, rest)?;
+    Some(words)
 }
 
 /// Whether each byte of a line is permitted.
