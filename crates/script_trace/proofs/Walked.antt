@@ -1,6 +1,7 @@
 -- Lists that are gone through by number.
-use Rattle.std.proofs.Common.{◌≡◌, ◌++◌, ◌+◌, ◌-◌, min, Bool, true, false, ◌<◌, ◌≤◌, ℕ, List, [], ◌∷◌, length, drop, take, map, get_or, Some, zero, suc, refl, sym, ◌∙◌, ap, append_assoc, add-one, arith}
+use Rattle.std.proofs.Common.{◌≡◌, ◌++◌, ◌+◌, ◌-◌, min, Bool, true, false, ◌<◌, ◌≤◌, ℕ, List, [], ◌∷◌, length, drop, take, map, get_or, Option, Some, None, zero, suc, refl, sym, ◌∙◌, ap, append_assoc, add-one, arith}
 use Rattle.std.specs.Prelude.{slice_get, slice_index_or, nat_le}
+use Rattle.std.specs.Option.{option_to_list}
 use Rattle.std.proofs.Math.Seq.{drop-cons}
 use Rattle.std.proofs.lemmas.Bool.Decides.{nat_tests}
 use Rattle.std.proofs.lemmas.List.{append-nil, map_more}
@@ -12,7 +13,7 @@ use Rattle.port_state.specs.Machine.{PortNode}
 use Rattle.cable_world.specs.declared.wire.Travelling.{Travelling}
 use Rattle.cable_world.specs.World.{CableWorld, wire_of}
 use Rattle.script_text.specs.ReportText.{Names}
-use Rattle.script_trace.specs.Event.{Seen, sent_lines, all_sent_lines, node_lines}
+use Rattle.script_trace.specs.Event.{Seen, sent_line, sent_lines, all_sent_lines, node_lines}
 use Rattle.script_trace.specs.Step.{counts_from, seen_before_act, seen_before_turn, all_lines, lines_since, turn_lines, turns_lines}
 
 -- ---- what is left of a list
@@ -40,6 +41,21 @@ pub one-more :
 one-more before after part rest whole all new is so =
     ap (λ l. l ++ rest) new ∙ append_assoc before part rest ∙ sym (ap (λ l. before ++ l) is) ∙ so
 
+-- nothing is left where either list is at its end
+pub past-end : {A : Type 0} → (xs : List A) (k : ℕ) → length xs ≤ k → drop k xs ≡ []
+past-end [] zero h = refl
+past-end [] (suc k) h = refl
+past-end (x ∷ xs) zero h = absurd (omega (arith, h))
+past-end (x ∷ xs) (suc k) h = past-end xs k (omega (arith, h))
+
+pub all-told : (out all rest : List ℕ) → rest ≡ [] → out ++ rest ≡ all → out ≡ all
+all-told out all rest none so = sym (append-nil out) ∙ sym (ap (λ (l : List ℕ). out ++ l) none) ∙ so
+
+past-all : {A : Type 0} → (xs : List A) (k : ℕ) → slice_get xs k ≡ None → length xs ≤ k
+past-all [] k e = omega arith
+past-all (x ∷ xs) zero e = absurd cc
+past-all (x ∷ xs) (suc k) e = let h = past-all xs k e in omega (arith, h)
+
 -- ---- wires
 
 pub next-count :
@@ -54,23 +70,53 @@ next-count w node k n ports before after all h new is so =
     (ap (counts_from w node k) (some-left ports k h).1 ∙ ap (λ (m : ℕ). m ∷ rest) (sym is)) so
 
 pub next-sent :
-    (names : Names) (w : CableWorld) (node k t n : ℕ) (there : List ℕ) (ports : List PortView)
-    (under new : List Travelling) (before after all : List ℕ) → k < length ports →
-    t ≡ w.turns → n ≡ slice_index_or there k 0 →
-    under ≡ (wire_of w (record { node = node; port = k })).signals → new ≡ drop n under →
-    after ≡ before ++ sent_lines names t node k new →
+    (names : Names) (w : CableWorld) (node k n : ℕ) (there : List ℕ) (ports : List PortView)
+    (before after all : List ℕ) → k < length ports → n ≡ slice_index_or there k 0 →
+    after ≡ before ++ sent_lines names w.turns node k (drop n (wire_of w (record { node = node; port = k })).signals) →
     before ++ all_sent_lines names w node there k (drop k ports) ≡ all →
     after ++ all_sent_lines names w node there (k + 1) (drop (k + 1) ports) ≡ all
-next-sent names w node k t n there ports under new before after all h turns count on behind is so =
+next-sent names w node k n there ports before after all h count is so =
+    let under = (wire_of w (record { node = node; port = k })).signals in
     let rest = all_sent_lines names w node there (k + 1) (drop (k + 1) ports) in
-    one-more before after (sent_lines names t node k new) rest
+    one-more before after (sent_lines names w.turns node k (drop n under)) rest
     (all_sent_lines names w node there k (drop k ports)) all is
     (ap (all_sent_lines names w node there k) (some-left ports k h).1
-    ∙ ap (λ (i : ℕ). sent_lines names i node k (drop (slice_index_or there k 0) (wire_of w (record { node = node; port = k })).signals) ++ rest) (sym turns)
-    ∙ ap (λ (ts : List Travelling). sent_lines names t node k (drop (slice_index_or there k 0) ts) ++ rest) (sym on)
-    ∙ ap (λ (i : ℕ). sent_lines names t node k (drop i under) ++ rest) (sym count)
-    ∙ ap (λ (ts : List Travelling). sent_lines names t node k ts ++ rest) (sym behind))
+    ∙ ap (λ (i : ℕ). sent_lines names w.turns node k (drop i under) ++ rest) (sym count))
     so
+
+-- one signal more of a wire, and the rest, where what is written of signals is a text for each
+pub signal-more :
+    (text : List Travelling → List ℕ) →
+    ((t : Travelling) (ts : List Travelling) → text (t ∷ ts) ≡ text (t ∷ []) ++ text ts) → text [] ≡ [] →
+    (signals : List Travelling) (at : ℕ) (o : Option Travelling) → o ≡ slice_get signals at →
+    text (drop at signals) ≡ text (option_to_list o) ++ text (drop (at + 1) signals)
+signal-more text one none signals at (Some t) is =
+    ap text (left-from signals at t (sym is)) ∙ one t (drop (at + 1) signals)
+signal-more text one none signals at None is =
+    let past : length signals ≤ at = past-all signals at (sym is) in
+    ap text (past-end signals at past) ∙ none
+    ∙ sym (rw (past-end signals (at + 1) (omega (arith, past)), none) refl)
+
+pub lines-more :
+    (names : Names) (t now node port : ℕ) (signals : List Travelling) (at : ℕ) (o : Option Travelling)
+    (before after all : List ℕ) → t ≡ now → o ≡ slice_get signals at →
+    after ≡ before ++ sent_lines names t node port (option_to_list o) →
+    before ++ sent_lines names now node port (drop at signals) ≡ all →
+    after ++ sent_lines names now node port (drop (at + 1) signals) ≡ all
+lines-more names t now node port signals at o before after all turns is new so =
+    let text = sent_lines names now node port in
+    let one : (s : Travelling) (ss : List Travelling) → text (s ∷ ss) ≡ text (s ∷ []) ++ text ss =
+    λ s ss. ap (λ (l : List ℕ). l ++ text ss) (sym (append-nil (sent_line names now node port s))) in
+    one-more before after (text (option_to_list o)) (text (drop (at + 1) signals)) (text (drop at signals)) all
+    (new ∙ ap (λ (n : ℕ). before ++ sent_lines names n node port (option_to_list o)) turns)
+    (signal-more text one refl signals at o is) so
+
+pub no-lines-left :
+    (names : Names) (now node port : ℕ) (signals : List Travelling) (at : ℕ) (out all : List ℕ) →
+    length signals ≤ at → out ++ sent_lines names now node port (drop at signals) ≡ all → out ≡ all
+no-lines-left names now node port signals at out all past so =
+    all-told out all (sent_lines names now node port (drop at signals))
+    (ap (sent_lines names now node port) (past-end signals at past)) so
 
 -- ---- nodes
 
@@ -126,13 +172,6 @@ next-node names w k x s v seen nodes before after all at here is new so =
     ∙ ap (λ (u : View). node_lines names w k s u ++ rest) (sym is))
     so
 
--- nothing is left where either list is at its end
-pub past-end : {A : Type 0} → (xs : List A) (k : ℕ) → length xs ≤ k → drop k xs ≡ []
-past-end [] zero h = refl
-past-end [] (suc k) h = refl
-past-end (x ∷ xs) zero h = absurd (omega (arith, h))
-past-end (x ∷ xs) (suc k) h = past-end xs k (omega (arith, h))
-
 no-node : (names : Names) (w : CableWorld) (k : ℕ) (seen : List Seen) →
     all_lines names w k seen [] ≡ []
 no-node names w k [] = refl
@@ -160,9 +199,6 @@ none-left names w k seen nodes n count h = by (nat_le (length seen) k) refl
     by false e =
         let above : k < length seen = grind (arith, nat_tests) in
         none-there names w k seen nodes (omega (arith, count, h, above))
-
-pub all-told : (out all rest : List ℕ) → rest ≡ [] → out ++ rest ≡ all → out ≡ all
-all-told out all rest none so = sym (append-nil out) ∙ sym (ap (λ (l : List ℕ). out ++ l) none) ∙ so
 
 -- ---- turns
 

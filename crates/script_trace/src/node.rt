@@ -1,10 +1,12 @@
 //! What happens at a node, a line for each thing.
 ghost use Rattle.std.specs.Prelude.{◌≡◌, ◌++◌, ◌<◌, length, OnOk};
+ghost use Rattle.std.specs.Option.{option_to_list};
 ghost use Rattle.port_state.specs.Ports.{port_is};
 ghost use Rattle.script_text.specs.ReportText.{numbered};
 ghost use Rattle.script_trace.specs.Event.{head, line_of, state_words, state_number, enters, state_line, timeout_line, parent_line, child_line, child_lines, coin_digit, coin_line, id_line, signal_words, sent_line, sent_lines};
 
 use cable_world::Travelling;
+use cabling::End;
 use port_state::{Phase, PortView, Signal, View};
 use script_text::{Name, OutOfMemory, put_name, put_numbered};
 use topology_stack::put_hex;
@@ -300,21 +302,20 @@ fn put_sent_one(
     Ok(())
 }
 
-/// Appends a line for each of these signals that was sent just now.
-pub(crate) fn put_sent(
+/// Appends the line of a signal, if there is one and it was sent just now.
+pub(crate) fn put_sent_some(
     out: &mut Vec<u8>,
     names: &[Name],
     turn: u32,
-    node: u8,
-    port: u8,
-    signals: &[Travelling],
+    end: End,
+    travelling: Option<Travelling>,
 ) -> Result<(), OutOfMemory>
-    requires { node < length names.now }
-    ensures { OnOk result (out.new.items
-        ≡ out.old.items ++ sent_lines names.now turn node port signals.now) }
+    requires { end.node < length names.now }
+    ensures { OnOk result (out.new.items ≡ out.old.items
+        ++ sent_lines names.now turn end.node end.port (option_to_list travelling)) }
 {
-    for travelling in signals {
-        put_sent_one(out, names, turn, node, port, *travelling)?;
+    match travelling {
+        None => Ok(()),
+        Some(travelling) => put_sent_one(out, names, turn, end.node, end.port, travelling),
     }
-    Ok(())
 }

@@ -1,10 +1,13 @@
 //! What the nodes of a world show, to be told from what they show later.
 ghost use Rattle.std.specs.Prelude.{◌≡◌, ◌<◌, ◌≤◌, ◌++◌, length, map, slice_index_or, drop, IfOk, OnOk};
-ghost use Rattle.script_trace.specs.Event.{node_lines, all_sent_lines};
+ghost use Rattle.cable_world.specs.World.{wire_of};
+ghost use Rattle.script_trace.specs.Event.{node_lines, sent_lines, all_sent_lines};
 ghost use Rattle.script_trace.specs.Step.{lines_since, seen_before_turn, seen_before_act, counts_from};
 
-use crate::node::{put_children, put_coin, put_id, put_parent, put_sent, put_state, put_timeout};
-use cable_world::{ShowsWires, Travelling};
+use crate::node::{
+    put_children, put_coin, put_id, put_parent, put_sent_some, put_state, put_timeout,
+};
+use cable_world::ShowsWires;
 use cabling::End;
 use port_state::{PortView, View};
 use script_text::{Name, OutOfMemory};
@@ -78,7 +81,7 @@ fn counts<W: ShowsWires>(
             node,
             port: port as u8,
         };
-        list.push(world.under_way(end).len())?;
+        list.push(world.count_under_way(end))?;
     }
     Ok(list)
 }
@@ -113,15 +116,24 @@ fn there_at(there: &[usize], port: usize) -> usize
     }
 }
 
-/// The signals behind so many.
-fn behind(signals: &[Travelling], count: usize) -> &[Travelling]
-    ensures { result.now ≡ drop count signals.now }
+/// Appends a line for each signal that was sent just now on the wire that leaves an end, behind the
+/// first `there`.
+fn put_sent<W: ShowsWires>(
+    out: &mut Vec<u8>,
+    names: &[Name],
+    world: &W,
+    end: End,
+    there: usize,
+) -> Result<(), OutOfMemory>
+    requires { end.node < length names.now }
+    ensures { OnOk result (out.new.items ≡ out.old.items
+        ++ sent_lines names.now (W.world world.now).turns end.node end.port
+        (drop there (wire_of (W.world world.now) end).signals)) }
 {
-    if count < signals.len() {
-        &signals[count..]
-    } else {
-        &[]
+    for at in there..world.count_under_way(end) {
+        put_sent_some(out, names, world.turns(), end, world.under_way(end, at))?;
     }
+    Ok(())
 }
 
 /// Appends a line for each signal that a node has sent since.
@@ -143,8 +155,7 @@ fn put_all_sent<W: ShowsWires>(
             node,
             port: port as u8,
         };
-        let new = behind(world.under_way(end), there_at(there, port));
-        put_sent(out, names, world.turns(), node, port as u8, new)?;
+        put_sent(out, names, world, end, there_at(there, port))?;
     }
     Ok(())
 }

@@ -9,7 +9,7 @@ use Rattle.script_told.specs.OneTold.{ScriptsHaveOneRun}
 use Rattle.script_trace.specs.OneTelling.{RunsAreToldOnce, RunsAreTold}
 use Rattle.script_waves.specs.Moment.{waves_voice}
 use Rattle.script_waves.specs.Head.{head}
-use Rattle.script_waves.specs.Waves.{IsDump, IsWavesOf}
+use Rattle.script_waves.specs.Waves.{IsWavesOf}
 use Rattle.script_waves.specs.OneDump.{ScriptsHaveOneDump, DumpedScriptsAreTold, DumpFaultsAreTold, HasDump, RunsHaveDumps}
 
 one-end : (run : ScriptRun) (bus other : Bus) → run.end ≡ Ok bus → run.end ≡ Ok other → bus ≡ other

@@ -1,8 +1,7 @@
 -- Turns in which nothing happens have no changes.
-use Rattle.std.proofs.Common.{◌≡◌, ℕ, zero, suc, ◌+◌, ◌==◌, ◌&&◌, not, Bool, true, false, List, [], ◌∷◌, ◌++◌, All, Some, map, length, drop, cond, slice_get, slice_index_or, refl, sym, ◌∙◌, ap, subst, arith}
+use Rattle.std.proofs.Common.{◌≡◌, ℕ, zero, suc, ◌+◌, ◌&&◌, not, Bool, List, [], ◌∷◌, ◌++◌, All, Some, map, length, drop, cond, slice_get, slice_index_or, refl, sym, ◌∙◌, ap, subst, arith}
 use Rattle.std.proofs.Math.ListN.{drop_of_length-le}
 use Rattle.std.proofs.lemmas.Bool.{cond-false}
-use Rattle.std.proofs.lemmas.Bool.Decides.{nat_tests}
 use Rattle.std.proofs.lemmas.List.{append_assoc, length-map}
 use Rattle.std.proofs.lemmas.List.Elements.{All-tail, All-weaker}
 use Rattle.std.proofs.lemmas.Option.{get_or_from_slice_get}
@@ -21,7 +20,7 @@ use Rattle.script_trace.specs.Event.{Seen, state_number}
 use Rattle.script_trace.specs.Step.{seen_before_turn}
 use Rattle.script_trace.proofs.Lemmas.{both-none, same-number, silent-wire, timer-alone, true-then-none}
 use Rattle.script_waves.specs.Value.{flag, id_number, is_root, level_number, role}
-use Rattle.script_waves.specs.Change.{unless_same, state_change, id_change, timeout_change, root_change, port_at, role_change, shown_change, gone_change, sent_changes, port_changes, all_port_changes, node_changes}
+use Rattle.script_waves.specs.Change.{unless_same, port_at, sent_changes, port_changes, all_port_changes, node_changes}
 use Rattle.script_waves.specs.Moment.{all_changes, at_time, waves_since, turn_waves, turns_waves}
 
 -- no line stands between equal numbers

@@ -1,18 +1,20 @@
 -- Nodes, ports and turns that are gone through by number, and texts of several parts.
-use Rattle.std.proofs.Common.{◌≡◌, ◌++◌, ◌+◌, ◌-◌, min, Bool, true, false, ◌<◌, ◌≤◌, ℕ, List, [], ◌∷◌, length, drop, map, Some, suc, refl, sym, ◌∙◌, ap, append_assoc, add-one, get_or, arith}
+use Rattle.std.proofs.Common.{◌≡◌, ◌++◌, ◌+◌, ◌-◌, min, Bool, true, false, ◌<◌, ◌≤◌, ℕ, List, [], ◌∷◌, length, drop, map, Some, suc, refl, sym, ◌∙◌, ap, append_assoc, add-one, get_or, Option, append-nil, arith}
 use Rattle.std.specs.Prelude.{slice_get, nat_le}
+use Rattle.std.specs.Option.{option_to_list}
 use Rattle.std.proofs.Math.Seq.{drop-cons}
 use Rattle.std.proofs.lemmas.Bool.Decides.{nat_tests}
 use Rattle.port_state.specs.declared.view.View.{View}
 use Rattle.port_state.specs.declared.ports.PortView.{PortView}
 use Rattle.port_state.specs.Machine.{PortNode}
+use Rattle.cable_world.specs.declared.wire.Travelling.{Travelling}
 use Rattle.cable_world.specs.World.{CableWorld}
 use Rattle.cable_world.specs.Turn.{turn}
 use Rattle.script_text.specs.ReportText.{Names}
 use Rattle.script_trace.specs.Event.{Seen}
 use Rattle.script_trace.specs.Step.{seen_before_turn}
-use Rattle.script_trace.proofs.Lemmas.{left-from, one-more, past-end}
-use Rattle.script_waves.specs.Change.{node_changes}
+use Rattle.script_trace.proofs.Lemmas.{all-told, left-from, one-more, past-end, signal-more}
+use Rattle.script_waves.specs.Change.{node_changes, sent_change, sent_changes}
 use Rattle.script_waves.specs.Moment.{all_changes, waves_since, turn_waves, turns_waves}
 use Rattle.script_waves.specs.Head.{port_variables, port_values, all_port_variables, all_port_values, node_scope, node_values, all_scopes, all_values}
 
@@ -49,6 +51,27 @@ none-left w k seen nodes n count h = by (nat_le (length seen) k) refl
     by false e =
         let above : k < length seen = grind (arith, nat_tests) in
         ap (all_changes w k (drop k seen)) (past-end nodes k (omega (arith, count, h, above))) ∙ no-node w k (drop k seen)
+
+-- ---- signals
+
+pub changes-more :
+    (node port : ℕ) (signals : List Travelling) (at : ℕ) (o : Option Travelling)
+    (before after all : List ℕ) → o ≡ slice_get signals at →
+    after ≡ before ++ sent_changes node port (option_to_list o) →
+    before ++ sent_changes node port (drop at signals) ≡ all →
+    after ++ sent_changes node port (drop (at + 1) signals) ≡ all
+changes-more node port signals at o before after all is new so =
+    let text = sent_changes node port in
+    let one : (s : Travelling) (ss : List Travelling) → text (s ∷ ss) ≡ text (s ∷ []) ++ text ss =
+    λ s ss. ap (λ (l : List ℕ). l ++ text ss) (sym (append-nil (sent_change node port s))) in
+    one-more before after (text (option_to_list o)) (text (drop (at + 1) signals)) (text (drop at signals)) all new
+    (signal-more text one refl signals at o is) so
+
+pub no-changes-left :
+    (node port : ℕ) (signals : List Travelling) (at : ℕ) (out all : List ℕ) → length signals ≤ at →
+    out ++ sent_changes node port (drop at signals) ≡ all → out ≡ all
+no-changes-left node port signals at out all past so =
+    all-told out all (sent_changes node port (drop at signals)) (ap (sent_changes node port) (past-end signals at past)) so
 
 -- ---- the head
 

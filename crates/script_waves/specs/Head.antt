@@ -1,14 +1,12 @@
 -- What stands before the first change: the variables, and their values when all nodes have just powered
 -- on.
-use Rattle.std.specs.Prelude.{ℕ, ◌+◌, List, [], ◌∷◌, ◌++◌, codes, None}
-use Rattle.port_state.specs.declared.signal.Phase.TheVariants as phase
-use Rattle.port_state.specs.declared.signal.Level.TheVariants as level
+use Rattle.std.specs.Prelude.{ℕ, ◌+◌, List, [], ◌∷◌, ◌++◌, codes}
 use Rattle.port_state.specs.declared.ports.PortView.{PortView}
 use Rattle.port_state.specs.Ports.{PortNumber}
 use Rattle.port_state.specs.Machine.{PortNode}
 use Rattle.cable_world.specs.World.{CableWorld, NodeNumber}
 use Rattle.script_text.specs.ReportText.{Names, spaced, numbered}
-use Rattle.script_waves.specs.Value.{node_code, port_code, node_line, port_line, number, state_value, id_value, level_value, role_value}
+use Rattle.script_waves.specs.Value.{node_code, port_code, node_line, port_line}
 
 -- `$var TYPE CODE NAME $end`
 unfoldable pub variable : List ℕ → List ℕ → List ℕ → List ℕ

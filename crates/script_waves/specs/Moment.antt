@@ -3,7 +3,7 @@ use Rattle.std.specs.Prelude.{ℕ, zero, suc, ◌+◌, ◌==◌, List, [], ◌�
 use Rattle.port_state.specs.Machine.{PortNode}
 use Rattle.cable_world.specs.World.{CableWorld, NodeNumber}
 use Rattle.cable_world.specs.Turn.{turn}
-use Rattle.script_text.specs.ReportText.{Names, numbered}
+use Rattle.script_text.specs.ReportText.{numbered}
 use Rattle.script_trace.specs.Event.{Seen}
 use Rattle.script_trace.specs.Step.{seen_before_turn}
 use Rattle.script_trace.specs.Voice.{Voice}

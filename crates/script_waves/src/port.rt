@@ -1,5 +1,6 @@
 //! What comes to be another value of a port's variables.
-ghost use Rattle.std.specs.Prelude.{◌≡◌, ◌≤◌, ◌++◌, drop, slice_index_or, OnOk};
+ghost use Rattle.std.specs.Prelude.{◌≡◌, ◌≤◌, ◌++◌, slice_index_or, OnOk};
+ghost use Rattle.std.specs.Option.{option_to_list};
 ghost use Rattle.port_state.specs.Ports.{is_port};
 ghost use Rattle.script_waves.specs.Value.{level_number, level_value, role, role_value};
 ghost use Rattle.script_waves.specs.Change.{gone_change, port_at, role_change, sent_change, sent_changes, shown_change, signal_line};
@@ -177,21 +178,22 @@ fn put_sent_one(
     Ok(())
 }
 
-/// Appends each of these signals that was sent just now.
-pub(crate) fn put_sent(
+/// Appends a signal, if there is one and it was sent just now.
+pub(crate) fn put_sent_some(
     out: &mut Vec<u8>,
     node: u8,
     port: u8,
-    signals: &[Travelling],
+    travelling: Option<Travelling>,
 ) -> Result<(), OutOfMemory>
     requires node { node ≤ 62 }
     requires port { port ≤ 15 }
-    ensures { OnOk result (out.new.items ≡ out.old.items ++ sent_changes node port signals.now) }
+    ensures { OnOk result (out.new.items
+        ≡ out.old.items ++ sent_changes node port (option_to_list travelling)) }
 {
-    for travelling in signals {
-        put_sent_one(out, node, port, *travelling)?;
+    match travelling {
+        None => Ok(()),
+        Some(travelling) => put_sent_one(out, node, port, travelling),
     }
-    Ok(())
 }
 
 /// How many signals were there before on the wire of a port.
@@ -201,16 +203,5 @@ pub(crate) fn there_at(there: &[usize], port: u8) -> usize
     match there.get(port as usize) {
         None => 0,
         Some(count) => *count,
-    }
-}
-
-/// The signals behind so many.
-pub(crate) fn behind(signals: &[Travelling], count: usize) -> &[Travelling]
-    ensures { result.now ≡ drop count signals.now }
-{
-    if count < signals.len() {
-        &signals[count..]
-    } else {
-        &[]
     }
 }

@@ -1,10 +1,11 @@
 //! A dump that grows.
-ghost use Rattle.std.specs.Prelude.{◌≡◌, ◌≤◌, ◌<◌, ◌++◌, [], length, IfOk, OnOk};
-ghost use Rattle.script_waves.specs.Change.{all_port_changes, node_changes, port_changes};
+ghost use Rattle.std.specs.Prelude.{◌≡◌, ◌≤◌, ◌<◌, ◌++◌, [], length, drop, IfOk, OnOk};
+ghost use Rattle.cable_world.specs.World.{wire_of};
+ghost use Rattle.script_waves.specs.Change.{all_port_changes, node_changes, port_changes, sent_changes};
 ghost use Rattle.script_waves.specs.Moment.{all_changes, at_time, waves_since};
 
 use crate::node::{put_id, put_root, put_state, put_timeout};
-use crate::port::{behind, put_gone, put_role, put_sent, put_shown, there_at};
+use crate::port::{put_gone, put_role, put_sent_some, put_shown, there_at};
 use cable_world::ShowsWires;
 use cabling::End;
 use port_state::{PortView, View};
@@ -29,6 +30,26 @@ impl Model for Waves {
     ghost view = { λ w. w.text.items };
 }
 
+/// Appends each signal that was sent just now on the wire that leaves an end, behind the first
+/// `there`.
+fn put_sent<W: ShowsWires>(
+    out: &mut Vec<u8>,
+    world: &W,
+    end: End,
+    there: usize,
+) -> Result<(), OutOfMemory>
+    requires node { end.node ≤ 62 }
+    requires port { end.port ≤ 15 }
+    ensures { OnOk result (out.new.items ≡ out.old.items
+        ++ sent_changes end.node end.port
+        (drop there (wire_of (W.world world.now) end).signals)) }
+{
+    for at in there..world.count_under_way(end) {
+        put_sent_some(out, end.node, end.port, world.under_way(end, at))?;
+    }
+    Ok(())
+}
+
 /// Appends what changed at a port since the node showed that.
 fn put_port<W: ShowsWires>(
     out: &mut Vec<u8>,
@@ -48,8 +69,7 @@ fn put_port<W: ShowsWires>(
     put_role(out, node, seen.view(), view, port, port_view)?;
     put_shown(out, node, seen.view(), port, port_view)?;
     put_gone(out, node, seen.view(), port, port_view)?;
-    let new = behind(world.under_way(end), there_at(seen.there(), port));
-    put_sent(out, node, port, new)
+    put_sent(out, world, end, there_at(seen.there(), port))
 }
 
 /// Appends what changed at the ports of a node.
