@@ -52,7 +52,7 @@ pub struct Bus {
     /// The world: its nodes, its cables and what is on them.
     pub(crate) world: Box<AgendaWorld<AnyMachine>>,
     /// What is kept beside it.
-    pub(crate) notes: Notes,
+    pub(crate) notes: Box<Notes>,
 }
 
 impl Model for Bus {
@@ -62,10 +62,10 @@ impl Model for Bus {
     ghost Value = { Bus };
 
     ghost view = { λ b.
-        bus_now (⟦<AgendaWorld<AnyMachine> as WorldRun>⟧.world b.world.value) b.notes };
+        bus_now (⟦<AgendaWorld<AnyMachine> as WorldRun>⟧.world b.world.value) b.notes.value };
 
     ghost invariant = { λ b. IsSound
-        (bus_now (⟦<AgendaWorld<AnyMachine> as WorldRun>⟧.world b.world.value) b.notes)
+        (bus_now (⟦<AgendaWorld<AnyMachine> as WorldRun>⟧.world b.world.value) b.notes.value)
         (⟦<AgendaWorld<AnyMachine> as WorldRun>⟧.is_spent b.world.value) };
 }
 
@@ -234,7 +234,7 @@ impl Bus {
         let nodes = machines.len();
         let world = AgendaWorld::new(alloc, machines, delay)?;
         is_reached(&world);
-        let notes = Notes::new(alloc, names, nodes)?;
+        let notes = Box::new(alloc, Notes::new(alloc, names, nodes)?)?;
         let world = Box::new(alloc, world)?;
         Ok(Bus { world, notes })
     }

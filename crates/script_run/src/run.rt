@@ -38,7 +38,7 @@ impl Stage {
     {
         match self.phase {
             Phase::Fresh => Draft::new(alloc, USUAL_DELAY).bus(alloc),
-            Phase::Declaring(draft) => draft.bus(alloc),
+            Phase::Declaring(draft) => Box::into_inner(draft).bus(alloc),
             Phase::Running(bus) => Ok(bus),
         }
     }
@@ -53,7 +53,7 @@ impl Stage {
     {
         match self.phase {
             Phase::Fresh => Ok(Draft::new(alloc, USUAL_DELAY)),
-            Phase::Declaring(draft) => Ok(draft),
+            Phase::Declaring(draft) => Ok(Box::into_inner(draft)),
             Phase::Running(_) => Err(LineStop::Fault(Kind::Late)),
         }
     }
@@ -68,7 +68,7 @@ impl Stage {
     {
         let stage = mem::replace(self, Stage::new());
         let draft = stage.draft(alloc)?.declare(line)?;
-        self.phase = Phase::Declaring(draft);
+        self.phase = Phase::Declaring(Box::new(alloc, draft)?);
         Ok(Vec::new(alloc))
     }
 
@@ -104,7 +104,7 @@ impl Stage {
         if !matches!(self.phase, Phase::Fresh) {
             return Err(LineStop::Fault(Kind::Late));
         }
-        self.phase = Phase::Declaring(Draft::new(alloc, delay));
+        self.phase = Phase::Declaring(Box::new(alloc, Draft::new(alloc, delay))?);
         Ok(Vec::new(alloc))
     }
 

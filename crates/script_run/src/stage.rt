@@ -24,7 +24,7 @@ pub(crate) enum Phase {
     /// No command came yet.
     Fresh,
     /// Nodes are declared.
-    Declaring(Draft),
+    Declaring(Box<Draft>),
     /// The bus runs.
     Running(Bus),
 }

@@ -17,12 +17,12 @@ use Rattle.script_run.specs.codings.Declaring.{draft_now, IsDraft}
 
 abbrev pub stage_now : Phase → Stage
 stage_now Fresh = fresh
-stage_now (Declaring draft) = declaring (draft_now draft)
+stage_now (Declaring draft) = declaring (draft_now draft.value)
 stage_now (Running bus) = running bus
 
 abbrev pub IsPhase : Phase → Type 0
 IsPhase Fresh = Unit {0}
-IsPhase (Declaring draft) = IsDraft draft
+IsPhase (Declaring draft) = IsDraft draft.value
 IsPhase (Running bus) = Unit {0}
 
 -- a command led from a stage to the next, and a listener added what its voice tells of that to its text

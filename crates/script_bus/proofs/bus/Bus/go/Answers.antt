@@ -18,7 +18,7 @@ invariant_of-result g c =
         reports = omega (arith, passed.turns, old.reports);
         maps = old.maps;
         report = old.report;
-        stands = turns-stand c.args.count _ _ c.self.inside.notes.report c.in_ok-turns_heard.ensures.done old.stands;
+        stands = turns-stand c.args.count _ _ c.self.inside.notes.value.report c.in_ok-turns_heard.ensures.done old.stands;
       };
       fine = c.in_ok-turns_heard.ensures.fine;
     }

@@ -17,7 +17,7 @@ invariant_of-result c =
         reports = omega (arith, passed.turns, old.reports);
         maps = old.maps;
         report = old.report;
-        stands = hold-stands c.args.end c.args.turns _ _ c.self.inside.notes.report c.in_ok-hold_boxed.ensures.accepted c.in_ok-hold_boxed.ensures.done old.stands;
+        stands = hold-stands c.args.end c.args.turns _ _ c.self.inside.notes.value.report c.in_ok-hold_boxed.ensures.accepted c.in_ok-hold_boxed.ensures.done old.stands;
       };
       fine = c.in_ok-hold_boxed.ensures.fine;
     }
