@@ -17,14 +17,14 @@ pub record Gives (first now : Option (List ℕ)) (limit room before after : ℕ)
   pub size : length bytes + room ≡ limit
   pub stands : (b : List ℕ) → Old b → New (b ++ bytes)
 
--- the bytes below a place are written, and a sink that promised to take all promises the rest
+-- the bytes below a place are written, and a sink that promised to take all and more promises the rest
 pub record Writes (first now : Option (List ℕ)) (bytes : List ℕ) (at before after : ℕ)
-    (Promised : Type 0) (Promise : ℕ → Type 0) : Type 0 where
+    (Promised Promise : ℕ → Type 0) : Type 0 where
   pub wrote : Appends first now (take at bytes)
   pub told : StayTold first now
   pub inside : at ≤ length bytes
   pub later : before ≤ after
-  pub sure : Promised → Promise (length bytes - at) × (after ≡ before)
+  pub sure : (n : ℕ) → length bytes ≤ n → Promised n → Promise (n - at) × (after ≡ before)
 
 -- two reads in a row
 pub Consumes-then : (a b c : Option (List ℕ)) (xs ys : List ℕ) →

@@ -243,8 +243,8 @@ impl Sink for MemSink {
         ensures bytes { WriteAppends (Some self.old.bytes) (Some self.new.bytes) result buf.now }
         ensures later { self.old.faults ≤ self.new.faults }
         ensures cause { OnErr result (Rose self.old.faults self.new.faults) }
-        ensures sure { HasRoom self.old (length buf.now) →
-            IsOkAnd result (λ count. HasRoom self.new (length buf.now - count))
+        ensures sure { (n : ℕ) → length buf.now ≤ n → HasRoom self.old n →
+            IsOkAnd result (λ count. HasRoom self.new (n - count))
             × (self.new.faults ≡ self.old.faults) }
 
         // Which calls fail, how many bytes another takes, and that each call is counted.

@@ -42,7 +42,8 @@ pub trait Sink {
     // How many faults there were. The count may stay at the last value of a `u64`.
     ghost faults: { Self → ℕ };
 
-    // So many more bytes are taken without a fault. A sink need not promise it of any number.
+    // So many more bytes are taken without a fault, in one write or in several. A sink need not
+    // promise it of any number.
     ghost surely_takes: { Self → ℕ → Type 0 } = { λ _ _. ⊥ };
 
     /// Appends the first bytes of `buf`, and answers how many: at least one, unless `buf` is
@@ -55,8 +56,8 @@ pub trait Sink {
         ensures told { StayTold (written self.old) (written self.new) }
         ensures later { faults self.old ≤ faults self.new }
         ensures cause { OnErr result (Rose (faults self.old) (faults self.new)) }
-        ensures sure { surely_takes self.old (length buf.now) →
-            IsOkAnd result (λ count. surely_takes self.new (length buf.now - count))
+        ensures sure { (n : ℕ) → length buf.now ≤ n → surely_takes self.old n →
+            IsOkAnd result (λ count. surely_takes self.new (n - count))
             × (faults self.new ≡ faults self.old) };
 }
 

@@ -1,5 +1,5 @@
 //! Reading a source to its end, and writing a whole text.
-ghost use Rattle.std.specs.Prelude.{◌≡◌, ◌<◌, ◌≤◌, ◌⊎◌, ◌↔◌, length, alloc_error, IfOk, IsOk, OnOk, OnErr, IfSome, IsErrOf, IsErrAnd, IsOkUnless, vec_len};
+ghost use Rattle.std.specs.Prelude.{◌≡◌, ℕ, ◌-◌, ◌<◌, ◌≤◌, ◌⊎◌, ◌↔◌, length, alloc_error, IfOk, IsOk, OnOk, OnErr, IfSome, IsErrOf, IsErrAnd, IsOkUnless, vec_len};
 ghost use Rattle.std.specs.Io.KnownBytes.{Appends, IsAtEnd};
 ghost use Rattle.io_edges.specs.Faults.{Rose};
 ghost use Rattle.io_edges.specs.Told.{StayTold, LeavesEnd, IfTold, TookOver, AppendsStart};
@@ -66,9 +66,9 @@ pub fn write_whole<K: Sink>(sink: &mut K, bytes: &[u8]) -> Result<(), Failed>
     ensures told { StayTold (K.written sink.old) (K.written sink.new) }
     ensures later { K.faults sink.old ≤ K.faults sink.new }
 
-    // A sink that surely takes so many bytes has no fault.
-    ensures sure { K.surely_takes sink.old (length bytes.now) →
-        IsOk result × (K.faults sink.new ≡ K.faults sink.old) }
+    // A sink that surely takes so many bytes has no fault, and surely takes what is left of them.
+    ensures sure { (n : ℕ) → length bytes.now ≤ n → K.surely_takes sink.old n → IsOk result
+        × K.surely_takes sink.new (n - length bytes.now) × (K.faults sink.new ≡ K.faults sink.old) }
 {
     let mut at = 0;
     while at < bytes.len() {

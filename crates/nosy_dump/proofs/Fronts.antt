@@ -1,17 +1,17 @@
 -- What stands written where a dump wasn't shown to its end: the front of its text.
 use Rattle.std.proofs.Common.{◌≡◌, ◌∙◌, inl, inr, ℕ, ◌+◌, ◌-◌, ◌<◌, ◌≤◌, Bool, ◌||◌, Option, Some, None, Result, Ok, Err, List, [], ◌∷◌, ◌++◌, length, take, drop, refl, sym, ap, subst, append_assoc, append-nil, length-append, arith}
-use Rattle.std.specs.Prelude.{IfSome, IfOk, IfErr, OnErr, IsErr, slice_index}
-use Rattle.std.proofs.lemmas.List.{take-append-drop}
+use Rattle.std.specs.Prelude.{IfSome, IfOk, IfErr, OnErr, slice_index}
 use Rattle.std.specs.Io.KnownBytes.{Appends, Consumes, IsAtEnd}
 use Rattle.io_edges.specs.Faults.{Rose}
-use Rattle.io_edges.specs.Told.{StayTold, AppendsStart}
+use Rattle.io_edges.specs.Told.{StayTold}
 use Rattle.self_id.specs.declared.standard.Standard.{Standard}
 use Rattle.topology_stack.specs.Tree.{Tree}
 use Rattle.reset_log.specs.declared.stop.LogStop.{LogStop}
 use Rattle.reset_log.specs.InOrder.{AreTold}
 use Rattle.reset_log.specs.Cause.{StoppedWriting}
-use Rattle.reset_log.specs.Answered.{IsFront, IsExact, IsComplete}
-use Rattle.reset_log.proofs.Lemmas.{one_more, told_once, told_first, appends_then, consumes_then, all_came, log_left, split_at, start_of, exact_of, complete_of}
+use Rattle.reset_log.specs.Answered.{IsExact, IsComplete}
+use Rattle.reset_log.specs.Wrote.{Wrote, WroteFront, WroteFrontOf}
+use Rattle.reset_log.proofs.Lemmas.{one_more, told_once, told_first, wrote_nothing, front_then, front_more, front_whole, consumes_then, all_came, log_left, split_at, exact_of, complete_of}
 use Rattle.nosy_dump.specs.declared.dump.DumpReader.{DumpReader}
 use Rattle.nosy_dump.specs.declared.record.Record.{Record}
 use Rattle.nosy_dump.specs.declared.record.Record.TheVariants.{Reset, SelfId, Other}
@@ -22,11 +22,11 @@ use Rattle.nosy_dump.specs.Record.{dump_of, record_of, IsOpen, EndsSo}
 use Rattle.nosy_dump.specs.Resets.{resets_from}
 use Rattle.nosy_dump.specs.Texts.{fault_text}
 use Rattle.nosy_dump.specs.Dump.{IsResetShown, IsDumpShown, IsWritten}
-use Rattle.nosy_dump.specs.codings.Going.{AreResets, Stands, IsWhole, HasBadLength, ShowsBy, Goes, BreaksOff, Solid, Broke, Reads}
+use Rattle.nosy_dump.specs.codings.Going.{AreResets, Stands, IsWhole, HasBadLength, ShowsBy, Goes, BreaksOff, Solid, Broke, ShowsAll, Reads}
 use Rattle.nosy_dump.proofs.Records.{sized_more, resets_other, resets_reset, resets_packet, fresh, last_with}
 use Rattle.nosy_dump.proofs.OneText.{front_records, one_parting, same_reset, one_text}
 use Rattle.nosy_dump.proofs.Going.{shown_now, place_of, whole_done, holds_now, bad_length}
-use Rattle.nosy_dump.proofs.Reading.{room, dump_left}
+use Rattle.nosy_dump.proofs.Reading.{room, dump_left, map_ok, map_err}
 
 -- ---- resets in front stay
 
@@ -101,22 +101,21 @@ first_text standard records first others text all b c t u told is whole =
     told_once (IsResetShown standard) (λ n s r e g h k p q. same_reset standard n s r e g h k p q) 1 None first f.0 text f.2 b f.3 t f.4 told
     in (f.1, f.5 ∙ ap (λ (l : List ℕ). l ++ f.1) same.0)
 
-pub is_front : (standard : Standard) (done left : List ℕ) (old new : Option (List ℕ)) →
-    Broke standard done old new → IsFront (IsDumpShown standard (done ++ left)) old new
-is_front standard done left old new b = λ text bad is.
+pub front_of : {K : Type 0} {w : K → Option (List ℕ)} {f : K → ℕ} {t : K → ℕ → Type 0} (standard : Standard) (done left : List ℕ) (old new : K) →
+    Broke w f t standard done old new →
+    WroteFrontOf w f t (IsDumpShown standard (done ++ left)) old new
+front_of standard done left old new b = λ text bad is.
     let h = front_records b.records is.records (b.behind ++ left) is.rest is.fault b.sized is.sized is.ends
     (sym (append_assoc (dump_of b.records) b.behind left) ∙ ap (λ (l : List ℕ). l ++ left) (sym b.done_is) ∙ is.dump_is)
     in
     let on = later b.records h.0 b.first (record { others = b.others; all_are = b.resets_are; solid = b.solid }) in
-    let f = first_text standard is.records b.first on.others b.text is.resets_text b.bad is.is_refused b.last is.last b.told (ap (resets_from 0) h.1 ∙ on.all_are) is.told in
-    start_of old new b.front (b.rest ++ (f.0 ++ fault_text (length (dump_of is.records)) is.fault)) text b.wrote
-    (is.text_is
-    ∙ ap (λ (l : List ℕ). l ++ fault_text (length (dump_of is.records)) is.fault) (f.1 ∙ ap (λ (l : List ℕ). l ++ f.0) b.text_is)
-    ∙ append_assoc (b.front ++ b.rest) f.0 (fault_text (length (dump_of is.records)) is.fault)
-    ∙ append_assoc b.front b.rest (f.0 ++ fault_text (length (dump_of is.records)) is.fault))
+    let first = first_text standard is.records b.first on.others b.text is.resets_text b.bad is.is_refused b.last is.last b.told (ap (resets_from 0) h.1 ∙ on.all_are) is.told in
+    let fault = fault_text (length (dump_of is.records)) is.fault in
+    front_more old new b.text (first.0 ++ fault) text
+    (is.text_is ∙ ap (λ (l : List ℕ). l ++ fault) first.1 ∙ append_assoc b.text first.0 fault) b.wrote
 
-pub broke_more : (standard : Standard) (done more : List ℕ) (old new : Option (List ℕ)) →
-    Broke standard done old new → Broke standard (done ++ more) old new
+pub broke_more : {K : Type 0} {w : K → Option (List ℕ)} {f : K → ℕ} {t : K → ℕ → Type 0} (standard : Standard) (done more : List ℕ) (old new : K) →
+    Broke w f t standard done old new → Broke w f t standard (done ++ more) old new
 broke_more standard done more old new b = record {
   records = b.records;
   behind = b.behind ++ more;
@@ -130,9 +129,6 @@ broke_more standard done more old new b = record {
   bad = b.bad;
   last = b.last;
   told = b.told;
-  front = b.front;
-  rest = b.rest;
-  text_is = b.text_is;
   wrote = b.wrote;
 }
 
@@ -150,8 +146,8 @@ waits_behind records ended (Some p) are = record { others = p ∷ []; all_are = 
     some (x ∷ xs) = tt
 
 -- all resets were shown that another one followed
-pub stood : (Holds : List ℕ → Type 0) (r : DumpReader) (done : List ℕ) (start was : Option (List ℕ)) →
-    Stands Holds r done start was → Broke r.standard done start was
+pub stood : {K : Type 0} {w : K → Option (List ℕ)} {f : K → ℕ} {t : K → ℕ → Type 0} (Holds : List ℕ → Type 0) (r : DumpReader) (done : List ℕ) (start was : K) →
+    Stands w f t Holds r done start was → Broke w f t r.standard done start was
 stood Holds r done start was st =
     let on = waits_behind st.records st.ended r.pending st.resets_are in
     record {
@@ -167,18 +163,15 @@ stood Holds r done start was st =
       bad = r.bad;
       last = r.tree;
       told = st.told;
-      front = st.text;
-      rest = [];
-      text_is = sym (append-nil st.text);
-      wrote = st.wrote;
+      wrote = front_whole start was st.text st.wrote;
     }
 
 -- among bytes
-pub broke_within : (standard : Standard) (done bytes : List ℕ) (at : ℕ) (start is : Option (List ℕ)) →
-    Broke standard ((done ++ take at bytes) ++ slice_index bytes at ∷ []) start is → at < length bytes →
-    Broke standard (done ++ bytes) start is
-broke_within standard done bytes at start is b few =
-    subst (λ (l : List ℕ). Broke standard l start is) (sym joined)
+pub broke_within : {K : Type 0} {w : K → Option (List ℕ)} {f : K → ℕ} {t : K → ℕ → Type 0} (standard : Standard) (done bytes : List ℕ) (at : ℕ) (start is : K) →
+    Broke w f t standard ((done ++ take at bytes) ++ slice_index bytes at ∷ []) start is →
+    at < length bytes → Broke w f t standard (done ++ bytes) start is
+broke_within {w = w} {f = f} {t = t} standard done bytes at start is b few =
+    subst (λ (l : List ℕ). Broke w f t standard l start is) (sym joined)
     (broke_more standard ((done ++ take at bytes) ++ slice_index bytes at ∷ []) (drop (at + 1) bytes) start is b)
   where
     joined : done ++ bytes ≡ ((done ++ take at bytes) ++ slice_index bytes at ∷ []) ++ drop (at + 1) bytes
@@ -190,35 +183,30 @@ broke_within standard done bytes at start is b few =
 -- ---- the reset that waits wasn't shown whole
 
 -- what is told with it, and the front of that which was written
-record PartMore (standard : Standard) (ended : List DumpReset) (p : DumpReset) (start is : Option (List ℕ)) :
-    Type 0 where
-  text : List ℕ
-  bad : Bool
-  last : Option Tree
-  told : AreTold (IsResetShown standard) 1 None (ended ++ p ∷ []) text bad last
-  front : List ℕ
-  rest : List ℕ
-  text_is : text ≡ front ++ rest
-  wrote : Appends start is front
+record PartMore {K : Type 0} (w : K → Option (List ℕ)) (f : K → ℕ) (t : K → ℕ → Type 0)
+    (standard : Standard) (ended : List DumpReset) (p : DumpReset) (start is : K) : Type 0
+  where
+    text : List ℕ
+    bad : Bool
+    last : Option Tree
+    told : AreTold (IsResetShown standard) 1 None (ended ++ p ∷ []) text bad last
+    wrote : WroteFront w f t start is text
 
-part_more : (Holds : List ℕ → Type 0) (old : DumpReader) (done : List ℕ) (p : DumpReset) (n : ℕ) (t u : Option Tree) (more : List ℕ) (here : Bool) (start was is : Option (List ℕ)) →
-    (st : Stands Holds old done start was) → n ≡ old.number → t ≡ old.tree →
-    IsResetShown old.standard n t p more here u → AppendsStart was is more →
-    PartMore old.standard st.ended p start is
-part_more Holds old done p n t u more here start was is st en et shown part =
+part_more : {K : Type 0} {w : K → Option (List ℕ)} {f : K → ℕ} {t : K → ℕ → Type 0} (Holds : List ℕ → Type 0) (old : DumpReader) (done : List ℕ) (p : DumpReset) (n : ℕ) (x u : Option Tree) (more : List ℕ) (here : Bool) (start was is : K) →
+    (st : Stands w f t Holds old done start was) → n ≡ old.number → x ≡ old.tree →
+    IsResetShown old.standard n x p more here u → WroteFront w f t was is more →
+    PartMore w f t old.standard st.ended p start is
+part_more Holds old done p n x u more here start was is st en et shown part =
     let place : n ≡ 1 + length st.ended = omega (arith, en, st.number_is) in
     let one : IsResetShown old.standard (1 + length st.ended) old.tree p more here u =
     subst (λ (k : ℕ). IsResetShown old.standard k old.tree p more here u) place
-    (subst (λ (x : Option Tree). IsResetShown old.standard n x p more here u) et shown) in
+    (subst (λ (y : Option Tree). IsResetShown old.standard n y p more here u) et shown) in
     record {
       text = st.text ++ more;
       bad = old.bad || here;
       last = u;
       told = one_more (IsResetShown old.standard) 1 None old.tree u st.ended p st.text more old.bad here st.told one;
-      front = st.text ++ take part.0 more;
-      rest = drop part.0 more;
-      text_is = sym (append_assoc st.text (take part.0 more) (drop part.0 more) ∙ ap (λ (l : List ℕ). st.text ++ l) (take-append-drop part.0 more));
-      wrote = appends_then start was is st.text (take part.0 more) st.stay st.wrote part.1;
+      wrote = front_then start was is st.text more st.wrote part;
     }
 
 waits_so : (records : List (List ℕ)) (ended : List DumpReset) (pending : Option DumpReset) (p : DumpReset) →
@@ -226,12 +214,12 @@ waits_so : (records : List (List ℕ)) (ended : List DumpReset) (pending : Optio
 waits_so records ended pending p are e = subst (λ (o : Option DumpReset). AreResets records ended o) e are
 
 -- at the record of the next reset
-pub broke_reset : (old mid : DumpReader) (done : List ℕ) (time : ℕ) (start was is : Option (List ℕ)) →
-    Stands IsWhole old done start was → record_of (drop 4 old.part.items) ≡ Reset time →
-    BreaksOff mid was is → mid.standard ≡ old.standard → mid.pending ≡ old.pending →
-    mid.number ≡ old.number → mid.tree ≡ old.tree → Broke old.standard done start is
-broke_reset old mid done time start was is st kind (inl e) es ep en et =
-    subst (λ (o : Option (List ℕ)). Broke old.standard done start o) (sym e) (stood IsWhole old done start was st)
+pub broke_reset : {K : Type 0} {w : K → Option (List ℕ)} {f : K → ℕ} {t : K → ℕ → Type 0} (old mid : DumpReader) (done : List ℕ) (time : ℕ) (start was is : K) →
+    Stands w f t IsWhole old done start was → record_of (drop 4 old.part.items) ≡ Reset time →
+    BreaksOff w f t mid was is → mid.standard ≡ old.standard → mid.pending ≡ old.pending →
+    mid.number ≡ old.number → mid.tree ≡ old.tree → Broke w f t old.standard done start is
+broke_reset {K = K} {w = w} {f = f} {t = t} old mid done time start was is st kind (inl e) es ep en et =
+    subst (λ (o : K). Broke w f t old.standard done start o) (sym e) (stood IsWhole old done start was st)
 broke_reset old mid done time start was is st kind (inr b) es ep en et =
     let shown : IsResetShown old.standard mid.number mid.tree b.reset b.part.text b.part.here b.part.known = subst (λ (s : Standard). IsResetShown s mid.number mid.tree b.reset b.part.text b.part.here b.part.known) es b.part.shown in
     let part = part_more IsWhole old done b.reset mid.number mid.tree b.part.known b.part.text b.part.here start was is st en et shown b.part.wrote in
@@ -250,41 +238,37 @@ broke_reset old mid done time start was is st kind (inr b) es ep en et =
       bad = part.bad;
       last = part.last;
       told = part.told;
-      front = part.front;
-      rest = part.rest;
-      text_is = part.text_is;
       wrote = part.wrote;
     }
 
 -- at the end
-pub broke_end : (old : DumpReader) (done more : List ℕ) (fault : Option DumpFault) (start was is : Option (List ℕ)) →
-    Stands (λ bytes. EndsSo (bytes ++ more) fault) old done start was → BreaksOff old was is →
-    IsFront (IsDumpShown old.standard (done ++ more)) start is
-broke_end old done more fault start was is st (inl e) =
-    subst (λ (o : Option (List ℕ)). IsFront (IsDumpShown old.standard (done ++ more)) start o) (sym e)
-    (is_front old.standard done more start was (stood (λ bytes. EndsSo (bytes ++ more) fault) old done start was st))
+pub broke_end : {K : Type 0} {w : K → Option (List ℕ)} {f : K → ℕ} {t : K → ℕ → Type 0} (old : DumpReader) (done more : List ℕ) (fault : Option DumpFault) (start was is : K) →
+    Stands w f t (λ bytes. EndsSo (bytes ++ more) fault) old done start was →
+    BreaksOff w f t old was is →
+    WroteFrontOf w f t (IsDumpShown old.standard (done ++ more)) start is
+broke_end {K = K} {w = w} {f = f} {t = t} old done more fault start was is st (inl e) =
+    subst (λ (o : K). WroteFrontOf w f t (IsDumpShown old.standard (done ++ more)) start o) (sym e)
+    (front_of old.standard done more start was (stood (λ bytes. EndsSo (bytes ++ more) fault) old done start was st))
 broke_end old done more fault start was is st (inr b) = λ text bad all.
     let part = part_more (λ bytes. EndsSo (bytes ++ more) fault) old done b.reset old.number old.tree b.part.known b.part.text b.part.here start was is st refl refl b.part.shown b.part.wrote in
     let are = waits_so st.records st.ended old.pending b.reset st.resets_are b.pending_is in
     let same = one_parting st.records all.records (old.part.items ++ more) all.rest fault all.fault st.sized all.sized st.holds all.ends
     (sym (append_assoc (dump_of st.records) old.part.items more) ∙ ap (λ (l : List ℕ). l ++ more) (sym st.done_is) ∙ all.dump_is)
     in
-    let f = first_text old.standard all.records (st.ended ++ b.reset ∷ []) [] part.text all.resets_text part.bad all.is_refused part.last all.last part.told (ap (resets_from 0) (sym same.records) ∙ are ∙ sym (append-nil (st.ended ++ b.reset ∷ []))) all.told in
-    start_of start is part.front (part.rest ++ (f.0 ++ fault_text (length (dump_of all.records)) all.fault)) text part.wrote
-    (all.text_is
-    ∙ ap (λ (l : List ℕ). l ++ fault_text (length (dump_of all.records)) all.fault) (f.1 ∙ ap (λ (l : List ℕ). l ++ f.0) part.text_is)
-    ∙ append_assoc (part.front ++ part.rest) f.0 (fault_text (length (dump_of all.records)) all.fault)
-    ∙ append_assoc part.front part.rest (f.0 ++ fault_text (length (dump_of all.records)) all.fault))
+    let first = first_text old.standard all.records (st.ended ++ b.reset ∷ []) [] part.text all.resets_text part.bad all.is_refused part.last all.last part.told (ap (resets_from 0) (sym same.records) ∙ are ∙ sym (append-nil (st.ended ++ b.reset ∷ []))) all.told in
+    let last = fault_text (length (dump_of all.records)) all.fault in
+    front_more start is part.text (first.0 ++ last) text
+    (all.text_is ∙ ap (λ (l : List ℕ). l ++ last) first.1 ∙ append_assoc part.text first.0 last) part.wrote
 
 -- all resets were shown, and the front of the fault's text
-pub broke_fault : (old : DumpReader) (done more : List ℕ) (fault : Option DumpFault) (byte m : ℕ) (u : Option Tree) (c : Bool) (start was is will : Option (List ℕ)) →
-    (st : Stands (λ bytes. EndsSo (bytes ++ more) fault) old done start was) → length done ≤ 67108864 →
-    StayTold was is → byte ≡ old.taken - length old.part.items →
-    ShowsBy old.standard old.pending old.number old.tree old.bad m u c was is →
-    AppendsStart is will (fault_text byte fault) →
-    IsFront (IsDumpShown old.standard (done ++ more)) start will
-broke_fault old done more fault byte m u c start was is will st few still at shows part = λ text bad all.
-    let now = shown_now old (λ bytes. EndsSo (bytes ++ more) fault) done start was is m u c st few still shows in
+pub broke_fault : {K : Type 0} {w : K → Option (List ℕ)} {f : K → ℕ} {t : K → ℕ → Type 0} (old : DumpReader) (done more : List ℕ) (fault : Option DumpFault) (byte m : ℕ) (u : Option Tree) (c : Bool) (start was is will : K) →
+    (st : Stands w f t (λ bytes. EndsSo (bytes ++ more) fault) old done start was) →
+    length done ≤ 67108864 → byte ≡ old.taken - length old.part.items →
+    ShowsBy w f t old.standard old.pending old.number old.tree old.bad m u c was is →
+    WroteFront w f t is will (fault_text byte fault) →
+    WroteFrontOf w f t (IsDumpShown old.standard (done ++ more)) start will
+broke_fault {w = w} {f = f} {t = t} old done more fault byte m u c start was is will st few at shows part = λ text bad all.
+    let now = shown_now old (λ bytes. EndsSo (bytes ++ more) fault) done start was is m u c st few shows in
     let place : byte ≡ length (dump_of st.records) = place_of old (λ bytes. EndsSo (bytes ++ more) fault) done start was byte st at in
     let same = one_parting st.records all.records (old.part.items ++ more) all.rest fault all.fault st.sized all.sized st.holds all.ends
     (sym (append_assoc (dump_of st.records) old.part.items more) ∙ ap (λ (l : List ℕ). l ++ more) (sym st.done_is) ∙ all.dump_is)
@@ -296,81 +280,105 @@ broke_fault old done more fault byte m u c start was is will st few still at sho
     ap (λ (g : Option DumpFault). fault_text (length (dump_of all.records)) g) (sym same.fault) ∙ ap (λ (rs : List (List ℕ)). fault_text (length (dump_of rs)) fault) (sym same.records)
     ∙ ap (λ (k : ℕ). fault_text k fault) (sym place)
     in
-    start_of start will (now.text ++ take part.0 (fault_text byte fault)) (drop part.0 (fault_text byte fault)) text
-    (appends_then start is will now.text (take part.0 (fault_text byte fault)) now.stay now.wrote part.1)
-    (all.text_is
-    ∙ ap (λ (l : List ℕ). l ++ fault_text (length (dump_of all.records)) all.fault) none.0
-    ∙ ap (λ (l : List ℕ). now.text ++ l) (told ∙ sym (take-append-drop part.0 (fault_text byte fault)))
-    ∙ sym (append_assoc now.text (take part.0 (fault_text byte fault)) (drop part.0 (fault_text byte fault))))
+    let is_all : text ≡ now.text ++ fault_text byte fault =
+    all.text_is ∙ ap (λ (l : List ℕ). l ++ fault_text (length (dump_of all.records)) all.fault) none.0
+    ∙ ap (λ (l : List ℕ). now.text ++ l) told
+    in
+    subst (λ (l : List ℕ). WroteFront w f t start will l) (sym is_all)
+    (front_then start is will now.text (fault_text byte fault) now.wrote part)
 
 -- ---- a call
 
 -- nothing was written
-pub no_start : (a : Option (List ℕ)) (text : List ℕ) → AppendsStart a a text
-no_start a text = start_of a a [] text text (nothing a) refl
-  where
-    nothing : (x : Option (List ℕ)) → Appends x x []
-    nothing None = tt
-    nothing (Some xs) = sym (append-nil xs)
+pub no_front : {K : Type 0} {w : K → Option (List ℕ)} {f : K → ℕ} {t : K → ℕ → Type 0} (a : K) (text : List ℕ) → WroteFront w f t a a text
+no_front a text = front_more a a [] text text refl (front_whole a a [] (wrote_nothing a))
+
+-- what was written whole is a front too
+front_all : {K : Type 0} {w : K → Option (List ℕ)} {f : K → ℕ} {t : K → ℕ → Type 0} (standard : Standard) (dump : List ℕ) (bad : Bool) (old new : K) →
+    ShowsAll w f t standard dump bad old new → WroteFrontOf w f t (IsDumpShown standard dump) old new
+front_all {w = w} {f = f} {t = t} standard dump bad old new all = λ text c is.
+    let same = one_text standard dump all.text text bad c all.is_shown is in
+    front_whole old new text (subst (λ (l : List ℕ). Wrote w f t old new l) same.0 all.wrote)
 
 -- no more was read
-pub front_left : (r : DumpReader) (standard : Standard) (first now was is : Option (List ℕ)) (a b d e : ℕ) →
-    Reads r standard first now was is a b d e →
-    IfSome first (λ dump. IsFront (IsDumpShown standard dump) was is)
-front_left r standard first now was is a b d e h =
-    log_left first now h.done (λ dump. IsFront (IsDumpShown standard dump) was is) h.came h.told
+pub front_left : {K : Type 0} {w : K → Option (List ℕ)} {f : K → ℕ} {t : K → ℕ → Type 0} (r : DumpReader) (standard : Standard) (first now : Option (List ℕ)) (was is : K) (a b : ℕ) →
+    Reads w f t r standard first now was is a b →
+    IfSome first (λ dump. WroteFrontOf w f t (IsDumpShown standard dump) was is)
+front_left {w = w} {f = f} {t = t} r standard first now was is a b h =
+    log_left first now h.done (λ dump. WroteFrontOf w f t (IsDumpShown standard dump) was is) h.came h.told
     (λ left.
-    is_front standard h.done left was is
-    (subst (λ (s : Standard). Broke s h.done was is) h.same (stood IsOpen r h.done was is h.stands)))
+    front_of standard h.done left was is
+    (subst (λ (s : Standard). Broke w f t s h.done was is) h.same (stood IsOpen r h.done was is h.stands)))
 
 -- a piece wasn't shown whole
-pub front_piece : (r : DumpReader) (standard : Standard) (first now next was is will : Option (List ℕ)) (a b d e : ℕ) (piece : List ℕ) →
-    Reads r standard first now was is a b d e → Consumes now next piece → StayTold now next →
+pub front_piece : {K : Type 0} {w : K → Option (List ℕ)} {f : K → ℕ} {t : K → ℕ → Type 0} (r : DumpReader) (standard : Standard) (first now next : Option (List ℕ)) (was is will : K) (a b : ℕ) (piece : List ℕ) →
+    Reads w f t r standard first now was is a b → Consumes now next piece → StayTold now next →
     length piece ≤ 67108864 - r.taken →
-    ((done : List ℕ) (start : Option (List ℕ)) → length done + length piece ≤ 67108864 → Stands IsOpen r done start is → Broke r.standard (done ++ piece) start will) →
-    IfSome first (λ dump. IsFront (IsDumpShown standard dump) was will)
-front_piece r standard first now next was is will a b d e piece h came told fits part =
-    let fit = room r standard first now was is a b d e piece h fits in
-    log_left first next (h.done ++ piece) (λ dump. IsFront (IsDumpShown standard dump) was will)
+    ((done : List ℕ) (start : K) → length done + length piece ≤ 67108864 → Stands w f t IsOpen r done start is → Broke w f t r.standard (done ++ piece) start will) →
+    IfSome first (λ dump. WroteFrontOf w f t (IsDumpShown standard dump) was will)
+front_piece {w = w} {f = f} {t = t} r standard first now next was is will a b piece h came told fits part =
+    let fit = room r standard first now was is a b piece h fits in
+    log_left first next (h.done ++ piece) (λ dump. WroteFrontOf w f t (IsDumpShown standard dump) was will)
     (consumes_then first now next h.done piece h.told h.came came) (told ∙ h.told)
     (λ left.
-    is_front standard (h.done ++ piece) left was will
-    (subst (λ (s : Standard). Broke s (h.done ++ piece) was will) h.same (part h.done was fit h.stands)))
+    front_of standard (h.done ++ piece) left was will
+    (subst (λ (s : Standard). Broke w f t s (h.done ++ piece) was will) h.same (part h.done was fit h.stands)))
 
--- all was read
-pub front_end : (r : DumpReader) (standard : Standard) (first now next was is will : Option (List ℕ)) (a b d e : ℕ) (fault : Option DumpFault) (result : Result Bool LogStop) →
-    Reads r standard first now was is a b d e → Consumes now next [] → IsAtEnd next →
+-- all was read: what is shown of it was written, or its front
+pub ends_so : {K : Type 0} {w : K → Option (List ℕ)} {f : K → ℕ} {t : K → ℕ → Type 0} (standard : Standard) (dump : List ℕ) (old new : K) (result : Result Bool LogStop) →
+    IfOk result (λ bad. ShowsAll w f t standard dump bad old new) →
+    OnErr result (WroteFrontOf w f t (IsDumpShown standard dump) old new) →
+    WroteFrontOf w f t (IsDumpShown standard dump) old new
+ends_so standard dump old new (Ok bad) ok part = front_all standard dump bad old new ok
+ends_so standard dump old new (Err stop) ok part = part
+
+pub front_end : {K : Type 0} {w : K → Option (List ℕ)} {f : K → ℕ} {t : K → ℕ → Type 0} (r : DumpReader) (standard : Standard) (first now next : Option (List ℕ)) (was is will : K) (a b : ℕ) (fault : Option DumpFault) (result : Result Bool LogStop) →
+    Reads w f t r standard first now was is a b → Consumes now next [] → IsAtEnd next →
     (IsOpen r.part.items → EndsSo (r.part.items ++ []) fault) →
-    OnErr result ((done more : List ℕ) (start : Option (List ℕ)) → length done ≤ 67108864 → Stands (λ bytes. EndsSo (bytes ++ more) fault) r done start is → IsFront (IsDumpShown r.standard (done ++ more)) start will) →
-    IsErr result → IfSome first (λ dump. IsFront (IsDumpShown standard dump) was will)
-front_end r standard first now next was is will a b d e fault (Ok bad) h none end fit part err = absurd cc
-front_end r standard first now next was is will a b d e fault (Err stop) h none end fit part err =
-    all_came first now next h.done (λ dump. IsFront (IsDumpShown standard dump) was will) h.came h.told none end
-    (subst (λ (s : Standard). IsFront (IsDumpShown s h.done) was will) h.same
-    (subst (λ (l : List ℕ). IsFront (IsDumpShown r.standard l) was will) (append-nil h.done)
-    (part h.done [] was h.small (holds_now IsOpen (λ bytes. EndsSo (bytes ++ []) fault) r h.done was is fit h.stands))))
+    IfOk result (λ bad. (done more : List ℕ) (start : K) → length done ≤ 67108864 → Stands w f t (λ bytes. EndsSo (bytes ++ more) fault) r done start is → ShowsAll w f t r.standard (done ++ more) bad start will) →
+    OnErr result ((done more : List ℕ) (start : K) → length done ≤ 67108864 → Stands w f t (λ bytes. EndsSo (bytes ++ more) fault) r done start is → WroteFrontOf w f t (IsDumpShown r.standard (done ++ more)) start will) →
+    IfSome first (λ dump. WroteFrontOf w f t (IsDumpShown standard dump) was will)
+front_end {w = w} {f = f} {t = t} r standard first now next was is will a b fault result h none end fit ok part =
+    let st = holds_now IsOpen (λ bytes. EndsSo (bytes ++ []) fault) r h.done was is fit h.stands in
+    all_came first now next h.done (λ dump. WroteFrontOf w f t (IsDumpShown standard dump) was will) h.came h.told none end
+    (subst (λ (s : Standard). WroteFrontOf w f t (IsDumpShown s h.done) was will) h.same
+    (subst (λ (l : List ℕ). WroteFrontOf w f t (IsDumpShown r.standard l) was will) (append-nil h.done)
+    (ends_so r.standard (h.done ++ []) was will result (map_ok result _ _ (λ bad then. then h.done [] was h.small st) ok)
+    (map_err result _ _ (λ then. then h.done [] was h.small st) part))))
 
 -- a length came that can't be
-pub front_cut : (r s : DumpReader) (standard : Standard) (first now next was is mid will : Option (List ℕ)) (a b d e : ℕ) (piece : List ℕ) (size : ℕ) (result : Result Bool LogStop) →
-    Reads r standard first now was is a b d e → Consumes now next piece → StayTold now next →
+pub front_cut : {K : Type 0} {w : K → Option (List ℕ)} {f : K → ℕ} {t : K → ℕ → Type 0} (r s : DumpReader) (standard : Standard) (first now next : Option (List ℕ)) (was is mid will : K) (a b : ℕ) (piece : List ℕ) (size : ℕ) (result : Result Bool LogStop) →
+    Reads w f t r standard first now was is a b → Consumes now next piece → StayTold now next →
     length piece ≤ 67108864 - r.taken →
-    ((done : List ℕ) (start : Option (List ℕ)) → length done + length piece ≤ 67108864 → Stands IsOpen r done start is → Goes (Some size) s (done ++ piece) start mid) →
+    ((done : List ℕ) (start : K) → length done + length piece ≤ 67108864 → Stands w f t IsOpen r done start is → Goes w f t (Some size) s (done ++ piece) start mid) →
     s.standard ≡ r.standard →
-    OnErr result ((done more : List ℕ) (start : Option (List ℕ)) → length done ≤ 67108864 → Stands (λ bytes. EndsSo (bytes ++ more) (Some (BadLength size))) s done start mid → IsFront (IsDumpShown s.standard (done ++ more)) start will) →
-    IsErr result → IfSome first (λ dump. IsFront (IsDumpShown standard dump) was will)
-front_cut r s standard first now next was is mid will a b d e piece size (Ok bad) h came told fits taken same part err = absurd cc
-front_cut r s standard first now next was is mid will a b d e piece size (Err stop) h came told fits taken same part err =
-    let fit = room r standard first now was is a b d e piece h fits in
+    IfOk result (λ bad. (done more : List ℕ) (start : K) → length done ≤ 67108864 → Stands w f t (λ bytes. EndsSo (bytes ++ more) (Some (BadLength size))) s done start mid → ShowsAll w f t s.standard (done ++ more) bad start will) →
+    OnErr result ((done more : List ℕ) (start : K) → length done ≤ 67108864 → Stands w f t (λ bytes. EndsSo (bytes ++ more) (Some (BadLength size))) s done start mid → WroteFrontOf w f t (IsDumpShown s.standard (done ++ more)) start will) →
+    IfSome first (λ dump. WroteFrontOf w f t (IsDumpShown standard dump) was will)
+front_cut {w = w} {f = f} {t = t} r s standard first now next was is mid will a b piece size result h came told fits taken same ok part =
+    let fit = room r standard first now was is a b piece h fits in
     let goes = taken h.done was fit h.stands in
     let small : length goes.0 ≤ 67108864 = omega (arith, fit, length-append h.done piece, ap (λ (l : List ℕ). length l) goes.2, length-append goes.0 goes.1) in
-    dump_left first now next h.done piece (λ dump. IsFront (IsDumpShown standard dump) was will) h.came came h.told told
+    dump_left first now next h.done piece (λ dump. WroteFrontOf w f t (IsDumpShown standard dump) was will) h.came came h.told told
     (λ left.
-    subst (λ (k : Standard). IsFront (IsDumpShown k ((h.done ++ piece) ++ left)) was will) (same ∙ h.same)
-    (subst (λ (l : List ℕ). IsFront (IsDumpShown s.standard l) was will) (sym (ap (λ (l : List ℕ). l ++ left) goes.2 ∙ append_assoc goes.0 goes.1 left))
-    (part goes.0 (goes.1 ++ left) was small
-    (holds_now (HasBadLength size) (λ bytes. EndsSo (bytes ++ (goes.1 ++ left)) (Some (BadLength size))) s goes.0 was mid (bad_length s.part.items (goes.1 ++ left) size) goes.3))))
+    let st = holds_now (HasBadLength size) (λ bytes. EndsSo (bytes ++ (goes.1 ++ left)) (Some (BadLength size))) s goes.0 was mid (bad_length s.part.items (goes.1 ++ left) size) goes.3 in
+    subst (λ (k : Standard). WroteFrontOf w f t (IsDumpShown k ((h.done ++ piece) ++ left)) was will) (same ∙ h.same)
+    (subst (λ (l : List ℕ). WroteFrontOf w f t (IsDumpShown s.standard l) was will) (sym (ap (λ (l : List ℕ). l ++ left) goes.2 ∙ append_assoc goes.0 goes.1 left))
+    (ends_so s.standard (goes.0 ++ (goes.1 ++ left)) was will result (map_ok result _ _ (λ bad then. then goes.0 (goes.1 ++ left) was small st) ok)
+    (map_err result _ _ (λ then. then goes.0 (goes.1 ++ left) was small st) part))))
 
 -- ---- what is answered is the one text
+
+pub shown : {K : Type 0} (w : K → Option (List ℕ)) (f : K → ℕ) (t : K → ℕ → Type 0) (standard : Standard) (first : Option (List ℕ)) (was will : K) (result : Result Bool LogStop) →
+    IfOk result (λ bad. IfSome first (λ dump. ShowsAll w f t standard dump bad was will)) →
+    IfOk result (λ bad. IfSome first (λ dump. IsWritten standard (w was) (w will) dump bad))
+shown w f t standard None was will (Ok bad) all = tt
+shown w f t standard (Some dump) was will (Ok bad) all = record {
+  text = all.text;
+  is_shown = all.is_shown;
+  wrote = all.wrote.appended;
+}
+shown w f t standard first was will (Err stop) all = tt
 
 given : (standard : Standard) (dump : List ℕ) (was will : Option (List ℕ)) (result : Result Bool LogStop) →
     IfOk result (λ bad. IsWritten standard was will dump bad) →

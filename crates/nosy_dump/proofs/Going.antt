@@ -1,11 +1,10 @@
 -- A reader of a dump, byte by byte.
-use Rattle.std.proofs.Common.{◌≡◌, ◌∙◌, ℕ, ◌+◌, ◌-◌, ◌<◌, ◌≤◌, ◌^◌, Bool, false, ◌||◌, Option, Some, None, List, [], ◌∷◌, ◌++◌, length, take, drop, refl, sym, ap, subst, append_assoc, append-nil, length-append, arith}
+use Rattle.std.proofs.Common.{◌≡◌, ◌∙◌, ℕ, ◌+◌, ◌-◌, ◌<◌, ◌≤◌, ◌^◌, Bool, ◌||◌, Option, Some, None, List, [], ◌∷◌, ◌++◌, length, take, drop, refl, sym, ap, subst, append_assoc, append-nil, length-append, arith}
 use Rattle.std.specs.Prelude.{is_some, slice_index}
-use Rattle.std.specs.Io.KnownBytes.{Appends}
-use Rattle.io_edges.specs.Told.{StayTold}
 use Rattle.topology_stack.specs.Tree.{Tree}
 use Rattle.reset_log.specs.InOrder.{AreTold}
-use Rattle.reset_log.proofs.Lemmas.{appends_then, split_at}
+use Rattle.reset_log.specs.Wrote.{Wrote}
+use Rattle.reset_log.proofs.Lemmas.{wrote_nothing, wrote_then, split_at}
 use Rattle.nosy_dump.specs.declared.dump.DumpReader.{DumpReader}
 use Rattle.nosy_dump.specs.declared.record.Record.TheVariants.{Reset, SelfId, Other}
 use Rattle.nosy_dump.specs.declared.record.DumpReset.{DumpReset}
@@ -14,18 +13,18 @@ use Rattle.nosy_dump.specs.declared.record.DumpFault.TheVariants.{BadLength}
 use Rattle.nosy_dump.specs.Record.{record_bytes, dump_of, record_of, IsOpen, EndsSo}
 use Rattle.nosy_dump.specs.Resets.{resets_from}
 use Rattle.nosy_dump.specs.Texts.{fault_text}
-use Rattle.nosy_dump.specs.Dump.{IsResetShown, IsWritten, IsBegunWritten, but_last}
-use Rattle.nosy_dump.specs.codings.Going.{AreResets, Stands, IsWhole, HasBadLength, ShowsBy, with_packet, Goes}
+use Rattle.nosy_dump.specs.Dump.{IsResetShown, IsBegunWritten, but_last}
+use Rattle.nosy_dump.specs.codings.Going.{AreResets, IsNew, Stands, IsWhole, HasBadLength, ShowsBy, with_packet, Goes, ShowsAll}
 use Rattle.nosy_dump.proofs.Records.{dump_more, sized_more, few_records, more_size, resets_other, resets_reset, resets_packet, last_more, last_none, last_with, few_resets, but_last-more}
 use Rattle.nosy_dump.proofs.Waiting.{AllShown, few_ended, all_shown}
 
 -- ---- the bytes behind the whole records
 
 -- a byte more, of which this is known now
-pub one_byte : (Holds Now : List ℕ → Type 0) (old new : DumpReader) (done : List ℕ) (b : ℕ) (start was : Option (List ℕ)) →
-    Stands Holds old done start was → Now new.part.items → new.part.items ≡ old.part.items ++ b ∷ [] →
+pub one_byte : {K : Type 0} {w : K → Option (List ℕ)} {f : K → ℕ} {t : K → ℕ → Type 0} (Holds Now : List ℕ → Type 0) (old new : DumpReader) (done : List ℕ) (b : ℕ) (start was : K) →
+    Stands w f t Holds old done start was → Now new.part.items → new.part.items ≡ old.part.items ++ b ∷ [] →
     new.standard ≡ old.standard → new.pending ≡ old.pending → new.tree ≡ old.tree → new.number ≡ old.number → new.bad ≡ old.bad → new.taken ≡ old.taken + 1 →
-    Stands Now new (done ++ b ∷ []) start was
+    Stands w f t Now new (done ++ b ∷ []) start was
 one_byte Holds Now old new done b start was st now part es ep et en eb ek = record {
   records = st.records;
   ended = st.ended;
@@ -41,13 +40,12 @@ one_byte Holds Now old new done b start was st now part es ep et en eb ek = reco
   number_is = en ∙ st.number_is;
   taken_is = omega (arith, ek, st.taken_is, length-append done (b ∷ []));
   wrote = st.wrote;
-  stay = st.stay;
 }
 
 -- what bytes hold, and what is known of them
-pub holds_now : (Holds Now : List ℕ → Type 0) (r : DumpReader) (done : List ℕ) (start was : Option (List ℕ)) →
-    (Holds r.part.items → Now r.part.items) → Stands Holds r done start was →
-    Stands Now r done start was
+pub holds_now : {K : Type 0} {w : K → Option (List ℕ)} {f : K → ℕ} {t : K → ℕ → Type 0} (Holds Now : List ℕ → Type 0) (r : DumpReader) (done : List ℕ) (start was : K) →
+    (Holds r.part.items → Now r.part.items) → Stands w f t Holds r done start was →
+    Stands w f t Now r done start was
 holds_now Holds Now r done start was then st = record {
   records = st.records;
   ended = st.ended;
@@ -60,29 +58,23 @@ holds_now Holds Now r done start was then st = record {
   number_is = st.number_is;
   taken_is = st.taken_is;
   wrote = st.wrote;
-  stay = st.stay;
 }
 
-pub at_start : (r : DumpReader) (told : Option (List ℕ)) → r.part.items ≡ [] → r.pending ≡ None →
-    r.tree ≡ None → r.number ≡ 1 → r.taken ≡ 0 → r.bad ≡ false → Stands IsOpen r [] told told
-at_start r told part pending tree number taken bad = record {
+pub at_start : {K : Type 0} {w : K → Option (List ℕ)} {f : K → ℕ} {t : K → ℕ → Type 0} (r : DumpReader) (a : K) →
+    IsNew r → Stands w f t IsOpen r [] a a
+at_start r a new = record {
   records = [];
   ended = [];
-  done_is = sym part;
+  done_is = sym new.part_is;
   sized = tt;
-  holds = subst IsOpen (sym part) tt;
-  resets_are = subst (λ (p : Option DumpReset). AreResets [] [] p) (sym pending) (refl, refl);
+  holds = subst IsOpen (sym new.part_is) tt;
+  resets_are = subst (λ (p : Option DumpReset). AreResets [] [] p) (sym new.pending_is) (refl, refl);
   text = [];
-  told = (refl, bad, tree);
-  number_is = number;
-  taken_is = taken;
-  wrote = nothing told;
-  stay = refl;
+  told = (refl, new.bad_is, new.tree_is);
+  number_is = new.number_is;
+  taken_is = new.taken_is;
+  wrote = wrote_nothing a;
 }
-  where
-    nothing : (a : Option (List ℕ)) → Appends a a []
-    nothing None = tt
-    nothing (Some xs) = sym (append-nil xs)
 
 -- ---- a whole record
 
@@ -92,10 +84,10 @@ whole_done records part done e w =
     e ∙ ap (λ (o : List ℕ). dump_of records ++ o) w ∙ sym (dump_more records (drop 4 part))
     ∙ sym (append-nil (dump_of (records ++ drop 4 part ∷ [])))
 
-pub after_other : (old new : DumpReader) (done : List ℕ) (start was : Option (List ℕ)) →
-    Stands IsWhole old done start was → record_of (drop 4 old.part.items) ≡ Other →
+pub after_other : {K : Type 0} {w : K → Option (List ℕ)} {f : K → ℕ} {t : K → ℕ → Type 0} (old new : DumpReader) (done : List ℕ) (start was : K) →
+    Stands w f t IsWhole old done start was → record_of (drop 4 old.part.items) ≡ Other →
     new.part.items ≡ [] → new.standard ≡ old.standard → new.pending ≡ old.pending → new.tree ≡ old.tree → new.number ≡ old.number → new.bad ≡ old.bad → new.taken ≡ old.taken →
-    Stands IsOpen new done start was
+    Stands w f t IsOpen new done start was
 after_other old new done start was st kind part es ep et en eb ek = record {
   records = st.records ++ drop 4 old.part.items ∷ [];
   ended = st.ended;
@@ -108,7 +100,6 @@ after_other old new done start was st kind part es ep et en eb ek = record {
   number_is = en ∙ st.number_is;
   taken_is = ek ∙ st.taken_is;
   wrote = st.wrote;
-  stay = st.stay;
 }
   where
     same : (p : Option DumpReset) → AreResets st.records st.ended p →
@@ -116,11 +107,11 @@ after_other old new done start was st kind part es ep et en eb ek = record {
     same None are = (resets_other 0 st.records (drop 4 old.part.items) kind ∙ are.0, are.1)
     same (Some p) are = resets_other 0 st.records (drop 4 old.part.items) kind ∙ are
 
-pub after_packet : (old new : DumpReader) (done : List ℕ) (quad : ℕ) (start was : Option (List ℕ)) →
-    Stands IsWhole old done start was → record_of (drop 4 old.part.items) ≡ SelfId quad →
+pub after_packet : {K : Type 0} {w : K → Option (List ℕ)} {f : K → ℕ} {t : K → ℕ → Type 0} (old new : DumpReader) (done : List ℕ) (quad : ℕ) (start was : K) →
+    Stands w f t IsWhole old done start was → record_of (drop 4 old.part.items) ≡ SelfId quad →
     new.pending ≡ with_packet quad old.pending →
     new.part.items ≡ [] → new.standard ≡ old.standard → new.tree ≡ old.tree → new.number ≡ old.number → new.bad ≡ old.bad → new.taken ≡ old.taken →
-    Stands IsOpen new done start was
+    Stands w f t IsOpen new done start was
 after_packet old new done quad start was st kind ep part es et en eb ek = record {
   records = st.records ++ drop 4 old.part.items ∷ [];
   ended = st.ended;
@@ -133,7 +124,6 @@ after_packet old new done quad start was st kind ep part es et en eb ek = record
   number_is = en ∙ st.number_is;
   taken_is = ek ∙ st.taken_is;
   wrote = st.wrote;
-  stay = st.stay;
 }
   where
     more : resets_from 0 (st.records ++ drop 4 old.part.items ∷ []) ≡ last_with quad (resets_from 0 st.records)
@@ -145,8 +135,8 @@ after_packet old new done quad start was st kind ep part es et en eb ek = record
     with (Some p) are = more ∙ ap (λ (l : List DumpReset). last_with quad l) are ∙ last_more st.ended p quad
 
 -- fewer than 2 ^ 63 resets
-few_numbers : (old : DumpReader) (Holds : List ℕ → Type 0) (done : List ℕ) (start was : Option (List ℕ)) →
-    (st : Stands Holds old done start was) → length done ≤ 67108864 → old.number < 2 ^ 63
+few_numbers : {K : Type 0} {w : K → Option (List ℕ)} {f : K → ℕ} {t : K → ℕ → Type 0} (old : DumpReader) (Holds : List ℕ → Type 0) (done : List ℕ) (start was : K) →
+    (st : Stands w f t Holds old done start was) → length done ≤ 67108864 → old.number < 2 ^ 63
 few_numbers old Holds done start was st few =
     let a = few_ended st.records st.ended old.pending st.resets_are in
     let b = few_resets 0 st.records in
@@ -154,30 +144,30 @@ few_numbers old Holds done start was st few =
     let d : length done ≡ length (dump_of st.records) + length old.part.items = ap (λ (l : List ℕ). length l) st.done_is ∙ length-append (dump_of st.records) old.part.items in
     omega (arith, a, b, c, d, few, st.number_is)
 
-pub place_of : (old : DumpReader) (Holds : List ℕ → Type 0) (done : List ℕ) (start was : Option (List ℕ)) (byte : ℕ) →
-    (st : Stands Holds old done start was) → byte ≡ old.taken - length old.part.items →
+pub place_of : {K : Type 0} {w : K → Option (List ℕ)} {f : K → ℕ} {t : K → ℕ → Type 0} (old : DumpReader) (Holds : List ℕ → Type 0) (done : List ℕ) (start was : K) (byte : ℕ) →
+    (st : Stands w f t Holds old done start was) → byte ≡ old.taken - length old.part.items →
     byte ≡ length (dump_of st.records)
 place_of old Holds done start was byte st e =
     let d : length done ≡ length (dump_of st.records) + length old.part.items = ap (λ (l : List ℕ). length l) st.done_is ∙ length-append (dump_of st.records) old.part.items in
     omega (arith, d, e, st.taken_is)
 
-pub shown_now : (old : DumpReader) (Holds : List ℕ → Type 0) (done : List ℕ) (start was is : Option (List ℕ)) (m : ℕ) (u : Option Tree) (c : Bool) →
-    (st : Stands Holds old done start was) → length done ≤ 67108864 → StayTold was is →
-    ShowsBy old.standard old.pending old.number old.tree old.bad m u c was is →
-    AllShown old.standard st.records start is m u c
-shown_now old Holds done start was is m u c st few still shows =
+pub shown_now : {K : Type 0} {w : K → Option (List ℕ)} {f : K → ℕ} {t : K → ℕ → Type 0} (old : DumpReader) (Holds : List ℕ → Type 0) (done : List ℕ) (start was is : K) (m : ℕ) (u : Option Tree) (c : Bool) →
+    (st : Stands w f t Holds old done start was) → length done ≤ 67108864 →
+    ShowsBy w f t old.standard old.pending old.number old.tree old.bad m u c was is →
+    AllShown w f t old.standard st.records start is m u c
+shown_now old Holds done start was is m u c st few shows =
     all_shown old.standard st.records st.ended old.pending st.text old.number m old.tree u old.bad c start was is
-    st.resets_are st.told st.number_is (few_numbers old Holds done start was st few) st.wrote st.stay still shows
+    st.resets_are st.told st.number_is (few_numbers old Holds done start was st few) st.wrote shows
 
-pub after_reset : (old new : DumpReader) (done : List ℕ) (byte time : ℕ) (start was is : Option (List ℕ)) →
-    Stands IsWhole old done start was → length done ≤ 67108864 → StayTold was is →
+pub after_reset : {K : Type 0} {w : K → Option (List ℕ)} {f : K → ℕ} {t : K → ℕ → Type 0} (old new : DumpReader) (done : List ℕ) (byte time : ℕ) (start was is : K) →
+    Stands w f t IsWhole old done start was → length done ≤ 67108864 →
     record_of (drop 4 old.part.items) ≡ Reset time → byte ≡ old.taken - length old.part.items →
-    ShowsBy old.standard old.pending old.number old.tree old.bad new.number new.tree new.bad was is →
+    ShowsBy w f t old.standard old.pending old.number old.tree old.bad new.number new.tree new.bad was is →
     new.pending ≡ Some (record { byte = byte; time = time; list = [] }) →
     new.part.items ≡ [] → new.standard ≡ old.standard → new.taken ≡ old.taken →
-    Stands IsOpen new done start is
-after_reset old new done byte time start was is st few still kind at shows ep part es ek =
-    let all = shown_now old IsWhole done start was is new.number new.tree new.bad st few still shows in
+    Stands w f t IsOpen new done start is
+after_reset old new done byte time start was is st few kind at shows ep part es ek =
+    let all = shown_now old IsWhole done start was is new.number new.tree new.bad st few shows in
     let there : byte ≡ length (dump_of st.records) = place_of old IsWhole done start was byte st at in
     let place : byte ≡ 0 + length (dump_of st.records) = omega (arith, there) in
     record {
@@ -192,19 +182,18 @@ after_reset old new done byte time start was is st few still kind at shows ep pa
       number_is = all.number_is;
       taken_is = ek ∙ st.taken_is;
       wrote = all.wrote;
-      stay = all.stay;
     }
 
 -- ---- the end
 
-pub written : (old : DumpReader) (done more : List ℕ) (start was is will : Option (List ℕ)) (fault : Option DumpFault) (byte m : ℕ) (u : Option Tree) (c : Bool) →
-    Stands (λ bytes. EndsSo (bytes ++ more) fault) old done start was → length done ≤ 67108864 →
-    StayTold was is → byte ≡ old.taken - length old.part.items →
-    ShowsBy old.standard old.pending old.number old.tree old.bad m u c was is →
-    Appends is will (fault_text byte fault) →
-    IsWritten old.standard start will (done ++ more) (c || is_some fault)
-written old done more start was is will fault byte m u c st few still at shows wrote =
-    let all = shown_now old (λ bytes. EndsSo (bytes ++ more) fault) done start was is m u c st few still shows in
+pub written : {K : Type 0} {w : K → Option (List ℕ)} {f : K → ℕ} {t : K → ℕ → Type 0} (old : DumpReader) (done more : List ℕ) (start was is will : K) (fault : Option DumpFault) (byte m : ℕ) (u : Option Tree) (c : Bool) →
+    Stands w f t (λ bytes. EndsSo (bytes ++ more) fault) old done start was →
+    length done ≤ 67108864 → byte ≡ old.taken - length old.part.items →
+    ShowsBy w f t old.standard old.pending old.number old.tree old.bad m u c was is →
+    Wrote w f t is will (fault_text byte fault) →
+    ShowsAll w f t old.standard (done ++ more) (c || is_some fault) start will
+written old done more start was is will fault byte m u c st few at shows wrote =
+    let all = shown_now old (λ bytes. EndsSo (bytes ++ more) fault) done start was is m u c st few shows in
     let place : byte ≡ length (dump_of st.records) = place_of old (λ bytes. EndsSo (bytes ++ more) fault) done start was byte st at in
     record {
       text = all.text ++ fault_text byte fault;
@@ -222,7 +211,7 @@ written old done more start was is will fault byte m u c st few still at shows w
         text_is = ap (λ (b : ℕ). all.text ++ fault_text b fault) place;
         bad_is = refl;
       };
-      wrote = appends_then start is will all.text (fault_text byte fault) all.stay all.wrote wrote;
+      wrote = wrote_then start is will all.text (fault_text byte fault) all.wrote wrote;
     }
 
 -- a length that can't be stays where it is
@@ -231,8 +220,8 @@ pub bad_length : (part more : List ℕ) (size : ℕ) → HasBadLength size part 
 bad_length part more size h = (more_size part more size h.0, h.1)
 
 -- what is written while a dump goes on
-pub begun : (r : DumpReader) (done : List ℕ) (start was : Option (List ℕ)) →
-    Stands IsOpen r done start was → IsBegunWritten r.standard start was done
+pub begun : {K : Type 0} {w : K → Option (List ℕ)} {f : K → ℕ} {t : K → ℕ → Type 0} (r : DumpReader) (done : List ℕ) (start was : K) →
+    Stands w f t IsOpen r done start was → IsBegunWritten r.standard (w start) (w was) done
 begun r done start was st = record {
   text = st.text;
   is_shown = record {
@@ -246,7 +235,7 @@ begun r done start was st = record {
     told =
         subst (λ (l : List DumpReset). AreTold (IsResetShown r.standard) 1 None l st.text r.bad r.tree) (sym (all_but r.pending st.resets_are)) st.told;
   };
-  wrote = st.wrote;
+  wrote = st.wrote.appended;
 }
   where
     none : (rs ended : List DumpReset) → rs ≡ [] → ended ≡ [] → but_last rs ≡ ended
@@ -260,9 +249,9 @@ begun r done start was st = record {
     all_but (Some p) are = ap but_last are ∙ but_last-more st.ended p
 
 -- a byte within bytes ended a length that can't be
-pub stopped : (s : DumpReader) (done bytes : List ℕ) (at size : ℕ) (start is : Option (List ℕ)) →
-    Goes (Some size) s ((done ++ take at bytes) ++ slice_index bytes at ∷ []) start is → at < length bytes →
-    Goes (Some size) s (done ++ bytes) start is
+pub stopped : {K : Type 0} {w : K → Option (List ℕ)} {f : K → ℕ} {t : K → ℕ → Type 0} (s : DumpReader) (done bytes : List ℕ) (at size : ℕ) (start is : K) →
+    Goes w f t (Some size) s ((done ++ take at bytes) ++ slice_index bytes at ∷ []) start is →
+    at < length bytes → Goes w f t (Some size) s (done ++ bytes) start is
 stopped s done bytes at size start is goes few =
     let all : bytes ≡ (take at bytes ++ slice_index bytes at ∷ []) ++ drop (at + 1) bytes = split_at bytes at few in (
       goes.0,

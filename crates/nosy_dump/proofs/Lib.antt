@@ -6,3 +6,4 @@ pub mod Going
 pub mod Reading
 pub mod OneText
 pub mod Fronts
+pub mod SomeText

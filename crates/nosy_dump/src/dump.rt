@@ -1,13 +1,14 @@
 //! Showing a dump as it comes.
 ghost use Rattle.std.specs.Prelude.{◌≡◌, ◌⊎◌, ◌↔◌, ◌<◌, ◌≤◌, ◌+◌, ◌++◌, ◌∷◌, ◌||◌, [], ℕ, false, is_none, is_some, List, Option, None, length, alloc_error, OnOk, OnErr, IfOk, IfErr, IfSome, IsErr, IsErrOf};
-ghost use Rattle.std.specs.Io.KnownBytes.{IsAtEnd, Appends, Consumes};
+ghost use Rattle.std.specs.Io.KnownBytes.{IsAtEnd, Consumes};
 ghost use Rattle.io_edges.specs.Faults.{Rose};
-ghost use Rattle.io_edges.specs.Told.{StayTold, AppendsStart, IfTold, TookOver};
+ghost use Rattle.io_edges.specs.Told.{IfTold, TookOver};
 ghost use Rattle.reset_log.specs.Cause.{StoppedWriting};
-ghost use Rattle.reset_log.specs.Answered.{IsExact, IsComplete, IsFront};
+ghost use Rattle.reset_log.specs.Answered.{IsExact, IsComplete, IsFront, IsSure};
+ghost use Rattle.reset_log.specs.Wrote.{Wrote, WroteFront, WroteFrontOf};
 ghost use Rattle.nosy_dump.specs.Record.{IsOpen, EndsSo};
 ghost use Rattle.nosy_dump.specs.Dump.{last_heard, IsDumpShown, IsWritten, IsBegunWritten};
-ghost use Rattle.nosy_dump.specs.codings.Going.{Stands, IsWhole, ShowsReset, Shows, Begins, Keeps, Goes, ShowsPart, BreaksOff, Broke};
+ghost use Rattle.nosy_dump.specs.codings.Going.{IsNew, Stands, IsWhole, ShowsReset, Shows, Begins, Keeps, Goes, ShowsPart, BreaksOff, Broke, ShowsAll};
 
 use crate::record::{DumpFault, DumpReset, Record, is_size, record_of, size_of};
 use crate::texts::{fault_text, head};
@@ -36,11 +37,11 @@ pub(crate) struct DumpReader {
 
 /// Writes the whole of a text.
 fn put<K: Sink>(sink: &mut K, text: &[u8]) -> Result<(), LogStop>
-    ensures ok { OnOk result (Appends (K.written sink.old) (K.written sink.new) text.now) }
-    ensures part { OnErr result
-        (AppendsStart (K.written sink.old) (K.written sink.new) text.now) }
+    ensures ok { OnOk result (Wrote K.written K.faults K.surely_takes
+        sink.old sink.new text.now) }
+    ensures part { OnErr result (WroteFront K.written K.faults K.surely_takes
+        sink.old sink.new text.now) }
     ensures stops { IfErr result (StoppedWriting (K.faults sink.old) (K.faults sink.new)) }
-    ensures told { StayTold (K.written sink.old) (K.written sink.new) }
     ensures later { K.faults sink.old ≤ K.faults sink.new }
 {
     match write_whole(sink, text) {
@@ -63,7 +64,7 @@ fn is_bad(refused: bool, fault: Option<DumpFault>) -> bool
 impl DumpReader {
     /// A reader that was given nothing.
     fn new(alloc: Global, standard: Standard) -> DumpReader
-        ensures start { (told : Option (List ℕ)) → Stands IsOpen result [] told told }
+        ensures start { IsNew result }
         ensures same { result.standard ≡ standard }
     {
         DumpReader {
@@ -96,19 +97,18 @@ impl DumpReader {
         reset: &DumpReset,
         sink: &mut K,
     ) -> Result<(), LogStop>
-        ensures ok { OnOk result (ShowsReset self.old.standard reset.now
-            self.old.number self.old.tree self.old.bad self.new.number self.new.tree self.new.bad
-            (K.written sink.old) (K.written sink.new)) }
-        ensures part { OnErr result ((K.written sink.new ≡ K.written sink.old)
-            ⊎ ShowsPart self.old.standard reset.now self.old.number self.old.tree
-            (K.written sink.old) (K.written sink.new)) }
+        ensures ok { OnOk result (ShowsReset K.written K.faults K.surely_takes
+            self.old.standard reset.now self.old.number self.old.tree self.old.bad
+            self.new.number self.new.tree self.new.bad sink.old sink.new) }
+        ensures part { OnErr result ((sink.new ≡ sink.old)
+            ⊎ ShowsPart K.written K.faults K.surely_takes
+            self.old.standard reset.now self.old.number self.old.tree sink.old sink.new) }
         ensures rest { OnOk result (self.new ≡ record self.old {
           number = self.new.number;
           tree = self.new.tree;
           bad = self.new.bad;
         }) }
         ensures stops { IfErr result (StoppedWriting (K.faults sink.old) (K.faults sink.new)) }
-        ensures told { StayTold (K.written sink.old) (K.written sink.new) }
         ensures later { K.faults sink.old ≤ K.faults sink.new }
     {
         let head = head(alloc, self.number, reset)?;
@@ -130,12 +130,11 @@ impl DumpReader {
 
     /// Shows the reset that waits, if one does.
     fn show<K: Sink>(&mut self, alloc: Global, sink: &mut K) -> Result<(), LogStop>
-        ensures ok { OnOk result
-            (Shows self.old self.new (K.written sink.old) (K.written sink.new)) }
-        ensures part { OnErr result
-            (BreaksOff self.old (K.written sink.old) (K.written sink.new)) }
+        ensures ok { OnOk result (Shows K.written K.faults K.surely_takes
+            self.old self.new sink.old sink.new) }
+        ensures part { OnErr result (BreaksOff K.written K.faults K.surely_takes
+            self.old sink.old sink.new) }
         ensures stops { IfErr result (StoppedWriting (K.faults sink.old) (K.faults sink.new)) }
-        ensures told { StayTold (K.written sink.old) (K.written sink.new) }
         ensures later { K.faults sink.old ≤ K.faults sink.new }
     {
         match self.pending.take() {
@@ -152,12 +151,11 @@ impl DumpReader {
         time: u32,
         sink: &mut K,
     ) -> Result<(), LogStop>
-        ensures ok { OnOk result (Begins byte time self.old self.new
-            (K.written sink.old) (K.written sink.new)) }
-        ensures part { OnErr result
-            (BreaksOff self.old (K.written sink.old) (K.written sink.new)) }
+        ensures ok { OnOk result (Begins K.written K.faults K.surely_takes
+            byte time self.old self.new sink.old sink.new) }
+        ensures part { OnErr result (BreaksOff K.written K.faults K.surely_takes
+            self.old sink.old sink.new) }
         ensures stops { IfErr result (StoppedWriting (K.faults sink.old) (K.faults sink.new)) }
-        ensures told { StayTold (K.written sink.old) (K.written sink.new) }
         ensures later { K.faults sink.old ≤ K.faults sink.new }
     {
         self.show(alloc, sink)?;
@@ -183,12 +181,12 @@ impl DumpReader {
     /// Takes the record that is whole, and begins the next one.
     fn take_record<K: Sink>(&mut self, alloc: Global, sink: &mut K) -> Result<(), LogStop>
         requires { 4 ≤ length self.old.part.items }
-        ensures ok { OnOk result ((done : List ℕ) (start : Option (List ℕ)) →
-            length done ≤ 67108864 → Stands IsWhole self.old done start (K.written sink.old) →
-            Stands IsOpen self.new done start (K.written sink.new)) }
-        ensures part { OnErr result ((done : List ℕ) (start : Option (List ℕ)) →
-            length done ≤ 67108864 → Stands IsWhole self.old done start (K.written sink.old) →
-            Broke self.old.standard done start (K.written sink.new)) }
+        ensures ok { OnOk result ((done : List ℕ) (start : K) → length done ≤ 67108864 →
+            Stands K.written K.faults K.surely_takes IsWhole self.old done start sink.old →
+            Stands K.written K.faults K.surely_takes IsOpen self.new done start sink.new) }
+        ensures part { OnErr result ((done : List ℕ) (start : K) → length done ≤ 67108864 →
+            Stands K.written K.faults K.surely_takes IsWhole self.old done start sink.old →
+            Broke K.written K.faults K.surely_takes self.old.standard done start sink.new) }
         ensures stops { IfErr result (StoppedWriting (K.faults sink.old) (K.faults sink.new)) }
         ensures same { OnOk result (self.new.standard ≡ self.old.standard) }
         ensures later { K.faults sink.old ≤ K.faults sink.new }
@@ -211,12 +209,14 @@ impl DumpReader {
         byte: u8,
         sink: &mut K,
     ) -> Result<Option<u32>, LogStop>
-        ensures ok { IfOk result (λ size. (done : List ℕ) (start : Option (List ℕ)) →
-            length done < 67108864 → Stands IsOpen self.old done start (K.written sink.old) →
-            Goes size self.new (done ++ byte ∷ []) start (K.written sink.new)) }
-        ensures part { OnErr result ((done : List ℕ) (start : Option (List ℕ)) →
-            length done < 67108864 → Stands IsOpen self.old done start (K.written sink.old) →
-            Broke self.old.standard (done ++ byte ∷ []) start (K.written sink.new)) }
+        ensures ok { IfOk result (λ size. (done : List ℕ) (start : K) → length done < 67108864 →
+            Stands K.written K.faults K.surely_takes IsOpen self.old done start sink.old →
+            Goes K.written K.faults K.surely_takes
+            size self.new (done ++ byte ∷ []) start sink.new) }
+        ensures part { OnErr result ((done : List ℕ) (start : K) → length done < 67108864 →
+            Stands K.written K.faults K.surely_takes IsOpen self.old done start sink.old →
+            Broke K.written K.faults K.surely_takes
+            self.old.standard (done ++ byte ∷ []) start sink.new) }
         ensures stops { IfErr result (StoppedWriting (K.faults sink.old) (K.faults sink.new)) }
         ensures same { OnOk result (self.new.standard ≡ self.old.standard) }
         ensures later { K.faults sink.old ≤ K.faults sink.new }
@@ -243,14 +243,16 @@ impl DumpReader {
         bytes: &[u8],
         sink: &mut K,
     ) -> Result<Option<u32>, LogStop>
-        ensures ok { IfOk result (λ size. (done : List ℕ) (start : Option (List ℕ)) →
+        ensures ok { IfOk result (λ size. (done : List ℕ) (start : K) →
             length done + length bytes.now ≤ 67108864 →
-            Stands IsOpen self.old done start (K.written sink.old) →
-            Goes size self.new (done ++ bytes.now) start (K.written sink.new)) }
-        ensures part { OnErr result ((done : List ℕ) (start : Option (List ℕ)) →
+            Stands K.written K.faults K.surely_takes IsOpen self.old done start sink.old →
+            Goes K.written K.faults K.surely_takes
+            size self.new (done ++ bytes.now) start sink.new) }
+        ensures part { OnErr result ((done : List ℕ) (start : K) →
             length done + length bytes.now ≤ 67108864 →
-            Stands IsOpen self.old done start (K.written sink.old) →
-            Broke self.old.standard (done ++ bytes.now) start (K.written sink.new)) }
+            Stands K.written K.faults K.surely_takes IsOpen self.old done start sink.old →
+            Broke K.written K.faults K.surely_takes
+            self.old.standard (done ++ bytes.now) start sink.new) }
         ensures stops { IfErr result (StoppedWriting (K.faults sink.old) (K.faults sink.new)) }
         ensures same { OnOk result (self.new.standard ≡ self.old.standard) }
         ensures later { K.faults sink.old ≤ K.faults sink.new }
@@ -271,14 +273,16 @@ impl DumpReader {
         fault: Option<DumpFault>,
         sink: &mut K,
     ) -> Result<bool, LogStop>
-        ensures ok { IfOk result (λ bad. (done more : List ℕ) (start : Option (List ℕ)) →
-            length done ≤ 67108864 →
-            Stands (λ bytes. EndsSo (bytes ++ more) fault) self.old done start (K.written sink.old) →
-            IsWritten self.old.standard start (K.written sink.new) (done ++ more) bad) }
-        ensures part { OnErr result ((done more : List ℕ) (start : Option (List ℕ)) →
-            length done ≤ 67108864 →
-            Stands (λ bytes. EndsSo (bytes ++ more) fault) self.old done start (K.written sink.old) →
-            IsFront (IsDumpShown self.old.standard (done ++ more)) start (K.written sink.new)) }
+        ensures ok { IfOk result (λ bad. (done more : List ℕ) (start : K) →
+            length done ≤ 67108864 → Stands K.written K.faults K.surely_takes
+            (λ bytes. EndsSo (bytes ++ more) fault) self.old done start sink.old →
+            ShowsAll K.written K.faults K.surely_takes
+            self.old.standard (done ++ more) bad start sink.new) }
+        ensures part { OnErr result ((done more : List ℕ) (start : K) →
+            length done ≤ 67108864 → Stands K.written K.faults K.surely_takes
+            (λ bytes. EndsSo (bytes ++ more) fault) self.old done start sink.old →
+            WroteFrontOf K.written K.faults K.surely_takes
+            (IsDumpShown self.old.standard (done ++ more)) start sink.new) }
         ensures none { IfOk result (λ bad. bad ≡ false → fault ≡ None) }
         ensures stops { IfErr result (StoppedWriting (K.faults sink.old) (K.faults sink.new)) }
         ensures later { K.faults sink.old ≤ K.faults sink.new }
@@ -344,6 +348,10 @@ pub fn show_dump<S: Source, K: Sink>(
         ¬ Rose (K.faults sink.old) (K.faults sink.new) → IfSome (S.left source.old) (λ dump.
         length dump ≤ 67108864 → IsComplete (IsDumpShown standard dump) result
         (K.written sink.old) (K.written sink.new)) }
+
+    // A sink that surely takes the text has no fault.
+    ensures sure { IfSome (S.left source.old) (λ dump. IsSure (IsDumpShown standard dump)
+        (K.surely_takes sink.old) (K.faults sink.old) (K.faults sink.new)) }
 {
     let mut reader = DumpReader::new(alloc, standard);
     let mut buf = [0u8; PIECE];

@@ -1,7 +1,8 @@
 //! Laws of dumps.
-ghost use Rattle.nosy_dump.specs.OneText.{NoDumpHasTwoTexts};
+ghost use Rattle.nosy_dump.specs.OneText.{NoDumpHasTwoTexts, EachDumpHasAText};
 
-/// A law: no dump has two texts, and none is at fault and isn't.
+/// A law: each dump has a text, no dump has two, and none is at fault and isn't.
 pub fn dumps_have_one_text()
-    ensures { NoDumpHasTwoTexts }
+    ensures one { NoDumpHasTwoTexts }
+    ensures some { EachDumpHasAText }
 {}

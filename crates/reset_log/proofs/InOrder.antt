@@ -1,5 +1,7 @@
 -- What is told of items is one thing, and one item more is told.
 use Rattle.std.proofs.Common.{◌≡◌, ◌∙◌, ℕ, suc, ◌+◌, Bool, true, false, ◌||◌, List, [], ◌∷◌, ◌++◌, length, refl, sym, ap, subst, append_assoc, append-nil, arith}
+use Rattle.std.specs.List.{All}
+use Rattle.std.proofs.lemmas.List.Elements.{All-head, All-tail}
 use Rattle.reset_log.specs.InOrder.{AreTold}
 
 pub one_more : {X S : Type 0} (IsTold : ℕ → S → X → List ℕ → Bool → S → Type 0) (n : ℕ) (s mid next : S) (xs : List X) (x : X) (text more : List ℕ) (bad here : Bool) →
@@ -82,14 +84,14 @@ told_first IsTold n s next (x ∷ xs) ys text bad told =
 
 -- ---- something is told
 
-pub told_some : {X S : Type 0} (IsTold : ℕ → S → X → List ℕ → Bool → S → Type 0) →
-    ((n : ℕ) (s : S) (x : X) → (text : List ℕ) × (bad : Bool) × (next : S) × IsTold n s x text bad next) →
-    (n : ℕ) (s : S) (xs : List X) →
+pub told_some : {X S : Type 0} (IsTold : ℕ → S → X → List ℕ → Bool → S → Type 0) (Good : X → Type 0) →
+    ((n : ℕ) (s : S) (x : X) → Good x → (text : List ℕ) × (bad : Bool) × (next : S) × IsTold n s x text bad next) →
+    (n : ℕ) (s : S) (xs : List X) → All Good xs →
     (text : List ℕ) × (bad : Bool) × (next : S) × AreTold IsTold n s xs text bad next
-told_some IsTold each n s [] = ([], false, s, (refl, refl, refl))
-told_some IsTold each n s (x ∷ xs) =
-    let one = each n s x in
-    let rest = told_some IsTold each (n + 1) one.2 xs in (
+told_some IsTold Good each n s [] good = ([], false, s, (refl, refl, refl))
+told_some IsTold Good each n s (x ∷ xs) good =
+    let one = each n s x (All-head Good x xs good) in
+    let rest = told_some IsTold Good each (n + 1) one.2 xs (All-tail Good x xs good) in (
       one.0 ++ rest.0,
       one.1 || rest.1,
       rest.2,

@@ -1,11 +1,12 @@
 -- What crates above use of the proofs of this one, by what it is about.
 
--- What is told of items, one more and the first of them, is one thing; and so is what is told of a list.
-pub use Rattle.reset_log.proofs.InOrder.{AreSame, one_more, told_first, told_once}
+-- What is told of items, one more and the first of them, is one thing, and there is one; and so it is of a list.
+pub use Rattle.reset_log.proofs.InOrder.{AreSame, one_more, told_first, told_once, told_some}
 pub use Rattle.reset_log.proofs.OneText.{same_list}
+pub use Rattle.reset_log.proofs.SomeText.{Fit, some_list}
 -- Reads and writes in a row, and what came where all was read.
 pub use Rattle.reset_log.proofs.Reading.{all_came, consumes_then, nothing_came, over}
-pub use Rattle.reset_log.proofs.Standing.{appends_then}
+pub use Rattle.reset_log.proofs.Wrote.{wrote_nothing, wrote_then, front_then, front_more, front_whole, is_front, is_sure}
 -- What came and what is written where not all was read.
 pub use Rattle.reset_log.proofs.Answered.{complete_of, exact_of, log_left, still_came}
-pub use Rattle.reset_log.proofs.Fronts.{few_front, on_err, split_at, start_of}
+pub use Rattle.reset_log.proofs.Fronts.{few_front, on_err, split_at}

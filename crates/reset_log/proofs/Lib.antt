@@ -7,6 +7,7 @@ pub mod Judged
 pub mod InOrder
 pub mod OneText
 pub mod Going
+pub mod Wrote
 pub mod Standing
 pub mod Reading
 pub mod Answered

@@ -2,15 +2,16 @@
 use Rattle.std.proofs.Common.{◌≡◌, ◌∙◌, ℕ, zero, suc, ◌+◌, ◌-◌, ◌<◌, ◌≤◌, ◌==◌, Bool, true, false, ◌||◌, Option, Some, None, List, [], ◌∷◌, ◌++◌, length, take, refl, sym, ap, subst, append_assoc, append-nil, length-append, arith}
 use Rattle.std.specs.Prelude.{IfSome}
 use Rattle.std.proofs.lemmas.Bool.Decides.{nat_tests}
-use Rattle.std.specs.Io.KnownBytes.{Consumes, Appends, IsAtEnd}
+use Rattle.std.specs.Io.KnownBytes.{Consumes, IsAtEnd}
 use Rattle.io_edges.specs.Told.{StayTold, IfTold, TookOver}
 use Rattle.self_id.specs.declared.standard.Standard.{Standard}
 use Rattle.reset_log.specs.declared.log.LogReader.{LogReader}
 use Rattle.reset_log.specs.Shown.{IsLineShown}
-use Rattle.reset_log.specs.Log.{parted, open_lines, lines_of, AreShown, AreWritten}
-use Rattle.reset_log.specs.codings.Going.{Stands, ShowsLine, Reads}
+use Rattle.reset_log.specs.Log.{parted, open_lines, lines_of, AreShown}
+use Rattle.reset_log.specs.codings.Going.{IsNew, Stands, ShowsLine, ShowsAll, Reads}
 use Rattle.reset_log.proofs.InOrder.{one_more}
-use Rattle.reset_log.proofs.Standing.{by_front, appends_then}
+use Rattle.reset_log.proofs.Standing.{by_front}
+use Rattle.reset_log.proofs.Wrote.{wrote_nothing, wrote_then}
 
 -- ---- the last line
 
@@ -35,9 +36,9 @@ front_of_none zero xs e = refl
 front_of_none (suc n) [] e = refl
 front_of_none (suc n) (x ∷ xs) e = absurd cc
 
-pub ended : (old : LogReader) (done : List ℕ) (start was : Option (List ℕ)) →
-    Stands old done start was → length old.line.items ≡ 0 →
-    AreWritten old.standard start was (lines_of done) old.bad
+pub ended : {K : Type 0} {w : K → Option (List ℕ)} {f : K → ℕ} {t : K → ℕ → Type 0} (old : LogReader) (done : List ℕ) (start was : K) →
+    Stands w f t old done start was → length old.line.items ≡ 0 →
+    ShowsAll w f t old.standard (lines_of done) old.bad start was
 ended old done start was st e =
     let none : old.line.items ≡ [] = no_items old.line.items e in
     let unopened : (parted done).open_line ≡ [] = empty_front 65536 (parted done).open_line (omega arith) (sym st.line_is ∙ none) in
@@ -55,9 +56,9 @@ ended old done start was st e =
     no_items [] h = refl
     no_items (x ∷ xs) h = absurd (omega (arith, h))
 
-pub ended_line : (old new : LogReader) (done : List ℕ) (start was is : Option (List ℕ)) →
-    Stands old done start was → ShowsLine old new was is → (length old.line.items ≡ 0 → ⊥) →
-    AreWritten old.standard start is (lines_of done) new.bad
+pub ended_line : {K : Type 0} {w : K → Option (List ℕ)} {f : K → ℕ} {t : K → ℕ → Type 0} (old new : LogReader) (done : List ℕ) (start was is : K) →
+    Stands w f t old done start was → ShowsLine w f t old new was is → (length old.line.items ≡ 0 → ⊥) →
+    ShowsAll w f t old.standard (lines_of done) new.bad start is
 ended_line old new done start was is st sh some =
     let opened : (parted done).open_line ≡ [] → ⊥ = λ e. some (ap (λ (l : List ℕ). length l) (st.line_is ∙ front_of_none 65536 (parted done).open_line e)) in
     let shown : IsLineShown old.standard (1 + length (parted done).lines) old.cards.items (parted done).open_line sh.text sh.here new.cards.items =
@@ -71,7 +72,7 @@ ended_line old new done start was is st sh some =
             (subst (λ (ls : List (List ℕ)). AreShown old.standard 1 [] ls (st.text ++ sh.text) (old.bad || sh.here) new.cards.items) (sym (some_open done opened))
             (one_more (IsLineShown old.standard) 1 [] old.cards.items new.cards.items (parted done).lines (parted done).open_line st.text sh.text old.bad sh.here st.shown shown));
       };
-      wrote = appends_then start was is st.text sh.text st.told st.wrote sh.wrote;
+      wrote = wrote_then start was is st.text sh.text st.wrote sh.wrote;
     }
 
 -- whether a line is kept
@@ -89,30 +90,25 @@ pub nothing_came : (a : Option (List ℕ)) → Consumes a a []
 nothing_came None = tt
 nothing_came (Some xs) = refl
 
-nothing_written : (a : Option (List ℕ)) → Appends a a []
-nothing_written None = tt
-nothing_written (Some xs) = sym (append-nil xs)
-
-pub at_start : (r : LogReader) (told : Option (List ℕ)) → r.cards.items ≡ [] → r.line.items ≡ [] →
-    r.number ≡ 1 → r.taken ≡ 0 → r.bad ≡ false → Stands r [] told told
+pub at_start : {K : Type 0} {w : K → Option (List ℕ)} {f : K → ℕ} {t : K → ℕ → Type 0} (r : LogReader) (a : K) →
+    IsNew r → Stands w f t r [] a a
 unfolding parted
-at_start r told cards line number taken bad = record {
+at_start r a new = record {
   text = [];
-  shown = (refl, bad, cards);
-  line_is = line;
-  number_is = number;
-  taken_is = taken;
-  wrote = nothing_written told;
-  told = refl;
+  shown = (refl, new.bad_is, new.cards_are);
+  line_is = new.line_is;
+  number_is = new.number_is;
+  taken_is = new.taken_is;
+  wrote = wrote_nothing a;
 }
 
-pub at_first : (r : LogReader) (standard : Standard) (first was : Option (List ℕ)) (a b : ℕ) →
-    Stands r [] was was → r.standard ≡ standard → Reads r standard first first was was a a b b
-at_first r standard first was a b st same = record {
+pub at_first : {K : Type 0} {w : K → Option (List ℕ)} {f : K → ℕ} {t : K → ℕ → Type 0} (r : LogReader) (standard : Standard) (first : Option (List ℕ)) (was : K) (a : ℕ) →
+    IsNew r → r.standard ≡ standard → Reads w f t r standard first first was was a a
+at_first r standard first was a new same = record {
   done = [];
   came = nothing_came first;
   told = refl;
-  stands = st;
+  stands = at_start r was new;
   small = omega arith;
   same = same;
   later = omega arith;
@@ -126,11 +122,12 @@ consumes_then (Some x) None c xs ys told p q = absurd p
 consumes_then (Some x) (Some y) None xs ys told p q = absurd q
 consumes_then (Some x) (Some y) (Some z) xs ys told p q = p ∙ ap (λ (w : List ℕ). xs ++ w) q ∙ sym (append_assoc xs ys z)
 
-pub reads_on : (r s : LogReader) (standard : Standard) (first now next was is will : Option (List ℕ)) (a b c d e f : ℕ) (piece : List ℕ) →
-    Reads r standard first now was is a b d e → Consumes now next piece → StayTold now next →
+pub reads_on : {K : Type 0} {w : K → Option (List ℕ)} {f : K → ℕ} {t : K → ℕ → Type 0} (r s : LogReader) (standard : Standard) (first now next : Option (List ℕ)) (was is will : K) (a b c : ℕ) (piece : List ℕ) →
+    Reads w f t r standard first now was is a b → Consumes now next piece → StayTold now next →
     length piece ≤ 67108864 - r.taken →
-    ((done : List ℕ) (start : Option (List ℕ)) → length done + length piece ≤ 67108864 → Stands r done start is → Stands s (done ++ piece) start will) → s.standard ≡ r.standard → b ≤ c → e ≤ f → Reads s standard first next was will a c d f
-reads_on r s standard first now next was is will a b c d e f piece h came told fits taken same later wrote =
+    ((done : List ℕ) (start : K) → length done + length piece ≤ 67108864 → Stands w f t r done start is → Stands w f t s (done ++ piece) start will) →
+    s.standard ≡ r.standard → b ≤ c → f is ≤ f will → Reads w f t s standard first next was will a c
+reads_on r s standard first now next was is will a b c piece h came told fits taken same later wrote =
     let size = h.stands.taken_is in
     let room : length h.done + length piece ≤ 67108864 = omega (arith, size, fits, h.small) in
     record {
@@ -145,11 +142,12 @@ reads_on r s standard first now next was is will a b c d e f piece h came told f
     }
 
 -- each piece leaves less room
-pub less_room : (r s : LogReader) (standard : Standard) (first now was is will : Option (List ℕ)) (a b d e : ℕ) (piece : List ℕ) →
-    Reads r standard first now was is a b d e → 0 < length piece →
+pub less_room : {K : Type 0} {w : K → Option (List ℕ)} {f : K → ℕ} {t : K → ℕ → Type 0} (r s : LogReader) (standard : Standard) (first now : Option (List ℕ)) (was is will : K) (a b : ℕ) (piece : List ℕ) →
+    Reads w f t r standard first now was is a b → 0 < length piece →
     length piece ≤ 67108864 - r.taken →
-    ((done : List ℕ) (start : Option (List ℕ)) → length done + length piece ≤ 67108864 → Stands r done start is → Stands s (done ++ piece) start will) → 67108864 - s.taken < 67108864 - r.taken
-less_room r s standard first now was is will a b d e piece h some fits taken =
+    ((done : List ℕ) (start : K) → length done + length piece ≤ 67108864 → Stands w f t r done start is → Stands w f t s (done ++ piece) start will) →
+    67108864 - s.taken < 67108864 - r.taken
+less_room r s standard first now was is will a b piece h some fits taken =
     let room : length h.done + length piece ≤ 67108864 = omega (arith, h.stands.taken_is, fits, h.small) in
     let on = taken h.done was room h.stands in
     omega (arith, on.taken_is, h.stands.taken_is, length-append h.done piece, some, fits)

@@ -209,7 +209,7 @@ some_body (Some old) t =
 
 -- ---- a list, a reset, a line, and a log
 
-some_list : (standard : Standard) (origin : Origin) (front list : List ℕ) (before : Option Tree) → Fit list →
+pub some_list : (standard : Standard) (origin : Origin) (front list : List ℕ) (before : Option Tree) → Fit list →
     (text : List ℕ) × (heard : Option Tree) × IsListShown standard origin front list before text heard
 some_list standard origin front list before f = elim (heard_or_not standard origin list) [
   | inl (t, h) ↦
@@ -245,5 +245,5 @@ some_line standard n ks line = some_shown standard n ks (line_of line) (line_fit
 
 pub some_text : EachLogHasAText
 some_text standard log =
-    let t = told_some (IsLineShown standard) (λ n ks line. some_line standard n ks line) 1 [] (lines_of log) in
+    let t = told_some (IsLineShown standard) (λ line. Unit {0}) (λ n ks line any. some_line standard n ks line) 1 [] (lines_of log) (λ k d few. tt) in
     (t.0, t.1, record { known = t.2; shown = t.3 })

@@ -1,8 +1,6 @@
 -- Where the reader of a log stands behind a byte.
-use Rattle.std.proofs.Common.{◌≡◌, ◌≢◌, ◌∙◌, ℕ, ◌+◌, ◌<◌, ◌^◌, Bool, true, false, ◌||◌, ◌==◌, Option, Some, None, List, [], ◌∷◌, ◌++◌, length, take, refl, sym, ap, subst, length-append, append_assoc, arith}
+use Rattle.std.proofs.Common.{◌≡◌, ◌≢◌, ◌∙◌, ℕ, ◌+◌, ◌<◌, ◌^◌, Bool, true, false, ◌||◌, ◌==◌, Option, List, [], ◌∷◌, ◌++◌, length, take, refl, sym, ap, subst, length-append, arith}
 use Rattle.std.proofs.lemmas.Bool.Decides.{nat_tests}
-use Rattle.std.specs.Io.KnownBytes.{Appends}
-use Rattle.io_edges.specs.Told.{StayTold}
 use Rattle.self_id.specs.declared.standard.Standard.{Standard}
 use Rattle.reset_log.specs.declared.cards.Known.{Known}
 use Rattle.reset_log.specs.declared.line.LogLine.{LogLine}
@@ -13,14 +11,7 @@ use Rattle.reset_log.specs.Log.{Parted, parted, AreShown}
 use Rattle.reset_log.specs.codings.Going.{Stands, ShowsLine, KeepsByte}
 use Rattle.reset_log.proofs.Going.{ends_line, goes_on, few_lines, same_line}
 use Rattle.reset_log.proofs.InOrder.{one_more}
-
--- two writes in a row
-pub appends_then : (a b c : Option (List ℕ)) (xs ys : List ℕ) → StayTold a b → Appends a b xs →
-    Appends b c ys → Appends a c (xs ++ ys)
-appends_then None b c xs ys told p q = tt
-appends_then (Some x) None c xs ys told p q = absurd p
-appends_then (Some x) (Some y) None xs ys told p q = absurd q
-appends_then (Some x) (Some y) (Some z) xs ys told p q = q ∙ ap (λ (w : List ℕ). w ++ ys) p ∙ append_assoc x xs ys
+use Rattle.reset_log.proofs.Wrote.{wrote_then}
 
 line_ended : (standard : Standard) (done : List ℕ) (ks next : List Known) (text more : List ℕ) (bad here : Bool) →
     AreShown standard 1 [] (parted done).lines text bad ks →
@@ -47,12 +38,11 @@ all_same s r ks js a b lines text e f g shown =
     (subst (λ (x : List Known). AreShown s 1 [] lines text b x) (sym f)
     (subst (λ (x : Bool). AreShown s 1 [] lines text x ks) (sym g) shown))
 
-pub after_line : (old mid new : LogReader) (done : List ℕ) (start was is : Option (List ℕ)) →
-    length done < 67108864 → Stands old done start was → ShowsLine mid new was is →
-    StayTold was is →
+pub after_line : {K : Type 0} {w : K → Option (List ℕ)} {f : K → ℕ} {t : K → ℕ → Type 0} (old mid new : LogReader) (done : List ℕ) (start was is : K) →
+    length done < 67108864 → Stands w f t old done start was → ShowsLine w f t mid new was is →
     mid.standard ≡ old.standard → mid.cards.items ≡ old.cards.items → mid.line.items ≡ old.line.items → mid.number ≡ old.number → mid.bad ≡ old.bad → mid.taken ≡ old.taken + 1 →
-    Stands new (done ++ 10 ∷ []) start is
-after_line old mid new done start was is few st sh told es ec el en eb et =
+    Stands w f t new (done ++ 10 ∷ []) start is
+after_line old mid new done start was is few st sh es ec el en eb et =
     let lines = few_lines done in
     let small : mid.number < 2 ^ 63 = omega (arith, lines, few, en, st.number_is) in
     let end = ends_line done in
@@ -71,8 +61,7 @@ after_line old mid new done start was is few st sh told es ec el en eb et =
       line_is = sh.line_is ∙ ap (λ (p : Parted). take 65536 p.open_line) (sym end);
       number_is = omega (arith, sh.number_is small, en, st.number_is, count);
       taken_is = omega (arith, sh.taken_is, et, st.taken_is, length-append done (10 ∷ []));
-      wrote = appends_then start was is st.text sh.text st.told st.wrote sh.wrote;
-      told = told ∙ st.told;
+      wrote = wrote_then start was is st.text sh.text st.wrote sh.wrote;
     }
 
 not_ten : (b : ℕ) → b ≢ 10 → (b == 10) ≡ false
@@ -82,10 +71,10 @@ not_ten b ne = go (b == 10) refl
     go true e = absurd (ne (grind (arith, nat_tests)))
     go false e = e
 
-pub after_byte : (old mid new : LogReader) (done : List ℕ) (b : ℕ) (start was : Option (List ℕ)) →
-    b ≢ 10 → Stands old done start was → KeepsByte mid new b →
+pub after_byte : {K : Type 0} {w : K → Option (List ℕ)} {f : K → ℕ} {t : K → ℕ → Type 0} (old mid new : LogReader) (done : List ℕ) (b : ℕ) (start was : K) →
+    b ≢ 10 → Stands w f t old done start was → KeepsByte mid new b →
     mid.standard ≡ old.standard → mid.cards.items ≡ old.cards.items → mid.line.items ≡ old.line.items → mid.number ≡ old.number → mid.bad ≡ old.bad → mid.taken ≡ old.taken + 1 →
-    Stands new (done ++ b ∷ []) start was
+    Stands w f t new (done ++ b ∷ []) start was
 after_byte old mid new done b start was ne st k es ec el en eb et =
     let on = goes_on done b (not_ten b ne) in
     record {
@@ -97,5 +86,4 @@ after_byte old mid new done b start was ne st k es ec el en eb et =
       number_is = k.number_is ∙ en ∙ st.number_is ∙ ap (λ (p : Parted). length p.lines + 1) (sym on);
       taken_is = omega (arith, k.taken_is, et, st.taken_is, length-append done (b ∷ []));
       wrote = st.wrote;
-      told = st.told;
     }

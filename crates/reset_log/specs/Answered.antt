@@ -1,6 +1,6 @@
 -- What is promised of a text that is written while its input comes: of whatever is the text of the
 -- input, and whether the input is at fault.
-use Rattle.std.specs.Prelude.{◌≡◌, ◌⊎◌, ℕ, Bool, List, Option, Result, Ok, Err, IfOk, alloc_error}
+use Rattle.std.specs.Prelude.{◌≡◌, ◌⊎◌, ℕ, Bool, List, length, Option, Result, Ok, Err, IfOk, alloc_error}
 use Rattle.std.specs.Io.KnownBytes.{Appends}
 use Rattle.io_edges.specs.Told.{AppendsStart}
 use Rattle.reset_log.specs.declared.stop.LogStop.{LogStop}
@@ -23,3 +23,8 @@ abbrev pub IsFront :
     (List ℕ → Bool → Type 0) → Option (List ℕ) → Option (List ℕ) → Type 0
 IsFront IsText old new =
     (text : List ℕ) (bad : Bool) → IsText text bad → AppendsStart old new text
+
+-- a sink that surely takes the text has no fault
+abbrev pub IsSure : (List ℕ → Bool → Type 0) → (ℕ → Type 0) → ℕ → ℕ → Type 0
+IsSure IsText surely_takes before after =
+    (text : List ℕ) (bad : Bool) → IsText text bad → surely_takes (length text) → after ≡ before

@@ -14,3 +14,4 @@ pub mod OneText
 pub mod Answered
 pub mod Cause
 pub mod codings
+pub mod Wrote

@@ -1,12 +1,12 @@
 //! Showing a log as it comes.
-ghost use Rattle.std.specs.Prelude.{◌≡◌, ◌≢◌, ◌↔◌, ◌<◌, ◌≤◌, ◌+◌, ◌++◌, ◌∷◌, [], ℕ, Bool, List, Option, length, OnOk, OnErr, IfOk, IfErr, IfSome, IsErr, IsErrOf, alloc_error};
+ghost use Rattle.std.specs.Prelude.{◌≡◌, ◌≢◌, ◌↔◌, ◌<◌, ◌≤◌, ◌+◌, ◌++◌, ◌∷◌, [], ℕ, Bool, List, length, OnOk, OnErr, IfOk, IfErr, IfSome, IsErr, IsErrOf, alloc_error};
 ghost use Rattle.std.specs.Io.KnownBytes.{IsAtEnd, Consumes};
 ghost use Rattle.io_edges.specs.Faults.{Rose};
-ghost use Rattle.io_edges.specs.Told.{StayTold, IfTold, TookOver};
-ghost use Rattle.reset_log.specs.codings.Going.{Stands, ShowsLine, KeepsByte, BreaksOff, Broke};
+ghost use Rattle.io_edges.specs.Told.{IfTold, TookOver};
+ghost use Rattle.reset_log.specs.codings.Going.{IsNew, Stands, ShowsLine, KeepsByte, BreaksOff, Broke, ShowsAll};
 ghost use Rattle.reset_log.specs.Cause.{StoppedWriting};
 ghost use Rattle.reset_log.specs.Log.{parted, lines_of, IsLogShown, AreWritten};
-ghost use Rattle.reset_log.specs.Answered.{IsExact, IsComplete, IsFront};
+ghost use Rattle.reset_log.specs.Answered.{IsExact, IsComplete, IsFront, IsSure};
 
 use crate::cards::Known;
 use crate::shown::show_line;
@@ -38,7 +38,7 @@ pub(crate) struct LogReader {
 impl LogReader {
     /// A reader that was given nothing.
     fn new(alloc: Global, standard: Standard) -> LogReader
-        ensures start { (told : Option (List ℕ)) → Stands result [] told told }
+        ensures start { IsNew result }
         ensures same { result.standard ≡ standard }
     {
         LogReader {
@@ -53,12 +53,11 @@ impl LogReader {
 
     /// Shows the line that is kept, and begins the next one.
     fn show<K: Sink>(&mut self, alloc: Global, sink: &mut K) -> Result<(), LogStop>
-        ensures ok { OnOk result
-            (ShowsLine self.old self.new (K.written sink.old) (K.written sink.new)) }
-        ensures part { OnErr result
-            (BreaksOff self.old (K.written sink.old) (K.written sink.new)) }
+        ensures ok { OnOk result (ShowsLine K.written K.faults K.surely_takes
+            self.old self.new sink.old sink.new) }
+        ensures part { OnErr result (BreaksOff K.written K.faults K.surely_takes
+            self.old sink.old sink.new) }
         ensures stops { IfErr result (StoppedWriting (K.faults sink.old) (K.faults sink.new)) }
-        ensures told { StayTold (K.written sink.old) (K.written sink.new) }
         ensures later { K.faults sink.old ≤ K.faults sink.new }
     {
         let shown = show_line(
@@ -91,12 +90,14 @@ impl LogReader {
 
     /// Takes a byte, and shows the line that it ends.
     fn take_byte<K: Sink>(&mut self, alloc: Global, byte: u8, sink: &mut K) -> Result<(), LogStop>
-        ensures ok { OnOk result ((done : List ℕ) (start : Option (List ℕ)) →
-            length done < 67108864 → Stands self.old done start (K.written sink.old) →
-            Stands self.new (done ++ byte ∷ []) start (K.written sink.new)) }
-        ensures part { OnErr result ((done : List ℕ) (start : Option (List ℕ)) →
-            length done < 67108864 → Stands self.old done start (K.written sink.old) →
-            Broke self.old.standard (parted (done ++ byte ∷ [])).lines start (K.written sink.new)) }
+        ensures ok { OnOk result ((done : List ℕ) (start : K) → length done < 67108864 →
+            Stands K.written K.faults K.surely_takes self.old done start sink.old →
+            Stands K.written K.faults K.surely_takes
+            self.new (done ++ byte ∷ []) start sink.new) }
+        ensures part { OnErr result ((done : List ℕ) (start : K) → length done < 67108864 →
+            Stands K.written K.faults K.surely_takes self.old done start sink.old →
+            Broke K.written K.faults K.surely_takes
+            self.old.standard (parted (done ++ byte ∷ [])).lines start sink.new) }
         ensures stops { IfErr result (StoppedWriting (K.faults sink.old) (K.faults sink.new)) }
         ensures same { OnOk result (self.new.standard ≡ self.old.standard) }
         ensures later { K.faults sink.old ≤ K.faults sink.new }
@@ -112,14 +113,15 @@ impl LogReader {
 
     /// Takes bytes, and shows the lines that they end.
     fn take<K: Sink>(&mut self, alloc: Global, bytes: &[u8], sink: &mut K) -> Result<(), LogStop>
-        ensures ok { OnOk result ((done : List ℕ) (start : Option (List ℕ)) →
+        ensures ok { OnOk result ((done : List ℕ) (start : K) →
             length done + length bytes.now ≤ 67108864 →
-            Stands self.old done start (K.written sink.old) →
-            Stands self.new (done ++ bytes.now) start (K.written sink.new)) }
-        ensures part { OnErr result ((done : List ℕ) (start : Option (List ℕ)) →
+            Stands K.written K.faults K.surely_takes self.old done start sink.old →
+            Stands K.written K.faults K.surely_takes self.new (done ++ bytes.now) start sink.new) }
+        ensures part { OnErr result ((done : List ℕ) (start : K) →
             length done + length bytes.now ≤ 67108864 →
-            Stands self.old done start (K.written sink.old) →
-            Broke self.old.standard (parted (done ++ bytes.now)).lines start (K.written sink.new)) }
+            Stands K.written K.faults K.surely_takes self.old done start sink.old →
+            Broke K.written K.faults K.surely_takes
+            self.old.standard (parted (done ++ bytes.now)).lines start sink.new) }
         ensures stops { IfErr result (StoppedWriting (K.faults sink.old) (K.faults sink.new)) }
         ensures same { OnOk result (self.new.standard ≡ self.old.standard) }
         ensures later { K.faults sink.old ≤ K.faults sink.new }
@@ -132,12 +134,14 @@ impl LogReader {
 
     /// Shows the last line where no line feed ended it, and says whether a line was at fault.
     fn finish<K: Sink>(&mut self, alloc: Global, sink: &mut K) -> Result<bool, LogStop>
-        ensures ok { IfOk result (λ bad. (done : List ℕ) (start : Option (List ℕ)) →
-            length done ≤ 67108864 → Stands self.old done start (K.written sink.old) →
-            AreWritten self.old.standard start (K.written sink.new) (lines_of done) bad) }
-        ensures part { OnErr result ((done : List ℕ) (start : Option (List ℕ)) →
-            length done ≤ 67108864 → Stands self.old done start (K.written sink.old) →
-            Broke self.old.standard (lines_of done) start (K.written sink.new)) }
+        ensures ok { IfOk result (λ bad. (done : List ℕ) (start : K) → length done ≤ 67108864 →
+            Stands K.written K.faults K.surely_takes self.old done start sink.old →
+            ShowsAll K.written K.faults K.surely_takes
+            self.old.standard (lines_of done) bad start sink.new) }
+        ensures part { OnErr result ((done : List ℕ) (start : K) → length done ≤ 67108864 →
+            Stands K.written K.faults K.surely_takes self.old done start sink.old →
+            Broke K.written K.faults K.surely_takes
+            self.old.standard (lines_of done) start sink.new) }
         ensures stops { IfErr result (StoppedWriting (K.faults sink.old) (K.faults sink.new)) }
         ensures later { K.faults sink.old ≤ K.faults sink.new }
     {
@@ -189,6 +193,10 @@ pub fn show_log<S: Source, K: Sink>(
         ¬ Rose (K.faults sink.old) (K.faults sink.new) → IfSome (S.left source.old) (λ log.
         length log ≤ 67108864 → IsComplete (IsLogShown standard (lines_of log)) result
         (K.written sink.old) (K.written sink.new)) }
+
+    // A sink that surely takes the text has no fault.
+    ensures sure { IfSome (S.left source.old) (λ log. IsSure (IsLogShown standard (lines_of log))
+        (K.surely_takes sink.old) (K.faults sink.old) (K.faults sink.new)) }
 {
     let mut reader = LogReader::new(alloc, standard);
     let mut buf = [0u8; PIECE];

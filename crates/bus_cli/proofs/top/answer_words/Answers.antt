@@ -1,4 +1,4 @@
-use Rattle.std.proofs.Common.{◌≡◌, ◌∙◌, inl, refl, sym, ap, Err}
+use Rattle.std.proofs.Common.{◌≡◌, ◌∙◌, inl, refl, sym, ap, Err, arith}
 use Rattle.bus_cli.specs.declared.form.Form.TheVariants.{Capture}
 use Rattle.bus_cli.specs.declared.form.CaptureForm.TheVariants.{Read}
 use Rattle.bus_cli.specs.codings.Reading.{status_with, text_with}
@@ -74,7 +74,7 @@ returns-in-Ok-write_whole-clause-sure g c =
     let asks = (c.in-Some.ensures c.in-Some.form).0 refl in
     let answers : Answers c.args.words.now told.0 _ _ = inl (c.in-Some.form, asks, told.2) in
     let sure = rw c.text.ensures at c.in-Ok-write_whole.ensures.sure in
-    taken_surely c.one_answer.ensures.one _ _ _ _ _ (g.K.Sink.surely_takes c.args.sink.now) _ told.1 answers (λ k. (sure k).1)
+    taken_surely c.one_answer.ensures.one _ _ _ _ _ (g.K.Sink.surely_takes c.args.sink.now) _ told.1 answers (λ k. (sure _ (omega arith) k).2)
 
 pub returns-clause-part : goal.returns-clause-part
 returns-clause-part g c = λ four.
@@ -89,7 +89,7 @@ returns-clause-sure g c =
     let asks = (c.in-Some.ensures c.in-Some.form).0 refl in
     let answers : Answers c.args.words.now told.0 _ _ = inl (c.in-Some.form, asks, told.2) in
     let sure = rw c.text.ensures at c.in-Err.ensures.sure in
-    taken_surely c.one_answer.ensures.one _ _ _ _ _ (g.K.Sink.surely_takes c.args.sink.now) _ told.1 answers (λ k. (sure k).1)
+    taken_surely c.one_answer.ensures.one _ _ _ _ _ (g.K.Sink.surely_takes c.args.sink.now) _ told.1 answers (λ k. (sure _ (omega arith) k).2)
 
 pub returns-in-Ok-write_whole-clause-answer : goal.returns-in-Ok-write_whole-clause-answer
 returns-in-Ok-write_whole-clause-answer g c = λ which.

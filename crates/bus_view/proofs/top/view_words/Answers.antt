@@ -107,14 +107,14 @@ returns-in-Ok-write_whole-clause-sure g c =
     let told = c.in-Ok.ensures.answer in
     let asks = (c.in-Some.ensures c.in-Some.form).0 refl in
     let sure = rw c.deref.ensures.value at c.in-Ok-write_whole.ensures.sure in
-    taken_surely c.one_view.ensures.one c.args.words.now _ told.0 c.in-Ok.view.text.items c.in-Ok.view.status (g.K.Sink.surely_takes c.args.sink.now) _ told.1 (viewed c.in-Some.form asks told.2) (λ k. (sure k).1)
+    taken_surely c.one_view.ensures.one c.args.words.now _ told.0 c.in-Ok.view.text.items c.in-Ok.view.status (g.K.Sink.surely_takes c.args.sink.now) _ told.1 (viewed c.in-Some.form asks told.2) (λ k. (sure _ (omega arith) k).2)
 
 pub returns-clause-sure : goal.returns-clause-sure
 returns-clause-sure g c =
     let told = c.in-Ok.ensures.answer in
     let asks = (c.in-Some.ensures c.in-Some.form).0 refl in
     let sure = rw c.deref.ensures.value at c.in-Err.ensures.sure in
-    taken_surely c.one_view.ensures.one c.args.words.now _ told.0 c.in-Ok.view.text.items c.in-Ok.view.status (g.K.Sink.surely_takes c.args.sink.now) _ told.1 (viewed c.in-Some.form asks told.2) (λ k. (sure k).1)
+    taken_surely c.one_view.ensures.one c.args.words.now _ told.0 c.in-Ok.view.text.items c.in-Ok.view.status (g.K.Sink.surely_takes c.args.sink.now) _ told.1 (viewed c.in-Some.form asks told.2) (λ k. (sure _ (omega arith) k).2)
 
 pub returns-in-Ok-write_whole-clause-too_long : goal.returns-in-Ok-write_whole-clause-too_long
 returns-in-Ok-write_whole-clause-too_long g c =

@@ -1,5 +1,9 @@
 use Rattle.nosy_dump.proofs.OneText.{one_text}
+use Rattle.nosy_dump.proofs.SomeText.{some_text}
 use Rattle.nosy_dump.proofs.laws.dumps_have_one_text.Goals as goal
 
-pub returns : goal.returns
-returns c = one_text
+pub returns-clause-one : goal.returns-clause-one
+returns-clause-one c = one_text
+
+pub returns-clause-some : goal.returns-clause-some
+returns-clause-some c = some_text

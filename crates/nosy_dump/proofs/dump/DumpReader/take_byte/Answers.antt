@@ -12,11 +12,11 @@ returns-then-not-is_size-clause-ok g c = λ done start few st.
       done ++ c.args.byte ∷ [],
       [],
       sym (append-nil (done ++ c.args.byte ∷ [])),
-      one_byte IsOpen (HasBadLength c.in-Some.size) c.args.self.now _ done c.args.byte start (g.K.Sink.written c.args.sink.now) st
+      one_byte IsOpen (HasBadLength c.in-Some.size) c.args.self.now _ done c.args.byte start c.args.sink.now st
           (rw (← c.deref.ensures.value) (sym c.size_of.ensures.size ∙ c.in-Some.is), sym c.is_size.ensures ∙ c.if-not-is_size.true) c.in_ok-push.ensures.items refl refl refl refl refl more,
     )
 
 pub returns-in_err-push-clause-part : goal.returns-in_err-push-clause-part
 returns-in_err-push-clause-part g c =
     on_err c.from_residual.result _ (λ done start few st.
-    broke_more c.args.self.now.standard done (c.args.byte ∷ []) start (g.K.Sink.written c.args.sink.now) (stood IsOpen c.args.self.now done start (g.K.Sink.written c.args.sink.now) st))
+    broke_more c.args.self.now.standard done (c.args.byte ∷ []) start c.args.sink.now (stood IsOpen c.args.self.now done start c.args.sink.now st))

@@ -1,10 +1,10 @@
-use Rattle.std.proofs.Common.{◌≡◌, ◌+◌, ◌≤◌, ℕ, List, Option, ◌++◌, length, take}
+use Rattle.std.proofs.Common.{◌≡◌, ◌+◌, ◌≤◌, ℕ, List, ◌++◌, length, take}
 use Rattle.reset_log.specs.codings.Going.{Stands}
 use Rattle.reset_log.proofs.log.LogReader.take.Given as goal
 
 abbrev pub invariant-loop-byte : goal.invariant-loop-byte
 invariant-loop-byte g l =
-    ((done : List ℕ) (start : Option (List ℕ)) → length done + length l.bytes ≤ 67108864 → Stands l.initial.self done start (g.K.Sink.written l.initial.sink) →
-    Stands l.self (done ++ take l.byte-index l.bytes) start (g.K.Sink.written l.sink))
+    ((done : List ℕ) (start : g.row.K.Denot) → length done + length l.bytes ≤ 67108864 → Stands g.K.Sink.written g.K.Sink.faults g.K.Sink.surely_takes l.initial.self done start l.initial.sink →
+    Stands g.K.Sink.written g.K.Sink.faults g.K.Sink.surely_takes l.self (done ++ take l.byte-index l.bytes) start l.sink)
     × (l.self.standard ≡ l.initial.self.standard)
     × (g.K.Sink.faults l.initial.sink ≤ g.K.Sink.faults l.sink)
