@@ -26,6 +26,8 @@ mod packets;
 #[cfg(test)]
 mod plans;
 #[cfg(test)]
+mod port_sets;
+#[cfg(test)]
 mod registers;
 #[cfg(test)]
 mod roms;

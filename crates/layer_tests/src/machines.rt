@@ -58,10 +58,11 @@ fn tick<M: PortMachine>(machine: &mut M, ticks: u16) -> Sends {
 // What port 0 hears, if anything, how many ticks pass then, and what the last of them sends there.
 type Step = (Option<Signal>, u16, [Option<Signal>; 2]);
 
+// The signal that was sent in this place, if it goes out on port 0.
 fn nth(out: &Sends, at: usize) -> Option<Signal> {
     match out.as_slice().get(at) {
-        Some(sent) => Some(sent.1),
-        None => None,
+        Some(sent) if sent.ports.has(0) => Some(sent.signal),
+        _ => None,
     }
 }
 
