@@ -6,6 +6,8 @@ pub use Rattle.cable_world.proofs.OneOutcome.{one-outcome, same-set}
 pub use Rattle.cable_world.proofs.Options.{none-some, some-and, some-at, some-of, some-same}
 -- Facts of phases, each of which holds phase by phase.
 pub use Rattle.cable_world.proofs.PhaseFacts.{start-before_tree, start-slack, start-timed}
+-- Times that suit a bus.
+pub use Rattle.cable_world.proofs.Times.{suits-cables, in-range-counted, in-range-suits, powered-in-range}
 -- Quiet turns, with holds placed between them: how they are counted, and what they keep.
 pub use Rattle.cable_world.proofs.QuietTurns.{after-cabling, holds-are-calls, holds-kept, holds-lawful, holds-signals, no-quiet, one-quiet, plain-quiet, plainly, quiet-first, quiet-lawful, quiet-reached, quiet-then, turns-cabling}
 -- Turns, holds and acts keep a world lawful, and so every world that comes of a power-on world is
@@ -41,7 +43,7 @@ pub use Rattle.cable_world.proofs.levels.LastSent.{child-if, choose, only, turne
 -- nodes, and cables delay by at most d turns. A node enters R0 because a neighbour did, at most d
 -- turns before. So the nodes that entered in the last turns form a chain, and there are no more of
 -- them than nodes.
-pub use Rattle.cable_world.proofs.resets.Entries.{Recent, after-delay, after-length, comes-from, hold-left, in-turn, steady}
+pub use Rattle.cable_world.proofs.resets.Entries.{Recent, after-delay, after-longest, after-length, comes-from, hold-left, in-turn, steady}
 -- A node that doesn't enter a reset counts none.
 pub use Rattle.cable_world.proofs.resets.ResetCounts.{turn-counts}
 -- Steps of single nodes between two turns, and when lists changed.
@@ -67,7 +69,7 @@ pub use Rattle.cable_world.proofs.tables.TablesInSteps.{HasEntry, not-replaced, 
 -- A turn keeps a world well formed.
 pub use Rattle.cable_world.proofs.tables.TablesInTurns.{turn-formed}
 -- A turn, node by node and wire by wire.
-pub use Rattle.cable_world.proofs.turns.ByNumber.{cabling-after, delay-after, node-after, nodes-after, sent-at, turns-counted, wire-after}
+pub use Rattle.cable_world.proofs.turns.ByNumber.{cabling-after, delay-after, longest-after, node-after, nodes-after, sent-at, turns-counted, wire-after}
 -- What is to be known of a node that hears a list of signals.
 pub use Rattle.cable_world.proofs.turns.HearsWell.{hear-came, hear-stays}
 -- What is to be known of a node's part of a turn: of the signals that it hears, and of the tick

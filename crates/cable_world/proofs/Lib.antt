@@ -21,6 +21,7 @@ pub mod resets
 pub mod worked
 pub mod running
 pub mod PhaseFacts
+pub mod Times
 pub mod Options
 pub mod OneProof
 pub mod StaysReached

@@ -62,9 +62,9 @@ HeedsReset x =
     (k : PortNumber) → is_connected x.view.ports k ≡ true → level_shown x k ≡ level.Reset →
     is_in_bus_reset x.view.phase ≡ true
 
--- the wait of a contention is long enough for a signal to go there and back
+-- the wait of a contention is longer than a signal's way there and back
 abbrev pub WaitsLong : ℕ → NodeState → Type 0
-WaitsLong d x = x.view.phase ≡ Contend → 3 * d ≤ x.view.wait
+WaitsLong d x = x.view.phase ≡ Contend → 2 * d < x.view.wait
 
 -- all nodes and all cables
 pub record IsCoupled (w : CableWorld) : Type 0 where

@@ -4,10 +4,10 @@ use Rattle.cabling.specs.declared.cable.End.{End}
 use Rattle.cabling.specs.Wiring.{IsCabling, far, ports_of}
 use Rattle.port_state.specs.declared.states.NodeState.{NodeState}
 use Rattle.port_state.specs.Ports.{is_connected}
-use Rattle.port_state.specs.Timing.{InRange}
 use Rattle.port_state.specs.Valid.{IsValid}
 use Rattle.port_state.specs.Machine.{PortNode}
 use Rattle.cable_world.specs.Wire.{Travelling, empty_wire}
+use Rattle.cable_world.specs.Times.{Suits}
 use Rattle.cable_world.specs.World.{CableWorld, wire_of}
 use Rattle.cable_world.specs.Agreement.{Agrees}
 use Rattle.cable_world.specs.Coupling.{IsCoupled}
@@ -20,7 +20,7 @@ AgesFall most (t ∷ ts) = (t.age ≤ most) × AgesFall t.age ts
 -- node number k fits the cables that it has
 pub record FitsCables (w : CableWorld) (k : ℕ) (x : NodeState) : Type 0 where
   pub valid : IsValid x
-  pub timing : InRange w.delay x.timing
+  pub timing : Suits w.delay w.longest x.timing
   pub ports : length (ports_of w.cabling k) ≡ x.ports
   pub wires : length (slice_index_or w.wires k []) ≡ x.ports
   pub connected :

@@ -1,5 +1,6 @@
 -- what there is
 pub mod Wire
+pub mod Times
 pub mod World
 pub mod Parts
 -- what happens

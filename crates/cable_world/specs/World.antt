@@ -3,15 +3,19 @@ use Rattle.std.specs.Prelude.{◌≡◌, ℕ, ◌≤◌, List, [], length, map, 
 use Rattle.cabling.specs.declared.cable.End.{End}
 use Rattle.cabling.specs.Wiring.{Wiring, far, without_cables}
 use Rattle.port_state.specs.PowerOn as power
+use Rattle.port_state.specs.declared.timing.Timing.{Timing}
 use Rattle.port_state.specs.Timing.{InRange}
 use Rattle.port_state.specs.Valid.{IsValid}
 use Rattle.port_state.specs.declared.states.NodeState.{NodeState}
 use Rattle.port_state.specs.Machine.{PortNode}
 use Rattle.cable_world.specs.Wire.{Wire, empty_wire}
+use Rattle.cable_world.specs.Times.{Suits, longest_in_range}
 
 pub record CableWorld : Type 0 where
   -- d: a cable delays a signal by at most so many turns
   pub delay : ℕ
+  -- no node has longer times
+  pub longest : Timing
   pub cabling : Wiring
   -- each node, by its number
   pub nodes : List PortNode
@@ -50,9 +54,10 @@ abbrev pub no_wires : PortNode → List Wire
 no_wires x = replicate x.state.ports empty_wire
 
 -- a world of these nodes, without cables, before its first turn
-abbrev pub world_of_nodes : ℕ → List PortNode → CableWorld
-world_of_nodes d nodes = record {
+abbrev pub world_with_times : ℕ → Timing → List PortNode → CableWorld
+world_with_times d longest nodes = record {
   delay = d;
+  longest = longest;
   cabling = without_cables (map (λ (x : PortNode). x.state.ports) nodes);
   nodes = nodes;
   wires = map no_wires nodes;
@@ -60,11 +65,21 @@ world_of_nodes d nodes = record {
   turns = 0;
 }
 
--- a node that was just powered on, with times that suit the cables
+-- the same, where the times of nodes are in their ranges
+abbrev pub world_of_nodes : ℕ → List PortNode → CableWorld
+world_of_nodes d nodes = world_with_times d (longest_in_range d) nodes
+
+-- a node that was just powered on, with times in their ranges
 pub record IsNodeAtPowerOn (d : ℕ) (x : NodeState) : Type 0 where
   pub is : x ≡ power.power_on x.ports x.attrs x.view.force x.timing
   pub valid : IsValid x
   pub timing : InRange d x.timing
+
+-- a node that was just powered on, with times that suit the bus
+pub record IsPowered (d : ℕ) (longest : Timing) (x : NodeState) : Type 0 where
+  pub is : x ≡ power.power_on x.ports x.attrs x.view.force x.timing
+  pub valid : IsValid x
+  pub timing : Suits d longest x.timing
 
 -- the power-on world: every node was just powered on, and there is no cable
 pub record IsPowerOnWorld (w : CableWorld) : Type 0 where
@@ -72,5 +87,6 @@ pub record IsPowerOnWorld (w : CableWorld) : Type 0 where
   pub short_delay : w.delay ≤ 16
   pub few_nodes : length w.nodes ≤ 63
   pub nodes :
-      (k : ℕ) (x : PortNode) → slice_get w.nodes k ≡ Some x → IsNodeAtPowerOn w.delay x.state
-  pub is : w ≡ world_of_nodes w.delay w.nodes
+      (k : ℕ) (x : PortNode) → slice_get w.nodes k ≡ Some x →
+      IsPowered w.delay w.longest x.state
+  pub is : w ≡ world_with_times w.delay w.longest w.nodes

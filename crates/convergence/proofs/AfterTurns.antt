@@ -2,6 +2,7 @@
 use Rattle.std.proofs.Common.{◌≡◌, ℕ, ◌+◌, ◌-◌, ◌*◌, ◌≤◌, Bool, true, Some, length, slice_get, refl, sym, ◌∙◌, ap, subst, arith}
 use Rattle.std.proofs.lemmas.Bool.{false_from_ne_true}
 use Rattle.convergence.proofs.Common.{End, Wiring, far, IsClosed, IsComponent, IsCore, Level, PortNode, CableWorld, turn, IsReached, level_sent_at, level_shown, IsLawful, cabling-after, after-delay, after-length, some-of, some-at, some-same, reached-lawful, quiet-then, quiet-lawful, after-cabling, HoldSchedule, quiet_after, holds_after, IsAcyclic, ResetsAreDone, TreesAreTaken, LoopsAreReported, TreesAreDecided, turns_to_done, turns_to_trees, turns_to_decision, contrary}
+use Rattle.cable_world.proofs.Lemmas.{after-longest}
 use Rattle.convergence.specs.Cables.{TellsAt, ShowsAt}
 use Rattle.convergence.specs.Turns.{tree_turns, loop_turns, decision_turns, turns_to_loops}
 use Rattle.convergence.specs.Kept.{IsGrown}
@@ -50,12 +51,7 @@ pub taken-after :
 taken-after hs w k l done late node set core whole is empty j x h at =
     let closed : IsClosed w.cabling set = subst (λ c. IsClosed c set) (after-cabling hs k w) whole.closed in
     let is_core : IsCore w.cabling set core = subst (λ c. IsCore c set core) (after-cabling hs k w) is in
-    all-taken hs w l done set core closed is_core empty k (enough (length w.nodes) w.delay k late) j x h at
-  where
-    enough : (n d k : ℕ) → d * (300 + n * n + 2 * n) ≤ k → 256 * d + n * d ≤ k
-    enough n d k h =
-        let parts : d * (300 + n * n + 2 * n) ≡ 300 * d + d * (n * n) + 2 * (n * d) = grind arith in
-        omega (arith, h, parts)
+    all-taken hs w l done set core closed is_core empty k late j x h at
 
 pub taken-turn :
     (w : CableWorld) → IsLawful w → ResetsAreDone w → TreesAreTaken w → TreesAreTaken (turn w)
@@ -101,13 +97,13 @@ module _ (hs : HoldSchedule) (w : CableWorld) (r : IsReached w) (first : ℕ) wh
   start-acyclic = quiet-acyclic hs first w lawful (reached-acyclic w r)
 
   same-tree : tree_turns start ≡ tree_turns w
-  same-tree = rw (after-length hs w lawful first, after-delay hs w lawful first) refl
+  same-tree = rw (after-length hs w lawful first, after-delay hs w lawful first, after-longest hs w lawful first) refl
 
   same-loop : loop_turns start ≡ loop_turns w
-  same-loop = rw (after-delay hs w lawful first) refl
+  same-loop = rw (after-longest hs w lawful first) refl
 
   same-decision : decision_turns start ≡ decision_turns w
-  same-decision = rw (after-length hs w lawful first, after-delay hs w lawful first) refl
+  same-decision = rw (after-length hs w lawful first, after-delay hs w lawful first, after-longest hs w lawful first) refl
 
   pub start-grown : turns_to_trees w ≤ first → TreesAreTaken start → IsGrown start
   start-grown late taken = record {

@@ -1,5 +1,5 @@
 -- What a node knows of the coins that it drew since its last reset.
-use Rattle.std.specs.Prelude.{◌≡◌, ◌⊎◌, ℕ, ◌+◌, ◌*◌, ◌<◌, ◌≤◌, Bool, true, min, nat_le}
+use Rattle.std.specs.Prelude.{◌≡◌, ◌⊎◌, ℕ, ◌+◌, ◌<◌, ◌≤◌, Bool, true, min, nat_le}
 use Rattle.std.specs.Int.{bit_at}
 use Rattle.port_state.specs.declared.signal.Phase.TheVariants.{Contend}
 use Rattle.port_state.specs.declared.states.NodeState.{NodeState}
@@ -8,9 +8,9 @@ use Rattle.cable_world.specs.Phases.{is_before_tree}
 
 -- ---- draws
 
--- the last coin, as the wait shows it: a short wait is at most 4d turns, a long one at least 8d
+-- the last coin, as the wait shows it
 abbrev pub last_coin : ℕ → NodeState → Bool
-last_coin d x = nat_le (8 * d) x.view.wait
+last_coin d x = nat_le x.timing.long x.view.wait
 
 -- a node drew its last coin after so many draws, of which the first were these
 pub record AddsDraw (d draws first : ℕ) (x : NodeState) : Type 0 where
@@ -39,7 +39,7 @@ pub record KnowsCoins (d : ℕ) (x : NodeState) : Type 0 where
   pub waits : x.view.phase ≡ Contend → x.view.timer < x.view.wait
   pub shows :
       x.view.phase ≡ Contend →
-      (x.view.wait ≤ 4 * d) ⊎ ((8 * d ≤ x.view.wait) × (x.view.wait ≤ 10 * d))
+      (x.view.wait ≡ x.timing.short) ⊎ (x.view.wait ≡ x.timing.long)
 
 -- ---- two nodes
 

@@ -1,5 +1,5 @@
 -- Nodes that drew coins, and pairs of them.
-use Rattle.std.specs.Prelude.{◌≡◌, ◌≢◌, ℕ, ◌+◌, ◌*◌, ◌≤◌, true, false, None, Some, slice_get}
+use Rattle.std.specs.Prelude.{◌≡◌, ◌≢◌, ℕ, ◌+◌, ◌≤◌, true, false, None, Some, slice_get}
 use Rattle.cabling.specs.declared.cable.End.{End}
 use Rattle.cabling.specs.NodeSet.{Holds}
 use Rattle.cabling.specs.Component.{IsComponent}
@@ -92,11 +92,11 @@ abbrev pub WinsOver : CableWorld → NodeNumber → NodeNumber → Type 0
 WinsOver w m n = (a : End) × (b : End) × (a.node ≡ m) × (b.node ≡ n) × HasWonAt w a b
 
 -- After resets are over, where two nodes of a component are in T3 with last coins 1 and 0, the
--- first has won 10 d turns later, and at each turn from there.
+-- first has won once the longest wait is over, and at each turn from there.
 abbrev pub LongWaitsWin : Type 0
 LongWaitsWin =
     (holds : HoldSchedule) (w : CableWorld) (k : ℕ) (node : NodeNumber) (set : NodeSet)
     (m n : NodeNumber) (i : ℕ) → IsReached w → turns_to_over w ≤ k →
     IsComponent (quiet_after holds k w).cabling node set → Holds set m → Holds set n → m ≢ n →
-    AreUnequal (quiet_after holds k w) m n → 10 * w.delay ≤ i →
+    AreUnequal (quiet_after holds k w) m n → w.longest.long ≤ i →
     WinsOver (quiet_after holds (k + i) w) m n

@@ -1,6 +1,6 @@
 -- What two nodes that have each other for parent, the rivals of a contention, know of each other's
 -- coins.
-use Rattle.std.specs.Prelude.{◌≡◌, ◌⊎◌, ℕ, ◌+◌, ◌-◌, ◌*◌, ◌≤◌, true, false, List, None, Some, slice_get}
+use Rattle.std.specs.Prelude.{◌≡◌, ◌⊎◌, ℕ, ◌+◌, ◌-◌, ◌≤◌, true, false, List, None, Some, slice_get}
 use Rattle.cabling.specs.declared.cable.End.{End}
 use Rattle.cabling.specs.Wiring.{far}
 use Rattle.port_state.specs.declared.signal.Level.TheVariants as level
@@ -32,7 +32,7 @@ pub record AsksAgain (d : ℕ) (x y : NodeState) (back : List Travelling) : Type
   pub coins :
       (last_coin d x ≡ last_coin d y)
       ⊎ ((last_coin d x ≡ true) × (last_coin d y ≡ false)
-      × AllAsOldAs (x.view.timer + 3 * d + 1 - x.view.wait) back)
+      × AllAsOldAs (x.view.timer + d + 1 - x.view.wait) back)
 
 -- Two rivals are both in T1 or T2, and drew the same coins;
 pub record AreAlike (x y : NodeState) : Type 0 where

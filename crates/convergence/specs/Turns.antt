@@ -11,21 +11,26 @@ use Rattle.cable_world.specs.Run.{IsReached}
 abbrev pub over_turns : CableWorld → ℕ
 over_turns w = length w.nodes * w.delay
 
--- then every node holds, and leaves R0 and R1: 100 d turns
+-- then every node holds, and leaves R0 and R1: as long as any node does
 abbrev pub done_turns : CableWorld → ℕ
-done_turns w = 100 * w.delay
+done_turns w = w.longest.hold + w.delay
 
--- then nodes wait to be forced, and take their roles one after the other: d (300 + n n + 2 n) turns
+-- then nodes wait to be forced, and take their roles one after the other
 abbrev pub tree_turns : CableWorld → ℕ
-tree_turns w = w.delay * (300 + length w.nodes * length w.nodes + 2 * length w.nodes)
+tree_turns w = w.longest.force + length w.nodes * w.delay
 
--- meanwhile a loop times out: 600 d turns
+-- meanwhile a loop times out
 abbrev pub loop_turns : CableWorld → ℕ
-loop_turns w = 600 * w.delay
+loop_turns w = w.longest.timeout + 1
 
--- then parents and children shake hands, and rivals contend: d (600 + n n + 2 n) turns
+-- a round of a contention: a wait, and two ways over the cable
+abbrev pub round_turns : CableWorld → ℕ
+round_turns w = w.longest.long + 2 * w.delay
+
+-- then parents and children shake hands, and rivals contend for 33 rounds and one more wait
 abbrev pub decision_turns : CableWorld → ℕ
-decision_turns w = w.delay * (600 + length w.nodes * length w.nodes + 2 * length w.nodes)
+decision_turns w =
+    12 * (length w.nodes * w.delay) + 33 * round_turns w + (w.longest.long + round_turns w) + 1
 
 -- ---- from the last act
 
@@ -43,6 +48,10 @@ turns_to_loops w = turns_to_done w + loop_turns w
 
 abbrev pub turns_to_decision : CableWorld → ℕ
 turns_to_decision w = turns_to_trees w + decision_turns w
+
+-- and then a tree comes to rest in 5 n d turns: 315 d are enough for 63 nodes
+abbrev pub turns_to_settle : CableWorld → ℕ
+turns_to_settle w = turns_to_decision w + loop_turns w + 315 * w.delay
 
 -- This holds after so many quiet turns of a world that comes of power-on, and at each turn from
 -- there, whatever holds are placed between them.

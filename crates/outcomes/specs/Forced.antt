@@ -89,7 +89,7 @@ pub record IsForced (w : CableWorld) (node : NodeNumber) (set : NodeSet) (root :
 
 -- by so many turns it is the root
 abbrev pub forced_turns : CableWorld → ℕ
-forced_turns w = 2 * (length w.nodes * w.delay) + 81 * w.delay
+forced_turns w = 2 * (length w.nodes * w.delay) + (w.longest.hold + w.delay)
 
 abbrev pub ForcedNodesBecomeRoots : Type 0
 ForcedNodesBecomeRoots =

@@ -8,7 +8,8 @@
 --   cable_world  World                 what a world is: nodes, cables, and signals on the wires
 --                Turn                  a turn of all nodes
 --                Act                   an act: a plug, a pull, a reset, a packet; and a hold
---                Run                   what is reached, and how many turns `quiet_turns` are
+--                Run                   what is reached
+--   convergence  Turns                 how many turns `turns_to_settle` are
 --   cabling      Component             the component of a node
 --                Looped, Sees          its core, and the tree that cables show from a root
 --   cable_world  Outcome               the three outcomes: a loop, a tree, a contention
@@ -16,8 +17,9 @@
 use Rattle.std.specs.Prelude.{◌<◌, ◌≤◌, List, length}
 use Rattle.cabling.specs.Component.{IsComponent}
 use Rattle.cable_world.specs.World.{CableWorld, NodeNumber, NodeSet}
-use Rattle.cable_world.specs.Run.{Event, Runs, IsReached, quiet_turns}
+use Rattle.cable_world.specs.Run.{Event, Runs, IsReached}
 use Rattle.cable_world.specs.Outcome.{IsSettled}
+use Rattle.convergence.specs.Turns.{turns_to_settle}
 use Rattle.outcomes.specs.Settled.{HasNoAct, turn_count}
 
 -- from the one world to the other no act came, and turns enough for so many nodes
@@ -25,7 +27,7 @@ pub record IsLeftAlone (w v : CableWorld) : Type 0 where
   pub events : List Event
   pub quiet : HasNoAct events
   pub run : Runs events w v
-  pub long : quiet_turns (length w.nodes) w.delay ≤ turn_count events
+  pub long : turns_to_settle w ≤ turn_count events
 
 -- each component has come to an outcome
 abbrev pub AllSettled : CableWorld → Type 0

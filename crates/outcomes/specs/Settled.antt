@@ -8,13 +8,13 @@ use Rattle.port_state.specs.Config.{gap_or}
 use Rattle.port_state.specs.Machine.{PortNode}
 use Rattle.cable_world.specs.World.{CableWorld, NodeNumber, NodeSet}
 use Rattle.cable_world.specs.Quiet.{HoldSchedule, quiet_after}
-use Rattle.cable_world.specs.Run.{Event, acts, holds, turns, Runs, IsReached, quiet_turns}
+use Rattle.cable_world.specs.Run.{Event, acts, holds, turns, Runs, IsReached}
 use Rattle.cable_world.specs.declared.act.Act.TheVariants.{Config}
 use Rattle.cable_world.specs.declared.act.Act.{Act}
 use Rattle.cable_world.specs.Act.{ActLeads, IsAct, act_fault}
 use Rattle.cable_world.specs.Outcome.{HasNoLoop, Shows, IsLoop, IsTree, IsSettled}
 use Rattle.convergence.specs.Milestones.{ResetsAreDone, AreIdentifying}
-use Rattle.convergence.specs.Turns.{turns_to_over, turns_to_loops}
+use Rattle.convergence.specs.Turns.{turns_to_settle, turns_to_over, turns_to_loops}
 use Rattle.outcomes.specs.Forced.{IsForced, IsNamedAlone, NamesRoot}
 
 -- in quiet turns a component with a loop comes to the outcome Loop, and stays there
@@ -32,13 +32,13 @@ abbrev pub EveryComponentSettles : Type 0
 EveryComponentSettles =
     (holds : HoldSchedule) (w : CableWorld) (k : ℕ) (node : NodeNumber) (set : NodeSet) →
     IsReached w → node < length w.nodes → IsComponent w.cabling node set →
-    quiet_turns (length w.nodes) w.delay ≤ k → IsSettled (quiet_after holds k w) set
+    turns_to_settle w ≤ k → IsSettled (quiet_after holds k w) set
 
 -- and no node is in R0 or R1 by then
 abbrev pub ResetsAreDoneByThen : Type 0
 ResetsAreDoneByThen =
     (holds : HoldSchedule) (w : CableWorld) (k : ℕ) → IsReached w →
-    quiet_turns (length w.nodes) w.delay ≤ k → ResetsAreDone (quiet_after holds k w)
+    turns_to_settle w ≤ k → ResetsAreDone (quiet_after holds k w)
 
 -- holds and turns, and no act
 abbrev pub HasNoAct : List Event → Type 0
@@ -59,14 +59,14 @@ abbrev pub EveryQuietRunSettles : Type 0
 EveryQuietRunSettles =
     (w v : CableWorld) (events : List Event) (node : NodeNumber) (set : NodeSet) →
     IsReached w → HasNoAct events → Runs events w v →
-    quiet_turns (length w.nodes) w.delay ≤ turn_count events → node < length w.nodes →
+    turns_to_settle w ≤ turn_count events → node < length w.nodes →
     IsComponent w.cabling node set → IsSettled v set
 
 -- what has an outcome after so many quiet turns has one still, whatever holds and turns follow
 abbrev pub ComponentsStaySettled : Type 0
 ComponentsStaySettled =
     (holds : HoldSchedule) (w v : CableWorld) (k : ℕ) (events : List Event) (node : NodeNumber)
-    (set : NodeSet) → IsReached w → quiet_turns (length w.nodes) w.delay ≤ k →
+    (set : NodeSet) → IsReached w → turns_to_settle w ≤ k →
     HasNoAct events → Runs events (quiet_after holds k w) v → node < length w.nodes →
     IsComponent w.cabling node set → IsSettled v set
 
@@ -84,7 +84,7 @@ abbrev pub ForcedRootsSettle : Type 0
 ForcedRootsSettle =
     (holds : HoldSchedule) (w : CableWorld) (k : ℕ) (node : NodeNumber) (set : NodeSet)
     (root : NodeNumber) →
-    IsReached w → IsForced w node set root → quiet_turns (length w.nodes) w.delay ≤ k →
+    IsReached w → IsForced w node set root → turns_to_settle w ≤ k →
     (t : Tree) × IsTree (quiet_after holds k w) set root t
 
 -- in a tree an ID names one node
@@ -100,7 +100,7 @@ ConfigsMoveRoots =
     (holds : HoldSchedule) (w v : CableWorld) (k : ℕ) (from : NodeNumber) (id : ℕ) (gap : Option ℕ)
     (set : NodeSet) (root : NodeNumber) → IsReached w →
     IsAct (Config from id true gap) → act_fault (Config from id true gap) w ≡ None →
-    NamesRoot w v from id gap set root → HasNoLoop w set → quiet_turns (length v.nodes) v.delay ≤ k →
+    NamesRoot w v from id gap set root → HasNoLoop w set → turns_to_settle v ≤ k →
     (t : Tree) × IsTree (quiet_after holds k v) set root t
 
 -- from n d turns on each node of the component has the gap count that the packet gave

@@ -39,7 +39,7 @@ pub turn-is :
     nodes ≡ map (λ (s : NodeStep). s.node) (turns_of table w.cabling w.nodes) →
     changed ≡ last_changes (w.turns + 1) w.nodes nodes w.changed →
     wires ≡ all_wires_after_sends (turns_of table w.cabling w.nodes) old →
-    world_record w.delay w.cabling nodes wires changed (w.turns + 1) ≡ turn w
+    record w { nodes = nodes; wires = wires; changed = changed; turns = w.turns + 1 } ≡ turn w
 unfolding turn
 turn-is w table nodes old wires changed t o n c v =
     let steps = turns-are w table t w.cabling w.nodes in

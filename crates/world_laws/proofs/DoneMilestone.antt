@@ -1,5 +1,5 @@
--- Where no quiet turn makes a node enter R0, holds end, and then waits: resets are done 100 d turns
--- later.
+-- Where no quiet turn makes a node enter R0, holds end, and then waits: resets are done after
+-- the longest hold and d turns.
 use Rattle.std.proofs.Common.{◌≡◌, inl, inr, ℕ, zero, suc, ◌+◌, ◌-◌, ◌*◌, ◌<◌, ◌≤◌, Bool, true, false, not, ◌&&◌, ◌||◌, Option, Some, None, is_some, slice_get, refl, sym, ◌∙◌, ap, subst, arith, true≢false}
 use Rattle.port_state.specs.declared.signal.Phase.{Phase}
 use Rattle.port_state.specs.declared.ports.PortView.{PortView}
@@ -14,13 +14,14 @@ use Rattle.port_state.specs.Valid.{IsValid}
 use Rattle.cabling.specs.declared.cable.End.{End}
 use Rattle.cabling.specs.Wiring.{Wiring, far}
 use Rattle.cabling.proofs.Lemmas.{end_at}
+use Rattle.cable_world.specs.Times.{Suits}
 use Rattle.cable_world.specs.World.{CableWorld, wire_of}
 use Rattle.cable_world.specs.Turn.{turn_at, turn, hear_all}
 use Rattle.cable_world.specs.Agreement.{level_sent, level_shown, shown_or_idle, leads_down, level_sent_at}
 use Rattle.cable_world.specs.Phases.{is_before_tree, is_after_hold, is_in_bus_reset, is_shaking}
 use Rattle.cable_world.specs.Coupling.{is_asking, Coupling}
 use Rattle.cable_world.specs.Lawful.{IsLawful}
-use Rattle.cable_world.proofs.Lemmas.{node-after, some-same, before, hears, in-turn, hold-left, steady, after-delay, child-if, cable-connected, late-roles, between-known, NoEntry, HearsWell, turn-state, one-quiet, quiet-then, quiet-lawful, after-cabling}
+use Rattle.cable_world.proofs.Lemmas.{node-after, some-same, before, hears, in-turn, hold-left, steady, after-delay, after-longest, child-if, cable-connected, late-roles, between-known, NoEntry, HearsWell, turn-state, one-quiet, quiet-then, quiet-lawful, after-cabling}
 use Rattle.world_laws.specs.DoneMilestone.{NeverEnters, EntriesEnd, NoEntryStays, DoneOnceNoneEnters}
 use Rattle.cable_world.specs.Quiet.{HoldSchedule, holds_after, with_holds, quiet_after}
 use Rattle.convergence.specs.Milestones.{NoneIn}
@@ -32,7 +33,7 @@ use Rattle.convergence.proofs.Lemmas.{Calmly, calmly, signals, heard_by, waiting
 hold-runs :
     (w : CableWorld) → IsLawful w → (k : ℕ) (x y : PortNode) → slice_get w.nodes k ≡ Some x →
     slice_get (turn w).nodes k ≡ Some y → is_resetting x.state.view.phase ≡ true →
-    is_resetting y.state.view.phase ≡ true → y.state.view.timer < 80 * w.delay
+    is_resetting y.state.view.phase ≡ true → y.state.view.timer < w.longest.hold
 hold-runs w l k x y at_x at_y was there =
     omega (arith, (in-turn w l k x y at_x at_y).rises was there, left, heard.timer, ap (λ (z : Timing). z.hold) h.timing, (l.well_formed.nodes k x at_x).timing.hold_most)
   where
@@ -46,7 +47,7 @@ hold-runs w l k x y at_x at_y was there =
     same = some-same (turn_at w k x).node y (sym (node-after w k x l.well_formed.count at_x) ∙ at_y)
 
     hold-most : (heard_by w k x).timing.hold ≤ 65535
-    hold-most = omega (arith, ap (λ (z : Timing). z.hold) (hears w k x l.well_formed at_x).timing, (l.well_formed.nodes k x at_x).timing.hold_most, l.well_formed.short_delay)
+    hold-most = omega (arith, ap (λ (z : Timing). z.hold) (hears w k x l.well_formed at_x).timing, (l.well_formed.nodes k x at_x).timing.hold_most, (l.well_formed.nodes k x at_x).timing.counted.hold)
 
     left : (heard_by w k x).view.timer + 1 < (heard_by w k x).timing.hold
     left =
@@ -90,9 +91,14 @@ module _
   all-risen zero = λ k x at r. omega arith
   all-risen (suc i) = subst (Risen (suc i)) (next i) (rises i (all-risen i))
 
-  -- 80 d turns later none is there
-  holds-over : (i : ℕ) → 80 * w.delay ≤ i → NoneIn is_resetting (quiet_after hs i w)
-  holds-over zero h = absurd (omega (arith, h, l.well_formed.some_delay))
+  -- after the longest hold none is there
+  longest-hold : (i : ℕ) → (quiet_after hs i w).longest.hold ≡ w.longest.hold
+  longest-hold i = ap (λ (t : Timing). t.hold) (after-longest hs w l i)
+
+  holds-over : (i : ℕ) → w.longest.hold ≤ i → NoneIn is_resetting (quiet_after hs i w)
+  holds-over zero h = λ k x at.
+      let fits : Suits (quiet_after hs zero w).delay (quiet_after hs zero w).longest x.state.timing = ((lawful-then zero).well_formed.nodes k x at).timing in
+      absurd (omega (arith, h, fits.hold_least, fits.hold_most, (lawful-then zero).well_formed.some_delay, longest-hold zero))
   holds-over (suc i) h = subst (NoneIn is_resetting) (next i) nobody
     where
       nobody : NoneIn is_resetting (turn (quiet_after hs i w))
@@ -102,7 +108,7 @@ module _
           go false e = refl
           go true e =
               let x = stayed i k y at e in
-              absurd (omega (arith, h, (in-turn (quiet_after hs i w) (lawful-then i) k x.0 y x.1 at).rises x.2 e, all-risen i k x.0 x.1 x.2, hold-runs (quiet_after hs i w) (lawful-then i) k x.0 y x.1 at x.2 e, after-delay hs w l i))
+              absurd (omega (arith, h, (in-turn (quiet_after hs i w) (lawful-then i) k x.0 y x.1 at).rises x.2 e, all-risen i k x.0 x.1 x.2, hold-runs (quiet_after hs i w) (lawful-then i) k x.0 y x.1 at x.2 e, longest-hold i))
 
 -- ---- R1
 
@@ -206,33 +212,33 @@ module _
           go None e = absurd (true≢false (sym on-first ∙ ((quiet-lawful hs i v l).well_formed.nodes k c.node c.at).connected q ∙ ap is_some e))
           go (Some a) e = ap is_calm (sym (same q)) ∙ shows-calm a q (sym (ap (λ (d : Wiring). far d (end_at k q)) (after-cabling hs i v)) ∙ e) (i + 1) late h h.0 h.1
 
--- ---- 100 d turns
+-- ---- the longest hold and d turns
 
 pub done-once-none : DoneOnceNoneEnters
 done-once-none hs w i l none late k x at = go (is_in_bus_reset x.state.view.phase) refl
   where
     rest : HoldSchedule
-    rest = holds_after (80 * w.delay) hs
+    rest = holds_after w.longest.hold hs
 
     start : CableWorld
-    start = quiet_after hs (80 * w.delay) w
+    start = quiet_after hs w.longest.hold w
 
-    m : IsLawful (quiet_after hs (80 * w.delay) w)
-    m = quiet-lawful hs (80 * w.delay) w l
+    m : IsLawful (quiet_after hs w.longest.hold w)
+    m = quiet-lawful hs w.longest.hold w l
 
-    calm : (j : ℕ) → NoneIn is_resetting (quiet_after (holds_after (80 * w.delay) hs) j (quiet_after hs (80 * w.delay) w))
+    calm : (j : ℕ) → NoneIn is_resetting (quiet_after (holds_after w.longest.hold hs) j (quiet_after hs w.longest.hold w))
     calm j =
-        let low : 80 * w.delay ≤ 80 * w.delay + j = omega arith in
-        subst (NoneIn is_resetting) (quiet-then hs (80 * w.delay) j w) (holds-over hs w l none (80 * w.delay + j) low)
+        let low : w.longest.hold ≤ w.longest.hold + j = omega arith in
+        subst (NoneIn is_resetting) (quiet-then hs w.longest.hold j w) (holds-over hs w l none (w.longest.hold + j) low)
 
     go : (b : Bool) → is_in_bus_reset x.state.view.phase ≡ b → b ≡ false
     go false e = refl
     go true e =
-        let j : ℕ = i - 80 * w.delay - 1 in
+        let j : ℕ = i - w.longest.hold - 1 in
         let some : 1 ≤ w.delay = l.well_formed.some_delay in
-        let z : i ≡ 80 * w.delay + (j + 1) = omega (arith, late, some) in
-        let is : quiet_after hs i w ≡ quiet_after rest (j + 1) start = ap (λ n. quiet_after hs n w) z ∙ quiet-then hs (80 * w.delay) (j + 1) w in
-        absurd (wait-ends rest start m calm k j (omega (arith, late, some, after-delay hs w l (80 * w.delay)))
+        let z : i ≡ w.longest.hold + (j + 1) = omega (arith, late, some) in
+        let is : quiet_after hs i w ≡ quiet_after rest (j + 1) start = ap (λ n. quiet_after hs n w) z ∙ quiet-then hs w.longest.hold (j + 1) w in
+        absurd (wait-ends rest start m calm k j (omega (arith, late, some, after-delay hs w l w.longest.hold))
         (x, ap (λ (u : CableWorld). slice_get u.nodes k) (sym is) ∙ at, e))
 
 -- ---- nobody enters

@@ -23,12 +23,14 @@ use Rattle.cable_world.specs.World.{CableWorld, IsNodeAtPowerOn, IsPowerOnWorld,
 use Rattle.cable_world.specs.Turn.{turn, turns_after}
 use Rattle.cable_world.specs.Act.{hold}
 use Rattle.cable_world.specs.Quiet.{no_holds, quiet_after}
-use Rattle.cable_world.specs.Run.{Event, acts, turns, Runs, quiet_turns}
+use Rattle.cable_world.specs.Run.{Event, acts, turns, Runs}
 use Rattle.cable_world.specs.Outcome.{Shows, IsTree}
 use Rattle.cable_world.proofs.Lemmas.{some-same, each-held, no-core, no-loop, attrs, at, after_plug, after_pull}
 use Rattle.outcomes.specs.Forced.{waits_due}
 use Rattle.world_laws.specs.Arrival.{heard_in}
 use Rattle.world_laws.specs.Freshness.{RunsAtOnce, HasOneWaiting}
+use Rattle.convergence.specs.Turns.{turns_to_settle}
+use Rattle.cable_world.proofs.Lemmas.{powered-in-range}
 use Rattle.world_laws.proofs.Freshness.{first-roots}
 
 -- with 3 ports, a link, S400 and no contender; forced or not
@@ -89,7 +91,7 @@ each-on (suc zero) x e = subst (λ (z : PortNode). IsNodeAtPowerOn 4 z.state) (s
 each-on (suc (suc k)) x e = absurd cc
 
 first-world : IsPowerOnWorld alone
-first-world = record { some_delay = omega arith; short_delay = omega arith; few_nodes = omega arith; nodes = each-on; is = refl }
+first-world = record { some_delay = omega arith; short_delay = omega arith; few_nodes = omega arith; nodes = λ k x e. powered-in-range 4 x.state (omega arith) (omega arith) (each-on k x e); is = refl }
 
 at-once : RunsAtOnce alone plugged (acts (Plug (at 0 0) (at 1 0)) ∷ [])
 at-once = record { run = (plugged, (tt, refl, refl), refl); no_turn = refl }
@@ -134,5 +136,5 @@ one-waits = record {
   };
 }
 
-pub second-is-root : (t : Tree) × IsTree (quiet_after no_holds (quiet_turns 2 4) plugged) 3 1 t
-second-is-root = first-roots no_holds alone plugged (acts (Plug (at 0 0) (at 1 0)) ∷ []) (quiet_turns 2 4) 0 3 1 first-world at-once one-waits (omega arith)
+pub second-is-root : (t : Tree) × IsTree (quiet_after no_holds (turns_to_settle plugged) plugged) 3 1 t
+second-is-root = first-roots no_holds alone plugged (acts (Plug (at 0 0) (at 1 0)) ∷ []) (turns_to_settle plugged) 0 3 1 first-world at-once one-waits (omega arith)

@@ -1,4 +1,4 @@
--- From the turn on after which nobody enters a reset, resets are done 100 d turns later.
+-- From the turn on after which nobody enters a reset, resets are done after the longest hold and d turns.
 use Rattle.std.specs.Prelude.{◌≡◌, ℕ, ◌+◌, ◌≤◌, false, Some, slice_get}
 use Rattle.port_state.specs.Heard.{is_resetting}
 use Rattle.port_state.specs.Machine.{PortNode}
@@ -30,7 +30,7 @@ NoEntryStays =
     (holds : HoldSchedule) (w : CableWorld) (k : ℕ) → NeverEnters holds w →
     NeverEnters (holds_after k holds) (quiet_after holds k w)
 
--- where it is so, no node is in R0 or R1 after 100 d turns
+-- where it is so, no node is in R0 or R1 after as many turns as the longest hold, and d
 abbrev pub DoneOnceNoneEnters : Type 0
 DoneOnceNoneEnters =
     (holds : HoldSchedule) (w : CableWorld) (k : ℕ) → IsLawful w → NeverEnters holds w →

@@ -6,12 +6,13 @@ use Rattle.cabling.specs.Component.{IsComponent}
 use Rattle.port_state.specs.Machine.{PortNode}
 use Rattle.cable_world.specs.World.{CableWorld, NodeNumber, NodeSet, IsPowerOnWorld}
 use Rattle.cable_world.specs.Quiet.{HoldSchedule, quiet_after}
-use Rattle.cable_world.specs.Run.{Event, acts, holds, turns, Runs, IsReached, quiet_turns}
+use Rattle.cable_world.specs.Run.{Event, acts, holds, turns, Runs, IsReached}
 use Rattle.cable_world.specs.Phases.{is_in_bus_reset}
 use Rattle.cable_world.specs.Fresh.{IsFresh}
 use Rattle.cable_world.specs.Outcome.{HasNoLoop, IsTree}
 use Rattle.outcomes.specs.Forced.{WaitsAlone}
 use Rattle.outcomes.specs.Settled.{turn_count}
+use Rattle.convergence.specs.Turns.{turns_to_settle}
 use Rattle.world_laws.specs.Touched.{Touches}
 
 -- a run before the next turn: acts, and perhaps holds
@@ -55,7 +56,7 @@ abbrev pub ActsMakeFreshOnceSettled : Type 0
 ActsMakeFreshOnceSettled =
     (holds : HoldSchedule) (w v : CableWorld) (n : ℕ) (events : List Event)
     (run : RunsAtOnce (quiet_after holds n w) v events) (node k : NodeNumber) (set : NodeSet) →
-    IsReached w → quiet_turns (length w.nodes) w.delay ≤ n → IsComponent v.cabling node set →
+    IsReached w → turns_to_settle w ≤ n → IsComponent v.cabling node set →
     Holds set k → IsTouchedIn k events (quiet_after holds n w) v run.run → IsFresh v set
 
 -- a component without loop of whose nodes one alone waits to become root
@@ -72,7 +73,7 @@ abbrev pub FreshRootsSettle : Type 0
 FreshRootsSettle =
     (holds : HoldSchedule) (w : CableWorld) (k : ℕ) (node : NodeNumber) (set : NodeSet)
     (root : NodeNumber) → IsReached w → IsFresh w set → HasOneWaiting w node set root →
-    quiet_turns (length w.nodes) w.delay ≤ k →
+    turns_to_settle w ≤ k →
     (t : Tree) × IsTree (quiet_after holds k w) set root t
 
 -- so does one that was cabled before the first turn
@@ -81,5 +82,5 @@ FirstRootsSettle =
     (holds : HoldSchedule) (s w : CableWorld) (events : List Event) (k : ℕ) (node : NodeNumber)
     (set : NodeSet) (root : NodeNumber) →
     IsPowerOnWorld s → RunsAtOnce s w events → HasOneWaiting w node set root →
-    quiet_turns (length w.nodes) w.delay ≤ k →
+    turns_to_settle w ≤ k →
     (t : Tree) × IsTree (quiet_after holds k w) set root t

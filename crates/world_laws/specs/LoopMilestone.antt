@@ -20,7 +20,7 @@ LoopsAreOut w =
 
 -- ---- laws
 
--- 600 d turns after resets are done, and at each turn from there
+-- the longest timeout after resets are done, and at each turn from there
 abbrev pub LoopsComeOutOnceDone : Type 0
 LoopsComeOutOnceDone =
     (holds : HoldSchedule) (w : CableWorld) (k : ℕ) → IsReached w → ResetsAreDone w →

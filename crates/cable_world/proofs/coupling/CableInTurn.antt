@@ -7,7 +7,7 @@ use Rattle.port_state.specs.declared.signal.Level.TheVariants as level
 use Rattle.port_state.specs.declared.signal.Phase.{Phase}
 use Rattle.port_state.specs.declared.signal.Phase.TheVariants as phase
 use Rattle.port_state.specs.declared.signal.Signal.{Signal}
-use Rattle.port_state.specs.Timing.{InRange}
+use Rattle.cable_world.specs.Times.{SuitsCables}
 use Rattle.port_state.specs.Ports.{is_parent, is_port}
 use Rattle.port_state.specs.Sends.{sent_on}
 use Rattle.port_state.specs.Heard.{is_resetting, hears_packets}
@@ -248,7 +248,7 @@ module _ (d : ℕ) (x y : Side) (j : Pair d x y) where
       still h b =
           let r : is_resetting x.node.view.phase ≡ true = j.coupled.reset b in
           let t : x.node.view.timer - slack x.node.view.phase ≤ d - 1 = reset-age (d - 1) (x.node.view.timer - slack x.node.view.phase) x.wire b (j.coupled.timed (start-timed x.node.view.phase r)) j.near.ages in
-          let i : InRange d (hearing x).state.timing = heard_timing d x j.near in
+          let i : SuitsCables d (hearing x).state.timing = heard_timing d x j.near in
           (j.near.ticks.holds (ap is_resetting h.phase ∙ r) (omega (arith, t, start-slack x.node.view.phase r, h.timer, i.hold_least, j.some_delay)) (hold_fits d x j.some_delay j.short_delay j.near)).0
 
 -- ---- facts that look at both sides

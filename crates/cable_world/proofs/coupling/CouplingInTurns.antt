@@ -15,6 +15,7 @@ use Rattle.cable_world.specs.Signals.{signals_of}
 use Rattle.cable_world.specs.Coupling.{Coupling, IsCoupled}
 use Rattle.cable_world.specs.Lawful.{AgesFall, FitsCables, IsWellFormed}
 use Rattle.cable_world.proofs.Options.{some-same}
+use Rattle.cable_world.proofs.Times.{suits-cables}
 use Rattle.cable_world.proofs.turns.ByNumber.{node-after, wire-after, nodes-after, cabling-after, delay-after}
 use Rattle.cable_world.specs.Turn.{hear_all}
 use Rattle.cable_world.proofs.turns.NodeFacts.{HearsWell, TicksWell}
@@ -68,7 +69,7 @@ pub ready :
     far w.cabling a ≡ Some b → slice_get w.nodes a.node ≡ Some x → Ready w.delay (side w a x)
 ready w a b x f c e at = record {
   valid = (f.nodes a.node x at).valid;
-  timing = (f.nodes a.node x at).timing;
+  timing = suits-cables w.delay w.longest x.state.timing (f.nodes a.node x at).timing;
   connected = cable-connected w a b x f e at;
   hears = hears w a.node x f at;
   ticks = ticks w a.node x f at;
@@ -133,6 +134,6 @@ pub turn-coupled :
     (w : CableWorld) → IsWellFormed w → LevelsAgree w → IsCoupled w → IsCoupled (turn w)
 turn-coupled w f l c = record {
   watches = λ k y e. let x = before w k y f e in rw (x.2, turn-state (inbox w 0 (ports_of w.cabling k)) x.0) (watches-turn (inbox w 0 (ports_of w.cabling k)) (coin x.0.coins) x.0.state (hears w k x.0 f x.1) (ticks w k x.0 f x.1) (c.watches k x.0 x.1));
-  waits = λ k y e. let x = before w k y f e in rw (x.2, turn-state (inbox w 0 (ports_of w.cabling k)) x.0, delay-after w) (waits-turn w.delay (inbox w 0 (ports_of w.cabling k)) (coin x.0.coins) x.0.state (f.nodes k x.0 x.1).timing (hears w k x.0 f x.1) (ticks w k x.0 f x.1) (c.waits k x.0 x.1));
+  waits = λ k y e. let x = before w k y f e in rw (x.2, turn-state (inbox w 0 (ports_of w.cabling k)) x.0, delay-after w) (waits-turn w.delay (inbox w 0 (ports_of w.cabling k)) (coin x.0.coins) x.0.state (suits-cables w.delay w.longest x.0.state.timing (f.nodes k x.0 x.1).timing) (hears w k x.0 f x.1) (ticks w k x.0 f x.1) (c.waits k x.0 x.1));
   cables = cables-after Coupling w f l c (λ x y j. coupled-turn w.delay x y j);
 }

@@ -6,7 +6,6 @@ use Rattle.port_state.specs.declared.signal.Phase.{Phase}
 use Rattle.port_state.specs.declared.signal.Phase.TheVariants as phase
 use Rattle.port_state.specs.declared.signal.Signal.{Signal}
 use Rattle.port_state.specs.declared.states.NodeState.{NodeState}
-use Rattle.port_state.specs.Timing.{InRange}
 use Rattle.port_state.specs.Ports.{is_connected, is_port}
 use Rattle.port_state.specs.Sends.{sent_on}
 use Rattle.port_state.specs.Step.{Step}
@@ -14,6 +13,7 @@ use Rattle.port_state.specs.Heard.{is_resetting}
 use Rattle.port_state.specs.Tick.{tick}
 use Rattle.port_state.specs.Valid.{HasNoRoles, HasRoles, FitsPhase, IsValid}
 use Rattle.cable_world.specs.Wire.{Travelling, new_signal, age_signal}
+use Rattle.cable_world.specs.Times.{SuitsCables}
 use Rattle.cable_world.specs.Agreement.{leads_down, level_sent_at}
 use Rattle.cable_world.specs.Phases.{is_before_tree, is_after_hold, is_shaking, is_timed, slack}
 use Rattle.cable_world.specs.Signals.{signals_of, has_reset, AllAsOldAs}
@@ -63,7 +63,7 @@ wire_after s = leftovers s ++ map new_signal (departures s)
 -- what is so of a side before the turn, and that no signal is too old after it
 pub record Ready (d : ℕ) (s : Side) : Type 0 where
   pub valid : IsValid s.node
-  pub timing : InRange d s.node.timing
+  pub timing : SuitsCables d s.node.timing
   pub connected : is_connected s.node.view.ports s.port ≡ true
   pub hears : HearsWell s.inbox s.node
   pub ticks : TicksWell s.coin (hearing s).state
@@ -148,8 +148,8 @@ tree_start-known d x e = between-known d x (ap is_after_hold e)
 pub risen-most : (t : ℕ) → risen t ≤ t + 1
 risen-most t = grind arith
 
-pub heard_timing : (d : ℕ) (x : Side) → Ready d x → InRange d (hearing x).state.timing
-heard_timing d x r = subst (InRange d) (sym r.hears.timing) r.timing
+pub heard_timing : (d : ℕ) (x : Side) → Ready d x → SuitsCables d (hearing x).state.timing
+heard_timing d x r = subst (SuitsCables d) (sym r.hears.timing) r.timing
 
 pub heard_connected :
     (d : ℕ) (x : Side) → Ready d x → is_connected (hearing x).state.view.ports x.port ≡ true
@@ -244,7 +244,7 @@ watches-turn signals coin x h t w k c s =
     t.watches k on (h.watches w k on) (sym (t.shown k) ∙ s)
 
 pub waits-turn :
-    (d : ℕ) (signals : List (ℕ × Signal)) (coin : Bool) (x : NodeState) → InRange d x.timing →
+    (d : ℕ) (signals : List (ℕ × Signal)) (coin : Bool) (x : NodeState) → SuitsCables d x.timing →
     HearsWell signals x → TicksWell coin (hear_all signals x).state → WaitsLong d x →
     WaitsLong d (tick coin (hear_all signals x).state).state
 waits-turn d signals coin x r h t w c = go h.cases (t.contend c)
@@ -255,14 +255,14 @@ waits-turn d signals coin x r h t w c = go h.cases (t.contend c)
     n : NodeState
     n = (tick coin m).state
 
-    range : InRange d m.timing
+    range : SuitsCables d m.timing
     range = rw h.timing r
 
     go :
         NoEntry x (hear_all signals x) ⊎ EntersReset x (hear_all signals x) →
         ((m.view.phase ≡ phase.Contend) × (n.view.parent ≡ m.view.parent) × (n.view.timer ≤ risen m.view.timer) × (n.view.wait ≡ m.view.wait))
         ⊎ ((n.view.timer ≡ 0) × ((n.view.wait ≡ m.timing.short) ⊎ (n.view.wait ≡ m.timing.long))) →
-        3 * d ≤ n.view.wait
+        2 * d < n.view.wait
     go (inl a) (inl z) = omega (arith, z.3, a.wait, w (sym a.phase ∙ z.0))
     go (inr a) (inl z) = absurd (start-contend m.view.phase (ap is_resetting a.phase) z.0)
     go o (inr z) = elim z.1 [ inl s ↦ omega (arith, s, range.short_least) | inr l ↦ omega (arith, l, range.long_least) ]

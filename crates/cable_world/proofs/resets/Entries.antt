@@ -31,7 +31,7 @@ use Rattle.cable_world.specs.Phases.{slack}
 use Rattle.cable_world.specs.Coupling.{Coupling}
 use Rattle.cable_world.specs.Lawful.{IsLawful}
 use Rattle.cable_world.proofs.Options.{some-same}
-use Rattle.cable_world.proofs.turns.ByNumber.{node-after, nodes-after, delay-after}
+use Rattle.cable_world.proofs.turns.ByNumber.{node-after, nodes-after, delay-after, longest-after}
 use Rattle.cable_world.proofs.QuietTurns.{no-quiet, one-quiet, quiet-lawful}
 use Rattle.cable_world.specs.Turn.{hear_all}
 use Rattle.cable_world.proofs.turns.NodeFacts.{NoEntry, EntersReset, HearsWell, TicksWell}
@@ -194,7 +194,7 @@ module _ (w : CableWorld) (l : IsLawful w) (k : ℕ) (x : PortNode) (at : slice_
   hold-least = rw heard-well.timing (l.well_formed.nodes k x at).timing.hold_least
 
   hold-most : heard.timing.hold ≤ 65535
-  hold-most = omega (arith, ap (λ (t : Timing). t.hold) heard-well.timing, (l.well_formed.nodes k x at).timing.hold_most, l.well_formed.short_delay)
+  hold-most = omega (arith, ap (λ (t : Timing). t.hold) heard-well.timing, (l.well_formed.nodes k x at).timing.hold_most, (l.well_formed.nodes k x at).timing.counted.hold)
 
   some_delay : 1 ≤ w.delay
   some_delay = l.well_formed.some_delay
@@ -402,6 +402,10 @@ module _ (hs : HoldSchedule) (w : CableWorld) (l : IsLawful w) where
   pub after-delay : (k : ℕ) → (later k).delay ≡ w.delay
   after-delay zero = ap (λ (v : CableWorld). v.delay) (no-quiet hs w)
   after-delay (suc k) = rw (← add-one, one-quiet hs k w) (delay-after (later k) ∙ after-delay k)
+
+  pub after-longest : (k : ℕ) → (later k).longest ≡ w.longest
+  after-longest zero = ap (λ (v : CableWorld). v.longest) (no-quiet hs w)
+  after-longest (suc k) = rw (← add-one, one-quiet hs k w) (longest-after (later k) ∙ after-longest k)
 
   pub after-length : (k : ℕ) → length (later k).nodes ≡ length w.nodes
   after-length zero = ap (λ (v : CableWorld). length v.nodes) (no-quiet hs w)

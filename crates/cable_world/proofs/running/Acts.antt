@@ -23,7 +23,6 @@ use Rattle.cable_world.specs.Act.{ActLeads, act_fault, node_fault, step_at, with
 use Rattle.cable_world.specs.running.ActEnds.{Ends}
 use Rattle.cable_world.specs.Lawful.{IsWellFormed}
 use Rattle.cable_world.specs.running.NodeActs.{note_both, note_step}
-use Rattle.cable_world.specs.Parts.{world_record}
 use Rattle.cable_world.proofs.Options.{some-at}
 use Rattle.cable_world.proofs.tables.TablesInSteps.{sent-length}
 use Rattle.cable_world.proofs.running.Acting.{told-lists}
@@ -124,24 +123,24 @@ cleared-long rows a b = put-long (put a empty_wire rows) b empty_wire ∙ put-lo
 pub plug-done :
     (w v : CableWorld) (a b : End) (c : Wiring) (cleared : List (List Wire)) → c ≡ put b (Some a) (put a (Some b) w.cabling) →
     cleared ≡ put b empty_wire (put a empty_wire w.wires) →
-    v ≡ note_both a.node (node_plugged a.port) b.node (node_plugged b.port) (world_record w.delay c w.nodes cleared w.changed w.turns) →
+    v ≡ note_both a.node (node_plugged a.port) b.node (node_plugged b.port) (record w { cabling = c; wires = cleared }) →
     v ≡ note_changes w (plug a b w)
 plug-done w v a b c cleared cables rows e =
     e
-    ∙ ap (λ k. note_both a.node (node_plugged a.port) b.node (node_plugged b.port) (world_record w.delay k w.nodes cleared w.changed w.turns)) cables
+    ∙ ap (λ k. note_both a.node (node_plugged a.port) b.node (node_plugged b.port) (record w { cabling = k; wires = cleared })) cables
     ∙ ap (λ r. note_both a.node (node_plugged a.port) b.node (node_plugged b.port)
-    (world_record w.delay (put b (Some a) (put a (Some b) w.cabling)) w.nodes r w.changed w.turns)) rows
+    (record w { cabling = put b (Some a) (put a (Some b) w.cabling); wires = r })) rows
 
 pub pull-done :
     (w v : CableWorld) (a b : End) (c : Wiring) (cleared : List (List Wire)) → far w.cabling a ≡ Some b → c ≡ put b None (put a None w.cabling) →
     cleared ≡ put b empty_wire (put a empty_wire w.wires) →
-    v ≡ note_both a.node (node_pulled a.port) b.node (node_pulled b.port) (world_record w.delay c w.nodes cleared w.changed w.turns) →
+    v ≡ note_both a.node (node_pulled a.port) b.node (node_pulled b.port) (record w { cabling = c; wires = cleared }) →
     v ≡ note_changes w (pull a w)
 pull-done w v a b c cleared joined cables rows e =
     e
-    ∙ ap (λ k. note_both a.node (node_pulled a.port) b.node (node_pulled b.port) (world_record w.delay k w.nodes cleared w.changed w.turns)) cables
+    ∙ ap (λ k. note_both a.node (node_pulled a.port) b.node (node_pulled b.port) (record w { cabling = k; wires = cleared })) cables
     ∙ ap (λ r. note_both a.node (node_pulled a.port) b.node (node_pulled b.port)
-    (world_record w.delay (put b None (put a None w.cabling)) w.nodes r w.changed w.turns)) rows
+    (record w { cabling = put b None (put a None w.cabling); wires = r })) rows
     ∙ sym (ap (λ o. note_changes w (pull_from a o w)) joined)
 
 pub config-done :

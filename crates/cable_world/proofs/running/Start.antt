@@ -8,6 +8,7 @@ use Rattle.cable_world.specs.Wire.{Wire, empty_wire}
 use Rattle.cable_world.specs.World.{IsNodeAtPowerOn, IsPowerOnWorld, no_wires, world_of_nodes}
 use Rattle.cable_world.specs.Parts.{world_record}
 use Rattle.cable_world.proofs.Options.{some-same}
+use Rattle.cable_world.proofs.Times.{powered-in-range}
 
 abbrev ports : PortNode → ℕ
 ports x = x.state.ports
@@ -57,4 +58,4 @@ start-is d n nodes counts c wires changed p cc_is w k long =
 
 pub power-on : (d : ℕ) (nodes : List PortNode) → 1 ≤ d → d ≤ 16 → length nodes ≤ 63 →
     Powered d nodes → IsPowerOnWorld (world_of_nodes d nodes)
-power-on d nodes one sixteen few h = record { some_delay = one; short_delay = sixteen; few_nodes = few; nodes = h; is = refl }
+power-on d nodes one sixteen few h = record { some_delay = one; short_delay = sixteen; few_nodes = few; nodes = λ k x e. powered-in-range d x.state one sixteen (h k x e); is = refl }

@@ -10,7 +10,8 @@ use Rattle.port_state.specs.Valid.{IsValid}
 use Rattle.port_state.specs.Machine.{PortNode}
 use Rattle.cable_world.proofs.Options.{none-some, some-same}
 use Rattle.cable_world.specs.Wire.{Wire, empty_wire}
-use Rattle.cable_world.specs.World.{CableWorld, wire_of, world_of_nodes, no_wires, IsNodeAtPowerOn, IsPowerOnWorld}
+use Rattle.port_state.specs.declared.timing.Timing.{Timing}
+use Rattle.cable_world.specs.World.{CableWorld, wire_of, world_with_times, no_wires, IsPowered, IsPowerOnWorld}
 use Rattle.cable_world.specs.Agreement.{Agrees}
 use Rattle.cable_world.specs.Lawful.{AgesFall, FitsCables, IsWellFormed}
 
@@ -78,13 +79,14 @@ few-ports (x ∷ nodes) h zero lt =
     subst FewPorts (sym (length-replicate x.state.ports None)) few
 few-ports (x ∷ nodes) h (suc k) lt = few-ports nodes (λ j y e. h (suc j) y e) k (omega arith)
 
-abbrev Powered : ℕ → List PortNode → Type 0
-Powered d nodes = (k : ℕ) (x : PortNode) → slice_get nodes k ≡ Some x → IsNodeAtPowerOn d x.state
+abbrev Powered : ℕ → Timing → List PortNode → Type 0
+Powered d longest nodes =
+    (k : ℕ) (x : PortNode) → slice_get nodes k ≡ Some x → IsPowered d longest x.state
 
 is-cabling :
-    (d : ℕ) (nodes : List PortNode) → length nodes ≤ 63 → Powered d nodes →
+    (d : ℕ) (longest : Timing) (nodes : List PortNode) → length nodes ≤ 63 → Powered d longest nodes →
     IsCabling (without_cables (map ports nodes))
-is-cabling d nodes few h =
+is-cabling d longest nodes few h =
     let c = map free (map ports nodes) in
     let valid : (k : ℕ) (x : PortNode) → slice_get nodes k ≡ Some x → IsValid x.state = λ k x e. (h k x e).valid in
     let size : length c ≡ length nodes = length-map (map ports nodes) free ∙ length-map nodes ports in
@@ -97,9 +99,9 @@ is-cabling d nodes few h =
     }
 
 fits :
-    (d : ℕ) (nodes : List PortNode) → Powered d nodes → (k : ℕ) (x : PortNode) →
-    slice_get nodes k ≡ Some x → FitsCables (world_of_nodes d nodes) k x.state
-fits d nodes h k x e =
+    (d : ℕ) (longest : Timing) (nodes : List PortNode) → Powered d longest nodes → (k : ℕ) (x : PortNode) →
+    slice_get nodes k ≡ Some x → FitsCables (world_with_times d longest nodes) k x.state
+fits d longest nodes h k x e =
     let on = h k x e in
     let views : x.state.view.ports ≡ replicate x.state.ports free_port = ap (λ (y : NodeState). y.view.ports) on.is in
     record {
@@ -111,34 +113,36 @@ fits d nodes h k x e =
     }
 
 -- no cable is there
-apart : (d : ℕ) (nodes : List PortNode) (a : End) → far (world_of_nodes d nodes).cabling a ≡ None
-apart d nodes a = no-far (map ports nodes) a.node a.port
+apart :
+    (d : ℕ) (longest : Timing) (nodes : List PortNode) (a : End) →
+    far (world_with_times d longest nodes).cabling a ≡ None
+apart d longest nodes a = no-far (map ports nodes) a.node a.port
 
 formed :
-    (d : ℕ) (nodes : List PortNode) → 1 ≤ d → d ≤ 16 → length nodes ≤ 63 → Powered d nodes →
-    IsWellFormed (world_of_nodes d nodes)
-formed d nodes one sixteen few h =
-    let w = world_of_nodes d nodes in
+    (d : ℕ) (longest : Timing) (nodes : List PortNode) → 1 ≤ d → d ≤ 16 → length nodes ≤ 63 →
+    Powered d longest nodes → IsWellFormed (world_with_times d longest nodes)
+formed d longest nodes one sixteen few h =
+    let w = world_with_times d longest nodes in
     let size : length w.cabling ≡ length nodes = length-map (map ports nodes) free ∙ length-map nodes ports in
     let calm : (a : End) → wire_of w a ≡ empty_wire = λ a. no-signal nodes a.node a.port in
     record {
       some_delay = one;
       short_delay = sixteen;
-      cabling = is-cabling d nodes few h;
+      cabling = is-cabling d longest nodes few h;
       count = sym size;
       wire_rows = length-map nodes no_wires ∙ sym size;
       changes = length-replicate (length nodes) 0 ∙ sym size;
-      nodes = fits d nodes h;
+      nodes = fits d longest nodes h;
       ages = λ a. subst (λ (v : Wire). AgesFall (d - 1) v.signals) (sym (calm a)) tt;
       unplugged = λ a e. calm a;
     }
 
 pub power-on-formed : (w : CableWorld) → IsPowerOnWorld w → IsWellFormed w
-power-on-formed w h = subst IsWellFormed (sym h.is) (formed w.delay w.nodes h.some_delay h.short_delay h.few_nodes h.nodes)
+power-on-formed w h = subst IsWellFormed (sym h.is) (formed w.delay w.longest w.nodes h.some_delay h.short_delay h.few_nodes h.nodes)
 
 -- a fact of each cable is so, since there is none
 pub power-on-apart : (w : CableWorld) → IsPowerOnWorld w → (a : End) → far w.cabling a ≡ None
-power-on-apart w h a = ap (λ (v : CableWorld). far v.cabling a) h.is ∙ apart w.delay w.nodes a
+power-on-apart w h a = ap (λ (v : CableWorld). far v.cabling a) h.is ∙ apart w.delay w.longest w.nodes a
 
 pub power-on-agrees : (w : CableWorld) → IsPowerOnWorld w → Agrees w
 power-on-agrees w h = record {

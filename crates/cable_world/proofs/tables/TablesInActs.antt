@@ -86,7 +86,7 @@ recabled-formed c a b w h ha hb is same =
       count = h.count ∙ sym size;
       wire_rows = length-set first b.node _ ∙ length-set w.wires a.node _ ∙ h.wire_rows ∙ sym size;
       changes = h.changes ∙ sym size;
-      nodes = λ k x e. fits-alike w (cabled w.cabling v) k x.state refl refl (put-lengths first b empty_wire k ∙ put-lengths w.wires a empty_wire k) (λ p. refl) (h.nodes k x e);
+      nodes = λ k x e. fits-alike w (cabled w.cabling v) k x.state refl refl refl (put-lengths first b empty_wire k ∙ put-lengths w.wires a empty_wire k) (λ p. refl) (h.nodes k x e);
       ages = λ e. elim (emptied c a b w h ha hb e) [
         | none_left z ↦ subst (λ (u : Wire). AgesFall (w.delay - 1) u.signals) (sym z) tt
         | left_alone na nb z ↦ subst (λ (u : Wire). AgesFall (w.delay - 1) u.signals) (sym z) (h.ages e)
@@ -195,7 +195,7 @@ told-formed set packet w bits h =
       wire_rows = h.wire_rows;
       changes = h.changes;
       nodes = λ k y e. elim (was set change 0 w.nodes k y e) [
-        | as_before at ↦ fits-alike w v k y.state refl refl refl (λ p. refl) (h.nodes k y at)
+        | as_before at ↦ fits-alike w v k y.state refl refl refl refl (λ p. refl) (h.nodes k y at)
         | altered x at is ↦
             let fits = h.nodes k x at in
             let new : FitsCables v k (change x).state = record {
@@ -232,7 +232,7 @@ noting-formed w u v e many h g =
       count = g.count;
       wire_rows = g.wire_rows;
       changes = length-changes w.turns w.nodes u.nodes w.changed ∙ h.changes ∙ size;
-      nodes = λ k x at. fits-alike u (note_changes w u) k x.state refl refl refl (λ p. refl) (g.nodes k x at);
+      nodes = λ k x at. fits-alike u (note_changes w u) k x.state refl refl refl refl (λ p. refl) (g.nodes k x at);
       ages = g.ages;
       unplugged = g.unplugged;
     } in
@@ -279,7 +279,7 @@ hold-formed end turns w none h =
       count = h.count;
       wire_rows = length-set w.wires end.node _ ∙ h.wire_rows;
       changes = h.changes;
-      nodes = λ k x at. fits-alike w v k x.state refl refl (put-lengths w.wires end held k) (λ p. refl) (h.nodes k x at);
+      nodes = λ k x at. fits-alike w v k x.state refl refl refl (put-lengths w.wires end held k) (λ p. refl) (h.nodes k x at);
       ages = λ e. elim (cases_end e end) [
         | inl is ↦ subst (λ (u : Wire). AgesFall (w.delay - 1) u.signals) (sym (ap (wire_of v) is ∙ put-same empty_wire w.wires end held there)) (h.ages end)
         | inr ne ↦ subst (λ (u : Wire). AgesFall (w.delay - 1) u.signals) (sym (other e ne)) (h.ages e)

@@ -14,13 +14,13 @@ use Rattle.port_state.specs.declared.states.NodeState.{NodeState}
 use Rattle.port_state.specs.Sound.{IsSound}
 use Rattle.port_state.specs.Ports.{is_connected}
 use Rattle.port_state.specs.Sends.{sent_on}
-use Rattle.port_state.specs.Timing.{InRange}
 use Rattle.port_state.specs.Valid.{IsBounded}
 use Rattle.port_state.specs.Machine.{PortNode, NodeStep}
 use Rattle.cable_world.proofs.turns.ByNumber.{sent-at}
 use Rattle.cable_world.proofs.Options.{none-some, some-same}
 use Rattle.cable_world.proofs.tables.Shape.{ages-sent, none-sent, silent}
 use Rattle.cable_world.specs.Wire.{Wire, empty_wire, add_signals}
+use Rattle.cable_world.specs.Times.{Suits}
 use Rattle.cable_world.specs.World.{CableWorld, wire_of, put}
 use Rattle.cable_world.specs.Turn.{wires_after_sends}
 use Rattle.cable_world.specs.Act.{put_step, step_at, with_step}
@@ -141,14 +141,14 @@ sent-nothing sends wires p none = elim (sent-or-none sends wires p) [
 
 -- a node fits another world with the same d, as many wires, and cables at the same ports
 pub fits-alike :
-    (w v : CableWorld) (k : ℕ) (x : NodeState) → v.delay ≡ w.delay →
+    (w v : CableWorld) (k : ℕ) (x : NodeState) → v.delay ≡ w.delay → v.longest ≡ w.longest →
     length (ports_of v.cabling k) ≡ length (ports_of w.cabling k) →
     length (slice_index_or v.wires k []) ≡ length (slice_index_or w.wires k []) →
     ((p : ℕ) → far v.cabling (record { node = k; port = p }) ≡ far w.cabling (record { node = k; port = p })) →
     FitsCables w k x → FitsCables v k x
-fits-alike w v k x delay ports wires cables h = record {
+fits-alike w v k x delay longest ports wires cables h = record {
   valid = h.valid;
-  timing = subst (λ d. InRange d x.timing) (sym delay) h.timing;
+  timing = subst (λ t. Suits v.delay t x.timing) (sym longest) (subst (λ d. Suits d w.longest x.timing) (sym delay) h.timing);
   ports = ports ∙ h.ports;
   wires = wires ∙ h.wires;
   connected = λ p. h.connected p ∙ sym (ap is_some (cables p));
@@ -235,7 +235,7 @@ stepped-formed c d k x s w h lengths others at f =
     let own : FitsCables (cabled c w) k x.state = h.nodes k x at in
     let new : FitsCables (cabled d v) k s.node.state = record {
       valid = f.sound.valid;
-      timing = subst (InRange w.delay) (sym f.sound.timing) own.timing;
+      timing = subst (Suits w.delay w.longest) (sym f.sound.timing) own.timing;
       ports = lengths k ∙ own.ports ∙ sym f.sound.ports;
       wires = row-same k ∙ own.wires ∙ sym f.sound.ports;
       connected = f.connected;
@@ -255,7 +255,7 @@ stepped-formed c d k x s w h lengths others at f =
             let is : s.node ≡ y = some-same s.node y (sym (replaced w.nodes k s.node inside) ∙ e-here) in
             subst (λ i. FitsCables (cabled d v) i y.state) (sym same) (subst (λ (z : PortNode). FitsCables (cabled d v) k z.state) is new)
         | inr ne ↦
-            fits-alike (cabled c w) (cabled d v) j y.state refl (lengths j) (row-same j) (λ p. others (record { node = j; port = p }) ne) (h.nodes j y (sym (not-replaced w.nodes k j s.node ne) ∙ e))
+            fits-alike (cabled c w) (cabled d v) j y.state refl refl (lengths j) (row-same j) (λ p. others (record { node = j; port = p }) ne) (h.nodes j y (sym (not-replaced w.nodes k j s.node ne) ∙ e))
       ];
       ages = λ a. elim (cases_eq a.node k) [
         | inl n ↦
@@ -296,7 +296,7 @@ step-formed c d k step w h lengths others f = go (slice_get w.nodes k) refl
       changes = h.changes;
       nodes = λ j x e.
           let ne : j ≢ k = λ same. none-some (slice_get w.nodes k) x at (subst (λ i. slice_get w.nodes i ≡ Some x) same e) in
-          fits-alike (cabled c w) (cabled d w) j x.state refl (lengths j) refl (λ p. others (record { node = j; port = p }) ne) (h.nodes j x e);
+          fits-alike (cabled c w) (cabled d w) j x.state refl refl (lengths j) refl (λ p. others (record { node = j; port = p }) ne) (h.nodes j x e);
       ages = h.ages;
       unplugged = h.unplugged;
     }

@@ -23,7 +23,7 @@ use Rattle.cable_world.specs.World.{CableWorld, wire_of}
 use Rattle.cable_world.specs.Turn.{step_then, hear_all, node_turn, node_turns, turn_at, inbox, all_wires_after_sends, last_changes, turn}
 use Rattle.cable_world.specs.Lawful.{AgesFall, FitsCables, IsWellFormed}
 use Rattle.cable_world.proofs.Options.{some-same}
-use Rattle.cable_world.proofs.turns.ByNumber.{node-after, wire-after, row-after, nodes-after, cabling-after, delay-after}
+use Rattle.cable_world.proofs.turns.ByNumber.{node-after, wire-after, row-after, nodes-after, cabling-after, delay-after, longest-after}
 use Rattle.cable_world.proofs.tables.TablesInSteps.{sent-length}
 use Rattle.cable_world.proofs.tables.Shape.{ages-sent, none-sent, silent}
 
@@ -205,7 +205,7 @@ node-fits w k x f e =
     let s : Steady x.state (step_of (turn_at w k x)) = steady-at w k x f e in
     record {
       valid = s.valid;
-      timing = rw (delay-after w, s.timing) fits.timing;
+      timing = rw (delay-after w, longest-after w, s.timing) fits.timing;
       ports = rw (cabling-after w) (fits.ports ∙ sym s.ports);
       wires = row-length w k x f.count e ∙ fits.wires ∙ sym s.ports;
       connected = λ p. rw (cabling-after w) (s.cables p ∙ fits.connected p);

@@ -117,6 +117,10 @@ pub delay-after : (w : CableWorld) → (turn w).delay ≡ w.delay
 unfolding turn
 delay-after w = refl
 
+pub longest-after : (w : CableWorld) → (turn w).longest ≡ w.longest
+unfolding turn
+longest-after w = refl
+
 pub turns-counted : (w : CableWorld) → (turn w).turns ≡ w.turns + 1
 unfolding turn
 turns-counted w = refl

@@ -20,6 +20,7 @@ use Rattle.cable_world.specs.Outcome.{Shows}
 use Rattle.cable_world.specs.Fresh.{IsFresh}
 use Rattle.cable_world.proofs.worked.Summary.{node_of, attrs, at, after_plug, after_pull}
 use Rattle.cable_world.proofs.Options.{some-same}
+use Rattle.cable_world.proofs.Times.{powered-in-range}
 use Rattle.cable_world.proofs.worked.Settled.{each-held}
 use Rattle.cable_world.proofs.worked.TwoNodes as pair
 use Rattle.cable_world.proofs.worked.Desk as desk
@@ -85,7 +86,7 @@ reached-first :
 reached-first nodes a few = record {
   start = world_of_nodes 4 nodes;
   events = [];
-  power_on = record { some_delay = omega arith; short_delay = omega arith; few_nodes = few; nodes = all-at nodes a; is = refl };
+  power_on = record { some_delay = omega arith; short_delay = omega arith; few_nodes = few; nodes = λ k x e. powered-in-range 4 x.state (omega arith) (omega arith) (all-at nodes a k x e); is = refl };
   run = refl;
 }
 

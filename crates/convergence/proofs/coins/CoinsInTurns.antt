@@ -5,7 +5,7 @@ use Rattle.std.specs.Prelude.{min, nat_le}
 use Rattle.convergence.proofs.Common.{Phase, Signal, Timing, NodeState, raise_timer, tick, is_before_tree, hear_all, NoEntry, HearsWell, TicksWell, KnowsCoins, contrary}
 use Rattle.convergence.proofs.turns.PhaseFacts.{contend-shake}
 use Rattle.port_state.specs.declared.signal.Phase.TheVariants as phase
-use Rattle.port_state.specs.Timing.{InRange}
+use Rattle.cable_world.specs.Times.{SuitsCables}
 use Rattle.convergence.proofs.turns.Moves.{Drew, Fought, tick-draws, tick-contending, tick-fought, tick-late}
 
 pub zero-or : (n : ℕ) → (n ≡ 0) ⊎ (1 ≤ n)
@@ -13,20 +13,19 @@ zero-or n = grind arith
 
 -- the wait shows the coin
 pub drawn-coin :
-    (d : ℕ) (t : Timing) (c : Bool) → 1 ≤ d → InRange d t → nat_le (8 * d)
+    (d : ℕ) (t : Timing) (c : Bool) → 1 ≤ d → SuitsCables d t → nat_le t.long
     (if c then t.long else t.short) ≡ c
-drawn-coin d t true o i = let l : 8 * d ≤ t.long = i.long_least in grind (arith, l)
-drawn-coin d t false o i = let l : t.short ≤ 4 * d = i.short_most in grind (arith, l, o)
+drawn-coin d t true o i = let l : t.long ≤ t.long = omega arith in grind (arith, l)
+drawn-coin d t false o i = let l : t.short + 2 * d ≤ t.long = i.apart in grind (arith, l, o)
 
 pub drawn-wait :
-    (d : ℕ) (t : Timing) (n : ℕ) → InRange d t → (n ≡ t.short) ⊎ (n ≡ t.long) → (3 * d ≤ n)
-    × ((n ≤ 4 * d) ⊎ ((8 * d ≤ n) × (n ≤ 10 * d)))
-drawn-wait d t n i (inl s) = (omega (arith, s, i.short_least), inl (omega (arith, s, i.short_most)))
-drawn-wait d t n i (inr s) = (omega (arith, s, i.long_least), inr (omega (arith, s, i.long_least), omega (arith, s, i.long_most)))
+    (d : ℕ) (t : Timing) (n : ℕ) → SuitsCables d t → (n ≡ t.short) ⊎ (n ≡ t.long) → 2 * d < n
+drawn-wait d t n i (inl s) = omega (arith, s, i.short_least)
+drawn-wait d t n i (inr s) = omega (arith, s, i.long_least)
 
 module _
     (d : ℕ) (signals : List (ℕ × Signal)) (coin : Bool) (x : NodeState) (o : 1 ≤ d)
-    (i : InRange d x.timing) (h : HearsWell signals x)
+    (i : SuitsCables d x.timing) (h : HearsWell signals x)
     (t : TicksWell coin (hear_all signals x).state) (k : KnowsCoins d x) where
   abbrev m : NodeState
   m = (hear_all signals x).state
@@ -34,8 +33,8 @@ module _
   abbrev n : NodeState
   n = (tick coin m).state
 
-  range : InRange d m.timing
-  range = subst (InRange d) (sym h.timing) i
+  range : SuitsCables d m.timing
+  range = subst (SuitsCables d) (sym h.timing) i
 
   -- after hearing
   heard-fresh : is_before_tree m.view.phase ≡ true → m.view.draws ≡ 0
@@ -57,14 +56,18 @@ module _
   record InContend (z : NodeState) : Type 0 where
     drawn : 1 ≤ z.view.draws
     waits : z.view.timer < z.view.wait
-    shows : (z.view.wait ≤ 4 * d) ⊎ ((8 * d ≤ z.view.wait) × (z.view.wait ≤ 10 * d))
+    shows : (z.view.wait ≡ z.timing.short) ⊎ (z.view.wait ≡ z.timing.long)
 
   after-contend : n.view.phase ≡ phase.Contend → InContend n
   after-contend c = elim (tick-contending coin m c) [
     | inl was ↦ elim h.cases [ inl s ↦ on s (sym s.phase ∙ was) (tick-fought coin m h.valid was) | inr b ↦ absurd (start m.view.phase was b.phase) ]
     | inr e ↦
         let w = drawn-wait d m.timing n.view.wait range (either coin e.wait) in
-        record { drawn = some e.draws; waits = omega (arith, e.timer, w.0, o); shows = w.1 }
+        record {
+          drawn = some e.draws;
+          waits = omega (arith, e.timer, w, o);
+          shows = subst (λ (s : Timing). (n.view.wait ≡ s.short) ⊎ (n.view.wait ≡ s.long)) (sym t.timing) (either coin e.wait);
+        }
   ]
     where
       clash : (f : Phase) → f ≡ phase.Contend → f ≡ phase.ChildShake → ⊥
@@ -90,7 +93,7 @@ module _
         | inr e ↦ record {
           drawn = omega (arith, e.draws, s.draws, k.drawn was);
           waits = omega (arith, w.timer, w.not_yet, e.wait);
-          shows = subst (λ z. (z ≤ 4 * d) ⊎ ((8 * d ≤ z) × (z ≤ 10 * d))) (sym (e.wait ∙ s.wait)) (k.shows was);
+          shows = subst (λ (r : Timing). (n.view.wait ≡ r.short) ⊎ (n.view.wait ≡ r.long)) (sym (t.timing ∙ h.timing)) (subst (λ z. (z ≡ x.timing.short) ⊎ (z ≡ x.timing.long)) (sym (e.wait ∙ s.wait)) (k.shows was));
         }
       ]
       on s was (inr (inl w)) = absurd (clash n.view.phase c w.phase)

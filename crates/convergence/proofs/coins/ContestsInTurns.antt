@@ -346,7 +346,7 @@ module _ (d : ℕ) (x y : Side) (r : Rivals d x y) where
           uy : is_port y.node.view.parent y.port ≡ true
           uy = up (leads_down y.node.view.ports y.port) refl
 
-          over : (x.node.view.wait ≤ x.node.view.timer + 1) × (3 * d ≤ x.node.view.timer + 1)
+          over : (x.node.view.wait ≤ x.node.view.timer + 1) × (2 * d ≤ x.node.view.timer)
           over = over-timer d x y r ux uy hx t o
 
           long : d ≤ x.node.view.timer
@@ -474,7 +474,7 @@ module _ (d : ℕ) (x y : Side) (r : Rivals d x y) where
       uy : is_port y.node.view.parent y.port ≡ true
       uy = up (leads_down y.node.view.ports y.port) refl
 
-      over : (x.node.view.wait ≤ x.node.view.timer + 1) × (3 * d ≤ x.node.view.timer + 1)
+      over : (x.node.view.wait ≤ x.node.view.timer + 1) × (2 * d ≤ x.node.view.timer)
       over = over-timer d x y r ux uy hx t o
 
       long : d ≤ x.node.view.timer

@@ -3,6 +3,7 @@ use Rattle.std.proofs.Common.{◌≡◌, ◌⊎◌, inl, inr, ℕ, ◌+◌, ◌-
 use Rattle.std.specs.Prelude.{min, nat_le}
 use Rattle.std.proofs.lemmas.Bool.{eq-eqb, false_from_ne_true}
 use Rattle.convergence.proofs.Common.{Level, Phase, NodeState, draws_with, is_parent, is_child, is_port, is_resetting, hears_packets, raise_timer, Travelling, level_sent, level_shown, leads_down, level_after, level_sent_at, AgesFall, signals_of, has_reset, is_before_tree, is_shaking, child-if, NoEntry, Side, hearing, ticking, late-roles, start-before_tree, heard_shown, came, last_coin, AddsDraw, DrewTogether, KnowsCoins, Contests, AreRivals, contrary}
+use Rattle.port_state.specs.declared.timing.Timing.{Timing}
 use Rattle.port_state.specs.declared.signal.Level.TheVariants as level
 use Rattle.port_state.specs.declared.signal.Phase.TheVariants as phase
 use Rattle.cable_world.specs.Signals.{AllAsOldAs}
@@ -20,9 +21,12 @@ pub record Rivals (d : ℕ) (x y : Side) : Type 0 where
   pub other : KnowsCoins d y.node
   pub here : Contests d x.node x.port x.wire y.node y.port y.wire
   pub there : Contests d y.node y.port y.wire x.node x.port x.wire
+  -- a long wait of the one is longer than a short one of the other
+  pub waits : y.node.timing.short + 2 * d ≤ x.node.timing.long
+  pub waits_back : x.node.timing.short + 2 * d ≤ y.node.timing.long
 
 pub swapped : (d : ℕ) (x y : Side) → Rivals d x y → Rivals d y x
-swapped d x y r = record { pair = turned-round d x y r.pair; near = r.other; other = r.near; here = r.there; there = r.here }
+swapped d x y r = record { pair = turned-round d x y r.pair; near = r.other; other = r.near; here = r.there; there = r.here; waits = r.waits_back; waits_back = r.waits }
 
 -- ---- the two turned round
 
@@ -184,18 +188,21 @@ module _ (d : ℕ) (x y : Side) (r : Rivals d x y) where
       NoEntry was (hearing x) → Drew x.coin mid now →
       AddsDraw d was.view.draws was.view.first_draws now
   adds-draw h w =
-      let c : last_coin d now ≡ x.coin = ap (nat_le (8 * d)) w.wait ∙ drawn-coin d mid.timing x.coin j.some_delay (heard_timing d x j.near) in
+      let c : last_coin d now ≡ x.coin = ap (λ (t : Timing). nat_le t.long now.view.wait) j.near.ticks.timing ∙ ap (nat_le mid.timing.long) w.wait ∙ drawn-coin d mid.timing x.coin j.some_delay (heard_timing d x j.near) in
       record {
         count = w.draws ∙ ap (λ n. min (n + 1) 65535) h.draws;
         coins = w.first_draws ∙ ap (λ n. draws_with x.coin n mid.view.first_draws) h.draws ∙ ap (draws_with x.coin was.view.draws) h.first_draws ∙ ap (λ b. draws_with b was.view.draws was.view.first_draws) (sym c);
       }
 
-  -- what a node drew before stays drawn
-  pub adds-still : DrewNone was now → (n f : ℕ) → AddsDraw d n f was → AddsDraw d n f now
-  adds-still s n f a = record { count = s.draws ∙ a.count; coins = s.first_draws ∙ a.coins ∙ ap (λ w. draws_with (nat_le (8 * d) w) n f) (sym s.wait) }
+  timing-still : now.timing ≡ was.timing
+  timing-still = j.near.ticks.timing ∙ j.near.hears.timing
 
   pub coin-still : DrewNone was now → last_coin d now ≡ last_coin d was
-  coin-still s = ap (nat_le (8 * d)) s.wait
+  coin-still s = ap (λ (t : Timing). nat_le t.long now.view.wait) timing-still ∙ ap (nat_le was.timing.long) s.wait
+
+  -- what a node drew before stays drawn
+  pub adds-still : DrewNone was now → (n f : ℕ) → AddsDraw d n f was → AddsDraw d n f now
+  adds-still s n f a = record { count = s.draws ∙ a.count; coins = s.first_draws ∙ a.coins ∙ ap (λ b. draws_with b n f) (sym (coin-still s)) }
 
 -- ---- one end hears what the other told
 

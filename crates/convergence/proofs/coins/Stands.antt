@@ -27,15 +27,15 @@ same-coins d x y t e = record {
   first_draws = t.here.coins ∙ ap (λ b. draws_with b t.draws t.first) e ∙ sym t.there.coins;
 }
 
-pub coin-long : (d : ℕ) (x : NodeState) → last_coin d x ≡ true → 8 * d ≤ x.view.wait
+pub coin-long : (d : ℕ) (x : NodeState) → last_coin d x ≡ true → x.timing.long ≤ x.view.wait
 coin-long d x e = leb-true _ _ e
 
 pub coin-short :
     (d : ℕ) (x : NodeState) → KnowsCoins d x → x.view.phase ≡ phase.Contend →
-    last_coin d x ≡ false → x.view.wait ≤ 4 * d
-coin-short d x k c e = elim (k.shows c) [ inl s ↦ s | inr l ↦ absurd (clash l.0) ]
+    last_coin d x ≡ false → x.view.wait ≤ x.timing.short
+coin-short d x k c e = elim (k.shows c) [ inl s ↦ omega (arith, s) | inr l ↦ absurd (clash (omega (arith, l))) ]
   where
-    clash : 8 * d ≤ x.view.wait → ⊥
+    clash : x.timing.long ≤ x.view.wait → ⊥
     clash l = grind (arith, l, e)
 
 -- ---- before the turn
@@ -76,7 +76,7 @@ module _
   pub over-timer :
       NoEntry x.node (hearing x) → x.node.view.phase ≡ phase.Contend →
       (hearing x).state.view.wait ≤ risen (hearing x).state.view.timer →
-      (x.node.view.wait ≤ x.node.view.timer + 1) × (3 * d ≤ x.node.view.timer + 1)
+      (x.node.view.wait ≤ x.node.view.timer + 1) × (2 * d ≤ x.node.view.timer)
   over-timer h c o =
       let w : x.node.view.wait ≤ x.node.view.timer + 1 = most (hearing x).state.view.wait (hearing x).state.view.timer x.node.view.wait x.node.view.timer o h.wait h.timer in
       (w, omega (arith, w, r.pair.near.waits c))
@@ -170,7 +170,7 @@ module _
       (ticking y).state → AsksAgain d (ticking x).state (ticking y).state (wire_after y)
   waits-on m w a = record {
     drew = record { draws = m.drew.draws; first = m.drew.first; here = adds-still d x y r nx m.drew.draws m.drew.first m.drew.here; there = adds-still d y x s2 ny m.drew.draws m.drew.first m.drew.there };
-    long = omega (arith, tx, min-least, twice, r.pair.some_delay);
+    long = omega (arith, tx, min-least);
     coins = two (last_coin d x.node) (last_coin d y.node) refl refl;
   }
     where
@@ -183,22 +183,22 @@ module _
       tx : (ticking x).state.view.timer ≡ risen x.node.view.timer
       tx = (waited-timer d x y r ux uy hx w).0
 
-      o : (y.node.view.wait ≤ y.node.view.timer + 1) × (3 * d ≤ y.node.view.timer + 1)
+      o : (y.node.view.wait ≤ y.node.view.timer + 1) × (2 * d ≤ y.node.view.timer)
       o = over-timer d y x s2 uy ux hy m.there a.over
 
-      twice : 2 * d ≤ x.node.view.timer
-      twice = omega (arith, o.1, m.far, r.pair.some_delay)
+      once : d ≤ x.node.view.timer
+      once = omega (arith, o.1, m.far, r.pair.some_delay)
 
       min-least : d ≤ risen x.node.view.timer
-      min-least = grind (arith, twice, r.pair.short_delay)
+      min-least = grind (arith, once, r.pair.short_delay)
 
       y-under : y.node.view.timer < y.node.view.wait
       y-under = r.other.waits m.there
 
       early :
-          y.node.view.wait ≤ 4 * d → 8 * d ≤ x.node.view.wait →
-          (ticking x).state.view.timer + 3 * d + 1 - (ticking x).state.view.wait ≤ 0
-      early sh lo = omega (arith, tx, rises, nx.wait, m.near, y-under, sh, lo, r.pair.some_delay)
+          y.node.view.wait ≤ y.node.timing.short → x.node.timing.long ≤ x.node.view.wait →
+          (ticking x).state.view.timer + d + 1 - (ticking x).state.view.wait ≤ 0
+      early sh lo = omega (arith, tx, rises, nx.wait, m.near, y-under, sh, lo, r.waits, r.pair.some_delay)
         where
           rises : risen x.node.view.timer ≤ x.node.view.timer + 1
           rises = grind arith
@@ -207,19 +207,19 @@ module _
           (b c : Bool) → last_coin d x.node ≡ b → last_coin d y.node ≡ c →
           (last_coin d (ticking x).state ≡ last_coin d (ticking y).state) ⊎
           ((last_coin d (ticking x).state ≡ true) × (last_coin d (ticking y).state ≡ false)
-          × AllAsOldAs ((ticking x).state.view.timer + 3 * d + 1 - (ticking x).state.view.wait) (wire_after y))
+          × AllAsOldAs ((ticking x).state.view.timer + d + 1 - (ticking x).state.view.wait) (wire_after y))
       two true true e f = inl (coin-still d x y r nx ∙ e ∙ sym f ∙ sym (coin-still d y x s2 ny))
       two false false e f = inl (coin-still d x y r nx ∙ e ∙ sym f ∙ sym (coin-still d y x s2 ny))
       two true false e f = inr (
         coin-still d x y r nx ∙ e,
         coin-still d y x s2 ny ∙ f,
-        AllAsOldAs-less ((ticking x).state.view.timer + 3 * d + 1 - (ticking x).state.view.wait) 0 (wire_after y)
+        AllAsOldAs-less ((ticking x).state.view.timer + d + 1 - (ticking x).state.view.wait) 0 (wire_after y)
             (early (coin-short d y.node r.other m.there f) (coin-long d x.node e)) (AllAsOldAs-zero (wire_after y)),
       )
       two false true e f =
-          let sh : x.node.view.wait ≤ 4 * d = coin-short d x.node r.near m.here e in
-          let lo : 8 * d ≤ y.node.view.wait = coin-long d y.node f in
-          absurd (omega (arith, sh, lo, o.0, m.far, r.near.waits m.here, r.pair.some_delay))
+          let sh : x.node.view.wait ≤ x.node.timing.short = coin-short d x.node r.near m.here e in
+          let lo : y.node.timing.long ≤ y.node.view.wait = coin-long d y.node f in
+          absurd (omega (arith, sh, lo, o.0, m.far, r.near.waits m.here, r.waits_back, r.pair.some_delay))
 
   -- y asks again, and the wait of x goes on
   pub asks-still :
@@ -259,24 +259,24 @@ module _
       nothing = same_wire y (hy.sends (shaking-silent y.node.view.phase sh)) v.sends_none
 
       older :
-          AllAsOldAs (x.node.view.timer + 3 * d + 1 - x.node.view.wait) y.wire →
-          AllAsOldAs ((ticking x).state.view.timer + 3 * d + 1 - (ticking x).state.view.wait)
+          AllAsOldAs (x.node.view.timer + d + 1 - x.node.view.wait) y.wire →
+          AllAsOldAs ((ticking x).state.view.timer + d + 1 - (ticking x).state.view.wait)
           (wire_after y)
       older e =
-          subst (AllAsOldAs ((ticking x).state.view.timer + 3 * d + 1 - (ticking x).state.view.wait)) (sym nothing)
-          (AllAsOldAs-less ((ticking x).state.view.timer + 3 * d + 1 - (ticking x).state.view.wait) (x.node.view.timer + 3 * d + 1 - x.node.view.wait + 1) (leftovers y)
-          (subst (λ u. (ticking x).state.view.timer + 3 * d + 1 - u ≤ x.node.view.timer + 3 * d + 1 - x.node.view.wait + 1) (sym nx.wait)
-          (less (ticking x).state.view.timer x.node.view.timer x.node.view.wait (3 * d) (omega (arith, t, rises))))
-          (kept_since y (x.node.view.timer + 3 * d + 1 - x.node.view.wait) e))
+          subst (AllAsOldAs ((ticking x).state.view.timer + d + 1 - (ticking x).state.view.wait)) (sym nothing)
+          (AllAsOldAs-less ((ticking x).state.view.timer + d + 1 - (ticking x).state.view.wait) (x.node.view.timer + d + 1 - x.node.view.wait + 1) (leftovers y)
+          (subst (λ u. (ticking x).state.view.timer + d + 1 - u ≤ x.node.view.timer + d + 1 - x.node.view.wait + 1) (sym nx.wait)
+          (less (ticking x).state.view.timer x.node.view.timer x.node.view.wait d (omega (arith, t, rises))))
+          (kept_since y (x.node.view.timer + d + 1 - x.node.view.wait) e))
 
   -- y asks again, and is seen before the wait of x is over
   pub not-again :
       x.node.view.phase ≡ phase.Contend → is_shaking y.node.view.phase ≡ true →
       AskedAgain (raise_timer (hearing x).state) (ticking x).state →
-      AllAsOldAs (x.node.view.timer + 3 * d + 1 - x.node.view.wait) y.wire → ⊥
+      AllAsOldAs (x.node.view.timer + d + 1 - x.node.view.wait) y.wire → ⊥
   not-again c sh b e =
       let o = over-timer d x y r ux uy hx c b.over in
-      let none : y.wire ≡ [] = none-so-old d (x.node.view.timer + 3 * d + 1 - x.node.view.wait) y.wire r.pair.some_delay (omega (arith, o.0, r.pair.some_delay)) e r.pair.other.ages in
+      let none : y.wire ≡ [] = none-so-old d (x.node.view.timer + d + 1 - x.node.view.wait) y.wire r.pair.some_delay (omega (arith, o.0, r.pair.some_delay)) e r.pair.other.ages in
       other-level (level_shown (hearing x).state x.port) (asks-here d x y r sh uy none) (again-sees d x y r b (up-mid d x y r hx ux))
 
   -- both are in T3 with unequal coins, x with the long wait: it isn't over yet
@@ -284,9 +284,9 @@ module _
       HaveMet d x.node y.node → x.node.view.wait ≤ x.node.view.timer + 1 →
       last_coin d x.node ≡ true → last_coin d y.node ≡ false → ⊥
   not-over m o e f =
-      let lo : 8 * d ≤ x.node.view.wait = coin-long d x.node e in
-      let sh : y.node.view.wait ≤ 4 * d = coin-short d y.node r.other m.there f in
-      omega (arith, lo, sh, o, m.near, r.other.waits m.there, r.pair.some_delay)
+      let lo : x.node.timing.long ≤ x.node.view.wait = coin-long d x.node e in
+      let sh : y.node.view.wait ≤ y.node.timing.short = coin-short d y.node r.other m.there f in
+      omega (arith, lo, sh, o, m.near, r.other.waits m.there, r.waits, r.pair.some_delay)
 
   -- no rival is seen while both are in T3
   pub took-none :

@@ -1,6 +1,9 @@
 -- What nodes know of coins holds in every world that comes of a power-on world.
 use Rattle.std.proofs.Common.{◌≡◌, ◌⊎◌, inl, inr, ℕ, ◌≤◌, true, List, [], ◌∷◌, ◌++◌, Some, None, slice_get, refl, sym, ◌∙◌, ap, subst, arith}
-use Rattle.std.specs.Prelude.{◌*◌, nat_le}
+use Rattle.std.specs.Prelude.{nat_le}
+use Rattle.port_state.specs.declared.timing.Timing.{Timing}
+use Rattle.cable_world.specs.Times.{Suits}
+use Rattle.cable_world.proofs.Lemmas.{suits-cables}
 use Rattle.convergence.proofs.Common.{End, Wiring, far, ports_of, Phase, NodeState, coin, is_child, is_port, port_is, draws_with, IsValid, PortNode, Travelling, new_signal, CableWorld, wire_of, hold, IsReached, inbox, turn_at, turn, IsLawful, is_before_tree, is_shaking, signals_of, has_reset, shown_or_idle, level_shown, leads_down, cabling-after, delay-after, before, hears, ticks, side, side-node, side-wire, ticking, not-both, turn-state, comes, holds-kept, PlacedHold, HoldSchedule, with_holds, quiet_after, AddsDraw, DrewTogether, KnowsCoins, AreApart, AreRivals, Contests, IsContested, contrary}
 use Rattle.port_state.specs.declared.signal.Phase.TheVariants as phase
 use Rattle.port_state.specs.declared.signal.Signal.TheVariants as signal
@@ -28,6 +31,8 @@ pub rivals-of :
     slice_get w.nodes b.node ≡ Some y → Rivals w.delay (side w a x) (side w b y)
 rivals-of w l c a b x y e at_x at_y =
     let back : far w.cabling b ≡ Some a = l.well_formed.cabling.both_ways a b e in
+    let tx : Suits w.delay w.longest x.state.timing = (l.well_formed.nodes a.node x at_x).timing in
+    let ty : Suits w.delay w.longest y.state.timing = (l.well_formed.nodes b.node y at_y).timing in
     record {
       pair = record {
         some_delay = l.well_formed.some_delay;
@@ -45,6 +50,8 @@ rivals-of w l c a b x y e at_x at_y =
       other = c.nodes b.node y at_y;
       here = c.cables a b x y e at_x at_y;
       there = c.cables b a y x back at_y at_x;
+      waits = omega (arith, tx.long_least, ty.short_most);
+      waits_back = omega (arith, ty.long_least, tx.short_most);
     }
 
 turn-cable :
@@ -91,7 +98,7 @@ turn-contested w l c = record {
       let f : IsWellFormed w = l.well_formed in
       let x = before w k y f e in
       rw (x.2, turn-state (inbox w 0 (ports_of w.cabling k)) x.0, delay-after w)
-      (knows-after w.delay (inbox w 0 (ports_of w.cabling k)) (coin x.0.coins) x.0.state f.some_delay (f.nodes k x.0 x.1).timing (hears w k x.0 f x.1) (ticks w k x.0 f x.1) (c.nodes k x.0 x.1));
+      (knows-after w.delay (inbox w 0 (ports_of w.cabling k)) (coin x.0.coins) x.0.state f.some_delay (suits-cables w.delay w.longest x.0.state.timing (f.nodes k x.0 x.1).timing) (hears w k x.0 f x.1) (ticks w k x.0 f x.1) (c.nodes k x.0 x.1));
   cables = λ a b y z e at_y at_z.
       let was : far w.cabling a ≡ Some b = sym (ap (λ (d : Wiring). far d a) (cabling-after w)) ∙ e in
       let x = before w a.node y l.well_formed at_y in
@@ -206,6 +213,7 @@ hold-contested end n w none l c = happened w (hold end n w) (hold-happens end n 
 -- nothing of what is drawn, shown or told by roles changes
 record IsAs (x z : NodeState) : Type 0 where
   phase : z.view.phase ≡ x.view.phase
+  timing : z.timing ≡ x.timing
   timer : z.view.timer ≡ x.view.timer
   wait : z.view.wait ≡ x.view.wait
   parent : z.view.parent ≡ x.view.parent
@@ -214,13 +222,13 @@ record IsAs (x z : NodeState) : Type 0 where
   ports : z.view.ports ≡ x.view.ports
 
 is-as : (x : NodeState) → IsAs x x
-is-as x = record { phase = refl; timer = refl; wait = refl; parent = refl; draws = refl; first_draws = refl; ports = refl }
+is-as x = record { phase = refl; timing = refl; timer = refl; wait = refl; parent = refl; draws = refl; first_draws = refl; ports = refl }
 
 told-as : (packet : ConfigPacket) (x : PortNode) → IsAs x.state (node_set_config packet x).state
-told-as packet x = record { phase = refl; timer = refl; wait = refl; parent = refl; draws = refl; first_draws = refl; ports = refl }
+told-as packet x = record { phase = refl; timing = refl; timer = refl; wait = refl; parent = refl; draws = refl; first_draws = refl; ports = refl }
 
 adds-as : (d : ℕ) (x z : NodeState) (n f : ℕ) → IsAs x z → AddsDraw d n f x → AddsDraw d n f z
-adds-as d x z n f e s = record { count = e.draws ∙ s.count; coins = e.first_draws ∙ s.coins ∙ ap (λ w. draws_with (nat_le (8 * d) w) n f) (sym e.wait) }
+adds-as d x z n f e s = record { count = e.draws ∙ s.count; coins = e.first_draws ∙ s.coins ∙ ap (λ b. draws_with b n f) (sym (ap (λ (t : Timing). nat_le t.long z.view.wait) e.timing ∙ ap (nat_le x.timing.long) e.wait)) }
 
 after-as :
     (d : ℕ) (x z y u : NodeState) → IsAs x z → IsAs y u →
@@ -242,7 +250,7 @@ apart-as d x z p y u back e f a = record {
   there = ap is_shaking f.phase ∙ a.there;
   how = elim a.how [
     | inl s ↦ inl (record { drew = after-as d x z y u e f s.drew; shown = shown-as x z p e ∙ s.shown })
-    | inr s ↦ inr (record { drew = together-as d x z y u e f s.drew; long = rw e.timer s.long; coins = rw (e.wait, e.timer, f.wait) s.coins })
+    | inr s ↦ inr (record { drew = together-as d x z y u e f s.drew; long = rw e.timer s.long; coins = rw (e.wait, e.timer, f.wait, e.timing, f.timing) s.coins })
   ];
 }
 

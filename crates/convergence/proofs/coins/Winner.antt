@@ -4,7 +4,9 @@ use Rattle.convergence.proofs.turns.PhaseFacts.{late-start}
 use Rattle.std.proofs.lemmas.Bool.{eq-eqb}
 use Rattle.convergence.proofs.Common.{End, Wiring, far, IsComponent, Holds, Phase, NodeState, is_port, is_resetting, raise_timer, PortNode, Travelling, CableWorld, wire_of, turn_at, turn, IsReached, is_before_tree, is_shaking, leads_down, IsLawful, node-after, cabling-after, delay-after, came, side, side-node, side-wire, steady, after-delay, child-if, some-same, Side, hearing, ticking, wire_after, late-roles, reached-lawful, not-both, NoEntry, risen, holds-signals, one-quiet, quiet-lawful, turn-lawful, PlacedHold, HoldSchedule, with_holds, quiet_after, last_coin, KnowsCoins, AsksAgain, IsContested, HaveMet, AreRivals, AreJoined, AreMutual, AreUnequal, contrary}
 use Rattle.port_state.specs.declared.signal.Phase.TheVariants as phase
-use Rattle.cable_world.proofs.Lemmas.{heard_connected}
+use Rattle.port_state.specs.declared.timing.Timing.{Timing}
+use Rattle.cable_world.specs.Times.{Suits}
+use Rattle.cable_world.proofs.Lemmas.{heard_connected, after-longest}
 use Rattle.convergence.proofs.turns.Cables.{joined-held}
 use Rattle.convergence.specs.Drawers.{HasWonAt}
 use Rattle.convergence.proofs.coins.StaysContested.{rivals-of, reached-contested, quiet-contested}
@@ -51,14 +53,17 @@ module _
       is_port y.node.view.parent y.port ≡ true → is_port (ticking y).state.view.parent y.port ≡ true
   up-y e u = ap (λ o. is_port o y.port) e ∙ up-mid d y x s hy u
 
-  rises : (i t u w : ℕ) → i ≤ t → u ≡ risen t → risen t < w → w ≤ 10 * d → i + 1 ≤ u
-  rises i t u w h e l m = let small : d ≤ 16 = r.pair.short_delay in grind (arith, h, e, l, m, small)
+  rises : (i t u w : ℕ) → i ≤ t → u ≡ risen t → risen t < w → w ≤ 65535 → i + 1 ≤ u
+  rises i t u w h e l m = grind (arith, h, e, l, m)
 
   contend-shakes : (f : Phase) → f ≡ phase.Contend → is_shaking f ≡ true → ⊥
   contend-shakes f a b = grind arith
 
-  wait-most : x.node.view.phase ≡ phase.Contend → x.node.view.wait ≤ 10 * d
-  wait-most c = elim (r.near.shows c) [ inl a ↦ omega (arith, a) | inr a ↦ a.1 ]
+  wait-most : x.node.view.phase ≡ phase.Contend → x.node.view.wait ≤ 65535
+  wait-most c = elim (r.near.shows c) [
+    | inl a ↦ omega (arith, a, r.pair.near.timing.apart, r.pair.near.timing.long_most)
+    | inr a ↦ omega (arith, a, r.pair.near.timing.long_most)
+  ]
 
   pub faces-after : (i : ℕ) → Faces d x.node x.port y.node y.port y.wire i → After i
   faces-after i f = go (fought d x y r f.here f.there hx f.contends) f.how
@@ -279,13 +284,14 @@ module _
   turn-by-turn h zero = h
   turn-by-turn h (suc i) = subst (λ (n : ℕ). State (later n) a b n) (add-one i) (one-turn i (turn-by-turn h i))
 
-  won-by : (i : ℕ) → 10 * (later i).delay ≤ i → State (later i) a b i → HasWonAt (later i) a b
+  won-by : (i : ℕ) → (later i).longest.long ≤ i → State (later i) a b i → HasWonAt (later i) a b
   won-by i long (inl o) = record { ends = o.ends; child = o.over.0; root = o.over.1 }
   won-by i long (inr f) =
       let knows : KnowsCoins (later i).delay f.ends.near.state = (quiet-contested hs (k + i) w l c).nodes a.node f.ends.near f.ends.near_at in
+      let fits : Suits (later i).delay (later i).longest f.ends.near.state.timing = ((quiet-lawful hs (k + i) w l).well_formed.nodes a.node f.ends.near f.ends.near_at).timing in
       absurd (elim (knows.shows f.faces.contends) [
-        | inl s ↦ omega (arith, long, f.faces.waited, knows.waits f.faces.contends, s)
-        | inr s ↦ omega (arith, long, f.faces.waited, knows.waits f.faces.contends, s.1)
+        | inl s ↦ omega (arith, long, f.faces.waited, knows.waits f.faces.contends, s, fits.short_most, fits.long_least, fits.long_most)
+        | inr s ↦ omega (arith, long, f.faces.waited, knows.waits f.faces.contends, s, fits.long_most)
       ])
 
   starts :
@@ -304,17 +310,17 @@ module _
       (m : AreMutual (quiet_after hs k w) a b) → m.ends.near.state.view.phase ≡ phase.Contend →
       m.ends.other.state.view.phase ≡ phase.Contend →
       last_coin (quiet_after hs k w).delay m.ends.near.state ≡ true →
-      last_coin (quiet_after hs k w).delay m.ends.other.state ≡ false → (i : ℕ) → 10 * w.delay ≤ i →
+      last_coin (quiet_after hs k w).delay m.ends.other.state ≡ false → (i : ℕ) → w.longest.long ≤ i →
       HasWonAt (quiet_after hs (k + i) w) a b
   wins m here there long short i h =
-      won-by i (omega (arith, h, after-delay hs w l (k + i))) (turn-by-turn (starts m here there long short) i)
+      won-by i (omega (arith, h, ap (λ (t : Timing). t.long) (after-longest hs w l (k + i)))) (turn-by-turn (starts m here there long short) i)
 
 -- two nodes of a component
 pub unequal-won :
     (hs : HoldSchedule) (w : CableWorld) → IsReached w → (k node set m n i : ℕ) →
     length w.nodes * w.delay ≤ k →
     IsComponent (quiet_after hs k w).cabling node set → Holds set m → Holds set n → m ≢ n →
-    AreUnequal (quiet_after hs k w) m n → 10 * w.delay ≤ i →
+    AreUnequal (quiet_after hs k w) m n → w.longest.long ≤ i →
     (a : End) × (b : End) × (a.node ≡ m) × (b.node ≡ n) × HasWonAt (quiet_after hs (k + i) w) a b
 unequal-won hs w reached k node set m n i late is in_m in_n ne u long =
     let l : IsLawful w = reached-lawful w reached in

@@ -1,6 +1,6 @@
--- In a loop no node leaves T0, so that after 512 d turns there each reports that the configuration
+-- In a loop no node leaves T0, so that after the longest timeout there each reports that the configuration
 -- timed out.
-use Rattle.std.proofs.Common.{◌≡◌, ℕ, ◌*◌, ◌≤◌, true, slice_get}
+use Rattle.std.proofs.Common.{◌≡◌, ℕ, ◌+◌, ◌≤◌, true, slice_get}
 use Rattle.port_state.specs.declared.signal.Phase.TheVariants.{TreeStart}
 use Rattle.convergence.proofs.Common.{PortNode, CableWorld, IsLawful, some-of, some-at, quiet-lawful, HoldSchedule, quiet_after, IsAcyclic, ResetsAreOver, ResetsAreDone, LoopsAreReported}
 use Rattle.convergence.proofs.loops.Cores.{core-shows}
@@ -10,7 +10,7 @@ use Rattle.convergence.proofs.trees.TreeStart.{done-at, start-reports}
 
 pub loops-reported :
     (hs : HoldSchedule) (v : CableWorld) → IsLawful v → IsAcyclic v → ResetsAreDone v → (i : ℕ) →
-    512 * v.delay ≤ i →
+    v.longest.timeout + 1 ≤ i →
     LoopsAreReported (quiet_after hs i v)
 loops-reported hs v l c done i late set core k is h =
     let u : CableWorld = quiet_after hs i v in

@@ -1,12 +1,13 @@
--- In quiet turns nobody is in R0 or R1 any more, 81 d turns after the last entry at the
--- latest.
+-- In quiet turns nobody is in R0 or R1 any more, the longest hold and d turns after the last entry
+-- at the latest.
 use Rattle.std.proofs.Common.{◌≡◌, inl, inr, ℕ, zero, suc, ◌+◌, ◌-◌, ◌*◌, ◌<◌, ◌≤◌, Bool, true, false, not, ◌&&◌, ◌||◌, length, Option, Some, None, is_some, slice_get, refl, sym, ◌∙◌, ap, subst, arith, true≢false}
 use Rattle.std.proofs.lemmas.Bool.{false_from_ne_true}
 use Rattle.convergence.proofs.Common.{Phase, PortView, NodeState, Timing, coin, passes, port_is, is_connected, is_port, is_resetting, PortNode, IsValid, End, Wiring, far, end_at, CableWorld, wire_of, turn_at, turn, hear_all, level_sent, level_shown, shown_or_idle, leads_down, level_sent_at, signals_of, has_reset, is_before_tree, is_in_bus_reset, is_shaking, is_asking, Coupling, IsLawful, node-after, some-same, before, hears, steady, after-delay, child-if, cable-connected, late-roles, NoEntry, HearsWell, turn-state, one-quiet, quiet-then, quiet-lawful, after-cabling, HoldSchedule, holds_after, with_holds, quiet_after, ResetsAreOver, NoneIn, ResetsAreDone, contrary}
 use Rattle.port_state.specs.declared.signal.Phase.TheVariants as phase
 use Rattle.port_state.specs.Resetting.{is_calm}
 use Rattle.cable_world.specs.Phases.{is_after_hold}
-use Rattle.cable_world.proofs.Lemmas.{in-turn, hold-left, between-known}
+use Rattle.cable_world.specs.Times.{Suits}
+use Rattle.cable_world.proofs.Lemmas.{after-longest, in-turn, hold-left, between-known}
 use Rattle.convergence.proofs.turns.Cables.{joined-of}
 use Rattle.convergence.proofs.turns.CalmTurns.{Calmly, calmly, signals, heard_by, waiting-before, done-calm}
 use Rattle.convergence.proofs.turns.BeforeTree.{waits-for, every-from}
@@ -18,7 +19,7 @@ use Rattle.convergence.proofs.turns.Flush.{Tells, Shown, flush}
 hold-runs :
     (w : CableWorld) → IsLawful w → (k : ℕ) (x y : PortNode) → slice_get w.nodes k ≡ Some x →
     slice_get (turn w).nodes k ≡ Some y → is_resetting x.state.view.phase ≡ true →
-    is_resetting y.state.view.phase ≡ true → y.state.view.timer < 80 * w.delay
+    is_resetting y.state.view.phase ≡ true → y.state.view.timer < w.longest.hold
 hold-runs w l k x y at_x at_y was there =
     omega (arith, (in-turn w l k x y at_x at_y).rises was there, left, heard.timer, ap (λ (z : Timing). z.hold) h.timing, (l.well_formed.nodes k x at_x).timing.hold_most)
   where
@@ -32,7 +33,7 @@ hold-runs w l k x y at_x at_y was there =
     same = some-same (turn_at w k x).node y (sym (node-after w k x l.well_formed.count at_x) ∙ at_y)
 
     hold-most : (heard_by w k x).timing.hold ≤ 65535
-    hold-most = omega (arith, ap (λ (z : Timing). z.hold) (hears w k x l.well_formed at_x).timing, (l.well_formed.nodes k x at_x).timing.hold_most, l.well_formed.short_delay)
+    hold-most = omega (arith, ap (λ (z : Timing). z.hold) (hears w k x l.well_formed at_x).timing, (l.well_formed.nodes k x at_x).timing.hold_most, (l.well_formed.nodes k x at_x).timing.counted.hold)
 
     left : (heard_by w k x).view.timer + 1 < (heard_by w k x).timing.hold
     left =
@@ -84,15 +85,21 @@ module _ (hs : HoldSchedule) (w : CableWorld) (l : IsLawful w) where
   all-risen zero = λ k x at r. omega arith
   all-risen (suc i) = subst (Risen (suc i)) (next i) (rises i (all-risen i))
 
-  -- 80 d turns later none is there
-  pub holds-over : (i : ℕ) → 80 * w.delay ≤ i → NoneIn is_resetting (later i)
-  holds-over zero h = absurd (omega (arith, h, l.well_formed.some_delay))
+  -- after the longest hold none is there
+  longest-hold : (i : ℕ) → (later i).longest.hold ≡ w.longest.hold
+  longest-hold i = ap (λ (t : Timing). t.hold) (after-longest hs w l (enough + i))
+
+  pub holds-over : (i : ℕ) → w.longest.hold ≤ i → NoneIn is_resetting (later i)
+  holds-over zero h = λ k x at.
+      let m : IsLawful (later zero) = lawful-later zero in
+      let fits : Suits (later zero).delay (later zero).longest x.state.timing = (m.well_formed.nodes k x at).timing in
+      absurd (omega (arith, h, fits.hold_least, fits.hold_most, m.well_formed.some_delay, longest-hold zero))
   holds-over (suc i) h = subst (NoneIn is_resetting) (next i) none
     where
       none : NoneIn is_resetting (turn (later i))
       none k y at = false_from_ne_true _ (λ e.
           let x = stayed i k y at e in
-          omega (arith, h, (in-turn (later i) (lawful-later i) k x.0 y x.1 at).rises x.2 e, all-risen i k x.0 x.1 x.2, hold-runs (later i) (lawful-later i) k x.0 y x.1 at x.2 e, after-delay hs w l (enough + i)))
+          omega (arith, h, (in-turn (later i) (lawful-later i) k x.0 y x.1 at).rises x.2 e, all-risen i k x.0 x.1 x.2, hold-runs (later i) (lawful-later i) k x.0 y x.1 at x.2 e, longest-hold i))
 
 -- ---- R1
 
@@ -200,36 +207,36 @@ module _
           go None e = contrary on-first (((quiet-lawful hs i v l).well_formed.nodes k c.node c.at).connected q ∙ ap is_some e)
           go (Some a) e = ap is_calm (sym (same q)) ∙ shows-calm a q (sym (ap (λ (d : Wiring). far d (end_at k q)) (after-cabling hs i v)) ∙ e) (i + 1) late h h.0 h.1
 
--- ---- 81 d turns
+-- ---- the longest hold and d turns
 
 pub resets-done :
-    (hs : HoldSchedule) (w : CableWorld) → IsLawful w → (i : ℕ) → 81 * w.delay ≤ i →
+    (hs : HoldSchedule) (w : CableWorld) → IsLawful w → (i : ℕ) → w.longest.hold + w.delay ≤ i →
     ResetsAreDone (quiet_after hs (length w.nodes * w.delay + i) w)
 resets-done hs w l i late k x at = false_from_ne_true _ (λ e.
-    let j : ℕ = i - 80 * w.delay - 1 in
+    let j : ℕ = i - w.longest.hold - 1 in
     let some : 1 ≤ w.delay = l.well_formed.some_delay in
-    let z : length w.nodes * w.delay + i ≡ length w.nodes * w.delay + 80 * w.delay + (j + 1) = omega (arith, late, some) in
-    let is : quiet_after hs (length w.nodes * w.delay + i) w ≡ quiet_after rest (j + 1) start = ap (λ n. quiet_after hs n w) z ∙ quiet-then hs (length w.nodes * w.delay + 80 * w.delay) (j + 1) w in
-    wait-ends rest start m calm k j (omega (arith, late, some, after-delay hs w l (length w.nodes * w.delay + 80 * w.delay)))
+    let z : length w.nodes * w.delay + i ≡ length w.nodes * w.delay + w.longest.hold + (j + 1) = omega (arith, late, some) in
+    let is : quiet_after hs (length w.nodes * w.delay + i) w ≡ quiet_after rest (j + 1) start = ap (λ n. quiet_after hs n w) z ∙ quiet-then hs (length w.nodes * w.delay + w.longest.hold) (j + 1) w in
+    wait-ends rest start m calm k j (omega (arith, late, some, after-delay hs w l (length w.nodes * w.delay + w.longest.hold)))
     (x, ap (λ (u : CableWorld). slice_get u.nodes k) (sym is) ∙ at, e))
   where
     rest : HoldSchedule
-    rest = holds_after (length w.nodes * w.delay + 80 * w.delay) hs
+    rest = holds_after (length w.nodes * w.delay + w.longest.hold) hs
 
     start : CableWorld
-    start = quiet_after hs (length w.nodes * w.delay + 80 * w.delay) w
+    start = quiet_after hs (length w.nodes * w.delay + w.longest.hold) w
 
-    m : IsLawful (quiet_after hs (length w.nodes * w.delay + 80 * w.delay) w)
-    m = quiet-lawful hs (length w.nodes * w.delay + 80 * w.delay) w l
+    m : IsLawful (quiet_after hs (length w.nodes * w.delay + w.longest.hold) w)
+    m = quiet-lawful hs (length w.nodes * w.delay + w.longest.hold) w l
 
     calm :
         (j : ℕ) →
         NoneIn is_resetting
-        (quiet_after (holds_after (length w.nodes * w.delay + 80 * w.delay) hs) j (quiet_after hs (length w.nodes * w.delay + 80 * w.delay) w))
+        (quiet_after (holds_after (length w.nodes * w.delay + w.longest.hold) hs) j (quiet_after hs (length w.nodes * w.delay + w.longest.hold) w))
     calm j =
-        let z : length w.nodes * w.delay + (80 * w.delay + j) ≡ length w.nodes * w.delay + 80 * w.delay + j = omega arith in
-        let low : 80 * w.delay ≤ 80 * w.delay + j = omega arith in
-        subst (NoneIn is_resetting) (ap (λ n. quiet_after hs n w) z ∙ quiet-then hs (length w.nodes * w.delay + 80 * w.delay) j w) (holds-over hs w l (80 * w.delay + j) low)
+        let z : length w.nodes * w.delay + (w.longest.hold + j) ≡ length w.nodes * w.delay + w.longest.hold + j = omega arith in
+        let low : w.longest.hold ≤ w.longest.hold + j = omega arith in
+        subst (NoneIn is_resetting) (ap (λ n. quiet_after hs n w) z ∙ quiet-then hs (length w.nodes * w.delay + w.longest.hold) j w) (holds-over hs w l (w.longest.hold + j) low)
 
 -- then no Reset is under way
 pub no-resets :

@@ -79,7 +79,7 @@ comes-in w l a b y e at g r out = ap (λ (s : NodeState). is_resetting s.view.ph
     hold-least = rw h.timing (l.well_formed.nodes b.node y at).timing.hold_least
 
     hold-most : (hear_all (inbox w 0 (ports_of w.cabling b.node)) y.state).state.timing.hold ≤ 65535
-    hold-most = omega (arith, ap (λ (z : Timing). z.hold) h.timing, (l.well_formed.nodes b.node y at).timing.hold_most, l.well_formed.short_delay)
+    hold-most = omega (arith, ap (λ (z : Timing). z.hold) h.timing, (l.well_formed.nodes b.node y at).timing.hold_most, (l.well_formed.nodes b.node y at).timing.counted.hold)
 
     entered :
         is_resetting (hear_all (inbox w 0 (ports_of w.cabling b.node)) y.state).state.view.phase

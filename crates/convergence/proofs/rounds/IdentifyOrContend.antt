@@ -2,6 +2,8 @@
 -- stays there.
 use Rattle.std.proofs.Common.{◌≡◌, ◌⊎◌, inl, inr, ℕ, ◌+◌, ◌-◌, ◌*◌, ◌≤◌, true, false, length, refl, sym, ◌∙◌, ap, subst, arith}
 use Rattle.std.proofs.lemmas.Bool.{cases_lt}
+use Rattle.port_state.specs.declared.timing.Timing.{Timing}
+use Rattle.cable_world.proofs.Lemmas.{after-longest}
 use Rattle.convergence.proofs.Common.{End, Holds, IsComponent, IsCore, Phase, CableWorld, wire_of, turn, is_shaking, cabling-after, after-delay, after-length, one-quiet, quiet-then, after-cabling, HoldSchedule, holds_after, quiet_after, AreRivals, AreMutual, AreIdentifying, TreesAreDecided}
 use Rattle.cabling.specs.NodeSet.{IsEmpty}
 use Rattle.port_state.specs.declared.signal.Phase.TheVariants as phase
@@ -56,13 +58,13 @@ rivals-up w set g none a b in_a m = record {
     go (inr (inr (inr h))) = (inl (shake-parent m.ends.near.state.view.phase h.there x-quiet), inr h.here)
 
 -- within so many turns
-abbrev most : ℕ → ℕ → ℕ
-most n d = 3 * n * (d + d) + (33 * (12 * d) + 22 * d) + (3 * n * (d + d) + 1)
+abbrev most : ℕ → ℕ → ℕ → ℕ
+most n d t = 3 * n * (d + d) + (33 * (t + 2 * d) + (t + (t + 2 * d))) + (3 * n * (d + d) + 1)
 
 settles :
     (hs : HoldSchedule) (v : CableWorld) (set node : ℕ) → Grown v set →
     IsComponent v.cabling node set →
-    HasNoLoop v set → (i : ℕ) × (i ≤ most (length v.nodes) v.delay)
+    HasNoLoop v set → (i : ℕ) × (i ≤ most (length v.nodes) v.delay v.longest.long)
     × IdentifyOrContend (quiet_after hs i v) set
 settles hs v set node g whole free =
     let s = shaken-out set hs v g in
@@ -75,11 +77,12 @@ settles hs v set node g whole free =
           let m = rival-of w set gw s.2 f.0 f.1 in
           let up = rivals-up w set gw s.2 m.0 m.1 (subst (Holds set) (sym m.2) f.1.holds) m.3 in
           let d : w.delay ≡ v.delay = after-delay hs v g.lawful s.0 in
+          let long : w.longest.long ≡ v.longest.long = ap (λ (t : Timing). t.long) (after-longest hs v g.lawful s.0) in
           elim (rounds set m.0 m.1 rest 33 0 (omega arith) w gw up) [
             | inl t ↦
                 let same : quiet_after hs (s.0 + t.0) v ≡ quiet_after rest t.0 w = quiet-then hs s.0 t.0 v in (
                   s.0 + t.0,
-                  omega (arith, s.1, t.1, d),
+                  omega (arith, s.1, t.1, d, long),
                   inr (subst (λ (u : CableWorld). HasContention u set) (sym same)
                       (contend (quiet_after rest t.0 w) set (grown-after rest w set gw t.0) m.0 m.1 (let z : 0 + 33 ≡ 33 = omega arith in subst (λ k. At (quiet_after rest t.0 w) set m.0 m.1 (AreUp m.0.port m.1.port k)) z t.2)
                       (subst (λ (u : CableWorld). HasNoLoop u set) same (no-loop-after (s.0 + t.0))))),
@@ -90,7 +93,7 @@ settles hs v set node g whole free =
                 let e = rooted-ends (holds_after t.0 rest) set u gu node (component-after rest set w node t.0 (component-after hs set v node s.0 whole)) t.2 in
                 let z : s.0 + (t.0 + e.0) ≡ s.0 + (t.0 + e.0) = refl in (
                   s.0 + (t.0 + e.0),
-                  sums (length v.nodes) (length u.nodes) v.delay u.delay w.delay s.0 t.0 e.0 (after-length rest w gw.lawful t.0 ∙ after-length hs v g.lawful s.0) (after-delay rest w gw.lawful t.0 ∙ d) d s.1 t.1 e.1,
+                  sums (length v.nodes) (length u.nodes) v.delay u.delay w.delay v.longest.long w.longest.long s.0 t.0 e.0 (after-length rest w gw.lawful t.0 ∙ after-length hs v g.lawful s.0) (after-delay rest w gw.lawful t.0 ∙ d) d long s.1 t.1 e.1,
                   inl (subst (λ (u : CableWorld). AreIdentifying u set) (sym (quiet-then hs s.0 (t.0 + e.0) v)) (subst (λ (u : CableWorld). AreIdentifying u set) (sym (quiet-then rest t.0 e.0 w)) e.2)),
                 )
           ]
@@ -100,17 +103,18 @@ settles hs v set node g whole free =
     no-loop-after i = record { core = free.core; is_core = subst (λ c. IsCore c set free.core) (sym (after-cabling hs i v)) free.is_core; empty = free.empty }
 
     sums :
-        (n m d e c i j k : ℕ) → m ≡ n → e ≡ d → c ≡ d → i ≤ 3 * n * (d + d) → j ≤ 33 * (12 * c)
-        + 22 * c → k ≤ 3 * m * (e + e) + 1 → i + (j + k) ≤ most n d
-    sums n m d e c i j k same delay delay_too h l q =
+        (n m d e c t u i j k : ℕ) → m ≡ n → e ≡ d → c ≡ d → u ≡ t → i ≤ 3 * n * (d + d) →
+        j ≤ 33 * (u + 2 * c) + (u + (u + 2 * c)) → k ≤ 3 * m * (e + e) + 1 →
+        i + (j + k) ≤ most n d t
+    sums n m d e c t u i j k same delay delay_too long h l q =
         let q_too : k ≤ 3 * n * (d + d) + 1 = subst (λ a. k ≤ 3 * a * (d + d) + 1) same (subst (λ a. k ≤ 3 * m * (a + a) + 1) delay q) in
-        omega (arith, h, l, delay_too, q_too)
+        omega (arith, h, l, delay_too, long, q_too)
 
 -- and stays
 settled :
     (hs : HoldSchedule) (v : CableWorld) (set node : ℕ) → Grown v set →
     IsComponent v.cabling node set →
-    HasNoLoop v set → (i : ℕ) → most (length v.nodes) v.delay ≤ i →
+    HasNoLoop v set → (i : ℕ) → most (length v.nodes) v.delay v.longest.long ≤ i →
     IdentifyOrContend (quiet_after hs i v) set
 settled hs v set node g whole free i late =
     let s = settles hs v set node g whole free in
@@ -126,31 +130,11 @@ settled hs v set node g whole free i late =
 
 -- ---- the share
 
-square : (n : ℕ) → 10 * n ≤ n * n + 100
-square n = elim (cases_lt n 10) [
-  | inl l ↦ omega (arith, l)
-  | inr l ↦
-      let k : ℕ = n - 10 in
-      let z : n ≡ 10 + k = omega (arith, l) in
-      high n k z
-]
-  where
-    high : (n k : ℕ) → n ≡ 10 + k → 10 * n ≤ n * n + 100
-    high n k z =
-        let p : (10 + k) * (10 + k) ≡ 10 * (10 + k) + k * (10 + k) = grind arith in
-        subst (λ m. 10 * m ≤ m * m + 100) (sym z) (omega (arith, p))
-
-share : (n d : ℕ) → 1 ≤ d → most n d ≤ d * (600 + n * n + 2 * n)
-share n d some =
-    let r : ℕ = 600 + n * n + 2 * n - (12 * n + 419) in
-    let z : 600 + n * n + 2 * n ≡ 12 * n + 419 + r = omega (arith, square n) in
-    parts n d r (600 + n * n + 2 * n) some z
-  where
-    parts : (n d r s : ℕ) → 1 ≤ d → s ≡ 12 * n + 419 + r → most n d ≤ d * s
-    parts n d r s some z =
-        let p : d * (12 * n + 419 + r) ≡ 12 * (n * d) + 419 * d + d * r = grind arith in
-        let q : 3 * n * (d + d) ≡ 6 * (n * d) = grind arith in
-        subst (λ t. most n d ≤ d * t) (sym z) (omega (arith, p, q, some))
+share :
+    (n d t : ℕ) → most n d t ≤ 12 * (n * d) + 33 * (t + 2 * d) + (t + (t + 2 * d)) + 1
+share n d t =
+    let q : 3 * n * (d + d) ≡ 6 * (n * d) = grind arith in
+    omega (arith, q)
 
 -- ---- a component without loop
 
@@ -175,7 +159,7 @@ decided-after hs w k g late node set core whole is empty =
     let comp : IsComponent w.cabling node set = subst (λ c. IsComponent c node set) same whole in
     let is_core : IsCore w.cabling set core = subst (λ c. IsCore c set core) same is in
     settled hs w set node (grown-of w node set core g comp is_core empty) comp (record { core = core; is_core = is_core; empty = empty }) k
-    (omega (arith, share (length w.nodes) w.delay g.lawful.well_formed.some_delay, late))
+    (omega (arith, share (length w.nodes) w.delay w.longest.long, late))
 
 -- a turn keeps it
 pub decided-turn : (w : CableWorld) → IsGrown w → TreesAreDecided w → TreesAreDecided (turn w)

@@ -94,7 +94,7 @@ module _
     pub up : is_port (ticking x).state.view.parent x.port ≡ true
     pub draws : (ticking x).state.view.draws ≡ x.node.view.draws
     pub shown : is_parent (level_shown (hearing x).state x.port) ≡ false
-    pub over : 3 * d ≤ x.node.view.timer + 1
+    pub over : 2 * d ≤ x.node.view.timer
 
   -- out of T2
   asked : x.node.view.phase ≡ phase.ParentShake → Held ⊎ Begun
@@ -137,11 +137,14 @@ module _
     ]
   ]
     where
-      wait-most : x.node.view.wait ≤ 10 * d
-      wait-most = elim (r.near.shows t) [ inl a ↦ omega (arith, a) | inr a ↦ a.1 ]
+      wait-most : x.node.view.wait ≤ 65535
+      wait-most = elim (r.near.shows t) [
+        | inl a ↦ omega (arith, a, r.pair.near.timing.apart, r.pair.near.timing.long_most)
+        | inr a ↦ omega (arith, a, r.pair.near.timing.long_most)
+      ]
 
-      rises : (t u w : ℕ) → u ≡ risen t → risen t < w → w ≤ 10 * d → t + 1 ≤ u
-      rises t u w e l m = let small : d ≤ 16 = r.pair.short_delay in grind (arith, e, l, m, small)
+      rises : (t u w : ℕ) → u ≡ risen t → risen t < w → w ≤ 65535 → t + 1 ≤ u
+      rises t u w e l m = grind (arith, e, l, m)
 
 module _
     (d : ℕ) (x y : Side) (r : Rivals d x y) (ux : is_port x.node.view.parent x.port ≡ true)

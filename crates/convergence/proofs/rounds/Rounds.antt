@@ -5,7 +5,9 @@ use Rattle.std.specs.Prelude.{min}
 use Rattle.convergence.proofs.Common.{End, Wiring, far, Holds, Phase, NodeState, coin, is_parent, is_port, PortNode, CableWorld, wire_of, turn_at, turn, level_sent, level_shown, leads_down, node-after, cabling-after, delay-after, side, side-node, after-delay, cable-connected, some-same, hearing, ticking, NoEntry, no-quiet, quiet-then, PlacedHold, HoldSchedule, holds_after, with_holds, quiet_after, KnowsCoins, IsAhead, AsksAgain, AreRivals, AreJoined}
 use Rattle.convergence.proofs.turns.PhaseFacts.{contend-shake}
 use Rattle.port_state.specs.declared.signal.Phase.TheVariants as phase
-use Rattle.cable_world.proofs.Lemmas.{quiet-first}
+use Rattle.port_state.specs.declared.timing.Timing.{Timing}
+use Rattle.cable_world.specs.Times.{Suits}
+use Rattle.cable_world.proofs.Lemmas.{quiet-first, after-longest}
 use Rattle.convergence.proofs.turns.Cables.{joined-held}
 use Rattle.convergence.proofs.turns.CalmTurns.{Calmly, heard_by}
 use Rattle.convergence.proofs.coins.StaysContested.{rivals-of}
@@ -295,13 +297,20 @@ module _ (set : ℕ) (a b : End) (m : ℕ) (small : m ≤ 64) where
 not-so-long :
     (w : CableWorld) (set : ℕ) → Grown w set → (k : ℕ) (x : PortNode) →
     slice_get w.nodes k ≡ Some x → x.state.view.phase ≡ phase.Contend →
-    10 * w.delay ≤ x.state.view.timer → ⊥
+    w.longest.long ≤ x.state.view.timer → ⊥
 not-so-long w set g k x at c long =
     let knows : KnowsCoins w.delay x.state = g.contested.nodes k x at in
+    let fits : Suits w.delay w.longest x.state.timing = (g.lawful.well_formed.nodes k x at).timing in
     elim (knows.shows c) [
-      | inl s ↦ omega (arith, long, knows.waits c, s)
-      | inr s ↦ omega (arith, long, knows.waits c, s.1)
+      | inl s ↦ omega (arith, long, knows.waits c, s, fits.short_most, fits.long_least, fits.long_most)
+      | inr s ↦ omega (arith, long, knows.waits c, s, fits.long_most)
     ]
+
+-- the longest wait after so many turns
+longest-wait :
+    (hs : HoldSchedule) (w : CableWorld) (set : ℕ) → Grown w set → (i : ℕ) →
+    (quiet_after hs i w).longest.long ≡ w.longest.long
+longest-wait hs w set g i = ap (λ (t : Timing). t.long) (after-longest hs w g.lawful i)
 
 -- ---- both ask
 
@@ -384,7 +393,7 @@ module _ (set : ℕ) (m : ℕ) (small : m ≤ 64) where
   from-ahead :
       (hs : HoldSchedule) (a b : End) (w : CableWorld) → Grown w set →
       At w set a b (OneAhead 0 a.port b.port m) →
-      Ends hs a b w.delay (11 * w.delay) w
+      Ends hs a b w.delay (w.longest.long + w.delay) w
   from-ahead hs a b w g s = elim (run set (λ i v. At v set a b (OneAhead i a.port b.port m)) (λ v. At v set a b (AreUp a.port b.port (m + 1)) ⊎ HasRoot v set)
       (λ i. at-held set a b (OneAhead i a.port b.port m)) (up-or-root-held set a b m small) first hs w.delay 0 w g s) [
         | inr t ↦ elim t.2 [
@@ -392,10 +401,10 @@ module _ (set : ℕ) (m : ℕ) (small : m ≤ 64) where
           | inr u ↦ inr (t.0, omega (arith, t.1), u)
         ]
         | inl t ↦ elim (run set (λ i v. (v.delay ≤ i) × At v set a b (OneAhead i a.port b.port m)) (λ v. HasRoot v set)
-            (λ i holds u s. (s.0, at-held set a b (OneAhead i a.port b.port m) holds u s.1)) (root-held set) second rest (10 * w.delay) w.delay v gv (omega (arith, same), (let z : 0 + w.delay ≡ w.delay = omega arith in subst (λ k. At (quiet_after hs w.delay w) set a b (OneAhead k a.port b.port m)) z t))) [
+            (λ i holds u s. (s.0, at-held set a b (OneAhead i a.port b.port m) holds u s.1)) (root-held set) second rest w.longest.long w.delay v gv (omega (arith, same), (let z : 0 + w.delay ≡ w.delay = omega arith in subst (λ k. At (quiet_after hs w.delay w) set a b (OneAhead k a.port b.port m)) z t))) [
               | inr u ↦ inr (w.delay + u.0, omega (arith, u.1), subst (λ (z : CableWorld). HasRoot z set) (sym (quiet-then hs w.delay u.0 w)) u.2)
-              | inl u ↦ absurd (not-so-long (quiet_after rest (10 * w.delay) v) set (grown-after rest v set gv (10 * w.delay)) a.node u.1.ends.near u.1.ends.near_at u.1.is.contends
-                  (omega (arith, u.1.is.waited, same, after-delay rest v gv.lawful (10 * w.delay))))
+              | inl u ↦ absurd (not-so-long (quiet_after rest w.longest.long v) set (grown-after rest v set gv w.longest.long) a.node u.1.ends.near u.1.ends.near_at u.1.is.contends
+                  (omega (arith, u.1.is.waited, same-long, longest-wait rest v set gv w.longest.long)))
             ]
       ]
     where
@@ -410,6 +419,9 @@ module _ (set : ℕ) (m : ℕ) (small : m ≤ 64) where
 
       same : (quiet_after hs w.delay w).delay ≡ w.delay
       same = after-delay hs w g.lawful w.delay
+
+      same-long : (quiet_after hs w.delay w).longest.long ≡ w.longest.long
+      same-long = longest-wait hs w set g w.delay
 
       first :
           (u : CableWorld) → Grown u set → (i : ℕ) → At u set a b (OneAhead i a.port b.port m) →
@@ -433,7 +445,7 @@ module _ (set : ℕ) (m : ℕ) (small : m ≤ 64) where
   from-asking :
       (hs : HoldSchedule) (a b : End) (w : CableWorld) → Grown w set →
       At w set a b (BothAsk a.port b.port m) →
-      Ends hs a b (2 * w.delay) (12 * w.delay) w
+      Ends hs a b (2 * w.delay) (w.longest.long + 2 * w.delay) w
   from-asking hs a b w g s = elim (run-all set (Asking set a b m small) (λ v. Up set a b m small v ⊎ Ahead set a b m small v) (at-held set a b (BothAsk a.port b.port m)) (up-or-ahead-held set a b m small) (ask-step set a b m small) hs w.delay w g s) [
     | inl all ↦ absurd (not-all-along hs set a b m w g all)
     | inr t ↦ elim t.2 [
@@ -442,16 +454,17 @@ module _ (set : ℕ) (m : ℕ) (small : m ≤ 64) where
           let v : CableWorld = quiet_after hs t.0 w in
           let gv : Grown v set = grown-after hs w set g t.0 in
           let same : v.delay ≡ w.delay = after-delay hs w g.lawful t.0 in
-          ends-later hs a b w t.0 v.delay (11 * v.delay) (2 * w.delay) (12 * w.delay) (omega (arith, t.1, same)) (omega (arith, t.1, same))
-          (elim u [ inl c ↦ from-ahead (holds_after t.0 hs) a b v gv c | inr c ↦ ends-round-two (holds_after t.0 hs) a b v gv v.delay (11 * v.delay) (from-ahead (holds_after t.0 hs) b a v gv c) ])
+          let long : v.longest.long ≡ w.longest.long = longest-wait hs w set g t.0 in
+          ends-later hs a b w t.0 v.delay (v.longest.long + v.delay) (2 * w.delay) (w.longest.long + 2 * w.delay) (omega (arith, t.1, same, long)) (omega (arith, t.1, same, long))
+          (elim u [ inl c ↦ from-ahead (holds_after t.0 hs) a b v gv c | inr c ↦ ends-round-two (holds_after t.0 hs) a b v gv v.delay (v.longest.long + v.delay) (from-ahead (holds_after t.0 hs) b a v gv c) ])
     ]
   ]
 
   from-waiting :
       (hs : HoldSchedule) (a b : End) (w : CableWorld) → Grown w set → Waiting set a b m small 0 w →
-      Ends hs a b (12 * w.delay) (22 * w.delay) w
+      Ends hs a b (w.longest.long + 2 * w.delay) (w.longest.long + (w.longest.long + 2 * w.delay)) w
   from-waiting hs a b w g s = elim (run set (Waiting set a b m small) (λ v. Asking set a b m small v ⊎ HasRoot v set)
-      (waiting-held set a b m small) (asking-or-root-held set a b m small) (wait-step set a b m small) hs (10 * w.delay) 0 w g s) [
+      (waiting-held set a b m small) (asking-or-root-held set a b m small) (wait-step set a b m small) hs w.longest.long 0 w g s) [
         | inl t ↦ absurd (over t)
         | inr t ↦ elim t.2 [
           | inr u ↦ inr (t.0, omega (arith, t.1), u)
@@ -459,20 +472,21 @@ module _ (set : ℕ) (m : ℕ) (small : m ≤ 64) where
               let v : CableWorld = quiet_after hs t.0 w in
               let gv : Grown v set = grown-after hs w set g t.0 in
               let same : v.delay ≡ w.delay = after-delay hs w g.lawful t.0 in
-              ends-later hs a b w t.0 (2 * v.delay) (12 * v.delay) (12 * w.delay) (22 * w.delay) (omega (arith, t.1, same)) (omega (arith, t.1, same)) (from-asking (holds_after t.0 hs) a b v gv u)
+              let long : v.longest.long ≡ w.longest.long = longest-wait hs w set g t.0 in
+              ends-later hs a b w t.0 (2 * v.delay) (v.longest.long + 2 * v.delay) (w.longest.long + 2 * w.delay) (w.longest.long + (w.longest.long + 2 * w.delay)) (omega (arith, t.1, same, long)) (omega (arith, t.1, same, long)) (from-asking (holds_after t.0 hs) a b v gv u)
         ]
       ]
     where
       v : CableWorld
-      v = quiet_after hs (10 * w.delay) w
+      v = quiet_after hs w.longest.long w
 
-      gv : Grown (quiet_after hs (10 * w.delay) w) set
-      gv = grown-after hs w set g (10 * w.delay)
+      gv : Grown (quiet_after hs w.longest.long w) set
+      gv = grown-after hs w set g w.longest.long
 
-      same : (quiet_after hs (10 * w.delay) w).delay ≡ w.delay
-      same = after-delay hs w g.lawful (10 * w.delay)
+      same : (quiet_after hs w.longest.long w).longest.long ≡ w.longest.long
+      same = longest-wait hs w set g w.longest.long
 
-      over : Waiting set a b m small (0 + 10 * w.delay) (quiet_after hs (10 * w.delay) w) → ⊥
+      over : Waiting set a b m small (0 + w.longest.long) (quiet_after hs w.longest.long w) → ⊥
       over (inl t) = not-so-long v set gv a.node t.ends.near t.ends.near_at t.is.contends (omega (arith, t.is.waited, same))
       over (inr (inl t)) = not-so-long v set gv a.node t.ends.near t.ends.near_at t.is.contends (omega (arith, t.is.waited, same))
       over (inr (inr t)) = not-so-long v set gv b.node t.ends.near t.ends.near_at t.is.contends (omega (arith, t.is.waited, same))
@@ -523,12 +537,12 @@ module _ (set : ℕ) (m : ℕ) (small : m ≤ 64) where
   pub round :
       (hs : HoldSchedule) (a b : End) (w : CableWorld) → Grown w set →
       At w set a b (AreUp a.port b.port m) →
-      Ends hs a b (12 * w.delay) (22 * w.delay) w
+      Ends hs a b (w.longest.long + 2 * w.delay) (w.longest.long + (w.longest.long + 2 * w.delay)) w
   round hs a b w g s = go s.is.first s.is.second
     where
       here :
-          (up root : ℕ) → Ends hs a b up root w → up ≤ 12 * w.delay → root ≤ 22 * w.delay →
-          Ends hs a b (12 * w.delay) (22 * w.delay) w
+          (up root : ℕ) → Ends hs a b up root w → up ≤ w.longest.long + 2 * w.delay → root ≤ w.longest.long + (w.longest.long + 2 * w.delay) →
+          Ends hs a b (w.longest.long + 2 * w.delay) (w.longest.long + (w.longest.long + 2 * w.delay)) w
       here up root (inl t) h l = inl (t.0, omega (arith, t.1, h), t.2)
       here up root (inr t) h l = inr (t.0, omega (arith, t.1, l), t.2)
 
@@ -540,19 +554,19 @@ module _ (set : ℕ) (m : ℕ) (small : m ≤ 64) where
           ⊎ (s.ends.near.state.view.phase ≡ phase.Contend) →
           (s.ends.other.state.view.phase ≡ phase.ParentShake)
           ⊎ (s.ends.other.state.view.phase ≡ phase.Contend) →
-          Ends hs a b (12 * w.delay) (22 * w.delay)
+          Ends hs a b (w.longest.long + 2 * w.delay) (w.longest.long + (w.longest.long + 2 * w.delay))
           w
-      go (inl x) (inl y) = here (2 * w.delay) (12 * w.delay) (from-asking hs a b w g (record { ends = s.ends; holds = s.holds; is = record { here = s.is.here; there = s.is.there; asks = x; asks_too = y } })) (omega arith) (omega arith)
+      go (inl x) (inl y) = here (2 * w.delay) (w.longest.long + 2 * w.delay) (from-asking hs a b w g (record { ends = s.ends; holds = s.holds; is = record { here = s.is.here; there = s.is.there; asks = x; asks_too = y } })) (omega arith) (omega arith)
       go (inr x) (inr y) = from-waiting hs a b w g (inl (record {
         ends = s.ends;
         holds = s.holds;
         is = record { here = s.is.here; there = s.is.there; contends = x; contends_too = y; waited = omega arith; waited_too = omega arith };
       }))
       go (inr x) (inl y) = elim (one-of a b w g s x y) [
-        | inl t ↦ here w.delay (11 * w.delay) (from-ahead hs a b w g t) (omega arith) (omega arith)
+        | inl t ↦ here w.delay (w.longest.long + w.delay) (from-ahead hs a b w g t) (omega arith) (omega arith)
         | inr t ↦ from-waiting hs a b w g (inr (inl t))
       ]
       go (inl x) (inr y) = elim (one-of b a w g back y x) [
-        | inl t ↦ here w.delay (11 * w.delay) (ends-round-two hs a b w g w.delay (11 * w.delay) (from-ahead hs b a w g t)) (omega arith) (omega arith)
+        | inl t ↦ here w.delay (w.longest.long + w.delay) (ends-round-two hs a b w g w.delay (w.longest.long + w.delay) (from-ahead hs b a w g t)) (omega arith) (omega arith)
         | inr t ↦ from-waiting hs a b w g (inr (inr t))
       ]

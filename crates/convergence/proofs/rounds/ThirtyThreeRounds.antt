@@ -3,6 +3,8 @@
 use Rattle.std.proofs.Common.{◌≡◌, ◌⊎◌, inl, inr, ℕ, zero, suc, ◌+◌, ◌*◌, ◌<◌, ◌≤◌, Bool, true, false, if◌then◌else◌, List, Some, slice_get, refl, sym, ◌∙◌, ap, subst, arith, add-one}
 use Rattle.std.specs.Prelude.{min, nat_lt, bit_or, ◌^◌}
 use Rattle.std.proofs.lemmas.Bool.{cases_lt}
+use Rattle.port_state.specs.declared.timing.Timing.{Timing}
+use Rattle.cable_world.proofs.Lemmas.{after-longest}
 use Rattle.convergence.proofs.Common.{End, Wiring, far, IsCore, NodeState, coin, draws_with, tick, PortNode, CableWorld, wire_of, turn_at, turn, node-after, cabling-after, after-delay, some-of, some-at, some-same, one-quiet, no-quiet, quiet-then, PlacedHold, HoldSchedule, holds_after, with_holds, quiet_after, AddsDraw, DrewTogether, AreRivals, end_at}
 use Rattle.cable_world.specs.Outcome.{Shows, HasNoLoop, DrewAlike}
 use Rattle.convergence.specs.Milestones.{HasContention}
@@ -191,9 +193,9 @@ module _ (set : ℕ) (a b : End) where
       (hs : HoldSchedule) (n m : ℕ) → m + n ≤ 64 → (w : CableWorld) → Grown w set →
       At w set a b (AreUp a.port b.port m)
       →
-      ((j : ℕ) × (j ≤ n * (12 * w.delay))
+      ((j : ℕ) × (j ≤ n * (w.longest.long + 2 * w.delay))
       × At (quiet_after hs j w) set a b (AreUp a.port b.port (m + n)))
-      ⊎ ((j : ℕ) × (j ≤ n * (12 * w.delay) + 22 * w.delay) × HasRoot (quiet_after hs j w) set)
+      ⊎ ((j : ℕ) × (j ≤ n * (w.longest.long + 2 * w.delay) + (w.longest.long + (w.longest.long + 2 * w.delay))) × HasRoot (quiet_after hs j w) set)
   rounds hs zero m small w g s =
       let z : m + 0 ≡ m = omega arith in
       inl (
@@ -207,24 +209,24 @@ module _ (set : ℕ) (a b : End) where
     | inl t ↦
         let v : CableWorld = quiet_after hs t.0 w in
         let gv : Grown v set = grown-after hs w set g t.0 in
-        let same : v.delay ≡ w.delay = after-delay hs w g.lawful t.0 in
+        let same : v.longest.long + 2 * v.delay ≡ w.longest.long + 2 * w.delay = omega (arith, after-delay hs w g.lawful t.0, ap (λ (t : Timing). t.long) (after-longest hs w g.lawful t.0)) in
         let rest : HoldSchedule = holds_after t.0 hs in
         elim (rounds rest n (m + 1) (omega (arith, small)) v gv t.2) [
           | inl u ↦
               let z : m + 1 + n ≡ m + suc n = omega arith in
-              inl (t.0 + u.0, up-none n v.delay w.delay t.0 u.0 same t.1 u.1, subst (λ (q : CableWorld). At q set a b (AreUp a.port b.port (m + suc n))) (sym (quiet-then hs t.0 u.0 w)) (subst (λ k. At (quiet_after rest u.0 v) set a b (AreUp a.port b.port k)) z u.2))
-          | inr u ↦ inr (t.0 + u.0, up-to n v.delay w.delay t.0 u.0 22 same t.1 u.1, subst (λ (q : CableWorld). HasRoot q set) (sym (quiet-then hs t.0 u.0 w)) u.2)
+              inl (t.0 + u.0, up-none n (v.longest.long + 2 * v.delay) (w.longest.long + 2 * w.delay) t.0 u.0 same t.1 u.1, subst (λ (q : CableWorld). At q set a b (AreUp a.port b.port (m + suc n))) (sym (quiet-then hs t.0 u.0 w)) (subst (λ k. At (quiet_after rest u.0 v) set a b (AreUp a.port b.port k)) z u.2))
+          | inr u ↦ inr (t.0 + u.0, up-to n (v.longest.long + 2 * v.delay) (w.longest.long + 2 * w.delay) t.0 u.0 v.longest.long w.longest.long (ap (λ (t : Timing). t.long) (after-longest hs w g.lawful t.0)) same t.1 u.1, subst (λ (q : CableWorld). HasRoot q set) (sym (quiet-then hs t.0 u.0 w)) u.2)
         ]
   ]
     where
-      up-none : (n e d i j : ℕ) → e ≡ d → i ≤ 12 * d → j ≤ n * (12 * e) → i + j ≤ suc n * (12 * d)
+      up-none : (n e d i j : ℕ) → e ≡ d → i ≤ d → j ≤ n * e → i + j ≤ suc n * d
       up-none n e d i j same h l =
-          let z : suc n * (12 * d) ≡ n * (12 * d) + 12 * d = grind arith in
-          omega (arith, z, h, subst (λ q. j ≤ n * (12 * q)) same l)
+          let z : suc n * d ≡ n * d + d = grind arith in
+          omega (arith, z, h, subst (λ q. j ≤ n * q) same l)
 
       up-to :
-          (n e d i j c : ℕ) → e ≡ d → i ≤ 12 * d → j ≤ n * (12 * e) + c * e →
-          i + j ≤ suc n * (12 * d) + c * d
-      up-to n e d i j c same h l =
-          let z : suc n * (12 * d) ≡ n * (12 * d) + 12 * d = grind arith in
-          omega (arith, z, h, subst (λ q. j ≤ n * (12 * q) + c * q) same l)
+          (n e d i j b c : ℕ) → b ≡ c → e ≡ d → i ≤ d → j ≤ n * e + (b + e) →
+          i + j ≤ suc n * d + (c + d)
+      up-to n e d i j b c long same h l =
+          let z : suc n * d ≡ n * d + d = grind arith in
+          omega (arith, z, h, long, subst (λ q. j ≤ n * q + (b + q)) same l)

@@ -2,6 +2,8 @@
 use Rattle.std.proofs.Common.{◌≡◌, ℕ, zero, suc, ◌+◌, ◌-◌, ◌*◌, ◌≤◌, true, false, Some, slice_get, refl, sym, ◌∙◌, ap, subst, arith, add-one}
 use Rattle.convergence.proofs.Common.{Phase, NodeState, Timing, coin, PortNode, CableWorld, is_before_tree, is_in_bus_reset, IsLawful, after-delay, risen, one-quiet, no-quiet, quiet-lawful, HoldSchedule, quiet_after, ResetsAreDone}
 use Rattle.port_state.specs.declared.signal.Phase.TheVariants as phase
+use Rattle.cable_world.specs.Times.{Suits}
+use Rattle.cable_world.proofs.Lemmas.{after-longest}
 use Rattle.convergence.proofs.turns.CalmTurns.{Calmly, calmly, heard_by, early-before, done-calm, turn-done}
 use Rattle.convergence.proofs.turns.BeforeTree.{StaysInStart, stays-in-start}
 
@@ -68,15 +70,17 @@ module _ (hs : HoldSchedule) (v : CableWorld) (l : IsLawful v) (done : ResetsAre
       up : (n a b c : ℕ) → n - 1 ≤ a → b ≡ a → c ≡ risen b → n ≤ 65535 → n ≤ c
       up n a b c h e f m = omega (arith, h, e, f, m)
 
-  -- after 512 d turns it reports a time out
+  -- after the longest timeout it reports a time out
   pub start-reports :
-      (i k : ℕ) → 512 * v.delay ≤ i → (e : IsEarly (quiet_after hs i v) k) →
+      (i k : ℕ) → v.longest.timeout + 1 ≤ i → (e : IsEarly (quiet_after hs i v) k) →
       (e.node.state.view.phase ≡ phase.TreeStart) × (e.node.state.view.timed_out ≡ true)
-  start-reports zero k late e = absurd (omega (arith, late, l.well_formed.some_delay))
+  start-reports zero k late e = absurd (omega (arith, late))
   start-reports (suc i) k late e =
       let at : slice_get (quiet_after hs (i + 1) v).nodes k ≡ Some e.node = subst (λ m. slice_get (quiet_after hs m v).nodes k ≡ Some e.node) (sym (add-one i)) e.at in
       let s = started i k e.node at e.early in
-      let old : 512 * v.delay ≤ e.node.state.view.timer = start-timer (suc i) (512 * v.delay) k late (omega (arith, l.well_formed.short_delay)) e in
-      let timeout : (heard_by (quiet_after hs i v) k s.calm.node).timing.timeout ≡ 512 * v.delay =
-      ap (λ (t : Timing). t.timeout) s.calm.hears.timing ∙ ((quiet-lawful hs i v l).well_formed.nodes k s.calm.node s.calm.at).timing.timeout ∙ ap (λ d. 512 * d) (after-delay hs v l i) in
+      let fits : Suits (quiet_after hs i v).delay (quiet_after hs i v).longest s.calm.node.state.timing = ((quiet-lawful hs i v l).well_formed.nodes k s.calm.node s.calm.at).timing in
+      let same : (quiet_after hs i v).longest.timeout ≡ v.longest.timeout = ap (λ (t : Timing). t.timeout) (after-longest hs v l i) in
+      let old : v.longest.timeout ≤ e.node.state.view.timer = start-timer (suc i) v.longest.timeout k (omega (arith, late)) (omega (arith, same, fits.counted.timeout)) e in
+      let timeout : (heard_by (quiet_after hs i v) k s.calm.node).timing.timeout ≤ v.longest.timeout =
+      omega (arith, ap (λ (t : Timing). t.timeout) s.calm.hears.timing, fits.timeout_most, same) in
       (s.is_start, s.kept.reports (omega (arith, old, timeout)))

@@ -6,6 +6,8 @@ use Rattle.std.proofs.Common.{◌≡◌, ◌⊎◌, inl, inr, ℕ, zero, suc, �
 use Rattle.std.specs.Int.{bit_at}
 use Rattle.std.proofs.lemmas.Bool.{eqb-true, eq-eqb, and_from, and_parts, false_from_ne_true}
 use Rattle.std.proofs.lemmas.Option.{slice_get_within}
+use Rattle.cable_world.specs.Times.{Suits}
+use Rattle.cable_world.proofs.Lemmas.{after-longest}
 use Rattle.convergence.proofs.Common.{Phase, PortView, NodeState, Timing, is_parent, passes, is_connected, is_port, raise_timer, IsValid, PortNode, End, Wiring, far, Holds, IsClosed, HasTwo, IsCore, end_at, CableWorld, wire_of, level_sent, level_shown, shown_or_idle, leads_down, level_sent_at, is_before_tree, is_shaking, is_asking, Coupling, IsLawful, after-delay, after-length, child-if, cable-connected, late-roles, tree_start-known, quiet-then, quiet-lawful, after-cabling, HoldSchedule, holds_after, quiet_after, ResetsAreDone, contrary}
 use Rattle.port_state.specs.declared.signal.Phase.TheVariants as phase
 use Rattle.cabling.specs.NodeSet.{IsWithin, IsEmpty}
@@ -76,9 +78,9 @@ pub record TwoSilent (y : NodeState) : Type 0 where
   pub high_silent : Silent y high
 
 module _ (hs : HoldSchedule) (v : CableWorld) (l : IsLawful v) (done : ResetsAreDone v) where
-  -- after 256 d turns two ports keep it there
+  -- after the longest force time two ports keep it there
   stays-by-two :
-      (i k : ℕ) → 256 * v.delay ≤ i → (n : IsEarly (quiet_after hs (i + 1) v) k) →
+      (i k : ℕ) → v.longest.force ≤ i → (n : IsEarly (quiet_after hs (i + 1) v) k) →
       TwoSilent n.node.state
   stays-by-two i k old n = record { low = two.low; high = two.high; apart = two.apart; low_silent = silent two.low two.low_left; high_silent = silent two.high two.high_left }
     where
@@ -90,11 +92,13 @@ module _ (hs : HoldSchedule) (v : CableWorld) (l : IsLawful v) (done : ResetsAre
 
       force : (raise_timer now).timing.force ≤ (raise_timer now).view.timer
       force =
-          let needed : now.timing.force ≡ 256 * v.delay =
-          ap (λ (t : Timing). t.force) s.calm.hears.timing ∙ ((quiet-lawful hs i v l).well_formed.nodes k s.calm.node s.calm.at).timing.force ∙ ap (λ d. 256 * d) (after-delay hs v l i) in
-          let timer : 256 * v.delay ≤ s.calm.node.state.view.timer =
-          start-timer hs v l done i (256 * v.delay) k old (omega (arith, l.well_formed.short_delay)) (record { node = s.calm.node; at = s.calm.at; early = start-early s.calm.node.state.view.phase s.start }) in
-          enough now.timing.force now.view.timer (omega (arith, needed, timer, s.calm.heard.timer)) (omega (arith, needed, l.well_formed.short_delay))
+          let fits : Suits (quiet_after hs i v).delay (quiet_after hs i v).longest s.calm.node.state.timing = ((quiet-lawful hs i v l).well_formed.nodes k s.calm.node s.calm.at).timing in
+          let same : (quiet_after hs i v).longest.force ≡ v.longest.force = ap (λ (t : Timing). t.force) (after-longest hs v l i) in
+          let few : v.longest.force ≤ 65535 = omega (arith, same, fits.counted.force) in
+          let needed : now.timing.force ≤ v.longest.force = omega (arith, ap (λ (t : Timing). t.force) s.calm.hears.timing, fits.force_most, same) in
+          let timer : v.longest.force ≤ s.calm.node.state.view.timer =
+          start-timer hs v l done i (v.longest.force) k old few (record { node = s.calm.node; at = s.calm.at; early = start-early s.calm.node.state.view.phase s.start }) in
+          enough now.timing.force now.view.timer (omega (arith, needed, timer, s.calm.heard.timer)) (omega (arith, needed, few))
         where
           enough : (f t : ℕ) → f ≤ t → f ≤ 65535 → f ≤ min (t + 1) 65535
           enough f t h m = omega (arith, h, m)
@@ -161,7 +165,7 @@ module _
       let p = member-parts (i + j) k h in
       member-from i k p.0 (early-at-first (holds_after i hs) (quiet_after hs i v) (quiet-lawful hs i v l) (done-at hs v l done i) j k (subst (λ u. IsEarly u k) (quiet-then hs i j v) p.1))
 
-  module _ (t : ℕ) (old : 256 * v.delay ≤ t) where
+  module _ (t : ℕ) (old : v.longest.force ≤ t) where
     abbrev g : Gathered (member t) (length v.nodes)
     g = gathered (member t) (length v.nodes) few
 
@@ -227,10 +231,10 @@ module _
         count-less (member (t + v.delay)) (member t) (λ j. member-was t v.delay j) (length v.nodes) found.0 u.0 (gone found.0 found.1 found.2 (member (t + v.delay) found.0) refl) u.1
 
   abbrev time : ℕ → ℕ
-  time zero = 256 * v.delay
+  time zero = v.longest.force
   time (suc c) = time c + v.delay
 
-  time-is : (c : ℕ) → time c ≡ 256 * v.delay + c * v.delay
+  time-is : (c : ℕ) → time c ≡ v.longest.force + c * v.delay
   time-is zero = omega arith
   time-is (suc c) = let z : suc c * v.delay ≡ c * v.delay + v.delay = grind arith in omega (arith, z, time-is c)
 
@@ -261,7 +265,7 @@ module _
 
   -- so in the end each node knows its tree
   pub all-taken :
-      (i : ℕ) → 256 * v.delay + length v.nodes * v.delay ≤ i → (k : ℕ) (x : PortNode) →
+      (i : ℕ) → v.longest.force + length v.nodes * v.delay ≤ i → (k : ℕ) (x : PortNode) →
       Holds set k → slice_get (quiet_after hs i v).nodes k ≡ Some x →
       is_before_tree x.state.view.phase ≡ false
   all-taken i late k x h at = false_from_ne_true _ (λ e.

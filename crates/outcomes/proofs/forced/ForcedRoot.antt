@@ -27,7 +27,7 @@ module _
 
   -- resets are done
   abbrev first : ℕ
-  first = spread + 81 * w.delay
+  first = spread + (w.longest.hold + w.delay)
 
   abbrev start : CableWorld
   start = quiet_after hs first w
@@ -40,7 +40,7 @@ module _
   start-lawful = quiet-lawful hs first w l
 
   start-done : ResetsAreDone start
-  start-done = let low : 81 * w.delay ≤ 81 * w.delay = omega arith in resets-done hs w l (81 * w.delay) low
+  start-done = let low : (w.longest.hold + w.delay) ≤ (w.longest.hold + w.delay) = omega arith in resets-done hs w l ((w.longest.hold + w.delay)) low
 
   there : f < length w.nodes
   there = let y = some-of (slice_get w.nodes f) _ alone.waits in slice_get_within w.nodes f y.0 y.1
@@ -52,9 +52,9 @@ module _
       (i k : ℕ) (x : PortNode) → Holds set k → k ≢ f →
       slice_get (quiet_after rest i start).nodes k ≡ Some x → x.state.view.force ≡ false
   free i k x h other at =
-      let z : spread + (81 * w.delay + i) ≡ first + i = omega arith in
-      let is : quiet_after rest i start ≡ quiet_after hs (spread + (81 * w.delay + i)) w = sym (ap (λ n. quiet_after hs n w) z ∙ quiet-then hs first i w) in
-      forces hs w l node set comp fresh (81 * w.delay + i) k false x h (alone.others k h other) (ap (λ (u : CableWorld). slice_get u.nodes k) (sym is) ∙ at)
+      let z : spread + (w.longest.hold + w.delay + i) ≡ first + i = omega arith in
+      let is : quiet_after rest i start ≡ quiet_after hs (spread + (w.longest.hold + w.delay + i)) w = sym (ap (λ n. quiet_after hs n w) z ∙ quiet-then hs first i w) in
+      forces hs w l node set comp fresh (w.longest.hold + w.delay + i) k false x h (alone.others k h other) (ap (λ (u : CableWorld). slice_get u.nodes k) (sym is) ∙ at)
 
   start-late :
       (i : ℕ) → length start.nodes * start.delay ≤ i → (k : ℕ) (x : PortNode) → Holds set k →
@@ -66,7 +66,7 @@ module _
       let ways_then : WaysUp start.cabling set f up.0 = subst (λ c. WaysUp c set f up.0) (sym (after-cabling hs first w)) up.1 in
       all-late rest start start-lawful start-done set f closed alone.holds (omega (arith, there, same)) up.0 ways_then free
 
-  -- 2 n d + 81 d turns
+  -- 2 n d turns, the longest hold and d
   abbrev pub enough : ℕ
   enough = first + spread
 
@@ -85,10 +85,10 @@ module _
       (i : ℕ) (x : PortNode) → slice_get (quiet_after hs (enough + i) w).nodes f ≡ Some x →
       x.state.view.parent ≡ None
   parentless zero x at =
-      let z : enough + 0 ≡ spread + (81 * w.delay + spread) = omega arith in
-      let soon : spread + (81 * w.delay + spread) < 320 * w.delay = omega (arith, spread-most hs w l node set comp fresh, l.well_formed.some_delay) in
+      let z : enough + 0 ≡ spread + (w.longest.hold + w.delay + spread) = omega arith in
+      let soon : spread + (w.longest.hold + w.delay + spread) ≤ w.longest.hold + 127 * w.delay = omega (arith, spread-most hs w l node set comp fresh, l.well_formed.some_delay) in
       let n : enough ≤ enough + 0 = omega arith in
-      (waiting hs w l node set comp fresh (81 * w.delay + spread) f x soon alone.holds alone.waits (subst (λ n. slice_get (quiet_after hs n w).nodes f ≡ Some x) z at)).late (late (enough + 0) n f x alone.holds at)
+      (waiting hs w l node set comp fresh (w.longest.hold + w.delay + spread) f x soon alone.holds alone.waits (subst (λ n. slice_get (quiet_after hs n w).nodes f ≡ Some x) z at)).late (late (enough + 0) n f x alone.holds at)
   parentless (suc i) x at =
       let z : enough + suc i ≡ enough + i + 1 = omega arith in
       let past : spread ≤ enough + i = omega arith in

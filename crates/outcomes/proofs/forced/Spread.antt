@@ -144,7 +144,7 @@ module _
           hold-least = omega (arith, ap (λ (z : Timing). z.hold) t.hears.timing, (l.well_formed.nodes k t.node t.at).timing.hold_least)
 
           hold-most : (heard_by v k t.node).timing.hold ≤ 65535
-          hold-most = omega (arith, ap (λ (z : Timing). z.hold) t.hears.timing, (l.well_formed.nodes k t.node t.at).timing.hold_most, l.well_formed.short_delay)
+          hold-most = omega (arith, ap (λ (z : Timing). z.hold) t.hears.timing, (l.well_formed.nodes k t.node t.at).timing.hold_most, (l.well_formed.nodes k t.node t.at).timing.counted.hold)
 
   turn-spreads : Spreads (turn v) set (i + 1)
   turn-spreads = record { timers = spread-timers; waits = spread-waits }

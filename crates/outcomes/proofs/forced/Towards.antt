@@ -314,7 +314,7 @@ module _
   alone-parentless :
       (i : ℕ) (y : PortNode) → spread ≤ i → slice_get (quiet_after hs i w).nodes f ≡ Some y →
       is_before_tree y.state.view.phase ≡ false → y.state.view.parent ≡ None
-  alone-parentless i y past at g = elim (cases_lt i (320 * w.delay)) [
+  alone-parentless i y past at g = elim (cases_lt i (w.longest.hold + 127 * w.delay + 1)) [
     | inl soon ↦
         let z : i ≡ spread + (i - spread) = omega (arith, past) in
         (waiting hs w l node set comp fresh (i - spread) f y (omega (arith, soon, past)) alone.holds alone.waits (subst (λ n. slice_get (quiet_after hs n w).nodes f ≡ Some y) z at)).late g

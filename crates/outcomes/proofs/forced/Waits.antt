@@ -1,15 +1,15 @@
--- A node of a fresh component that waits to become root: it comes to T0 after 64 d turns at the
--- earliest, and so
--- takes a parent port in none of the first 320 d turns.
+-- A node of a fresh component that waits to become root: it comes to T0 after its hold at the
+-- earliest, and so takes a parent port in none of the first turns, as many as its hold and its force
+-- time together.
 use Rattle.std.proofs.Math.Nat.{mul-le-mul_left}
 use Rattle.std.proofs.Common.{◌≡◌, inl, inr, ℕ, zero, suc, ◌+◌, ◌-◌, ◌*◌, ◌<◌, ◌≤◌, Bool, true, false, Option, Some, None, length, min, slice_get, if◌then◌else◌, refl, sym, ◌∙◌, ap, subst, arith, add-one, true≢false}
 use Rattle.std.proofs.lemmas.Bool.{eq-eqb}
 use Rattle.outcomes.proofs.Common.{contrary, Phase, NodeState, Timing, coin, is_port, is_resetting, raise_timer, tick, PortNode, Holds, IsComponent, CableWorld, turn, is_before_tree, is_after_hold, IsLawful, IsFresh, Shows, in-turn, after-delay, some-of, some-same, risen, one-quiet, no-quiet, quiet-lawful, HoldSchedule, quiet_after, waits_due, gap_due, Calmly, signals, heard_by, parent-was}
 use Rattle.port_state.specs.declared.signal.Phase.TheVariants as phase
-use Rattle.port_state.specs.Timing.{InRange}
+use Rattle.cable_world.specs.Times.{Suits}
 use Rattle.port_state.specs.declared.view.View.{View}
 use Rattle.cable_world.specs.Phases.{is_timed}
-use Rattle.cable_world.proofs.Lemmas.{steady}
+use Rattle.cable_world.proofs.Lemmas.{after-longest, steady}
 use Rattle.convergence.proofs.Lemmas.{late-start}
 use Rattle.outcomes.proofs.forced.Forced.{SameDue, due-heard, kept-heard, tick-holds, Takes, tick-takes, waits-parentless}
 use Rattle.outcomes.proofs.forced.Spread.{Turned, turned, spreads, all-reset}
@@ -72,7 +72,7 @@ module _
       hold-least = omega (arith, ap (λ (z : Timing). z.hold) t.hears.timing, (m.well_formed.nodes k t.node t.at).timing.hold_least)
 
       hold-most : (heard_by u k t.node).timing.hold ≤ 65535
-      hold-most = omega (arith, ap (λ (z : Timing). z.hold) t.hears.timing, (m.well_formed.nodes k t.node t.at).timing.hold_most, m.well_formed.short_delay)
+      hold-most = omega (arith, ap (λ (z : Timing). z.hold) t.hears.timing, (m.well_formed.nodes k t.node t.at).timing.hold_most, (m.well_formed.nodes k t.node t.at).timing.counted.hold)
 
   -- and whether a node waits stays, and its gap count
   pub force-stays :
@@ -85,12 +85,12 @@ module _
 
 -- ---- a node that waits
 
--- after so many turns of a fresh component, where a cable delays by at most d turns
-pub record Waiting (d i : ℕ) (x : NodeState) : Type 0 where
+-- after so many turns of a fresh component
+pub record Waiting (i : ℕ) (x : NodeState) : Type 0 where
   pub waits : x.view.force ≡ true
   pub start : is_resetting x.view.phase ≡ true → x.view.timer ≤ i
-  pub between : is_after_hold x.view.phase ≡ true → 64 * d ≤ i
-  pub tree : x.view.phase ≡ phase.TreeStart → x.view.timer + 64 * d ≤ i
+  pub between : is_after_hold x.view.phase ≡ true → x.timing.hold ≤ i
+  pub tree : x.view.phase ≡ phase.TreeStart → x.view.timer + x.timing.hold ≤ i
   pub late : is_before_tree x.view.phase ≡ false → x.view.parent ≡ None
 
 no-port : (o : Option ℕ) → ((k : ℕ) → is_port o k ≡ true → ⊥) → o ≡ None
@@ -118,23 +118,26 @@ module _
     | inr start ↦ contrary (ap is_before_tree (sym c.heard.phase ∙ start)) past
   ])
 
-  module _ (q : Waiting w.delay i c.node.state) (soon : i + 1 < 320 * w.delay) where
-    between-next : is_after_hold y.state.view.phase ≡ true → 64 * w.delay ≤ i + 1
+  module _ (q : Waiting i c.node.state) (soon : i + 1 ≤ w.longest.hold + 127 * w.delay) where
+    same-hold : y.state.timing.hold ≡ c.node.state.timing.hold
+    same-hold = ap (λ (z : NodeState). z.timing.hold) c.is ∙ ap (λ (z : Timing). z.hold) (c.ticks.timing ∙ c.hears.timing)
+
+    between-next : is_after_hold y.state.view.phase ≡ true → y.state.timing.hold ≤ i + 1
     between-next h = elim (c.ticks.between (sym (ap (λ (z : NodeState). is_after_hold z.view.phase) c.is) ∙ h)) [
-      | inl was ↦ omega (arith, q.between (sym (ap is_after_hold c.heard.phase) ∙ was))
+      | inl was ↦ omega (arith, q.between (sym (ap is_after_hold c.heard.phase) ∙ was), same-hold)
       | inr left ↦
-          let hold : 64 * w.delay ≤ now.timing.hold = omega (arith, ap (λ (z : Timing). z.hold) c.hears.timing, ((quiet-lawful hs i w l).well_formed.nodes k c.node c.at).timing.hold_least, after-delay hs w l i) in
-          up (64 * w.delay) now.timing.hold now.view.timer i hold left.1 (omega (arith, q.start (sym (ap is_resetting c.heard.phase) ∙ left.0), c.heard.timer))
+          let hold : y.state.timing.hold ≤ now.timing.hold = omega (arith, ap (λ (z : Timing). z.hold) c.hears.timing, same-hold) in
+          up y.state.timing.hold now.timing.hold now.view.timer i hold left.1 (omega (arith, q.start (sym (ap is_resetting c.heard.phase) ∙ left.0), c.heard.timer))
     ]
       where
         up : (a h t i : ℕ) → a ≤ h → h ≤ risen t → t ≤ i → a ≤ i + 1
         up a h t i b r s = omega (arith, b, r, s)
 
-    tree-next : y.state.view.phase ≡ phase.TreeStart → y.state.view.timer + 64 * w.delay ≤ i + 1
+    tree-next : y.state.view.phase ≡ phase.TreeStart → y.state.view.timer + y.state.timing.hold ≤ i + 1
     tree-next h = elim (c.ticks.timed (sym (ap (λ (z : NodeState). is_timed z.view.phase) c.is) ∙ tree-timed y.state.view.phase h)) [
       | inl same ↦
-          let was : c.node.state.view.timer + 64 * w.delay ≤ i = q.tree (sym c.heard.phase ∙ sym same.0 ∙ sym (ap (λ (z : NodeState). z.view.phase) c.is) ∙ h) in
-          up y.state.view.timer now.view.timer c.node.state.view.timer (64 * w.delay) i (omega (arith, ap (λ (z : NodeState). z.view.timer) c.is, same.1)) c.heard.timer was
+          let was : c.node.state.view.timer + c.node.state.timing.hold ≤ i = q.tree (sym c.heard.phase ∙ sym same.0 ∙ sym (ap (λ (z : NodeState). z.view.phase) c.is) ∙ h) in
+          omega (arith, same-hold, up y.state.view.timer now.view.timer c.node.state.view.timer c.node.state.timing.hold i (omega (arith, ap (λ (z : NodeState). z.view.timer) c.is, same.1)) c.heard.timer was)
       | inr none ↦ omega (arith, ap (λ (z : NodeState). z.view.timer) c.is, none, between-next (tree-between y.state.view.phase h))
     ]
       where
@@ -148,19 +151,20 @@ module _
         go false e = late-parentless e (q.late e)
         go true e =
             let takes : Takes now (tick (coin c.node.coins) now).state = tick-takes (coin c.node.coins) now (ap is_before_tree c.heard.phase ∙ e) (sym (ap (λ (z : NodeState). is_before_tree z.view.phase) c.is) ∙ h) in
-            let timer : c.node.state.view.timer + 64 * w.delay ≤ i = q.tree (sym c.heard.phase ∙ takes.start) in
-            let force : now.timing.force ≡ 256 * w.delay =
-            ap (λ (z : Timing). z.force) c.hears.timing ∙ ((quiet-lawful hs i w l).well_formed.nodes k c.node c.at).timing.force ∙ ap (λ d. 256 * d) (after-delay hs w l i) in
+            let timer : c.node.state.view.timer + c.node.state.timing.hold ≤ i = q.tree (sym c.heard.phase ∙ takes.start) in
+            let fits : Suits v.delay v.longest c.node.state.timing = ((quiet-lawful hs i w l).well_formed.nodes k c.node c.at).timing in
+            let force : w.longest.hold + 127 * w.delay < c.node.state.timing.hold + now.timing.force =
+            omega (arith, fits.force_least, ap (λ (z : Timing). z.force) c.hears.timing, ap (λ (z : Timing). z.hold) (after-longest hs w l i), after-delay hs w l i) in
             let waits : now.view.force ≡ true = (kept-heard (signals v k) c.node.state (ap is_resetting c.heard.phase)).0 ∙ q.waits in
             ap (λ (z : NodeState). z.view.parent) c.is ∙ takes.parent
-            ∙ waits-parentless (raise_timer now) takes.decided waits (low now.view.timer c.node.state.view.timer w.delay i now.timing.force c.heard.timer timer force soon)
+            ∙ waits-parentless (raise_timer now) takes.decided waits (low now.view.timer c.node.state.view.timer c.node.state.timing.hold i now.timing.force (w.longest.hold + 127 * w.delay) c.heard.timer timer force soon)
           where
             low :
-                (a b d i f : ℕ) → a ≡ b → b + 64 * d ≤ i → f ≡ 256 * d → i + 1 < 320 * d →
+                (a b c i f n : ℕ) → a ≡ b → b + c ≤ i → n < c + f → i + 1 ≤ n →
                 min (a + 1) 65535 < f
-            low a b d i f h g e s = omega (arith, h, g, e, s)
+            low a b c i f n h g e s = omega (arith, h, g, e, s)
 
-    pub waits-on : Waiting w.delay (i + 1) y.state
+    pub waits-on : Waiting (i + 1) y.state
     waits-on = record {
       waits = (force-stays hs w l i late k y at).0 ∙ q.waits;
       start = λ h.
@@ -219,14 +223,14 @@ module _
       stays false e = t.ticks.out e
       stays true e = (t.ticks.holds e (omega (arith, timer e, hold-least, soon)) hold-most).0
         where
-          fits : InRange (quiet_after hs i w).delay t.node.state.timing
+          fits : Suits (quiet_after hs i w).delay (quiet_after hs i w).longest t.node.state.timing
           fits = ((quiet-lawful hs i w l).well_formed.nodes k t.node t.at).timing
 
           hold-least : 64 * w.delay ≤ (heard_by (quiet_after hs i w) k t.node).timing.hold
           hold-least = omega (arith, ap (λ (z : Timing). z.hold) t.hears.timing, fits.hold_least, after-delay hs w l i)
 
           hold-most : (heard_by (quiet_after hs i w) k t.node).timing.hold ≤ 65535
-          hold-most = omega (arith, ap (λ (z : Timing). z.hold) t.hears.timing, fits.hold_most, after-delay hs w l i, l.well_formed.short_delay)
+          hold-most = omega (arith, ap (λ (z : Timing). z.hold) t.hears.timing, fits.hold_most, fits.counted.hold)
 
       same-due :
           (x y : View) → is_resetting y.phase ≡ is_resetting x.phase → y.force ≡ x.force →
@@ -311,12 +315,12 @@ module _
       slice_get (quiet_after hs (spread + j) w).nodes k ≡ Some x → x.state.view.force ≡ b
   forces j k b x h due at = let s = some-of (slice_get w.nodes k) _ due in (taken-over j k s.0 x h s.1 at).0 ∙ s.2
 
-  -- so a node that waits takes no parent port in 320 d turns
+  -- so a node that waits takes no parent port in these turns
   pub waiting :
-      (j k : ℕ) (x : PortNode) → spread + j < 320 * w.delay → Holds set k →
+      (j k : ℕ) (x : PortNode) → spread + j ≤ w.longest.hold + 127 * w.delay → Holds set k →
       Shows w k (λ v. waits_due v ≡ true) →
       slice_get (quiet_after hs (spread + j) w).nodes k ≡ Some x →
-      Waiting w.delay (spread + j) x.state
+      Waiting (spread + j) x.state
   waiting zero k x soon h due at = record {
     waits = forces 0 k true x h due at;
     start = λ r. omega (arith, there.1);
@@ -335,5 +339,5 @@ module _
       let late : spread ≤ spread + j = omega arith in
       let there : slice_get (quiet_after hs (spread + j + 1) w).nodes k ≡ Some x = subst (λ n. slice_get (quiet_after hs n w).nodes k ≡ Some x) z at in
       let q : Calmly (quiet_after hs (spread + j) w) k x.state = steadily hs w l (spread + j) late k x there in
-      subst (λ n. Waiting w.delay n x.state) (sym z)
+      subst (λ n. Waiting n x.state) (sym z)
       (waits-on hs w l (spread + j) late k x there (waiting j k q.node (omega (arith, soon)) h due q.at) (omega (arith, soon)))

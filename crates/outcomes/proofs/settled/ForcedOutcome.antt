@@ -3,12 +3,12 @@
 use Rattle.std.proofs.Common.{◌≡◌, ◌≢◌, inl, inr, ℕ, zero, suc, ◌+◌, ◌-◌, ◌*◌, ◌^◌, ◌<◌, ◌≤◌, true, false, Option, Some, None, IsSome, length, slice_get, sym, ◌∙◌, ap, subst, arith, true≢false}
 use Rattle.std.proofs.lemmas.Bool.{cases_eq}
 use Rattle.std.proofs.lemmas.Option.{slice_get_cases, slice_get_within}
-use Rattle.outcomes.proofs.Common.{Tree, Wiring, Holds, IsComponent, shared, IsCore, numbers, Phase, config_packet, PortNode, node_disturb, node_set_config, Config, CableWorld, IsReached, quiet_turns, IsAct, act_fault, change_in_set, is_in_bus_reset, Shows, IsTree, IsSettled, loop, tree, contention, some-of, some-at, some-same, start-before_tree, reached-lawful, act-reached, after-length, after-cabling, HoldSchedule, quiet_after, reached-contested, IsNamedAlone, IsIdentifying, is_ready}
+use Rattle.outcomes.proofs.Common.{Tree, Wiring, Holds, IsComponent, shared, IsCore, numbers, Phase, config_packet, PortNode, node_disturb, node_set_config, Config, CableWorld, IsReached, IsAct, act_fault, change_in_set, is_in_bus_reset, Shows, IsTree, IsSettled, loop, tree, contention, some-of, some-at, some-same, start-before_tree, reached-lawful, act-reached, after-length, after-cabling, HoldSchedule, quiet_after, reached-contested, IsNamedAlone, IsIdentifying, is_ready}
 use Rattle.port_state.specs.Config.{gap_or}
 use Rattle.cable_world.specs.Outcome.{HasNoLoop, Outcome, IsOutcome}
 use Rattle.cable_world.proofs.Lemmas.{step-cables}
 use Rattle.convergence.proofs.Lemmas.{quiet-contested}
-use Rattle.convergence.specs.Turns.{turns_to_over}
+use Rattle.convergence.specs.Turns.{turns_to_settle, turns_to_over}
 use Rattle.outcomes.specs.Forced.{IsForced, IsRooted, NamesRoot}
 use Rattle.outcomes.proofs.forced.Configured.{configured}
 use Rattle.outcomes.proofs.forced.ForcedRoot as forced
@@ -16,13 +16,13 @@ use Rattle.outcomes.proofs.forced.Spread.{all-reset}
 use Rattle.outcomes.proofs.forced.Towards.{no-draws}
 use Rattle.outcomes.proofs.forced.Waits.{taken-by}
 use Rattle.outcomes.proofs.settled.Outcomes.{tree-ready}
-use Rattle.outcomes.proofs.settled.QuietTurns.{quiet-enough, few-nodes, settles-at-last}
+use Rattle.outcomes.proofs.settled.QuietTurns.{few-nodes, settles-at-last}
 
 -- ---- a component in which one node is forced
 
 module _
     (hs : HoldSchedule) (w : CableWorld) (r : IsReached w) (node set root : ℕ) (f : IsForced w node set root)
-    (small : set < 2 ^ 63) (k : ℕ) (quiet : quiet_turns (length w.nodes) w.delay ≤ k) where
+    (small : set < 2 ^ 63) (k : ℕ) (quiet : turns_to_settle w ≤ k) where
   abbrev v : CableWorld
   v = quiet_after hs k w
 
@@ -32,8 +32,8 @@ module _
   abbrev first : ℕ
   first = turns_to_over w
 
-  late : 2 * (length w.nodes * w.delay) + 81 * w.delay ≤ k
-  late = omega (arith, quiet, quiet-enough (length w.nodes) w.delay, (few-nodes w f.lawful).1)
+  late : 2 * (length w.nodes * w.delay) + (w.longest.hold + w.delay) ≤ k
+  late = omega (arith, quiet, (few-nodes w f.lawful).1)
 
   rooted : IsRooted v set root
   rooted = record {
@@ -64,7 +64,7 @@ module _
   none-drew : (j : ℕ) (x : PortNode) → Holds set j → slice_get v.nodes j ≡ Some x →
       x.state.view.draws ≡ 0
   none-drew j x inside at =
-      let z : k ≡ first + (k - first) = omega (arith, quiet, quiet-enough (length w.nodes) w.delay) in
+      let z : k ≡ first + (k - first) = omega (arith, quiet) in
       undrawn (k - first) j x inside (subst (λ n. slice_get (quiet_after hs n w).nodes j ≡ Some x) z at)
 
   pub forced-outcome : (t : Tree) × IsTree v set root t
@@ -146,7 +146,7 @@ module _
 
   -- the node that the packet names is the root of the tree
   pub config-outcome :
-      HasNoLoop w set → set < 2 ^ 63 → (k : ℕ) → quiet_turns (length v.nodes) v.delay ≤ k →
+      HasNoLoop w set → set < 2 ^ 63 → (k : ℕ) → turns_to_settle v ≤ k →
       (t : Tree) × IsTree (quiet_after hs k v) set root t
   config-outcome no_loop small k quiet =
       let c = configured w v from id gap set root n.act n.component n.named in

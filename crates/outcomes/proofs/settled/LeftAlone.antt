@@ -1,6 +1,7 @@
 -- A bus that is left alone settles, and each can be left alone.
 use Rattle.std.proofs.Common.{◌≡◌, ℕ, zero, suc, ◌≤◌, List, [], ◌∷◌, length, refl, ◌∙◌, ap, subst, arith}
-use Rattle.outcomes.proofs.Common.{Wiring, IsComponent, CableWorld, turn, turns_after, Event, turns, Runs, quiet_turns, after-cabling, reached-lawful, after-length, HasNoAct}
+use Rattle.convergence.specs.Turns.{turns_to_settle}
+use Rattle.outcomes.proofs.Common.{Wiring, IsComponent, CableWorld, turn, turns_after, Event, turns, Runs, after-cabling, reached-lawful, after-length, HasNoAct}
 use Rattle.outcomes.specs.Settled.{turn_count, EveryQuietRunSettles}
 use Rattle.outcomes.specs.Headline.{IsLeftAlone, EveryBusSettles, AnyBusCanBeLeftAlone}
 use Rattle.outcomes.proofs.settled.QuietRuns.{ComesBy, comes-by}
@@ -33,7 +34,7 @@ turns-run zero w = refl
 turns-run (suc k) w = (turn w, refl, turns-run k (turn w))
 
 pub left-alone :
-    (w : CableWorld) (k : ℕ) → quiet_turns (length w.nodes) w.delay ≤ k →
+    (w : CableWorld) (k : ℕ) → turns_to_settle w ≤ k →
     IsLeftAlone w (turns_after k w)
 left-alone w k long = record {
   events = only_turns k;
@@ -44,5 +45,5 @@ left-alone w k long = record {
 
 pub can-be-left-alone : AnyBusCanBeLeftAlone
 can-be-left-alone w =
-    let k : ℕ = quiet_turns (length w.nodes) w.delay in
+    let k : ℕ = turns_to_settle w in
     (turns_after k w, left-alone w k (omega arith))

@@ -1,12 +1,15 @@
 -- After so many quiet turns every component has an outcome.
-use Rattle.std.proofs.Common.{◌≡◌, ◌⊎◌, inl, inr, ℕ, ◌+◌, ◌-◌, ◌*◌, ◌^◌, ◌<◌, ◌≤◌, true, length, sym, ◌∙◌, ap, subst, arith, true≢false}
+use Rattle.std.proofs.Common.{◌≡◌, ◌⊎◌, inl, inr, ℕ, zero, suc, ◌+◌, ◌-◌, ◌*◌, ◌^◌, ◌<◌, ◌≤◌, true, length, sym, ◌∙◌, ap, subst, arith, true≢false}
 use Rattle.std.proofs.lemmas.Option.{slice_get_cases}
-use Rattle.outcomes.proofs.Common.{Wiring, Holds, IsEmpty, IsComponent, IsCore, HasTwo, numbers, plugged, end_at, CableWorld, IsReached, quiet_turns, IsLawful, IsTree, IsSettled, loop, after-length, reached-lawful, quiet-then, quiet-lawful, after-cabling, HoldSchedule, holds_after, quiet_after, done-after, reached-contested, search-set, ResetsAreOver, ResetsAreDone, AreIdentifying, HasContention, Settles, IsNumbering}
+use Rattle.outcomes.proofs.Common.{Wiring, Holds, IsEmpty, IsComponent, IsCore, HasTwo, numbers, plugged, end_at, CableWorld, IsReached, IsLawful, IsTree, IsSettled, loop, after-length, reached-lawful, quiet-then, quiet-lawful, after-cabling, HoldSchedule, holds_after, quiet_after, done-after, reached-contested, search-set, ResetsAreOver, ResetsAreDone, AreIdentifying, HasContention, Settles, IsNumbering}
+use Rattle.port_state.specs.declared.timing.Timing.{Timing}
+use Rattle.cable_world.specs.Times.{longest_in_range}
+use Rattle.cable_world.specs.Run.{quiet_turns}
 use Rattle.convergence.proofs.Lemmas.{quiet-contested, taken-reached, decided-reached, start-grown, resets-over, grown-of, contention-after}
 use Rattle.outcomes.proofs.settled.Numbering.{quiet-numbering}
 use Rattle.convergence.specs.Kept.{IsGrown}
 use Rattle.convergence.specs.Rivals.{IsContested}
-use Rattle.convergence.specs.Turns.{turns_to_loops, turns_to_decision}
+use Rattle.convergence.specs.Turns.{turns_to_settle, turns_to_decision}
 use Rattle.outcomes.proofs.numbers.Spreads.{tree-soon}
 use Rattle.outcomes.proofs.settled.Beginnings.{all-or-not, not-both-ways}
 use Rattle.outcomes.proofs.settled.Numbering.{reached-numbering}
@@ -24,15 +27,28 @@ room-to-rest len d few =
     let q : 5 * 63 * d ≡ 315 * d = grind arith in
     omega (arith, p, q, ap (λ (m : ℕ). 5 * m * d) z)
 
+-- where times are in their ranges, `quiet_turns` are enough
 pub quiet-enough :
-    (n d : ℕ) →
-    n * d + 100 * d + d * (300 + n * n + 2 * n) + d * (600 + n * n + 2 * n) + 315 * d
-    ≤ d * (2000 + 4 * n * n + 8 * n)
-quiet-enough n d =
-    let p : d * (300 + n * n + 2 * n) ≡ 300 * d + d * (n * n) + 2 * (n * d) = grind arith in
-    let q : d * (600 + n * n + 2 * n) ≡ 600 * d + d * (n * n) + 2 * (n * d) = grind arith in
-    let z : d * (2000 + 4 * n * n + 8 * n) ≡ 2000 * d + 4 * (d * (n * n)) + 8 * (n * d) = grind arith in
-    omega (arith, p, q, z)
+    (w : CableWorld) → 1 ≤ w.delay → w.longest ≡ longest_in_range w.delay →
+    turns_to_settle w ≤ quiet_turns (length w.nodes) w.delay
+quiet-enough w some is = parts (length w.nodes) w.delay w.longest.hold w.longest.force w.longest.timeout w.longest.long some
+    (ap (λ (t : Timing). t.hold) is) (ap (λ (t : Timing). t.force) is) (ap (λ (t : Timing). t.timeout) is) (ap (λ (t : Timing). t.long) is)
+  where
+    parts :
+        (n d h f t l : ℕ) → 1 ≤ d → h ≡ 80 * d → f ≡ 256 * d → t ≡ 512 * d → l ≡ 10 * d →
+        n * d + (h + d) + (f + n * d) + (12 * (n * d) + 33 * (l + 2 * d) + (l + (l + 2 * d)) + 1)
+        + (t + 1) + 315 * d ≤ d * (2000 + 4 * n * n + 8 * n)
+    parts n d h f t l some eh ef et el =
+        let z : d * (2000 + 4 * n * n + 8 * n) ≡ 2000 * d + 4 * (d * (n * n)) + 8 * (n * d) = grind arith in
+        let p : 2 * (n * d) ≤ d * (n * n) + d = square n d in
+        omega (arith, z, p, some, eh, ef, et, el)
+      where
+        square : (n d : ℕ) → 2 * (n * d) ≤ d * (n * n) + d
+        square zero d = omega arith
+        square (suc m) d =
+            let p : d * (suc m * suc m) ≡ d * (m * m) + 2 * (m * d) + d = grind arith in
+            let q : suc m * d ≡ m * d + d = grind arith in
+            omega (arith, p, q)
 
 -- ---- the core
 
@@ -55,7 +71,7 @@ core-or-none w set core l is = elim (search-set core (λ x. true) w) [
 module _
     (hs : HoldSchedule) (w : CableWorld) (r : IsReached w) (node set core : ℕ) (there : node < length w.nodes)
     (comp : IsComponent w.cabling node set) (is_core : IsCore w.cabling set core)
-    (small : set < 2 ^ 63) (k : ℕ) (quiet : quiet_turns (length w.nodes) w.delay ≤ k) where
+    (small : set < 2 ^ 63) (k : ℕ) (quiet : turns_to_settle w ≤ k) where
   lawful : IsLawful w
   lawful = reached-lawful w r
 
@@ -63,7 +79,7 @@ module _
   v = quiet_after hs k w
 
   enough : turns_to_decision w + 315 * w.delay ≤ k
-  enough = omega (arith, quiet, quiet-enough (length w.nodes) w.delay)
+  enough = omega (arith, quiet)
 
   v-lawful : IsLawful v
   v-lawful = quiet-lawful hs k w lawful
@@ -140,21 +156,15 @@ module _
   pub settles-at-last : IsSettled v set
   settles-at-last = elim (core-or-none w set core lawful is_core) [
     | inl empty ↦ tree-settles empty
-    | inr j ↦ (loop core, loop-outcome hs w k node set core j.0 r (omega (arith, enough, loops-first)) (comp-at k) (core-at k) j.1)
+    | inr j ↦ (loop core, loop-outcome hs w k node set core j.0 r (omega (arith, quiet)) (comp-at k) (core-at k) j.1)
   ]
-    where
-      loops-first : turns_to_loops w ≤ turns_to_decision w
-      loops-first =
-          let p : w.delay * (300 + length w.nodes * length w.nodes + 2 * length w.nodes) ≡ 300 * w.delay + w.delay * (length w.nodes * length w.nodes) + 2 * (length w.nodes * w.delay) = grind arith in
-          let q : w.delay * (600 + length w.nodes * length w.nodes + 2 * length w.nodes) ≡ 600 * w.delay + w.delay * (length w.nodes * length w.nodes) + 2 * (length w.nodes * w.delay) = grind arith in
-          omega (arith, p, q)
 
 -- by then no node is in R0 or R1
 pub done-at-last :
     (hs : HoldSchedule) (w : CableWorld) (k : ℕ) → IsReached w →
-    quiet_turns (length w.nodes) w.delay ≤ k →
+    turns_to_settle w ≤ k →
     ResetsAreDone (quiet_after hs k w)
-done-at-last hs w k r quiet = done-after hs w k (reached-lawful w r) (omega (arith, quiet, quiet-enough (length w.nodes) w.delay))
+done-at-last hs w k r quiet = done-after hs w k (reached-lawful w r) (omega (arith, quiet))
 
 -- ---- how many turns n d are
 

@@ -1,18 +1,19 @@
 -- What has settled stays settled in turns and holds. A loop does, since its nodes don't leave T0 and their timers rise;
 -- a tree is at rest; of a contention it is told at the end whether a tree has come of it.
 use Rattle.std.proofs.Common.{◌≡◌, inl, inr, ℕ, ◌+◌, ◌-◌, ◌*◌, ◌^◌, ◌<◌, ◌≤◌, true, List, [], ◌∷◌, None, Some, length, slice_get, sym, ◌∙◌, ap, subst, arith}
-use Rattle.outcomes.proofs.Common.{Tree, Wiring, Holds, IsComponent, IsCore, End, NodeState, Timing, coin, PortNode, CableWorld, turn, hold, hold_fault, Event, acts, holds, turns, Runs, IsReached, quiet_turns, IsLawful, loop, tree, contention, IsTree, IsSettled, is_before_tree, some-of, some-at, some-same, reached-lawful, after-delay, after-length, cabling-after, risen, quiet-then, quiet-lawful, after-cabling, HoldSchedule, holds_after, quiet_after, ResetsAreDone, ResetsAreOver, HasContention, done-after, reached-contested, reached-acyclic, done-over, Calmly, heard_by, IsNumbering, HasNoAct}
+use Rattle.outcomes.proofs.Common.{Tree, Wiring, Holds, IsComponent, IsCore, End, NodeState, Timing, coin, PortNode, CableWorld, turn, hold, hold_fault, Event, acts, holds, turns, Runs, IsReached, IsLawful, loop, tree, contention, IsTree, IsSettled, is_before_tree, some-of, some-at, some-same, reached-lawful, after-delay, after-length, cabling-after, risen, quiet-then, quiet-lawful, after-cabling, HoldSchedule, holds_after, quiet_after, ResetsAreDone, ResetsAreOver, HasContention, done-after, reached-contested, reached-acyclic, done-over, Calmly, heard_by, IsNumbering, HasNoAct}
 use Rattle.port_state.specs.declared.signal.Phase.TheVariants as phase
 use Rattle.cable_world.specs.Outcome.{Outcome, IsLoop, IsContention, IsOutcome}
-use Rattle.cable_world.proofs.Lemmas.{turn-reached, hold-reached, delay-after, nodes-after, quiet-reached}
+use Rattle.cable_world.specs.Times.{Suits}
+use Rattle.cable_world.proofs.Lemmas.{after-longest, longest-after, turn-reached, hold-reached, delay-after, nodes-after, quiet-reached}
 use Rattle.convergence.specs.Kept.{IsGrown}
 use Rattle.convergence.specs.Milestones.{TreesAreTaken}
-use Rattle.convergence.specs.Turns.{turns_to_done}
+use Rattle.convergence.specs.Turns.{turns_to_settle, turns_to_done}
 use Rattle.convergence.proofs.Lemmas.{taken-reached, taken-turn, core-shows, Grown, grown-of, contention-turn, IsEarly, only-start, start-early, start-timer, StaysInStart, stays-in-start, calmly, early-before, done-calm, turn-done}
 use Rattle.outcomes.proofs.settled.Beginnings.{all-or-not}
 use Rattle.outcomes.proofs.settled.Numbering.{reached-numbering}
 use Rattle.outcomes.proofs.settled.Outcomes.{no-tree-yet, tree-or-none, contention-outcome, tree-outcome}
-use Rattle.outcomes.proofs.settled.QuietTurns.{settles-at-last, quiet-enough}
+use Rattle.outcomes.proofs.settled.QuietTurns.{settles-at-last}
 use Rattle.outcomes.proofs.settled.TreesStay.{turn-tree}
 use Rattle.outcomes.proofs.settled.Unnamed.{shows-unnamed}
 
@@ -21,7 +22,8 @@ use Rattle.outcomes.proofs.settled.Unnamed.{shows-unnamed}
 -- the nodes of a core have been in T0 for so long that they report the timeout
 abbrev AreLate : CableWorld → ℕ → Type 0
 AreLate w core =
-    (k : ℕ) (x : PortNode) → Holds core k → slice_get w.nodes k ≡ Some x → 512 * w.delay ≤ x.state.view.timer
+    (k : ℕ) (x : PortNode) → Holds core k → slice_get w.nodes k ≡ Some x →
+    w.longest.timeout ≤ x.state.view.timer
 
 data Come (w : CableWorld) (set : ℕ) : Type 0 where
   looped : (core : ℕ) → IsLoop w set core → AreLate w core → Come w set
@@ -65,7 +67,7 @@ module _ (w : CableWorld) (r : IsReached w) (done : ResetsAreDone w) (node set :
   record StaysLate (y : NodeState) : Type 0 where
     start : y.view.phase ≡ phase.TreeStart
     reports : y.view.timed_out ≡ true
-    late : 512 * v.delay ≤ y.view.timer
+    late : v.longest.timeout ≤ y.view.timer
 
   module _ (core : ℕ) (h : IsLoop w set core) (late : AreLate w core) where
     core-after : IsCore v.cabling set core
@@ -73,7 +75,7 @@ module _ (w : CableWorld) (r : IsReached w) (done : ResetsAreDone w) (node set :
 
     stays-late : (k : ℕ) (y : PortNode) → Holds core k → slice_get v.nodes k ≡ Some y →
         StaysLate y.state
-    stays-late k y inside at = record { start = y-start; reports = kept.reports (omega (arith, risen-late, timeout)); late = omega (arith, risen-late, delay-after w) }
+    stays-late k y inside at = record { start = y-start; reports = kept.reports (omega (arith, risen-late, timeout)); late = omega (arith, risen-late, ap (λ (t : Timing). t.timeout) (longest-after w)) }
       where
         early : is_before_tree y.state.view.phase ≡ true
         early =
@@ -92,11 +94,14 @@ module _ (w : CableWorld) (r : IsReached w) (done : ResetsAreDone w) (node set :
         kept : StaysInStart (heard_by w k c.node) y.state
         kept = subst (StaysInStart (heard_by w k c.node)) (sym c.is) (stays-in-start (coin c.node.coins) (heard_by w k c.node) (c.heard.phase ∙ x-start) (sym (ap (λ (z : NodeState). z.view.phase) c.is) ∙ y-start))
 
-        timeout : (heard_by w k c.node).timing.timeout ≡ 512 * w.delay
-        timeout = ap (λ (t : Timing). t.timeout) c.hears.timing ∙ (lawful.well_formed.nodes k c.node c.at).timing.timeout
+        fits : Suits w.delay w.longest c.node.state.timing
+        fits = (lawful.well_formed.nodes k c.node c.at).timing
 
-        risen-late : 512 * w.delay ≤ y.state.view.timer
-        risen-late = up (512 * w.delay) c.node.state.view.timer (heard_by w k c.node).view.timer y.state.view.timer (late k c.node inside c.at) c.heard.timer kept.timer (omega (arith, lawful.well_formed.short_delay))
+        timeout : (heard_by w k c.node).timing.timeout ≤ w.longest.timeout
+        timeout = omega (arith, ap (λ (t : Timing). t.timeout) c.hears.timing, fits.timeout_most)
+
+        risen-late : w.longest.timeout ≤ y.state.view.timer
+        risen-late = up w.longest.timeout c.node.state.view.timer (heard_by w k c.node).view.timer y.state.view.timer (late k c.node inside c.at) c.heard.timer kept.timer fits.counted.timeout
           where
             up : (n a b c : ℕ) → n ≤ a → b ≡ a → c ≡ risen b → n ≤ 65535 → n ≤ c
             up n a b c h e f m = omega (arith, h, e, f, m)
@@ -224,7 +229,7 @@ settled-of w node set small s = go s.come
 module _
     (hs : HoldSchedule) (w : CableWorld) (r : IsReached w) (node set core : ℕ) (there : node < length w.nodes)
     (comp : IsComponent w.cabling node set) (is_core : IsCore w.cabling set core)
-    (small : set < 2 ^ 63) (k : ℕ) (quiet : quiet_turns (length w.nodes) w.delay ≤ k) where
+    (small : set < 2 ^ 63) (k : ℕ) (quiet : turns_to_settle w ≤ k) where
   abbrev u : CableWorld
   u = quiet_after hs k w
 
@@ -237,14 +242,8 @@ module _
   abbrev first : ℕ
   first = turns_to_done w
 
-  begun : first + 512 * w.delay ≤ k
-  begun = omega (arith, quiet, quiet-enough (length w.nodes) w.delay, many)
-    where
-      many : 512 * w.delay ≤ w.delay * (300 + length w.nodes * length w.nodes + 2 * length w.nodes) + w.delay * (600 + length w.nodes * length w.nodes + 2 * length w.nodes)
-      many =
-          let p : w.delay * (300 + length w.nodes * length w.nodes + 2 * length w.nodes) ≡ 300 * w.delay + w.delay * (length w.nodes * length w.nodes) + 2 * (length w.nodes * w.delay) = grind arith in
-          let q : w.delay * (600 + length w.nodes * length w.nodes + 2 * length w.nodes) ≡ 600 * w.delay + w.delay * (length w.nodes * length w.nodes) + 2 * (length w.nodes * w.delay) = grind arith in
-          omega (arith, p, q)
+  begun : first + w.longest.timeout ≤ k
+  begun = omega (arith, quiet)
 
   abbrev start : CableWorld
   start = quiet_after hs first w
@@ -261,10 +260,12 @@ module _
         at = ap (λ (z : CableWorld). slice_get z.nodes j) same ∙ at;
         early = start-early x.state.view.phase begins;
       } in
-      let late : 512 * w.delay ≤ x.state.view.timer =
-      start-timer (holds_after first hs) start (quiet-lawful hs first w w-lawful) (done-after hs w first w-lawful (omega arith)) (k - first) (512 * w.delay) j (omega (arith, begun))
-      (omega (arith, w-lawful.well_formed.short_delay)) early in
-      omega (arith, late, after-delay hs w w-lawful k)
+      let same : (quiet_after hs k w).longest.timeout ≡ w.longest.timeout = ap (λ (t : Timing). t.timeout) (after-longest hs w w-lawful k) in
+      let fits : Suits u.delay u.longest x.state.timing = ((quiet-lawful hs k w w-lawful).well_formed.nodes j x at).timing in
+      let late : w.longest.timeout ≤ x.state.view.timer =
+      start-timer (holds_after first hs) start (quiet-lawful hs first w w-lawful) (done-after hs w first w-lawful (omega arith)) (k - first) w.longest.timeout j (omega (arith, begun))
+      (omega (arith, fits.counted.timeout, same)) early in
+      omega (arith, late, same)
 
   come-of : IsSettled u set → Come u set
   come-of s = go s.0 s.1
@@ -277,8 +278,8 @@ module _
   staying : Staying u node set
   staying = record {
     reached = quiet-reached hs k w r;
-    done = done-after hs w k w-lawful (omega (arith, quiet, quiet-enough (length w.nodes) w.delay));
-    taken = taken-reached hs w k r (omega (arith, quiet, quiet-enough (length w.nodes) w.delay));
+    done = done-after hs w k w-lawful (omega (arith, quiet));
+    taken = taken-reached hs w k r (omega (arith, quiet));
     there = omega (arith, there, after-length hs w w-lawful k);
     component = u-comp;
     come = come-of (settles-at-last hs w r node set core there comp is_core small k quiet);

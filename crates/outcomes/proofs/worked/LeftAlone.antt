@@ -1,7 +1,8 @@
--- Two nodes, one cable between them: the bus comes of power-on, it is left alone for 8128 turns, and
+-- Two nodes, one cable between them: the bus comes of power-on, it is left alone for 6442 turns, and
 -- so it has settled.
 use Rattle.std.proofs.Common.{◌≡◌, ℕ, zero, suc, true, false, [], ◌∷◌, None, Some, length, slice_get, refl, subst, arith}
-use Rattle.outcomes.proofs.Common.{enter, PortNode, IsPowerOnWorld, turns_after, act_fault, acts, IsReached, quiet_turns, some-same, attrs, at}
+use Rattle.convergence.specs.Turns.{turns_to_settle}
+use Rattle.outcomes.proofs.Common.{enter, PortNode, IsPowerOnWorld, turns_after, act_fault, acts, IsReached, some-same, attrs, at}
 use Rattle.port_state.specs.Timing.{InRange, usual_timing}
 use Rattle.port_state.proofs.Lemmas.{valid-power_on}
 use Rattle.cable_world.specs.declared.act.Act.TheVariants.{Plug}
@@ -9,6 +10,7 @@ use Rattle.cable_world.specs.World.{IsNodeAtPowerOn, world_of_nodes}
 use Rattle.cable_world.proofs.Lemmas.{plain_node}
 use Rattle.cable_world.proofs.Lemmas as pair
 use Rattle.outcomes.specs.Headline.{IsLeftAlone, AllSettled, EveryBusSettles}
+use Rattle.cable_world.proofs.Lemmas.{powered-in-range}
 use Rattle.outcomes.proofs.settled.LeftAlone.{left-alone}
 
 usual : InRange 4 (usual_timing 4)
@@ -27,7 +29,7 @@ powered (suc zero) x e = subst (λ (z : PortNode). IsNodeAtPowerOn 4 z.state) (s
 powered (suc (suc k)) x e = absurd cc
 
 at-first : IsPowerOnWorld (world_of_nodes 4 pair.nodes)
-at-first = record { some_delay = omega arith; short_delay = omega arith; few_nodes = omega arith; nodes = powered; is = refl }
+at-first = record { some_delay = omega arith; short_delay = omega arith; few_nodes = omega arith; nodes = λ k x e. powered-in-range 4 x.state (omega arith) (omega arith) (powered k x e); is = refl }
 
 free : act_fault (Plug (at 0 0) (at 1 0)) (world_of_nodes 4 pair.nodes) ≡ None
 free = refl
@@ -40,12 +42,12 @@ reached = record {
   run = (pair.start, (tt, free, refl), refl);
 }
 
-enough : quiet_turns (length pair.start.nodes) pair.start.delay ≡ 8128
+enough : turns_to_settle pair.start ≡ 6442
 unfolding enter
 enough = refl
 
-alone : IsLeftAlone pair.start (turns_after 8128 pair.start)
-alone = left-alone pair.start 8128 (omega (arith, enough))
+alone : IsLeftAlone pair.start (turns_after 6442 pair.start)
+alone = left-alone pair.start 6442 (omega (arith, enough))
 
-settled : EveryBusSettles → AllSettled (turns_after 8128 pair.start)
-settled every = every pair.start (turns_after 8128 pair.start) reached alone
+settled : EveryBusSettles → AllSettled (turns_after 6442 pair.start)
+settled every = every pair.start (turns_after 6442 pair.start) reached alone

@@ -1,0 +1,41 @@
+-- Times that suit a bus.
+use Rattle.std.proofs.Common.{◌≡◌, ℕ, ◌+◌, ◌*◌, ◌<◌, ◌≤◌, arith}
+use Rattle.port_state.specs.declared.timing.Timing.{Timing}
+use Rattle.port_state.specs.declared.states.NodeState.{NodeState}
+use Rattle.port_state.specs.Timing.{InRange}
+use Rattle.cable_world.specs.Times.{AreCounted, Suits, SuitsCables, longest_in_range}
+use Rattle.cable_world.specs.World.{IsNodeAtPowerOn, IsPowered}
+
+pub suits-cables : (d : ℕ) (longest t : Timing) → Suits d longest t → SuitsCables d t
+suits-cables d longest t s = record {
+  hold_least = s.hold_least;
+  hold_most = omega (arith, s.hold_most, s.counted.hold);
+  short_least = s.short_least;
+  long_least = omega (arith, s.short_least, s.short_most, s.long_least);
+  long_most = omega (arith, s.long_most, s.counted.long);
+  apart = omega (arith, s.short_most, s.long_least);
+}
+
+-- the ranges are an instance
+pub in-range-counted : (d : ℕ) → d ≤ 16 → AreCounted (longest_in_range d)
+in-range-counted d few = record { hold = omega (arith, few); force = omega (arith, few); timeout = omega (arith, few); long = omega (arith, few) }
+
+pub in-range-suits :
+    (d : ℕ) (t : Timing) → 1 ≤ d → d ≤ 16 → InRange d t → Suits d (longest_in_range d) t
+in-range-suits d t some few i = record {
+  counted = in-range-counted d few;
+  hold_least = i.hold_least;
+  hold_most = i.hold_most;
+  force_least = omega (arith, i.hold_least, i.force, some);
+  force_most = omega (arith, i.force);
+  timeout_most = omega (arith, i.timeout);
+  short_least = omega (arith, i.short_least, some);
+  short_most = i.short_most;
+  long_least = omega (arith, i.long_least, some);
+  long_most = i.long_most;
+}
+
+pub powered-in-range :
+    (d : ℕ) (x : NodeState) → 1 ≤ d → d ≤ 16 → IsNodeAtPowerOn d x →
+    IsPowered d (longest_in_range d) x
+powered-in-range d x some few on = record { is = on.is; valid = on.valid; timing = in-range-suits d x.timing some few on.timing }

@@ -1,0 +1,49 @@
+-- The times of nodes that share a bus, in ticks, where a cable delays a signal by at most d ticks.
+-- What holds of every world rests on these inequalities alone.
+use Rattle.std.specs.Prelude.{ℕ, ◌+◌, ◌*◌, ◌<◌, ◌≤◌}
+use Rattle.port_state.specs.declared.timing.Timing.{Timing}
+
+-- times that a node can count
+pub record AreCounted (longest : Timing) : Type 0 where
+  pub hold : longest.hold ≤ 65535
+  pub force : longest.force ≤ 65535
+  pub timeout : longest.timeout ≤ 65535
+  pub long : longest.long ≤ 65535
+
+-- the times of a node, on a bus on which no node has longer times than these
+pub record Suits (d : ℕ) (longest t : Timing) : Type 0 where
+  pub counted : AreCounted longest
+  -- a hold is longer than a signal's way through 63 nodes
+  pub hold_least : 64 * d ≤ t.hold
+  pub hold_most : t.hold ≤ longest.hold
+  -- with its hold the wait to be forced is longer than any hold and twice that way
+  pub force_least : longest.hold + 127 * d < t.hold + t.force
+  pub force_most : t.force ≤ longest.force
+  pub timeout_most : t.timeout ≤ longest.timeout
+  -- a short wait is longer than the way there and back
+  pub short_least : 2 * d < t.short
+  pub short_most : t.short ≤ longest.short
+  -- a long wait is as much longer than any short one
+  pub long_least : longest.short + 2 * d ≤ t.long
+  pub long_most : t.long ≤ longest.long
+
+-- the longest that `InRange` allows
+abbrev pub longest_in_range : ℕ → Timing
+longest_in_range d = record {
+  hold = 80 * d;
+  force = 256 * d;
+  timeout = 512 * d;
+  short = 4 * d;
+  long = 10 * d;
+}
+
+-- ---- one node, and two
+
+-- what is so of a node's times by themselves
+pub record SuitsCables (d : ℕ) (t : Timing) : Type 0 where
+  pub hold_least : 64 * d ≤ t.hold
+  pub hold_most : t.hold ≤ 65535
+  pub short_least : 2 * d < t.short
+  pub long_least : 2 * d < t.long
+  pub long_most : t.long ≤ 65535
+  pub apart : t.short + 2 * d ≤ t.long
