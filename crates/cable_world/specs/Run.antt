@@ -2,7 +2,7 @@
 use Rattle.std.specs.Prelude.{◌≡◌, ℕ, ◌+◌, ◌*◌, List, [], ◌∷◌, None}
 use Rattle.cabling.specs.declared.cable.End.{End}
 use Rattle.cable_world.specs.declared.act.Act.{Act}
-use Rattle.cable_world.specs.World.{CableWorld, IsPowerOnWorld}
+use Rattle.cable_world.specs.World.{CableWorld, AllCanBeForced, IsPowerOnWorld}
 use Rattle.cable_world.specs.Act.{ActLeads, IsAct, act_fault, hold, hold_fault}
 use Rattle.cable_world.specs.Turn.{turn}
 
@@ -24,10 +24,18 @@ Runs [] w v = v ≡ w
 Runs (e ∷ events) w v = (u : CableWorld) × Happens e w u × Runs events u v
 
 -- a world that comes of a power-on world
+pub record ComesOfPowerOn (w : CableWorld) : Type 0 where
+  pub start : CableWorld
+  pub events : List Event
+  pub power_on : IsPowerOnWorld start
+  pub run : Runs events start w
+
+-- the same, where each node can be forced: a world that runs
 pub record IsReached (w : CableWorld) : Type 0 where
   pub start : CableWorld
   pub events : List Event
   pub power_on : IsPowerOnWorld start
+  pub forced : AllCanBeForced start
   pub run : Runs events start w
 
 -- A turn is quiet where no act came since the turn before; holds may have come. After so many quiet

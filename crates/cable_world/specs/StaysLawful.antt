@@ -1,12 +1,12 @@
--- Every world that comes of a power-on world is reached, and lawful.
+-- What comes of a power-on world: it is lawful; and it is reached, where its nodes can be forced.
 use Rattle.std.specs.Prelude.{◌≡◌, ℕ, None}
 use Rattle.cabling.specs.declared.cable.End.{End}
 use Rattle.cable_world.specs.declared.act.Act.{Act}
-use Rattle.cable_world.specs.World.{CableWorld, IsPowerOnWorld}
+use Rattle.cable_world.specs.World.{CableWorld, AllCanBeForced, IsPowerOnWorld}
 use Rattle.cable_world.specs.Turn.{turns_after}
 use Rattle.cable_world.specs.Act.{ActLeads, IsAct, act_fault, hold, hold_fault}
 use Rattle.cable_world.specs.Lawful.{IsLawful}
-use Rattle.cable_world.specs.Run.{IsReached}
+use Rattle.cable_world.specs.Run.{ComesOfPowerOn, IsReached}
 
 -- ---- what holds at power-on, and is kept by turns, holds and acts
 
@@ -26,5 +26,19 @@ KeptByActs P =
 
 -- ---- laws
 
+abbrev pub ComesIsLawful : Type 0
+ComesIsLawful = (w : CableWorld) → ComesOfPowerOn w → IsLawful w
+
 abbrev pub ReachedIsLawful : Type 0
 ReachedIsLawful = (w : CableWorld) → IsReached w → IsLawful w
+
+-- a power-on world is reached where each of its nodes can be forced
+abbrev pub ReachedAtPowerOn : Type 0
+ReachedAtPowerOn = (w : CableWorld) → IsPowerOnWorld w → AllCanBeForced w → IsReached w
+
+abbrev pub ReachedComesOfPowerOn : Type 0
+ReachedComesOfPowerOn = (w : CableWorld) → IsReached w → ComesOfPowerOn w
+
+-- times never change, so that the nodes of every reached world can be forced
+abbrev pub ReachedCanBeForced : Type 0
+ReachedCanBeForced = (w : CableWorld) → IsReached w → AllCanBeForced w

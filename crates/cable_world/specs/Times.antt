@@ -16,8 +16,6 @@ pub record Suits (d : ℕ) (longest t : Timing) : Type 0 where
   -- a hold is longer than a signal's way through 63 nodes
   pub hold_least : 64 * d ≤ t.hold
   pub hold_most : t.hold ≤ longest.hold
-  -- with its hold the wait to be forced is longer than any hold and twice that way
-  pub force_least : longest.hold + 127 * d < t.hold + t.force
   pub force_most : t.force ≤ longest.force
   pub timeout_most : t.timeout ≤ longest.timeout
   -- a short wait is longer than the way there and back
@@ -26,6 +24,11 @@ pub record Suits (d : ℕ) (longest t : Timing) : Type 0 where
   -- a long wait is as much longer than any short one
   pub long_least : longest.short + 2 * d ≤ t.long
   pub long_most : t.long ≤ longest.long
+
+-- A node that waits to be forced becomes root: with its hold this wait is longer than any hold and
+-- twice a signal's way through 63 nodes.
+pub record CanBeForced (d : ℕ) (longest t : Timing) : Type 0 where
+  pub enough : longest.hold + 127 * d < t.hold + t.force
 
 -- the longest that `InRange` allows
 abbrev pub longest_in_range : ℕ → Timing

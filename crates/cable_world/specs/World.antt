@@ -9,12 +9,12 @@ use Rattle.port_state.specs.Valid.{IsValid}
 use Rattle.port_state.specs.declared.states.NodeState.{NodeState}
 use Rattle.port_state.specs.Machine.{PortNode}
 use Rattle.cable_world.specs.Wire.{Wire, empty_wire}
-use Rattle.cable_world.specs.Times.{Suits, longest_in_range}
+use Rattle.cable_world.specs.Times.{Suits, CanBeForced, longest_in_range}
 
 pub record CableWorld : Type 0 where
   -- d: a cable delays a signal by at most so many turns
   pub delay : ℕ
-  -- no node has longer times
+  -- no node has longer times: a bound for counting turns, which changes nothing that happens
   pub longest : Timing
   pub cabling : Wiring
   -- each node, by its number
@@ -90,3 +90,9 @@ pub record IsPowerOnWorld (w : CableWorld) : Type 0 where
       (k : ℕ) (x : PortNode) → slice_get w.nodes k ≡ Some x →
       IsPowered w.delay w.longest x.state
   pub is : w ≡ world_with_times w.delay w.longest w.nodes
+
+-- each node becomes root where it waits to be forced
+abbrev pub AllCanBeForced : CableWorld → Type 0
+AllCanBeForced w =
+    (k : ℕ) (x : PortNode) → slice_get w.nodes k ≡ Some x →
+    CanBeForced w.delay w.longest x.state.timing

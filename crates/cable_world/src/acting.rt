@@ -3,6 +3,7 @@ ghost use Rattle.std.specs.Prelude.{◌≡◌, ◌<◌, ◌≤◌, ℕ, None, So
 ghost use Rattle.std.specs.Option.{ForSome};
 ghost use Rattle.cabling.specs.Wiring.{Wiring};
 ghost use Rattle.port_state.specs.Config.{config_packet};
+ghost use Rattle.port_state.specs.declared.timing.Timing.{Timing};
 ghost use Rattle.port_state.specs.Machine.{node_set_config};
 ghost use Rattle.cable_world.specs.Wire.{empty_wire};
 ghost use Rattle.cable_world.specs.World.{put};
@@ -85,8 +86,8 @@ fn plug_ends<M: PortMachine>(
     requires lawful { AreLawful cabling.old (map M.record_of machines.old) wires.old changed.old
         turns }
     ensures { Ends (act.Plug a b)
-        (λ d. world_record d cabling.old (map M.record_of machines.old) wires.old changed.old turns)
-        (λ d. world_record d cabling.new (map M.record_of machines.new) wires.new changed.new turns)
+        (λ d t. world_record d t cabling.old (map M.record_of machines.old) wires.old changed.old turns)
+        (λ d t. world_record d t cabling.new (map M.record_of machines.new) wires.new changed.new turns)
         ((cabling.new ≡ cabling.old) × (machines.new ≡ machines.old)
         × (wires.new ≡ wires.old) × (changed.new ≡ changed.old)) result }
 {
@@ -115,8 +116,8 @@ fn pull_end<M: PortMachine>(
     requires lawful { AreLawful cabling.old (map M.record_of machines.old) wires.old changed.old
         turns }
     ensures { Ends (act.Pull end)
-        (λ d. world_record d cabling.old (map M.record_of machines.old) wires.old changed.old turns)
-        (λ d. world_record d cabling.new (map M.record_of machines.new) wires.new changed.new turns)
+        (λ d t. world_record d t cabling.old (map M.record_of machines.old) wires.old changed.old turns)
+        (λ d t. world_record d t cabling.new (map M.record_of machines.new) wires.new changed.new turns)
         ((cabling.new ≡ cabling.old) × (machines.new ≡ machines.old)
         × (wires.new ≡ wires.old) × (changed.new ≡ changed.old)) result }
 {
@@ -145,8 +146,8 @@ fn reset_node<M: PortMachine>(
     requires lawful { (c : Wiring) × AreLawful c (map M.record_of machines.old) wires.old
         changed.old turns }
     ensures { (c : Wiring) → Ends (act.Reset node)
-        (λ d. world_record d c (map M.record_of machines.old) wires.old changed.old turns)
-        (λ d. world_record d c (map M.record_of machines.new) wires.new changed.new turns)
+        (λ d t. world_record d t c (map M.record_of machines.old) wires.old changed.old turns)
+        (λ d t. world_record d t c (map M.record_of machines.new) wires.new changed.new turns)
         ((machines.new ≡ machines.old) × (wires.new ≡ wires.old)
         × (changed.new ≡ changed.old)) result }
 {
@@ -179,8 +180,8 @@ fn send_config<M: PortMachine>(
     requires lawful { AreLawful cabling.now (map M.record_of machines.old) wires.old changed.old
         turns }
     ensures { Ends (act.Config from root_id force gap)
-        (λ d. world_record d cabling.now (map M.record_of machines.old) wires.old changed.old turns)
-        (λ d. world_record d cabling.now (map M.record_of machines.new) wires.new changed.new turns)
+        (λ d t. world_record d t cabling.now (map M.record_of machines.old) wires.old changed.old turns)
+        (λ d t. world_record d t cabling.now (map M.record_of machines.new) wires.new changed.new turns)
         ((machines.new ≡ machines.old) × (wires.new ≡ wires.old)
         × (changed.new ≡ changed.old)) result }
 {
@@ -214,8 +215,8 @@ fn do_act<M: PortMachine>(
     requires lawful { AreLawful cabling.old (map M.record_of machines.old) wires.old changed.old
         turns }
     ensures { Ends act.now
-        (λ d. world_record d cabling.old (map M.record_of machines.old) wires.old changed.old turns)
-        (λ d. world_record d cabling.new (map M.record_of machines.new) wires.new changed.new turns)
+        (λ d t. world_record d t cabling.old (map M.record_of machines.old) wires.old changed.old turns)
+        (λ d t. world_record d t cabling.new (map M.record_of machines.new) wires.new changed.new turns)
         ((cabling.new ≡ cabling.old) × (machines.new ≡ machines.old)
         × (wires.new ≡ wires.old) × (changed.new ≡ changed.old)) result }
 {
@@ -247,20 +248,20 @@ pub fn act_world<M: PortMachine>(
     requires is { IsAct act.now }
     requires lawful { AreLawful cabling.old (map M.record_of machines.old) wires.old changed.old
         turns }
-    ensures done { OnOk result ((d : ℕ) → ActLeads act.now
-        (world_record d cabling.old (map M.record_of machines.old) wires.old changed.old turns)
-        (world_record d cabling.new (map M.record_of machines.new) wires.new changed.new turns)) }
-    ensures accepted { OnOk result ((d : ℕ) → act_fault act.now
-        (world_record d cabling.old (map M.record_of machines.old) wires.old changed.old turns)
+    ensures done { OnOk result ((d : ℕ) (t : Timing) → ActLeads act.now
+        (world_record d t cabling.old (map M.record_of machines.old) wires.old changed.old turns)
+        (world_record d t cabling.new (map M.record_of machines.new) wires.new changed.new turns)) }
+    ensures accepted { OnOk result ((d : ℕ) (t : Timing) → act_fault act.now
+        (world_record d t cabling.old (map M.record_of machines.old) wires.old changed.old turns)
         ≡ None) }
     ensures rows { OnOk result (map length wires.new ≡ map length wires.old) }
-    ensures refused { IfFault result (λ f. (d : ℕ) → act_fault act.now
-        (world_record d cabling.old (map M.record_of machines.old) wires.old changed.old turns)
+    ensures refused { IfFault result (λ f. (d : ℕ) (t : Timing) → act_fault act.now
+        (world_record d t cabling.old (map M.record_of machines.old) wires.old changed.old turns)
         ≡ Some f) }
     ensures same { IfFault result (λ f. (cabling.new ≡ cabling.old) × (machines.new ≡ machines.old)
         × (wires.new ≡ wires.old) × (changed.new ≡ changed.old)) }
-    ensures memory { IsMemory result → (d : ℕ) → act_fault act.now
-        (world_record d cabling.old (map M.record_of machines.old) wires.old changed.old turns)
+    ensures memory { IsMemory result → (d : ℕ) (t : Timing) → act_fault act.now
+        (world_record d t cabling.old (map M.record_of machines.old) wires.old changed.old turns)
         ≡ None }
 {
     do_act(act, cabling, machines, wires, changed, turns, out)

@@ -1,5 +1,6 @@
 //! The turn of a world, over its parts.
 ghost use Rattle.std.specs.Prelude.{◌≡◌, ◌==◌, ◌+◌, ◌<◌, ◌≤◌, ℕ, true, length, map, OnOk, IfOk, All, if◌then◌else◌};
+ghost use Rattle.port_state.specs.declared.timing.Timing.{Timing};
 ghost use Rattle.port_state.specs.PortSet.{has_port};
 ghost use Rattle.port_state.specs.Machine.{PortNode, NodeStep};
 ghost use Rattle.cable_world.specs.Wire.{arrives, stays};
@@ -139,13 +140,13 @@ pub fn turn_world<M: PortMachine>(
     out: &mut Sends,
 ) -> Result<(), OutOfMemory>
     requires few { turns < 4000000000 }
-    requires lawful { IsLawful
-        (world_record delay cabling.now (map M.record_of machines.old) wires.old changed.old turns) }
+    requires lawful { (t : Timing) × IsLawful
+        (world_record delay t cabling.now (map M.record_of machines.old) wires.old changed.old turns) }
     requires same { map length arrivals.old ≡ map length wires.old }
-    ensures done { OnOk result (
-        world_record delay cabling.now (map M.record_of machines.new) wires.new changed.new
+    ensures done { OnOk result ((t : Timing) →
+        world_record delay t cabling.now (map M.record_of machines.new) wires.new changed.new
         (turns + 1)
-        ≡ turn (world_record delay cabling.now (map M.record_of machines.old) wires.old changed.old
+        ≡ turn (world_record delay t cabling.now (map M.record_of machines.old) wires.old changed.old
         turns)) }
     ensures same { OnOk result (map length arrivals.new ≡ map length wires.new) }
 {

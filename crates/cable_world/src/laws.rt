@@ -1,13 +1,14 @@
 //! Laws of worlds. Each function is a fact for the crates above, which call it.
 ghost use Rattle.cable_world.specs.Outcome.{OneOutcomeAtMost};
 ghost use Rattle.cable_world.specs.Lawful.{IsLawful};
-ghost use Rattle.cable_world.specs.Run.{IsReached};
+ghost use Rattle.cable_world.specs.Run.{ComesOfPowerOn, IsReached};
 ghost use Rattle.cable_world.specs.ByNumber.{NodesTakeTurns, WiresTakeTurns};
 ghost use Rattle.cable_world.specs.Unchanged.{TurnKeepsCables, TurnKeepsDelay, TurnIsCounted};
 ghost use Rattle.cable_world.specs.Unchanged.{TurnKeepsNodes, NoTurnIsNone, OneTurnMore, TurnsAdd};
 ghost use Rattle.cable_world.specs.Unchanged.{ActKeepsNodes, ActKeepsTurns, ActKeepsDelay};
 ghost use Rattle.cable_world.specs.StaysLawful.{HoldsAtPowerOn, KeptByTurns, KeptByHolds, KeptByActs};
-ghost use Rattle.cable_world.specs.StaysLawful.{ReachedIsLawful};
+ghost use Rattle.cable_world.specs.StaysLawful.{ComesIsLawful, ReachedIsLawful, ReachedAtPowerOn};
+ghost use Rattle.cable_world.specs.StaysLawful.{ReachedComesOfPowerOn, ReachedCanBeForced};
 ghost use Rattle.cable_world.specs.Quiet.{HoldsAreCalls, PlainTurnsAreQuiet, OneQuietTurnMore};
 ghost use Rattle.cable_world.specs.Quiet.{NoQuietTurnIsHolds, QuietTurnsAdd, KeptByQuietTurns};
 ghost use Rattle.cable_world.specs.Still.{StillTurnsPass};
@@ -58,26 +59,41 @@ pub fn still_turns_pass()
     ensures { StillTurnsPass }
 {}
 
-/// A power-on world is reached, and what comes of a reached world by turns, holds and acts that
-/// aren't refused is reached too.
+/// A power-on world comes of itself, and what comes of it by turns, holds and acts that aren't
+/// refused comes of a power-on world too.
+pub fn worlds_come_of_power_on()
+    ensures power_on { HoldsAtPowerOn ComesOfPowerOn }
+    ensures turns { KeptByTurns ComesOfPowerOn }
+    ensures quiet { KeptByQuietTurns ComesOfPowerOn }
+    ensures hold { KeptByHolds ComesOfPowerOn }
+    ensures act { KeptByActs ComesOfPowerOn }
+{}
+
+/// A power-on world whose nodes can be forced is reached, and what comes of a reached world by
+/// turns, holds and acts that aren't refused is reached too. So every reached world comes of a
+/// power-on world, and its nodes can be forced.
 pub fn worlds_stay_reached()
-    ensures power_on { HoldsAtPowerOn IsReached }
+    ensures power_on { ReachedAtPowerOn }
     ensures turns { KeptByTurns IsReached }
     ensures quiet { KeptByQuietTurns IsReached }
     ensures hold { KeptByHolds IsReached }
     ensures act { KeptByActs IsReached }
+    ensures comes { ReachedComesOfPowerOn }
+    ensures forced { ReachedCanBeForced }
 {}
 
 /// A world is lawful at power-on, and turns, holds and acts that aren't refused keep it lawful. So
-/// every reached world is lawful: its tables fit its cables, every record is valid, the level that
-/// a node last sent over a cable is under way to the other end or shown there, and a child port
-/// leads to the parent port of the node at the other end, unless a Reset is under way from there.
+/// every world that comes of a power-on world is lawful: its tables fit its cables, every record is
+/// valid, the level that a node last sent over a cable is under way to the other end or shown
+/// there, and a child port leads to the parent port of the node at the other end, unless a Reset is
+/// under way from there.
 pub fn worlds_stay_lawful()
     ensures power_on { HoldsAtPowerOn IsLawful }
     ensures turns { KeptByTurns IsLawful }
     ensures quiet { KeptByQuietTurns IsLawful }
     ensures hold { KeptByHolds IsLawful }
     ensures act { KeptByActs IsLawful }
+    ensures comes { ComesIsLawful }
     ensures reached { ReachedIsLawful }
 {}
 

@@ -17,6 +17,7 @@ mod run;
 mod start;
 mod steps;
 mod still;
+mod times;
 mod wire;
 mod world;
 
@@ -24,7 +25,7 @@ pub use act::{Act, ActStop};
 pub use cabling::OutOfMemory;
 pub use laws::{
     acts_keep, outcomes_are_one, quiet_turns_add_up, resets_end, still_turns_pass, turn_by_number,
-    turn_keeps, turns_add_up, worlds_stay_lawful, worlds_stay_reached,
+    turn_keeps, turns_add_up, worlds_come_of_power_on, worlds_stay_lawful, worlds_stay_reached,
 };
 pub use run::{ShowsWires, WorldRun};
 pub use wire::Travelling;

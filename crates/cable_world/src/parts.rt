@@ -8,3 +8,4 @@ pub use crate::rows::{ArrivalRow, WireRow};
 pub use crate::start::{arrival_rows, no_changes, port_counts, wire_rows};
 pub use crate::steps::{NodeAct, step_both, step_node};
 pub use crate::still::{all_silent, pass_wires};
+pub use crate::times::longest_in_range;

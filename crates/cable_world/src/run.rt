@@ -11,7 +11,7 @@ ghost use Rattle.cable_world.specs.Answer.{IfFault, IsMemory};
 use crate::act::{Act, ActStop};
 use crate::wire::Travelling;
 use cabling::{Cabling, End, OutOfMemory};
-use port_state::View;
+use port_state::{Timing, View};
 use self_id::Attrs;
 
 /// A world of nodes and cables, whose clock goes in turns.
@@ -81,6 +81,10 @@ pub trait WorldRun {
     fn delay(&self) -> u8
         ensures { result ≡ (world self.now).delay };
 
+    /// No node has longer times than these, which bound how many turns a world takes to settle.
+    fn longest(&self) -> Timing
+        ensures { result ≡ (world self.now).longest };
+
     /// The number of turns done.
     fn turns(&self) -> u32
         ensures { result ≡ (world self.now).turns };
@@ -119,7 +123,7 @@ pub trait WorldRun {
         ensures { result ≡ is_spent self.now };
 
     // A world that isn't spent comes of a power-on world by acts, holds and turns, and so is lawful
-    // (`worlds_stay_lawful`).
+    // (`worlds_stay_lawful`), and each of its nodes can be forced.
     ghost reached: { (w : Self) → IsFalse (is_spent w) → ∥ IsReached (world w) ∥₁ };
 }
 

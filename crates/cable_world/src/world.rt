@@ -2,7 +2,9 @@
 ghost use Rattle.std.specs.Prelude.{◌≡◌, ◌↔◌, ℕ, ◌<◌, ◌≤◌, Some, length, map, slice_get, IfOk, OnOk, IsErr, IsTrue, IsFalse, All};
 ghost use Rattle.cable_world.specs.Turn.{turn};
 ghost use Rattle.port_state.specs.Machine.{PortNode};
-ghost use Rattle.cable_world.specs.World.{world_of_nodes, IsNodeAtPowerOn};
+ghost use Rattle.cable_world.specs.World.{world_of_nodes, world_with_times};
+ghost use Rattle.cable_world.specs.World.{IsNodeAtPowerOn, IsPowered};
+ghost use Rattle.cable_world.specs.Times.{CanBeForced};
 ghost use Rattle.cable_world.specs.Run.{IsReached};
 ghost use Rattle.cable_world.specs.Parts.{world_record};
 
@@ -12,10 +14,11 @@ use crate::all_nodes::turn_world;
 use crate::rows::{ArrivalRow, WireRow};
 use crate::run::{ShowsWires, WorldRun};
 use crate::start::{arrival_rows, no_changes, port_counts, wire_rows};
+use crate::times::longest_in_range;
 use crate::wire::Travelling;
 use arrayvec::ArrayVec;
 use cabling::{CableFault, Cabling, End, OutOfMemory};
-use port_state::{PortMachine, Sends, View};
+use port_state::{PortMachine, Sends, Timing, View};
 use self_id::Attrs;
 use std::alloc::{AllocError, Global};
 
@@ -23,6 +26,7 @@ use std::alloc::{AllocError, Global};
 #[derive(Drop)]
 pub struct World<M: PortMachine> {
     delay: u8,
+    longest: Timing,
     cabling: Cabling,
     machines: Vec<M>,
     wires: Vec<WireRow>,
@@ -32,7 +36,7 @@ pub struct World<M: PortMachine> {
     turns: u32,
     out: Sends,
     spent: bool,
-    ghost reached: { IsFalse spent → ∥ IsReached (world_record delay cabling
+    ghost reached: { IsFalse spent → ∥ IsReached (world_record delay longest cabling
         (map M.record_of machines.items) wires.items changed.items turns) ∥₁ },
     ghost marks: { length changed.items ≡ length machines.items },
     ghost same: { IsFalse spent → map length arrivals.items ≡ map length wires.items },
@@ -51,10 +55,34 @@ impl<M: PortMachine + Drop> World<M> {
             ≡ world_of_nodes delay (map M.record_of machines.items)) }
         ensures spent { IfOk result (λ w. IsFalse (⟦<World<M> as WorldRun>⟧.is_spent w)) }
     {
+        World::with_times(alloc, machines, delay, longest_in_range(delay))
+    }
+
+    /// The same where the times of nodes are in no range, but none is longer than in `longest`, and
+    /// they suit the delay.
+    pub fn with_times(
+        alloc: Global,
+        machines: Vec<M>,
+        delay: u8,
+        longest: Timing,
+    ) -> Result<World<M>, OutOfMemory>
+        requires some_delay { 1 ≤ delay }
+        requires short_delay { delay ≤ 16 }
+        requires few { length machines.items ≤ 63 }
+        requires power_on { All (λ m. IsPowered delay longest (M.record_of m).state)
+            machines.items }
+        requires forced { All (λ m. CanBeForced delay longest (M.record_of m).state.timing)
+            machines.items }
+        ensures world { IfOk result (λ w.
+            ⟦<World<M> as WorldRun>⟧.world w
+            ≡ world_with_times delay longest (map M.record_of machines.items)) }
+        ensures spent { IfOk result (λ w. IsFalse (⟦<World<M> as WorldRun>⟧.is_spent w)) }
+    {
         let counts = port_counts(&machines);
         let ports = counts.as_slice();
         Ok(World {
             delay,
+            longest,
             cabling: Cabling::new(alloc, ports)?,
             wires: wire_rows(alloc, ports)?,
             arrivals: arrival_rows(alloc, ports)?,
@@ -68,8 +96,8 @@ impl<M: PortMachine + Drop> World<M> {
 }
 
 impl<M: PortMachine> WorldRun for World<M> {
-    ghost world = { λ w. world_record w.delay w.cabling (map M.record_of w.machines.items)
-        w.wires.items w.changed.items w.turns };
+    ghost world = { λ w. world_record w.delay w.longest w.cabling
+        (map M.record_of w.machines.items) w.wires.items w.changed.items w.turns };
 
     ghost is_spent = { λ w. w.spent };
 
@@ -151,6 +179,10 @@ impl<M: PortMachine> WorldRun for World<M> {
 
     fn delay(&self) -> u8 {
         self.delay
+    }
+
+    fn longest(&self) -> Timing {
+        self.longest
     }
 
     fn turns(&self) -> u32 {

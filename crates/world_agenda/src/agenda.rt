@@ -1,6 +1,8 @@
 //! The world that visits the nodes that hear something or are due.
 ghost use Rattle.std.specs.Prelude.{◌≡◌, ◌↔◌, ◌+◌, ◌<◌, ◌≤◌, ℕ, length, map, IfOk, IsFalse, All};
-ghost use Rattle.cable_world.specs.World.{world_of_nodes, IsNodeAtPowerOn};
+ghost use Rattle.cable_world.specs.World.{world_of_nodes, world_with_times};
+ghost use Rattle.cable_world.specs.World.{IsNodeAtPowerOn, IsPowered};
+ghost use Rattle.cable_world.specs.Times.{CanBeForced};
 ghost use Rattle.cable_world.specs.Run.{IsReached};
 ghost use Rattle.cable_world.specs.Parts.{world_record};
 ghost use Rattle.cable_world.specs.Still.{AreSilent};
@@ -14,13 +16,14 @@ use crate::mask::NodeMask;
 use crate::node::AgendaNode;
 use crate::nodes::{Agenda, act_agenda, turn_agenda};
 use crate::still::TellsStillTurns;
-use cable_world::parts::{ArrivalRow, WireRow, arrival_rows, no_changes, port_counts, wire_rows};
+use cable_world::parts::{ArrivalRow, WireRow, longest_in_range};
+use cable_world::parts::{arrival_rows, no_changes, port_counts, wire_rows};
 use cable_world::{
     Act, ActStop, ShowsWires, Travelling, WorldRun, still_turns_pass, worlds_stay_lawful,
     worlds_stay_reached,
 };
 use cabling::{CableFault, Cabling, End, OutOfMemory};
-use port_state::{PortMachine, Sends, View};
+use port_state::{PortMachine, Sends, Timing, View};
 use self_id::Attrs;
 use std::alloc::{AllocError, Global};
 
@@ -29,6 +32,7 @@ use std::alloc::{AllocError, Global};
 #[derive(Drop)]
 pub struct AgendaWorld<M: PortMachine> {
     delay: u8,
+    longest: Timing,
     cabling: Cabling,
     nodes: Vec<AgendaNode<M>>,
     wires: Vec<WireRow>,
@@ -42,7 +46,7 @@ pub struct AgendaWorld<M: PortMachine> {
     live: NodeMask,
     out: Sends,
     spent: bool,
-    ghost reached: { IsFalse spent → ∥ IsReached (world_record delay cabling
+    ghost reached: { IsFalse spent → ∥ IsReached (world_record delay longest cabling
         (map (λ n. caught_up turns n.clock (M.record_of n.machine)) nodes.items) wires.items
         changed.items turns) ∥₁ },
     ghost behind: { IsFalse spent → All (λ n. n.clock ≤ turns) nodes.items },
@@ -82,11 +86,34 @@ impl<M: PortMachine + Drop> AgendaWorld<M> {
             ≡ world_of_nodes delay (map M.record_of machines.items)) }
         ensures spent { IfOk result (λ w. IsFalse (⟦<AgendaWorld<M> as WorldRun>⟧.is_spent w)) }
     {
+        AgendaWorld::with_times(alloc, machines, delay, longest_in_range(delay))
+    }
+
+    /// The same where the times of nodes are in no range, but none is longer than in `longest`, and
+    /// they suit the delay.
+    pub fn with_times(
+        alloc: Global,
+        machines: Vec<M>,
+        delay: u8,
+        longest: Timing,
+    ) -> Result<AgendaWorld<M>, OutOfMemory>
+        requires some_delay { 1 ≤ delay }
+        requires short_delay { delay ≤ 16 }
+        requires few { length machines.items ≤ 63 }
+        requires power_on { All (λ m. IsPowered delay longest (M.record_of m).state)
+            machines.items }
+        requires forced { All (λ m. CanBeForced delay longest (M.record_of m).state.timing)
+            machines.items }
+        ensures world { IfOk result (λ w. ⟦<AgendaWorld<M> as WorldRun>⟧.world w
+            ≡ world_with_times delay longest (map M.record_of machines.items)) }
+        ensures spent { IfOk result (λ w. IsFalse (⟦<AgendaWorld<M> as WorldRun>⟧.is_spent w)) }
+    {
         worlds_stay_reached();
         let counts = port_counts(&machines);
         let ports = counts.as_slice();
         Ok(AgendaWorld {
             delay,
+            longest,
             agenda: Agenda::unknown(),
             live: NodeMask::first(machines.len() as u8),
             cabling: Cabling::new(alloc, ports)?,
@@ -128,10 +155,10 @@ impl<M: PortMachine> AgendaWorld<M> {
         requires sound { IsFalse self.old.spent }
         requires few { self.old.turns + most ≤ 4000000000 }
         ensures most { result ≤ most }
-        ensures done { world_record self.new.delay self.new.cabling
+        ensures done { world_record self.new.delay self.new.longest self.new.cabling
             (map (λ n. caught_up self.new.turns n.clock (M.record_of n.machine))
             self.new.nodes.items) self.new.wires.items self.new.changed.items self.new.turns
-            ≡ turns_after result (world_record self.old.delay self.old.cabling
+            ≡ turns_after result (world_record self.old.delay self.old.longest self.old.cabling
             (map (λ n. caught_up self.old.turns n.clock (M.record_of n.machine))
             self.old.nodes.items) self.old.wires.items self.old.changed.items self.old.turns) }
         ensures nodes { length self.new.nodes.items ≡ length self.old.nodes.items }
@@ -152,7 +179,7 @@ impl<M: PortMachine> AgendaWorld<M> {
 }
 
 impl<M: PortMachine> WorldRun for AgendaWorld<M> {
-    ghost world = { λ w. world_record w.delay w.cabling
+    ghost world = { λ w. world_record w.delay w.longest w.cabling
         (map (λ n. caught_up w.turns n.clock (M.record_of n.machine)) w.nodes.items) w.wires.items
         w.changed.items w.turns };
 
@@ -250,6 +277,10 @@ impl<M: PortMachine> WorldRun for AgendaWorld<M> {
 
     fn delay(&self) -> u8 {
         self.delay
+    }
+
+    fn longest(&self) -> Timing {
+        self.longest
     }
 
     fn turns(&self) -> u32 {

@@ -1,6 +1,7 @@
 //! The nodes of an agenda, all of them.
 ghost use Rattle.std.specs.Prelude.{◌≡◌, ◌+◌, ◌<◌, ◌≤◌, ℕ, None, Some, [], length, map, OnOk, IfOk, IsFalse, All, if◌then◌else◌};
 ghost use Rattle.cabling.specs.Wiring.{ports_of};
+ghost use Rattle.port_state.specs.declared.timing.Timing.{Timing};
 ghost use Rattle.port_state.specs.Machine.{NodeStep};
 ghost use Rattle.cable_world.specs.Act.{ActLeads, IsAct, act_fault};
 ghost use Rattle.cable_world.specs.Answer.{IfFault, IsMemory};
@@ -65,28 +66,28 @@ pub fn act_agenda<M: PortMachine>(
     requires lawful { AreLawful cabling.old
         (map (λ n. caught_up turns n.clock (M.record_of n.machine)) nodes.old) wires.old changed.old
         turns }
-    ensures done { OnOk result ((d : ℕ) → ActLeads act.now
-        (world_record d cabling.old
+    ensures done { OnOk result ((d : ℕ) (t : Timing) → ActLeads act.now
+        (world_record d t cabling.old
         (map (λ n. caught_up turns n.clock (M.record_of n.machine)) nodes.old) wires.old changed.old
         turns)
-        (world_record d cabling.new
+        (world_record d t cabling.new
         (map (λ n. caught_up turns n.clock (M.record_of n.machine)) nodes.new) wires.new changed.new
         turns)) }
-    ensures accepted { OnOk result ((d : ℕ) → act_fault act.now
-        (world_record d cabling.old
+    ensures accepted { OnOk result ((d : ℕ) (t : Timing) → act_fault act.now
+        (world_record d t cabling.old
         (map (λ n. caught_up turns n.clock (M.record_of n.machine)) nodes.old) wires.old changed.old
         turns) ≡ None) }
     ensures rows { OnOk result (map length wires.new ≡ map length wires.old) }
-    ensures refused { IfFault result (λ f. (d : ℕ) → act_fault act.now
-        (world_record d cabling.old
+    ensures refused { IfFault result (λ f. (d : ℕ) (t : Timing) → act_fault act.now
+        (world_record d t cabling.old
         (map (λ n. caught_up turns n.clock (M.record_of n.machine)) nodes.old) wires.old changed.old
         turns) ≡ Some f) }
     ensures same { IfFault result (λ f. (cabling.new ≡ cabling.old)
         × (map (λ n. caught_up turns n.clock (M.record_of n.machine)) nodes.new
         ≡ map (λ n. caught_up turns n.clock (M.record_of n.machine)) nodes.old)
         × (wires.new ≡ wires.old) × (changed.new ≡ changed.old)) }
-    ensures memory { IsMemory result → (d : ℕ) → act_fault act.now
-        (world_record d cabling.old
+    ensures memory { IsMemory result → (d : ℕ) (t : Timing) → act_fault act.now
+        (world_record d t cabling.old
         (map (λ n. caught_up turns n.clock (M.record_of n.machine)) nodes.old) wires.old changed.old
         turns) ≡ None }
     ensures clocks { All (λ n. n.clock ≡ turns) nodes.new }
@@ -333,7 +334,7 @@ pub fn turn_agenda<M: PortMachine>(
     live: &mut NodeMask,
 ) -> Result<(), OutOfMemory>
     requires few { turns < 4000000000 }
-    requires lawful { IsLawful (world_record delay cabling.now
+    requires lawful { (t : Timing) × IsLawful (world_record delay t cabling.now
         (map (λ n. caught_up turns n.clock (M.record_of n.machine)) nodes.old) wires.old changed.old
         turns) }
     requires same { map length arrivals.old ≡ map length wires.old }
@@ -341,11 +342,11 @@ pub fn turn_agenda<M: PortMachine>(
     requires idle { All (λ n. turns ≤ n.clock + n.idle) nodes.old }
     requires knows { Knows agenda.old.soon agenda.old.next (map (λ n. n.clock + n.idle) nodes.old) }
     requires live { HasLive live.old wires.old arrivals.old }
-    ensures done { OnOk result (
-        world_record delay cabling.now
+    ensures done { OnOk result ((t : Timing) →
+        world_record delay t cabling.now
         (map (λ n. caught_up (turns + 1) n.clock (M.record_of n.machine)) nodes.new) wires.new
         changed.new (turns + 1)
-        ≡ turn (world_record delay cabling.now
+        ≡ turn (world_record delay t cabling.now
         (map (λ n. caught_up turns n.clock (M.record_of n.machine)) nodes.old) wires.old changed.old
         turns)) }
     ensures same { OnOk result (map length arrivals.new ≡ map length wires.new) }

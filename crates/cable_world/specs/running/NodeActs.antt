@@ -1,6 +1,7 @@
 -- A step of one node between two turns, by a name.
 use Rattle.std.specs.Prelude.{◌≡◌, ℕ, ◌<◌, List, IsTrue, IsFalse}
 use Rattle.cabling.specs.Wiring.{Wiring}
+use Rattle.port_state.specs.declared.timing.Timing.{Timing}
 use Rattle.port_state.specs.Ports.{is_connected}
 use Rattle.port_state.specs.Machine.{PortNode, NodeStep, node_disturb, node_plugged, node_pulled}
 use Rattle.cable_world.specs.declared.steps.NodeAct.{NodeAct}
@@ -31,15 +32,15 @@ abbrev pub note_both :
     NodeNumber → (PortNode → NodeStep) → NodeNumber → (PortNode → NodeStep) → CableWorld → CableWorld
 note_both first r second s w = note_changes w (with_step second s (with_step first r w))
 
--- with some delay these are the parts of a lawful world
+-- with some delay and some longest times these are the parts of a lawful world
 abbrev pub AreLawful : Wiring → List PortNode → List (List Wire) → List ℕ → ℕ → Type 0
 AreLawful cabling nodes wires changed turns =
-    (d : ℕ) × IsLawful (world_record d cabling nodes wires changed turns)
+    (d : ℕ) × (t : Timing) × IsLawful (world_record d t cabling nodes wires changed turns)
 
--- whatever the delay and the cabling, a step leads from nodes, wires and last changes to others
+-- whatever the delay, the longest times and the cabling, a step leads from nodes, wires and last changes to others
 abbrev pub StepLeads :
     (CableWorld → CableWorld) → ℕ → List PortNode → List (List Wire) → List ℕ → List PortNode → List (List Wire)
     → List ℕ → Type 0
 StepLeads step turns nodes wires changed new_nodes new_wires new_changed =
-    (d : ℕ) (c : Wiring) → world_record d c new_nodes new_wires new_changed turns
-    ≡ step (world_record d c nodes wires changed turns)
+    (d : ℕ) (t : Timing) (c : Wiring) → world_record d t c new_nodes new_wires new_changed turns
+    ≡ step (world_record d t c nodes wires changed turns)
