@@ -1,6 +1,8 @@
 pub use Rattle.self_id.specs.Node
 pub mod Limits
 pub mod Timing
+pub mod TimeRanges
+pub mod StandardTimes
 pub mod Ports
 pub mod Sends
 pub mod PortSet

@@ -13,6 +13,7 @@ mod machine;
 mod port_set;
 mod port_tests;
 mod ports;
+mod ranges;
 mod sends;
 mod signal;
 pub mod states;
@@ -26,6 +27,7 @@ pub use machine::PortMachine;
 pub use port_set::PortSet;
 pub use port_tests::PortTests;
 pub use ports::{PortView, PortViews};
+pub use ranges::{Misfit, TimeRanges};
 pub use sends::{Sends, Sent};
 pub use signal::{Level, Phase, Signal};
 pub use step_laws::{
