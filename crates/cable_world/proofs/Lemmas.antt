@@ -7,14 +7,14 @@ pub use Rattle.cable_world.proofs.Options.{none-some, some-and, some-at, some-of
 -- Facts of phases, each of which holds phase by phase.
 pub use Rattle.cable_world.proofs.PhaseFacts.{start-before_tree, start-slack, start-timed}
 -- Times that suit a bus.
-pub use Rattle.cable_world.proofs.Times.{suits-cables, in-range-counted, in-range-suits, powered-in-range}
+pub use Rattle.cable_world.proofs.Times.{suits-cables, in-range-counted, in-range-forced, in-range-suits, powered-in-range}
 -- Quiet turns, with holds placed between them: how they are counted, and what they keep.
-pub use Rattle.cable_world.proofs.QuietTurns.{after-cabling, holds-are-calls, holds-kept, holds-lawful, holds-signals, no-quiet, one-quiet, plain-quiet, plainly, quiet-first, quiet-lawful, quiet-reached, quiet-then, turns-cabling}
+pub use Rattle.cable_world.proofs.QuietTurns.{after-cabling, holds-are-calls, holds-kept, holds-lawful, holds-signals, no-quiet, one-quiet, plain-quiet, plainly, quiet-comes, quiet-first, quiet-lawful, quiet-reached, quiet-then, turns-cabling}
 -- Turns, holds and acts keep a world lawful, and so every world that comes of a power-on world is
--- lawful.
-pub use Rattle.cable_world.proofs.StaysLawful.{act-lawful, hold-lawful, power-on-lawful, reached-lawful, turn-lawful}
--- What comes of a reached world is reached.
-pub use Rattle.cable_world.proofs.StaysReached.{act-reached, hold-reached, power-on-reached, turn-reached, turns-reached}
+-- lawful; and each node of a reached world can be forced.
+pub use Rattle.cable_world.proofs.StaysLawful.{act-lawful, comes-lawful, hold-lawful, power-on-lawful, reached-forced, reached-lawful, turn-lawful}
+-- What comes of a world that comes of power-on comes of it too, and so for reached worlds.
+pub use Rattle.cable_world.proofs.StaysReached.{act-comes, act-reached, hold-comes, hold-reached, power-on-comes, power-on-reached, reached-comes, turn-comes, turn-reached, turns-come, turns-reached}
 -- What plugging and pulling do to the cables.
 pub use Rattle.cable_world.proofs.acts.Cabled.{Cabled, plug-cabled, pull-cabled, with_cable, without_cable}
 -- What happens between two turns: to each node, and to each end of a cable.
@@ -52,7 +52,7 @@ pub use Rattle.cable_world.proofs.running.Acting.{same-itself}
 -- from its length.
 pub use Rattle.cable_world.proofs.running.Lists.{no-packets}
 -- The tables of a world at power-on.
-pub use Rattle.cable_world.proofs.running.Start.{are-counts, power-on, rows-are}
+pub use Rattle.cable_world.proofs.running.Start.{are-counts, as-long, each-node, power-on, rows-are, start-is}
 -- A world by its parts: what a lawful one gives to the code, and its turn.
 pub use Rattle.cable_world.proofs.running.Whole.{all-young, lawful-now, put-long, rows-long, sent-long, young-from}
 -- The power-on world is well formed, and as no cable is there its wires agree.

@@ -7,12 +7,12 @@ use Rattle.cable_world.specs.Turn.{turn, turns_after}
 use Rattle.cable_world.specs.Act.{hold, hold_fault}
 use Rattle.cable_world.specs.Quiet.{PlacedHold, HoldSchedule, no_holds, with_hold, with_holds, quiet_after, KeptByQuietTurns, HoldsAreCalls, PlainTurnsAreQuiet, OneQuietTurnMore, NoQuietTurnIsHolds, QuietTurnsAdd}
 use Rattle.cable_world.specs.Lawful.{IsLawful}
-use Rattle.cable_world.specs.Run.{IsReached}
+use Rattle.cable_world.specs.Run.{ComesOfPowerOn, IsReached}
 use Rattle.cable_world.specs.StaysLawful.{KeptByHolds}
 use Rattle.cable_world.proofs.acts.Happenings.{hold-signals}
 use Rattle.cable_world.proofs.turns.ByNumber.{cabling-after, no-turns, one-more}
 use Rattle.cable_world.proofs.StaysLawful.{turn-lawful, hold-lawful}
-use Rattle.cable_world.proofs.StaysReached.{turn-reached, hold-reached}
+use Rattle.cable_world.proofs.StaysReached.{turn-comes, hold-comes, turn-reached, hold-reached}
 
 -- ---- holds
 
@@ -110,6 +110,11 @@ pub quiet-lawful : KeptByQuietTurns IsLawful
 unfolding quiet_after
 quiet-lawful hs zero w l = holds-lawful (hs 0) w l
 quiet-lawful hs (suc k) w l = holds-lawful (hs (suc k)) (turn (quiet_after hs k w)) (turn-lawful (quiet_after hs k w) (quiet-lawful hs k w l))
+
+pub quiet-comes : KeptByQuietTurns ComesOfPowerOn
+unfolding quiet_after
+quiet-comes hs zero w r = holds-keep ComesOfPowerOn hold-comes (hs 0) w r
+quiet-comes hs (suc k) w r = holds-keep ComesOfPowerOn hold-comes (hs (suc k)) (turn (quiet_after hs k w)) (turn-comes (quiet_after hs k w) (quiet-comes hs k w r))
 
 pub quiet-reached : KeptByQuietTurns IsReached
 unfolding quiet_after

@@ -1,15 +1,17 @@
 -- Turns, holds and acts keep a world lawful, and so every world that comes of a power-on world is
 -- lawful.
 use Rattle.std.proofs.Common.{zero, suc, List, [], ◌∷◌, subst, sym}
-use Rattle.cable_world.specs.World.{CableWorld}
+use Rattle.cable_world.specs.World.{CableWorld, AllCanBeForced}
 use Rattle.cable_world.specs.Turn.{turn, turns_after}
 use Rattle.cable_world.specs.Act.{hold}
 use Rattle.cable_world.specs.Run.{Event, acts, holds, turns, Happens, Runs}
 use Rattle.cable_world.specs.Agreement.{LevelsAgree}
 use Rattle.cable_world.specs.Coupling.{IsCoupled}
-use Rattle.cable_world.specs.StaysLawful.{HoldsAtPowerOn, KeptByTurns, KeptByHolds, KeptByActs, ReachedIsLawful}
+use Rattle.cable_world.specs.StaysLawful.{HoldsAtPowerOn, KeptByTurns, KeptByHolds, KeptByActs, ComesIsLawful, ReachedIsLawful, ReachedCanBeForced}
 use Rattle.cable_world.specs.Lawful.{IsWellFormed, IsLawful}
 use Rattle.cable_world.proofs.tables.AtPowerOn.{power-on-formed, power-on-agrees}
+use Rattle.cable_world.proofs.StaysReached.{reached-comes}
+use Rattle.cable_world.proofs.tables.TimesKept.{turn-forced, act-forced}
 use Rattle.cable_world.proofs.tables.TablesInTurns.{turn-formed}
 use Rattle.cable_world.proofs.tables.TablesInActs.{act-formed, hold-formed}
 use Rattle.cable_world.proofs.levels.LevelsInActs.{act-levels, hold-levels}
@@ -49,5 +51,25 @@ runs-lawful : (events : List Event) (w v : CableWorld) → Runs events w v → I
 runs-lawful [] w v r l = subst IsLawful (sym r) l
 runs-lawful (e ∷ events) w v r l = runs-lawful events r.0 v r.2 (event-lawful e w r.0 r.1 l)
 
+pub comes-lawful : ComesIsLawful
+comes-lawful w r = runs-lawful r.events r.start w r.run (power-on-lawful r.start r.power_on)
+
 pub reached-lawful : ReachedIsLawful
-reached-lawful w r = runs-lawful r.events r.start w r.run (power-on-lawful r.start r.power_on)
+reached-lawful w r = comes-lawful w (reached-comes w r)
+
+-- ---- a node's times never change
+
+event-forced :
+    (e : Event) (w v : CableWorld) → Happens e w v → IsLawful w → AllCanBeForced w → AllCanBeForced v
+event-forced (acts a) w v h l f = act-forced a w v h.2 f
+event-forced (holds end n) w v h l f = subst AllCanBeForced (sym h.1) f
+event-forced turns w v h l f = subst AllCanBeForced (sym h) (turn-forced w l.well_formed f)
+
+runs-forced :
+    (events : List Event) (w v : CableWorld) → Runs events w v → IsLawful w → AllCanBeForced w →
+    AllCanBeForced v
+runs-forced [] w v r l f = subst AllCanBeForced (sym r) f
+runs-forced (e ∷ events) w v r l f = runs-forced events r.0 v r.2 (event-lawful e w r.0 r.1 l) (event-forced e w r.0 r.1 l f)
+
+pub reached-forced : ReachedCanBeForced
+reached-forced w r = runs-forced r.events r.start w r.run (power-on-lawful r.start r.power_on) r.forced

@@ -3,7 +3,7 @@ use Rattle.std.proofs.Common.{◌≡◌, ℕ, ◌+◌, ◌*◌, ◌<◌, ◌≤�
 use Rattle.port_state.specs.declared.timing.Timing.{Timing}
 use Rattle.port_state.specs.declared.states.NodeState.{NodeState}
 use Rattle.port_state.specs.Timing.{InRange}
-use Rattle.cable_world.specs.Times.{AreCounted, Suits, SuitsCables, longest_in_range}
+use Rattle.cable_world.specs.Times.{AreCounted, Suits, CanBeForced, SuitsCables, longest_in_range}
 use Rattle.cable_world.specs.World.{IsNodeAtPowerOn, IsPowered}
 
 pub suits-cables : (d : ℕ) (longest t : Timing) → Suits d longest t → SuitsCables d t
@@ -26,7 +26,6 @@ in-range-suits d t some few i = record {
   counted = in-range-counted d few;
   hold_least = i.hold_least;
   hold_most = i.hold_most;
-  force_least = omega (arith, i.hold_least, i.force, some);
   force_most = omega (arith, i.force);
   timeout_most = omega (arith, i.timeout);
   short_least = omega (arith, i.short_least, some);
@@ -34,6 +33,10 @@ in-range-suits d t some few i = record {
   long_least = omega (arith, i.long_least, some);
   long_most = i.long_most;
 }
+
+pub in-range-forced :
+    (d : ℕ) (t : Timing) → 1 ≤ d → InRange d t → CanBeForced d (longest_in_range d) t
+in-range-forced d t some i = record { enough = omega (arith, i.hold_least, i.force, some) }
 
 pub powered-in-range :
     (d : ℕ) (x : NodeState) → 1 ≤ d → d ≤ 16 → IsNodeAtPowerOn d x →

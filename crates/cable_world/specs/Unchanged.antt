@@ -18,6 +18,9 @@ TurnKeepsCables = (w : CableWorld) → (turn w).cabling ≡ w.cabling
 abbrev pub TurnKeepsDelay : Type 0
 TurnKeepsDelay = (w : CableWorld) → (turn w).delay ≡ w.delay
 
+abbrev pub TurnKeepsLongest : Type 0
+TurnKeepsLongest = (w : CableWorld) → (turn w).longest ≡ w.longest
+
 abbrev pub TurnIsCounted : Type 0
 TurnIsCounted = (w : CableWorld) → (turn w).turns ≡ w.turns + 1
 
@@ -46,3 +49,6 @@ ActKeepsTurns = (a : Act) (w v : CableWorld) → ActLeads a w v → v.turns ≡ 
 
 abbrev pub ActKeepsDelay : Type 0
 ActKeepsDelay = (a : Act) (w v : CableWorld) → ActLeads a w v → v.delay ≡ w.delay
+
+abbrev pub ActKeepsLongest : Type 0
+ActKeepsLongest = (a : Act) (w v : CableWorld) → ActLeads a w v → v.longest ≡ w.longest

@@ -86,8 +86,10 @@ fn plug_ends<M: PortMachine>(
     requires lawful { AreLawful cabling.old (map M.record_of machines.old) wires.old changed.old
         turns }
     ensures { Ends (act.Plug a b)
-        (λ d t. world_record d t cabling.old (map M.record_of machines.old) wires.old changed.old turns)
-        (λ d t. world_record d t cabling.new (map M.record_of machines.new) wires.new changed.new turns)
+        (λ d t. world_record d t cabling.old (map M.record_of machines.old) wires.old changed.old
+        turns)
+        (λ d t. world_record d t cabling.new (map M.record_of machines.new) wires.new changed.new
+        turns)
         ((cabling.new ≡ cabling.old) × (machines.new ≡ machines.old)
         × (wires.new ≡ wires.old) × (changed.new ≡ changed.old)) result }
 {
@@ -116,8 +118,10 @@ fn pull_end<M: PortMachine>(
     requires lawful { AreLawful cabling.old (map M.record_of machines.old) wires.old changed.old
         turns }
     ensures { Ends (act.Pull end)
-        (λ d t. world_record d t cabling.old (map M.record_of machines.old) wires.old changed.old turns)
-        (λ d t. world_record d t cabling.new (map M.record_of machines.new) wires.new changed.new turns)
+        (λ d t. world_record d t cabling.old (map M.record_of machines.old) wires.old changed.old
+        turns)
+        (λ d t. world_record d t cabling.new (map M.record_of machines.new) wires.new changed.new
+        turns)
         ((cabling.new ≡ cabling.old) × (machines.new ≡ machines.old)
         × (wires.new ≡ wires.old) × (changed.new ≡ changed.old)) result }
 {
@@ -180,8 +184,10 @@ fn send_config<M: PortMachine>(
     requires lawful { AreLawful cabling.now (map M.record_of machines.old) wires.old changed.old
         turns }
     ensures { Ends (act.Config from root_id force gap)
-        (λ d t. world_record d t cabling.now (map M.record_of machines.old) wires.old changed.old turns)
-        (λ d t. world_record d t cabling.now (map M.record_of machines.new) wires.new changed.new turns)
+        (λ d t. world_record d t cabling.now (map M.record_of machines.old) wires.old changed.old
+        turns)
+        (λ d t. world_record d t cabling.now (map M.record_of machines.new) wires.new changed.new
+        turns)
         ((machines.new ≡ machines.old) × (wires.new ≡ wires.old)
         × (changed.new ≡ changed.old)) result }
 {
@@ -215,8 +221,10 @@ fn do_act<M: PortMachine>(
     requires lawful { AreLawful cabling.old (map M.record_of machines.old) wires.old changed.old
         turns }
     ensures { Ends act.now
-        (λ d t. world_record d t cabling.old (map M.record_of machines.old) wires.old changed.old turns)
-        (λ d t. world_record d t cabling.new (map M.record_of machines.new) wires.new changed.new turns)
+        (λ d t. world_record d t cabling.old (map M.record_of machines.old) wires.old changed.old
+        turns)
+        (λ d t. world_record d t cabling.new (map M.record_of machines.new) wires.new changed.new
+        turns)
         ((cabling.new ≡ cabling.old) × (machines.new ≡ machines.old)
         × (wires.new ≡ wires.old) × (changed.new ≡ changed.old)) result }
 {

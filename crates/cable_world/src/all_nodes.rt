@@ -141,13 +141,14 @@ pub fn turn_world<M: PortMachine>(
 ) -> Result<(), OutOfMemory>
     requires few { turns < 4000000000 }
     requires lawful { (t : Timing) × IsLawful
-        (world_record delay t cabling.now (map M.record_of machines.old) wires.old changed.old turns) }
+        (world_record delay t cabling.now (map M.record_of machines.old) wires.old changed.old
+        turns) }
     requires same { map length arrivals.old ≡ map length wires.old }
     ensures done { OnOk result ((t : Timing) →
         world_record delay t cabling.now (map M.record_of machines.new) wires.new changed.new
         (turns + 1)
-        ≡ turn (world_record delay t cabling.now (map M.record_of machines.old) wires.old changed.old
-        turns)) }
+        ≡ turn (world_record delay t cabling.now (map M.record_of machines.old) wires.old
+        changed.old turns)) }
     ensures same { OnOk result (map length arrivals.new ≡ map length wires.new) }
 {
     turn_wires(wires, delay, arrivals)?;

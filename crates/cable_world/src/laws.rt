@@ -3,9 +3,11 @@ ghost use Rattle.cable_world.specs.Outcome.{OneOutcomeAtMost};
 ghost use Rattle.cable_world.specs.Lawful.{IsLawful};
 ghost use Rattle.cable_world.specs.Run.{ComesOfPowerOn, IsReached};
 ghost use Rattle.cable_world.specs.ByNumber.{NodesTakeTurns, WiresTakeTurns};
-ghost use Rattle.cable_world.specs.Unchanged.{TurnKeepsCables, TurnKeepsDelay, TurnIsCounted};
+ghost use Rattle.cable_world.specs.Unchanged.{TurnKeepsCables, TurnKeepsDelay, TurnKeepsLongest};
+ghost use Rattle.cable_world.specs.Unchanged.{TurnIsCounted};
 ghost use Rattle.cable_world.specs.Unchanged.{TurnKeepsNodes, NoTurnIsNone, OneTurnMore, TurnsAdd};
 ghost use Rattle.cable_world.specs.Unchanged.{ActKeepsNodes, ActKeepsTurns, ActKeepsDelay};
+ghost use Rattle.cable_world.specs.Unchanged.{ActKeepsLongest};
 ghost use Rattle.cable_world.specs.StaysLawful.{HoldsAtPowerOn, KeptByTurns, KeptByHolds, KeptByActs};
 ghost use Rattle.cable_world.specs.StaysLawful.{ComesIsLawful, ReachedIsLawful, ReachedAtPowerOn};
 ghost use Rattle.cable_world.specs.StaysLawful.{ReachedComesOfPowerOn, ReachedCanBeForced};
@@ -25,15 +27,17 @@ pub fn turn_by_number()
 pub fn turn_keeps()
     ensures cables { TurnKeepsCables }
     ensures delay { TurnKeepsDelay }
+    ensures longest { TurnKeepsLongest }
     ensures counted { TurnIsCounted }
     ensures nodes { TurnKeepsNodes }
 {}
 
-/// What an act leaves as it is: how many nodes there are, the number of turns, and d.
+/// What an act leaves as it is: how many nodes there are, the number of turns, d, and the longest times.
 pub fn acts_keep()
     ensures nodes { ActKeepsNodes }
     ensures turns { ActKeepsTurns }
     ensures delay { ActKeepsDelay }
+    ensures longest { ActKeepsLongest }
 {}
 
 /// Turns are done one after the other.

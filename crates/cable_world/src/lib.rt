@@ -10,6 +10,7 @@ mod act;
 mod acting;
 mod all_nodes;
 pub mod laws;
+mod longest;
 mod nodes;
 pub mod parts;
 mod rows;
@@ -17,7 +18,6 @@ mod run;
 mod start;
 mod steps;
 mod still;
-mod times;
 mod wire;
 mod world;
 

@@ -8,6 +8,7 @@ use Rattle.std.proofs.lemmas.List.{map-set, length-map, get_or_default}
 use Rattle.cabling.specs.Wiring.{Wiring}
 use Rattle.std.specs.Int.{bit_at}
 use Rattle.port_state.specs.Config.{ConfigPacket}
+use Rattle.port_state.specs.declared.timing.Timing.{Timing}
 use Rattle.port_state.specs.Machine.{PortNode, NodeStep, node_set_config}
 use Rattle.cable_world.specs.Wire.{Wire}
 use Rattle.cable_world.specs.World.{CableWorld, NodeSet}
@@ -72,15 +73,15 @@ there f (n ∷ ms) zero m h at = ap (λ z. Some (f z)) (sym at)
 there f (n ∷ ms) (suc k) m h at = there f ms k m (omega arith) at
 
 pub step-is :
-    {M : Type 0} → (f : M → PortNode) (step : PortNode → NodeStep) (d : ℕ) (c : Wiring) (t : ℕ) (ms : List M) (wires : List (List Wire))
+    {M : Type 0} → (f : M → PortNode) (step : PortNode → NodeStep) (d : ℕ) (longest : Timing) (c : Wiring) (t : ℕ) (ms : List M) (wires : List (List Wire))
     (changed : List ℕ) (k : ℕ) (m n : M) (row new : List Wire) (last at : ℕ) →
     k < length ms → length wires ≡ length ms → length changed ≡ length ms →
     m ≡ get_or ms k m → row ≡ get_or wires k row → last ≡ get_or changed k last →
     f n ≡ (step (f m)).node → new ≡ wires_after_sends 0 (step (f m)).sends row → at ≡ (if same_list (f m) (f n) then last else t) →
-    world_record d c (map f (slice_set ms k n)) (slice_set wires k new) (slice_set changed k at) t
-    ≡ note_step k step (world_record d c (map f ms) wires changed t)
-step-is f step d c t ms wires changed k m n row new last at h rows long is_m is_row is_last node sent note =
-    let w : CableWorld = world_record d c (map f ms) wires changed t in
+    world_record d longest c (map f (slice_set ms k n)) (slice_set wires k new) (slice_set changed k at) t
+    ≡ note_step k step (world_record d longest c (map f ms) wires changed t)
+step-is f step d longest c t ms wires changed k m n row new last at h rows long is_m is_row is_last node sent note =
+    let w : CableWorld = world_record d longest c (map f ms) wires changed t in
     let nodes : List PortNode = map f ms in
     let y : PortNode = (step (f m)).node in
     let at_k : slice_get nodes k ≡ Some (f m) = there f ms k m h is_m in

@@ -9,6 +9,8 @@ use Rattle.cabling.specs.declared.cable.End.{End}
 use Rattle.cabling.specs.Wiring.{Wiring, HasEnd, IsCabling, far, ports_of}
 use Rattle.cabling.specs.Change.{SameBut, Added, TakenOut}
 use Rattle.cabling.proofs.Lemmas.{cases_end, with_far, far-same, far-other, still_end, same_but, same_length, same_ports, plugged}
+use Rattle.port_state.specs.declared.timing.Timing.{Timing}
+use Rattle.port_state.specs.Timing.{usual_timing}
 use Rattle.port_state.specs.Ports.{is_connected}
 use Rattle.port_state.specs.Config.{ConfigPacket}
 use Rattle.port_state.specs.Machine.{PortNode, NodeStep, node_disturb, node_plugged, node_pulled, node_set_config}
@@ -158,7 +160,7 @@ pub is-inside : (k : ℕ) (w : CableWorld) → k < length w.nodes → node_fault
 is-inside k w inside = rw (lt-ltb k (length w.nodes) inside) refl
 
 pub ends-of :
-    (act is : Act) (w v : ℕ → CableWorld) (same kept : Type 0) (r : Result (Unit {0}) ActStop) → act ≡ is → (same → kept) → Ends is w v same r →
+    (act is : Act) (w v : ℕ → Timing → CableWorld) (same kept : Type 0) (r : Result (Unit {0}) ActStop) → act ≡ is → (same → kept) → Ends is w v same r →
     Ends act w v kept r
 ends-of act is w v same kept r e f h = subst (λ (a : Act). Ends a w v kept r) (sym e) (go r h)
   where
@@ -167,20 +169,20 @@ ends-of act is w v same kept r e f h = subst (λ (a : Act). Ends a w v kept r) (
     go (Err (Fault fault)) h = (f h.0, h.1)
     go (Err (Memory none)) h = h
 
-module _ (act : Act) (w v : ℕ → CableWorld) (same : Type 0) where
-  pub ends-done : (r : Result (Unit {0}) ActStop) → Ends act w v same r → OnOk r ((d : ℕ) → ActLeads act (w d) (v d))
-  ends-done (Ok x) h = λ d. (h d).leads
+module _ (act : Act) (w v : ℕ → Timing → CableWorld) (same : Type 0) where
+  pub ends-done : (r : Result (Unit {0}) ActStop) → Ends act w v same r → OnOk r ((d : ℕ) (t : Timing) → ActLeads act (w d t) (v d t))
+  ends-done (Ok x) h = λ d t. (h d t).leads
   ends-done (Err stop) h = tt
 
-  pub ends-accepted : (r : Result (Unit {0}) ActStop) → Ends act w v same r → OnOk r ((d : ℕ) → act_fault act (w d) ≡ None)
-  ends-accepted (Ok x) h = λ d. (h d).accepted
+  pub ends-accepted : (r : Result (Unit {0}) ActStop) → Ends act w v same r → OnOk r ((d : ℕ) (t : Timing) → act_fault act (w d t) ≡ None)
+  ends-accepted (Ok x) h = λ d t. (h d t).accepted
   ends-accepted (Err stop) h = tt
 
-  pub ends-rows : (r : Result (Unit {0}) ActStop) → Ends act w v same r → OnOk r (map length (v 0).wires ≡ map length (w 0).wires)
-  ends-rows (Ok x) h = (h 0).rows
+  pub ends-rows : (r : Result (Unit {0}) ActStop) → Ends act w v same r → OnOk r (map length (v 0 (usual_timing 0)).wires ≡ map length (w 0 (usual_timing 0)).wires)
+  ends-rows (Ok x) h = (h 0 (usual_timing 0)).rows
   ends-rows (Err stop) h = tt
 
-  pub ends-refused : (r : Result (Unit {0}) ActStop) → Ends act w v same r → IfFault r (λ f. (d : ℕ) → act_fault act (w d) ≡ Some f)
+  pub ends-refused : (r : Result (Unit {0}) ActStop) → Ends act w v same r → IfFault r (λ f. (d : ℕ) (t : Timing) → act_fault act (w d t) ≡ Some f)
   ends-refused (Ok x) h = tt
   ends-refused (Err (Fault fault)) h = h.1
   ends-refused (Err (Memory none)) h = tt
@@ -190,7 +192,7 @@ module _ (act : Act) (w v : ℕ → CableWorld) (same : Type 0) where
   ends-same (Err (Fault fault)) h = h.0
   ends-same (Err (Memory none)) h = tt
 
-  pub ends-memory : (r : Result (Unit {0}) ActStop) → Ends act w v same r → IsMemory r → (d : ℕ) → act_fault act (w d) ≡ None
+  pub ends-memory : (r : Result (Unit {0}) ActStop) → Ends act w v same r → IsMemory r → (d : ℕ) (t : Timing) → act_fault act (w d t) ≡ None
   ends-memory (Ok x) h is = absurd is
   ends-memory (Err (Fault fault)) h is = absurd is
   ends-memory (Err (Memory none)) h is = h

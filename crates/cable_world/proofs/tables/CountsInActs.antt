@@ -9,20 +9,21 @@ use Rattle.cable_world.specs.declared.act.Act.TheVariants.{Plug, Pull, Reset, Co
 use Rattle.cable_world.specs.World.{CableWorld}
 use Rattle.cable_world.specs.Act.{step_at, with_step, add_cable, remove_cable, plug, pull_from, pull, reset, change_in_set, configure, note_changes, ActLeads}
 
--- as many nodes, turns and d as before
+-- as many nodes and turns, and d and the longest times as before
 pub record Keeps (w v : CableWorld) : Type 0 where
   pub nodes : length v.nodes ≡ length w.nodes
   pub turns : v.turns ≡ w.turns
   pub delay : v.delay ≡ w.delay
+  pub longest : v.longest ≡ w.longest
 
 and-then : {w u v : CableWorld} → Keeps w u → Keeps u v → Keeps w v
-and-then a b = record { nodes = b.nodes ∙ a.nodes; turns = b.turns ∙ a.turns; delay = b.delay ∙ a.delay }
+and-then a b = record { nodes = b.nodes ∙ a.nodes; turns = b.turns ∙ a.turns; delay = b.delay ∙ a.delay; longest = b.longest ∙ a.longest }
 
 step-at :
     (o : Option PortNode) (node : ℕ) (step : PortNode → NodeStep) (w : CableWorld) →
     Keeps w (step_at o node step w)
-step-at None node step w = record { nodes = refl; turns = refl; delay = refl }
-step-at (Some x) node step w = record { nodes = length-set w.nodes node (step x).node; turns = refl; delay = refl }
+step-at None node step w = record { nodes = refl; turns = refl; delay = refl; longest = refl }
+step-at (Some x) node step w = record { nodes = length-set w.nodes node (step x).node; turns = refl; delay = refl; longest = refl }
 
 step : (node : ℕ) (step : PortNode → NodeStep) (w : CableWorld) → Keeps w (with_step node step w)
 step node s w = step-at (slice_get w.nodes node) node s w
@@ -39,23 +40,24 @@ two-steps :
 two-steps a b f g w v h = and-then {u = with_step a f v} (and-then {u = v} h (step a f v)) (step b g (with_step a f v))
 
 plugging : (a b : End) (w : CableWorld) → Keeps w (plug a b w)
-plugging a b w = two-steps a.node b.node (node_plugged a.port) (node_plugged b.port) w (add_cable a b w) (record { nodes = refl; turns = refl; delay = refl })
+plugging a b w = two-steps a.node b.node (node_plugged a.port) (node_plugged b.port) w (add_cable a b w) (record { nodes = refl; turns = refl; delay = refl; longest = refl })
 
 pulling : (a : End) (o : Option End) (w : CableWorld) → Keeps w (pull_from a o w)
-pulling a None w = record { nodes = refl; turns = refl; delay = refl }
-pulling a (Some b) w = two-steps a.node b.node (node_pulled a.port) (node_pulled b.port) w (remove_cable a b w) (record { nodes = refl; turns = refl; delay = refl })
+pulling a None w = record { nodes = refl; turns = refl; delay = refl; longest = refl }
+pulling a (Some b) w = two-steps a.node b.node (node_pulled a.port) (node_pulled b.port) w (remove_cable a b w) (record { nodes = refl; turns = refl; delay = refl; longest = refl })
 
 configuring :
     (set from : ℕ) (packet : ConfigPacket) (w : CableWorld) → Keeps w (configure set from packet w)
 configuring set from packet w =
     let v : CableWorld = record w { nodes = change_in_set set (node_set_config packet) 0 w.nodes } in
-    and-then {u = v} (record { nodes = in-set set (node_set_config packet) 0 w.nodes; turns = refl; delay = refl }) (step from node_disturb v)
+    and-then {u = v} (record { nodes = in-set set (node_set_config packet) 0 w.nodes; turns = refl; delay = refl; longest = refl }) (step from node_disturb v)
 
 noting : (w v u : CableWorld) → u ≡ note_changes w v → Keeps w v → Keeps w u
 noting w v u e h = record {
   nodes = ap (λ (x : CableWorld). length x.nodes) e ∙ h.nodes;
   turns = ap (λ (x : CableWorld). x.turns) e ∙ h.turns;
   delay = ap (λ (x : CableWorld). x.delay) e ∙ h.delay;
+  longest = ap (λ (x : CableWorld). x.longest) e ∙ h.longest;
 }
 
 pub act-keeps : (a : Act) (w v : CableWorld) → ActLeads a w v → Keeps w v

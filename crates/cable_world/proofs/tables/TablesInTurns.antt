@@ -73,7 +73,7 @@ hear-steady (s ∷ rest) x v =
     let a : Steady x (on_signal s.0 s.1 x) = sound-steady x (on_signal s.0 s.1 x) (sound-on_signal s.0 s.1 x v) (signal-cables s.0 s.1 x) in
     then-steady x (on_signal s.0 s.1 x) (hear_all rest) a (hear-steady rest (on_signal s.0 s.1 x).state a.valid)
 
-abbrev step_of : NodeStep → Step
+abbrev pub step_of : NodeStep → Step
 step_of s = record { state = s.node.state; sends = s.sends }
 
 node-steady :
@@ -168,7 +168,7 @@ turned-or-none w a f = elim (slice_get_cases w.nodes a.node).1 [
       inr (outside (turn w) a (omega (arith, ap length none)))
 ]
 
-steady-at :
+pub steady-at :
     (w : CableWorld) (k : ℕ) (x : PortNode) → IsWellFormed w → slice_get w.nodes k ≡ Some x →
     Steady x.state (step_of (turn_at w k x))
 steady-at w k x f e = node-steady (inbox w 0 (ports_of w.cabling k)) x (f.nodes k x e).valid

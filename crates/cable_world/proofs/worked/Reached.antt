@@ -20,7 +20,7 @@ use Rattle.cable_world.specs.Outcome.{Shows}
 use Rattle.cable_world.specs.Fresh.{IsFresh}
 use Rattle.cable_world.proofs.worked.Summary.{node_of, attrs, at, after_plug, after_pull}
 use Rattle.cable_world.proofs.Options.{some-same}
-use Rattle.cable_world.proofs.Times.{powered-in-range}
+use Rattle.cable_world.proofs.Times.{in-range-forced, powered-in-range}
 use Rattle.cable_world.proofs.worked.Settled.{each-held}
 use Rattle.cable_world.proofs.worked.TwoNodes as pair
 use Rattle.cable_world.proofs.worked.Desk as desk
@@ -34,7 +34,7 @@ runs-more [] e w u v r h = (v, subst (λ (x : CableWorld). Happens e x v) r h, r
 runs-more (first ∷ events) e w u v r h = (r.0, r.1, runs-more events e r.0 u v r.2 h)
 
 reached-more : (e : Event) (w v : CableWorld) → IsReached w → Happens e w v → IsReached v
-reached-more e w v r h = record { start = r.start; events = r.events ++ e ∷ []; power_on = r.power_on; run = runs-more r.events e r.start w v r.run h }
+reached-more e w v r h = record { start = r.start; events = r.events ++ e ∷ []; power_on = r.power_on; forced = r.forced; run = runs-more r.events e r.start w v r.run h }
 
 reached-turns : (n : ℕ) (w : CableWorld) → IsReached w → IsReached (turns_after n w)
 unfolding turns_after
@@ -87,6 +87,7 @@ reached-first nodes a few = record {
   start = world_of_nodes 4 nodes;
   events = [];
   power_on = record { some_delay = omega arith; short_delay = omega arith; few_nodes = few; nodes = λ k x e. powered-in-range 4 x.state (omega arith) (omega arith) (all-at nodes a k x e); is = refl };
+  forced = λ k x e. in-range-forced 4 x.state.timing (omega arith) (all-at nodes a k x e).timing;
   run = refl;
 }
 

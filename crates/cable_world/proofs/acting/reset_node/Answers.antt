@@ -11,10 +11,10 @@ step_node-requires-clause-suits g c =
     is-there (map f c.args.machines.now) c.args.node (omega (arith, c.if-node-machines.false, length-map c.args.machines.now f))
 
 pub returns : goal.returns
-returns g c cabling d =
-    let w : CableWorld = world_record d cabling (map g.M.PortMachine.record_of c.args.machines.now) c.args.wires.now c.args.changed.now c.args.turns in
+returns g c cabling d t =
+    let w : CableWorld = world_record d t cabling (map g.M.PortMachine.record_of c.args.machines.now) c.args.wires.now c.args.changed.now c.args.turns in
     record {
       accepted = is-inside c.args.node w (omega (arith, c.if-node-machines.false, length-map c.args.machines.now g.M.PortMachine.record_of));
-      leads = c.in_default.ensures d cabling;
-      rows = ap (λ (v : CableWorld). map length v.wires) (c.in_default.ensures d cabling) ∙ note-long c.args.node _ w;
+      leads = c.in_default.ensures d t cabling;
+      rows = ap (λ (v : CableWorld). map length v.wires) (c.in_default.ensures d t cabling) ∙ note-long c.args.node _ w;
     }

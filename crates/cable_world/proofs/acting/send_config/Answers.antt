@@ -23,11 +23,11 @@ step_node-requires-clause-suits g c =
     ))
 
 pub returns : goal.returns
-returns g c d =
+returns g c d t =
     let f = g.M.PortMachine.record_of in
-    let w : CableWorld = world_record d c.args.cabling.now (map f c.args.machines.now) c.args.wires.now c.args.changed.now c.args.turns in
+    let w : CableWorld = world_record d t c.args.cabling.now (map f c.args.machines.now) c.args.wires.now c.args.changed.now c.args.turns in
     let after = c.step_node.new in
-    let v : CableWorld = world_record d c.args.cabling.now (map f after.machines) after.wires after.changed c.args.turns in
+    let v : CableWorld = world_record d t c.args.cabling.now (map f after.machines) after.wires after.changed c.args.turns in
     let p = config_packet c.args.root_id c.args.force c.args.gap in
     let told = map f c.set_configs.new.machines in
     let set = c.component.result in
@@ -36,9 +36,9 @@ returns g c d =
       leads = (
         set,
         c.component.ensures.component,
-        config-done w v set c.args.from p told c.set_configs.ensures (c.in_default.ensures d c.args.cabling.now),
+        config-done w v set c.args.from p told c.set_configs.ensures (c.in_default.ensures d t c.args.cabling.now),
       );
       rows =
-          ap (λ (u : CableWorld). map length u.wires) (c.in_default.ensures d c.args.cabling.now)
-          ∙ note-long c.args.from _ (world_record d c.args.cabling.now told c.args.wires.now c.args.changed.now c.args.turns);
+          ap (λ (u : CableWorld). map length u.wires) (c.in_default.ensures d t c.args.cabling.now)
+          ∙ note-long c.args.from _ (world_record d t c.args.cabling.now told c.args.wires.now c.args.changed.now c.args.turns);
     }

@@ -9,3 +9,6 @@ returns-clause-turns c = λ a w v h. (act-keeps a w v h).turns
 
 pub returns-clause-delay : goal.returns-clause-delay
 returns-clause-delay c = λ a w v h. (act-keeps a w v h).delay
+
+pub returns-clause-longest : goal.returns-clause-longest
+returns-clause-longest c = λ a w v h. (act-keeps a w v h).longest

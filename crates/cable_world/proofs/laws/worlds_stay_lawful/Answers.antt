@@ -1,4 +1,4 @@
-use Rattle.cable_world.proofs.StaysLawful.{power-on-lawful, turns-lawful, hold-lawful, act-lawful, reached-lawful}
+use Rattle.cable_world.proofs.StaysLawful.{power-on-lawful, turns-lawful, hold-lawful, act-lawful, comes-lawful, reached-lawful}
 use Rattle.cable_world.proofs.QuietTurns.{quiet-lawful}
 use Rattle.cable_world.proofs.laws.worlds_stay_lawful.Goals as goal
 
@@ -16,6 +16,9 @@ returns-clause-hold c = hold-lawful
 
 pub returns-clause-act : goal.returns-clause-act
 returns-clause-act c = act-lawful
+
+pub returns-clause-comes : goal.returns-clause-comes
+returns-clause-comes c = comes-lawful
 
 pub returns-clause-reached : goal.returns-clause-reached
 returns-clause-reached c = reached-lawful

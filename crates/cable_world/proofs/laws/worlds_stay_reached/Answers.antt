@@ -1,5 +1,6 @@
-use Rattle.cable_world.proofs.StaysReached.{power-on-reached, turns-reached, hold-reached, act-reached}
+use Rattle.cable_world.proofs.StaysReached.{reached-comes, power-on-reached, turns-reached, hold-reached, act-reached}
 use Rattle.cable_world.proofs.QuietTurns.{quiet-reached}
+use Rattle.cable_world.proofs.StaysLawful.{reached-forced}
 use Rattle.cable_world.proofs.laws.worlds_stay_reached.Goals as goal
 
 pub returns-clause-power_on : goal.returns-clause-power_on
@@ -16,3 +17,9 @@ returns-clause-hold c = hold-reached
 
 pub returns-clause-act : goal.returns-clause-act
 returns-clause-act c = act-reached
+
+pub returns-clause-comes : goal.returns-clause-comes
+returns-clause-comes c = reached-comes
+
+pub returns-clause-forced : goal.returns-clause-forced
+returns-clause-forced c = reached-forced

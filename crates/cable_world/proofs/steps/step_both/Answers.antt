@@ -1,4 +1,6 @@
 use Rattle.std.proofs.Common.{◌∙◌, [], map, slice_get, ap}
+use Rattle.port_state.specs.declared.timing.Timing.{Timing}
+use Rattle.port_state.specs.Timing.{usual_timing}
 use Rattle.port_state.specs.Machine.{PortNode}
 use Rattle.cable_world.specs.World.{CableWorld}
 use Rattle.cable_world.specs.running.NodeActs.{step_of, Suits, note_step}
@@ -11,24 +13,25 @@ pub step_node-requires-2-clause-suits : goal.step_node-requires-2-clause-suits
 step_node-requires-2-clause-suits g c =
     let f = g.M.PortMachine.record_of in
     let r = step_of c.args.first.1 in
-    let w : CableWorld = world_record 0 [] (map f c.args.machines.now) c.args.wires.now c.args.changed.now c.args.turns in
+    let usual : Timing = usual_timing 0 in
+    let w : CableWorld = world_record 0 usual [] (map f c.args.machines.now) c.args.wires.now c.args.changed.now c.args.turns in
     let x = some-of (slice_get (map f c.args.machines.now) c.args.first.0)
     (λ (n : PortNode). Suits c.args.first.1 n) c.requires.first_suits in
     let y = some-of (slice_get (map f c.args.machines.now) c.args.second.0)
     (λ (n : PortNode). Suits c.args.second.1 n) c.requires.second_suits in
-    let e = c.in_ok-step_node.ensures 0 [] in
+    let e = c.in_ok-step_node.ensures 0 usual [] in
     let node = ap (λ (v : CableWorld). slice_get v.nodes c.args.second.0) e ∙ node-then r r c.args.first.0 c.args.second.0 w x.0 x.1 c.requires.apart ∙ y.1 in
     some-at _ y.0 _ node y.2
 
 pub returns : goal.returns
-returns g c d w =
+returns g c d t w =
     let f = g.M.PortMachine.record_of in
     let r = step_of c.args.first.1 in
     let s = step_of c.args.second.1 in
-    let v : CableWorld = world_record d w (map f c.args.machines.now) c.args.wires.now c.args.changed.now c.args.turns in
+    let v : CableWorld = world_record d t w (map f c.args.machines.now) c.args.wires.now c.args.changed.now c.args.turns in
     let x = some-of (slice_get (map f c.args.machines.now) c.args.first.0)
     (λ (n : PortNode). Suits c.args.first.1 n) c.requires.first_suits in
     let y = some-of (slice_get (map f c.args.machines.now) c.args.second.0)
     (λ (n : PortNode). Suits c.args.second.1 n) c.requires.second_suits in
-    c.in_ok-step_node-2.ensures d w ∙ ap (note_step c.args.second.0 s) (c.in_ok-step_node.ensures d w)
+    c.in_ok-step_node-2.ensures d t w ∙ ap (note_step c.args.second.0 s) (c.in_ok-step_node.ensures d t w)
     ∙ both r s c.args.first.0 c.args.second.0 v x.0 x.1 c.requires.apart y.0 y.1

@@ -12,14 +12,14 @@ step_one-requires g c =
     (slice_index_or ms at c.index-machines-node.result) c.requires.suits (get_or_default ms at c.index-machines-node.result _ c.requires.exists)
 
 pub returns : goal.returns
-returns g c d w =
+returns g c d t w =
     let at = c.args.node in
     let ms = c.args.machines.now in
     let rows = c.args.wires.now in
     let changed = c.args.changed.now in
     let row_in : at < length rows = omega (arith, c.requires.rows, c.requires.exists) in
     let change_in : at < length changed = omega (arith, c.requires.changes, c.requires.exists) in
-    step-is g.M.PortMachine.record_of (step_of c.args.act) d w c.args.turns ms rows changed at
+    step-is g.M.PortMachine.record_of (step_of c.args.act) d t w c.args.turns ms rows changed at
     (slice_index_or ms at c.index-machines-node.result) c.step_one.new.machine
     (slice_index_or rows at c.index-wires-node.result) c.step_one.new.wires (slice_index_or changed at 0) c.in_ok-changed.field-0
     c.requires.exists c.requires.rows c.requires.changes

@@ -14,32 +14,32 @@ pub act_world-done-requires-clause-lawful : goal.act_world-done-requires-clause-
 act_world-done-requires-clause-lawful g c =
     let self = c.args.self.now in
     let f = g.M.PortMachine.record_of in
-    let now = lawful-now (world_record self.delay self.cabling (map f self.machines.items) self.wires.items self.changed.items self.turns) (self.reached c.if-self.false) in
-    (self.delay, rw (c.deref_mut.ensures.value, c.deref_mut-2.ensures.value, c.deref_mut-3.ensures.value) now)
+    let now = lawful-now (world_record self.delay self.longest self.cabling (map f self.machines.items) self.wires.items self.changed.items self.turns) (self.reached c.if-self.false) in
+    (self.delay, self.longest, rw (c.deref_mut.ensures.value, c.deref_mut-2.ensures.value, c.deref_mut-3.ensures.value) now)
 
 pub invariant_of-self : goal.invariant_of-self
 invariant_of-self g c =
     let self = c.args.self.now in
     let f = g.M.PortMachine.record_of in
     let act = c.args.act.now in
-    let w : CableWorld = world_record self.delay self.cabling (map f self.machines.items) self.wires.items self.changed.items self.turns in
+    let w : CableWorld = world_record self.delay self.longest self.cabling (map f self.machines.items) self.wires.items self.changed.items self.turns in
     let new = c.act_world-done.new in
     let auto = c.act_world-done.auto in
     let ms = with_items_is self.machines new.machines (auto.machines ∙ c.deref_mut.ensures.len) in
     let ws = with_items_is self.wires new.wires (auto.wires ∙ c.deref_mut-2.ensures.len) in
     let cs = with_items_is self.changed new.changed (auto.changed ∙ c.deref_mut-3.ensures.len) in
     let none : act_fault act w ≡ None =
-    vectors-related (λ u v. act_fault act u ≡ None) f self.delay self.cabling new.cabling self.turns self.machines self.wires self.changed
+    vectors-related (λ u v. act_fault act u ≡ None) f self.delay self.longest self.cabling new.cabling self.turns self.machines self.wires self.changed
     c.deref_mut.result.now new.machines c.deref_mut-2.result.now new.wires c.deref_mut-3.result.now new.changed
     (c.deref_mut.ensures.value, c.deref_mut.ensures.len, auto.machines)
     (c.deref_mut-2.ensures.value, c.deref_mut-2.ensures.len, auto.wires)
-    (c.deref_mut-3.ensures.value, c.deref_mut-3.ensures.len, auto.changed) (c.in-Ok.ensures.accepted self.delay) in
+    (c.deref_mut-3.ensures.value, c.deref_mut-3.ensures.len, auto.changed) (c.in-Ok.ensures.accepted self.delay self.longest) in
     let leads =
-    vectors-related (ActLeads act) f self.delay self.cabling new.cabling self.turns self.machines self.wires self.changed
+    vectors-related (ActLeads act) f self.delay self.longest self.cabling new.cabling self.turns self.machines self.wires self.changed
     c.deref_mut.result.now new.machines c.deref_mut-2.result.now new.wires c.deref_mut-3.result.now new.changed
     (c.deref_mut.ensures.value, c.deref_mut.ensures.len, auto.machines)
     (c.deref_mut-2.ensures.value, c.deref_mut-2.ensures.len, auto.wires)
-    (c.deref_mut-3.ensures.value, c.deref_mut-3.ensures.len, auto.changed) (c.in-Ok.ensures.done self.delay) in
+    (c.deref_mut-3.ensures.value, c.deref_mut-3.ensures.len, auto.changed) (c.in-Ok.ensures.done self.delay self.longest) in
     record {
       reached = λ fine. ∥∥₁_map (self.reached c.if-self.false) (act-reached act w _ c.requires none leads);
       marks = ap length cs ∙ auto.changed ∙ ap length c.deref_mut-3.ensures.value ∙ self.marks ∙ sym (ap length ms ∙ auto.machines ∙ ap length c.deref_mut.ensures.value);
@@ -58,7 +58,7 @@ invariant_of-self-in-Fault g c =
     let kept = fault-of c.act_world-done.result c.in-Err.stop c.in-Fault.fault _ c.in-Err.is c.in-Fault.is c.act_world-done.ensures.same in
     record {
       reached = λ fine. subst (λ w. ∥ IsReached w ∥₁) (sym (
-          vectors-same f self.delay self.cabling new.cabling self.turns self.machines self.wires self.changed
+          vectors-same f self.delay self.longest self.cabling new.cabling self.turns self.machines self.wires self.changed
           c.deref_mut.result.now new.machines c.deref_mut-2.result.now new.wires c.deref_mut-3.result.now new.changed
           (c.deref_mut.ensures.value, c.deref_mut.ensures.len, auto.machines)
           (c.deref_mut-2.ensures.value, c.deref_mut-2.ensures.len, auto.wires)

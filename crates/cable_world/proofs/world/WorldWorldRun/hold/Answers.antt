@@ -13,7 +13,7 @@ use Rattle.cable_world.proofs.world.WorldWorldRun.hold.Goals as goal
 pub index_mut-requires : goal.index_mut-requires
 index_mut-requires g c =
     let self = c.args.self.now in
-    let w = world_record self.delay self.cabling (map g.M.PortMachine.record_of self.machines.items) self.wires.items self.changed.items self.turns in
+    let w = world_record self.delay self.longest self.cabling (map g.M.PortMachine.record_of self.machines.items) self.wires.items self.changed.items self.turns in
     let l = lawful-now w (self.reached c.if-self.false) in
     omega (arith, c.if-end-nodes.false, c.nodes.ensures.value, l.well_formed.wire_rows, self.wires.ok.0)
 
@@ -21,7 +21,7 @@ pub hold-requires : goal.hold-requires
 hold-requires g c =
     let self = c.args.self.now in
     let end = c.args.end in
-    let w = world_record self.delay self.cabling (map g.M.PortMachine.record_of self.machines.items) self.wires.items self.changed.items self.turns in
+    let w = world_record self.delay self.longest self.cabling (map g.M.PortMachine.record_of self.machines.items) self.wires.items self.changed.items self.turns in
     let l = lawful-now w (self.reached c.if-self.false) in
     let has : HasEnd self.cabling end = record {
       node = omega (arith, c.if-end-nodes.false, c.nodes.ensures.value);
@@ -35,7 +35,7 @@ pub invariant_of-self : goal.invariant_of-self
 invariant_of-self g c =
     let self = c.args.self.now in
     let end = c.args.end in
-    let w = world_record self.delay self.cabling (map g.M.PortMachine.record_of self.machines.items) self.wires.items self.changed.items self.turns in
+    let w = world_record self.delay self.longest self.cabling (map g.M.PortMachine.record_of self.machines.items) self.wires.items self.changed.items self.turns in
     let l = lawful-now w (self.reached c.if-self.false) in
     let inside : end.node < length self.wires.items = omega (arith, c.if-end-nodes.false, c.nodes.ensures.value, l.well_formed.wire_rows) in
     let there : is_some (far self.cabling end) ≡ true = ap is_some (sym c.far.ensures) ∙ c.if-is_none.ensures in

@@ -1,0 +1,119 @@
+-- Turns and acts change no node's times, so that who can be forced stays so.
+use Rattle.std.proofs.Common.{◌≡◌, ℕ, Bool, List, inl, inr, Option, Some, None, slice_get, slice_set, refl, sym, subst, ◌∙◌, ap, arith}
+use Rattle.std.proofs.lemmas.Bool.{cases_eq}
+use Rattle.std.proofs.lemmas.Option.{slice_get_within, slice_get_cases}
+use Rattle.cabling.specs.declared.cable.End.{End}
+use Rattle.cabling.specs.Wiring.{far}
+use Rattle.port_state.specs.declared.timing.Timing.{Timing}
+use Rattle.port_state.specs.Config.{config_packet}
+use Rattle.port_state.specs.Entry.{enter}
+use Rattle.port_state.specs.Machine.{PortNode, NodeStep, node_disturb, node_plugged, node_pulled, node_set_config}
+use Rattle.cable_world.specs.declared.act.Act.{Act}
+use Rattle.cable_world.specs.declared.act.Act.TheVariants.{Plug, Pull, Reset, Config}
+use Rattle.cable_world.specs.Times.{CanBeForced}
+use Rattle.cable_world.specs.World.{CableWorld, AllCanBeForced}
+use Rattle.cable_world.specs.Turn.{turn, turn_at}
+use Rattle.cable_world.specs.Act.{step_at, with_step, add_cable, remove_cable, plug, pull_from, pull, reset, change_in_set, configure, note_changes, ActLeads}
+use Rattle.cable_world.specs.Lawful.{IsWellFormed}
+use Rattle.cable_world.proofs.Options.{some-same}
+use Rattle.cable_world.proofs.turns.ByNumber.{node-after, nodes-after, delay-after, longest-after}
+use Rattle.cable_world.proofs.tables.CountsInActs.{act-keeps}
+use Rattle.cable_world.proofs.tables.TablesInSteps.{replaced, not-replaced}
+use Rattle.cable_world.proofs.tables.TablesInActs.{as_before, altered, was}
+use Rattle.cable_world.proofs.tables.TablesInTurns.{steady-at}
+
+-- each node's times are such
+abbrev Timed : (Timing → Type 0) → List PortNode → Type 0
+Timed P nodes = (k : ℕ) (x : PortNode) → slice_get nodes k ≡ Some x → P x.state.timing
+
+-- ---- a turn
+
+turn-timed :
+    (P : Timing → Type 0) (w : CableWorld) → IsWellFormed w → Timed P w.nodes → Timed P (turn w).nodes
+turn-timed P w f h k y e = elim (slice_get_cases w.nodes k).1 [
+  | inl found ↦
+      let same : (turn_at w k found.0).node ≡ y = some-same (turn_at w k found.0).node y (sym (node-after w k found.0 f.count found.2) ∙ e) in
+      subst (λ (z : PortNode). P z.state.timing) same (subst P (sym (steady-at w k found.0 f found.2).timing) (h k found.0 found.2))
+  | inr lacks ↦ absurd (omega (arith, lacks.0, slice_get_within (turn w).nodes k y e, nodes-after w f.count))
+]
+
+-- ---- an act
+
+-- a step that leaves a node its times
+abbrev LeavesTimes : (PortNode → NodeStep) → Type 0
+LeavesTimes step = (x : PortNode) → (step x).node.state.timing ≡ x.state.timing
+
+disturbed : LeavesTimes node_disturb
+unfolding enter
+disturbed x = refl
+
+plugged : (port : ℕ) → LeavesTimes (node_plugged port)
+unfolding enter
+plugged port x = refl
+
+pulled : (port : ℕ) → LeavesTimes (node_pulled port)
+unfolding enter
+pulled port x = refl
+
+step-timed :
+    (P : Timing → Type 0) (k : ℕ) (step : PortNode → NodeStep) (w : CableWorld) → LeavesTimes step →
+    Timed P w.nodes → Timed P (with_step k step w).nodes
+step-timed P k step w leaves h = go (slice_get w.nodes k) refl
+  where
+    put : (x : PortNode) → slice_get w.nodes k ≡ Some x → Timed P (slice_set w.nodes k (step x).node)
+    put x at j y e = elim (cases_eq j k) [
+      | inl same ↦
+          let here : slice_get (slice_set w.nodes k (step x).node) k ≡ Some y = subst (λ i. slice_get (slice_set w.nodes k (step x).node) i ≡ Some y) same e in
+          let is : (step x).node ≡ y = some-same (step x).node y (sym (replaced w.nodes k (step x).node (slice_get_within w.nodes k x at)) ∙ here) in
+          subst (λ (z : PortNode). P z.state.timing) is (subst P (sym (leaves x)) (h k x at))
+      | inr ne ↦ h j y (sym (not-replaced w.nodes k j (step x).node ne) ∙ e)
+    ]
+
+    go : (o : Option PortNode) → slice_get w.nodes k ≡ o → Timed P (step_at o k step w).nodes
+    go None at = h
+    go (Some x) at = put x at
+
+two-timed :
+    (P : Timing → Type 0) (j k : ℕ) (f g : PortNode → NodeStep) (w : CableWorld) → LeavesTimes f →
+    LeavesTimes g → Timed P w.nodes → Timed P (with_step k g (with_step j f w)).nodes
+two-timed P j k f g w a b h = step-timed P k g (with_step j f w) b (step-timed P j f w a h)
+
+pull-timed :
+    (P : Timing → Type 0) (a : End) (o : Option End) (w : CableWorld) → Timed P w.nodes →
+    Timed P (pull_from a o w).nodes
+pull-timed P a None w h = h
+pull-timed P a (Some b) w h = two-timed P a.node b.node (node_pulled a.port) (node_pulled b.port) (remove_cable a b w) (pulled a.port) (pulled b.port) h
+
+configure-timed :
+    (P : Timing → Type 0) (set from root_id : ℕ) (force : Bool) (gap : Option ℕ) (w : CableWorld) → Timed P w.nodes →
+    Timed P (configure set from (config_packet root_id force gap) w).nodes
+configure-timed P set from root_id force gap w h =
+    let packet = config_packet root_id force gap in
+    let change : PortNode → PortNode = node_set_config packet in
+    step-timed P from node_disturb (record w { nodes = change_in_set set change 0 w.nodes }) disturbed
+    (λ k y e. elim (was set change 0 w.nodes k y e) [
+      | as_before at ↦ h k y at
+      | altered x at is ↦ subst (λ (z : PortNode). P z.state.timing) is (h k x at)
+    ])
+
+act-timed :
+    (P : Timing → Type 0) (a : Act) (w v : CableWorld) → ActLeads a w v → Timed P w.nodes → Timed P v.nodes
+act-timed P (Plug a b) w v e h =
+    subst (λ (u : CableWorld). Timed P u.nodes) (sym e)
+    (two-timed P a.node b.node (node_plugged a.port) (node_plugged b.port) (add_cable a b w) (plugged a.port) (plugged b.port) h)
+act-timed P (Pull end) w v e h = subst (λ (u : CableWorld). Timed P u.nodes) (sym e) (pull-timed P end (far w.cabling end) w h)
+act-timed P (Reset node) w v e h = subst (λ (u : CableWorld). Timed P u.nodes) (sym e) (step-timed P node node_disturb w disturbed h)
+act-timed P (Config from root_id force gap) w v e h =
+    subst (λ (u : CableWorld). Timed P u.nodes) (sym e.2) (configure-timed P e.0 from root_id force gap w h)
+
+-- ---- who can be forced
+
+pub turn-forced : (w : CableWorld) → IsWellFormed w → AllCanBeForced w → AllCanBeForced (turn w)
+turn-forced w f h k y e =
+    rw (delay-after w, longest-after w) (turn-timed (CanBeForced w.delay w.longest) w f h k y e)
+
+pub act-forced :
+    (a : Act) (w v : CableWorld) → ActLeads a w v → AllCanBeForced w → AllCanBeForced v
+act-forced a w v e h k y at =
+    let keeps = act-keeps a w v e in
+    rw (keeps.delay, keeps.longest) (act-timed (CanBeForced w.delay w.longest) a w v e h k y at)
