@@ -2,6 +2,7 @@
 use Rattle.std.proofs.Common.{◌≡◌, ℕ, suc, ◌+◌, ◌<◌, ◌≤◌, List, All, length, map, get_or, ◌∙◌, refl, arith}
 use Rattle.std.proofs.lemmas.List.Elements.{All-map, All-weaker}
 use Rattle.cabling.specs.Wiring.{Wiring}
+use Rattle.port_state.specs.declared.timing.Timing.{Timing}
 use Rattle.port_state.specs.Machine.{PortNode}
 use Rattle.port_state.specs.Idle.{IsIdleFor, after_ticks}
 use Rattle.cable_world.specs.Wire.{Wire}
@@ -22,10 +23,10 @@ none-still w = record { silent = λ some. absurd (omega (arith, some)); idle = �
 -- no signal is under way, and no node's idle ticks are over
 pub still-for :
     {N : Type 0} → (r : N → PortNode) (clock idle : N → ℕ) (rests : (n : N) → IsIdleFor (idle n) (r n)) (turns k : ℕ) (nodes : List N)
-    (d : ℕ) (c : Wiring) (wires : List (List Wire)) (changed : List ℕ) → (0 < k → AreSilent wires) → (0 < k → All (λ n. clock n ≤ turns) nodes) →
+    (d : ℕ) (most : Timing) (c : Wiring) (wires : List (List Wire)) (changed : List ℕ) → (0 < k → AreSilent wires) → (0 < k → All (λ n. clock n ≤ turns) nodes) →
     (0 < k → All (λ n. turns + k ≤ clock n + idle n) nodes) →
-    IsStillFor k (world_record d c (map (λ n. caught_up turns (clock n) (r n)) nodes) wires changed turns)
-still-for r clock idle rests turns k nodes d c wires changed silent behind few = record {
+    IsStillFor k (world_record d most c (map (λ n. caught_up turns (clock n) (r n)) nodes) wires changed turns)
+still-for r clock idle rests turns k nodes d most c wires changed silent behind few = record {
   silent = silent;
   idle = All-map (λ x. IsIdleFor k x) (λ n. caught_up turns (clock n) (r n)) nodes (λ i e inside. λ j below.
       let some : 0 < k = omega (arith, below) in

@@ -2,9 +2,8 @@
 -- machine that stands at an earlier turn, and nodes of which nothing is heard. `Hears`: where something is
 -- heard. `Rest`: wires at rest. `LiveRows`: the nodes whose wires are live. `Quiet`: the nodes that a turn
 -- doesn't visit. `Known`: what an agenda says. `Places`: the nodes that a loop hasn't come to. `Steps`: the
--- tables of a turn, entry by entry. `Whole`: a world by its parts, and its vectors. `Start`: the tables at
--- power-on. `Mixed`: a table that a loop writes anew. `Turns`: turns, one after the other. `Ahead`: turns to
--- come in which nothing happens.
+-- tables of a turn, entry by entry. `Whole`: a world by its parts, and its vectors. `Mixed`: a table that a
+-- loop writes anew. `Turns`: turns, one after the other. `Ahead`: turns to come in which nothing happens.
 pub mod Bits
 pub mod Blend
 pub mod Late
@@ -18,6 +17,5 @@ pub mod Mixed
 pub mod Steps
 pub mod Turns
 pub mod Whole
-pub mod Start
 pub mod Ahead
 pub mod Lemmas

@@ -11,6 +11,7 @@ use Rattle.cabling.specs.declared.cable.End.{End}
 use Rattle.cabling.specs.Wiring.{Wiring, ports_of, far}
 use Rattle.cabling.specs.Change.{pull_fault}
 use Rattle.cabling.specs.declared.cable.CableFault.{CableFault}
+use Rattle.port_state.specs.declared.timing.Timing.{Timing}
 use Rattle.port_state.specs.Sends.{PortSignal}
 use Rattle.port_state.specs.Machine.{PortNode, NodeStep}
 use Rattle.cable_world.specs.declared.act.ActStop.{ActStop}
@@ -58,30 +59,30 @@ sent-length q sends (w ∷ wires) = ap suc (sent-length (q + 1) sends wires)
 
 -- what holds of the slices before and after a call, holds of the vectors
 pub vectors-related :
-    {M Z : Type 0} → (P : CableWorld → CableWorld → Type 0) (f h : M → PortNode) (d : ℕ) (c k : Wiring) (t s : ℕ)
+    {M Z : Type 0} → (P : CableWorld → CableWorld → Type 0) (f h : M → PortNode) (d : ℕ) (most : Timing) (c k : Wiring) (t s : ℕ)
     (nodes : Vec M Z) (wires : Vec (List Wire) Z) (changed : Vec ℕ Z)
     (ms nms : List M) (ws nws : List (List Wire)) (cs ncs : List ℕ) →
     (ms ≡ nodes.items) × (length ms ≡ nodes.len) × (length nms ≡ length ms) →
     (ws ≡ wires.items) × (length ws ≡ wires.len) × (length nws ≡ length ws) →
     (cs ≡ changed.items) × (length cs ≡ changed.len) × (length ncs ≡ length cs) →
-    P (world_record d c (map f ms) ws cs t) (world_record d k (map h nms) nws ncs s) →
-    P (world_record d c (map f nodes.items) wires.items changed.items t)
-    (world_record d k (map h (with_items nodes nms).items) (with_items wires nws).items (with_items changed ncs).items s)
-vectors-related P f h d c k t s nodes wires changed ms nms ws nws cs ncs m w e p =
-    let before : world_record d c (map f ms) ws cs t ≡ world_record d c (map f nodes.items) wires.items changed.items t =
-    ap (λ xs. world_record d c (map f xs) ws cs t) m.0 ∙ ap (λ rows. world_record d c (map f nodes.items) rows cs t) w.0
-    ∙ ap (λ ns. world_record d c (map f nodes.items) wires.items ns t) e.0 in
-    let after : world_record d k (map h (with_items nodes nms).items) (with_items wires nws).items (with_items changed ncs).items s
-    ≡ world_record d k (map h nms) nws ncs s =
+    P (world_record d most c (map f ms) ws cs t) (world_record d most k (map h nms) nws ncs s) →
+    P (world_record d most c (map f nodes.items) wires.items changed.items t)
+    (world_record d most k (map h (with_items nodes nms).items) (with_items wires nws).items (with_items changed ncs).items s)
+vectors-related P f h d most c k t s nodes wires changed ms nms ws nws cs ncs m w e p =
+    let before : world_record d most c (map f ms) ws cs t ≡ world_record d most c (map f nodes.items) wires.items changed.items t =
+    ap (λ xs. world_record d most c (map f xs) ws cs t) m.0 ∙ ap (λ rows. world_record d most c (map f nodes.items) rows cs t) w.0
+    ∙ ap (λ ns. world_record d most c (map f nodes.items) wires.items ns t) e.0 in
+    let after : world_record d most k (map h (with_items nodes nms).items) (with_items wires nws).items (with_items changed ncs).items s
+    ≡ world_record d most k (map h nms) nws ncs s =
     rw (with_items_is nodes nms (m.2 ∙ m.1), with_items_is wires nws (w.2 ∙ w.1), with_items_is changed ncs (e.2 ∙ e.1)) refl in
-    subst (λ u. P u (world_record d k (map h (with_items nodes nms).items) (with_items wires nws).items (with_items changed ncs).items s)) before
-    (subst (λ v. P (world_record d c (map f ms) ws cs t) v) (sym after) p)
+    subst (λ u. P u (world_record d most k (map h (with_items nodes nms).items) (with_items wires nws).items (with_items changed ncs).items s)) before
+    (subst (λ v. P (world_record d most c (map f ms) ws cs t) v) (sym after) p)
 
 -- nothing was changed
 pub parts-same :
-    {M : Type 0} → (f : M → PortNode) (d : ℕ) (c k : Wiring) (t : ℕ) (ms nms : List M) (ws nws : List (List Wire)) (cs ncs : List ℕ) →
-    (k ≡ c) × (map f nms ≡ map f ms) × (nws ≡ ws) × (ncs ≡ cs) → world_record d k (map f nms) nws ncs t ≡ world_record d c (map f ms) ws cs t
-parts-same f d c k t ms nms ws nws cs ncs same = rw (same.0, same.1, same.2, same.3) refl
+    {M : Type 0} → (f : M → PortNode) (d : ℕ) (most : Timing) (c k : Wiring) (t : ℕ) (ms nms : List M) (ws nws : List (List Wire)) (cs ncs : List ℕ) →
+    (k ≡ c) × (map f nms ≡ map f ms) × (nws ≡ ws) × (ncs ≡ cs) → world_record d most k (map f nms) nws ncs t ≡ world_record d most c (map f ms) ws cs t
+parts-same f d most c k t ms nms ws nws cs ncs same = rw (same.0, same.1, same.2, same.3) refl
 
 -- what holds of two lists of nodes, holds of lists that are the same
 pub moved :

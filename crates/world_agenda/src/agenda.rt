@@ -16,8 +16,9 @@ use crate::mask::NodeMask;
 use crate::node::AgendaNode;
 use crate::nodes::{Agenda, act_agenda, turn_agenda};
 use crate::still::TellsStillTurns;
-use cable_world::parts::{ArrivalRow, WireRow, longest_in_range};
-use cable_world::parts::{arrival_rows, no_changes, port_counts, wire_rows};
+use cable_world::parts::{
+    ArrivalRow, WireRow, arrival_rows, longest_in_range, no_changes, port_counts, wire_rows,
+};
 use cable_world::{
     Act, ActStop, ShowsWires, Travelling, WorldRun, still_turns_pass, worlds_stay_lawful,
     worlds_stay_reached,

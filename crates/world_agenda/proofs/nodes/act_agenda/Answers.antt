@@ -1,4 +1,5 @@
 use Rattle.std.proofs.Common.{◌≡◌, ◌∙◌, ℕ, List, None, Some, map, OnOk, ap, sym, subst}
+use Rattle.port_state.specs.declared.timing.Timing.{Timing}
 use Rattle.port_state.specs.Machine.{PortNode}
 use Rattle.cable_world.specs.Act.{ActLeads, act_fault}
 use Rattle.cable_world.specs.Answer.{IfFault, IsMemory}
@@ -19,20 +20,20 @@ returns-clause-done g c =
     let f : AgendaNode g.row.M.Denot g.M.PortMachine → PortNode = λ n. g.M.PortMachine.record_of n.machine in
     let after : map f c.act_world-done.new.machines ≡ map (λ n. caught_up c.args.turns n.clock (f n)) c.set_clocks.new.nodes =
     sym (all-now f (λ n. n.clock) c.args.turns c.set_clocks.new.nodes c.set_clocks.ensures.clocks ∙ c.set_clocks.ensures.nodes) in
-    moved (λ (xs ys : List PortNode). OnOk c.act_world-done.result ((d : ℕ) → ActLeads c.args.act.now
-    (world_record d c.args.cabling.now xs c.args.wires.now c.args.changed.now c.args.turns)
-    (world_record d c.act_world-done.new.cabling ys c.act_world-done.new.wires c.act_world-done.new.changed c.args.turns)))
+    moved (λ (xs ys : List PortNode). OnOk c.act_world-done.result ((d : ℕ) (t : Timing) → ActLeads c.args.act.now
+    (world_record d t c.args.cabling.now xs c.args.wires.now c.args.changed.now c.args.turns)
+    (world_record d t c.act_world-done.new.cabling ys c.act_world-done.new.wires c.act_world-done.new.changed c.args.turns)))
     _ _ _ _ c.catch_up.ensures after c.act_world-done.ensures.done
 
 pub returns-clause-accepted : goal.returns-clause-accepted
 returns-clause-accepted g c =
-    subst (λ (xs : List PortNode). OnOk c.act_world-done.result ((d : ℕ) → act_fault c.args.act.now
-    (world_record d c.args.cabling.now xs c.args.wires.now c.args.changed.now c.args.turns) ≡ None)) c.catch_up.ensures c.act_world-done.ensures.accepted
+    subst (λ (xs : List PortNode). OnOk c.act_world-done.result ((d : ℕ) (t : Timing) → act_fault c.args.act.now
+    (world_record d t c.args.cabling.now xs c.args.wires.now c.args.changed.now c.args.turns) ≡ None)) c.catch_up.ensures c.act_world-done.ensures.accepted
 
 pub returns-clause-refused : goal.returns-clause-refused
 returns-clause-refused g c =
-    subst (λ (xs : List PortNode). IfFault c.act_world-done.result (λ f. (d : ℕ) → act_fault c.args.act.now
-    (world_record d c.args.cabling.now xs c.args.wires.now c.args.changed.now c.args.turns) ≡ Some f)) c.catch_up.ensures c.act_world-done.ensures.refused
+    subst (λ (xs : List PortNode). IfFault c.act_world-done.result (λ f. (d : ℕ) (t : Timing) → act_fault c.args.act.now
+    (world_record d t c.args.cabling.now xs c.args.wires.now c.args.changed.now c.args.turns) ≡ Some f)) c.catch_up.ensures c.act_world-done.ensures.refused
 
 pub returns-clause-same : goal.returns-clause-same
 returns-clause-same g c =
@@ -43,5 +44,5 @@ returns-clause-same g c =
 
 pub returns-clause-memory : goal.returns-clause-memory
 returns-clause-memory g c =
-    subst (λ (xs : List PortNode). IsMemory c.act_world-done.result → (d : ℕ) → act_fault c.args.act.now
-    (world_record d c.args.cabling.now xs c.args.wires.now c.args.changed.now c.args.turns) ≡ None) c.catch_up.ensures c.act_world-done.ensures.memory
+    subst (λ (xs : List PortNode). IsMemory c.act_world-done.result → (d : ℕ) (t : Timing) → act_fault c.args.act.now
+    (world_record d t c.args.cabling.now xs c.args.wires.now c.args.changed.now c.args.turns) ≡ None) c.catch_up.ensures c.act_world-done.ensures.memory

@@ -10,34 +10,34 @@ use Rattle.world_agenda.proofs.nodes.turn_agenda.Goals as goal
 use Rattle.cable_world.proofs.Lemmas.{all-young, rows-long, sent-long}
 
 pub turn_live-requires-clause-young : goal.turn_live-requires-clause-young
-turn_live-requires-clause-young g c = all-young _ c.requires.lawful.well_formed
+turn_live-requires-clause-young g c = all-young _ c.requires.lawful.1.well_formed
 
 pub turn_nodes-requires-clause-few : goal.turn_nodes-requires-clause-few
 turn_nodes-requires-clause-few g c =
     let f : AgendaNode g.row.M.Denot g.M.PortMachine → PortNode = λ n. caught_up c.args.turns n.clock (g.M.PortMachine.record_of n.machine) in
-    let w = c.requires.lawful.well_formed in
+    let w = c.requires.lawful.1.well_formed in
     omega (arith, length-map c.args.nodes.now f, w.count, w.cabling.few_nodes)
 
 pub turn_nodes-requires-clause-nodes : goal.turn_nodes-requires-clause-nodes
 turn_nodes-requires-clause-nodes g c =
     let f : AgendaNode g.row.M.Denot g.M.PortMachine → PortNode = λ n. caught_up c.args.turns n.clock (g.M.PortMachine.record_of n.machine) in
-    sym (length-map c.args.nodes.now f) ∙ c.requires.lawful.well_formed.count
+    sym (length-map c.args.nodes.now f) ∙ c.requires.lawful.1.well_formed.count
 
 pub turn_nodes-requires-clause-changes : goal.turn_nodes-requires-clause-changes
-turn_nodes-requires-clause-changes g c = c.requires.lawful.well_formed.changes
+turn_nodes-requires-clause-changes g c = c.requires.lawful.1.well_formed.changes
 
 pub turn_nodes-requires-clause-rows : goal.turn_nodes-requires-clause-rows
 turn_nodes-requires-clause-rows g c =
-    ap length c.in_ok-turn_live.ensures.stays ∙ length-map c.args.wires.now (map (stays c.args.delay)) ∙ c.requires.lawful.well_formed.wire_rows
+    ap length c.in_ok-turn_live.ensures.stays ∙ length-map c.args.wires.now (map (stays c.args.delay)) ∙ c.requires.lawful.1.well_formed.wire_rows
 
 pub turn_nodes-requires-clause-ports : goal.turn_nodes-requires-clause-ports
-turn_nodes-requires-clause-ports g c = λ k x at. (c.requires.lawful.well_formed.nodes k x at).ports
+turn_nodes-requires-clause-ports g c = λ k x at. (c.requires.lawful.1.well_formed.nodes k x at).ports
 
 pub returns-clause-done : goal.returns-clause-done
-returns-clause-done g c =
+returns-clause-done g c t =
     let f : AgendaNode g.row.M.Denot g.M.PortMachine → PortNode = λ n. caught_up c.args.turns n.clock (g.M.PortMachine.record_of n.machine) in
     let h : AgendaNode g.row.M.Denot g.M.PortMachine → PortNode = λ n. caught_up (c.args.turns + 1) n.clock (g.M.PortMachine.record_of n.machine) in
-    turn-is (world_record c.args.delay c.args.cabling.now (map f c.args.nodes.now) c.args.wires.now c.args.changed.now c.args.turns)
+    turn-is (world_record c.args.delay t c.args.cabling.now (map f c.args.nodes.now) c.args.wires.now c.args.changed.now c.args.turns)
     c.turn_live.new.arrivals (map h c.turn_nodes.new.nodes) c.turn_live.new.wires c.turn_nodes.new.wires
     c.turn_nodes.new.changed c.in_ok-turn_live.ensures.arrives c.in_ok-turn_live.ensures.stays
     c.in_ok-turn_nodes.ensures.node c.in_ok-turn_nodes.ensures.changes c.in_ok-turn_nodes.ensures.wires
@@ -53,7 +53,7 @@ returns-clause-same g c =
 
 pub hearers-heard-requires-clause-nodes : goal.hearers-heard-requires-clause-nodes
 hearers-heard-requires-clause-nodes g c =
-    let w = c.requires.lawful.well_formed in
+    let w = c.requires.lawful.1.well_formed in
     ap length c.in_ok-turn_live.ensures.arrives ∙ length-map c.args.wires.now (map (arrives c.args.delay)) ∙ w.wire_rows
 
 pub hearers-heard-requires-clause-near : goal.hearers-heard-requires-clause-near
@@ -67,7 +67,7 @@ hearers-heard-requires-clause-near g c =
 pub due_nodes-requires-clause-few : goal.due_nodes-requires-clause-few
 due_nodes-requires-clause-few g c =
     let f : AgendaNode g.row.M.Denot g.M.PortMachine → PortNode = λ n. caught_up c.args.turns n.clock (g.M.PortMachine.record_of n.machine) in
-    let w = c.requires.lawful.well_formed in
+    let w = c.requires.lawful.1.well_formed in
     omega (arith, length-map c.args.nodes.now f, w.count, w.cabling.few_nodes)
 
 pub due_nodes-requires-clause-below : goal.due_nodes-requires-clause-below
@@ -82,7 +82,7 @@ due_nodes-requires-clause-idle g c =
 pub turn_nodes-requires-clause-below : goal.turn_nodes-requires-clause-below
 turn_nodes-requires-clause-below g c =
     let f : AgendaNode g.row.M.Denot g.M.PortMachine → PortNode = λ n. caught_up c.args.turns n.clock (g.M.PortMachine.record_of n.machine) in
-    let w = c.requires.lawful.well_formed in
+    let w = c.requires.lawful.1.well_formed in
     λ k has. elim ((c.union-visited.ensures k).0 has) [
       | inl due ↦ c.due_nodes.ensures.below k due
       | inr heard ↦ let less = c.hearers-heard.ensures.below k heard in omega (arith, less, length-map c.args.nodes.now f, w.count)

@@ -27,20 +27,20 @@ pub invariant_of-self : goal.invariant_of-self
 invariant_of-self g c =
     let self = c.args.self.now in
     let f : AgendaNode g.row.M.Denot g.M.PortMachine → PortNode = λ n. caught_up self.turns n.clock (g.M.PortMachine.record_of n.machine) in
-    let w : CableWorld = world_record self.delay self.cabling (map f self.nodes.items) self.wires.items self.changed.items self.turns in
+    let w : CableWorld = world_record self.delay self.longest self.cabling (map f self.nodes.items) self.wires.items self.changed.items self.turns in
     let k = c.rest-rest.result in
     let behind = self.behind c.requires.sound in
     let some : 0 < k = omega (arith, c.if-rest-eq0.false) in
     let ws = with_items_is self.wires c.pass_live.new.wires (c.pass_live.auto.wires ∙ c.deref_mut.ensures.len) in
     let h : AgendaNode g.row.M.Denot g.M.PortMachine → PortNode = λ n. caught_up (self.turns + k) n.clock (g.M.PortMachine.record_of n.machine) in
     let r : AgendaNode g.row.M.Denot g.M.PortMachine → PortNode = λ n. g.M.PortMachine.record_of n.machine in
-    let still = still-for r (λ n. n.clock) (λ n. n.idle) (λ n. n.rests) self.turns k self.nodes.items self.delay self.cabling self.wires.items self.changed.items
+    let still = still-for r (λ n. n.clock) (λ n. n.idle) (λ n. n.rests) self.turns k self.nodes.items self.delay self.longest self.cabling self.wires.items self.changed.items
     c.rest-rest.ensures.silent (λ s. behind) c.rest-rest.ensures.idle in
     let nodes : map h self.nodes.items ≡ map (after_ticks k) (map f self.nodes.items) = all-later r (λ n. n.clock) k self.turns self.nodes.items behind in
     let rows = ws ∙ c.pass_live.ensures ∙ ap (map (map (hold_less k))) c.deref_mut.ensures.value in
     let done =
-    ap (λ xs. world_record self.delay self.cabling xs (with_items self.wires c.pass_live.new.wires).items self.changed.items (self.turns + k)) nodes
-    ∙ ap (λ ys. world_record self.delay self.cabling (map (after_ticks k) (map f self.nodes.items)) ys self.changed.items (self.turns + k)) rows
+    ap (λ xs. world_record self.delay self.longest self.cabling xs (with_items self.wires c.pass_live.new.wires).items self.changed.items (self.turns + k)) nodes
+    ∙ ap (λ ys. world_record self.delay self.longest self.cabling (map (after_ticks k) (map f self.nodes.items)) ys self.changed.items (self.turns + k)) rows
     ∙ sym (c.still_turns_pass.ensures k w (lawful-now w c.worlds_stay_lawful.ensures.reached (self.reached c.requires.sound)).well_formed.count still) in
     record {
       reached = λ fine. subst (λ v. ∥ IsReached v ∥₁) (sym done) (∥∥₁_map (self.reached c.requires.sound) (c.worlds_stay_reached.ensures.turns k w));
@@ -58,16 +58,16 @@ pub returns-clause-done : goal.returns-clause-done
 returns-clause-done g c =
     let self = c.args.self.now in
     let f : AgendaNode g.row.M.Denot g.M.PortMachine → PortNode = λ n. caught_up self.turns n.clock (g.M.PortMachine.record_of n.machine) in
-    let w : CableWorld = world_record self.delay self.cabling (map f self.nodes.items) self.wires.items self.changed.items self.turns in
+    let w : CableWorld = world_record self.delay self.longest self.cabling (map f self.nodes.items) self.wires.items self.changed.items self.turns in
     let k = c.rest-rest.result in
     let behind = self.behind c.requires.sound in
     let ws = with_items_is self.wires c.pass_live.new.wires (c.pass_live.auto.wires ∙ c.deref_mut.ensures.len) in
     let h : AgendaNode g.row.M.Denot g.M.PortMachine → PortNode = λ n. caught_up (self.turns + k) n.clock (g.M.PortMachine.record_of n.machine) in
     let r : AgendaNode g.row.M.Denot g.M.PortMachine → PortNode = λ n. g.M.PortMachine.record_of n.machine in
-    let still = still-for r (λ n. n.clock) (λ n. n.idle) (λ n. n.rests) self.turns k self.nodes.items self.delay self.cabling self.wires.items self.changed.items
+    let still = still-for r (λ n. n.clock) (λ n. n.idle) (λ n. n.rests) self.turns k self.nodes.items self.delay self.longest self.cabling self.wires.items self.changed.items
     c.rest-rest.ensures.silent (λ s. behind) c.rest-rest.ensures.idle in
     let nodes : map h self.nodes.items ≡ map (after_ticks k) (map f self.nodes.items) = all-later r (λ n. n.clock) k self.turns self.nodes.items behind in
     let rows = ws ∙ c.pass_live.ensures ∙ ap (map (map (hold_less k))) c.deref_mut.ensures.value in
-    ap (λ xs. world_record self.delay self.cabling xs (with_items self.wires c.pass_live.new.wires).items self.changed.items (self.turns + k)) nodes
-    ∙ ap (λ ys. world_record self.delay self.cabling (map (after_ticks k) (map f self.nodes.items)) ys self.changed.items (self.turns + k)) rows
+    ap (λ xs. world_record self.delay self.longest self.cabling xs (with_items self.wires c.pass_live.new.wires).items self.changed.items (self.turns + k)) nodes
+    ∙ ap (λ ys. world_record self.delay self.longest self.cabling (map (after_ticks k) (map f self.nodes.items)) ys self.changed.items (self.turns + k)) rows
     ∙ sym (c.still_turns_pass.ensures k w (lawful-now w c.worlds_stay_lawful.ensures.reached (self.reached c.requires.sound)).well_formed.count still)

@@ -8,5 +8,5 @@ returns-then-self-clause-still g c = none-still _
 pub returns-clause-still : goal.returns-clause-still
 returns-clause-still g c =
     let self = c.args.self.now in
-    still-for (λ n. g.M.PortMachine.record_of n.machine) (λ n. n.clock) (λ n. n.idle) (λ n. n.rests) self.turns c.rest.result self.nodes.items self.delay self.cabling
+    still-for (λ n. g.M.PortMachine.record_of n.machine) (λ n. n.clock) (λ n. n.idle) (λ n. n.rests) self.turns c.rest.result self.nodes.items self.delay self.longest self.cabling
     self.wires.items self.changed.items c.rest.ensures.silent (λ some. self.behind c.if-self.false) c.rest.ensures.idle

@@ -23,15 +23,15 @@ pub act_agenda-done-requires-clause-lawful : goal.act_agenda-done-requires-claus
 act_agenda-done-requires-clause-lawful g c =
     let self = c.args.self.now in
     let f : AgendaNode g.row.M.Denot g.M.PortMachine → PortNode = λ n. caught_up self.turns n.clock (g.M.PortMachine.record_of n.machine) in
-    let w : CableWorld = world_record self.delay self.cabling (map f self.nodes.items) self.wires.items self.changed.items self.turns in
+    let w : CableWorld = world_record self.delay self.longest self.cabling (map f self.nodes.items) self.wires.items self.changed.items self.turns in
     let now = lawful-now w c.worlds_stay_lawful.ensures.reached (self.reached c.if-self.false) in
-    (self.delay, rw (c.deref_mut.ensures.value, c.deref_mut-2.ensures.value, c.deref_mut-3.ensures.value) now)
+    (self.delay, self.longest, rw (c.deref_mut.ensures.value, c.deref_mut-2.ensures.value, c.deref_mut-3.ensures.value) now)
 
 pub invariant_of-self : goal.invariant_of-self
 invariant_of-self g c =
     let self = c.args.self.now in
     let f : AgendaNode g.row.M.Denot g.M.PortMachine → PortNode = λ n. caught_up self.turns n.clock (g.M.PortMachine.record_of n.machine) in
-    let w : CableWorld = world_record self.delay self.cabling (map f self.nodes.items) self.wires.items self.changed.items self.turns in
+    let w : CableWorld = world_record self.delay self.longest self.cabling (map f self.nodes.items) self.wires.items self.changed.items self.turns in
     let act = c.args.act.now in
     let lawful = lawful-now w c.worlds_stay_lawful.ensures.reached (self.reached c.if-self.false) in
     let new = c.act_agenda-done.new in
@@ -40,17 +40,17 @@ invariant_of-self g c =
     let ws = with_items_is self.wires new.wires (auto.wires ∙ c.deref_mut-2.ensures.len) in
     let cs = with_items_is self.changed new.changed (auto.changed ∙ c.deref_mut-3.ensures.len) in
     let none : act_fault act w ≡ None =
-    vectors-related (λ u v. act_fault act u ≡ None) f f self.delay self.cabling new.cabling self.turns self.turns self.nodes self.wires self.changed
+    vectors-related (λ u v. act_fault act u ≡ None) f f self.delay self.longest self.cabling new.cabling self.turns self.turns self.nodes self.wires self.changed
     c.deref_mut.result.now new.nodes c.deref_mut-2.result.now new.wires c.deref_mut-3.result.now new.changed
     (c.deref_mut.ensures.value, c.deref_mut.ensures.len, auto.nodes)
     (c.deref_mut-2.ensures.value, c.deref_mut-2.ensures.len, auto.wires)
-    (c.deref_mut-3.ensures.value, c.deref_mut-3.ensures.len, auto.changed) (c.in-Ok.ensures.accepted self.delay) in
+    (c.deref_mut-3.ensures.value, c.deref_mut-3.ensures.len, auto.changed) (c.in-Ok.ensures.accepted self.delay self.longest) in
     let leads =
-    vectors-related (ActLeads act) f f self.delay self.cabling new.cabling self.turns self.turns self.nodes self.wires self.changed
+    vectors-related (ActLeads act) f f self.delay self.longest self.cabling new.cabling self.turns self.turns self.nodes self.wires self.changed
     c.deref_mut.result.now new.nodes c.deref_mut-2.result.now new.wires c.deref_mut-3.result.now new.changed
     (c.deref_mut.ensures.value, c.deref_mut.ensures.len, auto.nodes)
     (c.deref_mut-2.ensures.value, c.deref_mut-2.ensures.len, auto.wires)
-    (c.deref_mut-3.ensures.value, c.deref_mut-3.ensures.len, auto.changed) (c.in-Ok.ensures.done self.delay) in
+    (c.deref_mut-3.ensures.value, c.deref_mut-3.ensures.len, auto.changed) (c.in-Ok.ensures.done self.delay self.longest) in
     record {
       reached = λ fine. ∥∥₁_map (self.reached c.if-self.false) (c.worlds_stay_reached.ensures.act act w _ c.requires none leads);
       behind = λ fine. subst (λ xs. All (λ n. n.clock ≤ self.turns) xs) (sym ns)
@@ -70,7 +70,7 @@ pub invariant_of-self-in-Fault : goal.invariant_of-self-in-Fault
 invariant_of-self-in-Fault g c =
     let self = c.args.self.now in
     let f : AgendaNode g.row.M.Denot g.M.PortMachine → PortNode = λ n. caught_up self.turns n.clock (g.M.PortMachine.record_of n.machine) in
-    let w : CableWorld = world_record self.delay self.cabling (map f self.nodes.items) self.wires.items self.changed.items self.turns in
+    let w : CableWorld = world_record self.delay self.longest self.cabling (map f self.nodes.items) self.wires.items self.changed.items self.turns in
     let lawful = lawful-now w c.worlds_stay_lawful.ensures.reached (self.reached c.if-self.false) in
     let new = c.act_agenda-done.new in
     let auto = c.act_agenda-done.auto in
@@ -78,12 +78,12 @@ invariant_of-self-in-Fault g c =
     let ws = with_items_is self.wires new.wires (auto.wires ∙ c.deref_mut-2.ensures.len) in
     let cs = with_items_is self.changed new.changed (auto.changed ∙ c.deref_mut-3.ensures.len) in
     let kept = fault-of c.act_agenda-done.result c.in-Err.stop c.in-Fault.fault _ c.in-Err.is c.in-Fault.is c.act_agenda-done.ensures.same in
-    let same = vectors-related (λ u v. v ≡ u) f f self.delay self.cabling new.cabling self.turns self.turns self.nodes self.wires self.changed
+    let same = vectors-related (λ u v. v ≡ u) f f self.delay self.longest self.cabling new.cabling self.turns self.turns self.nodes self.wires self.changed
     c.deref_mut.result.now new.nodes c.deref_mut-2.result.now new.wires c.deref_mut-3.result.now new.changed
     (c.deref_mut.ensures.value, c.deref_mut.ensures.len, auto.nodes)
     (c.deref_mut-2.ensures.value, c.deref_mut-2.ensures.len, auto.wires)
     (c.deref_mut-3.ensures.value, c.deref_mut-3.ensures.len, auto.changed)
-    (parts-same f self.delay self.cabling new.cabling self.turns c.deref_mut.result.now new.nodes c.deref_mut-2.result.now new.wires c.deref_mut-3.result.now new.changed kept) in
+    (parts-same f self.delay self.longest self.cabling new.cabling self.turns c.deref_mut.result.now new.nodes c.deref_mut-2.result.now new.wires c.deref_mut-3.result.now new.changed kept) in
     record {
       reached = λ fine. subst (λ v. ∥ IsReached v ∥₁) (sym same) (self.reached c.if-self.false);
       behind = λ fine. subst (λ xs. All (λ n. n.clock ≤ self.turns) xs) (sym ns)
@@ -106,11 +106,11 @@ returns-in-Ok-clause-done g c =
     let act = c.args.act.now in
     let new = c.act_agenda-done.new in
     let auto = c.act_agenda-done.auto in
-    vectors-related (ActLeads act) f f self.delay self.cabling new.cabling self.turns self.turns self.nodes self.wires self.changed
+    vectors-related (ActLeads act) f f self.delay self.longest self.cabling new.cabling self.turns self.turns self.nodes self.wires self.changed
     c.deref_mut.result.now new.nodes c.deref_mut-2.result.now new.wires c.deref_mut-3.result.now new.changed
     (c.deref_mut.ensures.value, c.deref_mut.ensures.len, auto.nodes)
     (c.deref_mut-2.ensures.value, c.deref_mut-2.ensures.len, auto.wires)
-    (c.deref_mut-3.ensures.value, c.deref_mut-3.ensures.len, auto.changed) (c.in-Ok.ensures.done self.delay)
+    (c.deref_mut-3.ensures.value, c.deref_mut-3.ensures.len, auto.changed) (c.in-Ok.ensures.done self.delay self.longest)
 
 pub returns-in-Ok-clause-accepted : goal.returns-in-Ok-clause-accepted
 returns-in-Ok-clause-accepted g c =
@@ -119,11 +119,11 @@ returns-in-Ok-clause-accepted g c =
     let act = c.args.act.now in
     let new = c.act_agenda-done.new in
     let auto = c.act_agenda-done.auto in
-    vectors-related (λ u v. act_fault act u ≡ None) f f self.delay self.cabling new.cabling self.turns self.turns self.nodes self.wires self.changed
+    vectors-related (λ u v. act_fault act u ≡ None) f f self.delay self.longest self.cabling new.cabling self.turns self.turns self.nodes self.wires self.changed
     c.deref_mut.result.now new.nodes c.deref_mut-2.result.now new.wires c.deref_mut-3.result.now new.changed
     (c.deref_mut.ensures.value, c.deref_mut.ensures.len, auto.nodes)
     (c.deref_mut-2.ensures.value, c.deref_mut-2.ensures.len, auto.wires)
-    (c.deref_mut-3.ensures.value, c.deref_mut-3.ensures.len, auto.changed) (c.in-Ok.ensures.accepted self.delay)
+    (c.deref_mut-3.ensures.value, c.deref_mut-3.ensures.len, auto.changed) (c.in-Ok.ensures.accepted self.delay self.longest)
 
 pub returns-in-Fault-clause-refused : goal.returns-in-Fault-clause-refused
 returns-in-Fault-clause-refused g c =
@@ -133,11 +133,11 @@ returns-in-Fault-clause-refused g c =
     let new = c.act_agenda-done.new in
     let auto = c.act_agenda-done.auto in
     let said = fault-of c.act_agenda-done.result c.in-Err.stop c.in-Fault.fault _ c.in-Err.is c.in-Fault.is c.act_agenda-done.ensures.refused in
-    vectors-related (λ u v. act_fault act u ≡ Some c.in-Fault.fault) f f self.delay self.cabling new.cabling self.turns self.turns self.nodes self.wires self.changed
+    vectors-related (λ u v. act_fault act u ≡ Some c.in-Fault.fault) f f self.delay self.longest self.cabling new.cabling self.turns self.turns self.nodes self.wires self.changed
     c.deref_mut.result.now new.nodes c.deref_mut-2.result.now new.wires c.deref_mut-3.result.now new.changed
     (c.deref_mut.ensures.value, c.deref_mut.ensures.len, auto.nodes)
     (c.deref_mut-2.ensures.value, c.deref_mut-2.ensures.len, auto.wires)
-    (c.deref_mut-3.ensures.value, c.deref_mut-3.ensures.len, auto.changed) (said self.delay)
+    (c.deref_mut-3.ensures.value, c.deref_mut-3.ensures.len, auto.changed) (said self.delay self.longest)
 
 pub returns-in-Fault-clause-same : goal.returns-in-Fault-clause-same
 returns-in-Fault-clause-same g c =
@@ -146,12 +146,12 @@ returns-in-Fault-clause-same g c =
     let new = c.act_agenda-done.new in
     let auto = c.act_agenda-done.auto in
     let kept = fault-of c.act_agenda-done.result c.in-Err.stop c.in-Fault.fault _ c.in-Err.is c.in-Fault.is c.act_agenda-done.ensures.same in
-    vectors-related (λ u v. v ≡ u) f f self.delay self.cabling new.cabling self.turns self.turns self.nodes self.wires self.changed
+    vectors-related (λ u v. v ≡ u) f f self.delay self.longest self.cabling new.cabling self.turns self.turns self.nodes self.wires self.changed
     c.deref_mut.result.now new.nodes c.deref_mut-2.result.now new.wires c.deref_mut-3.result.now new.changed
     (c.deref_mut.ensures.value, c.deref_mut.ensures.len, auto.nodes)
     (c.deref_mut-2.ensures.value, c.deref_mut-2.ensures.len, auto.wires)
     (c.deref_mut-3.ensures.value, c.deref_mut-3.ensures.len, auto.changed)
-    (parts-same f self.delay self.cabling new.cabling self.turns c.deref_mut.result.now new.nodes c.deref_mut-2.result.now new.wires c.deref_mut-3.result.now new.changed kept)
+    (parts-same f self.delay self.longest self.cabling new.cabling self.turns c.deref_mut.result.now new.nodes c.deref_mut-2.result.now new.wires c.deref_mut-3.result.now new.changed kept)
 
 pub returns-in-Memory-clause-memory : goal.returns-in-Memory-clause-memory
 returns-in-Memory-clause-memory g c = λ is sound.
@@ -161,8 +161,8 @@ returns-in-Memory-clause-memory g c = λ is sound.
     let new = c.act_agenda-done.new in
     let auto = c.act_agenda-done.auto in
     let said = memory-of c.act_agenda-done.result c.in-Err.stop c.in-Memory.stop _ c.in-Err.is c.in-Memory.is c.act_agenda-done.ensures.memory in
-    vectors-related (λ u v. act_fault act u ≡ None) f f self.delay self.cabling new.cabling self.turns self.turns self.nodes self.wires self.changed
+    vectors-related (λ u v. act_fault act u ≡ None) f f self.delay self.longest self.cabling new.cabling self.turns self.turns self.nodes self.wires self.changed
     c.deref_mut.result.now new.nodes c.deref_mut-2.result.now new.wires c.deref_mut-3.result.now new.changed
     (c.deref_mut.ensures.value, c.deref_mut.ensures.len, auto.nodes)
     (c.deref_mut-2.ensures.value, c.deref_mut-2.ensures.len, auto.wires)
-    (c.deref_mut-3.ensures.value, c.deref_mut-3.ensures.len, auto.changed) (said self.delay)
+    (c.deref_mut-3.ensures.value, c.deref_mut-3.ensures.len, auto.changed) (said self.delay self.longest)

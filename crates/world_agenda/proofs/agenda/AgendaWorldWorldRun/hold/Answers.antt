@@ -17,7 +17,7 @@ pub index_mut-requires : goal.index_mut-requires
 index_mut-requires g c =
     let self = c.args.self.now in
     let f : AgendaNode g.row.M.Denot g.M.PortMachine → PortNode = λ n. caught_up self.turns n.clock (g.M.PortMachine.record_of n.machine) in
-    let w : CableWorld = world_record self.delay self.cabling (map f self.nodes.items) self.wires.items self.changed.items self.turns in
+    let w : CableWorld = world_record self.delay self.longest self.cabling (map f self.nodes.items) self.wires.items self.changed.items self.turns in
     let l = lawful-now w c.worlds_stay_lawful.ensures.reached (self.reached c.if-self.false) in
     omega (arith, c.if-end-nodes.false, c.nodes.ensures.value, l.well_formed.wire_rows, self.wires.ok.0)
 
@@ -25,7 +25,7 @@ pub hold-requires : goal.hold-requires
 hold-requires g c =
     let self = c.args.self.now in
     let f : AgendaNode g.row.M.Denot g.M.PortMachine → PortNode = λ n. caught_up self.turns n.clock (g.M.PortMachine.record_of n.machine) in
-    let w : CableWorld = world_record self.delay self.cabling (map f self.nodes.items) self.wires.items self.changed.items self.turns in
+    let w : CableWorld = world_record self.delay self.longest self.cabling (map f self.nodes.items) self.wires.items self.changed.items self.turns in
     let end = c.args.end in
     let l = lawful-now w c.worlds_stay_lawful.ensures.reached (self.reached c.if-self.false) in
     let node : end.node < length self.cabling = omega (arith, c.if-end-nodes.false, c.nodes.ensures.value) in
@@ -37,7 +37,7 @@ pub invariant_of-self : goal.invariant_of-self
 invariant_of-self g c =
     let self = c.args.self.now in
     let f : AgendaNode g.row.M.Denot g.M.PortMachine → PortNode = λ n. caught_up self.turns n.clock (g.M.PortMachine.record_of n.machine) in
-    let w : CableWorld = world_record self.delay self.cabling (map f self.nodes.items) self.wires.items self.changed.items self.turns in
+    let w : CableWorld = world_record self.delay self.longest self.cabling (map f self.nodes.items) self.wires.items self.changed.items self.turns in
     let end = c.args.end in
     let l = lawful-now w c.worlds_stay_lawful.ensures.reached (self.reached c.if-self.false) in
     let inside : end.node < length self.wires.items = omega (arith, c.if-end-nodes.false, c.nodes.ensures.value, l.well_formed.wire_rows) in
@@ -63,6 +63,6 @@ pub insert-requires : goal.insert-requires
 insert-requires g c =
     let self = c.args.self.now in
     let f : AgendaNode g.row.M.Denot g.M.PortMachine → PortNode = λ n. caught_up self.turns n.clock (g.M.PortMachine.record_of n.machine) in
-    let w : CableWorld = world_record self.delay self.cabling (map f self.nodes.items) self.wires.items self.changed.items self.turns in
+    let w : CableWorld = world_record self.delay self.longest self.cabling (map f self.nodes.items) self.wires.items self.changed.items self.turns in
     let l = lawful-now w c.worlds_stay_lawful.ensures.reached (self.reached c.if-self.false) in
     omega (arith, c.if-end-nodes.false, c.nodes.ensures.value, l.well_formed.cabling.few_nodes)

@@ -10,8 +10,8 @@ invariant-loop-left g l =
     let r = g.M.PortMachine.record_of in
     let self = l.self in
     let first = l.fn.self in
-    let now = world_record self.delay self.cabling (map (λ n. caught_up self.turns n.clock (r n.machine)) self.nodes.items) self.wires.items self.changed.items self.turns in
-    let old = world_record first.delay first.cabling (map (λ n. caught_up first.turns n.clock (r n.machine)) first.nodes.items) first.wires.items first.changed.items first.turns in
+    let now = world_record self.delay self.longest self.cabling (map (λ n. caught_up self.turns n.clock (r n.machine)) self.nodes.items) self.wires.items self.changed.items self.turns in
+    let old = world_record first.delay first.longest first.cabling (map (λ n. caught_up first.turns n.clock (r n.machine)) first.nodes.items) first.wires.items first.changed.items first.turns in
     record {
       sound : self.spent ≡ false;
       nodes : length self.nodes.items ≡ length first.nodes.items;

@@ -17,8 +17,8 @@ pub turn_agenda-requires-clause-lawful : goal.turn_agenda-requires-clause-lawful
 turn_agenda-requires-clause-lawful g c =
     let self = c.args.self.now in
     let f : AgendaNode g.row.M.Denot g.M.PortMachine → PortNode = λ n. caught_up self.turns n.clock (g.M.PortMachine.record_of n.machine) in
-    let w : CableWorld = world_record self.delay self.cabling (map f self.nodes.items) self.wires.items self.changed.items self.turns in
-    rw (c.deref_mut.ensures.value, c.deref_mut-2.ensures.value, c.deref_mut-3.ensures.value) (lawful-now w c.worlds_stay_lawful.ensures.reached (self.reached c.if-self.false))
+    let w : CableWorld = world_record self.delay self.longest self.cabling (map f self.nodes.items) self.wires.items self.changed.items self.turns in
+    (self.longest, rw (c.deref_mut.ensures.value, c.deref_mut-2.ensures.value, c.deref_mut-3.ensures.value) (lawful-now w c.worlds_stay_lawful.ensures.reached (self.reached c.if-self.false)))
 
 pub turn_agenda-requires-clause-same : goal.turn_agenda-requires-clause-same
 turn_agenda-requires-clause-same g c = rw (c.deref_mut-4.ensures.value, c.deref_mut-2.ensures.value) (c.args.self.now.same c.if-self.false)
@@ -42,7 +42,7 @@ pub invariant_of-self : goal.invariant_of-self
 invariant_of-self g c =
     let self = c.args.self.now in
     let f : AgendaNode g.row.M.Denot g.M.PortMachine → PortNode = λ n. caught_up self.turns n.clock (g.M.PortMachine.record_of n.machine) in
-    let w : CableWorld = world_record self.delay self.cabling (map f self.nodes.items) self.wires.items self.changed.items self.turns in
+    let w : CableWorld = world_record self.delay self.longest self.cabling (map f self.nodes.items) self.wires.items self.changed.items self.turns in
     let new = c.turn_agenda.new in
     let auto = c.turn_agenda.auto in
     let ns = with_items_is self.nodes new.nodes (auto.nodes ∙ c.deref_mut.ensures.len) in
@@ -62,7 +62,7 @@ pub invariant_of-self-2 : goal.invariant_of-self-2
 invariant_of-self-2 g c =
     let self = c.args.self.now in
     let f : AgendaNode g.row.M.Denot g.M.PortMachine → PortNode = λ n. caught_up self.turns n.clock (g.M.PortMachine.record_of n.machine) in
-    let w : CableWorld = world_record self.delay self.cabling (map f self.nodes.items) self.wires.items self.changed.items self.turns in
+    let w : CableWorld = world_record self.delay self.longest self.cabling (map f self.nodes.items) self.wires.items self.changed.items self.turns in
     let h : AgendaNode g.row.M.Denot g.M.PortMachine → PortNode = λ n. caught_up (self.turns + 1) n.clock (g.M.PortMachine.record_of n.machine) in
     let new = c.turn_agenda.new in
     let auto = c.turn_agenda.auto in
@@ -70,11 +70,11 @@ invariant_of-self-2 g c =
     let ws = with_items_is self.wires new.wires (auto.wires ∙ c.deref_mut-2.ensures.len) in
     let cs = with_items_is self.changed new.changed (auto.changed ∙ c.deref_mut-3.ensures.len) in
     let arr = with_items_is self.arrivals new.arrivals (auto.arrivals ∙ c.deref_mut-4.ensures.len) in
-    let done = vectors-related (λ u v. v ≡ turn u) f h self.delay self.cabling self.cabling self.turns (self.turns + 1) self.nodes self.wires self.changed
+    let done = vectors-related (λ u v. v ≡ turn u) f h self.delay self.longest self.cabling self.cabling self.turns (self.turns + 1) self.nodes self.wires self.changed
     c.deref_mut.result.now new.nodes c.deref_mut-2.result.now new.wires c.deref_mut-3.result.now new.changed
     (c.deref_mut.ensures.value, c.deref_mut.ensures.len, auto.nodes)
     (c.deref_mut-2.ensures.value, c.deref_mut-2.ensures.len, auto.wires)
-    (c.deref_mut-3.ensures.value, c.deref_mut-3.ensures.len, auto.changed) c.in_ok-turn_agenda.ensures.done in
+    (c.deref_mut-3.ensures.value, c.deref_mut-3.ensures.len, auto.changed) (c.in_ok-turn_agenda.ensures.done self.longest) in
     record {
       reached = λ fine. subst (λ v. ∥ IsReached v ∥₁) (sym (one-turn w _ done)) (∥∥₁_map (self.reached c.if-self.false) (c.worlds_stay_reached.ensures.turns 1 w));
       behind = λ fine. subst (λ xs. All (λ n. n.clock ≤ self.turns + 1) xs) (sym ns) c.in_ok-turn_agenda.ensures.behind;
@@ -89,12 +89,12 @@ pub returns-clause-done : goal.returns-clause-done
 returns-clause-done g c =
     let self = c.args.self.now in
     let f : AgendaNode g.row.M.Denot g.M.PortMachine → PortNode = λ n. caught_up self.turns n.clock (g.M.PortMachine.record_of n.machine) in
-    let w : CableWorld = world_record self.delay self.cabling (map f self.nodes.items) self.wires.items self.changed.items self.turns in
+    let w : CableWorld = world_record self.delay self.longest self.cabling (map f self.nodes.items) self.wires.items self.changed.items self.turns in
     let h : AgendaNode g.row.M.Denot g.M.PortMachine → PortNode = λ n. caught_up (self.turns + 1) n.clock (g.M.PortMachine.record_of n.machine) in
     let new = c.turn_agenda.new in
     let auto = c.turn_agenda.auto in
-    vectors-related (λ u v. v ≡ turn u) f h self.delay self.cabling self.cabling self.turns (self.turns + 1) self.nodes self.wires self.changed
+    vectors-related (λ u v. v ≡ turn u) f h self.delay self.longest self.cabling self.cabling self.turns (self.turns + 1) self.nodes self.wires self.changed
     c.deref_mut.result.now new.nodes c.deref_mut-2.result.now new.wires c.deref_mut-3.result.now new.changed
     (c.deref_mut.ensures.value, c.deref_mut.ensures.len, auto.nodes)
     (c.deref_mut-2.ensures.value, c.deref_mut-2.ensures.len, auto.wires)
-    (c.deref_mut-3.ensures.value, c.deref_mut-3.ensures.len, auto.changed) c.in_ok-turn_agenda.ensures.done
+    (c.deref_mut-3.ensures.value, c.deref_mut-3.ensures.len, auto.changed) (c.in_ok-turn_agenda.ensures.done self.longest)

@@ -4,7 +4,8 @@ use Rattle.std.proofs.lemmas.List.Elements.{All-weaker}
 use Rattle.cabling.specs.Wiring.{ArePortCounts}
 use Rattle.port_state.specs.Machine.{PortNode}
 use Rattle.cable_world.specs.Wire.{empty_wire}
-use Rattle.cable_world.specs.World.{world_of_nodes}
+use Rattle.cable_world.specs.Times.{CanBeForced}
+use Rattle.cable_world.specs.World.{IsPowered, world_with_times}
 use Rattle.cable_world.specs.Parts.{world_record}
 use Rattle.cable_world.specs.Run.{IsReached}
 use Rattle.world_agenda.specs.declared.node.AgendaNode.{AgendaNode}
@@ -12,21 +13,22 @@ use Rattle.world_agenda.specs.Clock.{caught_up}
 use Rattle.world_agenda.proofs.Known.{known-nothing}
 use Rattle.world_agenda.proofs.Late.{all-now}
 use Rattle.world_agenda.proofs.LiveRows.{all-live}
-use Rattle.world_agenda.proofs.Start.{powered, as-long, start-is}
-use Rattle.world_agenda.proofs.agenda.AgendaWorld.new.Goals as goal
-use Rattle.cable_world.proofs.Lemmas.{are-counts, power-on}
+use Rattle.world_agenda.proofs.agenda.AgendaWorld.with_times.Goals as goal
+use Rattle.cable_world.proofs.Lemmas.{are-counts, as-long, each-node, power-on, start-is}
 
 pub new-requires-clause-counts : goal.new-requires-clause-counts
 new-requires-clause-counts g c =
     let f = g.M.PortMachine.record_of in
     let nodes = map f c.args.machines.items in
     let is = c.as_slice-ports.ensures.value ∙ c.port_counts-counts.ensures ∙ ap (λ ms. map (λ x. x.state.ports) (map f ms)) c.deref.ensures.value in
-    subst ArePortCounts (sym is) (are-counts c.args.delay nodes (powered f c.args.delay c.args.machines.items c.requires.power_on))
+    subst ArePortCounts (sym is) (are-counts nodes (λ k x e.
+    (each-node (λ (y : PortNode). IsPowered c.args.delay c.args.longest y.state) f c.args.machines.items c.requires.power_on k x e).valid))
 
 pub invariant_of-result : goal.invariant_of-result
 invariant_of-result g c =
     let f = g.M.PortMachine.record_of in
     let d = c.args.delay in
+    let longest = c.args.longest in
     let nodes = map f c.args.machines.items in
     let agenda = c.in_ok-agenda_nodes.field-0.items in
     let r : AgendaNode g.row.M.Denot g.M.PortMachine → PortNode = λ n. f n.machine in
@@ -34,15 +36,16 @@ invariant_of-result g c =
     let counts = c.as_slice-ports.result.now in
     let is = c.as_slice-ports.ensures.value ∙ c.port_counts-counts.ensures ∙ ap (λ ms. map (λ x. x.state.ports) (map f ms)) c.deref.ensures.value in
     let long = length-map c.args.machines.items f in
-    let start = ap (λ xs. world_record d c.in_ok-new.field-0 xs c.in_ok-wire_rows.field-0.items c.in_ok-no_changes.field-0.items 0) same
-    ∙ start-is d c.len-2.result nodes counts c.in_ok-new.field-0 c.in_ok-wire_rows.field-0.items c.in_ok-no_changes.field-0.items
+    let start = ap (λ xs. world_record d longest c.in_ok-new.field-0 xs c.in_ok-wire_rows.field-0.items c.in_ok-no_changes.field-0.items 0) same
+    ∙ start-is d longest c.len-2.result nodes counts c.in_ok-new.field-0 c.in_ok-wire_rows.field-0.items c.in_ok-no_changes.field-0.items
     is c.in_ok-new.ensures c.in_ok-wire_rows.ensures c.in_ok-no_changes.ensures (omega (arith, c.len-2.ensures, long, c.args.machines.ok.0)) in
-    let h = powered f d c.args.machines.items c.requires.power_on in
+    let h = each-node (λ (x : PortNode). IsPowered d longest x.state) f c.args.machines.items c.requires.power_on in
+    let forced = each-node (λ (x : PortNode). CanBeForced d longest x.state.timing) f c.args.machines.items c.requires.forced in
     let few : length nodes ≤ 63 = omega (arith, long, c.requires.few) in
     let many : length agenda ≡ length c.args.machines.items = sym (length-map agenda r) ∙ ap length c.in_ok-agenda_nodes.ensures.nodes ∙ long in
     record {
       reached = λ fine. subst (λ w. ∥ IsReached w ∥₁) (sym start)
-          ∣ c.worlds_stay_reached.ensures.power_on (world_of_nodes d nodes) (power-on d nodes c.requires.some_delay c.requires.short_delay few h) ∣₁;
+          ∣ c.worlds_stay_reached.ensures.power_on (world_with_times d longest nodes) (power-on d longest nodes c.requires.some_delay c.requires.short_delay few h) forced ∣₁;
       behind = λ fine. All-weaker (λ n. n.clock ≡ 0) (λ n. n.clock ≤ 0) (λ n e. omega (arith, e)) agenda c.in_ok-agenda_nodes.ensures.clocks;
       idle = λ k e inside. omega arith;
       marks = ap length c.in_ok-no_changes.ensures ∙ length-replicate c.len-2.result 0 ∙ omega (arith, c.len-2.ensures, c.args.machines.ok.0) ∙ sym many;
@@ -63,7 +66,7 @@ returns-clause-world g c =
     let r : AgendaNode g.row.M.Denot g.M.PortMachine → PortNode = λ n. f n.machine in
     let same : map (λ n. caught_up 0 n.clock (r n)) agenda ≡ nodes = all-now r (λ n. n.clock) 0 agenda c.in_ok-agenda_nodes.ensures.clocks ∙ c.in_ok-agenda_nodes.ensures.nodes in
     let counts = c.as_slice-ports.ensures.value ∙ c.port_counts-counts.ensures ∙ ap (λ ms. map (λ x. x.state.ports) (map f ms)) c.deref.ensures.value in
-    ap (λ xs. world_record c.args.delay c.in_ok-new.field-0 xs c.in_ok-wire_rows.field-0.items c.in_ok-no_changes.field-0.items 0) same
-    ∙ start-is c.args.delay c.len-2.result nodes c.as_slice-ports.result.now c.in_ok-new.field-0 c.in_ok-wire_rows.field-0.items c.in_ok-no_changes.field-0.items
+    ap (λ xs. world_record c.args.delay c.args.longest c.in_ok-new.field-0 xs c.in_ok-wire_rows.field-0.items c.in_ok-no_changes.field-0.items 0) same
+    ∙ start-is c.args.delay c.args.longest c.len-2.result nodes c.as_slice-ports.result.now c.in_ok-new.field-0 c.in_ok-wire_rows.field-0.items c.in_ok-no_changes.field-0.items
     counts c.in_ok-new.ensures c.in_ok-wire_rows.ensures c.in_ok-no_changes.ensures
     (omega (arith, c.len-2.ensures, length-map c.args.machines.items f, c.args.machines.ok.0))
