@@ -9,7 +9,7 @@ pub use Rattle.cable_world.proofs.PhaseFacts.{start-before_tree, start-slack, st
 -- Times that suit a bus.
 pub use Rattle.cable_world.proofs.Times.{suits-cables, in-range-counted, in-range-forced, in-range-suits, powered-in-range}
 -- Quiet turns, with holds placed between them: how they are counted, and what they keep.
-pub use Rattle.cable_world.proofs.QuietTurns.{after-cabling, holds-are-calls, holds-kept, holds-lawful, holds-signals, no-quiet, one-quiet, plain-quiet, plainly, quiet-comes, quiet-first, quiet-lawful, quiet-reached, quiet-then, turns-cabling}
+pub use Rattle.cable_world.proofs.QuietTurns.{after-cabling, holds-are-calls, holds-kept, holds-lawful, holds-signals, no-quiet, one-quiet, plain-quiet, plainly, quiet-comes, quiet-first, quiet-lawful, quiet-reached, quiet-then, quiet-timed, turns-cabling}
 -- Turns, holds and acts keep a world lawful, and so every world that comes of a power-on world is
 -- lawful; and each node of a reached world can be forced.
 pub use Rattle.cable_world.proofs.StaysLawful.{act-lawful, comes-lawful, hold-lawful, power-on-lawful, reached-forced, reached-lawful, turn-lawful}

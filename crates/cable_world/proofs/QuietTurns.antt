@@ -2,6 +2,7 @@
 use Rattle.std.proofs.Common.{◌≡◌, ◌≢◌, ℕ, zero, suc, ◌+◌, List, [], ◌∷◌, Option, Some, None, is_some, refl, sym, ◌∙◌, ap, subst, arith, add-one, if◌then◌else◌}
 use Rattle.cabling.specs.declared.cable.End.{End}
 use Rattle.cabling.specs.declared.cable.CableFault.{CableFault}
+use Rattle.port_state.specs.declared.timing.Timing.{Timing}
 use Rattle.cable_world.specs.World.{CableWorld, wire_of}
 use Rattle.cable_world.specs.Turn.{turn, turns_after}
 use Rattle.cable_world.specs.Act.{hold, hold_fault}
@@ -12,6 +13,7 @@ use Rattle.cable_world.specs.StaysLawful.{KeptByHolds}
 use Rattle.cable_world.proofs.acts.Happenings.{hold-signals}
 use Rattle.cable_world.proofs.turns.ByNumber.{cabling-after, no-turns, one-more}
 use Rattle.cable_world.proofs.StaysLawful.{turn-lawful, hold-lawful}
+use Rattle.cable_world.proofs.tables.TimesKept.{Timed, turn-timed}
 use Rattle.cable_world.proofs.StaysReached.{turn-comes, hold-comes, turn-reached, hold-reached}
 
 -- ---- holds
@@ -120,6 +122,14 @@ pub quiet-reached : KeptByQuietTurns IsReached
 unfolding quiet_after
 quiet-reached hs zero w r = holds-keep IsReached hold-reached (hs 0) w r
 quiet-reached hs (suc k) w r = holds-keep IsReached hold-reached (hs (suc k)) (turn (quiet_after hs k w)) (turn-reached (quiet_after hs k w) (quiet-reached hs k w r))
+
+-- no node's times change
+pub quiet-timed :
+    (P : ℕ → Timing → Type 0) (hs : HoldSchedule) (k : ℕ) (w : CableWorld) → IsLawful w →
+    Timed P w.nodes → Timed P (quiet_after hs k w).nodes
+unfolding quiet_after
+quiet-timed P hs zero w l h = h
+quiet-timed P hs (suc k) w l h = turn-timed P (quiet_after hs k w) (quiet-lawful hs k w l).well_formed (quiet-timed P hs k w l h)
 
 pub after-cabling :
     (hs : HoldSchedule) (k : ℕ) (w : CableWorld) → (quiet_after hs k w).cabling ≡ w.cabling

@@ -1,7 +1,7 @@
 -- What is so after how many quiet turns.
 use Rattle.std.proofs.Common.{◌≡◌, ℕ, ◌+◌, ◌-◌, ◌*◌, ◌≤◌, Bool, true, Some, length, slice_get, refl, sym, ◌∙◌, ap, subst, arith}
 use Rattle.std.proofs.lemmas.Bool.{false_from_ne_true}
-use Rattle.convergence.proofs.Common.{End, Wiring, far, IsClosed, IsComponent, IsCore, Level, PortNode, CableWorld, turn, IsReached, level_sent_at, level_shown, IsLawful, cabling-after, after-delay, after-length, some-of, some-at, some-same, reached-lawful, quiet-then, quiet-lawful, after-cabling, HoldSchedule, quiet_after, holds_after, IsAcyclic, ResetsAreDone, TreesAreTaken, LoopsAreReported, TreesAreDecided, turns_to_done, turns_to_trees, turns_to_decision, contrary}
+use Rattle.convergence.proofs.Common.{End, Wiring, far, IsClosed, IsComponent, IsCore, Level, PortNode, CableWorld, turn, ComesOfPowerOn, level_sent_at, level_shown, IsLawful, cabling-after, after-delay, after-length, some-of, some-at, some-same, comes-lawful, quiet-then, quiet-lawful, after-cabling, HoldSchedule, quiet_after, holds_after, IsAcyclic, ResetsAreDone, TreesAreTaken, LoopsAreReported, TreesAreDecided, turns_to_done, turns_to_trees, turns_to_decision, contrary}
 use Rattle.cable_world.proofs.Lemmas.{after-longest}
 use Rattle.convergence.specs.Cables.{TellsAt, ShowsAt}
 use Rattle.convergence.specs.Turns.{tree_turns, loop_turns, decision_turns, turns_to_loops}
@@ -11,8 +11,8 @@ use Rattle.convergence.proofs.turns.CalmTurns.{Calmly, calmly, early-before, don
 use Rattle.convergence.proofs.turns.Flush.{Tells, flush}
 use Rattle.convergence.proofs.loops.LoopsReported.{loops-reported}
 use Rattle.convergence.proofs.resets.ResetsDone.{resets-done}
-use Rattle.convergence.proofs.ranks.StaysAcyclic.{reached-acyclic, quiet-acyclic}
-use Rattle.convergence.proofs.coins.StaysContested.{reached-contested, quiet-contested}
+use Rattle.convergence.proofs.ranks.StaysAcyclic.{comes-acyclic, quiet-acyclic}
+use Rattle.convergence.proofs.coins.StaysContested.{comes-contested, quiet-contested}
 use Rattle.convergence.proofs.trees.TreesTaken.{all-taken}
 use Rattle.convergence.proofs.rounds.IdentifyOrContend.{decided-after}
 
@@ -83,9 +83,9 @@ later hs P w first k late h =
     let z : k ≡ first + (k - first) = omega (arith, late) in
     subst P (sym (ap (λ m. quiet_after hs m w) z ∙ quiet-then hs first (k - first) w)) h
 
-module _ (hs : HoldSchedule) (w : CableWorld) (r : IsReached w) (first : ℕ) where
+module _ (hs : HoldSchedule) (w : CableWorld) (r : ComesOfPowerOn w) (first : ℕ) where
   lawful : IsLawful w
-  lawful = reached-lawful w r
+  lawful = comes-lawful w r
 
   abbrev start : CableWorld
   start = quiet_after hs first w
@@ -94,7 +94,7 @@ module _ (hs : HoldSchedule) (w : CableWorld) (r : IsReached w) (first : ℕ) wh
   start-lawful = quiet-lawful hs first w lawful
 
   start-acyclic : IsAcyclic start
-  start-acyclic = quiet-acyclic hs first w lawful (reached-acyclic w r)
+  start-acyclic = quiet-acyclic hs first w lawful (comes-acyclic w r)
 
   same-tree : tree_turns start ≡ tree_turns w
   same-tree = rw (after-length hs w lawful first, after-delay hs w lawful first, after-longest hs w lawful first) refl
@@ -109,13 +109,13 @@ module _ (hs : HoldSchedule) (w : CableWorld) (r : IsReached w) (first : ℕ) wh
   start-grown late taken = record {
     lawful = start-lawful;
     acyclic = start-acyclic;
-    contested = quiet-contested hs first w lawful (reached-contested w r);
+    contested = quiet-contested hs first w lawful (comes-contested w r);
     done = done-after hs w first lawful (omega (arith, late));
     taken = taken;
   }
 
 pub taken-reached :
-    (hs : HoldSchedule) (w : CableWorld) (k : ℕ) → IsReached w → turns_to_trees w ≤ k →
+    (hs : HoldSchedule) (w : CableWorld) (k : ℕ) → ComesOfPowerOn w → turns_to_trees w ≤ k →
     TreesAreTaken (quiet_after hs k w)
 taken-reached hs w k r late =
     let first : ℕ = turns_to_done w in
@@ -124,7 +124,7 @@ taken-reached hs w k r late =
     (taken-after (holds_after first hs) (quiet_after hs first w) (k - first) (start-lawful hs w r first) done (omega (arith, same-tree hs w r first, late)))
 
 pub reported-reached :
-    (hs : HoldSchedule) (w : CableWorld) (k : ℕ) → IsReached w → turns_to_loops w ≤ k →
+    (hs : HoldSchedule) (w : CableWorld) (k : ℕ) → ComesOfPowerOn w → turns_to_loops w ≤ k →
     LoopsAreReported (quiet_after hs k w)
 reported-reached hs w k r late =
     let first : ℕ = turns_to_done w in
@@ -133,7 +133,7 @@ reported-reached hs w k r late =
     (reported-after (holds_after first hs) (quiet_after hs first w) (k - first) (start-lawful hs w r first) (start-acyclic hs w r first) done (omega (arith, same-loop hs w r first, late)))
 
 pub decided-reached :
-    (hs : HoldSchedule) (w : CableWorld) (k : ℕ) → IsReached w → turns_to_decision w ≤ k →
+    (hs : HoldSchedule) (w : CableWorld) (k : ℕ) → ComesOfPowerOn w → turns_to_decision w ≤ k →
     TreesAreDecided (quiet_after hs k w)
 decided-reached hs w k r late =
     let first : ℕ = turns_to_trees w in

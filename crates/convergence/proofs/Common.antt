@@ -24,7 +24,7 @@ pub use Rattle.port_state.specs.declared.signal.Phase.{Phase}
 pub use Rattle.port_state.specs.declared.signal.Signal.{Signal}
 pub use Rattle.port_state.specs.declared.states.NodeState.{NodeState}
 pub use Rattle.port_state.specs.declared.timing.Timing.{Timing}
-pub use Rattle.cable_world.proofs.Lemmas.{Chosen, HearsWell, NoEntry, Side, TicksWell, after-cabling, after-delay, after-length, after_plug, at, before, cable-connected, cabling-after, came, child-if, chosen, comes, delay-after, departures, heard_shown, hearing, hears, holds-kept, holds-signals, late-roles, no-quiet, node-after, not-both, one-quiet, plain_node, quiet-lawful, quiet-then, reached-lawful, risen, side, side-node, side-wire, some-at, some-of, some-same, start-before_tree, steady, ticking, ticks, tree_start-known, turn-lawful, turn-state, wire_after}
+pub use Rattle.cable_world.proofs.Lemmas.{Chosen, HearsWell, NoEntry, Side, TicksWell, after-cabling, after-delay, after-length, after_plug, at, before, cable-connected, cabling-after, came, child-if, chosen, comes, delay-after, departures, heard_shown, hearing, hears, holds-kept, holds-signals, late-roles, no-quiet, node-after, not-both, one-quiet, plain_node, quiet-lawful, quiet-then, comes-lawful, risen, side, side-node, side-wire, some-at, some-of, some-same, start-before_tree, steady, ticking, ticks, tree_start-known, turn-lawful, turn-state, wire_after}
 pub use Rattle.cable_world.specs.Act.{hold}
 pub use Rattle.cable_world.specs.Agreement.{leads_down, level_after, level_sent, level_sent_at, level_shown, shown_or_idle}
 pub use Rattle.cable_world.specs.Coupling.{Coupling, is_asking}
@@ -32,7 +32,7 @@ pub use Rattle.cable_world.specs.Lawful.{AgesFall, IsLawful}
 pub use Rattle.cable_world.specs.Phases.{is_before_tree, is_in_bus_reset, is_shaking}
 pub use Rattle.cable_world.specs.Quiet.{HoldSchedule, PlacedHold, holds_after, with_holds}
 unfoldable pub use Rattle.cable_world.specs.Quiet.{quiet_after}
-pub use Rattle.cable_world.specs.Run.{IsReached}
+pub use Rattle.cable_world.specs.Run.{ComesOfPowerOn}
 pub use Rattle.cable_world.specs.Signals.{has_reset, signals_of}
 pub use Rattle.cable_world.specs.Turn.{hear_all, inbox, turn_at}
 unfoldable pub use Rattle.cable_world.specs.Turn.{turn, turns_after}

@@ -7,7 +7,7 @@ pub use Rattle.convergence.proofs.AfterTurns.{decided-reached, done-after, repor
 -- Late, two nodes of a component that drew coins are the ends of one cable, and no third one drew.
 pub use Rattle.convergence.proofs.coins.Drawers.{no-third, pair-no-root, pair-only}
 -- What nodes know of coins holds in every world that comes of a power-on world.
-pub use Rattle.convergence.proofs.coins.StaysContested.{quiet-contested, reached-contested}
+pub use Rattle.convergence.proofs.coins.StaysContested.{quiet-contested, comes-contested}
 -- Where resets are over, no node of a loop takes its roles, and a component has one root at most.
 pub use Rattle.convergence.proofs.loops.Cores.{Down, all-under, core-shows, down-in, no-root-with-loop, one-root, rooted-late}
 -- What ranks are good for: sets of nodes that child cables don't leave, or don't enter.
@@ -17,7 +17,7 @@ pub use Rattle.convergence.proofs.ranks.RanksInActs.{act-acyclic, hold-acyclic, 
 -- A turn keeps a world acyclic: all nodes that take their roles in it get ranks above the others.
 pub use Rattle.convergence.proofs.ranks.RanksInTurns.{turn-acyclic}
 -- Every world that comes of a power-on world is acyclic.
-pub use Rattle.convergence.proofs.ranks.StaysAcyclic.{quiet-acyclic, reached-acyclic}
+pub use Rattle.convergence.proofs.ranks.StaysAcyclic.{quiet-acyclic, comes-acyclic}
 -- In quiet turns nobody is in R0 or R1 any more, 81 d turns after the last entry at the
 -- latest.
 pub use Rattle.convergence.proofs.resets.ResetsDone.{done-over, only-wait, resets-done}
@@ -50,7 +50,7 @@ pub use Rattle.convergence.proofs.trees.TreeStart.{IsEarly, Started, done-at, ea
 -- neighbours ask it.
 pub use Rattle.convergence.proofs.trees.TreesTaken.{Silent, TwoSilent, early_there, shown-parent}
 -- What turns, holds and acts of a lawful world keep holds along runs.
-pub use Rattle.convergence.proofs.turns.AlongRuns.{IsKept, kept-quiet, kept-reached}
+pub use Rattle.convergence.proofs.turns.AlongRuns.{IsKept, kept-quiet, kept-comes}
 -- Nodes in R1 and T0 in a turn in which no Reset comes: how they come there, and what keeps them
 -- there.
 pub use Rattle.convergence.proofs.turns.BeforeTree.{Left, StaysInStart, TwoLeft, asks-few, count-cons, every-from, one-left, stays-in-start, two-left, waits-for, was-waiting}

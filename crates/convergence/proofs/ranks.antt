@@ -2,7 +2,7 @@
 --
 -- `Ranks`: a set that isn't empty has a node above the others and one below. `RanksInTurns`: all
 -- nodes that take roles in a turn get ranks above the others. `RanksInActs`: acts only take child
--- cables away. `StaysAcyclic`: so every reached world is acyclic.
+-- cables away. `StaysAcyclic`: so every world that comes of power-on is acyclic.
 pub mod Ranks
 pub mod RanksInTurns
 pub mod RanksInActs

@@ -9,29 +9,29 @@ use Rattle.cable_world.specs.Phases.{is_before_tree}
 -- ---- draws
 
 -- the last coin, as the wait shows it
-abbrev pub last_coin : ℕ → NodeState → Bool
-last_coin d x = nat_le x.timing.long x.view.wait
+abbrev pub last_coin : NodeState → Bool
+last_coin x = nat_le x.timing.long x.view.wait
 
 -- a node drew its last coin after so many draws, of which the first were these
-pub record AddsDraw (d draws first : ℕ) (x : NodeState) : Type 0 where
+pub record AddsDraw (draws first : ℕ) (x : NodeState) : Type 0 where
   pub count : x.view.draws ≡ min (draws + 1) 65535
-  pub coins : x.view.first_draws ≡ draws_with (last_coin d x) draws first
+  pub coins : x.view.first_draws ≡ draws_with (last_coin x) draws first
 
 pub record DrewTheSame (x y : NodeState) : Type 0 where
   pub draws : x.view.draws ≡ y.view.draws
   pub first_draws : x.view.first_draws ≡ y.view.first_draws
 
 -- both drew their last coin after the same draws
-pub record DrewTogether (d : ℕ) (x y : NodeState) : Type 0 where
+pub record DrewTogether (x y : NodeState) : Type 0 where
   pub draws : ℕ
   pub first : ℕ
-  pub here : AddsDraw d draws first x
-  pub there : AddsDraw d draws first y
+  pub here : AddsDraw draws first x
+  pub there : AddsDraw draws first y
 
 -- ---- a node
 
 -- what a node knows of its own draws
-pub record KnowsCoins (d : ℕ) (x : NodeState) : Type 0 where
+pub record KnowsCoins (x : NodeState) : Type 0 where
   pub fresh : is_before_tree x.view.phase ≡ true → x.view.draws ≡ 0
   pub undrawn : x.view.draws ≡ 0 → x.view.first_draws ≡ 0
   pub counts : x.view.draws ≤ 65535

@@ -10,7 +10,7 @@ use Rattle.port_state.specs.Machine.{PortNode}
 use Rattle.cable_world.specs.World.{CableWorld, NodeNumber, NodeSet}
 use Rattle.cable_world.specs.Quiet.{HoldSchedule, quiet_after}
 use Rattle.cable_world.specs.Agreement.{leads_down}
-use Rattle.cable_world.specs.Run.{IsReached}
+use Rattle.cable_world.specs.Run.{ComesOfPowerOn}
 use Rattle.convergence.specs.Cables.{AreJoined}
 use Rattle.convergence.specs.Coins.{last_coin, DrawsAgree}
 use Rattle.convergence.specs.Turns.{turns_to_over}
@@ -50,8 +50,8 @@ pub record AreUnequal (w : CableWorld) (j k : ℕ) : Type 0 where
   pub other_at : slice_get w.nodes k ≡ Some other
   pub here : near.state.view.phase ≡ Contend
   pub there : other.state.view.phase ≡ Contend
-  pub long : last_coin w.delay near.state ≡ true
-  pub short : last_coin w.delay other.state ≡ false
+  pub long : last_coin near.state ≡ true
+  pub short : last_coin other.state ≡ false
 
 -- ---- what is so of them
 
@@ -96,7 +96,7 @@ WinsOver w m n = (a : End) × (b : End) × (a.node ≡ m) × (b.node ≡ n) × H
 abbrev pub LongWaitsWin : Type 0
 LongWaitsWin =
     (holds : HoldSchedule) (w : CableWorld) (k : ℕ) (node : NodeNumber) (set : NodeSet)
-    (m n : NodeNumber) (i : ℕ) → IsReached w → turns_to_over w ≤ k →
+    (m n : NodeNumber) (i : ℕ) → ComesOfPowerOn w → turns_to_over w ≤ k →
     IsComponent (quiet_after holds k w).cabling node set → Holds set m → Holds set n → m ≢ n →
     AreUnequal (quiet_after holds k w) m n → w.longest.long ≤ i →
     WinsOver (quiet_after holds (k + i) w) m n

@@ -7,7 +7,7 @@ use Rattle.cable_world.specs.Turn.{turn}
 use Rattle.cable_world.specs.Quiet.{HoldSchedule, quiet_after}
 use Rattle.cable_world.specs.Act.{ActLeads, IsAct, act_fault, hold, hold_fault}
 use Rattle.cable_world.specs.Lawful.{IsLawful}
-use Rattle.cable_world.specs.Run.{IsReached}
+use Rattle.cable_world.specs.Run.{ComesOfPowerOn}
 use Rattle.convergence.specs.Acyclic.{IsAcyclic}
 use Rattle.convergence.specs.Rivals.{IsContested}
 use Rattle.convergence.specs.Milestones.{ResetsAreOver, ResetsAreDone, TreesAreTaken}
@@ -27,8 +27,8 @@ KeptByAct P =
     (a : Act) (w v : CableWorld) → IsAct a → act_fault a w ≡ None → ActLeads a w v → IsLawful w →
     P w → P v
 
-abbrev pub HoldsOfReached : (CableWorld → Type 0) → Type 0
-HoldsOfReached P = (w : CableWorld) → IsReached w → P w
+abbrev pub HoldsFromPowerOn : (CableWorld → Type 0) → Type 0
+HoldsFromPowerOn P = (w : CableWorld) → ComesOfPowerOn w → P w
 
 -- ---- what follows in a lawful world
 

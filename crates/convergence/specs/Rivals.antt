@@ -18,20 +18,20 @@ use Rattle.convergence.specs.Coins.{last_coin, AddsDraw, DrewTheSame, DrewTogeth
 -- ---- how two rivals stand
 
 -- x is in T3 and drew; y, in T1 or T2, hasn't drawn this coin yet
-pub record IsAhead (d : ℕ) (x : NodeState) (p : PortNumber) (y : NodeState) : Type 0 where
-  pub drew : AddsDraw d y.view.draws y.view.first_draws x
+pub record IsAhead (x : NodeState) (p : PortNumber) (y : NodeState) : Type 0 where
+  pub drew : AddsDraw y.view.draws y.view.first_draws x
   pub shown : level_shown x p ≡ level.Parent
 
 -- x is in T3 and waits on; y drew too, its wait is over, and it asks again
 pub record AsksAgain (d : ℕ) (x y : NodeState) (back : List Travelling) : Type 0 where
-  pub drew : DrewTogether d x y
+  pub drew : DrewTogether x y
   -- what x sent is heard
   pub long : d ≤ x.view.timer
   -- with unequal coins y drew the short wait, and x will see it ask: while that is under way, x
   -- waits on for so long
   pub coins :
-      (last_coin d x ≡ last_coin d y)
-      ⊎ ((last_coin d x ≡ true) × (last_coin d y ≡ false)
+      (last_coin x ≡ last_coin y)
+      ⊎ ((last_coin x ≡ true) × (last_coin y ≡ false)
       × AllAsOldAs (x.view.timer + d + 1 - x.view.wait) back)
 
 -- Two rivals are both in T1 or T2, and drew the same coins;
@@ -44,7 +44,7 @@ pub record AreAlike (x y : NodeState) : Type 0 where
 pub record HaveMet (d : ℕ) (x y : NodeState) : Type 0 where
   pub here : x.view.phase ≡ Contend
   pub there : y.view.phase ≡ Contend
-  pub drew : DrewTogether d x y
+  pub drew : DrewTogether x y
   pub near : x.view.timer ≤ y.view.timer + (d - 1)
   pub far : y.view.timer ≤ x.view.timer + (d - 1)
 
@@ -54,7 +54,7 @@ pub record AreApart
     : Type 0 where
   pub here : x.view.phase ≡ Contend
   pub there : is_shaking y.view.phase ≡ true
-  pub how : IsAhead d x p y ⊎ AsksAgain d x y back
+  pub how : IsAhead x p y ⊎ AsksAgain d x y back
 
 abbrev pub AreRivals :
     ℕ → NodeState → PortNumber → List Travelling →
@@ -65,9 +65,9 @@ AreRivals d x p there y q back =
 -- ---- the end of a contention
 
 -- who has a child that drew has no parent: it was that child's rival, and saw it ask again
-pub record HasWon (d : ℕ) (x y : NodeState) : Type 0 where
+pub record HasWon (x y : NodeState) : Type 0 where
   pub root : x.view.parent ≡ None
-  pub drew : AddsDraw d y.view.draws y.view.first_draws x ⊎ DrewTogether d x y
+  pub drew : AddsDraw y.view.draws y.view.first_draws x ⊎ DrewTogether x y
 
 -- a node below a child port isn't in T3; while it asks, the node above is in T1 and is shown that
 pub record IsBelow (x : NodeState) (p : PortNumber) (y : NodeState) : Type 0 where
@@ -96,7 +96,7 @@ pub record Contests
       is_port x.view.parent p ≡ true → is_port y.view.parent q ≡ true →
       AreRivals d x p there y q back
   -- and what is left of it when one has won
-  pub won : leads_down x.view.ports p ≡ true → 1 ≤ y.view.draws → HasWon d x y
+  pub won : leads_down x.view.ports p ≡ true → 1 ≤ y.view.draws → HasWon x y
   -- what a child does
   pub below :
       leads_down x.view.ports p ≡ true → has_reset (signals_of back) ≡ false → IsBelow x p y
@@ -113,7 +113,7 @@ HasOneRival w =
 
 pub record IsContested (w : CableWorld) : Type 0 where
   pub nodes :
-      (k : ℕ) (x : PortNode) → slice_get w.nodes k ≡ Some x → KnowsCoins w.delay x.state
+      (k : ℕ) (x : PortNode) → slice_get w.nodes k ≡ Some x → KnowsCoins x.state
   pub cables : AtCables w (λ a x b y.
       Contests w.delay x a.port (wire_of w a).signals y b.port (wire_of w b).signals)
   pub one_rival : HasOneRival w

@@ -1,9 +1,9 @@
 -- After how many quiet turns a milestone is reached, for n nodes whose cables delay by at
--- most d turns.
-use Rattle.std.specs.Prelude.{ℕ, ◌+◌, ◌*◌, ◌≤◌, length}
+-- most d turns, and none of which has longer times than the world names.
+use Rattle.std.specs.Prelude.{ℕ, ◌+◌, ◌*◌, ◌≤◌, length, max}
 use Rattle.cable_world.specs.World.{CableWorld}
 use Rattle.cable_world.specs.Quiet.{HoldSchedule, quiet_after}
-use Rattle.cable_world.specs.Run.{IsReached}
+use Rattle.cable_world.specs.Run.{ComesOfPowerOn}
 
 -- ---- from one milestone to the next
 
@@ -49,13 +49,14 @@ turns_to_loops w = turns_to_done w + loop_turns w
 abbrev pub turns_to_decision : CableWorld → ℕ
 turns_to_decision w = turns_to_trees w + decision_turns w
 
--- and then a tree comes to rest in 5 n d turns: 315 d are enough for 63 nodes
+-- Loops have timed out, and trees have come to rest: in 5 n d turns from where they are decided, for
+-- which 315 d are enough for 63 nodes.
 abbrev pub turns_to_settle : CableWorld → ℕ
-turns_to_settle w = turns_to_decision w + loop_turns w + 315 * w.delay
+turns_to_settle w = max (turns_to_loops w) (turns_to_decision w + 315 * w.delay)
 
 -- This holds after so many quiet turns of a world that comes of power-on, and at each turn from
 -- there, whatever holds are placed between them.
 abbrev pub HoldsAfter : (CableWorld → ℕ) → (CableWorld → Type 0) → Type 0
 HoldsAfter count P =
-    (holds : HoldSchedule) (w : CableWorld) (k : ℕ) → IsReached w → count w ≤ k →
+    (holds : HoldSchedule) (w : CableWorld) (k : ℕ) → ComesOfPowerOn w → count w ≤ k →
     P (quiet_after holds k w)

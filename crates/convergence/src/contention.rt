@@ -2,7 +2,7 @@
 ghost use Rattle.cable_world.specs.StaysLawful.{HoldsAtPowerOn};
 ghost use Rattle.convergence.specs.Drawers.{RivalsAreClose, RivalsAgree, DrawersShareACable};
 ghost use Rattle.convergence.specs.Drawers.{NoThirdDraws, FewDraw, LongWaitsWin};
-ghost use Rattle.convergence.specs.Kept.{KeptByTurn, KeptByHold, KeptByAct, HoldsOfReached};
+ghost use Rattle.convergence.specs.Kept.{KeptByTurn, KeptByHold, KeptByAct, HoldsFromPowerOn};
 ghost use Rattle.convergence.specs.Kept.{OnceContested, OnceOverAndContested};
 ghost use Rattle.convergence.specs.Rivals.{IsContested};
 ghost use Rattle.convergence.specs.Turns.{turns_to_over, HoldsAfter};
@@ -13,7 +13,7 @@ pub fn worlds_stay_contested()
     ensures turn { KeptByTurn IsContested }
     ensures hold { KeptByHold IsContested }
     ensures act { KeptByAct IsContested }
-    ensures reached { HoldsOfReached IsContested }
+    ensures reached { HoldsFromPowerOn IsContested }
 {}
 
 /// Contention. In any lawful world, while each of two nodes is the other's candidate parent, their
@@ -30,8 +30,8 @@ pub fn few_draw_coins()
 {}
 
 /// Of two nodes of a component in T3 whose last coins differ the one with coin 1 has the other as
-/// its child, and has no parent, 10 d turns later and from then on: in quiet turns, after n d of
-/// them, whatever holds are placed between them.
+/// its child, and has no parent, L turns later and from then on, where no node waits for longer
+/// than L: in quiet turns, after n d of them, whatever holds are placed between them.
 pub fn long_waits_win()
     ensures { LongWaitsWin }
 {}

@@ -2,7 +2,7 @@
 ghost use Rattle.cable_world.specs.StaysLawful.{HoldsAtPowerOn};
 ghost use Rattle.convergence.specs.Acyclic.{IsAcyclic, SetsHaveTops, SetsHaveBottoms};
 ghost use Rattle.convergence.specs.Cables.{LevelsComeThrough};
-ghost use Rattle.convergence.specs.Kept.{KeptByTurn, KeptByHold, KeptByAct, HoldsOfReached};
+ghost use Rattle.convergence.specs.Kept.{KeptByTurn, KeptByHold, KeptByAct, HoldsFromPowerOn};
 ghost use Rattle.convergence.specs.Kept.{OnceOver, OnceOverAndAcyclic};
 ghost use Rattle.convergence.specs.Roots.{LoopsAreUndecided, RootsAreAlone, RootsHaveTrees};
 ghost use Rattle.convergence.specs.Roots.{LoopsHaveNoRoot, IsUndecidedInLoops};
@@ -15,7 +15,7 @@ pub fn worlds_stay_acyclic()
     ensures turn { KeptByTurn IsAcyclic }
     ensures hold { KeptByHold IsAcyclic }
     ensures act { KeptByAct IsAcyclic }
-    ensures reached { HoldsOfReached IsAcyclic }
+    ensures reached { HoldsFromPowerOn IsAcyclic }
 {}
 
 /// Each set of nodes that isn't empty has a member that no child cable enters from a member, and

@@ -1,5 +1,6 @@
 //! The milestones of a bus of n nodes whose cables delay by at most d turns, in quiet turns. Any
-//! holds may be placed before, between and after these turns.
+//! holds may be placed before, between and after these turns. No node has a longer hold than H, a
+//! longer time to be forced than F, a longer timeout than T, or a longer wait than L.
 ghost use Rattle.convergence.specs.Kept.{KeptByTurn, KeptOnceDone, OnceDone, AfterAny};
 ghost use Rattle.convergence.specs.Kept.{AfterDone, AfterDoneAcyclic, AfterGrown, KeptOnceGrown};
 ghost use Rattle.convergence.specs.Milestones.{ResetsAreOver, ResetsAreDone, NoResetIsUnderWay};
@@ -13,7 +14,7 @@ pub fn resets_are_over()
     ensures { AfterAny turns_to_over ResetsAreOver }
 {}
 
-/// 100 d turns later no node is in R0 or R1. A turn keeps that, and no Reset is under way to
+/// H + d turns later no node is in R0 or R1. A turn keeps that, and no Reset is under way to
 /// anyone.
 pub fn resets_are_done()
     ensures after { AfterAny turns_to_done ResetsAreDone }
@@ -21,23 +22,23 @@ pub fn resets_are_done()
     ensures over { OnceDone NoResetIsUnderWay }
 {}
 
-/// From there each component without loop knows its tree after d (300 + n n + 2 n) turns: its nodes
-/// are in phases after T0. A turn keeps that.
+/// From there each component without loop knows its tree after F + n d turns: its nodes are in
+/// phases after T0. A turn keeps that.
 pub fn trees_are_taken()
     ensures after { AfterDone tree_turns TreesAreTaken }
     ensures turn { KeptOnceDone TreesAreTaken }
     ensures reached { HoldsAfter turns_to_trees TreesAreTaken }
 {}
 
-/// Each node of a loop reports that the configuration timed out 600 d turns after resets are done.
+/// Each node of a loop reports that the configuration timed out T + 1 turns after resets are done.
 pub fn loops_are_reported()
     ensures after { AfterDoneAcyclic loop_turns LoopsAreReported }
     ensures reached { HoldsAfter turns_to_loops LoopsAreReported }
 {}
 
-/// Where trees are taken, each component without loop is through tree identify after
-/// d (600 + n n + 2 n) turns: every node of it identifies itself or is Ready, or two of them
-/// contend, with 32 equal draws. A turn keeps that.
+/// Where trees are taken, each component without loop is through tree identify after 12 n d turns,
+/// 33 rounds of L + 2 d turns, and 2 L + 2 d + 1 turns more: every node of it identifies itself or
+/// is Ready, or two of them contend, with 32 equal draws. A turn keeps that.
 pub fn trees_are_decided()
     ensures after { AfterGrown decision_turns TreesAreDecided }
     ensures turn { KeptOnceGrown TreesAreDecided }

@@ -22,18 +22,18 @@ use Rattle.cable_world.proofs.tables.TablesInSteps.{replaced, not-replaced}
 use Rattle.cable_world.proofs.tables.TablesInActs.{as_before, altered, was}
 use Rattle.cable_world.proofs.tables.TablesInTurns.{steady-at}
 
--- each node's times are such
-abbrev Timed : (Timing → Type 0) → List PortNode → Type 0
-Timed P nodes = (k : ℕ) (x : PortNode) → slice_get nodes k ≡ Some x → P x.state.timing
+-- the times of each node, by its number, are such
+abbrev pub Timed : (ℕ → Timing → Type 0) → List PortNode → Type 0
+Timed P nodes = (k : ℕ) (x : PortNode) → slice_get nodes k ≡ Some x → P k x.state.timing
 
 -- ---- a turn
 
-turn-timed :
-    (P : Timing → Type 0) (w : CableWorld) → IsWellFormed w → Timed P w.nodes → Timed P (turn w).nodes
+pub turn-timed :
+    (P : ℕ → Timing → Type 0) (w : CableWorld) → IsWellFormed w → Timed P w.nodes → Timed P (turn w).nodes
 turn-timed P w f h k y e = elim (slice_get_cases w.nodes k).1 [
   | inl found ↦
       let same : (turn_at w k found.0).node ≡ y = some-same (turn_at w k found.0).node y (sym (node-after w k found.0 f.count found.2) ∙ e) in
-      subst (λ (z : PortNode). P z.state.timing) same (subst P (sym (steady-at w k found.0 f found.2).timing) (h k found.0 found.2))
+      subst (λ (z : PortNode). P k z.state.timing) same (subst (P k) (sym (steady-at w k found.0 f found.2).timing) (h k found.0 found.2))
   | inr lacks ↦ absurd (omega (arith, lacks.0, slice_get_within (turn w).nodes k y e, nodes-after w f.count))
 ]
 
@@ -56,7 +56,7 @@ unfolding enter
 pulled port x = refl
 
 step-timed :
-    (P : Timing → Type 0) (k : ℕ) (step : PortNode → NodeStep) (w : CableWorld) → LeavesTimes step →
+    (P : ℕ → Timing → Type 0) (k : ℕ) (step : PortNode → NodeStep) (w : CableWorld) → LeavesTimes step →
     Timed P w.nodes → Timed P (with_step k step w).nodes
 step-timed P k step w leaves h = go (slice_get w.nodes k) refl
   where
@@ -65,7 +65,7 @@ step-timed P k step w leaves h = go (slice_get w.nodes k) refl
       | inl same ↦
           let here : slice_get (slice_set w.nodes k (step x).node) k ≡ Some y = subst (λ i. slice_get (slice_set w.nodes k (step x).node) i ≡ Some y) same e in
           let is : (step x).node ≡ y = some-same (step x).node y (sym (replaced w.nodes k (step x).node (slice_get_within w.nodes k x at)) ∙ here) in
-          subst (λ (z : PortNode). P z.state.timing) is (subst P (sym (leaves x)) (h k x at))
+          subst (λ i. P i y.state.timing) (sym same) (subst (λ (z : PortNode). P k z.state.timing) is (subst (P k) (sym (leaves x)) (h k x at)))
       | inr ne ↦ h j y (sym (not-replaced w.nodes k j (step x).node ne) ∙ e)
     ]
 
@@ -74,18 +74,18 @@ step-timed P k step w leaves h = go (slice_get w.nodes k) refl
     go (Some x) at = put x at
 
 two-timed :
-    (P : Timing → Type 0) (j k : ℕ) (f g : PortNode → NodeStep) (w : CableWorld) → LeavesTimes f →
+    (P : ℕ → Timing → Type 0) (j k : ℕ) (f g : PortNode → NodeStep) (w : CableWorld) → LeavesTimes f →
     LeavesTimes g → Timed P w.nodes → Timed P (with_step k g (with_step j f w)).nodes
 two-timed P j k f g w a b h = step-timed P k g (with_step j f w) b (step-timed P j f w a h)
 
 pull-timed :
-    (P : Timing → Type 0) (a : End) (o : Option End) (w : CableWorld) → Timed P w.nodes →
+    (P : ℕ → Timing → Type 0) (a : End) (o : Option End) (w : CableWorld) → Timed P w.nodes →
     Timed P (pull_from a o w).nodes
 pull-timed P a None w h = h
 pull-timed P a (Some b) w h = two-timed P a.node b.node (node_pulled a.port) (node_pulled b.port) (remove_cable a b w) (pulled a.port) (pulled b.port) h
 
 configure-timed :
-    (P : Timing → Type 0) (set from root_id : ℕ) (force : Bool) (gap : Option ℕ) (w : CableWorld) → Timed P w.nodes →
+    (P : ℕ → Timing → Type 0) (set from root_id : ℕ) (force : Bool) (gap : Option ℕ) (w : CableWorld) → Timed P w.nodes →
     Timed P (configure set from (config_packet root_id force gap) w).nodes
 configure-timed P set from root_id force gap w h =
     let packet = config_packet root_id force gap in
@@ -93,11 +93,11 @@ configure-timed P set from root_id force gap w h =
     step-timed P from node_disturb (record w { nodes = change_in_set set change 0 w.nodes }) disturbed
     (λ k y e. elim (was set change 0 w.nodes k y e) [
       | as_before at ↦ h k y at
-      | altered x at is ↦ subst (λ (z : PortNode). P z.state.timing) is (h k x at)
+      | altered x at is ↦ subst (λ (z : PortNode). P k z.state.timing) is (h k x at)
     ])
 
 act-timed :
-    (P : Timing → Type 0) (a : Act) (w v : CableWorld) → ActLeads a w v → Timed P w.nodes → Timed P v.nodes
+    (P : ℕ → Timing → Type 0) (a : Act) (w v : CableWorld) → ActLeads a w v → Timed P w.nodes → Timed P v.nodes
 act-timed P (Plug a b) w v e h =
     subst (λ (u : CableWorld). Timed P u.nodes) (sym e)
     (two-timed P a.node b.node (node_plugged a.port) (node_plugged b.port) (add_cable a b w) (plugged a.port) (plugged b.port) h)
@@ -110,10 +110,10 @@ act-timed P (Config from root_id force gap) w v e h =
 
 pub turn-forced : (w : CableWorld) → IsWellFormed w → AllCanBeForced w → AllCanBeForced (turn w)
 turn-forced w f h k y e =
-    rw (delay-after w, longest-after w) (turn-timed (CanBeForced w.delay w.longest) w f h k y e)
+    rw (delay-after w, longest-after w) (turn-timed (λ j. CanBeForced w.delay w.longest) w f h k y e)
 
 pub act-forced :
     (a : Act) (w v : CableWorld) → ActLeads a w v → AllCanBeForced w → AllCanBeForced v
 act-forced a w v e h k y at =
     let keeps = act-keeps a w v e in
-    rw (keeps.delay, keeps.longest) (act-timed (CanBeForced w.delay w.longest) a w v e h k y at)
+    rw (keeps.delay, keeps.longest) (act-timed (λ j. CanBeForced w.delay w.longest) a w v e h k y at)

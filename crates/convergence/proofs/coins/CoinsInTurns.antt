@@ -26,7 +26,7 @@ drawn-wait d t n i (inr s) = omega (arith, s, i.long_least)
 module _
     (d : ℕ) (signals : List (ℕ × Signal)) (coin : Bool) (x : NodeState) (o : 1 ≤ d)
     (i : SuitsCables d x.timing) (h : HearsWell signals x)
-    (t : TicksWell coin (hear_all signals x).state) (k : KnowsCoins d x) where
+    (t : TicksWell coin (hear_all signals x).state) (k : KnowsCoins x) where
   abbrev m : NodeState
   m = (hear_all signals x).state
 
@@ -99,7 +99,7 @@ module _
       on s was (inr (inl w)) = absurd (clash n.view.phase c w.phase)
       on s was (inr (inr w)) = absurd (contend-shake n.view.phase c w.phase)
 
-  pub knows-after : KnowsCoins d n
+  pub knows-after : KnowsCoins n
   knows-after = record {
     fresh = λ e. elim (tick-draws coin m) [ inl a ↦ absurd (drew-late a e) | inr a ↦ a.draws ∙ heard-fresh (early-before e) ];
     undrawn = λ e. elim (tick-draws coin m) [ inl a ↦ absurd (some a.draws e) | inr a ↦ a.first_draws ∙ heard-undrawn (sym a.draws ∙ e) ];

@@ -272,7 +272,7 @@ module _ (d : ℕ) (x y : Side) (r : Rivals d x y) where
 
   won-after :
       leads_down (ticking x).state.view.ports x.port ≡ true → 1 ≤ (ticking y).state.view.draws →
-      HasWon d (ticking x).state (ticking y).state
+      HasWon (ticking x).state (ticking y).state
   won-after c some = elim (won-from c some).3 [ inl z ↦ old z.0 z.1 | inr z ↦ fought-out z.0 z.1 z.2 z.3 ]
     where
       l : is_before_tree y.node.view.phase ≡ false
@@ -286,23 +286,23 @@ module _ (d : ℕ) (x y : Side) (r : Rivals d x y) where
 
       add :
           DrewNone x.node (ticking x).state → DrewNone y.node (ticking y).state →
-          AddsDraw d y.node.view.draws y.node.view.first_draws x.node →
-          AddsDraw d (ticking y).state.view.draws (ticking y).state.view.first_draws (ticking x).state
+          AddsDraw y.node.view.draws y.node.view.first_draws x.node →
+          AddsDraw (ticking y).state.view.draws (ticking y).state.view.first_draws (ticking x).state
       add nx ny a =
-          subst (λ f. AddsDraw d (ticking y).state.view.draws f (ticking x).state) (sym ny.first_draws)
-          (subst (λ k. AddsDraw d k y.node.view.first_draws (ticking x).state) (sym ny.draws) (adds-still d x y r nx y.node.view.draws y.node.view.first_draws a))
+          subst (λ f. AddsDraw (ticking y).state.view.draws f (ticking x).state) (sym ny.first_draws)
+          (subst (λ k. AddsDraw k y.node.view.first_draws (ticking x).state) (sym ny.draws) (adds-still d x y r nx y.node.view.draws y.node.view.first_draws a))
 
       both :
           DrewNone x.node (ticking x).state → DrewNone y.node (ticking y).state →
-          DrewTogether d x.node y.node → DrewTogether d (ticking x).state (ticking y).state
+          DrewTogether x.node y.node → DrewTogether (ticking x).state (ticking y).state
       both nx ny t = record { draws = t.draws; first = t.first; here = adds-still d x y r nx t.draws t.first t.here; there = adds-still d y x sv ny t.draws t.first t.there }
 
       -- it was a child before
       old :
           leads_down x.node.view.ports x.port ≡ true → DrewNone y.node (ticking y).state →
-          HasWon d (ticking x).state (ticking y).state
+          HasWon (ticking x).state (ticking y).state
       old was ny =
-          let won : HasWon d x.node y.node = r.here.won was (omega (arith, some, ny.draws)) in
+          let won : HasWon x.node y.node = r.here.won was (omega (arith, some, ny.draws)) in
           let nx : DrewNone x.node (ticking x).state = draws-not d x y r hx (λ w. none-some w.port (sym (hx.parent ∙ won.root) ∙ w.parent)) in
           record {
             root = root-after won.root (ticking x).state.view.parent refl;
@@ -326,7 +326,7 @@ module _ (d : ℕ) (x y : Side) (r : Rivals d x y) where
           x.node.view.phase ≡ phase.Contend → is_port x.node.view.parent x.port ≡ true →
           level_shown (hearing x).state x.port ≡ level.Parent →
           (hearing x).state.view.wait ≤ risen (hearing x).state.view.timer →
-          HasWon d (ticking x).state (ticking y).state
+          HasWon (ticking x).state (ticking y).state
       fought-out t ux shown o =
           let ny : DrewNone y.node (ticking y).state = draws-not d y x sv hy (long-undrawn d x y r ux uy t long hy) in
           let nx : DrewNone x.node (ticking x).state = contend-none d x y r ux uy hx hy t in
@@ -352,12 +352,12 @@ module _ (d : ℕ) (x y : Side) (r : Rivals d x y) where
           long : d ≤ x.node.view.timer
           long = omega (arith, over.1, r.pair.some_delay)
 
-          how : IsAhead d x.node x.port y.node ⊎ AsksAgain d x.node y.node y.wire
+          how : IsAhead x.node x.port y.node ⊎ AsksAgain d x.node y.node y.wire
           how = go (r.here.rivals ux uy)
             where
               go :
                   AreRivals d x.node x.port x.wire y.node y.port y.wire →
-                  IsAhead d x.node x.port y.node ⊎ AsksAgain d x.node y.node y.wire
+                  IsAhead x.node x.port y.node ⊎ AsksAgain d x.node y.node y.wire
               go (inl a) = absurd (contend-shaking x.node.view.phase t a.here)
               go (inr (inl m)) = absurd (idle-parent (level_shown (hearing x).state x.port) (long-idle d y x sv uy ux m.there (omega (arith, over.1, m.near, r.pair.some_delay))) shown)
               go (inr (inr (inl a))) = a.how

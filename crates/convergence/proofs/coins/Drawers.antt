@@ -278,7 +278,7 @@ module _ (w : CableWorld) (l : IsLawful w) (c : IsContested w) (over : ResetsAre
     from_is = i;
     to_is = t.is;
     ends = t.ends;
-    agree = won-agree w.delay t.ends.near.state t.ends.other.state ((c.cables t.from t.to t.ends.near t.ends.other t.ends.joined t.ends.near_at t.ends.other_at).won t.child t.drew);
+    agree = won-agree t.ends.near.state t.ends.other.state ((c.cables t.from t.to t.ends.near t.ends.other t.ends.joined t.ends.near_at t.ends.other_at).won t.child t.drew);
   }
 
   rivals-round : (j k : ℕ) → DrewOnCable w j k → DrewOnCable w k j

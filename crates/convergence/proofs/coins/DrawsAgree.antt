@@ -22,39 +22,39 @@ draws-with-before true n f j h = go (nat_lt n 32) refl
 min-under : (j n k : ℕ) → k ≡ min (n + 1) 65535 → j + 1 < k → j < n
 min-under j n k e h = grind (arith, e, h)
 
-pub together-agree : (d : ℕ) (x y : NodeState) → DrewTogether d x y → DrawsAgree x y
-together-agree d x y t j small a b =
+pub together-agree : (x y : NodeState) → DrewTogether x y → DrawsAgree x y
+together-agree x y t j small a b =
     ap (λ f. bit_at f j) t.here.coins
-    ∙ draws-with-before (last_coin d x) t.draws t.first j (min-under j t.draws x.view.draws t.here.count a)
-    ∙ sym (draws-with-before (last_coin d y) t.draws t.first j (min-under j t.draws y.view.draws t.there.count b))
+    ∙ draws-with-before (last_coin x) t.draws t.first j (min-under j t.draws x.view.draws t.here.count a)
+    ∙ sym (draws-with-before (last_coin y) t.draws t.first j (min-under j t.draws y.view.draws t.there.count b))
     ∙ sym (ap (λ f. bit_at f j) t.there.coins)
 
 pub ahead-agree :
-    (d : ℕ) (x y : NodeState) → AddsDraw d y.view.draws y.view.first_draws x → DrawsAgree x y
-ahead-agree d x y t j small a b = ap (λ f. bit_at f j) t.coins ∙ draws-with-before (last_coin d x) y.view.draws y.view.first_draws j (min-under j y.view.draws x.view.draws t.count a)
+    (x y : NodeState) → AddsDraw y.view.draws y.view.first_draws x → DrawsAgree x y
+ahead-agree x y t j small a b = ap (λ f. bit_at f j) t.coins ∙ draws-with-before (last_coin x) y.view.draws y.view.first_draws j (min-under j y.view.draws x.view.draws t.count a)
 
 pub agree-round : (x y : NodeState) → DrawsAgree x y → DrawsAgree y x
 agree-round x y h j small a b = sym (h j small b a)
 
-pub won-agree : (d : ℕ) (x y : NodeState) → HasWon d x y → DrawsAgree x y
-won-agree d x y h = elim h.drew [ inl a ↦ ahead-agree d x y a | inr t ↦ together-agree d x y t ]
+pub won-agree : (x y : NodeState) → HasWon x y → DrawsAgree x y
+won-agree x y h = elim h.drew [ inl a ↦ ahead-agree x y a | inr t ↦ together-agree x y t ]
 
 apart-agree :
     (d : ℕ) (x : NodeState) (p : ℕ) (y : NodeState) (back : List Travelling) →
     AreApart d x p y back → DrawsAgree x y
-apart-agree d x p y back a = elim a.how [ inl h ↦ ahead-agree d x y h.drew | inr h ↦ together-agree d x y h.drew ]
+apart-agree d x p y back a = elim a.how [ inl h ↦ ahead-agree x y h.drew | inr h ↦ together-agree x y h.drew ]
 
 pub stand-agree :
     (d : ℕ) (x : NodeState) (p : ℕ) (there : List Travelling) (y : NodeState) (q : ℕ)
     (back : List Travelling) → AreRivals d x p there y q back → DrawsAgree x y
 stand-agree d x p there y q back (inl a) = λ j small m n. ap (λ f. bit_at f j) a.drew.first_draws
-stand-agree d x p there y q back (inr (inl m)) = together-agree d x y m.drew
+stand-agree d x p there y q back (inr (inl m)) = together-agree x y m.drew
 stand-agree d x p there y q back (inr (inr (inl a))) = apart-agree d x p y back a
 stand-agree d x p there y q back (inr (inr (inr a))) = agree-round y x (apart-agree d y q x there a)
 
 -- the counts differ by one at most
 apart-close :
-    (d : ℕ) (x : NodeState) (p : ℕ) (y : NodeState) (back : List Travelling) → KnowsCoins d y →
+    (d : ℕ) (x : NodeState) (p : ℕ) (y : NodeState) (back : List Travelling) → KnowsCoins y →
     AreApart d x p y back → (x.view.draws ≤ y.view.draws + 1) × (y.view.draws ≤ x.view.draws + 1)
 apart-close d x p y back k a = elim a.how [
   | inl h ↦ (ahead x.view.draws y.view.draws h.drew.count k.counts)
@@ -66,7 +66,7 @@ apart-close d x p y back k a = elim a.how [
 
 pub stand-close :
     (d : ℕ) (x : NodeState) (p : ℕ) (there : List Travelling) (y : NodeState) (q : ℕ)
-    (back : List Travelling) → KnowsCoins d x → KnowsCoins d y → AreRivals d x p there y q back →
+    (back : List Travelling) → KnowsCoins x → KnowsCoins y → AreRivals d x p there y q back →
     (x.view.draws ≤ y.view.draws + 1) × (y.view.draws ≤ x.view.draws + 1)
 stand-close d x p there y q back k l (inl a) = (omega (arith, a.drew.draws), omega (arith, a.drew.draws))
 stand-close d x p there y q back k l (inr (inl m)) = (omega (arith, m.drew.here.count, m.drew.there.count), omega (arith, m.drew.here.count, m.drew.there.count))

@@ -17,8 +17,8 @@ use Rattle.convergence.proofs.turns.PortFacts.{same-port}
 -- what is so of both ends before the turn
 pub record Rivals (d : ℕ) (x y : Side) : Type 0 where
   pub pair : Pair d x y
-  pub near : KnowsCoins d x.node
-  pub other : KnowsCoins d y.node
+  pub near : KnowsCoins x.node
+  pub other : KnowsCoins y.node
   pub here : Contests d x.node x.port x.wire y.node y.port y.wire
   pub there : Contests d y.node y.port y.wire x.node x.port x.wire
   -- a long wait of the one is longer than a short one of the other
@@ -30,8 +30,8 @@ swapped d x y r = record { pair = turned-round d x y r.pair; near = r.other; oth
 
 -- ---- the two turned round
 
-pub together-round : (d : ℕ) (x y : NodeState) → DrewTogether d x y → DrewTogether d y x
-together-round d x y t = record { draws = t.draws; first = t.first; here = t.there; there = t.here }
+pub together-round : (x y : NodeState) → DrewTogether x y → DrewTogether y x
+together-round x y t = record { draws = t.draws; first = t.first; here = t.there; there = t.here }
 
 pub same-round : (x y : NodeState) → DrewTheSame x y → DrewTheSame y x
 same-round x y t = record { draws = sym t.draws; first_draws = sym t.first_draws }
@@ -40,7 +40,7 @@ pub stand-round :
     (d : ℕ) (x : NodeState) (p : ℕ) (there : List Travelling) (y : NodeState) (q : ℕ)
     (back : List Travelling) → AreRivals d x p there y q back → AreRivals d y q back x p there
 stand-round d x p there y q back (inl a) = inl (record { here = a.there; there = a.here; drew = same-round x y a.drew })
-stand-round d x p there y q back (inr (inl m)) = inr (inl (record { here = m.there; there = m.here; drew = together-round d x y m.drew; near = m.far; far = m.near }))
+stand-round d x p there y q back (inr (inl m)) = inr (inl (record { here = m.there; there = m.here; drew = together-round x y m.drew; near = m.far; far = m.near }))
 stand-round d x p there y q back (inr (inr (inl a))) = inr (inr (inr a))
 stand-round d x p there y q back (inr (inr (inr a))) = inr (inr (inl a))
 
@@ -86,7 +86,7 @@ module _ (d : ℕ) (x y : Side) (r : Rivals d x y) where
   abbrev now : NodeState
   now = (ticking x).state
 
-  pub after-knows : KnowsCoins d now
+  pub after-knows : KnowsCoins now
   after-knows = knows-after d x.inbox x.coin x.node j.some_delay j.near.timing j.near.hears j.near.ticks r.near
 
   -- a node that is late afterwards began no reset, and was late before or took its roles
@@ -186,9 +186,9 @@ module _ (d : ℕ) (x y : Side) (r : Rivals d x y) where
 
   pub adds-draw :
       NoEntry was (hearing x) → Drew x.coin mid now →
-      AddsDraw d was.view.draws was.view.first_draws now
+      AddsDraw was.view.draws was.view.first_draws now
   adds-draw h w =
-      let c : last_coin d now ≡ x.coin = ap (λ (t : Timing). nat_le t.long now.view.wait) j.near.ticks.timing ∙ ap (nat_le mid.timing.long) w.wait ∙ drawn-coin d mid.timing x.coin j.some_delay (heard_timing d x j.near) in
+      let c : last_coin now ≡ x.coin = ap (λ (t : Timing). nat_le t.long now.view.wait) j.near.ticks.timing ∙ ap (nat_le mid.timing.long) w.wait ∙ drawn-coin d mid.timing x.coin j.some_delay (heard_timing d x j.near) in
       record {
         count = w.draws ∙ ap (λ n. min (n + 1) 65535) h.draws;
         coins = w.first_draws ∙ ap (λ n. draws_with x.coin n mid.view.first_draws) h.draws ∙ ap (draws_with x.coin was.view.draws) h.first_draws ∙ ap (λ b. draws_with b was.view.draws was.view.first_draws) (sym c);
@@ -197,11 +197,11 @@ module _ (d : ℕ) (x y : Side) (r : Rivals d x y) where
   timing-still : now.timing ≡ was.timing
   timing-still = j.near.ticks.timing ∙ j.near.hears.timing
 
-  pub coin-still : DrewNone was now → last_coin d now ≡ last_coin d was
+  pub coin-still : DrewNone was now → last_coin now ≡ last_coin was
   coin-still s = ap (λ (t : Timing). nat_le t.long now.view.wait) timing-still ∙ ap (nat_le was.timing.long) s.wait
 
   -- what a node drew before stays drawn
-  pub adds-still : DrewNone was now → (n f : ℕ) → AddsDraw d n f was → AddsDraw d n f now
+  pub adds-still : DrewNone was now → (n f : ℕ) → AddsDraw n f was → AddsDraw n f now
   adds-still s n f a = record { count = s.draws ∙ a.count; coins = s.first_draws ∙ a.coins ∙ ap (λ b. draws_with b n f) (sym (coin-still s)) }
 
 -- ---- one end hears what the other told

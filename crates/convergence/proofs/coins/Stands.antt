@@ -21,19 +21,19 @@ contend-shaking f a b = grind arith
 
 -- equal last coins
 pub same-coins :
-    (d : ℕ) (x y : NodeState) → DrewTogether d x y → last_coin d x ≡ last_coin d y → DrewTheSame x y
-same-coins d x y t e = record {
+    (x y : NodeState) → DrewTogether x y → last_coin x ≡ last_coin y → DrewTheSame x y
+same-coins x y t e = record {
   draws = t.here.count ∙ sym t.there.count;
   first_draws = t.here.coins ∙ ap (λ b. draws_with b t.draws t.first) e ∙ sym t.there.coins;
 }
 
-pub coin-long : (d : ℕ) (x : NodeState) → last_coin d x ≡ true → x.timing.long ≤ x.view.wait
-coin-long d x e = leb-true _ _ e
+pub coin-long : (x : NodeState) → last_coin x ≡ true → x.timing.long ≤ x.view.wait
+coin-long x e = leb-true _ _ e
 
 pub coin-short :
-    (d : ℕ) (x : NodeState) → KnowsCoins d x → x.view.phase ≡ phase.Contend →
-    last_coin d x ≡ false → x.view.wait ≤ x.timing.short
-coin-short d x k c e = elim (k.shows c) [ inl s ↦ omega (arith, s) | inr l ↦ absurd (clash (omega (arith, l))) ]
+    (x : NodeState) → KnowsCoins x → x.view.phase ≡ phase.Contend →
+    last_coin x ≡ false → x.view.wait ≤ x.timing.short
+coin-short x k c e = elim (k.shows c) [ inl s ↦ omega (arith, s) | inr l ↦ absurd (clash (omega (arith, l))) ]
   where
     clash : x.timing.long ≤ x.view.wait → ⊥
     clash l = grind (arith, l, e)
@@ -156,9 +156,9 @@ module _
     there = sh;
     how = inl (record {
       drew =
-          let a : AddsDraw d x.node.view.draws x.node.view.first_draws (ticking x).state = adds-draw d x y r hx w in
-          subst (λ f. AddsDraw d (ticking y).state.view.draws f (ticking x).state) (same.first_draws ∙ sym n.first_draws)
-          (subst (λ k. AddsDraw d k x.node.view.first_draws (ticking x).state) (same.draws ∙ sym n.draws) a);
+          let a : AddsDraw x.node.view.draws x.node.view.first_draws (ticking x).state = adds-draw d x y r hx w in
+          subst (λ f. AddsDraw (ticking y).state.view.draws f (ticking x).state) (same.first_draws ∙ sym n.first_draws)
+          (subst (λ k. AddsDraw k x.node.view.first_draws (ticking x).state) (same.draws ∙ sym n.draws) a);
       shown = r.pair.near.ticks.shown x.port ∙ drew-sees d x y r w (up-mid d x y r hx ux);
     });
   }
@@ -171,7 +171,7 @@ module _
   waits-on m w a = record {
     drew = record { draws = m.drew.draws; first = m.drew.first; here = adds-still d x y r nx m.drew.draws m.drew.first m.drew.here; there = adds-still d y x s2 ny m.drew.draws m.drew.first m.drew.there };
     long = omega (arith, tx, min-least);
-    coins = two (last_coin d x.node) (last_coin d y.node) refl refl;
+    coins = two (last_coin x.node) (last_coin y.node) refl refl;
   }
     where
       nx : DrewNone x.node (ticking x).state
@@ -204,9 +204,9 @@ module _
           rises = grind arith
 
       two :
-          (b c : Bool) → last_coin d x.node ≡ b → last_coin d y.node ≡ c →
-          (last_coin d (ticking x).state ≡ last_coin d (ticking y).state) ⊎
-          ((last_coin d (ticking x).state ≡ true) × (last_coin d (ticking y).state ≡ false)
+          (b c : Bool) → last_coin x.node ≡ b → last_coin y.node ≡ c →
+          (last_coin (ticking x).state ≡ last_coin (ticking y).state) ⊎
+          ((last_coin (ticking x).state ≡ true) × (last_coin (ticking y).state ≡ false)
           × AllAsOldAs ((ticking x).state.view.timer + d + 1 - (ticking x).state.view.wait) (wire_after y))
       two true true e f = inl (coin-still d x y r nx ∙ e ∙ sym f ∙ sym (coin-still d y x s2 ny))
       two false false e f = inl (coin-still d x y r nx ∙ e ∙ sym f ∙ sym (coin-still d y x s2 ny))
@@ -214,11 +214,11 @@ module _
         coin-still d x y r nx ∙ e,
         coin-still d y x s2 ny ∙ f,
         AllAsOldAs-less ((ticking x).state.view.timer + d + 1 - (ticking x).state.view.wait) 0 (wire_after y)
-            (early (coin-short d y.node r.other m.there f) (coin-long d x.node e)) (AllAsOldAs-zero (wire_after y)),
+            (early (coin-short y.node r.other m.there f) (coin-long x.node e)) (AllAsOldAs-zero (wire_after y)),
       )
       two false true e f =
-          let sh : x.node.view.wait ≤ x.node.timing.short = coin-short d x.node r.near m.here e in
-          let lo : y.node.timing.long ≤ y.node.view.wait = coin-long d y.node f in
+          let sh : x.node.view.wait ≤ x.node.timing.short = coin-short x.node r.near m.here e in
+          let lo : y.node.timing.long ≤ y.node.view.wait = coin-long y.node f in
           absurd (omega (arith, sh, lo, o.0, m.far, r.near.waits m.here, r.waits_back, r.pair.some_delay))
 
   -- y asks again, and the wait of x goes on
@@ -282,10 +282,10 @@ module _
   -- both are in T3 with unequal coins, x with the long wait: it isn't over yet
   pub not-over :
       HaveMet d x.node y.node → x.node.view.wait ≤ x.node.view.timer + 1 →
-      last_coin d x.node ≡ true → last_coin d y.node ≡ false → ⊥
+      last_coin x.node ≡ true → last_coin y.node ≡ false → ⊥
   not-over m o e f =
-      let lo : x.node.timing.long ≤ x.node.view.wait = coin-long d x.node e in
-      let sh : y.node.view.wait ≤ y.node.timing.short = coin-short d y.node r.other m.there f in
+      let lo : x.node.timing.long ≤ x.node.view.wait = coin-long x.node e in
+      let sh : y.node.view.wait ≤ y.node.timing.short = coin-short y.node r.other m.there f in
       omega (arith, lo, sh, o, m.near, r.other.waits m.there, r.waits, r.pair.some_delay)
 
   -- no rival is seen while both are in T3
@@ -330,8 +330,8 @@ module _
           draws = x.node.view.draws;
           first = x.node.view.first_draws;
           here = adds-draw d x y r hx b;
-          there = subst (λ f. AddsDraw d x.node.view.draws f (ticking y).state) (sym a.drew.first_draws)
-              (subst (λ k. AddsDraw d k y.node.view.first_draws (ticking y).state) (sym a.drew.draws) (adds-draw d y x s3 hy c));
+          there = subst (λ f. AddsDraw x.node.view.draws f (ticking y).state) (sym a.drew.first_draws)
+              (subst (λ k. AddsDraw k y.node.view.first_draws (ticking y).state) (sym a.drew.draws) (adds-draw d y x s3 hy c));
         };
         near = omega (arith, b.timer, c.timer);
         far = omega (arith, b.timer, c.timer);
@@ -341,7 +341,7 @@ module _
   both-waiting m = go (fought d x y r ux uy hx m.here) (fought d y x s3 uy ux hy m.there)
     where
       back : HaveMet d y.node x.node
-      back = record { here = m.there; there = m.here; drew = together-round d x.node y.node m.drew; near = m.far; far = m.near }
+      back = record { here = m.there; there = m.here; drew = together-round x.node y.node m.drew; near = m.far; far = m.near }
 
       nx : DrewNone x.node (ticking x).state
       nx = contend-none d x y r ux uy hx hy m.here
@@ -354,8 +354,8 @@ module _
 
       equal :
           x.node.view.wait ≤ x.node.view.timer + 1 → y.node.view.wait ≤ y.node.view.timer + 1 →
-          (b c : Bool) → last_coin d x.node ≡ b → last_coin d y.node ≡ c →
-          last_coin d x.node ≡ last_coin d y.node
+          (b c : Bool) → last_coin x.node ≡ b → last_coin y.node ≡ c →
+          last_coin x.node ≡ last_coin y.node
       equal o p true true e f = e ∙ sym f
       equal o p false false e f = e ∙ sym f
       equal o p true false e f = absurd (not-over d x y r ux uy hx hy m o e f)
@@ -383,7 +383,7 @@ module _
       go (inr (inr a)) (inr (inr b)) =
           let o = (over-timer d x y r ux uy hx m.here a.over).0 in
           let p = (over-timer d y x s3 uy ux hy m.there b.over).0 in
-          let same : DrewTheSame x.node y.node = same-coins d x.node y.node m.drew (equal o p (last_coin d x.node) (last_coin d y.node) refl refl) in
+          let same : DrewTheSame x.node y.node = same-coins x.node y.node m.drew (equal o p (last_coin x.node) (last_coin y.node) refl refl) in
           inl (record {
             here = ap is_shaking a.phase;
             there = ap is_shaking b.phase;
@@ -402,8 +402,8 @@ module _
       meets :
           Waited (raise_timer (hearing x).state) (ticking x).state (ticking x).sends →
           Drew y.coin (hearing y).state (ticking y).state →
-          IsAhead d x.node x.port y.node ⊎ AsksAgain d x.node y.node y.wire →
-          DrewTogether d (ticking x).state (ticking y).state
+          IsAhead x.node x.port y.node ⊎ AsksAgain d x.node y.node y.wire →
+          DrewTogether (ticking x).state (ticking y).state
       meets w v (inl h) = record { draws = y.node.view.draws; first = y.node.view.first_draws; here = adds-still d x y r nx y.node.view.draws y.node.view.first_draws h.drew; there = adds-draw d y x s3 hy v }
       meets w v (inr h) = absurd (omega (arith, h.long, young d x y r ux uy a.here hx hy v))
 
@@ -411,14 +411,14 @@ module _
       waits :
           Waited (raise_timer (hearing x).state) (ticking x).state (ticking x).sends →
           Shook (hearing y).state (ticking y).state (ticking y).sends →
-          IsAhead d x.node x.port y.node ⊎ AsksAgain d x.node y.node y.wire →
-          IsAhead d (ticking x).state x.port (ticking y).state
+          IsAhead x.node x.port y.node ⊎ AsksAgain d x.node y.node y.wire →
+          IsAhead (ticking x).state x.port (ticking y).state
           ⊎ AsksAgain d (ticking x).state (ticking y).state (wire_after y)
       waits w v (inl h) =
           let ny : DrewNone y.node (ticking y).state = shook-none d y x s3 uy ux hy hx v in
           let kept_draws = adds-still d x y r nx y.node.view.draws y.node.view.first_draws h.drew in
           inl (record {
-            drew = subst (λ f. AddsDraw d (ticking y).state.view.draws f (ticking x).state) (sym ny.first_draws) (subst (λ k. AddsDraw d k y.node.view.first_draws (ticking x).state) (sym ny.draws) kept_draws);
+            drew = subst (λ f. AddsDraw (ticking y).state.view.draws f (ticking x).state) (sym ny.first_draws) (subst (λ k. AddsDraw k y.node.view.first_draws (ticking x).state) (sym ny.draws) kept_draws);
             shown = r.pair.near.ticks.shown x.port ∙ asks-on d x y r a.there uy h.shown;
           })
       waits w v (inr h) = inr (asks-still d x y r ux uy hx hy a.here a.there w v h)
@@ -426,11 +426,11 @@ module _
       -- the wait is over, and no Parent is shown
       again :
           AskedAgain (raise_timer (hearing x).state) (ticking x).state →
-          IsAhead d x.node x.port y.node ⊎ AsksAgain d x.node y.node y.wire →
+          IsAhead x.node x.port y.node ⊎ AsksAgain d x.node y.node y.wire →
           DrewTheSame x.node y.node
       again b (inl h) = absurd (other-level (level_shown (hearing x).state x.port) (asks-on d x y r a.there uy h.shown) (again-sees d x y r b (up-mid d x y r hx ux)))
       again b (inr h) = elim h.coins [
-        | inl e ↦ same-coins d x.node y.node h.drew e
+        | inl e ↦ same-coins x.node y.node h.drew e
         | inr e ↦ absurd (not-again d x y r ux uy hx hy a.here a.there b e.2)
       ]
 

@@ -4,7 +4,7 @@ use Rattle.std.specs.Prelude.{nat_le}
 use Rattle.port_state.specs.declared.timing.Timing.{Timing}
 use Rattle.cable_world.specs.Times.{Suits}
 use Rattle.cable_world.proofs.Lemmas.{suits-cables}
-use Rattle.convergence.proofs.Common.{End, Wiring, far, ports_of, Phase, NodeState, coin, is_child, is_port, port_is, draws_with, IsValid, PortNode, Travelling, new_signal, CableWorld, wire_of, hold, IsReached, inbox, turn_at, turn, IsLawful, is_before_tree, is_shaking, signals_of, has_reset, shown_or_idle, level_shown, leads_down, cabling-after, delay-after, before, hears, ticks, side, side-node, side-wire, ticking, not-both, turn-state, comes, holds-kept, PlacedHold, HoldSchedule, with_holds, quiet_after, AddsDraw, DrewTogether, KnowsCoins, AreApart, AreRivals, Contests, IsContested, contrary}
+use Rattle.convergence.proofs.Common.{End, Wiring, far, ports_of, Phase, NodeState, coin, is_child, is_port, port_is, draws_with, IsValid, PortNode, Travelling, new_signal, CableWorld, wire_of, hold, ComesOfPowerOn, inbox, turn_at, turn, IsLawful, is_before_tree, is_shaking, signals_of, has_reset, shown_or_idle, level_shown, leads_down, cabling-after, delay-after, before, hears, ticks, side, side-node, side-wire, ticking, not-both, turn-state, comes, holds-kept, PlacedHold, HoldSchedule, with_holds, quiet_after, AddsDraw, DrewTogether, KnowsCoins, AreApart, AreRivals, Contests, IsContested, contrary}
 use Rattle.port_state.specs.declared.signal.Phase.TheVariants as phase
 use Rattle.port_state.specs.declared.signal.Signal.TheVariants as signal
 use Rattle.port_state.specs.Config.{ConfigPacket}
@@ -15,7 +15,7 @@ use Rattle.cable_world.specs.Act.{change_in_set, note_changes, ActLeads, act_fau
 use Rattle.cable_world.specs.Lawful.{IsWellFormed}
 use Rattle.cable_world.proofs.Lemmas.{power-on-apart, not-leading, ends-in-reset, Entered, Stayed, Acting, acting, each-kept, hold-happens, shown-is, ready, shown-same, shown_if_there, HasBegun, CableEnd, cable-end, none-some}
 use Rattle.cable_world.proofs.Lemmas as between
-use Rattle.convergence.proofs.turns.AlongRuns.{IsKept, kept-reached, kept-quiet}
+use Rattle.convergence.proofs.turns.AlongRuns.{IsKept, kept-comes, kept-quiet}
 use Rattle.convergence.specs.Rivals.{HasOneRival}
 use Rattle.convergence.proofs.coins.ContestsInTurns.{contests-turn, won-from}
 use Rattle.convergence.proofs.coins.CoinsInTurns.{knows-after}
@@ -97,7 +97,7 @@ turn-contested w l c = record {
   nodes = λ k y e.
       let f : IsWellFormed w = l.well_formed in
       let x = before w k y f e in
-      rw (x.2, turn-state (inbox w 0 (ports_of w.cabling k)) x.0, delay-after w)
+      rw (x.2, turn-state (inbox w 0 (ports_of w.cabling k)) x.0)
       (knows-after w.delay (inbox w 0 (ports_of w.cabling k)) (coin x.0.coins) x.0.state f.some_delay (suits-cables w.delay w.longest x.0.state.timing (f.nodes k x.0 x.1).timing) (hears w k x.0 f x.1) (ticks w k x.0 f x.1) (c.nodes k x.0 x.1));
   cables = λ a b y z e at_y at_z.
       let was : far w.cabling a ≡ Some b = sym (ap (λ (d : Wiring). far d a) (cabling-after w)) ∙ e in
@@ -109,8 +109,8 @@ turn-contested w l c = record {
 
 -- ---- what happens between two turns
 
-begun-knows : (d : ℕ) (x : NodeState) → HasBegun x → KnowsCoins d x
-begun-knows d x b = record {
+begun-knows : (x : NodeState) → HasBegun x → KnowsCoins x
+begun-knows x b = record {
   fresh = λ e. b.draws;
   undrawn = λ e. b.first_draws;
   counts = omega (arith, b.draws);
@@ -186,8 +186,8 @@ module _ (w v : CableWorld) (h : between.Happens w v) (c : IsContested w) where
   happened : IsContested v
   happened = record {
     nodes = λ k x at. elim (h.nodes k x at) [
-      | inl b ↦ begun-knows v.delay x.state b
-      | inr was ↦ subst (λ (d : ℕ). KnowsCoins d x.state) (sym h.delay) (c.nodes k x was)
+      | inl b ↦ begun-knows x.state b
+      | inr was ↦ c.nodes k x was
     ];
     cables = happened-cable;
     one_rival = λ a b e f x y z same ab ef at_x at_y at_z down_a down_e drew_y drew_z.
@@ -227,17 +227,17 @@ is-as x = record { phase = refl; timing = refl; timer = refl; wait = refl; paren
 told-as : (packet : ConfigPacket) (x : PortNode) → IsAs x.state (node_set_config packet x).state
 told-as packet x = record { phase = refl; timing = refl; timer = refl; wait = refl; parent = refl; draws = refl; first_draws = refl; ports = refl }
 
-adds-as : (d : ℕ) (x z : NodeState) (n f : ℕ) → IsAs x z → AddsDraw d n f x → AddsDraw d n f z
-adds-as d x z n f e s = record { count = e.draws ∙ s.count; coins = e.first_draws ∙ s.coins ∙ ap (λ b. draws_with b n f) (sym (ap (λ (t : Timing). nat_le t.long z.view.wait) e.timing ∙ ap (nat_le x.timing.long) e.wait)) }
+adds-as : (x z : NodeState) (n f : ℕ) → IsAs x z → AddsDraw n f x → AddsDraw n f z
+adds-as x z n f e s = record { count = e.draws ∙ s.count; coins = e.first_draws ∙ s.coins ∙ ap (λ b. draws_with b n f) (sym (ap (λ (t : Timing). nat_le t.long z.view.wait) e.timing ∙ ap (nat_le x.timing.long) e.wait)) }
 
 after-as :
-    (d : ℕ) (x z y u : NodeState) → IsAs x z → IsAs y u →
-    AddsDraw d y.view.draws y.view.first_draws x → AddsDraw d u.view.draws u.view.first_draws z
-after-as d x z y u e f s = rw (f.draws, f.first_draws) (adds-as d x z y.view.draws y.view.first_draws e s)
+    (x z y u : NodeState) → IsAs x z → IsAs y u →
+    AddsDraw y.view.draws y.view.first_draws x → AddsDraw u.view.draws u.view.first_draws z
+after-as x z y u e f s = rw (f.draws, f.first_draws) (adds-as x z y.view.draws y.view.first_draws e s)
 
 together-as :
-    (d : ℕ) (x z y u : NodeState) → IsAs x z → IsAs y u → DrewTogether d x y → DrewTogether d z u
-together-as d x z y u e f t = record { draws = t.draws; first = t.first; here = adds-as d x z t.draws t.first e t.here; there = adds-as d y u t.draws t.first f t.there }
+    (x z y u : NodeState) → IsAs x z → IsAs y u → DrewTogether x y → DrewTogether z u
+together-as x z y u e f t = record { draws = t.draws; first = t.first; here = adds-as x z t.draws t.first e t.here; there = adds-as y u t.draws t.first f t.there }
 
 shown-as : (x z : NodeState) (p : ℕ) → IsAs x z → level_shown z p ≡ level_shown x p
 shown-as x z p e = ap (λ ps. shown_or_idle (slice_get ps p)) e.ports
@@ -249,8 +249,8 @@ apart-as d x z p y u back e f a = record {
   here = e.phase ∙ a.here;
   there = ap is_shaking f.phase ∙ a.there;
   how = elim a.how [
-    | inl s ↦ inl (record { drew = after-as d x z y u e f s.drew; shown = shown-as x z p e ∙ s.shown })
-    | inr s ↦ inr (record { drew = together-as d x z y u e f s.drew; long = rw e.timer s.long; coins = rw (e.wait, e.timer, f.wait, e.timing, f.timing) s.coins })
+    | inl s ↦ inl (record { drew = after-as x z y u e f s.drew; shown = shown-as x z p e ∙ s.shown })
+    | inr s ↦ inr (record { drew = together-as x z y u e f s.drew; long = rw e.timer s.long; coins = rw (e.wait, e.timer, f.wait, e.timing, f.timing) s.coins })
   ];
 }
 
@@ -266,7 +266,7 @@ contests-as d x z p there y u q back e f h = record {
       let k = h.won (sym (ap (λ ps. port_is (λ r. r.child) ps p) e.ports) ∙ c) (omega (arith, s, f.draws)) in
       record {
         root = e.parent ∙ k.root;
-        drew = elim k.drew [ inl a ↦ inl (after-as d x z y u e f a) | inr t ↦ inr (together-as d x z y u e f t) ];
+        drew = elim k.drew [ inl a ↦ inl (after-as x z y u e f a) | inr t ↦ inr (together-as x z y u e f t) ];
       };
   below = λ c n.
       let k = h.below (sym (ap (λ ps. port_is (λ r. r.child) ps p) e.ports) ∙ c) n in
@@ -285,7 +285,7 @@ contests-as d x z p there y u q back e f h = record {
     go (inr (inl m)) = inr (inl (record {
       here = e.phase ∙ m.here;
       there = f.phase ∙ m.there;
-      drew = together-as d x z y u e f m.drew;
+      drew = together-as x z y u e f m.drew;
       near = omega (arith, e.timer, f.timer, m.near);
       far = omega (arith, e.timer, f.timer, m.far);
     }))
@@ -298,7 +298,7 @@ told-contested :
 told-contested set packet w c =
     let change : PortNode → PortNode = node_set_config packet in
     record {
-      nodes = λ k. each-kept set change w.nodes k (λ x. KnowsCoins w.delay x.state) (λ x h. record { fresh = h.fresh; undrawn = h.undrawn; counts = h.counts; drawn = h.drawn; waits = h.waits; shows = h.shows }) (c.nodes k);
+      nodes = λ k. each-kept set change w.nodes k (λ x. KnowsCoins x.state) (λ x h. record { fresh = h.fresh; undrawn = h.undrawn; counts = h.counts; drawn = h.drawn; waits = h.waits; shows = h.shows }) (c.nodes k);
       cables = λ a b x y e at there.
           let Two : PortNode → PortNode → Type 0 = λ x y. Contests w.delay x.state a.port (wire_of w a).signals y.state b.port (wire_of w b).signals in
           each-kept set change w.nodes a.node (λ x. Two x y)
@@ -336,7 +336,7 @@ pub power-on-contested : (w : CableWorld) → IsPowerOnWorld w → IsContested w
 power-on-contested w h = record {
   nodes = λ k x at.
       let on = h.nodes k x at in
-      begun-knows w.delay x.state (record {
+      begun-knows x.state (record {
         phase = ap (λ (y : NodeState). y.view.phase) on.is;
         timer = ap (λ (y : NodeState). y.view.timer) on.is;
         draws = ap (λ (y : NodeState). y.view.draws) on.is;
@@ -354,8 +354,8 @@ contested-kept = record {
   act = act-contested;
 }
 
-pub reached-contested : (w : CableWorld) → IsReached w → IsContested w
-reached-contested = kept-reached IsContested contested-kept
+pub comes-contested : (w : CableWorld) → ComesOfPowerOn w → IsContested w
+comes-contested = kept-comes IsContested contested-kept
 
 pub holds-contested :
     (holds : List PlacedHold) (w : CableWorld) → IsLawful w → IsContested w →

@@ -2,14 +2,14 @@
 use Rattle.std.proofs.Common.{◌≡◌, ◌≢◌, ◌⊎◌, inl, inr, ℕ, zero, suc, ◌+◌, ◌*◌, ◌<◌, ◌≤◌, true, false, not, List, Option, Some, None, length, slice_get, refl, sym, ◌∙◌, ap, subst, arith, add-one}
 use Rattle.convergence.proofs.turns.PhaseFacts.{late-start}
 use Rattle.std.proofs.lemmas.Bool.{eq-eqb}
-use Rattle.convergence.proofs.Common.{End, Wiring, far, IsComponent, Holds, Phase, NodeState, is_port, is_resetting, raise_timer, PortNode, Travelling, CableWorld, wire_of, turn_at, turn, IsReached, is_before_tree, is_shaking, leads_down, IsLawful, node-after, cabling-after, delay-after, came, side, side-node, side-wire, steady, after-delay, child-if, some-same, Side, hearing, ticking, wire_after, late-roles, reached-lawful, not-both, NoEntry, risen, holds-signals, one-quiet, quiet-lawful, turn-lawful, PlacedHold, HoldSchedule, with_holds, quiet_after, last_coin, KnowsCoins, AsksAgain, IsContested, HaveMet, AreRivals, AreJoined, AreMutual, AreUnequal, contrary}
+use Rattle.convergence.proofs.Common.{End, Wiring, far, IsComponent, Holds, Phase, NodeState, is_port, is_resetting, raise_timer, PortNode, Travelling, CableWorld, wire_of, turn_at, turn, ComesOfPowerOn, is_before_tree, is_shaking, leads_down, IsLawful, node-after, cabling-after, delay-after, came, side, side-node, side-wire, steady, after-delay, child-if, some-same, Side, hearing, ticking, wire_after, late-roles, comes-lawful, not-both, NoEntry, risen, holds-signals, one-quiet, quiet-lawful, turn-lawful, PlacedHold, HoldSchedule, with_holds, quiet_after, last_coin, KnowsCoins, AsksAgain, IsContested, HaveMet, AreRivals, AreJoined, AreMutual, AreUnequal, contrary}
 use Rattle.port_state.specs.declared.signal.Phase.TheVariants as phase
 use Rattle.port_state.specs.declared.timing.Timing.{Timing}
 use Rattle.cable_world.specs.Times.{Suits}
 use Rattle.cable_world.proofs.Lemmas.{heard_connected, after-longest}
 use Rattle.convergence.proofs.turns.Cables.{joined-held}
 use Rattle.convergence.specs.Drawers.{HasWonAt}
-use Rattle.convergence.proofs.coins.StaysContested.{rivals-of, reached-contested, quiet-contested}
+use Rattle.convergence.proofs.coins.StaysContested.{rivals-of, comes-contested, quiet-contested}
 use Rattle.convergence.proofs.coins.ContestsInTurns.{down-after}
 use Rattle.convergence.proofs.coins.Drawers.{unequal-mutual}
 use Rattle.convergence.proofs.turns.Moves.{Drew, DrewNone, Shook, Waited, TookRival, Fought}
@@ -25,8 +25,8 @@ pub record Faces
   pub here : is_port x.view.parent p ≡ true
   pub there : is_port y.view.parent q ≡ true
   pub contends : x.view.phase ≡ phase.Contend
-  pub long : last_coin d x ≡ true
-  pub short : last_coin d y ≡ false
+  pub long : last_coin x ≡ true
+  pub short : last_coin y ≡ false
   pub waited : i ≤ x.view.timer
   pub how :
       (y.view.phase ≡ phase.Contend) ⊎ ((is_shaking y.view.phase ≡ true) × AsksAgain d x y back)
@@ -287,7 +287,7 @@ module _
   won-by : (i : ℕ) → (later i).longest.long ≤ i → State (later i) a b i → HasWonAt (later i) a b
   won-by i long (inl o) = record { ends = o.ends; child = o.over.0; root = o.over.1 }
   won-by i long (inr f) =
-      let knows : KnowsCoins (later i).delay f.ends.near.state = (quiet-contested hs (k + i) w l c).nodes a.node f.ends.near f.ends.near_at in
+      let knows : KnowsCoins f.ends.near.state = (quiet-contested hs (k + i) w l c).nodes a.node f.ends.near f.ends.near_at in
       let fits : Suits (later i).delay (later i).longest f.ends.near.state.timing = ((quiet-lawful hs (k + i) w l).well_formed.nodes a.node f.ends.near f.ends.near_at).timing in
       absurd (elim (knows.shows f.faces.contends) [
         | inl s ↦ omega (arith, long, f.faces.waited, knows.waits f.faces.contends, s, fits.short_most, fits.long_least, fits.long_most)
@@ -297,8 +297,8 @@ module _
   starts :
       (m : AreMutual (quiet_after hs k w) a b) → m.ends.near.state.view.phase ≡ phase.Contend →
       m.ends.other.state.view.phase ≡ phase.Contend →
-      last_coin (quiet_after hs k w).delay m.ends.near.state ≡ true →
-      last_coin (quiet_after hs k w).delay m.ends.other.state ≡ false → State (later 0) a b 0
+      last_coin m.ends.near.state ≡ true →
+      last_coin m.ends.other.state ≡ false → State (later 0) a b 0
   starts m here there long short =
       let z : k + 0 ≡ k = omega arith in
       subst (λ (n : ℕ). State (quiet_after hs n w) a b 0) (sym z) (inr (record {
@@ -309,22 +309,22 @@ module _
   pub wins :
       (m : AreMutual (quiet_after hs k w) a b) → m.ends.near.state.view.phase ≡ phase.Contend →
       m.ends.other.state.view.phase ≡ phase.Contend →
-      last_coin (quiet_after hs k w).delay m.ends.near.state ≡ true →
-      last_coin (quiet_after hs k w).delay m.ends.other.state ≡ false → (i : ℕ) → w.longest.long ≤ i →
+      last_coin m.ends.near.state ≡ true →
+      last_coin m.ends.other.state ≡ false → (i : ℕ) → w.longest.long ≤ i →
       HasWonAt (quiet_after hs (k + i) w) a b
   wins m here there long short i h =
       won-by i (omega (arith, h, ap (λ (t : Timing). t.long) (after-longest hs w l (k + i)))) (turn-by-turn (starts m here there long short) i)
 
 -- two nodes of a component
 pub unequal-won :
-    (hs : HoldSchedule) (w : CableWorld) → IsReached w → (k node set m n i : ℕ) →
+    (hs : HoldSchedule) (w : CableWorld) → ComesOfPowerOn w → (k node set m n i : ℕ) →
     length w.nodes * w.delay ≤ k →
     IsComponent (quiet_after hs k w).cabling node set → Holds set m → Holds set n → m ≢ n →
     AreUnequal (quiet_after hs k w) m n → w.longest.long ≤ i →
     (a : End) × (b : End) × (a.node ≡ m) × (b.node ≡ n) × HasWonAt (quiet_after hs (k + i) w) a b
 unequal-won hs w reached k node set m n i late is in_m in_n ne u long =
-    let l : IsLawful w = reached-lawful w reached in
-    let c : IsContested w = reached-contested w reached in
+    let l : IsLawful w = comes-lawful w reached in
+    let c : IsContested w = comes-contested w reached in
     let v : CableWorld = quiet_after hs k w in
     let t = unequal-mutual v (quiet-lawful hs k w l) (quiet-contested hs k w l c) (resets-over hs w l k late) node set m n is in_m in_n ne u in
     let near : u.near ≡ t.4.ends.near = some-same u.near t.4.ends.near (sym u.near_at ∙ ap (slice_get v.nodes) (sym t.2) ∙ t.4.ends.near_at) in
@@ -336,7 +336,7 @@ unequal-won hs w reached k node set m n i late is in_m in_n ne u long =
       wins hs w l c k late t.0 t.1 t.4
           (ap (λ (z : PortNode). z.state.view.phase) (sym near) ∙ u.here)
           (ap (λ (z : PortNode). z.state.view.phase) (sym other) ∙ u.there)
-          (ap (λ (z : PortNode). last_coin v.delay z.state) (sym near) ∙ u.long)
-          (ap (λ (z : PortNode). last_coin v.delay z.state) (sym other) ∙ u.short)
+          (ap (λ (z : PortNode). last_coin z.state) (sym near) ∙ u.long)
+          (ap (λ (z : PortNode). last_coin z.state) (sym other) ∙ u.short)
           i long,
     )

@@ -1,7 +1,7 @@
 -- Every world that comes of a power-on world is acyclic.
 use Rattle.std.proofs.Common.{ℕ, List}
-use Rattle.convergence.proofs.Common.{CableWorld, IsReached, IsLawful, PlacedHold, HoldSchedule, with_holds, quiet_after, holds-kept, IsAcyclic}
-use Rattle.convergence.proofs.turns.AlongRuns.{IsKept, kept-reached, kept-quiet}
+use Rattle.convergence.proofs.Common.{CableWorld, ComesOfPowerOn, IsLawful, PlacedHold, HoldSchedule, with_holds, quiet_after, holds-kept, IsAcyclic}
+use Rattle.convergence.proofs.turns.AlongRuns.{IsKept, kept-comes, kept-quiet}
 use Rattle.convergence.proofs.ranks.RanksInActs.{power-on-acyclic, hold-acyclic, act-acyclic}
 use Rattle.convergence.proofs.ranks.RanksInTurns.{turn-acyclic}
 
@@ -13,8 +13,8 @@ acyclic-kept = record {
   act = act-acyclic;
 }
 
-pub reached-acyclic : (w : CableWorld) → IsReached w → IsAcyclic w
-reached-acyclic = kept-reached IsAcyclic acyclic-kept
+pub comes-acyclic : (w : CableWorld) → ComesOfPowerOn w → IsAcyclic w
+comes-acyclic = kept-comes IsAcyclic acyclic-kept
 
 pub holds-acyclic :
     (holds : List PlacedHold) (w : CableWorld) → IsLawful w → IsAcyclic w →

@@ -299,7 +299,7 @@ not-so-long :
     slice_get w.nodes k ≡ Some x → x.state.view.phase ≡ phase.Contend →
     w.longest.long ≤ x.state.view.timer → ⊥
 not-so-long w set g k x at c long =
-    let knows : KnowsCoins w.delay x.state = g.contested.nodes k x at in
+    let knows : KnowsCoins x.state = g.contested.nodes k x at in
     let fits : Suits w.delay w.longest x.state.timing = (g.lawful.well_formed.nodes k x at).timing in
     elim (knows.shows c) [
       | inl s ↦ omega (arith, long, knows.waits c, s, fits.short_most, fits.long_least, fits.long_most)
@@ -500,7 +500,7 @@ module _ (set : ℕ) (m : ℕ) (small : m ≤ 64) where
   one-of a b w g s c t = go ((g.contested.cables a b s.ends.near s.ends.other s.ends.joined s.ends.near_at s.ends.other_at).rivals s.is.here.up s.is.there.up)
     where
       how :
-          IsAhead w.delay s.ends.near.state a.port s.ends.other.state
+          IsAhead s.ends.near.state a.port s.ends.other.state
           ⊎ AsksAgain w.delay s.ends.near.state s.ends.other.state (wire_of w b).signals →
           At w set a b (OneAhead 0 a.port b.port m)
           ⊎ At w set a b (OneWaits w.delay 0 a.port b.port m)

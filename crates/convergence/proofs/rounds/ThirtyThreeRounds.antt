@@ -29,16 +29,16 @@ kept-first c n f h = go (nat_lt n 32) refl c
     go false e true = ap (λ b. if b then bit_or f (2 ^ n) else f) e
     go false e false = refl
 
-added : (d n f : ℕ) (x : NodeState) → AddsDraw d n f x → 33 ≤ x.view.draws → x.view.first_draws ≡ f
-added d n f x a h = a.coins ∙ kept-first _ n f (many n x.view.draws a.count h)
+added : (n f : ℕ) (x : NodeState) → AddsDraw n f x → 33 ≤ x.view.draws → x.view.first_draws ≡ f
+added n f x a h = a.coins ∙ kept-first _ n f (many n x.view.draws a.count h)
   where
     many : (n k : ℕ) → k ≡ min (n + 1) 65535 → 33 ≤ k → 32 ≤ n
     many n k e l = omega (arith, e, l)
 
 together :
-    (d : ℕ) (x y : NodeState) → DrewTogether d x y → 33 ≤ x.view.draws → 33 ≤ y.view.draws →
+    (x y : NodeState) → DrewTogether x y → 33 ≤ x.view.draws → 33 ≤ y.view.draws →
     x.view.first_draws ≡ y.view.first_draws
-together d x y t h l = added d t.draws t.first x t.here h ∙ sym (added d t.draws t.first y t.there l)
+together x y t h l = added t.draws t.first x t.here h ∙ sym (added t.draws t.first y t.there l)
 
 module _
     (w : CableWorld) (set : ℕ) (g : Grown w set) (a b : End)
@@ -50,14 +50,14 @@ module _
           AreRivals w.delay s.ends.near.state a.port (wire_of w a).signals s.ends.other.state b.port (wire_of w b).signals →
           s.ends.near.state.view.first_draws ≡ s.ends.other.state.view.first_draws
       go (inl h) = h.drew.first_draws
-      go (inr (inl h)) = together w.delay s.ends.near.state s.ends.other.state h.drew s.is.here.draws s.is.there.draws
+      go (inr (inl h)) = together s.ends.near.state s.ends.other.state h.drew s.is.here.draws s.is.there.draws
       go (inr (inr (inl h))) = elim h.how [
-        | inl k ↦ added w.delay s.ends.other.state.view.draws s.ends.other.state.view.first_draws s.ends.near.state k.drew s.is.here.draws
-        | inr k ↦ together w.delay s.ends.near.state s.ends.other.state k.drew s.is.here.draws s.is.there.draws
+        | inl k ↦ added s.ends.other.state.view.draws s.ends.other.state.view.first_draws s.ends.near.state k.drew s.is.here.draws
+        | inr k ↦ together s.ends.near.state s.ends.other.state k.drew s.is.here.draws s.is.there.draws
       ]
       go (inr (inr (inr h))) = elim h.how [
-        | inl k ↦ sym (added w.delay s.ends.near.state.view.draws s.ends.near.state.view.first_draws s.ends.other.state k.drew s.is.there.draws)
-        | inr k ↦ sym (together w.delay s.ends.other.state s.ends.near.state k.drew s.is.there.draws s.is.here.draws)
+        | inl k ↦ sym (added s.ends.near.state.view.draws s.ends.near.state.view.first_draws s.ends.other.state k.drew s.is.there.draws)
+        | inr k ↦ sym (together s.ends.other.state s.ends.near.state k.drew s.is.there.draws s.is.here.draws)
       ]
 
   alike : DrewAlike s.ends.near.state.view s.ends.other.state.view

@@ -1,6 +1,6 @@
 -- What turns, holds and acts of a lawful world keep holds along runs.
 use Rattle.std.proofs.Common.{zero, suc, ℕ, List, [], ◌∷◌, sym, subst}
-use Rattle.convergence.proofs.Common.{CableWorld, IsReached, turn, IsLawful, turn-lawful, holds-kept, quiet-lawful, HoldSchedule, quiet_after}
+use Rattle.convergence.proofs.Common.{CableWorld, ComesOfPowerOn, turn, IsLawful, turn-lawful, holds-kept, quiet-lawful, HoldSchedule, quiet_after}
 use Rattle.cable_world.specs.Run.{Event, acts, holds, turns, Happens, Runs}
 use Rattle.cable_world.specs.StaysLawful.{HoldsAtPowerOn}
 use Rattle.cable_world.proofs.Lemmas.{power-on-lawful, hold-lawful, act-lawful}
@@ -25,9 +25,9 @@ module _ (P : CableWorld → Type 0) (k : IsKept P) where
   runs-both [] w v r b = subst Both (sym r) b
   runs-both (e ∷ events) w v r b = runs-both events r.0 v r.2 (event-both e w r.0 r.1 b)
 
-  -- it holds of every reached world
-  pub kept-reached : (w : CableWorld) → IsReached w → P w
-  kept-reached w r = (runs-both r.events r.start w r.run (power-on-lawful r.start r.power_on, k.power_on r.start r.power_on)).1
+  -- it holds of every world that comes of power-on
+  pub kept-comes : (w : CableWorld) → ComesOfPowerOn w → P w
+  kept-comes w r = (runs-both r.events r.start w r.run (power-on-lawful r.start r.power_on, k.power_on r.start r.power_on)).1
 
   -- and after quiet turns
   pub kept-quiet :

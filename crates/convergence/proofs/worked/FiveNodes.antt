@@ -55,8 +55,8 @@ star-grows = refl
 -- ---- milestones
 
 shares :
-    (turns_to_over line ≡ 20) × (turns_to_done line ≡ 420) × (turns_to_trees line ≡ 1760)
-    × (turns_to_decision line ≡ 4300)
+    (turns_to_over line ≡ 20) × (turns_to_done line ≡ 344) × (turns_to_trees line ≡ 1388)
+    × (turns_to_decision line ≡ 3301)
 unfolding enter
 shares = (refl, refl, refl, refl)
 

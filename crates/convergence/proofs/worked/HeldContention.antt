@@ -63,10 +63,10 @@ ahead-mutual = record {
 drew-0 :
     (x : NodeState) (draws first : ℕ) → draws ≡ 0 → first ≡ 0 → x.view.draws ≡ 1 →
     x.view.first_draws ≡ 0 →
-    last_coin 4 x ≡ false → AddsDraw 4 draws first x
+    last_coin x ≡ false → AddsDraw draws first x
 drew-0 x draws first none no-coin one no-one last = record { count = rw (none, one) refl; coins = rw (none, no-coin, no-one, last) refl }
 
-ahead-is : IsAhead 4 (node_in ahead 0).state 0 (node_in ahead 1).state
+ahead-is : IsAhead (node_in ahead 0).state 0 (node_in ahead 1).state
 unfolding turn turns_after enter tick on_signal
 ahead-is = record { drew = drew-0 (node_in ahead 0).state (node_in ahead 1).state.view.draws (node_in ahead 1).state.view.first_draws refl refl refl refl refl; shown = refl }
 
@@ -88,7 +88,7 @@ met-phases : ((node_in met 0).state.view.phase ≡ Contend)
 unfolding turn turns_after enter tick on_signal
 met-phases = (refl, refl)
 
-met-drew : DrewTogether 4 (node_in met 0).state (node_in met 1).state
+met-drew : DrewTogether (node_in met 0).state (node_in met 1).state
 unfolding turn turns_after enter tick on_signal
 met-drew = record {
   draws = 0;

@@ -1,5 +1,5 @@
-use Rattle.convergence.proofs.Common.{CableWorld, quiet_after, IsLawful, reached-lawful, quiet-lawful, ResetsAreOver, IsContested}
-use Rattle.convergence.proofs.coins.StaysContested.{reached-contested, quiet-contested}
+use Rattle.convergence.proofs.Common.{CableWorld, quiet_after, IsLawful, comes-lawful, quiet-lawful, ResetsAreOver, IsContested}
+use Rattle.convergence.proofs.coins.StaysContested.{comes-contested, quiet-contested}
 use Rattle.convergence.proofs.resets.ResetsOver.{resets-over}
 use Rattle.convergence.proofs.coins.Drawers.{mutual-close, mutual-agree, two-rivals, no-third}
 use Rattle.convergence.proofs.contention.few_draw_coins.Goals as goal
@@ -18,10 +18,10 @@ returns-clause-no_third c = λ w l h over. no-third w l h over
 
 pub returns-clause-after_turns : goal.returns-clause-after_turns
 returns-clause-after_turns c = λ holds w k r late.
-    let lawful : IsLawful w = reached-lawful w r in
+    let lawful : IsLawful w = comes-lawful w r in
     let v : CableWorld = quiet_after holds k w in
     let l : IsLawful v = quiet-lawful holds k w lawful in
-    let knows : IsContested v = quiet-contested holds k w lawful (reached-contested w r) in
+    let knows : IsContested v = quiet-contested holds k w lawful (comes-contested w r) in
     let over : ResetsAreOver v = resets-over holds w lawful k late in
     record {
       close = λ a b m. mutual-close v l knows a b m;

@@ -1,4 +1,4 @@
-use Rattle.convergence.proofs.coins.StaysContested.{power-on-contested, turn-contested, hold-contested, act-contested, reached-contested}
+use Rattle.convergence.proofs.coins.StaysContested.{power-on-contested, turn-contested, hold-contested, act-contested, comes-contested}
 use Rattle.convergence.proofs.contention.worlds_stay_contested.Goals as goal
 
 pub returns-clause-power_on : goal.returns-clause-power_on
@@ -14,4 +14,4 @@ pub returns-clause-act : goal.returns-clause-act
 returns-clause-act c = act-contested
 
 pub returns-clause-reached : goal.returns-clause-reached
-returns-clause-reached c = reached-contested
+returns-clause-reached c = comes-contested

@@ -1,6 +1,6 @@
 use Rattle.convergence.proofs.ranks.RanksInTurns.{turn-acyclic}
 use Rattle.convergence.proofs.ranks.RanksInActs.{act-acyclic, hold-acyclic, power-on-acyclic}
-use Rattle.convergence.proofs.ranks.StaysAcyclic.{reached-acyclic}
+use Rattle.convergence.proofs.ranks.StaysAcyclic.{comes-acyclic}
 use Rattle.convergence.proofs.laws.worlds_stay_acyclic.Goals as goal
 
 pub returns-clause-power_on : goal.returns-clause-power_on
@@ -16,4 +16,4 @@ pub returns-clause-act : goal.returns-clause-act
 returns-clause-act c = act-acyclic
 
 pub returns-clause-reached : goal.returns-clause-reached
-returns-clause-reached c = reached-acyclic
+returns-clause-reached c = comes-acyclic
