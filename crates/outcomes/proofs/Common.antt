@@ -40,7 +40,7 @@ pub use Rattle.port_state.specs.declared.signal.Phase.TheVariants.{ParentShake, 
 pub use Rattle.port_state.specs.declared.signal.Signal.{Signal}
 pub use Rattle.port_state.specs.declared.states.NodeState.{NodeState}
 pub use Rattle.port_state.specs.declared.timing.Timing.{Timing}
-pub use Rattle.cable_world.proofs.Lemmas.{Chosen, Pair, Side, act-reached, acting, after-cabling, after-delay, after-length, after_signals, arrivals, at, attrs, before, cable-connected, cabling-after, child-if, chosen, comes, departures, hear-stays, hearing, in-turn, late-roles, leftovers, no-packets, no-quiet, node-after, not-both, one-quiet, only, port-is, quiet-lawful, quiet-then, reached-lawful, risen, side, side-wire, some-at, some-of, some-same, start-before_tree, ticking, turn-lawful, turn-state, wire_after}
+pub use Rattle.cable_world.proofs.Lemmas.{Chosen, Pair, Side, act-comes, acting, after-cabling, after-delay, after-length, after_signals, arrivals, at, attrs, before, cable-connected, cabling-after, child-if, chosen, comes, departures, hear-stays, hearing, in-turn, late-roles, leftovers, no-packets, no-quiet, node-after, not-both, one-quiet, only, port-is, quiet-lawful, quiet-then, comes-lawful, risen, side, side-wire, some-at, some-of, some-same, start-before_tree, ticking, turn-lawful, turn-state, wire_after}
 pub use Rattle.cable_world.specs.Act.{ActLeads, IsAct, act_fault, change_in_set, hold, hold_fault, note_changes}
 pub use Rattle.cable_world.specs.Agreement.{leads_down, level_after, level_sent, level_shown, shown_or_idle}
 pub use Rattle.cable_world.specs.Coupling.{is_asking}
@@ -50,7 +50,7 @@ pub use Rattle.cable_world.specs.Outcome.{IsSettled, IsTree, Shows, attrs_now, c
 pub use Rattle.cable_world.specs.Phases.{is_after_hold, is_before_tree, is_in_bus_reset, is_shaking}
 pub use Rattle.cable_world.specs.Quiet.{HoldSchedule, PlacedHold, holds_after, with_holds}
 unfoldable pub use Rattle.cable_world.specs.Quiet.{quiet_after}
-pub use Rattle.cable_world.specs.Run.{Event, IsReached, Runs, acts, holds, quiet_turns, turns}
+pub use Rattle.cable_world.specs.Run.{Event, ComesOfPowerOn, Runs, acts, holds, quiet_turns, turns}
 pub use Rattle.cable_world.specs.Signals.{has_reset, signals_of}
 pub use Rattle.cable_world.specs.Turn.{hear_all, inbox, turn_at}
 unfoldable pub use Rattle.cable_world.specs.Turn.{turn, turns_after}
@@ -59,7 +59,7 @@ pub use Rattle.cable_world.specs.World.{CableWorld, IsPowerOnWorld, wire_of}
 pub use Rattle.cable_world.specs.declared.act.Act.{Act}
 pub use Rattle.cable_world.specs.declared.act.Act.TheVariants.{Config}
 pub use Rattle.cable_world.specs.declared.wire.Travelling.{Travelling}
-pub use Rattle.convergence.proofs.Lemmas.{Calmly, contrary, done-after, done-over, heard_by, in-component, is-port, joined-of, no-root-with-loop, parent-was, port-is-not, quiet-acyclic, reached-acyclic, reached-contested, same-port, search-set, signals, turn-acyclic}
+pub use Rattle.convergence.proofs.Lemmas.{Calmly, contrary, done-after, done-over, heard_by, in-component, is-port, joined-of, no-root-with-loop, parent-was, port-is-not, quiet-acyclic, comes-acyclic, comes-contested, same-port, search-set, signals, turn-acyclic}
 pub use Rattle.convergence.specs.Acyclic.{IsAcyclic, IsChildCable}
 pub use Rattle.convergence.specs.Milestones.{AreIdentifying, HasContention, ResetsAreDone, ResetsAreOver, ResetsAreOverIn}
 pub use Rattle.convergence.specs.Roots.{IsRoot}

@@ -3,7 +3,7 @@
 -- Each step keeps what a record tells of the identification of its node.
 pub use Rattle.outcomes.proofs.identify.MarksKept.{ready-hears}
 -- What is so of self identify holds in every world that comes of a power-on world.
-pub use Rattle.outcomes.proofs.identify.StaysIdentifying.{quiet-identifying, reached-identifying}
+pub use Rattle.outcomes.proofs.identify.StaysIdentifying.{quiet-identifying, comes-identifying}
 -- Once all nodes are in A0 the root's list spreads: on each cable the packets come within d turns.
 pub use Rattle.outcomes.proofs.numbers.Spreads.{tree-soon}
 -- The turn in which the last node of a component comes to self identify: from there lists follow
@@ -18,11 +18,11 @@ pub use Rattle.outcomes.proofs.settled.Elsewhere.{same-component}
 pub use Rattle.outcomes.proofs.settled.ForcedOutcome.{forced-outcome}
 -- In every reached world the lists of a component follow its walk, once all its nodes are in self
 -- identify or A0.
-pub use Rattle.outcomes.proofs.settled.Numbering.{quiet-numbering, reached-numbering}
+pub use Rattle.outcomes.proofs.settled.Numbering.{quiet-numbering, comes-numbering}
 -- Whichever way a component without loop is decided, it has an outcome.
 pub use Rattle.outcomes.proofs.settled.Outcomes.{tree-ready}
 -- After so many quiet turns every component has an outcome.
-pub use Rattle.outcomes.proofs.settled.QuietTurns.{done-at-last, quiet-enough, room-to-rest}
+pub use Rattle.outcomes.proofs.settled.QuietTurns.{done-at-last, range-enough, room-to-rest}
 -- A component that has come to a tree is at rest, and so it stays in its tree.
 pub use Rattle.outcomes.proofs.settled.TreesStay.{act-tree, tree-rests}
 -- In a component with a loop no node is granted, so none gets an ID: who is granted was asked by a

@@ -4,4 +4,3 @@ pub mod Walk
 pub mod FiveNodes
 pub mod ForcedRoot
 pub mod LeftAlone
-pub mod StandardTimes

@@ -4,6 +4,7 @@ use Rattle.cabling.specs.NodeSet.{Holds}
 use Rattle.port_state.specs.declared.view.View.{View}
 use Rattle.port_state.specs.Heard.{is_resetting}
 use Rattle.port_state.specs.Machine.{PortNode}
+use Rattle.cable_world.specs.Times.{CanBeForced}
 use Rattle.cable_world.specs.World.{CableWorld, NodeNumber, NodeSet}
 use Rattle.cable_world.specs.Phases.{is_before_tree, is_in_bus_reset}
 use Rattle.cable_world.specs.Outcome.{HasNoLoop, Shows}
@@ -78,7 +79,14 @@ EntriesTakeOver =
     slice_get w.nodes k ≡ Some x → slice_get (quiet_after holds i w).nodes k ≡ Some y →
     (y.state.view.force ≡ waits_due x.state.view) × (y.state.view.gap ≡ gap_due x.state.view)
 
--- in a component without loop, which has just been reset, this node alone waits to become root
+-- the node of this number is given time enough to become root
+abbrev pub CanBeForcedAt : CableWorld → NodeNumber → Type 0
+CanBeForcedAt w node =
+    (x : PortNode) → slice_get w.nodes node ≡ Some x →
+    CanBeForced w.delay w.longest x.state.timing
+
+-- in a component without loop, which has just been reset, this node alone waits to become root, and
+-- is given time enough for it
 pub record IsForced (w : CableWorld) (node : NodeNumber) (set : NodeSet) (root : NodeNumber)
     : Type 0 where
   pub lawful : IsLawful w
@@ -86,8 +94,9 @@ pub record IsForced (w : CableWorld) (node : NodeNumber) (set : NodeSet) (root :
   pub no_loop : HasNoLoop w set
   pub fresh : IsFresh w set
   pub alone : WaitsAlone w set root
+  pub enough : CanBeForcedAt w root
 
--- by so many turns it is the root
+-- By so many turns it is the root: a reset goes round, every node holds, and roles are taken.
 abbrev pub forced_turns : CableWorld → ℕ
 forced_turns w = 2 * (length w.nodes * w.delay) + (w.longest.hold + w.delay)
 

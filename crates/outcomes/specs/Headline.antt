@@ -8,7 +8,8 @@
 --   cable_world  World                 what a world is: nodes, cables, and signals on the wires
 --                Turn                  a turn of all nodes
 --                Act                   an act: a plug, a pull, a reset, a packet; and a hold
---                Run                   what is reached
+--                Times                 times of nodes that suit a bus
+--                Run                   what comes of a power-on world
 --   convergence  Turns                 how many turns `turns_to_settle` are
 --   cabling      Component             the component of a node
 --                Looped, Sees          its core, and the tree that cables show from a root
@@ -17,12 +18,12 @@
 use Rattle.std.specs.Prelude.{◌<◌, ◌≤◌, List, length}
 use Rattle.cabling.specs.Component.{IsComponent}
 use Rattle.cable_world.specs.World.{CableWorld, NodeNumber, NodeSet}
-use Rattle.cable_world.specs.Run.{Event, Runs, IsReached}
+use Rattle.cable_world.specs.Run.{Event, Runs, ComesOfPowerOn}
 use Rattle.cable_world.specs.Outcome.{IsSettled}
 use Rattle.convergence.specs.Turns.{turns_to_settle}
 use Rattle.outcomes.specs.Settled.{HasNoAct, turn_count}
 
--- from the one world to the other no act came, and turns enough for so many nodes
+-- from the one world to the other no act came, and turns enough
 pub record IsLeftAlone (w v : CableWorld) : Type 0 where
   pub events : List Event
   pub quiet : HasNoAct events
@@ -37,7 +38,7 @@ AllSettled w =
 
 -- a bus that is left alone settles
 abbrev pub EveryBusSettles : Type 0
-EveryBusSettles = (w v : CableWorld) → IsReached w → IsLeftAlone w v → AllSettled v
+EveryBusSettles = (w v : CableWorld) → ComesOfPowerOn w → IsLeftAlone w v → AllSettled v
 
 -- and each bus can be left alone
 abbrev pub AnyBusCanBeLeftAlone : Type 0

@@ -10,7 +10,7 @@ use Rattle.cable_world.specs.Signals.{signals_of}
 use Rattle.outcomes.specs.NodeMarks.{is_asked, is_named, is_ready}
 use Rattle.outcomes.specs.Messages.{is_grant, is_done, has_grant, has_done}
 use Rattle.cabling.specs.Component.{IsComponent}
-use Rattle.cable_world.specs.Run.{IsReached}
+use Rattle.cable_world.specs.Run.{ComesOfPowerOn}
 use Rattle.convergence.specs.Milestones.{AreIdentifying}
 
 pub data Holder : Type 0 where
@@ -58,6 +58,6 @@ pub record HasOneHolder (w : CableWorld) (set : ℕ) : Type 0 where
 abbrev pub SelfIdentifyGoesOn : Type 0
 SelfIdentifyGoesOn =
     (w : CableWorld) (node : NodeNumber) (set : NodeSet) (late : NodeNumber) (u : PortNode) →
-    IsReached w → IsComponent w.cabling node set → AreIdentifying w set →
+    ComesOfPowerOn w → IsComponent w.cabling node set → AreIdentifying w set →
     Holds set late → slice_get w.nodes late ≡ Some u → is_ready u.state.view.phase ≡ false →
     HasOneHolder w set

@@ -15,5 +15,6 @@ pub mod Numbered
 pub mod Parents
 pub mod RootWalk
 pub mod Settled
+pub mod QuietTurns
 pub mod WalkMarks
 pub mod WaysUp

@@ -9,7 +9,7 @@ use Rattle.port_state.specs.Heard.{hears_packets}
 use Rattle.cable_world.specs.Agreement.{leads_down}
 use Rattle.cable_world.specs.World.{CableWorld, NodeNumber}
 use Rattle.port_state.specs.Machine.{PortNode}
-use Rattle.cable_world.specs.Run.{IsReached}
+use Rattle.cable_world.specs.Run.{ComesOfPowerOn}
 
 -- A0
 abbrev pub is_ready : Phase → Bool
@@ -49,13 +49,13 @@ pub record IsMarked (x : NodeState) : Type 0 where
 -- each record of a reached world is so
 abbrev pub RecordsAreMarked : Type 0
 RecordsAreMarked =
-    (w : CableWorld) (k : NodeNumber) (x : PortNode) → IsReached w →
+    (w : CableWorld) (k : NodeNumber) (x : PortNode) → ComesOfPowerOn w →
     slice_get w.nodes k ≡ Some x → IsMarked x.state
 
 -- a node awaits one child at most
 abbrev pub NodesAwaitOneChild : Type 0
 NodesAwaitOneChild =
-    (w : CableWorld) (k : NodeNumber) (p q : PortNumber) (x : PortNode) → IsReached w →
+    (w : CableWorld) (k : NodeNumber) (p q : PortNumber) (x : PortNode) → ComesOfPowerOn w →
     slice_get w.nodes k ≡ Some x →
     is_asked x.state p ≡ true → is_named x.state p ≡ false →
     is_asked x.state q ≡ true → is_named x.state q ≡ false → p ≡ q

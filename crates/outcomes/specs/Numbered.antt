@@ -23,7 +23,7 @@ use Rattle.outcomes.specs.RootWalk.{place_now, RootWalk}
 use Rattle.cable_world.specs.Turn.{turn}
 use Rattle.cable_world.specs.Quiet.{HoldSchedule, quiet_after}
 use Rattle.cable_world.specs.Act.{hold, hold_fault}
-use Rattle.cable_world.specs.Run.{IsReached}
+use Rattle.cable_world.specs.Run.{ComesOfPowerOn}
 use Rattle.cable_world.specs.Lawful.{IsLawful}
 use Rattle.cable_world.specs.Outcome.{IsTree}
 use Rattle.cabling.specs.Sees.{numbers}
@@ -171,7 +171,7 @@ pub record SettlesFrom
     (holds : HoldSchedule) (w : CableWorld) (k : ℕ) (set core : NodeSet) (root : NodeNumber)
     (t : Tree)
     : Type 0 where
-  pub reached : IsReached w
+  pub reached : ComesOfPowerOn w
   pub late : turns_to_over w ≤ k
   pub is : IsSettling (quiet_after holds k w) set core root t
 

@@ -8,21 +8,21 @@ use Rattle.port_state.specs.Config.{gap_or}
 use Rattle.port_state.specs.Machine.{PortNode}
 use Rattle.cable_world.specs.World.{CableWorld, NodeNumber, NodeSet}
 use Rattle.cable_world.specs.Quiet.{HoldSchedule, quiet_after}
-use Rattle.cable_world.specs.Run.{Event, acts, holds, turns, Runs, IsReached}
+use Rattle.cable_world.specs.Run.{Event, acts, holds, turns, Runs, ComesOfPowerOn}
 use Rattle.cable_world.specs.declared.act.Act.TheVariants.{Config}
 use Rattle.cable_world.specs.declared.act.Act.{Act}
 use Rattle.cable_world.specs.Act.{ActLeads, IsAct, act_fault}
 use Rattle.cable_world.specs.Outcome.{HasNoLoop, Shows, IsLoop, IsTree, IsSettled}
 use Rattle.convergence.specs.Milestones.{ResetsAreDone, AreIdentifying}
 use Rattle.convergence.specs.Turns.{turns_to_settle, turns_to_over, turns_to_loops}
-use Rattle.outcomes.specs.Forced.{IsForced, IsNamedAlone, NamesRoot}
+use Rattle.outcomes.specs.Forced.{CanBeForcedAt, IsForced, IsNamedAlone, NamesRoot}
 
 -- in quiet turns a component with a loop comes to the outcome Loop, and stays there
 abbrev pub LoopsComeOut : Type 0
 LoopsComeOut =
     (holds : HoldSchedule) (w : CableWorld) (k : ℕ) (node : NodeNumber) (set core : NodeSet)
     (member : NodeNumber) →
-    IsReached w → turns_to_loops w ≤ k → IsComponent (quiet_after holds k w).cabling node set →
+    ComesOfPowerOn w → turns_to_loops w ≤ k → IsComponent (quiet_after holds k w).cabling node set →
     IsCore (quiet_after holds k w).cabling set core → Holds core member →
     IsLoop (quiet_after holds k w) set core
 
@@ -31,13 +31,13 @@ LoopsComeOut =
 abbrev pub EveryComponentSettles : Type 0
 EveryComponentSettles =
     (holds : HoldSchedule) (w : CableWorld) (k : ℕ) (node : NodeNumber) (set : NodeSet) →
-    IsReached w → node < length w.nodes → IsComponent w.cabling node set →
+    ComesOfPowerOn w → node < length w.nodes → IsComponent w.cabling node set →
     turns_to_settle w ≤ k → IsSettled (quiet_after holds k w) set
 
 -- and no node is in R0 or R1 by then
 abbrev pub ResetsAreDoneByThen : Type 0
 ResetsAreDoneByThen =
-    (holds : HoldSchedule) (w : CableWorld) (k : ℕ) → IsReached w →
+    (holds : HoldSchedule) (w : CableWorld) (k : ℕ) → ComesOfPowerOn w →
     turns_to_settle w ≤ k → ResetsAreDone (quiet_after holds k w)
 
 -- holds and turns, and no act
@@ -58,7 +58,7 @@ turn_count (turns ∷ events) = suc (turn_count events)
 abbrev pub EveryQuietRunSettles : Type 0
 EveryQuietRunSettles =
     (w v : CableWorld) (events : List Event) (node : NodeNumber) (set : NodeSet) →
-    IsReached w → HasNoAct events → Runs events w v →
+    ComesOfPowerOn w → HasNoAct events → Runs events w v →
     turns_to_settle w ≤ turn_count events → node < length w.nodes →
     IsComponent w.cabling node set → IsSettled v set
 
@@ -66,7 +66,7 @@ EveryQuietRunSettles =
 abbrev pub ComponentsStaySettled : Type 0
 ComponentsStaySettled =
     (holds : HoldSchedule) (w v : CableWorld) (k : ℕ) (events : List Event) (node : NodeNumber)
-    (set : NodeSet) → IsReached w → turns_to_settle w ≤ k →
+    (set : NodeSet) → ComesOfPowerOn w → turns_to_settle w ≤ k →
     HasNoAct events → Runs events (quiet_after holds k w) v → node < length w.nodes →
     IsComponent w.cabling node set → IsSettled v set
 
@@ -74,7 +74,7 @@ ComponentsStaySettled =
 abbrev pub TreesStay : Type 0
 TreesStay =
     (w v : CableWorld) (events : List Event) (node : NodeNumber) (set : NodeSet)
-    (root : NodeNumber) (t : Tree) → IsReached w → HasNoAct events → Runs events w v →
+    (root : NodeNumber) (t : Tree) → ComesOfPowerOn w → HasNoAct events → Runs events w v →
     IsComponent w.cabling node set → IsTree w set root t → IsTree v set root t
 
 -- ---- forced roots
@@ -84,30 +84,31 @@ abbrev pub ForcedRootsSettle : Type 0
 ForcedRootsSettle =
     (holds : HoldSchedule) (w : CableWorld) (k : ℕ) (node : NodeNumber) (set : NodeSet)
     (root : NodeNumber) →
-    IsReached w → IsForced w node set root → turns_to_settle w ≤ k →
+    ComesOfPowerOn w → IsForced w node set root → turns_to_settle w ≤ k →
     (t : Tree) × IsTree (quiet_after holds k w) set root t
 
 -- in a tree an ID names one node
 abbrev pub IdsNameOneNode : Type 0
 IdsNameOneNode =
     (w : CableWorld) (set : NodeSet) (old root : NodeNumber) (id : ℕ) (t : Tree) →
-    IsReached w → IsTree w set old t → Holds set root → Shows w root (λ v. v.id ≡ Some id) →
+    ComesOfPowerOn w → IsTree w set old t → Holds set root → Shows w root (λ v. v.id ≡ Some id) →
     IsNamedAlone w set root id
 
--- a configuration packet with R set makes the node that it names root
+-- a configuration packet with R set makes the node that it names root, where it can be forced
 abbrev pub ConfigsMoveRoots : Type 0
 ConfigsMoveRoots =
     (holds : HoldSchedule) (w v : CableWorld) (k : ℕ) (from : NodeNumber) (id : ℕ) (gap : Option ℕ)
-    (set : NodeSet) (root : NodeNumber) → IsReached w →
+    (set : NodeSet) (root : NodeNumber) → ComesOfPowerOn w →
     IsAct (Config from id true gap) → act_fault (Config from id true gap) w ≡ None →
-    NamesRoot w v from id gap set root → HasNoLoop w set → turns_to_settle v ≤ k →
+    NamesRoot w v from id gap set root → CanBeForcedAt v root → HasNoLoop w set →
+    turns_to_settle v ≤ k →
     (t : Tree) × IsTree (quiet_after holds k v) set root t
 
 -- from n d turns on each node of the component has the gap count that the packet gave
 abbrev pub ConfigsSetGaps : Type 0
 ConfigsSetGaps =
     (holds : HoldSchedule) (w v : CableWorld) (k : ℕ) (from : NodeNumber) (id : ℕ)
-    (gap : Option ℕ) (set : NodeSet) (root j : NodeNumber) (x y : PortNode) → IsReached w →
+    (gap : Option ℕ) (set : NodeSet) (root j : NodeNumber) (x y : PortNode) → ComesOfPowerOn w →
     IsAct (Config from id true gap) → act_fault (Config from id true gap) w ≡ None →
     NamesRoot w v from id gap set root → turns_to_over v ≤ k → Holds set j →
     slice_get w.nodes j ≡ Some x → slice_get (quiet_after holds k v).nodes j ≡ Some y →

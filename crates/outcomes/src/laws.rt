@@ -1,6 +1,6 @@
 //! Laws of what components come to. Each function is a fact for the crates above, which call it.
 ghost use Rattle.cable_world.specs.StaysLawful.{HoldsAtPowerOn};
-ghost use Rattle.convergence.specs.Kept.{KeptByTurn, KeptByHold, KeptByAct, HoldsOfReached};
+ghost use Rattle.convergence.specs.Kept.{KeptByTurn, KeptByHold, KeptByAct, HoldsFromPowerOn};
 ghost use Rattle.outcomes.specs.Forced.{ResetsSpread, EntriesTakeOver, ForcedNodesBecomeRoots};
 ghost use Rattle.outcomes.specs.Forced.{ForcedRootsHaveWalks, AllLeadToForcedRoots, NobodyDraws};
 ghost use Rattle.outcomes.specs.Forced.{ConfigsBeginAnew, ConfigsNameRoots, ConfigsGiveGaps};
@@ -13,6 +13,7 @@ ghost use Rattle.outcomes.specs.Numbered.{SettlingBegins, TurnsKeepSettling, Hol
 ghost use Rattle.outcomes.specs.Numbered.{IsNumbering, NextHasItsPrefix, NextHasRoom, RestIsTree};
 ghost use Rattle.outcomes.specs.Numbered.{TurnsKeepRest, HoldsKeepRest, RestKeepsTree};
 ghost use Rattle.outcomes.specs.Numbered.{NodesGetReady, TreesComeToRest, TreesAreThere};
+ghost use Rattle.outcomes.specs.QuietTurns.{QuietTurnsAreEnough, InRangeIsEnough};
 ghost use Rattle.outcomes.specs.RootWalk.{RootsHaveWalks, NamedRootsAreOutcomes, WalksStay};
 ghost use Rattle.outcomes.specs.Settled.{LoopsComeOut, EveryComponentSettles, ResetsAreDoneByThen};
 ghost use Rattle.outcomes.specs.Settled.{EveryQuietRunSettles};
@@ -22,9 +23,9 @@ ghost use Rattle.outcomes.specs.Settled.{ConfigsSetGaps};
 
 use cabling::{components_exist, cores_exist};
 
-/// The theorem: a bus that is left alone settles. Whatever came before, once `quiet_turns` turns are
-/// done and no act comes among them, each component is a loop, a tree or a contention, whatever holds
-/// are placed between the turns. Each bus can be left alone for so long.
+/// The theorem: a bus that is left alone settles. Whatever came before, once `turns_to_settle` turns
+/// are done and no act comes among them, each component is a loop, a tree or a contention, whatever
+/// holds are placed between the turns. Each bus can be left alone for so long.
 pub fn every_bus_settles()
     ensures settles { EveryBusSettles }
     ensures can_be_left_alone { AnyBusCanBeLeftAlone }
@@ -39,10 +40,10 @@ pub fn worlds_stay_identifying()
     ensures turn { KeptByTurn IsIdentifying }
     ensures hold { KeptByHold IsIdentifying }
     ensures act { KeptByAct IsIdentifying }
-    ensures reached { HoldsOfReached IsIdentifying }
+    ensures reached { HoldsFromPowerOn IsIdentifying }
 {}
 
-/// In every reached world each record fits the progress of self identify: a node has an ID in A0
+/// In every world that comes of power-on each record fits the progress of self identify: a node has an ID in A0
 /// alone, is granted in self identify and A0 alone, and asks its children one after the other, in
 /// rising port order; its list is empty before. It awaits one child at most.
 pub fn records_fit_self_identify()
@@ -50,15 +51,15 @@ pub fn records_fit_self_identify()
     ensures one_awaited { NodesAwaitOneChild }
 {}
 
-/// In every reached world, on each cable whose two ends are both in self identify or A0, the list
-/// of one end, followed by the packets under way to it, is the list of the other end, and no packet
-/// is under way to that other end.
+/// In every world that comes of power-on, on each cable whose two ends are both in self identify or
+/// A0, the list of one end, followed by the packets under way to it, is the list of the other end,
+/// and no packet is under way to that other end.
 pub fn lists_follow()
-    ensures { HoldsOfReached ListsFollow }
+    ensures { HoldsFromPowerOn ListsFollow }
 {}
 
-/// Where all nodes of a component of a reached world are in self identify or A0, and one isn't in
-/// A0, exactly one of these is there: one Grant under way, one Done under way, or one granted node
+/// Where all nodes of a component of such a world are in self identify or A0, and one isn't in A0,
+/// exactly one of these is there: one Grant under way, one Done under way, or one granted node
 /// in self identify that waits for no child that it asked.
 pub fn self_identify_goes_on()
     ensures { SelfIdentifyGoesOn }
@@ -99,8 +100,9 @@ pub fn resets_spread()
     ensures taken { EntriesTakeOver }
 {}
 
-/// Where of a fresh component without loop one node alone waits to become root, it does: at each
-/// turn after 2 n d + 81 d, at most 207 d, it is the root, and each other node has a parent port.
+/// Where of a fresh component without loop one node alone waits to become root, and is given time
+/// enough for it, it does: at each turn after 2 n d + H + d, where H is the longest hold of the
+/// world, it is the root, and each other node has a parent port.
 /// The cables show its tree. From n d turns on each node past T0 has its port towards it for parent
 /// port, and nobody draws a coin.
 pub fn waiting_nodes_become_roots()
@@ -158,11 +160,12 @@ pub fn worlds_stay_numbering()
     ensures turn { KeptByTurn IsNumbering }
     ensures hold { KeptByHold IsNumbering }
     ensures act { KeptByAct IsNumbering }
-    ensures reached { HoldsOfReached IsNumbering }
+    ensures reached { HoldsFromPowerOn IsNumbering }
 {}
 
-/// Every component with a loop comes to the outcome Loop: after n d + 100 d + 600 d quiet turns
-/// each node of its core reports the timeout, and no node of it has an ID.
+/// Every component with a loop comes to the outcome Loop: after n d + H + d + T + 1 quiet turns,
+/// where H is the longest hold and T the longest timeout of the world, each node of its core reports
+/// the timeout, and no node of it has an ID.
 pub fn loops_come_out()
     ensures { LoopsComeOut }
 {}
@@ -179,6 +182,14 @@ pub fn components_settle()
     cores_exist();
 }
 
+/// For as many quiet turns as a world is given to settle, `quiet_turns` of its number of nodes and d
+/// are enough where its times are short enough for that, and so where the times of nodes are in their
+/// ranges.
+pub fn quiet_turns_are_enough()
+    ensures short { QuietTurnsAreEnough }
+    ensures in_range { InRangeIsEnough }
+{}
+
 /// Once as many quiet turns as `components_settle` counts were done, every component has an outcome
 /// at each later moment, whatever holds and turns follow.
 pub fn components_stay_settled()
@@ -188,7 +199,7 @@ pub fn components_stay_settled()
     cores_exist();
 }
 
-/// A component of a reached world that has come to a tree stays in it, with the same root, IDs and
+/// A component of a world that comes of power-on, and that has come to a tree, stays in it, with the same root, IDs and
 /// lists, in every hold and turn. So it does in every act that resets none of its nodes
 /// (`acts_touch_their_component` of `world_laws`).
 pub fn trees_stay()
@@ -197,10 +208,10 @@ pub fn trees_stay()
     components_exist();
 }
 
-/// Where of a fresh component without loop one node alone waits to become root, it comes to a tree
-/// with that root in as many quiet turns. So it does after a configuration packet with R set that
-/// names one node; from n d turns on each node has the gap count that the packet gave. In a tree
-/// each ID names one node.
+/// Where of a fresh component without loop one node alone waits to become root, and is given time
+/// enough for it, it comes to a tree with that root in as many quiet turns. So it does after a
+/// configuration packet with R set that names one such node; from n d turns on each node has the gap
+/// count that the packet gave. In a tree each ID names one node.
 pub fn forced_roots_settle()
     ensures forced { ForcedRootsSettle }
     ensures names { IdsNameOneNode }

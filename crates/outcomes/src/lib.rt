@@ -14,7 +14,7 @@ mod laws;
 pub use laws::{
     components_settle, components_stay_settled, configs_choose_roots, every_bus_settles,
     forced_roots_settle, lists_follow, loops_come_out, named_roots_are_outcomes,
-    records_fit_self_identify, resets_spread, roots_have_walks, self_identify_goes_on, trees_rest,
-    trees_settle, trees_stay, waiting_nodes_become_roots, walks_are_numbered, walks_stay,
-    worlds_stay_identifying, worlds_stay_numbering,
+    quiet_turns_are_enough, records_fit_self_identify, resets_spread, roots_have_walks,
+    self_identify_goes_on, trees_rest, trees_settle, trees_stay, waiting_nodes_become_roots,
+    walks_are_numbered, walks_stay, worlds_stay_identifying, worlds_stay_numbering,
 };

@@ -9,6 +9,7 @@ use Rattle.outcomes.proofs.walks.WaysUp.{ways}
 use Rattle.convergence.proofs.Lemmas.{one-root, resets-done, done-at}
 use Rattle.outcomes.proofs.forced.FreeTrees.{all-late}
 use Rattle.outcomes.proofs.roots.RootWalk.{root-walk}
+use Rattle.outcomes.specs.Forced.{CanBeForcedAt}
 use Rattle.outcomes.proofs.forced.Waits.{steadily, late-parentless, spread-most, forces, waiting}
 
 node-at :
@@ -21,7 +22,7 @@ node-at v k h = elim (slice_get_cases v.nodes k).1 [
 module _
     (hs : HoldSchedule) (w : CableWorld) (l : IsLawful w) (node set core : ℕ) (comp : IsComponent w.cabling node set)
     (is_core : IsCore w.cabling set core) (empty : IsEmpty core) (small : set < 2 ^ 63)
-    (fresh : IsFresh w set) (f : ℕ) (alone : WaitsAlone w set f) where
+    (fresh : IsFresh w set) (f : ℕ) (alone : WaitsAlone w set f) (can : CanBeForcedAt w f) where
   abbrev spread : ℕ
   spread = length w.nodes * w.delay
 
@@ -88,7 +89,7 @@ module _
       let z : enough + 0 ≡ spread + (w.longest.hold + w.delay + spread) = omega arith in
       let soon : spread + (w.longest.hold + w.delay + spread) ≤ w.longest.hold + 127 * w.delay = omega (arith, spread-most hs w l node set comp fresh, l.well_formed.some_delay) in
       let n : enough ≤ enough + 0 = omega arith in
-      (waiting hs w l node set comp fresh (w.longest.hold + w.delay + spread) f x soon alone.holds alone.waits (subst (λ n. slice_get (quiet_after hs n w).nodes f ≡ Some x) z at)).late (late (enough + 0) n f x alone.holds at)
+      (waiting hs w l node set comp fresh (w.longest.hold + w.delay + spread) f x can soon alone.holds alone.waits (subst (λ n. slice_get (quiet_after hs n w).nodes f ≡ Some x) z at)).late (late (enough + 0) n f x alone.holds at)
   parentless (suc i) x at =
       let z : enough + suc i ≡ enough + i + 1 = omega arith in
       let past : spread ≤ enough + i = omega arith in

@@ -17,6 +17,7 @@ use Rattle.convergence.proofs.Lemmas.{late-start}
 use Rattle.outcomes.proofs.forced.Forced.{kept-heard, Takes, tick-takes}
 use Rattle.outcomes.proofs.forced.ForcedRoot.{up, late, parentless, enough}
 use Rattle.outcomes.proofs.forced.Spread.{Turned, turned, all-reset, some-nodes}
+use Rattle.outcomes.specs.Forced.{CanBeForcedAt}
 use Rattle.outcomes.proofs.forced.Waits.{outside, steadily, spread-most, waiting}
 
 -- ---- ticks
@@ -99,7 +100,7 @@ start-calm h e = grind arith
 module _
     (hs : HoldSchedule) (w : CableWorld) (l : IsLawful w) (node set core : ℕ) (comp : IsComponent w.cabling node set)
     (is_core : IsCore w.cabling set core) (empty : IsEmpty core) (small : set < 2 ^ 63)
-    (fresh : IsFresh w set) (f : ℕ) (alone : WaitsAlone w set f) where
+    (fresh : IsFresh w set) (f : ℕ) (alone : WaitsAlone w set f) (can : CanBeForcedAt w f) where
   abbrev spread : ℕ
   spread = length w.nodes * w.delay
 
@@ -195,7 +196,7 @@ module _
 
   -- the port of each node towards the one that waits
   abbrev pub way : ℕ → Option ℕ
-  way = (up hs w l node set core comp is_core empty small fresh f alone).0
+  way = (up hs w l node set core comp is_core empty small fresh f alone can).0
 
   -- what is so of each node
   pub record Faces (i k : ℕ) (x : NodeState) : Type 0 where
@@ -292,9 +293,9 @@ module _
       (k p : ℕ) → Holds set k → way k ≡ Some p → (b : End) × (far w.cabling (end_at k p) ≡ Some b)
       × (way b.node ≢ Some b.port)
   way-leads k p h e = elim (cases_eq k f) [
-    | inl same ↦ (let none : None ≡ Some p = sym (ap way same ∙ (up hs w l node set core comp is_core empty small fresh f alone).1.ups.none) ∙ e in absurd cc)
+    | inl same ↦ (let none : None ≡ Some p = sym (ap way same ∙ (up hs w l node set core comp is_core empty small fresh f alone can).1.ups.none) ∙ e in absurd cc)
     | inr other ↦
-        let u : LeadsUp w.cabling way k = (up hs w l node set core comp is_core empty small fresh f alone).1.ups.others k h other in
+        let u : LeadsUp w.cabling way k = (up hs w l node set core comp is_core empty small fresh f alone can).1.ups.others k h other in
         let same : u.port ≡ p = some-same u.port p (sym u.is ∙ e) in
         (u.end, ap (λ q. far w.cabling (end_at k q)) (sym same) ∙ u.joined, u.child)
   ]
@@ -317,11 +318,11 @@ module _
   alone-parentless i y past at g = elim (cases_lt i (w.longest.hold + 127 * w.delay + 1)) [
     | inl soon ↦
         let z : i ≡ spread + (i - spread) = omega (arith, past) in
-        (waiting hs w l node set comp fresh (i - spread) f y (omega (arith, soon, past)) alone.holds alone.waits (subst (λ n. slice_get (quiet_after hs n w).nodes f ≡ Some y) z at)).late g
+        (waiting hs w l node set comp fresh (i - spread) f y can (omega (arith, soon, past)) alone.holds alone.waits (subst (λ n. slice_get (quiet_after hs n w).nodes f ≡ Some y) z at)).late g
     | inr later ↦
-        let most : enough hs w l node set core comp is_core empty small fresh f alone ≤ i = omega (arith, later, spread-most hs w l node set comp fresh) in
-        let z : i ≡ enough hs w l node set core comp is_core empty small fresh f alone + (i - enough hs w l node set core comp is_core empty small fresh f alone) = omega (arith, most) in
-        parentless hs w l node set core comp is_core empty small fresh f alone (i - enough hs w l node set core comp is_core empty small fresh f alone) y (subst (λ n. slice_get (quiet_after hs n w).nodes f ≡ Some y) z at)
+        let most : enough hs w l node set core comp is_core empty small fresh f alone can ≤ i = omega (arith, later, spread-most hs w l node set comp fresh) in
+        let z : i ≡ enough hs w l node set core comp is_core empty small fresh f alone can + (i - enough hs w l node set core comp is_core empty small fresh f alone can) = omega (arith, most) in
+        parentless hs w l node set core comp is_core empty small fresh f alone can (i - enough hs w l node set core comp is_core empty small fresh f alone can) y (subst (λ n. slice_get (quiet_after hs n w).nodes f ≡ Some y) z at)
   ]
 
   module _
@@ -351,7 +352,7 @@ module _
         taken : is_before_tree now.view.phase ≡ true → k ≢ f → y.state.view.parent ≡ way k
         taken e other =
             let takes : Takes now (tick (coin c.node.coins) now).state = tick-takes (coin c.node.coins) now e (sym (ap (λ (z : NodeState). is_before_tree z.view.phase) c.is) ∙ g) in
-            let u : LeadsUp w.cabling way k = (up hs w l node set core comp is_core empty small fresh f alone).1.ups.others k h other in
+            let u : LeadsUp w.cabling way k = (up hs w l node set core comp is_core empty small fresh f alone can).1.ups.others k h other in
             let out_x : is_resetting c.node.state.view.phase ≡ false = ap is_resetting (sym c.heard.phase ∙ takes.start) in
             let quiet : is_parent (level_shown now u.port) ≡ false = heard-unasked i past all k c.node h c.at out_x u.port u.end u.joined u.child in
             let left : is_port (lowest is_remaining now.view.ports) u.port ≡ true = left-parent (raise_timer now) u.port takes.decided (on i past all k c.node h c.at out_x u.port u.end u.joined u.child) quiet in
@@ -363,7 +364,7 @@ module _
           | inl same ↦
               let late : spread ≤ i + 1 = omega (arith, past) in
               alone-parentless (i + 1) y late (subst (λ j. slice_get (quiet_after hs (i + 1) w).nodes j ≡ Some y) same at) g
-              ∙ sym (ap way same ∙ (up hs w l node set core comp is_core empty small fresh f alone).1.ups.none)
+              ∙ sym (ap way same ∙ (up hs w l node set core comp is_core empty small fresh f alone can).1.ups.none)
           | inr other ↦ taken e other
         ]
 
@@ -402,7 +403,7 @@ module _
   pub faces-up :
       (i k : ℕ) (x : PortNode) → length w.nodes * w.delay ≤ i → Holds set k →
       slice_get (quiet_after hs i w).nodes k ≡ Some x → is_before_tree x.state.view.phase ≡ false →
-      x.state.view.parent ≡ (up hs w l node set core comp is_core empty small fresh f alone).0 k
+      x.state.view.parent ≡ (up hs w l node set core comp is_core empty small fresh f alone can).0 k
   faces-up i k x past h at g = (at-all i past k x h at).faces g
 
   pub no-draws :

@@ -6,10 +6,11 @@ use Rattle.std.proofs.Common.{◌≡◌, inl, inr, ℕ, zero, suc, ◌+◌, ◌-
 use Rattle.std.proofs.lemmas.Bool.{eq-eqb}
 use Rattle.outcomes.proofs.Common.{contrary, Phase, NodeState, Timing, coin, is_port, is_resetting, raise_timer, tick, PortNode, Holds, IsComponent, CableWorld, turn, is_before_tree, is_after_hold, IsLawful, IsFresh, Shows, in-turn, after-delay, some-of, some-same, risen, one-quiet, no-quiet, quiet-lawful, HoldSchedule, quiet_after, waits_due, gap_due, Calmly, signals, heard_by, parent-was}
 use Rattle.port_state.specs.declared.signal.Phase.TheVariants as phase
-use Rattle.cable_world.specs.Times.{Suits}
+use Rattle.cable_world.specs.Times.{Suits, CanBeForced}
+use Rattle.outcomes.specs.Forced.{CanBeForcedAt}
 use Rattle.port_state.specs.declared.view.View.{View}
 use Rattle.cable_world.specs.Phases.{is_timed}
-use Rattle.cable_world.proofs.Lemmas.{after-longest, steady}
+use Rattle.cable_world.proofs.Lemmas.{quiet-timed, steady}
 use Rattle.convergence.proofs.Lemmas.{late-start}
 use Rattle.outcomes.proofs.forced.Forced.{SameDue, due-heard, kept-heard, tick-holds, Takes, tick-takes, waits-parentless}
 use Rattle.outcomes.proofs.forced.Spread.{Turned, turned, spreads, all-reset}
@@ -118,7 +119,7 @@ module _
     | inr start ↦ contrary (ap is_before_tree (sym c.heard.phase ∙ start)) past
   ])
 
-  module _ (q : Waiting i c.node.state) (soon : i + 1 ≤ w.longest.hold + 127 * w.delay) where
+  module _ (q : Waiting i c.node.state) (can : CanBeForcedAt w k) (soon : i + 1 ≤ w.longest.hold + 127 * w.delay) where
     same-hold : y.state.timing.hold ≡ c.node.state.timing.hold
     same-hold = ap (λ (z : NodeState). z.timing.hold) c.is ∙ ap (λ (z : Timing). z.hold) (c.ticks.timing ∙ c.hears.timing)
 
@@ -152,9 +153,9 @@ module _
         go true e =
             let takes : Takes now (tick (coin c.node.coins) now).state = tick-takes (coin c.node.coins) now (ap is_before_tree c.heard.phase ∙ e) (sym (ap (λ (z : NodeState). is_before_tree z.view.phase) c.is) ∙ h) in
             let timer : c.node.state.view.timer + c.node.state.timing.hold ≤ i = q.tree (sym c.heard.phase ∙ takes.start) in
-            let fits : Suits v.delay v.longest c.node.state.timing = ((quiet-lawful hs i w l).well_formed.nodes k c.node c.at).timing in
-            let force : w.longest.hold + 127 * w.delay < c.node.state.timing.hold + now.timing.force =
-            omega (arith, fits.force_least, ap (λ (z : Timing). z.force) c.hears.timing, ap (λ (z : Timing). z.hold) (after-longest hs w l i), after-delay hs w l i) in
+            let time : CanBeForced w.delay w.longest c.node.state.timing =
+            quiet-timed (λ j t. j ≡ k → CanBeForced w.delay w.longest t) hs i w l (λ j x at_j same. can x (subst (λ n. slice_get w.nodes n ≡ Some x) same at_j)) k c.node c.at refl in
+            let force : w.longest.hold + 127 * w.delay < c.node.state.timing.hold + now.timing.force = omega (arith, time.enough, ap (λ (z : Timing). z.force) c.hears.timing) in
             let waits : now.view.force ≡ true = (kept-heard (signals v k) c.node.state (ap is_resetting c.heard.phase)).0 ∙ q.waits in
             ap (λ (z : NodeState). z.view.parent) c.is ∙ takes.parent
             ∙ waits-parentless (raise_timer now) takes.decided waits (low now.view.timer c.node.state.view.timer c.node.state.timing.hold i now.timing.force (w.longest.hold + 127 * w.delay) c.heard.timer timer force soon)
@@ -317,11 +318,11 @@ module _
 
   -- so a node that waits takes no parent port in these turns
   pub waiting :
-      (j k : ℕ) (x : PortNode) → spread + j ≤ w.longest.hold + 127 * w.delay → Holds set k →
+      (j k : ℕ) (x : PortNode) → CanBeForcedAt w k → spread + j ≤ w.longest.hold + 127 * w.delay → Holds set k →
       Shows w k (λ v. waits_due v ≡ true) →
       slice_get (quiet_after hs (spread + j) w).nodes k ≡ Some x →
       Waiting (spread + j) x.state
-  waiting zero k x soon h due at = record {
+  waiting zero k x can soon h due at = record {
     waits = forces 0 k true x h due at;
     start = λ r. omega (arith, there.1);
     between = λ b. contrary there.0 (between-out x.state.view.phase b);
@@ -334,10 +335,10 @@ module _
 
       there : (is_resetting x.state.view.phase ≡ true) × (x.state.view.timer ≤ spread)
       there = all-reset hs w l node set comp fresh spread spread-after in-time k x h (subst (λ n. slice_get (quiet_after hs n w).nodes k ≡ Some x) z at)
-  waiting (suc j) k x soon h due at =
+  waiting (suc j) k x can soon h due at =
       let z : spread + suc j ≡ spread + j + 1 = omega arith in
       let late : spread ≤ spread + j = omega arith in
       let there : slice_get (quiet_after hs (spread + j + 1) w).nodes k ≡ Some x = subst (λ n. slice_get (quiet_after hs n w).nodes k ≡ Some x) z at in
       let q : Calmly (quiet_after hs (spread + j) w) k x.state = steadily hs w l (spread + j) late k x there in
       subst (λ n. Waiting n x.state) (sym z)
-      (waits-on hs w l (spread + j) late k x there (waiting j k q.node (omega (arith, soon)) h due q.at) (omega (arith, soon)))
+      (waits-on hs w l (spread + j) late k x there (waiting j k q.node can (omega (arith, soon)) h due q.at) can (omega (arith, soon)))

@@ -1,7 +1,7 @@
 -- What is so of self identify holds in every world that comes of a power-on world.
 use Rattle.std.proofs.Common.{ℕ}
-use Rattle.outcomes.proofs.Common.{CableWorld, IsReached, IsLawful, HoldSchedule, quiet_after, IsIdentifying}
-use Rattle.convergence.proofs.Lemmas.{kept-quiet, IsKept, kept-reached}
+use Rattle.outcomes.proofs.Common.{CableWorld, ComesOfPowerOn, IsLawful, HoldSchedule, quiet_after, IsIdentifying}
+use Rattle.convergence.proofs.Lemmas.{kept-quiet, IsKept, kept-comes}
 use Rattle.outcomes.proofs.identify.IdentifyingTurn.{turn-identifying}
 use Rattle.outcomes.proofs.identify.IdentifyingActs.{act-identifying, hold-identifying, power-on-identifying}
 
@@ -13,8 +13,8 @@ identifying-kept = record {
   act = act-identifying;
 }
 
-pub reached-identifying : (w : CableWorld) → IsReached w → IsIdentifying w
-reached-identifying = kept-reached IsIdentifying identifying-kept
+pub comes-identifying : (w : CableWorld) → ComesOfPowerOn w → IsIdentifying w
+comes-identifying = kept-comes IsIdentifying identifying-kept
 
 pub quiet-identifying :
     (hs : HoldSchedule) (k : ℕ) (w : CableWorld) → IsLawful w → IsIdentifying w →

@@ -4,7 +4,7 @@ use Rattle.std.proofs.Common.{length-append, ◌≡◌, inl, inr, ℕ, zero, suc
 use Rattle.std.specs.Prelude.{nat_le}
 use Rattle.std.proofs.lemmas.Bool.{le-leb, and_parts, and_from, eq-eqb}
 use Rattle.std.proofs.lemmas.Option.{slice_get_within}
-use Rattle.outcomes.proofs.Common.{Node, group, node_count, Tree, emits, End, far, ports_of, Holds, IsClosed, numbers, emit, Phase, Signal, NodeState, coin, is_unnamed, lowest, sent_on, silent_step, hears_packets, hears, is_heard, on_signal, may_name, shown_node, own_group, PortNode, raise_timer, row_of, does, tick, age_wire, gives, CableWorld, wire_of, inbox, turn, hear_all, IsReached, signals_of, IsLawful, IsTree, before, hear-stays, turn-lawful, reached-lawful, turn-state, comes, no-packets, one-quiet, quiet-lawful, joined-of, reached-acyclic, quiet-acyclic, IsAcyclic, ResetsAreOverIn, AreIdentifying, is_ready, is_asked, is_named, is_message, silent, quads_in, has_grant, has_done, kept, parent_mode, child_mode, IsIdentifying, place_now, IsSettling, IsAtRest, HoldSchedule, with_holds, quiet_after, end_at}
+use Rattle.outcomes.proofs.Common.{Node, group, node_count, Tree, emits, End, far, ports_of, Holds, IsClosed, numbers, emit, Phase, Signal, NodeState, coin, is_unnamed, lowest, sent_on, silent_step, hears_packets, hears, is_heard, on_signal, may_name, shown_node, own_group, PortNode, raise_timer, row_of, does, tick, age_wire, gives, CableWorld, wire_of, inbox, turn, hear_all, ComesOfPowerOn, signals_of, IsLawful, IsTree, before, hear-stays, turn-lawful, comes-lawful, turn-state, comes, no-packets, one-quiet, quiet-lawful, joined-of, comes-acyclic, quiet-acyclic, IsAcyclic, ResetsAreOverIn, AreIdentifying, is_ready, is_asked, is_named, is_message, silent, quads_in, has_grant, has_done, kept, parent_mode, child_mode, IsIdentifying, place_now, IsSettling, IsAtRest, HoldSchedule, with_holds, quiet_after, end_at}
 use Rattle.self_id.proofs.Lemmas.{three_packets}
 use Rattle.port_state.specs.declared.signal.Phase.TheVariants as phase
 use Rattle.port_state.specs.declared.signal.Signal.TheVariants as signal
@@ -24,7 +24,7 @@ use Rattle.outcomes.proofs.roots.Named.{named-tree}
 use Rattle.outcomes.proofs.numbers.NumberedTurn.{still-there, nothing-comes, heard-so, stayed}
 use Rattle.outcomes.proofs.roots.RootWalk.{node-at}
 use Rattle.outcomes.proofs.numbers.Settling.{Up, climbs, settles-on}
-use Rattle.outcomes.proofs.identify.StaysIdentifying.{reached-identifying, quiet-identifying}
+use Rattle.outcomes.proofs.identify.StaysIdentifying.{comes-identifying, quiet-identifying}
 
 -- ---- the room for a group
 
@@ -328,19 +328,19 @@ module _
 -- ---- quiet turns of a reached world
 
 module _
-    (hs : HoldSchedule) (w : CableWorld) (r : IsReached w) (k : ℕ) (late : length w.nodes * w.delay ≤ k)
+    (hs : HoldSchedule) (w : CableWorld) (r : ComesOfPowerOn w) (k : ℕ) (late : length w.nodes * w.delay ≤ k)
     (set core root : ℕ) (t : Tree) where
   abbrev pub at-turn : ℕ → CableWorld
   at-turn j = quiet_after hs (k + j) w
 
   pub lawful-then : (j : ℕ) → IsLawful (at-turn j)
-  lawful-then j = quiet-lawful hs (k + j) w (reached-lawful w r)
+  lawful-then j = quiet-lawful hs (k + j) w (comes-lawful w r)
 
   pub acyclic-then : (j : ℕ) → IsAcyclic (at-turn j)
-  acyclic-then j = quiet-acyclic hs (k + j) w (reached-lawful w r) (reached-acyclic w r)
+  acyclic-then j = quiet-acyclic hs (k + j) w (comes-lawful w r) (comes-acyclic w r)
 
   pub identifying-then : (j : ℕ) → IsIdentifying (at-turn j)
-  identifying-then j = quiet-identifying hs (k + j) w (reached-lawful w r) (reached-identifying w r)
+  identifying-then j = quiet-identifying hs (k + j) w (comes-lawful w r) (comes-identifying w r)
 
   pub next-turn : (j : ℕ) → with_holds (hs (k + j + 1)) (turn (at-turn j)) ≡ at-turn (suc j)
   next-turn j = sym (one-quiet hs (k + j) w) ∙ ap (λ (n : ℕ). quiet_after hs n w) (let e : k + j + 1 ≡ k + suc j = omega arith in e)

@@ -4,7 +4,7 @@
 use Rattle.std.proofs.Common.{◌≡◌, ◌⊎◌, inl, inr, ℕ, zero, suc, ◌+◌, ◌-◌, ◌*◌, ◌<◌, ◌≤◌, Bool, true, false, not, ◌&&◌, List, [], ◌∷◌, length, Option, Some, None, slice_get, refl, sym, ◌∙◌, ap, subst, arith}
 use Rattle.std.proofs.lemmas.Option.{slice_get_within}
 use Rattle.phy_packet.specs.Layout.{bit}
-use Rattle.outcomes.proofs.Common.{Tree, End, Wiring, far, Holds, numbers, Signal, NodeState, PortNode, Travelling, CableWorld, wire_of, IsReached, turn_at, turn, signals_of, IsLawful, cabling-after, node-after, some-same, after-delay, reached-lawful, turn-lawful, port-is, joined-of, IsAcyclic, is_ready, is_asked, is_named, silent, is_grant, is_done, has_grant, has_done, parent_mode, child_mode, IsIdentifying, parent_of, parent_now, place_now, IsSettling, is_port, contrary, PlacedHold, HoldSchedule, with_holds, quiet_after, end_at}
+use Rattle.outcomes.proofs.Common.{Tree, End, Wiring, far, Holds, numbers, Signal, NodeState, PortNode, Travelling, CableWorld, wire_of, ComesOfPowerOn, turn_at, turn, signals_of, IsLawful, cabling-after, node-after, some-same, after-delay, comes-lawful, turn-lawful, port-is, joined-of, IsAcyclic, is_ready, is_asked, is_named, silent, is_grant, is_done, has_grant, has_done, parent_mode, child_mode, IsIdentifying, parent_of, parent_now, place_now, IsSettling, is_port, contrary, PlacedHold, HoldSchedule, with_holds, quiet_after, end_at}
 use Rattle.cable_world.specs.Wire.{Wire}
 use Rattle.cable_world.proofs.Lemmas.{holds-signals}
 use Rattle.outcomes.specs.Holders.{Holder, grant, done, node, IsHolder, HasTurn, HasOneHolder}
@@ -228,7 +228,7 @@ link-end v l a b n f =
     ∙ ap (of-end f v) (l.well_formed.cabling.both_ways a b n.joined) ∙ ap (of-node (λ x. f x a.port)) n.above_at
 
 module _
-    (hs : HoldSchedule) (w : CableWorld) (r : IsReached w) (k : ℕ) (late : length w.nodes * w.delay ≤ k)
+    (hs : HoldSchedule) (w : CableWorld) (r : ComesOfPowerOn w) (k : ℕ) (late : length w.nodes * w.delay ≤ k)
     (set core root : ℕ) (t : Tree) (s0 : IsSettling (quiet_after hs k w) set core root t) where
   abbrev pub W : ℕ → CableWorld
   W j = quiet_after hs (k + j) w
@@ -335,7 +335,7 @@ module _
   comes-by test is j a b h e old = elim (travels test is j a b h e old w.delay) [
     | inr m ↦ m
     | inl o ↦ absurd (none-older test ((W (j + w.delay)).delay - 1) w.delay (wire_of (W (j + w.delay)) a).signals
-        (omega (arith, after-delay hs w (reached-lawful w r) (k + (j + w.delay)), (reached-lawful w r).well_formed.some_delay)) ((L (j + w.delay)).well_formed.ages a) o)
+        (omega (arith, after-delay hs w (comes-lawful w r) (k + (j + w.delay)), (comes-lawful w r).well_formed.some_delay)) ((L (j + w.delay)).well_formed.ages a) o)
   ]
 
   -- ---- and so the count rises
@@ -393,7 +393,7 @@ module _
       let world : with_holds (hs (k + j + 1)) (turn (W j)) ≡ W (j + 1) = next j ∙ ap W (let e : suc j ≡ j + 1 = omega arith in e) in
       let at_1 : slice_get (W (j + 1)).nodes q ≡ Some z = sym (ap (λ (v : CableWorld). slice_get v.nodes q) world) ∙ at_z in
       let unready : is_ready x.state.view.phase ≡ false = ap is_ready turn-of.identifies in
-      let d : 1 ≤ w.delay = (reached-lawful w r).well_formed.some_delay in
+      let d : 1 ≤ w.delay = (comes-lawful w r).well_formed.some_delay in
       elim (turn-used (W j) (L j) (I j) set core root t (S j) (A j) q x z h turn-of.at at_z turn-of.granted unready turn-of.awaits_none) [
         | inl done-so ↦ record { turns = 1; within = d; node = q; inside = h; news = coming (ap (of-node (λ v. is_ready v.view.phase)) turn-of.at ∙ unready) (ap (of-node (λ v. is_ready v.view.phase)) at_1 ∙ done-so) }
         | inr ask ↦ asks-one x z ask.0 turn-of.at at_1 d ask.1 ask.2

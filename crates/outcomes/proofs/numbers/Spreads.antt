@@ -1,6 +1,6 @@
 -- Once all nodes are in A0 the root's list spreads: on each cable the packets come within d turns.
 use Rattle.std.proofs.Common.{length-append, ◌≡◌, inl, inr, ℕ, zero, suc, ◌+◌, ◌-◌, ◌*◌, ◌<◌, ◌≤◌, Bool, true, false, not, ◌&&◌, ◌||◌, List, [], ◌∷◌, ◌++◌, map, length, Option, Some, slice_get, refl, sym, ◌∙◌, ap, subst, arith, true≢false, if◌then◌else◌}
-use Rattle.outcomes.proofs.Common.{Tree, emits, End, Wiring, Holds, PortNode, new_signal, age_signal, age_wire, gives, CableWorld, wire_of, IsReached, turn_at, turn, signals_of, IsLawful, node-after, side, side-wire, after-delay, some-same, departures, ticking, reached-lawful, is_ready, is_asked, is_named, silent, quads_in, has_grant, has_done, MessagesSince, parent_mode, child_mode, allows, IsSettling, IsAtRest, IsTree, HoldSchedule, quiet_after, parent_of, parent_now, place_now, numbers, mark, emit, is_port, contrary, joined-of, end_at}
+use Rattle.outcomes.proofs.Common.{Tree, emits, End, Wiring, Holds, PortNode, new_signal, age_signal, age_wire, gives, CableWorld, wire_of, ComesOfPowerOn, turn_at, turn, signals_of, IsLawful, node-after, side, side-wire, after-delay, some-same, departures, ticking, comes-lawful, is_ready, is_asked, is_named, silent, quads_in, has_grant, has_done, MessagesSince, parent_mode, child_mode, allows, IsSettling, IsAtRest, IsTree, HoldSchedule, quiet_after, parent_of, parent_now, place_now, numbers, mark, emit, is_port, contrary, joined-of, end_at}
 use Rattle.port_state.specs.declared.signal.Signal.TheVariants as signal
 use Rattle.cable_world.proofs.Lemmas.{side-node}
 use Rattle.outcomes.specs.Messages as message
@@ -34,7 +34,7 @@ ready-grants : (r g : Bool) → r ≡ true → allows (parent_mode r g) signal.G
 ready-grants r g e = grind arith
 
 module _
-    (hs : HoldSchedule) (w : CableWorld) (r : IsReached w) (k : ℕ) (late : length w.nodes * w.delay ≤ k)
+    (hs : HoldSchedule) (w : CableWorld) (r : ComesOfPowerOn w) (k : ℕ) (late : length w.nodes * w.delay ≤ k)
     (set core root : ℕ) (t : Tree) (s0 : IsSettling (quiet_after hs k w) set core root t) where
   abbrev V : ℕ → CableWorld
   V j = quiet_after hs (k + j) w
@@ -118,7 +118,7 @@ module _
       (j : ℕ) (a b : End) → Holds set a.node → AllReady j → Link (V j) a b →
       ((m : ℕ) → HasAll (j + m) a.node) → HasAll (j + w.delay) b.node
   child-has j a b h rd n has x at =
-      let d : (V (j + w.delay)).delay ≡ w.delay = after-delay hs w (reached-lawful w r) (k + (j + w.delay)) in
+      let d : (V (j + w.delay)).delay ≡ w.delay = after-delay hs w (comes-lawful w r) (k + (j + w.delay)) in
       let n1 = link-on hs w r k late set core root t s0 j w.delay a b h n in
       let i1 = I hs w r k late set core root t s0 (j + w.delay) in
       let rd1 = ready-later j w.delay rd in

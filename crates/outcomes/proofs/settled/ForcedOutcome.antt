@@ -3,13 +3,13 @@
 use Rattle.std.proofs.Common.{◌≡◌, ◌≢◌, inl, inr, ℕ, zero, suc, ◌+◌, ◌-◌, ◌*◌, ◌^◌, ◌<◌, ◌≤◌, true, false, Option, Some, None, IsSome, length, slice_get, sym, ◌∙◌, ap, subst, arith, true≢false}
 use Rattle.std.proofs.lemmas.Bool.{cases_eq}
 use Rattle.std.proofs.lemmas.Option.{slice_get_cases, slice_get_within}
-use Rattle.outcomes.proofs.Common.{Tree, Wiring, Holds, IsComponent, shared, IsCore, numbers, Phase, config_packet, PortNode, node_disturb, node_set_config, Config, CableWorld, IsReached, IsAct, act_fault, change_in_set, is_in_bus_reset, Shows, IsTree, IsSettled, loop, tree, contention, some-of, some-at, some-same, start-before_tree, reached-lawful, act-reached, after-length, after-cabling, HoldSchedule, quiet_after, reached-contested, IsNamedAlone, IsIdentifying, is_ready}
+use Rattle.outcomes.proofs.Common.{Tree, Wiring, Holds, IsComponent, shared, IsCore, numbers, Phase, config_packet, PortNode, node_disturb, node_set_config, Config, CableWorld, ComesOfPowerOn, IsAct, act_fault, change_in_set, is_in_bus_reset, Shows, IsTree, IsSettled, loop, tree, contention, some-of, some-at, some-same, start-before_tree, comes-lawful, act-comes, after-length, after-cabling, HoldSchedule, quiet_after, comes-contested, IsNamedAlone, IsIdentifying, is_ready}
 use Rattle.port_state.specs.Config.{gap_or}
 use Rattle.cable_world.specs.Outcome.{HasNoLoop, Outcome, IsOutcome}
 use Rattle.cable_world.proofs.Lemmas.{step-cables}
 use Rattle.convergence.proofs.Lemmas.{quiet-contested}
 use Rattle.convergence.specs.Turns.{turns_to_settle, turns_to_over}
-use Rattle.outcomes.specs.Forced.{IsForced, IsRooted, NamesRoot}
+use Rattle.outcomes.specs.Forced.{CanBeForcedAt, IsForced, IsRooted, NamesRoot}
 use Rattle.outcomes.proofs.forced.Configured.{configured}
 use Rattle.outcomes.proofs.forced.ForcedRoot as forced
 use Rattle.outcomes.proofs.forced.Spread.{all-reset}
@@ -21,7 +21,7 @@ use Rattle.outcomes.proofs.settled.QuietTurns.{few-nodes, settles-at-last}
 -- ---- a component in which one node is forced
 
 module _
-    (hs : HoldSchedule) (w : CableWorld) (r : IsReached w) (node set root : ℕ) (f : IsForced w node set root)
+    (hs : HoldSchedule) (w : CableWorld) (r : ComesOfPowerOn w) (node set root : ℕ) (f : IsForced w node set root)
     (small : set < 2 ^ 63) (k : ℕ) (quiet : turns_to_settle w ≤ k) where
   abbrev v : CableWorld
   v = quiet_after hs k w
@@ -37,9 +37,9 @@ module _
 
   rooted : IsRooted v set root
   rooted = record {
-    is_root = forced.root hs w f.lawful node set core f.component f.no_loop.is_core f.no_loop.empty small f.fresh root f.alone k (omega (arith, late));
-    late = forced.late hs w f.lawful node set core f.component f.no_loop.is_core f.no_loop.empty small f.fresh root f.alone k (omega (arith, late));
-    parents = forced.others hs w f.lawful node set core f.component f.no_loop.is_core f.no_loop.empty small f.fresh root f.alone k (omega (arith, late));
+    is_root = forced.root hs w f.lawful node set core f.component f.no_loop.is_core f.no_loop.empty small f.fresh root f.alone f.enough k (omega (arith, late));
+    late = forced.late hs w f.lawful node set core f.component f.no_loop.is_core f.no_loop.empty small f.fresh root f.alone f.enough k (omega (arith, late));
+    parents = forced.others hs w f.lawful node set core f.component f.no_loop.is_core f.no_loop.empty small f.fresh root f.alone f.enough k (omega (arith, late));
   }
 
   -- nobody draws a coin
@@ -51,12 +51,12 @@ module _
       let z : first + 0 ≡ first = omega arith in
       let here : slice_get (quiet_after hs first w).nodes j ≡ Some x = subst (λ n. slice_get (quiet_after hs n w).nodes j ≡ Some x) z at in
       let n = few-nodes w f.lawful in
-      ((quiet-contested hs first w f.lawful (reached-contested w r)).nodes j x here).fresh
+      ((quiet-contested hs first w f.lawful (comes-contested w r)).nodes j x here).fresh
       (start-before_tree x.state.view.phase (all-reset hs w f.lawful node set f.component f.fresh first (omega (arith, n.0)) (omega (arith, n.1, f.lawful.well_formed.some_delay)) j x inside here).0)
   undrawn (suc i) j y inside at = elim (slice_get_cases (quiet_after hs (first + i) w).nodes j).1 [
     | inl found ↦
         let z : first + suc i ≡ first + i + 1 = omega arith in
-        no-draws hs w f.lawful node set core f.component f.no_loop.is_core f.no_loop.empty small f.fresh root f.alone (first + i) j found.0 y (omega arith) inside found.2 (subst (λ n. slice_get (quiet_after hs n w).nodes j ≡ Some y) z at)
+        no-draws hs w f.lawful node set core f.component f.no_loop.is_core f.no_loop.empty small f.fresh root f.alone f.enough (first + i) j found.0 y (omega arith) inside found.2 (subst (λ n. slice_get (quiet_after hs n w).nodes j ≡ Some y) z at)
         ∙ undrawn i j found.0 inside found.2
     | inr lacks ↦ absurd (omega (arith, lacks.0, slice_get_within (quiet_after hs (first + suc i) w).nodes j y at, after-length hs w f.lawful (first + i), after-length hs w f.lawful (first + suc i)))
   ]
@@ -130,11 +130,11 @@ named-alone w set old root id t i h inside named = record {
     stands-there = let y = some-of (slice_get w.nodes root) _ named in stands root y.0 inside y.1 y.2
 
 module _
-    (hs : HoldSchedule) (w v : CableWorld) (r : IsReached w) (from id : ℕ) (gap : Option ℕ) (set root : ℕ)
+    (hs : HoldSchedule) (w v : CableWorld) (r : ComesOfPowerOn w) (from id : ℕ) (gap : Option ℕ) (set root : ℕ)
     (n : NamesRoot w v from id gap set root) (is : IsAct (Config from id true gap))
     (none : act_fault (Config from id true gap) w ≡ None) where
-  reached : IsReached v
-  reached = act-reached (Config from id true gap) w v is none n.act r
+  reached : ComesOfPowerOn v
+  reached = act-comes (Config from id true gap) w v is none n.act r
 
   same-cables : v.cabling ≡ w.cabling
   same-cables =
@@ -146,12 +146,12 @@ module _
 
   -- the node that the packet names is the root of the tree
   pub config-outcome :
-      HasNoLoop w set → set < 2 ^ 63 → (k : ℕ) → turns_to_settle v ≤ k →
+      CanBeForcedAt v root → HasNoLoop w set → set < 2 ^ 63 → (k : ℕ) → turns_to_settle v ≤ k →
       (t : Tree) × IsTree (quiet_after hs k v) set root t
-  config-outcome no_loop small k quiet =
+  config-outcome can no_loop small k quiet =
       let c = configured w v from id gap set root n.act n.component n.named in
       forced-outcome hs v reached from set root (record {
-        lawful = reached-lawful v reached;
+        lawful = comes-lawful v reached;
         component = component;
         no_loop = record {
           core = no_loop.core;
@@ -160,6 +160,7 @@ module _
         };
         fresh = c.0;
         alone = c.1;
+        enough = can;
       }) small k quiet
 
   -- and each node has the gap count that it gives
@@ -170,6 +171,6 @@ module _
   config-gaps k j x y late inside at_x at_y = elim (slice_get_cases v.nodes j).1 [
     | inl found ↦
         let c = configured w v from id gap set root n.act n.component n.named in
-        (taken-by hs v (reached-lawful v reached) from set component c.0 k j found.0 y late inside found.2 at_y).1 ∙ c.2 j x found.0 inside at_x found.2
-    | inr lacks ↦ absurd (omega (arith, lacks.0, slice_get_within (quiet_after hs k v).nodes j y at_y, after-length hs v (reached-lawful v reached) k))
+        (taken-by hs v (comes-lawful v reached) from set component c.0 k j found.0 y late inside found.2 at_y).1 ∙ c.2 j x found.0 inside at_x found.2
+    | inr lacks ↦ absurd (omega (arith, lacks.0, slice_get_within (quiet_after hs k v).nodes j y at_y, after-length hs v (comes-lawful v reached) k))
   ]

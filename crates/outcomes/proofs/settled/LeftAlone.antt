@@ -1,7 +1,7 @@
 -- A bus that is left alone settles, and each can be left alone.
 use Rattle.std.proofs.Common.{◌≡◌, ℕ, zero, suc, ◌≤◌, List, [], ◌∷◌, length, refl, ◌∙◌, ap, subst, arith}
 use Rattle.convergence.specs.Turns.{turns_to_settle}
-use Rattle.outcomes.proofs.Common.{Wiring, IsComponent, CableWorld, turn, turns_after, Event, turns, Runs, after-cabling, reached-lawful, after-length, HasNoAct}
+use Rattle.outcomes.proofs.Common.{Wiring, IsComponent, CableWorld, turn, turns_after, Event, turns, Runs, after-cabling, comes-lawful, after-length, HasNoAct}
 use Rattle.outcomes.specs.Settled.{turn_count, EveryQuietRunSettles}
 use Rattle.outcomes.specs.Headline.{IsLeftAlone, EveryBusSettles, AnyBusCanBeLeftAlone}
 use Rattle.outcomes.proofs.settled.QuietRuns.{ComesBy, comes-by}
@@ -11,7 +11,7 @@ pub every-bus : EveryQuietRunSettles → EveryBusSettles
 every-bus every w v r h node set there comp =
     let c : ComesBy w v (turn_count h.events) = comes-by h.events w v h.quiet h.run in
     let cables : v.cabling ≡ w.cabling = ap (λ (u : CableWorld). u.cabling) c.is ∙ after-cabling c.schedule (turn_count h.events) w in
-    let nodes : length v.nodes ≡ length w.nodes = ap (λ (u : CableWorld). length u.nodes) c.is ∙ after-length c.schedule w (reached-lawful w r) (turn_count h.events) in
+    let nodes : length v.nodes ≡ length w.nodes = ap (λ (u : CableWorld). length u.nodes) c.is ∙ after-length c.schedule w (comes-lawful w r) (turn_count h.events) in
     every w v h.events node set r h.quiet h.run h.long (omega (arith, there, nodes)) (subst (λ (d : Wiring). IsComponent d node set) cables comp)
 
 -- ---- turns alone

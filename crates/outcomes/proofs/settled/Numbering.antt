@@ -2,9 +2,9 @@
 -- identify or A0.
 use Rattle.std.proofs.Common.{◌≡◌, inl, inr, ℕ, ◌^◌, ◌<◌, None, Some, length, slice_get, sym, ◌∙◌, ap, subst, arith}
 use Rattle.std.proofs.lemmas.Option.{slice_get_cases, slice_get_within}
-use Rattle.outcomes.proofs.Common.{contrary, End, Wiring, ports_of, Holds, IsComponent, IsCore, hears_packets, PortNode, Act, CableWorld, IsPowerOnWorld, turn, ActLeads, IsAct, act_fault, hold, hold_fault, note_changes, IsReached, IsLawful, acting, turn-lawful, cabling-after, some-same, IsAcyclic, AreIdentifying, turn-acyclic, HoldSchedule, quiet_after, NodeState, IsIdentifying, Settles, IsNumbering}
+use Rattle.outcomes.proofs.Common.{contrary, End, Wiring, ports_of, Holds, IsComponent, IsCore, hears_packets, PortNode, Act, CableWorld, IsPowerOnWorld, turn, ActLeads, IsAct, act_fault, hold, hold_fault, note_changes, ComesOfPowerOn, IsLawful, acting, turn-lawful, cabling-after, some-same, IsAcyclic, AreIdentifying, turn-acyclic, HoldSchedule, quiet_after, NodeState, IsIdentifying, Settles, IsNumbering}
 use Rattle.cable_world.proofs.Lemmas.{act-lawful}
-use Rattle.convergence.proofs.Lemmas.{power-on-acyclic, hold-acyclic, act-acyclic, IsKept, kept-reached, kept-quiet}
+use Rattle.convergence.proofs.Lemmas.{power-on-acyclic, hold-acyclic, act-acyclic, IsKept, kept-comes, kept-quiet}
 use Rattle.outcomes.proofs.identify.IdentifyingTurn.{turn-identifying}
 use Rattle.outcomes.proofs.identify.IdentifyingActs.{act-identifying, hold-identifying, power-on-identifying}
 use Rattle.outcomes.proofs.numbers.HoldRests.{hold-settles}
@@ -115,8 +115,8 @@ numbering-kept = record {
   act = act-numbering;
 }
 
-pub reached-numbering : (w : CableWorld) → IsReached w → IsNumbering w
-reached-numbering = kept-reached IsNumbering numbering-kept
+pub comes-numbering : (w : CableWorld) → ComesOfPowerOn w → IsNumbering w
+comes-numbering = kept-comes IsNumbering numbering-kept
 
 pub quiet-numbering :
     (hs : HoldSchedule) (k : ℕ) (w : CableWorld) → IsLawful w → IsNumbering w →

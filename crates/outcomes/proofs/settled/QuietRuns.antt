@@ -1,7 +1,7 @@
 -- A run of holds and turns is so many quiet turns, with its holds between them.
 use Rattle.std.proofs.Common.{◌≡◌, ℕ, zero, suc, ◌^◌, ◌<◌, ◌≤◌, List, [], ◌∷◌, length, sym, ◌∙◌, ap, subst}
 use Rattle.convergence.specs.Turns.{turns_to_settle}
-use Rattle.outcomes.proofs.Common.{IsComponent, IsCore, CableWorld, IsSettled, turn, Event, acts, holds, turns, Runs, IsReached, PlacedHold, HoldSchedule, with_holds, quiet_after, no-quiet, HasNoAct}
+use Rattle.outcomes.proofs.Common.{IsComponent, IsCore, CableWorld, IsSettled, turn, Event, acts, holds, turns, Runs, ComesOfPowerOn, PlacedHold, HoldSchedule, with_holds, quiet_after, no-quiet, HasNoAct}
 use Rattle.cable_world.specs.Quiet.{no_holds, with_hold}
 use Rattle.cable_world.proofs.Lemmas.{holds-are-calls, quiet-first}
 use Rattle.outcomes.specs.Settled.{turn_count}
@@ -54,7 +54,7 @@ comes-by (holds end n ∷ events) w v none run =
 
 -- so every component settles in it
 pub run-settles :
-    (w v : CableWorld) (events : List Event) (node set core : ℕ) → IsReached w → HasNoAct events →
+    (w v : CableWorld) (events : List Event) (node set core : ℕ) → ComesOfPowerOn w → HasNoAct events →
     Runs events w v → turns_to_settle w ≤ turn_count events →
     node < length w.nodes → IsComponent w.cabling node set → IsCore w.cabling set core →
     set < 2 ^ 63 → IsSettled v set

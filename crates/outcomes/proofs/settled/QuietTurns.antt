@@ -1,10 +1,9 @@
 -- After so many quiet turns every component has an outcome.
-use Rattle.std.proofs.Common.{◌≡◌, ◌⊎◌, inl, inr, ℕ, zero, suc, ◌+◌, ◌-◌, ◌*◌, ◌^◌, ◌<◌, ◌≤◌, true, length, sym, ◌∙◌, ap, subst, arith, true≢false}
+use Rattle.std.proofs.Common.{◌≡◌, ◌⊎◌, inl, inr, ℕ, zero, suc, ◌+◌, ◌-◌, ◌*◌, ◌^◌, ◌<◌, ◌≤◌, true, length, max, sym, ◌∙◌, ap, subst, arith, true≢false}
 use Rattle.std.proofs.lemmas.Option.{slice_get_cases}
-use Rattle.outcomes.proofs.Common.{Wiring, Holds, IsEmpty, IsComponent, IsCore, HasTwo, numbers, plugged, end_at, CableWorld, IsReached, IsLawful, IsTree, IsSettled, loop, after-length, reached-lawful, quiet-then, quiet-lawful, after-cabling, HoldSchedule, holds_after, quiet_after, done-after, reached-contested, search-set, ResetsAreOver, ResetsAreDone, AreIdentifying, HasContention, Settles, IsNumbering}
-use Rattle.port_state.specs.declared.timing.Timing.{Timing}
+use Rattle.outcomes.proofs.Common.{Wiring, Holds, IsEmpty, IsComponent, IsCore, HasTwo, numbers, plugged, end_at, CableWorld, ComesOfPowerOn, IsLawful, IsTree, IsSettled, loop, after-length, comes-lawful, quiet-then, quiet-lawful, after-cabling, HoldSchedule, holds_after, quiet_after, done-after, comes-contested, search-set, ResetsAreOver, ResetsAreDone, AreIdentifying, HasContention, Settles, IsNumbering}
 use Rattle.cable_world.specs.Times.{longest_in_range}
-use Rattle.cable_world.specs.Run.{quiet_turns}
+use Rattle.outcomes.specs.QuietTurns.{AreShort, QuietTurnsAreEnough, InRangeIsEnough}
 use Rattle.convergence.proofs.Lemmas.{quiet-contested, taken-reached, decided-reached, start-grown, resets-over, grown-of, contention-after}
 use Rattle.outcomes.proofs.settled.Numbering.{quiet-numbering}
 use Rattle.convergence.specs.Kept.{IsGrown}
@@ -12,7 +11,7 @@ use Rattle.convergence.specs.Rivals.{IsContested}
 use Rattle.convergence.specs.Turns.{turns_to_settle, turns_to_decision}
 use Rattle.outcomes.proofs.numbers.Spreads.{tree-soon}
 use Rattle.outcomes.proofs.settled.Beginnings.{all-or-not, not-both-ways}
-use Rattle.outcomes.proofs.settled.Numbering.{reached-numbering}
+use Rattle.outcomes.proofs.settled.Numbering.{comes-numbering}
 use Rattle.outcomes.proofs.settled.Outcomes.{no-tree-yet, tree-or-none, contention-outcome, tree-outcome}
 use Rattle.outcomes.proofs.settled.Unnamed.{loop-outcome}
 
@@ -27,28 +26,31 @@ room-to-rest len d few =
     let q : 5 * 63 * d ≡ 315 * d = grind arith in
     omega (arith, p, q, ap (λ (m : ℕ). 5 * m * d) z)
 
--- where times are in their ranges, `quiet_turns` are enough
-pub quiet-enough :
-    (w : CableWorld) → 1 ≤ w.delay → w.longest ≡ longest_in_range w.delay →
-    turns_to_settle w ≤ quiet_turns (length w.nodes) w.delay
-quiet-enough w some is = parts (length w.nodes) w.delay w.longest.hold w.longest.force w.longest.timeout w.longest.long some
-    (ap (λ (t : Timing). t.hold) is) (ap (λ (t : Timing). t.force) is) (ap (λ (t : Timing). t.timeout) is) (ap (λ (t : Timing). t.long) is)
+-- where times are short enough, `quiet_turns` are enough
+pub short-enough : QuietTurnsAreEnough
+short-enough w short = parts (length w.nodes) w.delay w.longest.hold w.longest.force w.longest.timeout w.longest.long short.tree short.loop
   where
+    square : (n d : ℕ) → 2 * (n * d) ≤ d * (n * n) + d
+    square zero d = omega arith
+    square (suc m) d =
+        let p : d * (suc m * suc m) ≡ d * (m * m) + 2 * (m * d) + d = grind arith in
+        let q : suc m * d ≡ m * d + d = grind arith in
+        omega (arith, p, q)
+
     parts :
-        (n d h f t l : ℕ) → 1 ≤ d → h ≡ 80 * d → f ≡ 256 * d → t ≡ 512 * d → l ≡ 10 * d →
-        n * d + (h + d) + (f + n * d) + (12 * (n * d) + 33 * (l + 2 * d) + (l + (l + 2 * d)) + 1)
-        + (t + 1) + 315 * d ≤ d * (2000 + 4 * n * n + 8 * n)
-    parts n d h f t l some eh ef et el =
+        (n d h f t l : ℕ) → h + f + 35 * l < 1600 * d → h + t < 1600 * d →
+        max (n * d + (h + d) + (t + 1))
+        (n * d + (h + d) + (f + n * d) + (12 * (n * d) + 33 * (l + 2 * d) + (l + (l + 2 * d)) + 1) + 315 * d)
+        ≤ d * (2000 + 4 * n * n + 8 * n)
+    parts n d h f t l few soon =
         let z : d * (2000 + 4 * n * n + 8 * n) ≡ 2000 * d + 4 * (d * (n * n)) + 8 * (n * d) = grind arith in
-        let p : 2 * (n * d) ≤ d * (n * n) + d = square n d in
-        omega (arith, z, p, some, eh, ef, et, el)
-      where
-        square : (n d : ℕ) → 2 * (n * d) ≤ d * (n * n) + d
-        square zero d = omega arith
-        square (suc m) d =
-            let p : d * (suc m * suc m) ≡ d * (m * m) + 2 * (m * d) + d = grind arith in
-            let q : suc m * d ≡ m * d + d = grind arith in
-            omega (arith, p, q)
+        omega (arith, z, square n d, few, soon)
+
+pub range-short : (d : ℕ) → 1 ≤ d → AreShort d (longest_in_range d)
+range-short d some = record { tree = omega (arith, some); loop = omega (arith, some) }
+
+pub range-enough : InRangeIsEnough
+range-enough w some is = short-enough w (subst (AreShort w.delay) (sym is) (range-short w.delay some))
 
 -- ---- the core
 
@@ -69,11 +71,11 @@ core-or-none w set core l is = elim (search-set core (λ x. true) w) [
 -- ---- a component
 
 module _
-    (hs : HoldSchedule) (w : CableWorld) (r : IsReached w) (node set core : ℕ) (there : node < length w.nodes)
+    (hs : HoldSchedule) (w : CableWorld) (r : ComesOfPowerOn w) (node set core : ℕ) (there : node < length w.nodes)
     (comp : IsComponent w.cabling node set) (is_core : IsCore w.cabling set core)
     (small : set < 2 ^ 63) (k : ℕ) (quiet : turns_to_settle w ≤ k) where
   lawful : IsLawful w
-  lawful = reached-lawful w r
+  lawful = comes-lawful w r
 
   abbrev v : CableWorld
   v = quiet_after hs k w
@@ -85,7 +87,7 @@ module _
   v-lawful = quiet-lawful hs k w lawful
 
   v-numbering : IsNumbering v
-  v-numbering = quiet-numbering hs k w lawful (reached-numbering w r)
+  v-numbering = quiet-numbering hs k w lawful (comes-numbering w r)
 
   v-over : ResetsAreOver v
   v-over = resets-over hs w lawful k (omega (arith, enough))
@@ -99,7 +101,7 @@ module _
   -- where all are in self identify or A0, lists follow the walk
   settles-at : (i : ℕ) → AreIdentifying (quiet_after hs i w) set →
       Settles (quiet_after hs i w) set core
-  settles-at i all = (quiet-numbering hs i w lawful (reached-numbering w r)).walks node set core (omega (arith, there, after-length hs w lawful i)) (comp-at i) (core-at i) small all
+  settles-at i all = (quiet-numbering hs i w lawful (comes-numbering w r)).walks node set core (omega (arith, there, after-length hs w lawful i)) (comp-at i) (core-at i) small all
 
   abbrev middle : ℕ
   middle = k - 315 * w.delay
@@ -129,7 +131,7 @@ module _
       sum = omega (arith, enough)
 
       v-contested : IsContested v
-      v-contested = quiet-contested hs k w lawful (reached-contested w r)
+      v-contested = quiet-contested hs k w lawful (comes-contested w r)
 
       grown : IsGrown (quiet_after hs middle w)
       grown = start-grown hs w r middle (omega (arith, enough)) (taken-reached hs w middle r (omega (arith, enough)))
@@ -161,10 +163,10 @@ module _
 
 -- by then no node is in R0 or R1
 pub done-at-last :
-    (hs : HoldSchedule) (w : CableWorld) (k : ℕ) → IsReached w →
+    (hs : HoldSchedule) (w : CableWorld) (k : ℕ) → ComesOfPowerOn w →
     turns_to_settle w ≤ k →
     ResetsAreDone (quiet_after hs k w)
-done-at-last hs w k r quiet = done-after hs w k (reached-lawful w r) (omega (arith, quiet))
+done-at-last hs w k r quiet = done-after hs w k (comes-lawful w r) (omega (arith, quiet))
 
 -- ---- how many turns n d are
 

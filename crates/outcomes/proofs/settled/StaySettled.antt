@@ -1,17 +1,17 @@
 -- What has settled stays settled in turns and holds. A loop does, since its nodes don't leave T0 and their timers rise;
 -- a tree is at rest; of a contention it is told at the end whether a tree has come of it.
 use Rattle.std.proofs.Common.{◌≡◌, inl, inr, ℕ, ◌+◌, ◌-◌, ◌*◌, ◌^◌, ◌<◌, ◌≤◌, true, List, [], ◌∷◌, None, Some, length, slice_get, sym, ◌∙◌, ap, subst, arith}
-use Rattle.outcomes.proofs.Common.{Tree, Wiring, Holds, IsComponent, IsCore, End, NodeState, Timing, coin, PortNode, CableWorld, turn, hold, hold_fault, Event, acts, holds, turns, Runs, IsReached, IsLawful, loop, tree, contention, IsTree, IsSettled, is_before_tree, some-of, some-at, some-same, reached-lawful, after-delay, after-length, cabling-after, risen, quiet-then, quiet-lawful, after-cabling, HoldSchedule, holds_after, quiet_after, ResetsAreDone, ResetsAreOver, HasContention, done-after, reached-contested, reached-acyclic, done-over, Calmly, heard_by, IsNumbering, HasNoAct}
+use Rattle.outcomes.proofs.Common.{Tree, Wiring, Holds, IsComponent, IsCore, End, NodeState, Timing, coin, PortNode, CableWorld, turn, hold, hold_fault, Event, acts, holds, turns, Runs, ComesOfPowerOn, IsLawful, loop, tree, contention, IsTree, IsSettled, is_before_tree, some-of, some-at, some-same, comes-lawful, after-delay, after-length, cabling-after, risen, quiet-then, quiet-lawful, after-cabling, HoldSchedule, holds_after, quiet_after, ResetsAreDone, ResetsAreOver, HasContention, done-after, comes-contested, comes-acyclic, done-over, Calmly, heard_by, IsNumbering, HasNoAct}
 use Rattle.port_state.specs.declared.signal.Phase.TheVariants as phase
 use Rattle.cable_world.specs.Outcome.{Outcome, IsLoop, IsContention, IsOutcome}
 use Rattle.cable_world.specs.Times.{Suits}
-use Rattle.cable_world.proofs.Lemmas.{after-longest, longest-after, turn-reached, hold-reached, delay-after, nodes-after, quiet-reached}
+use Rattle.cable_world.proofs.Lemmas.{after-longest, longest-after, turn-comes, hold-comes, delay-after, nodes-after, quiet-comes}
 use Rattle.convergence.specs.Kept.{IsGrown}
 use Rattle.convergence.specs.Milestones.{TreesAreTaken}
 use Rattle.convergence.specs.Turns.{turns_to_settle, turns_to_done}
 use Rattle.convergence.proofs.Lemmas.{taken-reached, taken-turn, core-shows, Grown, grown-of, contention-turn, IsEarly, only-start, start-early, start-timer, StaysInStart, stays-in-start, calmly, early-before, done-calm, turn-done}
 use Rattle.outcomes.proofs.settled.Beginnings.{all-or-not}
-use Rattle.outcomes.proofs.settled.Numbering.{reached-numbering}
+use Rattle.outcomes.proofs.settled.Numbering.{comes-numbering}
 use Rattle.outcomes.proofs.settled.Outcomes.{no-tree-yet, tree-or-none, contention-outcome, tree-outcome}
 use Rattle.outcomes.proofs.settled.QuietTurns.{settles-at-last}
 use Rattle.outcomes.proofs.settled.TreesStay.{turn-tree}
@@ -32,7 +32,7 @@ data Come (w : CableWorld) (set : ℕ) : Type 0 where
 
 -- a component of a world in which resets are done has come to something
 record Staying (w : CableWorld) (node set : ℕ) : Type 0 where
-  reached : IsReached w
+  reached : ComesOfPowerOn w
   done : ResetsAreDone w
   taken : TreesAreTaken w
   there : node < length w.nodes
@@ -41,18 +41,18 @@ record Staying (w : CableWorld) (node set : ℕ) : Type 0 where
 
 -- ---- a turn
 
-module _ (w : CableWorld) (r : IsReached w) (done : ResetsAreDone w) (node set : ℕ) (comp : IsComponent w.cabling node set) where
+module _ (w : CableWorld) (r : ComesOfPowerOn w) (done : ResetsAreDone w) (node set : ℕ) (comp : IsComponent w.cabling node set) where
   lawful : IsLawful w
-  lawful = reached-lawful w r
+  lawful = comes-lawful w r
 
   abbrev v : CableWorld
   v = turn w
 
-  v-reached : IsReached v
-  v-reached = turn-reached w r
+  v-reached : ComesOfPowerOn v
+  v-reached = turn-comes w r
 
   v-lawful : IsLawful v
-  v-lawful = reached-lawful v v-reached
+  v-lawful = comes-lawful v v-reached
 
   v-done : ResetsAreDone v
   v-done = turn-done w lawful done
@@ -79,7 +79,7 @@ module _ (w : CableWorld) (r : IsReached w) (done : ResetsAreDone w) (node set :
       where
         early : is_before_tree y.state.view.phase ≡ true
         early =
-            let x = some-of (slice_get v.nodes k) _ (core-shows v v-lawful set (λ a b y h. v-over a b y) (reached-acyclic v v-reached) core k core-after inside) in
+            let x = some-of (slice_get v.nodes k) _ (core-shows v v-lawful set (λ a b y h. v-over a b y) (comes-acyclic v v-reached) core k core-after inside) in
             ap (λ (z : PortNode). is_before_tree z.state.view.phase) (some-same y x.0 (sym at ∙ x.1)) ∙ x.2
 
         c : Calmly w k y.state
@@ -112,10 +112,10 @@ module _ (w : CableWorld) (r : IsReached w) (done : ResetsAreDone w) (node set :
       node = h.node;
       in_core = h.in_core;
       timed_out = λ k inside.
-          let x = some-of (slice_get v.nodes k) _ (core-shows v v-lawful set (λ a b y h. v-over a b y) (reached-acyclic v v-reached) core k core-after inside) in
+          let x = some-of (slice_get v.nodes k) _ (core-shows v v-lawful set (λ a b y h. v-over a b y) (comes-acyclic v v-reached) core k core-after inside) in
           let s = stays-late k x.0 inside x.1 in
           some-at (slice_get v.nodes k) x.0 (λ (y : PortNode). (y.state.view.phase ≡ phase.TreeStart) × (y.state.view.timed_out ≡ true)) x.1 (s.start, s.reports);
-      unnamed = shows-unnamed v v-lawful (reached-numbering v v-reached).identifies set (λ a b y h. v-over a b y) (reached-acyclic v v-reached) node core h.node v-comp core-after h.in_core;
+      unnamed = shows-unnamed v v-lawful (comes-numbering v v-reached).identifies set (λ a b y h. v-over a b y) (comes-acyclic v v-reached) node core h.node v-comp core-after h.in_core;
     }
 
     loop-late : AreLate v core
@@ -127,7 +127,7 @@ module _ (w : CableWorld) (r : IsReached w) (done : ResetsAreDone w) (node set :
   come-turn taken small (contended a b h) = contended now.low now.high now.is
     where
       whole : IsGrown w
-      whole = record { lawful = lawful; acyclic = reached-acyclic w r; contested = reached-contested w r; done = done; taken = taken }
+      whole = record { lawful = lawful; acyclic = comes-acyclic w r; contested = comes-contested w r; done = done; taken = taken }
 
       grown : Grown w set
       grown = grown-of w node set h.no_loop.core whole comp h.no_loop.is_core h.no_loop.empty
@@ -138,10 +138,10 @@ module _ (w : CableWorld) (r : IsReached w) (done : ResetsAreDone w) (node set :
 turn-stays : (w : CableWorld) (node set : ℕ) → set < 2 ^ 63 → Staying w node set →
     Staying (turn w) node set
 turn-stays w node set small s = record {
-  reached = turn-reached w s.reached;
-  done = turn-done w (reached-lawful w s.reached) s.done;
-  taken = taken-turn w (reached-lawful w s.reached) s.done s.taken;
-  there = omega (arith, s.there, nodes-after w (reached-lawful w s.reached).well_formed.count);
+  reached = turn-comes w s.reached;
+  done = turn-done w (comes-lawful w s.reached) s.done;
+  taken = taken-turn w (comes-lawful w s.reached) s.done s.taken;
+  there = omega (arith, s.there, nodes-after w (comes-lawful w s.reached).well_formed.count);
   component = v-comp w s.reached s.done node set s.component;
   come = come-turn w s.reached s.done node set s.component s.taken small s.come;
 }
@@ -175,7 +175,7 @@ hold-stays :
     Staying w node set →
     Staying (hold end k w) node set
 hold-stays end k w node set none s = record {
-  reached = hold-reached end k w none s.reached;
+  reached = hold-comes end k w none s.reached;
   done = s.done;
   taken = s.taken;
   there = s.there;
@@ -200,10 +200,10 @@ settled-of : (w : CableWorld) (node set : ℕ) → set < 2 ^ 63 → Staying w no
 settled-of w node set small s = go s.come
   where
     lawful : IsLawful w
-    lawful = reached-lawful w s.reached
+    lawful = comes-lawful w s.reached
 
     n : IsNumbering w
-    n = reached-numbering w s.reached
+    n = comes-numbering w s.reached
 
     over : ResetsAreOver w
     over = done-over w lawful s.done
@@ -212,12 +212,12 @@ settled-of w node set small s = go s.come
     go (looped core h late) = (loop core, h)
     go (treed root t h) = tree-outcome w set root t h
     go (contended a b h) = elim (all-or-not w set) [
-      | inr still ↦ contention-outcome w lawful (reached-contested w s.reached) over node set s.component now (no-tree-yet w set n.identifies still)
+      | inr still ↦ contention-outcome w lawful (comes-contested w s.reached) over node set s.component now (no-tree-yet w set n.identifies still)
       | inl all ↦
           let walk = n.walks node set h.no_loop.core s.there s.component h.no_loop.is_core small all in
           elim (tree-or-none w lawful n.acyclic n.identifies set h.no_loop.core walk.root walk.tree walk.is) [
             | inl t ↦ tree-outcome w set walk.root walk.tree t
-            | inr none ↦ contention-outcome w lawful (reached-contested w s.reached) over node set s.component now none
+            | inr none ↦ contention-outcome w lawful (comes-contested w s.reached) over node set s.component now none
           ]
     ]
       where
@@ -227,14 +227,14 @@ settled-of w node set small s = go s.come
 -- ---- after so many quiet turns
 
 module _
-    (hs : HoldSchedule) (w : CableWorld) (r : IsReached w) (node set core : ℕ) (there : node < length w.nodes)
+    (hs : HoldSchedule) (w : CableWorld) (r : ComesOfPowerOn w) (node set core : ℕ) (there : node < length w.nodes)
     (comp : IsComponent w.cabling node set) (is_core : IsCore w.cabling set core)
     (small : set < 2 ^ 63) (k : ℕ) (quiet : turns_to_settle w ≤ k) where
   abbrev u : CableWorld
   u = quiet_after hs k w
 
   w-lawful : IsLawful w
-  w-lawful = reached-lawful w r
+  w-lawful = comes-lawful w r
 
   u-comp : IsComponent u.cabling node set
   u-comp = subst (λ (c : Wiring). IsComponent c node set) (sym (after-cabling hs k w)) comp
@@ -277,7 +277,7 @@ module _
 
   staying : Staying u node set
   staying = record {
-    reached = quiet-reached hs k w r;
+    reached = quiet-comes hs k w r;
     done = done-after hs w k w-lawful (omega (arith, quiet));
     taken = taken-reached hs w k r (omega (arith, quiet));
     there = omega (arith, there, after-length hs w w-lawful k);

@@ -1,7 +1,7 @@
 -- A component that has come to a tree is at rest, and so it stays in its tree.
 use Rattle.std.proofs.Common.{◌≡◌, ℕ, ◌^◌, ◌<◌, true, List, [], ◌∷◌, None, Some, length, slice_get, sym, ◌∙◌, ap, subst, arith}
-use Rattle.outcomes.proofs.Common.{Tree, emits, Wiring, Holds, IsComponent, PortNode, CableWorld, turn, Act, ActLeads, IsAct, act_fault, hold, note_changes, acting, some-of, some-same, reached-lawful, act-reached, cabling-after, Event, acts, holds, turns, Runs, IsReached, IsLawful, IsTree, AreIdentifying, is_ready, Settles, IsNumbering, IsSettling, IsAtRest, HasNoAct}
-use Rattle.cable_world.proofs.Lemmas.{act-keeps, turn-reached, hold-reached}
+use Rattle.outcomes.proofs.Common.{Tree, emits, Wiring, Holds, IsComponent, PortNode, CableWorld, turn, Act, ActLeads, IsAct, act_fault, hold, note_changes, acting, some-of, some-same, comes-lawful, act-comes, cabling-after, Event, acts, holds, turns, Runs, ComesOfPowerOn, IsLawful, IsTree, AreIdentifying, is_ready, Settles, IsNumbering, IsSettling, IsAtRest, HasNoAct}
+use Rattle.cable_world.proofs.Lemmas.{act-keeps, turn-comes, hold-comes}
 use Rattle.outcomes.proofs.identify.MarksKept.{ready-hears}
 use Rattle.outcomes.proofs.numbers.AtRest.{rests-where, rests-on, rest-tree}
 use Rattle.outcomes.proofs.numbers.HoldRests.{hold-settles, hold-rests}
@@ -9,17 +9,17 @@ use Rattle.outcomes.proofs.numbers.Settling.{settles-on}
 use Rattle.outcomes.proofs.settled.Beginnings.{nodes-there}
 use Rattle.outcomes.proofs.settled.Components.{in-tree}
 use Rattle.outcomes.proofs.settled.Elsewhere.{LeavesAlone, leaves-alone, same-component, settles-there}
-use Rattle.outcomes.proofs.settled.Numbering.{reached-numbering}
+use Rattle.outcomes.proofs.settled.Numbering.{comes-numbering}
 use Rattle.outcomes.proofs.settled.Outcomes.{tree-ready, same-root, same-tree}
 
 module _
-    (w : CableWorld) (r : IsReached w) (node set : ℕ) (comp : IsComponent w.cabling node set)
+    (w : CableWorld) (r : ComesOfPowerOn w) (node set : ℕ) (comp : IsComponent w.cabling node set)
     (small : set < 2 ^ 63) (root : ℕ) (t : Tree) (h : IsTree w set root t) where
   lawful : IsLawful w
-  lawful = reached-lawful w r
+  lawful = comes-lawful w r
 
   numbering : IsNumbering w
-  numbering = reached-numbering w r
+  numbering = comes-numbering w r
 
   pub ready :
       (k : ℕ) (x : PortNode) → Holds set k → slice_get w.nodes k ≡ Some x →
@@ -53,28 +53,28 @@ module _
 
   pub turn-tree : IsTree (turn w) set root t
   turn-tree =
-      let v : IsReached (turn w) = turn-reached w r in
-      let n : IsNumbering (turn w) = reached-numbering (turn w) v in
-      rest-tree (turn w) (reached-lawful (turn w) v) n.acyclic n.identifies set h.no_loop.core root t
+      let v : ComesOfPowerOn (turn w) = turn-comes w r in
+      let n : IsNumbering (turn w) = comes-numbering (turn w) v in
+      rest-tree (turn w) (comes-lawful (turn w) v) n.acyclic n.identifies set h.no_loop.core root t
       (settles-on w lawful numbering.acyclic numbering.identifies set h.no_loop.core root t tree-settles) (rests-on w lawful numbering.acyclic numbering.identifies set h.no_loop.core root t tree-settles tree-rests)
 
 pub tree-stays :
-    (events : List Event) (w v : CableWorld) → IsReached w → HasNoAct events → Runs events w v →
+    (events : List Event) (w v : CableWorld) → ComesOfPowerOn w → HasNoAct events → Runs events w v →
     (node set : ℕ) → IsComponent w.cabling node set → set < 2 ^ 63 → (root : ℕ) (t : Tree) →
     IsTree w set root t → IsTree v set root t
 tree-stays [] w v r none run node set comp small root t h = subst (λ (u : CableWorld). IsTree u set root t) (sym run) h
 tree-stays (acts a ∷ events) w v r none run node set comp small root t h = absurd none
 tree-stays (holds end k ∷ events) w v r none run node set comp small root t h =
     let u : CableWorld = hold end k w in
-    let reached : IsReached u = hold-reached end k w run.1.0 r in
-    let n : IsNumbering u = reached-numbering u reached in
+    let reached : ComesOfPowerOn u = hold-comes end k w run.1.0 r in
+    let n : IsNumbering u = comes-numbering u reached in
     let held : IsTree u set root t =
-    rest-tree u (reached-lawful u reached) n.acyclic n.identifies set h.no_loop.core root t
-    (hold-settles end k w run.1.0 (reached-lawful w r) set h.no_loop.core root t (tree-settles w r node set comp small root t h))
-    (hold-rests end k w run.1.0 (reached-lawful w r) set (tree-rests w r node set comp small root t h)) in
+    rest-tree u (comes-lawful u reached) n.acyclic n.identifies set h.no_loop.core root t
+    (hold-settles end k w run.1.0 (comes-lawful w r) set h.no_loop.core root t (tree-settles w r node set comp small root t h))
+    (hold-rests end k w run.1.0 (comes-lawful w r) set (tree-rests w r node set comp small root t h)) in
     tree-stays events u v reached none (subst (λ (z : CableWorld). Runs events z v) run.1.1 run.2) node set comp small root t held
 tree-stays (turns ∷ events) w v r none run node set comp small root t h =
-    tree-stays events (turn w) v (turn-reached w r) none (subst (λ (z : CableWorld). Runs events z v) run.1 run.2) node set
+    tree-stays events (turn w) v (turn-comes w r) none (subst (λ (z : CableWorld). Runs events z v) run.1 run.2) node set
     (subst (λ (c : Wiring). IsComponent c node set) (sym (cabling-after w)) comp) small root t (turn-tree w r node set comp small root t h)
 
 -- ---- acts on other components
@@ -89,41 +89,41 @@ here-after a w v leads set root t h k inside =
 
 -- where the component is left alone, it keeps its tree
 alone-tree :
-    (w v : CableWorld) (r : IsReached w) → IsReached v → (node set : ℕ) → LeavesAlone w v set →
+    (w v : CableWorld) (r : ComesOfPowerOn w) → ComesOfPowerOn v → (node set : ℕ) → LeavesAlone w v set →
     IsComponent w.cabling node set → set < 2 ^ 63 →
     ((k : ℕ) → Holds set k → (z : PortNode) × (slice_get v.nodes k ≡ Some z)) →
     AreIdentifying v set →
     (root : ℕ) (t : Tree) → IsTree w set root t → IsTree v set root t
 alone-tree w v r reached node set alone comp small there all root t h =
-    rest-tree v (reached-lawful v reached) n.acyclic n.identifies set h.no_loop.core root t still
-    (rests-where v (reached-lawful v reached) n.identifies set still.component.closed all (emits t)
+    rest-tree v (comes-lawful v reached) n.acyclic n.identifies set h.no_loop.core root t still
+    (rests-where v (comes-lawful v reached) n.identifies set still.component.closed all (emits t)
     (λ k z inside at. let x = alone.nodes k z inside at in ap is_ready x.2.phase ∙ ready w r node set comp small root t h k x.0 inside x.1)
     (λ k z inside at. let x = alone.nodes k z inside at in x.2.list ∙ listed w r node set comp small root t h k x.0 inside x.1))
   where
     n : IsNumbering v
-    n = reached-numbering v reached
+    n = comes-numbering v reached
 
     still : IsSettling v set h.no_loop.core root t
-    still = settles-there w v (reached-lawful w r) (reached-numbering w r).acyclic (reached-lawful v reached) n.acyclic set h.no_loop.core root t alone
+    still = settles-there w v (comes-lawful w r) (comes-numbering w r).acyclic (comes-lawful v reached) n.acyclic set h.no_loop.core root t alone
         (tree-settles w r node set comp small root t h) there all
 
 pub act-tree :
-    (a : Act) (w v : CableWorld) → IsAct a → act_fault a w ≡ None → ActLeads a w v → IsReached w →
+    (a : Act) (w v : CableWorld) → IsAct a → act_fault a w ≡ None → ActLeads a w v → ComesOfPowerOn w →
     (node set : ℕ) → IsComponent v.cabling node set → node < length v.nodes → set < 2 ^ 63 →
     AreIdentifying v set → (root : ℕ) (t : Tree) → IsTree w set root t → IsTree v set root t
 act-tree a w v is none leads r node set comp here small all root t h =
     alone-tree w v r reached node set alone (same-component v.cabling w.cabling set (λ k inside. sym (alone.ports k inside)) node comp) small there all root t h
   where
-    reached : IsReached v
-    reached = act-reached a w v is none leads r
+    reached : ComesOfPowerOn v
+    reached = act-comes a w v is none leads r
 
     there : (k : ℕ) → Holds set k → (z : PortNode) × (slice_get v.nodes k ≡ Some z)
-    there = nodes-there v (reached-lawful v reached) node set comp here
+    there = nodes-there v (comes-lawful v reached) node set comp here
 
-    same : v ≡ note_changes w (acting a w v is none leads (reached-lawful w r).well_formed).done
-    same = (acting a w v is none leads (reached-lawful w r).well_formed).is
+    same : v ≡ note_changes w (acting a w v is none leads (comes-lawful w r).well_formed).done
+    same = (acting a w v is none leads (comes-lawful w r).well_formed).is
 
     alone : LeavesAlone w v set
     alone = subst (λ (u : CableWorld). LeavesAlone w u set) (sym same)
-        (leaves-alone w v a is none leads (reached-lawful w r) set
+        (leaves-alone w v a is none leads (comes-lawful w r) set
         (subst (λ (u : CableWorld). (k : ℕ) → Holds set k → (z : PortNode) × (slice_get u.nodes k ≡ Some z)) same there) (subst (λ (u : CableWorld). AreIdentifying u set) same all))

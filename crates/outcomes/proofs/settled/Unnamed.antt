@@ -3,7 +3,7 @@
 use Rattle.std.proofs.Common.{◌≡◌, inl, inr, ℕ, ◌<◌, ◌≤◌, Bool, true, false, is_some, Option, Some, None, length, slice_get, refl, sym, ◌∙◌, ap, arith, true≢false, eq-eqb}
 use Rattle.std.proofs.lemmas.Bool.{cases_lt, false_from_ne_true}
 use Rattle.std.proofs.lemmas.Option.{slice_get_cases}
-use Rattle.outcomes.proofs.Common.{contrary, End, far, Holds, IsComponent, IsCore, HasTwo, plugged, end_at, shared, hears_packets, is_port, is_connected, PortNode, CableWorld, wire_of, IsReached, signals_of, has_reset, IsLawful, Shows, some-at, reached-lawful, no-packets, quiet-lawful, IsAcyclic, IsChildCable, ResetsAreOver, ResetsAreOverIn, done-after, no-root-with-loop, reached-acyclic, done-over, in-component, joined-of, quiet-acyclic, is_ready, Identifies, IsIdentifying, HoldSchedule, quiet_after}
+use Rattle.outcomes.proofs.Common.{contrary, End, far, Holds, IsComponent, IsCore, HasTwo, plugged, end_at, shared, hears_packets, is_port, is_connected, PortNode, CableWorld, wire_of, ComesOfPowerOn, signals_of, has_reset, IsLawful, Shows, some-at, comes-lawful, no-packets, quiet-lawful, IsAcyclic, IsChildCable, ResetsAreOver, ResetsAreOverIn, done-after, no-root-with-loop, comes-acyclic, done-over, in-component, joined-of, quiet-acyclic, is_ready, Identifies, IsIdentifying, HoldSchedule, quiet_after}
 use Rattle.cable_world.specs.Outcome.{IsLoop}
 use Rattle.convergence.specs.Acyclic.{ComesDown}
 use Rattle.convergence.specs.Cables.{AreJoined}
@@ -11,7 +11,7 @@ use Rattle.convergence.specs.Turns.{turns_to_loops}
 use Rattle.convergence.proofs.Lemmas.{reported-reached, none-rises-on}
 use Rattle.outcomes.proofs.identify.Hearing.{parent-connected}
 use Rattle.outcomes.proofs.identify.MarksKept.{hears-late}
-use Rattle.outcomes.proofs.identify.StaysIdentifying.{reached-identifying}
+use Rattle.outcomes.proofs.identify.StaysIdentifying.{comes-identifying}
 use Rattle.outcomes.proofs.identify.OneMessage.{end-of}
 use Rattle.outcomes.proofs.identify.StaysIdentifying.{quiet-identifying}
 
@@ -160,7 +160,7 @@ module _
 -- ---- after turns
 
 pub loop-outcome :
-    (hs : HoldSchedule) (w : CableWorld) (k node set core j : ℕ) → IsReached w →
+    (hs : HoldSchedule) (w : CableWorld) (k node set core j : ℕ) → ComesOfPowerOn w →
     turns_to_loops w ≤ k →
     IsComponent (quiet_after hs k w).cabling node set →
     IsCore (quiet_after hs k w).cabling set core →
@@ -177,16 +177,16 @@ loop-outcome hs w k node set core j r late comp is_core in_core = record {
     v = quiet_after hs k w
 
     lawful : IsLawful w
-    lawful = reached-lawful w r
+    lawful = comes-lawful w r
 
     v-lawful : IsLawful v
     v-lawful = quiet-lawful hs k w lawful
 
     v-acyclic : IsAcyclic v
-    v-acyclic = quiet-acyclic hs k w lawful (reached-acyclic w r)
+    v-acyclic = quiet-acyclic hs k w lawful (comes-acyclic w r)
 
     v-identifies : IsIdentifying v
-    v-identifies = quiet-identifying hs k w lawful (reached-identifying w r)
+    v-identifies = quiet-identifying hs k w lawful (comes-identifying w r)
 
     over : ResetsAreOver v
     over = done-over v v-lawful (done-after hs w k lawful (omega (arith, late)))

@@ -1,8 +1,8 @@
--- Two nodes, one cable between them: the bus comes of power-on, it is left alone for 6442 turns, and
+-- Two nodes, one cable between them: the bus comes of power-on, it is left alone for 4393 turns, and
 -- so it has settled.
 use Rattle.std.proofs.Common.{◌≡◌, ℕ, zero, suc, true, false, [], ◌∷◌, None, Some, length, slice_get, refl, subst, arith}
 use Rattle.convergence.specs.Turns.{turns_to_settle}
-use Rattle.outcomes.proofs.Common.{enter, PortNode, IsPowerOnWorld, turns_after, act_fault, acts, IsReached, some-same, attrs, at}
+use Rattle.outcomes.proofs.Common.{enter, PortNode, IsPowerOnWorld, turns_after, act_fault, acts, ComesOfPowerOn, some-same, attrs, at}
 use Rattle.port_state.specs.Timing.{InRange, usual_timing}
 use Rattle.port_state.proofs.Lemmas.{valid-power_on}
 use Rattle.cable_world.specs.declared.act.Act.TheVariants.{Plug}
@@ -34,7 +34,7 @@ at-first = record { some_delay = omega arith; short_delay = omega arith; few_nod
 free : act_fault (Plug (at 0 0) (at 1 0)) (world_of_nodes 4 pair.nodes) ≡ None
 free = refl
 
-reached : IsReached pair.start
+reached : ComesOfPowerOn pair.start
 reached = record {
   start = world_of_nodes 4 pair.nodes;
   events = acts (Plug (at 0 0) (at 1 0)) ∷ [];
@@ -42,12 +42,12 @@ reached = record {
   run = (pair.start, (tt, free, refl), refl);
 }
 
-enough : turns_to_settle pair.start ≡ 6442
+enough : turns_to_settle pair.start ≡ 4393
 unfolding enter
 enough = refl
 
-alone : IsLeftAlone pair.start (turns_after 6442 pair.start)
-alone = left-alone pair.start 6442 (omega (arith, enough))
+alone : IsLeftAlone pair.start (turns_after 4393 pair.start)
+alone = left-alone pair.start 4393 (omega (arith, enough))
 
-settled : EveryBusSettles → AllSettled (turns_after 6442 pair.start)
-settled every = every pair.start (turns_after 6442 pair.start) reached alone
+settled : EveryBusSettles → AllSettled (turns_after 4393 pair.start)
+settled every = every pair.start (turns_after 4393 pair.start) reached alone

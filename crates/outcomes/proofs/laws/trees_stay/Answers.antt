@@ -1,4 +1,4 @@
-use Rattle.outcomes.proofs.Common.{reached-lawful}
+use Rattle.outcomes.proofs.Common.{comes-lawful}
 use Rattle.outcomes.proofs.settled.Components.{small-tree}
 use Rattle.outcomes.proofs.settled.TreesStay.{tree-stays}
 use Rattle.outcomes.proofs.laws.trees_stay.Goals as goal
@@ -6,5 +6,5 @@ use Rattle.outcomes.proofs.laws.trees_stay.Goals as goal
 pub returns : goal.returns
 returns c = record {
   turns = λ w v events node set root t r none run comp h.
-      tree-stays events w v r none run node set comp (small-tree c.components_exist.ensures w (reached-lawful w r) node set root t comp h) root t h;
+      tree-stays events w v r none run node set comp (small-tree c.components_exist.ensures w (comes-lawful w r) node set root t comp h) root t h;
 }

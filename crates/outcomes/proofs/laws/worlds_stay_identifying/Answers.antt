@@ -1,6 +1,6 @@
 use Rattle.outcomes.proofs.identify.IdentifyingTurn.{turn-identifying}
 use Rattle.outcomes.proofs.identify.IdentifyingActs.{act-identifying, hold-identifying, power-on-identifying}
-use Rattle.outcomes.proofs.identify.StaysIdentifying.{reached-identifying}
+use Rattle.outcomes.proofs.identify.StaysIdentifying.{comes-identifying}
 use Rattle.outcomes.proofs.laws.worlds_stay_identifying.Goals as goal
 
 pub returns-clause-power_on : goal.returns-clause-power_on
@@ -16,4 +16,4 @@ pub returns-clause-act : goal.returns-clause-act
 returns-clause-act c = act-identifying
 
 pub returns-clause-reached : goal.returns-clause-reached
-returns-clause-reached c = reached-identifying
+returns-clause-reached c = comes-identifying

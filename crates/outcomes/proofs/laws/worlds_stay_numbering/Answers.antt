@@ -1,4 +1,4 @@
-use Rattle.outcomes.proofs.settled.Numbering.{turn-numbering, hold-numbering, act-numbering, power-on-numbering, reached-numbering}
+use Rattle.outcomes.proofs.settled.Numbering.{turn-numbering, hold-numbering, act-numbering, power-on-numbering, comes-numbering}
 use Rattle.outcomes.proofs.laws.worlds_stay_numbering.Goals as goal
 
 pub returns-clause-power_on : goal.returns-clause-power_on
@@ -14,4 +14,4 @@ pub returns-clause-act : goal.returns-clause-act
 returns-clause-act c = act-numbering
 
 pub returns-clause-reached : goal.returns-clause-reached
-returns-clause-reached c = reached-numbering
+returns-clause-reached c = comes-numbering
