@@ -8,26 +8,24 @@ use Rattle.cabling.specs.NodeSet.{Holds}
 use Rattle.cabling.proofs.Lemmas.{Loopless, loopless, shared}
 use Rattle.port_state.specs.Machine.{PortNode}
 use Rattle.cable_world.specs.World.{CableWorld}
-use Rattle.cable_world.specs.Run.{IsReached, quiet_turns}
+use Rattle.cable_world.specs.Run.{IsReached}
 use Rattle.cable_world.specs.Lawful.{IsLawful}
 use Rattle.cable_world.specs.Outcome.{IsTree, Shows}
-use Rattle.cable_world.proofs.Lemmas.{some-of, some-at, lawful-now, plain-quiet, plainly, turns-cabling}
+use Rattle.cable_world.proofs.Lemmas.{some-of, some-at, lawful-now, plain-quiet, plainly, reached-comes, reached-forced, turns-cabling}
 use Rattle.cable_world.specs.Quiet.{no_holds, quiet_after}
 use Rattle.outcomes.specs.Forced.{EntriesTakeOver, waits_due}
 use Rattle.outcomes.specs.Settled.{ForcedRootsSettle}
-use Rattle.outcomes.proofs.Lemmas.{small-fresh, quiet-enough}
+use Rattle.outcomes.proofs.Lemmas.{small-fresh}
 use Rattle.settle.specs.Report.{IsReport, IsTreeFrom, quiet_turns_of, IsAfterQuiet}
 use Rattle.settle.specs.declared.report.Report.{Report}
 use Rattle.settle.specs.Forced.{BeginsAnew, IsForcedAlone, ForcedNodeIsRoot}
+use Rattle.settle.proofs.QuietCount.{turns-enough}
 use Rattle.settle.proofs.Found.{found}
 
 module _
     (exist : ComponentsExist) (takes : EntriesTakeOver) (settles : ForcedRootsSettle) (w v : CableWorld) (l : IsLawful w)
     (reached : ∥ IsReached w ∥₁) (from set node : ℕ) (quiet : IsAfterQuiet w v)
     (b : BeginsAnew w from set) (f : IsForcedAlone v set node) where
-  enough : quiet_turns (length w.nodes) w.delay ≤ quiet_turns_of w
-  enough = omega (arith, ap (λ (n : ℕ). quiet_turns n w.delay) l.well_formed.count)
-
   -- what is forced after the turns waited before them
   waited : (k : ℕ) (b : Bool) → Holds set k → Shows v k (λ x. x.force ≡ b) →
       Shows w k (λ x. waits_due x ≡ b)
@@ -35,13 +33,13 @@ module _
       let x = some-of (slice_get w.nodes k) _ (b.fresh.waits k m) in
       let y = some-of (slice_get v.nodes k) _ shown in
       let at : slice_get (quiet_after no_holds (quiet_turns_of w) w).nodes k ≡ Some y.0 = ap (λ (u : CableWorld). slice_get u.nodes k) (plain-quiet (quiet_turns_of w) w ∙ sym quiet) ∙ y.1 in
-      let over : length w.nodes * w.delay ≤ quiet_turns_of w = omega (arith, enough, quiet-enough (length w.nodes) w.delay) in
+      let over : length w.nodes * w.delay ≤ quiet_turns_of w = omega (arith, turns-enough w) in
       let t = takes no_holds w from set (quiet_turns_of w) k x.0 y.0 l b.component b.fresh over m x.1 at in
       some-at (slice_get w.nodes k) x.0 (λ (z : PortNode). waits_due z.state.view ≡ bit) x.1 (sym t.0 ∙ y.2)
 
   moved : IsReached w → (t : Tree) × IsTree v set node t
   moved r =
-      let t = settles no_holds w (quiet_turns_of w) from set node r (record {
+      let t = settles no_holds w (quiet_turns_of w) from set node (reached-comes w r) (record {
         lawful = l;
         component = b.component;
         no_loop = b.no_loop;
@@ -51,7 +49,8 @@ module _
           waits = waited node true f.holds f.forced;
           others = λ k m ne. waited k false m (f.others k m ne);
         };
-      }) enough in
+        enough = reached-forced w r node;
+      }) (turns-enough w) in
       (t.0, subst (λ (u : CableWorld). IsTree u set node t.0) (sym quiet) (plainly (λ u. IsTree u set node t.0) (quiet_turns_of w) w t.1))
 
   there : (k : ℕ) → Holds set k → k < length w.cabling

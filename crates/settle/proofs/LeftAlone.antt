@@ -6,7 +6,7 @@ use Rattle.cable_world.specs.Run.{Event, turns, Runs, IsReached}
 use Rattle.outcomes.specs.Settled.{HasNoAct, turn_count}
 use Rattle.outcomes.specs.Headline.{IsLeftAlone}
 use Rattle.settle.specs.Report.{quiet_turns_of, IsAfterQuiet, HasSettled}
-use Rattle.settle.proofs.QuietCount.{quiet-same}
+use Rattle.settle.proofs.QuietCount.{turns-enough}
 
 -- ---- events that follow others
 
@@ -21,6 +21,7 @@ left-reached w v r h = record {
   start = r.start;
   events = r.events ++ h.events;
   power_on = r.power_on;
+  forced = r.forced;
   run = joined r.events h.events r.start w v r.run h.run;
 }
 
@@ -55,6 +56,6 @@ settled-after w v r is =
         events = plain k;
         quiet = no-acts k;
         run = plain-run k w;
-        long = omega (arith, quiet-same w r, counted k);
+        long = omega (arith, turns-enough w, counted k);
       });
     }

@@ -12,5 +12,6 @@ pub use Rattle.settle.proofs.Relabelled.{one-order}
 pub use Rattle.settle.proofs.SameNodes.{SameNodes, same-component, same-tree}
 -- What a node of a world shows.
 pub use Rattle.settle.proofs.Shown.{attrs-fit}
--- How many quiet turns a world is given.
-pub use Rattle.settle.proofs.TurnsGiven.{quiet-is}
+-- How many quiet turns a world is given, and that these are enough.
+pub use Rattle.settle.proofs.QuietCount.{turns-enough}
+pub use Rattle.settle.proofs.TurnsGiven.{sized}

@@ -12,7 +12,7 @@ use Rattle.port_state.specs.Machine.{PortNode}
 use Rattle.cable_world.specs.World.{CableWorld}
 use Rattle.cable_world.specs.Run.{IsReached}
 use Rattle.cable_world.specs.Outcome.{Outcome, loop, tree, contention, HasNoLoop, IsLoop, IsContention, IsOutcome, IsSettled, Shows}
-use Rattle.cable_world.proofs.Lemmas.{reached-lawful, plainly}
+use Rattle.cable_world.proofs.Lemmas.{reached-comes, reached-lawful, plainly}
 use Rattle.cable_world.specs.Quiet.{no_holds}
 use Rattle.cable_world.specs.Phases.{is_in_bus_reset}
 use Rattle.convergence.specs.Milestones.{ResetsAreDone}
@@ -21,7 +21,7 @@ use Rattle.outcomes.specs.Headline.{EveryBusSettles}
 use Rattle.settle.specs.Report.{AreThere, quiet_turns_of, IsAfterQuiet, HasSettled}
 use Rattle.settle.specs.Reported.{IsNoTree, ReportsLoop}
 use Rattle.settle.specs.codings.Reading.{IsPartOf}
-use Rattle.settle.proofs.QuietCount.{quiet-same}
+use Rattle.settle.proofs.QuietCount.{turns-enough}
 use Rattle.settle.proofs.LeftAlone.{left-reached}
 
 -- ---- facts with one proof at most
@@ -85,7 +85,7 @@ no_prop = λ a b. absurd a
 pub done-by-then :
     ResetsAreDoneByThen → (w v : CableWorld) → IsAfterQuiet w v → ∥ IsReached w ∥₁ → ResetsAreDone v
 done-by-then done w v is r k x at = ∥∥₁_elim r (Coded-set coded_bool (is_in_bus_reset x.state.view.phase) false)
-    (λ reached. plainly ResetsAreDone (quiet_turns_of w) w (done no_holds w (quiet_turns_of w) reached (quiet-same w reached)) k x (sym (ap (λ (u : CableWorld). slice_get u.nodes k) is) ∙ at))
+    (λ reached. plainly ResetsAreDone (quiet_turns_of w) w (done no_holds w (quiet_turns_of w) (reached-comes w reached) (turns-enough w)) k x (sym (ap (λ (u : CableWorld). slice_get u.nodes k) is) ∙ at))
 
 -- ---- a component of a world that has settled
 
@@ -93,7 +93,7 @@ module _
     (every : EveryBusSettles) (w : CableWorld) (set : ℕ) (part : IsPartOf w set)
     (there : AreThere w set) where
   pub settled : HasSettled w → IsSettled w set
-  settled h = every h.before w h.reached h.is part.0 set inside part.1
+  settled h = every h.before w (reached-comes h.before h.reached) h.is part.0 set inside part.1
     where
       inside : part.0 < length w.nodes
       inside = omega (arith, there part.0 part.1.holds, (reached-lawful w (left-reached h.before w h.reached h.is)).well_formed.count)

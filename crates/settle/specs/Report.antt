@@ -1,13 +1,15 @@
 -- What is reported of a world.
-use Rattle.std.specs.Prelude.{◌≡◌, ℕ, ◌<◌, ◌≤◌, List, Some, length, slice_get, All, Any, AllPairs}
+use Rattle.std.specs.Prelude.{◌≡◌, ℕ, ◌<◌, ◌≤◌, List, Some, length, max, slice_get, All, Any, AllPairs}
 use Rattle.cabling.specs.Wiring.{Wiring}
 use Rattle.cabling.specs.NodeSet.{Holds}
 use Rattle.cabling.specs.Component.{IsComponent}
 use Rattle.cabling.specs.Walk.{IsWalk}
+use Rattle.port_state.specs.declared.timing.Timing.{Timing}
 use Rattle.cable_world.specs.World.{CableWorld, NodeNumber, NodeSet}
 use Rattle.cable_world.specs.Turn.{turns_after}
 use Rattle.cable_world.specs.Run.{IsReached, quiet_turns}
 use Rattle.cable_world.specs.Outcome.{Shows}
+use Rattle.convergence.specs.Turns.{turns_to_settle}
 use Rattle.outcomes.specs.Headline.{IsLeftAlone}
 use Rattle.settle.specs.declared.report.Part.{Part}
 use Rattle.settle.specs.declared.report.Outcome.TheVariants as reported
@@ -74,9 +76,17 @@ pub record IsTreeFrom (c : Wiring) (from root : NodeNumber) (part : Part) : Type
 
 -- ---- the turns before it
 
--- so many as its nodes and its cables want
+-- so many as its nodes and its cables want, and as its longest times do
 abbrev pub quiet_turns_of : CableWorld → ℕ
-quiet_turns_of w = quiet_turns (length w.cabling) w.delay
+quiet_turns_of w = max (quiet_turns (length w.cabling) w.delay) (turns_to_settle w)
+
+-- a world of so many nodes, whose cables delay by at most so many turns, and none of whose nodes has
+-- longer times
+pub record IsSized (w : CableWorld) (nodes delay : ℕ) (longest : Timing) : Type 0 where
+  pub nodes_are : length w.nodes ≡ nodes
+  pub cables_are : length w.cabling ≡ nodes
+  pub delay_is : w.delay ≡ delay
+  pub longest_is : w.longest ≡ longest
 
 -- all of these turns were done, and nothing else
 abbrev pub IsAfterQuiet : CableWorld → CableWorld → Type 0

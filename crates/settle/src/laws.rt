@@ -3,6 +3,7 @@ ghost use Rattle.settle.specs.ReadBack.{ListsAreReadBack, ListsAreTheCables};
 ghost use Rattle.settle.specs.OneReport.{OneReportAtMost, OneReportedAtMost, OnePartAtMost};
 ghost use Rattle.settle.specs.ReportedOutcome.{ReportedIsOutcome};
 ghost use Rattle.settle.specs.QuietTurns.{QuietTurnsSettle, SettledWorldsAreReached};
+ghost use Rattle.settle.specs.QuietTurns.{NodesTellTurns};
 ghost use Rattle.settle.specs.SomeReport.{ReportsExist};
 ghost use Rattle.settle.specs.SomeWalk.{WalksExist};
 
@@ -35,10 +36,12 @@ pub fn reports_are_outcomes()
 {}
 
 /// A reached world has settled once as many turns as it is given are done; and each world that has
-/// settled is reached.
+/// settled is reached. Where the times of nodes are in their ranges, `quiet_turns` tells how many it
+/// is given.
 pub fn quiet_turns_settle()
     ensures plain { QuietTurnsSettle }
     ensures reached { SettledWorldsAreReached }
+    ensures in_range { NodesTellTurns }
 {}
 
 /// Each world that has settled has a report, whatever memory there is to make it.

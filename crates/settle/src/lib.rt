@@ -17,6 +17,6 @@ pub use laws::{
     quiet_turns_settle, reports_are_one, reports_are_outcomes, reports_are_read_back,
     reports_exist, walks_exist,
 };
-pub use quiet::quiet_turns;
+pub use quiet::{quiet_turns, quiet_turns_for};
 pub use report::{Outcome, Part, PartList, Report};
 pub use settling::{report_of, settle};

@@ -9,7 +9,7 @@ ghost use Rattle.settle.specs.Report.{AreParts, IsReport, quiet_turns_of, IsAfte
 ghost use Rattle.settle.specs.Forced.{ForcedNodeIsRoot};
 
 use crate::part::{attrs_of, part_of};
-use crate::quiet::quiet_turns;
+use crate::quiet::quiet_turns_for;
 use crate::report::{Part, PartList, Report};
 use cable_world::WorldRun;
 use cabling::{OutOfMemory, components_are_whole, components_exist};
@@ -50,7 +50,7 @@ fn parts_of<W: WorldRun>(alloc: Global, world: &W) -> Result<PartList, OutOfMemo
 }
 
 /// Reports what each component of a world came to that has settled: it isn't spent, and at least as
-/// many turns as `quiet_turns` says were done since the last act, with or without holds between
+/// many turns as `quiet_turns_for` says were done since the last act, with or without holds between
 /// them.
 pub fn report_of<W: WorldRun>(alloc: Global, world: &W) -> Result<Report, OutOfMemory>
     requires fine { IsFalse (W.is_spent world.now) }
@@ -63,8 +63,8 @@ pub fn report_of<W: WorldRun>(alloc: Global, world: &W) -> Result<Report, OutOfM
     })
 }
 
-/// Does as many turns as `quiet_turns` says for the nodes and the delay of a world, and reports what
-/// each component came to: each comes to a loop, a contention or a tree, and no node is in R0 or R1
+/// Does as many turns as `quiet_turns_for` says for the nodes, the delay and the longest times of a
+/// world, and reports what each component came to: each comes to a loop, a contention or a tree, and no node is in R0 or R1
 /// then. With the turns done before they are at most 4,000,000,000.
 ///
 /// Where a reset had just begun in a component without loop, and one of its nodes alone is forced
@@ -93,7 +93,7 @@ pub fn settle<W: WorldRun>(alloc: Global, world: &mut W) -> Result<Report, OutOf
     components_settle();
     resets_spread();
     forced_roots_settle();
-    let quiet = quiet_turns(world.cabling().nodes(), world.delay());
+    let quiet = quiet_turns_for(world.cabling().nodes(), world.delay(), world.longest());
     world.run_turns(quiet)?;
     let report = report_of(alloc, &*world)?;
     Ok(report)
