@@ -1,7 +1,11 @@
 -- The times of nodes that share a bus, in ticks, where a cable delays a signal by at most d ticks.
 -- What holds of every world rests on these inequalities alone.
-use Rattle.std.specs.Prelude.{ℕ, ◌+◌, ◌*◌, ◌<◌, ◌≤◌}
+use Rattle.std.specs.Prelude.{◌≡◌, ℕ, ◌+◌, ◌*◌, ◌<◌, ◌≤◌, Ok}
+use Rattle.self_id.specs.declared.standard.Standard.{Standard}
 use Rattle.port_state.specs.declared.timing.Timing.{Timing}
+use Rattle.port_state.specs.declared.ranges.TimeRanges.{TimeRanges}
+use Rattle.port_state.specs.TimeRanges.{AreSuitable, AreWithin, suitable}
+use Rattle.port_state.specs.StandardTimes.{standard_ranges}
 
 -- times that a node can count
 pub record AreCounted (longest : Timing) : Type 0 where
@@ -50,3 +54,18 @@ pub record SuitsCables (d : ℕ) (t : Timing) : Type 0 where
   pub long_least : 2 * d < t.long
   pub long_most : t.long ≤ 65535
   pub apart : t.short + 2 * d ≤ t.long
+
+-- ---- laws
+
+-- nodes whose times are in suitable ranges suit a bus, and can be forced
+abbrev pub RangesSuit : Type 0
+RangesSuit =
+    (d : ℕ) (r : TimeRanges) (t : Timing) → AreSuitable d r → AreWithin r t →
+    Suits d r.most t × CanBeForced d r.most t
+
+-- so do nodes with the times of a standard, where these can be had in ticks
+abbrev pub StandardTimesSuit : Type 0
+StandardTimesSuit =
+    (standard : Standard) (d ns : ℕ) (r : TimeRanges) (t : Timing) →
+    suitable d (standard_ranges standard d ns) ≡ Ok r → AreWithin r t →
+    Suits d r.most t × CanBeForced d r.most t

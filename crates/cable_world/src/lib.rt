@@ -18,6 +18,7 @@ mod run;
 mod start;
 mod steps;
 mod still;
+mod time_laws;
 mod wire;
 mod world;
 
@@ -28,5 +29,6 @@ pub use laws::{
     turn_keeps, turns_add_up, worlds_come_of_power_on, worlds_stay_lawful, worlds_stay_reached,
 };
 pub use run::{ShowsWires, WorldRun};
+pub use time_laws::times_suit;
 pub use wire::Travelling;
 pub use world::World;

@@ -4,6 +4,7 @@ pub mod EachPort
 pub mod IdleTicks
 pub mod Lemmas
 pub mod Pointwise
+pub mod Suitable
 pub mod Roles
 pub mod OnPorts
 pub mod PortBits

@@ -1,11 +1,12 @@
 -- The times of a node in the standards, in nanoseconds, as they are remembered: they weren't looked
 -- up in a text. By name these are RESET_TIME, FORCE_ROOT_TIMEOUT, CONFIG_TIMEOUT, ROOT_CONTEND_FAST
 -- and ROOT_CONTEND_SLOW.
-use Rattle.std.specs.Prelude.{ℕ, ◌+◌, ◌-◌, ◌*◌, ◌/◌}
+use Rattle.std.specs.Prelude.{ℕ, ◌+◌, ◌-◌, ◌*◌, ◌/◌, ◌≤◌}
 use Rattle.self_id.specs.declared.standard.Standard.{Standard}
 use Rattle.self_id.specs.declared.standard.Standard.TheVariants.{Ieee1995, Ieee2000}
 use Rattle.port_state.specs.declared.timing.Timing.{Timing}
 use Rattle.port_state.specs.declared.ranges.TimeRanges.{TimeRanges}
+use Rattle.port_state.specs.TimeRanges.{AreSuitable}
 
 -- from the least to the greatest, where only the waits of a contention differ
 abbrev pub nanoseconds : Standard → TimeRanges
@@ -42,3 +43,16 @@ standard_ranges standard d ns = record {
   least = each_time (ticks_down d ns) (nanoseconds standard).least;
   most = each_time (ticks_up d ns) (nanoseconds standard).most;
 }
+
+-- ---- laws
+
+-- With 16 ticks for the delay of a cable the times of IEEE Std 1394a-2000 are suitable for delays of
+-- 41 to 363 nanoseconds, and those of IEEE Std 1394-1995 for 41 to 116.
+abbrev pub FineTicksAreSuitable : Standard → ℕ → Type 0
+FineTicksAreSuitable standard most =
+    (ns : ℕ) → 41 ≤ ns → ns ≤ most → AreSuitable 16 (standard_ranges standard 16 ns)
+
+-- With 4 ticks it is so from 11 on.
+abbrev pub CoarseTicksAreSuitable : Standard → ℕ → Type 0
+CoarseTicksAreSuitable standard most =
+    (ns : ℕ) → 11 ≤ ns → ns ≤ most → AreSuitable 4 (standard_ranges standard 4 ns)
