@@ -4,7 +4,7 @@ use Rattle.std.specs.Prelude.{◌≡◌, ℕ, ◌+◌, ◌*◌, ◌<◌, ◌≤�
 use Rattle.self_id.specs.declared.standard.Standard.{Standard}
 use Rattle.port_state.specs.declared.timing.Timing.{Timing}
 use Rattle.port_state.specs.declared.ranges.TimeRanges.{TimeRanges}
-use Rattle.port_state.specs.TimeRanges.{AreSuitable, AreWithin, suitable}
+use Rattle.port_state.specs.TimeRanges.{AreSuitable, AreWithin, suitable, profile_ranges}
 use Rattle.port_state.specs.StandardTimes.{standard_ranges}
 
 -- times that a node can count
@@ -36,13 +36,7 @@ pub record CanBeForced (d : ℕ) (longest t : Timing) : Type 0 where
 
 -- the longest that `InRange` allows
 abbrev pub longest_in_range : ℕ → Timing
-longest_in_range d = record {
-  hold = 80 * d;
-  force = 256 * d;
-  timeout = 512 * d;
-  short = 4 * d;
-  long = 10 * d;
-}
+longest_in_range d = (profile_ranges d).most
 
 -- ---- one node, and two
 

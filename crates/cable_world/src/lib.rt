@@ -10,7 +10,6 @@ mod act;
 mod acting;
 mod all_nodes;
 pub mod laws;
-mod longest;
 mod nodes;
 pub mod parts;
 mod rows;

@@ -3,7 +3,6 @@
 
 pub use crate::acting::act_world;
 pub use crate::all_nodes::{last_change, turn_nodes, turn_one, turn_wires, turn_world};
-pub use crate::longest::longest_in_range;
 pub use crate::nodes::turn_node;
 pub use crate::rows::{ArrivalRow, WireRow};
 pub use crate::start::{arrival_rows, no_changes, port_counts, wire_rows};

@@ -11,14 +11,13 @@ ghost use Rattle.cable_world.specs.Parts.{world_record};
 use crate::act::{Act, ActStop};
 use crate::acting::act_world;
 use crate::all_nodes::turn_world;
-use crate::longest::longest_in_range;
 use crate::rows::{ArrivalRow, WireRow};
 use crate::run::{ShowsWires, WorldRun};
 use crate::start::{arrival_rows, no_changes, port_counts, wire_rows};
 use crate::wire::Travelling;
 use arrayvec::ArrayVec;
 use cabling::{CableFault, Cabling, End, OutOfMemory};
-use port_state::{PortMachine, Sends, Timing, View};
+use port_state::{PortMachine, Sends, TimeRanges, Timing, View};
 use self_id::Attrs;
 use std::alloc::{AllocError, Global};
 
@@ -55,7 +54,7 @@ impl<M: PortMachine + Drop> World<M> {
             ≡ world_of_nodes delay (map M.record_of machines.items)) }
         ensures spent { IfOk result (λ w. IsFalse (⟦<World<M> as WorldRun>⟧.is_spent w)) }
     {
-        World::with_times(alloc, machines, delay, longest_in_range(delay))
+        World::with_times(alloc, machines, delay, TimeRanges::profile(delay).most)
     }
 
     /// The same where the times of nodes are in no range, but none is longer than in `longest`, and

@@ -16,15 +16,13 @@ use crate::mask::NodeMask;
 use crate::node::AgendaNode;
 use crate::nodes::{Agenda, act_agenda, turn_agenda};
 use crate::still::TellsStillTurns;
-use cable_world::parts::{
-    ArrivalRow, WireRow, arrival_rows, longest_in_range, no_changes, port_counts, wire_rows,
-};
+use cable_world::parts::{ArrivalRow, WireRow, arrival_rows, no_changes, port_counts, wire_rows};
 use cable_world::{
     Act, ActStop, ShowsWires, Travelling, WorldRun, still_turns_pass, worlds_stay_lawful,
     worlds_stay_reached,
 };
 use cabling::{CableFault, Cabling, End, OutOfMemory};
-use port_state::{PortMachine, Sends, Timing, View};
+use port_state::{PortMachine, Sends, TimeRanges, Timing, View};
 use self_id::Attrs;
 use std::alloc::{AllocError, Global};
 
@@ -87,7 +85,7 @@ impl<M: PortMachine + Drop> AgendaWorld<M> {
             ≡ world_of_nodes delay (map M.record_of machines.items)) }
         ensures spent { IfOk result (λ w. IsFalse (⟦<AgendaWorld<M> as WorldRun>⟧.is_spent w)) }
     {
-        AgendaWorld::with_times(alloc, machines, delay, longest_in_range(delay))
+        AgendaWorld::with_times(alloc, machines, delay, TimeRanges::profile(delay).most)
     }
 
     /// The same where the times of nodes are in no range, but none is longer than in `longest`, and
