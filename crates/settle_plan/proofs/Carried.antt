@@ -16,21 +16,20 @@ use Rattle.port_state.specs.Config.{config_packet}
 use Rattle.port_state.specs.Machine.{PortNode, node_disturb, node_set_config}
 use Rattle.cable_world.specs.declared.act.Act.TheVariants.{Config}
 use Rattle.cable_world.specs.World.{CableWorld}
-use Rattle.cable_world.specs.Run.{IsReached, quiet_turns}
+use Rattle.cable_world.specs.Run.{IsReached}
 use Rattle.cable_world.specs.Act.{IsAct, ActLeads, act_fault, change_in_set}
 use Rattle.cable_world.specs.Lawful.{IsWellFormed, IsLawful}
 use Rattle.cable_world.specs.Outcome.{IsTree, attrs_now}
-use Rattle.cable_world.proofs.Lemmas.{some-of, some-at, reached-lawful, act-reached, turns-reached, step-cables, plain-quiet, plainly, turns-cabling}
+use Rattle.cable_world.proofs.Lemmas.{some-of, some-at, reached-comes, reached-forced, reached-lawful, act-reached, turns-reached, step-cables, plain-quiet, plainly, turns-cabling}
 use Rattle.convergence.specs.Turns.{turns_to_over}
 use Rattle.cable_world.specs.Quiet.{no_holds}
 use Rattle.outcomes.specs.Forced.{NamesRoot}
 use Rattle.outcomes.specs.Settled.{IdsNameOneNode, ConfigsMoveRoots, ConfigsSetGaps}
-use Rattle.outcomes.proofs.Lemmas.{quiet-enough}
 use Rattle.root_plan.specs.declared.choice.RootPlan.{RootPlan}
 use Rattle.settle.specs.Report.{AreParts, IsTreeFrom, IsAfterQuiet, quiet_turns_of}
 use Rattle.settle.specs.declared.report.Part.{Part}
 use Rattle.settle_plan.specs.Planned.{WantsGap, SuitsTree, HasId, HaveGap}
-use Rattle.settle.proofs.Lemmas.{FoundTree, found, found-tree, same-component}
+use Rattle.settle.proofs.Lemmas.{FoundTree, found, found-tree, same-component, turns-enough}
 use Rattle.settle_plan.proofs.Suited.{from-there, bus-of, tree-there, packet-fits, loopless-from}
 
 -- ---- answers
@@ -79,12 +78,6 @@ module _
       let u = reached-lawful v (subst IsReached (sym quiet) (turns-reached (quiet_turns_of sent) sent s)) in
       u.well_formed.count ∙ ap length cables ∙ sym l.well_formed.count)
 
-  -- as many turns as the nodes want
-  enough : IsReached w → quiet_turns (length sent.nodes) sent.delay ≤ quiet_turns_of sent
-  enough r =
-      let lawful = reached-lawful sent (act-reached (Config from plan.root_id true (Some plan.gap)) w sent fits accepted act r) in
-      omega (arith, ap (λ (n : ℕ). quiet_turns n sent.delay) lawful.well_formed.count)
-
   module _ (root : ℕ) (h : HasId w from plan.root_id root) where
     inside : Holds set root
     inside = (same-component w.cabling from h.set set h.component component).0 root h.holds
@@ -93,7 +86,7 @@ module _
     named r = record {
       act = act;
       component = component;
-      named = names w set s.root root plan.root_id s.tree r (tree-there w l from plan s set component small) inside h.named;
+      named = names w set s.root root plan.root_id s.tree (reached-comes w r) (tree-there w l from plan s set component small) inside h.named;
     }
 
     -- ---- the tree
@@ -101,7 +94,8 @@ module _
     moved : IsReached w → (t : Tree) × IsTree v set root t
     moved r =
         let n = (tree-there w l from plan s set component small).no_loop in
-        let t = moves no_holds w sent (quiet_turns_of sent) from plan.root_id (Some plan.gap) set root r fits accepted (named r) n (enough r) in
+        let can = reached-forced sent (act-reached (Config from plan.root_id true (Some plan.gap)) w sent fits accepted act r) root in
+        let t = moves no_holds w sent (quiet_turns_of sent) from plan.root_id (Some plan.gap) set root (reached-comes w r) fits accepted (named r) can n (turns-enough sent) in
         (t.0, subst (λ (u : CableWorld). IsTree u set root t.0) (sym quiet) (plainly (λ u. IsTree u set root t.0) (quiet_turns_of sent) sent t.1))
 
     pub tree-from : (parts : List Part) → AreParts v parts → Any (IsTreeFrom w.cabling from root) parts
@@ -161,5 +155,5 @@ module _
         gap-at : IsReached w → (k : ℕ) (y : PortNode) → Holds set k → slice_get v.nodes k ≡ Some y → y.state.view.gap ≡ plan.gap
         gap-at r k y m at =
             let x = stood k m in
-            let over : turns_to_over sent ≤ quiet_turns_of sent = omega (arith, enough r, quiet-enough (length sent.nodes) sent.delay) in
-            sets no_holds w sent (quiet_turns_of sent) from plan.root_id (Some plan.gap) set root k x.0 y r fits accepted (named r) over m x.1 (ap (λ (u : CableWorld). slice_get u.nodes k) (plain-quiet (quiet_turns_of sent) sent ∙ sym quiet) ∙ at)
+            let over : turns_to_over sent ≤ quiet_turns_of sent = omega (arith, turns-enough sent) in
+            sets no_holds w sent (quiet_turns_of sent) from plan.root_id (Some plan.gap) set root k x.0 y (reached-comes w r) fits accepted (named r) over m x.1 (ap (λ (u : CableWorld). slice_get u.nodes k) (plain-quiet (quiet_turns_of sent) sent ∙ sym quiet) ∙ at)
