@@ -68,6 +68,8 @@ pub use Rattle.cable_world.proofs.tables.TablesInActs.{act-formed, altered, as_b
 pub use Rattle.cable_world.proofs.tables.TablesInSteps.{HasEntry, not-replaced, put-lengths, put-other, put-same, replaced, sent-length, step-cables}
 -- A turn keeps a world well formed.
 pub use Rattle.cable_world.proofs.tables.TablesInTurns.{turn-formed}
+-- Turns and acts change no node's times, so that who can be forced stays so.
+pub use Rattle.cable_world.proofs.tables.TimesKept.{act-forced, turn-forced}
 -- A turn, node by node and wire by wire.
 pub use Rattle.cable_world.proofs.turns.ByNumber.{cabling-after, delay-after, longest-after, node-after, nodes-after, sent-at, turns-counted, wire-after}
 -- What is to be known of a node that hears a list of signals.

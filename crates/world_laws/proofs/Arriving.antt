@@ -16,7 +16,7 @@ use Rattle.cable_world.specs.Act.{ActLeads, IsAct, act_fault, hold, hold_fault}
 use Rattle.cable_world.specs.Run.{Event, acts, holds, turns, Happens, Runs}
 use Rattle.cable_world.specs.Signals.{signals_of}
 use Rattle.cable_world.specs.Lawful.{AgesFall, IsWellFormed}
-use Rattle.cable_world.proofs.Lemmas.{reached-lawful, Acting, acting, hold-signals, signals-append, signals-sent, signals-older, CableEnd, cable-end, act-keeps, act-formed, hold-formed, turn-formed, wire-after, cabling-after, delay-after, comes}
+use Rattle.cable_world.proofs.Lemmas.{comes-lawful, Acting, acting, hold-signals, signals-append, signals-sent, signals-older, CableEnd, cable-end, act-keeps, act-formed, hold-formed, turn-formed, wire-after, cabling-after, delay-after, comes}
 use Rattle.outcomes.specs.Settled.{turn_count}
 use Rattle.world_laws.proofs.ActCables.{act-cable}
 use Rattle.world_laws.specs.Arrival.{heard_at, heard_in, CablesStay, SignalsArrive, SignalsKeepTheirOrder}
@@ -195,7 +195,7 @@ stays-joined (e ∷ events) w v a b f cable un run = elim (step e w run.0 a b f 
 ]
 
 pub cables-stay : CablesStay
-cables-stay w v events a b j run = stays-joined events w v a b (reached-lawful w j.reached).well_formed j.cable j.unpulled run
+cables-stay w v events a b j run = stays-joined events w v a b (comes-lawful w j.comes).well_formed j.cable j.unpulled run
 
 -- ---- within d turns
 
@@ -276,7 +276,7 @@ deliver (e ∷ events) w v run a b before t after f cable un at due = elim (step
 
 pub signals-arrive : SignalsArrive
 signals-arrive w v events run a b before t after j at due =
-    deliver events w v run a b before t after (reached-lawful w j.reached).well_formed j.cable j.unpulled at due
+    deliver events w v run a b before t after (comes-lawful w j.comes).well_formed j.cable j.unpulled at due
 
 -- ---- in order and once
 
@@ -339,4 +339,4 @@ in-order (e ∷ events) w v run a b f cable un = elim (step e w run.0 a b f cabl
 ]
 
 pub keep-order : SignalsKeepTheirOrder
-keep-order w v events run a b j = in-order events w v run a b (reached-lawful w j.reached).well_formed j.cable j.unpulled
+keep-order w v events run a b j = in-order events w v run a b (comes-lawful w j.comes).well_formed j.cable j.unpulled

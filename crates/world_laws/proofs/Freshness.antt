@@ -12,11 +12,11 @@ use Rattle.port_state.specs.Machine.{PortNode, node_set_config}
 use Rattle.cable_world.specs.declared.act.Act.{Act}
 use Rattle.cable_world.specs.World.{CableWorld, IsPowerOnWorld}
 use Rattle.cable_world.specs.Act.{ActLeads, IsAct, act_fault, change_in_set}
-use Rattle.cable_world.specs.Run.{Event, acts, holds, turns, Happens, Runs, IsReached}
+use Rattle.cable_world.specs.Run.{Event, acts, holds, turns, Happens, Runs, ComesOfPowerOn}
 use Rattle.cable_world.specs.Lawful.{IsLawful, IsWellFormed}
 use Rattle.cable_world.specs.Phases.{is_in_bus_reset}
 use Rattle.cable_world.specs.Fresh.{IsFresh}
-use Rattle.cable_world.proofs.Lemmas.{some-of, some-at, some-same, reached-lawful, power-on-reached, turn-reached, hold-reached, act-reached, Acting, acting, HasBegun, act-keeps, as_before, altered, was, quiet-reached}
+use Rattle.cable_world.proofs.Lemmas.{some-of, some-at, some-same, comes-lawful, power-on-comes, turn-comes, hold-comes, act-comes, Acting, acting, HasBegun, act-keeps, as_before, altered, was, quiet-comes}
 use Rattle.outcomes.specs.Forced.{IsForced, WaitsAlone}
 use Rattle.outcomes.specs.Settled.{turn_count}
 use Rattle.outcomes.proofs.Lemmas.{nodes-there, forced-outcome, done-at-last}
@@ -91,30 +91,30 @@ same-fates w v e k x at = inr (same-phase w k x (sym (ap (λ (ns : List PortNode
 
 -- ---- runs
 
-event-reached :
-    (e : Event) (w v : CableWorld) → Happens e w v → IsReached w → IsReached v
-event-reached (acts a) w v h r = act-reached a w v h.0 h.1 h.2 r
-event-reached (holds end n) w v h r = subst IsReached (sym h.1) (hold-reached end n w h.0 r)
-event-reached turns w v h r = subst IsReached (sym h) (turn-reached w r)
+event-comes :
+    (e : Event) (w v : CableWorld) → Happens e w v → ComesOfPowerOn w → ComesOfPowerOn v
+event-comes (acts a) w v h r = act-comes a w v h.0 h.1 h.2 r
+event-comes (holds end n) w v h r = subst ComesOfPowerOn (sym h.1) (hold-comes end n w h.0 r)
+event-comes turns w v h r = subst ComesOfPowerOn (sym h) (turn-comes w r)
 
-pub run-reached :
-    (events : List Event) (w v : CableWorld) → Runs events w v → IsReached w → IsReached v
-run-reached [] w v run r = subst IsReached (sym run) r
-run-reached (e ∷ events) w v run r = run-reached events run.0 v run.2 (event-reached e w run.0 run.1 r)
+pub run-comes :
+    (events : List Event) (w v : CableWorld) → Runs events w v → ComesOfPowerOn w → ComesOfPowerOn v
+run-comes [] w v run r = subst ComesOfPowerOn (sym run) r
+run-comes (e ∷ events) w v run r = run-comes events run.0 v run.2 (event-comes e w run.0 run.1 r)
 
 no-turn-first : (events : List Event) → turn_count (turns ∷ events) ≡ 0 → ⊥
 no-turn-first events e = omega (arith, e)
 
 run-fates :
     (events : List Event) (w v : CableWorld) → Runs events w v → turn_count events ≡ 0 →
-    IsReached w → Fates w v
+    ComesOfPowerOn w → Fates w v
 run-fates [] w v run none r = same-fates w v (ap (λ (z : CableWorld). z.nodes) run)
 run-fates (acts a ∷ events) w v run none r =
-    then-fates w run.0 v (act-fates a w run.0 run.1.0 run.1.1 run.1.2 (reached-lawful w r).well_formed)
-    (run-fates events run.0 v run.2 none (event-reached (acts a) w run.0 run.1 r))
+    then-fates w run.0 v (act-fates a w run.0 run.1.0 run.1.1 run.1.2 (comes-lawful w r).well_formed)
+    (run-fates events run.0 v run.2 none (event-comes (acts a) w run.0 run.1 r))
 run-fates (holds end n ∷ events) w v run none r =
     then-fates w run.0 v (same-fates w run.0 (ap (λ (z : CableWorld). z.nodes) run.1.1))
-    (run-fates events run.0 v run.2 none (event-reached (holds end n) w run.0 run.1 r))
+    (run-fates events run.0 v run.2 none (event-comes (holds end n) w run.0 run.1 r))
 run-fates (turns ∷ events) w v run none r = absurd (no-turn-first events none)
 
 run-length :
@@ -133,7 +133,7 @@ record InReset (v : CableWorld) (k : ℕ) : Type 0 where
 
 stays-in-reset :
     (events : List Event) (w v : CableWorld) → Runs events w v → turn_count events ≡ 0 →
-    IsReached w → (k : ℕ) → InReset w k → InReset v k
+    ComesOfPowerOn w → (k : ℕ) → InReset w k → InReset v k
 stays-in-reset events w v run none r k i = elim (slice_get_cases v.nodes k).1 [
   | inr lacks ↦ absurd (omega (arith, lacks.0, slice_get_within w.nodes k i.node i.at, run-length events w v run none))
   | inl found ↦ elim (run-fates events w v run none r k found.0 found.2) [
@@ -149,13 +149,13 @@ stays-in-reset events w v run none r k i = elim (slice_get_cases v.nodes k).1 [
 -- so is each node that an act of them resets
 touched-in :
     (events : List Event) (w v : CableWorld) (run : Runs events w v) → turn_count events ≡ 0 →
-    IsReached w → (k : ℕ) → IsTouchedIn k events w v run → InReset v k
+    ComesOfPowerOn w → (k : ℕ) → IsTouchedIn k events w v run → InReset v k
 touched-in [] w v run none r k h = absurd h
 touched-in (acts a ∷ events) w v run none r k (inl touched) =
-    let b : Begun run.0 k = touched-begun a w run.0 run.1.0 run.1.1 run.1.2 (reached-lawful w r) k touched in
-    stays-in-reset events run.0 v run.2 none (event-reached (acts a) w run.0 run.1 r) k (record { node = b.0; at = b.1; phase = b.2.phase })
-touched-in (acts a ∷ events) w v run none r k (inr later) = touched-in events run.0 v run.2 none (event-reached (acts a) w run.0 run.1 r) k later
-touched-in (holds end n ∷ events) w v run none r k h = touched-in events run.0 v run.2 none (event-reached (holds end n) w run.0 run.1 r) k h
+    let b : Begun run.0 k = touched-begun a w run.0 run.1.0 run.1.1 run.1.2 (comes-lawful w r) k touched in
+    stays-in-reset events run.0 v run.2 none (event-comes (acts a) w run.0 run.1 r) k (record { node = b.0; at = b.1; phase = b.2.phase })
+touched-in (acts a ∷ events) w v run none r k (inr later) = touched-in events run.0 v run.2 none (event-comes (acts a) w run.0 run.1 r) k later
+touched-in (holds end n ∷ events) w v run none r k h = touched-in events run.0 v run.2 none (event-comes (holds end n) w run.0 run.1 r) k h
 touched-in (turns ∷ events) w v run none r k h = absurd (no-turn-first events none)
 
 -- ---- fresh components
@@ -198,7 +198,7 @@ fresh-set v set k inside i there each = record {
 first-begins :
     (s w : CableWorld) (events : List Event) → IsPowerOnWorld s → Runs events s w →
     turn_count events ≡ 0 → (k : ℕ) (x : PortNode) → slice_get w.nodes k ≡ Some x → Begins x.state
-first-begins s w events p run none k x at = elim (run-fates events s w run none (power-on-reached s p) k x at) [
+first-begins s w events p run none k x at = elim (run-fates events s w run none (power-on-comes s p) k x at) [
   | inl b ↦ b
   | inr f ↦
       let on = (p.nodes k f.node f.at).is in
@@ -210,16 +210,16 @@ first-begins s w events p run none k x at = elim (run-fates events s w run none 
 
 pub first-fresh : PowerOnIsFresh
 first-fresh s w events node set p at_once here comp =
-    let r : IsReached w = run-reached events s w at_once.run (power-on-reached s p) in
-    let there = nodes-there w (reached-lawful w r) node set comp here in
+    let r : ComesOfPowerOn w = run-comes events s w at_once.run (power-on-comes s p) in
+    let there = nodes-there w (comes-lawful w r) node set comp here in
     let z = there node comp.holds in
     let b = first-begins s w events p at_once.run at_once.no_turn in
     fresh-set w set node comp.holds (record { node = z.0; at = z.1; phase = (b node z.0 z.1).phase }) there (λ j x h at. fresh-begun x.state (b j x at))
 
 pub acts-fresh : ActsMakeFresh
 acts-fresh w v events at_once node k set r comp calm inside touched =
-    let m : IsReached v = run-reached events w v at_once.run r in
-    let l : IsLawful v = reached-lawful v m in
+    let m : ComesOfPowerOn v = run-comes events w v at_once.run r in
+    let l : IsLawful v = comes-lawful v m in
     let i : InReset v k = touched-in events w v at_once.run at_once.no_turn r k touched in
     let own : IsComponent v.cabling k set = shared v.cabling node k set l.well_formed.cabling comp inside in
     let there = nodes-there v l k set own (slice_get_within v.nodes k i.node i.at) in
@@ -230,7 +230,7 @@ acts-fresh w v events at_once node k set r comp calm inside touched =
 
 pub settled-fresh : ActsMakeFreshOnceSettled
 settled-fresh placed w v n events at_once node k set r quiet comp inside touched =
-    acts-fresh (quiet_after placed n w) v events at_once node k set (quiet-reached placed n w r) comp (λ j x h at. done-at-last placed w n r quiet j x at) inside touched
+    acts-fresh (quiet_after placed n w) v events at_once node k set (quiet-comes placed n w r) comp (λ j x h at. done-at-last placed w n r quiet j x at) inside touched
 
 -- ---- a node that waits alone
 
@@ -242,23 +242,24 @@ waiting-there w set root k a h = elim (cases_eq k root) [
 ]
 
 forced :
-    (w : CableWorld) (node set root : ℕ) → IsReached w → IsFresh w set →
+    (w : CableWorld) (node set root : ℕ) → ComesOfPowerOn w → IsFresh w set →
     HasOneWaiting w node set root → IsForced w node set root
 forced w node set root r fresh h = record {
-  lawful = reached-lawful w r;
+  lawful = comes-lawful w r;
   component = h.component;
   no_loop = h.no_loop;
   fresh = fresh;
   alone = h.alone;
+  enough = h.enough;
 }
 
 pub fresh-roots : FreshRootsSettle
 fresh-roots placed w k node set root r fresh h quiet =
-    let l : IsLawful w = reached-lawful w r in
+    let l : IsLawful w = comes-lawful w r in
     let small : set < 2 ^ 63 = small-set set 63 (λ i inside. omega (arith, waiting-there w set root i h.alone inside, l.well_formed.count, l.well_formed.cabling.few_nodes)) in
     forced-outcome placed w r node set root (forced w node set root r fresh h) small k quiet
 
 pub first-roots : FirstRootsSettle
 first-roots placed s w events k node set root p at_once h quiet =
-    fresh-roots placed w k node set root (run-reached events s w at_once.run (power-on-reached s p))
+    fresh-roots placed w k node set root (run-comes events s w at_once.run (power-on-comes s p))
     (first-fresh s w events node set p at_once (waiting-there w set root node h.alone h.component.holds) h.component) h quiet

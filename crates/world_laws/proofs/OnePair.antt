@@ -9,10 +9,10 @@ use Rattle.port_state.specs.Machine.{PortNode}
 use Rattle.cable_world.specs.World.{CableWorld}
 use Rattle.cable_world.specs.Quiet.{quiet_after}
 use Rattle.cable_world.specs.Lawful.{IsLawful}
-use Rattle.cable_world.proofs.Lemmas.{some-same, quiet-lawful, reached-lawful}
+use Rattle.cable_world.proofs.Lemmas.{some-same, quiet-lawful, comes-lawful}
 use Rattle.convergence.specs.Milestones.{ResetsAreOver}
 use Rattle.convergence.specs.Rivals.{IsContested}
-use Rattle.convergence.proofs.Lemmas.{pair-only, pair-no-root, reached-contested, quiet-contested, resets-over, same-port}
+use Rattle.convergence.proofs.Lemmas.{pair-only, pair-no-root, comes-contested, quiet-contested, resets-over, same-port}
 use Rattle.world_laws.specs.OnePair.{RivalsAreOne, RivalsAreAlone, RivalsStayAlone, RivalsAreAloneByThen}
 
 -- a node has one parent port
@@ -52,5 +52,5 @@ stay-alone w l c over = alone w l c over
 
 pub alone-by-then : RivalsAreAloneByThen
 alone-by-then placed w k r late =
-    let l : IsLawful w = reached-lawful w r in
-    alone (quiet_after placed k w) (quiet-lawful placed k w l) (quiet-contested placed k w l (reached-contested w r)) (resets-over placed w l k late)
+    let l : IsLawful w = comes-lawful w r in
+    alone (quiet_after placed k w) (quiet-lawful placed k w l) (quiet-contested placed k w l (comes-contested w r)) (resets-over placed w l k late)

@@ -11,12 +11,12 @@ use Rattle.cable_world.specs.World.{CableWorld}
 use Rattle.cable_world.specs.Quiet.{HoldSchedule, holds_after, quiet_after}
 use Rattle.cable_world.specs.Lawful.{IsLawful}
 use Rattle.cable_world.specs.Outcome.{IsTree}
-use Rattle.cable_world.proofs.Lemmas.{quiet-then, quiet-lawful, quiet-reached, after-cabling, reached-lawful}
+use Rattle.cable_world.proofs.Lemmas.{quiet-then, quiet-lawful, quiet-comes, after-cabling, comes-lawful}
 use Rattle.convergence.specs.Kept.{IsGrown}
 use Rattle.convergence.specs.Milestones.{AreIdentifying, HasContention}
 use Rattle.convergence.proofs.Lemmas.{taken-reached, decided-reached, start-grown, grown-of, contention-after}
 use Rattle.outcomes.specs.Numbered.{Settles, IsAtRest}
-use Rattle.outcomes.proofs.Lemmas.{tree-soon, reached-numbering, quiet-numbering, tree-rests, room-to-rest}
+use Rattle.outcomes.proofs.Lemmas.{tree-soon, comes-numbering, quiet-numbering, tree-rests, room-to-rest}
 use Rattle.world_laws.specs.RestMilestone.{IsDecided, TreesRestOnceDecided, TreesRestByThen}
 use Rattle.world_laws.proofs.SmallSets.{small-component}
 
@@ -26,7 +26,7 @@ module _
     (comp : IsComponent (quiet_after hs (k + j) w).cabling node set)
     (is_core : IsCore (quiet_after hs (k + j) w).cabling set core) where
   lawful : IsLawful w
-  lawful = reached-lawful w is.reached
+  lawful = comes-lawful w is.comes
 
   v-lawful : IsLawful (quiet_after hs (k + j) w)
   v-lawful = quiet-lawful hs (k + j) w lawful
@@ -52,10 +52,10 @@ module _
       let whole : IsComponent (quiet_after hs (k + j) w).cabling n set = shared (quiet_after hs (k + j) w).cabling node n set v-lawful.well_formed.cabling comp inside in
       let small : set < 2 ^ 63 = small-component (quiet_after hs (k + j) w).cabling n set v-lawful.well_formed.cabling less whole in
       let here : n < length (quiet_after hs k w).nodes = omega (arith, less, ap length cables, u-lawful.well_formed.count) in
-      let s : Settles (quiet_after hs k w) set core = (quiet-numbering hs k w lawful (reached-numbering w is.reached)).walks n set core here (comp-then n whole) core-then small all in
+      let s : Settles (quiet_after hs k w) set core = (quiet-numbering hs k w lawful (comes-numbering w is.comes)).walks n set core here (comp-then n whole) core-then small all in
       let few : 5 * length (numbers (quiet_after hs k w).cabling s.root s.tree) * w.delay ≤ j = omega (arith, late, room-to-rest (length (numbers (quiet_after hs k w).cabling s.root s.tree)) w.delay s.is.walk.few) in
-      let tree : IsTree (quiet_after hs (k + j) w) set s.root s.tree = tree-soon hs w is.reached k is.over set core s.root s.tree s.is j few in
-      tree-rests (quiet_after hs (k + j) w) (quiet-reached hs (k + j) w is.reached) n set whole small s.root s.tree tree
+      let tree : IsTree (quiet_after hs (k + j) w) set s.root s.tree = tree-soon hs w is.comes k is.over set core s.root s.tree s.is j few in
+      tree-rests (quiet_after hs (k + j) w) (quiet-comes hs (k + j) w is.comes) n set whole small s.root s.tree tree
 
   rests : AreIdentifying (quiet_after hs k w) set → IsAtRest (quiet_after hs (k + j) w) set
   rests all = record {
@@ -87,7 +87,7 @@ rest-by-then placed w m r late node set core comp is_core empty =
     let k : ℕ = m - j in
     let sum : k + j ≡ m = omega (arith, late) in
     let grown : IsGrown (quiet_after placed k w) = start-grown placed w r k (omega (arith, late)) (taken-reached placed w k r (omega (arith, late))) in
-    let is : IsDecided placed w k = record { reached = r; over = omega (arith, late); grown = grown; decided = decided-reached placed w k r (omega (arith, late)) } in
+    let is : IsDecided placed w k = record { comes = r; over = omega (arith, late); grown = grown; decided = decided-reached placed w k r (omega (arith, late)) } in
     subst (λ (i : ℕ). IsAtRest (quiet_after placed i w) set ⊎ HasContention (quiet_after placed i w) set) sum
     (rest-or-contend placed w j k is (omega arith) node set core
     (subst (λ (i : ℕ). IsComponent (quiet_after placed i w).cabling node set) (sym sum) comp) (subst (λ (i : ℕ). IsCore (quiet_after placed i w).cabling set core) (sym sum) is_core) empty)

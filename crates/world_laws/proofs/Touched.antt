@@ -15,9 +15,9 @@ use Rattle.cable_world.specs.declared.act.Act.TheVariants.{Plug, Pull, Reset, Co
 use Rattle.cable_world.specs.World.{CableWorld}
 use Rattle.cable_world.specs.Act.{ActLeads, IsAct, act_fault, node_fault}
 use Rattle.cable_world.specs.Lawful.{IsLawful, IsWellFormed}
-use Rattle.cable_world.proofs.Lemmas.{some-of, some-at, reached-lawful, act-lawful, HasBegun, resets-disturb, resets-plugged, resets-pulled, act-keeps, has-cable}
+use Rattle.cable_world.proofs.Lemmas.{some-of, some-at, comes-lawful, act-lawful, HasBegun, resets-disturb, resets-plugged, resets-pulled, act-keeps, has-cable}
 use Rattle.convergence.specs.Milestones.{AreIdentifying}
-use Rattle.outcomes.proofs.Lemmas.{ready-hears, same-component, reached-numbering, tree-ready, act-tree}
+use Rattle.outcomes.proofs.Lemmas.{ready-hears, same-component, comes-numbering, tree-ready, act-tree}
 use Rattle.world_laws.specs.ByNumber.{BeginsReset, Stands, Changes}
 use Rattle.world_laws.specs.Touched.{Touches, IsUntouched, TouchedNodesReset, ActsTouchTheirComponent, UntouchedComponentsStay, UntouchedTreesStay}
 use Rattle.world_laws.proofs.ActsByNumber.{acts-by-number}
@@ -113,12 +113,12 @@ component-stays a w v is none e l node set u =
 
 pub tree-stays : UntouchedTreesStay
 tree-stays a w v node set root t is none e r u h =
-    let l : IsLawful w = reached-lawful w r in
+    let l : IsLawful w = comes-lawful w r in
     let m : IsLawful v = act-lawful a w v is none e l in
     let x = some-of (slice_get w.nodes node) _ (h.ids node u.component.holds) in
     let here : node < length v.nodes = omega (arith, slice_get_within w.nodes node x.0 x.1, (act-keeps a w v e).nodes) in
     let small : set < 2 ^ 63 = small-component v.cabling node set m.well_formed.cabling (omega (arith, here, m.well_formed.count)) u.component in
     let all : AreIdentifying v set = λ k z inside at.
     let still : slice_get v.nodes k ≡ slice_get w.nodes k = (stands a w v is none e l node set u k inside).node in
-    ready-hears z.state.view.phase (tree-ready w set root t (reached-numbering w r).identifies h k z inside (sym still ∙ at)) in
+    ready-hears z.state.view.phase (tree-ready w set root t (comes-numbering w r).identifies h k z inside (sym still ∙ at)) in
     act-tree a w v is none e r node set u.component here small all root t h

@@ -30,7 +30,7 @@ use Rattle.outcomes.specs.Forced.{waits_due}
 use Rattle.world_laws.specs.Arrival.{heard_in}
 use Rattle.world_laws.specs.Freshness.{RunsAtOnce, HasOneWaiting}
 use Rattle.convergence.specs.Turns.{turns_to_settle}
-use Rattle.cable_world.proofs.Lemmas.{powered-in-range}
+use Rattle.cable_world.proofs.Lemmas.{act-forced, in-range-forced, powered-in-range}
 use Rattle.world_laws.proofs.Freshness.{first-roots}
 
 -- with 3 ports, a link, S400 and no contender; forced or not
@@ -134,6 +134,7 @@ one-waits = record {
     waits = refl;
     others = each-held (λ k. k ≢ 1 → Shows plugged k (λ v. waits_due v ≡ false)) 3 (0 ∷ 1 ∷ []) refl ((λ ne. refl), ((λ ne. absurd (ne refl)), tt));
   };
+  enough = act-forced (Plug (at 0 0) (at 1 0)) alone plugged refl (λ k x e. in-range-forced 4 x.state.timing (omega arith) (each-on k x e).timing) 1;
 }
 
 pub second-is-root : (t : Tree) × IsTree (quiet_after no_holds (turns_to_settle plugged) plugged) 3 1 t

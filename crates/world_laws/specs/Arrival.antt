@@ -9,7 +9,7 @@ use Rattle.cable_world.specs.declared.act.Act.TheVariants.{Pull}
 use Rattle.cable_world.specs.declared.wire.Travelling.{Travelling}
 use Rattle.cable_world.specs.World.{CableWorld, wire_of}
 use Rattle.cable_world.specs.Turn.{inbox}
-use Rattle.cable_world.specs.Run.{Event, acts, holds, turns, Runs, IsReached}
+use Rattle.cable_world.specs.Run.{Event, acts, holds, turns, Runs, ComesOfPowerOn}
 use Rattle.cable_world.specs.Signals.{signals_of}
 use Rattle.outcomes.specs.Settled.{turn_count}
 
@@ -27,7 +27,7 @@ heard_in b (turns ∷ events) w v run = heard_at b w ++ heard_in b events run.0 
 
 -- a run in which a cable joins two ends, and no act pulls it
 pub record IsJoined (w : CableWorld) (events : List Event) (a b : End) : Type 0 where
-  pub reached : IsReached w
+  pub comes : ComesOfPowerOn w
   pub cable : far w.cabling a ≡ Some b
   pub unpulled : All (λ e. (e ≢ acts (Pull a)) × (e ≢ acts (Pull b))) events
 

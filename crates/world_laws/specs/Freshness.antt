@@ -6,11 +6,11 @@ use Rattle.cabling.specs.Component.{IsComponent}
 use Rattle.port_state.specs.Machine.{PortNode}
 use Rattle.cable_world.specs.World.{CableWorld, NodeNumber, NodeSet, IsPowerOnWorld}
 use Rattle.cable_world.specs.Quiet.{HoldSchedule, quiet_after}
-use Rattle.cable_world.specs.Run.{Event, acts, holds, turns, Runs, IsReached}
+use Rattle.cable_world.specs.Run.{Event, acts, holds, turns, Runs, ComesOfPowerOn}
 use Rattle.cable_world.specs.Phases.{is_in_bus_reset}
 use Rattle.cable_world.specs.Fresh.{IsFresh}
 use Rattle.cable_world.specs.Outcome.{HasNoLoop, IsTree}
-use Rattle.outcomes.specs.Forced.{WaitsAlone}
+use Rattle.outcomes.specs.Forced.{CanBeForcedAt, WaitsAlone}
 use Rattle.outcomes.specs.Settled.{turn_count}
 use Rattle.convergence.specs.Turns.{turns_to_settle}
 use Rattle.world_laws.specs.Touched.{Touches}
@@ -47,7 +47,7 @@ PowerOnIsFresh =
 abbrev pub ActsMakeFresh : Type 0
 ActsMakeFresh =
     (w v : CableWorld) (events : List Event) (run : RunsAtOnce w v events)
-    (node k : NodeNumber) (set : NodeSet) → IsReached w →
+    (node k : NodeNumber) (set : NodeSet) → ComesOfPowerOn w →
     IsComponent v.cabling node set → AreCalm w set → Holds set k →
     IsTouchedIn k events w v run.run → IsFresh v set
 
@@ -56,23 +56,25 @@ abbrev pub ActsMakeFreshOnceSettled : Type 0
 ActsMakeFreshOnceSettled =
     (holds : HoldSchedule) (w v : CableWorld) (n : ℕ) (events : List Event)
     (run : RunsAtOnce (quiet_after holds n w) v events) (node k : NodeNumber) (set : NodeSet) →
-    IsReached w → turns_to_settle w ≤ n → IsComponent v.cabling node set →
+    ComesOfPowerOn w → turns_to_settle w ≤ n → IsComponent v.cabling node set →
     Holds set k → IsTouchedIn k events (quiet_after holds n w) v run.run → IsFresh v set
 
--- a component without loop of whose nodes one alone waits to become root
+-- a component without loop of whose nodes one alone waits to become root, and is given time enough
+-- for it
 pub record HasOneWaiting
     (w : CableWorld) (node : NodeNumber) (set : NodeSet) (root : NodeNumber)
     : Type 0 where
   pub component : IsComponent w.cabling node set
   pub no_loop : HasNoLoop w set
   pub alone : WaitsAlone w set root
+  pub enough : CanBeForcedAt w root
 
--- a fresh one of a reached world comes to a tree with that root in as many quiet turns as settle
--- counts
+-- a fresh one of a world that comes of power-on comes to a tree with that root in as many quiet turns
+-- as settle
 abbrev pub FreshRootsSettle : Type 0
 FreshRootsSettle =
     (holds : HoldSchedule) (w : CableWorld) (k : ℕ) (node : NodeNumber) (set : NodeSet)
-    (root : NodeNumber) → IsReached w → IsFresh w set → HasOneWaiting w node set root →
+    (root : NodeNumber) → ComesOfPowerOn w → IsFresh w set → HasOneWaiting w node set root →
     turns_to_settle w ≤ k →
     (t : Tree) × IsTree (quiet_after holds k w) set root t
 

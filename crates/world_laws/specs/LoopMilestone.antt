@@ -5,7 +5,7 @@ use Rattle.cabling.specs.Component.{IsComponent}
 use Rattle.cabling.specs.Looped.{IsCore}
 use Rattle.cable_world.specs.World.{CableWorld, NodeNumber, NodeSet}
 use Rattle.cable_world.specs.Quiet.{HoldSchedule, quiet_after}
-use Rattle.cable_world.specs.Run.{IsReached}
+use Rattle.cable_world.specs.Run.{ComesOfPowerOn}
 use Rattle.cable_world.specs.Outcome.{IsLoop}
 use Rattle.convergence.specs.Milestones.{ResetsAreDone}
 use Rattle.convergence.specs.Turns.{loop_turns, turns_to_loops, HoldsAfter}
@@ -23,7 +23,7 @@ LoopsAreOut w =
 -- the longest timeout after resets are done, and at each turn from there
 abbrev pub LoopsComeOutOnceDone : Type 0
 LoopsComeOutOnceDone =
-    (holds : HoldSchedule) (w : CableWorld) (k : ℕ) → IsReached w → ResetsAreDone w →
+    (holds : HoldSchedule) (w : CableWorld) (k : ℕ) → ComesOfPowerOn w → ResetsAreDone w →
     loop_turns w ≤ k → LoopsAreOut (quiet_after holds k w)
 
 abbrev pub LoopsComeOutByThen : Type 0

@@ -3,7 +3,7 @@
 use Rattle.std.specs.Prelude.{◌⊎◌, ℕ, ◌+◌, ◌*◌, ◌≤◌}
 use Rattle.cable_world.specs.World.{CableWorld}
 use Rattle.cable_world.specs.Quiet.{HoldSchedule, quiet_after}
-use Rattle.cable_world.specs.Run.{IsReached}
+use Rattle.cable_world.specs.Run.{ComesOfPowerOn}
 use Rattle.convergence.specs.Kept.{IsGrown}
 use Rattle.convergence.specs.Milestones.{OfTrees, HasContention, TreesAreDecided}
 use Rattle.convergence.specs.Turns.{turns_to_over, turns_to_decision, HoldsAfter}
@@ -19,9 +19,9 @@ rest_turns w = 315 * w.delay
 abbrev pub turns_to_rest : CableWorld → ℕ
 turns_to_rest w = turns_to_decision w + rest_turns w
 
--- after so many quiet turns of a reached world trees are taken and decided
+-- after so many quiet turns of a world that comes of power-on trees are taken and decided
 pub record IsDecided (holds : HoldSchedule) (w : CableWorld) (k : ℕ) : Type 0 where
-  pub reached : IsReached w
+  pub comes : ComesOfPowerOn w
   pub over : turns_to_over w ≤ k
   pub grown : IsGrown (quiet_after holds k w)
   pub decided : TreesAreDecided (quiet_after holds k w)

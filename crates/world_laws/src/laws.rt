@@ -14,9 +14,9 @@ ghost use Rattle.world_laws.specs.SlotCabling.{EachBusTreeIsCabled, CabledTreesA
 ghost use Rattle.world_laws.specs.SlotCabling.{AcceptedListsAreEmitted};
 ghost use Rattle.world_laws.specs.SeenTrees.{SeenTreesAreBusTrees, SeenListsHaveOneTree};
 
-/// The wires deliver. In every run from a reached world in which the cable isn't pulled, each
-/// signal that is under way over it is heard at the far end by the time that it has been under way
-/// for d turns, right behind those that were sent before it. What is heard there, and then what is
+/// The wires deliver. In every run from a world that comes of power-on, and in which the cable isn't
+/// pulled, each signal that is under way over it is heard at the far end by the time that it has been
+/// under way for d turns, right behind those that were sent before it. What is heard there, and then what is
 /// under way, is what was under way, and then what was sent since: nothing is lost, or heard twice.
 pub fn signals_arrive()
     ensures arrive { SignalsArrive }
@@ -60,9 +60,9 @@ pub fn acts_make_fresh()
     ensures settled { ActsMakeFreshOnceSettled }
 {}
 
-/// Where of a fresh component without loop one node alone waits to become root, it comes to a tree
-/// with that root in as many quiet turns as a world is given to settle. So does each such component
-/// that was cabled before the first turn.
+/// Where of a fresh component without loop one node alone waits to become root, and is given time
+/// enough for it, it comes to a tree with that root in as many quiet turns as a world is given to
+/// settle. So does each such component that was cabled before the first turn.
 pub fn waiting_roots_settle()
     ensures fresh { FreshRootsSettle }
     ensures first { FirstRootsSettle }
@@ -76,15 +76,15 @@ pub fn rivals_are_alone()
 {}
 
 /// After n d quiet turns no later one makes a node enter R0, and so it stays. From such a world on
-/// no node is in R0 or R1 after 100 d turns.
+/// no node is in R0 or R1 after H + d turns, where H is the longest hold of the world.
 pub fn entries_end()
     ensures after { EntriesEnd }
     ensures stays { NoEntryStays }
     ensures done { DoneOnceNoneEnters }
 {}
 
-/// From 600 d turns after resets are done on, each node of a loop reports that the configuration
-/// timed out, and no node of its component has an ID.
+/// From T + 1 turns after resets are done on, where T is the longest timeout of the world, each node
+/// of a loop reports that the configuration timed out, and no node of its component has an ID.
 pub fn loops_are_out()
     ensures once_done { LoopsComeOutOnceDone }
     ensures reached { LoopsComeOutByThen }
