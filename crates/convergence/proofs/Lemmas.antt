@@ -18,7 +18,7 @@ pub use Rattle.convergence.proofs.ranks.RanksInActs.{act-acyclic, hold-acyclic, 
 pub use Rattle.convergence.proofs.ranks.RanksInTurns.{turn-acyclic}
 -- Every world that comes of a power-on world is acyclic.
 pub use Rattle.convergence.proofs.ranks.StaysAcyclic.{quiet-acyclic, comes-acyclic}
--- In quiet turns nobody is in R0 or R1 any more, 81 d turns after the last entry at the
+-- In quiet turns nobody is in R0 or R1 any more, the longest hold and d turns after the last entry at the
 -- latest.
 pub use Rattle.convergence.proofs.resets.ResetsDone.{done-over, only-wait, resets-done}
 -- After n * d quiet turns a Reset is under way to nodes in R0 alone: any other would enter

@@ -32,7 +32,7 @@ spreads : phases 4 ≡ ResetStart ∷ ResetStart ∷ ResetStart ∷ []
 unfolding turn turns_after enter tick on_signal group waiting
 spreads = refl
 
--- after 2 n d + 81 d turns
+-- after 2 n d turns, the longest hold and d
 ends : (phases 348 ≡ Ready ∷ Ready ∷ Ready ∷ []) × (parents 348 ≡ Some 0 ∷ Some 1 ∷ None ∷ [])
 unfolding turn turns_after enter tick on_signal group waiting
 ends = (refl, refl)
