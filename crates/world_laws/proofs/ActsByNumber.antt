@@ -10,13 +10,14 @@ use Rattle.cabling.proofs.Lemmas.{cases_end, same_ports, added_by_writes, taken_
 use Rattle.port_state.specs.declared.signal.Signal.TheVariants as signal
 use Rattle.port_state.specs.Config.{ConfigPacket, config_packet}
 use Rattle.port_state.specs.Machine.{PortNode, NodeStep, node_disturb, node_plugged, node_pulled, node_set_config}
+use Rattle.cable_world.specs.declared.act.Act.{Act}
 use Rattle.cable_world.specs.declared.act.Act.TheVariants.{Plug, Pull, Reset, Config}
 use Rattle.cable_world.specs.Wire.{Wire, empty_wire, add_signals}
 use Rattle.cable_world.specs.World.{CableWorld, wire_of, put}
-use Rattle.cable_world.specs.Act.{with_step, plug, pull_from, reset, change_in_set, configure, note_changes}
+use Rattle.cable_world.specs.Act.{ActLeads, IsAct, act_fault, with_step, plug, pull_from, reset, change_in_set, configure, note_changes}
 use Rattle.cable_world.specs.Lawful.{IsWellFormed}
 use Rattle.cable_world.proofs.Lemmas.{Cabled, with_cable, without_cable, plug-cabled, pull-cabled, Resets as Resetting, resets-disturb, resets-plugged, resets-pulled, other_than, Untouched, untouched, same-wire, still-there, CableEnd, cable-end, recabled, others-alone, has-wire, has-cable, plug-formed, pull-formed, reset-formed, told-formed, HasEntry, put-same, put-other, put-lengths, step-cables}
-use Rattle.world_laws.specs.ByNumber.{BeginsReset, Stands, Plugs, Pulls, Resets, Configures, ActsByNumber}
+use Rattle.world_laws.specs.ByNumber.{BeginsReset, Stands, Plugs, Pulls, Resets, Configures, Changes, ActsByNumber}
 use Rattle.world_laws.proofs.ActCables.{plug-cables, pull-cables, pulled-from}
 use Rattle.world_laws.proofs.NodeByNumber.{stepped-node, stepped-wire, changed-member, unchanged-other, same-change}
 
@@ -238,21 +239,26 @@ module _
         other-stands w told from refl (λ e. refl) new k (λ is. out (subst (λ j. Holds set j) (sym is) comp.holds)) (unchanged-other set heard w.nodes k out);
   }
 
-pub acts-by-number : ActsByNumber
-acts-by-number (Plug a b) w v is none e l = subst (λ (z : CableWorld). Plugs w z a b) (sym e) (plug-numbers a b w none l.well_formed)
-acts-by-number (Pull a) w v is none e l =
+pub changes :
+    (a : Act) (w v : CableWorld) → IsAct a → act_fault a w ≡ None → ActLeads a w v →
+    IsWellFormed w → Changes a w v
+changes (Plug a b) w v is none e f = subst (λ (z : CableWorld). Plugs w z a b) (sym e) (plug-numbers a b w none f)
+changes (Pull a) w v is none e f =
     let cable = has-cable w.cabling a none in
     let b : End = cable.0 in
     let now = pulled-from a b w v cable.1 e in (
       b,
       subst (λ (z : CableWorld). Pulls w z a b) (sym now)
-          (pull-numbers a b w cable.1 l.well_formed (subst (λ (o : Option End). IsWellFormed (pull_from a o w)) cable.1 (pull-formed a (far w.cabling a) w refl l.well_formed))),
+          (pull-numbers a b w cable.1 f (subst (λ (o : Option End). IsWellFormed (pull_from a o w)) cable.1 (pull-formed a (far w.cabling a) w refl f))),
     )
-acts-by-number (Reset node) w v is none e l = subst (λ (z : CableWorld). Resets w z node) (sym e) (reset-numbers node w l.well_formed)
-acts-by-number (Config from root_id force gap) w v is none e l =
+changes (Reset node) w v is none e f = subst (λ (z : CableWorld). Resets w z node) (sym e) (reset-numbers node w f)
+changes (Config from root_id force gap) w v is none e f =
     let packet : ConfigPacket = config_packet root_id force gap in
-    let formed : IsWellFormed (record w { nodes = change_in_set e.0 (node_set_config packet) 0 w.nodes }) = told-formed e.0 packet w is.bits l.well_formed in (
+    let formed : IsWellFormed (record w { nodes = change_in_set e.0 (node_set_config packet) 0 w.nodes }) = told-formed e.0 packet w is.bits f in (
       e.0,
       subst (λ (z : CableWorld). Configures w z from (node_set_config packet) e.0) (sym e.2)
           (configure-numbers e.0 from packet w e.1 (reset-formed from (record w { nodes = change_in_set e.0 (node_set_config packet) 0 w.nodes }) formed)),
     )
+
+pub acts-by-number : ActsByNumber
+acts-by-number a w v is none e l = changes a w v is none e l.well_formed

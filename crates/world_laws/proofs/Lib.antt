@@ -4,6 +4,7 @@
 --   Arriving      each signal that is under way is heard within d turns (`signals_arrive`)
 --   NodeByNumber  what a step of one node makes of each node and wire
 --   ActsByNumber  so for each act (`acts_by_number`)
+--   SentInActs    what is sent over a cable in an act
 --   LastChanges   when lists last changed (`changes_are_noted`)
 --   SmallSets     the nodes of a component exist
 --   Touched       which nodes an act resets, and what it leaves alone
@@ -22,6 +23,7 @@ pub mod ActCables
 pub mod Arriving
 pub mod NodeByNumber
 pub mod ActsByNumber
+pub mod SentInActs
 pub mod LastChanges
 pub mod SmallSets
 pub mod Touched

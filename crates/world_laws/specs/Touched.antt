@@ -1,6 +1,7 @@
 -- An act resets nodes, and leaves all components alone in which it resets none.
-use Rattle.std.specs.Prelude.{◌≡◌, ◌⊎◌, None, IsSomeAnd}
+use Rattle.std.specs.Prelude.{◌≡◌, ◌⊎◌, ◌↔◌, ◌==◌, ◌||◌, Bool, false, Option, None, Some, IsSomeAnd, IsTrue}
 use Rattle.topology_stack.specs.Tree.{Tree}
+use Rattle.cabling.specs.declared.cable.End.{End}
 use Rattle.cabling.specs.Wiring.{far}
 use Rattle.cabling.specs.NodeSet.{Holds}
 use Rattle.cabling.specs.Component.{IsComponent}
@@ -13,12 +14,24 @@ use Rattle.cable_world.specs.Run.{ComesOfPowerOn}
 use Rattle.cable_world.specs.Outcome.{Shows, IsTree}
 use Rattle.world_laws.specs.ByNumber.{Stands, InActs}
 
+-- whether there is an end, and it is at this node
+abbrev pub is_end_at : NodeNumber → Option End → Bool
+is_end_at k None = false
+is_end_at k (Some b) = k == b.node
+
 -- an act resets this node: an end of the cable that is plugged or pulled, or the node that is named
 abbrev pub Touches : Act → CableWorld → NodeNumber → Type 0
 Touches (Plug a b) w k = (k ≡ a.node) ⊎ (k ≡ b.node)
 Touches (Pull a) w k = (k ≡ a.node) ⊎ IsSomeAnd (far w.cabling a) (λ b. k ≡ b.node)
 Touches (Reset node) w k = k ≡ node
 Touches (Config from root_id force gap) w k = k ≡ from
+
+-- whether it does
+abbrev pub is_touched : Act → CableWorld → NodeNumber → Bool
+is_touched (Plug a b) w k = (k == a.node) || (k == b.node)
+is_touched (Pull a) w k = (k == a.node) || is_end_at k (far w.cabling a)
+is_touched (Reset node) w k = k == node
+is_touched (Config from root_id force gap) w k = k == from
 
 -- once an act is done this is a component, and it resets none of its nodes
 pub record IsUntouched
@@ -28,6 +41,10 @@ pub record IsUntouched
   pub none : (k : NodeNumber) → Holds set k → Touches a w k → ⊥
 
 -- ---- laws
+
+abbrev pub TouchesAreTested : Type 0
+TouchesAreTested =
+    (a : Act) (w : CableWorld) (k : NodeNumber) → IsTrue (is_touched a w k) ↔ Touches a w k
 
 -- each node that an act resets has just begun a reset
 abbrev pub TouchedNodesReset : Type 0

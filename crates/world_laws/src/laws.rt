@@ -1,10 +1,11 @@
 //! Laws of worlds. Each function is a fact for whoever reads or calls it.
-ghost use Rattle.world_laws.specs.Arrival.{CablesStay, SignalsArrive, SignalsKeepTheirOrder};
+ghost use Rattle.world_laws.specs.Arrival.{CablesStay, SignalsArrive};
+ghost use Rattle.world_laws.specs.Arrival.{SentSignalsArrive, SignalsKeepTheirOrder};
 ghost use Rattle.world_laws.specs.ByNumber.{ActsByNumber};
 ghost use Rattle.world_laws.specs.LastChanges.{TurnsNoteChanges, ActsNoteChanges};
 ghost use Rattle.world_laws.specs.Freshness.{PowerOnIsFresh, ActsMakeFresh, ActsMakeFreshOnceSettled};
 ghost use Rattle.world_laws.specs.Freshness.{FreshRootsSettle, FirstRootsSettle};
-ghost use Rattle.world_laws.specs.Touched.{TouchedNodesReset, ActsTouchTheirComponent, UntouchedComponentsStay, UntouchedTreesStay};
+ghost use Rattle.world_laws.specs.Touched.{TouchesAreTested, TouchedNodesReset, ActsTouchTheirComponent, UntouchedComponentsStay, UntouchedTreesStay};
 ghost use Rattle.world_laws.specs.DoneMilestone.{EntriesEnd, NoEntryStays, DoneOnceNoneEnters};
 ghost use Rattle.world_laws.specs.LoopMilestone.{LoopsComeOutOnceDone, LoopsComeOutByThen};
 ghost use Rattle.world_laws.specs.RestMilestone.{TreesRestOnceDecided, TreesRestByThen};
@@ -14,13 +15,16 @@ ghost use Rattle.world_laws.specs.SlotCabling.{EachBusTreeIsCabled, CabledTreesA
 ghost use Rattle.world_laws.specs.SlotCabling.{AcceptedListsAreEmitted};
 ghost use Rattle.world_laws.specs.SeenTrees.{SeenTreesAreBusTrees, SeenListsHaveOneTree};
 
-/// The wires deliver. In every run from a world that comes of power-on, and in which the cable isn't
-/// pulled, each signal that is under way over it is heard at the far end by the time that it has been
-/// under way for d turns, right behind those that were sent before it. What is heard there, and then what is
-/// under way, is what was under way, and then what was sent since: nothing is lost, or heard twice.
+/// The wires deliver. In every run from a world that comes of power-on, in which the cable isn't pulled, each
+/// signal that is under way over it is heard at the far end by the time that it has been under way
+/// for d turns, right behind those before it. What is heard there, and then what is under way, is
+/// what was under way, and then what the node at the near end sent in the run, by its own steps:
+/// nothing is lost, heard twice or heard out of order. So what was sent d turns ago or before has
+/// been heard.
 pub fn signals_arrive()
     ensures arrive { SignalsArrive }
     ensures order { SignalsKeepTheirOrder }
+    ensures sent { SentSignalsArrive }
     ensures joined { CablesStay }
 {}
 
@@ -44,6 +48,7 @@ pub fn changes_are_noted()
 /// them has then just begun a reset. A component of whose nodes it resets none was one before, each
 /// of its nodes is as it was, with its cables and wires, and a tree that it had come to stays.
 pub fn acts_touch_their_component()
+    ensures tested { TouchesAreTested }
     ensures resets { TouchedNodesReset }
     ensures others { ActsTouchTheirComponent }
     ensures component { UntouchedComponentsStay }
