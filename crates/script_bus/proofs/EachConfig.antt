@@ -39,7 +39,8 @@ use Rattle.script_told.specs.Step.{LineAnswer, AtNode, AtTree, Settled, Acts, Re
 use Rattle.script_told.specs.Script.{Stage, StageAnswer, running, bus_of, delay_of, onwards, Follows}
 use Rattle.script_told.specs.Run.{Entry}
 use Rattle.script_told.specs.SomeAnswer.{IsReachedBus}
-use Rattle.script_told.proofs.Lemmas.{stage-in, sound-bus, IsDone, each-done}
+use Rattle.script_text.specs.ReportText.{Names, IsReportText}
+use Rattle.script_told.proofs.Lemmas.{prints-tree, stage-in, printed-in, sound-bus, IsDone, each-done}
 use Rattle.script_bus.specs.codings.Standing.{StandsAs}
 use Rattle.script_bus.specs.EachConfig.{HasNewRoot, ConfigComesOut, EachConfigComesOut}
 use Rattle.script_bus.proofs.Standing.{reported-stands}
@@ -191,16 +192,17 @@ packet-fits node id gap h = record {
 
 -- ---- the bus that a command left
 
-record Leaves (bus : Bus) (c : Command) (next : Stage) : Type 0 where
+record Leaves (bus : Bus) (c : Command) (next : Stage) (told : List ℕ) : Type 0 where
   after : Bus
   text : List ℕ
   does : Does bus c (Ok (after, text))
   next_is : next ≡ running after
+  text_is : told ≡ text
 
 by-answer :
     (bus : Bus) (c : Command) (next : Stage) (t : List ℕ) (r : LineAnswer) → Does bus c r →
-    ◌≡◌ {A = StageAnswer} (Ok (next, t)) (onwards r) → Leaves bus c next
-by-answer bus c next t (Ok (after, text)) does same = record { after = after; text = text; does = does; next_is = ap stage-in same }
+    ◌≡◌ {A = StageAnswer} (Ok (next, t)) (onwards r) → Leaves bus c next t
+by-answer bus c next t (Ok (after, text)) does same = record { after = after; text = text; does = does; next_is = ap stage-in same; text_is = ap printed-in same }
 by-answer bus c next t (Err kind) does same = absurd cc
 
 module _
@@ -229,11 +231,12 @@ module _
     fits : IsAct (Config c.node id true gap)
     fits = packet-fits c.node id gap range
 
-    settles : id < length c.tree.order → HasNewRoot bus after c.node (node_with c.tree id) gap
+    settles : id < length c.tree.order → HasNewRoot bus after text c.node (node_with c.tree id) gap
     settles place = record {
-      report = is.0;
-      kept = ap (λ (n : Notes). n.report) is.3;
-      tree = tree-from names-one moves sets w sent.world after.world h.reached c.node there c.tree s id place gap fits c.accepted c.act is.1 is.0.parts is.2.parts;
+      tree =
+          prints-tree w.cabling c.node (node_with c.tree id) after is.0 text [] after.notes.reports (ap (λ (n : Notes). n.report) is.3)
+          (tree-from names-one moves sets w sent.world after.world h.reached c.node there c.tree s id place gap fits c.accepted c.act is.1 is.0.parts is.2.parts)
+          (subst (λ (ns : Names). IsReportText ns after.notes.reports is.0 text) (sym (ap (λ (n : Notes). n.names) is.3)) is.4);
       gaps = gaps names-one moves sets w sent.world after.world h.reached c.node there c.tree s id place gap fits c.accepted c.act is.1 gap refl;
     }
 
@@ -260,7 +263,7 @@ module _
         settled = c.settled;
         after = b.after;
         after_is = b.next_is;
-        root = settles (bus_of one.before) a.after b.after (sound-bus one.before first.sound) name id gap range c b.text r;
+        root = subst (λ t. id < length c.tree.order → HasNewRoot (bus_of one.before) b.after t c.node (node_with c.tree id) gap) (sym b.text_is) (settles (bus_of one.before) a.after b.after (sound-bus one.before first.sound) name id gap range c b.text r);
       }
 
   pub each-config : EachConfigComesOut

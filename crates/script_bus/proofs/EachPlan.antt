@@ -1,6 +1,6 @@
 -- A plan that was carried out comes out.
-use Rattle.std.proofs.Common.{◌≡◌, ◌<◌, ℕ, List, [], Option, IfSome, length, sym, subst, ◌∙◌, ap, arith}
-use Rattle.std.specs.Prelude.{Ok, Err, Any}
+use Rattle.std.proofs.Common.{◌≡◌, ◌<◌, ℕ, List, [], length, sym, subst, ◌∙◌, ap, arith}
+use Rattle.std.specs.Prelude.{Ok, Err}
 use Rattle.std.specs.Str.{bytes_eq}
 use Rattle.std.proofs.lemmas.List.Elements.{All-weaker}
 use Rattle.std.proofs.lemmas.List.Quantifiers.{position-Some}
@@ -14,8 +14,6 @@ use Rattle.cable_world.specs.Lawful.{IsLawful}
 use Rattle.cable_world.proofs.Lemmas.{reached-lawful}
 use Rattle.outcomes.specs.Settled.{TreesStay, IdsNameOneNode, ConfigsMoveRoots, ConfigsSetGaps}
 use Rattle.root_plan.proofs.Lemmas.{candidate_within}
-use Rattle.settle.specs.declared.report.Report.{Report}
-use Rattle.settle.specs.Report.{IsTreeFrom}
 use Rattle.settle_plan.specs.Planned.{SuitsTree, HasId, HaveGap}
 use Rattle.settle_plan.proofs.Lemmas.{suits, nodes-stay, tree-from, gap-of}
 use Rattle.script_lines.specs.declared.kind.Kind.{Kind}
@@ -28,7 +26,10 @@ use Rattle.script_told.specs.Run.{Entry}
 use Rattle.script_told.specs.EachPlan.{IsCarriedOut, ComesOut, EachPlanComesOut}
 use Rattle.script_told.specs.SomeAnswer.{IsReachedBus}
 use Rattle.script_told.specs.SomeManager.{IsManaged, ReportedTreesAreManaged}
-use Rattle.script_told.proofs.Lemmas.{tree-managed, stage-in, printed-in, sound-bus, plan-carried, IsDone, each-done}
+use Rattle.script_text.specs.ReportText.{Names, IsReportText}
+use Rattle.script_text.specs.Plan.{plan_line}
+use Rattle.script_told.specs.PrintedTree.{PrintsTree}
+use Rattle.script_told.proofs.Lemmas.{prints-tree, tree-managed, stage-in, printed-in, sound-bus, plan-carried, IsDone, each-done}
 use Rattle.script_bus.specs.codings.Standing.{StandsAs}
 use Rattle.script_bus.proofs.Standing.{reported-stands}
 use Rattle.script_bus.proofs.Planning.{its-id}
@@ -82,13 +83,15 @@ module _
         nodes-stay names-one moves sets w c.carried.sent.world after.world ∣ h.reached ∣₁ l c.node c.carried.plan suit k.set k.is k.small
         c.carried.sends.0 c.carried.sends.1 c.carried.reports.1
 
-    is-root : IfSome after.notes.report (λ r. Any (IsTreeFrom w.cabling c.node root) r.parts)
+    is-root : PrintsTree w.cabling c.node root after text
     is-root =
         let is = c.carried.reports in
-        subst (λ (o : Option Report). IfSome o (λ r. Any (IsTreeFrom w.cabling c.node root) r.parts))
-        (sym (ap (λ (n : Notes). n.report) is.3))
+        subst (PrintsTree w.cabling c.node root after) (sym c.carried.text_is)
+        (prints-tree w.cabling c.node root after is.0 c.carried.report (plan_line bus.notes.names name root c.carried.plan c.carried.expected) after.notes.reports
+        (ap (λ (n : Notes). n.report) is.3)
         (tree-from names-one moves sets w c.carried.sent.world after.world ∣ h.reached ∣₁ l c.node c.carried.plan suit k.set k.is k.small
         c.carried.sends.0 c.carried.sends.1 is.1 root id-is is.0.parts is.2.parts)
+        (subst (λ (ns : Names). IsReportText ns after.notes.reports is.0 c.carried.report) (sym (ap (λ (n : Notes). n.names) is.3)) is.4))
 
     have-gap : HaveGap after.world c.node c.carried.plan.gap
     have-gap =

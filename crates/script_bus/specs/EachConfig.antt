@@ -1,21 +1,19 @@
 -- What a configuration packet of a script comes to, where the bus settles next.
-use Rattle.std.specs.Prelude.{◌≡◌, ℕ, ◌<◌, List, ◌∷◌, ◌++◌, Any, Option, Some, IfSome, length}
+use Rattle.std.specs.Prelude.{◌≡◌, ℕ, ◌<◌, List, ◌∷◌, ◌++◌, Option, Some, IfSome, length}
 use Rattle.cable_world.specs.World.{NodeNumber}
-use Rattle.settle.specs.declared.report.Report.{Report}
-use Rattle.settle.specs.Report.{IsTreeFrom}
 use Rattle.settle_plan.specs.Planned.{HaveGap}
 use Rattle.script_lines.specs.declared.command.Command.TheVariants.{Settle, Config}
 use Rattle.script_told.specs.Bus.{Bus, Reported, node_named, tree_with}
 use Rattle.script_told.specs.Step.{node_with}
 use Rattle.script_told.specs.Script.{running, bus_of}
 use Rattle.script_told.specs.Run.{Entry, ScriptRun, IsRun}
+use Rattle.script_told.specs.PrintedTree.{PrintsTree}
 
--- With the cables as they were, this node is the root of the tree that is reported with a node, and
+-- With the cables as they were, this node is the root of the tree with a node that was printed, and
 -- every node of that has the gap count, where one was given.
-pub record HasNewRoot (bus after : Bus) (node root : NodeNumber) (gap : Option ℕ) : Type 0 where
-  pub report : Report
-  pub kept : after.notes.report ≡ Some report
-  pub tree : Any (IsTreeFrom bus.world.cabling node root) report.parts
+pub record HasNewRoot
+    (bus after : Bus) (text : List ℕ) (node root : NodeNumber) (gap : Option ℕ) : Type 0 where
+  pub tree : PrintsTree bus.world.cabling node root after text
   pub gaps : IfSome gap (HaveGap after.world node)
 
 -- The node with this name stood settled in a tree and sent the packet, and the bus settled. Where a
@@ -29,7 +27,7 @@ pub record ConfigComesOut (one two : Entry) (name : List ℕ) (id : ℕ) (gap : 
   pub after_is : two.after ≡ running after
   pub root :
       id < length tree.order →
-      HasNewRoot (bus_of one.before) after node (node_with tree id) gap
+      HasNewRoot (bus_of one.before) after two.text node (node_with tree id) gap
 
 -- ---- laws
 

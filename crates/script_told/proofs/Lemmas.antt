@@ -16,6 +16,8 @@ pub use Rattle.script_told.proofs.told.EachReport.{Says, is-none, settled-so, se
 pub use Rattle.script_told.proofs.told.Lines.{cabled, one-run, one-told}
 -- The parts of answers.
 pub use Rattle.script_told.proofs.told.Parts.{printed-in, stage-in, text-in}
+-- A tree of a report stands in its text.
+pub use Rattle.script_told.proofs.told.PrintedTree.{prints-tree}
 -- A plan that has an answer was carried out.
 pub use Rattle.script_told.proofs.told.PlanCarried.{plan-carried}
 -- A command leaves a bus whose world comes of power-on, and so does each line of a script.

@@ -3,8 +3,8 @@
 -- `Cables`: acts and turns leave cables that are a cabling, over which a world has one report.
 -- `Commands`: a command comes to one answer. `Reached`: it leaves a world that comes of power-on.
 -- `Lines`: what follows at a stage, and that lines have one run. `EachDone`: what holds of each command
--- of a run. `EachReport`: what reports say. `ReachedRuns`: the worlds of a run. `PlanCarried`: what stands
--- behind a plan.
+-- of a run. `EachReport`: what reports say. `ReachedRuns`: the worlds of a run. `PrintedTree`: a
+-- tree in what was printed. `PlanCarried`: what stands behind a plan.
 pub mod Parts
 pub mod Cables
 pub mod Commands
@@ -13,4 +13,5 @@ pub mod Lines
 pub mod EachDone
 pub mod EachReport
 pub mod ReachedRuns
+pub mod PrintedTree
 pub mod PlanCarried

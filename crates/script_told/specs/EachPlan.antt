@@ -1,13 +1,13 @@
 -- What each plan of a script comes to.
-use Rattle.std.specs.Prelude.{◌≡◌, ℕ, List, All, Any, Some, IfSome}
+use Rattle.std.specs.Prelude.{◌≡◌, ℕ, List, All, Some}
 use Rattle.cable_world.specs.World.{NodeNumber}
-use Rattle.settle.specs.Report.{IsTreeFrom}
 use Rattle.settle_plan.specs.Planned.{HaveGap}
 use Rattle.script_lines.specs.declared.command.Command.TheVariants.{Plan}
 use Rattle.script_told.specs.Bus.{Bus, Reported, node_named, tree_with}
 use Rattle.script_told.specs.Step.{CarriesOut, node_with}
 use Rattle.script_told.specs.Script.{running, bus_of}
 use Rattle.script_told.specs.Run.{Entry, ScriptRun, IsRun}
+use Rattle.script_told.specs.PrintedTree.{PrintsTree}
 
 -- the plan for the tree of the node with this name was carried out
 pub record IsCarriedOut (bus : Bus) (name : List ℕ) (after : Bus) (text : List ℕ) : Type 0 where
@@ -17,22 +17,24 @@ pub record IsCarriedOut (bus : Bus) (name : List ℕ) (after : Bus) (text : List
   pub settled : tree_with node bus.notes ≡ Some tree
   pub carried : CarriesOut bus name node tree after text
 
--- It came out as planned: the node with the planned ID is the root of the tree that is reported, and
+-- It came out as planned: the node with the planned ID is the root of the tree that is printed, and
 -- every node of that has the planned gap count.
 pub record ComesOut (entry : Entry) (name : List ℕ) : Type 0 where
   pub after : Bus
   pub after_is : entry.after ≡ running after
   pub is : IsCarriedOut (bus_of entry.before) name after entry.text
   pub root :
-      IfSome after.notes.report (λ r.
-      Any (IsTreeFrom (bus_of entry.before).world.cabling is.node
-      (node_with is.tree is.carried.plan.root_id)) r.parts)
+      PrintsTree (bus_of entry.before).world.cabling is.node
+      (node_with is.tree is.carried.plan.root_id) after entry.text
   pub gaps : HaveGap after.world is.node is.carried.plan.gap
+
+-- each `plan` of a run comes out
+abbrev pub PlansComeOut : ScriptRun → Type 0
+PlansComeOut run =
+    All (λ (e : Entry). (name : List ℕ) → e.command ≡ Plan name → ComesOut e name) run.entries
 
 -- ---- a law
 
--- each `plan` of a script's run comes out
 abbrev pub EachPlanComesOut : Type 0
 EachPlanComesOut =
-    (bytes : List ℕ) (run : ScriptRun) → IsRun bytes run →
-    All (λ (e : Entry). (name : List ℕ) → e.command ≡ Plan name → ComesOut e name) run.entries
+    (bytes : List ℕ) (run : ScriptRun) → IsRun bytes run → PlansComeOut run

@@ -7,4 +7,5 @@ pub mod SomeManager
 pub mod SomeAnswer
 pub mod EachReport
 pub mod Reached
+pub mod PrintedTree
 pub mod EachPlan
