@@ -134,6 +134,14 @@ NobodyDraws =
     slice_get (quiet_after holds (i + 1) w).nodes k ≡ Some y →
     y.state.view.draws ≡ x.state.view.draws
 
+-- a configuration packet is sent in a component of which no node is in R0 or R1
+pub record SendsPacket
+    (w v : CableWorld) (from : NodeNumber) (id : ℕ) (force : Bool) (gap : Option ℕ) (set : NodeSet)
+    : Type 0 where
+  pub act : ActLeads (Config from id force gap) w v
+  pub component : IsComponent w.cabling from set
+  pub calm : (k : ℕ) → Holds set k → Shows w k (λ v. is_in_bus_reset v.phase ≡ false)
+
 -- a configuration packet with R set names one node of a component that isn't being reset
 pub record NamesRoot
     (w v : CableWorld) (from : NodeNumber) (id : ℕ) (gap : Option ℕ) (set : NodeSet)

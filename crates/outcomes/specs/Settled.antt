@@ -1,5 +1,5 @@
 -- Components that come to an outcome: a loop, a tree or a contention.
-use Rattle.std.specs.Prelude.{◌≡◌, ℕ, suc, ◌<◌, ◌≤◌, true, Option, Some, None, List, [], ◌∷◌, length, slice_get}
+use Rattle.std.specs.Prelude.{◌≡◌, ℕ, Bool, suc, ◌<◌, ◌≤◌, true, Option, Some, None, List, [], ◌∷◌, length, slice_get}
 use Rattle.topology_stack.specs.Tree.{Tree}
 use Rattle.cabling.specs.NodeSet.{Holds}
 use Rattle.cabling.specs.Component.{IsComponent}
@@ -15,7 +15,7 @@ use Rattle.cable_world.specs.Act.{ActLeads, IsAct, act_fault}
 use Rattle.cable_world.specs.Outcome.{HasNoLoop, Shows, IsLoop, IsTree, IsSettled}
 use Rattle.convergence.specs.Milestones.{ResetsAreDone, AreIdentifying}
 use Rattle.convergence.specs.Turns.{turns_to_settle, turns_to_over, turns_to_loops}
-use Rattle.outcomes.specs.Forced.{CanBeForcedAt, IsForced, IsNamedAlone, NamesRoot}
+use Rattle.outcomes.specs.Forced.{SendsPacket, CanBeForcedAt, IsForced, IsNamedAlone, NamesRoot}
 
 -- in quiet turns a component with a loop comes to the outcome Loop, and stays there
 abbrev pub LoopsComeOut : Type 0
@@ -111,5 +111,15 @@ ConfigsSetGaps =
     (gap : Option ℕ) (set : NodeSet) (root j : NodeNumber) (x y : PortNode) → ComesOfPowerOn w →
     IsAct (Config from id true gap) → act_fault (Config from id true gap) w ≡ None →
     NamesRoot w v from id gap set root → turns_to_over v ≤ k → Holds set j →
+    slice_get w.nodes j ≡ Some x → slice_get (quiet_after holds k v).nodes j ≡ Some y →
+    y.state.view.gap ≡ gap_or gap x.state.view.next_gap
+
+-- So it is of every packet, with R set or not, where no node of the component is in R0 or R1.
+abbrev pub PacketsSetGaps : Type 0
+PacketsSetGaps =
+    (holds : HoldSchedule) (w v : CableWorld) (k : ℕ) (from : NodeNumber) (id : ℕ) (force : Bool)
+    (gap : Option ℕ) (set : NodeSet) (j : NodeNumber) (x y : PortNode) → ComesOfPowerOn w →
+    IsAct (Config from id force gap) → act_fault (Config from id force gap) w ≡ None →
+    SendsPacket w v from id force gap set → turns_to_over v ≤ k → Holds set j →
     slice_get w.nodes j ≡ Some x → slice_get (quiet_after holds k v).nodes j ≡ Some y →
     y.state.view.gap ≡ gap_or gap x.state.view.next_gap

@@ -19,7 +19,7 @@ ghost use Rattle.outcomes.specs.Settled.{LoopsComeOut, EveryComponentSettles, Re
 ghost use Rattle.outcomes.specs.Settled.{EveryQuietRunSettles};
 ghost use Rattle.outcomes.specs.Settled.{ComponentsStaySettled, TreesStay};
 ghost use Rattle.outcomes.specs.Settled.{ForcedRootsSettle, IdsNameOneNode, ConfigsMoveRoots};
-ghost use Rattle.outcomes.specs.Settled.{ConfigsSetGaps};
+ghost use Rattle.outcomes.specs.Settled.{ConfigsSetGaps, PacketsSetGaps};
 
 use cabling::{components_exist, cores_exist};
 
@@ -217,6 +217,7 @@ pub fn forced_roots_settle()
     ensures names { IdsNameOneNode }
     ensures config { ConfigsMoveRoots }
     ensures gaps { ConfigsSetGaps }
+    ensures packets { PacketsSetGaps }
 {
     components_exist();
 }

@@ -1,6 +1,6 @@
 -- Where one node alone waits to become root, the component comes to a tree with that root; and a
 -- configuration packet makes it so.
-use Rattle.std.proofs.Common.{◌≡◌, ◌≢◌, inl, inr, ℕ, zero, suc, ◌+◌, ◌-◌, ◌*◌, ◌^◌, ◌<◌, ◌≤◌, true, false, Option, Some, None, IsSome, length, slice_get, sym, ◌∙◌, ap, subst, arith, true≢false}
+use Rattle.std.proofs.Common.{Bool, refl, ◌≡◌, ◌≢◌, inl, inr, ℕ, zero, suc, ◌+◌, ◌-◌, ◌*◌, ◌^◌, ◌<◌, ◌≤◌, true, false, Option, Some, None, IsSome, length, slice_get, sym, ◌∙◌, ap, subst, arith, true≢false}
 use Rattle.std.proofs.lemmas.Bool.{cases_eq}
 use Rattle.std.proofs.lemmas.Option.{slice_get_cases, slice_get_within}
 use Rattle.outcomes.proofs.Common.{Tree, Wiring, Holds, IsComponent, shared, IsCore, numbers, Phase, config_packet, PortNode, node_disturb, node_set_config, Config, CableWorld, ComesOfPowerOn, IsAct, act_fault, change_in_set, is_in_bus_reset, Shows, IsTree, IsSettled, loop, tree, contention, some-of, some-at, some-same, start-before_tree, comes-lawful, act-comes, after-length, after-cabling, HoldSchedule, quiet_after, comes-contested, IsNamedAlone, IsIdentifying, is_ready}
@@ -9,8 +9,8 @@ use Rattle.cable_world.specs.Outcome.{HasNoLoop, Outcome, IsOutcome}
 use Rattle.cable_world.proofs.Lemmas.{step-cables}
 use Rattle.convergence.proofs.Lemmas.{quiet-contested}
 use Rattle.convergence.specs.Turns.{turns_to_settle, turns_to_over}
-use Rattle.outcomes.specs.Forced.{CanBeForcedAt, IsForced, IsRooted, NamesRoot}
-use Rattle.outcomes.proofs.forced.Configured.{configured}
+use Rattle.outcomes.specs.Forced.{CanBeForcedAt, IsForced, IsRooted, NamesRoot, SendsPacket}
+use Rattle.outcomes.proofs.forced.Configured.{names-sends, sent-fresh, sent-alone, sent-gaps}
 use Rattle.outcomes.proofs.forced.ForcedRoot as forced
 use Rattle.outcomes.proofs.forced.Spread.{all-reset}
 use Rattle.outcomes.proofs.forced.Towards.{no-draws}
@@ -130,36 +130,55 @@ named-alone w set old root id t i h inside named = record {
     stands-there = let y = some-of (slice_get w.nodes root) _ named in stands root y.0 inside y.1 y.2
 
 module _
-    (hs : HoldSchedule) (w v : CableWorld) (r : ComesOfPowerOn w) (from id : ℕ) (gap : Option ℕ) (set root : ℕ)
-    (n : NamesRoot w v from id gap set root) (is : IsAct (Config from id true gap))
-    (none : act_fault (Config from id true gap) w ≡ None) where
+    (hs : HoldSchedule) (w v : CableWorld) (r : ComesOfPowerOn w) (from id : ℕ) (force : Bool) (gap : Option ℕ) (set : ℕ)
+    (sent : SendsPacket w v from id force gap set) (is : IsAct (Config from id force gap))
+    (none : act_fault (Config from id force gap) w ≡ None) where
   reached : ComesOfPowerOn v
-  reached = act-comes (Config from id true gap) w v is none n.act r
+  reached = act-comes (Config from id force gap) w v is none sent.act r
 
   same-cables : v.cabling ≡ w.cabling
   same-cables =
-      let told : CableWorld = record w { nodes = change_in_set n.act.0 (node_set_config (config_packet id true gap)) 0 w.nodes } in
-      ap (λ (u : CableWorld). u.cabling) n.act.2 ∙ step-cables from node_disturb told
+      let told : CableWorld = record w { nodes = change_in_set sent.act.0 (node_set_config (config_packet id force gap)) 0 w.nodes } in
+      ap (λ (u : CableWorld). u.cabling) sent.act.2 ∙ step-cables from node_disturb told
 
   component : IsComponent v.cabling from set
-  component = subst (λ (d : Wiring). IsComponent d from set) (sym same-cables) n.component
+  component = subst (λ (d : Wiring). IsComponent d from set) (sym same-cables) sent.component
+
+  -- each node has the gap count that the packet gives
+  pub packet-gaps :
+      (k j : ℕ) (x y : PortNode) → turns_to_over v ≤ k → Holds set j →
+      slice_get w.nodes j ≡ Some x → slice_get (quiet_after hs k v).nodes j ≡ Some y →
+      y.state.view.gap ≡ gap_or gap x.state.view.next_gap
+  packet-gaps k j x y late inside at_x at_y = elim (slice_get_cases v.nodes j).1 [
+    | inl found ↦
+        (taken-by hs v (comes-lawful v reached) from set component (sent-fresh w v from id force gap set sent) k j found.0 y late inside found.2 at_y).1
+        ∙ sent-gaps w v from id force gap set sent j x found.0 inside at_x found.2
+    | inr lacks ↦ absurd (omega (arith, lacks.0, slice_get_within (quiet_after hs k v).nodes j y at_y, after-length hs v (comes-lawful v reached) k))
+  ]
+
+module _
+    (hs : HoldSchedule) (w v : CableWorld) (r : ComesOfPowerOn w) (from id : ℕ) (gap : Option ℕ) (set root : ℕ)
+    (n : NamesRoot w v from id gap set root) (is : IsAct (Config from id true gap))
+    (none : act_fault (Config from id true gap) w ≡ None) where
+  abbrev names : SendsPacket w v from id true gap set
+  names = names-sends w v from id gap set root n
 
   -- the node that the packet names is the root of the tree
   pub config-outcome :
       CanBeForcedAt v root → HasNoLoop w set → set < 2 ^ 63 → (k : ℕ) → turns_to_settle v ≤ k →
       (t : Tree) × IsTree (quiet_after hs k v) set root t
   config-outcome can no_loop small k quiet =
-      let c = configured w v from id gap set root n.act n.component n.named in
-      forced-outcome hs v reached from set root (record {
-        lawful = comes-lawful v reached;
-        component = component;
+      let on : ComesOfPowerOn v = reached hs w v r from id true gap set names is none in
+      forced-outcome hs v on from set root (record {
+        lawful = comes-lawful v on;
+        component = component hs w v r from id true gap set names is none;
         no_loop = record {
           core = no_loop.core;
-          is_core = subst (λ (d : Wiring). IsCore d set no_loop.core) (sym same-cables) no_loop.is_core;
+          is_core = subst (λ (d : Wiring). IsCore d set no_loop.core) (sym (same-cables hs w v r from id true gap set names is none)) no_loop.is_core;
           empty = no_loop.empty;
         };
-        fresh = c.0;
-        alone = c.1;
+        fresh = sent-fresh w v from id true gap set names;
+        alone = sent-alone w v from id true gap set names root refl n.named;
         enough = can;
       }) small k quiet
 
@@ -168,9 +187,4 @@ module _
       (k j : ℕ) (x y : PortNode) → turns_to_over v ≤ k → Holds set j →
       slice_get w.nodes j ≡ Some x → slice_get (quiet_after hs k v).nodes j ≡ Some y →
       y.state.view.gap ≡ gap_or gap x.state.view.next_gap
-  config-gaps k j x y late inside at_x at_y = elim (slice_get_cases v.nodes j).1 [
-    | inl found ↦
-        let c = configured w v from id gap set root n.act n.component n.named in
-        (taken-by hs v (comes-lawful v reached) from set component c.0 k j found.0 y late inside found.2 at_y).1 ∙ c.2 j x found.0 inside at_x found.2
-    | inr lacks ↦ absurd (omega (arith, lacks.0, slice_get_within (quiet_after hs k v).nodes j y at_y, after-length hs v (comes-lawful v reached) k))
-  ]
+  config-gaps = packet-gaps hs w v r from id true gap set names is none

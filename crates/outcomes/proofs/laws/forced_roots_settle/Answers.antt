@@ -1,7 +1,7 @@
 use Rattle.outcomes.proofs.Common.{comes-lawful}
 use Rattle.outcomes.proofs.identify.StaysIdentifying.{comes-identifying}
 use Rattle.outcomes.proofs.settled.Components.{small-named, small-forced}
-use Rattle.outcomes.proofs.settled.ForcedOutcome.{forced-outcome, named-alone, config-outcome, config-gaps}
+use Rattle.outcomes.proofs.settled.ForcedOutcome.{forced-outcome, named-alone, packet-gaps, config-outcome, config-gaps}
 use Rattle.outcomes.proofs.laws.forced_roots_settle.Goals as goal
 
 pub returns-clause-forced : goal.returns-clause-forced
@@ -17,3 +17,6 @@ returns-clause-config c = λ holds w v k from id gap set root r is none n can no
 
 pub returns-clause-gaps : goal.returns-clause-gaps
 returns-clause-gaps c = λ holds w v k from id gap set root j x y r is none n. config-gaps holds w v r from id gap set root n is none k j x y
+
+pub returns-clause-packets : goal.returns-clause-packets
+returns-clause-packets c = λ holds w v k from id force gap set j x y r is none sent. packet-gaps holds w v r from id force gap set sent is none k j x y
