@@ -15,12 +15,12 @@ ghost use Rattle.world_laws.specs.SlotCabling.{EachBusTreeIsCabled, CabledTreesA
 ghost use Rattle.world_laws.specs.SlotCabling.{AcceptedListsAreEmitted};
 ghost use Rattle.world_laws.specs.SeenTrees.{SeenTreesAreBusTrees, SeenListsHaveOneTree};
 
-/// The wires deliver. In every run from a world that comes of power-on, in which the cable isn't pulled, each
-/// signal that is under way over it is heard at the far end by the time that it has been under way
-/// for d turns, right behind those before it. What is heard there, and then what is under way, is
-/// what was under way, and then what the node at the near end sent in the run, by its own steps:
-/// nothing is lost, heard twice or heard out of order. So what was sent d turns ago or before has
-/// been heard.
+/// The wires deliver. In every run from a world that comes of power-on, in which the cable isn't
+/// pulled, each signal that is under way over it is heard at the far end by the time that it has
+/// been under way for d turns, right behind those before it. What is heard there, and then what is
+/// under way, is what was under way, and then what the node at the near end sent in the run, by its
+/// own steps: nothing is lost, heard twice or heard out of order. So what was sent d turns ago or
+/// before has been heard.
 pub fn signals_arrive()
     ensures arrive { SignalsArrive }
     ensures order { SignalsKeepTheirOrder }
