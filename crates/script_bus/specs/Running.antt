@@ -16,6 +16,7 @@ use Rattle.script_told.specs.Step.{LineAnswer, HasManager, id_of}
 
 abbrev pub notes_now : kept.Notes → Notes
 notes_now notes = record {
+  times = notes.times;
   names = notes.names;
   banks = notes.banks.items;
   looks = notes.looks.items;

@@ -3,12 +3,14 @@ ghost use Rattle.std.specs.Prelude.{◌≡◌, ◌<◌, ◌≤◌, ◌+◌, ◌=
 ghost use Rattle.std.specs.Int.{bit_at};
 ghost use Rattle.std.specs.Option.{option_copied, option_map, ok_or};
 ghost use Rattle.phy_machine.specs.Any.{any_node};
-ghost use Rattle.cable_world.specs.World.{IsNodeAtPowerOn};
+ghost use Rattle.cable_world.specs.World.{IsPowered};
+ghost use Rattle.cable_world.specs.Times.{CanBeForced};
 ghost use Rattle.cable_world.specs.Act.{IsAct, act_fault, hold, hold_fault};
 ghost use Rattle.cable_world.specs.Run.{IsReached};
 ghost use Rattle.cable_world.specs.Unchanged.{TurnsPass};
 ghost use Rattle.script_lines.specs.Refusal.{kind_of};
 ghost use Rattle.script_text.specs.ReportText.{IsNamedTree, IsNamedReport};
+ghost use Rattle.script_trace.specs.Voice.{legend_of};
 ghost use Rattle.script_told.specs.Bus.{bus_of_nodes, first_bank, node_named, notes_of, part_with, resets_of, tree_with};
 ghost use Rattle.script_told.specs.Step.{Acts, Holds, end_of, notes_after_act};
 ghost use Rattle.script_bus.specs.Running.{notes_now, IfFault, IsBus, Stops, reported};
@@ -18,8 +20,10 @@ use crate::table::NameTable;
 use cable_world::{Act, WorldRun};
 use cabling::{Cabling, End, Walk};
 use phy_machine::AnyMachine;
+use port_state::TimeRanges;
 use resource_manager::Seen;
-use script_lines::{Kind, LineStop};
+use script_lines::{Kind, LineStop, ScriptTimes};
+use script_trace::Legend;
 use settle::{Outcome, Part, Report};
 use std::alloc::Global;
 use std::marker::Model;
@@ -32,6 +36,8 @@ const MAX_TURNS: u32 = 2_000_000;
 /// What a script keeps beside the world.
 #[derive(Drop)]
 pub(crate) struct Notes {
+    /// What the script says of the times of its nodes.
+    pub times: ScriptTimes,
     /// The names of the nodes.
     pub names: NameTable,
     /// The registers of each node.
@@ -124,12 +130,18 @@ fn no_looks(alloc: Global, nodes: usize) -> Result<Vec<Option<Seen>>, OutOfMemor
 }
 
 impl Notes {
-    /// The notes of so many nodes with these names.
-    fn new(alloc: Global, names: NameTable, nodes: usize) -> Result<Notes, OutOfMemory>
+    /// The notes of so many nodes with these times and names.
+    fn new(
+        alloc: Global,
+        times: ScriptTimes,
+        names: NameTable,
+        nodes: usize,
+    ) -> Result<Notes, OutOfMemory>
         requires { length names ≡ nodes }
-        ensures { IfOk result (λ notes. notes_now notes ≡ notes_of names) }
+        ensures { IfOk result (λ notes. notes_now notes ≡ notes_of times names) }
     {
         Ok(Notes {
+            times,
             names,
             banks: first_banks(alloc, nodes)?,
             looks: no_looks(alloc, nodes)?,
@@ -137,6 +149,16 @@ impl Notes {
             reports: 0,
             maps: 0,
         })
+    }
+
+    /// What is known beside the world.
+    pub(crate) fn legend(&self) -> Legend<'_>
+        ensures { result ≡ legend_of (notes_now self.now) }
+    {
+        Legend {
+            names: self.names.list().as_slice(),
+            nanoseconds: self.times.nanoseconds,
+        }
     }
 
     /// The number of the node with a name.
@@ -216,25 +238,30 @@ fn hold_boxed<W: WorldRun>(world: &mut Box<W>, end: End, turns: u16) -> Result<(
 
 impl Bus {
     /// The bus of nodes with these names, each just powered on, without cables. A cable delays a signal
-    /// by at most `delay` turns, 1 to 16.
+    /// by at most `delay` turns, 1 to 16. No node's times are longer than the longest of these ranges,
+    /// and all suit the delay.
     pub fn new(
         alloc: Global,
         names: NameTable,
         machines: Vec<AnyMachine>,
         delay: u8,
+        times: ScriptTimes,
     ) -> Result<Bus, OutOfMemory>
         requires some_delay { 1 ≤ delay }
         requires short_delay { delay ≤ 16 }
         requires few { length machines.items ≤ 63 }
         requires named { length names ≡ length machines.items }
-        requires power_on { All (λ m. IsNodeAtPowerOn delay (any_node m).state) machines.items }
+        requires power_on { All (λ m. IsPowered delay times.ranges.most (any_node m).state)
+            machines.items }
+        requires forced { All (λ m. CanBeForced delay times.ranges.most (any_node m).state.timing)
+            machines.items }
         ensures { IfOk result (λ bus.
-            bus ≡ bus_of_nodes delay names (map any_node machines.items)) }
+            bus ≡ bus_of_nodes delay times names (map any_node machines.items)) }
     {
         let nodes = machines.len();
-        let world = AgendaWorld::new(alloc, machines, delay)?;
+        let world = AgendaWorld::with_times(alloc, machines, delay, times.ranges.most)?;
         is_reached(&world);
-        let notes = Box::new(alloc, Notes::new(alloc, names, nodes)?)?;
+        let notes = Box::new(alloc, Notes::new(alloc, times, names, nodes)?)?;
         let world = Box::new(alloc, world)?;
         Ok(Bus { world, notes })
     }
@@ -255,13 +282,20 @@ impl Bus {
     }
 
     /// By how many turns a cable delays a signal at most.
-    pub fn delay(&self) -> u8
+    pub(crate) fn delay(&self) -> u8
         ensures value { result ≡ self.now.world.delay }
         ensures some { 1 ≤ result }
         ensures few { result ≤ 16 }
     {
         self.is_sound();
         self.world().delay()
+    }
+
+    /// The ranges of the times of nodes.
+    pub fn ranges(&self) -> TimeRanges
+        ensures { result ≡ self.now.notes.times.ranges }
+    {
+        self.notes.times.ranges
     }
 
     /// The number of turns done.
@@ -291,6 +325,13 @@ impl Bus {
         ensures { result.now ≡ self.now.notes.names }
     {
         self.notes.names.list().as_slice()
+    }
+
+    /// What is known of the bus beside its world.
+    pub(crate) fn legend(&self) -> Legend<'_>
+        ensures { result ≡ legend_of self.now.notes }
+    {
+        self.notes.legend()
     }
 
     /// The number of the node with a name.

@@ -9,13 +9,13 @@ ghost use Rattle.script_bus.specs.Heard.{TellAlike, silence};
 
 use cable_world::ShowsWires;
 use script_lines::Command;
-use script_trace::{Seen, put_command, put_since, seen_before_act, trace_turns};
+use script_trace::{Legend, Seen, put_command, put_since, seen_before_act, trace_turns};
 use std::alloc::Global;
-use topology_stack::{Name, OutOfMemory};
+use topology_stack::OutOfMemory;
 use world_agenda::TellsStillTurns;
 
 /// Hears the acts, the holds and the turns of a bus, and writes down what its voice tells of them, which
-/// may be nothing. `names` has the name of each node by its number, 63 at most. Each call fails for want
+/// may be nothing. The legend has the name of each node by its number, 63 at most. Each call fails for want
 /// of memory alone.
 pub trait Listener {
     // what it has written
@@ -44,14 +44,14 @@ pub trait Listener {
     /// An act was done, before which the nodes showed `seen`.
     fn after_act<W: ShowsWires>(
         &mut self,
-        names: &[Name],
+        legend: &Legend,
         seen: &[Seen],
         world: &W,
     ) -> Result<(), OutOfMemory>
-        requires few { length names.now ≤ 63 }
-        requires nodes { length names.now ≡ length (W.world world.now).nodes }
+        requires few { length legend.now.names ≤ 63 }
+        requires nodes { length legend.now.names ≡ length (W.world world.now).nodes }
         ensures { OnOk result (written self.new ≡ written self.old
-            ++ voice.since names.now seen.now (W.world world.now)) };
+            ++ voice.since legend.now seen.now (W.world world.now)) };
 
     /// Does `count` turns. With those done before they are at most 4,000,000,000.
     fn turns<W: TellsStillTurns>(
@@ -59,15 +59,15 @@ pub trait Listener {
         alloc: Global,
         world: &mut W,
         count: u32,
-        names: &[Name],
+        legend: &Legend,
     ) -> Result<(), OutOfMemory>
         requires turns { (W.world world.old).turns + count ≤ 4000000000 }
-        requires few { length names.now ≤ 63 }
-        requires nodes { length names.now ≡ length (W.world world.old).nodes }
+        requires few { length legend.now.names ≤ 63 }
+        requires nodes { length legend.now.names ≡ length (W.world world.old).nodes }
         requires fine { IsFalse (W.is_spent world.old) }
         ensures done { OnOk result (W.world world.new ≡ turns_after count (W.world world.old)) }
         ensures heard { OnOk result (written self.new ≡ written self.old
-            ++ voice.turns names.now count (W.world world.old)) }
+            ++ voice.turns legend.now count (W.world world.old)) }
         ensures passed { OnOk result (TurnsPass count (W.world world.old) (W.world world.new)) }
         ensures fine { OnOk result (IsFalse (W.is_spent world.new)) };
 }
@@ -96,7 +96,7 @@ impl Listener for Silent {
 
     fn after_act<W: ShowsWires>(
         &mut self,
-        _names: &[Name],
+        _legend: &Legend,
         _seen: &[Seen],
         _world: &W,
     ) -> Result<(), OutOfMemory> {
@@ -108,7 +108,7 @@ impl Listener for Silent {
         _alloc: Global,
         world: &mut W,
         count: u32,
-        _names: &[Name],
+        _legend: &Legend,
     ) -> Result<(), OutOfMemory> {
         world.run_turns(count)
     }
@@ -135,11 +135,11 @@ impl Listener for Vec<u8> {
 
     fn after_act<W: ShowsWires>(
         &mut self,
-        names: &[Name],
+        legend: &Legend,
         seen: &[Seen],
         world: &W,
     ) -> Result<(), OutOfMemory> {
-        put_since(self, names, seen, world)
+        put_since(self, legend.names, seen, world)
     }
 
     fn turns<W: TellsStillTurns>(
@@ -147,8 +147,8 @@ impl Listener for Vec<u8> {
         alloc: Global,
         world: &mut W,
         count: u32,
-        names: &[Name],
+        legend: &Legend,
     ) -> Result<(), OutOfMemory> {
-        trace_turns(alloc, world, count, names, self)
+        trace_turns(alloc, world, count, legend.names, self)
     }
 }

@@ -11,6 +11,7 @@ ghost use Rattle.script_lines.specs.declared.command.Command.TheVariants as comm
 use crate::bus::{Bus, end_of};
 use crate::listener::Listener;
 use cable_world::Act;
+use port_state::TimeRanges;
 use resource_manager::Access;
 use script_lines::{Command, Kind, LineStop};
 use script_text::{maps_text, tree_of};
@@ -83,8 +84,8 @@ impl Bus {
     }
 
     /// The act that a command says.
-    fn act_of(&self, d: u8, command: &Command) -> Result<Act, LineStop>
-        requires range { IsInRange d command.now }
+    fn act_of(&self, times: TimeRanges, command: &Command) -> Result<Act, LineStop>
+        requires range { IsInRange times command.now }
         requires act { IsActCommand command.now }
         ensures is { IfOk result (λ act. IsActOf self.now command.now act) }
         ensures stop { IfErr result (Stops (Does self.now command.now)) }
@@ -104,13 +105,13 @@ impl Bus {
     }
 
     /// An act in a script's words.
-    fn act_said(self, d: u8, command: &Command) -> Result<Bus, LineStop>
-        requires range { IsInRange d command.now }
+    fn act_said(self, times: TimeRanges, command: &Command) -> Result<Bus, LineStop>
+        requires range { IsInRange times command.now }
         requires act { IsActCommand command.now }
         ensures done { IfOk result (λ bus. Does self command.now (Ok (bus, []))) }
         ensures stop { IfErr result (Stops (Does self command.now)) }
     {
-        let act = self.act_of(d, command)?;
+        let act = self.act_of(times, command)?;
         self.act(&act)
     }
 
@@ -118,11 +119,11 @@ impl Bus {
     fn act_heard<L: Listener>(
         self,
         alloc: Global,
-        d: u8,
+        times: TimeRanges,
         command: &Command,
         listener: &mut L,
     ) -> Result<Bus, LineStop>
-        requires range { IsInRange d command.now }
+        requires range { IsInRange times command.now }
         requires act { IsActCommand command.now }
         ensures done { IfOk result (λ bus. Does self command.now (Ok (bus, []))) }
         ensures heard { IfOk result (λ bus. Hears L.voice self command.now bus
@@ -130,7 +131,7 @@ impl Bus {
         ensures stop { IfErr result (Stops (Does self command.now)) }
     {
         let seen = self.tell_before(alloc, command, listener)?;
-        let bus = self.act_said(d, command)?;
+        let bus = self.act_said(times, command)?;
         bus.tell_after(&seen, listener)?;
         Ok(bus)
     }
@@ -176,8 +177,8 @@ impl Bus {
     }
 
     /// A command that asks the manager of a tree.
-    fn question(&mut self, alloc: Global, d: u8, command: &Command) -> Result<Vec<u8>, LineStop>
-        requires range { IsInRange d command.now }
+    fn question(&mut self, alloc: Global, times: TimeRanges, command: &Command) -> Result<Vec<u8>, LineStop>
+        requires range { IsInRange times command.now }
         requires asks { AsksManager command.now }
         ensures done { IfOk result (λ text. Does self.old command.now
             (Ok (self.new, text.items))) }
@@ -230,15 +231,17 @@ impl Bus {
     }
 
     /// A command in which nothing happens to the world.
-    fn ask(&mut self, alloc: Global, d: u8, command: &Command) -> Result<Vec<u8>, LineStop>
-        requires range { IsInRange d command.now }
+    fn ask(&mut self, alloc: Global, times: TimeRanges, command: &Command) -> Result<Vec<u8>, LineStop>
+        requires range { IsInRange times command.now }
         requires asks { IsQuestion command.now }
         ensures done { IfOk result (λ text. Does self.old command.now
             (Ok (self.new, text.items))) }
         ensures stop { IfErr result (Stops (Does self.old command.now)) }
     {
         match command {
-            Command::Node { .. } | Command::Delay { .. } => Err(LineStop::Fault(Kind::Late)),
+            Command::Node { .. } | Command::Delay { .. } | Command::Times { .. } => {
+                Err(LineStop::Fault(Kind::Late))
+            }
             Command::Maps { name } => self.maps(alloc, name),
             Command::CsrRead { .. }
             | Command::CsrWrite { .. }
@@ -246,7 +249,7 @@ impl Bus {
             | Command::Look { .. }
             | Command::Allocate { .. }
             | Command::Release { .. }
-            | Command::Manager { .. } => self.question(alloc, d, command),
+            | Command::Manager { .. } => self.question(alloc, times, command),
             _ => unreachable!(),
         }
     }
@@ -266,17 +269,17 @@ impl Bus {
         }
     }
 
-    /// Does a command, whose numbers are in range where a cable delays by at most `d` turns, and
+    /// Does a command, whose numbers are in range where the times of nodes are in these ranges, and
     /// answers the bus then and what it prints. The listener hears what happens in it. A command that
-    /// is at fault leaves no bus to go on with; `node` and `delay` are `Late`.
+    /// is at fault leaves no bus to go on with; `node`, `delay` and `times` are `Late`.
     pub fn command<L: Listener>(
         self,
         alloc: Global,
-        d: u8,
+        times: TimeRanges,
         command: &Command,
         listener: &mut L,
     ) -> Result<(Bus, Vec<u8>), LineStop>
-        requires { IsInRange d command.now }
+        requires { IsInRange times command.now }
         ensures done { IfOk result (λ r. Does self command.now (Ok (r.0, r.1.items))) }
         ensures heard { IfOk result (λ r. Hears L.voice self command.now r.0
             (L.written listener.old) (L.written listener.new)) }
@@ -288,7 +291,7 @@ impl Bus {
             | Command::Reset { .. }
             | Command::Config { .. } => {
                 Ok((
-                    self.act_heard(alloc, d, command, listener)?,
+                    self.act_heard(alloc, times, command, listener)?,
                     Vec::new(alloc),
                 ))
             }
@@ -298,6 +301,7 @@ impl Bus {
             Command::Plan { name } => self.plan(alloc, name, listener),
             Command::Node { .. }
             | Command::Delay { .. }
+            | Command::Times { .. }
             | Command::Maps { .. }
             | Command::CsrRead { .. }
             | Command::CsrWrite { .. }
@@ -307,7 +311,7 @@ impl Bus {
             | Command::Release { .. }
             | Command::Manager { .. } => {
                 let mut bus = self;
-                let text = bus.ask(alloc, d, command)?;
+                let text = bus.ask(alloc, times, command)?;
                 Ok((bus, text))
             }
         }

@@ -1,5 +1,6 @@
 //! What a listener is told of an act.
 ghost use Rattle.std.specs.Prelude.{◌≡◌, ◌++◌, IfOk, OnOk};
+ghost use Rattle.script_trace.specs.Voice.{legend_of};
 ghost use Rattle.script_trace.specs.Step.{seen_before_act};
 ghost use Rattle.script_bus.specs.Heard.{TellAlike};
 
@@ -36,10 +37,10 @@ impl Bus {
         listener: &mut L,
     ) -> Result<(), OutOfMemory>
         ensures { OnOk result (L.written listener.new ≡ L.written listener.old
-            ++ L.voice.since self.now.notes.names seen.now self.now.world) }
+            ++ L.voice.since (legend_of self.now.notes) seen.now self.now.world) }
     {
         self.is_sound();
-        listener.after_act(self.names(), seen, self.world())?;
+        listener.after_act(&self.legend(), seen, self.world())?;
         Ok(())
     }
 }

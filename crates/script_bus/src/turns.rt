@@ -6,6 +6,7 @@ ghost use Rattle.cable_world.specs.Turn.{turns_after};
 ghost use Rattle.cable_world.specs.Unchanged.{TurnsPass};
 ghost use Rattle.script_told.specs.Step.{Reports, Turns, Settles};
 ghost use Rattle.script_lines.specs.declared.command.Command.TheVariants as command;
+ghost use Rattle.script_trace.specs.Voice.{legend_of};
 ghost use Rattle.script_bus.specs.Running.{Stops};
 ghost use Rattle.script_bus.specs.Heard.{Hears};
 ghost use Rattle.script_bus.specs.codings.Standing.{IsReportedNow, IsPassed};
@@ -16,7 +17,8 @@ use script_lines::{Kind, LineStop};
 use script_text::{report_text, reports_can_be_shown};
 use settle::{quiet_turns, quiet_turns_settle, report_of};
 use std::alloc::Global;
-use topology_stack::{Name, OutOfMemory};
+use script_trace::Legend;
+use topology_stack::OutOfMemory;
 use world_agenda::TellsStillTurns;
 
 /// Turns of a world in a box, which a listener hears.
@@ -24,23 +26,23 @@ fn turns_heard<W: TellsStillTurns, L: Listener>(
     alloc: Global,
     world: &mut Box<W>,
     count: u32,
-    names: &[Name],
+    legend: &Legend,
     listener: &mut L,
 ) -> Result<(), OutOfMemory>
     requires turns { (W.world world.old.value).turns + count ≤ 4000000000 }
-    requires few { length names.now ≤ 63 }
-    requires nodes { length names.now ≡ length (W.world world.old.value).nodes }
+    requires few { length legend.now.names ≤ 63 }
+    requires nodes { length legend.now.names ≡ length (W.world world.old.value).nodes }
     requires fine { IsFalse (W.is_spent world.old.value) }
     ensures done { OnOk result
         (W.world world.new.value ≡ turns_after count (W.world world.old.value)) }
     ensures heard { OnOk result (L.written listener.new ≡ L.written listener.old
-        ++ L.voice.turns names.now count (W.world world.old.value)) }
+        ++ L.voice.turns legend.now count (W.world world.old.value)) }
     ensures passed { OnOk result
         (TurnsPass count (W.world world.old.value) (W.world world.new.value)) }
     ensures fine { OnOk result (IsFalse (W.is_spent world.new.value)) }
     ensures reached { OnOk result (∥ IsReached (W.world world.new.value) ∥₁) }
 {
-    listener.turns(alloc, &mut **world, count, names)?;
+    listener.turns(alloc, &mut **world, count, legend)?;
     is_reached(&**world);
     Ok(())
 }
@@ -58,11 +60,11 @@ impl Bus {
             ≡ record self { world = turns_after count self.world }) }
         ensures passed { IfOk result (λ bus. TurnsPass count self.world bus.world) }
         ensures heard { OnOk result (L.written listener.new ≡ L.written listener.old
-            ++ L.voice.turns self.notes.names count self.world) }
+            ++ L.voice.turns (legend_of self.notes) count self.world) }
     {
         let Bus { mut world, notes } = self;
-        let names = notes.names.list().as_slice();
-        turns_heard(alloc, &mut world, count, names, listener)?;
+        let legend = notes.legend();
+        turns_heard(alloc, &mut world, count, &legend, listener)?;
         Ok(Bus { world, notes })
     }
 
@@ -124,7 +126,7 @@ impl Bus {
     ) -> Result<(Bus, Vec<u8>), OutOfMemory>
         requires { nat_lt 2000000 (self.world.turns + quiet_turns_of self.world) ≡ false }
         ensures reports { IfOk result (λ r. Reports self (Ok (r.0, r.1.items))) }
-        ensures heard { OnOk result (IsPassed L.voice self.notes.names self.world
+        ensures heard { OnOk result (IsPassed L.voice (legend_of self.notes) self.world
             (L.written listener.old) (L.written listener.new)) }
     {
         self.is_sound();

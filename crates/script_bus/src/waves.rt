@@ -1,5 +1,6 @@
 //! A dump of waveforms hears a bus.
 ghost use Rattle.std.specs.Prelude.{◌≡◌, ◌++◌, IfOk};
+ghost use Rattle.script_trace.specs.Voice.{legend_of};
 ghost use Rattle.script_waves.specs.Head.{head};
 ghost use Rattle.script_waves.specs.Moment.{waves_voice};
 
@@ -7,10 +8,10 @@ use crate::bus::Bus;
 use crate::listener::Listener;
 use cable_world::ShowsWires;
 use script_lines::Command;
-use script_trace::{Seen, seen_before_act};
+use script_trace::{Legend, Seen, seen_before_act};
 use script_waves::Waves;
 use std::alloc::Global;
-use topology_stack::{Name, OutOfMemory};
+use topology_stack::OutOfMemory;
 use world_agenda::TellsStillTurns;
 
 /// A dump to which the changes are appended.
@@ -34,11 +35,11 @@ impl Listener for Waves {
 
     fn after_act<W: ShowsWires>(
         &mut self,
-        names: &[Name],
+        legend: &Legend,
         seen: &[Seen],
         world: &W,
     ) -> Result<(), OutOfMemory> {
-        self.put_since(names.len(), seen, world)
+        self.put_since(legend, seen, world)
     }
 
     fn turns<W: TellsStillTurns>(
@@ -46,9 +47,9 @@ impl Listener for Waves {
         alloc: Global,
         world: &mut W,
         count: u32,
-        names: &[Name],
+        legend: &Legend,
     ) -> Result<(), OutOfMemory> {
-        self.run_turns(alloc, world, count, names.len())
+        self.run_turns(alloc, world, count, legend)
     }
 }
 
@@ -56,9 +57,9 @@ impl Bus {
     /// The dump of these changes, which led to this bus.
     pub fn dump(&self, alloc: Global, waves: Waves) -> Result<Vec<u8>, OutOfMemory>
         ensures { IfOk result (λ dump. dump.items
-            ≡ head self.now.notes.names self.now.world ++ waves) }
+            ≡ head (legend_of self.now.notes) self.now.world ++ waves) }
     {
         self.is_sound();
-        waves.dump(alloc, self.names(), self.world())
+        waves.dump(alloc, &self.legend(), self.world())
     }
 }

@@ -7,6 +7,7 @@ use Rattle.std.specs.Option.{option_or}
 use Rattle.std.specs.Str.{bytes_eq}
 use Rattle.std.proofs.Common.{append_assoc, length-drop, take_all, ◌-◌}
 use Rattle.std.proofs.lemmas.List.{drop_more, take_more}
+use Rattle.port_state.specs.declared.ranges.TimeRanges.{TimeRanges}
 use Rattle.script_lines.specs.declared.kind.Kind as faults
 use Rattle.script_lines.specs.declared.kind.Kind.TheVariants.{Number, Twice, Range}
 use Rattle.script_lines.specs.declared.key.Key.{Key}
@@ -44,32 +45,32 @@ untaken true wrong h = absurd (cc)
 untaken false wrong h = h
 
 -- the first word behind a key has no fault
-right_value : (d : ℕ) (key : Key) (value : List ℕ) (before words : List (List ℕ))
-    → first_wrong_pair d before words ≡ None → given key words ≡ Some value
-    → wrong_value d key value ≡ None
-right_value d key value before [] h g = absurd (cc)
-right_value d key value before (word ∷ []) h g = absurd (cc)
-right_value d key value before (word ∷ other ∷ words) h g =
-    let parts : (wrong_pair d before (key_of word) other ≡ None)
-    × (first_wrong_pair d (before ++ word ∷ other ∷ []) words ≡ None) =
-    neither (wrong_pair d before (key_of word) other)
-    (first_wrong_pair d (before ++ word ∷ other ∷ []) words) h in
+right_value : (times : TimeRanges) (key : Key) (value : List ℕ) (before words : List (List ℕ))
+    → first_wrong_pair times before words ≡ None → given key words ≡ Some value
+    → wrong_value times key value ≡ None
+right_value times key value before [] h g = absurd (cc)
+right_value times key value before (word ∷ []) h g = absurd (cc)
+right_value times key value before (word ∷ other ∷ words) h g =
+    let parts : (wrong_pair times before (key_of word) other ≡ None)
+    × (first_wrong_pair times (before ++ word ∷ other ∷ []) words ≡ None) =
+    neither (wrong_pair times before (key_of word) other)
+    (first_wrong_pair times (before ++ word ∷ other ∷ []) words) h in
     go (bytes_eq word (word_of key)) refl parts.0 g
-    (λ g. right_value d key value (before ++ word ∷ other ∷ []) words parts.1 g)
+    (λ g. right_value times key value (before ++ word ∷ other ∷ []) words parts.1 g)
   where
     go : (same : Bool) → bytes_eq word (word_of key) ≡ same
-        → wrong_pair d before (key_of word) other ≡ None
+        → wrong_pair times before (key_of word) other ≡ None
         → cond same (Some other) (given key words) ≡ Some value
-        → (given key words ≡ Some value → wrong_value d key value ≡ None)
-        → wrong_value d key value ≡ None
+        → (given key words ≡ Some value → wrong_value times key value ≡ None)
+        → wrong_value times key value ≡ None
     go true e right g rest =
         let word_is : word ≡ word_of key = (bytes_eq-Decides word (word_of key)).0 e in
         let key_is : key_of word ≡ Some key = ap key_of word_is ∙ key_of-word_of key in
         let other_is : other ≡ value = cc in
-        let P : Option Key → Type 0 = λ k. wrong_pair d before k other ≡ None in
-        let here : wrong_value d key other ≡ None =
-        untaken (is_taken key before) (wrong_value d key other) (subst P key_is right) in
-        let Q : List ℕ → Type 0 = λ v. wrong_value d key v ≡ None in
+        let P : Option Key → Type 0 = λ k. wrong_pair times before k other ≡ None in
+        let here : wrong_value times key other ≡ None =
+        untaken (is_taken key before) (wrong_value times key other) (subst P key_is right) in
+        let Q : List ℕ → Type 0 = λ v. wrong_value times key v ≡ None in
         subst Q other_is here
     go false e right g rest = rest g
 
@@ -98,23 +99,23 @@ small_number word n h = go (bytes_eq (take 2 word) (codes "0x")) h
     go false h = small_digits 10 10 n word h
 
 -- each number behind a key lies in the key's range
-ranged : (d : ℕ) (key : Key) (value : List ℕ) (n : ℕ) → wrong_value d key value ≡ None
-    → number_of value ≡ Some n → IsWithin (limits d key).0 (limits d key).1 n
-ranged d Coins value n h e = (omega arith, omega (arith, small_number value n e))
-ranged d Kind value n h e = (omega arith, omega (arith, small_number value n e))
-ranged d key value n h e =
-    within (limits d key).0 (limits d key).1 n
-    (ap (out_of (limits d key).0 (limits d key).1) (sym e) ∙ h)
+ranged : (times : TimeRanges) (key : Key) (value : List ℕ) (n : ℕ) → wrong_value times key value ≡ None
+    → number_of value ≡ Some n → IsWithin (limits times key).0 (limits times key).1 n
+ranged times Coins value n h e = (omega arith, omega (arith, small_number value n e))
+ranged times Kind value n h e = (omega arith, omega (arith, small_number value n e))
+ranged times key value n h e =
+    within (limits times key).0 (limits times key).1 n
+    (ap (out_of (limits times key).0 (limits times key).1) (sym e) ∙ h)
 
-pub right_number : (d : ℕ) (key : Key) (pairs : List (List ℕ)) (value : List ℕ)
-    → first_wrong_pair d [] pairs ≡ None → given key pairs ≡ Some value
-    → IfSome (number_of value) (IsWithin (limits d key).0 (limits d key).1)
-right_number d key pairs value h g = go (number_of value) refl
+pub right_number : (times : TimeRanges) (key : Key) (pairs : List (List ℕ)) (value : List ℕ)
+    → first_wrong_pair times [] pairs ≡ None → given key pairs ≡ Some value
+    → IfSome (number_of value) (IsWithin (limits times key).0 (limits times key).1)
+right_number times key pairs value h g = go (number_of value) refl
   where
     go : (r : Option ℕ) → number_of value ≡ r
-        → IfSome r (IsWithin (limits d key).0 (limits d key).1)
+        → IfSome r (IsWithin (limits times key).0 (limits times key).1)
     go None e = tt
-    go (Some n) e = ranged d key value n (right_value d key value [] pairs h g) e
+    go (Some n) e = ranged times key value n (right_value times key value [] pairs h g) e
 
 -- what stands from a place on, as a slice to the end
 pub to_the_end : (words : List (List ℕ)) (place : ℕ)
@@ -131,13 +132,13 @@ two_behind words place inside h =
     omega (arith, length-drop place words, two)
 
 -- the next pair, where this one is right
-pub next_pair : (d done : ℕ) (words : List (List ℕ)) (key value : List ℕ)
+pub next_pair : (times : TimeRanges) (done : ℕ) (words : List (List ℕ)) (key value : List ℕ)
     → done + 2 ≤ length words → get_or (drop done words) 0 key ≡ key
     → get_or (drop done words) 1 value ≡ value
-    → wrong_pair d (take done words) (key_of key) value ≡ None
-    → first_wrong_pair d (take (done + 2) words) (drop (done + 2) words)
-    ≡ first_wrong_pair d (take done words) (drop done words)
-next_pair d done words key value inside first second right =
+    → wrong_pair times (take done words) (key_of key) value ≡ None
+    → first_wrong_pair times (take (done + 2) words) (drop (done + 2) words)
+    ≡ first_wrong_pair times (take done words) (drop done words)
+next_pair times done words key value inside first second right =
     let done_less : done < length words = omega arith in
     let next_less : done + 1 < length words = omega arith in
     let twice : done + 1 + 1 ≡ done + 2 = omega arith in
@@ -159,18 +160,18 @@ next_pair d done words key value inside first second right =
     rw (key_is, value_is, append_assoc) at front in
     let pair : drop done words ≡ key ∷ value ∷ drop (done + 2) words = rw (key_is, value_is) at two in
     let wrong : Option faults.Kind → Option faults.Kind =
-    λ first. option_or first (first_wrong_pair d (take done words ++ key ∷ value ∷ []) (drop (done + 2) words)) in
-    ap (λ before. first_wrong_pair d before (drop (done + 2) words)) joined
-    ∙ (sym (ap wrong right) ∙ sym (ap (first_wrong_pair d (take done words)) pair))
+    λ first. option_or first (first_wrong_pair times (take done words ++ key ∷ value ∷ []) (drop (done + 2) words)) in
+    ap (λ before. first_wrong_pair times before (drop (done + 2) words)) joined
+    ∙ (sym (ap wrong right) ∙ sym (ap (first_wrong_pair times (take done words)) pair))
 
 untrue : (coins : Bool) → cond coins None (Some Number) ≡ None → coins ≡ true
 untrue true h = refl
 untrue false h = absurd (cc)
 
 -- coins that are right are few
-pub right_coins : (d : ℕ) (pairs : List (List ℕ)) (text : List ℕ)
-    → first_wrong_pair d [] pairs ≡ None → given Coins pairs ≡ Some text
+pub right_coins : (times : TimeRanges) (pairs : List (List ℕ)) (text : List ℕ)
+    → first_wrong_pair times [] pairs ≡ None → given Coins pairs ≡ Some text
     → (length text ≤ 64) × (list_all is_coin text ≡ true)
-right_coins d pairs text h g =
-    let coins : are_coins text ≡ true = untrue (are_coins text) (right_value d Coins text [] pairs h g) in
+right_coins times pairs text h g =
+    let coins : are_coins text ≡ true = untrue (are_coins text) (right_value times Coins text [] pairs h g) in
     grind (arith, nat_tests)

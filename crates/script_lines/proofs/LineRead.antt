@@ -2,12 +2,13 @@
 use Rattle.std.proofs.Common.{◌≡◌, ◌∙◌, ◌⊎◌, inl, inr, ℕ, List, [], ◌∷◌, Option, Some, None, Bool, true, false, refl, sym, ap, subst}
 use Rattle.std.specs.Prelude.{cond, not, IsTrue, Result, Ok, Err, IfOk, IfErr}
 use Rattle.std.specs.Str.Lines.{strip_carriage_return}
+use Rattle.port_state.specs.declared.ranges.TimeRanges.{TimeRanges}
 use Rattle.script_lines.specs.declared.command.Command.{Command}
 use Rattle.script_lines.specs.declared.kind.Kind.{Kind}
 use Rattle.script_lines.specs.declared.kind.Kind.TheVariants.{Word}
 use Rattle.script_lines.specs.Words.{words_of}
 use Rattle.script_lines.specs.Shape.{fit}
-use Rattle.script_lines.specs.Form.{Form, plug, pull, reset, turn, hold, settle, config_root, config_gap, config_both, csr_read, csr_write, csr_lock, look, allocate, release, manager, plan, maps, delay, forms, shapes}
+use Rattle.script_lines.specs.Form.{Form, plug, pull, reset, turn, hold, settle, config_root, config_gap, config_both, csr_read, csr_write, csr_lock, look, allocate, release, manager, plan, maps, delay, times_2000, times_1995, forms, shapes}
 use Rattle.script_lines.specs.Node.{has_node_form}
 use Rattle.script_lines.specs.Line.{LineForm, node, other, has_form, wrong_word, meaning, IsWrong, HasNoForm, is_skipped, is_permitted_line, IsNoLine, IsRead, Reads}
 use Rattle.script_lines.specs.codings.Reading.{unless, read_words, in_line, read_line}
@@ -42,6 +43,8 @@ none_at words h manager = h.1.1.1.1.1.1.1.1.1.1.1.1.1.1.1.0
 none_at words h plan = h.1.1.1.1.1.1.1.1.1.1.1.1.1.1.1.1.0
 none_at words h maps = h.1.1.1.1.1.1.1.1.1.1.1.1.1.1.1.1.1.0
 none_at words h delay = h.1.1.1.1.1.1.1.1.1.1.1.1.1.1.1.1.1.1.0
+none_at words h times_2000 = h.1.1.1.1.1.1.1.1.1.1.1.1.1.1.1.1.1.1.1.0
+none_at words h times_1995 = h.1.1.1.1.1.1.1.1.1.1.1.1.1.1.1.1.1.1.1.1.0
 
 some_of : (forms : List Form) (words : List (List ℕ))
     → ((form : Form) × (fit (shapes form) words ≡ true)) ⊎ NoneOf forms words
@@ -81,13 +84,13 @@ false_of_not true h = absurd (cc)
 false_of_not false h = refl
 
 -- what the words of a line say
-shown : (d : ℕ) (line : List ℕ) → is_skipped line ≡ false → is_permitted_line line ≡ true
-    → IsRead d line (in_line (read_words d (words_of line)))
-shown d line visible permitted = go (some_form (words_of line))
+shown : (times : TimeRanges) (line : List ℕ) → is_skipped line ≡ false → is_permitted_line line ≡ true
+    → IsRead times line (in_line (read_words times (words_of line)))
+shown times line visible permitted = go (some_form (words_of line))
   where
     by_form : (form : LineForm) → has_form form (words_of line) ≡ true → (wrong : Option Kind)
-        → wrong_word d form (words_of line) ≡ wrong
-        → IsRead d line (in_line (unless wrong (meaning form (words_of line))))
+        → wrong_word times form (words_of line) ≡ wrong
+        → IsRead times line (in_line (unless wrong (meaning form (words_of line))))
     by_form form h None e = (
       not_false (is_skipped line) visible,
       (permitted, record { form = form; has = h; right = e; says = refl }),
@@ -98,42 +101,42 @@ shown d line visible permitted = go (some_form (words_of line))
     )
 
     go : ((form : LineForm) × (has_form form (words_of line) ≡ true)) ⊎ HasNoForm (words_of line)
-        → IsRead d line (in_line (read_words d (words_of line)))
+        → IsRead times line (in_line (read_words times (words_of line)))
     go (inl found) =
-        let Here : Result Command Kind → Type 0 = λ r. IsRead d line (in_line r) in
-        subst Here (sym (read_form d found.0 (words_of line) found.1))
-        (by_form found.0 found.1 (wrong_word d found.0 (words_of line)) refl)
+        let Here : Result Command Kind → Type 0 = λ r. IsRead times line (in_line r) in
+        subst Here (sym (read_form times found.0 (words_of line) found.1))
+        (by_form found.0 found.1 (wrong_word times found.0 (words_of line)) refl)
     go (inr none) =
-        let Here : Result Command Kind → Type 0 = λ r. IsRead d line (in_line r) in
-        subst Here (sym (read_none d (words_of line) none))
+        let Here : Result Command Kind → Type 0 = λ r. IsRead times line (in_line r) in
+        subst Here (sym (read_none times (words_of line) none))
         (not_false (is_skipped line) visible, inl (refl, inr none))
 
 -- a line is what its reader says
-pub reads : (d : ℕ) (line : List ℕ) → IsRead d line (read_line d line)
-reads d line = go (is_skipped line) (is_permitted_line line) refl refl
+pub reads : (times : TimeRanges) (line : List ℕ) → IsRead times line (read_line times line)
+reads times line = go (is_skipped line) (is_permitted_line line) refl refl
   where
     go : (skipped permitted : Bool) → is_skipped line ≡ skipped → is_permitted_line line ≡ permitted
-        → IsRead d line (cond skipped (Ok None)
-        (cond permitted (in_line (read_words d (words_of line))) (Err Word)))
+        → IsRead times line (cond skipped (Ok None)
+        (cond permitted (in_line (read_words times (words_of line))) (Err Word)))
     go true permitted e f = e
-    go false true e f = shown d line e f
+    go false true e f = shown times line e f
     go false false e f =
         (not_false (is_skipped line) e, inl (refl, inl (not_false (is_permitted_line line) f)))
 
 -- the reader of a line that isn't skipped
-visible_line : (d : ℕ) (line : List ℕ) → IsTrue (not (is_skipped line))
-    → read_line d line
-    ≡ cond (is_permitted_line line) (in_line (read_words d (words_of line))) (Err Word)
-visible_line d line h =
-    ap (λ b. cond b (Ok None) (cond (is_permitted_line line) (in_line (read_words d (words_of line))) (Err Word)))
+visible_line : (times : TimeRanges) (line : List ℕ) → IsTrue (not (is_skipped line))
+    → read_line times line
+    ≡ cond (is_permitted_line line) (in_line (read_words times (words_of line))) (Err Word)
+visible_line times line h =
+    ap (λ b. cond b (Ok None) (cond (is_permitted_line line) (in_line (read_words times (words_of line))) (Err Word)))
     (false_of_not (is_skipped line) h)
 
-words_line : (d : ℕ) (line : List ℕ) → IsTrue (not (is_skipped line)) →
+words_line : (times : TimeRanges) (line : List ℕ) → IsTrue (not (is_skipped line)) →
     IsTrue (is_permitted_line line)
-    → read_line d line ≡ in_line (read_words d (words_of line))
-words_line d line h permitted =
-    visible_line d line h
-    ∙ ap (λ b. cond b (in_line (read_words d (words_of line))) (Err Word)) permitted
+    → read_line times line ≡ in_line (read_words times (words_of line))
+words_line times line h permitted =
+    visible_line times line h
+    ∙ ap (λ b. cond b (in_line (read_words times (words_of line))) (Err Word)) permitted
 
 word_either_way : (b : Bool) (r : Result Command Kind) → r ≡ Err Word
     → cond b (in_line r) (Err Word) ≡ Err Word
@@ -141,69 +144,69 @@ word_either_way true r h = ap in_line h
 word_either_way false r h = refl
 
 -- and nothing else
-pub only : (d : ℕ) (line : List ℕ) (reading : Result (Option Command) Kind) → IsRead d line reading
-    → reading ≡ read_line d line
-only d line (Ok None) h =
-    sym (ap (λ b. cond b (Ok None) (cond (is_permitted_line line) (in_line (read_words d (words_of line))) (Err Word))) h)
-only d line (Ok (Some command)) h =
-    let says : read_words d (words_of line) ≡ Ok command =
-    read_form d h.1.1.form (words_of line) h.1.1.has
+pub only : (times : TimeRanges) (line : List ℕ) (reading : Result (Option Command) Kind) → IsRead times line reading
+    → reading ≡ read_line times line
+only times line (Ok None) h =
+    sym (ap (λ b. cond b (Ok None) (cond (is_permitted_line line) (in_line (read_words times (words_of line))) (Err Word))) h)
+only times line (Ok (Some command)) h =
+    let says : read_words times (words_of line) ≡ Ok command =
+    read_form times h.1.1.form (words_of line) h.1.1.has
     ∙ (ap (λ wrong. unless wrong (meaning h.1.1.form (words_of line))) h.1.1.right
     ∙ ap Ok (sym h.1.1.says)) in
-    sym (words_line d line h.0 h.1.0 ∙ ap in_line says)
-only d line (Err kind) h = go h.1
+    sym (words_line times line h.0 h.1.0 ∙ ap in_line says)
+only times line (Err kind) h = go h.1
   where
-    go : ((kind ≡ Word) × IsNoLine line) ⊎ (IsTrue (is_permitted_line line) × IsWrong d (words_of line) kind)
-        → Err kind ≡ read_line d line
+    go : ((kind ≡ Word) × IsNoLine line) ⊎ (IsTrue (is_permitted_line line) × IsWrong times (words_of line) kind)
+        → Err kind ≡ read_line times line
     go (inl (e, inl unpermitted)) =
-        sym (visible_line d line h.0
-        ∙ (ap (λ b. cond b (in_line (read_words d (words_of line))) (Err Word))
+        sym (visible_line times line h.0
+        ∙ (ap (λ b. cond b (in_line (read_words times (words_of line))) (Err Word))
         (false_of_not (is_permitted_line line) unpermitted)
         ∙ ap Err (sym e)))
     go (inl (e, inr none)) =
-        sym (visible_line d line h.0
-        ∙ (word_either_way (is_permitted_line line) (read_words d (words_of line))
-        (read_none d (words_of line) none)
+        sym (visible_line times line h.0
+        ∙ (word_either_way (is_permitted_line line) (read_words times (words_of line))
+        (read_none times (words_of line) none)
         ∙ ap Err (sym e)))
     go (inr (permitted, wrong)) =
-        let says : read_words d (words_of line) ≡ Err kind =
-        read_form d wrong.form (words_of line) wrong.has
+        let says : read_words times (words_of line) ≡ Err kind =
+        read_form times wrong.form (words_of line) wrong.has
         ∙ ap (λ w. unless w (meaning wrong.form (words_of line))) wrong.wrong in
-        sym (words_line d line h.0 permitted ∙ ap in_line says)
+        sym (words_line times line h.0 permitted ∙ ap in_line says)
 
 -- no line is two things
-pub one_reading : (d : ℕ) (line : List ℕ) (one two : Result (Option Command) Kind)
-    → Reads d line one → Reads d line two → one ≡ two
-one_reading d line one two h g =
-    only d (strip_carriage_return line) one h ∙ sym (only d (strip_carriage_return line) two g)
+pub one_reading : (times : TimeRanges) (line : List ℕ) (one two : Result (Option Command) Kind)
+    → Reads times line one → Reads times line two → one ≡ two
+one_reading times line one two h g =
+    only times (strip_carriage_return line) one h ∙ sym (only times (strip_carriage_return line) two g)
 
 -- each line is something
-pub some_reading : (d : ℕ) (line : List ℕ)
-    → (reading : Result (Option Command) Kind) × Reads d line reading
-some_reading d line =
-    (read_line d (strip_carriage_return line), reads d (strip_carriage_return line))
+pub some_reading : (times : TimeRanges) (line : List ℕ)
+    → (reading : Result (Option Command) Kind) × Reads times line reading
+some_reading times line =
+    (read_line times (strip_carriage_return line), reads times (strip_carriage_return line))
 
 -- an answer of the reader is what the line is
-pub found_of : (d : ℕ) (line : List ℕ) (result : Result (Option Command) LineStop)
-    → Answers result (read_line d (strip_carriage_return line))
-    → IfOk result (λ command. Reads d line (Ok command))
-found_of d line (Ok command) h =
-    let Here : Result (Option Command) Kind → Type 0 = λ r. Reads d line r in
-    subst Here h (reads d (strip_carriage_return line))
-found_of d line (Err stop) h = tt
+pub found_of : (times : TimeRanges) (line : List ℕ) (result : Result (Option Command) LineStop)
+    → Answers result (read_line times (strip_carriage_return line))
+    → IfOk result (λ command. Reads times line (Ok command))
+found_of times line (Ok command) h =
+    let Here : Result (Option Command) Kind → Type 0 = λ r. Reads times line r in
+    subst Here h (reads times (strip_carriage_return line))
+found_of times line (Err stop) h = tt
 
-pub refused_of : (d : ℕ) (line : List ℕ) (result : Result (Option Command) LineStop)
-    → Answers result (read_line d (strip_carriage_return line))
-    → IfErr result (λ stop. Refuses d line stop)
-refused_of d line (Ok command) h = tt
-refused_of d line (Err (Fault kind)) h =
-    let Here : Result (Option Command) Kind → Type 0 = λ r. Reads d line r in
-    subst Here h (reads d (strip_carriage_return line))
-refused_of d line (Err (Memory none)) h = tt
+pub refused_of : (times : TimeRanges) (line : List ℕ) (result : Result (Option Command) LineStop)
+    → Answers result (read_line times (strip_carriage_return line))
+    → IfErr result (λ stop. Refuses times line stop)
+refused_of times line (Ok command) h = tt
+refused_of times line (Err (Fault kind)) h =
+    let Here : Result (Option Command) Kind → Type 0 = λ r. Reads times line r in
+    subst Here h (reads times (strip_carriage_return line))
+refused_of times line (Err (Memory none)) h = tt
 
-pub only_of : (d : ℕ) (line : List ℕ) (result : Result (Option Command) LineStop)
-    → Answers result (read_line d (strip_carriage_return line))
-    → (reading : Result (Option Command) Kind) → Reads d line reading → Answers result reading
-only_of d line (Ok command) h reading g = only d (strip_carriage_return line) reading g ∙ h
-only_of d line (Err (Fault kind)) h reading g = only d (strip_carriage_return line) reading g ∙ h
-only_of d line (Err (Memory none)) h reading g = tt
+pub only_of : (times : TimeRanges) (line : List ℕ) (result : Result (Option Command) LineStop)
+    → Answers result (read_line times (strip_carriage_return line))
+    → (reading : Result (Option Command) Kind) → Reads times line reading → Answers result reading
+only_of times line (Ok command) h reading g = only times (strip_carriage_return line) reading g ∙ h
+only_of times line (Err (Fault kind)) h reading g = only times (strip_carriage_return line) reading g ∙ h
+only_of times line (Err (Memory none)) h reading g = tt

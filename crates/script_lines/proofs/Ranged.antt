@@ -4,6 +4,7 @@ use Rattle.std.specs.Prelude.{cond, nat_le, IfSome, slice_get, unwrap_or}
 use Rattle.std.specs.Option.{option_and_then}
 use Rattle.std.specs.Str.Lines.{strip_carriage_return}
 use Rattle.std.proofs.lemmas.Bool.Decides.{nat_tests}
+use Rattle.port_state.specs.declared.ranges.TimeRanges.{TimeRanges}
 use Rattle.script_lines.specs.declared.kind.Kind.TheVariants.{Range}
 use Rattle.script_lines.specs.declared.key.Key.{Key}
 use Rattle.script_lines.specs.declared.key.Key.TheVariants.{Speed, Power, Gap, Hold, Short, Long, Coins}
@@ -69,58 +70,60 @@ at-place (s ∷ ss) (word ∷ words) f w (suc place) =
 -- ---- the forms
 
 fixed :
-    (d : ℕ) (f : Form) (words : List (List ℕ)) → fit (shapes f) words ≡ true → first_wrong (shapes f) words ≡ None →
-    IsInRange d (command_of f words)
-fixed d form.plug words h w = tt
-fixed d form.pull words h w = tt
-fixed d form.reset words h w = tt
-fixed d form.turn words h w = at-place (shapes form.turn) words h w 1
-fixed d form.hold words h w = at-place (shapes form.hold) words h w 3
-fixed d form.settle words h w = tt
-fixed d form.config_root words h w = record { some_given = refl; root_most = (at-place (shapes form.config_root) words h w 2).1; gap_most = tt }
-fixed d form.config_gap words h w = record { some_given = refl; root_most = tt; gap_most = (at-place (shapes form.config_gap) words h w 3).1 }
-fixed d form.config_both words h w = record {
+    (times : TimeRanges) (f : Form) (words : List (List ℕ)) → fit (shapes f) words ≡ true → first_wrong (shapes f) words ≡ None →
+    IsInRange times (command_of f words)
+fixed times form.plug words h w = tt
+fixed times form.pull words h w = tt
+fixed times form.reset words h w = tt
+fixed times form.turn words h w = at-place (shapes form.turn) words h w 1
+fixed times form.hold words h w = at-place (shapes form.hold) words h w 3
+fixed times form.settle words h w = tt
+fixed times form.config_root words h w = record { some_given = refl; root_most = (at-place (shapes form.config_root) words h w 2).1; gap_most = tt }
+fixed times form.config_gap words h w = record { some_given = refl; root_most = tt; gap_most = (at-place (shapes form.config_gap) words h w 3).1 }
+fixed times form.config_both words h w = record {
   some_given = refl;
   root_most = (at-place (shapes form.config_both) words h w 2).1;
   gap_most = (at-place (shapes form.config_both) words h w 3).1;
 }
-fixed d form.csr_read words h w = tt
-fixed d form.csr_write words h w = tt
-fixed d form.csr_lock words h w = (at-place (shapes form.csr_lock) words h w 4).1
-fixed d form.look words h w = tt
-fixed d form.allocate words h w = ((at-place (shapes form.allocate) words h w 2).1, (at-place (shapes form.allocate) words h w 3).1)
-fixed d form.release words h w = ((at-place (shapes form.release) words h w 2).1, (at-place (shapes form.release) words h w 3).1)
-fixed d form.manager words h w = tt
-fixed d form.plan words h w = tt
-fixed d form.maps words h w = tt
-fixed d form.delay words h w = at-place (shapes form.delay) words h w 1
+fixed times form.csr_read words h w = tt
+fixed times form.csr_write words h w = tt
+fixed times form.csr_lock words h w = (at-place (shapes form.csr_lock) words h w 4).1
+fixed times form.look words h w = tt
+fixed times form.allocate words h w = ((at-place (shapes form.allocate) words h w 2).1, (at-place (shapes form.allocate) words h w 3).1)
+fixed times form.release words h w = ((at-place (shapes form.release) words h w 2).1, (at-place (shapes form.release) words h w 3).1)
+fixed times form.manager words h w = tt
+fixed times form.plan words h w = tt
+fixed times form.maps words h w = tt
+fixed times form.delay words h w = at-place (shapes form.delay) words h w 1
+fixed times form.times_2000 words h w = (at-place (shapes form.times_2000) words h w 2).1
+fixed times form.times_1995 words h w = (at-place (shapes form.times_1995) words h w 2).1
 
 -- ---- the line of a node
 
 -- a number behind a key, if it is given
 given-number :
-    (d : ℕ) (key : Key) (pairs : List (List ℕ)) → first_wrong_pair d [] pairs ≡ None →
-    IfSome (number_given key pairs) (IsWithin (limits d key).0 (limits d key).1)
-given-number d key pairs right = go (given key pairs) refl
+    (times : TimeRanges) (key : Key) (pairs : List (List ℕ)) → first_wrong_pair times [] pairs ≡ None →
+    IfSome (number_given key pairs) (IsWithin (limits times key).0 (limits times key).1)
+given-number times key pairs right = go (given key pairs) refl
   where
     go :
         (o : Option (List ℕ)) → given key pairs ≡ o →
-        IfSome (option_and_then number_of o) (IsWithin (limits d key).0 (limits d key).1)
+        IfSome (option_and_then number_of o) (IsWithin (limits times key).0 (limits times key).1)
     go None e = tt
-    go (Some value) e = right_number d key pairs value right e
+    go (Some value) e = right_number times key pairs value right e
 
 or-usual : (n : Option ℕ) (least most usual : ℕ) → IfSome n (IsWithin least most) → usual ≤ most →
     unwrap_or n usual ≤ most
 or-usual None least most usual h u = u
 or-usual (Some n) least most usual h u = h.1
 
-few-coins : (d : ℕ) (pairs : List (List ℕ)) → first_wrong_pair d [] pairs ≡ None →
+few-coins : (times : TimeRanges) (pairs : List (List ℕ)) → first_wrong_pair times [] pairs ≡ None →
     length (coins_given pairs) ≤ 64
-few-coins d pairs right = go (given Coins pairs) refl
+few-coins times pairs right = go (given Coins pairs) refl
   where
     go : (o : Option (List ℕ)) → given Coins pairs ≡ o → length (unwrap_or o []) ≤ 64
     go None e = omega arith
-    go (Some text) e = (right_coins d pairs text right e).0
+    go (Some text) e = (right_coins times pairs text right e).0
 
 third : (words : List (List ℕ)) → number_at (take 3 words) 2 ≡ number_at words 2
 third [] = refl
@@ -128,32 +131,32 @@ third (a ∷ []) = refl
 third (a ∷ b ∷ []) = refl
 third (a ∷ b ∷ c ∷ words) = refl
 
-node-range : (d : ℕ) (words : List (List ℕ)) → has_node_form words ≡ true →
-    wrong_node d words ≡ None → IsInRange d (node_command words)
-node-range d words has right =
+node-range : (times : TimeRanges) (words : List (List ℕ)) → has_node_form words ≡ true →
+    wrong_node times words ≡ None → IsInRange times (node_command words)
+node-range times words has right =
     let pairs : List (List ℕ) = drop 3 words in
-    let both = neither (first_wrong node_shapes (take 3 words)) (first_wrong_pair d [] pairs) right in
+    let both = neither (first_wrong node_shapes (take 3 words)) (first_wrong_pair times [] pairs) right in
     let shape = first (fit node_shapes (take 3 words)) (are_pairs pairs) has in
     let ports : IsWithin 1 16 (number_at words 2) = subst (IsWithin 1 16) (third words) (at-place node_shapes (take 3 words) shape both.0 2) in
     record {
       some_port = ports.0;
       few_ports = ports.1;
-      speed_most = or-usual (number_given Speed pairs) 0 2 2 (given-number d Speed pairs both.1) (omega arith);
-      power_most = or-usual (number_given Power pairs) 0 7 0 (given-number d Power pairs both.1) (omega arith);
-      gap_most = or-usual (number_given Gap pairs) 0 63 63 (given-number d Gap pairs both.1) (omega arith);
-      hold_within = given-number d Hold pairs both.1;
-      short_within = given-number d Short pairs both.1;
-      long_within = given-number d Long pairs both.1;
-      few_coins = few-coins d pairs both.1;
+      speed_most = or-usual (number_given Speed pairs) 0 2 2 (given-number times Speed pairs both.1) (omega arith);
+      power_most = or-usual (number_given Power pairs) 0 7 0 (given-number times Power pairs both.1) (omega arith);
+      gap_most = or-usual (number_given Gap pairs) 0 63 63 (given-number times Gap pairs both.1) (omega arith);
+      hold_within = given-number times Hold pairs both.1;
+      short_within = given-number times Short pairs both.1;
+      long_within = given-number times Long pairs both.1;
+      few_coins = few-coins times pairs both.1;
     }
 
-said : (d : ℕ) (words : List (List ℕ)) (f : LineForm) → has_form f words ≡ true →
-    wrong_word d f words ≡ None → IsInRange d (meaning f words)
-said d words node h right = node-range d words h right
-said d words (other f) h right = fixed d f words h right
+said : (times : TimeRanges) (words : List (List ℕ)) (f : LineForm) → has_form f words ≡ true →
+    wrong_word times f words ≡ None → IsInRange times (meaning f words)
+said times words node h right = node-range times words h right
+said times words (other f) h right = fixed times f words h right
 
 pub in-range : CommandsAreInRange
-in-range d line command h =
+in-range times line command h =
     let words : List (List ℕ) = words_of (strip_carriage_return line) in
-    let is : IsCommand d words command = h.1.1 in
-    subst (IsInRange d) (sym is.says) (said d words is.form is.has is.right)
+    let is : IsCommand times words command = h.1.1 in
+    subst (IsInRange times) (sym is.says) (said times words is.form is.has is.right)

@@ -3,11 +3,12 @@ use Rattle.std.proofs.Common.{◌≡◌, ◌∙◌, ℕ, ◌≤◌, ◌-◌, Lis
 use Rattle.std.specs.Prelude.{cond, not, Result, Err}
 use Rattle.std.specs.Str.{bytes_eq}
 use Rattle.std.proofs.lemmas.Slice.Eq.{bytes_eq-Decides}
+use Rattle.port_state.specs.declared.ranges.TimeRanges.{TimeRanges}
 use Rattle.script_lines.specs.declared.command.Command.{Command}
 use Rattle.script_lines.specs.declared.kind.Kind.{Kind}
 use Rattle.script_lines.specs.declared.kind.Kind.TheVariants.{Word}
 use Rattle.script_lines.specs.Shape.{Shape, the, a_name, a_number, a_given, any_number, fit, first_wrong}
-use Rattle.script_lines.specs.Form.{Form, plug, pull, reset, turn, hold, settle, config_root, config_gap, config_both, csr_read, csr_write, csr_lock, look, allocate, release, manager, plan, maps, delay, forms, shapes, command_of}
+use Rattle.script_lines.specs.Form.{Form, plug, pull, reset, turn, hold, settle, config_root, config_gap, config_both, csr_read, csr_write, csr_lock, look, allocate, release, manager, plan, maps, delay, times_2000, times_1995, forms, shapes, command_of}
 use Rattle.script_lines.specs.Node.{are_pairs, has_node_form, wrong_node, node_command}
 use Rattle.script_lines.specs.Line.{LineForm, node, other, has_form, wrong_word, meaning, HasNoForm}
 use Rattle.script_lines.specs.codings.Reading.{unless, read_by, read_node, read_words}
@@ -26,19 +27,19 @@ not_node word words h =
     ap (λ b. (b && fit (a_name ∷ a_number 1 16 ∷ []) (take 2 words)) && are_pairs (drop 2 words)) h
 
 -- words that declare a node
-pub read_declared : (d : ℕ) (words : List (List ℕ)) (first : List ℕ) (others : List (List ℕ))
+pub read_declared : (times : TimeRanges) (words : List (List ℕ)) (first : List ℕ) (others : List (List ℕ))
     → words ≡ first ∷ others → bytes_eq first (codes "node") ≡ true
-    → read_node d (codes "node" ∷ others) ≡ read_words d words
-read_declared d words first others e h =
+    → read_node times (codes "node" ∷ others) ≡ read_words times words
+read_declared times words first others e h =
     let same : first ≡ codes "node" = (bytes_eq-Decides first (codes "node")).0 h in
     let all : words ≡ codes "node" ∷ others = e ∙ ap (λ w. w ∷ others) same in
-    ap (read_words d) (sym all)
+    ap (read_words times) (sym all)
 
 -- words that don't declare a node
-pub read_others : (d : ℕ) (words : List (List ℕ)) (first : List ℕ) (others : List (List ℕ))
+pub read_others : (times : TimeRanges) (words : List (List ℕ)) (first : List ℕ) (others : List (List ℕ))
     → words ≡ first ∷ others → bytes_eq first (codes "node") ≡ false
-    → read_by forms (first ∷ others) ≡ read_words d words
-read_others d words first others e h =
+    → read_by forms (first ∷ others) ≡ read_words times words
+read_others times words first others e h =
     rw (e, not_node first others h) refl
 
 false_is_not_true : false ≡ true → ⊥
@@ -73,6 +74,8 @@ verb manager = codes "manager"
 verb plan = codes "plan"
 verb maps = codes "maps"
 verb delay = codes "delay"
+verb times_2000 = codes "times"
+verb times_1995 = codes "times"
 
 -- the forms that begin with it
 abbrev group : Form → List Form
@@ -95,6 +98,8 @@ group manager = manager ∷ []
 group plan = plan ∷ []
 group maps = maps ∷ []
 group delay = delay ∷ []
+group times_2000 = times_2000 ∷ times_1995 ∷ []
+group times_1995 = times_2000 ∷ times_1995 ∷ []
 
 grouped : (form : Form) (args : List (List ℕ))
     → read_by forms (verb form ∷ args) ≡ read_by (group form) (verb form ∷ args)
@@ -117,6 +122,8 @@ grouped manager args = refl
 grouped plan args = refl
 grouped maps args = refl
 grouped delay args = refl
+grouped times_2000 args = refl
+grouped times_1995 args = refl
 
 not_node_verb : (form : Form) → bytes_eq (verb form) (codes "node") ≡ false
 not_node_verb plug = refl
@@ -138,6 +145,8 @@ not_node_verb manager = refl
 not_node_verb plan = refl
 not_node_verb maps = refl
 not_node_verb delay = refl
+not_node_verb times_2000 = refl
+not_node_verb times_1995 = refl
 
 begins_so : (word text : List ℕ) (rest : Bool) → (bytes_eq word text && rest) ≡ true → word ≡ text
 begins_so word text rest h = (bytes_eq-Decides word text).0 (and_parts (bytes_eq word text) rest h).0
@@ -163,6 +172,8 @@ begins manager word args h = begins_so word _ _ h
 begins plan word args h = begins_so word _ _ h
 begins maps word args h = begins_so word _ _ h
 begins delay word args h = begins_so word _ _ h
+begins times_2000 word args h = begins_so word _ _ h
+begins times_1995 word args h = begins_so word _ _ h
 
 -- what words say by a form that they have
 abbrev by_form : Form → List (List ℕ) → Result Command Kind
@@ -176,16 +187,21 @@ passed : (form : Form) (forms : List Form) (words : List (List ℕ))
     → fit (shapes form) words ≡ false → read_by (form ∷ forms) words ≡ read_by forms words
 passed form forms words h = ap (λ b. cond b (by_form form words) (read_by forms words)) h
 
--- two forms with different words at the third place
+-- two forms with different words at the first place
 apart : (text word : List ℕ) → bytes_eq text word ≡ false → (here there : List Shape)
-    (args : List (List ℕ)) → fit (a_name ∷ the text ∷ here) args ≡ true
-    → fit (a_name ∷ the word ∷ there) args ≡ false
+    (args : List (List ℕ)) → fit (the text ∷ here) args ≡ true → fit (the word ∷ there) args ≡ false
 apart text word e here there [] h = absurd (cc)
-apart text word e here there (name ∷ []) h = absurd (cc)
-apart text word e here there (name ∷ found ∷ rest) h =
+apart text word e here there (found ∷ rest) h =
     let same : found ≡ text = begins_so found text (fit here rest) h in
     let Apart : List ℕ → Type 0 = λ w. (bytes_eq w word && fit there rest) ≡ false in
     subst Apart (sym same) (ap (λ b. b && fit there rest) e)
+
+-- and behind a name
+apart_behind : (text word : List ℕ) → bytes_eq text word ≡ false → (here there : List Shape)
+    (args : List (List ℕ)) → fit (a_name ∷ the text ∷ here) args ≡ true
+    → fit (a_name ∷ the word ∷ there) args ≡ false
+apart_behind text word e here there [] h = absurd (cc)
+apart_behind text word e here there (name ∷ rest) h = apart text word e here there rest h
 
 not_both : (a b f : Bool) → (a && (not b && f)) ≡ true → (a && (b && f)) ≡ false
 not_both true true f h = absurd (cc)
@@ -235,14 +251,14 @@ in_group config_both args h =
 in_group csr_read args h = taken csr_read (csr_write ∷ csr_lock ∷ []) (codes "csr" ∷ args) h
 in_group csr_write args h =
     passed csr_read (csr_write ∷ csr_lock ∷ []) (codes "csr" ∷ args)
-    (apart (codes "write") (codes "read") refl (any_number ∷ any_number ∷ []) (any_number ∷ []) args h)
+    (apart_behind (codes "write") (codes "read") refl (any_number ∷ any_number ∷ []) (any_number ∷ []) args h)
     ∙ taken csr_write (csr_lock ∷ []) (codes "csr" ∷ args) h
 in_group csr_lock args h =
     passed csr_read (csr_write ∷ csr_lock ∷ []) (codes "csr" ∷ args)
-    (apart (codes "lock") (codes "read") refl
+    (apart_behind (codes "lock") (codes "read") refl
     (any_number ∷ a_number 0 255 ∷ any_number ∷ any_number ∷ []) (any_number ∷ []) args h)
     ∙ (passed csr_write (csr_lock ∷ []) (codes "csr" ∷ args)
-    (apart (codes "lock") (codes "write") refl
+    (apart_behind (codes "lock") (codes "write") refl
     (any_number ∷ a_number 0 255 ∷ any_number ∷ any_number ∷ [])
     (any_number ∷ any_number ∷ []) args h)
     ∙ taken csr_lock [] (codes "csr" ∷ args) h)
@@ -259,6 +275,12 @@ in_group manager args h = taken manager [] (codes "manager" ∷ args) h
 in_group plan args h = taken plan [] (codes "plan" ∷ args) h
 in_group maps args h = taken maps [] (codes "maps" ∷ args) h
 in_group delay args h = taken delay [] (codes "delay" ∷ args) h
+in_group times_2000 args h = taken times_2000 (times_1995 ∷ []) (codes "times" ∷ args) h
+in_group times_1995 args h =
+    passed times_2000 (times_1995 ∷ []) (codes "times" ∷ args)
+    (apart (codes "1394-1995") (codes "1394a") refl (a_number 1 4294967295 ∷ [])
+    (a_number 1 4294967295 ∷ []) args h)
+    ∙ taken times_1995 [] (codes "times" ∷ args) h
 
 unfit : (form : Form) → fit (shapes form) [] ≡ false
 unfit plug = refl
@@ -280,26 +302,28 @@ unfit manager = refl
 unfit plan = refl
 unfit maps = refl
 unfit delay = refl
+unfit times_2000 = refl
+unfit times_1995 = refl
 
-read_fixed : (d : ℕ) (form : Form) (words : List (List ℕ)) → fit (shapes form) words ≡ true
-    → read_words d words ≡ by_form form words
-read_fixed d form [] h = absurd (false_is_not_true (sym (unfit form) ∙ h))
-read_fixed d form (word ∷ args) h =
+read_fixed : (times : TimeRanges) (form : Form) (words : List (List ℕ)) → fit (shapes form) words ≡ true
+    → read_words times words ≡ by_form form words
+read_fixed times form [] h = absurd (false_is_not_true (sym (unfit form) ∙ h))
+read_fixed times form (word ∷ args) h =
     let same : word ≡ verb form = begins form word args h in
     let fits : fit (shapes form) (verb form ∷ args) ≡ true =
     ap (λ w. fit (shapes form) (w ∷ args)) (sym same) ∙ h in
     let differs : bytes_eq word (codes "node") ≡ false =
     ap (λ w. bytes_eq w (codes "node")) same ∙ not_node_verb form in
-    sym (read_others d (word ∷ args) word args refl differs)
+    sym (read_others times (word ∷ args) word args refl differs)
     ∙ (ap (λ w. read_by forms (w ∷ args)) same
     ∙ (grouped form args ∙ (in_group form args fits ∙ ap (λ w. by_form form (w ∷ args)) (sym same))))
 
 -- what words say is what they say by any form that they have
-pub read_form : (d : ℕ) (form : LineForm) (words : List (List ℕ)) → has_form form words ≡ true
-    → read_words d words ≡ unless (wrong_word d form words) (meaning form words)
-read_form d node words h =
-    ap (λ b. cond b (unless (wrong_node d words) (node_command words)) (read_by forms words)) h
-read_form d (other form) words h = read_fixed d form words h
+pub read_form : (times : TimeRanges) (form : LineForm) (words : List (List ℕ)) → has_form form words ≡ true
+    → read_words times words ≡ unless (wrong_word times form words) (meaning form words)
+read_form times node words h =
+    ap (λ b. cond b (unless (wrong_node times words) (node_command words)) (read_by forms words)) h
+read_form times (other form) words h = read_fixed times form words h
 
 no_fixed : (forms : List Form) (words : List (List ℕ))
     → ((form : Form) → fit (shapes form) words ≡ true → ⊥) → read_by forms words ≡ Err Word
@@ -308,8 +332,8 @@ no_fixed (form ∷ forms) words h =
     passed form forms words (untrue (fit (shapes form) words) (h form)) ∙ no_fixed forms words h
 
 -- words that have no form are at fault
-pub read_none : (d : ℕ) (words : List (List ℕ)) → HasNoForm words → read_words d words ≡ Err Word
-read_none d words h =
-    ap (λ b. cond b (unless (wrong_node d words) (node_command words)) (read_by forms words))
+pub read_none : (times : TimeRanges) (words : List (List ℕ)) → HasNoForm words → read_words times words ≡ Err Word
+read_none times words h =
+    ap (λ b. cond b (unless (wrong_node times words) (node_command words)) (read_by forms words))
     (untrue (has_node_form words) (h node))
     ∙ no_fixed forms words (λ form. h (other form))

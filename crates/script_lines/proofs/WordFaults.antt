@@ -7,6 +7,7 @@ use Rattle.std.specs.Str.Lines.{strip_carriage_return}
 use Rattle.std.proofs.lemmas.Bool.Decides.{nat_tests}
 use Rattle.std.proofs.lemmas.Slice.Eq.{bytes_eq-Decides}
 use Rattle.topology_stack.specs.Name.{IsName}
+use Rattle.port_state.specs.declared.ranges.TimeRanges.{TimeRanges}
 use Rattle.script_lines.specs.declared.kind.Kind as faults
 use Rattle.script_lines.specs.declared.kind.Kind.TheVariants.{Number, Name, Range, Twice}
 use Rattle.script_lines.specs.declared.key.Key.{Key}
@@ -168,30 +169,30 @@ turned_back : (b : Bool) → IsTrue (not b) → b ≡ false
 turned_back true h = absurd cc
 turned_back false h = refl
 
-value_found : (d : ℕ) (key : Key) (value : List ℕ) →
-    Finds (wrong_value d key value) (ValueHas d key value)
-value_found d Kind value kind = none_found kind
-value_found d Coins value kind =
+value_found : (times : TimeRanges) (key : Key) (value : List ℕ) →
+    Finds (wrong_value times key value) (ValueHas times key value)
+value_found times Kind value kind = none_found kind
+value_found times Coins value kind =
     by_test (are_coins value) Number (IsTrue (not (are_coins value))) (turned (are_coins value)) (turned_back (are_coins value)) kind
-value_found d Speed value kind = number_found (limits d Speed).0 (limits d Speed).1 (number_of value) kind
-value_found d Link value kind = number_found (limits d Link).0 (limits d Link).1 (number_of value) kind
-value_found d Contender value kind = number_found (limits d Contender).0 (limits d Contender).1 (number_of value) kind
-value_found d Force value kind = number_found (limits d Force).0 (limits d Force).1 (number_of value) kind
-value_found d Power value kind = number_found (limits d Power).0 (limits d Power).1 (number_of value) kind
-value_found d Gap value kind = number_found (limits d Gap).0 (limits d Gap).1 (number_of value) kind
-value_found d Hold value kind = number_found (limits d Hold).0 (limits d Hold).1 (number_of value) kind
-value_found d Short value kind = number_found (limits d Short).0 (limits d Short).1 (number_of value) kind
-value_found d Long value kind = number_found (limits d Long).0 (limits d Long).1 (number_of value) kind
-value_found d Seed value kind = number_found (limits d Seed).0 (limits d Seed).1 (number_of value) kind
+value_found times Speed value kind = number_found (limits times Speed).0 (limits times Speed).1 (number_of value) kind
+value_found times Link value kind = number_found (limits times Link).0 (limits times Link).1 (number_of value) kind
+value_found times Contender value kind = number_found (limits times Contender).0 (limits times Contender).1 (number_of value) kind
+value_found times Force value kind = number_found (limits times Force).0 (limits times Force).1 (number_of value) kind
+value_found times Power value kind = number_found (limits times Power).0 (limits times Power).1 (number_of value) kind
+value_found times Gap value kind = number_found (limits times Gap).0 (limits times Gap).1 (number_of value) kind
+value_found times Hold value kind = number_found (limits times Hold).0 (limits times Hold).1 (number_of value) kind
+value_found times Short value kind = number_found (limits times Short).0 (limits times Short).1 (number_of value) kind
+value_found times Long value kind = number_found (limits times Long).0 (limits times Long).1 (number_of value) kind
+value_found times Seed value kind = number_found (limits times Seed).0 (limits times Seed).1 (number_of value) kind
 
-pair_found : (d : ℕ) (before : List (List ℕ)) (key : Option Key) (value : List ℕ) →
-    Finds (wrong_pair d before key value) (PairHas d before key value)
-pair_found d before None value kind = none_found kind
-pair_found d before (Some key) value kind = go (is_taken key before) refl
+pair_found : (times : TimeRanges) (before : List (List ℕ)) (key : Option Key) (value : List ℕ) →
+    Finds (wrong_pair times before key value) (PairHas times before key value)
+pair_found times before None value kind = none_found kind
+pair_found times before (Some key) value kind = go (is_taken key before) refl
   where
     go : (b : Bool) → is_taken key before ≡ b →
-        (cond b (Some Twice) (wrong_value d key value) ≡ Some kind → PairHas d before (Some key) value kind)
-        × (PairHas d before (Some key) value kind → cond b (Some Twice) (wrong_value d key value) ≡ Some kind)
+        (cond b (Some Twice) (wrong_value times key value) ≡ Some kind → PairHas times before (Some key) value kind)
+        × (PairHas times before (Some key) value kind → cond b (Some Twice) (wrong_value times key value) ≡ Some kind)
     go true e = (
       λ f. inl (sym (same_kind Twice kind f), taken_given key before e),
       λ h. elim h [
@@ -200,39 +201,39 @@ pair_found d before (Some key) value kind = go (is_taken key before) refl
       ],
     )
     go false e = (
-      λ f. inr ((λ is. let t = given_taken key before is in absurd cc), (value_found d key value kind).0 f),
+      λ f. inr ((λ is. let t = given_taken key before is in absurd cc), (value_found times key value kind).0 f),
       λ h. elim h [
         | inl x ↦ let t = given_taken key before x.1 in absurd cc
-        | inr x ↦ (value_found d key value kind).1 x.1
+        | inr x ↦ (value_found times key value kind).1 x.1
       ],
     )
 
-pairs_found : (d : ℕ) (before pairs : List (List ℕ)) →
-    Finds (first_wrong_pair d before pairs) (PairsHave d before pairs)
-pairs_found d before [] = none_found
-pairs_found d before (key ∷ []) = none_found
-pairs_found d before (key ∷ value ∷ words) =
-    first_found (wrong_pair d before (key_of key) value) (first_wrong_pair d (before ++ key ∷ value ∷ []) words)
-    (PairHas d before (key_of key) value) (PairsHave d (before ++ key ∷ value ∷ []) words)
-    (pair_found d before (key_of key) value) (pairs_found d (before ++ key ∷ value ∷ []) words)
+pairs_found : (times : TimeRanges) (before pairs : List (List ℕ)) →
+    Finds (first_wrong_pair times before pairs) (PairsHave times before pairs)
+pairs_found times before [] = none_found
+pairs_found times before (key ∷ []) = none_found
+pairs_found times before (key ∷ value ∷ words) =
+    first_found (wrong_pair times before (key_of key) value) (first_wrong_pair times (before ++ key ∷ value ∷ []) words)
+    (PairHas times before (key_of key) value) (PairsHave times (before ++ key ∷ value ∷ []) words)
+    (pair_found times before (key_of key) value) (pairs_found times (before ++ key ∷ value ∷ []) words)
 
 -- ---- lines
 
-form_found : (d : ℕ) (form : LineForm) (words : List (List ℕ)) →
-    Finds (wrong_word d form words) (FormHas d form words)
-form_found d node words =
-    first_found (first_wrong node_shapes (take 3 words)) (first_wrong_pair d [] (drop 3 words))
-    (WordsHave node_shapes (take 3 words)) (PairsHave d [] (drop 3 words))
-    (words_found node_shapes (take 3 words)) (pairs_found d [] (drop 3 words))
-form_found d (other form) words = words_found (shapes form) words
+form_found : (times : TimeRanges) (form : LineForm) (words : List (List ℕ)) →
+    Finds (wrong_word times form words) (FormHas times form words)
+form_found times node words =
+    first_found (first_wrong node_shapes (take 3 words)) (first_wrong_pair times [] (drop 3 words))
+    (WordsHave node_shapes (take 3 words)) (PairsHave times [] (drop 3 words))
+    (words_found node_shapes (take 3 words)) (pairs_found times [] (drop 3 words))
+form_found times (other form) words = words_found (shapes form) words
 
 pub refused_so : LinesAreRefusedSo
-refused_so d line kind =
+refused_so times line kind =
     let words = words_of (strip_carriage_return line) in
-    let there : FirstWordHas d words kind → IsWrong d words kind = λ h.
-    record { form = h.form; has = h.has; wrong = (form_found d h.form words kind).1 h.fault } in
-    let back : IsWrong d words kind → FirstWordHas d words kind = λ h.
-    record { form = h.form; has = h.has; fault = (form_found d h.form words kind).0 h.wrong } in (
+    let there : FirstWordHas times words kind → IsWrong times words kind = λ h.
+    record { form = h.form; has = h.has; wrong = (form_found times h.form words kind).1 h.fault } in
+    let back : IsWrong times words kind → FirstWordHas times words kind = λ h.
+    record { form = h.form; has = h.has; fault = (form_found times h.form words kind).0 h.wrong } in (
       λ h. (
         h.0,
         elim h.1 [

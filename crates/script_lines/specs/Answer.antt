@@ -1,5 +1,6 @@
 -- What `parse_line` answers.
 use Rattle.std.specs.Prelude.{◌≡◌, ℕ, List, Option, Result, Ok, Err}
+use Rattle.port_state.specs.declared.ranges.TimeRanges.{TimeRanges}
 use Rattle.script_lines.specs.declared.kind.Kind.{Kind}
 use Rattle.script_lines.specs.declared.kind.LineStop.{LineStop}
 use Rattle.script_lines.specs.declared.kind.LineStop.TheVariants.{Fault, Memory}
@@ -7,9 +8,9 @@ use Rattle.script_lines.specs.declared.command.Command.{Command}
 use Rattle.script_lines.specs.Line.{Reads}
 
 -- a stop for a fault is the line's fault
-abbrev pub Refuses : ℕ → List ℕ → LineStop → Type 0
-Refuses d line (Fault kind) = Reads d line (Err kind)
-Refuses d line (Memory none) = Unit {0}
+abbrev pub Refuses : TimeRanges → List ℕ → LineStop → Type 0
+Refuses times line (Fault kind) = Reads times line (Err kind)
+Refuses times line (Memory none) = Unit {0}
 
 -- an answer is this reading, unless there was no memory
 abbrev pub Answers : Result (Option Command) LineStop → Result (Option Command) Kind → Type 0
@@ -20,9 +21,11 @@ Answers (Err (Memory none)) reading = Unit {0}
 -- no line is two things
 abbrev pub OneReading : Type 0
 OneReading =
-    (d : ℕ) (line : List ℕ) (one other : Result (Option Command) Kind) → Reads d line one
-    → Reads d line other → one ≡ other
+    (times : TimeRanges) (line : List ℕ) (one other : Result (Option Command) Kind)
+    → Reads times line one → Reads times line other → one ≡ other
 
 -- each line is something
 abbrev pub SomeReading : Type 0
-SomeReading = (d : ℕ) (line : List ℕ) → (reading : Result (Option Command) Kind) × Reads d line reading
+SomeReading =
+    (times : TimeRanges) (line : List ℕ)
+    → (reading : Result (Option Command) Kind) × Reads times line reading

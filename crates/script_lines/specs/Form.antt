@@ -1,7 +1,8 @@
 -- The lines of a script, but for those that declare nodes.
 use Rattle.std.specs.Prelude.{ℕ, List, [], ◌∷◌, codes, slice_get, unwrap_or, Some, None}
+use Rattle.self_id.specs.declared.standard.Standard.TheVariants.{Ieee1995, Ieee2000}
 use Rattle.script_lines.specs.declared.command.Command.{Command}
-use Rattle.script_lines.specs.declared.command.Command.TheVariants.{Plug, Pull, Reset, Turn, Hold, Settle, Config, CsrRead, CsrWrite, CsrLock, Look, Allocate, Release, Manager, Plan, Maps, Delay}
+use Rattle.script_lines.specs.declared.command.Command.TheVariants.{Plug, Pull, Reset, Turn, Hold, Settle, Config, CsrRead, CsrWrite, CsrLock, Look, Allocate, Release, Manager, Plan, Maps, Delay, Times}
 use Rattle.script_lines.specs.Number.{number_of}
 use Rattle.script_lines.specs.Shape.{Shape, the, a_name, a_number, a_given, any_number}
 
@@ -25,12 +26,15 @@ pub data Form : Type 0 where
   plan : Form
   maps : Form
   delay : Form
+  times_2000 : Form
+  times_1995 : Form
 
 -- all of them
 abbrev pub forms : List Form
 forms =
     plug ∷ pull ∷ reset ∷ turn ∷ hold ∷ settle ∷ config_root ∷ config_gap ∷ config_both ∷ csr_read
-    ∷ csr_write ∷ csr_lock ∷ look ∷ allocate ∷ release ∷ manager ∷ plan ∷ maps ∷ delay ∷ []
+    ∷ csr_write ∷ csr_lock ∷ look ∷ allocate ∷ release ∷ manager ∷ plan ∷ maps ∷ delay
+    ∷ times_2000 ∷ times_1995 ∷ []
 
 -- the words of each form
 abbrev pub shapes : Form → List Shape
@@ -56,6 +60,8 @@ shapes manager = the (codes "manager") ∷ a_name ∷ []
 shapes plan = the (codes "plan") ∷ a_name ∷ []
 shapes maps = the (codes "maps") ∷ a_name ∷ []
 shapes delay = the (codes "delay") ∷ a_number 1 16 ∷ []
+shapes times_2000 = the (codes "times") ∷ the (codes "1394a") ∷ a_number 1 4294967295 ∷ []
+shapes times_1995 = the (codes "times") ∷ the (codes "1394-1995") ∷ a_number 1 4294967295 ∷ []
 
 -- the word at a place, counted from 0
 abbrev pub word_at : List (List ℕ) → ℕ → List ℕ
@@ -87,3 +93,5 @@ command_of manager ws = Manager (word_at ws 1)
 command_of plan ws = Plan (word_at ws 1)
 command_of maps ws = Maps (word_at ws 1)
 command_of delay ws = Delay (number_at ws 1)
+command_of times_2000 ws = Times Ieee2000 (number_at ws 2)
+command_of times_1995 ws = Times Ieee1995 (number_at ws 2)

@@ -1,6 +1,7 @@
 -- The keys of a node's line, and the values behind them.
-use Rattle.std.specs.Prelude.{ℕ, ◌*◌, ◌||◌, Bool, true, false, List, [], ◌∷◌, codes, find, Option, Some, None, if◌then◌else◌}
+use Rattle.std.specs.Prelude.{ℕ, ◌||◌, Bool, true, false, List, [], ◌∷◌, codes, find, Option, Some, None, if◌then◌else◌}
 use Rattle.std.specs.Str.{bytes_eq}
+use Rattle.port_state.specs.declared.ranges.TimeRanges.{TimeRanges}
 use Rattle.script_lines.specs.declared.kind.Kind as faults
 use Rattle.script_lines.specs.declared.kind.Kind.TheVariants.{Number}
 use Rattle.script_lines.specs.declared.key.Key.{Key}
@@ -37,21 +38,21 @@ rival Coins = Seed
 rival Seed = Coins
 rival key = key
 
--- the least and the greatest number behind a key, where a cable delays by at most d ticks; coins
+-- the least and the greatest number behind a key, where the times of nodes are in these ranges; coins
 -- and a kind are no numbers
-abbrev pub limits : ℕ → Key → ℕ × ℕ
-limits d Speed = (0, 2)
-limits d Link = (0, 1)
-limits d Contender = (0, 1)
-limits d Force = (0, 1)
-limits d Power = (0, 7)
-limits d Gap = (0, 63)
-limits d Hold = (64 * d, 80 * d)
-limits d Short = (3 * d, 4 * d)
-limits d Long = (8 * d, 10 * d)
-limits d Coins = (0, 4294967295)
-limits d Seed = (0, 4294967295)
-limits d Kind = (0, 4294967295)
+abbrev pub limits : TimeRanges → Key → ℕ × ℕ
+limits times Speed = (0, 2)
+limits times Link = (0, 1)
+limits times Contender = (0, 1)
+limits times Force = (0, 1)
+limits times Power = (0, 7)
+limits times Gap = (0, 63)
+limits times Hold = (times.least.hold, times.most.hold)
+limits times Short = (times.least.short, times.most.short)
+limits times Long = (times.least.long, times.most.long)
+limits times Coins = (0, 4294967295)
+limits times Seed = (0, 4294967295)
+limits times Kind = (0, 4294967295)
 
 -- whether a word may stand behind a key: any word, and behind `kind` the two kinds alone
 abbrev pub may_follow : Option Key → List ℕ → Bool
@@ -63,7 +64,7 @@ abbrev pub is_pair : List ℕ → List ℕ → Bool
 is_pair key value = may_follow (key_of key) value
 
 -- what is wrong with a word behind a key that it may stand behind
-abbrev pub wrong_value : ℕ → Key → List ℕ → Option faults.Kind
-wrong_value d Kind value = None
-wrong_value d Coins value = if are_coins value then None else Some Number
-wrong_value d key value = wrong_number (limits d key).0 (limits d key).1 value
+abbrev pub wrong_value : TimeRanges → Key → List ℕ → Option faults.Kind
+wrong_value times Kind value = None
+wrong_value times Coins value = if are_coins value then None else Some Number
+wrong_value times key value = wrong_number (limits times key).0 (limits times key).1 value

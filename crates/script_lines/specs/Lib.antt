@@ -11,5 +11,6 @@ pub mod WordFault
 pub mod Answer
 pub mod Range
 pub mod Ranged
+pub mod Times
 pub mod Refusal
 pub mod codings

@@ -2,6 +2,7 @@
 use Rattle.std.specs.Prelude.{◌≡◌, ℕ, ◌==◌, ◌⊎◌, not, IsTrue, Bool, true, List, find, Option, Some, None, Result, Ok, Err}
 use Rattle.std.specs.List.{list_all}
 use Rattle.std.specs.Str.Lines.{strip_carriage_return}
+use Rattle.port_state.specs.declared.ranges.TimeRanges.{TimeRanges}
 use Rattle.script_lines.specs.declared.kind.Kind.{Kind}
 use Rattle.script_lines.specs.declared.kind.Kind.TheVariants.{Word}
 use Rattle.script_lines.specs.declared.command.Command.{Command}
@@ -20,9 +21,9 @@ has_form node words = has_node_form words
 has_form (other form) words = fit (shapes form) words
 
 -- what is wrong with the first word at fault, where the words have the form
-abbrev pub wrong_word : ℕ → LineForm → List (List ℕ) → Option Kind
-wrong_word d node words = wrong_node d words
-wrong_word d (other form) words = first_wrong (shapes form) words
+abbrev pub wrong_word : TimeRanges → LineForm → List (List ℕ) → Option Kind
+wrong_word times node words = wrong_node times words
+wrong_word times (other form) words = first_wrong (shapes form) words
 
 -- what the words say, where they have the form and none is wrong
 abbrev pub meaning : LineForm → List (List ℕ) → Command
@@ -31,17 +32,17 @@ meaning (other form) words = command_of form words
 
 -- The words are those of a command: they have a form, none is wrong, and the command is what they
 -- say.
-pub record IsCommand (d : ℕ) (words : List (List ℕ)) (command : Command) : Type 0 where
+pub record IsCommand (times : TimeRanges) (words : List (List ℕ)) (command : Command) : Type 0 where
   pub form : LineForm
   pub has : IsTrue (has_form form words)
-  pub right : wrong_word d form words ≡ None
+  pub right : wrong_word times form words ≡ None
   pub says : command ≡ meaning form words
 
 -- The words have a form, and the first word at fault has this kind of fault.
-pub record IsWrong (d : ℕ) (words : List (List ℕ)) (kind : Kind) : Type 0 where
+pub record IsWrong (times : TimeRanges) (words : List (List ℕ)) (kind : Kind) : Type 0 where
   pub form : LineForm
   pub has : IsTrue (has_form form words)
-  pub wrong : wrong_word d form words ≡ Some kind
+  pub wrong : wrong_word times form words ≡ Some kind
 
 -- The words have none of the forms.
 abbrev pub HasNoForm : List (List ℕ) → Type 0
@@ -64,16 +65,16 @@ IsNoLine line = IsTrue (not (is_permitted_line line)) ⊎ HasNoForm (words_of li
 
 -- A line without the carriage return at its end is nothing where it is skipped. Else it is a
 -- command, or it has a fault: `Word` where it is no line, and else that of the first word at fault.
-abbrev pub IsRead : ℕ → List ℕ → Result (Option Command) Kind → Type 0
-IsRead d line (Ok None) = IsTrue (is_skipped line)
-IsRead d line (Ok (Some command)) =
+abbrev pub IsRead : TimeRanges → List ℕ → Result (Option Command) Kind → Type 0
+IsRead times line (Ok None) = IsTrue (is_skipped line)
+IsRead times line (Ok (Some command)) =
     IsTrue (not (is_skipped line))
-    × (IsTrue (is_permitted_line line) × IsCommand d (words_of line) command)
-IsRead d line (Err kind) =
+    × (IsTrue (is_permitted_line line) × IsCommand times (words_of line) command)
+IsRead times line (Err kind) =
     IsTrue (not (is_skipped line))
     × (((kind ≡ Word) × IsNoLine line)
-    ⊎ (IsTrue (is_permitted_line line) × IsWrong d (words_of line) kind))
+    ⊎ (IsTrue (is_permitted_line line) × IsWrong times (words_of line) kind))
 
--- what a line of a script is, where a cable delays by at most d ticks
-abbrev pub Reads : ℕ → List ℕ → Result (Option Command) Kind → Type 0
-Reads d line reading = IsRead d (strip_carriage_return line) reading
+-- what a line of a script is, where the times of nodes are in these ranges
+abbrev pub Reads : TimeRanges → List ℕ → Result (Option Command) Kind → Type 0
+Reads times line reading = IsRead times (strip_carriage_return line) reading

@@ -2,6 +2,7 @@
 use Rattle.std.specs.Prelude.{ℕ, ◌==◌, ◌||◌, ◌&&◌, ◌++◌, is_some, unwrap_or, length, take, drop, Bool, true, false, List, [], ◌∷◌, codes, Option, Some, None, if◌then◌else◌}
 use Rattle.std.specs.Option.{option_or, option_and_then}
 use Rattle.std.specs.Str.{bytes_eq}
+use Rattle.port_state.specs.declared.ranges.TimeRanges.{TimeRanges}
 use Rattle.script_lines.specs.declared.kind.Kind as faults
 use Rattle.script_lines.specs.declared.kind.Kind.TheVariants.{Twice}
 use Rattle.script_lines.specs.declared.command.Command.{Command}
@@ -39,23 +40,23 @@ abbrev pub is_taken : Key → List (List ℕ) → Bool
 is_taken key pairs = is_some (given key pairs) || is_some (given (rival key) pairs)
 
 -- what is wrong with a key behind other pairs, or else with the word behind it
-abbrev pub wrong_pair : ℕ → List (List ℕ) → Option Key → List ℕ → Option faults.Kind
-wrong_pair d before None value = None
-wrong_pair d before (Some key) value =
-    if is_taken key before then Some Twice else wrong_value d key value
+abbrev pub wrong_pair : TimeRanges → List (List ℕ) → Option Key → List ℕ → Option faults.Kind
+wrong_pair times before None value = None
+wrong_pair times before (Some key) value =
+    if is_taken key before then Some Twice else wrong_value times key value
 
 -- what is wrong with the first word at fault of pairs that stand behind others
-abbrev pub first_wrong_pair : ℕ → List (List ℕ) → List (List ℕ) → Option faults.Kind
-first_wrong_pair d before [] = None
-first_wrong_pair d before (key ∷ []) = None
-first_wrong_pair d before (key ∷ value ∷ words) =
-    option_or (wrong_pair d before (key_of key) value)
-    (first_wrong_pair d (before ++ key ∷ value ∷ []) words)
+abbrev pub first_wrong_pair : TimeRanges → List (List ℕ) → List (List ℕ) → Option faults.Kind
+first_wrong_pair times before [] = None
+first_wrong_pair times before (key ∷ []) = None
+first_wrong_pair times before (key ∷ value ∷ words) =
+    option_or (wrong_pair times before (key_of key) value)
+    (first_wrong_pair times (before ++ key ∷ value ∷ []) words)
 
 -- the same of a line that has the form
-abbrev pub wrong_node : ℕ → List (List ℕ) → Option faults.Kind
-wrong_node d words =
-    option_or (first_wrong node_shapes (take 3 words)) (first_wrong_pair d [] (drop 3 words))
+abbrev pub wrong_node : TimeRanges → List (List ℕ) → Option faults.Kind
+wrong_node times words =
+    option_or (first_wrong node_shapes (take 3 words)) (first_wrong_pair times [] (drop 3 words))
 
 -- the number behind a key
 abbrev pub number_given : Key → List (List ℕ) → Option ℕ

@@ -1,10 +1,11 @@
 -- The numbers of each command that a line says are in their ranges.
 use Rattle.std.specs.Prelude.{ℕ, List, Some, Ok}
+use Rattle.port_state.specs.declared.ranges.TimeRanges.{TimeRanges}
 use Rattle.script_lines.specs.declared.command.Command.{Command}
 use Rattle.script_lines.specs.Line.{Reads}
 use Rattle.script_lines.specs.Range.{IsInRange}
 
 abbrev pub CommandsAreInRange : Type 0
 CommandsAreInRange =
-    (d : ℕ) (line : List ℕ) (command : Command) → Reads d line (Ok (Some command)) →
-    IsInRange d command
+    (times : TimeRanges) (line : List ℕ) (command : Command) →
+    Reads times line (Ok (Some command)) → IsInRange times command

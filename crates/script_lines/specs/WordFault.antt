@@ -2,6 +2,7 @@
 use Rattle.std.specs.Prelude.{◌≡◌, ◌↔◌, ◌<◌, ◌⊎◌, ℕ, not, IsTrue, List, [], ◌∷◌, ◌++◌, take, drop, Option, Some, None, Err}
 use Rattle.std.specs.Str.Lines.{strip_carriage_return}
 use Rattle.topology_stack.specs.Name.{IsName}
+use Rattle.port_state.specs.declared.ranges.TimeRanges.{TimeRanges}
 use Rattle.script_lines.specs.declared.kind.Kind as faults
 use Rattle.script_lines.specs.declared.kind.Kind.TheVariants.{Word, Number, Name, Range, Twice}
 use Rattle.script_lines.specs.declared.key.Key.{Key}
@@ -43,16 +44,17 @@ IsGiven key pairs = StandsIn key pairs ⊎ StandsIn (rival key) pairs
 
 -- what are no coins is `Number`; a kind has no fault, and what stands behind each other key is a
 -- number
-abbrev pub ValueHas : ℕ → Key → List ℕ → faults.Kind → Type 0
-ValueHas d Kind value kind = ⊥
-ValueHas d Coins value kind = (kind ≡ Number) × IsTrue (not (are_coins value))
-ValueHas d key value kind = NumberHas (limits d key).0 (limits d key).1 (number_of value) kind
+abbrev pub ValueHas : TimeRanges → Key → List ℕ → faults.Kind → Type 0
+ValueHas times Kind value kind = ⊥
+ValueHas times Coins value kind = (kind ≡ Number) × IsTrue (not (are_coins value))
+ValueHas times key value kind =
+    NumberHas (limits times key).0 (limits times key).1 (number_of value) kind
 
 -- a key that is given before is `Twice`, and else the word behind it may have a fault
-abbrev pub PairHas : ℕ → List (List ℕ) → Option Key → List ℕ → faults.Kind → Type 0
-PairHas d before None value kind = ⊥
-PairHas d before (Some key) value kind =
-    ((kind ≡ Twice) × IsGiven key before) ⊎ (¬ IsGiven key before × ValueHas d key value kind)
+abbrev pub PairHas : TimeRanges → List (List ℕ) → Option Key → List ℕ → faults.Kind → Type 0
+PairHas times before None value kind = ⊥
+PairHas times before (Some key) value kind =
+    ((kind ≡ Twice) × IsGiven key before) ⊎ (¬ IsGiven key before × ValueHas times key value kind)
 
 -- ---- the first of several
 
@@ -66,39 +68,41 @@ WordsHave (shape ∷ shapes) [] = λ kind. ⊥
 WordsHave (shape ∷ shapes) (word ∷ words) = FirstOf (WordHas shape word) (WordsHave shapes words)
 
 -- pairs behind others
-abbrev pub PairsHave : ℕ → List (List ℕ) → List (List ℕ) → faults.Kind → Type 0
-PairsHave d before [] = λ kind. ⊥
-PairsHave d before (key ∷ []) = λ kind. ⊥
-PairsHave d before (key ∷ value ∷ words) =
-    FirstOf (PairHas d before (key_of key) value) (PairsHave d (before ++ key ∷ value ∷ []) words)
+abbrev pub PairsHave : TimeRanges → List (List ℕ) → List (List ℕ) → faults.Kind → Type 0
+PairsHave times before [] = λ kind. ⊥
+PairsHave times before (key ∷ []) = λ kind. ⊥
+PairsHave times before (key ∷ value ∷ words) =
+    FirstOf (PairHas times before (key_of key) value)
+    (PairsHave times (before ++ key ∷ value ∷ []) words)
 
 -- the words of a form
-abbrev pub FormHas : ℕ → LineForm → List (List ℕ) → faults.Kind → Type 0
-FormHas d node words =
-    FirstOf (WordsHave node_shapes (take 3 words)) (PairsHave d [] (drop 3 words))
-FormHas d (other form) words = WordsHave (shapes form) words
+abbrev pub FormHas : TimeRanges → LineForm → List (List ℕ) → faults.Kind → Type 0
+FormHas times node words =
+    FirstOf (WordsHave node_shapes (take 3 words)) (PairsHave times [] (drop 3 words))
+FormHas times (other form) words = WordsHave (shapes form) words
 
 -- ---- a line
 
 -- the words have a form, and the first of them that is at fault has this fault
-pub record FirstWordHas (d : ℕ) (words : List (List ℕ)) (kind : faults.Kind) : Type 0 where
+pub record FirstWordHas (times : TimeRanges) (words : List (List ℕ)) (kind : faults.Kind) : Type 0 where
   pub form : LineForm
   pub has : IsTrue (has_form form words)
-  pub fault : FormHas d form words kind
+  pub fault : FormHas times form words kind
 
 -- A line that isn't skipped is `Word` where it has a byte that isn't permitted or its words have no
 -- form, and else has the fault of the first word at fault.
-abbrev pub ShownHas : ℕ → List ℕ → faults.Kind → Type 0
-ShownHas d line kind =
+abbrev pub ShownHas : TimeRanges → List ℕ → faults.Kind → Type 0
+ShownHas times line kind =
     IsTrue (not (is_skipped line))
     × (((kind ≡ Word) × IsNoLine line)
-    ⊎ (IsTrue (is_permitted_line line) × FirstWordHas d (words_of line) kind))
+    ⊎ (IsTrue (is_permitted_line line) × FirstWordHas times (words_of line) kind))
 
 -- a carriage return at its end doesn't count
-abbrev pub LineHas : ℕ → List ℕ → faults.Kind → Type 0
-LineHas d line kind = ShownHas d (strip_carriage_return line) kind
+abbrev pub LineHas : TimeRanges → List ℕ → faults.Kind → Type 0
+LineHas times line kind = ShownHas times (strip_carriage_return line) kind
 
 -- a line has a fault exactly where it is read as that fault
 abbrev pub LinesAreRefusedSo : Type 0
 LinesAreRefusedSo =
-    (d : ℕ) (line : List ℕ) (kind : faults.Kind) → LineHas d line kind ↔ Reads d line (Err kind)
+    (times : TimeRanges) (line : List ℕ) (kind : faults.Kind) →
+    LineHas times line kind ↔ Reads times line (Err kind)

@@ -1,17 +1,19 @@
 //! The lines that change the bus or let turns pass.
-ghost use Rattle.std.specs.Prelude.{◌≡◌, codes, [], ◌∷◌, ℕ, IfOk};
-ghost use Rattle.script_lines.specs.Form.{pull, plug, reset, turn, hold, settle, delay};
+ghost use Rattle.std.specs.Prelude.{◌≡◌, codes, [], ◌∷◌, IfOk};
+ghost use Rattle.port_state.specs.declared.ranges.TimeRanges.{TimeRanges};
+ghost use Rattle.script_lines.specs.Form.{pull, plug, reset, turn, hold, settle, delay, times_2000, times_1995};
 ghost use Rattle.script_lines.specs.Range.{IsInRange};
 ghost use Rattle.script_lines.specs.codings.Reading.{read_by};
 
 use crate::command::Command;
 use crate::kind::Kind;
 use crate::word::Word;
+use self_id::Standard;
 
 /// `plug NAME PORT NAME PORT`
 pub(crate) fn plug(args: &[Word]) -> Result<Command, Kind>
     ensures value { result ≡ read_by (plug ∷ []) (codes "plug" ∷ args.now) }
-    ensures ranged { (d : ℕ) → IfOk result (IsInRange d) }
+    ensures ranged { (times : TimeRanges) → IfOk result (IsInRange times) }
 {
     match args {
         [a, a_port, b, b_port] => Ok(Command::Plug {
@@ -27,7 +29,7 @@ pub(crate) fn plug(args: &[Word]) -> Result<Command, Kind>
 /// `pull NAME PORT`
 pub(crate) fn pull(args: &[Word]) -> Result<Command, Kind>
     ensures value { result ≡ read_by (pull ∷ []) (codes "pull" ∷ args.now) }
-    ensures ranged { (d : ℕ) → IfOk result (IsInRange d) }
+    ensures ranged { (times : TimeRanges) → IfOk result (IsInRange times) }
 {
     match args {
         [name, port] => Ok(Command::Pull {
@@ -41,7 +43,7 @@ pub(crate) fn pull(args: &[Word]) -> Result<Command, Kind>
 /// `reset NAME`
 pub(crate) fn reset(args: &[Word]) -> Result<Command, Kind>
     ensures value { result ≡ read_by (reset ∷ []) (codes "reset" ∷ args.now) }
-    ensures ranged { (d : ℕ) → IfOk result (IsInRange d) }
+    ensures ranged { (times : TimeRanges) → IfOk result (IsInRange times) }
 {
     match args {
         [name] => Ok(Command::Reset { name: name.name()? }),
@@ -52,7 +54,7 @@ pub(crate) fn reset(args: &[Word]) -> Result<Command, Kind>
 /// `turn K`
 pub(crate) fn turn(args: &[Word]) -> Result<Command, Kind>
     ensures value { result ≡ read_by (turn ∷ []) (codes "turn" ∷ args.now) }
-    ensures ranged { (d : ℕ) → IfOk result (IsInRange d) }
+    ensures ranged { (times : TimeRanges) → IfOk result (IsInRange times) }
 {
     match args {
         [count] => Ok(Command::Turn {
@@ -65,7 +67,7 @@ pub(crate) fn turn(args: &[Word]) -> Result<Command, Kind>
 /// `hold NAME PORT K`
 pub(crate) fn hold(args: &[Word]) -> Result<Command, Kind>
     ensures value { result ≡ read_by (hold ∷ []) (codes "hold" ∷ args.now) }
-    ensures ranged { (d : ℕ) → IfOk result (IsInRange d) }
+    ensures ranged { (times : TimeRanges) → IfOk result (IsInRange times) }
 {
     match args {
         [name, port, turns] => Ok(Command::Hold {
@@ -80,7 +82,7 @@ pub(crate) fn hold(args: &[Word]) -> Result<Command, Kind>
 /// `settle`
 pub(crate) fn settle(args: &[Word]) -> Result<Command, Kind>
     ensures value { result ≡ read_by (settle ∷ []) (codes "settle" ∷ args.now) }
-    ensures ranged { (d : ℕ) → IfOk result (IsInRange d) }
+    ensures ranged { (times : TimeRanges) → IfOk result (IsInRange times) }
 {
     match args {
         [] => Ok(Command::Settle),
@@ -91,11 +93,30 @@ pub(crate) fn settle(args: &[Word]) -> Result<Command, Kind>
 /// `delay D`
 pub(crate) fn delay(args: &[Word]) -> Result<Command, Kind>
     ensures value { result ≡ read_by (delay ∷ []) (codes "delay" ∷ args.now) }
-    ensures ranged { (d : ℕ) → IfOk result (IsInRange d) }
+    ensures ranged { (times : TimeRanges) → IfOk result (IsInRange times) }
 {
     match args {
         [delay] => Ok(Command::Delay {
             delay: delay.number(1, 16)? as u8,
+        }),
+        _ => Err(Kind::Word),
+    }
+}
+
+/// `times STANDARD NANOSECONDS`
+pub(crate) fn times(args: &[Word]) -> Result<Command, Kind>
+    ensures value { result
+        ≡ read_by (times_2000 ∷ times_1995 ∷ []) (codes "times" ∷ args.now) }
+    ensures ranged { (times : TimeRanges) → IfOk result (IsInRange times) }
+{
+    match args {
+        [standard, nanoseconds] if standard.is(b"1394a") => Ok(Command::Times {
+            standard: Standard::Ieee2000,
+            nanoseconds: nanoseconds.number(1, u32::MAX)?,
+        }),
+        [standard, nanoseconds] if standard.is(b"1394-1995") => Ok(Command::Times {
+            standard: Standard::Ieee1995,
+            nanoseconds: nanoseconds.number(1, u32::MAX)?,
         }),
         _ => Err(Kind::Word),
     }

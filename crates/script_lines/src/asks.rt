@@ -1,5 +1,6 @@
 //! The lines that ask the manager of a bus, or change what it keeps.
-ghost use Rattle.std.specs.Prelude.{◌≡◌, codes, [], ◌∷◌, ℕ, IfOk};
+ghost use Rattle.std.specs.Prelude.{◌≡◌, codes, [], ◌∷◌, IfOk};
+ghost use Rattle.port_state.specs.declared.ranges.TimeRanges.{TimeRanges};
 ghost use Rattle.script_lines.specs.Form.{config_root, config_gap, config_both, csr_read, csr_write, csr_lock, look, allocate, release, manager, plan, maps};
 ghost use Rattle.script_lines.specs.Range.{IsInRange};
 ghost use Rattle.script_lines.specs.codings.Reading.{read_by};
@@ -12,7 +13,7 @@ use crate::word::Word;
 pub(crate) fn config(args: &[Word]) -> Result<Command, Kind>
     ensures value { result ≡ read_by (config_root ∷ config_gap ∷ config_both ∷ [])
         (codes "config" ∷ args.now) }
-    ensures ranged { (d : ℕ) → IfOk result (IsInRange d) }
+    ensures ranged { (times : TimeRanges) → IfOk result (IsInRange times) }
 {
     match args {
         [name, root, gap] if root.is(b"-") && gap.is(b"-") => Err(Kind::Word),
@@ -38,7 +39,7 @@ pub(crate) fn config(args: &[Word]) -> Result<Command, Kind>
 /// `csr NAME read OFFSET`, `csr NAME write OFFSET VALUE` or `csr NAME lock OFFSET KIND ARG VALUE`
 pub(crate) fn csr(args: &[Word]) -> Result<Command, Kind>
     ensures value { result ≡ read_by (csr_read ∷ csr_write ∷ csr_lock ∷ []) (codes "csr" ∷ args.now) }
-    ensures ranged { (d : ℕ) → IfOk result (IsInRange d) }
+    ensures ranged { (times : TimeRanges) → IfOk result (IsInRange times) }
 {
     match args {
         [name, access, offset] if access.is(b"read") => Ok(Command::CsrRead {
@@ -64,7 +65,7 @@ pub(crate) fn csr(args: &[Word]) -> Result<Command, Kind>
 /// `look NAME`
 pub(crate) fn look(args: &[Word]) -> Result<Command, Kind>
     ensures value { result ≡ read_by (look ∷ []) (codes "look" ∷ args.now) }
-    ensures ranged { (d : ℕ) → IfOk result (IsInRange d) }
+    ensures ranged { (times : TimeRanges) → IfOk result (IsInRange times) }
 {
     match args {
         [name] => Ok(Command::Look { name: name.name()? }),
@@ -75,7 +76,7 @@ pub(crate) fn look(args: &[Word]) -> Result<Command, Kind>
 /// `allocate NAME CHANNEL UNITS`
 pub(crate) fn allocate(args: &[Word]) -> Result<Command, Kind>
     ensures value { result ≡ read_by (allocate ∷ []) (codes "allocate" ∷ args.now) }
-    ensures ranged { (d : ℕ) → IfOk result (IsInRange d) }
+    ensures ranged { (times : TimeRanges) → IfOk result (IsInRange times) }
 {
     match args {
         [name, channel, units] => Ok(Command::Allocate {
@@ -90,7 +91,7 @@ pub(crate) fn allocate(args: &[Word]) -> Result<Command, Kind>
 /// `release NAME CHANNEL UNITS`
 pub(crate) fn release(args: &[Word]) -> Result<Command, Kind>
     ensures value { result ≡ read_by (release ∷ []) (codes "release" ∷ args.now) }
-    ensures ranged { (d : ℕ) → IfOk result (IsInRange d) }
+    ensures ranged { (times : TimeRanges) → IfOk result (IsInRange times) }
 {
     match args {
         [name, channel, units] => Ok(Command::Release {
@@ -105,7 +106,7 @@ pub(crate) fn release(args: &[Word]) -> Result<Command, Kind>
 /// `manager NAME`
 pub(crate) fn manager(args: &[Word]) -> Result<Command, Kind>
     ensures value { result ≡ read_by (manager ∷ []) (codes "manager" ∷ args.now) }
-    ensures ranged { (d : ℕ) → IfOk result (IsInRange d) }
+    ensures ranged { (times : TimeRanges) → IfOk result (IsInRange times) }
 {
     match args {
         [name] => Ok(Command::Manager { name: name.name()? }),
@@ -116,7 +117,7 @@ pub(crate) fn manager(args: &[Word]) -> Result<Command, Kind>
 /// `plan NAME`
 pub(crate) fn plan(args: &[Word]) -> Result<Command, Kind>
     ensures value { result ≡ read_by (plan ∷ []) (codes "plan" ∷ args.now) }
-    ensures ranged { (d : ℕ) → IfOk result (IsInRange d) }
+    ensures ranged { (times : TimeRanges) → IfOk result (IsInRange times) }
 {
     match args {
         [name] => Ok(Command::Plan { name: name.name()? }),
@@ -127,7 +128,7 @@ pub(crate) fn plan(args: &[Word]) -> Result<Command, Kind>
 /// `maps NAME`
 pub(crate) fn maps(args: &[Word]) -> Result<Command, Kind>
     ensures value { result ≡ read_by (maps ∷ []) (codes "maps" ∷ args.now) }
-    ensures ranged { (d : ℕ) → IfOk result (IsInRange d) }
+    ensures ranged { (times : TimeRanges) → IfOk result (IsInRange times) }
 {
     match args {
         [name] => Ok(Command::Maps { name: name.name()? }),

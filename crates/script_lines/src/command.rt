@@ -1,5 +1,6 @@
 //! The commands of a script.
 
+use self_id::Standard;
 use topology_stack::Name;
 
 /// The command of a line. A `-` of `config` is `None`, and so is a key of a node that has no value of
@@ -108,5 +109,10 @@ pub enum Command {
     /// `delay D`
     Delay {
         delay: u8,
+    },
+    /// `times STANDARD NANOSECONDS`
+    Times {
+        standard: Standard,
+        nanoseconds: u32,
     },
 }

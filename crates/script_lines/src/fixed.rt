@@ -1,10 +1,11 @@
 //! The lines of each command but `node`.
-ghost use Rattle.std.specs.Prelude.{◌≡◌, codes, ◌∷◌, ℕ, IfOk};
+ghost use Rattle.std.specs.Prelude.{◌≡◌, codes, ◌∷◌, IfOk};
+ghost use Rattle.port_state.specs.declared.ranges.TimeRanges.{TimeRanges};
 ghost use Rattle.script_lines.specs.Form.{forms};
 ghost use Rattle.script_lines.specs.Range.{IsInRange};
 ghost use Rattle.script_lines.specs.codings.Reading.{read_by};
 
-use crate::acts::{delay, hold, plug, pull, reset, settle, turn};
+use crate::acts::{delay, hold, plug, pull, reset, settle, times, turn};
 use crate::asks::{allocate, config, csr, look, manager, maps, plan, release};
 use crate::command::Command;
 use crate::kind::Kind;
@@ -13,7 +14,7 @@ use crate::word::Word;
 /// The command of a line with these words, of which the first isn't `node`.
 pub(crate) fn read_fixed(verb: &Word, args: &[Word]) -> Result<Command, Kind>
     ensures value { result ≡ read_by forms (verb.now ∷ args.now) }
-    ensures ranged { (d : ℕ) → IfOk result (IsInRange d) }
+    ensures ranged { (times : TimeRanges) → IfOk result (IsInRange times) }
 {
     if verb.is(b"plug") {
         return plug(args);
@@ -59,6 +60,9 @@ pub(crate) fn read_fixed(verb: &Word, args: &[Word]) -> Result<Command, Kind>
     }
     if verb.is(b"delay") {
         return delay(args);
+    }
+    if verb.is(b"times") {
+        return times(args);
     }
     Err(Kind::Word)
 }

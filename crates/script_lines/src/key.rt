@@ -1,5 +1,5 @@
 //! The keys of a `node` line.
-ghost use Rattle.std.specs.Prelude.{◌≡◌, ◌≤◌, ◌↔◌, IsTrue};
+ghost use Rattle.std.specs.Prelude.{◌≡◌};
 ghost use Rattle.std.specs.Str.{bytes_eq};
 ghost use Rattle.std.specs.Result.{result_err};
 ghost use Rattle.script_lines.specs.Key.{word_of, rival, limits, key_of, is_pair, wrong_value};
@@ -7,6 +7,7 @@ ghost use Rattle.script_lines.specs.Key.{word_of, rival, limits, key_of, is_pair
 use crate::coins::are_coins;
 use crate::kind::Kind;
 use crate::word::Word;
+use port_state::TimeRanges;
 
 /// The keys of a `node` line.
 #[derive(Clone, Copy, Debug)]
@@ -91,29 +92,27 @@ impl Key {
         }
     }
 
-    /// The least and the greatest number that may stand behind the key, where a cable delays by at
-    /// most `d` ticks, 1 to 16.
-    pub(crate) fn limits(self, d: u8) -> (u32, u32)
-        requires { d ≤ 16 }
-        ensures { result ≡ limits d self }
+    /// The least and the greatest number that may stand behind the key, where the times of nodes are
+    /// in these ranges.
+    pub(crate) fn limits(self, times: TimeRanges) -> (u32, u32)
+        ensures { result ≡ limits times self }
     {
-        let d = u32::from(d);
+        let TimeRanges { least, most } = times;
         match self {
             Key::Speed => (0, 2),
             Key::Link | Key::Contender | Key::Force => (0, 1),
             Key::Power => (0, 7),
             Key::Gap => (0, 63),
-            Key::Hold => (64 * d, 80 * d),
-            Key::Short => (3 * d, 4 * d),
-            Key::Long => (8 * d, 10 * d),
+            Key::Hold => (u32::from(least.hold), u32::from(most.hold)),
+            Key::Short => (u32::from(least.short), u32::from(most.short)),
+            Key::Long => (u32::from(least.long), u32::from(most.long)),
             Key::Coins | Key::Seed | Key::Kind => (0, u32::MAX),
         }
     }
 
     /// What is wrong with a value behind the key.
-    pub(crate) fn check(self, value: &Word, d: u8) -> Result<(), Kind>
-        requires { d ≤ 16 }
-        ensures { result_err result ≡ wrong_value d self value.now }
+    pub(crate) fn check(self, value: &Word, times: TimeRanges) -> Result<(), Kind>
+        ensures { result_err result ≡ wrong_value times self value.now }
     {
         match self {
             Key::Kind => Ok(()),
@@ -125,7 +124,7 @@ impl Key {
                 }
             }
             key => {
-                let (least, most) = key.limits(d);
+                let (least, most) = key.limits(times);
                 value.number(least, most)?;
                 Ok(())
             }

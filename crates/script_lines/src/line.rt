@@ -1,7 +1,9 @@
 //! A line of a script.
-ghost use Rattle.std.specs.Prelude.{◌≡◌, ◌≤◌, ℕ, find, not, Option, None, Result, Ok, IsTrue, IfOk, IfErr, IfSome};
+ghost use Rattle.std.specs.Prelude.{◌≡◌, ◌≤◌, find, not, Option, None, Result, Ok, IsTrue, IfOk, IfErr, IfSome};
 ghost use Rattle.std.specs.List.{list_all};
 ghost use Rattle.std.specs.Str.Lines.{strip_carriage_return};
+ghost use Rattle.port_state.specs.declared.ranges.TimeRanges.{TimeRanges};
+ghost use Rattle.port_state.specs.TimeRanges.{profile_ranges};
 ghost use Rattle.script_lines.specs.Words.{is_blank, is_permitted};
 ghost use Rattle.script_lines.specs.Line.{is_skipped};
 ghost use Rattle.script_lines.specs.codings.Reading.{read_words, read_line};
@@ -17,6 +19,7 @@ use crate::kind::{Kind, LineStop};
 use crate::node::node;
 use crate::word::Word;
 use crate::words::{are_permitted, few_words, is_blank, words_of};
+use port_state::TimeRanges;
 use std::alloc::Global;
 
 /// A line without the carriage return at its end.
@@ -50,22 +53,21 @@ fn is_skipped(line: &[u8]) -> bool
 /// a carriage return at its end doesn't count. It takes no memory.
 pub fn says_nothing(line: &[u8]) -> bool
     ensures value { result ≡ is_skipped (strip_carriage_return line.now) }
-    ensures nothing { IsTrue result → (d : ℕ) → Reads d line.now (Ok None) }
+    ensures nothing { IsTrue result → (times : TimeRanges) → Reads times line.now (Ok None) }
 {
     is_skipped(without_return(line))
 }
 
 /// The command that words say.
-fn read_words(words: &[Word], d: u8) -> Result<Command, Kind>
-    requires { d ≤ 16 }
-    ensures value { result ≡ read_words d words.now }
-    ensures ranged { IfOk result (IsInRange d) }
+fn read_words(words: &[Word], times: TimeRanges) -> Result<Command, Kind>
+    ensures value { result ≡ read_words times words.now }
+    ensures ranged { IfOk result (IsInRange times) }
 {
     match words {
         [] => Err(Kind::Word),
         [verb, args @ ..] => {
             if verb.is(b"node") {
-                node(args, d)
+                node(args, times)
             } else {
                 read_fixed(verb, args)
             }
@@ -74,10 +76,9 @@ fn read_words(words: &[Word], d: u8) -> Result<Command, Kind>
 }
 
 /// The command of a line that has no carriage return at its end.
-fn read_line(alloc: Global, line: &[u8], d: u8) -> Result<Option<Command>, LineStop>
-    requires { d ≤ 16 }
-    ensures value { Answers result (read_line d line.now) }
-    ensures ranged { IfOk result (λ command. IfSome command (IsInRange d)) }
+fn read_line(alloc: Global, line: &[u8], times: TimeRanges) -> Result<Option<Command>, LineStop>
+    ensures value { Answers result (read_line times line.now) }
+    ensures ranged { IfOk result (λ command. IfSome command (IsInRange times)) }
 {
     if is_skipped(line) {
         return Ok(None);
@@ -86,14 +87,15 @@ fn read_line(alloc: Global, line: &[u8], d: u8) -> Result<Option<Command>, LineS
         return Err(LineStop::Fault(Kind::Word));
     }
     let command = match few_words(line) {
-        Some(words) => read_words(words.as_slice(), d)?,
-        None => read_words(words_of(alloc, line)?.as_slice(), d)?,
+        Some(words) => read_words(words.as_slice(), times)?,
+        None => read_words(words_of(alloc, line)?.as_slice(), times)?,
     };
     Ok(Some(command))
 }
 
-/// The command of one line of a script, where a cable delays a signal by at most `d` ticks, 1 to 16.
-/// `None` for a line with no words, and for a comment, whose first word begins with `#`.
+/// The command of one line of a script, where a cable delays a signal by at most `d` ticks, 1 to 16,
+/// and no line says that the times of nodes are a standard's. `None` for a line with no words, and for
+/// a comment, whose first word begins with `#`.
 ///
 /// A line is refused with
 /// - `Word` where it has a byte that isn't permitted, or its words have none of the forms of lines;
@@ -102,11 +104,27 @@ fn read_line(alloc: Global, line: &[u8], d: u8) -> Result<Option<Command>, LineS
 pub fn parse_line(alloc: Global, line: &[u8], d: u8) -> Result<Option<Command>, LineStop>
     requires some { 1 ≤ d }
     requires few { d ≤ 16 }
-    ensures found { IfOk result (λ command. Reads d line.now (Ok command)) }
-    ensures refused { IfErr result (λ stop. Refuses d line.now stop) }
-    ensures only { (reading : Result (Option Command) Kind) → Reads d line.now reading
-        → Answers result reading }
-    ensures ranged { IfOk result (λ command. IfSome command (IsInRange d)) }
+    ensures found { IfOk result (λ command. Reads (profile_ranges d) line.now (Ok command)) }
+    ensures refused { IfErr result (λ stop. Refuses (profile_ranges d) line.now stop) }
+    ensures only { (reading : Result (Option Command) Kind)
+        → Reads (profile_ranges d) line.now reading → Answers result reading }
+    ensures ranged { IfOk result (λ command. IfSome command (IsInRange (profile_ranges d))) }
 {
-    read_line(alloc, without_return(line), d)
+    parse_line_with(alloc, line, TimeRanges::profile(d))
+}
+
+/// The command of one line of a script, as [`parse_line`] has it, where the times of nodes are in these
+/// ranges.
+pub fn parse_line_with(
+    alloc: Global,
+    line: &[u8],
+    times: TimeRanges,
+) -> Result<Option<Command>, LineStop>
+    ensures found { IfOk result (λ command. Reads times line.now (Ok command)) }
+    ensures refused { IfErr result (λ stop. Refuses times line.now stop) }
+    ensures only { (reading : Result (Option Command) Kind) → Reads times line.now reading
+        → Answers result reading }
+    ensures ranged { IfOk result (λ command. IfSome command (IsInRange times)) }
+{
+    read_line(alloc, without_return(line), times)
 }

@@ -13,24 +13,23 @@ use crate::key::Key;
 use crate::kind::Kind;
 use crate::pairs::{are_pairs, check_pairs, given, number, small, time};
 use crate::word::Word;
+use port_state::TimeRanges;
 use topology_stack::Name;
 
 /// Whether the number behind a key is 1, or the key has no number and this is so without it.
-fn flag(pairs: &[Word], key: Key, d: u8, default: bool) -> bool
-    requires right { first_wrong_pair d [] pairs.now ≡ None }
-    requires few { d ≤ 16 }
+fn flag(pairs: &[Word], key: Key, times: TimeRanges, default: bool) -> bool
+    requires right { first_wrong_pair times [] pairs.now ≡ None }
     ensures { result ≡ (unwrap_or (number_given key pairs.now) (if default then 1 else 0) == 1) }
 {
-    match number(pairs, key, d) {
+    match number(pairs, key, times) {
         Some(n) => n == 1,
         None => default,
     }
 }
 
 /// The coins, or none, where the pairs are right.
-fn coins<'a>(pairs: &[Word<'a>], d: u8) -> &'a [u8]
-    requires right { first_wrong_pair d [] pairs.now ≡ None }
-    requires few { d ≤ 16 }
+fn coins<'a>(pairs: &[Word<'a>], times: TimeRanges) -> &'a [u8]
+    requires right { first_wrong_pair times [] pairs.now ≡ None }
     ensures value { result.now ≡ coins_given pairs.now }
     ensures few { length result.now ≤ 64 }
     ensures coins { list_all is_coin result.now ≡ true }
@@ -52,46 +51,44 @@ fn is_packed(pairs: &[Word]) -> bool
 }
 
 /// The node that a name, a number of ports and right pairs declare.
-fn node_of(name: Name, ports: u8, pairs: &[Word], d: u8) -> Command
-    requires right { first_wrong_pair d [] pairs.now ≡ None }
-    requires few { d ≤ 16 }
+fn node_of(name: Name, ports: u8, pairs: &[Word], times: TimeRanges) -> Command
+    requires right { first_wrong_pair times [] pairs.now ≡ None }
     requires some_port { 1 ≤ ports }
     requires few_ports { ports ≤ 16 }
     ensures value { result ≡ node_of name ports pairs.now }
-    ensures ranged { IsInRange d result }
+    ensures ranged { IsInRange times result }
 {
-    let coins = coins(pairs, d);
+    let coins = coins(pairs, times);
     Command::Node {
         name,
         ports,
-        speed: small(pairs, Key::Speed, d, 2),
-        link: flag(pairs, Key::Link, d, true),
-        contender: flag(pairs, Key::Contender, d, false),
-        force: flag(pairs, Key::Force, d, false),
-        power: small(pairs, Key::Power, d, 0),
-        gap: small(pairs, Key::Gap, d, 63),
-        hold: time(pairs, Key::Hold, d),
-        short: time(pairs, Key::Short, d),
-        long: time(pairs, Key::Long, d),
+        speed: small(pairs, Key::Speed, times, 2),
+        link: flag(pairs, Key::Link, times, true),
+        contender: flag(pairs, Key::Contender, times, false),
+        force: flag(pairs, Key::Force, times, false),
+        power: small(pairs, Key::Power, times, 0),
+        gap: small(pairs, Key::Gap, times, 63),
+        hold: time(pairs, Key::Hold, times),
+        short: time(pairs, Key::Short, times),
+        long: time(pairs, Key::Long, times),
         coin_word: coin_word(coins),
         coin_len: coins.len() as u8,
-        seed: number(pairs, Key::Seed, d),
+        seed: number(pairs, Key::Seed, times),
         packed: is_packed(pairs),
     }
 }
 
 /// `node NAME PORTS` and pairs of key and value.
-pub(crate) fn node(args: &[Word], d: u8) -> Result<Command, Kind>
-    requires { d ≤ 16 }
-    ensures value { result ≡ read_node d (codes "node" ∷ args.now) }
-    ensures ranged { IfOk result (IsInRange d) }
+pub(crate) fn node(args: &[Word], times: TimeRanges) -> Result<Command, Kind>
+    ensures value { result ≡ read_node times (codes "node" ∷ args.now) }
+    ensures ranged { IfOk result (IsInRange times) }
 {
     match args {
         [name, ports, pairs @ ..] if are_pairs(pairs) => {
             let name = name.name()?;
             let ports = ports.number(1, 16)? as u8;
-            check_pairs(pairs, d)?;
-            Ok(node_of(name, ports, pairs, d))
+            check_pairs(pairs, times)?;
+            Ok(node_of(name, ports, pairs, times))
         }
         _ => Err(Kind::Word),
     }

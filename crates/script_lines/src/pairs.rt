@@ -11,6 +11,7 @@ use crate::key::{Key, is_pair};
 use crate::kind::Kind;
 use crate::number::number_of;
 use crate::word::Word;
+use port_state::TimeRanges;
 
 /// Whether words are pairs of a key and a word that may stand behind it.
 pub(crate) fn are_pairs(words: &[Word]) -> bool
@@ -55,65 +56,60 @@ fn is_taken(pairs: &[Word], key: Key) -> bool
 }
 
 /// What is wrong with a key behind other pairs, or else with the word behind it.
-fn check_pair(before: &[Word], key: &Word, value: &Word, d: u8) -> Result<(), Kind>
-    requires { d ≤ 16 }
-    ensures { result_err result ≡ wrong_pair d before.now (key_of key.now) value.now }
+fn check_pair(before: &[Word], key: &Word, value: &Word, times: TimeRanges) -> Result<(), Kind>
+    ensures { result_err result ≡ wrong_pair times before.now (key_of key.now) value.now }
 {
     match Key::of_word(key) {
         None => Ok(()),
         Some(key) if is_taken(before, key) => Err(Kind::Twice),
-        Some(key) => key.check(value, d),
+        Some(key) => key.check(value, times),
     }
 }
 
 /// What is wrong with the first word at fault of pairs.
-pub(crate) fn check_pairs(pairs: &[Word], d: u8) -> Result<(), Kind>
-    requires { d ≤ 16 }
-    ensures { result_err result ≡ first_wrong_pair d [] pairs.now }
+pub(crate) fn check_pairs(pairs: &[Word], times: TimeRanges) -> Result<(), Kind>
+    ensures { result_err result ≡ first_wrong_pair times [] pairs.now }
 {
     let mut done = 0;
     while let [key, value, ..] = &pairs[done..] {
-        check_pair(&pairs[..done], key, value, d)?;
+        check_pair(&pairs[..done], key, value, times)?;
         done += 2;
     }
     Ok(())
 }
 
 /// The number behind a key, where the pairs are right.
-pub(crate) fn number(pairs: &[Word], key: Key, d: u8) -> Option<u32>
-    requires right { first_wrong_pair d [] pairs.now ≡ None }
-    requires few { d ≤ 16 }
+pub(crate) fn number(pairs: &[Word], key: Key, times: TimeRanges) -> Option<u32>
+    requires right { first_wrong_pair times [] pairs.now ≡ None }
     ensures value { result ≡ number_given key pairs.now }
-    ensures ranged { IfSome result (IsWithin (limits d key).0 (limits d key).1) }
+    ensures ranged { IfSome result (IsWithin (limits times key).0 (limits times key).1) }
 {
     number_of(given(pairs, key)?.as_bytes())
 }
 
 /// The number behind a key, or where there is none this one, which could stand there. The key's
 /// numbers are small.
-pub(crate) fn small(pairs: &[Word], key: Key, d: u8, default: u8) -> u8
-    requires right { first_wrong_pair d [] pairs.now ≡ None }
-    requires few { d ≤ 16 }
-    requires small { (limits d key).1 ≤ 255 }
-    requires usual { default ≤ (limits d key).1 }
+pub(crate) fn small(pairs: &[Word], key: Key, times: TimeRanges, default: u8) -> u8
+    requires right { first_wrong_pair times [] pairs.now ≡ None }
+    requires small { (limits times key).1 ≤ 255 }
+    requires usual { default ≤ (limits times key).1 }
     ensures value { result ≡ unwrap_or (number_given key pairs.now) default }
-    ensures most { result ≤ (limits d key).1 }
+    ensures most { result ≤ (limits times key).1 }
 {
-    match number(pairs, key, d) {
+    match number(pairs, key, times) {
         Some(n) => n as u8,
         None => default,
     }
 }
 
 /// The time behind a key.
-pub(crate) fn time(pairs: &[Word], key: Key, d: u8) -> Option<u16>
-    requires right { first_wrong_pair d [] pairs.now ≡ None }
-    requires few { d ≤ 16 }
-    requires small { (limits d key).1 ≤ 65535 }
+pub(crate) fn time(pairs: &[Word], key: Key, times: TimeRanges) -> Option<u16>
+    requires right { first_wrong_pair times [] pairs.now ≡ None }
+    requires small { (limits times key).1 ≤ 65535 }
     ensures value { result ≡ number_given key pairs.now }
-    ensures ranged { IfSome result (IsWithin (limits d key).0 (limits d key).1) }
+    ensures ranged { IfSome result (IsWithin (limits times key).0 (limits times key).1) }
 {
-    match number(pairs, key, d) {
+    match number(pairs, key, times) {
         Some(n) => Some(n as u16),
         None => None,
     }

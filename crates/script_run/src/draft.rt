@@ -1,20 +1,20 @@
 //! The nodes that a script declares before its bus runs.
-ghost use Rattle.std.specs.Prelude.{◌≡◌, ◌≤◌, ℕ, Some, Err, false, IfOk, IfErr, OnOk, length, map, nat_lt};
-ghost use Rattle.port_state.specs.Timing.{InRange};
+ghost use Rattle.std.specs.Prelude.{◌≡◌, ◌≤◌, ℕ, [], Some, Ok, Err, false, IfOk, IfErr, OnOk, length, map, nat_lt};
+ghost use Rattle.port_state.specs.TimeRanges.{AreWithin};
+ghost use Rattle.port_state.specs.declared.ranges.TimeRanges.{TimeRanges};
 ghost use Rattle.port_state.specs.Machine.{PortNode};
 ghost use Rattle.phy_machine.specs.Any.{any_node};
 ghost use Rattle.phy_machine.specs.PowerOn.{IsSpec, node_of_spec};
-ghost use Rattle.cable_world.specs.World.{IsNodeAtPowerOn};
 ghost use Rattle.script_told.specs.Bus.{bus_of_nodes, is_declared};
-ghost use Rattle.script_told.specs.Script.{Declares, first_draft, with_node, times_of, coins_of};
+ghost use Rattle.script_told.specs.Script.{Declares, SaysTimes, draft_with, takes_times, declaring, with_node, times_of, coins_of};
 ghost use Rattle.script_bus.specs.Running.{Stops};
-ghost use Rattle.script_run.specs.codings.Declaring.{IsDraft, IsLine, IsDeclared, DeclaresNode, draft_now, node_said};
+ghost use Rattle.script_run.specs.codings.Declaring.{AreRanges, IsDraft, IsLine, IsNode, IsDeclared, DeclaresNode, draft_now, node_said};
 
 use phy_machine::{AnyMachine, FieldMachine, NodeSpec, PackedMachine};
-use port_state::{Coins, Timing};
+use port_state::{Coins, TimeRanges, Timing};
 use script_bus::{Bus, NameTable};
-use script_lines::{Kind, LineStop};
-use self_id::Attrs;
+use script_lines::{Kind, LineStop, ScriptTimes};
+use self_id::{Attrs, Standard};
 use std::alloc::Global;
 use topology_stack::{Name, OutOfMemory};
 
@@ -26,6 +26,8 @@ const MAX_NODES: usize = 63;
 pub(crate) struct Draft {
     /// A cable delays a signal by at most so many ticks.
     pub delay: u8,
+    /// What the script says of the times of its nodes.
+    pub times: ScriptTimes,
     /// The names of the nodes.
     pub names: NameTable,
     /// The nodes, each just powered on.
@@ -64,22 +66,21 @@ pub(crate) struct NodeLine {
     pub packed: bool,
 }
 
-/// The times of a node: where one isn't given, the usual one.
-fn times(node: &NodeLine, d: u8) -> Timing
-    requires some { 1 ≤ d }
-    requires few { d ≤ 16 }
-    requires line { IsLine d node.now }
+/// The times of a node: where one isn't given, the least of its range.
+fn times(node: &NodeLine, ranges: TimeRanges) -> Timing
+    requires least { AreWithin ranges ranges.least }
+    requires line { IsLine ranges node.now }
     ensures value { result
-        ≡ times_of d node.now.times.hold node.now.times.short node.now.times.long }
-    ensures ranged { InRange d result }
+        ≡ times_of ranges node.now.times.hold node.now.times.short node.now.times.long }
+    ensures ranged { AreWithin ranges result }
 {
-    let usual = Timing::usual(d);
+    let least = ranges.least;
     let given = node.times;
     Timing {
-        hold: given.hold.unwrap_or(usual.hold),
-        short: given.short.unwrap_or(usual.short),
-        long: given.long.unwrap_or(usual.long),
-        ..usual
+        hold: given.hold.unwrap_or(least.hold),
+        short: given.short.unwrap_or(least.short),
+        long: given.long.unwrap_or(least.long),
+        ..least
     }
 }
 
@@ -97,18 +98,17 @@ fn coins(given: GivenCoins, number: u32) -> Coins
 }
 
 /// What a node is made of that gets this number.
-fn spec(node: &NodeLine, d: u8, number: u32) -> NodeSpec
-    requires some { 1 ≤ d }
-    requires few { d ≤ 16 }
-    requires line { IsLine d node.now }
+fn spec(node: &NodeLine, ranges: TimeRanges, number: u32) -> NodeSpec
+    requires least { AreWithin ranges ranges.least }
+    requires line { IsLine ranges node.now }
     ensures is { IsSpec result }
-    ensures timing { InRange d result.timing }
-    ensures value { node_of_spec result ≡ node_said node.now d number }
+    ensures timing { AreWithin ranges result.timing }
+    ensures value { node_of_spec result ≡ node_said node.now ranges number }
 {
     NodeSpec {
         ports: node.ports,
         attrs: node.attrs,
-        timing: times(node, d),
+        timing: times(node, ranges),
         force: node.force,
         coins: coins(node.coins, number),
     }
@@ -127,14 +127,13 @@ fn machine(spec: NodeSpec, packed: bool) -> AnyMachine
 }
 
 /// The node that a line declares, just powered on.
-fn powered_on(node: &NodeLine, d: u8, number: u32) -> AnyMachine
-    requires some { 1 ≤ d }
-    requires few { d ≤ 16 }
-    requires line { IsLine d node.now }
-    ensures value { any_node result ≡ node_said node.now d number }
-    ensures power_on { IsNodeAtPowerOn d (any_node result).state }
+fn powered_on(node: &NodeLine, ranges: TimeRanges, number: u32) -> AnyMachine
+    requires least { AreWithin ranges ranges.least }
+    requires line { IsLine ranges node.now }
+    ensures value { any_node result ≡ node_said node.now ranges number }
+    ensures power_on { (d : ℕ) → AreRanges d ranges → IsNode d ranges (any_node result) }
 {
-    machine(spec(node, d, number), node.packed)
+    machine(spec(node, ranges, number), node.packed)
 }
 
 impl Draft {
@@ -142,11 +141,12 @@ impl Draft {
     pub fn new(alloc: Global, delay: u8) -> Draft
         requires some { 1 ≤ delay }
         requires few { delay ≤ 16 }
-        ensures value { draft_now result ≡ record first_draft { delay = delay } }
+        ensures value { draft_now result ≡ draft_with delay }
         ensures sound { IsDraft result }
     {
         Draft {
             delay,
+            times: ScriptTimes::profile(delay),
             names: NameTable::new(alloc),
             machines: Vec::new(alloc),
         }
@@ -157,7 +157,7 @@ impl Draft {
         requires { IsDraft self.now }
         ensures few { OnOk result (nat_lt 62 (length self.now.names) ≡ false) }
         ensures new { OnOk result (is_declared self.now.names name.now ≡ false) }
-        ensures stop { (node : ℕ → ℕ → PortNode)
+        ensures stop { (node : TimeRanges → ℕ → PortNode)
             → IfErr result (Stops (Declares (Some (draft_now self.now)) name.now node)) }
     {
         if self.machines.len() >= MAX_NODES {
@@ -172,22 +172,24 @@ impl Draft {
     /// The draft with one node more, which gets the next number.
     fn with(self, node: NodeLine) -> Result<Draft, OutOfMemory>
         requires sound { IsDraft self }
-        requires line { IsLine self.delay node }
+        requires line { IsLine self.times.ranges node }
         requires few { length self.machines.items ≤ 62 }
         requires new { is_declared self.names node.name ≡ false }
         ensures value { IfOk result (λ after. draft_now after ≡ with_node (draft_now self)
-            node.name (node_said node self.delay (length self.names))) }
+            node.name (node_said node self.times.ranges (length self.names))) }
         ensures sound { IfOk result IsDraft }
     {
         let Draft {
             delay,
+            times,
             names,
             mut machines,
         } = self;
         let number = machines.len() as u32;
-        machines.push(powered_on(&node, delay, number))?;
+        machines.push(powered_on(&node, times.ranges, number))?;
         Ok(Draft {
             delay,
+            times,
             names: names.with(node.name)?,
             machines,
         })
@@ -196,7 +198,7 @@ impl Draft {
     /// Declares a node, where it isn't the 64th and its name is new.
     pub fn declare(self, node: NodeLine) -> Result<Draft, LineStop>
         requires sound { IsDraft self }
-        requires line { IsLine self.delay node }
+        requires line { IsLine self.times.ranges node }
         ensures done { IfOk result (IsDeclared self node) }
         ensures stop { IfErr result (Stops (DeclaresNode self node)) }
         ensures sound { IfOk result IsDraft }
@@ -205,17 +207,45 @@ impl Draft {
         Ok(self.with(node)?)
     }
 
+    /// Whether the times of nodes can still be said: no node is declared, and nothing was said of them.
+    fn takes_times(&self) -> bool
+        requires { IsDraft self.now }
+        ensures { result ≡ takes_times (draft_now self.now) }
+    {
+        self.machines.is_empty() && self.times.nanoseconds.is_none()
+    }
+
+    /// The times of nodes are a standard's, of which the delay of a cable is so many nanoseconds, at
+    /// least one.
+    pub fn say_times(self, standard: Standard, nanoseconds: u32) -> Result<Draft, LineStop>
+        requires sound { IsDraft self }
+        requires some { 1 ≤ nanoseconds }
+        ensures done { IfOk result (λ after. SaysTimes (Some (draft_now self)) standard nanoseconds
+            (Ok (declaring (draft_now after), []))) }
+        ensures stop { IfErr result
+            (Stops (SaysTimes (Some (draft_now self)) standard nanoseconds)) }
+        ensures sound { IfOk result IsDraft }
+    {
+        if !self.takes_times() {
+            return Err(LineStop::Fault(Kind::Late));
+        }
+        let times = ScriptTimes::of_standard(standard, self.delay, nanoseconds)?;
+        Ok(Draft { times, ..self })
+    }
+
     /// The bus of these nodes, without cables.
     pub fn bus(self, alloc: Global) -> Result<Bus, OutOfMemory>
         requires { IsDraft self }
         ensures { IfOk result (λ bus.
-            bus ≡ bus_of_nodes self.delay self.names (map any_node self.machines.items)) }
+            bus ≡ bus_of_nodes self.delay self.times self.names
+            (map any_node self.machines.items)) }
     {
         let Draft {
             delay,
+            times,
             names,
             machines,
         } = self;
-        Bus::new(alloc, names, machines, delay)
+        Bus::new(alloc, names, machines, delay, times)
     }
 }

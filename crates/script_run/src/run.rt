@@ -1,16 +1,17 @@
 //! The run of a script.
 ghost use Rattle.std.specs.Prelude.{◌≡◌, ◌≤◌, ◌<◌, ◌∷◌, ◌++◌, [], ℕ, List, Some, None, Ok, Err, IfOk, IfErr, OnOk, length};
 ghost use Rattle.script_lines.specs.Range.{IsInRange};
-ghost use Rattle.script_told.specs.Script.{Declares, Delays, Follows, Runs, bus_of, delay_of, draft_of};
+ghost use Rattle.script_told.specs.Script.{Declares, Delays, SaysTimes, Follows, Runs, bus_of, draft_of, ranges_of};
 ghost use Rattle.script_bus.specs.Running.{Stops};
 ghost use Rattle.script_run.specs.codings.Declaring.{IsDraft, IsLine, draft_now, node_said};
 ghost use Rattle.script_run.specs.codings.Going.{HearsAt};
 
 use crate::draft::{Draft, GivenCoins, GivenTimes, NodeLine};
 use crate::stage::{Phase, Stage};
+use port_state::TimeRanges;
 use script_bus::{Bus, Listener};
 use script_lines::{Command, Kind, LineStop};
-use self_id::Attrs;
+use self_id::{Attrs, Standard};
 use std::alloc::Global;
 use std::mem;
 use topology_stack::OutOfMemory;
@@ -19,16 +20,14 @@ use topology_stack::OutOfMemory;
 const USUAL_DELAY: u8 = 4;
 
 impl Stage {
-    /// By how many turns a cable delays a signal at most.
-    pub fn delay(&self) -> u8
-        ensures value { result ≡ delay_of self.now }
-        ensures some { 1 ≤ result }
-        ensures few { result ≤ 16 }
+    /// The ranges of the times of nodes.
+    pub fn ranges(&self) -> TimeRanges
+        ensures { result ≡ ranges_of self.now }
     {
         match &self.phase {
-            Phase::Fresh => USUAL_DELAY,
-            Phase::Declaring(draft) => draft.delay,
-            Phase::Running(bus) => bus.delay(),
+            Phase::Fresh => TimeRanges::profile(USUAL_DELAY),
+            Phase::Declaring(draft) => draft.times.ranges,
+            Phase::Running(bus) => bus.ranges(),
         }
     }
 
@@ -47,7 +46,7 @@ impl Stage {
     fn draft(self, alloc: Global) -> Result<Draft, LineStop>
         ensures value { IfOk result (λ draft. draft_of self ≡ Some (draft_now draft)) }
         ensures sound { IfOk result IsDraft }
-        ensures delay { IfOk result (λ draft. draft.delay ≡ delay_of self) }
+        ensures ranges { IfOk result (λ draft. draft.times.ranges ≡ ranges_of self) }
         ensures late { IfErr result (λ stop. (stop ≡ LineStop.Fault Kind.Late)
             × (draft_of self ≡ None)) }
     {
@@ -60,7 +59,7 @@ impl Stage {
 
     /// A node is declared, where declarations are taken.
     fn declare(&mut self, alloc: Global, line: NodeLine) -> Result<Vec<u8>, LineStop>
-        requires { IsLine (delay_of self.old) line }
+        requires { IsLine (ranges_of self.old) line }
         ensures done { IfOk result (λ text. Declares (draft_of self.old) line.name (node_said line)
             (Ok (self.new, text.items))) }
         ensures stop { IfErr result
@@ -76,11 +75,11 @@ impl Stage {
     fn run<L: Listener>(
         &mut self,
         alloc: Global,
-        d: u8,
+        times: TimeRanges,
         command: &Command,
         listener: &mut L,
     ) -> Result<Vec<u8>, LineStop>
-        requires range { IsInRange d command.now }
+        requires range { IsInRange times command.now }
         ensures done { IfOk result (λ text.
             Runs self.old command.now (Ok (self.new, text.items))) }
         ensures heard { OnOk result (HearsAt L.voice self.old command.now self.new
@@ -88,7 +87,7 @@ impl Stage {
         ensures stop { IfErr result (Stops (Runs self.old command.now)) }
     {
         let bus = mem::replace(self, Stage::new()).bus(alloc)?;
-        let (bus, text) = bus.command(alloc, d, command, listener)?;
+        let (bus, text) = bus.command(alloc, times, command, listener)?;
         self.phase = Phase::Running(bus);
         Ok(text)
     }
@@ -108,17 +107,35 @@ impl Stage {
         Ok(Vec::new(alloc))
     }
 
+    /// The times of nodes are said.
+    fn say_times(
+        &mut self,
+        alloc: Global,
+        standard: Standard,
+        nanoseconds: u32,
+    ) -> Result<Vec<u8>, LineStop>
+        requires { 1 ≤ nanoseconds }
+        ensures done { IfOk result (λ text. SaysTimes (draft_of self.old) standard nanoseconds
+            (Ok (self.new, text.items))) }
+        ensures stop { IfErr result (Stops (SaysTimes (draft_of self.old) standard nanoseconds)) }
+    {
+        let stage = mem::replace(self, Stage::new());
+        let draft = stage.draft(alloc)?.say_times(standard, nanoseconds)?;
+        self.phase = Phase::Declaring(Box::new(alloc, draft)?);
+        Ok(Vec::new(alloc))
+    }
+
     /// A command is done, and the listener hears what happens in it. Where it isn't, nothing is left
     /// of the stage.
     pub fn follow<L: Listener>(
         &mut self,
         alloc: Global,
-        d: u8,
+        times: TimeRanges,
         command: Command,
         listener: &mut L,
     ) -> Result<Vec<u8>, LineStop>
-        requires delay { d ≡ delay_of self.old }
-        requires range { IsInRange d command }
+        requires times { times ≡ ranges_of self.old }
+        requires range { IsInRange times command }
         ensures done { IfOk result (λ text. Follows self.old command (Ok (self.new, text.items))) }
         ensures heard { OnOk result (HearsAt L.voice self.old command self.new
             (L.written listener.old) (L.written listener.new)) }
@@ -167,7 +184,11 @@ impl Stage {
                 self.declare(alloc, line)
             }
             Command::Delay { delay } => self.say_delay(alloc, delay),
-            _ => self.run(alloc, d, &command, listener),
+            Command::Times {
+                standard,
+                nanoseconds,
+            } => self.say_times(alloc, standard, nanoseconds),
+            _ => self.run(alloc, times, &command, listener),
         }
     }
 }

@@ -13,7 +13,7 @@ ghost use Rattle.script_advice.specs.Advising.{IsAdvised};
 
 use crate::draft::Draft;
 use script_bus::{Bus, Listener, Silent};
-use script_lines::{LineStop, parse_line, says_nothing};
+use script_lines::{LineStop, parse_line_with, says_nothing};
 use std::alloc::Global;
 use std::marker::Model;
 use topology_stack::Name;
@@ -90,11 +90,11 @@ impl Stage {
             × (out.new.items ≡ out.old.items ++ text)) }
         ensures stop { IfErr result (IfFault (LineFails self.old line.now)) }
     {
-        let d = self.delay();
-        let Some(command) = parse_line(alloc, line, d)? else {
+        let times = self.ranges();
+        let Some(command) = parse_line_with(alloc, line, times)? else {
             return Ok(());
         };
-        let text = self.follow(alloc, d, command, listener)?;
+        let text = self.follow(alloc, times, command, listener)?;
         out.extend_from_slice(text.as_slice())?;
         Ok(())
     }

@@ -5,7 +5,7 @@ use Rattle.std.specs.List.{list_any}
 use Rattle.std.specs.Option.{option_and_then}
 use Rattle.std.specs.Str.{bytes_eq}
 use Rattle.port_state.specs.Machine.{PortNode}
-use Rattle.cable_world.specs.World.{CableWorld, NodeNumber, world_of_nodes}
+use Rattle.cable_world.specs.World.{CableWorld, NodeNumber, world_with_times}
 use Rattle.resource_manager.specs.declared.grant.Seen.{Seen}
 use Rattle.resource_manager.specs.declared.access.Access.{Access}
 use Rattle.resource_manager.specs.Register.{Values, initial_values}
@@ -14,6 +14,7 @@ use Rattle.settle.specs.declared.report.Outcome.{Outcome}
 use Rattle.settle.specs.declared.report.Outcome.TheVariants as reported
 use Rattle.settle.specs.declared.report.Part.{Part}
 use Rattle.settle.specs.declared.report.Report.{Report}
+use Rattle.script_lines.specs.declared.times.ScriptTimes.{ScriptTimes}
 use Rattle.script_text.specs.ReportText.{Names}
 
 -- a node's registers, and the count of its resets when they were last used
@@ -23,6 +24,8 @@ pub record Bank : Type 0 where
 
 -- what a script keeps beside the world
 pub record Notes : Type 0 where
+  -- what the script says of the times of its nodes
+  pub times : ScriptTimes
   -- the name of each node
   pub names : Names
   -- the registers of each node
@@ -44,8 +47,9 @@ pub record Bus : Type 0 where
 abbrev pub first_bank : Bank
 first_bank = record { resets = 0; values = initial_values }
 
-abbrev pub notes_of : Names → Notes
-notes_of names = record {
+abbrev pub notes_of : ScriptTimes → Names → Notes
+notes_of times names = record {
+  times = times;
   names = names;
   banks = replicate (length names) first_bank;
   looks = replicate (length names) None;
@@ -54,9 +58,13 @@ notes_of names = record {
   maps = 0;
 }
 
--- nodes with these names, just powered on, without cables
-abbrev pub bus_of_nodes : ℕ → Names → List PortNode → Bus
-bus_of_nodes d names nodes = record { world = world_of_nodes d nodes; notes = notes_of names }
+-- nodes with these names, just powered on, without cables; no node's times are longer than the
+-- longest of their ranges
+abbrev pub bus_of_nodes : ℕ → ScriptTimes → Names → List PortNode → Bus
+bus_of_nodes d times names nodes = record {
+  world = world_with_times d times.ranges.most nodes;
+  notes = notes_of times names;
+}
 
 -- ---- nodes
 

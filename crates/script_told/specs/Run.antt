@@ -8,7 +8,7 @@ use Rattle.script_lines.specs.declared.command.Command.TheVariants.{Settle}
 use Rattle.script_lines.specs.Line.{Reads}
 use Rattle.script_told.specs.Bus.{Bus}
 use Rattle.script_told.specs.Step.{LineAnswer, Settles}
-use Rattle.script_told.specs.Script.{Stage, fresh, running, StageAnswer, bus_of, delay_of, Follows, Told, fault_at, script_lines}
+use Rattle.script_told.specs.Script.{Stage, fresh, running, StageAnswer, bus_of, ranges_of, Follows, Told, fault_at, script_lines}
 
 -- A command that was done: the number of its line, what the script had come to before it and behind
 -- it, and what it printed.
@@ -69,7 +69,7 @@ Takes number Rest stage (Err kind) run = run ≡ stopped number kind
 abbrev pub RunsFrom : ℕ → List (List ℕ) → Stage → ScriptRun → Type 0
 RunsFrom number [] stage run = Ends number stage run
 RunsFrom number (line ∷ lines) stage run =
-    (reading : Result (Option Command) Kind) × Reads (delay_of stage) line reading
+    (reading : Result (Option Command) Kind) × Reads (ranges_of stage) line reading
     × Takes number (RunsFrom (number + 1) lines) stage reading run
 
 -- the run of a script

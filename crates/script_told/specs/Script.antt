@@ -1,16 +1,20 @@
 -- A script: its lines, and what a command comes to between two of them.
-use Rattle.std.specs.Prelude.{◌≡◌, ℕ, ◌+◌, ◌*◌, nat_lt, ◌==◌, Bool, false, List, [], ◌∷◌, ◌++◌, length, Option, None, Some, unwrap_or, Result, Ok, Err, if◌then◌else◌}
+use Rattle.std.specs.Prelude.{◌≡◌, ℕ, ◌+◌, nat_lt, ◌==◌, ◌&&◌, not, is_some, Bool, false, List, [], ◌∷◌, ◌++◌, length, Option, None, Some, unwrap_or, Result, Ok, Err, if◌then◌else◌}
 use Rattle.std.specs.List.{slice_split}
 use Rattle.self_id.specs.declared.node.Attrs.{Attrs}
+use Rattle.self_id.specs.declared.standard.Standard.{Standard}
 use Rattle.port_state.specs.Coins.{Coins, coins_of_bits, coins_of_seed}
 use Rattle.port_state.specs.declared.timing.Timing.{Timing}
+use Rattle.port_state.specs.declared.ranges.TimeRanges.{TimeRanges}
 use Rattle.port_state.specs.PowerOn.{power_on}
 use Rattle.port_state.specs.Machine.{PortNode}
 use Rattle.script_lines.specs.declared.kind.Kind.{Kind}
 use Rattle.script_lines.specs.declared.kind.Kind.TheVariants.{Twice, Late, TooManyNodes}
 use Rattle.script_lines.specs.declared.kind.ScriptFault.{ScriptFault}
 use Rattle.script_lines.specs.declared.command.Command.{Command}
-use Rattle.script_lines.specs.declared.command.Command.TheVariants.{Node, Delay}
+use Rattle.script_lines.specs.declared.command.Command.TheVariants.{Node, Delay, Times}
+use Rattle.script_lines.specs.declared.times.ScriptTimes.{ScriptTimes}
+use Rattle.script_lines.specs.Times.{profile_times, standard_times}
 use Rattle.script_lines.specs.Line.{Reads}
 use Rattle.script_text.specs.ReportText.{Names}
 use Rattle.script_told.specs.Bus.{Bus, bus_of_nodes, is_declared}
@@ -33,21 +37,24 @@ script_lines bytes = without_last_if_empty (slice_split (λ c. c == 10) bytes)
 pub record Draft : Type 0 where
   -- d: a cable delays a signal by at most so many turns
   pub delay : ℕ
+  pub times : ScriptTimes
   pub names : Names
   pub nodes : List PortNode
 
+-- nothing but a delay: the times of nodes are the profile's
+abbrev pub draft_with : ℕ → Draft
+draft_with delay = record { delay = delay; times = profile_times delay; names = []; nodes = [] }
+
 -- without a line that says it the delay is 4
 abbrev pub first_draft : Draft
-first_draft = record { delay = 4; names = []; nodes = [] }
+first_draft = draft_with 4
 
--- the times of a node: where one isn't given, the usual one
-abbrev pub times_of : ℕ → Option ℕ → Option ℕ → Option ℕ → Timing
-times_of d hold short long = record {
-  hold = unwrap_or hold (64 * d);
-  force = 256 * d;
-  timeout = 512 * d;
-  short = unwrap_or short (3 * d);
-  long = unwrap_or long (8 * d);
+-- the times of a node: where one isn't given, the least of its range
+abbrev pub times_of : TimeRanges → Option ℕ → Option ℕ → Option ℕ → Timing
+times_of ranges hold short long = record ranges.least {
+  hold = unwrap_or hold ranges.least.hold;
+  short = unwrap_or short ranges.least.short;
+  long = unwrap_or long ranges.least.long;
 }
 
 -- the coins of a node: those that are given, or of the seed, which is the node's number where none
@@ -84,27 +91,43 @@ draft_of (running bus) = None
 
 -- the bus that runs from a stage on
 abbrev pub bus_of : Stage → Bus
-bus_of fresh = bus_of_nodes 4 [] []
-bus_of (declaring draft) = bus_of_nodes draft.delay draft.names draft.nodes
+bus_of fresh = bus_of_nodes 4 (profile_times 4) [] []
+bus_of (declaring draft) = bus_of_nodes draft.delay draft.times draft.names draft.nodes
 bus_of (running bus) = bus
 
--- d at a stage
-abbrev pub delay_of : Stage → ℕ
-delay_of stage = (bus_of stage).world.delay
+-- the ranges of the times of nodes at a stage
+abbrev pub ranges_of : Stage → TimeRanges
+ranges_of stage = (bus_of stage).notes.times.ranges
 
 -- a node is declared, where it isn't the 64th and its name is new
-abbrev pub Declares : Option Draft → List ℕ → (ℕ → ℕ → PortNode) → StageAnswer → Type 0
+abbrev pub Declares : Option Draft → List ℕ → (TimeRanges → ℕ → PortNode) → StageAnswer → Type 0
 Declares None name node answer = answer ≡ Err Late
 Declares (Some draft) name node answer =
     answer ≡ (if nat_lt 62 (length draft.names) then Err TooManyNodes
     else if is_declared draft.names name then Err Twice
-    else Ok (declaring (with_node draft name (node draft.delay (length draft.names))), []))
+    else Ok (declaring (with_node draft name (node draft.times.ranges (length draft.names))), []))
 
 -- the delay is said, where no command came yet
 abbrev pub Delays : Stage → ℕ → StageAnswer → Type 0
-Delays fresh delay answer = answer ≡ Ok (declaring (record first_draft { delay = delay }), [])
+Delays fresh delay answer = answer ≡ Ok (declaring (draft_with delay), [])
 Delays (declaring draft) delay answer = answer ≡ Err Late
 Delays (running bus) delay answer = answer ≡ Err Late
+
+-- no node is declared, and nothing was said of the times of nodes
+abbrev pub takes_times : Draft → Bool
+takes_times draft = (length draft.names == 0) && not (is_some draft.times.nanoseconds)
+
+-- the nodes that come have these times
+abbrev pub with_times : Draft → Result ScriptTimes Kind → StageAnswer
+with_times draft (Ok times) = Ok (declaring (record draft { times = times }), [])
+with_times draft (Err kind) = Err kind
+
+-- a standard's times are said, where no command but `delay` came yet
+abbrev pub SaysTimes : Option Draft → Standard → ℕ → StageAnswer → Type 0
+SaysTimes None standard nanoseconds answer = answer ≡ Err Late
+SaysTimes (Some draft) standard nanoseconds answer =
+    answer ≡ (if takes_times draft then
+    with_times draft (standard_times standard draft.delay nanoseconds) else Err Late)
 
 -- the bus runs from now on
 abbrev pub onwards : LineAnswer → StageAnswer
@@ -119,7 +142,7 @@ Runs stage command answer =
 abbrev pub Follows : Stage → Command → StageAnswer → Type 0
 Follows stage
     (Node name ports speed link contender force power gap hold short long word len seed packed)
-    answer = Declares (draft_of stage) name (λ d number.
+    answer = Declares (draft_of stage) name (λ ranges number.
     new_node
     (record {
       link = link;
@@ -130,8 +153,10 @@ Follows stage
       power = power;
       initiated = false;
     })
-    ports force (times_of d hold short long) (coins_of number word len seed)) answer
+    ports force (times_of ranges hold short long) (coins_of number word len seed)) answer
 Follows stage (Delay delay) answer = Delays stage delay answer
+Follows stage (Times standard nanoseconds) answer =
+    SaysTimes (draft_of stage) standard nanoseconds answer
 Follows stage command answer = Runs stage command answer
 
 -- ---- faults

@@ -9,14 +9,14 @@ use Rattle.root_plan.specs.declared.choice.RootPlan.{RootPlan}
 use Rattle.script_lines.specs.declared.kind.Kind.{Kind}
 use Rattle.script_lines.specs.declared.kind.ScriptFault.{ScriptFault}
 use Rattle.script_lines.specs.declared.command.Command.{Command}
-use Rattle.script_lines.specs.declared.command.Command.TheVariants.{Node, Plug, Pull, Reset, Turn, Hold, Settle, Config, Plan, Delay}
+use Rattle.script_lines.specs.declared.command.Command.TheVariants.{Node, Plug, Pull, Reset, Turn, Hold, Settle, Config, Plan, Delay, Times}
 use Rattle.script_told.specs.Bus.{Bus, Reported, tree_with}
 use Rattle.script_told.specs.Step.{LineAnswer, CarriesOut, Does}
 use Rattle.script_told.specs.Script.{Stage, fresh, declaring, running, Runs, Follows, onwards, Told, bus_of}
 use Rattle.script_told.specs.Run.{Entry, ScriptRun, printed, unless_stopped}
 use Rattle.script_told.specs.EachPlan.{IsCarriedOut}
 use Rattle.script_told.proofs.Lemmas.{stage-in, IsCabled, same-plan, same-sent, IsSound, cabled, one-run, IsDone, each-done, plan-carried}
-use Rattle.script_trace.specs.Voice.{Voice}
+use Rattle.script_trace.specs.Voice.{Voice, legend_of}
 use Rattle.script_trace.specs.Trace.{act_trace, quiet_trace, TracesPlan, Traces, TracesAt, AllTrace, IsTraceOf, trace_voice}
 use Rattle.script_trace.specs.OneTelling.{RunsAreToldOnce, RunsAreTold}
 use Rattle.script_trace.specs.OneTrace.{ScriptsHaveOneTrace, TracedScriptsAreTold, TraceFaultsAreTold, HasTrace, RunsHaveTraces}
@@ -26,8 +26,8 @@ use Rattle.script_trace.specs.OneTrace.{ScriptsHaveOneTrace, TracedScriptsAreTol
 -- what happens in a plan, by its packet and by the bus once that was sent
 plan-lines : Voice → Bus → Bus → List ℕ → RootPlan → Bus → List ℕ
 plan-lines v bus after name plan sent =
-    act_trace v after.notes.names (Config name (Some plan.root_id) (Some plan.gap)) bus.world sent.world
-    ++ quiet_trace v after.notes.names sent.world
+    act_trace v (legend_of after.notes) (Config name (Some plan.root_id) (Some plan.gap)) bus.world sent.world
+    ++ quiet_trace v (legend_of after.notes) sent.world
 
 one-plan :
     NoListHasTwoTrees → (v : Voice) (bus after : Bus) (name xs ys : List ℕ) → IsCabled bus.world →
@@ -179,6 +179,7 @@ stage-lines v stage command (running after) text f = by-command command f
         (Node name ports speed link contender force power gap hold short long word len seed packed)
         g = ([], refl)
     by-command (Delay delay) g = ([], refl)
+    by-command (Times standard nanoseconds) g = ([], refl)
     by-command c g = of-runs c g
 
 each-has-lines : (v : Voice) (entries : List Entry) → All IsDone entries →

@@ -5,13 +5,13 @@ use Rattle.cable_world.specs.World.{CableWorld, NodeNumber}
 use Rattle.settle.specs.Report.{quiet_turns_of}
 use Rattle.script_lines.specs.declared.command.Command.{Command}
 use Rattle.script_lines.specs.declared.command.Command.TheVariants.{Plug, Pull, Reset, Turn, Hold, Settle, Config, Plan}
-use Rattle.script_text.specs.ReportText.{Names, numbered}
+use Rattle.script_text.specs.ReportText.{numbered}
 use Rattle.script_told.specs.Bus.{Bus, Reported, node_named, tree_with}
 use Rattle.script_told.specs.Step.{CarriesOut}
 use Rattle.script_told.specs.Script.{Stage, running, bus_of, Told}
 use Rattle.script_told.specs.Run.{Entry, ScriptRun, IsRun}
 use Rattle.script_trace.specs.Step.{turns_lines, lines_since, seen_before_act}
-use Rattle.script_trace.specs.Voice.{Voice}
+use Rattle.script_trace.specs.Voice.{Legend, legend_of, Voice}
 
 -- ---- the line of a command
 
@@ -40,14 +40,14 @@ command_line turn command = numbered (codes "turn ") turn ++ (command_words comm
 -- ---- what happens at a command
 
 -- the line of an act, and what it does
-abbrev pub act_trace : Voice → Names → Command → CableWorld → CableWorld → List ℕ
-act_trace voice names command before after =
+abbrev pub act_trace : Voice → Legend → Command → CableWorld → CableWorld → List ℕ
+act_trace voice legend command before after =
     voice.command before.turns command
-    ++ voice.since names (seen_before_act before 0 before.nodes) after
+    ++ voice.since legend (seen_before_act before 0 before.nodes) after
 
 -- what happens in the quiet turns
-abbrev pub quiet_trace : Voice → Names → CableWorld → List ℕ
-quiet_trace voice names w = voice.turns names (quiet_turns_of w) w
+abbrev pub quiet_trace : Voice → Legend → CableWorld → List ℕ
+quiet_trace voice legend w = voice.turns legend (quiet_turns_of w) w
 
 -- A plan is carried out: its packet is sent, as a `config` does it, and the quiet turns are done.
 pub record TracesPlan (voice : Voice) (bus : Bus) (name : List ℕ) (after : Bus) (lines : List ℕ) :
@@ -60,24 +60,28 @@ pub record TracesPlan (voice : Voice) (bus : Bus) (name : List ℕ) (after : Bus
   pub carried : CarriesOut bus name node tree after text
   pub lines_are :
       lines
-      ≡ act_trace voice after.notes.names
+      ≡ act_trace voice (legend_of after.notes)
       (Config name (Some carried.plan.root_id) (Some carried.plan.gap)) bus.world carried.sent.world
-      ++ quiet_trace voice after.notes.names carried.sent.world
+      ++ quiet_trace voice (legend_of after.notes) carried.sent.world
 
 -- what happens where a command leads from a bus to the next
 abbrev pub Traces : Voice → Bus → Command → Bus → List ℕ → Type 0
 Traces voice bus (Plug a a_port b b_port) after lines =
-    lines ≡ act_trace voice after.notes.names (Plug a a_port b b_port) bus.world after.world
+    lines
+    ≡ act_trace voice (legend_of after.notes) (Plug a a_port b b_port) bus.world after.world
 Traces voice bus (Pull name port) after lines =
-    lines ≡ act_trace voice after.notes.names (Pull name port) bus.world after.world
+    lines ≡ act_trace voice (legend_of after.notes) (Pull name port) bus.world after.world
 Traces voice bus (Reset name) after lines =
-    lines ≡ act_trace voice after.notes.names (Reset name) bus.world after.world
+    lines ≡ act_trace voice (legend_of after.notes) (Reset name) bus.world after.world
 Traces voice bus (Config name root_id gap) after lines =
-    lines ≡ act_trace voice after.notes.names (Config name root_id gap) bus.world after.world
+    lines
+    ≡ act_trace voice (legend_of after.notes) (Config name root_id gap) bus.world after.world
 Traces voice bus (Hold name port turns) after lines =
     lines ≡ voice.command bus.world.turns (Hold name port turns)
-Traces voice bus (Turn count) after lines = lines ≡ voice.turns after.notes.names count bus.world
-Traces voice bus Settle after lines = lines ≡ quiet_trace voice after.notes.names bus.world
+Traces voice bus (Turn count) after lines =
+    lines ≡ voice.turns (legend_of after.notes) count bus.world
+Traces voice bus Settle after lines =
+    lines ≡ quiet_trace voice (legend_of after.notes) bus.world
 Traces voice bus (Plan name) after lines = TracesPlan voice bus name after lines
 Traces voice bus command after lines = lines ≡ []
 
@@ -99,7 +103,11 @@ AllTrace voice (entry ∷ entries) lines =
 
 -- a line for each act, each hold and each thing that happens
 abbrev pub trace_voice : Voice
-trace_voice = record { command = command_line; since = lines_since; turns = turns_lines }
+trace_voice = record {
+  command = command_line;
+  since = λ legend. lines_since legend.names;
+  turns = λ legend. turns_lines legend.names;
+}
 
 -- what happens in a run, or its fault
 abbrev pub IsTraceOf : ScriptRun → Told → Type 0

@@ -8,6 +8,7 @@
 
 mod command;
 mod laws;
+mod legend;
 mod node;
 mod steps;
 mod watch;
@@ -17,6 +18,7 @@ pub use laws::{
     acts_show_their_resets, each_node_is_shown, runs_are_told_once, scripts_have_one_trace,
     turns_show_what_is_sent,
 };
+pub use legend::Legend;
 pub use node::state_number;
 pub use steps::trace_turns;
 pub use watch::{Seen, put_since, seen_before_act, seen_before_turn};

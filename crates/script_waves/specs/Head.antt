@@ -1,11 +1,12 @@
 -- What stands before the first change: the variables, and their values when all nodes have just powered
 -- on.
-use Rattle.std.specs.Prelude.{ℕ, ◌+◌, List, [], ◌∷◌, ◌++◌, codes}
+use Rattle.std.specs.Prelude.{ℕ, ◌+◌, Option, None, Some, List, [], ◌∷◌, ◌++◌, codes}
 use Rattle.port_state.specs.declared.ports.PortView.{PortView}
 use Rattle.port_state.specs.Ports.{PortNumber}
 use Rattle.port_state.specs.Machine.{PortNode}
 use Rattle.cable_world.specs.World.{CableWorld, NodeNumber}
 use Rattle.script_text.specs.ReportText.{Names, spaced, numbered}
+use Rattle.script_trace.specs.Voice.{Legend}
 use Rattle.script_waves.specs.Value.{node_code, port_code, node_line, port_line}
 
 -- `$var TYPE CODE NAME $end`
@@ -86,15 +87,20 @@ all_values node (x ∷ nodes) = node_values node x.state.view.ports ++ all_value
 
 -- ---- the whole
 
-unfoldable pub opening : List ℕ
-opening =
-    codes "$comment busview waves $end\n"
-    ++ (codes "$comment One unit of time is one turn, which is no time of the standard. $end\n"
-    ++ codes "$timescale 1 ns $end\n")
+-- what one unit of time is, where d turns are so many nanoseconds or no time of the standard
+abbrev pub unit : Option ℕ → ℕ → List ℕ
+unit None d =
+    codes "$comment One unit of time is one turn, which is no time of the standard. $end\n$timescale 1 ns $end\n"
+unit (Some nanoseconds) d =
+    numbered (codes "$comment One unit of time is one picosecond, and ") d
+    ++ (numbered (codes " turns are ") nanoseconds ++ codes " ns. $end\n$timescale 1 ps $end\n")
 
--- the head of the dump of a bus with these names
-unfoldable pub head : Names → CableWorld → List ℕ
-head names w =
-    opening
-    ++ (all_scopes names 0 w.nodes
+unfoldable pub opening : Option ℕ → ℕ → List ℕ
+opening nanoseconds d = codes "$comment busview waves $end\n" ++ unit nanoseconds d
+
+-- the head of the dump of a bus with this legend
+unfoldable pub head : Legend → CableWorld → List ℕ
+head legend w =
+    opening legend.nanoseconds w.delay
+    ++ (all_scopes legend.names 0 w.nodes
     ++ (codes "$enddefinitions $end\n#0\n$dumpvars\n" ++ (all_values 0 w.nodes ++ codes "$end\n")))

@@ -4,6 +4,7 @@ use Rattle.script_told.specs.Bus.{Bus}
 use Rattle.script_told.specs.Script.{Told}
 use Rattle.script_told.specs.Run.{ScriptRun, IsRun}
 use Rattle.script_trace.specs.Trace.{AllTrace}
+use Rattle.script_trace.specs.Voice.{legend_of}
 use Rattle.script_waves.specs.Moment.{waves_voice}
 use Rattle.script_waves.specs.Head.{head}
 
@@ -11,7 +12,7 @@ use Rattle.script_waves.specs.Head.{head}
 pub record IsDump (run : ScriptRun) (bus : Bus) (text : List ℕ) : Type 0 where
   pub changes : List ℕ
   pub told : AllTrace waves_voice run.entries changes
-  pub text_is : text ≡ head bus.notes.names bus.world ++ changes
+  pub text_is : text ≡ head (legend_of bus.notes) bus.world ++ changes
 
 -- or the run's fault
 abbrev pub IsWavesOf : ScriptRun → Told → Type 0

@@ -1,12 +1,13 @@
 //! What stands before the first change.
 ghost use Rattle.std.specs.Prelude.{◌≡◌, ◌≤◌, ◌<◌, ◌++◌, length, IfOk, OnOk};
 ghost use Rattle.script_waves.specs.Value.{node_code, port_code};
-ghost use Rattle.script_waves.specs.Head.{all_port_values, all_port_variables, all_scopes, all_values, head, node_scope, node_values, node_variables, opening, port_values, port_variable, port_variables, variable};
+ghost use Rattle.script_waves.specs.Head.{all_port_values, all_port_variables, all_scopes, all_values, head, node_scope, node_values, node_variables, opening, port_values, port_variable, port_variables, unit, variable};
 
 use crate::value::{put_node_code, put_node_line, put_port_code, put_port_line};
 use crate::waves::Waves;
 use cable_world::WorldRun;
 use port_state::PortView;
+use script_trace::Legend;
 use script_text::{Name, OutOfMemory, put_name, put_numbered};
 use std::alloc::Global;
 
@@ -195,49 +196,67 @@ fn put_all_values<W: WorldRun>(
     Ok(())
 }
 
+/// Appends what one unit of time is, where `d` turns may be so many nanoseconds.
+fn put_unit(out: &mut Vec<u8>, nanoseconds: Option<u16>, d: u8) -> Result<(), OutOfMemory>
+    ensures { OnOk result (out.new.items ≡ out.old.items ++ unit nanoseconds d) }
+{
+    match nanoseconds {
+        None => out.extend_from_slice(
+            b"$comment One unit of time is one turn, which is no time of the standard. $end\n\
+            $timescale 1 ns $end\n",
+        ),
+        Some(nanoseconds) => {
+            let picoseconds = b"$comment One unit of time is one picosecond, and ";
+            put_numbered(out, picoseconds, u64::from(d))?;
+            put_numbered(out, b" turns are ", u64::from(nanoseconds))?;
+            out.extend_from_slice(b" ns. $end\n$timescale 1 ps $end\n")
+        }
+    }
+}
+
 /// Appends what stands before the variables.
 #[tactic(auto, unfolding(crate::specs::Head::opening))]
-fn put_opening(out: &mut Vec<u8>) -> Result<(), OutOfMemory>
-    ensures { OnOk result (out.new.items ≡ out.old.items ++ opening) }
+fn put_opening(out: &mut Vec<u8>, nanoseconds: Option<u16>, d: u8) -> Result<(), OutOfMemory>
+    ensures { OnOk result (out.new.items ≡ out.old.items ++ opening nanoseconds d) }
 {
-    out.extend_from_slice(
-        b"$comment busview waves $end\n\
-        $comment One unit of time is one turn, which is no time of the standard. $end\n\
-        $timescale 1 ns $end\n",
-    )?;
-    Ok(())
+    out.extend_from_slice(b"$comment busview waves $end\n")?;
+    put_unit(out, nanoseconds, d)
 }
 
 /// Appends what stands before the first change.
-fn put_head<W: WorldRun>(out: &mut Vec<u8>, names: &[Name], world: &W) -> Result<(), OutOfMemory>
-    requires few { length names.now ≤ 63 }
-    requires nodes { length names.now ≡ length (W.world world.now).nodes }
+fn put_head<W: WorldRun>(
+    out: &mut Vec<u8>,
+    legend: &Legend,
+    world: &W,
+) -> Result<(), OutOfMemory>
+    requires few { length legend.now.names ≤ 63 }
+    requires nodes { length legend.now.names ≡ length (W.world world.now).nodes }
     ensures { OnOk result (out.new.items
-        ≡ out.old.items ++ head names.now (W.world world.now)) }
+        ≡ out.old.items ++ head legend.now (W.world world.now)) }
 {
-    put_opening(out)?;
-    put_scopes(out, names, world)?;
+    put_opening(out, legend.nanoseconds, world.delay())?;
+    put_scopes(out, legend.names, world)?;
     out.extend_from_slice(b"$enddefinitions $end\n#0\n$dumpvars\n")?;
-    put_all_values(out, names.len(), world)?;
+    put_all_values(out, legend.names.len(), world)?;
     out.extend_from_slice(b"$end\n")?;
     Ok(())
 }
 
 impl Waves {
-    /// The dump: the variables of the nodes, which have these names, 63 at most, their first values, and
-    /// the changes.
+    /// The dump: the variables of the nodes, whose names are in the legend, 63 at most, their first
+    /// values, and the changes.
     pub fn dump<W: WorldRun>(
         self,
         alloc: Global,
-        names: &[Name],
+        legend: &Legend,
         world: &W,
     ) -> Result<Vec<u8>, OutOfMemory>
-        requires few { length names.now ≤ 63 }
-        requires nodes { length names.now ≡ length (W.world world.now).nodes }
-        ensures { IfOk result (λ dump. dump.items ≡ head names.now (W.world world.now) ++ self) }
+        requires few { length legend.now.names ≤ 63 }
+        requires nodes { length legend.now.names ≡ length (W.world world.now).nodes }
+        ensures { IfOk result (λ dump. dump.items ≡ head legend.now (W.world world.now) ++ self) }
     {
         let mut out = Vec::new(alloc);
-        put_head(&mut out, names, world)?;
+        put_head(&mut out, legend, world)?;
         out.extend_from_slice(self.text.as_slice())?;
         Ok(out)
     }

@@ -2,7 +2,7 @@
 ghost use Rattle.std.specs.Prelude.{◌≡◌, ◌≤◌, ◌<◌, ◌++◌, [], length, drop, IfOk, OnOk};
 ghost use Rattle.cable_world.specs.World.{wire_of};
 ghost use Rattle.script_waves.specs.Change.{all_port_changes, node_changes, port_changes, sent_changes};
-ghost use Rattle.script_waves.specs.Moment.{all_changes, at_time, waves_since};
+ghost use Rattle.script_waves.specs.Moment.{all_changes, at_time, time_of, waves_since};
 
 use crate::node::{put_id, put_root, put_state, put_timeout};
 use crate::port::{put_gone, put_role, put_sent_some, put_shown, there_at};
@@ -10,7 +10,7 @@ use cable_world::ShowsWires;
 use cabling::End;
 use port_state::{PortView, View};
 use script_text::{OutOfMemory, put_numbered};
-use script_trace::Seen;
+use script_trace::{Legend, Seen};
 use std::alloc::Global;
 use std::marker::Model;
 
@@ -129,14 +129,25 @@ fn put_all<W: ShowsWires>(
     Ok(())
 }
 
+/// The time after so many turns, of which `d` may be so many nanoseconds.
+fn time_of(nanoseconds: Option<u16>, d: u8, turns: u32) -> u64
+    requires { 1 ≤ d }
+    ensures { result ≡ time_of nanoseconds d turns }
+{
+    match nanoseconds {
+        None => u64::from(turns),
+        Some(nanoseconds) => u64::from(turns) * u64::from(nanoseconds) * 1000 / u64::from(d),
+    }
+}
+
 /// Appends `#T` and changes, where there are any.
-fn put_time(out: &mut Vec<u8>, turn: u32, changes: &[u8]) -> Result<(), OutOfMemory>
-    ensures { OnOk result (out.new.items ≡ out.old.items ++ at_time turn changes.now) }
+fn put_time(out: &mut Vec<u8>, time: u64, changes: &[u8]) -> Result<(), OutOfMemory>
+    ensures { OnOk result (out.new.items ≡ out.old.items ++ at_time time changes.now) }
 {
     if changes.is_empty() {
         return Ok(());
     }
-    put_numbered(out, b"#", u64::from(turn))?;
+    put_numbered(out, b"#", time)?;
     out.push(b'\n')?;
     out.extend_from_slice(changes)?;
     Ok(())
@@ -153,19 +164,21 @@ impl Waves {
         }
     }
 
-    /// Appends what changed in a world since its nodes showed that. There are so many nodes, at most 63.
+    /// Appends what changed in a world since its nodes showed that. The legend names them, 63 at most.
     pub fn put_since<W: ShowsWires>(
         &mut self,
-        nodes: usize,
+        legend: &Legend,
         seen: &[Seen],
         world: &W,
     ) -> Result<(), OutOfMemory>
-        requires few { nodes ≤ 63 }
-        requires nodes { nodes ≡ length (W.world world.now).nodes }
-        ensures { OnOk result (self.new ≡ self.old ++ waves_since seen.now (W.world world.now)) }
+        requires few { length legend.now.names ≤ 63 }
+        requires nodes { length legend.now.names ≡ length (W.world world.now).nodes }
+        ensures { OnOk result (self.new
+            ≡ self.old ++ waves_since legend.now.nanoseconds seen.now (W.world world.now)) }
     {
         self.scratch.clear();
-        put_all(&mut self.scratch, nodes, seen, world)?;
-        put_time(&mut self.text, world.turns(), self.scratch.as_slice())
+        put_all(&mut self.scratch, legend.names.len(), seen, world)?;
+        let time = time_of(legend.nanoseconds, world.delay(), world.turns());
+        put_time(&mut self.text, time, self.scratch.as_slice())
     }
 }

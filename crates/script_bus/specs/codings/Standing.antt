@@ -13,11 +13,11 @@ use Rattle.settle.specs.Report.{IsReport}
 use Rattle.settle.specs.Reported.{ReportsTree}
 use Rattle.script_lines.specs.declared.command.Command.{Command}
 use Rattle.script_lines.specs.declared.command.Command.TheVariants.{Plug, Pull, Reset, Config, Hold, Turn, Settle, Plan}
-use Rattle.script_text.specs.ReportText.{Names, IsNamedReport, IsReportText}
+use Rattle.script_text.specs.ReportText.{IsNamedReport, IsReportText}
 use Rattle.script_told.specs.Bus.{Bus, Reported}
 use Rattle.script_text.specs.Plan.{IsPlan, plan_line}
 use Rattle.script_told.specs.Step.{IsTreeOf, Acts, Reports, config_of, node_with, notes_after_report}
-use Rattle.script_trace.specs.Voice.{Voice}
+use Rattle.script_trace.specs.Voice.{Legend, legend_of, Voice}
 use Rattle.script_trace.specs.Trace.{act_trace, quiet_trace}
 
 -- no act came since a report was made: holds and turns alone led from its world to this one
@@ -88,8 +88,8 @@ pub record IsReportedNow (bus after : Bus) (text : List ℕ) : Type 0 where
   pub text_is : IsReportText bus.notes.names after.notes.reports report text
 
 -- a listener heard the quiet turns
-abbrev pub IsPassed : Voice → Names → CableWorld → List ℕ → List ℕ → Type 0
-IsPassed voice names w out new = new ≡ out ++ quiet_trace voice names w
+abbrev pub IsPassed : Voice → Legend → CableWorld → List ℕ → List ℕ → Type 0
+IsPassed voice legend w out new = new ≡ out ++ quiet_trace voice legend w
 
 -- the packet of a plan was sent, and a listener heard what it does
 pub record IsPacketSent
@@ -99,7 +99,7 @@ pub record IsPacketSent
   pub written :
       new
       ≡ out
-      ++ act_trace voice sent.notes.names (Config name (Some plan.root_id) (Some plan.gap)) bus.world
+      ++ act_trace voice (legend_of sent.notes) (Config name (Some plan.root_id) (Some plan.gap)) bus.world
       sent.world
 
 -- and then the bus settled, as `IsSent` has it
@@ -110,5 +110,5 @@ pub record IsSentHeard
   pub written :
       new
       ≡ out
-      ++ (act_trace voice after.notes.names (Config name (Some plan.root_id) (Some plan.gap)) bus.world
-      sent.sent.world ++ quiet_trace voice after.notes.names sent.sent.world)
+      ++ (act_trace voice (legend_of after.notes) (Config name (Some plan.root_id) (Some plan.gap)) bus.world
+      sent.sent.world ++ quiet_trace voice (legend_of after.notes) sent.sent.world)

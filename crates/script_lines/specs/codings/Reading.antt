@@ -1,5 +1,6 @@
 -- Reading by forms, one after the other.
 use Rattle.std.specs.Prelude.{ℕ, List, [], ◌∷◌, Option, Some, None, Result, Ok, Err, if◌then◌else◌}
+use Rattle.port_state.specs.declared.ranges.TimeRanges.{TimeRanges}
 use Rattle.script_lines.specs.declared.command.Command.{Command}
 use Rattle.script_lines.specs.declared.kind.Kind.{Kind}
 use Rattle.script_lines.specs.declared.kind.Kind.TheVariants.{Word}
@@ -22,14 +23,14 @@ read_by (form ∷ forms) words =
     else read_by forms words
 
 -- what words say that declare a node or say nothing
-abbrev pub read_node : ℕ → List (List ℕ) → Result Command Kind
-read_node d words =
-    if has_node_form words then unless (wrong_node d words) (node_command words) else Err Word
+abbrev pub read_node : TimeRanges → List (List ℕ) → Result Command Kind
+read_node times words =
+    if has_node_form words then unless (wrong_node times words) (node_command words) else Err Word
 
 -- what words say
-abbrev pub read_words : ℕ → List (List ℕ) → Result Command Kind
-read_words d words =
-    if has_node_form words then unless (wrong_node d words) (node_command words)
+abbrev pub read_words : TimeRanges → List (List ℕ) → Result Command Kind
+read_words times words =
+    if has_node_form words then unless (wrong_node times words) (node_command words)
     else read_by forms words
 
 -- a command that stands in a line
@@ -38,7 +39,7 @@ in_line (Ok command) = Ok (Some command)
 in_line (Err kind) = Err kind
 
 -- what a line says that has no carriage return at its end
-abbrev pub read_line : ℕ → List ℕ → Result (Option Command) Kind
-read_line d line =
+abbrev pub read_line : TimeRanges → List ℕ → Result (Option Command) Kind
+read_line times line =
     if is_skipped line then Ok None
-    else if is_permitted_line line then in_line (read_words d (words_of line)) else Err Word
+    else if is_permitted_line line then in_line (read_words times (words_of line)) else Err Word

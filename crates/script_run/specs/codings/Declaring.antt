@@ -2,7 +2,10 @@
 use Rattle.std.specs.Prelude.{◌≡◌, ℕ, ◌≤◌, All, length, map, Ok, Some, []}
 use Rattle.phy_machine.specs.Any.{any_node}
 use Rattle.port_state.specs.Machine.{PortNode}
-use Rattle.cable_world.specs.World.{IsNodeAtPowerOn}
+use Rattle.port_state.specs.declared.ranges.TimeRanges.{TimeRanges}
+use Rattle.port_state.specs.TimeRanges.{AreSuitable, AreWithin}
+use Rattle.cable_world.specs.World.{IsPowered}
+use Rattle.cable_world.specs.Times.{CanBeForced}
 use Rattle.script_run.specs.declared.draft.Draft as kept
 use Rattle.script_run.specs.declared.draft.NodeLine.{NodeLine}
 use Rattle.script_lines.specs.Range.{IsNodeInRange}
@@ -11,30 +14,44 @@ use Rattle.script_told.specs.Script.{Draft, Declares, StageAnswer, declaring, ne
 abbrev pub draft_now : kept.Draft → Draft
 draft_now draft = record {
   delay = draft.delay;
+  times = draft.times;
   names = draft.names;
   nodes = map any_node draft.machines.items;
 }
+
+-- a node that was just powered on, with times in ranges
+pub record IsNode (d : ℕ) (ranges : TimeRanges) (node : PortNode) : Type 0 where
+  pub powered : IsPowered d ranges.most node.state
+  pub forced : CanBeForced d ranges.most node.state.timing
+
+-- ranges that nodes which share a bus may have, with the least of each in it
+pub record AreRanges (d : ℕ) (ranges : TimeRanges) : Type 0 where
+  pub suitable : AreSuitable d ranges
+  pub least : AreWithin ranges ranges.least
 
 -- what holds of what was declared: there are 63 nodes at most, each just powered on
 pub record IsDraft (draft : kept.Draft) : Type 0 where
   pub some_delay : 1 ≤ draft.delay
   pub short_delay : draft.delay ≤ 16
+  pub ranges : AreRanges draft.delay draft.times.ranges
   pub few : length draft.machines.items ≤ 63
   pub named : length draft.names ≡ length draft.machines.items
-  pub nodes : All (λ m. IsNodeAtPowerOn draft.delay (any_node m).state) draft.machines.items
+  pub nodes :
+      All (λ m. IsNode draft.delay draft.times.ranges (any_node m)) draft.machines.items
 
--- what a line says of a node, where a cable delays a signal by at most d ticks
-pub record IsLine (d : ℕ) (node : NodeLine) : Type 0 where
+-- what a line says of a node, where the times of nodes are in these ranges
+pub record IsLine (ranges : TimeRanges) (node : NodeLine) : Type 0 where
   pub ranged :
-      IsNodeInRange d node.ports node.attrs.speed node.attrs.power node.attrs.gap node.times.hold
+      IsNodeInRange ranges node.ports node.attrs.speed node.attrs.power node.attrs.gap node.times.hold
       node.times.short node.times.long node.coins.len
   pub no_delay : node.attrs.delay ≡ 0
 
--- the node that a line declares, where d is the delay and the node gets this number
-abbrev pub node_said : NodeLine → ℕ → ℕ → PortNode
-node_said node d number =
+-- the node that a line declares, where the times of nodes are in these ranges and the node gets this
+-- number
+abbrev pub node_said : NodeLine → TimeRanges → ℕ → PortNode
+node_said node ranges number =
     new_node node.attrs node.ports node.force
-    (times_of d node.times.hold node.times.short node.times.long)
+    (times_of ranges node.times.hold node.times.short node.times.long)
     (coins_of number node.coins.word node.coins.len node.coins.seed)
 
 -- what comes of a line that declares a node

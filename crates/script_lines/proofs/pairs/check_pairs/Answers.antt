@@ -20,6 +20,6 @@ loop-done-preserved c =
     record {
       within = inside;
       fault =
-          next_pair c.args.d c.loop-done.done c.args.pairs.now c.key-item.result c.value-item.result
+          next_pair c.args.times c.loop-done.done c.args.pairs.now c.key-item.result c.value-item.result
           inside key value (sym c.in_ok-check_pair.ensures) ∙ c.loop-done.invariant.fault;
     }

@@ -7,8 +7,8 @@ use Rattle.script_lines.proofs.pairs.number.Goals as goal
 
 pub returns-clause-ranged : goal.returns-clause-ranged
 returns-clause-ranged c =
-    let ends : ℕ × ℕ = limits c.args.d c.args.key in
+    let ends : ℕ × ℕ = limits c.args.times c.args.key in
     let Ranged : Option ℕ → Type 0 = λ r. IfSome r (IsWithin ends.0 ends.1) in
     subst Ranged (sym c.number_of.ensures)
-    (right_number c.args.d c.args.key c.args.pairs.now c.as_bytes.result.now c.requires.right
+    (right_number c.args.times c.args.key c.args.pairs.now c.as_bytes.result.now c.requires.right
     (rw c.as_bytes.ensures (sym c.in_ok-given.ensures)))
