@@ -95,8 +95,8 @@ fixed times form.manager words h w = tt
 fixed times form.plan words h w = tt
 fixed times form.maps words h w = tt
 fixed times form.delay words h w = at-place (shapes form.delay) words h w 1
-fixed times form.times_2000 words h w = (at-place (shapes form.times_2000) words h w 2).1
-fixed times form.times_1995 words h w = (at-place (shapes form.times_1995) words h w 2).1
+fixed times form.times_2000 words h w = at-place (shapes form.times_2000) words h w 2
+fixed times form.times_1995 words h w = at-place (shapes form.times_1995) words h w 2
 
 -- ---- the line of a node
 

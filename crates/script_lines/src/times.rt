@@ -3,7 +3,7 @@ ghost use Rattle.std.specs.Prelude.{◌≡◌, ◌≤◌};
 ghost use Rattle.script_lines.specs.Times.{profile_times, standard_times};
 
 use crate::kind::Kind;
-use port_state::TimeRanges;
+use port_state::{TimeRanges, ranges_suit};
 use self_id::Standard;
 
 /// The times of the nodes of a script.
@@ -37,6 +37,7 @@ impl ScriptTimes {
         requires some_time { 1 ≤ nanoseconds }
         ensures { result ≡ standard_times standard d nanoseconds }
     {
+        ranges_suit();
         match TimeRanges::of_standard(standard, d, nanoseconds) {
             Ok(ranges) => Ok(ScriptTimes {
                 ranges,

@@ -1,8 +1,14 @@
 -- What the lines before a line say.
-use Rattle.std.specs.Prelude.{ℕ, ◌==◌, ◌&&◌, nat_lt, nat_le, is_some, unwrap_or, Bool, List, [], ◌∷◌, ◌++◌, codes, Option, Some, None, if◌then◌else◌}
+use Rattle.std.specs.Prelude.{ℕ, ◌==◌, ◌&&◌, nat_lt, nat_le, is_some, unwrap_or, Bool, List, [], ◌∷◌, ◌++◌, drop, slice_index_or, codes, Option, Some, None, Result, Ok, Err, if◌then◌else◌}
 use Rattle.std.specs.List.{slice_split}
 use Rattle.std.specs.Str.{bytes_eq}
 use Rattle.std.specs.Str.Lines.{strip_carriage_return}
+use Rattle.self_id.specs.declared.standard.Standard.{Standard}
+use Rattle.self_id.specs.declared.standard.Standard.TheVariants.{Ieee1995, Ieee2000}
+use Rattle.port_state.specs.declared.ranges.TimeRanges.{TimeRanges}
+use Rattle.port_state.specs.declared.ranges.Misfit.{Misfit}
+use Rattle.port_state.specs.TimeRanges.{profile_ranges, suitable}
+use Rattle.port_state.specs.StandardTimes.{standard_ranges}
 use Rattle.script_lines.specs.Words.{words_of}
 use Rattle.script_lines.specs.Number.{number_of}
 use Rattle.script_lines.specs.Form.{word_at}
@@ -16,19 +22,67 @@ feed_lines script = slice_split (λ c. c == 10) script
 abbrev pub words_in : List ℕ → List (List ℕ)
 words_in line = words_of (strip_carriage_return line)
 
+-- the lines from the first that isn't skipped
+abbrev pub from_first : List (List ℕ) → List (List ℕ)
+from_first [] = []
+from_first (line ∷ lines) =
+    if is_skipped (strip_carriage_return line) then from_first lines else line ∷ lines
+
+-- the words of the first line that isn't skipped, or none
+abbrev pub first_words : List (List ℕ) → List (List ℕ)
+first_words lines = words_in (slice_index_or (from_first lines) 0 [])
+
 -- ---- the delay
+
+abbrev pub is_delay : List (List ℕ) → Bool
+is_delay words = bytes_eq (word_at words 0) (codes "delay")
 
 -- the delay that a line says, or the usual one
 abbrev pub delay_said : List (List ℕ) → ℕ
 delay_said words =
     let n : ℕ = unwrap_or (number_of (word_at words 1)) 0 in
-    if bytes_eq (word_at words 0) (codes "delay") && (nat_le 1 n && nat_le n 16) then n else 4
+    if is_delay words && (nat_le 1 n && nat_le n 16) then n else 4
 
 -- the delay of a script: the first line that isn't skipped says it, or it is 4
 abbrev pub delay_of : List (List ℕ) → ℕ
-delay_of [] = 4
-delay_of (line ∷ lines) =
-    if is_skipped (strip_carriage_return line) then delay_of lines else delay_said (words_in line)
+delay_of lines = delay_said (first_words lines)
+
+-- ---- the times of nodes
+
+-- the standard that a word names
+abbrev pub standard_named : List ℕ → Option Standard
+standard_named word =
+    if bytes_eq word (codes "1394a") then Some Ieee2000
+    else if bytes_eq word (codes "1394-1995") then Some Ieee1995 else None
+
+-- the ranges of a standard, where d ticks are so many nanoseconds, or why they don't suit
+abbrev pub ranges_by : ℕ → Option Standard → ℕ → Option (Result TimeRanges Misfit)
+ranges_by d None nanoseconds = None
+ranges_by d (Some standard) nanoseconds =
+    if nat_lt 0 nanoseconds then Some (suitable d (standard_ranges standard d nanoseconds)) else None
+
+-- those that a line says
+abbrev pub times_said : ℕ → List (List ℕ) → Option (Result TimeRanges Misfit)
+times_said d words =
+    if bytes_eq (word_at words 0) (codes "times") then
+    ranges_by d (standard_named (word_at words 1)) (unwrap_or (number_of (word_at words 2)) 0)
+    else None
+
+-- the ranges, where they suit, or else the profile's
+abbrev pub or_profile : ℕ → Option (Result TimeRanges Misfit) → TimeRanges
+or_profile d None = profile_ranges d
+or_profile d (Some (Ok ranges)) = ranges
+or_profile d (Some (Err misfit)) = profile_ranges d
+
+-- the line that may say them: the first that isn't skipped, or the next where that says the delay
+abbrev pub times_words : List (List ℕ) → List (List ℕ)
+times_words lines =
+    if is_delay (first_words lines) then first_words (drop 1 (from_first lines))
+    else first_words lines
+
+-- the ranges of the times of a script's nodes
+abbrev pub ranges_of : List (List ℕ) → TimeRanges
+ranges_of lines = or_profile (delay_of lines) (times_said (delay_of lines) (times_words lines))
 
 -- ---- nodes
 

@@ -2,6 +2,7 @@
 use Rattle.std.specs.Prelude.{ℕ, ◌+◌, ◌-◌, ◌==◌, ◌&&◌, not, nat_lt, false, List, [], ◌++◌, length, drop, position, slice_index, codes, Option, Some, None, if◌then◌else◌}
 use Rattle.std.specs.Str.{bytes_eq}
 use Rattle.topology_stack.specs.Hex.{hex}
+use Rattle.port_state.specs.declared.ranges.TimeRanges.{TimeRanges}
 use Rattle.script_lines.specs.Words.{words_of, is_permitted}
 use Rattle.script_lines.specs.Form.{word_at}
 use Rattle.script_words.specs.Column.{field, found}
@@ -21,7 +22,7 @@ byte_sentence byte place =
 
 abbrev pub verbs_wanted : List ℕ
 verbs_wanted =
-    codes "delay, node, plug, pull, reset, turn, hold, settle, config, csr, look, allocate, release, manager, plan or maps.\n"
+    codes "delay, times, node, plug, pull, reset, turn, hold, settle, config, csr, look, allocate, release, manager, plan or maps.\n"
 
 -- the usages for which so many words may stand
 abbrev pub usages_wanted : ℕ → List (List ℕ) → List ℕ
@@ -56,21 +57,21 @@ shape_wanted u None =
 shape_wanted u (Some range) = u ++ (codes ": " ++ range_wanted range)
 
 -- the first word at fault behind the ports of a `node` line
-abbrev pub value_at : ℕ → List ℕ → List (List ℕ) → ℕ → List ℕ
-value_at d line words at = found line words (3 + at) ++ value_wanted d (word_at words (2 + at))
+abbrev pub value_at : TimeRanges → List ℕ → List (List ℕ) → ℕ → List ℕ
+value_at times line words at = found line words (3 + at) ++ value_wanted times (word_at words (2 + at))
 
-abbrev pub pair_value : ℕ → List ℕ → List (List ℕ) → List ℕ
-pair_value d line words = value_at d line words (valued d (drop 3 words))
+abbrev pub pair_value : TimeRanges → List ℕ → List (List ℕ) → List ℕ
+pair_value times line words = value_at times line words (valued times (drop 3 words))
 
 -- the first word at fault of a line that has a usage, by the usage's words
-abbrev pub value_sentence : ℕ → List ℕ → List (List ℕ) → List (List ℕ) → List ℕ
-value_sentence d line us words = from (right us words)
+abbrev pub value_sentence : TimeRanges → List ℕ → List (List ℕ) → List (List ℕ) → List ℕ
+value_sentence times line us words = from (right us words)
   where
     from : ℕ → List ℕ
     from n =
         if nat_lt n (length us) then
         found line words n ++ shape_wanted (word_at us n) (range_of (word_at us n))
-        else pair_value d line words
+        else pair_value times line words
 
 -- the words of the usage that a line's words have
 abbrev pub usage_words : List (List ℕ) → List (List ℕ)

@@ -1,32 +1,34 @@
 -- Which word of the pairs of a `node` line is at fault.
-use Rattle.std.specs.Prelude.{ℕ, ◌+◌, ◌*◌, ◌||◌, not, is_some, Bool, true, false, List, [], ◌∷◌, ◌++◌, codes, Option, Some, None, if◌then◌else◌}
+use Rattle.std.specs.Prelude.{ℕ, ◌+◌, ◌||◌, not, is_some, Bool, true, false, List, [], ◌∷◌, ◌++◌, codes, Option, Some, None, if◌then◌else◌}
 use Rattle.std.specs.Str.{bytes_eq}
+use Rattle.port_state.specs.declared.ranges.TimeRanges.{TimeRanges}
+use Rattle.port_state.specs.TimeRanges.{profile_ranges}
 use Rattle.script_lines.specs.Shape.{wrong_number}
 use Rattle.script_lines.specs.Coins.{are_coins}
 use Rattle.script_words.specs.Column.{field}
 
 -- ---- keys
 
--- the least and the greatest number behind a key, where a cable delays by at most d turns; coins and a
--- kind are no numbers
-abbrev pub limits_of : ℕ → List ℕ → Option (ℕ × ℕ)
-limits_of d key =
+-- the least and the greatest number behind a key, where the times of nodes are in these ranges; coins
+-- and a kind are no numbers
+abbrev pub limits_of : TimeRanges → List ℕ → Option (ℕ × ℕ)
+limits_of times key =
     if bytes_eq key (codes "speed") then Some (0, 2)
     else if bytes_eq key (codes "link") then Some (0, 1)
     else if bytes_eq key (codes "contender") then Some (0, 1)
     else if bytes_eq key (codes "force") then Some (0, 1)
     else if bytes_eq key (codes "power") then Some (0, 7)
     else if bytes_eq key (codes "gap") then Some (0, 63)
-    else if bytes_eq key (codes "hold") then Some (64 * d, 80 * d)
-    else if bytes_eq key (codes "short") then Some (3 * d, 4 * d)
-    else if bytes_eq key (codes "long") then Some (8 * d, 10 * d)
+    else if bytes_eq key (codes "hold") then Some (times.least.hold, times.most.hold)
+    else if bytes_eq key (codes "short") then Some (times.least.short, times.most.short)
+    else if bytes_eq key (codes "long") then Some (times.least.long, times.most.long)
     else if bytes_eq key (codes "coins") then Some (0, 4294967295)
     else if bytes_eq key (codes "seed") then Some (0, 4294967295)
     else if bytes_eq key (codes "kind") then Some (0, 4294967295)
     else None
 
 abbrev pub is_key : List ℕ → Bool
-is_key word = is_some (limits_of 1 word)
+is_key word = is_some (limits_of (profile_ranges 1) word)
 
 -- a key, and a word that may stand behind it
 abbrev pub is_pair : List ℕ → List ℕ → Bool
@@ -66,17 +68,17 @@ abbrev pub is_outside : Option (ℕ × ℕ) → List ℕ → Bool
 is_outside None value = false
 is_outside (Some range) value = is_some (wrong_number range.0 range.1 value)
 
-abbrev pub is_fault : ℕ → List ℕ → List ℕ → Bool
-is_fault d key value =
+abbrev pub is_fault : TimeRanges → List ℕ → List ℕ → Bool
+is_fault times key value =
     if bytes_eq key (codes "kind") then false
     else if bytes_eq key (codes "coins") then not (are_coins value)
-    else is_outside (limits_of d key) value
+    else is_outside (limits_of times key) value
 
 -- how many words stand before the first value at fault
-abbrev pub valued : ℕ → List (List ℕ) → ℕ
-valued d [] = 0
-valued d (key ∷ []) = 0
-valued d (key ∷ value ∷ words) = if is_fault d key value then 1 else 2 + valued d words
+abbrev pub valued : TimeRanges → List (List ℕ) → ℕ
+valued times [] = 0
+valued times (key ∷ []) = 0
+valued times (key ∷ value ∷ words) = if is_fault times key value then 1 else 2 + valued times words
 
 -- the range of a key's numbers
 abbrev pub range_wanted : ℕ × ℕ → List ℕ
@@ -88,10 +90,10 @@ limits_wanted None = keys_wanted
 limits_wanted (Some range) = range_wanted range
 
 -- what may stand behind a key
-unfoldable pub value_wanted : ℕ → List ℕ → List ℕ
-value_wanted d key =
+unfoldable pub value_wanted : TimeRanges → List ℕ → List ℕ
+value_wanted times key =
     if bytes_eq key (codes "coins") then codes "1 to 64 coins, each 0 or 1.\n"
-    else limits_wanted (limits_of d key)
+    else limits_wanted (limits_of times key)
 
 -- ---- a key that stands twice
 

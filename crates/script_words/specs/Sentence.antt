@@ -1,14 +1,17 @@
 -- What was found and what was wanted where a script is refused, in a sentence.
-use Rattle.std.specs.Prelude.{ℕ, ◌-◌, is_some, unwrap_or, List, [], ◌++◌, take, slice_index_or, codes, Option, Some, None, if◌then◌else◌}
+use Rattle.std.specs.Prelude.{ℕ, ◌-◌, is_some, unwrap_or, List, [], ◌++◌, take, slice_index_or, codes, Option, Some, None, Result, Ok, Err, if◌then◌else◌}
 use Rattle.std.specs.Str.{bytes_eq}
 use Rattle.std.specs.Str.Lines.{strip_carriage_return}
+use Rattle.port_state.specs.declared.ranges.TimeRanges.{TimeRanges}
+use Rattle.port_state.specs.declared.ranges.Misfit.{Misfit}
+use Rattle.port_state.specs.declared.ranges.Misfit.TheVariants.{Uncounted, ShortHold, ShortWait, CloseWaits, ShortForce}
 use Rattle.script_lines.specs.Words.{words_of}
 use Rattle.script_lines.specs.Form.{word_at}
 use Rattle.script_lines.specs.declared.kind.Kind.{Kind}
 use Rattle.script_lines.specs.declared.kind.Kind.TheVariants.{Word, Number, Name, Twice, Late, TooManyNodes, NoNode, NoPort, InUse, SameNode, NotPlugged, Range, NotSettled, NoManager, NotManager, TooManyTurns, TooManyMaps}
 use Rattle.script_lines.specs.declared.kind.ScriptFault.{ScriptFault}
 use Rattle.script_words.specs.Column.{field, found}
-use Rattle.script_words.specs.Before.{feed_lines, delay_of, ports_of, names_in, is_port}
+use Rattle.script_words.specs.Before.{feed_lines, delay_of, times_said, ranges_of, ports_of, names_in, is_port}
 use Rattle.script_words.specs.LineSentence.{word_sentence, value_sentence, usage_words, twice_sentence}
 
 -- ---- names and ports
@@ -41,7 +44,9 @@ no_port_at lines line words place =
 abbrev pub late_wanted : List (List ℕ) → List ℕ
 late_wanted words =
     if bytes_eq (word_at words 0) (codes "delay") then codes "it before all other commands.\n"
-    else codes "it before all commands but delay and node.\n"
+    else if bytes_eq (word_at words 0) (codes "times") then
+    codes "it once, before all commands but delay.\n"
+    else codes "it before all commands but delay, times and node.\n"
 
 abbrev pub bus_wanted : Kind → List ℕ
 bus_wanted TooManyNodes = codes "63 nodes at most.\n"
@@ -66,31 +71,67 @@ whole_sentence kind = []
 abbrev pub at_place : List ℕ → List (List ℕ) → ℕ → Kind → List ℕ
 at_place line words place kind = found line words place ++ bus_wanted kind
 
-abbrev pub sentence_of : ℕ → List (List ℕ) → List ℕ → List (List ℕ) → Kind → List ℕ
-sentence_of d lines line words Word = word_sentence line
-sentence_of d lines line words Number = value_sentence d line (usage_words words) words
-sentence_of d lines line words Name = value_sentence d line (usage_words words) words
-sentence_of d lines line words Range = value_sentence d line (usage_words words) words
-sentence_of d lines line words Twice = twice_sentence line words
-sentence_of d lines line words Late = found line words 0 ++ late_wanted words
-sentence_of d lines line words NoNode = no_node_sentence lines line words
-sentence_of d lines line words NoPort = no_port_at lines line words (port_place lines words)
-sentence_of d lines line words TooManyNodes = at_place line words 0 TooManyNodes
-sentence_of d lines line words SameNode = at_place line words 3 SameNode
-sentence_of d lines line words NotPlugged = at_place line words 2 NotPlugged
-sentence_of d lines line words NotSettled = at_place line words 1 NotSettled
-sentence_of d lines line words NoManager = at_place line words 1 NoManager
-sentence_of d lines line words NotManager = at_place line words 1 NotManager
-sentence_of d lines line words InUse = whole_sentence InUse
-sentence_of d lines line words TooManyTurns = whole_sentence TooManyTurns
-sentence_of d lines line words TooManyMaps = whole_sentence TooManyMaps
+-- ---- times that don't suit
+
+unfoldable pub too_slow : List ℕ → List ℕ
+too_slow standard = codes "Cables are too slow for " ++ (standard ++ codes ".\n")
+
+unfoldable pub too_slow_or_long : List ℕ → List ℕ
+too_slow_or_long standard =
+    codes "Cables are too slow for " ++ (standard ++ codes ", or ticks too long.\n")
+
+-- which inequality fails, where d ticks are the delay of a cable
+abbrev pub misfit_wanted : ℕ → List ℕ → Misfit → List ℕ
+misfit_wanted d standard Uncounted =
+    codes "times of at most 65535 ticks, which a node can count. Ticks are too short.\n"
+misfit_wanted d standard ShortHold =
+    field (codes "holds of at least 64 x ") d
+    ++ (codes " ticks, the way over 64 cables. " ++ too_slow standard)
+misfit_wanted d standard ShortWait =
+    field (codes "short waits of a contention longer than 2 x ") d
+    ++ (codes " ticks, the way over a cable and back. " ++ too_slow_or_long standard)
+misfit_wanted d standard CloseWaits =
+    field (codes "long waits of a contention longer than short ones by at least 2 x ") d
+    ++ (codes " ticks, the way over a cable and back. " ++ too_slow_or_long standard)
+misfit_wanted d standard ShortForce =
+    field (codes "forced nodes that wait, with their hold, longer than the longest hold and 127 x ") d
+    ++ (codes " ticks, the way over 127 cables. " ++ too_slow standard)
+
+-- a number is out of its range, or the times that a line says don't suit
+abbrev pub range_sentence : ℕ → TimeRanges → List ℕ → List (List ℕ) → List ℕ
+range_sentence d times line words = by (times_said d words)
+  where
+    by : Option (Result TimeRanges Misfit) → List ℕ
+    by (Some (Err misfit)) = found line words 2 ++ misfit_wanted d (word_at words 1) misfit
+    by said = value_sentence times line (usage_words words) words
+
+-- ---- all kinds
+
+abbrev pub sentence_of : ℕ → TimeRanges → List (List ℕ) → List ℕ → List (List ℕ) → Kind → List ℕ
+sentence_of d times lines line words Word = word_sentence line
+sentence_of d times lines line words Number = value_sentence times line (usage_words words) words
+sentence_of d times lines line words Name = value_sentence times line (usage_words words) words
+sentence_of d times lines line words Range = range_sentence d times line words
+sentence_of d times lines line words Twice = twice_sentence line words
+sentence_of d times lines line words Late = found line words 0 ++ late_wanted words
+sentence_of d times lines line words NoNode = no_node_sentence lines line words
+sentence_of d times lines line words NoPort = no_port_at lines line words (port_place lines words)
+sentence_of d times lines line words TooManyNodes = at_place line words 0 TooManyNodes
+sentence_of d times lines line words SameNode = at_place line words 3 SameNode
+sentence_of d times lines line words NotPlugged = at_place line words 2 NotPlugged
+sentence_of d times lines line words NotSettled = at_place line words 1 NotSettled
+sentence_of d times lines line words NoManager = at_place line words 1 NoManager
+sentence_of d times lines line words NotManager = at_place line words 1 NotManager
+sentence_of d times lines line words InUse = whole_sentence InUse
+sentence_of d times lines line words TooManyTurns = whole_sentence TooManyTurns
+sentence_of d times lines line words TooManyMaps = whole_sentence TooManyMaps
 
 -- the sentence of a fault in a script of these lines: the lines before it, and the line
 abbrev pub sentence_in : List (List ℕ) → ScriptFault → List ℕ
 sentence_in script fault =
     let lines : List (List ℕ) = take (fault.line - 1) script in
     let line : List ℕ = strip_carriage_return (slice_index_or script (fault.line - 1) []) in
-    sentence_of (delay_of script) lines line (words_of line) fault.kind
+    sentence_of (delay_of script) (ranges_of script) lines line (words_of line) fault.kind
 
 abbrev pub sentence : List ℕ → ScriptFault → List ℕ
 sentence script fault = sentence_in (feed_lines script) fault

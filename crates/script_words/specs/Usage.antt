@@ -15,7 +15,8 @@ usages =
     ∷ codes "csr NAME read OFFSET" ∷ codes "csr NAME write OFFSET VALUE"
     ∷ codes "csr NAME lock OFFSET KIND ARG VALUE" ∷ codes "look NAME"
     ∷ codes "allocate NAME CHANNEL UNITS" ∷ codes "release NAME CHANNEL UNITS"
-    ∷ codes "manager NAME" ∷ codes "plan NAME" ∷ codes "maps NAME" ∷ codes "delay D" ∷ []
+    ∷ codes "manager NAME" ∷ codes "plan NAME" ∷ codes "maps NAME" ∷ codes "delay D"
+    ∷ codes "times 1394a NANOSECONDS" ∷ codes "times 1394-1995 NANOSECONDS" ∷ []
 
 -- the least and the greatest number that a word in capitals stands for
 abbrev pub range_of : List ℕ → Option (ℕ × ℕ)
@@ -33,6 +34,7 @@ range_of word =
     else if bytes_eq word (codes "CHANNEL") then Some (0, 63)
     else if bytes_eq word (codes "UNITS") then Some (0, 4915)
     else if bytes_eq word (codes "D") then Some (1, 16)
+    else if bytes_eq word (codes "NANOSECONDS") then Some (1, 4294967295)
     else None
 
 -- these two may be left out, by a `-`
