@@ -6,7 +6,7 @@ use Rattle.self_id.specs.declared.standard.Standard.{Standard}
 use Rattle.self_id.specs.declared.standard.Standard.TheVariants.{Ieee1995, Ieee2000}
 use Rattle.port_state.specs.declared.timing.Timing.{Timing}
 use Rattle.port_state.specs.declared.ranges.TimeRanges.{TimeRanges}
-use Rattle.port_state.specs.TimeRanges.{AreSuitable}
+use Rattle.port_state.specs.TimeRanges.{AreWithin, AreSuitable}
 
 -- from the least to the greatest, where only the waits of a contention differ
 abbrev pub nanoseconds : Standard → TimeRanges
@@ -56,3 +56,15 @@ FineTicksAreSuitable standard most =
 abbrev pub CoarseTicksAreSuitable : Standard → ℕ → Type 0
 CoarseTicksAreSuitable standard most =
     (ns : ℕ) → 11 ≤ ns → ns ≤ most → AreSuitable 4 (standard_ranges standard 4 ns)
+
+-- the least times of a standard are in its ranges
+abbrev pub LeastIsWithin : Type 0
+LeastIsWithin =
+    (standard : Standard) (d ns : ℕ) → 1 ≤ ns →
+    AreWithin (standard_ranges standard d ns) (standard_ranges standard d ns).least
+
+-- where the ranges suit, d ticks are at most 65,535 nanoseconds
+abbrev pub DelaysAreFew : Type 0
+DelaysAreFew =
+    (standard : Standard) (d ns : ℕ) → 1 ≤ ns → d ≤ 16 →
+    AreSuitable d (standard_ranges standard d ns) → ns ≤ 65535

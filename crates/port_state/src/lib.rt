@@ -28,7 +28,7 @@ pub use machine::PortMachine;
 pub use port_set::PortSet;
 pub use port_tests::PortTests;
 pub use ports::{PortView, PortViews};
-pub use range_laws::{ranges_are_suitable, standard_ranges_are_suitable};
+pub use range_laws::{ranges_are_suitable, standard_ranges_are_suitable, standard_times_are_few};
 pub use ranges::{Misfit, TimeRanges};
 pub use sends::{Sends, Sent};
 pub use signal::{Level, Phase, Signal};

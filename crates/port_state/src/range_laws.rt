@@ -3,6 +3,7 @@ ghost use Rattle.self_id.specs.declared.standard.Standard.TheVariants.{Ieee1995,
 ghost use Rattle.port_state.specs.TimeRanges.{FitsAreSuitable, SuitableRangesFit};
 ghost use Rattle.port_state.specs.TimeRanges.{ProfileIsSuitable, ProfileIsInRange};
 ghost use Rattle.port_state.specs.StandardTimes.{FineTicksAreSuitable, CoarseTicksAreSuitable};
+ghost use Rattle.port_state.specs.StandardTimes.{LeastIsWithin, DelaysAreFew};
 
 /// Ranges are handed out exactly where they are suitable. Those of the profile are.
 pub fn ranges_are_suitable()
@@ -20,4 +21,11 @@ pub fn standard_ranges_are_suitable()
     ensures fine_older { FineTicksAreSuitable Ieee1995 116 }
     ensures coarse { CoarseTicksAreSuitable Ieee2000 334 }
     ensures coarse_older { CoarseTicksAreSuitable Ieee1995 106 }
+{}
+
+/// The least times of a standard are in its ranges. Where these suit, the delay of a cable is at most
+/// 65,535 nanoseconds.
+pub fn standard_times_are_few()
+    ensures least { LeastIsWithin }
+    ensures few { DelaysAreFew }
 {}

@@ -3,7 +3,7 @@ ghost use Rattle.std.specs.Prelude.{◌≡◌, ◌≤◌};
 ghost use Rattle.script_lines.specs.Times.{profile_times, standard_times};
 
 use crate::kind::Kind;
-use port_state::{TimeRanges, ranges_suit};
+use port_state::{TimeRanges, ranges_are_suitable, standard_times_are_few};
 use self_id::Standard;
 
 /// The times of the nodes of a script.
@@ -37,7 +37,8 @@ impl ScriptTimes {
         requires some_time { 1 ≤ nanoseconds }
         ensures { result ≡ standard_times standard d nanoseconds }
     {
-        ranges_suit();
+        ranges_are_suitable();
+        standard_times_are_few();
         match TimeRanges::of_standard(standard, d, nanoseconds) {
             Ok(ranges) => Ok(ScriptTimes {
                 ranges,

@@ -1,10 +1,10 @@
 //! What the lines before a line say.
-ghost use Rattle.std.specs.Prelude.{◌≡◌, ◌≤◌, ◌++◌, OnOk, IfOk, codes};
+ghost use Rattle.std.specs.Prelude.{◌≡◌, ◌++◌, OnOk, IfOk, codes};
 ghost use Rattle.std.specs.Str.Lines.{strip_carriage_return};
-ghost use Rattle.script_words.specs.Before.{words_in, delay_said, delay_of, is_node_line, declares, ports_of, names_in, is_port};
+ghost use Rattle.script_words.specs.Before.{words_in, is_node_line, declares, ports_of, names_in, is_port};
 
 use crate::text::{Text, same, word_at, words_of};
-use script_lines::{number_of, says_nothing};
+use script_lines::number_of;
 use std::alloc::Global;
 use topology_stack::OutOfMemory;
 
@@ -19,39 +19,10 @@ pub(crate) fn without_return(line: &[u8]) -> &[u8]
 }
 
 /// The words of a line.
-fn words_in<'a>(alloc: Global, line: &Text<'a>) -> Result<Vec<Text<'a>>, OutOfMemory>
+pub(crate) fn words_in<'a>(alloc: Global, line: &Text<'a>) -> Result<Vec<Text<'a>>, OutOfMemory>
     ensures { IfOk result (λ words. words.items ≡ words_in line.now) }
 {
     words_of(alloc, without_return(line.as_bytes()))
-}
-
-/// The delay that a line says, or the usual one.
-fn delay_said(words: &[Text]) -> u8
-    ensures value { result ≡ delay_said words.now }
-    ensures some { 1 ≤ result }
-    ensures few { result ≤ 16 }
-{
-    let n = number_of(word_at(words, 1)).unwrap_or(0);
-    if same(word_at(words, 0), b"delay") && (1..=16).contains(&n) {
-        n as u8
-    } else {
-        4
-    }
-}
-
-/// The delay of a script of these lines, 1 to 16.
-pub(crate) fn delay_of(alloc: Global, lines: &[Text]) -> Result<u8, OutOfMemory>
-    ensures value { IfOk result (λ d. d ≡ delay_of lines.now) }
-    ensures some { IfOk result (λ d. 1 ≤ d) }
-    ensures few { IfOk result (λ d. d ≤ 16) }
-{
-    for line in lines {
-        if !says_nothing(line.as_bytes()) {
-            let words = words_in(alloc, line)?;
-            return Ok(delay_said(words.as_slice()));
-        }
-    }
-    Ok(4)
 }
 
 /// Whether words are those of a `node` line.

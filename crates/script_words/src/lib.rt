@@ -8,6 +8,7 @@ mod fit;
 mod laws;
 mod line_sentence;
 mod pairs;
+mod said;
 mod sentence;
 mod text;
 mod usage;

@@ -12,6 +12,7 @@ use crate::fit::{first_of, furthest, put_all_of, right};
 use crate::pairs::{distinct, paired, put_range, put_value_wanted, valued};
 use crate::text::{Text, word_at, words_of};
 use crate::usage::range_of;
+use port_state::TimeRanges;
 use std::alloc::Global;
 use topology_stack::{OutOfMemory, put_hex};
 
@@ -49,7 +50,7 @@ fn put_usages_wanted(
 {
     if n == 0 {
         return out.extend_from_slice(
-            b"delay, node, plug, pull, reset, turn, hold, settle, config, csr, look, allocate, release, manager, plan or maps.\n",
+            b"delay, times, node, plug, pull, reset, turn, hold, settle, config, csr, look, allocate, release, manager, plan or maps.\n",
         );
     }
     put_all_of(alloc, out, n, words)?;
@@ -135,30 +136,33 @@ fn put_shape_wanted(out: &mut Vec<u8>, wanted: &[u8]) -> Result<(), OutOfMemory>
 }
 
 /// Appends the sentence on the first value at fault of a `node` line.
-fn put_pair_value(out: &mut Vec<u8>, d: u8, line: &[u8], words: &[Text]) -> Result<(), OutOfMemory>
-    requires delay { d ≤ 16 }
-    ensures { OnOk result (out.new.items ≡ out.old.items ++ pair_value d line.now words.now) }
+fn put_pair_value(
+    out: &mut Vec<u8>,
+    times: TimeRanges,
+    line: &[u8],
+    words: &[Text],
+) -> Result<(), OutOfMemory>
+    ensures { OnOk result (out.new.items ≡ out.old.items ++ pair_value times line.now words.now) }
 {
     let at = match words {
-        [_, _, _, pairs @ ..] => valued(d, pairs),
+        [_, _, _, pairs @ ..] => valued(times, pairs),
         _ => 0,
     };
     put_found(out, line, words, 3 + at)?;
-    put_value_wanted(out, d, word_at(words, 2 + at))?;
+    put_value_wanted(out, times, word_at(words, 2 + at))?;
     Ok(())
 }
 
 /// Appends the sentence on the first word at fault of a line that has the usage of these words.
 fn put_usage_value(
     out: &mut Vec<u8>,
-    d: u8,
+    times: TimeRanges,
     line: &[u8],
     wanted: &[Text],
     words: &[Text],
 ) -> Result<(), OutOfMemory>
-    requires delay { d ≤ 16 }
     ensures { OnOk result (out.new.items
-        ≡ out.old.items ++ value_sentence d line.now wanted.now words.now) }
+        ≡ out.old.items ++ value_sentence times line.now wanted.now words.now) }
 {
     let n = right(wanted, words);
     if n < wanted.len() {
@@ -166,25 +170,24 @@ fn put_usage_value(
         put_shape_wanted(out, word_at(wanted, n))?;
         return Ok(());
     }
-    put_pair_value(out, d, line, words)
+    put_pair_value(out, times, line, words)
 }
 
 /// Appends the sentence on the first word at fault of a line that has a form.
 pub(crate) fn put_value_sentence(
     alloc: Global,
     out: &mut Vec<u8>,
-    d: u8,
+    times: TimeRanges,
     line: &[u8],
     words: &[Text],
 ) -> Result<(), OutOfMemory>
-    requires delay { d ≤ 16 }
     ensures { OnOk result (out.new.items
-        ≡ out.old.items ++ value_sentence d line.now (usage_words words.now) words.now) }
+        ≡ out.old.items ++ value_sentence times line.now (usage_words words.now) words.now) }
 {
     let n = furthest(alloc, words)?;
     let usage = first_of(alloc, n, words)?;
     let wanted = words_of(alloc, usage)?;
-    put_usage_value(out, d, line, wanted.as_slice(), words)
+    put_usage_value(out, times, line, wanted.as_slice(), words)
 }
 
 /// How many words stand before the first key of a `node` line that stands twice.

@@ -7,15 +7,15 @@ ghost use Rattle.script_words.specs.Pairs.{limits_of, is_key, is_pair, paired, k
 use crate::column::put_field;
 use crate::text::{Text, same};
 use crate::usage::is_out;
+use port_state::TimeRanges;
 use topology_stack::OutOfMemory;
 
-/// The least and the greatest number behind a key, where a cable delays by at most `d` turns, 1 to 16.
-/// Coins and a kind are no numbers.
-fn limits_of(d: u8, key: &[u8]) -> Option<(u32, u32)>
-    requires { d ≤ 16 }
-    ensures { result ≡ limits_of d key.now }
+/// The least and the greatest number behind a key, where the times of nodes are in these ranges. Coins
+/// and a kind are no numbers.
+fn limits_of(times: TimeRanges, key: &[u8]) -> Option<(u32, u32)>
+    ensures { result ≡ limits_of times key.now }
 {
-    let d = u32::from(d);
+    let TimeRanges { least, most } = times;
     if same(key, b"speed") {
         Some((0, 2))
     } else if same(key, b"link") {
@@ -29,11 +29,11 @@ fn limits_of(d: u8, key: &[u8]) -> Option<(u32, u32)>
     } else if same(key, b"gap") {
         Some((0, 63))
     } else if same(key, b"hold") {
-        Some((64 * d, 80 * d))
+        Some((u32::from(least.hold), u32::from(most.hold)))
     } else if same(key, b"short") {
-        Some((3 * d, 4 * d))
+        Some((u32::from(least.short), u32::from(most.short)))
     } else if same(key, b"long") {
-        Some((8 * d, 10 * d))
+        Some((u32::from(least.long), u32::from(most.long)))
     } else if same(key, b"coins") {
         Some((0, u32::MAX))
     } else if same(key, b"seed") {
@@ -48,7 +48,7 @@ fn limits_of(d: u8, key: &[u8]) -> Option<(u32, u32)>
 fn is_key(word: &[u8]) -> bool
     ensures { result ≡ is_key word.now }
 {
-    limits_of(1, word).is_some()
+    limits_of(TimeRanges::profile(1), word).is_some()
 }
 
 fn is_pair(key: &[u8], value: &[u8]) -> bool
@@ -115,9 +115,8 @@ fn are_coins(text: &[u8]) -> bool
 }
 
 /// Whether a word behind a key is at fault.
-fn is_fault(d: u8, key: &[u8], value: &[u8]) -> bool
-    requires { d ≤ 16 }
-    ensures { result ≡ is_fault d key.now value.now }
+fn is_fault(times: TimeRanges, key: &[u8], value: &[u8]) -> bool
+    ensures { result ≡ is_fault times key.now value.now }
 {
     if same(key, b"kind") {
         return false;
@@ -125,22 +124,21 @@ fn is_fault(d: u8, key: &[u8], value: &[u8]) -> bool
     if same(key, b"coins") {
         return !are_coins(value);
     }
-    match limits_of(d, key) {
+    match limits_of(times, key) {
         None => false,
         Some((least, most)) => is_out(value, least, most),
     }
 }
 
 /// How many words stand before the first value at fault.
-pub(crate) fn valued(d: u8, words: &[Text]) -> usize
-    requires { d ≤ 16 }
-    ensures value { result ≡ valued d words.now }
+pub(crate) fn valued(times: TimeRanges, words: &[Text]) -> usize
+    ensures value { result ≡ valued times words.now }
     ensures few { result ≤ length words.now }
 {
     let mut n = 0;
     let mut rest = words;
     while let [key, value, behind @ ..] = rest {
-        if is_fault(d, key.as_bytes(), value.as_bytes()) {
+        if is_fault(times, key.as_bytes(), value.as_bytes()) {
             return n + 1;
         }
         n += 2;
@@ -161,14 +159,13 @@ pub(crate) fn put_range(out: &mut Vec<u8>, least: u32, most: u32) -> Result<(), 
 
 /// Appends what may stand behind a key.
 #[tactic(auto, unfolding(crate::specs::Pairs::value_wanted))]
-pub(crate) fn put_value_wanted(out: &mut Vec<u8>, d: u8, key: &[u8]) -> Result<(), OutOfMemory>
-    requires { d ≤ 16 }
-    ensures { OnOk result (out.new.items ≡ out.old.items ++ value_wanted d key.now) }
+pub(crate) fn put_value_wanted(out: &mut Vec<u8>, times: TimeRanges, key: &[u8]) -> Result<(), OutOfMemory>
+    ensures { OnOk result (out.new.items ≡ out.old.items ++ value_wanted times key.now) }
 {
     if same(key, b"coins") {
         return out.extend_from_slice(b"1 to 64 coins, each 0 or 1.\n");
     }
-    match limits_of(d, key) {
+    match limits_of(times, key) {
         None => out.extend_from_slice(KEYS),
         Some((least, most)) => put_range(out, least, most),
     }

@@ -5,13 +5,15 @@ ghost use Rattle.script_lines.specs.Words.{words_of};
 ghost use Rattle.script_words.specs.Column.{found};
 ghost use Rattle.script_words.specs.Before.{feed_lines};
 ghost use Rattle.script_words.specs.LineFault.{IsLineFault, IsFaultAt};
-ghost use Rattle.script_words.specs.Sentence.{name_place, no_node_sentence, port_place, ports_wanted, no_port_at, late_wanted, bus_wanted, whole_sentence, sentence_of, sentence_in, sentence};
+ghost use Rattle.script_words.specs.Sentence.{name_place, no_node_sentence, port_place, ports_wanted, no_port_at, late_wanted, bus_wanted, whole_sentence, too_slow, too_slow_or_long, misfit_wanted, range_sentence, sentence_of, sentence_in, sentence};
 
-use crate::before::{delay_of, is_port, ports_of, put_names, without_return};
+use crate::before::{is_port, ports_of, put_names, without_return};
 use crate::column::{put_field, put_found};
 use crate::line_sentence::{put_twice_sentence, put_value_sentence, put_word_sentence};
+use crate::said::{Said, said, times_said};
 use crate::text::{Text, lines_of, same, word_at, words_of};
-use script_lines::{Kind, LineStop, ScriptFault, parse_line};
+use port_state::{Misfit, TimeRanges};
+use script_lines::{Kind, LineStop, ScriptFault, parse_line_with};
 use std::alloc::Global;
 use std::marker::Model;
 use topology_stack::OutOfMemory;
@@ -109,8 +111,10 @@ fn late_wanted(words: &[Text]) -> &'static [u8]
 {
     if same(word_at(words, 0), b"delay") {
         b"it before all other commands.\n"
+    } else if same(word_at(words, 0), b"times") {
+        b"it once, before all commands but delay.\n"
     } else {
-        b"it before all commands but delay and node.\n"
+        b"it before all commands but delay, times and node.\n"
     }
 }
 
@@ -165,26 +169,113 @@ fn whole_sentence(kind: Kind) -> &'static [u8]
     }
 }
 
+/// Appends that cables are too slow for a standard.
+#[tactic(auto, unfolding(crate::specs::Sentence::too_slow))]
+fn put_too_slow(out: &mut Vec<u8>, standard: &[u8]) -> Result<(), OutOfMemory>
+    ensures { OnOk result (out.new.items ≡ out.old.items ++ too_slow standard.now) }
+{
+    out.extend_from_slice(b"Cables are too slow for ")?;
+    out.extend_from_slice(standard)?;
+    out.extend_from_slice(b".\n")?;
+    Ok(())
+}
+
+/// Appends that cables are too slow for a standard, or ticks too long.
+#[tactic(auto, unfolding(crate::specs::Sentence::too_slow_or_long))]
+fn put_too_slow_or_long(out: &mut Vec<u8>, standard: &[u8]) -> Result<(), OutOfMemory>
+    ensures { OnOk result (out.new.items ≡ out.old.items ++ too_slow_or_long standard.now) }
+{
+    out.extend_from_slice(b"Cables are too slow for ")?;
+    out.extend_from_slice(standard)?;
+    out.extend_from_slice(b", or ticks too long.\n")?;
+    Ok(())
+}
+
+/// Appends which inequality fails, where `d` ticks are the delay of a cable.
+fn put_misfit(
+    out: &mut Vec<u8>,
+    d: u8,
+    standard: &[u8],
+    misfit: Misfit,
+) -> Result<(), OutOfMemory>
+    ensures { OnOk result (out.new.items
+        ≡ out.old.items ++ misfit_wanted d standard.now misfit) }
+{
+    let d = u64::from(d);
+    match misfit {
+        Misfit::Uncounted => out.extend_from_slice(
+            b"times of at most 65535 ticks, which a node can count. Ticks are too short.\n",
+        ),
+        Misfit::ShortHold => {
+            put_field(out, b"holds of at least 64 x ", d)?;
+            out.extend_from_slice(b" ticks, the way over 64 cables. ")?;
+            put_too_slow(out, standard)
+        }
+        Misfit::ShortWait => {
+            put_field(out, b"short waits of a contention longer than 2 x ", d)?;
+            out.extend_from_slice(b" ticks, the way over a cable and back. ")?;
+            put_too_slow_or_long(out, standard)
+        }
+        Misfit::CloseWaits => {
+            let longer = b"long waits of a contention longer than short ones by at least 2 x ";
+            put_field(out, longer, d)?;
+            out.extend_from_slice(b" ticks, the way over a cable and back. ")?;
+            put_too_slow_or_long(out, standard)
+        }
+        Misfit::ShortForce => {
+            let longer =
+                b"forced nodes that wait, with their hold, longer than the longest hold and 127 x ";
+            put_field(out, longer, d)?;
+            out.extend_from_slice(b" ticks, the way over 127 cables. ")?;
+            put_too_slow(out, standard)
+        }
+    }
+}
+
+/// Appends the sentence on a number that is out of its range, or on times that don't suit.
+fn put_range_sentence(
+    alloc: Global,
+    out: &mut Vec<u8>,
+    said: Said,
+    line: &[u8],
+    words: &[Text],
+) -> Result<(), OutOfMemory>
+    requires some { 1 ≤ said.delay }
+    requires few { said.delay ≤ 16 }
+    ensures { OnOk result (out.new.items
+        ≡ out.old.items ++ range_sentence said.delay said.times line.now words.now) }
+{
+    match times_said(said.delay, words) {
+        Some(Err(misfit)) => {
+            put_found(out, line, words, 2)?;
+            put_misfit(out, said.delay, word_at(words, 1), misfit)
+        }
+        _ => put_value_sentence(alloc, out, said.times, line, words),
+    }
+}
+
 /// Appends the sentence on a fault of a line with these words, behind these lines.
 fn put_words_sentence(
     alloc: Global,
     out: &mut Vec<u8>,
-    d: u8,
+    said: Said,
     lines: &[Text],
     line: &[u8],
     words: &[Text],
     kind: Kind,
 ) -> Result<(), OutOfMemory>
-    requires delay { d ≤ 16 }
+    requires some { 1 ≤ said.delay }
+    requires few { said.delay ≤ 16 }
     requires are { words.now ≡ words_of line.now }
     ensures { OnOk result (out.new.items
-        ≡ out.old.items ++ sentence_of d lines.now line.now words.now kind) }
+        ≡ out.old.items
+        ++ sentence_of said.delay said.times lines.now line.now words.now kind) }
 {
     match kind {
         Kind::Word => put_word_sentence(alloc, out, line, words),
-        Kind::Number => put_value_sentence(alloc, out, d, line, words),
-        Kind::Name => put_value_sentence(alloc, out, d, line, words),
-        Kind::Range => put_value_sentence(alloc, out, d, line, words),
+        Kind::Number => put_value_sentence(alloc, out, said.times, line, words),
+        Kind::Name => put_value_sentence(alloc, out, said.times, line, words),
+        Kind::Range => put_range_sentence(alloc, out, said, line, words),
         Kind::Twice => put_twice_sentence(out, line, words),
         Kind::Late => put_at(out, line, words, 0, late_wanted(words)),
         Kind::NoNode => put_no_node(alloc, out, lines, line, words),
@@ -205,17 +296,19 @@ fn put_words_sentence(
 fn put_line_sentence(
     alloc: Global,
     out: &mut Vec<u8>,
-    d: u8,
+    said: Said,
     lines: &[Text],
     line: &[u8],
     kind: Kind,
 ) -> Result<(), OutOfMemory>
-    requires delay { d ≤ 16 }
+    requires some { 1 ≤ said.delay }
+    requires few { said.delay ≤ 16 }
     ensures { OnOk result (out.new.items
-        ≡ out.old.items ++ sentence_of d lines.now line.now (words_of line.now) kind) }
+        ≡ out.old.items
+        ++ sentence_of said.delay said.times lines.now line.now (words_of line.now) kind) }
 {
     let words = words_of(alloc, line)?;
-    put_words_sentence(alloc, out, d, lines, line, words.as_slice(), kind)
+    put_words_sentence(alloc, out, said, lines, line, words.as_slice(), kind)
 }
 
 /// The line of this number, from 0; no bytes behind the last.
@@ -229,12 +322,10 @@ fn whole_line<'a>(lines: &[Text<'a>], number: usize) -> &'a [u8]
 }
 
 /// What a line is at fault for by its own words.
-fn fault_of(alloc: Global, line: &[u8], d: u8) -> Result<Option<Kind>, OutOfMemory>
-    requires some { 1 ≤ d }
-    requires few { d ≤ 16 }
-    ensures { IfOk result (λ fault. IsLineFault d line.now fault) }
+fn fault_of(alloc: Global, line: &[u8], times: TimeRanges) -> Result<Option<Kind>, OutOfMemory>
+    ensures { IfOk result (λ fault. IsLineFault times line.now fault) }
 {
-    match parse_line(alloc, line, d) {
+    match parse_line_with(alloc, line, times) {
         Ok(_command) => Ok(None),
         Err(LineStop::Fault(kind)) => Ok(Some(kind)),
         Err(LineStop::Memory(error)) => Err(error),
@@ -257,19 +348,19 @@ fn first_lines<'p, 'a>(lines: &'p [Text<'a>], count: usize) -> &'p [Text<'a>]
 #[derive(Debug, Drop)]
 pub struct CutScript<'a> {
     lines: Vec<Text<'a>>,
-    delay: u8,
+    said: Said,
 }
 
 impl<'a> Model for CutScript<'a> {
     ghost use Rattle.std.specs.Prelude.{◌≡◌, ◌≤◌, List, ℕ};
-    ghost use Rattle.script_words.specs.Before.{delay_of};
+    ghost use Rattle.script_words.specs.Before.{delay_of, ranges_of};
 
     ghost Value = { List (List ℕ) };
 
     ghost view = { λ s. s.lines.items };
 
-    ghost invariant = { λ s. (s.delay ≡ delay_of s.lines.items) × (1 ≤ s.delay)
-        × (s.delay ≤ 16) };
+    ghost invariant = { λ s. (s.said.delay ≡ delay_of s.lines.items)
+        × (s.said.times ≡ ranges_of s.lines.items) × (1 ≤ s.said.delay) × (s.said.delay ≤ 16) };
 }
 
 impl<'a> CutScript<'a> {
@@ -279,8 +370,8 @@ impl<'a> CutScript<'a> {
         ensures few { IfOk result (λ cut. length cut ≤ length script.now + 1) }
     {
         let lines = lines_of(alloc, script)?;
-        let delay = delay_of(alloc, lines.as_slice())?;
-        Ok(CutScript { lines, delay })
+        let said = said(alloc, lines.as_slice())?;
+        Ok(CutScript { lines, said })
     }
 
     /// How many lines there are, with the one behind the last line feed.
@@ -295,7 +386,7 @@ impl<'a> CutScript<'a> {
     pub fn line_fault(&self, alloc: Global, number: usize) -> Result<Option<Kind>, OutOfMemory>
         ensures { IfOk result (λ fault. IsFaultAt self.now number fault) }
     {
-        fault_of(alloc, whole_line(self.lines.as_slice(), number), self.delay)
+        fault_of(alloc, whole_line(self.lines.as_slice(), number), self.said.times)
     }
 
     /// Appends the sentence on a fault, as [`put_sentence`](crate::put_sentence) does.
@@ -313,7 +404,7 @@ impl<'a> CutScript<'a> {
         put_line_sentence(
             alloc,
             out,
-            self.delay,
+            self.said,
             first_lines(lines, number),
             line,
             fault.kind,
@@ -323,8 +414,8 @@ impl<'a> CutScript<'a> {
 
 /// Appends a sentence on the fault of a script, as `script_run` finds it, and then a line feed: what
 /// stands there, and what was wanted. It names the word, its number in the line from 1 and the column of
-/// its first byte from 1; and the words, the range or the names that may stand there. The delay, which
-/// ranges go with, is that of the script's first line that isn't skipped.
+/// its first byte from 1; and the words, the range or the names that may stand there, or of times which
+/// inequality fails. Ranges go with the delay and the times that the script's first lines say.
 pub fn put_sentence(
     alloc: Global,
     out: &mut Vec<u8>,

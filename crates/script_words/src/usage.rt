@@ -7,12 +7,12 @@ use crate::text::same;
 use script_lines::{Name, names_are_tested, number_of};
 
 /// How many usages there are.
-pub(crate) const USAGES: usize = 20;
+pub(crate) const USAGES: usize = 22;
 
 /// A line as docs write it.
 #[tactic(auto, unfolding(crate::specs::Usage::usages))]
 pub(crate) fn usage(number: usize) -> &'static [u8]
-    requires { number < 20 }
+    requires { number < 22 }
     ensures { result.now ≡ slice_index_or usages number [] }
 {
     match number {
@@ -35,7 +35,9 @@ pub(crate) fn usage(number: usize) -> &'static [u8]
         16 => b"manager NAME",
         17 => b"plan NAME",
         18 => b"maps NAME",
-        _ => b"delay D",
+        19 => b"delay D",
+        20 => b"times 1394a NANOSECONDS",
+        _ => b"times 1394-1995 NANOSECONDS",
     }
 }
 
@@ -69,6 +71,8 @@ pub(crate) fn range_of(word: &[u8]) -> Option<(u32, u32)>
         Some((0, 4915))
     } else if same(word, b"D") {
         Some((1, 16))
+    } else if same(word, b"NANOSECONDS") {
+        Some((1, u32::MAX))
     } else {
         None
     }

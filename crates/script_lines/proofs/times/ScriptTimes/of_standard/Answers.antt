@@ -11,6 +11,9 @@ overflow_cast-result c =
     let r : TimeRanges = standard_ranges c.args.standard c.args.d c.args.nanoseconds in
     let judged : Result TimeRanges Misfit = suitable c.args.d r in
     let is : judged ≡ c.of_standard.result = sym c.of_standard.ensures in
-    let fit = c.ranges_suit.ensures.fit c.args.d r c.in-Ok.ranges (rw c.in-Ok.is at is) in
-    let few = (c.ranges_suit.ensures.standards c.args.standard c.args.d c.args.nanoseconds c.requires.some_time c.requires.few).few fit.1 in
+    let fit =
+    (c.ranges_are_suitable.ensures.fits c.args.d r c.in-Ok.ranges (rw c.in-Ok.is at is)).1 in
+    let few =
+    c.standard_times_are_few.ensures.few c.args.standard c.args.d c.args.nanoseconds
+    c.requires.some_time c.requires.few fit in
     omega (arith, few)
