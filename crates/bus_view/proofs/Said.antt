@@ -2,12 +2,13 @@
 use Rattle.std.proofs.Common.{◌≡◌, ◌∙◌, ℕ, zero, suc, ◌+◌, ◌-◌, ◌<◌, ◌≤◌, Option, Some, None, Result, Ok, Err, List, [], ◌∷◌, ◌++◌, length, drop, refl, sym, ap, subst, arith, append_assoc}
 use Rattle.std.specs.Prelude.{slice_index_or}
 use Rattle.std.proofs.lemmas.List.{drop_all}
+use Rattle.port_state.specs.declared.ranges.TimeRanges.{TimeRanges}
 use Rattle.script_lines.specs.declared.kind.Kind.{Kind}
 use Rattle.script_lines.specs.declared.kind.ScriptFault.{ScriptFault}
 use Rattle.script_lines.specs.declared.command.Command.{Command}
 use Rattle.script_lines.specs.Line.{Reads}
 use Rattle.script_lines.proofs.Lemmas.{one_reading, some_reading}
-use Rattle.script_words.specs.Before.{delay_of}
+use Rattle.script_words.specs.Before.{ranges_of}
 use Rattle.script_words.specs.LineFault.{IsLineFault, IsFaultAt}
 use Rattle.bus_view.specs.Explained.{explanation_in, line_said, AreSaid, IsBehind, IsExplained}
 
@@ -22,19 +23,19 @@ same-kind j k e = cc
 not-both : (c : Option Command) (k : Kind) → ◌≡◌ {A = Reading} (Ok c) (Err k) → ⊥
 not-both c k e = cc
 
-one-fault : (d : ℕ) (line : List ℕ) (a b : Option Kind) → IsLineFault d line a →
-    IsLineFault d line b → a ≡ b
-one-fault d line None None x y = refl
-one-fault d line None (Some k) x y = absurd (x k y)
-one-fault d line (Some j) None x y = absurd (y j x)
-one-fault d line (Some j) (Some k) x y =
-    ap (λ (i : Kind). Some i) (same-kind j k (one_reading d line (Err j) (Err k) x y))
+one-fault : (times : TimeRanges) (line : List ℕ) (a b : Option Kind) → IsLineFault times line a →
+    IsLineFault times line b → a ≡ b
+one-fault times line None None x y = refl
+one-fault times line None (Some k) x y = absurd (x k y)
+one-fault times line (Some j) None x y = absurd (y j x)
+one-fault times line (Some j) (Some k) x y =
+    ap (λ (i : Kind). Some i) (same-kind j k (one_reading times line (Err j) (Err k) x y))
 
-some-fault : (d : ℕ) (line : List ℕ) → (fault : Option Kind) × IsLineFault d line fault
-some-fault d line = let r = some_reading d line in go r.0 r.1
+some-fault : (times : TimeRanges) (line : List ℕ) → (fault : Option Kind) × IsLineFault times line fault
+some-fault times line = let r = some_reading times line in go r.0 r.1
   where
-    go : (r : Reading) → Reads d line r → (fault : Option Kind) × IsLineFault d line fault
-    go (Ok c) is = (None, λ kind bad. not-both c kind (one_reading d line (Ok c) (Err kind) is bad))
+    go : (r : Reading) → Reads times line r → (fault : Option Kind) × IsLineFault times line fault
+    go (Ok c) is = (None, λ kind bad. not-both c kind (one_reading times line (Ok c) (Err kind) is bad))
     go (Err kind) is = (Some kind, is)
 
 -- ---- so lines have one text
@@ -43,7 +44,7 @@ one-said : (script : List (List ℕ)) (number : ℕ) (lines : List (List ℕ)) (
     AreSaid script number lines a → AreSaid script number lines b → a ≡ b
 one-said script number [] a b x y = x ∙ sym y
 one-said script number (line ∷ lines) a b x y =
-    let fault : x.0 ≡ y.0 = one-fault (delay_of script) line x.0 y.0 x.1 y.1 in
+    let fault : x.0 ≡ y.0 = one-fault (ranges_of script) line x.0 y.0 x.1 y.1 in
     let rest : x.2.0 ≡ y.2.0 = one-said script (number + 1) lines x.2.0 y.2.0 x.2.1 y.2.1 in
     x.2.2 ∙ ap (λ (f : Option Kind). line_said script number f ++ x.2.0) fault
     ∙ ap (λ (r : List ℕ). line_said script number y.0 ++ r) rest ∙ sym y.2.2
@@ -52,7 +53,7 @@ some-said : (script : List (List ℕ)) (number : ℕ) (lines : List (List ℕ)) 
     (text : List ℕ) × AreSaid script number lines text
 some-said script number [] = ([], refl)
 some-said script number (line ∷ lines) =
-    let fault = some-fault (delay_of script) line in
+    let fault = some-fault (ranges_of script) line in
     let rest = some-said script (number + 1) lines in
     (line_said script number fault.0 ++ rest.0, (fault.0, fault.1, (rest.0, rest.1, refl)))
 
@@ -69,7 +70,7 @@ some-behind script line (Some kind) = some-said script (line + 1) (drop line scr
 pub one_explained : (script : List (List ℕ)) (fault : ScriptFault) (a b : List ℕ) →
     IsExplained script fault a → IsExplained script fault b → a ≡ b
 one_explained script fault a b x y =
-    let own : x.own ≡ y.own = one-fault (delay_of script) (slice_index_or script (fault.line - 1) []) x.own y.own x.is_own y.is_own in
+    let own : x.own ≡ y.own = one-fault (ranges_of script) (slice_index_or script (fault.line - 1) []) x.own y.own x.is_own y.is_own in
     let rest : x.rest ≡ y.rest = one-behind script fault.line y.own x.rest y.rest
     (subst (λ (o : Option Kind). IsBehind script fault.line o x.rest) own x.behind) y.behind in
     x.text_is ∙ ap (λ (r : List ℕ). explanation_in script fault ++ r) rest ∙ sym y.text_is
@@ -77,7 +78,7 @@ one_explained script fault a b x y =
 pub some_explained : (script : List (List ℕ)) (fault : ScriptFault) →
     (text : List ℕ) × IsExplained script fault text
 some_explained script fault =
-    let own = some-fault (delay_of script) (slice_index_or script (fault.line - 1) []) in
+    let own = some-fault (ranges_of script) (slice_index_or script (fault.line - 1) []) in
     let rest = some-behind script fault.line own.0 in
     (explanation_in script fault ++ rest.0, record { own = own.0; is_own = own.1; rest = rest.0; behind = rest.1; text_is = refl })
 

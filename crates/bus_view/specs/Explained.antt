@@ -3,7 +3,7 @@ use Rattle.std.specs.Prelude.{◌≡◌, ℕ, ◌+◌, ◌-◌, List, [], ◌∷
 use Rattle.bus_cli.specs.Line.{script_line}
 use Rattle.script_lines.specs.declared.kind.Kind.{Kind}
 use Rattle.script_lines.specs.declared.kind.ScriptFault.{ScriptFault}
-use Rattle.script_words.specs.Before.{feed_lines, delay_of}
+use Rattle.script_words.specs.Before.{feed_lines, ranges_of}
 use Rattle.script_words.specs.LineFault.{IsLineFault, IsFaultAt}
 use Rattle.script_words.specs.Sentence.{sentence_in}
 
@@ -24,7 +24,7 @@ line_said script number (Some kind) = explanation_in script (record { line = num
 abbrev pub AreSaid : List (List ℕ) → ℕ → List (List ℕ) → List ℕ → Type 0
 AreSaid script number [] text = text ≡ []
 AreSaid script number (line ∷ lines) text =
-    (fault : Option Kind) × IsLineFault (delay_of script) line fault
+    (fault : Option Kind) × IsLineFault (ranges_of script) line fault
     × ((rest : List ℕ) × AreSaid script (number + 1) lines rest
     × (text ≡ line_said script number fault ++ rest))
 

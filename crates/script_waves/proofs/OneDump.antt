@@ -8,6 +8,7 @@ use Rattle.script_told.specs.Run.{ScriptRun, IsRun, printed, unless_stopped}
 use Rattle.script_told.specs.OneTold.{ScriptsHaveOneRun}
 use Rattle.script_trace.specs.OneTelling.{RunsAreToldOnce, RunsAreTold}
 use Rattle.script_waves.specs.Moment.{waves_voice}
+use Rattle.script_trace.specs.Voice.{legend_of}
 use Rattle.script_waves.specs.Head.{head}
 use Rattle.script_waves.specs.Waves.{IsWavesOf}
 use Rattle.script_waves.specs.OneDump.{ScriptsHaveOneDump, DumpedScriptsAreTold, DumpFaultsAreTold, HasDump, RunsHaveDumps}
@@ -25,8 +26,8 @@ same-dump once bytes run (Ok xs) (Ok ys) is x y =
     let bus : y.0 ≡ x.0 = one-end run y.0 x.0 y.1 x.1 in
     let changes = once waves_voice bytes run x.2.changes y.2.changes is x.2.told y.2.told in
     ap Ok (x.2.text_is
-    ∙ ap (λ (l : List ℕ). head x.0.notes.names x.0.world ++ l) changes
-    ∙ ap (λ (b : Bus). head b.notes.names b.world ++ y.2.changes) (sym bus)
+    ∙ ap (λ (l : List ℕ). head (legend_of x.0.notes) x.0.world ++ l) changes
+    ∙ ap (λ (b : Bus). head (legend_of b.notes) b.world ++ y.2.changes) (sym bus)
     ∙ sym y.2.text_is)
 same-dump once bytes run (Ok xs) (Err f) is x y = absurd (not-both x.0 f (sym x.1 ∙ y))
   where
@@ -61,7 +62,7 @@ some-dumps told bytes run is = go run.end refl
     go (Ok bus) e =
         let changes = told waves_voice bytes run is in
         record {
-          told = Ok (head bus.notes.names bus.world ++ changes.0);
+          told = Ok (head (legend_of bus.notes) bus.world ++ changes.0);
           is = (bus, e, record { changes = changes.0; told = changes.1; text_is = refl });
         }
     go (Err fault) e = record { told = Err fault; is = e }

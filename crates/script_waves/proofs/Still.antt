@@ -1,5 +1,5 @@
 -- Turns in which nothing happens have no changes.
-use Rattle.std.proofs.Common.{◌≡◌, ℕ, zero, suc, ◌+◌, ◌&&◌, not, Bool, List, [], ◌∷◌, ◌++◌, All, Some, map, length, drop, cond, slice_get, slice_index_or, refl, sym, ◌∙◌, ap, subst, arith}
+use Rattle.std.proofs.Common.{◌≡◌, ℕ, zero, suc, ◌+◌, ◌&&◌, not, Bool, List, [], ◌∷◌, ◌++◌, All, Some, map, length, drop, cond, Option, slice_get, slice_index_or, refl, sym, ◌∙◌, ap, subst, arith}
 use Rattle.std.proofs.Math.ListN.{drop_of_length-le}
 use Rattle.std.proofs.lemmas.Bool.{cond-false}
 use Rattle.std.proofs.lemmas.List.{append_assoc, length-map}
@@ -21,7 +21,7 @@ use Rattle.script_trace.specs.Step.{seen_before_turn}
 use Rattle.script_trace.proofs.Lemmas.{both-none, same-number, silent-wire, timer-alone, true-then-none}
 use Rattle.script_waves.specs.Value.{flag, id_number, is_root, level_number, role}
 use Rattle.script_waves.specs.Change.{unless_same, port_at, sent_changes, port_changes, all_port_changes, node_changes}
-use Rattle.script_waves.specs.Moment.{all_changes, at_time, waves_since, turn_waves, turns_waves}
+use Rattle.script_waves.specs.Moment.{all_changes, at_time, time_of, waves_since, turn_waves, turns_waves}
 
 -- no line stands between equal numbers
 none-same : (n : ℕ) (line : List ℕ) → unless_same n n line ≡ []
@@ -79,41 +79,41 @@ no-changes w silent k (x ∷ nodes) h =
 
 -- ---- turns
 
-still-turn-waves : (w : CableWorld) → StillTurnsPass → length w.nodes ≡ length w.cabling → IsStillFor 1 w →
-    turn_waves w ≡ []
+still-turn-waves : (ns : Option ℕ) (w : CableWorld) → StillTurnsPass → length w.nodes ≡ length w.cabling → IsStillFor 1 w →
+    turn_waves ns w ≡ []
 unfolding turn_waves
-still-turn-waves w law e h =
-    ap (waves_since (map seen_before_turn w.nodes)) (still-turn law w e h)
-    ∙ ap (at_time (after_still 1 w).turns)
+still-turn-waves ns w law e h =
+    ap (waves_since ns (map seen_before_turn w.nodes)) (still-turn law w e h)
+    ∙ ap (at_time (time_of ns w.delay (after_still 1 w).turns))
     (no-changes (after_still 1 w) (still-silent 1 w.wires (h.silent (omega arith))) 0 w.nodes
     (All-weaker (λ x. IsIdleFor 1 x) IsIdleTick (λ x i. i 0 (omega arith)) w.nodes h.idle))
 
-pub still-waves : (k : ℕ) (w : CableWorld) → StillTurnsPass → length w.nodes ≡ length w.cabling → IsStillFor k w →
-    turns_waves k w ≡ []
+pub still-waves : (ns : Option ℕ) (k : ℕ) (w : CableWorld) → StillTurnsPass → length w.nodes ≡ length w.cabling → IsStillFor k w →
+    turns_waves ns k w ≡ []
 unfolding turns_waves
-still-waves zero w law e h = refl
-still-waves (suc k) w law e h =
+still-waves ns zero w law e h = refl
+still-waves ns (suc k) w law e h =
     let one = still-first k w h in
-    both-none (turn_waves w) _ (still-turn-waves w law e one)
-    (ap (turns_waves k) (still-turn law w e one)
-    ∙ still-waves k (after_still 1 w) law (length-map w.nodes (after_ticks 1) ∙ e) (still-later k w h))
+    both-none (turn_waves ns w) _ (still-turn-waves ns w law e one)
+    (ap (turns_waves ns k) (still-turn law w e one)
+    ∙ still-waves ns k (after_still 1 w) law (length-map w.nodes (after_ticks 1) ∙ e) (still-later k w h))
 
 -- some turns, and then others
-waves-add : (j k : ℕ) (w : CableWorld) →
-    turns_waves (j + k) w ≡ turns_waves j w ++ turns_waves k (turns_after j w)
+waves-add : (ns : Option ℕ) (j k : ℕ) (w : CableWorld) →
+    turns_waves ns (j + k) w ≡ turns_waves ns j w ++ turns_waves ns k (turns_after j w)
 unfolding turns_waves turns_after
-waves-add zero k w = let e : 0 + k ≡ k = omega arith in ap (λ (n : ℕ). turns_waves n w) e
-waves-add (suc j) k w =
+waves-add ns zero k w = let e : 0 + k ≡ k = omega arith in ap (λ (n : ℕ). turns_waves ns n w) e
+waves-add ns (suc j) k w =
     let e : suc j + k ≡ suc (j + k) = omega arith in
-    ap (λ (n : ℕ). turns_waves n w) e ∙ ap (λ (l : List ℕ). turn_waves w ++ l) (waves-add j k (turn w))
-    ∙ sym (append_assoc (turn_waves w) (turns_waves j (turn w)) (turns_waves k (turns_after j (turn w))))
+    ap (λ (n : ℕ). turns_waves ns n w) e ∙ ap (λ (l : List ℕ). turn_waves ns w ++ l) (waves-add ns j k (turn w))
+    ∙ sym (append_assoc (turn_waves ns w) (turns_waves ns j (turn w)) (turns_waves ns k (turns_after j (turn w))))
 
 -- of the turns that are left the next ones have no changes
 pub none-passed :
-    (left passed next : ℕ) (v u : CableWorld) (out all : List ℕ) → passed + next ≡ left → u ≡ turns_after passed v →
-    turns_waves passed v ≡ [] → out ++ turns_waves left v ≡ all → out ++ turns_waves next u ≡ all
-none-passed left passed next v u out all e is none so =
-    let rest : turns_waves left v ≡ turns_waves next u =
-    sym (ap (λ (n : ℕ). turns_waves n v) e) ∙ waves-add passed next v
-    ∙ ap (λ (l : List ℕ). l ++ turns_waves next (turns_after passed v)) none ∙ ap (turns_waves next) (sym is) in
+    (ns : Option ℕ) (left passed next : ℕ) (v u : CableWorld) (out all : List ℕ) → passed + next ≡ left → u ≡ turns_after passed v →
+    turns_waves ns passed v ≡ [] → out ++ turns_waves ns left v ≡ all → out ++ turns_waves ns next u ≡ all
+none-passed ns left passed next v u out all e is none so =
+    let rest : turns_waves ns left v ≡ turns_waves ns next u =
+    sym (ap (λ (n : ℕ). turns_waves ns n v) e) ∙ waves-add ns passed next v
+    ∙ ap (λ (l : List ℕ). l ++ turns_waves ns next (turns_after passed v)) none ∙ ap (turns_waves ns next) (sym is) in
     sym (ap (λ (l : List ℕ). out ++ l) rest) ∙ so

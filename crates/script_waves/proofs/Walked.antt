@@ -141,35 +141,35 @@ no-values k nodes h = ap (all_values k) (past-end nodes k h)
 -- ---- turns
 
 pub turn-dumped :
-    (w v : CableWorld) (seen : List Seen) (out new : List ℕ) → v ≡ turn w →
-    seen ≡ map seen_before_turn w.nodes → new ≡ out ++ waves_since seen v →
-    new ≡ out ++ turn_waves w
+    (ns : Option ℕ) (w v : CableWorld) (seen : List Seen) (out new : List ℕ) → v ≡ turn w →
+    seen ≡ map seen_before_turn w.nodes → new ≡ out ++ waves_since ns seen v →
+    new ≡ out ++ turn_waves ns w
 unfolding turn_waves
-turn-dumped w v seen out new done before is =
+turn-dumped ns w v seen out new done before is =
     is
-    ∙ ap (λ (s : List Seen). out ++ waves_since s v) before
-    ∙ ap (λ (u : CableWorld). out ++ waves_since (map seen_before_turn w.nodes) u) done
+    ∙ ap (λ (s : List Seen). out ++ waves_since ns s v) before
+    ∙ ap (λ (u : CableWorld). out ++ waves_since ns (map seen_before_turn w.nodes) u) done
 
 turns-left :
-    (n k : ℕ) (v : CableWorld) → k < n →
-    turns_waves (n - k) v ≡ turn_waves v ++ turns_waves (n - (k + 1)) (turn v)
+    (ns : Option ℕ) (n k : ℕ) (v : CableWorld) → k < n →
+    turns_waves ns (n - k) v ≡ turn_waves ns v ++ turns_waves ns (n - (k + 1)) (turn v)
 unfolding turns_waves
-turns-left n k v h =
+turns-left ns n k v h =
     let e : n - k ≡ suc (n - (k + 1)) = omega (arith, h) in
-    ap (λ (m : ℕ). turns_waves m v) e
+    ap (λ (m : ℕ). turns_waves ns m v) e
 
 pub next-turn :
-    (n k : ℕ) (v u : CableWorld) (before after all : List ℕ) → k < n → u ≡ turn v →
-    after ≡ before ++ turn_waves v → before ++ turns_waves (n - k) v ≡ all →
-    after ++ turns_waves (n - (k + 1)) u ≡ all
-next-turn n k v u before after all h done new so =
-    let rest = turns_waves (n - (k + 1)) u in
-    one-more before after (turn_waves v) rest (turns_waves (n - k) v) all new
-    (turns-left n k v h ∙ ap (λ (z : CableWorld). turn_waves v ++ turns_waves (n - (k + 1)) z) (sym done))
+    (ns : Option ℕ) (n k : ℕ) (v u : CableWorld) (before after all : List ℕ) → k < n → u ≡ turn v →
+    after ≡ before ++ turn_waves ns v → before ++ turns_waves ns (n - k) v ≡ all →
+    after ++ turns_waves ns (n - (k + 1)) u ≡ all
+next-turn ns n k v u before after all h done new so =
+    let rest = turns_waves ns (n - (k + 1)) u in
+    one-more before after (turn_waves ns v) rest (turns_waves ns (n - k) v) all new
+    (turns-left ns n k v h ∙ ap (λ (z : CableWorld). turn_waves ns v ++ turns_waves ns (n - (k + 1)) z) (sym done))
     so
 
-pub no-turn-left : (n k : ℕ) (v : CableWorld) → n ≤ k → turns_waves (n - k) v ≡ []
+pub no-turn-left : (ns : Option ℕ) (n k : ℕ) (v : CableWorld) → n ≤ k → turns_waves ns (n - k) v ≡ []
 unfolding turns_waves
-no-turn-left n k v h =
+no-turn-left ns n k v h =
     let e : n - k ≡ 0 = omega (arith, h) in
-    ap (λ (m : ℕ). turns_waves m v) e
+    ap (λ (m : ℕ). turns_waves ns m v) e

@@ -80,22 +80,33 @@ unfoldable pub too_slow_or_long : List ℕ → List ℕ
 too_slow_or_long standard =
     codes "Cables are too slow for " ++ (standard ++ codes ", or ticks too long.\n")
 
--- which inequality fails, where d ticks are the delay of a cable
+-- words before a number of ticks, and words behind it
+unfoldable pub ticks : List ℕ → ℕ → List ℕ → List ℕ
+ticks before d behind = field before d ++ (codes " ticks, the way over " ++ behind)
+
+-- the inequality that fails, where d ticks are the delay of a cable
+abbrev pub inequality : ℕ → Misfit → List ℕ
+inequality d Uncounted = codes "times of at most 65535 ticks, which a node can count. "
+inequality d ShortHold = ticks (codes "holds of at least 64 x ") d (codes "64 cables. ")
+inequality d ShortWait =
+    ticks (codes "short waits of a contention longer than 2 x ") d (codes "a cable and back. ")
+inequality d CloseWaits =
+    ticks (codes "long waits of a contention longer than short ones by at least 2 x ") d
+    (codes "a cable and back. ")
+inequality d ShortForce =
+    ticks (codes "forced nodes that wait longer than the longest hold less theirs and 127 x ") d
+    (codes "127 cables. ")
+
+-- why it does
+abbrev pub reason : List ℕ → Misfit → List ℕ
+reason standard Uncounted = codes "Ticks are too short.\n"
+reason standard ShortHold = too_slow standard
+reason standard ShortWait = too_slow_or_long standard
+reason standard CloseWaits = too_slow_or_long standard
+reason standard ShortForce = too_slow standard
+
 abbrev pub misfit_wanted : ℕ → List ℕ → Misfit → List ℕ
-misfit_wanted d standard Uncounted =
-    codes "times of at most 65535 ticks, which a node can count. Ticks are too short.\n"
-misfit_wanted d standard ShortHold =
-    field (codes "holds of at least 64 x ") d
-    ++ (codes " ticks, the way over 64 cables. " ++ too_slow standard)
-misfit_wanted d standard ShortWait =
-    field (codes "short waits of a contention longer than 2 x ") d
-    ++ (codes " ticks, the way over a cable and back. " ++ too_slow_or_long standard)
-misfit_wanted d standard CloseWaits =
-    field (codes "long waits of a contention longer than short ones by at least 2 x ") d
-    ++ (codes " ticks, the way over a cable and back. " ++ too_slow_or_long standard)
-misfit_wanted d standard ShortForce =
-    field (codes "forced nodes that wait, with their hold, longer than the longest hold and 127 x ") d
-    ++ (codes " ticks, the way over 127 cables. " ++ too_slow standard)
+misfit_wanted d standard misfit = inequality d misfit ++ reason standard misfit
 
 -- a number is out of its range, or the times that a line says don't suit
 abbrev pub range_sentence : ℕ → TimeRanges → List ℕ → List (List ℕ) → List ℕ

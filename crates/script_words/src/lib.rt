@@ -7,6 +7,7 @@ mod column;
 mod fit;
 mod laws;
 mod line_sentence;
+mod misfit;
 mod pairs;
 mod said;
 mod sentence;

@@ -2,7 +2,7 @@
 ghost use Rattle.std.specs.Prelude.{◌≡◌, ◌≤◌, ◌++◌, ◌||◌, [], OnOk, length};
 ghost use Rattle.std.specs.List.{list_all};
 ghost use Rattle.script_lines.specs.Coins.{is_coin, are_coins};
-ghost use Rattle.script_words.specs.Pairs.{limits_of, is_key, is_pair, paired, keys_wanted, behind_key, pair_wanted, is_fault, valued, range_wanted, value_wanted, rival_word, has_key, distinct};
+ghost use Rattle.script_words.specs.Pairs.{limits_of, is_key, is_pair, paired, keys_wanted, behind_key, pair_wanted, is_fault, valued, range_wanted, limits_wanted, value_wanted, rival_word, has_key, distinct};
 
 use crate::column::put_field;
 use crate::text::{Text, same};
@@ -157,6 +157,16 @@ pub(crate) fn put_range(out: &mut Vec<u8>, least: u32, most: u32) -> Result<(), 
     Ok(())
 }
 
+/// Appends the range of a key's numbers, or the keys where there is none.
+fn put_limits(out: &mut Vec<u8>, limits: Option<(u32, u32)>) -> Result<(), OutOfMemory>
+    ensures { OnOk result (out.new.items ≡ out.old.items ++ limits_wanted limits) }
+{
+    match limits {
+        None => out.extend_from_slice(KEYS),
+        Some((least, most)) => put_range(out, least, most),
+    }
+}
+
 /// Appends what may stand behind a key.
 #[tactic(auto, unfolding(crate::specs::Pairs::value_wanted))]
 pub(crate) fn put_value_wanted(out: &mut Vec<u8>, times: TimeRanges, key: &[u8]) -> Result<(), OutOfMemory>
@@ -165,10 +175,7 @@ pub(crate) fn put_value_wanted(out: &mut Vec<u8>, times: TimeRanges, key: &[u8])
     if same(key, b"coins") {
         return out.extend_from_slice(b"1 to 64 coins, each 0 or 1.\n");
     }
-    match limits_of(times, key) {
-        None => out.extend_from_slice(KEYS),
-        Some((least, most)) => put_range(out, least, most),
-    }
+    put_limits(out, limits_of(times, key))
 }
 
 /// The key that may not stand beside this one.

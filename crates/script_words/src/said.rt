@@ -10,9 +10,9 @@ use self_id::Standard;
 use std::alloc::Global;
 use topology_stack::OutOfMemory;
 
-/// The delay of a script, 1 to 16, and the ranges of the times of its nodes.
+/// What a script's first lines say: its delay, 1 to 16, and the ranges of the times of its nodes.
 #[derive(Clone, Copy, Debug)]
-pub(crate) struct Said {
+pub(crate) struct Opening {
     pub delay: u8,
     pub times: TimeRanges,
 }
@@ -42,6 +42,7 @@ fn behind_first<'p, 'a>(lines: &'p [Text<'a>]) -> &'p [Text<'a>]
 }
 
 /// The words of the first of these lines.
+#[tactic(auto, unfolding(script_lines::specs::Words::words_of))]
 fn words_of_first<'a>(alloc: Global, lines: &[Text<'a>]) -> Result<Vec<Text<'a>>, OutOfMemory>
     ensures { IfOk result (λ words. words.items ≡ words_in (slice_index_or lines.now 0 [])) }
 {
@@ -128,7 +129,7 @@ fn or_profile(d: u8, said: Option<Result<TimeRanges, Misfit>>) -> TimeRanges
 }
 
 /// What a script of these lines says.
-pub(crate) fn said(alloc: Global, lines: &[Text]) -> Result<Said, OutOfMemory>
+pub(crate) fn said(alloc: Global, lines: &[Text]) -> Result<Opening, OutOfMemory>
     ensures delay { IfOk result (λ said. said.delay ≡ delay_of lines.now) }
     ensures times { IfOk result (λ said. said.times ≡ ranges_of lines.now) }
     ensures some { IfOk result (λ said. 1 ≤ said.delay) }
@@ -143,5 +144,5 @@ pub(crate) fn said(alloc: Global, lines: &[Text]) -> Result<Said, OutOfMemory>
         words
     };
     let times = or_profile(delay, times_said(delay, words.as_slice()));
-    Ok(Said { delay, times })
+    Ok(Opening { delay, times })
 }

@@ -5,14 +5,15 @@ ghost use Rattle.script_lines.specs.Words.{words_of};
 ghost use Rattle.script_words.specs.Column.{found};
 ghost use Rattle.script_words.specs.Before.{feed_lines};
 ghost use Rattle.script_words.specs.LineFault.{IsLineFault, IsFaultAt};
-ghost use Rattle.script_words.specs.Sentence.{name_place, no_node_sentence, port_place, ports_wanted, no_port_at, late_wanted, bus_wanted, whole_sentence, too_slow, too_slow_or_long, misfit_wanted, range_sentence, sentence_of, sentence_in, sentence};
+ghost use Rattle.script_words.specs.Sentence.{name_place, no_node_sentence, port_place, ports_wanted, no_port_at, late_wanted, bus_wanted, whole_sentence, sentence_of, sentence_in, sentence};
 
 use crate::before::{is_port, ports_of, put_names, without_return};
 use crate::column::{put_field, put_found};
 use crate::line_sentence::{put_twice_sentence, put_value_sentence, put_word_sentence};
-use crate::said::{Said, said, times_said};
+use crate::misfit::put_range_sentence;
+use crate::said::{Opening, said};
 use crate::text::{Text, lines_of, same, word_at, words_of};
-use port_state::{Misfit, TimeRanges};
+use port_state::TimeRanges;
 use script_lines::{Kind, LineStop, ScriptFault, parse_line_with};
 use std::alloc::Global;
 use std::marker::Model;
@@ -169,96 +170,11 @@ fn whole_sentence(kind: Kind) -> &'static [u8]
     }
 }
 
-/// Appends that cables are too slow for a standard.
-#[tactic(auto, unfolding(crate::specs::Sentence::too_slow))]
-fn put_too_slow(out: &mut Vec<u8>, standard: &[u8]) -> Result<(), OutOfMemory>
-    ensures { OnOk result (out.new.items ≡ out.old.items ++ too_slow standard.now) }
-{
-    out.extend_from_slice(b"Cables are too slow for ")?;
-    out.extend_from_slice(standard)?;
-    out.extend_from_slice(b".\n")?;
-    Ok(())
-}
-
-/// Appends that cables are too slow for a standard, or ticks too long.
-#[tactic(auto, unfolding(crate::specs::Sentence::too_slow_or_long))]
-fn put_too_slow_or_long(out: &mut Vec<u8>, standard: &[u8]) -> Result<(), OutOfMemory>
-    ensures { OnOk result (out.new.items ≡ out.old.items ++ too_slow_or_long standard.now) }
-{
-    out.extend_from_slice(b"Cables are too slow for ")?;
-    out.extend_from_slice(standard)?;
-    out.extend_from_slice(b", or ticks too long.\n")?;
-    Ok(())
-}
-
-/// Appends which inequality fails, where `d` ticks are the delay of a cable.
-fn put_misfit(
-    out: &mut Vec<u8>,
-    d: u8,
-    standard: &[u8],
-    misfit: Misfit,
-) -> Result<(), OutOfMemory>
-    ensures { OnOk result (out.new.items
-        ≡ out.old.items ++ misfit_wanted d standard.now misfit) }
-{
-    let d = u64::from(d);
-    match misfit {
-        Misfit::Uncounted => out.extend_from_slice(
-            b"times of at most 65535 ticks, which a node can count. Ticks are too short.\n",
-        ),
-        Misfit::ShortHold => {
-            put_field(out, b"holds of at least 64 x ", d)?;
-            out.extend_from_slice(b" ticks, the way over 64 cables. ")?;
-            put_too_slow(out, standard)
-        }
-        Misfit::ShortWait => {
-            put_field(out, b"short waits of a contention longer than 2 x ", d)?;
-            out.extend_from_slice(b" ticks, the way over a cable and back. ")?;
-            put_too_slow_or_long(out, standard)
-        }
-        Misfit::CloseWaits => {
-            let longer = b"long waits of a contention longer than short ones by at least 2 x ";
-            put_field(out, longer, d)?;
-            out.extend_from_slice(b" ticks, the way over a cable and back. ")?;
-            put_too_slow_or_long(out, standard)
-        }
-        Misfit::ShortForce => {
-            let longer =
-                b"forced nodes that wait, with their hold, longer than the longest hold and 127 x ";
-            put_field(out, longer, d)?;
-            out.extend_from_slice(b" ticks, the way over 127 cables. ")?;
-            put_too_slow(out, standard)
-        }
-    }
-}
-
-/// Appends the sentence on a number that is out of its range, or on times that don't suit.
-fn put_range_sentence(
-    alloc: Global,
-    out: &mut Vec<u8>,
-    said: Said,
-    line: &[u8],
-    words: &[Text],
-) -> Result<(), OutOfMemory>
-    requires some { 1 ≤ said.delay }
-    requires few { said.delay ≤ 16 }
-    ensures { OnOk result (out.new.items
-        ≡ out.old.items ++ range_sentence said.delay said.times line.now words.now) }
-{
-    match times_said(said.delay, words) {
-        Some(Err(misfit)) => {
-            put_found(out, line, words, 2)?;
-            put_misfit(out, said.delay, word_at(words, 1), misfit)
-        }
-        _ => put_value_sentence(alloc, out, said.times, line, words),
-    }
-}
-
 /// Appends the sentence on a fault of a line with these words, behind these lines.
 fn put_words_sentence(
     alloc: Global,
     out: &mut Vec<u8>,
-    said: Said,
+    said: Opening,
     lines: &[Text],
     line: &[u8],
     words: &[Text],
@@ -296,7 +212,7 @@ fn put_words_sentence(
 fn put_line_sentence(
     alloc: Global,
     out: &mut Vec<u8>,
-    said: Said,
+    said: Opening,
     lines: &[Text],
     line: &[u8],
     kind: Kind,
@@ -348,7 +264,7 @@ fn first_lines<'p, 'a>(lines: &'p [Text<'a>], count: usize) -> &'p [Text<'a>]
 #[derive(Debug, Drop)]
 pub struct CutScript<'a> {
     lines: Vec<Text<'a>>,
-    said: Said,
+    said: Opening,
 }
 
 impl<'a> Model for CutScript<'a> {

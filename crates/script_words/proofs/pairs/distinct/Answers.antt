@@ -1,4 +1,4 @@
-use Rattle.std.proofs.Common.{◌≡◌, ◌∙◌, ℕ, ◌+◌, List, [], length, take, drop, sym, arith}
+use Rattle.std.proofs.Common.{◌≡◌, ◌∙◌, ◌+◌, take, drop, sym, arith}
 use Rattle.script_words.specs.Pairs.{distinct}
 use Rattle.script_words.proofs.Distinct.{distinct_more, distinct_stop, distinct_end}
 use Rattle.script_words.proofs.pairs.distinct.Goals as goal

@@ -4,7 +4,7 @@ use Rattle.script_words.proofs.pairs.valued.Given as goal
 
 abbrev pub invariant-loop-rest : goal.invariant-loop-rest
 invariant-loop-rest l = record {
-  value : l.n + valued l.d l.rest ≡ valued l.d l.words;
+  value : l.n + valued l.times l.rest ≡ valued l.times l.words;
   few : l.n + length l.rest ≡ length l.words;
 }
 

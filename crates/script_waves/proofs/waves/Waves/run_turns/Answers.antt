@@ -13,8 +13,8 @@ loop-done-init g c =
     record {
       few = pass.most;
       is = pass.done;
-      changes = none-passed c.args.count k (c.args.count - k) w _ c.args.self.now _ (omega (arith, pass.most)) pass.done
-          pass.changes refl;
+      changes = none-passed c.args.legend.now.nanoseconds c.args.count k (c.args.count - k) w _ c.args.self.now _ (omega (arith, pass.most)) pass.done
+          (pass.changes c.args.legend.now.nanoseconds) refl;
       passed = pass.passed;
       fine = pass.fine;
     }
@@ -32,13 +32,13 @@ loop-done-preserved g c =
       few = omega (arith, pass.most, c.loop-done-test.true);
       is = pass.done ∙ ap (turns_after k) (one.done ∙ ap turn so.is ∙ sym (c.turns_add_up.ensures.more done w))
           ∙ sym (c.turns_add_up.ensures.add (done + 1) k w);
-      changes = none-passed (c.args.count - (done + 1)) k (c.args.count - (done + 1 + k)) _ _ _ _ (omega (arith, pass.most)) pass.done
-          pass.changes
-          (next-turn c.args.count done v _ c.loop-done.self _ _ c.loop-done-test.true one.done one.changes so.changes);
+      changes = none-passed c.args.legend.now.nanoseconds (c.args.count - (done + 1)) k (c.args.count - (done + 1 + k)) _ _ _ _ (omega (arith, pass.most)) pass.done
+          (pass.changes c.args.legend.now.nanoseconds)
+          (next-turn c.args.legend.now.nanoseconds c.args.count done v _ c.loop-done.self _ _ c.loop-done-test.true one.done one.changes so.changes);
       passed = record { nodes = pass.passed.nodes ∙ one.passed.nodes ∙ so.passed.nodes; turns = omega (arith, pass.passed.turns, one.passed.turns, so.passed.turns) };
       fine = pass.fine;
     }
 
 pub returns-clause-changes : goal.returns-clause-changes
 returns-clause-changes g c =
-    all-told c.loop-done.self _ _ (no-turn-left c.args.count c.loop-done.done (g.W.WorldRun.world c.loop-done.world) c.loop-done-test.false) c.loop-done.invariant.changes
+    all-told c.loop-done.self _ _ (no-turn-left c.args.legend.now.nanoseconds c.args.count c.loop-done.done (g.W.WorldRun.world c.loop-done.world) c.loop-done-test.false) c.loop-done.invariant.changes

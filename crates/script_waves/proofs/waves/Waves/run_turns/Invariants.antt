@@ -12,7 +12,9 @@ invariant-loop-done g l =
     record {
       few : l.done ≤ l.count;
       is : v ≡ turns_after l.done w;
-      changes : l.self ++ turns_waves (l.count - l.done) v ≡ l.fn.self ++ turns_waves l.count w;
+      changes :
+          l.self ++ turns_waves l.legend.nanoseconds (l.count - l.done) v
+          ≡ l.fn.self ++ turns_waves l.legend.nanoseconds l.count w;
       passed : TurnsPass l.done w v;
       fine : IsFalse (g.W.WorldRun.is_spent l.world);
     }
