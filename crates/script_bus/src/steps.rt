@@ -177,7 +177,12 @@ impl Bus {
     }
 
     /// A command that asks the manager of a tree.
-    fn question(&mut self, alloc: Global, times: TimeRanges, command: &Command) -> Result<Vec<u8>, LineStop>
+    fn question(
+        &mut self,
+        alloc: Global,
+        times: TimeRanges,
+        command: &Command,
+    ) -> Result<Vec<u8>, LineStop>
         requires range { IsInRange times command.now }
         requires asks { AsksManager command.now }
         ensures done { IfOk result (λ text. Does self.old command.now
@@ -231,7 +236,12 @@ impl Bus {
     }
 
     /// A command in which nothing happens to the world.
-    fn ask(&mut self, alloc: Global, times: TimeRanges, command: &Command) -> Result<Vec<u8>, LineStop>
+    fn ask(
+        &mut self,
+        alloc: Global,
+        times: TimeRanges,
+        command: &Command,
+    ) -> Result<Vec<u8>, LineStop>
         requires range { IsInRange times command.now }
         requires asks { IsQuestion command.now }
         ensures done { IfOk result (λ text. Does self.old command.now

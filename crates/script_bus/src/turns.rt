@@ -13,11 +13,12 @@ ghost use Rattle.script_bus.specs.codings.Standing.{IsReportedNow, IsPassed};
 
 use crate::bus::{Bus, is_reached};
 use crate::listener::Listener;
+use cable_world::WorldRun;
 use script_lines::{Kind, LineStop};
 use script_text::{report_text, reports_can_be_shown};
-use settle::{quiet_turns, quiet_turns_settle, report_of};
-use std::alloc::Global;
 use script_trace::Legend;
+use settle::{quiet_turns_for, quiet_turns_settle, report_of};
+use std::alloc::Global;
 use topology_stack::OutOfMemory;
 use world_agenda::TellsStillTurns;
 
@@ -89,7 +90,7 @@ impl Bus {
         ensures { result ≡ quiet_turns_of self.now.world }
     {
         self.is_sound();
-        quiet_turns(self.cabling().nodes(), self.delay())
+        quiet_turns_for(self.cabling().nodes(), self.delay(), self.world().longest())
     }
 
     /// Fails where the quiet turns pass the limit.

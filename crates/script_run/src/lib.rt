@@ -17,7 +17,9 @@ mod waves;
 pub use advise::advise_script;
 pub use listed::list_script;
 pub use script::run_script;
-pub use script_lines::{Command, Kind, LineStop, ScriptFault, ScriptStop, parse_line, parse_line_with};
+pub use script_lines::{
+    Command, Kind, LineStop, ScriptFault, ScriptStop, parse_line, parse_line_with,
+};
 pub use script_made::make_script;
 pub use script_text::{maps_text, report_text, summary};
 pub use topology_stack::OutOfMemory;

@@ -4,7 +4,7 @@ use std::marker::Model;
 
 /// What is known of the bus of a script beside its world. In a contract it is the legend of the
 /// definition.
-#[derive(Clone, Copy, Debug)]
+#[derive(Debug, Drop)]
 pub struct Legend<'a> {
     /// The name of each node.
     pub names: &'a [Name],

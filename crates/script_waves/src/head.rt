@@ -7,8 +7,8 @@ use crate::value::{put_node_code, put_node_line, put_port_code, put_port_line};
 use crate::waves::Waves;
 use cable_world::WorldRun;
 use port_state::PortView;
-use script_trace::Legend;
 use script_text::{Name, OutOfMemory, put_name, put_numbered};
+use script_trace::Legend;
 use std::alloc::Global;
 
 /// Appends the variable of a node.
@@ -224,11 +224,7 @@ fn put_opening(out: &mut Vec<u8>, nanoseconds: Option<u16>, d: u8) -> Result<(),
 }
 
 /// Appends what stands before the first change.
-fn put_head<W: WorldRun>(
-    out: &mut Vec<u8>,
-    legend: &Legend,
-    world: &W,
-) -> Result<(), OutOfMemory>
+fn put_head<W: WorldRun>(out: &mut Vec<u8>, legend: &Legend, world: &W) -> Result<(), OutOfMemory>
     requires few { length legend.now.names ≤ 63 }
     requires nodes { length legend.now.names ≡ length (W.world world.now).nodes }
     ensures { OnOk result (out.new.items

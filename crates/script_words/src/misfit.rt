@@ -82,12 +82,7 @@ fn put_reason(out: &mut Vec<u8>, standard: &[u8], misfit: Misfit) -> Result<(), 
 }
 
 /// Appends what was wanted of times that don't suit.
-fn put_misfit(
-    out: &mut Vec<u8>,
-    d: u8,
-    standard: &[u8],
-    misfit: Misfit,
-) -> Result<(), OutOfMemory>
+fn put_misfit(out: &mut Vec<u8>, d: u8, standard: &[u8], misfit: Misfit) -> Result<(), OutOfMemory>
     ensures { OnOk result (out.new.items
         ≡ out.old.items ++ misfit_wanted d standard.now misfit) }
 {

@@ -169,7 +169,11 @@ fn put_limits(out: &mut Vec<u8>, limits: Option<(u32, u32)>) -> Result<(), OutOf
 
 /// Appends what may stand behind a key.
 #[tactic(auto, unfolding(crate::specs::Pairs::value_wanted))]
-pub(crate) fn put_value_wanted(out: &mut Vec<u8>, times: TimeRanges, key: &[u8]) -> Result<(), OutOfMemory>
+pub(crate) fn put_value_wanted(
+    out: &mut Vec<u8>,
+    times: TimeRanges,
+    key: &[u8],
+) -> Result<(), OutOfMemory>
     ensures { OnOk result (out.new.items ≡ out.old.items ++ value_wanted times key.now) }
 {
     if same(key, b"coins") {

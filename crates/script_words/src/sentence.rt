@@ -302,7 +302,11 @@ impl<'a> CutScript<'a> {
     pub fn line_fault(&self, alloc: Global, number: usize) -> Result<Option<Kind>, OutOfMemory>
         ensures { IfOk result (λ fault. IsFaultAt self.now number fault) }
     {
-        fault_of(alloc, whole_line(self.lines.as_slice(), number), self.said.times)
+        fault_of(
+            alloc,
+            whole_line(self.lines.as_slice(), number),
+            self.said.times,
+        )
     }
 
     /// Appends the sentence on a fault, as [`put_sentence`](crate::put_sentence) does.
