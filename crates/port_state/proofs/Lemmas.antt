@@ -15,6 +15,9 @@ pub use Rattle.port_state.proofs.IdleTicks.{after-idle_ticks, idle_ticks-rest}
 pub use Rattle.port_state.proofs.Roles.{decided_few, left_is}
 -- What goes out on ports: on which, and how much.
 pub use Rattle.port_state.proofs.Outgoing.{on-append, few-sends_from}
+-- Ranges that are handed out are suitable. The least times of a standard are in its ranges.
+pub use Rattle.port_state.proofs.Suitable.{is_ok, ok-suitable}
+pub use Rattle.port_state.proofs.StandardLeast.{least_is_within}
 -- That a record is valid has one proof at most, so a machine can keep it as a fact of its own. No
 -- public contract cites this file.
 pub use Rattle.port_state.specs.codings.OneProof.{valid_prop}

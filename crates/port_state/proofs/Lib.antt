@@ -12,5 +12,5 @@ pub mod Outgoing
 pub mod Shown
 pub mod Sound
 pub mod Stays
-mod StandardLeast
+pub mod StandardLeast
 mod Worked

@@ -28,7 +28,7 @@ each (suc count) first test all (suc k) high =
     subst (λ n. test n ≡ true) (sym z) (each count (suc first) test (and_parts (test first) (all_from count (suc first) test) all).1 k (omega (arith, high)))
 
 -- ranges that are handed out are suitable
-ok-suitable : (d : ℕ) (r : TimeRanges) → is_ok (suitable d r) ≡ true → AreSuitable d r
+pub ok-suitable : (d : ℕ) (r : TimeRanges) → is_ok (suitable d r) ≡ true → AreSuitable d r
 ok-suitable d r e = record {
   counted = record { hold = grind (arith, e); force = grind (arith, e); timeout = grind (arith, e); short = grind (arith, e); long = grind (arith, e) };
   hold = grind (arith, e);

@@ -14,11 +14,11 @@ abbrev pub profile_times : ℕ → ScriptTimes
 profile_times d = record { ranges = profile_ranges d; nanoseconds = None }
 
 -- ranges that suit, where d ticks are so many nanoseconds
-abbrev pub times_of : ℕ → Result TimeRanges Misfit → Result ScriptTimes Kind
-times_of nanoseconds (Ok ranges) = Ok (record { ranges = ranges; nanoseconds = Some nanoseconds })
-times_of nanoseconds (Err misfit) = Err Range
+abbrev pub timed : ℕ → Result TimeRanges Misfit → Result ScriptTimes Kind
+timed nanoseconds (Ok ranges) = Ok (record { ranges = ranges; nanoseconds = Some nanoseconds })
+timed nanoseconds (Err misfit) = Err Range
 
 -- a standard's times, in ticks of which d are so many nanoseconds, or `Range` where they don't suit
 abbrev pub standard_times : Standard → ℕ → ℕ → Result ScriptTimes Kind
 standard_times standard d nanoseconds =
-    times_of nanoseconds (suitable d (standard_ranges standard d nanoseconds))
+    timed nanoseconds (suitable d (standard_ranges standard d nanoseconds))

@@ -1,13 +1,14 @@
 -- A script has one run at most, and each of its reports is one of a settled bus.
 --
 -- `Cables`: acts and turns leave cables that are a cabling, over which a world has one report.
--- `Commands`: a command comes to one answer. `Reached`: it leaves a world that comes of power-on.
+-- `Commands`: a command comes to one answer. `Fitting`: times that suit a bus. `Reached`: it leaves a world that comes of power-on.
 -- `Lines`: what follows at a stage, and that lines have one run. `EachDone`: what holds of each command
 -- of a run. `EachReport`: what reports say. `ReachedRuns`: the worlds of a run. `PrintedTree`: a
 -- tree in what was printed. `PlanCarried`: what stands behind a plan.
 pub mod Parts
 pub mod Cables
 pub mod Commands
+pub mod Fitting
 pub mod Reached
 pub mod Lines
 pub mod EachDone

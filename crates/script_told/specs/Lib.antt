@@ -9,3 +9,4 @@ pub mod EachReport
 pub mod Reached
 pub mod PrintedTree
 pub mod EachPlan
+pub mod codings

@@ -15,7 +15,7 @@ use Rattle.settle.specs.Report.{IsReport, quiet_turns_of}
 use Rattle.script_told.specs.Bus.{Bus, Notes}
 use Rattle.script_told.specs.Step.{LineAnswer, Reports, Settles}
 use Rattle.script_told.specs.SomeAnswer.{IsReachedBus}
-use Rattle.script_told.specs.Script.{Stage, fresh, running, StageAnswer, bus_of, delay_of, Follows, script_lines}
+use Rattle.script_told.specs.Script.{Stage, fresh, running, StageAnswer, bus_of, ranges_of, Follows, script_lines}
 use Rattle.script_told.specs.Run.{Entry, ScriptRun, done, stopped, behind, last_run, Goes, Takes, RunsFrom, IsRun}
 use Rattle.script_told.proofs.told.Reached.{IsSound, LeavesSound, sound-bus, leaves}
 use Rattle.script_told.proofs.told.Lines.{follows}
@@ -23,7 +23,7 @@ use Rattle.script_told.proofs.told.Lines.{follows}
 -- a command of a run was done where the script had come to, and left a world that comes of power-on
 pub record IsDone (entry : Entry) : Type 0 where
   pub sound : IsSound entry.before
-  pub range : IsInRange (delay_of entry.before) entry.command
+  pub range : IsInRange (ranges_of entry.before) entry.command
   pub follows : Follows entry.before entry.command (Ok (entry.after, entry.text))
   pub left : IsSound entry.after
 
@@ -57,7 +57,7 @@ module _ (trees : NoListHasTwoTrees) (keeps : ActKeepsNodes) where
 
   goes :
       (number : ℕ) (Rest : Stage → ScriptRun → Type 0) (stage : Stage) (command : Command) (r : StageAnswer) (run : ScriptRun) →
-      IsDoneFrom Rest → IsSound stage → IsInRange (delay_of stage) command → Follows stage command r →
+      IsDoneFrom Rest → IsSound stage → IsInRange (ranges_of stage) command → Follows stage command r →
       Goes number Rest stage command r run → AllDone run
   goes number Rest stage command (Ok (next, text)) run rest h i f x =
       let left : IsSound next = (follows trees keeps stage command h i (Ok (next, text)) (Ok (next, text)) f f).1 in
@@ -70,18 +70,18 @@ module _ (trees : NoListHasTwoTrees) (keeps : ActKeepsNodes) where
 
   takes :
       (number : ℕ) (Rest : Stage → ScriptRun → Type 0) (stage : Stage) (line : List ℕ) (reading : Result (Option Command) Kind)
-      (run : ScriptRun) → IsDoneFrom Rest → IsSound stage → Reads (delay_of stage) line reading →
+      (run : ScriptRun) → IsDoneFrom Rest → IsSound stage → Reads (ranges_of stage) line reading →
       Takes number Rest stage reading run → AllDone run
   takes number Rest stage line (Ok None) run rest h reads x = rest stage run h x
   takes number Rest stage line (Ok (Some command)) run rest h reads x =
-      goes number Rest stage command x.0 run rest h (in-range (delay_of stage) line command reads) x.1 x.2
+      goes number Rest stage command x.0 run rest h (in-range (ranges_of stage) line command reads) x.1 x.2
   takes number Rest stage line (Err kind) run rest h reads x = subst AllDone (sym x) (none-done number kind)
 
   -- the `settle` behind the last line is a command too
   ends : (number : ℕ) (stage : Stage) (r : LineAnswer) → IsSound stage → Settles (bus_of stage) r →
       AllDone (last_run number stage r)
   ends number stage (Ok (bus, text)) h s =
-      let left = leaves keeps (delay_of stage) (bus_of stage) Settle (sound-bus stage h) tt (Ok (bus, text)) s in
+      let left = leaves keeps (ranges_of stage) (bus_of stage) Settle (sound-bus stage h) tt (Ok (bus, text)) s in
       record {
         each = All-cons IsDone (done number stage Settle (running bus) text) []
             (record { sound = h; range = tt; follows = (Ok (bus, text), s, refl); left = left }) (All-nil IsDone);

@@ -1,24 +1,30 @@
 -- What follows at a stage, and that a script has one run.
-use Rattle.std.proofs.Common.{◌≡◌, ◌++◌, ℕ, ◌+◌, Bool, true, false, List, [], ◌∷◌, Option, Some, None, length, refl, sym, ◌∙◌, ap, subst, arith}
-use Rattle.std.specs.Prelude.{nat_lt, Result, Ok, Err, All, if◌then◌else◌}
+use Rattle.std.proofs.Common.{◌≡◌, ◌++◌, ℕ, ◌+◌, ◌≤◌, ◌==◌, ◌&&◌, not, Bool, true, false, List, [], ◌∷◌, Option, Some, None, length, refl, sym, ◌∙◌, ap, subst, arith}
+use Rattle.std.specs.Prelude.{nat_lt, is_some, slice_get, Result, Ok, Err, All, if◌then◌else◌}
+use Rattle.std.proofs.lemmas.Bool.Decides.{nat_tests}
 use Rattle.topology_stack.specs.OneAnswer.{NoListHasTwoTrees}
 use Rattle.port_state.specs.Machine.{PortNode}
-use Rattle.cable_world.specs.World.{IsNodeAtPowerOn}
+use Rattle.port_state.specs.declared.ranges.TimeRanges.{TimeRanges}
+use Rattle.self_id.specs.declared.standard.Standard.{Standard}
 use Rattle.cable_world.specs.Unchanged.{ActKeepsNodes}
 use Rattle.cable_world.proofs.Lemmas.{reached-lawful}
 use Rattle.script_lines.specs.declared.kind.Kind.{Kind}
 use Rattle.script_lines.specs.declared.command.Command.{Command}
-use Rattle.script_lines.specs.declared.command.Command.TheVariants.{Node, Delay, Settle}
+use Rattle.script_lines.specs.declared.command.Command.TheVariants.{Node, Delay, Times, Settle}
 use Rattle.script_lines.specs.Range.{IsWithin, IsInRange}
+use Rattle.script_lines.specs.declared.times.ScriptTimes.{ScriptTimes}
+use Rattle.script_lines.specs.Times.{standard_times}
 use Rattle.script_lines.specs.Line.{Reads}
 use Rattle.script_lines.proofs.Lemmas.{one_reading, in-range}
 use Rattle.script_told.specs.Bus.{is_declared}
 use Rattle.script_told.specs.Step.{LineAnswer, Settles}
-use Rattle.script_told.specs.Script.{Draft, Stage, fresh, declaring, running, StageAnswer, draft_of, bus_of, delay_of, first_draft, new_node, times_of, coins_of, with_node, Declares, Delays, onwards, Runs, Follows, Told, script_lines}
+use Rattle.script_told.specs.Script.{Draft, Stage, fresh, declaring, running, StageAnswer, draft_of, bus_of, ranges_of, first_draft, draft_with, new_node, times_of, coins_of, with_node, with_times, Declares, Delays, SaysTimes, onwards, Runs, Follows, Told, script_lines}
 use Rattle.script_told.specs.Run.{ScriptRun, done, stopped, behind, last_run, Ends, Goes, Takes, RunsFrom, told_by}
 use Rattle.script_told.specs.OneTold.{ScriptsHaveOneRun, ScriptsTellOneThing}
+use Rattle.script_told.specs.codings.Fitting.{AreFitting, IsFitting}
 use Rattle.script_told.proofs.told.Cables.{IsCabled}
 use Rattle.script_told.proofs.told.Commands.{does, settles}
+use Rattle.script_told.proofs.told.Fitting.{standard-fits}
 use Rattle.script_told.proofs.told.Reached.{IsSoundDraft, IsSound, LeavesSound, sound-bus, stage-reached, no-nodes, drafted, leaves, onwards-sound, attrs_said, node-at-power-on}
 
 -- the cables at a stage are a cabling
@@ -34,14 +40,14 @@ known : (r a b : StageAnswer) → LeavesSound r → a ≡ r → b ≡ r → (a �
 known r a b h x y = (x ∙ sym y, subst LeavesSound (sym x) h)
 
 declares :
-    (draft : Draft) (name : List ℕ) (node : ℕ → ℕ → PortNode) → IsSoundDraft draft →
-    IsNodeAtPowerOn draft.delay (node draft.delay (length draft.names)).state →
+    (draft : Draft) (name : List ℕ) (node : TimeRanges → ℕ → PortNode) → IsSoundDraft draft →
+    IsFitting draft.delay draft.times.ranges (node draft.times.ranges (length draft.names)) →
     IsOneStage (Declares (Some draft) name node)
 declares draft name node h on =
     go (nat_lt 62 (length draft.names)) (is_declared draft.names name) refl
   where
     new : PortNode
-    new = node draft.delay (length draft.names)
+    new = node draft.times.ranges (length draft.names)
 
     go : (full twice : Bool) → nat_lt 62 (length draft.names) ≡ full →
         IsOneStage (λ r. r ≡ (if full then Err Kind.TooManyNodes
@@ -53,35 +59,72 @@ declares draft name node h on =
 
 delays : (stage : Stage) (delay : ℕ) → IsWithin 1 16 delay → IsOneStage (Delays stage delay)
 delays fresh delay i a b x y =
-    known (Ok (declaring (record first_draft { delay = delay }), [])) a b (no-nodes delay i.0 i.1) x y
+    known (Ok (declaring (draft_with delay), [])) a b (no-nodes delay i.0 i.1) x y
 delays (declaring draft) delay i a b x y = known (Err Kind.Late) a b tt x y
 delays (running bus) delay i a b x y = known (Err Kind.Late) a b tt x y
 
--- the node that a line declares, by d and the number that it gets
+-- a standard's times, where the line that says them isn't refused
+timed-draft :
+    (draft : Draft) (times : ScriptTimes) → length draft.names ≡ 0 → AreFitting draft.delay times.ranges →
+    IsSoundDraft draft → IsSoundDraft (record draft { times = times })
+timed-draft draft times none fit h = record {
+  some_delay = h.some_delay;
+  short_delay = h.short_delay;
+  few = h.few;
+  same = h.same;
+  fitting = fit;
+  powered = λ k x at. absurd (no-node draft.nodes (sym h.same ∙ none) k x at);
+}
+  where
+    no-node : (nodes : List PortNode) → length nodes ≡ 0 → (k : ℕ) (x : PortNode) → slice_get nodes k ≡ Some x → ⊥
+    no-node [] e k x at = cc
+    no-node (y ∷ nodes) e k x at = absurd (omega (arith, e))
+
+says :
+    (draft : Draft) (standard : Standard) (nanoseconds : ℕ) → 1 ≤ nanoseconds → IsSoundDraft draft →
+    IsOneStage (SaysTimes (Some draft) standard nanoseconds)
+says draft standard nanoseconds some h =
+    go (length draft.names == 0) (not (is_some draft.times.nanoseconds))
+    (standard_times standard draft.delay nanoseconds) refl refl
+  where
+    go : (none new : Bool) (r : Result ScriptTimes Kind) → (length draft.names == 0) ≡ none →
+        standard_times standard draft.delay nanoseconds ≡ r →
+        IsOneStage (λ a. a ≡ (if none && new then with_times draft r else Err Kind.Late))
+    go true true (Ok times) e f a b x y =
+        known (Ok (declaring (record draft { times = times }), [])) a b
+        (timed-draft draft times (grind (arith, nat_tests, e)) (standard-fits standard draft.delay nanoseconds times some f) h) x y
+    go true true (Err kind) e f a b x y = known (Err kind) a b tt x y
+    go true false r e f a b x y = known (Err Kind.Late) a b tt x y
+    go false new r e f a b x y = known (Err Kind.Late) a b tt x y
+
+-- the node that a line declares, by the ranges of times and the number that it gets
 abbrev node_of :
-    (ports speed : ℕ) (link contender force : Bool) (power gap : ℕ) (hold short long : Option ℕ) (word len : ℕ) (seed : Option ℕ) → ℕ → ℕ → PortNode
-node_of ports speed link contender force power gap hold short long word len seed d number =
-    new_node (attrs_said speed link contender power gap) ports force (times_of d hold short long) (coins_of number word len seed)
+    (ports speed : ℕ) (link contender force : Bool) (power gap : ℕ) (hold short long : Option ℕ) (word len : ℕ) (seed : Option ℕ) → TimeRanges → ℕ → PortNode
+node_of ports speed link contender force power gap hold short long word len seed ranges number =
+    new_node (attrs_said speed link contender power gap) ports force (times_of ranges hold short long) (coins_of number word len seed)
 
 module _ (trees : NoListHasTwoTrees) (keeps : ActKeepsNodes) where
-  runs : (stage : Stage) (command : Command) → IsSound stage → IsInRange (delay_of stage) command →
+  runs : (stage : Stage) (command : Command) → IsSound stage → IsInRange (ranges_of stage) command →
       IsOneStage (Runs stage command)
   runs stage command h i a b x y =
       let same = does trees (bus_of stage) command (cabled stage h) x.0 y.0 x.1 y.1 in
-      let left = leaves keeps (delay_of stage) (bus_of stage) command (sound-bus stage h) i x.0 x.1 in (
+      let left = leaves keeps (ranges_of stage) (bus_of stage) command (sound-bus stage h) i x.0 x.1 in (
         x.2 ∙ ap onwards same.0 ∙ sym y.2,
         subst LeavesSound (sym x.2) (onwards-sound x.0 left),
       )
 
   pub follows : (stage : Stage) (command : Command) → IsSound stage →
-      IsInRange (delay_of stage) command → IsOneStage (Follows stage command)
+      IsInRange (ranges_of stage) command → IsOneStage (Follows stage command)
   follows fresh (Node name ports speed link contender force power gap held short long word len seed packed) h i =
-      declares first_draft name (node_of ports speed link contender force power gap held short long word len seed) (no-nodes 4 (omega arith) (omega arith)) (node-at-power-on first_draft ports speed link contender force power gap held short long word len seed i)
+      declares first_draft name (node_of ports speed link contender force power gap held short long word len seed) (no-nodes 4 (omega arith) (omega arith)) (node-at-power-on first_draft ports speed link contender force power gap held short long word len seed (no-nodes 4 (omega arith) (omega arith)).fitting i)
   follows (declaring draft) (Node name ports speed link contender force power gap held short long word len seed packed) h i =
-      declares draft name (node_of ports speed link contender force power gap held short long word len seed) h (node-at-power-on draft ports speed link contender force power gap held short long word len seed i)
+      declares draft name (node_of ports speed link contender force power gap held short long word len seed) h (node-at-power-on draft ports speed link contender force power gap held short long word len seed h.fitting i)
   follows (running bus) (Node name ports speed link contender force power gap held short long word len seed packed) h i =
       λ a b x y. known (Err Kind.Late) a b tt x y
   follows stage (Delay delay) h i = delays stage delay i
+  follows fresh (Times standard nanoseconds) h i = says first_draft standard nanoseconds i.0 (no-nodes 4 (omega arith) (omega arith))
+  follows (declaring draft) (Times standard nanoseconds) h i = says draft standard nanoseconds i.0 h
+  follows (running bus) (Times standard nanoseconds) h i = λ a b x y. known (Err Kind.Late) a b tt x y
   follows stage command h i = runs stage command h i
 
   -- ---- lines
@@ -98,11 +141,11 @@ module _ (trees : NoListHasTwoTrees) (keeps : ActKeepsNodes) where
 
   takes :
       (number : ℕ) (Rest : Stage → ScriptRun → Type 0) (stage : Stage) (line : List ℕ) (reading : Result (Option Command) Kind)
-      (one other : ScriptRun) → IsOneFrom Rest → IsSound stage → Reads (delay_of stage) line reading →
+      (one other : ScriptRun) → IsOneFrom Rest → IsSound stage → Reads (ranges_of stage) line reading →
       Takes number Rest stage reading one → Takes number Rest stage reading other → one ≡ other
   takes number Rest stage line (Ok None) one other rest h reads x y = rest stage one other h x y
   takes number Rest stage line (Ok (Some command)) one other rest h reads x y =
-      let same = follows stage command h (in-range (delay_of stage) line command reads) x.0 y.0 x.1 y.1 in
+      let same = follows stage command h (in-range (ranges_of stage) line command reads) x.0 y.0 x.1 y.1 in
       let again : Goes number Rest stage command x.0 other =
       subst (λ (r : StageAnswer). Goes number Rest stage command r other) (sym same.0) y.2 in
       goes number Rest stage command x.0 one other rest same.1 x.2 again
@@ -113,7 +156,7 @@ module _ (trees : NoListHasTwoTrees) (keeps : ActKeepsNodes) where
       let same : x.0 ≡ y.0 = (settles trees (bus_of stage) (cabled stage h) x.0 y.0 x.1 y.1).0 in
       x.2 ∙ ap (last_run number stage) same ∙ sym y.2
   from-each number (line ∷ lines) stage one other h x y =
-      let same : y.0 ≡ x.0 = one_reading (delay_of stage) line y.0 x.0 y.1 x.1 in
+      let same : y.0 ≡ x.0 = one_reading (ranges_of stage) line y.0 x.0 y.1 x.1 in
       let Rest : Stage → ScriptRun → Type 0 = RunsFrom (number + 1) lines in
       let again : Takes number Rest stage x.0 other =
       subst (λ (r : Result (Option Command) Kind). Takes number Rest stage r other) same y.2 in

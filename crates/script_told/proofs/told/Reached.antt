@@ -10,9 +10,10 @@ use Rattle.cable_world.specs.declared.act.Act.TheVariants as act
 use Rattle.self_id.specs.declared.node.Attrs.{Attrs}
 use Rattle.port_state.specs.Coins.{Coins}
 use Rattle.port_state.specs.declared.timing.Timing.{Timing}
+use Rattle.port_state.specs.declared.ranges.TimeRanges.{TimeRanges}
 use Rattle.port_state.specs.Machine.{PortNode}
 use Rattle.port_state.proofs.Lemmas.{valid-power_on}
-use Rattle.cable_world.specs.World.{CableWorld, NodeNumber, IsNodeAtPowerOn, world_of_nodes}
+use Rattle.cable_world.specs.World.{CableWorld, NodeNumber, world_with_times}
 use Rattle.cable_world.proofs.Lemmas.{power-on, some-same, reached-lawful, power-on-reached, turns-reached, act-reached, hold-reached}
 use Rattle.cable_world.specs.Run.{Event, acts, holds, turns, Happens, Runs, IsReached}
 use Rattle.cable_world.specs.Act.{IsAct, hold, hold_fault}
@@ -32,7 +33,7 @@ use Rattle.settle.specs.Report.{quiet_turns_of}
 use Rattle.settle_plan.proofs.Lemmas.{gap-fits}
 use Rattle.script_lines.specs.declared.kind.Kind.{Kind}
 use Rattle.script_lines.specs.declared.command.Command.{Command}
-use Rattle.script_lines.specs.declared.command.Command.TheVariants.{Node, Plug, Pull, Reset, Turn, Hold, Settle, Config, CsrRead, CsrWrite, CsrLock, Look, Allocate, Release, Manager, Plan, Maps, Delay}
+use Rattle.script_lines.specs.declared.command.Command.TheVariants.{Node, Plug, Pull, Reset, Turn, Hold, Settle, Config, CsrRead, CsrWrite, CsrLock, Look, Allocate, Release, Manager, Plan, Maps, Delay, Times}
 use Rattle.script_lines.specs.Range.{IsWithin, IsInRange, IsNodeInRange, IsConfigInRange}
 use Rattle.script_lines.specs.Line.{Reads}
 use Rattle.script_lines.specs.Ranged.{CommandsAreInRange}
@@ -42,9 +43,11 @@ use Rattle.script_text.specs.CommandText.{csr_text, grant_text, bid_text}
 use Rattle.script_told.specs.Bus.{Bus, Notes, Reported, node_named, tree_with, values_at, after_access, put_look}
 use Rattle.script_told.specs.Step.{LineAnswer, AtNode, Named, AtTree, Settled, AtManager, Managed, id_of, Acts, Holds, Within, Turns, Reports, Settles, Accesses, Grants, Looks, seen_by, Plans, GivesMaps, Does, end_of, config_of}
 use Rattle.script_told.specs.SomeAnswer.{IsOfReached, IsReachedBus, HasAnswer, CommandsHaveAnswers, PlansHaveAnswers, BusesSettle}
-use Rattle.script_told.specs.Script.{Draft, Stage, fresh, declaring, running, StageAnswer, bus_of, delay_of, first_draft, new_node, times_of, coins_of, with_node, Declares, Delays, onwards}
+use Rattle.script_told.specs.Script.{Draft, Stage, fresh, declaring, running, StageAnswer, bus_of, first_draft, draft_with, new_node, times_of, coins_of, with_node, Declares, Delays, onwards}
 use Rattle.script_told.specs.Bus.{bus_of_nodes, is_declared}
+use Rattle.script_told.specs.codings.Fitting.{AreFitting, IsFitting}
 use Rattle.script_told.proofs.Turns.{after-turns}
+use Rattle.script_told.proofs.told.Fitting.{profile-fits, times-within, suits, can-be-forced}
 
 -- ---- a report of a reached world, a turn or a hold later
 
@@ -237,36 +240,37 @@ config-act node root_id gap h = record {
   says = h.some_given;
 }
 
-pub leaves : ActKeepsNodes → (d : ℕ) (bus : Bus) (command : Command) → IsReachedBus bus →
-    IsInRange d command → Leaves (Does bus command)
-leaves keeps d bus (Node name ports speed link contender force power gap held short long word len seed packed) h i = known (Err Kind.Late) tt
-leaves keeps d bus (Delay delay) h i = known (Err Kind.Late) tt
-leaves keeps d bus (Plug a a_port b b_port) h i = named bus a _ (λ n. named bus b _ (λ m. do-act keeps bus (act.Plug (end_of n a_port) (end_of m b_port)) h tt))
-leaves keeps d bus (Pull name port) h i = named bus name _ (λ node. do-act keeps bus (act.Pull (end_of node port)) h tt)
-leaves keeps d bus (Reset name) h i = named bus name _ (λ node. do-act keeps bus (act.Reset node) h tt)
-leaves keeps d bus (Turn count) h i = do-turns bus count h
-leaves keeps d bus (Hold name port n) h i = named bus name _ (λ node. do-hold bus (end_of node port) n h)
-leaves keeps d bus Settle h i = do-settle bus h
-leaves keeps d bus (Config name root_id gap) h i =
+pub leaves : ActKeepsNodes → (times : TimeRanges) (bus : Bus) (command : Command) → IsReachedBus bus →
+    IsInRange times command → Leaves (Does bus command)
+leaves keeps times bus (Node name ports speed link contender force power gap held short long word len seed packed) h i = known (Err Kind.Late) tt
+leaves keeps times bus (Delay delay) h i = known (Err Kind.Late) tt
+leaves keeps times bus (Times standard nanoseconds) h i = known (Err Kind.Late) tt
+leaves keeps times bus (Plug a a_port b b_port) h i = named bus a _ (λ n. named bus b _ (λ m. do-act keeps bus (act.Plug (end_of n a_port) (end_of m b_port)) h tt))
+leaves keeps times bus (Pull name port) h i = named bus name _ (λ node. do-act keeps bus (act.Pull (end_of node port)) h tt)
+leaves keeps times bus (Reset name) h i = named bus name _ (λ node. do-act keeps bus (act.Reset node) h tt)
+leaves keeps times bus (Turn count) h i = do-turns bus count h
+leaves keeps times bus (Hold name port n) h i = named bus name _ (λ node. do-hold bus (end_of node port) n h)
+leaves keeps times bus Settle h i = do-settle bus h
+leaves keeps times bus (Config name root_id gap) h i =
     named bus name _ (λ node. settled bus node _ (λ tree. do-act keeps bus (config_of node root_id gap) h (config-act node root_id gap i)))
-leaves keeps d bus (CsrRead name offset) h i =
+leaves keeps times bus (CsrRead name offset) h i =
     managed bus name _ (λ node id manager. do-access bus manager (access.Read offset) (csr_text name) h)
-leaves keeps d bus (CsrWrite name offset value) h i =
+leaves keeps times bus (CsrWrite name offset value) h i =
     managed bus name _ (λ node id manager. do-access bus manager (access.Write offset value) (csr_text name) h)
-leaves keeps d bus (CsrLock name offset kind arg value) h i =
+leaves keeps times bus (CsrLock name offset kind arg value) h i =
     managed bus name _ (λ node id manager. do-access bus manager (access.Lock offset kind arg value) (csr_text name) h)
-leaves keeps d bus (Look name) h i =
+leaves keeps times bus (Look name) h i =
     managed bus name _ (λ node id manager. do-look bus node manager h)
-leaves keeps d bus (Allocate name channel units) h i =
+leaves keeps times bus (Allocate name channel units) h i =
     managed bus name _ (λ node id manager. do-grant bus node manager (λ seen. access.Allocate seen channel units) (grant_text (codes "allocate ") name) h)
-leaves keeps d bus (Release name channel units) h i =
+leaves keeps times bus (Release name channel units) h i =
     managed bus name _ (λ node id manager. do-grant bus node manager (λ seen. access.Release seen channel units) (grant_text (codes "release ") name) h)
-leaves keeps d bus (Manager name) h i =
+leaves keeps times bus (Manager name) h i =
     managed bus name _ (λ node id manager. do-access bus manager (lock_for id) (bid_text name) h)
-leaves keeps d bus (Plan name) h i = managed bus name _ (λ node id manager.
+leaves keeps times bus (Plan name) h i = managed bus name _ (λ node id manager.
     if-test ((values_at manager bus).bus_manager_id == id) _ (λ r. r ≡ Err Kind.NotManager)
     (within bus (quiet_turns_of bus.world) _ (settled bus node _ (λ tree. do-plan keeps bus name node tree h))) (known (Err Kind.NotManager) tt))
-leaves keeps d bus (Maps name) h i = named bus name _ (λ node. settled bus node _ (λ tree.
+leaves keeps times bus (Maps name) h i = named bus name _ (λ node. settled bus node _ (λ tree.
     if-test (nat_lt bus.notes.maps 100) (GivesMaps bus tree) (λ r. r ≡ Err Kind.TooManyMaps) (do-maps bus tree h) (known (Err Kind.TooManyMaps) tt)))
 
 -- ---- nodes that are declared
@@ -276,19 +280,29 @@ pub record IsSoundDraft (draft : Draft) : Type 0 where
   pub short_delay : draft.delay ≤ 16
   pub few : length draft.nodes ≤ 63
   pub same : length draft.names ≡ length draft.nodes
+  pub fitting : AreFitting draft.delay draft.times.ranges
   pub powered : (k : ℕ) (x : PortNode) → slice_get draft.nodes k ≡ Some x →
-      IsNodeAtPowerOn draft.delay x.state
+      IsFitting draft.delay draft.times.ranges x
 
 pub draft-bus : (draft : Draft) → IsSoundDraft draft →
-    IsReachedBus (bus_of_nodes draft.delay draft.names draft.nodes)
+    IsReachedBus (bus_of_nodes draft.delay draft.times draft.names draft.nodes)
 draft-bus draft h = record {
-  reached = power-on-reached (world_of_nodes draft.delay draft.nodes) (power-on draft.delay draft.nodes h.some_delay h.short_delay h.few h.powered);
+  reached = power-on-reached (world_with_times draft.delay draft.times.ranges.most draft.nodes)
+      (power-on draft.delay draft.times.ranges.most draft.nodes h.some_delay h.short_delay h.few (λ k x at. (h.powered k x at).powered))
+      (λ k x at. (h.powered k x at).forced);
   named = h.same;
   reported = tt;
 }
 
-pub no-nodes : (d : ℕ) → 1 ≤ d → d ≤ 16 → IsSoundDraft (record first_draft { delay = d })
-no-nodes d one most = record { some_delay = one; short_delay = most; few = omega arith; same = refl; powered = λ k x e. absurd cc }
+pub no-nodes : (d : ℕ) → 1 ≤ d → d ≤ 16 → IsSoundDraft (draft_with d)
+no-nodes d one most = record {
+  some_delay = one;
+  short_delay = most;
+  few = omega arith;
+  same = refl;
+  fitting = profile-fits d one most;
+  powered = λ k x e. absurd cc;
+}
 
 abbrev pub IsSound : Stage → Type 0
 IsSound fresh = Unit {0}
@@ -308,31 +322,27 @@ more-at [] x P h p (suc k) y e = absurd cc
 more-at (z ∷ nodes) x P h p zero y e = h zero y e
 more-at (z ∷ nodes) x P h p (suc k) y e = more-at nodes x P (λ j w f. h (suc j) w f) p k y e
 
-between : (o : Option ℕ) (least most usual : ℕ) → IfSome o (IsWithin least most) → least ≤ usual →
-    usual ≤ most → IsWithin least most (unwrap_or o usual)
-between None least most usual h l m = (l, m)
-between (Some n) least most usual h l m = h
-
 pub at-power-on :
-    (d ports : ℕ) (attrs : Attrs) (force : Bool) (held short long : Option ℕ) (len : ℕ) (coins : Coins) → attrs.delay ≡ 0 →
-    IsNodeInRange d ports attrs.speed attrs.power attrs.gap held short long len →
-    IsNodeAtPowerOn d (new_node attrs ports force (times_of d held short long) coins).state
-at-power-on d ports attrs force held short long len coins none h =
-    let t : Timing = times_of d held short long in
-    let a = between held (64 * d) (80 * d) (64 * d) h.hold_within (omega arith) (omega arith) in
-    let b = between short (3 * d) (4 * d) (3 * d) h.short_within (omega arith) (omega arith) in
-    let c = between long (8 * d) (10 * d) (8 * d) h.long_within (omega arith) (omega arith) in
+    (d : ℕ) (r : TimeRanges) (ports : ℕ) (attrs : Attrs) (force : Bool) (held short long : Option ℕ) (len : ℕ) (coins : Coins) → attrs.delay ≡ 0 →
+    AreFitting d r → IsNodeInRange r ports attrs.speed attrs.power attrs.gap held short long len →
+    IsFitting d r (new_node attrs ports force (times_of r held short long) coins)
+at-power-on d r ports attrs force held short long len coins none fit h =
+    let t : Timing = times_of r held short long in
+    let in_ranges = times-within r ports attrs.speed attrs.power attrs.gap held short long len fit.least h in
     record {
-      is = refl;
-      valid = valid-power_on ports attrs force t h.some_port h.few_ports
-          (record { gap = omega (arith, h.gap_most); speed = omega (arith, h.speed_most); delay = omega (arith, none); power = omega (arith, h.power_most) }) none;
-      timing = record { hold_least = a.0; hold_most = a.1; force = refl; timeout = refl; short_least = b.0; short_most = b.1; long_least = c.0; long_most = c.1 };
+      powered = record {
+        is = refl;
+        valid = valid-power_on ports attrs force t h.some_port h.few_ports
+            (record { gap = omega (arith, h.gap_most); speed = omega (arith, h.speed_most); delay = omega (arith, none); power = omega (arith, h.power_most) }) none;
+        timing = suits d r t fit.suitable in_ranges;
+      };
+      forced = can-be-forced d r t fit.suitable in_ranges;
     }
 
 -- a node more, where there is room
 pub drafted :
     (draft : Draft) (name : List ℕ) (node : PortNode) → nat_lt 62 (length draft.names) ≡ false → IsSoundDraft draft →
-    IsNodeAtPowerOn draft.delay node.state → IsSoundDraft (with_node draft name node)
+    IsFitting draft.delay draft.times.ranges node → IsSoundDraft (with_node draft name node)
 drafted draft name node e h on =
     let room : length draft.names ≤ 62 = grind (arith, nat_tests) in
     let names = length-append draft.names (name ∷ []) in
@@ -342,7 +352,8 @@ drafted draft name node e h on =
       short_delay = h.short_delay;
       few = omega (arith, nodes, room, h.same);
       same = omega (arith, names, nodes, h.same);
-      powered = more-at draft.nodes node (λ x. IsNodeAtPowerOn draft.delay x.state) h.powered on;
+      fitting = h.fitting;
+      powered = more-at draft.nodes node (IsFitting draft.delay draft.times.ranges) h.powered on;
     }
 
 -- ---- a stage
@@ -369,11 +380,12 @@ attrs_said speed link contender power gap = record {
 
 pub node-at-power-on :
     (draft : Draft) (ports speed : ℕ) (link contender force : Bool) (power gap : ℕ)
-    (held short long : Option ℕ) (word len : ℕ) (seed : Option ℕ) → IsNodeInRange draft.delay ports speed power gap held short long len →
-    IsNodeAtPowerOn draft.delay
-    (new_node (attrs_said speed link contender power gap) ports force (times_of draft.delay held short long) (coins_of (length draft.names) word len seed)).state
-node-at-power-on draft ports speed link contender force power gap held short long word len seed i =
-    at-power-on draft.delay ports (attrs_said speed link contender power gap) force held short long len (coins_of (length draft.names) word len seed) refl i
+    (held short long : Option ℕ) (word len : ℕ) (seed : Option ℕ) → AreFitting draft.delay draft.times.ranges →
+    IsNodeInRange draft.times.ranges ports speed power gap held short long len →
+    IsFitting draft.delay draft.times.ranges
+    (new_node (attrs_said speed link contender power gap) ports force (times_of draft.times.ranges held short long) (coins_of (length draft.names) word len seed))
+node-at-power-on draft ports speed link contender force power gap held short long word len seed fit i =
+    at-power-on draft.delay draft.times.ranges ports (attrs_said speed link contender power gap) force held short long len (coins_of (length draft.names) word len seed) refl fit i
 
 -- the world that runs from a stage on comes of power-on
 pub stage-reached : (stage : Stage) → IsSound stage → IsReached (bus_of stage).world
