@@ -36,7 +36,7 @@ use Rattle.script_lines.specs.declared.command.Command.{Command}
 use Rattle.script_lines.specs.declared.command.Command.TheVariants as command
 use Rattle.script_told.specs.Bus.{Bus, Notes, Reported, node_named, tree_with}
 use Rattle.script_told.specs.Step.{LineAnswer, AtNode, AtTree, Settled, Acts, Reports, Does, config_of, node_with}
-use Rattle.script_told.specs.Script.{Stage, StageAnswer, running, bus_of, delay_of, onwards, Follows}
+use Rattle.script_told.specs.Script.{Stage, StageAnswer, running, bus_of, ranges_of, onwards, Follows}
 use Rattle.script_told.specs.Run.{Entry}
 use Rattle.script_told.specs.SomeAnswer.{IsReachedBus}
 use Rattle.script_text.specs.ReportText.{Names, IsReportText}
@@ -249,7 +249,7 @@ module _
       let g : Follows two.before command.Settle (Ok (two.after, two.text)) =
       subst (λ (c : Command). Follows two.before c (Ok (two.after, two.text))) settle next.follows in
       let range : IsConfigInRange (Some id) gap =
-      subst (IsInRange (delay_of one.before)) config first.range in
+      subst (IsInRange (ranges_of one.before)) config first.range in
       let a = by-answer (bus_of one.before) (command.Config name (Some id) gap) one.after one.text f.0 f.1 f.2 in
       let b = by-answer (bus_of two.before) command.Settle two.after two.text g.0 g.1 g.2 in
       let c = packet-sent (bus_of one.before) name id gap a.after a.text a.does in

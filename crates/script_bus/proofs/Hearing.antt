@@ -6,16 +6,15 @@ use Rattle.cable_world.specs.World.{CableWorld}
 use Rattle.cable_world.specs.Turn.{turns_after}
 use Rattle.root_plan.specs.declared.choice.RootPlan.{RootPlan}
 use Rattle.settle.specs.Report.{IsReport, quiet_turns_of}
-use Rattle.settle.proofs.Lemmas.{quiet-is}
 use Rattle.script_lines.specs.declared.kind.Kind.{Kind}
 use Rattle.script_lines.specs.declared.command.Command.{Command}
 use Rattle.script_lines.specs.declared.command.Command.TheVariants.{Plug, Pull, Reset, Config, Hold}
-use Rattle.script_text.specs.ReportText.{Names, IsReportText}
+use Rattle.script_text.specs.ReportText.{IsReportText}
 use Rattle.script_told.specs.Bus.{Notes, Bus}
 use Rattle.script_told.specs.Step.{LineAnswer, Reports, Settles, notes_after_report}
 use Rattle.script_trace.specs.Event.{Seen}
 use Rattle.script_trace.specs.Step.{seen_before_act}
-use Rattle.script_trace.specs.Voice.{Voice}
+use Rattle.script_trace.specs.Voice.{Legend, legend_of, Voice}
 use Rattle.script_trace.specs.Trace.{act_trace, quiet_trace, Traces}
 use Rattle.script_bus.specs.Heard.{Hears, TellAlike}
 use Rattle.script_bus.specs.codings.Standing.{IsActCommand, IsHoldCommand, IsQuestion, IsReportedNow, IsPassed, IsPacketSent, IsSentHeard}
@@ -24,7 +23,7 @@ use Rattle.script_bus.specs.codings.Standing.{IsActCommand, IsHoldCommand, IsQue
 
 by-act :
     (voice : Voice) (bus after : Bus) (command : Command) (lines : List ℕ) → IsActCommand command →
-    lines ≡ act_trace voice after.notes.names command bus.world after.world →
+    lines ≡ act_trace voice (legend_of after.notes) command bus.world after.world →
     Traces voice bus command after lines
 by-act voice bus after (Plug a a_port b b_port) lines act is = is
 by-act voice bus after (Pull name port) lines act is = is
@@ -58,28 +57,28 @@ both-heard xs ys out mid new first next =
 
 -- what an act's line and what it does come to
 pub acted :
-    (voice : Voice) (names : Names) (w v : CableWorld) (turn : ℕ) (command : Command)
-    (out mid new : List ℕ) (seen : List Seen) (ns : Names) → turn ≡ w.turns →
+    (voice : Voice) (legend : Legend) (w v : CableWorld) (turn : ℕ) (command : Command)
+    (out mid new : List ℕ) (seen : List Seen) (ns : Legend) → turn ≡ w.turns →
     mid ≡ out ++ voice.command turn command →
-    TellAlike voice seen (seen_before_act w 0 w.nodes) → ns ≡ names →
+    TellAlike voice seen (seen_before_act w 0 w.nodes) → ns ≡ legend →
     new ≡ mid ++ voice.since ns seen v →
-    new ≡ out ++ act_trace voice names command w v
-acted voice names w v turn command out mid new seen ns at said alike named is =
+    new ≡ out ++ act_trace voice legend command w v
+acted voice legend w v turn command out mid new seen ns at said alike named is =
     is
     ∙ ap (λ (l : List ℕ). l ++ voice.since ns seen v) said
     ∙ append_assoc out (voice.command turn command) (voice.since ns seen v)
     ∙ ap (λ (l : List ℕ). out ++ (voice.command turn command ++ l)) (alike ns v)
-    ∙ ap (λ (ms : Names). out ++ (voice.command turn command ++ voice.since ms (seen_before_act w 0 w.nodes) v)) named
-    ∙ ap (λ (t : ℕ). out ++ (voice.command t command ++ voice.since names (seen_before_act w 0 w.nodes) v)) at
+    ∙ ap (λ (ms : Legend). out ++ (voice.command turn command ++ voice.since ms (seen_before_act w 0 w.nodes) v)) named
+    ∙ ap (λ (t : ℕ). out ++ (voice.command t command ++ voice.since legend (seen_before_act w 0 w.nodes) v)) at
 
 pub act-hears :
     (voice : Voice) (bus after : Bus) (command : Command) (out new : List ℕ) →
     IsActCommand command →
-    new ≡ out ++ act_trace voice after.notes.names command bus.world after.world →
+    new ≡ out ++ act_trace voice (legend_of after.notes) command bus.world after.world →
     Hears voice bus command after out new
 act-hears voice bus after command out new act is = record {
-  lines = act_trace voice after.notes.names command bus.world after.world;
-  traces = by-act voice bus after command (act_trace voice after.notes.names command bus.world after.world) act refl;
+  lines = act_trace voice (legend_of after.notes) command bus.world after.world;
+  traces = by-act voice bus after command (act_trace voice (legend_of after.notes) command bus.world after.world) act refl;
   written = is;
 }
 
@@ -126,46 +125,46 @@ settles-within bus answer within r =
     subst (λ (past : Bool). MatchBool past (answer ≡ Err Kind.TooManyTurns) (Reports bus answer))
     (sym within) r
 
--- the report's names are those before it
-pub names-stay : (bus after : Bus) (text : List ℕ) → Reports bus (Ok (after, text)) →
-    after.notes.names ≡ bus.notes.names
-names-stay bus after text r = ap (λ (n : Notes). n.names) r.3
+-- the report's legend is that before it
+pub legend-stays : (bus after : Bus) (text : List ℕ) → Reports bus (Ok (after, text)) →
+    legend_of after.notes ≡ legend_of bus.notes
+legend-stays bus after text r = ap legend_of r.3
 
 pub settle-hears :
     (voice : Voice) (bus after : Bus) (text out new : List ℕ) → Reports bus (Ok (after, text)) →
-    IsPassed voice bus.notes.names bus.world out new →
+    IsPassed voice (legend_of bus.notes) bus.world out new →
     Hears voice bus Command.Settle after out new
 settle-hears voice bus after text out new r is = record {
-  lines = quiet_trace voice after.notes.names bus.world;
+  lines = quiet_trace voice (legend_of after.notes) bus.world;
   traces = refl;
-  written = is ∙ ap (λ (ns : Names). out ++ quiet_trace voice ns bus.world) (sym (names-stay bus after text r));
+  written = is ∙ ap (λ (ns : Legend). out ++ quiet_trace voice ns bus.world) (sym (legend-stays bus after text r));
 }
 
 -- ---- plans
 
 pub same-quiet :
-    (w v : CableWorld) → length v.cabling ≡ length w.cabling → v.delay ≡ w.delay →
-    quiet_turns_of v ≡ quiet_turns_of w
-same-quiet w v nodes delay = quiet-is w (length v.cabling) v.delay (quiet_turns_of v) refl nodes delay
+    (w v : CableWorld) → length v.nodes ≡ length w.nodes → length v.cabling ≡ length w.cabling →
+    v.delay ≡ w.delay → v.longest ≡ w.longest → quiet_turns_of v ≡ quiet_turns_of w
+same-quiet w v nodes cables delay longest = rw (nodes, cables, delay, longest) refl
 
 -- the packet's lines, and those of the quiet turns
 both-told :
-    (voice : Voice) (command : Command) (w s : CableWorld) (names after : Names)
-    (out mid new : List ℕ) → after ≡ names →
-    mid ≡ out ++ act_trace voice names command w s →
-    new ≡ mid ++ quiet_trace voice names s →
+    (voice : Voice) (command : Command) (w s : CableWorld) (legend after : Legend)
+    (out mid new : List ℕ) → after ≡ legend →
+    mid ≡ out ++ act_trace voice legend command w s →
+    new ≡ mid ++ quiet_trace voice legend s →
     new ≡ out ++ (act_trace voice after command w s ++ quiet_trace voice after s)
-both-told voice command w s names after out mid new named said is =
-    both-heard (act_trace voice names command w s) (quiet_trace voice names s) out mid new said is
-    ∙ ap (λ (ns : Names). out ++ (act_trace voice ns command w s ++ quiet_trace voice ns s)) (sym named)
+both-told voice command w s legend after out mid new named said is =
+    both-heard (act_trace voice legend command w s) (quiet_trace voice legend s) out mid new said is
+    ∙ ap (λ (ns : Legend). out ++ (act_trace voice ns command w s ++ quiet_trace voice ns s)) (sym named)
 
 pub sent-heard :
     (voice : Voice) (bus sent after : Bus) (name : List ℕ) (node : ℕ) (plan : RootPlan)
     (text out mid new : List ℕ) → IsPacketSent voice bus name node plan sent out mid →
-    Reports sent (Ok (after, text)) → IsPassed voice sent.notes.names sent.world mid new →
+    Reports sent (Ok (after, text)) → IsPassed voice (legend_of sent.notes) sent.world mid new →
     IsSentHeard voice bus name node plan after text out new
 sent-heard voice bus sent after name node plan text out mid new s r is = record {
   sent = record { sent = sent; sends = s.sends; reports = r };
-  written = both-told voice (Config name (Some plan.root_id) (Some plan.gap)) bus.world sent.world sent.notes.names after.notes.names out mid new
-      (names-stay sent after text r) s.written is;
+  written = both-told voice (Config name (Some plan.root_id) (Some plan.gap)) bus.world sent.world (legend_of sent.notes) (legend_of after.notes) out mid new
+      (legend-stays sent after text r) s.written is;
 }

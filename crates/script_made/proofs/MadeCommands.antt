@@ -6,6 +6,7 @@ use Rattle.std.proofs.lemmas.Fmt.{length-decimal-le, decimal_nonempty}
 use Rattle.std.specs.Prelude.{not, nat_le, ◌==◌, Ok}
 use Rattle.std.specs.List.{list_all, slice_split, AllZip}
 use Rattle.rand_pcg.specs.Lcg.{Lcg}
+use Rattle.port_state.specs.declared.ranges.TimeRanges.{TimeRanges}
 use Rattle.script_made.specs.declared.made.End.{End}
 use Rattle.script_lines.specs.declared.command.Command.{Command}
 use Rattle.script_lines.specs.declared.command.Command.TheVariants.{Settle}
@@ -85,15 +86,15 @@ node_text : (k s : ℕ) → numbered (codes "node n") k ++ numbered (codes " 3 c
 unfolding numbered
 node_text k s = rw (append-nil (decimal s)) refl
 
-pub node_says : (d seed k : ℕ) → k ≤ 62 → Says d (node_line seed k) (declares seed k)
+pub node_says : (times : TimeRanges) (seed k : ℕ) → k ≤ 62 → Says times (node_line seed k) (declares seed k)
 unfolding node_line
-node_says d seed k h =
+node_says times seed k h =
     let s : ℕ = (seed + k) % 4294967296 in
     let small : s < 2 ^ 32 = mod-lt (seed + k) (omega arith) in
     let named : is_name (made_name k) ≡ true = a_name_is k h in
     let seeded : number_of (decimal s) ≡ Some s = number_of-decimal s small in
     let right : out_of 0 4294967295 (Some s) ≡ None = in_range 0 4294967295 s (omega arith) (omega (arith, small)) in
-    read_as d (codes "node")
+    read_as times (codes "node")
     (made_name k ∷ codes "3" ∷ codes "contender" ∷ codes "1" ∷ codes "seed" ∷ decimal s ∷ [])
     (numbered (codes "node n") k ++ numbered (codes " 3 contender 1 seed ") s)
     (declares seed k)
@@ -127,16 +128,16 @@ plug_text : (p q k : ℕ) →
 unfolding numbered
 plug_text p q k = refl
 
-plug_says : (d : ℕ) (at : End) (k : ℕ) → Near 62 at → k ≤ 62 → Says d (plug_line at k) (plugs at k)
+plug_says : (times : TimeRanges) (at : End) (k : ℕ) → Near 62 at → k ≤ 62 → Says times (plug_line at k) (plugs at k)
 unfolding plug_line
-plug_says d at k near h =
+plug_says times at k near h =
     let far : is_name (made_name at.node) ≡ true = a_name_is at.node near.node in
     let named : is_name (made_name k) ≡ true = a_name_is k h in
     let port : number_of (decimal at.port) ≡ Some at.port =
     number_of-decimal at.port (omega (arith, near.port)) in
     let right : out_of 0 4294967295 (Some at.port) ≡ None =
     in_range 0 4294967295 at.port (omega arith) (omega (arith, near.port)) in
-    read_as d (codes "plug") (made_name at.node ∷ decimal at.port ∷ made_name k ∷ codes "0" ∷ [])
+    read_as times (codes "plug") (made_name at.node ∷ decimal at.port ∷ made_name k ∷ codes "0" ∷ [])
     (numbered (codes "plug n") at.node
     ++ (numbered (codes " ") at.port ++ (numbered (codes " n") k ++ codes " 0")))
     (plugs at k)
@@ -163,11 +164,11 @@ pull_text : (k : ℕ) → numbered (codes "pull n") k ++ codes " 0"
 unfolding numbered
 pull_text k = refl
 
-pull_says : (d k : ℕ) → k ≤ 62 → Says d (pull_line k) (pulls k)
+pull_says : (times : TimeRanges) (k : ℕ) → k ≤ 62 → Says times (pull_line k) (pulls k)
 unfolding pull_line
-pull_says d k h =
+pull_says times k h =
     let named : is_name (made_name k) ≡ true = a_name_is k h in
-    read_as d (codes "pull") (made_name k ∷ codes "0" ∷ []) (numbered (codes "pull n") k ++ codes " 0")
+    read_as times (codes "pull") (made_name k ∷ codes "0" ∷ []) (numbered (codes "pull n") k ++ codes " 0")
     (pulls k) (pull_text k)
     (here (codes "pull") refl refl, (name_word k h, (here (codes "0") refl refl, tt)))
     refl
@@ -177,96 +178,96 @@ turn_text : (t : ℕ) → numbered (codes "turn ") t ≡ codes "turn" ++ spaced 
 unfolding numbered
 turn_text t = rw (append-nil (decimal t)) refl
 
-turn_says : (d w : ℕ) → Says d (turn_line w) (turns w)
+turn_says : (times : TimeRanges) (w : ℕ) → Says times (turn_line w) (turns w)
 unfolding turn_line
-turn_says d w =
+turn_says times w =
     let t : ℕ = w % 300 + 1 in
     let small : w % 300 < 300 = mod-lt w (omega arith) in
     let number : number_of (decimal t) ≡ Some t = number_of-decimal t (omega (arith, small)) in
     let right : out_of 1 2000000 (Some t) ≡ None = in_range 1 2000000 t (omega arith) (omega (arith, small)) in
-    read_as d (codes "turn") (decimal t ∷ []) (numbered (codes "turn ") t) (turns w) (turn_text t)
+    read_as times (codes "turn") (decimal t ∷ []) (numbered (codes "turn ") t) (turns w) (turn_text t)
     (here (codes "turn") refl refl, (number_word t (omega (arith, small)), tt))
     refl
     (record { form = other turn; has = refl; right = rw (number, right) refl; says = rw number refl })
 
-settle_says : (d : ℕ) → Says d (codes "settle") Settle
-settle_says d =
-    read_as d (codes "settle") [] (codes "settle") Settle refl (here (codes "settle") refl refl, tt) refl
+settle_says : (times : TimeRanges) → Says times (codes "settle") Settle
+settle_says times =
+    read_as times (codes "settle") [] (codes "settle") Settle refl (here (codes "settle") refl refl, tt) refl
     (record { form = other settle; has = refl; right = refl; says = refl })
 
 -- ---- all of them
 
-abbrev Say : ℕ → List (List ℕ) → List Command → Type 0
-Say d lines commands = AllZip (Says d) lines commands
+abbrev Say : TimeRanges → List (List ℕ) → List Command → Type 0
+Say times lines commands = AllZip (Says times) lines commands
 
-joined : (d : ℕ) (xs : List (List ℕ)) (fs : List Command) (ys : List (List ℕ)) (gs : List Command)
-    → Say d xs fs → Say d ys gs → Say d (xs ++ ys) (fs ++ gs)
-joined d [] [] ys gs h rest = rest
-joined d [] (f ∷ fs) ys gs h rest = absurd h
-joined d (x ∷ xs) [] ys gs h rest = absurd h
-joined d (x ∷ xs) (f ∷ fs) ys gs h rest = (h.0, joined d xs fs ys gs h.1 rest)
+joined : (times : TimeRanges) (xs : List (List ℕ)) (fs : List Command) (ys : List (List ℕ)) (gs : List Command)
+    → Say times xs fs → Say times ys gs → Say times (xs ++ ys) (fs ++ gs)
+joined times [] [] ys gs h rest = rest
+joined times [] (f ∷ fs) ys gs h rest = absurd h
+joined times (x ∷ xs) [] ys gs h rest = absurd h
+joined times (x ∷ xs) (f ∷ fs) ys gs h rest = (h.0, joined times xs fs ys gs h.1 rest)
 
-each_says : (d n : ℕ) (lines : ℕ → List (List ℕ)) (commands : ℕ → List Command)
-    → ((k : ℕ) → k < n → Say d (lines k) (commands k))
-    → Say d (for_each n lines) (for_each n commands)
-each_says d zero lines commands h = tt
-each_says d (suc n) lines commands h =
-    joined d (for_each n lines) (for_each n commands) (lines n) (commands n)
-    (each_says d n lines commands (λ k less. h k (omega (arith, less)))) (h n (omega arith))
+each_says : (times : TimeRanges) (n : ℕ) (lines : ℕ → List (List ℕ)) (commands : ℕ → List Command)
+    → ((k : ℕ) → k < n → Say times (lines k) (commands k))
+    → Say times (for_each n lines) (for_each n commands)
+each_says times zero lines commands h = tt
+each_says times (suc n) lines commands h =
+    joined times (for_each n lines) (for_each n commands) (lines n) (commands n)
+    (each_says times n lines commands (λ k less. h k (omega (arith, less)))) (h n (omega arith))
 
-cable_says : (d : ℕ) (g : Lcg) (k : ℕ) → k < 62
-    → Says d (plug_line (end_of g k) (suc k)) (plugs (end_of g k) (suc k))
-cable_says d g k h =
+cable_says : (times : TimeRanges) (g : Lcg) (k : ℕ) → k < 62
+    → Says times (plug_line (end_of g k) (suc k)) (plugs (end_of g k) (suc k))
+cable_says times g k h =
     let near : Near k (end_of g k) = end-near g k in
-    plug_says d (end_of g k) (suc k)
+    plug_says times (end_of g k) (suc k)
     (record { node = omega (arith, near.node, h); port = near.port }) (omega (arith, h))
 
-made_says : (d n seed : ℕ) → n ≤ 63 → Say d (made_lines n seed) (made_commands n seed)
+made_says : (times : TimeRanges) (n seed : ℕ) → n ≤ 63 → Say times (made_lines n seed) (made_commands n seed)
 unfolding made_lines made_commands
-made_says d n seed h =
+made_says times n seed h =
     let g : Lcg = generator seed in
     let c : ℕ = n - 1 in
     let few : c ≤ 62 = omega (arith, h) in
-    let nodes = each_says d n (λ k. node_line seed k ∷ []) (λ k. declares seed k ∷ [])
-    (λ k less. (node_says d seed k (omega (arith, less, h)), tt)) in
-    let cables = each_says d c (λ k. plug_line (end_of g k) (suc k) ∷ []) (λ k. plugs (end_of g k) (suc k) ∷ [])
-    (λ k less. (cable_says d g k (omega (arith, less, few)), tt)) in
-    let again = each_says d c
+    let nodes = each_says times n (λ k. node_line seed k ∷ []) (λ k. declares seed k ∷ [])
+    (λ k less. (node_says times seed k (omega (arith, less, h)), tt)) in
+    let cables = each_says times c (λ k. plug_line (end_of g k) (suc k) ∷ []) (λ k. plugs (end_of g k) (suc k) ∷ [])
+    (λ k less. (cable_says times g k (omega (arith, less, few)), tt)) in
+    let again = each_says times c
     (λ k. pull_line (suc k) ∷ turn_line (word g (c + k)) ∷ plug_line (end_of g k) (suc k) ∷ [])
     (λ k. pulls (suc k) ∷ turns (word g (c + k)) ∷ plugs (end_of g k) (suc k) ∷ [])
     (λ k less. (
-      pull_says d (suc k) (omega (arith, less, few)),
+      pull_says times (suc k) (omega (arith, less, few)),
       (
-        turn_says d (word g (c + k)),
-        (cable_says d g k (omega (arith, less, few)), tt),
+        turn_says times (word g (c + k)),
+        (cable_says times g k (omega (arith, less, few)), tt),
       ),
     )) in
-    joined d _ _ _ _ nodes (joined d _ _ _ _ cables (settle_says d, again))
+    joined times _ _ _ _ nodes (joined times _ _ _ _ cables (settle_says times, again))
 
-reads_of : (d : ℕ) (lines : List (List ℕ)) (commands : List Command) → Say d lines commands
-    → AllZip (λ line command. Reads d line (Ok (Some command))) lines commands
-reads_of d [] [] h = tt
-reads_of d [] (c ∷ cs) h = absurd h
-reads_of d (l ∷ ls) [] h = absurd h
-reads_of d (l ∷ ls) (c ∷ cs) h = (h.0.read, reads_of d ls cs h.1)
+reads_of : (times : TimeRanges) (lines : List (List ℕ)) (commands : List Command) → Say times lines commands
+    → AllZip (λ line command. Reads times line (Ok (Some command))) lines commands
+reads_of times [] [] h = tt
+reads_of times [] (c ∷ cs) h = absurd h
+reads_of times (l ∷ ls) [] h = absurd h
+reads_of times (l ∷ ls) (c ∷ cs) h = (h.0.read, reads_of times ls cs h.1)
 
 pub made_is_read : MadeIsRead
-made_is_read d n seed h =
-    reads_of d (made_lines n seed) (made_commands n seed) (made_says d n seed h)
+made_is_read times n seed h =
+    reads_of times (made_lines n seed) (made_commands n seed) (made_says times n seed h)
 
 no_feed : (c : ℕ) → is_permitted c ≡ true → not (c == 10) ≡ true
 no_feed c h = grind (arith, nat_tests)
 
-split_lines : (d : ℕ) (lines : List (List ℕ)) (commands : List Command) → Say d lines commands
+split_lines : (times : TimeRanges) (lines : List (List ℕ)) (commands : List Command) → Say times lines commands
     → slice_split (λ c. c == 10) (text_of lines) ≡ lines ++ [] ∷ []
-split_lines d [] [] h = refl
-split_lines d [] (c ∷ cs) h = absurd h
-split_lines d (l ∷ ls) [] h = absurd h
-split_lines d (l ∷ ls) (c ∷ cs) h =
+split_lines times [] [] h = refl
+split_lines times [] (c ∷ cs) h = absurd h
+split_lines times (l ∷ ls) [] h = absurd h
+split_lines times (l ∷ ls) (c ∷ cs) h =
     let none = widens is_permitted (λ c. not (c == 10)) no_feed l h.0.plain in
     ap (slice_split (λ c. c == 10)) (append_assoc l (codes "\n") (text_of ls))
     ∙ (split_first (λ c. c == 10) 10 l (text_of ls) refl none
-    ∙ ap (λ lines. l ∷ lines) (split_lines d ls cs h.1))
+    ∙ ap (λ lines. l ∷ lines) (split_lines times ls cs h.1))
 
 pub made_is_split : MadeIsSplit
 unfolding made_script

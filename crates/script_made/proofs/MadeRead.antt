@@ -10,6 +10,7 @@ use Rattle.std.specs.List.{list_all, slice_split, onto_first}
 use Rattle.std.specs.Str.{bytes_eq}
 use Rattle.std.specs.Str.Lines.{strip_carriage_return}
 use Rattle.std.specs.Str.Parse.{AllDigits, digits_value_after}
+use Rattle.port_state.specs.declared.ranges.TimeRanges.{TimeRanges}
 use Rattle.script_lines.specs.declared.command.Command.{Command}
 use Rattle.script_lines.specs.Words.{is_blank, is_permitted, is_some_text, words_of}
 use Rattle.script_lines.specs.Number.{of_digits, number_of}
@@ -127,25 +128,25 @@ some_length [] rest h = absurd (cc)
 some_length (c ∷ cs) rest h = omega arith
 
 -- a line is a command's, and has no line feed
-pub record Says (d : ℕ) (line : List ℕ) (command : Command) : Type 0 where
+pub record Says (times : TimeRanges) (line : List ℕ) (command : Command) : Type 0 where
   pub plain : list_all is_permitted line ≡ true
-  pub read : Reads d line (Ok (Some command))
+  pub read : Reads times line (Ok (Some command))
 
 -- what a line of words is, where they are those of a command
-pub read_as : (d : ℕ) (w : List ℕ) (ws : List (List ℕ)) (line : List ℕ) (command : Command)
+pub read_as : (times : TimeRanges) (w : List ℕ) (ws : List (List ℕ)) (line : List ℕ) (command : Command)
     → line ≡ w ++ spaced ws → AreWords (w ∷ ws) → is_skipped (w ++ spaced ws) ≡ false
-    → IsCommand d (w ∷ ws) command → Says d line command
-read_as d w ws line command line-is h visible is =
+    → IsCommand times (w ∷ ws) command → Says times line command
+read_as times w ws line command line-is h visible is =
     let text : List ℕ = w ++ spaced ws in
     let all : list_all is_permitted text ≡ true = all_permitted w ws h.0 h.1 in
     let same : strip_carriage_return text ≡ text =
     stripped text (some_length w (spaced ws) h.0.some) all in
     let words : words_of text ≡ w ∷ ws = words_are w ws h.0 h.1 in
-    let Are : List (List ℕ) → Type 0 = λ words. IsCommand d words command in
-    let Is : List ℕ → Type 0 = λ text. IsRead d text (Ok (Some command)) in
-    let read : Reads d text (Ok (Some command)) =
+    let Are : List (List ℕ) → Type 0 = λ words. IsCommand times words command in
+    let Is : List ℕ → Type 0 = λ text. IsRead times text (Ok (Some command)) in
+    let read : Reads times text (Ok (Some command)) =
     subst Is (sym same) (ap not visible, (all, subst Are (sym words) is)) in
-    let Said : List ℕ → Type 0 = λ line. Says d line command in
+    let Said : List ℕ → Type 0 = λ line. Says times line command in
     subst Said (sym line-is) (record { plain = all; read = read })
 
 -- ---- numbers

@@ -2,6 +2,7 @@
 use Rattle.std.specs.Prelude.{◌≡◌, ℕ, suc, ◌+◌, ◌-◌, ◌%◌, ◌≤◌, ◌==◌, true, false, List, [], ◌∷◌, ◌++◌, Some, None, Ok, codes}
 use Rattle.std.specs.List.{AllZip, slice_split}
 use Rattle.rand_pcg.specs.Lcg.{Lcg}
+use Rattle.port_state.specs.declared.ranges.TimeRanges.{TimeRanges}
 use Rattle.script_made.specs.declared.made.End.{End}
 use Rattle.script_lines.specs.declared.command.Command.{Command}
 use Rattle.script_lines.specs.declared.command.Command.TheVariants.{Node, Plug, Pull, Turn, Settle}
@@ -41,11 +42,11 @@ made_commands n seed =
     ++ (for_each (n - 1) (λ k. plugs (end_of (generator seed) k) (suc k) ∷ [])
     ++ (Settle ∷ again_commands (generator seed) (n - 1)))
 
--- each line is read as its command, whatever a cable delays by
+-- each line is read as its command, whatever the ranges of the times of nodes are
 abbrev pub MadeIsRead : Type 0
 MadeIsRead =
-    (d n seed : ℕ) → n ≤ 63 →
-    AllZip (λ line command. Reads d line (Ok (Some command))) (made_lines n seed) (made_commands n seed)
+    (times : TimeRanges) (n seed : ℕ) → n ≤ 63 →
+    AllZip (λ line command. Reads times line (Ok (Some command))) (made_lines n seed) (made_commands n seed)
 
 -- the lines are what stands between line feeds, and behind the last one nothing stands
 abbrev pub MadeIsSplit : Type 0

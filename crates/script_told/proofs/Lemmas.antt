@@ -3,17 +3,19 @@
 -- A command comes to some answer.
 pub use Rattle.script_told.proofs.SomeAnswer.{act-leads, if-test, known, tree-managed, within}
 -- What turns leave as it is. A bus is given some to settle.
-pub use Rattle.script_told.proofs.Turns.{AfterTurns, after-turns, some-quiet}
+pub use Rattle.script_told.proofs.Turns.{AfterTurns, after-turns, nodes-after-turns, some-quiet}
 -- Acts and turns leave cables that are a cabling, and an act leads to one world.
 pub use Rattle.script_told.proofs.told.Cables.{IsCabled, act-adds, act-cabled, act-takes}
 -- A command comes to one answer, and leaves cables that are a cabling.
 pub use Rattle.script_told.proofs.told.Commands.{acts, bus-in, not-refused, same-plan, same-sent, settles}
 -- What holds of each command that was done in a run.
 pub use Rattle.script_told.proofs.told.EachDone.{IsDone, IsEnd, each-done}
+-- Times that suit a bus.
+pub use Rattle.script_told.proofs.told.Fitting.{can-be-forced, profile-fits, standard-fits, suits, times-within}
 -- Each report of a script is one of a settled bus.
 pub use Rattle.script_told.proofs.told.EachReport.{Says, is-none, settled-so, settles-say}
 -- What follows at a stage, and that a script has one run.
-pub use Rattle.script_told.proofs.told.Lines.{cabled, one-run, one-told}
+pub use Rattle.script_told.proofs.told.Lines.{cabled, one-run, one-told, says}
 -- The parts of answers.
 pub use Rattle.script_told.proofs.told.Parts.{printed-in, stage-in, text-in}
 -- A tree of a report stands in its text.

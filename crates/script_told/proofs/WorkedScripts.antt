@@ -3,19 +3,24 @@ use Rattle.std.proofs.Common.{◌≡◌, ◌++◌, ℕ, ◌+◌, Bool, true, fal
 use Rattle.std.specs.Prelude.{Result, Ok, Err, MatchBool, nat_lt}
 use Rattle.std.specs.Fmt.{digits}
 use Rattle.std.specs.Str.Lines.{strip_carriage_return}
+use Rattle.std.proofs.Math.Nat.{le-max_left}
 use Rattle.std.proofs.lemmas.Bool.{lt-ltb}
+use Rattle.self_id.specs.declared.standard.Standard.TheVariants.{Ieee1995, Ieee2000}
+use Rattle.port_state.specs.TimeRanges.{profile_ranges}
+use Rattle.port_state.specs.StandardTimes.{standard_ranges}
 use Rattle.port_state.specs.Machine.{PortNode}
 use Rattle.cable_world.specs.World.{CableWorld, world_of_nodes}
 use Rattle.cable_world.specs.Turn.{turns_after}
 use Rattle.cable_world.specs.Act.{note_changes, plug}
 use Rattle.cable_world.specs.Run.{quiet_turns}
+use Rattle.convergence.specs.Turns.{turns_to_settle}
 use Rattle.settle.specs.declared.report.Report.{Report}
 use Rattle.settle.specs.Report.{IsReport, quiet_turns_of}
 use Rattle.script_lines.specs.declared.kind.Kind.{Kind}
-use Rattle.script_lines.specs.declared.kind.Kind.TheVariants.{Word, Late, InUse, SameNode, NotPlugged, NotSettled, TooManyTurns}
-use Rattle.script_lines.specs.declared.kind.ScriptFault.{ScriptFault}
+use Rattle.script_lines.specs.declared.kind.Kind.TheVariants.{Word, Late, InUse, SameNode, Range, NotPlugged, NotSettled, TooManyTurns}
 use Rattle.script_lines.specs.declared.command.Command.{Command}
-use Rattle.script_lines.specs.declared.command.Command.TheVariants.{Node, Plug, Pull, Turn, CsrRead}
+use Rattle.script_lines.specs.declared.command.Command.TheVariants.{Node, Plug, Pull, Turn, CsrRead, Delay, Times}
+use Rattle.script_lines.specs.Times.{profile_times}
 use Rattle.script_lines.specs.Words.{words_of}
 use Rattle.script_lines.specs.Number.{number_of, of_digits}
 use Rattle.script_lines.specs.Name.{is_name}
@@ -23,7 +28,7 @@ use Rattle.script_lines.specs.Line.{IsRead, Reads}
 use Rattle.script_text.specs.ReportText.{report_line, numbered, none}
 use Rattle.script_told.specs.Bus.{Bus, bus_of_nodes}
 use Rattle.script_told.specs.Step.{LineAnswer, end_of, notes_after_act, notes_after_report, Reports, Settles}
-use Rattle.script_told.specs.Script.{script_lines, Stage, fresh, declaring, running, bus_of, delay_of, new_node, times_of, coins_of, Follows, fault_at}
+use Rattle.script_told.specs.Script.{script_lines, Stage, fresh, declaring, running, bus_of, ranges_of, first_draft, new_node, times_of, coins_of, Follows, fault_at}
 use Rattle.script_told.specs.Run.{ScriptRun, done, stopped, behind, last_run, RunsFrom, IsTold}
 use Rattle.script_lines.proofs.Lemmas.{read_line, reads}
 use Rattle.script_told.proofs.Turns.{AfterTurns, after-turns}
@@ -53,14 +58,14 @@ empty-line = refl
 module _ (number : ℕ) (line : List ℕ) (lines : List (List ℕ)) (stage : Stage) where
   -- what the line says
   abbrev said : Result (Option Command) Kind
-  said = read_line (delay_of stage) (strip_carriage_return line)
+  said = read_line (ranges_of stage) (strip_carriage_return line)
 
   line-is :
       (reading : Result (Option Command) Kind) → said ≡ reading →
-      Reads (delay_of stage) line reading
+      Reads (ranges_of stage) line reading
   line-is reading e =
       let text : List ℕ = strip_carriage_return line in
-      subst (IsRead (delay_of stage) text) e (reads (delay_of stage) text)
+      subst (IsRead (ranges_of stage) text) e (reads (ranges_of stage) text)
 
   -- a command is done
   step :
@@ -116,7 +121,7 @@ empty-report k =
 no-bytes : IsTold [] (Ok (codes "report 1 turn 8000\n"))
 unfolding report_line numbered digits
 no-bytes =
-    let bus : Bus = bus_of_nodes 4 [] [] in
+    let bus : Bus = bus_of_nodes 4 (profile_times 4) [] [] in
     let after : Bus = record {
       world = turns_after 8000 nothing;
       notes = notes_after_report bus.notes (no-parts 8000);
@@ -138,14 +143,15 @@ past :
 past w h =
     let delay : w.delay ≡ 4 = h.delay in
     let nodes : length w.cabling ≡ 0 = ap length h.cabling in
-    let quiet : quiet_turns_of w ≡ 8000 =
+    let quiet : quiet_turns (length w.cabling) w.delay ≡ 8000 =
     ap (λ (n : ℕ). quiet_turns n w.delay) nodes ∙ ap (quiet_turns 0) delay in
-    lt-ltb 2000000 (w.turns + quiet_turns_of w) (omega (arith, h.turns, quiet))
+    let more = le-max_left (quiet_turns (length w.cabling) w.delay) (turns_to_settle w) in
+    lt-ltb 2000000 (w.turns + quiet_turns_of w) (omega (arith, h.turns, quiet, more))
 
 too-many-turns : IsTold (codes "turn 2000000") (Err (fault_at 2 TooManyTurns))
 unfolding words_of number_of of_digits is_name
 too-many-turns =
-    let bus : Bus = bus_of_nodes 4 [] [] in
+    let bus : Bus = bus_of_nodes 4 (profile_times 4) [] [] in
     let after : Bus = record bus { world = turns_after 2000000 nothing } in
     let answer : LineAnswer = Err TooManyTurns in
     let full = past after.world (after-turns 2000000 nothing) in
@@ -172,10 +178,10 @@ node number =
       power = 0;
       initiated = false;
     })
-    3 false (times_of 4 None None None) (coins_of number 0 0 None)
+    3 false (times_of (profile_ranges 4) None None None) (coins_of number 0 0 None)
 
 abbrev declared : List (List ℕ) → List PortNode → Stage
-declared names nodes = declaring (record { delay = 4; names = names; nodes = nodes })
+declared names nodes = declaring (record { delay = 4; times = profile_times 4; names = names; nodes = nodes })
 
 abbrev plain : List ℕ → Command
 plain name = Node name 3 2 true false false 0 63 None None None 0 0 None false
@@ -289,5 +295,60 @@ skipped-lines =
           (skipped 2 [] (codes "  \r" ∷ codes "plug a 0 b" ∷ []) fresh run refl
           (skipped 3 (codes "  \r") (codes "plug a 0 b" ∷ []) fresh run refl
           (bad 4 (codes "plug a 0 b") [] fresh Word refl))),
+      refl,
+    )
+
+-- ---- a standard's times
+
+-- 4 ticks are 170 nanoseconds
+abbrev timed : Stage
+timed = declaring (record first_draft {
+  times = record { ranges = standard_ranges Ieee2000 4 170; nanoseconds = Some 170 };
+})
+
+abbrev said-times : List ℕ
+said-times = codes "times 1394a 170"
+
+-- a line behind it that is at fault
+second-line :
+    (line : List ℕ) (kind : Kind) → script_lines (codes "times 1394a 170\n" ++ line) ≡ said-times ∷ line ∷ [] →
+    RunsFrom 2 (line ∷ []) timed (stopped 2 kind) →
+    IsTold (codes "times 1394a 170\n" ++ line) (Err (fault_at 2 kind))
+unfolding words_of number_of of_digits is_name
+second-line line kind split rest =
+    let end : ScriptRun = stopped 2 kind in
+    let whole : ScriptRun = behind (done 1 fresh (Times Ieee2000 170) timed [] ∷ []) end in (
+      whole,
+      subst (λ (lines : List (List ℕ)). RunsFrom 1 lines fresh whole) (sym split)
+          (step 1 said-times (line ∷ []) fresh (Times Ieee2000 170) timed [] end refl refl rest),
+      refl,
+    )
+
+times-twice : IsTold (codes "times 1394a 170\n" ++ said-times) (Err (fault_at 2 Late))
+unfolding words_of number_of of_digits is_name
+times-twice =
+    second-line said-times Late refl
+    (refused 2 said-times [] timed (Times Ieee2000 170) Late refl refl)
+
+delay-behind-times : IsTold (codes "times 1394a 170\n" ++ codes "delay 4") (Err (fault_at 2 Late))
+unfolding words_of number_of of_digits is_name
+delay-behind-times =
+    second-line (codes "delay 4") Late refl
+    (refused 2 (codes "delay 4") [] timed (Delay 4) Late refl refl)
+
+-- a hold may be 3920 to 3923 ticks
+hold-of-the-profile : IsTold (codes "times 1394a 170\n" ++ codes "node a 3 hold 3924") (Err (fault_at 2 Range))
+unfolding words_of number_of of_digits is_name
+hold-of-the-profile =
+    second-line (codes "node a 3 hold 3924") Range refl
+    (bad 2 (codes "node a 3 hold 3924") [] timed Range refl)
+
+-- by 1394-1995 a short wait may be 5 ticks, which a signal takes over the cable and back
+too-slow : IsTold (codes "times 1394-1995 170") (Err (fault_at 1 Range))
+unfolding words_of number_of of_digits is_name
+too-slow =
+    let run : ScriptRun = stopped 1 Range in (
+      run,
+      refused 1 (codes "times 1394-1995 170") [] fresh (Times Ieee1995 170) Range refl refl,
       refl,
     )

@@ -1,5 +1,5 @@
 -- A script: its lines, and what a command comes to between two of them.
-use Rattle.std.specs.Prelude.{◌≡◌, ℕ, ◌+◌, nat_lt, ◌==◌, ◌&&◌, not, is_some, Bool, false, List, [], ◌∷◌, ◌++◌, length, Option, None, Some, unwrap_or, Result, Ok, Err, if◌then◌else◌}
+use Rattle.std.specs.Prelude.{◌≡◌, ℕ, nat_lt, ◌==◌, ◌&&◌, not, is_some, Bool, false, List, [], ◌∷◌, ◌++◌, length, Option, None, Some, unwrap_or, Result, Ok, Err, if◌then◌else◌}
 use Rattle.std.specs.List.{slice_split}
 use Rattle.self_id.specs.declared.node.Attrs.{Attrs}
 use Rattle.self_id.specs.declared.standard.Standard.{Standard}
@@ -15,10 +15,9 @@ use Rattle.script_lines.specs.declared.command.Command.{Command}
 use Rattle.script_lines.specs.declared.command.Command.TheVariants.{Node, Delay, Times}
 use Rattle.script_lines.specs.declared.times.ScriptTimes.{ScriptTimes}
 use Rattle.script_lines.specs.Times.{profile_times, standard_times}
-use Rattle.script_lines.specs.Line.{Reads}
 use Rattle.script_text.specs.ReportText.{Names}
 use Rattle.script_told.specs.Bus.{Bus, bus_of_nodes, is_declared}
-use Rattle.script_told.specs.Step.{LineAnswer, Does, Settles}
+use Rattle.script_told.specs.Step.{LineAnswer, Does}
 
 -- ---- lines
 

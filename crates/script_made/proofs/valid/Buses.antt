@@ -1,6 +1,7 @@
 -- The bus of a made script, and what each of its commands makes of it.
 use Rattle.std.proofs.Common.{◌≡◌, ◌≢◌, ◌∙◌, ◌==◌, ℕ, ◌+◌, ◌*◌, ◌<◌, ◌≤◌, Bool, true, false, Option, Some, None, List, [], length, map, get_or, refl, sym, subst, ap, arith}
 use Rattle.std.proofs.Math.ListN.{get_or-map, replicate}
+use Rattle.std.proofs.Math.Nat.{max-le}
 use Rattle.std.proofs.lemmas.Bool.Decides.{nat_tests}
 use Rattle.std.proofs.lemmas.List.{length-map, length-replicate, get_or-replicate}
 use Rattle.std.proofs.lemmas.Nat.{mul-le}
@@ -15,7 +16,9 @@ use Rattle.cable_world.specs.World.{CableWorld, NodeNumber}
 use Rattle.cable_world.specs.Act.{ActLeads, act_fault}
 use Rattle.cable_world.specs.Turn.{turns_after}
 use Rattle.cable_world.specs.Run.{quiet_turns}
+use Rattle.cable_world.specs.Times.{longest_in_range}
 use Rattle.cable_world.proofs.Lemmas.{Keeps, act-keeps}
+use Rattle.convergence.specs.Turns.{turns_to_settle}
 use Rattle.settle.specs.Report.{quiet_turns_of}
 use Rattle.script_made.specs.declared.made.End.{End}
 use Rattle.script_lines.specs.declared.kind.Kind.TheVariants.{TooManyTurns}
@@ -24,7 +27,7 @@ use Rattle.script_told.specs.Bus.{Notes, Bus, node_named}
 use Rattle.script_told.specs.Step.{LineAnswer, AtNode, Named, Acts, Within, Reports, Settles, Does, end_of}
 use Rattle.script_made.specs.Made.{end}
 use Rattle.script_made.specs.MadeRead.{made_name, plugs, pulls}
-use Rattle.script_told.proofs.Lemmas.{AfterTurns, after-turns, IsCabled, act-cabled, act-adds, act-takes, not-refused}
+use Rattle.script_told.proofs.Lemmas.{AfterTurns, after-turns, nodes-after-turns, IsCabled, act-cabled, act-adds, act-takes, not-refused}
 use Rattle.script_made.proofs.valid.Names.{names_below, is-found}
 use Rattle.script_made.proofs.valid.Cables.{at, first, IsFree}
 use Rattle.script_made.proofs.valid.Steps.{GoesOn}
@@ -33,15 +36,17 @@ use Rattle.script_made.proofs.valid.Steps.{GoesOn}
 pub record IsBusOf (n turns : ℕ) (bus : Bus) : Type 0 where
   pub names : bus.notes.names ≡ names_below n
   pub ports : map length bus.world.cabling ≡ replicate n 3
+  pub nodes : length bus.world.nodes ≡ n
   pub delay : bus.world.delay ≡ 4
+  pub longest : bus.world.longest ≡ longest_in_range 4
   pub cabled : IsCabled bus.world
   pub few : bus.world.turns ≤ turns
 
 -- ---- ends
 
 module _ (n : ℕ) (c : Wiring) (ports : map length c ≡ replicate n 3) where
-  count : length c ≡ n
-  count = sym (length-map c length) ∙ (ap length ports ∙ length-replicate n 3)
+  count-of : length c ≡ n
+  count-of = sym (length-map c length) ∙ (ap length ports ∙ length-replicate n 3)
 
   three : (node : ℕ) → node < n → length (ports_of c node) ≡ 3
   three node less =
@@ -50,7 +55,7 @@ module _ (n : ℕ) (c : Wiring) (ports : map length c ≡ replicate n 3) where
 
   has-end : (e : cable.End) → e.node < n → e.port ≤ 2 → HasEnd c e
   has-end e node port = record {
-    node = omega (arith, node, count);
+    node = omega (arith, node, count-of);
     port = omega (arith, port, three e.node node);
   }
 
@@ -108,7 +113,9 @@ module _ (n turns : ℕ) (bus : Bus) (P : Bus → Type 0) (few : n ≤ 63) (h : 
       f after (record {
         names = ap (λ (notes : Notes). notes.names) x.2 ∙ h.names;
         ports = ports after.world x.1 ∙ h.ports;
+        nodes = kept.nodes ∙ h.nodes;
         delay = kept.delay ∙ h.delay;
+        longest = kept.longest ∙ h.longest;
         cabled = act-cabled a bus.world after.world none x.1 h.cabled;
         few = omega (arith, kept.turns, h.few);
       }) x.1
@@ -177,7 +184,11 @@ module _ (n turns : ℕ) (bus : Bus) (P : Bus → Type 0) (few : n ≤ 63) (h : 
         record {
           names = names ∙ h.names;
           ports = ap (map length) same.cabling ∙ h.ports;
+          nodes =
+              ap (λ (w : CableWorld). length w.nodes) is
+              ∙ nodes-after-turns count bus.world (h.nodes ∙ sym (count-of n cables h.ports)) ∙ h.nodes;
           delay = same.delay ∙ h.delay;
+          longest = same.longest ∙ h.longest;
           cabled = subst IsCabling (sym same.cabling) h.cabled;
           few = omega (arith, same.turns, room);
         },
@@ -198,11 +209,12 @@ module _ (n turns : ℕ) (bus : Bus) (P : Bus → Type 0) (few : n ≤ 63) (h : 
   -- a bus of 63 nodes settles within so many turns
   quiet-few : quiet_turns_of bus.world ≤ 73520
   quiet-few =
-      let nodes : length cables ≡ n = count n cables h.ports in
-      let same : quiet_turns_of bus.world ≡ quiet_turns n 4 =
-      ap (λ (m : ℕ). quiet_turns m bus.world.delay) nodes ∙ ap (quiet_turns n) h.delay in
+      let size : length cables ≡ n = count-of n cables h.ports in
+      let same : quiet_turns (length cables) bus.world.delay ≡ quiet_turns n 4 =
+      ap (λ (m : ℕ). quiet_turns m bus.world.delay) size ∙ ap (quiet_turns n) h.delay in
       let square : 4 * n * n ≤ 252 * 63 = mul-le (4 * n) n 252 63 (omega (arith, few)) few in
-      omega (arith, same, square, few)
+      let settled : turns_to_settle bus.world ≤ 73520 = rw (h.nodes, h.delay, h.longest) (omega (arith, few)) in
+      max-le (omega (arith, same, square, few)) settled
 
   pub settle-goes :
       (most : ℕ) → turns + 73520 ≤ most → most ≤ 2000000 →

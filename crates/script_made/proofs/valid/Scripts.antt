@@ -3,7 +3,7 @@ use Rattle.std.proofs.Common.{◌≡◌, ◌∙◌, ℕ, zero, suc, ◌+◌, ◌
 use Rattle.std.proofs.Math.Nat.{mod-lt}
 use Rattle.std.proofs.Math.ListN.{replicate}
 use Rattle.std.proofs.lemmas.Bool.Decides.{nat_tests}
-use Rattle.std.proofs.lemmas.List.{length-replicate, get_or-replicate, map-append, replicate-append-replicate}
+use Rattle.std.proofs.lemmas.List.{length-map, length-replicate, get_or-replicate, map-append, replicate-append-replicate}
 use Rattle.std.specs.Prelude.{Ok, nat_lt}
 use Rattle.cabling.specs.declared.cable.End as cable
 use Rattle.cabling.specs.Wiring.{Wiring, far, IsCabling, without_cables}
@@ -11,10 +11,13 @@ use Rattle.cabling.specs.Change.{TakenOut}
 use Rattle.cabling.proofs.Lemmas.{bare}
 use Rattle.port_state.specs.Machine.{PortNode}
 use Rattle.rand_pcg.specs.Lcg.{Lcg}
+use Rattle.port_state.specs.declared.ranges.TimeRanges.{TimeRanges}
 use Rattle.script_lines.specs.declared.command.Command.{Command}
 use Rattle.script_lines.specs.declared.command.Command.TheVariants.{Settle}
+use Rattle.script_lines.specs.declared.times.ScriptTimes.{ScriptTimes}
+use Rattle.script_lines.specs.Times.{profile_times}
 use Rattle.script_told.specs.Bus.{Bus, bus_of_nodes, is_declared}
-use Rattle.script_told.specs.Script.{without_last_if_empty, script_lines, Draft, with_node, new_node, times_of, coins_of, Stage, fresh, declaring, running, draft_of, bus_of, Declares}
+use Rattle.script_told.specs.Script.{without_last_if_empty, script_lines, Draft, first_draft, with_node, new_node, times_of, coins_of, Stage, fresh, declaring, running, draft_of, bus_of, Declares}
 use Rattle.script_told.specs.Run.{ScriptRun, RunsFrom, printed, unless_stopped}
 use Rattle.script_made.specs.Made.{generator, word, end, end_of, for_each, made_lines, made_script}
 use Rattle.script_made.specs.MadeRead.{made_name, declares, plugs, pulls, turns, again_commands, made_commands}
@@ -40,14 +43,15 @@ threes k = replicate k 3
 record IsDeclared (k : ℕ) (stage : Stage) : Type 0 where
   draft : Draft
   open-yet : draft_of stage ≡ Some draft
-  bus : bus_of stage ≡ bus_of_nodes 4 draft.names draft.nodes
+  bus : bus_of stage ≡ bus_of_nodes 4 (profile_times 4) draft.names draft.nodes
   delay : draft.delay ≡ 4
+  times : draft.times ≡ profile_times 4
   names : draft.names ≡ names_below k
   ports : ports-of draft.nodes ≡ threes k
 
 -- the node that a line declares
-abbrev node : ℕ → ℕ → ℕ → ℕ → PortNode
-node seed k d number =
+abbrev node : ℕ → ℕ → TimeRanges → ℕ → PortNode
+node seed k ranges number =
     new_node
     (record {
       link = true;
@@ -58,7 +62,7 @@ node seed k d number =
       power = 0;
       initiated = false;
     })
-    3 false (times_of d None None None) (coins_of number 0 0 (Some ((seed + k) % 4294967296)))
+    3 false (times_of ranges None None None) (coins_of number 0 0 (Some ((seed + k) % 4294967296)))
 
 one-more-three : (k : ℕ) → threes k ++ 3 ∷ [] ≡ threes (suc k)
 one-more-three k =
@@ -70,7 +74,7 @@ declare : (seed k : ℕ) → k < 63 → (stage : Stage) → IsDeclared k stage �
     After (declares seed k ∷ []) (IsDeclared (suc k)) stage
 declare seed k few stage h r x =
     let name : List ℕ = made_name k in
-    let new : PortNode = node seed k h.draft.delay (length h.draft.names) in
+    let new : PortNode = node seed k h.draft.times.ranges (length h.draft.names) in
     let next : Draft = with_node h.draft name new in
     let room : nat_lt 62 (length h.draft.names) ≡ false =
     grind (arith, nat_tests, ap length h.names, length-names k, few) in
@@ -82,8 +86,11 @@ declare seed k few stage h r x =
     subst (Leads (IsDeclared (suc k))) (sym is) (record {
       draft = next;
       open-yet = refl;
-      bus = ap (λ (d : ℕ). bus_of_nodes d next.names next.nodes) h.delay;
+      bus =
+          ap (λ (d : ℕ). bus_of_nodes d next.times next.names next.nodes) h.delay
+          ∙ ap (λ (t : ScriptTimes). bus_of_nodes 4 t next.names next.nodes) h.times;
       delay = h.delay;
+      times = h.times;
       names = ap (λ (names : List (List ℕ)). names ++ name ∷ []) h.names;
       ports =
           map-append (λ (x : PortNode). x.state.ports) h.draft.nodes (new ∷ [])
@@ -114,7 +121,7 @@ record IsPlugged (n : ℕ) (g : Lcg) (k : ℕ) (stage : Stage) : Type 0 where
 none-yet : (n : ℕ) (g : Lcg) (stage : Stage) → n ≤ 63 → IsDeclared n stage → IsPlugged n g 0 stage
 none-yet n g stage few h =
     let names : List (List ℕ) = h.draft.names in
-    let made : Bus = bus_of_nodes 4 names h.draft.nodes in
+    let made : Bus = bus_of_nodes 4 (profile_times 4) names h.draft.nodes in
     let counts : List ℕ = threes n in
     let three : ℕ = 3 in
     let size : length counts ≡ n = length-replicate n three in
@@ -122,7 +129,9 @@ none-yet n g stage few h =
     let all : IsBusOf n 0 made = record {
       names = h.names;
       ports = ap (map length) cables ∙ counted n;
+      nodes = sym (length-map h.draft.nodes (λ (x : PortNode). x.state.ports)) ∙ ap length h.ports ∙ size;
       delay = refl;
+      longest = refl;
       cabled = subst IsCabling (sym cables)
           (bare counts (omega (arith, few, size)) (λ i inside.
           let is : get_or counts i 0 ≡ 3 = get_or-replicate n i three 0 (omega (arith, inside, size)) in
@@ -212,10 +221,11 @@ again-one n g k w most later few less room limit stage h =
 
 none-declared : IsDeclared 0 fresh
 none-declared = record {
-  draft = record { delay = 4; names = []; nodes = [] };
+  draft = first_draft;
   open-yet = refl;
   bus = refl;
   delay = refl;
+  times = refl;
   names = refl;
   ports = refl;
 }
@@ -260,7 +270,7 @@ made-scripts-run-through n seed run few x =
     let lines : List (List ℕ) = made_lines n seed in
     let same : script_lines (made_script n seed) ≡ lines =
     ap without_last_if_empty (made_is_split n seed few) ∙ trimmed lines in
-    comes-through lines (made_commands n seed) (λ d. made_is_read d n seed few) 1 fresh run
+    comes-through lines (made_commands n seed) (λ times. made_is_read times n seed few) 1 fresh run
     (no-fault n seed few)
     (subst (λ (lines : List (List ℕ)). RunsFrom 1 lines fresh run) same x)
 

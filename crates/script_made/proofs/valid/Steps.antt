@@ -2,12 +2,13 @@
 use Rattle.std.proofs.Common.{◌≡◌, ◌∙◌, ℕ, zero, suc, ◌+◌, ◌<◌, List, [], ◌∷◌, ◌++◌, Option, Some, sym, subst, ap, arith}
 use Rattle.std.specs.Prelude.{Result, Ok, Err}
 use Rattle.std.specs.List.{AllZip}
+use Rattle.port_state.specs.declared.ranges.TimeRanges.{TimeRanges}
 use Rattle.script_lines.specs.declared.kind.Kind.{Kind}
 use Rattle.script_lines.specs.declared.command.Command.{Command}
 use Rattle.script_lines.specs.Line.{Reads}
 use Rattle.script_told.specs.Bus.{Bus}
 use Rattle.script_told.specs.Step.{LineAnswer, Does, Settles}
-use Rattle.script_told.specs.Script.{Stage, running, StageAnswer, bus_of, delay_of, onwards, Runs, Follows}
+use Rattle.script_told.specs.Script.{Stage, running, StageAnswer, bus_of, ranges_of, onwards, Runs, Follows}
 use Rattle.script_told.specs.Run.{ScriptRun, done, behind, last_run, Goes, Takes, RunsFrom}
 use Rattle.script_made.specs.Made.{for_each}
 use Rattle.script_lines.proofs.Lemmas.{one_reading}
@@ -95,7 +96,7 @@ ComesThrough run = (bus : Bus) × (run.end ≡ Ok bus)
 -- each line is read as its command
 abbrev pub Say : List (List ℕ) → List Command → Type 0
 Say lines commands =
-    (d : ℕ) → AllZip (λ line command. Reads d line (Ok (Some command))) lines commands
+    (times : TimeRanges) → AllZip (λ line command. Reads times line (Ok (Some command))) lines commands
 
 ended :
     (number : ℕ) (stage : Stage) (r : LineAnswer) (run : ScriptRun) → GoesOn (λ bus. Unit {0}) r →
@@ -124,11 +125,11 @@ comes-through [] (command ∷ commands) say number stage run h x = absurd (say 0
 comes-through (line ∷ lines) [] say number stage run h x = absurd (say 0)
 comes-through (line ∷ lines) (command ∷ commands) say number stage run h x =
     let Rest : Stage → ScriptRun → Type 0 = RunsFrom (number + 1) lines in
-    let d : ℕ = delay_of stage in
+    let times : TimeRanges = ranges_of stage in
     let same : x.0 ≡ Ok (Some command) =
-    one_reading d line x.0 (Ok (Some command)) x.1 (say d).0 in
+    one_reading times line x.0 (Ok (Some command)) x.1 (say times).0 in
     let taken : Takes number Rest stage (Ok (Some command)) run =
     subst (λ (reading : Result (Option Command) Kind). Takes number Rest stage reading run) same x.2 in
     gone number Rest (After commands SettlesAtEnd) stage command
-    (λ next more after rest. comes-through lines commands (λ d. (say d).1) (number + 1) next more after rest)
+    (λ next more after rest. comes-through lines commands (λ times. (say times).1) (number + 1) next more after rest)
     taken.0 run (h taken.0 taken.1) taken.2

@@ -16,8 +16,8 @@ use Rattle.script_told.specs.Bus.{Bus, Notes}
 use Rattle.script_told.specs.Step.{LineAnswer, Reports, Settles}
 use Rattle.script_told.specs.SomeAnswer.{IsReachedBus}
 use Rattle.script_told.specs.Script.{Stage, fresh, running, StageAnswer, bus_of, ranges_of, Follows, script_lines}
-use Rattle.script_told.specs.Run.{Entry, ScriptRun, done, stopped, behind, last_run, Goes, Takes, RunsFrom, IsRun}
-use Rattle.script_told.proofs.told.Reached.{IsSound, LeavesSound, sound-bus, leaves}
+use Rattle.script_told.specs.Run.{Entry, ScriptRun, done, stopped, last_run, Goes, Takes, RunsFrom, IsRun}
+use Rattle.script_told.proofs.told.Reached.{IsSound, sound-bus, leaves}
 use Rattle.script_told.proofs.told.Lines.{follows}
 
 -- a command of a run was done where the script had come to, and left a world that comes of power-on

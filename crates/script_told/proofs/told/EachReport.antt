@@ -1,6 +1,6 @@
 -- Each report of a script is one of a settled bus.
-use Rattle.std.proofs.Common.{◌≡◌, ◌++◌, ◌==◌, ℕ, Bool, true, false, List, [], ◌∷◌, Option, None, Some, refl, sym, ◌∙◌, ap, subst}
-use Rattle.std.specs.Prelude.{Result, Ok, Err, All, MatchBool, nat_lt, ◌+◌}
+use Rattle.std.proofs.Common.{◌≡◌, ◌++◌, ◌==◌, ℕ, Bool, true, false, List, [], Option, None, Some, refl, sym, ◌∙◌, ap, subst}
+use Rattle.std.specs.Prelude.{Ok, Err, MatchBool, nat_lt, ◌+◌}
 use Rattle.std.proofs.lemmas.List.Elements.{All-get_or, All-weaker}
 use Rattle.topology_stack.specs.OneAnswer.{NoListHasTwoTrees}
 use Rattle.cabling.proofs.Lemmas.{shared}
@@ -21,9 +21,9 @@ use Rattle.script_text.specs.Plan.{plan_line}
 use Rattle.script_told.specs.Bus.{Notes, Bus, Reported, node_named, tree_with, values_at}
 use Rattle.script_told.specs.Step.{LineAnswer, AtNode, AtTree, AtManager, Settled, Within, Reports, Settles, Plans, PlansAs, Does, id_of, node_with}
 use Rattle.script_told.specs.Script.{Stage, running, StageAnswer, bus_of, onwards, Follows}
-use Rattle.script_told.specs.Run.{Entry, ScriptRun, IsRun}
+use Rattle.script_told.specs.Run.{Entry}
 use Rattle.script_told.specs.EachReport.{EachComponentCameTo, DoesReport, IsBeforeReport, IsReportedAt, ReportsAreSettled}
-use Rattle.script_told.proofs.told.Reached.{IsSound, LeavesSound}
+use Rattle.script_told.proofs.told.Reached.{IsSound}
 use Rattle.script_told.proofs.told.EachDone.{IsDone, each-done}
 
 -- ---- a report

@@ -1,6 +1,6 @@
 -- What follows at a stage, and that a script has one run.
-use Rattle.std.proofs.Common.{◌≡◌, ◌++◌, ℕ, ◌+◌, ◌≤◌, ◌==◌, ◌&&◌, not, Bool, true, false, List, [], ◌∷◌, Option, Some, None, length, refl, sym, ◌∙◌, ap, subst, arith}
-use Rattle.std.specs.Prelude.{nat_lt, is_some, slice_get, Result, Ok, Err, All, if◌then◌else◌}
+use Rattle.std.proofs.Common.{◌≡◌, ℕ, ◌+◌, ◌≤◌, ◌==◌, ◌&&◌, not, Bool, true, false, List, [], ◌∷◌, Option, Some, None, length, refl, sym, ◌∙◌, ap, subst, arith}
+use Rattle.std.specs.Prelude.{nat_lt, is_some, slice_get, Result, Ok, Err, if◌then◌else◌}
 use Rattle.std.proofs.lemmas.Bool.Decides.{nat_tests}
 use Rattle.topology_stack.specs.OneAnswer.{NoListHasTwoTrees}
 use Rattle.port_state.specs.Machine.{PortNode}
@@ -10,16 +10,15 @@ use Rattle.cable_world.specs.Unchanged.{ActKeepsNodes}
 use Rattle.cable_world.proofs.Lemmas.{reached-lawful}
 use Rattle.script_lines.specs.declared.kind.Kind.{Kind}
 use Rattle.script_lines.specs.declared.command.Command.{Command}
-use Rattle.script_lines.specs.declared.command.Command.TheVariants.{Node, Delay, Times, Settle}
+use Rattle.script_lines.specs.declared.command.Command.TheVariants.{Node, Delay, Times}
 use Rattle.script_lines.specs.Range.{IsWithin, IsInRange}
 use Rattle.script_lines.specs.declared.times.ScriptTimes.{ScriptTimes}
 use Rattle.script_lines.specs.Times.{standard_times}
 use Rattle.script_lines.specs.Line.{Reads}
 use Rattle.script_lines.proofs.Lemmas.{one_reading, in-range}
 use Rattle.script_told.specs.Bus.{is_declared}
-use Rattle.script_told.specs.Step.{LineAnswer, Settles}
-use Rattle.script_told.specs.Script.{Draft, Stage, fresh, declaring, running, StageAnswer, draft_of, bus_of, ranges_of, first_draft, draft_with, new_node, times_of, coins_of, with_node, with_times, Declares, Delays, SaysTimes, onwards, Runs, Follows, Told, script_lines}
-use Rattle.script_told.specs.Run.{ScriptRun, done, stopped, behind, last_run, Ends, Goes, Takes, RunsFrom, told_by}
+use Rattle.script_told.specs.Script.{Draft, Stage, fresh, declaring, running, StageAnswer, bus_of, ranges_of, first_draft, draft_with, new_node, times_of, coins_of, with_node, with_times, Declares, Delays, SaysTimes, onwards, Runs, Follows, script_lines}
+use Rattle.script_told.specs.Run.{ScriptRun, done, behind, last_run, Goes, Takes, RunsFrom, told_by}
 use Rattle.script_told.specs.OneTold.{ScriptsHaveOneRun, ScriptsTellOneThing}
 use Rattle.script_told.specs.codings.Fitting.{AreFitting, IsFitting}
 use Rattle.script_told.proofs.told.Cables.{IsCabled}
@@ -80,7 +79,7 @@ timed-draft draft times none fit h = record {
     no-node [] e k x at = cc
     no-node (y ∷ nodes) e k x at = absurd (omega (arith, e))
 
-says :
+pub says :
     (draft : Draft) (standard : Standard) (nanoseconds : ℕ) → 1 ≤ nanoseconds → IsSoundDraft draft →
     IsOneStage (SaysTimes (Some draft) standard nanoseconds)
 says draft standard nanoseconds some h =

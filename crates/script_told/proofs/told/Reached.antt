@@ -1,6 +1,6 @@
 -- A command leaves a bus whose world comes of power-on, and so does each line of a script.
-use Rattle.std.proofs.Common.{◌≡◌, ◌+◌, ◌++◌, ◌≤◌, ◌*◌, ◌==◌, ℕ, zero, suc, Bool, true, false, List, [], ◌∷◌, Option, Some, None, IfSome, length, refl, sym, subst, ◌∙◌, ap, arith}
-use Rattle.std.specs.Prelude.{codes, slice_get, if◌then◌else◌, Result, Ok, Err, MatchBool, nat_lt, unwrap_or}
+use Rattle.std.proofs.Common.{◌≡◌, ◌+◌, ◌++◌, ◌≤◌, ◌==◌, ℕ, zero, suc, Bool, true, false, List, [], ◌∷◌, Option, Some, None, IfSome, length, refl, sym, subst, ◌∙◌, ap, arith}
+use Rattle.std.specs.Prelude.{codes, slice_get, Ok, Err, MatchBool, nat_lt, unwrap_or}
 use Rattle.std.proofs.lemmas.Bool.Decides.{nat_tests}
 use Rattle.std.proofs.lemmas.List.{length-append}
 use Rattle.cabling.specs.declared.cable.End.{End}
@@ -34,17 +34,14 @@ use Rattle.settle_plan.proofs.Lemmas.{gap-fits}
 use Rattle.script_lines.specs.declared.kind.Kind.{Kind}
 use Rattle.script_lines.specs.declared.command.Command.{Command}
 use Rattle.script_lines.specs.declared.command.Command.TheVariants.{Node, Plug, Pull, Reset, Turn, Hold, Settle, Config, CsrRead, CsrWrite, CsrLock, Look, Allocate, Release, Manager, Plan, Maps, Delay, Times}
-use Rattle.script_lines.specs.Range.{IsWithin, IsInRange, IsNodeInRange, IsConfigInRange}
-use Rattle.script_lines.specs.Line.{Reads}
-use Rattle.script_lines.specs.Ranged.{CommandsAreInRange}
-use Rattle.script_lines.proofs.Lemmas.{some_reading}
+use Rattle.script_lines.specs.Range.{IsInRange, IsNodeInRange, IsConfigInRange}
 use Rattle.script_lines.specs.Refusal.{kind_of}
 use Rattle.script_text.specs.CommandText.{csr_text, grant_text, bid_text}
 use Rattle.script_told.specs.Bus.{Bus, Notes, Reported, node_named, tree_with, values_at, after_access, put_look}
 use Rattle.script_told.specs.Step.{LineAnswer, AtNode, Named, AtTree, Settled, AtManager, Managed, id_of, Acts, Holds, Within, Turns, Reports, Settles, Accesses, Grants, Looks, seen_by, Plans, GivesMaps, Does, end_of, config_of}
-use Rattle.script_told.specs.SomeAnswer.{IsOfReached, IsReachedBus, HasAnswer, CommandsHaveAnswers, PlansHaveAnswers, BusesSettle}
-use Rattle.script_told.specs.Script.{Draft, Stage, fresh, declaring, running, StageAnswer, bus_of, first_draft, draft_with, new_node, times_of, coins_of, with_node, Declares, Delays, onwards}
-use Rattle.script_told.specs.Bus.{bus_of_nodes, is_declared}
+use Rattle.script_told.specs.SomeAnswer.{IsOfReached, IsReachedBus}
+use Rattle.script_told.specs.Script.{Draft, Stage, fresh, declaring, running, StageAnswer, bus_of, first_draft, draft_with, new_node, times_of, coins_of, with_node, onwards}
+use Rattle.script_told.specs.Bus.{bus_of_nodes}
 use Rattle.script_told.specs.codings.Fitting.{AreFitting, IsFitting}
 use Rattle.script_told.proofs.Turns.{after-turns}
 use Rattle.script_told.proofs.told.Fitting.{profile-fits, times-within, suits, can-be-forced}

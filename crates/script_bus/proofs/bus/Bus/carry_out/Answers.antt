@@ -15,7 +15,8 @@ pass-requires g c =
     let k = lawful-now s c.is_sound-2.ensures.reached in
     let nodes : length s.cabling ≡ length w.cabling = omega (arith, k.well_formed.count, l.well_formed.count, sent.passed.nodes) in
     let delay : s.delay ≡ w.delay = c.acts_keep.ensures.delay (Config c.args.node c.args.plan.now.root_id true (Some c.args.plan.now.gap)) w s sent.sent.sends.1 in
-    let same : s.turns + quiet_turns_of s ≡ w.turns + quiet_turns_of w = omega (arith, same-quiet w s nodes delay, sent.passed.turns) in
+    let longest : s.longest ≡ w.longest = c.acts_keep.ensures.longest (Config c.args.node c.args.plan.now.root_id true (Some c.args.plan.now.gap)) w s sent.sent.sends.1 in
+    let same : s.turns + quiet_turns_of s ≡ w.turns + quiet_turns_of w = omega (arith, same-quiet w s sent.passed.nodes nodes delay longest, sent.passed.turns) in
     ap (nat_lt 2000000) same ∙ c.requires.within
 
 pub returns : goal.returns

@@ -1,6 +1,6 @@
 use Rattle.std.proofs.Common.{◌++◌, ◌∙◌, ap}
 use Rattle.cable_world.specs.World.{CableWorld}
-use Rattle.script_text.specs.ReportText.{Names}
+use Rattle.script_trace.specs.Voice.{Legend}
 use Rattle.script_bus.proofs.bus.Bus.tell_after.Goals as goal
 
 pub returns : goal.returns
@@ -9,5 +9,5 @@ returns g c =
     let out = g.L.Listener.written c.args.listener.now in
     let voice = g.L.Listener.voice in
     c.in_ok-after_act.ensures
-    ∙ ap (λ (w : CableWorld). out ++ voice.since c.names.result.now c.args.seen.now w) c.world.ensures.is
-    ∙ ap (λ (names : Names). out ++ voice.since names c.args.seen.now bus.world) c.names.ensures
+    ∙ ap (λ (w : CableWorld). out ++ voice.since c.legend.result c.args.seen.now w) c.world.ensures.is
+    ∙ ap (λ (legend : Legend). out ++ voice.since legend c.args.seen.now bus.world) c.legend.ensures

@@ -4,9 +4,9 @@ use Rattle.script_trace.specs.Step.{seen_before_act}
 use Rattle.script_bus.proofs.bus.Bus.tell_before.Goals as goal
 
 pub returns-clause-alike : goal.returns-clause-alike
-returns-clause-alike g c = λ names w.
-    c.in_ok-seen.ensures names w
-    ∙ ap (λ (z : CableWorld). g.L.Listener.voice.since names (seen_before_act z 0 z.nodes) w) c.world.ensures.is
+returns-clause-alike g c = λ legend w.
+    c.in_ok-seen.ensures legend w
+    ∙ ap (λ (z : CableWorld). g.L.Listener.voice.since legend (seen_before_act z 0 z.nodes) w) c.world.ensures.is
 
 pub returns-clause-written : goal.returns-clause-written
 returns-clause-written g c =
