@@ -1,24 +1,10 @@
 //! The entry to R0 (Reset start).
-ghost use Rattle.std.specs.Prelude.{◌≡◌, [], map};
-ghost use Rattle.port_state.specs.Entry.{enter, without_marks};
+ghost use Rattle.std.specs.Prelude.{◌≡◌, []};
+ghost use Rattle.port_state.specs.Entry.{enter};
 ghost use Rattle.port_state.specs.Valid.{IsBounded};
 
 use port_state::states::NodeState;
-use port_state::{Phase, PortViews, Sends, Signal};
-
-/// Each port keeps its cable and its level, and leads to no child.
-fn clear_marks(ports: &mut PortViews)
-    ensures { ports.new ≡ map without_marks ports.old }
-{
-    let count = ports.as_slice().len();
-    for at in 0..count {
-        let mut port = ports.get(at);
-        port.child = false;
-        port.asked = false;
-        port.named = false;
-        ports.set(at, port);
-    }
-}
+use port_state::{Phase, Sends, Signal};
 
 /// The node begins a reset, by itself (`caused`) or since it heard Reset: it forgets the tree,
 /// takes over what a configuration packet said, and sends Reset on every connected port. `out` is
@@ -32,7 +18,7 @@ pub fn enter(s: &mut NodeState, caused: bool, out: &mut Sends)
 {
     let view = &mut s.view;
     out.push_on_every(&view.ports, Signal::Reset);
-    clear_marks(&mut view.ports);
+    view.ports.clear_marks();
     view.phase = Phase::ResetStart;
     view.timer = 0;
     view.wait = 0;

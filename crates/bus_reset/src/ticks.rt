@@ -4,7 +4,7 @@ ghost use Rattle.port_state.specs.Valid.{IsValid};
 ghost use Rattle.bus_reset.specs.ResetStep.{reset_step};
 
 use port_state::states::NodeState;
-use port_state::{Phase, PortTests, Sends, Signal};
+use port_state::{Phase, Sends, Signal};
 
 /// What a tick does in R0 and R1, once it has raised the timer; in any other state nothing. From
 /// R0 the node goes on after the hold, and sends Idle on every connected port. From R1 it goes on

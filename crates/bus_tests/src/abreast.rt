@@ -5,7 +5,7 @@ ghost use Rattle.cable_world.specs.Act.{IsAct};
 use crate::nodes::{ONES, USUAL, agenda, world};
 use cable_world::{Act, ActStop, WorldRun};
 use cabling::{CableFault, End};
-use port_state::View;
+use port_state::{PortViews, View};
 use std::alloc::Global;
 use std::process::Abort;
 use std::test::Fail;
@@ -69,10 +69,23 @@ impl Dice {
     }
 }
 
+/// Whether two nodes know the same of their ports.
+fn ports_are_alike(is: &PortViews, was: &PortViews) -> bool {
+    if is.len() != was.len() {
+        return false;
+    }
+    for at in 0..is.len() {
+        if is.get(at) != was.get(at) {
+            return false;
+        }
+    }
+    true
+}
+
 /// Whether two views show the same state.
 fn states_are_alike(is: &View, was: &View) -> bool {
     is.phase == was.phase
-        && is.ports.as_slice() == was.ports.as_slice()
+        && ports_are_alike(&is.ports, &was.ports)
         && is.parent == was.parent
         && is.granted == was.granted
         && is.id == was.id

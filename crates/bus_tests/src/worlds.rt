@@ -82,7 +82,7 @@ fn turns<W: WorldRun>(world: &mut W, count: u32) -> Result<bool, Fail>
 
 /// Whether a port of a view leads to a child.
 fn has_child(view: &View, port: usize) -> bool {
-    port < view.ports.as_slice().len() && view.ports.get(port).child
+    port < view.ports.len() && view.ports.get(port).child
 }
 
 /// Whether a view shows this, unless it is of the world.

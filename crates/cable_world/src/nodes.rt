@@ -11,6 +11,17 @@ use crate::wire::UnderWay;
 use cabling::{Cabling, End, OutOfMemory};
 use port_state::{PortMachine, PortSet, Sends};
 
+/// What a step sends goes onto the wires of its node. Most steps send nothing.
+fn send(out: &Sends, wires: &mut WireRow) -> Result<(), OutOfMemory>
+    ensures sent { OnOk result (wires.new ≡ wires_after_sends 0 out.now wires.old) }
+    ensures row { length wires.new ≡ length wires.old }
+{
+    if out.is_none() {
+        return Ok(());
+    }
+    wires.send_all(out.as_slice())
+}
+
 /// A node hears on one of its ports what arrives from the port `from` of another, the first first.
 /// What it sends goes onto its wires.
 fn hear_port<M: PortMachine>(
@@ -37,7 +48,7 @@ fn hear_port<M: PortMachine>(
         }
         out.clear();
         machine.on_signal(port, entry.signal, out);
-        wires.send_all(out.as_slice())?;
+        send(out, wires)?;
     }
     Ok(())
 }
@@ -178,6 +189,6 @@ pub fn turn_node<M: PortMachine>(
     hear(machine, cabling, node, arrivals, heard, out, wires)?;
     out.clear();
     machine.tick(out);
-    wires.send_all(out.as_slice())?;
+    send(out, wires)?;
     Ok(())
 }

@@ -1,5 +1,5 @@
 //! The wires that leave a node, and what arrives at their far ends.
-ghost use Rattle.std.specs.Prelude.{◌≡◌, ◌<◌, ◌-◌, ℕ, false, [], ◌&&◌, nat_lt, length, map, replicate, slice_get, slice_set, slice_index, slice_index_or, All, OnOk, IfOk, ◌↔◌, IsTrue, IsFalse, if◌then◌else◌};
+ghost use Rattle.std.specs.Prelude.{◌≡◌, ◌<◌, ◌≤◌, ◌-◌, ℕ, false, [], ◌&&◌, nat_lt, length, map, replicate, take, slice_get, slice_set, slice_index, slice_index_or, All, OnOk, IfOk, ◌↔◌, IsTrue, IsFalse, if◌then◌else◌};
 ghost use Rattle.port_state.specs.Ports.{PortNumber};
 ghost use Rattle.port_state.specs.PortSet.{has_port, all_sent};
 ghost use Rattle.cable_world.specs.Wire.{empty_wire, arrives, stays};
@@ -7,7 +7,7 @@ ghost use Rattle.cable_world.specs.Turn.{wires_after_sends};
 ghost use Rattle.cable_world.specs.Still.{IsSilent, hold_less};
 ghost use Rattle.cable_world.specs.running.Ages.{AreYoung};
 ghost use Rattle.cable_world.specs.running.Rest.{AreAtRest, AreNone};
-ghost use Rattle.cable_world.specs.running.Rows.{signals_on, keeps};
+ghost use Rattle.cable_world.specs.running.Rows.{on_port, signals_on, keeps};
 
 use crate::wire::{
     Travelling, UnderWay, add_all, clear_port, count_on, is_due, part, ports_of, signal_on,
@@ -29,8 +29,13 @@ pub struct WireRow {
     ports: PortSet,
     // Whether some wire may be held.
     holds: bool,
+    // For each port a place in `sent` before which nothing is under way on its wire: what was cleared
+    // isn't looked at again.
+    cleared: [u32; 16],
     ghost free: { IsFalse holds → All (λ h. h ≡ 0) held.items },
     ghost row: { (k : ℕ) → has_port ports k ≡ (nat_lt k 16 && nat_lt k (length held.items)) },
+    ghost gone: { (p : ℕ) → (slice_index cleared p ≤ length sent.items)
+        × (on_port p (take (slice_index cleared p) sent.items) ≡ []) },
 }
 
 impl Model for WireRow {
@@ -145,6 +150,7 @@ impl WireRow {
             held,
             ports: row,
             holds: false,
+            cleared: [0; 16],
         })
     }
 
@@ -162,8 +168,12 @@ impl WireRow {
         requires { port < length self.old }
         ensures { self.new ≡ slice_set self.old port empty_wire }
     {
-        clear_port(&mut self.sent, port);
-        self.held[port as usize] = 0;
+        let at = usize::from(port);
+        self.held[at] = 0;
+        if at < 16 {
+            clear_port(&mut self.sent, self.cleared[at] as usize, port);
+            self.cleared[at] = self.sent.len().min(u32::MAX as usize) as u32;
+        }
     }
 
     /// Holds the wire of a port for so many turns. The port exists.
@@ -187,6 +197,9 @@ impl WireRow {
         ensures ports { length self.new ≡ length self.old }
         ensures rows { length arrivals.new ≡ length arrivals.old }
     {
+        if !self.sent.is_empty() {
+            self.cleared = [0; 16];
+        }
         arrivals.sent.clear();
         swap(&mut self.sent, &mut arrivals.sent);
         if !self.holds {

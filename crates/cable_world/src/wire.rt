@@ -1,6 +1,6 @@
 //! What is under way on the wires of a node, as entries: a signal that was sent on some ports at once is
 //! one entry, and an older entry comes before a later one.
-ghost use Rattle.std.specs.Prelude.{◌≡◌, ◌==◌, ◌↔◌, ℕ, false, [], ◌++◌, map, length, slice_get, OnOk, if◌then◌else◌};
+ghost use Rattle.std.specs.Prelude.{◌≡◌, ◌==◌, ◌↔◌, ℕ, false, [], ◌++◌, map, length, take, slice_get, OnOk, if◌then◌else◌};
 ghost use Rattle.port_state.specs.PortSet.{has_port, all_sent};
 ghost use Rattle.port_state.specs.Sends.{sent_on};
 ghost use Rattle.cable_world.specs.Wire.{new_signal, age_signal, front_is_due};
@@ -88,8 +88,9 @@ pub fn is_due(sent: &[UnderWay], port: u8, delay: u8) -> bool
 
 /// Puts what is sent behind what is under way.
 pub fn add_all(sent: &mut Vec<UnderWay>, sends: &[Sent]) -> Result<(), OutOfMemory>
-    ensures { OnOk result ((p : ℕ) → on_port p sent.new.items
+    ensures sent { OnOk result ((p : ℕ) → on_port p sent.new.items
         ≡ on_port p sent.old.items ++ map new_signal (sent_on p (all_sent sends.now))) }
+    ensures behind { take (length sent.old.items) sent.new.items ≡ sent.old.items }
 {
     for entry in sends {
         sent.push(UnderWay {
@@ -101,11 +102,13 @@ pub fn add_all(sent: &mut Vec<UnderWay>, sends: &[Sent]) -> Result<(), OutOfMemo
     Ok(())
 }
 
-/// Takes away what is under way on the wire of a port.
-pub fn clear_port(sent: &mut [UnderWay], port: u8)
-    ensures { (p : ℕ) → on_port p sent.new ≡ (if p == port then [] else on_port p sent.old) }
+/// Takes away what is under way on the wire of a port. No entry before the place `from` has the port.
+pub fn clear_port(sent: &mut [UnderWay], from: usize, port: u8)
+    requires { on_port port (take from sent.old) ≡ [] }
+    ensures { (p n : ℕ) → on_port p (take n sent.new)
+        ≡ (if p == port then [] else on_port p (take n sent.old)) }
 {
-    for at in 0..sent.len() {
+    for at in from..sent.len() {
         sent[at].ports.remove(port);
     }
 }

@@ -29,7 +29,7 @@ fn spec() -> NodeSpec
 // A cable is plugged into port 0; what is sent there.
 fn plug<M: PortMachine>(machine: &mut M) -> Option<Signal> {
     let view = machine.view();
-    if view.ports.as_slice().is_empty() || machine.ports() == 0 || view.ports.get(0).connected {
+    if view.ports.is_empty() || machine.ports() == 0 || view.ports.get(0).connected {
         return None;
     }
     let mut out = Sends::new();
@@ -60,8 +60,8 @@ type Step = (Option<Signal>, u16, [Option<Signal>; 2]);
 
 // The signal that was sent in this place, if it goes out on port 0.
 fn nth(out: &Sends, at: usize) -> Option<Signal> {
-    match out.as_slice().get(at) {
-        Some(sent) if sent.ports.has(0) => Some(sent.signal),
+    match out.pairs().nth(at) {
+        Some((0, signal)) => Some(signal),
         _ => None,
     }
 }

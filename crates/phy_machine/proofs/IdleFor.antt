@@ -1,5 +1,5 @@
 -- How long nothing happens is right: so many ticks are idle, and the next one isn't.
-use Rattle.std.proofs.Common.{◌≡◌, ℕ, zero, suc, ◌+◌, ◌-◌, ◌<◌, ◌≤◌, Bool, true, false, not, ◌&&◌, ◌||◌, ◌==◌, min, List, Option, Some, None, refl, sym, ◌∙◌, ap, subst, inl, inr, arith, count_by, slice_get, if◌then◌else◌}
+use Rattle.std.proofs.Common.{◌≡◌, ℕ, zero, suc, ◌+◌, ◌-◌, ◌<◌, ◌≤◌, Bool, true, false, not, ◌&&◌, ◌||◌, ◌==◌, min, Option, Some, None, refl, sym, ◌∙◌, ap, subst, inl, inr, arith, count_by, slice_get, if◌then◌else◌}
 use Rattle.std.specs.Prelude.{nat_le, nat_lt, ◌⊎◌}
 use Rattle.std.proofs.lemmas.Bool.{leb-true, leb-false, ltb-true, ltb-false, lt-ltb, le-ltb, cases_lt}
 use Rattle.port_state.specs.declared.signal.Level.{Level}
@@ -20,7 +20,6 @@ use Rattle.port_state.specs.Idle.{changes_nothing, rests, with_later_timer, afte
 use Rattle.port_state.proofs.Lemmas.{idle_ticks-rest, after-idle_ticks}
 use Rattle.port_state.specs.Coins.{Coins}
 use Rattle.phy_machine.specs.Node.{node_of}
-use Rattle.phy_machine.specs.Node.{with_ports}
 use Rattle.phy_machine.specs.codings.IdleTime.{HasTimes, look_ahead, ticks_before, idle_unless, until_timeout, until_roles, is_answer, until_answer, until_waited, until_done, idle_in}
 
 -- ---- tests of numbers
@@ -288,8 +287,3 @@ pub idle-greatest :
 idle-greatest x coins t h =
     let k = idle_in x.view.phase x in
     idle-ends k (node_of x coins) t.timer (idle-for x coins t) (idle-phase x.view.phase k x t h ∙ le-ltb k k (omega arith))
-
--- the ports have no part in the times
-pub times-with_ports :
-    (ports : List PortView) (x : NodeState) → HasTimes x → HasTimes (with_ports ports x)
-times-with_ports ports x t = record { timer = t.timer; wait = t.wait; hold = t.hold; force = t.force; timeout = t.timeout }

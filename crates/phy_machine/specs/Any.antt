@@ -13,4 +13,4 @@ any_node (Packed m) = packed_node m
 -- its record is valid
 pub any_valid : (m : AnyMachine) → IsValid (any_node m).state
 any_valid (Field m) = m.valid
-any_valid (Packed m) = m.valid
+any_valid (Packed m) = m.machine.valid

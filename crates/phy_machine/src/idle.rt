@@ -1,16 +1,15 @@
-//! How long nothing happens at a node, whichever machine keeps its ports.
+//! How long nothing happens at a node.
 ghost use Rattle.std.specs.Prelude.{◌≡◌, ◌+◌, ◌<◌, ◌≤◌};
 ghost use Rattle.port_state.specs.Coins.{Coins};
 ghost use Rattle.port_state.specs.Idle.{IsIdleFor};
 ghost use Rattle.port_state.specs.SelfIdentify.{may_name};
 ghost use Rattle.port_state.specs.Valid.{IsBounded, IsValid};
 ghost use Rattle.phy_machine.specs.Node.{node_of};
-ghost use Rattle.phy_machine.specs.Node.{with_ports};
 ghost use Rattle.phy_machine.specs.codings.IdleTime.{IsIdleWith, StirsAfter};
 ghost use Rattle.phy_machine.specs.codings.IdleTime.{HasTimes, packet_count, ticks_before, idle_unless, until_timeout, until_roles, until_answer, until_waited, until_named, idle_in};
 
 use port_state::states::NodeState;
-use port_state::{Level, Phase, PortTests};
+use port_state::{Level, Phase};
 use self_identify::node_count;
 
 /// As long as a machine looks ahead, in ticks.
@@ -42,11 +41,11 @@ fn until_timeout(s: &NodeState) -> u32
 }
 
 /// In T0: until the roles of the ports are decided.
-fn until_roles<P: PortTests>(s: &NodeState, ports: &P) -> u32
-    ensures { result ≡ until_roles (with_ports (P.views ports.now) s.now) }
+fn until_roles(s: &NodeState) -> u32
+    ensures { result ≡ until_roles s.now }
 {
-    let asking = ports.asking_count();
-    let connected = ports.connected_count();
+    let asking = s.view.ports.asking_count();
+    let connected = s.view.ports.connected_count();
     if asking == connected {
         0
     } else if asking + 1 == connected {
@@ -61,14 +60,14 @@ fn until_roles<P: PortTests>(s: &NodeState, ports: &P) -> u32
 }
 
 /// In T2: until the parent answers; a node with no parent port goes on at once.
-fn until_answer<P: PortTests>(s: &NodeState, ports: &P) -> u32
-    requires { IsBounded (with_ports (P.views ports.now) s.now) }
-    ensures { result ≡ until_answer s.now.view.parent (with_ports (P.views ports.now) s.now) }
+fn until_answer(s: &NodeState) -> u32
+    requires { IsBounded s.now }
+    ensures { result ≡ until_answer s.now.view.parent s.now }
 {
     match s.view.parent {
         None => 0,
         Some(parent) => idle_unless(matches!(
-            ports.port(parent).shown,
+            s.view.ports.get(usize::from(parent)).shown,
             Level::Child | Level::Parent
         )),
     }
@@ -96,24 +95,24 @@ fn packet_count(ports: u8) -> usize
 }
 
 /// Whether there is an ID left for the node, and room in its list.
-fn may_name<P: PortTests>(s: &NodeState, ports: &P) -> bool
-    requires { IsBounded (with_ports (P.views ports.now) s.now) }
-    ensures { result ≡ may_name (with_ports (P.views ports.now) s.now) }
+fn may_name(s: &NodeState) -> bool
+    requires { IsBounded s.now }
+    ensures { result ≡ may_name s.now }
 {
     node_count(s.list.as_slice()) <= 62 && s.list.len() + packet_count(s.ports) <= 252
 }
 
 /// In S0 to S2: until the grant, and then until the child that was asked says Done.
-fn until_named<P: PortTests>(s: &NodeState, ports: &P) -> u32
-    requires { IsBounded (with_ports (P.views ports.now) s.now) }
-    ensures { result ≡ until_named (with_ports (P.views ports.now) s.now) }
+fn until_named(s: &NodeState) -> u32
+    requires { IsBounded s.now }
+    ensures { result ≡ until_named s.now }
 {
     if !s.view.granted {
         return LOOK_AHEAD;
     }
-    match ports.next_child() {
-        None => idle_unless(may_name(s, ports)),
-        Some(port) => idle_unless(!ports.port(port).asked),
+    match s.view.ports.next_child() {
+        None => idle_unless(may_name(s)),
+        Some(port) => idle_unless(!s.view.ports.get(usize::from(port)).asked),
     }
 }
 
@@ -129,30 +128,30 @@ fn read_times(s: &NodeState)
 }
 
 /// How long nothing happens, by the phase.
-fn idle_in<P: PortTests>(s: &NodeState, ports: &P) -> u32
-    requires { IsBounded (with_ports (P.views ports.now) s.now) }
-    ensures { result ≡ idle_in s.now.view.phase (with_ports (P.views ports.now) s.now) }
+fn idle_in(s: &NodeState) -> u32
+    requires { IsBounded s.now }
+    ensures { result ≡ idle_in s.now.view.phase s.now }
 {
     match s.view.phase {
         Phase::ResetStart => ticks_before(s.timing.hold, s),
-        Phase::ResetWait => idle_unless(ports.are_calm()),
-        Phase::TreeStart => until_roles(s, ports).min(until_timeout(s)),
-        Phase::ChildShake => idle_unless(ports.are_children_idle()),
-        Phase::ParentShake => until_answer(s, ports),
+        Phase::ResetWait => idle_unless(s.view.ports.are_calm()),
+        Phase::TreeStart => until_roles(s).min(until_timeout(s)),
+        Phase::ChildShake => idle_unless(s.view.ports.are_children_idle()),
+        Phase::ParentShake => until_answer(s),
         Phase::Contend => until_waited(s),
-        Phase::SelfIdent => until_named(s, ports),
+        Phase::SelfIdent => until_named(s),
         Phase::Ready => LOOK_AHEAD,
     }
 }
 
-/// How many of the next ticks, up to 4,000,000, send nothing and change the timer alone, at a node
-/// with these ports, if no signal is heard.
-pub fn idle_for<P: PortTests>(s: &NodeState, ports: &P) -> u32
-    requires { IsBounded (with_ports (P.views ports.now) s.now) }
+/// How many of the next ticks, up to 4,000,000, send nothing and change the timer alone, if no
+/// signal is heard.
+pub fn idle_for(s: &NodeState) -> u32
+    requires { IsBounded s.now }
     ensures most { result ≤ 4000000 }
-    ensures idle { IsIdleWith result (with_ports (P.views ports.now) s.now) }
-    ensures greatest { StirsAfter result (with_ports (P.views ports.now) s.now) }
+    ensures idle { IsIdleWith result s.now }
+    ensures greatest { StirsAfter result s.now }
 {
     read_times(s);
-    idle_in(s, ports)
+    idle_in(s)
 }

@@ -1,4 +1,4 @@
-//! The calls of a machine over the record of its node, for every machine of this crate.
+//! The calls of a machine over the record of its node.
 ghost use Rattle.std.specs.Prelude.{◌≡◌, ◌<◌, ◌≤◌, [], IsTrue, length, replicate};
 ghost use Rattle.port_state.specs.Ports.{is_connected};
 ghost use Rattle.port_state.specs.PowerOn.{free_port, power_on};
@@ -79,13 +79,10 @@ fn hear_level(s: &mut NodeState, port: u8, level: Level, out: &mut Sends)
     ensures state { s.new ≡ (on_signal port (signal_of level) s.old).state }
     ensures sends { out.new ≡ (on_signal port (signal_of level) s.old).sends }
 {
-    let at = usize::from(port);
-    let mut view = s.view.ports.get(at);
-    if !view.connected {
+    if !s.view.ports.get(usize::from(port)).connected {
         return;
     }
-    view.shown = level;
-    s.view.ports.set(at, view);
+    s.view.ports.show(port, level);
     if level == Level::Reset && s.view.phase != Phase::ResetStart {
         enter(s, false, out);
     }
@@ -191,41 +188,6 @@ pub fn attrs(s: &NodeState) -> Attrs
         initiated: s.view.initiated,
         ..s.attrs
     }
-}
-
-/// What a node shows, with these views of its ports.
-pub fn view_with(view: &View, ports: PortViews) -> View
-    ensures { result ≡ record view.now { ports = ports } }
-{
-    View {
-        phase: view.phase,
-        timer: view.timer,
-        wait: view.wait,
-        ports,
-        parent: view.parent,
-        granted: view.granted,
-        id: view.id,
-        draws: view.draws,
-        first_draws: view.first_draws,
-        initiated: view.initiated,
-        gap: view.gap,
-        force: view.force,
-        next_gap: view.next_gap,
-        next_force: view.next_force,
-        timed_out: view.timed_out,
-        resets: view.resets,
-    }
-}
-
-/// The views of ports, once more.
-pub fn copy_ports(ports: &PortViews) -> PortViews
-    ensures { result ≡ ports.now }
-{
-    let mut copy = PortViews::new();
-    for port in ports.as_slice() {
-        copy.push(*port);
-    }
-    copy
 }
 
 /// So many ports with no cable.

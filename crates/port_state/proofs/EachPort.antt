@@ -1,6 +1,8 @@
 -- Facts of each port, where ports are changed.
-use Rattle.std.proofs.Common.{◌≡◌, ℕ, zero, suc, ◌+◌, ◌<◌, Bool, true, false, List, [], ◌∷◌, length, map, Option, Some, None, slice_get, slice_set, cond, refl, subst, sym, ◌∙◌, ap, arith, length-set}
+use Rattle.std.proofs.Common.{◌≡◌, ℕ, zero, suc, ◌+◌, ◌<◌, Bool, true, false, List, [], ◌∷◌, length, drop, map, Option, Some, None, slice_get, slice_set, cond, refl, subst, sym, ◌∙◌, ap, arith, length-set}
 use Rattle.std.specs.List.{position_from}
+use Rattle.std.proofs.lemmas.List.{drop_more}
+use Rattle.std.proofs.lemmas.Option.{slice_get_within, get_or_from_slice_get}
 use Rattle.std.specs.Option.{ForSome}
 use Rattle.port_state.specs.declared.ports.PortView.{PortView}
 use Rattle.port_state.specs.Ports.{passes, port_is, change_port_at, change_port}
@@ -49,6 +51,14 @@ length-changed n f ports = go (slice_get ports n)
     go : (o : Option PortView) → length (change_port_at o n f ports) ≡ length ports
     go None = refl
     go (Some q) = length-set ports n (f q)
+
+-- the ports from one on
+pub ports-from :
+    (ports : List PortView) (at : ℕ) (p : PortView) → slice_get ports at ≡ Some p →
+    drop at ports ≡ p ∷ drop (at + 1) ports
+ports-from ports at p e =
+    drop_more ports at p (slice_get_within ports at p e)
+    ∙ ap (λ q. q ∷ drop (at + 1) ports) (get_or_from_slice_get ports at p p e)
 
 -- ---- tests of a port by its number
 

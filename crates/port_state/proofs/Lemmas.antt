@@ -7,8 +7,8 @@ pub use Rattle.port_state.proofs.Pointwise.{on_every-port, on_others-port, notic
 pub use Rattle.port_state.proofs.CoinPlaces.{coin_at-given}
 pub use Rattle.port_state.proofs.Shown.{length-statuses_from, shown-is_node, shown-is_of}
 pub use Rattle.port_state.proofs.Shown.{node_count-own_group}
--- Facts of each port, where ports are changed.
-pub use Rattle.port_state.proofs.EachPort.{lowest-passes, port_is-changed, port_is-map}
+-- Facts of each port, where ports are changed; and the ports from one on, for loops from port to port.
+pub use Rattle.port_state.proofs.EachPort.{lowest-passes, port_is-changed, port_is-map, ports-from}
 -- A tick is idle exactly where its row changes nothing, and then it raises the timer alone.
 pub use Rattle.port_state.proofs.IdleTicks.{after-idle_ticks, idle_ticks-rest}
 -- The roles of ports, as the rows of tree identify give and change them.

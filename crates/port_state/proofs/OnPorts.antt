@@ -2,6 +2,7 @@
 use Rattle.std.proofs.Common.{◌≡◌, ℕ, zero, suc, ◌+◌, ◌-◌, ◌≤◌, ◌<◌, inl, inr, Bool, true, false, not, ◌&&◌, ◌==◌, List, [], ◌∷◌, ◌++◌, length, refl, subst, sym, ◌∙◌, ap, arith, eq-eqb, append_assoc, length-append, if◌then◌else◌}
 use Rattle.std.proofs.lemmas.Bool.{ne_eqb, and_right, cases_lt, cases_eq}
 use Rattle.std.proofs.lemmas.List.{append-nil}
+use Rattle.std.proofs.Math.Bool.{and-true}
 use Rattle.port_state.specs.declared.ports.PortView.{PortView}
 use Rattle.port_state.specs.declared.sends.Sent.{Sent}
 use Rattle.port_state.specs.declared.signal.Signal.{Signal}
@@ -184,12 +185,55 @@ all_sent-one_more xs x = all_sent-append xs (x ∷ []) ∙ ap (λ zs. all_sent x
 
 -- one more entry that sends something: there are no more entries than signals, and few of these
 pub fits-one_more :
-    (xs : List Sent) (x : Sent) → length xs ≤ length (all_sent xs) →
-    0 < length (on_ports x.ports x.signal) →
+    (count : ℕ) (xs ys : List Sent) (x : Sent) → ys ≡ xs ++ x ∷ [] →
+    count ≤ length (all_sent xs) → 0 < length (on_ports x.ports x.signal) →
     length (all_sent xs) + length (on_ports x.ports x.signal) ≤ 112 →
-    (length (xs ++ x ∷ []) ≤ length (all_sent (xs ++ x ∷ [])))
-    × (length (all_sent (xs ++ x ∷ [])) ≤ 112)
-fits-one_more xs x short some room =
-    let more : length (all_sent (xs ++ x ∷ [])) ≡ length (all_sent xs) + length (on_ports x.ports x.signal) = ap length (all_sent-one_more xs x) ∙ length-append (all_sent xs) (on_ports x.ports x.signal) in
-    let entries : length (xs ++ x ∷ []) ≡ length xs + 1 = length-append xs (x ∷ []) in
-    (omega (arith, more, entries, short, some), omega (arith, more, room))
+    (count + 1 ≤ length (all_sent ys)) × (length (all_sent ys) ≤ 112)
+fits-one_more count xs ys x is short some room =
+    let more : length (all_sent ys) ≡ length (all_sent xs) + length (on_ports x.ports x.signal) =
+    ap (λ zs. length (all_sent zs)) is ∙ ap length (all_sent-one_more xs x) ∙ length-append (all_sent xs) (on_ports x.ports x.signal)
+    in
+    (omega (arith, more, short, some), omega (arith, more, room))
+
+-- ---- one port after the other
+
+same-ports :
+    (n k set rest : ℕ) (s : Signal) → ((j : ℕ) → k ≤ j → has_port set j ≡ has_port rest j) →
+    on_ports_from n k set s ≡ on_ports_from n k rest s
+unfolding on_ports_from
+same-ports zero k set rest s h = refl
+same-ports (suc n) k set rest s h = rw (h k (omega arith), same-ports n (k + 1) set rest s (λ j up. h j (omega arith))) refl
+
+lowest-from :
+    (n k port set rest : ℕ) (s : Signal) → k ≤ port → port < k + n → has_port set port ≡ true →
+    ((j : ℕ) → k ≤ j → j < port → has_port set j ≡ false) →
+    ((j : ℕ) → has_port rest j ≡ (has_port set j && not (j == port))) →
+    on_ports_from n k set s ≡ (port, s) ∷ on_ports_from n k rest s
+unfolding on_ports_from
+lowest-from zero k port set rest s up below is before others = absurd (omega arith)
+lowest-from (suc n) k port set rest s up below is before others = elim (cases_eq k port) [
+  | inl e ↦
+      let here : has_port set k ≡ true = ap (has_port set) e ∙ is in
+      let gone : has_port rest k ≡ false = others k ∙ ap (λ b. has_port set k && not b) (eq-eqb k port e) ∙ and_right (has_port set k) false refl in
+      let same : on_ports_from n (k + 1) set s ≡ on_ports_from n (k + 1) rest s =
+      same-ports n (k + 1) set rest s (λ j more. sym (others j ∙ ap (λ b. has_port set j && not b) (ne_eqb j port (λ i. omega (arith, e))) ∙ and-true (has_port set j)))
+      in
+      rw (here, gone, same, e) refl
+  | inr ne ↦
+      let here : has_port set k ≡ false = before k (omega arith) (omega (arith, ne)) in
+      let gone : has_port rest k ≡ false = others k ∙ ap (λ b. b && not (k == port)) here in
+      rw (here, gone) (lowest-from n (k + 1) port set rest s (omega (arith, ne)) (omega arith) is (λ j more less. before j (omega arith) less) others)
+]
+
+-- what goes out on the lowest port of a set, and then on the others
+pub lowest-sent :
+    (port set rest : ℕ) (s : Signal) → has_port set port ≡ true →
+    ((j : ℕ) → 0 ≤ j → j < port → has_port set j ≡ false) →
+    ((j : ℕ) → has_port rest j ≡ (has_port set j && not (j == port))) →
+    on_ports set s ≡ (port, s) ∷ on_ports rest s
+lowest-sent port set rest s is before others =
+    let few : port < 16 = elim (cases_lt port 16) [
+      | inl less ↦ less
+      | inr more ↦ let none = has-above set port more in absurd cc
+    ] in
+    whole set s ∙ lowest-from 16 0 port set rest s (omega arith) (omega arith) is before others ∙ ap (λ xs. (port, s) ∷ xs) (sym (whole rest s))

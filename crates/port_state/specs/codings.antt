@@ -1,2 +1,4 @@
 -- Devices of the proofs. No public contract cites these files.
 pub mod OneProof
+pub mod PortWords
+pub mod WordsBack

@@ -30,6 +30,13 @@ impl PortSet {
         PortSet { bits: 0 }
     }
 
+    /// The ports whose bits are set.
+    pub(crate) fn of_bits(bits: u16) -> PortSet
+        ensures { result ≡ bits }
+    {
+        PortSet { bits }
+    }
+
     /// The set of one port, 0 to 15.
     pub fn one(port: u8) -> PortSet
         requires { port < 16 }

@@ -1,11 +1,13 @@
 //! What a node knows of its ports.
-ghost use Rattle.std.specs.Prelude.{◌≡◌, ◌<◌, ◌≤◌, [], ◌∷◌, ◌++◌, length, slice_get, slice_set, ℕ};
+ghost use Rattle.std.specs.Prelude.{◌≡◌, ◌<◌, ◌≤◌, ◌↔◌, IsTrue, [], ◌∷◌, ◌++◌, length, map, slice_get, slice_set, ℕ, true};
+ghost use Rattle.port_state.specs.Entry.{without_marks};
 ghost use Rattle.port_state.specs.PortSet.{has_port};
-ghost use Rattle.port_state.specs.Ports.{is_connected};
+ghost use Rattle.port_state.specs.Ports.{is_connected, change_port};
+ghost use Rattle.port_state.specs.TreeIdentify.{adopt};
 
 use crate::port_set::PortSet;
+use crate::port_words::Words;
 use crate::signal::Level;
-use arrayvec::ArrayVec;
 use std::marker::Model;
 
 /// What a node knows of one of its ports.
@@ -23,25 +25,30 @@ pub struct PortView {
     pub named: bool,
 }
 
-/// The views of a node's ports, port 0 first, at most 16.
-#[derive(Debug, Drop)]
+/// The views of a node's ports, port 0 first, at most 16. They are kept in a few words, so that
+/// what a step asks or changes of all ports takes a few instructions.
+#[derive(Clone, Copy, Debug)]
 pub struct PortViews {
-    items: ArrayVec<PortView, 16>,
-    connected: PortSet,
+    count: u8,
+    pub(crate) words: Words,
 }
 
 impl Model for PortViews {
-    ghost use Rattle.std.specs.Prelude.{List, length, ◌≤◌, ◌≡◌, ℕ};
+    ghost use Rattle.std.specs.Prelude.{List, ◌≤◌};
     ghost use Rattle.port_state.specs.declared.ports.PortView.{PortView};
-    ghost use Rattle.port_state.specs.PortSet.{has_port};
-    ghost use Rattle.port_state.specs.Ports.{is_connected};
 
     ghost Value = { List PortView };
 
-    ghost view = { λ p. p.items.items };
+    ghost use Rattle.port_state.specs.codings.PortWords.{ports_of, FitsPorts};
+    ghost use Rattle.port_state.specs.codings.WordsBack.{inside_of, inside-back};
 
-    ghost invariant = { λ p. (length p.items.items ≤ 16)
-        × ((k : ℕ) → has_port p.connected k ≡ is_connected p.items.items k) };
+    ghost view = { λ p. ports_of p.count p.words };
+
+    ghost invariant = { λ p. (p.count ≤ 16) × FitsPorts p.count p.words };
+
+    ghost inverse = { inside_of };
+
+    ghost inverse_ok = { λ p h. inside-back p h.1 };
 }
 
 impl PortViews {
@@ -50,8 +57,8 @@ impl PortViews {
         ensures { result ≡ [] }
     {
         PortViews {
-            items: ArrayVec::new(),
-            connected: PortSet::none(),
+            count: 0,
+            words: Words::new(),
         }
     }
 
@@ -60,18 +67,23 @@ impl PortViews {
         requires { length self.old < 16 }
         ensures { self.new ≡ self.old ++ port ∷ [] }
     {
-        if port.connected {
-            self.connected.insert(self.items.len() as u8);
-        }
-        self.items.push(port);
+        self.words.set(self.count, port);
+        self.count += 1;
     }
 
-    /// The views, port 0 first.
-    pub fn as_slice(&self) -> &[PortView]
-        ensures value { result.now ≡ self.now }
-        ensures few { length result.now ≤ 16 }
+    /// The number of ports.
+    pub fn len(&self) -> usize
+        ensures value { result ≡ length self.now }
+        ensures few { result ≤ 16 }
     {
-        self.items.as_slice()
+        usize::from(self.count)
+    }
+
+    /// Whether there are no ports.
+    pub fn is_empty(&self) -> bool
+        ensures { IsTrue result ↔ (self.now ≡ []) }
+    {
+        self.count == 0
     }
 
     /// The ports that are connected. There are 16 ports at most.
@@ -79,7 +91,7 @@ impl PortViews {
         ensures ports { (k : ℕ) → has_port result k ≡ is_connected self.now k }
         ensures few { length self.now ≤ 16 }
     {
-        self.connected
+        PortSet::of_bits(self.words.connected)
     }
 
     /// The view of port `at`, which is below the number of ports.
@@ -87,7 +99,7 @@ impl PortViews {
         requires { at < length self.now }
         ensures { slice_get self.now at ≡ Some result }
     {
-        self.items[at]
+        self.words.port(at as u8)
     }
 
     /// Puts a view in the place of that of port `at`, which is below the number of ports.
@@ -95,11 +107,44 @@ impl PortViews {
         requires { at < length self.old }
         ensures { self.new ≡ slice_set self.old at port }
     {
-        if port.connected {
-            self.connected.insert(at as u8);
-        } else {
-            self.connected.remove(at as u8);
-        }
-        self.items[at] = port;
+        self.words.set(at as u8, port);
+    }
+
+    /// A port, which exists, shows a level.
+    pub fn show(&mut self, port: u8, level: Level)
+        requires { port < length self.old }
+        ensures { self.new ≡ change_port port (λ p. record p { shown = level }) self.old }
+    {
+        self.words.show(port, level);
+    }
+
+    /// Each port keeps its cable and its level, and leads to no child.
+    pub fn clear_marks(&mut self)
+        ensures { self.new ≡ map without_marks self.old }
+    {
+        self.words.clear_marks();
+    }
+
+    /// Each port whose neighbour asks leads to a child.
+    pub fn adopt_all(&mut self)
+        ensures { self.new ≡ map adopt self.old }
+    {
+        self.words.adopt_all();
+    }
+
+    /// The child of a port, which exists, was asked.
+    pub fn ask(&mut self, port: u8)
+        requires { port < length self.old }
+        ensures { self.new ≡ change_port port (λ p. record p { asked = true }) self.old }
+    {
+        self.words.ask(port);
+    }
+
+    /// The child of a port, which exists, has identified itself.
+    pub fn name(&mut self, port: u8)
+        requires { port < length self.old }
+        ensures { self.new ≡ change_port port (λ p. record p { named = true }) self.old }
+    {
+        self.words.name(port);
     }
 }

@@ -1,12 +1,12 @@
 //! What a node sends in one step.
-ghost use Rattle.std.specs.Prelude.{◌≡◌, ◌<◌, ◌≤◌, [], ◌∷◌, ◌++◌, length, ◌+◌};
+ghost use Rattle.std.specs.Prelude.{◌≡◌, ◌<◌, ◌≤◌, ◌↔◌, IsTrue, [], ◌∷◌, ◌++◌, length, ◌+◌};
 ghost use Rattle.port_state.specs.PortSet.{on_ports, all_sent};
 ghost use Rattle.port_state.specs.Sends.{on_every};
 
+use crate::pairs::Pairs;
 use crate::port_set::PortSet;
 use crate::ports::PortViews;
 use crate::signal::Signal;
-use arrayvec::ArrayVec;
 use std::marker::Model;
 
 /// How many signals a step sends at most: seven on each of sixteen ports. No step needs as many,
@@ -26,20 +26,22 @@ pub struct Sent {
 /// ports at once is kept as one entry.
 #[derive(Debug, Drop)]
 pub struct Sends {
-    items: ArrayVec<Sent, SENDS_LIMIT>,
+    // The entries, of which the first `count` are there.
+    entries: [Sent; SENDS_LIMIT],
+    count: usize,
 }
 
 impl Model for Sends {
-    ghost use Rattle.std.specs.Prelude.{List, length, ◌≤◌, ℕ};
+    ghost use Rattle.std.specs.Prelude.{List, length, take, ◌≤◌, ℕ};
     ghost use Rattle.port_state.specs.declared.signal.Signal.{Signal};
     ghost use Rattle.port_state.specs.PortSet.{all_sent};
 
     ghost Value = { List (ℕ × Signal) };
 
-    ghost view = { λ s. all_sent s.items.items };
+    ghost view = { λ s. all_sent (take s.count s.entries) };
 
-    ghost invariant = { λ s. (length s.items.items ≤ length (all_sent s.items.items))
-        × (length (all_sent s.items.items) ≤ 112) };
+    ghost invariant = { λ s. (s.count ≤ length (all_sent (take s.count s.entries)))
+        × (length (all_sent (take s.count s.entries)) ≤ 112) };
 }
 
 impl Sends {
@@ -48,7 +50,11 @@ impl Sends {
         ensures { result ≡ [] }
     {
         Sends {
-            items: ArrayVec::new(),
+            entries: [Sent {
+                ports: PortSet::none(),
+                signal: Signal::Idle,
+            }; SENDS_LIMIT],
+            count: 0,
         }
     }
 
@@ -58,10 +64,11 @@ impl Sends {
         requires room { length self.old < 112 }
         ensures { self.new ≡ self.old ++ (port, signal) ∷ [] }
     {
-        self.items.push(Sent {
+        self.entries[self.count] = Sent {
             ports: PortSet::one(port),
             signal,
-        });
+        };
+        self.count += 1;
     }
 
     /// Appends a signal on each port of a set, in rising port order.
@@ -70,7 +77,8 @@ impl Sends {
         ensures { self.new ≡ self.old ++ on_ports ports signal }
     {
         if !ports.is_none() {
-            self.items.push(Sent { ports, signal });
+            self.entries[self.count] = Sent { ports, signal };
+            self.count += 1;
         }
     }
 
@@ -87,7 +95,14 @@ impl Sends {
     pub fn clear(&mut self)
         ensures { self.new ≡ [] }
     {
-        self.items.clear();
+        self.count = 0;
+    }
+
+    /// Whether there are none.
+    pub fn is_none(&self) -> bool
+        ensures { IsTrue result ↔ (self.now ≡ []) }
+    {
+        self.count == 0
     }
 
     /// The signals with their ports, what was sent first first.
@@ -95,6 +110,13 @@ impl Sends {
         ensures value { all_sent result.now ≡ self.now }
         ensures few { length result.now ≤ 112 }
     {
-        self.items.as_slice()
+        &self.entries[..self.count]
+    }
+
+    /// Each port with the signal that is sent on it, what was sent first first.
+    pub fn pairs(&self) -> Pairs<'_>
+        ensures { result ≡ self.now }
+    {
+        Pairs::of_entries(self.as_slice())
     }
 }

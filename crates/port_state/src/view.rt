@@ -3,7 +3,7 @@ use crate::ports::PortViews;
 use crate::signal::Phase;
 
 /// What a node shows of its state.
-#[derive(Debug, Drop)]
+#[derive(Clone, Copy, Debug)]
 pub struct View {
     /// The state.
     pub phase: Phase,

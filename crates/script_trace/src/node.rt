@@ -7,7 +7,7 @@ ghost use Rattle.script_trace.specs.Event.{head, line_of, state_words, state_num
 
 use cable_world::Travelling;
 use cabling::End;
-use port_state::{Phase, PortView, Signal, View};
+use port_state::{Phase, PortView, PortViews, Signal, View};
 use script_text::{Name, OutOfMemory, put_name, put_numbered};
 use topology_stack::put_hex;
 
@@ -156,13 +156,11 @@ pub(crate) fn put_parent(
 }
 
 /// Whether a port leads to a child.
-fn is_child(ports: &[PortView], port: usize) -> bool
+fn is_child(ports: &PortViews, port: u8) -> bool
     ensures { result ≡ port_is (λ q. q.child) ports.now port }
 {
-    match ports.get(port) {
-        None => false,
-        Some(view) => view.child,
-    }
+    let at = usize::from(port);
+    at < ports.len() && ports.get(at).child
 }
 
 /// Appends the line of a port that came to lead to a child.
@@ -171,7 +169,7 @@ fn put_child(
     names: &[Name],
     turn: u32,
     node: u8,
-    before: &[PortView],
+    before: &PortViews,
     port: u8,
     after: PortView,
 ) -> Result<(), OutOfMemory>
@@ -179,7 +177,7 @@ fn put_child(
     ensures { OnOk result (out.new.items
         ≡ out.old.items ++ child_line names.now turn node before.now port after) }
 {
-    if after.child && !is_child(before, port as usize) {
+    if after.child && !is_child(before, port) {
         put_number_line(out, names, turn, node, b" port ", port, b" to a child")?;
     }
     Ok(())
@@ -191,16 +189,15 @@ pub(crate) fn put_children(
     names: &[Name],
     turn: u32,
     node: u8,
-    before: &[PortView],
-    after: &[PortView],
+    before: &PortViews,
+    after: &PortViews,
 ) -> Result<(), OutOfMemory>
-    requires there { node < length names.now }
-    requires few { length after.now < 256 }
+    requires { node < length names.now }
     ensures { OnOk result (out.new.items
         ≡ out.old.items ++ child_lines names.now turn node before.now 0 after.now) }
 {
     for at in 0..after.len() {
-        put_child(out, names, turn, node, before, at as u8, after[at])?;
+        put_child(out, names, turn, node, before, at as u8, after.get(at))?;
     }
     Ok(())
 }

@@ -9,7 +9,7 @@ use crate::node::{
 };
 use cable_world::ShowsWires;
 use cabling::End;
-use port_state::{PortView, View};
+use port_state::{PortViews, View};
 use script_text::{Name, OutOfMemory};
 use std::alloc::Global;
 use std::marker::Model;
@@ -70,9 +70,8 @@ fn counts<W: ShowsWires>(
     alloc: Global,
     world: &W,
     node: u8,
-    ports: &[PortView],
+    ports: &PortViews,
 ) -> Result<Vec<usize>, OutOfMemory>
-    requires { length ports.now < 256 }
     ensures { IfOk result (λ list. list.items ≡ counts_from (W.world world.now) node 0 ports.now) }
 {
     let mut list = Vec::new(alloc);
@@ -100,7 +99,7 @@ pub fn seen_before_act<W: ShowsWires>(
     let mut seen = Vec::with_capacity(alloc, nodes)?;
     for node in 0..nodes {
         let view = world.view(node as u8);
-        let there = counts(alloc, world, node as u8, view.ports.as_slice())?;
+        let there = counts(alloc, world, node as u8, &view.ports)?;
         seen.push(Seen { view, there })?;
     }
     Ok(seen)
@@ -143,10 +142,9 @@ fn put_all_sent<W: ShowsWires>(
     world: &W,
     node: u8,
     there: &[usize],
-    ports: &[PortView],
+    ports: &PortViews,
 ) -> Result<(), OutOfMemory>
-    requires there { node < length names.now }
-    requires few { length ports.now < 256 }
+    requires { node < length names.now }
     ensures { OnOk result (out.new.items ≡ out.old.items
         ++ all_sent_lines names.now (W.world world.now) node there.now 0 ports.now) }
 {
@@ -174,14 +172,13 @@ fn put_node<W: ShowsWires>(
         ≡ out.old.items ++ node_lines names.now (W.world world.now) node seen.now view.now) }
 {
     let turn = world.turns();
-    let ports = view.ports.as_slice();
     put_state(out, names, turn, node, &seen.view, view)?;
     put_timeout(out, names, turn, node, &seen.view, view)?;
     put_parent(out, names, turn, node, &seen.view, view)?;
-    put_children(out, names, turn, node, seen.view.ports.as_slice(), ports)?;
+    put_children(out, names, turn, node, &seen.view.ports, &view.ports)?;
     put_coin(out, names, turn, node, &seen.view, view)?;
     put_id(out, names, turn, node, &seen.view, view)?;
-    put_all_sent(out, names, world, node, &seen.there, ports)
+    put_all_sent(out, names, world, node, &seen.there, &view.ports)
 }
 
 /// Appends what happened since the nodes showed this. `names` has the name of each node, at most 63.

@@ -6,7 +6,7 @@ ghost use Rattle.script_waves.specs.Head.{all_port_values, all_port_variables, a
 use crate::value::{put_node_code, put_node_line, put_port_code, put_port_line};
 use crate::waves::Waves;
 use cable_world::WorldRun;
-use port_state::PortView;
+use port_state::PortViews;
 use script_text::{Name, OutOfMemory, put_name, put_numbered};
 use script_trace::Legend;
 use std::alloc::Global;
@@ -92,10 +92,9 @@ fn put_port_values(out: &mut Vec<u8>, node: u8, port: u8) -> Result<(), OutOfMem
 fn put_all_port_variables(
     out: &mut Vec<u8>,
     node: u8,
-    ports: &[PortView],
+    ports: &PortViews,
 ) -> Result<(), OutOfMemory>
-    requires node { node ≤ 62 }
-    requires few { length ports.now ≤ 16 }
+    requires { node ≤ 62 }
     ensures { OnOk result (out.new.items
         ≡ out.old.items ++ all_port_variables node 0 ports.now) }
 {
@@ -106,9 +105,8 @@ fn put_all_port_variables(
 }
 
 /// Appends the first values of so many ports, at most 16.
-fn put_all_port_values(out: &mut Vec<u8>, node: u8, ports: &[PortView]) -> Result<(), OutOfMemory>
-    requires node { node ≤ 62 }
-    requires few { length ports.now ≤ 16 }
+fn put_all_port_values(out: &mut Vec<u8>, node: u8, ports: &PortViews) -> Result<(), OutOfMemory>
+    requires { node ≤ 62 }
     ensures { OnOk result (out.new.items ≡ out.old.items ++ all_port_values node 0 ports.now) }
 {
     for port in 0..ports.len() {
@@ -134,11 +132,10 @@ fn put_scope(
     out: &mut Vec<u8>,
     names: &[Name],
     node: u8,
-    ports: &[PortView],
+    ports: &PortViews,
 ) -> Result<(), OutOfMemory>
     requires node { node ≤ 62 }
     requires named { node < length names.now }
-    requires few { length ports.now ≤ 16 }
     ensures { OnOk result (out.new.items
         ≡ out.old.items ++ node_scope names.now node ports.now) }
 {
@@ -152,9 +149,8 @@ fn put_scope(
 }
 
 /// Appends the first values of a node.
-fn put_values(out: &mut Vec<u8>, node: u8, ports: &[PortView]) -> Result<(), OutOfMemory>
-    requires node { node ≤ 62 }
-    requires few { length ports.now ≤ 16 }
+fn put_values(out: &mut Vec<u8>, node: u8, ports: &PortViews) -> Result<(), OutOfMemory>
+    requires { node ≤ 62 }
     ensures { OnOk result (out.new.items ≡ out.old.items ++ node_values node ports.now) }
 {
     put_node_line(out, node, b"s", b"sR0 ")?;
@@ -173,7 +169,7 @@ fn put_scopes<W: WorldRun>(out: &mut Vec<u8>, names: &[Name], world: &W) -> Resu
 {
     for node in 0..names.len() {
         let view = world.view(node as u8);
-        put_scope(out, names, node as u8, view.ports.as_slice())?;
+        put_scope(out, names, node as u8, &view.ports)?;
     }
     Ok(())
 }
@@ -191,7 +187,7 @@ fn put_all_values<W: WorldRun>(
 {
     for node in 0..nodes {
         let view = world.view(node as u8);
-        put_values(out, node as u8, view.ports.as_slice())?;
+        put_values(out, node as u8, &view.ports)?;
     }
     Ok(())
 }

@@ -15,15 +15,17 @@ use script_text::OutOfMemory;
 pub(crate) fn port_at(view: &View, port: u8) -> PortView
     ensures { result ≡ port_at view.now port }
 {
-    match view.ports.as_slice().get(port as usize) {
-        None => PortView {
+    let at = usize::from(port);
+    if at < view.ports.len() {
+        view.ports.get(at)
+    } else {
+        PortView {
             connected: false,
             shown: Level::Idle,
             child: false,
             asked: false,
             named: false,
-        },
-        Some(view) => *view,
+        }
     }
 }
 

@@ -84,9 +84,9 @@ fn put_ports<W: ShowsWires>(
     ensures { OnOk result (out.new.items ≡ out.old.items
         ++ all_port_changes (W.world world.now) node seen.now view.now 0 view.now.ports) }
 {
-    let ports = view.ports.as_slice();
+    let ports = &view.ports;
     for port in 0..ports.len() {
-        put_port(out, world, node, seen, view, port as u8, ports[port])?;
+        put_port(out, world, node, seen, view, port as u8, ports.get(port))?;
     }
     Ok(())
 }

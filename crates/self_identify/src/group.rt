@@ -7,12 +7,12 @@ ghost use Rattle.self_id.specs.Slots.{slot_count};
 ghost use Rattle.port_state.specs.Valid.{IsBounded};
 
 use port_state::states::NodeState;
-use port_state::{PortView, View};
+use port_state::{PortView, PortViews};
 use self_id::{Attrs, PortList, PortStatus, QuadGroup, SelfId, slot_count, write_group};
 
 /// The status of a port.
-fn status(is_parent: bool, port: &PortView) -> PortStatus
-    ensures { result ≡ status is_parent port.now }
+fn status(is_parent: bool, port: PortView) -> PortStatus
+    ensures { result ≡ status is_parent port }
 {
     if is_parent {
         PortStatus::Up
@@ -24,15 +24,15 @@ fn status(is_parent: bool, port: &PortView) -> PortStatus
 }
 
 /// The statuses of a node's ports, and absent slots behind them up to `slots`.
-fn statuses(parent: Option<u8>, ports: &[PortView], slots: usize) -> PortList
+fn statuses(parent: Option<u8>, ports: &PortViews, slots: usize) -> PortList
     requires few { length ports.now ≤ slots }
     requires most { slots ≤ 16 }
     ensures { result
         ≡ statuses_from 0 parent ports.now ++ replicate (slots - length ports.now) Absent }
 {
     let mut list = PortList::new();
-    for (at, port) in ports.iter().enumerate() {
-        list.push(status(parent == Some(at as u8), port));
+    for at in 0..ports.len() {
+        list.push(status(parent == Some(at as u8), ports.get(at)));
     }
     for _absent in ports.len()..slots {
         list.push(PortStatus::Absent);
@@ -52,7 +52,7 @@ pub fn own_group(s: &NodeState, id: u8) -> QuadGroup
         ..s.attrs
     };
     let slots = slot_count(usize::from(s.ports));
-    let ports = statuses(s.view.parent, s.view.ports.as_slice(), slots);
+    let ports = statuses(s.view.parent, &s.view.ports, slots);
     let mut group = QuadGroup::new();
     write_group(&SelfId::new(attrs, ports.as_slice()), id, &mut group);
     group

@@ -32,7 +32,7 @@ pub fn ident_signal(s: &mut NodeState, port: u8, signal: Signal, out: &mut Sends
     ensures state { s.new ≡ (ident_heard port signal s.old).state }
     ensures sends { out.new ≡ (ident_heard port signal s.old).sends }
 {
-    let mut view = s.view.ports.get(usize::from(port));
+    let view = s.view.ports.get(usize::from(port));
     if !view.connected {
         return;
     }
@@ -45,8 +45,7 @@ pub fn ident_signal(s: &mut NodeState, port: u8, signal: Signal, out: &mut Sends
         (Signal::Packet(quad), Phase::SelfIdent | Phase::Ready) => take_packet(s, port, quad, out),
         (Signal::Done, Phase::SelfIdent) => {
             if view.child {
-                view.named = true;
-                s.view.ports.set(usize::from(port), view);
+                s.view.ports.name(port);
             }
         }
         _ => {}

@@ -12,7 +12,7 @@ use crate::group;
 use arrayvec::ArrayVec;
 use phy_packet::is_packet_zero;
 use port_state::states::NodeState;
-use port_state::{Phase, PortTests, PortViews, Sends, Signal};
+use port_state::{Phase, PortViews, Sends, Signal};
 
 /// How many nodes a list of packets shows: so many of its quadlets are a packet zero.
 pub fn node_count(list: &[u32]) -> usize
@@ -90,11 +90,8 @@ pub fn ident_tick(s: &mut NodeState, out: &mut Sends)
         name_itself(s, out);
         return;
     };
-    let at = usize::from(port);
-    let mut view = s.view.ports.get(at);
-    if !view.asked {
-        view.asked = true;
-        s.view.ports.set(at, view);
+    if !s.view.ports.get(usize::from(port)).asked {
+        s.view.ports.ask(port);
         out.push(port, Signal::Grant);
     }
 }

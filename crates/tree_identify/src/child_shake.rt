@@ -3,8 +3,8 @@ ghost use Rattle.std.specs.Prelude.{◌≡◌, [], false};
 ghost use Rattle.port_state.specs.TreeIdentify.{child_shake_row};
 ghost use Rattle.port_state.specs.Tick.{does};
 
+use port_state::Phase;
 use port_state::states::NodeState;
-use port_state::{Phase, PortTests};
 
 /// T1 to T2 where every child shows Idle. Nothing is sent.
 pub fn tick(s: &mut NodeState)

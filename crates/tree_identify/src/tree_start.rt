@@ -1,25 +1,11 @@
 //! T0 (Tree ID start): all neighbours but one are to ask this node to be their parent.
-ghost use Rattle.std.specs.Prelude.{◌≡◌, ◌+◌, ◌≤◌, ◌++◌, [], false, length, map};
-ghost use Rattle.port_state.specs.Ports.{is_remaining, lowest};
+ghost use Rattle.std.specs.Prelude.{◌≡◌, ◌+◌, ◌≤◌, ◌++◌, [], false, length};
 ghost use Rattle.port_state.specs.Sends.{notices};
-ghost use Rattle.port_state.specs.TreeIdentify.{is_decided, adopt, tree_start_row};
+ghost use Rattle.port_state.specs.TreeIdentify.{is_decided, tree_start_row};
 ghost use Rattle.port_state.specs.Tick.{does};
 
 use port_state::states::NodeState;
-use port_state::{Level, Phase, PortTests, PortView, PortViews, Sends, Signal};
-
-/// The lowest port whose neighbour doesn't ask.
-fn remaining_port(ports: &[PortView]) -> Option<u8>
-    requires { length ports.now ≤ 16 }
-    ensures { result ≡ lowest is_remaining ports.now }
-{
-    for (at, port) in ports.iter().enumerate() {
-        if port.is_remaining() {
-            return Some(at as u8);
-        }
-    }
-    None
-}
+use port_state::{Level, Phase, PortViews, Sends, Signal};
 
 /// Whether every neighbour asks, or all but one do and the node needn't wait to become root.
 fn is_decided(s: &NodeState) -> bool
@@ -32,12 +18,13 @@ fn is_decided(s: &NodeState) -> bool
 }
 
 /// Sends Child on each port whose neighbour asks, and Parent on each other, in rising port order.
-fn send_notices(ports: &[PortView], out: &mut Sends)
+fn send_notices(ports: &PortViews, out: &mut Sends)
     requires few { length ports.now ≤ 16 }
     requires room { length out.old + length ports.now ≤ 112 }
     ensures { out.new ≡ out.old ++ notices ports.now }
 {
-    for (at, port) in ports.iter().enumerate() {
+    for at in 0..ports.len() {
+        let port = ports.get(at);
         if port.connected {
             let signal = if port.shown == Level::Parent {
                 Signal::Child
@@ -46,25 +33,6 @@ fn send_notices(ports: &[PortView], out: &mut Sends)
             };
             out.push(at as u8, signal);
         }
-    }
-}
-
-/// The port, as a child port if its neighbour asks.
-fn adopt_port(port: PortView) -> PortView
-    ensures { result ≡ adopt port }
-{
-    let child = port.child || port.asks();
-    PortView { child, ..port }
-}
-
-/// Makes each port whose neighbour asks a child port.
-fn adopt_all(ports: &mut PortViews)
-    ensures { ports.new ≡ map adopt ports.old }
-{
-    let count = ports.as_slice().len();
-    for at in 0..count {
-        let port = ports.get(at);
-        ports.set(at, adopt_port(port));
     }
 }
 
@@ -77,9 +45,9 @@ pub fn tick(s: &mut NodeState, out: &mut Sends)
     ensures sends { out.new ≡ (does false (tree_start_row s.old) s.old).sends }
 {
     if is_decided(s) {
-        send_notices(s.view.ports.as_slice(), out);
-        s.view.parent = remaining_port(s.view.ports.as_slice());
-        adopt_all(&mut s.view.ports);
+        send_notices(&s.view.ports, out);
+        s.view.parent = s.view.ports.remaining();
+        s.view.ports.adopt_all();
         s.view.phase = Phase::ChildShake;
         s.view.timed_out = false;
     } else if s.view.timer >= s.timing.timeout {

@@ -1,15 +1,15 @@
 -- What is under way on the wires of a node, entry by entry.
 use Rattle.std.proofs.Common.{◌≡◌, ℕ, zero, suc, ◌+◌, ◌-◌, ◌<◌, ◌≤◌, Bool, true, false, not, ◌&&◌, ◌||◌, ◌==◌, min, List, [], ◌∷◌, ◌++◌, map, length, replicate, take, drop, get_or, slice_set, All, refl, sym, ◌∙◌, ap, subst, inl, inr, arith, if◌then◌else◌}
 use Rattle.std.specs.Prelude.{nat_lt, ◌↔◌}
-use Rattle.std.proofs.lemmas.Bool.{cases_eq, cases_lt, le-ltb, ltb-false, eq-eqb, ne_eqb, and_cases, and_left, and_right}
-use Rattle.std.proofs.lemmas.List.{same_lists, append_assoc, append-nil, nil_from_length, get_or_past, get_or_default, drop_more, take_more, take_more_set, drop-drop, get_or-drop, map-append, length-map, length-set, get_or-set_same, get_or-set_other, get_or-map}
+use Rattle.std.proofs.lemmas.Bool.{cases_eq, cases_lt, eqb-true, le-ltb, ltb-false, eq-eqb, ne_eqb, and_cases, and_left, and_right}
+use Rattle.std.proofs.lemmas.List.{same_lists, append_assoc, append-nil, nil_from_length, get_or_past, get_or_default, drop_more, take_more, take_more_set, take_all, take-take, take-set-le, take-append-le, take-append-drop, length-take, drop-drop, get_or-drop, map-append, length-map, length-set, get_or-set_same, get_or-set_other, get_or-map}
 use Rattle.std.proofs.lemmas.List.Elements.{All-tail}
 use Rattle.port_state.specs.declared.signal.Signal.{Signal}
 use Rattle.port_state.specs.Ports.{PortNumber}
 use Rattle.port_state.specs.Sends.{PortSignal, sent_on}
 use Rattle.port_state.specs.PortSet.{has_port, all_sent}
 use Rattle.port_state.specs.declared.sends.Sent.{Sent}
-use Rattle.port_state.proofs.Lemmas.{sent_on-all_sent}
+use Rattle.port_state.proofs.Lemmas.{has-above, sent_on-all_sent}
 use Rattle.cable_world.specs.declared.wire.UnderWay.{UnderWay}
 use Rattle.cable_world.specs.Wire.{Travelling, Wire, empty_wire, new_signal, add_signals, age_signal, age_wire, gives, arrives, stays}
 use Rattle.cable_world.specs.Turn.{wires_after_sends}
@@ -269,6 +269,94 @@ put-is old new held port turns w inside here others =
           ∙ ap (λ ts. record { signals = ts; held = get_or held k 0 }) (others k ne)
           ∙ sym (get_or-set_other rows port k w d ne ∙ wire-is old held k d within)
     ])
+
+-- ---- the first entries
+
+none-of : {X : Type 0} → (xs ys : List X) → xs ++ ys ≡ [] → xs ≡ []
+none-of [] ys e = refl
+none-of (x ∷ xs) ys e = cc
+
+-- where nothing is under way in all of them, nothing is in the first
+pub none-before :
+    (p n : ℕ) (sent : List UnderWay) → on_port p sent ≡ [] → on_port p (take n sent) ≡ []
+none-before p n sent none =
+    none-of (on_port p (take n sent)) (on_port p (drop n sent))
+    (sym (on_port-append p (take n sent) (drop n sent)) ∙ ap (on_port p) (take-append-drop n sent) ∙ none)
+
+pub behind-more :
+    (old sent new : List UnderWay) (e : UnderWay) → take (length old) sent ≡ old →
+    new ≡ sent ++ e ∷ [] → take (length old) new ≡ old
+behind-more old sent new e is more =
+    let few : length old ≤ length sent = omega (arith, ap length is, length-take (length old) sent) in
+    ap (take (length old)) more ∙ take-append-le (length old) sent (e ∷ []) few ∙ is
+
+-- the first entries of a list stay where more are put behind
+pub first-behind :
+    (n : ℕ) (old new : List UnderWay) → n ≤ length old → take (length old) new ≡ old →
+    take n new ≡ take n old
+first-behind n old new few is =
+    sym (take-take n (length old) new few) ∙ ap (take n) is
+
+-- a place is changed: of the entries before it and of those with it
+pub places-more :
+    (p i : ℕ) (now old : List UnderWay) (e : UnderWay) (q : Bool) →
+    ((n : ℕ) → n ≤ i → on_port p (take n now) ≡ (if q then [] else on_port p (take n old))) →
+    on_port p (take (i + 1) (slice_set now i e)) ≡ (if q then [] else on_port p (take (i + 1) old)) →
+    (n : ℕ) → n ≤ i + 1 →
+    on_port p (take n (slice_set now i e)) ≡ (if q then [] else on_port p (take n old))
+places-more p i now old e q before here n few = elim (cases_lt i n) [
+  | inl more ↦
+      let last : n ≡ i + 1 = omega arith in
+      subst (λ m. on_port p (take m (slice_set now i e)) ≡ (if q then [] else on_port p (take m old))) (sym last) here
+  | inr less ↦ ap (on_port p) (take-set-le n now i e less) ∙ before n less
+]
+
+-- nothing is changed before the first place, and nothing is under way there
+pub places-before :
+    (p port from n : ℕ) (sent : List UnderWay) → on_port port (take from sent) ≡ [] → n ≤ from →
+    on_port p (take n sent) ≡ (if p == port then [] else on_port p (take n sent))
+places-before p port from n sent none few = go (p == port) refl
+  where
+    go : (q : Bool) → (p == port) ≡ q → on_port p (take n sent) ≡ (if q then [] else on_port p (take n sent))
+    go true e =
+        ap (on_port p) (sym (take-take n from sent few))
+        ∙ none-before p n (take from sent) (ap (λ k. on_port k (take from sent)) (eqb-true p port e) ∙ none)
+    go false e = refl
+
+-- all places
+pub places-all :
+    (p at n : ℕ) (now old : List UnderWay) (q : Bool) → length now ≤ at → length old ≤ at →
+    ((m : ℕ) → m ≤ at → on_port p (take m now) ≡ (if q then [] else on_port p (take m old))) →
+    on_port p (take n now) ≡ (if q then [] else on_port p (take n old))
+places-all p at n now old q short few done = elim (cases_lt at n) [
+  | inl more ↦
+      ap (on_port p) (take_all n now (omega arith) ∙ sym (take_all at now short))
+      ∙ done at (omega arith)
+      ∙ ap (λ xs. if q then [] else on_port p xs) (take_all at old few ∙ sym (take_all n old (omega arith)))
+  | inr less ↦ done n less
+]
+
+pub places-whole :
+    (p : ℕ) (now old : List UnderWay) (q : Bool) → length now ≡ length old →
+    ((n : ℕ) → on_port p (take n now) ≡ (if q then [] else on_port p (take n old))) →
+    on_port p now ≡ (if q then [] else on_port p old)
+places-whole p now old q long h =
+    ap (on_port p) (sym (take_all (length now) now (omega arith))) ∙ h (length now)
+    ∙ ap (λ xs. if q then [] else on_port p xs) (take_all (length now) old (omega (arith, long)))
+
+-- nothing is under way where there is no port
+pub none-past : (p : ℕ) (sent : List UnderWay) → 16 ≤ p → on_port p sent ≡ []
+none-past p [] far = refl
+none-past p (e ∷ sent) far = on_port-has_not p e sent (has-above e.ports p far) ∙ none-past p sent far
+
+pub none-cleared :
+    (p port : ℕ) (sent : List UnderWay) → 16 ≤ port →
+    on_port p sent ≡ (if p == port then [] else on_port p sent)
+none-cleared p port sent far = go (p == port) refl
+  where
+    go : (q : Bool) → (p == port) ≡ q → on_port p sent ≡ (if q then [] else on_port p sent)
+    go true e = none-past p sent (omega (arith, eqb-true p port e))
+    go false e = refl
 
 pub cleared-is :
     (old new : List UnderWay) (held : List ℕ) (port : ℕ) → port < length held →

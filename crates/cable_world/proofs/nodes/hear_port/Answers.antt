@@ -1,7 +1,6 @@
 use Rattle.std.proofs.Common.{◌∙◌, ◌<◌, ◌+◌, List, length, drop, arith, ap, sym}
 use Rattle.std.proofs.lemmas.List.{drop_all}
 use Rattle.port_state.specs.declared.signal.Signal.{Signal}
-use Rattle.port_state.specs.PortSet.{all_sent}
 use Rattle.port_state.proofs.Lemmas.{sound-on_signal}
 use Rattle.cable_world.specs.Turn.{wires_after_sends}
 use Rattle.cable_world.specs.running.Hearing.{node_hears, on_one}
@@ -36,9 +35,8 @@ loop-entry-preserved g c =
     let e = c.entry-item.result in
     let rest = signals_on c.args.from (drop (i + 1) c.args.arriving.now) in
     let one = sym (left-has c.args.from c.args.arriving.now i e inside c.entry-item.is (sym c.has.ensures ∙ c.if-not-has.false)) in
-    let out = c.as_slice.ensures.value ∙ c.on_signal.ensures.sends in
     record {
-      row = c.in_ok-send_all.ensures.ports ∙ c.loop-entry.invariant.row;
+      row = c.in_ok-send.ensures.row ∙ c.loop-entry.invariant.row;
       ports =
           ap (λ z. z.state.ports) c.on_signal.ensures.node
           ∙ (sound-on_signal port e.signal n.state (g.met.M.PortMachine.valid m)).ports ∙ c.loop-entry.invariant.ports;
@@ -46,8 +44,8 @@ loop-entry-preserved g c =
           hear-more port e.signal rest n next c.on_signal.ensures.node
           ∙ ap (λ (ss : List Signal). (node_hears (on_one port ss) n).node) one ∙ c.loop-entry.invariant.node;
       sent =
-          hear-more-sent port e.signal rest n next (all_sent c.as_slice.result.now) c.loop-entry.wires c.send_all.new.self
-          c.on_signal.ensures.node out c.in_ok-send_all.ensures.sent
+          hear-more-sent port e.signal rest n next c.on_signal.new.out c.loop-entry.wires c.send.new.wires
+          c.on_signal.ensures.node c.on_signal.ensures.sends c.in_ok-send.ensures.sent
           ∙ ap (λ (ss : List Signal). wires_after_sends 0 (node_hears (on_one port ss) n).sends c.loop-entry.wires) one
           ∙ c.loop-entry.invariant.sent;
     }

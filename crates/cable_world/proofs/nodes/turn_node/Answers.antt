@@ -11,8 +11,8 @@ returns-clause-sent g c =
     let n = g.M.PortMachine.record_of c.args.machine.now in
     let heard = node_hears (inbox_of c.args.arrivals.now 0 (ports_of c.args.cabling.now c.args.node)) n in
     let first = c.hear.new.wires in
-    c.in_ok-send_all.ensures.sent
-    ∙ ap (λ o. wires_after_sends 0 o first) (c.as_slice.ensures.value ∙ c.tick.ensures.sends)
+    c.in_ok-send.ensures.sent
+    ∙ ap (λ o. wires_after_sends 0 o first) c.tick.ensures.sends
     ∙ ap (λ m. wires_after_sends 0 (node_tick m).sends first) c.in_ok-hear.ensures.node
     ∙ ap (λ ws. wires_after_sends 0 (node_tick heard.node).sends ws) c.in_ok-hear.ensures.sent
     ∙ sym (sends-then 0 heard.sends (node_tick heard.node).sends c.args.wires.now)

@@ -1,4 +1,4 @@
-use Rattle.std.proofs.Common.{◌∙◌, ap, arith}
+use Rattle.std.proofs.Common.{ap, arith}
 use Rattle.port_state.specs.declared.view.View.{View}
 use Rattle.cable_world.proofs.Lemmas.{some-of}
 use Rattle.script_trace.proofs.Lemmas.{all-told}
@@ -9,8 +9,8 @@ pub loop-node-preserved : goal.loop-node-preserved
 loop-node-preserved g c =
     let w = g.W.WorldRun.world c.args.world.now in
     let x = some-of _ _ c.view-view.ensures in
-    next-values c.loop-node.node x.0 c.as_slice.result.now w.nodes c.loop-node.out.items _ _ x.1
-    (c.as_slice.ensures.value ∙ ap (λ (u : View). u.ports) x.2) c.in_ok-put_values.ensures c.loop-node.invariant
+    next-values c.loop-node.node x.0 c.view-view.result.ports w.nodes c.loop-node.out.items _ _ x.1
+    (ap (λ (u : View). u.ports) x.2) c.in_ok-put_values.ensures c.loop-node.invariant
 
 pub returns : goal.returns
 returns g c =

@@ -5,5 +5,5 @@ use Rattle.script_waves.proofs.waves.put_ports.Given as goal
 abbrev pub invariant-loop-port : goal.invariant-loop-port
 invariant-loop-port g l =
     let w = g.W.WorldRun.world l.world in
-    l.out.items ++ all_port_changes w l.node l.seen l.view l.port (drop l.port l.ports)
-    ≡ l.initial.out.items ++ all_port_changes w l.node l.seen l.view 0 l.ports
+    l.out.items ++ all_port_changes w l.node l.seen l.view l.port (drop l.port l.view.ports)
+    ≡ l.initial.out.items ++ all_port_changes w l.node l.seen l.view 0 l.view.ports

@@ -7,7 +7,7 @@ use Rattle.cable_world.proofs.rows.WireRow.send_all.Goals as goal
 pub returns-clause-sent : goal.returns-clause-sent
 returns-clause-sent c =
     let row = c.self.inside in
-    sent-is row.sent.items c.add_all.new.sent.items (all_sent c.args.sends.now) c.in_ok-add_all.ensures 0 row.held.items
+    sent-is row.sent.items c.add_all.new.sent.items (all_sent c.args.sends.now) c.in_ok-add_all.ensures.sent 0 row.held.items
     ∙ ap (wires_after_sends 0 (all_sent c.args.sends.now)) c.self.view_is
 
 pub returns-clause-ports : goal.returns-clause-ports

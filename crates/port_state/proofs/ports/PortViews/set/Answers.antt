@@ -1,17 +1,24 @@
-use Rattle.std.proofs.Common.{◌≡◌, ◌<◌, ◌∙◌, length, arith, ap}
-use Rattle.port_state.proofs.PortBits.{insert-fits, remove-fits}
-use Rattle.port_state.proofs.ports.PortViews.set.Goals.{then-port, else-port}
+use Rattle.std.proofs.Common.{arith}
+use Rattle.port_state.proofs.PortLists.{set-ports, ports-counted}
 use Rattle.port_state.proofs.ports.PortViews.set.Goals as goal
+
+pub overflow_cast-at : goal.overflow_cast-at
+overflow_cast-at c =
+    let count = ports-counted c.self.inside.count c.self.inside.words c.args.self.now c.self.view_is in
+    omega (arith, c.self.invariant.0)
+
+pub set-requires : goal.set-requires
+set-requires c =
+    let count = ports-counted c.self.inside.count c.self.inside.words c.args.self.now c.self.view_is in
+    omega (arith, c.self.invariant.0)
 
 pub invariant_of-self : goal.invariant_of-self
 invariant_of-self c =
-    let size : length c.self.inside.items.items ≡ length c.args.self.now = ap length c.self.view_is in
-    let less : c.args.at < length c.self.inside.items.items = omega (arith, size, c.requires) in
-    elim c.if-port.branch [
-      | then-port w ↦
-          let value = c.deref_mut.ensures.value ∙ ap (λ s. s.items.items) w.self-inside-is in
-          rw w.self-inside-is (insert-fits c.self.inside.connected w.insert.new.self c.self.inside.items.items c.deref_mut.result.now c.args.port c.args.at c.self.invariant.0 less value w.if-port.true c.self.invariant.1 w.insert.ensures)
-      | else-port w ↦
-          let value = c.deref_mut.ensures.value ∙ ap (λ s. s.items.items) w.self-inside-is in
-          rw w.self-inside-is (remove-fits c.self.inside.connected w.remove.new.self c.self.inside.items.items c.deref_mut.result.now c.args.port c.args.at c.self.invariant.0 less value w.if-port.false c.self.invariant.1 w.remove.ensures)
-    ]
+    let count = ports-counted c.self.inside.count c.self.inside.words c.args.self.now c.self.view_is in
+    (c.self.invariant.0, c.set.ensures.fits c.self.inside.count (omega arith) c.self.invariant.1)
+
+pub returns : goal.returns
+returns c =
+    let count = ports-counted c.self.inside.count c.self.inside.words c.args.self.now c.self.view_is in
+    rw (← c.self.view_is)
+    (set-ports c.self.inside.count c.self.inside.words c.set.new.self c.args.at c.args.port (omega arith) c.set.ensures.ports)

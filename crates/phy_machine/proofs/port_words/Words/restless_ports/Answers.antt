@@ -1,6 +1,0 @@
-use Rattle.std.proofs.Common.{arith}
-use Rattle.phy_machine.proofs.WordBits.{has_bit-restless_ports}
-use Rattle.phy_machine.proofs.port_words.Words.restless_ports.Goals as goal
-
-pub returns-clause-bits : goal.returns-clause-bits
-returns-clause-bits c k = has_bit-restless_ports c.args.self.now k (omega arith) (omega arith) (omega arith)

@@ -1,0 +1,19 @@
+use Rattle.std.proofs.Common.{arith}
+use Rattle.port_state.proofs.PortLists.{ports-counted, change-ports}
+use Rattle.port_state.proofs.ports.PortViews.show.Goals as goal
+
+pub show-requires : goal.show-requires
+show-requires c =
+    let count = ports-counted c.self.inside.count c.self.inside.words c.args.self.now c.self.view_is in
+    omega (arith, c.self.invariant.0)
+
+pub invariant_of-self : goal.invariant_of-self
+invariant_of-self c =
+    let count = ports-counted c.self.inside.count c.self.inside.words c.args.self.now c.self.view_is in
+    (c.self.invariant.0, c.show.ensures.fits c.self.inside.count (omega arith) c.self.invariant.1)
+
+pub returns : goal.returns
+returns c =
+    let count = ports-counted c.self.inside.count c.self.inside.words c.args.self.now c.self.view_is in
+    rw (← c.self.view_is)
+    (change-ports (λ p. record p { shown = c.args.level }) c.self.inside.count c.self.inside.words c.show.new.self c.args.port (omega arith) c.show.ensures.ports)
