@@ -14,3 +14,9 @@ pub mod Loops
 pub mod Settled
 pub mod Outcomes
 pub mod Reached
+pub mod ComesOf
+pub mod NeverSettles
+pub mod ShortHold
+pub mod ShortWait
+pub mod LongWait
+pub mod Uncounted

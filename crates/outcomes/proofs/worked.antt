@@ -3,4 +3,5 @@
 pub mod Walk
 pub mod FiveNodes
 pub mod ForcedRoot
+pub mod ShortForce
 pub mod LeftAlone

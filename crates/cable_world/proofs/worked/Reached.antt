@@ -27,7 +27,7 @@ use Rattle.cable_world.proofs.worked.Desk as desk
 
 -- ---- runs grow
 
-runs-more :
+pub runs-more :
     (events : List Event) (e : Event) (w u v : CableWorld) → Runs events w u → Happens e u v →
     Runs (events ++ e ∷ []) w v
 runs-more [] e w u v r h = (v, subst (λ (x : CableWorld). Happens e x v) r h, refl)
