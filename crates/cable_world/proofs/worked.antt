@@ -4,6 +4,10 @@
 -- seeing the contention), `Desk` (a camera pulled while its packet is under way), `ChosenRoot` (a
 -- configuration packet), `Loops` (a loop that times out, a contention that goes on). `Outcomes` has
 -- how they end, by `Settled`; `Reached`, that they come of a power-on world.
+--
+-- Each inequality of `specs/Times.antt` is needed: in `ShortHold`, `ShortWait`, `LongWait` and
+-- `Uncounted` one alone fails, and the world never settles, by `NeverSettles`. `ComesOf` has that no
+-- event of these runs is refused. (A force time that is too short: outcomes, worked/ShortForce.)
 pub mod Summary
 pub mod TwoNodes
 pub mod ThreeNodes

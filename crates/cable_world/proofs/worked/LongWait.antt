@@ -1,8 +1,8 @@
--- A long wait has to be longer than any short one by a signal's way there and back. Two nodes whose
--- cable takes up to two turns: node 0 always draws 1 and waits for nine turns, node 1 always draws 0
--- and waits for eight. When node 0's wait is over, the Parent that node 1 sent at the end of its own
--- is still under way, so node 0 asks again too. They contend for ever, though no two coins of a round
--- are equal.
+-- A long wait has to be longer than any short one by a signal's way there and back. The cable of two
+-- nodes delays by up to two turns. Node 0 always draws 1 and waits for nine turns, and node 1 always
+-- draws 0 and waits for eight. When node 0's wait is over, the Parent that node 1 sent at the end of its
+-- own is still under way, so node 0 asks again too. They contend for ever, though the two coins of a
+-- round are never equal.
 use Rattle.std.proofs.Common.{◌≡◌, ℕ, ◌+◌, ◌<◌, ◌≤◌, Bool, true, false, List, [], ◌∷◌, Some, map, min, bit_or, nat_lt, if◌then◌else◌, ◌^◌, refl, subst, sym, arith}
 use Rattle.std.proofs.lemmas.Nat.{le_or_l}
 use Rattle.port_state.specs.declared.signal.Level.TheVariants as level
@@ -44,6 +44,9 @@ suit-with-12 = record {
   long_least = omega arith;
   long_most = omega arith;
 }
+
+unsuited : Suits 2 (longest_in_range 2) times → ⊥
+unsuited s = let least = s.long_least in omega (arith, least)
 
 can-be-forced : CanBeForced 2 (longest_in_range 2) times
 can-be-forced = record { enough = omega arith }

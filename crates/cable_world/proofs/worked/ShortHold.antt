@@ -1,5 +1,6 @@
--- A hold has to be longer than a signal's way through all nodes. A ring of four, where each signal takes
--- one turn and each node holds its reset for three: a Reset runs round the ring for ever.
+-- A hold has to be longer than a signal's way through all nodes, which are 63 at most: 64 d is enough
+-- for them. Four nodes need a hold of 4 d. Here each signal takes one turn, and each node of a ring of
+-- four holds its reset for three: a Reset runs round the ring for ever.
 use Rattle.std.proofs.Common.{◌≡◌, ℕ, ◌+◌, ◌<◌, true, false, List, [], ◌∷◌, min, refl, subst, sym, arith}
 use Rattle.port_state.specs.declared.ports.PortView.{PortView}
 use Rattle.port_state.specs.declared.signal.Level.{Level}
@@ -42,6 +43,9 @@ suit-with-64 = record {
   long_least = omega arith;
   long_most = omega arith;
 }
+
+unsuited : Suits 1 (longest_in_range 1) times → ⊥
+unsuited s = let least = s.hold_least in omega (arith, least)
 
 can-be-forced : CanBeForced 1 (longest_in_range 1) times
 can-be-forced = record { enough = omega arith }

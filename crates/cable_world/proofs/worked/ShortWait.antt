@@ -1,7 +1,8 @@
--- A short wait has to be longer than a signal's way there and back. A line of three whose cables take
--- up to three turns: node 2 waits for four turns only, and then still shows a Parent that node 1 sent
--- before it began to wait too. So it takes node 1 for its child, and grants it, while node 1 waits
--- and doesn't hear the Grant. Nobody ever gets an ID.
+-- A short wait has to be longer than a signal's way there and back. In a line of three nodes a cable
+-- delays by up to three turns, and node 2 waits for four turns only. Then it still shows a Parent that
+-- node 1 sent before it began to wait too. So it takes node 1 for its child and grants it, while node 1
+-- waits on and doesn't hear the Grant. Nobody ever gets an ID. (Five turns would be enough here, since a
+-- node hears what arrives before its clock ticks; the inequality asks for seven.)
 use Rattle.std.proofs.Common.{◌≡◌, ℕ, zero, suc, ◌+◌, ◌<◌, Bool, true, false, List, [], ◌∷◌, Option, Some, None, min, refl, subst, sym, arith}
 use Rattle.port_state.specs.declared.ports.PortView.{PortView}
 use Rattle.port_state.specs.declared.signal.Level.{Level}
@@ -42,6 +43,9 @@ suit-with-7 = record {
   long_least = omega arith;
   long_most = omega arith;
 }
+
+unsuited : Suits 3 (longest_in_range 3) times → ⊥
+unsuited s = let least = s.short_least in omega (arith, least)
 
 can-be-forced : CanBeForced 3 (longest_in_range 3) times
 can-be-forced = record { enough = omega arith }

@@ -35,6 +35,9 @@ suit-with-65535 = record {
   long_most = omega arith;
 }
 
+unsuited : Suits 1 (longest 65536) (times 65536) → ⊥
+unsuited s = let most = s.counted.hold in omega (arith, most)
+
 can-be-forced : CanBeForced 1 (longest 65536) (times 65536)
 can-be-forced = record { enough = omega arith }
 

@@ -1,8 +1,8 @@
--- A forced node that doesn't wait for long enough isn't root. A line of three where each signal takes one
--- turn; node 2, at the one end, waits to be forced, and node 0, at the other, holds its reset for 80
--- turns, the longest of the bus. The inequality asks for a hold and a force time of more than
--- 80 + 127 turns together: that is enough for 63 nodes. Three nodes ask for 80 + 4: each of the two
--- cables has to be passed twice.
+-- A forced node that doesn't wait for long enough isn't root. In a line of three nodes each signal takes
+-- one turn. Node 2, at one end, waits to be forced, and node 0, at the other, holds its reset for 80
+-- turns, the longest hold of the bus. The inequality asks that the hold and the force time of node 2
+-- are together more than 80 + 127 turns, which is enough for 63 nodes. Three nodes need 80 + 4, since
+-- each of the two cables is passed twice.
 use Rattle.std.proofs.Common.{◌≡◌, ℕ, Bool, true, false, List, [], ◌∷◌, Option, Some, None, map, refl, arith}
 use Rattle.port_state.specs.declared.timing.Timing.{Timing}
 use Rattle.port_state.specs.Timing.{usual_timing}
@@ -12,7 +12,7 @@ use Rattle.cable_world.specs.Times.{Suits, CanBeForced, longest_in_range}
 use Rattle.cable_world.specs.World.{world_of_nodes}
 use Rattle.cable_world.specs.Act.{reset, note_changes}
 use Rattle.cable_world.proofs.Lemmas.{after_plug}
-use Rattle.outcomes.proofs.Common.{group, Phase, ResetStart, Ready, enter, on_signal, tick, PortNode, CableWorld, turn, turns_after, attrs, at, waits_due}
+use Rattle.outcomes.proofs.Common.{group, Phase, Ready, enter, on_signal, tick, PortNode, CableWorld, turn, turns_after, attrs, at, waits_due}
 
 -- ---- times that suit, but aren't enough to be forced
 
@@ -31,6 +31,9 @@ suit = record {
   long_least = omega arith;
   long_most = omega arith;
 }
+
+not-enough : CanBeForced 1 (longest_in_range 1) (times 18) → ⊥
+not-enough c = let enough = c.enough in omega (arith, enough)
 
 enough-with-144 : CanBeForced 1 (longest_in_range 1) (times 144)
 enough-with-144 = record { enough = omega arith }
