@@ -7,7 +7,7 @@ pub use Rattle.cable_world.proofs.Options.{none-some, some-and, some-at, some-of
 -- Facts of phases, each of which holds phase by phase.
 pub use Rattle.cable_world.proofs.PhaseFacts.{start-before_tree, start-slack, start-timed}
 -- Times that suit a bus.
-pub use Rattle.cable_world.proofs.Times.{suits-cables, in-range-counted, in-range-forced, in-range-suits, powered-in-range}
+pub use Rattle.cable_world.proofs.Times.{SuitsCables, suits-cables, in-range-counted, in-range-forced, in-range-suits, powered-in-range}
 -- Quiet turns, with holds placed between them: how they are counted, and what they keep.
 pub use Rattle.cable_world.proofs.QuietTurns.{after-cabling, holds-are-calls, holds-kept, holds-lawful, holds-signals, no-quiet, one-quiet, plain-quiet, plainly, quiet-comes, quiet-first, quiet-lawful, quiet-reached, quiet-then, quiet-timed, turns-cabling}
 -- Turns, holds and acts keep a world lawful, and so every world that comes of a power-on world is

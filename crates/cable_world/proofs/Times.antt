@@ -3,8 +3,18 @@ use Rattle.std.proofs.Common.{◌≡◌, ℕ, ◌+◌, ◌*◌, ◌<◌, ◌≤�
 use Rattle.port_state.specs.declared.timing.Timing.{Timing}
 use Rattle.port_state.specs.declared.states.NodeState.{NodeState}
 use Rattle.port_state.specs.Timing.{InRange}
-use Rattle.cable_world.specs.Times.{AreCounted, Suits, CanBeForced, SuitsCables, longest_in_range}
+use Rattle.port_state.specs.TimeRanges.{AreCountable}
+use Rattle.cable_world.specs.Times.{Suits, CanBeForced, longest_in_range}
 use Rattle.cable_world.specs.World.{IsNodeAtPowerOn, IsPowered}
+
+-- what is so of a node's times by themselves
+pub record SuitsCables (d : ℕ) (t : Timing) : Type 0 where
+  pub hold_least : 64 * d ≤ t.hold
+  pub hold_most : t.hold ≤ 65535
+  pub short_least : 2 * d < t.short
+  pub long_least : 2 * d < t.long
+  pub long_most : t.long ≤ 65535
+  pub apart : t.short + 2 * d ≤ t.long
 
 pub suits-cables : (d : ℕ) (longest t : Timing) → Suits d longest t → SuitsCables d t
 suits-cables d longest t s = record {
@@ -17,8 +27,8 @@ suits-cables d longest t s = record {
 }
 
 -- the ranges are an instance
-pub in-range-counted : (d : ℕ) → d ≤ 16 → AreCounted (longest_in_range d)
-in-range-counted d few = record { hold = omega (arith, few); force = omega (arith, few); timeout = omega (arith, few); long = omega (arith, few) }
+pub in-range-counted : (d : ℕ) → d ≤ 16 → AreCountable (longest_in_range d)
+in-range-counted d few = record { hold = omega (arith, few); force = omega (arith, few); timeout = omega (arith, few); short = omega (arith, few); long = omega (arith, few) }
 
 pub in-range-suits :
     (d : ℕ) (t : Timing) → 1 ≤ d → d ≤ 16 → InRange d t → Suits d (longest_in_range d) t

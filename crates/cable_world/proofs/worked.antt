@@ -8,6 +8,7 @@
 -- Each inequality of `specs/Times.antt` is needed: in `ShortHold`, `ShortWait`, `LongWait` and
 -- `Uncounted` one alone fails, and the world never settles, by `NeverSettles`. `ComesOf` has that no
 -- event of these runs is refused. (A force time that is too short: outcomes, worked/ShortForce.)
+-- `Times`: times that barely suit a bus.
 pub mod Summary
 pub mod TwoNodes
 pub mod ThreeNodes
@@ -24,3 +25,4 @@ pub mod ShortHold
 pub mod ShortWait
 pub mod LongWait
 pub mod Uncounted
+pub mod Times

@@ -4,19 +4,12 @@ use Rattle.std.specs.Prelude.{◌≡◌, ℕ, ◌+◌, ◌*◌, ◌<◌, ◌≤�
 use Rattle.self_id.specs.declared.standard.Standard.{Standard}
 use Rattle.port_state.specs.declared.timing.Timing.{Timing}
 use Rattle.port_state.specs.declared.ranges.TimeRanges.{TimeRanges}
-use Rattle.port_state.specs.TimeRanges.{AreSuitable, AreWithin, suitable, profile_ranges}
+use Rattle.port_state.specs.TimeRanges.{AreCountable, AreSuitable, AreWithin, suitable, profile_ranges}
 use Rattle.port_state.specs.StandardTimes.{standard_ranges}
-
--- times that a node can count
-pub record AreCounted (longest : Timing) : Type 0 where
-  pub hold : longest.hold ≤ 65535
-  pub force : longest.force ≤ 65535
-  pub timeout : longest.timeout ≤ 65535
-  pub long : longest.long ≤ 65535
 
 -- the times of a node, on a bus on which no node has longer times than these
 pub record Suits (d : ℕ) (longest t : Timing) : Type 0 where
-  pub counted : AreCounted longest
+  pub counted : AreCountable longest
   -- a hold is longer than a signal's way through 63 nodes
   pub hold_least : 64 * d ≤ t.hold
   pub hold_most : t.hold ≤ longest.hold
@@ -37,17 +30,6 @@ pub record CanBeForced (d : ℕ) (longest t : Timing) : Type 0 where
 -- the longest that `InRange` allows
 abbrev pub longest_in_range : ℕ → Timing
 longest_in_range d = (profile_ranges d).most
-
--- ---- one node, and two
-
--- what is so of a node's times by themselves
-pub record SuitsCables (d : ℕ) (t : Timing) : Type 0 where
-  pub hold_least : 64 * d ≤ t.hold
-  pub hold_most : t.hold ≤ 65535
-  pub short_least : 2 * d < t.short
-  pub long_least : 2 * d < t.long
-  pub long_most : t.long ≤ 65535
-  pub apart : t.short + 2 * d ≤ t.long
 
 -- ---- laws
 

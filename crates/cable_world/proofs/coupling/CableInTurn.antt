@@ -7,7 +7,7 @@ use Rattle.port_state.specs.declared.signal.Level.TheVariants as level
 use Rattle.port_state.specs.declared.signal.Phase.{Phase}
 use Rattle.port_state.specs.declared.signal.Phase.TheVariants as phase
 use Rattle.port_state.specs.declared.signal.Signal.{Signal}
-use Rattle.cable_world.specs.Times.{SuitsCables}
+use Rattle.cable_world.proofs.Times.{SuitsCables}
 use Rattle.port_state.specs.Ports.{is_parent, is_port}
 use Rattle.port_state.specs.Sends.{sent_on}
 use Rattle.port_state.specs.Heard.{is_resetting, hears_packets}

@@ -13,7 +13,7 @@ use Rattle.port_state.specs.Heard.{is_resetting}
 use Rattle.port_state.specs.Tick.{tick}
 use Rattle.port_state.specs.Valid.{HasNoRoles, HasRoles, FitsPhase, IsValid}
 use Rattle.cable_world.specs.Wire.{Travelling, new_signal, age_signal}
-use Rattle.cable_world.specs.Times.{SuitsCables}
+use Rattle.cable_world.proofs.Times.{SuitsCables}
 use Rattle.cable_world.specs.Agreement.{leads_down, level_sent_at}
 use Rattle.cable_world.specs.Phases.{is_before_tree, is_after_hold, is_shaking, is_timed, slack}
 use Rattle.cable_world.specs.Signals.{signals_of, has_reset, AllAsOldAs}

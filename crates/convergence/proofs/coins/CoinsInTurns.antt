@@ -5,7 +5,7 @@ use Rattle.std.specs.Prelude.{min, nat_le}
 use Rattle.convergence.proofs.Common.{Phase, Signal, Timing, NodeState, raise_timer, tick, is_before_tree, hear_all, NoEntry, HearsWell, TicksWell, KnowsCoins, contrary}
 use Rattle.convergence.proofs.turns.PhaseFacts.{contend-shake}
 use Rattle.port_state.specs.declared.signal.Phase.TheVariants as phase
-use Rattle.cable_world.specs.Times.{SuitsCables}
+use Rattle.cable_world.proofs.Lemmas.{SuitsCables}
 use Rattle.convergence.proofs.turns.Moves.{Drew, Fought, tick-draws, tick-contending, tick-fought, tick-late}
 
 pub zero-or : (n : ℕ) → (n ≡ 0) ⊎ (1 ≤ n)
