@@ -32,7 +32,8 @@ pub fn turn_keeps()
     ensures nodes { TurnKeepsNodes }
 {}
 
-/// What an act leaves as it is: how many nodes there are, the number of turns, d, and the longest times.
+/// What an act leaves as it is: how many nodes there are, the number of turns, d, and the longest
+/// times.
 pub fn acts_keep()
     ensures nodes { ActKeepsNodes }
     ensures turns { ActKeepsTurns }

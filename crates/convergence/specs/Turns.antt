@@ -49,8 +49,8 @@ turns_to_loops w = turns_to_done w + loop_turns w
 abbrev pub turns_to_decision : CableWorld → ℕ
 turns_to_decision w = turns_to_trees w + decision_turns w
 
--- Loops have timed out, and trees have come to rest: in 5 n d turns from where they are decided, for
--- which 315 d are enough for 63 nodes.
+-- Loops have timed out, and trees have come to rest: in 5 n d turns from where they are decided,
+-- for which 315 d are enough for 63 nodes.
 abbrev pub turns_to_settle : CableWorld → ℕ
 turns_to_settle w = max (turns_to_loops w) (turns_to_decision w + 315 * w.delay)
 

@@ -103,7 +103,7 @@ pub record IsAtRest (w : CableWorld) (set : ℕ) : Type 0 where
 
 -- ---- laws
 
--- what is so of every reached world
+-- what is so of every world that comes of power-on
 pub record IsSound (w : CableWorld) : Type 0 where
   pub lawful : IsLawful w
   pub acyclic : IsAcyclic w
@@ -171,7 +171,7 @@ pub record SettlesFrom
     (holds : HoldSchedule) (w : CableWorld) (k : ℕ) (set core : NodeSet) (root : NodeNumber)
     (t : Tree)
     : Type 0 where
-  pub reached : ComesOfPowerOn w
+  pub comes : ComesOfPowerOn w
   pub late : turns_to_over w ≤ k
   pub is : IsSettling (quiet_after holds k w) set core root t
 

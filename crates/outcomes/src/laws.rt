@@ -23,9 +23,9 @@ ghost use Rattle.outcomes.specs.Settled.{ConfigsSetGaps, PacketsSetGaps};
 
 use cabling::{components_exist, cores_exist};
 
-/// The theorem: a bus that is left alone settles. Whatever came before, once `turns_to_settle` turns
-/// are done and no act comes among them, each component is a loop, a tree or a contention, whatever
-/// holds are placed between the turns. Each bus can be left alone for so long.
+/// The theorem: a bus that is left alone settles. Whatever came before, once `turns_to_settle`
+/// turns are done and no act comes among them, each component is a loop, a tree or a contention,
+/// whatever holds are placed between the turns. Each bus can be left alone for so long.
 pub fn every_bus_settles()
     ensures settles { EveryBusSettles }
     ensures can_be_left_alone { AnyBusCanBeLeftAlone }
@@ -43,9 +43,9 @@ pub fn worlds_stay_identifying()
     ensures reached { HoldsFromPowerOn IsIdentifying }
 {}
 
-/// In every world that comes of power-on each record fits the progress of self identify: a node has an ID in A0
-/// alone, is granted in self identify and A0 alone, and asks its children one after the other, in
-/// rising port order; its list is empty before. It awaits one child at most.
+/// In every world that comes of power-on each record fits the progress of self identify: a node has
+/// an ID in A0 alone, is granted in self identify and A0 alone, and asks its children one after the
+/// other, in rising port order; its list is empty before. It awaits one child at most.
 pub fn records_fit_self_identify()
     ensures marks { RecordsAreMarked }
     ensures one_awaited { NodesAwaitOneChild }
@@ -164,8 +164,8 @@ pub fn worlds_stay_numbering()
 {}
 
 /// Every component with a loop comes to the outcome Loop: after n d + H + d + T + 1 quiet turns,
-/// where H is the longest hold and T the longest timeout of the world, each node of its core reports
-/// the timeout, and no node of it has an ID.
+/// where H is the longest hold and T the longest timeout of the world, each node of its core
+/// reports the timeout, and no node of it has an ID.
 pub fn loops_come_out()
     ensures { LoopsComeOut }
 {}
@@ -182,9 +182,9 @@ pub fn components_settle()
     cores_exist();
 }
 
-/// For as many quiet turns as a world is given to settle, `quiet_turns` of its number of nodes and d
-/// are enough where its times are short enough for that, and so where the times of nodes are in their
-/// ranges.
+/// For as many quiet turns as a world is given to settle, `quiet_turns` of its number of nodes and
+/// d are enough where its times are short enough for that, and so where the times of nodes are in
+/// their ranges.
 pub fn quiet_turns_are_enough()
     ensures short { QuietTurnsAreEnough }
     ensures in_range { InRangeIsEnough }
@@ -199,9 +199,9 @@ pub fn components_stay_settled()
     cores_exist();
 }
 
-/// A component of a world that comes of power-on, and that has come to a tree, stays in it, with the same root, IDs and
-/// lists, in every hold and turn. So it does in every act that resets none of its nodes
-/// (`acts_touch_their_component` of `world_laws`).
+/// A component of a world that comes of power-on, and that has come to a tree, stays in it, with
+/// the same root, IDs and lists, in every hold and turn. So it does in every act that resets none
+/// of its nodes (`acts_touch_their_component` of `world_laws`).
 pub fn trees_stay()
     ensures turns { TreesStay }
 {
@@ -210,8 +210,8 @@ pub fn trees_stay()
 
 /// Where of a fresh component without loop one node alone waits to become root, and is given time
 /// enough for it, it comes to a tree with that root in as many quiet turns. So it does after a
-/// configuration packet with R set that names one such node; from n d turns on each node has the gap
-/// count that the packet gave. In a tree each ID names one node.
+/// configuration packet with R set that names one such node; from n d turns on each node has the
+/// gap count that the packet gave. In a tree each ID names one node.
 pub fn forced_roots_settle()
     ensures forced { ForcedRootsSettle }
     ensures names { IdsNameOneNode }

@@ -80,8 +80,8 @@ pub record IsTreeFrom (c : Wiring) (from root : NodeNumber) (part : Part) : Type
 abbrev pub quiet_turns_of : CableWorld → ℕ
 quiet_turns_of w = max (quiet_turns (length w.cabling) w.delay) (turns_to_settle w)
 
--- a world of so many nodes, whose cables delay by at most so many turns, and none of whose nodes has
--- longer times
+-- a world of so many nodes, whose cables delay by at most so many turns, and none of whose nodes
+-- has longer times
 pub record IsSized (w : CableWorld) (nodes delay : ℕ) (longest : Timing) : Type 0 where
   pub nodes_are : length w.nodes ≡ nodes
   pub cables_are : length w.cabling ≡ nodes

@@ -36,8 +36,8 @@ pub fn reports_are_outcomes()
 {}
 
 /// A reached world has settled once as many turns as it is given are done; and each world that has
-/// settled is reached. Where the times of nodes are in their ranges, `quiet_turns` tells how many it
-/// is given.
+/// settled is reached. Where the times of nodes are in their ranges, `quiet_turns` tells how many
+/// it is given.
 pub fn quiet_turns_settle()
     ensures plain { QuietTurnsSettle }
     ensures reached { SettledWorldsAreReached }

@@ -64,8 +64,8 @@ pub fn report_of<W: WorldRun>(alloc: Global, world: &W) -> Result<Report, OutOfM
 }
 
 /// Does as many turns as `quiet_turns_for` says for the nodes, the delay and the longest times of a
-/// world, and reports what each component came to: each comes to a loop, a contention or a tree, and no node is in R0 or R1
-/// then. With the turns done before they are at most 4,000,000,000.
+/// world, and reports what each component came to: each comes to a loop, a contention or a tree,
+/// and no node is in R0 or R1 then. With the turns done before they are at most 4,000,000,000.
 ///
 /// Where a reset had just begun in a component without loop, and one of its nodes alone is forced
 /// then, that node is the root of its tree.

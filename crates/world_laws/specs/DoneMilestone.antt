@@ -1,4 +1,5 @@
--- From the turn on after which nobody enters a reset, resets are done after the longest hold and d turns.
+-- From the turn on after which nobody enters a reset, resets are done after the longest hold and d
+-- turns.
 use Rattle.std.specs.Prelude.{◌≡◌, ℕ, ◌+◌, ◌≤◌, false, Some, slice_get}
 use Rattle.port_state.specs.Heard.{is_resetting}
 use Rattle.port_state.specs.Machine.{PortNode}

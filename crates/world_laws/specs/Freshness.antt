@@ -69,8 +69,8 @@ pub record HasOneWaiting
   pub alone : WaitsAlone w set root
   pub enough : CanBeForcedAt w root
 
--- a fresh one of a world that comes of power-on comes to a tree with that root in as many quiet turns
--- as settle
+-- a fresh one of a world that comes of power-on comes to a tree with that root in as many quiet
+-- turns as a world is given to settle
 abbrev pub FreshRootsSettle : Type 0
 FreshRootsSettle =
     (holds : HoldSchedule) (w : CableWorld) (k : ℕ) (node : NodeNumber) (set : NodeSet)

@@ -88,8 +88,8 @@ pub fn entries_end()
     ensures done { DoneOnceNoneEnters }
 {}
 
-/// From T + 1 turns after resets are done on, where T is the longest timeout of the world, each node
-/// of a loop reports that the configuration timed out, and no node of its component has an ID.
+/// From T + 1 turns after resets are done on, where T is the longest timeout of the world, each
+/// node of a loop reports that the configuration timed out, and no node of its component has an ID.
 pub fn loops_are_out()
     ensures once_done { LoopsComeOutOnceDone }
     ensures reached { LoopsComeOutByThen }

@@ -37,7 +37,8 @@ abbrev pub AreLawful : Wiring → List PortNode → List (List Wire) → List �
 AreLawful cabling nodes wires changed turns =
     (d : ℕ) × (t : Timing) × IsLawful (world_record d t cabling nodes wires changed turns)
 
--- whatever the delay, the longest times and the cabling, a step leads from nodes, wires and last changes to others
+-- whatever the delay, the longest times and the cabling, a step leads from nodes, wires and last
+-- changes to others
 abbrev pub StepLeads :
     (CableWorld → CableWorld) → ℕ → List PortNode → List (List Wire) → List ℕ → List PortNode → List (List Wire)
     → List ℕ → Type 0
