@@ -1,17 +1,20 @@
 -- Turns, holds and acts keep a world lawful, and so every world that comes of a power-on world is
 -- lawful.
-use Rattle.std.proofs.Common.{zero, suc, List, [], ◌∷◌, subst, sym}
+use Rattle.std.proofs.Common.{◌≡◌, ℕ, zero, suc, List, [], ◌∷◌, slice_get, refl, ◌∙◌, ap, subst, sym}
+use Rattle.port_state.specs.declared.timing.Timing.{Timing}
+use Rattle.port_state.specs.Machine.{PortNode}
 use Rattle.cable_world.specs.World.{CableWorld, AllCanBeForced}
 use Rattle.cable_world.specs.Turn.{turn, turns_after}
 use Rattle.cable_world.specs.Act.{hold}
 use Rattle.cable_world.specs.Run.{Event, acts, holds, turns, Happens, Runs}
 use Rattle.cable_world.specs.Agreement.{LevelsAgree}
 use Rattle.cable_world.specs.Coupling.{IsCoupled}
-use Rattle.cable_world.specs.StaysLawful.{HoldsAtPowerOn, KeptByTurns, KeptByHolds, KeptByActs, ComesIsLawful, ReachedIsLawful, ReachedCanBeForced}
+use Rattle.cable_world.specs.StaysLawful.{HoldsAtPowerOn, KeptByTurns, KeptByHolds, KeptByActs, ComesIsLawful, ReachedIsLawful, ReachedCanBeForced, TimesStay}
 use Rattle.cable_world.specs.Lawful.{IsWellFormed, IsLawful}
 use Rattle.cable_world.proofs.tables.AtPowerOn.{power-on-formed, power-on-agrees}
+use Rattle.cable_world.proofs.Options.{some-same}
 use Rattle.cable_world.proofs.StaysReached.{reached-comes}
-use Rattle.cable_world.proofs.tables.TimesKept.{turn-forced, act-forced}
+use Rattle.cable_world.proofs.tables.TimesKept.{Timed, turn-timed, act-timed, turn-forced, act-forced}
 use Rattle.cable_world.proofs.tables.TablesInTurns.{turn-formed}
 use Rattle.cable_world.proofs.tables.TablesInActs.{act-formed, hold-formed}
 use Rattle.cable_world.proofs.levels.LevelsInActs.{act-levels, hold-levels}
@@ -58,6 +61,24 @@ pub reached-lawful : ReachedIsLawful
 reached-lawful w r = comes-lawful w (reached-comes w r)
 
 -- ---- a node's times never change
+
+event-timed :
+    (P : ℕ → Timing → Type 0) (e : Event) (w v : CableWorld) → Happens e w v → IsLawful w →
+    Timed P w.nodes → Timed P v.nodes
+event-timed P (acts a) w v h l t = act-timed P a w v h.2 t
+event-timed P (holds end n) w v h l t = subst (λ (u : CableWorld). Timed P u.nodes) (sym h.1) t
+event-timed P turns w v h l t = subst (λ (u : CableWorld). Timed P u.nodes) (sym h) (turn-timed P w l.well_formed t)
+
+runs-timed :
+    (P : ℕ → Timing → Type 0) (events : List Event) (w v : CableWorld) → Runs events w v →
+    IsLawful w → Timed P w.nodes → Timed P v.nodes
+runs-timed P [] w v r l t = subst (λ (u : CableWorld). Timed P u.nodes) (sym r) t
+runs-timed P (e ∷ events) w v r l t = runs-timed P events r.0 v r.2 (event-lawful e w r.0 r.1 l) (event-timed P e w r.0 r.1 l t)
+
+pub times-stay : TimesStay
+times-stay events w v k x y l r at_x at_y =
+    runs-timed (λ j t. j ≡ k → t ≡ x.state.timing) events w v r l
+    (λ j z at same. ap (λ (u : PortNode). u.state.timing) (some-same z x (sym at ∙ ap (slice_get w.nodes) same ∙ at_x))) k y at_y refl
 
 event-forced :
     (e : Event) (w v : CableWorld) → Happens e w v → IsLawful w → AllCanBeForced w → AllCanBeForced v

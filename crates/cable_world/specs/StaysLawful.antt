@@ -1,12 +1,13 @@
 -- What comes of a power-on world: it is lawful; and it is reached, where its nodes can be forced.
-use Rattle.std.specs.Prelude.{◌≡◌, ℕ, None}
+use Rattle.std.specs.Prelude.{◌≡◌, ℕ, List, None, Some, slice_get}
 use Rattle.cabling.specs.declared.cable.End.{End}
+use Rattle.port_state.specs.Machine.{PortNode}
 use Rattle.cable_world.specs.declared.act.Act.{Act}
-use Rattle.cable_world.specs.World.{CableWorld, AllCanBeForced, IsPowerOnWorld}
+use Rattle.cable_world.specs.World.{CableWorld, NodeNumber, AllCanBeForced, IsPowerOnWorld}
 use Rattle.cable_world.specs.Turn.{turns_after}
 use Rattle.cable_world.specs.Act.{ActLeads, IsAct, act_fault, hold, hold_fault}
 use Rattle.cable_world.specs.Lawful.{IsLawful}
-use Rattle.cable_world.specs.Run.{ComesOfPowerOn, IsReached}
+use Rattle.cable_world.specs.Run.{Event, Runs, ComesOfPowerOn, IsReached}
 
 -- ---- what holds at power-on, and is kept by turns, holds and acts
 
@@ -42,3 +43,10 @@ ReachedComesOfPowerOn = (w : CableWorld) → IsReached w → ComesOfPowerOn w
 -- times never change, so that the nodes of every reached world can be forced
 abbrev pub ReachedCanBeForced : Type 0
 ReachedCanBeForced = (w : CableWorld) → IsReached w → AllCanBeForced w
+
+-- whatever happens, each node has the times that it had
+abbrev pub TimesStay : Type 0
+TimesStay =
+    (events : List Event) (w v : CableWorld) (k : NodeNumber) (x y : PortNode) → IsLawful w →
+    Runs events w v → slice_get w.nodes k ≡ Some x → slice_get v.nodes k ≡ Some y →
+    y.state.timing ≡ x.state.timing

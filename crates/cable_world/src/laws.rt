@@ -10,6 +10,7 @@ ghost use Rattle.cable_world.specs.Unchanged.{ActKeepsNodes, ActKeepsTurns, ActK
 ghost use Rattle.cable_world.specs.Unchanged.{ActKeepsLongest};
 ghost use Rattle.cable_world.specs.StaysLawful.{HoldsAtPowerOn, KeptByTurns, KeptByHolds, KeptByActs};
 ghost use Rattle.cable_world.specs.StaysLawful.{ComesIsLawful, ReachedIsLawful, ReachedAtPowerOn};
+ghost use Rattle.cable_world.specs.StaysLawful.{TimesStay};
 ghost use Rattle.cable_world.specs.StaysLawful.{ReachedComesOfPowerOn, ReachedCanBeForced};
 ghost use Rattle.cable_world.specs.Quiet.{HoldsAreCalls, PlainTurnsAreQuiet, OneQuietTurnMore};
 ghost use Rattle.cable_world.specs.Quiet.{NoQuietTurnIsHolds, QuietTurnsAdd, KeptByQuietTurns};
@@ -100,6 +101,11 @@ pub fn worlds_stay_lawful()
     ensures act { KeptByActs IsLawful }
     ensures comes { ComesIsLawful }
     ensures reached { ReachedIsLawful }
+{}
+
+/// Whatever turns, holds and acts come in a lawful world, no node's times change.
+pub fn times_stay()
+    ensures { TimesStay }
 {}
 
 /// In quiet turns resets end, whatever holds are placed between them. For n nodes, whose cables

@@ -24,8 +24,9 @@ mod world;
 pub use act::{Act, ActStop};
 pub use cabling::OutOfMemory;
 pub use laws::{
-    acts_keep, outcomes_are_one, quiet_turns_add_up, resets_end, still_turns_pass, turn_by_number,
-    turn_keeps, turns_add_up, worlds_come_of_power_on, worlds_stay_lawful, worlds_stay_reached,
+    acts_keep, outcomes_are_one, quiet_turns_add_up, resets_end, still_turns_pass, times_stay,
+    turn_by_number, turn_keeps, turns_add_up, worlds_come_of_power_on, worlds_stay_lawful,
+    worlds_stay_reached,
 };
 pub use run::{ShowsWires, WorldRun};
 pub use time_laws::times_suit;

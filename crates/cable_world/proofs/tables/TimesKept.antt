@@ -96,7 +96,7 @@ configure-timed P set from root_id force gap w h =
       | altered x at is ↦ subst (λ (z : PortNode). P k z.state.timing) is (h k x at)
     ])
 
-act-timed :
+pub act-timed :
     (P : ℕ → Timing → Type 0) (a : Act) (w v : CableWorld) → ActLeads a w v → Timed P w.nodes → Timed P v.nodes
 act-timed P (Plug a b) w v e h =
     subst (λ (u : CableWorld). Timed P u.nodes) (sym e)
