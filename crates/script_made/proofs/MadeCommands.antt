@@ -7,6 +7,7 @@ use Rattle.std.specs.Prelude.{not, nat_le, ◌==◌, Ok}
 use Rattle.std.specs.List.{list_all, slice_split, AllZip}
 use Rattle.rand_pcg.specs.Lcg.{Lcg}
 use Rattle.port_state.specs.declared.ranges.TimeRanges.{TimeRanges}
+use Rattle.port_state.specs.TimeRanges.{profile_ranges}
 use Rattle.script_made.specs.declared.made.End.{End}
 use Rattle.script_lines.specs.declared.command.Command.{Command}
 use Rattle.script_lines.specs.declared.command.Command.TheVariants.{Settle}
@@ -272,4 +273,5 @@ split_lines times (l ∷ ls) (c ∷ cs) h =
 pub made_is_split : MadeIsSplit
 unfolding made_script
 made_is_split n seed h =
-    split_lines 0 (made_lines n seed) (made_commands n seed) (made_says 0 n seed h)
+    let times : TimeRanges = profile_ranges 4 in
+    split_lines times (made_lines n seed) (made_commands n seed) (made_says times n seed h)

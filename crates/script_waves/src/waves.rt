@@ -131,12 +131,14 @@ fn put_all<W: ShowsWires>(
 
 /// The time after so many turns, of which `d` may be so many nanoseconds.
 fn time_of(nanoseconds: Option<u16>, d: u8, turns: u32) -> u64
-    requires { 1 ≤ d }
     ensures { result ≡ time_of nanoseconds d turns }
 {
     match nanoseconds {
         None => u64::from(turns),
-        Some(nanoseconds) => u64::from(turns) * u64::from(nanoseconds) * 1000 / u64::from(d),
+        Some(nanoseconds) => {
+            let picoseconds = u64::from(turns) * u64::from(nanoseconds) * 1000;
+            picoseconds.checked_div(u64::from(d)).unwrap_or(0)
+        }
     }
 }
 

@@ -3,6 +3,7 @@ use Rattle.std.proofs.Common.{◌≡◌, ◌∙◌, ℕ, zero, suc, ◌+◌, ◌
 use Rattle.std.specs.Prelude.{Result, Ok, Err}
 use Rattle.std.specs.List.{AllZip}
 use Rattle.port_state.specs.declared.ranges.TimeRanges.{TimeRanges}
+use Rattle.port_state.specs.TimeRanges.{profile_ranges}
 use Rattle.script_lines.specs.declared.kind.Kind.{Kind}
 use Rattle.script_lines.specs.declared.command.Command.{Command}
 use Rattle.script_lines.specs.Line.{Reads}
@@ -121,8 +122,8 @@ pub comes-through :
     (stage : Stage) (run : ScriptRun) → After commands SettlesAtEnd stage →
     RunsFrom number lines stage run → ComesThrough run
 comes-through [] [] say number stage run h x = ended number stage x.0 run (h x.0 x.1) x.2
-comes-through [] (command ∷ commands) say number stage run h x = absurd (say 0)
-comes-through (line ∷ lines) [] say number stage run h x = absurd (say 0)
+comes-through [] (command ∷ commands) say number stage run h x = absurd (say (profile_ranges 4))
+comes-through (line ∷ lines) [] say number stage run h x = absurd (say (profile_ranges 4))
 comes-through (line ∷ lines) (command ∷ commands) say number stage run h x =
     let Rest : Stage → ScriptRun → Type 0 = RunsFrom (number + 1) lines in
     let times : TimeRanges = ranges_of stage in
