@@ -7,8 +7,9 @@ ghost use Rattle.phy_machine.specs.Any.{any_node};
 ghost use Rattle.phy_machine.specs.PowerOn.{IsSpec, node_of_spec};
 ghost use Rattle.script_told.specs.Bus.{bus_of_nodes, is_declared};
 ghost use Rattle.script_told.specs.Script.{Declares, SaysTimes, draft_with, takes_times, declaring, with_node, times_of, coins_of};
+ghost use Rattle.script_told.specs.codings.Fitting.{AreFitting, IsFitting};
 ghost use Rattle.script_bus.specs.Running.{Stops};
-ghost use Rattle.script_run.specs.codings.Declaring.{AreRanges, IsDraft, IsLine, IsNode, IsDeclared, DeclaresNode, draft_now, node_said};
+ghost use Rattle.script_run.specs.codings.Declaring.{IsDraft, IsLine, IsDeclared, DeclaresNode, draft_now, node_said};
 
 use phy_machine::{AnyMachine, FieldMachine, NodeSpec, PackedMachine};
 use port_state::{Coins, TimeRanges, Timing};
@@ -131,7 +132,7 @@ fn powered_on(node: &NodeLine, ranges: TimeRanges, number: u32) -> AnyMachine
     requires least { AreWithin ranges ranges.least }
     requires line { IsLine ranges node.now }
     ensures value { any_node result ≡ node_said node.now ranges number }
-    ensures power_on { (d : ℕ) → AreRanges d ranges → IsNode d ranges (any_node result) }
+    ensures power_on { (d : ℕ) → AreFitting d ranges → IsFitting d ranges (any_node result) }
 {
     machine(spec(node, ranges, number), node.packed)
 }

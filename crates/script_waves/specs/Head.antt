@@ -87,13 +87,16 @@ all_values node (x ∷ nodes) = node_values node x.state.view.ports ++ all_value
 
 -- ---- the whole
 
--- what one unit of time is, where d turns are so many nanoseconds or no time of the standard
+unfoldable pub picoseconds : ℕ → ℕ → List ℕ
+picoseconds nanoseconds d =
+    numbered (codes "$comment One unit of time is one picosecond, and ") d
+    ++ (numbered (codes " turns are ") nanoseconds ++ codes " ns. $end\n$timescale 1 ps $end\n")
+
+-- what one unit of time is: a turn, or a picosecond where d turns are so many nanoseconds
 abbrev pub unit : Option ℕ → ℕ → List ℕ
 unit None d =
     codes "$comment One unit of time is one turn, which is no time of the standard. $end\n$timescale 1 ns $end\n"
-unit (Some nanoseconds) d =
-    numbered (codes "$comment One unit of time is one picosecond, and ") d
-    ++ (numbered (codes " turns are ") nanoseconds ++ codes " ns. $end\n$timescale 1 ps $end\n")
+unit (Some nanoseconds) d = picoseconds nanoseconds d
 
 unfoldable pub opening : Option ℕ → ℕ → List ℕ
 opening nanoseconds d = codes "$comment busview waves $end\n" ++ unit nanoseconds d

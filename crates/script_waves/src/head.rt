@@ -1,7 +1,7 @@
 //! What stands before the first change.
 ghost use Rattle.std.specs.Prelude.{◌≡◌, ◌≤◌, ◌<◌, ◌++◌, length, IfOk, OnOk};
 ghost use Rattle.script_waves.specs.Value.{node_code, port_code};
-ghost use Rattle.script_waves.specs.Head.{all_port_values, all_port_variables, all_scopes, all_values, head, node_scope, node_values, node_variables, opening, port_values, port_variable, port_variables, unit, variable};
+ghost use Rattle.script_waves.specs.Head.{all_port_values, all_port_variables, all_scopes, all_values, head, node_scope, node_values, node_variables, opening, picoseconds, port_values, port_variable, port_variables, unit, variable};
 
 use crate::value::{put_node_code, put_node_line, put_port_code, put_port_line};
 use crate::waves::Waves;
@@ -192,7 +192,18 @@ fn put_all_values<W: WorldRun>(
     Ok(())
 }
 
-/// Appends what one unit of time is, where `d` turns may be so many nanoseconds.
+/// Appends that one unit of time is a picosecond, where `d` turns are so many nanoseconds.
+fn put_picoseconds(out: &mut Vec<u8>, nanoseconds: u16, d: u8) -> Result<(), OutOfMemory>
+    ensures { OnOk result (out.new.items ≡ out.old.items ++ picoseconds nanoseconds d) }
+{
+    let unit = b"$comment One unit of time is one picosecond, and ";
+    put_numbered(out, unit, u64::from(d))?;
+    put_numbered(out, b" turns are ", u64::from(nanoseconds))?;
+    out.extend_from_slice(b" ns. $end\n$timescale 1 ps $end\n")?;
+    Ok(())
+}
+
+/// Appends what one unit of time is.
 fn put_unit(out: &mut Vec<u8>, nanoseconds: Option<u16>, d: u8) -> Result<(), OutOfMemory>
     ensures { OnOk result (out.new.items ≡ out.old.items ++ unit nanoseconds d) }
 {
@@ -201,22 +212,17 @@ fn put_unit(out: &mut Vec<u8>, nanoseconds: Option<u16>, d: u8) -> Result<(), Ou
             b"$comment One unit of time is one turn, which is no time of the standard. $end\n\
             $timescale 1 ns $end\n",
         ),
-        Some(nanoseconds) => {
-            let picoseconds = b"$comment One unit of time is one picosecond, and ";
-            put_numbered(out, picoseconds, u64::from(d))?;
-            put_numbered(out, b" turns are ", u64::from(nanoseconds))?;
-            out.extend_from_slice(b" ns. $end\n$timescale 1 ps $end\n")
-        }
+        Some(nanoseconds) => put_picoseconds(out, nanoseconds, d),
     }
 }
 
 /// Appends what stands before the variables.
-#[tactic(auto, unfolding(crate::specs::Head::opening))]
 fn put_opening(out: &mut Vec<u8>, nanoseconds: Option<u16>, d: u8) -> Result<(), OutOfMemory>
     ensures { OnOk result (out.new.items ≡ out.old.items ++ opening nanoseconds d) }
 {
     out.extend_from_slice(b"$comment busview waves $end\n")?;
-    put_unit(out, nanoseconds, d)
+    put_unit(out, nanoseconds, d)?;
+    Ok(())
 }
 
 /// Appends what stands before the first change.

@@ -3,9 +3,7 @@ use Rattle.std.specs.Prelude.{◌≡◌, ℕ, ◌≤◌, All, length, map, Ok, S
 use Rattle.phy_machine.specs.Any.{any_node}
 use Rattle.port_state.specs.Machine.{PortNode}
 use Rattle.port_state.specs.declared.ranges.TimeRanges.{TimeRanges}
-use Rattle.port_state.specs.TimeRanges.{AreSuitable, AreWithin}
-use Rattle.cable_world.specs.World.{IsPowered}
-use Rattle.cable_world.specs.Times.{CanBeForced}
+use Rattle.script_told.specs.codings.Fitting.{AreFitting, IsFitting}
 use Rattle.script_run.specs.declared.draft.Draft as kept
 use Rattle.script_run.specs.declared.draft.NodeLine.{NodeLine}
 use Rattle.script_lines.specs.Range.{IsNodeInRange}
@@ -19,25 +17,15 @@ draft_now draft = record {
   nodes = map any_node draft.machines.items;
 }
 
--- a node that was just powered on, with times in ranges
-pub record IsNode (d : ℕ) (ranges : TimeRanges) (node : PortNode) : Type 0 where
-  pub powered : IsPowered d ranges.most node.state
-  pub forced : CanBeForced d ranges.most node.state.timing
-
--- ranges that nodes which share a bus may have, with the least of each in it
-pub record AreRanges (d : ℕ) (ranges : TimeRanges) : Type 0 where
-  pub suitable : AreSuitable d ranges
-  pub least : AreWithin ranges ranges.least
-
 -- what holds of what was declared: there are 63 nodes at most, each just powered on
 pub record IsDraft (draft : kept.Draft) : Type 0 where
   pub some_delay : 1 ≤ draft.delay
   pub short_delay : draft.delay ≤ 16
-  pub ranges : AreRanges draft.delay draft.times.ranges
+  pub ranges : AreFitting draft.delay draft.times.ranges
   pub few : length draft.machines.items ≤ 63
   pub named : length draft.names ≡ length draft.machines.items
   pub nodes :
-      All (λ m. IsNode draft.delay draft.times.ranges (any_node m)) draft.machines.items
+      All (λ m. IsFitting draft.delay draft.times.ranges (any_node m)) draft.machines.items
 
 -- what a line says of a node, where the times of nodes are in these ranges
 pub record IsLine (ranges : TimeRanges) (node : NodeLine) : Type 0 where

@@ -17,7 +17,7 @@ returns g c =
     let declared = c.put_scopes.new.out.items in
     let begun = c.extend_from_slice.new.self.items in
     let out = c.extend_from_slice-2.new.self.items in
-    then-more c.args.out.now.items first (scopes ++ (between ++ (values ++ end))) opened out c.in_ok-put_opening.ensures
+    then-more c.args.out.now.items first (scopes ++ (between ++ (values ++ end))) opened out (rw c.delay.ensures at c.in_ok-put_opening.ensures)
     (then-more opened scopes (between ++ (values ++ end)) declared out c.in_ok-put_scopes.ensures
     (then-more declared between (values ++ end) begun out c.in_ok-extend_from_slice.ensures.items
     (then-more begun values end c.put_all_values.new.out.items out c.in_ok-put_all_values.ensures c.in_ok-extend_from_slice-2.ensures.items)))

@@ -2,7 +2,7 @@ use Rattle.std.proofs.Common.{◌≡◌, ◌+◌, ◌∷◌, [], All, length, le
 use Rattle.std.proofs.lemmas.List.Elements.{All-append, All-cons, All-nil}
 use Rattle.phy_machine.specs.declared.any.AnyMachine.{AnyMachine}
 use Rattle.phy_machine.specs.Any.{any_node}
-use Rattle.cable_world.specs.World.{IsNodeAtPowerOn}
+use Rattle.script_told.specs.codings.Fitting.{IsFitting}
 use Rattle.script_run.proofs.draft.Draft.with.Goals as goal
 
 pub returns-clause-sound : goal.returns-clause-sound
@@ -11,7 +11,7 @@ returns-clause-sound c =
     let machines = c.args.self.machines.items in
     let one = c.powered_on.result ∷ [] in
     let e = c.in_ok-push.ensures.items in
-    let On : AnyMachine → Type 0 = λ m. IsNodeAtPowerOn c.args.self.delay (any_node m).state in
+    let On : AnyMachine → Type 0 = λ m. IsFitting c.args.self.delay c.args.self.times.ranges (any_node m) in
     let longer : length c.push.new.self.items ≡ length machines + 1 =
     ap length e ∙ length-append machines one in
     let more : length c.in_ok-with.field-0 ≡ length c.args.self.names + 1 =
@@ -19,8 +19,9 @@ returns-clause-sound c =
     record {
       some_delay = old.some_delay;
       short_delay = old.short_delay;
+      ranges = old.ranges;
       few = omega (arith, longer, c.requires.few);
       named = omega (arith, longer, more, old.named);
       nodes = subst (All On) (sym e) (All-append On machines one old.nodes
-          (All-cons On c.powered_on.result [] c.powered_on.ensures.power_on (All-nil On)));
+          (All-cons On c.powered_on.result [] (c.powered_on.ensures.power_on c.args.self.delay old.ranges) (All-nil On)));
     }

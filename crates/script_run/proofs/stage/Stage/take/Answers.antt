@@ -1,11 +1,11 @@
 use Rattle.std.proofs.Common.{[], inl, refl, sym}
 use Rattle.std.proofs.lemmas.List.{append-nil}
-use Rattle.script_told.specs.Script.{delay_of}
+use Rattle.script_told.specs.Script.{ranges_of}
 use Rattle.script_run.proofs.stage.Stage.take.Goals as goal
 
 pub returns-then-says_nothing-clause-done : goal.returns-then-says_nothing-clause-done
 returns-then-says_nothing-clause-done g c = (
   [],
-  inl (c.says_nothing.ensures.nothing c.if-says_nothing.true (delay_of c.args.self.now), refl, refl, refl),
+  inl (c.says_nothing.ensures.nothing c.if-says_nothing.true (ranges_of c.args.self.now), refl, refl, refl),
   sym (append-nil c.args.out.now.items),
 )
