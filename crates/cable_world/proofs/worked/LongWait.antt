@@ -1,12 +1,13 @@
--- A long wait has to be longer than any short one by a signal's way there and back. The cable of two
--- nodes delays by up to two turns. Node 0 always draws 1 and waits for nine turns, and node 1 always
--- draws 0 and waits for eight. When node 0's wait is over, the Parent that node 1 sent at the end of its
--- own is still under way, so node 0 asks again too. They contend for ever, though the two coins of a
--- round are never equal.
+-- A long wait has to be longer than any short one by a signal's way there and back. The cable of
+-- two nodes delays by up to two turns. Node 0 always draws 1 and waits for nine turns, and node 1
+-- always draws 0 and waits for eight. When node 0's wait is over, the Parent that node 1 sent at
+-- the end of its own is still under way, so node 0 asks again too. They contend for ever, though
+-- the two coins of a round are never equal.
 use Rattle.std.proofs.Common.{◌≡◌, ℕ, ◌+◌, ◌<◌, ◌≤◌, Bool, true, false, List, [], ◌∷◌, Some, map, min, bit_or, nat_lt, if◌then◌else◌, ◌^◌, refl, subst, sym, arith}
 use Rattle.std.proofs.lemmas.Nat.{le_or_l}
 use Rattle.port_state.specs.declared.signal.Level.TheVariants as level
-use Rattle.port_state.specs.declared.signal.Phase.TheVariants.{Contend}
+use Rattle.port_state.specs.declared.signal.Phase.{Phase}
+use Rattle.port_state.specs.declared.signal.Phase.TheVariants.{ChildShake, ParentShake, Contend}
 use Rattle.port_state.specs.declared.signal.Signal.TheVariants as signal
 use Rattle.port_state.specs.declared.timing.Timing.{Timing}
 use Rattle.port_state.specs.Timing.{usual_timing}
@@ -29,10 +30,10 @@ use Rattle.cable_world.proofs.worked.NeverSettles.{NeverSettles, IsOpen, always,
 
 -- ---- times that suit but for one long wait
 
-abbrev times : Timing
-times = record (usual_timing 2) { long = 9 }
+abbrev times : ℕ → Timing
+times long = record (usual_timing 2) { long = long }
 
-suit-with-12 : Suits 2 (longest_in_range 2) (record times { long = 12 })
+suit-with-12 : Suits 2 (longest_in_range 2) (times 12)
 suit-with-12 = record {
   counted = record { hold = omega arith; force = omega arith; timeout = omega arith; long = omega arith };
   hold_least = omega arith;
@@ -45,10 +46,10 @@ suit-with-12 = record {
   long_most = omega arith;
 }
 
-unsuited : Suits 2 (longest_in_range 2) times → ⊥
+unsuited : Suits 2 (longest_in_range 2) (times 9) → ⊥
 unsuited s = let least = s.long_least in omega (arith, least)
 
-can-be-forced : CanBeForced 2 (longest_in_range 2) times
+can-be-forced : CanBeForced 2 (longest_in_range 2) (times 9)
 can-be-forced = record { enough = omega arith }
 
 -- the other's short wait is the longest of the bus
@@ -60,25 +61,25 @@ other_times = record (usual_timing 2) { short = 8 }
 abbrev node : Timing → ℕ → PortNode
 node t coin = record { state = power_on 1 (attrs true 2 false) false t; coins = coins_of_bits coin 1 }
 
-abbrev bare : CableWorld
-bare = world_of_nodes 2 (node times 1 ∷ node other_times 0 ∷ [])
+abbrev bare : ℕ → CableWorld
+bare long = world_of_nodes 2 (node (times long) 1 ∷ node other_times 0 ∷ [])
 
-abbrev pair : CableWorld
-pair = after_plug (at 0 0) (at 1 0) bare
+abbrev pair : ℕ → CableWorld
+pair long = after_plug (at 0 0) (at 1 0) (bare long)
 
--- from the first contention on the wire that leaves node 1 is always held, so that each signal on it
--- takes two turns
+-- from the first contention on the wire that leaves node 1 is always held, so that each signal on
+-- it takes two turns
 abbrev slow : List PlacedHold
 slow = record { end = at 1 0; turns = 1 } ∷ []
 
 abbrev start : CableWorld
-start = hold (at 1 0) 1 (turns_after 132 pair)
+start = hold (at 1 0) 1 (turns_after 132 (pair 9))
 
-comes : ComesOf bare start
+comes : ComesOf (bare 9) start
 unfolding turn turns_after enter tick on_signal
 comes =
-    comes-held bare (turns_after 132 pair) (at 1 0) 1 refl
-    (comes-turns bare pair 132 (comes-plugged bare bare (at 0 0) (at 1 0) refl (itself bare)))
+    comes-held (bare 9) (turns_after 132 (pair 9)) (at 1 0) 1 refl
+    (comes-turns (bare 9) (pair 9) 132 (comes-plugged (bare 9) (bare 9) (at 0 0) (at 1 0) refl (itself (bare 9))))
 
 -- ---- each round is followed by another
 
@@ -105,8 +106,8 @@ idle_sent = add_signals (signal.Idle ∷ []) empty_wire
 
 -- both begin to wait: so many turns are done, each drew so many coins, and node 0 these
 abbrev rivals : ℕ → ℕ → ℕ → CableWorld
-rivals t draws first = record pair {
-  nodes = waiting (node times 1) 9 draws first ∷ waiting (node other_times 0) 8 draws 0 ∷ [];
+rivals t draws first = record (pair 9) {
+  nodes = waiting (node (times 9) 1) 9 draws first ∷ waiting (node other_times 0) 8 draws 0 ∷ [];
   wires = (idle_sent ∷ []) ∷ (record idle_sent { held = 1 } ∷ []) ∷ [];
   turns = t;
 }
@@ -160,22 +161,26 @@ never =
     (λ w i s l. subst (λ v. IsOpen (quiet_after (always slow) i v)) (sym s.4) (opens s.0 s.1 s.2 i s.3 l))
     start (132, 1, 1, omega arith, begins)
 
--- ---- it may happen once where the wait is longer
+-- ---- where the long wait is a turn or two longer
 
--- Node 0 waits for ten turns, and holds let it begin a turn before node 1: it asks again in turn 142,
--- a turn before it hears that node 1 has. So both draw a second coin in turn 143, though the first
--- coins aren't equal. A wait of eleven turns would be enough here, since a node hears what arrives
--- before its clock ticks; the inequality asks for one more.
-abbrev longer : CableWorld
-longer =
-    turns_after 128 (after_plug (at 0 0) (at 1 0) (world_of_nodes 2 (node (record times { long = 10 }) 1 ∷ node other_times 0 ∷ [])))
+-- Holds let node 0 begin its wait a turn before node 1. Two turns after the end of node 1's wait:
+abbrev later : ℕ → CableWorld
+later long = turns_after 2 (hold (at 1 0) 1 (turns_after 13 (hold (at 0 0) 5 (turns_after 128 (pair long)))))
 
-abbrev twice : CableWorld
-twice = turns_after 2 (hold (at 1 0) 1 (turns_after 13 (hold (at 0 0) 5 longer)))
+abbrev phases : CableWorld → List Phase
+phases w = map (λ (x : PortNode). x.state.view.phase) w.nodes
 
-once :
-    (map (λ (x : PortNode). x.state.view.phase) twice.nodes ≡ Contend ∷ Contend ∷ [])
-    × (map (λ (x : PortNode). x.state.view.draws) twice.nodes ≡ 2 ∷ 2 ∷ [])
-    × (first_draws twice ≡ 3 ∷ 0 ∷ [])
+abbrev draws : CableWorld → List ℕ
+draws w = map (λ (x : PortNode). x.state.view.draws) w.nodes
+
+-- with ten turns node 0 has asked again a turn before it heard that node 1 did, and both have drawn
+-- a second coin though the first ones aren't equal
+once : (phases (later 10) ≡ Contend ∷ Contend ∷ []) × (draws (later 10) ≡ 2 ∷ 2 ∷ []) × (first_draws (later 10) ≡ 3 ∷ 0 ∷ [])
 unfolding turn turns_after enter tick on_signal
 once = (refl, refl, refl)
+
+-- with eleven it has heard it in time, as a node hears what arrives before its clock ticks; the
+-- inequality asks for twelve
+wins : (phases (later 11) ≡ ChildShake ∷ ParentShake ∷ []) × (draws (later 11) ≡ 1 ∷ 1 ∷ [])
+unfolding turn turns_after enter tick on_signal
+wins = (refl, refl)

@@ -1,12 +1,12 @@
--- A hold has to be longer than a signal's way through all nodes, which are 63 at most: 64 d is enough
--- for them. Four nodes need a hold of 4 d. Here each signal takes one turn, and each node of a ring of
--- four holds its reset for three: a Reset runs round the ring for ever.
-use Rattle.std.proofs.Common.{◌≡◌, ℕ, ◌+◌, ◌<◌, true, false, List, [], ◌∷◌, min, refl, subst, sym, arith}
+-- A hold has to be longer than a signal's way through all nodes, which are 63 at most: 64 d is
+-- enough for them. Four nodes need a hold of 4 d. Here each signal takes one turn, and each node of
+-- a ring of four holds its reset for three: a Reset runs round the ring for ever.
+use Rattle.std.proofs.Common.{◌≡◌, ℕ, ◌+◌, ◌<◌, true, false, List, [], ◌∷◌, map, min, refl, subst, sym, arith}
 use Rattle.port_state.specs.declared.ports.PortView.{PortView}
 use Rattle.port_state.specs.declared.signal.Level.{Level}
 use Rattle.port_state.specs.declared.signal.Level.TheVariants as level
 use Rattle.port_state.specs.declared.signal.Phase.{Phase}
-use Rattle.port_state.specs.declared.signal.Phase.TheVariants.{ResetStart, ResetWait}
+use Rattle.port_state.specs.declared.signal.Phase.TheVariants.{ResetStart, ResetWait, TreeStart}
 use Rattle.port_state.specs.declared.signal.Signal.{Signal}
 use Rattle.port_state.specs.declared.signal.Signal.TheVariants as signal
 use Rattle.port_state.specs.declared.timing.Timing.{Timing}
@@ -28,10 +28,10 @@ use Rattle.cable_world.proofs.worked.NeverSettles.{NeverSettles, IsOpen, always,
 
 -- ---- times that suit but for the hold
 
-abbrev times : Timing
-times = record (usual_timing 1) { hold = 3 }
+abbrev times : ℕ → Timing
+times hold = record (usual_timing 1) { hold = hold }
 
-suit-with-64 : Suits 1 (longest_in_range 1) (record times { hold = 64 })
+suit-with-64 : Suits 1 (longest_in_range 1) (times 64)
 suit-with-64 = record {
   counted = record { hold = omega arith; force = omega arith; timeout = omega arith; long = omega arith };
   hold_least = omega arith;
@@ -44,49 +44,47 @@ suit-with-64 = record {
   long_most = omega arith;
 }
 
-unsuited : Suits 1 (longest_in_range 1) times → ⊥
+unsuited : Suits 1 (longest_in_range 1) (times 3) → ⊥
 unsuited s = let least = s.hold_least in omega (arith, least)
 
-can-be-forced : CanBeForced 1 (longest_in_range 1) times
+can-be-forced : CanBeForced 1 (longest_in_range 1) (times 3)
 can-be-forced = record { enough = omega arith }
 
 -- ---- the run
 
-abbrev node : PortNode
-node = record { state = power_on 2 (attrs true 2 false) false times; coins = coins_of_bits 0 1 }
+abbrev node : ℕ → PortNode
+node hold = record { state = power_on 2 (attrs true 2 false) false (times hold); coins = coins_of_bits 0 1 }
 
-abbrev nodes : List PortNode
-nodes = node ∷ node ∷ node ∷ node ∷ []
+abbrev bare : ℕ → CableWorld
+bare hold = world_of_nodes 1 (node hold ∷ node hold ∷ node hold ∷ node hold ∷ [])
 
-abbrev bare : CableWorld
-bare = world_of_nodes 1 nodes
+abbrev one : ℕ → CableWorld
+one hold = after_plug (at 0 1) (at 1 0) (bare hold)
 
-abbrev one : CableWorld
-one = after_plug (at 0 1) (at 1 0) bare
+abbrev two : ℕ → CableWorld
+two hold = after_plug (at 1 1) (at 2 0) (one hold)
 
-abbrev two : CableWorld
-two = after_plug (at 1 1) (at 2 0) one
+abbrev three : ℕ → CableWorld
+three hold = after_plug (at 2 1) (at 3 0) (two hold)
 
-abbrev three : CableWorld
-three = after_plug (at 2 1) (at 3 0) two
+abbrev ring : ℕ → CableWorld
+ring hold = after_plug (at 3 1) (at 0 0) (three hold)
 
-abbrev ring : CableWorld
-ring = after_plug (at 3 1) (at 0 0) three
+-- When all have held their resets node 1 resets the bus. When it has held that, node 0 does: of its
+-- neighbours node 3 is in its reset still, and node 1 isn't any more.
+abbrev first : ℕ → CableWorld
+first hold = after_reset 1 (turns_after hold (ring hold))
 
--- Node 1 resets the bus after 3 turns. Node 0 does after 6, when of its neighbours node 3 is in its
--- reset still, and node 1 isn't any more.
-abbrev first : CableWorld
-first = after_reset 1 (turns_after 3 ring)
+abbrev second : ℕ → CableWorld
+second hold = after_reset 0 (turns_after hold (first hold))
 
-abbrev second : CableWorld
-second = after_reset 0 (turns_after 3 first)
-
-comes : ComesOf bare (turns_after 4 second)
+comes : ComesOf (bare 3) (turns_after 4 (second 3))
 unfolding turn turns_after enter tick on_signal
 comes =
-    comes-turns bare second 4 (comes-reset bare (turns_after 3 first) 0 refl (comes-turns bare first 3 (comes-reset bare (turns_after 3 ring) 1 refl
-    (comes-turns bare ring 3 (comes-plugged bare three (at 3 1) (at 0 0) refl (comes-plugged bare two (at 2 1) (at 3 0) refl
-    (comes-plugged bare one (at 1 1) (at 2 0) refl (comes-plugged bare bare (at 0 1) (at 1 0) refl (itself bare)))))))))
+    comes-turns (bare 3) (second 3) 4 (comes-reset (bare 3) (turns_after 3 (first 3)) 0 refl (comes-turns (bare 3) (first 3) 3
+    (comes-reset (bare 3) (turns_after 3 (ring 3)) 1 refl (comes-turns (bare 3) (ring 3) 3 (comes-plugged (bare 3) (three 3) (at 3 1) (at 0 0) refl
+    (comes-plugged (bare 3) (two 3) (at 2 1) (at 3 0) refl (comes-plugged (bare 3) (one 3) (at 1 1) (at 2 0) refl
+    (comes-plugged (bare 3) (bare 3) (at 0 1) (at 1 0) refl (itself (bare 3))))))))))
 
 -- ---- it comes round
 
@@ -95,9 +93,9 @@ port_showing l = record { connected = true; shown = l; child = false; asked = fa
 
 -- a node of the ring: its phase and timer, what its two ports show, and how many resets it has seen
 abbrev node_in : Phase → ℕ → Level → Level → ℕ → PortNode
-node_in phase timer before behind resets = record node {
-  state = record node.state {
-    view = record node.state.view {
+node_in phase timer before behind resets = record (node 3) {
+  state = record (node 3).state {
+    view = record (node 3).state.view {
       phase = phase;
       timer = timer;
       ports = port_showing before ∷ port_showing behind ∷ [];
@@ -112,7 +110,7 @@ wires_with sent = add_signals sent empty_wire ∷ add_signals sent empty_wire �
 
 -- The Reset has just come to node 0. So many turns are done, and so many resets were seen.
 abbrev round : ℕ → ℕ → ℕ → ℕ → ℕ → CableWorld
-round turns a b c d = record ring {
+round turns a b c d = record (ring 3) {
   nodes =
       node_in ResetStart 1 level.Reset level.Idle a ∷ node_in ResetWait 1 level.Idle level.Reset b ∷
       node_in ResetWait 0 level.Idle level.Reset c ∷ node_in ResetStart 2 level.Reset level.Idle d ∷ [];
@@ -121,7 +119,7 @@ round turns a b c d = record ring {
   turns = turns;
 }
 
-begins : turns_after 4 second ≡ round 10 6 5 5 5
+begins : turns_after 4 (second 3) ≡ round 10 6 5 5 5
 unfolding turn turns_after enter tick on_signal
 begins = refl
 
@@ -143,10 +141,17 @@ opens t a b c d i l =
     open-fresh (quiet_after (always []) i (round t a b c d))
     (below 4 (λ j. each_view is_fresh (quiet_after (always []) j (round t a b c d)) ≡ true) i (turns-fresh t a b c d) l)
 
-never : NeverSettles [] (turns_after 4 second)
+never : NeverSettles [] (turns_after 4 (second 3))
 unfolding Start
 never =
     comes-round [] Start 4 (omega arith) (λ w s. refl)
     (λ w s. subst (λ v. Start (quiet_after (always []) 4 v)) (sym s.5) (again s.0 s.1 s.2 s.3 s.4))
     (λ w i s l. subst (λ v. IsOpen (quiet_after (always []) i v)) (sym s.5) (opens s.0 s.1 s.2 s.3 s.4 i l))
-    (turns_after 4 second) (10, 6, 5, 5, 5, begins)
+    (turns_after 4 (second 3)) (10, 6, 5, 5, 5, begins)
+
+-- ---- where each holds for a turn more
+
+-- the Reset comes back to node 0 while that still holds its own, and dies
+dies : map (λ (x : PortNode). x.state.view.phase) (turns_after 8 (second 4)).nodes ≡ TreeStart ∷ TreeStart ∷ TreeStart ∷ TreeStart ∷ []
+unfolding turn turns_after enter tick on_signal
+dies = refl

@@ -1,5 +1,5 @@
--- A node has to be able to count its times. Its timer stays at 65,535: so a node whose hold is longer
--- by one never leaves its reset.
+-- A node has to be able to count its times. Its timer stays at 65,535: so a node whose hold is
+-- longer by one never leaves its reset.
 use Rattle.std.proofs.Common.{◌≡◌, ℕ, zero, suc, ◌+◌, ◌<◌, true, false, [], ◌∷◌, min, nat_le, refl, subst, sym, arith}
 use Rattle.port_state.specs.declared.timing.Timing.{Timing}
 use Rattle.port_state.specs.Timing.{usual_timing}

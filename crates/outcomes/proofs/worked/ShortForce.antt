@@ -1,8 +1,8 @@
--- A forced node that doesn't wait for long enough isn't root. In a line of three nodes each signal takes
--- one turn. Node 2, at one end, waits to be forced, and node 0, at the other, holds its reset for 80
--- turns, the longest hold of the bus. The inequality asks that the hold and the force time of node 2
--- are together more than 80 + 127 turns, which is enough for 63 nodes. Three nodes need 80 + 4, since
--- each of the two cables is passed twice.
+-- A forced node that doesn't wait for long enough isn't root. In a line of three nodes each signal
+-- takes one turn. Node 2, at one end, waits to be forced, and node 0, at the other, holds its reset
+-- for 80 turns, the longest hold of the bus. The inequality asks that the hold and the force time
+-- of node 2 are together more than 80 + 127 turns, which is enough for 63 nodes. Three nodes need
+-- 80 + 4, since each of the two cables is passed twice.
 use Rattle.std.proofs.Common.{◌≡◌, ℕ, Bool, true, false, List, [], ◌∷◌, Option, Some, None, map, refl, arith}
 use Rattle.port_state.specs.declared.timing.Timing.{Timing}
 use Rattle.port_state.specs.Timing.{usual_timing}
@@ -61,7 +61,8 @@ alone : map (λ (x : PortNode). waits_due x.state.view) (start 18).nodes ≡ fal
 unfolding turn turns_after enter tick on_signal group
 alone = refl
 
--- with 64 + 18 turns it asks the middle before it hears that the middle asks it, and the middle is root
+-- with 64 + 18 turns it asks the middle before it hears that the middle asks it, and the middle is
+-- root
 too-short :
     (phases (turns_after 92 (start 18)) ≡ Ready ∷ Ready ∷ Ready ∷ [])
     × (parents (turns_after 92 (start 18)) ≡ Some 0 ∷ None ∷ Some 0 ∷ [])
