@@ -35,7 +35,7 @@ times long = record (usual_timing 2) { long = long }
 
 suit-with-12 : Suits 2 (longest_in_range 2) (times 12)
 suit-with-12 = record {
-  counted = record { hold = omega arith; force = omega arith; timeout = omega arith; long = omega arith };
+  counted = record { hold = omega arith; force = omega arith; timeout = omega arith; short = omega arith; long = omega arith };
   hold_least = omega arith;
   hold_most = omega arith;
   force_most = omega arith;

@@ -33,7 +33,7 @@ times hold = record (usual_timing 1) { hold = hold }
 
 suit-with-64 : Suits 1 (longest_in_range 1) (times 64)
 suit-with-64 = record {
-  counted = record { hold = omega arith; force = omega arith; timeout = omega arith; long = omega arith };
+  counted = record { hold = omega arith; force = omega arith; timeout = omega arith; short = omega arith; long = omega arith };
   hold_least = omega arith;
   hold_most = omega arith;
   force_most = omega arith;

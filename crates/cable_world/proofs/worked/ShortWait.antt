@@ -35,7 +35,7 @@ times short = record (usual_timing 3) { short = short }
 
 suit-with-7 : Suits 3 (longest_in_range 3) (times 7)
 suit-with-7 = record {
-  counted = record { hold = omega arith; force = omega arith; timeout = omega arith; long = omega arith };
+  counted = record { hold = omega arith; force = omega arith; timeout = omega arith; short = omega arith; long = omega arith };
   hold_least = omega arith;
   hold_most = omega arith;
   force_most = omega arith;

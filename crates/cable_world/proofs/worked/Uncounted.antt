@@ -24,7 +24,7 @@ times hold = record (usual_timing 1) { hold = hold }
 
 suit-with-65535 : Suits 1 (longest 65535) (times 65535)
 suit-with-65535 = record {
-  counted = record { hold = omega arith; force = omega arith; timeout = omega arith; long = omega arith };
+  counted = record { hold = omega arith; force = omega arith; timeout = omega arith; short = omega arith; long = omega arith };
   hold_least = omega arith;
   hold_most = omega arith;
   force_most = omega arith;

@@ -21,7 +21,7 @@ times force = record (usual_timing 1) { force = force }
 
 suit : Suits 1 (longest_in_range 1) (times 18)
 suit = record {
-  counted = record { hold = omega arith; force = omega arith; timeout = omega arith; long = omega arith };
+  counted = record { hold = omega arith; force = omega arith; timeout = omega arith; short = omega arith; long = omega arith };
   hold_least = omega arith;
   hold_most = omega arith;
   force_most = omega arith;
