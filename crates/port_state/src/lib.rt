@@ -12,7 +12,6 @@ mod idle_laws;
 mod machine;
 mod pairs;
 mod port_set;
-mod port_tests;
 mod port_words;
 mod ports;
 mod range_laws;

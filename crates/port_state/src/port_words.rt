@@ -3,7 +3,7 @@ ghost use Rattle.std.specs.Prelude.{◌≡◌, ℕ, ◌^◌, ◌<◌, ◌==◌, 
 ghost use Rattle.port_state.specs.Entry.{without_marks};
 ghost use Rattle.port_state.specs.Ports.{asks, is_remaining, is_unnamed};
 ghost use Rattle.port_state.specs.TreeIdentify.{adopt};
-ghost use Rattle.port_state.specs.codings.PortWords.{has_bit, level_high, level_low, level_of_bits, port_at, FitsPorts, is_restless, has_waiting_child};
+ghost use Rattle.port_state.specs.codings.PortWords.{has_bit, level_high, level_low, level_of_bits, lowest_bit, port_at, FitsPorts, is_restless, has_waiting_child};
 
 use crate::ports::PortView;
 use crate::signal::Level;
@@ -37,6 +37,17 @@ fn with_bit(word: u16, at: u8, on: bool) -> u16
         word | 1 << at
     } else {
         word & !(1 << at)
+    }
+}
+
+/// The lowest bit that is set in a word.
+pub(crate) fn lowest_bit(word: u16) -> Option<u8>
+    ensures { result ≡ lowest_bit word }
+{
+    if word == 0 {
+        None
+    } else {
+        Some(word.trailing_zeros() as u8)
     }
 }
 

@@ -1,12 +1,14 @@
 //! What a node knows of its ports.
-ghost use Rattle.std.specs.Prelude.{◌≡◌, ◌<◌, ◌≤◌, ◌↔◌, IsTrue, [], ◌∷◌, ◌++◌, length, map, slice_get, slice_set, ℕ, true};
+ghost use Rattle.std.specs.Prelude.{◌≡◌, ◌<◌, ◌≤◌, ◌↔◌, ℕ, true, [], ◌∷◌, ◌++◌, length, map, count_by, slice_get, slice_set, IsTrue, if◌then◌else◌};
+ghost use Rattle.std.specs.Option.{ForSome};
 ghost use Rattle.port_state.specs.Entry.{without_marks};
 ghost use Rattle.port_state.specs.PortSet.{has_port};
-ghost use Rattle.port_state.specs.Ports.{is_connected, change_port};
+ghost use Rattle.port_state.specs.Ports.{is_idle, asks, is_remaining, is_unnamed, is_connected, connected_count, every, lowest, change_port};
+ghost use Rattle.port_state.specs.Resetting.{is_calm};
 ghost use Rattle.port_state.specs.TreeIdentify.{adopt};
 
 use crate::port_set::PortSet;
-use crate::port_words::Words;
+use crate::port_words::{Words, lowest_bit};
 use crate::signal::Level;
 use std::marker::Model;
 
@@ -30,7 +32,7 @@ pub struct PortView {
 #[derive(Clone, Copy, Debug)]
 pub struct PortViews {
     count: u8,
-    pub(crate) words: Words,
+    words: Words,
 }
 
 impl Model for PortViews {
@@ -146,5 +148,51 @@ impl PortViews {
         ensures { self.new ≡ change_port port (λ p. record p { named = true }) self.old }
     {
         self.words.name(port);
+    }
+
+    /// Whether every connected port shows Idle or Parent: no neighbour resets any more.
+    pub fn are_calm(&self) -> bool
+        ensures { result ≡ every (λ p. is_calm p.shown) self.now }
+    {
+        self.words.restless_ports() == 0
+    }
+
+    /// How many ports are connected.
+    pub fn connected_count(&self) -> u32
+        ensures value { result ≡ connected_count self.now }
+        ensures few { result ≤ 16 }
+    {
+        self.words.connected.count_ones()
+    }
+
+    /// How many connected ports show Parent: so many neighbours ask this node to be their parent.
+    pub fn asking_count(&self) -> u32
+        ensures value { result ≡ count_by asks self.now }
+        ensures few { result ≤ 16 }
+    {
+        self.words.asking_ports().count_ones()
+    }
+
+    /// The lowest port whose neighbour doesn't ask.
+    pub fn remaining(&self) -> Option<u8>
+        ensures value { result ≡ lowest is_remaining self.now }
+        ensures exists { ForSome result (λ p. p < length self.now) }
+    {
+        lowest_bit(self.words.remaining_ports())
+    }
+
+    /// Whether every child shows Idle.
+    pub fn are_children_idle(&self) -> bool
+        ensures { result ≡ every (λ p. if p.child then is_idle p.shown else true) self.now }
+    {
+        self.words.waiting_children() == 0
+    }
+
+    /// The lowest port whose child hasn't identified itself.
+    pub fn next_child(&self) -> Option<u8>
+        ensures value { result ≡ lowest is_unnamed self.now }
+        ensures exists { ForSome result (λ p. p < length self.now) }
+    {
+        lowest_bit(self.words.unnamed_ports())
     }
 }

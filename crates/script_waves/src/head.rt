@@ -89,11 +89,7 @@ fn put_port_values(out: &mut Vec<u8>, node: u8, port: u8) -> Result<(), OutOfMem
 }
 
 /// Appends the variables of so many ports, at most 16.
-fn put_all_port_variables(
-    out: &mut Vec<u8>,
-    node: u8,
-    ports: &PortViews,
-) -> Result<(), OutOfMemory>
+fn put_all_port_variables(out: &mut Vec<u8>, node: u8, ports: &PortViews) -> Result<(), OutOfMemory>
     requires { node ≤ 62 }
     ensures { OnOk result (out.new.items
         ≡ out.old.items ++ all_port_variables node 0 ports.now) }
