@@ -104,6 +104,7 @@ fn carried_of_last(third: &FurtherPart) -> u8
 
 /// The node of a standard's group of several packets at a place and the place after it, or the first
 /// fault. Packet zero was read.
+#[inline(never)]
 fn take_further(
     standard: Standard,
     quads: &[u32],
@@ -146,7 +147,7 @@ fn take_further(
 }
 
 /// The node of a standard's group at a place and the place after it, or the first fault.
-#[inline]
+#[inline(always)]
 fn take_group(
     standard: Standard,
     quads: &[u32],
@@ -171,7 +172,7 @@ fn take_group(
 /// taken in turn, and of each it is asked whether the list goes on to it, whether it is a self-ID
 /// packet, whether it is this node's, and whether it is the next of the group; at the end, whether
 /// the node has two parents. It takes no memory.
-#[inline]
+#[inline(always)]
 pub fn read_group_of(
     standard: Standard,
     quads: &[u32],

@@ -66,15 +66,14 @@ later ids ends (suc k) lists e r some lt =
     let before : suc k - 1 ≡ k = omega arith in
     record { inside = count; low = rw before p.low; high = p.high; is = rw (← e, before) p.is }
 
--- room for one ID more, and for one list more
-pub has_room : (ids ends more now : List ℕ) (lists : List (List ℕ)) (k : ℕ) →
-    cut ids 0 ends ≡ lists → Rises (length ids) 0 ends → total lists + length more ≤ 63 →
-    now ≡ ids ++ take k more → k < length more → length now < 63
-has_room ids ends more now lists k e r room is lt = omega (arith, total-cut ids 0 ends r, ap total e, ap length is, length-append ids (take k more), length-take k more)
+-- room for the IDs of one list more, and for its end
+pub has_room : (ids ends more : List ℕ) (lists : List (List ℕ)) → cut ids 0 ends ≡ lists →
+    Rises (length ids) 0 ends → total lists + length more ≤ 63 → length ids + length more ≤ 63
+has_room ids ends more lists e r room = omega (arith, total-cut ids 0 ends r, ap total e)
 
-pub has_end : (ids ends now : List ℕ) (lists : List (List ℕ)) → cut ids 0 ends ≡ lists →
-    length lists < 63 → now ≡ ends → length now < 63
-has_end ids ends now lists e room is = omega (arith, length-cut ids 0 ends, ap length e, ap length is)
+pub has_end : (ids ends : List ℕ) (lists : List (List ℕ)) → cut ids 0 ends ≡ lists →
+    length lists < 63 → length ends < 63
+has_end ids ends lists e room = omega (arith, length-cut ids 0 ends, ap length e)
 
 -- one list more stands behind the others
 pub record Pushed (ids ends more : List ℕ) (lists : List (List ℕ)) : Type 0 where
@@ -82,16 +81,15 @@ pub record Pushed (ids ends more : List ℕ) (lists : List (List ℕ)) : Type 0 
   pub rises : Rises (length ids) 0 ends
   pub is : cut ids 0 ends ≡ lists ++ more ∷ []
 
-pub pushed : (ids ends more ids' ends' : List ℕ) (lists : List (List ℕ)) (k : ℕ) →
+pub pushed : (ids ends more ids' ends' : List ℕ) (lists : List (List ℕ)) →
     cut ids 0 ends ≡ lists → Rises (length ids) 0 ends → total lists + length more ≤ 63 →
-    length more ≤ k → ids' ≡ ids ++ take k more → ends' ≡ ends ++ length ids' ∷ [] →
+    ids' ≡ ids ++ more → ends' ≡ ends ++ length ids' ∷ [] →
     Pushed ids' ends' more lists
-pushed ids ends more ids' ends' lists k e r room over is at =
-    let ids_is : ids' ≡ ids ++ more = is ∙ ap (λ (l : List ℕ). ids ++ l) (take_all k more over) in
-    let count : length ids' ≡ length ids + length more = omega (arith, ap length ids_is, length-append ids more) in
+pushed ids ends more ids' ends' lists e r room is at =
+    let count : length ids' ≡ length ids + length more = omega (arith, ap length is, length-append ids more) in
     let ends_is : ends' ≡ ends ++ (length ids + length more) ∷ [] = at ∙ ap (λ (n : ℕ). ends ++ n ∷ []) count in
     record {
       few = omega (arith, count, total-cut ids 0 ends r, ap total e);
       rises = rw (count, ends_is) (rises-more (length ids) (length more) 0 ends r);
-      is = rw (ids_is, ends_is, ← e) (cut-more ids more 0 ends r);
+      is = rw (is, ends_is, ← e) (cut-more ids more 0 ends r);
     }

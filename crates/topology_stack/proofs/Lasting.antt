@@ -1,31 +1,17 @@
 -- Faults that a list keeps, however it goes on.
-use Rattle.std.proofs.Common.{◌⊎◌, inl, inr, ◌≡◌, ℕ, zero, suc, ◌+◌, ◌-◌, ◌<◌, ◌≤◌, Bool, true, false, cond, eqb, ltb, List, [], ◌∷◌, ◌++◌, length, take, drop, Result, Ok, Err, refl, sym, ap, subst, ◌∙◌, append_assoc, arith, length-append, length-drop}
-use Rattle.std.specs.Prelude.{MatchBool, Option, Some, None, is_some}
-use Rattle.std.proofs.lemmas.List.{append-nil, take-append-le, take-append-drop, length-take-le, take_all}
-use Rattle.std.proofs.lemmas.Bool.{and_parts, eqb-true, eqb-false, ltb-true, ltb-false}
+use Rattle.std.proofs.Common.{◌≡◌, ℕ, List, ◌∷◌, ◌++◌, length, refl, ap, subst, ◌∙◌, append_assoc, arith, length-append}
 use Rattle.self_id.specs.declared.fault.GroupFault.{GroupFault}
 use Rattle.self_id.specs.declared.fault.GroupFault.TheVariants.{NotSelfId, WrongId, BadOrder, Cut, TwoParents}
 use Rattle.self_id.specs.declared.standard.Standard.TheVariants.{Ieee2000}
-use Rattle.self_id.specs.Node.{Node, IsNode, IsOf, ups, downs}
-use Rattle.self_id.specs.Group.{group, StandsAt}
+use Rattle.self_id.specs.Node.{Node}
+use Rattle.self_id.specs.Group.{group}
 use Rattle.self_id.specs.Refused.{LeadsTo, GroupRefused}
-use Rattle.self_id.proofs.Lemmas.{read_at, read_at-group, read_at-refused, length-group, three_packets}
 use Rattle.topology_stack.specs.declared.fault.TreeFault.{TreeFault}
 use Rattle.topology_stack.specs.declared.fault.TreeFault.TheVariants.{Group, Empty, TooFewChildren, TreesLeft, AfterRoot, NoRoot, TooMany}
-use Rattle.topology_stack.specs.declared.reader.Place.{Place}
-use Rattle.topology_stack.specs.declared.waiting.Waiting.{Waiting}
-use Rattle.topology_stack.specs.Tree.{Tree, branch, Slots, walk, IsWhole, AreOf, IsBusTreeOf, groups, emits}
-use Rattle.topology_stack.specs.Forest.{walks, Forest}
+use Rattle.topology_stack.specs.Tree.{Tree, emits}
+use Rattle.topology_stack.specs.Forest.{walks}
 use Rattle.topology_stack.specs.Refused.{GoesOn, GroupNext, Refused}
-use Rattle.topology_stack.specs.declared.fault.TreeStop.{TreeStop}
-use Rattle.topology_stack.specs.declared.fault.TreeStop.TheVariants.{Fault}
-use Rattle.topology_stack.specs.Reader.{Kept, IsLasting, StandsFor}
-use Rattle.topology_stack.specs.codings.Code.{label_of, build}
-use Rattle.topology_stack.specs.codings.Place.{IsWholeTree, IsWaiting, IsRead, IsPlace, StandsAtEnd, GroupMayEnd, IsPlaced}
-use Rattle.topology_stack.specs.codings.Waiting.{after_node}
-use Rattle.topology_stack.proofs.Loop.{ok_waiting, too_few, left, joined, few_wait}
-use Rattle.topology_stack.proofs.Stack.{built, groups-snoc, AreOf-snoc}
-use Rattle.topology_stack.proofs.Sound.{Grows, grows, root_test, ups_one}
+use Rattle.topology_stack.specs.Reader.{IsLasting}
 
 more_goes_on : (l more : List ℕ) (ts : List Tree) (front rest : List ℕ) (at most : ℕ) →
     GoesOn Ieee2000 l ts front rest at most →

@@ -1,11 +1,11 @@
 -- The parents of a bus tree's nodes, from the parents that a tree keeps.
-use Rattle.std.proofs.Common.{◌≡◌, ℕ, zero, suc, ◌+◌, ◌<◌, Option, Some, None, List, [], ◌∷◌, ◌++◌, length, refl, sym, ap, subst, ◌∙◌, arith, length-append}
+use Rattle.std.proofs.Common.{◌≡◌, ℕ, zero, suc, ◌+◌, ◌<◌, Option, Some, List, [], ◌∷◌, ◌++◌, length, refl, sym, ap, subst, ◌∙◌, arith, length-append}
 use Rattle.std.specs.Prelude.{slice_get, IsSomeAnd}
 use Rattle.self_id.specs.declared.node.PortStatus.{PortStatus}
 use Rattle.self_id.specs.declared.node.PortStatus.TheVariants.{Absent, Unplugged, Up, Down}
 use Rattle.self_id.specs.Node.{Node, ups}
 use Rattle.topology_stack.specs.Tree.{Tree, branch, Slots, no_more, absent, unplugged, up, down, statuses, node_of, walk, walk_below, IsPart, AreParts, IsBusTree}
-use Rattle.topology_stack.specs.Far.{Far, ends, IsUpAt, IsParent}
+use Rattle.topology_stack.specs.Far.{Far, IsUpAt, IsParent}
 use Rattle.topology_stack.specs.codings.Stored.{Stored}
 use Rattle.topology_stack.proofs.Ends.{end_at, far_is, length-children}
 

@@ -1,17 +1,17 @@
 -- A list that comes quadlet by quadlet: which faults last, and where reading stands.
-use Rattle.std.proofs.Common.{◌⊎◌, inl, inr, ◌≡◌, ℕ, zero, suc, ◌+◌, ◌-◌, ◌<◌, ◌≤◌, Bool, true, false, cond, eqb, ltb, List, [], ◌∷◌, ◌++◌, length, take, drop, Result, Ok, Err, refl, sym, ap, subst, ◌∙◌, append_assoc, arith, length-append, length-drop}
+use Rattle.std.proofs.Common.{◌⊎◌, inl, inr, ◌≡◌, ℕ, zero, suc, ◌+◌, ◌-◌, ◌<◌, ◌≤◌, Bool, true, false, cond, eqb, ltb, List, [], ◌∷◌, ◌++◌, length, take, drop, Result, Ok, Err, refl, sym, ap, subst, ◌∙◌, arith, length-append, length-drop}
 use Rattle.std.specs.Prelude.{MatchBool, Option, Some, None, is_some}
 use Rattle.std.proofs.lemmas.List.{append-nil, take-append-le, take-append-drop, length-take-le, take_all}
 use Rattle.std.proofs.lemmas.Bool.{and_parts, eqb-true, eqb-false, ltb-true, ltb-false}
 use Rattle.self_id.specs.declared.fault.GroupFault.{GroupFault}
-use Rattle.self_id.specs.declared.fault.GroupFault.TheVariants.{NotSelfId, WrongId, BadOrder, Cut, TwoParents}
+use Rattle.self_id.specs.declared.fault.GroupFault.TheVariants.{Cut}
 use Rattle.self_id.specs.declared.standard.Standard.TheVariants.{Ieee2000}
 use Rattle.self_id.specs.Node.{Node, IsNode, IsOf, ups, downs}
 use Rattle.self_id.specs.Group.{group, StandsAt}
-use Rattle.self_id.specs.Refused.{LeadsTo, GroupRefused}
+use Rattle.self_id.specs.Refused.{GroupRefused}
 use Rattle.self_id.proofs.Lemmas.{read_at, read_at-group, read_at-refused, length-group, three_packets}
 use Rattle.topology_stack.specs.declared.fault.TreeFault.{TreeFault}
-use Rattle.topology_stack.specs.declared.fault.TreeFault.TheVariants.{Group, Empty, TooFewChildren, TreesLeft, AfterRoot, NoRoot, TooMany}
+use Rattle.topology_stack.specs.declared.fault.TreeFault.TheVariants.{Group, Empty, TooFewChildren, TreesLeft, NoRoot}
 use Rattle.topology_stack.specs.declared.reader.Place.{Place}
 use Rattle.topology_stack.specs.declared.waiting.Waiting.{Waiting}
 use Rattle.topology_stack.specs.Tree.{Tree, branch, Slots, walk, IsWhole, AreOf, IsBusTreeOf, groups, emits}

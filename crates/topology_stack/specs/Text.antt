@@ -16,13 +16,18 @@ abbrev pub truth : Bool → ℕ
 truth false = 0
 truth true = 1
 
+-- ` speed S contender C power P initiated I ports`
+unfoldable pub rest_of_attrs : Attrs → List ℕ
+rest_of_attrs a =
+    field (codes " speed ") a.speed ++ (field (codes " contender ") (truth a.contender)
+    ++ (field (codes " power ") a.power
+    ++ (field (codes " initiated ") (truth a.initiated) ++ codes " ports")))
+
 -- `node ID link L gap G speed S contender C power P initiated I ports`
 unfoldable pub attrs_text : ℕ → Attrs → List ℕ
 attrs_text id a =
     field (codes "node ") id ++ (field (codes " link ") (truth a.link)
-    ++ (field (codes " gap ") a.gap ++ (field (codes " speed ") a.speed
-    ++ (field (codes " contender ") (truth a.contender) ++ (field (codes " power ") a.power
-    ++ (field (codes " initiated ") (truth a.initiated) ++ codes " ports"))))))
+    ++ (field (codes " gap ") a.gap ++ rest_of_attrs a))
 
 -- a slot: `-`, `.`, `^` and the parent's ID, or `v` and the child's ID
 abbrev pub sign : PortStatus → Option ℕ → List ℕ

@@ -51,16 +51,15 @@ impl ChildLists {
         }
     }
 
-    /// Appends the children of one node more.
+    /// Appends the children of one node more, which has this ID, and gives them their parent.
     #[inline]
-    fn push(&mut self, children: &[u8])
+    fn push(&mut self, parents: &mut [u8], children: &[u8], id: u8)
         requires nodes { length self.old < 63 }
         requires room { total self.old + length children.now ≤ 63 }
-        ensures { self.new ≡ self.old ++ children.now ∷ [] }
+        ensures lists { self.new ≡ self.old ++ children.now ∷ [] }
+        ensures parents { parents.new ≡ set_all children.now id parents.old }
     {
-        for child in children {
-            self.ids.push(*child);
-        }
+        adopt(parents, &mut self.ids, children, id);
         self.ends.push(self.ids.len() as u8);
     }
 
@@ -78,16 +77,19 @@ impl ChildLists {
     }
 }
 
-/// Gives these nodes their parent.
+/// Gives these nodes their parent, and appends their IDs.
 #[inline]
-fn set_parent(parents: &mut [u8], children: &[u8], id: u8)
-    ensures { parents.new ≡ set_all children.now id parents.old }
+fn adopt(parents: &mut [u8], ids: &mut ArrayVec<u8, MAX_NODES>, children: &[u8], id: u8)
+    requires { length ids.old.items + length children.now ≤ 63 }
+    ensures parents { parents.new ≡ set_all children.now id parents.old }
+    ensures ids { ids.new.items ≡ ids.old.items ++ children.now }
 {
     for child in children {
-        let child = *child as usize;
-        if child < parents.len() {
-            parents[child] = id;
+        let place = *child as usize;
+        if place < parents.len() {
+            parents[place] = id;
         }
+        ids.push(*child);
     }
 }
 
@@ -169,8 +171,7 @@ impl Links {
         ensures children { self.new.children ≡ self.old.children ++ children.now ∷ [] }
     {
         let id = self.parents.len() as u8;
-        set_parent(&mut self.parents, children, id);
+        self.children.push(&mut self.parents, children, id);
         self.parents.push(63);
-        self.children.push(children);
     }
 }

@@ -5,6 +5,7 @@ ghost use Rattle.topology_stack.specs.Hex.{hex_digit, hex};
 use quad_lanes::OutOfMemory;
 
 /// Appends the decimal digits of a number below 100, without leading zeros.
+#[inline(always)]
 #[tactic(auto, using(crate::proofs::Digits::append_one, crate::proofs::Digits::append_two))]
 fn put_two_digits(out: &mut Vec<u8>, n: u8) -> Result<(), OutOfMemory>
     requires { n < 100 }
@@ -19,15 +20,24 @@ fn put_two_digits(out: &mut Vec<u8>, n: u8) -> Result<(), OutOfMemory>
     Ok(())
 }
 
+/// The same of any number.
+#[inline(never)]
+fn put_long(out: &mut Vec<u8>, n: u64) -> Result<(), OutOfMemory>
+    ensures { OnOk result (out.new.items ≡ out.old.items ++ decimal n) }
+{
+    let text = n.to_string(*out.allocator())?;
+    out.extend_from_slice(text.as_bytes())
+}
+
 /// Appends the decimal digits of a number, without leading zeros.
+#[inline]
 pub fn put_number(out: &mut Vec<u8>, n: u64) -> Result<(), OutOfMemory>
     ensures { OnOk result (out.new.items ≡ out.old.items ++ decimal n) }
 {
     if n < 100 {
         return put_two_digits(out, n as u8);
     }
-    let text = n.to_string(*out.allocator())?;
-    out.extend_from_slice(text.as_bytes())
+    put_long(out, n)
 }
 
 /// A hexadecimal digit in lower case.

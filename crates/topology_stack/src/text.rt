@@ -1,8 +1,8 @@
 //! The text of a bus tree.
-ghost use Rattle.std.specs.Prelude.{◌≡◌, ◌<◌, ◌≤◌, ◌++◌, ◌⊎◌, [], length, slice_get, IfOk, OnOk, decimal};
+ghost use Rattle.std.specs.Prelude.{◌≡◌, ◌<◌, ◌≤◌, ◌+◌, ◌++◌, ◌⊎◌, [], ◌∷◌, length, slice_get, codes, IfOk, OnOk, decimal};
 ghost use Rattle.topology_stack.specs.Tree.{walk};
 ghost use Rattle.topology_stack.specs.codings.Stored.{ends_of, all_ends};
-ghost use Rattle.topology_stack.specs.Text.{attrs_text, field, truth, signs, naming, node_line, lines_from, irm, last_line, tree_text};
+ghost use Rattle.topology_stack.specs.Text.{attrs_text, rest_of_attrs, field, truth, signs, naming, node_line, lines_from, irm, last_line, tree_text};
 
 use crate::links::ChildLists;
 use crate::manager::elect;
@@ -13,6 +13,9 @@ use quad_lanes::OutOfMemory;
 use self_id::{Attrs, PortStatus, SelfId};
 use std::alloc::Global;
 
+/// How many bytes a line mostly takes at most.
+const LINE: usize = 96;
+
 /// Appends a word and a number.
 #[tactic(auto, unfolding(crate::specs::Text::field))]
 fn put_field(out: &mut Vec<u8>, word: &[u8], n: u64) -> Result<(), OutOfMemory>
@@ -22,33 +25,74 @@ fn put_field(out: &mut Vec<u8>, word: &[u8], n: u64) -> Result<(), OutOfMemory>
     put_number(out, n)
 }
 
-fn truth(b: bool) -> u64
-    ensures { result ≡ truth b }
+/// Appends the words before the gap count.
+#[inline]
+#[tactic(auto, using(crate::proofs::Digits::link_words))]
+fn put_link(out: &mut Vec<u8>, link: bool) -> Result<(), OutOfMemory>
+    ensures { OnOk result (out.new.items
+        ≡ out.old.items ++ (field (codes " link ") (truth link) ++ codes " gap ")) }
 {
-    if b { 1 } else { 0 }
+    if link {
+        out.extend_from_slice(b" link 1 gap ")
+    } else {
+        out.extend_from_slice(b" link 0 gap ")
+    }
+}
+
+/// The words behind the gap count, whose numbers have one digit each.
+#[inline]
+#[tactic(auto, using(crate::proofs::Digits::rest_is))]
+fn words_of(attrs: Attrs) -> [u8; 46]
+    requires speed { attrs.speed < 10 }
+    requires power { attrs.power < 10 }
+    ensures { result ≡ rest_of_attrs attrs }
+{
+    let mut words = *b" speed 0 contender 0 power 0 initiated 0 ports";
+    words[7] = b'0' + attrs.speed;
+    words[19] = digit(attrs.contender);
+    words[27] = b'0' + attrs.power;
+    words[39] = digit(attrs.initiated);
+    words
+}
+
+#[inline]
+fn digit(b: bool) -> u8
+    ensures { result ≡ 48 + truth b }
+{
+    if b { b'1' } else { b'0' }
 }
 
 /// Appends the words on a node's attributes.
 fn put_attrs(out: &mut Vec<u8>, id: u8, attrs: Attrs) -> Result<(), OutOfMemory>
+    requires speed { attrs.speed < 10 }
+    requires power { attrs.power < 10 }
     ensures { OnOk result (out.new.items ≡ out.old.items ++ attrs_text id attrs) }
 {
     put_field(out, b"node ", u64::from(id))?;
-    put_field(out, b" link ", truth(attrs.link))?;
-    put_field(out, b" gap ", u64::from(attrs.gap))?;
-    put_field(out, b" speed ", u64::from(attrs.speed))?;
-    put_field(out, b" contender ", truth(attrs.contender))?;
-    put_field(out, b" power ", u64::from(attrs.power))?;
-    put_field(out, b" initiated ", truth(attrs.initiated))?;
-    out.extend_from_slice(b" ports")?;
+    put_link(out, attrs.link)?;
+    put_number(out, u64::from(attrs.gap))?;
+    out.extend_from_slice(&words_of(attrs))?;
     Ok(())
 }
 
-/// Appends a word and an ID.
-fn put_end(out: &mut Vec<u8>, word: &[u8], id: u8) -> Result<(), OutOfMemory>
-    ensures { OnOk result (out.new.items ≡ out.old.items ++ (word.now ++ decimal id)) }
+/// Appends the sign of a slot that leads to a node with this ID.
+#[inline(always)]
+fn put_end(out: &mut Vec<u8>, sign: u8, id: u8) -> Result<(), OutOfMemory>
+    ensures { OnOk result (out.new.items ≡ out.old.items ++ (32 ∷ sign ∷ [] ++ decimal id)) }
 {
-    out.extend_from_slice(word)?;
+    out.push(b' ')?;
+    out.push(sign)?;
     put_number(out, u64::from(id))?;
+    Ok(())
+}
+
+/// Appends the sign of a slot that leads to none.
+#[inline(always)]
+fn put_loose(out: &mut Vec<u8>, sign: u8) -> Result<(), OutOfMemory>
+    ensures { OnOk result (out.new.items ≡ out.old.items ++ 32 ∷ sign ∷ []) }
+{
+    out.push(b' ')?;
+    out.push(sign)?;
     Ok(())
 }
 
@@ -65,13 +109,13 @@ fn put_signs(
     let mut children = children;
     for port in ports {
         match port {
-            PortStatus::Absent => out.extend_from_slice(b" -")?,
-            PortStatus::Unplugged => out.extend_from_slice(b" .")?,
-            PortStatus::Up => put_end(out, b" ^", parent)?,
+            PortStatus::Absent => put_loose(out, b'-')?,
+            PortStatus::Unplugged => put_loose(out, b'.')?,
+            PortStatus::Up => put_end(out, b'^', parent)?,
             PortStatus::Down => match children {
-                [] => out.extend_from_slice(b" v")?,
+                [] => put_loose(out, b'v')?,
                 [child, rest @ ..] => {
-                    put_end(out, b" v", *child)?;
+                    put_end(out, b'v', *child)?;
                     children = rest;
                 }
             },
@@ -133,12 +177,13 @@ fn put_lines(
 }
 
 /// Appends the word on the isochronous resource manager.
+#[tactic(auto, unfolding(crate::specs::Text::field))]
 fn put_manager(out: &mut Vec<u8>, manager: Option<u8>) -> Result<(), OutOfMemory>
     ensures { OnOk result (out.new.items ≡ out.old.items ++ irm manager) }
 {
     match manager {
         None => out.extend_from_slice(b" irm none")?,
-        Some(id) => put_end(out, b" irm ", id)?,
+        Some(id) => put_field(out, b" irm ", u64::from(id))?,
     }
     Ok(())
 }
@@ -166,7 +211,7 @@ pub fn tree_text(alloc: Global, tree: &BusTree, names: &NameList) -> Result<Vec<
     requires { (names.now ≡ []) ⊎ (length names.now ≡ length (walk tree.now)) }
     ensures { IfOk result (λ text. text.items ≡ tree_text tree.now names.now) }
 {
-    let mut out = Vec::new(alloc);
+    let mut out = Vec::with_capacity(alloc, tree.nodes().len() * LINE + LINE)?;
     put_lines(
         &mut out,
         tree.nodes(),

@@ -8,5 +8,5 @@ use Rattle.topology_stack.proofs.text.tree_text.Goals as goal
 pub returns : goal.returns
 returns c =
     let lines : c.put_lines.new.out.items ≡ lines_from 0 (walk c.args.tree.now) (ends c.args.tree.now) c.args.names.now =
-    c.in_ok-put_lines.ensures ∙ rw (c.new-out.ensures.items, c.nodes.ensures.value, c.parents.ensures.value, c.children.ensures.value, c.as_slice.ensures, ends_are c.args.tree.now) refl in
+    c.in_ok-put_lines.ensures ∙ rw (c.in_ok-out.ensures.items, c.nodes-2.ensures.value, c.parents.ensures.value, c.children.ensures.value, c.as_slice.ensures, ends_are c.args.tree.now) refl in
     c.in_ok-put_last_line.ensures ∙ rw (lines, c.len.ensures.value, c.elect.ensures.value) refl

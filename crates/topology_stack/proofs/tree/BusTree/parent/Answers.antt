@@ -1,9 +1,7 @@
-use Rattle.std.proofs.Common.{◌≡◌, ◌+◌, ◌<◌, ℕ, length, get_or, Some, ap, subst, sym, ◌∙◌, arith}
+use Rattle.std.proofs.Common.{◌≡◌, ◌+◌, length, get_or, Some, ap, ◌∙◌, arith}
 use Rattle.std.specs.Prelude.{slice_get}
 use Rattle.std.proofs.lemmas.Option.{slice_get-get_or}
-use Rattle.topology_stack.specs.Tree.{Tree, walk, IsBusTree}
-use Rattle.topology_stack.specs.codings.Code.{tree_of}
-use Rattle.topology_stack.specs.codings.Stored.{Stored}
+use Rattle.topology_stack.specs.Tree.{Tree, walk}
 use Rattle.topology_stack.proofs.Ends.{length-parents}
 use Rattle.topology_stack.proofs.Parent.{no_parent, is_parent, one_parent}
 use Rattle.topology_stack.proofs.tree.BusTree.parent.Goals as goal
