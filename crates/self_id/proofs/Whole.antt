@@ -257,18 +257,18 @@ single_is : (at : ℕ) (b : Bool) (m n : Node) → ok_part n ≡ cond b (Ok m) (
 single_is at true m n e = cc
 single_is at false m n e = absurd cc
 
--- what is answered for a whole group's node
-abbrev pub Whole : ℕ → ℕ → Node → Result (Node × ℕ) GroupFault → Type 0
-Whole at after m r = MatchResult r (λ x. (Ok x.0 ≡ single at m) × (x.1 ≡ after)) (λ f. Err f ≡ single at m)
+-- what is written and answered for a whole group's node
+abbrev pub Whole : ℕ → ℕ → Node → Node → Result ℕ GroupFault → Type 0
+Whole at after m n r = MatchResult r (λ x. (Ok n ≡ single at m) × (x ≡ after)) (λ f. Err f ≡ single at m)
 
-pub gives : (standard : Standard) (at id k : ℕ) (l : List ℕ) (m : Node) (r : Result (Node × ℕ) GroupFault) →
-    length (group m id) ≡ k → read_at standard at id l ≡ single at m → Whole at (at + k) m r →
-    MatchResult r (λ x. Gives standard at id l x.0 x.1) (λ f. read_at standard at id l ≡ Err f)
-gives standard at id k l m (Ok (n, after)) size reads w = record {
+pub gives : (standard : Standard) (at id k : ℕ) (l : List ℕ) (m n : Node) (r : Result ℕ GroupFault) →
+    length (group m id) ≡ k → read_at standard at id l ≡ single at m → Whole at (at + k) m n r →
+    MatchResult r (λ x. Gives standard at id l n x) (λ f. read_at standard at id l ≡ Err f)
+gives standard at id k l m n (Ok after) size reads w = record {
   read = reads ∙ sym w.0;
   place = w.1 ∙ ap (λ (j : ℕ). at + j) (sym size ∙ ap (λ (x : Node). length (group x id)) (single_is at (leb (ups m.ports) 1) m n w.0));
 }
-gives standard at id k l m (Err f) size reads w = reads ∙ sym w
+gives standard at id k l m n (Err f) size reads w = reads ∙ sym w
 
 pub size3 : (z : ZeroPart) (id : ℕ) → length (group (node3 z) id) ≡ 1
 size3 z id = ap length (group3 (node3 z) id refl)

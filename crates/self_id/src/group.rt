@@ -28,7 +28,7 @@ fn push_fields(ports: &mut PortList, fields: u16, count: u32)
     }
 }
 
-/// The node of a whole group and the place after it, unless the node has two parents.
+/// Writes the node of a whole group, unless it has two parents. The answer is the place after it.
 #[inline]
 fn whole(
     at: usize,
@@ -37,22 +37,23 @@ fn whole(
     ports: PortList,
     kept_a: u8,
     kept_b: u16,
-) -> Result<(SelfId, usize), GroupFault>
+    node: &mut SelfId,
+) -> Result<usize, GroupFault>
     requires { HasForm (node_with attrs ports kept_a kept_b) }
     ensures { MatchResult result
-        (λ x. (Ok x.0 ≡ single at (node_with attrs ports kept_a kept_b)) × (x.1 ≡ after))
+        (λ x. (Ok node.new ≡ single at (node_with attrs ports kept_a kept_b)) × (x ≡ after))
         (λ f. Err f ≡ single at (node_with attrs ports kept_a kept_b)) }
 {
     if count_up(ports.as_slice()) > 1 {
         return Err(GroupFault::TwoParents { at });
     }
-    let node = SelfId {
+    *node = SelfId {
         attrs,
         ports,
         kept_a,
         kept_b,
     };
-    Ok((node, after))
+    Ok(after)
 }
 
 /// The slots that packet zero shows.
@@ -102,8 +103,8 @@ fn carried_of_last(third: &FurtherPart) -> u8
     third.kept * 4 + r + more
 }
 
-/// The node of a standard's group of several packets at a place and the place after it, or the first
-/// fault. Packet zero was read.
+/// Writes the node of a standard's group of several packets at a place. The answer is the place
+/// after it, or the first fault. Packet zero was read.
 #[inline(never)]
 fn take_further(
     standard: Standard,
@@ -111,11 +112,12 @@ fn take_further(
     at: usize,
     wanted: u8,
     zero: &ZeroPart,
-) -> Result<(SelfId, usize), GroupFault>
+    node: &mut SelfId,
+) -> Result<usize, GroupFault>
     requires inside { at < length quads.now }
     requires zero { Ok zero.now ≡ and_then (owned_at at wanted (drop at quads.now)) (zero_from at) }
     requires more { zero.now.more ≡ true }
-    ensures { MatchResult result (λ x. Gives standard at wanted (drop at quads.now) x.0 x.1)
+    ensures { MatchResult result (λ x. Gives standard at wanted (drop at quads.now) node.new x)
         (λ f. read_at standard at wanted (drop at quads.now) ≡ Err f) }
 {
     let mut ports = first_ports(zero);
@@ -123,46 +125,48 @@ fn take_further(
     push_fields(&mut ports, first.fields, 8);
     let kept_a = carried_of_eight(&first);
     if !first.more {
-        return whole(at, at + 2, zero.attrs, ports, kept_a, 0);
+        return whole(at, at + 2, zero.attrs, ports, kept_a, 0, node);
     }
     let second = further_part(further_quad(quads, at + 2, wanted, 1)?);
     match standard {
         Standard::Ieee2000 => {
             push_fields(&mut ports, second.fields >> 6, 5);
             let kept_b = carried_of_five(&second);
-            whole(at, at + 3, zero.attrs, ports, kept_a, kept_b)
+            whole(at, at + 3, zero.attrs, ports, kept_a, kept_b, node)
         }
         Standard::Ieee1995 => {
             push_fields(&mut ports, second.fields, 8);
             let kept_b = u16::from(carried_of_eight(&second)) * 16;
             if !second.more {
-                return whole(at, at + 3, zero.attrs, ports, kept_a, kept_b);
+                return whole(at, at + 3, zero.attrs, ports, kept_a, kept_b, node);
             }
             let third = further_part(further_quad(quads, at + 3, wanted, 2)?);
             push_fields(&mut ports, third.fields, 8);
             let kept_b = kept_b + u16::from(carried_of_last(&third));
-            whole(at, at + 4, zero.attrs, ports, kept_a, kept_b)
+            whole(at, at + 4, zero.attrs, ports, kept_a, kept_b, node)
         }
     }
 }
 
-/// The node of a standard's group at a place and the place after it, or the first fault.
+/// Writes the node of a standard's group at a place. The answer is the place after it, or the first
+/// fault.
 #[inline(always)]
 fn take_group(
     standard: Standard,
     quads: &[u32],
     at: usize,
     wanted: u8,
-) -> Result<(SelfId, usize), GroupFault>
+    node: &mut SelfId,
+) -> Result<usize, GroupFault>
     requires inside { at < length quads.now }
-    ensures { MatchResult result (λ x. Gives standard at wanted (drop at quads.now) x.0 x.1)
+    ensures { MatchResult result (λ x. Gives standard at wanted (drop at quads.now) node.new x)
         (λ f. read_at standard at wanted (drop at quads.now) ≡ Err f) }
 {
     let zero = zero_part(zero_quad(quads, at, wanted)?);
     if zero.more {
-        return take_further(standard, quads, at, wanted, &zero);
+        return take_further(standard, quads, at, wanted, &zero, node);
     }
-    whole(at, at + 1, zero.attrs, first_ports(&zero), 0, 0)
+    whole(at, at + 1, zero.attrs, first_ports(&zero), 0, 0, node)
 }
 
 /// Reads the group of the node with ID `wanted` that stands at a place of a list, by a standard.
@@ -191,7 +195,9 @@ pub fn read_group_of(
     ensures exact { (f : GroupFault) → GroupRefused standard at wanted (drop at quads.now) f
         → IsErrOf result f }
 {
-    take_group(standard, quads, at, wanted)
+    let mut node = SelfId::blank();
+    let after = take_group(standard, quads, at, wanted, &mut node)?;
+    Ok((node, after))
 }
 
 /// `read_group_of` by IEEE 1394a-2000, self-ID packets: up to three packets with 3, 11 or 16 slots.

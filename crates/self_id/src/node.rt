@@ -186,6 +186,29 @@ impl Eq for SelfId {
 }
 
 impl SelfId {
+    /// A node with three absent slots that says nothing else. A node is read into its place.
+    #[inline(always)]
+    pub(crate) fn blank() -> SelfId {
+        let mut ports = PortList::new();
+        ports.push(PortStatus::Absent);
+        ports.push(PortStatus::Absent);
+        ports.push(PortStatus::Absent);
+        SelfId {
+            attrs: Attrs {
+                link: false,
+                gap: 0,
+                speed: 0,
+                delay: 0,
+                contender: false,
+                power: 0,
+                initiated: false,
+            },
+            ports,
+            kept_a: 0,
+            kept_b: 0,
+        }
+    }
+
     /// A node with these attributes and slots that carries no other bits.
     ///
     /// The attributes fit their bits; `ports` has 3, 11, 16, 19 or 27 entries, and one at most is

@@ -37,7 +37,7 @@ returns-then-not-first c =
     let last : c.further_part-first.result.more ≡ false = search rules in
     let two = two_taken c.args.at c.args.wanted c.args.quads.now z a c.requires.zero more (shown _ _ _ c.further_part-first.ensures c.in_ok-further_quad.ensures.ok) in
     let w = rw (c.push_fields.ensures, c.first_ports-ports.ensures, c.carried_of_eight-kept_a.ensures.value) at c.whole.ensures in
-    gives c.args.standard c.args.at c.args.wanted 2 (drop c.args.at c.args.quads.now) (node11 z a) c.whole.result (size11 z a c.args.wanted)
+    gives c.args.standard c.args.at c.args.wanted 2 (drop c.args.at c.args.quads.now) (node11 z a) c.whole.new.node c.whole.result (size11 z a c.args.wanted)
     (read11 c.args.standard c.args.at c.args.wanted c.args.quads.now z a two last) w
 
 -- ---- packet n = 1
@@ -82,7 +82,7 @@ returns-in-Ieee2000 c =
     let three = three_taken c.args.at c.args.wanted c.args.quads.now z a b two more_a (shown _ _ _ c.further_part-second.ensures c.in_ok-further_quad-2.ensures.ok) in
     let w = rw (c.push_fields-in-Ieee2000.ensures, c.push_fields.ensures, c.first_ports-ports.ensures, c.carried_of_eight-kept_a.ensures.value, c.carried_of_five-kept_b.ensures) at c.whole-in-Ieee2000.ensures in
     rw c.in-Ieee2000.is
-    (gives Ieee2000 c.args.at c.args.wanted 3 (drop c.args.at c.args.quads.now) (node16 z a b) c.whole-in-Ieee2000.result (size_three Ieee2000 z a b c.args.wanted)
+    (gives Ieee2000 c.args.at c.args.wanted 3 (drop c.args.at c.args.quads.now) (node16 z a b) c.whole-in-Ieee2000.new.node c.whole-in-Ieee2000.result (size_three Ieee2000 z a b c.args.wanted)
     (read_three Ieee2000 c.args.at c.args.wanted c.args.quads.now z a b three refl) w)
 
 pub carried_of_eight-requires : goal.carried_of_eight-requires
@@ -111,7 +111,7 @@ returns-then-not-second c =
     let last : c.further_part-second.result.more ≡ false = search rules in
     let w = rw (c.push_fields-in-Ieee1995.ensures, c.push_fields.ensures, c.first_ports-ports.ensures, c.carried_of_eight-kept_a.ensures.value, c.from-kept_b.ensures, c.carried_of_eight.ensures.value) at c.whole-then-not-second.ensures in
     rw c.in-Ieee1995.is
-    (gives Ieee1995 c.args.at c.args.wanted 3 (drop c.args.at c.args.quads.now) (node19 z a b) c.whole-then-not-second.result (size_three Ieee1995 z a b c.args.wanted)
+    (gives Ieee1995 c.args.at c.args.wanted 3 (drop c.args.at c.args.quads.now) (node19 z a b) c.whole-then-not-second.new.node c.whole-then-not-second.result (size_three Ieee1995 z a b c.args.wanted)
     (read_three Ieee1995 c.args.at c.args.wanted c.args.quads.now z a b three last) w)
 
 -- ---- packet n = 2
@@ -166,5 +166,5 @@ returns-in_ok-further_quad-in-Ieee1995 c =
     let four = four_taken c.args.at c.args.wanted c.args.quads.now z a b third three more_b (shown _ _ _ c.further_part-third.ensures c.in_ok-further_quad-in-Ieee1995.ensures.ok) in
     let w = rw (c.push_fields-in-Ieee1995-2.ensures, c.push_fields-in-Ieee1995.ensures, c.push_fields.ensures, c.first_ports-ports.ensures, c.carried_of_eight-kept_a.ensures.value, c.from-kept_b.ensures, c.carried_of_eight.ensures.value, c.from.ensures, c.carried_of_last.ensures.value) at c.whole-in-Ieee1995.ensures in
     rw c.in-Ieee1995.is
-    (gives Ieee1995 c.args.at c.args.wanted 4 (drop c.args.at c.args.quads.now) (node27 z a b third) c.whole-in-Ieee1995.result (size27 z a b third c.args.wanted)
+    (gives Ieee1995 c.args.at c.args.wanted 4 (drop c.args.at c.args.quads.now) (node27 z a b third) c.whole-in-Ieee1995.new.node c.whole-in-Ieee1995.result (size27 z a b third c.args.wanted)
     (read27 c.args.at c.args.wanted c.args.quads.now z a b third four) w)

@@ -25,5 +25,5 @@ returns c =
     let z = c.zero_part-zero.result in
     let taken = zero_ok c.args.at c.args.wanted (drop c.args.at c.args.quads.now) z (shown _ _ _ c.zero_part-zero.ensures c.in_ok-zero_quad.ensures.ok) in
     let last : c.zero_part-zero.result.more ≡ false = search rules in
-    gives c.args.standard c.args.at c.args.wanted 1 (drop c.args.at c.args.quads.now) (node3 z) c.whole.result (size3 z c.args.wanted)
+    gives c.args.standard c.args.at c.args.wanted 1 (drop c.args.at c.args.quads.now) (node3 z) c.whole.new.node c.whole.result (size3 z c.args.wanted)
     (read3 c.args.standard c.args.at c.args.wanted c.args.quads.now z taken last) (rw c.first_ports.ensures at c.whole.ensures)
