@@ -18,7 +18,7 @@ use Rattle.script_told.specs.Step.{Does}
 use Rattle.script_told.specs.Script.{Draft, Stage, fresh, declaring, running, StageAnswer, bus_of, ranges_of, first_draft, draft_with, takes_times, with_times, new_node, times_of, coins_of, with_node, Declares, Delays, SaysTimes, onwards, Runs, Follows, script_lines}
 use Rattle.script_told.specs.Run.{ScriptRun, done, stopped, behind, last_run, Goes, Takes, RunsFrom}
 use Rattle.script_told.specs.SomeAnswer.{IsReachedBus, HasAnswer, CommandsHaveAnswers, PlansHaveAnswers, BusesSettle}
-use Rattle.script_told.specs.codings.Fitting.{IsFitting}
+use Rattle.script_told.specs.Fitting.{IsFitting}
 use Rattle.script_told.proofs.Lemmas.{says, IsSoundDraft, IsSound, LeavesSound, sound-bus, no-nodes, drafted, leaves, onwards-sound, attrs_said, node-at-power-on}
 use Rattle.script_bus.specs.SomeRun.{EachScriptHasARun}
 

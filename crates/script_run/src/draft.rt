@@ -7,7 +7,7 @@ ghost use Rattle.phy_machine.specs.Any.{any_node};
 ghost use Rattle.phy_machine.specs.PowerOn.{IsSpec, node_of_spec};
 ghost use Rattle.script_told.specs.Bus.{bus_of_nodes, is_declared};
 ghost use Rattle.script_told.specs.Script.{Declares, SaysTimes, draft_with, takes_times, declaring, with_node, times_of, coins_of};
-ghost use Rattle.script_told.specs.codings.Fitting.{AreFitting, IsFitting};
+ghost use Rattle.script_told.specs.Fitting.{AreFitting, IsFitting};
 ghost use Rattle.script_bus.specs.Running.{Stops};
 ghost use Rattle.script_run.specs.codings.Declaring.{IsDraft, IsLine, IsDeclared, DeclaresNode, draft_now, node_said};
 

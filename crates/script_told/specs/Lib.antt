@@ -1,5 +1,6 @@
 pub mod Bus
 pub mod Step
+pub mod Fitting
 pub mod Script
 pub mod Run
 pub mod OneTold
@@ -9,4 +10,3 @@ pub mod EachReport
 pub mod Reached
 pub mod PrintedTree
 pub mod EachPlan
-pub mod codings

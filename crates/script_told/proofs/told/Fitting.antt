@@ -12,19 +12,14 @@ use Rattle.cable_world.specs.Times.{Suits, CanBeForced}
 use Rattle.script_lines.specs.declared.times.ScriptTimes.{ScriptTimes}
 use Rattle.script_lines.specs.Times.{timed, standard_times}
 use Rattle.script_lines.specs.Range.{IsWithin, IsNodeInRange}
-use Rattle.script_told.specs.codings.Fitting.{AreFitting}
+use Rattle.script_told.specs.Fitting.{AreFitting}
 use Rattle.script_told.specs.Script.{times_of}
 
 -- times in ranges that suit suit a bus
 pub suits : (d : ℕ) (r : TimeRanges) (t : Timing) → AreSuitable d r → AreWithin r t →
     Suits d r.most t
 suits d r t s w = record {
-  counted = record {
-    hold = s.counted.hold;
-    force = s.counted.force;
-    timeout = s.counted.timeout;
-    long = s.counted.long;
-  };
+  counted = s.counted;
   hold_least = omega (arith, s.hold, w.hold_least);
   hold_most = w.hold_most;
   force_most = w.force_most;

@@ -20,7 +20,7 @@ use Rattle.script_told.specs.Bus.{is_declared}
 use Rattle.script_told.specs.Script.{Draft, Stage, fresh, declaring, running, StageAnswer, bus_of, ranges_of, first_draft, draft_with, new_node, times_of, coins_of, with_node, with_times, Declares, Delays, SaysTimes, onwards, Runs, Follows, script_lines}
 use Rattle.script_told.specs.Run.{ScriptRun, done, behind, last_run, Goes, Takes, RunsFrom, told_by}
 use Rattle.script_told.specs.OneTold.{ScriptsHaveOneRun, ScriptsTellOneThing}
-use Rattle.script_told.specs.codings.Fitting.{AreFitting, IsFitting}
+use Rattle.script_told.specs.Fitting.{AreFitting, IsFitting}
 use Rattle.script_told.proofs.told.Cables.{IsCabled}
 use Rattle.script_told.proofs.told.Commands.{does, settles}
 use Rattle.script_told.proofs.told.Fitting.{standard-fits}

@@ -42,7 +42,7 @@ use Rattle.script_told.specs.Step.{LineAnswer, AtNode, Named, AtTree, Settled, A
 use Rattle.script_told.specs.SomeAnswer.{IsOfReached, IsReachedBus}
 use Rattle.script_told.specs.Script.{Draft, Stage, fresh, declaring, running, StageAnswer, bus_of, first_draft, draft_with, new_node, times_of, coins_of, with_node, onwards}
 use Rattle.script_told.specs.Bus.{bus_of_nodes}
-use Rattle.script_told.specs.codings.Fitting.{AreFitting, IsFitting}
+use Rattle.script_told.specs.Fitting.{AreFitting, IsFitting}
 use Rattle.script_told.proofs.Turns.{after-turns}
 use Rattle.script_told.proofs.told.Fitting.{profile-fits, times-within, suits, can-be-forced}
 

@@ -2,7 +2,7 @@ use Rattle.std.proofs.Common.{refl, sym, subst}
 use Rattle.port_state.specs.Machine.{PortNode}
 use Rattle.port_state.specs.Valid.{IsValid}
 use Rattle.phy_machine.specs.Any.{any_valid}
-use Rattle.script_told.specs.codings.Fitting.{IsFitting}
+use Rattle.script_told.specs.Fitting.{IsFitting}
 use Rattle.script_told.proofs.Lemmas.{suits, can-be-forced}
 use Rattle.script_run.proofs.draft.powered_on.Goals as goal
 

@@ -2,7 +2,7 @@ use Rattle.std.proofs.Common.{◌≡◌, ◌+◌, ◌∷◌, [], All, length, le
 use Rattle.std.proofs.lemmas.List.Elements.{All-append, All-cons, All-nil}
 use Rattle.phy_machine.specs.declared.any.AnyMachine.{AnyMachine}
 use Rattle.phy_machine.specs.Any.{any_node}
-use Rattle.script_told.specs.codings.Fitting.{IsFitting}
+use Rattle.script_told.specs.Fitting.{IsFitting}
 use Rattle.script_run.proofs.draft.Draft.with.Goals as goal
 
 pub returns-clause-sound : goal.returns-clause-sound

@@ -1,4 +1,4 @@
--- Ranges of times, and nodes that are declared with times in them. No public contract cites this file.
+-- Ranges of times, and nodes that are declared with times in them.
 use Rattle.std.specs.Prelude.{ℕ}
 use Rattle.port_state.specs.declared.ranges.TimeRanges.{TimeRanges}
 use Rattle.port_state.specs.TimeRanges.{AreWithin, AreSuitable}
