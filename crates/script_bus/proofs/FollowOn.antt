@@ -1,6 +1,7 @@
 -- The commands of a run are done one after the other.
 use Rattle.std.proofs.Common.{◌≡◌, ℕ, suc, ◌+◌, List, [], ◌∷◌, ◌++◌, Option, Some, None, refl, sym, subst, arith}
 use Rattle.std.specs.Prelude.{Result, Ok, Err, All}
+use Rattle.std.proofs.lemmas.List.Elements.{All-cons}
 use Rattle.script_lines.specs.declared.kind.Kind.{Kind}
 use Rattle.script_lines.specs.declared.command.Command.{Command}
 use Rattle.script_told.specs.Step.{LineAnswer}
@@ -70,3 +71,10 @@ pub behind-split : (P : Entry → Type 0) (before rest : List Entry) (one : Entr
 behind-split P [] rest one all = λ i d inside. all (suc i) d (omega (arith, inside))
 behind-split P (entry ∷ before) rest one all =
     behind-split P before rest one (λ i d inside. all (suc i) d (omega (arith, inside)))
+
+-- and of those in front
+pub front-split : (P : Entry → Type 0) (front rest : List Entry) → All P (front ++ rest) →
+    All P front
+front-split P [] rest all = λ i d inside. absurd (omega (arith, inside))
+front-split P (entry ∷ front) rest all =
+    All-cons P entry front (all 0 entry (omega arith)) (front-split P front rest (λ i d inside. all (suc i) d (omega (arith, inside))))

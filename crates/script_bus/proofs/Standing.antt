@@ -36,14 +36,14 @@ use Rattle.script_bus.specs.codings.Standing.{StandsSince, StandsAs}
 
 -- ---- since a report
 
-none-both : (events later : List Event) → HasNoAct events → HasNoAct later →
+pub none-both : (events later : List Event) → HasNoAct events → HasNoAct later →
     HasNoAct (events ++ later)
 none-both [] later h k = k
 none-both (acts a ∷ events) later h k = absurd h
 none-both (holds end n ∷ events) later h k = none-both events later h k
 none-both (turns ∷ events) later h k = none-both events later h k
 
-runs-both :
+pub runs-both :
     (events later : List Event) (w u v : CableWorld) → Runs events w u → Runs later u v →
     Runs (events ++ later) w v
 runs-both [] later w u v same h = subst (λ (z : CableWorld). Runs later z v) same h

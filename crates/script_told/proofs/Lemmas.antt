@@ -18,9 +18,11 @@ pub use Rattle.script_told.proofs.told.EachReport.{Says, is-none, settled-so, se
 pub use Rattle.script_told.proofs.told.Lines.{cabled, one-run, one-told, says}
 -- The parts of answers.
 pub use Rattle.script_told.proofs.told.Parts.{printed-in, stage-in, text-in}
+-- The events of each command.
+pub use Rattle.script_told.proofs.told.EntryRuns.{scripts-are-runs, runs-on}
 -- A tree of a report stands in its text.
 pub use Rattle.script_told.proofs.told.PrintedTree.{prints-tree}
 -- A plan that has an answer was carried out.
 pub use Rattle.script_told.proofs.told.PlanCarried.{plan-carried}
 -- A command leaves a bus whose world comes of power-on, and so does each line of a script.
-pub use Rattle.script_told.proofs.told.Reached.{IsSound, IsSoundDraft, LeavesSound, attrs_said, do-act, do-settle, drafted, leaves, no-nodes, node-at-power-on, onwards-sound, sound-bus}
+pub use Rattle.script_told.proofs.told.Reached.{config-act, IsSound, IsSoundDraft, LeavesSound, attrs_said, do-act, do-settle, drafted, leaves, no-nodes, node-at-power-on, onwards-sound, sound-bus}

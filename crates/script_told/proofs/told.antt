@@ -3,7 +3,8 @@
 -- `Cables`: acts and turns leave cables that are a cabling, over which a world has one report.
 -- `Commands`: a command comes to one answer. `Fitting`: times that suit a bus. `Reached`: it leaves a world that comes of power-on.
 -- `Lines`: what follows at a stage, and that lines have one run. `EachDone`: what holds of each command
--- of a run. `EachReport`: what reports say. `ReachedRuns`: the worlds of a run. `PrintedTree`: a
+-- of a run. `EachReport`: what reports say. `ReachedRuns`: the worlds of a run. `Answers`:
+-- a fact of each answer. `EntryRuns`: the events of each command. `PrintedTree`: a
 -- tree in what was printed. `PlanCarried`: what stands behind a plan.
 pub mod Parts
 pub mod Cables
@@ -14,5 +15,7 @@ pub mod Lines
 pub mod EachDone
 pub mod EachReport
 pub mod ReachedRuns
+pub mod Answers
+pub mod EntryRuns
 pub mod PrintedTree
 pub mod PlanCarried

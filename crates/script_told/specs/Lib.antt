@@ -8,5 +8,6 @@ pub mod SomeManager
 pub mod SomeAnswer
 pub mod EachReport
 pub mod Reached
+pub mod ScriptEvents
 pub mod PrintedTree
 pub mod EachPlan

@@ -1,6 +1,7 @@
 //! Laws of what a script tells.
 ghost use Rattle.script_told.specs.OneTold.{ScriptsHaveOneRun, ScriptsTellOneThing};
 ghost use Rattle.script_told.specs.EachReport.{ReportsAreSettled};
+ghost use Rattle.script_told.specs.ScriptEvents.{ScriptsAreRuns};
 ghost use Rattle.script_told.specs.Reached.{ScriptWorldsAreReached, ScriptsConverge};
 ghost use Rattle.script_told.specs.SomeAnswer.{CommandsHaveAnswers, BusesSettle};
 ghost use Rattle.script_told.specs.SomeManager.{ReportedTreesAreManaged};
@@ -16,6 +17,16 @@ use topology_stack::one_tree;
 pub fn scripts_tell_one_thing()
     ensures run { ScriptsHaveOneRun }
     ensures told { ScriptsTellOneThing }
+{
+    one_tree();
+    acts_keep();
+}
+
+/// A law: each command of a script that declares nothing does events to the world of its bus. Lines
+/// that take time or ask have no act among them, and a `pull` alone pulls a cable. So between any two
+/// such lines of a script there is a run, to which the laws of worlds apply.
+pub fn scripts_are_runs()
+    ensures { ScriptsAreRuns }
 {
     one_tree();
     acts_keep();

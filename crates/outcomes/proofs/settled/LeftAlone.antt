@@ -16,11 +16,11 @@ every-bus every w v r h node set there comp =
 
 -- ---- turns alone
 
-abbrev only_turns : ℕ → List Event
+abbrev pub only_turns : ℕ → List Event
 only_turns zero = []
 only_turns (suc k) = turns ∷ only_turns k
 
-no-acts : (k : ℕ) → HasNoAct (only_turns k)
+pub no-acts : (k : ℕ) → HasNoAct (only_turns k)
 no-acts zero = tt
 no-acts (suc k) = no-acts k
 
@@ -28,7 +28,7 @@ counted : (k : ℕ) → turn_count (only_turns k) ≡ k
 counted zero = refl
 counted (suc k) = ap suc (counted k)
 
-turns-run : (k : ℕ) (w : CableWorld) → Runs (only_turns k) w (turns_after k w)
+pub turns-run : (k : ℕ) (w : CableWorld) → Runs (only_turns k) w (turns_after k w)
 unfolding turns_after
 turns-run zero w = refl
 turns-run (suc k) w = (turn w, refl, turns-run k (turn w))

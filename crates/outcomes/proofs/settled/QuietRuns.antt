@@ -1,5 +1,5 @@
 -- A run of holds and turns is so many quiet turns, with its holds between them.
-use Rattle.std.proofs.Common.{◌≡◌, ℕ, zero, suc, ◌^◌, ◌<◌, ◌≤◌, List, [], ◌∷◌, length, sym, ◌∙◌, ap, subst}
+use Rattle.std.proofs.Common.{◌≡◌, ℕ, zero, suc, ◌+◌, ◌^◌, ◌<◌, ◌≤◌, List, [], ◌∷◌, length, sym, ◌∙◌, ap, subst, arith}
 use Rattle.convergence.specs.Turns.{turns_to_settle}
 use Rattle.outcomes.proofs.Common.{IsComponent, IsCore, CableWorld, IsSettled, turn, Event, acts, holds, turns, Runs, ComesOfPowerOn, PlacedHold, HoldSchedule, with_holds, quiet_after, no-quiet, HasNoAct}
 use Rattle.cable_world.specs.Quiet.{no_holds, with_hold}
@@ -40,17 +40,29 @@ after-hold : (h : PlacedHold) (w v : CableWorld) (k : ℕ) → ComesBy (with_hol
     ComesBy w v k
 after-hold h w v k c = record { schedule = held_first h c.schedule; is = c.is ∙ sym (quiet-held h c.schedule k w) }
 
+-- holds and turns, and then quiet turns more
+pub comes-then :
+    (events : List Event) (w u v : CableWorld) (k : ℕ) → HasNoAct events → Runs events w u →
+    ComesBy u v k → ComesBy w v (turn_count events + k)
+comes-then [] w u v k none run c =
+    let z : 0 + k ≡ k = omega arith in
+    subst (ComesBy w v) (sym z) (subst (λ (x : CableWorld). ComesBy x v k) run c)
+comes-then (acts a ∷ events) w u v k none run c = absurd none
+comes-then (turns ∷ events) w u v k none run c =
+    let z : suc (turn_count events) + k ≡ suc (turn_count events + k) = omega arith in
+    subst (ComesBy w v) (sym z)
+    (after-turn w v (turn_count events + k) (comes-then events (turn w) u v k none (subst (λ (x : CableWorld). Runs events x u) run.1 run.2) c))
+comes-then (holds end n ∷ events) w u v k none run c =
+    let h : PlacedHold = record { end = end; turns = n } in
+    let same : run.0 ≡ with_hold h w = run.1.1 ∙ sym ((holds-are-calls h [] w).2 run.1.0) in
+    after-hold h w v (turn_count events + k) (comes-then events (with_hold h w) u v k none (subst (λ (x : CableWorld). Runs events x u) same run.2) c)
+
 pub comes-by :
     (events : List Event) (w v : CableWorld) → HasNoAct events → Runs events w v →
     ComesBy w v (turn_count events)
-comes-by [] w v none run = record { schedule = no_holds; is = run ∙ sym (no-quiet no_holds w) }
-comes-by (acts a ∷ events) w v none run = absurd none
-comes-by (turns ∷ events) w v none run =
-    after-turn w v (turn_count events) (comes-by events (turn w) v none (subst (λ (u : CableWorld). Runs events u v) run.1 run.2))
-comes-by (holds end n ∷ events) w v none run =
-    let h : PlacedHold = record { end = end; turns = n } in
-    let same : run.0 ≡ with_hold h w = run.1.1 ∙ sym ((holds-are-calls h [] w).2 run.1.0) in
-    after-hold h w v (turn_count events) (comes-by events (with_hold h w) v none (subst (λ (u : CableWorld). Runs events u v) same run.2))
+comes-by events w v none run =
+    let z : turn_count events + 0 ≡ turn_count events = omega arith in
+    subst (ComesBy w v) z (comes-then events w v v 0 none run (record { schedule = no_holds; is = sym (no-quiet no_holds v) }))
 
 -- so every component settles in it
 pub run-settles :

@@ -36,6 +36,10 @@ use Rattle.script_lines.specs.declared.command.Command.{Command}
 use Rattle.script_lines.specs.declared.command.Command.TheVariants.{Node, Plug, Pull, Reset, Turn, Hold, Settle, Config, CsrRead, CsrWrite, CsrLock, Look, Allocate, Release, Manager, Plan, Maps, Delay, Times}
 use Rattle.script_lines.specs.Range.{IsInRange, IsNodeInRange, IsConfigInRange}
 use Rattle.script_lines.specs.Refusal.{kind_of}
+use Rattle.self_id.specs.declared.standard.Standard.TheVariants.{Ieee2000}
+use Rattle.topology_stack.specs.Tree.{Tree, IsBusTreeOf}
+use Rattle.root_plan.specs.declared.choice.RootPlan.{RootPlan}
+use Rattle.script_text.specs.Plan.{IsPlan}
 use Rattle.script_text.specs.CommandText.{csr_text, grant_text, bid_text}
 use Rattle.script_told.specs.Bus.{Bus, Notes, Reported, node_named, tree_with, values_at, after_access, put_look}
 use Rattle.script_told.specs.Step.{LineAnswer, AtNode, Named, AtTree, Settled, AtManager, Managed, id_of, Acts, Holds, Within, Turns, Reports, Settles, Accesses, Grants, Looks, seen_by, Plans, GivesMaps, Does, end_of, config_of}
@@ -203,19 +207,23 @@ do-maps : (bus : Bus) (tree : Reported) → IsReachedBus bus → Leaves (GivesMa
 do-maps bus tree h (Ok (after, text)) x = subst IsReachedBus (sym x.after_is) (record { reached = h.reached; named = h.named; reported = h.reported })
 do-maps bus tree h (Err kind) x = absurd x
 
+-- a plan's packet is one
+pub plan-act :
+    (t : Tree) → IsBusTreeOf Ieee2000 t → (plan : RootPlan) → IsPlan t plan → (node : NodeNumber) →
+    IsAct (config_of node (Some plan.root_id) (Some plan.gap))
+plan-act t bus plan planned node = record {
+  bits = record {
+    root_bits = omega (arith, candidate_within t plan.root_id planned.candidate, bus.bus.small);
+    gap_bits = λ g e. omega (arith, some-same plan.gap g e, planned.gap, gap-fits plan.hops);
+  };
+  says = refl;
+}
+
 do-plan : ActKeepsNodes → (bus : Bus) (name : List ℕ) (node : NodeNumber) (tree : Reported) →
     IsReachedBus bus → Leaves (Plans bus name node tree)
 do-plan keeps bus name node tree h (Ok (after, text)) x =
-    let few = x.is.bus.bus.small in
     let a : Act = config_of node (Some x.plan.root_id) (Some x.plan.gap) in
-    let is : IsAct a = record {
-      bits = record {
-        root_bits = omega (arith, candidate_within x.shown x.plan.root_id x.planned.candidate, few);
-        gap_bits = λ g e. omega (arith, some-same x.plan.gap g e, x.planned.gap, gap-fits x.plan.hops);
-      };
-      says = refl;
-    } in
-    do-report x.sent (do-act keeps bus a h is (Ok (x.sent, [])) x.sends) (Ok (after, x.report)) x.reports
+    do-report x.sent (do-act keeps bus a h (plan-act x.shown x.is.bus x.plan x.planned node) (Ok (x.sent, [])) x.sends) (Ok (after, x.report)) x.reports
 do-plan keeps bus name node tree h (Err kind) x = absurd x
 
 -- ---- the commands
@@ -227,7 +235,7 @@ six (Some n) most h = h
 six-gap : (o : Option ℕ) (g : ℕ) → o ≡ Some g → IfSome o (λ n. n ≤ 63) → g ≤ 63
 six-gap o g e h = subst (λ (p : Option ℕ). IfSome p (λ n. n ≤ 63)) e h
 
-config-act : (node : NodeNumber) (root_id gap : Option ℕ) → IsConfigInRange root_id gap →
+pub config-act : (node : NodeNumber) (root_id gap : Option ℕ) → IsConfigInRange root_id gap →
     IsAct (config_of node root_id gap)
 config-act node root_id gap h = record {
   bits = record {

@@ -1,0 +1,63 @@
+-- From each command of a script to the next there is a run of events.
+use Rattle.std.specs.Prelude.{◌≡◌, ℕ, List, ◌∷◌, ◌++◌, All, Any, Some}
+use Rattle.cabling.specs.declared.cable.End.{End}
+use Rattle.cable_world.specs.declared.act.Act.TheVariants as act
+use Rattle.cable_world.specs.World.{CableWorld}
+use Rattle.cable_world.specs.Run.{Event, acts, Runs}
+use Rattle.outcomes.specs.Settled.{HasNoAct}
+use Rattle.script_lines.specs.declared.command.Command.{Command}
+use Rattle.script_lines.specs.declared.command.Command.TheVariants.{Node, Plug, Pull, Reset, Turn, Hold, Settle, Config, Plan, Delay}
+use Rattle.script_told.specs.Bus.{Bus, node_named}
+use Rattle.script_told.specs.Step.{port_of}
+use Rattle.script_told.specs.Script.{running, bus_of}
+use Rattle.script_told.specs.Run.{Entry, ScriptRun, IsRun}
+
+-- a command that declares what there is
+abbrev pub Declares : Command → Type 0
+Declares (Node name ports speed link contender force power gap hold short long word len seed packed) =
+    Unit {0}
+Declares (Delay delay) = Unit {0}
+Declares command = ⊥
+
+-- a command that takes time or asks, and neither acts nor reports
+abbrev pub LeavesAlone : Command → Type 0
+LeavesAlone (Node name ports speed link contender force power gap hold short long word len seed packed) =
+    ⊥
+LeavesAlone (Delay delay) = ⊥
+LeavesAlone (Plug a a_port b b_port) = ⊥
+LeavesAlone (Pull name port) = ⊥
+LeavesAlone (Reset name) = ⊥
+LeavesAlone (Config name root_id gap) = ⊥
+LeavesAlone Settle = ⊥
+LeavesAlone (Plan name) = ⊥
+LeavesAlone command = Unit {0}
+
+-- the command pulls the cable at this end
+abbrev pub IsPullOf : Bus → Command → End → Type 0
+IsPullOf bus (Pull name port) end =
+    (node_named bus.notes.names name ≡ Some end.node) × (end.port ≡ port_of port)
+IsPullOf bus command end = ⊥
+
+-- What a command does to the world of its bus, event by event. It has no act where the command
+-- leaves the bus alone, and pulls no cable but that of a `pull`.
+pub record DoesEvents (bus : Bus) (command : Command) (after : Bus) : Type 0 where
+  pub events : List Event
+  pub run : Runs events bus.world after.world
+  pub alone : LeavesAlone command → HasNoAct events
+  pub pulls :
+      (end : End) → Any (λ e. e ≡ acts (act.Pull end)) events → IsPullOf bus command end
+  pub names : after.notes.names ≡ bus.notes.names
+
+-- the bus that the command left comes of that before it by events
+pub record RunsOn (entry : Entry) : Type 0 where
+  pub after : Bus
+  pub is : entry.after ≡ running after
+  pub does : DoesEvents (bus_of entry.before) entry.command after
+
+-- ---- a law
+
+-- so it is of each command of a script that declares nothing
+abbrev pub ScriptsAreRuns : Type 0
+ScriptsAreRuns =
+    (bytes : List ℕ) (run : ScriptRun) → IsRun bytes run →
+    All (λ (e : Entry). (Declares e.command → ⊥) → RunsOn e) run.entries
