@@ -9,6 +9,9 @@ use Rattle.script_lines.specs.declared.kind.ScriptFault.{ScriptFault}
 use Rattle.script_told.specs.Bus.{Bus}
 use Rattle.script_told.specs.Run.{printed, unless_stopped, IsTold}
 use Rattle.script_told.specs.EachReport.{ReportsAreSettled}
+use Rattle.script_told.specs.ScriptEvents.{ScriptsAreRuns}
+use Rattle.script_told.specs.EachPlan.{EachPlanComesOut}
+use Rattle.script_bus.specs.EachConfig.{EachConfigComesOut}
 use Rattle.bus_cli.specs.declared.fault.CaptureFault.{CaptureFault}
 use Rattle.bus_cli.specs.declared.fault.CaptureStop.{CaptureStop}
 use Rattle.bus_cli.specs.declared.answer.Answer.{Answer}
@@ -55,9 +58,10 @@ stopped form reading stop (Err e) is h = tt
 -- ---- scripts
 
 -- a text that a script tells is what its run prints
-pub told_prints : ReportsAreSettled → (bytes text : List ℕ) → IsTold bytes (Ok text) →
-    PrintsRun bytes text
-told_prints settled bytes text x = go x.0.end refl
+pub told_prints :
+    ReportsAreSettled → ScriptsAreRuns → EachPlanComesOut → EachConfigComesOut → (bytes text : List ℕ) →
+    IsTold bytes (Ok text) → PrintsRun bytes text
+told_prints settled runs plans configs bytes text x = go x.0.end refl
   where
     go : (end : Result Bus ScriptFault) → x.0.end ≡ end → PrintsRun bytes text
     go (Ok bus) e = record {
@@ -67,6 +71,9 @@ told_prints settled bytes text x = go x.0.end refl
       ends = e;
       text_is = same text (printed x.0.entries) (x.2 ∙ ap (unless_stopped (printed x.0.entries)) e);
       settled = settled bytes x.0 x.1;
+      runs = runs bytes x.0 x.1;
+      plans = plans bytes x.0 x.1;
+      configs = configs bytes x.0 x.1;
     }
       where
         same : (a b : List ℕ) → ◌≡◌ {A = Result (List ℕ) ScriptFault} (Ok a) (Ok b) → a ≡ b

@@ -4,5 +4,6 @@ pub mod OneReading
 pub mod Forms
 pub mod OneAnswer
 pub mod Answering
+pub mod Cables
 pub mod Ends
 pub mod Lemmas

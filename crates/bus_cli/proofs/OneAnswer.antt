@@ -23,7 +23,6 @@ use Rattle.script_told.specs.Bus.{Bus}
 use Rattle.script_told.specs.Script.{Told}
 use Rattle.script_told.specs.Run.{printed, unless_stopped, IsTold}
 use Rattle.script_told.specs.OneTold.{ScriptsTellOneThing}
-use Rattle.script_told.specs.EachReport.{ReportsAreSettled}
 use Rattle.script_bus.specs.SomeRun.{HasRun, EachScriptHasARun}
 use Rattle.script_advice.specs.Advice.{IsAdvice, EndsWithoutLoop}
 use Rattle.script_advice.specs.OneAdvice.{ScriptsHaveOneAdvice, AdvicesEndWithoutLoop}
@@ -36,7 +35,7 @@ use Rattle.bus_cli.specs.Form.{Asks, IsForm}
 use Rattle.bus_cli.specs.Line.{fault_line, rom_line, script_line}
 use Rattle.bus_cli.specs.OneReading.{EachCaptureHasATreeOrAFault, NoCaptureHasTwoTrees, NoCaptureHasATreeAndAFault, NoCaptureHasTwoFaults}
 use Rattle.bus_cli.specs.Answer.{ValidOrRefused, IsCaptureLine, AnswersRead, AnswersMaps, TellsRom, RomRefused, TextOfRom, AnswersRom, PrintsRun, AnswersRun, AnswersAdvice, AnswersMake, AnswersForm, Answers}
-use Rattle.bus_cli.specs.OneAnswer.{EachInputHasAnAnswer, NoInputHasTwoAnswers}
+use Rattle.bus_cli.specs.OneAnswer.{EachInputHasAnAnswer, NoInputHasTwoAnswers, ToldTextsArePrinted}
 use Rattle.bus_cli.proofs.Forms.{one_form, form_or_none}
 
 -- a capture has one reading, and so has a ROM, and no script tells two things
@@ -179,7 +178,7 @@ pub record HasSomeReading : Type 0 where
   pub some_blocks : EachRomHasGoodBlocksOrAFault
   pub rom_text : RomsHaveTexts
   pub run : EachScriptHasARun
-  pub settled : ReportsAreSettled
+  pub printed_so : ToldTextsArePrinted
   pub made : MadeScriptsRunThrough
   pub advice : EachScriptHasAnAdvice
   pub no_loop : AdvicesEndWithoutLoop
@@ -222,17 +221,7 @@ module _ (have : HasSomeReading) where
       go (Ok bus) e = (
         0,
         printed r.run.entries,
-        inl (
-          refl,
-          record {
-            run = r.run;
-            is = r.is;
-            bus = bus;
-            ends = e;
-            text_is = refl;
-            settled = have.settled bytes r.run r.is;
-          },
-        ),
+        inl (refl, have.printed_so bytes (printed r.run.entries) (r.run, r.is, sym (ap (unless_stopped (printed r.run.entries)) e))),
       )
       go (Err f) e = (1, script_line f, inr (refl, (f, (r.run, r.is, sym (ap (unless_stopped (printed r.run.entries)) e)), refl)))
 
@@ -258,14 +247,7 @@ module _ (have : HasSomeReading) where
           refl,
           (
             whole,
-            record {
-              run = r.run;
-              is = r.is;
-              bus = end.0;
-              ends = end.1;
-              text_is = refl;
-              settled = have.settled script r.run r.is;
-            },
+            have.printed_so script whole (r.run, r.is, sym (ap (unless_stopped whole) end.1)),
             refl,
           ),
         ),

@@ -26,6 +26,9 @@ use Rattle.script_made.specs.Made.{made_script}
 use Rattle.script_told.specs.Bus.{Bus}
 use Rattle.script_told.specs.Run.{ScriptRun, IsRun, printed, IsTold}
 use Rattle.script_told.specs.EachReport.{EachReportIsSettled}
+use Rattle.script_told.specs.ScriptEvents.{EachRunsOn}
+use Rattle.script_told.specs.EachPlan.{PlansComeOut}
+use Rattle.script_bus.specs.EachConfig.{ConfigsComeOut}
 use Rattle.script_advice.specs.Advice.{IsAdvice, EndsWithoutLoop}
 
 -- A valid input has status 0 and such a text, and one that is refused has 1 and the line of its fault.
@@ -79,7 +82,9 @@ AnswersRom bytes = ValidOrRefused
 -- ---- scripts
 
 -- The run of the script comes to its end, and the text is what its commands print, one after the
--- other. Each report in it is that of a world that comes of power-on and has settled.
+-- other. Each report in it is that of a world that comes of power-on and has settled, and from line to
+-- line the bus runs by events. Each plan comes out, and each configuration packet that a settling
+-- follows next: the tree from its root stands in the text.
 pub record PrintsRun (bytes text : List ℕ) : Type 0 where
   pub run : ScriptRun
   pub is : IsRun bytes run
@@ -87,6 +92,9 @@ pub record PrintsRun (bytes text : List ℕ) : Type 0 where
   pub ends : run.end ≡ Ok bus
   pub text_is : text ≡ printed run.entries
   pub settled : EachReportIsSettled run
+  pub runs : EachRunsOn run
+  pub plans : PlansComeOut run
+  pub configs : ConfigsComeOut run
 
 -- `run`
 abbrev pub AnswersRun : List ℕ → ℕ → List ℕ → Type 0

@@ -1,5 +1,6 @@
 pub mod Answer
 pub mod Capture
+pub mod Cabled
 pub mod Form
 pub mod Line
 pub mod OneAnswer

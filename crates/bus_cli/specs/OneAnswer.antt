@@ -1,7 +1,8 @@
 -- All words and bytes have one status and one text.
-use Rattle.std.specs.Prelude.{◌≡◌, ℕ, ◌<◌, All, List, String}
+use Rattle.std.specs.Prelude.{◌≡◌, ℕ, ◌<◌, All, List, String, Ok}
 use Rattle.std.specs.Global.{Global}
-use Rattle.bus_cli.specs.Answer.{Answers}
+use Rattle.script_told.specs.Run.{IsTold}
+use Rattle.bus_cli.specs.Answer.{PrintsRun, Answers}
 
 abbrev pub EachInputHasAnAnswer : Type 0
 EachInputHasAnAnswer =
@@ -12,3 +13,8 @@ abbrev pub NoInputHasTwoAnswers : Type 0
 NoInputHasTwoAnswers =
     (words : List (String Global)) (bytes : List ℕ) (s r : ℕ) (a b : List ℕ) →
     Answers words bytes s a → Answers words bytes r b → (s ≡ r) × (a ≡ b)
+
+-- the text that a script tells is what its run prints
+abbrev pub ToldTextsArePrinted : Type 0
+ToldTextsArePrinted =
+    (bytes text : List ℕ) → IsTold bytes (Ok text) → PrintsRun bytes text

@@ -1,14 +1,17 @@
 //! Laws of captures and of answers.
 ghost use Rattle.bus_cli.specs.OneAnswer.{EachInputHasAnAnswer, NoInputHasTwoAnswers};
+ghost use Rattle.bus_cli.specs.OneAnswer.{ToldTextsArePrinted};
 ghost use Rattle.bus_cli.specs.OneReading.{EachCaptureHasATreeOrAFault, NoCaptureHasTwoTrees, NoCaptureHasATreeAndAFault, NoCaptureHasTwoFaults};
 
 use config_rom::{one_list, one_rom, roms_have_texts};
 use quad_lanes::{capture_is_read_back, good_pairs_are_a_capture};
 use script_advice::{advices_leave_no_loop, scripts_have_one_advice};
-use script_bus::{each_script_has_a_run, each_script_has_an_advice};
+use script_bus::{
+    each_config_comes_out, each_plan_comes_out, each_script_has_a_run, each_script_has_an_advice,
+};
 use script_made::made_scripts_have_no_fault;
 use script_text::maps_have_texts;
-use script_told::{reports_are_settled, scripts_tell_one_thing};
+use script_told::{reports_are_settled, scripts_are_runs, scripts_tell_one_thing};
 use topology_stack::{one_answer as one_list_answer, one_tree};
 
 /// A law: by either standard each capture spells a tree or has a fault, none spells two trees, none
@@ -25,6 +28,16 @@ pub fn one_reading()
     one_list_answer();
 }
 
+/// A law: the text that a script tells is what its run prints, report by report and line by line.
+pub fn told_texts_are_printed()
+    ensures { ToldTextsArePrinted }
+{
+    reports_are_settled();
+    scripts_are_runs();
+    each_plan_comes_out();
+    each_config_comes_out();
+}
+
 /// A law: all words and bytes have one answer, one status and one text.
 pub fn one_answer()
     ensures some { EachInputHasAnAnswer }
@@ -37,7 +50,7 @@ pub fn one_answer()
     roms_have_texts();
     scripts_tell_one_thing();
     each_script_has_a_run();
-    reports_are_settled();
+    told_texts_are_printed();
     made_scripts_have_no_fault();
     scripts_have_one_advice();
     each_script_has_an_advice();

@@ -6,13 +6,13 @@ ghost use Rattle.bus_cli.specs.Answer.{PrintsRun, AnswersRun, AnswersAdvice, Ans
 ghost use Rattle.bus_cli.specs.codings.Reading.{status_with, text_with};
 
 use crate::answer::Answer;
+use crate::laws::told_texts_are_printed;
 use crate::line::script_line;
 use quad_lanes::OutOfMemory;
 use script_lines::ScriptStop;
 use script_made::{made_scripts_have_no_fault, make_script};
 use script_run::{advise_script, run_script};
 use script_text::summary;
-use script_told::reports_are_settled;
 use std::alloc::Global;
 
 /// The answer to the bytes of a script.
@@ -21,7 +21,7 @@ pub(crate) fn answer_to_script(alloc: Global, bytes: &[u8]) -> Result<Answer, Ou
     ensures { IfOk result (λ answer.
         AnswersRun bytes.now (status_with answer) (text_with answer)) }
 {
-    reports_are_settled();
+    told_texts_are_printed();
     match run_script(alloc, bytes) {
         Ok(text) => Ok(Answer::Valid(text)),
         Err(ScriptStop::Fault(fault)) => Ok(Answer::Refused(script_line(fault))),
@@ -50,7 +50,7 @@ fn made_summary(alloc: Global, nodes: u8, seed: u32) -> Result<Vec<u8>, OutOfMem
         × PrintsRun (made_script nodes seed) whole × (text.items ≡ summary whole)) }
 {
     made_scripts_have_no_fault();
-    reports_are_settled();
+    told_texts_are_printed();
     let script = make_script(alloc, nodes, seed)?;
     match run_script(alloc, &script) {
         Ok(text) => summary(alloc, &text),

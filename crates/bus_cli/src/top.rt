@@ -11,19 +11,15 @@ ghost use Rattle.bus_cli.specs.Capture.{Spells};
 ghost use Rattle.bus_cli.specs.Answer.{AnswersRead, AnswersMaps, AnswersRom, AnswersRun, AnswersAdvice};
 ghost use Rattle.bus_cli.specs.Answer.{AnswersMake, Answers};
 ghost use Rattle.bus_cli.specs.Streams.{IsWritten, KeepsStreams};
-ghost use Rattle.world_laws.specs.SlotCabling.{AcceptedListsAreEmitted};
-ghost use Rattle.world_laws.specs.SeenTrees.{SeenTreesAreBusTrees, SeenListsHaveOneTree};
-ghost use Rattle.world_laws.specs.Arrival.{SignalsArrive, SignalsKeepTheirOrder};
+ghost use Rattle.bus_cli.specs.Cabled.{AnswersCabling, AreEmitted};
 
 use crate::answer::read_answer;
 use crate::form::Form;
-use crate::laws::one_answer;
+use crate::laws::{one_answer, one_reading};
 use crate::status::{NO_FORM, NO_MEMORY, READ_FAULT, TOO_LONG, WRITE_FAULT};
 use io_edges::{ReadStop, Sink, Source, write_whole};
-use script_bus::{each_config_comes_out, each_plan_comes_out, maps_show_one_tree};
-use script_told::script_worlds_are_reached;
 use std::alloc::Global;
-use world_laws::{bus_trees_are_cabled, seen_trees_are_bus_trees, signals_arrive};
+use world_laws::bus_trees_are_cabled;
 
 /// Answers the words, as `bus_main` has it.
 fn answer_words<S: Source, K: Sink>(
@@ -125,11 +121,13 @@ pub fn bus_main<S: Source, K: Sink>(
     ensures read95 { Asks words.now (Form.Capture CaptureForm.Read95) →
         IsWritten (AnswersRead Ieee1995) result
         (S.left source.old) (K.written sink.old) (K.written sink.new) }
-    // The lists of the trees that captures spell are those that some cabling emits; and whatever
-    // tree a cabling shows is such a tree, the only one with its list.
-    ensures emitted { AcceptedListsAreEmitted }
-    ensures shown { SeenTreesAreBusTrees }
-    ensures one_tree { SeenListsHaveOneTree }
+    // With `read`, a capture that is accepted is that of the nodes of some cabling, the text is that of
+    // the tree that the cabling shows, and no cabling with this capture shows another. No capture of
+    // a cabling's nodes is refused.
+    ensures cabling { Asks words.now (Form.Capture CaptureForm.Read) → IsWritten AnswersCabling
+        result (S.left source.old) (K.written sink.old) (K.written sink.new) }
+    ensures accepts { Asks words.now (Form.Capture CaptureForm.Read) →
+        IfSome (S.left source.old) (λ bytes. AreEmitted bytes → (result ≡ 0) ⊎ (3 ≤ result)) }
     // With `maps` it is the maps of that tree, and with `rom` what the ROM says.
     ensures maps { Asks words.now (Form.Capture CaptureForm.Maps) → IsWritten AnswersMaps
         result (S.left source.old) (K.written sink.old) (K.written sink.new) }
@@ -138,13 +136,11 @@ pub fn bus_main<S: Source, K: Sink>(
 
     // With `run` it is what the commands of the script's run print, and each report among that is
     // the report of a world that comes of power-on: every component is a loop in configuration
-    // timeout, one cable whose ends drew 32 equal coins, or one list at every node.
+    // timeout, one cable whose ends drew 32 equal coins, or one list at every node. Each plan comes
+    // out, and each configuration packet that a settling follows next. From line to line the world
+    // goes on by events.
     ensures run { Asks words.now Form.Run → IsWritten AnswersRun
         result (S.left source.old) (K.written sink.old) (K.written sink.new) }
-    // In such a world each signal is heard at the far end of its cable by the time that it has been
-    // under way for d turns, in order and once, unless the cable is pulled first.
-    ensures arrive { SignalsArrive }
-    ensures order { SignalsKeepTheirOrder }
     // With `advice` it is the script's advice and such a report, in which no component is a loop.
     ensures advice { Asks words.now Form.Advice → IsWritten AnswersAdvice
         result (S.left source.old) (K.written sink.old) (K.written sink.new) }
@@ -162,12 +158,7 @@ pub fn bus_main<S: Source, K: Sink>(
         × IfSome (S.left source.old) (λ bytes. (t : Tree) × Spells Ieee2000 bytes t) }
 {
     one_answer();
-    script_worlds_are_reached();
-    each_plan_comes_out();
-    each_config_comes_out();
-    maps_show_one_tree();
-    signals_arrive();
+    one_reading();
     bus_trees_are_cabled();
-    seen_trees_are_bus_trees();
     answer_words(alloc, words, source, sink)
 }

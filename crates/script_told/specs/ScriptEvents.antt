@@ -54,10 +54,11 @@ pub record RunsOn (entry : Entry) : Type 0 where
   pub is : entry.after ≡ running after
   pub does : DoesEvents (bus_of entry.before) entry.command after
 
+-- so it is of each command that declares nothing
+abbrev pub EachRunsOn : ScriptRun → Type 0
+EachRunsOn run = All (λ (e : Entry). (Declares e.command → ⊥) → RunsOn e) run.entries
+
 -- ---- a law
 
--- so it is of each command of a script that declares nothing
 abbrev pub ScriptsAreRuns : Type 0
-ScriptsAreRuns =
-    (bytes : List ℕ) (run : ScriptRun) → IsRun bytes run →
-    All (λ (e : Entry). (Declares e.command → ⊥) → RunsOn e) run.entries
+ScriptsAreRuns = (bytes : List ℕ) (run : ScriptRun) → IsRun bytes run → EachRunsOn run

@@ -4,6 +4,7 @@ use Rattle.bus_cli.specs.declared.form.Form.TheVariants.{Capture, Rom, Run, Advi
 use Rattle.bus_cli.specs.declared.form.CaptureForm.TheVariants.{Read, Read95, Maps}
 use Rattle.bus_cli.specs.Answer.{Answers}
 use Rattle.bus_cli.proofs.Ends.{of_answer, of_few, form_written}
+use Rattle.bus_cli.proofs.Cables.{cabled, accepted}
 use Rattle.bus_cli.proofs.top.bus_main.Goals as goal
 
 pub returns-clause-streams : goal.returns-clause-streams
@@ -39,6 +40,17 @@ returns-clause-read g c = λ asks. form_written c.args.words.now (Capture Read) 
 
 pub returns-clause-read95 : goal.returns-clause-read95
 returns-clause-read95 g c = λ asks. form_written c.args.words.now (Capture Read95) asks _ _ _ _ c.answer_words.ensures.answer
+
+pub returns-clause-cabling : goal.returns-clause-cabling
+returns-clause-cabling g c = λ asks.
+    cabled c.bus_trees_are_cabled.ensures.each c.bus_trees_are_cabled.ensures.only c.one_reading.ensures.tree
+    c.answer_words.result (g.S.Source.left c.args.source.now) _ _
+    (form_written c.args.words.now (Capture Read) asks _ _ _ _ c.answer_words.ensures.answer)
+
+pub returns-clause-accepts : goal.returns-clause-accepts
+returns-clause-accepts g c = λ asks.
+    accepted c.bus_trees_are_cabled.ensures.only c.args.words.now asks c.answer_words.result (g.S.Source.left c.args.source.now)
+    c.answer_words.ensures.exact
 
 pub returns-clause-maps : goal.returns-clause-maps
 returns-clause-maps g c = λ asks. form_written c.args.words.now (Capture Maps) asks _ _ _ _ c.answer_words.ensures.answer

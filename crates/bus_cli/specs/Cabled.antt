@@ -1,0 +1,23 @@
+-- What an accepted capture says of cables.
+use Rattle.std.specs.Prelude.{◌≡◌, ℕ, List, []}
+use Rattle.topology_stack.specs.Tree.{Tree, emits}
+use Rattle.topology_stack.specs.Text.{tree_text}
+use Rattle.world_laws.specs.SlotCabling.{CablesTree, IsEmitted}
+use Rattle.bus_cli.specs.Capture.{IsCaptureOf}
+
+-- The bytes are the packets that the nodes of some cabling emit, the text is that of the tree that
+-- this cabling shows, and no cabling that emits them shows another.
+pub record TellsCabling (bytes text : List ℕ) : Type 0 where
+  pub tree : Tree
+  pub cabled : CablesTree tree
+  pub captured : IsCaptureOf (emits tree) bytes
+  pub text_is : text ≡ tree_text tree []
+  pub only : (list : List ℕ) (e : IsEmitted list) → IsCaptureOf list bytes → e.tree ≡ tree
+
+-- at status 0
+abbrev pub AnswersCabling : List ℕ → ℕ → List ℕ → Type 0
+AnswersCabling bytes status text = status ≡ 0 → TellsCabling bytes text
+
+-- the bytes are the packets that the nodes of some cabling emit
+abbrev pub AreEmitted : List ℕ → Type 0
+AreEmitted bytes = (list : List ℕ) × IsEmitted list × IsCaptureOf list bytes
