@@ -6,7 +6,7 @@ use Rattle.cable_world.specs.World.{CableWorld}
 use Rattle.cable_world.specs.Run.{Event, acts, Runs}
 use Rattle.outcomes.specs.Settled.{HasNoAct}
 use Rattle.script_lines.specs.declared.command.Command.{Command}
-use Rattle.script_lines.specs.declared.command.Command.TheVariants.{Node, Plug, Pull, Reset, Turn, Hold, Settle, Config, Plan, Delay}
+use Rattle.script_lines.specs.declared.command.Command.TheVariants.{Node, Plug, Pull, Reset, Turn, Hold, Settle, Config, Plan, Delay, Times}
 use Rattle.script_told.specs.Bus.{Bus, node_named}
 use Rattle.script_told.specs.Step.{port_of}
 use Rattle.script_told.specs.Script.{running, bus_of}
@@ -17,6 +17,7 @@ abbrev pub Declares : Command → Type 0
 Declares (Node name ports speed link contender force power gap hold short long word len seed packed) =
     Unit {0}
 Declares (Delay delay) = Unit {0}
+Declares (Times standard nanoseconds) = Unit {0}
 Declares command = ⊥
 
 -- a command that takes time or asks, and neither acts nor reports
@@ -24,6 +25,7 @@ abbrev pub LeavesAlone : Command → Type 0
 LeavesAlone (Node name ports speed link contender force power gap hold short long word len seed packed) =
     ⊥
 LeavesAlone (Delay delay) = ⊥
+LeavesAlone (Times standard nanoseconds) = ⊥
 LeavesAlone (Plug a a_port b b_port) = ⊥
 LeavesAlone (Pull name port) = ⊥
 LeavesAlone (Reset name) = ⊥

@@ -5,6 +5,7 @@ use Rattle.std.proofs.lemmas.List.Elements.{All-weaker}
 use Rattle.topology_stack.specs.OneAnswer.{NoListHasTwoTrees}
 use Rattle.cabling.specs.declared.cable.End.{End}
 use Rattle.cabling.specs.declared.cable.CableFault.{CableFault}
+use Rattle.port_state.specs.declared.ranges.TimeRanges.{TimeRanges}
 use Rattle.cable_world.specs.declared.act.Act.{Act}
 use Rattle.cable_world.specs.declared.act.Act.TheVariants as act
 use Rattle.cable_world.specs.World.{CableWorld, NodeNumber}
@@ -25,11 +26,11 @@ use Rattle.settle.specs.Report.{quiet_turns_of}
 use Rattle.script_text.specs.CommandText.{csr_text, grant_text, bid_text}
 use Rattle.script_lines.specs.declared.kind.Kind.{Kind}
 use Rattle.script_lines.specs.declared.command.Command.{Command}
-use Rattle.script_lines.specs.declared.command.Command.TheVariants.{Node, Plug, Pull, Reset, Turn, Hold, Settle, Config, CsrRead, CsrWrite, CsrLock, Look, Allocate, Release, Manager, Plan, Maps, Delay}
+use Rattle.script_lines.specs.declared.command.Command.TheVariants.{Node, Plug, Pull, Reset, Turn, Hold, Settle, Config, CsrRead, CsrWrite, CsrLock, Look, Allocate, Release, Manager, Plan, Maps, Delay, Times}
 use Rattle.script_lines.specs.Range.{IsInRange}
 use Rattle.script_told.specs.Bus.{Bus, Notes, Reported, node_named, values_at, after_access, put_look}
 use Rattle.script_told.specs.Step.{LineAnswer, AtNode, Acts, Holds, Turns, Reports, Accesses, Grants, Looks, seen_by, Plans, GivesMaps, Does, end_of, config_of}
-use Rattle.script_told.specs.Script.{Stage, StageAnswer, running, bus_of, delay_of, onwards, Follows, Runs as StageRuns}
+use Rattle.script_told.specs.Script.{Stage, StageAnswer, running, bus_of, ranges_of, onwards, Follows, Runs as StageRuns}
 use Rattle.script_told.specs.Run.{Entry}
 use Rattle.script_told.specs.ScriptEvents.{Declares, LeavesAlone, IsPullOf, DoesEvents, RunsOn, ScriptsAreRuns}
 use Rattle.script_lines.specs.Refusal.{kind_of}
@@ -179,10 +180,11 @@ pulled bus name port r x = go (node_named bus.notes.names name) refl x
         (e ∙ ap (λ (z : End). Some z.node) is, ap (λ (z : End). z.port) (sym is))) r y
 
 pub does-events :
-    (d : ℕ) (bus : Bus) (command : Command) → IsInRange d command → (r : LineAnswer) → Does bus command r →
+    (d : TimeRanges) (bus : Bus) (command : Command) → IsInRange d command → (r : LineAnswer) → Does bus command r →
     Led bus command r
 does-events d bus (Node name ports speed link contender force power gap held short long word len seed packed) i r x = is-known (Led bus _) (λ k. tt) (Err Kind.Late) tt r x
 does-events d bus (Delay delay) i r x = is-known (Led bus (Delay delay)) (λ k. tt) (Err Kind.Late) tt r x
+does-events d bus (Times standard nanoseconds) i r x = is-known (Led bus (Times standard nanoseconds)) (λ k. tt) (Err Kind.Late) tt r x
 does-events d bus (Plug a a_port b b_port) i r x =
     let c : Command = Plug a a_port b b_port in
     each-node (Led bus c) (λ k. tt) (node_named bus.notes.names a) _ (λ n. each-node (Led bus c) (λ k. tt) (node_named bus.notes.names b) _ (λ m.
@@ -238,12 +240,13 @@ follows-runs :
     StageRuns stage c answer
 follows-runs stage (Node name ports speed link contender force power gap held short long word len seed packed) answer not f = absurd (not tt)
 follows-runs stage (Delay delay) answer not f = absurd (not tt)
+follows-runs stage (Times standard nanoseconds) answer not f = absurd (not tt)
 follows-runs stage c answer not f = f
 
 pub runs-on : (e : Entry) → IsDone e → (Declares e.command → ⊥) → RunsOn e
 runs-on e is not =
     let f = follows-runs e.before e.command (Ok (e.after, e.text)) not is.follows in
-    by-answer e f.0 (does-events (delay_of e.before) (bus_of e.before) e.command is.range f.0 f.1) f.2
+    by-answer e f.0 (does-events (ranges_of e.before) (bus_of e.before) e.command is.range f.0 f.1) f.2
 
 pub scripts-are-runs : NoListHasTwoTrees → ActKeepsNodes → ScriptsAreRuns
 scripts-are-runs trees keeps bytes run x =
