@@ -188,7 +188,7 @@ does-events d bus (Times standard nanoseconds) i r x = is-known (Led bus (Times 
 does-events d bus (Plug a a_port b b_port) i r x =
     let c : Command = Plug a a_port b b_port in
     each-node (Led bus c) (λ k. tt) (node_named bus.notes.names a) _ (λ n. each-node (Led bus c) (λ k. tt) (node_named bus.notes.names b) _ (λ m.
-        acted bus c (act.Plug (end_of n a_port) (end_of m b_port)) tt (λ h. h) (λ end e. absurd cc))) r x
+    acted bus c (act.Plug (end_of n a_port) (end_of m b_port)) tt (λ h. h) (λ end e. absurd cc))) r x
 does-events d bus (Pull name port) i r x = pulled bus name port r x
 does-events d bus (Reset name) i r x =
     each-node (Led bus (Reset name)) (λ k. tt) (node_named bus.notes.names name) _ (λ n. acted bus (Reset name) (act.Reset n) tt (λ h. h) (λ end e. absurd cc)) r x
@@ -200,7 +200,7 @@ does-events d bus Settle i r x =
 does-events d bus (Config name root_id gap) i r x =
     let c : Command = Config name root_id gap in
     each-node (Led bus c) (λ k. tt) (node_named bus.notes.names name) _ (λ node. each-settled (Led bus c) (λ k. tt) bus node _ (λ tree.
-        acted bus c (config_of node root_id gap) (config-act node root_id gap i) (λ h. h) (λ end e. absurd cc))) r x
+    acted bus c (config_of node root_id gap) (config-act node root_id gap i) (λ h. h) (λ end e. absurd cc))) r x
 does-events d bus (CsrRead name offset) i r x =
     each-managed (Led bus (CsrRead name offset)) (λ k. tt) bus name _ (λ node id manager. accessed bus (CsrRead name offset) manager (access.Read offset) (csr_text name)) r x
 does-events d bus (CsrWrite name offset value) i r x =
@@ -218,14 +218,14 @@ does-events d bus (Manager name) i r x =
 does-events d bus (Plan name) i r x =
     let P : LineAnswer → Type 0 = Led bus (Plan name) in
     each-managed P (λ k. tt) bus name _ (λ node id manager.
-        each-test P (λ k. tt) ((values_at manager bus).bus_manager_id == id) _ (λ s. s ≡ Err Kind.NotManager)
-        (each-within P (λ k. tt) bus (quiet_turns_of bus.world) _ (each-settled P (λ k. tt) bus node _ (λ tree. planned bus name name node tree)))
-        (is-known P (λ k. tt) (Err Kind.NotManager) tt)) r x
+    each-test P (λ k. tt) ((values_at manager bus).bus_manager_id == id) _ (λ s. s ≡ Err Kind.NotManager)
+    (each-within P (λ k. tt) bus (quiet_turns_of bus.world) _ (each-settled P (λ k. tt) bus node _ (λ tree. planned bus name name node tree)))
+    (is-known P (λ k. tt) (Err Kind.NotManager) tt)) r x
 does-events d bus (Maps name) i r x =
     let P : LineAnswer → Type 0 = Led bus (Maps name) in
     each-node P (λ k. tt) (node_named bus.notes.names name) _ (λ node. each-settled P (λ k. tt) bus node _ (λ tree.
-        each-test P (λ k. tt) (nat_lt bus.notes.maps 100) (GivesMaps bus tree) (λ s. s ≡ Err Kind.TooManyMaps) (mapped bus (Maps name) tree)
-        (is-known P (λ k. tt) (Err Kind.TooManyMaps) tt))) r x
+    each-test P (λ k. tt) (nat_lt bus.notes.maps 100) (GivesMaps bus tree) (λ s. s ≡ Err Kind.TooManyMaps) (mapped bus (Maps name) tree)
+    (is-known P (λ k. tt) (Err Kind.TooManyMaps) tt))) r x
 
 -- ---- each command of a run
 
