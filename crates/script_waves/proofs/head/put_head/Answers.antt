@@ -1,5 +1,6 @@
-use Rattle.std.proofs.Common.{ℕ, List, ◌++◌}
+use Rattle.std.proofs.Common.{◌≡◌, ℕ, List, ◌++◌, ap}
 use Rattle.std.specs.Prelude.{codes}
+use Rattle.script_trace.specs.Voice.{Legend}
 use Rattle.script_waves.specs.Head.{head, opening, all_scopes, all_values}
 use Rattle.script_waves.proofs.Walked.{then-more}
 use Rattle.script_waves.proofs.head.put_head.Goals as goal
@@ -9,6 +10,8 @@ unfolding head
 returns g c =
     let w = g.W.WorldRun.world c.args.world.now in
     let first = opening c.args.legend.now.nanoseconds w.delay in
+    let time : c.legend.inside.nanoseconds ≡ c.args.legend.now.nanoseconds = ap (λ (l : Legend). l.nanoseconds) c.legend.view_is in
+    let named : c.legend.inside.names.now ≡ c.args.legend.now.names = ap (λ (l : Legend). l.names) c.legend.view_is in
     let scopes = all_scopes c.args.legend.now.names 0 w.nodes in
     let between : List ℕ = codes "$enddefinitions $end\n#0\n$dumpvars\n" in
     let values = all_values 0 w.nodes in
@@ -17,7 +20,7 @@ returns g c =
     let declared = c.put_scopes.new.out.items in
     let begun = c.extend_from_slice.new.self.items in
     let out = c.extend_from_slice-2.new.self.items in
-    then-more c.args.out.now.items first (scopes ++ (between ++ (values ++ end))) opened out (rw c.delay.ensures at c.in_ok-put_opening.ensures)
-    (then-more opened scopes (between ++ (values ++ end)) declared out c.in_ok-put_scopes.ensures
+    then-more c.args.out.now.items first (scopes ++ (between ++ (values ++ end))) opened out (rw (c.delay.ensures, time) at c.in_ok-put_opening.ensures)
+    (then-more opened scopes (between ++ (values ++ end)) declared out (rw named at c.in_ok-put_scopes.ensures)
     (then-more declared between (values ++ end) begun out c.in_ok-extend_from_slice.ensures.items
     (then-more begun values end c.put_all_values.new.out.items out c.in_ok-put_all_values.ensures c.in_ok-extend_from_slice-2.ensures.items)))
