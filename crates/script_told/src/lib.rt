@@ -9,5 +9,5 @@ mod laws;
 
 pub use laws::{
     commands_have_answers, reported_trees_are_managed, reports_are_settled,
-    script_worlds_are_reached, scripts_tell_one_thing,
+    script_worlds_are_reached, scripts_are_runs, scripts_tell_one_thing,
 };
