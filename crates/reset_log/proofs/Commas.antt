@@ -1,28 +1,23 @@
 -- Cutting a text at its first comma.
 use Rattle.std.proofs.Common.{◌≡◌, ℕ, ◌+◌, ◌≤◌, List, [], ◌∷◌, ◌++◌, Option, Some, None, length, take, drop, refl, ap, append_assoc, arith}
-use Rattle.std.specs.Prelude.{position}
+use Rattle.std.specs.Prelude.{position, map}
 use Rattle.std.specs.List.{position_or_len}
 use Rattle.std.proofs.lemmas.Bool.Decides.{nat_tests}
 use Rattle.reset_log.specs.Number.{number_of}
-use Rattle.reset_log.specs.Lists.{is_comma, before, numbers_of, between_commas}
+use Rattle.reset_log.specs.Lists.{is_comma, before, bare, behind_all, numbers_of, between_commas}
 use Rattle.reset_log.proofs.Parts.{cut, uncut}
 
 pub commas_of_cut : (text : List ℕ) (end : ℕ) → position is_comma text ≡ Some end
-    → between_commas text ≡ before (number_of (take end text)) (between_commas (drop (end + 1) text))
+    → between_commas text ≡ before (number_of (bare (take end text))) (between_commas (drop (end + 1) text))
 unfolding between_commas
-commas_of_cut text end h = ap numbers_of (cut is_comma text end h)
+commas_of_cut text end h = ap (λ (ws : List (List ℕ)). numbers_of (map bare ws)) (cut is_comma text end h)
 
 pub commas_of_whole : (text : List ℕ) → position is_comma text ≡ None
-    → between_commas text ≡ before (number_of text) (Some [])
+    → between_commas text ≡ before (number_of (bare text)) (Some [])
 unfolding between_commas
 commas_of_whole text h =
     let long : length text ≤ position_or_len is_comma text = grind (arith, nat_tests) in
-    ap numbers_of (uncut is_comma text long)
-
--- numbers that stand before others
-abbrev pub behind_all : List ℕ → Option (List ℕ) → Option (List ℕ)
-behind_all ns None = None
-behind_all ns (Some rest) = Some (ns ++ rest)
+    ap (λ (ws : List (List ℕ)). numbers_of (map bare ws)) (uncut is_comma text long)
 
 pub push_number : (ns : List ℕ) (n : ℕ) (rest : Option (List ℕ)) →
     behind_all (ns ++ n ∷ []) rest ≡ behind_all ns (before (Some n) rest)

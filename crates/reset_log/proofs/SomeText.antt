@@ -1,6 +1,6 @@
 -- Each log has a text.
 use Rattle.std.proofs.Common.{◌≡◌, ◌⊎◌, inl, inr, ℕ, zero, suc, ◌-◌, ◌*◌, ◌/◌, ◌%◌, ◌^◌, ◌<◌, ◌≤◌, ◌&&◌, Bool, true, false, eqb, eqb-true, is_none, Option, Some, None, List, [], ◌∷◌, ◌++◌, length, take, refl, ap, subst, arith}
-use Rattle.std.specs.Prelude.{if◌then◌else◌, nat_lt, nat_le, slice_index, codes}
+use Rattle.std.specs.Prelude.{if◌then◌else◌, map, nat_lt, nat_le, slice_index, codes}
 use Rattle.std.specs.List.{slice_split}
 use Rattle.std.proofs.lemmas.Bool.{eqb-false}
 use Rattle.std.proofs.lemmas.Bool.Decides.{nat_tests}
@@ -23,8 +23,8 @@ use Rattle.reset_log.specs.declared.hear.ListFault.{ListFault}
 use Rattle.reset_log.specs.declared.hear.ListFault.TheVariants.{Cut, BadInverse, OfTree}
 use Rattle.reset_log.specs.declared.cards.Known.{Known}
 use Rattle.reset_log.specs.Number.{are_digits, of_digits, value, number_of}
-use Rattle.reset_log.specs.Lists.{is_comma, before, numbers_of, between_commas, within, unclosed_of}
-use Rattle.reset_log.specs.Words.{behind, words_of, value_of}
+use Rattle.reset_log.specs.Lists.{is_comma, before, numbers_of, between_commas, between_blanks, unclosed, within, spaced, list_in, list_of, bare}
+use Rattle.reset_log.specs.Words.{behind, to_field, words_of, value_of}
 use Rattle.reset_log.specs.Line.{named, list_field, reset_of, event, of_words, line_of}
 use Rattle.reset_log.specs.Hear.{IsHeard, IsUnheard}
 use Rattle.reset_log.specs.Texts.{garbled, head, unjudged, place, numbers, changes, initiators, refused}
@@ -86,11 +86,20 @@ within_fits : (text : Option (List ℕ)) (ns : List ℕ) → within text ≡ Som
 unfolding between_commas
 within_fits None ns e = absurd cc
 within_fits (Some []) ns e = let same : [] ≡ ns = cc in subst Fit same tt
-within_fits (Some (c ∷ text)) ns e = numbers_fit (slice_split is_comma (c ∷ text)) ns e
+within_fits (Some (c ∷ text)) ns e = numbers_fit (map bare (slice_split is_comma (c ∷ text))) ns e
 
-field_fits : (word : Option (List ℕ)) (ns : List ℕ) → list_field word ≡ Some ns → Fit ns
+blanks_fit : (first : List ℕ) (words : List (List ℕ)) (ns : List ℕ) → between_blanks first words ≡ Some ns → Fit ns
+blanks_fit [] words ns e = numbers_fit words ns e
+blanks_fit (c ∷ first) words ns e = numbers_fit ((c ∷ first) ∷ words) ns e
+
+list_fits : (first : List ℕ) (words : List (List ℕ)) (inside : Option (List ℕ)) (ns : List ℕ) →
+    list_in first words inside ≡ Some ns → Fit ns
+list_fits first words None ns e = blanks_fit first words ns e
+list_fits first words (Some inside) ns e = within_fits (unclosed (spaced inside words)) ns e
+
+field_fits : (value : Option (List ℕ × List (List ℕ))) (ns : List ℕ) → list_field value ≡ Some ns → Fit ns
 field_fits None ns e = absurd cc
-field_fits (Some word) ns e = within_fits (unclosed_of (behind (codes "{") word)) ns e
+field_fits (Some value) ns e = list_fits value.0 (to_field value.1) (behind (codes "{") value.0) ns e
 
 list_is : (origin : Origin) (card generation : Option ℕ) (bad : Option Bool) (list : Option (List ℕ)) (r : Reset) →
     reset_of origin card generation bad list ≡ OfReset r → list ≡ Some r.list

@@ -25,22 +25,22 @@ named (word ∷ words) =
 
 -- ---- the fields of an event
 
-abbrev pub number_field : Option (List ℕ) → Option ℕ
+abbrev pub number_field : Option (List ℕ × List (List ℕ)) → Option ℕ
 number_field None = None
-number_field (Some word) = number_of word
+number_field (Some value) = number_of value.0
 
-abbrev pub list_field : Option (List ℕ) → Option (List ℕ)
+abbrev pub list_field : Option (List ℕ × List (List ℕ)) → Option (List ℕ)
 list_field None = None
-list_field (Some word) = list_of word
+list_field (Some value) = list_of value.0 value.1
 
 abbrev pub truth_of : List ℕ → Option Bool
 truth_of word =
     if bytes_eq word (codes "true") then Some true
     else (if bytes_eq word (codes "false") then Some false else None)
 
-abbrev pub truth_field : Option (List ℕ) → Option Bool
+abbrev pub truth_field : Option (List ℕ × List (List ℕ)) → Option Bool
 truth_field None = None
-truth_field (Some word) = truth_of word
+truth_field (Some value) = truth_of value.0
 
 -- a reset of its fields, where each of them is there
 abbrev pub reset_of : Origin → Option ℕ → Option ℕ → Option Bool → Option (List ℕ) → LogLine
@@ -54,8 +54,8 @@ reset_of origin (Some card) (Some generation) (Some is_error) (Some list) =
     })
 reset_of origin _ _ _ _ = Garbled
 
--- `self_id_complete: card_index=N is_error=B generation_at_completion=N packet_data={..}`, and
--- `bus_reset_handle: card_index=N generation=N self_ids={..}`, with other fields among them
+-- `self_id_complete: card_index=N is_error=B generation_at_completion=N packet_data=..`, and
+-- `bus_reset_handle: card_index=N generation=N self_ids=..`, with other fields among them
 abbrev pub event : Origin → List (List ℕ) → LogLine
 event Controller words =
     reset_of Controller (number_field (value_of (codes "card_index=") words))

@@ -1,9 +1,10 @@
--- The lists of a log: `{0x807f8094,0x7f807f6b}`.
-use Rattle.std.specs.Prelude.{ℕ, ◌==◌, ◌-◌, Bool, List, [], ◌∷◌, length, take, drop, Option, Some, None, if◌then◌else◌, codes}
+-- The lists of a log: `{0x807f8094,0x7f807f6b}` as the kernel prints it, `2155839636 2139127659` as the tools do
+-- that print the fields of an event themselves.
+use Rattle.std.specs.Prelude.{ℕ, ◌==◌, ◌-◌, Bool, List, [], ◌∷◌, ◌++◌, length, take, drop, map, Option, Some, None, if◌then◌else◌, codes}
 use Rattle.std.specs.List.{slice_split}
 use Rattle.std.specs.Str.{bytes_eq}
 use Rattle.reset_log.specs.Number.{number_of}
-use Rattle.reset_log.specs.Words.{behind}
+use Rattle.reset_log.specs.Words.{behind, to_field}
 
 abbrev pub is_comma : ℕ → Bool
 is_comma c = c == 44
@@ -19,9 +20,24 @@ abbrev pub numbers_of : List (List ℕ) → Option (List ℕ)
 numbers_of [] = Some []
 numbers_of (word ∷ words) = before (number_of word) (numbers_of words)
 
--- the numbers that stand between commas
+-- numbers that stand before others
+abbrev pub behind_all : List ℕ → Option (List ℕ) → Option (List ℕ)
+behind_all ns None = None
+behind_all ns (Some rest) = Some (ns ++ rest)
+
+-- ---- between commas, and all within braces
+
+-- a text without a blank that it begins with
+abbrev pub or_whole : List ℕ → Option (List ℕ) → List ℕ
+or_whole text None = text
+or_whole text (Some rest) = rest
+
+abbrev pub bare : List ℕ → List ℕ
+bare text = or_whole text (behind (codes " ") text)
+
+-- the numbers that stand between commas, a blank before them or none
 unfoldable pub between_commas : List ℕ → Option (List ℕ)
-between_commas text = numbers_of (slice_split is_comma text)
+between_commas text = numbers_of (map bare (slice_split is_comma text))
 
 -- what stands before a last brace
 abbrev pub unclosed : List ℕ → Option (List ℕ)
@@ -35,10 +51,25 @@ within None = None
 within (Some []) = Some []
 within (Some (c ∷ text)) = between_commas (c ∷ text)
 
-abbrev pub unclosed_of : Option (List ℕ) → Option (List ℕ)
-unclosed_of None = None
-unclosed_of (Some text) = unclosed text
+-- a text and the words behind it, each behind a blank
+abbrev pub spaced : List ℕ → List (List ℕ) → List ℕ
+spaced text [] = text
+spaced text (word ∷ words) = spaced (text ++ 32 ∷ word) words
 
--- the numbers of a list: between commas, and all within braces
-abbrev pub list_of : List ℕ → Option (List ℕ)
-list_of word = within (unclosed_of (behind (codes "{") word))
+-- ---- between blanks
+
+-- the numbers of a word, which may be empty, and of the words behind it
+abbrev pub between_blanks : List ℕ → List (List ℕ) → Option (List ℕ)
+between_blanks [] words = numbers_of words
+between_blanks (c ∷ word) words = before (number_of (c ∷ word)) (numbers_of words)
+
+-- ---- a field's list
+
+-- the numbers of a list that this begins, and that goes on in these words
+abbrev pub list_in : List ℕ → List (List ℕ) → Option (List ℕ) → Option (List ℕ)
+list_in first words None = between_blanks first words
+list_in first words (Some inside) = within (unclosed (spaced inside words))
+
+-- within braces where it begins with one; it ends before the next field
+abbrev pub list_of : List ℕ → List (List ℕ) → Option (List ℕ)
+list_of first words = list_in first (to_field words) (behind (codes "{") first)

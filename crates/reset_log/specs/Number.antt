@@ -1,5 +1,5 @@
 -- The numbers of a log.
-use Rattle.std.specs.Prelude.{ℕ, ◌+◌, ◌*◌, ◌^◌, ◌&&◌, nat_lt, nat_le, Bool, List, length, take, drop, fold, codes, Option, Some, None, if◌then◌else◌}
+use Rattle.std.specs.Prelude.{ℕ, ◌+◌, ◌*◌, ◌^◌, ◌&&◌, ◌||◌, nat_lt, nat_le, Bool, List, length, take, drop, fold, codes, Option, Some, None, if◌then◌else◌}
 use Rattle.std.specs.List.{list_all}
 use Rattle.std.specs.Str.{bytes_eq}
 use Rattle.std.specs.Char.{digit_value}
@@ -19,8 +19,9 @@ of_digits base most digits =
     && (are_digits base digits && nat_lt (value base digits) (2 ^ 32)) then
     Some (value base digits) else None
 
--- the number of a word: 1 to 10 decimal digits, or `0x` and 1 to 8 hexadecimal digits
+-- the number of a word: 1 to 10 decimal digits, or `0x` or `0X` and 1 to 8 hexadecimal digits
 unfoldable pub number_of : List ℕ → Option ℕ
 number_of word =
-    if bytes_eq (take 2 word) (codes "0x") then of_digits 16 8 (drop 2 word)
+    if bytes_eq (take 2 word) (codes "0x") || bytes_eq (take 2 word) (codes "0X") then
+    of_digits 16 8 (drop 2 word)
     else of_digits 10 10 word

@@ -1,5 +1,5 @@
 -- The words of a line, and the fields among them.
-use Rattle.std.specs.Prelude.{ℕ, ◌==◌, ◌||◌, not, Bool, List, [], ◌∷◌, length, take, drop, filter, Option, Some, None, if◌then◌else◌}
+use Rattle.std.specs.Prelude.{ℕ, ◌==◌, ◌||◌, not, Bool, List, [], ◌∷◌, length, take, drop, filter, position, is_some, Option, Some, None, if◌then◌else◌}
 use Rattle.std.specs.List.{slice_split}
 use Rattle.std.specs.Str.{bytes_eq}
 
@@ -19,8 +19,20 @@ abbrev pub behind : List ℕ → List ℕ → Option (List ℕ)
 behind key word =
     if bytes_eq (take (length key) word) key then Some (drop (length key) word) else None
 
--- what stands behind a key in the first word that begins with it
-abbrev pub value_of : List ℕ → List (List ℕ) → Option (List ℕ)
+-- what stands behind a key in the first word that begins with it, and the words behind that one
+abbrev pub value_of : List ℕ → List (List ℕ) → Option (List ℕ × List (List ℕ))
 value_of key [] = None
 value_of key (word ∷ words) =
-    elim (behind key word) [ None ↦ value_of key words | Some value ↦ Some value ]
+    elim (behind key word) [ None ↦ value_of key words | Some value ↦ Some (value, words) ]
+
+abbrev pub is_equals : ℕ → Bool
+is_equals c = c == 61
+
+-- whether a word is of a field: `=` stands in it
+abbrev pub is_of_field : List ℕ → Bool
+is_of_field word = is_some (position is_equals word)
+
+-- the words up to the next field
+abbrev pub to_field : List (List ℕ) → List (List ℕ)
+to_field [] = []
+to_field (word ∷ words) = if is_of_field word then [] else word ∷ to_field words

@@ -76,7 +76,8 @@ fn named<'w, 'a>(words: &'w [Word<'a>]) -> Option<(Origin, &'w [Word<'a>])>
 fn number_field(words: &[Word], key: &[u8]) -> Option<u32>
     ensures { result ≡ number_field (value_of key.now words.now) }
 {
-    number_of(value_of(words, key)?.as_bytes())
+    let (value, _) = value_of(words, key)?;
+    number_of(value.as_bytes())
 }
 
 /// The list behind a key.
@@ -84,7 +85,7 @@ fn list_field(alloc: Global, words: &[Word], key: &[u8]) -> Result<Option<QuadLi
     ensures { IfOk result (λ list. list ≡ list_field (value_of key.now words.now)) }
 {
     match value_of(words, key) {
-        Some(word) => list_of(alloc, &word),
+        Some((first, behind)) => list_of(alloc, &first, behind),
         None => Ok(None),
     }
 }
@@ -103,7 +104,8 @@ fn truth_of(word: &Word) -> Option<bool>
 fn truth_field(words: &[Word], key: &[u8]) -> Option<bool>
     ensures { result ≡ truth_field (value_of key.now words.now) }
 {
-    truth_of(&value_of(words, key)?)
+    let (value, _) = value_of(words, key)?;
+    truth_of(&value)
 }
 
 /// A reset of its fields, where each of them is there.

@@ -1,6 +1,7 @@
 //! The lists of a log.
-ghost use Rattle.std.specs.Prelude.{◌≡◌, ◌∷◌, [], ◌<◌, length, IfOk, IfSome, IfNone, position};
-ghost use Rattle.reset_log.specs.Lists.{is_comma, before, unclosed, between_commas, within, list_of};
+ghost use Rattle.std.specs.Prelude.{◌≡◌, ◌∷◌, [], ◌<◌, length, IfOk, IfSome, IfNone, Some, None, position, if◌then◌else◌};
+ghost use Rattle.reset_log.specs.Lists.{is_comma, before, bare, numbers_of, unclosed, between_commas, between_blanks, within, spaced, behind_all, list_of};
+ghost use Rattle.reset_log.specs.Words.{to_field};
 ghost use Rattle.std.specs.Option.{option_copied};
 ghost use Rattle.reset_log.specs.Number.{number_of};
 
@@ -17,13 +18,23 @@ fn first_comma(text: &[u8]) -> Option<usize>
     text.iter().position(|c| *c == b',')
 }
 
+/// A text without a blank that it begins with.
+fn bare(text: &[u8]) -> &[u8]
+    ensures { result.now ≡ bare text.now }
+{
+    match text.strip_prefix(b" ") {
+        Some(rest) => rest,
+        None => text,
+    }
+}
+
 /// What stands before the first comma of a text, and what stands behind it.
 fn cut(text: &[u8]) -> Option<(&[u8], &[u8])>
     ensures cut { IfSome result (λ parts. between_commas text.now
-        ≡ before (number_of parts.0.now) (between_commas parts.1.now)) }
+        ≡ before (number_of (bare parts.0.now)) (between_commas parts.1.now)) }
     ensures shorter { IfSome result (λ parts. length parts.1.now < length text.now) }
     ensures whole { IfNone result
-        (between_commas text.now ≡ before (number_of text.now) (Some [])) }
+        (between_commas text.now ≡ before (number_of (bare text.now)) (Some [])) }
 {
     match first_comma(text) {
         Some(end) => Some((&text[..end], &text[end + 1..])),
@@ -38,13 +49,13 @@ fn between_commas(alloc: Global, text: &[u8]) -> Result<Option<QuadList>, AllocE
     let mut list = QuadList::new(alloc);
     let mut rest = text;
     while let Some((part, behind)) = cut(rest) {
-        let Some(number) = number_of(part) else {
+        let Some(number) = number_of(bare(part)) else {
             return Ok(None);
         };
         list.push(number)?;
         rest = behind;
     }
-    let Some(number) = number_of(rest) else {
+    let Some(number) = number_of(bare(rest)) else {
         return Ok(None);
     };
     list.push(number)?;
@@ -58,18 +69,91 @@ fn unclosed(text: &[u8]) -> Option<&[u8]>
     text.strip_suffix(b"}")
 }
 
-/// The numbers of a list. `None` where it isn't one.
-pub(crate) fn list_of(alloc: Global, word: &Word) -> Result<Option<QuadList>, AllocError>
-    ensures { IfOk result (λ list. list ≡ list_of word.now) }
+/// A text and the words up to the next field, each behind a blank.
+fn spaced(alloc: Global, open: &Word, words: &[Word]) -> Result<Vec<u8>, AllocError>
+    ensures { IfOk result (λ text. text.items ≡ spaced open.now (to_field words.now)) }
 {
-    let Some(open) = word.behind(b"{") else {
-        return Ok(None);
-    };
-    let Some(text) = unclosed(open.as_bytes()) else {
+    let mut text = Vec::from_slice(alloc, open.as_bytes())?;
+    let mut rest = words;
+    while let [word, behind @ ..] = rest {
+        if word.is_of_field() {
+            break;
+        }
+        text.push(b' ')?;
+        text.extend_from_slice(word.as_bytes())?;
+        rest = behind;
+    }
+    Ok(text)
+}
+
+/// The numbers of a text within braces. `None` where it isn't closed or has something else.
+fn within(alloc: Global, text: &[u8]) -> Result<Option<QuadList>, AllocError>
+    ensures { IfOk result (λ list. list ≡ within (unclosed text.now)) }
+{
+    let Some(text) = unclosed(text) else {
         return Ok(None);
     };
     if text.is_empty() {
         return Ok(Some(QuadList::new(alloc)));
     }
     between_commas(alloc, text)
+}
+
+/// Appends the numbers of the words up to the next field. It says whether each of them spells one.
+fn push_numbers(list: &mut QuadList, words: &[Word]) -> Result<bool, AllocError>
+    ensures { IfOk result (λ all. behind_all list.old (numbers_of (to_field words.now))
+        ≡ if all then Some list.new else None) }
+{
+    let mut rest = words;
+    while let [word, behind @ ..] = rest {
+        if word.is_of_field() {
+            break;
+        }
+        let Some(number) = number_of(word.as_bytes()) else {
+            return Ok(false);
+        };
+        list.push(number)?;
+        rest = behind;
+    }
+    Ok(true)
+}
+
+/// The numbers of a word, which may be empty, and of the words up to the next field.
+fn between_blanks(
+    alloc: Global,
+    first: &Word,
+    words: &[Word],
+) -> Result<Option<QuadList>, AllocError>
+    ensures { IfOk result (λ list. list ≡ between_blanks first.now (to_field words.now)) }
+{
+    let mut list = QuadList::new(alloc);
+    if !first.as_bytes().is_empty() {
+        let Some(number) = number_of(first.as_bytes()) else {
+            return Ok(None);
+        };
+        list.push(number)?;
+    }
+    if push_numbers(&mut list, words)? {
+        Ok(Some(list))
+    } else {
+        Ok(None)
+    }
+}
+
+/// The numbers of a list that this word begins, and that goes on up to the next field. `None` where it
+/// isn't one.
+pub(crate) fn list_of(
+    alloc: Global,
+    first: &Word,
+    words: &[Word],
+) -> Result<Option<QuadList>, AllocError>
+    ensures { IfOk result (λ list. list ≡ list_of first.now words.now) }
+{
+    match first.behind(b"{") {
+        Some(open) => {
+            let text = spaced(alloc, &open, words)?;
+            within(alloc, text.as_slice())
+        }
+        None => between_blanks(alloc, first, words),
+    }
 }

@@ -32,13 +32,16 @@ fn of_digits(digits: &[u8], base: u32, most: usize) -> Option<u32>
 }
 
 #[tactic(auto, unfolding(crate::specs::Number::number_of))]
-/// The number that a word spells: 1 to 10 decimal digits, or `0x` and 1 to 8 hexadecimal digits of
-/// either case. `None` exactly where it spells none below 2^32.
+/// The number that a word spells: 1 to 10 decimal digits, or `0x` or `0X` and 1 to 8 hexadecimal
+/// digits of either case. `None` exactly where it spells none below 2^32.
 pub(crate) fn number_of(word: &[u8]) -> Option<u32>
     ensures { result ≡ number_of word.now }
 {
-    match word.strip_prefix(b"0x") {
-        Some(digits) => of_digits(digits, 16, 8),
-        None => of_digits(word, 10, 10),
+    if let Some(digits) = word.strip_prefix(b"0x") {
+        return of_digits(digits, 16, 8);
     }
+    if let Some(digits) = word.strip_prefix(b"0X") {
+        return of_digits(digits, 16, 8);
+    }
+    of_digits(word, 10, 10)
 }

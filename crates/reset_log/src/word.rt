@@ -1,10 +1,17 @@
 //! A word of a line.
-ghost use Rattle.std.specs.Prelude.{◌≡◌, IsTrue, ◌↔◌, IfSome};
+ghost use Rattle.std.specs.Prelude.{◌≡◌, IsTrue, ◌↔◌, IfSome, position};
 ghost use Rattle.std.specs.Option.{option_copied, option_map};
 ghost use Rattle.std.specs.Str.{bytes_eq};
-ghost use Rattle.reset_log.specs.Words.{behind};
+ghost use Rattle.reset_log.specs.Words.{is_equals, behind, is_of_field};
 
 use std::marker::Model;
+
+/// The place of the first `=` of a text.
+fn first_equals(text: &[u8]) -> Option<usize>
+    ensures { result ≡ position is_equals text.now }
+{
+    text.iter().position(|c| *c == b'=')
+}
 
 /// A word of a line. In a contract it is the list of its bytes.
 #[derive(Debug, Drop)]
@@ -39,6 +46,13 @@ impl<'a> Word<'a> {
         ensures { result ≡ bytes_eq self.now text.now }
     {
         self.bytes == text
+    }
+
+    /// Whether the word is of a field: `=` stands in it.
+    pub(crate) fn is_of_field(&self) -> bool
+        ensures { result ≡ is_of_field self.now }
+    {
+        first_equals(self.bytes).is_some()
     }
 
     /// What stands behind a key, where the word begins with it.

@@ -1,5 +1,5 @@
 //! The words of a line.
-ghost use Rattle.std.specs.Prelude.{◌≡◌, ◌++◌, ◌∷◌, [], ◌<◌, length, IfOk, IfSome, IfNone, OnOk, filter, position};
+ghost use Rattle.std.specs.Prelude.{◌≡◌, ◌++◌, ◌∷◌, [], ◌<◌, length, IfOk, IfSome, IfNone, OnOk, MatchOption, Some, None, filter, position};
 ghost use Rattle.reset_log.specs.Words.{is_blank, is_some_text, words_of, value_of};
 
 use crate::word::Word;
@@ -59,14 +59,18 @@ pub(crate) fn words_of(alloc: Global, line: &[u8]) -> Result<Vec<Word<'_>>, Allo
     Ok(words)
 }
 
-/// What stands behind a key in the first word that begins with it.
-pub(crate) fn value_of<'a>(words: &[Word<'a>], key: &[u8]) -> Option<Word<'a>>
-    ensures { result ≡ value_of key.now words.now }
+/// What stands behind a key in the first word that begins with it, and the words behind that one.
+pub(crate) fn value_of<'w, 'a>(
+    words: &'w [Word<'a>],
+    key: &[u8],
+) -> Option<(Word<'a>, &'w [Word<'a>])>
+    ensures { MatchOption result (value_of key.now words.now ≡ None)
+        (λ v. value_of key.now words.now ≡ Some (v.0, v.1.now)) }
 {
     let mut rest = words;
     while let [word, behind @ ..] = rest {
         if let Some(value) = word.behind(key) {
-            return Some(value);
+            return Some((value, behind));
         }
         rest = behind;
     }

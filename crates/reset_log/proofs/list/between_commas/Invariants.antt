@@ -1,6 +1,5 @@
 use Rattle.std.proofs.Common.{◌≡◌, length}
-use Rattle.reset_log.specs.Lists.{between_commas}
-use Rattle.reset_log.proofs.Commas.{behind_all}
+use Rattle.reset_log.specs.Lists.{behind_all, between_commas}
 use Rattle.reset_log.proofs.list.between_commas.Given as goal
 
 abbrev pub invariant-loop-part : goal.invariant-loop-part
