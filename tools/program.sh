@@ -26,11 +26,13 @@ run_program() {
   trap 'rm -rf "$work"' EXIT
 
   # rt gets files and not the streams themselves, so that what is wrong with a stream is told from what the program
-  # answers. No form takes more than 1,048,576 bytes, but a log or a dump 67,108,864, so one more is enough.
+  # answers. No form takes more than 1,048,576 bytes, so one more is enough, but a log or a dump any number.
   : >"$work/input"
   if reads_input "$@"; then
-    case "$1" in resets | nosy) most=67108865 ;; esac
-    head -c "$most" >"$work/input" 2>/dev/null || no_answer "standard input can't be read"
+    case "$1" in
+      resets | nosy) cat >"$work/input" 2>/dev/null ;;
+      *) head -c "$most" >"$work/input" 2>/dev/null ;;
+    esac || no_answer "standard input can't be read"
   fi
   (cd "$top/crates/$name" && rt try -- "$@") <"$work/input" >"$work/output" 2>"$work/notes"
   status=$?

@@ -22,8 +22,8 @@ With --1995 behind packets, tree, dot, resets or nosy self-ID packets are read
 by IEEE Std 1394-1995: up to 27 ports a node.
 
 A capture is the self-ID packets of one bus reset, each as a big-endian quadlet
-and its bitwise inverse. Input is at most 1,048,576 bytes, and a log or a dump
-67,108,864.
+and its bitwise inverse. Input is at most 1,048,576 bytes; a log or a dump may
+go on for as long as one likes.
 Answers, refusals too, go to standard output.
 
 Status: 0 the input is valid

@@ -7,11 +7,11 @@ mod help;
 use about::{About, KIT, STANDARDS, VERSION};
 use bus_cli::{MAX_INPUT, NO_FORM, NO_MEMORY, READ_FAULT, REFUSED, TOO_LONG, VALID, WRITE_FAULT};
 use bus_view::{VIEW_USAGE, view_main};
-use front::FrontSink;
+use front::{FrontSink, FrontSource};
 use help::HELP;
 use io_edges::{ReadSource, WriteSink, write_whole};
 use nosy_dump::{dump_standard, show_dump};
-use reset_log::{LogStop, MAX_LOG, resets_standard, show_log};
+use reset_log::{LogStop, resets_standard, show_log};
 use self_id::Standard;
 use std::process::ExitCode;
 use std::rt::Env;
@@ -37,11 +37,42 @@ fn tell(rt: &impl Print, about: About) -> u8 {
     }
 }
 
+/// All that is shown of a log without an event.
+const NO_RESETS: &[u8] = b"resets 0 refused 0 cards 0\n";
+
+/// Whether these bytes stand among others.
+fn has(bytes: &[u8], part: &[u8]) -> bool {
+    for at in 0..bytes.len() {
+        if bytes[at..].starts_with(part) {
+            return true;
+        }
+    }
+    false
+}
+
+/// What is said of a log that begins so and has no event.
+fn why_no_event(front: &[u8]) -> &'static str {
+    if front.is_empty() {
+        "busview: the log is empty"
+    } else if front.starts_with(b"\x1f\x8b") {
+        "busview: no line of this log is an event: it is compressed, so gzip -d has to unpack it"
+    } else if has(front, b"self_id_sequence:") {
+        "busview: no line of this log is an event bus_reset_handle or self_id_complete; self_id_sequence is passed over, since it has no whole list (docs/CAPTURES.md)"
+    } else {
+        "busview: no line of this log is an event bus_reset_handle or self_id_complete (docs/CAPTURES.md says how to switch them on)"
+    }
+}
+
 /// Shows the resets of a log as it comes, and answers the status.
 fn resets(rt: &HostRuntime, standard: Standard) -> u8 {
-    let mut source = ReadSource::new(rt.stdin());
-    let mut sink = WriteSink::new(rt.stdout());
-    status_shown(show_log(rt.alloc(), standard, &mut source, &mut sink))
+    let mut source = FrontSource::new(rt.alloc(), ReadSource::new(rt.stdin()));
+    let mut sink = FrontSink::new(rt.alloc(), WriteSink::new(rt.stdout()));
+    let status = status_shown(show_log(rt.alloc(), standard, &mut source, &mut sink));
+    if sink.front() == NO_RESETS {
+        // A standard error that can't be written changes no status.
+        let _ = eprintln!(rt; "{}", why_no_event(source.front()));
+    }
+    status
 }
 
 /// Shows the resets of a dump as it comes, and answers the status.
@@ -116,11 +147,7 @@ fn explain(rt: &impl Eprint, status: u8) -> io::Result<()> {
         READ_FAULT => eprintln!(rt; "busview: reading standard input failed"),
         WRITE_FAULT => eprintln!(rt; "busview: writing standard output failed"),
         NO_MEMORY => eprintln!(rt; "busview: out of memory"),
-        TOO_LONG => {
-            eprintln!(rt;
-                "busview: standard input has more than {MAX_INPUT} bytes, a log or a dump {MAX_LOG}"
-            )
-        }
+        TOO_LONG => eprintln!(rt; "busview: standard input has more than {MAX_INPUT} bytes"),
         _ => Ok(()),
     }
 }

@@ -13,6 +13,7 @@ fn lines_by_themselves(rt: HostRuntime) -> Result<(), Fail> {
             'o',
         ),
         (b"", 'o'),
+        (b"CPU:2 [LOST 12 EVENTS]", 'l'),
         (b"x: bus_reset_handle: card_index=0 generation=1", 'g'),
         (
             b"bus_reset_handle: card_index=0 generation=1 self_ids={0x1,}",
@@ -29,6 +30,7 @@ fn lines_by_themselves(rt: HostRuntime) -> Result<(), Fail> {
     ] {
         let kind = match line_of(rt.alloc(), line)? {
             LogLine::Other => 'o',
+            LogLine::Lost => 'l',
             LogLine::Garbled => 'g',
             LogLine::OfReset(reset) => match reset.origin {
                 Origin::Controller => 'c',
@@ -51,7 +53,7 @@ fn logs_with_faults(rt: HostRuntime) -> Result<(), Fail> {
             9,
             99,
             Ok(true),
-            b"line 1 garbled\nline 2 garbled\n".as_slice(),
+            b"line 1 garbled\nline 2 garbled\nresets 0 refused 0 cards 0\n".as_slice(),
         ),
         (0, 99, Err(LogStop::ReadFault), b""),
         (9, 0, Err(LogStop::WriteFault), b""),

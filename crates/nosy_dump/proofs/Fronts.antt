@@ -263,7 +263,7 @@ broke_end old done more fault start was is st (inr b) = λ text bad all.
 -- all resets were shown, and the front of the fault's text
 pub broke_fault : {K : Type 0} {w : K → Option (List ℕ)} {f : K → ℕ} {t : K → ℕ → Type 0} (old : DumpReader) (done more : List ℕ) (fault : Option DumpFault) (byte m : ℕ) (u : Option Tree) (c : Bool) (start was is will : K) →
     (st : Stands w f t (λ bytes. EndsSo (bytes ++ more) fault) old done start was) →
-    length done ≤ 67108864 → byte ≡ old.taken - length old.part.items →
+    length done ≤ 9223372036854775807 → byte ≡ old.taken - length old.part.items →
     ShowsBy w f t old.standard old.pending old.number old.tree old.bad m u c was is →
     WroteFront w f t is will (fault_text byte fault) →
     WroteFrontOf w f t (IsDumpShown old.standard (done ++ more)) start will
@@ -313,8 +313,8 @@ front_left {w = w} {f = f} {t = t} r standard first now was is a b h =
 -- a piece wasn't shown whole
 pub front_piece : {K : Type 0} {w : K → Option (List ℕ)} {f : K → ℕ} {t : K → ℕ → Type 0} (r : DumpReader) (standard : Standard) (first now next : Option (List ℕ)) (was is will : K) (a b : ℕ) (piece : List ℕ) →
     Reads w f t r standard first now was is a b → Consumes now next piece → StayTold now next →
-    length piece ≤ 67108864 - r.taken →
-    ((done : List ℕ) (start : K) → length done + length piece ≤ 67108864 → Stands w f t IsOpen r done start is → Broke w f t r.standard (done ++ piece) start will) →
+    length piece ≤ 9223372036854775807 - r.taken →
+    ((done : List ℕ) (start : K) → length done + length piece ≤ 9223372036854775807 → Stands w f t IsOpen r done start is → Broke w f t r.standard (done ++ piece) start will) →
     IfSome first (λ dump. WroteFrontOf w f t (IsDumpShown standard dump) was will)
 front_piece {w = w} {f = f} {t = t} r standard first now next was is will a b piece h came told fits part =
     let fit = room r standard first now was is a b piece h fits in
@@ -335,8 +335,8 @@ ends_so standard dump old new (Err stop) ok part = part
 pub front_end : {K : Type 0} {w : K → Option (List ℕ)} {f : K → ℕ} {t : K → ℕ → Type 0} (r : DumpReader) (standard : Standard) (first now next : Option (List ℕ)) (was is will : K) (a b : ℕ) (fault : Option DumpFault) (result : Result Bool LogStop) →
     Reads w f t r standard first now was is a b → Consumes now next [] → IsAtEnd next →
     (IsOpen r.part.items → EndsSo (r.part.items ++ []) fault) →
-    IfOk result (λ bad. (done more : List ℕ) (start : K) → length done ≤ 67108864 → Stands w f t (λ bytes. EndsSo (bytes ++ more) fault) r done start is → ShowsAll w f t r.standard (done ++ more) bad start will) →
-    OnErr result ((done more : List ℕ) (start : K) → length done ≤ 67108864 → Stands w f t (λ bytes. EndsSo (bytes ++ more) fault) r done start is → WroteFrontOf w f t (IsDumpShown r.standard (done ++ more)) start will) →
+    IfOk result (λ bad. (done more : List ℕ) (start : K) → length done ≤ 9223372036854775807 → Stands w f t (λ bytes. EndsSo (bytes ++ more) fault) r done start is → ShowsAll w f t r.standard (done ++ more) bad start will) →
+    OnErr result ((done more : List ℕ) (start : K) → length done ≤ 9223372036854775807 → Stands w f t (λ bytes. EndsSo (bytes ++ more) fault) r done start is → WroteFrontOf w f t (IsDumpShown r.standard (done ++ more)) start will) →
     IfSome first (λ dump. WroteFrontOf w f t (IsDumpShown standard dump) was will)
 front_end {w = w} {f = f} {t = t} r standard first now next was is will a b fault result h none end fit ok part =
     let st = holds_now IsOpen (λ bytes. EndsSo (bytes ++ []) fault) r h.done was is fit h.stands in
@@ -349,16 +349,16 @@ front_end {w = w} {f = f} {t = t} r standard first now next was is will a b faul
 -- a length came that can't be
 pub front_cut : {K : Type 0} {w : K → Option (List ℕ)} {f : K → ℕ} {t : K → ℕ → Type 0} (r s : DumpReader) (standard : Standard) (first now next : Option (List ℕ)) (was is mid will : K) (a b : ℕ) (piece : List ℕ) (size : ℕ) (result : Result Bool LogStop) →
     Reads w f t r standard first now was is a b → Consumes now next piece → StayTold now next →
-    length piece ≤ 67108864 - r.taken →
-    ((done : List ℕ) (start : K) → length done + length piece ≤ 67108864 → Stands w f t IsOpen r done start is → Goes w f t (Some size) s (done ++ piece) start mid) →
+    length piece ≤ 9223372036854775807 - r.taken →
+    ((done : List ℕ) (start : K) → length done + length piece ≤ 9223372036854775807 → Stands w f t IsOpen r done start is → Goes w f t (Some size) s (done ++ piece) start mid) →
     s.standard ≡ r.standard →
-    IfOk result (λ bad. (done more : List ℕ) (start : K) → length done ≤ 67108864 → Stands w f t (λ bytes. EndsSo (bytes ++ more) (Some (BadLength size))) s done start mid → ShowsAll w f t s.standard (done ++ more) bad start will) →
-    OnErr result ((done more : List ℕ) (start : K) → length done ≤ 67108864 → Stands w f t (λ bytes. EndsSo (bytes ++ more) (Some (BadLength size))) s done start mid → WroteFrontOf w f t (IsDumpShown s.standard (done ++ more)) start will) →
+    IfOk result (λ bad. (done more : List ℕ) (start : K) → length done ≤ 9223372036854775807 → Stands w f t (λ bytes. EndsSo (bytes ++ more) (Some (BadLength size))) s done start mid → ShowsAll w f t s.standard (done ++ more) bad start will) →
+    OnErr result ((done more : List ℕ) (start : K) → length done ≤ 9223372036854775807 → Stands w f t (λ bytes. EndsSo (bytes ++ more) (Some (BadLength size))) s done start mid → WroteFrontOf w f t (IsDumpShown s.standard (done ++ more)) start will) →
     IfSome first (λ dump. WroteFrontOf w f t (IsDumpShown standard dump) was will)
 front_cut {w = w} {f = f} {t = t} r s standard first now next was is mid will a b piece size result h came told fits taken same ok part =
     let fit = room r standard first now was is a b piece h fits in
     let goes = taken h.done was fit h.stands in
-    let small : length goes.0 ≤ 67108864 = omega (arith, fit, length-append h.done piece, ap (λ (l : List ℕ). length l) goes.2, length-append goes.0 goes.1) in
+    let small : length goes.0 ≤ 9223372036854775807 = omega (arith, fit, length-append h.done piece, ap (λ (l : List ℕ). length l) goes.2, length-append goes.0 goes.1) in
     dump_left first now next h.done piece (λ dump. WroteFrontOf w f t (IsDumpShown standard dump) was will) h.came came h.told told
     (λ left.
     let st = holds_now (HasBadLength size) (λ bytes. EndsSo (bytes ++ (goes.1 ++ left)) (Some (BadLength size))) s goes.0 was mid (bad_length s.part.items (goes.1 ++ left) size) goes.3 in
@@ -403,7 +403,7 @@ exact_shown standard (Some dump) was will result shown =
 pub complete_shown : (standard : Standard) (first was will : Option (List ℕ)) (a b c : ℕ) (result : Result Bool LogStop) →
     IfOk result (λ bad. IfSome first (λ dump. IsWritten standard was will dump bad)) →
     IfErr result (StoppedWriting b c) → a ≤ b → (Rose a c → ⊥) →
-    IfSome first (λ dump. length dump ≤ 67108864 → IsComplete (IsDumpShown standard dump) result was will)
+    IfSome first (λ dump. length dump ≤ 9223372036854775807 → IsComplete (IsDumpShown standard dump) result was will)
 complete_shown standard None was will a b c result shown stops le sound = tt
 complete_shown standard (Some dump) was will a b c result shown stops le sound = λ small.
     complete_of (IsDumpShown standard dump) was will result a b c (one_text standard dump)

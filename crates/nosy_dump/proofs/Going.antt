@@ -134,9 +134,9 @@ after_packet old new done quad start was st kind ep part es et en eb ek = record
     with None are = (more ∙ last_none (resets_from 0 st.records) quad are.0, are.1)
     with (Some p) are = more ∙ ap (λ (l : List DumpReset). last_with quad l) are ∙ last_more st.ended p quad
 
--- fewer than 2 ^ 63 resets
+-- fewer than 2 ^ 64 - 1 resets
 few_numbers : {K : Type 0} {w : K → Option (List ℕ)} {f : K → ℕ} {t : K → ℕ → Type 0} (old : DumpReader) (Holds : List ℕ → Type 0) (done : List ℕ) (start was : K) →
-    (st : Stands w f t Holds old done start was) → length done ≤ 67108864 → old.number < 2 ^ 63
+    (st : Stands w f t Holds old done start was) → length done ≤ 9223372036854775807 → old.number < 2 ^ 64 - 1
 few_numbers old Holds done start was st few =
     let a = few_ended st.records st.ended old.pending st.resets_are in
     let b = few_resets 0 st.records in
@@ -152,7 +152,7 @@ place_of old Holds done start was byte st e =
     omega (arith, d, e, st.taken_is)
 
 pub shown_now : {K : Type 0} {w : K → Option (List ℕ)} {f : K → ℕ} {t : K → ℕ → Type 0} (old : DumpReader) (Holds : List ℕ → Type 0) (done : List ℕ) (start was is : K) (m : ℕ) (u : Option Tree) (c : Bool) →
-    (st : Stands w f t Holds old done start was) → length done ≤ 67108864 →
+    (st : Stands w f t Holds old done start was) → length done ≤ 9223372036854775807 →
     ShowsBy w f t old.standard old.pending old.number old.tree old.bad m u c was is →
     AllShown w f t old.standard st.records start is m u c
 shown_now old Holds done start was is m u c st few shows =
@@ -160,7 +160,7 @@ shown_now old Holds done start was is m u c st few shows =
     st.resets_are st.told st.number_is (few_numbers old Holds done start was st few) st.wrote shows
 
 pub after_reset : {K : Type 0} {w : K → Option (List ℕ)} {f : K → ℕ} {t : K → ℕ → Type 0} (old new : DumpReader) (done : List ℕ) (byte time : ℕ) (start was is : K) →
-    Stands w f t IsWhole old done start was → length done ≤ 67108864 →
+    Stands w f t IsWhole old done start was → length done ≤ 9223372036854775807 →
     record_of (drop 4 old.part.items) ≡ Reset time → byte ≡ old.taken - length old.part.items →
     ShowsBy w f t old.standard old.pending old.number old.tree old.bad new.number new.tree new.bad was is →
     new.pending ≡ Some (record { byte = byte; time = time; list = [] }) →
@@ -188,7 +188,7 @@ after_reset old new done byte time start was is st few kind at shows ep part es 
 
 pub written : {K : Type 0} {w : K → Option (List ℕ)} {f : K → ℕ} {t : K → ℕ → Type 0} (old : DumpReader) (done more : List ℕ) (start was is will : K) (fault : Option DumpFault) (byte m : ℕ) (u : Option Tree) (c : Bool) →
     Stands w f t (λ bytes. EndsSo (bytes ++ more) fault) old done start was →
-    length done ≤ 67108864 → byte ≡ old.taken - length old.part.items →
+    length done ≤ 9223372036854775807 → byte ≡ old.taken - length old.part.items →
     ShowsBy w f t old.standard old.pending old.number old.tree old.bad m u c was is →
     Wrote w f t is will (fault_text byte fault) →
     ShowsAll w f t old.standard (done ++ more) (c || is_some fault) start will

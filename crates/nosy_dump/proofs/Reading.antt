@@ -28,14 +28,14 @@ at_first r standard first was a new same = record {
 
 -- there is room for a piece
 pub room : {K : Type 0} {w : K → Option (List ℕ)} {f : K → ℕ} {t : K → ℕ → Type 0} (r : DumpReader) (standard : Standard) (first now : Option (List ℕ)) (was is : K) (a b : ℕ) (piece : List ℕ) →
-    (h : Reads w f t r standard first now was is a b) → length piece ≤ 67108864 - r.taken →
-    length h.done + length piece ≤ 67108864
+    (h : Reads w f t r standard first now was is a b) → length piece ≤ 9223372036854775807 - r.taken →
+    length h.done + length piece ≤ 9223372036854775807
 room r standard first now was is a b piece h fits = omega (arith, h.stands.taken_is, fits, h.small)
 
 pub reads_on : {K : Type 0} {w : K → Option (List ℕ)} {f : K → ℕ} {t : K → ℕ → Type 0} (r s : DumpReader) (standard : Standard) (first now next : Option (List ℕ)) (was is will : K) (a b c : ℕ) (piece : List ℕ) →
     Reads w f t r standard first now was is a b → Consumes now next piece → StayTold now next →
-    length piece ≤ 67108864 - r.taken →
-    ((done : List ℕ) (start : K) → length done + length piece ≤ 67108864 → Stands w f t IsOpen r done start is → Goes w f t None s (done ++ piece) start will) →
+    length piece ≤ 9223372036854775807 - r.taken →
+    ((done : List ℕ) (start : K) → length done + length piece ≤ 9223372036854775807 → Stands w f t IsOpen r done start is → Goes w f t None s (done ++ piece) start will) →
     s.standard ≡ r.standard → b ≤ c → f is ≤ f will → Reads w f t s standard first next was will a c
 reads_on r s standard first now next was is will a b c piece h came told fits taken same later wrote =
     let fit = room r standard first now was is a b piece h fits in
@@ -53,9 +53,9 @@ reads_on r s standard first now next was is will a b c piece h came told fits ta
 -- each piece leaves less room
 pub less_room : {K : Type 0} {w : K → Option (List ℕ)} {f : K → ℕ} {t : K → ℕ → Type 0} (r s : DumpReader) (standard : Standard) (first now : Option (List ℕ)) (was is will : K) (a b : ℕ) (piece : List ℕ) →
     Reads w f t r standard first now was is a b → 0 < length piece →
-    length piece ≤ 67108864 - r.taken →
-    ((done : List ℕ) (start : K) → length done + length piece ≤ 67108864 → Stands w f t IsOpen r done start is → Goes w f t None s (done ++ piece) start will) →
-    67108864 - s.taken < 67108864 - r.taken
+    length piece ≤ 9223372036854775807 - r.taken →
+    ((done : List ℕ) (start : K) → length done + length piece ≤ 9223372036854775807 → Stands w f t IsOpen r done start is → Goes w f t None s (done ++ piece) start will) →
+    9223372036854775807 - s.taken < 9223372036854775807 - r.taken
 less_room {w = w} {f = f} {t = t} r s standard first now was is will a b piece h some fits taken =
     let fit = room r standard first now was is a b piece h fits in
     let on : Stands w f t IsOpen s (h.done ++ piece) was will = taken h.done was fit h.stands in
@@ -91,7 +91,7 @@ not_well bad fault P f e = let none : Some fault ≡ None = f e in absurd cc
 pub whole : {K : Type 0} {w : K → Option (List ℕ)} {f : K → ℕ} {t : K → ℕ → Type 0} (r : DumpReader) (standard : Standard) (first now next : Option (List ℕ)) (was is will : K) (a b : ℕ) (fault : Option DumpFault) (bad : Bool) →
     Reads w f t r standard first now was is a b → Consumes now next [] → IsAtEnd next →
     (IsOpen r.part.items → EndsSo (r.part.items ++ []) fault) →
-    ((done more : List ℕ) (start : K) → length done ≤ 67108864 → Stands w f t (λ bytes. EndsSo (bytes ++ more) fault) r done start is → ShowsAll w f t r.standard (done ++ more) bad start will) →
+    ((done more : List ℕ) (start : K) → length done ≤ 9223372036854775807 → Stands w f t (λ bytes. EndsSo (bytes ++ more) fault) r done start is → ShowsAll w f t r.standard (done ++ more) bad start will) →
     IfSome first (λ dump. ShowsAll w f t standard dump bad was will)
 whole {w = w} {f = f} {t = t} r standard first now next was is will a b fault bad h none end fit then =
     let ended = then h.done [] was h.small (holds_now IsOpen (λ bytes. EndsSo (bytes ++ []) fault) r h.done was is fit h.stands) in
@@ -110,15 +110,15 @@ dump_left (Some x) (Some y) (Some z) xs ys P p q told still each =
 
 pub cut_off : {K : Type 0} {w : K → Option (List ℕ)} {f : K → ℕ} {t : K → ℕ → Type 0} (r s : DumpReader) (standard : Standard) (first now next : Option (List ℕ)) (was is mid will : K) (a b : ℕ) (piece : List ℕ) (size : ℕ) (bad : Bool) →
     Reads w f t r standard first now was is a b → Consumes now next piece → StayTold now next →
-    length piece ≤ 67108864 - r.taken →
-    ((done : List ℕ) (start : K) → length done + length piece ≤ 67108864 → Stands w f t IsOpen r done start is → Goes w f t (Some size) s (done ++ piece) start mid) →
+    length piece ≤ 9223372036854775807 - r.taken →
+    ((done : List ℕ) (start : K) → length done + length piece ≤ 9223372036854775807 → Stands w f t IsOpen r done start is → Goes w f t (Some size) s (done ++ piece) start mid) →
     s.standard ≡ r.standard →
-    ((done more : List ℕ) (start : K) → length done ≤ 67108864 → Stands w f t (λ bytes. EndsSo (bytes ++ more) (Some (BadLength size))) s done start mid → ShowsAll w f t s.standard (done ++ more) bad start will) →
+    ((done more : List ℕ) (start : K) → length done ≤ 9223372036854775807 → Stands w f t (λ bytes. EndsSo (bytes ++ more) (Some (BadLength size))) s done start mid → ShowsAll w f t s.standard (done ++ more) bad start will) →
     IfSome first (λ dump. ShowsAll w f t standard dump bad was will)
 cut_off {w = w} {f = f} {t = t} r s standard first now next was is mid will a b piece size bad h came told fits taken same then =
     let fit = room r standard first now was is a b piece h fits in
     let goes = taken h.done was fit h.stands in
-    let small : length goes.0 ≤ 67108864 = omega (arith, fit, length-append h.done piece, ap (λ (l : List ℕ). length l) goes.2, length-append goes.0 goes.1) in
+    let small : length goes.0 ≤ 9223372036854775807 = omega (arith, fit, length-append h.done piece, ap (λ (l : List ℕ). length l) goes.2, length-append goes.0 goes.1) in
     dump_left first now next h.done piece (λ dump. ShowsAll w f t standard dump bad was will) h.came came h.told told
     (λ left.
     subst (λ (k : Standard). ShowsAll w f t k ((h.done ++ piece) ++ left) bad was will) (same ∙ h.same)

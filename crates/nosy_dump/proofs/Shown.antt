@@ -1,5 +1,5 @@
 -- A reset was shown, and a byte was kept.
-use Rattle.std.proofs.Common.{◌≡◌, ℕ, ◌+◌, ◌<◌, ◌≤◌, ◌^◌, Bool, true, ◌||◌, is_none, Option, Some, None, List, [], ◌∷◌, ◌++◌, length, refl, sym, subst, length-append, arith}
+use Rattle.std.proofs.Common.{◌≡◌, ℕ, ◌-◌, ◌+◌, ◌<◌, ◌≤◌, ◌^◌, Bool, true, ◌||◌, is_none, Option, Some, None, List, [], ◌∷◌, ◌++◌, length, refl, sym, subst, length-append, arith}
 use Rattle.self_id.specs.declared.standard.Standard.{Standard}
 use Rattle.topology_stack.specs.Tree.{Tree}
 use Rattle.reset_log.specs.declared.line.Origin.TheVariants.{Core}
@@ -15,7 +15,7 @@ pub shows_one : {K : Type 0} {w : K → Option (List ℕ)} {f : K → ℕ} {t : 
     front ≡ head n p → list ≡ p.list → before ≡ x →
     IsListShown standard Core front list before text heard → bytes ≡ text →
     Wrote w f t was is bytes → u ≡ last_heard x heard → c ≡ (b || is_none heard) →
-    (n < 2 ^ 63 → m ≡ n + 1) → ShowsReset w f t standard p n x b m u c was is
+    (n < 2 ^ 64 - 1 → m ≡ n + 1) → ShowsReset w f t standard p n x b m u c was is
 shows_one {w = w} {f = f} {t = t} standard p n m x u b c was is front list text bytes before heard is_front is_list is_before shown same wrote tree bad number = record {
   text = text;
   here = is_none heard;

@@ -1,5 +1,5 @@
 -- The reset that waits is shown.
-use Rattle.std.proofs.Common.{◌≡◌, ◌∙◌, ℕ, ◌+◌, ◌<◌, ◌≤◌, ◌^◌, Bool, ◌||◌, Option, Some, None, List, [], ◌∷◌, ◌++◌, length, refl, sym, ap, subst, length-append, arith}
+use Rattle.std.proofs.Common.{◌≡◌, ◌∙◌, ℕ, ◌-◌, ◌+◌, ◌<◌, ◌≤◌, ◌^◌, Bool, ◌||◌, Option, Some, None, List, [], ◌∷◌, ◌++◌, length, refl, sym, ap, subst, length-append, arith}
 use Rattle.self_id.specs.declared.standard.Standard.{Standard}
 use Rattle.topology_stack.specs.Tree.{Tree}
 use Rattle.reset_log.specs.InOrder.{AreTold}
@@ -38,7 +38,7 @@ told_again standard xs ys text b c t u e f g told =
 
 pub all_shown : {K : Type 0} {w : K → Option (List ℕ)} {f : K → ℕ} {t : K → ℕ → Type 0} (standard : Standard) (records : List (List ℕ)) (ended : List DumpReset) (pending : Option DumpReset) (text : List ℕ) (n m : ℕ) (x u : Option Tree) (b c : Bool) (start was is : K) →
     AreResets records ended pending →
-    AreTold (IsResetShown standard) 1 None ended text b x → n ≡ length ended + 1 → n < 2 ^ 63 →
+    AreTold (IsResetShown standard) 1 None ended text b x → n ≡ length ended + 1 → n < 2 ^ 64 - 1 →
     Wrote w f t start was text → ShowsBy w f t standard pending n x b m u c was is →
     AllShown w f t standard records start is m u c
 all_shown {K = K} {w = w} {f = f} {t = t} standard records ended None text n m x u b c start was is are told number few wrote shows = record {

@@ -181,10 +181,10 @@ impl DumpReader {
     /// Takes the record that is whole, and begins the next one.
     fn take_record<K: Sink>(&mut self, alloc: Global, sink: &mut K) -> Result<(), LogStop>
         requires { 4 ≤ length self.old.part.items }
-        ensures ok { OnOk result ((done : List ℕ) (start : K) → length done ≤ 67108864 →
+        ensures ok { OnOk result ((done : List ℕ) (start : K) → length done ≤ 9223372036854775807 →
             Stands K.written K.faults K.surely_takes IsWhole self.old done start sink.old →
             Stands K.written K.faults K.surely_takes IsOpen self.new done start sink.new) }
-        ensures part { OnErr result ((done : List ℕ) (start : K) → length done ≤ 67108864 →
+        ensures part { OnErr result ((done : List ℕ) (start : K) → length done ≤ 9223372036854775807 →
             Stands K.written K.faults K.surely_takes IsWhole self.old done start sink.old →
             Broke K.written K.faults K.surely_takes self.old.standard done start sink.new) }
         ensures stops { IfErr result (StoppedWriting (K.faults sink.old) (K.faults sink.new)) }
@@ -209,11 +209,11 @@ impl DumpReader {
         byte: u8,
         sink: &mut K,
     ) -> Result<Option<u32>, LogStop>
-        ensures ok { IfOk result (λ size. (done : List ℕ) (start : K) → length done < 67108864 →
+        ensures ok { IfOk result (λ size. (done : List ℕ) (start : K) → length done < 9223372036854775807 →
             Stands K.written K.faults K.surely_takes IsOpen self.old done start sink.old →
             Goes K.written K.faults K.surely_takes
             size self.new (done ++ byte ∷ []) start sink.new) }
-        ensures part { OnErr result ((done : List ℕ) (start : K) → length done < 67108864 →
+        ensures part { OnErr result ((done : List ℕ) (start : K) → length done < 9223372036854775807 →
             Stands K.written K.faults K.surely_takes IsOpen self.old done start sink.old →
             Broke K.written K.faults K.surely_takes
             self.old.standard (done ++ byte ∷ []) start sink.new) }
@@ -244,12 +244,12 @@ impl DumpReader {
         sink: &mut K,
     ) -> Result<Option<u32>, LogStop>
         ensures ok { IfOk result (λ size. (done : List ℕ) (start : K) →
-            length done + length bytes.now ≤ 67108864 →
+            length done + length bytes.now ≤ 9223372036854775807 →
             Stands K.written K.faults K.surely_takes IsOpen self.old done start sink.old →
             Goes K.written K.faults K.surely_takes
             size self.new (done ++ bytes.now) start sink.new) }
         ensures part { OnErr result ((done : List ℕ) (start : K) →
-            length done + length bytes.now ≤ 67108864 →
+            length done + length bytes.now ≤ 9223372036854775807 →
             Stands K.written K.faults K.surely_takes IsOpen self.old done start sink.old →
             Broke K.written K.faults K.surely_takes
             self.old.standard (done ++ bytes.now) start sink.new) }
@@ -274,12 +274,12 @@ impl DumpReader {
         sink: &mut K,
     ) -> Result<bool, LogStop>
         ensures ok { IfOk result (λ bad. (done more : List ℕ) (start : K) →
-            length done ≤ 67108864 → Stands K.written K.faults K.surely_takes
+            length done ≤ 9223372036854775807 → Stands K.written K.faults K.surely_takes
             (λ bytes. EndsSo (bytes ++ more) fault) self.old done start sink.old →
             ShowsAll K.written K.faults K.surely_takes
             self.old.standard (done ++ more) bad start sink.new) }
         ensures part { OnErr result ((done more : List ℕ) (start : K) →
-            length done ≤ 67108864 → Stands K.written K.faults K.surely_takes
+            length done ≤ 9223372036854775807 → Stands K.written K.faults K.surely_takes
             (λ bytes. EndsSo (bytes ++ more) fault) self.old done start sink.old →
             WroteFrontOf K.written K.faults K.surely_takes
             (IsDumpShown self.old.standard (done ++ more)) start sink.new) }
@@ -313,7 +313,7 @@ impl DumpReader {
 /// asked for more.
 ///
 /// `ReadFault` and `WriteFault` come only where the count of faults of the source or of the sink
-/// rose, and `TooLong` exactly where the source gave more than 67,108,864 bytes. After each of them,
+/// rose, and `TooLong` exactly where the source gave more than 9,223,372,036,854,775,807 bytes. After each of them,
 /// and where there was no memory, the front of the text is written; after `ReadFault` at least what
 /// is shown of each reset that another one followed is written. It keeps one record of at most 65,536
 /// bytes, the packets of one reset, and the last tree.
@@ -334,7 +334,7 @@ pub fn show_dump<S: Source, K: Sink>(
     ensures write_fault { IsErrOf result LogStop.WriteFault →
         Rose (K.faults sink.old) (K.faults sink.new) }
     ensures long { IfTold (S.left source.old) (S.left source.new) (λ old new.
-        IsErrOf result LogStop.TooLong ↔ TookOver 67108864 old new) }
+        IsErrOf result LogStop.TooLong ↔ TookOver 9223372036854775807 old new) }
     ensures waits { IsErrOf result LogStop.ReadFault → (read : List ℕ)
         × Consumes (S.left source.old) (S.left source.new) read
         × IsBegunWritten standard (K.written sink.old) (K.written sink.new) read }
@@ -346,7 +346,7 @@ pub fn show_dump<S: Source, K: Sink>(
         IsExact (IsDumpShown standard dump) result) }
     ensures complete { ¬ Rose (S.faults source.old) (S.faults source.new) →
         ¬ Rose (K.faults sink.old) (K.faults sink.new) → IfSome (S.left source.old) (λ dump.
-        length dump ≤ 67108864 → IsComplete (IsDumpShown standard dump) result
+        length dump ≤ 9223372036854775807 → IsComplete (IsDumpShown standard dump) result
         (K.written sink.old) (K.written sink.new)) }
 
     // A sink that surely takes the text has no fault.

@@ -29,7 +29,7 @@ still_came (Some xs) (Some ys) (Some zs) done told came keeps = came ∙ ap (λ 
 
 -- no more than the limit was read
 pub not_over : (first now : Option (List ℕ)) (done : List ℕ) → Consumes first now done →
-    length done ≤ 67108864 → IfTold first now (λ xs ys. TookOver 67108864 xs ys → ⊥)
+    length done ≤ 9223372036854775807 → IfTold first now (λ xs ys. TookOver 9223372036854775807 xs ys → ⊥)
 not_over None now done came small = tt
 not_over (Some xs) None done came small = tt
 not_over (Some xs) (Some ys) done came small = λ over.
@@ -37,23 +37,23 @@ not_over (Some xs) (Some ys) done came small = λ over.
     omega (arith, size, small, over)
 
 pub never_long : (IsLong : Type 0) (first next : Option (List ℕ)) → (IsLong → ⊥) →
-    IfTold first next (λ xs ys. TookOver 67108864 xs ys → ⊥) →
-    IfTold first next (λ xs ys. IsLong ↔ TookOver 67108864 xs ys)
+    IfTold first next (λ xs ys. TookOver 9223372036854775807 xs ys → ⊥) →
+    IfTold first next (λ xs ys. IsLong ↔ TookOver 9223372036854775807 xs ys)
 never_long IsLong None next short none = tt
 never_long IsLong (Some xs) None short none = tt
 never_long IsLong (Some xs) (Some ys) short none = ((λ is. absurd (short is)), (λ over. absurd (none over)))
 
 pub surely_long : (IsLong : Type 0) (first next : Option (List ℕ)) → IsLong →
-    IfTold first next (λ xs ys. TookOver 67108864 xs ys) →
-    IfTold first next (λ xs ys. IsLong ↔ TookOver 67108864 xs ys)
+    IfTold first next (λ xs ys. TookOver 9223372036854775807 xs ys) →
+    IfTold first next (λ xs ys. IsLong ↔ TookOver 9223372036854775807 xs ys)
 surely_long IsLong None next is over = tt
 surely_long IsLong (Some xs) None is over = tt
 surely_long IsLong (Some xs) (Some ys) is over = ((λ long. over), (λ long. is))
 
 -- so no input of so many bytes was too long
 pub not_long : (first next : Option (List ℕ)) (P : List ℕ → Type 0) → StayTold first next →
-    IfTold first next (λ xs ys. TookOver 67108864 xs ys) →
-    IfSome first (λ log. length log ≤ 67108864 → P log)
+    IfTold first next (λ xs ys. TookOver 9223372036854775807 xs ys) →
+    IfSome first (λ log. length log ≤ 9223372036854775807 → P log)
 not_long None next P told over = tt
 not_long (Some xs) None P told over = let none : StayTold (Some xs) None = told in absurd cc
 not_long (Some xs) (Some ys) P told over = λ small. absurd (omega (arith, over, small))

@@ -5,7 +5,8 @@ use Rattle.std.specs.Io.KnownBytes.{Appends, Consumes, IsAtEnd}
 use Rattle.io_edges.specs.Faults.{Rose}
 use Rattle.io_edges.specs.Told.{StayTold}
 use Rattle.self_id.specs.declared.standard.Standard.{Standard}
-use Rattle.reset_log.specs.declared.cards.Known.{Known}
+use Rattle.reset_log.specs.Noted.{Noted, nothing}
+use Rattle.reset_log.specs.Notes.{noted}
 use Rattle.reset_log.specs.declared.log.LogReader.{LogReader}
 use Rattle.reset_log.specs.declared.stop.LogStop.{LogStop}
 use Rattle.reset_log.specs.Shown.{IsLineShown}
@@ -13,7 +14,8 @@ use Rattle.reset_log.specs.Log.{Parted, onto_first, parted, open_lines, lines_of
 use Rattle.reset_log.specs.Cause.{StoppedWriting}
 use Rattle.reset_log.specs.Answered.{IsExact, IsComplete}
 use Rattle.reset_log.specs.Wrote.{Wrote, WroteFront, WroteFrontOf}
-use Rattle.reset_log.specs.codings.Going.{Stands, BreaksOff, Broke, ShowsAll, Reads}
+use Rattle.reset_log.specs.codings.Going.{Stands, BreaksOff, BreaksText, Broke, ShowsLines, ShowsAll, Reads}
+use Rattle.reset_log.specs.Texts.{totals}
 use Rattle.reset_log.proofs.InOrder.{one_more, told_once, told_first}
 use Rattle.reset_log.proofs.Going.{ends_line}
 use Rattle.reset_log.proofs.Wrote.{front_then, front_more, front_whole}
@@ -89,14 +91,14 @@ stood r done start was st = record {
   lines_are = sym (append-nil (parted done).lines);
   text = st.text;
   bad = r.bad;
-  known = r.cards.items;
+  known = (noted r.notes);
   shown = st.shown;
   wrote = front_whole start was st.text st.wrote;
 }
 
 -- the next line wasn't shown whole
-part_more : {K : Type 0} {w : K → Option (List ℕ)} {f : K → ℕ} {t : K → ℕ → Type 0} (standard : Standard) (lines : List (List ℕ)) (line text : List ℕ) (bad : Bool) (known next : List Known) (more : List ℕ) (here : Bool) (start was is : K) →
-    AreShown standard 1 [] lines text bad known →
+part_more : {K : Type 0} {w : K → Option (List ℕ)} {f : K → ℕ} {t : K → ℕ → Type 0} (standard : Standard) (lines : List (List ℕ)) (line text : List ℕ) (bad : Bool) (known next : Noted) (more : List ℕ) (here : Bool) (start was is : K) →
+    AreShown standard 1 nothing lines text bad known →
     IsLineShown standard (1 + length lines) known line more here next → Wrote w f t start was text →
     WroteFront w f t was is more → Broke w f t standard (lines ++ line ∷ []) start is
 part_more standard lines line text bad known next more here start was is shown one wrote part = record {
@@ -106,28 +108,28 @@ part_more standard lines line text bad known next more here start was is shown o
   text = text ++ more;
   bad = bad || here;
   known = next;
-  shown = one_more (IsLineShown standard) 1 [] known next lines line text more bad here shown one;
+  shown = one_more (IsLineShown standard) 1 nothing known next lines line text more bad here shown one;
   wrote = front_then start was is text more wrote part;
 }
 
 pub broke_off : {K : Type 0} {w : K → Option (List ℕ)} {f : K → ℕ} {t : K → ℕ → Type 0} (old mid : LogReader) (done : List ℕ) (start was is : K) →
     Stands w f t old done start was → BreaksOff w f t mid was is → mid.standard ≡ old.standard →
-    mid.cards.items ≡ old.cards.items → mid.line.items ≡ old.line.items → mid.number ≡ old.number →
+    (noted mid.notes) ≡ (noted old.notes) → mid.line.items ≡ old.line.items → mid.number ≡ old.number →
     Broke w f t old.standard ((parted done).lines ++ (parted done).open_line ∷ []) start is
 broke_off {K = K} {w = w} {f = f} {t = t} old mid done start was is st (inl e) es ec el en =
     subst (λ (o : K). Broke w f t old.standard ((parted done).lines ++ (parted done).open_line ∷ []) start o) (sym e)
     (broke_among old.standard (parted done).lines ((parted done).open_line ∷ []) _ start was (stood old done start was st) refl)
 broke_off old mid done start was is st (inr p) es ec el en =
     let place : mid.number ≡ 1 + length (parted done).lines = omega (arith, en, st.number_is) in
-    let one : IsLineShown old.standard (1 + length (parted done).lines) old.cards.items (parted done).open_line p.text p.here p.known =
-    by_front old.standard mid.number _ old.cards.items mid.cards.items p.known mid.line.items (parted done).open_line p.text p.here place ec (el ∙ st.line_is)
-    (subst (λ (s : Standard). IsLineShown s mid.number mid.cards.items mid.line.items p.text p.here p.known) es p.shown) in
-    part_more old.standard (parted done).lines (parted done).open_line st.text old.bad old.cards.items p.known p.text p.here start was is st.shown one st.wrote p.wrote
+    let one : IsLineShown old.standard (1 + length (parted done).lines) (noted old.notes) (parted done).open_line p.text p.here p.known =
+    by_front old.standard mid.number _ (noted old.notes) (noted mid.notes) p.known mid.line.items (parted done).open_line p.text p.here place ec (el ∙ st.line_is)
+    (subst (λ (s : Standard). IsLineShown s mid.number (noted mid.notes) mid.line.items p.text p.here p.known) es p.shown) in
+    part_more old.standard (parted done).lines (parted done).open_line st.text old.bad (noted old.notes) p.known p.text p.here start was is st.shown one st.wrote p.wrote
 
 -- at a line feed
 pub broke_line : {K : Type 0} {w : K → Option (List ℕ)} {f : K → ℕ} {t : K → ℕ → Type 0} (old mid : LogReader) (done : List ℕ) (start was is : K) →
     Stands w f t old done start was → BreaksOff w f t mid was is → mid.standard ≡ old.standard →
-    mid.cards.items ≡ old.cards.items → mid.line.items ≡ old.line.items → mid.number ≡ old.number →
+    (noted mid.notes) ≡ (noted old.notes) → mid.line.items ≡ old.line.items → mid.number ≡ old.number →
     Broke w f t old.standard (parted (done ++ 10 ∷ [])).lines start is
 broke_line {w = w} {f = f} {t = t} old mid done start was is st off es ec el en =
     subst (λ (p : Parted). Broke w f t old.standard p.lines start is) (sym (ends_line done))
@@ -169,12 +171,30 @@ broke_within {w = w} {f = f} {t = t} standard done bytes at start is b few =
 pub front_of : {K : Type 0} {w : K → Option (List ℕ)} {f : K → ℕ} {t : K → ℕ → Type 0} (standard : Standard) (lines : List (List ℕ)) (old new : K) →
     Broke w f t standard lines old new → WroteFrontOf w f t (IsLogShown standard lines) old new
 front_of standard lines old new b = λ text bad is.
-    let all : AreShown standard 1 [] (b.first ++ b.others) text bad is.known = subst (λ (ls : List (List ℕ)). AreShown standard 1 [] ls text bad is.known) b.lines_are is.shown in
-    let first = told_first (IsLineShown standard) 1 [] is.known b.first b.others text bad all in
+    let all : AreShown standard 1 nothing (b.first ++ b.others) is.told bad is.known = subst (λ (ls : List (List ℕ)). AreShown standard 1 nothing ls is.told bad is.known) b.lines_are is.shown in
+    let first = told_first (IsLineShown standard) 1 nothing is.known b.first b.others is.told bad all in
     let same =
-    told_once (IsLineShown standard) (λ n ks line e g h k p q. same_line standard n ks line e g h k p q) 1 [] b.first first.0 b.text first.2 b.bad first.3 b.known first.4 b.shown
+    told_once (IsLineShown standard) (λ n ks line e g h k p q. same_line standard n ks line e g h k p q) 1 nothing b.first first.0 b.text first.2 b.bad first.3 b.known first.4 b.shown
     in
-    front_more old new b.text first.1 text (first.5 ∙ ap (λ (l : List ℕ). l ++ first.1) same.0) b.wrote
+    front_more old new b.text (first.1 ++ totals is.known) text
+    (is.text_is
+    ∙ ap (λ (l : List ℕ). l ++ totals is.known) (first.5 ∙ ap (λ (l : List ℕ). l ++ first.1) same.0)
+    ∙ append_assoc b.text first.1 (totals is.known)) b.wrote
+
+-- all lines were shown, and what was counted wasn't written whole
+pub front_totals : {K : Type 0} {w : K → Option (List ℕ)} {f : K → ℕ} {t : K → ℕ → Type 0} (r : LogReader) (standard : Standard) (lines : List (List ℕ)) (start was is : K) →
+    ShowsLines w f t r standard lines start was → BreaksText w f t was is (totals (noted r.notes)) →
+    WroteFrontOf w f t (IsLogShown standard lines) start is
+front_totals {K = K} {w = w} {f = f} {t = t} r standard lines start was is sh (inl e) = λ text bad shown.
+    let whole : IsLogShown standard lines (sh.text ++ totals (noted r.notes)) r.bad = record { known = noted r.notes; told = sh.text; shown = sh.shown; text_is = refl } in
+    let same = one_lines standard lines (sh.text ++ totals (noted r.notes)) text r.bad bad whole shown in
+    subst (λ (o : K). WroteFront w f t start o text) (sym e)
+    (front_more start was sh.text (totals (noted r.notes)) text (sym same.0) (front_whole start was sh.text sh.wrote))
+front_totals {w = w} {f = f} {t = t} r standard lines start was is sh (inr part) = λ text bad shown.
+    let whole : IsLogShown standard lines (sh.text ++ totals (noted r.notes)) r.bad = record { known = noted r.notes; told = sh.text; shown = sh.shown; text_is = refl } in
+    let same = one_lines standard lines (sh.text ++ totals (noted r.notes)) text r.bad bad whole shown in
+    subst (λ (l : List ℕ). WroteFront w f t start is l) same.0
+    (front_then start was is sh.text (totals (noted r.notes)) sh.wrote part)
 
 -- what was written whole is a front too
 front_all : {K : Type 0} {w : K → Option (List ℕ)} {f : K → ℕ} {t : K → ℕ → Type 0} (standard : Standard) (lines : List (List ℕ)) (bad : Bool) (old new : K) →
@@ -186,8 +206,8 @@ front_all {w = w} {f = f} {t = t} standard lines bad old new all = λ text c is.
 
 -- ---- a call
 
-pub few_front : (done bytes : List ℕ) (at : ℕ) → length done + length bytes ≤ 67108864 →
-    at < length bytes → length (done ++ take at bytes) < 67108864
+pub few_front : (done bytes : List ℕ) (at : ℕ) → length done + length bytes ≤ 9223372036854775807 →
+    at < length bytes → length (done ++ take at bytes) < 9223372036854775807
 few_front done bytes at few within =
     let front : length (take at bytes) ≡ at = length-take-le at bytes (omega (arith, within)) in
     omega (arith, length-append done (take at bytes), front, few, within)
@@ -210,11 +230,11 @@ front_left {w = w} {f = f} {t = t} r standard first now was is a b h =
 -- a piece wasn't shown whole
 pub front_piece : {K : Type 0} {w : K → Option (List ℕ)} {f : K → ℕ} {t : K → ℕ → Type 0} (r : LogReader) (standard : Standard) (first now next : Option (List ℕ)) (was is will : K) (a b : ℕ) (piece : List ℕ) →
     Reads w f t r standard first now was is a b → Consumes now next piece → StayTold now next →
-    length piece ≤ 67108864 - r.taken →
-    ((done : List ℕ) (start : K) → length done + length piece ≤ 67108864 → Stands w f t r done start is → Broke w f t r.standard (parted (done ++ piece)).lines start will) →
+    length piece ≤ 9223372036854775807 - r.taken →
+    ((done : List ℕ) (start : K) → length done + length piece ≤ 9223372036854775807 → Stands w f t r done start is → Broke w f t r.standard (parted (done ++ piece)).lines start will) →
     IfSome first (λ log. WroteFrontOf w f t (IsLogShown standard (lines_of log)) was will)
 front_piece {w = w} {f = f} {t = t} r standard first now next was is will a b piece h came told fits part =
-    let room : length h.done + length piece ≤ 67108864 = omega (arith, h.stands.taken_is, fits, h.small) in
+    let room : length h.done + length piece ≤ 9223372036854775807 = omega (arith, h.stands.taken_is, fits, h.small) in
     log_left first next (h.done ++ piece) (λ log. WroteFrontOf w f t (IsLogShown standard (lines_of log)) was will)
     (consumes_then first now next h.done piece h.told h.came came) (told ∙ h.told)
     (λ left.
@@ -225,20 +245,19 @@ front_piece {w = w} {f = f} {t = t} r standard first now next was is will a b pi
 -- all was read: what is shown of it was written, or its front
 at_end : {K : Type 0} {w : K → Option (List ℕ)} {f : K → ℕ} {t : K → ℕ → Type 0} (r : LogReader) (standard : Standard) (first now : Option (List ℕ)) (was is will : K) (a b : ℕ) (result : Result Bool LogStop) →
     (h : Reads w f t r standard first now was is a b) →
-    IfOk result (λ bad. (done : List ℕ) (start : K) → length done ≤ 67108864 → Stands w f t r done start is → ShowsAll w f t r.standard (lines_of done) bad start will) →
-    OnErr result ((done : List ℕ) (start : K) → length done ≤ 67108864 → Stands w f t r done start is → Broke w f t r.standard (lines_of done) start will) →
+    IfOk result (λ bad. (done : List ℕ) (start : K) → Stands w f t r done start is → ShowsAll w f t r.standard (lines_of done) bad start will) →
+    OnErr result ((done : List ℕ) (start : K) → Stands w f t r done start is → WroteFrontOf w f t (IsLogShown r.standard (lines_of done)) start will) →
     WroteFrontOf w f t (IsLogShown standard (lines_of h.done)) was will
 at_end {w = w} {f = f} {t = t} r standard first now was is will a b (Ok bad) h ok part =
     front_all standard (lines_of h.done) bad was will
-    (subst (λ (s : Standard). ShowsAll w f t s (lines_of h.done) bad was will) h.same (ok h.done was h.small h.stands))
+    (subst (λ (s : Standard). ShowsAll w f t s (lines_of h.done) bad was will) h.same (ok h.done was h.stands))
 at_end {w = w} {f = f} {t = t} r standard first now was is will a b (Err stop) h ok part =
-    front_of standard (lines_of h.done) was will
-    (subst (λ (s : Standard). Broke w f t s (lines_of h.done) was will) h.same (part h.done was h.small h.stands))
+    subst (λ (s : Standard). WroteFrontOf w f t (IsLogShown s (lines_of h.done)) was will) h.same (part h.done was h.stands)
 
 pub front_end : {K : Type 0} {w : K → Option (List ℕ)} {f : K → ℕ} {t : K → ℕ → Type 0} (r : LogReader) (standard : Standard) (first now next : Option (List ℕ)) (was is will : K) (a b : ℕ) (result : Result Bool LogStop) →
     Reads w f t r standard first now was is a b → Consumes now next [] → IsAtEnd next →
-    IfOk result (λ bad. (done : List ℕ) (start : K) → length done ≤ 67108864 → Stands w f t r done start is → ShowsAll w f t r.standard (lines_of done) bad start will) →
-    OnErr result ((done : List ℕ) (start : K) → length done ≤ 67108864 → Stands w f t r done start is → Broke w f t r.standard (lines_of done) start will) →
+    IfOk result (λ bad. (done : List ℕ) (start : K) → Stands w f t r done start is → ShowsAll w f t r.standard (lines_of done) bad start will) →
+    OnErr result ((done : List ℕ) (start : K) → Stands w f t r done start is → WroteFrontOf w f t (IsLogShown r.standard (lines_of done)) start will) →
     IfSome first (λ log. WroteFrontOf w f t (IsLogShown standard (lines_of log)) was will)
 front_end {w = w} {f = f} {t = t} r standard first now next was is will a b result h none end ok part =
     all_came first now next h.done (λ log. WroteFrontOf w f t (IsLogShown standard (lines_of log)) was will) h.came h.told none end
@@ -247,16 +266,16 @@ front_end {w = w} {f = f} {t = t} r standard first now next was is will a b resu
 -- the text that is answered
 given : {K : Type 0} {w : K → Option (List ℕ)} {f : K → ℕ} {t : K → ℕ → Type 0} (r : LogReader) (standard : Standard) (first now : Option (List ℕ)) (was is will : K) (a b : ℕ) (result : Result Bool LogStop) →
     (h : Reads w f t r standard first now was is a b) →
-    IfOk result (λ bad. (done : List ℕ) (start : K) → length done ≤ 67108864 → Stands w f t r done start is → ShowsAll w f t r.standard (lines_of done) bad start will) →
+    IfOk result (λ bad. (done : List ℕ) (start : K) → Stands w f t r done start is → ShowsAll w f t r.standard (lines_of done) bad start will) →
     IfOk result (λ bad. (text : List ℕ) × IsLogShown standard (lines_of h.done) text bad × Appends (w was) (w will) text)
 given {w = w} {f = f} {t = t} r standard first now was is will a b (Ok bad) h ok =
-    let all : ShowsAll w f t standard (lines_of h.done) bad was will = subst (λ (s : Standard). ShowsAll w f t s (lines_of h.done) bad was will) h.same (ok h.done was h.small h.stands) in
+    let all : ShowsAll w f t standard (lines_of h.done) bad was will = subst (λ (s : Standard). ShowsAll w f t s (lines_of h.done) bad was will) h.same (ok h.done was h.stands) in
     (all.text, all.is_shown, all.wrote.appended)
 given r standard first now was is will a b (Err stop) h ok = tt
 
 pub shown_end : {K : Type 0} {w : K → Option (List ℕ)} {f : K → ℕ} {t : K → ℕ → Type 0} (r : LogReader) (standard : Standard) (first now next : Option (List ℕ)) (was is will : K) (a b : ℕ) (result : Result Bool LogStop) →
     Reads w f t r standard first now was is a b → Consumes now next [] → IsAtEnd next →
-    IfOk result (λ bad. (done : List ℕ) (start : K) → length done ≤ 67108864 → Stands w f t r done start is → ShowsAll w f t r.standard (lines_of done) bad start will) →
+    IfOk result (λ bad. (done : List ℕ) (start : K) → Stands w f t r done start is → ShowsAll w f t r.standard (lines_of done) bad start will) →
     IfOk result (λ bad. IfSome first (λ log. AreWritten standard (w was) (w will) (lines_of log) bad))
 shown_end {w = w} r standard first now next was is will a b (Ok bad) h none end ok =
     let all = given r standard first now was is will a b (Ok bad) h ok in
@@ -266,7 +285,7 @@ shown_end r standard first now next was is will a b (Err stop) h none end ok = t
 
 pub exact_end : {K : Type 0} {w : K → Option (List ℕ)} {f : K → ℕ} {t : K → ℕ → Type 0} (r : LogReader) (standard : Standard) (first now next : Option (List ℕ)) (was is will : K) (a b : ℕ) (result : Result Bool LogStop) →
     Reads w f t r standard first now was is a b → Consumes now next [] → IsAtEnd next →
-    IfOk result (λ bad. (done : List ℕ) (start : K) → length done ≤ 67108864 → Stands w f t r done start is → ShowsAll w f t r.standard (lines_of done) bad start will) →
+    IfOk result (λ bad. (done : List ℕ) (start : K) → Stands w f t r done start is → ShowsAll w f t r.standard (lines_of done) bad start will) →
     IfSome first (λ log. IsExact (IsLogShown standard (lines_of log)) result)
 exact_end {w = w} r standard first now next was is will a b result h none end ok =
     all_came first now next h.done (λ log. IsExact (IsLogShown standard (lines_of log)) result) h.came h.told none end
@@ -275,11 +294,11 @@ exact_end {w = w} r standard first now next was is will a b result h none end ok
 
 pub complete_end : {K : Type 0} {w : K → Option (List ℕ)} {f : K → ℕ} {t : K → ℕ → Type 0} (r : LogReader) (standard : Standard) (first now next : Option (List ℕ)) (was is will : K) (a b : ℕ) (result : Result Bool LogStop) →
     Reads w f t r standard first now was is a b → Consumes now next [] → IsAtEnd next →
-    IfOk result (λ bad. (done : List ℕ) (start : K) → length done ≤ 67108864 → Stands w f t r done start is → ShowsAll w f t r.standard (lines_of done) bad start will) →
+    IfOk result (λ bad. (done : List ℕ) (start : K) → Stands w f t r done start is → ShowsAll w f t r.standard (lines_of done) bad start will) →
     IfErr result (StoppedWriting (f is) (f will)) → (Rose (f was) (f will) → ⊥) →
-    IfSome first (λ log. length log ≤ 67108864 → IsComplete (IsLogShown standard (lines_of log)) result (w was) (w will))
+    IfSome first (λ log. length log ≤ 9223372036854775807 → IsComplete (IsLogShown standard (lines_of log)) result (w was) (w will))
 complete_end {w = w} {f = f} r standard first now next was is will a b result h none end ok stops sound =
-    all_came first now next h.done (λ log. length log ≤ 67108864 → IsComplete (IsLogShown standard (lines_of log)) result (w was) (w will)) h.came h.told none end
+    all_came first now next h.done (λ log. length log ≤ 9223372036854775807 → IsComplete (IsLogShown standard (lines_of log)) result (w was) (w will)) h.came h.told none end
     (λ small.
     complete_of (IsLogShown standard (lines_of h.done)) (w was) (w will) result (f was) (f is) (f will) (one_lines standard (lines_of h.done))
     (given r standard first now was is will a b result h ok) stops h.wrote_later sound)

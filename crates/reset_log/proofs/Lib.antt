@@ -2,6 +2,7 @@ pub mod Digits
 pub mod Parts
 pub mod Commas
 pub mod At
+pub mod Update
 pub mod OneDrawing
 pub mod Judged
 pub mod InOrder

@@ -15,16 +15,17 @@ use Rattle.reset_log.specs.declared.line.Origin.{Origin}
 use Rattle.reset_log.specs.declared.line.Origin.TheVariants.{Controller, Core}
 use Rattle.reset_log.specs.declared.line.Reset.{Reset}
 use Rattle.reset_log.specs.declared.line.LogLine.{LogLine}
-use Rattle.reset_log.specs.declared.line.LogLine.TheVariants.{Other, Garbled, OfReset}
+use Rattle.reset_log.specs.declared.line.LogLine.TheVariants.{Other, Lost, Garbled, OfReset}
 use Rattle.reset_log.specs.declared.hear.ListFault.{ListFault}
 use Rattle.reset_log.specs.declared.hear.ListFault.TheVariants.{Cut, BadInverse, OfTree}
 use Rattle.reset_log.specs.declared.cards.Known.{Known}
+use Rattle.reset_log.specs.Noted.{Noted, nothing, last_of, compared, after}
 use Rattle.reset_log.specs.Line.{line_of}
 use Rattle.reset_log.specs.Hear.{AreQuads, IsHeard, IsUnheard}
-use Rattle.reset_log.specs.Texts.{head, numbers, changes, initiators, refused}
+use Rattle.reset_log.specs.Texts.{head, totals, numbers, changes, initiators, refused}
 use Rattle.reset_log.specs.Sentence.{packet_count, IsBefore, sentence, IsRefusalShown}
 use Rattle.topology_stack.specs.Tree.{walk}
-use Rattle.reset_log.specs.Shown.{last_tree, with_heard, IsBody, the_same, drawn, IsTreeShown, IsListShown, is_refused, is_heard, IsResetShown, is_unjudged, is_judged, IsShown, IsLineShown}
+use Rattle.reset_log.specs.Shown.{IsBody, the_same, drawn, IsTreeShown, IsListShown, is_refused, is_heard, IsResetShown, is_passed_over, is_unjudged, is_judged, IsShown, IsLineShown}
 use Rattle.reset_log.specs.Log.{lines_of, IsLogShown}
 use Rattle.reset_log.specs.OneText.{NoLogHasTwoTexts}
 use Rattle.reset_log.proofs.InOrder.{AreSame, told_once}
@@ -157,32 +158,37 @@ same_list standard origin front list before a b h g (is_heard t heard shown e) (
       e ∙ ap (λ (x : Tree). Some x) same ∙ sym d,
     )
 
-same_reset : (standard : Standard) (n : ℕ) (ks : List Known) (r : Reset) (a b : List ℕ) (c d : Bool) (p q : List Known) →
-    IsResetShown standard n ks r a c p → IsResetShown standard n ks r b d q → AreSame a b c d p q
-same_reset standard n ks r a b c d p q (is_unjudged err e f g) (is_unjudged too h i j) =
+both : (x : Bool) → x ≡ true → x ≡ false → ⊥
+both x e f = cc
+
+same_reset : (standard : Standard) (n : ℕ) (before : Option Known) (ks : Noted) (r : Reset) (a b : List ℕ) (c d : Bool) (p q : Noted) →
+    IsResetShown standard n before ks r a c p → IsResetShown standard n before ks r b d q →
+    AreSame a b c d p q
+same_reset standard n before ks r a b c d p q (is_passed_over rep e f g) (is_passed_over too h i j) =
     (e ∙ sym h, f ∙ sym i, g ∙ sym j)
-same_reset standard n ks r a b c d p q (is_unjudged err e f g) (is_judged heard well shown i j) = absurd (both r.is_error err well)
-  where
-    both : (x : Bool) → x ≡ true → x ≡ false → ⊥
-    both x e f = cc
-same_reset standard n ks r a b c d p q (is_judged heard well shown i j) (is_unjudged err e f g) = absurd (both r.is_error err well)
-  where
-    both : (x : Bool) → x ≡ true → x ≡ false → ⊥
-    both x e f = cc
-same_reset standard n ks r a b c d p q (is_judged h well shown e f) (is_judged g too again i j) =
-    let same = same_list standard r.origin (head n r) r.list (last_tree r.card ks) a b h g shown again in (
+same_reset standard n before ks r a b c d p q (is_passed_over rep e f g) (is_unjudged new err h i j) = absurd (both _ rep new)
+same_reset standard n before ks r a b c d p q (is_passed_over rep e f g) (is_judged heard new well shown i j) = absurd (both _ rep new)
+same_reset standard n before ks r a b c d p q (is_unjudged new err e f g) (is_passed_over rep h i j) = absurd (both _ rep new)
+same_reset standard n before ks r a b c d p q (is_judged heard new well shown e f) (is_passed_over rep h i j) = absurd (both _ rep new)
+same_reset standard n before ks r a b c d p q (is_unjudged new err e f g) (is_unjudged now too h i j) =
+    (e ∙ sym h, f ∙ sym i, g ∙ sym j)
+same_reset standard n before ks r a b c d p q (is_unjudged new err e f g) (is_judged heard now well shown i j) = absurd (both r.is_error err well)
+same_reset standard n before ks r a b c d p q (is_judged heard new well shown i j) (is_unjudged now err e f g) = absurd (both r.is_error err well)
+same_reset standard n before ks r a b c d p q (is_judged h new well shown e f) (is_judged g now too again i j) =
+    let same = same_list standard r.origin (head n before r) r.list (compared before r) a b h g shown again in (
       same.0,
       e ∙ ap (λ (t : Option Tree). is_none t) same.1 ∙ sym i,
-      f ∙ ap (λ (t : Option Tree). with_heard r.card t ks) same.1 ∙ sym j,
+      f ∙ ap (λ (t : Option Tree). after ks r t (is_none t)) same.1 ∙ sym j,
     )
 
-same_shown : (standard : Standard) (n : ℕ) (ks : List Known) (line : LogLine) (a b : List ℕ) (c d : Bool) (p q : List Known) →
+same_shown : (standard : Standard) (n : ℕ) (ks : Noted) (line : LogLine) (a b : List ℕ) (c d : Bool) (p q : Noted) →
     IsShown standard n ks line a c p → IsShown standard n ks line b d q → AreSame a b c d p q
 same_shown standard n ks Other a b c d p q x y = (x.0 ∙ sym y.0, x.1 ∙ sym y.1, x.2 ∙ sym y.2)
+same_shown standard n ks Lost a b c d p q x y = (x.0 ∙ sym y.0, x.1 ∙ sym y.1, x.2 ∙ sym y.2)
 same_shown standard n ks Garbled a b c d p q x y = (x.0 ∙ sym y.0, x.1 ∙ sym y.1, x.2 ∙ sym y.2)
-same_shown standard n ks (OfReset r) a b c d p q x y = same_reset standard n ks r a b c d p q x y
+same_shown standard n ks (OfReset r) a b c d p q x y = same_reset standard n (last_of r.card ks.cards) ks r a b c d p q x y
 
-pub same_line : (standard : Standard) (n : ℕ) (ks : List Known) (line a b : List ℕ) (c d : Bool) (p q : List Known) →
+pub same_line : (standard : Standard) (n : ℕ) (ks : Noted) (line a b : List ℕ) (c d : Bool) (p q : Noted) →
     IsLineShown standard n ks line a c p → IsLineShown standard n ks line b d q →
     AreSame a b c d p q
 same_line standard n ks line a b c d p q x y =
@@ -192,8 +198,8 @@ pub one_lines : (standard : Standard) (lines : List (List ℕ)) (a b : List ℕ)
     IsLogShown standard lines a c → IsLogShown standard lines b d → (a ≡ b) × (c ≡ d)
 one_lines standard lines a b c d x y =
     let same =
-    told_once (IsLineShown standard) (λ n ks line e f g h p q. same_line standard n ks line e f g h p q) 1 [] lines a b c d x.known y.known x.shown y.shown
-    in (same.0, same.1)
+    told_once (IsLineShown standard) (λ n ks line e f g h p q. same_line standard n ks line e f g h p q) 1 nothing lines x.told y.told c d x.known y.known x.shown y.shown
+    in (x.text_is ∙ ap (λ (l : List ℕ). l ++ totals x.known) same.0 ∙ ap (λ (k : Noted). y.told ++ totals k) same.2 ∙ sym y.text_is, same.1)
 
 pub one_text : NoLogHasTwoTexts
 one_text standard log a b c d x y = one_lines standard (lines_of log) a b c d x y

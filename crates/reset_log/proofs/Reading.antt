@@ -8,7 +8,11 @@ use Rattle.self_id.specs.declared.standard.Standard.{Standard}
 use Rattle.reset_log.specs.declared.log.LogReader.{LogReader}
 use Rattle.reset_log.specs.Shown.{IsLineShown}
 use Rattle.reset_log.specs.Log.{parted, open_lines, lines_of, AreShown}
-use Rattle.reset_log.specs.codings.Going.{IsNew, Stands, ShowsLine, ShowsAll, Reads}
+use Rattle.reset_log.specs.Notes.{noted}
+use Rattle.reset_log.specs.Noted.{nothing}
+use Rattle.reset_log.specs.Texts.{totals}
+use Rattle.reset_log.specs.Wrote.{Wrote}
+use Rattle.reset_log.specs.codings.Going.{IsNew, Stands, ShowsLine, ShowsLines, ShowsAll, Reads}
 use Rattle.reset_log.proofs.InOrder.{one_more}
 use Rattle.reset_log.proofs.Standing.{by_front}
 use Rattle.reset_log.proofs.Wrote.{wrote_nothing, wrote_then}
@@ -38,17 +42,14 @@ front_of_none (suc n) (x ∷ xs) e = absurd cc
 
 pub ended : {K : Type 0} {w : K → Option (List ℕ)} {f : K → ℕ} {t : K → ℕ → Type 0} (old : LogReader) (done : List ℕ) (start was : K) →
     Stands w f t old done start was → length old.line.items ≡ 0 →
-    ShowsAll w f t old.standard (lines_of done) old.bad start was
+    ShowsLines w f t old old.standard (lines_of done) start was
 ended old done start was st e =
     let none : old.line.items ≡ [] = no_items old.line.items e in
     let unopened : (parted done).open_line ≡ [] = empty_front 65536 (parted done).open_line (omega arith) (sym st.line_is ∙ none) in
     record {
       text = st.text;
-      is_shown = record {
-        known = old.cards.items;
-        shown =
-            subst (λ (ls : List (List ℕ)). AreShown old.standard 1 [] ls st.text old.bad old.cards.items) (sym (no_open done unopened)) st.shown;
-      };
+      shown =
+          subst (λ (ls : List (List ℕ)). AreShown old.standard 1 nothing ls st.text old.bad (noted old.notes)) (sym (no_open done unopened)) st.shown;
       wrote = st.wrote;
     }
   where
@@ -58,22 +59,29 @@ ended old done start was st e =
 
 pub ended_line : {K : Type 0} {w : K → Option (List ℕ)} {f : K → ℕ} {t : K → ℕ → Type 0} (old new : LogReader) (done : List ℕ) (start was is : K) →
     Stands w f t old done start was → ShowsLine w f t old new was is → (length old.line.items ≡ 0 → ⊥) →
-    ShowsAll w f t old.standard (lines_of done) new.bad start is
+    ShowsLines w f t new old.standard (lines_of done) start is
 ended_line old new done start was is st sh some =
     let opened : (parted done).open_line ≡ [] → ⊥ = λ e. some (ap (λ (l : List ℕ). length l) (st.line_is ∙ front_of_none 65536 (parted done).open_line e)) in
-    let shown : IsLineShown old.standard (1 + length (parted done).lines) old.cards.items (parted done).open_line sh.text sh.here new.cards.items =
-    by_front old.standard old.number _ old.cards.items old.cards.items new.cards.items old.line.items (parted done).open_line sh.text sh.here (omega (arith, st.number_is)) refl st.line_is sh.shown in
+    let shown : IsLineShown old.standard (1 + length (parted done).lines) (noted old.notes) (parted done).open_line sh.text sh.here (noted new.notes) =
+    by_front old.standard old.number _ (noted old.notes) (noted old.notes) (noted new.notes) old.line.items (parted done).open_line sh.text sh.here (omega (arith, st.number_is)) refl st.line_is sh.shown in
     record {
       text = st.text ++ sh.text;
-      is_shown = record {
-        known = new.cards.items;
-        shown =
-            subst (λ (b : Bool). AreShown old.standard 1 [] (lines_of done) (st.text ++ sh.text) b new.cards.items) (sym sh.bad)
-            (subst (λ (ls : List (List ℕ)). AreShown old.standard 1 [] ls (st.text ++ sh.text) (old.bad || sh.here) new.cards.items) (sym (some_open done opened))
-            (one_more (IsLineShown old.standard) 1 [] old.cards.items new.cards.items (parted done).lines (parted done).open_line st.text sh.text old.bad sh.here st.shown shown));
-      };
+      shown =
+          subst (λ (b : Bool). AreShown old.standard 1 nothing (lines_of done) (st.text ++ sh.text) b (noted new.notes)) (sym sh.bad)
+          (subst (λ (ls : List (List ℕ)). AreShown old.standard 1 nothing ls (st.text ++ sh.text) (old.bad || sh.here) (noted new.notes)) (sym (some_open done opened))
+          (one_more (IsLineShown old.standard) 1 nothing (noted old.notes) (noted new.notes) (parted done).lines (parted done).open_line st.text sh.text old.bad sh.here st.shown shown));
       wrote = wrote_then start was is st.text sh.text st.wrote sh.wrote;
     }
+
+-- all lines, and behind them what was counted
+pub in_all : {K : Type 0} {w : K → Option (List ℕ)} {f : K → ℕ} {t : K → ℕ → Type 0} (r : LogReader) (standard : Standard) (lines : List (List ℕ)) (start was is : K) →
+    ShowsLines w f t r standard lines start was → Wrote w f t was is (totals (noted r.notes)) →
+    ShowsAll w f t standard lines r.bad start is
+in_all r standard lines start was is sh wrote = record {
+  text = sh.text ++ totals (noted r.notes);
+  is_shown = record { known = noted r.notes; told = sh.text; shown = sh.shown; text_is = refl };
+  wrote = wrote_then start was is sh.text (totals (noted r.notes)) sh.wrote wrote;
+}
 
 -- whether a line is kept
 pub is_none : (size count : ℕ) (test : Bool) → test ≡ (size == 0) → test ≡ true → size ≡ count →
@@ -95,7 +103,7 @@ pub at_start : {K : Type 0} {w : K → Option (List ℕ)} {f : K → ℕ} {t : K
 unfolding parted
 at_start r a new = record {
   text = [];
-  shown = (refl, new.bad_is, new.cards_are);
+  shown = (refl, new.bad_is, new.noted_is);
   line_is = new.line_is;
   number_is = new.number_is;
   taken_is = new.taken_is;
@@ -124,12 +132,12 @@ consumes_then (Some x) (Some y) (Some z) xs ys told p q = p ∙ ap (λ (w : List
 
 pub reads_on : {K : Type 0} {w : K → Option (List ℕ)} {f : K → ℕ} {t : K → ℕ → Type 0} (r s : LogReader) (standard : Standard) (first now next : Option (List ℕ)) (was is will : K) (a b c : ℕ) (piece : List ℕ) →
     Reads w f t r standard first now was is a b → Consumes now next piece → StayTold now next →
-    length piece ≤ 67108864 - r.taken →
-    ((done : List ℕ) (start : K) → length done + length piece ≤ 67108864 → Stands w f t r done start is → Stands w f t s (done ++ piece) start will) →
+    length piece ≤ 9223372036854775807 - r.taken →
+    ((done : List ℕ) (start : K) → length done + length piece ≤ 9223372036854775807 → Stands w f t r done start is → Stands w f t s (done ++ piece) start will) →
     s.standard ≡ r.standard → b ≤ c → f is ≤ f will → Reads w f t s standard first next was will a c
 reads_on r s standard first now next was is will a b c piece h came told fits taken same later wrote =
     let size = h.stands.taken_is in
-    let room : length h.done + length piece ≤ 67108864 = omega (arith, size, fits, h.small) in
+    let room : length h.done + length piece ≤ 9223372036854775807 = omega (arith, size, fits, h.small) in
     record {
       done = h.done ++ piece;
       came = consumes_then first now next h.done piece h.told h.came came;
@@ -144,11 +152,11 @@ reads_on r s standard first now next was is will a b c piece h came told fits ta
 -- each piece leaves less room
 pub less_room : {K : Type 0} {w : K → Option (List ℕ)} {f : K → ℕ} {t : K → ℕ → Type 0} (r s : LogReader) (standard : Standard) (first now : Option (List ℕ)) (was is will : K) (a b : ℕ) (piece : List ℕ) →
     Reads w f t r standard first now was is a b → 0 < length piece →
-    length piece ≤ 67108864 - r.taken →
-    ((done : List ℕ) (start : K) → length done + length piece ≤ 67108864 → Stands w f t r done start is → Stands w f t s (done ++ piece) start will) →
-    67108864 - s.taken < 67108864 - r.taken
+    length piece ≤ 9223372036854775807 - r.taken →
+    ((done : List ℕ) (start : K) → length done + length piece ≤ 9223372036854775807 → Stands w f t r done start is → Stands w f t s (done ++ piece) start will) →
+    9223372036854775807 - s.taken < 9223372036854775807 - r.taken
 less_room r s standard first now was is will a b piece h some fits taken =
-    let room : length h.done + length piece ≤ 67108864 = omega (arith, h.stands.taken_is, fits, h.small) in
+    let room : length h.done + length piece ≤ 9223372036854775807 = omega (arith, h.stands.taken_is, fits, h.small) in
     let on = taken h.done was room h.stands in
     omega (arith, on.taken_is, h.stands.taken_is, length-append h.done piece, some, fits)
 
@@ -166,8 +174,8 @@ all_came (Some xs) (Some ys) (Some zs) done P came told none end p =
 
 -- more was taken than fits
 pub over : (first now next : Option (List ℕ)) (done piece : List ℕ) → Consumes first now done →
-    StayTold first now → Consumes now next piece → 67108864 < length done + length piece →
-    IfTold first next (λ xs ys. TookOver 67108864 xs ys)
+    StayTold first now → Consumes now next piece → 9223372036854775807 < length done + length piece →
+    IfTold first next (λ xs ys. TookOver 9223372036854775807 xs ys)
 over None now next done piece came told more long = tt
 over (Some xs) None next done piece came told more long = absurd came
 over (Some xs) (Some ys) None done piece came told more long = tt

@@ -18,18 +18,19 @@ use Rattle.reset_log.specs.declared.line.Origin.{Origin}
 use Rattle.reset_log.specs.declared.line.Origin.TheVariants.{Controller, Core}
 use Rattle.reset_log.specs.declared.line.Reset.{Reset}
 use Rattle.reset_log.specs.declared.line.LogLine.{LogLine}
-use Rattle.reset_log.specs.declared.line.LogLine.TheVariants.{Other, Garbled, OfReset}
+use Rattle.reset_log.specs.declared.line.LogLine.TheVariants.{Other, Lost, Garbled, OfReset}
 use Rattle.reset_log.specs.declared.hear.ListFault.{ListFault}
 use Rattle.reset_log.specs.declared.hear.ListFault.TheVariants.{Cut, BadInverse, OfTree}
+use Rattle.reset_log.specs.Noted.{Noted, nothing, is_repeated, last_of, compared, after, behind_loss}
 use Rattle.reset_log.specs.declared.cards.Known.{Known}
 use Rattle.reset_log.specs.Number.{are_digits, of_digits, value, number_of}
 use Rattle.reset_log.specs.Lists.{is_comma, before, numbers_of, between_commas, between_blanks, unclosed, within, spaced, list_in, list_of, bare}
 use Rattle.reset_log.specs.Words.{behind, to_field, words_of, value_of}
-use Rattle.reset_log.specs.Line.{named, list_field, reset_of, event, of_words, line_of}
+use Rattle.reset_log.specs.Line.{named, is_lost, list_field, reset_of, event, of_words, line_of}
 use Rattle.reset_log.specs.Hear.{IsHeard, IsUnheard}
-use Rattle.reset_log.specs.Texts.{garbled, head, unjudged, place, numbers, changes, initiators, refused}
+use Rattle.reset_log.specs.Texts.{garbled, lost, totals, head, unjudged, place, numbers, changes, initiators, refused}
 use Rattle.reset_log.specs.Sentence.{packet_count, quad_at, IsBefore, sentence}
-use Rattle.reset_log.specs.Shown.{last_tree, with_heard, IsBody, the_same, drawn, IsListShown, is_refused, is_heard, IsResetShown, is_unjudged, is_judged, IsShown, IsLineShown}
+use Rattle.reset_log.specs.Shown.{IsBody, the_same, drawn, IsListShown, is_refused, is_heard, IsResetShown, is_passed_over, is_unjudged, is_judged, IsShown, IsLineShown}
 use Rattle.reset_log.specs.Log.{lines_of}
 use Rattle.reset_log.specs.OneText.{EachLogHasAText}
 use Rattle.reset_log.proofs.InOrder.{told_some}
@@ -101,29 +102,33 @@ field_fits : (value : Option (List ℕ × List (List ℕ))) (ns : List ℕ) → 
 field_fits None ns e = absurd cc
 field_fits (Some value) ns e = list_fits value.0 (to_field value.1) (behind (codes "{") value.0) ns e
 
-list_is : (origin : Origin) (card generation : Option ℕ) (bad : Option Bool) (list : Option (List ℕ)) (r : Reset) →
-    reset_of origin card generation bad list ≡ OfReset r → list ≡ Some r.list
-list_is origin None generation bad list r e = absurd cc
-list_is origin (Some c) None bad list r e = absurd cc
-list_is origin (Some c) (Some g) None list r e = absurd cc
-list_is origin (Some c) (Some g) (Some b) None r e = absurd cc
-list_is origin (Some c) (Some g) (Some b) (Some l) r e =
-    let same : record { origin = origin; card = c; generation = g; is_error = b; list = l } ≡ r = cc in
+list_is : (origin : Origin) (time card generation : Option ℕ) (bad : Option Bool) (list : Option (List ℕ)) (r : Reset) →
+    reset_of origin time card generation bad list ≡ OfReset r → list ≡ Some r.list
+list_is origin time None generation bad list r e = absurd cc
+list_is origin time (Some c) None bad list r e = absurd cc
+list_is origin time (Some c) (Some g) None list r e = absurd cc
+list_is origin time (Some c) (Some g) (Some b) None r e = absurd cc
+list_is origin time (Some c) (Some g) (Some b) (Some l) r e =
+    let same : record { origin = origin; time = time; card = c; generation = g; is_error = b; list = l } ≡ r = cc in
     ap (λ (x : Reset). Some x.list) same
 
-event_fits : (origin : Origin) (words : List (List ℕ)) (r : Reset) → event origin words ≡ OfReset r →
+event_fits : (origin : Origin) (time : Option ℕ) (words : List (List ℕ)) (r : Reset) → event origin time words ≡ OfReset r →
     Fit r.list
-event_fits Controller words r e = field_fits (value_of (codes "packet_data=") words) r.list (list_is Controller _ _ _ _ r e)
-event_fits Core words r e = field_fits (value_of (codes "self_ids=") words) r.list (list_is Core _ _ _ _ r e)
+event_fits Controller time words r e = field_fits (value_of (codes "packet_data=") words) r.list (list_is Controller time _ _ _ _ r e)
+event_fits Core time words r e = field_fits (value_of (codes "self_ids=") words) r.list (list_is Core time _ _ _ _ r e)
 
-words_fit : (found : Option (Origin × List (List ℕ))) (r : Reset) → of_words found ≡ OfReset r →
+words_fit : (words : List (List ℕ)) (found : Option (Origin × Option ℕ × List (List ℕ))) (r : Reset) → of_words words found ≡ OfReset r →
     Fit r.list
-words_fit None r e = absurd cc
-words_fit (Some x) r e = event_fits x.0 x.1 r e
+words_fit words None r e = neither (is_lost words) e
+  where
+    neither : (v : Bool) → (if v then Lost else Other) ≡ OfReset r → Fit r.list
+    neither true e = absurd cc
+    neither false e = absurd cc
+words_fit words (Some x) r e = event_fits x.0 x.1 x.2 r e
 
 line_fits : (line : List ℕ) (r : Reset) → line_of line ≡ OfReset r → Fit r.list
 unfolding line_of
-line_fits line r e = words_fit (named (words_of (take 65536 line))) r e
+line_fits line r e = words_fit (words_of (take 65536 line)) (named None (words_of (take 65536 line))) r e
 
 -- ---- a list is heard, or it isn't
 
@@ -229,30 +234,32 @@ some_list standard origin front list before f = elim (heard_or_not standard orig
       (refused front g ++ sentence standard origin list p.0 g, None, is_refused g un (record { before = p.0; is_before = p.1; text_is = refl }) refl)
 ]
 
-abbrev SomeStep : (List ℕ → Bool → List Known → Type 0) → Type 0
-SomeStep Is = (text : List ℕ) × (bad : Bool) × (next : List Known) × Is text bad next
+abbrev SomeStep : (List ℕ → Bool → Noted → Type 0) → Type 0
+SomeStep Is = (text : List ℕ) × (bad : Bool) × (next : Noted) × Is text bad next
 
-some_reset : (standard : Standard) (n : ℕ) (ks : List Known) (r : Reset) → Fit r.list →
-    SomeStep (IsResetShown standard n ks r)
-some_reset standard n ks r f = go r.is_error refl
+some_reset : (standard : Standard) (n : ℕ) (before : Option Known) (ks : Noted) (r : Reset) → Fit r.list →
+    SomeStep (IsResetShown standard n before ks r)
+some_reset standard n before ks r f = go (is_repeated before r) r.is_error refl refl
   where
-    go : (v : Bool) → r.is_error ≡ v → SomeStep (IsResetShown standard n ks r)
-    go true e = (unjudged n r, false, ks, is_unjudged e refl refl refl)
-    go false e =
-        let l = some_list standard r.origin (head n r) r.list (last_tree r.card ks) f in
-        (l.0, is_none l.1, with_heard r.card l.1 ks, is_judged l.1 e l.2 refl refl)
+    go : (u v : Bool) → is_repeated before r ≡ u → r.is_error ≡ v → SomeStep (IsResetShown standard n before ks r)
+    go true v d e = ([], false, ks, is_passed_over d refl refl refl)
+    go false true d e = (unjudged n before r, false, after ks r None false, is_unjudged d e refl refl refl)
+    go false false d e =
+        let l = some_list standard r.origin (head n before r) r.list (compared before r) f in
+        (l.0, is_none l.1, after ks r l.1 (is_none l.1), is_judged l.1 d e l.2 refl refl)
 
-some_shown : (standard : Standard) (n : ℕ) (ks : List Known) (line : LogLine) →
+some_shown : (standard : Standard) (n : ℕ) (ks : Noted) (line : LogLine) →
     ((r : Reset) → line ≡ OfReset r → Fit r.list) → SomeStep (IsShown standard n ks line)
 some_shown standard n ks Other f = ([], false, ks, (refl, refl, refl))
+some_shown standard n ks Lost f = (lost n, false, behind_loss ks, (refl, refl, refl))
 some_shown standard n ks Garbled f = (garbled n, true, ks, (refl, refl, refl))
-some_shown standard n ks (OfReset r) f = some_reset standard n ks r (f r refl)
+some_shown standard n ks (OfReset r) f = some_reset standard n (last_of r.card ks.cards) ks r (f r refl)
 
-some_line : (standard : Standard) (n : ℕ) (ks : List Known) (line : List ℕ) →
+some_line : (standard : Standard) (n : ℕ) (ks : Noted) (line : List ℕ) →
     SomeStep (IsLineShown standard n ks line)
 some_line standard n ks line = some_shown standard n ks (line_of line) (line_fits line)
 
 pub some_text : EachLogHasAText
 some_text standard log =
-    let t = told_some (IsLineShown standard) (λ line. Unit {0}) (λ n ks line any. some_line standard n ks line) 1 [] (lines_of log) (λ k d few. tt) in
-    (t.0, t.1, record { known = t.2; shown = t.3 })
+    let t = told_some (IsLineShown standard) (λ line. Unit {0}) (λ n ks line any. some_line standard n ks line) 1 nothing (lines_of log) (λ k d few. tt) in
+    (t.0 ++ totals t.2, t.1, record { known = t.2; told = t.0; shown = t.3; text_is = refl })

@@ -2,6 +2,10 @@ pub mod Form
 pub mod Number
 pub mod Words
 pub mod Lists
+pub mod Time
+pub mod Update
+pub mod Noted
+pub mod Notes
 pub mod Line
 pub mod Stop
 pub mod Hear

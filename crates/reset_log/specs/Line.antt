@@ -1,13 +1,14 @@
 -- What a line of the log is, by itself.
-use Rattle.std.specs.Prelude.{ℕ, ◌||◌, Bool, true, false, List, [], ◌∷◌, take, Option, Some, None, if◌then◌else◌, codes}
+use Rattle.std.specs.Prelude.{ℕ, ◌||◌, ◌&&◌, is_some, Bool, true, false, List, [], ◌∷◌, take, Option, Some, None, if◌then◌else◌, codes}
 use Rattle.std.specs.Str.{bytes_eq}
 use Rattle.reset_log.specs.Number.{number_of}
-use Rattle.reset_log.specs.Words.{words_of, value_of}
+use Rattle.reset_log.specs.Words.{words_of, value_of, behind}
+use Rattle.reset_log.specs.Time.{time_of}
 use Rattle.reset_log.specs.Lists.{list_of}
 use Rattle.reset_log.specs.declared.line.Origin.{Origin}
 use Rattle.reset_log.specs.declared.line.Origin.TheVariants.{Controller, Core}
 use Rattle.reset_log.specs.declared.line.LogLine.{LogLine}
-use Rattle.reset_log.specs.declared.line.LogLine.TheVariants.{Other, Garbled, OfReset}
+use Rattle.reset_log.specs.declared.line.LogLine.TheVariants.{Other, Lost, Garbled, OfReset}
 
 -- the event that a word names, alone or behind its system's name
 abbrev pub event_of : List ℕ → Option Origin
@@ -17,11 +18,33 @@ event_of word =
     else (if bytes_eq word (codes "bus_reset_handle:")
     || bytes_eq word (codes "firewire:bus_reset_handle:") then Some Core else None)
 
--- the first event that is named, and the words behind it
-abbrev pub named : List (List ℕ) → Option (Origin × List (List ℕ))
-named [] = None
-named (word ∷ words) =
-    elim (event_of word) [ None ↦ named words | Some event ↦ Some (event, words) ]
+-- the time of a word where it is one, and else the one before
+abbrev pub or_time : Option ℕ → Option ℕ → Option ℕ
+or_time None before = before
+or_time (Some time) before = Some time
+
+-- the first event that is named, the last time before it where there is one, and the words behind it
+abbrev pub named : Option ℕ → List (List ℕ) → Option (Origin × Option ℕ × List (List ℕ))
+named time [] = None
+named time (word ∷ words) =
+    elim (event_of word) [
+      | None ↦ named (or_time (time_of word) time) words
+      | Some event ↦ Some (event, time, words)
+    ]
+
+-- ---- events that are lost
+
+abbrev pub is_loss : List ℕ → Bool
+is_loss word = bytes_eq word (codes "EVENTS]") || bytes_eq word (codes "DROPPED]")
+
+abbrev pub has_loss : List (List ℕ) → Bool
+has_loss [] = false
+has_loss (word ∷ words) = if is_loss word then true else has_loss words
+
+-- `CPU:2 [LOST 12 EVENTS]`, or as `trace-cmd report` prints it `CPU:2 [12 EVENTS DROPPED]`
+abbrev pub is_lost : List (List ℕ) → Bool
+is_lost [] = false
+is_lost (word ∷ words) = is_some (behind (codes "CPU:") word) && has_loss words
 
 -- ---- the fields of an event
 
@@ -43,35 +66,37 @@ truth_field None = None
 truth_field (Some value) = truth_of value.0
 
 -- a reset of its fields, where each of them is there
-abbrev pub reset_of : Origin → Option ℕ → Option ℕ → Option Bool → Option (List ℕ) → LogLine
-reset_of origin (Some card) (Some generation) (Some is_error) (Some list) =
+abbrev pub reset_of :
+    Origin → Option ℕ → Option ℕ → Option ℕ → Option Bool → Option (List ℕ) → LogLine
+reset_of origin time (Some card) (Some generation) (Some is_error) (Some list) =
     OfReset (record {
       origin = origin;
+      time = time;
       card = card;
       generation = generation;
       is_error = is_error;
       list = list;
     })
-reset_of origin _ _ _ _ = Garbled
+reset_of origin time _ _ _ _ = Garbled
 
 -- `self_id_complete: card_index=N is_error=B generation_at_completion=N packet_data=..`, and
 -- `bus_reset_handle: card_index=N generation=N self_ids=..`, with other fields among them
-abbrev pub event : Origin → List (List ℕ) → LogLine
-event Controller words =
-    reset_of Controller (number_field (value_of (codes "card_index=") words))
+abbrev pub event : Origin → Option ℕ → List (List ℕ) → LogLine
+event Controller time words =
+    reset_of Controller time (number_field (value_of (codes "card_index=") words))
     (number_field (value_of (codes "generation_at_completion=") words))
     (truth_field (value_of (codes "is_error=") words))
     (list_field (value_of (codes "packet_data=") words))
-event Core words =
-    reset_of Core (number_field (value_of (codes "card_index=") words))
+event Core time words =
+    reset_of Core time (number_field (value_of (codes "card_index=") words))
     (number_field (value_of (codes "generation=") words)) (Some false)
     (list_field (value_of (codes "self_ids=") words))
 
--- a line of words
-abbrev pub of_words : Option (Origin × List (List ℕ)) → LogLine
-of_words None = Other
-of_words (Some e) = event e.0 e.1
+-- a line of words, and the event that is named among them
+abbrev pub of_words : List (List ℕ) → Option (Origin × Option ℕ × List (List ℕ)) → LogLine
+of_words words None = if is_lost words then Lost else Other
+of_words words (Some e) = event e.0 e.1 e.2
 
 -- what a line is, by its first 65,536 bytes
 unfoldable pub line_of : List ℕ → LogLine
-line_of line = of_words (named (words_of (take 65536 line)))
+line_of line = of_words (words_of (take 65536 line)) (named None (words_of (take 65536 line)))

@@ -1,8 +1,9 @@
 -- What is shown of a log: of its lines in order, with the trees that are known at each.
-use Rattle.std.specs.Prelude.{ℕ, ◌==◌, Bool, if◌then◌else◌, Option, List, [], ◌∷◌, ◌++◌}
+use Rattle.std.specs.Prelude.{ℕ, ◌≡◌, ◌==◌, Bool, if◌then◌else◌, Option, List, [], ◌∷◌, ◌++◌}
 use Rattle.std.specs.Io.KnownBytes.{Appends}
 use Rattle.self_id.specs.declared.standard.Standard.{Standard}
-use Rattle.reset_log.specs.declared.cards.Known.{Known}
+use Rattle.reset_log.specs.Noted.{Noted, nothing}
+use Rattle.reset_log.specs.Texts.{totals}
 use Rattle.reset_log.specs.Shown.{IsLineShown}
 use Rattle.reset_log.specs.InOrder.{AreTold}
 
@@ -32,21 +33,30 @@ open_lines (b ∷ bytes) = (b ∷ bytes) ∷ []
 abbrev pub lines_of : List ℕ → List (List ℕ)
 lines_of bytes = (parted bytes).lines ++ open_lines (parted bytes).open_line
 
--- What is shown of lines that are numbered from here on, where these trees are known before them;
--- whether one of them is at fault, and the trees that are known behind them.
-abbrev pub AreShown :
-    Standard → ℕ → List Known → List (List ℕ) → List ℕ → Bool → List Known → Type 0
+-- What is shown of lines that are numbered from here on, where this is noted before them; whether one of them
+-- is at fault, and what is noted behind them.
+abbrev pub AreShown : Standard → ℕ → Noted → List (List ℕ) → List ℕ → Bool → Noted → Type 0
 AreShown standard = AreTold (IsLineShown standard)
 
--- what is shown of a log, and whether one of its lines is at fault
+-- what is shown of a log, of its lines and behind them in all, and whether one of its lines is at fault
 pub record IsLogShown (standard : Standard) (lines : List (List ℕ)) (text : List ℕ) (bad : Bool) :
     Type 0 where
-  pub known : List Known
-  pub shown : AreShown standard 1 [] lines text bad known
+  pub known : Noted
+  pub told : List ℕ
+  pub shown : AreShown standard 1 nothing lines told bad known
+  pub text_is : text ≡ told ++ totals known
 
 -- what was written is what is shown of these lines
 pub record AreWritten (standard : Standard) (old new : Option (List ℕ))
     (lines : List (List ℕ)) (bad : Bool) : Type 0 where
   pub text : List ℕ
   pub is_shown : IsLogShown standard lines text bad
+  pub wrote : Appends old new text
+
+-- what was written is what is shown of these lines, which others may follow
+pub record AreBegun (standard : Standard) (old new : Option (List ℕ)) (lines : List (List ℕ))
+    (bad : Bool) : Type 0 where
+  pub text : List ℕ
+  pub known : Noted
+  pub shown : AreShown standard 1 nothing lines text bad known
   pub wrote : Appends old new text

@@ -1,39 +1,19 @@
 -- What is shown of a reset's list, and of a line of the log.
-use Rattle.std.specs.Prelude.{◌≡◌, ℕ, ◌==◌, is_none, Bool, true, false, if◌then◌else◌, Option, Some, None, List, [], ◌∷◌, ◌++◌, slice_set, position, codes}
+use Rattle.std.specs.Prelude.{◌≡◌, ℕ, is_none, Bool, true, false, Option, Some, None, List, [], ◌++◌, codes}
 use Rattle.self_id.specs.declared.standard.Standard.{Standard}
 use Rattle.topology_stack.specs.Tree.{Tree, walk}
 use Rattle.view_text.specs.Drawing.{IsDrawing}
 use Rattle.reset_log.specs.declared.line.Origin.{Origin}
 use Rattle.reset_log.specs.declared.line.Reset.{Reset}
 use Rattle.reset_log.specs.declared.line.LogLine.{LogLine}
-use Rattle.reset_log.specs.declared.line.LogLine.TheVariants.{Other, Garbled, OfReset}
+use Rattle.reset_log.specs.declared.line.LogLine.TheVariants.{Other, Lost, Garbled, OfReset}
 use Rattle.reset_log.specs.declared.hear.ListFault.{ListFault}
 use Rattle.reset_log.specs.declared.cards.Known.{Known}
 use Rattle.reset_log.specs.Line.{line_of}
 use Rattle.reset_log.specs.Hear.{IsHeard, IsUnheard}
-use Rattle.reset_log.specs.Texts.{garbled, head, unjudged, numbers, changes, initiators}
+use Rattle.reset_log.specs.Noted.{Noted, is_repeated, last_of, compared, after, behind_loss}
+use Rattle.reset_log.specs.Texts.{garbled, lost, head, unjudged, numbers, changes, initiators}
 use Rattle.reset_log.specs.Sentence.{IsRefusalShown}
-
--- the tree of a card's last reset, of the cards that had one
-abbrev pub last_tree : ℕ → List Known → Option Tree
-last_tree card [] = None
-last_tree card (k ∷ ks) = if k.card == card then Some k.tree else last_tree card ks
-
-abbrev pub is_of : ℕ → Known → Bool
-is_of card k = k.card == card
-
-abbrev pub set_at : Option ℕ → Known → List Known → List Known
-set_at None k ks = ks ++ k ∷ []
-set_at (Some i) k ks = slice_set ks i k
-
--- the same with another tree of one card
-abbrev pub put : ℕ → Tree → List Known → List Known
-put card t ks = set_at (position (is_of card) ks) (record { card = card; tree = t }) ks
-
--- the same with the tree that one card's list is heard as, if it is
-abbrev pub with_heard : ℕ → Option Tree → List Known → List Known
-with_heard card None ks = ks
-with_heard card (Some t) ks = put card t ks
 
 -- this is the drawing of the tree before, if there was one
 abbrev pub WasDrawn : Option Tree → List ℕ → Type 0
@@ -70,27 +50,30 @@ pub data IsListShown (standard : Standard) (origin : Origin) (head list : List �
   is_heard : (t : Tree) → IsHeard standard origin list t → IsTreeShown head before t text →
       heard ≡ Some t → IsListShown standard origin head list before text heard
 
--- what is shown of a reset in the line with this number, whether it is at fault, and the trees that
--- are known behind it
-pub data IsResetShown (standard : Standard) (number : ℕ) (ks : List Known) (r : Reset)
-    (text : List ℕ) (bad : Bool) (next : List Known) : Type 0 where
-  is_unjudged : r.is_error ≡ true → text ≡ unjudged number r → bad ≡ false → next ≡ ks →
-      IsResetShown standard number ks r text bad next
-  is_judged : (heard : Option Tree) → r.is_error ≡ false →
-      IsListShown standard r.origin (head number r) r.list (last_tree r.card ks) text heard →
-      bad ≡ is_none heard → next ≡ with_heard r.card heard ks →
-      IsResetShown standard number ks r text bad next
+-- what is shown of a reset in the line with this number, whether it is at fault, and what is noted behind it;
+-- `before` is the card's reset before, if there was one
+pub data IsResetShown (standard : Standard) (number : ℕ) (before : Option Known) (n : Noted) (r : Reset)
+    (text : List ℕ) (bad : Bool) (next : Noted) : Type 0 where
+  is_passed_over : is_repeated before r ≡ true → text ≡ [] → bad ≡ false → next ≡ n →
+      IsResetShown standard number before n r text bad next
+  is_unjudged : is_repeated before r ≡ false → r.is_error ≡ true →
+      text ≡ unjudged number before r → bad ≡ false → next ≡ after n r None false →
+      IsResetShown standard number before n r text bad next
+  is_judged : (heard : Option Tree) → is_repeated before r ≡ false → r.is_error ≡ false →
+      IsListShown standard r.origin (head number before r) r.list (compared before r) text heard →
+      bad ≡ is_none heard → next ≡ after n r heard (is_none heard) →
+      IsResetShown standard number before n r text bad next
 
 -- what is shown of what a line is
-abbrev pub IsShown :
-    Standard → ℕ → List Known → LogLine → List ℕ → Bool → List Known → Type 0
-IsShown standard number ks Other text bad next = (text ≡ []) × (bad ≡ false) × (next ≡ ks)
-IsShown standard number ks Garbled text bad next =
-    (text ≡ garbled number) × (bad ≡ true) × (next ≡ ks)
-IsShown standard number ks (OfReset r) text bad next =
-    IsResetShown standard number ks r text bad next
+abbrev pub IsShown : Standard → ℕ → Noted → LogLine → List ℕ → Bool → Noted → Type 0
+IsShown standard number n Other text bad next = (text ≡ []) × (bad ≡ false) × (next ≡ n)
+IsShown standard number n Lost text bad next =
+    (text ≡ lost number) × (bad ≡ false) × (next ≡ behind_loss n)
+IsShown standard number n Garbled text bad next =
+    (text ≡ garbled number) × (bad ≡ true) × (next ≡ n)
+IsShown standard number n (OfReset r) text bad next =
+    IsResetShown standard number (last_of r.card n.cards) n r text bad next
 
-abbrev pub IsLineShown :
-    Standard → ℕ → List Known → List ℕ → List ℕ → Bool → List Known → Type 0
-IsLineShown standard number ks line text bad next =
-    IsShown standard number ks (line_of line) text bad next
+abbrev pub IsLineShown : Standard → ℕ → Noted → List ℕ → List ℕ → Bool → Noted → Type 0
+IsLineShown standard number n line text bad next =
+    IsShown standard number n (line_of line) text bad next

@@ -1,5 +1,5 @@
 -- The texts that show the resets of a log.
-use Rattle.std.specs.Prelude.{ℕ, ◌+◌, ◌-◌, ◌==◌, Bool, true, false, not, ◌&&◌, if◌then◌else◌, Option, Some, None, List, [], ◌∷◌, ◌++◌, length, slice_get, codes}
+use Rattle.std.specs.Prelude.{ℕ, ◌+◌, ◌-◌, ◌/◌, ◌%◌, ◌==◌, Bool, true, false, not, ◌&&◌, if◌then◌else◌, Option, Some, None, List, [], ◌∷◌, ◌++◌, length, slice_get, codes}
 use Rattle.self_id.specs.declared.fault.GroupFault.TheVariants.{NotSelfId, WrongId, BadOrder, Cut as GroupCut, TwoParents}
 use Rattle.self_id.specs.Node.{Node}
 use Rattle.topology_stack.specs.declared.fault.TreeFault.TheVariants.{Group, Empty, TooFewChildren, TreesLeft, AfterRoot, NoRoot, TooMany}
@@ -8,6 +8,9 @@ use Rattle.topology_stack.specs.Elect.{elected}
 use Rattle.view_text.specs.Packet.{field}
 use Rattle.view_text.specs.Drawing.{all_have}
 use Rattle.reset_log.specs.declared.line.Reset.{Reset}
+use Rattle.reset_log.specs.declared.cards.Known.{Known}
+use Rattle.reset_log.specs.declared.counts.Tally.{Tally}
+use Rattle.reset_log.specs.Noted.{Noted, since, missing, most_of}
 use Rattle.reset_log.specs.declared.hear.ListFault.{ListFault}
 use Rattle.reset_log.specs.declared.hear.ListFault.TheVariants.{Cut, BadInverse, OfTree}
 
@@ -15,15 +18,45 @@ use Rattle.reset_log.specs.declared.hear.ListFault.TheVariants.{Cut, BadInverse,
 unfoldable pub garbled : ℕ → List ℕ
 garbled number = field (codes "line ") number ++ codes " garbled\n"
 
+-- `line N events are lost`
+unfoldable pub lost : ℕ → List ℕ
+lost number = field (codes "line ") number ++ codes " events are lost\n"
+
+abbrev pub digit : ℕ → ℕ
+digit n = 48 + n % 10
+
+-- seconds, a point and six digits
+unfoldable pub seconds : List ℕ → ℕ → List ℕ
+seconds word micros =
+    field word (micros / 1000000)
+    ++ (46 ∷ digit (micros / 100000) ∷ digit (micros / 10000) ∷ digit (micros / 1000)
+    ∷ digit (micros / 100) ∷ digit (micros / 10) ∷ digit micros ∷ [])
+
+abbrev pub if_known : List ℕ → Option ℕ → List ℕ
+if_known word None = []
+if_known word (Some micros) = seconds word micros
+
+abbrev pub if_missing : ℕ → List ℕ
+if_missing count = if count == 0 then [] else field (codes " missing ") count
+
 -- `line N card C generation G`
-unfoldable pub head : ℕ → Reset → List ℕ
-head number r =
+unfoldable pub name : ℕ → Reset → List ℕ
+name number r =
     field (codes "line ") number
     ++ (field (codes " card ") r.card ++ field (codes " generation ") r.generation)
 
+-- where they are known ` time T`, ` after D` of the card's reset before, and ` missing M` of the resets between
+unfoldable pub moments : (time after : Option ℕ) → (missing : ℕ) → List ℕ
+moments time after missing =
+    if_known (codes " time ") time ++ (if_known (codes " after ") after ++ if_missing missing)
+
+unfoldable pub head : ℕ → Option Known → Reset → List ℕ
+head number before r =
+    name number r ++ moments r.time (since before r) (missing before r)
+
 -- the controller says that it failed
-unfoldable pub unjudged : ℕ → Reset → List ℕ
-unjudged number r = head number r ++ codes " is_error, not judged\n"
+unfoldable pub unjudged : ℕ → Option Known → Reset → List ℕ
+unjudged number before r = head number before r ++ codes " is_error, not judged\n"
 
 -- ---- a list that is refused
 
@@ -144,3 +177,21 @@ initiator id initiated =
 abbrev pub initiators : ℕ → List Node → List ℕ
 initiators id [] = []
 initiators id (n ∷ ns) = initiator id n.attrs.initiated ++ initiators (id + 1) ns
+
+-- ---- the end of a log
+
+unfoldable pub begun : Tally → List ℕ
+begun t =
+    field (codes ", most begun by card ") t.card
+    ++ (field (codes " node ") t.node ++ field (codes ": ") t.count)
+
+abbrev pub most : Option Tally → List ℕ
+most None = []
+most (Some t) = begun t
+
+-- `resets N refused M cards C`, and `, most begun by card C node I: K`
+unfoldable pub totals : Noted → List ℕ
+totals n =
+    field (codes "resets ") n.counts.resets
+    ++ (field (codes " refused ") n.counts.refused ++ (field (codes " cards ") (length n.cards)
+    ++ (most (most_of None n.tallies) ++ codes "\n")))

@@ -1,26 +1,31 @@
 //! The log of a live bus: the resets in the text of a Linux kernel's trace.
 //!
 //! Each line of it is by itself a bus reset with its fields, a garbled event, or something else
-//! (`line_of`). What is shown of a log is told of its lines in order, with the last tree of each card
+//! (`line_of`). What is shown of a log is told of its lines in order, with the last reset of each card
 //! (`show_log`).
 #![tactic(auto)]
 
 mod cards;
+mod counts;
 mod form;
+mod heads;
 mod hear;
 mod laws;
 mod line;
 mod list;
 mod log;
+mod notes;
 mod number;
 mod sentence;
 mod shown;
 mod stop;
 mod texts;
+mod time;
 mod word;
 mod words;
 
 pub use cards::Known;
+pub use counts::{Counts, Tally};
 pub use form::resets_standard;
 pub use hear::ListFault;
 pub use laws::logs_have_one_text;

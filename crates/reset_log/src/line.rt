@@ -1,11 +1,12 @@
 //! What a line of the log is, by itself.
 ghost use Rattle.std.specs.Prelude.{◌≡◌, Some, None, take, IfOk, MatchOption};
 ghost use Rattle.reset_log.specs.Words.{words_of, value_of};
-ghost use Rattle.reset_log.specs.Line.{event_of, named, number_field, list_field, truth_of, truth_field, reset_of, event, of_words, line_of};
+ghost use Rattle.reset_log.specs.Line.{event_of, named, or_time, is_loss, has_loss, is_lost, number_field, list_field, truth_of, truth_field, reset_of, event, of_words, line_of};
 ghost use Rattle.reset_log.specs.declared.line.Origin.{Origin};
 
 use crate::list::list_of;
 use crate::number::number_of;
+use crate::time::time_of;
 use crate::word::Word;
 use crate::words::{value_of, words_of};
 use quad_lanes::QuadList;
@@ -24,6 +25,8 @@ pub enum Origin {
 #[derive(Debug, Drop)]
 pub struct Reset {
     pub origin: Origin,
+    /// When it was, in microseconds, where its line says so.
+    pub time: Option<u64>,
     /// The number of the controller on its machine.
     pub card: u32,
     /// The count of resets, which begins again after 255.
@@ -39,6 +42,8 @@ pub struct Reset {
 pub enum LogLine {
     /// None of the two events.
     Other,
+    /// Events were lost here.
+    Lost,
     /// One of them, with a field that is missing or isn't what it has to be.
     Garbled,
     OfReset(Reset),
@@ -57,19 +62,52 @@ fn event_of(word: &Word) -> Option<Origin>
     }
 }
 
-/// The first event that is named, and the words behind it.
-fn named<'w, 'a>(words: &'w [Word<'a>]) -> Option<(Origin, &'w [Word<'a>])>
-    ensures { MatchOption result (named words.now ≡ None)
-        (λ e. named words.now ≡ Some (e.0, e.1.now)) }
+/// The first event that is named, the last time before it where there is one, and the words behind it.
+fn named<'w, 'a>(words: &'w [Word<'a>]) -> Option<(Origin, Option<u64>, &'w [Word<'a>])>
+    ensures { MatchOption result (named None words.now ≡ None)
+        (λ e. named None words.now ≡ Some (e.0, e.1, e.2.now)) }
 {
+    let mut time = None;
     let mut rest = words;
     while let [word, behind @ ..] = rest {
         if let Some(event) = event_of(word) {
-            return Some((event, behind));
+            return Some((event, time, behind));
+        }
+        if let Some(found) = time_of(word) {
+            time = Some(found);
         }
         rest = behind;
     }
     None
+}
+
+fn is_loss(word: &Word) -> bool
+    ensures { result ≡ is_loss word.now }
+{
+    word.is(b"EVENTS]") || word.is(b"DROPPED]")
+}
+
+fn has_loss(words: &[Word]) -> bool
+    ensures { result ≡ has_loss words.now }
+{
+    let mut rest = words;
+    while let [word, behind @ ..] = rest {
+        if is_loss(word) {
+            return true;
+        }
+        rest = behind;
+    }
+    false
+}
+
+/// Whether a line says that events were lost.
+fn is_lost(words: &[Word]) -> bool
+    ensures { result ≡ is_lost words.now }
+{
+    match words {
+        [word, behind @ ..] => word.behind(b"CPU:").is_some() && has_loss(behind),
+        [] => false,
+    }
 }
 
 /// The number behind a key.
@@ -111,16 +149,18 @@ fn truth_field(words: &[Word], key: &[u8]) -> Option<bool>
 /// A reset of its fields, where each of them is there.
 fn reset_of(
     origin: Origin,
+    time: Option<u64>,
     card: Option<u32>,
     generation: Option<u32>,
     is_error: Option<bool>,
     list: Option<QuadList>,
 ) -> LogLine
-    ensures { result ≡ reset_of origin card generation is_error list }
+    ensures { result ≡ reset_of origin time card generation is_error list }
 {
     match (card, generation, is_error, list) {
         (Some(card), Some(generation), Some(is_error), Some(list)) => LogLine::OfReset(Reset {
             origin,
+            time,
             card,
             generation,
             is_error,
@@ -131,8 +171,13 @@ fn reset_of(
 }
 
 /// An event with these words.
-fn event(alloc: Global, origin: Origin, words: &[Word]) -> Result<LogLine, AllocError>
-    ensures { IfOk result (λ line. line ≡ event origin words.now) }
+fn event(
+    alloc: Global,
+    origin: Origin,
+    time: Option<u64>,
+    words: &[Word],
+) -> Result<LogLine, AllocError>
+    ensures { IfOk result (λ line. line ≡ event origin time words.now) }
 {
     let card = number_field(words, b"card_index=");
     match origin {
@@ -140,12 +185,12 @@ fn event(alloc: Global, origin: Origin, words: &[Word]) -> Result<LogLine, Alloc
             let generation = number_field(words, b"generation_at_completion=");
             let is_error = truth_field(words, b"is_error=");
             let list = list_field(alloc, words, b"packet_data=")?;
-            Ok(reset_of(origin, card, generation, is_error, list))
+            Ok(reset_of(origin, time, card, generation, is_error, list))
         }
         Origin::Core => {
             let generation = number_field(words, b"generation=");
             let list = list_field(alloc, words, b"self_ids=")?;
-            Ok(reset_of(origin, card, generation, Some(false), list))
+            Ok(reset_of(origin, time, card, generation, Some(false), list))
         }
     }
 }
@@ -169,7 +214,8 @@ pub fn line_of(alloc: Global, line: &[u8]) -> Result<LogLine, AllocError>
 {
     let words = words_of(alloc, front(line, 65536))?;
     match named(&words) {
-        Some((origin, behind)) => event(alloc, origin, behind),
+        Some((origin, time, behind)) => event(alloc, origin, time, behind),
+        None if is_lost(&words) => Ok(LogLine::Lost),
         None => Ok(LogLine::Other),
     }
 }

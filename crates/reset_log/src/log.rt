@@ -3,20 +3,24 @@ ghost use Rattle.std.specs.Prelude.{◌≡◌, ◌≢◌, ◌↔◌, ◌<◌, �
 ghost use Rattle.std.specs.Io.KnownBytes.{IsAtEnd, Consumes};
 ghost use Rattle.io_edges.specs.Faults.{Rose};
 ghost use Rattle.io_edges.specs.Told.{IfTold, TookOver};
-ghost use Rattle.reset_log.specs.codings.Going.{IsNew, Stands, ShowsLine, KeepsByte, BreaksOff, Broke, ShowsAll};
+ghost use Rattle.reset_log.specs.codings.Going.{IsNew, Stands, ShowsLine, KeepsByte, BreaksOff, BreaksText, Broke, ShowsLines, ShowsAll};
 ghost use Rattle.reset_log.specs.Cause.{StoppedWriting};
-ghost use Rattle.reset_log.specs.Log.{parted, lines_of, IsLogShown, AreWritten};
+ghost use Rattle.reset_log.specs.Log.{parted, lines_of, IsLogShown, AreWritten, AreBegun};
+ghost use Rattle.reset_log.specs.Wrote.{Wrote, WroteFrontOf};
+ghost use Rattle.reset_log.specs.Texts.{totals};
+ghost use Rattle.reset_log.specs.Notes.{noted};
 ghost use Rattle.reset_log.specs.Answered.{IsExact, IsComplete, IsFront, IsSure};
 
-use crate::cards::Known;
+use crate::heads::totals_text;
+use crate::notes::Notes;
 use crate::shown::show_line;
 use crate::stop::LogStop;
 use io_edges::{Sink, Source, write_whole};
 use self_id::Standard;
 use std::alloc::Global;
 
-/// The most bytes of a log.
-pub const MAX_LOG: usize = 67_108_864;
+/// The most bytes of a log: as many come in 292,000 years at a megabyte a second.
+pub const MAX_LOG: usize = 9_223_372_036_854_775_807;
 
 /// The most bytes of a line that are kept.
 const MAX_LINE: usize = 65536;
@@ -24,11 +28,11 @@ const MAX_LINE: usize = 65536;
 /// The most bytes of one read.
 const PIECE: usize = 4096;
 
-/// A reader of a log. It keeps the line that isn't whole yet, and the last tree of each card.
+/// A reader of a log. It keeps the line that isn't whole yet, and what is noted of the log.
 #[derive(Debug, Drop)]
 pub(crate) struct LogReader {
     standard: Standard,
-    cards: Vec<Known>,
+    notes: Notes,
     line: Vec<u8>,
     number: u64,
     taken: usize,
@@ -43,7 +47,7 @@ impl LogReader {
     {
         LogReader {
             standard,
-            cards: Vec::new(alloc),
+            notes: Notes::new(alloc),
             line: Vec::new(alloc),
             number: 1,
             taken: 0,
@@ -63,7 +67,7 @@ impl LogReader {
         let shown = show_line(
             alloc,
             self.standard,
-            &mut self.cards,
+            &mut self.notes,
             self.number,
             &self.line,
         )?;
@@ -90,11 +94,11 @@ impl LogReader {
 
     /// Takes a byte, and shows the line that it ends.
     fn take_byte<K: Sink>(&mut self, alloc: Global, byte: u8, sink: &mut K) -> Result<(), LogStop>
-        ensures ok { OnOk result ((done : List ℕ) (start : K) → length done < 67108864 →
+        ensures ok { OnOk result ((done : List ℕ) (start : K) → length done < 9223372036854775807 →
             Stands K.written K.faults K.surely_takes self.old done start sink.old →
             Stands K.written K.faults K.surely_takes
             self.new (done ++ byte ∷ []) start sink.new) }
-        ensures part { OnErr result ((done : List ℕ) (start : K) → length done < 67108864 →
+        ensures part { OnErr result ((done : List ℕ) (start : K) → length done < 9223372036854775807 →
             Stands K.written K.faults K.surely_takes self.old done start sink.old →
             Broke K.written K.faults K.surely_takes
             self.old.standard (parted (done ++ byte ∷ [])).lines start sink.new) }
@@ -114,11 +118,11 @@ impl LogReader {
     /// Takes bytes, and shows the lines that they end.
     fn take<K: Sink>(&mut self, alloc: Global, bytes: &[u8], sink: &mut K) -> Result<(), LogStop>
         ensures ok { OnOk result ((done : List ℕ) (start : K) →
-            length done + length bytes.now ≤ 67108864 →
+            length done + length bytes.now ≤ 9223372036854775807 →
             Stands K.written K.faults K.surely_takes self.old done start sink.old →
             Stands K.written K.faults K.surely_takes self.new (done ++ bytes.now) start sink.new) }
         ensures part { OnErr result ((done : List ℕ) (start : K) →
-            length done + length bytes.now ≤ 67108864 →
+            length done + length bytes.now ≤ 9223372036854775807 →
             Stands K.written K.faults K.surely_takes self.old done start sink.old →
             Broke K.written K.faults K.surely_takes
             self.old.standard (parted (done ++ bytes.now)).lines start sink.new) }
@@ -132,13 +136,13 @@ impl LogReader {
         Ok(())
     }
 
-    /// Shows the last line where no line feed ended it, and says whether a line was at fault.
-    fn finish<K: Sink>(&mut self, alloc: Global, sink: &mut K) -> Result<bool, LogStop>
-        ensures ok { IfOk result (λ bad. (done : List ℕ) (start : K) → length done ≤ 67108864 →
+    /// Shows the last line where no line feed ended it.
+    fn show_last<K: Sink>(&mut self, alloc: Global, sink: &mut K) -> Result<(), LogStop>
+        ensures ok { OnOk result ((done : List ℕ) (start : K) →
             Stands K.written K.faults K.surely_takes self.old done start sink.old →
-            ShowsAll K.written K.faults K.surely_takes
-            self.old.standard (lines_of done) bad start sink.new) }
-        ensures part { OnErr result ((done : List ℕ) (start : K) → length done ≤ 67108864 →
+            ShowsLines K.written K.faults K.surely_takes
+            self.new self.old.standard (lines_of done) start sink.new) }
+        ensures part { OnErr result ((done : List ℕ) (start : K) →
             Stands K.written K.faults K.surely_takes self.old done start sink.old →
             Broke K.written K.faults K.surely_takes
             self.old.standard (lines_of done) start sink.new) }
@@ -146,19 +150,55 @@ impl LogReader {
         ensures later { K.faults sink.old ≤ K.faults sink.new }
     {
         if self.line.is_empty() {
-            return Ok(self.bad);
+            return Ok(());
         }
         self.show(alloc, sink)?;
+        Ok(())
+    }
+
+    /// Writes what was counted in all.
+    fn put_totals<K: Sink>(&self, alloc: Global, sink: &mut K) -> Result<(), LogStop>
+        ensures ok { OnOk result (Wrote K.written K.faults K.surely_takes
+            sink.old sink.new (totals (noted self.now.notes))) }
+        ensures part { OnErr result (BreaksText K.written K.faults K.surely_takes
+            sink.old sink.new (totals (noted self.now.notes))) }
+        ensures stops { IfErr result (StoppedWriting (K.faults sink.old) (K.faults sink.new)) }
+        ensures later { K.faults sink.old ≤ K.faults sink.new }
+    {
+        let text = totals_text(alloc, &self.notes)?;
+        if write_whole(sink, &text).is_err() {
+            return Err(LogStop::WriteFault);
+        }
+        Ok(())
+    }
+
+    /// Shows the last line where no line feed ended it, and what was counted in all. It says whether a
+    /// line was at fault.
+    fn finish<K: Sink>(&mut self, alloc: Global, sink: &mut K) -> Result<bool, LogStop>
+        ensures ok { IfOk result (λ bad. (done : List ℕ) (start : K) →
+            Stands K.written K.faults K.surely_takes self.old done start sink.old →
+            ShowsAll K.written K.faults K.surely_takes
+            self.old.standard (lines_of done) bad start sink.new) }
+        ensures part { OnErr result ((done : List ℕ) (start : K) →
+            Stands K.written K.faults K.surely_takes self.old done start sink.old →
+            WroteFrontOf K.written K.faults K.surely_takes
+            (IsLogShown self.old.standard (lines_of done)) start sink.new) }
+        ensures stops { IfErr result (StoppedWriting (K.faults sink.old) (K.faults sink.new)) }
+        ensures later { K.faults sink.old ≤ K.faults sink.new }
+    {
+        self.show_last(alloc, sink)?;
+        self.put_totals(alloc, sink)?;
         Ok(self.bad)
     }
 }
 
 /// Shows the bus of each reset in a log, by a standard: the text of a Linux kernel's trace, to its
 /// end. It says whether a line of it was at fault: an event that is garbled, or a list that no bus
-/// can have sent. What is shown of a line is written before the source is asked for more.
+/// can have sent. What is shown of a line is written before the source is asked for more, and behind
+/// the last line what was counted in all.
 ///
 /// `ReadFault` and `WriteFault` come only where the count of faults of the source or of the sink
-/// rose, and `TooLong` exactly where the source gave more than 67,108,864 bytes. After each of them,
+/// rose, and `TooLong` exactly where the source gave more than 9,223,372,036,854,775,807 bytes. After each of them,
 /// and where there was no memory, the front of the text is written; after `ReadFault` at least what
 /// is shown of the whole lines that were read is written. It keeps no more than 65,536 bytes of a
 /// line, and the last tree of each card.
@@ -179,10 +219,10 @@ pub fn show_log<S: Source, K: Sink>(
     ensures write_fault { IsErrOf result LogStop.WriteFault →
         Rose (K.faults sink.old) (K.faults sink.new) }
     ensures long { IfTold (S.left source.old) (S.left source.new) (λ old new.
-        IsErrOf result LogStop.TooLong ↔ TookOver 67108864 old new) }
+        IsErrOf result LogStop.TooLong ↔ TookOver 9223372036854775807 old new) }
     ensures waits { IsErrOf result LogStop.ReadFault → (read : List ℕ) × (bad : Bool)
         × Consumes (S.left source.old) (S.left source.new) read
-        × AreWritten standard (K.written sink.old) (K.written sink.new) (parted read).lines bad }
+        × AreBegun standard (K.written sink.old) (K.written sink.new) (parted read).lines bad }
     ensures part { IsErr result → IfSome (S.left source.old) (λ log.
         IsFront (IsLogShown standard (lines_of log)) (K.written sink.old) (K.written sink.new)) }
 
@@ -191,7 +231,7 @@ pub fn show_log<S: Source, K: Sink>(
         IsExact (IsLogShown standard (lines_of log)) result) }
     ensures complete { ¬ Rose (S.faults source.old) (S.faults source.new) →
         ¬ Rose (K.faults sink.old) (K.faults sink.new) → IfSome (S.left source.old) (λ log.
-        length log ≤ 67108864 → IsComplete (IsLogShown standard (lines_of log)) result
+        length log ≤ 9223372036854775807 → IsComplete (IsLogShown standard (lines_of log)) result
         (K.written sink.old) (K.written sink.new)) }
 
     // A sink that surely takes the text has no fault.

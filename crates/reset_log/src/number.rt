@@ -20,7 +20,7 @@ fn value(digits: &[u8], base: u32) -> Option<u32>
 
 #[tactic(auto, using(crate::proofs::Digits::read_digits, crate::proofs::Digits::too_many, crate::proofs::Digits::no_digits))]
 /// The same, where there is at least one digit and at most `most` of them.
-fn of_digits(digits: &[u8], base: u32, most: usize) -> Option<u32>
+pub(crate) fn of_digits(digits: &[u8], base: u32, most: usize) -> Option<u32>
     requires least { 2 ≤ base }
     requires most { base ≤ 16 }
     ensures { result ≡ of_digits base most digits.now }

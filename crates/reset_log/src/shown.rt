@@ -2,13 +2,17 @@
 ghost use Rattle.std.specs.Prelude.{◌≡◌, ◌++◌, IfOk, OnOk, is_none, IsTrue, ◌↔◌, true, false, Some, Option};
 ghost use Rattle.std.specs.Option.{option_copied};
 ghost use Rattle.topology_stack.specs.Tree.{Tree, walk};
-ghost use Rattle.reset_log.specs.Shown.{last_tree, with_heard, WasDrawn, WasOther, IsBody, IsTreeShown, IsListShown, IsResetShown, IsLineShown};
+ghost use Rattle.reset_log.specs.Noted.{last_of};
+ghost use Rattle.reset_log.specs.Notes.{noted};
+ghost use Rattle.reset_log.specs.Shown.{WasDrawn, WasOther, IsBody, IsTreeShown, IsListShown, IsResetShown, IsLineShown};
 
-use crate::cards::{Known, last_tree, put};
+use crate::cards::{compared, is_repeated, last_of};
+use crate::heads::{put_head, put_lost, put_unjudged};
 use crate::hear::{ListStop, hear};
 use crate::line::{LogLine, Origin, Reset, line_of};
+use crate::notes::Notes;
 use crate::sentence::refusal_text;
-use crate::texts::{put_changes, put_garbled, put_head, put_initiators, put_numbers, put_unjudged};
+use crate::texts::{put_changes, put_garbled, put_initiators, put_numbers};
 use self_id::Standard;
 use std::alloc::{AllocError, Global};
 use topology_stack::BusTree;
@@ -116,66 +120,66 @@ pub fn show_list(
     }
 }
 
-/// Keeps the tree that a card's list is heard as, if it is. It says whether the list is refused.
-fn keep_heard(cards: &mut Vec<Known>, card: u32, tree: Option<BusTree>) -> Result<bool, AllocError>
-    ensures kept { OnOk result (cards.new.items ≡ with_heard card tree cards.old.items) }
-    ensures bad { IfOk result (λ bad. bad ≡ is_none tree) }
-{
-    match tree {
-        Some(tree) => {
-            put(cards, card, tree)?;
-            Ok(false)
-        }
-        None => Ok(true),
-    }
-}
-
-/// Shows a reset, and keeps its tree.
+/// Shows a reset, and notes it.
 fn show_reset(
     alloc: Global,
     standard: Standard,
-    cards: &mut Vec<Known>,
+    notes: &mut Notes,
     number: u64,
     reset: &Reset,
 ) -> Result<Shown, AllocError>
-    ensures { IfOk result (λ shown. IsResetShown standard number cards.old.items reset.now
-        shown.text.items shown.bad cards.new.items) }
+    ensures { IfOk result (λ shown. IsResetShown standard number
+        (last_of reset.now.card notes.old.cards.items) (noted notes.old) reset.now
+        shown.text.items shown.bad (noted notes.new)) }
 {
+    let before = last_of(&notes.cards, reset.card);
     let mut head = Vec::new(alloc);
-    if reset.is_error {
-        put_unjudged(&mut head, number, reset)?;
+    if is_repeated(before, reset) {
         return Ok(Shown {
             text: head,
             bad: false,
         });
     }
-    put_head(&mut head, number, reset)?;
-    let before = last_tree(cards, reset.card);
+    if reset.is_error {
+        put_unjudged(&mut head, number, before, reset)?;
+        notes.keep(reset, None, false)?;
+        return Ok(Shown {
+            text: head,
+            bad: false,
+        });
+    }
+    put_head(&mut head, number, before, reset)?;
+    let old = compared(before, reset);
     let list = reset.list.as_slice();
-    let ListShown { text, tree } = show_list(alloc, standard, reset.origin, &head, before, list)?;
-    let bad = keep_heard(cards, reset.card, tree)?;
+    let ListShown { text, tree } = show_list(alloc, standard, reset.origin, &head, old, list)?;
+    let bad = tree.is_none();
+    notes.keep(reset, tree, bad)?;
     Ok(Shown { text, bad })
 }
 
-/// What is shown of the line with this number, which is counted from 1. The tree of a reset is kept
-/// as the last one of its card.
+/// What is shown of the line with this number, which is counted from 1. A reset is noted.
 pub(crate) fn show_line(
     alloc: Global,
     standard: Standard,
-    cards: &mut Vec<Known>,
+    notes: &mut Notes,
     number: u64,
     line: &[u8],
 ) -> Result<Shown, AllocError>
-    ensures { IfOk result (λ shown. IsLineShown standard number cards.old.items line.now
-        shown.text.items shown.bad cards.new.items) }
+    ensures { IfOk result (λ shown. IsLineShown standard number (noted notes.old) line.now
+        shown.text.items shown.bad (noted notes.new)) }
 {
     let mut text = Vec::new(alloc);
     match line_of(alloc, line)? {
         LogLine::Other => Ok(Shown { text, bad: false }),
+        LogLine::Lost => {
+            put_lost(&mut text, number)?;
+            notes.forget();
+            Ok(Shown { text, bad: false })
+        }
         LogLine::Garbled => {
             put_garbled(&mut text, number)?;
             Ok(Shown { text, bad: true })
         }
-        LogLine::OfReset(reset) => show_reset(alloc, standard, cards, number, &reset),
+        LogLine::OfReset(reset) => show_reset(alloc, standard, notes, number, &reset),
     }
 }

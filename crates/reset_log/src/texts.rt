@@ -4,10 +4,9 @@ ghost use Rattle.std.specs.Option.{option_copied};
 ghost use Rattle.self_id.specs.Node.{Node};
 ghost use Rattle.topology_stack.specs.Tree.{walk};
 ghost use Rattle.view_text.specs.Drawing.{all_have};
-ghost use Rattle.reset_log.specs.Texts.{garbled, head, unjudged, place, kind, counts, counts_of, fault_line, refused, manager, numbers, other_nodes, same_manager, other_manager, gap_of, agree, gaps_differ, changed, changes, initiator, initiators};
+ghost use Rattle.reset_log.specs.Texts.{garbled, place, kind, counts, counts_of, fault_line, refused, manager, numbers, other_nodes, same_manager, other_manager, gap_of, agree, gaps_differ, changed, changes, initiator, initiators};
 
 use crate::hear::ListFault;
-use crate::line::Reset;
 use self_id::{GroupFault, SelfId};
 use std::alloc::AllocError;
 use topology_stack::{BusTree, TreeFault, elect};
@@ -20,27 +19,6 @@ pub(crate) fn put_garbled(out: &mut Vec<u8>, number: u64) -> Result<(), AllocErr
 {
     put_field(out, b"line ", number)?;
     out.extend_from_slice(b" garbled\n")?;
-    Ok(())
-}
-
-/// Appends which reset a text is about.
-#[tactic(auto, unfolding(crate::specs::Texts::head))]
-pub(crate) fn put_head(out: &mut Vec<u8>, number: u64, reset: &Reset) -> Result<(), AllocError>
-    ensures { OnOk result (out.new.items ≡ out.old.items ++ head number reset.now) }
-{
-    put_field(out, b"line ", number)?;
-    put_field(out, b" card ", u64::from(reset.card))?;
-    put_field(out, b" generation ", u64::from(reset.generation))?;
-    Ok(())
-}
-
-/// Appends the line of a reset at which the controller failed.
-#[tactic(auto, unfolding(crate::specs::Texts::unjudged))]
-pub(crate) fn put_unjudged(out: &mut Vec<u8>, number: u64, reset: &Reset) -> Result<(), AllocError>
-    ensures { OnOk result (out.new.items ≡ out.old.items ++ unjudged number reset.now) }
-{
-    put_head(out, number, reset)?;
-    out.extend_from_slice(b" is_error, not judged\n")?;
     Ok(())
 }
 
@@ -263,7 +241,7 @@ fn put_initiator(out: &mut Vec<u8>, id: u8, initiated: bool) -> Result<(), Alloc
 }
 
 /// Whether the node with this ID began the reset.
-fn initiated(tree: &BusTree, id: u8) -> bool
+pub(crate) fn initiated(tree: &BusTree, id: u8) -> bool
     requires { id < length (walk tree.now) }
     ensures { (n : Node) → slice_get (walk tree.now) id ≡ Some n → result ≡ n.attrs.initiated }
 {

@@ -1,5 +1,5 @@
 -- Where the reader of a dump stands.
-use Rattle.std.specs.Prelude.{◌≡◌, ◌⊎◌, ℕ, ◌+◌, ◌<◌, ◌≤◌, ◌^◌, ◌||◌, Bool, true, false, drop, Option, Some, None, List, [], ◌∷◌, ◌++◌, length}
+use Rattle.std.specs.Prelude.{◌≡◌, ◌⊎◌, ℕ, ◌-◌, ◌+◌, ◌<◌, ◌≤◌, ◌^◌, ◌||◌, Bool, true, false, drop, Option, Some, None, List, [], ◌∷◌, ◌++◌, length}
 use Rattle.std.specs.Io.KnownBytes.{Consumes}
 use Rattle.io_edges.specs.Told.{StayTold}
 use Rattle.self_id.specs.declared.standard.Standard.{Standard}
@@ -63,7 +63,7 @@ pub record ShowsReset {K : Type 0} (written : K → Option (List ℕ)) (faults :
     pub shown : IsResetShown standard n t p text here u
     pub bad : c ≡ b || here
     pub wrote : Wrote written faults surely_takes was is text
-    pub number_is : n < 2 ^ 63 → m ≡ n + 1
+    pub number_is : n < 2 ^ 64 - 1 → m ≡ n + 1
 
 -- nothing waited, and nothing was done
 pub record ShowsNone {K : Type 0} (n : ℕ) (t : Option Tree) (b : Bool) (m : ℕ) (u : Option Tree)
@@ -188,7 +188,7 @@ pub record Reads {K : Type 0} (written : K → Option (List ℕ)) (faults : K �
     pub came : Consumes first now done
     pub told : StayTold first now
     pub stands : Stands written faults surely_takes IsOpen r done was is
-    pub small : length done ≤ 67108864
+    pub small : length done ≤ 9223372036854775807
     pub same : r.standard ≡ standard
     pub later : reads ≤ reading
     pub wrote_later : faults was ≤ faults is

@@ -3,7 +3,8 @@ use Rattle.std.specs.Prelude.{◌≡◌, ◌⊎◌, ℕ, ◌+◌, ◌<◌, ◌�
 use Rattle.std.specs.Io.KnownBytes.{Consumes}
 use Rattle.io_edges.specs.Told.{StayTold}
 use Rattle.self_id.specs.declared.standard.Standard.{Standard}
-use Rattle.reset_log.specs.declared.cards.Known.{Known}
+use Rattle.reset_log.specs.Noted.{Noted, nothing}
+use Rattle.reset_log.specs.Notes.{noted}
 use Rattle.reset_log.specs.declared.log.LogReader.{LogReader}
 use Rattle.reset_log.specs.Shown.{IsLineShown}
 use Rattle.reset_log.specs.Log.{parted, AreShown, IsLogShown}
@@ -11,7 +12,7 @@ use Rattle.reset_log.specs.Wrote.{Wrote, WroteFront}
 
 -- it was given nothing
 pub record IsNew (r : LogReader) : Type 0 where
-  pub cards_are : r.cards.items ≡ []
+  pub noted_is : noted r.notes ≡ nothing
   pub line_is : r.line.items ≡ []
   pub number_is : r.number ≡ 1
   pub taken_is : r.taken ≡ 0
@@ -22,7 +23,7 @@ pub record Stands {K : Type 0} (written : K → Option (List ℕ)) (faults : K �
     (surely_takes : K → ℕ → Type 0) (r : LogReader) (done : List ℕ) (old new : K) : Type 0
   where
     pub text : List ℕ
-    pub shown : AreShown r.standard 1 [] (parted done).lines text r.bad r.cards.items
+    pub shown : AreShown r.standard 1 nothing (parted done).lines text r.bad (noted r.notes)
     pub line_is : r.line.items ≡ take 65536 (parted done).open_line
     pub number_is : r.number ≡ length (parted done).lines + 1
     pub taken_is : r.taken ≡ length done
@@ -35,7 +36,7 @@ pub record ShowsLine {K : Type 0} (written : K → Option (List ℕ)) (faults : 
     pub text : List ℕ
     pub here : Bool
     pub shown :
-        IsLineShown old.standard old.number old.cards.items old.line.items text here new.cards.items
+        IsLineShown old.standard old.number (noted old.notes) old.line.items text here (noted new.notes)
     pub bad : new.bad ≡ old.bad || here
     pub wrote : Wrote written faults surely_takes was is text
     pub standard : new.standard ≡ old.standard
@@ -49,7 +50,7 @@ pub record KeepsByte (old new : LogReader) (byte : ℕ) : Type 0 where
       (line : List ℕ) → old.line.items ≡ take 65536 line →
       new.line.items ≡ take 65536 (line ++ byte ∷ [])
   pub standard : new.standard ≡ old.standard
-  pub cards : new.cards.items ≡ old.cards.items
+  pub notes : noted new.notes ≡ noted old.notes
   pub number_is : new.number ≡ old.number
   pub taken_is : new.taken ≡ old.taken
   pub bad : new.bad ≡ old.bad
@@ -60,8 +61,8 @@ pub record ShowsPart {K : Type 0} (written : K → Option (List ℕ)) (faults : 
   where
     pub text : List ℕ
     pub here : Bool
-    pub known : List Known
-    pub shown : IsLineShown r.standard r.number r.cards.items r.line.items text here known
+    pub known : Noted
+    pub shown : IsLineShown r.standard r.number (noted r.notes) r.line.items text here known
     pub wrote : WroteFront written faults surely_takes was is text
 
 -- the line that was kept wasn't shown whole
@@ -69,6 +70,12 @@ abbrev pub BreaksOff :
     {K : Type 0} → (K → Option (List ℕ)) → (K → ℕ) → (K → ℕ → Type 0) → LogReader → K → K → Type 0
 BreaksOff written faults surely_takes r was is =
     (is ≡ was) ⊎ ShowsPart written faults surely_takes r was is
+
+-- a text wasn't written whole
+abbrev pub BreaksText :
+    {K : Type 0} → (K → Option (List ℕ)) → (K → ℕ) → (K → ℕ → Type 0) → K → K → List ℕ → Type 0
+BreaksText written faults surely_takes was is text =
+    (is ≡ was) ⊎ WroteFront written faults surely_takes was is text
 
 -- the front of what is shown of the first of these lines was written
 pub record Broke {K : Type 0} (written : K → Option (List ℕ)) (faults : K → ℕ)
@@ -80,11 +87,20 @@ pub record Broke {K : Type 0} (written : K → Option (List ℕ)) (faults : K �
     pub lines_are : lines ≡ first ++ others
     pub text : List ℕ
     pub bad : Bool
-    pub known : List Known
-    pub shown : AreShown standard 1 [] first text bad known
+    pub known : Noted
+    pub shown : AreShown standard 1 nothing first text bad known
     pub wrote : WroteFront written faults surely_takes old new text
 
--- what is shown of these lines was written
+-- these lines were shown
+pub record ShowsLines {K : Type 0} (written : K → Option (List ℕ)) (faults : K → ℕ)
+    (surely_takes : K → ℕ → Type 0) (r : LogReader) (standard : Standard) (lines : List (List ℕ))
+    (old new : K) : Type 0
+  where
+    pub text : List ℕ
+    pub shown : AreShown standard 1 nothing lines text r.bad (noted r.notes)
+    pub wrote : Wrote written faults surely_takes old new text
+
+-- what is shown of a log of these lines was written
 pub record ShowsAll {K : Type 0} (written : K → Option (List ℕ)) (faults : K → ℕ)
     (surely_takes : K → ℕ → Type 0) (standard : Standard) (lines : List (List ℕ)) (bad : Bool)
     (old new : K) : Type 0
@@ -103,7 +119,7 @@ pub record Reads {K : Type 0} (written : K → Option (List ℕ)) (faults : K �
     pub came : Consumes first now done
     pub told : StayTold first now
     pub stands : Stands written faults surely_takes r done was is
-    pub small : length done ≤ 67108864
+    pub small : length done ≤ 9223372036854775807
     pub same : r.standard ≡ standard
     pub later : reads ≤ reading
     pub wrote_later : faults was ≤ faults is

@@ -13,14 +13,14 @@ loop-count-init g c =
 pub loop-count-preserved : goal.loop-count-preserved
 loop-count-preserved g c =
     let size : length (take c.in-Ok.count c.read.new.buf) ≡ c.in-Ok.count = sym c.in-Ok.ensures.bound.1 in
-    let fits : length (take c.in-Ok.count c.read.new.buf) ≤ 67108864 - c.loop-count.reader.taken = omega (arith, size, c.if-count-saturating_sub.false, c.saturating_sub.ensures) in
+    let fits : length (take c.in-Ok.count c.read.new.buf) ≤ 9223372036854775807 - c.loop-count.reader.taken = omega (arith, size, c.if-count-saturating_sub.false, c.saturating_sub.ensures) in
     reads_on c.loop-count.reader c.take.new.self c.args.standard _ _ _ _ _ _ _ _ _ (take c.in-Ok.count c.read.new.buf) c.loop-count.invariant c.in-Ok.ensures.bytes.0 c.in-Ok.ensures.told fits
     (rw c.in_default-2.is at c.in_ok-size.ensures.ok) c.in_ok-size.ensures.same c.in-Ok.ensures.later c.take.ensures.later
 
 pub loop-count-smaller : goal.loop-count-smaller
 loop-count-smaller g c =
     let size : length (take c.in-Ok.count c.read.new.buf) ≡ c.in-Ok.count = sym c.in-Ok.ensures.bound.1 in
-    let fits : length (take c.in-Ok.count c.read.new.buf) ≤ 67108864 - c.loop-count.reader.taken = omega (arith, size, c.if-count-saturating_sub.false, c.saturating_sub.ensures) in
+    let fits : length (take c.in-Ok.count c.read.new.buf) ≤ 9223372036854775807 - c.loop-count.reader.taken = omega (arith, size, c.if-count-saturating_sub.false, c.saturating_sub.ensures) in
     let some : 0 < length (take c.in-Ok.count c.read.new.buf) = omega (arith, size, c.if-count-eq0.false) in
     less_room c.loop-count.reader c.take.new.self c.args.standard _ _ _ _ _ _ _ (take c.in-Ok.count c.read.new.buf) c.loop-count.invariant some fits (rw c.in_default-2.is at c.in_ok-size.ensures.ok)
 
@@ -53,14 +53,14 @@ returns-then-count-saturating_sub-clause-sure g c =
 pub returns-in_err-size-clause-part : goal.returns-in_err-size-clause-part
 returns-in_err-size-clause-part g c = λ _.
     let size : length (take c.in-Ok.count c.read.new.buf) ≡ c.in-Ok.count = sym c.in-Ok.ensures.bound.1 in
-    let fits : length (take c.in-Ok.count c.read.new.buf) ≤ 67108864 - c.loop-count.reader.taken = omega (arith, size, c.if-count-saturating_sub.false, c.saturating_sub.ensures) in
+    let fits : length (take c.in-Ok.count c.read.new.buf) ≤ 9223372036854775807 - c.loop-count.reader.taken = omega (arith, size, c.if-count-saturating_sub.false, c.saturating_sub.ensures) in
     is_front _ _ _ (IsDumpShown c.args.standard) (g.S.Source.left c.args.source.now) c.args.sink.now c.take.new.sink
     (front_piece c.loop-count.reader c.args.standard _ _ _ _ _ _ _ _ (take c.in-Ok.count c.read.new.buf) c.loop-count.invariant c.in-Ok.ensures.bytes.0 c.in-Ok.ensures.told fits c.in_err-size.ensures.part)
 
 pub returns-in_err-size-clause-sure : goal.returns-in_err-size-clause-sure
 returns-in_err-size-clause-sure g c =
     let size : length (take c.in-Ok.count c.read.new.buf) ≡ c.in-Ok.count = sym c.in-Ok.ensures.bound.1 in
-    let fits : length (take c.in-Ok.count c.read.new.buf) ≤ 67108864 - c.loop-count.reader.taken = omega (arith, size, c.if-count-saturating_sub.false, c.saturating_sub.ensures) in
+    let fits : length (take c.in-Ok.count c.read.new.buf) ≤ 9223372036854775807 - c.loop-count.reader.taken = omega (arith, size, c.if-count-saturating_sub.false, c.saturating_sub.ensures) in
     is_sure _ _ _ (IsDumpShown c.args.standard) (g.S.Source.left c.args.source.now) c.args.sink.now c.take.new.sink
     (front_piece c.loop-count.reader c.args.standard _ _ _ _ _ _ _ _ (take c.in-Ok.count c.read.new.buf) c.loop-count.invariant c.in-Ok.ensures.bytes.0 c.in-Ok.ensures.told fits c.in_err-size.ensures.part)
 
@@ -96,21 +96,21 @@ returns-then-count-eq0-clause-complete g c = λ read sound.
 pub returns-in-Some-clause-part : goal.returns-in-Some-clause-part
 returns-in-Some-clause-part g c = λ _.
     let size : length (take c.in-Ok.count c.read.new.buf) ≡ c.in-Ok.count = sym c.in-Ok.ensures.bound.1 in
-    let fits : length (take c.in-Ok.count c.read.new.buf) ≤ 67108864 - c.loop-count.reader.taken = omega (arith, size, c.if-count-saturating_sub.false, c.saturating_sub.ensures) in
+    let fits : length (take c.in-Ok.count c.read.new.buf) ≤ 9223372036854775807 - c.loop-count.reader.taken = omega (arith, size, c.if-count-saturating_sub.false, c.saturating_sub.ensures) in
     is_front _ _ _ (IsDumpShown c.args.standard) (g.S.Source.left c.args.source.now) c.args.sink.now c.finish-in-Some.new.sink
     (front_cut c.loop-count.reader c.take.new.self c.args.standard _ _ _ _ _ _ _ _ _ (take c.in-Ok.count c.read.new.buf) c.in-Some.size c.finish-in-Some.result c.loop-count.invariant c.in-Ok.ensures.bytes.0 c.in-Ok.ensures.told fits (rw c.in-Some.is at c.in_ok-size.ensures.ok) c.in_ok-size.ensures.same c.finish-in-Some.ensures.ok c.finish-in-Some.ensures.part)
 
 pub returns-in-Some-clause-sure : goal.returns-in-Some-clause-sure
 returns-in-Some-clause-sure g c =
     let size : length (take c.in-Ok.count c.read.new.buf) ≡ c.in-Ok.count = sym c.in-Ok.ensures.bound.1 in
-    let fits : length (take c.in-Ok.count c.read.new.buf) ≤ 67108864 - c.loop-count.reader.taken = omega (arith, size, c.if-count-saturating_sub.false, c.saturating_sub.ensures) in
+    let fits : length (take c.in-Ok.count c.read.new.buf) ≤ 9223372036854775807 - c.loop-count.reader.taken = omega (arith, size, c.if-count-saturating_sub.false, c.saturating_sub.ensures) in
     is_sure _ _ _ (IsDumpShown c.args.standard) (g.S.Source.left c.args.source.now) c.args.sink.now c.finish-in-Some.new.sink
     (front_cut c.loop-count.reader c.take.new.self c.args.standard _ _ _ _ _ _ _ _ _ (take c.in-Ok.count c.read.new.buf) c.in-Some.size c.finish-in-Some.result c.loop-count.invariant c.in-Ok.ensures.bytes.0 c.in-Ok.ensures.told fits (rw c.in-Some.is at c.in_ok-size.ensures.ok) c.in_ok-size.ensures.same c.finish-in-Some.ensures.ok c.finish-in-Some.ensures.part)
 
 pub returns-in-Some-clause-shown : goal.returns-in-Some-clause-shown
 returns-in-Some-clause-shown g c =
     let size : length (take c.in-Ok.count c.read.new.buf) ≡ c.in-Ok.count = sym c.in-Ok.ensures.bound.1 in
-    let fits : length (take c.in-Ok.count c.read.new.buf) ≤ 67108864 - c.loop-count.reader.taken = omega (arith, size, c.if-count-saturating_sub.false, c.saturating_sub.ensures) in
+    let fits : length (take c.in-Ok.count c.read.new.buf) ≤ 9223372036854775807 - c.loop-count.reader.taken = omega (arith, size, c.if-count-saturating_sub.false, c.saturating_sub.ensures) in
     shown g.K.Sink.written g.K.Sink.faults g.K.Sink.surely_takes c.args.standard (g.S.Source.left c.args.source.now) c.args.sink.now c.finish-in-Some.new.sink c.finish-in-Some.result
     (map_ok c.finish-in-Some.result _ _
     (λ bad then.

@@ -7,4 +7,4 @@ invariant-loop-count g l = Reads g.K.Sink.written g.K.Sink.faults g.K.Sink.surel
     (g.S.Source.left l.initial.source) (g.S.Source.left l.source) l.initial.sink l.sink (g.S.Source.faults l.initial.source) (g.S.Source.faults l.source)
 
 abbrev pub decreases-loop-count : goal.decreases-loop-count
-decreases-loop-count g l = 67108864 - l.reader.taken
+decreases-loop-count g l = 9223372036854775807 - l.reader.taken

@@ -16,14 +16,14 @@ loop-count-init g c = at_first c.new-reader.result c.args.standard (g.S.Source.l
 pub loop-count-preserved : goal.loop-count-preserved
 loop-count-preserved g c =
     let size : length (take c.in-Ok.count c.read.new.buf) ≡ c.in-Ok.count = sym c.in-Ok.ensures.bound.1 in
-    let fits : length (take c.in-Ok.count c.read.new.buf) ≤ 67108864 - c.loop-count.reader.taken = omega (arith, size, c.if-count-saturating_sub.false, c.saturating_sub.ensures) in
+    let fits : length (take c.in-Ok.count c.read.new.buf) ≤ 9223372036854775807 - c.loop-count.reader.taken = omega (arith, size, c.if-count-saturating_sub.false, c.saturating_sub.ensures) in
     reads_on c.loop-count.reader c.take.new.self c.args.standard _ _ _ _ _ _ _ _ _ (take c.in-Ok.count c.read.new.buf) c.loop-count.invariant c.in-Ok.ensures.bytes.0 c.in-Ok.ensures.told fits
     c.in_ok-take.ensures.ok c.in_ok-take.ensures.same c.in-Ok.ensures.later c.take.ensures.later
 
 pub loop-count-smaller : goal.loop-count-smaller
 loop-count-smaller g c =
     let size : length (take c.in-Ok.count c.read.new.buf) ≡ c.in-Ok.count = sym c.in-Ok.ensures.bound.1 in
-    let fits : length (take c.in-Ok.count c.read.new.buf) ≤ 67108864 - c.loop-count.reader.taken = omega (arith, size, c.if-count-saturating_sub.false, c.saturating_sub.ensures) in
+    let fits : length (take c.in-Ok.count c.read.new.buf) ≤ 9223372036854775807 - c.loop-count.reader.taken = omega (arith, size, c.if-count-saturating_sub.false, c.saturating_sub.ensures) in
     let some : 0 < length (take c.in-Ok.count c.read.new.buf) = omega (arith, size, c.if-count-eq0.false) in
     less_room c.loop-count.reader c.take.new.self c.args.standard _ _ _ _ _ _ _ (take c.in-Ok.count c.read.new.buf) c.loop-count.invariant some fits c.in_ok-take.ensures.ok
 
@@ -52,14 +52,14 @@ returns-then-count-saturating_sub-clause-sure g c =
 pub returns-in_err-take-clause-part : goal.returns-in_err-take-clause-part
 returns-in_err-take-clause-part g c = λ _.
     let size : length (take c.in-Ok.count c.read.new.buf) ≡ c.in-Ok.count = sym c.in-Ok.ensures.bound.1 in
-    let fits : length (take c.in-Ok.count c.read.new.buf) ≤ 67108864 - c.loop-count.reader.taken = omega (arith, size, c.if-count-saturating_sub.false, c.saturating_sub.ensures) in
+    let fits : length (take c.in-Ok.count c.read.new.buf) ≤ 9223372036854775807 - c.loop-count.reader.taken = omega (arith, size, c.if-count-saturating_sub.false, c.saturating_sub.ensures) in
     is_front _ _ _ (IsTextBy c.args.standard) (g.S.Source.left c.args.source.now) c.args.sink.now c.take.new.sink
     (front_piece c.loop-count.reader c.args.standard _ _ _ _ _ _ _ _ (take c.in-Ok.count c.read.new.buf) c.loop-count.invariant c.in-Ok.ensures.bytes.0 c.in-Ok.ensures.told fits c.in_err-take.ensures.part)
 
 pub returns-in_err-take-clause-sure : goal.returns-in_err-take-clause-sure
 returns-in_err-take-clause-sure g c =
     let size : length (take c.in-Ok.count c.read.new.buf) ≡ c.in-Ok.count = sym c.in-Ok.ensures.bound.1 in
-    let fits : length (take c.in-Ok.count c.read.new.buf) ≤ 67108864 - c.loop-count.reader.taken = omega (arith, size, c.if-count-saturating_sub.false, c.saturating_sub.ensures) in
+    let fits : length (take c.in-Ok.count c.read.new.buf) ≤ 9223372036854775807 - c.loop-count.reader.taken = omega (arith, size, c.if-count-saturating_sub.false, c.saturating_sub.ensures) in
     is_sure _ _ _ (IsTextBy c.args.standard) (g.S.Source.left c.args.source.now) c.args.sink.now c.take.new.sink
     (front_piece c.loop-count.reader c.args.standard _ _ _ _ _ _ _ _ (take c.in-Ok.count c.read.new.buf) c.loop-count.invariant c.in-Ok.ensures.bytes.0 c.in-Ok.ensures.told fits c.in_err-take.ensures.part)
 

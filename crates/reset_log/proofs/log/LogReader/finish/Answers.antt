@@ -1,19 +1,20 @@
-use Rattle.reset_log.proofs.Reading.{ended, ended_line, is_none, is_some}
-use Rattle.reset_log.proofs.Fronts.{on_err, broke_last}
+use Rattle.reset_log.specs.Log.{lines_of}
+use Rattle.reset_log.proofs.Reading.{in_all}
+use Rattle.reset_log.proofs.Fronts.{on_err, front_of, front_totals}
 use Rattle.reset_log.proofs.log.LogReader.finish.Goals as goal
 
-pub returns-then-is_empty-clause-ok : goal.returns-then-is_empty-clause-ok
-returns-then-is_empty-clause-ok g c = λ done start few st.
-    ended c.args.self.now done start c.args.sink.now st
-    (is_none _ _ _ c.is_empty.ensures c.if-is_empty.true c.args.self.now.line.ok.0)
-
 pub returns-clause-ok : goal.returns-clause-ok
-returns-clause-ok g c = λ done start few st.
-    ended_line c.args.self.now c.show.new.self done start c.args.sink.now c.show.new.sink st c.in_ok-show.ensures.ok
-    (is_some _ _ _ c.is_empty.ensures c.if-is_empty.false c.args.self.now.line.ok.0)
+returns-clause-ok g c = λ done start st.
+    in_all c.show_last.new.self c.args.self.now.standard (lines_of done) start c.show_last.new.sink c.put_totals.new.sink
+    (c.in_ok-show_last.ensures.ok done start st) c.in_ok-put_totals.ensures.ok
 
-pub returns-in_err-show-clause-part : goal.returns-in_err-show-clause-part
-returns-in_err-show-clause-part g c =
-    on_err c.from_residual.result _ (λ done start few st.
-    broke_last c.args.self.now done start c.args.sink.now c.show.new.sink st c.in_err-show.ensures.part
-    (is_some _ _ _ c.is_empty.ensures c.if-is_empty.false c.args.self.now.line.ok.0))
+pub returns-in_err-show_last-clause-part : goal.returns-in_err-show_last-clause-part
+returns-in_err-show_last-clause-part g c =
+    on_err c.from_residual.result _ (λ done start st.
+    front_of c.args.self.now.standard (lines_of done) start c.show_last.new.sink (c.in_err-show_last.ensures.part done start st))
+
+pub returns-in_err-put_totals-clause-part : goal.returns-in_err-put_totals-clause-part
+returns-in_err-put_totals-clause-part g c =
+    on_err c.from_residual-in_err-put_totals.result _ (λ done start st.
+    front_totals c.show_last.new.self c.args.self.now.standard (lines_of done) start c.show_last.new.sink c.put_totals.new.sink
+    (c.in_ok-show_last.ensures.ok done start st) c.in_err-put_totals.ensures.part)

@@ -8,7 +8,7 @@ returns-then-len-lt-MAX_LINE-clause-ok c = record {
       c.in_ok-push.ensures.items
       ∙ kept_on 65536 c.args.self.now.line.items line c.args.byte (omega (arith, c.if-len-lt-MAX_LINE.true, c.len.ensures, c.args.self.now.line.ok.0)) e;
   standard = refl;
-  cards = refl;
+  notes = refl;
   number_is = refl;
   taken_is = refl;
   bad = refl;
@@ -19,7 +19,7 @@ returns-clause-ok c = record {
   line_is = λ line e.
       kept_full 65536 c.args.self.now.line.items line c.args.byte (omega (arith, c.if-len-lt-MAX_LINE.false, c.len.ensures, c.args.self.now.line.ok.0)) e;
   standard = refl;
-  cards = refl;
+  notes = refl;
   number_is = refl;
   taken_is = refl;
   bad = refl;

@@ -1,0 +1,157 @@
+-- What is noted behind the lines of a log so far: of each card its last reset, and what is counted.
+use Rattle.std.specs.Prelude.{ℕ, ◌+◌, ◌-◌, ◌%◌, ◌==◌, ◌&&◌, nat_le, not, Bool, true, false, is_some, is_none, if◌then◌else◌, Option, Some, None, List, [], ◌∷◌, map}
+use Rattle.io_edges.specs.Faults.{next_count}
+use Rattle.self_id.specs.Node.{Node}
+use Rattle.topology_stack.specs.Tree.{Tree, walk}
+use Rattle.reset_log.specs.declared.line.Origin.{Origin}
+use Rattle.reset_log.specs.declared.line.Origin.TheVariants.{Controller, Core}
+use Rattle.reset_log.specs.declared.line.Reset.{Reset}
+use Rattle.reset_log.specs.declared.cards.Known.{Known}
+use Rattle.reset_log.specs.declared.counts.Counts.{Counts}
+use Rattle.reset_log.specs.declared.counts.Tally.{Tally}
+use Rattle.reset_log.specs.Update.{first_of, updated}
+
+pub record Noted : Type 0 where
+  pub cards : List Known
+  pub counts : Counts
+  pub tallies : List Tally
+
+abbrev pub nothing : Noted
+nothing = record {
+  cards = [];
+  counts = record { resets = 0; refused = 0 };
+  tallies = [];
+}
+
+-- ---- the card's reset before
+
+abbrev pub is_of : ℕ → Known → Bool
+is_of card k = k.card == card
+
+abbrev pub last_of : ℕ → List Known → Option Known
+last_of card ks = first_of (is_of card) ks
+
+abbrev pub same_origin : Origin → Origin → Bool
+same_origin Controller Controller = true
+same_origin Controller Core = false
+same_origin Core Controller = false
+same_origin Core Core = true
+
+-- it is the card's last reset by its other event
+abbrev pub is_second : Option Known → Reset → Bool
+is_second None r = false
+is_second (Some k) r = (k.generation == r.generation) && not (same_origin k.origin r.origin)
+
+-- and that one was heard
+abbrev pub is_repeated : Option Known → Reset → Bool
+is_repeated None r = false
+is_repeated (Some k) r = is_second (Some k) r && k.is_heard
+
+-- how many resets are missing between two generations, which begin again after 255; of one generation that
+-- comes again nothing is known
+abbrev pub but_all : ℕ → ℕ
+but_all n = if n == 255 then 0 else n
+
+unfoldable pub skipped : ℕ → ℕ → ℕ
+skipped old new = but_all ((new % 256 + (255 - old % 256)) % 256)
+
+abbrev pub missing : Option Known → Reset → ℕ
+missing None r = 0
+missing (Some k) r = if is_second (Some k) r then 0 else skipped k.generation r.generation
+
+-- how long the card's reset before is past
+abbrev pub between : Option ℕ → Option ℕ → Option ℕ
+between None now = None
+between (Some past) None = None
+between (Some past) (Some now) = if nat_le past now then Some (now - past) else None
+
+abbrev pub since : Option Known → Reset → Option ℕ
+since None r = None
+since (Some k) r = if is_second (Some k) r then None else between k.time r.time
+
+-- the tree that a reset's is compared with: none where resets are missing between
+abbrev pub compared : Option Known → Reset → Option Tree
+compared None r = None
+compared (Some k) r = if missing (Some k) r == 0 then k.tree else None
+
+-- ---- behind a reset
+
+abbrev pub or_before : Option Tree → Option Tree → Option Tree
+or_before None before = before
+or_before (Some t) before = Some t
+
+abbrev pub known_by : Reset → Option Tree → Option Known → Known
+known_by r heard before = record {
+  card = r.card;
+  generation = r.generation;
+  origin = r.origin;
+  time = r.time;
+  is_heard = is_some heard;
+  tree = or_before heard (compared before r);
+}
+
+-- it is one more, unless it is the last one by its other event, and one more that is refused
+abbrev pub counted : (second refused : Bool) → Counts → Counts
+counted second refused c = record {
+  resets = if second then c.resets else next_count c.resets;
+  refused = if refused then next_count c.refused else c.refused;
+}
+
+abbrev pub is_tally : ℕ → ℕ → Tally → Bool
+is_tally card node t = (t.card == card) && (t.node == node)
+
+abbrev pub one_more_of : ℕ → ℕ → Option Tally → Tally
+one_more_of card node None = record { card = card; node = node; count = 1 }
+one_more_of card node (Some t) =
+    record { card = card; node = node; count = next_count t.count }
+
+abbrev pub tallied_if : Bool → ℕ → ℕ → List Tally → List Tally
+tallied_if initiated card node ts =
+    if initiated then updated (is_tally card node) (one_more_of card node) ts else ts
+
+-- each node that began the reset
+abbrev pub tallied : ℕ → ℕ → List Node → List Tally → List Tally
+tallied card node [] ts = ts
+tallied card node (n ∷ ns) ts =
+    tallied card (node + 1) ns (tallied_if n.attrs.initiated card node ts)
+
+abbrev pub tallied_by : ℕ → Option Tree → List Tally → List Tally
+tallied_by card None ts = ts
+tallied_by card (Some t) ts = tallied card 0 (walk t) ts
+
+-- behind a reset, the tree that it is heard as if it is, and whether it is refused
+abbrev pub after : Noted → Reset → Option Tree → Bool → Noted
+after n r heard refused = record {
+  cards = updated (is_of r.card) (known_by r heard) n.cards;
+  counts = counted (is_second (last_of r.card n.cards) r) refused n.counts;
+  tallies = tallied_by r.card heard n.tallies;
+}
+
+-- behind events that were lost: no tree is known
+abbrev pub forgotten : Known → Known
+forgotten k = record {
+  card = k.card;
+  generation = k.generation;
+  origin = k.origin;
+  time = k.time;
+  is_heard = k.is_heard;
+  tree = None;
+}
+
+abbrev pub behind_loss : Noted → Noted
+behind_loss n = record {
+  cards = map forgotten n.cards;
+  counts = n.counts;
+  tallies = n.tallies;
+}
+
+-- ---- who began most resets
+
+abbrev pub greater : Option Tally → Tally → Tally
+greater None t = t
+greater (Some best) t = if nat_le t.count best.count then best else t
+
+-- the first of those that began most
+abbrev pub most_of : Option Tally → List Tally → Option Tally
+most_of best [] = best
+most_of best (t ∷ ts) = most_of (Some (greater best t)) ts

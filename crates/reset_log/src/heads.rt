@@ -1,0 +1,161 @@
+//! The first line of what is shown of a reset, and the last line of a log.
+ghost use Rattle.std.specs.Prelude.{◌≡◌, ◌++◌, OnOk, IfOk};
+ghost use Rattle.std.specs.Option.{option_copied};
+ghost use Rattle.reset_log.specs.Texts.{lost, digit, seconds, if_known, if_missing, name, moments, head, unjudged, begun, most, totals};
+ghost use Rattle.reset_log.specs.Notes.{noted};
+
+use crate::cards::{Known, missing, since};
+use crate::counts::{Tally, most_of};
+use crate::line::Reset;
+use crate::notes::Notes;
+use std::alloc::{AllocError, Global};
+use view_text::put_field;
+
+/// Appends that events were lost.
+#[tactic(auto, unfolding(crate::specs::Texts::lost))]
+pub(crate) fn put_lost(out: &mut Vec<u8>, number: u64) -> Result<(), AllocError>
+    ensures { OnOk result (out.new.items ≡ out.old.items ++ lost number) }
+{
+    put_field(out, b"line ", number)?;
+    out.extend_from_slice(b" events are lost\n")?;
+    Ok(())
+}
+
+/// The last digit of a number.
+fn digit(number: u64) -> u8
+    ensures { result ≡ digit number }
+{
+    b'0' + (number % 10) as u8
+}
+
+/// Appends microseconds as seconds.
+#[tactic(auto, unfolding(crate::specs::Texts::seconds))]
+fn put_seconds(out: &mut Vec<u8>, word: &[u8], micros: u64) -> Result<(), AllocError>
+    ensures { OnOk result (out.new.items ≡ out.old.items ++ seconds word.now micros) }
+{
+    put_field(out, word, micros / 1_000_000)?;
+    let digits = [
+        b'.',
+        digit(micros / 100_000),
+        digit(micros / 10_000),
+        digit(micros / 1_000),
+        digit(micros / 100),
+        digit(micros / 10),
+        digit(micros),
+    ];
+    out.extend_from_slice(&digits)?;
+    Ok(())
+}
+
+fn put_if_known(out: &mut Vec<u8>, word: &[u8], micros: Option<u64>) -> Result<(), AllocError>
+    ensures { OnOk result (out.new.items ≡ out.old.items ++ if_known word.now micros) }
+{
+    match micros {
+        Some(micros) => put_seconds(out, word, micros),
+        None => Ok(()),
+    }
+}
+
+fn put_if_missing(out: &mut Vec<u8>, count: u32) -> Result<(), AllocError>
+    ensures { OnOk result (out.new.items ≡ out.old.items ++ if_missing count) }
+{
+    if count != 0 {
+        put_field(out, b" missing ", u64::from(count))?;
+    }
+    Ok(())
+}
+
+/// Appends which reset a text is about.
+#[tactic(auto, unfolding(crate::specs::Texts::name))]
+fn put_name(out: &mut Vec<u8>, number: u64, reset: &Reset) -> Result<(), AllocError>
+    ensures { OnOk result (out.new.items ≡ out.old.items ++ name number reset.now) }
+{
+    put_field(out, b"line ", number)?;
+    put_field(out, b" card ", u64::from(reset.card))?;
+    put_field(out, b" generation ", u64::from(reset.generation))?;
+    Ok(())
+}
+
+/// Appends when a reset was, how long the card's reset before is past, and how many are missing between.
+#[tactic(auto, unfolding(crate::specs::Texts::moments))]
+fn put_moments(
+    out: &mut Vec<u8>,
+    time: Option<u64>,
+    after: Option<u64>,
+    missing: u32,
+) -> Result<(), AllocError>
+    ensures { OnOk result (out.new.items ≡ out.old.items ++ moments time after missing) }
+{
+    put_if_known(out, b" time ", time)?;
+    put_if_known(out, b" after ", after)?;
+    put_if_missing(out, missing)?;
+    Ok(())
+}
+
+/// Appends which reset a text is about, behind the card's reset before.
+#[tactic(auto, unfolding(crate::specs::Texts::head))]
+pub(crate) fn put_head(
+    out: &mut Vec<u8>,
+    number: u64,
+    before: Option<&Known>,
+    reset: &Reset,
+) -> Result<(), AllocError>
+    ensures { OnOk result (out.new.items
+        ≡ out.old.items ++ head number (option_copied before.entry) reset.now) }
+{
+    let after = since(before, reset);
+    let missing = missing(before, reset);
+    put_name(out, number, reset)?;
+    put_moments(out, reset.time, after, missing)?;
+    Ok(())
+}
+
+/// Appends the line of a reset at which the controller failed.
+#[tactic(auto, unfolding(crate::specs::Texts::unjudged))]
+pub(crate) fn put_unjudged(
+    out: &mut Vec<u8>,
+    number: u64,
+    before: Option<&Known>,
+    reset: &Reset,
+) -> Result<(), AllocError>
+    ensures { OnOk result (out.new.items
+        ≡ out.old.items ++ unjudged number (option_copied before.entry) reset.now) }
+{
+    put_head(out, number, before, reset)?;
+    out.extend_from_slice(b" is_error, not judged\n")?;
+    Ok(())
+}
+
+/// Appends how many resets a node began.
+#[tactic(auto, unfolding(crate::specs::Texts::begun))]
+fn put_begun(out: &mut Vec<u8>, tally: Tally) -> Result<(), AllocError>
+    ensures { OnOk result (out.new.items ≡ out.old.items ++ begun tally) }
+{
+    put_field(out, b", most begun by card ", u64::from(tally.card))?;
+    put_field(out, b" node ", u64::from(tally.node))?;
+    put_field(out, b": ", tally.count)?;
+    Ok(())
+}
+
+fn put_most(out: &mut Vec<u8>, tally: Option<Tally>) -> Result<(), AllocError>
+    ensures { OnOk result (out.new.items ≡ out.old.items ++ most tally) }
+{
+    match tally {
+        Some(tally) => put_begun(out, tally),
+        None => Ok(()),
+    }
+}
+
+/// The last line of a log.
+#[tactic(auto, unfolding(crate::specs::Texts::totals))]
+pub(crate) fn totals_text(alloc: Global, notes: &Notes) -> Result<Vec<u8>, AllocError>
+    ensures { IfOk result (λ text. text.items ≡ totals (noted notes.now)) }
+{
+    let mut text = Vec::new(alloc);
+    put_field(&mut text, b"resets ", notes.counts.resets)?;
+    put_field(&mut text, b" refused ", notes.counts.refused)?;
+    put_field(&mut text, b" cards ", notes.cards.len() as u64)?;
+    put_most(&mut text, most_of(&notes.tallies))?;
+    text.extend_from_slice(b"\n")?;
+    Ok(text)
+}
