@@ -14,6 +14,10 @@ fn lines_by_themselves(rt: HostRuntime) -> Result<(), Fail> {
         ),
         (b"", 'o'),
         (b"CPU:2 [LOST 12 EVENTS]", 'l'),
+        (
+            b"[ 1.000001] firewire_core 0000:05:00.0: topology build failed",
+            's',
+        ),
         (b"x: bus_reset_handle: card_index=0 generation=1", 'g'),
         (
             b"bus_reset_handle: card_index=0 generation=1 self_ids={0x1,}",
@@ -31,6 +35,7 @@ fn lines_by_themselves(rt: HostRuntime) -> Result<(), Fail> {
         let kind = match line_of(rt.alloc(), line)? {
             LogLine::Other => 'o',
             LogLine::Lost => 'l',
+            LogLine::Said(_) => 's',
             LogLine::Garbled => 'g',
             LogLine::OfReset(reset) => match reset.origin {
                 Origin::Controller => 'c',

@@ -15,7 +15,7 @@ use Rattle.reset_log.specs.declared.line.Origin.{Origin}
 use Rattle.reset_log.specs.declared.line.Origin.TheVariants.{Controller, Core}
 use Rattle.reset_log.specs.declared.line.Reset.{Reset}
 use Rattle.reset_log.specs.declared.line.LogLine.{LogLine}
-use Rattle.reset_log.specs.declared.line.LogLine.TheVariants.{Other, Lost, Garbled, OfReset}
+use Rattle.reset_log.specs.declared.line.LogLine.TheVariants.{Other, Lost, Said, Garbled, OfReset}
 use Rattle.reset_log.specs.declared.hear.ListFault.{ListFault}
 use Rattle.reset_log.specs.declared.hear.ListFault.TheVariants.{Cut, BadInverse, OfTree}
 use Rattle.reset_log.specs.declared.cards.Known.{Known}
@@ -185,6 +185,7 @@ same_shown : (standard : Standard) (n : ℕ) (ks : Noted) (line : LogLine) (a b 
     IsShown standard n ks line a c p → IsShown standard n ks line b d q → AreSame a b c d p q
 same_shown standard n ks Other a b c d p q x y = (x.0 ∙ sym y.0, x.1 ∙ sym y.1, x.2 ∙ sym y.2)
 same_shown standard n ks Lost a b c d p q x y = (x.0 ∙ sym y.0, x.1 ∙ sym y.1, x.2 ∙ sym y.2)
+same_shown standard n ks (Said words) a b c d p q x y = (x.0 ∙ sym y.0, x.1 ∙ sym y.1, x.2 ∙ sym y.2)
 same_shown standard n ks Garbled a b c d p q x y = (x.0 ∙ sym y.0, x.1 ∙ sym y.1, x.2 ∙ sym y.2)
 same_shown standard n ks (OfReset r) a b c d p q x y = same_reset standard n (last_of r.card ks.cards) ks r a b c d p q x y
 

@@ -18,7 +18,7 @@ use Rattle.reset_log.specs.declared.line.Origin.{Origin}
 use Rattle.reset_log.specs.declared.line.Origin.TheVariants.{Controller, Core}
 use Rattle.reset_log.specs.declared.line.Reset.{Reset}
 use Rattle.reset_log.specs.declared.line.LogLine.{LogLine}
-use Rattle.reset_log.specs.declared.line.LogLine.TheVariants.{Other, Lost, Garbled, OfReset}
+use Rattle.reset_log.specs.declared.line.LogLine.TheVariants.{Other, Lost, Said, Garbled, OfReset}
 use Rattle.reset_log.specs.declared.hear.ListFault.{ListFault}
 use Rattle.reset_log.specs.declared.hear.ListFault.TheVariants.{Cut, BadInverse, OfTree}
 use Rattle.reset_log.specs.Noted.{Noted, nothing, is_repeated, last_of, compared, after, behind_loss}
@@ -26,9 +26,10 @@ use Rattle.reset_log.specs.declared.cards.Known.{Known}
 use Rattle.reset_log.specs.Number.{are_digits, of_digits, value, number_of}
 use Rattle.reset_log.specs.Lists.{is_comma, before, numbers_of, between_commas, between_blanks, unclosed, within, spaced, list_in, list_of, bare}
 use Rattle.reset_log.specs.Words.{behind, to_field, words_of, value_of}
-use Rattle.reset_log.specs.Line.{named, is_lost, list_field, reset_of, event, of_words, line_of}
+use Rattle.reset_log.specs.Line.{named, is_lost, said_or_other, list_field, reset_of, event, of_words, line_of}
+use Rattle.reset_log.specs.Said.{said}
 use Rattle.reset_log.specs.Hear.{IsHeard, IsUnheard}
-use Rattle.reset_log.specs.Texts.{garbled, lost, totals, head, unjudged, place, numbers, changes, initiators, refused}
+use Rattle.reset_log.specs.Texts.{garbled, lost, told, totals, head, unjudged, place, numbers, changes, initiators, refused}
 use Rattle.reset_log.specs.Sentence.{packet_count, quad_at, IsBefore, sentence}
 use Rattle.reset_log.specs.Shown.{IsBody, the_same, drawn, IsListShown, is_refused, is_heard, IsResetShown, is_passed_over, is_unjudged, is_judged, IsShown, IsLineShown}
 use Rattle.reset_log.specs.Log.{lines_of}
@@ -119,11 +120,12 @@ event_fits Core time words r e = field_fits (value_of (codes "self_ids=") words)
 
 words_fit : (words : List (List ℕ)) (found : Option (Origin × Option ℕ × List (List ℕ))) (r : Reset) → of_words words found ≡ OfReset r →
     Fit r.list
-words_fit words None r e = neither (is_lost words) e
+words_fit words None r e = neither (is_lost words) (said words) e
   where
-    neither : (v : Bool) → (if v then Lost else Other) ≡ OfReset r → Fit r.list
-    neither true e = absurd cc
-    neither false e = absurd cc
+    neither : (v : Bool) (text : Option (List ℕ)) → (if v then Lost else said_or_other text) ≡ OfReset r → Fit r.list
+    neither true text e = absurd cc
+    neither false None e = absurd cc
+    neither false (Some text) e = absurd cc
 words_fit words (Some x) r e = event_fits x.0 x.1 x.2 r e
 
 line_fits : (line : List ℕ) (r : Reset) → line_of line ≡ OfReset r → Fit r.list
@@ -252,6 +254,7 @@ some_shown : (standard : Standard) (n : ℕ) (ks : Noted) (line : LogLine) →
     ((r : Reset) → line ≡ OfReset r → Fit r.list) → SomeStep (IsShown standard n ks line)
 some_shown standard n ks Other f = ([], false, ks, (refl, refl, refl))
 some_shown standard n ks Lost f = (lost n, false, behind_loss ks, (refl, refl, refl))
+some_shown standard n ks (Said words) f = (told n words, false, ks, (refl, refl, refl))
 some_shown standard n ks Garbled f = (garbled n, true, ks, (refl, refl, refl))
 some_shown standard n ks (OfReset r) f = some_reset standard n (last_of r.card ks.cards) ks r (f r refl)
 

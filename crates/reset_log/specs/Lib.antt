@@ -6,6 +6,7 @@ pub mod Time
 pub mod Update
 pub mod Noted
 pub mod Notes
+pub mod Said
 pub mod Line
 pub mod Stop
 pub mod Hear

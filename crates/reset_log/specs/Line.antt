@@ -4,11 +4,12 @@ use Rattle.std.specs.Str.{bytes_eq}
 use Rattle.reset_log.specs.Number.{number_of}
 use Rattle.reset_log.specs.Words.{words_of, value_of, behind}
 use Rattle.reset_log.specs.Time.{time_of}
+use Rattle.reset_log.specs.Said.{said}
 use Rattle.reset_log.specs.Lists.{list_of}
 use Rattle.reset_log.specs.declared.line.Origin.{Origin}
 use Rattle.reset_log.specs.declared.line.Origin.TheVariants.{Controller, Core}
 use Rattle.reset_log.specs.declared.line.LogLine.{LogLine}
-use Rattle.reset_log.specs.declared.line.LogLine.TheVariants.{Other, Lost, Garbled, OfReset}
+use Rattle.reset_log.specs.declared.line.LogLine.TheVariants.{Other, Lost, Said, Garbled, OfReset}
 
 -- the event that a word names, alone or behind its system's name
 abbrev pub event_of : List ℕ → Option Origin
@@ -92,9 +93,13 @@ event Core time words =
     (number_field (value_of (codes "generation=") words)) (Some false)
     (list_field (value_of (codes "self_ids=") words))
 
+abbrev pub said_or_other : Option (List ℕ) → LogLine
+said_or_other None = Other
+said_or_other (Some text) = Said text
+
 -- a line of words, and the event that is named among them
 abbrev pub of_words : List (List ℕ) → Option (Origin × Option ℕ × List (List ℕ)) → LogLine
-of_words words None = if is_lost words then Lost else Other
+of_words words None = if is_lost words then Lost else said_or_other (said words)
 of_words words (Some e) = event e.0 e.1 e.2
 
 -- what a line is, by its first 65,536 bytes

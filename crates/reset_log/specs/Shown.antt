@@ -6,13 +6,13 @@ use Rattle.view_text.specs.Drawing.{IsDrawing}
 use Rattle.reset_log.specs.declared.line.Origin.{Origin}
 use Rattle.reset_log.specs.declared.line.Reset.{Reset}
 use Rattle.reset_log.specs.declared.line.LogLine.{LogLine}
-use Rattle.reset_log.specs.declared.line.LogLine.TheVariants.{Other, Lost, Garbled, OfReset}
+use Rattle.reset_log.specs.declared.line.LogLine.TheVariants.{Other, Lost, Said, Garbled, OfReset}
 use Rattle.reset_log.specs.declared.hear.ListFault.{ListFault}
 use Rattle.reset_log.specs.declared.cards.Known.{Known}
 use Rattle.reset_log.specs.Line.{line_of}
 use Rattle.reset_log.specs.Hear.{IsHeard, IsUnheard}
 use Rattle.reset_log.specs.Noted.{Noted, is_repeated, last_of, compared, after, behind_loss}
-use Rattle.reset_log.specs.Texts.{garbled, lost, head, unjudged, numbers, changes, initiators}
+use Rattle.reset_log.specs.Texts.{garbled, lost, told, head, unjudged, numbers, changes, initiators}
 use Rattle.reset_log.specs.Sentence.{IsRefusalShown}
 
 -- this is the drawing of the tree before, if there was one
@@ -69,6 +69,8 @@ abbrev pub IsShown : Standard → ℕ → Noted → LogLine → List ℕ → Boo
 IsShown standard number n Other text bad next = (text ≡ []) × (bad ≡ false) × (next ≡ n)
 IsShown standard number n Lost text bad next =
     (text ≡ lost number) × (bad ≡ false) × (next ≡ behind_loss n)
+IsShown standard number n (Said words) text bad next =
+    (text ≡ told number words) × (bad ≡ false) × (next ≡ n)
 IsShown standard number n Garbled text bad next =
     (text ≡ garbled number) × (bad ≡ true) × (next ≡ n)
 IsShown standard number n (OfReset r) text bad next =

@@ -22,6 +22,10 @@ garbled number = field (codes "line ") number ++ codes " garbled\n"
 unfoldable pub lost : ℕ → List ℕ
 lost number = field (codes "line ") number ++ codes " events are lost\n"
 
+-- `line N`, and what the kernel says there
+unfoldable pub told : ℕ → List ℕ → List ℕ
+told number words = field (codes "line ") number ++ (codes " " ++ (words ++ codes "\n"))
+
 abbrev pub digit : ℕ → ℕ
 digit n = 48 + n % 10
 

@@ -1,7 +1,7 @@
 //! The first line of what is shown of a reset, and the last line of a log.
 ghost use Rattle.std.specs.Prelude.{◌≡◌, ◌++◌, OnOk, IfOk};
 ghost use Rattle.std.specs.Option.{option_copied};
-ghost use Rattle.reset_log.specs.Texts.{lost, digit, seconds, if_known, if_missing, name, moments, head, unjudged, begun, most, totals};
+ghost use Rattle.reset_log.specs.Texts.{lost, told, digit, seconds, if_known, if_missing, name, moments, head, unjudged, begun, most, totals};
 ghost use Rattle.reset_log.specs.Notes.{noted};
 
 use crate::cards::{Known, missing, since};
@@ -18,6 +18,18 @@ pub(crate) fn put_lost(out: &mut Vec<u8>, number: u64) -> Result<(), AllocError>
 {
     put_field(out, b"line ", number)?;
     out.extend_from_slice(b" events are lost\n")?;
+    Ok(())
+}
+
+/// Appends what the kernel says.
+#[tactic(auto, unfolding(crate::specs::Texts::told))]
+pub(crate) fn put_told(out: &mut Vec<u8>, number: u64, words: &[u8]) -> Result<(), AllocError>
+    ensures { OnOk result (out.new.items ≡ out.old.items ++ told number words.now) }
+{
+    put_field(out, b"line ", number)?;
+    out.extend_from_slice(b" ")?;
+    out.extend_from_slice(words)?;
+    out.extend_from_slice(b"\n")?;
     Ok(())
 }
 

@@ -6,6 +6,7 @@ ghost use Rattle.reset_log.specs.declared.line.Origin.{Origin};
 
 use crate::list::list_of;
 use crate::number::number_of;
+use crate::said::{LogText, said};
 use crate::time::time_of;
 use crate::word::Word;
 use crate::words::{value_of, words_of};
@@ -44,6 +45,8 @@ pub enum LogLine {
     Other,
     /// Events were lost here.
     Lost,
+    /// The kernel says this.
+    Said(LogText),
     /// One of them, with a field that is missing or isn't what it has to be.
     Garbled,
     OfReset(Reset),
@@ -216,6 +219,9 @@ pub fn line_of(alloc: Global, line: &[u8]) -> Result<LogLine, AllocError>
     match named(&words) {
         Some((origin, time, behind)) => event(alloc, origin, time, behind),
         None if is_lost(&words) => Ok(LogLine::Lost),
-        None => Ok(LogLine::Other),
+        None => match said(alloc, &words)? {
+            Some(text) => Ok(LogLine::Said(text)),
+            None => Ok(LogLine::Other),
+        },
     }
 }

@@ -7,7 +7,7 @@ ghost use Rattle.reset_log.specs.Notes.{noted};
 ghost use Rattle.reset_log.specs.Shown.{WasDrawn, WasOther, IsBody, IsTreeShown, IsListShown, IsResetShown, IsLineShown};
 
 use crate::cards::{compared, is_repeated, last_of};
-use crate::heads::{put_head, put_lost, put_unjudged};
+use crate::heads::{put_head, put_lost, put_told, put_unjudged};
 use crate::hear::{ListStop, hear};
 use crate::line::{LogLine, Origin, Reset, line_of};
 use crate::notes::Notes;
@@ -174,6 +174,10 @@ pub(crate) fn show_line(
         LogLine::Lost => {
             put_lost(&mut text, number)?;
             notes.forget();
+            Ok(Shown { text, bad: false })
+        }
+        LogLine::Said(words) => {
+            put_told(&mut text, number, words.as_slice())?;
             Ok(Shown { text, bad: false })
         }
         LogLine::Garbled => {

@@ -1,5 +1,5 @@
 //! A word of a line.
-ghost use Rattle.std.specs.Prelude.{◌≡◌, IsTrue, ◌↔◌, IfSome, position};
+ghost use Rattle.std.specs.Prelude.{◌≡◌, IsTrue, ◌↔◌, IfSome, ◌-◌, drop, length, position};
 ghost use Rattle.std.specs.Option.{option_copied, option_map};
 ghost use Rattle.std.specs.Str.{bytes_eq};
 ghost use Rattle.reset_log.specs.Words.{is_equals, behind, is_of_field};
@@ -53,6 +53,13 @@ impl<'a> Word<'a> {
         ensures { result ≡ is_of_field self.now }
     {
         first_equals(self.bytes).is_some()
+    }
+
+    /// Whether the word ends with this text.
+    pub(crate) fn ends(&self, text: &[u8]) -> bool
+        ensures { result ≡ bytes_eq (drop (length self.now - length text.now) self.now) text.now }
+    {
+        self.bytes.ends_with(text)
     }
 
     /// What stands behind a key, where the word begins with it.
