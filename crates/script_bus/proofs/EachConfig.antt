@@ -318,11 +318,11 @@ module _
         (tree-from keeps names-one moves sets w sent.world now.world after.world h.reached c.node there c.tree s i gap f a x events none run is.1 place is.0.parts is.2.parts)
         (subst (λ (ns : Names). IsReportText ns after.notes.reports is.0 text) (sym (ap (λ (n : Notes). n.names) is.3)) is.4)
 
-    root :
+    root-printed :
         (o : Option ℕ) → id ≡ o →
         IfSome o (λ i. i < length c.tree.order → PrintsTree w.cabling c.node (node_with c.tree i) after text)
-    root None e = tt
-    root (Some i) e = prints i e
+    root-printed None e = tt
+    root-printed (Some i) e = prints i e
 
     have : IfSome gap (HaveGap after.world c.node)
     have = gaps keeps names-one moves sets w sent.world now.world after.world h.reached c.node there c.tree s (unwrap_or id 0) (is_some id) gap fits c.accepted c.act events none run is.1 gap refl
@@ -355,7 +355,7 @@ module _
         after_is = b.next_is;
         root =
             subst (λ t. IfSome id (λ i. i < length c.tree.order → PrintsTree (bus_of one.before).world.cabling c.node (node_with c.tree i) b.after t)) (sym b.text_is)
-            (root (bus_of one.before) a.after (bus_of two.before) b.after h name id gap range c time.events time.none run b.text r id refl);
+            (root-printed (bus_of one.before) a.after (bus_of two.before) b.after h name id gap range c time.events time.none run b.text r id refl);
         gaps = have (bus_of one.before) a.after (bus_of two.before) b.after h name id gap range c time.events time.none run b.text r;
       }
 
