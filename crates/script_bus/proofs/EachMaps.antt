@@ -16,12 +16,12 @@ use Rattle.port_state.specs.declared.signal.Phase.TheVariants.{ResetStart}
 use Rattle.port_state.specs.Coins.{coin}
 use Rattle.port_state.specs.Heard.{is_resetting}
 use Rattle.port_state.specs.Machine.{PortNode}
-use Rattle.port_state.specs.Timing.{InRange}
+use Rattle.cable_world.specs.Times.{Suits}
 use Rattle.cable_world.specs.Lawful.{IsLawful}
 use Rattle.cable_world.specs.Outcome.{IsTree}
 use Rattle.cable_world.specs.Phases.{is_in_bus_reset}
 use Rattle.cable_world.specs.Run.{IsReached, holds, turns}
-use Rattle.cable_world.proofs.Lemmas.{reached-lawful, turn-reached, hold-reached, hears, ticks, turn-counts, node-after, cabling-after, some-of, some-at, some-same}
+use Rattle.cable_world.proofs.Lemmas.{reached-lawful, reached-comes, turn-reached, hold-reached, hears, ticks, turn-counts, node-after, cabling-after, some-of, some-at, some-same}
 use Rattle.outcomes.specs.Settled.{TreesStay, IdsNameOneNode}
 use Rattle.script_told.specs.SomeAnswer.{IsReachedBus}
 use Rattle.script_told.proofs.Lemmas.{sound-bus, stage-in, printed-in, IsDone, each-done}
@@ -88,7 +88,7 @@ module _ (stay : TreesStay) (names-one : IdsNameOneNode) where
   calm w set root t r is x at =
       let y = some-of (slice_get w.nodes root) _ (is.ids root is.holds_root) in
       let id = some-of y.0.state.view.id _ y.2 in
-      let alone = names-one w set root root id.0 t r is is.holds_root (some-at (slice_get w.nodes root) y.0 (λ (n : PortNode). n.state.view.id ≡ Some id.0) y.1 id.1) in
+      let alone = names-one w set root root id.0 t (reached-comes w r) is is.holds_root (some-at (slice_get w.nodes root) y.0 (λ (n : PortNode). n.state.view.id ≡ Some id.0) y.1 id.1) in
       let z = some-of (slice_get w.nodes root) _ (alone.calm root is.holds_root) in
       no-reset x.state.view.phase (ap (λ (n : PortNode). is_in_bus_reset n.state.view.phase) (some-same x z.0 (sym at ∙ z.1)) ∙ z.2)
 
@@ -96,17 +96,17 @@ module _ (stay : TreesStay) (names-one : IdsNameOneNode) where
       (w : CableWorld) → IsLawful w → (j : ℕ) (x y : PortNode) → slice_get w.nodes j ≡ Some x → slice_get (turn w).nodes j ≡ Some y →
       is_resetting y.state.view.phase ≡ false → y.state.view.resets ≡ x.state.view.resets
   counts-in-turn w l j x y at_x at_y still =
-      let range : InRange w.delay x.state.timing = (l.well_formed.nodes j x at_x).timing in
+      let range : Suits w.delay w.longest x.state.timing = (l.well_formed.nodes j x at_x).timing in
       let is = some-same _ y (sym (node-after w j x l.well_formed.count at_x) ∙ at_y) in
       sym (ap (λ (z : PortNode). z.state.view.resets) is)
       ∙ turn-counts (inbox w 0 (ports_of w.cabling j)) (coin x.coins) x.state
-      (omega (arith, range.hold_least, l.well_formed.some_delay)) (omega (arith, range.hold_most, l.well_formed.short_delay))
+      (omega (arith, range.hold_least, l.well_formed.some_delay)) (omega (arith, range.hold_most, range.counted.hold))
       (hears w j x l.well_formed at_x) (ticks w j x l.well_formed at_x)
       (λ e. ap (λ (z : PortNode). is_resetting z.state.view.phase) is ∙ still)
 
   one-turn : (w : CableWorld) → Rests w (turn w)
   one-turn w node set root t r c is =
-      let after : IsTree (turn w) set root t = stay w (turn w) (turns ∷ []) node set root t r tt (turn w, refl, refl) c is in
+      let after : IsTree (turn w) set root t = stay w (turn w) (turns ∷ []) node set root t (reached-comes w r) tt (turn w, refl, refl) c is in
       let reached : IsReached (turn w) = turn-reached w r in
       let x = some-of (slice_get w.nodes root) _ (is.ids root is.holds_root) in
       let y = some-of (slice_get (turn w).nodes root) _ (after.ids root after.holds_root) in
@@ -129,7 +129,7 @@ module _ (stay : TreesStay) (names-one : IdsNameOneNode) where
   in-hold end n w none node set root t r c is = record {
     reached = hold-reached end n w none r;
     component = c;
-    tree = stay w (hold end n w) (holds end n ∷ []) node set root t r tt (hold end n w, (none, refl), refl) c is;
+    tree = stay w (hold end n w) (holds end n ∷ []) node set root t (reached-comes w r) tt (hold end n w, (none, refl), refl) c is;
     counts = refl;
   }
 

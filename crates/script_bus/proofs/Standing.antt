@@ -22,7 +22,7 @@ use Rattle.cable_world.specs.Act.{hold, hold_fault}
 use Rattle.cable_world.specs.Run.{Event, acts, holds, turns, Runs, IsReached}
 use Rattle.cable_world.specs.Lawful.{IsLawful}
 use Rattle.cable_world.specs.Outcome.{IsTree, HasNoLoop, attrs_now}
-use Rattle.cable_world.proofs.Lemmas.{some-of, some-same, some-and, lawful-now, cabling-after}
+use Rattle.cable_world.proofs.Lemmas.{some-of, some-same, some-and, lawful-now, cabling-after, reached-comes}
 use Rattle.outcomes.specs.Settled.{HasNoAct, TreesStay}
 use Rattle.settle.specs.declared.report.Outcome.{Outcome}
 use Rattle.settle.specs.declared.report.Outcome.TheVariants as reported
@@ -228,7 +228,7 @@ module _
   }
 
   later : IsReached u → IsTree w whole tree.root k.tree
-  later r = stay u w s.events node whole tree.root k.tree r s.no_act s.run before-whole there
+  later r = stay u w s.events node whole tree.root k.tree (reached-comes u r) s.no_act s.run before-whole there
 
   pub stands-as : StandsAs w node tree
   stands-as = record {
