@@ -15,6 +15,14 @@ fn lines_by_themselves(rt: HostRuntime) -> Result<(), Fail> {
         (b"", 'o'),
         (b"CPU:2 [LOST 12 EVENTS]", 'l'),
         (
+            b"firewire_ohci 0000:05:00.0: 2 selfIDs, generation 1, local node ID ffc1",
+            'b',
+        ),
+        (
+            b"firewire_ohci 0000:05:00.0: selfID 0: 807f8094, phy 0 [p--] S400 gc=63 +0W L",
+            'p',
+        ),
+        (
             b"[ 1.000001] firewire_core 0000:05:00.0: topology build failed",
             's',
         ),
@@ -36,6 +44,8 @@ fn lines_by_themselves(rt: HostRuntime) -> Result<(), Fail> {
             LogLine::Other => 'o',
             LogLine::Lost => 'l',
             LogLine::Said(_) => 's',
+            LogLine::Begins(_) => 'b',
+            LogLine::Packet { .. } => 'p',
             LogLine::Garbled => 'g',
             LogLine::OfReset(reset) => match reset.origin {
                 Origin::Controller => 'c',

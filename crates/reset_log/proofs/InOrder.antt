@@ -97,3 +97,18 @@ told_some IsTold Good each n s (x ∷ xs) good =
       rest.2,
       (one.0, rest.0, one.1, rest.1, one.2, one.3, rest.3, refl, refl),
     )
+
+-- the same where what is known stays of one kind
+pub told_some_in : {X S : Type 0} (IsTold : ℕ → S → X → List ℕ → Bool → S → Type 0) (Fine : S → Type 0) →
+    ((n : ℕ) (s : S) (x : X) → Fine s → (text : List ℕ) × (bad : Bool) × (next : S) × IsTold n s x text bad next × Fine next) →
+    (n : ℕ) (s : S) (xs : List X) → Fine s →
+    (text : List ℕ) × (bad : Bool) × (next : S) × AreTold IsTold n s xs text bad next
+told_some_in IsTold Fine each n s [] fine = ([], false, s, (refl, refl, refl))
+told_some_in IsTold Fine each n s (x ∷ xs) fine =
+    let one = each n s x fine in
+    let rest = told_some_in IsTold Fine each (n + 1) one.2 xs one.4 in (
+      one.0 ++ rest.0,
+      one.1 || rest.1,
+      rest.2,
+      (one.0, rest.0, one.1, rest.1, one.2, one.3, rest.3, refl, refl),
+    )

@@ -1,5 +1,5 @@
 -- A log has one text.
-use Rattle.std.proofs.Common.{◌≡◌, ◌∙◌, ◌⊎◌, inl, inr, ℕ, ◌<◌, ◌≤◌, Bool, true, false, is_none, Option, Some, None, List, [], ◌++◌, refl, sym, ap, subst, arith}
+use Rattle.std.proofs.Common.{◌≡◌, ◌==◌, ◌∙◌, ◌⊎◌, inl, inr, ℕ, ◌<◌, ◌≤◌, Bool, true, false, is_none, Option, Some, None, List, [], ◌++◌, refl, sym, ap, subst, arith}
 use Rattle.quad_lanes.specs.Pairs.{first_bad_pair}
 use Rattle.phy_packet.specs.declared.packet.PhyPacket.{PhyPacket}
 use Rattle.phy_packet.proofs.Lemmas.{packet-shown}
@@ -15,17 +15,19 @@ use Rattle.reset_log.specs.declared.line.Origin.{Origin}
 use Rattle.reset_log.specs.declared.line.Origin.TheVariants.{Controller, Core}
 use Rattle.reset_log.specs.declared.line.Reset.{Reset}
 use Rattle.reset_log.specs.declared.line.LogLine.{LogLine}
-use Rattle.reset_log.specs.declared.line.LogLine.TheVariants.{Other, Lost, Said, Garbled, OfReset}
+use Rattle.reset_log.specs.declared.line.LogLine.TheVariants.{Other, Lost, Said, Begins, Packet, Garbled, OfReset}
 use Rattle.reset_log.specs.declared.hear.ListFault.{ListFault}
 use Rattle.reset_log.specs.declared.hear.ListFault.TheVariants.{Cut, BadInverse, OfTree}
 use Rattle.reset_log.specs.declared.cards.Known.{Known}
-use Rattle.reset_log.specs.Noted.{Noted, nothing, last_of, compared, after}
+use Rattle.reset_log.specs.Noted.{Noted, nothing, last_of, compared, after, waiting, begun_at, taken_by}
+use Rattle.reset_log.specs.declared.line.Begun.{Begun}
+use Rattle.reset_log.specs.declared.notes.Pending.{Pending}
 use Rattle.reset_log.specs.Line.{line_of}
 use Rattle.reset_log.specs.Hear.{AreQuads, IsHeard, IsUnheard}
 use Rattle.reset_log.specs.Texts.{head, totals, numbers, changes, initiators, refused}
 use Rattle.reset_log.specs.Sentence.{packet_count, IsBefore, sentence, IsRefusalShown}
 use Rattle.topology_stack.specs.Tree.{walk}
-use Rattle.reset_log.specs.Shown.{IsBody, the_same, drawn, IsTreeShown, IsListShown, is_refused, is_heard, IsResetShown, is_passed_over, is_unjudged, is_judged, IsShown, IsLineShown}
+use Rattle.reset_log.specs.Shown.{IsBody, the_same, drawn, IsTreeShown, IsListShown, is_refused, is_heard, IsResetShown, is_passed_over, is_unjudged, is_judged, IsPendingShown, IsBegunShown, IsLastShown, IsPacketShown, IsShown, IsLineShown}
 use Rattle.reset_log.specs.Log.{lines_of, IsLogShown}
 use Rattle.reset_log.specs.OneText.{NoLogHasTwoTexts}
 use Rattle.reset_log.proofs.InOrder.{AreSame, told_once}
@@ -181,11 +183,34 @@ same_reset standard n before ks r a b c d p q (is_judged h new well shown e f) (
       f ∙ ap (λ (t : Option Tree). after ks r t (is_none t)) same.1 ∙ sym j,
     )
 
+same_pending : (standard : Standard) (pending : Option Pending) (ks : Noted) (a b : List ℕ) (c d : Bool) (p q : Noted) →
+    IsPendingShown standard pending ks a c p → IsPendingShown standard pending ks b d q → AreSame a b c d p q
+same_pending standard None ks a b c d p q x y = (x.0 ∙ sym y.0, x.1 ∙ sym y.1, x.2 ∙ sym y.2)
+same_pending standard (Some w) ks a b c d p q x y = same_reset standard w.number (last_of w.reset.card ks.cards) ks w.reset a b c d p q x y
+
+same_begun : (standard : Standard) (n : ℕ) (ks : Noted) (begun : Begun) (a b : List ℕ) (c d : Bool) (p q : Noted) →
+    IsBegunShown standard n ks begun a c p → IsBegunShown standard n ks begun b d q → AreSame a b c d p q
+same_begun standard n ks begun a b c d p q x y =
+    let same = same_pending standard ks.pending (waiting None ks) a b c d x.mid y.mid x.shown y.shown in
+    (same.0, same.1, x.next_is ∙ ap (λ (m : Noted). waiting (Some (begun_at n begun)) m) same.2 ∙ sym y.next_is)
+
+same_last : (standard : Standard) (last : Bool) (w : Pending) (ks : Noted) (a b : List ℕ) (c d : Bool) (p q : Noted) →
+    IsLastShown standard last w ks a c p → IsLastShown standard last w ks b d q → AreSame a b c d p q
+same_last standard false w ks a b c d p q x y = (x.0 ∙ sym y.0, x.1 ∙ sym y.1, x.2 ∙ sym y.2)
+same_last standard true w ks a b c d p q x y = same_pending standard (Some w) (waiting None ks) a b c d p q x y
+
+same_packet : (standard : Standard) (taken : Option Pending) (ks : Noted) (a b : List ℕ) (c d : Bool) (p q : Noted) →
+    IsPacketShown standard taken ks a c p → IsPacketShown standard taken ks b d q → AreSame a b c d p q
+same_packet standard None ks a b c d p q x y = (x.0 ∙ sym y.0, x.1 ∙ sym y.1, x.2 ∙ sym y.2)
+same_packet standard (Some w) ks a b c d p q x y = same_last standard (w.left == 0) w ks a b c d p q x y
+
 same_shown : (standard : Standard) (n : ℕ) (ks : Noted) (line : LogLine) (a b : List ℕ) (c d : Bool) (p q : Noted) →
     IsShown standard n ks line a c p → IsShown standard n ks line b d q → AreSame a b c d p q
 same_shown standard n ks Other a b c d p q x y = (x.0 ∙ sym y.0, x.1 ∙ sym y.1, x.2 ∙ sym y.2)
 same_shown standard n ks Lost a b c d p q x y = (x.0 ∙ sym y.0, x.1 ∙ sym y.1, x.2 ∙ sym y.2)
 same_shown standard n ks (Said words) a b c d p q x y = (x.0 ∙ sym y.0, x.1 ∙ sym y.1, x.2 ∙ sym y.2)
+same_shown standard n ks (Begins begun) a b c d p q x y = same_begun standard n ks begun a b c d p q x y
+same_shown standard n ks (Packet card quad) a b c d p q x y = same_packet standard (taken_by ks.pending card quad) ks a b c d p q x y
 same_shown standard n ks Garbled a b c d p q x y = (x.0 ∙ sym y.0, x.1 ∙ sym y.1, x.2 ∙ sym y.2)
 same_shown standard n ks (OfReset r) a b c d p q x y = same_reset standard n (last_of r.card ks.cards) ks r a b c d p q x y
 

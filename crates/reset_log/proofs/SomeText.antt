@@ -1,5 +1,5 @@
 -- Each log has a text.
-use Rattle.std.proofs.Common.{◌≡◌, ◌⊎◌, inl, inr, ℕ, zero, suc, ◌-◌, ◌*◌, ◌/◌, ◌%◌, ◌^◌, ◌<◌, ◌≤◌, ◌&&◌, Bool, true, false, eqb, eqb-true, is_none, Option, Some, None, List, [], ◌∷◌, ◌++◌, length, take, refl, ap, subst, arith}
+use Rattle.std.proofs.Common.{◌≡◌, ◌==◌, ◌⊎◌, inl, inr, ℕ, zero, suc, ◌-◌, ◌*◌, ◌/◌, ◌%◌, ◌^◌, ◌<◌, ◌≤◌, ◌&&◌, Bool, true, false, eqb, eqb-true, is_none, Option, Some, None, List, [], ◌∷◌, ◌++◌, length, take, refl, ap, subst, arith}
 use Rattle.std.specs.Prelude.{if◌then◌else◌, map, nat_lt, nat_le, slice_index, codes}
 use Rattle.std.specs.List.{slice_split}
 use Rattle.std.proofs.lemmas.Bool.{eqb-false}
@@ -18,23 +18,28 @@ use Rattle.reset_log.specs.declared.line.Origin.{Origin}
 use Rattle.reset_log.specs.declared.line.Origin.TheVariants.{Controller, Core}
 use Rattle.reset_log.specs.declared.line.Reset.{Reset}
 use Rattle.reset_log.specs.declared.line.LogLine.{LogLine}
-use Rattle.reset_log.specs.declared.line.LogLine.TheVariants.{Other, Lost, Said, Garbled, OfReset}
+use Rattle.reset_log.specs.declared.line.LogLine.TheVariants.{Other, Lost, Said, Begins, Packet, Garbled, OfReset}
 use Rattle.reset_log.specs.declared.hear.ListFault.{ListFault}
 use Rattle.reset_log.specs.declared.hear.ListFault.TheVariants.{Cut, BadInverse, OfTree}
-use Rattle.reset_log.specs.Noted.{Noted, nothing, is_repeated, last_of, compared, after, behind_loss}
+use Rattle.reset_log.specs.Noted.{Noted, nothing, is_repeated, last_of, compared, after, behind_loss, waiting, begun_at, with_packet, taken_by}
 use Rattle.reset_log.specs.declared.cards.Known.{Known}
 use Rattle.reset_log.specs.Number.{are_digits, of_digits, value, number_of}
 use Rattle.reset_log.specs.Lists.{is_comma, before, numbers_of, between_commas, between_blanks, unclosed, within, spaced, list_in, list_of, bare}
 use Rattle.reset_log.specs.Words.{behind, to_field, words_of, value_of}
-use Rattle.reset_log.specs.Line.{named, is_lost, said_or_other, list_field, reset_of, event, of_words, line_of}
-use Rattle.reset_log.specs.Said.{said}
+use Rattle.reset_log.specs.Line.{named, is_lost, said_or, list_field, reset_of, event, of_words, line_of}
+use Rattle.reset_log.specs.Said.{said, is_driver}
+use Rattle.reset_log.specs.Device.{device_of}
+use Rattle.reset_log.specs.Time.{or_time, bracket_time}
+use Rattle.reset_log.specs.Listing.{before_comma, digits_in, is_of_packet, is_of_reset, begins, packet, listed, listing}
+use Rattle.reset_log.specs.declared.line.Begun.{Begun}
+use Rattle.reset_log.specs.declared.notes.Pending.{Pending}
 use Rattle.reset_log.specs.Hear.{IsHeard, IsUnheard}
 use Rattle.reset_log.specs.Texts.{garbled, lost, told, totals, head, unjudged, place, numbers, changes, initiators, refused}
 use Rattle.reset_log.specs.Sentence.{packet_count, quad_at, IsBefore, sentence}
-use Rattle.reset_log.specs.Shown.{IsBody, the_same, drawn, IsListShown, is_refused, is_heard, IsResetShown, is_passed_over, is_unjudged, is_judged, IsShown, IsLineShown}
+use Rattle.reset_log.specs.Shown.{IsBody, the_same, drawn, IsListShown, is_refused, is_heard, IsResetShown, is_passed_over, is_unjudged, is_judged, IsPendingShown, IsBegunShown, IsLastShown, IsPacketShown, IsShown, IsLineShown}
 use Rattle.reset_log.specs.Log.{lines_of}
 use Rattle.reset_log.specs.OneText.{EachLogHasAText}
-use Rattle.reset_log.proofs.InOrder.{told_some}
+use Rattle.reset_log.proofs.InOrder.{told_some_in}
 use Rattle.reset_log.proofs.SomePacket.{some-packet}
 
 -- ---- the quadlets of a list
@@ -118,19 +123,147 @@ event_fits : (origin : Origin) (time : Option ℕ) (words : List (List ℕ)) (r 
 event_fits Controller time words r e = field_fits (value_of (codes "packet_data=") words) r.list (list_is Controller time _ _ _ _ r e)
 event_fits Core time words r e = field_fits (value_of (codes "self_ids=") words) r.list (list_is Core time _ _ _ _ r e)
 
+-- no line of the driver's own is a reset
+begins_apart : (time a b c : Option ℕ) (r : Reset) → begins time a b c ≡ OfReset r → ⊥
+begins_apart time None b c r e = absurd cc
+begins_apart time (Some x) None c r e = absurd cc
+begins_apart time (Some x) (Some y) None r e = absurd cc
+begins_apart time (Some x) (Some y) (Some z) r e = absurd cc
+
+packet_apart : (a b : Option ℕ) (r : Reset) → packet a b ≡ OfReset r → ⊥
+packet_apart None b r e = absurd cc
+packet_apart (Some x) None r e = absurd cc
+packet_apart (Some x) (Some y) r e = absurd cc
+
+two_apart : (t u : Bool) (x y : LogLine) (r : Reset) → (x ≡ OfReset r → ⊥) → (y ≡ OfReset r → ⊥) →
+    (if t then x else (if u then y else Other)) ≡ OfReset r → ⊥
+two_apart true u x y r f g e = f e
+two_apart false true x y r f g e = g e
+two_apart false false x y r f g e = absurd cc
+
+listed_apart : (time : Option ℕ) (words : List (List ℕ)) (r : Reset) → listed time words ≡ OfReset r → ⊥
+listed_apart time [] r e = absurd cc
+listed_apart time (v ∷ []) r e = absurd cc
+listed_apart time (v ∷ a ∷ []) r e = absurd cc
+listed_apart time (v ∷ a ∷ b ∷ []) r e = absurd cc
+listed_apart time (v ∷ a ∷ b ∷ c ∷ []) r e = absurd cc
+listed_apart time (v ∷ a ∷ b ∷ c ∷ d ∷ words) r e =
+    two_apart (is_of_packet a b) (is_of_reset b c) (packet (device_of v) (digits_in 16 8 (before_comma c))) (begins time (device_of v) (of_digits 10 10 a) (digits_in 10 10 (before_comma d))) r
+    (packet_apart (device_of v) (digits_in 16 8 (before_comma c)) r) (begins_apart time (device_of v) (of_digits 10 10 a) (digits_in 10 10 (before_comma d)) r) e
+
+listing_apart : (time : Option ℕ) (words : List (List ℕ)) (r : Reset) → listing time words ≡ OfReset r → ⊥
+listing_apart time [] r e = absurd cc
+listing_apart time (w ∷ ws) r e = go (is_driver w) e (λ t f. listing_apart t ws r f)
+  where
+    go : (v : Bool) → (if v then listed time ws else listing (or_time (bracket_time w) time) ws) ≡ OfReset r →
+        ((t : Option ℕ) → listing t ws ≡ OfReset r → ⊥) → ⊥
+    go true e more = listed_apart time ws r e
+    go false e more = more (or_time (bracket_time w) time) e
+
 words_fit : (words : List (List ℕ)) (found : Option (Origin × Option ℕ × List (List ℕ))) (r : Reset) → of_words words found ≡ OfReset r →
     Fit r.list
 words_fit words None r e = neither (is_lost words) (said words) e
   where
-    neither : (v : Bool) (text : Option (List ℕ)) → (if v then Lost else said_or_other text) ≡ OfReset r → Fit r.list
+    neither : (v : Bool) (text : Option (List ℕ)) → (if v then Lost else said_or (listing None words) text) ≡ OfReset r → Fit r.list
     neither true text e = absurd cc
-    neither false None e = absurd cc
+    neither false None e = absurd (listing_apart None words r e)
     neither false (Some text) e = absurd cc
 words_fit words (Some x) r e = event_fits x.0 x.1 x.2 r e
 
 line_fits : (line : List ℕ) (r : Reset) → line_of line ≡ OfReset r → Fit r.list
 unfolding line_of
 line_fits line r e = words_fit (words_of (take 65536 line)) (named None (words_of (take 65536 line))) r e
+
+-- ---- the quadlet of a packet's line
+
+in_text_fits : (base most : ℕ) (text : Option (List ℕ)) (n : ℕ) → digits_in base most text ≡ Some n → n < 2 ^ 32
+in_text_fits base most None n e = absurd cc
+in_text_fits base most (Some text) n e = digits_fit base most text n e
+
+quad_is : (a b : Option ℕ) (card quad : ℕ) → packet a b ≡ Packet card quad → b ≡ Some quad
+quad_is None b card quad e = absurd cc
+quad_is (Some x) None card quad e = absurd cc
+quad_is (Some x) (Some y) card quad e = let same : y ≡ quad = cc in ap (λ (z : ℕ). Some z) same
+
+begins_none : (time a b c : Option ℕ) (card quad : ℕ) → begins time a b c ≡ Packet card quad → ⊥
+begins_none time None b c card quad e = absurd cc
+begins_none time (Some x) None c card quad e = absurd cc
+begins_none time (Some x) (Some y) None card quad e = absurd cc
+begins_none time (Some x) (Some y) (Some z) card quad e = absurd cc
+
+either_packet : (t u : Bool) (x y : LogLine) (card quad : ℕ) → (x ≡ Packet card quad → quad < 2 ^ 32) →
+    (y ≡ Packet card quad → ⊥) → (if t then x else (if u then y else Other)) ≡ Packet card quad → quad < 2 ^ 32
+either_packet true u x y card quad f g e = f e
+either_packet false true x y card quad f g e = absurd (g e)
+either_packet false false x y card quad f g e = absurd cc
+
+listed_fits : (time : Option ℕ) (words : List (List ℕ)) (card quad : ℕ) → listed time words ≡ Packet card quad → quad < 2 ^ 32
+listed_fits time [] card quad e = absurd cc
+listed_fits time (v ∷ []) card quad e = absurd cc
+listed_fits time (v ∷ a ∷ []) card quad e = absurd cc
+listed_fits time (v ∷ a ∷ b ∷ []) card quad e = absurd cc
+listed_fits time (v ∷ a ∷ b ∷ c ∷ []) card quad e = absurd cc
+listed_fits time (v ∷ a ∷ b ∷ c ∷ d ∷ words) card quad e =
+    either_packet (is_of_packet a b) (is_of_reset b c) (packet (device_of v) (digits_in 16 8 (before_comma c))) (begins time (device_of v) (of_digits 10 10 a) (digits_in 10 10 (before_comma d))) card quad
+    (λ f. in_text_fits 16 8 (before_comma c) quad (quad_is (device_of v) (digits_in 16 8 (before_comma c)) card quad f)) (begins_none time (device_of v) (of_digits 10 10 a) (digits_in 10 10 (before_comma d)) card quad) e
+
+listing_fits : (time : Option ℕ) (words : List (List ℕ)) (card quad : ℕ) → listing time words ≡ Packet card quad → quad < 2 ^ 32
+listing_fits time [] card quad e = absurd cc
+listing_fits time (w ∷ ws) card quad e = go (is_driver w) e (λ t f. listing_fits t ws card quad f)
+  where
+    go : (v : Bool) → (if v then listed time ws else listing (or_time (bracket_time w) time) ws) ≡ Packet card quad →
+        ((t : Option ℕ) → listing t ws ≡ Packet card quad → quad < 2 ^ 32) → quad < 2 ^ 32
+    go true e more = listed_fits time ws card quad e
+    go false e more = more (or_time (bracket_time w) time) e
+
+no_packet : (origin : Origin) (time a b : Option ℕ) (c : Option Bool) (d : Option (List ℕ)) (card quad : ℕ) →
+    reset_of origin time a b c d ≡ Packet card quad → ⊥
+no_packet origin time None b c d card quad e = absurd cc
+no_packet origin time (Some x) None c d card quad e = absurd cc
+no_packet origin time (Some x) (Some y) None d card quad e = absurd cc
+no_packet origin time (Some x) (Some y) (Some z) None card quad e = absurd cc
+no_packet origin time (Some x) (Some y) (Some z) (Some l) card quad e = absurd cc
+
+event_apart : (origin : Origin) (time : Option ℕ) (words : List (List ℕ)) (card quad : ℕ) →
+    event origin time words ≡ Packet card quad → ⊥
+event_apart Controller time words card quad e = no_packet Controller time _ _ _ _ card quad e
+event_apart Core time words card quad e = no_packet Core time _ _ _ _ card quad e
+
+packet_fits : (words : List (List ℕ)) (found : Option (Origin × Option ℕ × List (List ℕ))) (card quad : ℕ) →
+    of_words words found ≡ Packet card quad → quad < 2 ^ 32
+packet_fits words (Some x) card quad e = absurd (event_apart x.0 x.1 x.2 card quad e)
+packet_fits words None card quad e = neither (is_lost words) (said words) e
+  where
+    neither : (v : Bool) (text : Option (List ℕ)) → (if v then Lost else said_or (listing None words) text) ≡ Packet card quad → quad < 2 ^ 32
+    neither true text e = absurd cc
+    neither false None e = listing_fits None words card quad e
+    neither false (Some text) e = absurd cc
+
+line_packet_fits : (line : List ℕ) (card quad : ℕ) → line_of line ≡ Packet card quad → quad < 2 ^ 32
+unfolding line_of
+line_packet_fits line card quad e = packet_fits (words_of (take 65536 line)) (named None (words_of (take 65536 line))) card quad e
+
+-- ---- the list of a reset that waits
+
+fit_push : (quads : List ℕ) (q : ℕ) → Fit quads → q < 2 ^ 32 → Fit (quads ++ q ∷ [])
+fit_push [] q f lt = (lt, tt)
+fit_push (p ∷ quads) q f lt = (f.0, fit_push quads q f.1 lt)
+
+abbrev IsFinePending : Option Pending → Type 0
+IsFinePending None = Unit {0}
+IsFinePending (Some p) = Fit p.reset.list
+
+abbrev IsFine : Noted → Type 0
+IsFine n = IsFinePending n.pending
+
+fine_taken : (pending : Option Pending) (card quad : ℕ) → IsFinePending pending → quad < 2 ^ 32 →
+    IsFinePending (taken_by pending card quad)
+fine_taken None card quad fine lt = tt
+fine_taken (Some p) card quad fine lt = go (p.reset.card == card)
+  where
+    go : (v : Bool) → IsFinePending (if v then Some (with_packet quad p) else None)
+    go true = fit_push p.reset.list quad fine lt
+    go false = tt
 
 -- ---- a list is heard, or it isn't
 
@@ -237,32 +370,57 @@ some_list standard origin front list before f = elim (heard_or_not standard orig
 ]
 
 abbrev SomeStep : (List ℕ → Bool → Noted → Type 0) → Type 0
-SomeStep Is = (text : List ℕ) × (bad : Bool) × (next : Noted) × Is text bad next
+SomeStep Is = (text : List ℕ) × (bad : Bool) × (next : Noted) × Is text bad next × IsFine next
 
-some_reset : (standard : Standard) (n : ℕ) (before : Option Known) (ks : Noted) (r : Reset) → Fit r.list →
+some_reset : (standard : Standard) (n : ℕ) (before : Option Known) (ks : Noted) (r : Reset) → Fit r.list → IsFine ks →
     SomeStep (IsResetShown standard n before ks r)
-some_reset standard n before ks r f = go (is_repeated before r) r.is_error refl refl
+some_reset standard n before ks r f fine = go (is_repeated before r) r.is_error refl refl
   where
     go : (u v : Bool) → is_repeated before r ≡ u → r.is_error ≡ v → SomeStep (IsResetShown standard n before ks r)
-    go true v d e = ([], false, ks, is_passed_over d refl refl refl)
-    go false true d e = (unjudged n before r, false, after ks r None false, is_unjudged d e refl refl refl)
+    go true v d e = ([], false, ks, is_passed_over d refl refl refl, fine)
+    go false true d e = (unjudged n before r, false, after ks r None false, is_unjudged d e refl refl refl, fine)
     go false false d e =
         let l = some_list standard r.origin (head n before r) r.list (compared before r) f in
-        (l.0, is_none l.1, after ks r l.1 (is_none l.1), is_judged l.1 d e l.2 refl refl)
+        (l.0, is_none l.1, after ks r l.1 (is_none l.1), is_judged l.1 d e l.2 refl refl, fine)
+
+some_pending : (standard : Standard) (pending : Option Pending) (ks : Noted) → IsFinePending pending → IsFine ks →
+    SomeStep (IsPendingShown standard pending ks)
+some_pending standard None ks fit fine = ([], false, ks, (refl, refl, refl), fine)
+some_pending standard (Some p) ks fit fine = some_reset standard p.number (last_of p.reset.card ks.cards) ks p.reset fit fine
+
+some_begun : (standard : Standard) (n : ℕ) (ks : Noted) (begun : Begun) → IsFine ks →
+    SomeStep (IsBegunShown standard n ks begun)
+some_begun standard n ks begun fine =
+    let one = some_pending standard ks.pending (waiting None ks) fine tt in
+    (one.0, one.1, waiting (Some (begun_at n begun)) one.2, record { mid = one.2; shown = one.3; next_is = refl }, tt)
+
+some_last : (standard : Standard) (last : Bool) (p : Pending) (ks : Noted) → Fit p.reset.list →
+    SomeStep (IsLastShown standard last p ks)
+some_last standard false p ks fit = ([], false, waiting (Some p) ks, (refl, refl, refl), fit)
+some_last standard true p ks fit = some_pending standard (Some p) (waiting None ks) fit tt
+
+some_taken : (standard : Standard) (taken : Option Pending) (ks : Noted) → IsFinePending taken → IsFine ks →
+    SomeStep (IsPacketShown standard taken ks)
+some_taken standard None ks fit fine = ([], false, ks, (refl, refl, refl), fine)
+some_taken standard (Some p) ks fit fine = some_last standard (p.left == 0) p ks fit
 
 some_shown : (standard : Standard) (n : ℕ) (ks : Noted) (line : LogLine) →
-    ((r : Reset) → line ≡ OfReset r → Fit r.list) → SomeStep (IsShown standard n ks line)
-some_shown standard n ks Other f = ([], false, ks, (refl, refl, refl))
-some_shown standard n ks Lost f = (lost n, false, behind_loss ks, (refl, refl, refl))
-some_shown standard n ks (Said words) f = (told n words, false, ks, (refl, refl, refl))
-some_shown standard n ks Garbled f = (garbled n, true, ks, (refl, refl, refl))
-some_shown standard n ks (OfReset r) f = some_reset standard n (last_of r.card ks.cards) ks r (f r refl)
+    ((r : Reset) → line ≡ OfReset r → Fit r.list) →
+    ((card quad : ℕ) → line ≡ Packet card quad → quad < 2 ^ 32) → IsFine ks → SomeStep (IsShown standard n ks line)
+some_shown standard n ks Other f g fine = ([], false, ks, (refl, refl, refl), fine)
+some_shown standard n ks Lost f g fine = (lost n, false, behind_loss ks, (refl, refl, refl), fine)
+some_shown standard n ks (Said words) f g fine = (told n words, false, ks, (refl, refl, refl), fine)
+some_shown standard n ks (Begins begun) f g fine = some_begun standard n ks begun fine
+some_shown standard n ks (Packet card quad) f g fine =
+    some_taken standard (taken_by ks.pending card quad) ks (fine_taken ks.pending card quad fine (g card quad refl)) fine
+some_shown standard n ks Garbled f g fine = (garbled n, true, ks, (refl, refl, refl), fine)
+some_shown standard n ks (OfReset r) f g fine = some_reset standard n (last_of r.card ks.cards) ks r (f r refl) fine
 
-some_line : (standard : Standard) (n : ℕ) (ks : Noted) (line : List ℕ) →
+some_line : (standard : Standard) (n : ℕ) (ks : Noted) (line : List ℕ) → IsFine ks →
     SomeStep (IsLineShown standard n ks line)
-some_line standard n ks line = some_shown standard n ks (line_of line) (line_fits line)
+some_line standard n ks line fine = some_shown standard n ks (line_of line) (line_fits line) (line_packet_fits line) fine
 
 pub some_text : EachLogHasAText
 some_text standard log =
-    let t = told_some (IsLineShown standard) (λ line. Unit {0}) (λ n ks line any. some_line standard n ks line) 1 nothing (lines_of log) (λ k d few. tt) in
+    let t = told_some_in (IsLineShown standard) (λ (ks : Noted). IsFine ks) (λ n ks line fine. some_line standard n ks line fine) 1 nothing (lines_of log) tt in
     (t.0 ++ totals t.2, t.1, record { known = t.2; told = t.0; shown = t.3; text_is = refl })

@@ -7,6 +7,8 @@ pub mod Update
 pub mod Noted
 pub mod Notes
 pub mod Said
+pub mod Device
+pub mod Listing
 pub mod Line
 pub mod Stop
 pub mod Hear

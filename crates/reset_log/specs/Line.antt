@@ -3,7 +3,8 @@ use Rattle.std.specs.Prelude.{ℕ, ◌||◌, ◌&&◌, is_some, Bool, true, fals
 use Rattle.std.specs.Str.{bytes_eq}
 use Rattle.reset_log.specs.Number.{number_of}
 use Rattle.reset_log.specs.Words.{words_of, value_of, behind}
-use Rattle.reset_log.specs.Time.{time_of}
+use Rattle.reset_log.specs.Time.{time_of, or_time}
+use Rattle.reset_log.specs.Listing.{listing}
 use Rattle.reset_log.specs.Said.{said}
 use Rattle.reset_log.specs.Lists.{list_of}
 use Rattle.reset_log.specs.declared.line.Origin.{Origin}
@@ -18,11 +19,6 @@ event_of word =
     || bytes_eq word (codes "firewire_ohci:self_id_complete:") then Some Controller
     else (if bytes_eq word (codes "bus_reset_handle:")
     || bytes_eq word (codes "firewire:bus_reset_handle:") then Some Core else None)
-
--- the time of a word where it is one, and else the one before
-abbrev pub or_time : Option ℕ → Option ℕ → Option ℕ
-or_time None before = before
-or_time (Some time) before = Some time
 
 -- the first event that is named, the last time before it where there is one, and the words behind it
 abbrev pub named : Option ℕ → List (List ℕ) → Option (Origin × Option ℕ × List (List ℕ))
@@ -93,13 +89,13 @@ event Core time words =
     (number_field (value_of (codes "generation=") words)) (Some false)
     (list_field (value_of (codes "self_ids=") words))
 
-abbrev pub said_or_other : Option (List ℕ) → LogLine
-said_or_other None = Other
-said_or_other (Some text) = Said text
+abbrev pub said_or : LogLine → Option (List ℕ) → LogLine
+said_or line None = line
+said_or line (Some text) = Said text
 
 -- a line of words, and the event that is named among them
 abbrev pub of_words : List (List ℕ) → Option (Origin × Option ℕ × List (List ℕ)) → LogLine
-of_words words None = if is_lost words then Lost else said_or_other (said words)
+of_words words None = if is_lost words then Lost else said_or (listing None words) (said words)
 of_words words (Some e) = event e.0 e.1 e.2
 
 -- what a line is, by its first 65,536 bytes

@@ -4,7 +4,7 @@ use Rattle.std.specs.Prelude.{ℕ, ◌==◌, ◌-◌, Bool, List, [], ◌∷◌,
 use Rattle.std.specs.List.{slice_split}
 use Rattle.std.specs.Str.{bytes_eq}
 use Rattle.reset_log.specs.Number.{number_of}
-use Rattle.reset_log.specs.Words.{behind, to_field}
+use Rattle.reset_log.specs.Words.{behind, or_whole, to_field}
 
 abbrev pub is_comma : ℕ → Bool
 is_comma c = c == 44
@@ -28,10 +28,6 @@ behind_all ns (Some rest) = Some (ns ++ rest)
 -- ---- between commas, and all within braces
 
 -- a text without a blank that it begins with
-abbrev pub or_whole : List ℕ → Option (List ℕ) → List ℕ
-or_whole text None = text
-or_whole text (Some rest) = rest
-
 abbrev pub bare : List ℕ → List ℕ
 bare text = or_whole text (behind (codes " ") text)
 

@@ -1,5 +1,5 @@
 -- What is noted behind the lines of a log so far: of each card its last reset, and what is counted.
-use Rattle.std.specs.Prelude.{ℕ, ◌+◌, ◌-◌, ◌%◌, ◌==◌, ◌&&◌, nat_le, not, Bool, true, false, is_some, is_none, if◌then◌else◌, Option, Some, None, List, [], ◌∷◌, map}
+use Rattle.std.specs.Prelude.{ℕ, ◌+◌, ◌-◌, ◌%◌, ◌==◌, ◌&&◌, nat_le, not, Bool, true, false, is_some, is_none, if◌then◌else◌, Option, Some, None, List, [], ◌∷◌, ◌++◌, map}
 use Rattle.io_edges.specs.Faults.{next_count}
 use Rattle.self_id.specs.Node.{Node}
 use Rattle.topology_stack.specs.Tree.{Tree, walk}
@@ -9,18 +9,22 @@ use Rattle.reset_log.specs.declared.line.Reset.{Reset}
 use Rattle.reset_log.specs.declared.cards.Known.{Known}
 use Rattle.reset_log.specs.declared.counts.Counts.{Counts}
 use Rattle.reset_log.specs.declared.counts.Tally.{Tally}
+use Rattle.reset_log.specs.declared.line.Begun.{Begun}
+use Rattle.reset_log.specs.declared.notes.Pending.{Pending}
 use Rattle.reset_log.specs.Update.{first_of, updated}
 
 pub record Noted : Type 0 where
   pub cards : List Known
   pub counts : Counts
   pub tallies : List Tally
+  pub pending : Option Pending
 
 abbrev pub nothing : Noted
 nothing = record {
   cards = [];
   counts = record { resets = 0; refused = 0 };
   tallies = [];
+  pending = None;
 }
 
 -- ---- the card's reset before
@@ -125,6 +129,7 @@ after n r heard refused = record {
   cards = updated (is_of r.card) (known_by r heard) n.cards;
   counts = counted (is_second (last_of r.card n.cards) r) refused n.counts;
   tallies = tallied_by r.card heard n.tallies;
+  pending = n.pending;
 }
 
 -- behind events that were lost: no tree is known
@@ -143,7 +148,64 @@ behind_loss n = record {
   cards = map forgotten n.cards;
   counts = n.counts;
   tallies = n.tallies;
+  pending = n.pending;
 }
+
+-- ---- a reset whose packets have a line each
+
+-- with another one that waits for its packets, or none
+abbrev pub waiting : Option Pending → Noted → Noted
+waiting pending n = record {
+  cards = n.cards;
+  counts = n.counts;
+  tallies = n.tallies;
+  pending = pending;
+}
+
+-- one that a line begins
+abbrev pub begun_at : ℕ → Begun → Pending
+begun_at number b = record {
+  number = number;
+  left = b.count;
+  reset = record {
+    origin = Core;
+    time = b.time;
+    card = b.card;
+    generation = b.generation;
+    is_error = false;
+    list = [];
+  };
+}
+
+-- with one packet more
+abbrev pub with_packet : ℕ → Pending → Pending
+with_packet quad p = record {
+  number = p.number;
+  left = p.left - 1;
+  reset = record {
+    origin = p.reset.origin;
+    time = p.reset.time;
+    card = p.reset.card;
+    generation = p.reset.generation;
+    is_error = p.reset.is_error;
+    list = p.reset.list ++ quad ∷ [];
+  };
+}
+
+-- where one of this card waits
+abbrev pub taken_by : Option Pending → ℕ → ℕ → Option Pending
+taken_by None card quad = None
+taken_by (Some p) card quad =
+    if p.reset.card == card then Some (with_packet quad p) else None
+
+abbrev pub or_pending : Option Pending → Option Pending → Option Pending
+or_pending None before = before
+or_pending (Some p) before = Some p
+
+-- whether one took it, and it was the last one
+abbrev pub is_full : Option Pending → Bool
+is_full None = false
+is_full (Some p) = p.left == 0
 
 -- ---- who began most resets
 

@@ -10,6 +10,8 @@ use Rattle.view_text.specs.Drawing.{all_have}
 use Rattle.reset_log.specs.declared.line.Reset.{Reset}
 use Rattle.reset_log.specs.declared.cards.Known.{Known}
 use Rattle.reset_log.specs.declared.counts.Tally.{Tally}
+use Rattle.reset_log.specs.declared.notes.Pending.{Pending}
+use Rattle.reset_log.specs.Device.{card_field}
 use Rattle.reset_log.specs.Noted.{Noted, since, missing, most_of}
 use Rattle.reset_log.specs.declared.hear.ListFault.{ListFault}
 use Rattle.reset_log.specs.declared.hear.ListFault.TheVariants.{Cut, BadInverse, OfTree}
@@ -47,7 +49,7 @@ if_missing count = if count == 0 then [] else field (codes " missing ") count
 unfoldable pub name : ℕ → Reset → List ℕ
 name number r =
     field (codes "line ") number
-    ++ (field (codes " card ") r.card ++ field (codes " generation ") r.generation)
+    ++ (card_field (codes " card ") r.card ++ field (codes " generation ") r.generation)
 
 -- where they are known ` time T`, ` after D` of the card's reset before, and ` missing M` of the resets between
 unfoldable pub moments : (time after : Option ℕ) → (missing : ℕ) → List ℕ
@@ -186,16 +188,24 @@ initiators id (n ∷ ns) = initiator id n.attrs.initiated ++ initiators (id + 1)
 
 unfoldable pub begun : Tally → List ℕ
 begun t =
-    field (codes ", most begun by card ") t.card
+    card_field (codes ", most begun by card ") t.card
     ++ (field (codes " node ") t.node ++ field (codes ": ") t.count)
 
 abbrev pub most : Option Tally → List ℕ
 most None = []
 most (Some t) = begun t
 
+-- a reset whose last packets the log doesn't have
+unfoldable pub cut_off : Pending → List ℕ
+cut_off p = name p.number p.reset ++ (field (codes " ends without its last packets, ") p.left ++ codes "\n")
+
+abbrev pub if_cut_off : Option Pending → List ℕ
+if_cut_off None = []
+if_cut_off (Some p) = cut_off p
+
 -- `resets N refused M cards C`, and `, most begun by card C node I: K`
 unfoldable pub totals : Noted → List ℕ
 totals n =
-    field (codes "resets ") n.counts.resets
+    if_cut_off n.pending ++ (field (codes "resets ") n.counts.resets
     ++ (field (codes " refused ") n.counts.refused ++ (field (codes " cards ") (length n.cards)
-    ++ (most (most_of None n.tallies) ++ codes "\n")))
+    ++ (most (most_of None n.tallies) ++ codes "\n"))))

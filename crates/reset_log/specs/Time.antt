@@ -1,7 +1,8 @@
--- The time stamps of a log, in microseconds: `100.123456:` before an event.
+-- The time stamps of a log, in microseconds: `100.123456:` before an event, `[  100.123456]` before the kernel's words.
 use Rattle.std.specs.Prelude.{ℕ, ◌+◌, ◌-◌, ◌*◌, ◌==◌, ◌&&◌, nat_le, List, length, take, drop, slice_index, Option, Some, None, if◌then◌else◌, codes}
 use Rattle.std.specs.Str.{bytes_eq}
 use Rattle.reset_log.specs.Number.{of_digits}
+use Rattle.reset_log.specs.Words.{behind, or_whole}
 
 -- seconds and microseconds, where both are there
 abbrev pub moment : Option ℕ → Option ℕ → Option ℕ
@@ -30,3 +31,17 @@ moment_in (Some text) = moment_of text
 -- the time of a word, where it is one
 abbrev pub time_of : List ℕ → Option ℕ
 time_of word = moment_in (before_colon word)
+
+-- `100.123456]` behind a blank, or `[100.123456]`
+abbrev pub before_bracket : List ℕ → Option (List ℕ)
+before_bracket text =
+    if bytes_eq (drop (length text - 1) text) (codes "]") then Some (take (length text - 1) text)
+    else None
+
+abbrev pub bracket_time : List ℕ → Option ℕ
+bracket_time word = moment_in (before_bracket (or_whole word (behind (codes "[") word)))
+
+-- the time of a word where it is one, and else the one before
+abbrev pub or_time : Option ℕ → Option ℕ → Option ℕ
+or_time None before = before
+or_time (Some time) before = Some time

@@ -19,6 +19,11 @@ abbrev pub behind : List ℕ → List ℕ → Option (List ℕ)
 behind key word =
     if bytes_eq (take (length key) word) key then Some (drop (length key) word) else None
 
+-- the text, or what stands behind a key of it
+abbrev pub or_whole : List ℕ → Option (List ℕ) → List ℕ
+or_whole text None = text
+or_whole text (Some rest) = rest
+
 -- what stands behind a key in the first word that begins with it, and the words behind that one
 abbrev pub value_of : List ℕ → List (List ℕ) → Option (List ℕ × List (List ℕ))
 value_of key [] = None

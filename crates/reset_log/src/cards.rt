@@ -11,7 +11,7 @@ use topology_stack::BusTree;
 /// A card, and its last reset.
 #[derive(Debug, Drop)]
 pub struct Known {
-    pub card: u32,
+    pub card: u64,
     pub generation: u32,
     /// The event that was read last.
     pub origin: Origin,
@@ -24,7 +24,7 @@ pub struct Known {
 }
 
 /// The last reset of a card, if it had one.
-pub(crate) fn last_of(cards: &[Known], card: u32) -> Option<&Known>
+pub(crate) fn last_of(cards: &[Known], card: u64) -> Option<&Known>
     ensures { option_copied result ≡ last_of card cards.now }
 {
     let mut rest = cards;
@@ -137,7 +137,7 @@ pub(crate) fn compared<'k>(before: Option<&'k Known>, reset: &Reset) -> Option<&
 }
 
 /// The place of a card.
-fn place(cards: &[Known], card: u32) -> Option<usize>
+fn place(cards: &[Known], card: u64) -> Option<usize>
     ensures value { result ≡ position (is_of card) cards.now }
     ensures within { IfSome result (λ at. at < length cards.now) }
 {

@@ -19,7 +19,7 @@ pub struct Counts {
 /// How many resets a node began.
 #[derive(Clone, Copy, Debug, PartialEq, Eq)]
 pub struct Tally {
-    pub card: u32,
+    pub card: u64,
     pub node: u8,
     pub count: u64,
 }
@@ -37,7 +37,7 @@ pub(crate) fn count(counts: &mut Counts, second: bool, refused: bool)
 }
 
 /// The place of a node.
-fn place(tallies: &[Tally], card: u32, node: u8) -> Option<usize>
+fn place(tallies: &[Tally], card: u64, node: u8) -> Option<usize>
     ensures value { result ≡ position (is_tally card node) tallies.now }
     ensures within { IfSome result (λ at. at < length tallies.now) }
 {
@@ -47,7 +47,7 @@ fn place(tallies: &[Tally], card: u32, node: u8) -> Option<usize>
 }
 
 /// One more of a node that began resets.
-fn more(tally: Tally, card: u32, node: u8) -> Tally
+fn more(tally: Tally, card: u64, node: u8) -> Tally
     ensures { result ≡ one_more_of card node (Some tally) }
 {
     Tally {
@@ -59,7 +59,7 @@ fn more(tally: Tally, card: u32, node: u8) -> Tally
 
 /// Counts that a node began a reset.
 #[tactic(auto, using(crate::proofs::Update::updated_at, crate::proofs::Update::updated_none))]
-fn add(tallies: &mut Vec<Tally>, card: u32, node: u8) -> Result<(), AllocError>
+fn add(tallies: &mut Vec<Tally>, card: u64, node: u8) -> Result<(), AllocError>
     ensures { OnOk result (tallies.new.items
         ≡ updated (is_tally card node) (one_more_of card node) tallies.old.items) }
 {
@@ -76,7 +76,7 @@ fn add(tallies: &mut Vec<Tally>, card: u32, node: u8) -> Result<(), AllocError>
     }
 }
 
-fn add_if(tallies: &mut Vec<Tally>, card: u32, node: u8, initiated: bool) -> Result<(), AllocError>
+fn add_if(tallies: &mut Vec<Tally>, card: u64, node: u8, initiated: bool) -> Result<(), AllocError>
     ensures { OnOk result (tallies.new.items
         ≡ tallied_if initiated card node tallies.old.items) }
 {
@@ -87,7 +87,7 @@ fn add_if(tallies: &mut Vec<Tally>, card: u32, node: u8, initiated: bool) -> Res
 }
 
 /// Counts each node that began a reset.
-pub(crate) fn add_all(tallies: &mut Vec<Tally>, card: u32, tree: &BusTree) -> Result<(), AllocError>
+pub(crate) fn add_all(tallies: &mut Vec<Tally>, card: u64, tree: &BusTree) -> Result<(), AllocError>
     ensures { OnOk result (tallies.new.items
         ≡ tallied card 0 (walk tree.now) tallies.old.items) }
 {

@@ -1,13 +1,14 @@
 //! The first line of what is shown of a reset, and the last line of a log.
 ghost use Rattle.std.specs.Prelude.{◌≡◌, ◌++◌, OnOk, IfOk};
 ghost use Rattle.std.specs.Option.{option_copied};
-ghost use Rattle.reset_log.specs.Texts.{lost, told, digit, seconds, if_known, if_missing, name, moments, head, unjudged, begun, most, totals};
+ghost use Rattle.reset_log.specs.Texts.{lost, told, digit, seconds, if_known, if_missing, name, moments, head, unjudged, begun, most, cut_off, if_cut_off, totals};
 ghost use Rattle.reset_log.specs.Notes.{noted};
 
 use crate::cards::{Known, missing, since};
 use crate::counts::{Tally, most_of};
+use crate::device::put_card;
 use crate::line::Reset;
-use crate::notes::Notes;
+use crate::notes::{Notes, Pending};
 use std::alloc::{AllocError, Global};
 use view_text::put_field;
 
@@ -83,7 +84,7 @@ fn put_name(out: &mut Vec<u8>, number: u64, reset: &Reset) -> Result<(), AllocEr
     ensures { OnOk result (out.new.items ≡ out.old.items ++ name number reset.now) }
 {
     put_field(out, b"line ", number)?;
-    put_field(out, b" card ", u64::from(reset.card))?;
+    put_card(out, b" card ", reset.card)?;
     put_field(out, b" generation ", u64::from(reset.generation))?;
     Ok(())
 }
@@ -143,7 +144,7 @@ pub(crate) fn put_unjudged(
 fn put_begun(out: &mut Vec<u8>, tally: Tally) -> Result<(), AllocError>
     ensures { OnOk result (out.new.items ≡ out.old.items ++ begun tally) }
 {
-    put_field(out, b", most begun by card ", u64::from(tally.card))?;
+    put_card(out, b", most begun by card ", tally.card)?;
     put_field(out, b" node ", u64::from(tally.node))?;
     put_field(out, b": ", tally.count)?;
     Ok(())
@@ -158,12 +159,38 @@ fn put_most(out: &mut Vec<u8>, tally: Option<Tally>) -> Result<(), AllocError>
     }
 }
 
+/// Appends that a log ends before the last packets of a reset.
+#[tactic(auto, unfolding(crate::specs::Texts::cut_off))]
+fn put_cut_off(out: &mut Vec<u8>, pending: &Pending) -> Result<(), AllocError>
+    ensures { OnOk result (out.new.items ≡ out.old.items ++ cut_off pending.now) }
+{
+    put_name(out, pending.number, &pending.reset)?;
+    put_field(
+        out,
+        b" ends without its last packets, ",
+        u64::from(pending.left),
+    )?;
+    out.extend_from_slice(b"\n")?;
+    Ok(())
+}
+
+fn put_if_cut_off(out: &mut Vec<u8>, pending: Option<&Pending>) -> Result<(), AllocError>
+    ensures { OnOk result (out.new.items
+        ≡ out.old.items ++ if_cut_off (option_copied pending.entry)) }
+{
+    match pending {
+        Some(pending) => put_cut_off(out, pending),
+        None => Ok(()),
+    }
+}
+
 /// The last line of a log.
 #[tactic(auto, unfolding(crate::specs::Texts::totals))]
 pub(crate) fn totals_text(alloc: Global, notes: &Notes) -> Result<Vec<u8>, AllocError>
     ensures { IfOk result (λ text. text.items ≡ totals (noted notes.now)) }
 {
     let mut text = Vec::new(alloc);
+    put_if_cut_off(&mut text, notes.pending.as_ref())?;
     put_field(&mut text, b"resets ", notes.counts.resets)?;
     put_field(&mut text, b" refused ", notes.counts.refused)?;
     put_field(&mut text, b" cards ", notes.cards.len() as u64)?;

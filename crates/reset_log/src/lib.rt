@@ -7,12 +7,14 @@
 
 mod cards;
 mod counts;
+mod device;
 mod form;
 mod heads;
 mod hear;
 mod laws;
 mod line;
 mod list;
+mod listing;
 mod log;
 mod notes;
 mod number;
@@ -30,8 +32,9 @@ pub use counts::{Counts, Tally};
 pub use form::resets_standard;
 pub use hear::ListFault;
 pub use laws::logs_have_one_text;
-pub use line::{LogLine, Origin, Reset, line_of};
+pub use line::{Begun, LogLine, Origin, Reset, line_of};
 pub use log::{MAX_LOG, show_log};
+pub use notes::Pending;
 pub use said::LogText;
 pub use shown::{ListShown, show_list};
 pub use stop::LogStop;

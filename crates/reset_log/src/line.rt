@@ -1,10 +1,11 @@
 //! What a line of the log is, by itself.
 ghost use Rattle.std.specs.Prelude.{◌≡◌, Some, None, take, IfOk, MatchOption};
 ghost use Rattle.reset_log.specs.Words.{words_of, value_of};
-ghost use Rattle.reset_log.specs.Line.{event_of, named, or_time, is_loss, has_loss, is_lost, number_field, list_field, truth_of, truth_field, reset_of, event, of_words, line_of};
+ghost use Rattle.reset_log.specs.Line.{event_of, named, is_loss, has_loss, is_lost, number_field, list_field, truth_of, truth_field, reset_of, event, of_words, line_of};
 ghost use Rattle.reset_log.specs.declared.line.Origin.{Origin};
 
 use crate::list::list_of;
+use crate::listing::listing;
 use crate::number::number_of;
 use crate::said::{LogText, said};
 use crate::time::time_of;
@@ -28,14 +29,26 @@ pub struct Reset {
     pub origin: Origin,
     /// When it was, in microseconds, where its line says so.
     pub time: Option<u64>,
-    /// The number of the controller on its machine.
-    pub card: u32,
+    /// The number of the controller on its machine, or from 2^32 on its device.
+    pub card: u64,
     /// The count of resets, which begins again after 255.
     pub generation: u32,
     /// Whether the controller says that it failed.
     pub is_error: bool,
     /// Of `Controller` quadlets and their inverses, of `Core` quadlets.
     pub list: QuadList,
+}
+
+/// The first line of a reset in the driver's own log.
+#[derive(Clone, Copy, Debug, PartialEq, Eq)]
+pub struct Begun {
+    /// From 2^32 on, the device.
+    pub card: u64,
+    /// When it was, in microseconds, where its line says so.
+    pub time: Option<u64>,
+    pub generation: u32,
+    /// How many lines of packets follow.
+    pub count: u32,
 }
 
 /// What a line of the log is.
@@ -47,6 +60,10 @@ pub enum LogLine {
     Lost,
     /// The kernel says this.
     Said(LogText),
+    /// The driver begins to list the packets of a reset.
+    Begins(Begun),
+    /// The driver lists a packet.
+    Packet { card: u64, quad: u32 },
     /// One of them, with a field that is missing or isn't what it has to be.
     Garbled,
     OfReset(Reset),
@@ -153,7 +170,7 @@ fn truth_field(words: &[Word], key: &[u8]) -> Option<bool>
 fn reset_of(
     origin: Origin,
     time: Option<u64>,
-    card: Option<u32>,
+    card: Option<u64>,
     generation: Option<u32>,
     is_error: Option<bool>,
     list: Option<QuadList>,
@@ -173,6 +190,15 @@ fn reset_of(
     }
 }
 
+fn widened(number: Option<u32>) -> Option<u64>
+    ensures { result ≡ number }
+{
+    match number {
+        Some(number) => Some(u64::from(number)),
+        None => None,
+    }
+}
+
 /// An event with these words.
 fn event(
     alloc: Global,
@@ -182,7 +208,7 @@ fn event(
 ) -> Result<LogLine, AllocError>
     ensures { IfOk result (λ line. line ≡ event origin time words.now) }
 {
-    let card = number_field(words, b"card_index=");
+    let card = widened(number_field(words, b"card_index="));
     match origin {
         Origin::Controller => {
             let generation = number_field(words, b"generation_at_completion=");
@@ -221,7 +247,7 @@ pub fn line_of(alloc: Global, line: &[u8]) -> Result<LogLine, AllocError>
         None if is_lost(&words) => Ok(LogLine::Lost),
         None => match said(alloc, &words)? {
             Some(text) => Ok(LogLine::Said(text)),
-            None => Ok(LogLine::Other),
+            None => Ok(listing(&words)),
         },
     }
 }

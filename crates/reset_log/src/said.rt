@@ -37,7 +37,7 @@ impl LogText {
 }
 
 /// Whether a word is a driver's name, alone or behind what /dev/kmsg has before it.
-fn is_driver(word: &Word) -> bool
+pub(crate) fn is_driver(word: &Word) -> bool
     ensures { result ≡ is_driver word.now }
 {
     word.is(b"firewire_core")

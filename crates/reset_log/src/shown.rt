@@ -1,15 +1,15 @@
 //! What is shown of a reset's list, and of a line of the log.
-ghost use Rattle.std.specs.Prelude.{◌≡◌, ◌++◌, IfOk, OnOk, is_none, IsTrue, ◌↔◌, true, false, Some, Option};
+ghost use Rattle.std.specs.Prelude.{◌≡◌, ◌++◌, IfOk, OnOk, None, is_none, IsTrue, ◌↔◌, true, false, Some, Option};
 ghost use Rattle.std.specs.Option.{option_copied};
 ghost use Rattle.topology_stack.specs.Tree.{Tree, walk};
-ghost use Rattle.reset_log.specs.Noted.{last_of};
+ghost use Rattle.reset_log.specs.Noted.{last_of, waiting, taken_by};
 ghost use Rattle.reset_log.specs.Notes.{noted};
-ghost use Rattle.reset_log.specs.Shown.{WasDrawn, WasOther, IsBody, IsTreeShown, IsListShown, IsResetShown, IsLineShown};
+ghost use Rattle.reset_log.specs.Shown.{WasDrawn, WasOther, IsBody, IsTreeShown, IsListShown, IsResetShown, IsPendingShown, IsBegunShown, IsPacketShown, IsLineShown};
 
 use crate::cards::{compared, is_repeated, last_of};
 use crate::heads::{put_head, put_lost, put_told, put_unjudged};
 use crate::hear::{ListStop, hear};
-use crate::line::{LogLine, Origin, Reset, line_of};
+use crate::line::{Begun, LogLine, Origin, Reset, line_of};
 use crate::notes::Notes;
 use crate::sentence::refusal_text;
 use crate::texts::{put_changes, put_garbled, put_initiators, put_numbers};
@@ -157,6 +157,57 @@ fn show_reset(
     Ok(Shown { text, bad })
 }
 
+/// Shows the reset that waited for its packets, if one did.
+fn show_pending(alloc: Global, standard: Standard, notes: &mut Notes) -> Result<Shown, AllocError>
+    ensures { IfOk result (λ shown. IsPendingShown standard notes.old.pending
+        (waiting None (noted notes.old)) shown.text.items shown.bad (noted notes.new)) }
+{
+    match notes.take() {
+        Some(pending) => show_reset(alloc, standard, notes, pending.number, &pending.reset),
+        None => Ok(Shown {
+            text: Vec::new(alloc),
+            bad: false,
+        }),
+    }
+}
+
+/// Shows the reset that waited for its packets, and lets another one wait.
+fn show_begun(
+    alloc: Global,
+    standard: Standard,
+    notes: &mut Notes,
+    number: u64,
+    begun: Begun,
+) -> Result<Shown, AllocError>
+    ensures { IfOk result (λ shown. IsBegunShown standard number (noted notes.old) begun
+        shown.text.items shown.bad (noted notes.new)) }
+{
+    let shown = show_pending(alloc, standard, notes)?;
+    notes.begin(alloc, number, begun);
+    Ok(shown)
+}
+
+/// Takes a packet, and shows its reset if it is the last one.
+fn show_packet(
+    alloc: Global,
+    standard: Standard,
+    notes: &mut Notes,
+    card: u64,
+    quad: u32,
+) -> Result<Shown, AllocError>
+    ensures { IfOk result (λ shown. IsPacketShown standard
+        (taken_by notes.old.pending card quad) (noted notes.old)
+        shown.text.items shown.bad (noted notes.new)) }
+{
+    if notes.push(card, quad)? {
+        return show_pending(alloc, standard, notes);
+    }
+    Ok(Shown {
+        text: Vec::new(alloc),
+        bad: false,
+    })
+}
+
 /// What is shown of the line with this number, which is counted from 1. A reset is noted.
 pub(crate) fn show_line(
     alloc: Global,
@@ -180,6 +231,8 @@ pub(crate) fn show_line(
             put_told(&mut text, number, words.as_slice())?;
             Ok(Shown { text, bad: false })
         }
+        LogLine::Begins(begun) => show_begun(alloc, standard, notes, number, begun),
+        LogLine::Packet { card, quad } => show_packet(alloc, standard, notes, card, quad),
         LogLine::Garbled => {
             put_garbled(&mut text, number)?;
             Ok(Shown { text, bad: true })

@@ -5,4 +5,4 @@ use Rattle.reset_log.proofs.heads.put_begun.Goals as goal
 pub returns : goal.returns
 unfolding begun
 returns c =
-    simp (c.in_ok-put_field-3.ensures, c.in_ok-put_field-2.ensures, c.in_ok-put_field.ensures, c.from.ensures, c.from-2.ensures, append_assoc)
+    simp (c.in_ok-put_field-2.ensures, c.in_ok-put_field.ensures, c.in_ok-put_card.ensures, c.from.ensures, append_assoc)
