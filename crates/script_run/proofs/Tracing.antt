@@ -9,7 +9,7 @@ use Rattle.script_told.specs.Bus.{Bus}
 use Rattle.script_told.specs.Step.{Settles}
 use Rattle.script_told.specs.Script.{Stage, running, bus_of}
 use Rattle.script_told.specs.Run.{Entry, ScriptRun, IsRun, done, behind, last_run, printed, unless_stopped}
-use Rattle.script_trace.specs.Voice.{Voice}
+use Rattle.script_trace.specs.Voice.{Voice, legend_of}
 use Rattle.script_trace.specs.Trace.{AllTrace, IsTrace, trace_voice}
 use Rattle.script_waves.specs.Moment.{waves_voice}
 use Rattle.script_waves.specs.Head.{head}
@@ -58,7 +58,7 @@ pub dump-ends :
     out ≡ [] → HaveGone waves_voice bytes said out mid number [] stage →
     Settles (bus_of stage) (Ok (after, text)) →
     Hears waves_voice (bus_of stage) command.Settle after mid new →
-    dump ≡ head after.notes.names after.world ++ new → IsWaves bytes (Ok dump)
+    dump ≡ head (legend_of after.notes) after.world ++ new → IsWaves bytes (Ok dump)
 dump-ends bytes said out mid new dump number stage after text empty have settles h is =
     let t = told-ends waves_voice bytes said out mid new number stage after text empty have settles h in
     (t.run, t.is, (after, t.ends, record { changes = new; told = t.told; text_is = is }))
