@@ -22,6 +22,8 @@ mod nodes;
 #[cfg(test)]
 mod plans;
 #[cfg(test)]
+mod quiet;
+#[cfg(test)]
 mod rom;
 #[cfg(test)]
 mod scripts;

@@ -4,13 +4,14 @@ ghost use Rattle.cable_world.specs.World.{IsNodeAtPowerOn};
 ghost use Rattle.phy_machine.specs.Field.{field_node};
 ghost use Rattle.settle.specs.Report.{IsReport};
 
+use crate::quiet::can_settle;
 use cable_world::{Act, World, WorldRun};
 use cabling::{End, components_are_whole};
 use phy_machine::{FieldMachine, NodeSpec};
 use port_state::{Coins, Timing, power_on_is_valid, usual_in_range};
 use root_plan::{RootPlan, choose};
 use self_id::Attrs;
-use settle::{Outcome, Report, quiet_turns, settle};
+use settle::{Outcome, Report, settle};
 use settle_plan::{plans_suit, settle_plan};
 use std::alloc::{AllocError, Global};
 use std::process::Abort;
@@ -94,9 +95,7 @@ fn replanned<W: WorldRun>(
     let Some(plan) = choose(&tree) else {
         return Ok(None);
     };
-    assert!(rt; world.delay() == 4);
-    let turns = u64::from(world.turns()) + u64::from(quiet_turns(world.cabling().nodes(), 4));
-    assert!(rt; turns <= 4_000_000_000);
+    assert!(rt; can_settle(&*world));
     plans_suit(world, from);
     components_are_whole(world.cabling());
     let settled = settle_plan(alloc, world, from, &plan)?;
@@ -113,9 +112,7 @@ fn settled_and_replanned<W: WorldRun>(
     ensures report { IfOk result (λ o. IfSome o (λ p. IsReport (W.world world.new) p.1)) }
     ensures fine { IfOk result (λ o. IfSome o (λ p. IsFalse (W.is_spent world.new))) }
 {
-    assert!(rt; world.delay() == 4);
-    let turns = u64::from(world.turns()) + u64::from(quiet_turns(world.cabling().nodes(), 4));
-    assert!(rt; turns <= 4_000_000_000);
+    assert!(rt; can_settle(&*world));
     let report = settle(alloc, world)?;
     replanned(rt, alloc, world, &report, from)
 }

@@ -4,13 +4,14 @@ ghost use Rattle.cable_world.specs.World.{IsNodeAtPowerOn};
 ghost use Rattle.phy_machine.specs.Field.{field_node};
 ghost use Rattle.settle.specs.Report.{quiet_turns_of};
 
+use crate::quiet::can_settle;
 use cable_world::{Act, World, WorldRun};
 use cabling::End;
 use phy_machine::{FieldMachine, NodeSpec};
 use port_state::{Coins, Timing, power_on_is_valid, usual_in_range};
 use script_text::{Name, report_text, reports_can_be_shown};
 use self_id::Attrs;
-use settle::{quiet_turns, settle};
+use settle::settle;
 use std::alloc::{AllocError, Global};
 use std::test::Fail;
 use topology_stack::NameList;
@@ -91,9 +92,7 @@ fn a_tree_is_told(rt: HostRuntime) -> Result<(), Fail> {
         a: End { node: 0, port: 0 },
         b: End { node: 1, port: 0 },
     })?;
-    assert!(rt; world.delay() == 4);
-    let turns = u64::from(world.turns()) + u64::from(quiet_turns(world.cabling().nodes(), 4));
-    assert!(rt; turns <= 4_000_000_000);
+    assert!(rt; can_settle(&world));
     assert!(rt; told(alloc, &mut world, &names)?.as_slice() == TOLD);
     Ok(())
 }

@@ -3,12 +3,13 @@ ghost use Rattle.std.specs.Prelude.{◌≡◌, IsFalse, OnOk, length};
 ghost use Rattle.cable_world.specs.Act.{IsAct};
 
 use crate::nodes::{ONES, USUAL, agenda, world};
+use crate::quiet::can_settle;
 use cable_world::{Act, ShowsWires, WorldRun};
 use cabling::End;
 use script_lines::{Command, Name};
 use script_run::{Kind, ScriptFault, ScriptStop, trace_script};
 use script_trace::{put_command, put_since, seen_before_act, trace_turns};
-use settle::{Report, quiet_turns, settle};
+use settle::{Report, settle};
 use std::alloc::{AllocError, Global};
 use std::process::Abort;
 use std::test::Fail;
@@ -209,11 +210,7 @@ fn is_reported(report: &Report) -> bool {
 
 /// Whether a world settles so.
 fn settles<W: WorldRun>(alloc: Global, world: &mut W) -> Result<bool, Fail> {
-    if world.delay() != 4 {
-        return Ok(false);
-    }
-    let turns = u64::from(world.turns()) + u64::from(quiet_turns(world.cabling().nodes(), 4));
-    if turns > 4_000_000_000 {
+    if !can_settle(&*world) {
         return Ok(false);
     }
     Ok(is_reported(&settle(alloc, world)?))

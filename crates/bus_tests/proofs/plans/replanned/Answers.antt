@@ -21,8 +21,8 @@ settle_plan-requires-clause-suits g c =
     let tree : ReportsTree w part.nodes c.in-Tree.root c.in-Tree.list c.in-Tree.order = subst (IsReported w part.nodes) c.in-Tree.is is.outcome in
     let yes : c.has.result ≡ true = search rules in
     let holds : Holds part.nodes c.args.from = subst (λ (p : Part). Holds p.nodes c.args.from) (get_or_default parts 0 c.index-parts-0.result c.index-parts-0-2.result some) (c.has.ensures.0 yes) in
-    let own : IsComponent w.cabling c.args.from part.nodes = subst (λ (d : Wiring). IsComponent d c.args.from part.nodes) c.cabling-3.ensures
-    (c.components_are_whole.ensures.shared is.node c.args.from part.nodes (subst (λ (d : Wiring). IsComponent d is.node part.nodes) (sym c.cabling-3.ensures) is.component) holds) in
+    let own : IsComponent w.cabling c.args.from part.nodes = subst (λ (d : Wiring). IsComponent d c.args.from part.nodes) c.cabling-2.ensures
+    (c.components_are_whole.ensures.shared is.node c.args.from part.nodes (subst (λ (d : Wiring). IsComponent d is.node part.nodes) (sym c.cabling-2.ensures) is.component) holds) in
     c.plans_suit.ensures part.nodes c.in-Tree.root tree.tree c.in_ok-tree.tree c.in-Some.plan own tree.is c.in_ok-tree.ensures.found.0 (c.in_ok-tree.ensures.found.1 ∙ c.as_slice.ensures ∙ tree.emitted) (record {
       candidate = c.in-Some.ensures.eligible;
       hops = c.in-Some.ensures.hops;
