@@ -1,5 +1,5 @@
 //! The report of a world that does one turn after the other.
-ghost use Rattle.std.specs.Prelude.{◌≡◌, ◌+◌, ◌≤◌, All, IfOk, length};
+ghost use Rattle.std.specs.Prelude.{◌≡◌, ◌+◌, ◌≤◌, All, IfOk, IsFalse, length};
 ghost use Rattle.cable_world.specs.World.{IsNodeAtPowerOn};
 ghost use Rattle.phy_machine.specs.Field.{field_node};
 ghost use Rattle.settle.specs.Report.{quiet_turns_of};
@@ -54,7 +54,8 @@ fn world_of(alloc: Global, coins: &[u8]) -> Result<World<FieldMachine>, AllocErr
 
 /// The text of the report that a world comes to, where each of its nodes has a name.
 fn told<W: WorldRun>(alloc: Global, world: &mut W, names: &NameList) -> Result<Vec<u8>, AllocError>
-    requires few { (W.world world.old).turns + quiet_turns_of (W.world world.old) ≤ 4000000000 }
+    requires few { IsFalse (W.is_spent world.old) →
+        (W.world world.old).turns + quiet_turns_of (W.world world.old) ≤ 4000000000 }
     requires named { length names.now ≡ length (W.world world.old).nodes }
 {
     let report = settle(alloc, world)?;

@@ -6,6 +6,7 @@ use crate::nodes::{ONES, USUAL, agenda, world};
 use crate::quiet::can_settle;
 use cable_world::{Act, ActStop, WorldRun};
 use cabling::End;
+use settle::settle;
 use std::alloc::Global;
 use std::process::Abort;
 use std::test::Fail;
@@ -41,14 +42,20 @@ fn goes_nowhere<W: WorldRun>(world: &mut W) -> bool {
         && world.turns() == turns
 }
 
+/// Whether it doesn't settle either.
+fn stays_unsettled<W: WorldRun>(alloc: Global, world: &mut W) -> bool {
+    let turns = world.turns();
+    can_settle(&*world) && settle(alloc, world).is_err() && world.turns() == turns
+}
+
 /// A world is spent exactly where a call found no memory.
-fn try_world<W: WorldRun>(rt: &impl Abort, world: &mut W) -> Result<(), Fail> {
+fn try_world<W: WorldRun>(rt: &impl Abort, alloc: Global, world: &mut W) -> Result<(), Fail> {
     assert!(rt; !world.spent());
     match configure(rt, world) {
         Ok(()) => assert!(rt; !world.spent()),
         Err(ActStop::Memory(_)) => {
             assert!(rt; world.spent());
-            assert!(rt; goes_nowhere(world) && !can_settle(&*world));
+            assert!(rt; goes_nowhere(world) && stays_unsettled(alloc, world));
             assert!(rt; world.spent());
         }
         Err(stop) => return Err(stop.into()),
@@ -58,8 +65,12 @@ fn try_world<W: WorldRun>(rt: &impl Abort, world: &mut W) -> Result<(), Fail> {
 
 /// Two nodes, in either world.
 fn try_both(rt: &impl Abort, alloc: Global, packed: bool) -> Result<(), Fail> {
-    try_world(rt, &mut world(rt, alloc, &[USUAL, ONES], 4, packed)?)?;
-    try_world(rt, &mut agenda(rt, alloc, &[USUAL, ONES], 4, packed)?)
+    try_world(rt, alloc, &mut world(rt, alloc, &[USUAL, ONES], 4, packed)?)?;
+    try_world(
+        rt,
+        alloc,
+        &mut agenda(rt, alloc, &[USUAL, ONES], 4, packed)?,
+    )
 }
 
 #[test]

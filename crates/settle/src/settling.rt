@@ -65,14 +65,16 @@ pub fn report_of<W: WorldRun>(alloc: Global, world: &W) -> Result<Report, OutOfM
 
 /// Does as many turns as `quiet_turns_for` says for the nodes, the delay and the longest times of a
 /// world, and reports what each component came to: each comes to a loop, a contention or a tree,
-/// and no node is in R0 or R1 then. With the turns done before they are at most 4,000,000,000.
+/// and no node is in R0 or R1 then. Of a world that isn't spent they are, with the turns done before,
+/// at most 4,000,000,000.
 ///
 /// Where a reset had just begun in a component without loop, and one of its nodes alone is forced
 /// then, that node is the root of its tree.
 ///
 /// After want of memory the world is spent, or it has done all of these turns.
 pub fn settle<W: WorldRun>(alloc: Global, world: &mut W) -> Result<Report, OutOfMemory>
-    requires { (W.world world.old).turns + quiet_turns_of (W.world world.old) ≤ 4000000000 }
+    requires { IsFalse (W.is_spent world.old) →
+        (W.world world.old).turns + quiet_turns_of (W.world world.old) ≤ 4000000000 }
     ensures report { IfOk result (λ report. IsReport (W.world world.new) report) }
     ensures done { OnOk result (ResetsAreDone (W.world world.new)) }
     ensures quiet { OnOk result (IsAfterQuiet (W.world world.old) (W.world world.new)) }

@@ -17,8 +17,8 @@ use std::alloc::{AllocError, Global};
 
 /// Node `from` sends the configuration packet of a plan, with R set and its gap count, and resets
 /// the bus; then the world settles and is reported as by `settle`. The component of the node has
-/// settled as a tree, for which the plan was made. With the turns done before, those to settle are
-/// at most 4,000,000,000.
+/// settled as a tree, for which the plan was made. Where the world isn't spent, the turns to settle
+/// and those done before are at most 4,000,000,000.
 ///
 /// The node that had the plan's root ID is root then, and every node of the component has the
 /// plan's gap count. After want of memory the world is spent, or it has done the act and all turns.
@@ -29,7 +29,8 @@ pub fn settle_plan<W: WorldRun>(
     plan: &RootPlan,
 ) -> Result<Report, OutOfMemory>
     requires suits { SuitsTree (W.world world.old) from plan.now }
-    requires few { (W.world world.old).turns + quiet_turns_of (W.world world.old) ≤ 4000000000 }
+    requires few { IsFalse (W.is_spent world.old) →
+        (W.world world.old).turns + quiet_turns_of (W.world world.old) ≤ 4000000000 }
     // The node that had the plan's root ID is the root of the tree.
     ensures root { IfOk result (λ report. (root : ℕ) →
         HasId (W.world world.old) from plan.now.root_id root →

@@ -19,7 +19,7 @@ quiet_turns_for-quiet-requires-clause-short_delay g c =
     omega (arith, c.delay.ensures, lawful.well_formed.short_delay)
 
 pub returns : goal.returns
-returns g c few =
+returns g c few fine =
     let w = g.W.WorldRun.world c.args.world.now in
     let lawful = lawful-now w (g.met.W.WorldRun.reached c.args.world.now (sym c.spent.ensures ∙ c.if-spent.false)) in
     let q : c.quiet_turns_for-quiet.result ≡ quiet_turns_of w =

@@ -30,7 +30,7 @@ run_turns-requires g c =
     let lawful = lawful-now w (g.met.W.WorldRun.reached c.args.world.now (sym c.spent.ensures ∙ c.if-spent.false)) in
     let q : c.quiet_turns_for-quiet.result ≡ quiet_turns_of w =
     c.quiet_turns_for-quiet.ensures w (sized w c.nodes.result c.delay.result c.longest.result lawful (c.nodes.ensures.value ∙ ap length c.cabling.ensures) c.delay.ensures c.longest.ensures) in
-    subst (λ (n : ℕ). w.turns + n ≤ 4000000000) (sym q) c.requires
+    subst (λ (n : ℕ). w.turns + n ≤ 4000000000) (sym q) (c.requires (sym c.spent.ensures ∙ c.if-spent.false))
 
 pub report_of-requires-clause-settled : goal.report_of-requires-clause-settled
 report_of-requires-clause-settled g c =
