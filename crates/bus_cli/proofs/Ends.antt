@@ -12,6 +12,7 @@ use Rattle.script_told.specs.EachReport.{ReportsAreSettled}
 use Rattle.script_told.specs.ScriptEvents.{ScriptsAreRuns}
 use Rattle.script_told.specs.EachPlan.{EachPlanComesOut}
 use Rattle.script_bus.specs.EachConfig.{EachConfigComesOut}
+use Rattle.script_bus.specs.EachWaiting.{EachWaitingNodeBecomesRoot}
 use Rattle.bus_cli.specs.declared.fault.CaptureFault.{CaptureFault}
 use Rattle.bus_cli.specs.declared.fault.CaptureStop.{CaptureStop}
 use Rattle.bus_cli.specs.declared.answer.Answer.{Answer}
@@ -59,9 +60,9 @@ stopped form reading stop (Err e) is h = tt
 
 -- a text that a script tells is what its run prints
 pub told_prints :
-    ReportsAreSettled → ScriptsAreRuns → EachPlanComesOut → EachConfigComesOut → (bytes text : List ℕ) →
-    IsTold bytes (Ok text) → PrintsRun bytes text
-told_prints settled runs plans configs bytes text x = go x.0.end refl
+    ReportsAreSettled → ScriptsAreRuns → EachPlanComesOut → EachConfigComesOut →
+    EachWaitingNodeBecomesRoot → (bytes text : List ℕ) → IsTold bytes (Ok text) → PrintsRun bytes text
+told_prints settled runs plans configs waiting bytes text x = go x.0.end refl
   where
     go : (end : Result Bus ScriptFault) → x.0.end ≡ end → PrintsRun bytes text
     go (Ok bus) e = record {
@@ -74,6 +75,7 @@ told_prints settled runs plans configs bytes text x = go x.0.end refl
       runs = runs bytes x.0 x.1;
       plans = plans bytes x.0 x.1;
       configs = configs bytes x.0 x.1;
+      waiting = waiting bytes x.0 x.1;
     }
       where
         same : (a b : List ℕ) → ◌≡◌ {A = Result (List ℕ) ScriptFault} (Ok a) (Ok b) → a ≡ b

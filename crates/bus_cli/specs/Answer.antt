@@ -29,6 +29,7 @@ use Rattle.script_told.specs.EachReport.{EachReportIsSettled}
 use Rattle.script_told.specs.ScriptEvents.{EachRunsOn}
 use Rattle.script_told.specs.EachPlan.{PlansComeOut}
 use Rattle.script_bus.specs.EachConfig.{ConfigsComeOut}
+use Rattle.script_bus.specs.EachWaiting.{WaitingNodesBecomeRoots}
 use Rattle.script_advice.specs.Advice.{IsAdvice, EndsWithoutLoop}
 
 -- A valid input has status 0 and such a text, and one that is refused has 1 and the line of its fault.
@@ -84,7 +85,8 @@ AnswersRom bytes = ValidOrRefused
 -- The run of the script comes to its end, and the text is what its commands print, one after the
 -- other. Each report in it is that of a world that comes of power-on and has settled, and from line to
 -- line the bus runs by events. Each plan comes out, and each configuration packet that a settling
--- follows next: the tree from its root stands in the text.
+-- follows next, and each node becomes root that alone waits for it behind acts alone: the tree from
+-- its root stands in the text.
 pub record PrintsRun (bytes text : List ℕ) : Type 0 where
   pub run : ScriptRun
   pub is : IsRun bytes run
@@ -95,6 +97,7 @@ pub record PrintsRun (bytes text : List ℕ) : Type 0 where
   pub runs : EachRunsOn run
   pub plans : PlansComeOut run
   pub configs : ConfigsComeOut run
+  pub waiting : WaitingNodesBecomeRoots run
 
 -- `run`
 abbrev pub AnswersRun : List ℕ → ℕ → List ℕ → Type 0

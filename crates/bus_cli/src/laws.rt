@@ -8,6 +8,7 @@ use quad_lanes::{capture_is_read_back, good_pairs_are_a_capture};
 use script_advice::{advices_leave_no_loop, scripts_have_one_advice};
 use script_bus::{
     each_config_comes_out, each_plan_comes_out, each_script_has_a_run, each_script_has_an_advice,
+    each_waiting_node_becomes_root,
 };
 use script_made::made_scripts_have_no_fault;
 use script_text::maps_have_texts;
@@ -36,6 +37,7 @@ pub fn told_texts_are_printed()
     scripts_are_runs();
     each_plan_comes_out();
     each_config_comes_out();
+    each_waiting_node_becomes_root();
 }
 
 /// A law: all words and bytes have one answer, one status and one text.

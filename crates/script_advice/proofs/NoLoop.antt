@@ -13,7 +13,7 @@ use Rattle.cabling.specs.Change.{TakenOut}
 use Rattle.cabling.proofs.Lemmas.{none_some, same_length, shared, was-there}
 use Rattle.cable_world.specs.World.{CableWorld}
 use Rattle.cable_world.specs.Turn.{turns_after}
-use Rattle.cable_world.specs.Outcome.{HasNoLoop as HasNoLoopIn}
+use Rattle.cable_world.specs.Outcome.{HasNoLoop as HasNoLoopIn, OneOutcomeAtMost}
 use Rattle.cable_world.proofs.Lemmas.{turns-cabling}
 use Rattle.loop_advice.specs.Cables.{Lists, IsSame}
 use Rattle.loop_advice.proofs.Lemmas.{lists_left, lists_right, cable, Without, no_loop_left}
@@ -278,9 +278,9 @@ pulls-reached keeps bus after (c ∷ cables) h x =
 
 -- the text of an advice ends with a report without a loop
 pub without-loop :
-    NoListHasTwoTrees → ActKeepsNodes → ListsAreReadBack → ReportedIsOutcome → (bytes text : List ℕ) → EndsWith bytes text →
+    NoListHasTwoTrees → ActKeepsNodes → ListsAreReadBack → ReportedIsOutcome → OneOutcomeAtMost → (bytes text : List ℕ) → EndsWith bytes text →
     EndsWithoutLoop bytes text
-without-loop trees keeps read came bytes text e =
+without-loop trees keeps read came one bytes text e =
     let bus : Bus = e.0 in
     let after : Bus = e.1 in
     let a : Advises bus (Ok (after, text)) = e.3 in
@@ -302,7 +302,7 @@ without-loop trees keeps read came bytes text e =
         report = s.report;
         kept = s.kept;
         is = s.is;
-        each = settled-so read came after.world s.report reached s.is;
+        each = settled-so read came one after.world s.report reached s.is;
         told = s.told;
       };
       no_loop = no-loop trees keeps bytes text bus after s.report e.2 a s.kept;
@@ -319,6 +319,6 @@ ends-of : (bytes text : List ℕ) → IsAdvice bytes (Ok text) → EndsWith byte
 ends-of bytes text (inl x) = no-fault x.fault text _ x.is
 ends-of bytes text (inr x) = ends-so bytes text x.bus x.answer x.ran x.advises x.is
 
-pub all-without-loop : NoListHasTwoTrees → ActKeepsNodes → ListsAreReadBack → ReportedIsOutcome →
+pub all-without-loop : NoListHasTwoTrees → ActKeepsNodes → ListsAreReadBack → ReportedIsOutcome → OneOutcomeAtMost →
     AdvicesEndWithoutLoop
-all-without-loop trees keeps read came bytes text is = without-loop trees keeps read came bytes text (ends-of bytes text is)
+all-without-loop trees keeps read came one bytes text is = without-loop trees keeps read came one bytes text (ends-of bytes text is)

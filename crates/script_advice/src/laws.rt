@@ -1,7 +1,7 @@
 //! Laws of advices.
 ghost use Rattle.script_advice.specs.OneAdvice.{ScriptsHaveOneAdvice, AdvicesLeaveNoLoop, AdvicesEndWithoutLoop};
 
-use cable_world::acts_keep;
+use cable_world::{acts_keep, outcomes_are_one};
 use settle::{reports_are_outcomes, reports_are_read_back};
 use topology_stack::one_tree;
 
@@ -23,4 +23,5 @@ pub fn advices_leave_no_loop()
     acts_keep();
     reports_are_read_back();
     reports_are_outcomes();
+    outcomes_are_one();
 }

@@ -219,7 +219,7 @@ module _ (bus : Bus) (name : List ℕ) (id gap : Option ℕ) (sent : Bus) (text 
   packet-sent x = with-node (node_named bus.notes.names name) refl x
 
 -- a bus that has settled was reported
-reports-of : (bus after : Bus) (text : List ℕ) → Does bus command.Settle (Ok (after, text)) →
+pub reports-of : (bus after : Bus) (text : List ℕ) → Does bus command.Settle (Ok (after, text)) →
     Reports bus (Ok (after, text))
 reports-of bus after text x = go (nat_lt 2000000 (bus.world.turns + quiet_turns_of bus.world)) x
   where
@@ -231,14 +231,14 @@ reports-of bus after text x = go (nat_lt 2000000 (bus.world.turns + quiet_turns_
 
 -- ---- the bus that a command left
 
-record Leaves (bus : Bus) (c : Command) (next : Stage) (told : List ℕ) : Type 0 where
-  after : Bus
-  text : List ℕ
-  does : Does bus c (Ok (after, text))
-  next_is : next ≡ running after
-  text_is : told ≡ text
+pub record Leaves (bus : Bus) (c : Command) (next : Stage) (told : List ℕ) : Type 0 where
+  pub after : Bus
+  pub text : List ℕ
+  pub does : Does bus c (Ok (after, text))
+  pub next_is : next ≡ running after
+  pub text_is : told ≡ text
 
-by-answer :
+pub by-answer :
     (bus : Bus) (c : Command) (next : Stage) (t : List ℕ) (r : LineAnswer) → Does bus c r →
     ◌≡◌ {A = StageAnswer} (Ok (next, t)) (onwards r) → Leaves bus c next t
 by-answer bus c next t (Ok (after, text)) does same = record { after = after; text = text; does = does; next_is = ap stage-in same; text_is = ap printed-in same }

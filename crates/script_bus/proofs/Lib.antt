@@ -11,3 +11,4 @@ pub mod EachPlan
 pub mod FollowOn
 pub mod EachConfig
 pub mod EachMaps
+pub mod EachWaiting

@@ -3,6 +3,7 @@ pub mod SomeRun
 pub mod SomeAdvice
 pub mod EachConfig
 pub mod EachMaps
+pub mod EachWaiting
 pub mod Heard
 pub mod Listed
 pub mod codings

@@ -3,6 +3,7 @@ ghost use Rattle.script_told.specs.SomeAnswer.{PlansHaveAnswers};
 ghost use Rattle.script_told.specs.EachPlan.{EachPlanComesOut};
 ghost use Rattle.script_bus.specs.EachConfig.{EachConfigComesOut, EntriesFollowOn};
 ghost use Rattle.script_bus.specs.EachMaps.{MapsShowOneTree};
+ghost use Rattle.script_bus.specs.EachWaiting.{EachWaitingNodeBecomesRoot};
 ghost use Rattle.script_bus.specs.SomeRun.{EachScriptHasARun};
 ghost use Rattle.script_bus.specs.SomeAdvice.{EachScriptHasAnAdvice};
 
@@ -15,6 +16,7 @@ use script_text::{plans_exist, settled_worlds_have_texts};
 use script_told::{commands_have_answers, reported_trees_are_managed};
 use settle::walks_exist;
 use topology_stack::one_tree;
+use world_laws::{acts_make_fresh, waiting_roots_settle};
 
 /// A law: on a bus whose world is reached a plan has an answer, so it can be carried out where it isn't
 /// refused.
@@ -60,6 +62,19 @@ pub fn each_config_comes_out()
     trees_stay();
     components_exist();
     forced_roots_settle();
+}
+
+/// A law: where a `settle` follows acts alone since power-on or since the last report, each node that
+/// then waits alone to become root, in a component without loop that these acts reset, is the root of
+/// the tree that is reported.
+pub fn each_waiting_node_becomes_root()
+    ensures { EachWaitingNodeBecomesRoot }
+{
+    one_tree();
+    acts_keep();
+    components_exist();
+    acts_make_fresh();
+    waiting_roots_settle();
 }
 
 /// A law: two `maps` of nodes of one tree print the same where no act, no `plan` and no `settle` comes

@@ -22,7 +22,7 @@ mod waves;
 pub use bus::Bus;
 pub use laws::{
     each_config_comes_out, each_plan_comes_out, each_script_has_a_run, each_script_has_an_advice,
-    entries_follow_on, maps_show_one_tree, plans_have_answers,
+    each_waiting_node_becomes_root, entries_follow_on, maps_show_one_tree, plans_have_answers,
 };
 pub use listener::{Listener, Silent};
 pub use table::NameTable;

@@ -25,4 +25,4 @@ pub use Rattle.script_told.proofs.told.PrintedTree.{prints-tree}
 -- A plan that has an answer was carried out.
 pub use Rattle.script_told.proofs.told.PlanCarried.{plan-carried}
 -- A command leaves a bus whose world comes of power-on, and so does each line of a script.
-pub use Rattle.script_told.proofs.told.Reached.{config-act, IsSound, IsSoundDraft, LeavesSound, attrs_said, do-act, do-settle, drafted, leaves, no-nodes, node-at-power-on, onwards-sound, sound-bus}
+pub use Rattle.script_told.proofs.told.Reached.{config-act, plan-act, draft-power, IsSound, IsSoundDraft, LeavesSound, attrs_said, do-act, do-settle, drafted, leaves, no-nodes, node-at-power-on, onwards-sound, sound-bus}

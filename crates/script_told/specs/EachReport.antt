@@ -17,11 +17,12 @@ use Rattle.script_told.specs.Script.{running}
 use Rattle.script_told.specs.Run.{Entry, ScriptRun, IsRun}
 
 -- The part is of the component of a node, as the cables now are, and tells what that came to: a loop, a
--- tree, or a contention. Its tree is the bus tree that is read from its list.
+-- tree, or a contention, and nothing else. Its tree is the bus tree that is read from its list.
 pub record IsOfComponent (w : CableWorld) (node : NodeNumber) (part : Part) : Type 0 where
   pub component : IsComponent w.cabling node part.nodes
   pub outcome : Outcome
   pub came : IsOutcome w part.nodes outcome
+  pub only : (other : Outcome) → IsOutcome w part.nodes other → other ≡ outcome
   pub told : Tells w part.outcome outcome
   pub read : IfTree (IsReadBack w) part.outcome
 

@@ -2,13 +2,14 @@
 use Rattle.std.specs.Prelude.{◌≡◌, ℕ, List, ◌∷◌, ◌++◌, All, Any, Some}
 use Rattle.cabling.specs.declared.cable.End.{End}
 use Rattle.cable_world.specs.declared.act.Act.TheVariants as act
-use Rattle.cable_world.specs.World.{CableWorld}
+use Rattle.cable_world.specs.declared.act.Act.{Act}
+use Rattle.cable_world.specs.World.{CableWorld, NodeNumber}
 use Rattle.cable_world.specs.Run.{Event, acts, Runs}
-use Rattle.outcomes.specs.Settled.{HasNoAct}
+use Rattle.outcomes.specs.Settled.{HasNoAct, turn_count}
 use Rattle.script_lines.specs.declared.command.Command.{Command}
 use Rattle.script_lines.specs.declared.command.Command.TheVariants.{Node, Plug, Pull, Reset, Turn, Hold, Settle, Config, Plan, Delay, Times}
 use Rattle.script_told.specs.Bus.{Bus, node_named}
-use Rattle.script_told.specs.Step.{port_of}
+use Rattle.script_told.specs.Step.{port_of, end_of, config_of}
 use Rattle.script_told.specs.Script.{running, bus_of}
 use Rattle.script_told.specs.Run.{Entry, ScriptRun, IsRun}
 
@@ -34,6 +35,28 @@ LeavesAlone Settle = ⊥
 LeavesAlone (Plan name) = ⊥
 LeavesAlone command = Unit {0}
 
+-- a command in which no turn passes: it declares, acts, holds or asks
+abbrev pub TakesNoTurn : Command → Type 0
+TakesNoTurn (Turn count) = ⊥
+TakesNoTurn Settle = ⊥
+TakesNoTurn (Plan name) = ⊥
+TakesNoTurn command = Unit {0}
+
+-- the node with this name
+abbrev pub IsNamed : Bus → List ℕ → NodeNumber → Type 0
+IsNamed bus name node = node_named bus.notes.names name ≡ Some node
+
+-- the command is this act
+abbrev pub IsActOf : Bus → Command → Act → Type 0
+IsActOf bus (Plug a a_port b b_port) x = (i : NodeNumber) × (j : NodeNumber) × IsNamed bus a i
+    × IsNamed bus b j × (x ≡ act.Plug (end_of i a_port) (end_of j b_port))
+IsActOf bus (Pull name port) x =
+    (node : NodeNumber) × IsNamed bus name node × (x ≡ act.Pull (end_of node port))
+IsActOf bus (Reset name) x = (node : NodeNumber) × IsNamed bus name node × (x ≡ act.Reset node)
+IsActOf bus (Config name root_id gap) x =
+    (node : NodeNumber) × IsNamed bus name node × (x ≡ config_of node root_id gap)
+IsActOf bus command x = ⊥
+
 -- the command pulls the cable at this end
 abbrev pub IsPullOf : Bus → Command → End → Type 0
 IsPullOf bus (Pull name port) end =
@@ -41,13 +64,17 @@ IsPullOf bus (Pull name port) end =
 IsPullOf bus command end = ⊥
 
 -- What a command does to the world of its bus, event by event. It has no act where the command
--- leaves the bus alone, and pulls no cable but that of a `pull`.
+-- leaves the bus alone, and pulls no cable but that of a `pull`. Where the command is an act, this
+-- comes first; and no turn passes where the command takes none.
 pub record DoesEvents (bus : Bus) (command : Command) (after : Bus) : Type 0 where
   pub events : List Event
   pub run : Runs events bus.world after.world
   pub alone : LeavesAlone command → HasNoAct events
   pub pulls :
       (end : End) → Any (λ e. e ≡ acts (act.Pull end)) events → IsPullOf bus command end
+  pub first :
+      (a : Act) → IsActOf bus command a → (later : List Event) × (events ≡ acts a ∷ later)
+  pub at_once : TakesNoTurn command → turn_count events ≡ 0
   pub names : after.notes.names ≡ bus.notes.names
 
 -- the bus that the command left comes of that before it by events

@@ -6,7 +6,7 @@ ghost use Rattle.script_told.specs.Reached.{ScriptWorldsAreReached, ScriptsConve
 ghost use Rattle.script_told.specs.SomeAnswer.{CommandsHaveAnswers, BusesSettle};
 ghost use Rattle.script_told.specs.SomeManager.{ReportedTreesAreManaged};
 
-use cable_world::acts_keep;
+use cable_world::{acts_keep, outcomes_are_one};
 use cabling::components_exist;
 use outcomes::every_bus_settles;
 use script_text::{maps_have_texts, settled_worlds_have_texts};
@@ -44,9 +44,9 @@ pub fn script_worlds_are_reached()
 }
 
 /// A law: each `settle` and each `plan` of a script's run prints the report of a world that comes of
-/// power-on. In it every component of the cables, as they then stand, is a loop whose core is in
-/// configuration timeout, or one cable whose ends drew thirty-two equal coins, or one list at every
-/// node, the child-first walk from its one root.
+/// power-on. In it every component of the cables, as they then stand, is exactly one of three: a loop
+/// whose core is in configuration timeout, or one cable whose ends drew thirty-two equal coins, or one
+/// list at every node, the child-first walk from its one root.
 pub fn reports_are_settled()
     ensures { ReportsAreSettled }
 {
@@ -54,6 +54,7 @@ pub fn reports_are_settled()
     acts_keep();
     reports_are_read_back();
     reports_are_outcomes();
+    outcomes_are_one();
 }
 
 /// A law: each tree of a report is a bus tree's, which elects an isochronous resource manager, or

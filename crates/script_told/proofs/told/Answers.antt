@@ -1,6 +1,6 @@
 -- What an answer is, where each way to it is: a fact that holds of each fault, and so is shown of what
 -- comes behind each of the things that have to be there first.
-use Rattle.std.proofs.Common.{◌≡◌, ◌+◌, ℕ, Bool, true, false, List, Option, Some, None, subst, sym}
+use Rattle.std.proofs.Common.{◌≡◌, ◌+◌, ℕ, Bool, true, false, List, Option, Some, None, refl, subst, sym}
 use Rattle.std.specs.Prelude.{Err, MatchBool, nat_lt}
 use Rattle.cable_world.specs.World.{NodeNumber}
 use Rattle.script_lines.specs.declared.kind.Kind.{Kind}
@@ -19,6 +19,12 @@ module _ (P : LineAnswer → Type 0) (fault : (kind : Kind) → P (Err kind)) wh
       ((k : NodeNumber) (r : LineAnswer) → Comes k r → P r) → (r : LineAnswer) → AtNode o Comes r → P r
   each-node None Comes some r e = is-known (Err Kind.NoNode) (fault Kind.NoNode) r e
   each-node (Some k) Comes some r e = some k r e
+
+  -- and this is the node
+  pub each-node-at : (o : Option NodeNumber) (Comes : NodeNumber → LineAnswer → Type 0) →
+      ((k : NodeNumber) → o ≡ Some k → (r : LineAnswer) → Comes k r → P r) → (r : LineAnswer) → AtNode o Comes r → P r
+  each-node-at None Comes some r e = is-known (Err Kind.NoNode) (fault Kind.NoNode) r e
+  each-node-at (Some k) Comes some r e = some k refl r e
 
   pub each-tree : (o : Option Reported) (Comes : Reported → LineAnswer → Type 0) →
       ((t : Reported) (r : LineAnswer) → Comes t r → P r) → (r : LineAnswer) → AtTree o Comes r → P r

@@ -7,6 +7,7 @@ use Rattle.cabling.proofs.Lemmas.{shared}
 use Rattle.cable_world.specs.World.{CableWorld, NodeNumber}
 use Rattle.cable_world.specs.Run.{IsReached}
 use Rattle.cable_world.specs.Unchanged.{ActKeepsNodes}
+use Rattle.cable_world.specs.Outcome.{OneOutcomeAtMost}
 use Rattle.cable_world.proofs.Lemmas.{reached-lawful}
 use Rattle.settle.specs.declared.report.Part.{Part}
 use Rattle.settle.specs.declared.report.Report.{Report}
@@ -28,9 +29,9 @@ use Rattle.script_told.proofs.told.EachDone.{IsDone, each-done}
 
 -- ---- a report
 
-pub settled-so : ListsAreReadBack → ReportedIsOutcome → (w : CableWorld) (report : Report) →
-    IsReached w → IsReport w report → EachComponentCameTo w report
-settled-so read came w report r is node there =
+pub settled-so :
+    ListsAreReadBack → ReportedIsOutcome → OneOutcomeAtMost → (w : CableWorld) (report : Report) → IsReached w → IsReport w report → EachComponentCameTo w report
+settled-so read came one w report r is node there =
     let cables = (reached-lawful w r).well_formed.cabling in
     let a = is.parts.whole node there in
     let part : IsPart w a.1 = subst (IsPart w) a.3 (All-get_or (IsPart w) report.parts a.0 a.1 a.2 is.parts.each) in
@@ -46,6 +47,7 @@ settled-so read came w report r is node there =
         component = shared w.cabling part.node node a.1.nodes cables part.component a.4;
         outcome = outcome.0;
         came = outcome.1;
+        only = λ other h. one w a.1.nodes other outcome.0 h outcome.1;
         told = outcome.2;
         read = tree;
       },
@@ -172,9 +174,9 @@ onwards-says Before (Ok (bus, text)) h = (bus, refl, h)
 onwards-says Before (Err kind) h = tt
 
 reported-at :
-    ListsAreReadBack → ReportedIsOutcome → (entry : Entry) → IsSound entry.after →
+    ListsAreReadBack → ReportedIsOutcome → OneOutcomeAtMost → (entry : Entry) → IsSound entry.after →
     StageSays (IsBeforeReport entry.command) entry.after entry.text → IsReportedAt entry
-reported-at read came entry sound h =
+reported-at read came one entry sound h =
     let reached : IsReached h.0.world = (subst IsSound h.1 sound).reached in
     record {
       bus = h.0;
@@ -187,7 +189,7 @@ reported-at read came entry sound h =
         report = h.2.report;
         kept = h.2.kept;
         is = h.2.is;
-        each = settled-so read came h.0.world h.2.report reached h.2.is;
+        each = settled-so read came one h.0.world h.2.report reached h.2.is;
         told = h.2.told;
       };
       printed = h.2.printed;
@@ -202,13 +204,13 @@ says stage (Plan name) next text does f =
     subst (StageAnswerSays is-any) (sym f.2) (onwards-says is-any f.0 (plan-says (bus_of stage) name f.0 f.1))
 says stage command next text does f = absurd does
 
-reports-so : ListsAreReadBack → ReportedIsOutcome → (entry : Entry) → IsDone entry →
+reports-so : ListsAreReadBack → ReportedIsOutcome → OneOutcomeAtMost → (entry : Entry) → IsDone entry →
     DoesReport entry.command → IsReportedAt entry
-reports-so read came entry is does =
-    reported-at read came entry is.left (says entry.before entry.command entry.after entry.text does is.follows)
+reports-so read came one entry is does =
+    reported-at read came one entry is.left (says entry.before entry.command entry.after entry.text does is.follows)
 
 pub each-report : NoListHasTwoTrees → ActKeepsNodes → ListsAreReadBack → ReportedIsOutcome →
-    ReportsAreSettled
-each-report trees keeps read came bytes run x =
-    All-weaker IsDone (λ entry. DoesReport entry.command → IsReportedAt entry) (λ entry is. reports-so read came entry is)
+    OneOutcomeAtMost → ReportsAreSettled
+each-report trees keeps read came one bytes run x =
+    All-weaker IsDone (λ entry. DoesReport entry.command → IsReportedAt entry) (λ entry is. reports-so read came one entry is)
     run.entries (each-done trees keeps bytes run x).each

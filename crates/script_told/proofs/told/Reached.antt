@@ -13,7 +13,7 @@ use Rattle.port_state.specs.declared.timing.Timing.{Timing}
 use Rattle.port_state.specs.declared.ranges.TimeRanges.{TimeRanges}
 use Rattle.port_state.specs.Machine.{PortNode}
 use Rattle.port_state.proofs.Lemmas.{valid-power_on}
-use Rattle.cable_world.specs.World.{CableWorld, NodeNumber, world_with_times}
+use Rattle.cable_world.specs.World.{CableWorld, NodeNumber, IsPowerOnWorld, world_with_times}
 use Rattle.cable_world.proofs.Lemmas.{power-on, some-same, reached-lawful, power-on-reached, turns-reached, act-reached, hold-reached}
 use Rattle.cable_world.specs.Run.{Event, acts, holds, turns, Happens, Runs, IsReached}
 use Rattle.cable_world.specs.Act.{IsAct, hold, hold_fault}
@@ -289,11 +289,16 @@ pub record IsSoundDraft (draft : Draft) : Type 0 where
   pub powered : (k : ℕ) (x : PortNode) → slice_get draft.nodes k ≡ Some x →
       IsFitting draft.delay draft.times.ranges x
 
+pub draft-power : (draft : Draft) → IsSoundDraft draft →
+    IsPowerOnWorld (world_with_times draft.delay draft.times.ranges.most draft.nodes)
+draft-power draft h =
+    power-on draft.delay draft.times.ranges.most draft.nodes h.some_delay h.short_delay h.few (λ k x at. (h.powered k x at).powered)
+
 pub draft-bus : (draft : Draft) → IsSoundDraft draft →
     IsReachedBus (bus_of_nodes draft.delay draft.times draft.names draft.nodes)
 draft-bus draft h = record {
   reached = power-on-reached (world_with_times draft.delay draft.times.ranges.most draft.nodes)
-      (power-on draft.delay draft.times.ranges.most draft.nodes h.some_delay h.short_delay h.few (λ k x at. (h.powered k x at).powered))
+      (draft-power draft h)
       (λ k x at. (h.powered k x at).forced);
   named = h.same;
   reported = tt;

@@ -4,4 +4,4 @@ use Rattle.bus_cli.proofs.laws.told_texts_are_printed.Goals as goal
 pub returns : goal.returns
 returns c =
     told_prints c.reports_are_settled.ensures c.scripts_are_runs.ensures c.each_plan_comes_out.ensures
-    c.each_config_comes_out.ensures
+    c.each_config_comes_out.ensures c.each_waiting_node_becomes_root.ensures

@@ -6,3 +6,4 @@ returns-clause-report c = no-loop c.one_tree.ensures c.acts_keep.ensures.nodes
 
 pub returns-clause-text : goal.returns-clause-text
 returns-clause-text c = all-without-loop c.one_tree.ensures c.acts_keep.ensures.nodes c.reports_are_read_back.ensures.lists c.reports_are_outcomes.ensures
+    c.outcomes_are_one.ensures
