@@ -15,7 +15,8 @@ pub enum Bid {
 }
 
 /// The attempt of the node with ID `id`, 0 to 62, to become bus manager: a lock that puts its ID
-/// into BUS_MANAGER_ID where no node has done so since the bus reset (IEEE 1394-1995, 8.3.2.3.6).
+/// into BUS_MANAGER_ID where that holds 0x3F, as it does from a bus reset on until a node has done so
+/// (IEEE 1394-1995, 8.3.2.3.6).
 ///
 /// `Lost` comes exactly where the register wasn't 0x3F; it names the value found, and nothing
 /// changes.

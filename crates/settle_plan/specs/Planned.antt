@@ -9,6 +9,7 @@ use Rattle.cabling.specs.Sees.{numbers}
 use Rattle.cable_world.specs.declared.act.Act.TheVariants.{Config}
 use Rattle.cable_world.specs.World.{CableWorld, NodeNumber, NodeSet}
 use Rattle.cable_world.specs.Act.{ActLeads}
+use Rattle.cable_world.specs.Run.{IsReached}
 use Rattle.cable_world.specs.Outcome.{Shows, IsTree}
 use Rattle.bus_manager.specs.Gap.{gap_of}
 use Rattle.bus_manager.specs.Hops.{IsHops}
@@ -90,3 +91,10 @@ PlansComeOut w from =
     ((root : NodeNumber) → HasId w from plan.root_id root →
     Any (IsTreeFrom w.cabling from root) report.parts)
     × HaveGap v from plan.gap
+
+-- ---- a law
+
+abbrev pub CarriedPlansComeOut : Type 0
+CarriedPlansComeOut =
+    (w : CableWorld) (from : NodeNumber) → IsReached w → from < length w.cabling →
+    PlansComeOut w from

@@ -1,6 +1,6 @@
 //! Which plans suit a component, and what they come to.
 ghost use Rattle.std.specs.Prelude.{◌<◌, IsFalse, length};
-ghost use Rattle.settle_plan.specs.Planned.{PlansSuit, PlansComeOut};
+ghost use Rattle.settle_plan.specs.Planned.{PlansSuit, CarriedPlansComeOut};
 
 use cable_world::WorldRun;
 use cabling::components_exist;
@@ -18,13 +18,11 @@ pub fn plans_suit<W: WorldRun>(world: &W, from: u8)
     components_exist();
 }
 
-/// A law: where a plan suits the component of a node, which exists, and its packet is sent and the
-/// quiet turns are done, the node that had the plan's root ID is reported as root, and every node of
-/// the component has the plan's gap count. The world isn't spent.
-pub fn plans_come_out<W: WorldRun>(world: &W, from: u8)
-    requires sound { IsFalse (W.is_spent world.now) }
-    requires there { from < length (W.world world.now).cabling }
-    ensures { PlansComeOut (W.world world.now) from }
+/// A law: in each world that comes of power-on, where a plan suits the component of a node, and its
+/// packet is sent and the quiet turns are done, the node that had the plan's root ID is reported as
+/// root, and every node of the component has the plan's gap count.
+pub fn plans_come_out()
+    ensures { CarriedPlansComeOut }
 {
     forced_roots_settle();
     components_exist();
