@@ -107,7 +107,7 @@ without_sentence() { sed '/^refused line /q' "$1"; }
 
 # Runs a command of a case by the standard that the case's words name.
 by_its_standard() {
-  if grep -qx -e --1995 "$input.args"; then "$@" 1995; else "$@" 2000; fi
+  if grep -qsx -e --1995 "$input.args"; then "$@" 1995; else "$@" 2000; fi
 }
 
 # Whether a command ends with a status that isn't 0.
