@@ -1,13 +1,13 @@
 -- From each command of a script to the next there is a run of events.
-use Rattle.std.specs.Prelude.{◌≡◌, ℕ, List, ◌∷◌, ◌++◌, All, Any, Some}
+use Rattle.std.specs.Prelude.{◌≡◌, ℕ, List, ◌∷◌, All, Any, Some}
 use Rattle.cabling.specs.declared.cable.End.{End}
 use Rattle.cable_world.specs.declared.act.Act.TheVariants as act
 use Rattle.cable_world.specs.declared.act.Act.{Act}
-use Rattle.cable_world.specs.World.{CableWorld, NodeNumber}
+use Rattle.cable_world.specs.World.{NodeNumber}
 use Rattle.cable_world.specs.Run.{Event, acts, Runs}
 use Rattle.outcomes.specs.Settled.{HasNoAct, turn_count}
 use Rattle.script_lines.specs.declared.command.Command.{Command}
-use Rattle.script_lines.specs.declared.command.Command.TheVariants.{Node, Plug, Pull, Reset, Turn, Hold, Settle, Config, Plan, Delay, Times}
+use Rattle.script_lines.specs.declared.command.Command.TheVariants.{Node, Plug, Pull, Reset, Turn, Settle, Config, Plan, Delay, Times}
 use Rattle.script_told.specs.Bus.{Bus, node_named}
 use Rattle.script_told.specs.Step.{port_of, end_of, config_of}
 use Rattle.script_told.specs.Script.{running, bus_of}

@@ -5,7 +5,7 @@ use Rattle.std.specs.Prelude.{Err, MatchBool, nat_lt}
 use Rattle.cable_world.specs.World.{NodeNumber}
 use Rattle.script_lines.specs.declared.kind.Kind.{Kind}
 use Rattle.script_told.specs.Bus.{Bus, Reported, node_named, tree_with}
-use Rattle.script_told.specs.Step.{LineAnswer, AtNode, Named, AtTree, Settled, AtManager, Managed, id_of, Within}
+use Rattle.script_told.specs.Step.{LineAnswer, AtNode, AtTree, Settled, AtManager, Managed, id_of, Within}
 
 module _ (P : LineAnswer → Type 0) (fault : (kind : Kind) → P (Err kind)) where
   -- each answer that comes so

@@ -1,6 +1,6 @@
 -- What a command does to the world of its bus, event by event.
-use Rattle.std.proofs.Common.{◌≡◌, ◌≢◌, ◌+◌, ◌++◌, ◌==◌, ℕ, zero, suc, Bool, true, false, List, [], ◌∷◌, Option, Some, None, length, refl, sym, subst, ◌∙◌, ap, arith}
-use Rattle.std.specs.Prelude.{Any, All, codes, Result, Ok, Err, nat_lt}
+use Rattle.std.proofs.Common.{◌≡◌, ◌==◌, ℕ, zero, suc, List, [], ◌∷◌, Option, Some, None, refl, sym, subst, ◌∙◌, ap, arith}
+use Rattle.std.specs.Prelude.{Any, codes, Ok, Err, nat_lt}
 use Rattle.std.proofs.lemmas.List.Elements.{All-weaker}
 use Rattle.topology_stack.specs.OneAnswer.{NoListHasTwoTrees}
 use Rattle.cabling.specs.declared.cable.End.{End}
@@ -10,7 +10,7 @@ use Rattle.cable_world.specs.declared.act.Act.{Act}
 use Rattle.cable_world.specs.declared.act.Act.TheVariants as act
 use Rattle.cable_world.specs.World.{CableWorld, NodeNumber}
 use Rattle.cable_world.specs.Act.{ActLeads, IsAct, act_fault, hold, hold_fault}
-use Rattle.cable_world.specs.Turn.{turn, turns_after}
+use Rattle.cable_world.specs.Turn.{turns_after}
 use Rattle.cable_world.specs.Unchanged.{ActKeepsNodes}
 use Rattle.cable_world.proofs.Lemmas.{some-same}
 use Rattle.cable_world.specs.Run.{Event, acts, holds, turns, Runs}
@@ -31,7 +31,7 @@ use Rattle.script_lines.specs.declared.command.Command.TheVariants.{Node, Plug, 
 use Rattle.script_lines.specs.Range.{IsInRange}
 use Rattle.script_told.specs.Bus.{Bus, Notes, Reported, node_named, values_at, after_access, put_look}
 use Rattle.script_told.specs.Step.{LineAnswer, AtNode, Acts, Holds, Turns, Reports, Accesses, Grants, Looks, seen_by, Plans, GivesMaps, Does, end_of, config_of}
-use Rattle.script_told.specs.Script.{Stage, StageAnswer, running, bus_of, ranges_of, onwards, Follows, Runs as StageRuns}
+use Rattle.script_told.specs.Script.{Stage, StageAnswer, bus_of, ranges_of, onwards, Follows, Runs as StageRuns}
 use Rattle.script_told.specs.Run.{Entry}
 use Rattle.script_told.specs.ScriptEvents.{Declares, LeavesAlone, TakesNoTurn, IsActOf, IsPullOf, DoesEvents, RunsOn, ScriptsAreRuns}
 use Rattle.script_lines.specs.Refusal.{kind_of}
