@@ -18,6 +18,11 @@
 --   SeenTrees     whatever tree a cabling shows is a bus tree (`seen_trees_are_bus_trees`)
 --   SlotCabling   each bus tree is what some cabling shows
 --   SlotTrees     and what a cabling shows is a bus tree (`bus_trees_are_cabled`)
+--   WiringSlots   a wiring and its slots are one cabling, and show the same trees
+--                 (`wirings_are_slots`)
+--   LineText      what a node's line tells is read back
+--   TreeText      trees with one text are alike but for what no text has (`texts_tell_trees`)
+--   WorkedTexts   what a text leaves out, and the slots of a wiring
 --   Worked        runs that the check computes
 pub mod ActCables
 pub mod Arriving
@@ -36,4 +41,8 @@ pub mod ReadyPrefix
 pub mod SeenTrees
 pub mod SlotCabling
 pub mod SlotTrees
+pub mod WiringSlots
+pub mod LineText
+pub mod TreeText
+pub mod WorkedTexts
 pub mod Worked

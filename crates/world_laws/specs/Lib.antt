@@ -10,3 +10,5 @@ pub mod OnePair
 pub mod ReadyPrefix
 pub mod SeenTrees
 pub mod SlotCabling
+pub mod WiringSlots
+pub mod TreeText

@@ -14,6 +14,9 @@ ghost use Rattle.world_laws.specs.ReadyPrefix.{ReadyNodesAreFirst};
 ghost use Rattle.world_laws.specs.SlotCabling.{EachBusTreeIsCabled, CabledTreesAreBusTrees};
 ghost use Rattle.world_laws.specs.SlotCabling.{AcceptedListsAreEmitted};
 ghost use Rattle.world_laws.specs.SeenTrees.{SeenTreesAreBusTrees, SeenListsHaveOneTree};
+ghost use Rattle.world_laws.specs.WiringSlots.{PortsAreSlots, SlotsShowTheSame};
+ghost use Rattle.world_laws.specs.WiringSlots.{SeenListsAreEmitted, SettledListsAreEmitted};
+ghost use Rattle.world_laws.specs.TreeText.{TextsTellTrees, AlikeTreesHaveOneText, LinesTellNodes};
 
 /// The wires deliver. In every run from a world that comes of power-on, in which the cable isn't
 /// pulled, each signal that is under way over it is heard at the far end by the time that it has
@@ -122,4 +125,25 @@ pub fn bus_trees_are_cabled()
     ensures each { EachBusTreeIsCabled }
     ensures only { CabledTreesAreBusTrees }
     ensures lists { AcceptedListsAreEmitted }
+{}
+
+/// The cables of a wiring, which scripts have, are cables of slots: each node has its ports in its
+/// first slots, and no port in the others. From each node both show the same trees. So the list that
+/// each node of a settled component has is one that some cabling of slots emits, and that cabling
+/// shows the tree that the cables of the world show.
+pub fn wirings_are_slots()
+    ensures cabling { PortsAreSlots }
+    ensures same { SlotsShowTheSame }
+    ensures lists { SeenListsAreEmitted }
+    ensures settled { SettledListsAreEmitted }
+{}
+
+/// What the text of a bus tree tells: two bus trees of one standard with the same text are the same,
+/// node by node and slot by slot, but for the nodes' delays and the bits that further packets carry
+/// unread. No text has these: trees that differ in nothing else have one text. A node's line tells
+/// its ID, its attributes but the delay, its slots, and the IDs that they lead to.
+pub fn texts_tell_trees()
+    ensures trees { TextsTellTrees }
+    ensures alike { AlikeTreesHaveOneText }
+    ensures lines { LinesTellNodes }
 {}

@@ -9,5 +9,6 @@ mod laws;
 pub use laws::{
     acts_by_number, acts_make_fresh, acts_touch_their_component, bus_trees_are_cabled,
     changes_are_noted, entries_end, loops_are_out, ready_nodes_are_first, rivals_are_alone,
-    seen_trees_are_bus_trees, signals_arrive, trees_are_at_rest, waiting_roots_settle,
+    seen_trees_are_bus_trees, signals_arrive, texts_tell_trees, trees_are_at_rest,
+    waiting_roots_settle, wirings_are_slots,
 };
