@@ -42,7 +42,7 @@ use Rattle.script_told.specs.EachPlan.{IsCarriedOut}
 use Rattle.script_told.specs.EachReport.{DoesReport}
 use Rattle.script_told.specs.ScriptEvents.{Declares, TakesNoTurn, IsActOf, RunsOn}
 use Rattle.script_told.specs.PrintedTree.{PrintsTree}
-use Rattle.script_told.proofs.Lemmas.{prints-tree, plan-act, plan-carried, draft-power, no-nodes, sound-bus, IsSound, IsDone, each-done, runs-on}
+use Rattle.script_told.proofs.Lemmas.{stage-in, prints-tree, plan-act, plan-carried, draft-power, no-nodes, sound-bus, IsSound, IsDone, each-done, runs-on}
 use Rattle.script_bus.specs.EachWaiting.{SettlesAtOnce, ResetsOneOf, IsResetSince, power_on, report, OneNodeWaits, IsRootOf, EachWaitingNodeBecomesRoot}
 use Rattle.script_bus.proofs.EachConfig.{reports-of, by-answer}
 use Rattle.script_bus.proofs.FollowOn.{LeadsOn, leads-on, leads-behind, at-split, behind-split, front-split}
@@ -178,13 +178,16 @@ record PowersOn (stage : Stage) : Type 0 where
 just-on : (stage : Stage) → IsPowerOnWorld (world_of stage) → PowersOn stage
 just-on stage is = record { start = world_of stage; power_on = is; events = []; run = refl; no_turn = refl }
 
+not-left : (bus : Bus) (draft : Draft) → running bus ≡ declaring draft → ⊥
+not-left bus draft e = absurd cc
+
 not-a-node :
     (many twice : Bool) (next : Draft) (bus : Bus) (text : List ℕ) →
     ◌≡◌ {A = StageAnswer} (Ok (running bus, text))
     (if many then Err TooManyNodes else if twice then Err Twice else Ok (declaring next, [])) → ⊥
 not-a-node true twice next bus text e = absurd cc
 not-a-node false true next bus text e = absurd cc
-not-a-node false false next bus text e = absurd cc
+not-a-node false false next bus text e = not-left bus next (ap stage-in e)
 
 not-declared :
     (o : Option Draft) (name : List ℕ) (node : TimeRanges → ℕ → PortNode) (bus : Bus) (text : List ℕ) →
@@ -196,14 +199,14 @@ not-declared (Some draft) name node bus text e =
 
 not-delayed : (stage : Stage) (delay : ℕ) (bus : Bus) (text : List ℕ) →
     Delays stage delay (Ok (running bus, text)) → ⊥
-not-delayed fresh delay bus text e = absurd cc
+not-delayed fresh delay bus text e = not-left bus _ (ap stage-in e)
 not-delayed (declaring draft) delay bus text e = absurd cc
 not-delayed (running old) delay bus text e = absurd cc
 
 not-some-times :
     (draft : Draft) (takes : Bool) (r : Result ScriptTimes Kind) (bus : Bus) (text : List ℕ) →
     ◌≡◌ {A = StageAnswer} (Ok (running bus, text)) (if takes then with_times draft r else Err Late) → ⊥
-not-some-times draft true (Ok times) bus text e = absurd cc
+not-some-times draft true (Ok times) bus text e = not-left bus _ (ap stage-in e)
 not-some-times draft true (Err kind) bus text e = absurd cc
 not-some-times draft false r bus text e = absurd cc
 
