@@ -1,11 +1,12 @@
 -- What an accepted capture says of cables, and that no capture of a cabling is refused.
-use Rattle.std.proofs.Common.{◌≡◌, ◌⊎◌, inl, inr, ◌≤◌, ℕ, List, [], Option, Some, None, refl, sym, subst}
+use Rattle.std.proofs.Common.{◌≡◌, ◌⊎◌, inl, inr, ◌≤◌, ℕ, List, [], Option, Some, None, refl, sym, ◌∙◌, subst}
 use Rattle.std.specs.Prelude.{String, IfSome}
 use Rattle.std.specs.Global.{Global}
 use Rattle.self_id.specs.declared.standard.Standard.TheVariants.{Ieee2000}
 use Rattle.topology_stack.specs.Tree.{Tree}
 use Rattle.topology_stack.specs.Text.{tree_text}
 use Rattle.world_laws.specs.SlotCabling.{IsEmitted, EachBusTreeIsCabled, CabledTreesAreBusTrees}
+use Rattle.world_laws.specs.TreeText.{TextsTellTrees}
 use Rattle.bus_cli.specs.declared.form.Form.TheVariants.{Capture}
 use Rattle.bus_cli.specs.declared.form.CaptureForm.TheVariants.{Read}
 use Rattle.bus_cli.specs.Form.{Asks}
@@ -25,25 +26,27 @@ emitted-spells whole bytes list e captured = record {
 }
 
 tells :
-    EachBusTreeIsCabled → CabledTreesAreBusTrees → NoCaptureHasTwoTrees → (bytes text : List ℕ) (t : Tree) →
-    Spells Ieee2000 bytes t → text ≡ tree_text t [] → TellsCabling bytes text
-tells each whole one bytes text t s is = record {
+    EachBusTreeIsCabled → CabledTreesAreBusTrees → NoCaptureHasTwoTrees → TextsTellTrees → (bytes text : List ℕ)
+    (t : Tree) → Spells Ieee2000 bytes t → text ≡ tree_text t [] → TellsCabling bytes text
+tells each whole one texts bytes text t s is = record {
   tree = t;
   cabled = each t s.bus;
   captured = s.captured;
   text_is = is;
   only = λ list e captured. one Ieee2000 bytes e.tree t (emitted-spells whole bytes list e captured) s;
+  told = λ other bus same. texts Ieee2000 t other s.bus bus (sym is ∙ same);
 }
 
 pub cabled :
-    EachBusTreeIsCabled → CabledTreesAreBusTrees → NoCaptureHasTwoTrees → (status : ℕ) (left old new : Option (List ℕ)) →
+    EachBusTreeIsCabled → CabledTreesAreBusTrees → NoCaptureHasTwoTrees → TextsTellTrees → (status : ℕ)
+    (left old new : Option (List ℕ)) →
     IsWritten (AnswersRead Ieee2000) status left old new → IsWritten AnswersCabling status left old new
-cabled each whole one status None old new h = λ which. tt
-cabled each whole one status (Some bytes) old new h = λ which.
+cabled each whole one texts status None old new h = λ which. tt
+cabled each whole one texts status (Some bytes) old new h = λ which.
     let w = h which in (
       w.0,
       λ zero. elim w.1 [
-        | inl v ↦ tells each whole one bytes w.0 v.1.0 v.1.1 v.1.2
+        | inl v ↦ tells each whole one texts bytes w.0 v.1.0 v.1.1 v.1.2
         | inr r ↦ absurd (apart status zero r.0)
       ],
       w.2,

@@ -4,10 +4,14 @@ use Rattle.std.specs.Io.KnownBytes.{Appends}
 use Rattle.std.specs.Prelude.{String, All, IfOk, IfSome}
 use Rattle.std.specs.declared.alloc.AllocError.{AllocError}
 use Rattle.std.specs.Global.{Global}
+use Rattle.std.proofs.lemmas.List.Elements.{All-weaker}
 use Rattle.topology_stack.specs.Tree.{Tree}
+use Rattle.cable_world.specs.Run.{IsReached}
+use Rattle.world_laws.specs.WiringSlots.{ListsAreEmitted, SettledListsAreEmitted}
 use Rattle.script_lines.specs.declared.kind.ScriptFault.{ScriptFault}
 use Rattle.script_told.specs.Bus.{Bus}
-use Rattle.script_told.specs.Run.{printed, unless_stopped, IsTold}
+use Rattle.script_told.specs.Reached.{world_of, ScriptWorldsAreReached}
+use Rattle.script_told.specs.Run.{Entry, printed, unless_stopped, IsTold}
 use Rattle.script_told.specs.EachReport.{ReportsAreSettled}
 use Rattle.script_told.specs.ScriptEvents.{ScriptsAreRuns}
 use Rattle.script_told.specs.EachPlan.{EachPlanComesOut}
@@ -61,8 +65,9 @@ stopped form reading stop (Err e) is h = tt
 -- a text that a script tells is what its run prints
 pub told_prints :
     ReportsAreSettled → ScriptsAreRuns → EachPlanComesOut → EachConfigComesOut →
-    EachWaitingNodeBecomesRoot → (bytes text : List ℕ) → IsTold bytes (Ok text) → PrintsRun bytes text
-told_prints settled runs plans configs waiting bytes text x = go x.0.end refl
+    EachWaitingNodeBecomesRoot → ScriptWorldsAreReached → SettledListsAreEmitted → (bytes text : List ℕ) →
+    IsTold bytes (Ok text) → PrintsRun bytes text
+told_prints settled runs plans configs waiting reached emitted bytes text x = go x.0.end refl
   where
     go : (end : Result Bus ScriptFault) → x.0.end ≡ end → PrintsRun bytes text
     go (Ok bus) e = record {
@@ -76,6 +81,10 @@ told_prints settled runs plans configs waiting bytes text x = go x.0.end refl
       plans = plans bytes x.0 x.1;
       configs = configs bytes x.0 x.1;
       waiting = waiting bytes x.0 x.1;
+      lists =
+          All-weaker (λ (e : Entry). IsReached (world_of e.before) × IsReached (world_of e.after))
+          (λ (e : Entry). ListsAreEmitted (world_of e.after)) (λ e h. emitted (world_of e.after) h.1) x.0.entries
+          (reached bytes x.0 x.1);
     }
       where
         same : (a b : List ℕ) → ◌≡◌ {A = Result (List ℕ) ScriptFault} (Ok a) (Ok b) → a ≡ b

@@ -18,6 +18,7 @@ use Rattle.bus_cli.specs.declared.form.CaptureForm.TheVariants.{Read, Read95, Ma
 use Rattle.bus_cli.specs.declared.fault.CaptureFault.{CaptureFault}
 use Rattle.bus_cli.specs.Form.{Asks, IsForm}
 use Rattle.bus_cli.specs.Capture.{Spells, CaptureRefused}
+use Rattle.bus_cli.specs.Cabled.{EachListIsEmitted}
 use Rattle.bus_cli.specs.Line.{fault_line, rom_line, script_line}
 use Rattle.script_lines.specs.declared.kind.ScriptFault.{ScriptFault}
 use Rattle.script_text.specs.Maps.{IsMapsText}
@@ -86,7 +87,8 @@ AnswersRom bytes = ValidOrRefused
 -- other. Each report in it is that of a world that comes of power-on and has settled, and from line to
 -- line the bus runs by events. Each plan comes out, and each configuration packet that a settling
 -- follows next, and each node becomes root that alone waits for it behind acts alone: the tree from
--- its root stands in the text.
+-- its root stands in the text. The lists of its trees are emitted by some cabling, so that they are
+-- lists that `read` accepts.
 pub record PrintsRun (bytes text : List ℕ) : Type 0 where
   pub run : ScriptRun
   pub is : IsRun bytes run
@@ -98,6 +100,7 @@ pub record PrintsRun (bytes text : List ℕ) : Type 0 where
   pub plans : PlansComeOut run
   pub configs : ConfigsComeOut run
   pub waiting : WaitingNodesBecomeRoots run
+  pub lists : EachListIsEmitted run
 
 -- `run`
 abbrev pub AnswersRun : List ℕ → ℕ → List ℕ → Type 0

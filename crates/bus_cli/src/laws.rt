@@ -12,8 +12,11 @@ use script_bus::{
 };
 use script_made::made_scripts_have_no_fault;
 use script_text::maps_have_texts;
-use script_told::{reports_are_settled, scripts_are_runs, scripts_tell_one_thing};
+use script_told::{
+    reports_are_settled, script_worlds_are_reached, scripts_are_runs, scripts_tell_one_thing,
+};
 use topology_stack::{one_answer as one_list_answer, one_tree};
+use world_laws::wirings_are_slots;
 
 /// A law: by either standard each capture spells a tree or has a fault, none spells two trees, none
 /// spells a tree and has a fault, and none has two faults.
@@ -29,7 +32,8 @@ pub fn one_reading()
     one_list_answer();
 }
 
-/// A law: the text that a script tells is what its run prints, report by report and line by line.
+/// A law: the text that a script tells is what its run prints, report by report and line by line, and
+/// the lists of its bus are those of cables.
 pub fn told_texts_are_printed()
     ensures { ToldTextsArePrinted }
 {
@@ -38,6 +42,8 @@ pub fn told_texts_are_printed()
     each_plan_comes_out();
     each_config_comes_out();
     each_waiting_node_becomes_root();
+    script_worlds_are_reached();
+    wirings_are_slots();
 }
 
 /// A law: all words and bytes have one answer, one status and one text.

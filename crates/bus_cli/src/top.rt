@@ -19,7 +19,7 @@ use crate::laws::{one_answer, one_reading};
 use crate::status::{NO_FORM, NO_MEMORY, READ_FAULT, TOO_LONG, WRITE_FAULT};
 use io_edges::{ReadStop, Sink, Source, write_whole};
 use std::alloc::Global;
-use world_laws::bus_trees_are_cabled;
+use world_laws::{bus_trees_are_cabled, texts_tell_trees};
 
 /// Answers the words, as `bus_main` has it.
 fn answer_words<S: Source, K: Sink>(
@@ -122,8 +122,8 @@ pub fn bus_main<S: Source, K: Sink>(
         IsWritten (AnswersRead Ieee1995) result
         (S.left source.old) (K.written sink.old) (K.written sink.new) }
     // With `read`, a capture that is accepted is that of the nodes of some cabling, the text is that of
-    // the tree that the cabling shows, and no cabling with this capture shows another. No capture of
-    // a cabling's nodes is refused.
+    // the tree that the cabling shows, and no cabling with this capture shows another. The text tells
+    // that tree but for what no text has. No capture of a cabling's nodes is refused.
     ensures cabling { Asks words.now (Form.Capture CaptureForm.Read) → IsWritten AnswersCabling
         result (S.left source.old) (K.written sink.old) (K.written sink.new) }
     ensures accepts { Asks words.now (Form.Capture CaptureForm.Read) →
@@ -136,9 +136,9 @@ pub fn bus_main<S: Source, K: Sink>(
 
     // With `run` it is what the commands of the script's run print, and each report among that is
     // the report of a world that comes of power-on: every component is a loop in configuration
-    // timeout, one cable whose ends drew 32 equal coins, or one list at every node. Each plan comes
-    // out, and each configuration packet that a settling follows next. From line to line the world
-    // goes on by events.
+    // timeout, one cable whose ends drew 32 equal coins, or one list at every node. That list is one
+    // that some cabling emits, and it shows the same tree. Each plan comes out, and each configuration
+    // packet that a settling follows next. From line to line the world goes on by events.
     ensures run { Asks words.now Form.Run → IsWritten AnswersRun
         result (S.left source.old) (K.written sink.old) (K.written sink.new) }
     // With `advice` it is the script's advice and such a report, in which no component is a loop.
@@ -160,5 +160,6 @@ pub fn bus_main<S: Source, K: Sink>(
     one_answer();
     one_reading();
     bus_trees_are_cabled();
+    texts_tell_trees();
     answer_words(alloc, words, source, sink)
 }

@@ -44,6 +44,7 @@ returns-clause-read95 g c = λ asks. form_written c.args.words.now (Capture Read
 pub returns-clause-cabling : goal.returns-clause-cabling
 returns-clause-cabling g c = λ asks.
     cabled c.bus_trees_are_cabled.ensures.each c.bus_trees_are_cabled.ensures.only c.one_reading.ensures.tree
+    c.texts_tell_trees.ensures.trees
     c.answer_words.result (g.S.Source.left c.args.source.now) _ _
     (form_written c.args.words.now (Capture Read) asks _ _ _ _ c.answer_words.ensures.answer)
 
