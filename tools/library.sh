@@ -1,15 +1,22 @@
 #!/usr/bin/env bash
-# `library.sh build FOLDER` makes libbusconf.a and libbusconf.so, each whole: the kit's allocation functions are in it,
+# `library.sh build FOLDER` makes libbusconf.a and libbusconf.so.0, each whole: the kit's allocation functions are in it,
 # and nothing is exported but the calls of include/busconf.h. The archive has an object for each crate, so that a program
-# that runs no scripts is linked without them. `library.sh install PREFIX` makes both and copies them with the header and
-# busconf.pc below a folder. `library.sh test` makes them in a folder of its own, and compiles and runs what stands on
-# them. `library.sh speed N < CAPTURE` times N calls, and `library.sh race N SCRIPT COMMAND..` N runs of a script, and then
-# the command, which is given the script on its standard input. It needs the kit's command rt and a C compiler.
+# that runs no scripts is linked without them. libbusconf.so is a second name of libbusconf.so.0. `library.sh install
+# PREFIX` makes both and copies them with the header and busconf.pc below a folder, and `library.sh put FOLDER TO PREFIX`
+# copies those that a folder has, for use below PREFIX. `library.sh pc PREFIX` writes busconf.pc. `library.sh test` makes
+# both in a folder of its own, and compiles and runs what stands on them. `library.sh speed N < CAPTURE` times N calls, and
+# `library.sh race N SCRIPT COMMAND..` N runs of a script, and then the command, which is given the script on its standard
+# input. What makes libraries needs the kit's command rt and a C compiler.
 set -euo pipefail
 top=$(cd "$(dirname "${BASH_SOURCE[0]}")/.." && pwd)
 crates=(busconf_c script_c)
-command -v rt >/dev/null || { echo "library: the Rattle kit's command rt isn't on the PATH" >&2; exit 127; }
-kit=$(cd "$(dirname "$(readlink -f "$(command -v rt)")")/.." && pwd)
+. "$top/tools/sources.sh"
+
+# Finds the kit that makes the libraries.
+find_kit() {
+  command -v rt >/dev/null || { echo "library: the Rattle kit's command rt isn't on the PATH" >&2; exit 127; }
+  kit=$(cd "$(dirname "$(readlink -f "$(command -v rt)")")/.." && pwd)
+}
 
 # The libraries that a crate stands on, from crates.txt.
 below() { sed -n "s/^$1\( staticlib\)\?: *//p" "$top/crates.txt"; }
@@ -22,8 +29,19 @@ are_built() {
   done
 }
 
-# Makes a crate's archive: proved over what rt check keeps, or over the libraries that a run of rt ci has left.
+# Makes a crate's archive, unless it is there from the same sources and kit.
 archive() {
+  local of kept="$top/crates/$1/out/lib$1.sources"
+  of="$(sources_sum "$top") $(rt version)"
+  if [ ! -f "$top/crates/$1/out/lib$1.a" ] || [ "$(cat "$kept" 2>/dev/null)" != "$of" ]; then
+    rm -f "$kept"
+    prove "$1"
+    printf '%s\n' "$of" >"$kept"
+  fi
+}
+
+# Proves a crate and makes its archive, over what rt check keeps, or over the libraries that a run of rt ci has left.
+prove() {
   local name words=() log
   cd "$top/crates/$1"
   log=$(mktemp)
@@ -65,13 +83,16 @@ object() {
 # Makes both libraries in a folder.
 build() {
   local into made crate
+  find_kit
   mkdir -p "$1"
   into=$(cd "$1" && pwd)
   made=$(mktemp -d)
   for crate in "${crates[@]}"; do object "$crate" "$made/$crate.o"; done
-  rm -f "$into/libbusconf.a" "$into/libbusconf.so"
-  ar rcs "$into/libbusconf.a" "$made"/*.o
-  ${CC:-cc} -shared -Wl,-soname,libbusconf.so -Wl,-z,relro,-z,now -o "$into/libbusconf.so" "$made"/*.o
+  rm -f "$into/libbusconf.a" "$into/libbusconf.so" "$into/libbusconf.so.0"
+  ar rcsD "$into/libbusconf.a" "$made"/*.o
+  ${CC:-cc} -shared -Wl,-soname,libbusconf.so.0 -Wl,-z,relro,-z,now -o "$into/libbusconf.so.0" "$made"/*.o
+  # Two names of one file, since rt takes no symbolic link below crates/.
+  ln "$into/libbusconf.so.0" "$into/libbusconf.so"
   rm -rf "$made"
 }
 
@@ -193,17 +214,12 @@ python_cases() {
   echo "library: read.py: $count cases of $(basename "$2")"
 }
 
-# Copies the libraries, the header and busconf.pc below a folder.
-install_below() {
-  local prefix
-  mkdir -p "$1/lib/pkgconfig" "$1/include"
-  prefix=$(cd "$1" && pwd)
-  build "$prefix/lib"
-  cp "$top/include/busconf.h" "$prefix/include/"
-  cat >"$prefix/lib/pkgconfig/busconf.pc" <<END
-prefix=$prefix
+# Writes busconf.pc for use below a prefix, with the libraries in a folder there.
+pc() {
+  cat <<END
+prefix=$1
 includedir=\${prefix}/include
-libdir=\${prefix}/lib
+libdir=\${prefix}/${2:-lib}
 
 Name: busconf
 Description: FireWire cable buses, read, planned and run by proved functions
@@ -213,9 +229,28 @@ Libs: -L\${libdir} -lbusconf
 END
 }
 
+# Copies the libraries of a folder, the header and busconf.pc below another, for use below a prefix, and says so.
+put() {
+  mkdir -p "$2/lib/pkgconfig" "$2/include"
+  install -m 644 "$top/include/busconf.h" "$2/include/"
+  install -m 644 "$1/libbusconf.a" "$1/libbusconf.so.0" "$2/lib/"
+  ln -sf libbusconf.so.0 "$2/lib/libbusconf.so"
+  pc "$3" >"$2/lib/pkgconfig/busconf.pc"
+  printf '%s\n' "$2"/include/busconf.h "$2"/lib/libbusconf.{a,so.0,so} "$2/lib/pkgconfig/busconf.pc"
+}
+
 case ${1-} in
   build) build "${2:?a folder}" ;;
-  install) install_below "${2:?a folder}" ;;
+  pc) pc "${2:?a prefix}" "${@:3}" ;;
+  put) put "${2:?a folder}" "${3:?a folder}" "${4:?a prefix}" ;;
+  install)
+    room=$(mktemp -d)
+    trap 'rm -rf "$room"' EXIT
+    build "$room"
+    mkdir -p "${2:?a folder}"
+    prefix=$(cd "$2" && pwd)
+    put "$room" "$prefix" "$prefix"
+    ;;
   speed | race)
     room=$(mktemp -d)
     trap 'rm -rf "$room"' EXIT
@@ -234,7 +269,8 @@ case ${1-} in
     run_tests
     ;;
   *)
-    echo "usage: library.sh build FOLDER | install PREFIX | test | speed N | race N SCRIPT [COMMAND..]" >&2
+    echo "usage: library.sh build FOLDER | install PREFIX | put FOLDER TO PREFIX | pc PREFIX [FOLDER] | test | speed N" \
+      "| race N SCRIPT [COMMAND..]" >&2
     exit 2
     ;;
 esac

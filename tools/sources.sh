@@ -4,3 +4,6 @@ sources_sum() {
   (cd "$1" && cat crates.txt && find crates -path '*/out' -prune -o \( -path '*/src/*' -o -path '*/specs/*' -o -path '*/proofs/*' \) -type f -print0 \
     | LC_ALL=C sort -z | xargs -0 sha256sum) | sha256sum | cut -d' ' -f1
 }
+
+# Notes beside something that was built that it was built from the sources of a checksum.
+mark_built() { printf '%s\n' "$1" >"$2.sources"; }

@@ -1,0 +1,99 @@
+"""Writes packages so that the same build gives the same bytes: sorted entries, one time, owner 0, one thread."""
+import hashlib
+import io
+import os
+import subprocess
+import tarfile
+import tempfile
+
+from contents import Built, Fault, run, tarball_of, vectors_tarball_of
+from debian import packages_of
+
+
+def folders_of(paths):
+    """All folders above these paths."""
+    found = set()
+    for path in paths:
+        while os.path.dirname(path):
+            path = os.path.dirname(path)
+            found.add(path)
+    return found
+
+
+def write_tar(files, folder, epoch, to):
+    """A tar archive of the files below one folder, packed by xz."""
+    made = io.BytesIO()
+    with tarfile.open(fileobj=made, mode="w", format=tarfile.USTAR_FORMAT) as tar:
+        for path in ["", *sorted([*files, *folders_of(files)])]:
+            info = tarfile.TarInfo(f"{folder}/{path}" if path else folder)
+            info.mtime = epoch
+            entry = files.get(path)
+            if entry is None:
+                info.type, info.mode = tarfile.DIRTYPE, 0o755
+            elif entry.link:
+                info.type, info.mode, info.linkname = tarfile.SYMTYPE, 0o777, entry.link
+            else:
+                info.size, info.mode = len(entry.data), entry.mode
+            tar.addfile(info, io.BytesIO(entry.data) if entry and not entry.link else None)
+    with open(to, "wb") as file:
+        file.write(run("xz", "-T1", "-9", input=made.getvalue()))
+
+
+def write_deb(package, built, to, backwards=False):
+    """A Debian package, by dpkg-deb. The order in which its files are laid down doesn't show in it."""
+    with tempfile.TemporaryDirectory(prefix="busconf-deb-") as room:
+        files = {**{path: (entry.data, entry.mode, entry.link) for path, entry in package.files.items()},
+                 **{f"DEBIAN/{name}": (data, 0o644, "") for name, data in package.control_files(built).items()}}
+        for path, (data, mode, link) in sorted(files.items(), reverse=backwards):
+            place = os.path.join(room, path)
+            os.makedirs(os.path.dirname(place), exist_ok=True)
+            if link:
+                os.symlink(link, place)
+            else:
+                with open(place, "wb") as file:
+                    file.write(data)
+                os.chmod(place, mode)
+        for path in [*files, *folders_of(files), "."]:
+            place = os.path.join(room, path)
+            if os.path.isdir(place):
+                os.chmod(place, 0o755)
+            os.utime(place, (built.epoch, built.epoch), follow_symlinks=False)
+        how = {**os.environ, "SOURCE_DATE_EPOCH": str(built.epoch), "DPKG_DEB_THREADS_MAX": "1"}
+        run("dpkg-deb", "--root-owner-group", "-Zxz", "-z6", "--build", room, to, env=how)
+
+
+def make(to, vectors=None, backwards=False):
+    """Makes all packages in a folder, with their checksums, and answers what they were made of. What stood there of
+    earlier packages is removed."""
+    built = Built(vectors)
+    os.makedirs(to, exist_ok=True)
+    for name in os.listdir(to):
+        if name.endswith((".deb", ".tar.xz")) or name in ("SHA256SUMS", "PROVED"):
+            os.remove(os.path.join(to, name))
+    made = [f"busconf-{built.version}-x86_64-linux.tar.xz"]
+    write_tar(tarball_of(built), made[0][: -len(".tar.xz")], built.epoch, os.path.join(to, made[0]))
+    if built.vectors:
+        made.append(f"busconf-vectors-{built.version}.tar.xz")
+        write_tar(vectors_tarball_of(built), made[1][: -len(".tar.xz")], built.epoch, os.path.join(to, made[1]))
+    for package in packages_of(built):
+        made.append(package.file_name(built))
+        write_deb(package, built, os.path.join(to, made[-1]), backwards)
+    made.append("PROVED")
+    with open(os.path.join(to, "PROVED"), "wb") as file:
+        file.write(built.proved)
+    sums = "".join(f"{sum_of(os.path.join(to, name))}  {name}\n" for name in sorted(made))
+    with open(os.path.join(to, "SHA256SUMS"), "w", encoding="utf-8") as file:
+        file.write(sums)
+    return built, sorted([*made, "SHA256SUMS"])
+
+
+def sum_of(path):
+    with open(path, "rb") as file:
+        return hashlib.sha256(file.read()).hexdigest()
+
+
+def lacks(commands):
+    """Says which of the commands that packing needs aren't here."""
+    for command in commands:
+        if subprocess.run(["sh", "-c", f"command -v {command}"], capture_output=True, check=False).returncode != 0:
+            raise Fault(f"the command {command} isn't on the PATH")

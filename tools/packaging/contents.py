@@ -1,0 +1,258 @@
+"""What the packages hold: which built file, page or example stands where in each of them."""
+import hashlib
+import os
+import re
+import subprocess
+from dataclasses import dataclass
+
+TOP = os.path.dirname(os.path.dirname(os.path.dirname(os.path.realpath(__file__))))
+PROGRAMS = ("busconf", "busview")
+SONAME = "libbusconf.so.0"
+# Where Debian has the libraries of this processor, below /usr.
+MULTIARCH = "lib/x86_64-linux-gnu"
+NO_LICENCE = "No licence was chosen for busconf yet; it is the owner's to choose."
+COLUMNS = 110
+
+
+class Fault(Exception):
+    """Why there is no package, or what is wrong with one."""
+
+
+@dataclass
+class Entry:
+    """A file of a package, or a symbolic link."""
+    data: bytes = b""
+    mode: int = 0o644
+    link: str = ""
+
+
+def run(*words, **how):
+    """What a command writes; a fault where it fails."""
+    done = subprocess.run(words, capture_output=True, check=False, **how)
+    if done.returncode != 0:
+        said = (done.stderr or done.stdout).decode(errors="replace").strip()
+        raise Fault(f"{' '.join(map(str, words))}: status {done.returncode}: {said[-1500:]}")
+    return done.stdout
+
+
+def text_of(*words):
+    return run(*words, cwd=TOP).decode().strip()
+
+
+def data_of(path):
+    with open(os.path.join(TOP, path), "rb") as file:
+        return file.read()
+
+
+def files_below(folder):
+    """The files below a folder, in order, by their paths in it."""
+    for at, folders, names in os.walk(folder):
+        folders[:] = sorted(it for it in folders if it != "__pycache__")
+        for name in sorted(names):
+            yield os.path.relpath(os.path.join(at, name), folder)
+
+
+class Built:
+    """What ./build has proved and built, and what there is to say of it."""
+
+    def __init__(self, vectors=None):
+        self.version = text_of("tools/version")
+        self.vectors = vectors
+        self.sources = text_of("bash", "-c", '. tools/sources.sh; sources_sum "$PWD"')
+        self.kit = self.kit_now()
+        self.revision, self.epoch, self.owner = self.commit()
+        self.programs = {name: self.stripped(f"crates/{name}/out/{name}", "--strip-all") for name in PROGRAMS}
+        self.shared = self.stripped(f"crates/busconf_c/out/lib/{SONAME}", "--strip-unneeded")
+        self.archive = self.stripped("crates/busconf_c/out/lib/libbusconf.a", "--strip-debug")
+        self.needs = max(map(glibc_of, [*self.programs.values(), self.shared]))
+        self.calls = calls_of(self.shared)
+        self.proved = self.tell()
+
+    def kit_now(self):
+        """The kit, which is the one that the programs name."""
+        kit = text_of("rt", "version")
+        named = re.search(r'KIT: &str = "(.*)"', data_of("crates/about/src/lib.rt").decode()).group(1)
+        if kit != named:
+            raise Fault(f"the kit here is {kit}, and the programs say that {named} proved them")
+        return kit
+
+    @staticmethod
+    def commit():
+        """The revision, its time and its owner. SOURCE_DATE_EPOCH stands for the time where it is set."""
+        revision = text_of("git", "rev-parse", "HEAD")
+        epoch, owner = text_of("git", "log", "-1", "--format=%ct %an <%ae>").split(" ", 1)
+        if text_of("git", "status", "--porcelain"):
+            revision += ", with changes that no commit has"
+        return revision, int(os.environ.get("SOURCE_DATE_EPOCH", epoch)), owner
+
+    def stripped(self, path, how):
+        """The bytes of a built file without its symbols, once it is sure that it was built from these sources."""
+        place = os.path.join(TOP, path)
+        mark = os.path.join(os.path.dirname(place), path.split(os.sep)[-1].split(".")[0] + ".sources")
+        if not all(map(os.path.exists, (place, mark))) or data_of(mark).decode().strip() != self.sources:
+            raise Fault(f"{path} isn't built from these sources; run ./build first, which proves and builds it")
+        logic = logic_of(place)
+        if not logic.startswith(self.kit.split()[-1]):
+            raise Fault(f"{path} says that it was proved in the logic '{logic}', and the kit is {self.kit}")
+        return changed(place, "strip", "--enable-deterministic-archives", how)
+
+    def tell(self):
+        """The file that says what proved the package, and which clauses hold."""
+        packed = {**self.programs, SONAME: self.shared, "libbusconf.a": self.archive}
+        sums = "\n".join(f"    {hashlib.sha256(data).hexdigest()}  {name}" for name, data in packed.items())
+        logic = logic_of(os.path.join(TOP, "crates/busconf/out/busconf"))
+        return f"""What proved busconf {self.version}, and what is proved of it
+
+version   {self.version}
+revision  {self.revision}
+kit       {self.kit}
+logic     {logic}
+sources   {self.sources}
+
+The kit proved every function that these programs and libraries stand on, and then built them of what was proved.
+`logic` stands in the programs themselves (readelf -p .comment busconf). `sources` is the checksum that
+tools/sources.sh makes of the sources and proofs of the revision. The files are as they were built, without their
+symbols:
+
+{sums}
+
+To prove it again, take that revision and that kit, and run ./build, or .ci/run for all of its proofs and tests.
+docs/GUARANTEES.md says what isn't promised, what is trusted, and in words what is proved. These are the clauses that
+hold, crate by crate: the public functions, methods and laws, and behind each the names of its clauses.
+
+{clauses()}
+""".encode()
+
+
+def clauses():
+    """The clauses of the crates that the programs and the library stand on, which `tools/clauses` lists."""
+    below = {}
+    for line in data_of("crates.txt").decode().splitlines():
+        if ":" in line and not line.startswith("#"):
+            name, libraries = line.split(":")
+            below[name.split()[0]] = libraries.split()
+    found, left = set(), [*PROGRAMS, "busconf_c", "script_c"]
+    while left:
+        crate = left.pop()
+        if crate in below and crate not in found:
+            found.add(crate)
+            left += below[crate]
+    return "\n\n".join(it for it in text_of("tools/clauses").split("\n\n") if it.split("\n", 1)[0] in found)
+
+
+def changed(path, *words):
+    """The bytes of a file behind a command that changes it in place."""
+    copy = run("mktemp").decode().strip()
+    try:
+        run("cp", path, copy)
+        run(*words, copy)
+        with open(copy, "rb") as file:
+            return file.read()
+    finally:
+        os.remove(copy)
+
+
+def logic_of(path):
+    """The logic in which an object says that it was proved, or nothing."""
+    found = re.search(rb"rattle logic=([0-9a-f]+)", run("readelf", "-p", ".comment", path))
+    return found.group(1).decode() if found else ""
+
+
+def read_by(command, data):
+    """What a command writes of a file with these bytes."""
+    copy = run("mktemp").decode().strip()
+    try:
+        with open(copy, "wb") as file:
+            file.write(data)
+        return run(*command, copy).decode()
+    finally:
+        os.remove(copy)
+
+
+def glibc_of(data):
+    """The least version of glibc that has what an object calls of it."""
+    found = re.findall(r"GLIBC_(\d+)\.(\d+)", read_by(["readelf", "-VW"], data))
+    return max((int(major), int(minor)) for major, minor in found)
+
+
+def calls_of(data):
+    """The calls that a shared object exports."""
+    return sorted(line.split()[-1] for line in read_by(["nm", "-D", "--defined-only"], data).splitlines())
+
+
+def zipped(data):
+    return run("gzip", "-9n", input=data)
+
+
+def pages_of(prefix):
+    """The pages and examples below a folder, in the places that their links lead to."""
+    found = {}
+    for page in ("README.md", "CHANGELOG.md", "CONTRIBUTING.md"):
+        found[f"{prefix}/{page}"] = Entry(data_of(page))
+    for part in ("docs", "examples"):
+        for path in files_below(os.path.join(TOP, part)):
+            found[f"{prefix}/{part}/{path}"] = Entry(data_of(f"{part}/{path}"))
+    return found
+
+
+def pc_of(prefix, folder):
+    return Entry(run(os.path.join(TOP, "tools/library.sh"), "pc", prefix, folder))
+
+
+def completion():
+    folder = "share/bash-completion/completions"
+    return {f"{folder}/busconf": Entry(data_of("completion/busconf.bash")), f"{folder}/busview": Entry(link="busconf")}
+
+
+def sums_of(files, kind):
+    """The checksums of files, a line each."""
+    return "".join(f"{kind(entry.data).hexdigest()}  {path}\n" for path, entry in sorted(files.items()) if not entry.link)
+
+
+def with_sums(files, to):
+    """The files with one more, which has the checksums of all others."""
+    return {**files, to: Entry(sums_of(files, hashlib.sha256).encode())}
+
+
+def copyright_of(built):
+    said = f"busconf {built.version}, revision {built.revision}\n\nCopyright: the owner of the repository busconf."
+    return Entry(f"{said}\n\n{NO_LICENCE}\n".encode())
+
+
+def tarball_of(built):
+    """The files of the archive for every Linux on x86-64, by their paths in its folder."""
+    doc = "share/doc/busconf"
+    files = {**pages_of(doc), **completion()}
+    for name in PROGRAMS:
+        files[f"bin/{name}"] = Entry(built.programs[name], 0o755)
+        files[f"share/man/man1/{name}.1"] = Entry(data_of(f"man/{name}.1"))
+    files["include/busconf.h"] = Entry(data_of("include/busconf.h"))
+    files["lib/libbusconf.a"] = Entry(built.archive)
+    files[f"lib/{SONAME}"] = Entry(built.shared)
+    files["lib/libbusconf.so"] = Entry(link=SONAME)
+    files["lib/pkgconfig/busconf.pc"] = pc_of("${pcfiledir}/../..", "lib")
+    files[f"{doc}/PROVED"] = Entry(built.proved)
+    files[f"{doc}/copyright"] = copyright_of(built)
+    return with_sums(files, "SHA256SUMS")
+
+
+def vectors_of(built):
+    """The files of a set of vectors, by their paths in it, and the tool that tries a reader over it."""
+    return {path: Entry(data_of(os.path.join(built.vectors, path))) for path in files_below(built.vectors)}
+
+
+def vectors_tool():
+    """The tool that makes and tries sets of vectors, where the repository has it."""
+    path = os.path.join(TOP, "tools", "vectors")
+    return Entry(data_of(path), 0o755) if os.path.exists(path) else None
+
+
+def vectors_tarball_of(built):
+    files = {f"vectors/{path}": entry for path, entry in vectors_of(built).items()}
+    if vectors_tool():
+        files["bin/busconf-vectors"] = vectors_tool()
+    if os.path.exists(os.path.join(TOP, "docs", "VECTORS.md")):
+        files["VECTORS.md"] = Entry(data_of("docs/VECTORS.md"))
+    files["PROVED"] = Entry(built.proved)
+    files["copyright"] = copyright_of(built)
+    return with_sums(files, "SHA256SUMS")

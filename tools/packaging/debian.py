@@ -1,0 +1,166 @@
+"""The Debian packages: their files, and what the package manager is told of each."""
+import email.utils
+import hashlib
+import os
+import textwrap
+from dataclasses import dataclass, field
+
+from contents import (MULTIARCH, PROGRAMS, SONAME, TOP, Entry, completion, copyright_of, data_of, pages_of, pc_of,
+                      sums_of, vectors_of, vectors_tool, with_sums, zipped)
+
+ABOUT = """busconf configures FireWire cable buses (IEEE Std 1394-1995 and 1394a-2000) as their nodes do. It runs a bus
+from a script, and reads the self-ID packets of a real one. Every function of it is proved to meet its contract."""
+
+
+@dataclass
+class Package:
+    """A Debian package: its fields as its control file has them, its files below /, and its further control files."""
+    name: str
+    fields: dict
+    about: str
+    short: str
+    files: dict = field(default_factory=dict)
+    control: dict = field(default_factory=dict)
+    architecture: str = "amd64"
+
+    def file_name(self, built):
+        return f"{self.name}_{revision_of(built)}_{self.architecture}.deb"
+
+    def control_files(self, built):
+        """The control file, the checksums of the package, and what else the package manager reads."""
+        size = sum(1 if entry.link else -(-len(entry.data) // 1024) for entry in self.files.values())
+        folders = {os.path.dirname(path)[:k] for path in self.files for k in ends_of(os.path.dirname(path))}
+        fields = {
+            "Package": self.name,
+            "Source": "busconf",
+            "Version": revision_of(built),
+            "Architecture": self.architecture,
+            "Maintainer": built.owner,
+            "Installed-Size": str(size + len(folders)),
+            **self.fields,
+            "Priority": "optional",
+        }
+        if self.name == "busconf":
+            del fields["Source"]
+        lines = [line for part in (self.about, ".", ABOUT) for line in textwrap.wrap(part, 78)]
+        control = [f"{key}: {value}\n" for key, value in fields.items()]
+        control += [f"Description: {self.short}\n", *(f" {line}\n" for line in lines)]
+        sums = sums_of(self.files, hashlib.md5)
+        return {"control": "".join(control).encode(), "md5sums": sums.encode(), **self.control}
+
+
+def ends_of(path):
+    """Where each folder on a path ends."""
+    return [k for k, letter in enumerate(path) if letter == "/"] + [len(path)]
+
+
+def revision_of(built):
+    return f"{built.version}-1"
+
+
+def doc_of(name, built):
+    """What stands in each package's folder of pages."""
+    changes = f"""busconf ({revision_of(built)}) unstable; urgency=medium
+
+  * What changed in this version stands in changelog.gz beside this file.
+
+ -- {built.owner}  {email.utils.formatdate(built.epoch)}
+"""
+    return {
+        f"usr/share/doc/{name}/PROVED": Entry(built.proved),
+        f"usr/share/doc/{name}/changelog.Debian.gz": Entry(zipped(changes.encode())),
+        f"usr/share/doc/{name}/changelog.gz": Entry(zipped(data_of("CHANGELOG.md"))),
+        f"usr/share/doc/{name}/copyright": copyright_of(built),
+    }
+
+
+def programs_of(built):
+    """The package of the programs."""
+    doc = "usr/share/doc/busconf"
+    files = {**pages_of(doc), **{f"usr/{path}": entry for path, entry in completion().items()}}
+    for name in PROGRAMS:
+        files[f"usr/bin/{name}"] = Entry(built.programs[name], 0o755)
+        files[f"usr/share/man/man1/{name}.1.gz"] = Entry(zipped(data_of(f"man/{name}.1")))
+    return Package(
+        "busconf",
+        {"Depends": libc_of(built), "Suggests": "busconf-vectors, libbusconf-dev", "Section": "utils"},
+        "The programs busconf, which runs and reads buses, and busview, which shows them; with their manual pages, "
+        "the pages of the repository and examples.",
+        "FireWire cable buses, run from scripts and read from captures",
+        files)
+
+
+def library_of(built):
+    """The package of the shared library."""
+    symbols = f"{SONAME} libbusconf0 #MINVER#\n" + "".join(f" {call}@Base {built.version}\n" for call in built.calls)
+    return Package(
+        "libbusconf0",
+        {"Depends": libc_of(built), "Section": "libs", "Multi-Arch": "same"},
+        "The shared library of the proved calls for C, C++ and Python.",
+        "FireWire cable buses, read, planned and run: the shared library",
+        {f"usr/{MULTIARCH}/{SONAME}": Entry(built.shared)},
+        {
+            "shlibs": f"libbusconf 0 libbusconf0 (>= {built.version})\n".encode(),
+            "symbols": symbols.encode(),
+            "triggers": b"activate-noawait ldconfig\n",
+        })
+
+
+def header_of(built):
+    """The package for who compiles against the library."""
+    doc = "usr/share/doc/libbusconf-dev"
+    files = {
+        "usr/include/busconf.h": Entry(data_of("include/busconf.h")),
+        f"usr/{MULTIARCH}/libbusconf.a": Entry(built.archive),
+        f"usr/{MULTIARCH}/libbusconf.so": Entry(link=SONAME),
+        f"usr/{MULTIARCH}/pkgconfig/busconf.pc": pc_of("/usr", MULTIARCH),
+        f"{doc}/LIBRARY.md": Entry(data_of("docs/LIBRARY.md")),
+    }
+    examples = pages_of(doc)
+    files.update({path: entry for path, entry in examples.items() if path.startswith(f"{doc}/examples/")})
+    return Package(
+        "libbusconf-dev",
+        {
+            "Depends": f"libbusconf0 (= {revision_of(built)})",
+            "Suggests": "gcc | c-compiler, pkg-config",
+            "Section": "libdevel",
+            "Multi-Arch": "same",
+        },
+        "The header, the static library and the file for pkg-config, with the page on the calls and examples in C and "
+        "Python.",
+        "FireWire cable buses, read, planned and run: for who compiles",
+        files)
+
+
+def vectors_package_of(built):
+    """The package of the vectors."""
+    files = {f"usr/share/busconf/vectors/{path}": entry for path, entry in vectors_of(built).items()}
+    fields = {"Suggests": "busconf", "Section": "misc", "Multi-Arch": "foreign"}
+    tool = vectors_tool()
+    if tool:
+        files["usr/bin/busconf-vectors"] = tool
+        if b"python3" in tool.data.split(b"\n", 1)[0]:
+            fields = {"Depends": "python3", **fields}
+    if os.path.exists(os.path.join(TOP, "docs", "VECTORS.md")):
+        files["usr/share/doc/busconf-vectors/VECTORS.md"] = Entry(data_of("docs/VECTORS.md"))
+    return Package(
+        "busconf-vectors", fields,
+        "Valid and refused captures, ROMs and scripts with the answers of the proved programs, to try other readers "
+        "on.",
+        "FireWire cable buses: inputs with proved answers", files, architecture="all")
+
+
+def libc_of(built):
+    major, minor = built.needs
+    return f"libc6 (>= {major}.{minor})"
+
+
+def packages_of(built):
+    """All Debian packages, each with its pages and checksums."""
+    found = [programs_of(built), library_of(built), header_of(built)]
+    if built.vectors:
+        found.append(vectors_package_of(built))
+    for package in found:
+        files = {**package.files, **doc_of(package.name, built)}
+        package.files = with_sums(files, f"usr/share/doc/{package.name}/SHA256SUMS")
+    return found

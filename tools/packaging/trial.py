@@ -1,0 +1,249 @@
+"""Tries packages as they are handed out: made twice, unpacked into empty roots, run, read, and compiled against."""
+import glob
+import os
+import re
+import shutil
+import subprocess
+import sys
+import tempfile
+
+from archives import make, sum_of
+from contents import MULTIARCH, PROGRAMS, SONAME, TOP, Fault, data_of, files_below, run
+
+# The commands that the checks call, and Debian's package that has each.
+TOOLS = {
+    "lintian": "lintian", "pkg-config": "pkg-config", "man": "man-db", "groff": "groff-base", "cc": "gcc",
+    "dpkg": "dpkg", "dpkg-deb": "dpkg", "xz": "xz-utils", "strip": "binutils",
+}
+STATUSES = range(7)
+
+
+def is_here(command):
+    return shutil.which(command, path=f"{os.environ['PATH']}:/usr/sbin:/sbin") is not None
+
+
+class Root:
+    """An empty root: a folder with glibc's loader and libc.so.6 of this machine, and then what is unpacked into it."""
+
+    def __init__(self, folder):
+        self.folder = folder
+        self.as_root = [] if os.geteuid() == 0 else ["unshare", "--user", "--map-root-user"]
+        for path in ("usr/bin", "usr/lib64", f"usr/{MULTIARCH}", "tmp"):
+            os.makedirs(os.path.join(folder, path), exist_ok=True)
+        for name in ("bin", "lib", "lib64"):
+            os.symlink(f"usr/{name}", os.path.join(folder, name))
+        libc = re.search(r"libc\.so\.6 => (\S+)", run("ldd", shutil.which("xz")).decode()).group(1)
+        shutil.copy("/lib64/ld-linux-x86-64.so.2", os.path.join(folder, "usr/lib64"))
+        shutil.copy(libc, os.path.join(folder, f"usr/{MULTIARCH}"))
+
+    def call(self, *words, data=b"", env=None):
+        """Runs a program of the root in it, with these bytes on its standard input."""
+        path = {"PATH": os.environ["PATH"] + ":/usr/sbin:/sbin", **(env or {})}
+        into = [*self.as_root, "chroot", self.folder]
+        return subprocess.run([*into, *words], input=data, capture_output=True, check=False, env=path)
+
+    def dpkg(self, *words):
+        """Lets this machine's dpkg work on the root."""
+        how = {**os.environ, "PATH": f"{os.environ['PATH']}:/usr/sbin:/sbin", "LC_ALL": "C.UTF-8"}
+        run(*self.as_root, "dpkg", f"--root={self.folder}", *words, env=how)
+
+    def wants(self, wanted, *words, data=b"", env=None):
+        """Runs a program that has to write just this and end with status 0."""
+        done = self.call(*words, data=data, env=env)
+        if done.returncode != 0 or done.stdout != wanted:
+            raise Fault(f"{' '.join(words)}: status {done.returncode}, and it wrote {(done.stdout + done.stderr)[:300]!r}")
+
+
+def cases_of(folder):
+    """The inputs of a folder of cases."""
+    return sorted(it[: -len(".stdout")] for it in glob.glob(os.path.join(TOP, "cases", folder, "*.stdout")))
+
+
+def run_cases(root, folder):
+    """Runs the packaged programs over the cases of the repository."""
+    count = 0
+    for case in cases_of("*/*"):
+        program = os.path.relpath(case, TOP).split(os.sep)[1]
+        asked = data_of(case + ".args").decode().splitlines()
+        done = root.call(f"{folder}/{program}", *asked, data=data_of(case))
+        if done.stdout != data_of(case + ".stdout") or done.returncode not in STATUSES:
+            raise Fault(f"{program} on {os.path.relpath(case, TOP)}: status {done.returncode}, not what is wanted")
+        count += 1
+    return count
+
+
+def read_pages(paths):
+    """Reads manual pages, and finds no warning in them."""
+    for path in paths:
+        how = {**os.environ, "MANROFFSEQ": "", "MANWIDTH": "80", "LC_ALL": "C.UTF-8"}
+        words = ["man", "--warnings", "-E", "UTF-8", "-l", path]
+        done = subprocess.run(words, capture_output=True, check=False, env=how)
+        if done.returncode != 0 or done.stderr or b"SYNOPSIS" not in done.stdout:
+            raise Fault(f"man {path}: status {done.returncode}: {done.stderr.decode(errors='replace')[:500]}")
+
+
+def check_sums(folder, sums):
+    run("sha256sum", "--check", "--quiet", sums, cwd=folder)
+
+
+def first_program():
+    """The first program of docs/LIBRARY.md, and what it writes there."""
+    page = data_of("docs/LIBRARY.md").decode()
+    found = re.search(r"\n((?:    /\* first\.c.*\n)(?:(?:    .*)?\n)+?)\n?(?=\S)", page)
+    said = re.search(r"    \$ \./first < \S*/(two-nodes\.capture)\n    (.*)\n", page)
+    if not found or not said:
+        raise Fault("docs/LIBRARY.md: no first program, or not what it writes")
+    return re.sub(r"^    ", "", found.group(1), flags=re.M), said.group(1), said.group(2) + "\n"
+
+
+def compile_examples(root, room, config, prefix, way):
+    """Compiles the C examples and the first program of the page against a packaged header, as pkg-config says, with the
+    shared library and with the static one, and runs them in the root."""
+    flags = run("pkg-config", "--cflags", "busconf", env=config).decode().split()
+    shared = run("pkg-config", "--libs", "busconf", env=config).decode().split()
+    folder = next(it[2:] for it in shared if it.startswith("-L"))
+    source, capture, said = first_program()
+    with open(os.path.join(room, "first.c"), "w", encoding="utf-8") as file:
+        file.write(source)
+    capture = data_of(f"examples/{capture}")
+    for name, libraries in (("shared", shared), ("static", [f"{folder}/libbusconf.a"])):
+        to = os.path.join(root.folder, "tmp", f"{way}-{name}")
+        os.makedirs(to)
+        for path in [os.path.join(room, "first.c"), *glob.glob(os.path.join(TOP, "examples", "c", "*.c"))]:
+            program = os.path.join(to, os.path.basename(path)[:-2])
+            run("cc", "-std=c99", "-Wall", "-Wextra", "-Werror", "-pedantic", *flags, path, *libraries, "-o", program)
+        shutil.copy(os.path.join(TOP, "examples", "hub.script"), to)
+        at, env = f"/tmp/{way}-{name}", {"LD_LIBRARY_PATH": prefix} if prefix else {}
+        root.wants(said.encode(), f"{at}/first", data=capture, env=env)
+        hub = data_of("examples/hub.capture")
+        root.wants(data_of("examples/c/bench.stdout"), f"{at}/bench", f"{at}/hub.script", data=hub, env=env)
+        for case in cases_of("busconf/read"):
+            done = root.call(f"{at}/recorder", data=data_of(case), env=env)
+            if done.stdout != data_of(case + ".stdout") or done.returncode not in (0, 1):
+                raise Fault(f"recorder with the {name} library, on {os.path.relpath(case, TOP)}: not what is wanted")
+    for case in cases_of("busconf/read"):
+        wanted = data_of(case + ".stdout")
+        if wanted.startswith(b"node "):
+            reader = os.path.join(TOP, "examples", "python", "read.py")
+            said = run(sys.executable, reader, f"{folder}/{SONAME}", "2000", input=data_of(case))
+            if said != wanted:
+                raise Fault(f"examples/python/read.py on {os.path.relpath(case, TOP)}: not what is wanted")
+
+
+class Trial:
+    """One run over all packages, in a folder of its own."""
+
+    def __init__(self, room, vectors):
+        self.room = room
+        self.to = os.path.join(room, "dist")
+        self.built, self.made = make(self.to, vectors)
+        self.debs = [os.path.join(self.to, name) for name in self.made if name.endswith(".deb")]
+
+    def twice(self):
+        """A second making, with another umask, zone and language, in another folder, has the same bytes."""
+        again = os.path.join(self.room, "again")
+        was = os.umask(0o077), dict(os.environ)
+        os.environ.update(TZ="Asia/Tokyo", LC_ALL="C", TMPDIR=self.room)
+        try:
+            _, made = make(again, self.built.vectors, backwards=True)
+        finally:
+            os.umask(was[0])
+            os.environ.clear()
+            os.environ.update(was[1])
+        differing = differing_files(again, self.to, {*made, *self.made})
+        if differing:
+            raise Fault(f"made twice, these aren't the same bytes: {' '.join(differing)}")
+        check_sums(self.to, "SHA256SUMS")
+        return f"{len(made)} files are the same bytes when they are made twice, and have the checksums of SHA256SUMS"
+
+    def tarball(self):
+        """The archive for every Linux, unpacked into an empty root."""
+        root = Root(tempfile.mkdtemp(dir=self.room))
+        name = next(it for it in self.made if it.endswith("-x86_64-linux.tar.xz"))[: -len(".tar.xz")]
+        run("tar", "-xf", os.path.join(self.to, f"{name}.tar.xz"), "-C", os.path.join(root.folder, "tmp"))
+        folder = os.path.join(root.folder, "tmp", name)
+        check_sums(folder, "SHA256SUMS")
+        count = run_cases(root, f"/tmp/{name}/bin")
+        read_pages(glob.glob(f"{folder}/share/man/man1/*.1"))
+        config = {**os.environ, "PKG_CONFIG_PATH": f"{folder}/lib/pkgconfig"}
+        compile_examples(root, self.room, config, f"/tmp/{name}/lib", "archive")
+        return f"the archive: {count} cases in an empty root, its pages, and the examples in C and Python"
+
+    def packages(self):
+        """The Debian packages, installed by dpkg into an empty root that has nothing but this machine's libc6."""
+        root = Root(tempfile.mkdtemp(dir=self.room))
+        state = os.path.join(root.folder, "var/lib/dpkg")
+        for part in ("info", "updates", "triggers"):
+            os.makedirs(os.path.join(state, part))
+        known = run("dpkg-query", "--status", "libc6") + b"\n"
+        if any("vectors" in it for it in self.debs):
+            known += run("dpkg-query", "--status", "python3") + b"\n"
+        with open(os.path.join(state, "status"), "wb") as file:
+            file.write(known)
+        root.dpkg("--install", *self.debs)
+        for sums in glob.glob(f"{root.folder}/usr/share/doc/*/SHA256SUMS"):
+            check_sums(root.folder, sums)
+        count = run_cases(root, "/usr/bin")
+        read_pages(glob.glob(f"{root.folder}/usr/share/man/man1/*.gz"))
+        config = {**os.environ, "PKG_CONFIG_LIBDIR": f"{root.folder}/usr/{MULTIARCH}/pkgconfig",
+                  "PKG_CONFIG_SYSROOT_DIR": root.folder, "PKG_CONFIG_ALLOW_SYSTEM_CFLAGS": "1",
+                  "PKG_CONFIG_ALLOW_SYSTEM_LIBS": "1"}
+        compile_examples(root, self.room, config, "", "packages")
+        names = [os.path.basename(it).split("_")[0] for it in self.debs]
+        root.dpkg("--purge", *names)
+        left = [it for it in files_below(os.path.join(root.folder, "usr")) if "busconf" in it or "busview" in it]
+        if left:
+            raise Fault(f"dpkg --purge left {left[0]}")
+        said = f"{count} cases, their pages, and the examples in C and Python"
+        return f"{' '.join(names)}: installed by dpkg into an empty root, {said}"
+
+    def vectors(self):
+        """The set of vectors is whole in its package."""
+        if not self.built.vectors:
+            return "no set of vectors was given, so none is packed"
+        folder = tempfile.mkdtemp(dir=self.room)
+        run("dpkg-deb", "-x", next(it for it in self.debs if "busconf-vectors" in it), folder)
+        wanted = list(files_below(self.built.vectors))
+        found = os.path.join(folder, "usr/share/busconf/vectors")
+        if list(files_below(found)) != wanted or differing_files(found, self.built.vectors, wanted):
+            raise Fault("busconf-vectors doesn't hold the files of the set")
+        return f"busconf-vectors has the {len(wanted)} files of the set"
+
+    def lintian(self, has_to):
+        """lintian has no error."""
+        if not is_here("lintian"):
+            if has_to:
+                raise Fault("no lintian here; tools/package prepare installs it")
+            return "no lintian here, so the packages aren't held to Debian's rules (apt-get install lintian)"
+        words = ["lintian", "--fail-on", "error", "--allow-root", *self.debs]
+        done = subprocess.run(words, stdout=subprocess.PIPE, stderr=subprocess.STDOUT, check=False)
+        said = done.stdout.decode(errors="replace")
+        if done.returncode != 0:
+            raise Fault(f"lintian: {said}")
+        return f"lintian: no error and {len(re.findall('^W:', said, re.M))} warnings\n{said.rstrip()}".rstrip()
+
+
+def differing_files(one, other, names):
+    """The names of the files that two folders don't both have with the same bytes."""
+    def is_same(name):
+        places = [os.path.join(folder, name) for folder in (one, other)]
+        return all(map(os.path.isfile, places)) and sum_of(places[0]) == sum_of(places[1])
+    return sorted(name for name in names if not is_same(name))
+
+
+def test(vectors, has_to):
+    """Tries everything, says of each part what was seen, and answers whether all is well."""
+    wanted = [it for it in TOOLS if it != "lintian" and not is_here(it)]
+    if wanted:
+        raise Fault(f"not on the PATH: {' '.join(wanted)}; tools/package prepare installs what it needs on Debian")
+    well = True
+    with tempfile.TemporaryDirectory(prefix="busconf-package-") as room:
+        os.chmod(room, 0o755)
+        trial = Trial(room, vectors)
+        for check in (trial.twice, trial.tarball, trial.packages, trial.vectors, lambda: trial.lintian(has_to)):
+            try:
+                print(f"package: {check()}", flush=True)
+            except Fault as fault:
+                print(f"package: FAILED: {fault}", flush=True)
+                well = False
+    return well
