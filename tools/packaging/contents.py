@@ -153,9 +153,11 @@ def changed(path, *words):
 
 
 def logic_of(path):
-    """The logic in which an object says that it was proved, or nothing."""
-    found = re.search(rb"rattle logic=([0-9a-f]+)", run("readelf", "-p", ".comment", path))
-    return found.group(1).decode() if found else ""
+    """The logic in which an object, or each object of an archive, says that it was proved, or nothing."""
+    said = run("readelf", "-p", ".comment", path).decode()
+    found = re.findall(r"rattle logic=([0-9a-f]+)", said)
+    is_whole = len(found) == max(1, said.count("\nFile: ")) and len(set(found)) == 1
+    return found[0] if is_whole else ""
 
 
 def read_by(command, data):

@@ -130,6 +130,15 @@ def compile_examples(root, room, config, prefix, way):
                 raise Fault(f"examples/python/read.py on {os.path.relpath(case, TOP)}: not what is wanted")
 
 
+def small_set(folder):
+    """A set of some vectors, where the repository can make one and none was given."""
+    tool = os.path.join(TOP, "tools", "vectors")
+    if not os.path.exists(tool):
+        return None
+    run(tool, folder, "40", "1")
+    return folder
+
+
 class Trial:
     """One run over all packages, in a folder of its own."""
 
@@ -239,7 +248,7 @@ def test(vectors, has_to):
     well = True
     with tempfile.TemporaryDirectory(prefix="busconf-package-") as room:
         os.chmod(room, 0o755)
-        trial = Trial(room, vectors)
+        trial = Trial(room, vectors or small_set(os.path.join(room, "vectors")))
         for check in (trial.twice, trial.tarball, trial.packages, trial.vectors, lambda: trial.lintian(has_to)):
             try:
                 print(f"package: {check()}", flush=True)
