@@ -2,8 +2,10 @@
 #![tactic(auto)]
 
 mod asked;
+mod told;
 
 pub use asked::About;
+pub use told::about_text;
 
 /// The version of both programs and of all crates: the one place where it stands. The manual pages and the changelog
 /// have the same, which `tools/texts` checks.

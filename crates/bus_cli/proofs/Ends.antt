@@ -5,6 +5,7 @@ use Rattle.std.specs.Prelude.{String, All, IfOk, IfSome}
 use Rattle.std.specs.declared.alloc.AllocError.{AllocError}
 use Rattle.std.specs.Global.{Global}
 use Rattle.std.proofs.lemmas.List.Elements.{All-weaker}
+use Rattle.about.specs.declared.asked.About.{About}
 use Rattle.topology_stack.specs.Tree.{Tree}
 use Rattle.cable_world.specs.Run.{IsReached}
 use Rattle.world_laws.specs.WiringSlots.{ListsAreEmitted, SettledListsAreEmitted}
@@ -22,14 +23,14 @@ use Rattle.bus_cli.specs.declared.fault.CaptureStop.{CaptureStop}
 use Rattle.bus_cli.specs.declared.answer.Answer.{Answer}
 use Rattle.bus_cli.specs.declared.answer.Answer.TheVariants.{Valid, Refused}
 use Rattle.bus_cli.specs.declared.form.Form.{Form}
-use Rattle.bus_cli.specs.declared.form.Form.TheVariants.{Capture, Make}
+use Rattle.bus_cli.specs.declared.form.Form.TheVariants.{Capture, Make, OfItself}
 use Rattle.bus_cli.specs.declared.form.CaptureForm.{CaptureForm}
 use Rattle.bus_cli.specs.declared.form.CaptureForm.TheVariants.{Read, Read95, Maps}
-use Rattle.bus_cli.specs.Form.{Asks, AsksMake, IsForm, standard_of}
+use Rattle.bus_cli.specs.Form.{Asks, AsksNoInput, IsForm, standard_of}
 use Rattle.bus_cli.specs.Capture.{Spells, CaptureRefused}
 use Rattle.bus_cli.specs.Line.{fault_line}
 use Rattle.bus_cli.specs.codings.Reading.{Reads, Shows, status_with, text_with}
-use Rattle.bus_cli.specs.Answer.{PrintsRun, AnswersForm, AnswersMake, Answers}
+use Rattle.bus_cli.specs.Answer.{PrintsRun, AnswersForm, AnswersMake, AnswersOfItself, Answers}
 use Rattle.bus_cli.specs.OneAnswer.{NoInputHasTwoAnswers}
 use Rattle.bus_cli.specs.Streams.{IsWritten, OfTheAnswer}
 use Rattle.bus_cli.proofs.Forms.{one_form}
@@ -132,15 +133,21 @@ pub not_two : (a : Answer) → status_with a ≡ 2 → ⊥
 not_two (Valid text) e = cc
 not_two (Refused line) e = cc
 
-pub made_status : (words : List (String Global)) (bytes : List ℕ) (status : ℕ) (text : List ℕ) →
-    AsksMake words → Answers words bytes status text → status ≡ 0
-made_status words bytes status text make is =
+pub no_input_status : (words : List (String Global)) (bytes : List ℕ) (status : ℕ) (text : List ℕ) →
+    AsksNoInput words → Answers words bytes status text → status ≡ 0
+no_input_status words bytes status text (inl make) is =
     (of_form words (Make make.0 make.1) make.2 bytes status text is).0
+no_input_status words bytes status text (inr itself) is =
+    (of_form words (OfItself itself.0) itself.1 bytes status text is).0
 
 pub made_text : (words : List (String Global)) (nodes seed : ℕ) (bytes : List ℕ) (status : ℕ) (text : List ℕ) →
     Asks words (Make nodes seed) → Answers words bytes status text → AnswersMake nodes seed 0 text
 made_text words nodes seed bytes status text asks is =
     let made = of_form words (Make nodes seed) asks bytes status text is in (refl, made.1)
+
+pub itself_text : (words : List (String Global)) (about : About) (bytes : List ℕ) (status : ℕ) (text : List ℕ) →
+    Asks words (OfItself about) → Answers words bytes status text → AnswersOfItself about 0 text
+itself_text words about bytes status text asks is = (refl, (of_form words (OfItself about) asks bytes status text is).1)
 
 -- ---- what was written
 

@@ -4,11 +4,12 @@ use Rattle.std.specs.Prelude.{String, map, string_bytes, codes, nat_lt}
 use Rattle.std.proofs.lemmas.Bool.{eqb-true, eq-eqb}
 use Rattle.std.proofs.lemmas.Bool.Decides.{nat_tests}
 use Rattle.std.specs.Global.{Global}
+use Rattle.about.specs.declared.asked.About.TheVariants.{Help, Version}
 use Rattle.script_lines.specs.Number.{number_of}
 use Rattle.bus_cli.specs.declared.form.Form.{Form}
-use Rattle.bus_cli.specs.declared.form.Form.TheVariants.{Capture, Rom, Run, Advice, Make}
+use Rattle.bus_cli.specs.declared.form.Form.TheVariants.{Capture, Rom, Run, Advice, Make, OfItself}
 use Rattle.bus_cli.specs.declared.form.CaptureForm.TheVariants.{Read, Read95, Maps}
-use Rattle.bus_cli.specs.Form.{AreWordsOf, AreMakeWords, Asks, IsForm, AsksMake}
+use Rattle.bus_cli.specs.Form.{AreWordsOf, AreMakeWords, Asks, IsForm, AsksMake, AsksNoInput}
 use Rattle.bus_cli.specs.codings.Reading.{IsRead, AsksFewNodes}
 
 -- ---- the form of words, found by trying them all
@@ -26,7 +27,10 @@ of_word word =
     (cond (same word (codes "maps")) (Some (Capture Maps))
     (cond (same word (codes "rom")) (Some Rom)
     (cond (same word (codes "run")) (Some Run)
-    (cond (same word (codes "advice")) (Some Advice) None)))))
+    (cond (same word (codes "advice")) (Some Advice)
+    (cond (same word (codes "--help")) (Some (OfItself Help))
+    (cond (same word (codes "-h")) (Some (OfItself Help))
+    (cond (same word (codes "--version")) (Some (OfItself Version)) None))))))))
 
 of_make : Option ℕ → Option ℕ → Option Form
 of_make (Some nodes) (Some seed) = Some (Make nodes seed)
@@ -65,6 +69,9 @@ is_found (Capture Maps) words e = ap (λ (ws : List (List ℕ)). form_of ws) e
 is_found Rom words e = ap (λ (ws : List (List ℕ)). form_of ws) e
 is_found Run words e = ap (λ (ws : List (List ℕ)). form_of ws) e
 is_found Advice words e = ap (λ (ws : List (List ℕ)). form_of ws) e
+is_found (OfItself Help) words (inl e) = ap (λ (ws : List (List ℕ)). form_of ws) e
+is_found (OfItself Help) words (inr e) = ap (λ (ws : List (List ℕ)). form_of ws) e
+is_found (OfItself Version) words e = ap (λ (ws : List (List ℕ)). form_of ws) e
 is_found (Make nodes seed) words m =
     ap (λ (ws : List (List ℕ)). form_of ws) m.words_are
     ∙ from_numbers (number_of m.nodes_word) (number_of m.seed_word) nodes seed m.nodes_are m.seed_is
@@ -114,7 +121,10 @@ is_word_of word form =
     (tried _ word (Capture Maps) form _ (alone word (codes "maps"))
     (tried _ word Rom form _ (alone word (codes "rom"))
     (tried _ word Run form _ (alone word (codes "run"))
-    (tried _ word Advice form _ (alone word (codes "advice")) (λ e. absurd cc))))))
+    (tried _ word Advice form _ (alone word (codes "advice"))
+    (tried _ word (OfItself Help) form _ (λ e. inl (alone word (codes "--help") e))
+    (tried _ word (OfItself Help) form _ (λ e. inr (alone word (codes "-h") e))
+    (tried _ word (OfItself Version) form _ (alone word (codes "--version")) (λ e. absurd cc)))))))))
 
 -- ---- words are those of a form, or of none
 
@@ -141,6 +151,9 @@ only_make a b c words (Capture Maps) none e = cc
 only_make a b c words Rom none e = cc
 only_make a b c words Run none e = cc
 only_make a b c words Advice none e = cc
+only_make a b c words (OfItself Help) none (inl e) = cc
+only_make a b c words (OfItself Help) none (inr e) = cc
+only_make a b c words (OfItself Version) none e = cc
 only_make a b c words (Make nodes seed) none m = none (nodes, seed, m)
 
 -- ---- the words of `make`, or none of it
@@ -225,20 +238,24 @@ form_or_none words = are_form (map string_bytes words) (make_or_none (map string
 
 -- ---- what is read
 
--- with words that aren't those of `make` the input is read
+-- unless the words ask for something that needs no input it is read
 pub is_read : (words : List (String Global)) (form : Form) → Asks words form →
-    (AsksMake words → ⊥) → IsRead form
+    (AsksNoInput words → ⊥) → IsRead form
 is_read words (Capture form) asks none = tt
 is_read words Rom asks none = tt
 is_read words Run asks none = tt
 is_read words Advice asks none = tt
-is_read words (Make nodes seed) asks none = absurd (none (nodes, seed, asks))
+is_read words (Make nodes seed) asks none = absurd (none (inl (nodes, seed, asks)))
+is_read words (OfItself about) asks none = absurd (none (inr (about, asks)))
 
--- with those of `make` it isn't
-pub is_unread : (words : List (String Global)) (form : Form) → Asks words form → AsksMake words →
+-- where they do it isn't
+pub is_unread : (words : List (String Global)) (form : Form) → Asks words form → AsksNoInput words →
     IsRead form → ⊥
-is_unread words form asks make read =
+is_unread words form asks (inl make) read =
     let e : Make make.0 make.1 ≡ form = one_form words (Make make.0 make.1) form make.2 asks in
+    subst (λ (f : Form). IsRead f → ⊥) e (λ none. none) read
+is_unread words form asks (inr itself) read =
+    let e : OfItself itself.0 ≡ form = one_form words (OfItself itself.0) form itself.1 asks in
     subst (λ (f : Form). IsRead f → ⊥) e (λ none. none) read
 
 -- with those of `make` there are 1 to 63 nodes
@@ -248,3 +265,4 @@ few_nodes words Rom asks = tt
 few_nodes words Run asks = tt
 few_nodes words Advice asks = tt
 few_nodes words (Make nodes seed) asks = (asks.some_nodes, asks.few_nodes)
+few_nodes words (OfItself about) asks = tt

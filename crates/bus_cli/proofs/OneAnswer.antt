@@ -1,6 +1,6 @@
 -- All words and bytes have one answer.
 use Rattle.std.proofs.Common.{subst, sym, Option, Some, Result, Ok, Err, ◌⊎◌, inl, inr, ◌≡◌, ℕ, ◌≤◌, List, [], refl, ap, ◌∙◌}
-use Rattle.std.specs.Prelude.{String, All, ◌<◌}
+use Rattle.std.specs.Prelude.{String, All, ◌<◌, codes}
 use Rattle.std.specs.Global.{Global}
 use Rattle.self_id.specs.declared.standard.Standard.{Standard}
 use Rattle.self_id.specs.declared.standard.Standard.TheVariants.{Ieee1995, Ieee2000}
@@ -27,8 +27,10 @@ use Rattle.script_bus.specs.SomeRun.{HasRun, EachScriptHasARun}
 use Rattle.script_advice.specs.Advice.{IsAdvice, EndsWithoutLoop}
 use Rattle.script_advice.specs.OneAdvice.{ScriptsHaveOneAdvice, AdvicesEndWithoutLoop}
 use Rattle.script_bus.specs.SomeAdvice.{HasSomeAdvice, EachScriptHasAnAdvice}
+use Rattle.about.specs.Told.{about_text}
+use Rattle.bus_cli.specs.declared.help.TheConstants.{HELP}
 use Rattle.bus_cli.specs.declared.form.Form.{Form}
-use Rattle.bus_cli.specs.declared.form.Form.TheVariants.{Capture, Rom, Run, Advice, Make}
+use Rattle.bus_cli.specs.declared.form.Form.TheVariants.{Capture, Rom, Run, Advice, Make, OfItself}
 use Rattle.bus_cli.specs.declared.form.CaptureForm.TheVariants.{Read, Read95, Maps}
 use Rattle.bus_cli.specs.declared.fault.CaptureFault.{CaptureFault}
 use Rattle.bus_cli.specs.Form.{Asks, IsForm}
@@ -159,6 +161,7 @@ module _ (one : HasOneReading) where
   one_form_answer Run bytes = one_run bytes
   one_form_answer Advice bytes = one_advice bytes
   one_form_answer (Make nodes seed) bytes = one_made nodes seed
+  one_form_answer (OfItself about) bytes = λ s r a b x y. (x.0 ∙ sym y.0, x.1 ∙ sym y.1)
 
   pub one_answer : NoInputHasTwoAnswers
   one_answer words bytes s r a b (inl x) (inl y) =
@@ -262,6 +265,7 @@ module _ (have : HasSomeReading) where
   some_form words Run asks bytes fit = some_run bytes
   some_form words Advice asks bytes fit = some_advice bytes
   some_form words (Make nodes seed) asks bytes fit = some_made nodes seed asks.few_nodes
+  some_form words (OfItself about) asks bytes fit = (0, about_text about (codes "busconf") HELP.now, (refl, refl))
 
   pub some_answer : EachInputHasAnAnswer
   some_answer words bytes fit = go (form_or_none words)

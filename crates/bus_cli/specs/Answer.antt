@@ -1,6 +1,8 @@
 -- What is answered to words and bytes: the right-hand side of what `bus_main` promises.
-use Rattle.std.specs.Prelude.{◌≡◌, ◌⊎◌, ℕ, List, [], String, Some, Ok, Err}
+use Rattle.std.specs.Prelude.{◌≡◌, ◌⊎◌, ℕ, List, [], codes, String, Some, Ok, Err}
 use Rattle.std.specs.Global.{Global}
+use Rattle.about.specs.declared.asked.About.{About}
+use Rattle.about.specs.Told.{about_text}
 use Rattle.self_id.specs.declared.standard.Standard.{Standard}
 use Rattle.self_id.specs.declared.standard.Standard.TheVariants.{Ieee1995, Ieee2000}
 use Rattle.topology_stack.specs.Tree.{Tree}
@@ -13,9 +15,10 @@ use Rattle.config_rom.specs.Block.{AreBlocks, BlocksRefused}
 use Rattle.config_rom.specs.Text.{IsRomText}
 use Rattle.config_rom.specs.OneReading.{IsRomOf, HasGoodBlocks}
 use Rattle.bus_cli.specs.declared.form.Form.{Form}
-use Rattle.bus_cli.specs.declared.form.Form.TheVariants.{Capture, Rom, Run, Advice, Make}
+use Rattle.bus_cli.specs.declared.form.Form.TheVariants.{Capture, Rom, Run, Advice, Make, OfItself}
 use Rattle.bus_cli.specs.declared.form.CaptureForm.TheVariants.{Read, Read95, Maps}
 use Rattle.bus_cli.specs.declared.fault.CaptureFault.{CaptureFault}
+use Rattle.bus_cli.specs.declared.help.TheConstants.{HELP}
 use Rattle.bus_cli.specs.Form.{Asks, IsForm}
 use Rattle.bus_cli.specs.Capture.{Spells, CaptureRefused}
 use Rattle.bus_cli.specs.Cabled.{EachListIsEmitted}
@@ -118,6 +121,13 @@ AnswersMake nodes seed status text =
     (status ≡ 0)
     × ((whole : List ℕ) × PrintsRun (made_script nodes seed) whole × (text ≡ summary whole))
 
+-- ---- the program
+
+-- `--help`, `-h` and `--version`: the help, or the version
+abbrev pub AnswersOfItself : About → ℕ → List ℕ → Type 0
+AnswersOfItself about status text =
+    (status ≡ 0) × (text ≡ about_text about (codes "busconf") HELP.now)
+
 -- ---- the whole
 
 -- the status and the text of a form for these bytes
@@ -129,6 +139,7 @@ AnswersForm Rom bytes status text = AnswersRom bytes status text
 AnswersForm Run bytes status text = AnswersRun bytes status text
 AnswersForm Advice bytes status text = AnswersAdvice bytes status text
 AnswersForm (Make nodes seed) bytes status text = AnswersMake nodes seed status text
+AnswersForm (OfItself about) bytes status text = AnswersOfItself about status text
 
 -- what the words ask for is answered, and words that are no form by 2 and nothing
 abbrev pub Answers : List (String Global) → List ℕ → ℕ → List ℕ → Type 0

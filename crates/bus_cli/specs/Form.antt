@@ -1,11 +1,13 @@
 -- The words that the program is asked with.
-use Rattle.std.specs.Prelude.{◌≡◌, ℕ, ◌≤◌, List, [], ◌∷◌, map, codes, string_bytes, String, Some}
+use Rattle.std.specs.Prelude.{◌≡◌, ◌⊎◌, ℕ, ◌≤◌, List, [], ◌∷◌, map, codes, string_bytes, String, Some}
 use Rattle.std.specs.Global.{Global}
 use Rattle.self_id.specs.declared.standard.Standard.{Standard}
 use Rattle.self_id.specs.declared.standard.Standard.TheVariants.{Ieee1995, Ieee2000}
+use Rattle.about.specs.declared.asked.About.{About}
+use Rattle.about.specs.Asked.{AreWordsFor}
 use Rattle.script_lines.specs.Number.{number_of}
 use Rattle.bus_cli.specs.declared.form.Form.{Form}
-use Rattle.bus_cli.specs.declared.form.Form.TheVariants.{Capture, Rom, Run, Advice, Make}
+use Rattle.bus_cli.specs.declared.form.Form.TheVariants.{Capture, Rom, Run, Advice, Make, OfItself}
 use Rattle.bus_cli.specs.declared.form.CaptureForm.{CaptureForm}
 use Rattle.bus_cli.specs.declared.form.CaptureForm.TheVariants.{Read, Read95, Maps}
 
@@ -34,6 +36,7 @@ AreWordsOf Rom words = words ≡ codes "rom" ∷ []
 AreWordsOf Run words = words ≡ codes "run" ∷ []
 AreWordsOf Advice words = words ≡ codes "advice" ∷ []
 AreWordsOf (Make nodes seed) words = AreMakeWords nodes seed words
+AreWordsOf (OfItself about) words = AreWordsFor about words
 
 -- the words are those of the form
 abbrev pub Asks : List (String Global) → Form → Type 0
@@ -46,3 +49,11 @@ IsForm words = (form : Form) × Asks words form
 -- the words ask for the script of some nodes and seed to be made
 abbrev pub AsksMake : List (String Global) → Type 0
 AsksMake words = (nodes : ℕ) × (seed : ℕ) × Asks words (Make nodes seed)
+
+-- the words ask for the program's help or its version
+abbrev pub AsksOfItself : List (String Global) → Type 0
+AsksOfItself words = (about : About) × Asks words (OfItself about)
+
+-- with these words nothing is read
+abbrev pub AsksNoInput : List (String Global) → Type 0
+AsksNoInput words = AsksMake words ⊎ AsksOfItself words

@@ -9,16 +9,18 @@ ghost use Rattle.bus_cli.specs.Capture.{Spells};
 ghost use Rattle.bus_cli.specs.declared.form.Form.TheVariants.{Capture};
 ghost use Rattle.bus_cli.specs.declared.form.CaptureForm.{CaptureForm};
 ghost use Rattle.bus_cli.specs.Form.{standard_of};
-ghost use Rattle.bus_cli.specs.Answer.{AnswersForm};
+ghost use Rattle.bus_cli.specs.Answer.{AnswersForm, AnswersOfItself};
 ghost use Rattle.bus_cli.specs.codings.Reading.{Reads, Shows, IsNoFault, IsRead, AsksFewNodes, status_with, text_with};
 
 use crate::fault::CaptureStop;
 use crate::form::{CaptureForm, Form};
+use crate::help::HELP;
 use crate::input::{MAX_INPUT, read_input};
 use crate::line::{FaultLine, fault_line};
 use crate::rom::answer_to_rom;
 use crate::script::{answer_to_advice, answer_to_make, answer_to_script};
 use crate::status::{REFUSED, VALID};
+use about::{About, about_text};
 use io_edges::{ReadStop, Source, read_all};
 use quad_lanes::OutOfMemory;
 use script_text::maps_text;
@@ -94,8 +96,16 @@ fn answer_to(
     }
 }
 
+/// What the program says of itself.
+fn answer_of_itself(alloc: Global, about: About) -> Result<Answer, OutOfMemory>
+    ensures { IfOk result (λ answer.
+        AnswersOfItself about (status_with answer) (text_with answer)) }
+{
+    Ok(Answer::Valid(about_text(alloc, about, "busconf", HELP)?))
+}
+
 /// The answer to what a source gives, in a form: it reads the source to its end, unless the form is
-/// `make`, with which it reads nothing.
+/// `make` or asks for something of the program itself, with which it reads nothing.
 pub(crate) fn read_answer<S: Source>(
     alloc: Global,
     form: Form,
@@ -139,5 +149,6 @@ pub(crate) fn read_answer<S: Source>(
             Ok(answer_to_advice(alloc, &bytes)?)
         }
         Form::Make { nodes, seed } => Ok(answer_to_make(alloc, nodes, seed)?),
+        Form::OfItself(about) => Ok(answer_of_itself(alloc, about)?),
     }
 }

@@ -3,6 +3,7 @@ ghost use Rattle.std.specs.Prelude.{◌≡◌, ◌∷◌, [], ◌↔◌, codes};
 ghost use Rattle.bus_cli.specs.Form.{AreWordsOf, Asks, standard_of};
 ghost use Rattle.bus_cli.specs.declared.form.Form.{Form};
 
+use about::About;
 use script_lines::number_of;
 use self_id::Standard;
 
@@ -43,6 +44,8 @@ pub enum Form {
     /// `make N SEED`: the summary of what the script prints that is made for 1 to 63 nodes and a
     /// seed. The numbers are written as in a script. Nothing is read.
     Make { nodes: u8, seed: u32 },
+    /// `--help`, `-h` or `--version`: what the program says of itself. Nothing is read.
+    OfItself(About),
 }
 
 impl Form {
@@ -57,6 +60,8 @@ impl Form {
             "rom" => Some(Form::Rom),
             "run" => Some(Form::Run),
             "advice" => Some(Form::Advice),
+            "--help" | "-h" => Some(Form::OfItself(About::Help)),
+            "--version" => Some(Form::OfItself(About::Version)),
             _ => None,
         }
     }

@@ -3,13 +3,14 @@ ghost use Rattle.std.specs.Prelude.{◌≡◌, ◌≢◌, ℕ, ◌≤◌, ◌⊎
 ghost use Rattle.std.specs.Io.KnownBytes.{Appends, IsAtEnd};
 ghost use Rattle.io_edges.specs.Faults.{Rose};
 ghost use Rattle.io_edges.specs.Told.{AppendsStart, IfTold, TookOver};
+ghost use Rattle.about.specs.declared.asked.About.{About};
 ghost use Rattle.bus_cli.specs.declared.form.CaptureForm.{CaptureForm};
-ghost use Rattle.bus_cli.specs.Form.{Asks, AsksMake, IsForm};
+ghost use Rattle.bus_cli.specs.Form.{Asks, AsksNoInput, IsForm};
 ghost use Rattle.self_id.specs.declared.standard.Standard.TheVariants.{Ieee1995, Ieee2000};
 ghost use Rattle.topology_stack.specs.Tree.{Tree};
 ghost use Rattle.bus_cli.specs.Capture.{Spells};
 ghost use Rattle.bus_cli.specs.Answer.{AnswersRead, AnswersMaps, AnswersRom, AnswersRun, AnswersAdvice};
-ghost use Rattle.bus_cli.specs.Answer.{AnswersMake, Answers};
+ghost use Rattle.bus_cli.specs.Answer.{AnswersMake, AnswersOfItself, Answers};
 ghost use Rattle.bus_cli.specs.Streams.{IsWritten, KeepsStreams};
 ghost use Rattle.bus_cli.specs.Cabled.{AnswersCabling, AreEmitted};
 
@@ -32,9 +33,9 @@ fn answer_words<S: Source, K: Sink>(
     ensures answer { (result ≡ 0) ⊎ (result ≡ 1) → IfSome (S.left source.old) (λ bytes.
         (text : List ℕ) × Answers words.now bytes result text
         × Appends (K.written sink.old) (K.written sink.new) text) }
-    ensures end { (result ≡ 0) ⊎ (result ≡ 1) ⊎ (result ≡ 4) → (¬ AsksMake words.now) →
+    ensures end { (result ≡ 0) ⊎ (result ≡ 1) ⊎ (result ≡ 4) → (¬ AsksNoInput words.now) →
         IsAtEnd (S.left source.new) }
-    ensures unfailing { AsksMake words.now → (result ≢ 1) × (result ≢ 3) × (result ≢ 6) }
+    ensures unfailing { AsksNoInput words.now → (result ≢ 1) × (result ≢ 3) × (result ≢ 6) }
     ensures make { (nodes seed : ℕ) → Asks words.now (Form.Make nodes seed) → result ≡ 0 →
         (text : List ℕ) × AnswersMake nodes seed 0 text
         × Appends (K.written sink.old) (K.written sink.new) text }
@@ -43,10 +44,13 @@ fn answer_words<S: Source, K: Sink>(
     ensures write_fault { result ≡ 4 → Rose (K.faults sink.old) (K.faults sink.new) }
     ensures too_long { IfTold (S.left source.old) (S.left source.new) (λ old new.
         (result ≡ 6) ↔ TookOver 1048576 old new) }
+    ensures itself { (about : About) → Asks words.now (Form.OfItself about) → result ≡ 0 →
+        (text : List ℕ) × AnswersOfItself about 0 text
+        × Appends (K.written sink.old) (K.written sink.new) text }
     ensures memory { result ≡ 5 → Asks words.now (Form.Capture CaptureForm.Read) →
         IsAtEnd (S.left source.new)
         × IfSome (S.left source.old) (λ bytes. (t : Tree) × Spells Ieee2000 bytes t) }
-    ensures unread { (result ≡ 2) ⊎ AsksMake words.now → source.new ≡ source.old }
+    ensures unread { (result ≡ 2) ⊎ AsksNoInput words.now → source.new ≡ source.old }
     ensures unwritten { 2 ≤ result → result ≢ 4 → sink.new ≡ sink.old }
     ensures part { result ≡ 4 → IfSome (S.left source.old) (λ bytes.
         (status : ℕ) × (text : List ℕ) × Answers words.now bytes status text
@@ -84,7 +88,7 @@ fn answer_words<S: Source, K: Sink>(
 ///
 /// | status | comes |
 /// |---|---|
-/// | 0 | the input was read to its end and is valid, and its whole text was written |
+/// | 0 | the input was read to its end and is valid, and its whole text was written; or the whole help or version |
 /// | 1 | the input was read to its end and isn't valid, and the line of its fault was written |
 /// | 2 | the words are none of the forms; nothing was read or written |
 /// | 3 | the source failed; nothing was written |
@@ -95,7 +99,8 @@ fn answer_words<S: Source, K: Sink>(
 /// The words are judged first, without memory; then the input is read to its end; then it is
 /// judged; and only then is anything written. What is said of the input holds where the source
 /// tells its bytes. With `make` nothing is read, and the script that is made is the input; it has no
-/// fault, so 1 doesn't come.
+/// fault, so 1 doesn't come. With `--help`, `-h` and `--version` nothing is read, and neither 1 nor 3
+/// nor 6 comes.
 ///
 /// With `run`, the text at status 0 is what the script tells over the one run of its bus. In each
 /// report of it, each component is a loop with its core in configuration timeout, or a cable whose
@@ -110,9 +115,9 @@ pub fn bus_main<S: Source, K: Sink>(
     sink: &mut K,
 ) -> u8
     // The answer to the words and the bytes, which there is, is written, unless another status has
-    // its cause. With `make` nothing is read.
+    // its cause. With `make`, and for what the program says of itself, nothing is read.
     ensures streams { KeepsStreams S.left S.faults K.written K.faults K.surely_takes
-        (AsksMake words.now) (Answers words.now) result source.old source.new sink.old sink.new }
+        (AsksNoInput words.now) (Answers words.now) result source.old source.new sink.old sink.new }
     ensures no_form { (result ≡ 2) ↔ (¬ IsForm words.now) }
 
     // With `read` and `read95` it is the tree that the capture spells, or its fault.
@@ -146,10 +151,13 @@ pub fn bus_main<S: Source, K: Sink>(
         result (S.left source.old) (K.written sink.old) (K.written sink.new) }
 
     // With `make` the script has no fault, and what is written at status 0 is the summary of what
-    // the script prints.
-    ensures unfailing { AsksMake words.now → (result ≢ 1) × (result ≢ 3) × (result ≢ 6) }
+    // the script prints. With `--help` and `-h` it is the help, and with `--version` the version.
+    ensures unfailing { AsksNoInput words.now → (result ≢ 1) × (result ≢ 3) × (result ≢ 6) }
     ensures make { (nodes seed : ℕ) → Asks words.now (Form.Make nodes seed) → result ≡ 0 →
         (text : List ℕ) × AnswersMake nodes seed 0 text
+        × Appends (K.written sink.old) (K.written sink.new) text }
+    ensures itself { (about : About) → Asks words.now (Form.OfItself about) → result ≡ 0 →
+        (text : List ℕ) × AnswersOfItself about 0 text
         × Appends (K.written sink.old) (K.written sink.new) text }
 
     // With `read`, memory is taken only once the input was read to its end and is valid.

@@ -15,6 +15,7 @@ use Rattle.script_told.specs.Bus.{Bus, Reported, node_named, tree_with}
 use Rattle.script_told.specs.Script.{Told, script_lines}
 use Rattle.script_told.specs.Run.{ScriptRun, IsRun}
 use Rattle.script_told.specs.SomeManager.{IsManaged, ReportedTreesAreManaged}
+use Rattle.script_told.specs.EachReport.{ReportsAreSettled}
 use Rattle.script_told.proofs.Lemmas.{IsEnd, each-done}
 use Rattle.script_bus.specs.Listed.{list_in, list_at, list_of}
 use Rattle.script_run.specs.Listed.{at_line, listed_at, IsListed}
@@ -22,6 +23,7 @@ use Rattle.bus_cli.specs.Capture.{IsCaptureOf, Spells}
 use Rattle.bus_cli.specs.Answer.{AnswersRead}
 use Rattle.bus_cli.specs.OneReading.{NoCaptureHasTwoTrees, NoCaptureHasATreeAndAFault}
 use Rattle.bus_view.specs.Captured.{ListsFit, IsShownByTheReport, CapturesAreOfReports}
+use Rattle.bus_view.proofs.Printed.{has-last, last-prints}
 
 -- what is said of captures and of reports
 pub record IsKnown : Type 0 where
@@ -30,6 +32,7 @@ pub record IsKnown : Type 0 where
   pub one : NoListHasTwoTrees
   pub keeps : ActKeepsNodes
   pub managed : ReportedTreesAreManaged
+  pub reports : ReportsAreSettled
   pub fit : ListsFit
 
 module _ (known : IsKnown) where
@@ -47,6 +50,7 @@ module _ (known : IsKnown) where
       let end : IsEnd bus = subst (λ (r : Result Bus ScriptFault). IfOk r IsEnd) ends (each-done known.one known.keeps bytes run is).end in
       let m : IsManaged part = known.managed bus.world end.report bus.notes node part ∣ end.reached.reached ∣₁ end.is end.last settled in
       let t = m.shown in
+      let last = has-last bytes run is bus ends in
       let emitted : emits t ≡ list = m.is.emitted ∙ sym listed in
       let spelt : Spells Ieee2000 (capture list) t = record {
         bus = m.is.bus;
@@ -68,6 +72,9 @@ module _ (known : IsKnown) where
         reported = λ text told.
             let same : told.tree ≡ t = known.one Ieee2000 told.tree t told.valid m.is.bus (told.emitted ∙ sym m.is.emitted) in
             told.is ∙ ap (λ (u : Tree). root_line bus.notes.names part.root ++ tree_text u (names_in bus.notes.names part.order)) same;
+        last = last.0;
+        is_last = last.1;
+        printed = last-prints known.one run bus last.0 node part t (known.reports bytes run is) last.1 settled m.is.bus m.is.emitted;
       }
 
   -- each way to a list

@@ -1,16 +1,21 @@
 -- What is written, and when, of the answer to the bytes that were told.
-use Rattle.std.proofs.Common.{◌≡◌, ◌⊎◌, inl, inr, ℕ, ◌≤◌, Option, Some, None, List, [], Ok, length, refl, sym, subst, arith, ◌↔◌}
-use Rattle.std.specs.Prelude.{IfSome, String}
+use Rattle.std.proofs.Common.{◌≡◌, ◌⊎◌, inl, inr, ℕ, ◌≤◌, Bool, true, false, Option, Some, None, Result, Err, List, [], length, refl, sym, subst, arith, ◌↔◌}
+use Rattle.std.specs.Prelude.{IfSome, IsOkUnless, String, alloc_error}
 use Rattle.std.specs.Global.{Global}
 use Rattle.std.specs.Io.KnownBytes.{Appends}
 use Rattle.io_edges.specs.Told.{IfTold, TookOver}
-use Rattle.bus_view.specs.Form.{Asks, AsksScript, IsForm}
+use Rattle.io_edges.specs.declared.stop.ReadStop.{ReadStop}
+use Rattle.io_edges.specs.declared.stop.ReadStop.TheVariants.{TooLong, Memory}
+use Rattle.bus_view.specs.declared.answer.View.{View}
+use Rattle.bus_view.specs.Form.{Asks, AsksNoInput, IsForm}
 use Rattle.bus_view.specs.declared.form.ViewForm.{ViewForm}
-use Rattle.bus_view.specs.declared.form.ViewForm.TheVariants.{Capture, Trace, Waves, Script, ListOf, Explain}
-use Rattle.bus_view.specs.Answer.{Reading, spelt, refused, status_of, IsTraceView, traced, at_fault, IsWavesView, dumped, not_dumped, has_list, has_none, IsView, Answers, viewed, no_form, has_text, has_fault}
+use Rattle.bus_view.specs.declared.form.ViewForm.TheVariants.{Capture, Trace, Waves, Script, ListOf, Explain, Resets, Nosy, OfItself}
+use Rattle.about.specs.declared.asked.About.{About}
+use Rattle.bus_cli.specs.Streams.{IsWritten}
+use Rattle.bus_view.specs.Log.{status_if}
+use Rattle.bus_view.specs.Answer.{IsViewOfItself, Reading, spelt, refused, status_of, traced, at_fault, dumped, not_dumped, IsListView, has_list, has_none, IsView, Answers, viewed, no_form, has_text, has_fault}
+use Rattle.bus_view.specs.Captured.{AnswersCapture, CapturesAreOfReports}
 use Rattle.script_made.specs.Made.{made_script}
-use Rattle.script_trace.specs.Trace.{IsTrace}
-use Rattle.script_waves.specs.Waves.{IsWaves}
 use Rattle.bus_view.proofs.Forms.{one_form}
 use Rattle.bus_view.specs.OneAnswer.{NoInputHasTwoViews}
 
@@ -39,6 +44,10 @@ of_reading : (reading : Reading) (status : ℕ) → status ≡ status_of reading
 of_reading (spelt t) status e = omega (arith, e)
 of_reading (refused f) status e = omega (arith, e)
 
+few_bad : (bad : Bool) → status_if bad ≤ 1
+few_bad true = omega arith
+few_bad false = omega arith
+
 pub few_status : (form : ViewForm) (bytes : List ℕ) (status : ℕ) (text : List ℕ) →
     IsView form bytes status text → status ≤ 1
 few_status (Capture view standard) bytes status text shows =
@@ -52,14 +61,33 @@ few_status Explain bytes status text (has_fault fault e x t) = omega (arith, e)
 few_status (Script nodes seed) bytes status text x = let e = x.0 in omega (arith, e)
 few_status (ListOf name) bytes status text (has_list list e x t) = omega (arith, e)
 few_status (ListOf name) bytes status text (has_none fault e x t) = omega (arith, e)
+few_status (Resets standard) bytes status text (bad, is, e) = omega (arith, e, few_bad bad)
+few_status (Nosy standard) bytes status text (bad, is, e) = omega (arith, e, few_bad bad)
+few_status (OfItself about) bytes status text x = let e = x.0 in omega (arith, e)
 
 -- it isn't 6, where not too many bytes were taken
-pub not_six : (X : Type 0) (old new : Option (List ℕ)) (status : ℕ) → status ≤ 1 →
+pub not_six : (X : Type 0) (old new : Option (List ℕ)) (status : ℕ) → (status ≡ 6 → ⊥) →
     IfTold old new (λ xs ys. X ↔ TookOver 1048576 xs ys) → (X → ⊥) →
     IfTold old new (λ xs ys. (status ≡ 6) ↔ TookOver 1048576 xs ys)
-not_six X None new status few h none = tt
-not_six X (Some xs) None status few h none = tt
-not_six X (Some xs) (Some ys) status few h none = (λ six. absurd (omega (arith, six, few)), λ took. absurd (none (h.1 took)))
+not_six X None new status apart h none = tt
+not_six X (Some xs) None status apart h none = tt
+not_six X (Some xs) (Some ys) status apart h none = (λ six. absurd (apart six), λ took. absurd (none (h.1 took)))
+
+-- a later status excuses any answer
+pub later : (Answers : List ℕ → ℕ → List ℕ → Type 0) (left : Option (List ℕ)) (status : ℕ) → 3 ≤ status →
+    IfSome left (λ bytes. (s : ℕ) (x : List ℕ) → Answers bytes s x → (status ≡ s) ⊎ (3 ≤ status))
+later Answers None status late = tt
+later Answers (Some bytes) status late = λ s x is. inr late
+
+-- no input of so many bytes at most is too long
+pub never_long : (left : Option (List ℕ)) (P : List ℕ → Type 0) (r : Result View ReadStop) → r ≡ Err TooLong →
+    IfSome left (λ bytes. length bytes ≤ 1048576 → IsOkUnless r (Memory alloc_error)) →
+    IfSome left (λ bytes. length bytes ≤ 1048576 → P bytes)
+never_long None P r is h = tt
+never_long (Some bytes) P r is h = λ few. absurd (apart (subst (λ (q : Result View ReadStop). IsOkUnless q (Memory alloc_error)) is (h few)))
+  where
+    apart : TooLong ≡ Memory alloc_error → ⊥
+    apart e = cc
 
 -- of two things the one that isn't another status
 pub or_else : (A : Type 0) (n m : ℕ) → (n ≡ m → ⊥) → (n ≡ m) ⊎ A → A
@@ -85,10 +113,17 @@ pub of_known : (form known : ViewForm) → form ≡ known → (bytes : List ℕ)
 of_known form known e bytes status text is =
     subst (λ (f : ViewForm). IsView f bytes status text) (sym e) is
 
-pub script_status : (words : List (String Global)) (bytes : List ℕ) (status : ℕ) (text : List ℕ) →
-    AsksScript words → Answers words bytes status text → status ≡ 0
-script_status words bytes status text script is =
+pub no_input_status : (words : List (String Global)) (bytes : List ℕ) (status : ℕ) (text : List ℕ) →
+    AsksNoInput words → Answers words bytes status text → status ≡ 0
+no_input_status words bytes status text (inl script) is =
     (of_form words (Script script.0 script.1) script.2 bytes status text is).0
+no_input_status words bytes status text (inr itself) is =
+    (of_form words (OfItself itself.0) itself.1 bytes status text is).0
+
+pub itself_text : (words : List (String Global)) (about : About) (bytes : List ℕ) (status : ℕ)
+    (text : List ℕ) → Asks words (OfItself about) → Answers words bytes status text → IsViewOfItself about 0 text
+itself_text words about bytes status text asks is =
+    (refl, (of_form words (OfItself about) asks bytes status text is).1)
 
 pub script_text : (words : List (String Global)) (nodes seed : ℕ) (bytes : List ℕ) (status : ℕ)
     (text : List ℕ) → Asks words (Script nodes seed) → Answers words bytes status text →
@@ -107,34 +142,26 @@ taken_surely one words (Some bytes) read text status takes same all answers go =
     let one_text = (one words bytes status s text x (told words read bytes text status all answers) is).1 in
     go (subst (λ (t : List ℕ). takes (length t)) (sym one_text) sure)
 
--- ---- a trace
+-- ---- what was written
 
--- what answers the words of a trace at status 0
-pub trace_written : (words : List (String Global)) (left old new : Option (List ℕ)) (status : ℕ) →
-    Asks words Trace → status ≡ 0 →
+-- what is written whole is a view of the form that the words ask for
+pub form_written : (words : List (String Global)) (form : ViewForm) → Asks words form → (status : ℕ) (left old new : Option (List ℕ)) →
     ((status ≡ 0) ⊎ (status ≡ 1) → IfSome left (λ bytes. (x : List ℕ) × Answers words bytes status x × Appends old new x)) →
-    IfSome left (λ bytes. (lines : List ℕ) × IsTrace bytes (Ok lines) × Appends old new lines)
-trace_written words None old new status asks zero whole = tt
-trace_written words (Some bytes) old new status asks zero whole =
-    let w = whole (inl zero) in
-    (w.0, lines w.0 (of_form words Trace asks bytes status w.0 w.1), w.2)
-  where
-    lines : (text : List ℕ) → IsTraceView bytes status text → IsTrace bytes (Ok text)
-    lines text (traced e x) = x
-    lines text (at_fault fault e x t) = absurd (omega (arith, e, zero))
+    IsWritten (IsView form) status left old new
+form_written words form asks status None old new whole = λ which. tt
+form_written words form asks status (Some bytes) old new whole = λ which.
+    let w = whole which in (w.0, of_form words form asks bytes status w.0 w.1, w.2)
 
--- ---- a dump
+-- ---- a capture of a script's node
 
--- what answers the words of a dump at status 0
-pub waves_written : (words : List (String Global)) (left old new : Option (List ℕ)) (status : ℕ) →
-    Asks words Waves → status ≡ 0 →
-    ((status ≡ 0) ⊎ (status ≡ 1) → IfSome left (λ bytes. (x : List ℕ) × Answers words bytes status x × Appends old new x)) →
-    IfSome left (λ bytes. (dump : List ℕ) × IsWaves bytes (Ok dump) × Appends old new dump)
-waves_written words None old new status asks zero whole = tt
-waves_written words (Some bytes) old new status asks zero whole =
-    let w = whole (inl zero) in
-    (w.0, dump w.0 (of_form words Waves asks bytes status w.0 w.1), w.2)
-  where
-    dump : (text : List ℕ) → IsWavesView bytes status text → IsWaves bytes (Ok text)
-    dump text (dumped e x) = x
-    dump text (not_dumped fault e x t) = absurd (omega (arith, e, zero))
+capture_answers : CapturesAreOfReports → (name bytes : List ℕ) (status : ℕ) (text : List ℕ) →
+    IsListView name bytes status text → AnswersCapture name bytes status text
+capture_answers reports name bytes status text (has_list list zero listed is) =
+    inl (zero, record { list = list; listed = listed; text_is = is; shown = reports bytes name list listed })
+capture_answers reports name bytes status text (has_none fault one listed is) = inr (one, (fault, listed, is))
+
+pub capture_written : CapturesAreOfReports → (name : List ℕ) (status : ℕ) (left old new : Option (List ℕ)) →
+    IsWritten (IsListView name) status left old new → IsWritten (AnswersCapture name) status left old new
+capture_written reports name status None old new whole = λ which. tt
+capture_written reports name status (Some bytes) old new whole = λ which.
+    let w = whole which in (w.0, capture_answers reports name bytes status w.0 w.1, w.2)

@@ -2,16 +2,17 @@
 use Rattle.std.proofs.Common.{◌≡◌, ◌≤◌, ◌⊎◌, inl, inr, ℕ, Bool, true, false, cond, eqb, Option, Some, None, List, [], ◌∷◌, refl, ap, subst, ◌∙◌, arith}
 use Rattle.std.specs.Prelude.{String, map, string_bytes, codes, nat_lt, ◌<◌}
 use Rattle.std.specs.Global.{Global}
+use Rattle.about.specs.declared.asked.About.TheVariants.{Help, Version}
 use Rattle.self_id.specs.declared.standard.Standard.{Standard}
 use Rattle.self_id.specs.declared.standard.Standard.TheVariants.{Ieee1995, Ieee2000}
 use Rattle.bus_view.specs.declared.form.CaptureView.{CaptureView}
 use Rattle.bus_view.specs.declared.form.CaptureView.TheVariants.{Packets, Tree, Dot}
 use Rattle.bus_view.specs.declared.form.ViewForm.{ViewForm}
-use Rattle.bus_view.specs.declared.form.ViewForm.TheVariants.{Capture, Trace, Waves, Script, ListOf, Explain}
+use Rattle.bus_view.specs.declared.form.ViewForm.TheVariants.{Capture, Trace, Waves, Script, ListOf, Explain, Resets, Nosy, OfItself}
 use Rattle.script_lines.specs.Name.{is_name}
 use Rattle.script_lines.specs.Number.{number_of}
-use Rattle.bus_view.specs.Form.{standard_words, AreScriptWords, AreWordsOf, Asks, AsksScript, IsForm}
-use Rattle.bus_view.specs.codings.Reading.{IsRead, AsksFewNodes}
+use Rattle.bus_view.specs.Form.{standard_words, AreScriptWords, AreWordsOf, Asks, AsksLog, AsksNoInput, IsForm}
+use Rattle.bus_view.specs.codings.Reading.{IsRead, IsHeld}
 use Rattle.std.proofs.lemmas.Bool.{eqb-true}
 use Rattle.std.proofs.lemmas.Bool.Decides.{nat_tests}
 
@@ -64,15 +65,25 @@ capture_of (Some view) standard = Some (Capture view standard)
 abbrev named : Bool → List ℕ → Option ViewForm
 named test name = cond test (Some (ListOf name)) None
 
+-- a log or a dump by a standard, or something else
+abbrev log_of : List ℕ → Standard → Option ViewForm → Option ViewForm
+log_of word standard rest =
+    cond (same word (codes "resets")) (Some (Resets standard))
+    (cond (same word (codes "nosy")) (Some (Nosy standard)) rest)
+
 form_of : List (List ℕ) → Option ViewForm
 form_of [] = None
 form_of (word ∷ []) =
     cond (same word (codes "trace")) (Some Trace)
     (cond (same word (codes "waves")) (Some Waves)
-    (cond (same word (codes "explain")) (Some Explain) (capture_of (view_of word) Ieee2000)))
+    (cond (same word (codes "explain")) (Some Explain)
+    (cond (same word (codes "--help")) (Some (OfItself Help))
+    (cond (same word (codes "-h")) (Some (OfItself Help))
+    (cond (same word (codes "--version")) (Some (OfItself Version))
+    (log_of word Ieee2000 (capture_of (view_of word) Ieee2000)))))))
 form_of (word ∷ next ∷ []) =
     cond (same word (codes "capture")) (named (is_name next) next)
-    (cond (same next (codes "--1995")) (capture_of (view_of word) Ieee1995) None)
+    (cond (same next (codes "--1995")) (log_of word Ieee1995 (capture_of (view_of word) Ieee1995)) None)
 form_of (word ∷ a ∷ b ∷ []) = cond (same word (codes "script")) (of_numbers (number_of a) (number_of b)) None
 form_of (word ∷ a ∷ b ∷ c ∷ words) = None
 
@@ -103,6 +114,13 @@ is_found (Capture Dot Ieee2000) words e = ap (λ (ws : List (List ℕ)). form_of
 is_found Trace words e = ap (λ (ws : List (List ℕ)). form_of ws) e
 is_found Waves words e = ap (λ (ws : List (List ℕ)). form_of ws) e
 is_found Explain words e = ap (λ (ws : List (List ℕ)). form_of ws) e
+is_found (Resets Ieee1995) words e = ap (λ (ws : List (List ℕ)). form_of ws) e
+is_found (Resets Ieee2000) words e = ap (λ (ws : List (List ℕ)). form_of ws) e
+is_found (Nosy Ieee1995) words e = ap (λ (ws : List (List ℕ)). form_of ws) e
+is_found (Nosy Ieee2000) words e = ap (λ (ws : List (List ℕ)). form_of ws) e
+is_found (OfItself Help) words (inl e) = ap (λ (ws : List (List ℕ)). form_of ws) e
+is_found (OfItself Help) words (inr e) = ap (λ (ws : List (List ℕ)). form_of ws) e
+is_found (OfItself Version) words e = ap (λ (ws : List (List ℕ)). form_of ws) e
 is_found (Script nodes seed) words m =
     ap (λ (ws : List (List ℕ)). form_of ws) m.words_are
     ∙ from_numbers (number_of m.nodes_word) (number_of m.seed_word) nodes seed m.nodes_are m.seed_is m.some_nodes m.few_nodes
@@ -147,22 +165,54 @@ of_capture (Some view) standard word form is e =
     subst (λ (g : ViewForm). AreWordsOf g (word ∷ standard_words standard)) f
     (of_view view standard _ (ap (λ (w : List ℕ). w ∷ standard_words standard) (is view refl)))
 
-one_word : (trace waves explain : Bool) (word : List ℕ) (form : ViewForm) → (trace ≡ true → word ≡ codes "trace") →
-    (waves ≡ true → word ≡ codes "waves") → (explain ≡ true → word ≡ codes "explain") →
-    cond trace (Some Trace) (cond waves (Some Waves) (cond explain (Some Explain)
-    (capture_of (view_of word) Ieee2000))) ≡ Some form →
+-- the first form, whose words they are where a test holds, or one of the rest
+or_rest : (test : Bool) (words : List (List ℕ)) (first form : ViewForm) (rest : Option ViewForm) →
+    (test ≡ true → AreWordsOf first words) → (rest ≡ Some form → AreWordsOf form words) →
+    cond test (Some first) rest ≡ Some form → AreWordsOf form words
+or_rest true words first form rest is go e =
+    let f : first ≡ form = cc in subst (λ (g : ViewForm). AreWordsOf g words) f (is refl)
+or_rest false words first form rest is go e = go e
+
+with_standard : (standard : Standard) (word wanted : List ℕ) → same word wanted ≡ true →
+    word ∷ standard_words standard ≡ wanted ∷ standard_words standard
+with_standard standard word wanted e = ap (λ (w : List ℕ). w ∷ standard_words standard) (same-true word wanted e)
+
+resets_words : (standard : Standard) (words : List (List ℕ)) → words ≡ codes "resets" ∷ standard_words standard →
+    AreWordsOf (Resets standard) words
+resets_words Ieee1995 words e = e
+resets_words Ieee2000 words e = e
+
+nosy_words : (standard : Standard) (words : List (List ℕ)) → words ≡ codes "nosy" ∷ standard_words standard →
+    AreWordsOf (Nosy standard) words
+nosy_words Ieee1995 words e = e
+nosy_words Ieee2000 words e = e
+
+log_words : (word : List ℕ) (standard : Standard) (form : ViewForm) (rest : Option ViewForm) →
+    (rest ≡ Some form → AreWordsOf form (word ∷ standard_words standard)) →
+    log_of word standard rest ≡ Some form → AreWordsOf form (word ∷ standard_words standard)
+log_words word standard form rest go =
+    or_rest (same word (codes "resets")) (word ∷ standard_words standard) (Resets standard) form _
+    (λ e. resets_words standard _ (with_standard standard word (codes "resets") e))
+    (or_rest (same word (codes "nosy")) (word ∷ standard_words standard) (Nosy standard) form rest
+    (λ e. nosy_words standard _ (with_standard standard word (codes "nosy") e)) go)
+
+one_word : (word : List ℕ) (form : ViewForm) →
+    cond (same word (codes "trace")) (Some Trace)
+    (cond (same word (codes "waves")) (Some Waves)
+    (cond (same word (codes "explain")) (Some Explain)
+    (cond (same word (codes "--help")) (Some (OfItself Help))
+    (cond (same word (codes "-h")) (Some (OfItself Help))
+    (cond (same word (codes "--version")) (Some (OfItself Version))
+    (log_of word Ieee2000 (capture_of (view_of word) Ieee2000))))))) ≡ Some form →
     AreWordsOf form (word ∷ [])
-one_word true waves explain word form is dumps says e =
-    let f : Trace ≡ form = cc in
-    subst (λ (g : ViewForm). AreWordsOf g (word ∷ [])) f (ap (λ (w : List ℕ). w ∷ []) (is refl))
-one_word false true explain word form is dumps says e =
-    let f : Waves ≡ form = cc in
-    subst (λ (g : ViewForm). AreWordsOf g (word ∷ [])) f (ap (λ (w : List ℕ). w ∷ []) (dumps refl))
-one_word false false true word form is dumps says e =
-    let f : Explain ≡ form = cc in
-    subst (λ (g : ViewForm). AreWordsOf g (word ∷ [])) f (ap (λ (w : List ℕ). w ∷ []) (says refl))
-one_word false false false word form is dumps says e =
-    of_capture (view_of word) Ieee2000 word form (view_is word) e
+one_word word form =
+    or_rest _ (word ∷ []) Trace form _ (with_standard Ieee2000 word (codes "trace"))
+    (or_rest _ (word ∷ []) Waves form _ (with_standard Ieee2000 word (codes "waves"))
+    (or_rest _ (word ∷ []) Explain form _ (with_standard Ieee2000 word (codes "explain"))
+    (or_rest _ (word ∷ []) (OfItself Help) form _ (λ e. inl (with_standard Ieee2000 word (codes "--help") e))
+    (or_rest _ (word ∷ []) (OfItself Help) form _ (λ e. inr (with_standard Ieee2000 word (codes "-h") e))
+    (or_rest _ (word ∷ []) (OfItself Version) form _ (with_standard Ieee2000 word (codes "--version"))
+    (log_words word Ieee2000 form _ (of_capture (view_of word) Ieee2000 word form (view_is word))))))))
 
 by_name : (test : Bool) (word next : List ℕ) (form : ViewForm) → is_name next ≡ test →
     word ≡ codes "capture" → named test next ≡ Some form → AreWordsOf form (word ∷ next ∷ [])
@@ -173,11 +223,11 @@ by_name false word next form is w e = absurd cc
 
 two_words : (first test : Bool) (word next : List ℕ) (form : ViewForm) → (first ≡ true → word ≡ codes "capture") →
     (test ≡ true → next ≡ codes "--1995") →
-    cond first (named (is_name next) next) (cond test (capture_of (view_of word) Ieee1995) None) ≡ Some form →
+    cond first (named (is_name next) next) (cond test (log_of word Ieee1995 (capture_of (view_of word) Ieee1995)) None) ≡ Some form →
     AreWordsOf form (word ∷ next ∷ [])
 two_words true test word next form w is e = by_name (is_name next) word next form refl (w refl) e
 two_words false true word next form w is e =
-    rw (is refl) (of_capture (view_of word) Ieee1995 word form (view_is word) e)
+    rw (is refl) (log_words word Ieee1995 form _ (of_capture (view_of word) Ieee1995 word form (view_is word)) e)
 two_words false false word next form w is e = absurd cc
 
 -- 1 to 63 nodes and a seed that are found stand there
@@ -216,8 +266,7 @@ are_words : (words : List (List ℕ)) (form : ViewForm) → form_of words ≡ So
 unfolding form_of
 are_words [] form e = absurd cc
 are_words (word ∷ []) form e =
-    one_word _ _ _ word form (same-true word (codes "trace")) (same-true word (codes "waves"))
-    (same-true word (codes "explain")) e
+    one_word word form e
 are_words (word ∷ next ∷ []) form e =
     two_words _ _ word next form (same-true word (codes "capture")) (same-true next (codes "--1995")) e
 are_words (word ∷ a ∷ b ∷ []) form e = three_words _ word a b form (same-true word (codes "script")) e
@@ -232,28 +281,65 @@ form_or_none words = go (form_of (map string_bytes words)) refl
 
 -- ---- what is read
 
--- with words that aren't those of `script` the input is read
-pub is_read : (words : List (String Global)) (form : ViewForm) → Asks words form →
-    (AsksScript words → ⊥) → IsRead form
-is_read words (Capture view standard) asks none = tt
-is_read words Trace asks none = tt
-is_read words Waves asks none = tt
-is_read words Explain asks none = tt
-is_read words (Script nodes seed) asks none = absurd (none (nodes, seed, asks))
-is_read words (ListOf name) asks none = tt
+-- a form whose input is shown as it comes is none of the others
+pub log_apart : (words : List (String Global)) (form : ViewForm) → IsHeld form → Asks words form →
+    AsksLog words → ⊥
+log_apart words form held asks (standard, inl log) =
+    let e : Resets standard ≡ form = one_form words (Resets standard) form log asks in
+    subst (λ (f : ViewForm). IsHeld f → ⊥) e (λ none. none) held
+log_apart words form held asks (standard, inr dump) =
+    let e : Nosy standard ≡ form = one_form words (Nosy standard) form dump asks in
+    subst (λ (f : ViewForm). IsHeld f → ⊥) e (λ none. none) held
 
--- with those of `script` it isn't
+-- nor is one that reads nothing
+pub input_apart : (words : List (String Global)) → AsksNoInput words → AsksLog words → ⊥
+input_apart words (inl script) log =
+    log_apart words (Script script.0 script.1) (script.2.some_nodes, script.2.few_nodes) script.2 log
+input_apart words (inr itself) log = log_apart words (OfItself itself.0) tt itself.1 log
+
+-- the standards of a log's words are one, and so are those of a dump's
+pub one_resets : (words : List (String Global)) (a b : Standard) → Asks words (Resets a) → Asks words (Resets b) → a ≡ b
+one_resets words a b x y = let e : Resets a ≡ Resets b = one_form words (Resets a) (Resets b) x y in cc
+
+pub one_nosy : (words : List (String Global)) (a b : Standard) → Asks words (Nosy a) → Asks words (Nosy b) → a ≡ b
+one_nosy words a b x y = let e : Nosy a ≡ Nosy b = one_form words (Nosy a) (Nosy b) x y in cc
+
+-- and they are apart
+pub no_dump : (words : List (String Global)) (a b : Standard) → Asks words (Resets a) → Asks words (Nosy b) → ⊥
+no_dump words a b x y = let e : Resets a ≡ Nosy b = one_form words (Resets a) (Nosy b) x y in cc
+
+-- with words that need an input, and that isn't shown as it comes, it is read
+pub is_read : (words : List (String Global)) (form : ViewForm) → Asks words form → (AsksLog words → ⊥) →
+    (AsksNoInput words → ⊥) → IsRead form
+is_read words (Capture view standard) asks no_log none = tt
+is_read words Trace asks no_log none = tt
+is_read words Waves asks no_log none = tt
+is_read words Explain asks no_log none = tt
+is_read words (Script nodes seed) asks no_log none = absurd (none (inl (nodes, seed, asks)))
+is_read words (ListOf name) asks no_log none = tt
+is_read words (Resets standard) asks no_log none = absurd (no_log (standard, inl asks))
+is_read words (Nosy standard) asks no_log none = absurd (no_log (standard, inr asks))
+is_read words (OfItself about) asks no_log none = absurd (none (inr (about, asks)))
+
+-- with words that need none it isn't
 pub is_unread : (words : List (String Global)) (form : ViewForm) → Asks words form →
-    AsksScript words → IsRead form → ⊥
-is_unread words form asks script read =
+    AsksNoInput words → IsRead form → ⊥
+is_unread words form asks (inl script) read =
     let e : Script script.0 script.1 ≡ form = one_form words (Script script.0 script.1) form script.2 asks in
     subst (λ (f : ViewForm). IsRead f → ⊥) e (λ none. none) read
+is_unread words form asks (inr itself) read =
+    let e : OfItself itself.0 ≡ form = one_form words (OfItself itself.0) form itself.1 asks in
+    subst (λ (f : ViewForm). IsRead f → ⊥) e (λ none. none) read
 
--- with those of `script` there are 1 to 63 nodes
-pub few_nodes : (words : List (String Global)) (form : ViewForm) → Asks words form → AsksFewNodes form
-few_nodes words (Capture view standard) asks = tt
-few_nodes words Trace asks = tt
-few_nodes words Waves asks = tt
-few_nodes words Explain asks = tt
-few_nodes words (Script nodes seed) asks = (asks.some_nodes, asks.few_nodes)
-few_nodes words (ListOf name) asks = tt
+-- with words whose input isn't shown as it comes a text is made, and with those of `script` there are 1 to
+-- 63 nodes
+pub is_held : (words : List (String Global)) (form : ViewForm) → Asks words form → (AsksLog words → ⊥) → IsHeld form
+is_held words (Capture view standard) asks no_log = tt
+is_held words Trace asks no_log = tt
+is_held words Waves asks no_log = tt
+is_held words Explain asks no_log = tt
+is_held words (Script nodes seed) asks no_log = (asks.some_nodes, asks.few_nodes)
+is_held words (ListOf name) asks no_log = tt
+is_held words (Resets standard) asks no_log = absurd (no_log (standard, inl asks))
+is_held words (Nosy standard) asks no_log = absurd (no_log (standard, inr asks))
+is_held words (OfItself about) asks no_log = tt

@@ -1,9 +1,11 @@
 pub mod Forms
 pub mod OneView
 pub mod Ends
+pub mod Shown
 pub mod SomePacket
 pub mod SomeView
 pub mod Summed
 pub mod Said
 pub mod Fitting
+pub mod Printed
 pub mod Captured

@@ -27,9 +27,12 @@ use Rattle.view_text.specs.Drawing.{IsDrawing, IsRoot, drawing}
 use Rattle.bus_view.specs.declared.form.CaptureView.{CaptureView}
 use Rattle.bus_view.specs.declared.form.CaptureView.TheVariants.{Packets, Tree as Drawn, Dot}
 use Rattle.bus_view.specs.declared.form.ViewForm.{ViewForm}
-use Rattle.bus_view.specs.declared.form.ViewForm.TheVariants.{Capture, Trace, Waves, Script, ListOf, Explain}
+use Rattle.bus_view.specs.declared.form.ViewForm.TheVariants.{Capture, Trace, Waves, Script, ListOf, Explain, Resets, Nosy, OfItself}
 use Rattle.bus_view.specs.Answer.{Reading, spelt, refused, IsReading, status_of, ShowsPackets, HasText, IsCaptureView, IsTraceView, traced, at_fault, IsWavesView, dumped, not_dumped, IsListView, has_list, has_none, IsView, viewed, no_form, IsExplainView, has_text, has_fault}
+use Rattle.reset_log.specs.OneText.{NoLogHasTwoTexts}
+use Rattle.nosy_dump.specs.OneText.{NoDumpHasTwoTexts}
 use Rattle.bus_view.specs.Explained.{explanation, IsExplained}
+use Rattle.bus_view.specs.Log.{status_if}
 use Rattle.bus_view.specs.OneAnswer.{NoInputHasTwoViews}
 use Rattle.bus_view.proofs.Said.{one_explained}
 use Rattle.bus_view.proofs.Forms.{one_form}
@@ -46,6 +49,8 @@ pub record HasOneReading : Type 0 where
   pub texts : TracedScriptsAreTold
   pub dumps : ScriptsHaveOneDump
   pub dumped_texts : DumpedScriptsAreTold
+  pub logs : NoLogHasTwoTexts
+  pub bus_dumps : NoDumpHasTwoTexts
 
 same_reading : HasOneReading → (standard : Standard) (bytes : List ℕ) (a b : Reading) →
     IsReading standard bytes a → IsReading standard bytes b → a ≡ b
@@ -198,6 +203,11 @@ same_view one (Capture view standard) bytes s r a b x y =
     same_capture one view standard bytes s r a b x y
 same_view one (Script nodes seed) bytes s r a b x y = (x.0 ∙ sym y.0, x.1 ∙ sym y.1)
 same_view one (ListOf name) bytes s r a b x y = same_list one name bytes s r a b x y
+same_view one (Resets standard) bytes s r a b (p, x, e) (q, y, f) =
+    let t = one.logs standard bytes a b p q x y in (e ∙ ap status_if t.1 ∙ sym f, t.0)
+same_view one (Nosy standard) bytes s r a b (p, x, e) (q, y, f) =
+    let t = one.bus_dumps standard bytes a b p q x y in (e ∙ ap status_if t.1 ∙ sym f, t.0)
+same_view one (OfItself about) bytes s r a b x y = (x.0 ∙ sym y.0, x.1 ∙ sym y.1)
 
 -- ---- words and bytes have one answer
 

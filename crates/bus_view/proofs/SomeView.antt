@@ -26,8 +26,13 @@ use Rattle.view_text.specs.Graph.{graph}
 use Rattle.bus_view.specs.declared.form.CaptureView.{CaptureView}
 use Rattle.bus_view.specs.declared.form.CaptureView.TheVariants.{Packets, Tree as Drawn, Dot}
 use Rattle.bus_view.specs.declared.form.ViewForm.{ViewForm}
-use Rattle.bus_view.specs.declared.form.ViewForm.TheVariants.{Capture, Trace, Waves, Script, ListOf, Explain}
+use Rattle.bus_view.specs.declared.form.ViewForm.TheVariants.{Capture, Trace, Waves, Script, ListOf, Explain, Resets, Nosy, OfItself}
+use Rattle.about.specs.Told.{about_text}
+use Rattle.reset_log.specs.OneText.{EachLogHasAText}
+use Rattle.nosy_dump.specs.OneText.{EachDumpHasAText}
+use Rattle.bus_view.specs.declared.help.TheConstants.{VIEW_HELP}
 use Rattle.bus_view.specs.Form.{IsForm}
+use Rattle.bus_view.specs.Log.{status_if}
 use Rattle.bus_view.specs.Sentence.{place, note}
 use Rattle.bus_view.specs.Answer.{Reading, spelt, refused, IsReading, status_of, HasText, IsCaptureView, IsTraceView, traced, at_fault, IsWavesView, dumped, not_dumped, IsListView, has_list, has_none, IsView, Answers, viewed, no_form, IsExplainView, has_text, has_fault}
 use Rattle.script_words.specs.Before.{feed_lines}
@@ -84,6 +89,8 @@ pub record HasSomeReading : Type 0 where
   pub run : EachScriptHasARun
   pub traces : RunsHaveTraces
   pub dumps : RunsHaveDumps
+  pub logs : EachLogHasAText
+  pub bus_dumps : EachDumpHasAText
 
 module _ (have : HasSomeReading) where
   some-capture : (view : CaptureView) (standard : Standard) (bytes : List ℕ) →
@@ -140,6 +147,11 @@ module _ (have : HasSomeReading) where
   some-view Explain bytes fit = some-explanation bytes
   some-view (Script nodes seed) bytes fit = (0, made_script nodes seed, (refl, refl))
   some-view (ListOf name) bytes fit = some-list name bytes
+  some-view (Resets standard) bytes fit =
+      let t = have.logs standard bytes in (status_if t.1, t.0, (t.1, t.2, refl))
+  some-view (Nosy standard) bytes fit =
+      let t = have.bus_dumps standard bytes fit in (status_if t.1, t.0, (t.1, t.2, refl))
+  some-view (OfItself about) bytes fit = (0, about_text about (codes "busview") VIEW_HELP.now, (refl, refl))
 
   pub some-answer : EachInputHasAView
   some-answer words bytes fit = go (form_or_none words)

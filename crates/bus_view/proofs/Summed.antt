@@ -11,7 +11,11 @@ use Rattle.bus_view.specs.Summed.{MakeSumsUpTheScript}
 apart : (f : ScriptFault) (text : List ℕ) → ◌≡◌ {A = Told} (Err f) (Ok text) → ⊥
 apart f text e = cc
 
-pub summed : MadeScriptsHaveNoFault → MakeSumsUpTheScript
-summed good nodes seed status text few (inl is) = (is.0, (text, is.1, refl))
-summed good nodes seed status text few (inr is) =
+runs : MadeScriptsHaveNoFault → (nodes seed : ℕ) → nodes ≤ 63 → (status : ℕ) (text : List ℕ) →
+    AnswersRun (made_script nodes seed) status text → AnswersMake nodes seed status (summary text)
+runs good nodes seed few status text (inl is) = (is.0, (text, is.1, refl))
+runs good nodes seed few status text (inr is) =
     let told = good nodes seed (Err is.1.0) few is.1.1 in absurd (apart is.1.0 told.0 told.1)
+
+pub summed : MadeScriptsHaveNoFault → MakeSumsUpTheScript
+summed good nodes seed few = record { text_is = refl; summed = runs good nodes seed few }

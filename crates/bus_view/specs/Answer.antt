@@ -1,6 +1,8 @@
 -- What is answered to words and bytes.
 use Rattle.std.specs.Prelude.{◌≡◌, ℕ, List, [], codes, Option, Some, None, Ok, Err, String}
 use Rattle.std.specs.Global.{Global}
+use Rattle.about.specs.declared.asked.About.{About}
+use Rattle.about.specs.Told.{about_text}
 use Rattle.quad_lanes.specs.Capture.{capture}
 use Rattle.quad_lanes.specs.Pairs.{firsts, quads_of}
 use Rattle.phy_packet.specs.declared.packet.PhyPacket.{PhyPacket}
@@ -22,10 +24,12 @@ use Rattle.view_text.specs.Graph.{graph}
 use Rattle.bus_view.specs.declared.form.CaptureView.{CaptureView}
 use Rattle.bus_view.specs.declared.form.CaptureView.TheVariants.{Packets, Tree as Drawn, Dot}
 use Rattle.bus_view.specs.declared.form.ViewForm.{ViewForm}
-use Rattle.bus_view.specs.declared.form.ViewForm.TheVariants.{Capture, Trace, Waves, Script, ListOf, Explain}
+use Rattle.bus_view.specs.declared.form.ViewForm.TheVariants.{Capture, Trace, Waves, Script, ListOf, Explain, Resets, Nosy, OfItself}
+use Rattle.bus_view.specs.declared.help.TheConstants.{VIEW_HELP}
 use Rattle.bus_view.specs.Form.{Asks, IsForm}
 use Rattle.bus_view.specs.Sentence.{place, note}
 use Rattle.bus_view.specs.Explained.{explanation, IsExplained}
+use Rattle.bus_view.specs.Log.{IsLogView, IsDumpView}
 
 -- what a capture is read as by a standard: the tree that it spells, or its fault, as `busconf read`
 -- and `read95` have both
@@ -101,6 +105,11 @@ pub data IsListView (name bytes : List ℕ) (status : ℕ) (text : List ℕ) : T
   has_none : (fault : ScriptFault) → status ≡ 1 → IsListed bytes name (Err fault) →
       text ≡ script_line fault → IsListView name bytes status text
 
+-- what the program says of itself: the help, or the version
+abbrev pub IsViewOfItself : About → ℕ → List ℕ → Type 0
+IsViewOfItself about status text =
+    (status ≡ 0) × (text ≡ about_text about (codes "busview") VIEW_HELP.now)
+
 -- the status and the text of bytes in a form
 abbrev pub IsView : ViewForm → List ℕ → ℕ → List ℕ → Type 0
 IsView (Capture view standard) bytes status text = IsCaptureView view standard bytes status text
@@ -109,6 +118,9 @@ IsView Waves bytes status text = IsWavesView bytes status text
 IsView Explain bytes status text = IsExplainView bytes status text
 IsView (Script nodes seed) bytes status text = IsScriptView nodes seed status text
 IsView (ListOf name) bytes status text = IsListView name bytes status text
+IsView (Resets standard) bytes status text = IsLogView standard bytes status text
+IsView (Nosy standard) bytes status text = IsDumpView standard bytes status text
+IsView (OfItself about) bytes status text = IsViewOfItself about status text
 
 -- the status and the text of words and bytes
 pub data Answers (words : List (String Global)) (bytes : List ℕ) (status : ℕ)

@@ -1,13 +1,17 @@
 -- The words that the program is asked with.
-use Rattle.std.specs.Prelude.{◌≡◌, ℕ, ◌≤◌, Some, IsTrue, List, [], ◌∷◌, map, codes, string_bytes, String}
+use Rattle.std.specs.Prelude.{◌≡◌, ◌⊎◌, ℕ, ◌≤◌, Some, IsTrue, List, [], ◌∷◌, map, codes, string_bytes, String}
 use Rattle.std.specs.Global.{Global}
+use Rattle.about.specs.declared.asked.About.{About}
+use Rattle.about.specs.Asked.{AreWordsFor}
 use Rattle.self_id.specs.declared.standard.Standard.{Standard}
 use Rattle.self_id.specs.declared.standard.Standard.TheVariants.{Ieee1995, Ieee2000}
 use Rattle.script_lines.specs.Name.{is_name}
 use Rattle.script_lines.specs.Number.{number_of}
+use Rattle.reset_log.specs.Form.{AreWordsBy as AreResetsWords}
+use Rattle.nosy_dump.specs.Form.{AreWordsBy as AreNosyWords}
 use Rattle.bus_view.specs.declared.form.CaptureView.TheVariants.{Packets, Tree, Dot}
 use Rattle.bus_view.specs.declared.form.ViewForm.{ViewForm}
-use Rattle.bus_view.specs.declared.form.ViewForm.TheVariants.{Capture, Trace, Waves, Script, ListOf, Explain}
+use Rattle.bus_view.specs.declared.form.ViewForm.TheVariants.{Capture, Trace, Waves, Script, ListOf, Explain, Resets, Nosy, OfItself}
 
 -- what stands behind the word of a capture's form
 abbrev pub standard_words : Standard → List (List ℕ)
@@ -34,6 +38,9 @@ AreWordsOf Waves words = words ≡ codes "waves" ∷ []
 AreWordsOf Explain words = words ≡ codes "explain" ∷ []
 AreWordsOf (Script nodes seed) words = AreScriptWords nodes seed words
 AreWordsOf (ListOf name) words = (words ≡ codes "capture" ∷ name ∷ []) × IsTrue (is_name name)
+AreWordsOf (Resets standard) words = AreResetsWords standard words
+AreWordsOf (Nosy standard) words = AreNosyWords standard words
+AreWordsOf (OfItself about) words = AreWordsFor about words
 
 -- the words are those of the form
 abbrev pub Asks : List (String Global) → ViewForm → Type 0
@@ -46,3 +53,15 @@ IsForm words = (form : ViewForm) × Asks words form
 -- the words ask for the script that is made for some nodes and seed
 abbrev pub AsksScript : List (String Global) → Type 0
 AsksScript words = (nodes : ℕ) × (seed : ℕ) × Asks words (Script nodes seed)
+
+-- the words ask for the program's help or its version
+abbrev pub AsksOfItself : List (String Global) → Type 0
+AsksOfItself words = (about : About) × Asks words (OfItself about)
+
+-- with these words nothing is read
+abbrev pub AsksNoInput : List (String Global) → Type 0
+AsksNoInput words = AsksScript words ⊎ AsksOfItself words
+
+-- with these words the input is shown as it comes, without a limit
+abbrev pub AsksLog : List (String Global) → Type 0
+AsksLog words = (standard : Standard) × (Asks words (Resets standard) ⊎ Asks words (Nosy standard))

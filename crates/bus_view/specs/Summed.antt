@@ -1,11 +1,17 @@
 -- The script of `script N SEED` is the one that `busconf make N SEED` runs.
-use Rattle.std.specs.Prelude.{ℕ, ◌≤◌, List}
+use Rattle.std.specs.Prelude.{◌≡◌, ℕ, ◌≤◌, List}
 use Rattle.script_text.specs.Summary.{summary}
 use Rattle.script_made.specs.Made.{made_script}
 use Rattle.bus_cli.specs.Answer.{AnswersRun, AnswersMake}
 
--- whatever `busconf run` answers to the script, `busconf make` has its status and writes its summary
+-- the text is the script of these; whatever `busconf run` answers to it, `busconf make` has that status
+-- and writes the summary
+pub record IsSummedScript (nodes seed : ℕ) (text : List ℕ) : Type 0 where
+  pub text_is : text ≡ made_script nodes seed
+  pub summed : (status : ℕ) (printed : List ℕ) → AnswersRun text status printed →
+      AnswersMake nodes seed status (summary printed)
+
+-- each script that is made is such a text
 abbrev pub MakeSumsUpTheScript : Type 0
 MakeSumsUpTheScript =
-    (nodes seed status : ℕ) (text : List ℕ) → nodes ≤ 63 →
-    AnswersRun (made_script nodes seed) status text → AnswersMake nodes seed status (summary text)
+    (nodes seed : ℕ) → nodes ≤ 63 → IsSummedScript nodes seed (made_script nodes seed)

@@ -1,1 +1,3 @@
+-- No public contract cites a file of this folder.
+pub mod Log
 pub mod Reading

@@ -4,15 +4,17 @@ ghost use Rattle.std.specs.Io.KnownBytes.{IsAtEnd};
 ghost use Rattle.io_edges.specs.Faults.{Rose};
 ghost use Rattle.io_edges.specs.Told.{AreLeft, IfTold, TookOver};
 ghost use Rattle.bus_view.specs.declared.form.CaptureView.{CaptureView};
-ghost use Rattle.bus_view.specs.Answer.{IsFault, IsCaptureView, IsTraceView, IsWavesView, IsScriptView, IsListView, IsView, IsExplainView};
+ghost use Rattle.bus_view.specs.Answer.{IsFault, IsCaptureView, IsTraceView, IsWavesView, IsScriptView, IsListView, IsView, IsExplainView, IsViewOfItself};
 ghost use Rattle.bus_view.specs.Explained.{explanation_in, explanation, line_said, AreSaid, IsBehind, IsExplained};
 ghost use Rattle.script_words.specs.Before.{feed_lines};
-ghost use Rattle.bus_view.specs.codings.Reading.{IsRead, AsksFewNodes};
+ghost use Rattle.bus_view.specs.codings.Reading.{IsRead, IsHeld};
 ghost use Rattle.bus_cli.specs.Line.{fault_line};
 
 use crate::form::{CaptureView, ViewForm};
+use crate::help::VIEW_HELP;
 use crate::pairs::capture_of;
 use crate::sentence::note_of;
+use about::{About, about_text};
 use bus_cli::{
     CaptureFault, CaptureStop, MAX_INPUT, REFUSED, VALID, fault_line, read_capture, script_line,
 };
@@ -293,6 +295,16 @@ fn view_script(alloc: Global, nodes: u8, seed: u32) -> Result<View, OutOfMemory>
     })
 }
 
+/// What the program says of itself.
+fn view_of_itself(alloc: Global, about: About) -> Result<View, OutOfMemory>
+    ensures { IfOk result (λ view. IsViewOfItself about view.status view.text.items) }
+{
+    Ok(View {
+        status: VALID,
+        text: about_text(alloc, about, "busview", VIEW_HELP)?,
+    })
+}
+
 /// The view of the bytes in a form that reads them.
 fn view_of(alloc: Global, form: ViewForm, bytes: &[u8]) -> Result<View, OutOfMemory>
     requires read { IsRead form }
@@ -308,6 +320,9 @@ fn view_of(alloc: Global, form: ViewForm, bytes: &[u8]) -> Result<View, OutOfMem
         ViewForm::Explain => view_explain(alloc, bytes),
         ViewForm::ListOf(name) => view_list(alloc, &name, bytes),
         ViewForm::Script { .. } => unreachable!(),
+        ViewForm::Resets(_) => unreachable!(),
+        ViewForm::Nosy(_) => unreachable!(),
+        ViewForm::OfItself(_) => unreachable!(),
     }
 }
 
@@ -330,13 +345,13 @@ fn view_all<S: Source>(alloc: Global, form: ViewForm, source: &mut S) -> Result<
 }
 
 /// The view of what a source gives, in a form: it reads the source to its end, unless the form is
-/// `script`, with which it reads nothing.
+/// `script` or asks for something of the program itself, with which it reads nothing.
 pub(crate) fn read_view<S: Source>(
     alloc: Global,
     form: ViewForm,
     source: &mut S,
 ) -> Result<View, ReadStop>
-    requires { AsksFewNodes form }
+    requires { IsHeld form }
     ensures answer { IfOk result (λ view. (bytes : List ℕ) × AreLeft (S.left source.old) bytes
         × IsView form bytes view.status view.text.items) }
     ensures end { OnOk result (IsRead form → IsAtEnd (S.left source.new)) }
@@ -354,6 +369,7 @@ pub(crate) fn read_view<S: Source>(
 {
     match form {
         ViewForm::Script { nodes, seed } => Ok(view_script(alloc, nodes, seed)?),
+        ViewForm::OfItself(about) => Ok(view_of_itself(alloc, about)?),
         form => view_all(alloc, form, source),
     }
 }

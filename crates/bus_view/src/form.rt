@@ -3,6 +3,7 @@ ghost use Rattle.std.specs.Prelude.{◌≡◌, ◌∷◌, [], ◌↔◌, codes};
 ghost use Rattle.bus_view.specs.Form.{AreWordsOf, Asks};
 ghost use Rattle.bus_view.specs.declared.form.ViewForm.{ViewForm};
 
+use about::About;
 use script_lines::{names_are_tested, number_of};
 use self_id::Standard;
 use topology_stack::Name;
@@ -36,6 +37,13 @@ pub enum ViewForm {
     /// `capture NAME`: the self-ID packets that a bus analyser would have recorded on the bus of a
     /// script, in the part with the node of this name.
     ListOf(Name),
+    /// `resets`: the bus at each reset in a Linux kernel's trace, which is read by IEEE 1394a-2000, or
+    /// with `--1995` behind the word by IEEE Std 1394-1995.
+    Resets(Standard),
+    /// `nosy`: the bus at each reset in a recording of `nosy-dump`, by the same words.
+    Nosy(Standard),
+    /// `--help`, `-h` or `--version`: what the program says of itself. Nothing is read.
+    OfItself(About),
 }
 
 impl ViewForm {
@@ -50,6 +58,10 @@ impl ViewForm {
             "trace" => Some(ViewForm::Trace),
             "waves" => Some(ViewForm::Waves),
             "explain" => Some(ViewForm::Explain),
+            "resets" => Some(ViewForm::Resets(Standard::Ieee2000)),
+            "nosy" => Some(ViewForm::Nosy(Standard::Ieee2000)),
+            "--help" | "-h" => Some(ViewForm::OfItself(About::Help)),
+            "--version" => Some(ViewForm::OfItself(About::Version)),
             _ => None,
         }
     }
@@ -74,6 +86,8 @@ impl ViewForm {
             }
             ("tree", "--1995") => Some(ViewForm::Capture(CaptureView::Tree, Standard::Ieee1995)),
             ("dot", "--1995") => Some(ViewForm::Capture(CaptureView::Dot, Standard::Ieee1995)),
+            ("resets", "--1995") => Some(ViewForm::Resets(Standard::Ieee1995)),
+            ("nosy", "--1995") => Some(ViewForm::Nosy(Standard::Ieee1995)),
             ("capture", name) => ViewForm::of_capture(name.as_bytes()),
             _ => None,
         }

@@ -5,9 +5,11 @@ ghost use Rattle.bus_view.specs.OneAnswer.{EachInputHasAView, NoInputHasTwoViews
 
 use bus_cli::one_reading;
 use cable_world::acts_keep;
+use nosy_dump::dumps_have_one_text;
+use reset_log::logs_have_one_text;
 use script_bus::each_script_has_a_run;
 use script_made::made_scripts_have_no_fault;
-use script_told::{reported_trees_are_managed, scripts_tell_one_thing};
+use script_told::{reported_trees_are_managed, reports_are_settled, scripts_tell_one_thing};
 use script_trace::scripts_have_one_trace;
 use script_waves::scripts_have_one_dump;
 use topology_stack::one_tree;
@@ -22,6 +24,8 @@ pub fn one_view()
     scripts_have_one_trace();
     scripts_have_one_dump();
     each_script_has_a_run();
+    logs_have_one_text();
+    dumps_have_one_text();
 }
 
 /// A law: what `busconf run` answers to the script of `script N SEED` is a text, and `busconf make N
@@ -33,7 +37,7 @@ pub fn make_sums_up_the_script()
 }
 
 /// A law: what `capture NAME` writes at status 0 is read by `busconf read` as the tree that stands in the
-/// script's last report, names aside.
+/// script's last report, names aside. The script's last command prints that report.
 pub fn captures_are_of_reports()
     ensures fit { ListsFit }
     ensures read { CapturesAreOfReports }
@@ -42,4 +46,5 @@ pub fn captures_are_of_reports()
     one_tree();
     acts_keep();
     reported_trees_are_managed();
+    reports_are_settled();
 }

@@ -1,13 +1,16 @@
-//! The top call of `busview`: words and the bytes of a capture in, a status and a view out.
+//! The top call of `busview`: words and the bytes of an input in, a status and a view out.
 #![tactic(auto)]
 
 mod answer;
 mod form;
+mod help;
 mod laws;
+mod logs;
 mod pairs;
 mod sentence;
 mod top;
 
 pub use form::{CaptureView, VIEW_USAGE, ViewForm};
+pub use help::VIEW_HELP;
 pub use laws::{captures_are_of_reports, make_sums_up_the_script, one_view};
 pub use top::view_main;

@@ -1,47 +1,58 @@
 //! The top call.
-ghost use Rattle.std.specs.Prelude.{◌≡◌, ◌≢◌, ℕ, ◌≤◌, ◌⊎◌, ◌↔◌, List, length, Ok, IfSome};
+ghost use Rattle.std.specs.Prelude.{◌≡◌, ◌≢◌, ℕ, ◌≤◌, ◌⊎◌, ◌↔◌, List, length, IfSome};
 ghost use Rattle.std.specs.Io.KnownBytes.{Appends, IsAtEnd};
 ghost use Rattle.io_edges.specs.Faults.{Rose};
 ghost use Rattle.io_edges.specs.Told.{AppendsStart, IfTold, TookOver};
 ghost use Rattle.script_made.specs.Made.{made_script};
-ghost use Rattle.script_trace.specs.Trace.{IsTrace};
-ghost use Rattle.script_waves.specs.Waves.{IsWaves};
+ghost use Rattle.about.specs.declared.asked.About.{About};
+ghost use Rattle.self_id.specs.declared.standard.Standard.{Standard};
+ghost use Rattle.nosy_dump.specs.Dump.{IsBegun};
+ghost use Rattle.bus_cli.specs.Streams.{IsWritten, KeepsStreams};
+ghost use Rattle.bus_view.specs.declared.form.CaptureView.{CaptureView};
 ghost use Rattle.bus_view.specs.declared.form.ViewForm.{ViewForm};
-ghost use Rattle.bus_view.specs.Form.{Asks, AsksScript, IsForm};
-ghost use Rattle.bus_view.specs.Answer.{Answers};
-ghost use Rattle.bus_view.specs.Captured.{CapturesAreOfReports};
-ghost use Rattle.bus_view.specs.Summed.{MakeSumsUpTheScript};
-ghost use Rattle.bus_cli.specs.Streams.{KeepsStreams};
+ghost use Rattle.bus_view.specs.Form.{Asks, AsksLog, AsksNoInput, IsForm};
+ghost use Rattle.bus_view.specs.Answer.{IsCaptureView, IsTraceView, IsWavesView, IsExplainView};
+ghost use Rattle.bus_view.specs.Answer.{Answers, IsViewOfItself};
+ghost use Rattle.bus_view.specs.Log.{IsLogView, IsDumpView, IsLogBegun, ShowsAsItComes};
+ghost use Rattle.bus_view.specs.Captured.{AnswersCapture};
+ghost use Rattle.bus_view.specs.Summed.{IsSummedScript};
 
 use crate::answer::read_view;
 use crate::form::ViewForm;
 use crate::laws::{captures_are_of_reports, make_sums_up_the_script, one_view};
+use crate::logs::{show_nosy, show_resets};
 use bus_cli::{NO_FORM, NO_MEMORY, READ_FAULT, TOO_LONG, WRITE_FAULT};
 use io_edges::{ReadStop, Sink, Source, write_whole};
+use nosy_dump::dump_standard;
+use reset_log::resets_standard;
 use std::alloc::Global;
 
-/// Answers the words, as `view_main` has it.
+/// Answers words that ask for no log and no dump, as `view_main` has it.
 fn view_words<S: Source, K: Sink>(
     alloc: Global,
     words: &[String],
     source: &mut S,
     sink: &mut K,
 ) -> u8
+    requires { ¬ AsksLog words.now }
     ensures status { result ≤ 6 }
     ensures answer { (result ≡ 0) ⊎ (result ≡ 1) → IfSome (S.left source.old) (λ bytes.
         (text : List ℕ) × Answers words.now bytes result text
         × Appends (K.written sink.old) (K.written sink.new) text) }
-    ensures end { (result ≡ 0) ⊎ (result ≡ 1) ⊎ (result ≡ 4) → (¬ AsksScript words.now) →
+    ensures end { (result ≡ 0) ⊎ (result ≡ 1) ⊎ (result ≡ 4) → (¬ AsksNoInput words.now) →
         IsAtEnd (S.left source.new) }
-    ensures unfailing { AsksScript words.now → (result ≢ 1) × (result ≢ 3) × (result ≢ 6) }
+    ensures unfailing { AsksNoInput words.now → (result ≢ 1) × (result ≢ 3) × (result ≢ 6) }
     ensures script { (nodes seed : ℕ) → Asks words.now (ViewForm.Script nodes seed) → result ≡ 0 →
         Appends (K.written sink.old) (K.written sink.new) (made_script nodes seed) }
+    ensures itself { (about : About) → Asks words.now (ViewForm.OfItself about) → result ≡ 0 →
+        (text : List ℕ) × IsViewOfItself about 0 text
+        × Appends (K.written sink.old) (K.written sink.new) text }
     ensures no_form { (result ≡ 2) ↔ (¬ IsForm words.now) }
     ensures read_fault { result ≡ 3 → Rose (S.faults source.old) (S.faults source.new) }
     ensures write_fault { result ≡ 4 → Rose (K.faults sink.old) (K.faults sink.new) }
     ensures too_long { IfTold (S.left source.old) (S.left source.new) (λ old new.
         (result ≡ 6) ↔ TookOver 1048576 old new) }
-    ensures unread { (result ≡ 2) ⊎ AsksScript words.now → source.new ≡ source.old }
+    ensures unread { (result ≡ 2) ⊎ AsksNoInput words.now → source.new ≡ source.old }
     ensures unwritten { 2 ≤ result → result ≢ 4 → sink.new ≡ sink.old }
     ensures part { result ≡ 4 → IfSome (S.left source.old) (λ bytes.
         (status : ℕ) × (text : List ℕ) × Answers words.now bytes status text
@@ -74,22 +85,59 @@ fn view_words<S: Source, K: Sink>(
     }
 }
 
+/// Answers the words, as `view_main` has it.
+fn view_asked<S: Source, K: Sink>(
+    alloc: Global,
+    words: &[String],
+    source: &mut S,
+    sink: &mut K,
+) -> u8
+    ensures streams { (¬ AsksLog words.now) → KeepsStreams
+        S.left S.faults K.written K.faults K.surely_takes (AsksNoInput words.now)
+        (Answers words.now) result source.old source.new sink.old sink.new }
+    ensures no_form { (result ≡ 2) ↔ (¬ IsForm words.now) }
+    ensures resets { (standard : Standard) → Asks words.now (ViewForm.Resets standard) →
+        ShowsAsItComes S.left S.faults K.written K.faults K.surely_takes
+        ((result ≡ 0) ⊎ (result ≡ 1)) (IsLogView standard) (IsLogBegun standard)
+        result source.old source.new sink.old sink.new }
+    ensures nosy { (standard : Standard) → Asks words.now (ViewForm.Nosy standard) →
+        ShowsAsItComes S.left S.faults K.written K.faults K.surely_takes
+        (result ≡ 0) (IsDumpView standard) (IsBegun standard)
+        result source.old source.new sink.old sink.new }
+    ensures unfailing { AsksNoInput words.now → (result ≢ 1) × (result ≢ 3) × (result ≢ 6) }
+    ensures script { (nodes seed : ℕ) → Asks words.now (ViewForm.Script nodes seed) → result ≡ 0 →
+        Appends (K.written sink.old) (K.written sink.new) (made_script nodes seed) }
+    ensures itself { (about : About) → Asks words.now (ViewForm.OfItself about) → result ≡ 0 →
+        (text : List ℕ) × IsViewOfItself about 0 text
+        × Appends (K.written sink.old) (K.written sink.new) text }
+{
+    one_view();
+    if let Some(standard) = resets_standard(words) {
+        return show_resets(alloc, standard, source, sink);
+    }
+    if let Some(standard) = dump_standard(words) {
+        return show_nosy(alloc, standard, source, sink);
+    }
+    view_words(alloc, words, source, sink)
+}
+
 /// Does what the words after the program's name ask for: reads a capture or a script from `source`,
 /// writes the view of it to `sink`, and answers the exit status, which is one of `bus_cli`.
 ///
 /// | status | comes |
 /// |---|---|
-/// | 0 | the capture was read to its end and spells a tree, or the script has no fault, and the whole view was written; or, with `script`, the whole script that is made |
-/// | 1 | the capture was read to its end and is refused, as `busconf read` refuses it; with `packets` all its pairs were written, with the line of the fault and a sentence on it below the pair at fault, with the other forms the line alone. Or the script is refused, as `busconf run` refuses it, and the line of its fault was written |
+/// | 0 | the capture was read to its end and spells a tree, or the script has no fault, and the whole view was written; or, with `script`, the whole script that is made; or all resets of a log or a dump without fault; or the whole help or version |
+/// | 1 | the capture was read to its end and is refused, as `busconf read` refuses it; with `packets` all its pairs were written, with the line of the fault and a sentence on it below the pair at fault, with the other forms the line alone. Or the script is refused, as `busconf run` refuses it, and the line of its fault was written. Or something in a log or a dump is at fault, and all that is shown of it was written |
 /// | 2 | the words are none of the forms; nothing was read or written |
-/// | 3 | the source failed; nothing was written |
+/// | 3 | the source failed; nothing was written, but of a log or a dump what came before |
 /// | 4 | the sink failed; the first bytes of the text were written, or none |
-/// | 5 | there was no memory; nothing was written |
-/// | 6 | the input has more than 1,048,576 bytes; nothing was written |
+/// | 5 | there was no memory; nothing was written, but of a log or a dump the first bytes of what is shown |
+/// | 6 | the input has more than 1,048,576 bytes; nothing was written. Or a log or a dump has more than 9,223,372,036,854,775,807 bytes |
 ///
 /// The words are judged first, without memory; then the input is read to its end; then it is judged;
-/// and only then is anything written. What is said of the input holds where the source tells its
-/// bytes. With `script` nothing is read, and neither 1 nor 3 nor 6 comes.
+/// and only then is anything written. A log and a dump are written as they come. What is said of the
+/// input holds where the source tells its bytes. With `script`, `--help`, `-h` and `--version` nothing
+/// is read, and neither 1 nor 3 nor 6 comes.
 pub fn view_main<S: Source, K: Sink>(
     alloc: Global,
     words: &[String],
@@ -97,34 +145,65 @@ pub fn view_main<S: Source, K: Sink>(
     sink: &mut K,
 ) -> u8
     // The answer to the words and the bytes, which there is, is written, unless another status has
-    // its cause.
-    ensures streams { KeepsStreams S.left S.faults K.written K.faults K.surely_takes
-        (AsksScript words.now) (Answers words.now) result source.old source.new sink.old sink.new }
+    // its cause. Of a log and a dump, which have no limit of 1,048,576 bytes, that is said below.
+    ensures streams { (¬ AsksLog words.now) → KeepsStreams
+        S.left S.faults K.written K.faults K.surely_takes (AsksNoInput words.now)
+        (Answers words.now) result source.old source.new sink.old sink.new }
     ensures no_form { (result ≡ 2) ↔ (¬ IsForm words.now) }
 
-    // With `trace`, what is written at status 0 is the trace of the script.
-    ensures trace { result ≡ 0 → Asks words.now ViewForm.Trace → IfSome (S.left source.old)
-        (λ bytes. (lines : List ℕ) × IsTrace bytes (Ok lines)
-        × Appends (K.written sink.old) (K.written sink.new) lines) }
+    // With `packets`, `tree` and `dot` it is that view of the capture by the standard, or of its
+    // fault.
+    ensures packets { (standard : Standard) →
+        Asks words.now (ViewForm.Capture CaptureView.Packets standard) →
+        IsWritten (IsCaptureView CaptureView.Packets standard)
+        result (S.left source.old) (K.written sink.old) (K.written sink.new) }
+    ensures tree { (standard : Standard) →
+        Asks words.now (ViewForm.Capture CaptureView.Tree standard) →
+        IsWritten (IsCaptureView CaptureView.Tree standard)
+        result (S.left source.old) (K.written sink.old) (K.written sink.new) }
+    ensures dot { (standard : Standard) →
+        Asks words.now (ViewForm.Capture CaptureView.Dot standard) →
+        IsWritten (IsCaptureView CaptureView.Dot standard)
+        result (S.left source.old) (K.written sink.old) (K.written sink.new) }
 
-    // With `waves` it is the dump of the script.
-    ensures waves { result ≡ 0 → Asks words.now ViewForm.Waves → IfSome (S.left source.old)
-        (λ bytes. (dump : List ℕ) × IsWaves bytes (Ok dump)
-        × Appends (K.written sink.old) (K.written sink.new) dump) }
-
-    // With `script` it is the script that is made for the nodes and the seed. What `busconf run`
-    // answers to that has no fault, and `busconf make` writes its summary.
-    ensures unfailing { AsksScript words.now → (result ≢ 1) × (result ≢ 3) × (result ≢ 6) }
-    ensures script { (nodes seed : ℕ) → Asks words.now (ViewForm.Script nodes seed) → result ≡ 0 →
-        Appends (K.written sink.old) (K.written sink.new) (made_script nodes seed) }
-    ensures summed { MakeSumsUpTheScript }
+    // With `trace` it is the trace of the script, with `waves` its dump, and with `explain` what is
+    // said of its faults, or the explanation of the script's fault.
+    ensures trace { Asks words.now ViewForm.Trace → IsWritten IsTraceView
+        result (S.left source.old) (K.written sink.old) (K.written sink.new) }
+    ensures waves { Asks words.now ViewForm.Waves → IsWritten IsWavesView
+        result (S.left source.old) (K.written sink.old) (K.written sink.new) }
+    ensures explain { Asks words.now ViewForm.Explain → IsWritten IsExplainView
+        result (S.left source.old) (K.written sink.old) (K.written sink.new) }
 
     // With `capture` it is the capture of the list of a script's node, which `busconf read` reads as
-    // the tree in the script's last report.
-    ensures captured { CapturesAreOfReports }
+    // the tree that the script's last command reports, or the line of the fault.
+    ensures capture { (name : List ℕ) → Asks words.now (ViewForm.ListOf name) →
+        IsWritten (AnswersCapture name)
+        result (S.left source.old) (K.written sink.old) (K.written sink.new) }
+
+    // With `resets` and `nosy` it is what is shown of the log or the dump by the standard, while it comes.
+    // A log is read to its end, and a dump up to a record with a length that can't be.
+    ensures resets { (standard : Standard) → Asks words.now (ViewForm.Resets standard) →
+        ShowsAsItComes S.left S.faults K.written K.faults K.surely_takes
+        ((result ≡ 0) ⊎ (result ≡ 1)) (IsLogView standard) (IsLogBegun standard)
+        result source.old source.new sink.old sink.new }
+    ensures nosy { (standard : Standard) → Asks words.now (ViewForm.Nosy standard) →
+        ShowsAsItComes S.left S.faults K.written K.faults K.surely_takes
+        (result ≡ 0) (IsDumpView standard) (IsBegun standard)
+        result source.old source.new sink.old sink.new }
+
+    // With `script` there is no fault, and what is written at status 0 is the script that is made for
+    // the nodes and the seed. What `busconf run` answers to it has no fault, and `busconf make` writes
+    // its summary. With `--help` and `-h` it is the help, and with `--version` the version.
+    ensures unfailing { AsksNoInput words.now → (result ≢ 1) × (result ≢ 3) × (result ≢ 6) }
+    ensures script { (nodes seed : ℕ) → Asks words.now (ViewForm.Script nodes seed) → result ≡ 0 →
+        (text : List ℕ) × IsSummedScript nodes seed text
+        × Appends (K.written sink.old) (K.written sink.new) text }
+    ensures itself { (about : About) → Asks words.now (ViewForm.OfItself about) → result ≡ 0 →
+        (text : List ℕ) × IsViewOfItself about 0 text
+        × Appends (K.written sink.old) (K.written sink.new) text }
 {
-    one_view();
     make_sums_up_the_script();
     captures_are_of_reports();
-    view_words(alloc, words, source, sink)
+    view_asked(alloc, words, source, sink)
 }

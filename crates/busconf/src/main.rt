@@ -2,16 +2,12 @@
 #![tactic(auto)]
 
 mod front;
-mod help;
 
-use about::{About, KIT, STANDARDS, VERSION};
 use bus_cli::{
-    MAX_INPUT, NO_FORM, NO_MEMORY, READ_FAULT, REFUSED, TOO_LONG, USAGE, VALID, WRITE_FAULT,
-    bus_main,
+    MAX_INPUT, NO_FORM, NO_MEMORY, READ_FAULT, REFUSED, TOO_LONG, USAGE, WRITE_FAULT, bus_main,
 };
 use capture_hint::{Likeness, likeness_of};
 use front::FrontSource;
-use help::HELP;
 use io_edges::{ReadSource, WriteSink};
 use std::process::ExitCode;
 use std::rt::Env;
@@ -23,18 +19,6 @@ fn words_of<R: Env + AllocGlobal>(rt: &R) -> io::Result<Vec<String>> {
     let _name = args.next();
     let words = args.collect(rt.alloc())?;
     Ok(words)
-}
-
-/// Writes what the program says of itself, and answers the status.
-fn tell(rt: &impl Print, about: About) -> u8 {
-    let told = match about {
-        About::Help => print!(rt; "{HELP}"),
-        About::Version => println!(rt; "busconf {VERSION}\nkit {KIT}\n{STANDARDS}"),
-    };
-    match told {
-        Ok(()) => VALID,
-        Err(_) => WRITE_FAULT,
-    }
 }
 
 /// Whether the words ask for a ROM.
@@ -60,16 +44,13 @@ fn rom(rt: &HostRuntime, words: &[String]) -> u8 {
     status
 }
 
-/// The status of the program with its words. What it is asked of itself is answered here, and all else by the top call.
+/// The status of the program with its words, which the top call answers.
 fn status_of(rt: &HostRuntime) -> u8 {
     let words = match words_of(rt) {
         Ok(words) => words,
         Err(error) if error.kind() == io::ErrorKind::OutOfMemory => return NO_MEMORY,
         Err(_) => return NO_FORM,
     };
-    if let Some(about) = About::of_words(&words) {
-        return tell(rt, about);
-    }
     if is_rom(&words) {
         return rom(rt, &words);
     }

@@ -2,17 +2,11 @@
 #![tactic(auto)]
 
 mod front;
-mod help;
 
-use about::{About, KIT, STANDARDS, VERSION};
-use bus_cli::{MAX_INPUT, NO_FORM, NO_MEMORY, READ_FAULT, REFUSED, TOO_LONG, VALID, WRITE_FAULT};
-use bus_view::{VIEW_USAGE, view_main};
+use bus_cli::{MAX_INPUT, NO_FORM, NO_MEMORY, READ_FAULT, REFUSED, TOO_LONG, WRITE_FAULT};
+use bus_view::{CaptureView, VIEW_USAGE, ViewForm, view_main};
 use front::{FrontSink, FrontSource};
-use help::HELP;
 use io_edges::{ReadSource, WriteSink, write_whole};
-use nosy_dump::{dump_standard, show_dump};
-use reset_log::{LogStop, resets_standard, show_log};
-use self_id::Standard;
 use std::process::ExitCode;
 use std::rt::Env;
 use std::{env, io};
@@ -23,18 +17,6 @@ fn words_of<R: Env + AllocGlobal>(rt: &R) -> io::Result<Vec<String>> {
     let _name = args.next();
     let words = args.collect(rt.alloc())?;
     Ok(words)
-}
-
-/// Writes what the program says of itself, and answers the status.
-fn tell(rt: &impl Print, about: About) -> u8 {
-    let told = match about {
-        About::Help => print!(rt; "{HELP}"),
-        About::Version => println!(rt; "busview {VERSION}\nkit {KIT}\n{STANDARDS}"),
-    };
-    match told {
-        Ok(()) => VALID,
-        Err(_) => WRITE_FAULT,
-    }
 }
 
 /// All that is shown of a log without an event.
@@ -63,11 +45,12 @@ fn why_no_event(front: &[u8]) -> &'static str {
     }
 }
 
-/// Shows the resets of a log as it comes, and answers the status.
-fn resets(rt: &HostRuntime, standard: Standard) -> u8 {
+/// Answers words that ask for the resets of a log by the top call, and says on standard error where the log has no
+/// event.
+fn resets(rt: &HostRuntime, words: &[String]) -> u8 {
     let mut source = FrontSource::new(rt.alloc(), ReadSource::new(rt.stdin()));
     let mut sink = FrontSink::new(rt.alloc(), WriteSink::new(rt.stdout()));
-    let status = status_shown(show_log(rt.alloc(), standard, &mut source, &mut sink));
+    let status = view_main(rt.alloc(), words, &mut source, &mut sink);
     if sink.front() == NO_RESETS {
         // A standard error that can't be written changes no status.
         let _ = eprintln!(rt; "{}", why_no_event(source.front()));
@@ -75,34 +58,7 @@ fn resets(rt: &HostRuntime, standard: Standard) -> u8 {
     status
 }
 
-/// Shows the resets of a dump as it comes, and answers the status.
-fn nosy(rt: &HostRuntime, standard: Standard) -> u8 {
-    let mut source = ReadSource::new(rt.stdin());
-    let mut sink = WriteSink::new(rt.stdout());
-    status_shown(show_dump(rt.alloc(), standard, &mut source, &mut sink))
-}
-
-/// The status of a log or a dump that was shown.
-fn status_shown(shown: Result<bool, LogStop>) -> u8 {
-    match shown {
-        Ok(false) => VALID,
-        Ok(true) => REFUSED,
-        Err(LogStop::ReadFault) => READ_FAULT,
-        Err(LogStop::WriteFault) => WRITE_FAULT,
-        Err(LogStop::TooLong) => TOO_LONG,
-        Err(LogStop::Memory(_)) => NO_MEMORY,
-    }
-}
-
-/// Whether the words are of a form that is made for another program to read.
-fn is_piped(words: &[String]) -> bool {
-    match words {
-        [word, ..] => word.as_str() == "dot" || word.as_str() == "waves",
-        [] => false,
-    }
-}
-
-/// Answers such words by the top call, and says a refusal on standard error too.
+/// Answers words whose text another program reads by the top call, and says a refusal on standard error too.
 fn piped(rt: &HostRuntime, words: &[String]) -> u8 {
     let mut source = ReadSource::new(rt.stdin());
     let mut sink = FrontSink::new(rt.alloc(), WriteSink::new(rt.stdout()));
@@ -115,29 +71,25 @@ fn piped(rt: &HostRuntime, words: &[String]) -> u8 {
     status
 }
 
-/// The status of the program with its words. What it is asked of itself is answered here, a log and a dump by calls
-/// of their own, and all else by the top call.
+/// Answers words by the top call alone.
+fn view(rt: &HostRuntime, words: &[String]) -> u8 {
+    let mut source = ReadSource::new(rt.stdin());
+    let mut sink = WriteSink::new(rt.stdout());
+    view_main(rt.alloc(), words, &mut source, &mut sink)
+}
+
+/// The status of the program with its words, which the top call answers.
 fn status_of(rt: &HostRuntime) -> u8 {
     let words = match words_of(rt) {
         Ok(words) => words,
         Err(error) if error.kind() == io::ErrorKind::OutOfMemory => return NO_MEMORY,
         Err(_) => return NO_FORM,
     };
-    if let Some(about) = About::of_words(&words) {
-        return tell(rt, about);
+    match ViewForm::of_words(&words) {
+        Some(ViewForm::Resets(_)) => resets(rt, &words),
+        Some(ViewForm::Waves | ViewForm::Capture(CaptureView::Dot, _)) => piped(rt, &words),
+        _ => view(rt, &words),
     }
-    if let Some(standard) = resets_standard(&words) {
-        return resets(rt, standard);
-    }
-    if let Some(standard) = dump_standard(&words) {
-        return nosy(rt, standard);
-    }
-    if is_piped(&words) {
-        return piped(rt, &words);
-    }
-    let mut source = ReadSource::new(rt.stdin());
-    let mut sink = WriteSink::new(rt.stdout());
-    view_main(rt.alloc(), &words, &mut source, &mut sink)
 }
 
 /// Says on standard error why nothing was written, or not all.

@@ -8,7 +8,7 @@ use Rattle.script_text.specs.Maps.{IsMapsText}
 use Rattle.bus_cli.specs.declared.answer.Answer.{Answer}
 use Rattle.bus_cli.specs.declared.answer.Answer.TheVariants.{Valid, Refused}
 use Rattle.bus_cli.specs.declared.form.Form.{Form}
-use Rattle.bus_cli.specs.declared.form.Form.TheVariants.{Capture, Rom, Run, Advice, Make}
+use Rattle.bus_cli.specs.declared.form.Form.TheVariants.{Capture, Rom, Run, Advice, Make, OfItself}
 use Rattle.bus_cli.specs.declared.form.CaptureForm.{CaptureForm}
 use Rattle.bus_cli.specs.declared.form.CaptureForm.TheVariants.{Read, Read95, Maps}
 use Rattle.bus_cli.specs.declared.fault.CaptureStop.{CaptureStop}
@@ -22,6 +22,7 @@ IsRead Rom = Unit {0}
 IsRead Run = Unit {0}
 IsRead Advice = Unit {0}
 IsRead (Make nodes seed) = ⊥
+IsRead (OfItself about) = ⊥
 
 -- the form asks for 1 to 63 nodes, where it asks for nodes
 abbrev pub AsksFewNodes : Form → Type 0
@@ -30,6 +31,7 @@ AsksFewNodes Rom = Unit {0}
 AsksFewNodes Run = Unit {0}
 AsksFewNodes Advice = Unit {0}
 AsksFewNodes (Make nodes seed) = (1 ≤ nodes) × (nodes ≤ 63)
+AsksFewNodes (OfItself about) = Unit {0}
 
 -- by a standard the bytes spell the tree or have the fault; of want of memory nothing is said
 abbrev pub Reads : Standard → List ℕ → Result Tree CaptureStop → Type 0

@@ -1,9 +1,9 @@
 -- Which forms read an input. No public contract cites this file.
 use Rattle.std.specs.Prelude.{◌≤◌}
 use Rattle.bus_view.specs.declared.form.ViewForm.{ViewForm}
-use Rattle.bus_view.specs.declared.form.ViewForm.TheVariants.{Capture, Trace, Waves, Script, ListOf, Explain}
+use Rattle.bus_view.specs.declared.form.ViewForm.TheVariants.{Capture, Trace, Waves, Script, ListOf, Explain, Resets, Nosy, OfItself}
 
--- the input is read with this form
+-- the whole input is read with this form before anything is written
 abbrev pub IsRead : ViewForm → Type 0
 IsRead (Capture view standard) = Unit {0}
 IsRead Trace = Unit {0}
@@ -11,12 +11,19 @@ IsRead Waves = Unit {0}
 IsRead Explain = Unit {0}
 IsRead (Script nodes seed) = ⊥
 IsRead (ListOf name) = Unit {0}
+IsRead (Resets standard) = ⊥
+IsRead (Nosy standard) = ⊥
+IsRead (OfItself about) = ⊥
 
--- the form asks for 1 to 63 nodes, where it asks for nodes
-abbrev pub AsksFewNodes : ViewForm → Type 0
-AsksFewNodes (Capture view standard) = Unit {0}
-AsksFewNodes Trace = Unit {0}
-AsksFewNodes Waves = Unit {0}
-AsksFewNodes Explain = Unit {0}
-AsksFewNodes (Script nodes seed) = (1 ≤ nodes) × (nodes ≤ 63)
-AsksFewNodes (ListOf name) = Unit {0}
+-- the form is answered by a text that is made before anything is written, and where it asks for nodes, for
+-- 1 to 63
+abbrev pub IsHeld : ViewForm → Type 0
+IsHeld (Capture view standard) = Unit {0}
+IsHeld Trace = Unit {0}
+IsHeld Waves = Unit {0}
+IsHeld Explain = Unit {0}
+IsHeld (Script nodes seed) = (1 ≤ nodes) × (nodes ≤ 63)
+IsHeld (ListOf name) = Unit {0}
+IsHeld (Resets standard) = ⊥
+IsHeld (Nosy standard) = ⊥
+IsHeld (OfItself about) = Unit {0}

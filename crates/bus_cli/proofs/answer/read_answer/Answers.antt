@@ -1,4 +1,4 @@
-use Rattle.bus_cli.specs.declared.form.Form.TheVariants.{Rom, Advice, Make}
+use Rattle.bus_cli.specs.declared.form.Form.TheVariants.{Rom, Advice, Make, OfItself}
 use Rattle.bus_cli.specs.codings.Reading.{status_with, text_with}
 use Rattle.bus_cli.proofs.Ends.{some_left, of_known}
 use Rattle.bus_cli.proofs.answer.read_answer.Goals as goal
@@ -9,6 +9,14 @@ returns-in_ok-answer_to_make-in-Make-clause-answer g c =
     let answer = c.in_ok-answer_to_make-in-Make.field-0 in
     let make = Make c.in-Make.nodes c.in-Make.seed in
     let is = of_known c.args.form make c.in-Make.is left.0 (status_with answer) (text_with answer) c.in_ok-answer_to_make-in-Make.ensures in
+    (left.0, left.1, is)
+
+pub returns-in_ok-answer_of_itself-in-OfItself-clause-answer :
+    goal.returns-in_ok-answer_of_itself-in-OfItself-clause-answer
+returns-in_ok-answer_of_itself-in-OfItself-clause-answer g c =
+    let left = some_left (g.S.Source.left c.args.source.now) in
+    let answer = c.in_ok-answer_of_itself-in-OfItself.field-0 in
+    let is = of_known c.args.form (OfItself c.in-OfItself.about) c.in-OfItself.is left.0 (status_with answer) (text_with answer) c.in_ok-answer_of_itself-in-OfItself.ensures in
     (left.0, left.1, is)
 
 pub returns-in_ok-answer_to_rom-in-Rom-clause-answer : goal.returns-in_ok-answer_to_rom-in-Rom-clause-answer

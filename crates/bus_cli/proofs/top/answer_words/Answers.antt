@@ -5,7 +5,7 @@ use Rattle.bus_cli.specs.codings.Reading.{status_with, text_with}
 use Rattle.bus_cli.proofs.Forms.{few_nodes, is_read, is_unread}
 use Rattle.bus_cli.specs.Answer.{Answers}
 use Rattle.bus_cli.proofs.Answering.{part_written, whole_written, exact_status, no_form_exact, no_form_complete}
-use Rattle.bus_cli.proofs.Ends.{written, or_else, taken_surely, no_form_answers, not_two, made_status, made_text}
+use Rattle.bus_cli.proofs.Ends.{written, or_else, taken_surely, no_form_answers, not_two, no_input_status, made_text, itself_text}
 use Rattle.bus_cli.proofs.top.answer_words.Goals as goal
 
 pub returns-in-Err-Memory-clause-memory : goal.returns-in-Err-Memory-clause-memory
@@ -127,7 +127,7 @@ returns-in-Ok-write_whole-clause-unfailing g c = λ make.
     let status = status_with c.in-Ok.answer in
     let text = text_with c.in-Ok.answer in
     let answers : Answers c.args.words.now told.0 status text = inl (c.in-Some.form, asks, told.2) in
-    let zero : c.status.result ≡ 0 = c.status.ensures ∙ made_status c.args.words.now told.0 status text make answers in
+    let zero : c.status.result ≡ 0 = c.status.ensures ∙ no_input_status c.args.words.now told.0 status text make answers in
     (λ e. cc, λ e. cc, λ e. cc)
 
 pub returns-in-Ok-write_whole-clause-make : goal.returns-in-Ok-write_whole-clause-make
@@ -139,3 +139,13 @@ returns-in-Ok-write_whole-clause-make g c = λ nodes seed make zero.
     let answers : Answers c.args.words.now told.0 status text = inl (c.in-Some.form, asks, told.2) in
     let whole = rw c.text.ensures at c.in-Ok-write_whole.ensures.ok in
     (text, made_text c.args.words.now nodes seed told.0 status text make answers, whole)
+
+pub returns-in-Ok-write_whole-clause-itself : goal.returns-in-Ok-write_whole-clause-itself
+returns-in-Ok-write_whole-clause-itself g c = λ about itself zero.
+    let told = c.in-Ok.ensures.answer in
+    let asks = (c.in-Some.ensures c.in-Some.form).0 refl in
+    let status = status_with c.in-Ok.answer in
+    let text = text_with c.in-Ok.answer in
+    let answers : Answers c.args.words.now told.0 status text = inl (c.in-Some.form, asks, told.2) in
+    let whole = rw c.text.ensures at c.in-Ok-write_whole.ensures.ok in
+    (text, itself_text c.args.words.now about told.0 status text itself answers, whole)

@@ -1,4 +1,4 @@
-use Rattle.bus_view.specs.declared.form.ViewForm.TheVariants.{Script}
+use Rattle.bus_view.specs.declared.form.ViewForm.TheVariants.{Script, OfItself}
 use Rattle.bus_view.proofs.Ends.{some_left, of_known}
 use Rattle.bus_view.proofs.answer.read_view.Goals as goal
 
@@ -9,4 +9,12 @@ returns-in_ok-view_script-in-Script-clause-answer g c =
     let view = c.in_ok-view_script-in-Script.field-0 in
     let script = Script c.in-Script.nodes c.in-Script.seed in
     let is = of_known c.args.form script c.in-Script.is left.0 view.status view.text.items c.in_ok-view_script-in-Script.ensures in
+    (left.0, left.1, is)
+
+pub returns-in_ok-view_of_itself-in-OfItself-clause-answer :
+    goal.returns-in_ok-view_of_itself-in-OfItself-clause-answer
+returns-in_ok-view_of_itself-in-OfItself-clause-answer g c =
+    let left = some_left (g.S.Source.left c.args.source.now) in
+    let view = c.in_ok-view_of_itself-in-OfItself.field-0 in
+    let is = of_known c.args.form (OfItself c.in-OfItself.about) c.in-OfItself.is left.0 view.status view.text.items c.in_ok-view_of_itself-in-OfItself.ensures in
     (left.0, left.1, is)

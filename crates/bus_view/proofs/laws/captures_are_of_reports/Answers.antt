@@ -13,5 +13,6 @@ returns-clause-read c =
       one = c.one_tree.ensures;
       keeps = c.acts_keep.ensures.nodes;
       managed = c.reported_trees_are_managed.ensures;
+      reports = c.reports_are_settled.ensures;
       fit = lists-fit;
     }

@@ -9,6 +9,8 @@ returns-clause-some c =
       run = c.each_script_has_a_run.ensures;
       traces = c.scripts_have_one_trace.ensures.some;
       dumps = c.scripts_have_one_dump.ensures.some;
+      logs = c.logs_have_one_text.ensures.some;
+      bus_dumps = c.dumps_have_one_text.ensures.some;
     }
 
 pub returns-clause-one : goal.returns-clause-one
@@ -23,4 +25,6 @@ returns-clause-one c =
       texts = c.scripts_have_one_trace.ensures.told;
       dumps = c.scripts_have_one_dump.ensures.one;
       dumped_texts = c.scripts_have_one_dump.ensures.told;
+      logs = c.logs_have_one_text.ensures.one;
+      bus_dumps = c.dumps_have_one_text.ensures.one;
     }

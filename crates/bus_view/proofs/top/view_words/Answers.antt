@@ -1,13 +1,14 @@
-use Rattle.std.proofs.Common.{◌≡◌, refl, subst, arith}
+use Rattle.std.proofs.Common.{◌≡◌, ◌≤◌, Err, refl, ap, subst, arith}
+use Rattle.io_edges.specs.declared.stop.ReadStop.{ReadStop}
 use Rattle.std.specs.Io.KnownBytes.{Appends}
 use Rattle.bus_view.specs.Answer.{Answers, viewed}
 use Rattle.bus_cli.proofs.Lemmas.{part_written, whole_written, exact_status}
-use Rattle.bus_view.proofs.Forms.{few_nodes, is_read, is_unread}
-use Rattle.bus_view.proofs.Ends.{written, few_status, not_six, or_else, taken_surely, script_status, script_text}
+use Rattle.bus_view.proofs.Forms.{is_held, is_read, is_unread}
+use Rattle.bus_view.proofs.Ends.{written, few_status, not_six, later, never_long, or_else, taken_surely, no_input_status, script_text, itself_text}
 use Rattle.bus_view.proofs.top.view_words.Goals as goal
 
 pub read_view-requires : goal.read_view-requires
-read_view-requires g c = few_nodes c.args.words.now c.in-Some.form ((c.in-Some.ensures c.in-Some.form).0 refl)
+read_view-requires g c = is_held c.args.words.now c.in-Some.form ((c.in-Some.ensures c.in-Some.form).0 refl) c.requires
 
 pub returns-in-Err-ReadFault-clause-unread : goal.returns-in-Err-ReadFault-clause-unread
 returns-in-Err-ReadFault-clause-unread g c = λ which.
@@ -48,12 +49,12 @@ returns-in-Ok-write_whole-clause-answer g c = λ which.
 pub returns-in-Ok-write_whole-clause-end : goal.returns-in-Ok-write_whole-clause-end
 returns-in-Ok-write_whole-clause-end g c = λ which none.
     let asks = (c.in-Some.ensures c.in-Some.form).0 refl in
-    c.in-Ok.ensures.end (is_read c.args.words.now c.in-Some.form asks none)
+    c.in-Ok.ensures.end (is_read c.args.words.now c.in-Some.form asks c.requires none)
 
 pub returns-clause-end : goal.returns-clause-end
 returns-clause-end g c = λ which none.
     let asks = (c.in-Some.ensures c.in-Some.form).0 refl in
-    c.in-Ok.ensures.end (is_read c.args.words.now c.in-Some.form asks none)
+    c.in-Ok.ensures.end (is_read c.args.words.now c.in-Some.form asks c.requires none)
 
 pub returns-in-Ok-write_whole-clause-unread : goal.returns-in-Ok-write_whole-clause-unread
 returns-in-Ok-write_whole-clause-unread g c = λ which.
@@ -71,7 +72,7 @@ pub returns-in-Ok-write_whole-clause-unfailing : goal.returns-in-Ok-write_whole-
 returns-in-Ok-write_whole-clause-unfailing g c = λ script.
     let told = c.in-Ok.ensures.answer in
     let asks = (c.in-Some.ensures c.in-Some.form).0 refl in
-    let zero : c.in-Ok.view.status ≡ 0 = script_status c.args.words.now told.0 c.in-Ok.view.status c.in-Ok.view.text.items script (viewed c.in-Some.form asks told.2) in
+    let zero : c.in-Ok.view.status ≡ 0 = no_input_status c.args.words.now told.0 c.in-Ok.view.status c.in-Ok.view.text.items script (viewed c.in-Some.form asks told.2) in
     (λ e. cc, λ e. cc, λ e. cc)
 
 pub returns-in-Ok-write_whole-clause-script : goal.returns-in-Ok-write_whole-clause-script
@@ -120,4 +121,22 @@ pub returns-in-Ok-write_whole-clause-too_long : goal.returns-in-Ok-write_whole-c
 returns-in-Ok-write_whole-clause-too_long g c =
     let told = c.in-Ok.ensures.answer in
     let few = few_status c.in-Some.form told.0 c.in-Ok.view.status c.in-Ok.view.text.items told.2 in
-    not_six _ (g.S.Source.left c.args.source.now) (g.S.Source.left c.read_view.new.source) c.in-Ok.view.status few c.in-Ok.ensures.long (λ e. cc)
+    not_six _ (g.S.Source.left c.args.source.now) (g.S.Source.left c.read_view.new.source) c.in-Ok.view.status (λ six. omega (arith, six, few)) c.in-Ok.ensures.long (λ e. cc)
+
+pub returns-in-Ok-write_whole-clause-itself : goal.returns-in-Ok-write_whole-clause-itself
+returns-in-Ok-write_whole-clause-itself g c = λ about itself zero.
+    let told = c.in-Ok.ensures.answer in
+    let asks = (c.in-Some.ensures c.in-Some.form).0 refl in
+    let whole = rw c.deref.ensures.value at c.in-Ok-write_whole.ensures.ok in
+    (c.in-Ok.view.text.items, itself_text c.args.words.now about told.0 c.in-Ok.view.status c.in-Ok.view.text.items itself (viewed c.in-Some.form asks told.2), whole)
+
+pub returns-clause-too_long : goal.returns-clause-too_long
+returns-clause-too_long g c =
+    not_six _ (g.S.Source.left c.args.source.now) (g.S.Source.left c.read_view.new.source) 4 (λ e. cc) c.in-Ok.ensures.long (λ e. cc)
+
+pub returns-clause-exact : goal.returns-clause-exact
+returns-clause-exact g c = later (Answers c.args.words.now) (g.S.Source.left c.args.source.now) 4 (omega arith)
+
+pub returns-in-Err-TooLong-clause-complete : goal.returns-in-Err-TooLong-clause-complete
+returns-in-Err-TooLong-clause-complete g c = λ reads writes.
+    never_long (g.S.Source.left c.args.source.now) _ _ (ap (λ (e : ReadStop). Err e) c.in-Err-TooLong.field-0-is) (c.in-Err-TooLong.ensures.complete reads)

@@ -1,7 +1,7 @@
 //! What `--help` tells.
 
 /// What each form does, in a line; the statuses; and where the pages are.
-pub const HELP: &str = "\
+pub const VIEW_HELP: &str = "\
 busview shows FireWire cable buses to people at a bench
 (IEEE Std 1394-1995 and 1394a-2000).
 
