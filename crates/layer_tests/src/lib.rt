@@ -10,6 +10,8 @@ mod dumps;
 #[cfg(test)]
 mod elections;
 #[cfg(test)]
+mod flaws;
+#[cfg(test)]
 mod images;
 #[cfg(test)]
 mod lanes;

@@ -1,0 +1,3 @@
+pub mod Flaw
+pub mod Spoilt
+pub mod Few

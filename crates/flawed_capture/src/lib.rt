@@ -1,0 +1,18 @@
+//! Captures with a flaw: the list of a bus that is made, with a fault of one kind put in, for whoever
+//! tries a reader of captures.
+#![tactic(auto)]
+
+mod bytes;
+mod change;
+mod few;
+mod flaw;
+mod flawed;
+mod judged;
+mod made;
+mod node;
+
+pub use few::few_nodes_have_no_such_flaw;
+pub use flaw::{Flaw, FlawStop};
+pub use flawed::flawed_capture;
+pub use judged::flaw_of;
+pub use topology_stack::OutOfMemory;
