@@ -2,7 +2,7 @@
 _busconf() {
   local forms
   case ${1##*/} in
-  busview) forms="packets tree dot trace waves explain capture script resets nosy --help --version" ;;
+  busview) forms="packets tree dot trace waves explain capture script flawed resets nosy --help --version" ;;
   *) forms="run advice read read95 maps rom make --help --version" ;;
   esac
   COMPREPLY=()
@@ -12,6 +12,9 @@ _busconf() {
     case ${1##*/}:${COMP_WORDS[1]} in
     busview:packets | busview:tree | busview:dot | busview:resets | busview:nosy)
       mapfile -t COMPREPLY < <(compgen -W "--1995" -- "${COMP_WORDS[2]}")
+      ;;
+    busview:flawed)
+      mapfile -t COMPREPLY < <(compgen -W "BadLength BadInverse NotSelfId WrongId BadOrder Cut TwoParents Empty TooFewChildren TreesLeft AfterRoot NoRoot TooMany" -- "${COMP_WORDS[2]}")
       ;;
     esac
   fi

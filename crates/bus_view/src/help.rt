@@ -13,6 +13,7 @@ busview waves < SCRIPT     what changes on it, for waveform viewers
 busview explain < SCRIPT   what is at fault in a script, and what was wanted
 busview capture NAME < SCRIPT  the capture of the bus with that node at the end
 busview script N SEED      the script that busconf make N SEED runs
+busview flawed KIND N SEED  a capture that busconf read refuses by that fault
 busview resets < LOG       the bus at each reset in a Linux kernel's trace
 busview nosy < DUMP        the bus at each reset in a recording of nosy-dump
 busview --help, -h         this text

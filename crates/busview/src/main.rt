@@ -1,10 +1,14 @@
 //! The program: the top call over standard input and standard output.
 #![tactic(auto)]
 
+ghost use Rattle.std.specs.Prelude.{◌≤◌};
+
 mod front;
 
-use bus_cli::{MAX_INPUT, NO_FORM, NO_MEMORY, READ_FAULT, REFUSED, TOO_LONG, WRITE_FAULT};
+use bus_cli::{MAX_INPUT, NO_FORM, NO_MEMORY, READ_FAULT, REFUSED, TOO_LONG, VALID, WRITE_FAULT};
 use bus_view::{CaptureView, VIEW_USAGE, ViewForm, view_main};
+use flawed_capture::FlawStop;
+use flawed_form::{FlawedForm, FlawedStop, write_flawed};
 use front::{FrontSink, FrontSource};
 use io_edges::{ReadSource, WriteSink, write_whole};
 use std::process::ExitCode;
@@ -58,6 +62,33 @@ fn resets(rt: &HostRuntime, words: &[String]) -> u8 {
     status
 }
 
+/// Writes the capture of a made bus with a flaw, and answers the status. Why there is none is said on standard
+/// error.
+fn flawed(rt: &HostRuntime, form: FlawedForm) -> u8
+    requires { form.nodes ≤ 63 }
+{
+    let mut sink = WriteSink::new(rt.stdout());
+    match write_flawed(rt.alloc(), form, &mut sink) {
+        Ok(()) => VALID,
+        Err(FlawedStop::WriteFault) => WRITE_FAULT,
+        Err(FlawedStop::Flaw(FlawStop::Memory(_))) => NO_MEMORY,
+        Err(FlawedStop::Flaw(FlawStop::TooFewNodes { wanted })) => {
+            let nodes = form.nodes;
+            // A standard error that can't be written changes no status.
+            let _ = eprintln!(rt;
+                "busview: flawed: a list with this fault shows {wanted} nodes at least, and the bus has {nodes}"
+            );
+            NO_FORM
+        }
+        Err(FlawedStop::Flaw(FlawStop::NotFound)) => {
+            let _ = eprintln!(rt;
+                "busview: flawed: no change that was tried of this bus gives the fault; another seed may"
+            );
+            NO_FORM
+        }
+    }
+}
+
 /// Answers words whose text another program reads by the top call, and says a refusal on standard error too.
 fn piped(rt: &HostRuntime, words: &[String]) -> u8 {
     let mut source = ReadSource::new(rt.stdin());
@@ -85,6 +116,9 @@ fn status_of(rt: &HostRuntime) -> u8 {
         Err(error) if error.kind() == io::ErrorKind::OutOfMemory => return NO_MEMORY,
         Err(_) => return NO_FORM,
     };
+    if let Some(form) = FlawedForm::of_words(&words) {
+        return flawed(rt, form);
+    }
     match ViewForm::of_words(&words) {
         Some(ViewForm::Resets(_)) => resets(rt, &words),
         Some(ViewForm::Waves | ViewForm::Capture(CaptureView::Dot, _)) => piped(rt, &words),
