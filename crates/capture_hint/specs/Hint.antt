@@ -1,13 +1,27 @@
 -- What is said of bytes that look like something else than a capture, and what makes one of them.
 use Rattle.std.specs.Prelude.{ℕ, List, [], codes, Option, Some, None}
 use Rattle.capture_hint.specs.declared.likeness.Likeness.{Likeness}
-use Rattle.capture_hint.specs.declared.likeness.Likeness.TheVariants.{Hexadecimal, Script, Rom, TurnedRom, Turned, Buffer, FirstQuadlets}
+use Rattle.capture_hint.specs.declared.likeness.Likeness.TheVariants.{Compressed, Utf16, Marked, Hexadecimal, Colons, Words, Xxd, Hexdump, Trace, Script, Rom, TurnedRom, Turned, Buffer, Recording, FirstQuadlets, LineFeed}
 use Rattle.capture_hint.specs.Likeness.{likeness_of}
 
 abbrev pub hint_text : Option Likeness → List ℕ
 hint_text None = []
+hint_text (Some Compressed) = codes "This looks like a file that gzip packed. Unpacked: gzip -d\n"
+hint_text (Some Utf16) =
+    codes "This looks like text of two bytes a character. As plain text: iconv -f UTF-16 -t UTF-8\n"
+hint_text (Some Marked) =
+    codes "This begins with the mark of three bytes that some editors write. Without it: tail -c +4\n"
 hint_text (Some Hexadecimal) =
     codes "This looks like hexadecimal text. A capture of it: xxd -r -p\n"
+hint_text (Some Colons) =
+    codes "This looks like hexadecimal digits between colons. A capture of it: tr -d : | xxd -r -p\n"
+hint_text (Some Words) =
+    codes "This looks like hexadecimal words. Their bytes: perl -0777 -ne 'print pack(\"N*\", map { hex } /0x[0-9a-f]+/gi)'\n"
+hint_text (Some Xxd) = codes "This looks like the output of xxd. A capture of it: xxd -r\n"
+hint_text (Some Hexdump) =
+    codes "This looks like the output of hexdump -C. A capture of it: cut -c 10-58 | xxd -r -p\n"
+hint_text (Some Trace) =
+    codes "This looks like a trace or a log of the Linux kernel. It is read by: busview resets\n"
 hint_text (Some Script) =
     codes "This looks like a script. A capture of it: busview capture NAME\n"
 hint_text (Some Rom) =
@@ -18,6 +32,10 @@ hint_text (Some Turned) =
     codes "This looks like a capture with the bytes of its quadlets turned round. A capture of it: perl -0777 -ne 'print pack(\"N*\", unpack(\"V*\", $_))'\n"
 hint_text (Some Buffer) =
     codes "This looks like the self-ID buffer of an OHCI controller. A capture of it: tail -c +5 | perl -0777 -ne 'print pack(\"N*\", unpack(\"V*\", $_))'\n"
+hint_text (Some Recording) =
+    codes "This looks like a recording by nosy-dump. It is read by: busview nosy\n"
+hint_text (Some LineFeed) =
+    codes "This looks like a capture with a line feed behind it. The capture: head -c -1\n"
 hint_text (Some FirstQuadlets) =
     codes "This looks like first quadlets without their inverses. A capture of it: perl -0777 -ne 'print pack(\"N2\", $_, ~$_ & 0xffffffff) for unpack(\"N*\", $_)'\n"
 

@@ -5,13 +5,36 @@ ghost use Rattle.capture_hint.specs.Hint.{hint_text, hint};
 use crate::likeness::{Likeness, likeness_of};
 use quad_lanes::OutOfMemory;
 
-fn hint_text(likeness: Option<Likeness>) -> &'static [u8]
+/// What is said of such bytes, in one line, or nothing.
+pub fn hint_text(likeness: Option<Likeness>) -> &'static [u8]
     ensures { result.now ≡ hint_text likeness }
 {
     match likeness {
         None => b"",
+        Some(Likeness::Compressed) => {
+            b"This looks like a file that gzip packed. Unpacked: gzip -d\n"
+        }
+        Some(Likeness::Utf16) => {
+            b"This looks like text of two bytes a character. As plain text: iconv -f UTF-16 -t UTF-8\n"
+        }
+        Some(Likeness::Marked) => {
+            b"This begins with the mark of three bytes that some editors write. Without it: tail -c +4\n"
+        }
         Some(Likeness::Hexadecimal) => {
             b"This looks like hexadecimal text. A capture of it: xxd -r -p\n"
+        }
+        Some(Likeness::Colons) => {
+            b"This looks like hexadecimal digits between colons. A capture of it: tr -d : | xxd -r -p\n"
+        }
+        Some(Likeness::Words) => {
+            b"This looks like hexadecimal words. Their bytes: perl -0777 -ne 'print pack(\"N*\", map { hex } /0x[0-9a-f]+/gi)'\n"
+        }
+        Some(Likeness::Xxd) => { b"This looks like the output of xxd. A capture of it: xxd -r\n" }
+        Some(Likeness::Hexdump) => {
+            b"This looks like the output of hexdump -C. A capture of it: cut -c 10-58 | xxd -r -p\n"
+        }
+        Some(Likeness::Trace) => {
+            b"This looks like a trace or a log of the Linux kernel. It is read by: busview resets\n"
         }
         Some(Likeness::Script) => {
             b"This looks like a script. A capture of it: busview capture NAME\n"
@@ -27,6 +50,12 @@ fn hint_text(likeness: Option<Likeness>) -> &'static [u8]
         }
         Some(Likeness::Buffer) => {
             b"This looks like the self-ID buffer of an OHCI controller. A capture of it: tail -c +5 | perl -0777 -ne 'print pack(\"N*\", unpack(\"V*\", $_))'\n"
+        }
+        Some(Likeness::Recording) => {
+            b"This looks like a recording by nosy-dump. It is read by: busview nosy\n"
+        }
+        Some(Likeness::LineFeed) => {
+            b"This looks like a capture with a line feed behind it. The capture: head -c -1\n"
         }
         Some(Likeness::FirstQuadlets) => {
             b"This looks like first quadlets without their inverses. A capture of it: perl -0777 -ne 'print pack(\"N2\", $_, ~$_ & 0xffffffff) for unpack(\"N*\", $_)'\n"
