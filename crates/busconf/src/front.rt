@@ -3,8 +3,8 @@
 use io_edges::{Failed, Source};
 use std::alloc::Global;
 
-/// How many bytes are kept: two quadlets.
-const FRONT: usize = 8;
+/// How many bytes are kept, of which is said what they look like.
+const FRONT: usize = 4_096;
 
 /// The bytes of another source. It keeps the first of them, up to a piece for which there was no memory.
 #[derive(Debug, Drop)]

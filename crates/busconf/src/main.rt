@@ -4,14 +4,19 @@
 mod front;
 
 use bus_cli::{
-    MAX_INPUT, NO_FORM, NO_MEMORY, READ_FAULT, REFUSED, TOO_LONG, USAGE, WRITE_FAULT, bus_main,
+    Form, MAX_INPUT, NO_FORM, NO_MEMORY, READ_FAULT, REFUSED, TOO_LONG, USAGE, WRITE_FAULT,
+    bus_main,
 };
-use capture_hint::{Likeness, likeness_of};
+use capture_hint::{Likeness, hint_text, likeness_of, other_hint};
 use front::FrontSource;
-use io_edges::{ReadSource, WriteSink};
+use io_edges::{ReadSource, WriteSink, write_whole};
 use std::process::ExitCode;
 use std::rt::Env;
 use std::{env, io};
+
+/// What is said of a refused ROM whose quadlets have their bytes turned round.
+const TURNED_ROM: &[u8] =
+    b"busconf: quadlet 1 is 1394 with its bytes turned round. A ROM of it: perl -0777 -ne 'print pack(\"N*\", unpack(\"V*\", $_))'\n";
 
 /// The words after the program's name.
 fn words_of<R: Env + AllocGlobal>(rt: &R) -> io::Result<Vec<String>> {
@@ -21,27 +26,23 @@ fn words_of<R: Env + AllocGlobal>(rt: &R) -> io::Result<Vec<String>> {
     Ok(words)
 }
 
-/// Whether the words ask for a ROM.
-fn is_rom(words: &[String]) -> bool {
-    match words {
-        [word] => word.as_str() == "rom",
-        _ => false,
-    }
-}
-
-/// Answers these words by the top call, and says on standard error where the quadlets of a refused ROM are turned
-/// round.
-fn rom(rt: &HostRuntime, words: &[String]) -> u8 {
-    let mut source = FrontSource::new(rt.alloc(), ReadSource::new(rt.stdin()));
-    let mut sink = WriteSink::new(rt.stdout());
-    let status = bus_main(rt.alloc(), words, &mut source, &mut sink);
-    if status == REFUSED && likeness_of(source.front()) == Some(Likeness::TurnedRom) {
-        // A standard error that can't be written changes no status.
-        let _ = eprintln!(rt;
-            "busconf: quadlet 1 is 1394 with its bytes turned round. A ROM of it: perl -0777 -ne 'print pack(\"N*\", unpack(\"V*\", $_))'"
-        );
-    }
-    status
+/// Says on standard error what input looks like that a form refused, where it looks like something else, and what
+/// reads it.
+fn say_hint(rt: &HostRuntime, form: Option<Form>, front: &[u8]) {
+    let likeness = likeness_of(front);
+    let hint: &[u8] = match form {
+        Some(Form::Capture(_)) => hint_text(likeness),
+        Some(Form::Rom) => match likeness {
+            Some(Likeness::TurnedRom) => TURNED_ROM,
+            Some(Likeness::Rom) => b"",
+            _ => other_hint(front),
+        },
+        Some(Form::Run | Form::Advice) => other_hint(front),
+        _ => b"",
+    };
+    let mut errors = WriteSink::new(rt.stderr());
+    // A standard error that can't be written changes no status.
+    let _ = write_whole(&mut errors, hint);
 }
 
 /// The status of the program with its words, which the top call answers.
@@ -51,12 +52,13 @@ fn status_of(rt: &HostRuntime) -> u8 {
         Err(error) if error.kind() == io::ErrorKind::OutOfMemory => return NO_MEMORY,
         Err(_) => return NO_FORM,
     };
-    if is_rom(&words) {
-        return rom(rt, &words);
-    }
-    let mut source = ReadSource::new(rt.stdin());
+    let mut source = FrontSource::new(rt.alloc(), ReadSource::new(rt.stdin()));
     let mut sink = WriteSink::new(rt.stdout());
-    bus_main(rt.alloc(), &words, &mut source, &mut sink)
+    let status = bus_main(rt.alloc(), &words, &mut source, &mut sink);
+    if status == REFUSED {
+        say_hint(rt, Form::of_words(&words), source.front());
+    }
+    status
 }
 
 /// Says on standard error why nothing was written, or not all.

@@ -7,6 +7,7 @@ mod front;
 
 use bus_cli::{MAX_INPUT, NO_FORM, NO_MEMORY, READ_FAULT, REFUSED, TOO_LONG, VALID, WRITE_FAULT};
 use bus_view::{CaptureView, VIEW_USAGE, ViewForm, view_main};
+use capture_hint::{begins_capture, hint_text, likeness_of, other_hint};
 use flawed_capture::FlawStop;
 use flawed_form::{FlawedForm, FlawedStop, write_flawed};
 use front::{FrontSink, FrontSource};
@@ -49,19 +50,6 @@ fn why_no_event(front: &[u8]) -> &'static str {
     }
 }
 
-/// Answers words that ask for the resets of a log by the top call, and says on standard error where the log has no
-/// event.
-fn resets(rt: &HostRuntime, words: &[String]) -> u8 {
-    let mut source = FrontSource::new(rt.alloc(), ReadSource::new(rt.stdin()));
-    let mut sink = FrontSink::new(rt.alloc(), WriteSink::new(rt.stdout()));
-    let status = view_main(rt.alloc(), words, &mut source, &mut sink);
-    if sink.front() == NO_RESETS {
-        // A standard error that can't be written changes no status.
-        let _ = eprintln!(rt; "{}", why_no_event(source.front()));
-    }
-    status
-}
-
 /// Writes the capture of a made bus with a flaw, and answers the status. Why there is none is said on standard
 /// error.
 fn flawed(rt: &HostRuntime, form: FlawedForm) -> u8
@@ -89,24 +77,57 @@ fn flawed(rt: &HostRuntime, form: FlawedForm) -> u8
     }
 }
 
-/// Answers words whose text another program reads by the top call, and says a refusal on standard error too.
-fn piped(rt: &HostRuntime, words: &[String]) -> u8 {
-    let mut source = ReadSource::new(rt.stdin());
-    let mut sink = FrontSink::new(rt.alloc(), WriteSink::new(rt.stdout()));
-    let status = view_main(rt.alloc(), words, &mut source, &mut sink);
-    if status == REFUSED {
-        let mut errors = WriteSink::new(rt.stderr());
-        // A standard error that can't be written changes no status.
-        let _ = write_whole(&mut errors, sink.front());
-    }
-    status
+/// Whether the form's text is made for another program to read.
+fn is_piped(form: &Option<ViewForm>) -> bool {
+    matches!(
+        form,
+        Some(ViewForm::Waves | ViewForm::ListOf(_) | ViewForm::Capture(CaptureView::Dot, _))
+    )
 }
 
-/// Answers words by the top call alone.
-fn view(rt: &HostRuntime, words: &[String]) -> u8 {
-    let mut source = ReadSource::new(rt.stdin());
-    let mut sink = WriteSink::new(rt.stdout());
-    view_main(rt.alloc(), words, &mut source, &mut sink)
+/// What is said on standard error of a log whose text begins so, where it has no event.
+fn put_no_event(rt: &HostRuntime, front: &[u8]) {
+    // A standard error that can't be written changes no status.
+    if begins_capture(front) {
+        let mut errors = WriteSink::new(rt.stderr());
+        let _ = write_whole(&mut errors, other_hint(front));
+    } else {
+        let _ = eprintln!(rt; "{}", why_no_event(front));
+    }
+}
+
+/// What input looks like that a form refused, where it looks like something else, and what reads it.
+fn hint_of(form: &Option<ViewForm>, front: &[u8]) -> &'static [u8] {
+    match form {
+        Some(ViewForm::Capture(CaptureView::Tree | CaptureView::Dot, _)) => {
+            hint_text(likeness_of(front))
+        }
+        Some(ViewForm::Trace | ViewForm::Waves | ViewForm::Explain | ViewForm::ListOf(_)) => {
+            other_hint(front)
+        }
+        Some(ViewForm::Nosy(_)) if begins_capture(front) => other_hint(front),
+        _ => b"",
+    }
+}
+
+/// Answers words by the top call. What input looks like that was refused is said on standard error, with the refusal
+/// where another program reads standard output; and so is why a log has no event.
+fn view(rt: &HostRuntime, words: &[String], form: &Option<ViewForm>) -> u8 {
+    let mut source = FrontSource::new(rt.alloc(), ReadSource::new(rt.stdin()));
+    let mut sink = FrontSink::new(rt.alloc(), WriteSink::new(rt.stdout()));
+    let status = view_main(rt.alloc(), words, &mut source, &mut sink);
+    let mut errors = WriteSink::new(rt.stderr());
+    // A standard error that can't be written changes no status.
+    if status == REFUSED && is_piped(form) {
+        let _ = write_whole(&mut errors, sink.front());
+    }
+    if status == REFUSED {
+        let _ = write_whole(&mut errors, hint_of(form, source.front()));
+    }
+    if matches!(form, Some(ViewForm::Resets(_))) && sink.front() == NO_RESETS {
+        put_no_event(rt, source.front());
+    }
+    status
 }
 
 /// The status of the program with its words, which the top call answers.
@@ -119,11 +140,7 @@ fn status_of(rt: &HostRuntime) -> u8 {
     if let Some(form) = FlawedForm::of_words(&words) {
         return flawed(rt, form);
     }
-    match ViewForm::of_words(&words) {
-        Some(ViewForm::Resets(_)) => resets(rt, &words),
-        Some(ViewForm::Waves | ViewForm::Capture(CaptureView::Dot, _)) => piped(rt, &words),
-        _ => view(rt, &words),
-    }
+    view(rt, &words, &ViewForm::of_words(&words))
 }
 
 /// Says on standard error why nothing was written, or not all.

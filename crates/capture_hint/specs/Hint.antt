@@ -1,8 +1,8 @@
 -- What is said of bytes that look like something else than a capture, and what makes one of them.
-use Rattle.std.specs.Prelude.{ℕ, List, [], codes, Option, Some, None}
+use Rattle.std.specs.Prelude.{ℕ, Bool, true, false, if◌then◌else◌, List, [], codes, Option, Some, None}
 use Rattle.capture_hint.specs.declared.likeness.Likeness.{Likeness}
 use Rattle.capture_hint.specs.declared.likeness.Likeness.TheVariants.{Compressed, Utf16, Marked, Hexadecimal, Colons, Words, Xxd, Hexdump, Trace, Script, Rom, TurnedRom, Turned, Buffer, Recording, FirstQuadlets, LineFeed}
-use Rattle.capture_hint.specs.Likeness.{likeness_of}
+use Rattle.capture_hint.specs.Likeness.{likeness_of, begins_capture}
 
 abbrev pub hint_text : Option Likeness → List ℕ
 hint_text None = []
@@ -38,6 +38,23 @@ hint_text (Some LineFeed) =
     codes "This looks like a capture with a line feed behind it. The capture: head -c -1\n"
 hint_text (Some FirstQuadlets) =
     codes "This looks like first quadlets without their inverses. A capture of it: perl -0777 -ne 'print pack(\"N2\", $_, ~$_ & 0xffffffff) for unpack(\"N*\", $_)'\n"
+
+-- whether it is said of bytes where a script or a log is read, and not a capture
+abbrev pub is_of_any : Option Likeness → Bool
+is_of_any (Some Compressed) = true
+is_of_any (Some Utf16) = true
+is_of_any (Some Marked) = true
+is_of_any (Some Rom) = true
+is_of_any (Some Trace) = true
+is_of_any (Some Recording) = true
+is_of_any likeness = false
+
+-- the hint on bytes that are no script or no log
+abbrev pub other_hint : List ℕ → List ℕ
+other_hint bytes =
+    if begins_capture bytes then codes "This looks like a capture. It is read by: busconf read\n"
+    else if is_of_any (likeness_of bytes) then hint_text (likeness_of bytes)
+    else []
 
 -- the hint on bytes, or nothing
 abbrev pub hint : List ℕ → List ℕ

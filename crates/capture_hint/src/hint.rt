@@ -1,8 +1,8 @@
 //! What is said of bytes that look like something else than a capture.
 ghost use Rattle.std.specs.Prelude.{◌≡◌, ◌++◌, OnOk};
-ghost use Rattle.capture_hint.specs.Hint.{hint_text, hint};
+ghost use Rattle.capture_hint.specs.Hint.{hint_text, is_of_any, other_hint, hint};
 
-use crate::likeness::{Likeness, likeness_of};
+use crate::likeness::{Likeness, begins_capture, likeness_of};
 use quad_lanes::OutOfMemory;
 
 /// What is said of such bytes, in one line, or nothing.
@@ -60,6 +60,39 @@ pub fn hint_text(likeness: Option<Likeness>) -> &'static [u8]
         Some(Likeness::FirstQuadlets) => {
             b"This looks like first quadlets without their inverses. A capture of it: perl -0777 -ne 'print pack(\"N2\", $_, ~$_ & 0xffffffff) for unpack(\"N*\", $_)'\n"
         }
+    }
+}
+
+/// Whether it is said of bytes where a script or a log is read, and not a capture.
+fn is_of_any(likeness: Option<Likeness>) -> bool
+    ensures { result ≡ is_of_any likeness }
+{
+    matches!(
+        likeness,
+        Some(
+            Likeness::Compressed
+                | Likeness::Utf16
+                | Likeness::Marked
+                | Likeness::Rom
+                | Likeness::Trace
+                | Likeness::Recording
+        )
+    )
+}
+
+/// What bytes look like that are refused as a script or a log, and what reads them, in one line; or
+/// nothing. It takes no memory.
+pub fn other_hint(bytes: &[u8]) -> &'static [u8]
+    ensures { result.now ≡ other_hint bytes.now }
+{
+    if begins_capture(bytes) {
+        return b"This looks like a capture. It is read by: busconf read\n";
+    }
+    let likeness = likeness_of(bytes);
+    if is_of_any(likeness) {
+        hint_text(likeness)
+    } else {
+        b""
     }
 }
 

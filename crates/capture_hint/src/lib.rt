@@ -4,6 +4,6 @@
 mod hint;
 mod likeness;
 
-pub use hint::{hint_text, put_hint};
+pub use hint::{hint_text, other_hint, put_hint};
 pub use likeness::{Likeness, begins_capture, likeness_of};
 pub use quad_lanes::OutOfMemory;
