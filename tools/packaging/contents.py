@@ -203,7 +203,11 @@ def pc_of(prefix, folder):
 
 def completion():
     folder = "share/bash-completion/completions"
-    return {f"{folder}/busconf": Entry(data_of("completion/busconf.bash")), f"{folder}/busview": Entry(link="busconf")}
+    files = {f"{folder}/busconf": Entry(data_of("completion/busconf.bash")), f"{folder}/busview": Entry(link="busconf")}
+    files["share/zsh/site-functions/_busconf"] = Entry(data_of("completion/_busconf"))
+    for program in PROGRAMS:
+        files[f"share/fish/vendor_completions.d/{program}.fish"] = Entry(data_of(f"completion/{program}.fish"))
+    return files
 
 
 def sums_of(files, kind):

@@ -77,7 +77,7 @@ def doc_of(name, built):
 def programs_of(built):
     """The package of the programs."""
     doc = "usr/share/doc/busconf"
-    files = {**pages_of(doc), **{f"usr/{path}": entry for path, entry in completion().items()}}
+    files = {**pages_of(doc), **{f"usr/{path}".replace("zsh/site-functions", "zsh/vendor-completions"): entry for path, entry in completion().items()}}
     for name in PROGRAMS:
         files[f"usr/bin/{name}"] = Entry(built.programs[name], 0o755)
         files[f"usr/share/man/man1/{name}.1.gz"] = Entry(zipped(data_of(f"man/{name}.1")))
