@@ -54,6 +54,13 @@ class Root:
             raise Fault(f"{' '.join(words)}: status {done.returncode}, and it wrote {(done.stdout + done.stderr)[:300]!r}")
 
 
+def words_of(case):
+    """The words of a case, which are the name of its folder where no file has them."""
+    if os.path.exists(os.path.join(TOP, case + ".args")):
+        return data_of(case + ".args").decode().splitlines()
+    return [os.path.basename(os.path.dirname(case))]
+
+
 def cases_of(folder):
     """The inputs of a folder of cases."""
     return sorted(it[: -len(".stdout")] for it in glob.glob(os.path.join(TOP, "cases", folder, "*.stdout")))
@@ -64,7 +71,7 @@ def run_cases(root, folder):
     count = 0
     for case in cases_of("*/*"):
         program = os.path.relpath(case, TOP).split(os.sep)[1]
-        asked = data_of(case + ".args").decode().splitlines()
+        asked = words_of(case)
         done = root.call(f"{folder}/{program}", *asked, data=data_of(case))
         if done.stdout != data_of(case + ".stdout") or done.returncode not in STATUSES:
             raise Fault(f"{program} on {os.path.relpath(case, TOP)}: status {done.returncode}, not what is wanted")
