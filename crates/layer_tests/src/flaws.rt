@@ -33,6 +33,9 @@ fn is_made(
     nodes: u8,
     seed: u32,
 ) -> Result<bool, Fail> {
+    if nodes > 63 {
+        return Ok(false);
+    }
     match flawed_capture(alloc, standard, flaw, nodes, seed) {
         Ok(bytes) => Ok(flaw_of(alloc, standard, &bytes)? == Some(flaw)),
         Err(FlawStop::TooFewNodes { wanted }) => Ok(nodes < wanted),
