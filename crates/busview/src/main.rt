@@ -1,8 +1,6 @@
 //! The program: the top call over standard input and standard output.
 #![tactic(auto)]
 
-ghost use Rattle.std.specs.Prelude.{◌≤◌};
-
 mod front;
 
 use bus_cli::{MAX_INPUT, NO_FORM, NO_MEMORY, READ_FAULT, REFUSED, TOO_LONG, VALID, WRITE_FAULT};
@@ -52,9 +50,11 @@ fn why_no_event(front: &[u8]) -> &'static str {
 
 /// Writes the capture of a made bus with a flaw, and answers the status. Why there is none is said on standard
 /// error.
-fn flawed(rt: &HostRuntime, form: FlawedForm) -> u8
-    requires { form.nodes ≤ 63 }
-{
+fn flawed(rt: &HostRuntime, form: FlawedForm) -> u8 {
+    // No words ask for more.
+    if form.nodes > 63 {
+        return NO_FORM;
+    }
     let mut sink = WriteSink::new(rt.stdout());
     match write_flawed(rt.alloc(), form, &mut sink) {
         Ok(()) => VALID,
