@@ -1,6 +1,7 @@
 #!/usr/bin/env bash
 # What a stranger does on a Debian that has no kit, within that system: installs the packages of a folder, runs the
-# programs, and goes through docs/LIBRARY.md to its first program and the examples. It says how long each step takes.
+# programs, and goes through docs/LIBRARY.md to its first program and the examples, and through
+# docs/VECTORS.md to its reader in C. It says how long each step takes.
 set -euo pipefail
 export DEBIAN_FRONTEND=noninteractive
 cd "$1"
@@ -40,6 +41,13 @@ examples() {
   ./bench $at/hub.script <$at/hub.capture | diff $at/c/bench.stdout -
 }
 
+vectors() {
+  cd "$(mktemp -d)"
+  awk '/^## /{on = /A reader in C/} on' $doc/busconf-vectors/VECTORS.md | sed -n 's/^    //p' >reader.c
+  cc reader.c -o reader
+  busconf-vectors --try ./reader /usr/share/busconf/vectors
+}
+
 step "the checksums" sha256sum --check SHA256SUMS
 step "apt install ./busconf_*.deb" apt-get install -y ./busconf_*.deb
 step "the programs, as README.md and docs/PACKAGE.md say" runs
@@ -50,5 +58,6 @@ step "the first program of docs/LIBRARY.md" first
 step "the examples in C" examples
 if compgen -G "busconf-vectors_*.deb" >/dev/null; then
   step "apt install ./busconf-vectors_*.deb" apt-get install -y ./busconf-vectors_*.deb
+  step "the reader in C of docs/VECTORS.md over the vectors" vectors
 fi
 echo "$((SECONDS - begun)) s in all"
